@@ -1,0 +1,5 @@
+use Rattle.om_signs.proofs.Vectors.{conforms_test}
+use Rattle.om_signs.proofs.sign_vec.SignVec.conforms.Goals as goal
+
+pub returns : goal.returns
+returns c = conforms_test _ _ _ _ _ _ _ _ c.self.invariant c.self.view_is c.y.invariant c.y.view_is

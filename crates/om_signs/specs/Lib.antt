@@ -1,0 +1,5 @@
+pub mod Masks
+pub mod Order
+pub mod OrderLaws
+pub mod Sign
+pub mod SignVec

@@ -1,0 +1,26 @@
+//! Signs, sign vectors, lists and the plain parts of documents, and the limits of the workbench.
+//!
+//! The notions are those of Björner, Las Vergnas, Sturmfels, White and Ziegler, Oriented Matroids, chapters 3 and 4.
+#![tactic(auto)]
+
+mod block;
+mod laws;
+mod limits;
+mod list;
+mod no_memory;
+mod raw_map;
+mod sign;
+mod sign_vec;
+mod threads;
+
+pub use block::Block;
+pub use laws::{orthogonality_by_supports, ties_of_order};
+pub use limits::{
+    MAX_BLOCKS, MAX_COORDINATE, MAX_ELEMENTS, MAX_ENTRIES, MAX_INPUT, MAX_MEMBERS,
+    MAX_MULTIPLICITY, MAX_PLACES, MAX_WEIGHT,
+};
+pub use list::List;
+pub use no_memory::NoMemory;
+pub use raw_map::RawMap;
+pub use sign::Sign;
+pub use sign_vec::SignVec;

@@ -1,0 +1,117 @@
+ghost use Rattle.std.specs.Prelude.{◌≡◌, ◌+◌, ◌<◌, ◌∷◌, [], ◌++◌, length, IfOk, OnOk, OnErr, slice_set, slice_get, Some};
+
+use super::no_memory::NoMemory;
+use std::alloc::Global;
+use std::marker::Model;
+
+/// A list of values on the heap, which keeps the allocator that it was made with. Contracts see the list of its values.
+#[derive(Drop)]
+pub struct List<T: Copy> {
+    items: Vec<T>,
+}
+
+impl<T: Copy> Model for List<T> {
+    ghost use Rattle.std.specs.Prelude.{List};
+
+    ghost Value = { List T };
+
+    ghost view = { λ l. l.items.items };
+}
+
+impl<T: Copy> List<T> {
+    /// The empty list. It takes no memory, and later calls take theirs from `alloc`.
+    pub fn new(alloc: Global) -> List<T>
+        ensures { result ≡ [] }
+    {
+        List {
+            items: Vec::new(alloc),
+        }
+    }
+
+    /// The number of values.
+    pub fn len(&self) -> usize
+        ensures { result ≡ length self.now }
+    {
+        self.items.len()
+    }
+
+    /// The value at the index `i`, counted from 0 and below the length.
+    pub fn at(&self, i: usize) -> T
+        requires { i < length self.now }
+        ensures { slice_get self.now i ≡ Some result }
+    {
+        self.items[i]
+    }
+
+    /// The values as a slice.
+    pub fn as_slice(&self) -> &[T]
+        ensures { result.now ≡ self.now }
+    {
+        self.items.as_slice()
+    }
+
+    /// Writes `item` at the index `i`, counted from 0 and below the length. The other values stay.
+    pub fn set(&mut self, i: usize, item: T)
+        requires { i < length self.old }
+        ensures { self.new ≡ slice_set self.old i item }
+    {
+        self.items[i] = item;
+    }
+
+    /// Adds a value at the end.
+    ///
+    /// [`NoMemory`] comes only for want of memory, and the list is then unchanged.
+    pub fn push(&mut self, item: T) -> Result<(), NoMemory>
+        ensures ok { OnOk result (self.new ≡ self.old ++ item ∷ []) }
+        ensures err { OnErr result (self.new ≡ self.old) }
+    {
+        self.items.push(item)?;
+        Ok(())
+    }
+
+    /// A list of the same values, with the same allocator.
+    ///
+    /// [`NoMemory`] comes only for want of memory.
+    pub fn copy(&self) -> Result<List<T>, NoMemory>
+        ensures { IfOk result (λ l. l ≡ self.now) }
+    {
+        let items = Vec::from_slice(*self.items.allocator(), self.items.as_slice())?;
+        Ok(List { items })
+    }
+}
+
+#[cfg(test)]
+mod tests {
+    use super::*;
+    use crate::{Sign, SignVec};
+
+    fn three(alloc: Global) -> Result<List<Sign>, NoMemory>
+        ensures { IfOk result (λ l. length l ≡ 3) }
+    {
+        let mut signs = List::new(alloc);
+        signs.push(Sign::Plus)?;
+        signs.push(Sign::Zero)?;
+        signs.push(Sign::Minus)?;
+        Ok(signs)
+    }
+
+    #[test]
+    fn pushes_and_copies(rt: HostRuntime) {
+        let mut signs = three(rt.alloc()).expect(&rt, "memory for three signs");
+        let copied = signs.copy().expect(&rt, "memory for three signs");
+        signs.set(1, Sign::Plus);
+        let changed = [Sign::Plus, Sign::Plus, Sign::Minus];
+        let first = [Sign::Plus, Sign::Zero, Sign::Minus];
+        assert!(rt; signs.as_slice() == changed.as_slice());
+        assert!(rt; copied.as_slice() == first.as_slice());
+    }
+
+    #[test]
+    fn holds_vectors(rt: HostRuntime) {
+        let mut vectors = List::new(rt.alloc());
+        let x = SignVec::zero(3).set(2, Sign::Minus);
+        assert_eq!(rt; vectors.push(x), Ok(()));
+        assert_eq!(rt; vectors.len(), 1);
+        assert_eq!(rt; vectors.at(0), x);
+    }
+}
