@@ -1,0 +1,8 @@
+use Rattle.om_laws.proofs.MinorLaws as laws
+use Rattle.om_laws.proofs.minors.contraction_of_an_element.Goals as goal
+
+pub returns-clause-chirotope : goal.returns-clause-chirotope
+returns-clause-chirotope c = λ n e i chi om b. laws.contraction_chirotope n e i chi om b
+
+pub returns-clause-covectors : goal.returns-clause-covectors
+returns-clause-covectors c = λ n e i chi om b X. laws.contraction_both n e i chi om b X

@@ -1,0 +1,38 @@
+-- Deletion and contraction of one element, with the later elements moved down by one.
+--
+-- Reference: Björner, Las Vergnas, Sturmfels, White and Ziegler, Oriented Matroids, chapters 3 and 4.
+use Rattle.std.specs.Prelude.{ℕ, ◌≡◌, ◌+◌, List, [], ◌∷◌, ◌++◌, map, cond, nat_lt}
+use Rattle.om_signs.specs.declared.sign.Sign.{Sign}
+use Rattle.om_signs.specs.declared.sign.Sign.TheVariants.{Zero}
+use Rattle.om_laws.specs.Members.{IsMember}
+use Rattle.om_laws.specs.Vectors.{SignVector}
+use Rattle.om_laws.specs.Bases.{IsBase}
+use Rattle.om_laws.specs.Covectors.{IsCovector}
+
+-- the elements but e, renamed from 1 on
+abbrev pub skip : ℕ → ℕ → ℕ
+skip e p = cond (nat_lt p e) p (p + 1)
+
+-- the value of the renamed tuple with the list q behind it
+abbrev pub pullback : (List ℕ → Sign) → (ℕ → ℕ) → List ℕ → List ℕ → Sign
+pullback chi rename q t = chi (map rename t ++ q)
+
+-- the map on the tuples without e
+abbrev pub deletion : ℕ → (List ℕ → Sign) → List ℕ → Sign
+deletion e chi = pullback chi (skip e) []
+
+-- the map on the tuples that e stands behind
+abbrev pub contraction : ℕ → (List ℕ → Sign) → List ℕ → Sign
+contraction e chi = pullback chi (skip e) (e ∷ [])
+
+-- some base avoids e
+abbrev pub IsAvoided : (List ℕ → Sign) → ℕ → Type 0
+IsAvoided chi e = (t : List ℕ) × IsBase chi t × (IsMember e t → ⊥)
+
+-- some covector of the larger map is X on the elements but e
+abbrev pub IsCovectorWithout : ℕ → List ℕ → (List ℕ → Sign) → SignVector → Type 0
+IsCovectorWithout e E chi X = (W : SignVector) × IsCovector E chi W × ((p : ℕ) → W (skip e p) ≡ X p)
+
+-- the same, of one that is zero at e
+abbrev pub IsZeroCovectorWithout : ℕ → List ℕ → (List ℕ → Sign) → SignVector → Type 0
+IsZeroCovectorWithout e E chi X = (W : SignVector) × IsCovector E chi W × (W e ≡ Zero) × ((p : ℕ) → W (skip e p) ≡ X p)

@@ -1,0 +1,22 @@
+-- The three-term relations of a map.
+--
+-- Reference: Björner, Las Vergnas, Sturmfels, White and Ziegler, Oriented Matroids, chapter 3.
+use Rattle.std.specs.Prelude.{ℕ, List, [], ◌∷◌, ◌++◌}
+use Rattle.om_signs.specs.declared.sign.Sign.{Sign}
+use Rattle.om_signs.specs.declared.sign.Sign.TheVariants.{Minus, Zero, Plus}
+use Rattle.om_signs.specs.Sign.{opposite, product}
+
+-- three signs that are all zero, or that include a plus and a minus
+abbrev pub AreBalanced : Sign → Sign → Sign → Type 0
+AreBalanced Plus Minus s = Unit {0}
+AreBalanced Plus s Minus = Unit {0}
+AreBalanced Minus Plus s = Unit {0}
+AreBalanced Minus s Plus = Unit {0}
+AreBalanced Zero Plus Minus = Unit {0}
+AreBalanced Zero Minus Plus = Unit {0}
+AreBalanced Zero Zero Zero = Unit {0}
+AreBalanced a b c = ⊥
+
+-- for each tuple p and elements a, b, c, d: the products of the values at p with ab and cd, with ac and bd, negated, and with ad and bc
+abbrev pub HasThreeTermRelations : (List ℕ → Sign) → Type 0
+HasThreeTermRelations chi = (p : List ℕ) (a b c d : ℕ) → AreBalanced (product (chi (p ++ a ∷ b ∷ [])) (chi (p ++ c ∷ d ∷ []))) (opposite (product (chi (p ++ a ∷ c ∷ [])) (chi (p ++ b ∷ d ∷ [])))) (product (chi (p ++ a ∷ d ∷ [])) (chi (p ++ b ∷ c ∷ [])))
