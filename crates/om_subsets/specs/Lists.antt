@@ -1,0 +1,21 @@
+-- What an increasing list is, and what the lexicographic order is, in plain words: the laws of the crate say that the
+-- definitions by recursion over the elements come to the same.
+use Rattle.std.specs.Prelude.{ℕ, ◌≡◌, ◌<◌, ◌≤◌, List, [], ◌∷◌, ◌⊎◌}
+use Rattle.om_subsets.specs.Subsets.{IsMember}
+
+-- each number is below the next
+abbrev pub IsIncreasing : List ℕ → Type 0
+IsIncreasing [] = Unit {0}
+IsIncreasing (x ∷ []) = Unit {0}
+IsIncreasing (x ∷ y ∷ ys) = (x < y) × IsIncreasing (y ∷ ys)
+
+-- each number is from low to high
+abbrev pub IsWithin : ℕ → ℕ → List ℕ → Type 0
+IsWithin low high xs = (e : ℕ) → IsMember e xs → (low ≤ e) × (e ≤ high)
+
+-- the first list comes before the second one lexicographically
+abbrev pub IsBefore : List ℕ → List ℕ → Type 0
+IsBefore [] [] = ⊥
+IsBefore [] (y ∷ ys) = Unit {0}
+IsBefore (x ∷ xs) [] = ⊥
+IsBefore (x ∷ xs) (y ∷ ys) = (x < y) ⊎ ((x ≡ y) × IsBefore xs ys)

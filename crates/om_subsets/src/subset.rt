@@ -1,0 +1,263 @@
+ghost use Rattle.std.specs.Prelude.{◌≡◌, ℕ, ◌+◌, ◌-◌, ◌<◌, ◌≤◌, ◌^◌, ◌↔◌, length, IsNone, IfSome, IsTrue, ◌%◌};
+ghost use Rattle.om_signs.specs.SignVec.{IsMaskOf};
+ghost use Rattle.om_subsets.specs.Subsets.{choose, rank_of, subset_at, first_of, IsSubsetFrom, IsMember, with_element, without_element, count_above};
+ghost use Rattle.om_subsets.specs.Members.{members, mask_of};
+
+use super::binomials::{BINOMIALS, MOST_SUBSETS};
+use om_signs::MAX_PLACES;
+use std::marker::Model;
+
+/// A set of some of the elements 1 to n, for an n of at most [`MAX_PLACES`]. Contracts see it as n together with the
+/// increasing list of its elements.
+///
+/// Subsets of one size are ordered lexicographically by these lists, and numbered from 0 on in this order.
+#[derive(Clone, Copy, Debug, PartialEq, Eq)]
+pub struct Subset {
+    mask: u32,
+    n: u8,
+}
+
+impl Model for Subset {
+    ghost use Rattle.std.specs.Prelude.{◌<◌, ◌^◌};
+    ghost use Rattle.om_subsets.specs.Members.{Chosen, IsSound, members, mask_of, mask_of-members};
+
+    ghost Value = { Chosen };
+
+    ghost view = { λ s. record { n = s.n; elements = members s.mask 1 s.n } };
+
+    ghost invariant = { λ s. IsSound s.mask s.n };
+
+    ghost inverse = { λ v. record { mask = mask_of 1 v.elements v.n; n = v.n } };
+
+    ghost inverse_ok = { λ a h. let l : a.mask < 2 ^ a.n = h.within in Prim.simp mask_of-members };
+}
+
+impl Subset {
+    /// How many ways there are to take r of n: 0 where r is above n. n is at most [`MAX_PLACES`].
+    pub fn choose(n: u8, r: u8) -> u32
+        requires { n ≤ MAX_PLACES }
+        ensures value { result ≡ choose n r }
+        ensures most { result ≤ MOST_SUBSETS }
+    {
+        if r > n {
+            return 0;
+        }
+        BINOMIALS[n as usize][r as usize]
+    }
+
+    /// The subset of 1 to n whose elements a mask names: bit e - 1 stands for e. n is at most [`MAX_PLACES`], and the
+    /// mask has no bit for a number above n.
+    pub fn from_mask(mask: u32, n: u8) -> Subset
+        requires small { n ≤ MAX_PLACES }
+        requires within { mask < 2 ^ n }
+        ensures n { result.n ≡ n }
+        ensures elements { result.elements ≡ members mask 1 n }
+        ensures bits { IsMaskOf n (λ i. IsMember (i + 1) result.elements) mask }
+        ensures lawful { IsSubsetFrom 1 n result.elements }
+    {
+        Subset { mask, n }
+    }
+
+    /// The mask of the elements: bit e - 1 stands for e.
+    pub fn mask(self) -> u32
+        ensures value { result ≡ mask_of 1 self.elements self.n }
+        ensures bits { IsMaskOf self.n (λ i. IsMember (i + 1) self.elements) result }
+    {
+        self.mask
+    }
+
+    /// The n of the elements 1 to n that the set is taken from.
+    pub fn n(self) -> u8
+        ensures value { result ≡ self.n }
+        ensures small { result ≤ MAX_PLACES }
+    {
+        self.n
+    }
+
+    /// How many elements the set has.
+    pub fn size(self) -> u8
+        ensures value { result ≡ length self.elements }
+        ensures lawful { IsSubsetFrom 1 self.n self.elements }
+        ensures small { self.n ≤ MAX_PLACES }
+        ensures within { result ≤ self.n }
+    {
+        self.mask.count_ones() as u8
+    }
+
+    /// The lexicographically first subset of r of the elements 1 to n: it has 1 to r. r is at most n, and n is at most
+    /// [`MAX_PLACES`].
+    pub fn first(r: u8, n: u8) -> Subset
+        requires part { r ≤ n }
+        requires small { n ≤ MAX_PLACES }
+        ensures n { result.n ≡ n }
+        ensures elements { result.elements ≡ first_of 1 r }
+        ensures size { length result.elements ≡ r }
+        ensures place { rank_of n result.elements ≡ 0 }
+        ensures lawful { IsSubsetFrom 1 n result.elements }
+    {
+        Subset {
+            mask: (1u32 << r) - 1,
+            n,
+        }
+    }
+
+    /// The next subset of this size in lexicographic order, or None where this is the last one.
+    pub fn next(self) -> Option<Subset>
+        ensures none { IsNone result ↔ (rank_of self.n self.elements + 1 ≡ choose self.n (length self.elements)) }
+        ensures n { IfSome result (λ t. t.n ≡ self.n) }
+        ensures size { IfSome result (λ t. length t.elements ≡ length self.elements) }
+        ensures rank { IfSome result (λ t. rank_of t.n t.elements ≡ rank_of self.n self.elements + 1) }
+        ensures lawful { IfSome result (λ t. IsSubsetFrom 1 t.n t.elements) }
+    {
+        let mut tail = 0u8;
+        for k in 0..self.n {
+            let i = self.n - 1 - k;
+            if self.mask >> i & 1 == 1 {
+                if tail < k {
+                    let low = self.mask & ((1u32 << i) - 1);
+                    let run = ((1u32 << (tail + 1)) - 1) << (i + 1);
+                    return Some(Subset {
+                        mask: low | run,
+                        n: self.n,
+                    });
+                }
+                tail += 1;
+            }
+        }
+        None
+    }
+
+    /// The place of this subset in the lexicographic order of those of its size, from 0 on.
+    pub fn rank(self) -> u32
+        ensures value { result ≡ rank_of self.n self.elements }
+        ensures small { result < choose self.n (length self.elements) }
+        ensures back { subset_at self.n (length self.elements) result ≡ self.elements }
+        ensures lawful { IsSubsetFrom 1 self.n self.elements }
+    {
+        let mut left = self.size();
+        let mut rest = self.mask;
+        let mut rank = Subset::choose(self.n, left) - 1;
+        while rest != 0 {
+            // the sets that have the elements so far and go on with greater ones in place of this one come later
+            let element = rest.trailing_zeros() as u8 + 1;
+            rank -= Subset::choose(self.n - element, left);
+            left -= 1;
+            rest &= rest - 1;
+        }
+        rank
+    }
+
+    /// The subset at place k, from 0 on, in the lexicographic order of those of r of the elements 1 to n. r is at most
+    /// n, n is at most [`MAX_PLACES`], and k is below `choose(n, r)`.
+    pub fn unrank(k: u32, r: u8, n: u8) -> Subset
+        requires part { r ≤ n }
+        requires small { n ≤ MAX_PLACES }
+        requires place { k < choose n r }
+        ensures n { result.n ≡ n }
+        ensures elements { result.elements ≡ subset_at n r k }
+        ensures size { length result.elements ≡ r }
+        ensures place { rank_of n result.elements ≡ k }
+        ensures lawful { IsSubsetFrom 1 n result.elements }
+    {
+        let mut left = r;
+        let mut rest = k;
+        let mut mask = 0u32;
+        for i in 0..n {
+            if left > 0 {
+                let count = Subset::choose(n - 1 - i, left - 1);
+                if rest < count {
+                    mask |= 1u32 << i;
+                    left -= 1;
+                } else {
+                    rest -= count;
+                }
+            }
+        }
+        Subset { mask, n }
+    }
+
+    /// Whether e is an element of the set. e is from 1 to n.
+    pub fn has(self, e: u8) -> bool
+        requires low { 1 ≤ e }
+        requires high { e ≤ self.n }
+        ensures { IsTrue result ↔ IsMember e self.elements }
+    {
+        self.mask >> (e - 1) & 1 == 1
+    }
+
+    /// The set with e, which may be there already. e is from 1 to n.
+    pub fn with(self, e: u8) -> Subset
+        requires low { 1 ≤ e }
+        requires high { e ≤ self.n }
+        ensures n { result.n ≡ self.n }
+        ensures elements { result.elements ≡ with_element e self.elements }
+        ensures lawful { IsSubsetFrom 1 result.n result.elements }
+    {
+        Subset {
+            mask: self.mask | 1u32 << (e - 1),
+            n: self.n,
+        }
+    }
+
+    /// The set without e, which need not be there. e is from 1 to n.
+    pub fn without(self, e: u8) -> Subset
+        requires low { 1 ≤ e }
+        requires high { e ≤ self.n }
+        ensures n { result.n ≡ self.n }
+        ensures elements { result.elements ≡ without_element e self.elements }
+        ensures lawful { IsSubsetFrom 1 result.n result.elements }
+    {
+        Subset {
+            mask: self.mask & !(1u32 << (e - 1)),
+            n: self.n,
+        }
+    }
+
+    /// Whether the number of elements greater than e is odd. e is from 1 to n.
+    pub fn odd_after(self, e: u8) -> bool
+        requires low { 1 ≤ e }
+        requires high { e ≤ self.n }
+        ensures { IsTrue result ↔ (count_above e self.elements % 2 ≡ 1) }
+    {
+        (self.mask >> e).count_ones() % 2 == 1
+    }
+}
+
+#[cfg(test)]
+mod tests {
+    use super::*;
+    use std::thread::join;
+
+    #[test]
+    fn pairs_of_four(rt: HostRuntime) {
+        let mut pair = Subset::first(2, 4);
+        for (place, mask) in [
+            (0, 0b0011),
+            (1, 0b0101),
+            (2, 0b1001),
+            (3, 0b0110),
+            (4, 0b1010),
+            (5, 0b1100),
+        ] {
+            assert_eq!(rt; pair.mask(), mask);
+            assert_eq!(rt; pair.rank(), place);
+            assert_eq!(rt; pair.next().is_none(), place == 5);
+            if let Some(next) = pair.next() {
+                pair = next;
+            }
+        }
+        assert_eq!(rt; pair, Subset::unrank(5, 2, 4));
+        assert_eq!(rt; pair, Subset::from_mask(0b1100, 4));
+        assert_eq!(rt; pair.without(4).with(1), Subset::from_mask(0b0101, 4));
+        assert!(rt; pair.has(3) && pair.odd_after(3) && !pair.odd_after(2));
+        assert_eq!(rt; Subset::choose(4, 2), 6);
+    }
+
+    #[test]
+    fn shared_by_threads(rt: HostRuntime) {
+        let pair = Subset::first(2, 4);
+        let (place, size) = join(&rt, || pair.rank(), || pair.size());
+        assert_eq!(rt; place, 0);
+        assert_eq!(rt; size, 2);
+    }
+}
