@@ -1,0 +1,70 @@
+-- Known bytes, over several reads or writes.
+--
+-- Main results: Consumes-then, Appends-then, taken_exactly, taken_at_most, write_step, read_step
+use Rattle.std.proofs.Common.{ℕ, ◌≡◌, ◌+◌, ◌-◌, ◌<◌, ◌≤◌, List, [], ◌++◌, length, take, drop, refl, sym, ◌∙◌, ap, arith, append_assoc}
+use Rattle.std.specs.Prelude.{None, Some, Option}
+use Rattle.std.specs.Io.KnownBytes.{Consumes, Appends, Keeps}
+use Rattle.std.proofs.lemmas.List.{append-nil, drop_all, length-take, take-append-drop, length-drop, length-append, take_rest, take_at, drop-drop}
+use Rattle.std.proofs.Math.Seq.{take-add}
+use Rattle.om_port.specs.Causes.{TakesExactly, TakesAtMost}
+
+pub Consumes-keeps : (old new : Option (List ℕ)) → Keeps old new → Consumes old new []
+Consumes-keeps None new h = h
+Consumes-keeps (Some xs) None h = h
+Consumes-keeps (Some xs) (Some ys) h = sym h
+
+pub Consumes-then : (a b c : Option (List ℕ)) (xs ys : List ℕ) → Consumes a b xs → Consumes b c ys → Consumes a c (xs ++ ys)
+Consumes-then None b c xs ys h k = h
+Consumes-then (Some a) None c xs ys h k = absurd h
+Consumes-then (Some a) (Some b) None xs ys h k = absurd k
+Consumes-then (Some a) (Some b) (Some c) xs ys h k = h ∙ rw (k, append_assoc) refl
+
+pub Appends-keeps : (old new : Option (List ℕ)) → Keeps old new → Appends old new []
+Appends-keeps None new h = h
+Appends-keeps (Some xs) None h = h
+Appends-keeps (Some xs) (Some ys) h = h ∙ sym (append-nil xs)
+
+pub Appends-then : (a b c : Option (List ℕ)) (xs ys : List ℕ) → Appends a b xs → Appends b c ys → Appends a c (xs ++ ys)
+Appends-then None b c xs ys h k = h
+Appends-then (Some a) None c xs ys h k = absurd h
+Appends-then (Some a) (Some b) None xs ys h k = absurd k
+Appends-then (Some a) (Some b) (Some c) xs ys h k = k ∙ rw (h, append_assoc) refl
+
+-- the bytes of another read
+pub taken_exactly : (a b c : Option (List ℕ)) (xs buf : List ℕ) (k n : ℕ) → Consumes a b xs → Consumes b c (take k buf) → k ≤ length buf → length xs + k ≡ n → TakesExactly n a c
+taken_exactly a b c xs buf k n h h2 fits e =
+    let l = length-append xs (take k buf) in
+    let t = length-take k buf in
+    (xs ++ take k buf, Consumes-then a b c xs (take k buf) h h2, omega arith)
+
+pub taken_at_most : (a b c : Option (List ℕ)) (xs buf : List ℕ) (k n : ℕ) → Consumes a b xs → Consumes b c (take k buf) → k ≤ length buf → length xs + k ≤ n → TakesAtMost n a c
+taken_at_most a b c xs buf k n h h2 fits e =
+    let l = length-append xs (take k buf) in
+    let t = length-take k buf in
+    (xs ++ take k buf, Consumes-then a b c xs (take k buf) h h2, omega arith)
+
+-- one write of what is left
+pub write_step : (a b c : Option (List ℕ)) (xs : List ℕ) (w k : ℕ) → Appends a b (take w xs) → Appends b c (take k (take (length xs - w) (drop w xs))) → Appends a c (take (w + k) xs)
+write_step a b c xs w k h h2 =
+    let h3 : Appends b c (take k (drop w xs)) = rw (take_rest xs w) at h2 in
+    rw (take-add w k xs) (Appends-then a b c (take w xs) (take k (drop w xs)) h h3)
+
+pub length_rest : (xs : List ℕ) (w : ℕ) → length (take (length xs - w) (drop w xs)) ≡ length xs - w
+length_rest xs w = rw (take_rest xs w) (length-drop w xs)
+
+-- one read of bytes in memory
+pub read_step : (items rest buf copied self : List ℕ) (at count : ℕ) → drop at items ≡ self → rest ≡ drop at items → count ≤ length rest → count ≤ length buf → (count ≡ 0 → 0 < length buf → length rest ≤ 0) → copied ≡ take count rest → (self ≡ take count (copied ++ drop count buf) ++ drop (at + count) items) × (count ≡ 0 → 0 < length (copied ++ drop count buf) → drop (at + count) items ≡ [])
+read_step items rest buf copied self at count v r fits room some e =
+    let l : length copied ≡ count = rw (e, length-take count rest) (omega arith) in
+    let d : drop (at + count) items ≡ drop count rest = rw (r, ← drop-drop count at items) refl in (
+      sym v ∙ sym r ∙ rw (d, take_at copied (drop count buf) count l, e) (sym (take-append-drop count rest)),
+      λ z more. rw d (drop_all count rest (short z more)),
+    )
+  where
+    short : count ≡ 0 → 0 < length (copied ++ drop count buf) → length rest ≤ count
+    short z more =
+        let l2 = length-append copied (drop count buf) in
+        let l3 = length-drop count buf in
+        let l4 = ap length e ∙ length-take count rest in
+        let none = some z (omega arith) in
+        omega arith

@@ -1,0 +1,24 @@
+use Rattle.std.proofs.Common.{◌≡◌, ap, ◌∙◌, take, drop, length, ◌-◌, arith}
+use Rattle.std.proofs.lemmas.List.{take_rest}
+use Rattle.om_port.specs.Causes.{raised}
+use Rattle.om_port.proofs.Known.{read_step}
+use Rattle.om_port.proofs.mem_source.MemSourceSource.read.Goals as goal
+
+pub returns-then-begin-clause-cause : goal.returns-then-begin-clause-cause
+returns-then-begin-clause-cause c =
+    let view : c.self.inside.plan.faults ≡ c.args.self.now.faults = ap (λ f. f.faults) c.self.view_is in
+    let begun : c.begin.new.self.faults ≡ c.self.inside.plan.faults = ap (λ p. p.faults) c.begin.ensures.plan in
+    let counted : c.fail.new.self.faults ≡ raised c.begin.new.self.faults = ap (λ p. p.faults) c.fail.ensures.plan in
+    let below = c.fail.ensures.later in
+    record { later = omega arith; failed = omega arith }
+
+pub returns-clause-bytes : goal.returns-clause-bytes
+returns-clause-bytes c =
+    let m = c.min.ensures in
+    let m2 = c.min-count.ensures in
+    let piece = c.self.invariant.0 in
+    read_step c.self.inside.bytes.items _ c.args.buf.now c.copy_from_slice.new.self c.args.self.now.bytes c.self.inside.at c.min-count.result
+    (ap (λ f. f.bytes) c.self.view_is)
+    (ap (λ xs. take (length xs - c.self.inside.at) (drop c.self.inside.at xs)) c.as_slice.ensures.value ∙ take_rest c.self.inside.bytes.items c.self.inside.at)
+    (omega arith) (omega arith) (λ z some. omega arith)
+    c.copy_from_slice.ensures.after

@@ -1,0 +1,5 @@
+pub mod Calls
+pub mod Causes
+pub mod Counted
+pub mod Feed
+pub mod Held

@@ -1,0 +1,34 @@
+//! Sources and sinks of bytes, which count their faults, and reading and writing whole inputs.
+//!
+//! A count of faults starts at 0 and never falls. It rose in a call where it is greater after the call than before, or stands
+//! at its last value, `u64::MAX`.
+#![tactic(auto)]
+
+mod count_sink;
+mod failed;
+mod mem_sink;
+mod mem_source;
+mod plan;
+mod read_error;
+mod sink;
+mod source;
+mod std_sink;
+mod std_source;
+mod sure_source;
+#[cfg(test)]
+mod tests;
+mod whole;
+mod write_fault;
+
+pub use count_sink::CountSink;
+pub use failed::Failed;
+pub use mem_sink::MemSink;
+pub use mem_source::MemSource;
+pub use read_error::ReadError;
+pub use sink::Sink;
+pub use source::Source;
+pub use std_sink::StdSink;
+pub use std_source::StdSource;
+pub use sure_source::SureSource;
+pub use whole::{read_all, write_all};
+pub use write_fault::WriteFault;

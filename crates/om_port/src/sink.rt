@@ -1,0 +1,25 @@
+ghost use Rattle.std.specs.Prelude.{◌<◌, List, ℕ, length, IfOk};
+ghost use Rattle.std.specs.declared.option.Option.{Option};
+ghost use Rattle.std.specs.Io.{WritesAtMost};
+ghost use Rattle.std.specs.Io.KnownBytes.{WriteAppends};
+ghost use Rattle.om_port.specs.Causes.{HasCause};
+
+use super::failed::Failed;
+
+/// Where bytes go. A sink may tell the bytes that it has taken, and counts its faults.
+pub trait Sink {
+    /// The bytes that were taken, where the sink tells them.
+    ghost taken: { Self → Option (List ℕ) };
+
+    /// How many faults it has had.
+    ghost faults: { Self → ℕ };
+
+    /// Takes the first of the bytes, as many as it likes, and answers how many: at least one where there are any.
+    ///
+    /// [`Failed`] comes only where the count of faults rose, and nothing is then taken.
+    fn write(&mut self, bytes: &[u8]) -> Result<usize, Failed>
+        ensures bound { WritesAtMost result bytes.now }
+        ensures some { 0 < length bytes.now → IfOk result (λ k. 0 < k) }
+        ensures bytes { WriteAppends (taken self.old) (taken self.new) result bytes.now }
+        ensures cause { HasCause (faults self.old) (faults self.new) result };
+}

@@ -1,0 +1,25 @@
+ghost use Rattle.std.specs.Prelude.{List, ℕ};
+ghost use Rattle.std.specs.declared.option.Option.{Option};
+ghost use Rattle.std.specs.Io.{ReadsAtMost};
+ghost use Rattle.std.specs.Io.KnownBytes.{ReadConsumes};
+ghost use Rattle.om_port.specs.Causes.{HasCause};
+
+use super::failed::Failed;
+
+/// Where bytes come from. A source may tell the bytes that are left, and counts its faults.
+pub trait Source {
+    /// The bytes that are left, where the source tells them.
+    ghost left: { Self → Option (List ℕ) };
+
+    /// How many faults it has had.
+    ghost faults: { Self → ℕ };
+
+    /// Gives the next bytes, as many as it likes up to the length of `buf`, at the front of `buf`, and answers how many.
+    /// With a nonempty `buf` none are given only at the end of the input.
+    ///
+    /// [`Failed`] comes only where the count of faults rose, and no byte is then gone.
+    fn read(&mut self, buf: &mut [u8]) -> Result<usize, Failed>
+        ensures bound { ReadsAtMost result buf.new }
+        ensures bytes { ReadConsumes (left self.old) (left self.new) result buf.new }
+        ensures cause { HasCause (faults self.old) (faults self.new) result };
+}

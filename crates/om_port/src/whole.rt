@@ -1,0 +1,78 @@
+ghost use Rattle.std.specs.Prelude.{◌≡◌, ◌≢◌, ◌≤◌, ◌<◌, ◌+◌, IfOk, IfErr, OnOk, OnErr, vec_len, length, take};
+ghost use Rattle.std.specs.Io.KnownBytes.{Consumes, Appends, IsAtEnd};
+ghost use Rattle.om_port.specs.Causes.{Rose, TakesExactly, TakesAtMost, TakesSome};
+
+use super::read_error::ReadError;
+use super::sink::Sink;
+use super::source::Source;
+use super::write_fault::WriteFault;
+use om_signs::MAX_INPUT;
+use std::alloc::Global;
+
+// The most bytes that are asked for at once.
+const PIECE: usize = 4_096;
+
+/// All bytes of a source up to its end, of which there are at most `limit`. The limit is at most [`MAX_INPUT`].
+///
+/// [`ReadError::ReadFault`] comes only where the source's count of faults rose in this call. [`ReadError::TooLong`] comes
+/// exactly where `limit + 1` bytes were taken, and no further one is then taken. [`ReadError::Memory`] comes only for want
+/// of memory. After each of them the source has given a prefix of the bytes that it had left.
+pub fn read_all<S: Source>(
+    alloc: Global,
+    source: &mut S,
+    limit: usize,
+) -> Result<Vec<u8>, ReadError>
+    requires { limit ≤ MAX_INPUT }
+    ensures ok { IfOk result (λ bytes. Consumes (S.left source.old) (S.left source.new) bytes.items) }
+    ensures end { OnOk result (IsAtEnd (S.left source.new)) }
+    ensures short { IfOk result (λ bytes. vec_len bytes ≤ limit) }
+    ensures fault { result ≡ Err ReadError.ReadFault → Rose (S.faults source.old) (S.faults source.new) }
+    ensures long { result ≡ Err ReadError.TooLong → TakesExactly (limit + 1) (S.left source.old) (S.left source.new) }
+    ensures few { result ≢ Err ReadError.TooLong → TakesAtMost limit (S.left source.old) (S.left source.new) }
+    ensures prefix { TakesSome (S.left source.old) (S.left source.new) }
+    ensures later { S.faults source.old ≤ S.faults source.new }
+{
+    let mut bytes = Vec::new(alloc);
+    let mut buf = [0u8; PIECE];
+    for _turn in 0..limit + 1 {
+        let room = limit + 1 - bytes.len();
+        let piece = room.min(PIECE);
+        match source.read(&mut buf[..piece]) {
+            Err(_) => return Err(ReadError::ReadFault),
+            Ok(0) => return Ok(bytes),
+            Ok(count) => {
+                if count == room {
+                    return Err(ReadError::TooLong);
+                }
+                if bytes.extend_from_slice(&buf[..count]).is_err() {
+                    return Err(ReadError::Memory);
+                }
+            }
+        }
+    }
+    Err(ReadError::TooLong)
+}
+
+/// Writes all of the bytes, in order.
+///
+/// [`WriteFault`] comes only where the sink's count of faults rose in this call. The first `written` of the bytes were then
+/// taken and no others, and `written` is less than their number.
+pub fn write_all<K: Sink>(sink: &mut K, bytes: &[u8]) -> Result<(), WriteFault>
+    ensures ok { OnOk result (Appends (K.taken sink.old) (K.taken sink.new) bytes.now) }
+    ensures err { IfErr result (λ e. Appends (K.taken sink.old) (K.taken sink.new) (take e.written bytes.now)) }
+    ensures part { IfErr result (λ e. e.written < length bytes.now) }
+    ensures fault { OnErr result (Rose (K.faults sink.old) (K.faults sink.new)) }
+    ensures later { K.faults sink.old ≤ K.faults sink.new }
+{
+    let mut written = 0;
+    for _turn in 0..bytes.len() {
+        if written == bytes.len() {
+            return Ok(());
+        }
+        match sink.write(&bytes[written..]) {
+            Ok(count) => written += count,
+            Err(_) => return Err(WriteFault { written }),
+        }
+    }
+    Ok(())
+}
