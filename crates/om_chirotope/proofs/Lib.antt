@@ -1,0 +1,9 @@
+pub mod InOrder
+pub mod Circuits
+pub mod Cocircuits
+pub mod Places
+pub mod Tables
+pub mod Axioms
+pub mod Negation
+pub mod SortedTuples
+pub mod Theory

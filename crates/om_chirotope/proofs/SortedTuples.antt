@@ -1,0 +1,116 @@
+-- The value of a tuple, from its elements taken from the last on.
+--
+-- Main results: before_even, before_odd, the sign of an element before a set; value_repeat and next_element for one more element.
+use Rattle.std.specs.Prelude.{ℕ, ◌≡◌, ◌≢◌, ◌+◌, ◌-◌, ◌%◌, ◌<◌, ◌≤◌, List, [], ◌∷◌, length, refl}
+use Rattle.std.proofs.Common.{zero, suc, sym, ◌∙◌, ap, arith, inl, inr, get_or, drop}
+use Rattle.std.proofs.lemmas.Bool.{cases_lt, lt-ltb, le-ltb}
+use Rattle.om_signs.specs.declared.sign.Sign.{Sign}
+use Rattle.om_signs.specs.declared.sign.Sign.TheVariants.{Minus, Zero, Plus}
+use Rattle.om_signs.specs.Sign.{product}
+use Rattle.om_subsets.specs.Subsets.{IsSubsetFrom, IsMember, with_element, count_above}
+use Rattle.om_laws.specs.Tuples.{value, sorted, insert, sort_sign, before_sign, order_sign}
+use Rattle.om_chirotope.specs.Map.{parity_sign}
+use Rattle.om_chirotope.proofs.Circuits.{parity_sign-suc, above_le}
+use Rattle.om_chirotope.proofs.Cocircuits.{insert_with}
+
+-- ---- an element before a list
+
+order_self : (e x : ℕ) → e ≡ x → order_sign e x ≡ Zero
+order_self e x q = let a : x ≤ e = omega arith in let b : e ≤ x = omega arith in rw (le-ltb e x a, le-ltb x e b) refl
+
+pub before_member : (e : ℕ) (xs : List ℕ) → IsMember e xs → before_sign e xs ≡ Zero
+before_member e [] h = absurd h
+before_member e (x ∷ xs) (inl q) = rw (order_self e x q) refl
+before_member e (x ∷ xs) (inr h) = rw (before_member e xs h) (lemma (order_sign e x))
+  where
+    lemma : (s : Sign) → product s Zero ≡ Zero
+    lemma s = grind arith
+
+before_insert : (e x : ℕ) (ys : List ℕ) → before_sign e (insert x ys) ≡ product (order_sign e x) (before_sign e ys)
+before_insert e x [] = refl
+before_insert e x (y ∷ ys) = elim (cases_lt x y) [
+  | inl lt ↦ rw (lt-ltb x y lt) refl
+  | inr ge ↦ rw (le-ltb x y ge, before_insert e x ys) (lemma (order_sign e x) (order_sign e y) (before_sign e ys))
+]
+  where
+    lemma : (a b c : Sign) → product b (product a c) ≡ product a (product b c)
+    lemma a b c = grind arith
+
+pub before_sorted : (e : ℕ) (xs : List ℕ) → before_sign e (sorted xs) ≡ before_sign e xs
+before_sorted e [] = refl
+before_sorted e (x ∷ xs) = before_insert e x (sorted xs) ∙ ap (product (order_sign e x)) (before_sorted e xs)
+
+-- each smaller element of the set turns the sign
+pub before_parity : (e : ℕ) (xs : List ℕ) → (IsMember e xs → ⊥) → before_sign e xs ≡ parity_sign (length xs - count_above e xs)
+before_parity e [] n = refl
+before_parity e (x ∷ xs) n =
+    let i = before_parity e xs (λ h. n (inr h)) in
+    let b = above_le e xs in
+    elim (cases_lt e x) [
+      | inl lt ↦
+          let same : suc (length xs) - (1 + count_above e xs) ≡ length xs - count_above e xs = omega arith in
+          rw (lt-ltb e x lt, same, i) refl
+      | inr ge ↦
+          let ne : e ≢ x = (λ q. n (inl q)) in
+          let lt : x < e = omega arith in
+          let more : suc (length xs) - (0 + count_above e xs) ≡ suc (length xs - count_above e xs) = omega arith in
+          rw (le-ltb e x ge, lt-ltb x e lt, more, parity_sign-suc (length xs - count_above e xs), i) refl
+    ]
+
+pub before_even : (low m e s : ℕ) (xs : List ℕ) → IsSubsetFrom low m xs → (IsMember e xs → ⊥) → s ≡ length xs → s % 2 ≡ count_above e xs % 2 → Plus ≡ before_sign e xs
+before_even low m e s xs h n l p =
+    let b = above_le e xs in
+    let even : (length xs - count_above e xs) % 2 ≡ 0 = omega arith in
+    rw (before_parity e xs n, even) refl
+
+pub before_odd : (low m e s : ℕ) (xs : List ℕ) → IsSubsetFrom low m xs → (IsMember e xs → ⊥) → s ≡ length xs → (s % 2 ≡ count_above e xs % 2 → ⊥) → Minus ≡ before_sign e xs
+before_odd low m e s xs h n l p =
+    let b = above_le e xs in
+    let odd : (length xs - count_above e xs) % 2 ≡ 1 = omega arith in
+    rw (before_parity e xs n, odd) refl
+
+-- ---- one more element of a tuple
+
+pub drop_at : (k : ℕ) (xs : List ℕ) → k < length xs → drop k xs ≡ get_or xs k 0 ∷ drop (k + 1) xs
+drop_at k [] l = absurd (omega arith)
+drop_at zero (x ∷ xs) l = refl
+drop_at (suc k) (x ∷ xs) l = let e : suc k + 1 ≡ suc (k + 1) = omega arith in rw e (drop_at k xs (omega arith))
+
+pub member_at : (k : ℕ) (xs : List ℕ) → k < length xs → IsMember (get_or xs k 0) xs
+member_at k [] l = absurd (omega arith)
+member_at zero (x ∷ xs) l = inl refl
+member_at (suc k) (x ∷ xs) l = inr (member_at k xs (omega arith))
+
+zero_end : (k : ℕ) (xs : List ℕ) → sort_sign (drop k xs) ≡ Zero → sort_sign xs ≡ Zero
+zero_end zero xs z = z
+zero_end (suc k) [] z = z
+zero_end (suc k) (x ∷ xs) z = rw (zero_end k xs z) (lemma (before_sign x xs))
+  where
+    lemma : (s : Sign) → product s Zero ≡ Zero
+    lemma s = grind arith
+
+-- one element more from the end
+pub next_rest : (tuple : List ℕ) (i : ℕ) → i < length tuple → drop (length tuple - (i + 1)) tuple ≡ get_or tuple (length tuple - 1 - i) 0 ∷ drop (length tuple - i) tuple
+next_rest tuple i l =
+    let a : length tuple - (i + 1) ≡ length tuple - 1 - i = omega arith in
+    let b : length tuple - 1 - i + 1 ≡ length tuple - i = omega arith in
+    rw a (drop_at (length tuple - 1 - i) tuple (omega arith) ∙ rw b refl)
+
+pub value_repeat : (f : List ℕ → Sign) (tuple : List ℕ) (i : ℕ) → i < length tuple → IsMember (get_or tuple (length tuple - 1 - i) 0) (sorted (drop (length tuple - i) tuple)) → Zero ≡ value f tuple
+value_repeat f tuple i l h =
+    let before = sym (before_sorted (get_or tuple (length tuple - 1 - i) 0) (drop (length tuple - i) tuple)) ∙ before_member (get_or tuple (length tuple - 1 - i) 0) (sorted (drop (length tuple - i) tuple)) h in
+    let here : sort_sign (drop (length tuple - (i + 1)) tuple) ≡ Zero = ap sort_sign (next_rest tuple i l) ∙ ap (λ s. product s (sort_sign (drop (length tuple - i) tuple))) before in
+    rw (zero_end (length tuple - (i + 1)) tuple here) refl
+
+-- the set and the sign with the next element
+pub record IsNextElement (tuple : List ℕ) (i : ℕ) (set : List ℕ) (sign : Sign) : Type 0 where
+  pub elements : set ≡ sorted (drop (length tuple - i) tuple)
+  pub sign_is : sign ≡ sort_sign (drop (length tuple - i) tuple)
+
+pub next_element : (tuple : List ℕ) (i : ℕ) (set : List ℕ) (sign before : Sign) → i < length tuple → (IsMember (get_or tuple (length tuple - 1 - i) 0) set → ⊥) → set ≡ sorted (drop (length tuple - i) tuple) → sign ≡ sort_sign (drop (length tuple - i) tuple) → before ≡ before_sign (get_or tuple (length tuple - 1 - i) 0) set → IsNextElement tuple (i + 1) (with_element (get_or tuple (length tuple - 1 - i) 0) set) (product before sign)
+next_element tuple i set sign before l n es ss eb = record {
+  elements = sym (insert_with (get_or tuple (length tuple - 1 - i) 0) set n) ∙ ap (insert (get_or tuple (length tuple - 1 - i) 0)) es ∙ ap sorted (sym (next_rest tuple i l));
+  sign_is = ap (λ s. product s sign) (eb ∙ ap (before_sign (get_or tuple (length tuple - 1 - i) 0)) es ∙ before_sorted (get_or tuple (length tuple - 1 - i) 0) (drop (length tuple - i) tuple))
+      ∙ ap (product (before_sign (get_or tuple (length tuple - 1 - i) 0) (drop (length tuple - i) tuple))) ss
+      ∙ ap sort_sign (sym (next_rest tuple i l));
+}

@@ -1,0 +1,137 @@
+-- A map meets the axioms exactly where its values on tuples are a chirotope of the theory.
+--
+-- Main results: theory_chirotope and back, map_chirotope.
+use Rattle.std.specs.Prelude.{ℕ, ◌≡◌, ◌≢◌, ◌+◌, ◌-◌, ◌<◌, ◌≤◌, List, [], ◌∷◌, length, refl}
+use Rattle.std.proofs.Common.{zero, suc, sym, ◌∙◌, arith, inl, inr}
+use Rattle.std.proofs.lemmas.Bool.{cases_eq, eq-eqb, ne_eqb, lt-ltb, le-ltb}
+use Rattle.om_signs.specs.declared.sign.Sign.{Sign}
+use Rattle.om_signs.specs.declared.sign.Sign.TheVariants.{Minus, Zero, Plus}
+use Rattle.om_signs.specs.Sign.{product}
+use Rattle.om_subsets.specs.Subsets.{IsSubsetFrom, IsMember, with_element}
+use Rattle.om_subsets.specs.Lists.{IsWithin}
+use Rattle.om_subsets.proofs.Order.{head_low}
+use Rattle.om_subsets.proofs.Statements.{subset_is_increasing}
+use Rattle.om_laws.specs.Tuples.{value, sorted, sort_sign, before_sign}
+use Rattle.om_laws.specs.Sorting.{IsIncreasing, IsTuple, IsElement, Each, on_tuples}
+use Rattle.om_laws.specs.Relations.{HasIncreasingRelations}
+use Rattle.om_laws.specs.Chirotope as theory
+use Rattle.om_laws.specs.Chirotope.{elements_to}
+use Rattle.om_laws.proofs.TupleSizes.{each_member, on_tuples_at, on_tuples_tuple}
+use Rattle.om_laws.proofs.BridgeLaws.{relation_from_lists, relation_to_lists}
+use Rattle.om_laws.proofs.ChirotopeLaws.{chirotope_from_increasing, relations_of_increasing_tuples}
+use Rattle.om_chirotope.specs.Map.{SignMap, IsMap, chi_of, value_of}
+use Rattle.om_chirotope.specs.Chirotope.{IsChirotope, IsPair, HasNonzeroValue, HasOrthogonalPairs}
+use Rattle.om_chirotope.proofs.InOrder.{value_in_order}
+use Rattle.om_chirotope.proofs.Cocircuits.{insert_with, length-with}
+use Rattle.om_chirotope.proofs.SortedTuples.{before_member, before_sorted}
+
+-- an increasing tuple is an increasing list
+from_tuple : (n k : ℕ) (xs : List ℕ) → IsTuple n k xs → IsIncreasing xs → IsSubsetFrom 1 n xs
+from_tuple n k xs t i = (subset_is_increasing n xs).1 (i, λ e q. each_member (IsElement n) xs t.within e q)
+
+each_element : (n : ℕ) (xs : List ℕ) → IsWithin 1 n xs → Each (IsElement n) xs
+each_element n [] h = tt
+each_element n (x ∷ xs) h = (h x (inl refl), each_element n xs (λ e q. h e (inr q)))
+
+to_tuple : (n k : ℕ) (xs : List ℕ) → IsSubsetFrom 1 n xs → length xs ≡ k → IsTuple n k xs
+to_tuple n k xs h l = record { size = l; within = each_element n xs ((subset_is_increasing n xs).0 h).1 }
+
+relations : (m : SignMap) → IsChirotope m → HasIncreasingRelations m.elements m.rank (value_of m)
+relations m c s a low ts ta is ia =
+    let ss = ts.size in
+    let sa = ta.size in
+    let pair : IsPair m s a = record {
+      s_list = from_tuple m.elements (suc m.rank) s ts is;
+      s_size = omega arith;
+      a_list = from_tuple m.elements (m.rank - 1) a ta ia;
+      a_size = omega arith;
+    } in
+    relation_from_lists m.elements (suc m.rank) (value_of m) s a ts is (c.orthogonal s a pair)
+
+pub theory_chirotope : (m : SignMap) → IsChirotope m → theory.IsChirotope (elements_to m.elements) (on_tuples m.elements m.rank (chi_of m))
+theory_chirotope m c = base c.nonzero
+  where
+    base : HasNonzeroValue m → theory.IsChirotope (elements_to m.elements) (on_tuples m.elements m.rank (chi_of m))
+    base (xs, h, l, n) =
+        chirotope_from_increasing m.elements m.rank (chi_of m) (relations m c) xs (to_tuple m.elements m.rank xs h l) ((subset_is_increasing m.elements xs).0 h).0
+        (λ z. n (value_in_order 1 m.elements (chi_of m) xs h ∙ z))
+
+-- ---- and back: a nonzero tuple gives a nonzero increasing list
+
+later_list : (low m : ℕ) (ys : List ℕ) → IsSubsetFrom (low + 1) m ys → IsSubsetFrom low (suc m) ys
+later_list low m [] h = tt
+later_list low m (y ∷ ys) h = let above = head_low (low + 1) m y ys h in let ne : y ≢ low = omega arith in inr (ne, h)
+
+lawful_with : (low m e : ℕ) (ys : List ℕ) → IsSubsetFrom low m ys → low ≤ e → e < low + m → IsSubsetFrom low m (with_element e ys)
+lawful_with low zero e ys h a b = absurd (omega arith)
+lawful_with low (suc m) e [] h a b = elim (cases_eq e low) [
+  | inl q ↦ inl (q, tt)
+  | inr n ↦ inr (n, lawful_with (low + 1) m e [] tt (omega arith) (omega arith))
+]
+lawful_with low (suc m) e (x ∷ xs) (inl (q, h)) a b = elim (cases_eq e x) [
+  | inl p ↦ rw (eq-eqb e x p) (inl (q, h))
+  | inr n ↦ let ge : x ≤ e = omega arith in rw (ne_eqb e x n, le-ltb e x ge) (inl (q, lawful_with (low + 1) m e xs h (omega arith) (omega arith)))
+]
+lawful_with low (suc m) e (x ∷ xs) (inr (g, h)) a b = elim (cases_eq e low) [
+  | inl p ↦
+      let above = head_low (low + 1) m x xs h in
+      let ne : e ≢ x = omega arith in
+      let lt : e < x = omega arith in
+      rw (ne_eqb e x ne, lt-ltb e x lt) (inl (p, h))
+  | inr n ↦ later_list low m (with_element e (x ∷ xs)) (lawful_with (low + 1) m e (x ∷ xs) h (omega arith) (omega arith))
+]
+
+-- the sorted list of a tuple without repeats
+pub record IsSorted (n k : ℕ) (xs : List ℕ) : Type 0 where
+  pub lawful : IsSubsetFrom 1 n xs
+  pub size : length xs ≡ k
+
+factors : (s t : Sign) → product s t ≢ Zero → (s ≢ Zero) × (t ≢ Zero)
+factors Minus t n = ((λ e. cc), λ z. n (rw z refl))
+factors Zero t n = absurd (n refl)
+factors Plus t n = ((λ e. cc), n)
+
+sorted_tuple : (n : ℕ) (xs : List ℕ) → Each (IsElement n) xs → sort_sign xs ≢ Zero → IsSorted n (length xs) (sorted xs)
+sorted_tuple n [] h s = record { lawful = tt; size = refl }
+sorted_tuple n (x ∷ xs) h s =
+    let parts = factors (before_sign x xs) (sort_sign xs) s in
+    let rest = sorted_tuple n xs h.1 parts.1 in
+    let fresh : IsMember x (sorted xs) → ⊥ = (λ q. parts.0 (sym (before_sorted x xs) ∙ before_member x (sorted xs) q)) in
+    let low = h.0.0 in
+    let high = h.0.1 in
+    let size = rest.size in
+    rw (insert_with x (sorted xs) fresh) (record {
+      lawful = lawful_with 1 n x (sorted xs) rest.lawful low (omega arith);
+      size = length-with x (sorted xs) fresh ∙ omega arith;
+    })
+
+some_value : (m : SignMap) → theory.IsChirotope (elements_to m.elements) (on_tuples m.elements m.rank (chi_of m)) → HasNonzeroValue m
+some_value m c = go c.base
+  where
+    go : (t : List ℕ) × (on_tuples m.elements m.rank (chi_of m) t ≢ Zero) → HasNonzeroValue m
+    go (t, nz) =
+        let tuple = on_tuples_tuple m.elements m.rank (chi_of m) t nz in
+        let at : value (chi_of m) t ≢ Zero = (λ z. nz (on_tuples_at m.elements m.rank (chi_of m) t tuple ∙ z)) in
+        let parts = factors (sort_sign t) (chi_of m (sorted t)) at in
+        let s = sorted_tuple m.elements t tuple.within parts.0 in (
+          sorted t,
+          s.lawful,
+          s.size ∙ tuple.size,
+          λ z. parts.1 (sym (value_in_order 1 m.elements (chi_of m) (sorted t) s.lawful) ∙ z),
+        )
+
+pub map_chirotope : (m : SignMap) → IsMap m → theory.IsChirotope (elements_to m.elements) (on_tuples m.elements m.rank (chi_of m)) → IsChirotope m
+map_chirotope m w c = record { whole = w; nonzero = some_value m c; orthogonal = each }
+  where
+    each : HasOrthogonalPairs m
+    each s a p =
+        let ps = p.s_size in
+        let pa = p.a_size in
+        let ss : length s ≡ suc m.rank = omega arith in
+        let sa : length a ≡ m.rank - 1 = omega arith in
+        let ts = to_tuple m.elements (suc m.rank) s p.s_list ss in
+        let ta = to_tuple m.elements (m.rank - 1) a p.a_list sa in
+        let is = ((subset_is_increasing m.elements s).0 p.s_list).0 in
+        let ia = ((subset_is_increasing m.elements a).0 p.a_list).0 in
+        relation_to_lists m.elements (suc m.rank) (value_of m) s a ts is
+        (relations_of_increasing_tuples m.elements m.rank (chi_of m) c.relations s a (omega arith) ts ta is ia)

@@ -1,0 +1,11 @@
+use Rattle.std.proofs.Common.{◌≡◌, ◌+◌, ◌<◌, ℕ, length}
+use Rattle.om_signs.specs.SignVec.{at}
+use Rattle.om_laws.specs.Relations.{around}
+use Rattle.om_chirotope.specs.Map.{map_of, value_of}
+use Rattle.om_chirotope.proofs.vectors.circuit_of.Given as goal
+
+abbrev pub invariant-loop-e : goal.invariant-loop-e
+invariant-loop-e l = record {
+  len : length l.vector ≡ l.raw.elements;
+  done : (k : ℕ) → k + 1 < l.e → at l.vector k ≡ around (value_of (map_of l.raw)) l.s.elements (k + 1);
+}

@@ -1,0 +1,9 @@
+use super::map_refused::MapRefused;
+use om_signs::RawMap;
+
+/// A map that is no chirotope, handed back unchanged, and the reason.
+#[derive(Drop)]
+pub struct BadMap {
+    pub raw: RawMap,
+    pub why: MapRefused,
+}

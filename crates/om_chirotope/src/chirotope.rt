@@ -1,0 +1,235 @@
+ghost use Rattle.std.specs.Prelude.{◌≡◌, ◌≤◌, ◌+◌, ◌⊎◌, ◌↔◌, length, IsTrue, IfOk, IfSome};
+ghost use Rattle.om_subsets.specs.Lists.{IsWithin};
+ghost use Rattle.om_chirotope.specs.Map.{map_of, chi_of, value_of, circuit_vector, cocircuit_vector, negated, IsLedBy};
+ghost use Rattle.om_chirotope.specs.Chirotope.{IsChirotope, IsWithinLimits};
+
+use super::vectors;
+use om_signs::{MAX_ELEMENTS, NoMemory, RawMap, Sign, SignVec};
+use om_subsets::Subset;
+use std::marker::Model;
+
+/// A map that meets the axioms of a chirotope: some value isn't 0, and for each increasing list S of one element more
+/// than the rank and each increasing list A of one element less, the sign vector V of S is orthogonal to the sign vector
+/// U of A. Contracts see it as its rank, its number of elements and its signs in lexicographic order.
+///
+/// Source: Björner, Las Vergnas, Sturmfels, White and Ziegler, *Oriented Matroids*, chapter 3.
+#[derive(Drop)]
+pub struct Chirotope {
+    raw: RawMap,
+}
+
+impl Model for Chirotope {
+    ghost use Rattle.om_chirotope.specs.Map.{SignMap, map_of};
+    ghost use Rattle.om_chirotope.specs.Chirotope.{IsSound};
+
+    ghost Value = { SignMap };
+
+    ghost view = { λ c. map_of c.raw };
+
+    ghost invariant = { λ c. IsSound (map_of c.raw) };
+}
+
+impl Chirotope {
+    /// The chirotope with the rank, the elements and the signs of a map that meets the axioms. The elements are from 1
+    /// to [`MAX_ELEMENTS`].
+    pub fn lawful(raw: RawMap) -> Chirotope
+        requires axioms { IsChirotope (map_of raw) }
+        requires limits { IsWithinLimits (map_of raw) }
+        ensures { result ≡ map_of raw }
+    {
+        Chirotope { raw }
+    }
+
+    /// The rank: the number of elements in each list that has a sign.
+    pub fn rank(&self) -> u8
+        ensures value { result ≡ self.now.rank }
+        ensures lawful { IsChirotope self.now }
+    {
+        self.raw.rank
+    }
+
+    /// The number of elements.
+    pub fn elements(&self) -> u8
+        ensures value { result ≡ self.now.elements }
+        ensures low { 1 ≤ result }
+        ensures high { result ≤ MAX_ELEMENTS }
+    {
+        self.raw.elements
+    }
+
+    /// The sign of a set of r of the elements 1 to n, for the rank r and the number n of elements.
+    pub fn at(&self, s: Subset) -> Sign
+        requires n { s.n ≡ self.now.elements }
+        requires size { length s.elements ≡ self.now.rank }
+        ensures place { result ≡ chi_of self.now s.elements }
+        ensures value { result ≡ value_of self.now s.elements }
+    {
+        vectors::sign_at(&self.raw, s)
+    }
+
+    /// The sign vector V of a set S of one element more than the rank: at the i-th element of S, counted from 1, the
+    /// sign of S without this element times (-1) to the power i, and 0 off S. Where V isn't 0, V and its negative are
+    /// circuits.
+    pub fn circuit_of(&self, s: Subset) -> SignVec
+        requires n { s.n ≡ self.now.elements }
+        requires size { length s.elements ≡ self.now.rank + 1 }
+        ensures { result ≡ circuit_vector self.now s.elements }
+    {
+        vectors::circuit_of(&self.raw, s)
+    }
+
+    /// The sign vector U of a set A of one element less than the rank: at each element e the value of the tuple of A and
+    /// e behind it. Where U isn't 0, U and its negative are cocircuits.
+    pub fn cocircuit_of(&self, a: Subset) -> SignVec
+        requires n { a.n ≡ self.now.elements }
+        requires size { length a.elements + 1 ≡ self.now.rank }
+        ensures { result ≡ cocircuit_vector self.now a.elements }
+    {
+        vectors::cocircuit_of(&self.raw, a)
+    }
+
+    /// The value of a tuple of r elements: 0 where an element stands in it twice, and else the sign of the set of its
+    /// elements times the sign of the permutation that sorts it.
+    pub fn value(&self, tuple: &[u8]) -> Sign
+        requires size { length tuple.now ≡ self.now.rank }
+        requires within { IsWithin 1 self.now.elements tuple.now }
+        ensures { result ≡ value_of self.now tuple.now }
+    {
+        vectors::value_at(&self.raw, tuple)
+    }
+
+    /// The negative: the chirotope with every sign turned.
+    pub fn negate(self) -> Chirotope
+        ensures { result ≡ negated self }
+    {
+        Chirotope {
+            raw: negation(self.raw),
+        }
+    }
+
+    /// The one of this chirotope and its negative whose first sign that isn't 0 is plus.
+    pub fn normal(self) -> Chirotope
+        ensures same { (result ≡ self) ⊎ (result ≡ negated self) }
+        ensures normal { IsLedBy Sign.Plus result.signs }
+    {
+        if is_led_by_minus(self.raw.signs.as_slice()) {
+            self.negate()
+        } else {
+            self
+        }
+    }
+
+    /// A copy, which keeps its own signs on the heap.
+    pub fn copy(&self) -> Result<Chirotope, NoMemory>
+        ensures { IfOk result (λ c. c ≡ self.now) }
+    {
+        let signs = self.raw.signs.copy()?;
+        Ok(Chirotope {
+            raw: RawMap {
+                rank: self.raw.rank,
+                elements: self.raw.elements,
+                signs,
+            },
+        })
+    }
+
+    /// The map of the chirotope: its rank, its elements and its signs.
+    pub fn into_raw(self) -> RawMap
+        ensures { map_of result ≡ self }
+    {
+        self.raw
+    }
+}
+
+/// The map with every sign turned.
+fn negation(raw: RawMap) -> RawMap
+    ensures { map_of result ≡ negated (map_of raw) }
+{
+    let mut turned = raw;
+    for i in 0..turned.signs.len() {
+        let sign = turned.signs.at(i);
+        turned.signs.set(i, sign.neg());
+    }
+    turned
+}
+
+/// Whether the first sign that isn't 0 is minus.
+fn is_led_by_minus(signs: &[Sign]) -> bool
+    ensures { IsTrue result ↔ IsLedBy Sign.Minus signs.now }
+{
+    for sign in signs {
+        match *sign {
+            Sign::Zero => {}
+            Sign::Plus => return false,
+            Sign::Minus => return true,
+        }
+    }
+    false
+}
+
+#[cfg(test)]
+mod tests {
+    use super::*;
+    use crate::check;
+    use om_signs::List;
+    use std::alloc::Global;
+    use std::process::Abort;
+    use std::thread::Threads;
+
+    /// The chirotope of rank 2 on 3 elements with the signs `+-+` of 12, 13 and 23.
+    fn triangle<R: Threads + Sync + Abort>(
+        rt: &R,
+        alloc: Global,
+    ) -> Result<Option<Chirotope>, NoMemory>
+        ensures rank { IfOk result (λ o. IfSome o (λ c. c.rank ≡ 2)) }
+        ensures elements { IfOk result (λ o. IfSome o (λ c. c.elements ≡ 3)) }
+    {
+        let mut signs = List::new(alloc);
+        signs.push(Sign::Plus)?;
+        signs.push(Sign::Minus)?;
+        signs.push(Sign::Plus)?;
+        let raw = RawMap {
+            rank: 2,
+            elements: 3,
+            signs,
+        };
+        Ok(check(rt, raw).ok())
+    }
+
+    #[test]
+    fn three_elements(rt: HostRuntime) -> Result<(), NoMemory> {
+        if let Some(chi) = triangle(&rt, rt.alloc())? {
+            let all = Subset::from_mask(0b111, 3);
+            let last = Subset::from_mask(0b100, 3);
+            assert_eq!(rt; chi.at(all.without(2)), Sign::Minus);
+            assert_eq!(rt; chi.value(&[2, 1]), Sign::Minus);
+            assert_eq!(rt; chi.value(&[3, 1]), Sign::Plus);
+            assert_eq!(rt; chi.value(&[2, 2]), Sign::Zero);
+            assert_eq!(rt;
+                chi.circuit_of(all),
+                SignVec::zero(3)
+                    .set(1, Sign::Minus)
+                    .set(2, Sign::Minus)
+                    .set(3, Sign::Minus)
+            );
+            assert_eq!(rt;
+                chi.cocircuit_of(last),
+                SignVec::zero(3).set(1, Sign::Plus).set(2, Sign::Minus)
+            );
+            let copy = chi.copy()?;
+            let turned = copy.negate().into_raw();
+            assert_eq!(rt;
+                turned.signs.as_slice(),
+                [Sign::Minus, Sign::Plus, Sign::Minus].as_slice()
+            );
+            let normal = chi.negate().normal().into_raw();
+            assert_eq!(rt;
+                normal.signs.as_slice(),
+                [Sign::Plus, Sign::Minus, Sign::Plus].as_slice()
+            );
+            return Ok(());
+        }
+        assert!(rt; false);
+        Ok(())
+    }
+}

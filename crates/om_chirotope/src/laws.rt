@@ -1,0 +1,31 @@
+//! What the words of the crate's contracts come to. A law is a function that does nothing: its contract is the law.
+
+ghost use Rattle.std.specs.Prelude.{ℕ, ◌≡◌, ◌+◌, ◌<◌, ◌≤◌, ◌↔◌, List, [], ◌∷◌, ◌++◌, length, slice_index};
+ghost use Rattle.std.specs.List.{remove};
+ghost use Rattle.om_signs.specs.Sign.{product};
+ghost use Rattle.om_signs.specs.SignVec.{place};
+ghost use Rattle.om_subsets.specs.Subsets.{IsSubsetFrom, IsMember};
+ghost use Rattle.om_chirotope.specs.Map.{SignMap, IsMap, chi_of, value_of, circuit_vector, cocircuit_vector, parity_sign};
+ghost use Rattle.om_chirotope.specs.Chirotope.{IsChirotope};
+ghost use Rattle.om_laws.specs.Chirotope as theory;
+ghost use Rattle.om_laws.specs.Chirotope.{elements_to};
+ghost use Rattle.om_laws.specs.Sorting.{on_tuples};
+
+use om_signs::Sign;
+
+/// The vector V of an increasing list S has at the i-th element of S, counted from 1, the value of S without this element
+/// times (-1) to the power i, and 0 off S. The vector U of an increasing list A has at e the value of A with e behind it.
+/// On increasing lists the value is the given sign.
+pub fn vectors_of_a_map()
+    ensures circuit { (m : SignMap) (s : List ℕ) (i : ℕ) → IsSubsetFrom 1 m.elements s → i < length s → place (circuit_vector m s) (slice_index s i) ≡ product (parity_sign (i + 1)) (value_of m (remove s i)) }
+    ensures off { (m : SignMap) (s : List ℕ) (e : ℕ) → 1 ≤ e → e ≤ m.elements → (IsMember e s → ⊥) → place (circuit_vector m s) e ≡ Sign.Zero }
+    ensures cocircuit { (m : SignMap) (a : List ℕ) (e : ℕ) → 1 ≤ e → e ≤ m.elements → place (cocircuit_vector m a) e ≡ value_of m (a ++ e ∷ []) }
+    ensures lengths { (m : SignMap) (xs : List ℕ) → (length (circuit_vector m xs) ≡ m.elements) × (length (cocircuit_vector m xs) ≡ m.elements) }
+    ensures value { (m : SignMap) (xs : List ℕ) → IsSubsetFrom 1 m.elements xs → value_of m xs ≡ chi_of m xs }
+{}
+
+/// A map meets the axioms exactly where it is a chirotope in the sense of om_laws: where its values on the tuples of r
+/// elements, and 0 on all other lists, make an alternating map with a nonzero value that has the relations for all lists.
+pub fn axioms_and_relations()
+    ensures { (m : SignMap) → IsMap m → IsChirotope m ↔ theory.IsChirotope (elements_to m.elements) (on_tuples m.elements m.rank (chi_of m)) }
+{}

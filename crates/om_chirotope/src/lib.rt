@@ -1,0 +1,17 @@
+//! Chirotopes: maps that give a sign to each increasing list of r elements, and meet the axioms.
+#![tactic(auto)]
+
+mod bad_map;
+mod checking;
+mod chirotope;
+mod laws;
+mod map_refused;
+mod scan;
+mod vectors;
+
+pub use bad_map::BadMap;
+pub use checking::check;
+pub use chirotope::Chirotope;
+pub use laws::{axioms_and_relations, vectors_of_a_map};
+pub use map_refused::MapRefused;
+pub use scan::violated;

@@ -1,0 +1,128 @@
+//! The signs of sets under a map, and the two sign vectors.
+
+ghost use Rattle.std.specs.Prelude.{◌≡◌, ◌+◌, ◌<◌, ◌≤◌, length};
+ghost use Rattle.om_subsets.specs.Subsets.{choose, IsMember};
+ghost use Rattle.om_subsets.specs.Lists.{IsWithin};
+ghost use Rattle.om_laws.specs.Tuples.{before_sign};
+ghost use Rattle.om_laws.specs.Relations.{around, along};
+ghost use Rattle.om_chirotope.specs.Map.{map_of, chi_of, value_of, circuit_vector, cocircuit_vector};
+
+use om_signs::{MAX_PLACES, RawMap, Sign, SignVec};
+use om_subsets::Subset;
+
+/// The sign of a set of r elements, for the rank r.
+pub fn sign_at(raw: &RawMap, s: Subset) -> Sign
+    requires n { s.n ≡ raw.now.elements }
+    requires size { length s.elements ≡ raw.now.rank }
+    requires whole { length raw.now.signs ≡ choose raw.now.elements raw.now.rank }
+    ensures place { result ≡ chi_of (map_of raw.now) s.elements }
+    ensures value { result ≡ value_of (map_of raw.now) s.elements }
+{
+    raw.signs.at(s.rank() as usize)
+}
+
+/// The sign at e of the vector V of s.
+fn circuit_sign(raw: &RawMap, s: Subset, e: u8) -> Sign
+    requires low { 1 ≤ e }
+    requires high { e ≤ raw.now.elements }
+    requires n { s.n ≡ raw.now.elements }
+    requires size { length s.elements ≡ raw.now.rank + 1 }
+    requires whole { length raw.now.signs ≡ choose raw.now.elements raw.now.rank }
+    ensures { result ≡ around (value_of (map_of raw.now)) s.elements e }
+{
+    let size = s.size();
+    if !s.has(e) {
+        return Sign::Zero;
+    }
+    let sign = sign_at(raw, s.without(e));
+    if (size % 2 == 1) == s.odd_after(e) {
+        sign
+    } else {
+        sign.neg()
+    }
+}
+
+/// The vector V of a set of one element more than the rank.
+pub fn circuit_of(raw: &RawMap, s: Subset) -> SignVec
+    requires low { 1 ≤ raw.now.elements }
+    requires high { raw.now.elements ≤ MAX_PLACES }
+    requires n { s.n ≡ raw.now.elements }
+    requires size { length s.elements ≡ raw.now.rank + 1 }
+    requires whole { length raw.now.signs ≡ choose raw.now.elements raw.now.rank }
+    ensures { result ≡ circuit_vector (map_of raw.now) s.elements }
+{
+    let mut vector = SignVec::zero(raw.elements);
+    for e in 1..raw.elements + 1 {
+        vector = vector.set(e, circuit_sign(raw, s, e));
+    }
+    vector
+}
+
+/// The sign at e of the vector U of a.
+fn cocircuit_sign(raw: &RawMap, a: Subset, e: u8) -> Sign
+    requires low { 1 ≤ e }
+    requires high { e ≤ raw.now.elements }
+    requires n { a.n ≡ raw.now.elements }
+    requires size { length a.elements + 1 ≡ raw.now.rank }
+    requires whole { length raw.now.signs ≡ choose raw.now.elements raw.now.rank }
+    ensures { result ≡ along (value_of (map_of raw.now)) a.elements e }
+{
+    let _size = a.size();
+    if a.has(e) {
+        return Sign::Zero;
+    }
+    let sign = sign_at(raw, a.with(e));
+    if a.odd_after(e) { sign.neg() } else { sign }
+}
+
+/// The vector U of a set of one element less than the rank.
+pub fn cocircuit_of(raw: &RawMap, a: Subset) -> SignVec
+    requires low { 1 ≤ raw.now.elements }
+    requires high { raw.now.elements ≤ MAX_PLACES }
+    requires n { a.n ≡ raw.now.elements }
+    requires size { length a.elements + 1 ≡ raw.now.rank }
+    requires whole { length raw.now.signs ≡ choose raw.now.elements raw.now.rank }
+    ensures { result ≡ cocircuit_vector (map_of raw.now) a.elements }
+{
+    let mut vector = SignVec::zero(raw.elements);
+    for e in 1..raw.elements + 1 {
+        vector = vector.set(e, cocircuit_sign(raw, a, e));
+    }
+    vector
+}
+
+/// The value of a tuple of r elements, for the rank r.
+pub fn value_at(raw: &RawMap, tuple: &[u8]) -> Sign
+    requires high { raw.now.elements ≤ MAX_PLACES }
+    requires size { length tuple.now ≡ raw.now.rank }
+    requires within { IsWithin 1 raw.now.elements tuple.now }
+    requires whole { length raw.now.signs ≡ choose raw.now.elements raw.now.rank }
+    ensures { result ≡ value_of (map_of raw.now) tuple.now }
+{
+    let mut set = Subset::first(0, raw.elements);
+    let mut sign = Sign::Plus;
+    for i in 0..tuple.len() {
+        let e = tuple[tuple.len() - 1 - i];
+        if set.has(e) {
+            return Sign::Zero;
+        }
+        sign = sorting_sign(set, e).times(sign);
+        set = set.with(e);
+    }
+    sign.times(sign_at(raw, set))
+}
+
+/// The sign of the permutation that moves e from the front over the elements of the set that are less.
+fn sorting_sign(set: Subset, e: u8) -> Sign
+    requires low { 1 ≤ e }
+    requires high { e ≤ set.n }
+    requires new { IsMember e set.elements → ⊥ }
+    ensures { result ≡ before_sign e set.elements }
+{
+    let size = set.size();
+    if (size % 2 == 1) == set.odd_after(e) {
+        Sign::Plus
+    } else {
+        Sign::Minus
+    }
+}
