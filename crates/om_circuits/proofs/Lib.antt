@@ -1,0 +1,4 @@
+pub mod MaskLaws
+pub mod ScanLaws
+pub mod EliminationLaws
+pub mod InstanceLaws

@@ -1,0 +1,5 @@
+use Rattle.om_circuits.specs.Scans.{AllBelow, HasEliminatorIfAsked}
+use Rattle.om_circuits.proofs.elimination.first_stuck_element.Given as goal
+
+abbrev pub invariant-loop-e : goal.invariant-loop-e
+invariant-loop-e l = AllBelow l.e (HasEliminatorIfAsked l.members l.fn.x l.fn.y)

@@ -1,0 +1,5 @@
+use Rattle.om_circuits.specs.Scans.{AllBelow, IsUnnestedIn, nth}
+use Rattle.om_circuits.proofs.supports.first_around.Given as goal
+
+abbrev pub invariant-loop-k : goal.invariant-loop-k
+invariant-loop-k l = AllBelow l.k (λ j. IsUnnestedIn l.x (nth l.members j))

@@ -1,0 +1,96 @@
+-- What the scans of a list of members say. Places in a list count from 0 here.
+use Rattle.std.specs.Prelude.{ℕ, ◌≡◌, ◌≢◌, ◌+◌, ◌≤◌, ◌<◌, ◌⊎◌, List, [], length, slice_index_or}
+use Rattle.std.specs.Int.{bit_at}
+use Rattle.std.specs.List.{Contains}
+use Rattle.om_signs.specs.declared.sign.Sign.{Sign}
+use Rattle.om_signs.specs.SignVec.{IsPlus, IsMinus}
+use Rattle.om_circuits.specs.Vectors.{negated, IsZero, HasSupportIn, IsOpposedAt}
+use Rattle.om_circuits.specs.Axioms.{HasEliminator}
+use Rattle.om_circuits.specs.Instances.{IsNestedIn, HasNoEliminator}
+
+-- the member at a place
+abbrev pub nth : List (List Sign) → ℕ → List Sign
+nth members k = slice_index_or members k []
+
+-- it holds of each number below n
+abbrev pub AllBelow : ℕ → (ℕ → Type 0) → Type 0
+AllBelow n Good = (k : ℕ) → k < n → Good k
+
+-- the first bad number below n: those before it are good
+pub record IsFirstBad (n : ℕ) (Bad Good : ℕ → Type 0) (k : ℕ) : Type 0 where
+  pub within : k < n
+  pub bad : Bad k
+  pub before : AllBelow k Good
+
+-- the first bad pair below n and m: those before it, by the first number and then by the second, are good
+pub record IsFirstBadPair (n m : ℕ) (Bad Good : ℕ → ℕ → Type 0) (i j : ℕ) : Type 0 where
+  pub within : i < n
+  pub second : IsFirstBad m (Bad i) (Good i) j
+  pub before : AllBelow i (λ a. AllBelow m (Good a))
+
+-- the member at a place is zero
+abbrev pub IsZeroAt : List (List Sign) → ℕ → Type 0
+IsZeroAt members k = IsZero (nth members k)
+
+-- the member at a place isn't zero
+abbrev pub IsNotZeroAt : List (List Sign) → ℕ → Type 0
+IsNotZeroAt members k = IsZeroAt members k → ⊥
+
+-- the negative of the member at a place is a member
+abbrev pub HasNegativeAt : List (List Sign) → ℕ → Type 0
+HasNegativeAt members k = Contains members (negated (nth members k))
+
+-- the negative of the member at a place is no member
+abbrev pub HasNoNegativeAt : List (List Sign) → ℕ → Type 0
+HasNoNegativeAt members k = HasNegativeAt members k → ⊥
+
+-- the axiom of supports, of two vectors
+abbrev pub IsUnnestedIn : List Sign → List Sign → Type 0
+IsUnnestedIn X Y = HasSupportIn X Y → (X ≡ Y) ⊎ (X ≡ negated Y)
+
+-- the axiom of supports is violated by the members at two places
+abbrev pub AreNestedAt : List (List Sign) → ℕ → ℕ → Type 0
+AreNestedAt members i j = IsNestedIn (nth members i) (nth members j)
+
+-- the axiom of supports, of the members at two places
+abbrev pub AreUnnestedAt : List (List Sign) → ℕ → ℕ → Type 0
+AreUnnestedAt members i j = IsUnnestedIn (nth members i) (nth members j)
+
+-- the axiom of elimination, of two vectors and an element
+abbrev pub HasEliminatorIfAsked : List (List Sign) → List Sign → List Sign → ℕ → Type 0
+HasEliminatorIfAsked members X Y e = 1 ≤ e → X ≢ negated Y → IsOpposedAt X Y e → HasEliminator members X Y e
+
+-- the places with a plus, and those with a minus, lie in these masks
+pub record IsWithin (plus minus : ℕ) (Z : List Sign) : Type 0 where
+  pub pluses : (i : ℕ) → IsPlus Z i → bit_at plus i ≡ 1
+  pub minuses : (i : ℕ) → IsMinus Z i → bit_at minus i ≡ 1
+
+-- some member lies within these masks
+abbrev pub HasWithin : List (List Sign) → ℕ → ℕ → Type 0
+HasWithin members plus minus = (Z : List Sign) × Contains members Z × IsWithin plus minus Z
+
+-- the axiom of elimination is violated by a vector, the member at a place, and an element
+abbrev pub IsStuckWith : List (List Sign) → List Sign → ℕ → ℕ → Type 0
+IsStuckWith members X j e = HasNoEliminator members X (nth members j) e
+
+-- the axiom of elimination, of a vector, the member at a place, and an element
+abbrev pub IsFreeWith : List (List Sign) → List Sign → ℕ → ℕ → Type 0
+IsFreeWith members X j e = HasEliminatorIfAsked members X (nth members j) e
+
+-- the axiom of elimination, of a vector and each member, up to element n
+abbrev pub IsFree : List (List Sign) → ℕ → List Sign → Type 0
+IsFree members n X = AllBelow (length members) (λ j. AllBelow (n + 1) (IsFreeWith members X j))
+
+-- the same of the member at a place and each member
+abbrev pub IsFreeAt : List (List Sign) → ℕ → ℕ → Type 0
+IsFreeAt members n i = IsFree members n (nth members i)
+
+-- the first member and element with which a vector violates the axiom of elimination
+abbrev pub IsFirstStuckWith : List (List Sign) → ℕ → List Sign → ℕ → ℕ → Type 0
+IsFirstStuckWith members n X = IsFirstBadPair (length members) (n + 1) (IsStuckWith members X) (IsFreeWith members X)
+
+-- the first two members and element that violate the axiom of elimination
+pub record IsFirstStuck (members : List (List Sign)) (n i j e : ℕ) : Type 0 where
+  pub within : i < length members
+  pub rest : IsFirstStuckWith members n (nth members i) j e
+  pub before : AllBelow i (IsFreeAt members n)

@@ -1,0 +1,9 @@
+use super::set_refused::SetRefused;
+use om_signs::{List, SignVec};
+
+/// A list that was refused, unchanged, and why.
+#[derive(Drop)]
+pub struct BadSet {
+    pub list: List<SignVec>,
+    pub why: SetRefused,
+}

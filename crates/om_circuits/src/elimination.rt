@@ -1,0 +1,76 @@
+//! The axiom of elimination.
+
+ghost use Rattle.std.specs.Prelude.{◌≡◌, ◌↔◌, ◌+◌, ◌≤◌, ◌<◌, ◌^◌, length, IsTrue, IfSome, IfNone};
+ghost use Rattle.om_circuits.specs.Instances.{HasNoEliminator};
+ghost use Rattle.om_circuits.specs.Scans.{AllBelow, IsFirstBad, IsWithin, HasWithin, HasEliminatorIfAsked, IsFree, IsFreeAt, IsFirstStuckWith, IsFirstStuck};
+
+use super::supports::are_same;
+use om_signs::{MAX_ELEMENTS, SignVec};
+
+/// Whether the places with a plus lie in one mask and those with a minus in another.
+fn is_within(z: SignVec, plus: u32, minus: u32) -> bool
+    ensures { IsTrue result ↔ IsWithin plus minus z }
+{
+    (z.plus() & !plus) | (z.minus() & !minus) == 0
+}
+
+/// Whether some member lies within the two masks.
+fn has_within(members: &[SignVec], plus: u32, minus: u32) -> bool
+    ensures { IsTrue result ↔ HasWithin members.now plus minus }
+{
+    for z in members {
+        if is_within(*z, plus, minus) {
+            return true;
+        }
+    }
+    false
+}
+
+/// The first element that no member eliminates from x and y.
+fn first_stuck_element(members: &[SignVec], elements: u8, x: SignVec, y: SignVec) -> Option<u8>
+    requires { elements ≤ MAX_ELEMENTS }
+    ensures none { IfNone result (AllBelow (elements + 1) (HasEliminatorIfAsked members.now x y)) }
+    ensures first { IfSome result (IsFirstBad (elements + 1) (HasNoEliminator members.now x y) (HasEliminatorIfAsked members.now x y)) }
+{
+    let opposed = x.plus() & y.minus();
+    if opposed == 0 || are_same(x, y.neg()) {
+        return None;
+    }
+    let plus = x.plus() | y.plus();
+    let minus = x.minus() | y.minus();
+    for e in 1..elements + 1 {
+        let bit = 1u32 << (e - 1);
+        if opposed & bit != 0 && !has_within(members, plus & !bit, minus & !bit) {
+            return Some(e);
+        }
+    }
+    None
+}
+
+/// The place of the first member from which and x some element can't be eliminated, and the element.
+fn first_stuck_with(members: &[SignVec], elements: u8, x: SignVec) -> Option<(usize, u8)>
+    requires { elements ≤ MAX_ELEMENTS }
+    ensures none { IfNone result (IsFree members.now elements x) }
+    ensures first { IfSome result (λ p. IsFirstStuckWith members.now elements x p.0 p.1) }
+{
+    for (j, y) in members.iter().enumerate() {
+        if let Some(e) = first_stuck_element(members, elements, x, *y) {
+            return Some((j, e));
+        }
+    }
+    None
+}
+
+/// The places of the first two members from which some element can't be eliminated, and the element.
+pub fn first_stuck(members: &[SignVec], elements: u8) -> Option<(usize, usize, u8)>
+    requires { elements ≤ MAX_ELEMENTS }
+    ensures none { IfNone result (AllBelow (length members.now) (IsFreeAt members.now elements)) }
+    ensures first { IfSome result (λ t. IsFirstStuck members.now elements t.0 t.1 t.2) }
+{
+    for (i, x) in members.iter().enumerate() {
+        if let Some((j, e)) = first_stuck_with(members, elements, *x) {
+            return Some((i, j, e));
+        }
+    }
+    None
+}

@@ -1,0 +1,27 @@
+//! Sets of sign vectors that meet the axioms of circuits, which are those of cocircuits too.
+//!
+//! [`check`] tests a list of sign vectors against the axioms and names the first violated instance.
+//!
+//! Source of the notions: Björner, Las Vergnas, Sturmfels, White and Ziegler, *Oriented Matroids*, chapter 3.
+#![tactic(auto)]
+
+mod acceptance;
+mod bad_set;
+mod circuits;
+mod cocircuits;
+mod elimination;
+mod laws;
+mod set_refused;
+mod signed_set;
+mod supports;
+#[cfg(test)]
+mod tests;
+mod threads;
+
+pub use acceptance::check;
+pub use bad_set::BadSet;
+pub use circuits::Circuits;
+pub use cocircuits::Cocircuits;
+pub use laws::one_first_instance;
+pub use set_refused::SetRefused;
+pub use signed_set::SignedSet;

@@ -1,0 +1,89 @@
+//! A table of lists, accepted or refused.
+
+ghost use Rattle.std.specs.Prelude.{◌≡◌, ◌≤◌, length, IfOk};
+ghost use Rattle.om_circuits.specs.SignedSets.{HaveLength, AreDistinct};
+
+use super::supports::is_member;
+use super::{SetRefused, check};
+use om_signs::{List, MAX_ELEMENTS, MAX_MEMBERS, NoMemory, Sign, SignVec};
+use std::alloc::Global;
+use std::test::Fail;
+
+/// The vector of a word of signs; where the word is too short, the rest is zero.
+fn vector_of(elements: u8, word: &[u8]) -> SignVec
+    requires low { 1 ≤ elements }
+    requires high { elements ≤ MAX_ELEMENTS }
+    ensures { length result ≡ elements }
+{
+    let mut vector = SignVec::zero(elements);
+    for (k, byte) in word.iter().enumerate() {
+        let sign = match *byte {
+            b'+' => Sign::Plus,
+            b'-' => Sign::Minus,
+            _ => Sign::Zero,
+        };
+        if k < elements as usize {
+            vector = vector.set(k as u8 + 1, sign);
+        }
+    }
+    vector
+}
+
+/// The distinct vectors of some words.
+fn list_of(alloc: Global, elements: u8, words: &[&str]) -> Result<List<SignVec>, NoMemory>
+    requires low { 1 ≤ elements }
+    requires high { elements ≤ MAX_ELEMENTS }
+    ensures lengths { IfOk result (HaveLength elements) }
+    ensures distinct { IfOk result AreDistinct }
+    ensures few { IfOk result (λ l. length l ≤ MAX_MEMBERS) }
+{
+    let mut list = List::new(alloc);
+    for word in words {
+        let vector = vector_of(elements, word.as_bytes());
+        if list.len() < MAX_MEMBERS && !is_member(list.as_slice(), vector) {
+            list.push(vector)?;
+        }
+    }
+    Ok(list)
+}
+
+#[test]
+fn lists_are_accepted_or_refused(rt: HostRuntime) -> Result<(), Fail> {
+    for (elements, words, wanted) in [
+        (2, &["+-"][..], Some(SetRefused::NoNegative { i: 1 })),
+        (
+            2,
+            &["+0", "-0", "++", "--"],
+            Some(SetRefused::Nested { i: 1, j: 3 }),
+        ),
+        (2, &["+-", "00", "-+"], Some(SetRefused::Zero { i: 2 })),
+        (
+            3,
+            &["+-0", "0+-", "-+0", "0-+"],
+            Some(SetRefused::NoElimination { i: 2, j: 1, e: 2 }),
+        ),
+        (4, &["-+-+", "+-+-"], None),
+        (
+            4,
+            &[
+                "--00", "-00-", "-0+0", "0--0", "0-0+", "00--", "00++", "0+0-", "0++0", "+0-0",
+                "+00+", "++00",
+            ],
+            None,
+        ),
+        (3, &[], None),
+    ] {
+        let list = list_of(rt.alloc(), elements, words)?;
+        let count = list.len();
+        let refused = match check(&rt, elements, list) {
+            Ok(set) => {
+                assert_eq!(rt; set.elements(), elements);
+                assert_eq!(rt; set.members().len(), count);
+                None
+            }
+            Err(bad) => Some(bad.why),
+        };
+        assert_eq!(rt; refused, wanted, "of {elements} elements");
+    }
+    Ok(())
+}
