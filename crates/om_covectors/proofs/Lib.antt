@@ -1,0 +1,5 @@
+pub mod MaskLaws
+pub mod ScanLaws
+pub mod EliminationLaws
+pub mod InstanceLaws
+pub mod MinimalityLaws

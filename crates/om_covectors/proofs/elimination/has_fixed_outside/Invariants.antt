@@ -1,0 +1,5 @@
+use Rattle.om_covectors.specs.Scans.{AllBelow, IsFixedOutside, nth}
+use Rattle.om_covectors.proofs.elimination.has_fixed_outside.Given as goal
+
+abbrev pub invariant-loop-z : goal.invariant-loop-z
+invariant-loop-z l = AllBelow l.z-index (λ k. IsFixedOutside l.free l.plus l.minus (nth l.members k) → ⊥)

@@ -1,0 +1,92 @@
+-- What the scans of a list of members say. Places in a list count from 0 here.
+use Rattle.std.specs.Prelude.{ℕ, ◌≡◌, ◌+◌, ◌≤◌, ◌<◌, ◌↔◌, List, [], length, slice_index_or}
+use Rattle.std.specs.Int.{bit_at}
+use Rattle.std.specs.List.{Contains}
+use Rattle.om_signs.specs.declared.sign.Sign.{Sign}
+use Rattle.om_signs.specs.SignVec.{compose, IsPlus, IsMinus}
+use Rattle.om_covectors.specs.Vectors.{negated, IsSeparatedAt}
+use Rattle.om_covectors.specs.Axioms.{HasCovectorEliminator}
+use Rattle.om_covectors.specs.Instances.{HasNoCovectorEliminator}
+
+-- the member at a place
+abbrev pub nth : List (List Sign) → ℕ → List Sign
+nth members k = slice_index_or members k []
+
+-- it holds of each number below n
+abbrev pub AllBelow : ℕ → (ℕ → Type 0) → Type 0
+AllBelow n Good = (k : ℕ) → k < n → Good k
+
+-- the first bad number below n: those before it are good
+pub record IsFirstBad (n : ℕ) (Bad Good : ℕ → Type 0) (k : ℕ) : Type 0 where
+  pub within : k < n
+  pub bad : Bad k
+  pub before : AllBelow k Good
+
+-- the first bad pair below n and m: those before it, by the first number and then by the second, are good
+pub record IsFirstBadPair (n m : ℕ) (Bad Good : ℕ → ℕ → Type 0) (i j : ℕ) : Type 0 where
+  pub within : i < n
+  pub second : IsFirstBad m (Bad i) (Good i) j
+  pub before : AllBelow i (λ a. AllBelow m (Good a))
+
+-- the negative of the member at a place is a member
+abbrev pub HasNegativeAt : List (List Sign) → ℕ → Type 0
+HasNegativeAt members k = Contains members (negated (nth members k))
+
+-- the negative of the member at a place is no member
+abbrev pub HasNoNegativeAt : List (List Sign) → ℕ → Type 0
+HasNoNegativeAt members k = HasNegativeAt members k → ⊥
+
+-- the composition of a vector and the member at a place is a member
+abbrev pub HasCompositionWith : List (List Sign) → List Sign → ℕ → Type 0
+HasCompositionWith members X j = Contains members (compose X (nth members j))
+
+-- the composition of a vector and the member at a place is no member
+abbrev pub HasNoCompositionWith : List (List Sign) → List Sign → ℕ → Type 0
+HasNoCompositionWith members X j = HasCompositionWith members X j → ⊥
+
+-- the composition of the members at two places is a member
+abbrev pub HasCompositionAt : List (List Sign) → ℕ → ℕ → Type 0
+HasCompositionAt members i j = HasCompositionWith members (nth members i) j
+
+-- the composition of the members at two places is no member
+abbrev pub HasNoCompositionAt : List (List Sign) → ℕ → ℕ → Type 0
+HasNoCompositionAt members i j = HasNoCompositionWith members (nth members i) j
+
+-- outside the places of the mask `free`, those with a plus are the mask `plus`, and those with a minus the mask `minus`
+pub record IsFixedOutside (free plus minus : ℕ) (Z : List Sign) : Type 0 where
+  pub pluses : (i : ℕ) → (bit_at plus i ≡ 1) ↔ (IsPlus Z i × (bit_at free i ≡ 0))
+  pub minuses : (i : ℕ) → (bit_at minus i ≡ 1) ↔ (IsMinus Z i × (bit_at free i ≡ 0))
+
+-- some member has these signs outside the places of a mask
+abbrev pub HasFixedOutside : List (List Sign) → ℕ → ℕ → ℕ → Type 0
+HasFixedOutside members free plus minus = (Z : List Sign) × Contains members Z × IsFixedOutside free plus minus Z
+
+-- the axiom of elimination, of two vectors and an element
+abbrev pub HasCovectorEliminatorIfAsked : List (List Sign) → List Sign → List Sign → ℕ → Type 0
+HasCovectorEliminatorIfAsked members X Y e = 1 ≤ e → IsSeparatedAt X Y e → HasCovectorEliminator members X Y e
+
+-- the axiom of elimination is violated by a vector, the member at a place, and an element
+abbrev pub IsBlockedWith : List (List Sign) → List Sign → ℕ → ℕ → Type 0
+IsBlockedWith members X j e = HasNoCovectorEliminator members X (nth members j) e
+
+-- the axiom of elimination, of a vector, the member at a place, and an element
+abbrev pub IsUnblockedWith : List (List Sign) → List Sign → ℕ → ℕ → Type 0
+IsUnblockedWith members X j e = HasCovectorEliminatorIfAsked members X (nth members j) e
+
+-- the axiom of elimination, of a vector and each member, up to element n
+abbrev pub IsUnblocked : List (List Sign) → ℕ → List Sign → Type 0
+IsUnblocked members n X = AllBelow (length members) (λ j. AllBelow (n + 1) (IsUnblockedWith members X j))
+
+-- the same of the member at a place and each member
+abbrev pub IsUnblockedAt : List (List Sign) → ℕ → ℕ → Type 0
+IsUnblockedAt members n i = IsUnblocked members n (nth members i)
+
+-- the first member and element with which a vector violates the axiom of elimination
+abbrev pub IsFirstBlockedWith : List (List Sign) → ℕ → List Sign → ℕ → ℕ → Type 0
+IsFirstBlockedWith members n X = IsFirstBadPair (length members) (n + 1) (IsBlockedWith members X) (IsUnblockedWith members X)
+
+-- the first two members and element that violate the axiom of elimination
+pub record IsFirstBlocked (members : List (List Sign)) (n i j e : ℕ) : Type 0 where
+  pub within : i < length members
+  pub rest : IsFirstBlockedWith members n (nth members i) j e
+  pub before : AllBelow i (IsUnblockedAt members n)

@@ -1,0 +1,29 @@
+-- What the axioms of covectors ask of one, two and three sign vectors. Elements count from 1.
+--
+-- Reference: Björner, Las Vergnas, Sturmfels, White and Ziegler, Oriented Matroids, chapter 4.
+use Rattle.std.specs.Prelude.{ℕ, ◌≡◌, ◌-◌, List, map}
+use Rattle.om_signs.specs.declared.sign.Sign.{Sign}
+use Rattle.om_signs.specs.declared.sign.Sign.TheVariants.{Zero}
+use Rattle.om_signs.specs.Sign.{opposite}
+use Rattle.om_signs.specs.SignVec.{place, compose, IsSeparated}
+
+-- all signs are opposite
+abbrev pub negated : List Sign → List Sign
+negated X = map opposite X
+
+-- all signs are zero
+abbrev pub IsZero : List Sign → Type 0
+IsZero X = (e : ℕ) → place X e ≡ Zero
+
+-- the support of X lies in that of Y
+abbrev pub HasSupportIn : List Sign → List Sign → Type 0
+HasSupportIn X Y = (e : ℕ) → place Y e ≡ Zero → place X e ≡ Zero
+
+-- e is in the separation of X and Y: the signs there are opposite, and neither is zero
+abbrev pub IsSeparatedAt : List Sign → List Sign → ℕ → Type 0
+IsSeparatedAt X Y e = IsSeparated X Y (e - 1)
+
+-- Z eliminates e from the composition of X and Y: it is zero there, and equal to the composition outside the separation
+pub record EliminatesFromComposition (X Y : List Sign) (e : ℕ) (Z : List Sign) : Type 0 where
+  pub zero : place Z e ≡ Zero
+  pub outside : (f : ℕ) → (IsSeparatedAt X Y f → ⊥) → place Z f ≡ place (compose X Y) f

@@ -1,0 +1,97 @@
+ghost use Rattle.std.specs.Prelude.{◌≡◌, ◌≤◌, ◌↔◌, length, IfOk, IsTrue};
+ghost use Rattle.std.specs.List.{Contains};
+ghost use Rattle.om_covectors.specs.Axioms.{MeetsCovectorAxioms};
+ghost use Rattle.om_covectors.specs.CovectorSets.{HaveLength, AreDistinct, IsCovectorSet};
+ghost use Rattle.om_covectors.specs.Minimality.{IsMinimal, AreThose};
+
+use super::closure::is_member;
+use super::minimality::is_minimal;
+use om_signs::{List, MAX_ELEMENTS, MAX_MEMBERS, NoMemory, SignVec};
+use std::alloc::Global;
+use std::marker::Model;
+
+/// An oriented matroid by its covectors: a finite set of sign vectors that meets the axioms of covectors. Its members are
+/// distinct, and stand in the order in which they were listed.
+///
+/// Source: Björner, Las Vergnas, Sturmfels, White and Ziegler, *Oriented Matroids*, chapter 4.
+#[derive(Drop)]
+pub struct Covectors {
+    elements: u8,
+    list: List<SignVec>,
+}
+
+impl Model for Covectors {
+    ghost use Rattle.om_covectors.specs.CovectorSets.{Listing, IsCovectorSet};
+
+    ghost Value = { Listing };
+
+    ghost view = { λ s. record { elements = s.elements; members = s.list } };
+
+    ghost invariant = { λ s. IsCovectorSet s.elements s.list };
+}
+
+impl Covectors {
+    /// The covectors of this list, which meet the axioms. It takes no memory.
+    pub fn lawful(elements: u8, list: List<SignVec>) -> Covectors
+        requires low { 1 ≤ elements }
+        requires high { elements ≤ MAX_ELEMENTS }
+        requires lengths { HaveLength elements list }
+        requires distinct { AreDistinct list }
+        requires few { length list ≤ MAX_MEMBERS }
+        requires axioms { MeetsCovectorAxioms list }
+        ensures elements { result.elements ≡ elements }
+        ensures members { result.members ≡ list }
+    {
+        Covectors { elements, list }
+    }
+
+    /// The number of elements; each member has as many places.
+    pub fn elements(&self) -> u8
+        ensures value { result ≡ self.now.elements }
+        ensures lawful { IsCovectorSet self.now.elements self.now.members }
+    {
+        self.elements
+    }
+
+    /// The members, in the order in which they were listed.
+    pub fn members(&self) -> &[SignVec]
+        ensures value { result.now ≡ self.now.members }
+        ensures lawful { IsCovectorSet self.now.elements self.now.members }
+    {
+        self.list.as_slice()
+    }
+
+    /// Whether a sign vector is a member. It takes no memory.
+    pub fn contains(&self, x: SignVec) -> bool
+        ensures { IsTrue result ↔ Contains self.now.members x }
+    {
+        is_member(self.list.as_slice(), x)
+    }
+
+    /// The list of the members, in the order in which they were listed.
+    pub fn into_list(self) -> List<SignVec>
+        ensures value { result ≡ self.members }
+        ensures lawful { IsCovectorSet self.elements self.members }
+    {
+        self.list
+    }
+
+    /// The nonzero members of minimal support, in the order in which they were listed. They are the cocircuits of the
+    /// oriented matroid. The list takes its memory from `alloc`.
+    ///
+    /// [`NoMemory`] comes only for want of memory.
+    ///
+    /// Source: Björner, Las Vergnas, Sturmfels, White and Ziegler, *Oriented Matroids*, chapters 3 and 4.
+    pub fn minimal(&self, alloc: Global) -> Result<List<SignVec>, NoMemory>
+        ensures { IfOk result (AreThose (IsMinimal self.now.members) self.now.members) }
+    {
+        let members = self.list.as_slice();
+        let mut least = List::new(alloc);
+        for x in members {
+            if is_minimal(members, *x) {
+                least.push(*x)?;
+            }
+        }
+        Ok(least)
+    }
+}

@@ -1,0 +1,80 @@
+//! The axiom of elimination.
+
+ghost use Rattle.std.specs.Prelude.{◌≡◌, ◌↔◌, ◌+◌, ◌≤◌, length, IsTrue, IfSome, IfNone};
+ghost use Rattle.om_covectors.specs.CovectorSets.{HaveLength};
+ghost use Rattle.om_covectors.specs.Instances.{HasNoCovectorEliminator};
+ghost use Rattle.om_covectors.specs.Scans.{AllBelow, IsFirstBad, IsFixedOutside, HasFixedOutside, HasCovectorEliminatorIfAsked, IsUnblocked, IsUnblockedAt, IsFirstBlockedWith, IsFirstBlocked};
+
+use om_signs::{MAX_ELEMENTS, SignVec};
+
+/// Whether the places with a plus and those with a minus are the two masks, outside the places of a third.
+fn is_fixed_outside(z: SignVec, free: u32, plus: u32, minus: u32) -> bool
+    ensures { IsTrue result ↔ IsFixedOutside free plus minus z }
+{
+    z.plus() & !free == plus && z.minus() & !free == minus
+}
+
+/// Whether some member has these signs outside the places of a mask.
+fn has_fixed_outside(members: &[SignVec], free: u32, plus: u32, minus: u32) -> bool
+    ensures { IsTrue result ↔ HasFixedOutside members.now free plus minus }
+{
+    for z in members {
+        if is_fixed_outside(*z, free, plus, minus) {
+            return true;
+        }
+    }
+    false
+}
+
+/// The first element that no member eliminates from the composition of x and y.
+fn first_blocked_element(members: &[SignVec], elements: u8, x: SignVec, y: SignVec) -> Option<u8>
+    requires high { elements ≤ MAX_ELEMENTS }
+    requires lengths { length x ≡ length y }
+    ensures none { IfNone result (AllBelow (elements + 1) (HasCovectorEliminatorIfAsked members.now x y)) }
+    ensures first { IfSome result (IsFirstBad (elements + 1) (HasNoCovectorEliminator members.now x y) (HasCovectorEliminatorIfAsked members.now x y)) }
+{
+    let separation = x.separation(y);
+    if separation == 0 {
+        return None;
+    }
+    let composed = x.compose(y);
+    let plus = composed.plus() & !separation;
+    let minus = composed.minus() & !separation;
+    for e in 1..elements + 1 {
+        let bit = 1u32 << (e - 1);
+        if separation & bit != 0 && !has_fixed_outside(members, separation & !bit, plus, minus) {
+            return Some(e);
+        }
+    }
+    None
+}
+
+/// The place of the first member from whose composition with x some element can't be eliminated, and the element.
+fn first_blocked_with(members: &[SignVec], elements: u8, x: SignVec) -> Option<(usize, u8)>
+    requires high { elements ≤ MAX_ELEMENTS }
+    requires lengths { HaveLength (length x) members.now }
+    ensures none { IfNone result (IsUnblocked members.now elements x) }
+    ensures first { IfSome result (λ p. IsFirstBlockedWith members.now elements x p.0 p.1) }
+{
+    for (j, y) in members.iter().enumerate() {
+        if let Some(e) = first_blocked_element(members, elements, x, *y) {
+            return Some((j, e));
+        }
+    }
+    None
+}
+
+/// The places of the first two members from whose composition some element can't be eliminated, and the element.
+pub fn first_blocked(members: &[SignVec], elements: u8) -> Option<(usize, usize, u8)>
+    requires high { elements ≤ MAX_ELEMENTS }
+    requires lengths { HaveLength elements members.now }
+    ensures none { IfNone result (AllBelow (length members.now) (IsUnblockedAt members.now elements)) }
+    ensures first { IfSome result (λ t. IsFirstBlocked members.now elements t.0 t.1 t.2) }
+{
+    for (i, x) in members.iter().enumerate() {
+        if let Some((j, e)) = first_blocked_with(members, elements, *x) {
+            return Some((i, j, e));
+        }
+    }
+    None
+}
