@@ -1,0 +1,92 @@
+-- The distinct members of a list, member by member.
+--
+-- Main results: same_row-Decides, distinct-append, with_member_grows
+use Rattle.std.proofs.Common.{◌≡◌, ◌≤◌, List, [], ◌∷◌, ◌++◌, Bool, true, false, cond, not, ◌||◌, ◌⊎◌, inl, inr, length, refl, sym, ap, ◌∙◌, arith, length-append, append-nil}
+use Rattle.std.specs.Prelude.{filter, Decides, IsTrue}
+use Rattle.std.specs.List.{list_any}
+use Rattle.std.proofs.lemmas.Slice.Eq.{slice_eq-Decides}
+use Rattle.om_signs.specs.declared.sign.Sign.{Sign}
+use Rattle.om_signs.specs.declared.sign.Sign.TheVariants.{Minus, Zero, Plus}
+use Rattle.om_text.specs.Rows.{same_sign, same_row, distinct}
+use Rattle.om_text.specs.Reading.{with_member}
+
+pub either : (b : Bool) → (b ≡ true) ⊎ (b ≡ false)
+either true = inl refl
+either false = inr refl
+
+pub same_sign-Decides : (s t : Sign) → Decides (same_sign s t) (s ≡ t)
+same_sign-Decides Minus Minus = (λ _. refl, λ _. refl)
+same_sign-Decides Minus Zero = (λ h. cc, λ h. cc)
+same_sign-Decides Minus Plus = (λ h. cc, λ h. cc)
+same_sign-Decides Zero Minus = (λ h. cc, λ h. cc)
+same_sign-Decides Zero Zero = (λ _. refl, λ _. refl)
+same_sign-Decides Zero Plus = (λ h. cc, λ h. cc)
+same_sign-Decides Plus Minus = (λ h. cc, λ h. cc)
+same_sign-Decides Plus Zero = (λ h. cc, λ h. cc)
+same_sign-Decides Plus Plus = (λ _. refl, λ _. refl)
+
+pub same_row-Decides : (x y : List Sign) → Decides (same_row x y) (x ≡ y)
+same_row-Decides x y = slice_eq-Decides same_sign-Decides x y (same_row x y) refl
+
+-- the members other than y
+abbrev others : List Sign → List (List Sign) → List (List Sign)
+others y ms = filter (λ z. not (same_row y z)) ms
+
+any_other : (x y : List Sign) (ms : List (List Sign)) → same_row y x ≡ false → list_any (λ z. same_row z x) (others y ms) ≡ list_any (λ z. same_row z x) ms
+any_other x y [] n = refl
+any_other x y (z ∷ zs) n = elim (either (same_row y z)) [
+  | inl e ↦ let q : y ≡ z = (same_row-Decides y z).0 e in
+      let m : same_row z x ≡ false = rw (← q) n in
+      rw (e, m) (any_other x y zs n)
+  | inr e ↦ rw e (ap (λ b. same_row z x || b) (any_other x y zs n))
+]
+
+others-append : (y x : List Sign) (ms : List (List Sign)) → others y (ms ++ x ∷ []) ≡ others y ms ++ others y (x ∷ [])
+others-append y x [] = refl
+others-append y x (z ∷ zs) = elim (either (same_row y z)) [
+  | inl e ↦ rw e (others-append y x zs)
+  | inr e ↦ rw e (ap (λ r. z ∷ r) (others-append y x zs))
+]
+
+others-with_same : (y x : List Sign) (ms : List (List Sign)) → same_row y x ≡ true → others y (with_member ms x) ≡ others y ms
+others-with_same y x ms e = elim (either (list_any (λ z. same_row z x) ms)) [
+  | inl a ↦ rw a refl
+  | inr a ↦ rw a (others-append y x ms ∙ ap (λ r. others y ms ++ r) gone ∙ append-nil (others y ms))
+]
+  where
+    gone : others y (x ∷ []) ≡ []
+    gone = rw e refl
+
+others-with_other : (y x : List Sign) (ms : List (List Sign)) → same_row y x ≡ false → others y (with_member ms x) ≡ with_member (others y ms) x
+others-with_other y x ms n = elim (either (list_any (λ z. same_row z x) ms)) [
+  | inl a ↦ rw (any_other x y ms n, a) refl
+  | inr a ↦ rw (any_other x y ms n, a) (others-append y x ms ∙ ap (λ r. others y ms ++ r) kept)
+]
+  where
+    kept : others y (x ∷ []) ≡ x ∷ []
+    kept = rw n refl
+
+-- a head in front of either choice
+pull : (y x : List Sign) (b : Bool) (r : List (List Sign)) → ◌≡◌ {A = List (List Sign)} (y ∷ cond b r (r ++ x ∷ [])) (cond b (y ∷ r) (y ∷ (r ++ x ∷ [])))
+pull y x true r = refl
+pull y x false r = refl
+
+pub distinct-append : (xs : List (List Sign)) (x : List Sign) → distinct (xs ++ x ∷ []) ≡ with_member (distinct xs) x
+distinct-append [] x = refl
+distinct-append (y ∷ ys) x = ap (λ r. y ∷ others y r) (distinct-append ys x) ∙ elim (either (same_row y x)) [
+  | inl e ↦ rw e (ap (λ r. y ∷ r) (others-with_same y x (distinct ys) e))
+  | inr n ↦ rw n (ap (λ r. y ∷ r) (others-with_other y x (distinct ys) n) ∙ pull y x (list_any (λ z. same_row z x) (others y (distinct ys))) (others y (distinct ys)))
+]
+
+pub with_member_grows : (ms : List (List Sign)) (x : List Sign) → length ms ≤ length (with_member ms x)
+with_member_grows ms x = elim (either (list_any (λ z. same_row z x) ms)) [
+  | inl a ↦ rw a (omega arith)
+  | inr a ↦ rw a (omega (arith, length-append ms (x ∷ [])))
+]
+
+pub same_from_iff : (r : Bool) (x y : List Sign) → (IsTrue r → x ≡ y) × (x ≡ y → IsTrue r) → r ≡ same_row x y
+same_from_iff true x y h = sym ((same_row-Decides x y).1 (h.0 refl))
+same_from_iff false x y h = elim (either (same_row x y)) [
+  | inl e ↦ let bad = h.1 ((same_row-Decides x y).0 e) in cc
+  | inr n ↦ sym n
+]

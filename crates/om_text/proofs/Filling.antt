@@ -1,0 +1,77 @@
+-- A body and one more line of it, kind by kind.
+--
+-- Main results: filled_added, room_before, room_empty, signs_not_end
+use Rattle.std.proofs.Common.{◌≡◌, ℕ, ◌≤◌, List, [], ◌∷◌, ◌++◌, true, false, inl, inr, refl, sym, ap, ◌∙◌, arith, length-append, append_assoc, append-nil, map}
+use Rattle.std.specs.Prelude.{Decides, nat_le}
+use Rattle.std.specs.List.{concat}
+use Rattle.std.proofs.lemmas.Slice.Eq.{slice_eq-Decides, bytes_eq-Decides}
+use Rattle.std.proofs.lemmas.List.{map-append}
+use Rattle.std.proofs.lemmas.Bool.{leb-true, le-leb}
+use Rattle.std.proofs.lemmas.List.Folds.{concat-append}
+use Rattle.std.proofs.Math.Dec.{leb-zero}
+use Rattle.om_subsets.specs.Subsets.{choose}
+use Rattle.om_signs.specs.declared.sign.Sign.{Sign}
+use Rattle.om_text.specs.declared.document.Document.{Document}
+use Rattle.om_text.specs.declared.body.Body.{Body}
+use Rattle.om_text.specs.declared.body.Body.TheVariants.{Chirotope}
+use Rattle.om_text.specs.Words.{sign_of_byte}
+use Rattle.om_text.specs.Rows.{distinct}
+use Rattle.om_text.specs.Members.{members_of, with_members}
+use Rattle.om_text.specs.Document.{is_line, end_line, are_signs, signs_of_line, all_signs, filled_body, filled, size_of, room_of, has_length_in, has_room}
+use Rattle.om_text.specs.Reading.{added_body}
+use Rattle.om_text.proofs.Distinct.{either, distinct-append, with_member_grows}
+
+pub is_line-Decides : (w v : List (List ℕ)) → Decides (is_line w v) (w ≡ v)
+is_line-Decides w v = slice_eq-Decides bytes_eq-Decides w v (is_line w v) refl
+
+-- a line of signs isn't the end line
+pub signs_not_end : (w : List (List ℕ)) → are_signs w ≡ true → is_line w end_line ≡ false
+signs_not_end w h = elim (either (is_line w end_line)) [
+  | inl e ↦ let q : w ≡ end_line = (is_line-Decides w end_line).0 e in
+      let bad = rw q at h in cc
+  | inr n ↦ n
+]
+
+pub has_length_filled : (b : Body) (ls : List (List (List ℕ))) (n : ℕ) (w : List (List ℕ)) → has_length_in (filled_body b ls) n w ≡ has_length_in b n w
+has_length_filled (Chirotope m) ls n w = refl
+has_length_filled _ ls n w = refl
+
+pub room_filled : (b : Body) (ls : List (List (List ℕ))) → room_of (filled_body b ls) ≡ room_of b
+room_filled (Chirotope m) ls = refl
+room_filled _ ls = refl
+
+all_signs-append : (ls : List (List (List ℕ))) (w : List (List ℕ)) → all_signs (ls ++ w ∷ []) ≡ all_signs ls ++ signs_of_line w
+all_signs-append ls w = rw (map-append concat ls (w ∷ []), concat-append (map concat ls) (concat w ∷ []), append-nil (concat w)) (map-append sign_of_byte (concat (map concat ls)) (concat w))
+
+-- one more line
+pub filled_added : (b : Body) (ls : List (List (List ℕ))) (w : List (List ℕ)) → added_body (filled_body b ls) (signs_of_line w) ≡ filled_body b (ls ++ w ∷ [])
+filled_added (Chirotope m) ls w = ap (λ xs. Chirotope (record { rank = m.rank; elements = m.elements; signs = xs })) (sym (all_signs-append ls w))
+filled_added b ls w = ap (with_members b) (sym (ap distinct (map-append signs_of_line ls (w ∷ [])) ∙ distinct-append (map signs_of_line ls) (signs_of_line w)))
+
+pub size_grows : (b : Body) (xs : List Sign) → size_of b ≤ size_of (added_body b xs)
+size_grows (Chirotope m) xs = omega (arith, length-append m.signs xs)
+size_grows b xs = with_member_grows (members_of b) xs
+
+pub size_prefix : (b : Body) (xs ys : List (List (List ℕ))) → size_of (filled_body b xs) ≤ size_of (filled_body b (xs ++ ys))
+size_prefix b xs [] = rw (append-nil xs) (omega arith)
+size_prefix b xs (y ∷ ys) =
+    let one : size_of (filled_body b xs) ≤ size_of (filled_body b (xs ++ y ∷ [])) = rw (← filled_added b xs y) (size_grows (filled_body b xs) (signs_of_line y)) in
+    let more : size_of (filled_body b (xs ++ y ∷ [])) ≤ size_of (filled_body b ((xs ++ y ∷ []) ++ ys)) = size_prefix b (xs ++ y ∷ []) ys in
+    let e : (xs ++ y ∷ []) ++ ys ≡ xs ++ y ∷ ys = append_assoc xs (y ∷ []) ys in
+    rw (← e) (omega arith)
+
+-- a document with room had it before
+pub room_before : (d : Document) (xs ys : List (List (List ℕ))) → has_room (filled d (xs ++ ys)) ≡ true → has_room (filled d xs) ≡ true
+room_before d xs ys h =
+    let r = room_filled d.body xs in
+    let q = room_filled d.body (xs ++ ys) in
+    let g = size_prefix d.body xs ys in
+    let l : size_of (filled_body d.body (xs ++ ys)) ≤ room_of (filled_body d.body (xs ++ ys)) = leb-true _ _ h in
+    le-leb _ _ (omega arith)
+
+pub room_empty : (d : Document) → has_room (filled d []) ≡ true
+room_empty d = at d.body
+  where
+    at : (b : Body) → nat_le (size_of (filled_body b [])) (room_of (filled_body b [])) ≡ true
+    at (Chirotope m) = leb-zero (choose m.elements m.rank)
+    at _ = refl

@@ -1,0 +1,107 @@
+-- A document's value has the forms of documents, within the limits.
+--
+-- Main results: document_form
+use Rattle.std.proofs.Common.{◌≡◌, ◌≢◌, arith, ℕ, List, [], ◌∷◌, true, false, not, ◌&&◌, inl, inr, length, map, refl, sym, ap, subst, ◌∙◌}
+use Rattle.std.specs.Prelude.{Option, Some, None, cond, All, AllPairs, filter, bytes_eq, nat_eq, nat_le}
+use Rattle.std.specs.List.{list_all, concat}
+use Rattle.std.proofs.lemmas.Bool.{leb-true, eqb-true}
+use Rattle.std.proofs.lemmas.Slice.Eq.{bytes_eq-Decides}
+use Rattle.std.proofs.lemmas.List.{length-map}
+use Rattle.std.proofs.lemmas.List.Elements.{All-nil, All-cons, All-head, All-tail, All-filter}
+use Rattle.std.proofs.lemmas.List.Kept.{AllPairs-cons, AllPairs-filter}
+use Rattle.om_signs.specs.declared.limits.TheConstants.{MAX_ELEMENTS, MAX_MEMBERS}
+use Rattle.om_signs.specs.declared.sign.Sign.{Sign}
+use Rattle.om_text.specs.declared.document.Document.{Document}
+use Rattle.om_text.specs.declared.kind.Kind.{Kind}
+use Rattle.om_text.specs.declared.kind.Kind.TheVariants as kinds
+use Rattle.om_text.specs.Words.{sign_of_byte}
+use Rattle.om_text.specs.Heading.{is_unbuilt, named_kind, kind_of, numbers, opened, headed, heading, empty_body, kind_name, has_elements, has_rank}
+use Rattle.om_text.specs.Rows.{same_row, distinct}
+use Rattle.om_text.specs.Document.{IsSpelled, are_signs, signs_of_line, is_body_line, has_room, is_complete, filled, filled_body}
+use Rattle.om_text.specs.Form.{IsInForm, AreMembersOn, IsBodyOn}
+use Rattle.om_text.proofs.Distinct.{either, same_row-Decides}
+use Rattle.om_text.proofs.Course.{both, built, named}
+use Rattle.om_text.proofs.Small.{mapped}
+
+-- the name of a kind
+abbrev name_of : Kind → List ℕ
+name_of k = kind_name (empty_body k 0 0)
+
+-- a word that names a kind, by its first name or by a later one
+named_by : (w : List ℕ) (first k : Kind) (others : Option Kind) → (others ≡ Some k → w ≡ name_of k) → cond (bytes_eq w (name_of first)) (Some first) others ≡ Some k → w ≡ name_of k
+named_by w first k others f h = elim (either (bytes_eq w (name_of first))) [
+  | inl e ↦ let g : ◌≡◌ {A = Option Kind} (Some first) (Some k) = rw e at h in
+      let q : first ≡ k = cc in
+      (bytes_eq-Decides w (name_of first)).0 e ∙ ap name_of q
+  | inr n ↦ let g : others ≡ Some k = rw n at h in f g
+]
+
+name_is : (w : List ℕ) (k : Kind) → named_kind w ≡ Some k → w ≡ name_of k
+name_is w k h = named_by w kinds.Chirotope k _ (named_by w kinds.Circuits k _ (named_by w kinds.Cocircuits k _ (named_by w kinds.Covectors k None (λ g. cc)))) h
+
+read_name : (w : List ℕ) (k : Kind) → kind_of w ≡ Some k → named_kind w ≡ Some k
+read_name w k h = let n = rw (built w k h) at h in n
+
+name_of_filled : (k : Kind) (r n : ℕ) (ls : List (List (List ℕ))) → kind_name (filled_body (empty_body k r n) ls) ≡ name_of k
+name_of_filled kinds.Chirotope r n ls = refl
+name_of_filled _ r n ls = refl
+
+All-distinct : (P : List Sign → Type 0) (xs : List (List Sign)) → All P xs → All P (distinct xs)
+All-distinct P [] h = h
+All-distinct P (x ∷ xs) h = All-cons P x _ (All-head P x xs h) (All-filter (λ y. not (same_row x y)) P (distinct xs) (All-distinct P xs (All-tail P x xs h)))
+
+others_differ : (x : List Sign) (ys : List (List Sign)) → All (λ y. x ≢ y) (filter (λ y. not (same_row x y)) ys)
+others_differ x [] = All-nil (λ y. x ≢ y)
+others_differ x (y ∷ ys) = elim (either (same_row x y)) [
+  | inl e ↦ rw e (others_differ x ys)
+  | inr n ↦ rw n (All-cons (λ y. x ≢ y) y _ (λ q. let t = (same_row-Decides x y).1 q in cc) (others_differ x ys))
+]
+
+pub distinct_differ : (xs : List (List Sign)) → AllPairs (λ x y. x ≢ y) (distinct xs)
+distinct_differ [] = λ i j d l m. absurd (omega arith)
+distinct_differ (x ∷ xs) = AllPairs-cons (λ x y. x ≢ y) x _ (others_differ x (distinct xs)) (AllPairs-filter (λ x y. x ≢ y) (λ y. not (same_row x y)) (distinct xs) (distinct_differ xs))
+
+rows_long : (n : ℕ) (ls : List (List (List ℕ))) → list_all (λ l. are_signs l && nat_eq (length (concat l)) n) ls ≡ true → All (λ x. length x ≡ n) (map signs_of_line ls)
+rows_long n [] h = All-nil (λ x. length x ≡ n)
+rows_long n (l ∷ ls) h =
+    let a = both (are_signs l && nat_eq (length (concat l)) n) (list_all (λ l. are_signs l && nat_eq (length (concat l)) n) ls) h in
+    let b = both (are_signs l) (nat_eq (length (concat l)) n) a.0 in
+    All-cons (λ x. length x ≡ n) (signs_of_line l) _ (length-map (concat l) sign_of_byte ∙ eqb-true _ _ b.1) (rows_long n ls a.1)
+
+members_form : (n : ℕ) (ls : List (List (List ℕ))) → list_all (λ l. are_signs l && nat_eq (length (concat l)) n) ls ≡ true → nat_le (length (distinct (map signs_of_line ls))) MAX_MEMBERS ≡ true → AreMembersOn n (distinct (map signs_of_line ls))
+members_form n ls h m = record {
+  few = leb-true _ _ m;
+  long = All-distinct (λ x. length x ≡ n) (map signs_of_line ls) (rows_long n ls h);
+  distinct = distinct_differ (map signs_of_line ls);
+}
+
+body_form : (k : Kind) (r n : ℕ) (ls : List (List (List ℕ))) → has_rank (headed k (r, n)) ≡ true → list_all (is_body_line (headed k (r, n))) ls ≡ true → has_room (filled (headed k (r, n)) ls) ≡ true → is_complete (filled (headed k (r, n)) ls) ≡ true → IsBodyOn n (filled_body (empty_body k r n) ls)
+body_form kinds.Chirotope r n ls l a m c = record { elements = refl; rank = leb-true r n l; signs = eqb-true _ _ c }
+body_form _ r n ls l a m c = members_form n ls a m
+
+head_form : (k : Kind) (p : ℕ × ℕ) (ls : List (List (List ℕ))) → is_unbuilt (name_of k) ≡ false → has_elements (headed k p) ≡ true → has_rank (headed k p) ≡ true → list_all (is_body_line (headed k p)) ls ≡ true → has_room (filled (headed k p) ls) ≡ true → is_complete (filled (headed k p) ls) ≡ true → IsInForm (filled (headed k p) ls)
+head_form k p ls u e l a m c =
+    let b = both (nat_le 1 p.1) (nat_le p.1 MAX_ELEMENTS) e in
+    record {
+      low = leb-true 1 p.1 b.0;
+      high = leb-true p.1 MAX_ELEMENTS b.1;
+      built = ap is_unbuilt (name_of_filled k p.0 p.1 ls) ∙ u;
+      body = body_form k p.0 p.1 ls l a m c;
+    }
+
+spelled_form : (w : List ℕ) (ws : List (List ℕ)) (head : Document) (ls : List (List (List ℕ))) → heading (w ∷ ws) ≡ Some head → has_elements head ≡ true → has_rank head ≡ true → list_all (is_body_line head) ls ≡ true → has_room (filled head ls) ≡ true → is_complete (filled head ls) ≡ true → IsInForm (filled head ls)
+spelled_form w ws head ls h e l a m c =
+    let k = named (kind_of w) (λ k. opened k ws) head h in
+    let q : opened k.0 ws ≡ Some head = rw k.1 at h in
+    let p = mapped (numbers k.0 ws) (headed k.0) head q in
+    let u : is_unbuilt (name_of k.0) ≡ false = ap is_unbuilt (sym (name_is w k.0 (read_name w k.0 k.1))) ∙ built w k.0 k.1 in
+    let f = head_form k.0 p.0 ls u in
+    subst (λ h. has_elements h ≡ true → has_rank h ≡ true → list_all (is_body_line h) ls ≡ true → has_room (filled h ls) ≡ true → is_complete (filled h ls) ≡ true → IsInForm (filled h ls)) p.1 f e l a m c
+
+-- what a document's lines give is in form
+pub document_form : (ls : List (List (List ℕ))) (d : Document) → IsSpelled ls d → IsInForm d
+document_form ls d s = at s.kind_line s.heading
+  where
+    at : (w : List (List ℕ)) → heading w ≡ Some s.head → IsInForm d
+    at [] h = cc
+    at (w ∷ ws) h = subst IsInForm (sym s.value) (spelled_form w ws s.head s.body h s.elements s.rank s.each s.room s.complete)

@@ -1,0 +1,20 @@
+pub mod Distinct
+pub mod Filling
+pub mod Course
+pub mod Completion
+pub mod Outcome
+pub mod Scan
+pub mod Digits
+pub mod Numbers
+pub mod Forms
+pub mod Sorting
+pub mod Joined
+pub mod Small
+mod Samples
+mod ListSamples
+pub mod Printing
+pub mod Texts
+pub mod Numerals
+pub mod Reread
+pub mod Feeds
+pub mod Language

@@ -1,0 +1,55 @@
+-- The text of lines, put together piece by piece.
+--
+-- Main results: rows_more, members_more, printed_bytes
+use Rattle.std.proofs.Common.{◌≡◌, ℕ, suc, ◌+◌, ◌-◌, ◌/◌, ◌<◌, min, List, [], ◌∷◌, ◌++◌, length, take, drop, get_or, map, refl, sym, ap, ◌∙◌, arith, append_assoc, length-drop, inl, inr, Bool, false, nat_eq}
+use Rattle.std.proofs.lemmas.List.{take_rest, take_min, take-map, drop-map, take_more, map-append}
+use Rattle.std.proofs.Math.ListN.{drop_of_length-le}
+use Rattle.std.proofs.lemmas.Bool.{cases_lt, eqb-false}
+use Rattle.om_signs.specs.declared.sign.Sign.{Sign}
+use Rattle.std.specs.Prelude.{codes}
+use Rattle.om_text.specs.declared.document.Document.{Document}
+use Rattle.om_text.specs.Words.{byte_of}
+use Rattle.om_text.specs.Print.{text_of, cut, sign_lines, member_lines, kind_text, body_lines, printed}
+
+pub text_of-append : (xs ys : List (List ℕ)) → text_of (xs ++ ys) ≡ text_of xs ++ text_of ys
+text_of-append [] ys = refl
+text_of-append (x ∷ xs) ys = ap (λ r. x ++ 10 ∷ r) (text_of-append xs ys) ∙ sym (append_assoc x (10 ∷ text_of xs) (text_of ys))
+
+take_least : (k : ℕ) (xs : List Sign) → k ≡ min (length xs) 64 → take 64 xs ≡ take k xs
+take_least k xs h = sym (take_min 64 xs) ∙ ap (λ k. take k xs) (let e : min 64 (length xs) ≡ k = omega arith in e)
+
+drop_least : (k : ℕ) (xs : List Sign) → k ≡ min (length xs) 64 → drop 64 xs ≡ drop k xs
+drop_least k xs h = elim (cases_lt 64 (length xs)) [
+  | inl l ↦ let e : 64 ≡ k = omega arith in ap (λ k. drop k xs) e
+  | inr g ↦ drop_of_length-le xs g ∙ sym (drop_of_length-le xs (omega arith))
+]
+
+pub not_empty : (n : ℕ) (b : Bool) → b ≡ nat_eq n 0 → b ≡ false → 0 < n
+not_empty n b e f = let h : n ≡ 0 → ⊥ = eqb-false n 0 (sym e ∙ f) in omega arith
+
+pub sign_lines_step : (xs : List Sign) (k : ℕ) → 0 < length xs → k ≡ min (length xs) 64 → sign_lines xs ≡ map byte_of (take k xs) ∷ sign_lines (drop k xs)
+sign_lines_step xs k h e =
+    let m : (length xs + 63) / 64 ≡ suc ((length xs - k + 63) / 64) = omega arith in
+    rw (m, length-drop k xs) (ap (λ r. r ∷ cut ((length xs - k + 63) / 64) (drop 64 (map byte_of xs))) (take-map byte_of 64 xs ∙ ap (map byte_of) (take_least k xs e)) ∙ ap (λ r. map byte_of (take k xs) ∷ cut ((length xs - k + 63) / 64) r) (drop-map byte_of 64 xs ∙ ap (map byte_of) (drop_least k xs e)))
+
+pub rows_more : (out new t : List ℕ) (rest : List Sign) (k : ℕ) → 0 < length rest → k ≡ min (length rest) 64 → new ≡ (out ++ map byte_of (take k rest)) ++ 10 ∷ [] → out ++ text_of (sign_lines rest) ≡ t → new ++ text_of (sign_lines (take (length rest - k) (drop k rest))) ≡ t
+rows_more out new t rest k h e n i =
+    let s = ap text_of (sign_lines_step rest k h e) in
+    rw (n, take_rest rest k) (append_assoc (out ++ map byte_of (take k rest)) (10 ∷ []) (text_of (sign_lines (drop k rest))) ∙ append_assoc out (map byte_of (take k rest)) (10 ∷ text_of (sign_lines (drop k rest))) ∙ ap (λ r. out ++ r) (sym s) ∙ i)
+
+-- the canonical form, from its heading, its body and its end
+pub printed_bytes : (d : Document) (out head body : List ℕ) → head ≡ text_of (codes "om 1" ∷ kind_text d ∷ []) → body ≡ head ++ text_of (body_lines d.body) → out ≡ body ++ (101 ∷ 110 ∷ 100 ∷ 10 ∷ []) → out ≡ printed d
+printed_bytes d out head body h b o =
+    let top : List (List ℕ) = codes "om 1" ∷ kind_text d ∷ [] in
+    let last : List (List ℕ) = codes "end" ∷ [] in
+    o ∙ ap (λ x. x ++ text_of last) (b ∙ ap (λ x. x ++ text_of (body_lines d.body)) h) ∙ append_assoc (text_of top) (text_of (body_lines d.body)) (text_of last)
+    ∙ ap (λ x. text_of top ++ x) (sym (text_of-append (body_lines d.body) last)) ∙ sym (text_of-append top (body_lines d.body ++ last))
+
+-- one more member
+pub members_more : (base out new : List ℕ) (ms : List (List Sign)) (i : ℕ) (x : List Sign) → i < length ms → x ≡ get_or ms i x → out ≡ base ++ text_of (member_lines (take i ms)) → new ≡ (out ++ map byte_of x) ++ 10 ∷ [] → new ≡ base ++ text_of (member_lines (take (i + 1) ms))
+members_more base out new ms i x l e o n =
+    let t : take (i + 1) ms ≡ take i ms ++ x ∷ [] = take_more ms i x l ∙ ap (λ y. take i ms ++ y ∷ []) (sym e) in
+    let m : member_lines (take (i + 1) ms) ≡ member_lines (take i ms) ++ map byte_of x ∷ [] = ap member_lines t ∙ map-append (map byte_of) (take i ms) (x ∷ []) in
+    let a : text_of (member_lines (take (i + 1) ms)) ≡ text_of (member_lines (take i ms)) ++ (map byte_of x ++ 10 ∷ []) = ap text_of m ∙ text_of-append (member_lines (take i ms)) (map byte_of x ∷ []) in
+    n ∙ append_assoc out (map byte_of x) (10 ∷ []) ∙ ap (λ y. y ++ (map byte_of x ++ 10 ∷ [])) o
+    ∙ append_assoc base (text_of (member_lines (take i ms))) (map byte_of x ++ 10 ∷ []) ∙ ap (λ y. base ++ y) (sym a)

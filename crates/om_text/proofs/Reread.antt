@@ -1,0 +1,241 @@
+-- The canonical form of a document is a document, and reads as this one with its members sorted.
+--
+-- Main definitions: AreRows, AreCut, IsReread
+-- Main results: printed_document
+use Rattle.std.proofs.Common.{◌≡◌, ℕ, zero, suc, ◌+◌, ◌*◌, ◌/◌, ◌<◌, ◌≤◌, ◌^◌, List, [], ◌∷◌, ◌++◌, true, false, ◌&&◌, cond, length, take, drop, map, refl, sym, ap, subst, ◌∙◌, arith, append-nil, nat_eq, nat_le, length-drop, eq-eqb}
+use Rattle.std.specs.Prelude.{codes, decimal, filter, Some, None, All, option_and_then}
+use Rattle.std.specs.List.{list_all, concat}
+use Rattle.std.proofs.lemmas.Bool.{le-leb}
+use Rattle.std.proofs.lemmas.List.{length-map, take-append-drop}
+use Rattle.std.proofs.lemmas.List.Elements.{All-head, All-tail}
+use Rattle.std.proofs.lemmas.List.Folds.{list_all-append}
+use Rattle.om_signs.specs.declared.limits.TheConstants.{MAX_ELEMENTS, MAX_MEMBERS}
+use Rattle.om_signs.specs.declared.sign.Sign.{Sign}
+use Rattle.om_subsets.specs.Subsets.{choose}
+use Rattle.om_text.specs.declared.document.Document.{Document}
+use Rattle.om_text.specs.declared.body.Body.{Body}
+use Rattle.om_text.specs.declared.body.Body.TheVariants.{Chirotope, Circuits, Cocircuits, Covectors}
+use Rattle.om_text.specs.declared.kind.Kind.{Kind}
+use Rattle.om_text.specs.declared.kind.Kind.TheVariants as kinds
+use Rattle.om_text.specs.Lines.{lines, has_any, words, wordful}
+use Rattle.om_text.specs.Words.{is_sign, sign_of_byte, byte_of}
+use Rattle.om_text.specs.Heading.{is_unbuilt, kind_name, named_kind, kind_of, heading, headed, opened, has_elements, has_rank}
+use Rattle.om_text.specs.Rows.{distinct, sorted}
+use Rattle.om_text.specs.Members.{members_of, with_members}
+use Rattle.om_text.specs.Document.{IsDocument, IsSpelled, version_line, end_line, are_signs, signs_of_line, is_body_line, all_signs, filled, has_room, is_complete}
+use Rattle.om_text.specs.Form.{IsInForm, AreMembersOn}
+use Rattle.om_text.specs.Print.{cut, sign_lines, member_lines, kind_text, body_lines, printed_lines, printed, sorted_document}
+use Rattle.om_text.proofs.Course.{both}
+use Rattle.om_text.proofs.Feeds.{is_one_line, lines_text}
+use Rattle.om_text.proofs.Language.{wordful-append}
+use Rattle.om_text.proofs.Numerals.{IsNumber, number_word}
+use Rattle.om_text.proofs.Sorting.{All-sorted, sorted_differ, length-sorted, distinct_itself}
+use Rattle.om_text.proofs.Texts.{word_one_line, words_one, words_two, words_three, two_one_line, three_one_line, signs_are_word, single, signs_of_bytes_of, bytes_are_signs}
+
+-- ---- lines of signs
+
+-- lines that are read as one word each
+record AreRows (ls : List (List ℕ)) : Type 0 where
+  lines_words : wordful ls ≡ single ls
+  one_line : list_all is_one_line ls ≡ true
+  signs : list_all are_signs (single ls) ≡ true
+
+no_rows : AreRows []
+no_rows = record { lines_words = refl; one_line = refl; signs = refl }
+
+one_row : (row : List ℕ) (ls : List (List ℕ)) → list_all is_sign row ≡ true → has_any row ≡ true → AreRows ls → AreRows (row ∷ ls)
+one_row row ls s h i =
+    let w = signs_are_word row s in
+    let e : words row ≡ row ∷ [] = words_one row w h in
+    let z : are_signs (row ∷ []) ≡ true = ap (list_all is_sign) (append-nil row) ∙ s in
+    record {
+      lines_words = ap (λ x. filter has_any (x ∷ map words ls)) e ∙ ap (λ x. (row ∷ []) ∷ x) i.lines_words;
+      one_line = rw (word_one_line row w) i.one_line;
+      signs = rw z i.signs;
+    }
+
+-- ---- the lines of a map
+
+record AreCut (k : ℕ) (bs : List ℕ) : Type 0 where
+  rows : AreRows (cut k bs)
+  joined : concat (map concat (single (cut k bs))) ≡ bs
+
+cut_rows : (k : ℕ) (bs : List ℕ) → length bs ≤ 64 * k → 64 * k < length bs + 64 → list_all is_sign bs ≡ true → AreCut k bs
+cut_rows zero [] h l s = record { rows = no_rows; joined = refl }
+cut_rows zero (b ∷ bs) h l s = absurd (omega arith)
+cut_rows (suc k) [] h l s = absurd (omega arith)
+cut_rows (suc k) (b ∷ bs) h l s =
+    let row = take 64 (b ∷ bs) in
+    let rest = drop 64 (b ∷ bs) in
+    let whole : row ++ rest ≡ b ∷ bs = take-append-drop 64 (b ∷ bs) in
+    let split : (list_all is_sign row && list_all is_sign rest) ≡ true = sym (list_all-append is_sign row rest) ∙ ap (list_all is_sign) whole ∙ s in
+    let c = both (list_all is_sign row) (list_all is_sign rest) split in
+    let n = length-drop 64 (b ∷ bs) in
+    let i : AreCut k rest = cut_rows k rest (omega arith) (omega arith) c.1 in
+    record {
+      rows = one_row row (cut k rest) c.0 refl i.rows;
+      joined = ap (λ x. x ++ concat (map concat (single (cut k rest)))) (append-nil row) ∙ ap (λ x. row ++ x) i.joined ∙ whole;
+    }
+
+map_rows : (xs : List Sign) → AreCut ((length xs + 63) / 64) (map byte_of xs)
+map_rows xs = let n = length-map xs byte_of in cut_rows ((length xs + 63) / 64) (map byte_of xs) (omega arith) (omega arith) (bytes_are_signs xs)
+
+-- ---- the lines of members
+
+any_byte : (n : ℕ) (x : List Sign) → 1 ≤ n → length x ≡ n → has_any (map byte_of x) ≡ true
+any_byte n [] l h = absurd (omega arith)
+any_byte n (s ∷ x) l h = refl
+
+member_rows : (n : ℕ) (ms : List (List Sign)) → 1 ≤ n → All (λ x. length x ≡ n) ms → AreRows (member_lines ms)
+member_rows n [] l a = no_rows
+member_rows n (x ∷ xs) l a = one_row (map byte_of x) (member_lines xs) (bytes_are_signs x) (any_byte n x l (All-head (λ x. length x ≡ n) x xs a)) (member_rows n xs l (All-tail (λ x. length x ≡ n) x xs a))
+
+members_read : (ms : List (List Sign)) → map signs_of_line (single (member_lines ms)) ≡ ms
+members_read [] = refl
+members_read (x ∷ xs) = ap (λ r. map sign_of_byte r ∷ map signs_of_line (single (member_lines xs))) (append-nil (map byte_of x)) ∙ ap (λ r. r ∷ map signs_of_line (single (member_lines xs))) (signs_of_bytes_of x) ∙ ap (λ r. x ∷ r) (members_read xs)
+
+members_long : (n : ℕ) (ms : List (List Sign)) → All (λ x. length x ≡ n) ms → list_all (λ l. are_signs l && nat_eq (length (concat l)) n) (single (member_lines ms)) ≡ true
+members_long n [] a = refl
+members_long n (x ∷ xs) a =
+    let j : map byte_of x ++ [] ≡ map byte_of x = append-nil (map byte_of x) in
+    let s : are_signs (map byte_of x ∷ []) ≡ true = ap (list_all is_sign) j ∙ bytes_are_signs x in
+    let l : nat_eq (length (concat (map byte_of x ∷ []))) n ≡ true = eq-eqb _ n (ap length j ∙ length-map x byte_of ∙ All-head (λ x. length x ≡ n) x xs a) in
+    rw (s, l) (members_long n xs (All-tail (λ x. length x ≡ n) x xs a))
+
+-- ---- any document
+
+-- what is printed of d is read as its kind line and its body
+record IsReread (d : Document) : Type 0 where
+  kind_words : List (List ℕ)
+  head : Document
+  kind : words (kind_text d) ≡ kind_words
+  any : has_any kind_words ≡ true
+  kind_one_line : is_one_line (kind_text d) ≡ true
+  opens : heading kind_words ≡ Some head
+  elements : has_elements head ≡ true
+  rank : has_rank head ≡ true
+  rows : AreRows (body_lines d.body)
+  each : list_all (is_body_line head) (single (body_lines d.body)) ≡ true
+  value : filled head (single (body_lines d.body)) ≡ sorted_document d
+  room : has_room (sorted_document d) ≡ true
+  complete : is_complete (sorted_document d) ≡ true
+
+reread_lines : (d : Document) → IsReread d → lines (printed d) ≡ printed_lines d
+reread_lines d p =
+    let t : list_all is_one_line (body_lines d.body ++ codes "end" ∷ []) ≡ true = list_all-append is_one_line (body_lines d.body) (codes "end" ∷ []) ∙ rw p.rows.one_line refl in
+    lines_text (printed_lines d) (rw p.kind_one_line t)
+
+reread_words : (d : Document) → (p : IsReread d) → wordful (printed_lines d) ≡ version_line ∷ p.kind_words ∷ (single (body_lines d.body) ++ end_line ∷ [])
+reread_words d p =
+    ap (λ x. version_line ∷ filter has_any (x ∷ map words (body_lines d.body ++ codes "end" ∷ []))) p.kind
+    ∙ ap (λ b. version_line ∷ cond b (p.kind_words ∷ wordful (body_lines d.body ++ codes "end" ∷ [])) (wordful (body_lines d.body ++ codes "end" ∷ []))) p.any
+    ∙ ap (λ x. version_line ∷ p.kind_words ∷ x) (wordful-append (body_lines d.body) (codes "end" ∷ []) ∙ ap (λ x. x ++ end_line ∷ []) p.rows.lines_words)
+
+reread : (d : Document) → IsReread d → IsDocument (lines (printed d)) (sorted_document d)
+reread d p =
+    let s : IsSpelled (wordful (printed_lines d)) (sorted_document d) = record {
+      kind_line = p.kind_words;
+      head = p.head;
+      body = single (body_lines d.body);
+      lines = reread_words d p;
+      heading = p.opens;
+      elements = p.elements;
+      rank = p.rank;
+      each = p.each;
+      room = ap has_room p.value ∙ p.room;
+      complete = ap is_complete p.value ∙ p.complete;
+      value = sym p.value;
+    } in
+    subst (λ ls. IsDocument ls (sorted_document d)) (sym (reread_lines d p)) s
+
+-- ---- each kind
+
+read_kind : (w : List ℕ) (k : Kind) → is_unbuilt w ≡ false → named_kind w ≡ Some k → kind_of w ≡ Some k
+read_kind w k u n = ap (λ b. cond b None (named_kind w)) u ∙ n
+
+opens_list : (w : List ℕ) (k : Kind) (n : ℕ) → IsNumber n → is_unbuilt w ≡ false → named_kind w ≡ Some k → opened k (decimal n ∷ []) ≡ Some (headed k (0, n)) → heading (w ∷ decimal n ∷ []) ≡ Some (headed k (0, n))
+opens_list w k n h u m o = ap (option_and_then (λ k. opened k (decimal n ∷ []))) (read_kind w k u m) ∙ o
+
+numbers_small : (n r : ℕ) → n ≤ MAX_ELEMENTS → r ≤ n → r < 10 ^ 6
+numbers_small n r h l = omega arith
+
+body_signs : (r n : ℕ) (ls : List (List (List ℕ))) → list_all are_signs ls ≡ true → list_all (is_body_line (headed kinds.Chirotope (r, n))) ls ≡ true
+body_signs r n [] h = refl
+body_signs r n (l ∷ ls) h = let a = both (are_signs l) (list_all are_signs ls) h in rw (a.0, body_signs r n ls a.1) refl
+
+map_reread : (n r : ℕ) (xs : List Sign) → IsInForm (record { elements = n; body = Chirotope (record { rank = r; elements = n; signs = xs }) }) → IsReread (record { elements = n; body = Chirotope (record { rank = r; elements = n; signs = xs }) })
+map_reread n r xs f =
+    let hr = number_word r (numbers_small n r f.high f.body.rank) in
+    let hn = number_word n (numbers_small n n f.high (omega arith)) in
+    let c = map_rows xs in
+    let values : all_signs (single (sign_lines xs)) ≡ xs = ap (map sign_of_byte) c.joined ∙ signs_of_bytes_of xs in
+    record {
+      kind_words = codes "chirotope" ∷ decimal r ∷ decimal n ∷ [];
+      head = headed kinds.Chirotope (r, n);
+      kind = words_three (codes "chirotope") (decimal r) (decimal n) refl refl hr.bytes hr.any hn.bytes hn.any;
+      any = refl;
+      kind_one_line = three_one_line (codes "chirotope") (decimal r) (decimal n) refl hr.bytes hn.bytes;
+      opens = ap (option_and_then (λ k. opened k (decimal r ∷ decimal n ∷ []))) (read_kind (codes "chirotope") kinds.Chirotope f.built refl) ∙ rw (hr.value, hn.value) refl;
+      elements = rw (le-leb 1 n f.low, le-leb n MAX_ELEMENTS f.high) refl;
+      rank = le-leb r n f.body.rank;
+      rows = c.rows;
+      each = body_signs r n (single (sign_lines xs)) c.rows.signs;
+      value = ap (λ xs. record { elements = n; body = Chirotope (record { rank = r; elements = n; signs = xs }) }) values;
+      room = le-leb (length xs) (choose n r) (let a = f.body.signs in omega arith);
+      complete = eq-eqb (length xs) (choose n r) f.body.signs;
+    }
+
+-- what lists have in common
+record AreReread (n : ℕ) (ms : List (List Sign)) : Type 0 where
+  number : IsNumber n
+  elements : (nat_le 1 n && nat_le n MAX_ELEMENTS) ≡ true
+  rank : nat_le 0 n ≡ true
+  rows : AreRows (member_lines (sorted ms))
+  each : list_all (λ l. are_signs l && nat_eq (length (concat l)) n) (single (member_lines (sorted ms))) ≡ true
+  value : distinct (map signs_of_line (single (member_lines (sorted ms)))) ≡ sorted ms
+  room : nat_le (length (sorted ms)) MAX_MEMBERS ≡ true
+
+members_reread : (n : ℕ) (ms : List (List Sign)) → 1 ≤ n → n ≤ MAX_ELEMENTS → AreMembersOn n ms → AreReread n ms
+members_reread n ms l h f =
+    let long = All-sorted (λ x. length x ≡ n) ms f.long in
+    record {
+      number = number_word n (numbers_small n n h (omega arith));
+      elements = rw (le-leb 1 n l, le-leb n MAX_ELEMENTS h) refl;
+      rank = le-leb 0 n (omega arith);
+      rows = member_rows n (sorted ms) l long;
+      each = members_long n (sorted ms) long;
+      value = ap distinct (members_read (sorted ms)) ∙ distinct_itself (sorted ms) (sorted_differ ms f.distinct);
+      room = le-leb (length (sorted ms)) MAX_MEMBERS (let e = length-sorted ms in let a = f.few in omega arith);
+    }
+
+-- the kind of a list
+kind_of_list : Body → Kind
+kind_of_list (Circuits ms) = kinds.Circuits
+kind_of_list (Cocircuits ms) = kinds.Cocircuits
+kind_of_list (Covectors ms) = kinds.Covectors
+kind_of_list (Chirotope m) = kinds.Chirotope
+
+body_reread : (n : ℕ) (b : Body) → IsInForm (record { elements = n; body = b }) → IsReread (record { elements = n; body = b })
+unfolding kind_of_list
+body_reread n (Chirotope m) f = subst (λ e. IsReread (record { elements = e; body = Chirotope m })) f.body.elements (map_reread m.elements m.rank m.signs (subst (λ e. IsInForm (record { elements = e; body = Chirotope m })) (sym f.body.elements) f))
+body_reread n b f =
+    let p = members_reread n (members_of b) f.low f.high f.body in
+    record {
+      kind_words = kind_name b ∷ decimal n ∷ [];
+      head = headed (kind_of_list b) (0, n);
+      kind = words_two (kind_name b) (decimal n) refl refl p.number.bytes p.number.any;
+      any = refl;
+      kind_one_line = two_one_line (kind_name b) (decimal n) refl p.number.bytes;
+      opens = opens_list (kind_name b) (kind_of_list b) n p.number f.built refl (rw p.number.value refl);
+      elements = p.elements;
+      rank = p.rank;
+      rows = p.rows;
+      each = p.each;
+      value = ap (λ ms. record { elements = n; body = with_members b ms }) p.value;
+      room = p.room;
+      complete = refl;
+    }
+
+-- the canonical form of a document is a document, and its value is this one with its members sorted
+pub printed_document : (d : Document) → IsInForm d → IsDocument (lines (printed d)) (sorted_document d)
+printed_document d f = reread d (body_reread d.elements d.body f)

@@ -1,0 +1,112 @@
+-- Words with blanks between them, as text, and their lines.
+--
+-- Main definitions: is_word_byte, single
+-- Main results: words_one, words_two, words_three, signs_are_word
+use Rattle.std.proofs.Common.{◌≡◌, ℕ, List, [], ◌∷◌, ◌++◌, Bool, true, false, not, ◌&&◌, map, refl, sym, ap, ◌∙◌, append-nil, inl, inr, nat_eq}
+use Rattle.std.specs.Prelude.{filter}
+use Rattle.std.specs.List.{list_all}
+use Rattle.std.proofs.lemmas.Bool.{eqb-true}
+use Rattle.std.proofs.lemmas.List.Folds.{list_all-append}
+use Rattle.om_signs.specs.declared.sign.Sign.{Sign}
+use Rattle.om_signs.specs.declared.sign.Sign.TheVariants.{Minus, Zero, Plus}
+use Rattle.om_text.specs.Lines.{with_first, uncommented, is_blank, pieces, has_any, runs, words}
+use Rattle.om_text.specs.Words.{is_sign, sign_of_byte, byte_of}
+use Rattle.om_text.proofs.Distinct.{either}
+use Rattle.om_text.proofs.Course.{both}
+use Rattle.om_text.proofs.Feeds.{is_one_line, not_true}
+
+-- a byte of a word, as printed
+abbrev pub is_word_byte : ℕ → Bool
+is_word_byte b = not (is_blank b) && not (nat_eq b 35) && not (nat_eq b 10)
+
+word_byte : (b : ℕ) → is_word_byte b ≡ true → (is_blank b ≡ false) × (nat_eq b 35 ≡ false) × (nat_eq b 10 ≡ false)
+word_byte b h =
+    let a = both (not (is_blank b) && not (nat_eq b 35)) (not (nat_eq b 10)) h in
+    let c = both (not (is_blank b)) (not (nat_eq b 35)) a.0 in
+    (not_true (is_blank b) c.0, not_true (nat_eq b 35) c.1, not_true (nat_eq b 10) a.1)
+
+pub word_one_line : (w : List ℕ) → list_all is_word_byte w ≡ true → is_one_line w ≡ true
+word_one_line [] h = refl
+word_one_line (b ∷ w) h =
+    let a = both (is_word_byte b) (list_all is_word_byte w) h in
+    let c = word_byte b a.0 in
+    rw c.2 (word_one_line w a.1)
+
+uncommented_word : (w r : List ℕ) → list_all is_word_byte w ≡ true → uncommented (w ++ r) ≡ w ++ uncommented r
+uncommented_word [] r h = refl
+uncommented_word (b ∷ w) r h =
+    let a = both (is_word_byte b) (list_all is_word_byte w) h in
+    let c = word_byte b a.0 in
+    rw c.1 (ap (λ x. b ∷ x) (uncommented_word w r a.1))
+
+uncommented_one : (w : List ℕ) → list_all is_word_byte w ≡ true → uncommented w ≡ w
+uncommented_one w h = ap uncommented (sym (append-nil w)) ∙ uncommented_word w [] h ∙ append-nil w
+
+uncommented_two : (w v : List ℕ) → list_all is_word_byte w ≡ true → list_all is_word_byte v ≡ true → uncommented (w ++ 32 ∷ v) ≡ w ++ 32 ∷ v
+uncommented_two w v h g = uncommented_word w (32 ∷ v) h ∙ ap (λ x. w ++ 32 ∷ x) (uncommented_one v g)
+
+pieces_word : (w r : List ℕ) → list_all is_word_byte w ≡ true → pieces (w ++ 32 ∷ r) ≡ w ∷ pieces r
+pieces_word [] r h = refl
+pieces_word (b ∷ w) r h =
+    let a = both (is_word_byte b) (list_all is_word_byte w) h in
+    let c = word_byte b a.0 in
+    rw c.0 (ap (with_first b) (pieces_word w r a.1))
+
+pieces_one : (w : List ℕ) → list_all is_word_byte w ≡ true → pieces w ≡ w ∷ []
+pieces_one [] h = refl
+pieces_one (b ∷ w) h =
+    let a = both (is_word_byte b) (list_all is_word_byte w) h in
+    let c = word_byte b a.0 in
+    rw c.0 (ap (with_first b) (pieces_one w a.1))
+
+pub words_one : (w : List ℕ) → list_all is_word_byte w ≡ true → has_any w ≡ true → words w ≡ w ∷ []
+words_one w h e = ap runs (uncommented_one w h) ∙ ap (filter has_any) (pieces_one w h) ∙ rw e refl
+
+pub words_two : (w v : List ℕ) → list_all is_word_byte w ≡ true → has_any w ≡ true → list_all is_word_byte v ≡ true → has_any v ≡ true → words (w ++ 32 ∷ v) ≡ w ∷ v ∷ []
+words_two w v h e g f = ap runs (uncommented_two w v h g) ∙ ap (filter has_any) (pieces_word w v h ∙ ap (λ x. w ∷ x) (pieces_one v g)) ∙ rw (e, f) refl
+
+pub words_three : (w v u : List ℕ) → list_all is_word_byte w ≡ true → has_any w ≡ true → list_all is_word_byte v ≡ true → has_any v ≡ true → list_all is_word_byte u ≡ true → has_any u ≡ true → words (w ++ 32 ∷ (v ++ 32 ∷ u)) ≡ w ∷ v ∷ u ∷ []
+words_three w v u h e g f k l =
+    ap runs (uncommented_word w (32 ∷ (v ++ 32 ∷ u)) h ∙ ap (λ x. w ++ 32 ∷ x) (uncommented_two v u g k))
+    ∙ ap (filter has_any) (pieces_word w (v ++ 32 ∷ u) h ∙ ap (λ x. w ∷ x) (pieces_word v u g ∙ ap (λ x. v ∷ x) (pieces_one u k)))
+    ∙ rw (e, f, l) refl
+
+pub two_one_line : (w v : List ℕ) → list_all is_word_byte w ≡ true → list_all is_word_byte v ≡ true → is_one_line (w ++ 32 ∷ v) ≡ true
+two_one_line w v h g = list_all-append (λ b. not (nat_eq b 10)) w (32 ∷ v) ∙ rw (word_one_line w h, word_one_line v g) refl
+
+pub three_one_line : (w v u : List ℕ) → list_all is_word_byte w ≡ true → list_all is_word_byte v ≡ true → list_all is_word_byte u ≡ true → is_one_line (w ++ 32 ∷ (v ++ 32 ∷ u)) ≡ true
+three_one_line w v u h g k = list_all-append (λ b. not (nat_eq b 10)) w (32 ∷ (v ++ 32 ∷ u)) ∙ rw (word_one_line w h, two_one_line v u g k) refl
+
+sign_is_word : (b : ℕ) → is_sign b ≡ true → is_word_byte b ≡ true
+sign_is_word b h = elim (either (nat_eq b 43)) [
+  | inl e ↦ let q : b ≡ 43 = eqb-true b 43 e in rw q refl
+  | inr m ↦ elim (either (nat_eq b 45)) [
+    | inl e ↦ let q : b ≡ 45 = eqb-true b 45 e in rw q refl
+    | inr n ↦ elim (either (nat_eq b 48)) [
+      | inl e ↦ let q : b ≡ 48 = eqb-true b 48 e in rw q refl
+      | inr o ↦ let bad = rw (m, n, o) at h in cc
+    ]
+  ]
+]
+
+pub signs_are_word : (w : List ℕ) → list_all is_sign w ≡ true → list_all is_word_byte w ≡ true
+signs_are_word [] h = refl
+signs_are_word (b ∷ w) h =
+    let a = both (is_sign b) (list_all is_sign w) h in
+    rw (sign_is_word b a.0) (signs_are_word w a.1)
+
+-- each line as its one word
+abbrev pub single : List (List ℕ) → List (List (List ℕ))
+single ls = map (λ l. l ∷ []) ls
+
+pub signs_of_bytes_of : (xs : List Sign) → map sign_of_byte (map byte_of xs) ≡ xs
+signs_of_bytes_of [] = refl
+signs_of_bytes_of (Minus ∷ xs) = ap (λ r. Minus ∷ r) (signs_of_bytes_of xs)
+signs_of_bytes_of (Zero ∷ xs) = ap (λ r. Zero ∷ r) (signs_of_bytes_of xs)
+signs_of_bytes_of (Plus ∷ xs) = ap (λ r. Plus ∷ r) (signs_of_bytes_of xs)
+
+pub bytes_are_signs : (xs : List Sign) → list_all is_sign (map byte_of xs) ≡ true
+bytes_are_signs [] = refl
+bytes_are_signs (Minus ∷ xs) = bytes_are_signs xs
+bytes_are_signs (Zero ∷ xs) = bytes_are_signs xs
+bytes_are_signs (Plus ∷ xs) = bytes_are_signs xs

@@ -1,0 +1,8 @@
+use Rattle.om_text.proofs.Scan.{line_split, line_whole}
+use Rattle.om_text.proofs.lines.first_line.Goals as goal
+
+pub returns-then-end-bytes-clause-lines : goal.returns-then-end-bytes-clause-lines
+returns-then-end-bytes-clause-lines c = line_split c.args.bytes.now c.len_before-end.result c.requires c.len_before-end.ensures.value
+
+pub returns-else-end-bytes-clause-lines : goal.returns-else-end-bytes-clause-lines
+returns-else-end-bytes-clause-lines c = line_whole c.args.bytes.now c.len_before-end.result c.requires c.len_before-end.ensures.value c.if-end-bytes.false

@@ -1,0 +1,52 @@
+-- What the parts of the reader's code say of one more line. Not part of the definition of documents.
+use Rattle.std.specs.Prelude.{ℕ, ◌≡◌, ◌≤◌, List, not, filter, map, cond, nat_le, Result, Ok, Err, length}
+use Rattle.om_signs.specs.declared.limits.TheConstants.{MAX_ELEMENTS, MAX_MEMBERS}
+use Rattle.om_signs.specs.declared.sign.Sign.{Sign}
+use Rattle.om_text.specs.declared.document.Document.{Document}
+use Rattle.om_text.specs.declared.body.Body.{Body}
+use Rattle.om_text.specs.declared.body.Body.TheVariants.{Chirotope}
+use Rattle.om_text.specs.declared.code.Code.{Code}
+use Rattle.om_text.specs.declared.code.Code.TheVariants as code
+use Rattle.om_text.specs.declared.refusal.Refusal.{Refusal}
+use Rattle.om_text.specs.declared.refusal.Refusal.TheVariants as refusal
+use Rattle.om_text.specs.declared.state.State.{State}
+use Rattle.om_text.specs.declared.state.State.TheVariants.{Open}
+use Rattle.om_text.specs.Lines.{is_blank}
+use Rattle.om_text.specs.Words.{sign_of_byte}
+use Rattle.om_text.specs.Document.{size_of, room_of}
+
+-- a part of the reader answers what reading gives, unless memory ran out
+abbrev pub Gives : {A : Type 0} → Result A Refusal → Result A Code → Type 0
+Gives (Ok x) read = read ≡ Ok x
+Gives (Err refusal.Memory) read = Unit {0}
+Gives (Err (refusal.Line c)) read = read ≡ Err c
+
+-- the bytes of a line other than blanks
+abbrev pub full_bytes : List ℕ → List ℕ
+full_bytes line = filter (λ b. not (is_blank b)) line
+
+-- the signs that these are
+abbrev pub signs_of_bytes : List ℕ → List Sign
+signs_of_bytes line = map sign_of_byte (full_bytes line)
+
+-- a body that isn't larger than it may be
+abbrev pub roomy : Body → Result Body Code
+roomy b = cond (nat_le (size_of b) (room_of b)) (Ok b) (Err code.Many)
+
+-- the same of the members of a list
+abbrev pub few_members : List (List Sign) → Result (List (List Sign)) Code
+few_members ms = cond (nat_le (length ms) MAX_MEMBERS) (Ok ms) (Err code.Many)
+
+abbrev pub IsSmallBody : Body → Type 0
+IsSmallBody (Chirotope m) = m.elements ≤ MAX_ELEMENTS
+IsSmallBody _ = Unit {0}
+
+-- the numbers of the heading are in range
+pub record IsSmall (d : Document) : Type 0 where
+  pub low : 1 ≤ d.elements
+  pub high : d.elements ≤ MAX_ELEMENTS
+  pub body : IsSmallBody d.body
+
+abbrev pub IsSmallState : State → Type 0
+IsSmallState (Open d) = IsSmall d
+IsSmallState _ = Unit {0}

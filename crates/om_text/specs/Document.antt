@@ -1,0 +1,105 @@
+-- Documents, over whole lists of lines.
+--
+-- Trusted: this is what a document is, with its value. Nothing here says how one is read.
+use Rattle.std.specs.Prelude.{ℕ, ◌≡◌, List, [], ◌∷◌, ◌++◌, Bool, true, nat_eq, nat_le, ◌&&◌, length, map, codes, Some, bytes_eq}
+use Rattle.std.specs.List.{list_all, concat}
+use Rattle.std.specs.Cmp.Lexicographic.{pointwise}
+use Rattle.om_signs.specs.declared.limits.TheConstants.{MAX_MEMBERS}
+use Rattle.om_signs.specs.declared.sign.Sign.{Sign}
+use Rattle.om_subsets.specs.Subsets.{choose}
+use Rattle.om_text.specs.declared.document.Document.{Document}
+use Rattle.om_text.specs.declared.body.Body.{Body}
+use Rattle.om_text.specs.declared.body.Body.TheVariants.{Chirotope}
+use Rattle.om_text.specs.Lines.{wordful}
+use Rattle.om_text.specs.Words.{is_sign, sign_of_byte}
+use Rattle.om_text.specs.Heading.{heading, has_elements, has_rank}
+use Rattle.om_text.specs.Rows.{distinct}
+use Rattle.om_text.specs.Members.{members_of, with_members}
+
+-- whether two lines have the same words
+abbrev pub is_line : List (List ℕ) → List (List ℕ) → Bool
+is_line = pointwise bytes_eq
+
+-- the words of the first line
+abbrev pub version_line : List (List ℕ)
+version_line = codes "om" ∷ codes "1" ∷ []
+
+-- the words of the last line
+abbrev pub end_line : List (List ℕ)
+end_line = codes "end" ∷ []
+
+-- whether the words of a line, joined, are bytes of signs
+abbrev pub are_signs : List (List ℕ) → Bool
+are_signs w = list_all is_sign (concat w)
+
+-- the signs of a line's words, joined
+abbrev pub signs_of_line : List (List ℕ) → List Sign
+signs_of_line w = map sign_of_byte (concat w)
+
+-- whether a line has the length that this kind of body asks for
+abbrev pub has_length_in : Body → ℕ → List (List ℕ) → Bool
+has_length_in (Chirotope m) n w = true
+has_length_in _ n w = nat_eq (length (concat w)) n
+
+-- a line of a list has as many signs as there are elements
+abbrev pub has_length : Document → List (List ℕ) → Bool
+has_length d w = has_length_in d.body d.elements w
+
+-- a line that may stand in the body
+abbrev pub is_body_line : Document → List (List ℕ) → Bool
+is_body_line d w = are_signs w && has_length d w
+
+-- the signs of all lines together
+abbrev pub all_signs : List (List (List ℕ)) → List Sign
+all_signs body = map sign_of_byte (concat (map concat body))
+
+-- the body that lines give: the values of a map, or the distinct members in the order of their first lines
+abbrev pub filled_body : Body → List (List (List ℕ)) → Body
+filled_body (Chirotope m) body = Chirotope (record { rank = m.rank; elements = m.elements; signs = all_signs body })
+filled_body b body = with_members b (distinct (map signs_of_line body))
+
+-- the document that a heading and the lines after it give
+abbrev pub filled : Document → List (List (List ℕ)) → Document
+filled d body = record { elements = d.elements; body = filled_body d.body body }
+
+-- how many values or members a body has
+abbrev pub size_of : Body → ℕ
+size_of (Chirotope m) = length m.signs
+size_of b = length (members_of b)
+
+-- how many it may have
+abbrev pub room_of : Body → ℕ
+room_of (Chirotope m) = choose m.elements m.rank
+room_of _ = MAX_MEMBERS
+
+-- whether it has no more
+abbrev pub has_room : Document → Bool
+has_room d = nat_le (size_of d.body) (room_of d.body)
+
+-- whether a body may end: a map has all its values, and a list may always end
+abbrev pub is_complete_body : Body → Bool
+is_complete_body (Chirotope m) = nat_eq (length m.signs) (choose m.elements m.rank)
+is_complete_body _ = true
+
+-- the same of a document
+abbrev pub is_complete : Document → Bool
+is_complete d = is_complete_body d.body
+
+-- the words of lines are the version line, a kind line with its numbers in range, lines of a body within the limits, and
+-- the end line; d is the document that they give
+pub record IsSpelled (ls : List (List (List ℕ))) (d : Document) : Type 0 where
+  pub kind_line : List (List ℕ)
+  pub head : Document
+  pub body : List (List (List ℕ))
+  pub lines : ls ≡ version_line ∷ kind_line ∷ body ++ end_line ∷ []
+  pub heading : heading kind_line ≡ Some head
+  pub elements : has_elements head ≡ true
+  pub rank : has_rank head ≡ true
+  pub each : list_all (is_body_line head) body ≡ true
+  pub room : has_room (filled head body) ≡ true
+  pub complete : is_complete (filled head body) ≡ true
+  pub value : d ≡ filled head body
+
+-- the lines are a document, and d is its value
+abbrev pub IsDocument : List (List ℕ) → Document → Type 0
+IsDocument ls d = IsSpelled (wordful ls) d

@@ -1,0 +1,135 @@
+-- The first line at fault, and its code.
+--
+-- Trusted: which line is named for an input that is no document, and with which code.
+use Rattle.std.specs.Prelude.{ℕ, ◌≡◌, ◌+◌, List, [], ◌∷◌, ◌++◌, Bool, true, false, cond, not, length, Option, Some, None, is_none, option_and_then}
+use Rattle.std.specs.List.{list_any}
+use Rattle.om_text.specs.declared.document.Document.{Document}
+use Rattle.om_text.specs.declared.code.Code.{Code}
+use Rattle.om_text.specs.declared.code.Code.TheVariants as code
+use Rattle.om_text.specs.Lines.{words, wordful}
+use Rattle.om_text.specs.Document.{IsDocument, is_line, version_line, end_line, are_signs, has_length, filled, has_room, is_complete}
+use Rattle.om_text.specs.Heading.{is_unbuilt, first_word, kind_of, heading, has_elements, has_rank, rank_of_body}
+
+-- What a line with words is, by the lines with words before it: the first line, the kind line, a line in the body of a
+-- document after its earlier body lines, its end line, or a line after that.
+pub data Place : Type 0 where
+  first : Place
+  kind : Place
+  body : Document → List (List (List ℕ)) → Place
+  «end» : Document → List (List (List ℕ)) → Place
+  after : Place
+
+-- a place after a kind line that opens d, by the lines ls after it
+abbrev pub place_in_body : Option Document → List (List (List ℕ)) → List (List ℕ) → Place
+place_in_body None ls w = after
+place_in_body (Some d) ls w = cond (list_any (λ l. is_line l end_line) ls) after (cond (is_line w end_line) («end» d ls) (body d ls))
+
+-- the place of the line w after the lines with words ls
+abbrev pub place : List (List (List ℕ)) → List (List ℕ) → Place
+place [] w = first
+place (v ∷ []) w = kind
+place (v ∷ k ∷ ls) w = place_in_body (heading k) ls w
+
+-- The rows of the table of codes. Each gives its code where it holds.
+abbrev pub when : Bool → Code → Option Code
+when true c = Some c
+when false c = None
+
+-- the kind line names a kind that is not read yet
+abbrev pub unbuilt : Place → List (List ℕ) → Option Code
+unbuilt kind w = when (is_unbuilt (first_word w)) code.Unbuilt
+unbuilt _ w = None
+
+-- the first line isn't the version line
+abbrev pub version : Place → List (List ℕ) → Option Code
+version first w = when (not (is_line w version_line)) code.Version
+version _ w = None
+
+-- the kind line names no kind
+abbrev pub kind_row : Place → List (List ℕ) → Option Code
+kind_row kind w = when (is_none (kind_of (first_word w))) code.Kind
+kind_row _ w = None
+
+-- the kind line has another number of words than its kind asks for, or a word that is no plain number
+abbrev pub header : Place → List (List ℕ) → Option Code
+header kind w = when (is_none (heading w)) code.Header
+header _ w = None
+
+-- the number of elements is out of range
+abbrev pub elements : Place → List (List ℕ) → Option Code
+elements kind w = option_and_then (λ d. when (not (has_elements d)) (code.Elements d.elements)) (heading w)
+elements _ w = None
+
+-- the rank is above the number of elements
+abbrev pub rank : Place → List (List ℕ) → Option Code
+rank kind w = option_and_then (λ d. when (not (has_rank d)) (code.Rank (rank_of_body d.body))) (heading w)
+rank _ w = None
+
+-- a body line has a byte that is no sign
+abbrev pub sign : Place → List (List ℕ) → Option Code
+sign (body d ls) w = when (not (are_signs w)) code.Sign
+sign _ w = None
+
+-- a member has another number of signs than there are elements
+abbrev pub length_row : Place → List (List ℕ) → Option Code
+length_row (body d ls) w = when (not (has_length d w)) code.Length
+length_row _ w = None
+
+-- the line goes past the greatest size of the body
+abbrev pub many : Place → List (List ℕ) → Option Code
+many (body d ls) w = when (not (has_room (filled d (ls ++ w ∷ [])))) code.Many
+many _ w = None
+
+-- the body is not complete at the end line
+abbrev pub few : Place → List (List ℕ) → Option Code
+few («end» d ls) w = when (not (is_complete (filled d ls))) code.Few
+few _ w = None
+
+-- a line follows the end line
+abbrev pub after_row : Place → List (List ℕ) → Option Code
+after_row after w = Some code.After
+after_row _ w = None
+
+-- the rows in the order of the table
+abbrev pub table : Place → List (List ℕ) → List (Option Code)
+table p w =
+    unbuilt p w
+    ∷ version p w
+    ∷ kind_row p w
+    ∷ header p w
+    ∷ elements p w
+    ∷ rank p w
+    ∷ sign p w
+    ∷ length_row p w
+    ∷ many p w
+    ∷ few p w
+    ∷ after_row p w
+    ∷ []
+
+-- the first row that holds
+abbrev pub first_of : List (Option Code) → Option Code
+first_of [] = None
+first_of (None ∷ rows) = first_of rows
+first_of (Some c ∷ rows) = Some c
+
+-- some list of lines in the language, however long, begins with these lines
+abbrev pub Begins : (List (List ℕ) → Type 0) → List (List ℕ) → Type 0
+Begins Language ls = (more : List (List ℕ)) × Language (ls ++ more)
+
+-- Line number L of the lines is the first at fault in a language, and c is its code: no list of the language begins with
+-- the lines 1 to L, and some one begins with the lines before it. The end of the lines is the line after the last.
+pub data IsFaultIn (Language : List (List ℕ) → Type 0) (code_after : List (List ℕ) → List ℕ → Option Code) : List (List ℕ) → ℕ → Code → Type 0 where
+  at_line : (before : List (List ℕ)) (line : List ℕ) (after : List (List ℕ)) (c : Code) → Begins Language before → (Begins Language (before ++ line ∷ []) → ⊥) → code_after before line ≡ Some c → IsFaultIn Language code_after (before ++ line ∷ after) (length before + 1) c
+  at_end : (ls : List (List ℕ)) → Begins Language ls → (Language ls → ⊥) → IsFaultIn Language code_after ls (length ls + 1) code.Missing
+
+-- lines that are a document
+abbrev pub AreDocument : List (List ℕ) → Type 0
+AreDocument ls = (d : Document) × IsDocument ls d
+
+-- the code of a line at fault after the lines ls
+abbrev pub code_after : List (List ℕ) → List ℕ → Option Code
+code_after ls line = first_of (table (place (wordful ls) (words line)) (words line))
+
+-- line L is the first at fault in a document, with the code c
+abbrev pub IsFault : List (List ℕ) → ℕ → Code → Type 0
+IsFault = IsFaultIn AreDocument code_after

@@ -1,0 +1,37 @@
+-- The forms and the limits of a document's value.
+--
+-- Trusted: `parse` promises them, and `print` asks for them.
+use Rattle.std.specs.Prelude.{ℕ, ◌≡◌, ◌≢◌, ◌≤◌, List, length, false, All, AllPairs}
+use Rattle.om_signs.specs.declared.limits.TheConstants.{MAX_ELEMENTS, MAX_MEMBERS}
+use Rattle.om_signs.specs.declared.sign.Sign.{Sign}
+use Rattle.om_signs.specs.declared.raw_map.RawMap.{RawMap}
+use Rattle.om_subsets.specs.Subsets.{choose}
+use Rattle.om_text.specs.declared.document.Document.{Document}
+use Rattle.om_text.specs.declared.body.Body.{Body}
+use Rattle.om_text.specs.declared.body.Body.TheVariants.{Chirotope}
+use Rattle.om_text.specs.Heading.{is_unbuilt, kind_name}
+use Rattle.om_text.specs.Members.{members_of}
+
+-- a map on n elements, with a value for each set of its rank
+pub record IsMapOn (n : ℕ) (m : RawMap) : Type 0 where
+  pub elements : m.elements ≡ n
+  pub rank : m.rank ≤ n
+  pub signs : length m.signs ≡ choose n m.rank
+
+-- different sign vectors on n elements, no more than a list may have
+pub record AreMembersOn (n : ℕ) (ms : List (List Sign)) : Type 0 where
+  pub few : length ms ≤ MAX_MEMBERS
+  pub long : All (λ x. length x ≡ n) ms
+  pub distinct : AllPairs (λ x y. x ≢ y) ms
+
+-- a body on n elements
+abbrev pub IsBodyOn : ℕ → Body → Type 0
+IsBodyOn n (Chirotope m) = IsMapOn n m
+IsBodyOn n b = AreMembersOn n (members_of b)
+
+-- a document of a kind that is read, within the limits
+pub record IsInForm (d : Document) : Type 0 where
+  pub low : 1 ≤ d.elements
+  pub high : d.elements ≤ MAX_ELEMENTS
+  pub built : is_unbuilt (kind_name d.body) ≡ false
+  pub body : IsBodyOn d.elements d.body

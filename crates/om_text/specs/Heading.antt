@@ -1,0 +1,93 @@
+-- The kind line of a document, and the limits of its numbers.
+--
+-- Trusted: what a document is rests on these definitions.
+use Rattle.std.specs.Prelude.{ℕ, List, [], ◌∷◌, Bool, cond, nat_le, ◌&&◌, ◌||◌, codes, Option, Some, None, bytes_eq, option_and_then, option_map}
+use Rattle.om_signs.specs.declared.limits.TheConstants.{MAX_ELEMENTS}
+use Rattle.om_text.specs.declared.document.Document.{Document}
+use Rattle.om_text.specs.declared.body.Body.{Body}
+use Rattle.om_text.specs.declared.body.Body.TheVariants.{Chirotope, Circuits, Cocircuits, Covectors}
+use Rattle.om_text.specs.declared.kind.Kind.{Kind}
+use Rattle.om_text.specs.declared.kind.Kind.TheVariants as kinds
+use Rattle.om_text.specs.Words.{plain}
+
+-- the names of the kinds of documents that are not read yet
+abbrev pub is_unbuilt : List ℕ → Bool
+is_unbuilt w = bytes_eq w (codes "wiring") || bytes_eq w (codes "points")
+
+-- the kind that a name stands for
+abbrev pub named_kind : List ℕ → Option Kind
+named_kind w =
+    cond (bytes_eq w (codes "chirotope")) (Some kinds.Chirotope)
+    (cond (bytes_eq w (codes "circuits")) (Some kinds.Circuits)
+    (cond (bytes_eq w (codes "cocircuits")) (Some kinds.Cocircuits)
+    (cond (bytes_eq w (codes "covectors")) (Some kinds.Covectors) None)))
+
+-- the same among the kinds that are read
+abbrev pub kind_of : List ℕ → Option Kind
+kind_of w = cond (is_unbuilt w) None (named_kind w)
+
+-- a number in front of others, where both are there
+abbrev pub with_number : Option ℕ → Option (List ℕ) → Option (List ℕ)
+with_number (Some k) (Some ks) = Some (k ∷ ks)
+with_number _ _ = None
+
+-- the plain numbers that words are, where each word is one
+abbrev pub plain_numbers : List (List ℕ) → Option (List ℕ)
+plain_numbers [] = Some []
+plain_numbers (w ∷ ws) = with_number (plain w) (plain_numbers ws)
+
+-- the rank and the number of elements, where a kind line of this kind has these numbers; a list has no rank, and 0 stands for it
+abbrev pub sizes : Kind → List ℕ → Option (ℕ × ℕ)
+sizes kinds.Chirotope (r ∷ n ∷ []) = Some (r, n)
+sizes kinds.Chirotope _ = None
+sizes _ (n ∷ []) = Some (0, n)
+sizes _ _ = None
+
+-- the same of the words after the kind's name
+abbrev pub numbers : Kind → List (List ℕ) → Option (ℕ × ℕ)
+numbers k ws = option_and_then (sizes k) (plain_numbers ws)
+
+-- a body with nothing in it
+abbrev pub empty_body : Kind → ℕ → ℕ → Body
+empty_body kinds.Chirotope r n = Chirotope (record { rank = r; elements = n; signs = [] })
+empty_body kinds.Circuits r n = Circuits []
+empty_body kinds.Cocircuits r n = Cocircuits []
+empty_body kinds.Covectors r n = Covectors []
+
+-- an empty document with these numbers
+abbrev pub headed : Kind → ℕ × ℕ → Document
+headed k p = record { elements = p.1; body = empty_body k p.0 p.1 }
+
+-- the empty document that the words after a kind name open
+abbrev pub opened : Kind → List (List ℕ) → Option Document
+opened k ws = option_map (headed k) (numbers k ws)
+
+-- the empty document that a kind line opens
+abbrev pub heading : List (List ℕ) → Option Document
+heading [] = None
+heading (w ∷ ws) = option_and_then (λ k. opened k ws) (kind_of w)
+
+-- the first word of a line, and no bytes where it has none
+abbrev pub first_word : List (List ℕ) → List ℕ
+first_word [] = []
+first_word (w ∷ ws) = w
+
+-- the name of the kind of a body
+abbrev pub kind_name : Body → List ℕ
+kind_name (Chirotope m) = codes "chirotope"
+kind_name (Circuits ms) = codes "circuits"
+kind_name (Cocircuits ms) = codes "cocircuits"
+kind_name (Covectors ms) = codes "covectors"
+
+-- the rank that a kind line gives; 0 where the kind has none
+abbrev pub rank_of_body : Body → ℕ
+rank_of_body (Chirotope m) = m.rank
+rank_of_body _ = 0
+
+-- from 1 element to the most that a document may have
+abbrev pub has_elements : Document → Bool
+has_elements d = nat_le 1 d.elements && nat_le d.elements MAX_ELEMENTS
+
+-- a rank of 0 to the number of elements
+abbrev pub has_rank : Document → Bool
+has_rank d = nat_le (rank_of_body d.body) d.elements

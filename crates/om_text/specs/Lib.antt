@@ -1,0 +1,13 @@
+pub mod Lines
+pub mod Words
+pub mod Heading
+pub mod Rows
+pub mod Members
+pub mod Document
+pub mod Fault
+pub mod Form
+pub mod Print
+pub mod Parsed
+pub mod Steps
+pub mod Reading
+pub mod Added

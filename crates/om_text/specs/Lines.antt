@@ -1,0 +1,45 @@
+-- The lines of an input, and the words of a line.
+--
+-- Trusted: what a document is rests on these definitions, so read them with care.
+use Rattle.std.specs.Prelude.{ℕ, List, [], ◌∷◌, Bool, true, false, cond, nat_eq, ◌||◌, filter, map}
+
+-- a byte in front of the first piece, or as a piece of its own where there is none
+abbrev pub with_first : ℕ → List (List ℕ) → List (List ℕ)
+with_first b [] = (b ∷ []) ∷ []
+with_first b (x ∷ xs) = (b ∷ x) ∷ xs
+
+-- the pieces between line feeds; a last one that no line feed ends counts where it isn't empty
+abbrev pub lines : List ℕ → List (List ℕ)
+lines [] = []
+lines (b ∷ bs) = cond (nat_eq b 10) ([] ∷ lines bs) (with_first b (lines bs))
+
+-- the bytes of a line before its first `#`
+abbrev pub uncommented : List ℕ → List ℕ
+uncommented [] = []
+uncommented (b ∷ bs) = cond (nat_eq b 35) [] (b ∷ uncommented bs)
+
+-- space, tab and carriage return; every other byte is part of a word
+abbrev pub is_blank : ℕ → Bool
+is_blank b = nat_eq b 32 || nat_eq b 9 || nat_eq b 13
+
+-- the pieces between blanks, empty ones among them
+abbrev pub pieces : List ℕ → List (List ℕ)
+pieces [] = [] ∷ []
+pieces (b ∷ bs) = cond (is_blank b) ([] ∷ pieces bs) (with_first b (pieces bs))
+
+-- whether a list isn't empty
+abbrev pub has_any : {A : Type 0} → List A → Bool
+has_any [] = false
+has_any (x ∷ xs) = true
+
+-- the longest runs of bytes other than blanks
+abbrev pub runs : List ℕ → List (List ℕ)
+runs bs = filter has_any (pieces bs)
+
+-- the words of a line
+abbrev pub words : List ℕ → List (List ℕ)
+words line = runs (uncommented line)
+
+-- the words of each line that has some; other lines are passed over, wherever they stand
+abbrev pub wordful : List (List ℕ) → List (List (List ℕ))
+wordful ls = filter has_any (map words ls)

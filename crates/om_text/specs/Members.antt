@@ -1,0 +1,21 @@
+-- The members of a body that is a list.
+--
+-- Trusted: what a document is rests on these definitions.
+use Rattle.std.specs.Prelude.{List, []}
+use Rattle.om_signs.specs.declared.sign.Sign.{Sign}
+use Rattle.om_text.specs.declared.body.Body.{Body}
+use Rattle.om_text.specs.declared.body.Body.TheVariants.{Chirotope, Circuits, Cocircuits, Covectors}
+
+-- the members of a list; a map has none
+abbrev pub members_of : Body → List (List Sign)
+members_of (Chirotope m) = []
+members_of (Circuits ms) = ms
+members_of (Cocircuits ms) = ms
+members_of (Covectors ms) = ms
+
+-- a list of the same kind with these members; a map stays as it is
+abbrev pub with_members : Body → List (List Sign) → Body
+with_members (Chirotope m) ms = Chirotope m
+with_members (Circuits _) ms = Circuits ms
+with_members (Cocircuits _) ms = Cocircuits ms
+with_members (Covectors _) ms = Covectors ms

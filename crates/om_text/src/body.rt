@@ -1,0 +1,16 @@
+use om_signs::{List, RawMap, SignVec};
+
+/// What a document says after its kind line.
+///
+/// The members of a list are distinct, and stand in the order of their first lines.
+#[derive(Drop)]
+pub enum Body {
+    /// The values of a map on the sets of its rank, in lexicographic order of the sets.
+    Chirotope(RawMap),
+    /// The signed circuits.
+    Circuits(List<SignVec>),
+    /// The signed cocircuits.
+    Cocircuits(List<SignVec>),
+    /// The covectors.
+    Covectors(List<SignVec>),
+}

@@ -1,0 +1,42 @@
+use thiserror::Error;
+
+/// What is wrong at a line. Where several hold of one line, the first of this list is named.
+#[derive(Clone, Copy, Debug, PartialEq, Eq, Error)]
+pub enum Code {
+    /// The kind line names a kind that isn't read yet; nothing else of the line counts.
+    #[error("this kind of document is not read yet")]
+    Unbuilt,
+    /// The first line with words isn't `om 1`.
+    #[error("the first line with words is not `om 1`")]
+    Version,
+    /// The first word of the kind line names no kind.
+    #[error("the kind line names no kind")]
+    Kind,
+    /// The kind line has another number of words than its kind asks for, or a word that isn't a plain number.
+    #[error("the kind line has not the plain numbers of its kind")]
+    Header,
+    /// The kind line gives `n` elements, and this is 0 or above [`om_signs::MAX_ELEMENTS`].
+    #[error("{n} elements are out of range")]
+    Elements { n: u32 },
+    /// The kind line gives the rank `r`, and this is above the number of elements.
+    #[error("rank {r} is above the number of elements")]
+    Rank { r: u32 },
+    /// A line of the body has a byte other than `+`, `-` and `0` in its words.
+    #[error("a body line has a byte that is no sign")]
+    Sign,
+    /// A member has another number of signs than there are elements.
+    #[error("a member has not as many signs as there are elements")]
+    Length,
+    /// The line goes past the number of values of the map, or past [`om_signs::MAX_MEMBERS`] distinct members.
+    #[error("the line goes past the greatest size of the body")]
+    Many,
+    /// The line `end` comes before the map has all its values.
+    #[error("`end` comes before the body is complete")]
+    Few,
+    /// A line with words follows the line `end`.
+    #[error("a line with words follows `end`")]
+    After,
+    /// The input ends before the line `end`.
+    #[error("the input ends before the document")]
+    Missing,
+}

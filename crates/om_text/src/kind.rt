@@ -1,0 +1,149 @@
+//! The kind line.
+
+ghost use Rattle.std.specs.Prelude.{◌≡◌, ℕ, ◌+◌, ◌<◌, ◌≤◌, ◌∷◌, [], ◌++◌, length, bytes_eq, ◌||◌, codes, option_map, IfSome, IfNone, Some, None};
+ghost use Rattle.om_text.specs.Lines.{runs};
+ghost use Rattle.om_text.specs.Words.{plain};
+ghost use Rattle.om_text.specs.Heading.{is_unbuilt, named_kind, plain_numbers, sizes, numbers, headed, rank_of_body, empty_body};
+ghost use Rattle.om_text.specs.Document.{filled};
+ghost use Rattle.om_text.specs.Reading.{in_range, after_kind};
+
+use super::body::Body;
+use super::code::Code;
+use super::document::Document;
+use super::lines::{first_word, same};
+use super::state::State;
+use super::words::plain_number;
+use om_signs::{List, MAX_ELEMENTS, RawMap};
+use smallvec::SmallVec;
+use std::alloc::Global;
+
+/// What the first word of a kind line names.
+#[derive(Clone, Copy)]
+pub enum Kind {
+    Chirotope,
+    Circuits,
+    Cocircuits,
+    Covectors,
+}
+
+/// Whether a word names a kind that isn't read yet.
+fn is_unbuilt_name(word: &[u8]) -> bool
+    ensures { result ≡ is_unbuilt word.now }
+{
+    same(word, b"wiring") || same(word, b"points")
+}
+
+fn kind_of_name(word: &[u8]) -> Option<Kind>
+    ensures { result ≡ named_kind word.now }
+{
+    if same(word, b"chirotope") {
+        Some(Kind::Chirotope)
+    } else if same(word, b"circuits") {
+        Some(Kind::Circuits)
+    } else if same(word, b"cocircuits") {
+        Some(Kind::Cocircuits)
+    } else if same(word, b"covectors") {
+        Some(Kind::Covectors)
+    } else {
+        None
+    }
+}
+
+/// The most numbers of a kind line that are looked at.
+const MOST_NUMBERS: usize = 16;
+
+/// The plain numbers that the words of a line are. A line with more than `MOST_NUMBERS` words is no kind line.
+fn numbers_of(alloc: Global, line: &[u8]) -> Option<SmallVec<u32, MOST_NUMBERS>>
+    ensures some { IfSome result (λ v. plain_numbers (runs line.now) ≡ Some v.items) }
+    ensures none { IfNone result ((kind : Kind) → numbers kind (runs line.now) ≡ None) }
+{
+    let mut numbers = SmallVec::new(alloc);
+    let mut rest = line;
+    while let Some((word, after)) = first_word(rest) {
+        if numbers.len() == MOST_NUMBERS {
+            return None;
+        }
+        numbers.push_reserved(plain_number(word)?);
+        rest = after;
+    }
+    Some(numbers)
+}
+
+/// The rank and the number of elements, where a kind line of this kind has these numbers.
+fn sizes_of(kind: Kind, numbers: &[u32]) -> Option<(u32, u32)>
+    ensures { result ≡ sizes kind numbers.now }
+{
+    match (kind, numbers) {
+        (Kind::Chirotope, [rank, elements]) => Some((*rank, *elements)),
+        (Kind::Circuits | Kind::Cocircuits | Kind::Covectors, [elements]) => Some((0, *elements)),
+        _ => None,
+    }
+}
+
+/// The same of the words after the kind's name.
+fn sizes_in(alloc: Global, kind: Kind, line: &[u8]) -> Option<(u32, u32)>
+    ensures { result ≡ numbers kind (runs line.now) }
+{
+    let numbers = numbers_of(alloc, line)?;
+    sizes_of(kind, numbers.as_slice())
+}
+
+fn empty_document(alloc: Global, kind: Kind, rank: u8, elements: u8) -> Document
+    ensures { result ≡ filled (headed kind (rank, elements)) [] }
+{
+    let body = match kind {
+        Kind::Chirotope => Body::Chirotope(RawMap {
+            rank,
+            elements,
+            signs: List::new(alloc),
+        }),
+        Kind::Circuits => Body::Circuits(List::new(alloc)),
+        Kind::Cocircuits => Body::Cocircuits(List::new(alloc)),
+        Kind::Covectors => Body::Covectors(List::new(alloc)),
+    };
+    Document { elements, body }
+}
+
+/// The rank that a kind line gives: a list has none.
+fn rank_given(kind: Kind, rank: u32) -> u32
+    ensures { (n : ℕ) → result ≡ rank_of_body (empty_body kind rank n) }
+{
+    match kind {
+        Kind::Chirotope => rank,
+        Kind::Circuits | Kind::Cocircuits | Kind::Covectors => 0,
+    }
+}
+
+fn open(alloc: Global, kind: Kind, given: u32, elements: u32) -> Result<State, Code>
+    ensures { result ≡ in_range (headed kind (given, elements)) }
+{
+    if elements < 1 || u32::from(MAX_ELEMENTS) < elements {
+        return Err(Code::Elements { n: elements });
+    }
+    let rank = rank_given(kind, given);
+    if elements < rank {
+        return Err(Code::Rank { r: rank });
+    }
+    Ok(State::Open(empty_document(alloc, kind, rank as u8, elements as u8)))
+}
+
+/// What a kind line opens.
+pub fn kind_line(alloc: Global, line: &[u8]) -> Result<State, Code>
+    ensures { result ≡ after_kind (runs line.now) }
+{
+    let (name, rest) = match first_word(line) {
+        Some(found) => found,
+        None => return Err(Code::Kind),
+    };
+    if is_unbuilt_name(name) {
+        return Err(Code::Unbuilt);
+    }
+    let kind = match kind_of_name(name) {
+        Some(kind) => kind,
+        None => return Err(Code::Kind),
+    };
+    match sizes_in(alloc, kind, rest) {
+        Some((rank, elements)) => open(alloc, kind, rank, elements),
+        None => Err(Code::Header),
+    }
+}

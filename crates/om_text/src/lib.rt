@@ -1,0 +1,29 @@
+//! Documents of oriented matroids: read from bytes line by line, and printed in canonical form.
+#![tactic(auto)]
+
+mod body;
+mod body_lines;
+mod code;
+mod document;
+mod kind;
+mod laws;
+mod lines;
+mod parse_error;
+mod printer;
+mod reader;
+mod refusal;
+mod state;
+#[cfg(test)]
+mod tests;
+mod words;
+
+pub use body::Body;
+pub use code::Code;
+pub use document::Document;
+pub use laws::{
+    documents_begin_as_bytes, documents_have_no_fault, faults_are_unique,
+    inputs_are_documents_or_have_faults, sorting_keeps_members, values_are_unique,
+};
+pub use parse_error::ParseError;
+pub use printer::print;
+pub use reader::parse;

@@ -1,0 +1,109 @@
+//! The lines of bytes, and the words of a line.
+
+ghost use Rattle.std.specs.Prelude.{◌≡◌, ℕ, ◌+◌, ◌<◌, ◌≤◌, ◌∷◌, [], length, nat_eq, not, ◌||◌, MatchOption, IfSome, bytes_eq};
+ghost use Rattle.std.specs.List.{position, position_or_len, list_all};
+ghost use Rattle.om_text.specs.Lines.{lines, uncommented, runs, is_blank, has_any};
+
+pub fn same(word: &[u8], text: &[u8]) -> bool
+    ensures { result ≡ bytes_eq word.now text.now }
+{
+    word == text
+}
+
+/// The place of the first such byte.
+fn byte_place(bytes: &[u8], byte: u8) -> Option<usize>
+    ensures { result ≡ position (λ b. nat_eq b byte) bytes.now }
+{
+    bytes.iter().position(|b| *b == byte)
+}
+
+/// How many bytes stand before the first such byte.
+pub fn len_before(bytes: &[u8], byte: u8) -> usize
+    ensures value { result ≡ position_or_len (λ b. nat_eq b byte) bytes.now }
+    ensures within { result ≤ length bytes.now }
+{
+    byte_place(bytes, byte).unwrap_or(bytes.len())
+}
+
+/// The first line, and the bytes after it.
+pub fn first_line(bytes: &[u8]) -> (&[u8], &[u8])
+    requires { 0 < length bytes.now }
+    ensures lines { lines bytes.now ≡ result.0.now ∷ lines result.1.now }
+    ensures shorter { length result.1.now < length bytes.now }
+{
+    let end = len_before(bytes, b'\n');
+    let line = &bytes[..end];
+    if end < bytes.len() {
+        (line, &bytes[end + 1..])
+    } else {
+        (line, &bytes[end..])
+    }
+}
+
+/// The part of a line before its comment.
+pub fn before_comment(line: &[u8]) -> &[u8]
+    ensures { result.now ≡ uncommented line.now }
+{
+    let end = len_before(line, b'#');
+    &line[..end]
+}
+
+pub fn is_blank_byte(byte: u8) -> bool
+    ensures { result ≡ is_blank byte }
+{
+    byte == b' ' || byte == b'\t' || byte == b'\r'
+}
+
+fn full_place(line: &[u8]) -> Option<usize>
+    ensures { result ≡ position (λ b. not (is_blank b)) line.now }
+{
+    line.iter().position(|b| !is_blank_byte(*b))
+}
+
+fn blank_place(line: &[u8]) -> Option<usize>
+    ensures { result ≡ position is_blank line.now }
+{
+    line.iter().position(|b| is_blank_byte(*b))
+}
+
+/// How many blanks a line begins with.
+pub fn blank_len(line: &[u8]) -> usize
+    ensures value { result ≡ position_or_len (λ b. not (is_blank b)) line.now }
+    ensures within { result ≤ length line.now }
+{
+    full_place(line).unwrap_or(line.len())
+}
+
+/// How many other bytes it begins with.
+pub fn word_len(line: &[u8]) -> usize
+    ensures value { result ≡ position_or_len is_blank line.now }
+    ensures within { result ≤ length line.now }
+{
+    blank_place(line).unwrap_or(line.len())
+}
+
+/// The first word of a line without a comment, and what follows the word.
+pub fn first_word(line: &[u8]) -> Option<(&[u8], &[u8])>
+    ensures words { MatchOption result (runs line.now ≡ []) (λ found. runs line.now ≡ found.0.now ∷ runs found.1.now) }
+    ensures shorter { IfSome result (λ found. length found.1.now < length line.now) }
+{
+    let rest = &line[blank_len(line)..];
+    let end = word_len(rest);
+    if end == 0 {
+        return None;
+    }
+    Some((&rest[..end], &rest[end..]))
+}
+
+fn is_all_blank(line: &[u8]) -> bool
+    ensures { result ≡ list_all is_blank line.now }
+{
+    line.iter().all(|b| is_blank_byte(*b))
+}
+
+/// Whether a line without a comment has no words.
+pub fn has_no_words(line: &[u8]) -> bool
+    ensures { result ≡ not (has_any (runs line.now)) }
+{
+    is_all_blank(line)
+}

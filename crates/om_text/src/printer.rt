@@ -1,0 +1,158 @@
+//! The canonical form.
+
+ghost use Rattle.std.specs.Prelude.{◌≡◌, ℕ, ◌+◌, ◌<◌, ◌≤◌, ◌^◌, ◌-◌, ◌∷◌, [], ◌++◌, length, map, OnOk, IfOk, codes, decimal};
+ghost use Rattle.om_text.specs.declared.document.Document.{Document};
+ghost use Rattle.om_text.specs.Words.{byte_of};
+ghost use Rattle.om_text.specs.Lines.{lines};
+ghost use Rattle.om_text.specs.Heading.{kind_name};
+ghost use Rattle.om_text.specs.Rows.{sorted};
+ghost use Rattle.om_text.specs.Document.{IsDocument};
+ghost use Rattle.om_text.specs.Form.{IsInForm};
+ghost use Rattle.om_text.specs.Print.{text_of, sign_lines, member_lines, body_lines, kind_text, printed, sorted_document};
+
+use super::body::Body;
+use super::document::Document;
+use om_signs::{List, NoMemory, Sign, SignVec};
+use std::alloc::Global;
+
+/// How many signs of a map stand in a line.
+const LINE_SIGNS: usize = 64;
+
+fn byte_of_sign(sign: Sign) -> u8
+    ensures { result ≡ byte_of sign }
+{
+    match sign {
+        Sign::Minus => b'-',
+        Sign::Zero => b'0',
+        Sign::Plus => b'+',
+    }
+}
+
+/// Puts a line of signs at the end.
+fn push_row(out: &mut Vec<u8>, signs: &[Sign]) -> Result<(), NoMemory>
+    ensures { OnOk result (out.new.items ≡ out.old.items ++ map byte_of signs.now ++ 10 ∷ []) }
+{
+    for sign in signs {
+        out.push(byte_of_sign(*sign))?;
+    }
+    out.push(b'\n')?;
+    Ok(())
+}
+
+/// Puts signs at the end, in lines of 64 and a last shorter line.
+fn push_rows(out: &mut Vec<u8>, signs: &[Sign]) -> Result<(), NoMemory>
+    ensures { OnOk result (out.new.items ≡ out.old.items ++ text_of (sign_lines signs.now)) }
+{
+    let mut rest = signs;
+    while !rest.is_empty() {
+        let len = rest.len().min(LINE_SIGNS);
+        push_row(out, &rest[..len])?;
+        rest = &rest[len..];
+    }
+    Ok(())
+}
+
+/// Puts a sign vector at the end, as a line.
+fn push_member(out: &mut Vec<u8>, member: SignVec) -> Result<(), NoMemory>
+    ensures { OnOk result (out.new.items ≡ out.old.items ++ map byte_of member ++ 10 ∷ []) }
+{
+    for place in 0..member.len() {
+        out.push(byte_of_sign(member.get(place + 1)))?;
+    }
+    out.push(b'\n')?;
+    Ok(())
+}
+
+/// The members, sorted.
+fn sorted_members(alloc: Global, members: &[SignVec]) -> Result<Vec<SignVec>, NoMemory>
+    ensures { IfOk result (λ v. v.items ≡ sorted members.now) }
+{
+    let mut rows = Vec::from_slice(alloc, members)?;
+    rows.sort()?;
+    Ok(rows)
+}
+
+/// Puts members at the end, one a line.
+fn push_member_lines(out: &mut Vec<u8>, members: &[SignVec]) -> Result<(), NoMemory>
+    ensures { OnOk result (out.new.items ≡ out.old.items ++ text_of (member_lines members.now)) }
+{
+    for member in members {
+        push_member(out, *member)?;
+    }
+    Ok(())
+}
+
+/// Puts the members at the end, sorted, one a line.
+fn push_members(out: &mut Vec<u8>, members: &List<SignVec>) -> Result<(), NoMemory>
+    ensures { OnOk result (out.new.items ≡ out.old.items ++ text_of (member_lines (sorted members.now))) }
+{
+    let rows = sorted_members(*out.allocator(), members.as_slice())?;
+    push_member_lines(out, rows.as_slice())
+}
+
+fn push_bytes(out: &mut Vec<u8>, bytes: &[u8]) -> Result<(), NoMemory>
+    ensures { OnOk result (out.new.items ≡ out.old.items ++ bytes.now) }
+{
+    out.extend_from_slice(bytes)?;
+    Ok(())
+}
+
+/// The first two lines of a map.
+fn map_heading(alloc: Global, rank: u8, elements: u8) -> Result<Vec<u8>, NoMemory>
+    ensures { IfOk result (λ bytes. bytes.items
+        ≡ codes "om 1" ++ 10 ∷ (codes "chirotope " ++ (decimal rank ++ 32 ∷ (decimal elements ++ 10 ∷ [])))) }
+{
+    let text = format!(in alloc; "om 1\nchirotope {rank} {elements}\n")?;
+    Ok(text.into_bytes())
+}
+
+/// The first two lines of a list of this kind.
+fn list_heading(alloc: Global, name: &str, elements: u8) -> Result<Vec<u8>, NoMemory>
+    ensures { IfOk result (λ bytes. bytes.items
+        ≡ codes "om 1" ++ 10 ∷ (name.now ++ 32 ∷ (decimal elements ++ 10 ∷ []))) }
+{
+    let text = format!(in alloc; "om 1\n{name} {elements}\n")?;
+    Ok(text.into_bytes())
+}
+
+/// The first two lines.
+fn heading(alloc: Global, document: &Document) -> Result<Vec<u8>, NoMemory>
+    ensures { IfOk result (λ bytes. bytes.items ≡ text_of (codes "om 1" ∷ kind_text document.now ∷ [])) }
+{
+    match &document.body {
+        Body::Chirotope(map) => map_heading(alloc, map.rank, document.elements),
+        Body::Circuits(_) => list_heading(alloc, "circuits", document.elements),
+        Body::Cocircuits(_) => list_heading(alloc, "cocircuits", document.elements),
+        Body::Covectors(_) => list_heading(alloc, "covectors", document.elements),
+    }
+}
+
+fn push_body(out: &mut Vec<u8>, body: &Body) -> Result<(), NoMemory>
+    ensures { OnOk result (out.new.items ≡ out.old.items ++ text_of (body_lines body.now)) }
+{
+    match body {
+        Body::Chirotope(map) => push_rows(out, map.signs.as_slice()),
+        Body::Circuits(members) | Body::Cocircuits(members) | Body::Covectors(members) => {
+            push_members(out, members)
+        }
+    }
+}
+
+/// The canonical form of a document: the line `om 1`, the kind line with single spaces, the body and the line `end`. The
+/// values of a map stand in lines of 64 and a last shorter line, and the members of a list one a line, sorted by the first
+/// place where they differ, with `-` before `0` before `+`.
+///
+/// The document has the forms and is within the limits that [`crate::parse`] promises: its numbers are in range, a map has
+/// a value for each set of its rank, and the members of a list are different and have a sign for each element. Reading the canonical form gives it
+/// back with its members sorted.
+pub fn print(alloc: Global, document: &Document) -> Result<Vec<u8>, NoMemory>
+    requires form { IsInForm document.now }
+    ensures bytes { IfOk result (λ bytes. bytes.items ≡ printed document.now) }
+    // What is printed is a document, and reads as this one with its members sorted.
+    ensures again { IfOk result (λ bytes. IsDocument (lines bytes.items) (sorted_document document.now)) }
+{
+    let mut out = heading(alloc, document)?;
+    push_body(&mut out, &document.body)?;
+    push_bytes(&mut out, b"end\n")?;
+    Ok(out)
+}
