@@ -1,0 +1,5 @@
+mod PlaceLaws
+mod Members
+mod Walks
+mod Sets
+mod Compositions

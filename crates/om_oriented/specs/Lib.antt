@@ -1,0 +1,4 @@
+pub mod Covectors
+pub mod CovectorLaws
+pub mod Denotation
+pub mod Places

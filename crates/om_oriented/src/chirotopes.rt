@@ -1,0 +1,56 @@
+//! The covectors of a chirotope.
+
+ghost use Rattle.std.specs.Prelude.{◌≡◌, ◌↔◌, IsTrue, length};
+ghost use Rattle.om_chirotope.specs.Chirotope.{IsSound};
+ghost use Rattle.om_oriented.specs.Covectors.{IsCovectorOfChirotope};
+ghost use Rattle.om_oriented.specs.CovectorLaws.{zero_of_chirotope, negative_of_chirotope};
+
+use super::oriented::Oriented;
+use om_chirotope::Chirotope;
+use om_signs::SignVec;
+use om_subsets::Subset;
+
+/// Whether a vector is orthogonal to the vector V of each set of one element more than the rank.
+fn is_orthogonal_to_all(chi: &Chirotope, x: SignVec) -> bool
+    requires { length x ≡ chi.now.elements }
+    ensures { IsTrue result ↔ IsCovectorOfChirotope chi.now x }
+{
+    let rank = chi.rank();
+    let elements = chi.elements();
+    if rank == elements {
+        return true;
+    }
+    let mut s = Subset::first(rank + 1, elements);
+    loop {
+        if !x.orthogonal(chi.circuit_of(s)) {
+            return false;
+        }
+        match s.next() {
+            Some(next) => s = next,
+            None => return true,
+        }
+    }
+}
+
+/// The covectors are the sign vectors that are orthogonal to the vector V of each set of one element more than the rank.
+impl Oriented for Chirotope {
+    ghost is_covector = { IsCovectorOfChirotope };
+
+    ghost elements = { λ m. m.elements };
+
+    ghost valid = { IsSound };
+
+    ghost zero = { zero_of_chirotope };
+
+    ghost negative = { negative_of_chirotope };
+
+    fn elements(&self) -> u8 {
+        // this call tells that the axioms hold
+        let _rank = self.rank();
+        Chirotope::elements(self)
+    }
+
+    fn is_covector(&self, x: SignVec) -> bool {
+        is_orthogonal_to_all(self, x)
+    }
+}

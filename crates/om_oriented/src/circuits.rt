@@ -1,0 +1,40 @@
+//! The covectors of circuits.
+
+ghost use Rattle.std.specs.Prelude.{◌≡◌, ◌↔◌, All, IsTrue, length};
+ghost use Rattle.om_signs.specs.SignVec.{IsOrthogonal};
+ghost use Rattle.om_circuits.specs.SignedSets.{HaveLength, IsSignedSet};
+ghost use Rattle.om_oriented.specs.Covectors.{IsCovectorOfCircuits};
+ghost use Rattle.om_oriented.specs.CovectorLaws.{zero_of_circuits, negative_of_circuits};
+
+use super::oriented::Oriented;
+use om_circuits::Circuits;
+use om_signs::SignVec;
+
+/// Whether a vector is orthogonal to each member.
+fn is_orthogonal_to_all(members: &[SignVec], x: SignVec) -> bool
+    requires { HaveLength (length x) members.now }
+    ensures { IsTrue result ↔ All (IsOrthogonal x) members.now }
+{
+    members.iter().all(|y| x.orthogonal(*y))
+}
+
+/// The covectors are the sign vectors that are orthogonal to each circuit.
+impl Oriented for Circuits {
+    ghost is_covector = { λ c. IsCovectorOfCircuits c.0 };
+
+    ghost elements = { λ c. c.0.elements };
+
+    ghost valid = { λ c. IsSignedSet c.0.elements c.0.members };
+
+    ghost zero = { λ c. zero_of_circuits c.0 };
+
+    ghost negative = { λ c. negative_of_circuits c.0 };
+
+    fn elements(&self) -> u8 {
+        self.0.elements()
+    }
+
+    fn is_covector(&self, x: SignVec) -> bool {
+        is_orthogonal_to_all(self.0.members(), x)
+    }
+}

@@ -1,0 +1,29 @@
+ghost use Rattle.std.specs.Prelude.{◌≡◌, ◌↔◌, IsOk, IsErr, IfErr};
+ghost use Rattle.om_oriented.specs.Denotation.{DenoteTheSame, HaveDifference, IsFirstDifference};
+
+use super::differ::Differ;
+use super::oriented::Oriented;
+use super::walk::{following, least};
+
+/// Whether two values with the same number of elements denote the same oriented matroid: the same sign vectors are
+/// covectors of both. Where they don't, the answer is [`Differ`] with the first sign vector, in lexicographic order with
+/// minus before zero before plus, that is a covector of one and not of the other.
+///
+/// For n elements the walk takes up to 3 to the power n sign vectors. It takes no memory.
+pub fn same<A: Oriented, B: Oriented>(a: &A, b: &B) -> Result<(), Differ>
+    requires { A.elements a.now ≡ B.elements b.now }
+    ensures same { IsOk result ↔ DenoteTheSame (A.elements a.now) (A.is_covector a.now) (B.is_covector b.now) }
+    ensures differ { IsErr result ↔ HaveDifference (A.elements a.now) (A.is_covector a.now) (B.is_covector b.now) }
+    ensures first { IfErr result (λ d. IsFirstDifference (A.elements a.now) (A.is_covector a.now) (B.is_covector b.now) d.x) }
+{
+    let mut x = least(a.elements());
+    loop {
+        if a.is_covector(x) != b.is_covector(x) {
+            return Err(Differ { x });
+        }
+        match following(x) {
+            Some(next) => x = next,
+            None => return Ok(()),
+        }
+    }
+}

@@ -1,0 +1,30 @@
+//! The covectors of a set of covectors.
+
+ghost use Rattle.om_covectors.specs.CovectorSets.{IsCovectorSet};
+ghost use Rattle.om_oriented.specs.Covectors.{IsCovectorOfCovectors};
+ghost use Rattle.om_oriented.specs.CovectorLaws.{zero_of_covectors, negative_of_covectors};
+
+use super::oriented::Oriented;
+use om_covectors::Covectors;
+use om_signs::SignVec;
+
+/// The covectors are the members.
+impl Oriented for Covectors {
+    ghost is_covector = { IsCovectorOfCovectors };
+
+    ghost elements = { λ c. c.elements };
+
+    ghost valid = { λ c. IsCovectorSet c.elements c.members };
+
+    ghost zero = { zero_of_covectors };
+
+    ghost negative = { negative_of_covectors };
+
+    fn elements(&self) -> u8 {
+        Covectors::elements(self)
+    }
+
+    fn is_covector(&self, x: SignVec) -> bool {
+        self.contains(x)
+    }
+}
