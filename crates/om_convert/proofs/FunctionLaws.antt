@@ -1,0 +1,87 @@
+-- Lists of lists of signs as families of functions.
+--
+-- Main results: a function is listed exactly where it is that of a member (listed, unlisted); lists of one length with the same functions are
+-- the same (same_lists); supports and zero vectors of lists are those of functions.
+use Rattle.std.specs.List.{Contains}
+use Rattle.std.proofs.Common.{ℕ, zero, suc, ◌≡◌, ◌-◌, List, [], ◌∷◌, length, map, refl, sym, ap, ◌∙◌, inl, inr, ⊎_elim, arith}
+use Rattle.om_signs.specs.declared.sign.Sign.{Sign}
+use Rattle.om_signs.specs.declared.sign.Sign.TheVariants.{Minus, Zero}
+use Rattle.om_signs.specs.Sign.{opposite, product}
+use Rattle.om_signs.specs.SignVec.{at, place}
+use Rattle.om_laws.specs.Signs.{IsNonzero}
+use Rattle.om_laws.specs.Vectors.{SignVector}
+use Rattle.om_laws.specs.Vectors as vectors
+use Rattle.om_laws.specs.Families.{IsListed}
+use Rattle.om_laws.specs.Bridge.{as_function}
+use Rattle.om_laws.specs.Chirotope.{elements_to}
+use Rattle.om_laws.proofs.SignLaws.{zero_or_nonzero}
+use Rattle.om_laws.proofs.BridgeLaws.{as_list-as_function}
+use Rattle.om_covectors.specs.Vectors.{IsZero, HasSupportIn}
+use Rattle.om_convert.specs.Families.{as_functions}
+use Rattle.om_convert.proofs.SelectionLaws.{contains_first, contains_later, first_or_later}
+
+-- ---- listed functions
+
+pub listed : (members : List (List Sign)) (X : List Sign) (f : SignVector) → Contains members X → ((e : ℕ) → f e ≡ as_function X e) → IsListed (as_functions members) f
+listed [] X f m q = let l = m.1 in absurd (omega (arith, l))
+listed (Y ∷ Ys) X f m q = ⊎_elim
+    (λ r. inl (λ e. q e ∙ ap (λ Z. as_function Z e) (sym r)))
+    (λ k. inr (listed Ys X f k q))
+    (first_or_later Y Ys X m)
+
+pub unlisted : (members : List (List Sign)) (f : SignVector) → IsListed (as_functions members) f → (X : List Sign) × Contains members X × ((e : ℕ) → f e ≡ as_function X e)
+unlisted [] f h = absurd h
+unlisted (Y ∷ Ys) f (inl q) = (Y, contains_first Y Ys, q)
+unlisted (Y ∷ Ys) f (inr h) = let r = unlisted Ys f h in (r.0, contains_later Y Ys r.0 r.1, r.2)
+
+-- ---- equal lists
+
+map_same : (f g : SignVector) → ((e : ℕ) → f e ≡ g e) → (l : List ℕ) → map f l ≡ map g l
+map_same f g q [] = refl
+map_same f g q (x ∷ l) = ap (λ s. s ∷ map f l) (q x) ∙ ap (λ t. g x ∷ t) (map_same f g q l)
+
+pub same_lists : (n : ℕ) (X Y : List Sign) → length X ≡ n → length Y ≡ n → ((e : ℕ) → as_function X e ≡ as_function Y e) → X ≡ Y
+same_lists n X Y lx ly q = sym (as_list-as_function n X lx) ∙ map_same (as_function X) (as_function Y) q (elements_to n) ∙ as_list-as_function n Y ly
+
+-- ---- signs at elements
+
+pub at_place : (X : List Sign) (i : ℕ) → place X (suc i) ≡ at X i
+at_place X i = let e : suc i - 1 ≡ i = omega arith in ap (at X) e
+
+pub zero_function : (X : List Sign) → IsZero X → (e : ℕ) → as_function X e ≡ Zero
+zero_function X z zero = refl
+zero_function X z (suc i) = sym (at_place X i) ∙ z (suc i)
+
+nonzero_place : (X : List Sign) → (((i : ℕ) → at X i ≡ Zero) → ⊥) → (i : ℕ) × IsNonzero (at X i)
+nonzero_place [] h = absurd (h (λ i. refl))
+nonzero_place (x ∷ xs) h = ⊎_elim
+    (λ z. let r = nonzero_place xs (λ all. h (both z all)) in (suc r.0, r.1))
+    (λ n. (0, n))
+    (zero_or_nonzero x)
+  where
+    both : x ≡ Zero → ((i : ℕ) → at xs i ≡ Zero) → (i : ℕ) → at (x ∷ xs) i ≡ Zero
+    both z all zero = z
+    both z all (suc i) = all i
+
+pub nonzero_element : (X : List Sign) → (IsZero X → ⊥) → vectors.HasNonzero (as_function X)
+nonzero_element X h = let r = nonzero_place X (λ all. h (λ e. all (e - 1))) in (suc r.0, r.1)
+
+-- ---- supports
+
+pub support_lists : (X Y : List Sign) → vectors.HasSupportIn (as_function X) (as_function Y) → HasSupportIn X Y
+support_lists X Y s e z = ⊎_elim (λ q. q) (λ n. absurd (s (suc (e - 1)) n z)) (zero_or_nonzero (place X e))
+
+pub support_functions : (X Y : List Sign) → HasSupportIn X Y → vectors.HasSupportIn (as_function X) (as_function Y)
+support_functions X Y h zero n = n
+support_functions X Y h (suc i) n = λ z. n (sym (at_place X i) ∙ h (suc i) (at_place Y i ∙ z))
+
+-- ---- separation
+
+pub product_minus : (s t : Sign) → IsNonzero s → s ≡ opposite t → product s t ≡ Minus
+product_minus s t = grind arith
+
+pub nonzero_of_minus : (s t : Sign) → product s t ≡ Minus → IsNonzero s
+nonzero_of_minus s t = grind arith
+
+pub opposite_of_minus : (s t : Sign) → product s t ≡ Minus → s ≡ opposite t
+opposite_of_minus s t = grind arith

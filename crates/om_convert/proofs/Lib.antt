@@ -1,0 +1,4 @@
+pub mod SelectionLaws
+pub mod FunctionLaws
+pub mod AxiomLaws
+pub mod CocircuitLaws

@@ -1,0 +1,8 @@
+use Rattle.om_convert.proofs.AxiomLaws.{supported, covector_axioms}
+use Rattle.om_convert.proofs.laws.axioms_of_functions.Goals as goal
+
+pub returns-clause-support : goal.returns-clause-support
+returns-clause-support c = λ n members lengths. supported n members lengths
+
+pub returns-clause-axioms : goal.returns-clause-axioms
+returns-clause-axioms c = λ members axioms. covector_axioms members axioms

@@ -1,0 +1,23 @@
+-- Lists of lists of signs as finite families of functions, and their members of minimal support.
+--
+-- Reference: Björner, Las Vergnas, Sturmfels, White and Ziegler, Oriented Matroids, chapters 3 and 4.
+use Rattle.std.specs.Prelude.{ℕ, ◌≡◌, List, map}
+use Rattle.std.specs.List.{Contains}
+use Rattle.om_signs.specs.declared.sign.Sign.{Sign}
+use Rattle.om_signs.specs.SignVec.{at, IsNonzero, IsConformal}
+use Rattle.om_laws.specs.Vectors.{SignVector}
+use Rattle.om_laws.specs.Bridge.{as_function}
+use Rattle.om_covectors.specs.Minimality.{IsMinimal}
+use Rattle.om_oriented.specs.Covectors.{HasConformingMember}
+
+-- the function of each member
+abbrev pub as_functions : List (List Sign) → List SignVector
+as_functions members = map as_function members
+
+-- some member of minimal support conforms to X and has its sign at a place, counted from 0
+abbrev pub HasMinimalPart : List (List Sign) → List Sign → ℕ → Type 0
+HasMinimalPart members X i = (Y : List Sign) × Contains members Y × IsMinimal members Y × IsConformal Y X × (at Y i ≡ at X i)
+
+-- at each place of its support some member conforms to X and has its sign there
+abbrev pub IsComposedOf : List (List Sign) → List Sign → Type 0
+IsComposedOf members X = (i : ℕ) → IsNonzero X i → HasConformingMember members X i

@@ -1,0 +1,25 @@
+ghost use Rattle.std.specs.Prelude.{◌≡◌};
+
+use om_signs::NoMemory;
+use thiserror::Error;
+
+/// Why a conversion has no result.
+#[derive(Clone, Copy, Debug, PartialEq, Eq, Error)]
+pub enum ConvertError {
+    /// The result would have more than `limit` members.
+    #[error("more than {limit} members")]
+    TooMany { limit: u32 },
+    /// Want of memory.
+    #[error("out of memory")]
+    Memory,
+}
+
+impl From<NoMemory> for ConvertError {
+    ghost use Rattle.om_convert.specs.declared.convert_error.ConvertError.TheVariants.{Memory};
+
+    ghost from_gives = { λ _ e. e ≡ Memory };
+
+    fn from(_: NoMemory) -> Self {
+        ConvertError::Memory
+    }
+}

@@ -1,0 +1,31 @@
+//! Conversions of covectors.
+
+ghost use Rattle.std.specs.Prelude.{◌≡◌, IfOk, IsOkUnless};
+ghost use Rattle.std.specs.List.{Contains};
+ghost use Rattle.om_covectors.specs.Minimality.{IsMinimal, AreThose};
+ghost use Rattle.om_oriented.specs.Covectors.{IsCovectorOfCocircuits};
+ghost use Rattle.om_oriented.specs.Denotation.{DenoteTheSame};
+
+use super::convert_error::ConvertError;
+use om_circuits::{Cocircuits, SignedSet};
+use om_covectors::Covectors;
+use std::alloc::Global;
+
+/// The cocircuits of the oriented matroid with these covectors: its nonzero covectors of minimal support, in the order in
+/// which the covectors were listed. Both have the same elements and denote the same oriented matroid. The list takes its
+/// memory from `alloc`.
+///
+/// [`ConvertError::Memory`] comes only for want of memory, and [`ConvertError::TooMany`] never: there are no more
+/// cocircuits than covectors.
+///
+/// Source: Björner, Las Vergnas, Sturmfels, White and Ziegler, *Oriented Matroids*, chapters 3 and 4.
+pub fn covectors_to_cocircuits(alloc: Global, c: &Covectors) -> Result<Cocircuits, ConvertError>
+    ensures elements { IfOk result (λ d. d.0.elements ≡ c.now.elements) }
+    ensures members { IfOk result (λ d. AreThose (IsMinimal c.now.members) c.now.members d.0.members) }
+    ensures same { IfOk result (λ d.
+        DenoteTheSame c.now.elements (Contains c.now.members) (IsCovectorOfCocircuits d.0)) }
+    ensures memory { IsOkUnless result ConvertError.Memory }
+{
+    let minimal = c.minimal(alloc)?;
+    Ok(Cocircuits(SignedSet::lawful(c.elements(), minimal)))
+}

@@ -1,0 +1,55 @@
+//! Laws of the covectors and cocircuits that the calls hand out. Each function is one theorem: it has an empty body, and
+//! its contract is the statement.
+
+ghost use Rattle.std.specs.Prelude.{ℕ, ◌↔◌, List};
+ghost use Rattle.std.specs.List.{Contains};
+ghost use Rattle.om_signs.specs.declared.sign.Sign.{Sign};
+ghost use Rattle.om_signs.specs.SignVec.{IsNonzero};
+ghost use Rattle.om_laws.specs.Axioms.{CovectorAxioms};
+ghost use Rattle.om_laws.specs.Chirotope.{elements_to};
+ghost use Rattle.om_laws.specs.Families.{IsListed, AreSupportedOn};
+ghost use Rattle.om_covectors.specs.Axioms.{MeetsCovectorAxioms};
+ghost use Rattle.om_covectors.specs.CovectorSets.{HaveLength};
+ghost use Rattle.om_covectors.specs.Minimality.{IsMinimal, AreThose};
+ghost use Rattle.om_circuits.specs.Axioms.{MeetsCircuitAxioms};
+ghost use Rattle.om_oriented.specs.Covectors.{HasConformingMember};
+ghost use Rattle.om_oriented.specs.Denotation.{DenoteTheSame};
+ghost use Rattle.om_convert.specs.Families.{as_functions, HasMinimalPart, IsComposedOf};
+
+/// Lists of n signs that meet the axioms of covectors are functions that meet them, zero off the elements 1 to n.
+///
+/// Source: Björner, Las Vergnas, Sturmfels, White and Ziegler, *Oriented Matroids*, chapter 4.
+pub fn axioms_of_functions()
+    ensures support { (n : ℕ) (members : List (List Sign)) → HaveLength n members
+        → AreSupportedOn (elements_to n) (as_functions members) }
+    ensures axioms { (members : List (List Sign)) → MeetsCovectorAxioms members
+        → CovectorAxioms (IsListed (as_functions members)) }
+{}
+
+/// Conformal decomposition: a covector has at each place of its support the sign of some nonzero covector of minimal
+/// support that conforms to it.
+///
+/// Source: Björner, Las Vergnas, Sturmfels, White and Ziegler, *Oriented Matroids*, chapters 3 and 4.
+pub fn conformal_decomposition()
+    ensures { (n : ℕ) (members : List (List Sign)) → HaveLength n members → MeetsCovectorAxioms members
+        → (X : List Sign) → Contains members X → (i : ℕ) → IsNonzero X i → HasMinimalPart members X i }
+{}
+
+/// The nonzero covectors of minimal support meet the axioms of circuits.
+///
+/// Source: Björner, Las Vergnas, Sturmfels, White and Ziegler, *Oriented Matroids*, chapters 3 and 4.
+pub fn cocircuits_of_covectors()
+    ensures { (n : ℕ) (members : List (List Sign)) → HaveLength n members → MeetsCovectorAxioms members
+        → (cocircuits : List (List Sign)) → AreThose (IsMinimal members) members cocircuits
+        → MeetsCircuitAxioms cocircuits }
+{}
+
+/// The covectors are the lists of n signs that have at each place of their support the sign of some nonzero covector of
+/// minimal support that conforms to them.
+///
+/// Source: Björner, Las Vergnas, Sturmfels, White and Ziegler, *Oriented Matroids*, chapters 3 and 4.
+pub fn covectors_of_minimal_members()
+    ensures { (n : ℕ) (members : List (List Sign)) → HaveLength n members → MeetsCovectorAxioms members
+        → (cocircuits : List (List Sign)) → AreThose (IsMinimal members) members cocircuits
+        → DenoteTheSame n (Contains members) (IsComposedOf cocircuits) }
+{}
