@@ -1,0 +1,6 @@
+mod ConversionLaws
+mod Elements
+mod MeaningLaws
+mod Memberships
+mod Spelling
+mod WordLaws

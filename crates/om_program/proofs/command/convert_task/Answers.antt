@@ -1,0 +1,11 @@
+use Rattle.std.specs.Prelude.{◌≡◌, ◌↔◌, Ok, map, codes, ◌∷◌, string_bytes}
+use Rattle.std.proofs.Common.{sym, subst}
+use Rattle.om_program.specs.Words.{Names}
+use Rattle.om_program.proofs.WordLaws.{no_kind_at_fault, first_and_rest}
+use Rattle.om_program.proofs.command.convert_task.Goals as goal
+
+pub returns-in-empty-clause-usage : goal.returns-in-empty-clause-usage
+returns-in-empty-clause-usage c = no_kind_at_fault _ _ c.in-empty.len_below
+
+pub returns-in-len1-up-clause-task : goal.returns-in-len1-up-clause-task
+returns-in-len1-up-clause-task c = λ task. subst (λ words. (c.convert_to.result ≡ Ok task) ↔ Names (codes "convert" ∷ map string_bytes words) task) (sym (first_and_rest _ _ c.in-len1-up.len_at_least c.word-item.is)) (c.convert_to.ensures.task task)

@@ -1,0 +1,16 @@
+use Rattle.std.proofs.Common.{refl}
+use Rattle.om_program.specs.Meaning.{Means}
+use Rattle.om_program.proofs.MeaningLaws.{whole, cut_off, named_answer, named_cut_off, usage_meant}
+use Rattle.om_program.proofs.run.run.Goals as goal
+
+pub returns-in-Ok-clause-answer : goal.returns-in-Ok-clause-answer
+returns-in-Ok-clause-answer g c = λ answered. named_answer _ _ _ _ _ _ ((c.in-Ok.ensures.task c.in-Ok.task).0 refl) (c.carry_out.ensures.answer answered)
+
+pub returns-in-Ok-clause-cut : goal.returns-in-Ok-clause-cut
+returns-in-Ok-clause-cut g c = λ cut. named_cut_off _ _ _ _ _ ((c.in-Ok.ensures.task c.in-Ok.task).0 refl) (c.carry_out.ensures.cut cut)
+
+pub returns-in-Err-clause-answer : goal.returns-in-Err-clause-answer
+returns-in-Err-clause-answer g c = λ answered. whole (Means _) _ _ _ _ _ _ (usage_meant _ _ _ c.in-Err.ensures.usage) (c.write_usage.ensures.whole answered)
+
+pub returns-in-Err-clause-cut : goal.returns-in-Err-clause-cut
+returns-in-Err-clause-cut g c = λ cut. cut_off (Means _) _ _ _ _ (usage_meant _ _ _ c.in-Err.ensures.usage) (c.write_usage.ensures.cut cut)

@@ -1,0 +1,7 @@
+pub mod Words
+pub mod Texts
+pub mod Axioms
+pub mod Covectors
+pub mod Conversions
+pub mod Meaning
+pub mod Run

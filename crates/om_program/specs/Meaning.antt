@@ -1,0 +1,79 @@
+-- What the words after the program's name and the bytes of its input mean: a status and a text. This is the relation that `run` is
+-- proved against; its cases stand in the order in which they are looked at, and each holds only where none before it does.
+use Rattle.std.specs.Prelude.{ℕ, ◌≡◌, ◌<◌, ◌≤◌, List, length, true, false}
+use Rattle.om_signs.specs.declared.limits.TheConstants.{MAX_INPUT}
+use Rattle.om_signs.specs.declared.sign.Sign.{Sign}
+use Rattle.om_text.specs.declared.code.Code.{Code}
+use Rattle.om_text.specs.declared.document.Document.{Document}
+use Rattle.om_text.specs.Lines.{lines}
+use Rattle.om_text.specs.Document.{IsDocument}
+use Rattle.om_text.specs.Fault.{IsFault}
+use Rattle.om_program.specs.declared.command.Task.{Task}
+use Rattle.om_program.specs.declared.command.Task.TheVariants.{Accept, Member, Convert}
+use Rattle.om_program.specs.declared.line.Line.{Line}
+use Rattle.om_program.specs.declared.line.Line.TheVariants as line
+use Rattle.om_program.specs.declared.status.Status.{Status}
+use Rattle.om_program.specs.declared.status.Status.TheVariants as status
+use Rattle.om_program.specs.Texts.{line_text}
+use Rattle.om_program.specs.Words.{Names, IsUsage}
+use Rattle.om_program.specs.Axioms.{MeetsAxioms, IsRefused}
+use Rattle.om_text.specs.Print.{printed}
+use Rattle.om_program.specs.declared.command.Kind.{Kind}
+use Rattle.om_program.specs.Covectors.{IsCovectorIn}
+use Rattle.om_program.specs.Conversions.{is_built, IsConverted}
+
+-- an answer: a status and a text
+pub record Answer : Type 0 where
+  pub status : Status
+  pub text : List ℕ
+
+-- an answer of one line
+abbrev pub says : Status → Line → Answer
+says s l = record { status = s; text = line_text l }
+
+-- an answer that is a document, in canonical form
+abbrev pub shows : Document → Answer
+shows d = record { status = status.Done; text = printed d }
+
+-- whether a sign vector is a covector, of n elements and these covectors
+pub data IsMembership (n : ℕ) (IsCovector : List Sign → Type 0) (x : List Sign) : Answer → Type 0 where
+  -- it has another number of signs
+  wrong_length : (length x ≡ n → ⊥) → IsMembership n IsCovector x (says status.Refused (line.RefusedLength (length x)))
+  covector : length x ≡ n → IsCovector x → IsMembership n IsCovector x (says status.Done line.Covector)
+  not_covector : length x ≡ n → (IsCovector x → ⊥) → IsMembership n IsCovector x (says status.Done line.NotCovector)
+
+-- a document as one of a kind
+pub data IsConversion (k : Kind) (d : Document) : Answer → Type 0 where
+  -- the canonical form of the converted document
+  converted : (e : Document) → is_built k d.body ≡ true → IsConverted k d e → IsConversion k d (shows e)
+  -- the conversion isn't built yet
+  unbuilt : is_built k d.body ≡ false → IsConversion k d (says status.Refused line.RefusedUnbuilt)
+
+-- the answer to a task on a document that meets its axioms
+abbrev pub IsAnswerOf : Task → Document → Answer → Type 0
+IsAnswerOf Accept d answer = answer ≡ says status.Done line.Accepted
+IsAnswerOf (Member x) d answer = IsMembership d.elements (IsCovectorIn d) x answer
+IsAnswerOf (Convert k) d answer = IsConversion k d answer
+
+-- what a task means for a document
+pub data DocumentMeans (task : Task) (d : Document) : Answer → Type 0 where
+  -- the document fails the axioms of its kind, and this line names the first violated instance
+  refused : (why : Line) → IsRefused d.body why → DocumentMeans task d (says status.Refused why)
+  -- it meets them
+  answered : (answer : Answer) → MeetsAxioms d.body → IsAnswerOf task d answer → DocumentMeans task d answer
+
+-- what a task means for an input
+pub data TaskMeans (task : Task) (bytes : List ℕ) : Answer → Type 0 where
+  -- the input is longer than the limit
+  long : MAX_INPUT < length bytes → TaskMeans task bytes (says status.Refused line.RefusedLong)
+  -- a line is at fault
+  faulty : (n : ℕ) (c : Code) → length bytes ≤ MAX_INPUT → IsFault (lines bytes) n c → TaskMeans task bytes (says status.Refused (line.RefusedLine n c))
+  -- the input is a document
+  read : (d : Document) (answer : Answer) → length bytes ≤ MAX_INPUT → IsDocument (lines bytes) d → DocumentMeans task d answer → TaskMeans task bytes answer
+
+-- what words and an input mean
+pub data Means (words : List (List ℕ)) (bytes : List ℕ) : Answer → Type 0 where
+  -- the words aren't a command, whatever the input
+  usage : (k : ℕ) → IsUsage words k → Means words bytes (says status.Usage (line.Usage k))
+  -- the words name a task
+  named : (task : Task) (answer : Answer) → Names words task → TaskMeans task bytes answer → Means words bytes answer

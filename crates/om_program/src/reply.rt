@@ -1,0 +1,155 @@
+ghost use Rattle.std.specs.Prelude.{◌≡◌, ◌<◌, ◌≤◌, ℕ, List, IfOk, length};
+ghost use Rattle.om_program.specs.Meaning.{TaskMeans, DocumentMeans, IsAnswerOf, IsMembership, IsConversion, says, shows};
+ghost use Rattle.om_program.specs.Axioms.{MeetsAxioms};
+ghost use Rattle.om_program.specs.Covectors.{Represents, IsCovectorIn};
+ghost use Rattle.om_text.specs.Form.{IsInForm};
+ghost use Rattle.om_text.specs.declared.document.Document.{Document};
+ghost use Rattle.om_program.specs.Run.{IsAnswered};
+
+use crate::command::{Kind, Task};
+use crate::conversion::converted;
+use crate::line::{Line, print_line};
+use crate::representation::{Representation, represented};
+use crate::status::Status;
+use om_oriented::Oriented;
+use om_signs::{MAX_INPUT, NoMemory, SignVec};
+use om_text::{Document, ParseError, parse, print};
+use std::alloc::Global;
+use std::thread::Threads;
+
+/// A whole answer: how the run is to end, and its text.
+#[derive(Drop)]
+pub struct Reply {
+    pub status: Status,
+    pub text: Vec<u8>,
+}
+
+/// An answer of one line.
+fn say(alloc: Global, status: Status, line: Line) -> Result<Reply, NoMemory>
+    ensures { IfOk result (λ reply. record { status = reply.status; text = reply.text.items } ≡ says status line) }
+{
+    let text = print_line(alloc, &line)?;
+    Ok(Reply { status, text })
+}
+
+/// The answer to a task on an input within the limit.
+pub fn reply_to<R: Threads + Sync>(
+    rt: &R,
+    alloc: Global,
+    task: Task,
+    bytes: &[u8],
+) -> Result<Reply, NoMemory>
+    requires { length bytes.now ≤ MAX_INPUT }
+    ensures meant { IfOk result (λ reply. TaskMeans task bytes.now (record { status = reply.status; text = reply.text.items })) }
+    ensures answered { IfOk result (λ reply. IsAnswered reply.status) }
+{
+    match parse(alloc, bytes) {
+        Ok(document) => reply_to_document(rt, alloc, task, document),
+        Err(ParseError::Line { line, code }) => {
+            say(alloc, Status::Refused, Line::RefusedLine { line, code })
+        }
+        Err(ParseError::Memory) => Err(NoMemory),
+    }
+}
+
+/// The answer to an input past the limit.
+pub fn refuse_long(alloc: Global) -> Result<Reply, NoMemory>
+    ensures meant { IfOk result (λ reply. (task : Task) (bytes : List ℕ) → MAX_INPUT < length bytes → TaskMeans task bytes (record { status = reply.status; text = reply.text.items })) }
+    ensures answered { IfOk result (λ reply. IsAnswered reply.status) }
+{
+    say(alloc, Status::Refused, Line::RefusedLong)
+}
+
+/// The answer to a task on a document.
+fn reply_to_document<R: Threads + Sync>(
+    rt: &R,
+    alloc: Global,
+    task: Task,
+    document: Document,
+) -> Result<Reply, NoMemory>
+    requires { IsInForm document }
+    ensures meant { IfOk result (λ reply. DocumentMeans task document (record { status = reply.status; text = reply.text.items })) }
+    ensures answered { IfOk result (λ reply. IsAnswered reply.status) }
+{
+    match represented(rt, document) {
+        Ok(representation) => reply_to_representation(alloc, task, representation),
+        Err(why) => say(alloc, Status::Refused, why),
+    }
+}
+
+/// The answer to a task on an oriented matroid.
+fn reply_to_representation(
+    alloc: Global,
+    task: Task,
+    representation: Representation,
+) -> Result<Reply, NoMemory>
+    ensures meant { IfOk result (λ reply. (d : Document) → Represents d representation → MeetsAxioms d.body → IsAnswerOf task d (record { status = reply.status; text = reply.text.items })) }
+    ensures answered { IfOk result (λ reply. IsAnswered reply.status) }
+{
+    match task {
+        Task::Accept => say(alloc, Status::Done, Line::Accepted),
+        Task::Member(x) => reply_to_member(alloc, &representation, x),
+        Task::Convert(kind) => reply_to_convert(alloc, representation, kind),
+    }
+}
+
+/// Whether a sign vector is a covector of an oriented matroid.
+fn reply_to_member(
+    alloc: Global,
+    representation: &Representation,
+    x: SignVec,
+) -> Result<Reply, NoMemory>
+    ensures meant { IfOk result (λ reply. (d : Document) → Represents d representation.now → IsMembership d.elements (IsCovectorIn d) x (record { status = reply.status; text = reply.text.items })) }
+    ensures answered { IfOk result (λ reply. IsAnswered reply.status) }
+{
+    match representation {
+        Representation::Chirotope(chirotope) => membership(alloc, chirotope, x),
+        Representation::Circuits(circuits) => membership(alloc, circuits, x),
+        Representation::Cocircuits(cocircuits) => membership(alloc, cocircuits, x),
+        Representation::Covectors(covectors) => membership(alloc, covectors, x),
+    }
+}
+
+/// Whether a sign vector is a covector.
+fn membership<M: Oriented>(alloc: Global, oriented: &M, x: SignVec) -> Result<Reply, NoMemory>
+    ensures meant { IfOk result (λ reply. IsMembership (M.elements oriented.now) (M.is_covector oriented.now) x (record { status = reply.status; text = reply.text.items })) }
+    ensures answered { IfOk result (λ reply. IsAnswered reply.status) }
+{
+    if x.len() != oriented.elements() {
+        let given = u32::from(x.len());
+        return say(alloc, Status::Refused, Line::RefusedLength { given });
+    }
+    if oriented.is_covector(x) {
+        say(alloc, Status::Done, Line::Covector)
+    } else {
+        say(alloc, Status::Done, Line::NotCovector)
+    }
+}
+
+/// The document of a kind that denotes the same oriented matroid.
+fn reply_to_convert(
+    alloc: Global,
+    representation: Representation,
+    kind: Kind,
+) -> Result<Reply, NoMemory>
+    ensures meant { IfOk result (λ reply. (d : Document) → Represents d representation → MeetsAxioms d.body → IsConversion kind d (record { status = reply.status; text = reply.text.items })) }
+    ensures answered { IfOk result (λ reply. IsAnswered reply.status) }
+{
+    match converted(alloc, representation, kind) {
+        Ok(Some(document)) => show(alloc, &document),
+        Ok(None) => say(alloc, Status::Refused, Line::RefusedUnbuilt),
+        Err(NoMemory) => Err(NoMemory),
+    }
+}
+
+/// An answer that is a document, in canonical form.
+fn show(alloc: Global, document: &Document) -> Result<Reply, NoMemory>
+    requires { IsInForm document.now }
+    ensures { IfOk result (λ reply. record { status = reply.status; text = reply.text.items } ≡ shows document.now) }
+{
+    let text = print(alloc, document)?;
+    Ok(Reply {
+        status: Status::Done,
+        text,
+    })
+}

@@ -1,0 +1,139 @@
+ghost use Rattle.std.specs.Prelude.{◌≡◌, ◌↔◌, ◌≤◌, length, IsOk, IfOk, IfErr};
+ghost use Rattle.om_text.specs.Form.{IsInForm, AreMembersOn};
+ghost use Rattle.om_circuits.specs.Axioms.{MeetsCircuitAxioms};
+ghost use Rattle.om_covectors.specs.Axioms.{MeetsCovectorAxioms};
+ghost use Rattle.om_program.specs.Axioms.{MeetsAxioms, IsRefused, IsMapRefused, IsSetRefused, IsCovRefused, map_line, set_line, cov_line};
+ghost use Rattle.om_chirotope.specs.Map.{map_of};
+ghost use Rattle.om_chirotope.specs.Chirotope.{IsChirotope};
+ghost use Rattle.om_text.specs.Form.{IsMapOn};
+ghost use Rattle.om_program.specs.Covectors.{Represents};
+
+use crate::line::Line;
+use om_chirotope::{Chirotope, MapRefused};
+use om_circuits::{Circuits, Cocircuits, SetRefused, SignedSet};
+use om_covectors::{CovRefused, Covectors};
+use om_signs::{List, MAX_ELEMENTS, RawMap, SignVec};
+use om_text::{Body, Document};
+use std::thread::Threads;
+
+/// An oriented matroid, in the way in which a document gives it.
+#[derive(Drop)]
+pub enum Representation {
+    Chirotope(Chirotope),
+    Circuits(Circuits),
+    Cocircuits(Cocircuits),
+    Covectors(Covectors),
+}
+
+/// The oriented matroid that a document gives, where it meets the axioms of its kind, and else the line that names the
+/// first violated instance.
+pub fn represented<R: Threads + Sync>(rt: &R, document: Document) -> Result<Representation, Line>
+    requires { IsInForm document }
+    ensures accepted { IsOk result ↔ MeetsAxioms document.body }
+    ensures value { IfOk result (Represents document) }
+    ensures refused { IfErr result (IsRefused document.body) }
+{
+    let Document { elements, body } = document;
+    match body {
+        Body::Chirotope(raw) => Ok(Representation::Chirotope(chirotope(rt, raw)?)),
+        Body::Circuits(list) => {
+            let set = signed_set(rt, elements, list)?;
+            Ok(Representation::Circuits(Circuits(set)))
+        }
+        Body::Cocircuits(list) => {
+            let set = signed_set(rt, elements, list)?;
+            Ok(Representation::Cocircuits(Cocircuits(set)))
+        }
+        Body::Covectors(list) => {
+            let covectors = covector_set(rt, elements, list)?;
+            Ok(Representation::Covectors(covectors))
+        }
+    }
+}
+
+/// The chirotope of a map, or the line that refuses the map.
+fn chirotope<R: Threads + Sync>(rt: &R, raw: RawMap) -> Result<Chirotope, Line>
+    requires low { 1 ≤ raw.elements }
+    requires high { raw.elements ≤ MAX_ELEMENTS }
+    requires whole { IsMapOn raw.elements raw }
+    ensures accepted { IsOk result ↔ IsChirotope (map_of raw) }
+    ensures value { IfOk result (λ c. c ≡ map_of raw) }
+    ensures refused { IfErr result (IsMapRefused raw) }
+{
+    match om_chirotope::check(rt, raw) {
+        Ok(chirotope) => Ok(chirotope),
+        Err(bad) => Err(map_refusal(bad.why)),
+    }
+}
+
+/// The line that says why a map is no chirotope.
+fn map_refusal(why: MapRefused) -> Line
+    ensures { result ≡ map_line why }
+{
+    match why {
+        MapRefused::AllZero => Line::RefusedAllzero,
+        MapRefused::Relation { s, a } => Line::RefusedRelation { s, a },
+    }
+}
+
+/// The set of the members of a list, or the line that refuses the list.
+fn signed_set<R: Threads + Sync>(
+    rt: &R,
+    elements: u8,
+    list: List<SignVec>,
+) -> Result<SignedSet, Line>
+    requires low { 1 ≤ elements }
+    requires high { elements ≤ MAX_ELEMENTS }
+    requires members { AreMembersOn elements list }
+    ensures accepted { IsOk result ↔ MeetsCircuitAxioms list }
+    ensures value { IfOk result (λ set. set ≡ record { elements = elements; members = list }) }
+    ensures refused { IfErr result (IsSetRefused list) }
+{
+    match om_circuits::check(rt, elements, list) {
+        Ok(set) => Ok(set),
+        Err(bad) => Err(set_refusal(bad.why)),
+    }
+}
+
+/// The line that names a violated instance of the axioms of circuits.
+fn set_refusal(why: SetRefused) -> Line
+    ensures { result ≡ set_line why }
+{
+    match why {
+        SetRefused::Zero { i } => Line::RefusedZero { i },
+        SetRefused::NoNegative { i } => Line::RefusedNonegative { i },
+        SetRefused::Nested { i, j } => Line::RefusedNested { i, j },
+        SetRefused::NoElimination { i, j, e } => Line::RefusedNoelimination { i, j, e },
+    }
+}
+
+/// The covectors of a list, or the line that refuses the list.
+fn covector_set<R: Threads + Sync>(
+    rt: &R,
+    elements: u8,
+    list: List<SignVec>,
+) -> Result<Covectors, Line>
+    requires low { 1 ≤ elements }
+    requires high { elements ≤ MAX_ELEMENTS }
+    requires members { AreMembersOn elements list }
+    ensures accepted { IsOk result ↔ MeetsCovectorAxioms list }
+    ensures value { IfOk result (λ set. set ≡ record { elements = elements; members = list }) }
+    ensures refused { IfErr result (IsCovRefused list) }
+{
+    match om_covectors::check(rt, elements, list) {
+        Ok(set) => Ok(set),
+        Err(bad) => Err(covector_refusal(bad.why)),
+    }
+}
+
+/// The line that names a violated instance of the axioms of covectors.
+fn covector_refusal(why: CovRefused) -> Line
+    ensures { result ≡ cov_line why }
+{
+    match why {
+        CovRefused::NoZero => Line::RefusedNozero,
+        CovRefused::NoNegative { i } => Line::RefusedNonegative { i },
+        CovRefused::NoComposition { i, j } => Line::RefusedNocomposition { i, j },
+        CovRefused::NoElimination { i, j, e } => Line::RefusedNoelimination { i, j, e },
+    }
+}

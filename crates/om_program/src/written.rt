@@ -1,0 +1,22 @@
+ghost use Rattle.std.specs.Prelude.{◌≡◌, ◌⊎◌, ◌≤◌};
+ghost use Rattle.std.specs.Io.KnownBytes.{Appends};
+ghost use Rattle.om_port.specs.Causes.{Rose};
+ghost use Rattle.om_program.specs.Run.{IsAnswered, IsFront};
+
+use crate::status::Status;
+use om_port::{Sink, write_all};
+
+/// Writes an answer whole, and ends with its status, or with a write fault where only a part was taken.
+pub fn written<K: Sink>(sink: &mut K, text: &[u8], status: Status) -> Status
+    requires { IsAnswered status }
+    ensures whole { IsAnswered result → (result ≡ status) × Appends (K.taken sink.old) (K.taken sink.new) text.now }
+    ensures cut { result ≡ Status.WriteFault → IsFront (K.taken sink.old) (K.taken sink.new) text.now }
+    ensures fault { result ≡ Status.WriteFault → Rose (K.faults sink.old) (K.faults sink.new) }
+    ensures no_other { (result ≡ status) ⊎ (result ≡ Status.WriteFault) }
+    ensures later { K.faults sink.old ≤ K.faults sink.new }
+{
+    match write_all(sink, text) {
+        Ok(()) => status,
+        Err(_) => Status::WriteFault,
+    }
+}
