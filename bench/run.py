@@ -1,0 +1,152 @@
+#!/usr/bin/env python3
+"""bench/run.py [--runs N]
+
+Builds the program and times it, the whole process each time, on inputs that it makes itself. Prints a table: the least
+time of N runs (5), the rate, the rate or time asked for, and how many times better than asked the measured one is.
+"""
+import argparse
+import itertools
+import math
+import os
+import subprocess
+import sys
+import tempfile
+import time
+
+TOP = os.path.dirname(os.path.dirname(os.path.abspath(__file__)))
+PROGRAM = os.path.join(TOP, "crates", "om_program", "out", "om_program")
+
+
+def chirotope(rank, elements, signs):
+    return ("om 1\nchirotope %d %d\n%s\nend\n" % (rank, elements, signs)).encode()
+
+
+def alternating(rank, elements):
+    """The uniform chirotope all of whose values are plus."""
+    return chirotope(rank, elements, "+" * math.comb(elements, rank))
+
+
+def pairs(rank, elements):
+    """The pairs of sets that a scan of the axioms looks at."""
+    return math.comb(elements, rank + 1) * math.comb(elements, rank - 1)
+
+
+def circuits_of_alternating(rank, elements):
+    """The circuits of the uniform chirotope all of whose values are plus."""
+    lines = ["om 1", "circuits %d" % elements]
+    for members in itertools.combinations(range(elements), rank + 1):
+        for turn in (0, 1):
+            signs = ["0"] * elements
+            for place, e in enumerate(members):
+                signs[e] = "-+"[(place + turn) % 2]
+            lines.append("".join(signs))
+    lines.append("end")
+    return ("\n".join(lines) + "\n").encode()
+
+
+def covectors_of_alternating(elements):
+    """The covectors of the uniform chirotope of rank 3 all of whose values are plus: its cocircuits, composed."""
+    def value(tuple_):
+        sign = 1
+        for i in range(3):
+            for j in range(i + 1, 3):
+                if tuple_[i] == tuple_[j]:
+                    return 0
+                if tuple_[i] > tuple_[j]:
+                    sign = -sign
+        return sign
+
+    cocircuits = set()
+    for a, b in itertools.combinations(range(elements), 2):
+        along = tuple(value((a, b, e)) for e in range(elements))
+        cocircuits |= {along, tuple(-s for s in along)}
+    found = {(0,) * elements}
+    open_ = list(found)
+    while open_:
+        x = open_.pop()
+        for y in cocircuits:
+            z = tuple(s if s else t for s, t in zip(x, y))
+            if z not in found:
+                found.add(z)
+                open_.append(z)
+    lines = ["".join("-0+"[s + 1] for s in x) for x in sorted(found)]
+    return len(lines), ("om 1\ncovectors %d\n%s\nend\n" % (elements, "\n".join(lines))).encode()
+
+
+def comments(size):
+    """An input of comment lines."""
+    line = b"# " + b"a comment " * 7 + b"\n"
+    head = chirotope(3, 4, "++++")
+    return head + line * ((size - len(head)) // len(line))
+
+
+def sign_lines(size):
+    """A map of 12,870 values, one on a line and each behind blanks, so many that the input has about this size."""
+    signs = math.comb(16, 8)
+    line = b" " * (size // signs - 2) + b"+\n"
+    return b"om 1\nchirotope 8 16\n" + line * signs + b"end\n"
+
+
+def least_time(words, data, runs, wanted):
+    """The least time of some runs, each of which has to write what is wanted."""
+    best = None
+    with tempfile.TemporaryFile() as held:
+        held.write(data)
+        for _ in range(runs):
+            held.seek(0)
+            start = time.perf_counter()
+            done = subprocess.run([PROGRAM] + words, stdin=held, capture_output=True)
+            took = time.perf_counter() - start
+            if done.stdout != wanted:
+                sys.exit("%s answered %r" % (" ".join(words), done.stdout[:200]))
+            best = took if best is None else min(best, took)
+    return best
+
+
+def row(name, took, amount, unit, asked_rate=None, asked_time=None):
+    rate = "%.1f %s" % (amount / took, unit) if unit else ""
+    if asked_rate is not None:
+        asked, ratio = "%.1f %s" % (asked_rate, unit), amount / took / asked_rate
+    elif asked_time is not None:
+        asked, ratio = "%.4f s" % asked_time, asked_time / took
+    else:
+        asked, ratio = "", None
+    print("%-58s %9.4f s  %18s  %18s  %s" % (name, took, rate, asked, "" if ratio is None else "%.2f" % ratio))
+
+
+def main():
+    parser = argparse.ArgumentParser(description=__doc__, formatter_class=argparse.RawDescriptionHelpFormatter)
+    parser.add_argument("--runs", type=int, default=5)
+    runs = parser.parse_args().runs
+
+    small = alternating(3, 4)
+    built = subprocess.run([os.path.join(TOP, "om"), "accept"], input=small, capture_output=True)
+    if built.returncode != 0:
+        sys.exit("the program wasn't built:\n" + built.stderr.decode())
+
+    accepted = b"accepted\n"
+    print("%-58s %11s  %18s  %18s  %s" % ("accept", "least time", "rate", "asked", "ratio"))
+    start = least_time(["accept"], small, runs * 4, accepted)
+    row("chirotope 3 4: process start and a small document", start, 1, "", asked_time=0.001)
+    for rank, elements, asked in ((3, 16, None), (8, 16, 200.0)):
+        took = least_time(["accept"], alternating(rank, elements), runs, accepted)
+        row("chirotope %d %d, all plus: %d pairs" % (rank, elements, pairs(rank, elements)), took,
+            pairs(rank, elements) / 1e6, "M pairs/s", asked_rate=asked)
+    for rank, elements, asked in ((3, 8, 0.01), (3, 12, 10.0), (7, 12, 10.0)):
+        document = circuits_of_alternating(rank, elements)
+        took = least_time(["accept"], document, runs, accepted)
+        row("%d circuits of rank %d on %d elements" % (2 * math.comb(elements, rank + 1), rank, elements), took, 1, "",
+            asked_time=asked)
+    count, document = covectors_of_alternating(16)
+    took = least_time(["accept"], document, runs, accepted)
+    row("%d covectors of rank 3 on 16 elements" % count, took, 1, "", asked_time=10.0)
+    size = 1000000
+    took = least_time(["accept"], comments(size), runs, accepted)
+    row("1 MB of comment lines, without process start", max(took - start, 1e-5), size / 1e6, "MB/s", asked_rate=100.0)
+    scan = least_time(["accept"], alternating(8, 16), runs, accepted)
+    took = least_time(["accept"], sign_lines(size), runs, accepted)
+    row("1 MB of lines of signs and blanks, without the scan", max(took - scan, 1e-5), size / 1e6, "MB/s", asked_rate=50.0)
+
+
+if __name__ == "__main__":
+    main()
