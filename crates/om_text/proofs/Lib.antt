@@ -5,6 +5,8 @@ pub mod Completion
 pub mod Outcome
 pub mod Scan
 pub mod Digits
+pub mod Coordinates
+pub mod Part
 pub mod Numbers
 pub mod Forms
 pub mod Sorting

@@ -2,7 +2,7 @@
 
 ghost use Rattle.std.specs.Prelude.{◌≡◌, ℕ, ◌+◌, ◌<◌, ◌≤◌, ◌∷◌, [], length, nat_eq, not, ◌||◌, MatchOption, IfSome, bytes_eq};
 ghost use Rattle.std.specs.List.{position, position_or_len, list_all};
-ghost use Rattle.om_text.specs.Lines.{lines, uncommented, runs, is_blank, has_any};
+ghost use Rattle.om_text.specs.Lines.{lines, IsSplit, uncommented, runs, is_blank, has_any};
 
 pub fn same(word: &[u8], text: &[u8]) -> bool
     ensures { result ≡ bytes_eq word.now text.now }
@@ -25,10 +25,11 @@ pub fn len_before(bytes: &[u8], byte: u8) -> usize
     byte_place(bytes, byte).unwrap_or(bytes.len())
 }
 
-/// The first line, and the bytes after it.
+/// The first line without its line feed, and the bytes after it. There are some bytes.
 pub fn first_line(bytes: &[u8]) -> (&[u8], &[u8])
     requires { 0 < length bytes.now }
     ensures lines { lines bytes.now ≡ result.0.now ∷ lines result.1.now }
+    ensures split { IsSplit bytes.now result.0.now result.1.now }
     ensures shorter { length result.1.now < length bytes.now }
 {
     let end = len_before(bytes, b'\n');
