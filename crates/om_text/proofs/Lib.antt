@@ -14,6 +14,7 @@ pub mod Joined
 pub mod Small
 mod Samples
 mod ListSamples
+mod PointSamples
 pub mod Printing
 pub mod Texts
 pub mod Numerals

@@ -1,4 +1,4 @@
-//! What words spell.
+//! What words spell: numbers and signs.
 
 ghost use Rattle.std.specs.Prelude.{◌≡◌, ℕ, ◌+◌, ◌-◌, ◌*◌, ◌^◌, ◌<◌, ◌≤◌, ◌∷◌, [], length, true, IfSome, unsigned_abs};
 ghost use Rattle.std.specs.List.{list_all};
@@ -6,7 +6,7 @@ ghost use Rattle.om_text.specs.Words.{is_digit, is_decimal, is_plain, plain, num
 
 use om_signs::Sign;
 
-pub fn is_digit_byte(byte: u8) -> bool
+fn is_digit_byte(byte: u8) -> bool
     ensures { result ≡ is_digit byte }
 {
     b'0' <= byte && byte <= b'9'
@@ -126,13 +126,13 @@ pub fn signed_number(word: &[u8], limit: u128) -> Option<i128>
     }
 }
 
-pub fn is_sign_byte(byte: u8) -> bool
+pub(crate) fn is_sign_byte(byte: u8) -> bool
     ensures { result ≡ is_sign byte }
 {
     byte == b'+' || byte == b'-' || byte == b'0'
 }
 
-pub fn sign_of(byte: u8) -> Sign
+pub(crate) fn sign_of(byte: u8) -> Sign
     ensures { result ≡ sign_of_byte byte }
 {
     if byte == b'+' {
