@@ -1,8 +1,8 @@
 -- The words of a line of points as the code has them, and the text of a point.
 --
 -- Main results: short_point, no_first, no_second, no_third, point_read, point_bytes
-use Rattle.std.proofs.Common.{◌≡◌, ◌<◌, ℕ, List, [], ◌∷◌, ◌++◌, true, false, get_or, map, refl, sym, ap, subst, ◌∙◌, arith, append_assoc}
-use Rattle.std.specs.Prelude.{ℤ, pos, unsigned_abs, Option, Some, None, IfSome, FitsSigned, not}
+use Rattle.std.proofs.Common.{◌≡◌, ℕ, List, [], ◌∷◌, ◌++◌, true, false, get_or, refl, sym, ap, subst, ◌∙◌, arith, append_assoc}
+use Rattle.std.specs.Prelude.{ℤ, pos, unsigned_abs, Option, Some, None, IfSome, not}
 use Rattle.std.specs.Fmt.{signed_decimal}
 use Rattle.std.proofs.lemmas.Int.{to_z-of_z, fits_signed_from_abs}
 use Rattle.std.proofs.lemmas.List.Elements.{All-head, All-tail}
@@ -10,7 +10,7 @@ use Rattle.om_signs.specs.declared.limits.TheConstants.{MAX_COORDINATE}
 use Rattle.om_text.specs.Lines.{has_any}
 use Rattle.om_text.specs.Points.{coordinate, with_three, point_of}
 use Rattle.om_text.specs.Form.{IsCoordinate, IsPoint}
-use Rattle.om_text.specs.Print.{text_of, spaced, point_lines}
+use Rattle.om_text.specs.Print.{text_of, point_lines}
 use Rattle.om_text.proofs.Digits.{signed_within}
 use mir.Syntax.{w64}
 use mir.Val.{to_z, of_z}

@@ -2,7 +2,7 @@
 --
 -- Main definitions: is_one_line
 -- Main results: lines_text, lines_one_line
-use Rattle.std.proofs.Common.{◌≡◌, ℕ, zero, suc, List, [], ◌∷◌, ◌++◌, Bool, true, false, not, ◌&&◌, take, refl, ap, ◌∙◌, inl, inr, nat_eq}
+use Rattle.std.proofs.Common.{◌≡◌, ℕ, zero, suc, List, [], ◌∷◌, ◌++◌, Bool, true, false, not, take, refl, ap, ◌∙◌, inl, inr, nat_eq}
 use Rattle.std.specs.List.{list_all}
 use Rattle.std.proofs.lemmas.List.Folds.{list_all-append}
 use Rattle.om_text.specs.Lines.{lines, with_first}

@@ -2,7 +2,7 @@
 --
 -- Main definitions: IsRead
 -- Main results: read_start, read_more, read_part, same_part, part_no_fault, whole_refused, front_refused, whole_unfinished, front_unfinished, whole_document, front_part, front_form, front_fault, front_every, front_first
-use Rattle.std.proofs.Common.{◌≡◌, ◌⊎◌, inl, inr, ℕ, zero, suc, ◌+◌, ◌-◌, ◌<◌, ◌≤◌, min, List, [], ◌∷◌, ◌++◌, Bool, true, false, cond, length, take, drop, refl, sym, ap, subst, ◌∙◌, arith, append_assoc, append-nil, length-append}
+use Rattle.std.proofs.Common.{◌≡◌, ◌⊎◌, inl, inr, ℕ, ◌+◌, ◌-◌, ◌<◌, ◌≤◌, min, List, [], ◌∷◌, ◌++◌, Bool, true, false, cond, length, take, drop, refl, sym, ap, subst, ◌∙◌, arith, append_assoc, append-nil, length-append}
 use Rattle.std.specs.Prelude.{◌≢◌, Option, Some, None, Result, Ok, Err, IfOk, is_none}
 use Rattle.std.specs.List.{list_all}
 use Rattle.std.proofs.lemmas.Bool.{cases_lt}
@@ -23,7 +23,7 @@ use Rattle.om_text.specs.declared.parse_error.ParseError.{ParseError}
 use Rattle.om_text.specs.declared.parse_error.ParseError.TheVariants as error
 use Rattle.om_text.specs.Part.{EndsWithEnd, IsPart}
 use Rattle.om_text.specs.Print.{text_of}
-use Rattle.om_text.specs.Reading.{step, advance, after_kind, with_heading, after_body, after_end, added, is_closed, outcome}
+use Rattle.om_text.specs.Reading.{step, advance, with_heading, after_body, after_end, added, is_closed, outcome}
 use Rattle.om_text.specs.Steps.{step_if}
 use Rattle.om_text.specs.Added.{Gives, fault_at, IsWhole, IsFront}
 use Rattle.om_text.specs.declared.refusal.Refusal.{Refusal}

@@ -1,6 +1,6 @@
 -- The definitions at small inputs: signed numbers, documents of points, and their faults.
 use Rattle.std.proofs.Common.{◌≡◌, List, [], ◌∷◌, ℕ, refl}
-use Rattle.std.specs.Prelude.{ℤ, pos, negsuc, codes, Option, Some, None}
+use Rattle.std.specs.Prelude.{pos, negsuc, codes, Some, None}
 use Rattle.om_text.specs.declared.body.Body.TheVariants.{Points}
 use Rattle.om_text.specs.declared.code.Code.TheVariants as code
 use Rattle.std.specs.Fmt.{digits}

@@ -173,12 +173,12 @@ fn push_body(out: &mut Vec<u8>, body: &Body, elements: u8) -> Result<(), NoMemor
 }
 
 /// The canonical form of a document: the line `om 1`, the kind line with single spaces, the body and the line `end`. The
-/// values of a map stand in lines of 64 and a last shorter line, and the members of a list one a line, sorted by the first
-/// place where they differ, with `-` before `0` before `+`.
+/// values of a map stand in lines of 64 and a last shorter line, the members of a list one a line, sorted by the first
+/// place where they differ, with `-` before `0` before `+`, and the points one a line in their order, with single spaces.
 ///
 /// The document has the forms and is within the limits that [`crate::parse`] promises: its numbers are in range, a map has
-/// a value for each set of its rank, and the members of a list are different and have a sign for each element. Reading the canonical form gives it
-/// back with its members sorted.
+/// a value for each set of its rank, the members of a list are different and have a sign for each element, and there is a
+/// point for each element. Reading the canonical form gives it back with its members sorted.
 pub fn print(alloc: Global, document: &Document) -> Result<Vec<u8>, NoMemory>
     requires form { IsInForm document.now }
     ensures bytes { IfOk result (λ bytes. bytes.items ≡ printed document.now) }

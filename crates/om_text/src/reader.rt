@@ -200,9 +200,11 @@ fn whole(alloc: Global, bytes: &[u8]) -> Result<Document, ParseError>
 ///
 /// The bytes are split into lines at line feeds. In a line, everything from the first `#` on is a comment, and the words
 /// are the longest runs of bytes other than space, tab and carriage return; a line without words is passed over. The lines
-/// with words are `om 1`, a kind line (`chirotope r n`, `circuits n`, `cocircuits n` or `covectors n`), body lines of the
-/// signs `+`, `-` and `0`, and `end`. A map has exactly one sign for each set of `r` elements, joined over all body lines;
-/// a list has one member of `n` signs a line, and a repeated line adds nothing.
+/// with words are `om 1`, a kind line (`chirotope r n`, `circuits n`, `cocircuits n`, `covectors n` or `points n`), body
+/// lines, and `end`. The body of a map or a list has the signs `+`, `-` and `0`: a map exactly one for each set of `r`
+/// elements, joined over all body lines; a list one member of `n` signs a line, and a repeated line adds nothing. Points
+/// have exactly `n` lines of three numbers of a size of at most [`om_signs::MAX_COORDINATE`]: decimal digits without a
+/// leading zero, with or without a `-` before them, and `0` without one.
 ///
 /// # Errors
 ///

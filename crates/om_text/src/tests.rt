@@ -290,7 +290,7 @@ fn documents_at_the_front(rt: HostRuntime) -> Result<(), Fail> {
             alloc,
             b"om 1\npoints 1\n1 0 0\nend\nrealizable\n",
             form,
-            25,
+            24,
             4
         )
     );
@@ -299,7 +299,7 @@ fn documents_at_the_front(rt: HostRuntime) -> Result<(), Fail> {
             alloc,
             b"om 1\npoints 1\n1 0 0\nend\n# end\n\nend\n",
             form,
-            25,
+            24,
             4
         )
     );

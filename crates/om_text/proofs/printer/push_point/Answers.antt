@@ -1,5 +1,4 @@
-use Rattle.std.proofs.Common.{ap, ◌∙◌, ◌++◌}
-use Rattle.om_text.specs.Print.{text_of, point_lines}
+use Rattle.std.proofs.Common.{◌∙◌}
 use Rattle.om_text.proofs.Coordinates.{point_bytes}
 use Rattle.om_text.proofs.Printing.{pushed}
 use Rattle.om_text.proofs.printer.push_point.Goals as goal
