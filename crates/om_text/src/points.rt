@@ -1,6 +1,6 @@
 //! The lines of points.
 
-ghost use Rattle.std.specs.Prelude.{◌≡◌, ◌<◌, ◌≤◌, ◌∷◌, [], length};
+ghost use Rattle.std.specs.Prelude.{◌≡◌};
 ghost use Rattle.om_text.specs.Lines.{runs};
 ghost use Rattle.om_text.specs.Points.{coordinate, point_of};
 
