@@ -1,10 +1,10 @@
 //! The lines of a body.
 
-ghost use Rattle.std.specs.Prelude.{◌≡◌, ℕ, ◌+◌, ◌-◌, ◌<◌, ◌≤◌, ◌∷◌, [], ◌++◌, ◌||◌, ◌&&◌, length, not, map, true, is_some, filter, count_by, OnOk, IfOk, IsTrue, ◌↔◌};
+ghost use Rattle.std.specs.Prelude.{◌≡◌, ℕ, ◌+◌, ◌-◌, ◌<◌, ◌≤◌, ◌++◌, ◌||◌, length, not, map, true, is_some, filter, count_by, OnOk, IsTrue, ◌↔◌};
 ghost use Rattle.std.specs.List.{list_all, list_any, concat};
 ghost use Rattle.om_text.specs.Lines.{runs, is_blank};
-ghost use Rattle.om_text.specs.Words.{is_sign, sign_of_byte};
-ghost use Rattle.om_text.specs.Points.{point_of, point_on};
+ghost use Rattle.om_text.specs.Words.{is_sign};
+ghost use Rattle.om_text.specs.Points.{point_of};
 ghost use Rattle.om_text.specs.Document.{are_signs, signs_of_line, has_signs_in, has_length_in, has_numbers_in};
 ghost use Rattle.om_text.specs.Rows.{same_row};
 ghost use Rattle.om_text.specs.Reading.{with_member, added_body};

@@ -1,6 +1,6 @@
 //! The kind line.
 
-ghost use Rattle.std.specs.Prelude.{◌≡◌, ℕ, ◌+◌, ◌<◌, ◌≤◌, ◌∷◌, [], ◌++◌, length, bytes_eq, codes, option_map, IfSome, IfNone, Some, None};
+ghost use Rattle.std.specs.Prelude.{◌≡◌, ℕ, ◌<◌, [], IfSome, IfNone, Some, None};
 ghost use Rattle.om_text.specs.Lines.{runs};
 ghost use Rattle.om_text.specs.Words.{plain};
 ghost use Rattle.om_text.specs.Heading.{is_unbuilt, named_kind, plain_numbers, sizes, numbers, headed, rank_of_body, empty_body};

@@ -3,7 +3,7 @@
 //! A line is a run of bytes between line feeds; a last one that no line feed ends counts where it isn't empty. Everything in
 //! it from the first `#` on is a comment. Its words are the longest runs of bytes other than space, tab and carriage return.
 
-ghost use Rattle.std.specs.Prelude.{◌≡◌, ℕ, ◌+◌, ◌<◌, ◌≤◌, ◌∷◌, [], length, nat_eq, not, ◌||◌, MatchOption, IfSome, bytes_eq};
+ghost use Rattle.std.specs.Prelude.{◌≡◌, ◌+◌, ◌<◌, ◌≤◌, ◌∷◌, [], length, nat_eq, not, ◌||◌, MatchOption, IfSome, bytes_eq};
 ghost use Rattle.std.specs.List.{position, position_or_len, list_all};
 ghost use Rattle.om_text.specs.Lines.{lines, IsSplit, uncommented, runs, is_blank, has_any};
 

@@ -1,15 +1,14 @@
 //! The canonical form.
 
-ghost use Rattle.std.specs.Prelude.{◌≡◌, ℕ, ◌+◌, ◌<◌, ◌≤◌, ◌^◌, ◌-◌, ℤ, ◌∷◌, [], ◌++◌, length, map, All, OnOk, IfOk, codes, decimal};
+ghost use Rattle.std.specs.Prelude.{◌≡◌, ◌+◌, ◌<◌, ◌-◌, ◌∷◌, [], ◌++◌, map, All, OnOk, IfOk, codes, decimal};
 ghost use Rattle.om_text.specs.declared.document.Document.{Document};
 ghost use Rattle.om_text.specs.Words.{byte_of};
 ghost use Rattle.om_text.specs.Lines.{lines};
-ghost use Rattle.om_text.specs.Heading.{kind_name};
 ghost use Rattle.om_text.specs.Rows.{sorted};
 ghost use Rattle.om_text.specs.Document.{IsDocument};
 ghost use Rattle.om_text.specs.Form.{IsPoint, IsBodyOn, IsInForm};
 ghost use Rattle.std.specs.Fmt.{signed_decimal};
-ghost use Rattle.om_text.specs.Print.{text_of, sign_lines, member_lines, spaced, point_lines, body_lines, kind_text, printed, sorted_document};
+ghost use Rattle.om_text.specs.Print.{text_of, sign_lines, member_lines, point_lines, body_lines, kind_text, printed, sorted_document};
 
 use super::body::Body;
 use super::document::Document;

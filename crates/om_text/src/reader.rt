@@ -6,7 +6,7 @@ ghost use Rattle.om_text.specs.declared.code.Code.{Code};
 ghost use Rattle.om_text.specs.Lines.{runs, lines};
 ghost use Rattle.om_text.specs.Document.{IsDocument, is_line, version_line, end_line, is_complete, is_complete_body};
 ghost use Rattle.om_text.specs.Form.{IsInForm};
-ghost use Rattle.om_text.specs.Fault.{IsFault, Begins, AreDocument};
+ghost use Rattle.om_text.specs.Fault.{IsFault};
 ghost use Rattle.om_text.specs.Reading.{step, advance, after_body, after_end, is_closed, outcome};
 ghost use Rattle.om_text.specs.Added.{Gives, IsSmall, IsSmallBody, IsSmallState, fault_at, IsWhole, IsFront};
 ghost use Rattle.om_text.specs.Part.{IsPart};

@@ -1,6 +1,6 @@
 //! What words spell: numbers and signs.
 
-ghost use Rattle.std.specs.Prelude.{◌≡◌, ℕ, ◌+◌, ◌-◌, ◌*◌, ◌^◌, ◌<◌, ◌≤◌, ◌∷◌, [], length, true, IfSome, unsigned_abs};
+ghost use Rattle.std.specs.Prelude.{◌≡◌, ◌+◌, ◌-◌, ◌*◌, ◌^◌, ◌<◌, ◌≤◌, [], length, true, IfSome, unsigned_abs};
 ghost use Rattle.std.specs.List.{list_all};
 ghost use Rattle.om_text.specs.Words.{is_digit, is_decimal, is_plain, plain, number_from, up_to, unsigned, signed, is_sign, sign_of_byte, begins_with};
 
