@@ -1,0 +1,3 @@
+pub mod WholeVectors
+pub mod Realizations
+pub mod Words
