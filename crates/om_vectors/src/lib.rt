@@ -3,6 +3,7 @@
 //! Source: Björner, Las Vergnas, Sturmfels, White and Ziegler, *Oriented Matroids*, chapters 1 and 8.
 #![tactic(auto)]
 
+pub mod laws;
 mod realizing;
 mod signs;
 mod signs_error;
