@@ -1,5 +1,9 @@
 -- A list of vectors that is kept in a table of fixed size.
+--
+-- Main results: length-used, whole_table, by which the list gives its table back.
 use Rattle.std.specs.Prelude.{ℕ, ◌≡◌, ◌-◌, ◌≤◌, List, ◌++◌, length, replicate, take, drop}
+use Rattle.std.proofs.Common.{◌∙◌, ap, sym, arith}
+use Rattle.std.proofs.lemmas.List.{length-take-le, take-append-drop}
 use Rattle.om_signs.specs.declared.limits.TheConstants.{MAX_ELEMENTS}
 use Rattle.om_vectors.specs.WholeVectors.{WholeVector, zero_vector}
 
@@ -12,3 +16,12 @@ pub record IsSound (table : List WholeVector) (n : ℕ) : Type 0 where
   pub few : n ≤ MAX_ELEMENTS
   pub whole : length table ≡ MAX_ELEMENTS
   pub free : drop n table ≡ free_places n
+
+pub length-used : (table : List WholeVector) (n : ℕ) → IsSound table n → length (take n table) ≡ n
+length-used table n h =
+    let w = h.whole in
+    let f = h.few in
+    length-take-le n table (omega arith)
+
+pub whole_table : (table : List WholeVector) (n : ℕ) → IsSound table n → take n table ++ free_places n ≡ table
+whole_table table n h = ap (λ xs. take n table ++ xs) (sym h.free) ∙ take-append-drop n table
