@@ -1,2 +1,4 @@
 pub mod Rings
 pub mod Identities
+pub mod WordTables
+pub mod Sizes
