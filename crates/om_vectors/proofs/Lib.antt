@@ -2,3 +2,4 @@ pub mod Rings
 pub mod Identities
 pub mod WordTables
 pub mod Sizes
+pub mod NumberSigns
