@@ -3,3 +3,4 @@ pub mod Identities
 pub mod WordTables
 pub mod Sizes
 pub mod NumberSigns
+pub mod TripleSigns
