@@ -91,5 +91,6 @@ three_terms a b c d e = drop _ _ _ _ (ap (λ (n : ℤ). n *ℤ triple_product c 
   where
     repeat_outer : (a b : WholeVector) → triple_product a b a ≡ pos 0
     repeat_outer a b = simp expanding (omega sums)
+
     drop : (z p q r : ℤ) → z ≡ pos 0 → z -ℤ p +ℤ q -ℤ r ≡ pos 0 → p -ℤ q +ℤ r ≡ pos 0
     drop z p q r e f = omega sums

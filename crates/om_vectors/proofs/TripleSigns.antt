@@ -60,6 +60,7 @@ realized_value vs m h t tuple =
     in_order (a ∷ b ∷ []) u i = let s = u.size in absurd (omega arith)
     in_order (a ∷ b ∷ c ∷ []) u i = sym (h.signs a b c u.within.0.0 i.0 i.1.0 u.within.1.1.0.1)
     in_order (a ∷ b ∷ c ∷ d ∷ ds) u i = let s = u.size in absurd (omega arith)
+
     same : (xs : List ℕ) → IsIncreasing xs → on_tuples m.elements 3 (chi_of m) xs ≡ on_tuples m.elements 3 (triple_sign vs) xs
     same xs i = elim (is_tuple_cases m.elements 3 xs) [
       | inl u ↦ on_tuples_at m.elements 3 (chi_of m) xs u.0 ∙ value_increasing (chi_of m) xs i ∙ in_order xs u.0 i ∙ sym (value_increasing (triple_sign vs) xs i) ∙ sym (on_tuples_at m.elements 3 (triple_sign vs) xs u.0)
@@ -79,16 +80,20 @@ four_balanced p q r t w x y z ep eq er et e =
   where
     none : total (neg_ℤ w ∷ x ∷ neg_ℤ y ∷ z ∷ []) ≡ pos 0
     none = omega sums
+
     four_times : (s : Sign) → opposite (opposite (opposite (opposite s))) ≡ s
     four_times s = opposite-opposite (opposite (opposite s)) ∙ opposite-opposite s
+
     turned : (v : ℤ) (s : Sign) → sign_of (neg_ℤ v) ≡ s → sign_of v ≡ opposite s
     turned v s h = sym (opposite-opposite (sign_of v)) ∙ ap opposite (sym (sign-neg v) ∙ h)
+
     to : (s : Sign) → HasOneOf p q r t s → HasSign (neg_ℤ w ∷ x ∷ neg_ℤ y ∷ z ∷ []) s
     to s (inl h) = inl (sign-neg w ∙ ap opposite (sym ep ∙ h) ∙ opposite-opposite s)
     to s (inr (inl h)) = inr (inl (sym eq ∙ h ∙ opposite-opposite s))
     to s (inr (inr (inl h))) = inr (inr (inl (sign-neg y ∙ ap opposite (sym er ∙ h) ∙ four_times s)))
     to s (inr (inr (inr (inl h)))) = inr (inr (inr (inl (sym et ∙ h ∙ four_times s))))
     to s (inr (inr (inr (inr h)))) = absurd h
+
     from : (s : Sign) → HasSign (neg_ℤ w ∷ x ∷ neg_ℤ y ∷ z ∷ []) s → HasOneOf p q r t s
     from s (inl h) = inl (ep ∙ turned w s h)
     from s (inr (inl h)) = inr (inl (eq ∙ h ∙ sym (opposite-opposite s)))
@@ -108,16 +113,16 @@ four_relation : (vs : List WholeVector) (m : SignMap) → Realizes vs m → (s t
 four_relation vs m h s t u v a b hs ht hu hv ha hb =
     let n = m.elements in
     four_balanced
-      (product (value_of m (t ∷ u ∷ v ∷ [])) (value_of m (a ∷ b ∷ s ∷ [])))
-      (product (value_of m (s ∷ u ∷ v ∷ [])) (value_of m (a ∷ b ∷ t ∷ [])))
-      (product (value_of m (s ∷ t ∷ v ∷ [])) (value_of m (a ∷ b ∷ u ∷ [])))
-      (product (value_of m (s ∷ t ∷ u ∷ [])) (value_of m (a ∷ b ∷ v ∷ [])))
-      (bracket vs a b s *ℤ bracket vs t u v) (bracket vs a b t *ℤ bracket vs s u v) (bracket vs a b u *ℤ bracket vs s t v) (bracket vs a b v *ℤ bracket vs s t u)
-      (term vs m h t u v a b s (three n t u v ht hu hv) (three n a b s ha hb hs))
-      (term vs m h s u v a b t (three n s u v hs hu hv) (three n a b t ha hb ht))
-      (term vs m h s t v a b u (three n s t v hs ht hv) (three n a b u ha hb hu))
-      (term vs m h s t u a b v (three n s t u hs ht hu) (three n a b v ha hb hv))
-      (four_terms (vector_at vs a) (vector_at vs b) (vector_at vs s) (vector_at vs t) (vector_at vs u) (vector_at vs v))
+    (product (value_of m (t ∷ u ∷ v ∷ [])) (value_of m (a ∷ b ∷ s ∷ [])))
+    (product (value_of m (s ∷ u ∷ v ∷ [])) (value_of m (a ∷ b ∷ t ∷ [])))
+    (product (value_of m (s ∷ t ∷ v ∷ [])) (value_of m (a ∷ b ∷ u ∷ [])))
+    (product (value_of m (s ∷ t ∷ u ∷ [])) (value_of m (a ∷ b ∷ v ∷ [])))
+    (bracket vs a b s *ℤ bracket vs t u v) (bracket vs a b t *ℤ bracket vs s u v) (bracket vs a b u *ℤ bracket vs s t v) (bracket vs a b v *ℤ bracket vs s t u)
+    (term vs m h t u v a b s (three n t u v ht hu hv) (three n a b s ha hb hs))
+    (term vs m h s u v a b t (three n s u v hs hu hv) (three n a b t ha hb ht))
+    (term vs m h s t v a b u (three n s t v hs ht hv) (three n a b u ha hb hu))
+    (term vs m h s t u a b v (three n s t u hs ht hu) (three n a b v ha hb hv))
+    (four_terms (vector_at vs a) (vector_at vs b) (vector_at vs s) (vector_at vs t) (vector_at vs u) (vector_at vs v))
 
 pub relations : (vs : List WholeVector) (m : SignMap) → Realizes vs m → HasIncreasingRelations m.elements 3 (value_of m)
 relations vs m h s a low ts ta is ia = four_of s ts
@@ -127,6 +132,7 @@ relations vs m h s a low ts ta is ia = four_of s ts
     two_of s t u v ts (a ∷ []) ta = let l = ta.size in absurd (omega arith)
     two_of s t u v ts (a ∷ b ∷ []) ta = four_relation vs m h s t u v a b ts.within.0 ts.within.1.0 ts.within.1.1.0 ts.within.1.1.1.0 ta.within.0 ta.within.1.0
     two_of s t u v ts (a ∷ b ∷ c ∷ cs) ta = let l = ta.size in absurd (omega arith)
+
     four_of : (s : List ℕ) → IsTuple m.elements 4 s → IsBalanced (value_of m) s (along (value_of m) a)
     four_of [] ts = let l = ts.size in absurd (omega arith)
     four_of (s ∷ []) ts = let l = ts.size in absurd (omega arith)
@@ -157,7 +163,7 @@ pub own_signs : (vs : List WholeVector) → Realizes vs (signs_map vs)
 own_signs vs = record {
   rank = refl;
   elements = refl;
-  signs = λ a b c low ab bc high. sym (sign_at vs (a ∷ b ∷ c ∷ []) (triple_subset (length vs) a b c low ab bc high) refl)
+  signs = λ a b c low ab bc high. sym (sign_at vs (a ∷ b ∷ c ∷ []) (triple_subset (length vs) a b c low ab bc high) refl);
 }
 
 pub whole_map : (vs : List WholeVector) → 3 ≤ length vs → IsMap (signs_map vs)
@@ -169,6 +175,6 @@ chirotope_of vs a b c low ab bc high n =
     let h = own_signs vs in
     map_chirotope m (whole_map vs (omega arith))
     (chirotope_from_increasing m.elements 3 (chi_of m) (relations vs m h) (a ∷ b ∷ c ∷ [])
-      (three m.elements a b c (low, omega arith) (omega arith, omega arith) (omega arith, high))
-      (ab, (bc, tt))
-      (λ z. n (sign_zero (bracket vs a b c) (h.signs a b c low ab bc high ∙ z))))
+    (three m.elements a b c (low, omega arith) (omega arith, omega arith) (omega arith, high))
+    (ab, (bc, tt))
+    (λ z. n (sign_zero (bracket vs a b c) (h.signs a b c low ab bc high ∙ z))))

@@ -119,7 +119,7 @@ pub realizes_from : (vs : List WholeVector) (m : SignMap) → m.rank ≡ 3 → m
 realizes_from vs m r n h = record {
   rank = r;
   elements = n;
-  signs = λ a b c low ab bc high. h (a ∷ b ∷ c ∷ []) (triple_from m.elements a b c low ab bc high)
+  signs = λ a b c low ab bc high. h (a ∷ b ∷ c ∷ []) (triple_from m.elements a b c low ab bc high);
 }
 
 -- a triple whose sign is another one, the first of its kind
@@ -128,7 +128,7 @@ other_found vs m k s n i e o h = record {
   n = n;
   triple = i;
   other = o;
-  earlier = held_before (HasItsSign vs m) m.elements k h s.elements i e
+  earlier = held_before (HasItsSign vs m) m.elements k h s.elements i e;
 }
 
 -- ---- the signs of all triples

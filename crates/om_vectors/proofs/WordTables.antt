@@ -10,7 +10,7 @@ pub pushed : (table : List WholeVector) (n : ℕ) (v : WholeVector) → n < MAX_
 pushed table n v l h = record {
   few = omega arith;
   whole = length-set table n v ∙ h.whole;
-  free = λ k le. get_or-set_other table n k v zero_vector (omega arith) ∙ h.free k (omega arith)
+  free = λ k le. get_or-set_other table n k v zero_vector (omega arith) ∙ h.free k (omega arith);
 }
 
 -- a table whose places from len on and before i have the zero vector, and whose others are as they were
@@ -28,7 +28,7 @@ cut_more old new len i le l h = record {
     | inl e ↦ ap (λ j. get_or (set new i zero_vector) j zero_vector) e ∙ get_or-set_same new i zero_vector zero_vector l
     | inr n ↦ get_or-set_other new i k zero_vector zero_vector n ∙ h.cleared k low (omega arith)
   ];
-  later = λ k low. get_or-set_other new i k zero_vector zero_vector (omega arith) ∙ h.later k (omega arith)
+  later = λ k low. get_or-set_other new i k zero_vector zero_vector (omega arith) ∙ h.later k (omega arith);
 }
 
 pub cut_done : (old new : List WholeVector) (len n : ℕ) → len ≤ n → IsSound old n → IsCutTo old new len n → IsSound new len
@@ -38,7 +38,7 @@ cut_done old new len n l s h = record {
   free = λ k low. elim (cases_lt k n) [
     | inl lt ↦ h.cleared k low lt
     | inr ge ↦ h.later k ge ∙ s.free k ge
-  ]
+  ];
 }
 
 -- the table and the length, back from the list
@@ -51,7 +51,7 @@ table_back table n vs h e =
     let size : length vs ≡ n = ap length (sym e) ∙ length-used table n h in
     record {
       table_is = rw (size, ← e) (whole_table table n h);
-      len_is = size
+      len_is = size;
     }
 
 -- two tests, the second of which is made first

@@ -28,6 +28,7 @@ whole_table table n h = ap (λ xs. take n table ++ xs) (sym rest) ∙ take-appen
   where
     size : length (drop n table) ≡ MAX_ELEMENTS - n
     size = length-drop n table ∙ ap (λ k. k - n) h.whole
+
     rest : drop n table ≡ free_places n
     rest = ext_get_or zero_vector (drop n table) (free_places n) (size ∙ sym (length-replicate (MAX_ELEMENTS - n) zero_vector)) (λ i l.
         let few : i < MAX_ELEMENTS - n = let s = size in omega arith in

@@ -7,6 +7,8 @@ pub mod laws;
 mod realizing;
 mod signs;
 mod signs_error;
+#[cfg(test)]
+mod tests;
 mod triple_products;
 mod triple_signs;
 mod unfound;

@@ -10,8 +10,7 @@ use super::vector::Vector;
 pub fn triple(a: Vector, b: Vector, c: Vector) -> i128
     ensures { result ≡ triple_product a b c }
 {
-    product(a.x(), b.y(), c.z()) - product(a.x(), b.z(), c.y())
-        + product(a.y(), b.z(), c.x())
+    product(a.x(), b.y(), c.z()) - product(a.x(), b.z(), c.y()) + product(a.y(), b.z(), c.x())
         - product(a.y(), b.x(), c.z())
         + product(a.z(), b.x(), c.y())
         - product(a.z(), b.y(), c.x())

@@ -11,7 +11,7 @@ first c =
     let place : rank_of c.args.chi.now.elements c.unrank-s.result.elements ≡ c.loop-place.place = rw (← c.elements-n.ensures.value) c.unrank-s.ensures.place in
     let triple : IsTriple c.args.chi.now.elements c.unrank-s.result.elements = record {
       list = rw (← c.elements-n.ensures.value) c.unrank-s.ensures.lawful;
-      size = c.unrank-s.ensures.size ∙ c.rank-rank.ensures.value ∙ c.requires.rank
+      size = c.unrank-s.ensures.size ∙ c.rank-rank.ensures.value ∙ c.requires.rank;
     } in
     let other : c.at.result ≡ c.sign_of_triple.result → ⊥ = search rules in
     other_found c.args.vectors.now c.args.chi.now c.loop-place.place c.unrank-s.result n triple place (λ e. other (c.at.ensures.place ∙ sym e ∙ sym c.sign_of_triple.ensures)) c.loop-place.invariant
