@@ -1,7 +1,7 @@
 -- Identities between triple products.
 --
 -- Main results: swap_first, swap_last, repeat_first; four_terms and three_terms.
-use Rattle.std.proofs.Common.{◌≡◌, refl, sym, ◌∙◌, ap, arith}
+use Rattle.std.proofs.Common.{◌≡◌, ◌∙◌, ap}
 use Rattle.std.specs.Prelude.{ℤ, pos, ◌+ℤ◌, ◌-ℤ◌, ◌*ℤ◌, neg_ℤ}
 use Rattle.std.proofs.Math.IntN.{*ℤ-zero, zero-*ℤ}
 use Rattle.om_vectors.specs.WholeVectors.{WholeVector, vector_of, triple_product}

@@ -2,13 +2,13 @@
 --
 -- Main results: alternating, that the map alternates; realized_value, that a realized map has these signs on all tuples;
 -- relations, its relations; own_signs, that vectors realize the map of their signs; chirotope_of, that it is a chirotope.
-use Rattle.std.proofs.Common.{ℕ, zero, suc, ◌≡◌, ◌≢◌, ◌+◌, ◌-◌, ◌<◌, ◌≤◌, ◌⊎◌, ◌↔◌, List, [], ◌∷◌, ◌++◌, length, map, get_or, refl, sym, ◌∙◌, ap, inl, inr, arith}
+use Rattle.std.proofs.Common.{ℕ, ◌≡◌, ◌≢◌, ◌<◌, ◌≤◌, ◌⊎◌, ◌↔◌, List, [], ◌∷◌, length, get_or, refl, sym, ◌∙◌, ap, inl, inr, arith}
 use Rattle.std.specs.Prelude.{ℤ, pos, ◌+ℤ◌, ◌-ℤ◌, ◌*ℤ◌, neg_ℤ}
 use Rattle.std.proofs.lemmas.List.{length-map, get_or-map}
 use Rattle.om_signs.specs.declared.sign.Sign.{Sign}
 use Rattle.om_signs.specs.declared.sign.Sign.TheVariants.{Minus, Zero, Plus}
 use Rattle.om_signs.specs.Sign.{opposite, product}
-use Rattle.om_subsets.specs.Subsets.{IsSubsetFrom, IsMember, all_subsets, rank_of, choose}
+use Rattle.om_subsets.specs.Subsets.{IsSubsetFrom, IsMember, all_subsets, rank_of}
 use Rattle.om_subsets.proofs.Order.{length-subsets_from, rank_from-lt, get_or-rank_from}
 use Rattle.om_subsets.proofs.Statements.{subset_is_increasing}
 use Rattle.om_laws.specs.Tuples.{IsAlternating, value}

@@ -3,7 +3,7 @@
 -- Main definitions: HoldsBelow, what holds of the triples of the first places.
 -- Main results: least_first and last_first, how a set begins; held_all and held_before, from the places to the triples;
 -- realized_triple and realizes_from, what it is to realize a map.
-use Rattle.std.proofs.Common.{ℕ, zero, suc, ◌≡◌, ◌≢◌, ◌+◌, ◌<◌, ◌≤◌, ◌⊎◌, List, [], ◌∷◌, ◌++◌, length, map, take, refl, sym, ◌∙◌, ap, inl, inr, arith, subst}
+use Rattle.std.proofs.Common.{ℕ, zero, suc, ◌≡◌, ◌≢◌, ◌+◌, ◌<◌, ◌≤◌, List, [], ◌∷◌, ◌++◌, length, map, take, refl, sym, ◌∙◌, ap, inl, inr, arith, subst}
 use Rattle.std.proofs.lemmas.Bool.{cases_eq, cases_lt, eq-eqb, ne_eqb}
 use Rattle.std.proofs.lemmas.List.{map_more, take_all}
 use Rattle.om_signs.specs.declared.sign.Sign.{Sign}

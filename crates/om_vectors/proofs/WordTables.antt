@@ -1,5 +1,5 @@
 -- The table of a word after a vector was added, and while vectors are cut off.
-use Rattle.std.proofs.Common.{ℕ, ◌≡◌, ◌≢◌, ◌+◌, ◌<◌, ◌≤◌, List, length, take, set, get_or, ◌⊎◌, inl, inr, Bool, ◌&&◌, ◌∙◌, ◌++◌, ap, sym, arith}
+use Rattle.std.proofs.Common.{ℕ, ◌≡◌, ◌+◌, ◌<◌, ◌≤◌, List, length, take, set, get_or, inl, inr, Bool, ◌&&◌, ◌∙◌, ◌++◌, ap, sym, arith}
 use Rattle.std.proofs.lemmas.Bool.{cases_lt, cases_eq}
 use Rattle.std.proofs.lemmas.List.{length-set, take-set-le, get_or-set_same, get_or-set_other}
 use Rattle.om_signs.specs.declared.limits.TheConstants.{MAX_ELEMENTS}

@@ -1,5 +1,5 @@
 -- Sums of finitely many whole numbers, and the signs of their terms.
-use Rattle.std.specs.Prelude.{ℕ, ◌≡◌, ◌⊎◌, List, [], ◌∷◌, ℤ, pos, ◌+ℤ◌}
+use Rattle.std.specs.Prelude.{◌≡◌, ◌⊎◌, List, [], ◌∷◌, ℤ, pos, ◌+ℤ◌}
 use Rattle.om_signs.specs.declared.sign.Sign.{Sign}
 use Rattle.om_vectors.specs.WholeVectors.{sign_of}
 

@@ -1,7 +1,6 @@
-use Rattle.std.proofs.Common.{◌≡◌, ◌≤◌, refl, rules, sym, ◌∙◌, arith, ap}
+use Rattle.std.proofs.Common.{◌≡◌, ◌≤◌, refl, rules, sym, ◌∙◌}
 use Rattle.om_subsets.specs.Subsets.{choose, rank_of}
-use Rattle.om_chirotope.specs.Map.{chi_of}
-use Rattle.om_vectors.specs.Realizations.{triple_sign, IsTriple, IsFirstOther}
+use Rattle.om_vectors.specs.Realizations.{IsTriple, IsFirstOther}
 use Rattle.om_vectors.proofs.Triples.{HasItsSign, held_all, other_found, realized_triple, realizes_from}
 use Rattle.om_vectors.proofs.realizing.realizes.Goals as goal
 

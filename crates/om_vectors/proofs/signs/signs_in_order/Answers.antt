@@ -1,4 +1,4 @@
-use Rattle.std.proofs.Common.{◌≡◌, ◌≤◌, length}
+use Rattle.std.proofs.Common.{◌≤◌, length}
 use Rattle.om_subsets.specs.Subsets.{choose}
 use Rattle.om_vectors.proofs.Triples.{three_elements, signs_done}
 use Rattle.om_vectors.proofs.signs.signs_in_order.Goals as goal

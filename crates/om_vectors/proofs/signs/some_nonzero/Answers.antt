@@ -1,7 +1,7 @@
-use Rattle.std.proofs.Common.{◌≡◌, ◌≢◌, ◌≤◌, length, refl, rules, sym, ◌∙◌, ap, subst}
+use Rattle.std.proofs.Common.{◌≢◌, ◌≤◌, length, refl, rules, ◌∙◌}
 use Rattle.om_signs.specs.declared.sign.Sign.TheVariants.{Zero}
 use Rattle.om_subsets.specs.Subsets.{choose}
-use Rattle.om_vectors.specs.Realizations.{triple_sign, IsTriple}
+use Rattle.om_vectors.specs.Realizations.{IsTriple}
 use Rattle.om_vectors.proofs.Triples.{HasSignZero, three_elements, held_all, low_rank_from, rank_not_low}
 use Rattle.om_vectors.proofs.signs.some_nonzero.Goals as goal
 

@@ -1,5 +1,4 @@
-use Rattle.std.proofs.Common.{ℕ, List, below_more, arith, subst}
-use Rattle.om_subsets.specs.Subsets.{IsSubsetFrom}
+use Rattle.std.proofs.Common.{below_more, arith}
 use Rattle.om_vectors.proofs.Triples.{least_first, last_first, none_at_zero}
 use Rattle.om_vectors.proofs.triple_signs.least.Goals as goal
 

@@ -1,4 +1,4 @@
-use Rattle.std.proofs.Common.{ℕ, ◌≤◌, ◌<◌}
+use Rattle.std.proofs.Common.{ℕ, ◌<◌}
 use Rattle.om_subsets.specs.Subsets.{IsMember}
 use Rattle.om_vectors.proofs.triple_signs.least.Given as goal
 
