@@ -3,9 +3,9 @@
 -- Main definitions: HoldsBelow, what holds of the triples of the first places.
 -- Main results: least_first and last_first, how a set begins; held_all and held_before, from the places to the triples;
 -- realized_triple and realizes_from, what it is to realize a map.
-use Rattle.std.proofs.Common.{ℕ, zero, suc, ◌≡◌, ◌≢◌, ◌+◌, ◌<◌, ◌≤◌, List, [], ◌∷◌, ◌++◌, length, map, take, refl, sym, ◌∙◌, ap, inl, inr, arith, subst}
+use Rattle.std.proofs.Common.{ℕ, zero, suc, ◌≡◌, ◌≢◌, ◌+◌, ◌<◌, ◌≤◌, List, [], ◌∷◌, length, map, take, refl, sym, ◌∙◌, ap, inl, inr, arith, subst}
 use Rattle.std.proofs.lemmas.Bool.{cases_eq, cases_lt, eq-eqb, ne_eqb}
-use Rattle.std.proofs.lemmas.List.{map_more, take_all}
+use Rattle.std.proofs.lemmas.List.{take_all}
 use Rattle.om_signs.specs.declared.sign.Sign.{Sign}
 use Rattle.om_signs.specs.declared.sign.Sign.TheVariants.{Zero}
 use Rattle.om_subsets.specs.Subsets.{choose, all_subsets, subset_at, rank_of, IsSubsetFrom, IsMember, without_element}
@@ -153,12 +153,7 @@ chirotope_from vs t i n = of (rising (length vs) t i)
     of : (a : ℕ) × (b : ℕ) × (c : ℕ) × (t ≡ a ∷ b ∷ c ∷ []) × IsRising (length vs) a b c → IsChirotope (signs_map vs)
     of (a, b, c, e, r) = chirotope_of vs a b c r.low r.first r.second r.high (λ z. n (ap (triple_sign vs) e ∙ ap sign_of z))
 
--- the signs up to a place, and the next one
-pub signs_more : (vs : List WholeVector) (k : ℕ) (signs : List Sign) (t : List ℕ) → k < choose (length vs) 3 → t ≡ subset_at (length vs) 3 k → signs ≡ map (triple_sign vs) (take k (all_subsets (length vs) 3)) → signs ++ triple_sign vs t ∷ [] ≡ map (triple_sign vs) (take (k + 1) (all_subsets (length vs) 3))
-signs_more vs k signs t l e h =
-    let few : k < length (all_subsets (length vs) 3) = rw (length-subsets_from 1 (length vs) 3) l in
-    ap (λ xs. xs ++ triple_sign vs t ∷ []) h ∙ ap (λ u. map (triple_sign vs) (take k (all_subsets (length vs) 3)) ++ triple_sign vs u ∷ []) e ∙ sym (map_more (triple_sign vs) (all_subsets (length vs) 3) k [] few)
-
+-- the signs up to the last place
 pub signs_done : (vs : List WholeVector) (k : ℕ) (signs : List Sign) → choose (length vs) 3 ≤ k → signs ≡ map (triple_sign vs) (take k (all_subsets (length vs) 3)) → signs ≡ map (triple_sign vs) (all_subsets (length vs) 3)
 signs_done vs k signs l h =
     let all : length (all_subsets (length vs) 3) ≤ k = rw (length-subsets_from 1 (length vs) 3) l in

@@ -1,7 +1,6 @@
 -- The table of a word after a vector was added, and while vectors are cut off.
-use Rattle.std.proofs.Common.{ℕ, ◌≡◌, ◌+◌, ◌<◌, ◌≤◌, List, length, take, set, get_or, inl, inr, Bool, ◌&&◌, ◌∙◌, ◌++◌, ap, sym, arith}
-use Rattle.std.proofs.lemmas.Bool.{cases_lt, cases_eq}
-use Rattle.std.proofs.lemmas.List.{length-set, take-set-le, get_or-set_same, get_or-set_other}
+use Rattle.std.proofs.Common.{ℕ, ◌≡◌, ◌+◌, ◌<◌, ◌≤◌, List, length, take, set, get_or, Bool, ◌&&◌, ◌∙◌, ◌++◌, ap, sym, arith}
+use Rattle.std.proofs.lemmas.List.{length-set, get_or-set_other}
 use Rattle.om_signs.specs.declared.limits.TheConstants.{MAX_ELEMENTS}
 use Rattle.om_vectors.specs.WholeVectors.{WholeVector, zero_vector}
 use Rattle.om_vectors.specs.Words.{free_places, IsSound, length-used, whole_table}
@@ -19,27 +18,6 @@ pub record IsCutTo (old new : List WholeVector) (len i : ℕ) : Type 0 where
   pub kept : take len new ≡ take len old
   pub cleared : (k : ℕ) → len ≤ k → k < i → get_or new k zero_vector ≡ zero_vector
   pub later : (k : ℕ) → i ≤ k → get_or new k zero_vector ≡ get_or old k zero_vector
-
-pub cut_more : (old new : List WholeVector) (len i : ℕ) → len ≤ i → i < length new → IsCutTo old new len i → IsCutTo old (set new i zero_vector) len (i + 1)
-cut_more old new len i le l h = record {
-  size = length-set new i zero_vector ∙ h.size;
-  kept = take-set-le len new i zero_vector le ∙ h.kept;
-  cleared = λ k low high. elim (cases_eq k i) [
-    | inl e ↦ ap (λ j. get_or (set new i zero_vector) j zero_vector) e ∙ get_or-set_same new i zero_vector zero_vector l
-    | inr n ↦ get_or-set_other new i k zero_vector zero_vector n ∙ h.cleared k low (omega arith)
-  ];
-  later = λ k low. get_or-set_other new i k zero_vector zero_vector (omega arith) ∙ h.later k (omega arith);
-}
-
-pub cut_done : (old new : List WholeVector) (len n : ℕ) → len ≤ n → IsSound old n → IsCutTo old new len n → IsSound new len
-cut_done old new len n l s h = record {
-  few = (let f = s.few in omega arith);
-  whole = h.size ∙ s.whole;
-  free = λ k low. elim (cases_lt k n) [
-    | inl lt ↦ h.cleared k low lt
-    | inr ge ↦ h.later k ge ∙ s.free k ge
-  ];
-}
 
 -- the table and the length, back from the list
 pub record IsBack (table : List WholeVector) (n : ℕ) (vs : List WholeVector) : Type 0 where
