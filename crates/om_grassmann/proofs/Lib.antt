@@ -1,0 +1,5 @@
+pub mod Counting
+pub mod Frames
+pub mod OrderLaws
+pub mod Places
+pub mod Triples
