@@ -1,3 +1,4 @@
+pub mod BracketLaws
 pub mod Counting
 pub mod Frames
 pub mod OrderLaws
