@@ -1,14 +1,14 @@
 -- The brackets of a lawful statement.
 --
 -- Main results: nonzero_brackets, that their values aren't zero, and four_brackets, that they differ.
-use Rattle.std.specs.Prelude.{ℕ, ◌≡◌, ◌≢◌, ◌<◌, ◌≤◌, List, [], ◌∷◌, length}
+use Rattle.std.specs.Prelude.{ℕ, ◌≡◌, ◌≢◌, ◌<◌, [], ◌∷◌}
 use Rattle.std.proofs.Common.{refl, sym, ◌∙◌, ap, subst, arith, inl, inr}
 use Rattle.std.proofs.lemmas.Bool.{cases_eq}
 use Rattle.om_signs.specs.declared.sign.Sign.{Sign}
 use Rattle.om_signs.specs.declared.sign.Sign.TheVariants.{Minus, Zero, Plus}
 use Rattle.om_signs.specs.Sign.{opposite, product}
 use Rattle.om_laws.specs.Tuples.{sort_sign}
-use Rattle.om_chirotope.specs.Map.{SignMap, chi_of, value_of}
+use Rattle.om_chirotope.specs.Map.{SignMap, chi_of}
 use Rattle.om_chirotope.proofs.InOrder.{value_in_order}
 use Rattle.om_grassmann.specs.declared.statement.Statement.{Statement}
 use Rattle.om_grassmann.specs.Terms.{bracket, term}

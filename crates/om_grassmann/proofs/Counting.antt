@@ -1,8 +1,9 @@
 -- The lawful statements in a list, by their number.
 --
 -- Main results: following_none and following_next, for one step of the walk; number_first, number_next and number_last, for
--- the count; number_exceeds, that no statement has the number k where there are at most k.
-use Rattle.std.specs.Prelude.{ℕ, ◌≡◌, ◌≢◌, ◌+◌, ◌*◌, ◌<◌, ◌≤◌, ◌⊎◌, ◌↔◌, List, [], ◌∷◌, ◌++◌, length, Option, Some, None, IsNone, IfNone, IfSome}
+-- the count; number_exceeds, that no statement has the number k where there are at most k; same_number, that a number belongs
+-- to one statement; before_first and none_lawful, for the number 0.
+use Rattle.std.specs.Prelude.{ℕ, ◌≡◌, ◌+◌, ◌*◌, ◌<◌, ◌≤◌, ◌⊎◌, ◌↔◌, List, [], ◌∷◌, ◌++◌, length, Option, Some, None, IsNone, IfNone, IfSome}
 use Rattle.std.specs.List.{Contains}
 use Rattle.std.proofs.Common.{refl, sym, ◌∙◌, ap, subst, arith, inl, inr, length-append}
 use Rattle.std.proofs.lemmas.Bool.{false≢true}
@@ -11,9 +12,9 @@ use Rattle.std.proofs.lemmas.List.Elements.{Contains-push, Contains-push_cases, 
 use Rattle.om_chirotope.specs.Map.{SignMap}
 use Rattle.om_grassmann.specs.declared.statement.Statement.{Statement}
 use Rattle.om_grassmann.specs.Statements.{IsLawful}
-use Rattle.om_grassmann.specs.Order.{IsBefore, IsIncreasing, IsNext, IsLast, AreBefore, AreAll, IsNumber, HasAtMost}
+use Rattle.om_grassmann.specs.Order.{IsBefore, IsIncreasing, IsNext, IsLast, IsNumber, HasAtMost}
 use Rattle.om_grassmann.specs.Walk.{frame_place, place, HasNoneFrom, IsFirstFrom}
-use Rattle.om_grassmann.proofs.OrderLaws.{before_self, before_then}
+use Rattle.om_grassmann.proofs.OrderLaws.{before_self, before_then, before_total}
 use Rattle.om_grassmann.proofs.Places.{lawful_places, next_from, last_from}
 
 -- ---- one step of the walk
@@ -182,3 +183,38 @@ number_exceeds m k t h a =
       | inl d ↦ (a.are_all.members u).1 ((h.are_before.members u).0 d).0
       | inr q ↦ subst (Contains a.all) q ((a.are_all.members t).1 h.lawful)
     ]
+
+not_numbered_before : (m : SignMap) (k : ℕ) (s t : Statement) → IsNumber m k s → IsNumber m k t → IsBefore s t → ⊥
+not_numbered_before m k s t h n b =
+    let up = increasing_push h.before s h.are_before.increasing (λ u c. ((h.are_before.members u).0 c).1) in
+    let l = no_longer n.before (h.before ++ s ∷ []) up n.are_before.increasing within in
+    let e = length-append h.before (s ∷ []) in
+    let c = h.count in
+    let d = n.count in
+    omega arith
+  where
+    within : (u : Statement) → Contains (h.before ++ s ∷ []) u → Contains n.before u
+    within u c = elim (Contains-push_cases h.before s u c) [
+      | inl d ↦ let f = (h.are_before.members u).0 d in (n.are_before.members u).1 (f.0, before_then u s t f.1 b)
+      | inr q ↦ subst (Contains n.before) q ((n.are_before.members s).1 (h.lawful, b))
+    ]
+
+pub same_number : (m : SignMap) (k : ℕ) (s t : Statement) → IsNumber m k s → IsNumber m k t → s ≡ t
+same_number m k s t h n = elim (before_total m s t h.lawful n.lawful) [
+  | inl b ↦ absurd (not_numbered_before m k s t h n b)
+  | inr (inl q) ↦ q
+  | inr (inr b) ↦ absurd (not_numbered_before m k t s n h b)
+]
+
+empty_list : (xs : List Statement) (u : Statement) → length xs ≤ 0 → Contains xs u → ⊥
+empty_list xs u l c = let h = c.1 in omega arith
+
+pub before_first : (m : SignMap) (s u : Statement) → IsNumber m 0 s → IsLawful m u → (u ≡ s) ⊎ IsBefore s u
+before_first m s u h hu = elim (before_total m s u h.lawful hu) [
+  | inl b ↦ inr b
+  | inr (inl q) ↦ inl (sym q)
+  | inr (inr b) ↦ let c = h.count in absurd (empty_list h.before u (omega arith) ((h.are_before.members u).1 (hu, b)))
+]
+
+pub none_lawful : (m : SignMap) (u : Statement) → HasAtMost m 0 → IsLawful m u → ⊥
+none_lawful m u a hu = empty_list a.all u a.count ((a.are_all.members u).1 hu)

@@ -1,7 +1,7 @@
 -- The lawful statements of one frame.
 --
 -- Main results: none_placed, for a frame that has none; none_here and first_here, for the statement of one direction.
-use Rattle.std.specs.Prelude.{ℕ, ◌≡◌, ◌≢◌, ◌+◌, ◌-◌, ◌*◌, ◌/◌, ◌%◌, ◌<◌, ◌≤◌, Bool, Option, Some, None}
+use Rattle.std.specs.Prelude.{ℕ, ◌≡◌, ◌+◌, ◌-◌, ◌*◌, ◌/◌, ◌%◌, ◌<◌, ◌≤◌, Bool, Some, None}
 use Rattle.std.proofs.Common.{refl, sym, ◌∙◌, ap, arith, inl, inr}
 use Rattle.std.proofs.lemmas.Bool.{cases_lt, cases_eq}
 use Rattle.om_signs.specs.declared.sign.Sign.{Sign}
@@ -9,7 +9,7 @@ use Rattle.om_chirotope.specs.Map.{SignMap}
 use Rattle.om_grassmann.specs.declared.statement.Statement.{Statement}
 use Rattle.om_grassmann.specs.declared.frame.Frame.{Frame}
 use Rattle.om_grassmann.specs.declared.terms.Terms.{Terms}
-use Rattle.om_grassmann.specs.Terms.{bracket, first_term, second_term, third_term, term, term_of, third}
+use Rattle.om_grassmann.specs.Terms.{first_term, second_term, third_term, term, term_of, third}
 use Rattle.om_grassmann.specs.Statements.{IsPlaced, AreTwo, HasSigns, IsLawful}
 use Rattle.om_grassmann.specs.Walk.{IsFrame, frame_place, frame_of, direction, place, HasNoneBetween, IsFirstFrom, IsKind, statement_of}
 use Rattle.om_grassmann.proofs.Places.{IsOn, placed_on, same_frame}

@@ -1,13 +1,12 @@
 -- The places of statements: frames by their digits, and the order of statements as the order of places.
 --
 -- Main results: same_frame, that places of one block have one frame; before-place and place-before.
-use Rattle.std.specs.Prelude.{ℕ, ◌≡◌, ◌≢◌, ◌+◌, ◌*◌, ◌<◌, ◌≤◌, ◌⊎◌, Bool}
-use Rattle.std.proofs.Common.{refl, sym, ◌∙◌, ap, arith, inl, inr}
+use Rattle.std.specs.Prelude.{ℕ, ◌≡◌, ◌+◌, ◌*◌, ◌<◌, ◌≤◌, ◌⊎◌}
+use Rattle.std.proofs.Common.{sym, ap, arith, inl, inr}
 use Rattle.std.proofs.lemmas.Bool.{cases_lt}
 use Rattle.om_chirotope.specs.Map.{SignMap}
 use Rattle.om_grassmann.specs.declared.statement.Statement.{Statement}
 use Rattle.om_grassmann.specs.declared.frame.Frame.{Frame}
-use Rattle.om_grassmann.specs.Terms.{bracket, term}
 use Rattle.om_grassmann.specs.Statements.{IsPlaced, AreTwo, IsLawful}
 use Rattle.om_grassmann.specs.Order.{IsBefore, IsNext, IsLast}
 use Rattle.om_grassmann.specs.Walk.{IsFrame, frame_place, frame_of, direction, place, HasNoneFrom, IsFirstFrom}

@@ -1,7 +1,7 @@
 -- Three elements in order, as a set.
 --
 -- Main results: triple-with, how a set of them is made; triple-subset; apart_in_middle and apart_at_end, two triples that differ.
-use Rattle.std.specs.Prelude.{ℕ, ◌≡◌, ◌≢◌, ◌+◌, ◌<◌, ◌≤◌, List, [], ◌∷◌, length}
+use Rattle.std.specs.Prelude.{ℕ, ◌≡◌, ◌≢◌, ◌+◌, ◌<◌, ◌≤◌, [], ◌∷◌, length}
 use Rattle.std.proofs.Common.{refl, sym, ◌∙◌, ap, subst, arith, inl, inr, ◌⊎◌}
 use Rattle.std.proofs.lemmas.Bool.{cases_lt, lt-ltb, le-ltb}
 use Rattle.om_subsets.specs.Subsets.{IsSubsetFrom, IsMember, with_element}

@@ -1,5 +1,5 @@
 -- The order of statements, and the places of the lawful ones in it.
-use Rattle.std.specs.Prelude.{ℕ, ◌≡◌, ◌≤◌, ◌⊎◌, ◌↔◌, List, [], ◌∷◌, ◌++◌, length}
+use Rattle.std.specs.Prelude.{ℕ, ◌≡◌, ◌≤◌, ◌⊎◌, ◌↔◌, List, [], ◌∷◌, length}
 use Rattle.std.specs.List.{Contains}
 use Rattle.om_subsets.specs.Lists as lists
 use Rattle.om_chirotope.specs.Map.{SignMap}

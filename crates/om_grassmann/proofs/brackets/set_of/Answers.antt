@@ -1,7 +1,5 @@
-use Rattle.std.specs.Prelude.{[]}
-use Rattle.std.proofs.Common.{sym, ◌∙◌, ap, subst, length}
+use Rattle.std.proofs.Common.{◌∙◌, ap, subst, length}
 use Rattle.om_subsets.specs.Subsets.{with_element, IsSubsetFrom}
-use Rattle.om_grassmann.specs.Sides.{triple}
 use Rattle.om_grassmann.proofs.Triples.{triple-with, length-triple}
 use Rattle.om_grassmann.proofs.brackets.set_of.Goals as goal
 

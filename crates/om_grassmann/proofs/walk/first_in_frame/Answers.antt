@@ -1,5 +1,5 @@
 use Rattle.std.specs.Prelude.{false}
-use Rattle.std.proofs.Common.{◌+◌, ◌*◌, ◌<◌, sym, ◌∙◌, subst, arith}
+use Rattle.std.proofs.Common.{◌+◌, ◌*◌, sym, ◌∙◌, subst, arith}
 use Rattle.std.proofs.lemmas.Bool.{false≢true}
 use Rattle.om_grassmann.specs.Statements.{IsPlaced}
 use Rattle.om_grassmann.specs.Walk.{frame_place, IsFirstFrom}

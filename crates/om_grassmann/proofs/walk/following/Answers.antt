@@ -1,6 +1,5 @@
-use Rattle.std.proofs.Common.{◌≡◌, ◌<◌, ◌+◌, ◌-◌, ◌*◌, arith, ap}
-use Rattle.om_grassmann.specs.declared.frame.Frame.{Frame}
-use Rattle.om_grassmann.specs.Walk.{frame_place, place}
+use Rattle.std.proofs.Common.{◌+◌, ◌-◌, ◌*◌, arith, ap}
+use Rattle.om_grassmann.specs.Walk.{frame_place}
 use Rattle.om_grassmann.proofs.Counting.{following_none, following_next}
 use Rattle.om_grassmann.proofs.walk.following.Goals as goal
 
