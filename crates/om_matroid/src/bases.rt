@@ -18,7 +18,7 @@ pub fn first_basis(chi: &Chirotope) -> Subset
     let nothing = Subset::first(0, chi.elements());
     let _rank = chi.rank();
     match first_between(chi, nothing, nothing) {
-        Some(b) => b,
+        Some(first) => first,
         None => unreachable!(),
     }
 }
@@ -35,7 +35,7 @@ pub fn extend_to_basis(chi: &Chirotope, independent: Subset) -> Subset
 {
     let nothing = Subset::first(0, chi.elements());
     match first_between(chi, independent, nothing) {
-        Some(b) => b,
+        Some(basis) => basis,
         None => unreachable!(),
     }
 }

@@ -17,7 +17,7 @@ pub fn is_basis(chi: &Chirotope, b: Subset) -> bool
 }
 
 /// Whether each element of the first set is one of the second.
-fn is_part(s: Subset, b: Subset) -> bool
+pub fn is_part(s: Subset, b: Subset) -> bool
     requires { s.n ≡ b.n }
     ensures { IsTrue result ↔ IsPartOf s.elements b.elements }
 {

@@ -4,3 +4,4 @@ mod Members
 mod Walks
 mod Sets
 mod Compositions
+mod FamilyLaws
