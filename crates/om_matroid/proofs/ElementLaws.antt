@@ -2,7 +2,7 @@
 --
 -- Main results: no basis is with e exactly where e is a loop (loop_both), and none without e exactly where it is a coloop (coloop_both); of two elements that are no loops, the rank of the set of both
 -- tells whether they are parallel (parallel_both).
-use Rattle.std.proofs.Common.{ℕ, ◌≡◌, ◌↔◌, List, [], ◌∷◌, refl, sym, ap, subst, ◌∙◌, inl, inr, nat_eq, not, Bool, true, false, IsTrue}
+use Rattle.std.proofs.Common.{ℕ, ◌≡◌, ◌↔◌, List, [], ◌∷◌, refl, sym, subst, ◌∙◌, inl, inr, nat_eq, not, Bool, true, false, IsTrue}
 use Rattle.std.proofs.lemmas.Bool.{eq-eqb, eqb-true}
 use Rattle.om_subsets.specs.Subsets.{IsMember, with_element}
 use Rattle.om_subsets.proofs.Statements.{members_with}

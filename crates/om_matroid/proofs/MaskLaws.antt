@@ -3,7 +3,7 @@
 -- Main results: the first is part of the second (part_from_masks, masks_from_part), they are apart (apart_from_masks, masks_from_apart), and the
 -- members of a set with the common bits (common_members).
 use Rattle.std.specs.Int.{bit_at}
-use Rattle.std.proofs.Common.{ℕ, ◌≡◌, ◌+◌, ◌-◌, ◌<◌, ◌≤◌, ◌^◌, ◌↔◌, List, min, bit_and, refl, sym, ap, subst, ◌∙◌, inl, inr, arith}
+use Rattle.std.proofs.Common.{ℕ, ◌≡◌, ◌+◌, ◌-◌, ◌<◌, ◌≤◌, ◌↔◌, List, min, bit_and, refl, sym, ap, subst, ◌∙◌, inl, inr, arith}
 use Rattle.std.proofs.lemmas.Bool.{cases_lt, cases_eq}
 use Rattle.std.proofs.lemmas.Nat.Bits.{bit_at-zero, bit_at-lt, bit_at_and, bit_at_above, same_from_bits}
 use Rattle.om_signs.specs.SignVec.{IsMaskOf}

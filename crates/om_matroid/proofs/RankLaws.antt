@@ -4,7 +4,7 @@
 -- Main results: the empty set has the first rank (rank_at_first); a basis with more elements raises the rank (rank_raised), and others keep it
 -- (rank_kept_small, rank_kept_other); after the last set it is the rank (rank_at_last); a set has one rank (one_rank), which its members
 -- alone decide (rank_of_members).
-use Rattle.std.proofs.Common.{ℕ, ◌≡◌, ◌+◌, ◌<◌, ◌≤◌, ◌↔◌, List, [], length, refl, sym, ap, subst, ◌∙◌, inl, inr, arith}
+use Rattle.std.proofs.Common.{ℕ, ◌≡◌, ◌+◌, ◌<◌, ◌≤◌, ◌↔◌, List, [], length, refl, sym, subst, inl, inr, arith}
 use Rattle.std.proofs.lemmas.Bool.{cases_eq}
 use Rattle.om_subsets.specs.Subsets.{IsSubsetFrom, IsMember, choose, subset_at}
 use Rattle.om_chirotope.specs.Map.{SignMap}

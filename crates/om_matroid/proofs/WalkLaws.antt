@@ -3,7 +3,7 @@
 -- Main definitions: HasNoneBefore.
 -- Main results: what holds at each place holds of each set (each_set); after the last place there is no set with a property (none_at_all); the set
 -- at which the walk stops is the first basis that contains one set and has no element of another (first_between).
-use Rattle.std.proofs.Common.{ℕ, ◌≡◌, ◌+◌, ◌<◌, List, length, sym, ap, subst, ◌∙◌, inl, inr, arith}
+use Rattle.std.proofs.Common.{ℕ, ◌≡◌, ◌<◌, List, length, sym, subst, ◌∙◌}
 use Rattle.om_subsets.specs.Subsets.{IsSubsetFrom, choose, rank_of, subset_at}
 use Rattle.om_subsets.specs.Lists.{IsBefore}
 use Rattle.om_subsets.proofs.Order.{rank_from-lt, get_or-rank_from, lexicographic}

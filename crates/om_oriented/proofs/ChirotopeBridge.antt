@@ -6,22 +6,18 @@
 -- such function is zero off the elements, and gives a list (circuit_list, cocircuit_list, covector_list). None of these asks for the axioms.
 -- Reference: Björner, Las Vergnas, Sturmfels, White and Ziegler, Oriented Matroids, chapter 3.
 use Rattle.std.specs.List.{range_with_len}
-use Rattle.std.proofs.Common.{ℕ, zero, suc, ◌≡◌, ◌+◌, ◌-◌, ◌<◌, ◌≤◌, ◌⊎◌, List, [], ◌∷◌, ◌++◌, length, map, cond, nat_eq, refl, sym, ap, subst, ◌∙◌, inl, inr, arith, append-nil}
+use Rattle.std.proofs.Common.{ℕ, zero, suc, ◌≡◌, ◌+◌, ◌-◌, ◌<◌, ◌≤◌, List, [], ◌∷◌, ◌++◌, length, map, cond, nat_eq, refl, sym, ap, subst, ◌∙◌, inl, inr, arith, append-nil}
 use Rattle.std.proofs.lemmas.Bool.{cases_lt}
 use Rattle.std.proofs.lemmas.List.{length-map, get_or_past}
 use Rattle.om_signs.specs.declared.sign.Sign.{Sign}
 use Rattle.om_signs.specs.declared.sign.Sign.TheVariants.{Zero}
 use Rattle.om_signs.specs.Sign.{opposite}
-use Rattle.om_signs.specs.SignVec.{at, IsOrthogonal}
 use Rattle.om_subsets.specs.Subsets.{IsSubsetFrom}
-use Rattle.om_subsets.specs.Lists.{IsWithin}
 use Rattle.om_subsets.proofs.Statements.{subset_is_increasing}
 use Rattle.om_laws.specs.Signs.{IsNonzero}
-use Rattle.om_laws.specs.Members.{IsMember}
-use Rattle.om_laws.specs.Vectors.{SignVector, IsSupportedOn, AreEqualUpToSign, Orthogonal}
+use Rattle.om_laws.specs.Vectors.{SignVector, IsSupportedOn, AreEqualUpToSign}
 use Rattle.om_laws.specs.Vectors as vectors
-use Rattle.om_laws.specs.Tuples.{value}
-use Rattle.om_laws.specs.Sorting.{IsIncreasing, IsElement, Each, IsTuple, on_tuples}
+use Rattle.om_laws.specs.Sorting.{IsIncreasing, IsElement, IsTuple, on_tuples}
 use Rattle.om_laws.specs.Relations.{around, along}
 use Rattle.om_laws.specs.Chirotope.{elements_to}
 use Rattle.om_laws.specs.Circuits.{IsCircuit, IsCocircuit}
@@ -31,7 +27,7 @@ use Rattle.om_laws.specs.Bridge.{as_function, as_list}
 use Rattle.om_laws.proofs.VectorLaws.{orthogonal_sym, orthogonal_same}
 use Rattle.om_laws.proofs.RelationLaws.{around_member}
 use Rattle.om_laws.proofs.TupleSizes.{each_member, each_from, on_tuples_at, on_tuples_tuple, tuple_with, tuple_without, tuple_last, tuple_rank}
-use Rattle.om_laws.proofs.ChirotopeLaws.{member_from_element, element_from_member}
+use Rattle.om_laws.proofs.ChirotopeLaws.{member_from_element}
 use Rattle.om_laws.proofs.RankLaws.{circuit_in_rank, cocircuit_in_rank, orthogonal_in_rank}
 use Rattle.om_laws.proofs.CovectorLaws.{circuit_same, cocircuit_same}
 use Rattle.om_laws.proofs.PairLaws.{covector_same}

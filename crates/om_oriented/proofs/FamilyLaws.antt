@@ -4,7 +4,7 @@
 -- (circuit_axioms, cocircuit_axioms, covector_axioms), conformal decomposition and compositions (conformal_both, composition_both), denotations
 -- (parts_both, orthogonal_both), and the cocircuits as the covectors of least support (least_both).
 -- Reference: Björner, Las Vergnas, Sturmfels, White and Ziegler, Oriented Matroids, chapters 3 and 4.
-use Rattle.std.proofs.Common.{ℕ, zero, suc, ◌≡◌, ◌≢◌, ◌-◌, ◌<◌, ◌≤◌, ◌↔◌, ◌⊎◌, List, [], ◌∷◌, length, map, replicate, cond, true, false, refl, sym, ap, subst, ◌∙◌, inl, inr, ⊎_elim, arith}
+use Rattle.std.proofs.Common.{ℕ, zero, suc, ◌≡◌, ◌≢◌, ◌-◌, ◌<◌, ◌≤◌, ◌↔◌, ◌⊎◌, List, [], ◌∷◌, length, map, replicate, cond, refl, sym, ap, subst, ◌∙◌, inl, inr, ⊎_elim, arith}
 use Rattle.std.proofs.lemmas.Bool.{cases_lt, lt-ltb, le-ltb}
 use Rattle.std.proofs.lemmas.List.{length-map, length-replicate}
 use Rattle.om_signs.specs.declared.sign.Sign.{Sign}
@@ -13,8 +13,8 @@ use Rattle.om_signs.specs.Sign.{opposite, product, first_nonzero}
 use Rattle.om_signs.specs.SignVec.{at, place, compose, IsOrthogonal}
 use Rattle.om_signs.specs.SignVec as lists
 use Rattle.om_signs.proofs.Vectors.{length-compose}
-use Rattle.om_circuits.specs.Vectors.{negated, HasSupportIn, IsOpposedAt, Eliminates}
-use Rattle.om_covectors.specs.Vectors.{IsSeparatedAt, EliminatesFromComposition}
+use Rattle.om_circuits.specs.Vectors.{negated, HasSupportIn, Eliminates}
+use Rattle.om_covectors.specs.Vectors.{EliminatesFromComposition}
 use Rattle.om_laws.specs.Signs.{IsNonzero}
 use Rattle.om_laws.specs.Members.{IsMember}
 use Rattle.om_laws.specs.Vectors.{SignVector, zero_vector, composition, IsSupportedOn, AreEqualUpToSign, Orthogonal}
@@ -37,7 +37,7 @@ use Rattle.om_laws.proofs.PaintingLaws as paintings
 use Rattle.om_laws.proofs.BaseLaws.{circuit_orthogonal}
 use Rattle.om_laws.proofs.CovectorLaws as covectors
 use Rattle.om_laws.proofs.ChirotopeLaws.{member_from_element, element_from_member}
-use Rattle.om_laws.proofs.BridgeLaws.{as_function-as_list, as_list-as_function, as_function-negated, as_function-compose, orthogonal_lists, orthogonal_functions, conformal_lists, conformal_functions, length-as_list}
+use Rattle.om_laws.proofs.BridgeLaws.{as_function-as_list, as_function-negated, as_function-compose, orthogonal_lists, orthogonal_functions, conformal_lists, conformal_functions, length-as_list}
 use Rattle.om_chirotope.specs.Map.{SignMap}
 use Rattle.om_chirotope.specs.Chirotope.{IsChirotope}
 use Rattle.om_chirotope.proofs.Theory.{theory_chirotope}

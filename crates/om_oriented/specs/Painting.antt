@@ -1,7 +1,7 @@
 -- Circuits and cocircuits that a colouring of the elements allows. Elements count from 1.
 --
 -- Reference: Björner, Las Vergnas, Sturmfels, White and Ziegler, Oriented Matroids, chapter 3.
-use Rattle.std.specs.Prelude.{ℕ, ◌≢◌, ◌≤◌, List, length}
+use Rattle.std.specs.Prelude.{ℕ, ◌≢◌, ◌≤◌, List}
 use Rattle.om_signs.specs.declared.sign.Sign.{Sign}
 use Rattle.om_signs.specs.declared.sign.Sign.TheVariants.{Zero}
 use Rattle.om_signs.specs.SignVec.{place}

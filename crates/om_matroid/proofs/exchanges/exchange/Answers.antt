@@ -1,5 +1,4 @@
-use Rattle.std.proofs.Common.{◌≡◌, ◌<◌, ◌≤◌, sym, subst, arith}
-use Rattle.om_subsets.specs.Subsets.{IsSubsetFrom}
+use Rattle.std.proofs.Common.{arith}
 use Rattle.om_subsets.proofs.Order.{members_from}
 use Rattle.om_matroid.proofs.ExchangeLaws.{symmetric_exchange}
 use Rattle.om_matroid.proofs.exchanges.exchange.Goals as goal

@@ -1,4 +1,4 @@
-use Rattle.std.proofs.Common.{ℕ, ◌+◌, bit_and, sym, subst, ◌∙◌}
+use Rattle.std.proofs.Common.{◌+◌, bit_and, sym, subst}
 use Rattle.om_signs.specs.SignVec.{IsMaskOf}
 use Rattle.om_subsets.specs.Subsets.{IsMember, IsSubsetFrom}
 use Rattle.om_matroid.proofs.MaskLaws.{common_members}

@@ -1,4 +1,4 @@
-use Rattle.std.proofs.Common.{ℕ, ◌≡◌, ◌+◌, length, sym, ap, subst, ◌∙◌, arith}
+use Rattle.std.proofs.Common.{◌≡◌, ◌+◌, length, sym, ap, subst, ◌∙◌, arith}
 use Rattle.om_subsets.specs.Subsets.{IsSubsetFrom, choose, subset_at}
 use Rattle.om_matroid.proofs.ElementLaws.{refuted}
 use Rattle.om_matroid.proofs.RankLaws.{IsRankBefore, rank_raised, rank_kept_small, rank_kept_other, rank_at_last}

@@ -1,4 +1,4 @@
-use Rattle.std.proofs.Common.{ℕ, ◌+◌, sym, subst}
+use Rattle.std.proofs.Common.{◌+◌, sym, subst}
 use Rattle.std.proofs.lemmas.Bool.{eq-eqb, eqb-true}
 use Rattle.om_signs.specs.SignVec.{IsMaskOf}
 use Rattle.om_subsets.specs.Subsets.{IsMember, IsSubsetFrom}
