@@ -1,5 +1,7 @@
+pub mod ChirotopeBridge
 mod PlaceLaws
 mod Members
 mod Walks
 mod Sets
 mod Compositions
+mod FamilyLaws

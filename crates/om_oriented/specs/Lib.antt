@@ -5,3 +5,6 @@ pub mod Places
 pub mod Circuits
 pub mod Listings
 pub mod Operations
+pub mod FamilyAxioms
+pub mod Painting
+pub mod Compositions

@@ -10,6 +10,7 @@ mod cocircuits;
 mod comparison;
 mod covector_sets;
 mod differ;
+pub mod laws;
 mod oriented;
 #[cfg(test)]
 mod tests;

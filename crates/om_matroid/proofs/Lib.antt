@@ -1,0 +1,6 @@
+mod MaskLaws
+mod ListLaws
+mod WalkLaws
+mod RankLaws
+mod ElementLaws
+mod ExchangeLaws

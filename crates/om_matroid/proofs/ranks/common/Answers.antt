@@ -1,0 +1,13 @@
+use Rattle.std.proofs.Common.{◌+◌, bit_and, sym, subst}
+use Rattle.om_signs.specs.SignVec.{IsMaskOf}
+use Rattle.om_subsets.specs.Subsets.{IsMember, IsSubsetFrom}
+use Rattle.om_matroid.proofs.MaskLaws.{common_members}
+use Rattle.om_matroid.proofs.ranks.common.Goals as goal
+
+pub returns-clause-members : goal.returns-clause-members
+returns-clause-members c =
+    let second = subst (λ n. IsMaskOf n (λ i. IsMember (i + 1) c.args.b.elements) c.mask-2.result) (sym c.requires) c.mask-2.ensures.bits in
+    let other = subst (λ n. IsSubsetFrom 1 n c.args.b.elements) (sym c.requires) c.size-2.ensures.lawful in
+    let lawful = subst (λ n. IsSubsetFrom 1 n c.from_mask.result.elements) c.n-n.ensures.value c.from_mask.ensures.lawful in
+    let both = subst (λ n. IsMaskOf n (λ i. IsMember (i + 1) c.from_mask.result.elements) (bit_and c.mask.result c.mask-2.result)) c.n-n.ensures.value c.from_mask.ensures.bits in
+    common_members c.args.s.n c.args.s.elements c.args.b.elements c.mask.result c.mask-2.result c.mask.ensures.bits second c.size.ensures.lawful c.from_mask.result.elements other lawful both

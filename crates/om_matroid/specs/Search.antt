@@ -1,0 +1,21 @@
+-- The first basis that contains one set and has no element of another.
+use Rattle.std.specs.Prelude.{ℕ, List}
+use Rattle.om_subsets.specs.Subsets.{IsMember}
+use Rattle.om_subsets.specs.Lists.{IsBefore}
+use Rattle.om_chirotope.specs.Map.{SignMap}
+use Rattle.om_matroid.specs.Bases.{IsBasis, IsPartOf}
+
+-- no element stands in both
+abbrev pub AreApart : List ℕ → List ℕ → Type 0
+AreApart s t = (e : ℕ) → IsMember e s → IsMember e t → ⊥
+
+-- a basis that contains the one set and has no element of the other
+pub record IsBasisBetween (m : SignMap) (inside outside b : List ℕ) : Type 0 where
+  pub basis : IsBasis m b
+  pub contains : IsPartOf inside b
+  pub avoids : AreApart outside b
+
+-- the lexicographically first of these
+pub record IsFirstBetween (m : SignMap) (inside outside b : List ℕ) : Type 0 where
+  pub between : IsBasisBetween m inside outside b
+  pub first : (c : List ℕ) → IsBasisBetween m inside outside c → IsBefore c b → ⊥

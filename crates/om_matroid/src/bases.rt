@@ -1,0 +1,41 @@
+//! First bases.
+
+ghost use Rattle.std.specs.Prelude.{◌≡◌};
+ghost use Rattle.om_matroid.specs.Bases.{IsIndependent, IsFirstBasis, IsFirstBasisWith};
+
+use super::search::first_between;
+use om_chirotope::Chirotope;
+use om_subsets::Subset;
+
+/// The lexicographically first basis: the first increasing list, of as many elements as the rank, whose sign isn't 0. It
+/// walks once over the sets of this size, and takes no memory.
+///
+/// Source: Björner, Las Vergnas, Sturmfels, White and Ziegler, *Oriented Matroids*, chapter 3.
+pub fn first_basis(chi: &Chirotope) -> Subset
+    ensures n { result.n ≡ chi.now.elements }
+    ensures first { IsFirstBasis chi.now result.elements }
+{
+    let nothing = Subset::first(0, chi.elements());
+    let _rank = chi.rank();
+    match first_between(chi, nothing, nothing) {
+        Some(first) => first,
+        None => unreachable!(),
+    }
+}
+
+/// The lexicographically first basis that contains an independent set: a set of some of the elements 1 to n that is contained
+/// in some basis, as the empty set is. It walks once over the sets of as many elements as the rank, and takes no memory.
+///
+/// Source: Björner, Las Vergnas, Sturmfels, White and Ziegler, *Oriented Matroids*, chapter 3.
+pub fn extend_to_basis(chi: &Chirotope, independent: Subset) -> Subset
+    requires n { independent.n ≡ chi.now.elements }
+    requires independent { IsIndependent chi.now independent.elements }
+    ensures n { result.n ≡ chi.now.elements }
+    ensures first { IsFirstBasisWith chi.now independent.elements result.elements }
+{
+    let nothing = Subset::first(0, chi.elements());
+    match first_between(chi, independent, nothing) {
+        Some(basis) => basis,
+        None => unreachable!(),
+    }
+}

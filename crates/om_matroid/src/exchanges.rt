@@ -1,0 +1,44 @@
+//! Exchange of elements of two bases.
+
+ghost use Rattle.std.specs.Prelude.{◌≡◌, ◌≤◌, ◌↔◌, IsTrue};
+ghost use Rattle.om_subsets.specs.Subsets.{IsMember};
+ghost use Rattle.om_matroid.specs.Bases.{IsBasis, IsExchange, IsLeastExchange};
+
+use super::search::is_basis;
+use om_chirotope::Chirotope;
+use om_subsets::Subset;
+
+/// Whether f is in c and not in b, and b without e with f is a basis.
+fn is_exchange(chi: &Chirotope, b: Subset, c: Subset, e: u8, f: u8) -> bool
+    requires b { b.n ≡ chi.now.elements }
+    requires c { c.n ≡ chi.now.elements }
+    requires e_low { 1 ≤ e }
+    requires e_high { e ≤ chi.now.elements }
+    requires f_low { 1 ≤ f }
+    requires f_high { f ≤ chi.now.elements }
+    ensures { IsTrue result ↔ IsExchange chi.now b.elements c.elements e f }
+{
+    c.has(f) && !b.has(f) && is_basis(chi, b.without(e).with(f))
+}
+
+/// The least f in c and not in b such that b without e with f is a basis. b and c are bases, and e is in b and not in c; then
+/// there is such an f. It takes no memory.
+///
+/// Source: Björner, Las Vergnas, Sturmfels, White and Ziegler, *Oriented Matroids*, chapter 3.
+pub fn exchange(chi: &Chirotope, b: Subset, c: Subset, e: u8) -> u8
+    requires b_n { b.n ≡ chi.now.elements }
+    requires c_n { c.n ≡ chi.now.elements }
+    requires b_basis { IsBasis chi.now b.elements }
+    requires c_basis { IsBasis chi.now c.elements }
+    requires inside { IsMember e b.elements }
+    requires outside { IsMember e c.elements → ⊥ }
+    ensures { IsLeastExchange chi.now b.elements c.elements e result }
+{
+    let _rank = chi.rank();
+    for f in 1..chi.elements() + 1 {
+        if is_exchange(chi, b, c, e, f) {
+            return f;
+        }
+    }
+    unreachable!()
+}

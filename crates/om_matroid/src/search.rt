@@ -1,0 +1,65 @@
+//! The walk over the sets of as many elements as the rank, in lexicographic order.
+
+ghost use Rattle.std.specs.Prelude.{◌≡◌, ◌↔◌, ℕ, List, IsTrue, IsNone, IfSome};
+ghost use Rattle.om_matroid.specs.Bases.{IsBasis, IsPartOf};
+ghost use Rattle.om_matroid.specs.Search.{AreApart, IsBasisBetween, IsFirstBetween};
+
+use om_chirotope::Chirotope;
+use om_signs::Sign;
+use om_subsets::Subset;
+
+/// Whether a set is a basis.
+pub fn is_basis(chi: &Chirotope, b: Subset) -> bool
+    requires { b.n ≡ chi.now.elements }
+    ensures { IsTrue result ↔ IsBasis chi.now b.elements }
+{
+    b.size() == chi.rank() && chi.at(b) != Sign::Zero
+}
+
+/// Whether each element of the first set is one of the second.
+pub fn is_part(s: Subset, b: Subset) -> bool
+    requires { s.n ≡ b.n }
+    ensures { IsTrue result ↔ IsPartOf s.elements b.elements }
+{
+    let _size = s.size();
+    s.mask() & b.mask() == s.mask()
+}
+
+/// Whether two sets have no common element.
+fn are_apart(s: Subset, b: Subset) -> bool
+    requires { s.n ≡ b.n }
+    ensures { IsTrue result ↔ AreApart s.elements b.elements }
+{
+    let _sizes = (s.size(), b.size());
+    s.mask() & b.mask() == 0
+}
+
+/// Whether a set is a basis that contains one set and has no element of another.
+fn is_between(chi: &Chirotope, inside: Subset, outside: Subset, b: Subset) -> bool
+    requires inside { inside.n ≡ chi.now.elements }
+    requires outside { outside.n ≡ chi.now.elements }
+    requires set { b.n ≡ chi.now.elements }
+    ensures { IsTrue result ↔ IsBasisBetween chi.now inside.elements outside.elements b.elements }
+{
+    is_part(inside, b) && are_apart(outside, b) && is_basis(chi, b)
+}
+
+/// The lexicographically first basis that contains one set and has no element of another, or None where there is no such
+/// basis.
+pub fn first_between(chi: &Chirotope, inside: Subset, outside: Subset) -> Option<Subset>
+    requires inside { inside.n ≡ chi.now.elements }
+    requires outside { outside.n ≡ chi.now.elements }
+    ensures none { IsNone result ↔ ((b : List ℕ) → IsBasisBetween chi.now inside.elements outside.elements b → ⊥) }
+    ensures n { IfSome result (λ b. b.n ≡ chi.now.elements) }
+    ensures first { IfSome result (λ b. IsFirstBetween chi.now inside.elements outside.elements b.elements) }
+{
+    let rank = chi.rank();
+    let elements = chi.elements();
+    for k in 0..Subset::choose(elements, rank) {
+        let b = Subset::unrank(k, rank, elements);
+        if is_between(chi, inside, outside, b) {
+            return Some(b);
+        }
+    }
+    None
+}

@@ -1,0 +1,367 @@
+-- The laws of circuits, cocircuits and covectors of a chirotope, from functions to lists of signs.
+--
+-- Main results: orthogonality (orthogonal), the painting lemma (painting_one, painting_both), the axioms of circuits, cocircuits and covectors
+-- (circuit_axioms, cocircuit_axioms, covector_axioms), conformal decomposition and compositions (conformal_both, composition_both), denotations
+-- (parts_both, orthogonal_both), and the cocircuits as the covectors of least support (least_both).
+-- Reference: Björner, Las Vergnas, Sturmfels, White and Ziegler, Oriented Matroids, chapters 3 and 4.
+use Rattle.std.proofs.Common.{ℕ, zero, suc, ◌≡◌, ◌≢◌, ◌-◌, ◌<◌, ◌≤◌, ◌↔◌, ◌⊎◌, List, [], ◌∷◌, length, map, replicate, cond, refl, sym, ap, subst, ◌∙◌, inl, inr, ⊎_elim, arith}
+use Rattle.std.proofs.lemmas.Bool.{cases_lt, lt-ltb, le-ltb}
+use Rattle.std.proofs.lemmas.List.{length-map, length-replicate}
+use Rattle.om_signs.specs.declared.sign.Sign.{Sign}
+use Rattle.om_signs.specs.declared.sign.Sign.TheVariants.{Minus, Zero, Plus}
+use Rattle.om_signs.specs.Sign.{opposite, product, first_nonzero}
+use Rattle.om_signs.specs.SignVec.{at, place, compose, IsOrthogonal}
+use Rattle.om_signs.specs.SignVec as lists
+use Rattle.om_signs.proofs.Vectors.{length-compose}
+use Rattle.om_circuits.specs.Vectors.{negated, HasSupportIn, Eliminates}
+use Rattle.om_covectors.specs.Vectors.{EliminatesFromComposition}
+use Rattle.om_laws.specs.Signs.{IsNonzero}
+use Rattle.om_laws.specs.Members.{IsMember}
+use Rattle.om_laws.specs.Vectors.{SignVector, zero_vector, composition, IsSupportedOn, AreEqualUpToSign, Orthogonal}
+use Rattle.om_laws.specs.Vectors as vectors
+use Rattle.om_laws.specs.Axioms.{CircuitAxioms, CovectorAxioms, AreSeparatedAt, IsFromEither}
+use Rattle.om_laws.specs.Chirotope.{elements_to}
+use Rattle.om_laws.specs.Chirotope as theory
+use Rattle.om_laws.specs.Circuits.{IsCircuit, IsCocircuit}
+use Rattle.om_laws.specs.Colours.{Colour, white, IsColoured, CircuitMay, CocircuitMay, SomeCircuit, SomeCocircuit}
+use Rattle.om_laws.specs.Compositions as functions
+use Rattle.om_laws.specs.Covectors.{IsCovector, IsMinimal}
+use Rattle.om_laws.specs.Sorting.{IsElement, is_element}
+use Rattle.om_laws.specs.Bridge.{as_function, as_list}
+use Rattle.om_laws.proofs.SignLaws.{zero_or_nonzero}
+use Rattle.om_laws.proofs.VectorLaws.{orthogonal_same}
+use Rattle.om_laws.proofs.DualPairs.{dual_pair, swapped_pair}
+use Rattle.om_laws.proofs.PairLaws as pairs
+use Rattle.om_laws.proofs.PairLaws.{covector_same}
+use Rattle.om_laws.proofs.PaintingLaws as paintings
+use Rattle.om_laws.proofs.BaseLaws.{circuit_orthogonal}
+use Rattle.om_laws.proofs.CovectorLaws as covectors
+use Rattle.om_laws.proofs.ChirotopeLaws.{member_from_element, element_from_member}
+use Rattle.om_laws.proofs.BridgeLaws.{as_function-as_list, as_function-negated, as_function-compose, orthogonal_lists, orthogonal_functions, conformal_lists, conformal_functions, length-as_list}
+use Rattle.om_chirotope.specs.Map.{SignMap}
+use Rattle.om_chirotope.specs.Chirotope.{IsChirotope}
+use Rattle.om_chirotope.proofs.Theory.{theory_chirotope}
+use Rattle.om_oriented.specs.Circuits.{HasNonzero, IsUpToSign, IsCircuitOfChirotope, IsCocircuitOfChirotope}
+use Rattle.om_oriented.specs.Covectors.{IsCovectorOfChirotope}
+use Rattle.om_oriented.specs.CovectorLaws.{at_zero}
+use Rattle.om_oriented.specs.FamilyAxioms.{HasCircuitAxioms, HasCovectorAxioms}
+use Rattle.om_oriented.specs.Painting.{IsFittingCircuit, IsFittingCocircuit}
+use Rattle.om_oriented.specs.Compositions.{IsCompositionOf, none, front, IsConforming, HasConformingParts, IsOrthogonalToEach, IsOfLeastSupport}
+use Rattle.om_oriented.proofs.ChirotopeBridge.{tuples_of, same_lists, list_supported, nonzero_function, nonzero_list, circuit_length, circuit_function, circuit_of_function, circuit_supported, circuit_list, cocircuit_length, cocircuit_function, cocircuit_of_function, cocircuit_supported, cocircuit_list, covector_function, covector_of_function, covector_list}
+
+-- ---- signs
+
+opposed : (s t : Sign) → s ≡ Plus → t ≡ Minus → IsNonzero s × (s ≡ opposite t)
+opposed s t p q = ((λ z. let e : Plus ≡ Zero = sym p ∙ z in absurd_sign e), p ∙ sym (ap opposite q))
+  where
+    absurd_sign : Plus ≡ Zero → ⊥
+    absurd_sign e = cc
+
+nonzero_of_minus : (s t : Sign) → product s t ≡ Minus → IsNonzero s
+nonzero_of_minus s t = grind arith
+
+opposite_of_minus : (s t : Sign) → product s t ≡ Minus → s ≡ opposite t
+opposite_of_minus s t = grind arith
+
+minus_of_opposite : (s t : Sign) → IsNonzero s → s ≡ opposite t → product s t ≡ Minus
+minus_of_opposite s t = grind arith
+
+-- ---- lists
+
+support_function : (X Y : List Sign) → HasSupportIn X Y → vectors.HasSupportIn (as_function X) (as_function Y)
+support_function X Y h zero n = n
+support_function X Y h (suc i) n = λ z. n (let e : suc i - 1 ≡ i = omega arith in sym (ap (at X) e) ∙ h (suc i) (ap (at Y) e ∙ z))
+
+support_list : (X Y : List Sign) → vectors.HasSupportIn (as_function X) (as_function Y) → HasSupportIn X Y
+support_list X Y s e z = ⊎_elim (λ q. q) (λ n. absurd (s (suc (e - 1)) n z)) (zero_or_nonzero (place X e))
+
+up_to_sign : (n : ℕ) (X Y : List Sign) → length X ≡ n → length Y ≡ n → AreEqualUpToSign (as_function X) (as_function Y) → IsUpToSign X Y
+up_to_sign n X Y l k (inl q) = inl (same_lists n X Y l k q)
+up_to_sign n X Y l k (inr q) = inr (same_lists n X (map opposite Y) l (length-map Y opposite ∙ k) (λ e. q e ∙ sym (as_function-negated Y e)))
+
+not_negated : (n : ℕ) (X Y : List Sign) → length X ≡ n → length Y ≡ n → X ≢ negated Y → ((g : ℕ) → as_function X g ≡ opposite (as_function Y g)) → ⊥
+not_negated n X Y l k other q = other (same_lists n X (map opposite Y) l (length-map Y opposite ∙ k) (λ e. q e ∙ sym (as_function-negated Y e)))
+
+place_function : (X : List Sign) (e : ℕ) → 1 ≤ e → place X e ≡ as_function X e
+place_function X zero low = absurd (omega arith)
+place_function X (suc i) low = let e : suc i - 1 ≡ i = omega arith in ap (at X) e
+
+zero_is_list : (n : ℕ) (e : ℕ) → as_function (replicate n Zero) e ≡ zero_vector e
+zero_is_list n zero = refl
+zero_is_list n (suc i) = at_zero n i
+
+-- the vector that eliminates, as a list
+eliminates : (n : ℕ) (X Y : List Sign) (e : ℕ) (Z : SignVector) → IsSupportedOn (elements_to n) Z → Z (suc (e - 1)) ≡ Zero → IsFromEither (as_function X) (as_function Y) Z → Eliminates X Y e (as_list n Z)
+eliminates n X Y e Z sup gone either = record {
+  zero = back (suc (e - 1)) ∙ gone;
+  plus = λ f p. from f Plus (λ z. cc) (sym (back (suc (f - 1))) ∙ p);
+  minus = λ f p. from f Minus (λ z. cc) (sym (back (suc (f - 1))) ∙ p);
+}
+  where
+    back : (g : ℕ) → as_function (as_list n Z) g ≡ Z g
+    back = as_function-as_list n Z sup
+
+    from : (f : ℕ) (s : Sign) → IsNonzero s → Z (suc (f - 1)) ≡ s → (place X f ≡ s) ⊎ (place Y f ≡ s)
+    from f s n p = ⊎_elim (λ q. inl (sym q ∙ p)) (λ q. inr (sym q ∙ p)) (either (suc (f - 1)) (λ z. n (sym p ∙ z)))
+
+-- ---- the axioms of circuits
+
+module _ (n : ℕ) (D : SignVector → Type 0) (P : List Sign → Type 0)
+    (size : (X : List Sign) → P X → length X ≡ n) (forth : (X : List Sign) → P X → D (as_function X)) (back : (X : List Sign) → length X ≡ n → D (as_function X) → P X)
+    (supported : (F : SignVector) → D F → IsSupportedOn (elements_to n) F) (same : (F G : SignVector) → ((e : ℕ) → F e ≡ G e) → D G → D F) where
+  list_of : (F : SignVector) → D F → P (as_list n F)
+  list_of F d = back (as_list n F) (length-as_list n F) (same (as_function (as_list n F)) F (as_function-as_list n F (supported F d)) d)
+
+  negated_member : CircuitAxioms D → (X : List Sign) → P X → P (negated X)
+  negated_member axioms X x = back (negated X) (length-map X opposite ∙ size X x) (same (as_function (negated X)) (vectors.negated (as_function X)) (as_function-negated X) (axioms.negation (as_function X) (forth X x)))
+
+  pub family_axioms : CircuitAxioms D → HasCircuitAxioms P
+  family_axioms axioms = record {
+    nonzero = λ X x. nonzero_list X (axioms.nonzero (as_function X) (forth X x));
+    symmetric = negated_member axioms;
+    incomparable = λ X Y x y sub. up_to_sign n X Y (size X x) (size Y y) (axioms.incomparable (as_function X) (as_function Y) (forth X x) (forth Y y) (support_function X Y sub));
+    elimination = λ X Y x y other e low opposite_at.
+        let z = axioms.elimination (as_function X) (as_function Y) (forth X x) (forth Y y) (not_negated n X Y (size X x) (size Y y) other) (suc (e - 1)) (opposed (place X e) (place Y e) opposite_at.plus opposite_at.minus) in
+        (as_list n z.0, list_of z.0 z.1, eliminates n X Y e z.0 (supported z.0 z.1) z.2 z.3);
+  }
+
+module _ (m : SignMap) (chirotope : IsChirotope m) where
+  abbrev elements : List ℕ
+  elements = elements_to m.elements
+
+  axioms : theory.IsChirotope elements (tuples_of m)
+  axioms = theory_chirotope m chirotope
+
+  pub circuit_axioms : HasCircuitAxioms (IsCircuitOfChirotope m)
+  circuit_axioms = family_axioms m.elements (IsCircuit elements (tuples_of m)) (IsCircuitOfChirotope m) (circuit_length m) (circuit_function m) (circuit_of_function m) (circuit_supported m)
+      (covectors.circuit_same elements (tuples_of m)) (pairs.cocircuit_axioms elements (IsCocircuit (tuples_of m)) (IsCircuit elements (tuples_of m)) (swapped_pair elements (tuples_of m) axioms))
+
+  pub cocircuit_axioms : HasCircuitAxioms (IsCocircuitOfChirotope m)
+  cocircuit_axioms = family_axioms m.elements (IsCocircuit (tuples_of m)) (IsCocircuitOfChirotope m) (cocircuit_length m) (cocircuit_function m) (cocircuit_of_function m) (cocircuit_supported m)
+      (covectors.cocircuit_same (tuples_of m)) (pairs.cocircuit_axioms elements (IsCircuit elements (tuples_of m)) (IsCocircuit (tuples_of m)) (dual_pair elements (tuples_of m) axioms))
+
+  pub orthogonal : (X Y : List Sign) → IsCircuitOfChirotope m X → IsCocircuitOfChirotope m Y → IsOrthogonal X Y
+  orthogonal X Y x y = orthogonal_lists X Y (circuit_orthogonal elements (tuples_of m) axioms (as_function X) (as_function Y) (circuit_function m X x) (cocircuit_function m Y y))
+
+  -- ---- covectors
+
+  covector_family : CovectorAxioms (IsCovector elements (tuples_of m))
+  covector_family = pairs.covector_axioms elements (IsCircuit elements (tuples_of m)) (IsCocircuit (tuples_of m)) (dual_pair elements (tuples_of m) axioms)
+
+  -- a list whose function is a covector
+  covector_from : (X : List Sign) (F : SignVector) → length X ≡ m.elements → ((e : ℕ) → as_function X e ≡ F e) → IsCovector elements (tuples_of m) F → IsCovectorOfChirotope m X
+  covector_from X F l q c = covector_of_function m X l (covector_same elements (IsCircuit elements (tuples_of m)) (as_function X) F q c)
+
+  zero_covector : IsCovectorOfChirotope m (replicate m.elements Zero)
+  zero_covector = covector_from (replicate m.elements Zero) zero_vector (length-replicate m.elements Zero) (zero_is_list m.elements) covector_family.zero
+
+  composed_covector : (X Y : List Sign) → IsCovectorOfChirotope m X → IsCovectorOfChirotope m Y → IsCovectorOfChirotope m (compose X Y)
+  composed_covector X Y x y = covector_from (compose X Y) (composition (as_function X) (as_function Y)) (length-compose X Y (x.size ∙ sym y.size) ∙ x.size) (as_function-compose X Y)
+      (covector_family.composition_closed (as_function X) (as_function Y) (covector_function m X x) (covector_function m Y y))
+
+  pub covector_axioms : HasCovectorAxioms m.elements (IsCovectorOfChirotope m)
+  covector_axioms = record {
+    zero = zero_covector;
+    symmetric = λ X x. covector_from (negated X) (vectors.negated (as_function X)) (length-map X opposite ∙ x.size) (as_function-negated X) (covector_family.negation (as_function X) (covector_function m X x));
+    compositions = composed_covector;
+    elimination = λ X Y x y e low separated. eliminated X Y e
+        (covector_family.elimination (as_function X) (as_function Y) (covector_function m X x) (covector_function m Y y) (suc (e - 1))
+        (nonzero_of_minus (place X e) (place Y e) separated, opposite_of_minus (place X e) (place Y e) separated));
+  }
+    where
+      eliminated : (X Y : List Sign) (e : ℕ) → (Z : SignVector) × IsCovector elements (tuples_of m) Z × (Z (suc (e - 1)) ≡ Zero) × ((g : ℕ) → (AreSeparatedAt (as_function X) (as_function Y) g → ⊥) → Z g ≡ composition (as_function X) (as_function Y) g)
+          → (Z : List Sign) × IsCovectorOfChirotope m Z × EliminatesFromComposition X Y e Z
+      eliminated X Y e (Z, c, gone, outside) =
+          let back = as_function-as_list m.elements Z c.supported in (
+            as_list m.elements Z,
+            covector_list m Z c,
+            record {
+              zero = back (suc (e - 1)) ∙ gone;
+              outside = λ f apart. back (suc (f - 1)) ∙ outside (suc (f - 1)) (λ s. apart (minus_of_opposite (place X f) (place Y f) s.0 s.1)) ∙ sym (as_function-compose X Y (suc (f - 1)));
+            },
+          )
+
+  -- ---- compositions
+
+  cocircuit_covector : (X : List Sign) → IsCocircuitOfChirotope m X → IsCovectorOfChirotope m X
+  cocircuit_covector X x = covector_of_function m X (cocircuit_length m X x)
+      (pairs.cocircuit_is_covector elements (IsCircuit elements (tuples_of m)) (IsCocircuit (tuples_of m)) (dual_pair elements (tuples_of m) axioms) (as_function X) (cocircuit_function m X x))
+
+  composed : (P : List Sign → Type 0) → ((Y : List Sign) → P Y → IsCovectorOfChirotope m Y) → (X : List Sign) → IsCompositionOf m.elements P X → IsCovectorOfChirotope m X
+  composed P each X none = zero_covector
+  composed P each X (front Y Z y z) = composed_covector Y Z (each Y y) (composed P each Z z)
+
+  list_of_composition : (P : List Sign → Type 0) (D : SignVector → Type 0) → ((F : SignVector) → D F → P (as_list m.elements F)) → ((F : SignVector) → D F → IsSupportedOn elements F)
+      → (Ys : List SignVector) → functions.EachVector D Ys → (X : List Sign) × IsCompositionOf m.elements P X × (length X ≡ m.elements) × ((e : ℕ) → as_function X e ≡ functions.composition_of Ys e)
+  list_of_composition P D to sup [] each = (replicate m.elements Zero, none, length-replicate m.elements Zero, zero_is_list m.elements)
+  list_of_composition P D to sup (Y ∷ Ys) (y, each) = joined (list_of_composition P D to sup Ys each)
+    where
+      joined : (X : List Sign) × IsCompositionOf m.elements P X × (length X ≡ m.elements) × ((e : ℕ) → as_function X e ≡ functions.composition_of Ys e)
+          → (X : List Sign) × IsCompositionOf m.elements P X × (length X ≡ m.elements) × ((e : ℕ) → as_function X e ≡ composition Y (functions.composition_of Ys) e)
+      joined (X, c, l, q) = (
+        compose (as_list m.elements Y) X,
+        front (as_list m.elements Y) X (to Y y) c,
+        length-compose (as_list m.elements Y) X (length-as_list m.elements Y ∙ sym l) ∙ length-as_list m.elements Y,
+        λ e. as_function-compose (as_list m.elements Y) X e ∙ ap (λ s. first_nonzero s (as_function X e)) (as_function-as_list m.elements Y (sup Y y) e) ∙ ap (first_nonzero (Y e)) (q e),
+      )
+
+  pub conformal_both : (X : List Sign) → IsCovectorOfChirotope m X ↔ IsCompositionOf m.elements (IsConforming (IsCocircuitOfChirotope m) X) X
+  conformal_both X = (
+    λ x. same (decomposed x).0 x.size (list_of_composition (IsConforming (IsCocircuitOfChirotope m) X) (functions.IsConforming (IsCocircuit (tuples_of m)) (as_function X)) to (λ F d. cocircuit_supported m F d.0) (decomposed x).0 (decomposed x).1) (decomposed x).2,
+    composed (IsConforming (IsCocircuitOfChirotope m) X) (λ Y y. cocircuit_covector Y y.0) X,
+  )
+    where
+      decomposed : IsCovectorOfChirotope m X → functions.IsConformalComposition (IsCocircuit (tuples_of m)) (as_function X)
+      decomposed x = (covectors.conformal_both elements (IsCircuit elements (tuples_of m)) (IsCocircuit (tuples_of m)) (dual_pair elements (tuples_of m) axioms) (as_function X)).0 (covector_function m X x)
+
+      to : (F : SignVector) → functions.IsConforming (IsCocircuit (tuples_of m)) (as_function X) F → IsConforming (IsCocircuitOfChirotope m) X (as_list m.elements F)
+      to F d = (
+        cocircuit_list m F d.0,
+        conformal_lists (as_list m.elements F) X (λ e n.
+            let back = as_function-as_list m.elements F (cocircuit_supported m F d.0) e in
+            back ∙ d.1 e (subst IsNonzero back n)),
+      )
+
+      same : (Ys : List SignVector) → length X ≡ m.elements → (Z : List Sign) × IsCompositionOf m.elements (IsConforming (IsCocircuitOfChirotope m) X) Z × (length Z ≡ m.elements) × ((e : ℕ) → as_function Z e ≡ functions.composition_of Ys e)
+          → ((e : ℕ) → as_function X e ≡ functions.composition_of Ys e) → IsCompositionOf m.elements (IsConforming (IsCocircuitOfChirotope m) X) X
+      same Ys l (Z, c, k, q) p = subst (IsCompositionOf m.elements (IsConforming (IsCocircuitOfChirotope m) X)) (same_lists m.elements Z X k l (λ e. q e ∙ sym (p e))) c
+
+  pub composition_both : (X : List Sign) → IsCovectorOfChirotope m X ↔ IsCompositionOf m.elements (IsCocircuitOfChirotope m) X
+  composition_both X = (λ x. plain X ((conformal_both X).0 x), composed (IsCocircuitOfChirotope m) cocircuit_covector X)
+    where
+      plain : (Z : List Sign) → IsCompositionOf m.elements (IsConforming (IsCocircuitOfChirotope m) X) Z → IsCompositionOf m.elements (IsCocircuitOfChirotope m) Z
+      plain Z none = none
+      plain Z (front Y W y w) = front Y W y.0 (plain W w)
+
+  -- ---- denotations
+
+  pub orthogonal_both : (X : List Sign) → length X ≡ m.elements → IsCovectorOfChirotope m X ↔ IsOrthogonalToEach (IsCircuitOfChirotope m) X
+  orthogonal_both X l = (
+    λ x Y y. orthogonal_lists X Y ((covector_function m X x).orthogonal (as_function Y) (circuit_function m Y y)),
+    λ each. covector_of_function m X l (record { orthogonal = λ F f. to_function each F f; supported = list_supported m.elements X l }),
+  )
+    where
+      to_function : IsOrthogonalToEach (IsCircuitOfChirotope m) X → (F : SignVector) → IsCircuit elements (tuples_of m) F → Orthogonal (as_function X) F
+      to_function each F f = orthogonal_same (as_function X) (as_function X) F (as_function (as_list m.elements F)) (λ e. refl)
+          (λ e. sym (as_function-as_list m.elements F (circuit_supported m F f) e)) (orthogonal_functions X (as_list m.elements F) (each (as_list m.elements F) (circuit_list m F f)))
+
+  pub parts_both : (X : List Sign) → length X ≡ m.elements → IsCovectorOfChirotope m X ↔ HasConformingParts (IsCocircuitOfChirotope m) X
+  parts_both X l = (λ x i n. list_part i (both.0 (covector_function m X x) (suc i) n), λ parts. covector_of_function m X l (both.1 (function_parts parts)))
+    where
+      both : IsCovector elements (tuples_of m) (as_function X) ↔ functions.HasConformingParts (IsCocircuit (tuples_of m)) (as_function X)
+      both = covectors.parts_both elements (IsCircuit elements (tuples_of m)) (IsCocircuit (tuples_of m)) (dual_pair elements (tuples_of m) axioms) (as_function X)
+
+      list_part : (i : ℕ) → (Y : SignVector) × IsCocircuit (tuples_of m) Y × (Y (suc i) ≡ at X i) × vectors.IsConformal Y (as_function X) → (Z : List Sign) × IsCocircuitOfChirotope m Z × lists.IsConformal Z X × (at Z i ≡ at X i)
+      list_part i (Y, y, q, conformal) =
+          let back = as_function-as_list m.elements Y (cocircuit_supported m Y y) in (
+            as_list m.elements Y,
+            cocircuit_list m Y y,
+            conformal_lists (as_list m.elements Y) X (λ e n. back e ∙ conformal e (subst IsNonzero (back e) n)),
+            back (suc i) ∙ q,
+          )
+
+      function_parts : HasConformingParts (IsCocircuitOfChirotope m) X → functions.HasConformingParts (IsCocircuit (tuples_of m)) (as_function X)
+      function_parts parts zero n = absurd (n refl)
+      function_parts parts (suc i) n = let p = parts i n in (as_function p.0, cocircuit_function m p.0 p.1, p.3, conformal_functions p.0 X p.2)
+
+  -- ---- least support
+
+  minimal_both : (F : SignVector) → IsCocircuit (tuples_of m) F ↔ IsMinimal (IsCovector elements (tuples_of m)) F
+  minimal_both = covectors.minimal_both elements (IsCircuit elements (tuples_of m)) (IsCocircuit (tuples_of m)) (dual_pair elements (tuples_of m) axioms) (covectors.cocircuit_same (tuples_of m))
+
+  pub least_both : (X : List Sign) → IsCocircuitOfChirotope m X ↔ IsOfLeastSupport (IsCovectorOfChirotope m) X
+  least_both X = (
+    λ x. let least = ((minimal_both (as_function X)).0 (cocircuit_function m X x)).least in record {
+      member = cocircuit_covector X x;
+      nonzero = x.nonzero;
+      least = λ Y y nonzero sub. support_list X Y (least (as_function Y) (covector_function m Y y) (nonzero_function Y nonzero) (support_function Y X sub));
+    },
+    λ h. cocircuit_of_function m X h.member.size ((minimal_both (as_function X)).1 (record {
+      member = covector_function m X h.member;
+      nonzero = nonzero_function X h.nonzero;
+      least = λ F f nonzero sub. least_function h F f nonzero sub;
+    })),
+  )
+    where
+      least_function : IsOfLeastSupport (IsCovectorOfChirotope m) X → (F : SignVector) → IsCovector elements (tuples_of m) F → vectors.HasNonzero F → vectors.HasSupportIn F (as_function X) → vectors.HasSupportIn (as_function X) F
+      least_function h F f nonzero sub e n =
+          let back = as_function-as_list m.elements F f.supported in
+          subst IsNonzero (back e) (support_function X (as_list m.elements F) (h.least (as_list m.elements F) (covector_list m F f)
+          (nonzero_list (as_list m.elements F) (nonzero.0, subst IsNonzero (sym (back nonzero.0)) nonzero.1))
+          (support_list (as_list m.elements F) X (λ g k. sub g (subst IsNonzero (back g) k)))) e n)
+
+  -- ---- painting
+
+  -- the colours of the elements, and white elsewhere
+  painted : (ℕ → Colour) → ℕ → Colour
+  painted colour f = cond (is_element m.elements f) (colour f) white
+
+  painted_on : (colour : ℕ → Colour) (f : ℕ) → IsElement m.elements f → painted colour f ≡ colour f
+  unfolding painted
+  painted_on colour f i =
+      let low : 0 < f = let k = i.0 in omega arith in
+      let high : f < suc m.elements = let k = i.1 in omega arith in
+      rw (lt-ltb 0 f low, lt-ltb f (suc m.elements) high) refl
+
+  painted_cases : (colour : ℕ → Colour) (f : ℕ) → IsElement m.elements f ⊎ ((IsElement m.elements f → ⊥) × (painted colour f ≡ white))
+  unfolding painted
+  painted_cases colour f = elim (cases_lt 0 f) [
+    | inl low ↦ elim (cases_lt f (suc m.elements)) [
+      | inl high ↦ inl (omega arith, omega arith)
+      | inr above ↦ inr ((λ i. let k = i.1 in omega (arith, above, k)), rw (lt-ltb 0 f low, le-ltb f (suc m.elements) above) refl)
+    ]
+    | inr below ↦ inr ((λ i. let k = i.0 in omega (arith, below, k)), rw (le-ltb 0 f below) refl)
+  ]
+
+  module _ (colour : ℕ → Colour) (e : ℕ) (element : IsElement m.elements e) (coloured : IsColoured (colour e)) where
+    painted_here : IsColoured (painted colour e)
+    painted_here = subst IsColoured (sym (painted_on colour e element)) coloured
+
+    on_elements : (f : ℕ) → IsColoured (painted colour f) → IsMember f elements
+    on_elements f k = ⊎_elim (λ i. member_from_element m.elements f i) (λ n. absurd (subst IsColoured n.1 k)) (painted_cases colour f)
+
+    listed_sign : (F : SignVector) → IsSupportedOn elements F → (f : ℕ) → 1 ≤ f → place (as_list m.elements F) f ≡ F f
+    listed_sign F sup f low = place_function (as_list m.elements F) f low ∙ as_function-as_list m.elements F sup f
+
+    pub painting_one : ((X : List Sign) × IsFittingCircuit m colour e X) ⊎ ((Y : List Sign) × IsFittingCocircuit m colour e Y)
+    painting_one = ⊎_elim (λ x. inl (circuit_of x)) (λ y. inr (cocircuit_of y))
+        (paintings.painting elements (IsCircuit elements (tuples_of m)) (IsCocircuit (tuples_of m)) (dual_pair elements (tuples_of m) axioms) (painted colour) e (member_from_element m.elements e element) painted_here on_elements)
+      where
+        circuit_of : SomeCircuit (IsCircuit elements (tuples_of m)) (painted colour) e → (X : List Sign) × IsFittingCircuit m colour e X
+        circuit_of (F, c, n, may) =
+            let sign = listed_sign F (circuit_supported m F c) in (
+              as_list m.elements F,
+              record {
+                circuit = circuit_list m F c;
+                through = subst IsNonzero (sym (sign e element.0)) n;
+                fits = λ f low high. subst (CircuitMay (colour f)) (sym (sign f low)) (subst (λ k. CircuitMay k (F f)) (painted_on colour f (low, high)) (may f));
+              },
+            )
+
+        cocircuit_of : SomeCocircuit (IsCocircuit (tuples_of m)) (painted colour) e → (Y : List Sign) × IsFittingCocircuit m colour e Y
+        cocircuit_of (F, c, n, may) =
+            let sign = listed_sign F (cocircuit_supported m F c) in (
+              as_list m.elements F,
+              record {
+                cocircuit = cocircuit_list m F c;
+                through = subst IsNonzero (sym (sign e element.0)) n;
+                fits = λ f low high. subst (CocircuitMay (colour f)) (sym (sign f low)) (subst (λ k. CocircuitMay k (F f)) (painted_on colour f (low, high)) (may f));
+              },
+            )
+
+    pub painting_both : (X Y : List Sign) → IsFittingCircuit m colour e X → IsFittingCocircuit m colour e Y → ⊥
+    painting_both X Y x y = paintings.not_both elements (IsCircuit elements (tuples_of m)) (IsCocircuit (tuples_of m)) (dual_pair elements (tuples_of m) axioms) (painted colour) e painted_here
+        (as_function X, circuit_function m X x.circuit, subst IsNonzero (place_function X e element.0) x.through, circuit_may)
+        (as_function Y, cocircuit_function m Y y.cocircuit, subst IsNonzero (place_function Y e element.0) y.through, cocircuit_may)
+      where
+        circuit_may : (f : ℕ) → CircuitMay (painted colour f) (as_function X f)
+        circuit_may f = ⊎_elim
+            (λ i. subst (λ k. CircuitMay k (as_function X f)) (sym (painted_on colour f i)) (subst (CircuitMay (colour f)) (place_function X f i.0) (x.fits f i.0 i.1)))
+            (λ n. subst (λ k. CircuitMay k (as_function X f)) (sym n.1) (⊎_elim (λ z. z) (λ k. absurd (n.0 (element_from_member m.elements f (list_supported m.elements X (circuit_length m X x.circuit) f k)))) (zero_or_nonzero (as_function X f))))
+            (painted_cases colour f)
+
+        cocircuit_may : (f : ℕ) → CocircuitMay (painted colour f) (as_function Y f)
+        cocircuit_may f = ⊎_elim
+            (λ i. subst (λ k. CocircuitMay k (as_function Y f)) (sym (painted_on colour f i)) (subst (CocircuitMay (colour f)) (place_function Y f i.0) (y.fits f i.0 i.1)))
+            (λ n. subst (λ k. CocircuitMay k (as_function Y f)) (sym n.1) tt)
+            (painted_cases colour f)

@@ -1,0 +1,5 @@
+use Rattle.om_oriented.proofs.FamilyLaws.{composition_both}
+use Rattle.om_oriented.proofs.laws.compositions.Goals as goal
+
+pub returns : goal.returns
+returns c = λ m chirotope X. composition_both m chirotope X

@@ -1,0 +1,5 @@
+use Rattle.om_oriented.proofs.FamilyLaws.{orthogonal}
+use Rattle.om_oriented.proofs.laws.orthogonality.Goals as goal
+
+pub returns : goal.returns
+returns c = λ m chirotope X Y x y. orthogonal m chirotope X Y x y
