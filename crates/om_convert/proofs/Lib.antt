@@ -2,3 +2,8 @@ pub mod SelectionLaws
 pub mod FunctionLaws
 pub mod AxiomLaws
 pub mod CocircuitLaws
+pub mod CountingLaws
+pub mod GatheringLaws
+pub mod CompositionLaws
+pub mod PlaceLaws
+pub mod KeyLaws

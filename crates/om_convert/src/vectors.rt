@@ -17,9 +17,10 @@ pub fn all_circuits(alloc: Global, chi: &Chirotope) -> Result<MemberSet, Convert
     ensures many { IfErr result (IsCause (IsCircuitOfChirotope chi.now)) }
 {
     let elements = chi.elements();
+    let rank = chi.rank();
     let mut circuits = MemberSet::new(alloc);
-    if chi.rank() < elements {
-        let size = chi.rank() + 1;
+    if rank < elements {
+        let size = rank + 1;
         for k in 0..Subset::choose(elements, size) {
             let s = Subset::unrank(k, size, elements);
             circuits.insert_signed(chi.circuit_of(s))?;
@@ -34,9 +35,10 @@ pub fn all_cocircuits(alloc: Global, chi: &Chirotope) -> Result<MemberSet, Conve
     ensures many { IfErr result (IsCause (IsCocircuitOfChirotope chi.now)) }
 {
     let elements = chi.elements();
+    let rank = chi.rank();
     let mut cocircuits = MemberSet::new(alloc);
-    if 0 < chi.rank() {
-        let size = chi.rank() - 1;
+    if 0 < rank {
+        let size = rank - 1;
         for k in 0..Subset::choose(elements, size) {
             let a = Subset::unrank(k, size, elements);
             cocircuits.insert_signed(chi.cocircuit_of(a))?;

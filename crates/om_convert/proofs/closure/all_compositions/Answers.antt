@@ -1,0 +1,12 @@
+use Rattle.std.proofs.Common.{◌≡◌, [], sym, ◌∙◌, ap, subst, arith}
+use Rattle.om_convert.specs.Gathering.{IsExtendedBy}
+use Rattle.om_convert.proofs.CompositionLaws.{closed_start, closed_more}
+use Rattle.om_convert.proofs.closure.all_compositions.Goals as goal
+
+pub loop-done-init : goal.loop-done-init
+loop-done-init c = closed_start c.args.elements c.args.vectors.now c.requires.lengths c.insert.new.self
+    (subst (λ l. IsExtendedBy (λ X. X ≡ replicate c.args.elements Zero) l c.insert.new.self) c.new-members.ensures
+    (subst (λ Z. IsExtendedBy (λ X. X ≡ Z) c.new-members.result c.insert.new.self) c.zero.ensures c.in_ok-insert.ensures.added))
+
+pub loop-done-preserved : goal.loop-done-preserved
+loop-done-preserved c = ?

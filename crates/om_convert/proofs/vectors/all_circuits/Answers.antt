@@ -1,0 +1,23 @@
+use Rattle.std.proofs.Common.{◌+◌, ◌≡◌, sym, ◌∙◌, ap, subst, arith}
+use Rattle.std.proofs.lemmas.Result.{err_from_is_err_and}
+use Rattle.om_subsets.specs.Subsets.{subset_at, choose}
+use Rattle.om_chirotope.specs.Map.{circuit_vector}
+use Rattle.om_oriented.specs.Circuits.{IsCircuitOfChirotope}
+use Rattle.om_oriented.specs.Listings.{AreAllOf}
+use Rattle.om_convert.proofs.PlaceLaws.{IsOfPlace, none_at_places, gathered_more, cause_at_place, circuits_of_places, circuit_cause, no_circuits}
+use Rattle.om_convert.proofs.vectors.all_circuits.Goals as goal
+
+pub loop-k-init : goal.loop-k-init
+loop-k-init c = subst (AreAllOf (IsOfPlace (circuit_vector c.args.chi.now) c.args.chi.now.elements (c.args.chi.now.rank + 1) 0)) (sym c.new-circuits.ensures)
+    (none_at_places (circuit_vector c.args.chi.now) c.args.chi.now.elements (c.args.chi.now.rank + 1))
+
+pub loop-k-preserved : goal.loop-k-preserved
+loop-k-preserved c =
+    let q = c.circuit_of.ensures ∙ ap (circuit_vector c.args.chi.now) (c.unrank-s.ensures.elements ∙ (λ i. subset_at (c.elements-elements.ensures.value i) (c.rank-rank.ensures.value i + 1) c.loop-k.k)) in
+    gathered_more (circuit_vector c.args.chi.now) c.args.chi.now.elements (c.args.chi.now.rank + 1) c.loop-k.k c.circuit_of.result q c.loop-k.circuits c.insert_signed.new.self c.loop-k.invariant c.in_ok-insert_signed.ensures.added
+
+pub returns-in_err-insert_signed-clause-many : goal.returns-in_err-insert_signed-clause-many
+returns-in_err-insert_signed-clause-many c = ?
+
+pub returns-clause-members : goal.returns-clause-members
+returns-clause-members c = ?

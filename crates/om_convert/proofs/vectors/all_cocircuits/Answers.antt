@@ -1,0 +1,23 @@
+use Rattle.std.proofs.Common.{◌-◌, ◌≡◌, sym, ◌∙◌, ap, subst, arith}
+use Rattle.std.proofs.lemmas.Result.{err_from_is_err_and}
+use Rattle.om_subsets.specs.Subsets.{subset_at, choose}
+use Rattle.om_chirotope.specs.Map.{cocircuit_vector}
+use Rattle.om_oriented.specs.Circuits.{IsCocircuitOfChirotope}
+use Rattle.om_oriented.specs.Listings.{AreAllOf}
+use Rattle.om_convert.proofs.PlaceLaws.{IsOfPlace, none_at_places, gathered_more, cause_at_place, cocircuits_of_places, cocircuit_cause, no_cocircuits}
+use Rattle.om_convert.proofs.vectors.all_cocircuits.Goals as goal
+
+pub loop-k-init : goal.loop-k-init
+loop-k-init c = subst (AreAllOf (IsOfPlace (cocircuit_vector c.args.chi.now) c.args.chi.now.elements (c.args.chi.now.rank - 1) 0)) (sym c.new-cocircuits.ensures)
+    (none_at_places (cocircuit_vector c.args.chi.now) c.args.chi.now.elements (c.args.chi.now.rank - 1))
+
+pub loop-k-preserved : goal.loop-k-preserved
+loop-k-preserved c =
+    let q = c.cocircuit_of.ensures ∙ ap (cocircuit_vector c.args.chi.now) (c.unrank-a.ensures.elements ∙ (λ i. subset_at (c.elements-elements.ensures.value i) (c.rank-rank.ensures.value i - 1) c.loop-k.k)) in
+    gathered_more (cocircuit_vector c.args.chi.now) c.args.chi.now.elements (c.args.chi.now.rank - 1) c.loop-k.k c.cocircuit_of.result q c.loop-k.cocircuits c.insert_signed.new.self c.loop-k.invariant c.in_ok-insert_signed.ensures.added
+
+pub returns-in_err-insert_signed-clause-many : goal.returns-in_err-insert_signed-clause-many
+returns-in_err-insert_signed-clause-many c = ?
+
+pub returns-clause-members : goal.returns-clause-members
+returns-clause-members c = ?
