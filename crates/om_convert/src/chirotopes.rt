@@ -31,7 +31,8 @@ pub fn chirotope_to_circuits(alloc: Global, chi: &Chirotope) -> Result<Circuits,
     ensures few { OnOk result (IsWithinLimit (IsCircuitOfChirotope chi.now)) }
     ensures many { IfErr result (IsCause (IsCircuitOfChirotope chi.now)) }
 {
-    let circuits = all_circuits(alloc, chi)?.into_list(alloc)?;
+    let gathered = all_circuits(alloc, chi)?;
+    let circuits = gathered.into_list(alloc)?;
     Ok(Circuits(SignedSet::lawful(chi.elements(), circuits)))
 }
 
@@ -51,7 +52,8 @@ pub fn chirotope_to_cocircuits(alloc: Global, chi: &Chirotope) -> Result<Cocircu
     ensures few { OnOk result (IsWithinLimit (IsCocircuitOfChirotope chi.now)) }
     ensures many { IfErr result (IsCause (IsCocircuitOfChirotope chi.now)) }
 {
-    let cocircuits = all_cocircuits(alloc, chi)?.into_list(alloc)?;
+    let gathered = all_cocircuits(alloc, chi)?;
+    let cocircuits = gathered.into_list(alloc)?;
     Ok(Cocircuits(SignedSet::lawful(chi.elements(), cocircuits)))
 }
 
@@ -71,8 +73,7 @@ pub fn chirotope_to_covectors(alloc: Global, chi: &Chirotope) -> Result<Covector
     ensures many { IfErr result (IsCause (IsCovectorOfChirotope chi.now)) }
 {
     let cocircuits = all_cocircuits(alloc, chi)?;
-    let covectors = all_compositions(alloc, chi.elements(), cocircuits.as_slice())?.into_list(
-        alloc,
-    )?;
+    let gathered = all_compositions(alloc, chi.elements(), cocircuits.as_slice())?;
+    let covectors = gathered.into_list(alloc)?;
     Ok(Covectors::lawful(chi.elements(), covectors))
 }
