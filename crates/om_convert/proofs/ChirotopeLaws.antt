@@ -163,8 +163,10 @@ module _ (m : SignMap) where
     pub covectors_of_compositions : (members : List (List Sign)) → AreAllOf (IsCompositionOf m.elements cocircuits) members → AreAllOf (IsCovectorOfChirotope m) members
     covectors_of_compositions members a = record { sound = λ X k. covector_of_composition X (a.sound X k); complete = λ X x. a.complete X (composition_of_covector X x) }
 
-    pub covector_of_cocircuit : (X : List Sign) → IsCocircuitOfChirotope m X → IsCovectorOfChirotope m X
-    covector_of_cocircuit X y = covector_of_composition X ?
+  -- a cocircuit is a covector
+  pub covector_of_cocircuit : IsChirotope m → (X : List Sign) → IsCocircuitOfChirotope m X → IsCovectorOfChirotope m X
+  covector_of_cocircuit c X y = covector_of_function m X (cocircuit_length m X y)
+      (pairs.cocircuit_is_covector (elements_to m.elements) (IsCircuit (elements_to m.elements) (tuples_of m)) (IsCocircuit (tuples_of m)) (dual_pair (elements_to m.elements) (tuples_of m) (theory_chirotope m c)) (as_function X) (cocircuit_function m X y))
 
   -- ---- covectors
 

@@ -15,8 +15,12 @@ use Rattle.om_signs.specs.SignVec.{compose}
 use Rattle.om_signs.proofs.Vectors.{length-compose}
 use Rattle.om_circuits.specs.SignedSets.{HaveLength}
 use Rattle.om_oriented.specs.Listings.{AreAllOf}
+use Rattle.om_convert.specs.declared.convert_error.ConvertError.{ConvertError}
 use Rattle.om_convert.specs.Compositions.{composition_of, AreFrom, IsCompositionOf}
 use Rattle.om_convert.specs.Gathering.{IsOldOrAdded, IsExtendedBy, IsComposedWith}
+use Rattle.om_convert.specs.Limits.{IsCause}
+use Rattle.om_convert.proofs.SelectionLaws.{none_contained}
+use Rattle.om_convert.proofs.CountingLaws.{cause_of_cause}
 
 -- ---- compositions
 
@@ -144,3 +148,13 @@ module _ (n : ℕ) (Ys : List (List Sign)) (lengths : HaveLength n Ys) where
       complete = λ X c. subst (Contains members) (zero_compose (composition_of n c.0) n (length_composition c.0 c.1) ∙ sym c.2)
           (closed_parts c.0 c.1 (replicate n Zero) h.zero_member (length-replicate n Zero));
     }
+
+  -- ---- why the compositions are not listed
+
+  pub start_cause : (e : ConvertError) → IsCause (IsOldOrAdded [] (λ X. X ≡ replicate n Zero)) e → IsCause (IsCompositionOf n Ys) e
+  start_cause e c = cause_of_cause (IsOldOrAdded [] (λ X. X ≡ replicate n Zero)) (IsCompositionOf n Ys)
+      (λ X a. ⊎_elim (λ k. absurd (none_contained X k)) (λ q. subst (IsCompositionOf n Ys) (sym q) none_composed) a) e c
+
+  pub composed_cause : (done : ℕ) (old : List (List Sign)) (X : List Sign) → Contains old X → IsClosedBelow n Ys done old → (e : ConvertError) → IsCause (IsOldOrAdded old (IsComposedWith X Ys)) e → IsCause (IsCompositionOf n Ys) e
+  composed_cause done old X x h e c = cause_of_cause (IsOldOrAdded old (IsComposedWith X Ys)) (IsCompositionOf n Ys)
+      (λ Z a. ⊎_elim (λ o. h.sound Z o) (λ b. composed_with X Z (h.sound X x) b) a) e c

@@ -7,9 +7,8 @@ ghost use Rattle.om_oriented.specs.Denotation.{DenoteTheSame};
 ghost use Rattle.om_oriented.specs.Listings.{AreAllOf};
 ghost use Rattle.om_convert.specs.Limits.{IsCause, IsWithinLimit};
 
-use super::closure::all_compositions;
 use super::convert_error::ConvertError;
-use super::vectors::{all_circuits, all_cocircuits};
+use super::vectors::{all_circuits, all_cocircuits, all_covectors};
 use om_chirotope::Chirotope;
 use om_circuits::{Circuits, Cocircuits, SignedSet};
 use om_covectors::Covectors;
@@ -72,8 +71,7 @@ pub fn chirotope_to_covectors(alloc: Global, chi: &Chirotope) -> Result<Covector
     ensures few { OnOk result (IsWithinLimit (IsCovectorOfChirotope chi.now)) }
     ensures many { IfErr result (IsCause (IsCovectorOfChirotope chi.now)) }
 {
-    let cocircuits = all_cocircuits(alloc, chi)?;
-    let gathered = all_compositions(alloc, chi.elements(), cocircuits.as_slice())?;
+    let gathered = all_covectors(alloc, chi)?;
     let covectors = gathered.into_list(alloc)?;
     Ok(Covectors::lawful(chi.elements(), covectors))
 }

@@ -6,6 +6,7 @@ use Rattle.om_oriented.specs.Circuits.{IsCircuitOfChirotope}
 use Rattle.om_oriented.specs.Listings.{AreAllOf}
 use Rattle.om_convert.proofs.PlaceLaws.{IsOfPlace, none_at_places, gathered_more, cause_at_place, circuits_of_places, circuit_cause, no_circuits}
 use Rattle.om_convert.proofs.vectors.all_circuits.Goals as goal
+use Rattle.om_convert.proofs.vectors.all_circuits.Goals.{then-rank-elements+else-loop-k-test, else-rank-elements}
 
 pub loop-k-init : goal.loop-k-init
 loop-k-init c = subst (AreAllOf (IsOfPlace (circuit_vector c.args.chi.now) c.args.chi.now.elements (c.args.chi.now.rank + 1) 0)) (sym c.new-circuits.ensures)
@@ -26,4 +27,17 @@ returns-in_err-insert_signed-clause-many c =
     (cause_at_place (circuit_vector c.args.chi.now) c.args.chi.now.elements (c.args.chi.now.rank + 1) c.loop-k.k c.circuit_of.result q l c.loop-k.circuits c.in_err-insert_signed.field-0.0 c.loop-k.invariant c.in_err-insert_signed.ensures.many))
 
 pub returns-clause-members : goal.returns-clause-members
-returns-clause-members c = ?
+returns-clause-members c = elim c.if-rank-elements.branch [
+  | then-rank-elements+else-loop-k-test w ↦
+      let high = w.loop-k.auto in
+      let low = w.loop-k-test.false in
+      let end : w.loop-k.k ≡ w.choose-k-end.result = omega (arith, high, low) in
+      let e = end ∙ w.choose-k-end.ensures.value ∙ (λ i. choose (c.elements-elements.ensures.value i) (c.rank-rank.ensures.value i + 1)) in
+      subst (AreAllOf (IsCircuitOfChirotope c.args.chi.now)) (sym w.circuits-is)
+      (circuits_of_places c.args.chi.now w.loop-k.k e w.loop-k.circuits w.loop-k.invariant)
+  | else-rank-elements w ↦
+      let r = c.rank-rank.ensures.value in
+      let n = c.elements-elements.ensures.value in
+      let f = w.if-rank-elements.false in
+      subst (AreAllOf (IsCircuitOfChirotope c.args.chi.now)) (sym (w.circuits-is ∙ c.new-circuits.ensures)) (no_circuits c.args.chi.now (omega (arith, r, n, f)))
+]
