@@ -10,7 +10,7 @@ use Rattle.std.proofs.Common.{ℕ, zero, suc, ◌≡◌, ◌↔◌, List, [], �
 use Rattle.om_signs.specs.declared.sign.Sign.{Sign}
 use Rattle.om_signs.specs.declared.sign.Sign.TheVariants.{Zero}
 use Rattle.om_signs.specs.Sign.{first_nonzero}
-use Rattle.om_signs.specs.SignVec.{at, compose, IsOrthogonal}
+use Rattle.om_signs.specs.SignVec.{IsOrthogonal}
 use Rattle.om_laws.specs.Vectors.{SignVector, Orthogonal}
 use Rattle.om_laws.specs.Chirotope as theory
 use Rattle.om_laws.specs.Chirotope.{elements_to}

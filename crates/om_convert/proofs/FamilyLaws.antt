@@ -7,7 +7,7 @@
 use Rattle.std.specs.List.{Contains}
 use Rattle.std.proofs.lemmas.List.{length-map}
 use Rattle.std.proofs.lemmas.List.Elements.{All-contains_itself}
-use Rattle.std.proofs.Common.{ℕ, zero, suc, ◌≡◌, ◌≢◌, ◌-◌, ◌≤◌, ◌⊎◌, ◌↔◌, List, length, refl, sym, ap, subst, ◌∙◌, inl, inr, ⊎_elim, arith}
+use Rattle.std.proofs.Common.{ℕ, zero, suc, ◌≡◌, ◌≢◌, ◌-◌, ◌⊎◌, ◌↔◌, List, length, refl, sym, ap, subst, ◌∙◌, inl, inr, ⊎_elim}
 use Rattle.om_signs.specs.declared.sign.Sign.{Sign}
 use Rattle.om_signs.specs.declared.sign.Sign.TheVariants.{Minus, Zero, Plus}
 use Rattle.om_signs.specs.Sign.{opposite}
@@ -23,12 +23,12 @@ use Rattle.om_laws.proofs.BridgeLaws.{as_function-compose, as_function-negated, 
 use Rattle.om_circuits.specs.Vectors.{negated, HasSupportIn, IsOpposedAt, Eliminates}
 use Rattle.om_circuits.specs.Axioms.{MeetsCircuitAxioms, HasEliminator}
 use Rattle.om_circuits.specs.SignedSets.{HaveLength}
-use Rattle.om_covectors.specs.Vectors.{IsSeparatedAt, EliminatesFromComposition}
+use Rattle.om_covectors.specs.Vectors.{IsSeparatedAt}
 use Rattle.om_covectors.specs.Axioms.{MeetsCovectorAxioms, HasZero, HasCovectorEliminator}
 use Rattle.om_oriented.specs.Listings.{AreAllOf}
 use Rattle.om_oriented.proofs.ChirotopeBridge.{same_lists}
 use Rattle.om_convert.specs.Families.{IsComposedOf}
-use Rattle.om_convert.proofs.FunctionLaws.{zero_function, nonzero_element, support_functions, product_minus, nonzero_of_minus, opposite_of_minus}
+use Rattle.om_convert.proofs.FunctionLaws.{zero_function, support_functions, product_minus, nonzero_of_minus, opposite_of_minus}
 
 pub length-negated : (X : List Sign) → length (negated X) ≡ length X
 length-negated X = length-map X opposite

@@ -3,7 +3,7 @@
 -- Main results: a function is listed exactly where it is that of a member (listed, unlisted); supports and zero vectors of lists are those of
 -- functions.
 use Rattle.std.specs.List.{Contains}
-use Rattle.std.proofs.Common.{ℕ, zero, suc, ◌≡◌, ◌-◌, List, [], ◌∷◌, length, map, refl, sym, ap, ◌∙◌, inl, inr, ⊎_elim, arith}
+use Rattle.std.proofs.Common.{ℕ, zero, suc, ◌≡◌, ◌-◌, List, [], ◌∷◌, refl, sym, ap, ◌∙◌, inl, inr, ⊎_elim, arith}
 use Rattle.om_signs.specs.declared.sign.Sign.{Sign}
 use Rattle.om_signs.specs.declared.sign.Sign.TheVariants.{Minus, Zero}
 use Rattle.om_signs.specs.Sign.{opposite, product}
@@ -13,9 +13,7 @@ use Rattle.om_laws.specs.Vectors.{SignVector}
 use Rattle.om_laws.specs.Vectors as vectors
 use Rattle.om_laws.specs.Families.{IsListed}
 use Rattle.om_laws.specs.Bridge.{as_function}
-use Rattle.om_laws.specs.Chirotope.{elements_to}
 use Rattle.om_laws.proofs.SignLaws.{zero_or_nonzero}
-use Rattle.om_laws.proofs.BridgeLaws.{as_list-as_function}
 use Rattle.om_covectors.specs.Vectors.{IsZero, HasSupportIn}
 use Rattle.om_convert.specs.Families.{as_functions}
 use Rattle.om_convert.proofs.SelectionLaws.{contains_first, contains_later, first_or_later}

@@ -2,7 +2,7 @@
 --
 -- Main results: what was added in two steps was added in one (extended_twice, cause_later); a vector more at the end (pushed, full);
 -- when all of a family were added (gathered).
-use Rattle.std.specs.List.{Contains, AllPairs}
+use Rattle.std.specs.List.{Contains}
 use Rattle.std.proofs.lemmas.List.{append-nil, append_assoc, length-append, get_or_default, get_or_past}
 use Rattle.std.proofs.lemmas.Nat.Bits.{bit_at-zero, bit_at_above}
 use Rattle.std.proofs.Math.ListN.{get_or-map}
@@ -10,7 +10,7 @@ use Rattle.std.specs.Int.{bit_at}
 use Rattle.std.proofs.lemmas.Bool.{cases_lt}
 use Rattle.std.proofs.lemmas.List.Elements.{All-contains_itself, Contains-append_left, Contains-push, Contains-push_cases, Contains-get_or}
 use Rattle.std.proofs.lemmas.List.Quantifiers.{all_pairs_push}
-use Rattle.std.proofs.Common.{ℕ, zero, suc, ◌≡◌, ◌≢◌, ◌+◌, ◌<◌, ◌≤◌, ◌^◌, ◌⊎◌, get_or, map, List, [], ◌∷◌, ◌++◌, length, refl, sym, ap, subst, ◌∙◌, inl, inr, ⊎_elim, arith}
+use Rattle.std.proofs.Common.{ℕ, ◌≡◌, ◌≢◌, ◌+◌, ◌<◌, ◌≤◌, ◌^◌, ◌⊎◌, get_or, map, List, [], ◌∷◌, ◌++◌, length, refl, sym, ap, subst, ◌∙◌, inl, inr, ⊎_elim, arith}
 use Rattle.om_signs.specs.declared.sign.Sign.{Sign}
 use Rattle.om_signs.specs.declared.sign.Sign.TheVariants.{Minus, Zero, Plus}
 use Rattle.om_signs.specs.declared.limits.TheConstants.{MAX_MEMBERS}

@@ -2,7 +2,7 @@
 --
 -- Main results: gathered_more (one place more), cause_at_place, all_places (all places are all increasing lists of the size), and what this says
 -- of circuits and cocircuits (circuits_of_places, no_circuits, cocircuits_of_places, no_cocircuits).
-use Rattle.std.proofs.Common.{ℕ, ◌≡◌, ◌+◌, ◌-◌, ◌<◌, ◌≤◌, ◌⊎◌, List, [], length, refl, sym, ap, subst, ◌∙◌, inl, inr, ⊎_elim, arith}
+use Rattle.std.proofs.Common.{ℕ, ◌≡◌, ◌+◌, ◌-◌, ◌<◌, ◌≤◌, ◌⊎◌, List, [], length, sym, ap, subst, ◌∙◌, inl, inr, arith}
 use Rattle.std.proofs.lemmas.Bool.{cases_lt}
 use Rattle.om_signs.specs.declared.sign.Sign.{Sign}
 use Rattle.om_subsets.specs.Subsets.{choose, rank_of, subset_at, IsSubsetFrom}

@@ -1,4 +1,4 @@
-ghost use Rattle.std.specs.Prelude.{◌≡◌, ◌<◌, [], length, IfOk, IfErr, OnOk, slice_get, Some};
+ghost use Rattle.std.specs.Prelude.{◌≡◌, ◌<◌, ◌≤◌, ◌↔◌, [], length, IsTrue, IfOk, IfErr, OnOk, slice_get, Some};
 ghost use Rattle.om_circuits.specs.SignedSets.{HaveLength};
 ghost use Rattle.om_convert.specs.Gathering.{IsMemberSet, IsOldOrAdded, IsExtendedBy, IsNonzeroUpToSign, IsComposedWith};
 ghost use Rattle.om_convert.specs.Limits.{IsCause};
@@ -60,6 +60,13 @@ impl MemberSet {
         self.set.as_slice()
     }
 
+    /// Whether there are as many members as may be.
+    pub fn is_full(&self) -> bool
+        ensures { IsTrue result ↔ (MAX_MEMBERS ≤ length self.now) }
+    {
+        self.set.len() >= MAX_MEMBERS
+    }
+
     /// Adds a vector at the end, if it is no member.
     ///
     /// [`ConvertError::TooMany`] comes exactly where it is no member and there are as many as may be, and then names their
@@ -71,7 +78,7 @@ impl MemberSet {
         if self.set.contains(&x) {
             return Ok(());
         }
-        if self.set.len() >= MAX_MEMBERS {
+        if self.is_full() {
             return Err(ConvertError::TooMany {
                 limit: MAX_MEMBERS as u32,
             });

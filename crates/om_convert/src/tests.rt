@@ -89,8 +89,8 @@ fn list_of(alloc: Global, elements: u8, words: &[&str]) -> Result<List<SignVec>,
     Ok(list)
 }
 
-/// Whether the members are the vectors of some words, in any order.
-fn are_all(members: &[SignVec], elements: u8, words: &[&str]) -> bool
+/// Whether the vectors of some words are among the members.
+fn have_all(members: &[SignVec], elements: u8, words: &[&str]) -> bool
     requires low { 1 ≤ elements }
     requires high { elements ≤ MAX_ELEMENTS }
 {
@@ -99,7 +99,15 @@ fn are_all(members: &[SignVec], elements: u8, words: &[&str]) -> bool
             return false;
         }
     }
-    members.len() == words.len()
+    true
+}
+
+/// Whether the members are the vectors of some words, in any order.
+fn are_all(members: &[SignVec], elements: u8, words: &[&str]) -> bool
+    requires low { 1 ≤ elements }
+    requires high { elements ≤ MAX_ELEMENTS }
+{
+    members.len() == words.len() && have_all(members, elements, words)
 }
 
 /// The chirotope of a list of signs, which meets the axioms.
@@ -165,100 +173,121 @@ fn all_plus<R: Threads + Sync + Abort>(
     Ok(accepted(rt, rank, elements, signs))
 }
 
-// The signs without 1, 2, 3 and 4 in turn are all plus, so the one vector V has the signs -+-+.
+/// Whether the circuits of a chirotope are the vectors of some words, in any order, and denote the same.
+fn has_circuits(alloc: Global, chi: &Chirotope, words: &[&str]) -> Result<bool, ConvertError> {
+    let circuits = chirotope_to_circuits(alloc, chi)?;
+    let listed = are_all(circuits.0.members(), chi.elements(), words);
+    Ok(listed && same(chi, &circuits).is_ok())
+}
+
+/// Whether the cocircuits of a chirotope are the vectors of some words, in any order, and denote the same.
+fn has_cocircuits(alloc: Global, chi: &Chirotope, words: &[&str]) -> Result<bool, ConvertError> {
+    let cocircuits = chirotope_to_cocircuits(alloc, chi)?;
+    let listed = are_all(cocircuits.0.members(), chi.elements(), words);
+    Ok(listed && same(chi, &cocircuits).is_ok())
+}
+
+/// Whether the covectors of a chirotope are as many as wanted, have the vectors of some words among them, and denote the
+/// same.
+fn has_covectors(
+    alloc: Global,
+    chi: &Chirotope,
+    count: usize,
+    words: &[&str],
+) -> Result<bool, ConvertError> {
+    let covectors = chirotope_to_covectors(alloc, chi)?;
+    let listed = have_all(covectors.members(), chi.elements(), words);
+    Ok(listed && covectors.members().len() == count && same(chi, &covectors).is_ok())
+}
+
+/// Whether the cocircuits of the covectors of a chirotope are the vectors of some words, in any order.
+fn has_minimal_covectors(
+    alloc: Global,
+    chi: &Chirotope,
+    words: &[&str],
+) -> Result<bool, ConvertError> {
+    let covectors = chirotope_to_covectors(alloc, chi)?;
+    let cocircuits = covectors_to_cocircuits(alloc, &covectors)?;
+    Ok(are_all(cocircuits.0.members(), chi.elements(), words))
+}
+
+// The signs without 1, 2, 3 and 4 in turn are all plus, so the one vector V has the signs -+-+. Of the 81 vectors of four
+// signs 51 are orthogonal to it: 15 nonzero ones have products with it that are plus or zero, and 15 have such that are
+// minus or zero.
 #[test]
-fn circuits_of_four_points(rt: HostRuntime) -> Result<(), Fail> {
+fn four_points(rt: HostRuntime) -> Result<(), Fail> {
     let chi = chirotope_of(&rt, rt.alloc(), 3, 4, "++++")?;
-    let circuits = chirotope_to_circuits(rt.alloc(), &chi)?;
-    assert_eq!(rt; circuits.0.elements(), 4);
-    assert!(rt; are_all(circuits.0.members(), 4, &["-+-+", "+-+-"]));
-    assert_eq!(rt; same(&chi, &circuits), Ok(()));
+    assert!(rt; has_circuits(rt.alloc(), &chi, &["-+-+", "+-+-"])?);
+    assert!(rt; has_cocircuits(rt.alloc(), &chi, &COCIRCUITS)?);
+    assert!(rt; has_covectors(rt.alloc(), &chi, 51, &["0000", "----", "++++"])?);
+    assert!(rt; has_minimal_covectors(rt.alloc(), &chi, &COCIRCUITS)?);
     Ok(())
 }
 
+// In rank 0 each element is a loop, and a circuit of its own.
 #[test]
-fn cocircuits_of_four_points(rt: HostRuntime) -> Result<(), Fail> {
-    let chi = chirotope_of(&rt, rt.alloc(), 3, 4, "++++")?;
-    let cocircuits = chirotope_to_cocircuits(rt.alloc(), &chi)?;
-    assert_eq!(rt; cocircuits.0.elements(), 4);
-    assert!(rt; are_all(cocircuits.0.members(), 4, &COCIRCUITS));
-    assert_eq!(rt; same(&chi, &cocircuits), Ok(()));
+fn lowest_rank(rt: HostRuntime) -> Result<(), Fail> {
+    let chi = chirotope_of(&rt, rt.alloc(), 0, 2, "+")?;
+    assert!(rt; has_circuits(rt.alloc(), &chi, &["-0", "0-", "0+", "+0"])?);
+    assert!(rt; has_cocircuits(rt.alloc(), &chi, &[])?);
+    assert!(rt; has_covectors(rt.alloc(), &chi, 1, &["00"])?);
     Ok(())
 }
 
-// Of the 81 vectors of four signs 51 are orthogonal to -+-+: 15 nonzero ones have products with it that are plus or zero,
-// and 15 have such that are minus or zero.
+// In the rank of all elements each is a coloop, and a cocircuit of its own. Every vector is a covector: also +++, which is
+// no composition of two cocircuits.
 #[test]
-fn covectors_of_four_points(rt: HostRuntime) -> Result<(), Fail> {
-    let chi = chirotope_of(&rt, rt.alloc(), 3, 4, "++++")?;
-    let covectors = chirotope_to_covectors(rt.alloc(), &chi)?;
-    assert_eq!(rt; covectors.elements(), 4);
-    assert_eq!(rt; covectors.members().len(), 51);
-    for word in ["0000", "----", "++++"] {
-        assert!(rt; covectors.contains(vector_of(4, word)));
-    }
-    assert!(rt; !covectors.contains(vector_of(4, "-+-+")));
-    assert_eq!(rt; same(&chi, &covectors), Ok(()));
-    let cocircuits = covectors_to_cocircuits(rt.alloc(), &covectors)?;
-    assert!(rt; are_all(cocircuits.0.members(), 4, &COCIRCUITS));
-    Ok(())
-}
-
-// In rank 0 each element is a loop: a circuit of its own. In the rank of all elements each is a coloop: a cocircuit of its
-// own, and every vector is a covector, as +++, which takes three cocircuits.
-#[test]
-fn lowest_and_highest_rank(rt: HostRuntime) -> Result<(), Fail> {
-    let units = ["-0", "0-", "0+", "+0"];
-    let lowest = chirotope_of(&rt, rt.alloc(), 0, 2, "+")?;
-    let circuits = chirotope_to_circuits(rt.alloc(), &lowest)?;
-    assert!(rt; are_all(circuits.0.members(), 2, &units));
-    let cocircuits = chirotope_to_cocircuits(rt.alloc(), &lowest)?;
-    assert!(rt; are_all(cocircuits.0.members(), 2, &[]));
-    let covectors = chirotope_to_covectors(rt.alloc(), &lowest)?;
-    assert!(rt; are_all(covectors.members(), 2, &["00"]));
-    let highest = chirotope_of(&rt, rt.alloc(), 2, 2, "+")?;
-    let circuits = chirotope_to_circuits(rt.alloc(), &highest)?;
-    assert!(rt; are_all(circuits.0.members(), 2, &[]));
-    let cocircuits = chirotope_to_cocircuits(rt.alloc(), &highest)?;
-    assert!(rt; are_all(cocircuits.0.members(), 2, &units));
-    let free = chirotope_of(&rt, rt.alloc(), 3, 3, "+")?;
-    let covectors = chirotope_to_covectors(rt.alloc(), &free)?;
-    assert_eq!(rt; covectors.members().len(), 27);
-    assert!(rt; covectors.contains(vector_of(3, "+++")));
-    Ok(())
-}
-
-// The first and the second element are parallel, the third is a loop.
-#[test]
-fn loops_and_parallel_elements(rt: HostRuntime) -> Result<(), Fail> {
-    let chi = chirotope_of(&rt, rt.alloc(), 1, 3, "+-0")?;
-    let circuits = chirotope_to_circuits(rt.alloc(), &chi)?;
-    assert!(rt; are_all(circuits.0.members(), 3, &["++0", "--0", "00+", "00-"]));
-    assert_eq!(rt; same(&chi, &circuits), Ok(()));
-    let cocircuits = chirotope_to_cocircuits(rt.alloc(), &chi)?;
-    assert!(rt; are_all(cocircuits.0.members(), 3, &["+-0", "-+0"]));
-    let covectors = chirotope_to_covectors(rt.alloc(), &chi)?;
-    assert!(rt; are_all(covectors.members(), 3, &["000", "+-0", "-+0"]));
-    Ok(())
-}
-
-// Where all signs are plus, the vectors V of different sets differ, and so do those U: there are 715 sets of 4 of 13
-// elements, and of 9. On 16 elements in rank 16 all 3 to the power 16 vectors are covectors.
-#[test]
-fn more_members_than_may_be(rt: HostRuntime) -> Result<(), Fail> {
-    let many = ConvertError::TooMany {
-        limit: MAX_MEMBERS as u32,
-    };
-    let low = all_plus(&rt, rt.alloc(), 3, 13)?;
-    assert_eq!(rt; chirotope_to_circuits(rt.alloc(), &low).err(), Some(many));
-    let high = all_plus(&rt, rt.alloc(), 10, 13)?;
-    assert_eq!(rt;
-        chirotope_to_cocircuits(rt.alloc(), &high).err(),
-        Some(many)
+fn highest_rank(rt: HostRuntime) -> Result<(), Fail> {
+    let chi = chirotope_of(&rt, rt.alloc(), 3, 3, "+")?;
+    assert!(rt; has_circuits(rt.alloc(), &chi, &[])?);
+    assert!(rt;
+        has_cocircuits(
+            rt.alloc(),
+            &chi,
+            &["-00", "0-0", "00-", "00+", "0+0", "+00"]
+        )?
     );
-    assert_eq!(rt; chirotope_to_covectors(rt.alloc(), &high).err(), Some(many));
-    let free = all_plus(&rt, rt.alloc(), 16, 16)?;
-    assert_eq!(rt; chirotope_to_covectors(rt.alloc(), &free).err(), Some(many));
+    assert!(rt; has_covectors(rt.alloc(), &chi, 27, &["+++"])?);
+    Ok(())
+}
+
+// The first and the second element are parallel, and the third is a loop.
+#[test]
+fn loop_and_parallel_elements(rt: HostRuntime) -> Result<(), Fail> {
+    let chi = chirotope_of(&rt, rt.alloc(), 1, 3, "+-0")?;
+    assert!(rt; has_circuits(rt.alloc(), &chi, &["++0", "--0", "00+", "00-"])?);
+    assert!(rt; has_cocircuits(rt.alloc(), &chi, &["+-0", "-+0"])?);
+    assert!(rt; has_covectors(rt.alloc(), &chi, 3, &["000", "+-0", "-+0"])?);
+    Ok(())
+}
+
+/// The answer where there are more members than the limit.
+const MANY: ConvertError = ConvertError::TooMany {
+    limit: MAX_MEMBERS as u32,
+};
+
+// There are 715 sets of 4 of 13 elements. Where all signs are plus, their vectors V have these supports.
+#[test]
+fn too_many_circuits(rt: HostRuntime) -> Result<(), Fail> {
+    let chi = all_plus(&rt, rt.alloc(), 3, 13)?;
+    assert_eq!(rt; chirotope_to_circuits(rt.alloc(), &chi).err(), Some(MANY));
+    Ok(())
+}
+
+// There are 715 sets of 9 of 13 elements. Where all signs are plus, their vectors U have the other elements as supports.
+#[test]
+fn too_many_cocircuits(rt: HostRuntime) -> Result<(), Fail> {
+    let chi = all_plus(&rt, rt.alloc(), 10, 13)?;
+    assert_eq!(rt; chirotope_to_cocircuits(rt.alloc(), &chi).err(), Some(MANY));
+    assert_eq!(rt; chirotope_to_covectors(rt.alloc(), &chi).err(), Some(MANY));
+    Ok(())
+}
+
+// There are 32 cocircuits, and 3 to the power 16 covectors.
+#[test]
+fn too_many_covectors(rt: HostRuntime) -> Result<(), Fail> {
+    let chi = all_plus(&rt, rt.alloc(), 16, 16)?;
+    assert_eq!(rt; chirotope_to_covectors(rt.alloc(), &chi).err(), Some(MANY));
     Ok(())
 }
 

@@ -27,7 +27,8 @@ pub fn all_circuits(alloc: Global, chi: &Chirotope) -> Result<MemberSet, Convert
         let size = rank + 1;
         for k in 0..Subset::choose(elements, size) {
             let s = Subset::unrank(k, size, elements);
-            circuits.insert_signed(chi.circuit_of(s))?;
+            let v = chi.circuit_of(s);
+            circuits.insert_signed(v)?;
         }
     }
     Ok(circuits)
@@ -46,7 +47,8 @@ pub fn all_cocircuits(alloc: Global, chi: &Chirotope) -> Result<MemberSet, Conve
         let size = rank - 1;
         for k in 0..Subset::choose(elements, size) {
             let a = Subset::unrank(k, size, elements);
-            cocircuits.insert_signed(chi.cocircuit_of(a))?;
+            let u = chi.cocircuit_of(a);
+            cocircuits.insert_signed(u)?;
         }
     }
     Ok(cocircuits)

@@ -14,17 +14,17 @@ loop-k-init c = subst (AreAllOf (IsOfPlace (circuit_vector c.args.chi.now) c.arg
 
 pub loop-k-preserved : goal.loop-k-preserved
 loop-k-preserved c =
-    let q = c.circuit_of.ensures ∙ ap (circuit_vector c.args.chi.now) (c.unrank-s.ensures.elements ∙ (λ i. subset_at (c.elements-elements.ensures.value i) (c.rank-rank.ensures.value i + 1) c.loop-k.k)) in
-    gathered_more (circuit_vector c.args.chi.now) c.args.chi.now.elements (c.args.chi.now.rank + 1) c.loop-k.k c.circuit_of.result q c.loop-k.circuits c.insert_signed.new.self c.loop-k.invariant c.in_ok-insert_signed.ensures.added
+    let q = c.circuit_of-v.ensures ∙ ap (circuit_vector c.args.chi.now) (c.unrank-s.ensures.elements ∙ (λ i. subset_at (c.elements-elements.ensures.value i) (c.rank-rank.ensures.value i + 1) c.loop-k.k)) in
+    gathered_more (circuit_vector c.args.chi.now) c.args.chi.now.elements (c.args.chi.now.rank + 1) c.loop-k.k c.circuit_of-v.result q c.loop-k.circuits c.insert_signed.new.self c.loop-k.invariant c.in_ok-insert_signed.ensures.added
 
 pub returns-in_err-insert_signed-clause-many : goal.returns-in_err-insert_signed-clause-many
 returns-in_err-insert_signed-clause-many c =
     let p = err_from_is_err_and c.from_residual.result c.from_residual.ensures.1 in
-    let q = c.circuit_of.ensures ∙ ap (circuit_vector c.args.chi.now) (c.unrank-s.ensures.elements ∙ (λ i. subset_at (c.elements-elements.ensures.value i) (c.rank-rank.ensures.value i + 1) c.loop-k.k)) in
+    let q = c.circuit_of-v.ensures ∙ ap (circuit_vector c.args.chi.now) (c.unrank-s.ensures.elements ∙ (λ i. subset_at (c.elements-elements.ensures.value i) (c.rank-rank.ensures.value i + 1) c.loop-k.k)) in
     let e = c.choose-k-end.ensures.value ∙ (λ i. choose (c.elements-elements.ensures.value i) (c.rank-rank.ensures.value i + 1)) in
     let l = subst (λ n. c.loop-k.k < n) e c.loop-k-test.true in
     rw (p.1, p.2) (circuit_cause c.args.chi.now c.in_err-insert_signed.field-0.0
-    (cause_at_place (circuit_vector c.args.chi.now) c.args.chi.now.elements (c.args.chi.now.rank + 1) c.loop-k.k c.circuit_of.result q l c.loop-k.circuits c.in_err-insert_signed.field-0.0 c.loop-k.invariant c.in_err-insert_signed.ensures.many))
+    (cause_at_place (circuit_vector c.args.chi.now) c.args.chi.now.elements (c.args.chi.now.rank + 1) c.loop-k.k c.circuit_of-v.result q l c.loop-k.circuits c.in_err-insert_signed.field-0.0 c.loop-k.invariant c.in_err-insert_signed.ensures.many))
 
 pub returns-clause-members : goal.returns-clause-members
 returns-clause-members c = elim c.if-rank-elements.branch [

@@ -1,5 +1,4 @@
-use Rattle.std.specs.List.{Contains}
-use Rattle.std.proofs.Common.{◌≡◌, sym, ◌∙◌, subst}
+use Rattle.std.proofs.Common.{sym, ◌∙◌, subst}
 use Rattle.std.proofs.lemmas.Result.{err_from_is_err_and}
 use Rattle.om_oriented.specs.Circuits.{IsCocircuitOfChirotope}
 use Rattle.om_oriented.specs.Covectors.{IsCovectorOfChirotope}

@@ -1,10 +1,10 @@
 use Rattle.std.specs.List.{Contains}
-use Rattle.std.proofs.Common.{◌≡◌, [], ◌∷◌, ◌++◌, sym, ◌∙◌, subst, refl, arith}
+use Rattle.std.proofs.Common.{◌≡◌, ◌<◌, ◌≤◌, [], ◌∷◌, ◌++◌, length, inl, inr, true≢false, sym, ◌∙◌, subst, refl, arith}
+use Rattle.std.proofs.lemmas.Bool.{cases_lt}
 use Rattle.std.proofs.lemmas.List.{length-append}
 use Rattle.om_signs.specs.declared.limits.TheConstants.{MAX_MEMBERS}
 use Rattle.om_circuits.specs.SignedSets.{AreDistinct}
-use Rattle.om_oriented.specs.Listings.{HasMoreThan}
-use Rattle.om_convert.specs.Gathering.{IsMemberSet, IsOldOrAdded, IsExtendedBy}
+use Rattle.om_convert.specs.Gathering.{IsMemberSet, IsExtendedBy}
 use Rattle.om_convert.proofs.GatheringLaws.{unchanged, pushed, pushed_distinct, full}
 use Rattle.om_convert.proofs.KeyLaws.{contained, not_contained, inserted}
 use Rattle.om_convert.proofs.member_set.MemberSet.insert.Goals as goal
@@ -15,20 +15,19 @@ returns-then-contains-clause-added c =
     let k = contained c.self.inside.set.keys c.args.x (sym c.contains.ensures ∙ c.if-contains.true) in
     unchanged (λ X. X ≡ c.args.x) c.args.self.now (λ X q. subst (λ l. Contains l X) c.self.view_is (subst (Contains c.self.inside.set.keys) (sym q) k))
 
-pub returns-then-len-ge-MAX_MEMBERS-clause-many : goal.returns-then-len-ge-MAX_MEMBERS-clause-many
-returns-then-len-ge-MAX_MEMBERS-clause-many c =
+pub returns-then-is_full-clause-many : goal.returns-then-is_full-clause-many
+returns-then-is_full-clause-many c =
     let n = not_contained c.self.inside.set.keys c.args.x (sym c.contains.ensures ∙ c.if-contains.false) in
-    let e = c.len.ensures.len in (
-      refl,
-      subst (λ l. HasMoreThan MAX_MEMBERS (IsOldOrAdded l (λ X. X ≡ c.args.x))) c.self.view_is
-          (full c.self.inside.set.keys c.args.x c.self.invariant.distinct n (omega arith)),
-    )
+    (refl, full c.args.self.now c.args.x (subst AreDistinct c.self.view_is c.self.invariant.distinct) (subst (λ l. Contains l c.args.x → ⊥) c.self.view_is n) (c.is_full.ensures.0 c.if-is_full.true))
 
 pub invariant_of-self : goal.invariant_of-self
 invariant_of-self c =
     let absent = sym c.contains.ensures ∙ c.if-contains.false in
     let n = not_contained c.self.inside.set.keys c.args.x absent in
-    let e = c.len.ensures.len in
+    let room : length c.self.inside.set.keys < MAX_MEMBERS = elim (cases_lt (length c.self.inside.set.keys) MAX_MEMBERS) [
+      | inl lt ↦ lt
+      | inr ge ↦ absurd (true≢false (sym (c.is_full.ensures.1 (subst (λ l. MAX_MEMBERS ≤ length l) c.self.view_is ge)) ∙ c.if-is_full.false))
+    ] in
     elim c.match-insert.branch [
       | in-Ok w ↦
           let q = inserted c.self.inside.set.keys c.insert.new.self.keys c.args.x absent w.in-Ok.ensures.keys in

@@ -1,4 +1,4 @@
-use Rattle.std.proofs.Common.{sym, ◌∙◌, subst, ◌≡◌}
+use Rattle.std.proofs.Common.{subst, ◌≡◌}
 use Rattle.std.proofs.lemmas.Result.{err_from_is_err_and}
 use Rattle.om_convert.specs.Gathering.{IsExtendedBy, IsOldOrAdded}
 use Rattle.om_convert.specs.Limits.{IsCause}
