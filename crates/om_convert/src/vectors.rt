@@ -1,0 +1,66 @@
+//! The circuits and the cocircuits of a chirotope, by its increasing lists, and its covectors, by composing cocircuits.
+
+ghost use Rattle.std.specs.Prelude.{IfOk, IfErr};
+ghost use Rattle.om_chirotope.specs.Chirotope.{IsChirotope};
+ghost use Rattle.om_oriented.specs.Circuits.{IsCircuitOfChirotope, IsCocircuitOfChirotope};
+ghost use Rattle.om_oriented.specs.Covectors.{IsCovectorOfChirotope};
+ghost use Rattle.om_oriented.specs.Listings.{AreAllOf};
+ghost use Rattle.om_convert.specs.Limits.{IsCause};
+
+use super::closure::all_compositions;
+use super::convert_error::ConvertError;
+use super::member_set::MemberSet;
+use om_chirotope::Chirotope;
+use om_subsets::Subset;
+use std::alloc::Global;
+
+/// The circuits. In the rank of all elements there are none.
+pub fn all_circuits(alloc: Global, chi: &Chirotope) -> Result<MemberSet, ConvertError>
+    ensures members { IfOk result (AreAllOf (IsCircuitOfChirotope chi.now)) }
+    ensures many { IfErr result (IsCause (IsCircuitOfChirotope chi.now)) }
+    ensures lawful { IsChirotope chi.now }
+{
+    let elements = chi.elements();
+    let rank = chi.rank();
+    let mut circuits = MemberSet::new(alloc);
+    if rank < elements {
+        let size = rank + 1;
+        for k in 0..Subset::choose(elements, size) {
+            let s = Subset::unrank(k, size, elements);
+            let v = chi.circuit_of(s);
+            circuits.insert_signed(v)?;
+        }
+    }
+    Ok(circuits)
+}
+
+/// The cocircuits. In rank 0 there are none.
+pub fn all_cocircuits(alloc: Global, chi: &Chirotope) -> Result<MemberSet, ConvertError>
+    ensures members { IfOk result (AreAllOf (IsCocircuitOfChirotope chi.now)) }
+    ensures many { IfErr result (IsCause (IsCocircuitOfChirotope chi.now)) }
+    ensures lawful { IsChirotope chi.now }
+{
+    let elements = chi.elements();
+    let rank = chi.rank();
+    let mut cocircuits = MemberSet::new(alloc);
+    if 0 < rank {
+        let size = rank - 1;
+        for k in 0..Subset::choose(elements, size) {
+            let a = Subset::unrank(k, size, elements);
+            let u = chi.cocircuit_of(a);
+            cocircuits.insert_signed(u)?;
+        }
+    }
+    Ok(cocircuits)
+}
+
+/// The covectors.
+pub fn all_covectors(alloc: Global, chi: &Chirotope) -> Result<MemberSet, ConvertError>
+    ensures members { IfOk result (AreAllOf (IsCovectorOfChirotope chi.now)) }
+    ensures many { IfErr result (IsCause (IsCovectorOfChirotope chi.now)) }
+    ensures lawful { IsChirotope chi.now }
+{
+    let cocircuits = all_cocircuits(alloc, chi)?;
+    let covectors = all_compositions(alloc, chi.elements(), cocircuits.as_slice())?;
+    Ok(covectors)
+}
