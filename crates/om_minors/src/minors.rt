@@ -41,9 +41,9 @@ pub fn delete_chirotope(alloc: Global, chi: &Chirotope, e: u8) -> Result<Chiroto
         return Err(MinorError::LastElement);
     }
     if has_basis(chi, e, false) {
-        Ok(deletion(alloc, chi, e)?)
+        Ok(general_deletion(alloc, chi, e)?)
     } else {
-        Ok(contraction(alloc, chi, e)?)
+        Ok(general_contraction(alloc, chi, e)?)
     }
 }
 
@@ -71,14 +71,14 @@ pub fn contract_chirotope(alloc: Global, chi: &Chirotope, e: u8) -> Result<Chiro
         return Err(MinorError::LastElement);
     }
     if has_basis(chi, e, true) {
-        Ok(contraction(alloc, chi, e)?)
+        Ok(general_contraction(alloc, chi, e)?)
     } else {
-        Ok(deletion(alloc, chi, e)?)
+        Ok(general_deletion(alloc, chi, e)?)
     }
 }
 
 /// The normal chirotope of the signs of the lists without e, an element that some basis avoids.
-fn deletion(alloc: Global, chi: &Chirotope, e: u8) -> Result<Chirotope, NoMemory>
+fn general_deletion(alloc: Global, chi: &Chirotope, e: u8) -> Result<Chirotope, NoMemory>
     requires low { 1 ≤ e }
     requires high { e ≤ chi.now.elements }
     requires several { 2 ≤ chi.now.elements }
@@ -89,14 +89,19 @@ fn deletion(alloc: Global, chi: &Chirotope, e: u8) -> Result<Chirotope, NoMemory
 }
 
 /// The normal chirotope of the values of the tuples with e at their end, for an element e of some basis.
-fn contraction(alloc: Global, chi: &Chirotope, e: u8) -> Result<Chirotope, NoMemory>
+fn general_contraction(alloc: Global, chi: &Chirotope, e: u8) -> Result<Chirotope, NoMemory>
     requires low { 1 ≤ e }
     requires high { e ≤ chi.now.elements }
     requires several { 2 ≤ chi.now.elements }
     requires used { HasBasis chi.now e true }
     ensures { IfOk result (IsNormalFormOf (contracted e chi.now)) }
 {
-    normal_by(alloc, chi.rank() - 1, chi.elements() - 1, &Contraction { chi, e })
+    normal_by(
+        alloc,
+        chi.rank() - 1,
+        chi.elements() - 1,
+        &Contraction { chi, e },
+    )
 }
 
 /// The rule of a deletion.
@@ -147,7 +152,11 @@ impl SignRule for Contraction<'_> {
     fn sign(&self, s: Subset) -> Sign {
         let others = skipping(s, self.e);
         let sign = self.chi.at(others.with(self.e));
-        if others.odd_after(self.e) { sign.neg() } else { sign }
+        if others.odd_after(self.e) {
+            sign.neg()
+        } else {
+            sign
+        }
     }
 }
 
