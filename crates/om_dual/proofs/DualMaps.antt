@@ -2,18 +2,21 @@
 --
 -- Main results: the dual is a chirotope (dual_chirotope), and its normal form has the covectors of the dual (is_dual).
 use Rattle.std.specs.Prelude.{ℕ, ◌≡◌, ◌↔◌, ◌-◌, ◌≤◌, List, length}
-use Rattle.std.proofs.Common.{sym, ◌∙◌, ap, arith}
+use Rattle.std.proofs.Common.{sym, ◌∙◌, ap, refl, arith}
 use Rattle.om_signs.specs.declared.sign.Sign.{Sign}
 use Rattle.om_signs.specs.SignVec.{IsOrthogonal}
 use Rattle.om_laws.specs.Bridge.{as_function, as_list}
 use Rattle.om_laws.specs.Chirotope as theory
 use Rattle.om_laws.specs.Chirotope.{elements_to}
+use Rattle.om_laws.specs.Circuits.{IsCircuit, IsCocircuit}
 use Rattle.om_laws.specs.Covectors.{IsCovector, IsVector}
 use Rattle.om_laws.specs.Dual.{dual_map, dual_on_increasing}
 use Rattle.om_laws.specs.Vectors.{SignVector, Orthogonal}
 use Rattle.om_laws.proofs.BridgeLaws.{as_function-as_list, length-as_list, orthogonal_functions, orthogonal_lists}
 use Rattle.om_laws.proofs.ChirotopeLaws.{elements_distinct}
-use Rattle.om_laws.proofs.DualLaws.{dual_chirotope}
+use Rattle.om_laws.proofs.DualLaws.{dual_chirotope, dual_covector_vector, vector_dual_covector}
+use Rattle.om_laws.proofs.DualPairs.{dual_pair}
+use Rattle.om_laws.proofs.PairLaws.{orthogonal_to_covectors, orthogonal_to_cocircuits}
 use Rattle.om_laws.proofs.DualSizes.{dual_of_on_tuples}
 use Rattle.om_laws.proofs.VectorLaws.{orthogonal_same}
 use Rattle.om_chirotope.specs.Map.{SignMap, chi_of}
@@ -37,3 +40,22 @@ module _ (m : SignMap) (om : IsChirotope m) where
       (whole_by (m.elements - m.rank) m.elements (dual_on_increasing m.elements (chi_of m)) (omega arith))
       dual_tuples
       (dual_chirotope (elements_to m.elements) (elements_distinct m.elements) (tuples_of m) (theory_chirotope m om))
+
+  -- the normal form has as its covectors what is orthogonal to all covectors
+  pub is_dual : (d : SignMap) → IsNormalFormOf (dual_of m) d → IsDual m.elements (IsCovectorOfChirotope m) (IsCovectorOfChirotope d)
+  is_dual d h Y l =
+      let E = elements_to m.elements in
+      let T = tuples_of m in
+      let chi = theory_chirotope m om in
+      let which = which_covectors (dual_of m) d (dual_map E T) h dual_tuples Y l in
+      let pair = dual_pair E T chi in (
+        (λ q X lx p. orthogonal_lists Y X
+            (orthogonal_to_covectors E (IsCircuit E T) (IsCocircuit T) pair (as_function Y) (dual_covector_vector E (elements_distinct m.elements) T chi (as_function Y) (which.0 q)).orthogonal
+            (as_function X) (covector_function m X p))),
+        (λ all. which.1 (vector_dual_covector E (elements_distinct m.elements) T chi (as_function Y) (record {
+          orthogonal = orthogonal_to_cocircuits E (IsCircuit E T) (IsCocircuit T) pair (as_function Y) (λ W w.
+              orthogonal_same (as_function Y) (as_function Y) W (as_function (as_list m.elements W)) (λ e. refl) (λ e. sym (as_function-as_list m.elements W w.supported e))
+              (orthogonal_functions Y (as_list m.elements W) (all (as_list m.elements W) (length-as_list m.elements W) (covector_list m W w))));
+          supported = list_supported m.elements Y l;
+        }))),
+      )
