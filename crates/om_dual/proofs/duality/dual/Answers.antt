@@ -15,4 +15,4 @@ pub returns-clause-dual : goal.returns-clause-dual
 returns-clause-dual c =
     let P : SignMap → Type 0 = λ d. IsDual c.args.chi.now.elements (IsCovectorOfChirotope c.args.chi.now) (IsCovectorOfChirotope d) in
     let Q : SignMap → Type 0 = IsNormalFormOf (map_by (c.elements.result - c.rank.result) c.elements-2.result (dual_on_increasing c.args.chi.now.elements (chi_of c.args.chi.now))) in
-    IfOk-weaker c.normal_by.result Q P (λ d h. is_dual c.args.chi.now c.rank.ensures.lawful d (rw (c.elements.ensures.value, c.elements-2.ensures.value, c.rank.ensures.value) at h h)) c.normal_by.ensures
+    IfOk-weaker c.normal_by.result Q P (λ d h. is_dual c.args.chi.now c.rank.ensures.lawful d (rw (c.elements.ensures.value, c.elements-2.ensures.value, c.rank.ensures.value) at h)) c.normal_by.ensures
