@@ -163,10 +163,10 @@ listing_outside n e a h off = elim (is_member_cases e a) [
 
 -- ---- what the calls say
 
-even_parity : (k : ℕ) → (k % 2 ≡ 1 → ⊥) → parity_sign k ≡ Plus
+pub even_parity : (k : ℕ) → (k % 2 ≡ 1 → ⊥) → parity_sign k ≡ Plus
 even_parity k n = let e : k % 2 ≡ 0 = omega arith in rw (eq-eqb (k % 2) 0 e) refl
 
-odd_parity : (k : ℕ) → k % 2 ≡ 1 → parity_sign k ≡ Minus
+pub odd_parity : (k : ℕ) → k % 2 ≡ 1 → parity_sign k ≡ Minus
 odd_parity k o = let n : k % 2 ≢ 0 = omega arith in rw (ne_eqb (k % 2) 0 n) refl
 
 pub moving_inside : (n e : ℕ) (a : List ℕ) → IsSubsetFrom 1 n a → IsMember e a → Plus ≡ sort_sign (a ++ complement (e ∷ []) a)

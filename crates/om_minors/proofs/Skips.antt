@@ -5,9 +5,12 @@ use Rattle.std.specs.Prelude.{ℕ, ◌≡◌, ◌≢◌, ◌+◌, ◌-◌, ◌*�
 use Rattle.std.specs.Int.{bit_at}
 use Rattle.std.proofs.Common.{zero, suc, sym, ◌∙◌, ap, subst, inl, inr, arith, min, max, pow-suc, bit_or}
 use Rattle.std.proofs.lemmas.Bool.{cases_eq, cases_lt, eq-eqb, ne_eqb, lt-ltb, le-ltb}
-use Rattle.std.proofs.lemmas.Nat.{or_lt, and_le_l, pow-add}
+use Rattle.std.proofs.lemmas.Nat.{or_lt, and_le_l, pow-add, pow_pos}
 use Rattle.std.proofs.lemmas.Nat.Bits.{bit_at_lowest, bit_at-suc, bit_at-zero, bit_at-lt, bit_at_and, bit_at_or, bit_at_ones, bit_at_ones_above, bit_at_cat_low, bit_at_cat_high}
-use Rattle.std.proofs.Math.Nat.{div-mul-le_self, div-div-eq-div-mul}
+use Rattle.std.proofs.Math.Nat.{div-mul-le_self, div-div-eq-div-mul, mod-eq_of_lt}
+use Rattle.std.proofs.Math.Pow.{pow_mono}
+use Rattle.om_signs.specs.declared.limits.TheConstants.{MAX_PLACES}
+use Rattle.om_signs.proofs.Bits.{one_shl_32}
 use Rattle.om_subsets.specs.Members.{members, mask_of}
 use Rattle.om_subsets.specs.Subsets.{IsSubsetFrom, IsMember}
 use Rattle.om_subsets.proofs.Edits.{members_same}
@@ -108,7 +111,7 @@ spread_bits mask k m = record {
     high i l =
         let a : suc i - (k + 1) ≡ i - k = omega arith in
         let b : k + (i - k) ≡ i = omega arith in
-        ap (λ x. bit_at x (suc i)) (sym plain) ∙ bit_at_cat_high (mask / 2 ^ k) (k + 1) 0 (suc i) (positive (k + 1)) (omega arith)
+        ap (λ x. bit_at x (suc i)) (sym plain) ∙ bit_at_cat_high (mask / 2 ^ k) (k + 1) 0 (suc i) (pow_pos (k + 1)) (omega arith)
         ∙ ap (bit_at (mask / 2 ^ k)) a ∙ bit_of_quotient mask k (i - k) ∙ ap (bit_at mask) b
 
 double : (k : ℕ) → 2 ^ (k + 1) ≡ 2 * 2 ^ k
@@ -124,3 +127,21 @@ spread_small mask k n l =
     let b = double n in
     let a = and_le_l mask (2 ^ k - 1) in
     or_lt (n + 1) (bit_and mask (2 ^ k - 1)) (mask / 2 ^ k * 2 ^ (k + 1)) (omega (arith, a, b, l)) (behind_small mask k n l)
+
+-- what the code computes for a set and an element e
+pub skipped_members : (n e : ℕ) (xs : List ℕ) → 1 ≤ e → e ≤ n + 1 → IsSubsetFrom 1 n xs → members (spread (mask_of 1 xs n) (e - 1)) 1 (n + 1) ≡ map (skip e) xs
+skipped_members n e xs low high h =
+    let up : n + 1 ≡ suc n = omega arith in
+    let here : 1 + (e - 1) ≡ e = omega arith in
+    ap (members (spread (mask_of 1 xs n) (e - 1)) 1) up
+    ∙ spread_members (spread (mask_of 1 xs n) (e - 1)) (mask_of 1 xs n) 1 (e - 1) n (omega arith) (spread_bits (mask_of 1 xs n) (e - 1) n)
+    ∙ ap (λ g. map (skip g) (members (mask_of 1 xs n) 1 n)) here
+    ∙ ap (map (skip e)) (members-mask_of 1 n xs h)
+
+-- the mask that the code computes in 32 bits
+pub spread_code : (mask n e : ℕ) → 1 ≤ e → e ≤ n + 1 → n < MAX_PLACES → mask < 2 ^ n → bit_or (bit_and mask (1 * 2 ^ (e - 1) % 4294967296 - 1)) (mask / 2 ^ (e - 1) * 2 ^ e % 4294967296) ≡ spread mask (e - 1)
+spread_code mask n e low high room l =
+    let up : e ≡ e - 1 + 1 = omega arith in
+    let small : 2 ^ (n + 1) ≤ 2 ^ 17 = pow_mono {i = n + 1} {j = 17} (omega arith) in
+    let fits : mask / 2 ^ (e - 1) * 2 ^ e < 4294967296 = (let b = behind_small mask (e - 1) n l in rw (ap (λ j. 2 ^ j) up) (omega (arith, b, small))) in
+    rw (one_shl_32 (e - 1) (omega arith), mod-eq_of_lt {n = mask / 2 ^ (e - 1) * 2 ^ e} {m = 4294967296} fits) (ap (λ j. bit_or (bit_and mask (2 ^ (e - 1) - 1)) (mask / 2 ^ (e - 1) * 2 ^ j)) up)

@@ -38,10 +38,12 @@ fn turned(raw: RawMap, mask: u32) -> RawMap
     ensures { map_of result ≡ reoriented_on mask (map_of raw) }
 {
     let mut turned = raw;
-    for place in 0..turned.signs.len() {
-        let s = Subset::unrank(place as u32, turned.rank, turned.elements);
-        let sign = turned.signs.at(place).times(turning_sign(s, mask));
-        turned.signs.set(place, sign);
+    for place in 0..Subset::choose(turned.elements, turned.rank) {
+        let s = Subset::unrank(place, turned.rank, turned.elements);
+        let sign = turned.signs.at(place as usize);
+        turned
+            .signs
+            .set(place as usize, turning_sign(s, mask).times(sign));
     }
     turned
 }
