@@ -1,7 +1,7 @@
 -- Sets with their elements from e on moved up by one.
 --
 -- Main results: the masks and members of such sets (skipped_small, skipped_members); they avoid e (skip_avoids).
-use Rattle.std.specs.Prelude.{ℕ, ◌≡◌, ◌≢◌, ◌+◌, ◌-◌, ◌*◌, ◌/◌, ◌%◌, ◌<◌, ◌≤◌, ◌^◌, List, [], ◌∷◌, map, refl, bit_and}
+use Rattle.std.specs.Prelude.{ℕ, ◌≡◌, ◌≢◌, ◌+◌, ◌-◌, ◌*◌, ◌/◌, ◌%◌, ◌<◌, ◌≤◌, ◌^◌, List, [], ◌∷◌, ◌++◌, length, map, refl, bit_and}
 use Rattle.std.specs.Int.{bit_at}
 use Rattle.std.proofs.Common.{zero, suc, sym, ◌∙◌, ap, subst, inl, inr, arith, min, max, pow-suc, bit_or}
 use Rattle.std.proofs.lemmas.Bool.{cases_eq, cases_lt, eq-eqb, ne_eqb, lt-ltb, le-ltb}
@@ -12,10 +12,14 @@ use Rattle.std.proofs.Math.Pow.{pow_mono}
 use Rattle.om_signs.specs.declared.limits.TheConstants.{MAX_PLACES}
 use Rattle.om_signs.proofs.Bits.{one_shl_32}
 use Rattle.om_subsets.specs.Members.{members, mask_of}
-use Rattle.om_subsets.specs.Subsets.{IsSubsetFrom, IsMember}
+use Rattle.om_subsets.specs.Subsets.{IsSubsetFrom, IsMember, with_element, count_above}
 use Rattle.om_subsets.proofs.Edits.{members_same}
 use Rattle.om_subsets.proofs.Masks.{mask_of-lt, members-mask_of}
-use Rattle.om_laws.specs.Minors.{skip}
+use Rattle.om_laws.specs.Minors.{skip, contraction}
+use Rattle.om_signs.specs.declared.sign.Sign.{Sign}
+use Rattle.om_signs.specs.Sign.{opposite}
+use Rattle.om_chirotope.specs.Map.{SignMap, chi_of, value_of}
+use Rattle.om_chirotope.proofs.Cocircuits.{along_even, along_odd, length-with}
 
 pub skip_below : (e p : ℕ) → p < e → skip e p ≡ p
 skip_below e p l = rw (lt-ltb p e l) refl
@@ -145,3 +149,21 @@ spread_code mask n e low high room l =
     let small : 2 ^ (n + 1) ≤ 2 ^ 17 = pow_mono {i = n + 1} {j = 17} (omega arith) in
     let fits : mask / 2 ^ (e - 1) * 2 ^ e < 4294967296 = (let b = behind_small mask (e - 1) n l in rw (ap (λ j. 2 ^ j) up) (omega (arith, b, small))) in
     rw (one_shl_32 (e - 1) (omega arith), mod-eq_of_lt {n = mask / 2 ^ (e - 1) * 2 ^ e} {m = 4294967296} fits) (ap (λ j. bit_or (bit_and mask (2 ^ (e - 1) - 1)) (mask / 2 ^ (e - 1) * 2 ^ j)) up)
+
+-- the value of a list that avoids e with e behind it, by the sign of the list with e
+pub behind_even : (m : SignMap) (e : ℕ) (xs a w : List ℕ) (s : Sign) → a ≡ map (skip e) xs → IsSubsetFrom 1 m.elements a → w ≡ with_element e a → IsSubsetFrom 1 m.elements w → (count_above e a % 2 ≡ 1 → ⊥) → s ≡ value_of m w → s ≡ contraction e (value_of m) xs
+behind_even m e xs a w s qa ha qw hw even v =
+    v ∙ ap (value_of m) qw
+    ∙ along_even 1 m.elements e (chi_of m) a ha (subst (IsSubsetFrom 1 m.elements) qw hw) (λ k. skip_avoids e xs (subst (IsMember e) qa k)) even
+    ∙ ap (λ t. value_of m (t ++ e ∷ [])) qa
+
+pub behind_odd : (m : SignMap) (e : ℕ) (xs a w : List ℕ) (s : Sign) → a ≡ map (skip e) xs → IsSubsetFrom 1 m.elements a → w ≡ with_element e a → IsSubsetFrom 1 m.elements w → count_above e a % 2 ≡ 1 → s ≡ opposite (value_of m w) → s ≡ contraction e (value_of m) xs
+behind_odd m e xs a w s qa ha qw hw odd v =
+    v ∙ ap (λ t. opposite (value_of m t)) qw
+    ∙ along_odd 1 m.elements e (chi_of m) a ha (subst (IsSubsetFrom 1 m.elements) qw hw) (λ k. skip_avoids e xs (subst (IsMember e) qa k)) odd
+    ∙ ap (λ t. value_of m (t ++ e ∷ [])) qa
+
+pub behind_size : (e : ℕ) (xs a w : List ℕ) (r : ℕ) → a ≡ map (skip e) xs → w ≡ with_element e a → length a ≡ r - 1 → 1 ≤ r → length w ≡ r
+behind_size e xs a w r qa qw l low =
+    let k = length-with e a (λ h. skip_avoids e xs (subst (IsMember e) qa h)) in
+    ap length qw ∙ omega (arith, k, l, low)
