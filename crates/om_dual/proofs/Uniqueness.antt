@@ -50,10 +50,10 @@ same_signs n r xs ys lx ly h = ext_get_or Zero xs ys (lx ∙ sym ly) (λ k l.
 pub same_map : (m k : SignMap) → IsMap m → IsMap k → k.elements ≡ m.elements → k.rank ≡ m.rank → ((t : List ℕ) → tuples_of k t ≡ tuples_of m t) → k ≡ m
 same_map m k wm wk e r h =
     let s : k.signs ≡ m.signs = same_signs m.elements m.rank k.signs m.signs (rw (sym e, sym r) wk.whole) wm.whole (λ t ht lt.
-        let hk : IsSubsetFrom 1 k.elements t = rw e ht in
-        let lk : length t ≡ k.rank = rw r lt in
-        let back : at k.signs (rank_of m.elements t) ≡ at k.signs (rank_of k.elements t) = rw e refl in
-        back ∙ sym (tuples_at k t hk lk) ∙ h t ∙ tuples_at m t ht lt) in
+    let hk : IsSubsetFrom 1 k.elements t = rw e ht in
+    let lk : length t ≡ k.rank = rw r lt in
+    let back : at k.signs (rank_of m.elements t) ≡ at k.signs (rank_of k.elements t) = rw e refl in
+    back ∙ sym (tuples_at k t hk lk) ∙ h t ∙ tuples_at m t ht lt) in
     rw (e, r, s) refl
 
 -- ---- up to sign

@@ -73,7 +73,7 @@ spread_members t mask low (suc k) (suc m) l s =
     let first : t % 2 ≡ mask % 2 = sym (bit_at_lowest t) ∙ s.before 0 (omega arith) ∙ bit_at_lowest mask in
     let top : low + 1 + k ≡ low + suc k = omega arith in
     let rest : members (t / 2) (low + 1) (suc m) ≡ map (skip (low + suc k)) (members (mask / 2) (low + 1) m) =
-        spread_members (t / 2) (mask / 2) (low + 1) k m (omega arith) (spread_half t mask k m s) ∙ ap (λ e. map (skip e) (members (mask / 2) (low + 1) m)) top in
+    spread_members (t / 2) (mask / 2) (low + 1) k m (omega arith) (spread_half t mask k m s) ∙ ap (λ e. map (skip e) (members (mask / 2) (low + 1) m)) top in
     elim (cases_eq (mask % 2) 1) [
       | inl o ↦
           let p : t % 2 ≡ 1 = first ∙ o in

@@ -60,8 +60,8 @@ turning_members a b mask low (suc m) h l =
     let both = low_and a b in
     let here : bit_at mask (low - 1) ≡ b % 2 = (let q : low - 1 ≡ low - 1 + 0 = omega arith in ap (bit_at mask) q) ∙ sym (h 0 (omega arith)) ∙ bit_at_lowest b in
     let rest : signs_product (turning (names mask)) (members (a / 2) (low + 1) m) ≡ parity_sign (length (members (bit_and a b / 2) (low + 1) m)) =
-        turning_members (a / 2) (b / 2) mask (low + 1) m (λ i u. sym (bit_at-suc b i) ∙ h (suc i) (omega arith) ∙ (let q : low - 1 + suc i ≡ low + 1 - 1 + i = omega arith in ap (bit_at mask) q)) (omega arith)
-        ∙ ap (λ x. parity_sign (length (members x (low + 1) m))) (sym (half_and a b)) in
+    turning_members (a / 2) (b / 2) mask (low + 1) m (λ i u. sym (bit_at-suc b i) ∙ h (suc i) (omega arith) ∙ (let q : low - 1 + suc i ≡ low + 1 - 1 + i = omega arith in ap (bit_at mask) q)) (omega arith)
+    ∙ ap (λ x. parity_sign (length (members x (low + 1) m))) (sym (half_and a b)) in
     elim (cases_eq (a % 2) 1) [
       | inl o ↦ elim (cases_eq (b % 2) 1) [
         | inl p ↦
@@ -115,12 +115,12 @@ turned_all m mask signs r n k er en l le h =
     let all = length-subsets_from 1 m.elements m.rank in
     let size : length signs ≡ length (map (reoriented (names mask) (chi_of m)) (all_subsets m.elements m.rank)) = l ∙ sym (length-map (all_subsets m.elements m.rank) (reoriented (names mask) (chi_of m)) ∙ all) in
     let es : signs ≡ map (reoriented (names mask) (chi_of m)) (all_subsets m.elements m.rank) = ext_get_or Zero signs (map (reoriented (names mask) (chi_of m)) (all_subsets m.elements m.rank)) size (λ j lt.
-        let few : j < choose m.elements m.rank = omega (arith, lt, l) in
-        let inside : j < length (all_subsets m.elements m.rank) = omega (arith, few, all) in
-        let t = listed 1 m.elements m.rank j few in
-        h j (omega (arith, few, le))
-        ∙ ap (λ i. product (signs_product (turning (names mask)) (subset_at m.elements m.rank j)) (at m.signs i)) (sym t.place)
-        ∙ sym (get_or-map (reoriented (names mask) (chi_of m)) (all_subsets m.elements m.rank) j [] Zero inside)) in
+    let few : j < choose m.elements m.rank = omega (arith, lt, l) in
+    let inside : j < length (all_subsets m.elements m.rank) = omega (arith, few, all) in
+    let t = listed 1 m.elements m.rank j few in
+    h j (omega (arith, few, le))
+    ∙ ap (λ i. product (signs_product (turning (names mask)) (subset_at m.elements m.rank j)) (at m.signs i)) (sym t.place)
+    ∙ sym (get_or-map (reoriented (names mask) (chi_of m)) (all_subsets m.elements m.rank) j [] Zero inside)) in
     rw (er, en, es) refl
 
 -- ---- the map, by the theory
