@@ -3,13 +3,13 @@
 -- Main results: some tuple is a base where some increasing list is a basis, with e or without it (base_tuple), and conversely (basis_list);
 -- a chirotope has a basis (some_basis); is_coloop, is_loop where no basis avoids or has e.
 use Rattle.std.specs.Prelude.{ℕ, ◌≡◌, ◌≢◌, ◌↔◌, ◌⊎◌, ◌+◌, ◌<◌, ◌≤◌, List, [], ◌∷◌, ◌++◌, length, Bool, true, false, IsTrue}
-use Rattle.std.proofs.Common.{sym, ◌∙◌, ap, subst, inl, inr, arith, refl, ⊎_elim}
+use Rattle.std.proofs.Common.{zero, suc, sym, ◌∙◌, ap, subst, inl, inr, arith, refl, ⊎_elim}
 use Rattle.std.proofs.lemmas.Bool.{false≢true, cases_eq}
 use Rattle.om_signs.specs.declared.sign.Sign.{Sign}
 use Rattle.om_signs.specs.declared.sign.Sign.TheVariants.{Zero}
 use Rattle.om_signs.specs.Sign.{opposite}
-use Rattle.om_subsets.specs.Subsets.{IsSubsetFrom, IsMember, choose, rank_of}
-use Rattle.om_subsets.proofs.Order.{same_place, rank_from-lt}
+use Rattle.om_subsets.specs.Subsets.{IsSubsetFrom, IsMember, choose, rank_of, subset_at}
+use Rattle.om_subsets.proofs.Order.{same_place, rank_from-lt, listed}
 use Rattle.om_laws.specs.Signs.{IsNonzero}
 use Rattle.om_laws.specs.Sorting.{IsIncreasing, on_tuples}
 use Rattle.om_laws.specs.Minors.{IsAvoided}
@@ -17,7 +17,7 @@ use Rattle.om_laws.specs.Parallel.{IsInBase}
 use Rattle.om_laws.specs.Members.{IsDistinct}
 use Rattle.om_laws.specs.Parallel as theory
 use Rattle.om_laws.proofs.MemberLaws.{member_or_not, split_at}
-use Rattle.om_laws.proofs.SignLaws.{nonzero_from_opposite}
+use Rattle.om_laws.proofs.SignLaws.{nonzero_from_opposite, zero_or_nonzero}
 use Rattle.om_laws.proofs.SortingLaws.{by_sorting}
 use Rattle.om_laws.proofs.TupleLaws.{nonzero_distinct}
 use Rattle.om_laws.proofs.TupleSizes.{on_tuples_alternating, on_tuples_tuple}
@@ -125,3 +125,28 @@ module _ (m : SignMap) where
   none_all e inside k le all (xs, b, w) =
       let few : rank_of m.elements xs < choose m.elements m.rank = subst (λ r. rank_of m.elements xs < choose m.elements r) b.size (rank_from-lt 1 m.elements xs b.increasing) in
       all xs b w (omega arith)
+
+  -- ---- such a basis is there or not
+
+  such_or_not : (e : ℕ) (inside : Bool) (s : List ℕ) → IsSubsetFrom 1 m.elements s → length s ≡ m.rank → (IsBasis m s × (IsTrue inside ↔ IsMember e s)) ⊎ (IsBasis m s × (IsTrue inside ↔ IsMember e s) → ⊥)
+  such_or_not e inside s h l = ⊎_elim (λ z. inr (λ w. w.0.nonzero z)) (λ n. go inside (member_or_not e s) (record { increasing = h; size = l; nonzero = n })) (zero_or_nonzero (chi_of m s))
+    where
+      go : (b : Bool) → IsMember e s ⊎ (IsMember e s → ⊥) → IsBasis m s → (IsBasis m s × (IsTrue b ↔ IsMember e s)) ⊎ (IsBasis m s × (IsTrue b ↔ IsMember e s) → ⊥)
+      go true (inl k) w = inl (w, inner e s k)
+      go true (inr off) w = inr (λ q. off (q.1.0 refl))
+      go false (inl k) w = inr (λ q. false≢true (q.1.1 k))
+      go false (inr off) w = inl (w, outside e s off)
+
+  decide_below : (e : ℕ) (inside : Bool) (k : ℕ) → k ≤ choose m.elements m.rank → HasBasis m e inside ⊎ NoneBelow e inside k
+  decide_below e inside zero le = inr (λ xs b w l. absurd (omega arith))
+  decide_below e inside (suc k) le = ⊎_elim (λ h. inl h)
+      (λ none.
+      let t = listed 1 m.elements m.rank k (omega arith) in
+      let up : k + 1 ≡ suc k = omega arith in
+      ⊎_elim (λ w. inl (subset_at m.elements m.rank k, w.0, w.1))
+      (λ off. inr (subst (NoneBelow e inside) up (none_more e inside k (subset_at m.elements m.rank k) t.lawful t.size t.place off none)))
+      (such_or_not e inside (subset_at m.elements m.rank k) t.lawful t.size))
+      (decide_below e inside k (omega arith))
+
+  pub decide_basis : (e : ℕ) (inside : Bool) → HasBasis m e inside ⊎ (HasBasis m e inside → ⊥)
+  decide_basis e inside = ⊎_elim (λ h. inl h) (λ none. inr (none_all e inside (choose m.elements m.rank) (omega arith) none)) (decide_below e inside (choose m.elements m.rank) (omega arith))

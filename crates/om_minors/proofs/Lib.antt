@@ -3,3 +3,4 @@ pub mod BasisLaws
 pub mod MinorMaps
 pub mod MinorLists
 pub mod Turning
+pub mod DualMinors
