@@ -1,0 +1,6 @@
+pub mod Skips
+pub mod BasisLaws
+pub mod MinorMaps
+pub mod MinorLists
+pub mod Turning
+pub mod DualMinors
