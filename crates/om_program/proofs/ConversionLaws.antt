@@ -13,7 +13,7 @@ use Rattle.om_oriented.specs.Denotation.{DenoteTheSame}
 use Rattle.om_text.specs.declared.document.Document.{Document}
 use Rattle.om_text.specs.declared.body.Body.{Body}
 use Rattle.om_text.specs.declared.body.Body.TheVariants as body
-use Rattle.om_program.specs.declared.command.Kind.TheVariants as kind
+use Rattle.om_answer.specs.declared.kind.Kind.TheVariants as kind
 use Rattle.om_program.specs.declared.representation.Representation.TheVariants as representation
 use Rattle.om_program.specs.Covectors.{IsOfBody}
 use Rattle.om_program.specs.Conversions.{IsConverted}

@@ -1,5 +1,4 @@
 mod ConversionLaws
-mod Elements
 mod MeaningLaws
 mod Memberships
 mod Spelling

@@ -11,8 +11,8 @@ use Rattle.om_signs.specs.declared.sign.Sign.TheVariants.{Plus}
 use Rattle.om_program.specs.declared.command.Usage.{Usage}
 use Rattle.om_program.specs.declared.command.Task.{Task}
 use Rattle.om_program.specs.declared.command.Task.TheVariants.{Accept, Member, Convert}
-use Rattle.om_program.specs.declared.command.Kind.{Kind}
-use Rattle.om_program.specs.declared.command.Kind.TheVariants as kind
+use Rattle.om_answer.specs.declared.kind.Kind.{Kind}
+use Rattle.om_answer.specs.declared.kind.Kind.TheVariants as kind
 use Rattle.om_text.specs.Words.{sign_of_byte}
 use Rattle.om_program.specs.Words.{Names, Spells, kind_word, AreCommand, BeginsCommand, IsUsage, at_word, at_end}
 

@@ -4,8 +4,8 @@ use Rattle.om_signs.specs.declared.sign.Sign.{Sign}
 use Rattle.om_text.specs.declared.document.Document.{Document}
 use Rattle.om_text.specs.declared.body.Body.{Body}
 use Rattle.om_text.specs.declared.body.Body.TheVariants as body
-use Rattle.om_program.specs.declared.command.Kind.{Kind}
-use Rattle.om_program.specs.declared.command.Kind.TheVariants as kind
+use Rattle.om_answer.specs.declared.kind.Kind.{Kind}
+use Rattle.om_answer.specs.declared.kind.Kind.TheVariants as kind
 use Rattle.om_program.specs.Axioms.{MeetsAxioms}
 use Rattle.om_program.specs.Covectors.{IsCovectorIn}
 

@@ -1,5 +1,4 @@
 pub mod Words
-pub mod Texts
 pub mod Axioms
 pub mod Covectors
 pub mod Conversions

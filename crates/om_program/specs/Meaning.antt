@@ -10,15 +10,15 @@ use Rattle.om_text.specs.Document.{IsDocument}
 use Rattle.om_text.specs.Fault.{IsFault}
 use Rattle.om_program.specs.declared.command.Task.{Task}
 use Rattle.om_program.specs.declared.command.Task.TheVariants.{Accept, Member, Convert}
-use Rattle.om_program.specs.declared.line.Line.{Line}
-use Rattle.om_program.specs.declared.line.Line.TheVariants as line
+use Rattle.om_answer.specs.declared.line.Line.{Line}
+use Rattle.om_answer.specs.declared.line.Line.TheVariants as line
 use Rattle.om_program.specs.declared.status.Status.{Status}
 use Rattle.om_program.specs.declared.status.Status.TheVariants as status
-use Rattle.om_program.specs.Texts.{line_text}
+use Rattle.om_answer.specs.Texts.{line_text}
 use Rattle.om_program.specs.Words.{Names, IsUsage}
 use Rattle.om_program.specs.Axioms.{MeetsAxioms, IsRefused}
 use Rattle.om_text.specs.Print.{printed}
-use Rattle.om_program.specs.declared.command.Kind.{Kind}
+use Rattle.om_answer.specs.declared.kind.Kind.{Kind}
 use Rattle.om_program.specs.Covectors.{IsCovectorIn}
 use Rattle.om_program.specs.Conversions.{is_built, IsConverted}
 

@@ -6,8 +6,8 @@ use Rattle.om_signs.specs.declared.sign.Sign.{Sign}
 use Rattle.om_text.specs.Words.{is_sign, sign_of_byte}
 use Rattle.om_program.specs.declared.command.Task.{Task}
 use Rattle.om_program.specs.declared.command.Task.TheVariants.{Accept, Member, Convert}
-use Rattle.om_program.specs.declared.command.Kind.{Kind}
-use Rattle.om_program.specs.declared.command.Kind.TheVariants as kind
+use Rattle.om_answer.specs.declared.kind.Kind.{Kind}
+use Rattle.om_answer.specs.declared.kind.Kind.TheVariants as kind
 
 -- the word spells the sign vector: a byte `+`, `-` or `0` for each element, within the limit on elements
 pub record Spells (word : List ℕ) (x : List Sign) : Type 0 where

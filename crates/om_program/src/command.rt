@@ -4,6 +4,7 @@ ghost use Rattle.om_signs.specs.declared.sign.Sign.{Sign};
 ghost use Rattle.om_text.specs.Words.{is_sign, sign_of_byte};
 ghost use Rattle.om_program.specs.Words.{Names, IsUsage, Spells, kind_word};
 
+use om_answer::Kind;
 use om_signs::{MAX_ELEMENTS, Sign, SignVec};
 
 /// What the words after the program's name ask for.
@@ -15,15 +16,6 @@ pub enum Task {
     Member(SignVec),
     /// `convert KIND`: the same oriented matroid as a document of this kind.
     Convert(Kind),
-}
-
-/// A kind of document that a command can convert to.
-#[derive(Clone, Copy, Debug, PartialEq, Eq)]
-pub enum Kind {
-    Chirotope,
-    Circuits,
-    Cocircuits,
-    Covectors,
 }
 
 /// The words aren't a command. `word` counts from 1: the least number such that the words up to it begin no command,

@@ -6,8 +6,8 @@ ghost use Rattle.om_program.specs.Axioms.{MeetsAxioms};
 ghost use Rattle.om_program.specs.Covectors.{Represents};
 ghost use Rattle.om_program.specs.Conversions.{has_kind, is_built, IsConverted};
 
-use crate::command::Kind;
 use crate::representation::Representation;
+use om_answer::Kind;
 use om_chirotope::Chirotope;
 use om_circuits::{Circuits, Cocircuits};
 use om_convert::covectors_to_cocircuits;

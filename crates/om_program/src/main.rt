@@ -3,7 +3,6 @@
 
 mod command;
 mod conversion;
-mod line;
 mod reply;
 mod representation;
 mod run;

@@ -6,11 +6,11 @@ ghost use Rattle.om_text.specs.Form.{IsInForm};
 ghost use Rattle.om_text.specs.declared.document.Document.{Document};
 ghost use Rattle.om_program.specs.Run.{IsAnswered};
 
-use crate::command::{Kind, Task};
+use crate::command::Task;
 use crate::conversion::converted;
-use crate::line::{Line, print_line};
 use crate::representation::{Representation, represented};
 use crate::status::Status;
+use om_answer::{Kind, Line, print_line};
 use om_oriented::Oriented;
 use om_signs::{MAX_INPUT, NoMemory, SignVec};
 use om_text::{Document, ParseError, parse, print};

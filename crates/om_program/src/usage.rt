@@ -2,13 +2,13 @@ ghost use Rattle.std.specs.Prelude.{◌≡◌, ◌≤◌, ◌⊎◌, ◌+◌, �
 ghost use Rattle.std.specs.Io.KnownBytes.{Appends};
 ghost use Rattle.om_port.specs.Causes.{Rose};
 ghost use Rattle.om_program.specs.Run.{IsAnswered, IsFront};
-ghost use Rattle.om_program.specs.Texts.{line_text};
+ghost use Rattle.om_answer.specs.Texts.{line_text};
 
 use crate::command::Usage;
-use crate::line::Line;
 use crate::status::Status;
 use crate::written::written;
 use itoa::Buffer;
+use om_answer::Line;
 use om_port::Sink;
 
 /// The room for the longest number of 32 bits, with the head and the line feed.

@@ -7,7 +7,7 @@ use Rattle.std.specs.declared.result.Result.{Result}
 use Rattle.om_text.specs.Parsed.{IfLine}
 use Rattle.om_text.specs.Fault.{IsFault}
 use Rattle.om_text.specs.Lines.{lines}
-use Rattle.om_program.specs.declared.line.Line.TheVariants.{RefusedLine}
+use Rattle.om_answer.specs.declared.line.Line.TheVariants.{RefusedLine}
 use Rattle.om_program.specs.Meaning.{TaskMeans, faulty, read}
 use Rattle.om_program.proofs.MeaningLaws.{said}
 use Rattle.om_program.proofs.reply.reply_to.Goals as goal

@@ -1,7 +1,7 @@
 use Rattle.std.specs.Prelude.{◌≡◌, true, false, IfSome, IfNone}
 use Rattle.std.proofs.Common.{subst}
 use Rattle.om_text.specs.declared.document.Document.{Document}
-use Rattle.om_program.specs.declared.line.Line.TheVariants.{RefusedUnbuilt}
+use Rattle.om_answer.specs.declared.line.Line.TheVariants.{RefusedUnbuilt}
 use Rattle.om_program.specs.Axioms.{MeetsAxioms}
 use Rattle.om_program.specs.Covectors.{Represents}
 use Rattle.om_program.specs.Conversions.{is_built, IsConverted}

@@ -9,7 +9,7 @@ use Rattle.std.proofs.Common.{zero, suc, arith, sym, ◌∙◌, ap, inl, inr, ap
 use Rattle.std.proofs.lemmas.Bool.{cases_lt, lt-ltb, le-ltb}
 use Rattle.std.proofs.lemmas.List.{length-append, length-map, map-append}
 use Rattle.om_subsets.specs.Subsets.{IsSubsetFrom, IsMember}
-use Rattle.om_program.specs.Texts.{after_comma}
+use Rattle.om_answer.specs.Texts.{after_comma}
 
 pub below : ℕ → List ℕ → List ℕ
 below e xs = filter (λ x. nat_lt x e) xs
