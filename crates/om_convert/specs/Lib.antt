@@ -1,1 +1,4 @@
 pub mod Families
+pub mod Limits
+pub mod Gathering
+pub mod Compositions

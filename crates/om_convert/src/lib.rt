@@ -1,16 +1,23 @@
 //! Conversions between the kinds of values that denote an oriented matroid.
 //!
-//! [`covectors_to_cocircuits`] takes the covectors of an oriented matroid and gives its cocircuits.
+//! [`chirotope_to_circuits`], [`chirotope_to_cocircuits`] and [`chirotope_to_covectors`] take a chirotope and list the
+//! circuits, the cocircuits and the covectors of its oriented matroid. [`covectors_to_cocircuits`] takes the covectors and
+//! gives the cocircuits.
 //!
 //! Source of the notions: Björner, Las Vergnas, Sturmfels, White and Ziegler, *Oriented Matroids*, chapters 3 and 4.
 #![tactic(auto)]
 
+mod chirotopes;
+mod closure;
 mod convert_error;
 mod covectors;
 mod laws;
+mod member_set;
 #[cfg(test)]
 mod tests;
+mod vectors;
 
+pub use chirotopes::{chirotope_to_circuits, chirotope_to_cocircuits, chirotope_to_covectors};
 pub use convert_error::ConvertError;
 pub use covectors::covectors_to_cocircuits;
 pub use laws::{

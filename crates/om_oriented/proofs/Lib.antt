@@ -1,3 +1,4 @@
+pub mod ChirotopeBridge
 mod PlaceLaws
 mod Members
 mod Walks

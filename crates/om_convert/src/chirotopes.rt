@@ -1,0 +1,78 @@
+//! Conversions of chirotopes.
+
+ghost use Rattle.std.specs.Prelude.{◌≡◌, IfOk, IfErr, OnOk};
+ghost use Rattle.om_oriented.specs.Circuits.{IsCircuitOfChirotope, IsCocircuitOfChirotope};
+ghost use Rattle.om_oriented.specs.Covectors.{IsCovectorOfChirotope, IsCovectorOfCircuits, IsCovectorOfCocircuits, IsCovectorOfCovectors};
+ghost use Rattle.om_oriented.specs.Denotation.{DenoteTheSame};
+ghost use Rattle.om_oriented.specs.Listings.{AreAllOf};
+ghost use Rattle.om_convert.specs.Limits.{IsCause, IsWithinLimit};
+
+use super::closure::all_compositions;
+use super::convert_error::ConvertError;
+use super::vectors::{all_circuits, all_cocircuits};
+use om_chirotope::Chirotope;
+use om_circuits::{Circuits, Cocircuits, SignedSet};
+use om_covectors::Covectors;
+use std::alloc::Global;
+
+/// The circuits of the oriented matroid of a chirotope: the vectors V of the increasing lists of one element more than the
+/// rank, and their negatives, as far as they aren't zero. Both have the same elements and denote the same oriented matroid.
+/// The list takes its memory from `alloc`.
+///
+/// [`ConvertError::TooMany`] comes exactly where there are more circuits than [`MAX_MEMBERS`](om_signs::MAX_MEMBERS), which
+/// it names, if memory lasts until the first of these; [`ConvertError::Memory`] comes only for want of memory.
+///
+/// Source: Björner, Las Vergnas, Sturmfels, White and Ziegler, *Oriented Matroids*, chapter 3.
+pub fn chirotope_to_circuits(alloc: Global, chi: &Chirotope) -> Result<Circuits, ConvertError>
+    ensures elements { IfOk result (λ c. c.0.elements ≡ chi.now.elements) }
+    ensures members { IfOk result (λ c. AreAllOf (IsCircuitOfChirotope chi.now) c.0.members) }
+    ensures same { IfOk result (λ c.
+        DenoteTheSame chi.now.elements (IsCovectorOfChirotope chi.now) (IsCovectorOfCircuits c.0)) }
+    ensures few { OnOk result (IsWithinLimit (IsCircuitOfChirotope chi.now)) }
+    ensures many { IfErr result (IsCause (IsCircuitOfChirotope chi.now)) }
+{
+    let circuits = all_circuits(alloc, chi)?.into_list(alloc)?;
+    Ok(Circuits(SignedSet::lawful(chi.elements(), circuits)))
+}
+
+/// The cocircuits of the oriented matroid of a chirotope: the vectors U of the increasing lists of one element less than
+/// the rank, and their negatives, as far as they aren't zero. Both have the same elements and denote the same oriented
+/// matroid. The list takes its memory from `alloc`.
+///
+/// [`ConvertError::TooMany`] comes exactly where there are more cocircuits than [`MAX_MEMBERS`](om_signs::MAX_MEMBERS),
+/// which it names, if memory lasts until the first of these; [`ConvertError::Memory`] comes only for want of memory.
+///
+/// Source: Björner, Las Vergnas, Sturmfels, White and Ziegler, *Oriented Matroids*, chapter 3.
+pub fn chirotope_to_cocircuits(alloc: Global, chi: &Chirotope) -> Result<Cocircuits, ConvertError>
+    ensures elements { IfOk result (λ c. c.0.elements ≡ chi.now.elements) }
+    ensures members { IfOk result (λ c. AreAllOf (IsCocircuitOfChirotope chi.now) c.0.members) }
+    ensures same { IfOk result (λ c.
+        DenoteTheSame chi.now.elements (IsCovectorOfChirotope chi.now) (IsCovectorOfCocircuits c.0)) }
+    ensures few { OnOk result (IsWithinLimit (IsCocircuitOfChirotope chi.now)) }
+    ensures many { IfErr result (IsCause (IsCocircuitOfChirotope chi.now)) }
+{
+    let cocircuits = all_cocircuits(alloc, chi)?.into_list(alloc)?;
+    Ok(Cocircuits(SignedSet::lawful(chi.elements(), cocircuits)))
+}
+
+/// The covectors of the oriented matroid of a chirotope: the compositions of its cocircuits. Both have the same elements
+/// and denote the same oriented matroid. The list takes its memory from `alloc`.
+///
+/// [`ConvertError::TooMany`] comes exactly where there are more covectors than [`MAX_MEMBERS`](om_signs::MAX_MEMBERS),
+/// which it names, if memory lasts until the first of these; [`ConvertError::Memory`] comes only for want of memory.
+///
+/// Source: Björner, Las Vergnas, Sturmfels, White and Ziegler, *Oriented Matroids*, chapters 3 and 4.
+pub fn chirotope_to_covectors(alloc: Global, chi: &Chirotope) -> Result<Covectors, ConvertError>
+    ensures elements { IfOk result (λ c. c.elements ≡ chi.now.elements) }
+    ensures members { IfOk result (λ c. AreAllOf (IsCovectorOfChirotope chi.now) c.members) }
+    ensures same { IfOk result (λ c.
+        DenoteTheSame chi.now.elements (IsCovectorOfChirotope chi.now) (IsCovectorOfCovectors c)) }
+    ensures few { OnOk result (IsWithinLimit (IsCovectorOfChirotope chi.now)) }
+    ensures many { IfErr result (IsCause (IsCovectorOfChirotope chi.now)) }
+{
+    let cocircuits = all_cocircuits(alloc, chi)?;
+    let covectors = all_compositions(alloc, chi.elements(), cocircuits.as_slice())?.into_list(
+        alloc,
+    )?;
+    Ok(Covectors::lawful(chi.elements(), covectors))
+}

@@ -1,0 +1,38 @@
+//! Closing a set of sign vectors under composition.
+
+ghost use Rattle.std.specs.Prelude.{◌≤◌, IfOk, IfErr};
+ghost use Rattle.om_circuits.specs.SignedSets.{HaveLength};
+ghost use Rattle.om_oriented.specs.Listings.{AreAllOf};
+ghost use Rattle.om_convert.specs.Compositions.{IsCompositionOf};
+ghost use Rattle.om_convert.specs.Limits.{IsCause};
+
+use super::convert_error::ConvertError;
+use super::member_set::MemberSet;
+use om_signs::{MAX_PLACES, SignVec};
+use std::alloc::Global;
+
+/// The compositions of vectors of a list. Each vector has `elements` signs, of which there are 1 to [`MAX_PLACES`]. The
+/// composition of none is zero.
+///
+/// The set grows while the work goes on: each member in turn is composed with each vector of the list, until the last one
+/// gives nothing new. So the work ends at the first composition past the limit.
+pub fn all_compositions(
+    alloc: Global,
+    elements: u8,
+    vectors: &[SignVec],
+) -> Result<MemberSet, ConvertError>
+    requires low { 1 ≤ elements }
+    requires high { elements ≤ MAX_PLACES }
+    requires lengths { HaveLength elements vectors.now }
+    ensures members { IfOk result (AreAllOf (IsCompositionOf elements vectors.now)) }
+    ensures many { IfErr result (IsCause (IsCompositionOf elements vectors.now)) }
+{
+    let mut members = MemberSet::new(alloc);
+    members.insert(SignVec::zero(elements))?;
+    let mut done = 0usize;
+    while done < members.len() {
+        members.insert_composed(members.at(done), vectors)?;
+        done += 1;
+    }
+    Ok(members)
+}

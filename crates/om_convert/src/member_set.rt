@@ -1,0 +1,127 @@
+ghost use Rattle.std.specs.Prelude.{◌≡◌, ◌<◌, [], length, IfOk, IfErr, OnOk, slice_get, Some};
+ghost use Rattle.om_circuits.specs.SignedSets.{HaveLength};
+ghost use Rattle.om_convert.specs.Gathering.{IsMemberSet, IsOldOrAdded, IsExtendedBy, IsNonzeroUpToSign, IsComposedWith};
+ghost use Rattle.om_convert.specs.Limits.{IsCause};
+
+use super::convert_error::ConvertError;
+use indexmap::IndexSet;
+use om_signs::{List, MAX_MEMBERS, NoMemory, SignVec};
+use std::alloc::Global;
+use std::marker::Model;
+
+/// Distinct sign vectors in the order in which they came, no more than [`MAX_MEMBERS`]. Contracts see the list of them.
+#[derive(Drop)]
+pub struct MemberSet {
+    set: IndexSet<SignVec>,
+}
+
+impl Model for MemberSet {
+    ghost use Rattle.std.specs.Prelude.{List};
+    ghost use Rattle.om_signs.specs.declared.sign.Sign.{Sign};
+    ghost use Rattle.om_convert.specs.Gathering.{IsMemberSet};
+
+    ghost Value = { List (List Sign) };
+
+    ghost view = { λ s. s.set.keys };
+
+    ghost invariant = { λ s. IsMemberSet s.set.keys };
+}
+
+impl MemberSet {
+    /// The empty set. It takes no memory, and later calls take theirs from `alloc`.
+    pub fn new(alloc: Global) -> MemberSet
+        ensures { result ≡ [] }
+    {
+        MemberSet {
+            set: IndexSet::new(alloc),
+        }
+    }
+
+    /// The number of members.
+    pub fn len(&self) -> usize
+        ensures value { result ≡ length self.now }
+        ensures lawful { IsMemberSet self.now }
+    {
+        self.set.len()
+    }
+
+    /// The member at the index `i`, counted from 0 and below the number of members.
+    pub fn at(&self, i: usize) -> SignVec
+        requires { i < length self.now }
+        ensures { slice_get self.now i ≡ Some result }
+    {
+        self.set.as_slice()[i]
+    }
+
+    /// The members, in the order in which they came.
+    pub fn as_slice(&self) -> &[SignVec]
+        ensures { result.now ≡ self.now }
+    {
+        self.set.as_slice()
+    }
+
+    /// Adds a vector at the end, if it is no member.
+    ///
+    /// [`ConvertError::TooMany`] comes exactly where it is no member and there are as many as may be, and then names their
+    /// number; [`ConvertError::Memory`] comes only for want of memory.
+    pub fn insert(&mut self, x: SignVec) -> Result<(), ConvertError>
+        ensures added { OnOk result (IsExtendedBy (λ X. X ≡ x) self.old self.new) }
+        ensures many { IfErr result (IsCause (IsOldOrAdded self.old (λ X. X ≡ x))) }
+    {
+        if self.set.contains(&x) {
+            return Ok(());
+        }
+        if self.set.len() >= MAX_MEMBERS {
+            return Err(ConvertError::TooMany {
+                limit: MAX_MEMBERS as u32,
+            });
+        }
+        match self.set.insert(x) {
+            Ok(_) => Ok(()),
+            Err(_) => Err(ConvertError::Memory),
+        }
+    }
+
+    /// Adds a vector and its negative at the end, if it isn't zero, as far as they are no members.
+    ///
+    /// The errors are those of [`MemberSet::insert`].
+    pub fn insert_signed(&mut self, v: SignVec) -> Result<(), ConvertError>
+        ensures added { OnOk result (IsExtendedBy (IsNonzeroUpToSign v) self.old self.new) }
+        ensures many { IfErr result (IsCause (IsOldOrAdded self.old (IsNonzeroUpToSign v))) }
+    {
+        if v.support() != 0 {
+            self.insert(v)?;
+            self.insert(v.neg())?;
+        }
+        Ok(())
+    }
+
+    /// Adds the compositions of `x` with each vector of `ys` at the end, as far as they are no members. All have as many
+    /// places as `x`.
+    ///
+    /// The errors are those of [`MemberSet::insert`].
+    pub fn insert_composed(&mut self, x: SignVec, ys: &[SignVec]) -> Result<(), ConvertError>
+        requires { HaveLength (length x) ys.now }
+        ensures added { OnOk result (IsExtendedBy (IsComposedWith x ys.now) self.old self.new) }
+        ensures many { IfErr result (IsCause (IsOldOrAdded self.old (IsComposedWith x ys.now))) }
+    {
+        for y in ys {
+            self.insert(x.compose(*y))?;
+        }
+        Ok(())
+    }
+
+    /// The list of the members, in the order in which they came, with its memory from `alloc`.
+    ///
+    /// [`NoMemory`] comes only for want of memory.
+    pub fn into_list(self, alloc: Global) -> Result<List<SignVec>, NoMemory>
+        ensures value { IfOk result (λ l. l ≡ self) }
+        ensures lawful { IsMemberSet self }
+    {
+        let mut list = List::new(alloc);
+        for x in self.set.as_slice() {
+            list.push(*x)?;
+        }
+        Ok(list)
+    }
+}
