@@ -1,0 +1,17 @@
+//! The dual of an oriented matroid.
+//!
+//! [`dual`] takes a chirotope and gives the normal chirotope of its dual. [`normal_by`] makes a normal chirotope of a rule
+//! for its signs, a [`SignRule`].
+//!
+//! Source of the notions: Björner, Las Vergnas, Sturmfels, White and Ziegler, *Oriented Matroids*, chapters 3 and 4.
+#![tactic(auto)]
+
+mod duality;
+mod laws;
+mod sign_rule;
+#[cfg(test)]
+mod tests;
+
+pub use duality::dual;
+pub use laws::{dual_of_the_dual, normal_forms};
+pub use sign_rule::{SignRule, normal_by};

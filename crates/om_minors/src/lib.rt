@@ -1,0 +1,20 @@
+//! Deletion, contraction and reorientation of oriented matroids.
+//!
+//! [`delete_chirotope`] and [`contract_chirotope`] take a chirotope and an element and give the normal chirotope of the
+//! minor; [`reorient_chirotope`] gives that of the reorientation on a set of elements.
+//!
+//! Source of the notions: Björner, Las Vergnas, Sturmfels, White and Ziegler, *Oriented Matroids*, chapters 3 and 4.
+#![tactic(auto)]
+
+mod bases;
+mod laws;
+mod minor_error;
+mod minors;
+mod reorientation;
+#[cfg(test)]
+mod tests;
+
+pub use laws::{deletion_and_contraction_are_dual, reorientation_twice};
+pub use minor_error::MinorError;
+pub use minors::{contract_chirotope, delete_chirotope};
+pub use reorientation::reorient_chirotope;

@@ -1,0 +1,175 @@
+//! Deletion and contraction of one element of a chirotope.
+
+ghost use Rattle.std.specs.Prelude.{ℕ, ◌≡◌, ◌≤◌, ◌<◌, ◌+◌, ◌-◌, ◌↔◌, IfOk, IsErrOf, length, map, true, false};
+ghost use Rattle.om_signs.specs.declared.sign.Sign.TheVariants.{Plus};
+ghost use Rattle.om_laws.specs.Minors.{skip};
+ghost use Rattle.om_chirotope.specs.Map.{IsLedBy};
+ghost use Rattle.om_oriented.specs.Covectors.{IsCovectorOfChirotope};
+ghost use Rattle.om_oriented.specs.Operations.{IsDeletion, IsContraction};
+ghost use Rattle.om_dual.specs.Maps.{IsNormalFormOf};
+ghost use Rattle.om_minors.specs.Minors.{HasBasis, IsColoop, IsLoop, deleted, contracted};
+
+use super::bases::has_basis;
+use super::minor_error::MinorError;
+use om_chirotope::Chirotope;
+use om_dual::{SignRule, normal_by};
+use om_signs::{MAX_PLACES, NoMemory, Sign};
+use om_subsets::Subset;
+use std::alloc::Global;
+
+/// The normal chirotope of the deletion of e, from 1 to n: its covectors are the covectors without their sign at e. The
+/// elements after e are moved down by one. The rank stays, but at a coloop it is one less: the deletion of a coloop is its
+/// contraction. The signs take their memory from `alloc`.
+///
+/// [`MinorError::LastElement`] comes exactly where n is 1, and [`MinorError::Memory`] only for want of memory.
+///
+/// Source: Björner, Las Vergnas, Sturmfels, White and Ziegler, *Oriented Matroids*, chapters 3 and 4.
+pub fn delete_chirotope(alloc: Global, chi: &Chirotope, e: u8) -> Result<Chirotope, MinorError>
+    requires low { 1 ≤ e }
+    requires high { e ≤ chi.now.elements }
+    ensures last_element { IsErrOf result MinorError.LastElement ↔ (chi.now.elements ≡ 1) }
+    ensures elements { IfOk result (λ d. d.elements + 1 ≡ chi.now.elements) }
+    ensures deletion { IfOk result (λ d.
+        IsDeletion chi.now.elements e (IsCovectorOfChirotope chi.now) (IsCovectorOfChirotope d)) }
+    ensures normal { IfOk result (λ d. IsLedBy Plus d.signs) }
+    ensures value { IfOk result (λ d. (IsColoop chi.now e → ⊥) → IsNormalFormOf (deleted e chi.now) d) }
+    ensures at_coloop { IfOk result (λ d. IsColoop chi.now e → IsNormalFormOf (contracted e chi.now) d) }
+    ensures rank { IfOk result (λ d. (IsColoop chi.now e → ⊥) → d.rank ≡ chi.now.rank) }
+    ensures rank_at_coloop { IfOk result (λ d. IsColoop chi.now e → d.rank + 1 ≡ chi.now.rank) }
+{
+    if chi.elements() == 1 {
+        return Err(MinorError::LastElement);
+    }
+    if has_basis(chi, e, false) {
+        Ok(general_deletion(alloc, chi, e)?)
+    } else {
+        Ok(general_contraction(alloc, chi, e)?)
+    }
+}
+
+/// The normal chirotope of the contraction of e, from 1 to n: its covectors are the covectors that are 0 at e, without
+/// their sign there. The elements after e are moved down by one. The rank is one less, but at a loop it stays: the
+/// contraction of a loop is its deletion. The signs take their memory from `alloc`.
+///
+/// [`MinorError::LastElement`] comes exactly where n is 1, and [`MinorError::Memory`] only for want of memory.
+///
+/// Source: Björner, Las Vergnas, Sturmfels, White and Ziegler, *Oriented Matroids*, chapters 3 and 4.
+pub fn contract_chirotope(alloc: Global, chi: &Chirotope, e: u8) -> Result<Chirotope, MinorError>
+    requires low { 1 ≤ e }
+    requires high { e ≤ chi.now.elements }
+    ensures last_element { IsErrOf result MinorError.LastElement ↔ (chi.now.elements ≡ 1) }
+    ensures elements { IfOk result (λ d. d.elements + 1 ≡ chi.now.elements) }
+    ensures contraction { IfOk result (λ d.
+        IsContraction chi.now.elements e (IsCovectorOfChirotope chi.now) (IsCovectorOfChirotope d)) }
+    ensures normal { IfOk result (λ d. IsLedBy Plus d.signs) }
+    ensures value { IfOk result (λ d. (IsLoop chi.now e → ⊥) → IsNormalFormOf (contracted e chi.now) d) }
+    ensures at_loop { IfOk result (λ d. IsLoop chi.now e → IsNormalFormOf (deleted e chi.now) d) }
+    ensures rank { IfOk result (λ d. (IsLoop chi.now e → ⊥) → d.rank + 1 ≡ chi.now.rank) }
+    ensures rank_at_loop { IfOk result (λ d. IsLoop chi.now e → d.rank ≡ chi.now.rank) }
+{
+    if chi.elements() == 1 {
+        return Err(MinorError::LastElement);
+    }
+    if has_basis(chi, e, true) {
+        Ok(general_contraction(alloc, chi, e)?)
+    } else {
+        Ok(general_deletion(alloc, chi, e)?)
+    }
+}
+
+/// The normal chirotope of the signs of the lists without e, an element that some basis avoids.
+fn general_deletion(alloc: Global, chi: &Chirotope, e: u8) -> Result<Chirotope, NoMemory>
+    requires low { 1 ≤ e }
+    requires high { e ≤ chi.now.elements }
+    requires several { 2 ≤ chi.now.elements }
+    requires avoided { HasBasis chi.now e false }
+    ensures { IfOk result (IsNormalFormOf (deleted e chi.now)) }
+{
+    normal_by(alloc, chi.rank(), chi.elements() - 1, &Deletion { chi, e })
+}
+
+/// The normal chirotope of the values of the tuples with e at their end, for an element e of some basis.
+fn general_contraction(alloc: Global, chi: &Chirotope, e: u8) -> Result<Chirotope, NoMemory>
+    requires low { 1 ≤ e }
+    requires high { e ≤ chi.now.elements }
+    requires several { 2 ≤ chi.now.elements }
+    requires used { HasBasis chi.now e true }
+    ensures { IfOk result (IsNormalFormOf (contracted e chi.now)) }
+{
+    normal_by(
+        alloc,
+        chi.rank() - 1,
+        chi.elements() - 1,
+        &Contraction { chi, e },
+    )
+}
+
+/// The rule of a deletion.
+#[derive(Drop)]
+struct Deletion<'a> {
+    chi: &'a Chirotope,
+    e: u8,
+}
+
+impl SignRule for Deletion<'_> {
+    ghost use Rattle.std.specs.Prelude.{◌≤◌, ◌-◌};
+    ghost use Rattle.om_chirotope.specs.Map.{value_of};
+    ghost use Rattle.om_laws.specs.Minors.{deletion};
+
+    ghost rank = { λ d. d.chi.now.rank };
+
+    ghost elements = { λ d. d.chi.now.elements - 1 };
+
+    ghost rule = { λ d. deletion d.e (value_of d.chi.now) };
+
+    ghost valid = { λ d. (1 ≤ d.e) × (d.e ≤ d.chi.now.elements) };
+
+    fn sign(&self, s: Subset) -> Sign {
+        self.chi.at(skipping(s, self.e))
+    }
+}
+
+/// The rule of a contraction.
+#[derive(Drop)]
+struct Contraction<'a> {
+    chi: &'a Chirotope,
+    e: u8,
+}
+
+impl SignRule for Contraction<'_> {
+    ghost use Rattle.std.specs.Prelude.{◌≤◌, ◌-◌};
+    ghost use Rattle.om_chirotope.specs.Map.{value_of};
+    ghost use Rattle.om_laws.specs.Minors.{contraction};
+
+    ghost rank = { λ c. c.chi.now.rank - 1 };
+
+    ghost elements = { λ c. c.chi.now.elements - 1 };
+
+    ghost rule = { λ c. contraction c.e (value_of c.chi.now) };
+
+    ghost valid = { λ c. (1 ≤ c.e) × (c.e ≤ c.chi.now.elements) × (1 ≤ c.chi.now.rank) };
+
+    fn sign(&self, s: Subset) -> Sign {
+        let others = skipping(s, self.e);
+        let sign = self.chi.at(others.with(self.e));
+        if others.odd_after(self.e) {
+            sign.neg()
+        } else {
+            sign
+        }
+    }
+}
+
+/// The set with its elements from e on moved up by one, so that it avoids e.
+fn skipping(s: Subset, e: u8) -> Subset
+    requires low { 1 ≤ e }
+    requires high { e ≤ s.n + 1 }
+    requires room { s.n < MAX_PLACES }
+    ensures n { result.n ≡ s.n + 1 }
+    ensures elements { result.elements ≡ map (skip e) s.elements }
+    ensures size { length result.elements ≡ length s.elements }
+{
+    let before = s.mask() & ((1u32 << (e - 1)) - 1);
+    let behind = s.mask() >> (e - 1) << e;
+    Subset::from_mask(before | behind, s.n() + 1)
+}

@@ -1,0 +1,1 @@
+//! Minors and reorientations of chirotopes.
