@@ -1,5 +1,9 @@
+mod AboveLaws
+mod ArgumentLaws
 mod ConversionLaws
 mod MeaningLaws
 mod Memberships
-mod Spelling
+mod Numerals
+mod OperationLaws
+mod SignWords
 mod WordLaws

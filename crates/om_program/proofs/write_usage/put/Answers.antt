@@ -1,6 +1,6 @@
 use Rattle.std.proofs.Common.{arith, ap, ◌∙◌, take, ◌++◌, ◌+◌, ◌-◌, length}
 use Rattle.std.proofs.lemmas.Slice.{take-put_mid}
-use Rattle.om_program.proofs.usage.put.Goals as goal
+use Rattle.om_program.proofs.write_usage.put.Goals as goal
 
 pub returns-clause-front : goal.returns-clause-front
 returns-clause-front c =
