@@ -33,19 +33,24 @@ def pairs(rank, elements):
 
 def circuits_of_alternating(rank, elements):
     """The circuits of the uniform chirotope all of whose values are plus."""
-    lines = ["om 1", "circuits %d" % elements]
+    circuits = []
     for members in itertools.combinations(range(elements), rank + 1):
         for turn in (0, 1):
-            signs = ["0"] * elements
+            signs = [0] * elements
             for place, e in enumerate(members):
-                signs[e] = "-+"[(place + turn) % 2]
-            lines.append("".join(signs))
-    lines.append("end")
-    return ("\n".join(lines) + "\n").encode()
+                signs[e] = (-1, 1)[(place + turn) % 2]
+            circuits.append(tuple(signs))
+    return circuits
 
 
-def covectors_of_alternating(elements):
-    """The covectors of the uniform chirotope of rank 3 all of whose values are plus: its cocircuits, composed."""
+def document(kind, elements, members):
+    """A document of sign vectors, given by -1, 0 and 1, in their order."""
+    lines = ["".join("-0+"[s + 1] for s in x) for x in sorted(members)]
+    return ("\n".join(["om 1", "%s %d" % (kind, elements)] + lines + ["end"]) + "\n").encode()
+
+
+def cocircuits_of_alternating(elements):
+    """The cocircuits of the uniform chirotope of rank 3 all of whose values are plus."""
     def value(tuple_):
         sign = 1
         for i in range(3):
@@ -60,6 +65,12 @@ def covectors_of_alternating(elements):
     for a, b in itertools.combinations(range(elements), 2):
         along = tuple(value((a, b, e)) for e in range(elements))
         cocircuits |= {along, tuple(-s for s in along)}
+    return cocircuits
+
+
+def covectors_of_alternating(elements):
+    """The covectors of the uniform chirotope of rank 3 all of whose values are plus: its cocircuits, composed."""
+    cocircuits = cocircuits_of_alternating(elements)
     found = {(0,) * elements}
     open_ = list(found)
     while open_:
@@ -69,8 +80,7 @@ def covectors_of_alternating(elements):
             if z not in found:
                 found.add(z)
                 open_.append(z)
-    lines = ["".join("-0+"[s + 1] for s in x) for x in sorted(found)]
-    return len(lines), ("om 1\ncovectors %d\n%s\nend\n" % (elements, "\n".join(lines))).encode()
+    return found
 
 
 def comments(size):
@@ -114,6 +124,19 @@ def row(name, took, amount, unit, asked_rate=None, asked_time=None):
     print("%-58s %9.4f s  %18s  %18s  %s" % (name, took, rate, asked, "" if ratio is None else "%.2f" % ratio))
 
 
+def conversions(runs):
+    """Conversions of chirotopes all of whose values are plus."""
+    print("%-58s %11s  %18s  %18s  %s" % ("convert", "least time", "", "asked", "ratio"))
+    for kind, rank, elements, members, asked in (
+            ("circuits", 3, 12, circuits_of_alternating(3, 12), 0.01),
+            ("cocircuits", 3, 16, cocircuits_of_alternating(16), 0.008),
+            ("covectors", 3, 16, covectors_of_alternating(16), 0.2)):
+        took = least_time(["convert", kind], alternating(rank, elements), runs, document(kind, elements, members))
+        row("%d %s of rank %d on %d elements" % (len(members), kind, rank, elements), took, 1, "", asked_time=asked)
+    took = least_time(["convert", "covectors"], alternating(16, 16), runs, b"limit members 1024\n")
+    row("covectors of rank 16 on 16 elements: too many", took, 1, "", asked_time=0.01)
+
+
 def main():
     parser = argparse.ArgumentParser(description=__doc__, formatter_class=argparse.RawDescriptionHelpFormatter)
     parser.add_argument("--runs", type=int, default=5)
@@ -133,19 +156,21 @@ def main():
         row("chirotope %d %d, all plus: %d pairs" % (rank, elements, pairs(rank, elements)), took,
             pairs(rank, elements) / 1e6, "M pairs/s", asked_rate=asked)
     for rank, elements, asked in ((3, 8, 0.01), (3, 12, 10.0), (7, 12, 10.0)):
-        document = circuits_of_alternating(rank, elements)
-        took = least_time(["accept"], document, runs, accepted)
+        circuits = document("circuits", elements, circuits_of_alternating(rank, elements))
+        took = least_time(["accept"], circuits, runs, accepted)
         row("%d circuits of rank %d on %d elements" % (2 * math.comb(elements, rank + 1), rank, elements), took, 1, "",
             asked_time=asked)
-    count, document = covectors_of_alternating(16)
-    took = least_time(["accept"], document, runs, accepted)
-    row("%d covectors of rank 3 on 16 elements" % count, took, 1, "", asked_time=10.0)
+    covectors = covectors_of_alternating(16)
+    took = least_time(["accept"], document("covectors", 16, covectors), runs, accepted)
+    row("%d covectors of rank 3 on 16 elements" % len(covectors), took, 1, "", asked_time=10.0)
     size = 1000000
     took = least_time(["accept"], comments(size), runs, accepted)
     row("1 MB of comment lines, without process start", max(took - start, 1e-5), size / 1e6, "MB/s", asked_rate=100.0)
     scan = least_time(["accept"], alternating(8, 16), runs, accepted)
     took = least_time(["accept"], sign_lines(size), runs, accepted)
     row("1 MB of lines of signs and blanks, without the scan", max(took - scan, 1e-5), size / 1e6, "MB/s", asked_rate=50.0)
+
+    conversions(runs)
 
 
 if __name__ == "__main__":

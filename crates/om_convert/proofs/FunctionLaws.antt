@@ -1,7 +1,7 @@
 -- Lists of lists of signs as families of functions.
 --
--- Main results: a function is listed exactly where it is that of a member (listed, unlisted); lists of one length with the same functions are
--- the same (same_lists); supports and zero vectors of lists are those of functions.
+-- Main results: a function is listed exactly where it is that of a member (listed, unlisted); supports and zero vectors of lists are those of
+-- functions.
 use Rattle.std.specs.List.{Contains}
 use Rattle.std.proofs.Common.{ℕ, zero, suc, ◌≡◌, ◌-◌, List, [], ◌∷◌, length, map, refl, sym, ap, ◌∙◌, inl, inr, ⊎_elim, arith}
 use Rattle.om_signs.specs.declared.sign.Sign.{Sign}
@@ -33,15 +33,6 @@ pub unlisted : (members : List (List Sign)) (f : SignVector) → IsListed (as_fu
 unlisted [] f h = absurd h
 unlisted (Y ∷ Ys) f (inl q) = (Y, contains_first Y Ys, q)
 unlisted (Y ∷ Ys) f (inr h) = let r = unlisted Ys f h in (r.0, contains_later Y Ys r.0 r.1, r.2)
-
--- ---- equal lists
-
-map_same : (f g : SignVector) → ((e : ℕ) → f e ≡ g e) → (l : List ℕ) → map f l ≡ map g l
-map_same f g q [] = refl
-map_same f g q (x ∷ l) = ap (λ s. s ∷ map f l) (q x) ∙ ap (λ t. g x ∷ t) (map_same f g q l)
-
-pub same_lists : (n : ℕ) (X Y : List Sign) → length X ≡ n → length Y ≡ n → ((e : ℕ) → as_function X e ≡ as_function Y e) → X ≡ Y
-same_lists n X Y lx ly q = sym (as_list-as_function n X lx) ∙ map_same (as_function X) (as_function Y) q (elements_to n) ∙ as_list-as_function n Y ly
 
 -- ---- signs at elements
 

@@ -1,4 +1,11 @@
 pub mod SelectionLaws
 pub mod FunctionLaws
 pub mod AxiomLaws
+pub mod FamilyLaws
 pub mod CocircuitLaws
+pub mod CountingLaws
+pub mod GatheringLaws
+pub mod CompositionLaws
+pub mod PlaceLaws
+pub mod KeyLaws
+pub mod ChirotopeLaws

@@ -11,7 +11,7 @@ use Rattle.om_covectors.specs.Minimality.{AreThose}
 
 -- ---- contained in a list
 
-none_contained : (X : List Sign) → Contains [] X → ⊥
+pub none_contained : (X : List Sign) → Contains [] X → ⊥
 none_contained X h = let l : h.0 < 0 = h.1 in omega arith
 
 pub contains_first : (Y : List Sign) (Ys : List (List Sign)) → Contains (Y ∷ Ys) Y

@@ -7,9 +7,8 @@ ghost use Rattle.om_oriented.specs.Denotation.{DenoteTheSame};
 ghost use Rattle.om_oriented.specs.Listings.{AreAllOf};
 ghost use Rattle.om_convert.specs.Limits.{IsCause, IsWithinLimit};
 
-use super::closure::all_compositions;
 use super::convert_error::ConvertError;
-use super::vectors::{all_circuits, all_cocircuits};
+use super::vectors::{all_circuits, all_cocircuits, all_covectors};
 use om_chirotope::Chirotope;
 use om_circuits::{Circuits, Cocircuits, SignedSet};
 use om_covectors::Covectors;
@@ -31,7 +30,8 @@ pub fn chirotope_to_circuits(alloc: Global, chi: &Chirotope) -> Result<Circuits,
     ensures few { OnOk result (IsWithinLimit (IsCircuitOfChirotope chi.now)) }
     ensures many { IfErr result (IsCause (IsCircuitOfChirotope chi.now)) }
 {
-    let circuits = all_circuits(alloc, chi)?.into_list(alloc)?;
+    let gathered = all_circuits(alloc, chi)?;
+    let circuits = gathered.into_list(alloc)?;
     Ok(Circuits(SignedSet::lawful(chi.elements(), circuits)))
 }
 
@@ -51,7 +51,8 @@ pub fn chirotope_to_cocircuits(alloc: Global, chi: &Chirotope) -> Result<Cocircu
     ensures few { OnOk result (IsWithinLimit (IsCocircuitOfChirotope chi.now)) }
     ensures many { IfErr result (IsCause (IsCocircuitOfChirotope chi.now)) }
 {
-    let cocircuits = all_cocircuits(alloc, chi)?.into_list(alloc)?;
+    let gathered = all_cocircuits(alloc, chi)?;
+    let cocircuits = gathered.into_list(alloc)?;
     Ok(Cocircuits(SignedSet::lawful(chi.elements(), cocircuits)))
 }
 
@@ -70,9 +71,7 @@ pub fn chirotope_to_covectors(alloc: Global, chi: &Chirotope) -> Result<Covector
     ensures few { OnOk result (IsWithinLimit (IsCovectorOfChirotope chi.now)) }
     ensures many { IfErr result (IsCause (IsCovectorOfChirotope chi.now)) }
 {
-    let cocircuits = all_cocircuits(alloc, chi)?;
-    let covectors = all_compositions(alloc, chi.elements(), cocircuits.as_slice())?.into_list(
-        alloc,
-    )?;
+    let gathered = all_covectors(alloc, chi)?;
+    let covectors = gathered.into_list(alloc)?;
     Ok(Covectors::lawful(chi.elements(), covectors))
 }

@@ -1,19 +1,31 @@
-//! Covectors and their cocircuits.
+//! Representations of small oriented matroids, worked out by hand, and what they convert to.
 
 ghost use Rattle.std.specs.Prelude.{◌≡◌, ◌≤◌, ◌↔◌, IsTrue, IfOk, length};
 ghost use Rattle.std.specs.List.{Contains};
 ghost use Rattle.om_covectors.specs.CovectorSets.{HaveLength, AreDistinct};
 
-use super::{ConvertError, covectors_to_cocircuits};
-use om_covectors::check;
-use om_signs::{List, MAX_ELEMENTS, MAX_MEMBERS, NoMemory, Sign, SignVec};
+use super::{
+    ConvertError, chirotope_to_circuits, chirotope_to_cocircuits, chirotope_to_covectors,
+    covectors_to_cocircuits,
+};
+use om_chirotope::Chirotope;
+use om_oriented::same;
+use om_signs::{List, MAX_ELEMENTS, MAX_MEMBERS, NoMemory, RawMap, Sign, SignVec};
+use om_subsets::Subset;
 use std::alloc::Global;
+use std::process::Abort;
 use std::test::Fail;
+use std::thread::Threads;
 
 /// The 13 covectors of three lines through a point of the plane, given by normal vectors of which the second is the sum of
 /// the first and the third: the point, six rays and six sectors. Where signs 1 and 3 are plus, so is sign 2.
 const PLANE: &[&str] = &[
     "+++", "0++", "---", "0--", "000", "--0", "++0", "-++", "-0+", "+--", "+0-", "--+", "++-",
+];
+
+/// The cocircuits of the uniform rank 3 oriented matroid on 4 elements whose chirotope is `++++`.
+const COCIRCUITS: [&str; 12] = [
+    "--00", "-00-", "-0+0", "0--0", "0-0+", "00--", "00++", "0+0-", "0++0", "+0-0", "+00+", "++00",
 ];
 
 /// The sign of a byte; any other byte than `+` and `-` is zero.
@@ -77,6 +89,179 @@ fn list_of(alloc: Global, elements: u8, words: &[&str]) -> Result<List<SignVec>,
     Ok(list)
 }
 
+/// Whether the members are the vectors of some words, in any order.
+fn are_all(members: &[SignVec], elements: u8, words: &[&str]) -> bool
+    requires low { 1 ≤ elements }
+    requires high { elements ≤ MAX_ELEMENTS }
+{
+    for word in words {
+        if !is_member(members, vector_of(elements, word)) {
+            return false;
+        }
+    }
+    members.len() == words.len()
+}
+
+/// The chirotope of a list of signs, which meets the axioms.
+fn accepted<R: Threads + Sync + Abort>(
+    rt: &R,
+    rank: u8,
+    elements: u8,
+    signs: List<Sign>,
+) -> Chirotope
+    requires low { 1 ≤ elements }
+    requires high { elements ≤ MAX_ELEMENTS }
+    requires part { rank ≤ elements }
+    ensures { result.elements ≡ elements }
+{
+    assert_eq!(rt; signs.len(), Subset::choose(elements, rank) as usize);
+    let raw = RawMap {
+        rank,
+        elements,
+        signs,
+    };
+    match om_chirotope::check(rt, raw) {
+        Ok(chi) => chi,
+        Err(bad) => panic!(rt; "refused for {:?}", bad.why),
+    }
+}
+
+/// The chirotope of a word of signs, which meets the axioms.
+fn chirotope_of<R: Threads + Sync + Abort>(
+    rt: &R,
+    alloc: Global,
+    rank: u8,
+    elements: u8,
+    word: &str,
+) -> Result<Chirotope, NoMemory>
+    requires low { 1 ≤ elements }
+    requires high { elements ≤ MAX_ELEMENTS }
+    requires part { rank ≤ elements }
+    ensures { IfOk result (λ c. c.elements ≡ elements) }
+{
+    let mut signs = List::new(alloc);
+    for byte in word.as_bytes() {
+        signs.push(sign_of(*byte))?;
+    }
+    Ok(accepted(rt, rank, elements, signs))
+}
+
+/// The chirotope whose signs are all plus.
+fn all_plus<R: Threads + Sync + Abort>(
+    rt: &R,
+    alloc: Global,
+    rank: u8,
+    elements: u8,
+) -> Result<Chirotope, NoMemory>
+    requires low { 1 ≤ elements }
+    requires high { elements ≤ MAX_ELEMENTS }
+    requires part { rank ≤ elements }
+    ensures { IfOk result (λ c. c.elements ≡ elements) }
+{
+    let mut signs = List::new(alloc);
+    for _k in 0..Subset::choose(elements, rank) {
+        signs.push(Sign::Plus)?;
+    }
+    Ok(accepted(rt, rank, elements, signs))
+}
+
+// The signs without 1, 2, 3 and 4 in turn are all plus, so the one vector V has the signs -+-+.
+#[test]
+fn circuits_of_four_points(rt: HostRuntime) -> Result<(), Fail> {
+    let chi = chirotope_of(&rt, rt.alloc(), 3, 4, "++++")?;
+    let circuits = chirotope_to_circuits(rt.alloc(), &chi)?;
+    assert_eq!(rt; circuits.0.elements(), 4);
+    assert!(rt; are_all(circuits.0.members(), 4, &["-+-+", "+-+-"]));
+    assert_eq!(rt; same(&chi, &circuits), Ok(()));
+    Ok(())
+}
+
+#[test]
+fn cocircuits_of_four_points(rt: HostRuntime) -> Result<(), Fail> {
+    let chi = chirotope_of(&rt, rt.alloc(), 3, 4, "++++")?;
+    let cocircuits = chirotope_to_cocircuits(rt.alloc(), &chi)?;
+    assert_eq!(rt; cocircuits.0.elements(), 4);
+    assert!(rt; are_all(cocircuits.0.members(), 4, &COCIRCUITS));
+    assert_eq!(rt; same(&chi, &cocircuits), Ok(()));
+    Ok(())
+}
+
+// Of the 81 vectors of four signs 51 are orthogonal to -+-+: 15 nonzero ones have products with it that are plus or zero,
+// and 15 have such that are minus or zero.
+#[test]
+fn covectors_of_four_points(rt: HostRuntime) -> Result<(), Fail> {
+    let chi = chirotope_of(&rt, rt.alloc(), 3, 4, "++++")?;
+    let covectors = chirotope_to_covectors(rt.alloc(), &chi)?;
+    assert_eq!(rt; covectors.elements(), 4);
+    assert_eq!(rt; covectors.members().len(), 51);
+    for word in ["0000", "----", "++++"] {
+        assert!(rt; covectors.contains(vector_of(4, word)));
+    }
+    assert!(rt; !covectors.contains(vector_of(4, "-+-+")));
+    assert_eq!(rt; same(&chi, &covectors), Ok(()));
+    let cocircuits = covectors_to_cocircuits(rt.alloc(), &covectors)?;
+    assert!(rt; are_all(cocircuits.0.members(), 4, &COCIRCUITS));
+    Ok(())
+}
+
+// In rank 0 each element is a loop: a circuit of its own. In the rank of all elements each is a coloop: a cocircuit of its
+// own, and every vector is a covector, as +++, which takes three cocircuits.
+#[test]
+fn lowest_and_highest_rank(rt: HostRuntime) -> Result<(), Fail> {
+    let units = ["-0", "0-", "0+", "+0"];
+    let lowest = chirotope_of(&rt, rt.alloc(), 0, 2, "+")?;
+    let circuits = chirotope_to_circuits(rt.alloc(), &lowest)?;
+    assert!(rt; are_all(circuits.0.members(), 2, &units));
+    let cocircuits = chirotope_to_cocircuits(rt.alloc(), &lowest)?;
+    assert!(rt; are_all(cocircuits.0.members(), 2, &[]));
+    let covectors = chirotope_to_covectors(rt.alloc(), &lowest)?;
+    assert!(rt; are_all(covectors.members(), 2, &["00"]));
+    let highest = chirotope_of(&rt, rt.alloc(), 2, 2, "+")?;
+    let circuits = chirotope_to_circuits(rt.alloc(), &highest)?;
+    assert!(rt; are_all(circuits.0.members(), 2, &[]));
+    let cocircuits = chirotope_to_cocircuits(rt.alloc(), &highest)?;
+    assert!(rt; are_all(cocircuits.0.members(), 2, &units));
+    let free = chirotope_of(&rt, rt.alloc(), 3, 3, "+")?;
+    let covectors = chirotope_to_covectors(rt.alloc(), &free)?;
+    assert_eq!(rt; covectors.members().len(), 27);
+    assert!(rt; covectors.contains(vector_of(3, "+++")));
+    Ok(())
+}
+
+// The first and the second element are parallel, the third is a loop.
+#[test]
+fn loops_and_parallel_elements(rt: HostRuntime) -> Result<(), Fail> {
+    let chi = chirotope_of(&rt, rt.alloc(), 1, 3, "+-0")?;
+    let circuits = chirotope_to_circuits(rt.alloc(), &chi)?;
+    assert!(rt; are_all(circuits.0.members(), 3, &["++0", "--0", "00+", "00-"]));
+    assert_eq!(rt; same(&chi, &circuits), Ok(()));
+    let cocircuits = chirotope_to_cocircuits(rt.alloc(), &chi)?;
+    assert!(rt; are_all(cocircuits.0.members(), 3, &["+-0", "-+0"]));
+    let covectors = chirotope_to_covectors(rt.alloc(), &chi)?;
+    assert!(rt; are_all(covectors.members(), 3, &["000", "+-0", "-+0"]));
+    Ok(())
+}
+
+// Where all signs are plus, the vectors V of different sets differ, and so do those U: there are 715 sets of 4 of 13
+// elements, and of 9. On 16 elements in rank 16 all 3 to the power 16 vectors are covectors.
+#[test]
+fn more_members_than_may_be(rt: HostRuntime) -> Result<(), Fail> {
+    let many = ConvertError::TooMany {
+        limit: MAX_MEMBERS as u32,
+    };
+    let low = all_plus(&rt, rt.alloc(), 3, 13)?;
+    assert_eq!(rt; chirotope_to_circuits(rt.alloc(), &low).err(), Some(many));
+    let high = all_plus(&rt, rt.alloc(), 10, 13)?;
+    assert_eq!(rt;
+        chirotope_to_cocircuits(rt.alloc(), &high).err(),
+        Some(many)
+    );
+    assert_eq!(rt; chirotope_to_covectors(rt.alloc(), &high).err(), Some(many));
+    let free = all_plus(&rt, rt.alloc(), 16, 16)?;
+    assert_eq!(rt; chirotope_to_covectors(rt.alloc(), &free).err(), Some(many));
+    Ok(())
+}
+
 #[test]
 fn covectors_give_their_cocircuits(rt: HostRuntime) -> Result<(), Fail> {
     for (covectors, wanted) in [
@@ -85,7 +270,7 @@ fn covectors_give_their_cocircuits(rt: HostRuntime) -> Result<(), Fail> {
         (PLANE, &["0++", "0--", "--0", "++0", "-0+", "+0-"]),
     ] {
         let wanted = list_of(rt.alloc(), 3, wanted)?;
-        match check(&rt, 3, list_of(rt.alloc(), 3, covectors)?) {
+        match om_covectors::check(&rt, 3, list_of(rt.alloc(), 3, covectors)?) {
             Ok(covectors) => {
                 let cocircuits = covectors_to_cocircuits(rt.alloc(), &covectors)?;
                 assert_eq!(rt; cocircuits.0.elements(), 3);

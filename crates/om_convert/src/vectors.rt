@@ -1,10 +1,13 @@
-//! The circuits and the cocircuits of a chirotope, by its increasing lists.
+//! The circuits and the cocircuits of a chirotope, by its increasing lists, and its covectors, by composing cocircuits.
 
 ghost use Rattle.std.specs.Prelude.{IfOk, IfErr};
+ghost use Rattle.om_chirotope.specs.Chirotope.{IsChirotope};
 ghost use Rattle.om_oriented.specs.Circuits.{IsCircuitOfChirotope, IsCocircuitOfChirotope};
+ghost use Rattle.om_oriented.specs.Covectors.{IsCovectorOfChirotope};
 ghost use Rattle.om_oriented.specs.Listings.{AreAllOf};
 ghost use Rattle.om_convert.specs.Limits.{IsCause};
 
+use super::closure::all_compositions;
 use super::convert_error::ConvertError;
 use super::member_set::MemberSet;
 use om_chirotope::Chirotope;
@@ -15,11 +18,13 @@ use std::alloc::Global;
 pub fn all_circuits(alloc: Global, chi: &Chirotope) -> Result<MemberSet, ConvertError>
     ensures members { IfOk result (AreAllOf (IsCircuitOfChirotope chi.now)) }
     ensures many { IfErr result (IsCause (IsCircuitOfChirotope chi.now)) }
+    ensures lawful { IsChirotope chi.now }
 {
     let elements = chi.elements();
+    let rank = chi.rank();
     let mut circuits = MemberSet::new(alloc);
-    if chi.rank() < elements {
-        let size = chi.rank() + 1;
+    if rank < elements {
+        let size = rank + 1;
         for k in 0..Subset::choose(elements, size) {
             let s = Subset::unrank(k, size, elements);
             circuits.insert_signed(chi.circuit_of(s))?;
@@ -32,15 +37,28 @@ pub fn all_circuits(alloc: Global, chi: &Chirotope) -> Result<MemberSet, Convert
 pub fn all_cocircuits(alloc: Global, chi: &Chirotope) -> Result<MemberSet, ConvertError>
     ensures members { IfOk result (AreAllOf (IsCocircuitOfChirotope chi.now)) }
     ensures many { IfErr result (IsCause (IsCocircuitOfChirotope chi.now)) }
+    ensures lawful { IsChirotope chi.now }
 {
     let elements = chi.elements();
+    let rank = chi.rank();
     let mut cocircuits = MemberSet::new(alloc);
-    if 0 < chi.rank() {
-        let size = chi.rank() - 1;
+    if 0 < rank {
+        let size = rank - 1;
         for k in 0..Subset::choose(elements, size) {
             let a = Subset::unrank(k, size, elements);
             cocircuits.insert_signed(chi.cocircuit_of(a))?;
         }
     }
     Ok(cocircuits)
+}
+
+/// The covectors.
+pub fn all_covectors(alloc: Global, chi: &Chirotope) -> Result<MemberSet, ConvertError>
+    ensures members { IfOk result (AreAllOf (IsCovectorOfChirotope chi.now)) }
+    ensures many { IfErr result (IsCause (IsCovectorOfChirotope chi.now)) }
+    ensures lawful { IsChirotope chi.now }
+{
+    let cocircuits = all_cocircuits(alloc, chi)?;
+    let covectors = all_compositions(alloc, chi.elements(), cocircuits.as_slice())?;
+    Ok(covectors)
 }

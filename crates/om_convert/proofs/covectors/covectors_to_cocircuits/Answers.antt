@@ -2,7 +2,7 @@ use Rattle.std.proofs.Common.{◌≡◌, length, sym, subst, ◌∙◌, arith}
 use Rattle.om_covectors.specs.CovectorSets.{HaveLength}
 use Rattle.om_covectors.specs.Minimality.{IsMinimal}
 use Rattle.om_convert.proofs.SelectionLaws.{those_all, those_few, those_distinct}
-use Rattle.om_convert.proofs.CocircuitLaws.{circuit_axioms, same_covectors}
+use Rattle.om_convert.proofs.CocircuitLaws.{minimal_axioms, same_covectors}
 use Rattle.om_convert.proofs.covectors.covectors_to_cocircuits.Goals as goal
 
 pub lawful-requires-clause-lengths : goal.lawful-requires-clause-lengths
@@ -23,7 +23,7 @@ lawful-requires-clause-few c =
 pub lawful-requires-clause-axioms : goal.lawful-requires-clause-axioms
 lawful-requires-clause-axioms c =
     let s = c.elements.ensures.lawful in
-    circuit_axioms c.args.c.now.elements c.args.c.now.members s.lengths s.axioms c.in_ok-minimal.minimal c.in_ok-minimal.ensures
+    minimal_axioms c.args.c.now.elements c.args.c.now.members s.lengths s.axioms c.in_ok-minimal.minimal c.in_ok-minimal.ensures
 
 pub returns-clause-same : goal.returns-clause-same
 returns-clause-same c =

@@ -1,0 +1,8 @@
+use Rattle.std.proofs.Common.{◌+◌}
+use Rattle.om_chirotope.specs.Map.{circuit_vector}
+use Rattle.om_oriented.specs.Listings.{AreAllOf}
+use Rattle.om_convert.proofs.PlaceLaws.{IsOfPlace}
+use Rattle.om_convert.proofs.vectors.all_circuits.Given as goal
+
+abbrev pub invariant-loop-k : goal.invariant-loop-k
+invariant-loop-k l = AreAllOf (IsOfPlace (circuit_vector l.chi) l.chi.elements (l.chi.rank + 1) l.k) l.circuits
