@@ -1,3 +1,5 @@
 pub mod Rules
 pub mod NormalForms
+pub mod Uniqueness
+pub mod ListingSigns
 pub mod DualMaps

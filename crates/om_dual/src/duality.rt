@@ -1,8 +1,7 @@
 //! The dual of a chirotope.
 
-ghost use Rattle.std.specs.Prelude.{◌≡◌, ◌≤◌, ◌+◌, ◌-◌, ◌++◌, IfOk};
+ghost use Rattle.std.specs.Prelude.{◌≡◌, ◌≤◌, ◌+◌, ◌-◌, ◌++◌, ◌∷◌, [], length, IfOk};
 ghost use Rattle.om_signs.specs.declared.sign.Sign.TheVariants.{Plus};
-ghost use Rattle.om_subsets.specs.Subsets.{IsSubsetFrom};
 ghost use Rattle.om_laws.specs.Chirotope.{elements_to};
 ghost use Rattle.om_laws.specs.Dual.{complement, dual_on_increasing};
 ghost use Rattle.om_laws.specs.Tuples.{sort_sign};
@@ -69,20 +68,39 @@ impl SignRule for Complements<'_> {
 fn complement_of(s: Subset) -> Subset
     ensures n { result.n ≡ s.n }
     ensures elements { result.elements ≡ complement (elements_to s.n) s.elements }
+    ensures size { length result.elements + length s.elements ≡ s.n }
 {
+    // this call tells that the list of the set increases, as in the functions below
+    let _size = s.size();
     Subset::from_mask((1u32 << s.n()) - 1 - s.mask(), s.n())
 }
 
-/// The sign of the permutation that lists a set in order and then the elements off it in order: each element off the set is
-/// moved over the greater ones of the set.
+/// The sign of the permutation that lists a set in order and then the elements off it in order.
 fn listing_sign(s: Subset) -> Sign
     ensures { result ≡ sort_sign (s.elements ++ complement (elements_to s.n) s.elements) }
 {
+    let _size = s.size();
     let mut sign = Sign::Plus;
     for e in 1..s.n() + 1 {
-        if !s.has(e) && s.odd_after(e) {
-            sign = sign.neg();
-        }
+        sign = sign.times(moving_sign(s, e));
     }
     sign
+}
+
+/// The sign of the permutation that moves an element off the set from behind the set over the greater ones. For an element
+/// of the set it is plus. The element is from 1 to n.
+fn moving_sign(s: Subset, e: u8) -> Sign
+    requires low { 1 ≤ e }
+    requires high { e ≤ s.n }
+    ensures { result ≡ sort_sign (s.elements ++ complement (e ∷ []) s.elements) }
+{
+    let _size = s.size();
+    if s.has(e) {
+        return Sign::Plus;
+    }
+    if s.odd_after(e) {
+        Sign::Minus
+    } else {
+        Sign::Plus
+    }
 }

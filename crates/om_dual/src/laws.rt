@@ -21,7 +21,7 @@ pub fn dual_of_the_dual()
 /// Source: Björner, Las Vergnas, Sturmfels, White and Ziegler, *Oriented Matroids*, chapter 3.
 pub fn normal_forms()
     ensures one { (m a b : SignMap) → IsNormalFormOf m a → IsNormalFormOf m b → a ≡ b }
-    ensures covectors { (m a : SignMap) → IsChirotope m → IsNormalFormOf m a → DenoteTheSame m.elements (IsCovectorOfChirotope m) (IsCovectorOfChirotope a) }
+    ensures covectors { (m a : SignMap) → IsNormalFormOf m a → DenoteTheSame m.elements (IsCovectorOfChirotope m) (IsCovectorOfChirotope a) }
     ensures same { (m k a : SignMap) → IsChirotope m → IsChirotope k → k.elements ≡ m.elements
         → DenoteTheSame m.elements (IsCovectorOfChirotope m) (IsCovectorOfChirotope k) → IsNormalFormOf m a → IsNormalFormOf k a }
 {}

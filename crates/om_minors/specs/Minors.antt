@@ -42,4 +42,4 @@ names mask e = nat_eq (bit_at mask (e - 1)) 1
 
 -- the signs, each negated once for each element of the list that the mask names
 abbrev pub reoriented_on : ℕ → SignMap → SignMap
-reoriented_on mask m = map_by m.rank m.elements (reoriented (names mask) (value_of m))
+reoriented_on mask m = map_by m.rank m.elements (reoriented (names mask) (chi_of m))

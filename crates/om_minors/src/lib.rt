@@ -14,7 +14,7 @@ mod reorientation;
 #[cfg(test)]
 mod tests;
 
-pub use laws::{deletion_and_contraction_are_dual, reorientation_twice};
+pub use laws::reorientation_twice;
 pub use minor_error::MinorError;
 pub use minors::{contract_chirotope, delete_chirotope};
 pub use reorientation::reorient_chirotope;

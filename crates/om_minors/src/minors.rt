@@ -2,6 +2,7 @@
 
 ghost use Rattle.std.specs.Prelude.{ℕ, ◌≡◌, ◌≤◌, ◌<◌, ◌+◌, ◌-◌, ◌↔◌, IfOk, IsErrOf, length, map, true, false};
 ghost use Rattle.om_signs.specs.declared.sign.Sign.TheVariants.{Plus};
+ghost use Rattle.om_subsets.specs.Subsets.{IsSubsetFrom};
 ghost use Rattle.om_laws.specs.Minors.{skip};
 ghost use Rattle.om_chirotope.specs.Map.{IsLedBy};
 ghost use Rattle.om_oriented.specs.Covectors.{IsCovectorOfChirotope};
@@ -37,6 +38,8 @@ pub fn delete_chirotope(alloc: Global, chi: &Chirotope, e: u8) -> Result<Chiroto
     ensures rank { IfOk result (λ d. (IsColoop chi.now e → ⊥) → d.rank ≡ chi.now.rank) }
     ensures rank_at_coloop { IfOk result (λ d. IsColoop chi.now e → d.rank + 1 ≡ chi.now.rank) }
 {
+    // this call tells that the axioms hold
+    let _rank = chi.rank();
     if chi.elements() == 1 {
         return Err(MinorError::LastElement);
     }
@@ -67,6 +70,8 @@ pub fn contract_chirotope(alloc: Global, chi: &Chirotope, e: u8) -> Result<Chiro
     ensures rank { IfOk result (λ d. (IsLoop chi.now e → ⊥) → d.rank + 1 ≡ chi.now.rank) }
     ensures rank_at_loop { IfOk result (λ d. IsLoop chi.now e → d.rank ≡ chi.now.rank) }
 {
+    // this call tells that the axioms hold
+    let _rank = chi.rank();
     if chi.elements() == 1 {
         return Err(MinorError::LastElement);
     }
@@ -114,6 +119,7 @@ struct Deletion<'a> {
 impl SignRule for Deletion<'_> {
     ghost use Rattle.std.specs.Prelude.{◌≤◌, ◌-◌};
     ghost use Rattle.om_chirotope.specs.Map.{value_of};
+    ghost use Rattle.om_chirotope.specs.Chirotope.{IsSound};
     ghost use Rattle.om_laws.specs.Minors.{deletion};
 
     ghost rank = { λ d. d.chi.now.rank };
@@ -122,7 +128,7 @@ impl SignRule for Deletion<'_> {
 
     ghost rule = { λ d. deletion d.e (value_of d.chi.now) };
 
-    ghost valid = { λ d. (1 ≤ d.e) × (d.e ≤ d.chi.now.elements) };
+    ghost valid = { λ d. IsSound d.chi.now × (1 ≤ d.e) × (d.e ≤ d.chi.now.elements) };
 
     fn sign(&self, s: Subset) -> Sign {
         self.chi.at(skipping(s, self.e))
@@ -139,6 +145,7 @@ struct Contraction<'a> {
 impl SignRule for Contraction<'_> {
     ghost use Rattle.std.specs.Prelude.{◌≤◌, ◌-◌};
     ghost use Rattle.om_chirotope.specs.Map.{value_of};
+    ghost use Rattle.om_chirotope.specs.Chirotope.{IsSound};
     ghost use Rattle.om_laws.specs.Minors.{contraction};
 
     ghost rank = { λ c. c.chi.now.rank - 1 };
@@ -147,7 +154,7 @@ impl SignRule for Contraction<'_> {
 
     ghost rule = { λ c. contraction c.e (value_of c.chi.now) };
 
-    ghost valid = { λ c. (1 ≤ c.e) × (c.e ≤ c.chi.now.elements) × (1 ≤ c.chi.now.rank) };
+    ghost valid = { λ c. IsSound c.chi.now × (1 ≤ c.e) × (c.e ≤ c.chi.now.elements) × (1 ≤ c.chi.now.rank) };
 
     fn sign(&self, s: Subset) -> Sign {
         let others = skipping(s, self.e);
@@ -168,7 +175,10 @@ fn skipping(s: Subset, e: u8) -> Subset
     ensures n { result.n ≡ s.n + 1 }
     ensures elements { result.elements ≡ map (skip e) s.elements }
     ensures size { length result.elements ≡ length s.elements }
+    ensures lawful { IsSubsetFrom 1 result.n result.elements }
 {
+    // this call tells that the list of the set increases
+    let _size = s.size();
     let before = s.mask() & ((1u32 << (e - 1)) - 1);
     let behind = s.mask() >> (e - 1) << e;
     Subset::from_mask(before | behind, s.n() + 1)

@@ -1,15 +1,17 @@
 //! Reorientation of a chirotope.
 
-ghost use Rattle.std.specs.Prelude.{◌≡◌, ◌<◌, ◌^◌};
+ghost use Rattle.std.specs.Prelude.{◌≡◌, ◌<◌, ◌≤◌, ◌^◌, length};
 ghost use Rattle.om_signs.specs.declared.sign.Sign.TheVariants.{Plus};
-ghost use Rattle.om_chirotope.specs.Map.{IsLedBy};
+ghost use Rattle.om_subsets.specs.Subsets.{choose};
+ghost use Rattle.om_laws.specs.Reorientation.{turning, signs_product};
+ghost use Rattle.om_chirotope.specs.Map.{map_of, IsLedBy};
 ghost use Rattle.om_oriented.specs.Covectors.{IsCovectorOfChirotope};
 ghost use Rattle.om_oriented.specs.Operations.{IsReorientation};
 ghost use Rattle.om_dual.specs.Maps.{IsNormalFormOf};
-ghost use Rattle.om_minors.specs.Minors.{reoriented_on};
+ghost use Rattle.om_minors.specs.Minors.{names, reoriented_on};
 
 use om_chirotope::Chirotope;
-use om_signs::Sign;
+use om_signs::{MAX_PLACES, RawMap, Sign};
 use om_subsets::Subset;
 
 /// The normal chirotope of the reorientation on the elements of a mask, whose bit e - 1 stands for e: its covectors are the
@@ -24,13 +26,41 @@ pub fn reorient_chirotope(chi: Chirotope, mask: u32) -> Chirotope
     ensures normal { IsLedBy Plus result.signs }
     ensures value { IsNormalFormOf (reoriented_on mask chi) result }
 {
-    let mut raw = chi.into_raw();
-    for place in 0..raw.signs.len() {
-        let s = Subset::unrank(place as u32, raw.rank, raw.elements);
-        let turned = Subset::from_mask(s.mask() & mask, raw.elements);
-        if turned.size() % 2 == 1 {
-            raw.signs.set(place, raw.signs.at(place).neg());
-        }
+    // these calls tell that the axioms and the limits hold
+    let _rank = chi.rank();
+    let _elements = chi.elements();
+    Chirotope::lawful(turned(chi.into_raw(), mask)).normal()
+}
+
+/// The map with the sign of each list negated once for each of its elements that the mask names.
+fn turned(raw: RawMap, mask: u32) -> RawMap
+    requires high { raw.elements ≤ MAX_PLACES }
+    requires part { raw.rank ≤ raw.elements }
+    requires whole { length raw.signs ≡ choose raw.elements raw.rank }
+    requires within { mask < 2 ^ raw.elements }
+    ensures { map_of result ≡ reoriented_on mask (map_of raw) }
+{
+    let mut turned = raw;
+    for place in 0..Subset::choose(turned.elements, turned.rank) {
+        let s = Subset::unrank(place, turned.rank, turned.elements);
+        let sign = turned.signs.at(place as usize);
+        turned
+            .signs
+            .set(place as usize, turning_sign(s, mask).times(sign));
     }
-    Chirotope::lawful(raw).normal()
+    turned
+}
+
+/// Minus where the mask names an odd number of elements of the set, and else plus.
+fn turning_sign(s: Subset, mask: u32) -> Sign
+    ensures { result ≡ signs_product (turning (names mask)) s.elements }
+{
+    // this call tells that the list of the set increases
+    let _size = s.size();
+    let named = Subset::from_mask(s.mask() & mask, s.n());
+    if named.size() % 2 == 1 {
+        Sign::Minus
+    } else {
+        Sign::Plus
+    }
 }

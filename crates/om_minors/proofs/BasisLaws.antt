@@ -1,0 +1,127 @@
+-- Bases as increasing lists, and as tuples.
+--
+-- Main results: some tuple is a base where some increasing list is a basis, with e or without it (base_tuple), and conversely (basis_list);
+-- a chirotope has a basis (some_basis); is_coloop, is_loop where no basis avoids or has e.
+use Rattle.std.specs.Prelude.{ℕ, ◌≡◌, ◌≢◌, ◌↔◌, ◌⊎◌, ◌+◌, ◌<◌, ◌≤◌, List, [], ◌∷◌, ◌++◌, length, Bool, true, false, IsTrue}
+use Rattle.std.proofs.Common.{sym, ◌∙◌, ap, subst, inl, inr, arith, refl, ⊎_elim}
+use Rattle.std.proofs.lemmas.Bool.{false≢true, cases_eq}
+use Rattle.om_signs.specs.declared.sign.Sign.{Sign}
+use Rattle.om_signs.specs.declared.sign.Sign.TheVariants.{Zero}
+use Rattle.om_signs.specs.Sign.{opposite}
+use Rattle.om_subsets.specs.Subsets.{IsSubsetFrom, IsMember, choose, rank_of}
+use Rattle.om_subsets.proofs.Order.{same_place, rank_from-lt}
+use Rattle.om_laws.specs.Signs.{IsNonzero}
+use Rattle.om_laws.specs.Sorting.{IsIncreasing, on_tuples}
+use Rattle.om_laws.specs.Minors.{IsAvoided}
+use Rattle.om_laws.specs.Parallel.{IsInBase}
+use Rattle.om_laws.specs.Members.{IsDistinct}
+use Rattle.om_laws.specs.Parallel as theory
+use Rattle.om_laws.proofs.MemberLaws.{member_or_not, split_at}
+use Rattle.om_laws.proofs.SignLaws.{nonzero_from_opposite}
+use Rattle.om_laws.proofs.SortingLaws.{by_sorting}
+use Rattle.om_laws.proofs.TupleLaws.{nonzero_distinct}
+use Rattle.om_laws.proofs.TupleSizes.{on_tuples_alternating, on_tuples_tuple}
+use Rattle.om_chirotope.specs.Map.{SignMap, chi_of}
+use Rattle.om_chirotope.specs.Chirotope.{IsChirotope}
+use Rattle.om_chirotope.proofs.Theory.{theory_chirotope}
+use Rattle.om_oriented.proofs.ChirotopeBridge.{tuples_of, from_tuple}
+use Rattle.om_dual.proofs.Uniqueness.{tuples_at}
+use Rattle.om_minors.specs.Minors as words
+use Rattle.om_minors.specs.Minors.{IsBasis, HasBasis}
+
+swap_member : (g x y : ℕ) (cs bs : List ℕ) → IsMember g (cs ++ x ∷ y ∷ bs) → IsMember g (cs ++ y ∷ x ∷ bs)
+swap_member g x y [] bs (inl q) = inr (inl q)
+swap_member g x y [] bs (inr (inl q)) = inl q
+swap_member g x y [] bs (inr (inr h)) = inr (inr h)
+swap_member g x y (c ∷ cs) bs (inl q) = inl q
+swap_member g x y (c ∷ cs) bs (inr h) = inr (swap_member g x y cs bs h)
+
+module _ (m : SignMap) where
+  pub basis_nonzero : (xs : List ℕ) → IsBasis m xs → IsNonzero (tuples_of m xs)
+  basis_nonzero xs b = subst IsNonzero (sym (tuples_at m xs b.increasing b.size)) b.nonzero
+
+  -- a tuple with a nonzero value, which has e or not as the test says, gives such a basis
+  pub basis_list : (e : ℕ) (inside : Bool) (t : List ℕ) → IsNonzero (tuples_of m t) → (IsTrue inside ↔ IsMember e t) → HasBasis m e inside
+  basis_list e inside = by_sorting (λ t. IsNonzero (tuples_of m t) → (IsTrue inside ↔ IsMember e t) → HasBasis m e inside)
+      (λ x y cs bs h n w. h (nonzero_from_opposite (tuples_of m (cs ++ x ∷ y ∷ bs)) (subst IsNonzero (on_tuples_alternating m.elements m.rank (chi_of m) x y cs bs) n))
+      ((λ k. swap_member e y x cs bs (w.0 k)), (λ k. w.1 (swap_member e x y cs bs k))))
+      (λ x cs bs n w. absurd (repeated x cs bs (nonzero_distinct (tuples_of m) (on_tuples_alternating m.elements m.rank (chi_of m)) (cs ++ x ∷ x ∷ bs) n)))
+      (λ xs i n w.
+      let t = on_tuples_tuple m.elements m.rank (chi_of m) xs n in
+      let s = from_tuple m.elements m.rank xs t i in
+      (xs, record { increasing = s; size = t.size; nonzero = subst IsNonzero (tuples_at m xs s t.size) n }, w))
+    where
+      repeated : (x : ℕ) (cs bs : List ℕ) → IsDistinct (cs ++ x ∷ x ∷ bs) → ⊥
+      repeated x [] bs d = d.0 (inl refl)
+      repeated x (c ∷ cs) bs d = repeated x cs bs d.1
+
+  pub avoided : (e : ℕ) → HasBasis m e false → IsAvoided (tuples_of m) e
+  avoided e (xs, b, w) = (xs, basis_nonzero xs b, (λ k. false≢true (w.1 k)))
+
+  pub in_base : (e : ℕ) → HasBasis m e true → IsInBase (tuples_of m) e
+  in_base e (xs, b, w) =
+      let s = split_at e xs (w.0 refl) in
+      (s.0, s.1, subst (λ l. IsNonzero (tuples_of m l)) s.2 (basis_nonzero xs b))
+
+  -- ---- where no basis avoids e, and where none has it
+
+  outside : (e : ℕ) (t : List ℕ) → (IsMember e t → ⊥) → IsTrue false ↔ IsMember e t
+  outside e t n = ((λ k. absurd (false≢true k)), (λ k. absurd (n k)))
+
+  inner : (e : ℕ) (t : List ℕ) → IsMember e t → IsTrue true ↔ IsMember e t
+  inner e t k = ((λ q. k), (λ q. refl))
+
+  pub coloop_tuple : (e : ℕ) → (HasBasis m e false → ⊥) → theory.IsColoop (tuples_of m) e
+  coloop_tuple e none t n = ⊎_elim (λ k. k) (λ off. absurd (none (basis_list e false t n (outside e t off)))) (member_or_not e t)
+
+  pub loop_tuple : (e : ℕ) → (HasBasis m e true → ⊥) → theory.IsLoop (tuples_of m) e
+  loop_tuple e none t n k = none (basis_list e true t n (inner e t k))
+
+  pub coloop_list : (e : ℕ) → (HasBasis m e false → ⊥) → words.IsColoop m e
+  coloop_list e none xs b = ⊎_elim (λ k. k) (λ off. absurd (none (xs, b, outside e xs off))) (member_or_not e xs)
+
+  pub loop_list : (e : ℕ) → (HasBasis m e true → ⊥) → words.IsLoop m e
+  loop_list e none xs b k = none (xs, b, inner e xs k)
+
+  pub no_coloop : (e : ℕ) → HasBasis m e false → words.IsColoop m e → ⊥
+  no_coloop e (xs, b, w) co = false≢true (w.1 (co xs b))
+
+  pub no_loop : (e : ℕ) → HasBasis m e true → words.IsLoop m e → ⊥
+  no_loop e (xs, b, w) lo = lo xs b (w.0 refl)
+
+  -- an element that no basis avoids is in some basis, and one that none has is avoided by some
+  pub basis_with : IsChirotope m → (e : ℕ) → (HasBasis m e false → ⊥) → HasBasis m e true
+  basis_with om e none =
+      let b = (theory_chirotope m om).base in
+      ⊎_elim (λ k. basis_list e true b.0 b.1 (inner e b.0 k)) (λ off. absurd (none (basis_list e false b.0 b.1 (outside e b.0 off)))) (member_or_not e b.0)
+
+  pub basis_without : IsChirotope m → (e : ℕ) → (HasBasis m e true → ⊥) → HasBasis m e false
+  basis_without om e none =
+      let b = (theory_chirotope m om).base in
+      ⊎_elim (λ k. absurd (none (basis_list e true b.0 b.1 (inner e b.0 k)))) (λ off. basis_list e false b.0 b.1 (outside e b.0 off)) (member_or_not e b.0)
+
+  pub rank_low : (e : ℕ) → HasBasis m e true → 1 ≤ m.rank
+  rank_low e (xs, b, w) = let s = b.size in let k = long xs (w.0 refl) in omega (arith, s, k)
+    where
+      long : (xs : List ℕ) → IsMember e xs → 1 ≤ length xs
+      long [] k = absurd k
+      long (x ∷ xs) k = let l : length (x ∷ xs) ≡ length xs + 1 = omega arith in omega arith
+
+  -- ---- the loop over the sets
+
+  -- none of the first k sets is such a basis
+  abbrev pub NoneBelow : ℕ → Bool → ℕ → Type 0
+  NoneBelow e inside k = (xs : List ℕ) → IsBasis m xs → (IsTrue inside ↔ IsMember e xs) → rank_of m.elements xs < k → ⊥
+
+  pub none_more : (e : ℕ) (inside : Bool) (k : ℕ) (s : List ℕ) → IsSubsetFrom 1 m.elements s → length s ≡ m.rank → rank_of m.elements s ≡ k → (IsBasis m s × (IsTrue inside ↔ IsMember e s) → ⊥) → NoneBelow e inside k → NoneBelow e inside (k + 1)
+  none_more e inside k s h l r none all xs b w lt = elim (cases_eq (rank_of m.elements xs) k) [
+    | inl q ↦
+        let same : xs ≡ s = same_place m.elements xs s b.increasing h (b.size ∙ sym l) (q ∙ sym r) in
+        none (subst (λ t. IsBasis m t × (IsTrue inside ↔ IsMember e t)) same (b, w))
+    | inr n ↦ all xs b w (omega arith)
+  ]
+
+  pub none_all : (e : ℕ) (inside : Bool) (k : ℕ) → choose m.elements m.rank ≤ k → NoneBelow e inside k → HasBasis m e inside → ⊥
+  none_all e inside k le all (xs, b, w) =
+      let few : rank_of m.elements xs < choose m.elements m.rank = subst (λ r. rank_of m.elements xs < choose m.elements r) b.size (rank_from-lt 1 m.elements xs b.increasing) in
+      all xs b w (omega arith)
