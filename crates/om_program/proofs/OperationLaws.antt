@@ -2,8 +2,8 @@
 --
 -- Main results: an element above the number of elements (outside_meant), the only element (last_meant), the chirotope that is made (made_meant); lists
 -- (lists_not_built); words that name elements (names_elements).
-use Rattle.std.specs.Prelude.{ℕ, ◌≡◌, ◌<◌, ◌^◌, List, Some, None, true, false, refl}
-use Rattle.std.proofs.Common.{sym, subst, ◌∙◌}
+use Rattle.std.specs.Prelude.{ℕ, ◌≡◌, ◌<◌, ◌^◌, List, Some, None, true, false, refl, ◌⊎◌}
+use Rattle.std.proofs.Common.{sym, subst, ◌∙◌, inl, inr}
 use Rattle.om_signs.specs.declared.limits.TheConstants.{MAX_ELEMENTS}
 use Rattle.om_subsets.proofs.Masks.{mask_of-lt}
 use Rattle.om_chirotope.specs.Map.{SignMap, map_of}
@@ -17,12 +17,13 @@ use Rattle.om_text.specs.declared.body.Body.TheVariants as body
 use Rattle.om_text.specs.Form.{IsInForm}
 use Rattle.om_answer.specs.declared.line.Line.TheVariants as line
 use Rattle.om_program.specs.declared.operation.Operation.{Operation}
+use Rattle.om_program.specs.declared.representation.Representation.{Representation}
 use Rattle.om_program.specs.declared.representation.Representation.TheVariants as representation
 use Rattle.om_program.specs.declared.status.Status.TheVariants as status
 use Rattle.om_program.specs.declared.task.Task.{Task}
 use Rattle.om_program.specs.declared.task.Task.TheVariants as task
 use Rattle.om_program.specs.Axioms.{MeetsAxioms}
-use Rattle.om_program.specs.Covectors.{IsOfBody}
+use Rattle.om_program.specs.Covectors.{IsOfBody, Represents}
 use Rattle.om_program.specs.Operations.{NamesElements, IsChirotopeOf, named_elements, first_above, drops_element}
 use Rattle.om_program.specs.Words.{Names, IsAlone, IsElement, AreElements, AreArguments}
 use Rattle.om_program.specs.Meaning.{IsOperation, says, shows, not_built, outside, last, made}
@@ -54,23 +55,32 @@ made_meant o n (body.Circuits members) c m e other none left whole same form axi
 made_meant o n (body.Cocircuits members) c m e other none left whole same form axioms = absurd other
 made_meant o n (body.Covectors members) c m e other none left whole same form axioms = absurd other
 
-pub circuits_not_built : (o : Operation) (n : ℕ) (b : Body) (s : Circuits) → IsOfBody n b (representation.Circuits s) → IsOperation o (record { elements = n; body = b }) (says status.Refused line.RefusedUnbuilt)
+circuits_not_built : (o : Operation) (n : ℕ) (b : Body) (s : Circuits) → IsOfBody n b (representation.Circuits s) → IsOperation o (record { elements = n; body = b }) (says status.Refused line.RefusedUnbuilt)
 circuits_not_built o n (body.Circuits members) s is = not_built refl
 circuits_not_built o n (body.Chirotope m) s other = absurd other
 circuits_not_built o n (body.Cocircuits members) s other = absurd other
 circuits_not_built o n (body.Covectors members) s other = absurd other
 
-pub cocircuits_not_built : (o : Operation) (n : ℕ) (b : Body) (s : Cocircuits) → IsOfBody n b (representation.Cocircuits s) → IsOperation o (record { elements = n; body = b }) (says status.Refused line.RefusedUnbuilt)
+cocircuits_not_built : (o : Operation) (n : ℕ) (b : Body) (s : Cocircuits) → IsOfBody n b (representation.Cocircuits s) → IsOperation o (record { elements = n; body = b }) (says status.Refused line.RefusedUnbuilt)
 cocircuits_not_built o n (body.Cocircuits members) s is = not_built refl
 cocircuits_not_built o n (body.Chirotope m) s other = absurd other
 cocircuits_not_built o n (body.Circuits members) s other = absurd other
 cocircuits_not_built o n (body.Covectors members) s other = absurd other
 
-pub covectors_not_built : (o : Operation) (n : ℕ) (b : Body) (s : sets.Listing) → IsOfBody n b (representation.Covectors s) → IsOperation o (record { elements = n; body = b }) (says status.Refused line.RefusedUnbuilt)
+covectors_not_built : (o : Operation) (n : ℕ) (b : Body) (s : sets.Listing) → IsOfBody n b (representation.Covectors s) → IsOperation o (record { elements = n; body = b }) (says status.Refused line.RefusedUnbuilt)
 covectors_not_built o n (body.Covectors members) s is = not_built refl
 covectors_not_built o n (body.Chirotope m) s other = absurd other
 covectors_not_built o n (body.Circuits members) s other = absurd other
 covectors_not_built o n (body.Cocircuits members) s other = absurd other
+
+-- a list of sign vectors
+abbrev pub IsList : Representation → Type 0
+IsList r = ((s : Circuits) × (r ≡ representation.Circuits s)) ⊎ (((s : Cocircuits) × (r ≡ representation.Cocircuits s)) ⊎ ((s : sets.Listing) × (r ≡ representation.Covectors s)))
+
+pub lists_not_built : (o : Operation) (d : Document) (r : Representation) → IsList r → Represents d r → IsOperation o d (says status.Refused line.RefusedUnbuilt)
+lists_not_built o d r (inl (s, same)) represents = circuits_not_built o d.elements d.body s (subst (Represents d) same represents)
+lists_not_built o d r (inr (inl (s, same))) represents = cocircuits_not_built o d.elements d.body s (subst (Represents d) same represents)
+lists_not_built o d r (inr (inr (s, same))) represents = covectors_not_built o d.elements d.body s (subst (Represents d) same represents)
 
 pub names_elements : (words : List (List ℕ)) (t : Task) → Names words t → NamesElements t
 names_elements words t named = lawful t named.arguments named.behind
