@@ -1,19 +1,16 @@
 -- The dual of a map, by the theory.
 --
 -- Main results: the dual is a chirotope (dual_chirotope), and its normal form has the covectors of the dual (is_dual).
-use Rattle.std.specs.Prelude.{ℕ, ◌≡◌, ◌↔◌, ◌⊎◌, ◌-◌, ◌≤◌, List, ◌++◌, length}
+use Rattle.std.specs.Prelude.{ℕ, ◌≡◌, ◌⊎◌, ◌-◌, List, ◌++◌}
 use Rattle.std.proofs.Common.{sym, ◌∙◌, ap, subst, refl, inl, inr, ⊎_elim, arith}
 use Rattle.om_signs.specs.declared.sign.Sign.{Sign}
 use Rattle.om_signs.specs.Sign.{opposite}
 use Rattle.om_laws.specs.Bridge.{as_function, as_list}
-use Rattle.om_laws.specs.Chirotope as theory
 use Rattle.om_laws.specs.Chirotope.{elements_to}
 use Rattle.om_laws.specs.Circuits.{IsCircuit, IsCocircuit}
-use Rattle.om_laws.specs.Covectors.{IsCovector, IsVector}
 use Rattle.om_laws.specs.Dual.{dual_map, dual_on_increasing, complement}
 use Rattle.om_laws.specs.Reorientation.{negative}
 use Rattle.om_laws.specs.Tuples.{sort_sign}
-use Rattle.om_laws.specs.Vectors.{SignVector, Orthogonal}
 use Rattle.om_laws.proofs.BridgeLaws.{as_function-as_list, length-as_list, orthogonal_functions, orthogonal_lists}
 use Rattle.om_laws.proofs.ChirotopeLaws.{elements_distinct}
 use Rattle.om_laws.proofs.DualLaws.{dual_chirotope, dual_covector_vector, vector_dual_covector}

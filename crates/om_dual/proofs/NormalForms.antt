@@ -1,17 +1,16 @@
 -- The normal form of a map has the covectors of the map.
 --
 -- Main results: tuples_negated; covector_both; normal_covectors, which_covectors.
-use Rattle.std.specs.Prelude.{ℕ, ◌≡◌, ◌↔◌, ◌⊎◌, List, length, map}
+use Rattle.std.specs.Prelude.{ℕ, ◌≡◌, ◌↔◌, ◌⊎◌, List, length}
 use Rattle.std.proofs.Common.{sym, ◌∙◌, ap, subst, inl, inr}
 use Rattle.om_signs.specs.declared.sign.Sign.{Sign}
-use Rattle.om_signs.specs.declared.sign.Sign.TheVariants.{Zero}
 use Rattle.om_signs.specs.Sign.{opposite, product}
 use Rattle.om_subsets.specs.Subsets.{rank_of}
 use Rattle.om_laws.specs.Bridge.{as_function}
 use Rattle.om_laws.specs.Chirotope.{elements_to}
 use Rattle.om_laws.specs.Covectors.{IsCovector}
 use Rattle.om_laws.specs.Reorientation.{negative}
-use Rattle.om_laws.specs.Tuples.{value, sorted, sort_sign}
+use Rattle.om_laws.specs.Tuples.{sorted, sort_sign}
 use Rattle.om_laws.proofs.SignLaws.{product-opposite_right}
 use Rattle.om_laws.proofs.ReorientationLaws.{negative_covector, covector_negative}
 use Rattle.om_laws.proofs.TupleSizes.{is_tuple_cases, on_tuples_at, on_tuples_off}

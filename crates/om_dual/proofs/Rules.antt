@@ -2,8 +2,8 @@
 --
 -- Main results: the sign of a list is that of the rule (rule_at); the map on all lists is that of the rule (tuples_by); where this is a
 -- chirotope of the theory the map meets the axioms (chirotope_by); equal maps on all lists are the same (same_maps).
-use Rattle.std.specs.Prelude.{ℕ, ◌≡◌, ◌+◌, ◌<◌, ◌≤◌, List, [], ◌∷◌, ◌++◌, length, map}
-use Rattle.std.proofs.Common.{sym, ◌∙◌, ap, subst, inl, inr, refl, get_or}
+use Rattle.std.specs.Prelude.{ℕ, ◌≡◌, ◌<◌, ◌≤◌, List, [], length}
+use Rattle.std.proofs.Common.{sym, ◌∙◌, ap, subst, inl, inr}
 use Rattle.std.proofs.lemmas.List.{length-map, get_or-map}
 use Rattle.om_signs.specs.declared.sign.Sign.{Sign}
 use Rattle.om_signs.specs.declared.sign.Sign.TheVariants.{Zero}
@@ -12,7 +12,6 @@ use Rattle.om_subsets.proofs.Order.{length-subsets_from, rank_from-lt, get_or-ra
 use Rattle.om_laws.specs.Chirotope as theory
 use Rattle.om_laws.specs.Chirotope.{elements_to}
 use Rattle.om_laws.specs.Sorting.{IsIncreasing, on_tuples}
-use Rattle.om_laws.specs.Tuples.{IsAlternating}
 use Rattle.om_laws.proofs.SortingLaws.{value_increasing, alternating_equal}
 use Rattle.om_laws.proofs.TupleSizes.{is_tuple_cases, on_tuples_at, on_tuples_off, on_tuples_alternating}
 use Rattle.om_chirotope.specs.Map.{SignMap, IsMap, chi_of}

@@ -1,9 +1,9 @@
 -- A map is known by its values on tuples, and a chirotope up to sign by its covectors.
 --
 -- Main results: same_map; same_up_to_sign, same_by_covectors; normal_up_to_sign, one_normal_form.
-use Rattle.std.specs.Prelude.{ℕ, ◌≡◌, ◌↔◌, ◌⊎◌, ◌+◌, ◌<◌, ◌≤◌, List, [], ◌∷◌, length, map, refl}
-use Rattle.std.proofs.Common.{sym, ◌∙◌, ap, subst, inl, inr, arith, get_or}
-use Rattle.std.proofs.lemmas.Bool.{cases_eq, cases_lt}
+use Rattle.std.specs.Prelude.{ℕ, ◌≡◌, ◌⊎◌, ◌<◌, List, [], ◌∷◌, length, map, refl}
+use Rattle.std.proofs.Common.{sym, ◌∙◌, ap, subst, inl, inr, arith}
+use Rattle.std.proofs.lemmas.Bool.{cases_lt}
 use Rattle.std.proofs.lemmas.List.{ext_get_or, length-map}
 use Rattle.om_signs.specs.declared.sign.Sign.{Sign}
 use Rattle.om_signs.specs.declared.sign.Sign.TheVariants.{Minus, Zero, Plus}
@@ -33,7 +33,7 @@ use Rattle.om_oriented.specs.Covectors.{IsCovectorOfChirotope}
 use Rattle.om_oriented.specs.Denotation.{DenoteTheSame}
 use Rattle.om_oriented.proofs.ChirotopeBridge.{tuples_of, to_tuple, increasing_subset, covector_list, covector_function}
 use Rattle.om_dual.specs.Maps.{IsNormalFormOf}
-use Rattle.om_dual.proofs.NormalForms.{tuples_negated, covector_both}
+use Rattle.om_dual.proofs.NormalForms.{tuples_negated}
 
 -- ---- maps by their values
 

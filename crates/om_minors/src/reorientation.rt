@@ -37,7 +37,6 @@ fn turned(raw: RawMap, mask: u32) -> RawMap
     requires high { raw.elements ≤ MAX_PLACES }
     requires part { raw.rank ≤ raw.elements }
     requires whole { length raw.signs ≡ choose raw.elements raw.rank }
-    requires within { mask < 2 ^ raw.elements }
     ensures { map_of result ≡ reoriented_on mask (map_of raw) }
 {
     let mut turned = raw;

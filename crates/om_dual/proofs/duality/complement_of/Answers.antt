@@ -1,4 +1,4 @@
-use Rattle.std.proofs.Common.{◌≡◌, ◌∙◌, ap, ℕ, ◌*◌, ◌%◌, ◌^◌}
+use Rattle.std.proofs.Common.{◌≡◌, ◌∙◌, ap, ◌*◌, ◌%◌, ◌^◌}
 use Rattle.om_signs.proofs.Bits.{one_shl_32}
 use Rattle.om_subsets.proofs.Places.{bits_fit}
 use Rattle.om_dual.proofs.ListingSigns.{complement_set, complement_size}
