@@ -1,8 +1,8 @@
 -- Documents that denote the same.
 --
 -- Main results: a document as itself (own_outcome); the circuits, cocircuits and covectors of a chirotope (circuits_outcome, cocircuits_outcome,
--- covectors_outcome), and where there are too many (failed_outcome); the cocircuits of covectors (minimal_outcome).
-use Rattle.std.specs.Prelude.{ℕ, ◌≡◌, ◌<◌, Bool, true, false, List, [], refl, Ok, Err, zero, suc}
+-- covectors_outcome); the cocircuits of covectors (minimal_outcome).
+use Rattle.std.specs.Prelude.{ℕ, ◌≡◌, ◌<◌, Bool, true, false, List, [], refl, Ok}
 use Rattle.std.specs.List.{Contains}
 use Rattle.std.proofs.Common.{sym, ◌∙◌, ap, subst, arith}
 use Rattle.std.proofs.lemmas.Bool.{false≢true}
@@ -18,9 +18,6 @@ use Rattle.om_oriented.specs.Circuits.{IsCircuitOfChirotope, IsCocircuitOfChirot
 use Rattle.om_oriented.specs.Covectors.{IsCovectorOfChirotope, IsCovectorOfCircuits, IsCovectorOfCocircuits, IsCovectorOfCovectors}
 use Rattle.om_oriented.specs.Denotation.{DenoteTheSame}
 use Rattle.om_oriented.specs.Listings.{AreAllOf, HasMoreThan}
-use Rattle.om_convert.specs.declared.convert_error.ConvertError.{ConvertError}
-use Rattle.om_convert.specs.declared.convert_error.ConvertError.TheVariants.{TooMany, Memory}
-use Rattle.om_convert.specs.Limits.{IsCause}
 use Rattle.om_text.specs.declared.document.Document.{Document}
 use Rattle.om_text.specs.declared.body.Body.{Body}
 use Rattle.om_text.specs.declared.body.Body.TheVariants as body
@@ -30,7 +27,7 @@ use Rattle.om_answer.specs.declared.kind.Kind.TheVariants as kind
 use Rattle.om_program.specs.declared.representation.Representation.TheVariants as representation
 use Rattle.om_program.specs.Axioms.{MeetsAxioms}
 use Rattle.om_program.specs.Covectors.{IsOfBody}
-use Rattle.om_program.specs.Conversions.{has_kind, is_built, IsMemberAs, HasTooMany, HasMembersOf, IsConverted, IsOutcome, failure}
+use Rattle.om_program.specs.Conversions.{has_kind, is_built, IsMemberAs, HasTooMany, HasMembersOf, IsConverted, IsOutcome}
 
 -- ---- a document as itself
 
@@ -90,15 +87,19 @@ own_members (body.Cocircuits members) = tt
 own_members (body.Covectors members) = tt
 
 pub own_outcome : (k : Kind) (d e : Document) → e ≡ d → IsInForm e → MeetsAxioms d.body → has_kind k d.body ≡ true → IsOutcome k d (Ok e)
-own_outcome k d e same form axioms own = (own_built k d.body own, own_few k d.body own, record {
-  form = form;
-  kind = rw same own;
-  elements = ap (λ u. u.elements) same;
-  axioms = rw same axioms;
-  same = λ x. rw same (λ h. h, λ h. h);
-  members = rw same (own_members d.body);
-  own = λ h. same;
-})
+own_outcome k d e same form axioms own = (
+  own_built k d.body own,
+  own_few k d.body own,
+  record {
+    form = form;
+    kind = rw same own;
+    elements = ap (λ u. u.elements) same;
+    axioms = rw same axioms;
+    same = λ x. rw same (λ h. h, λ h. h);
+    members = rw same (own_members d.body);
+    own = λ h. same;
+  },
+)
 
 -- ---- a chirotope as lists
 
@@ -115,15 +116,19 @@ abbrev pub covectors_document : covectors.Listing → Document
 covectors_document s = record { elements = s.elements; body = body.Covectors s.members }
 
 at_circuits : (m : RawMap) (s : sets.Listing) → IsInForm (circuits_document s) → MeetsAxioms (body.Circuits s.members) → s.elements ≡ m.elements → AreAllOf (IsCircuitOfChirotope (map_of m)) s.members → DenoteTheSame m.elements (IsCovectorOfChirotope (map_of m)) (IsCovectorOfCircuits s) → (HasTooMany kind.Circuits (body.Chirotope m) → ⊥) → IsOutcome kind.Circuits (map_document m) (Ok (circuits_document s))
-at_circuits m s form axioms count members same few = (refl, few, record {
-  form = form;
-  kind = refl;
-  elements = count;
-  axioms = axioms;
-  same = λ x. (λ h. (same x h.size).0 h, λ q. (same x (q.size ∙ count)).1 q);
-  members = members;
-  own = λ h. no_two h;
-})
+at_circuits m s form axioms count members same few = (
+  refl,
+  few,
+  record {
+    form = form;
+    kind = refl;
+    elements = count;
+    axioms = axioms;
+    same = λ x. (λ h. (same x h.size).0 h, λ q. (same x (q.size ∙ count)).1 q);
+    members = members;
+    own = λ h. no_two h;
+  },
+)
 
 pub circuits_outcome : (n : ℕ) (b : Body) (e : Document) (c : SignMap) (s : sets.Listing) → IsOfBody n b (representation.Chirotope c) → e ≡ circuits_document s → IsInForm e → MeetsAxioms e.body → s.elements ≡ c.elements → AreAllOf (IsCircuitOfChirotope c) s.members → DenoteTheSame c.elements (IsCovectorOfChirotope c) (IsCovectorOfCircuits s) → (HasMoreThan MAX_MEMBERS (IsCircuitOfChirotope c) → ⊥) → IsOutcome kind.Circuits (record { elements = n; body = b }) (Ok e)
 circuits_outcome n (body.Chirotope m) e c s (is, size) made form axioms count members same few =
@@ -136,15 +141,19 @@ circuits_outcome n (body.Cocircuits members) e c s other made form axioms count 
 circuits_outcome n (body.Covectors members) e c s other made form axioms count all same few = absurd other
 
 at_cocircuits : (m : RawMap) (s : sets.Listing) → IsInForm (cocircuits_document s) → MeetsAxioms (body.Cocircuits s.members) → s.elements ≡ m.elements → AreAllOf (IsCocircuitOfChirotope (map_of m)) s.members → DenoteTheSame m.elements (IsCovectorOfChirotope (map_of m)) (IsCovectorOfCocircuits s) → (HasTooMany kind.Cocircuits (body.Chirotope m) → ⊥) → IsOutcome kind.Cocircuits (map_document m) (Ok (cocircuits_document s))
-at_cocircuits m s form axioms count members same few = (refl, few, record {
-  form = form;
-  kind = refl;
-  elements = count;
-  axioms = axioms;
-  same = λ x. (λ h. (same x h.size).0 h, λ q. (same x (q.size ∙ count)).1 q);
-  members = members;
-  own = λ h. no_two h;
-})
+at_cocircuits m s form axioms count members same few = (
+  refl,
+  few,
+  record {
+    form = form;
+    kind = refl;
+    elements = count;
+    axioms = axioms;
+    same = λ x. (λ h. (same x h.size).0 h, λ q. (same x (q.size ∙ count)).1 q);
+    members = members;
+    own = λ h. no_two h;
+  },
+)
 
 pub cocircuits_outcome : (n : ℕ) (b : Body) (e : Document) (c : SignMap) (s : sets.Listing) → IsOfBody n b (representation.Chirotope c) → e ≡ cocircuits_document s → IsInForm e → MeetsAxioms e.body → s.elements ≡ c.elements → AreAllOf (IsCocircuitOfChirotope c) s.members → DenoteTheSame c.elements (IsCovectorOfChirotope c) (IsCovectorOfCocircuits s) → (HasMoreThan MAX_MEMBERS (IsCocircuitOfChirotope c) → ⊥) → IsOutcome kind.Cocircuits (record { elements = n; body = b }) (Ok e)
 cocircuits_outcome n (body.Chirotope m) e c s (is, size) made form axioms count members same few =
@@ -157,15 +166,19 @@ cocircuits_outcome n (body.Cocircuits members) e c s other made form axioms coun
 cocircuits_outcome n (body.Covectors members) e c s other made form axioms count all same few = absurd other
 
 at_covectors : (m : RawMap) (s : covectors.Listing) → IsInForm (covectors_document s) → MeetsAxioms (body.Covectors s.members) → s.elements ≡ m.elements → AreAllOf (IsCovectorOfChirotope (map_of m)) s.members → DenoteTheSame m.elements (IsCovectorOfChirotope (map_of m)) (IsCovectorOfCovectors s) → (HasTooMany kind.Covectors (body.Chirotope m) → ⊥) → IsOutcome kind.Covectors (map_document m) (Ok (covectors_document s))
-at_covectors m s form axioms count members same few = (refl, few, record {
-  form = form;
-  kind = refl;
-  elements = count;
-  axioms = axioms;
-  same = λ x. (λ h. (same x h.size).0 h, λ q. (same x (q.size ∙ count)).1 q);
-  members = members;
-  own = λ h. no_two h;
-})
+at_covectors m s form axioms count members same few = (
+  refl,
+  few,
+  record {
+    form = form;
+    kind = refl;
+    elements = count;
+    axioms = axioms;
+    same = λ x. (λ h. (same x h.size).0 h, λ q. (same x (q.size ∙ count)).1 q);
+    members = members;
+    own = λ h. no_two h;
+  },
+)
 
 pub covectors_outcome : (n : ℕ) (b : Body) (e : Document) (c : SignMap) (s : covectors.Listing) → IsOfBody n b (representation.Chirotope c) → e ≡ covectors_document s → IsInForm e → MeetsAxioms e.body → s.elements ≡ c.elements → AreAllOf (IsCovectorOfChirotope c) s.members → DenoteTheSame c.elements (IsCovectorOfChirotope c) (IsCovectorOfCovectors s) → (HasMoreThan MAX_MEMBERS (IsCovectorOfChirotope c) → ⊥) → IsOutcome kind.Covectors (record { elements = n; body = b }) (Ok e)
 covectors_outcome n (body.Chirotope m) e c s (is, size) made form axioms count members same few =
@@ -177,31 +190,22 @@ covectors_outcome n (body.Circuits members) e c s other made form axioms count a
 covectors_outcome n (body.Cocircuits members) e c s other made form axioms count all same few = absurd other
 covectors_outcome n (body.Covectors members) e c s other made form axioms count all same few = absurd other
 
--- ---- too many members
-
-cause_outcome : (k : Kind) (m : RawMap) (why : ConvertError) → IsCause (IsMemberAs k (body.Chirotope m)) why → IsOutcome k (map_document m) (Err (failure why))
-cause_outcome k m (TooMany limit) (is, more) = (refl, is, more)
-cause_outcome k m Memory cause = tt
-
-pub failed_outcome : (k : Kind) (P : SignMap → List Sign → Type 0) (n : ℕ) (b : Body) (c : SignMap) (why : ConvertError) → ((m : RawMap) → IsCause (P (map_of m)) why → IsCause (IsMemberAs k (body.Chirotope m)) why) → IsOfBody n b (representation.Chirotope c) → IsCause (P c) why → IsOutcome k (record { elements = n; body = b }) (Err (failure why))
-failed_outcome k P n (body.Chirotope m) c why same (is, size) cause =
-    subst (λ j. IsOutcome k (record { elements = j; body = body.Chirotope m }) (Err (failure why))) size (cause_outcome k m why (same m (subst (λ u. IsCause (P u) why) is cause)))
-failed_outcome k P n (body.Circuits members) c why same other cause = absurd other
-failed_outcome k P n (body.Cocircuits members) c why same other cause = absurd other
-failed_outcome k P n (body.Covectors members) c why same other cause = absurd other
-
 -- ---- covectors as cocircuits
 
 at_minimal : (c : covectors.Listing) (s : sets.Listing) → IsInForm (cocircuits_document s) → MeetsCircuitAxioms s.members → s.elements ≡ c.elements → DenoteTheSame c.elements (Contains c.members) (IsCovectorOfCocircuits s) → IsOutcome kind.Cocircuits (covectors_document c) (Ok (cocircuits_document s))
-at_minimal c s form axioms count same = (refl, covectors_few kind.Cocircuits c.members, record {
-  form = form;
-  kind = refl;
-  elements = count;
-  axioms = axioms;
-  same = λ x. (λ h. (same x h.size).0 h.member, λ q. record { size = q.size ∙ count; member = (same x (q.size ∙ count)).1 q });
-  members = tt;
-  own = λ h. no_two h;
-})
+at_minimal c s form axioms count same = (
+  refl,
+  covectors_few kind.Cocircuits c.members,
+  record {
+    form = form;
+    kind = refl;
+    elements = count;
+    axioms = axioms;
+    same = λ x. (λ h. (same x h.size).0 h.member, λ q. record { size = q.size ∙ count; member = (same x (q.size ∙ count)).1 q });
+    members = tt;
+    own = λ h. no_two h;
+  },
+)
 
 pub minimal_outcome : (n : ℕ) (b : Body) (e : Document) (c : covectors.Listing) (s : sets.Listing) → IsOfBody n b (representation.Covectors c) → e ≡ cocircuits_document s → IsInForm e → MeetsAxioms e.body → s.elements ≡ c.elements → DenoteTheSame c.elements (Contains c.members) (IsCovectorOfCocircuits s) → IsOutcome kind.Cocircuits (record { elements = n; body = b }) (Ok e)
 minimal_outcome n (body.Covectors members) e c s is made form axioms count same =
@@ -210,17 +214,3 @@ minimal_outcome n (body.Covectors members) e c s is made form axioms count same 
 minimal_outcome n (body.Chirotope m) e c s other made form axioms count same = absurd other
 minimal_outcome n (body.Circuits members) e c s other made form axioms count same = absurd other
 minimal_outcome n (body.Cocircuits members) e c s other made form axioms count same = absurd other
-
--- ---- no conversion
-
-pub lists_unbuilt : (k : Kind) (n : ℕ) (b : Body) → has_kind k b ≡ false → ((m : RawMap) → b ≡ body.Chirotope m → ⊥) → ((members : List (List Sign)) → b ≡ body.Covectors members → ⊥) → is_built k b ≡ false
-lists_unbuilt k n (body.Chirotope m) other no_map no_covectors = absurd (no_map m refl)
-lists_unbuilt k n (body.Covectors members) other no_map no_covectors = absurd (no_covectors members refl)
-lists_unbuilt kind.Chirotope n (body.Circuits members) other no_map no_covectors = refl
-lists_unbuilt kind.Circuits n (body.Circuits members) other no_map no_covectors = other
-lists_unbuilt kind.Cocircuits n (body.Circuits members) other no_map no_covectors = refl
-lists_unbuilt kind.Covectors n (body.Circuits members) other no_map no_covectors = refl
-lists_unbuilt kind.Chirotope n (body.Cocircuits members) other no_map no_covectors = refl
-lists_unbuilt kind.Circuits n (body.Cocircuits members) other no_map no_covectors = refl
-lists_unbuilt kind.Cocircuits n (body.Cocircuits members) other no_map no_covectors = other
-lists_unbuilt kind.Covectors n (body.Cocircuits members) other no_map no_covectors = refl
