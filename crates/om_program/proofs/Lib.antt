@@ -1,6 +1,9 @@
+mod AboveLaws
+mod ArgumentLaws
 mod ConversionLaws
-mod Elements
 mod MeaningLaws
 mod Memberships
-mod Spelling
+mod Numerals
+mod OperationLaws
+mod SignWords
 mod WordLaws

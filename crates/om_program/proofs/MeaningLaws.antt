@@ -9,13 +9,13 @@ use Rattle.std.proofs.lemmas.Result.{IfOk-weaker}
 use Rattle.std.proofs.lemmas.List.{length-append, append-nil}
 use Rattle.om_signs.specs.declared.limits.TheConstants.{MAX_INPUT}
 use Rattle.om_port.specs.Causes.{TakesExactly}
-use Rattle.om_program.specs.declared.command.Task.{Task}
-use Rattle.om_program.specs.declared.line.Line.{Line}
-use Rattle.om_program.specs.declared.line.Line.TheVariants as line
+use Rattle.om_program.specs.declared.task.Task.{Task}
+use Rattle.om_answer.specs.declared.line.Line.{Line}
+use Rattle.om_answer.specs.declared.line.Line.TheVariants as line
 use Rattle.om_program.specs.declared.status.Status.{Status}
 use Rattle.om_program.specs.declared.status.Status.TheVariants as status
 use Rattle.om_program.specs.declared.reply.Reply.{Reply}
-use Rattle.om_program.specs.Texts.{line_text}
+use Rattle.om_answer.specs.Texts.{line_text}
 use Rattle.om_program.specs.Words.{Names, IsUsage}
 use Rattle.om_program.specs.Meaning.{Answer, Means, TaskMeans, says, usage, named}
 use Rattle.om_program.specs.Run.{IsMeantBy, IsWhole, IsFront, IsCutOff, IsAnswer, IsCutOffAnswer, IsTaskAnswer, IsCutOffTask}

@@ -1,189 +1,263 @@
--- Which words are at fault.
+-- Which words are at fault, and which tasks words name.
 --
--- Main results: no words (no_words_at_fault); a first word that no command has (first_at_fault); words behind `accept` (behind_accept), behind
--- `member` (no_vector_at_fault, not_a_vector) and behind a vector (behind_vector).
-use Rattle.std.specs.Prelude.{ℕ, ◌≡◌, ◌<◌, ◌≤◌, length, map, List, [], ◌∷◌, ◌++◌, codes, refl, Bool, true, false, ◌==◌, ◌↔◌, suc, Result, Ok, Err, Option, Some, None}
-use Rattle.std.proofs.Common.{get_or, drop, take, ◌-◌, arith, ap, subst, sym, ◌∙◌, lit≤}
+-- Main results: no words (no_words_at_fault); a first word that no command has (first_at_fault); of words behind a verb, from what they are read as
+-- to the task that is named (ok_named, err_named), for each verb (accept_shape, member_shape, ..).
+use Rattle.std.specs.Prelude.{ℕ, ◌≡◌, ◌<◌, ◌≤◌, ◌+◌, length, map, List, [], ◌∷◌, ◌++◌, codes, refl, cond, nat_eq, ◌↔◌, suc, Result, Ok, Err, IfErr, IsErrAnd}
+use Rattle.std.proofs.Common.{get_or, drop, take, ◌-◌, arith, ap, subst, sym, ◌∙◌}
 use Rattle.std.proofs.Math.Seq.{take-length}
-use Rattle.std.proofs.lemmas.Bool.{false≢true, ne_eqb}
 use Rattle.om_signs.specs.declared.sign.Sign.{Sign}
-use Rattle.om_signs.specs.declared.sign.Sign.TheVariants.{Plus}
-use Rattle.om_program.specs.declared.command.Usage.{Usage}
-use Rattle.om_program.specs.declared.command.Task.{Task}
-use Rattle.om_program.specs.declared.command.Task.TheVariants.{Accept, Member, Convert}
-use Rattle.om_program.specs.declared.command.Kind.{Kind}
-use Rattle.om_program.specs.declared.command.Kind.TheVariants as kind
-use Rattle.om_text.specs.Words.{sign_of_byte}
-use Rattle.om_program.specs.Words.{Names, Spells, kind_word, AreCommand, BeginsCommand, IsUsage, at_word, at_end}
+use Rattle.om_answer.specs.declared.kind.Kind.{Kind}
+use Rattle.om_answer.specs.declared.kind.Kind.TheVariants as kind
+use Rattle.om_program.specs.declared.task.Task.{Task}
+use Rattle.om_program.specs.declared.task.Task.TheVariants.{Accept, Member, Convert, Dual, Delete, Contract, Reorient}
+use Rattle.om_program.specs.declared.usage.Usage.{Usage}
+use Rattle.om_program.specs.declared.verb.Verb.{Verb}
+use Rattle.om_program.specs.declared.verb.Verb.TheVariants as verb
+use Rattle.om_program.specs.Words.{Names, AreNamed, Spells, NamesKind, IsElement, AreElements, AreNone, IsAlone, AreArguments, kind_word, verb_word, verb_of, AreCommand, Begins, IsFault, IsUsage, at_word, at_end, HasValue, IsRead}
 
-abbrev tail_of : List (List ℕ) → List (List ℕ)
+abbrev pub tail_of : List (List ℕ) → List (List ℕ)
 tail_of [] = []
 tail_of (word ∷ words) = words
 
-abbrev first_of : List (List ℕ) → List ℕ
+abbrev pub first_of : List (List ℕ) → List ℕ
 first_of [] = []
 first_of (word ∷ words) = word
 
-too_long : (word : List ℕ) (words : List (List ℕ)) → word ∷ words ≡ [] → ⊥
-too_long word words same = cc
+-- ---- verbs and kinds are told by their words
 
-accept_words : AreCommand (codes "accept" ∷ [])
-accept_words = (Accept, refl)
+abbrev by_fourth : ℕ → Verb
+by_fourth b = cond (nat_eq b 98) verb.Member (cond (nat_eq b 118) verb.Convert (cond (nat_eq b 108) verb.Dual (cond (nat_eq b 101) verb.Delete (cond (nat_eq b 116) verb.Contract verb.Reorient))))
 
-plus_spelled : Spells (codes "+") (Plus ∷ [])
-plus_spelled = record { some = omega arith; few = lit≤ tt; signs = refl; value = refl }
+abbrev read_verb : List ℕ → Verb
+read_verb word = cond (nat_eq (get_or word 0 0) 97) verb.Accept (by_fourth (get_or word 3 0))
 
-member_words : (word : List ℕ) (x : List Sign) → Spells word x → AreCommand (codes "member" ∷ word ∷ [])
-member_words word x spelled = (Member x, (word, (refl, spelled)))
+verb_back : (v : Verb) → read_verb (verb_word v) ≡ v
+verb_back verb.Accept = refl
+verb_back verb.Member = refl
+verb_back verb.Convert = refl
+verb_back verb.Dual = refl
+verb_back verb.Delete = refl
+verb_back verb.Contract = refl
+verb_back verb.Reorient = refl
 
-none_begin : BeginsCommand []
-none_begin = (codes "accept" ∷ [], accept_words)
+pub same_verb : (u v : Verb) → verb_word u ≡ verb_word v → u ≡ v
+same_verb u v same = sym (verb_back u) ∙ ap read_verb same ∙ verb_back v
 
-accept_or_member : codes "accept" ≡ codes "member" → ⊥
-accept_or_member same = let first : 97 ≡ 109 = ap (λ w. get_or w 0 0) same in omega (arith, first)
+abbrev read_kind : List ℕ → Kind
+read_kind word = let b : ℕ = get_or word 2 0 in cond (nat_eq b 105) kind.Chirotope (cond (nat_eq b 114) kind.Circuits (cond (nat_eq b 99) kind.Cocircuits kind.Covectors))
 
-accept_or_convert : codes "accept" ≡ codes "convert" → ⊥
-accept_or_convert same = let first : 97 ≡ 99 = ap (λ w. get_or w 0 0) same in omega (arith, first)
+kind_back : (k : Kind) → read_kind (kind_word k) ≡ k
+kind_back kind.Chirotope = refl
+kind_back kind.Circuits = refl
+kind_back kind.Cocircuits = refl
+kind_back kind.Covectors = refl
 
-member_or_convert : codes "member" ≡ codes "convert" → ⊥
-member_or_convert same = let first : 109 ≡ 99 = ap (λ w. get_or w 0 0) same in omega (arith, first)
+pub same_kind : (j k : Kind) → kind_word j ≡ kind_word k → j ≡ k
+same_kind j k same = sym (kind_back j) ∙ ap read_kind same ∙ kind_back k
 
-convert_words : (k : Kind) → AreCommand (codes "convert" ∷ kind_word k ∷ [])
-convert_words k = (Convert k, refl)
+-- ---- a word at fault behind a first word
+
+pub fault_behind : (L M : List (List ℕ) → Type 0) (first : List ℕ) → ((xs : List (List ℕ)) → L xs ↔ M (first ∷ xs)) → {ws : List (List ℕ)} {k : ℕ} → IsFault L ws k → IsFault M (first ∷ ws) (k + 1)
+fault_behind L M first same (at_word before word after begins not) =
+    let count : length (first ∷ before) + 1 ≡ length before + 1 + 1 = omega arith in
+    subst (λ j. IsFault M (first ∷ before ++ word ∷ after) j) count
+    (at_word (first ∷ before) word after (begins.0, (same (before ++ begins.0)).0 begins.1) (λ b. not (b.0, (same (before ++ word ∷ [] ++ b.0)).1 b.1)))
+fault_behind L M first same (at_end words begins not) =
+    let count : length (first ∷ words) + 1 ≡ length words + 1 + 1 = omega arith in
+    subst (λ j. IsFault M (first ∷ words) j) count
+    (at_end (first ∷ words) (begins.0, (same (words ++ begins.0)).0 begins.1) (λ b. not ((same words).1 b)))
 
 -- ---- no words, and a first word
+
+accept_words : AreCommand (codes "accept" ∷ [])
+accept_words = (Accept, record { arguments = []; first = refl; behind = refl })
+
+none_begin : Begins AreCommand []
+none_begin = (codes "accept" ∷ [], accept_words)
 
 no_words : IsUsage [] 1
 no_words = at_end [] none_begin none
   where
     none : AreCommand [] → ⊥
-    none (Accept, named) = cc
-    none (Member x, (word, (named, spelled))) = cc
-    none (Convert k, named) = cc
+    none (task, named) = let first = named.first in cc
 
 pub no_words_at_fault : {X : Type 0} (f : X → List ℕ) (words : List X) → length words < 1 → IsUsage (map f words) 1
 no_words_at_fault f [] few = no_words
 no_words_at_fault f (word ∷ words) few = absurd (omega arith)
 
-pub first_at_fault : (first : List ℕ) (rest : List (List ℕ)) → (first ≡ codes "accept" → ⊥) → (first ≡ codes "member" → ⊥) → (first ≡ codes "convert" → ⊥) → IsUsage (first ∷ rest) 1
-first_at_fault first rest no_accept no_member no_convert = at_word [] first rest none_begin refused
+pub no_words_named : {X : Type 0} (f : X → List ℕ) (words : List X) (task : Task) → length words < 1 → Names (map f words) task → ⊥
+no_words_named f [] task few named = let first = named.first in cc
+no_words_named f (word ∷ words) task few named = absurd (omega arith)
+
+pub first_named : (first : List ℕ) (rest : List (List ℕ)) (task : Task) → ((v : Verb) → first ≡ verb_word v → ⊥) → Names (first ∷ rest) task → ⊥
+first_named first rest task none named = none (verb_of task) (ap first_of named.first)
+
+pub first_at_fault : (first : List ℕ) (rest : List (List ℕ)) → ((v : Verb) → first ≡ verb_word v → ⊥) → IsUsage (first ∷ rest) 1
+first_at_fault first rest none = at_word [] first rest none_begin refused
   where
-    refused : BeginsCommand (first ∷ []) → ⊥
-    refused (more, (Accept, named)) = no_accept (ap first_of named)
-    refused (more, (Member x, (word, (named, spelled)))) = no_member (ap first_of named)
-    refused (more, (Convert k, named)) = no_convert (ap first_of named)
+    refused : Begins AreCommand (first ∷ []) → ⊥
+    refused (more, (task, named)) = first_named first more task none named
 
--- ---- behind `accept`
+-- ---- a verb and the words behind it
 
-past_accept : (next : List ℕ) (rest : List (List ℕ)) → IsUsage (codes "accept" ∷ next ∷ rest) 2
-past_accept next rest = at_word (codes "accept" ∷ []) next rest ([], accept_words) refused
-  where
-    refused : BeginsCommand (codes "accept" ∷ next ∷ []) → ⊥
-    refused (more, (Accept, named)) = too_long next more (ap tail_of named)
-    refused (more, (Member x, (word, (named, spelled)))) = accept_or_member (ap first_of named)
-    refused (more, (Convert k, named)) = accept_or_convert (ap first_of named)
+-- the tasks of a verb are those of the values that the words behind it are read as
+pub record IsShape {A : Type 0} (v : Verb) (Reading : List (List ℕ) → A → Type 0) (make : A → Task) : Type 0 where
+  pub verb : (a : A) → verb_of (make a) ≡ v
+  pub arguments : (a : A) (words : List (List ℕ)) → AreArguments (make a) words ↔ Reading words a
+  pub only : (task : Task) → verb_of task ≡ v → (a : A) × (task ≡ make a)
 
-pub behind_accept : {X : Type 0} (f : X → List ℕ) (rest : List X) → false ≡ (length rest == 0) → IsUsage (codes "accept" ∷ map f rest) 2
-behind_accept f [] some = absurd (false≢true some)
-behind_accept f (next ∷ rest) some = past_accept (f next) (map f rest)
+-- the words name the task of a value that those behind the verb are read as
+pub record IsValued {A : Type 0} (Reading : List (List ℕ) → A → Type 0) (make : A → Task) (words : List (List ℕ)) (task : Task) : Type 0 where
+  pub value : A
+  pub made : task ≡ make value
+  pub reading : Reading words value
 
--- ---- behind `member`
+made_named : {A : Type 0} (v : Verb) (Reading : List (List ℕ) → A → Type 0) (make : A → Task) (words : List (List ℕ)) (a : A) → IsShape v Reading make → Reading words a → Names (verb_word v ∷ words) (make a)
+made_named v Reading make words a shape reading = record {
+  arguments = words;
+  first = ap (λ u. verb_word u ∷ words) (sym (shape.verb a));
+  behind = (shape.arguments a words).1 reading;
+}
 
-no_vector : IsUsage (codes "member" ∷ []) 2
-no_vector = at_end (codes "member" ∷ []) (codes "+" ∷ [], member_words (codes "+") (Plus ∷ []) plus_spelled) none
-  where
-    none : AreCommand (codes "member" ∷ []) → ⊥
-    none (Accept, named) = accept_or_member (sym (ap first_of named))
-    none (Member x, (word, (named, spelled))) = cc
-    none (Convert k, named) = member_or_convert (ap first_of named)
+named_valued : {A : Type 0} (v : Verb) (Reading : List (List ℕ) → A → Type 0) (make : A → Task) (words : List (List ℕ)) (task : Task) → IsShape v Reading make → Names (verb_word v ∷ words) task → IsValued Reading make words task
+named_valued v Reading make words task shape named =
+    let found = shape.only task (sym (same_verb v (verb_of task) (ap first_of named.first))) in
+    let rest : named.arguments ≡ words = sym (ap tail_of named.first) in
+    record {
+      value = found.0;
+      made = found.1;
+      reading = (shape.arguments found.0 words).0 (subst (λ t. AreArguments t words) found.1 (subst (AreArguments task) rest named.behind));
+    }
 
-pub not_a_vector : (word : List ℕ) (more : List (List ℕ)) → ((x : List Sign) → Spells word x → ⊥) → IsUsage (codes "member" ∷ word ∷ more) 2
-not_a_vector word more none = at_word (codes "member" ∷ []) word more (codes "+" ∷ [], member_words (codes "+") (Plus ∷ []) plus_spelled) refused
-  where
-    refused : BeginsCommand (codes "member" ∷ word ∷ []) → ⊥
-    refused (rest, (Accept, named)) = accept_or_member (sym (ap first_of named))
-    refused (rest, (Member x, (read, (named, spelled)))) = none x (subst (λ w. Spells w x) (sym (ap (λ ws. first_of (tail_of ws)) named)) spelled)
-    refused (rest, (Convert k, named)) = member_or_convert (ap first_of named)
-
-past_vector : (word : List ℕ) (x : List Sign) (next : List ℕ) (more : List (List ℕ)) → Spells word x → IsUsage (codes "member" ∷ word ∷ next ∷ more) 3
-past_vector word x next more spelled = at_word (codes "member" ∷ word ∷ []) next more ([], member_words word x spelled) refused
-  where
-    refused : BeginsCommand (codes "member" ∷ word ∷ next ∷ []) → ⊥
-    refused (rest, (Accept, named)) = accept_or_member (sym (ap first_of named))
-    refused (rest, (Member y, (read, (named, s)))) = too_long next rest (ap (λ ws. tail_of (tail_of ws)) named)
-    refused (rest, (Convert k, named)) = member_or_convert (ap first_of named)
-
-pub behind_vector : {X : Type 0} (f : X → List ℕ) (word : List ℕ) (x : List Sign) (more : List X) → Spells word x → false ≡ (length more == 0) → IsUsage (codes "member" ∷ word ∷ map f more) 3
-behind_vector f word x [] spelled some = absurd (false≢true some)
-behind_vector f word x (next ∷ more) spelled some = past_vector word x (f next) (map f more) spelled
-
--- ---- the tasks that `member` names
-
--- no task is named behind `member` by a word that spells no vector
-pub none_named : (word : List ℕ) (more : List (List ℕ)) → ((x : List Sign) → Spells word x → ⊥) → (task : Task) → Names (codes "member" ∷ word ∷ more) task → ⊥
-none_named word more none Accept named = accept_or_member (sym (ap first_of named))
-none_named word more none (Member x) (read, (named, spelled)) = none x (subst (λ w. Spells w x) (sym (ap (λ ws. first_of (tail_of ws)) named)) spelled)
-none_named word more none (Convert k) named = member_or_convert (ap first_of named)
-
--- nor by words behind a vector
-pub too_many_name_none : {X : Type 0} (f : X → List ℕ) (word : List ℕ) (more : List X) → false ≡ (length more == 0) → (task : Task) → Names (codes "member" ∷ word ∷ map f more) task → ⊥
-too_many_name_none f word [] some task named = absurd (false≢true some)
-too_many_name_none f word (next ∷ more) some Accept named = accept_or_member (sym (ap first_of named))
-too_many_name_none f word (next ∷ more) some (Member x) (read, (named, spelled)) = too_long (f next) (map f more) (ap (λ ws. tail_of (tail_of ws)) named)
-too_many_name_none f word (next ∷ more) some (Convert k) named = member_or_convert (ap first_of named)
-
-one_spelled : (word read : List ℕ) (x y : List Sign) → read ≡ word → Spells word x → Spells read y → x ≡ y
-one_spelled word read x y same a b = a.value ∙ ap (map sign_of_byte) (sym same) ∙ sym b.value
-
-more_than_none : (n : ℕ) → true ≡ (suc n == 0) → ⊥
-more_than_none n same = false≢true (sym (ne_eqb (suc n) 0 (λ e. omega (arith, e))) ∙ sym same)
-
--- one word that spells a vector names the task of this vector, and no other
-pub member_named : {X : Type 0} (f : X → List ℕ) (word : List ℕ) (x : List Sign) (more : List X) → Spells word x → true ≡ (length more == 0) → (task : Task) → (Member x ≡ task) ↔ Names (codes "member" ∷ word ∷ map f more) task
-member_named f word x (next ∷ more) spelled empty task = absurd (more_than_none (length more) empty)
-member_named f word x [] spelled empty Accept = (λ same. absurd (apart same), λ named. absurd (accept_or_member (sym (ap first_of named))))
-  where
-    apart : Member x ≡ Accept → ⊥
-    apart same = cc
-member_named f word x [] spelled empty (Convert k) = (λ same. absurd (apart same), λ named. absurd (member_or_convert (ap first_of named)))
-  where
-    apart : Member x ≡ Convert k → ⊥
-    apart same = cc
-member_named f word x [] spelled empty (Member y) = (
-  λ same. (word, (refl, subst (Spells word) (vector_of same) spelled)),
-  λ named. ap Member (one_spelled word named.0 x y (sym (ap (λ ws. first_of (tail_of ws)) named.1.0)) spelled named.1.1),
+shape_commands : {A : Type 0} (v : Verb) (Reading : List (List ℕ) → A → Type 0) (make : A → Task) → IsShape v Reading make → (words : List (List ℕ)) → HasValue Reading words ↔ AreCommand (verb_word v ∷ words)
+shape_commands v Reading make shape words = (
+  λ h. (make h.0, made_named v Reading make words h.0 shape h.1),
+  λ h. let valued = named_valued v Reading make words h.0 shape h.1 in (valued.value, valued.reading),
 )
+
+ok_in : {A : Type 0} {E : Type 0} → A → Result A E → A
+ok_in other (Ok a) = a
+ok_in other (Err e) = other
+
+pub ok_named : {A : Type 0} (v : Verb) (Reading : List (List ℕ) → A → Type 0) (make : A → Task) (words : List (List ℕ)) (result : Result A Usage) (a : A) → IsShape v Reading make → IsRead Reading words result → result ≡ Ok a → AreNamed v words (Ok (make a))
+ok_named v Reading make words result a shape read is = record {
+  task = λ task. (
+    λ same. let made : make a ≡ task = cc in subst (Names (verb_word v ∷ words)) made (made_named v Reading make words a shape ((read.value a).0 is)),
+    λ named.
+        let valued = named_valued v Reading make words task shape named in
+        let again = (read.value valued.value).1 valued.reading in
+        let one : a ≡ valued.value = cc in
+        let made = valued.made in
+        ap Ok (ap make one ∙ sym made),
+  );
+  usage = tt;
+}
+
+pub err_named : {A : Type 0} (v : Verb) (Reading : List (List ℕ) → A → Type 0) (make : A → Task) (words : List (List ℕ)) (result : Result A Usage) (u : Usage) → IsShape v Reading make → IsRead Reading words result → result ≡ Err u → AreNamed v words (Err u)
+err_named v Reading make words result u shape read is = record {
+  task = λ task. (
+    λ same. absurd (no_ok same),
+    λ named.
+        let valued = named_valued v Reading make words task shape named in
+        let again = (read.value valued.value).1 valued.reading in
+        cc,
+  );
+  usage =
+      let fault = subst (λ r. IfErr r (λ usage. (k : ℕ) × ((usage.word ≡ k + 1) × IsFault (HasValue Reading) words k))) is read.fault in
+      subst (IsUsage (verb_word v ∷ words)) (sym fault.1.0) (fault_behind (HasValue Reading) AreCommand (verb_word v) (shape_commands v Reading make shape) fault.1.1);
+}
   where
-    vector_in : Task → List Sign
-    vector_in Accept = x
-    vector_in (Member z) = z
-    vector_in (Convert k) = x
+    no_ok : {task : Task} → Err u ≡ Ok task → ⊥
+    no_ok same = cc
 
-    vector_of : Member x ≡ Member y → x ≡ y
-    vector_of same = ap vector_in same
+-- the same where an error is passed on
+pub err_passed : {A : Type 0} (v : Verb) (Reading : List (List ℕ) → A → Type 0) (make : A → Task) (words : List (List ℕ)) (result : Result A Usage) (u : Usage) (passed : Result Task Usage) → IsShape v Reading make → IsRead Reading words result → result ≡ Err u → IsErrAnd passed (λ e. e ≡ u) → AreNamed v words passed
+err_passed v Reading make words result u (Ok t) shape read is err = absurd err
+err_passed v Reading make words result u (Err e) shape read is err = rw err (err_named v Reading make words result u shape read is)
 
--- ---- answers
+pub accept_shape : IsShape verb.Accept AreNone (λ _. Accept)
+accept_shape = record { verb = λ a. refl; arguments = λ a words. (λ h. h, λ h. h); only = only }
+  where
+    only : (task : Task) → verb_of task ≡ verb.Accept → (a : Unit {0}) × (task ≡ Accept)
+    only Accept same = (tt, refl)
+    only (Member x) same = cc
+    only (Convert k) same = cc
+    only Dual same = cc
+    only (Delete e) same = cc
+    only (Contract e) same = cc
+    only (Reorient mask) same = cc
 
-abbrev is_ok_answer : Result Task Usage → Bool
-is_ok_answer (Ok task) = true
-is_ok_answer (Err usage) = false
+pub dual_shape : IsShape verb.Dual AreNone (λ _. Dual)
+dual_shape = record { verb = λ a. refl; arguments = λ a words. (λ h. h, λ h. h); only = only }
+  where
+    only : (task : Task) → verb_of task ≡ verb.Dual → (a : Unit {0}) × (task ≡ Dual)
+    only Accept same = cc
+    only (Member x) same = cc
+    only (Convert k) same = cc
+    only Dual same = (tt, refl)
+    only (Delete e) same = cc
+    only (Contract e) same = cc
+    only (Reorient mask) same = cc
 
-pub err_or_ok : (u : Usage) (task : Task) → Err u ≡ Ok task → ⊥
-err_or_ok u task same = false≢true (ap is_ok_answer same)
+pub member_shape : IsShape verb.Member (IsAlone Spells) Member
+member_shape = record { verb = λ a. refl; arguments = λ a words. (λ h. h, λ h. h); only = only }
+  where
+    only : (task : Task) → verb_of task ≡ verb.Member → (a : List Sign) × (task ≡ Member a)
+    only Accept same = cc
+    only (Member x) same = (x, refl)
+    only (Convert k) same = cc
+    only Dual same = cc
+    only (Delete e) same = cc
+    only (Contract e) same = cc
+    only (Reorient mask) same = cc
 
-abbrev task_in : Task → Result Task Usage → Task
-task_in other (Ok task) = task
-task_in other (Err usage) = other
+pub convert_shape : IsShape verb.Convert (IsAlone NamesKind) Convert
+convert_shape = record { verb = λ a. refl; arguments = λ a words. (λ h. h, λ h. h); only = only }
+  where
+    only : (task : Task) → verb_of task ≡ verb.Convert → (a : Kind) × (task ≡ Convert a)
+    only Accept same = cc
+    only (Member x) same = cc
+    only (Convert k) same = (k, refl)
+    only Dual same = cc
+    only (Delete e) same = cc
+    only (Contract e) same = cc
+    only (Reorient mask) same = cc
 
-pub ok_task : (s t : Task) → (let r : Result Task Usage = Ok s in r) ≡ Ok t → s ≡ t
-ok_task s t same = ap (task_in s) same
+pub delete_shape : IsShape verb.Delete (IsAlone IsElement) Delete
+delete_shape = record { verb = λ a. refl; arguments = λ a words. (λ h. h, λ h. h); only = only }
+  where
+    only : (task : Task) → verb_of task ≡ verb.Delete → (a : ℕ) × (task ≡ Delete a)
+    only Accept same = cc
+    only (Member x) same = cc
+    only (Convert k) same = cc
+    only Dual same = cc
+    only (Delete e) same = (e, refl)
+    only (Contract e) same = cc
+    only (Reorient mask) same = cc
 
-abbrev is_some_vector : Option (List Sign) → Bool
-is_some_vector (Some x) = true
-is_some_vector None = false
+pub contract_shape : IsShape verb.Contract (IsAlone IsElement) Contract
+contract_shape = record { verb = λ a. refl; arguments = λ a words. (λ h. h, λ h. h); only = only }
+  where
+    only : (task : Task) → verb_of task ≡ verb.Contract → (a : ℕ) × (task ≡ Contract a)
+    only Accept same = cc
+    only (Member x) same = cc
+    only (Convert k) same = cc
+    only Dual same = cc
+    only (Delete e) same = cc
+    only (Contract e) same = (e, refl)
+    only (Reorient mask) same = cc
 
-pub none_or_some : (o : Option (List Sign)) (x : List Sign) → o ≡ None → o ≡ Some x → ⊥
-none_or_some o x none some = false≢true (sym (ap is_some_vector none) ∙ ap is_some_vector some)
+pub reorient_shape : IsShape verb.Reorient AreElements Reorient
+reorient_shape = record { verb = λ a. refl; arguments = λ a words. (λ h. h, λ h. h); only = only }
+  where
+    only : (task : Task) → verb_of task ≡ verb.Reorient → (a : ℕ) × (task ≡ Reorient a)
+    only Accept same = cc
+    only (Member x) same = cc
+    only (Convert k) same = cc
+    only Dual same = cc
+    only (Delete e) same = cc
+    only (Contract e) same = cc
+    only (Reorient mask) same = (mask, refl)
 
 -- ---- a list of words and its first word
 
@@ -193,104 +267,3 @@ first_and_rest (w ∷ ws) word some first =
     let size : length (w ∷ ws) - 1 ≡ length ws = omega arith in
     let rest : ws ≡ take (length (w ∷ ws) - 1) ws = sym (ap (λ k. take k ws) size ∙ take-length ws) in
     ap (λ k. k ∷ ws) (sym first) ∙ ap (λ k. word ∷ k) rest
-
-pub no_vector_at_fault : {X : Type 0} (f : X → List ℕ) (words : List X) → length words < 1 → IsUsage (codes "member" ∷ map f words) 2
-no_vector_at_fault f [] few = no_vector
-no_vector_at_fault f (word ∷ words) few = absurd (omega arith)
-
--- ---- behind `convert`
-
-no_kind : IsUsage (codes "convert" ∷ []) 2
-no_kind = at_end (codes "convert" ∷ []) (codes "circuits" ∷ [], convert_words kind.Circuits) none
-  where
-    none : AreCommand (codes "convert" ∷ []) → ⊥
-    none (Accept, named) = accept_or_convert (sym (ap first_of named))
-    none (Member x, (word, (named, spelled))) = member_or_convert (sym (ap first_of named))
-    none (Convert k, named) = cc
-
-pub no_kind_at_fault : {X : Type 0} (f : X → List ℕ) (words : List X) → length words < 1 → IsUsage (codes "convert" ∷ map f words) 2
-no_kind_at_fault f [] few = no_kind
-no_kind_at_fault f (word ∷ words) few = absurd (omega arith)
-
-pub not_a_kind : (word : List ℕ) (more : List (List ℕ)) → ((k : Kind) → word ≡ kind_word k → ⊥) → IsUsage (codes "convert" ∷ word ∷ more) 2
-not_a_kind word more none = at_word (codes "convert" ∷ []) word more (codes "circuits" ∷ [], convert_words kind.Circuits) refused
-  where
-    refused : BeginsCommand (codes "convert" ∷ word ∷ []) → ⊥
-    refused (rest, (Accept, named)) = accept_or_convert (sym (ap first_of named))
-    refused (rest, (Member x, (read, (named, spelled)))) = member_or_convert (sym (ap first_of named))
-    refused (rest, (Convert k, named)) = none k (ap (λ ws. first_of (tail_of ws)) named)
-
-past_kind : (word : List ℕ) (k : Kind) (next : List ℕ) (more : List (List ℕ)) → word ≡ kind_word k → IsUsage (codes "convert" ∷ word ∷ next ∷ more) 3
-past_kind word k next more same = at_word (codes "convert" ∷ word ∷ []) next more ([], rw same (convert_words k)) refused
-  where
-    refused : BeginsCommand (codes "convert" ∷ word ∷ next ∷ []) → ⊥
-    refused (rest, (Accept, named)) = accept_or_convert (sym (ap first_of named))
-    refused (rest, (Member x, (read, (named, spelled)))) = member_or_convert (sym (ap first_of named))
-    refused (rest, (Convert j, named)) = too_long next rest (ap (λ ws. tail_of (tail_of ws)) named)
-
-pub behind_kind : {X : Type 0} (f : X → List ℕ) (word : List ℕ) (k : Kind) (more : List X) → word ≡ kind_word k → false ≡ (length more == 0) → IsUsage (codes "convert" ∷ word ∷ map f more) 3
-behind_kind f word k [] same some = absurd (false≢true some)
-behind_kind f word k (next ∷ more) same some = past_kind word k (f next) (map f more) same
-
--- no task is named behind `convert` by a word of no kind
-pub no_kind_names_none : (word : List ℕ) (more : List (List ℕ)) → ((k : Kind) → word ≡ kind_word k → ⊥) → (task : Task) → Names (codes "convert" ∷ word ∷ more) task → ⊥
-no_kind_names_none word more none Accept named = accept_or_convert (sym (ap first_of named))
-no_kind_names_none word more none (Member x) (read, (named, spelled)) = member_or_convert (sym (ap first_of named))
-no_kind_names_none word more none (Convert k) named = none k (ap (λ ws. first_of (tail_of ws)) named)
-
--- nor by words behind a kind
-pub past_kind_names_none : {X : Type 0} (f : X → List ℕ) (word : List ℕ) (more : List X) → false ≡ (length more == 0) → (task : Task) → Names (codes "convert" ∷ word ∷ map f more) task → ⊥
-past_kind_names_none f word [] some task named = absurd (false≢true some)
-past_kind_names_none f word (next ∷ more) some Accept named = accept_or_convert (sym (ap first_of named))
-past_kind_names_none f word (next ∷ more) some (Member x) (read, (named, spelled)) = member_or_convert (sym (ap first_of named))
-past_kind_names_none f word (next ∷ more) some (Convert k) named = too_long (f next) (map f more) (ap (λ ws. tail_of (tail_of ws)) named)
-
--- the words of two kinds differ
-kind_apart : (j k : Kind) → kind_word j ≡ kind_word k → j ≡ k
-kind_apart kind.Chirotope kind.Chirotope same = refl
-kind_apart kind.Chirotope kind.Circuits same = absurd (let b : 104 ≡ 105 = ap (λ w. get_or w 1 0) same in omega (arith, b))
-kind_apart kind.Chirotope kind.Cocircuits same = absurd (let b : 104 ≡ 111 = ap (λ w. get_or w 1 0) same in omega (arith, b))
-kind_apart kind.Chirotope kind.Covectors same = absurd (let b : 104 ≡ 111 = ap (λ w. get_or w 1 0) same in omega (arith, b))
-kind_apart kind.Circuits kind.Chirotope same = absurd (let b : 105 ≡ 104 = ap (λ w. get_or w 1 0) same in omega (arith, b))
-kind_apart kind.Circuits kind.Circuits same = refl
-kind_apart kind.Circuits kind.Cocircuits same = absurd (let b : 105 ≡ 111 = ap (λ w. get_or w 1 0) same in omega (arith, b))
-kind_apart kind.Circuits kind.Covectors same = absurd (let b : 105 ≡ 111 = ap (λ w. get_or w 1 0) same in omega (arith, b))
-kind_apart kind.Cocircuits kind.Chirotope same = absurd (let b : 111 ≡ 104 = ap (λ w. get_or w 1 0) same in omega (arith, b))
-kind_apart kind.Cocircuits kind.Circuits same = absurd (let b : 111 ≡ 105 = ap (λ w. get_or w 1 0) same in omega (arith, b))
-kind_apart kind.Cocircuits kind.Cocircuits same = refl
-kind_apart kind.Cocircuits kind.Covectors same = absurd (let b : 99 ≡ 118 = ap (λ w. get_or w 2 0) same in omega (arith, b))
-kind_apart kind.Covectors kind.Chirotope same = absurd (let b : 111 ≡ 104 = ap (λ w. get_or w 1 0) same in omega (arith, b))
-kind_apart kind.Covectors kind.Circuits same = absurd (let b : 111 ≡ 105 = ap (λ w. get_or w 1 0) same in omega (arith, b))
-kind_apart kind.Covectors kind.Cocircuits same = absurd (let b : 118 ≡ 99 = ap (λ w. get_or w 2 0) same in omega (arith, b))
-kind_apart kind.Covectors kind.Covectors same = refl
-
--- a kind alone behind `convert` names the task of this kind, and no other
-pub convert_named : {X : Type 0} (f : X → List ℕ) (word : List ℕ) (k : Kind) (more : List X) → word ≡ kind_word k → true ≡ (length more == 0) → (task : Task) → (Convert k ≡ task) ↔ Names (codes "convert" ∷ word ∷ map f more) task
-convert_named f word k (next ∷ more) named empty task = absurd (more_than_none (length more) empty)
-convert_named f word k [] named empty Accept = (λ same. absurd (apart same), λ n. absurd (accept_or_convert (sym (ap first_of n))))
-  where
-    apart : Convert k ≡ Accept → ⊥
-    apart same = cc
-convert_named f word k [] named empty (Member x) = (λ same. absurd (apart same), λ n. absurd (member_or_convert (sym (ap first_of n.1.0))))
-  where
-    apart : Convert k ≡ Member x → ⊥
-    apart same = cc
-convert_named f word k [] named empty (Convert j) = (
-  λ same. rw (named, kind_of same) refl,
-  λ n. ap Convert (kind_apart k j (sym named ∙ ap (λ ws. first_of (tail_of ws)) n)),
-)
-  where
-    kind_in : Task → Kind
-    kind_in Accept = k
-    kind_in (Member x) = k
-    kind_in (Convert i) = i
-
-    kind_of : Convert k ≡ Convert j → k ≡ j
-    kind_of same = ap kind_in same
-
-abbrev is_some_kind : Option Kind → Bool
-is_some_kind (Some k) = true
-is_some_kind None = false
-
-pub no_kind_or_some : (o : Option Kind) (k : Kind) → o ≡ None → o ≡ Some k → ⊥
-no_kind_or_some o k none some = false≢true (sym (ap is_some_kind none) ∙ ap is_some_kind some)

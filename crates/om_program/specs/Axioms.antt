@@ -17,8 +17,8 @@ use Rattle.om_covectors.specs.Axioms.{MeetsCovectorAxioms}
 use Rattle.om_covectors.specs.Instances.{IsFirstViolatedCovectorAxiom}
 use Rattle.om_text.specs.declared.body.Body.{Body}
 use Rattle.om_text.specs.declared.body.Body.TheVariants.{Chirotope, Circuits, Cocircuits, Covectors}
-use Rattle.om_program.specs.declared.line.Line.{Line}
-use Rattle.om_program.specs.declared.line.Line.TheVariants.{RefusedAllzero, RefusedRelation, RefusedZero, RefusedNonegative, RefusedNested, RefusedNoelimination, RefusedNozero, RefusedNocomposition}
+use Rattle.om_answer.specs.declared.line.Line.{Line}
+use Rattle.om_answer.specs.declared.line.Line.TheVariants.{RefusedAllzero, RefusedRelation, RefusedZero, RefusedNonegative, RefusedNested, RefusedNoelimination, RefusedNozero, RefusedNocomposition}
 
 -- the body meets the axioms of its kind
 abbrev pub MeetsAxioms : Body → Type 0

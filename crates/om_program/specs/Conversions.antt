@@ -1,11 +1,21 @@
 -- Documents of one kind as documents of another.
-use Rattle.std.specs.Prelude.{ℕ, ◌≡◌, ◌↔◌, List, Bool, true, false}
+use Rattle.std.specs.Prelude.{ℕ, ◌≡◌, ◌↔◌, List, Bool, true, false, Result, Ok, Err}
+use Rattle.om_signs.specs.declared.limits.TheConstants.{MAX_MEMBERS}
 use Rattle.om_signs.specs.declared.sign.Sign.{Sign}
+use Rattle.om_chirotope.specs.Map.{map_of}
+use Rattle.om_oriented.specs.Circuits.{IsCircuitOfChirotope, IsCocircuitOfChirotope}
+use Rattle.om_oriented.specs.Covectors.{IsCovectorOfChirotope}
+use Rattle.om_oriented.specs.Listings.{AreAllOf, HasMoreThan}
+use Rattle.om_convert.specs.declared.convert_error.ConvertError.{ConvertError}
+use Rattle.om_convert.specs.declared.convert_error.ConvertError.TheVariants as convert
 use Rattle.om_text.specs.declared.document.Document.{Document}
 use Rattle.om_text.specs.declared.body.Body.{Body}
 use Rattle.om_text.specs.declared.body.Body.TheVariants as body
-use Rattle.om_program.specs.declared.command.Kind.{Kind}
-use Rattle.om_program.specs.declared.command.Kind.TheVariants as kind
+use Rattle.om_text.specs.Form.{IsInForm}
+use Rattle.om_answer.specs.declared.kind.Kind.{Kind}
+use Rattle.om_answer.specs.declared.kind.Kind.TheVariants as kind
+use Rattle.om_program.specs.declared.unconverted.Unconverted.{Unconverted}
+use Rattle.om_program.specs.declared.unconverted.Unconverted.TheVariants as unconverted
 use Rattle.om_program.specs.Axioms.{MeetsAxioms}
 use Rattle.om_program.specs.Covectors.{IsCovectorIn}
 
@@ -17,15 +27,48 @@ has_kind kind.Cocircuits (body.Cocircuits members) = true
 has_kind kind.Covectors (body.Covectors members) = true
 has_kind _ _ = false
 
--- whether the conversion of a body to a kind is built: covectors to cocircuits, and each kind to itself
+-- whether the conversion of a body to a kind is built: a chirotope to every kind, covectors to cocircuits, and each kind to itself
 abbrev pub is_built : Kind → Body → Bool
+is_built k (body.Chirotope m) = true
 is_built kind.Cocircuits (body.Covectors members) = true
 is_built k b = has_kind k b
 
+-- the sign vectors that a map gives as members of a list of a kind
+abbrev pub IsMemberAs : Kind → Body → List Sign → Type 0
+IsMemberAs kind.Circuits (body.Chirotope m) = IsCircuitOfChirotope (map_of m)
+IsMemberAs kind.Cocircuits (body.Chirotope m) = IsCocircuitOfChirotope (map_of m)
+IsMemberAs kind.Covectors (body.Chirotope m) = IsCovectorOfChirotope (map_of m)
+IsMemberAs _ _ = λ x. ⊥
+
+-- a map gives more members of a kind than a list may have
+abbrev pub HasTooMany : Kind → Body → Type 0
+HasTooMany k b = HasMoreThan MAX_MEMBERS (IsMemberAs k b)
+
+-- the second body has exactly the members of its kind that the first one gives, where that is a map
+abbrev pub HasMembersOf : Body → Body → Type 0
+HasMembersOf (body.Chirotope m) (body.Circuits members) = AreAllOf (IsCircuitOfChirotope (map_of m)) members
+HasMembersOf (body.Chirotope m) (body.Cocircuits members) = AreAllOf (IsCocircuitOfChirotope (map_of m)) members
+HasMembersOf (body.Chirotope m) (body.Covectors members) = AreAllOf (IsCovectorOfChirotope (map_of m)) members
+HasMembersOf _ _ = Unit {0}
+
 -- e is d as a document of a kind: it meets the axioms of this kind and denotes the same; a document of the kind is itself
 pub record IsConverted (k : Kind) (d e : Document) : Type 0 where
+  pub form : IsInForm e
   pub kind : has_kind k e.body ≡ true
   pub elements : e.elements ≡ d.elements
   pub axioms : MeetsAxioms e.body
   pub same : (x : List Sign) → IsCovectorIn d x ↔ IsCovectorIn e x
+  pub members : HasMembersOf d.body e.body
   pub own : has_kind k d.body ≡ true → e ≡ d
+
+-- why a list that isn't made has no document
+abbrev pub failure : ConvertError → Unconverted
+failure (convert.TooMany limit) = unconverted.TooMany limit
+failure convert.Memory = unconverted.Memory
+
+-- what comes of a conversion: the converted document where it is built and has few enough members, and else why there is none
+abbrev pub IsOutcome : Kind → Document → Result Document Unconverted → Type 0
+IsOutcome k d (Ok e) = (is_built k d.body ≡ true) × (HasTooMany k d.body → ⊥) × IsConverted k d e
+IsOutcome k d (Err unconverted.Unbuilt) = is_built k d.body ≡ false
+IsOutcome k d (Err (unconverted.TooMany limit)) = (is_built k d.body ≡ true) × (limit ≡ MAX_MEMBERS) × HasTooMany k d.body
+IsOutcome k d (Err unconverted.Memory) = Unit {0}

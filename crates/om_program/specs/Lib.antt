@@ -1,7 +1,8 @@
 pub mod Words
-pub mod Texts
+pub mod Samples
 pub mod Axioms
 pub mod Covectors
 pub mod Conversions
+pub mod Operations
 pub mod Meaning
 pub mod Run

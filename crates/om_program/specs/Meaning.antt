@@ -1,26 +1,29 @@
 -- What the words after the program's name and the bytes of its input mean: a status and a text. This is the relation that `run` is
 -- proved against; its cases stand in the order in which they are looked at, and each holds only where none before it does.
-use Rattle.std.specs.Prelude.{ℕ, ◌≡◌, ◌<◌, ◌≤◌, List, length, true, false}
-use Rattle.om_signs.specs.declared.limits.TheConstants.{MAX_INPUT}
+use Rattle.std.specs.Prelude.{ℕ, ◌≡◌, ◌<◌, ◌≤◌, List, length, true, false, Some, None}
+use Rattle.om_signs.specs.declared.limits.TheConstants.{MAX_INPUT, MAX_MEMBERS}
 use Rattle.om_signs.specs.declared.sign.Sign.{Sign}
 use Rattle.om_text.specs.declared.code.Code.{Code}
 use Rattle.om_text.specs.declared.document.Document.{Document}
 use Rattle.om_text.specs.Lines.{lines}
 use Rattle.om_text.specs.Document.{IsDocument}
 use Rattle.om_text.specs.Fault.{IsFault}
-use Rattle.om_program.specs.declared.command.Task.{Task}
-use Rattle.om_program.specs.declared.command.Task.TheVariants.{Accept, Member, Convert}
-use Rattle.om_program.specs.declared.line.Line.{Line}
-use Rattle.om_program.specs.declared.line.Line.TheVariants as line
+use Rattle.om_program.specs.declared.task.Task.{Task}
+use Rattle.om_program.specs.declared.task.Task.TheVariants.{Accept, Member, Convert, Dual, Delete, Contract, Reorient}
+use Rattle.om_answer.specs.declared.line.Line.{Line}
+use Rattle.om_answer.specs.declared.line.Line.TheVariants as line
 use Rattle.om_program.specs.declared.status.Status.{Status}
 use Rattle.om_program.specs.declared.status.Status.TheVariants as status
-use Rattle.om_program.specs.Texts.{line_text}
+use Rattle.om_answer.specs.Texts.{line_text}
 use Rattle.om_program.specs.Words.{Names, IsUsage}
 use Rattle.om_program.specs.Axioms.{MeetsAxioms, IsRefused}
 use Rattle.om_text.specs.Print.{printed}
-use Rattle.om_program.specs.declared.command.Kind.{Kind}
+use Rattle.om_answer.specs.declared.kind.Kind.{Kind}
 use Rattle.om_program.specs.Covectors.{IsCovectorIn}
-use Rattle.om_program.specs.Conversions.{is_built, IsConverted}
+use Rattle.om_program.specs.Conversions.{is_built, HasTooMany, IsConverted}
+use Rattle.om_program.specs.declared.operation.Operation.{Operation}
+use Rattle.om_program.specs.declared.operation.Operation.TheVariants as operation
+use Rattle.om_program.specs.Operations.{is_operable, named_elements, first_above, drops_element, IsMade}
 
 -- an answer: a status and a text
 pub record Answer : Type 0 where
@@ -45,15 +48,32 @@ pub data IsMembership (n : ℕ) (IsCovector : List Sign → Type 0) (x : List Si
 -- a document as one of a kind
 pub data IsConversion (k : Kind) (d : Document) : Answer → Type 0 where
   -- the canonical form of the converted document
-  converted : (e : Document) → is_built k d.body ≡ true → IsConverted k d e → IsConversion k d (shows e)
+  converted : (e : Document) → is_built k d.body ≡ true → (HasTooMany k d.body → ⊥) → IsConverted k d e → IsConversion k d (shows e)
+  -- it would have more members than a list may have
+  limited : is_built k d.body ≡ true → HasTooMany k d.body → IsConversion k d (says status.Limit (line.LimitMembers MAX_MEMBERS))
   -- the conversion isn't built yet
   unbuilt : is_built k d.body ≡ false → IsConversion k d (says status.Refused line.RefusedUnbuilt)
+
+-- what an operation makes of a document
+pub data IsOperation (o : Operation) (d : Document) : Answer → Type 0 where
+  -- the operations aren't built yet for this kind
+  not_built : is_operable d.body ≡ false → IsOperation o d (says status.Refused line.RefusedUnbuilt)
+  -- it names an element above the number of elements
+  outside : (e : ℕ) → is_operable d.body ≡ true → first_above d.elements (named_elements o) ≡ Some e → IsOperation o d (says status.Refused (line.RefusedPlace e))
+  -- it would take the only element away
+  last : is_operable d.body ≡ true → first_above d.elements (named_elements o) ≡ None → drops_element o ≡ true → d.elements ≡ 1 → IsOperation o d (says status.Refused line.RefusedLastelement)
+  -- the canonical form of the normal chirotope that it makes
+  made : (e : Document) → is_operable d.body ≡ true → first_above d.elements (named_elements o) ≡ None → (drops_element o ≡ true → d.elements ≡ 1 → ⊥) → IsMade o d e → IsOperation o d (shows e)
 
 -- the answer to a task on a document that meets its axioms
 abbrev pub IsAnswerOf : Task → Document → Answer → Type 0
 IsAnswerOf Accept d answer = answer ≡ says status.Done line.Accepted
 IsAnswerOf (Member x) d answer = IsMembership d.elements (IsCovectorIn d) x answer
 IsAnswerOf (Convert k) d answer = IsConversion k d answer
+IsAnswerOf Dual d answer = IsOperation operation.Dual d answer
+IsAnswerOf (Delete e) d answer = IsOperation (operation.Delete e) d answer
+IsAnswerOf (Contract e) d answer = IsOperation (operation.Contract e) d answer
+IsAnswerOf (Reorient mask) d answer = IsOperation (operation.Reorient mask) d answer
 
 -- what a task means for a document
 pub data DocumentMeans (task : Task) (d : Document) : Answer → Type 0 where

@@ -1,13 +1,19 @@
 -- What the words after the program's name mean: a task, or the word at fault.
-use Rattle.std.specs.Prelude.{ℕ, ◌≡◌, ◌≤◌, ◌+◌, List, [], ◌∷◌, ◌++◌, codes, length, map, true}
+use Rattle.std.specs.Prelude.{ℕ, ◌≡◌, ◌≤◌, ◌+◌, List, [], ◌∷◌, ◌++◌, codes, length, map, true, IfErr, ◌↔◌, Result, Ok}
+use Rattle.std.specs.Fmt.{decimal}
 use Rattle.std.specs.List.{list_all}
 use Rattle.om_signs.specs.declared.limits.TheConstants.{MAX_ELEMENTS}
 use Rattle.om_signs.specs.declared.sign.Sign.{Sign}
+use Rattle.om_subsets.specs.Subsets.{IsSubsetFrom}
+use Rattle.om_subsets.specs.Members.{mask_of}
 use Rattle.om_text.specs.Words.{is_sign, sign_of_byte}
-use Rattle.om_program.specs.declared.command.Task.{Task}
-use Rattle.om_program.specs.declared.command.Task.TheVariants.{Accept, Member, Convert}
-use Rattle.om_program.specs.declared.command.Kind.{Kind}
-use Rattle.om_program.specs.declared.command.Kind.TheVariants as kind
+use Rattle.om_answer.specs.declared.kind.Kind.{Kind}
+use Rattle.om_answer.specs.declared.kind.Kind.TheVariants as kind
+use Rattle.om_program.specs.declared.task.Task.{Task}
+use Rattle.om_program.specs.declared.task.Task.TheVariants.{Accept, Member, Convert, Dual, Delete, Contract, Reorient}
+use Rattle.om_program.specs.declared.usage.Usage.{Usage}
+use Rattle.om_program.specs.declared.verb.Verb.{Verb}
+use Rattle.om_program.specs.declared.verb.Verb.TheVariants as verb
 
 -- the word spells the sign vector: a byte `+`, `-` or `0` for each element, within the limit on elements
 pub record Spells (word : List ℕ) (x : List Sign) : Type 0 where
@@ -23,22 +29,96 @@ kind_word kind.Circuits = codes "circuits"
 kind_word kind.Cocircuits = codes "cocircuits"
 kind_word kind.Covectors = codes "covectors"
 
+-- the word names the kind
+abbrev pub NamesKind : List ℕ → Kind → Type 0
+NamesKind word k = word ≡ kind_word k
+
+-- the word is the number of an element: digits without a leading zero, from 1 to the limit on elements
+pub record IsElement (word : List ℕ) (e : ℕ) : Type 0 where
+  pub low : 1 ≤ e
+  pub high : e ≤ MAX_ELEMENTS
+  pub digits : word ≡ decimal e
+
+-- the words are the numbers of at least one element, strictly increasing, and the mask is that of these elements
+pub record AreElements (words : List (List ℕ)) (mask : ℕ) : Type 0 where
+  pub elements : List ℕ
+  pub some : 1 ≤ length elements
+  pub increasing : IsSubsetFrom 1 MAX_ELEMENTS elements
+  pub digits : words ≡ map decimal elements
+  pub value : mask ≡ mask_of 1 elements MAX_ELEMENTS
+
+-- there is no word
+abbrev pub AreNone : List (List ℕ) → Unit {0} → Type 0
+AreNone words _ = words ≡ []
+
+-- there is one word alone, and it spells the value
+abbrev pub IsAlone : {A : Type 0} → (List ℕ → A → Type 0) → List (List ℕ) → A → Type 0
+IsAlone Spelling words a = (word : List ℕ) × ((words ≡ word ∷ []) × Spelling word a)
+
+-- the first word of a task's command
+abbrev pub verb_of : Task → Verb
+verb_of Accept = verb.Accept
+verb_of (Member x) = verb.Member
+verb_of (Convert k) = verb.Convert
+verb_of Dual = verb.Dual
+verb_of (Delete e) = verb.Delete
+verb_of (Contract e) = verb.Contract
+verb_of (Reorient mask) = verb.Reorient
+
+abbrev pub verb_word : Verb → List ℕ
+verb_word verb.Accept = codes "accept"
+verb_word verb.Member = codes "member"
+verb_word verb.Convert = codes "convert"
+verb_word verb.Dual = codes "dual"
+verb_word verb.Delete = codes "delete"
+verb_word verb.Contract = codes "contract"
+verb_word verb.Reorient = codes "reorient"
+
+-- the words behind the first one are those of the task
+abbrev pub AreArguments : Task → List (List ℕ) → Type 0
+AreArguments Accept words = AreNone words tt
+AreArguments (Member x) words = IsAlone Spells words x
+AreArguments (Convert k) words = IsAlone NamesKind words k
+AreArguments Dual words = AreNone words tt
+AreArguments (Delete e) words = IsAlone IsElement words e
+AreArguments (Contract e) words = IsAlone IsElement words e
+AreArguments (Reorient mask) words = AreElements words mask
+
 -- the words name the task
-abbrev pub Names : List (List ℕ) → Task → Type 0
-Names words Accept = words ≡ codes "accept" ∷ []
-Names words (Member x) = (word : List ℕ) × ((words ≡ codes "member" ∷ word ∷ []) × Spells word x)
-Names words (Convert k) = words ≡ codes "convert" ∷ kind_word k ∷ []
+pub record Names (words : List (List ℕ)) (task : Task) : Type 0 where
+  pub arguments : List (List ℕ)
+  pub first : words ≡ verb_word (verb_of task) ∷ arguments
+  pub behind : AreArguments task arguments
 
 -- the words are a command
 abbrev pub AreCommand : List (List ℕ) → Type 0
 AreCommand words = (task : Task) × Names words task
 
--- some command, of any length, begins with these words
-abbrev pub BeginsCommand : List (List ℕ) → Type 0
-BeginsCommand words = (more : List (List ℕ)) × AreCommand (words ++ more)
+-- in a language of lists of words: some list of it, of any length, begins with these words
+abbrev pub Begins : (List (List ℕ) → Type 0) → List (List ℕ) → Type 0
+Begins Language words = (more : List (List ℕ)) × Language (words ++ more)
 
--- Word K, counted from 1, is the one at fault: the words before it begin a command, and together with it they begin none.
--- Where all words together begin a command and aren't one, it is the word after the last.
-pub data IsUsage : List (List ℕ) → ℕ → Type 0 where
-  at_word : (before : List (List ℕ)) (word : List ℕ) (after : List (List ℕ)) → BeginsCommand before → (BeginsCommand (before ++ word ∷ []) → ⊥) → IsUsage (before ++ word ∷ after) (length before + 1)
-  at_end : (words : List (List ℕ)) → BeginsCommand words → (AreCommand words → ⊥) → IsUsage words (length words + 1)
+-- In a language of lists of words, word K, counted from 1, is the one at fault: with the words before it some list begins, and together
+-- with it none does. Where some list begins with all words together, and they are none themselves, it is the word after the last.
+pub data IsFault (Language : List (List ℕ) → Type 0) : List (List ℕ) → ℕ → Type 0 where
+  at_word : (before : List (List ℕ)) (word : List ℕ) (after : List (List ℕ)) → Begins Language before → (Begins Language (before ++ word ∷ []) → ⊥) → IsFault Language (before ++ word ∷ after) (length before + 1)
+  at_end : (words : List (List ℕ)) → Begins Language words → (Language words → ⊥) → IsFault Language words (length words + 1)
+
+-- word K is the one at fault among words that aren't a command
+abbrev pub IsUsage : List (List ℕ) → ℕ → Type 0
+IsUsage words k = IsFault AreCommand words k
+
+-- the lists of words that have some value
+abbrev pub HasValue : {A : Type 0} → (List (List ℕ) → A → Type 0) → List (List ℕ) → Type 0
+HasValue {A} Reading words = (a : A) × Reading words a
+
+-- what the words behind the first one of a command are read as: their value exactly where they have one, and else the word at fault, where the
+-- first one counts too
+pub record IsRead {A : Type 0} (Reading : List (List ℕ) → A → Type 0) (words : List (List ℕ)) (result : Result A Usage) : Type 0 where
+  pub value : (a : A) → (result ≡ Ok a) ↔ Reading words a
+  pub fault : IfErr result (λ usage. (k : ℕ) × ((usage.word ≡ k + 1) × IsFault (HasValue Reading) words k))
+
+-- the task that a verb and the words behind it name, or the word at fault
+pub record AreNamed (v : Verb) (words : List (List ℕ)) (result : Result Task Usage) : Type 0 where
+  pub task : (task : Task) → (result ≡ Ok task) ↔ Names (verb_word v ∷ words) task
+  pub usage : IfErr result (λ usage. IsUsage (verb_word v ∷ words) usage.word)

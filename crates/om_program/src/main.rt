@@ -1,16 +1,26 @@
 //! The program `om`: it reads words and standard input, and writes one answer to standard output.
 #![tactic(auto)]
 
+mod argument;
+mod arguments;
 mod command;
 mod conversion;
-mod line;
+mod documents;
+#[cfg(test)]
+mod map_tests;
+mod operation;
 mod reply;
 mod representation;
 mod run;
+mod spelling;
 mod status;
+mod task;
 #[cfg(test)]
 mod tests;
+mod unconverted;
 mod usage;
+mod verb;
+mod write_usage;
 mod written;
 
 use om_port::{StdSink, StdSource};

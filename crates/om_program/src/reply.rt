@@ -1,16 +1,21 @@
 ghost use Rattle.std.specs.Prelude.{◌≡◌, ◌<◌, ◌≤◌, ℕ, List, IfOk, length};
-ghost use Rattle.om_program.specs.Meaning.{TaskMeans, DocumentMeans, IsAnswerOf, IsMembership, IsConversion, says, shows};
+ghost use Rattle.om_program.specs.Meaning.{TaskMeans, DocumentMeans, IsAnswerOf, IsMembership, IsConversion, IsOperation, says, shows};
 ghost use Rattle.om_program.specs.Axioms.{MeetsAxioms};
 ghost use Rattle.om_program.specs.Covectors.{Represents, IsCovectorIn};
+ghost use Rattle.om_program.specs.Operations.{IsLawful, NamesElements};
 ghost use Rattle.om_text.specs.Form.{IsInForm};
 ghost use Rattle.om_text.specs.declared.document.Document.{Document};
 ghost use Rattle.om_program.specs.Run.{IsAnswered};
 
-use crate::command::{Kind, Task};
 use crate::conversion::converted;
-use crate::line::{Line, print_line};
+use crate::documents::map_document;
+use crate::operation::{Operation, operated, place_above, takes_element};
 use crate::representation::{Representation, represented};
 use crate::status::Status;
+use crate::task::Task;
+use crate::unconverted::Unconverted;
+use om_answer::{Kind, Line, print_line};
+use om_chirotope::Chirotope;
 use om_oriented::Oriented;
 use om_signs::{MAX_INPUT, NoMemory, SignVec};
 use om_text::{Document, ParseError, parse, print};
@@ -39,7 +44,8 @@ pub fn reply_to<R: Threads + Sync>(
     task: Task,
     bytes: &[u8],
 ) -> Result<Reply, NoMemory>
-    requires { length bytes.now ≤ MAX_INPUT }
+    requires short { length bytes.now ≤ MAX_INPUT }
+    requires lawful { NamesElements task }
     ensures meant { IfOk result (λ reply. TaskMeans task bytes.now (record { status = reply.status; text = reply.text.items })) }
     ensures answered { IfOk result (λ reply. IsAnswered reply.status) }
 {
@@ -67,7 +73,8 @@ fn reply_to_document<R: Threads + Sync>(
     task: Task,
     document: Document,
 ) -> Result<Reply, NoMemory>
-    requires { IsInForm document }
+    requires form { IsInForm document }
+    requires lawful { NamesElements task }
     ensures meant { IfOk result (λ reply. DocumentMeans task document (record { status = reply.status; text = reply.text.items })) }
     ensures answered { IfOk result (λ reply. IsAnswered reply.status) }
 {
@@ -83,6 +90,7 @@ fn reply_to_representation(
     task: Task,
     representation: Representation,
 ) -> Result<Reply, NoMemory>
+    requires { NamesElements task }
     ensures meant { IfOk result (λ reply. (d : Document) → Represents d representation → MeetsAxioms d.body → IsAnswerOf task d (record { status = reply.status; text = reply.text.items })) }
     ensures answered { IfOk result (λ reply. IsAnswered reply.status) }
 {
@@ -90,6 +98,12 @@ fn reply_to_representation(
         Task::Accept => say(alloc, Status::Done, Line::Accepted),
         Task::Member(x) => reply_to_member(alloc, &representation, x),
         Task::Convert(kind) => reply_to_convert(alloc, representation, kind),
+        Task::Dual => reply_to_operation(alloc, representation, Operation::Dual),
+        Task::Delete(e) => reply_to_operation(alloc, representation, Operation::Delete(e)),
+        Task::Contract(e) => reply_to_operation(alloc, representation, Operation::Contract(e)),
+        Task::Reorient(mask) => {
+            reply_to_operation(alloc, representation, Operation::Reorient(mask))
+        }
     }
 }
 
@@ -136,10 +150,47 @@ fn reply_to_convert(
     ensures answered { IfOk result (λ reply. IsAnswered reply.status) }
 {
     match converted(alloc, representation, kind) {
-        Ok(Some(document)) => show(alloc, &document),
-        Ok(None) => say(alloc, Status::Refused, Line::RefusedUnbuilt),
-        Err(NoMemory) => Err(NoMemory),
+        Ok(document) => show(alloc, &document),
+        Err(Unconverted::Unbuilt) => say(alloc, Status::Refused, Line::RefusedUnbuilt),
+        Err(Unconverted::TooMany { limit }) => {
+            say(alloc, Status::Limit, Line::LimitMembers { limit })
+        }
+        Err(Unconverted::Memory) => Err(NoMemory),
     }
+}
+
+/// What an operation makes of an oriented matroid.
+fn reply_to_operation(
+    alloc: Global,
+    representation: Representation,
+    operation: Operation,
+) -> Result<Reply, NoMemory>
+    requires { IsLawful operation }
+    ensures meant { IfOk result (λ reply. (d : Document) → Represents d representation → IsOperation operation d (record { status = reply.status; text = reply.text.items })) }
+    ensures answered { IfOk result (λ reply. IsAnswered reply.status) }
+{
+    match representation {
+        Representation::Chirotope(chirotope) => operate(alloc, chirotope, operation),
+        Representation::Circuits(_)
+        | Representation::Cocircuits(_)
+        | Representation::Covectors(_) => say(alloc, Status::Refused, Line::RefusedUnbuilt),
+    }
+}
+
+/// What an operation makes of a chirotope.
+fn operate(alloc: Global, chirotope: Chirotope, operation: Operation) -> Result<Reply, NoMemory>
+    requires { IsLawful operation }
+    ensures meant { IfOk result (λ reply. (d : Document) → Represents d (Representation.Chirotope chirotope) → IsOperation operation d (record { status = reply.status; text = reply.text.items })) }
+    ensures answered { IfOk result (λ reply. IsAnswered reply.status) }
+{
+    if let Some(e) = place_above(chirotope.elements(), operation) {
+        return say(alloc, Status::Refused, Line::RefusedPlace { e });
+    }
+    if takes_element(operation) && chirotope.elements() == 1 {
+        return say(alloc, Status::Refused, Line::RefusedLastelement);
+    }
+    let made = operated(alloc, chirotope, operation)?;
+    show(alloc, &map_document(made))
 }
 
 /// An answer that is a document, in canonical form.

@@ -8,7 +8,7 @@ ghost use Rattle.om_chirotope.specs.Chirotope.{IsChirotope};
 ghost use Rattle.om_text.specs.Form.{IsMapOn};
 ghost use Rattle.om_program.specs.Covectors.{Represents};
 
-use crate::line::Line;
+use om_answer::Line;
 use om_chirotope::{Chirotope, MapRefused};
 use om_circuits::{Circuits, Cocircuits, SetRefused, SignedSet};
 use om_covectors::{CovRefused, Covectors};

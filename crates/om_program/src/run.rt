@@ -4,11 +4,13 @@ ghost use Rattle.om_port.specs.Causes.{Rose, TakesSome};
 ghost use Rattle.om_program.specs.Words.{AreCommand};
 ghost use Rattle.om_program.specs.Run.{IsAnswered, IsAnswer, IsCutOffAnswer, IsTaskAnswer, IsCutOffTask, IsMeantBy};
 ghost use Rattle.om_program.specs.Meaning.{TaskMeans};
+ghost use Rattle.om_program.specs.Operations.{NamesElements};
 
-use crate::command::{Task, command};
+use crate::command::command;
 use crate::reply::{Reply, refuse_long, reply_to};
 use crate::status::Status;
-use crate::usage::write_usage;
+use crate::task::Task;
+use crate::write_usage::write_usage;
 use crate::written::written;
 use om_port::{ReadError, Sink, Source, read_all};
 use om_signs::MAX_INPUT;
@@ -59,6 +61,7 @@ fn carry_out<R: Threads + Sync, S: Source, K: Sink>(
     source: &mut S,
     sink: &mut K,
 ) -> Status
+    requires { NamesElements task }
     ensures answer { IsAnswered result → IsTaskAnswer task (S.left source.old) result (K.taken sink.old) (K.taken sink.new) }
     ensures silent_fault { result ≡ Status.ReadFault → Keeps (K.taken sink.old) (K.taken sink.new) }
     ensures silent_memory { result ≡ Status.NoMemory → Keeps (K.taken sink.old) (K.taken sink.new) }
@@ -90,6 +93,7 @@ fn make_reply<R: Threads + Sync, S: Source>(
     task: Task,
     source: &mut S,
 ) -> Result<Reply, Unanswered>
+    requires { NamesElements task }
     ensures meant { IfOk result (λ reply. IsMeantBy (TaskMeans task) (S.left source.old) (record { status = reply.status; text = reply.text.items })) }
     ensures answered { IfOk result (λ reply. IsAnswered reply.status) }
     ensures read { result ≡ Err Unanswered.ReadFault → Rose (S.faults source.old) (S.faults source.new) }

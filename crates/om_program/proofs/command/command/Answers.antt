@@ -1,8 +1,12 @@
 use Rattle.std.specs.Prelude.{◌≡◌, ◌↔◌, Ok, map, string_bytes}
 use Rattle.std.proofs.Common.{sym, subst}
 use Rattle.om_program.specs.Words.{Names}
-use Rattle.om_program.proofs.WordLaws.{no_words_at_fault, first_and_rest}
+use Rattle.om_program.proofs.ArgumentLaws.{no_value}
+use Rattle.om_program.proofs.WordLaws.{no_words_at_fault, no_words_named, first_and_rest}
 use Rattle.om_program.proofs.command.command.Goals as goal
+
+pub returns-in-empty-clause-task : goal.returns-in-empty-clause-task
+returns-in-empty-clause-task c = λ task. (λ same. absurd (no_value _ task same), λ named. absurd (no_words_named _ _ task c.in-empty.len_below named))
 
 pub returns-in-empty-clause-usage : goal.returns-in-empty-clause-usage
 returns-in-empty-clause-usage c = no_words_at_fault _ _ c.in-empty.len_below

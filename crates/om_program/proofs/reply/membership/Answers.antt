@@ -1,6 +1,6 @@
 use Rattle.std.proofs.Common.{sym, ◌∙◌, length}
 use Rattle.std.proofs.lemmas.Bool.{false≢true}
-use Rattle.om_program.specs.declared.line.Line.TheVariants as line
+use Rattle.om_answer.specs.declared.line.Line.TheVariants as line
 use Rattle.om_program.specs.Meaning.{IsMembership, wrong_length, covector, not_covector}
 use Rattle.om_program.proofs.MeaningLaws.{said}
 use Rattle.om_program.proofs.reply.membership.Goals as goal

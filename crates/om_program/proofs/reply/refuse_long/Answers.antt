@@ -1,7 +1,7 @@
 use Rattle.std.specs.Prelude.{ℕ, List, ◌<◌, length}
 use Rattle.om_signs.specs.declared.limits.TheConstants.{MAX_INPUT}
-use Rattle.om_program.specs.declared.command.Task.{Task}
-use Rattle.om_program.specs.declared.line.Line.TheVariants.{RefusedLong}
+use Rattle.om_program.specs.declared.task.Task.{Task}
+use Rattle.om_answer.specs.declared.line.Line.TheVariants.{RefusedLong}
 use Rattle.om_program.specs.Meaning.{TaskMeans, long}
 use Rattle.om_program.proofs.MeaningLaws.{said}
 use Rattle.om_program.proofs.reply.refuse_long.Goals as goal

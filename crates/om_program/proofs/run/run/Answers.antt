@@ -1,7 +1,11 @@
-use Rattle.std.proofs.Common.{refl}
+use Rattle.std.proofs.Common.{refl, rules}
 use Rattle.om_program.specs.Meaning.{Means}
 use Rattle.om_program.proofs.MeaningLaws.{whole, cut_off, named_answer, named_cut_off, usage_meant}
+use Rattle.om_program.proofs.OperationLaws.{names_elements}
 use Rattle.om_program.proofs.run.run.Goals as goal
+
+pub carry_out-requires : goal.carry_out-requires
+carry_out-requires g c = (search rules, names_elements _ _ ((c.in-Ok.ensures.task c.in-Ok.task).0 refl))
 
 pub returns-in-Ok-clause-answer : goal.returns-in-Ok-clause-answer
 returns-in-Ok-clause-answer g c = λ answered. named_answer _ _ _ _ _ _ ((c.in-Ok.ensures.task c.in-Ok.task).0 refl) (c.carry_out.ensures.answer answered)

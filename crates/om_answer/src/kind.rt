@@ -1,0 +1,12 @@
+/// A kind of document that an oriented matroid can be converted to.
+#[derive(Clone, Copy, Debug, PartialEq, Eq)]
+pub enum Kind {
+    /// The signs of its bases.
+    Chirotope,
+    /// Its signed circuits.
+    Circuits,
+    /// Its signed cocircuits.
+    Cocircuits,
+    /// Its covectors.
+    Covectors,
+}

@@ -1,0 +1,113 @@
+use om_subsets::Subset;
+use om_text::Code;
+
+/// An answer of one line. Its text is the words of its name in lower case and then its fields in their order, with single
+/// spaces.
+#[derive(Clone, Copy, Debug, PartialEq, Eq)]
+pub enum Line {
+    /// The document meets the axioms of its kind.
+    Accepted,
+    /// The sign vector is a covector.
+    Covector,
+    /// The sign vector isn't a covector.
+    NotCovector,
+    /// The claim's vectors realize its oriented matroid.
+    ValidRealizable,
+    /// The claim's entries are a final polynomial of its oriented matroid.
+    ValidNonrealizable,
+    /// The claim's weights show that there is no final polynomial of this form.
+    ValidUndecided,
+    /// The words aren't a command: word `word`, counted from 1, is at fault.
+    Usage {
+        word: u32,
+    },
+    /// The answer would have more than `limit` members.
+    LimitMembers {
+        limit: u32,
+    },
+    /// The command isn't built yet for this kind of document.
+    RefusedUnbuilt,
+    /// The input has more bytes than the limit.
+    RefusedLong,
+    /// Line `line` of the input, counted from 1, is the first at fault.
+    RefusedLine {
+        line: u32,
+        code: Code,
+    },
+    /// All values of the map are zero.
+    RefusedAllzero,
+    /// The first pair of sets at which the axioms of a chirotope fail.
+    RefusedRelation {
+        s: Subset,
+        a: Subset,
+    },
+    /// Member `i` is the zero vector.
+    RefusedZero {
+        i: u32,
+    },
+    /// The negative of member `i` is no member.
+    RefusedNonegative {
+        i: u32,
+    },
+    /// The support of member `i` lies in that of member `j`, and the two are neither equal nor negatives.
+    RefusedNested {
+        i: u32,
+        j: u32,
+    },
+    /// No member eliminates the element `e` from members `i` and `j`.
+    RefusedNoelimination {
+        i: u32,
+        j: u32,
+        e: u8,
+    },
+    /// The zero vector is no member.
+    RefusedNozero,
+    /// The composition of members `i` and `j` is no member.
+    RefusedNocomposition {
+        i: u32,
+        j: u32,
+    },
+    /// No three of the points have a triple product other than 0.
+    RefusedRanklow,
+    /// The sign vector has `given` signs, and this isn't the number of elements.
+    RefusedLength {
+        given: u32,
+    },
+    /// The first element among the words that is above the number of elements.
+    RefusedPlace {
+        e: u8,
+    },
+    /// The only element can't be deleted or contracted.
+    RefusedLastelement,
+    /// The rank is `r`, and the command asks for rank 3.
+    RefusedNotrank3 {
+        r: u8,
+    },
+    /// The claim has no certificate.
+    RefusedNocertificate,
+    /// The certificate has `given` vectors or weights in place of `wanted`.
+    RefusedNumber {
+        wanted: u32,
+        given: u32,
+    },
+    /// The first three elements whose vectors have a triple product of another sign.
+    RefusedWrongsign {
+        triple: Subset,
+    },
+    /// Entry `entry`, counted from 1, is no statement that the signs give.
+    RefusedUnlawful {
+        entry: u32,
+    },
+    /// The first bracket that stands `small` times on the small sides and `big` times on the big ones.
+    RefusedUnbalanced {
+        bracket: Subset,
+        small: u128,
+        big: u128,
+    },
+    /// No entry is strict.
+    RefusedNostrict,
+    /// Weight `entry`, counted from 1, isn't that of the bracket whose turn it is.
+    RefusedBracket {
+        entry: u32,
+    },
+}

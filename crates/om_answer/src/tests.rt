@@ -1,0 +1,137 @@
+//! The text of each line.
+
+use super::{Line, print_line};
+use om_subsets::Subset;
+use om_text::Code;
+use std::alloc::Global;
+use std::process::Abort;
+use std::test::Fail;
+
+/// The subset of 1 to 9 of a mask.
+fn subset(mask: u32) -> Subset
+    requires { mask < 512 }
+{
+    Subset::from_mask(mask, 9)
+}
+
+/// Asks that a line has this text.
+fn prints<R: Abort>(rt: &R, alloc: Global, line: Line, text: &str) -> Result<(), Fail> {
+    let printed = print_line(alloc, &line)?;
+    assert_eq!(rt; printed.as_slice(), text.as_bytes());
+    Ok(())
+}
+
+#[test]
+fn lines_without_fields(rt: HostRuntime) -> Result<(), Fail> {
+    for (line, text) in [
+        (Line::Accepted, "accepted\n"),
+        (Line::Covector, "covector\n"),
+        (Line::NotCovector, "not covector\n"),
+        (Line::ValidRealizable, "valid realizable\n"),
+        (Line::ValidNonrealizable, "valid nonrealizable\n"),
+        (Line::ValidUndecided, "valid undecided\n"),
+        (Line::RefusedUnbuilt, "refused unbuilt\n"),
+        (Line::RefusedLong, "refused long\n"),
+        (Line::RefusedAllzero, "refused allzero\n"),
+        (Line::RefusedNozero, "refused nozero\n"),
+        (Line::RefusedRanklow, "refused ranklow\n"),
+        (Line::RefusedLastelement, "refused lastelement\n"),
+        (Line::RefusedNocertificate, "refused nocertificate\n"),
+        (Line::RefusedNostrict, "refused nostrict\n"),
+    ] {
+        prints(&rt, rt.alloc(), line, text)?;
+    }
+    Ok(())
+}
+
+#[test]
+fn lines_with_numbers(rt: HostRuntime) -> Result<(), Fail> {
+    for (line, text) in [
+        (Line::Usage { word: 1 }, "usage 1\n"),
+        (Line::LimitMembers { limit: 1024 }, "limit members 1024\n"),
+        (Line::RefusedZero { i: 2 }, "refused zero 2\n"),
+        (Line::RefusedNonegative { i: 1 }, "refused nonegative 1\n"),
+        (Line::RefusedNested { i: 1, j: 3 }, "refused nested 1 3\n"),
+        (
+            Line::RefusedNoelimination { i: 2, j: 1, e: 2 },
+            "refused noelimination 2 1 2\n",
+        ),
+        (
+            Line::RefusedNocomposition { i: 2, j: 4 },
+            "refused nocomposition 2 4\n",
+        ),
+        (Line::RefusedLength { given: 3 }, "refused length 3\n"),
+        (Line::RefusedPlace { e: 5 }, "refused place 5\n"),
+        (Line::RefusedNotrank3 { r: 2 }, "refused notrank3 2\n"),
+        (
+            Line::RefusedNumber {
+                wanted: 4,
+                given: 0,
+            },
+            "refused number 4 0\n",
+        ),
+        (Line::RefusedUnlawful { entry: 7 }, "refused unlawful 7\n"),
+        (Line::RefusedBracket { entry: 10 }, "refused bracket 10\n"),
+    ] {
+        prints(&rt, rt.alloc(), line, text)?;
+    }
+    Ok(())
+}
+
+#[test]
+fn lines_with_sets_and_codes(rt: HostRuntime) -> Result<(), Fail> {
+    for (line, text) in [
+        (
+            Line::RefusedRelation {
+                s: subset(0b111),
+                a: subset(0b1000),
+            },
+            "refused relation 1,2,3 4\n",
+        ),
+        (
+            Line::RefusedRelation {
+                s: subset(0b1),
+                a: subset(0),
+            },
+            "refused relation 1 none\n",
+        ),
+        (
+            Line::RefusedWrongsign {
+                triple: subset(0b1101),
+            },
+            "refused wrongsign 1,3,4\n",
+        ),
+        (
+            Line::RefusedUnbalanced {
+                bracket: subset(0b1100_0001),
+                small: 1,
+                big: u128::MAX,
+            },
+            "refused unbalanced 1,7,8 1 340282366920938463463374607431768211455\n",
+        ),
+        (
+            Line::RefusedLine {
+                line: 3,
+                code: Code::Many,
+            },
+            "refused line 3 many\n",
+        ),
+        (
+            Line::RefusedLine {
+                line: 2,
+                code: Code::Elements { n: 17 },
+            },
+            "refused line 2 elements 17\n",
+        ),
+        (
+            Line::RefusedLine {
+                line: 2,
+                code: Code::Rank { r: 5 },
+            },
+            "refused line 2 rank 5\n",
+        ),
+    ] {
+        prints(&rt, rt.alloc(), line, text)?;
+    }
+    Ok(())
+}

@@ -1,0 +1,44 @@
+use Rattle.om_program.proofs.WordLaws.{ok_named, err_passed, accept_shape, member_shape, convert_shape, dual_shape, delete_shape, contract_shape, reorient_shape}
+use Rattle.om_program.proofs.command.after_verb.Goals as goal
+
+pub returns-in_ok-none-in-Accept : goal.returns-in_ok-none-in-Accept
+returns-in_ok-none-in-Accept c = rw c.in-Accept.is (ok_named _ _ _ _ _ _ accept_shape c.none.ensures c.in_ok-none-in-Accept.was)
+
+pub returns-in_err-none-in-Accept : goal.returns-in_err-none-in-Accept
+returns-in_err-none-in-Accept c = rw c.in-Accept.is (err_passed _ _ _ _ _ _ _ accept_shape c.none.ensures c.in_err-none-in-Accept.was c.from_residual.ensures.1)
+
+pub returns-in_ok-only-in-Member : goal.returns-in_ok-only-in-Member
+returns-in_ok-only-in-Member c = rw c.in-Member.is (ok_named _ _ _ _ _ _ member_shape c.only.ensures c.in_ok-only-in-Member.was)
+
+pub returns-in_err-only-in-Member : goal.returns-in_err-only-in-Member
+returns-in_err-only-in-Member c = rw c.in-Member.is (err_passed _ _ _ _ _ _ _ member_shape c.only.ensures c.in_err-only-in-Member.was c.from_residual-in_err-only-in-Member.ensures.1)
+
+pub returns-in_ok-only-in-Convert : goal.returns-in_ok-only-in-Convert
+returns-in_ok-only-in-Convert c = rw c.in-Convert.is (ok_named _ _ _ _ _ _ convert_shape c.only-in-Convert.ensures c.in_ok-only-in-Convert.was)
+
+pub returns-in_err-only-in-Convert : goal.returns-in_err-only-in-Convert
+returns-in_err-only-in-Convert c = rw c.in-Convert.is (err_passed _ _ _ _ _ _ _ convert_shape c.only-in-Convert.ensures c.in_err-only-in-Convert.was c.from_residual-in_err-only-in-Convert.ensures.1)
+
+pub returns-in_ok-none-in-Dual : goal.returns-in_ok-none-in-Dual
+returns-in_ok-none-in-Dual c = rw c.in-Dual.is (ok_named _ _ _ _ _ _ dual_shape c.none-in-Dual.ensures c.in_ok-none-in-Dual.was)
+
+pub returns-in_err-none-in-Dual : goal.returns-in_err-none-in-Dual
+returns-in_err-none-in-Dual c = rw c.in-Dual.is (err_passed _ _ _ _ _ _ _ dual_shape c.none-in-Dual.ensures c.in_err-none-in-Dual.was c.from_residual-in_err-none-in-Dual.ensures.1)
+
+pub returns-in_ok-only-in-Delete : goal.returns-in_ok-only-in-Delete
+returns-in_ok-only-in-Delete c = rw c.in-Delete.is (ok_named _ _ _ _ _ _ delete_shape c.only-in-Delete.ensures c.in_ok-only-in-Delete.was)
+
+pub returns-in_err-only-in-Delete : goal.returns-in_err-only-in-Delete
+returns-in_err-only-in-Delete c = rw c.in-Delete.is (err_passed _ _ _ _ _ _ _ delete_shape c.only-in-Delete.ensures c.in_err-only-in-Delete.was c.from_residual-in_err-only-in-Delete.ensures.1)
+
+pub returns-in_ok-only-in-Contract : goal.returns-in_ok-only-in-Contract
+returns-in_ok-only-in-Contract c = rw c.in-Contract.is (ok_named _ _ _ _ _ _ contract_shape c.only-in-Contract.ensures c.in_ok-only-in-Contract.was)
+
+pub returns-in_err-only-in-Contract : goal.returns-in_err-only-in-Contract
+returns-in_err-only-in-Contract c = rw c.in-Contract.is (err_passed _ _ _ _ _ _ _ contract_shape c.only-in-Contract.ensures c.in_err-only-in-Contract.was c.from_residual-in_err-only-in-Contract.ensures.1)
+
+pub returns-in_ok-elements-in-Reorient : goal.returns-in_ok-elements-in-Reorient
+returns-in_ok-elements-in-Reorient c = rw c.in-Reorient.is (ok_named _ _ _ _ _ _ reorient_shape c.elements.ensures c.in_ok-elements-in-Reorient.was)
+
+pub returns-in_err-elements-in-Reorient : goal.returns-in_err-elements-in-Reorient
+returns-in_err-elements-in-Reorient c = rw c.in-Reorient.is (err_passed _ _ _ _ _ _ _ reorient_shape c.elements.ensures c.in_err-elements-in-Reorient.was c.from_residual-in_err-elements-in-Reorient.ensures.1)

@@ -1,5 +1,0 @@
-use Rattle.om_program.proofs.Spelling.{filled_all}
-use Rattle.om_program.proofs.command.sign_vector.Goals as goal
-
-pub returns : goal.returns
-returns c = filled_all _ _ _ c.loop-place-test.false c.loop-place.invariant

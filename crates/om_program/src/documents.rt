@@ -1,0 +1,68 @@
+//! The documents of values.
+
+ghost use Rattle.std.specs.Prelude.{◌≡◌};
+ghost use Rattle.om_text.specs.declared.document.Document.{Document};
+ghost use Rattle.om_text.specs.Form.{IsInForm};
+ghost use Rattle.om_program.specs.Axioms.{MeetsAxioms};
+ghost use Rattle.om_program.specs.Covectors.{Represents};
+
+use crate::representation::Representation;
+use om_chirotope::Chirotope;
+use om_circuits::{Circuits, Cocircuits};
+use om_covectors::Covectors;
+use om_text::{Body, Document};
+
+/// The document of a chirotope.
+pub fn map_document(chirotope: Chirotope) -> Document
+    ensures form { IsInForm result }
+    ensures axioms { MeetsAxioms result.body }
+    ensures own { (d : Document) → Represents d (Representation.Chirotope chirotope) → result ≡ d }
+{
+    let elements = chirotope.elements();
+    let _rank = chirotope.rank();
+    Document {
+        elements,
+        body: Body::Chirotope(chirotope.into_raw()),
+    }
+}
+
+/// The document of circuits.
+pub fn circuits_document(circuits: Circuits) -> Document
+    ensures form { IsInForm result }
+    ensures axioms { MeetsAxioms result.body }
+    ensures own { (d : Document) → Represents d (Representation.Circuits circuits) → result ≡ d }
+{
+    let Circuits(set) = circuits;
+    let elements = set.elements();
+    Document {
+        elements,
+        body: Body::Circuits(set.into_list()),
+    }
+}
+
+/// The document of cocircuits.
+pub fn cocircuits_document(cocircuits: Cocircuits) -> Document
+    ensures form { IsInForm result }
+    ensures axioms { MeetsAxioms result.body }
+    ensures own { (d : Document) → Represents d (Representation.Cocircuits cocircuits) → result ≡ d }
+{
+    let Cocircuits(set) = cocircuits;
+    let elements = set.elements();
+    Document {
+        elements,
+        body: Body::Cocircuits(set.into_list()),
+    }
+}
+
+/// The document of covectors.
+pub fn covectors_document(covectors: Covectors) -> Document
+    ensures form { IsInForm result }
+    ensures axioms { MeetsAxioms result.body }
+    ensures own { (d : Document) → Represents d (Representation.Covectors covectors) → result ≡ d }
+{
+    let elements = covectors.elements();
+    Document {
+        elements,
+        body: Body::Covectors(covectors.into_list()),
+    }
+}

@@ -1,0 +1,21 @@
+use om_answer::Kind;
+use om_signs::SignVec;
+
+/// What the words after the program's name ask for.
+#[derive(Clone, Copy, Debug, PartialEq, Eq)]
+pub enum Task {
+    /// `accept`: whether the document meets the axioms of its kind.
+    Accept,
+    /// `member SIGNS`: whether the sign vector is a covector.
+    Member(SignVec),
+    /// `convert KIND`: the same oriented matroid as a document of this kind.
+    Convert(Kind),
+    /// `dual`: the dual.
+    Dual,
+    /// `delete E`: the deletion of this element.
+    Delete(u8),
+    /// `contract E`: the contraction of this element.
+    Contract(u8),
+    /// `reorient E..`: the reorientation on the elements of this mask, in which bit e - 1 stands for e.
+    Reorient(u32),
+}
