@@ -1,7 +1,8 @@
 -- Bases as increasing lists, and as tuples.
 --
--- Main results: some tuple is a base where some increasing list is a basis, with e or without it (base_tuple), and conversely (basis_list);
--- a chirotope has a basis (some_basis); is_coloop, is_loop where no basis avoids or has e.
+-- Main results: a tuple that is a base gives a basis, with e or without it (basis_list), and conversely (avoided, in_base);
+-- an element that no basis avoids is a coloop, and one that none has is a loop (coloop_tuple, coloop_list, loop_tuple); a basis is there or not
+-- (decide_basis).
 use Rattle.std.specs.Prelude.{ℕ, ◌≡◌, ◌≢◌, ◌↔◌, ◌⊎◌, ◌+◌, ◌<◌, ◌≤◌, List, [], ◌∷◌, ◌++◌, length, Bool, true, false, IsTrue}
 use Rattle.std.proofs.Common.{zero, suc, sym, ◌∙◌, ap, subst, inl, inr, arith, refl, ⊎_elim}
 use Rattle.std.proofs.lemmas.Bool.{false≢true, cases_eq}
@@ -79,15 +80,6 @@ module _ (m : SignMap) where
 
   pub coloop_list : (e : ℕ) → (HasBasis m e false → ⊥) → words.IsColoop m e
   coloop_list e none xs b = ⊎_elim (λ k. k) (λ off. absurd (none (xs, b, outside e xs off))) (member_or_not e xs)
-
-  pub loop_list : (e : ℕ) → (HasBasis m e true → ⊥) → words.IsLoop m e
-  loop_list e none xs b k = none (xs, b, inner e xs k)
-
-  pub no_coloop : (e : ℕ) → HasBasis m e false → words.IsColoop m e → ⊥
-  no_coloop e (xs, b, w) co = false≢true (w.1 (co xs b))
-
-  pub no_loop : (e : ℕ) → HasBasis m e true → words.IsLoop m e → ⊥
-  no_loop e (xs, b, w) lo = lo xs b (w.0 refl)
 
   -- an element that no basis avoids is in some basis, and one that none has is avoided by some
   pub basis_with : IsChirotope m → (e : ℕ) → (HasBasis m e false → ⊥) → HasBasis m e true

@@ -100,10 +100,6 @@ module _ (n e : ℕ) (ie : IsElement (suc n) e) where
 -- ---- the two maps
 
 module _ (m : SignMap) (om : IsChirotope m) (e : ℕ) (several : 2 ≤ m.elements) (low : 1 ≤ e) (high : e ≤ m.elements) where
-  -- the map on all lists, with its number of elements as one more than that of the minors
-  abbrev pub larger : List ℕ → Sign
-  larger = on_tuples (suc (m.elements - 1)) m.rank (chi_of m)
-
   pub one_more : m.elements ≡ suc (m.elements - 1)
   one_more = omega arith
 
