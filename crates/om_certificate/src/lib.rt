@@ -1,0 +1,23 @@
+//! Certificates for and against the realizability of a chirotope of rank 3, and their checker.
+//!
+//! [`check`] tells whether vectors, a balanced list of three-term statements, or weights of the brackets prove what they
+//! are given for.
+//!
+//! Source of the notions: Bokowski and Richter-Gebert, *On the finding of final polynomials*, 1990; Björner, Las Vergnas,
+//! Sturmfels, White and Ziegler, *Oriented Matroids*, chapter 8.
+#![tactic(auto)]
+
+mod cert_refused;
+mod entry;
+mod evidence;
+mod lp_end;
+mod verdict;
+mod weight;
+
+pub use cert_refused::CertRefused;
+pub use entry::Entry;
+pub use evidence::Evidence;
+pub use lp_end::LpEnd;
+pub use om_simplex::Stage;
+pub use verdict::{Verdict, certificate};
+pub use weight::Weight;

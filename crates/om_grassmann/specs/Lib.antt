@@ -1,0 +1,5 @@
+pub mod Terms
+pub mod Statements
+pub mod Sides
+pub mod Order
+pub mod Walk

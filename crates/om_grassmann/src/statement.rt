@@ -1,0 +1,22 @@
+/// A three-term statement on an element a and four elements b, c, d, e. It compares the sizes of two of the terms
+/// [abc][ade], -[abd][ace] and [abe][acd], which have the numbers 1, 2 and 3: the term `small` is less in size than the
+/// term `big` where the statement is strict, and is of the same size where it is an equation.
+///
+/// The fields may be any numbers: [`super::lawful`] tells which statements the relations of a chirotope give. Statements
+/// are ordered lexicographically by a, b, c, d, e, small and big.
+///
+/// Source: Bokowski and Richter-Gebert, *On the finding of final polynomials*, 1990.
+#[derive(Clone, Copy, Debug, PartialEq, Eq)]
+pub struct Statement {
+    pub a: u8,
+    pub b: u8,
+    pub c: u8,
+    pub d: u8,
+    pub e: u8,
+    /// The number of the term that is less in size, or equal.
+    pub small: u8,
+    /// The number of the term that is greater in size, or equal.
+    pub big: u8,
+    /// Whether the sizes differ.
+    pub strict: bool,
+}
