@@ -1,1 +1,5 @@
+pub mod Certificates
+pub mod Weights
+pub mod Validity
+pub mod Refusals
 pub mod Verdicts
