@@ -1,3 +1,3 @@
 pub mod Combinations
-pub mod Balance
+pub mod Tallies
 pub mod Orders

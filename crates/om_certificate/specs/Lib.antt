@@ -2,4 +2,5 @@ pub mod Certificates
 pub mod Weights
 pub mod Validity
 pub mod Refusals
+pub mod Tables
 pub mod Verdicts

@@ -7,14 +7,19 @@
 //! Sturmfels, White and Ziegler, *Oriented Matroids*, chapter 8.
 #![tactic(auto)]
 
+mod balance;
 mod cert_refused;
+mod checking;
 mod entry;
 mod evidence;
 mod lp_end;
+mod room;
 mod verdict;
+mod weighing;
 mod weight;
 
 pub use cert_refused::CertRefused;
+pub use checking::check;
 pub use entry::Entry;
 pub use evidence::Evidence;
 pub use lp_end::LpEnd;
