@@ -1,2 +1,6 @@
 pub mod Rings
 pub mod Identities
+pub mod WordTables
+pub mod Sizes
+pub mod NumberSigns
+pub mod TripleSigns
