@@ -1,3 +1,4 @@
 pub mod Combinations
 pub mod Tallies
 pub mod Orders
+pub mod Sizes
