@@ -10,7 +10,7 @@ use super::lawfulness::{are_two, have_signs, is_placed};
 use super::statement::Statement;
 use super::terms::Terms;
 use om_chirotope::Chirotope;
-use om_signs::Sign;
+use om_signs::{MAX_ELEMENTS, Sign};
 
 /// The number of pairs of the numbers 1, 2 and 3.
 const DIRECTIONS: u8 = 9;
@@ -32,14 +32,16 @@ pub fn first_from(chi: &Chirotope, start: Frame, from: u8) -> Option<Statement>
     requires rank { chi.now.rank ≡ 3 }
     requires frame { IsFrame chi.now.elements start }
     requires from { from ≤ DIRECTIONS }
+    ensures limit { chi.now.elements ≤ MAX_ELEMENTS }
     ensures none { IfNone result (HasNoneFrom chi.now (frame_place start * 9 + from)) }
     ensures first { IfSome result (λ t. IsFirstFrom chi.now (frame_place start * 9 + from) t) }
 {
+    let n = chi.elements();
     if let Some(st) = first_in_frame(chi, start, from) {
         return Some(st);
     }
     let mut frame = start;
-    while let Some(next) = frame.next(chi.elements()) {
+    while let Some(next) = frame.next(n) {
         if let Some(st) = first_in_frame(chi, next, 0) {
             return Some(st);
         }
