@@ -4,3 +4,4 @@ pub mod WordTables
 pub mod Sizes
 pub mod NumberSigns
 pub mod TripleSigns
+pub mod Triples

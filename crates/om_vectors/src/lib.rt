@@ -8,6 +8,7 @@ mod realizing;
 mod signs;
 mod signs_error;
 mod triple_products;
+mod triple_signs;
 mod unfound;
 mod vector;
 mod word;

@@ -1,6 +1,7 @@
 ghost use Rattle.std.specs.Prelude.{◌≡◌, ◌↔◌, length, IsOk, IfErr};
 ghost use Rattle.om_vectors.specs.Realizations.{Realizes, IsFirstOther};
 
+use super::triple_signs::sign_of_triple;
 use super::vector::Vector;
 use om_chirotope::Chirotope;
 use om_subsets::Subset;
@@ -17,7 +18,13 @@ pub fn realizes(vectors: &[Vector], chi: &Chirotope) -> Result<(), Subset>
     ensures realized { IsOk result ↔ Realizes vectors.now chi.now }
     ensures first { IfErr result (λ s. IsFirstOther vectors.now chi.now s) }
 {
-    let _ = vectors;
-    let _ = chi;
+    let n = chi.elements();
+    let rank = chi.rank();
+    for place in 0..Subset::choose(n, rank) {
+        let s = Subset::unrank(place, rank, n);
+        if chi.at(s) != sign_of_triple(vectors, s) {
+            return Err(s);
+        }
+    }
     Ok(())
 }
