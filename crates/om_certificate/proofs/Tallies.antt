@@ -2,19 +2,15 @@
 -- combine to at most those of its big side, and in one entry to less, some place doesn't stand equally often on both.
 --
 -- Main result: unbalanced.
-use Rattle.std.specs.Prelude.{ℕ, ◌≡◌, ◌+◌, ◌*◌, ◌<◌, ◌≤◌, List, [], ◌∷◌, length, refl, ◌⊎◌}
+use Rattle.std.specs.Prelude.{ℕ, ◌≡◌, ◌+◌, ◌*◌, ◌<◌, ◌≤◌, List, [], ◌∷◌, ◌⊎◌}
 use Rattle.std.proofs.Common.{zero, suc, sym, ◌∙◌, ap, arith, inl, inr, subst}
+use Rattle.std.specs.List.{AllByRecursion as Each}
 use Rattle.om_certificate.proofs.Combinations.{Combination, power, total, here, power-add, power-join, power-positive, power_at_most, power_less, total-same, total-none, total-add, total-place}
 
--- what holds of each entry of a list
-abbrev pub Each : {E : Type 0} → (E → Type 0) → List E → Type 0
-Each P [] = Unit {0}
-Each P (e ∷ es) = P e × Each P es
-
 -- what holds of some entry of a list
-abbrev pub Some_ : {E : Type 0} → (E → Type 0) → List E → Type 0
-Some_ P [] = ⊥
-Some_ P (e ∷ es) = P e ⊎ Some_ P es
+abbrev pub AnyByRecursion : {E : Type 0} → (E → Type 0) → List E → Type 0
+AnyByRecursion P [] = ⊥
+AnyByRecursion P (e ∷ es) = P e ⊎ AnyByRecursion P es
 
 -- how often a place stands on one side, where p and q are the two places of the side
 abbrev pub tally : {E : Type 0} → (E → ℕ) → (E → ℕ) → (E → ℕ) → List E → ℕ → ℕ
@@ -72,7 +68,7 @@ module _ (C : Combination) (E : Type 0) (times : E → ℕ) (f : ℕ → C.Value
     ordered_sides [] h = C.unit_at_most
     ordered_sides (e ∷ es) (o, h) = C.join_at_most (power C (small e) (times e)) (power C (big e) (times e)) (side C f times p q es) (side C f times p' q' es) (power_at_most C (small e) (big e) (times e) o.at_most) (ordered_sides es h)
 
-    strict_sides : (es : List E) → Each IsOrdered es → Some_ IsStrict es → C.IsLess (side C f times p q es) (side C f times p' q' es)
+    strict_sides : (es : List E) → Each IsOrdered es → AnyByRecursion IsStrict es → C.IsLess (side C f times p q es) (side C f times p' q' es)
     strict_sides [] h s = absurd s
     strict_sides (e ∷ es) (o, h) (inl s) =
         C.join_less (power C (small e) (times e)) (power C (big e) (times e)) (side C f times p q es) (side C f times p' q' es) (positive_side es h) (power_less C (small e) (big e) (times e) s.counted o.positive s.less) (ordered_sides es h)
@@ -89,7 +85,7 @@ module _ (C : Combination) (E : Type 0) (times : E → ℕ) (f : ℕ → C.Value
       → Each (IsBelow p q n) es
       → Each (IsBelow p' q' n) es
       → Each IsOrdered es
-      → Some_ IsStrict es
+      → AnyByRecursion IsStrict es
       → ((k : ℕ) → k < n → tally times p q es k ≡ tally times p' q' es k)
       → ⊥
     unbalanced es b b' o s h =
