@@ -4,3 +4,4 @@ pub mod Orders
 pub mod Sizes
 pub mod Triples
 pub mod Exclusion
+pub mod NonzeroBrackets

@@ -20,6 +20,7 @@ use om_subsets::Subset;
 /// Whether entries are a certificate.
 pub fn check_entries(chi: &Chirotope, entries: &[Entry]) -> Result<(), CertRefused>
     requires rank { chi.now.rank ≡ 3 }
+    requires part { 3 ≤ chi.now.elements }
     requires limits { AreEntriesWithinLimits entries.now }
     ensures accepted { OnOk result (IsCertificate chi.now entries.now) }
     ensures refused { IfErr result (IsEntryRefusal chi.now entries.now) }
@@ -97,7 +98,7 @@ fn raise(table: &mut [u128], first: Subset, second: Subset, times: u64)
 /// The first place at which two tables differ.
 fn first_difference(small: &[u128], big: &[u128]) -> Option<usize>
     requires { length small.now ≡ length big.now }
-    ensures none { IfNone result (small.now ≡ big.now) }
+    ensures none { IfNone result ((j : ℕ) → j < length small.now → slice_index small.now j ≡ slice_index big.now j) }
     ensures within { IfSome result (λ k. k < length small.now) }
     ensures differ { IfSome result (λ k. slice_index small.now k ≡ slice_index big.now k → ⊥) }
     ensures before { IfSome result (λ k. (j : ℕ) → j < k → slice_index small.now j ≡ slice_index big.now j) }

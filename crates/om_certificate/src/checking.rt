@@ -12,7 +12,7 @@ use super::cert_refused::CertRefused;
 use super::evidence::Evidence;
 use super::weighing::check_weights;
 use om_chirotope::Chirotope;
-use om_vectors::{Vector, realizes};
+use om_vectors::{Word, realizes};
 
 /// Whether evidence proves what it is given for: vectors, that they realize the chirotope; entries, that no vectors of
 /// whole numbers of any size do; weights, that no list of entries proves this.
@@ -43,25 +43,25 @@ pub fn check(chi: &Chirotope, evidence: &Evidence) -> Result<(), CertRefused>
         return Err(CertRefused::NotRank3 { r: chi.rank() });
     }
     match evidence {
-        Evidence::Vectors(word) => check_vectors(chi, word.as_slice()),
+        Evidence::Vectors(word) => check_vectors(chi, word),
         Evidence::Balanced(entries) => check_entries(chi, entries.as_slice()),
         Evidence::Weights(weights) => check_weights(chi, weights.as_slice()),
     }
 }
 
-/// Whether vectors realize the chirotope.
-fn check_vectors(chi: &Chirotope, vectors: &[Vector]) -> Result<(), CertRefused>
-    requires rank { chi.now.rank ≡ 3 }
-    ensures accepted { OnOk result (Realizes vectors.now chi.now) }
-    ensures refused { IfErr result (IsVectorRefusal chi.now vectors.now) }
+/// Whether the vectors of a word realize the chirotope.
+fn check_vectors(chi: &Chirotope, word: &Word) -> Result<(), CertRefused>
+    requires { chi.now.rank ≡ 3 }
+    ensures accepted { OnOk result (Realizes word.now chi.now) }
+    ensures refused { IfErr result (IsVectorRefusal chi.now word.now) }
 {
-    if vectors.len() != chi.elements() as usize {
+    if word.len() != chi.elements() {
         return Err(CertRefused::Number {
             wanted: chi.elements() as u32,
-            given: vectors.len() as u32,
+            given: word.len() as u32,
         });
     }
-    match realizes(vectors, chi) {
+    match realizes(word.as_slice(), chi) {
         Ok(()) => Ok(()),
         Err(triple) => Err(CertRefused::WrongSign { triple }),
     }

@@ -15,12 +15,13 @@ use super::room::ROOM;
 use super::weight::Weight;
 use om_chirotope::Chirotope;
 use om_grassmann::{Statement, following, nth_statement, sides};
-use om_signs::{MAX_ELEMENTS, MAX_ENTRIES, Sign};
+use om_signs::{MAX_ELEMENTS, MAX_ENTRIES, MAX_PLACES, Sign};
 use om_subsets::Subset;
 
 /// Whether weights are those of the nonzero brackets, and every lawful statement is met.
 pub fn check_weights(chi: &Chirotope, weights: &[Weight]) -> Result<(), CertRefused>
     requires rank { chi.now.rank ≡ 3 }
+    requires part { 3 ≤ chi.now.elements }
     requires limits { AreWeightsWithinLimits weights.now }
     ensures accepted { OnOk result (AreWeights chi.now weights.now) }
     ensures refused { IfErr result (IsWeightRefusal chi.now weights.now) }
@@ -43,7 +44,8 @@ pub fn check_weights(chi: &Chirotope, weights: &[Weight]) -> Result<(), CertRefu
 
 /// The number of nonzero brackets.
 fn count_nonzero(chi: &Chirotope) -> u32
-    requires { chi.now.rank ≡ 3 }
+    requires rank { chi.now.rank ≡ 3 }
+    requires part { 3 ≤ chi.now.elements }
     ensures { result ≡ length (nonzero_brackets chi.now) }
 {
     let n = chi.elements();
@@ -59,6 +61,7 @@ fn count_nonzero(chi: &Chirotope) -> u32
 /// The number, from 1, of the first weight that isn't that of the nonzero bracket of its place.
 fn first_other_bracket(chi: &Chirotope, weights: &[Weight]) -> Option<u32>
     requires rank { chi.now.rank ≡ 3 }
+    requires part { 3 ≤ chi.now.elements }
     requires number { length weights.now ≡ length (nonzero_brackets chi.now) }
     requires few { length weights.now ≤ MAX_ENTRIES }
     ensures none { IfNone result (AreOfBrackets chi.now weights.now) }
@@ -92,7 +95,7 @@ fn is_weight_of(weight: Weight, bracket: Subset) -> bool
 
 /// The bracket of a weight, as a set.
 fn bracket_set(weight: Weight, n: u8) -> Subset
-    requires small { n ≤ MAX_ELEMENTS }
+    requires small { n ≤ MAX_PLACES }
     requires a { 1 ≤ weight.a }
     requires a_b { weight.a < weight.b }
     requires b_c { weight.b < weight.c }
@@ -105,6 +108,7 @@ fn bracket_set(weight: Weight, n: u8) -> Subset
 /// Writes the weights into a table of zeros, each at the place of its bracket.
 fn fill(chi: &Chirotope, weights: &[Weight], table: &mut [i128])
     requires rank { chi.now.rank ≡ 3 }
+    requires part { 3 ≤ chi.now.elements }
     requires limits { AreWeightsWithinLimits weights.now }
     requires brackets { AreOfBrackets chi.now weights.now }
     requires room { length table.old ≡ choose chi.now.elements 3 }
@@ -120,6 +124,7 @@ fn fill(chi: &Chirotope, weights: &[Weight], table: &mut [i128])
 /// The first lawful statement that isn't met.
 fn first_unmet(chi: &Chirotope, weights: &[Weight]) -> Option<Statement>
     requires rank { chi.now.rank ≡ 3 }
+    requires part { 3 ≤ chi.now.elements }
     requires limits { AreWeightsWithinLimits weights.now }
     requires brackets { AreOfBrackets chi.now weights.now }
     ensures none { IfNone result ((st : Statement) → IsLawful chi.now st → IsMet weights.now st) }
