@@ -3,18 +3,23 @@
 -- Main definitions: HoldsBelow, what holds of the triples of the first places.
 -- Main results: least_first and last_first, how a set begins; held_all and held_before, from the places to the triples;
 -- realized_triple and realizes_from, what it is to realize a map.
-use Rattle.std.proofs.Common.{ℕ, zero, suc, ◌≡◌, ◌≢◌, ◌+◌, ◌<◌, ◌≤◌, ◌⊎◌, List, [], ◌∷◌, length, refl, sym, ◌∙◌, ap, inl, inr, arith, subst}
+use Rattle.std.proofs.Common.{ℕ, zero, suc, ◌≡◌, ◌≢◌, ◌+◌, ◌<◌, ◌≤◌, ◌⊎◌, List, [], ◌∷◌, ◌++◌, length, map, take, refl, sym, ◌∙◌, ap, inl, inr, arith, subst}
 use Rattle.std.proofs.lemmas.Bool.{cases_eq, cases_lt, eq-eqb, ne_eqb}
-use Rattle.om_subsets.specs.Subsets.{choose, subset_at, rank_of, IsSubsetFrom, IsMember, without_element}
+use Rattle.std.proofs.lemmas.List.{map_more, take_all}
+use Rattle.om_signs.specs.declared.sign.Sign.{Sign}
+use Rattle.om_signs.specs.declared.sign.Sign.TheVariants.{Zero}
+use Rattle.om_subsets.specs.Subsets.{choose, all_subsets, subset_at, rank_of, IsSubsetFrom, IsMember, without_element}
 use Rattle.om_subsets.specs.Lists.{IsBefore}
-use Rattle.om_subsets.proofs.Order.{members_from, rank_from-lt, get_or-rank_from, lexicographic}
+use Rattle.om_subsets.proofs.Order.{members_from, length-subsets_from, rank_from-lt, get_or-rank_from, lexicographic}
 use Rattle.om_subsets.proofs.Statements.{subset_is_increasing}
 use Rattle.om_subsets.proofs.Table.{choose_above}
 use Rattle.om_subsets.specs.Members.{Chosen}
 use Rattle.om_chirotope.specs.Map.{SignMap, chi_of}
-use Rattle.om_vectors.specs.WholeVectors.{WholeVector}
-use Rattle.om_vectors.specs.Realizations.{triple_sign, IsTriple, Realizes, IsFirstOther}
-use Rattle.om_vectors.proofs.TripleSigns.{triple_subset}
+use Rattle.om_chirotope.specs.Chirotope.{IsChirotope}
+use Rattle.om_vectors.specs.WholeVectors.{WholeVector, sign_of}
+use Rattle.om_vectors.specs.Realizations.{triple_sign, signs_map, IsTriple, Realizes, IsFirstOther, IsRankLow}
+use Rattle.om_vectors.proofs.TripleSigns.{bracket, triple_subset, chirotope_of}
+use Rattle.om_vectors.proofs.NumberSigns.{sign_zero}
 
 -- what comes behind the first element is greater
 above_head : (low m x : ℕ) (ys : List ℕ) → IsSubsetFrom low m (x ∷ ys) → (e : ℕ) → IsMember e ys → x < e
@@ -125,3 +130,36 @@ other_found vs m k s n i e o h = record {
   other = o;
   earlier = held_before (HasItsSign vs m) m.elements k h s.elements i e
 }
+
+-- ---- the signs of all triples
+
+-- the triple product of a triple is zero
+abbrev pub HasSignZero : List WholeVector → List ℕ → Type 0
+HasSignZero vs t = triple_sign vs t ≡ Zero
+
+pub low_rank_from : (vs : List WholeVector) → ((t : List ℕ) → IsTriple (length vs) t → HasSignZero vs t) → IsRankLow vs
+low_rank_from vs h a b c low ab bc high = sign_zero (bracket vs a b c) (h (a ∷ b ∷ c ∷ []) (triple_from (length vs) a b c low ab bc high))
+
+-- a triple with a nonzero product: the rank is not low, and the signs make a chirotope
+pub rank_not_low : (vs : List WholeVector) (t : List ℕ) → IsTriple (length vs) t → triple_sign vs t ≢ Zero → IsRankLow vs → ⊥
+rank_not_low vs t i n low = of (rising (length vs) t i)
+  where
+    of : (a : ℕ) × (b : ℕ) × (c : ℕ) × (t ≡ a ∷ b ∷ c ∷ []) × IsRising (length vs) a b c → ⊥
+    of (a, b, c, e, r) = n (ap (triple_sign vs) e ∙ ap sign_of (low a b c r.low r.first r.second r.high))
+
+pub chirotope_from : (vs : List WholeVector) (t : List ℕ) → IsTriple (length vs) t → triple_sign vs t ≢ Zero → IsChirotope (signs_map vs)
+chirotope_from vs t i n = of (rising (length vs) t i)
+  where
+    of : (a : ℕ) × (b : ℕ) × (c : ℕ) × (t ≡ a ∷ b ∷ c ∷ []) × IsRising (length vs) a b c → IsChirotope (signs_map vs)
+    of (a, b, c, e, r) = chirotope_of vs a b c r.low r.first r.second r.high (λ z. n (ap (triple_sign vs) e ∙ ap sign_of z))
+
+-- the signs up to a place, and the next one
+pub signs_more : (vs : List WholeVector) (k : ℕ) (signs : List Sign) (t : List ℕ) → k < choose (length vs) 3 → t ≡ subset_at (length vs) 3 k → signs ≡ map (triple_sign vs) (take k (all_subsets (length vs) 3)) → signs ++ triple_sign vs t ∷ [] ≡ map (triple_sign vs) (take (k + 1) (all_subsets (length vs) 3))
+signs_more vs k signs t l e h =
+    let few : k < length (all_subsets (length vs) 3) = rw (length-subsets_from 1 (length vs) 3) l in
+    ap (λ xs. xs ++ triple_sign vs t ∷ []) h ∙ ap (λ u. map (triple_sign vs) (take k (all_subsets (length vs) 3)) ++ triple_sign vs u ∷ []) e ∙ sym (map_more (triple_sign vs) (all_subsets (length vs) 3) k [] few)
+
+pub signs_done : (vs : List WholeVector) (k : ℕ) (signs : List Sign) → choose (length vs) 3 ≤ k → signs ≡ map (triple_sign vs) (take k (all_subsets (length vs) 3)) → signs ≡ map (triple_sign vs) (all_subsets (length vs) 3)
+signs_done vs k signs l h =
+    let all : length (all_subsets (length vs) 3) ≤ k = rw (length-subsets_from 1 (length vs) 3) l in
+    h ∙ ap (map (triple_sign vs)) (take_all k (all_subsets (length vs) 3) all)

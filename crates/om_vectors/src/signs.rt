@@ -23,9 +23,9 @@ pub fn signs_of(alloc: Global, vectors: &[Vector]) -> Result<Chirotope, SignsErr
     ensures rank_low { IsErrOf result SignsError.RankLow ↔ IsRankLow vectors.now }
     ensures value { IfOk result (λ c. c ≡ signs_map vectors.now) }
 {
-    if some_nonzero(vectors).is_none() {
+    let Some(_) = some_nonzero(vectors) else {
         return Err(SignsError::RankLow);
-    }
+    };
     let signs = signs_in_order(alloc, vectors)?;
     Ok(Chirotope::lawful(RawMap {
         rank: 3,
