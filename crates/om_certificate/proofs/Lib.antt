@@ -5,3 +5,5 @@ pub mod Sizes
 pub mod Triples
 pub mod Exclusion
 pub mod NonzeroBrackets
+pub mod Counting
+pub mod Reasons

@@ -50,7 +50,7 @@ pub record IsFirstUnmet (m : SignMap) (ws : List Weight) (st : Statement) : Type
 
 -- why vectors are refused, on a map of rank 3
 pub data IsVectorRefusal (m : SignMap) (vs : List WholeVector) : CertRefused → Type 0 where
-  number : length vs ≢ m.elements → IsVectorRefusal m vs (Number m.elements (length vs))
+  number_of_vectors : length vs ≢ m.elements → IsVectorRefusal m vs (Number m.elements (length vs))
   wrong_sign : (t : Chosen) → length vs ≡ m.elements → IsFirstOther vs m t → IsVectorRefusal m vs (WrongSign t)
 
 -- why entries are refused, on a map of rank 3
@@ -61,7 +61,7 @@ pub data IsEntryRefusal (m : SignMap) (es : List Entry) : CertRefused → Type 0
 
 -- why weights are refused, on a map of rank 3
 pub data IsWeightRefusal (m : SignMap) (ws : List Weight) : CertRefused → Type 0 where
-  number : length ws ≢ length (nonzero_brackets m) → IsWeightRefusal m ws (Number (length (nonzero_brackets m)) (length ws))
+  number_of_weights : length ws ≢ length (nonzero_brackets m) → IsWeightRefusal m ws (Number (length (nonzero_brackets m)) (length ws))
   bracket : (k : ℕ) → length ws ≡ length (nonzero_brackets m) → IsFirstOtherBracket m ws k → IsWeightRefusal m ws (Bracket k)
   weight_fails : (st : Statement) → AreOfBrackets m ws → IsFirstUnmet m ws st → IsWeightRefusal m ws (WeightFails st)
 

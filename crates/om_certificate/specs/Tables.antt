@@ -1,5 +1,5 @@
 -- Tables with a place for each increasing triple of elements, in lexicographic order. No public clause speaks of these.
-use Rattle.std.specs.Prelude.{ℕ, ◌≡◌, ◌+◌, ◌*◌, ◌≤◌, ℤ, pos, ◌+ℤ◌, List, slice_index, slice_index_or, length, unsigned_abs}
+use Rattle.std.specs.Prelude.{ℕ, ◌≡◌, ◌+◌, ◌*◌, ◌<◌, ◌≤◌, ℤ, pos, ◌+ℤ◌, List, slice_index, slice_index_or, length, unsigned_abs}
 use Rattle.om_signs.specs.declared.limits.TheConstants.{MAX_WEIGHT}
 use Rattle.om_subsets.specs.Subsets.{rank_of, choose}
 use Rattle.om_vectors.specs.Realizations.{IsTriple}
@@ -23,6 +23,13 @@ pub record AreCounts (n : ℕ) (es : List Entry) (small big : List ℕ) : Type 0
 pub record IsRaised (n : ℕ) (among : List ℕ → ℕ) (times : ℕ) (old new : List ℕ) : Type 0 where
   pub raised : (b : List ℕ) → IsTriple n b → slice_index new (rank_of n b) ≡ slice_index old (rank_of n b) + times * among b
   pub bound : (k : ℕ) → slice_index new k ≤ slice_index old k + 2 * times
+
+-- the weight is given to three increasing elements of 1 to n
+pub record IsOfTriple (n : ℕ) (w : Weight) : Type 0 where
+  pub a : 1 ≤ w.a
+  pub a_b : w.a < w.b
+  pub b_c : w.b < w.c
+  pub c : w.c ≤ n
 
 -- no number is greater in size than a weight may be
 abbrev pub AreSmall : List ℤ → Type 0

@@ -1,14 +1,14 @@
 //! The check of a list of weights.
 
-ghost use Rattle.std.specs.Prelude.{ℕ, ◌≡◌, ◌+◌, ◌<◌, ◌≤◌, ◌↔◌, ℤ, pos, length, All, IfErr, OnOk, IfSome, IfNone, IsTrue};
-ghost use Rattle.om_subsets.specs.Subsets.{choose, IsSubsetFrom};
+ghost use Rattle.std.specs.Prelude.{ℕ, ◌≡◌, ◌+◌, ◌<◌, ◌≤◌, ◌↔◌, ◌+ℤ◌, pos, slice_index_or, length, All, IfErr, OnOk, IfSome, IfNone, IsTrue};
+ghost use Rattle.om_subsets.specs.Subsets.{choose, rank_of, IsSubsetFrom};
 ghost use Rattle.om_grassmann.specs.declared.statement.Statement.{Statement};
 ghost use Rattle.om_grassmann.specs.Statements.{IsLawful, AreTwo};
 ghost use Rattle.om_grassmann.specs.Sides as sides;
 ghost use Rattle.om_certificate.specs.Weights.{AreWeights, AreOfBrackets, IsMet, Compares, bracket_of, nonzero_brackets};
 ghost use Rattle.om_certificate.specs.Validity.{AreWeightsWithinLimits};
 ghost use Rattle.om_certificate.specs.Refusals.{IsFirstOtherBracket, IsFirstUnmet, IsWeightRefusal};
-ghost use Rattle.om_certificate.specs.Tables.{IsWeightTable, AreSmall, sum_at};
+ghost use Rattle.om_certificate.specs.Tables.{IsWeightTable, IsOfTriple, AreSmall, sum_at};
 
 use super::cert_refused::CertRefused;
 use super::room::ROOM;
@@ -83,23 +83,28 @@ fn first_other_bracket(chi: &Chirotope, weights: &[Weight]) -> Option<u32>
 
 /// Whether a weight is given to this bracket.
 fn is_weight_of(weight: Weight, bracket: Subset) -> bool
-    requires { length bracket.elements ≡ 3 }
+    requires size { length bracket.elements ≡ 3 }
+    requires lawful { IsSubsetFrom 1 bracket.n bracket.elements }
     ensures { IsTrue result ↔ (bracket.elements ≡ bracket_of weight) }
 {
-    1 <= weight.a
-        && weight.a < weight.b
-        && weight.b < weight.c
-        && weight.c <= bracket.n()
-        && bracket_set(weight, bracket.n()) == bracket
+    let n = bracket.n();
+    if !is_of_triple(weight, n) {
+        return false;
+    }
+    bracket_set(weight, n) == bracket
+}
+
+/// Whether a weight is given to three increasing elements of 1 to n.
+fn is_of_triple(weight: Weight, n: u8) -> bool
+    ensures { IsTrue result ↔ IsOfTriple n weight }
+{
+    1 <= weight.a && weight.a < weight.b && weight.b < weight.c && weight.c <= n
 }
 
 /// The bracket of a weight, as a set.
 fn bracket_set(weight: Weight, n: u8) -> Subset
     requires small { n ≤ MAX_PLACES }
-    requires a { 1 ≤ weight.a }
-    requires a_b { weight.a < weight.b }
-    requires b_c { weight.b < weight.c }
-    requires c { weight.c ≤ n }
+    requires increasing { IsOfTriple n weight }
     ensures { sides.IsTriple n (bracket_of weight) result }
 {
     Subset::first(0, n).with(weight.c).with(weight.b).with(weight.a)
@@ -155,7 +160,28 @@ fn is_met(n: u8, table: &[i128], st: Statement) -> bool
     ensures { IsTrue result ↔ Compares st.strict (sum_at n table.now st st.small) (sum_at n table.now st st.big) }
 {
     let (small_first, small_second, big_first, big_second) = sides(st, n);
-    let small = table[small_first.rank() as usize] + table[small_second.rank() as usize];
-    let big = table[big_first.rank() as usize] + table[big_second.rank() as usize];
-    if st.strict { small < big } else { small == big }
+    compares(
+        st.strict,
+        sum_of(table, small_first, small_second),
+        sum_of(table, big_first, big_second),
+    )
+}
+
+/// The sum of the weights of two brackets, by the table of the weights.
+fn sum_of(table: &[i128], first: Subset, second: Subset) -> i128
+    requires first { length first.elements ≡ 3 }
+    requires second { length second.elements ≡ 3 }
+    requires same { second.n ≡ first.n }
+    requires room { length table.now ≡ choose first.n 3 }
+    requires small { AreSmall table.now }
+    ensures { result ≡ slice_index_or table.now (rank_of first.n first.elements) (pos 0) +ℤ slice_index_or table.now (rank_of second.n second.elements) (pos 0) }
+{
+    table[first.rank() as usize] + table[second.rank() as usize]
+}
+
+/// Whether the sums over the two sides of a statement are as they should be.
+fn compares(strict: bool, small: i128, big: i128) -> bool
+    ensures { IsTrue result ↔ Compares strict small big }
+{
+    if strict { small < big } else { small == big }
 }
