@@ -7,3 +7,4 @@ pub mod Exclusion
 pub mod NonzeroBrackets
 pub mod Counting
 pub mod Reasons
+pub mod Filling

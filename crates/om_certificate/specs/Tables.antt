@@ -37,7 +37,7 @@ AreSmall table = (k : ℕ) → unsigned_abs (slice_index_or table k (pos 0)) ≤
 
 -- a table of the weights of all triples
 pub record IsWeightTable (n : ℕ) (ws : List Weight) (table : List ℤ) : Type 0 where
-  pub room : length table ≡ choose n 3
+  pub room : choose n 3 ≤ length table
   pub weights : (b : List ℕ) → IsTriple n b → slice_index_or table (rank_of n b) (pos 0) ≡ weight_of ws b
   pub small : AreSmall table
 

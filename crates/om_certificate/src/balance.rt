@@ -1,10 +1,10 @@
 //! The check of a list of entries as a certificate.
 
-ghost use Rattle.std.specs.Prelude.{ℕ, ◌≡◌, ◌+◌, ◌*◌, ◌<◌, ◌≤◌, ◌^◌, length, All, IfErr, OnOk, IfSome, IfNone, slice_index};
+ghost use Rattle.std.specs.Prelude.{ℕ, ◌≡◌, ◌+◌, ◌*◌, ◌<◌, ◌≤◌, ◌^◌, ◌↔◌, length, All, IfErr, OnOk, IfSome, IfNone, IsTrue, slice_index};
 ghost use Rattle.om_subsets.specs.Subsets.{choose, rank_of, subset_at};
 ghost use Rattle.om_vectors.specs.Realizations.{IsTriple};
 ghost use Rattle.om_grassmann.specs.Sides as sides;
-ghost use Rattle.om_certificate.specs.Certificates.{IsCertificate, AreLawful, times_among};
+ghost use Rattle.om_certificate.specs.Certificates.{IsCertificate, AreLawful, AreBalanced, HasStrict, times_among};
 ghost use Rattle.om_certificate.specs.Validity.{AreEntriesWithinLimits};
 ghost use Rattle.om_certificate.specs.Refusals.{IsFirstUnlawful, IsEntryRefusal};
 ghost use Rattle.om_certificate.specs.Tables.{AreCounts, IsRaised};
@@ -28,25 +28,19 @@ pub fn check_entries(chi: &Chirotope, entries: &[Entry]) -> Result<(), CertRefus
     if let Some(entry) = first_unlawful(chi, entries) {
         return Err(CertRefused::Unlawful { entry });
     }
-    let n = chi.elements();
-    let count = Subset::choose(n, 3) as usize;
-    let mut small_table = [0u128; ROOM];
-    let mut big_table = [0u128; ROOM];
-    let small = &mut small_table[..count];
-    let big = &mut big_table[..count];
-    count_brackets(chi, entries, small, big);
-    if let Some(place) = first_difference(small, big) {
-        return Err(CertRefused::Unbalanced {
-            bracket: Subset::unrank(place as u32, 3, n),
-            small: small[place],
-            big: big[place],
-        });
-    }
-    if entries.iter().any(|entry| entry.statement.strict) {
+    check_balance(chi, entries)?;
+    if has_strict(entries) {
         Ok(())
     } else {
         Err(CertRefused::NoStrict)
     }
+}
+
+/// Whether some entry is strict.
+fn has_strict(entries: &[Entry]) -> bool
+    ensures { IsTrue result ↔ HasStrict entries.now }
+{
+    entries.iter().any(|entry| entry.statement.strict)
 }
 
 /// The number, from 1, of the first entry whose statement isn't lawful.
@@ -63,13 +57,39 @@ fn first_unlawful(chi: &Chirotope, entries: &[Entry]) -> Option<u32>
     None
 }
 
+/// Whether each bracket stands equally often on both sides; else the first one that doesn't.
+fn check_balance(chi: &Chirotope, entries: &[Entry]) -> Result<(), CertRefused>
+    requires rank { chi.now.rank ≡ 3 }
+    requires part { 3 ≤ chi.now.elements }
+    requires limits { AreEntriesWithinLimits entries.now }
+    requires lawful { AreLawful chi.now entries.now }
+    ensures accepted { OnOk result (AreBalanced chi.now entries.now) }
+    ensures refused { IfErr result (IsEntryRefusal chi.now entries.now) }
+{
+    let n = chi.elements();
+    let mut small = [0u128; ROOM];
+    let mut big = [0u128; ROOM];
+    count_brackets(chi, entries, &mut small, &mut big);
+    for place in 0..Subset::choose(n, 3) {
+        let k = place as usize;
+        if small[k] != big[k] {
+            return Err(CertRefused::Unbalanced {
+                bracket: Subset::unrank(place, 3, n),
+                small: small[k],
+                big: big[k],
+            });
+        }
+    }
+    Ok(())
+}
+
 /// Counts how often each bracket stands on small and on big sides, from tables of zeros.
 fn count_brackets(chi: &Chirotope, entries: &[Entry], small: &mut [u128], big: &mut [u128])
     requires rank { chi.now.rank ≡ 3 }
     requires limits { AreEntriesWithinLimits entries.now }
     requires lawful { AreLawful chi.now entries.now }
-    requires small_room { length small.old ≡ choose chi.now.elements 3 }
-    requires big_room { length big.old ≡ choose chi.now.elements 3 }
+    requires small_room { choose chi.now.elements 3 ≤ length small.old }
+    requires big_room { choose chi.now.elements 3 ≤ length big.old }
     requires small_empty { All (λ k. k ≡ 0) small.old }
     requires big_empty { All (λ k. k ≡ 0) big.old }
     ensures { AreCounts chi.now.elements entries.now small.new big.new }
@@ -87,26 +107,10 @@ fn raise(table: &mut [u128], first: Subset, second: Subset, times: u64)
     requires first { length first.elements ≡ 3 }
     requires second { length second.elements ≡ 3 }
     requires same { second.n ≡ first.n }
-    requires room { length table.old ≡ choose first.n 3 }
+    requires room { choose first.n 3 ≤ length table.old }
     requires fits { (k : ℕ) → slice_index table.old k + 2 * times < 2 ^ 128 }
     ensures { IsRaised first.n (λ b. times_among b first.elements second.elements) times table.old table.new }
 {
     table[first.rank() as usize] += times as u128;
     table[second.rank() as usize] += times as u128;
-}
-
-/// The first place at which two tables differ.
-fn first_difference(small: &[u128], big: &[u128]) -> Option<usize>
-    requires { length small.now ≡ length big.now }
-    ensures none { IfNone result ((j : ℕ) → j < length small.now → slice_index small.now j ≡ slice_index big.now j) }
-    ensures within { IfSome result (λ k. k < length small.now) }
-    ensures differ { IfSome result (λ k. slice_index small.now k ≡ slice_index big.now k → ⊥) }
-    ensures before { IfSome result (λ k. (j : ℕ) → j < k → slice_index small.now j ≡ slice_index big.now j) }
-{
-    for k in 0..small.len() {
-        if small[k] != big[k] {
-            return Some(k);
-        }
-    }
-    None
 }

@@ -116,7 +116,7 @@ fn fill(chi: &Chirotope, weights: &[Weight], table: &mut [i128])
     requires part { 3 ≤ chi.now.elements }
     requires limits { AreWeightsWithinLimits weights.now }
     requires brackets { AreOfBrackets chi.now weights.now }
-    requires room { length table.old ≡ choose chi.now.elements 3 }
+    requires room { choose chi.now.elements 3 ≤ length table.old }
     requires empty { All (λ z. z ≡ pos 0) table.old }
     ensures { IsWeightTable chi.now.elements weights.now table.new }
 {
@@ -136,12 +136,11 @@ fn first_unmet(chi: &Chirotope, weights: &[Weight]) -> Option<Statement>
     ensures first { IfSome result (λ st. IsFirstUnmet chi.now weights.now st) }
 {
     let n = chi.elements();
-    let mut places = [0i128; ROOM];
-    let table = &mut places[..Subset::choose(n, 3) as usize];
-    fill(chi, weights, table);
+    let mut table = [0i128; ROOM];
+    fill(chi, weights, &mut table);
     let mut current = nth_statement(chi, 0);
     while let Some(st) = current {
-        if !is_met(n, table, st) {
+        if !is_met(n, &table, st) {
             return Some(st);
         }
         current = following(chi, st);
@@ -155,7 +154,7 @@ fn is_met(n: u8, table: &[i128], st: Statement) -> bool
     requires high { n ≤ MAX_ELEMENTS }
     requires distinct { sides.AreDistinct n st }
     requires two { AreTwo st.small st.big }
-    requires room { length table.now ≡ choose n 3 }
+    requires room { choose n 3 ≤ length table.now }
     requires small { AreSmall table.now }
     ensures { IsTrue result ↔ Compares st.strict (sum_at n table.now st st.small) (sum_at n table.now st st.big) }
 {
@@ -172,7 +171,7 @@ fn sum_of(table: &[i128], first: Subset, second: Subset) -> i128
     requires first { length first.elements ≡ 3 }
     requires second { length second.elements ≡ 3 }
     requires same { second.n ≡ first.n }
-    requires room { length table.now ≡ choose first.n 3 }
+    requires room { choose first.n 3 ≤ length table.now }
     requires small { AreSmall table.now }
     ensures { result ≡ slice_index_or table.now (rank_of first.n first.elements) (pos 0) +ℤ slice_index_or table.now (rank_of second.n second.elements) (pos 0) }
 {
