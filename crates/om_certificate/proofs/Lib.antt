@@ -8,3 +8,4 @@ pub mod NonzeroBrackets
 pub mod Counting
 pub mod Reasons
 pub mod Filling
+pub mod Walking

@@ -2,10 +2,11 @@
 
 ghost use Rattle.std.specs.Prelude.{ℕ, ◌≡◌, ◌+◌, ◌<◌, ◌≤◌, ◌↔◌, ◌+ℤ◌, pos, slice_index_or, length, All, IfErr, OnOk, IfSome, IfNone, IsTrue};
 ghost use Rattle.om_subsets.specs.Subsets.{choose, rank_of, IsSubsetFrom};
+ghost use Rattle.om_chirotope.specs.Map.{chi_of};
 ghost use Rattle.om_grassmann.specs.declared.statement.Statement.{Statement};
 ghost use Rattle.om_grassmann.specs.Statements.{IsLawful, AreTwo};
 ghost use Rattle.om_grassmann.specs.Sides as sides;
-ghost use Rattle.om_certificate.specs.Weights.{AreWeights, AreOfBrackets, IsMet, Compares, bracket_of, nonzero_brackets};
+ghost use Rattle.om_certificate.specs.Weights.{AreWeights, AreOfBrackets, IsMet, Compares, bracket_of, nonzero_brackets, is_nonzero};
 ghost use Rattle.om_certificate.specs.Validity.{AreWeightsWithinLimits};
 ghost use Rattle.om_certificate.specs.Refusals.{IsFirstOtherBracket, IsFirstUnmet, IsWeightRefusal};
 ghost use Rattle.om_certificate.specs.Tables.{IsWeightTable, IsOfTriple, AreSmall, sum_at};
@@ -51,11 +52,24 @@ fn count_nonzero(chi: &Chirotope) -> u32
     let n = chi.elements();
     let mut count = 0;
     for place in 0..Subset::choose(n, 3) {
-        if chi.at(Subset::unrank(place, 3, n)) != Sign::Zero {
+        if is_nonzero(chi, Subset::unrank(place, 3, n)) {
             count += 1;
         }
     }
     count
+}
+
+/// Whether a bracket isn't 0.
+fn is_nonzero(chi: &Chirotope, bracket: Subset) -> bool
+    requires rank { chi.now.rank ≡ 3 }
+    requires n { bracket.n ≡ chi.now.elements }
+    requires size { length bracket.elements ≡ 3 }
+    ensures { result ≡ is_nonzero (chi_of chi.now bracket.elements) }
+{
+    match chi.at(bracket) {
+        Sign::Zero => false,
+        _ => true,
+    }
 }
 
 /// The number, from 1, of the first weight that isn't that of the nonzero bracket of its place.
@@ -71,7 +85,7 @@ fn first_other_bracket(chi: &Chirotope, weights: &[Weight]) -> Option<u32>
     let mut next = 0usize;
     for place in 0..Subset::choose(n, 3) {
         let bracket = Subset::unrank(place, 3, n);
-        if chi.at(bracket) != Sign::Zero {
+        if is_nonzero(chi, bracket) {
             if !is_weight_of(weights[next], bracket) {
                 return Some(next as u32 + 1);
             }

@@ -26,8 +26,8 @@ bounds-big-k c = let r = triples_room c.elements-n.result c.elements-n.ensures.h
 pub returns-then-small-k-clause-refused : goal.returns-then-small-k-clause-refused
 returns-then-small-k-clause-refused c =
     unbalanced_refused c.args.chi.now c.args.entries.now c.count_brackets.new.small c.count_brackets.new.big c.loop-place.place c.unrank.result (c.requires.lawful) c.count_brackets.ensures (c.unrank.ensures.n ∙ c.elements-n.ensures.value)
-    (record { list = subst (λ n. IsSubsetFrom 1 n c.unrank.result.elements) (c.unrank.ensures.n ∙ c.elements-n.ensures.value) c.unrank.ensures.lawful; size = c.unrank.ensures.size })
-    (ap (λ n. rank_of n c.unrank.result.elements) (sym (c.unrank.ensures.n ∙ c.elements-n.ensures.value)) ∙ ?)
+    (record { list = subst (λ n. IsSubsetFrom 1 n c.unrank.result.elements) c.elements-n.ensures.value c.unrank.ensures.lawful; size = c.unrank.ensures.size })
+    (ap (λ n. rank_of n c.unrank.result.elements) (sym c.elements-n.ensures.value) ∙ c.unrank.ensures.place)
     c.if-small-k.true c.loop-place.invariant
 
 pub returns-clause-accepted : goal.returns-clause-accepted
