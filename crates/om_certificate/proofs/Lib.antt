@@ -9,3 +9,4 @@ pub mod Counting
 pub mod Reasons
 pub mod Filling
 pub mod Walking
+pub mod Refusing

@@ -1,4 +1,5 @@
 use Rattle.std.proofs.Common.{◌≤◌, ◌-◌, ◌≡◌, length, ◌∙◌, ap, sym, subst, arith, pos}
+use Rattle.std.proofs.Math.ListN.{get_or}
 use Rattle.om_subsets.specs.Subsets.{choose, rank_of}
 use Rattle.om_certificate.specs.declared.weight.Weight.{Weight}
 use Rattle.om_certificate.specs.Tables.{IsOfTriple}
@@ -13,8 +14,8 @@ loop-i-init c = none_filled c.args.chi.now.elements c.args.weights.now (length c
 
 pub bracket_set-requires-clause-increasing : goal.bracket_set-requires-clause-increasing
 bracket_set-requires-clause-increasing c =
-    subst (λ n. IsOfTriple n _) (sym c.elements.ensures.value)
-    (is_of_triple c.args.chi.now.elements _ (weight_triple c.args.chi.now c.args.weights.now (length c.args.weights.now - 1 - c.loop-i.i) no_weight c.requires.brackets (let l = c.loop-i-test.true in omega arith)))
+    subst (λ n. IsOfTriple n (get_or c.args.weights.now (length c.args.weights.now - 1 - c.loop-i.i) no_weight)) (sym c.elements.ensures.value)
+    (is_of_triple c.args.chi.now.elements (get_or c.args.weights.now (length c.args.weights.now - 1 - c.loop-i.i) no_weight) (weight_triple c.args.chi.now c.args.weights.now (length c.args.weights.now - 1 - c.loop-i.i) no_weight c.requires.brackets (let l = c.loop-i-test.true in omega arith)))
 
 pub loop-i-preserved : goal.loop-i-preserved
 loop-i-preserved c =
