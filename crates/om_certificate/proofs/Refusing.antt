@@ -27,8 +27,9 @@ use Rattle.om_certificate.specs.declared.cert_refused.CertRefused.{CertRefused}
 use Rattle.om_certificate.specs.declared.cert_refused.CertRefused.TheVariants.{NotRank3, Number, WrongSign, Unlawful, Unbalanced, NoStrict, Bracket, WeightFails}
 use Rattle.om_certificate.specs.Certificates.{small_times, big_times, AreLawful, HasStrict, IsCertificate}
 use Rattle.om_certificate.specs.Weights.{bracket_of, nonzero_brackets, AreOfBrackets, IsMet, AreWeights}
-use Rattle.om_certificate.specs.Validity.{IsValid}
+use Rattle.om_certificate.specs.Validity.{IsValid, Shows}
 use Rattle.om_certificate.specs.Refusals.{IsFirstUnlawful, IsFirstUnbalanced, IsFirstOtherBracket, IsFirstUnmet, IsVectorRefusal, number_of_vectors, wrong_sign, IsEntryRefusal, unlawful, unbalanced, no_strict, IsWeightRefusal, number_of_weights, bracket, weight_fails, IsRefusalOf, IsRefusal, not_rank_3, of_rank_3}
+use Rattle.om_certificate.proofs.Exclusion.{certificate_excludes, weights_exclude}
 use Rattle.om_certificate.proofs.Triples.{same_triple, triple_elements}
 
 -- ---- the first of its kind
@@ -183,3 +184,37 @@ settled_refused m evidence (Err w) a e why = (λ q. subst (IsRefusal m evidence)
   where
     same : (x y : CertRefused) → (let r : Result (Unit {0}) CertRefused = Err x in r ≡ Err y) → x ≡ y
     same x y q = cc
+
+-- ---- the answers on a map of rank 3, on evidence that was matched
+
+lifted : (m : SignMap) (evidence : Evidence) (r : Result (Unit {0}) CertRefused) → m.rank ≡ 3 → IfErr r (IsRefusalOf m evidence) → IfErr r (IsRefusal m evidence)
+lifted m evidence (Ok u) q f = f
+lifted m evidence (Err why) q f = of_rank_3 why q f
+
+shows : (m : SignMap) (evidence : Evidence) → IsValid m evidence → Shows m evidence
+shows m (Vectors vs) v = v
+shows m (Balanced es) v = certificate_excludes m es v
+shows m (Weights ws) v = weights_exclude m ws v
+
+module _ (m : SignMap) (evidence matched : Evidence) (e : evidence ≡ matched) (r : Result (Unit {0}) CertRefused) (q : m.rank ≡ 3) (a : OnOk r (IsValid m matched)) (f : IfErr r (IsRefusalOf m matched)) where
+  valid : OnOk r (IsValid m evidence)
+  valid = subst (λ x. OnOk r (IsValid m x)) (sym e) a
+
+  refusal : IfErr r (IsRefusal m evidence)
+  refusal = subst (λ x. IfErr r (IsRefusal m x)) (sym e) (lifted m matched r q f)
+
+  pub matched_accepted : IsOk r ↔ IsValid m evidence
+  matched_accepted = settled_accepted m evidence r valid refusal
+
+  pub matched_refused : (why : CertRefused) → (r ≡ Err why) ↔ IsRefusal m evidence why
+  matched_refused = settled_refused m evidence r valid refusal
+
+  pub matched_shown : OnOk r (Shows m evidence)
+  matched_shown = go r valid
+    where
+      go : (r : Result (Unit {0}) CertRefused) → OnOk r (IsValid m evidence) → OnOk r (Shows m evidence)
+      go (Ok u) v = shows m evidence v
+      go (Err why) v = v
+
+pub rank_refused : (m : SignMap) (evidence : Evidence) (rank : ℕ) → rank ≡ m.rank → m.rank ≢ 3 → IsRefusal m evidence (NotRank3 rank)
+rank_refused m evidence rank e n = rw e (not_rank_3 n)
