@@ -1,0 +1,12 @@
+pub mod Combinations
+pub mod Tallies
+pub mod Orders
+pub mod Sizes
+pub mod Triples
+pub mod Exclusion
+pub mod NonzeroBrackets
+pub mod Counting
+pub mod Reasons
+pub mod Filling
+pub mod Walking
+pub mod Refusing

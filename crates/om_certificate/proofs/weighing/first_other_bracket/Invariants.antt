@@ -1,0 +1,5 @@
+use Rattle.om_certificate.proofs.NonzeroBrackets.{IsMatching}
+use Rattle.om_certificate.proofs.weighing.first_other_bracket.Given as goal
+
+abbrev pub invariant-loop-place : goal.invariant-loop-place
+invariant-loop-place l = IsMatching l.chi l.weights l.next l.place

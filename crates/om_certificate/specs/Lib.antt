@@ -1,0 +1,6 @@
+pub mod Certificates
+pub mod Weights
+pub mod Validity
+pub mod Refusals
+pub mod Tables
+pub mod Verdicts

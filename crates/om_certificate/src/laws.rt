@@ -1,0 +1,35 @@
+//! What the words of the crate's contracts come to. A law is a function that does nothing: its contract is the law.
+
+ghost use Rattle.std.specs.Prelude.{◌≡◌, List};
+ghost use Rattle.om_chirotope.specs.Map.{SignMap};
+ghost use Rattle.om_certificate.specs.declared.entry.Entry.{Entry};
+ghost use Rattle.om_certificate.specs.declared.weight.Weight.{Weight};
+ghost use Rattle.om_certificate.specs.declared.evidence.Evidence.{Evidence};
+ghost use Rattle.om_certificate.specs.declared.cert_refused.CertRefused.{CertRefused};
+ghost use Rattle.om_certificate.specs.Certificates.{IsCertificate};
+ghost use Rattle.om_certificate.specs.Weights.{AreWeights};
+ghost use Rattle.om_certificate.specs.Validity.{IsValid, IsUnrealizable, HasNoCertificate};
+ghost use Rattle.om_certificate.specs.Refusals.{IsRefusal};
+
+/// No list of vectors of whole numbers, of any size, realizes a map that has a certificate: with such vectors the product
+/// of the sizes of the brackets on the small sides would be less than that on the big sides, and both are products of the
+/// same brackets.
+///
+/// Source: Bokowski and Richter-Gebert, *On the finding of final polynomials*, 1990.
+pub fn certificates_exclude_vectors()
+    ensures { (m : SignMap) (es : List Entry) → IsCertificate m es → IsUnrealizable m }
+{}
+
+/// A map that has weights has no certificate: the sum of the weights of the brackets on the small sides would be less than
+/// that on the big sides, and both are sums over the same brackets.
+///
+/// Source: Bokowski and Richter-Gebert, *On the finding of final polynomials*, 1990.
+pub fn weights_exclude_certificates()
+    ensures { (m : SignMap) (ws : List Weight) → AreWeights m ws → HasNoCertificate m }
+{}
+
+/// Evidence is refused for one reason at most, and for none where it is valid.
+pub fn one_refusal()
+    ensures one { (m : SignMap) (evidence : Evidence) (why other : CertRefused) → IsRefusal m evidence why → IsRefusal m evidence other → why ≡ other }
+    ensures none { (m : SignMap) (evidence : Evidence) (why : CertRefused) → IsRefusal m evidence why → IsValid m evidence → ⊥ }
+{}

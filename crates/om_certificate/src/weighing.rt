@@ -1,0 +1,200 @@
+//! The check of a list of weights.
+
+ghost use Rattle.std.specs.Prelude.{ℕ, ◌≡◌, ◌+◌, ◌<◌, ◌≤◌, ◌↔◌, ◌+ℤ◌, pos, slice_index_or, length, All, IfErr, OnOk, IfSome, IfNone, IsTrue};
+ghost use Rattle.om_subsets.specs.Subsets.{choose, rank_of, IsSubsetFrom};
+ghost use Rattle.om_chirotope.specs.Map.{chi_of};
+ghost use Rattle.om_grassmann.specs.declared.statement.Statement.{Statement};
+ghost use Rattle.om_grassmann.specs.Statements.{IsLawful, AreTwo};
+ghost use Rattle.om_grassmann.specs.Sides as sides;
+ghost use Rattle.om_certificate.specs.Weights.{AreWeights, AreOfBrackets, IsMet, Compares, bracket_of, nonzero_brackets, is_nonzero};
+ghost use Rattle.om_certificate.specs.Validity.{AreWeightsWithinLimits};
+ghost use Rattle.om_certificate.specs.Refusals.{IsFirstOtherBracket, IsFirstUnmet, IsWeightRefusal};
+ghost use Rattle.om_certificate.specs.Tables.{IsWeightTable, IsOfTriple, AreSmall, sum_at};
+
+use super::cert_refused::CertRefused;
+use super::room::ROOM;
+use super::weight::Weight;
+use om_chirotope::Chirotope;
+use om_grassmann::{Statement, following, nth_statement, sides};
+use om_signs::{MAX_ELEMENTS, MAX_ENTRIES, MAX_PLACES, Sign};
+use om_subsets::Subset;
+
+/// Whether weights are those of the nonzero brackets, and every lawful statement is met.
+pub fn check_weights(chi: &Chirotope, weights: &[Weight]) -> Result<(), CertRefused>
+    requires rank { chi.now.rank ≡ 3 }
+    requires part { 3 ≤ chi.now.elements }
+    requires limits { AreWeightsWithinLimits weights.now }
+    ensures accepted { OnOk result (AreWeights chi.now weights.now) }
+    ensures refused { IfErr result (IsWeightRefusal chi.now weights.now) }
+{
+    let wanted = count_nonzero(chi);
+    if weights.len() != wanted as usize {
+        return Err(CertRefused::Number {
+            wanted,
+            given: weights.len() as u32,
+        });
+    }
+    if let Some(entry) = first_other_bracket(chi, weights) {
+        return Err(CertRefused::Bracket { entry });
+    }
+    match first_unmet(chi, weights) {
+        None => Ok(()),
+        Some(statement) => Err(CertRefused::WeightFails { statement }),
+    }
+}
+
+/// The number of nonzero brackets.
+fn count_nonzero(chi: &Chirotope) -> u32
+    requires rank { chi.now.rank ≡ 3 }
+    requires part { 3 ≤ chi.now.elements }
+    ensures { result ≡ length (nonzero_brackets chi.now) }
+{
+    let n = chi.elements();
+    let mut count = 0;
+    for place in 0..Subset::choose(n, 3) {
+        if is_nonzero(chi, Subset::unrank(place, 3, n)) {
+            count += 1;
+        }
+    }
+    count
+}
+
+/// Whether a bracket isn't 0.
+fn is_nonzero(chi: &Chirotope, bracket: Subset) -> bool
+    requires rank { chi.now.rank ≡ 3 }
+    requires n { bracket.n ≡ chi.now.elements }
+    requires size { length bracket.elements ≡ 3 }
+    ensures { result ≡ is_nonzero (chi_of chi.now bracket.elements) }
+{
+    match chi.at(bracket) {
+        Sign::Zero => false,
+        _ => true,
+    }
+}
+
+/// The number, from 1, of the first weight that isn't that of the nonzero bracket of its place.
+fn first_other_bracket(chi: &Chirotope, weights: &[Weight]) -> Option<u32>
+    requires rank { chi.now.rank ≡ 3 }
+    requires part { 3 ≤ chi.now.elements }
+    requires number { length weights.now ≡ length (nonzero_brackets chi.now) }
+    requires few { length weights.now ≤ MAX_ENTRIES }
+    ensures none { IfNone result (AreOfBrackets chi.now weights.now) }
+    ensures first { IfSome result (λ k. IsFirstOtherBracket chi.now weights.now k) }
+{
+    let n = chi.elements();
+    let mut next = 0usize;
+    for place in 0..Subset::choose(n, 3) {
+        let bracket = Subset::unrank(place, 3, n);
+        if is_nonzero(chi, bracket) {
+            if !is_weight_of(weights[next], bracket) {
+                return Some(next as u32 + 1);
+            }
+            next += 1;
+        }
+    }
+    None
+}
+
+/// Whether a weight is given to this bracket.
+fn is_weight_of(weight: Weight, bracket: Subset) -> bool
+    requires size { length bracket.elements ≡ 3 }
+    requires lawful { IsSubsetFrom 1 bracket.n bracket.elements }
+    ensures { IsTrue result ↔ (bracket.elements ≡ bracket_of weight) }
+{
+    let n = bracket.n();
+    if !is_of_triple(weight, n) {
+        return false;
+    }
+    bracket_set(weight, n) == bracket
+}
+
+/// Whether a weight is given to three increasing elements of 1 to n.
+fn is_of_triple(weight: Weight, n: u8) -> bool
+    ensures { IsTrue result ↔ IsOfTriple n weight }
+{
+    1 <= weight.a && weight.a < weight.b && weight.b < weight.c && weight.c <= n
+}
+
+/// The bracket of a weight, as a set.
+fn bracket_set(weight: Weight, n: u8) -> Subset
+    requires small { n ≤ MAX_PLACES }
+    requires increasing { IsOfTriple n weight }
+    ensures { sides.IsTriple n (bracket_of weight) result }
+{
+    Subset::first(0, n).with(weight.c).with(weight.b).with(weight.a)
+}
+
+/// Writes the weights into a table of zeros, each at the place of its bracket.
+fn fill(chi: &Chirotope, weights: &[Weight], table: &mut [i128])
+    requires rank { chi.now.rank ≡ 3 }
+    requires part { 3 ≤ chi.now.elements }
+    requires limits { AreWeightsWithinLimits weights.now }
+    requires brackets { AreOfBrackets chi.now weights.now }
+    requires room { choose chi.now.elements 3 ≤ length table.old }
+    requires empty { All (λ z. z ≡ pos 0) table.old }
+    ensures { IsWeightTable chi.now.elements weights.now table.new }
+{
+    for i in 0..weights.len() {
+        let weight = weights[weights.len() - 1 - i];
+        table[bracket_set(weight, chi.elements()).rank() as usize] = weight.value;
+    }
+}
+
+/// The first lawful statement that isn't met.
+fn first_unmet(chi: &Chirotope, weights: &[Weight]) -> Option<Statement>
+    requires rank { chi.now.rank ≡ 3 }
+    requires part { 3 ≤ chi.now.elements }
+    requires limits { AreWeightsWithinLimits weights.now }
+    requires brackets { AreOfBrackets chi.now weights.now }
+    ensures none { IfNone result ((st : Statement) → IsLawful chi.now st → IsMet weights.now st) }
+    ensures first { IfSome result (λ st. IsFirstUnmet chi.now weights.now st) }
+{
+    let n = chi.elements();
+    let mut table = [0i128; ROOM];
+    fill(chi, weights, &mut table);
+    let mut current = nth_statement(chi, 0);
+    while let Some(st) = current {
+        if !is_met(n, &table, st) {
+            return Some(st);
+        }
+        current = following(chi, st);
+    }
+    None
+}
+
+/// Whether a lawful statement is met, by the table of the weights.
+fn is_met(n: u8, table: &[i128], st: Statement) -> bool
+    requires low { 1 ≤ n }
+    requires high { n ≤ MAX_ELEMENTS }
+    requires distinct { sides.AreDistinct n st }
+    requires two { AreTwo st.small st.big }
+    requires room { choose n 3 ≤ length table.now }
+    requires small { AreSmall table.now }
+    ensures { IsTrue result ↔ Compares st.strict (sum_at n table.now st st.small) (sum_at n table.now st st.big) }
+{
+    let (small_first, small_second, big_first, big_second) = sides(st, n);
+    compares(
+        st.strict,
+        sum_of(table, small_first, small_second),
+        sum_of(table, big_first, big_second),
+    )
+}
+
+/// The sum of the weights of two brackets, by the table of the weights.
+fn sum_of(table: &[i128], first: Subset, second: Subset) -> i128
+    requires first { length first.elements ≡ 3 }
+    requires second { length second.elements ≡ 3 }
+    requires same { second.n ≡ first.n }
+    requires room { choose first.n 3 ≤ length table.now }
+    requires small { AreSmall table.now }
+    ensures { result ≡ slice_index_or table.now (rank_of first.n first.elements) (pos 0) +ℤ slice_index_or table.now (rank_of second.n second.elements) (pos 0) }
+{
+    table[first.rank() as usize] + table[second.rank() as usize]
+}
+
+/// Whether the sums over the two sides of a statement are as they should be.
+fn compares(strict: bool, small: i128, big: i128) -> bool
+    ensures { IsTrue result ↔ Compares strict small big }
+{
+    if strict { small < big } else { small == big }
+}
