@@ -6,6 +6,8 @@ mod block_lines;
 mod block_reader;
 mod claim;
 mod claim_reader;
+#[cfg(test)]
+mod claim_tests;
 mod numbers;
 mod range;
 
