@@ -1,1 +1,9 @@
 mod Elements
+pub mod NumberLaws
+pub mod Readings
+pub mod BlockForms
+pub mod BlockCourse
+pub mod BlockFaults
+pub mod BlockRuns
+pub mod ClaimCourse
+pub mod ClaimReading

@@ -1,15 +1,27 @@
-//! The texts that the program prints.
+//! The texts that the program prints, and the claims that it reads back.
 //!
-//! A [`Line`] is an answer of one line, and [`print_line`] gives its text.
+//! A [`Line`] is an answer of one line, and [`print_line`] gives its text. A [`Claim`] is a document with a verdict on its
+//! chirotope, and [`read_claim`] reads one.
 #![tactic(auto)]
 
+mod block;
+mod block_lines;
+mod block_reader;
+mod claim;
+mod claim_reader;
+#[cfg(test)]
+mod claim_tests;
 mod fields;
 mod kind;
 mod line;
+mod numbers;
+mod range;
 #[cfg(test)]
 mod tests;
 mod texts;
 
+pub use claim::Claim;
+pub use claim_reader::read_claim;
 pub use kind::Kind;
 pub use line::Line;
 pub use texts::print_line;

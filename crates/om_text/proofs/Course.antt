@@ -182,7 +182,7 @@ body_rows head d ls w c s l m r h =
 end_rows : (head d : Document) (ls : List (List (List ℕ))) (w : List (List ℕ)) (c : Code) → is_complete d ≡ is_complete (filled head ls) → after_end d ≡ Err c → first_of (table («end» head ls) w) ≡ Some c
 end_rows head d ls w c e h = rw (← e) (rows_not (is_complete d) code.Few c (Ok (Closed d)) (None ∷ []) (no_error _ c (None ∷ [])) h)
 
-no_end : (head : Document) (ls : List (List (List ℕ))) → list_all (is_body_line head) ls ≡ true → list_any (λ l. is_line l end_line) ls ≡ false
+pub no_end : (head : Document) (ls : List (List (List ℕ))) → list_all (is_body_line head) ls ≡ true → list_any (λ l. is_line l end_line) ls ≡ false
 no_end head [] h = refl
 no_end head (l ∷ ls) h =
     let a = both (is_body_line head l) (list_all (is_body_line head) ls) h in

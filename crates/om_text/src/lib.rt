@@ -28,3 +28,4 @@ pub use laws::{
 pub use parse_error::ParseError;
 pub use printer::print;
 pub use reader::{parse, parse_part};
+pub use refusal::Refusal;

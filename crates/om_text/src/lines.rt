@@ -6,6 +6,7 @@
 ghost use Rattle.std.specs.Prelude.{◌≡◌, ◌+◌, ◌<◌, ◌≤◌, ◌∷◌, [], length, nat_eq, not, ◌||◌, MatchOption, IfSome, bytes_eq};
 ghost use Rattle.std.specs.List.{position, position_or_len, list_all};
 ghost use Rattle.om_text.specs.Lines.{lines, IsSplit, uncommented, runs, is_blank, has_any};
+ghost use Rattle.om_text.specs.Document.{is_line};
 
 /// Whether a word has these bytes.
 pub fn same(word: &[u8], text: &[u8]) -> bool
@@ -111,4 +112,14 @@ pub fn has_no_words(line: &[u8]) -> bool
     ensures { result ≡ not (has_any (runs line.now)) }
 {
     is_all_blank(line)
+}
+
+/// Whether a line without a comment has this word and no other.
+pub fn is_only_word(line: &[u8], word: &[u8]) -> bool
+    ensures { result ≡ is_line (runs line.now) (word.now ∷ []) }
+{
+    match first_word(line) {
+        Some((first, rest)) => same(first, word) && has_no_words(rest),
+        None => false,
+    }
 }

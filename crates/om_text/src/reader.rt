@@ -17,21 +17,12 @@ use super::body_lines::{has_length_line, has_numbers_line, has_signs_line, with_
 use super::code::Code;
 use super::document::Document;
 use super::kind::kind_line;
-use super::lines::{before_comment, first_line, first_word, has_no_words, same};
+use super::lines::{before_comment, first_line, first_word, has_no_words, is_only_word, same};
 use super::parse_error::ParseError;
 use super::refusal::Refusal;
 use super::state::State;
 use om_subsets::Subset;
 use std::alloc::Global;
-
-fn is_only_word(line: &[u8], word: &[u8]) -> bool
-    ensures { result ≡ is_line (runs line.now) (word.now ∷ []) }
-{
-    match first_word(line) {
-        Some((first, rest)) => same(first, word) && has_no_words(rest),
-        None => false,
-    }
-}
 
 fn is_end(line: &[u8]) -> bool
     ensures { result ≡ is_line (runs line.now) end_line }

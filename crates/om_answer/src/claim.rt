@@ -1,0 +1,11 @@
+use om_certificate::Verdict;
+use om_text::Document;
+
+/// A document and what is claimed of its chirotope.
+#[derive(Drop)]
+pub struct Claim {
+    /// The document.
+    pub document: Document,
+    /// The verdict with its evidence.
+    pub verdict: Verdict,
+}

@@ -1,0 +1,45 @@
+//! Reading a claim: a document and then a verdict block.
+
+ghost use Rattle.std.specs.Prelude.{◌≡◌, ℕ, ◌*◌, ◌+◌, ◌-◌, ◌≤◌, ◌^◌, length, IfOk};
+ghost use Rattle.om_text.specs.declared.code.Code.{Code};
+ghost use Rattle.om_text.specs.Lines.{lines};
+ghost use Rattle.om_text.specs.Parsed.{ComesTo, IfLine};
+ghost use Rattle.om_text.specs.Form.{IsInForm};
+ghost use Rattle.om_answer.specs.declared.claim.Claim.{Claim};
+ghost use Rattle.om_answer.specs.Claim.{IsClaim};
+ghost use Rattle.om_answer.specs.ClaimFault.{IsClaimFault};
+
+use super::block_reader::read_block;
+use super::claim::Claim;
+use om_text::{ParseError, parse_part};
+use std::alloc::Global;
+
+/// Reads a claim: a document, and then the verdict block of what is claimed of its chirotope.
+///
+/// After the document's line `end` comes a line with one of the words `realizable`, `nonrealizable`, `undecided` and
+/// `limit`, then the lines of this verdict, and `end`. Only lines without words may follow.
+///
+/// # Errors
+///
+/// [`ParseError::Line`] exactly where the bytes are no claim within the limits: `line` is the first line after which no
+/// claim goes on, with its code. The end of the input counts as the line after the last one. [`ParseError::Memory`] where
+/// memory ran out.
+pub fn read_claim(alloc: Global, bytes: &[u8]) -> Result<Claim, ParseError>
+    requires { length bytes.now ≤ 2 ^ 32 - 2 }
+    // What is read is a claim, with this value.
+    ensures claim { IfOk result (λ c. IsClaim (lines bytes.now) c) }
+    // A claim is read, unless memory runs out.
+    ensures every { (c : Claim) → IsClaim (lines bytes.now) c → ComesTo result (Ok c) }
+    // The line that is named is the first at fault, with its code.
+    ensures fault { IfLine result (IsClaimFault (lines bytes.now)) }
+    // A fault is named, unless memory runs out.
+    ensures first { (line : ℕ) (code : Code) → IsClaimFault (lines bytes.now) line code → ComesTo result (Err (line, code)) }
+{
+    match parse_part(alloc, bytes) {
+        Ok((document, len, line)) => match read_block(alloc, &bytes[len..], line) {
+            Ok(verdict) => Ok(Claim { document, verdict }),
+            Err(error) => Err(error),
+        },
+        Err(error) => Err(error),
+    }
+}

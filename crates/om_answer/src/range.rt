@@ -1,0 +1,8 @@
+/// Which numbers may stand at a place of a line.
+#[derive(Clone, Copy, Debug, PartialEq, Eq)]
+pub enum Range {
+    /// Decimal digits, for a number from the first to the second one.
+    Between(u64, u64),
+    /// Decimal digits, with or without a minus sign before them, for a number of a size up to this one.
+    UpToSize(u128),
+}
