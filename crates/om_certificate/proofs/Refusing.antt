@@ -38,16 +38,16 @@ chosen_same : (s t : Chosen) → s.n ≡ t.n → s.elements ≡ t.elements → s
 chosen_same s t e f = ap (λ k. record { n = k; elements = s.elements }) e ∙ ap (λ xs. record { n = t.n; elements = xs }) f
 
 first_triple :
-  (n : ℕ) (P : List ℕ → Type 0) (s t : Chosen)
-  → s.n ≡ n
-  → t.n ≡ n
-  → IsTriple n s.elements
-  → IsTriple n t.elements
-  → (P s.elements → ⊥)
-  → (P t.elements → ⊥)
-  → ((b : List ℕ) → IsTriple n b → lists.IsBefore b s.elements → P b)
-  → ((b : List ℕ) → IsTriple n b → lists.IsBefore b t.elements → P b)
-  → s ≡ t
+    (n : ℕ) (P : List ℕ → Type 0) (s t : Chosen)
+    → s.n ≡ n
+    → t.n ≡ n
+    → IsTriple n s.elements
+    → IsTriple n t.elements
+    → (P s.elements → ⊥)
+    → (P t.elements → ⊥)
+    → ((b : List ℕ) → IsTriple n b → lists.IsBefore b s.elements → P b)
+    → ((b : List ℕ) → IsTriple n b → lists.IsBefore b t.elements → P b)
+    → s ≡ t
 first_triple n P s t e f hs ht ns nt fs ft = elim (cases_order (rank_of n s.elements) (rank_of n t.elements)) [
   | inl q ↦ chosen_same s t (e ∙ sym f) (same_triple n s.elements t.elements hs ht q)
   | inr (inl l) ↦ absurd (ns (ft s.elements hs ((lexicographic 1 n s.elements t.elements hs.list ht.list (hs.size ∙ sym ht.size)).1 l)))
