@@ -1,8 +1,8 @@
 -- Tables of how often each triple stands on a side.
 --
 -- Main results: raised, what two additions do to a table; none_counted and one_counted, the start and the step of the count.
-use Rattle.std.specs.Prelude.{ℕ, ◌≡◌, ◌≢◌, ◌+◌, ◌*◌, ◌<◌, ◌≤◌, ◌^◌, List, length, take, cond, nat_eq, sum_by, All, slice_index}
-use Rattle.std.proofs.Common.{refl, sym, ◌∙◌, ap, subst, arith, inl, inr, zero, suc, ◌⊎◌}
+use Rattle.std.specs.Prelude.{ℕ, ◌≡◌, ◌+◌, ◌*◌, ◌<◌, ◌≤◌, ◌^◌, List, length, take, cond, nat_eq, sum_by, All}
+use Rattle.std.proofs.Common.{refl, sym, ◌∙◌, ap, subst, arith, inl, inr}
 use Rattle.std.proofs.Math.ListN.{get_or, set}
 use Rattle.std.proofs.lemmas.Bool.{cases_eq, eq-eqb, ne_eqb, cases_lt}
 use Rattle.std.proofs.lemmas.List.{get_or-set_same, get_or-set_other, length-set, get_or_past}
@@ -13,7 +13,7 @@ use Rattle.om_subsets.specs.Members.{Chosen}
 use Rattle.om_grassmann.specs.Sides as sides
 use Rattle.om_vectors.specs.Realizations.{IsTriple}
 use Rattle.om_certificate.specs.declared.entry.Entry.{Entry}
-use Rattle.om_certificate.specs.Certificates.{times_among, times_in, is_same, small_times, big_times}
+use Rattle.om_certificate.specs.Certificates.{times_among, times_in, is_same}
 use Rattle.om_certificate.specs.Tables.{AreCounts, IsRaised}
 use Rattle.om_certificate.proofs.Combinations.{here}
 use Rattle.om_certificate.proofs.Triples.{place_below, same-place}

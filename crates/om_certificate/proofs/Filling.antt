@@ -1,7 +1,7 @@
 -- The table of the weights of all triples.
 --
 -- Main results: none_filled and one_filled, the start and the step of filling it from the last weight on.
-use Rattle.std.specs.Prelude.{ℕ, ◌≡◌, ◌≢◌, ◌+◌, ◌-◌, ◌<◌, ◌≤◌, ℤ, pos, List, [], ◌∷◌, length, map, drop, cond, nat_eq, All, unsigned_abs, slice_index_or}
+use Rattle.std.specs.Prelude.{ℕ, ◌≡◌, ◌≢◌, ◌+◌, ◌-◌, ◌<◌, ◌≤◌, ℤ, pos, List, [], ◌∷◌, length, map, drop, All, unsigned_abs}
 use Rattle.std.proofs.Common.{refl, sym, ◌∙◌, ap, subst, arith, inl, inr, ◌⊎◌, zero, suc}
 use Rattle.std.proofs.Math.ListN.{get_or, set}
 use Rattle.std.proofs.lemmas.Bool.{cases_eq, eq-eqb, ne_eqb, cases_lt}
@@ -15,8 +15,7 @@ use Rattle.om_subsets.specs.Subsets.{choose, rank_of}
 use Rattle.om_chirotope.specs.Map.{SignMap}
 use Rattle.om_vectors.specs.Realizations.{IsTriple}
 use Rattle.om_certificate.specs.declared.weight.Weight.{Weight}
-use Rattle.om_certificate.specs.Certificates.{is_same}
-use Rattle.om_certificate.specs.Weights.{bracket_of, weight_of, nonzero_brackets, AreOfBrackets}
+use Rattle.om_certificate.specs.Weights.{bracket_of, weight_of, AreOfBrackets}
 use Rattle.om_certificate.specs.Tables.{IsWeightTable, AreSmall, IsOfTriple}
 use Rattle.om_certificate.proofs.NonzeroBrackets.{bracket_triples}
 use Rattle.om_certificate.proofs.Triples.{place_below, same-place, triple_elements}

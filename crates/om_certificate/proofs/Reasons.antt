@@ -7,13 +7,12 @@ use Rattle.om_certificate.specs.declared.entry.Entry.{Entry}
 use Rattle.om_certificate.specs.Certificates.{AreBalanced, AreLawful, small_times, big_times}
 use Rattle.om_certificate.specs.Refusals.{IsFirstUnbalanced, IsEntryRefusal, unbalanced}
 use Rattle.om_certificate.proofs.Triples.{place_below}
-use Rattle.std.proofs.Common.{refl, sym, ◌∙◌, ap, subst, arith}
+use Rattle.std.proofs.Common.{sym, ◌∙◌, ap, subst, arith}
 use Rattle.om_subsets.specs.Members.{Chosen}
 use Rattle.om_chirotope.specs.Map.{SignMap}
 use Rattle.om_vectors.specs.WholeVectors.{WholeVector}
-use Rattle.om_vectors.specs.Realizations.{IsFirstOther}
-use Rattle.om_certificate.specs.declared.cert_refused.CertRefused.TheVariants.{NotRank3, Number, WrongSign, Unlawful, Unbalanced, NoStrict, Bracket, WeightFails}
-use Rattle.om_certificate.specs.Refusals.{IsVectorRefusal, number_of_vectors, wrong_sign, IsWeightRefusal, number_of_weights}
+use Rattle.om_certificate.specs.declared.cert_refused.CertRefused.TheVariants.{Number, Unbalanced}
+use Rattle.om_certificate.specs.Refusals.{IsVectorRefusal, number_of_vectors, IsWeightRefusal, number_of_weights}
 use Rattle.om_certificate.specs.declared.weight.Weight.{Weight}
 use Rattle.om_subsets.specs.Subsets.{IsSubsetFrom}
 use Rattle.om_vectors.specs.Realizations.{IsTriple}

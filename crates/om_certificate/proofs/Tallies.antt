@@ -3,9 +3,9 @@
 --
 -- Main result: unbalanced.
 use Rattle.std.specs.Prelude.{ℕ, ◌≡◌, ◌+◌, ◌*◌, ◌<◌, ◌≤◌, List, [], ◌∷◌, ◌⊎◌}
-use Rattle.std.proofs.Common.{zero, suc, sym, ◌∙◌, ap, arith, inl, inr, subst}
+use Rattle.std.proofs.Common.{sym, ◌∙◌, ap, arith, inl, inr, subst}
 use Rattle.std.specs.List.{AllByRecursion as Each}
-use Rattle.om_certificate.proofs.Combinations.{Combination, power, total, here, power-add, power-join, power-positive, power_at_most, power_less, total-same, total-none, total-add, total-place}
+use Rattle.om_certificate.proofs.Combinations.{Combination, power, total, here, power-join, power-positive, power_at_most, power_less, total-same, total-none, total-add, total-place}
 
 -- what holds of some entry of a list
 abbrev pub AnyByRecursion : {E : Type 0} → (E → Type 0) → List E → Type 0

@@ -1,4 +1,4 @@
-use Rattle.std.proofs.Common.{◌≡◌, false, true, sym, ◌∙◌, subst}
+use Rattle.std.proofs.Common.{sym, ◌∙◌}
 use Rattle.std.proofs.lemmas.Bool.{false≢true}
 use Rattle.om_certificate.proofs.Reasons.{weight_of_triple}
 use Rattle.om_certificate.proofs.weighing.is_weight_of.Goals as goal
