@@ -2,10 +2,9 @@
 -- below a number, each taken as often as a count says.
 --
 -- Main result: total-side, that the values of the sides of a list of entries combine to the total over all places.
-use Rattle.std.specs.Prelude.{ℕ, ◌≡◌, ◌+◌, ◌*◌, ◌<◌, ◌≤◌, List, [], ◌∷◌, cond, nat_eq, refl}
-use Rattle.std.proofs.Common.{zero, suc, sym, ◌∙◌, ap, arith, inl, inr, add-suc, add-zero}
+use Rattle.std.specs.Prelude.{ℕ, ◌≡◌, ◌+◌, ◌*◌, ◌<◌, ◌≤◌, cond, nat_eq, refl}
+use Rattle.std.proofs.Common.{zero, suc, sym, ◌∙◌, ap, arith, inl, inr}
 use Rattle.std.proofs.lemmas.Bool.{cases_eq, eq-eqb, ne_eqb}
-use Rattle.std.specs.List.{All}
 
 -- values that combine, as numbers multiply or add, with an order that combining keeps at positive values
 pub record Combination : Type 1 where

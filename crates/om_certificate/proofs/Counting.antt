@@ -1,8 +1,8 @@
 -- Tables of how often each triple stands on a side.
 --
 -- Main results: raised, what two additions do to a table; none_counted and one_counted, the start and the step of the count.
-use Rattle.std.specs.Prelude.{ℕ, ◌≡◌, ◌≢◌, ◌+◌, ◌*◌, ◌<◌, ◌≤◌, ◌^◌, List, length, take, cond, nat_eq, sum_by, All, slice_index}
-use Rattle.std.proofs.Common.{refl, sym, ◌∙◌, ap, subst, arith, inl, inr, zero, suc, ◌⊎◌}
+use Rattle.std.specs.Prelude.{ℕ, ◌≡◌, ◌+◌, ◌*◌, ◌<◌, ◌≤◌, ◌^◌, List, length, take, cond, nat_eq, sum_by, All}
+use Rattle.std.proofs.Common.{refl, sym, ◌∙◌, ap, subst, arith, inl, inr}
 use Rattle.std.proofs.Math.ListN.{get_or, set}
 use Rattle.std.proofs.lemmas.Bool.{cases_eq, eq-eqb, ne_eqb, cases_lt}
 use Rattle.std.proofs.lemmas.List.{get_or-set_same, get_or-set_other, length-set, get_or_past}
@@ -13,7 +13,7 @@ use Rattle.om_subsets.specs.Members.{Chosen}
 use Rattle.om_grassmann.specs.Sides as sides
 use Rattle.om_vectors.specs.Realizations.{IsTriple}
 use Rattle.om_certificate.specs.declared.entry.Entry.{Entry}
-use Rattle.om_certificate.specs.Certificates.{times_among, times_in, is_same, small_times, big_times}
+use Rattle.om_certificate.specs.Certificates.{times_among, times_in, is_same}
 use Rattle.om_certificate.specs.Tables.{AreCounts, IsRaised}
 use Rattle.om_certificate.proofs.Combinations.{here}
 use Rattle.om_certificate.proofs.Triples.{place_below, same-place}
@@ -52,12 +52,12 @@ raised n times p q table c d hc hd ep eq room = record {
     counted b s t e f = rw (e, f) (omega arith)
 
 pub one_fits :
-  (n : ℕ) (es : List Entry) (i times : ℕ) (table : List ℕ)
-  → i < length es
-  → length es ≤ MAX_ENTRIES
-  → times ≤ MAX_MULTIPLICITY
-  → ((k : ℕ) → get_or table k 0 ≤ 2 * MAX_MULTIPLICITY * i)
-  → (k : ℕ) → get_or table k 0 + 2 * times < 2 ^ 128
+    (n : ℕ) (es : List Entry) (i times : ℕ) (table : List ℕ)
+    → i < length es
+    → length es ≤ MAX_ENTRIES
+    → times ≤ MAX_MULTIPLICITY
+    → ((k : ℕ) → get_or table k 0 ≤ 2 * MAX_MULTIPLICITY * i)
+    → (k : ℕ) → get_or table k 0 + 2 * times < 2 ^ 128
 one_fits n es i times table l few t h k = let g = h k in omega arith
 
 -- the tables count the first i entries, and no number is above what they can make
@@ -77,13 +77,13 @@ none_counted n es small big s b = record {
 }
 
 pub one_counted :
-  (n : ℕ) (es : List Entry) (i : ℕ) (d : Entry) (small big small' big' : List ℕ)
-  → i < length es
-  → (get_or es i d).times ≤ MAX_MULTIPLICITY
-  → IsCounting n es i small big
-  → IsRaised n (λ b. times_in b (get_or es i d).statement (get_or es i d).statement.small) (get_or es i d).times small small'
-  → IsRaised n (λ b. times_in b (get_or es i d).statement (get_or es i d).statement.big) (get_or es i d).times big big'
-  → IsCounting n es (i + 1) small' big'
+    (n : ℕ) (es : List Entry) (i : ℕ) (d : Entry) (small big small' big' : List ℕ)
+    → i < length es
+    → (get_or es i d).times ≤ MAX_MULTIPLICITY
+    → IsCounting n es i small big
+    → IsRaised n (λ b. times_in b (get_or es i d).statement (get_or es i d).statement.small) (get_or es i d).times small small'
+    → IsRaised n (λ b. times_in b (get_or es i d).statement (get_or es i d).statement.big) (get_or es i d).times big big'
+    → IsCounting n es (i + 1) small' big'
 one_counted n es i d small big small' big' l t h s b = record {
   counts = record {
     small_counts = λ c hc. s.raised c hc ∙ ap (λ x. x + (get_or es i d).times * times_in c (get_or es i d).statement (get_or es i d).statement.small) (h.counts.small_counts c hc) ∙ sym (more (λ x. x.times * times_in c x.statement x.statement.small));

@@ -2,7 +2,7 @@
 --
 -- Main results: certificate_excludes, that a map with a certificate is realized by no vectors; weights_exclude, that a map with
 -- weights has no certificate.
-use Rattle.std.specs.Prelude.{ℕ, ◌≡◌, ◌+◌, ◌*◌, ◌<◌, ◌≤◌, Bool, true, false, cond, nat_eq, ℤ, ◌+ℤ◌, ◌<ℤ◌, ◌≤ℤ◌, List, [], ◌∷◌, length, sum_by, All, Any, IsTrue}
+use Rattle.std.specs.Prelude.{ℕ, ◌≡◌, ◌+◌, ◌*◌, ◌<◌, ◌≤◌, Bool, true, false, cond, nat_eq, ℤ, ◌<ℤ◌, ◌≤ℤ◌, List, [], ◌∷◌, length, sum_by, Any, IsTrue}
 use Rattle.std.specs.List.{AllByRecursion as Each}
 use Rattle.std.proofs.Common.{refl, sym, ◌∙◌, ap, subst, zero, suc, arith, inl, inr}
 use Rattle.std.proofs.Math.ListN.{get_or}
@@ -19,7 +19,7 @@ use Rattle.om_grassmann.specs.Sides.{first_bracket, second_bracket}
 use Rattle.om_grassmann.proofs.BracketLaws.{nonzero_sides}
 use Rattle.om_certificate.specs.declared.entry.Entry.{Entry}
 use Rattle.om_certificate.specs.declared.weight.Weight.{Weight}
-use Rattle.om_certificate.specs.Certificates.{IsCertificate, times_in, is_same, small_times, big_times}
+use Rattle.om_certificate.specs.Certificates.{IsCertificate, times_in, is_same}
 use Rattle.om_certificate.specs.Weights.{AreWeights, IsMet, Compares, weight_of, term_weight}
 use Rattle.om_certificate.proofs.Combinations.{Combination, here}
 use Rattle.om_certificate.proofs.Orders.{products, sums}

@@ -1,7 +1,7 @@
 -- The table of the weights of all triples.
 --
 -- Main results: none_filled and one_filled, the start and the step of filling it from the last weight on.
-use Rattle.std.specs.Prelude.{ℕ, ◌≡◌, ◌≢◌, ◌+◌, ◌-◌, ◌<◌, ◌≤◌, ℤ, pos, List, [], ◌∷◌, length, map, drop, cond, nat_eq, All, unsigned_abs, slice_index_or}
+use Rattle.std.specs.Prelude.{ℕ, ◌≡◌, ◌≢◌, ◌+◌, ◌-◌, ◌<◌, ◌≤◌, ℤ, pos, List, [], ◌∷◌, length, map, drop, All, unsigned_abs}
 use Rattle.std.proofs.Common.{refl, sym, ◌∙◌, ap, subst, arith, inl, inr, ◌⊎◌, zero, suc}
 use Rattle.std.proofs.Math.ListN.{get_or, set}
 use Rattle.std.proofs.lemmas.Bool.{cases_eq, eq-eqb, ne_eqb, cases_lt}
@@ -15,8 +15,7 @@ use Rattle.om_subsets.specs.Subsets.{choose, rank_of}
 use Rattle.om_chirotope.specs.Map.{SignMap}
 use Rattle.om_vectors.specs.Realizations.{IsTriple}
 use Rattle.om_certificate.specs.declared.weight.Weight.{Weight}
-use Rattle.om_certificate.specs.Certificates.{is_same}
-use Rattle.om_certificate.specs.Weights.{bracket_of, weight_of, nonzero_brackets, AreOfBrackets}
+use Rattle.om_certificate.specs.Weights.{bracket_of, weight_of, AreOfBrackets}
 use Rattle.om_certificate.specs.Tables.{IsWeightTable, AreSmall, IsOfTriple}
 use Rattle.om_certificate.proofs.NonzeroBrackets.{bracket_triples}
 use Rattle.om_certificate.proofs.Triples.{place_below, same-place, triple_elements}
@@ -59,14 +58,14 @@ pub is_of_triple : (n : ℕ) (w : Weight) → IsTriple n (bracket_of w) → IsOf
 is_of_triple n w t = let p = triple_elements n w.a w.b w.c t in record { a = p.0; a_b = p.1; b_c = p.2; c = p.3 }
 
 pub one_filled :
-  (n : ℕ) (ws : List Weight) (j p : ℕ) (d : Weight) (table : List ℤ)
-  → j < length ws
-  → IsTriple n (bracket_of (get_or ws j d))
-  → p ≡ rank_of n (bracket_of (get_or ws j d))
-  → choose n 3 ≤ length table
-  → unsigned_abs (get_or ws j d).value ≤ unsigned_abs MAX_WEIGHT
-  → IsFilling n ws (j + 1) table
-  → IsFilling n ws j (set table p (get_or ws j d).value)
+    (n : ℕ) (ws : List Weight) (j p : ℕ) (d : Weight) (table : List ℤ)
+    → j < length ws
+    → IsTriple n (bracket_of (get_or ws j d))
+    → p ≡ rank_of n (bracket_of (get_or ws j d))
+    → choose n 3 ≤ length table
+    → unsigned_abs (get_or ws j d).value ≤ unsigned_abs MAX_WEIGHT
+    → IsFilling n ws (j + 1) table
+    → IsFilling n ws j (set table p (get_or ws j d).value)
 one_filled n ws j p d table l t q room s h = record {
   weights = λ b hb. at_triple b hb (cases_eq (rank_of n b) p) ∙ sym (ap (λ xs. weight_of xs b) (drop-cons ws j d l));
   small = λ k. small k (cases_eq k p);
@@ -88,14 +87,14 @@ one_filled n ws j p d table l t q room s h = record {
     small k (inr n') = subst (λ z. unsigned_abs z ≤ unsigned_abs MAX_WEIGHT) (sym (get_or-set_other table p k (get_or ws j d).value (pos 0) n')) (h.small k)
 
 pub fill_step :
-  (m : SignMap) (ws : List Weight) (i p : ℕ) (d : Weight) (table : List ℤ)
-  → AreOfBrackets m ws
-  → i < length ws
-  → p ≡ rank_of m.elements (bracket_of (get_or ws (length ws - 1 - i) d))
-  → choose m.elements 3 ≤ length table
-  → All (λ w. unsigned_abs w.value ≤ unsigned_abs MAX_WEIGHT) ws
-  → IsFilling m.elements ws (length ws - i) table
-  → IsFilling m.elements ws (length ws - (i + 1)) (set table p (to_z w128 (of_z w128 (get_or ws (length ws - 1 - i) d).value)))
+    (m : SignMap) (ws : List Weight) (i p : ℕ) (d : Weight) (table : List ℤ)
+    → AreOfBrackets m ws
+    → i < length ws
+    → p ≡ rank_of m.elements (bracket_of (get_or ws (length ws - 1 - i) d))
+    → choose m.elements 3 ≤ length table
+    → All (λ w. unsigned_abs w.value ≤ unsigned_abs MAX_WEIGHT) ws
+    → IsFilling m.elements ws (length ws - i) table
+    → IsFilling m.elements ws (length ws - (i + 1)) (set table p (to_z w128 (of_z w128 (get_or ws (length ws - 1 - i) d).value)))
 fill_step m ws i p d table e l q room small h =
     let within : length ws - 1 - i < length ws = omega arith in
     let size : unsigned_abs (get_or ws (length ws - 1 - i) d).value ≤ unsigned_abs MAX_WEIGHT = small (length ws - 1 - i) d within in

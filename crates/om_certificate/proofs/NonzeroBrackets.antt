@@ -1,13 +1,11 @@
 -- The nonzero brackets among the first triples in lexicographic order.
-use Rattle.std.specs.Prelude.{ℕ, ◌≡◌, ◌≢◌, ◌+◌, ◌<◌, ◌≤◌, Bool, true, false, List, [], ◌∷◌, ◌++◌, length, map, filter, cond, take, drop, slice_get, Some, All}
-use Rattle.std.proofs.Common.{refl, sym, ◌∙◌, ap, subst, arith}
+use Rattle.std.specs.Prelude.{ℕ, ◌≡◌, ◌+◌, ◌<◌, ◌≤◌, true, false, List, [], ◌∷◌, ◌++◌, length, map, filter, cond, take, drop, slice_get, Some, All}
+use Rattle.std.proofs.Common.{refl, sym, ◌∙◌, ap, arith}
 use Rattle.std.proofs.Math.ListN.{get_or}
 use Rattle.std.proofs.lemmas.List.{take_all, length-append, take-append-drop, take_more, map-append}
 use Rattle.std.proofs.lemmas.Option.{slice_get-get_or}
 use Rattle.std.proofs.lemmas.List.Elements.{filter_more, filter-append, All-filter, All-from_get_or}
-use Rattle.om_signs.specs.declared.sign.Sign.{Sign}
-use Rattle.om_signs.specs.declared.sign.Sign.TheVariants.{Minus, Zero, Plus}
-use Rattle.om_subsets.specs.Subsets.{all_subsets, choose, rank_of, subset_at}
+use Rattle.om_subsets.specs.Subsets.{all_subsets, choose, subset_at}
 use Rattle.om_subsets.proofs.Order.{length-subsets_from}
 use Rattle.om_chirotope.specs.Map.{SignMap, chi_of}
 use Rattle.om_vectors.specs.Realizations.{IsTriple}

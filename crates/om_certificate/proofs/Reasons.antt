@@ -7,13 +7,12 @@ use Rattle.om_certificate.specs.declared.entry.Entry.{Entry}
 use Rattle.om_certificate.specs.Certificates.{AreBalanced, AreLawful, small_times, big_times}
 use Rattle.om_certificate.specs.Refusals.{IsFirstUnbalanced, IsEntryRefusal, unbalanced}
 use Rattle.om_certificate.proofs.Triples.{place_below}
-use Rattle.std.proofs.Common.{refl, sym, ◌∙◌, ap, subst, arith}
+use Rattle.std.proofs.Common.{sym, ◌∙◌, ap, subst, arith}
 use Rattle.om_subsets.specs.Members.{Chosen}
 use Rattle.om_chirotope.specs.Map.{SignMap}
 use Rattle.om_vectors.specs.WholeVectors.{WholeVector}
-use Rattle.om_vectors.specs.Realizations.{IsFirstOther}
-use Rattle.om_certificate.specs.declared.cert_refused.CertRefused.TheVariants.{NotRank3, Number, WrongSign, Unlawful, Unbalanced, NoStrict, Bracket, WeightFails}
-use Rattle.om_certificate.specs.Refusals.{IsVectorRefusal, number_of_vectors, wrong_sign, IsWeightRefusal, number_of_weights}
+use Rattle.om_certificate.specs.declared.cert_refused.CertRefused.TheVariants.{Number, Unbalanced}
+use Rattle.om_certificate.specs.Refusals.{IsVectorRefusal, number_of_vectors, IsWeightRefusal, number_of_weights}
 use Rattle.om_certificate.specs.declared.weight.Weight.{Weight}
 use Rattle.om_subsets.specs.Subsets.{IsSubsetFrom}
 use Rattle.om_vectors.specs.Realizations.{IsTriple}
@@ -38,14 +37,14 @@ pub all_balanced : (m : SignMap) (es : List Entry) (small big : List ℕ) → Ar
 all_balanced m es small big c h b hb = sym (c.small_counts b hb) ∙ h (rank_of m.elements b) (place_below m.elements b hb) ∙ c.big_counts b hb
 
 is_first_unbalanced :
-  (m : SignMap) (es : List Entry) (small big : List ℕ) (place : ℕ) (b : Chosen)
-  → AreCounts m.elements es small big
-  → b.n ≡ m.elements
-  → IsTriple m.elements b.elements
-  → rank_of m.elements b.elements ≡ place
-  → get_or small place 0 ≢ get_or big place 0
-  → ((j : ℕ) → j < place → get_or small j 0 ≡ get_or big j 0)
-  → IsFirstUnbalanced m es b
+    (m : SignMap) (es : List Entry) (small big : List ℕ) (place : ℕ) (b : Chosen)
+    → AreCounts m.elements es small big
+    → b.n ≡ m.elements
+    → IsTriple m.elements b.elements
+    → rank_of m.elements b.elements ≡ place
+    → get_or small place 0 ≢ get_or big place 0
+    → ((j : ℕ) → j < place → get_or small j 0 ≡ get_or big j 0)
+    → IsFirstUnbalanced m es b
 is_first_unbalanced m es small big place b c n hb r d h = record {
   n = n;
   triple = hb;
@@ -56,15 +55,15 @@ is_first_unbalanced m es small big place b c n hb r d h = record {
 }
 
 pub unbalanced_refused :
-  (m : SignMap) (es : List Entry) (small big : List ℕ) (place : ℕ) (b : Chosen)
-  → AreLawful m es
-  → AreCounts m.elements es small big
-  → b.n ≡ m.elements
-  → IsTriple m.elements b.elements
-  → rank_of m.elements b.elements ≡ place
-  → get_or small place 0 ≢ get_or big place 0
-  → ((j : ℕ) → j < place → get_or small j 0 ≡ get_or big j 0)
-  → IsEntryRefusal m es (Unbalanced b (get_or small place 0) (get_or big place 0))
+    (m : SignMap) (es : List Entry) (small big : List ℕ) (place : ℕ) (b : Chosen)
+    → AreLawful m es
+    → AreCounts m.elements es small big
+    → b.n ≡ m.elements
+    → IsTriple m.elements b.elements
+    → rank_of m.elements b.elements ≡ place
+    → get_or small place 0 ≢ get_or big place 0
+    → ((j : ℕ) → j < place → get_or small j 0 ≡ get_or big j 0)
+    → IsEntryRefusal m es (Unbalanced b (get_or small place 0) (get_or big place 0))
 unbalanced_refused m es small big place b a c n hb r d h =
     let s : get_or small place 0 ≡ small_times b.elements es = ap (λ k. get_or small k 0) (sym r) ∙ c.small_counts b.elements hb in
     let t : get_or big place 0 ≡ big_times b.elements es = ap (λ k. get_or big k 0) (sym r) ∙ c.big_counts b.elements hb in

@@ -1,9 +1,8 @@
 -- Evidence is refused for one reason at most, and for none where it is valid.
 --
 -- Main results: one_reason and no_reason; settled_accepted and settled_refused, that an answer whose reasons hold is exact.
-use Rattle.std.specs.Prelude.{ℕ, ◌≡◌, ◌≢◌, ◌+◌, ◌<◌, ◌≤◌, ◌↔◌, List, [], ◌∷◌, length, take, map, Result, Ok, Err, IsOk, IfErr, OnOk, slice_get, Some}
-use Rattle.std.proofs.Common.{refl, sym, ◌∙◌, ap, subst, zero, suc, arith, inl, inr, ◌⊎◌}
-use Rattle.std.proofs.Math.ListN.{get_or}
+use Rattle.std.specs.Prelude.{ℕ, ◌≡◌, ◌≢◌, ◌+◌, ◌<◌, ◌↔◌, List, [], ◌∷◌, length, take, Result, Ok, Err, IsOk, IfErr, OnOk, slice_get}
+use Rattle.std.proofs.Common.{refl, sym, ◌∙◌, ap, subst, zero, suc, arith, inl, inr}
 use Rattle.std.proofs.lemmas.Bool.{cases_order, false≢true}
 use Rattle.std.proofs.lemmas.List.{length-map, get_or-take, length-take}
 use Rattle.std.specs.Option.{option_map}
@@ -14,21 +13,19 @@ use Rattle.om_subsets.specs.Lists as lists
 use Rattle.om_subsets.proofs.Order.{lexicographic}
 use Rattle.om_chirotope.specs.Map.{SignMap, chi_of}
 use Rattle.om_vectors.specs.WholeVectors.{WholeVector}
-use Rattle.om_vectors.specs.Realizations.{IsTriple, IsFirstOther, Realizes, triple_sign}
-use Rattle.om_grassmann.specs.declared.statement.Statement.{Statement}
+use Rattle.om_vectors.specs.Realizations.{IsTriple, Realizes, triple_sign}
 use Rattle.om_grassmann.specs.Statements.{IsLawful}
-use Rattle.om_grassmann.specs.Order.{IsBefore}
 use Rattle.om_grassmann.proofs.OrderLaws.{before_total}
 use Rattle.om_certificate.specs.declared.entry.Entry.{Entry}
 use Rattle.om_certificate.specs.declared.weight.Weight.{Weight}
 use Rattle.om_certificate.specs.declared.evidence.Evidence.{Evidence}
 use Rattle.om_certificate.specs.declared.evidence.Evidence.TheVariants.{Vectors, Balanced, Weights}
 use Rattle.om_certificate.specs.declared.cert_refused.CertRefused.{CertRefused}
-use Rattle.om_certificate.specs.declared.cert_refused.CertRefused.TheVariants.{NotRank3, Number, WrongSign, Unlawful, Unbalanced, NoStrict, Bracket, WeightFails}
+use Rattle.om_certificate.specs.declared.cert_refused.CertRefused.TheVariants.{NotRank3, WrongSign, Unlawful, Unbalanced, Bracket, WeightFails}
 use Rattle.om_certificate.specs.Certificates.{small_times, big_times, AreLawful, HasStrict, IsCertificate}
-use Rattle.om_certificate.specs.Weights.{bracket_of, nonzero_brackets, AreOfBrackets, IsMet, AreWeights}
+use Rattle.om_certificate.specs.Weights.{bracket_of, nonzero_brackets, AreOfBrackets, AreWeights}
 use Rattle.om_certificate.specs.Validity.{IsValid, Shows}
-use Rattle.om_certificate.specs.Refusals.{IsFirstUnlawful, IsFirstUnbalanced, IsFirstOtherBracket, IsFirstUnmet, IsVectorRefusal, number_of_vectors, wrong_sign, IsEntryRefusal, unlawful, unbalanced, no_strict, IsWeightRefusal, number_of_weights, bracket, weight_fails, IsRefusalOf, IsRefusal, not_rank_3, of_rank_3}
+use Rattle.om_certificate.specs.Refusals.{IsFirstUnlawful, IsFirstOtherBracket, IsVectorRefusal, number_of_vectors, wrong_sign, IsEntryRefusal, unlawful, unbalanced, no_strict, IsWeightRefusal, number_of_weights, bracket, weight_fails, IsRefusalOf, IsRefusal, not_rank_3, of_rank_3}
 use Rattle.om_certificate.proofs.Exclusion.{certificate_excludes, weights_exclude}
 use Rattle.om_certificate.proofs.Triples.{same_triple, triple_elements}
 
@@ -38,16 +35,16 @@ chosen_same : (s t : Chosen) → s.n ≡ t.n → s.elements ≡ t.elements → s
 chosen_same s t e f = ap (λ k. record { n = k; elements = s.elements }) e ∙ ap (λ xs. record { n = t.n; elements = xs }) f
 
 first_triple :
-  (n : ℕ) (P : List ℕ → Type 0) (s t : Chosen)
-  → s.n ≡ n
-  → t.n ≡ n
-  → IsTriple n s.elements
-  → IsTriple n t.elements
-  → (P s.elements → ⊥)
-  → (P t.elements → ⊥)
-  → ((b : List ℕ) → IsTriple n b → lists.IsBefore b s.elements → P b)
-  → ((b : List ℕ) → IsTriple n b → lists.IsBefore b t.elements → P b)
-  → s ≡ t
+    (n : ℕ) (P : List ℕ → Type 0) (s t : Chosen)
+    → s.n ≡ n
+    → t.n ≡ n
+    → IsTriple n s.elements
+    → IsTriple n t.elements
+    → (P s.elements → ⊥)
+    → (P t.elements → ⊥)
+    → ((b : List ℕ) → IsTriple n b → lists.IsBefore b s.elements → P b)
+    → ((b : List ℕ) → IsTriple n b → lists.IsBefore b t.elements → P b)
+    → s ≡ t
 first_triple n P s t e f hs ht ns nt fs ft = elim (cases_order (rank_of n s.elements) (rank_of n t.elements)) [
   | inl q ↦ chosen_same s t (e ∙ sym f) (same_triple n s.elements t.elements hs ht q)
   | inr (inl l) ↦ absurd (ns (ft s.elements hs ((lexicographic 1 n s.elements t.elements hs.list ht.list (hs.size ∙ sym ht.size)).1 l)))

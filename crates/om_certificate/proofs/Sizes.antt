@@ -1,14 +1,12 @@
 -- What a lawful statement says of the sizes of triple products, where vectors realize the map.
 --
 -- Main result: ordered_sizes.
-use Rattle.std.specs.Prelude.{ℕ, zero, suc, ◌≡◌, ◌≢◌, ◌+◌, ◌*◌, ◌<◌, ◌≤◌, ℤ, pos, negsuc, ◌+ℤ◌, ◌-ℤ◌, ◌*ℤ◌, neg_ℤ, unsigned_abs, Bool, true, false, List, [], ◌∷◌, cond, nat_eq, nat_lt, refl, ◌⊎◌}
+use Rattle.std.specs.Prelude.{ℕ, zero, suc, ◌≡◌, ◌≢◌, ◌*◌, ◌<◌, ◌≤◌, ℤ, pos, negsuc, ◌+ℤ◌, ◌-ℤ◌, ◌*ℤ◌, neg_ℤ, unsigned_abs, Bool, true, false, List, [], ◌∷◌, cond, nat_eq, nat_lt, refl, ◌⊎◌}
 use Rattle.std.proofs.Common.{sym, ◌∙◌, ap, arith, inl, inr, subst}
 use Rattle.std.proofs.lemmas.Int.{ints, unsigned_abs-mul}
-use Rattle.om_signs.specs.declared.sign.Sign.{Sign}
 use Rattle.om_signs.specs.declared.sign.Sign.TheVariants.{Minus, Zero, Plus}
 use Rattle.om_signs.specs.Sign.{opposite, product}
-use Rattle.om_laws.specs.Tuples.{insert, sorted}
-use Rattle.om_laws.specs.Sorting.{IsTuple}
+use Rattle.om_laws.specs.Tuples.{insert}
 use Rattle.om_chirotope.specs.Map.{SignMap}
 use Rattle.om_vectors.specs.WholeVectors.{WholeVector, triple_product, sign_of}
 use Rattle.om_vectors.specs.Realizations.{vector_at, Realizes}
@@ -108,13 +106,13 @@ module _ (vs : List WholeVector) (m : SignMap) (realizes : Realizes vs m) (st : 
   element_e = let b = placed.b in let bc = placed.b_c in let cd = placed.c_d in let de = placed.d_e in let e = placed.e in record { low = omega arith; high = e }
 
   sign-product :
-    (x y z u v : ℕ)
-    → IsElement m.elements x
-    → IsElement m.elements y
-    → IsElement m.elements z
-    → IsElement m.elements u
-    → IsElement m.elements v
-    → sign_of (product_at vs x y z *ℤ product_at vs x u v) ≡ product (bracket m x y z) (bracket m x u v)
+      (x y z u v : ℕ)
+      → IsElement m.elements x
+      → IsElement m.elements y
+      → IsElement m.elements z
+      → IsElement m.elements u
+      → IsElement m.elements v
+      → sign_of (product_at vs x y z *ℤ product_at vs x u v) ≡ product (bracket m x y z) (bracket m x u v)
   sign-product x y z u v hx hy hz hu hv =
       sign-times (product_at vs x y z) (product_at vs x u v)
       ∙ ap (λ s. product s (sign_of (product_at vs x u v))) (sign-bracket x y z hx hy hz)
@@ -144,10 +142,10 @@ pub size-number : (vs : List WholeVector) (st : Statement) (i : ℕ) → unsigne
 size-number vs st i = go (nat_eq i 1) (nat_eq i 2)
   where
     go :
-      (b c : Bool)
-      → unsigned_abs (cond b (first_number vs st) (cond c (second_number vs st) (third_number vs st)))
-      ≡ size_at vs (cond b (triple st.a st.b st.c) (cond c (triple st.a st.b st.d) (triple st.a st.b st.e)))
-      * size_at vs (cond b (triple st.a st.d st.e) (cond c (triple st.a st.c st.e) (triple st.a st.c st.d)))
+        (b c : Bool)
+        → unsigned_abs (cond b (first_number vs st) (cond c (second_number vs st) (third_number vs st)))
+        ≡ size_at vs (cond b (triple st.a st.b st.c) (cond c (triple st.a st.b st.d) (triple st.a st.b st.e)))
+        * size_at vs (cond b (triple st.a st.d st.e) (cond c (triple st.a st.c st.e) (triple st.a st.c st.d)))
     go true c = size-product vs st.a st.b st.c st.d st.e
     go false true = size-neg (product_at vs st.a st.b st.d *ℤ product_at vs st.a st.c st.e) ∙ size-product vs st.a st.b st.d st.c st.e
     go false false = size-product vs st.a st.b st.e st.c st.d
@@ -203,11 +201,11 @@ terms_sum x y z e i j t = go i j (one_of_three i t.first) (one_of_three j t.seco
 
 -- the product of the sizes on the small side of a lawful statement is positive and at most that on the big side, and less where it is strict
 pub ordered_sizes :
-  (vs : List WholeVector) (m : SignMap)
-  → Realizes vs m
-  → (st : Statement)
-  → IsLawful m st
-  → IsCompared st.strict (size_at vs (first_bracket st st.small) * size_at vs (second_bracket st st.small)) (size_at vs (first_bracket st st.big) * size_at vs (second_bracket st st.big))
+    (vs : List WholeVector) (m : SignMap)
+    → Realizes vs m
+    → (st : Statement)
+    → IsLawful m st
+    → IsCompared st.strict (size_at vs (first_bracket st st.small) * size_at vs (second_bracket st st.small)) (size_at vs (first_bracket st st.big) * size_at vs (second_bracket st st.big))
 ordered_sizes vs m r st h =
     subst (λ k. IsCompared st.strict k (size_at vs (first_bracket st st.big) * size_at vs (second_bracket st st.big))) (size-number vs st st.small)
     (subst (λ k. IsCompared st.strict (unsigned_abs (number vs st st.small)) k) (size-number vs st st.big)

@@ -3,9 +3,9 @@
 --
 -- Main result: unbalanced.
 use Rattle.std.specs.Prelude.{ℕ, ◌≡◌, ◌+◌, ◌*◌, ◌<◌, ◌≤◌, List, [], ◌∷◌, ◌⊎◌}
-use Rattle.std.proofs.Common.{zero, suc, sym, ◌∙◌, ap, arith, inl, inr, subst}
+use Rattle.std.proofs.Common.{sym, ◌∙◌, ap, arith, inl, inr, subst}
 use Rattle.std.specs.List.{AllByRecursion as Each}
-use Rattle.om_certificate.proofs.Combinations.{Combination, power, total, here, power-add, power-join, power-positive, power_at_most, power_less, total-same, total-none, total-add, total-place}
+use Rattle.om_certificate.proofs.Combinations.{Combination, power, total, here, power-join, power-positive, power_at_most, power_less, total-same, total-none, total-add, total-place}
 
 -- what holds of some entry of a list
 abbrev pub AnyByRecursion : {E : Type 0} → (E → Type 0) → List E → Type 0
@@ -81,14 +81,14 @@ module _ (C : Combination) (E : Type 0) (times : E → ℕ) (f : ℕ → C.Value
         turned u v w z l = subst (λ x. C.IsLess x (C.join z v)) (C.comm u w) (subst (λ x. C.IsLess (C.join u w) x) (C.comm v z) l)
 
     pub unbalanced :
-      (es : List E)
-      → Each (IsBelow p q n) es
-      → Each (IsBelow p' q' n) es
-      → Each IsOrdered es
-      → AnyByRecursion IsStrict es
-      → ((k : ℕ) → k < n → tally times p q es k ≡ tally times p' q' es k)
-      → ⊥
+        (es : List E)
+        → Each (IsBelow p q n) es
+        → Each (IsBelow p' q' n) es
+        → Each IsOrdered es
+        → AnyByRecursion IsStrict es
+        → ((k : ℕ) → k < n → tally times p q es k ≡ tally times p' q' es k)
+        → ⊥
     unbalanced es b b' o s h =
         let same : side C f times p q es ≡ side C f times p' q' es =
-            sym (total-side p q es b) ∙ total-same C f (tally times p q es) (tally times p' q' es) n h ∙ total-side p' q' es b' in
+        sym (total-side p q es b) ∙ total-same C f (tally times p q es) (tally times p' q' es) n h ∙ total-side p' q' es b' in
         C.irreflexive (side C f times p' q' es) (subst (λ x. C.IsLess x (side C f times p' q' es)) same (strict_sides es o s))

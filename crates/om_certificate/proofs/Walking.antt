@@ -1,5 +1,5 @@
 -- The walk over the lawful statements in order.
-use Rattle.std.specs.Prelude.{ℕ, ◌≡◌, ◌+◌, ◌-◌, ◌*◌, ◌<◌, ◌≤◌, ℤ, pos, ◌+ℤ◌, Bool, IsTrue, ◌↔◌, List, length, Option, Some, None, IsNone, IfSome}
+use Rattle.std.specs.Prelude.{ℕ, ◌≡◌, ◌-◌, ◌<◌, ℤ, pos, ◌+ℤ◌, Bool, IsTrue, ◌↔◌, List, Option, Some, None, IsNone, IfSome}
 use Rattle.std.specs.List.{Contains}
 use Rattle.std.proofs.Math.ListN.{get_or}
 use Rattle.std.proofs.Common.{refl, sym, ◌∙◌, ap, subst, arith, inl, inr, ◌⊎◌}

@@ -1,5 +1,5 @@
 -- Why evidence is refused: each reason holds only where none before it does, and names the first instance.
-use Rattle.std.specs.Prelude.{ℕ, ◌≡◌, ◌≢◌, ◌+◌, List, length, take, map, All, slice_get, Some}
+use Rattle.std.specs.Prelude.{ℕ, ◌≡◌, ◌≢◌, ◌+◌, List, length, take, map, slice_get, Some}
 use Rattle.om_subsets.specs.Members.{Chosen}
 use Rattle.om_subsets.specs.Lists as lists
 use Rattle.om_chirotope.specs.Map.{SignMap}

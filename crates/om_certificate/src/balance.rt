@@ -95,8 +95,10 @@ fn count_brackets(chi: &Chirotope, entries: &[Entry], small: &mut [u128], big: &
     ensures { AreCounts chi.now.elements entries.now small.new big.new }
 {
     for entry in entries {
-        let (small_first, small_second, big_first, big_second) =
-            sides(entry.statement, chi.elements());
+        let (small_first, small_second, big_first, big_second) = sides(
+            entry.statement,
+            chi.elements(),
+        );
         raise(small, small_first, small_second, entry.times);
         raise(big, big_first, big_second, entry.times);
     }

@@ -9,16 +9,25 @@ use thiserror::Error;
 pub enum CertRefused {
     /// The chirotope has the rank `r`, which isn't 3.
     #[error("the rank is {r}")]
-    NotRank3 { r: u8 },
+    NotRank3 {
+        r: u8,
+    },
     /// There aren't as many vectors as elements, or as many weights as nonzero brackets.
     #[error("{wanted} are wanted, and {given} are given")]
-    Number { wanted: u32, given: u32 },
+    Number {
+        wanted: u32,
+        given: u32,
+    },
     /// The first triple of elements whose vectors have a triple product of another sign.
     #[error("a triple product has another sign")]
-    WrongSign { triple: Subset },
+    WrongSign {
+        triple: Subset,
+    },
     /// The first entry whose statement isn't lawful.
     #[error("entry {entry} is not lawful")]
-    Unlawful { entry: u32 },
+    Unlawful {
+        entry: u32,
+    },
     /// The first bracket that doesn't stand equally often on small sides and on big sides, with the two numbers.
     #[error("a bracket stands {small} times on small sides and {big} times on big sides")]
     Unbalanced {
@@ -31,8 +40,12 @@ pub enum CertRefused {
     NoStrict,
     /// The first entry that isn't the nonzero bracket of its place in order.
     #[error("entry {entry} is not the next nonzero bracket")]
-    Bracket { entry: u32 },
+    Bracket {
+        entry: u32,
+    },
     /// The first lawful statement that the weights don't meet.
     #[error("a statement fails")]
-    WeightFails { statement: Statement },
+    WeightFails {
+        statement: Statement,
+    },
 }

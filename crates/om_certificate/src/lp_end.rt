@@ -5,7 +5,10 @@ use om_simplex::Stage;
 #[derive(Drop)]
 pub enum LpEnd {
     /// All pivots of the budget were made. `count` is the budget, and `basis` has the basis number of each row.
-    Pivots { count: u32, basis: List<u32> },
+    Pivots {
+        count: u32,
+        basis: List<u32>,
+    },
     /// A number was too wide for the machine: the stage, the number of the pivot from 1, and the row and the place.
     Width {
         stage: Stage,

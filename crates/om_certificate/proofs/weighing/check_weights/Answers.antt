@@ -1,4 +1,4 @@
-use Rattle.std.proofs.Common.{sym, ◌∙◌}
+use Rattle.std.proofs.Common.{◌∙◌}
 use Rattle.om_certificate.specs.Refusals.{bracket, weight_fails}
 use Rattle.om_certificate.proofs.Reasons.{weights_refused}
 use Rattle.om_certificate.proofs.weighing.check_weights.Goals as goal

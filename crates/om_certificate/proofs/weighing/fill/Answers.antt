@@ -1,6 +1,6 @@
-use Rattle.std.proofs.Common.{◌≤◌, ◌-◌, ◌≡◌, length, ◌∙◌, ap, sym, subst, arith, pos}
+use Rattle.std.proofs.Common.{◌-◌, length, ◌∙◌, ap, sym, subst, arith, pos}
 use Rattle.std.proofs.Math.ListN.{get_or}
-use Rattle.om_subsets.specs.Subsets.{choose, rank_of}
+use Rattle.om_subsets.specs.Subsets.{rank_of}
 use Rattle.om_certificate.specs.declared.weight.Weight.{Weight}
 use Rattle.om_certificate.specs.Tables.{IsOfTriple}
 use Rattle.om_certificate.proofs.Filling.{none_filled, fill_step, all_filled, weight_triple, is_of_triple}

@@ -1,11 +1,10 @@
-use Rattle.std.proofs.Common.{◌≡◌, false, true, sym, ◌∙◌, subst}
+use Rattle.std.proofs.Common.{sym, ◌∙◌}
 use Rattle.std.proofs.lemmas.Bool.{false≢true}
 use Rattle.om_certificate.proofs.Reasons.{weight_of_triple}
 use Rattle.om_certificate.proofs.weighing.is_weight_of.Goals as goal
 
 pub returns-then-not-is_of_triple : goal.returns-then-not-is_of_triple
-returns-then-not-is_of_triple c =
-    (
-      λ h. absurd (false≢true h),
-      λ e. absurd (false≢true (sym c.if-not-is_of_triple.true ∙ c.is_of_triple.ensures.1 (weight_of_triple _ _ c.args.weight c.args.bracket.elements c.n-n.ensures.value c.requires.lawful c.requires.size e))),
-    )
+returns-then-not-is_of_triple c = (
+  λ h. absurd (false≢true h),
+  λ e. absurd (false≢true (sym c.if-not-is_of_triple.true ∙ c.is_of_triple.ensures.1 (weight_of_triple _ _ c.args.weight c.args.bracket.elements c.n-n.ensures.value c.requires.lawful c.requires.size e))),
+)
