@@ -6,3 +6,4 @@ pub mod BlockFaults
 pub mod BlockRuns
 pub mod ClaimCourse
 pub mod ClaimReading
+pub mod ClaimSizes
