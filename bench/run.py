@@ -137,6 +137,58 @@ def conversions(runs):
     row("covectors of rank 16 on 16 elements: too many", took, 1, "", asked_time=0.01)
 
 
+def document_of_map(rank, elements, signs):
+    """A chirotope in canonical form: 64 signs a line, the first that isn't 0 a plus."""
+    lead = next(sign for sign in signs if sign)
+    text = "".join("-0+"[sign * lead + 1] for sign in signs)
+    rows = [text[i:i + 64] for i in range(0, len(text), 64)]
+    return ("\n".join(["om 1", "chirotope %d %d" % (rank, elements)] + rows + ["end"]) + "\n").encode()
+
+
+def operations(runs):
+    """Duals, minors and reorientations of the chirotope of rank 8 on 16 elements all of whose values are plus."""
+    print("%-58s %11s  %18s  %18s  %s" % ("operations", "least time", "", "asked", "ratio"))
+    sets = list(itertools.combinations(range(1, 17), 8))
+    scan = least_time(["accept"], alternating(8, 16), runs, b"accepted\n")
+    # the sign of a list and then its complement is that of the sum of its elements
+    dual = [(-1) ** (sum(a) + 8 * 9 // 2) for a in sets]
+    took = least_time(["dual"], alternating(8, 16), runs, document_of_map(8, 16, dual))
+    row("dual of chirotope 8 16, with the scan of its axioms", took, 1, "", asked_time=0.04 + scan)
+    took = least_time(["delete", "16"], alternating(8, 16), runs, document_of_map(8, 15, [1] * math.comb(15, 8)))
+    row("deletion in chirotope 8 16, without the scan", max(took - scan, 1e-5), 1, "")
+    took = least_time(["contract", "16"], alternating(8, 16), runs, document_of_map(7, 15, [1] * math.comb(15, 7)))
+    row("contraction in chirotope 8 16, without the scan", max(took - scan, 1e-5), 1, "")
+    turned = [-1 if 16 in a else 1 for a in sets]
+    took = least_time(["reorient", "16"], alternating(8, 16), runs, document_of_map(8, 16, turned))
+    row("reorientation of chirotope 8 16, without the scan", max(took - scan, 1e-5), 1, "")
+
+
+def certificate(times):
+    """The claim that the non-Pappus chirotope isn't realizable, with its entries so many times."""
+    with open(os.path.join(TOP, "examples", "non-pappus-claim.om"), "rb") as file:
+        lines = file.read().split(b"\n")
+    entries = [line for line in lines if line[:3] in (b"lt ", b"eq ")]
+    first = lines.index(entries[0])
+    return b"\n".join(lines[:first] + entries * times + lines[first + len(entries):])
+
+
+def weights(elements):
+    """The claim of weights for the chirotope all of whose values are plus: from the determinants on the moment curve."""
+    lines = ["undecided"]
+    for a, b, c in itertools.combinations(range(1, elements + 1), 3):
+        lines.append("weight %d %d %d %d" % (a, b, c, round(10 ** 9 * math.log((b - a) * (c - a) * (c - b)))))
+    return alternating(3, elements) + ("\n".join(lines + ["exhausted", "end"]) + "\n").encode()
+
+
+def claims(runs):
+    """Claims that are checked."""
+    print("%-58s %11s  %18s  %18s  %s" % ("check", "least time", "", "asked", "ratio"))
+    took = least_time(["check"], certificate(12), runs, b"valid nonrealizable\n")
+    row("a certificate of 108 entries", took, 1, "", asked_time=0.01)
+    took = least_time(["check"], weights(16), runs, b"valid undecided\n")
+    row("560 weights on 16 elements", took, 1, "", asked_time=0.01)
+
+
 def main():
     parser = argparse.ArgumentParser(description=__doc__, formatter_class=argparse.RawDescriptionHelpFormatter)
     parser.add_argument("--runs", type=int, default=5)
@@ -171,6 +223,8 @@ def main():
     row("1 MB of lines of signs and blanks, without the scan", max(took - scan, 1e-5), size / 1e6, "MB/s", asked_rate=50.0)
 
     conversions(runs)
+    operations(runs)
+    claims(runs)
 
 
 if __name__ == "__main__":
