@@ -1,5 +1,7 @@
 //! The text of each line.
 
+ghost use Rattle.std.specs.Prelude.{◌<◌};
+
 use super::{Line, print_line};
 use om_subsets::Subset;
 use om_text::Code;

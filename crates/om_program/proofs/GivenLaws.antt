@@ -1,8 +1,8 @@
 -- The document of a representation is that which it represents, with points as the map of their signs.
 use Rattle.std.specs.Prelude.{ℕ, ◌≡◌}
-use Rattle.std.proofs.Common.{ap, ◌∙◌, subst}
+use Rattle.std.proofs.Common.{ap, ◌∙◌}
 use Rattle.std.proofs.lemmas.List.{length-map}
-use Rattle.om_chirotope.specs.Map.{SignMap, map_of}
+use Rattle.om_chirotope.specs.Map.{SignMap}
 use Rattle.om_circuits.specs.declared.circuits.Circuits.{Circuits}
 use Rattle.om_circuits.specs.declared.cocircuits.Cocircuits.{Cocircuits}
 use Rattle.om_covectors.specs.CovectorSets as sets

@@ -2,12 +2,12 @@
 --
 -- Main results: an element above the number of elements (outside_meant), the only element (last_meant), the chirotope that is made (made_meant); lists
 -- (lists_not_built); words that name elements (names_elements).
-use Rattle.std.specs.Prelude.{ℕ, ◌≡◌, ◌<◌, ◌^◌, List, length, Some, None, true, false, refl, ◌⊎◌}
+use Rattle.std.specs.Prelude.{ℕ, ◌≡◌, ◌<◌, ◌^◌, List, Some, None, true, refl, ◌⊎◌}
 use Rattle.std.proofs.Common.{sym, subst, ◌∙◌, inl, inr}
 use Rattle.std.proofs.lemmas.List.{length-map}
 use Rattle.om_signs.specs.declared.limits.TheConstants.{MAX_ELEMENTS}
 use Rattle.om_subsets.proofs.Masks.{mask_of-lt}
-use Rattle.om_chirotope.specs.Map.{SignMap, map_of}
+use Rattle.om_chirotope.specs.Map.{SignMap}
 use Rattle.om_circuits.specs.declared.circuits.Circuits.{Circuits}
 use Rattle.om_circuits.specs.declared.cocircuits.Cocircuits.{Cocircuits}
 use Rattle.om_covectors.specs.CovectorSets as sets
@@ -27,7 +27,7 @@ use Rattle.om_program.specs.Axioms.{MeetsAxioms}
 use Rattle.om_program.specs.Points.{map_document, points_map, vector_of_point}
 use Rattle.om_program.specs.Covectors.{IsOfBody, Represents}
 use Rattle.om_program.specs.Operations.{NamesElements, IsChirotopeOf, named_elements, first_above, drops_element}
-use Rattle.om_program.specs.Words.{Names, IsAlone, IsElement, AreElements, AreArguments}
+use Rattle.om_program.specs.Words.{Names, AreArguments}
 use Rattle.om_program.specs.Meaning.{IsOperation, says, shows, not_built, outside, last, made}
 
 pub outside_meant : (o : Operation) (n : ℕ) (b : Body) (c : SignMap) (e : ℕ) → IsOfBody n b (representation.Chirotope c) → Some e ≡ first_above c.elements (named_elements o) → IsOperation o (record { elements = n; body = b }) (says status.Refused (line.RefusedPlace e))
