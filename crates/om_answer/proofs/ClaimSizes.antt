@@ -2,28 +2,28 @@
 --
 -- Main definitions: word_bytes, line_bytes
 -- Main results: evidence_within
-use Rattle.std.proofs.Common.{◌≡◌, ℕ, zero, suc, ◌+◌, ◌*◌, ◌≤◌, List, [], ◌∷◌, ◌++◌, Bool, true, false, cond, length, map, filter, refl, sym, ap, subst, ◌∙◌, arith, inl, inr}
-use Rattle.std.specs.Prelude.{ℤ, pos, negsuc, ◌≤ℤ◌, unsigned_abs, Option, Some, None, IfSome, IfOk, codes, bytes_eq, nat_eq, nat_le, nat_lt, ◌&&◌, All, option_map, option_and_then}
+use Rattle.std.proofs.Common.{◌≡◌, ℕ, suc, ◌+◌, ◌*◌, ◌≤◌, List, [], ◌∷◌, ◌++◌, Bool, length, map, filter, refl, ap, subst, arith, inl, inr}
+use Rattle.std.specs.Prelude.{ℤ, pos, negsuc, unsigned_abs, Option, Some, None, IfSome, codes, bytes_eq, nat_eq, nat_le, nat_lt, ◌&&◌, All, option_map, option_and_then}
 use Rattle.std.proofs.Math.Dec.{leb→le, le→leb}
 use Rattle.std.proofs.lemmas.Bool.{leb-true}
 use Rattle.std.proofs.lemmas.List.Elements.{All-nil, All-cons}
 use Rattle.std.proofs.lemmas.Slice.Eq.{bytes_eq-Decides}
-use Rattle.om_signs.specs.declared.limits.TheConstants.{MAX_INPUT, MAX_ENTRIES, MAX_MULTIPLICITY, MAX_WEIGHT}
-use Rattle.om_text.specs.Lines.{lines, with_first, uncommented, is_blank, pieces, has_any, runs, words, wordful}
-use Rattle.om_text.specs.Words.{unsigned, signed}
+use Rattle.om_signs.specs.declared.limits.TheConstants.{MAX_INPUT, MAX_MULTIPLICITY, MAX_WEIGHT}
+use Rattle.om_text.specs.Lines.{lines, with_first, uncommented, is_blank, pieces, has_any, words, wordful}
+use Rattle.om_text.specs.Words.{unsigned}
 use Rattle.om_text.specs.Document.{end_line}
 use Rattle.om_text.proofs.Digits.{unsigned_within, signed_within}
 use Rattle.om_text.proofs.Distinct.{either}
 use Rattle.om_certificate.specs.declared.entry.Entry.{Entry}
 use Rattle.om_certificate.specs.declared.weight.Weight.{Weight}
 use Rattle.om_certificate.specs.declared.verdict.Verdict.{Verdict}
-use Rattle.om_certificate.specs.Validity.{IsMultiplicity, AreEntriesWithinLimits, AreWeightsWithinLimits}
+use Rattle.om_certificate.specs.Validity.{IsMultiplicity}
 use Rattle.om_answer.specs.declared.range.Range.{Range}
 use Rattle.om_answer.specs.declared.range.Range.TheVariants.{Between, UpToSize}
 use Rattle.om_answer.specs.declared.claim.Claim.{Claim}
 use Rattle.om_answer.specs.Numbers.{at_least, number_within, with_item, numbers_within, IsIn, AreIn}
-use Rattle.om_answer.specs.BlockLines.{word_line, after_name, named_numbers, entry_ranges, entry_from, strictness, entry_of, increasing, weight_ranges, weight_from, weight_of}
-use Rattle.om_answer.specs.Block.{AreLinesOf, IsBlock, realizable, nonrealizable, undecided, limit, MOST_WEIGHTS}
+use Rattle.om_answer.specs.BlockLines.{after_name, entry_ranges, entry_from, strictness, entry_of, weight_ranges, weight_from, weight_of}
+use Rattle.om_answer.specs.Block.{AreLinesOf, IsBlock, realizable, nonrealizable, undecided, limit}
 use Rattle.om_answer.specs.Claim.{IsClaim, HasEvidenceWithinLimits}
 use Rattle.om_answer.proofs.BlockForms.{lines_head, lines_tail}
 

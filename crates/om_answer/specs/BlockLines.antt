@@ -4,7 +4,6 @@
 use Rattle.std.specs.Prelude.{ℕ, ◌+◌, ℤ, List, [], ◌∷◌, Bool, true, false, cond, nat_lt, ◌&&◌, unsigned_abs, codes, Option, Some, None, bytes_eq, option_and_then}
 use Rattle.om_signs.specs.declared.limits.TheConstants.{MAX_ELEMENTS, MAX_COORDINATE, MAX_MULTIPLICITY, MAX_WEIGHT}
 use Rattle.om_vectors.specs.WholeVectors.{WholeVector}
-use Rattle.om_grassmann.specs.declared.statement.Statement.{Statement}
 use Rattle.om_simplex.specs.declared.stage.Stage.{Stage}
 use Rattle.om_simplex.specs.declared.stage.Stage.TheVariants as stage
 use Rattle.om_certificate.specs.declared.entry.Entry.{Entry}

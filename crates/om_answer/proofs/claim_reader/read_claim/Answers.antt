@@ -2,7 +2,6 @@ use Rattle.std.proofs.Common.{ℕ, arith}
 use Rattle.std.specs.Prelude.{Ok, Err}
 use Rattle.om_text.specs.Lines.{lines}
 use Rattle.om_text.specs.declared.document.Document.{Document}
-use Rattle.om_answer.specs.declared.claim.Claim.{Claim}
 use Rattle.om_answer.proofs.ClaimReading.{reads_claim, reads_every, reads_fault, reads_first, document_refused, block_refused, block_read, part_few}
 use Rattle.om_answer.proofs.ClaimSizes.{evidence_within}
 use Rattle.om_answer.proofs.claim_reader.read_claim.Goals as goal
