@@ -8,6 +8,7 @@ use Rattle.om_subsets.proofs.Statements.{subset_is_increasing}
 use Rattle.om_subsets.specs.Subsets.{choose, rank_of, subset_at}
 use Rattle.om_subsets.proofs.Order.{rank_from-lt, get_or-rank_from, same_place, listed}
 use Rattle.om_vectors.specs.Realizations.{IsTriple}
+use Rattle.om_certificate.specs.declared.room.TheConstants.{ROOM}
 use Rattle.om_certificate.specs.Certificates.{is_same}
 
 pub place_below : (n : ℕ) (b : List ℕ) → IsTriple n b → rank_of n b < choose n 3
@@ -36,10 +37,10 @@ choose_grows n zero = omega arith
 choose_grows n (suc r) = omega arith
 
 -- a table for all elements has room for the triples of fewer
-pub triples_room : (n : ℕ) → n ≤ MAX_ELEMENTS → choose n 3 ≤ 560
+pub triples_room : (n : ℕ) → n ≤ MAX_ELEMENTS → choose n 3 ≤ ROOM
 triples_room n h = go (MAX_ELEMENTS - n) n (omega arith)
   where
-    go : (d n : ℕ) → n + d ≡ MAX_ELEMENTS → choose n 3 ≤ 560
+    go : (d n : ℕ) → n + d ≡ MAX_ELEMENTS → choose n 3 ≤ ROOM
     go zero n e = let f : n ≡ MAX_ELEMENTS = omega arith in rw f (omega arith)
     go (suc d) n e = let g = choose_grows n 3 in let i = go d (suc n) (omega arith) in omega arith
 

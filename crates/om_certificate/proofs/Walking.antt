@@ -1,5 +1,5 @@
 -- The walk over the lawful statements in order.
-use Rattle.std.specs.Prelude.{ℕ, ◌≡◌, ◌-◌, ◌<◌, ℤ, pos, ◌+ℤ◌, Bool, IsTrue, ◌↔◌, List, Option, Some, None, IsNone, IfSome}
+use Rattle.std.specs.Prelude.{ℕ, ◌≡◌, ◌-◌, ◌*◌, ◌^◌, ◌<◌, ℤ, pos, ◌+ℤ◌, Bool, IsTrue, ◌↔◌, List, Option, Some, None, IsNone, IfSome}
 use Rattle.std.specs.List.{Contains}
 use Rattle.std.proofs.Math.ListN.{get_or}
 use Rattle.std.proofs.Common.{refl, sym, ◌∙◌, ap, subst, arith, inl, inr, ◌⊎◌}
@@ -23,12 +23,16 @@ abbrev pub IsWalk : SignMap → List Weight → Option Statement → Type 0
 IsWalk m ws None = (s : Statement) → IsLawful m s → IsMet ws s
 IsWalk m ws (Some t) = IsLawful m t × ((s : Statement) → IsLawful m s → IsBefore s t → IsMet ws s)
 
--- more than the places from the current statement on
+-- the places: five elements as digits to the base 256, and the nine pairs of sides
+abbrev places : ℕ
+places = 256 ^ 5 * 9
+
+-- the places from the current statement on
 unfoldable pub left : Option Statement → ℕ
 left None = 0
-left (Some t) = 9895604649984 - place t
+left (Some t) = places - place t
 
-place_small : (m : SignMap) (t : Statement) → m.elements < 256 → IsLawful m t → place t < 9895604649984
+place_small : (m : SignMap) (t : Statement) → m.elements < 256 → IsLawful m t → place t < places
 unfolding frame_place
 place_small m t few h =
     let a = h.placed.a.high in

@@ -1,9 +1,7 @@
 //! The check of a list of entries as a certificate.
 
 ghost use Rattle.std.specs.Prelude.{ℕ, ◌≡◌, ◌+◌, ◌*◌, ◌<◌, ◌≤◌, ◌^◌, ◌↔◌, length, All, IfErr, OnOk, IfSome, IfNone, IsTrue, slice_index};
-ghost use Rattle.om_subsets.specs.Subsets.{choose, rank_of, subset_at};
-ghost use Rattle.om_vectors.specs.Realizations.{IsTriple};
-ghost use Rattle.om_grassmann.specs.Sides as sides;
+ghost use Rattle.om_subsets.specs.Subsets.{choose};
 ghost use Rattle.om_certificate.specs.Certificates.{IsCertificate, AreLawful, AreBalanced, HasStrict, times_among};
 ghost use Rattle.om_certificate.specs.Validity.{AreEntriesWithinLimits};
 ghost use Rattle.om_certificate.specs.Refusals.{IsFirstUnlawful, IsEntryRefusal};

@@ -1,7 +1,6 @@
 //! The checker of evidence.
 
-ghost use Rattle.std.specs.Prelude.{◌≡◌, ◌↔◌, length, IsOk, IfErr, OnOk, Err};
-ghost use Rattle.om_vectors.specs.WholeVectors.{WholeVector};
+ghost use Rattle.std.specs.Prelude.{◌≡◌, ◌↔◌, IsOk, IfErr, OnOk, Err};
 ghost use Rattle.om_vectors.specs.Realizations.{Realizes};
 ghost use Rattle.om_certificate.specs.declared.cert_refused.CertRefused.{CertRefused};
 ghost use Rattle.om_certificate.specs.Validity.{IsValid, Shows, IsWithinLimits};

@@ -15,6 +15,8 @@ mod evidence;
 mod laws;
 mod lp_end;
 mod room;
+#[cfg(test)]
+mod tests;
 mod verdict;
 mod weighing;
 mod weight;

@@ -1,6 +1,6 @@
 //! The check of a list of weights.
 
-ghost use Rattle.std.specs.Prelude.{ℕ, ◌≡◌, ◌+◌, ◌<◌, ◌≤◌, ◌↔◌, ◌+ℤ◌, pos, slice_index_or, length, All, IfErr, OnOk, IfSome, IfNone, IsTrue};
+ghost use Rattle.std.specs.Prelude.{◌≡◌, ◌≤◌, ◌↔◌, ◌+ℤ◌, pos, slice_index_or, length, All, IfErr, OnOk, IfSome, IfNone, IsTrue};
 ghost use Rattle.om_subsets.specs.Subsets.{choose, rank_of, IsSubsetFrom};
 ghost use Rattle.om_chirotope.specs.Map.{chi_of};
 ghost use Rattle.om_grassmann.specs.declared.statement.Statement.{Statement};

@@ -1,6 +1,7 @@
 use Rattle.std.proofs.Common.{◌≡◌, refl, sym, ◌∙◌, ap, subst, arith}
 use Rattle.std.proofs.lemmas.List.Elements.{All-replicate}
 use Rattle.om_subsets.specs.Subsets.{choose, rank_of, IsSubsetFrom}
+use Rattle.om_certificate.specs.declared.room.TheConstants.{ROOM}
 use Rattle.om_certificate.proofs.Triples.{triples_room}
 use Rattle.om_certificate.proofs.Reasons.{all_balanced, unbalanced_refused}
 use Rattle.om_certificate.proofs.balance.check_balance.Goals as goal
@@ -12,10 +13,10 @@ pub count_brackets-requires-clause-big_room : goal.count_brackets-requires-claus
 count_brackets-requires-clause-big_room c = triples_room c.args.chi.now.elements (let e = c.elements-n.ensures.value in let h = c.elements-n.ensures.high in omega arith)
 
 pub count_brackets-requires-clause-small_empty : goal.count_brackets-requires-clause-small_empty
-count_brackets-requires-clause-small_empty c = All-replicate (λ k. k ≡ 0) 560 0 refl
+count_brackets-requires-clause-small_empty c = All-replicate (λ k. k ≡ 0) ROOM 0 refl
 
 pub count_brackets-requires-clause-big_empty : goal.count_brackets-requires-clause-big_empty
-count_brackets-requires-clause-big_empty c = All-replicate (λ k. k ≡ 0) 560 0 refl
+count_brackets-requires-clause-big_empty c = All-replicate (λ k. k ≡ 0) ROOM 0 refl
 
 pub bounds-small-k : goal.bounds-small-k
 bounds-small-k c = let r = triples_room c.elements-n.result c.elements-n.ensures.high in let e = c.choose-place-end.ensures.value in omega arith

@@ -1,6 +1,7 @@
 use Rattle.std.proofs.Common.{◌≡◌, ◌<◌, refl, sym, ◌∙◌, subst, arith, pos, Some}
 use Rattle.std.proofs.lemmas.Bool.{false≢true}
 use Rattle.std.proofs.lemmas.List.Elements.{All-replicate}
+use Rattle.om_certificate.specs.declared.room.TheConstants.{ROOM}
 use Rattle.om_certificate.proofs.Triples.{triples_room}
 use Rattle.om_certificate.proofs.Walking.{IsWalk, left, nearer_following, walk_following, first_unmet_here, met_by_table}
 use Rattle.om_certificate.proofs.weighing.first_unmet.Goals as goal
@@ -9,7 +10,7 @@ pub fill-requires-clause-room : goal.fill-requires-clause-room
 fill-requires-clause-room c = triples_room c.args.chi.now.elements (let e = c.elements-n.ensures.value in let h = c.elements-n.ensures.high in omega arith)
 
 pub fill-requires-clause-empty : goal.fill-requires-clause-empty
-fill-requires-clause-empty c = All-replicate (λ z. z ≡ pos 0) 560 (pos 0) refl
+fill-requires-clause-empty c = All-replicate (λ z. z ≡ pos 0) ROOM (pos 0) refl
 
 pub returns-then-not-is_met-clause-first : goal.returns-then-not-is_met-clause-first
 returns-then-not-is_met-clause-first c =
