@@ -2,8 +2,8 @@
 --
 -- Main definitions: IsCompletion
 -- Main results: body_completion, completion
-use Rattle.std.proofs.Common.{◌≡◌, ℕ, zero, suc, ◌+◌, ◌-◌, ◌≤◌, List, [], ◌∷◌, ◌++◌, Bool, true, false, cond, length, refl, ap, ◌∙◌, arith, length-append, append-nil, eq-eqb}
-use Rattle.std.specs.Prelude.{Result, Ok, Err, codes, filter}
+use Rattle.std.proofs.Common.{◌≡◌, ℕ, zero, suc, ◌+◌, ◌-◌, ◌<◌, ◌≤◌, List, [], ◌∷◌, ◌++◌, Bool, true, false, cond, length, refl, ap, ◌∙◌, arith, length-append, append-nil, eq-eqb}
+use Rattle.std.specs.Prelude.{ℤ, Result, Ok, Err, codes, filter}
 use Rattle.std.specs.List.{list_all, concat}
 use Rattle.std.proofs.lemmas.Bool.{leb-true, le-leb}
 use Rattle.std.proofs.lemmas.List.{length-map}
@@ -12,7 +12,7 @@ use Rattle.om_subsets.specs.Subsets.{choose}
 use Rattle.om_text.specs.declared.document.Document.{Document}
 use Rattle.om_signs.specs.declared.raw_map.RawMap.{RawMap}
 use Rattle.om_text.specs.declared.body.Body.{Body}
-use Rattle.om_text.specs.declared.body.Body.TheVariants.{Chirotope}
+use Rattle.om_text.specs.declared.body.Body.TheVariants.{Chirotope, Points}
 use Rattle.om_text.specs.declared.code.Code.{Code}
 use Rattle.om_text.specs.declared.code.Code.TheVariants as code
 use Rattle.om_text.specs.declared.state.State.{State}
@@ -20,11 +20,14 @@ use Rattle.om_text.specs.declared.state.State.TheVariants.{Start, Versioned, Ope
 use Rattle.om_text.specs.Lines.{words, wordful, has_any, uncommented, pieces, with_first}
 use Rattle.om_text.specs.Words.{is_sign, sign_of_byte}
 use Rattle.om_text.specs.Document.{is_line, end_line, are_signs, signs_of_line, size_of, room_of, has_room}
+use Rattle.om_text.specs.Points.{point_on}
 use Rattle.om_text.specs.Reading.{step, added}
 use Rattle.om_text.proofs.Feeds.{is_one_line}
 use Rattle.om_text.proofs.Filling.{signs_not_end}
 use Rattle.om_text.proofs.Course.{Shows, run_words}
 use Rattle.om_text.proofs.Language.{bind}
+
+-- ---- maps
 
 -- a line of k signs
 pluses : ℕ → List ℕ
@@ -88,13 +91,40 @@ added_pluses n k m h =
     one false false c x y h g k = cc
     one false true false x y h g k = cc
 
-pub body_completion : (n : ℕ) (b : Body) → size_of b ≤ room_of b → (more : List (List ℕ)) × IsCompletion (Open (record { elements = n; body = b })) more
+-- ---- points
+
+-- the line of a point
+zeros : List ℕ
+zeros = codes "0 0 0"
+
+zero_words : List (List ℕ)
+zero_words = codes "0" ∷ codes "0" ∷ codes "0" ∷ []
+
+all_points : (n : ℕ) (ps : List (List ℤ)) → length ps ≡ n → run_words (Open (record { elements = n; body = Points ps })) (end_line ∷ []) ≡ Ok (Closed (record { elements = n; body = Points ps }))
+all_points n ps e = rw (eq-eqb (length ps) n e) refl
+
+one_point : (n : ℕ) (ps : List (List ℤ)) → length ps < n → step (Open (record { elements = n; body = Points ps })) zero_words ≡ Ok (Open (record { elements = n; body = Points (ps ++ point_on zero_words ∷ []) }))
+unfolding zero_words
+one_point n ps h = rw (le-leb (length (ps ++ point_on zero_words ∷ [])) n (omega (arith, length-append ps (point_on zero_words ∷ [])))) refl
+
+points_completion : (k n : ℕ) (ps : List (List ℤ)) → length ps + k ≡ n → (more : List (List ℕ)) × IsCompletion (Open (record { elements = n; body = Points ps })) more
+unfolding zeros zero_words
+points_completion zero n ps e = (codes "end" ∷ [], record { document = record { elements = n; body = Points ps }; run = all_points n ps (omega arith); one_line = refl })
+points_completion (suc k) n ps e =
+    let o = one_point n ps (omega arith) in
+    let i = points_completion k n (ps ++ point_on zero_words ∷ []) (omega (arith, length-append ps (point_on zero_words ∷ []))) in
+    (zeros ∷ i.0, record { document = i.1.document; run = ap (λ x. bind x (λ t. run_words t (wordful i.0))) o ∙ i.1.run; one_line = i.1.one_line })
+
+-- ---- any state
+
+pub body_completion : (n : ℕ) (b : Body) → size_of b ≤ room_of b n → (more : List (List ℕ)) × IsCompletion (Open (record { elements = n; body = b })) more
 body_completion n (Chirotope m) h = short (choose m.elements m.rank - length m.signs) (omega arith)
   where
     short : (k : ℕ) → length m.signs + k ≡ choose m.elements m.rank → (more : List (List ℕ)) × IsCompletion (Open (record { elements = n; body = Chirotope m })) more
     short zero e = (codes "end" ∷ [], record { document = record { elements = n; body = Chirotope m }; run = full n m (omega arith); one_line = refl })
     short (suc k) e = let a = added_pluses n k m e in
         (pluses (suc k) ∷ codes "end" ∷ [], record { document = a.0; run = rw (words_pluses k) a.1; one_line = rw (one_line_pluses (suc k)) refl })
+body_completion n (Points ps) h = points_completion (n - length ps) n ps (omega arith)
 body_completion n b h = (codes "end" ∷ [], record { document = record { elements = n; body = b }; run = refl; one_line = refl })
 
 -- the least document

@@ -1,7 +1,7 @@
 -- The step for documents: what a state stands for, the code of a line that a step refuses, and the run of a document's lines.
 --
--- Main definitions: IsOpen, Shows, run_words
--- Main results: step_shows, step_error, spelled_run
+-- Main definitions: IsOpen, Shows, IsTaken, run_words
+-- Main results: taken, step_shows, step_error, spelled_run
 use Rattle.std.proofs.Common.{◌≡◌, ℕ, List, [], ◌∷◌, ◌++◌, Bool, true, false, cond, not, ◌&&◌, ◌||◌, inl, inr, refl, sym, ap, subst, ◌∙◌, append_assoc, append-nil}
 use Rattle.std.specs.Prelude.{Option, Some, None, Result, Ok, Err, is_none, option_and_then}
 use Rattle.std.specs.List.{list_any, list_all}
@@ -12,14 +12,14 @@ use Rattle.om_text.specs.declared.code.Code.TheVariants as code
 use Rattle.om_text.specs.declared.state.State.{State}
 use Rattle.om_text.specs.declared.state.State.TheVariants.{Start, Versioned, Open, Closed}
 use Rattle.om_text.specs.declared.kind.Kind.{Kind}
-use Rattle.om_text.specs.Document.{IsSpelled, is_line, version_line, end_line, is_body_line, are_signs, has_length, filled, has_room, is_complete}
+use Rattle.om_text.specs.Document.{IsSpelled, is_line, version_line, end_line, is_body_line, has_signs, has_length, has_numbers, filled, has_room, is_complete}
 use Rattle.om_text.specs.Heading.{is_unbuilt, first_word, kind_of, heading, opened, has_elements, has_rank, rank_of_body}
 use Rattle.om_text.specs.Fault.{kind, body, «end», after, place, when, first_of, table}
 use Rattle.om_text.specs.Reading.{step, after_kind, with_heading, after_body, after_end, added}
 use Rattle.om_text.proofs.Language as any
 use Rattle.om_text.proofs.Language.{bind}
-use Rattle.om_text.proofs.Distinct.{either}
-use Rattle.om_text.proofs.Filling.{is_line-Decides, signs_not_end, has_length_filled, filled_added, room_before, room_empty}
+use Rattle.om_text.proofs.Distinct.{either, both}
+use Rattle.om_text.proofs.Filling.{is_line-Decides, line_not_end, has_signs_filled, has_length_filled, has_numbers_filled, filled_added, room_before, room_empty}
 
 -- the lines so far are a document's up to a place in its body
 pub record IsOpen (ls : List (List (List ℕ))) (d : Document) : Type 0 where
@@ -52,10 +52,25 @@ cond_err false r c t h = (refl, h)
 pub ok_same : (s t : State) → ◌≡◌ {A = Result State Code} (Ok s) (Ok t) → s ≡ t
 ok_same s t h = cc
 
-pub both : (a b : Bool) → (a && b) ≡ true → (a ≡ true) × (b ≡ true)
-both true true h = (refl, refl)
-both true false h = cc
-both false b h = cc
+-- what a line that a body takes meets
+pub record IsTaken (d : Document) (w : List (List ℕ)) (t : State) : Type 0 where
+  pub signs : has_signs d w ≡ true
+  pub length : has_length d w ≡ true
+  pub numbers : has_numbers d w ≡ true
+  pub room : has_room (added d w) ≡ true
+  pub state : Open (added d w) ≡ t
+
+pub taken : (d : Document) (w : List (List ℕ)) (t : State) → after_body d w ≡ Ok t → IsTaken d w t
+taken d w t h =
+    let p = at (has_signs d w) (has_length d w) (has_numbers d w) (has_room (added d w)) (Open (added d w)) t h in
+    record { signs = p.0; length = p.1; numbers = p.2; room = p.3; state = p.4 }
+  where
+    at : (a b c e : Bool) (x t : State) → cond a (cond b (cond c (cond e (Ok x) (Err code.Many)) (Err code.Number)) (Err code.Length)) (Err code.Sign) ≡ Ok t → (a ≡ true) × (b ≡ true) × (c ≡ true) × (e ≡ true) × (x ≡ t)
+    at true true true true x t h = (refl, refl, refl, refl, ok_same x t h)
+    at true true true false x t h = cc
+    at true true false e x t h = cc
+    at true false c e x t h = cc
+    at false b c e x t h = cc
 
 list_all-append : (p : List (List ℕ) → Bool) (xs : List (List (List ℕ))) (y : List (List ℕ)) → list_all p xs ≡ true → p y ≡ true → list_all p (xs ++ y ∷ []) ≡ true
 list_all-append p [] y h e = rw e refl
@@ -79,12 +94,12 @@ kind_shows w t h =
 
 body_shows : (ls : List (List (List ℕ))) (d : Document) (w : List (List ℕ)) (t : State) → IsOpen ls d → after_body d w ≡ Ok t → Shows t (ls ++ w ∷ [])
 body_shows ls d w t o h =
-    let a = cond_ok (are_signs w) (cond (has_length d w) (cond (has_room (added d w)) (Ok (Open (added d w))) (Err code.Many)) (Err code.Length)) code.Sign t h in
-    let b = cond_ok (has_length d w) (cond (has_room (added d w)) (Ok (Open (added d w))) (Err code.Many)) code.Length t a.1 in
-    let c = cond_ok (has_room (added d w)) (Ok (Open (added d w))) code.Many t b.1 in
+    let a = taken d w t h in
     let v : added d w ≡ filled o.head (o.body ++ w ∷ []) = ap (λ e. added e w) o.value ∙ ap (λ x. record { elements = o.head.elements; body = x }) (filled_added o.head.body o.body w) in
-    let l : has_length o.head w ≡ true = sym (has_length_filled o.head.body o.body o.head.elements w) ∙ sym (ap (λ e. has_length e w) o.value) ∙ b.0 in
-    let line : is_body_line o.head w ≡ true = rw (a.0, l) refl in
+    let s : has_signs o.head w ≡ true = sym (has_signs_filled o.head.body o.body w) ∙ sym (ap (λ e. has_signs e w) o.value) ∙ a.signs in
+    let l : has_length o.head w ≡ true = sym (has_length_filled o.head.body o.body o.head.elements w) ∙ sym (ap (λ e. has_length e w) o.value) ∙ a.length in
+    let m : has_numbers o.head w ≡ true = sym (has_numbers_filled o.head.body o.body w) ∙ sym (ap (λ e. has_numbers e w) o.value) ∙ a.numbers in
+    let line : is_body_line o.head w ≡ true = rw (s, l, m) refl in
     let n : IsOpen (ls ++ w ∷ []) (added d w) = record {
       kind_line = o.kind_line;
       head = o.head;
@@ -94,10 +109,10 @@ body_shows ls d w t o h =
       elements = o.elements;
       rank = o.rank;
       each = list_all-append (is_body_line o.head) o.body w o.each line;
-      room = sym (ap has_room v) ∙ c.0;
+      room = sym (ap has_room v) ∙ a.room;
       value = v;
     } in
-    subst (λ s. Shows s (ls ++ w ∷ [])) (ok_same _ _ c.1) n
+    subst (λ s. Shows s (ls ++ w ∷ [])) a.state n
 
 end_shows : (ls : List (List (List ℕ))) (d : Document) (t : State) → IsOpen ls d → after_end d ≡ Ok t → Shows t (ls ++ end_line ∷ [])
 end_shows ls d t o h =
@@ -157,9 +172,12 @@ heading_rows (Some d) c tail h =
 kind_rows : (w : List (List ℕ)) (c : Code) → after_kind w ≡ Err c → first_of (table kind w) ≡ Some c
 kind_rows w c h = rows_when (is_unbuilt (first_word w)) code.Unbuilt c _ _ (λ g. rows_when (is_none (kind_of (first_word w))) code.Kind c _ _ (λ k. heading_rows (heading w) c _ k) g) h
 
-body_rows : (head d : Document) (ls : List (List (List ℕ))) (w : List (List ℕ)) (c : Code) → has_length d w ≡ has_length head w → has_room (added d w) ≡ has_room (filled head (ls ++ w ∷ [])) → after_body d w ≡ Err c → first_of (table (body head ls) w) ≡ Some c
-body_rows head d ls w c l r h =
-    rows_not (are_signs w) code.Sign c _ _ (λ g. rw (← l) (rows_not (has_length d w) code.Length c _ _ (λ k. rw (← r) (rows_not (has_room (added d w)) code.Many c (Ok (Open (added d w))) (None ∷ None ∷ []) (no_error _ c (None ∷ None ∷ [])) k)) g)) h
+body_rows : (head d : Document) (ls : List (List (List ℕ))) (w : List (List ℕ)) (c : Code) → has_signs d w ≡ has_signs head w → has_length d w ≡ has_length head w → has_numbers d w ≡ has_numbers head w → has_room (added d w) ≡ has_room (filled head (ls ++ w ∷ [])) → after_body d w ≡ Err c → first_of (table (body head ls) w) ≡ Some c
+body_rows head d ls w c s l m r h =
+    rw (← s) (rows_not (has_signs d w) code.Sign c _ _
+    (λ g. rw (← l) (rows_not (has_length d w) code.Length c _ _
+    (λ k. rw (← m) (rows_not (has_numbers d w) code.Number c _ _
+    (λ j. rw (← r) (rows_not (has_room (added d w)) code.Many c (Ok (Open (added d w))) (None ∷ None ∷ []) (no_error _ c (None ∷ None ∷ [])) j)) k)) g)) h)
 
 end_rows : (head d : Document) (ls : List (List (List ℕ))) (w : List (List ℕ)) (c : Code) → is_complete d ≡ is_complete (filled head ls) → after_end d ≡ Err c → first_of (table («end» head ls) w) ≡ Some c
 end_rows head d ls w c e h = rw (← e) (rows_not (is_complete d) code.Few c (Ok (Closed d)) (None ∷ []) (no_error _ c (None ∷ [])) h)
@@ -168,12 +186,14 @@ no_end : (head : Document) (ls : List (List (List ℕ))) → list_all (is_body_l
 no_end head [] h = refl
 no_end head (l ∷ ls) h =
     let a = both (is_body_line head l) (list_all (is_body_line head) ls) h in
-    let b = both (are_signs l) (has_length head l) a.0 in
-    rw (signs_not_end l b.0) (no_end head ls a.1)
+    rw (line_not_end head.body head.elements l a.0) (no_end head ls a.1)
 
 -- the code of a step that fails is that of the table's first row that holds
 pub step_error : (s : State) (ls : List (List (List ℕ))) (w : List (List ℕ)) (c : Code) → Shows s ls → step s w ≡ Err c → first_of (table (place ls w) w) ≡ Some c
-step_error Start ls w c o h = subst (λ x. first_of (table (place x w) w) ≡ Some c) (sym o) (rows_not (is_line w version_line) code.Version c (Ok Versioned) (None ∷ None ∷ None ∷ None ∷ None ∷ None ∷ None ∷ None ∷ None ∷ []) (no_error _ c (None ∷ None ∷ None ∷ None ∷ None ∷ None ∷ None ∷ None ∷ None ∷ [])) h)
+step_error Start ls w c o h = subst (λ x. first_of (table (place x w) w) ≡ Some c) (sym o) (rows_not (is_line w version_line) code.Version c (Ok Versioned) later (no_error _ c later) h)
+  where
+    later : List (Option Code)
+    later = None ∷ None ∷ None ∷ None ∷ None ∷ None ∷ None ∷ None ∷ None ∷ None ∷ []
 step_error Versioned ls w c o h = subst (λ x. first_of (table (place x w) w) ≡ Some c) (sym o) (kind_rows w c h)
 step_error (Open d) ls w c o h =
     let at : place (version_line ∷ o.kind_line ∷ o.body) w ≡ cond (is_line w end_line) («end» o.head o.body) (body o.head o.body) = rw (o.heading, no_end o.head o.body o.each) refl in
@@ -183,9 +203,11 @@ step_error (Open d) ls w c o h =
           subst (λ p. first_of (table p w) ≡ Some c) (sym q) (end_rows o.head d o.body w c (ap is_complete o.value) a)
       | inr n ↦ let a : after_body d w ≡ Err c = rw n at h in
           let q : place (version_line ∷ o.kind_line ∷ o.body) w ≡ body o.head o.body = at ∙ rw n refl in
+          let s : has_signs d w ≡ has_signs o.head w = ap (λ e. has_signs e w) o.value ∙ has_signs_filled o.head.body o.body w in
           let l : has_length d w ≡ has_length o.head w = ap (λ e. has_length e w) o.value ∙ has_length_filled o.head.body o.body o.head.elements w in
+          let m : has_numbers d w ≡ has_numbers o.head w = ap (λ e. has_numbers e w) o.value ∙ has_numbers_filled o.head.body o.body w in
           let v : added d w ≡ filled o.head (o.body ++ w ∷ []) = ap (λ e. added e w) o.value ∙ ap (λ x. record { elements = o.head.elements; body = x }) (filled_added o.head.body o.body w) in
-          subst (λ p. first_of (table p w) ≡ Some c) (sym q) (body_rows o.head d o.body w c l (ap has_room v) a)
+          subst (λ p. first_of (table p w) ≡ Some c) (sym q) (body_rows o.head d o.body w c s l m (ap has_room v) a)
     ])
 step_error (Closed d) ls w c o h =
     let any : list_any (λ l. is_line l end_line) (o.body ++ end_line ∷ []) ≡ true = list_any-append (λ l. is_line l end_line) o.body (end_line ∷ []) ∙ or_true (list_any (λ l. is_line l end_line) o.body) in
@@ -229,33 +251,37 @@ body_run : (head : Document) (pre ls : List (List (List ℕ))) → list_all (is_
 body_run head pre [] a r c = rw (append-nil pre) (let d : is_complete (filled head pre) ≡ true = rw (append-nil pre) at c in rw d refl)
 body_run head pre (w ∷ ws) a r c =
     let b = both (is_body_line head w) (list_all (is_body_line head) ws) a in
-    let l = both (are_signs w) (has_length head w) b.0 in
+    let f = both (has_signs head w && has_length head w) (has_numbers head w) b.0 in
+    let l = both (has_signs head w) (has_length head w) f.0 in
     let q : (pre ++ w ∷ []) ++ ws ≡ pre ++ w ∷ ws = append_assoc pre (w ∷ []) ws in
     let r2 : has_room (filled head ((pre ++ w ∷ []) ++ ws)) ≡ true = rw q r in
     let c2 : is_complete (filled head ((pre ++ w ∷ []) ++ ws)) ≡ true = rw q c in
     let room : has_room (filled head (pre ++ w ∷ [])) ≡ true = room_before head (pre ++ w ∷ []) ws r2 in
     let v : added (filled head pre) w ≡ filled head (pre ++ w ∷ []) = ap (λ x. record { elements = head.elements; body = x }) (filled_added head.body pre w) in
+    let s : has_signs (filled head pre) w ≡ true = has_signs_filled head.body pre w ∙ l.0 in
     let n : has_length (filled head pre) w ≡ true = has_length_filled head.body pre head.elements w ∙ l.1 in
-    let one : step (Open (filled head pre)) w ≡ Ok (Open (filled head (pre ++ w ∷ []))) = first_step head pre w (signs_not_end w l.0) l.0 n v room in
+    let m : has_numbers (filled head pre) w ≡ true = has_numbers_filled head.body pre w ∙ f.1 in
+    let one : step (Open (filled head pre)) w ≡ Ok (Open (filled head (pre ++ w ∷ []))) = first_step head pre w (line_not_end head.body head.elements w b.0) s n m v room in
     let more : run_words (Open (filled head (pre ++ w ∷ []))) (ws ++ end_line ∷ []) ≡ Ok (Closed (filled head ((pre ++ w ∷ []) ++ ws))) = body_run head (pre ++ w ∷ []) ws b.1 r2 c2 in
     ap (λ x. bind x (λ t. run_words t (ws ++ end_line ∷ []))) one ∙ more ∙ ap (λ x. Ok (Closed (filled head x))) q
   where
-    first_step : (head : Document) (pre : List (List (List ℕ))) (w : List (List ℕ)) → is_line w end_line ≡ false → are_signs w ≡ true → has_length (filled head pre) w ≡ true → added (filled head pre) w ≡ filled head (pre ++ w ∷ []) → has_room (filled head (pre ++ w ∷ [])) ≡ true → step (Open (filled head pre)) w ≡ Ok (Open (filled head (pre ++ w ∷ [])))
-    first_step head pre w n s l v r =
+    first_step : (head : Document) (pre : List (List (List ℕ))) (w : List (List ℕ)) → is_line w end_line ≡ false → has_signs (filled head pre) w ≡ true → has_length (filled head pre) w ≡ true → has_numbers (filled head pre) w ≡ true → added (filled head pre) w ≡ filled head (pre ++ w ∷ []) → has_room (filled head (pre ++ w ∷ [])) ≡ true → step (Open (filled head pre)) w ≡ Ok (Open (filled head (pre ++ w ∷ [])))
+    first_step head pre w n s l m v r =
         let r2 : has_room (added (filled head pre) w) ≡ true = ap has_room v ∙ r in
-        let m : after_body (filled head pre) w ≡ Ok (Open (added (filled head pre) w)) = chain _ _ _ _ s l r2 in
+        let g : after_body (filled head pre) w ≡ Ok (Open (added (filled head pre) w)) = chain _ _ _ _ _ s l m r2 in
         let c : step (Open (filled head pre)) w ≡ after_body (filled head pre) w = choose_second _ _ _ n in
-        c ∙ m ∙ ap (λ e. Ok (Open e)) v
+        c ∙ g ∙ ap (λ e. Ok (Open e)) v
       where
         choose_second : (b : Bool) (x y : Result State Code) → b ≡ false → cond b x y ≡ y
         choose_second true x y h = cc
         choose_second false x y h = refl
 
-        chain : (a b c : Bool) (x : Result State Code) → a ≡ true → b ≡ true → c ≡ true → cond a (cond b (cond c x (Err code.Many)) (Err code.Length)) (Err code.Sign) ≡ x
-        chain true true true x a b c = refl
-        chain true true false x a b c = cc
-        chain true false z x a b c = cc
-        chain false y z x a b c = cc
+        chain : (a b c e : Bool) (x : Result State Code) → a ≡ true → b ≡ true → c ≡ true → e ≡ true → cond a (cond b (cond c (cond e x (Err code.Many)) (Err code.Number)) (Err code.Length)) (Err code.Sign) ≡ x
+        chain true true true true x a b c e = refl
+        chain true true true false x a b c e = cc
+        chain true true false z x a b c e = cc
+        chain true false y z x a b c e = cc
+        chain false u y z x a b c e = cc
 
 -- the lines of a document are read to its end
 pub spelled_run : (ls : List (List (List ℕ))) (d : Document) → IsSpelled ls d → run_words Start ls ≡ Ok (Closed d)

@@ -1,12 +1,13 @@
--- Numbers of at most six digits.
+-- Numbers of at most six digits, and of any number of digits up to a limit.
 --
--- Main results: ten_small, digit_at, number_step, number_end
-use Rattle.std.proofs.Common.{◌≡◌, ℕ, zero, suc, ◌+◌, ◌-◌, ◌*◌, ◌<◌, ◌≤◌, List, [], ◌∷◌, true, length, drop, get_or, refl, arith, nat_le}
+-- Main results: ten_small, digit_at, number_step, number_end, number_grows, unsigned_within, signed_within
+use Rattle.std.proofs.Common.{◌≡◌, ℕ, zero, suc, ◌+◌, ◌-◌, ◌*◌, ◌<◌, ◌≤◌, List, [], ◌∷◌, true, length, drop, get_or, refl, arith, nat_le, inl, inr}
 use Rattle.std.specs.List.{list_all}
-use Rattle.std.proofs.lemmas.Bool.{leb-true}
+use Rattle.std.proofs.lemmas.Bool.{leb-true, lt-leb}
 use Rattle.std.proofs.Math.ListN.{drop_of_length-le}
-use Rattle.om_text.specs.Words.{is_digit, number_from}
-use Rattle.om_text.proofs.Course.{both}
+use Rattle.std.specs.Prelude.{Option, Some, None, IfSome, option_map, pos, unsigned_abs}
+use Rattle.om_text.specs.Words.{is_digit, number_from, begins_with, is_decimal, up_to, unsigned, negative, signed}
+use Rattle.om_text.proofs.Distinct.{both, either}
 
 -- ten times ten, k times
 abbrev pub ten : ℕ → ℕ
@@ -37,3 +38,38 @@ number_step (b ∷ bs) (suc i) n l = let e : suc i + 1 ≡ suc (i + 1) = omega a
 
 pub number_end : (w : List ℕ) (i n : ℕ) → length w ≤ i → number_from n (drop i w) ≡ n
 number_end w i n h = rw (drop_of_length-le w h) refl
+
+-- a number goes on to no smaller one
+pub number_grows : (n : ℕ) (w : List ℕ) → n ≤ number_from n w
+number_grows n [] = omega arith
+number_grows n (b ∷ bs) = let i = number_grows (10 * n + (b - 48)) bs in omega arith
+
+pub past_limit : (limit n : ℕ) (w : List ℕ) → limit < n → up_to limit (number_from n w) ≡ None
+past_limit limit n w h = let i = number_grows n w in rw (lt-leb (number_from n w) limit (omega arith)) refl
+
+up_to_within : (limit n : ℕ) → IfSome (up_to limit n) (λ k. k ≤ limit)
+up_to_within limit n = elim (either (nat_le n limit)) [
+  | inl e ↦ rw e (leb-true n limit e)
+  | inr e ↦ rw e tt
+]
+
+pub unsigned_within : (limit : ℕ) (w : List ℕ) → IfSome (unsigned limit w) (λ k. k ≤ limit)
+unsigned_within limit w = elim (either (is_decimal w)) [
+  | inl e ↦ rw e (up_to_within limit (number_from 0 w))
+  | inr e ↦ rw e tt
+]
+
+pub signed_within : (limit : ℕ) (w : List ℕ) → IfSome (signed limit w) (λ z. unsigned_abs z ≤ limit)
+signed_within limit w = elim (either (begins_with 45 w)) [
+  | inl e ↦ rw e (below (unsigned limit (drop 1 w)) (unsigned_within limit (drop 1 w)))
+  | inr e ↦ rw e (above (unsigned limit w) (unsigned_within limit w))
+]
+  where
+    below : (o : Option ℕ) → IfSome o (λ k. k ≤ limit) → IfSome (negative o) (λ z. unsigned_abs z ≤ limit)
+    below None h = tt
+    below (Some zero) h = tt
+    below (Some (suc n)) h = h
+
+    above : (o : Option ℕ) → IfSome o (λ k. k ≤ limit) → IfSome (option_map pos o) (λ z. unsigned_abs z ≤ limit)
+    above None h = tt
+    above (Some n) h = h

@@ -1,7 +1,7 @@
 -- The distinct members of a list, member by member.
 --
--- Main results: same_row-Decides, distinct-append, with_member_grows
-use Rattle.std.proofs.Common.{◌≡◌, ◌≤◌, List, [], ◌∷◌, ◌++◌, Bool, true, false, cond, not, ◌||◌, ◌⊎◌, inl, inr, length, refl, sym, ap, ◌∙◌, arith, length-append, append-nil}
+-- Main results: both, same_row-Decides, distinct-append, with_member_grows
+use Rattle.std.proofs.Common.{◌≡◌, ◌≤◌, List, [], ◌∷◌, ◌++◌, Bool, true, false, cond, not, ◌&&◌, ◌||◌, ◌⊎◌, inl, inr, length, refl, sym, ap, ◌∙◌, arith, length-append, append-nil}
 use Rattle.std.specs.Prelude.{filter, Decides, IsTrue}
 use Rattle.std.specs.List.{list_any}
 use Rattle.std.proofs.lemmas.Slice.Eq.{slice_eq-Decides}
@@ -13,6 +13,11 @@ use Rattle.om_text.specs.Reading.{with_member}
 pub either : (b : Bool) → (b ≡ true) ⊎ (b ≡ false)
 either true = inl refl
 either false = inr refl
+
+pub both : (a b : Bool) → (a && b) ≡ true → (a ≡ true) × (b ≡ true)
+both true true h = (refl, refl)
+both true false h = cc
+both false b h = cc
 
 pub same_sign-Decides : (s t : Sign) → Decides (same_sign s t) (s ≡ t)
 same_sign-Decides Minus Minus = (λ _. refl, λ _. refl)

@@ -2,17 +2,12 @@
 --
 -- Main definitions: is_one_line
 -- Main results: lines_text, lines_one_line
-use Rattle.std.proofs.Common.{◌≡◌, ℕ, zero, suc, List, [], ◌∷◌, ◌++◌, Bool, true, false, not, ◌&&◌, take, refl, ap, ◌∙◌, inl, inr, nat_eq}
+use Rattle.std.proofs.Common.{◌≡◌, ℕ, zero, suc, List, [], ◌∷◌, ◌++◌, Bool, true, false, not, take, refl, ap, ◌∙◌, inl, inr, nat_eq}
 use Rattle.std.specs.List.{list_all}
 use Rattle.std.proofs.lemmas.List.Folds.{list_all-append}
 use Rattle.om_text.specs.Lines.{lines, with_first}
 use Rattle.om_text.specs.Print.{text_of}
-use Rattle.om_text.proofs.Distinct.{either}
-
-both : (a b : Bool) → (a && b) ≡ true → (a ≡ true) × (b ≡ true)
-both true true h = (refl, refl)
-both true false h = cc
-both false b h = cc
+use Rattle.om_text.proofs.Distinct.{either, both}
 
 pub not_true : (b : Bool) → not b ≡ true → b ≡ false
 not_true true h = cc

@@ -1,7 +1,7 @@
 -- A body and one more line of it, kind by kind.
 --
--- Main results: filled_added, room_before, room_empty, signs_not_end
-use Rattle.std.proofs.Common.{◌≡◌, ℕ, ◌≤◌, List, [], ◌∷◌, ◌++◌, true, false, inl, inr, refl, sym, ap, ◌∙◌, arith, length-append, append_assoc, append-nil, map}
+-- Main results: filled_added, room_before, room_empty, line_not_end
+use Rattle.std.proofs.Common.{◌≡◌, ℕ, ◌≤◌, List, [], ◌∷◌, ◌++◌, true, false, ◌&&◌, inl, inr, refl, sym, ap, ◌∙◌, arith, length-append, append_assoc, append-nil, map}
 use Rattle.std.specs.Prelude.{Decides, nat_le}
 use Rattle.std.specs.List.{concat}
 use Rattle.std.proofs.lemmas.Slice.Eq.{slice_eq-Decides, bytes_eq-Decides}
@@ -10,16 +10,16 @@ use Rattle.std.proofs.lemmas.Bool.{leb-true, le-leb}
 use Rattle.std.proofs.lemmas.List.Folds.{concat-append}
 use Rattle.std.proofs.Math.Dec.{leb-zero}
 use Rattle.om_subsets.specs.Subsets.{choose}
-use Rattle.om_signs.specs.declared.sign.Sign.{Sign}
 use Rattle.om_text.specs.declared.document.Document.{Document}
 use Rattle.om_text.specs.declared.body.Body.{Body}
-use Rattle.om_text.specs.declared.body.Body.TheVariants.{Chirotope}
+use Rattle.om_text.specs.declared.body.Body.TheVariants.{Chirotope, Points}
 use Rattle.om_text.specs.Words.{sign_of_byte}
 use Rattle.om_text.specs.Rows.{distinct}
 use Rattle.om_text.specs.Members.{members_of, with_members}
-use Rattle.om_text.specs.Document.{is_line, end_line, are_signs, signs_of_line, all_signs, filled_body, filled, size_of, room_of, has_length_in, has_room}
+use Rattle.om_text.specs.Points.{point_on}
+use Rattle.om_text.specs.Document.{is_line, end_line, are_signs, signs_of_line, all_signs, filled_body, filled, size_of, room_of, has_signs_in, has_length_in, has_numbers_in, has_room}
 use Rattle.om_text.specs.Reading.{added_body}
-use Rattle.om_text.proofs.Distinct.{either, distinct-append, with_member_grows}
+use Rattle.om_text.proofs.Distinct.{either, both, distinct-append, with_member_grows}
 
 pub is_line-Decides : (w v : List (List ℕ)) → Decides (is_line w v) (w ≡ v)
 is_line-Decides w v = slice_eq-Decides bytes_eq-Decides w v (is_line w v) refl
@@ -32,30 +32,54 @@ signs_not_end w h = elim (either (is_line w end_line)) [
   | inr n ↦ n
 ]
 
+-- nor is any line of a body
+pub line_not_end : (b : Body) (n : ℕ) (w : List (List ℕ)) → (has_signs_in b w && has_length_in b n w && has_numbers_in b w) ≡ true → is_line w end_line ≡ false
+line_not_end (Points ps) n w h = elim (either (is_line w end_line)) [
+  | inl e ↦ let q : w ≡ end_line = (is_line-Decides w end_line).0 e in
+      let bad = rw q at h in cc
+  | inr n ↦ n
+]
+line_not_end (Chirotope m) n w h = signs_not_end w (both (are_signs w) true (both (are_signs w && true) true h).0).0
+line_not_end b n w h = signs_not_end w (both (are_signs w) (has_length_in b n w) (both (are_signs w && has_length_in b n w) true h).0).0
+
+pub has_signs_filled : (b : Body) (ls : List (List (List ℕ))) (w : List (List ℕ)) → has_signs_in (filled_body b ls) w ≡ has_signs_in b w
+has_signs_filled (Chirotope m) ls w = refl
+has_signs_filled (Points ps) ls w = refl
+has_signs_filled _ ls w = refl
+
+pub has_numbers_filled : (b : Body) (ls : List (List (List ℕ))) (w : List (List ℕ)) → has_numbers_in (filled_body b ls) w ≡ has_numbers_in b w
+has_numbers_filled (Chirotope m) ls w = refl
+has_numbers_filled (Points ps) ls w = refl
+has_numbers_filled _ ls w = refl
+
 pub has_length_filled : (b : Body) (ls : List (List (List ℕ))) (n : ℕ) (w : List (List ℕ)) → has_length_in (filled_body b ls) n w ≡ has_length_in b n w
 has_length_filled (Chirotope m) ls n w = refl
+has_length_filled (Points ps) ls n w = refl
 has_length_filled _ ls n w = refl
 
-pub room_filled : (b : Body) (ls : List (List (List ℕ))) → room_of (filled_body b ls) ≡ room_of b
-room_filled (Chirotope m) ls = refl
-room_filled _ ls = refl
+pub room_filled : (b : Body) (ls : List (List (List ℕ))) (n : ℕ) → room_of (filled_body b ls) n ≡ room_of b n
+room_filled (Chirotope m) ls n = refl
+room_filled (Points ps) ls n = refl
+room_filled _ ls n = refl
 
 all_signs-append : (ls : List (List (List ℕ))) (w : List (List ℕ)) → all_signs (ls ++ w ∷ []) ≡ all_signs ls ++ signs_of_line w
 all_signs-append ls w = rw (map-append concat ls (w ∷ []), concat-append (map concat ls) (concat w ∷ []), append-nil (concat w)) (map-append sign_of_byte (concat (map concat ls)) (concat w))
 
 -- one more line
-pub filled_added : (b : Body) (ls : List (List (List ℕ))) (w : List (List ℕ)) → added_body (filled_body b ls) (signs_of_line w) ≡ filled_body b (ls ++ w ∷ [])
+pub filled_added : (b : Body) (ls : List (List (List ℕ))) (w : List (List ℕ)) → added_body (filled_body b ls) w ≡ filled_body b (ls ++ w ∷ [])
 filled_added (Chirotope m) ls w = ap (λ xs. Chirotope (record { rank = m.rank; elements = m.elements; signs = xs })) (sym (all_signs-append ls w))
+filled_added (Points ps) ls w = ap Points (sym (map-append point_on ls (w ∷ [])))
 filled_added b ls w = ap (with_members b) (sym (ap distinct (map-append signs_of_line ls (w ∷ [])) ∙ distinct-append (map signs_of_line ls) (signs_of_line w)))
 
-pub size_grows : (b : Body) (xs : List Sign) → size_of b ≤ size_of (added_body b xs)
-size_grows (Chirotope m) xs = omega (arith, length-append m.signs xs)
-size_grows b xs = with_member_grows (members_of b) xs
+pub size_grows : (b : Body) (w : List (List ℕ)) → size_of b ≤ size_of (added_body b w)
+size_grows (Chirotope m) w = omega (arith, length-append m.signs (signs_of_line w))
+size_grows (Points ps) w = omega (arith, length-append ps (point_on w ∷ []))
+size_grows b w = with_member_grows (members_of b) (signs_of_line w)
 
 pub size_prefix : (b : Body) (xs ys : List (List (List ℕ))) → size_of (filled_body b xs) ≤ size_of (filled_body b (xs ++ ys))
 size_prefix b xs [] = rw (append-nil xs) (omega arith)
 size_prefix b xs (y ∷ ys) =
-    let one : size_of (filled_body b xs) ≤ size_of (filled_body b (xs ++ y ∷ [])) = rw (← filled_added b xs y) (size_grows (filled_body b xs) (signs_of_line y)) in
+    let one : size_of (filled_body b xs) ≤ size_of (filled_body b (xs ++ y ∷ [])) = rw (← filled_added b xs y) (size_grows (filled_body b xs) y) in
     let more : size_of (filled_body b (xs ++ y ∷ [])) ≤ size_of (filled_body b ((xs ++ y ∷ []) ++ ys)) = size_prefix b (xs ++ y ∷ []) ys in
     let e : (xs ++ y ∷ []) ++ ys ≡ xs ++ y ∷ ys = append_assoc xs (y ∷ []) ys in
     rw (← e) (omega arith)
@@ -63,15 +87,16 @@ size_prefix b xs (y ∷ ys) =
 -- a document with room had it before
 pub room_before : (d : Document) (xs ys : List (List (List ℕ))) → has_room (filled d (xs ++ ys)) ≡ true → has_room (filled d xs) ≡ true
 room_before d xs ys h =
-    let r = room_filled d.body xs in
-    let q = room_filled d.body (xs ++ ys) in
+    let r = room_filled d.body xs d.elements in
+    let q = room_filled d.body (xs ++ ys) d.elements in
     let g = size_prefix d.body xs ys in
-    let l : size_of (filled_body d.body (xs ++ ys)) ≤ room_of (filled_body d.body (xs ++ ys)) = leb-true _ _ h in
+    let l : size_of (filled_body d.body (xs ++ ys)) ≤ room_of (filled_body d.body (xs ++ ys)) d.elements = leb-true _ _ h in
     le-leb _ _ (omega arith)
 
 pub room_empty : (d : Document) → has_room (filled d []) ≡ true
 room_empty d = at d.body
   where
-    at : (b : Body) → nat_le (size_of (filled_body b [])) (room_of (filled_body b [])) ≡ true
+    at : (b : Body) → nat_le (size_of (filled_body b [])) (room_of (filled_body b []) d.elements) ≡ true
     at (Chirotope m) = leb-zero (choose m.elements m.rank)
+    at (Points ps) = leb-zero d.elements
     at _ = refl

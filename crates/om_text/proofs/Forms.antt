@@ -2,7 +2,7 @@
 --
 -- Main results: document_form
 use Rattle.std.proofs.Common.{◌≡◌, ◌≢◌, arith, ℕ, List, [], ◌∷◌, true, false, not, ◌&&◌, inl, inr, length, map, refl, sym, ap, subst, ◌∙◌}
-use Rattle.std.specs.Prelude.{Option, Some, None, cond, All, AllPairs, filter, bytes_eq, nat_eq, nat_le}
+use Rattle.std.specs.Prelude.{ℤ, Option, Some, None, is_some, unwrap_or, IfSome, cond, All, AllPairs, filter, bytes_eq, nat_eq, nat_le}
 use Rattle.std.specs.List.{list_all, concat}
 use Rattle.std.proofs.lemmas.Bool.{leb-true, eqb-true}
 use Rattle.std.proofs.lemmas.Slice.Eq.{bytes_eq-Decides}
@@ -18,9 +18,11 @@ use Rattle.om_text.specs.Words.{sign_of_byte}
 use Rattle.om_text.specs.Heading.{is_unbuilt, named_kind, kind_of, numbers, opened, headed, heading, empty_body, kind_name, has_elements, has_rank}
 use Rattle.om_text.specs.Rows.{same_row, distinct}
 use Rattle.om_text.specs.Document.{IsSpelled, are_signs, signs_of_line, is_body_line, has_room, is_complete, filled, filled_body}
-use Rattle.om_text.specs.Form.{IsInForm, AreMembersOn, IsBodyOn}
-use Rattle.om_text.proofs.Distinct.{either, same_row-Decides}
-use Rattle.om_text.proofs.Course.{both, built, named}
+use Rattle.om_text.specs.Form.{IsInForm, AreMembersOn, IsCoordinate, IsPoint, ArePointsOn, IsBodyOn}
+use Rattle.om_text.specs.Points.{coordinate, with_three, point_of, point_on}
+use Rattle.om_text.proofs.Distinct.{either, same_row-Decides, both}
+use Rattle.om_text.proofs.Course.{built, named}
+use Rattle.om_text.proofs.Digits.{signed_within}
 use Rattle.om_text.proofs.Small.{mapped}
 
 -- the name of a kind
@@ -37,7 +39,7 @@ named_by w first k others f h = elim (either (bytes_eq w (name_of first))) [
 ]
 
 name_is : (w : List ℕ) (k : Kind) → named_kind w ≡ Some k → w ≡ name_of k
-name_is w k h = named_by w kinds.Chirotope k _ (named_by w kinds.Circuits k _ (named_by w kinds.Cocircuits k _ (named_by w kinds.Covectors k None (λ g. cc)))) h
+name_is w k h = named_by w kinds.Chirotope k _ (named_by w kinds.Circuits k _ (named_by w kinds.Cocircuits k _ (named_by w kinds.Covectors k _ (named_by w kinds.Points k None (λ g. cc))))) h
 
 read_name : (w : List ℕ) (k : Kind) → kind_of w ≡ Some k → named_kind w ≡ Some k
 read_name w k h = let n = rw (built w k h) at h in n
@@ -75,9 +77,41 @@ members_form n ls h m = record {
   distinct = distinct_differ (map signs_of_line ls);
 }
 
+-- the lines of a list
+lines_of_signs : (n : ℕ) (ls : List (List (List ℕ))) → list_all (λ l. are_signs l && nat_eq (length (concat l)) n && true) ls ≡ true → list_all (λ l. are_signs l && nat_eq (length (concat l)) n) ls ≡ true
+lines_of_signs n [] h = refl
+lines_of_signs n (l ∷ ls) h =
+    let a = both (are_signs l && nat_eq (length (concat l)) n && true) (list_all (λ l. are_signs l && nat_eq (length (concat l)) n && true) ls) h in
+    rw ((both (are_signs l && nat_eq (length (concat l)) n) true a.0).0, lines_of_signs n ls a.1) refl
+
+-- the points of lines
+
+three_form : (x y z : Option ℤ) → IfSome x IsCoordinate → IfSome y IsCoordinate → IfSome z IsCoordinate → is_some (with_three x y z) ≡ true → IsPoint (unwrap_or (with_three x y z) [])
+three_form None y z a b c h = cc
+three_form (Some x) None z a b c h = cc
+three_form (Some x) (Some y) None a b c h = cc
+three_form (Some x) (Some y) (Some z) a b c h = record {
+  three = refl;
+  small = All-cons IsCoordinate x (y ∷ z ∷ []) a (All-cons IsCoordinate y (z ∷ []) b (All-cons IsCoordinate z [] c (All-nil IsCoordinate)));
+}
+
+point_form : (w : List (List ℕ)) → is_some (point_of w) ≡ true → IsPoint (point_on w)
+point_form (x ∷ y ∷ z ∷ []) h = three_form (coordinate x) (coordinate y) (coordinate z) (signed_within _ x) (signed_within _ y) (signed_within _ z) h
+point_form _ h = cc
+
+each_point : (ls : List (List (List ℕ))) → list_all (λ l. is_some (point_of l)) ls ≡ true → All IsPoint (map point_on ls)
+each_point [] h = All-nil IsPoint
+each_point (l ∷ ls) h =
+    let a = both (is_some (point_of l)) (list_all (λ l. is_some (point_of l)) ls) h in
+    All-cons IsPoint (point_on l) _ (point_form l a.0) (each_point ls a.1)
+
+points_form : (n : ℕ) (ls : List (List (List ℕ))) → list_all (λ l. is_some (point_of l)) ls ≡ true → length (map point_on ls) ≡ n → ArePointsOn n (map point_on ls)
+points_form n ls h e = record { count = e; each = each_point ls h }
+
 body_form : (k : Kind) (r n : ℕ) (ls : List (List (List ℕ))) → has_rank (headed k (r, n)) ≡ true → list_all (is_body_line (headed k (r, n))) ls ≡ true → has_room (filled (headed k (r, n)) ls) ≡ true → is_complete (filled (headed k (r, n)) ls) ≡ true → IsBodyOn n (filled_body (empty_body k r n) ls)
 body_form kinds.Chirotope r n ls l a m c = record { elements = refl; rank = leb-true r n l; signs = eqb-true _ _ c }
-body_form _ r n ls l a m c = members_form n ls a m
+body_form kinds.Points r n ls l a m c = points_form n ls a (eqb-true _ _ c)
+body_form _ r n ls l a m c = members_form n ls (lines_of_signs n ls a) m
 
 head_form : (k : Kind) (p : ℕ × ℕ) (ls : List (List (List ℕ))) → is_unbuilt (name_of k) ≡ false → has_elements (headed k p) ≡ true → has_rank (headed k p) ≡ true → list_all (is_body_line (headed k p)) ls ≡ true → has_room (filled (headed k p) ls) ≡ true → is_complete (filled (headed k p) ls) ≡ true → IsInForm (filled (headed k p) ls)
 head_form k p ls u e l a m c =

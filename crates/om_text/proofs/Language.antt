@@ -112,7 +112,7 @@ module _
     pub run-append : (xs ys : List (List ℕ)) (s : S) → run xs ≡ Ok s → run (xs ++ ys) ≡ run_words step s (wordful ys)
     run-append xs ys s h = ap (run_words step start) (wordful-append xs ys) ∙ run_words-append start (wordful xs) (wordful ys) ∙ ap (λ r. bind r (λ t. run_words step t (wordful ys))) h
 
-    run_line : (xs : List (List ℕ)) (l : List ℕ) (s : S) → run xs ≡ Ok s → run (xs ++ l ∷ []) ≡ advance_by step s l
+    pub run_line : (xs : List (List ℕ)) (l : List ℕ) (s : S) → run xs ≡ Ok s → run (xs ++ l ∷ []) ≡ advance_by step s l
     run_line xs l s h = run-append xs (l ∷ []) s h ∙ one_line s l
 
     pub run_value : (ls : List (List ℕ)) (s : S) (v : V) → run ls ≡ Ok s → value s ≡ Some v → Language (wordful ls) v
@@ -145,7 +145,7 @@ module _
         no : Begins (AreIn Language) (before ++ line ∷ []) → ⊥
         no b = let r = begins_run (before ++ line ∷ []) b in differ r.0 (sym e ∙ sym (run_line before line s h) ∙ r.1)
 
-    outcome_passes : (xs ys : List (List ℕ)) (s t : S) (n : ℕ) → run_words step s (wordful xs) ≡ Ok t → outcome_by step value s n (xs ++ ys) ≡ outcome_by step value t (n + length xs) ys
+    pub outcome_passes : (xs ys : List (List ℕ)) (s t : S) (n : ℕ) → run_words step s (wordful xs) ≡ Ok t → outcome_by step value s n (xs ++ ys) ≡ outcome_by step value t (n + length xs) ys
     outcome_passes [] ys s t n h =
         let e : s ≡ t = ok_same s t h in
         let z : n + 0 ≡ n = omega arith in

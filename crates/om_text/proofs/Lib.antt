@@ -5,6 +5,8 @@ pub mod Completion
 pub mod Outcome
 pub mod Scan
 pub mod Digits
+pub mod Coordinates
+pub mod Part
 pub mod Numbers
 pub mod Forms
 pub mod Sorting
@@ -12,6 +14,7 @@ pub mod Joined
 pub mod Small
 mod Samples
 mod ListSamples
+mod PointSamples
 pub mod Printing
 pub mod Texts
 pub mod Numerals

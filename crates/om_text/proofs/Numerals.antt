@@ -1,23 +1,32 @@
--- Numbers below a million are written as plain numbers.
+-- Numbers as they are printed are words, and are read again.
 --
--- Main definitions: IsNumber
--- Main results: number_word
+-- Main definitions: IsDecimal, IsNumber, IsSigned
+-- Main results: decimal_word, number_word, signed_word
 use Rattle.std.proofs.Common.{◌≡◌, ℕ, zero, suc, ◌<◌, ◌≤◌, ◌^◌, List, [], ◌∷◌, Bool, true, false, ◌||◌, ◌⊎◌, inl, inr, length, get_or, refl, ap, arith, nat_eq}
-use Rattle.std.specs.Prelude.{decimal, Some}
+use Rattle.std.specs.Prelude.{ℤ, pos, negsuc, unsigned_abs, decimal, Some, option_map}
+use Rattle.std.specs.Fmt.{signed_decimal}
 use Rattle.std.specs.List.{list_all}
 use Rattle.std.proofs.Common.{eq-eqb, rules}
 use Rattle.std.proofs.lemmas.Bool.{le-leb}
 use Rattle.std.proofs.lemmas.Fmt.{digits_decimal, digits_value-decimal, decimal_nonempty, length-decimal-le, first_decimal, decimal_digit}
 use Rattle.std.proofs.lemmas.Str.Parse.{IsNumeralModel, numerals_by_fold}
 use Rattle.om_text.specs.Lines.{has_any}
-use Rattle.om_text.specs.Words.{is_digit, number_from, begins_with, is_plain, plain}
-use Rattle.om_text.proofs.Course.{both}
+use Rattle.om_text.specs.Words.{is_digit, number_from, begins_with, is_decimal, plain, unsigned, negative, signed}
 use Rattle.om_text.proofs.Texts.{is_word_byte}
+use Rattle.om_text.proofs.Distinct.{both}
 
 numerals : IsNumeralModel (λ ds. list_all is_digit ds ≡ true) (number_from 0)
 numerals = numerals_by_fold _ (search rules) number_from (search rules)
 
--- a number as a word
+-- a number as a word of decimal digits
+pub record IsDecimal (k : ℕ) : Type 0 where
+  pub digits : list_all is_digit (decimal k) ≡ true
+  pub bytes : list_all is_word_byte (decimal k) ≡ true
+  pub any : has_any (decimal k) ≡ true
+  pub word : is_decimal (decimal k) ≡ true
+  pub number : number_from 0 (decimal k) ≡ k
+
+-- the same as a plain number
 pub record IsNumber (k : ℕ) : Type 0 where
   pub bytes : list_all is_word_byte (decimal k) ≡ true
   pub any : has_any (decimal k) ≡ true
@@ -40,27 +49,71 @@ first_is_not : (w : List ℕ) → 48 < get_or w 0 0 → begins_with 48 w ≡ fal
 first_is_not [] h = refl
 first_is_not (b ∷ w) h = grind arith
 
-is_plain_word : (w : List ℕ) → list_all is_digit w ≡ true → 0 < length w → length w ≤ 6 → (length w ≡ 1) ⊎ (begins_with 48 w ≡ false) → is_plain w ≡ true
-is_plain_word w d l m (inl e) = rw (d, le-leb 1 (length w) l, le-leb (length w) 6 m, eq-eqb (length w) 1 e) refl
-is_plain_word w d l m (inr n) = rw (d, le-leb 1 (length w) l, le-leb (length w) 6 m, n) (or_true (nat_eq (length w) 1))
+is_decimal_word : (w : List ℕ) → list_all is_digit w ≡ true → 0 < length w → (length w ≡ 1) ⊎ (begins_with 48 w ≡ false) → is_decimal w ≡ true
+is_decimal_word w d l (inl e) = rw (d, le-leb 1 (length w) l, eq-eqb (length w) 1 e) refl
+is_decimal_word w d l (inr n) = rw (d, le-leb 1 (length w) l, n) (or_true (nat_eq (length w) 1))
   where
     or_true : (b : Bool) → (b || true) ≡ true
     or_true true = refl
     or_true false = refl
 
-no_leading_zero : (k : ℕ) → k < 10 ^ 6 → (length (decimal k) ≡ 1) ⊎ (begins_with 48 (decimal k) ≡ false)
+no_leading_zero : (k : ℕ) → k < 2 ^ 64 → (length (decimal k) ≡ 1) ⊎ (begins_with 48 (decimal k) ≡ false)
 no_leading_zero zero h = inl (ap length (decimal_digit 0 (omega arith)))
-no_leading_zero (suc k) h = inr (first_is_not (decimal (suc k)) (first_decimal (suc k) (omega arith) (omega arith)))
+no_leading_zero (suc k) h = inr (first_is_not (decimal (suc k)) (first_decimal (suc k) (omega arith) h))
+
+pub decimal_word : (k : ℕ) → k < 2 ^ 64 → IsDecimal k
+decimal_word k h =
+    let digits = digits_decimal numerals k h in
+    let any = decimal_nonempty k h in
+    record {
+      digits = digits;
+      bytes = digits_are_word (decimal k) digits;
+      any = any_of (decimal k) any;
+      word = is_decimal_word (decimal k) digits any (no_leading_zero k h);
+      number = digits_value-decimal numerals k h;
+    }
 
 pub number_word : (k : ℕ) → k < 10 ^ 6 → IsNumber k
 number_word k h =
     let small : k < 2 ^ 64 = omega arith in
-    let digits = digits_decimal numerals k small in
-    let any = decimal_nonempty k small in
+    let w = decimal_word k small in
     let few = length-decimal-le 6 k (omega arith) h small in
-    let plain_word = is_plain_word (decimal k) digits any few (no_leading_zero k h) in
     record {
-      bytes = digits_are_word (decimal k) digits;
-      any = any_of (decimal k) any;
-      value = rw plain_word (ap Some (digits_value-decimal numerals k small));
+      bytes = w.bytes;
+      any = w.any;
+      value = rw (w.word, le-leb (length (decimal k)) 6 few) (ap Some w.number);
+    }
+
+-- ---- signed numbers
+
+-- a signed number as a word
+pub record IsSigned (limit : ℕ) (z : ℤ) : Type 0 where
+  pub bytes : list_all is_word_byte (signed_decimal z) ≡ true
+  pub any : has_any (signed_decimal z) ≡ true
+  pub value : signed limit (signed_decimal z) ≡ Some z
+
+digit_no_minus : (b : ℕ) → is_digit b ≡ true → nat_eq b 45 ≡ false
+digit_no_minus b h = grind arith
+
+digits_no_minus : (w : List ℕ) → list_all is_digit w ≡ true → begins_with 45 w ≡ false
+digits_no_minus [] h = refl
+digits_no_minus (b ∷ w) h = digit_no_minus b (both (is_digit b) (list_all is_digit w) h).0
+
+unsigned_word : (limit k : ℕ) → IsDecimal k → k ≤ limit → unsigned limit (decimal k) ≡ Some k
+unsigned_word limit k d h = rw (d.word, d.number, le-leb k limit h) refl
+
+pub signed_word : (limit : ℕ) (z : ℤ) → limit < 2 ^ 63 → unsigned_abs z ≤ limit → IsSigned limit z
+signed_word limit (pos n) l h =
+    let d = decimal_word n (omega arith) in
+    record {
+      bytes = d.bytes;
+      any = d.any;
+      value = rw (digits_no_minus (decimal n) d.digits) (ap (option_map pos) (unsigned_word limit n d h));
+    }
+signed_word limit (negsuc n) l h =
+    let d = decimal_word (suc n) (omega arith) in
+    record {
+      bytes = d.bytes;
+      any = refl;
+      value = ap negative (unsigned_word limit (suc n) d h);
     }

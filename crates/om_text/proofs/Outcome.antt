@@ -1,7 +1,7 @@
 -- What the lines come to is a document or the first fault, and what follows for the reader and the laws.
 --
 -- Main results: document_from, fault_from, comes_document, comes_every, comes_fault, comes_first, comes_form, same_value, same_fault, no_fault, document_or_fault, begins_bytes, bytes_begin
-use Rattle.std.proofs.Common.{◌≡◌, ◌⊎◌, inl, inr, ℕ, List, [], ◌∷◌, ◌++◌, true, length, refl, sym, ap, subst, ◌∙◌, ◌≤◌, take, drop}
+use Rattle.std.proofs.Common.{◌≡◌, ◌⊎◌, inl, inr, ℕ, List, [], ◌∷◌, ◌++◌, ◌+◌, true, length, refl, sym, ap, subst, ◌∙◌, ◌≤◌, take, drop, arith}
 use Rattle.std.specs.Prelude.{Option, Some, Result, Ok, Err, IfOk}
 use Rattle.std.specs.List.{list_all}
 use Rattle.std.proofs.lemmas.List.{length-take-le, take-append-drop}
@@ -16,13 +16,13 @@ use Rattle.om_text.specs.Document.{IsSpelled, IsDocument}
 use Rattle.om_text.specs.Fault.{AreDocument, Begins, IsFault, place, table, first_of}
 use Rattle.om_text.specs.Print.{text_of}
 use Rattle.om_text.specs.Parsed.{ComesTo, IfLine}
-use Rattle.om_text.specs.Reading.{step, value_of, outcome}
+use Rattle.om_text.specs.Reading.{step, advance, value_of, outcome}
 use Rattle.om_text.specs.Form.{IsInForm}
 use Rattle.om_text.proofs.Forms.{document_form}
 use Rattle.om_text.proofs.Feeds.{is_one_line, lines_text, lines_one_line, one_line-take, one_line-append}
 use Rattle.om_text.proofs.Course.{Shows, run_words, spelled_run, step_shows, step_error}
 use Rattle.om_text.proofs.Completion as completions
-use Rattle.om_text.proofs.Language.{IsCompletion, run_shows, run-append, run_value, begins_run, value_outcome, outcome_value, outcome_fault, fault_outcome}
+use Rattle.om_text.proofs.Language.{IsCompletion, run_shows, run-append, run_line, run_value, begins_run, outcome_passes, value_outcome, outcome_value, outcome_fault, fault_outcome}
 
 abbrev code_at : List (List (List ℕ)) → List (List ℕ) → Option Code
 code_at ls w = first_of (table (place ls w) w)
@@ -41,7 +41,7 @@ completes s ls o =
     let c = completions.completion s ls o in
     (c.0, record { last = Closed c.1.document; is = c.1.document; run = c.1.run; gives = refl })
 
-document_outcome : (ls : List (List ℕ)) (d : Document) → IsDocument ls d → outcome Start 0 ls ≡ Ok d
+pub document_outcome : (ls : List (List ℕ)) (d : Document) → IsDocument ls d → outcome Start 0 ls ≡ Ok d
 document_outcome ls d o = value_outcome State Document step value_of Start IsSpelled code_at Shows refl step_shows step_error ends runs completes ls d o
 
 pub document_from : (ls : List (List ℕ)) (d : Document) → outcome Start 0 ls ≡ Ok d → IsDocument ls d
@@ -50,8 +50,30 @@ document_from ls d h = outcome_value State Document step value_of Start IsSpelle
 pub fault_from : (ls : List (List ℕ)) (l : ℕ) (c : Code) → outcome Start 0 ls ≡ Err (l, c) → IsFault ls l c
 fault_from ls l c h = outcome_fault State Document step value_of Start IsSpelled code_at Shows refl step_shows step_error ends runs completes ls [] Start 0 l c refl refl h
 
-outcome_from : (ls : List (List ℕ)) (l : ℕ) (c : Code) → IsFault ls l c → outcome Start 0 ls ≡ Err (l, c)
+pub outcome_from : (ls : List (List ℕ)) (l : ℕ) (c : Code) → IsFault ls l c → outcome Start 0 ls ≡ Err (l, c)
 outcome_from ls l c f = fault_outcome State Document step value_of Start IsSpelled code_at Shows refl step_shows step_error ends runs completes f
+
+-- the lines of a document in turn
+
+-- lines that lead to a closed state are a document
+pub run_document : (ls : List (List ℕ)) (d : Document) → run_words Start (wordful ls) ≡ Ok (Closed d) → IsDocument ls d
+run_document ls d h = run_value State Document step value_of Start IsSpelled code_at Shows refl step_shows step_error ends runs completes ls (Closed d) d h refl
+
+-- one line more
+pub run_next : (ls : List (List ℕ)) (l : List ℕ) (s : State) → run_words Start (wordful ls) ≡ Ok s → run_words Start (wordful (ls ++ l ∷ [])) ≡ advance s l
+run_next ls l s h = run_line State Document step value_of Start IsSpelled code_at Shows refl step_shows step_error ends runs completes ls l s h
+
+-- more lines
+pub run_on : (xs ys : List (List ℕ)) (s : State) → run_words Start (wordful xs) ≡ Ok s → run_words Start (wordful (xs ++ ys)) ≡ run_words s (wordful ys)
+run_on xs ys s h = run-append State Document step value_of Start IsSpelled code_at Shows refl step_shows step_error ends runs completes xs ys s h
+
+-- the first lines of a document lead to a state
+pub begun : (xs ys : List (List ℕ)) (d : Document) → IsDocument (xs ++ ys) d → (s : State) × (run_words Start (wordful xs) ≡ Ok s)
+begun xs ys d o = begins_run State Document step value_of Start IsSpelled code_at Shows refl step_shows step_error ends runs completes xs (ys, (d, o))
+
+-- what lines come to after others
+pub outcome_run : (xs ys : List (List ℕ)) (s : State) → run_words Start (wordful xs) ≡ Ok s → outcome Start 0 (xs ++ ys) ≡ outcome s (length xs) ys
+outcome_run xs ys s h = outcome_passes State Document step value_of Start IsSpelled code_at Shows refl step_shows step_error ends runs completes xs ys Start s 0 h ∙ ap (λ k. outcome s k ys) (let z : 0 + length xs ≡ length xs = omega arith in z)
 
 -- what a reading that comes to the outcome says
 pub comes_document : (r : Result Document ParseError) (ls : List (List ℕ)) → ComesTo r (outcome Start 0 ls) → IfOk r (λ d. IsDocument ls d)
@@ -81,7 +103,7 @@ run_completes ls s h =
     let r = run-append State Document step value_of Start IsSpelled code_at Shows refl step_shows step_error ends runs completes ls c.0 s h ∙ c.1.run in
     (c.0, c.1.one_line, (c.1.document, run_value State Document step value_of Start IsSpelled code_at Shows refl step_shows step_error ends runs completes (ls ++ c.0) (Closed c.1.document) c.1.document r refl))
 
-take_front : (xs ys : List (List ℕ)) → take (length xs) (xs ++ ys) ≡ xs
+pub take_front : {A : Type 0} (xs ys : List A) → take (length xs) (xs ++ ys) ≡ xs
 take_front [] ys = refl
 take_front (x ∷ xs) ys = ap (λ r. x ∷ r) (take_front xs ys)
 

@@ -1,15 +1,16 @@
 -- The text of lines, put together piece by piece.
 --
--- Main results: rows_more, members_more, printed_bytes
-use Rattle.std.proofs.Common.{◌≡◌, ℕ, suc, ◌+◌, ◌-◌, ◌/◌, ◌<◌, min, List, [], ◌∷◌, ◌++◌, length, take, drop, get_or, map, refl, sym, ap, ◌∙◌, arith, append_assoc, length-drop, inl, inr, Bool, false, nat_eq}
+-- Main results: rows_more, members_more, points_more, pushed, printed_bytes
+use Rattle.std.proofs.Common.{◌≡◌, ℕ, suc, ◌+◌, ◌-◌, ◌/◌, ◌<◌, min, List, [], ◌∷◌, ◌++◌, length, take, drop, get_or, map, refl, sym, ap, ◌∙◌, arith, append_assoc, length-drop, inl, inr, Bool, true, false, nat_eq}
 use Rattle.std.proofs.lemmas.List.{take_rest, take_min, take-map, drop-map, take_more, map-append}
 use Rattle.std.proofs.Math.ListN.{drop_of_length-le}
-use Rattle.std.proofs.lemmas.Bool.{cases_lt, eqb-false}
+use Rattle.std.proofs.lemmas.Bool.{cases_lt, eqb-false, eqb-true}
 use Rattle.om_signs.specs.declared.sign.Sign.{Sign}
-use Rattle.std.specs.Prelude.{codes}
+use Rattle.std.specs.Prelude.{ℤ, codes, Result, Ok, Err, OnOk}
+use Rattle.std.specs.Fmt.{signed_decimal}
 use Rattle.om_text.specs.declared.document.Document.{Document}
 use Rattle.om_text.specs.Words.{byte_of}
-use Rattle.om_text.specs.Print.{text_of, cut, sign_lines, member_lines, kind_text, body_lines, printed}
+use Rattle.om_text.specs.Print.{text_of, cut, sign_lines, member_lines, spaced, point_lines, kind_text, body_lines, printed}
 
 pub text_of-append : (xs ys : List (List ℕ)) → text_of (xs ++ ys) ≡ text_of xs ++ text_of ys
 text_of-append [] ys = refl
@@ -26,6 +27,9 @@ drop_least k xs h = elim (cases_lt 64 (length xs)) [
 
 pub not_empty : (n : ℕ) (b : Bool) → b ≡ nat_eq n 0 → b ≡ false → 0 < n
 not_empty n b e f = let h : n ≡ 0 → ⊥ = eqb-false n 0 (sym e ∙ f) in omega arith
+
+pub no_bytes : (n : ℕ) (b : Bool) → b ≡ nat_eq n 0 → b ≡ true → n ≡ 0
+no_bytes n b e f = eqb-true n 0 (sym e ∙ f)
 
 pub sign_lines_step : (xs : List Sign) (k : ℕ) → 0 < length xs → k ≡ min (length xs) 64 → sign_lines xs ≡ map byte_of (take k xs) ∷ sign_lines (drop k xs)
 sign_lines_step xs k h e =
@@ -53,3 +57,16 @@ members_more base out new ms i x l e o n =
     let a : text_of (member_lines (take (i + 1) ms)) ≡ text_of (member_lines (take i ms)) ++ (map byte_of x ++ 10 ∷ []) = ap text_of m ∙ text_of-append (member_lines (take i ms)) (map byte_of x ∷ []) in
     n ∙ append_assoc out (map byte_of x) (10 ∷ []) ∙ ap (λ y. y ++ (map byte_of x ++ 10 ∷ [])) o
     ∙ append_assoc base (text_of (member_lines (take i ms))) (map byte_of x ++ 10 ∷ []) ∙ ap (λ y. base ++ y) (sym a)
+
+-- one more point
+pub points_more : (base out new : List ℕ) (ps : List (List ℤ)) (i : ℕ) → i < length ps → out ≡ base ++ text_of (point_lines (take i ps)) → new ≡ out ++ text_of (point_lines (get_or ps i [] ∷ [])) → new ≡ base ++ text_of (point_lines (take (i + 1) ps))
+points_more base out new ps i l o n =
+    let p : List ℤ = get_or ps i [] in
+    let t : point_lines (take (i + 1) ps) ≡ point_lines (take i ps) ++ point_lines (p ∷ []) = ap point_lines (take_more ps i [] l) ∙ map-append (λ p. spaced (map signed_decimal p)) (take i ps) (p ∷ []) in
+    n ∙ ap (λ x. x ++ text_of (point_lines (p ∷ []))) o ∙ append_assoc base (text_of (point_lines (take i ps))) (text_of (point_lines (p ∷ [])))
+    ∙ ap (λ x. base ++ x) (sym (ap text_of t ∙ text_of-append (point_lines (take i ps)) (point_lines (p ∷ []))))
+
+-- bytes that are pushed as others
+pub pushed : {E : Type 0} (r : Result Unit E) (new old bytes text : List ℕ) → bytes ≡ text → OnOk r (new ≡ old ++ bytes) → OnOk r (new ≡ old ++ text)
+pushed (Ok x) new old bytes text e h = h ∙ ap (λ x. old ++ x) e
+pushed (Err x) new old bytes text e h = tt

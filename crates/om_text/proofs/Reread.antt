@@ -1,20 +1,21 @@
 -- The canonical form of a document is a document, and reads as this one with its members sorted.
 --
--- Main definitions: AreRows, AreCut, IsReread
+-- Main definitions: AreRows, AreCut, IsPointLine, IsReread
 -- Main results: printed_document
 use Rattle.std.proofs.Common.{◌≡◌, ℕ, zero, suc, ◌+◌, ◌*◌, ◌/◌, ◌<◌, ◌≤◌, ◌^◌, List, [], ◌∷◌, ◌++◌, true, false, ◌&&◌, cond, length, take, drop, map, refl, sym, ap, subst, ◌∙◌, arith, append-nil, nat_eq, nat_le, length-drop, eq-eqb}
-use Rattle.std.specs.Prelude.{codes, decimal, filter, Some, None, All, option_and_then}
+use Rattle.std.specs.Prelude.{ℤ, unsigned_abs, is_some, unwrap_or, codes, decimal, filter, Some, None, All, option_and_then}
 use Rattle.std.specs.List.{list_all, concat}
+use Rattle.std.specs.Fmt.{signed_decimal}
 use Rattle.std.proofs.lemmas.Bool.{le-leb}
 use Rattle.std.proofs.lemmas.List.{length-map, take-append-drop}
 use Rattle.std.proofs.lemmas.List.Elements.{All-head, All-tail}
 use Rattle.std.proofs.lemmas.List.Folds.{list_all-append}
-use Rattle.om_signs.specs.declared.limits.TheConstants.{MAX_ELEMENTS, MAX_MEMBERS}
+use Rattle.om_signs.specs.declared.limits.TheConstants.{MAX_ELEMENTS, MAX_MEMBERS, MAX_COORDINATE}
 use Rattle.om_signs.specs.declared.sign.Sign.{Sign}
 use Rattle.om_subsets.specs.Subsets.{choose}
 use Rattle.om_text.specs.declared.document.Document.{Document}
 use Rattle.om_text.specs.declared.body.Body.{Body}
-use Rattle.om_text.specs.declared.body.Body.TheVariants.{Chirotope, Circuits, Cocircuits, Covectors}
+use Rattle.om_text.specs.declared.body.Body.TheVariants.{Chirotope, Circuits, Cocircuits, Covectors, Points}
 use Rattle.om_text.specs.declared.kind.Kind.{Kind}
 use Rattle.om_text.specs.declared.kind.Kind.TheVariants as kinds
 use Rattle.om_text.specs.Lines.{lines, has_any, words, wordful}
@@ -22,15 +23,16 @@ use Rattle.om_text.specs.Words.{is_sign, sign_of_byte, byte_of}
 use Rattle.om_text.specs.Heading.{is_unbuilt, kind_name, named_kind, kind_of, heading, headed, opened, has_elements, has_rank}
 use Rattle.om_text.specs.Rows.{distinct, sorted}
 use Rattle.om_text.specs.Members.{members_of, with_members}
+use Rattle.om_text.specs.Points.{point_of, point_on}
 use Rattle.om_text.specs.Document.{IsDocument, IsSpelled, version_line, end_line, are_signs, signs_of_line, is_body_line, all_signs, filled, has_room, is_complete}
-use Rattle.om_text.specs.Form.{IsInForm, AreMembersOn}
-use Rattle.om_text.specs.Print.{cut, sign_lines, member_lines, kind_text, body_lines, printed_lines, printed, sorted_document}
-use Rattle.om_text.proofs.Course.{both}
+use Rattle.om_text.specs.Form.{IsInForm, AreMembersOn, IsCoordinate, IsPoint}
+use Rattle.om_text.specs.Print.{cut, sign_lines, member_lines, spaced, point_lines, kind_text, body_lines, printed_lines, printed, sorted_document}
 use Rattle.om_text.proofs.Feeds.{is_one_line, lines_text}
 use Rattle.om_text.proofs.Language.{wordful-append}
-use Rattle.om_text.proofs.Numerals.{IsNumber, number_word}
+use Rattle.om_text.proofs.Numerals.{IsNumber, number_word, IsSigned, signed_word}
 use Rattle.om_text.proofs.Sorting.{All-sorted, sorted_differ, length-sorted, distinct_itself}
 use Rattle.om_text.proofs.Texts.{word_one_line, words_one, words_two, words_three, two_one_line, three_one_line, signs_are_word, single, signs_of_bytes_of, bytes_are_signs}
+use Rattle.om_text.proofs.Distinct.{both}
 
 -- ---- lines of signs
 
@@ -94,13 +96,62 @@ members_read : (ms : List (List Sign)) → map signs_of_line (single (member_lin
 members_read [] = refl
 members_read (x ∷ xs) = ap (λ r. map sign_of_byte r ∷ map signs_of_line (single (member_lines xs))) (append-nil (map byte_of x)) ∙ ap (λ r. r ∷ map signs_of_line (single (member_lines xs))) (signs_of_bytes_of x) ∙ ap (λ r. x ∷ r) (members_read xs)
 
-members_long : (n : ℕ) (ms : List (List Sign)) → All (λ x. length x ≡ n) ms → list_all (λ l. are_signs l && nat_eq (length (concat l)) n) (single (member_lines ms)) ≡ true
+members_long : (n : ℕ) (ms : List (List Sign)) → All (λ x. length x ≡ n) ms → list_all (λ l. are_signs l && nat_eq (length (concat l)) n && true) (single (member_lines ms)) ≡ true
 members_long n [] a = refl
 members_long n (x ∷ xs) a =
     let j : map byte_of x ++ [] ≡ map byte_of x = append-nil (map byte_of x) in
     let s : are_signs (map byte_of x ∷ []) ≡ true = ap (list_all is_sign) j ∙ bytes_are_signs x in
     let l : nat_eq (length (concat (map byte_of x ∷ []))) n ≡ true = eq-eqb _ n (ap length j ∙ length-map x byte_of ∙ All-head (λ x. length x ≡ n) x xs a) in
     rw (s, l) (members_long n xs (All-tail (λ x. length x ≡ n) x xs a))
+
+-- ---- the lines of points
+
+-- a point's line is read as its coordinates
+record IsPointLine (p : List ℤ) : Type 0 where
+  line_words : words (spaced (map signed_decimal p)) ≡ map signed_decimal p
+  any : has_any (map signed_decimal p) ≡ true
+  one_line : is_one_line (spaced (map signed_decimal p)) ≡ true
+  point : point_of (map signed_decimal p) ≡ Some p
+
+coordinate_word : (z : ℤ) → IsCoordinate z → IsSigned (unsigned_abs MAX_COORDINATE) z
+coordinate_word z h = signed_word (unsigned_abs MAX_COORDINATE) z (omega arith) h
+
+point_line : (p : List ℤ) → IsPoint p → IsPointLine p
+point_line [] f = absurd (let e = f.three in omega arith)
+point_line (x ∷ []) f = absurd (let e = f.three in omega arith)
+point_line (x ∷ y ∷ []) f = absurd (let e = f.three in omega arith)
+point_line (x ∷ y ∷ z ∷ []) f =
+    let a = coordinate_word x (All-head IsCoordinate x (y ∷ z ∷ []) f.small) in
+    let t = All-tail IsCoordinate x (y ∷ z ∷ []) f.small in
+    let b = coordinate_word y (All-head IsCoordinate y (z ∷ []) t) in
+    let c = coordinate_word z (All-head IsCoordinate z [] (All-tail IsCoordinate y (z ∷ []) t)) in
+    record {
+      line_words = words_three (signed_decimal x) (signed_decimal y) (signed_decimal z) a.bytes a.any b.bytes b.any c.bytes c.any;
+      any = refl;
+      one_line = three_one_line (signed_decimal x) (signed_decimal y) (signed_decimal z) a.bytes b.bytes c.bytes;
+      point = rw (a.value, b.value, c.value) refl;
+    }
+point_line (x ∷ y ∷ z ∷ u ∷ p) f = absurd (let e = f.three in omega arith)
+
+record ArePointLines (ps : List (List ℤ)) : Type 0 where
+  lines_words : wordful (point_lines ps) ≡ map (map signed_decimal) ps
+  one_line : list_all is_one_line (point_lines ps) ≡ true
+  each : list_all (λ w. is_some (point_of w)) (map (map signed_decimal) ps) ≡ true
+  value : map point_on (map (map signed_decimal) ps) ≡ ps
+
+points_reread : (ps : List (List ℤ)) → All IsPoint ps → ArePointLines ps
+points_reread [] a = record { lines_words = refl; one_line = refl; each = refl; value = refl }
+points_reread (p ∷ ps) a =
+    let l = point_line p (All-head IsPoint p ps a) in
+    let i = points_reread ps (All-tail IsPoint p ps a) in
+    record {
+      lines_words = ap (λ x. filter has_any (x ∷ map words (point_lines ps))) l.line_words
+          ∙ ap (λ b. cond b (map signed_decimal p ∷ wordful (point_lines ps)) (wordful (point_lines ps))) l.any
+          ∙ ap (λ x. map signed_decimal p ∷ x) i.lines_words;
+      one_line = rw l.one_line i.one_line;
+      each = rw l.point i.each;
+      value = ap (λ o. unwrap_or o [] ∷ map point_on (map (map signed_decimal) ps)) l.point ∙ ap (λ r. p ∷ r) i.value;
+    }
 
 -- ---- any document
 
@@ -114,29 +165,31 @@ record IsReread (d : Document) : Type 0 where
   opens : heading kind_words ≡ Some head
   elements : has_elements head ≡ true
   rank : has_rank head ≡ true
-  rows : AreRows (body_lines d.body)
-  each : list_all (is_body_line head) (single (body_lines d.body)) ≡ true
-  value : filled head (single (body_lines d.body)) ≡ sorted_document d
+  body : List (List (List ℕ))
+  body_words : wordful (body_lines d.body) ≡ body
+  body_one_line : list_all is_one_line (body_lines d.body) ≡ true
+  each : list_all (is_body_line head) body ≡ true
+  value : filled head body ≡ sorted_document d
   room : has_room (sorted_document d) ≡ true
   complete : is_complete (sorted_document d) ≡ true
 
 reread_lines : (d : Document) → IsReread d → lines (printed d) ≡ printed_lines d
 reread_lines d p =
-    let t : list_all is_one_line (body_lines d.body ++ codes "end" ∷ []) ≡ true = list_all-append is_one_line (body_lines d.body) (codes "end" ∷ []) ∙ rw p.rows.one_line refl in
+    let t : list_all is_one_line (body_lines d.body ++ codes "end" ∷ []) ≡ true = list_all-append is_one_line (body_lines d.body) (codes "end" ∷ []) ∙ rw p.body_one_line refl in
     lines_text (printed_lines d) (rw p.kind_one_line t)
 
-reread_words : (d : Document) → (p : IsReread d) → wordful (printed_lines d) ≡ version_line ∷ p.kind_words ∷ (single (body_lines d.body) ++ end_line ∷ [])
+reread_words : (d : Document) → (p : IsReread d) → wordful (printed_lines d) ≡ version_line ∷ p.kind_words ∷ (p.body ++ end_line ∷ [])
 reread_words d p =
     ap (λ x. version_line ∷ filter has_any (x ∷ map words (body_lines d.body ++ codes "end" ∷ []))) p.kind
     ∙ ap (λ b. version_line ∷ cond b (p.kind_words ∷ wordful (body_lines d.body ++ codes "end" ∷ [])) (wordful (body_lines d.body ++ codes "end" ∷ []))) p.any
-    ∙ ap (λ x. version_line ∷ p.kind_words ∷ x) (wordful-append (body_lines d.body) (codes "end" ∷ []) ∙ ap (λ x. x ++ end_line ∷ []) p.rows.lines_words)
+    ∙ ap (λ x. version_line ∷ p.kind_words ∷ x) (wordful-append (body_lines d.body) (codes "end" ∷ []) ∙ ap (λ x. x ++ end_line ∷ []) p.body_words)
 
 reread : (d : Document) → IsReread d → IsDocument (lines (printed d)) (sorted_document d)
 reread d p =
     let s : IsSpelled (wordful (printed_lines d)) (sorted_document d) = record {
       kind_line = p.kind_words;
       head = p.head;
-      body = single (body_lines d.body);
+      body = p.body;
       lines = reread_words d p;
       heading = p.opens;
       elements = p.elements;
@@ -178,7 +231,9 @@ map_reread n r xs f =
       opens = ap (option_and_then (λ k. opened k (decimal r ∷ decimal n ∷ []))) (read_kind (codes "chirotope") kinds.Chirotope f.built refl) ∙ rw (hr.value, hn.value) refl;
       elements = rw (le-leb 1 n f.low, le-leb n MAX_ELEMENTS f.high) refl;
       rank = le-leb r n f.body.rank;
-      rows = c.rows;
+      body = single (sign_lines xs);
+      body_words = c.rows.lines_words;
+      body_one_line = c.rows.one_line;
       each = body_signs r n (single (sign_lines xs)) c.rows.signs;
       value = ap (λ xs. record { elements = n; body = Chirotope (record { rank = r; elements = n; signs = xs }) }) values;
       room = le-leb (length xs) (choose n r) (let a = f.body.signs in omega arith);
@@ -191,7 +246,7 @@ record AreReread (n : ℕ) (ms : List (List Sign)) : Type 0 where
   elements : (nat_le 1 n && nat_le n MAX_ELEMENTS) ≡ true
   rank : nat_le 0 n ≡ true
   rows : AreRows (member_lines (sorted ms))
-  each : list_all (λ l. are_signs l && nat_eq (length (concat l)) n) (single (member_lines (sorted ms))) ≡ true
+  each : list_all (λ l. are_signs l && nat_eq (length (concat l)) n && true) (single (member_lines (sorted ms))) ≡ true
   value : distinct (map signs_of_line (single (member_lines (sorted ms)))) ≡ sorted ms
   room : nat_le (length (sorted ms)) MAX_MEMBERS ≡ true
 
@@ -213,11 +268,32 @@ kind_of_list : Body → Kind
 kind_of_list (Circuits ms) = kinds.Circuits
 kind_of_list (Cocircuits ms) = kinds.Cocircuits
 kind_of_list (Covectors ms) = kinds.Covectors
+kind_of_list (Points ps) = kinds.Points
 kind_of_list (Chirotope m) = kinds.Chirotope
 
 body_reread : (n : ℕ) (b : Body) → IsInForm (record { elements = n; body = b }) → IsReread (record { elements = n; body = b })
 unfolding kind_of_list
 body_reread n (Chirotope m) f = subst (λ e. IsReread (record { elements = e; body = Chirotope m })) f.body.elements (map_reread m.elements m.rank m.signs (subst (λ e. IsInForm (record { elements = e; body = Chirotope m })) (sym f.body.elements) f))
+body_reread n (Points ps) f =
+    let p = points_reread ps f.body.each in
+    let k = number_word n (numbers_small n n f.high (omega arith)) in
+    record {
+      kind_words = codes "points" ∷ decimal n ∷ [];
+      head = headed kinds.Points (0, n);
+      kind = words_two (codes "points") (decimal n) refl refl k.bytes k.any;
+      any = refl;
+      kind_one_line = two_one_line (codes "points") (decimal n) refl k.bytes;
+      opens = opens_list (codes "points") kinds.Points n k f.built refl (rw k.value refl);
+      elements = rw (le-leb 1 n f.low, le-leb n MAX_ELEMENTS f.high) refl;
+      rank = le-leb 0 n (omega arith);
+      body = map (map signed_decimal) ps;
+      body_words = p.lines_words;
+      body_one_line = p.one_line;
+      each = p.each;
+      value = ap (λ ps. record { elements = n; body = Points ps }) p.value;
+      room = le-leb (length ps) n (let c = f.body.count in omega arith);
+      complete = eq-eqb (length ps) n f.body.count;
+    }
 body_reread n b f =
     let p = members_reread n (members_of b) f.low f.high f.body in
     record {
@@ -229,7 +305,9 @@ body_reread n b f =
       opens = opens_list (kind_name b) (kind_of_list b) n p.number f.built refl (rw p.number.value refl);
       elements = p.elements;
       rank = p.rank;
-      rows = p.rows;
+      body = single (member_lines (sorted (members_of b)));
+      body_words = p.rows.lines_words;
+      body_one_line = p.rows.one_line;
       each = p.each;
       value = ap (λ ms. record { elements = n; body = with_members b ms }) p.value;
       room = p.room;

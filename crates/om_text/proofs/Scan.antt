@@ -1,14 +1,14 @@
 -- Where lines, comments and words end.
 --
 -- Main definitions: IsFirstPiece
--- Main results: line_split, line_whole, comment_first, all_blank, no_word_found, word_found
-use Rattle.std.proofs.Common.{◌≡◌, ℕ, zero, suc, ◌+◌, ◌-◌, ◌<◌, ◌≤◌, List, [], ◌∷◌, Bool, false, cond, not, length, take, drop, refl, sym, ap, ◌∙◌, arith, inl, inr, nat_eq, nat_lt}
+-- Main results: line_split, line_whole, feed_split, whole_split, comment_first, all_blank, no_word_found, word_found
+use Rattle.std.proofs.Common.{◌≡◌, ℕ, zero, suc, ◌+◌, ◌-◌, ◌<◌, ◌≤◌, List, [], ◌∷◌, ◌++◌, Bool, false, cond, not, length, take, drop, refl, sym, ap, ◌∙◌, arith, inl, inr, nat_eq, nat_lt}
 use Rattle.std.specs.Prelude.{Some, None, unwrap_or, filter}
 use Rattle.std.specs.List.{position_or_len, list_all}
-use Rattle.std.proofs.lemmas.Bool.{lt-ltb, le-ltb, cases_lt}
-use Rattle.std.proofs.lemmas.List.{take_rest}
+use Rattle.std.proofs.lemmas.Bool.{lt-ltb, le-ltb, cases_lt, eqb-true}
+use Rattle.std.proofs.lemmas.List.{take_rest, take_all}
 use Rattle.std.proofs.Math.ListN.{drop_of_length-le}
-use Rattle.om_text.specs.Lines.{lines, with_first, uncommented, is_blank, pieces, has_any, runs}
+use Rattle.om_text.specs.Lines.{lines, IsSplit, with_first, uncommented, is_blank, pieces, has_any, runs}
 use Rattle.om_text.proofs.Distinct.{either}
 
 pub position_le : (p : ℕ → Bool) (xs : List ℕ) → position_or_len p xs ≤ length xs
@@ -57,6 +57,21 @@ line_whole (b ∷ bs) k h e l =
     let z : length (b ∷ bs) - k ≡ 0 = omega arith in
     let n : drop (position_or_len (λ b. nat_eq b 10) (b ∷ bs) + 1) (b ∷ bs) ≡ [] = drop_of_length-le (b ∷ bs) (omega arith) in
     line_first b bs ∙ rw (n, z, ← e) refl
+
+feed_first : (bs : List ℕ) → position_or_len (λ b. nat_eq b 10) bs < length bs → bs ≡ take (position_or_len (λ b. nat_eq b 10) bs) bs ++ 10 ∷ drop (position_or_len (λ b. nat_eq b 10) bs + 1) bs
+feed_first [] l = absurd (omega arith)
+feed_first (b ∷ bs) l = elim (either (nat_eq b 10)) [
+  | inl e ↦ rw e (ap (λ x. x ∷ bs) (eqb-true b 10 e))
+  | inr n ↦ let k = position_or_len (λ b. nat_eq b 10) bs in
+      let z : position_or_len (λ b. nat_eq b 10) (b ∷ bs) ≡ 1 + k = rw n refl in
+      rw (z, take_one k b bs, drop_two k b bs) (ap (λ r. b ∷ r) (feed_first bs (omega arith)))
+]
+
+pub feed_split : (bytes : List ℕ) (k : ℕ) → k ≡ position_or_len (λ b. nat_eq b 10) bytes → k < length bytes → IsSplit bytes (take k bytes) (take (length bytes - (k + 1)) (drop (k + 1) bytes))
+feed_split bytes k e l = inl (rw (take_rest bytes (k + 1), e) (feed_first bytes (let h : position_or_len (λ b. nat_eq b 10) bytes < length bytes = omega arith in h)))
+
+pub whole_split : (bytes : List ℕ) (k : ℕ) → length bytes ≤ k → IsSplit bytes (take k bytes) (take (length bytes - k) (drop k bytes))
+whole_split bytes k l = inr (sym (take_all k bytes l), (let z : length bytes - k ≡ 0 = omega arith in rw z refl))
 
 pub comment_first : (bs : List ℕ) → take (position_or_len (λ b. nat_eq b 35) bs) bs ≡ uncommented bs
 comment_first [] = refl

@@ -7,20 +7,20 @@ use Rattle.std.proofs.lemmas.Bool.{leb-true}
 use Rattle.om_signs.specs.declared.limits.TheConstants.{MAX_ELEMENTS}
 use Rattle.om_text.specs.declared.document.Document.{Document}
 use Rattle.om_text.specs.declared.body.Body.{Body}
-use Rattle.om_text.specs.declared.body.Body.TheVariants.{Chirotope}
+use Rattle.om_text.specs.declared.body.Body.TheVariants.{Chirotope, Points}
 use Rattle.om_text.specs.declared.code.Code.TheVariants as code
 use Rattle.om_text.specs.declared.kind.Kind.{Kind}
 use Rattle.om_text.specs.declared.kind.Kind.TheVariants as kinds
 use Rattle.om_text.specs.declared.state.State.{State}
 use Rattle.om_text.specs.declared.state.State.TheVariants.{Start, Versioned, Open, Closed}
 use Rattle.om_text.specs.Lines.{lines, words, has_any}
-use Rattle.om_text.specs.Document.{is_line, version_line, end_line, are_signs, has_length, filled, filled_body, has_room, is_complete, signs_of_line}
+use Rattle.om_text.specs.Document.{is_line, version_line, end_line, filled, filled_body, is_complete}
 use Rattle.om_text.specs.Heading.{is_unbuilt, first_word, kind_of, heading, opened, headed, empty_body, numbers, has_elements, has_rank, rank_of_body}
 use Rattle.om_text.specs.Reading.{step, advance, with_heading, after_body, after_end, added, added_body, outcome}
 use Rattle.om_text.specs.Steps.{step_if}
 use Rattle.om_text.specs.Added.{IsSmall, IsSmallBody, IsSmallState}
-use Rattle.om_text.proofs.Distinct.{either}
-use Rattle.om_text.proofs.Course.{cond_ok, cond_err, ok_same, named, both}
+use Rattle.om_text.proofs.Distinct.{either, both}
+use Rattle.om_text.proofs.Course.{cond_ok, cond_err, ok_same, named, taken}
 
 pub mapped : (o : Option (ℕ × ℕ)) (f : ℕ × ℕ → Document) (d : Document) → option_map f o ≡ Some d → (p : ℕ × ℕ) × (f p ≡ d)
 mapped None f d h = cc
@@ -52,8 +52,9 @@ kind_small (Some d) w t e h =
     let b = cond_ok (has_rank d) (Ok (Open (filled d []))) (code.Rank (rank_of_body d.body)) t a.1 in
     subst IsSmallState (ok_same _ _ b.1) (heading_small w d e a.0)
 
-added_small : (b : Body) (w : List (List ℕ)) → IsSmallBody b → IsSmallBody (added_body b (signs_of_line w))
+added_small : (b : Body) (w : List (List ℕ)) → IsSmallBody b → IsSmallBody (added_body b w)
 added_small (Chirotope m) w h = h
+added_small (Points ps) w h = tt
 added_small _ w h = tt
 
 pub step_small : (s : State) (w : List (List ℕ)) (t : State) → IsSmallState s → step s w ≡ Ok t → IsSmallState t
@@ -67,11 +68,8 @@ step_small (Open d) w t o h = elim (either (is_line w end_line)) [
       let a = cond_ok (is_complete d) (Ok (Closed d)) code.Few t g in
       subst IsSmallState (ok_same _ _ a.1) tt
   | inr n ↦ let g : after_body d w ≡ Ok t = rw n at h in
-      let a = cond_ok (are_signs w) (cond (has_length d w) (cond (has_room (added d w)) (Ok (Open (added d w))) (Err code.Many)) (Err code.Length)) code.Sign t g in
-      let b = cond_ok (has_length d w) (cond (has_room (added d w)) (Ok (Open (added d w))) (Err code.Many)) code.Length t a.1 in
-      let c = cond_ok (has_room (added d w)) (Ok (Open (added d w))) code.Many t b.1 in
       let m : IsSmall (added d w) = record { low = o.low; high = o.high; body = added_small d.body w o.body } in
-      subst IsSmallState (ok_same _ _ c.1) m
+      subst IsSmallState (taken d w t g).state m
 ]
 step_small (Closed d) w t o h = cc
 

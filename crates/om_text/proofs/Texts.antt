@@ -11,8 +11,7 @@ use Rattle.om_signs.specs.declared.sign.Sign.{Sign}
 use Rattle.om_signs.specs.declared.sign.Sign.TheVariants.{Minus, Zero, Plus}
 use Rattle.om_text.specs.Lines.{with_first, uncommented, is_blank, pieces, has_any, runs, words}
 use Rattle.om_text.specs.Words.{is_sign, sign_of_byte, byte_of}
-use Rattle.om_text.proofs.Distinct.{either}
-use Rattle.om_text.proofs.Course.{both}
+use Rattle.om_text.proofs.Distinct.{either, both}
 use Rattle.om_text.proofs.Feeds.{is_one_line, not_true}
 
 -- a byte of a word, as printed

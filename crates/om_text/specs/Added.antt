@@ -1,5 +1,5 @@
 -- What the parts of the reader's code say of one more line. Not part of the definition of documents.
-use Rattle.std.specs.Prelude.{ℕ, ◌≡◌, ◌≤◌, List, not, filter, map, cond, nat_le, Result, Ok, Err, length}
+use Rattle.std.specs.Prelude.{ℕ, ◌≡◌, ◌≢◌, ◌≤◌, List, not, filter, map, cond, nat_le, Result, Ok, Err, length}
 use Rattle.om_signs.specs.declared.limits.TheConstants.{MAX_ELEMENTS, MAX_MEMBERS}
 use Rattle.om_signs.specs.declared.sign.Sign.{Sign}
 use Rattle.om_text.specs.declared.document.Document.{Document}
@@ -10,8 +10,13 @@ use Rattle.om_text.specs.declared.code.Code.TheVariants as code
 use Rattle.om_text.specs.declared.refusal.Refusal.{Refusal}
 use Rattle.om_text.specs.declared.refusal.Refusal.TheVariants as refusal
 use Rattle.om_text.specs.declared.state.State.{State}
-use Rattle.om_text.specs.declared.state.State.TheVariants.{Open}
-use Rattle.om_text.specs.Lines.{is_blank}
+use Rattle.om_text.specs.declared.state.State.TheVariants.{Start, Open}
+use Rattle.om_text.specs.declared.parse_error.ParseError.{ParseError}
+use Rattle.om_text.specs.declared.parse_error.ParseError.TheVariants as error
+use Rattle.om_text.specs.Fault.{IsFault}
+use Rattle.om_text.specs.Part.{IsPart}
+use Rattle.om_text.specs.Reading.{outcome}
+use Rattle.om_text.specs.Lines.{is_blank, lines}
 use Rattle.om_text.specs.Words.{sign_of_byte}
 use Rattle.om_text.specs.Document.{size_of, room_of}
 
@@ -29,9 +34,9 @@ full_bytes line = filter (λ b. not (is_blank b)) line
 abbrev pub signs_of_bytes : List ℕ → List Sign
 signs_of_bytes line = map sign_of_byte (full_bytes line)
 
--- a body that isn't larger than it may be
-abbrev pub roomy : Body → Result Body Code
-roomy b = cond (nat_le (size_of b) (room_of b)) (Ok b) (Err code.Many)
+-- a body on n elements that isn't larger than it may be
+abbrev pub roomy : ℕ → Body → Result Body Code
+roomy n b = cond (nat_le (size_of b) (room_of b n)) (Ok b) (Err code.Many)
 
 -- the same of the members of a list
 abbrev pub few_members : List (List Sign) → Result (List (List Sign)) Code
@@ -50,3 +55,20 @@ pub record IsSmall (d : Document) : Type 0 where
 abbrev pub IsSmallState : State → Type 0
 IsSmallState (Open d) = IsSmall d
 IsSmallState _ = Unit {0}
+
+-- why a line with this number is not read
+abbrev pub fault_at : ℕ → Refusal → ParseError
+fault_at n refusal.Memory = error.Memory
+fault_at n (refusal.Line c) = error.Line n c
+
+-- what the reader's loop answers, where it goes on to the end of the bytes
+abbrev pub IsWhole : List ℕ → Result (Document × ℕ × ℕ) ParseError → Type 0
+IsWhole bytes (Ok r) = outcome Start 0 (lines bytes) ≡ Ok r.0
+IsWhole bytes (Err error.Memory) = Unit {0}
+IsWhole bytes (Err (error.Line l c)) = outcome Start 0 (lines bytes) ≡ Err (l, c)
+
+-- what it answers, where it stops behind the end line
+abbrev pub IsFront : List ℕ → Result (Document × ℕ × ℕ) ParseError → Type 0
+IsFront bytes (Ok r) = IsPart bytes r.0 r.1 r.2
+IsFront bytes (Err error.Memory) = Unit {0}
+IsFront bytes (Err (error.Line l c)) = IsFault (lines bytes) l c × (c ≢ code.After)

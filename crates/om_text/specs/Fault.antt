@@ -7,7 +7,7 @@ use Rattle.om_text.specs.declared.document.Document.{Document}
 use Rattle.om_text.specs.declared.code.Code.{Code}
 use Rattle.om_text.specs.declared.code.Code.TheVariants as code
 use Rattle.om_text.specs.Lines.{words, wordful}
-use Rattle.om_text.specs.Document.{IsDocument, is_line, version_line, end_line, are_signs, has_length, filled, has_room, is_complete}
+use Rattle.om_text.specs.Document.{IsDocument, is_line, version_line, end_line, has_signs, has_length, has_numbers, filled, has_room, is_complete}
 use Rattle.om_text.specs.Heading.{is_unbuilt, first_word, kind_of, heading, has_elements, has_rank, rank_of_body}
 
 -- What a line with words is, by the lines with words before it: the first line, the kind line, a line in the body of a
@@ -65,15 +65,20 @@ abbrev pub rank : Place → List (List ℕ) → Option Code
 rank kind w = option_and_then (λ d. when (not (has_rank d)) (code.Rank (rank_of_body d.body))) (heading w)
 rank _ w = None
 
--- a body line has a byte that is no sign
+-- a line of a map or a list has a byte that is no sign
 abbrev pub sign : Place → List (List ℕ) → Option Code
-sign (body d ls) w = when (not (are_signs w)) code.Sign
+sign (body d ls) w = when (not (has_signs d w)) code.Sign
 sign _ w = None
 
 -- a member has another number of signs than there are elements
 abbrev pub length_row : Place → List (List ℕ) → Option Code
 length_row (body d ls) w = when (not (has_length d w)) code.Length
 length_row _ w = None
+
+-- a line of points hasn't exactly three coordinates
+abbrev pub number : Place → List (List ℕ) → Option Code
+number (body d ls) w = when (not (has_numbers d w)) code.Number
+number _ w = None
 
 -- the line goes past the greatest size of the body
 abbrev pub many : Place → List (List ℕ) → Option Code
@@ -101,6 +106,7 @@ table p w =
     ∷ rank p w
     ∷ sign p w
     ∷ length_row p w
+    ∷ number p w
     ∷ many p w
     ∷ few p w
     ∷ after_row p w

@@ -1,14 +1,14 @@
 -- The forms and the limits of a document's value.
 --
 -- Trusted: `parse` promises them, and `print` asks for them.
-use Rattle.std.specs.Prelude.{ℕ, ◌≡◌, ◌≢◌, ◌≤◌, List, length, false, All, AllPairs}
-use Rattle.om_signs.specs.declared.limits.TheConstants.{MAX_ELEMENTS, MAX_MEMBERS}
+use Rattle.std.specs.Prelude.{ℕ, ◌≡◌, ◌≢◌, ◌≤◌, ℤ, unsigned_abs, List, length, false, All, AllPairs}
+use Rattle.om_signs.specs.declared.limits.TheConstants.{MAX_ELEMENTS, MAX_MEMBERS, MAX_COORDINATE}
 use Rattle.om_signs.specs.declared.sign.Sign.{Sign}
 use Rattle.om_signs.specs.declared.raw_map.RawMap.{RawMap}
 use Rattle.om_subsets.specs.Subsets.{choose}
 use Rattle.om_text.specs.declared.document.Document.{Document}
 use Rattle.om_text.specs.declared.body.Body.{Body}
-use Rattle.om_text.specs.declared.body.Body.TheVariants.{Chirotope}
+use Rattle.om_text.specs.declared.body.Body.TheVariants.{Chirotope, Points}
 use Rattle.om_text.specs.Heading.{is_unbuilt, kind_name}
 use Rattle.om_text.specs.Members.{members_of}
 
@@ -24,9 +24,24 @@ pub record AreMembersOn (n : ℕ) (ms : List (List Sign)) : Type 0 where
   pub long : All (λ x. length x ≡ n) ms
   pub distinct : AllPairs (λ x y. x ≢ y) ms
 
+-- a whole number within the limit
+abbrev pub IsCoordinate : ℤ → Type 0
+IsCoordinate x = unsigned_abs x ≤ unsigned_abs MAX_COORDINATE
+
+-- three of them
+pub record IsPoint (p : List ℤ) : Type 0 where
+  pub three : length p ≡ 3
+  pub small : All IsCoordinate p
+
+-- a point for each of n elements
+pub record ArePointsOn (n : ℕ) (ps : List (List ℤ)) : Type 0 where
+  pub count : length ps ≡ n
+  pub each : All IsPoint ps
+
 -- a body on n elements
 abbrev pub IsBodyOn : ℕ → Body → Type 0
 IsBodyOn n (Chirotope m) = IsMapOn n m
+IsBodyOn n (Points ps) = ArePointsOn n ps
 IsBodyOn n b = AreMembersOn n (members_of b)
 
 -- a document of a kind that is read, within the limits

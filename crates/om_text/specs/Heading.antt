@@ -1,18 +1,18 @@
 -- The kind line of a document, and the limits of its numbers.
 --
 -- Trusted: what a document is rests on these definitions.
-use Rattle.std.specs.Prelude.{ℕ, List, [], ◌∷◌, Bool, cond, nat_le, ◌&&◌, ◌||◌, codes, Option, Some, None, bytes_eq, option_and_then, option_map}
+use Rattle.std.specs.Prelude.{ℕ, List, [], ◌∷◌, Bool, cond, nat_le, ◌&&◌, codes, Option, Some, None, bytes_eq, option_and_then, option_map}
 use Rattle.om_signs.specs.declared.limits.TheConstants.{MAX_ELEMENTS}
 use Rattle.om_text.specs.declared.document.Document.{Document}
 use Rattle.om_text.specs.declared.body.Body.{Body}
-use Rattle.om_text.specs.declared.body.Body.TheVariants.{Chirotope, Circuits, Cocircuits, Covectors}
+use Rattle.om_text.specs.declared.body.Body.TheVariants.{Chirotope, Circuits, Cocircuits, Covectors, Points}
 use Rattle.om_text.specs.declared.kind.Kind.{Kind}
 use Rattle.om_text.specs.declared.kind.Kind.TheVariants as kinds
 use Rattle.om_text.specs.Words.{plain}
 
 -- the names of the kinds of documents that are not read yet
 abbrev pub is_unbuilt : List ℕ → Bool
-is_unbuilt w = bytes_eq w (codes "wiring") || bytes_eq w (codes "points")
+is_unbuilt w = bytes_eq w (codes "wiring")
 
 -- the kind that a name stands for
 abbrev pub named_kind : List ℕ → Option Kind
@@ -20,7 +20,8 @@ named_kind w =
     cond (bytes_eq w (codes "chirotope")) (Some kinds.Chirotope)
     (cond (bytes_eq w (codes "circuits")) (Some kinds.Circuits)
     (cond (bytes_eq w (codes "cocircuits")) (Some kinds.Cocircuits)
-    (cond (bytes_eq w (codes "covectors")) (Some kinds.Covectors) None)))
+    (cond (bytes_eq w (codes "covectors")) (Some kinds.Covectors)
+    (cond (bytes_eq w (codes "points")) (Some kinds.Points) None))))
 
 -- the same among the kinds that are read
 abbrev pub kind_of : List ℕ → Option Kind
@@ -36,7 +37,7 @@ abbrev pub plain_numbers : List (List ℕ) → Option (List ℕ)
 plain_numbers [] = Some []
 plain_numbers (w ∷ ws) = with_number (plain w) (plain_numbers ws)
 
--- the rank and the number of elements, where a kind line of this kind has these numbers; a list has no rank, and 0 stands for it
+-- the rank and the number of elements, where a kind line of this kind has these numbers; other kinds have no rank, and 0 stands for it
 abbrev pub sizes : Kind → List ℕ → Option (ℕ × ℕ)
 sizes kinds.Chirotope (r ∷ n ∷ []) = Some (r, n)
 sizes kinds.Chirotope _ = None
@@ -53,6 +54,7 @@ empty_body kinds.Chirotope r n = Chirotope (record { rank = r; elements = n; sig
 empty_body kinds.Circuits r n = Circuits []
 empty_body kinds.Cocircuits r n = Cocircuits []
 empty_body kinds.Covectors r n = Covectors []
+empty_body kinds.Points r n = Points []
 
 -- an empty document with these numbers
 abbrev pub headed : Kind → ℕ × ℕ → Document
@@ -78,6 +80,7 @@ kind_name (Chirotope m) = codes "chirotope"
 kind_name (Circuits ms) = codes "circuits"
 kind_name (Cocircuits ms) = codes "cocircuits"
 kind_name (Covectors ms) = codes "covectors"
+kind_name (Points ps) = codes "points"
 
 -- the rank that a kind line gives; 0 where the kind has none
 abbrev pub rank_of_body : Body → ℕ

@@ -3,11 +3,13 @@ pub mod Words
 pub mod Heading
 pub mod Rows
 pub mod Members
+pub mod Points
 pub mod Document
 pub mod Fault
 pub mod Form
 pub mod Print
 pub mod Parsed
+pub mod Part
 pub mod Steps
 pub mod Reading
 pub mod Added

@@ -1,7 +1,7 @@
 -- The lines of an input, and the words of a line.
 --
 -- Trusted: what a document is rests on these definitions, so read them with care.
-use Rattle.std.specs.Prelude.{ℕ, List, [], ◌∷◌, Bool, true, false, cond, nat_eq, ◌||◌, filter, map}
+use Rattle.std.specs.Prelude.{ℕ, ◌≡◌, ◌⊎◌, ◌++◌, List, [], ◌∷◌, Bool, true, false, cond, nat_eq, ◌||◌, filter, map}
 
 -- a byte in front of the first piece, or as a piece of its own where there is none
 abbrev pub with_first : ℕ → List (List ℕ) → List (List ℕ)
@@ -12,6 +12,10 @@ with_first b (x ∷ xs) = (b ∷ x) ∷ xs
 abbrev pub lines : List ℕ → List (List ℕ)
 lines [] = []
 lines (b ∷ bs) = cond (nat_eq b 10) ([] ∷ lines bs) (with_first b (lines bs))
+
+-- the bytes are a line and the bytes after it, with a line feed between them, or they are one line that no line feed ends
+abbrev pub IsSplit : List ℕ → List ℕ → List ℕ → Type 0
+IsSplit bytes line after = (bytes ≡ line ++ 10 ∷ after) ⊎ ((bytes ≡ line) × (after ≡ []))
 
 -- the bytes of a line before its first `#`
 abbrev pub uncommented : List ℕ → List ℕ

@@ -1,11 +1,12 @@
 -- The canonical form of a document.
 --
 -- Trusted: `print` gives exactly this.
-use Rattle.std.specs.Prelude.{ℕ, zero, suc, ◌+◌, ◌/◌, List, [], ◌∷◌, ◌++◌, length, take, drop, map, codes, decimal}
+use Rattle.std.specs.Prelude.{ℕ, zero, suc, ◌+◌, ◌/◌, ℤ, List, [], ◌∷◌, ◌++◌, length, take, drop, map, codes, decimal}
+use Rattle.std.specs.Fmt.{signed_decimal}
 use Rattle.om_signs.specs.declared.sign.Sign.{Sign}
 use Rattle.om_text.specs.declared.document.Document.{Document}
 use Rattle.om_text.specs.declared.body.Body.{Body}
-use Rattle.om_text.specs.declared.body.Body.TheVariants.{Chirotope}
+use Rattle.om_text.specs.declared.body.Body.TheVariants.{Chirotope, Points}
 use Rattle.om_text.specs.Words.{byte_of}
 use Rattle.om_text.specs.Heading.{kind_name}
 use Rattle.om_text.specs.Rows.{sorted}
@@ -29,6 +30,16 @@ sign_lines xs = cut ((length xs + 63) / 64) (map byte_of xs)
 abbrev pub member_lines : List (List Sign) → List (List ℕ)
 member_lines ms = map (map byte_of) ms
 
+-- words with single spaces between them
+abbrev pub spaced : List (List ℕ) → List ℕ
+spaced [] = []
+spaced (w ∷ []) = w
+spaced (w ∷ v ∷ ws) = w ++ 32 ∷ spaced (v ∷ ws)
+
+-- points, one a line
+abbrev pub point_lines : List (List ℤ) → List (List ℕ)
+point_lines ps = map (λ p. spaced (map signed_decimal p)) ps
+
 -- the numbers of a kind line, each after a space
 abbrev pub sizes_text : ℕ → Body → List ℕ
 sizes_text n (Chirotope m) = 32 ∷ (decimal m.rank ++ 32 ∷ decimal n)
@@ -41,6 +52,7 @@ kind_text d = kind_name d.body ++ sizes_text d.elements d.body
 -- the lines of the body
 abbrev pub body_lines : Body → List (List ℕ)
 body_lines (Chirotope m) = sign_lines m.signs
+body_lines (Points ps) = point_lines ps
 body_lines b = member_lines (sorted (members_of b))
 
 -- the lines of the canonical form

@@ -1,7 +1,7 @@
 -- What words spell: numbers and signs.
 --
 -- Trusted: what a document is rests on these definitions.
-use Rattle.std.specs.Prelude.{ℕ, ◌+◌, ◌-◌, ◌*◌, List, [], ◌∷◌, Bool, false, cond, not, nat_eq, nat_le, ◌&&◌, ◌||◌, length, Option, Some, None}
+use Rattle.std.specs.Prelude.{ℕ, suc, ◌+◌, ◌-◌, ◌*◌, ℤ, pos, negsuc, List, [], ◌∷◌, Bool, false, cond, not, nat_eq, nat_le, ◌&&◌, ◌||◌, length, drop, Option, Some, None, option_map}
 use Rattle.std.specs.List.{list_all}
 use Rattle.om_signs.specs.declared.sign.Sign.{Sign}
 use Rattle.om_signs.specs.declared.sign.Sign.TheVariants.{Minus, Zero, Plus}
@@ -20,13 +20,34 @@ abbrev pub begins_with : ℕ → List ℕ → Bool
 begins_with b [] = false
 begins_with b (x ∷ xs) = nat_eq x b
 
--- 1 to 6 decimal digits with no leading zero, save `0` itself
+-- decimal digits with no leading zero, save `0` itself
+abbrev pub is_decimal : List ℕ → Bool
+is_decimal w = list_all is_digit w && nat_le 1 (length w) && (nat_eq (length w) 1 || not (begins_with 48 w))
+
+-- the same, of at most 6 digits
 abbrev pub is_plain : List ℕ → Bool
-is_plain w = list_all is_digit w && nat_le 1 (length w) && nat_le (length w) 6 && (nat_eq (length w) 1 || not (begins_with 48 w))
+is_plain w = is_decimal w && nat_le (length w) 6
 
 -- the plain number that a word is
 abbrev pub plain : List ℕ → Option ℕ
 plain w = cond (is_plain w) (Some (number_from 0 w)) None
+
+-- a number that isn't above the limit
+abbrev pub up_to : ℕ → ℕ → Option ℕ
+up_to limit n = cond (nat_le n limit) (Some n) None
+
+-- the number of at most the limit that a word of decimal digits is
+abbrev pub unsigned : ℕ → List ℕ → Option ℕ
+unsigned limit w = cond (is_decimal w) (up_to limit (number_from 0 w)) None
+
+-- the negative of a number other than 0
+abbrev pub negative : Option ℕ → Option ℤ
+negative (Some (suc n)) = Some (negsuc n)
+negative _ = None
+
+-- the number of a size of at most the limit that a word is: decimal digits with or without a `-` before them, and `0` has none
+abbrev pub signed : ℕ → List ℕ → Option ℤ
+signed limit w = cond (begins_with 45 w) (negative (unsigned limit (drop 1 w))) (option_map pos (unsigned limit w))
 
 -- `+`, `-` and `0`
 abbrev pub is_sign : ℕ → Bool

@@ -13,4 +13,6 @@ pub enum Body {
     Cocircuits(List<SignVec>),
     /// The covectors.
     Covectors(List<SignVec>),
+    /// The points of the elements 1, 2, and so on: three coordinates each, of a size of at most [`om_signs::MAX_COORDINATE`].
+    Points(List<[i64; 3]>),
 }

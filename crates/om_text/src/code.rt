@@ -21,22 +21,32 @@ pub enum Code {
     /// The kind line gives the rank `r`, and this is above the number of elements.
     #[error("rank {r} is above the number of elements")]
     Rank { r: u32 },
-    /// A line of the body has a byte other than `+`, `-` and `0` in its words.
+    /// A line of a map or a list has a byte other than `+`, `-` and `0` in its words.
     #[error("a body line has a byte that is no sign")]
     Sign,
     /// A member has another number of signs than there are elements.
     #[error("a member has not as many signs as there are elements")]
     Length,
-    /// The line goes past the number of values of the map, or past [`om_signs::MAX_MEMBERS`] distinct members.
+    /// A line of points hasn't exactly three signed numbers of a size of at most [`om_signs::MAX_COORDINATE`].
+    #[error("a line of points has not exactly three numbers in range")]
+    Number,
+    /// The line goes past the number of values of the map, past one point for each element, or past
+    /// [`om_signs::MAX_MEMBERS`] distinct members.
     #[error("the line goes past the greatest size of the body")]
     Many,
-    /// The line `end` comes before the map has all its values.
+    /// The line `end` comes before the map has all its values, or before there is a point for each element.
     #[error("`end` comes before the body is complete")]
     Few,
     /// A line with words follows the line `end`.
     #[error("a line with words follows `end`")]
     After,
+    /// In a claim, the line after the document isn't the first line of a verdict. No document has this code.
+    #[error("the line after the document is no verdict")]
+    Claim,
+    /// In a claim, a line of the verdict has none of the forms that may stand there. No document has this code.
+    #[error("the line has no form that a verdict has here")]
+    Entry,
     /// The input ends before the line `end`.
-    #[error("the input ends before the document")]
+    #[error("the input ends before its last line")]
     Missing,
 }

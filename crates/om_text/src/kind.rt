@@ -1,6 +1,6 @@
 //! The kind line.
 
-ghost use Rattle.std.specs.Prelude.{◌≡◌, ℕ, ◌+◌, ◌<◌, ◌≤◌, ◌∷◌, [], ◌++◌, length, bytes_eq, ◌||◌, codes, option_map, IfSome, IfNone, Some, None};
+ghost use Rattle.std.specs.Prelude.{◌≡◌, ℕ, ◌<◌, [], IfSome, IfNone, Some, None};
 ghost use Rattle.om_text.specs.Lines.{runs};
 ghost use Rattle.om_text.specs.Words.{plain};
 ghost use Rattle.om_text.specs.Heading.{is_unbuilt, named_kind, plain_numbers, sizes, numbers, headed, rank_of_body, empty_body};
@@ -24,13 +24,14 @@ pub enum Kind {
     Circuits,
     Cocircuits,
     Covectors,
+    Points,
 }
 
 /// Whether a word names a kind that isn't read yet.
 fn is_unbuilt_name(word: &[u8]) -> bool
     ensures { result ≡ is_unbuilt word.now }
 {
-    same(word, b"wiring") || same(word, b"points")
+    same(word, b"wiring")
 }
 
 fn kind_of_name(word: &[u8]) -> Option<Kind>
@@ -44,6 +45,8 @@ fn kind_of_name(word: &[u8]) -> Option<Kind>
         Some(Kind::Cocircuits)
     } else if same(word, b"covectors") {
         Some(Kind::Covectors)
+    } else if same(word, b"points") {
+        Some(Kind::Points)
     } else {
         None
     }
@@ -75,7 +78,9 @@ fn sizes_of(kind: Kind, numbers: &[u32]) -> Option<(u32, u32)>
 {
     match (kind, numbers) {
         (Kind::Chirotope, [rank, elements]) => Some((*rank, *elements)),
-        (Kind::Circuits | Kind::Cocircuits | Kind::Covectors, [elements]) => Some((0, *elements)),
+        (Kind::Circuits | Kind::Cocircuits | Kind::Covectors | Kind::Points, [elements]) => {
+            Some((0, *elements))
+        }
         _ => None,
     }
 }
@@ -100,17 +105,18 @@ fn empty_document(alloc: Global, kind: Kind, rank: u8, elements: u8) -> Document
         Kind::Circuits => Body::Circuits(List::new(alloc)),
         Kind::Cocircuits => Body::Cocircuits(List::new(alloc)),
         Kind::Covectors => Body::Covectors(List::new(alloc)),
+        Kind::Points => Body::Points(List::new(alloc)),
     };
     Document { elements, body }
 }
 
-/// The rank that a kind line gives: a list has none.
+/// The rank that a kind line gives: only a map has one.
 fn rank_given(kind: Kind, rank: u32) -> u32
     ensures { (n : ℕ) → result ≡ rank_of_body (empty_body kind rank n) }
 {
     match kind {
         Kind::Chirotope => rank,
-        Kind::Circuits | Kind::Cocircuits | Kind::Covectors => 0,
+        Kind::Circuits | Kind::Cocircuits | Kind::Covectors | Kind::Points => 0,
     }
 }
 

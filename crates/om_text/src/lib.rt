@@ -7,15 +7,16 @@ mod code;
 mod document;
 mod kind;
 mod laws;
-mod lines;
+pub mod lines;
 mod parse_error;
+mod points;
 mod printer;
 mod reader;
 mod refusal;
 mod state;
 #[cfg(test)]
 mod tests;
-mod words;
+pub mod words;
 
 pub use body::Body;
 pub use code::Code;
@@ -26,4 +27,4 @@ pub use laws::{
 };
 pub use parse_error::ParseError;
 pub use printer::print;
-pub use reader::parse;
+pub use reader::{parse, parse_part};

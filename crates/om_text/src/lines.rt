@@ -1,9 +1,13 @@
 //! The lines of bytes, and the words of a line.
+//!
+//! A line is a run of bytes between line feeds; a last one that no line feed ends counts where it isn't empty. Everything in
+//! it from the first `#` on is a comment. Its words are the longest runs of bytes other than space, tab and carriage return.
 
-ghost use Rattle.std.specs.Prelude.{◌≡◌, ℕ, ◌+◌, ◌<◌, ◌≤◌, ◌∷◌, [], length, nat_eq, not, ◌||◌, MatchOption, IfSome, bytes_eq};
+ghost use Rattle.std.specs.Prelude.{◌≡◌, ◌+◌, ◌<◌, ◌≤◌, ◌∷◌, [], length, nat_eq, not, ◌||◌, MatchOption, IfSome, bytes_eq};
 ghost use Rattle.std.specs.List.{position, position_or_len, list_all};
-ghost use Rattle.om_text.specs.Lines.{lines, uncommented, runs, is_blank, has_any};
+ghost use Rattle.om_text.specs.Lines.{lines, IsSplit, uncommented, runs, is_blank, has_any};
 
+/// Whether a word has these bytes.
 pub fn same(word: &[u8], text: &[u8]) -> bool
     ensures { result ≡ bytes_eq word.now text.now }
 {
@@ -18,17 +22,18 @@ fn byte_place(bytes: &[u8], byte: u8) -> Option<usize>
 }
 
 /// How many bytes stand before the first such byte.
-pub fn len_before(bytes: &[u8], byte: u8) -> usize
+fn len_before(bytes: &[u8], byte: u8) -> usize
     ensures value { result ≡ position_or_len (λ b. nat_eq b byte) bytes.now }
     ensures within { result ≤ length bytes.now }
 {
     byte_place(bytes, byte).unwrap_or(bytes.len())
 }
 
-/// The first line, and the bytes after it.
+/// The first line without its line feed, and the bytes after it. There are some bytes.
 pub fn first_line(bytes: &[u8]) -> (&[u8], &[u8])
     requires { 0 < length bytes.now }
     ensures lines { lines bytes.now ≡ result.0.now ∷ lines result.1.now }
+    ensures split { IsSplit bytes.now result.0.now result.1.now }
     ensures shorter { length result.1.now < length bytes.now }
 {
     let end = len_before(bytes, b'\n');
@@ -48,7 +53,7 @@ pub fn before_comment(line: &[u8]) -> &[u8]
     &line[..end]
 }
 
-pub fn is_blank_byte(byte: u8) -> bool
+pub(crate) fn is_blank_byte(byte: u8) -> bool
     ensures { result ≡ is_blank byte }
 {
     byte == b' ' || byte == b'\t' || byte == b'\r'
@@ -67,7 +72,7 @@ fn blank_place(line: &[u8]) -> Option<usize>
 }
 
 /// How many blanks a line begins with.
-pub fn blank_len(line: &[u8]) -> usize
+fn blank_len(line: &[u8]) -> usize
     ensures value { result ≡ position_or_len (λ b. not (is_blank b)) line.now }
     ensures within { result ≤ length line.now }
 {
@@ -75,7 +80,7 @@ pub fn blank_len(line: &[u8]) -> usize
 }
 
 /// How many other bytes it begins with.
-pub fn word_len(line: &[u8]) -> usize
+fn word_len(line: &[u8]) -> usize
     ensures value { result ≡ position_or_len is_blank line.now }
     ensures within { result ≤ length line.now }
 {

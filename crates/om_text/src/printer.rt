@@ -1,14 +1,14 @@
 //! The canonical form.
 
-ghost use Rattle.std.specs.Prelude.{◌≡◌, ℕ, ◌+◌, ◌<◌, ◌≤◌, ◌^◌, ◌-◌, ◌∷◌, [], ◌++◌, length, map, OnOk, IfOk, codes, decimal};
+ghost use Rattle.std.specs.Prelude.{◌≡◌, ◌+◌, ◌<◌, ◌-◌, ◌∷◌, [], ◌++◌, map, All, OnOk, IfOk, codes, decimal};
 ghost use Rattle.om_text.specs.declared.document.Document.{Document};
 ghost use Rattle.om_text.specs.Words.{byte_of};
 ghost use Rattle.om_text.specs.Lines.{lines};
-ghost use Rattle.om_text.specs.Heading.{kind_name};
 ghost use Rattle.om_text.specs.Rows.{sorted};
 ghost use Rattle.om_text.specs.Document.{IsDocument};
-ghost use Rattle.om_text.specs.Form.{IsInForm};
-ghost use Rattle.om_text.specs.Print.{text_of, sign_lines, member_lines, body_lines, kind_text, printed, sorted_document};
+ghost use Rattle.om_text.specs.Form.{IsPoint, IsBodyOn, IsInForm};
+ghost use Rattle.std.specs.Fmt.{signed_decimal};
+ghost use Rattle.om_text.specs.Print.{text_of, sign_lines, member_lines, point_lines, body_lines, kind_text, printed, sorted_document};
 
 use super::body::Body;
 use super::document::Document;
@@ -90,6 +90,36 @@ fn push_members(out: &mut Vec<u8>, members: &List<SignVec>) -> Result<(), NoMemo
     push_member_lines(out, rows.as_slice())
 }
 
+/// The line of a point.
+fn point_text(alloc: Global, x: i64, y: i64, z: i64) -> Result<Vec<u8>, NoMemory>
+    ensures { IfOk result (λ bytes. bytes.items
+        ≡ signed_decimal x ++ 32 ∷ (signed_decimal y ++ 32 ∷ (signed_decimal z ++ 10 ∷ []))) }
+{
+    let text = format!(in alloc; "{x} {y} {z}\n")?;
+    Ok(text.into_bytes())
+}
+
+/// Puts a point at the end, as a line.
+fn push_point(out: &mut Vec<u8>, point: [i64; 3]) -> Result<(), NoMemory>
+    requires { IsPoint point }
+    ensures { OnOk result (out.new.items ≡ out.old.items ++ text_of (point_lines (point ∷ []))) }
+{
+    let [x, y, z] = point;
+    let text = point_text(*out.allocator(), x, y, z)?;
+    push_bytes(out, text.as_slice())
+}
+
+/// Puts points at the end, one a line.
+fn push_points(out: &mut Vec<u8>, points: &[[i64; 3]]) -> Result<(), NoMemory>
+    requires { All IsPoint points.now }
+    ensures { OnOk result (out.new.items ≡ out.old.items ++ text_of (point_lines points.now)) }
+{
+    for point in points {
+        push_point(out, *point)?;
+    }
+    Ok(())
+}
+
 fn push_bytes(out: &mut Vec<u8>, bytes: &[u8]) -> Result<(), NoMemory>
     ensures { OnOk result (out.new.items ≡ out.old.items ++ bytes.now) }
 {
@@ -124,10 +154,12 @@ fn heading(alloc: Global, document: &Document) -> Result<Vec<u8>, NoMemory>
         Body::Circuits(_) => list_heading(alloc, "circuits", document.elements),
         Body::Cocircuits(_) => list_heading(alloc, "cocircuits", document.elements),
         Body::Covectors(_) => list_heading(alloc, "covectors", document.elements),
+        Body::Points(_) => list_heading(alloc, "points", document.elements),
     }
 }
 
-fn push_body(out: &mut Vec<u8>, body: &Body) -> Result<(), NoMemory>
+fn push_body(out: &mut Vec<u8>, body: &Body, elements: u8) -> Result<(), NoMemory>
+    requires { IsBodyOn elements body.now }
     ensures { OnOk result (out.new.items ≡ out.old.items ++ text_of (body_lines body.now)) }
 {
     match body {
@@ -135,16 +167,17 @@ fn push_body(out: &mut Vec<u8>, body: &Body) -> Result<(), NoMemory>
         Body::Circuits(members) | Body::Cocircuits(members) | Body::Covectors(members) => {
             push_members(out, members)
         }
+        Body::Points(points) => push_points(out, points.as_slice()),
     }
 }
 
 /// The canonical form of a document: the line `om 1`, the kind line with single spaces, the body and the line `end`. The
-/// values of a map stand in lines of 64 and a last shorter line, and the members of a list one a line, sorted by the first
-/// place where they differ, with `-` before `0` before `+`.
+/// values of a map stand in lines of 64 and a last shorter line, the members of a list one a line, sorted by the first
+/// place where they differ, with `-` before `0` before `+`, and the points one a line in their order, with single spaces.
 ///
 /// The document has the forms and is within the limits that [`crate::parse`] promises: its numbers are in range, a map has
-/// a value for each set of its rank, and the members of a list are different and have a sign for each element. Reading the canonical form gives it
-/// back with its members sorted.
+/// a value for each set of its rank, the members of a list are different and have a sign for each element, and there is a
+/// point for each element. Reading the canonical form gives it back with its members sorted.
 pub fn print(alloc: Global, document: &Document) -> Result<Vec<u8>, NoMemory>
     requires form { IsInForm document.now }
     ensures bytes { IfOk result (λ bytes. bytes.items ≡ printed document.now) }
@@ -152,7 +185,7 @@ pub fn print(alloc: Global, document: &Document) -> Result<Vec<u8>, NoMemory>
     ensures again { IfOk result (λ bytes. IsDocument (lines bytes.items) (sorted_document document.now)) }
 {
     let mut out = heading(alloc, document)?;
-    push_body(&mut out, &document.body)?;
+    push_body(&mut out, &document.body, document.elements)?;
     push_bytes(&mut out, b"end\n")?;
     Ok(out)
 }

@@ -1,18 +1,19 @@
 //! Reading documents line by line.
 
-ghost use Rattle.std.specs.Prelude.{◌≡◌, ℕ, ◌+◌, ◌<◌, ◌≤◌, ◌^◌, ◌-◌, ◌∷◌, [], length, IfOk, List, take, ◌↔◌};
+ghost use Rattle.std.specs.Prelude.{◌≡◌, ◌≢◌, ℕ, ◌+◌, ◌<◌, ◌≤◌, ◌^◌, ◌-◌, ◌∷◌, [], length, true, false, IfOk, IfErr};
 ghost use Rattle.om_text.specs.declared.document.Document.{Document};
 ghost use Rattle.om_text.specs.declared.code.Code.{Code};
 ghost use Rattle.om_text.specs.Lines.{runs, lines};
 ghost use Rattle.om_text.specs.Document.{IsDocument, is_line, version_line, end_line, is_complete, is_complete_body};
 ghost use Rattle.om_text.specs.Form.{IsInForm};
-ghost use Rattle.om_text.specs.Fault.{IsFault, Begins, AreDocument};
-ghost use Rattle.om_text.specs.Reading.{step, advance, after_body, after_end, outcome};
-ghost use Rattle.om_text.specs.Added.{Gives, IsSmall, IsSmallBody, IsSmallState};
+ghost use Rattle.om_text.specs.Fault.{IsFault};
+ghost use Rattle.om_text.specs.Reading.{step, advance, after_body, after_end, is_closed, outcome};
+ghost use Rattle.om_text.specs.Added.{Gives, IsSmall, IsSmallBody, IsSmallState, fault_at, IsWhole, IsFront};
+ghost use Rattle.om_text.specs.Part.{IsPart};
 ghost use Rattle.om_text.specs.Parsed.{ComesTo, IfLine};
 
 use super::body::Body;
-use super::body_lines::{are_signs_line, has_length_line, with_line};
+use super::body_lines::{has_length_line, has_numbers_line, has_signs_line, with_line};
 use super::code::Code;
 use super::document::Document;
 use super::kind::kind_line;
@@ -47,12 +48,13 @@ fn is_version(line: &[u8]) -> bool
     }
 }
 
-fn is_full(body: &Body) -> bool
+fn is_full(body: &Body, elements: u8) -> bool
     requires { IsSmallBody body.now }
-    ensures { result ≡ is_complete_body body.now }
+    ensures { result ≡ is_complete_body body.now elements }
 {
     match body {
         Body::Chirotope(map) => map.signs.len() == Subset::choose(map.elements, map.rank) as usize,
+        Body::Points(points) => points.len() == elements as usize,
         Body::Circuits(_) | Body::Cocircuits(_) | Body::Covectors(_) => true,
     }
 }
@@ -61,7 +63,7 @@ fn close(document: Document) -> Result<State, Refusal>
     requires { IsSmall document }
     ensures { Gives result (after_end document) }
 {
-    if is_full(&document.body) {
+    if is_full(&document.body, document.elements) {
         Ok(State::Closed(document))
     } else {
         Err(Refusal::Line(Code::Few))
@@ -72,11 +74,14 @@ fn body_line(document: Document, line: &[u8]) -> Result<State, Refusal>
     requires { IsSmall document }
     ensures { Gives result (after_body document (runs line.now)) }
 {
-    if !are_signs_line(line) {
+    if !has_signs_line(&document.body, line) {
         return Err(Refusal::Line(Code::Sign));
     }
     if !has_length_line(&document.body, document.elements, line) {
         return Err(Refusal::Line(Code::Length));
+    }
+    if !has_numbers_line(&document.body, line) {
+        return Err(Refusal::Line(Code::Number));
     }
     let Document { elements, body } = document;
     let body = with_line(body, elements, line)?;
@@ -124,10 +129,38 @@ fn advance(alloc: Global, state: State, line: &[u8]) -> Result<State, Refusal>
     }
 }
 
-/// What the bytes come to: a document, or the first line at fault.
-fn course(alloc: Global, bytes: &[u8]) -> Result<Document, ParseError>
+fn at_line(refusal: Refusal, line: u32) -> ParseError
+    ensures { result ≡ fault_at line refusal }
+{
+    match refusal {
+        Refusal::Memory => ParseError::Memory,
+        Refusal::Line(code) => ParseError::Line { line, code },
+    }
+}
+
+/// The state to go on with, or as an error the document, where reading stops behind its line `end`.
+fn unless_over(state: State, stops: bool) -> Result<State, Document>
+    ensures same { IfOk result (λ s. s ≡ state) }
+    ensures unclosed { stops ≡ true → IfOk result (λ s. is_closed s ≡ false) }
+    ensures over { IfErr result (λ d. (stops ≡ true) × (state ≡ State.Closed d)) }
+{
+    if !stops {
+        return Ok(state);
+    }
+    match state {
+        State::Closed(document) => Err(document),
+        State::Start => Ok(State::Start),
+        State::Versioned => Ok(State::Versioned),
+        State::Open(document) => Ok(State::Open(document)),
+    }
+}
+
+/// What the bytes come to: a document with the number of bytes and of lines that were read, or the first line at fault.
+/// Reading goes on to the end of the bytes, or stops behind the line `end`.
+fn course(alloc: Global, bytes: &[u8], stops: bool) -> Result<(Document, usize, u32), ParseError>
     requires { length bytes.now ≤ 2 ^ 32 - 2 }
-    ensures { ComesTo result (outcome State.Start 0 (lines bytes.now)) }
+    ensures whole { stops ≡ false → IsWhole bytes.now result }
+    ensures front { stops ≡ true → IsFront bytes.now result }
 {
     let mut rest = bytes;
     let mut line = 0u32;
@@ -136,14 +169,17 @@ fn course(alloc: Global, bytes: &[u8]) -> Result<Document, ParseError>
         let (first, after) = first_line(rest);
         rest = after;
         line += 1;
-        state = match advance(alloc, state, first) {
+        let next = match advance(alloc, state, first) {
             Ok(next) => next,
-            Err(Refusal::Memory) => return Err(ParseError::Memory),
-            Err(Refusal::Line(code)) => return Err(ParseError::Line { line, code }),
+            Err(refusal) => return Err(at_line(refusal, line)),
+        };
+        state = match unless_over(next, stops) {
+            Ok(open) => open,
+            Err(document) => return Ok((document, bytes.len() - rest.len(), line)),
         };
     }
     match state {
-        State::Closed(document) => Ok(document),
+        State::Closed(document) => Ok((document, bytes.len(), line)),
         _ => Err(ParseError::Line {
             line: line + 1,
             code: Code::Missing,
@@ -151,13 +187,24 @@ fn course(alloc: Global, bytes: &[u8]) -> Result<Document, ParseError>
     }
 }
 
+/// The document that all the bytes are.
+fn whole(alloc: Global, bytes: &[u8]) -> Result<Document, ParseError>
+    requires { length bytes.now ≤ 2 ^ 32 - 2 }
+    ensures { ComesTo result (outcome State.Start 0 (lines bytes.now)) }
+{
+    let (document, _len, _lines) = course(alloc, bytes, false)?;
+    Ok(document)
+}
+
 /// Reads a document.
 ///
 /// The bytes are split into lines at line feeds. In a line, everything from the first `#` on is a comment, and the words
 /// are the longest runs of bytes other than space, tab and carriage return; a line without words is passed over. The lines
-/// with words are `om 1`, a kind line (`chirotope r n`, `circuits n`, `cocircuits n` or `covectors n`), body lines of the
-/// signs `+`, `-` and `0`, and `end`. A map has exactly one sign for each set of `r` elements, joined over all body lines;
-/// a list has one member of `n` signs a line, and a repeated line adds nothing.
+/// with words are `om 1`, a kind line (`chirotope r n`, `circuits n`, `cocircuits n`, `covectors n` or `points n`), body
+/// lines, and `end`. The body of a map or a list has the signs `+`, `-` and `0`: a map exactly one for each set of `r`
+/// elements, joined over all body lines; a list one member of `n` signs a line, and a repeated line adds nothing. Points
+/// have exactly `n` lines of three numbers of a size of at most [`om_signs::MAX_COORDINATE`]: decimal digits without a
+/// leading zero, with or without a `-` before them, and `0` without one.
 ///
 /// # Errors
 ///
@@ -177,5 +224,31 @@ pub fn parse(alloc: Global, bytes: &[u8]) -> Result<Document, ParseError>
     // A fault is named, unless memory runs out.
     ensures first { (line : ℕ) (code : Code) → IsFault (lines bytes.now) line code → ComesTo result (Err (line, code)) }
 {
-    course(alloc, bytes)
+    whole(alloc, bytes)
+}
+
+/// Reads a document at the front of the bytes, up to and with its line `end`: the document, the number of bytes and the
+/// number of lines that were read. Nothing is asked of the bytes after that line.
+///
+/// The bytes that were read are the first lines with their line feeds (the line `end` may have none, at the end of the
+/// bytes). They are a document by themselves, in the forms of [`parse`], and the other bytes are the other lines.
+///
+/// # Errors
+///
+/// [`ParseError::Line`] exactly where [`parse`] names a line with a code other than [`Code::After`], with the same line and
+/// the same code. [`ParseError::Memory`] where memory ran out.
+pub fn parse_part(alloc: Global, bytes: &[u8]) -> Result<(Document, usize, u32), ParseError>
+    requires { length bytes.now ≤ 2 ^ 32 - 2 }
+    // The lines read are a document with this value, and the last of them is its end line.
+    ensures part { IfOk result (λ r. IsPart bytes.now r.0 r.1 r.2) }
+    // It has the forms of documents, within the limits.
+    ensures form { IfOk result (λ r. IsInForm r.0) }
+    // Where there is such a document it is read, unless memory runs out.
+    ensures every { (d : Document) (len count : ℕ) → IsPart bytes.now d len count → ComesTo result (Ok (d, len, count)) }
+    // The line that is named is the first at fault of all the bytes, with its code, and this isn't `after`.
+    ensures fault { IfLine result (λ line code. IsFault (lines bytes.now) line code × (code ≢ Code.After)) }
+    // Another fault than `after` is named, unless memory runs out.
+    ensures first { (line : ℕ) (code : Code) → IsFault (lines bytes.now) line code → code ≢ Code.After → ComesTo result (Err (line, code)) }
+{
+    course(alloc, bytes, true)
 }

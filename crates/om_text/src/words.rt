@@ -1,12 +1,12 @@
-//! What words spell.
+//! What words spell: numbers and signs.
 
-ghost use Rattle.std.specs.Prelude.{◌≡◌, ℕ, ◌+◌, ◌-◌, ◌*◌, ◌<◌, ◌≤◌, ◌∷◌, [], length, true};
+ghost use Rattle.std.specs.Prelude.{◌≡◌, ◌+◌, ◌-◌, ◌*◌, ◌^◌, ◌<◌, ◌≤◌, [], length, true, IfSome, unsigned_abs};
 ghost use Rattle.std.specs.List.{list_all};
-ghost use Rattle.om_text.specs.Words.{is_digit, is_plain, plain, number_from, is_sign, sign_of_byte, begins_with};
+ghost use Rattle.om_text.specs.Words.{is_digit, is_decimal, is_plain, plain, number_from, up_to, unsigned, signed, is_sign, sign_of_byte, begins_with};
 
 use om_signs::Sign;
 
-pub fn is_digit_byte(byte: u8) -> bool
+fn is_digit_byte(byte: u8) -> bool
     ensures { result ≡ is_digit byte }
 {
     b'0' <= byte && byte <= b'9'
@@ -40,16 +40,22 @@ fn begins_with_zero(word: &[u8]) -> bool
     }
 }
 
-fn is_plain_word(word: &[u8]) -> bool
-    ensures { result ≡ is_plain word.now }
+fn is_decimal_word(word: &[u8]) -> bool
+    ensures { result ≡ is_decimal word.now }
 {
     let digits = are_digits(word);
     let zero = begins_with_zero(word);
     let len = word.len();
-    digits && 1 <= len && len <= 6 && (len == 1 || !zero)
+    digits && 1 <= len && (len == 1 || !zero)
 }
 
-/// The plain number that a word is.
+fn is_plain_word(word: &[u8]) -> bool
+    ensures { result ≡ is_plain word.now }
+{
+    is_decimal_word(word) && word.len() <= 6
+}
+
+/// The plain number that a word is: 1 to 6 decimal digits without a leading zero, save `0` itself.
 pub fn plain_number(word: &[u8]) -> Option<u32>
     ensures { result ≡ plain word.now }
 {
@@ -60,13 +66,73 @@ pub fn plain_number(word: &[u8]) -> Option<u32>
     }
 }
 
-pub fn is_sign_byte(byte: u8) -> bool
+/// The number that digits spell, if it is at most `limit`.
+fn spelled_up_to(word: &[u8], limit: u128) -> Option<u128>
+    requires digits { list_all is_digit word.now ≡ true }
+    requires room { limit < 2 ^ 120 }
+    ensures { result ≡ up_to limit (number_from 0 word.now) }
+{
+    let mut number = 0u128;
+    for b in word {
+        number = 10 * number + u128::from(*b - b'0');
+        if limit < number {
+            return None;
+        }
+    }
+    Some(number)
+}
+
+fn decimal_number(word: &[u8], limit: u128) -> Option<u128>
+    requires { limit < 2 ^ 120 }
+    ensures value { result ≡ unsigned limit word.now }
+    ensures within { IfSome result (λ n. n ≤ limit) }
+{
+    if is_decimal_word(word) {
+        spelled_up_to(word, limit)
+    } else {
+        None
+    }
+}
+
+/// The number of at most `limit` that a word is: decimal digits, as many as there may be, without a leading zero, save `0`
+/// itself. None for every other word.
+pub fn unsigned_number(word: &[u8], limit: u64) -> Option<u64>
+    ensures value { result ≡ unsigned limit word.now }
+    ensures within { IfSome result (λ n. n ≤ limit) }
+{
+    match decimal_number(word, u128::from(limit)) {
+        Some(number) => Some(number as u64),
+        None => None,
+    }
+}
+
+/// The number of a size of at most `limit` that a word is: decimal digits, as many as there may be, without a leading zero,
+/// with or without a `-` before them; `0` is written without a sign. None for every other word. `limit` is below 2^120.
+pub fn signed_number(word: &[u8], limit: u128) -> Option<i128>
+    requires { limit < 2 ^ 120 }
+    ensures value { result ≡ signed limit word.now }
+    ensures within { IfSome result (λ z. unsigned_abs z ≤ limit) }
+{
+    match word {
+        [b'-', digits @ ..] => match decimal_number(digits, limit) {
+            Some(0) => None,
+            Some(number) => Some(-(number as i128)),
+            None => None,
+        },
+        _ => match decimal_number(word, limit) {
+            Some(number) => Some(number as i128),
+            None => None,
+        },
+    }
+}
+
+pub(crate) fn is_sign_byte(byte: u8) -> bool
     ensures { result ≡ is_sign byte }
 {
     byte == b'+' || byte == b'-' || byte == b'0'
 }
 
-pub fn sign_of(byte: u8) -> Sign
+pub(crate) fn sign_of(byte: u8) -> Sign
     ensures { result ≡ sign_of_byte byte }
 {
     if byte == b'+' {

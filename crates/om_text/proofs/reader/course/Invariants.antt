@@ -1,12 +1,16 @@
-use Rattle.std.proofs.Common.{◌≡◌, ◌≤◌, ◌+◌, length}
-use Rattle.om_text.specs.declared.state.State.TheVariants.{Start}
-use Rattle.om_text.specs.Lines.{lines}
-use Rattle.om_text.specs.Reading.{outcome}
+use Rattle.std.proofs.Common.{◌≡◌, ◌≤◌, ◌+◌, true, false, length}
+use Rattle.om_text.specs.Reading.{is_closed}
 use Rattle.om_text.specs.Added.{IsSmallState}
+use Rattle.om_text.proofs.Part.{IsRead}
 use Rattle.om_text.proofs.reader.course.Given as goal
 
 abbrev pub invariant-loop-rest : goal.invariant-loop-rest
-invariant-loop-rest l = record { same : outcome l.state l.line (lines l.rest) ≡ outcome Start 0 (lines l.fn.bytes); count : l.line + length l.rest ≤ length l.fn.bytes; small : IsSmallState l.state }
+invariant-loop-rest l = record {
+  read : IsRead l.fn.bytes l.rest l.state l.line l.stops;
+  unclosed : l.stops ≡ true → is_closed l.state ≡ false;
+  count : l.line + length l.rest ≤ length l.fn.bytes;
+  small : IsSmallState l.state;
+}
 
 abbrev pub decreases-loop-rest : goal.decreases-loop-rest
 decreases-loop-rest l = length l.rest

@@ -4,9 +4,9 @@ use Rattle.om_text.proofs.reader.parse.Goals as goal
 
 pub returns : goal.returns
 returns c = record {
-  document = comes_document c.course.result (lines c.args.bytes.now) c.course.ensures;
-  form = comes_form c.course.result (lines c.args.bytes.now) c.course.ensures;
-  every = λ d o. comes_every c.course.result (lines c.args.bytes.now) d c.course.ensures o;
-  fault = comes_fault c.course.result (lines c.args.bytes.now) c.course.ensures;
-  first = λ l k f. comes_first c.course.result (lines c.args.bytes.now) l k c.course.ensures f;
+  document = comes_document c.whole.result (lines c.args.bytes.now) c.whole.ensures;
+  form = comes_form c.whole.result (lines c.args.bytes.now) c.whole.ensures;
+  every = λ d o. comes_every c.whole.result (lines c.args.bytes.now) d c.whole.ensures o;
+  fault = comes_fault c.whole.result (lines c.args.bytes.now) c.whole.ensures;
+  first = λ l k f. comes_first c.whole.result (lines c.args.bytes.now) l k c.whole.ensures f;
 }
