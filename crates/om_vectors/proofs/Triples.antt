@@ -1,0 +1,160 @@
+-- The elements of a triple one by one, and triples by their places.
+--
+-- Main definitions: HoldsBelow, what holds of the triples of the first places.
+-- Main results: least_first and last_first, how a set begins; held_all and held_before, from the places to the triples;
+-- realized_triple and realizes_from, what it is to realize a map.
+use Rattle.std.proofs.Common.{ℕ, zero, suc, ◌≡◌, ◌≢◌, ◌+◌, ◌<◌, ◌≤◌, List, [], ◌∷◌, length, map, take, refl, sym, ◌∙◌, ap, inl, inr, arith, subst}
+use Rattle.std.proofs.lemmas.Bool.{cases_eq, cases_lt, eq-eqb, ne_eqb}
+use Rattle.std.proofs.lemmas.List.{take_all}
+use Rattle.om_signs.specs.declared.sign.Sign.{Sign}
+use Rattle.om_signs.specs.declared.sign.Sign.TheVariants.{Zero}
+use Rattle.om_subsets.specs.Subsets.{choose, all_subsets, subset_at, rank_of, IsSubsetFrom, IsMember, without_element}
+use Rattle.om_subsets.specs.Lists.{IsBefore}
+use Rattle.om_subsets.proofs.Order.{members_from, length-subsets_from, rank_from-lt, get_or-rank_from, lexicographic}
+use Rattle.om_subsets.proofs.Statements.{subset_is_increasing}
+use Rattle.om_subsets.proofs.Table.{choose_above}
+use Rattle.om_subsets.specs.Members.{Chosen}
+use Rattle.om_chirotope.specs.Map.{SignMap, chi_of}
+use Rattle.om_chirotope.specs.Chirotope.{IsChirotope}
+use Rattle.om_vectors.specs.WholeVectors.{WholeVector, sign_of}
+use Rattle.om_vectors.specs.Realizations.{triple_sign, signs_map, IsTriple, Realizes, IsFirstOther, IsRankLow}
+use Rattle.om_vectors.proofs.TripleSigns.{bracket, triple_subset, chirotope_of}
+use Rattle.om_vectors.proofs.NumberSigns.{sign_zero}
+
+-- what comes behind the first element is greater
+above_head : (low m x : ℕ) (ys : List ℕ) → IsSubsetFrom low m (x ∷ ys) → (e : ℕ) → IsMember e ys → x < e
+above_head low zero x ys h e q = absurd h
+above_head low (suc m) x ys (inl (p, h)) e q = let b = members_from (low + 1) m e ys h q in omega arith
+above_head low (suc m) x ys (inr (p, h)) e q = above_head (low + 1) m x ys h e q
+
+without_other : (e : ℕ) (ys : List ℕ) → (IsMember e ys → ⊥) → without_element e ys ≡ ys
+without_other e [] n = refl
+without_other e (y ∷ ys) n = rw (ne_eqb e y (λ q. n (inl q))) (ap (λ zs. y ∷ zs) (without_other e ys (λ q. n (inr q))))
+
+without_first : (n x : ℕ) (ys : List ℕ) → IsSubsetFrom 1 n (x ∷ ys) → without_element x (x ∷ ys) ≡ ys
+without_first n x ys h = rw (eq-eqb x x refl) (without_other x ys (λ q. let l = above_head 1 n x ys h x q in omega arith))
+
+-- a member that no smaller number is comes first
+pub least_first : (n e : ℕ) (xs : List ℕ) → IsSubsetFrom 1 n xs → IsMember e xs → ((k : ℕ) → k < e → IsMember k xs → ⊥) → xs ≡ e ∷ without_element e xs
+least_first n e [] h q none = absurd q
+least_first n e (x ∷ xs) h (inl q) none = ap (λ zs. x ∷ zs) (sym (without_first n x xs h)) ∙ ap (λ k. k ∷ without_element k (x ∷ xs)) (sym q)
+least_first n e (x ∷ xs) h (inr q) none = absurd (none x (above_head 1 n x xs h e q) (inl refl))
+
+-- a member that is no number below n is n
+pub last_first : (n : ℕ) (xs : List ℕ) → IsSubsetFrom 1 n xs → 0 < length xs → ((k : ℕ) → k < n → IsMember k xs → ⊥) → xs ≡ n ∷ without_element n xs
+last_first n [] h l none = absurd (omega arith)
+last_first n (x ∷ xs) h l none =
+    let b = members_from 1 n x (x ∷ xs) h (inl refl) in
+    elim (cases_eq x n) [
+      | inl q ↦ least_first n n (x ∷ xs) h (inl (sym q)) none
+      | inr ne ↦ absurd (none x (omega arith) (inl refl))
+    ]
+
+pub none_at_zero : (n k : ℕ) (xs : List ℕ) → IsSubsetFrom 1 n xs → k < 1 → IsMember k xs → ⊥
+none_at_zero n k xs h l q = let b = members_from 1 n k xs h q in omega arith
+
+-- ---- triples one by one, in lexicographic order
+
+-- the three elements of a triple, in order
+pub record IsRising (n a b c : ℕ) : Type 0 where
+  pub low : 1 ≤ a
+  pub first : a < b
+  pub second : b < c
+  pub high : c ≤ n
+
+pub rising : (n : ℕ) (t : List ℕ) → IsTriple n t → (a : ℕ) × (b : ℕ) × (c : ℕ) × (t ≡ a ∷ b ∷ c ∷ []) × IsRising n a b c
+rising n [] h = let l = h.size in absurd (omega arith)
+rising n (a ∷ []) h = let l = h.size in absurd (omega arith)
+rising n (a ∷ b ∷ []) h = let l = h.size in absurd (omega arith)
+rising n (a ∷ b ∷ c ∷ []) h =
+    let i = (subset_is_increasing n (a ∷ b ∷ c ∷ [])).0 h.list in
+    (a, b, c, refl, record { low = (i.1 a (inl refl)).0; first = i.0.0; second = i.0.1.0; high = (i.1 c (inr (inr (inl refl)))).1 })
+rising n (a ∷ b ∷ c ∷ d ∷ ds) h = let l = h.size in absurd (omega arith)
+
+pub triple_from : (n a b c : ℕ) → 1 ≤ a → a < b → b < c → c ≤ n → IsTriple n (a ∷ b ∷ c ∷ [])
+triple_from n a b c low ab bc high = record { list = triple_subset n a b c low ab bc high; size = refl }
+
+-- what holds of the triples of the first k places
+abbrev pub HoldsBelow : (List ℕ → Type 0) → ℕ → ℕ → Type 0
+HoldsBelow P n k = (j : ℕ) → j < k → P (subset_at n 3 j)
+
+-- a triple whose place is below k
+pub held : (P : List ℕ → Type 0) (n k : ℕ) → HoldsBelow P n k → (t : List ℕ) → IsTriple n t → rank_of n t < k → P t
+held P n k h t i l =
+    let size = i.size in
+    let back : subset_at n 3 (rank_of n t) ≡ t = rw (← size) (get_or-rank_from 1 n t i.list) in
+    subst P back (h (rank_of n t) l)
+
+pub held_all : (P : List ℕ → Type 0) (n k : ℕ) → choose n 3 ≤ k → HoldsBelow P n k → (t : List ℕ) → IsTriple n t → P t
+held_all P n k most h t i =
+    let size = i.size in
+    let few : rank_of n t < choose n 3 = rw (← size) (rank_from-lt 1 n t i.list) in
+    held P n k h t i (omega arith)
+
+pub held_before : (P : List ℕ → Type 0) (n k : ℕ) → HoldsBelow P n k → (s : List ℕ) → IsTriple n s → rank_of n s ≡ k → (t : List ℕ) → IsTriple n t → IsBefore t s → P t
+held_before P n k h s i e t j b =
+    let before = (lexicographic 1 n t s j.list i.list (j.size ∙ sym i.size)).0 b in
+    held P n k h t j (omega arith)
+
+-- there are three elements where there is a place
+pub three_elements : (n k : ℕ) → k < choose n 3 → 3 ≤ n
+three_elements n k l = elim (cases_lt n 3) [
+  | inl few ↦ let none = choose_above n 3 few in omega arith
+  | inr ge ↦ ge
+]
+
+-- ---- realizing
+
+-- the triple product of a triple has the sign of the map
+abbrev pub HasItsSign : List WholeVector → SignMap → List ℕ → Type 0
+HasItsSign vs m t = triple_sign vs t ≡ chi_of m t
+
+pub realized_triple : (vs : List WholeVector) (m : SignMap) → Realizes vs m → (t : List ℕ) → IsTriple m.elements t → triple_sign vs t ≡ chi_of m t
+realized_triple vs m h t i = of (rising m.elements t i)
+  where
+    of : (a : ℕ) × (b : ℕ) × (c : ℕ) × (t ≡ a ∷ b ∷ c ∷ []) × IsRising m.elements a b c → triple_sign vs t ≡ chi_of m t
+    of (a, b, c, e, r) = rw e (h.signs a b c r.low r.first r.second r.high)
+
+pub realizes_from : (vs : List WholeVector) (m : SignMap) → m.rank ≡ 3 → m.elements ≡ length vs → ((t : List ℕ) → IsTriple m.elements t → triple_sign vs t ≡ chi_of m t) → Realizes vs m
+realizes_from vs m r n h = record {
+  rank = r;
+  elements = n;
+  signs = λ a b c low ab bc high. h (a ∷ b ∷ c ∷ []) (triple_from m.elements a b c low ab bc high);
+}
+
+-- a triple whose sign is another one, the first of its kind
+pub other_found : (vs : List WholeVector) (m : SignMap) (k : ℕ) (s : Chosen) → s.n ≡ m.elements → IsTriple m.elements s.elements → rank_of m.elements s.elements ≡ k → (triple_sign vs s.elements ≡ chi_of m s.elements → ⊥) → HoldsBelow (HasItsSign vs m) m.elements k → IsFirstOther vs m s
+other_found vs m k s n i e o h = record {
+  n = n;
+  triple = i;
+  other = o;
+  earlier = held_before (HasItsSign vs m) m.elements k h s.elements i e;
+}
+
+-- ---- the signs of all triples
+
+-- the triple product of a triple is zero
+abbrev pub HasSignZero : List WholeVector → List ℕ → Type 0
+HasSignZero vs t = triple_sign vs t ≡ Zero
+
+pub low_rank_from : (vs : List WholeVector) → ((t : List ℕ) → IsTriple (length vs) t → HasSignZero vs t) → IsRankLow vs
+low_rank_from vs h a b c low ab bc high = sign_zero (bracket vs a b c) (h (a ∷ b ∷ c ∷ []) (triple_from (length vs) a b c low ab bc high))
+
+-- a triple with a nonzero product: the rank is not low, and the signs make a chirotope
+pub rank_not_low : (vs : List WholeVector) (t : List ℕ) → IsTriple (length vs) t → triple_sign vs t ≢ Zero → IsRankLow vs → ⊥
+rank_not_low vs t i n low = of (rising (length vs) t i)
+  where
+    of : (a : ℕ) × (b : ℕ) × (c : ℕ) × (t ≡ a ∷ b ∷ c ∷ []) × IsRising (length vs) a b c → ⊥
+    of (a, b, c, e, r) = n (ap (triple_sign vs) e ∙ ap sign_of (low a b c r.low r.first r.second r.high))
+
+pub chirotope_from : (vs : List WholeVector) (t : List ℕ) → IsTriple (length vs) t → triple_sign vs t ≢ Zero → IsChirotope (signs_map vs)
+chirotope_from vs t i n = of (rising (length vs) t i)
+  where
+    of : (a : ℕ) × (b : ℕ) × (c : ℕ) × (t ≡ a ∷ b ∷ c ∷ []) × IsRising (length vs) a b c → IsChirotope (signs_map vs)
+    of (a, b, c, e, r) = chirotope_of vs a b c r.low r.first r.second r.high (λ z. n (ap (triple_sign vs) e ∙ ap sign_of z))
+
+-- the signs up to the last place
+pub signs_done : (vs : List WholeVector) (k : ℕ) (signs : List Sign) → choose (length vs) 3 ≤ k → signs ≡ map (triple_sign vs) (take k (all_subsets (length vs) 3)) → signs ≡ map (triple_sign vs) (all_subsets (length vs) 3)
+signs_done vs k signs l h =
+    let all : length (all_subsets (length vs) 3) ≤ k = rw (length-subsets_from 1 (length vs) 3) l in
+    h ∙ ap (map (triple_sign vs)) (take_all k (all_subsets (length vs) 3) all)

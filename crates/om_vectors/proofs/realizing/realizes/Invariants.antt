@@ -1,0 +1,5 @@
+use Rattle.om_vectors.proofs.Triples.{HoldsBelow, HasItsSign}
+use Rattle.om_vectors.proofs.realizing.realizes.Given as goal
+
+abbrev pub invariant-loop-place : goal.invariant-loop-place
+invariant-loop-place l = HoldsBelow (HasItsSign l.vectors l.chi) l.chi.elements l.place

@@ -1,0 +1,4 @@
+pub mod WholeVectors
+pub mod Realizations
+pub mod Words
+pub mod Balance

@@ -1,0 +1,30 @@
+ghost use Rattle.std.specs.Prelude.{◌≡◌, ◌↔◌, length, IsOk, IfErr};
+ghost use Rattle.om_vectors.specs.Realizations.{Realizes, IsFirstOther};
+
+use super::triple_signs::sign_of_triple;
+use super::vector::Vector;
+use om_chirotope::Chirotope;
+use om_subsets::Subset;
+
+/// Whether vectors realize a chirotope of rank 3, one vector for each element: the triple product of each increasing
+/// triple has the chirotope's sign. Else the first triple, in lexicographic order, whose product has another sign.
+///
+/// It takes no memory.
+///
+/// Source: Björner, Las Vergnas, Sturmfels, White and Ziegler, *Oriented Matroids*, chapter 8.
+pub fn realizes(vectors: &[Vector], chi: &Chirotope) -> Result<(), Subset>
+    requires rank { chi.now.rank ≡ 3 }
+    requires elements { length vectors.now ≡ chi.now.elements }
+    ensures realized { IsOk result ↔ Realizes vectors.now chi.now }
+    ensures first { IfErr result (λ s. IsFirstOther vectors.now chi.now s) }
+{
+    let n = chi.elements();
+    let rank = chi.rank();
+    for place in 0..Subset::choose(n, rank) {
+        let s = Subset::unrank(place, rank, n);
+        if chi.at(s) != sign_of_triple(vectors, s) {
+            return Err(s);
+        }
+    }
+    Ok(())
+}

@@ -1,0 +1,66 @@
+ghost use Rattle.std.specs.Prelude.{◌≡◌, ◌≢◌, ◌≤◌, ◌↔◌, length, map, IfOk, IfSome, IsNone, IsErrOf};
+ghost use Rattle.om_subsets.specs.Subsets.{all_subsets};
+ghost use Rattle.om_vectors.specs.Realizations.{triple_sign, signs_map, IsTriple, IsRankLow};
+
+use super::signs_error::SignsError;
+use super::triple_signs::sign_of_triple;
+use super::vector::Vector;
+use om_chirotope::Chirotope;
+use om_signs::{List, MAX_ELEMENTS, NoMemory, RawMap, Sign};
+use om_subsets::Subset;
+use std::alloc::Global;
+
+/// The chirotope of rank 3 of some vectors: each increasing triple has the sign of its triple product. It is not made
+/// normal. There are 1 to [`MAX_ELEMENTS`] vectors.
+///
+/// `RankLow` comes exactly where every triple product is 0, so always for fewer than three vectors, and `Memory` only
+/// for want of memory.
+///
+/// Source: Björner, Las Vergnas, Sturmfels, White and Ziegler, *Oriented Matroids*, chapter 1.
+pub fn signs_of(alloc: Global, vectors: &[Vector]) -> Result<Chirotope, SignsError>
+    requires low { 1 ≤ length vectors.now }
+    requires high { length vectors.now ≤ MAX_ELEMENTS }
+    ensures rank_low { IsErrOf result SignsError.RankLow ↔ IsRankLow vectors.now }
+    ensures value { IfOk result (λ c. c ≡ signs_map vectors.now) }
+{
+    let Some(_) = some_nonzero(vectors) else {
+        return Err(SignsError::RankLow);
+    };
+    let signs = signs_in_order(alloc, vectors)?;
+    Ok(Chirotope::lawful(RawMap {
+        rank: 3,
+        elements: vectors.len() as u8,
+        signs,
+    }))
+}
+
+/// The first triple, in lexicographic order, whose triple product isn't 0, or None where all are 0.
+fn some_nonzero(vectors: &[Vector]) -> Option<Subset>
+    requires { length vectors.now ≤ MAX_ELEMENTS }
+    ensures none { IsNone result ↔ IsRankLow vectors.now }
+    ensures triple { IfSome result (λ s. IsTriple (length vectors.now) s.elements) }
+    ensures nonzero { IfSome result (λ s. triple_sign vectors.now s.elements ≢ Sign.Zero) }
+{
+    let n = vectors.len() as u8;
+    for place in 0..Subset::choose(n, 3) {
+        let s = Subset::unrank(place, 3, n);
+        if sign_of_triple(vectors, s) != Sign::Zero {
+            return Some(s);
+        }
+    }
+    None
+}
+
+/// The signs of the triple products of all triples, in lexicographic order.
+fn signs_in_order(alloc: Global, vectors: &[Vector]) -> Result<List<Sign>, NoMemory>
+    requires { length vectors.now ≤ MAX_ELEMENTS }
+    ensures { IfOk result (λ l. l ≡ map (triple_sign vectors.now) (all_subsets (length vectors.now) 3)) }
+{
+    let n = vectors.len() as u8;
+    let mut signs = List::new(alloc);
+    for place in 0..Subset::choose(n, 3) {
+        let s = Subset::unrank(place, 3, n);
+        signs.push(sign_of_triple(vectors, s))?;
+    }
+    Ok(signs)
+}
