@@ -1,8 +1,8 @@
 -- Documents that denote the same.
 --
 -- Main results: a document as itself (own_outcome); the circuits, cocircuits and covectors of a chirotope (circuits_outcome, cocircuits_outcome,
--- covectors_outcome), and where there are too many (failed_outcome); the cocircuits of covectors (minimal_outcome).
-use Rattle.std.specs.Prelude.{ℕ, ◌≡◌, ◌<◌, Bool, true, false, List, [], refl, Ok, Err, zero, suc}
+-- covectors_outcome); the cocircuits of covectors (minimal_outcome).
+use Rattle.std.specs.Prelude.{ℕ, ℤ, ◌≡◌, ◌<◌, ◌↔◌, length, Bool, true, false, List, [], refl, Ok}
 use Rattle.std.specs.List.{Contains}
 use Rattle.std.proofs.Common.{sym, ◌∙◌, ap, subst, arith}
 use Rattle.std.proofs.lemmas.Bool.{false≢true}
@@ -18,9 +18,6 @@ use Rattle.om_oriented.specs.Circuits.{IsCircuitOfChirotope, IsCocircuitOfChirot
 use Rattle.om_oriented.specs.Covectors.{IsCovectorOfChirotope, IsCovectorOfCircuits, IsCovectorOfCocircuits, IsCovectorOfCovectors}
 use Rattle.om_oriented.specs.Denotation.{DenoteTheSame}
 use Rattle.om_oriented.specs.Listings.{AreAllOf, HasMoreThan}
-use Rattle.om_convert.specs.declared.convert_error.ConvertError.{ConvertError}
-use Rattle.om_convert.specs.declared.convert_error.ConvertError.TheVariants.{TooMany, Memory}
-use Rattle.om_convert.specs.Limits.{IsCause}
 use Rattle.om_text.specs.declared.document.Document.{Document}
 use Rattle.om_text.specs.declared.body.Body.{Body}
 use Rattle.om_text.specs.declared.body.Body.TheVariants as body
@@ -29,8 +26,9 @@ use Rattle.om_answer.specs.declared.kind.Kind.{Kind}
 use Rattle.om_answer.specs.declared.kind.Kind.TheVariants as kind
 use Rattle.om_program.specs.declared.representation.Representation.TheVariants as representation
 use Rattle.om_program.specs.Axioms.{MeetsAxioms}
-use Rattle.om_program.specs.Covectors.{IsOfBody}
-use Rattle.om_program.specs.Conversions.{has_kind, is_built, IsMemberAs, HasTooMany, HasMembersOf, IsConverted, IsOutcome, failure}
+use Rattle.om_program.specs.Covectors.{IsOfBody, IsCovectorOfBody}
+use Rattle.om_program.specs.Points.{points_map}
+use Rattle.om_program.specs.Conversions.{has_kind, is_built, given, IsMemberAs, HasTooMany, HasMembersOf, IsConverted, IsOutcome}
 
 -- ---- a document as itself
 
@@ -42,6 +40,7 @@ no_two same = absurd (false≢true same)
 
 own_built : (k : Kind) (b : Body) → has_kind k b ≡ true → is_built k b ≡ true
 own_built k (body.Chirotope m) own = refl
+own_built k (body.Points points) own = refl
 own_built kind.Chirotope (body.Circuits members) own = no_two own
 own_built kind.Circuits (body.Circuits members) own = refl
 own_built kind.Cocircuits (body.Circuits members) own = no_two own
@@ -79,23 +78,49 @@ own_few kind.Chirotope (body.Chirotope m) own more = nobody more
 own_few kind.Circuits (body.Chirotope m) own more = no_two own
 own_few kind.Cocircuits (body.Chirotope m) own more = no_two own
 own_few kind.Covectors (body.Chirotope m) own more = no_two own
+own_few kind.Chirotope (body.Points points) own more = nobody more
+own_few kind.Circuits (body.Points points) own more = no_two own
+own_few kind.Cocircuits (body.Points points) own more = no_two own
+own_few kind.Covectors (body.Points points) own more = no_two own
 own_few k (body.Circuits members) own more = circuits_few k members more
 own_few k (body.Cocircuits members) own more = cocircuits_few k members more
 own_few k (body.Covectors members) own more = covectors_few k members more
 
-own_members : (b : Body) → HasMembersOf b b
+own_members : (b : Body) → HasMembersOf b (given b)
 own_members (body.Chirotope m) = tt
 own_members (body.Circuits members) = tt
 own_members (body.Cocircuits members) = tt
 own_members (body.Covectors members) = tt
+own_members (body.Points points) = tt
 
-pub own_outcome : (k : Kind) (d e : Document) → e ≡ d → IsInForm e → MeetsAxioms d.body → has_kind k d.body ≡ true → IsOutcome k d (Ok e)
+own_kind : (k : Kind) (b : Body) → has_kind k b ≡ true → has_kind k (given b) ≡ true
+own_kind k (body.Chirotope m) own = own
+own_kind k (body.Circuits members) own = own
+own_kind k (body.Cocircuits members) own = own
+own_kind k (body.Covectors members) own = own
+own_kind kind.Chirotope (body.Points points) own = refl
+own_kind kind.Circuits (body.Points points) own = no_two own
+own_kind kind.Cocircuits (body.Points points) own = no_two own
+own_kind kind.Covectors (body.Points points) own = no_two own
+
+own_covectors : (n : ℕ) (b : Body) (x : List Sign) → IsCovectorOfBody n b x ↔ IsCovectorOfBody n (given b) x
+own_covectors n (body.Chirotope m) x = (λ h. h, λ h. h)
+own_covectors n (body.Circuits members) x = (λ h. h, λ h. h)
+own_covectors n (body.Cocircuits members) x = (λ h. h, λ h. h)
+own_covectors n (body.Covectors members) x = (λ h. h, λ h. h)
+own_covectors n (body.Points points) x = (λ h. h, λ h. h)
+
+-- the document as one of its own kind
+abbrev pub given_document : Document → Document
+given_document d = record { elements = d.elements; body = given d.body }
+
+pub own_outcome : (k : Kind) (d e : Document) → e ≡ given_document d → IsInForm e → MeetsAxioms e.body → has_kind k d.body ≡ true → IsOutcome k d (Ok e)
 own_outcome k d e same form axioms own = (own_built k d.body own, own_few k d.body own, record {
   form = form;
-  kind = rw same own;
+  kind = rw same (own_kind k d.body own);
   elements = ap (λ u. u.elements) same;
-  axioms = rw same axioms;
-  same = λ x. rw same (λ h. h, λ h. h);
+  axioms = axioms;
+  same = λ x. rw same (own_covectors d.elements d.body x);
   members = rw same (own_members d.body);
   own = λ h. same;
 })
@@ -104,6 +129,9 @@ own_outcome k d e same form axioms own = (own_built k d.body own, own_few k d.bo
 
 abbrev pub map_document : RawMap → Document
 map_document m = record { elements = m.elements; body = body.Chirotope m }
+
+abbrev pub points_document : List (List ℤ) → Document
+points_document points = record { elements = length points; body = body.Points points }
 
 abbrev pub circuits_document : sets.Listing → Document
 circuits_document s = record { elements = s.elements; body = body.Circuits s.members }
@@ -125,11 +153,27 @@ at_circuits m s form axioms count members same few = (refl, few, record {
   own = λ h. no_two h;
 })
 
+of_points_circuits : (points : List (List ℤ)) (s : sets.Listing) → IsInForm (circuits_document s) → MeetsAxioms (body.Circuits s.members) → s.elements ≡ length points → AreAllOf (IsCircuitOfChirotope (points_map points)) s.members → DenoteTheSame length points (IsCovectorOfChirotope (points_map points)) (IsCovectorOfCircuits s) → (HasTooMany kind.Circuits (body.Points points) → ⊥) → IsOutcome kind.Circuits (points_document points) (Ok (circuits_document s))
+of_points_circuits points s form axioms count members same few = (refl, few, record {
+  form = form;
+  kind = refl;
+  elements = count;
+  axioms = axioms;
+  same = λ x. (λ h. (same x h.size).0 h, λ q. (same x (q.size ∙ count)).1 q);
+  members = members;
+  own = λ h. no_two h;
+})
+
 pub circuits_outcome : (n : ℕ) (b : Body) (e : Document) (c : SignMap) (s : sets.Listing) → IsOfBody n b (representation.Chirotope c) → e ≡ circuits_document s → IsInForm e → MeetsAxioms e.body → s.elements ≡ c.elements → AreAllOf (IsCircuitOfChirotope c) s.members → DenoteTheSame c.elements (IsCovectorOfChirotope c) (IsCovectorOfCircuits s) → (HasMoreThan MAX_MEMBERS (IsCircuitOfChirotope c) → ⊥) → IsOutcome kind.Circuits (record { elements = n; body = b }) (Ok e)
 circuits_outcome n (body.Chirotope m) e c s (is, size) made form axioms count members same few =
     subst (λ k. IsOutcome kind.Circuits (record { elements = k; body = body.Chirotope m }) (Ok e)) size
     (subst (λ k. IsOutcome kind.Circuits (map_document m) (Ok k)) (sym made)
     (at_circuits m s (subst IsInForm made form) (subst (λ k. MeetsAxioms k.body) made axioms) (subst (λ k. s.elements ≡ k.elements) is count) (subst (λ k. AreAllOf (IsCircuitOfChirotope k) s.members) is members)
+    (subst (λ k. DenoteTheSame k.elements (IsCovectorOfChirotope k) (IsCovectorOfCircuits s)) is same) (subst (λ k. HasMoreThan MAX_MEMBERS (IsCircuitOfChirotope k) → ⊥) is few)))
+circuits_outcome n (body.Points points) e c s (is, size) made form axioms count members same few =
+    subst (λ k. IsOutcome kind.Circuits (record { elements = k; body = body.Points points }) (Ok e)) size
+    (subst (λ k. IsOutcome kind.Circuits (points_document points) (Ok k)) (sym made)
+    (of_points_circuits points s (subst IsInForm made form) (subst (λ k. MeetsAxioms k.body) made axioms) (subst (λ k. s.elements ≡ k.elements) is count) (subst (λ k. AreAllOf (IsCircuitOfChirotope k) s.members) is members)
     (subst (λ k. DenoteTheSame k.elements (IsCovectorOfChirotope k) (IsCovectorOfCircuits s)) is same) (subst (λ k. HasMoreThan MAX_MEMBERS (IsCircuitOfChirotope k) → ⊥) is few)))
 circuits_outcome n (body.Circuits members) e c s other made form axioms count all same few = absurd other
 circuits_outcome n (body.Cocircuits members) e c s other made form axioms count all same few = absurd other
@@ -146,11 +190,27 @@ at_cocircuits m s form axioms count members same few = (refl, few, record {
   own = λ h. no_two h;
 })
 
+of_points_cocircuits : (points : List (List ℤ)) (s : sets.Listing) → IsInForm (cocircuits_document s) → MeetsAxioms (body.Cocircuits s.members) → s.elements ≡ length points → AreAllOf (IsCocircuitOfChirotope (points_map points)) s.members → DenoteTheSame length points (IsCovectorOfChirotope (points_map points)) (IsCovectorOfCocircuits s) → (HasTooMany kind.Cocircuits (body.Points points) → ⊥) → IsOutcome kind.Cocircuits (points_document points) (Ok (cocircuits_document s))
+of_points_cocircuits points s form axioms count members same few = (refl, few, record {
+  form = form;
+  kind = refl;
+  elements = count;
+  axioms = axioms;
+  same = λ x. (λ h. (same x h.size).0 h, λ q. (same x (q.size ∙ count)).1 q);
+  members = members;
+  own = λ h. no_two h;
+})
+
 pub cocircuits_outcome : (n : ℕ) (b : Body) (e : Document) (c : SignMap) (s : sets.Listing) → IsOfBody n b (representation.Chirotope c) → e ≡ cocircuits_document s → IsInForm e → MeetsAxioms e.body → s.elements ≡ c.elements → AreAllOf (IsCocircuitOfChirotope c) s.members → DenoteTheSame c.elements (IsCovectorOfChirotope c) (IsCovectorOfCocircuits s) → (HasMoreThan MAX_MEMBERS (IsCocircuitOfChirotope c) → ⊥) → IsOutcome kind.Cocircuits (record { elements = n; body = b }) (Ok e)
 cocircuits_outcome n (body.Chirotope m) e c s (is, size) made form axioms count members same few =
     subst (λ k. IsOutcome kind.Cocircuits (record { elements = k; body = body.Chirotope m }) (Ok e)) size
     (subst (λ k. IsOutcome kind.Cocircuits (map_document m) (Ok k)) (sym made)
     (at_cocircuits m s (subst IsInForm made form) (subst (λ k. MeetsAxioms k.body) made axioms) (subst (λ k. s.elements ≡ k.elements) is count) (subst (λ k. AreAllOf (IsCocircuitOfChirotope k) s.members) is members)
+    (subst (λ k. DenoteTheSame k.elements (IsCovectorOfChirotope k) (IsCovectorOfCocircuits s)) is same) (subst (λ k. HasMoreThan MAX_MEMBERS (IsCocircuitOfChirotope k) → ⊥) is few)))
+cocircuits_outcome n (body.Points points) e c s (is, size) made form axioms count members same few =
+    subst (λ k. IsOutcome kind.Cocircuits (record { elements = k; body = body.Points points }) (Ok e)) size
+    (subst (λ k. IsOutcome kind.Cocircuits (points_document points) (Ok k)) (sym made)
+    (of_points_cocircuits points s (subst IsInForm made form) (subst (λ k. MeetsAxioms k.body) made axioms) (subst (λ k. s.elements ≡ k.elements) is count) (subst (λ k. AreAllOf (IsCocircuitOfChirotope k) s.members) is members)
     (subst (λ k. DenoteTheSame k.elements (IsCovectorOfChirotope k) (IsCovectorOfCocircuits s)) is same) (subst (λ k. HasMoreThan MAX_MEMBERS (IsCocircuitOfChirotope k) → ⊥) is few)))
 cocircuits_outcome n (body.Circuits members) e c s other made form axioms count all same few = absurd other
 cocircuits_outcome n (body.Cocircuits members) e c s other made form axioms count all same few = absurd other
@@ -167,28 +227,31 @@ at_covectors m s form axioms count members same few = (refl, few, record {
   own = λ h. no_two h;
 })
 
+of_points_covectors : (points : List (List ℤ)) (s : covectors.Listing) → IsInForm (covectors_document s) → MeetsAxioms (body.Covectors s.members) → s.elements ≡ length points → AreAllOf (IsCovectorOfChirotope (points_map points)) s.members → DenoteTheSame length points (IsCovectorOfChirotope (points_map points)) (IsCovectorOfCovectors s) → (HasTooMany kind.Covectors (body.Points points) → ⊥) → IsOutcome kind.Covectors (points_document points) (Ok (covectors_document s))
+of_points_covectors points s form axioms count members same few = (refl, few, record {
+  form = form;
+  kind = refl;
+  elements = count;
+  axioms = axioms;
+  same = λ x. (λ h. (same x h.size).0 h, λ q. (same x (q.size ∙ count)).1 q);
+  members = members;
+  own = λ h. no_two h;
+})
+
 pub covectors_outcome : (n : ℕ) (b : Body) (e : Document) (c : SignMap) (s : covectors.Listing) → IsOfBody n b (representation.Chirotope c) → e ≡ covectors_document s → IsInForm e → MeetsAxioms e.body → s.elements ≡ c.elements → AreAllOf (IsCovectorOfChirotope c) s.members → DenoteTheSame c.elements (IsCovectorOfChirotope c) (IsCovectorOfCovectors s) → (HasMoreThan MAX_MEMBERS (IsCovectorOfChirotope c) → ⊥) → IsOutcome kind.Covectors (record { elements = n; body = b }) (Ok e)
 covectors_outcome n (body.Chirotope m) e c s (is, size) made form axioms count members same few =
     subst (λ k. IsOutcome kind.Covectors (record { elements = k; body = body.Chirotope m }) (Ok e)) size
     (subst (λ k. IsOutcome kind.Covectors (map_document m) (Ok k)) (sym made)
     (at_covectors m s (subst IsInForm made form) (subst (λ k. MeetsAxioms k.body) made axioms) (subst (λ k. s.elements ≡ k.elements) is count) (subst (λ k. AreAllOf (IsCovectorOfChirotope k) s.members) is members)
     (subst (λ k. DenoteTheSame k.elements (IsCovectorOfChirotope k) (IsCovectorOfCovectors s)) is same) (subst (λ k. HasMoreThan MAX_MEMBERS (IsCovectorOfChirotope k) → ⊥) is few)))
+covectors_outcome n (body.Points points) e c s (is, size) made form axioms count members same few =
+    subst (λ k. IsOutcome kind.Covectors (record { elements = k; body = body.Points points }) (Ok e)) size
+    (subst (λ k. IsOutcome kind.Covectors (points_document points) (Ok k)) (sym made)
+    (of_points_covectors points s (subst IsInForm made form) (subst (λ k. MeetsAxioms k.body) made axioms) (subst (λ k. s.elements ≡ k.elements) is count) (subst (λ k. AreAllOf (IsCovectorOfChirotope k) s.members) is members)
+    (subst (λ k. DenoteTheSame k.elements (IsCovectorOfChirotope k) (IsCovectorOfCovectors s)) is same) (subst (λ k. HasMoreThan MAX_MEMBERS (IsCovectorOfChirotope k) → ⊥) is few)))
 covectors_outcome n (body.Circuits members) e c s other made form axioms count all same few = absurd other
 covectors_outcome n (body.Cocircuits members) e c s other made form axioms count all same few = absurd other
 covectors_outcome n (body.Covectors members) e c s other made form axioms count all same few = absurd other
-
--- ---- too many members
-
-cause_outcome : (k : Kind) (m : RawMap) (why : ConvertError) → IsCause (IsMemberAs k (body.Chirotope m)) why → IsOutcome k (map_document m) (Err (failure why))
-cause_outcome k m (TooMany limit) (is, more) = (refl, is, more)
-cause_outcome k m Memory cause = tt
-
-pub failed_outcome : (k : Kind) (P : SignMap → List Sign → Type 0) (n : ℕ) (b : Body) (c : SignMap) (why : ConvertError) → ((m : RawMap) → IsCause (P (map_of m)) why → IsCause (IsMemberAs k (body.Chirotope m)) why) → IsOfBody n b (representation.Chirotope c) → IsCause (P c) why → IsOutcome k (record { elements = n; body = b }) (Err (failure why))
-failed_outcome k P n (body.Chirotope m) c why same (is, size) cause =
-    subst (λ j. IsOutcome k (record { elements = j; body = body.Chirotope m }) (Err (failure why))) size (cause_outcome k m why (same m (subst (λ u. IsCause (P u) why) is cause)))
-failed_outcome k P n (body.Circuits members) c why same other cause = absurd other
-failed_outcome k P n (body.Cocircuits members) c why same other cause = absurd other
-failed_outcome k P n (body.Covectors members) c why same other cause = absurd other
 
 -- ---- covectors as cocircuits
 
@@ -208,19 +271,6 @@ minimal_outcome n (body.Covectors members) e c s is made form axioms count same 
     subst (λ d. IsOutcome kind.Cocircuits d (Ok e)) (ap covectors_document is)
     (subst (λ k. IsOutcome kind.Cocircuits (covectors_document c) (Ok k)) (sym made) (at_minimal c s (subst IsInForm made form) (subst (λ k. MeetsAxioms k.body) made axioms) count same))
 minimal_outcome n (body.Chirotope m) e c s other made form axioms count same = absurd other
+minimal_outcome n (body.Points points) e c s other made form axioms count same = absurd other
 minimal_outcome n (body.Circuits members) e c s other made form axioms count same = absurd other
 minimal_outcome n (body.Cocircuits members) e c s other made form axioms count same = absurd other
-
--- ---- no conversion
-
-pub lists_unbuilt : (k : Kind) (n : ℕ) (b : Body) → has_kind k b ≡ false → ((m : RawMap) → b ≡ body.Chirotope m → ⊥) → ((members : List (List Sign)) → b ≡ body.Covectors members → ⊥) → is_built k b ≡ false
-lists_unbuilt k n (body.Chirotope m) other no_map no_covectors = absurd (no_map m refl)
-lists_unbuilt k n (body.Covectors members) other no_map no_covectors = absurd (no_covectors members refl)
-lists_unbuilt kind.Chirotope n (body.Circuits members) other no_map no_covectors = refl
-lists_unbuilt kind.Circuits n (body.Circuits members) other no_map no_covectors = other
-lists_unbuilt kind.Cocircuits n (body.Circuits members) other no_map no_covectors = refl
-lists_unbuilt kind.Covectors n (body.Circuits members) other no_map no_covectors = refl
-lists_unbuilt kind.Chirotope n (body.Cocircuits members) other no_map no_covectors = refl
-lists_unbuilt kind.Circuits n (body.Cocircuits members) other no_map no_covectors = refl
-lists_unbuilt kind.Cocircuits n (body.Cocircuits members) other no_map no_covectors = other
-lists_unbuilt kind.Covectors n (body.Cocircuits members) other no_map no_covectors = refl

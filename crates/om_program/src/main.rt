@@ -7,6 +7,9 @@ mod command;
 mod conversion;
 mod documents;
 mod operation;
+#[cfg(test)]
+mod point_tests;
+mod point_vectors;
 mod reply;
 mod representation;
 mod run;
@@ -16,6 +19,7 @@ mod task;
 #[cfg(test)]
 mod tests;
 mod unconverted;
+mod unrepresented;
 mod usage;
 mod verb;
 mod write_usage;
