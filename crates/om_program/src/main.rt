@@ -6,6 +6,8 @@ mod arguments;
 mod command;
 mod conversion;
 mod documents;
+#[cfg(test)]
+mod map_tests;
 mod operation;
 #[cfg(test)]
 mod point_tests;

@@ -9,22 +9,22 @@ use std::process::Abort;
 use std::test::Fail;
 use std::thread::Threads;
 
-const UNIFORM: &str = "om 1\nchirotope 3 4\n++++\nend\n";
+pub const UNIFORM: &str = "om 1\nchirotope 3 4\n++++\nend\n";
 
 /// Words, input, source and sink of a run.
 #[derive(Clone, Copy)]
-struct Case<'a> {
-    words: &'a [&'a str],
-    input: &'a [u8],
-    piece: usize,
-    failing_read: u32,
-    room: usize,
-    failing_write: u32,
+pub struct Case<'a> {
+    pub words: &'a [&'a str],
+    pub input: &'a [u8],
+    pub piece: usize,
+    pub failing_read: u32,
+    pub room: usize,
+    pub failing_write: u32,
 }
 
 impl<'a> Case<'a> {
     /// A run in which nothing fails.
-    fn new(words: &'a [&'a str], input: &'a str) -> Case<'a> {
+    pub fn new(words: &'a [&'a str], input: &'a str) -> Case<'a> {
         Case {
             words,
             input: input.as_bytes(),
@@ -46,13 +46,25 @@ fn only(alloc: Global, call: u32) -> Result<List<u32>, Fail> {
 }
 
 /// Asks that a run ends with a status and has written a text.
-fn ends<R: Threads + Sync + Abort>(
+pub fn ends<R: Threads + Sync + Abort>(
     rt: &R,
     alloc: Global,
     case: Case<'_>,
     status: Status,
     text: &str,
 ) -> Result<(), Fail> {
+    let written = written(rt, alloc, case, status)?;
+    assert_eq!(rt; written.as_slice(), text.as_bytes());
+    Ok(())
+}
+
+/// Asks that a run ends with a status, and answers the bytes that it has written.
+pub fn written<R: Threads + Sync + Abort>(
+    rt: &R,
+    alloc: Global,
+    case: Case<'_>,
+    status: Status,
+) -> Result<Vec<u8>, Fail> {
     let mut words = Vec::new(alloc);
     for word in case.words {
         words.push(String::from_str(alloc, word)?)?;
@@ -66,8 +78,7 @@ fn ends<R: Threads + Sync + Abort>(
     let mut sink = MemSink::new(alloc, case.room, piece, only(alloc, case.failing_write)?)?;
     let ended = run(rt, alloc, words.as_slice(), &mut source, &mut sink);
     assert_eq!(rt; ended, status);
-    assert_eq!(rt; sink.bytes(), text.as_bytes());
-    Ok(())
+    Ok(sink.bytes().to_vec(alloc)?)
 }
 
 #[test]
@@ -104,9 +115,9 @@ fn words_that_are_no_command(rt: HostRuntime) -> Result<(), Fail> {
     )
 }
 
-const CIRCUITS: &str = "om 1\ncircuits 4\n-+-+\n+-+-\nend\n";
+pub const CIRCUITS: &str = "om 1\ncircuits 4\n-+-+\n+-+-\nend\n";
 
-const COCIRCUITS: &str =
+pub const COCIRCUITS: &str =
     "om 1\ncocircuits 4\n--00\n-00-\n-0+0\n0--0\n0-0+\n00--\n00++\n0+0-\n0++0\n+0-0\n+00+\n++00\nend\n";
 
 #[test]
@@ -310,7 +321,9 @@ fn conversions(rt: HostRuntime) -> Result<(), Fail> {
             Status::Done,
             "om 1\nchirotope 2 2\n-\nend\n",
         ),
-        ("circuits", UNIFORM, Status::Refused, "refused unbuilt\n"),
+        ("circuits", UNIFORM, Status::Done, CIRCUITS),
+        ("cocircuits", UNIFORM, Status::Done, COCIRCUITS),
+        ("chirotope", CIRCUITS, Status::Refused, "refused unbuilt\n"),
         (
             "circuits",
             "om 1\ncircuits 4\n+-+-\n-+-+\nend\n",

@@ -24,5 +24,5 @@ pub returns-in-Err-TooMany-clause-meant : goal.returns-in-Err-TooMany-clause-mea
 returns-in-Err-TooMany-clause-meant c =
     let P : Answer → Type 0 = λ answer. (d : Document) → Represents d c.args.representation → MeetsAxioms d.body → IsConversion c.args.kind d answer in
     said _ status.Limit (line.LimitMembers c.in-Err-TooMany.limit) P (λ d represents axioms.
-      let o = subst (λ e. IsOutcome c.args.kind d (Err e)) c.in-Err-TooMany.field-0-is (c.in-Err-TooMany.ensures.outcome d represents axioms) in
-      subst (λ k. IsConversion c.args.kind d (says status.Limit (line.LimitMembers k))) (sym o.1) (limited o.0 o.2)) (rw c.in-Err-TooMany.limit-is at c.say-in-Err-TooMany.ensures)
+    let o = subst (λ e. IsOutcome c.args.kind d (Err e)) c.in-Err-TooMany.field-0-is (c.in-Err-TooMany.ensures.outcome d represents axioms) in
+    subst (λ k. IsConversion c.args.kind d (says status.Limit (line.LimitMembers k))) (sym o.1) (limited o.0 o.2)) (rw c.in-Err-TooMany.limit-is at c.say-in-Err-TooMany.ensures)

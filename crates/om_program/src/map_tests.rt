@@ -1,0 +1,175 @@
+//! Runs on chirotopes: conversions into lists, duals, minors and reorientations.
+
+use crate::status::Status;
+use crate::tests::{CIRCUITS, COCIRCUITS, Case, UNIFORM, ends, written};
+use std::test::Fail;
+
+/// Elements 1 and 2 are parallel, 3 is a coloop, and 4 is a loop.
+const MIXED: &str = "om 1\nchirotope 2 4\n0+0+00\nend\n";
+
+const LOOPS: &str = "om 1\nchirotope 0 2\n+\nend\n";
+
+const POINT: &str = "om 1\nchirotope 1 1\n+\nend\n";
+
+#[test]
+fn answers_that_are_accepted_and_converted_on(rt: HostRuntime) -> Result<(), Fail> {
+    let alloc = rt.alloc();
+    for answer in [CIRCUITS, COCIRCUITS] {
+        ends(
+            &rt,
+            alloc,
+            Case::new(&["accept"], answer),
+            Status::Done,
+            "accepted\n",
+        )?;
+    }
+    let covectors = written(
+        &rt,
+        alloc,
+        Case::new(&["convert", "covectors"], UNIFORM),
+        Status::Done,
+    )?;
+    let bytes = covectors.as_slice();
+    assert!(&rt; bytes.starts_with(b"om 1\ncovectors 4\n----\n---0\n"));
+    assert!(&rt; bytes.ends_with(b"\n++++\nend\n"));
+    assert_eq!(&rt; bytes.iter().filter(|b| **b == b'\n').count(), 54);
+    let list = Case {
+        input: bytes,
+        ..Case::new(&["accept"], "")
+    };
+    ends(&rt, alloc, list, Status::Done, "accepted\n")?;
+    let back = Case {
+        input: bytes,
+        ..Case::new(&["convert", "cocircuits"], "")
+    };
+    ends(&rt, alloc, back, Status::Done, COCIRCUITS)
+}
+
+#[test]
+fn lists_of_loops(rt: HostRuntime) -> Result<(), Fail> {
+    for (kind, text) in [
+        ("circuits", "om 1\ncircuits 2\n-0\n0-\n0+\n+0\nend\n"),
+        ("cocircuits", "om 1\ncocircuits 2\nend\n"),
+        ("covectors", "om 1\ncovectors 2\n00\nend\n"),
+        ("chirotope", LOOPS),
+    ] {
+        ends(
+            &rt,
+            rt.alloc(),
+            Case::new(&["convert", kind], LOOPS),
+            Status::Done,
+            text,
+        )?;
+    }
+    Ok(())
+}
+
+#[test]
+fn more_members_than_a_list_may_have(rt: HostRuntime) -> Result<(), Fail> {
+    ends(
+        &rt,
+        rt.alloc(),
+        Case::new(&["convert", "covectors"], "om 1\nchirotope 16 16\n+\nend\n"),
+        Status::Limit,
+        "limit members 1024\n",
+    )
+}
+
+#[test]
+fn a_list_that_is_cut_off(rt: HostRuntime) -> Result<(), Fail> {
+    let cut = Case {
+        piece: 10,
+        failing_write: 2,
+        ..Case::new(&["convert", "circuits"], UNIFORM)
+    };
+    ends(&rt, rt.alloc(), cut, Status::WriteFault, "om 1\ncircu")
+}
+
+#[test]
+fn operations_on_chirotopes(rt: HostRuntime) -> Result<(), Fail> {
+    for (words, input, text) in [
+        (&["dual"][..], UNIFORM, "om 1\nchirotope 1 4\n+-+-\nend\n"),
+        (&["dual"], "om 1\nchirotope 1 4\n+-+-\nend\n", UNIFORM),
+        (
+            &["reorient", "4"],
+            UNIFORM,
+            "om 1\nchirotope 3 4\n+---\nend\n",
+        ),
+        (
+            &["dual"],
+            "om 1\nchirotope 3 4\n+---\nend\n",
+            "om 1\nchirotope 1 4\n+-++\nend\n",
+        ),
+        (&["reorient", "1", "2", "3", "4"], UNIFORM, UNIFORM),
+        (&["contract", "4"], MIXED, "om 1\nchirotope 2 3\n0++\nend\n"),
+        (&["delete", "4"], MIXED, "om 1\nchirotope 2 3\n0++\nend\n"),
+        (&["delete", "3"], MIXED, "om 1\nchirotope 1 3\n++0\nend\n"),
+        (&["delete", "4"], UNIFORM, "om 1\nchirotope 3 3\n+\nend\n"),
+        (
+            &["contract", "1"],
+            UNIFORM,
+            "om 1\nchirotope 2 3\n+++\nend\n",
+        ),
+        (&["reorient", "1"], POINT, POINT),
+        (&["dual"], POINT, "om 1\nchirotope 0 1\n+\nend\n"),
+    ] {
+        ends(&rt, rt.alloc(), Case::new(words, input), Status::Done, text)?;
+    }
+    Ok(())
+}
+
+#[test]
+fn operations_that_are_refused(rt: HostRuntime) -> Result<(), Fail> {
+    for (words, input, text) in [
+        (&["delete", "5"][..], UNIFORM, "refused place 5\n"),
+        (&["contract", "16"], UNIFORM, "refused place 16\n"),
+        (&["reorient", "16"], UNIFORM, "refused place 16\n"),
+        (&["reorient", "2", "6", "9"], UNIFORM, "refused place 6\n"),
+        (&["delete", "1"], POINT, "refused lastelement\n"),
+        (&["contract", "1"], POINT, "refused lastelement\n"),
+        (&["delete", "2"], POINT, "refused place 2\n"),
+        (&["dual"], CIRCUITS, "refused unbuilt\n"),
+        (&["delete", "5"], COCIRCUITS, "refused unbuilt\n"),
+        (
+            &["delete", "5"],
+            "om 1\nchirotope 3 4\n0000\nend\n",
+            "refused allzero\n",
+        ),
+    ] {
+        ends(
+            &rt,
+            rt.alloc(),
+            Case::new(words, input),
+            Status::Refused,
+            text,
+        )?;
+    }
+    Ok(())
+}
+
+#[test]
+fn words_of_operations(rt: HostRuntime) -> Result<(), Fail> {
+    for (words, text) in [
+        (&["delete"][..], "usage 2\n"),
+        (&["delete", "01"], "usage 2\n"),
+        (&["delete", "0"], "usage 2\n"),
+        (&["delete", "17"], "usage 2\n"),
+        (&["contract", "+1"], "usage 2\n"),
+        (&["contract", "1", "2"], "usage 3\n"),
+        (&["dual", "1"], "usage 2\n"),
+        (&["reorient"], "usage 2\n"),
+        (&["reorient", "x"], "usage 2\n"),
+        (&["reorient", "3", "3"], "usage 3\n"),
+        (&["reorient", "16", "1"], "usage 3\n"),
+        (&["reorient", "1", "2", "17"], "usage 4\n"),
+    ] {
+        ends(
+            &rt,
+            rt.alloc(),
+            Case::new(words, UNIFORM),
+            Status::Usage,
+            text,
+        )?;
+    }
+    Ok(())
+}
