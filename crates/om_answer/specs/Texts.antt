@@ -37,9 +37,12 @@ code_text (code.Elements n) = codes "elements" ++ spaced (decimal n)
 code_text (code.Rank r) = codes "rank" ++ spaced (decimal r)
 code_text code.Sign = codes "sign"
 code_text code.Length = codes "length"
+code_text code.Number = codes "number"
 code_text code.Many = codes "many"
 code_text code.Few = codes "few"
 code_text code.After = codes "after"
+code_text code.Claim = codes "claim"
+code_text code.Entry = codes "entry"
 code_text code.Missing = codes "missing"
 
 -- a number as a field, a subset as a field, and a code as a field

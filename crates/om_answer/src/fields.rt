@@ -54,9 +54,12 @@ pub fn push_code(text: &mut Vec<u8>, code: Code) -> Result<(), NoMemory>
         }
         Code::Sign => push(text, b"sign"),
         Code::Length => push(text, b"length"),
+        Code::Number => push(text, b"number"),
         Code::Many => push(text, b"many"),
         Code::Few => push(text, b"few"),
         Code::After => push(text, b"after"),
+        Code::Claim => push(text, b"claim"),
+        Code::Entry => push(text, b"entry"),
         Code::Missing => push(text, b"missing"),
     }
 }

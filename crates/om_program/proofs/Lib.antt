@@ -1,9 +1,11 @@
 mod AboveLaws
 mod ArgumentLaws
 mod ConversionLaws
+mod GivenLaws
 mod MeaningLaws
 mod Memberships
 mod Numerals
 mod OperationLaws
+mod PointLaws
 mod SignWords
 mod WordLaws

@@ -17,12 +17,16 @@ use Rattle.std.proofs.lemmas.Result.{IfOk-weaker}
 use Rattle.om_text.specs.declared.document.Document.{Document}
 use Rattle.om_program.specs.declared.reply.Reply.{Reply}
 use Rattle.om_program.specs.declared.representation.Representation.{Representation}
+use Rattle.om_program.specs.Points.{points_map}
 use Rattle.om_program.specs.Covectors.{IsOfBody, IsCovectorOfBody, Represents, IsCovectorIn}
 use Rattle.om_program.specs.Meaning.{Answer, IsMembership}
 
 pub of_chirotope : (n : ℕ) (b : Body) (c : SignMap) (x : List Sign) (answer : Answer) → IsOfBody n b (representation.Chirotope c) → IsMembership c.elements (IsCovectorOfChirotope c) x answer → IsMembership n (IsCovectorOfBody n b) x answer
 of_chirotope n (body.Chirotope m) c x answer (same, size) h =
     subst (λ k. IsMembership k (IsCovectorOfChirotope (map_of m)) x answer) size
+    (subst (λ k. IsMembership k.elements (IsCovectorOfChirotope k) x answer) same h)
+of_chirotope n (body.Points points) c x answer (same, size) h =
+    subst (λ k. IsMembership k (IsCovectorOfChirotope (points_map points)) x answer) size
     (subst (λ k. IsMembership k.elements (IsCovectorOfChirotope k) x answer) same h)
 of_chirotope n (body.Circuits members) c x answer other h = absurd other
 of_chirotope n (body.Cocircuits members) c x answer other h = absurd other
@@ -31,18 +35,21 @@ of_chirotope n (body.Covectors members) c x answer other h = absurd other
 pub of_circuits : (n : ℕ) (b : Body) (c : Circuits) (x : List Sign) (answer : Answer) → IsOfBody n b (representation.Circuits c) → IsMembership c.0.elements (IsCovectorOfCircuits c.0) x answer → IsMembership n (IsCovectorOfBody n b) x answer
 of_circuits n (body.Circuits members) c x answer same h = let P : Listing → Type 0 = λ k. IsMembership k.elements (IsCovectorOfCircuits k) x answer in subst P same h
 of_circuits n (body.Chirotope m) c x answer other h = absurd other
+of_circuits n (body.Points points) c x answer other h = absurd other
 of_circuits n (body.Cocircuits members) c x answer other h = absurd other
 of_circuits n (body.Covectors members) c x answer other h = absurd other
 
 pub of_cocircuits : (n : ℕ) (b : Body) (c : Cocircuits) (x : List Sign) (answer : Answer) → IsOfBody n b (representation.Cocircuits c) → IsMembership c.0.elements (IsCovectorOfCocircuits c.0) x answer → IsMembership n (IsCovectorOfBody n b) x answer
 of_cocircuits n (body.Cocircuits members) c x answer same h = let P : Listing → Type 0 = λ k. IsMembership k.elements (IsCovectorOfCocircuits k) x answer in subst P same h
 of_cocircuits n (body.Chirotope m) c x answer other h = absurd other
+of_cocircuits n (body.Points points) c x answer other h = absurd other
 of_cocircuits n (body.Circuits members) c x answer other h = absurd other
 of_cocircuits n (body.Covectors members) c x answer other h = absurd other
 
 pub of_covectors : (n : ℕ) (b : Body) (c : sets.Listing) (x : List Sign) (answer : Answer) → IsOfBody n b (representation.Covectors c) → IsMembership c.elements (IsCovectorOfCovectors c) x answer → IsMembership n (IsCovectorOfBody n b) x answer
 of_covectors n (body.Covectors members) c x answer same h = let P : sets.Listing → Type 0 = λ k. IsMembership k.elements (IsCovectorOfCovectors k) x answer in subst P same h
 of_covectors n (body.Chirotope m) c x answer other h = absurd other
+of_covectors n (body.Points points) c x answer other h = absurd other
 of_covectors n (body.Circuits members) c x answer other h = absurd other
 of_covectors n (body.Cocircuits members) c x answer other h = absurd other
 

@@ -2,7 +2,7 @@
 --
 -- Main results: an element above the number of elements (outside_meant), the only element (last_meant), the chirotope that is made (made_meant); lists
 -- (lists_not_built); words that name elements (names_elements).
-use Rattle.std.specs.Prelude.{ℕ, ◌≡◌, ◌<◌, ◌^◌, List, Some, None, true, false, refl, ◌⊎◌}
+use Rattle.std.specs.Prelude.{ℕ, ◌≡◌, ◌<◌, ◌^◌, List, length, Some, None, true, false, refl, ◌⊎◌}
 use Rattle.std.proofs.Common.{sym, subst, ◌∙◌, inl, inr}
 use Rattle.om_signs.specs.declared.limits.TheConstants.{MAX_ELEMENTS}
 use Rattle.om_subsets.proofs.Masks.{mask_of-lt}
@@ -23,23 +23,23 @@ use Rattle.om_program.specs.declared.status.Status.TheVariants as status
 use Rattle.om_program.specs.declared.task.Task.{Task}
 use Rattle.om_program.specs.declared.task.Task.TheVariants as task
 use Rattle.om_program.specs.Axioms.{MeetsAxioms}
+use Rattle.om_program.specs.Points.{map_document}
 use Rattle.om_program.specs.Covectors.{IsOfBody, Represents}
 use Rattle.om_program.specs.Operations.{NamesElements, IsChirotopeOf, named_elements, first_above, drops_element}
 use Rattle.om_program.specs.Words.{Names, IsAlone, IsElement, AreElements, AreArguments}
 use Rattle.om_program.specs.Meaning.{IsOperation, says, shows, not_built, outside, last, made}
 
--- the document of a map
-abbrev pub map_document : SignMap → Document
-map_document m = record { elements = m.elements; body = body.Chirotope (record { rank = m.rank; elements = m.elements; signs = m.signs }) }
-
 pub outside_meant : (o : Operation) (n : ℕ) (b : Body) (c : SignMap) (e : ℕ) → IsOfBody n b (representation.Chirotope c) → Some e ≡ first_above c.elements (named_elements o) → IsOperation o (record { elements = n; body = b }) (says status.Refused (line.RefusedPlace e))
 outside_meant o n (body.Chirotope m) c e (is, size) found = outside e refl (subst (λ k. first_above k (named_elements o) ≡ Some e) size (subst (λ k. first_above k.elements (named_elements o) ≡ Some e) is (sym found)))
+outside_meant o n (body.Points points) c e (is, size) found = outside e refl (subst (λ k. first_above k (named_elements o) ≡ Some e) size (subst (λ k. first_above k.elements (named_elements o) ≡ Some e) is (sym found)))
 outside_meant o n (body.Circuits members) c e other found = absurd other
 outside_meant o n (body.Cocircuits members) c e other found = absurd other
 outside_meant o n (body.Covectors members) c e other found = absurd other
 
 pub last_meant : (o : Operation) (n : ℕ) (b : Body) (c : SignMap) → IsOfBody n b (representation.Chirotope c) → None ≡ first_above c.elements (named_elements o) → drops_element o ≡ true → c.elements ≡ 1 → IsOperation o (record { elements = n; body = b }) (says status.Refused line.RefusedLastelement)
 last_meant o n (body.Chirotope m) c (is, size) none drops one =
+    last refl (subst (λ k. first_above k (named_elements o) ≡ None) size (subst (λ k. first_above k.elements (named_elements o) ≡ None) is (sym none))) drops (subst (λ k. k ≡ 1) size (subst (λ k. k.elements ≡ 1) is one))
+last_meant o n (body.Points points) c (is, size) none drops one =
     last refl (subst (λ k. first_above k (named_elements o) ≡ None) size (subst (λ k. first_above k.elements (named_elements o) ≡ None) is (sym none))) drops (subst (λ k. k ≡ 1) size (subst (λ k. k.elements ≡ 1) is one))
 last_meant o n (body.Circuits members) c other none drops one = absurd other
 last_meant o n (body.Cocircuits members) c other none drops one = absurd other
@@ -51,6 +51,11 @@ made_meant o n (body.Chirotope k) c m e (is, size) none left whole same form axi
     (subst (λ u. IsOperation o (record { elements = k.elements; body = body.Chirotope k }) (shows u)) (sym same)
     (made (map_document m) refl (subst (λ u. first_above u.elements (named_elements o) ≡ None) is (sym none)) (subst (λ u. drops_element o ≡ true → u.elements ≡ 1 → ⊥) is left)
     (record { form = subst IsInForm same form; axioms = subst (λ u. MeetsAxioms u.body) same axioms; body = subst (λ u. IsChirotopeOf o u.elements (IsCovectorOfChirotope u) m) is whole })))
+made_meant o n (body.Points points) c m e (is, size) none left whole same form axioms =
+    subst (λ j. IsOperation o (record { elements = j; body = body.Points points }) (shows e)) size
+    (subst (λ u. IsOperation o (record { elements = length points; body = body.Points points }) (shows u)) (sym same)
+    (made (map_document m) refl (subst (λ u. first_above u.elements (named_elements o) ≡ None) is (sym none)) (subst (λ u. drops_element o ≡ true → u.elements ≡ 1 → ⊥) is left)
+    (record { form = subst IsInForm same form; axioms = subst (λ u. MeetsAxioms u.body) same axioms; body = subst (λ u. IsChirotopeOf o u.elements (IsCovectorOfChirotope u) m) is whole })))
 made_meant o n (body.Circuits members) c m e other none left whole same form axioms = absurd other
 made_meant o n (body.Cocircuits members) c m e other none left whole same form axioms = absurd other
 made_meant o n (body.Covectors members) c m e other none left whole same form axioms = absurd other
@@ -58,18 +63,22 @@ made_meant o n (body.Covectors members) c m e other none left whole same form ax
 circuits_not_built : (o : Operation) (n : ℕ) (b : Body) (s : Circuits) → IsOfBody n b (representation.Circuits s) → IsOperation o (record { elements = n; body = b }) (says status.Refused line.RefusedUnbuilt)
 circuits_not_built o n (body.Circuits members) s is = not_built refl
 circuits_not_built o n (body.Chirotope m) s other = absurd other
+circuits_not_built o n (body.Points points) s other = absurd other
 circuits_not_built o n (body.Cocircuits members) s other = absurd other
 circuits_not_built o n (body.Covectors members) s other = absurd other
 
 cocircuits_not_built : (o : Operation) (n : ℕ) (b : Body) (s : Cocircuits) → IsOfBody n b (representation.Cocircuits s) → IsOperation o (record { elements = n; body = b }) (says status.Refused line.RefusedUnbuilt)
 cocircuits_not_built o n (body.Cocircuits members) s is = not_built refl
 cocircuits_not_built o n (body.Chirotope m) s other = absurd other
+cocircuits_not_built o n (body.Points points) s other = absurd other
+circuits_not_built o n (body.Points points) s other = absurd other
 cocircuits_not_built o n (body.Circuits members) s other = absurd other
 cocircuits_not_built o n (body.Covectors members) s other = absurd other
 
 covectors_not_built : (o : Operation) (n : ℕ) (b : Body) (s : sets.Listing) → IsOfBody n b (representation.Covectors s) → IsOperation o (record { elements = n; body = b }) (says status.Refused line.RefusedUnbuilt)
 covectors_not_built o n (body.Covectors members) s is = not_built refl
 covectors_not_built o n (body.Chirotope m) s other = absurd other
+covectors_not_built o n (body.Points points) s other = absurd other
 covectors_not_built o n (body.Circuits members) s other = absurd other
 covectors_not_built o n (body.Cocircuits members) s other = absurd other
 

@@ -1,5 +1,5 @@
 -- The axioms of each kind of document, and the line that names their first violated instance.
-use Rattle.std.specs.Prelude.{ℕ, ◌≡◌, List}
+use Rattle.std.specs.Prelude.{ℕ, ℤ, ◌≡◌, List}
 use Rattle.om_signs.specs.declared.sign.Sign.{Sign}
 use Rattle.om_signs.specs.declared.raw_map.RawMap.{RawMap}
 use Rattle.om_subsets.specs.Members.{Chosen}
@@ -15,17 +15,22 @@ use Rattle.om_covectors.specs.declared.cov_refused.CovRefused.{CovRefused}
 use Rattle.om_covectors.specs.declared.cov_refused.CovRefused.TheVariants as cov
 use Rattle.om_covectors.specs.Axioms.{MeetsCovectorAxioms}
 use Rattle.om_covectors.specs.Instances.{IsFirstViolatedCovectorAxiom}
+use Rattle.om_vectors.specs.Realizations.{IsRankLow}
 use Rattle.om_text.specs.declared.body.Body.{Body}
-use Rattle.om_text.specs.declared.body.Body.TheVariants.{Chirotope, Circuits, Cocircuits, Covectors}
+use Rattle.om_text.specs.declared.body.Body.TheVariants.{Chirotope, Circuits, Cocircuits, Covectors, Points}
 use Rattle.om_answer.specs.declared.line.Line.{Line}
-use Rattle.om_answer.specs.declared.line.Line.TheVariants.{RefusedAllzero, RefusedRelation, RefusedZero, RefusedNonegative, RefusedNested, RefusedNoelimination, RefusedNozero, RefusedNocomposition}
+use Rattle.om_answer.specs.declared.line.Line.TheVariants.{RefusedAllzero, RefusedRelation, RefusedZero, RefusedNonegative, RefusedNested, RefusedNoelimination, RefusedNozero, RefusedNocomposition, RefusedRanklow}
+use Rattle.om_program.specs.declared.unrepresented.Unrepresented.{Unrepresented}
+use Rattle.om_program.specs.declared.unrepresented.Unrepresented.TheVariants as unrepresented
+use Rattle.om_program.specs.Points.{vectors_of}
 
--- the body meets the axioms of its kind
+-- the body meets the axioms of its kind; for points: some triple product isn't 0
 abbrev pub MeetsAxioms : Body → Type 0
 MeetsAxioms (Chirotope m) = maps.IsChirotope (map_of m)
 MeetsAxioms (Circuits members) = MeetsCircuitAxioms members
 MeetsAxioms (Cocircuits members) = MeetsCircuitAxioms members
 MeetsAxioms (Covectors members) = MeetsCovectorAxioms members
+MeetsAxioms (Points points) = IsRankLow (vectors_of points) → ⊥
 
 -- the line that says why a map is no chirotope
 abbrev pub map_line : MapRefused → Line
@@ -60,9 +65,19 @@ cov_line (cov.NoElimination i j e) = RefusedNoelimination i j e
 abbrev pub IsCovRefused : List (List Sign) → Line → Type 0
 IsCovRefused members l = (why : CovRefused) × ((l ≡ cov_line why) × IsFirstViolatedCovectorAxiom members why)
 
+-- the line for points: every triple product is 0
+abbrev pub IsRankRefused : List (List ℤ) → Line → Type 0
+IsRankRefused points l = (l ≡ RefusedRanklow) × IsRankLow (vectors_of points)
+
 -- the line that refuses the body
 abbrev pub IsRefused : Body → Line → Type 0
 IsRefused (Chirotope m) l = IsMapRefused m l
 IsRefused (Circuits members) l = IsSetRefused members l
 IsRefused (Cocircuits members) l = IsSetRefused members l
 IsRefused (Covectors members) l = IsCovRefused members l
+IsRefused (Points points) l = IsRankRefused points l
+
+-- why a body gives no oriented matroid: the line that refuses it, or want of memory
+abbrev pub IsRefusal : Body → Unrepresented → Type 0
+IsRefusal b (unrepresented.Refused l) = IsRefused b l
+IsRefusal b unrepresented.Memory = Unit {0}

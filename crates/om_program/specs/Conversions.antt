@@ -16,20 +16,28 @@ use Rattle.om_answer.specs.declared.kind.Kind.{Kind}
 use Rattle.om_answer.specs.declared.kind.Kind.TheVariants as kind
 use Rattle.om_program.specs.declared.unconverted.Unconverted.{Unconverted}
 use Rattle.om_program.specs.declared.unconverted.Unconverted.TheVariants as unconverted
+use Rattle.om_program.specs.Points.{points_map, raw_of}
 use Rattle.om_program.specs.Axioms.{MeetsAxioms}
 use Rattle.om_program.specs.Covectors.{IsCovectorIn}
 
--- whether a body is of a kind
+-- whether a body is of a kind; points are a chirotope
 abbrev pub has_kind : Kind → Body → Bool
 has_kind kind.Chirotope (body.Chirotope m) = true
 has_kind kind.Circuits (body.Circuits members) = true
 has_kind kind.Cocircuits (body.Cocircuits members) = true
 has_kind kind.Covectors (body.Covectors members) = true
+has_kind kind.Chirotope (body.Points points) = true
 has_kind _ _ = false
 
--- whether the conversion of a body to a kind is built: a chirotope to every kind, covectors to cocircuits, and each kind to itself
+-- a body as one of its own kind: points as the map of their signs
+abbrev pub given : Body → Body
+given (body.Points points) = body.Chirotope (raw_of (points_map points))
+given b = b
+
+-- whether the conversion of a body to a kind is built: a chirotope or points to every kind, covectors to cocircuits, and each kind to itself
 abbrev pub is_built : Kind → Body → Bool
 is_built k (body.Chirotope m) = true
+is_built k (body.Points points) = true
 is_built kind.Cocircuits (body.Covectors members) = true
 is_built k b = has_kind k b
 
@@ -38,20 +46,27 @@ abbrev pub IsMemberAs : Kind → Body → List Sign → Type 0
 IsMemberAs kind.Circuits (body.Chirotope m) = IsCircuitOfChirotope (map_of m)
 IsMemberAs kind.Cocircuits (body.Chirotope m) = IsCocircuitOfChirotope (map_of m)
 IsMemberAs kind.Covectors (body.Chirotope m) = IsCovectorOfChirotope (map_of m)
+IsMemberAs kind.Circuits (body.Points points) = IsCircuitOfChirotope (points_map points)
+IsMemberAs kind.Cocircuits (body.Points points) = IsCocircuitOfChirotope (points_map points)
+IsMemberAs kind.Covectors (body.Points points) = IsCovectorOfChirotope (points_map points)
 IsMemberAs _ _ = λ x. ⊥
 
 -- a map gives more members of a kind than a list may have
 abbrev pub HasTooMany : Kind → Body → Type 0
 HasTooMany k b = HasMoreThan MAX_MEMBERS (IsMemberAs k b)
 
--- the second body has exactly the members of its kind that the first one gives, where that is a map
+-- the second body has exactly the members of its kind that the first one gives, where that is a map or points
 abbrev pub HasMembersOf : Body → Body → Type 0
 HasMembersOf (body.Chirotope m) (body.Circuits members) = AreAllOf (IsCircuitOfChirotope (map_of m)) members
 HasMembersOf (body.Chirotope m) (body.Cocircuits members) = AreAllOf (IsCocircuitOfChirotope (map_of m)) members
 HasMembersOf (body.Chirotope m) (body.Covectors members) = AreAllOf (IsCovectorOfChirotope (map_of m)) members
+HasMembersOf (body.Points points) (body.Circuits members) = AreAllOf (IsCircuitOfChirotope (points_map points)) members
+HasMembersOf (body.Points points) (body.Cocircuits members) = AreAllOf (IsCocircuitOfChirotope (points_map points)) members
+HasMembersOf (body.Points points) (body.Covectors members) = AreAllOf (IsCovectorOfChirotope (points_map points)) members
 HasMembersOf _ _ = Unit {0}
 
--- e is d as a document of a kind: it meets the axioms of this kind and denotes the same; a document of the kind is itself
+-- e is d as a document of a kind: it meets the axioms of this kind and denotes the same; a document of the kind is itself, and
+-- points are the map of their signs
 pub record IsConverted (k : Kind) (d e : Document) : Type 0 where
   pub form : IsInForm e
   pub kind : has_kind k e.body ≡ true
@@ -59,7 +74,7 @@ pub record IsConverted (k : Kind) (d e : Document) : Type 0 where
   pub axioms : MeetsAxioms e.body
   pub same : (x : List Sign) → IsCovectorIn d x ↔ IsCovectorIn e x
   pub members : HasMembersOf d.body e.body
-  pub own : has_kind k d.body ≡ true → e ≡ d
+  pub own : has_kind k d.body ≡ true → e ≡ record { elements = d.elements; body = given d.body }
 
 -- why a list that isn't made has no document
 abbrev pub failure : ConvertError → Unconverted

@@ -1,5 +1,6 @@
 pub mod Words
 pub mod Samples
+pub mod Points
 pub mod Axioms
 pub mod Covectors
 pub mod Conversions

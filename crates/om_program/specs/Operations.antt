@@ -19,9 +19,10 @@ use Rattle.om_program.specs.declared.task.Task.TheVariants as task
 use Rattle.om_program.specs.Axioms.{MeetsAxioms}
 use Rattle.om_program.specs.Covectors.{IsCovectorIn}
 
--- whether the operations are built for a body: they are for chirotopes
+-- whether the operations are built for a body: they are for chirotopes and points
 abbrev pub is_operable : Body → Bool
 is_operable (body.Chirotope m) = true
+is_operable (body.Points points) = true
 is_operable _ = false
 
 -- the elements that an operation names, in increasing order

@@ -3,7 +3,7 @@ ghost use Rattle.om_text.specs.declared.document.Document.{Document};
 ghost use Rattle.om_text.specs.Form.{IsInForm};
 ghost use Rattle.om_program.specs.Axioms.{MeetsAxioms};
 ghost use Rattle.om_program.specs.Covectors.{Represents};
-ghost use Rattle.om_program.specs.Conversions.{has_kind, IsOutcome, failure};
+ghost use Rattle.om_program.specs.Conversions.{has_kind, given, IsOutcome, failure};
 
 use crate::documents::{circuits_document, cocircuits_document, covectors_document, map_document};
 use crate::representation::Representation;
@@ -154,7 +154,8 @@ fn is_own_kind(representation: &Representation, kind: Kind) -> bool
 /// The document of a representation, of its own kind.
 fn own_document(representation: Representation) -> Document
     ensures form { IsInForm result }
-    ensures own { (d : Document) → Represents d representation → result ≡ d }
+    ensures axioms { MeetsAxioms result.body }
+    ensures own { (d : Document) → Represents d representation → result ≡ record { elements = d.elements; body = given d.body } }
 {
     match representation {
         Representation::Chirotope(chirotope) => map_document(chirotope),

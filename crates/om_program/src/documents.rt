@@ -5,6 +5,7 @@ ghost use Rattle.om_text.specs.declared.document.Document.{Document};
 ghost use Rattle.om_text.specs.Form.{IsInForm};
 ghost use Rattle.om_program.specs.Axioms.{MeetsAxioms};
 ghost use Rattle.om_program.specs.Covectors.{Represents};
+ghost use Rattle.om_program.specs.Points.{map_document};
 
 use crate::representation::Representation;
 use om_chirotope::Chirotope;
@@ -16,7 +17,7 @@ use om_text::{Body, Document};
 pub fn map_document(chirotope: Chirotope) -> Document
     ensures form { IsInForm result }
     ensures axioms { MeetsAxioms result.body }
-    ensures own { (d : Document) → Represents d (Representation.Chirotope chirotope) → result ≡ d }
+    ensures map { result ≡ map_document chirotope }
 {
     let elements = chirotope.elements();
     let _rank = chirotope.rank();

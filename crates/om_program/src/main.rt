@@ -9,6 +9,9 @@ mod documents;
 #[cfg(test)]
 mod map_tests;
 mod operation;
+#[cfg(test)]
+mod point_tests;
+mod point_vectors;
 mod reply;
 mod representation;
 mod run;
@@ -18,6 +21,7 @@ mod task;
 #[cfg(test)]
 mod tests;
 mod unconverted;
+mod unrepresented;
 mod usage;
 mod verb;
 mod write_usage;

@@ -14,6 +14,7 @@ use crate::representation::{Representation, represented};
 use crate::status::Status;
 use crate::task::Task;
 use crate::unconverted::Unconverted;
+use crate::unrepresented::Unrepresented;
 use om_answer::{Kind, Line, print_line};
 use om_chirotope::Chirotope;
 use om_oriented::Oriented;
@@ -78,9 +79,10 @@ fn reply_to_document<R: Threads + Sync>(
     ensures meant { IfOk result (λ reply. DocumentMeans task document (record { status = reply.status; text = reply.text.items })) }
     ensures answered { IfOk result (λ reply. IsAnswered reply.status) }
 {
-    match represented(rt, document) {
+    match represented(rt, alloc, document) {
         Ok(representation) => reply_to_representation(alloc, task, representation),
-        Err(why) => say(alloc, Status::Refused, why),
+        Err(Unrepresented::Refused(why)) => say(alloc, Status::Refused, why),
+        Err(Unrepresented::Memory) => Err(NoMemory),
     }
 }
 

@@ -1,19 +1,22 @@
-ghost use Rattle.std.specs.Prelude.{◌≡◌, ◌↔◌, ◌≤◌, length, IsOk, IfOk, IfErr};
+ghost use Rattle.std.specs.Prelude.{◌≡◌, ◌↔◌, ◌≤◌, length, IsOk, OnOk, IfOk, IfErr};
 ghost use Rattle.om_text.specs.Form.{IsInForm, AreMembersOn};
 ghost use Rattle.om_circuits.specs.Axioms.{MeetsCircuitAxioms};
 ghost use Rattle.om_covectors.specs.Axioms.{MeetsCovectorAxioms};
-ghost use Rattle.om_program.specs.Axioms.{MeetsAxioms, IsRefused, IsMapRefused, IsSetRefused, IsCovRefused, map_line, set_line, cov_line};
+ghost use Rattle.om_program.specs.Axioms.{MeetsAxioms, IsRefusal, map_line, set_line, cov_line};
 ghost use Rattle.om_chirotope.specs.Map.{map_of};
 ghost use Rattle.om_chirotope.specs.Chirotope.{IsChirotope};
 ghost use Rattle.om_text.specs.Form.{IsMapOn};
 ghost use Rattle.om_program.specs.Covectors.{Represents};
 
+use crate::point_vectors::chirotope_of_points;
+use crate::unrepresented::Unrepresented;
 use om_answer::Line;
 use om_chirotope::{Chirotope, MapRefused};
 use om_circuits::{Circuits, Cocircuits, SetRefused, SignedSet};
 use om_covectors::{CovRefused, Covectors};
 use om_signs::{List, MAX_ELEMENTS, RawMap, SignVec};
 use om_text::{Body, Document};
+use std::alloc::Global;
 use std::thread::Threads;
 
 /// An oriented matroid, in the way in which a document gives it.
@@ -27,11 +30,15 @@ pub enum Representation {
 
 /// The oriented matroid that a document gives, where it meets the axioms of its kind, and else the line that names the
 /// first violated instance.
-pub fn represented<R: Threads + Sync>(rt: &R, document: Document) -> Result<Representation, Line>
+pub fn represented<R: Threads + Sync>(
+    rt: &R,
+    alloc: Global,
+    document: Document,
+) -> Result<Representation, Unrepresented>
     requires { IsInForm document }
-    ensures accepted { IsOk result ↔ MeetsAxioms document.body }
+    ensures accepted { OnOk result (MeetsAxioms document.body) }
     ensures value { IfOk result (Represents document) }
-    ensures refused { IfErr result (IsRefused document.body) }
+    ensures refused { IfErr result (IsRefusal document.body) }
 {
     let Document { elements, body } = document;
     match body {
@@ -48,21 +55,25 @@ pub fn represented<R: Threads + Sync>(rt: &R, document: Document) -> Result<Repr
             let covectors = covector_set(rt, elements, list)?;
             Ok(Representation::Covectors(covectors))
         }
+        Body::Points(points) => Ok(Representation::Chirotope(chirotope_of_points(
+            alloc,
+            points.as_slice(),
+        )?)),
     }
 }
 
 /// The chirotope of a map, or the line that refuses the map.
-fn chirotope<R: Threads + Sync>(rt: &R, raw: RawMap) -> Result<Chirotope, Line>
+fn chirotope<R: Threads + Sync>(rt: &R, raw: RawMap) -> Result<Chirotope, Unrepresented>
     requires low { 1 ≤ raw.elements }
     requires high { raw.elements ≤ MAX_ELEMENTS }
     requires whole { IsMapOn raw.elements raw }
     ensures accepted { IsOk result ↔ IsChirotope (map_of raw) }
     ensures value { IfOk result (λ c. c ≡ map_of raw) }
-    ensures refused { IfErr result (IsMapRefused raw) }
+    ensures refused { IfErr result (IsRefusal (Body.Chirotope raw)) }
 {
     match om_chirotope::check(rt, raw) {
         Ok(chirotope) => Ok(chirotope),
-        Err(bad) => Err(map_refusal(bad.why)),
+        Err(bad) => Err(Unrepresented::Refused(map_refusal(bad.why))),
     }
 }
 
@@ -81,17 +92,17 @@ fn signed_set<R: Threads + Sync>(
     rt: &R,
     elements: u8,
     list: List<SignVec>,
-) -> Result<SignedSet, Line>
+) -> Result<SignedSet, Unrepresented>
     requires low { 1 ≤ elements }
     requires high { elements ≤ MAX_ELEMENTS }
     requires members { AreMembersOn elements list }
     ensures accepted { IsOk result ↔ MeetsCircuitAxioms list }
     ensures value { IfOk result (λ set. set ≡ record { elements = elements; members = list }) }
-    ensures refused { IfErr result (IsSetRefused list) }
+    ensures refused { IfErr result (IsRefusal (Body.Circuits list)) }
 {
     match om_circuits::check(rt, elements, list) {
         Ok(set) => Ok(set),
-        Err(bad) => Err(set_refusal(bad.why)),
+        Err(bad) => Err(Unrepresented::Refused(set_refusal(bad.why))),
     }
 }
 
@@ -112,17 +123,17 @@ fn covector_set<R: Threads + Sync>(
     rt: &R,
     elements: u8,
     list: List<SignVec>,
-) -> Result<Covectors, Line>
+) -> Result<Covectors, Unrepresented>
     requires low { 1 ≤ elements }
     requires high { elements ≤ MAX_ELEMENTS }
     requires members { AreMembersOn elements list }
     ensures accepted { IsOk result ↔ MeetsCovectorAxioms list }
     ensures value { IfOk result (λ set. set ≡ record { elements = elements; members = list }) }
-    ensures refused { IfErr result (IsCovRefused list) }
+    ensures refused { IfErr result (IsRefusal (Body.Covectors list)) }
 {
     match om_covectors::check(rt, elements, list) {
         Ok(set) => Ok(set),
-        Err(bad) => Err(covector_refusal(bad.why)),
+        Err(bad) => Err(Unrepresented::Refused(covector_refusal(bad.why))),
     }
 }
 

@@ -1,5 +1,5 @@
 use Rattle.std.specs.Prelude.{◌≡◌, Some, None, true}
-use Rattle.std.proofs.Common.{sym, ap, ◌∙◌, refl}
+use Rattle.std.proofs.Common.{sym, ap, ◌∙◌}
 use Rattle.std.proofs.lemmas.Bool.{false≢true}
 use Rattle.om_text.specs.declared.document.Document.{Document}
 use Rattle.om_answer.specs.declared.line.Line.TheVariants as line
@@ -9,7 +9,7 @@ use Rattle.om_program.specs.Covectors.{Represents}
 use Rattle.om_program.specs.Operations.{first_above, named_elements, drops_element}
 use Rattle.om_program.specs.Meaning.{Answer, IsOperation, shows}
 use Rattle.om_program.proofs.MeaningLaws.{answers, said}
-use Rattle.om_program.proofs.OperationLaws.{outside_meant, last_meant, made_meant, map_document}
+use Rattle.om_program.proofs.OperationLaws.{outside_meant, last_meant, made_meant}
 use Rattle.om_program.proofs.reply.operate.Goals as goal
 use Rattle.om_program.proofs.reply.operate.Goals.{else-takes_element-via-then-takes_element+else-elements-eq1, else-takes_element-via-else-takes_element}
 
@@ -35,4 +35,4 @@ returns-clause-meant c =
     ] in
     let m = c.in_ok-made.made in
     answers _ (shows c.map_document.result) P (λ d represents.
-    made_meant c.args.operation d.elements d.body c.args.chirotope m _ represents none left c.in_ok-made.ensures (c.map_document.ensures.own (map_document m) (refl, refl)) c.map_document.ensures.form c.map_document.ensures.axioms) c.show.ensures
+      made_meant c.args.operation d.elements d.body c.args.chirotope m _ represents none left c.in_ok-made.ensures c.map_document.ensures.map c.map_document.ensures.form c.map_document.ensures.axioms) c.show.ensures

@@ -1,0 +1,10 @@
+use om_answer::Line;
+
+/// Why a document gives no oriented matroid.
+#[derive(Clone, Copy, Debug, PartialEq, Eq)]
+pub enum Unrepresented {
+    /// It fails the axioms of its kind, and this line names the first violated instance.
+    Refused(Line),
+    /// Want of memory.
+    Memory,
+}
