@@ -28,10 +28,12 @@ const REALIZED: [&str; 10] = [
 ];
 
 /// The Pappus chirotope with one line less.
-const NON_PAPPUS: &str = "om 1\nchirotope 3 9\n0++++++++++++--------0-0++++++++++----0---+0+++++---0+-0++++++++\n0------------------+\nend\n";
+const NON_PAPPUS: &str =
+    "om 1\nchirotope 3 9\n0++++++++++++--------0-0++++++++++----0---+0+++++---0+-0++++++++\n0------------------+\nend\n";
 
 /// All entries of its certificate but the first.
-const EIGHT_ENTRIES: &str = "eq 1 4 5 7 9 3 1 1\neq 1 4 6 7 8 1 3 1\neq 4 1 5 6 7 1 2 1\neq 4 1 2 7 9 1 3 1\neq 4 1 3 7 8 3 1 1\nlt 7 1 4 8 9 3 2 1\neq 7 1 2 4 6 3 1 1\neq 7 1 3 4 5 1 3 1\nend\n";
+const EIGHT_ENTRIES: &str =
+    "eq 1 4 5 7 9 3 1 1\neq 1 4 6 7 8 1 3 1\neq 4 1 5 6 7 1 2 1\neq 4 1 2 7 9 1 3 1\neq 4 1 3 7 8 3 1 1\nlt 7 1 4 8 9 3 2 1\neq 7 1 2 4 6 3 1 1\neq 7 1 3 4 5 1 3 1\nend\n";
 
 /// Texts one behind another.
 fn joined(alloc: Global, texts: &[&str]) -> Result<Vec<u8>, Fail> {
@@ -170,10 +172,15 @@ fn realizations(rt: HostRuntime) -> Result<(), Fail> {
     let alloc = rt.alloc();
     let bytes = joined(alloc, &REALIZED)?;
     let claim = claim_of(alloc, bytes.as_slice());
-    assert!(rt; claim.is_some_and(|c| has_realization(&c, &[(1, 0, 0), (0, 1, 0), (0, 0, 1), (1, -1, 1)])));
+    assert!(rt;
+        claim.is_some_and(|c| has_realization(&c, &[(1, 0, 0), (0, 1, 0), (0, 0, 1), (1, -1, 1)]))
+    );
     for k in 0..10_usize {
         let cut = joined(alloc, &REALIZED[..k])?;
-        assert!(rt; has_fault(alloc, cut.as_slice(), k as u32 + 1, Code::Missing), "at {k}");
+        assert!(rt;
+            has_fault(alloc, cut.as_slice(), k as u32 + 1, Code::Missing),
+            "at {k}"
+        );
     }
     Ok(())
 }
@@ -210,12 +217,26 @@ fn multiplicities(rt: HostRuntime) -> Result<(), Fail> {
     let alloc = rt.alloc();
     for (first, read) in [
         ("nonrealizable\neq 1 2 3 4 7 3 2 0\n", false),
-        ("nonrealizable\neq 1 2 3 4 7 3 2 9223372036854775809\n", false),
-        ("nonrealizable\neq 1 2 3 4 7 3 2 9223372036854775808\n", true),
+        (
+            "nonrealizable\neq 1 2 3 4 7 3 2 9223372036854775809\n",
+            false,
+        ),
+        (
+            "nonrealizable\neq 1 2 3 4 7 3 2 9223372036854775808\n",
+            true,
+        ),
     ] {
         let bytes = joined(alloc, &[NON_PAPPUS, first, EIGHT_ENTRIES])?;
-        assert_eq!(rt; claim_of(alloc, bytes.as_slice()).is_some(), read, "{first}");
-        assert_eq!(rt; has_fault(alloc, bytes.as_slice(), 7, Code::Entry), !read, "{first}");
+        assert_eq!(rt;
+            claim_of(alloc, bytes.as_slice()).is_some(),
+            read,
+            "{first}"
+        );
+        assert_eq!(rt;
+            has_fault(alloc, bytes.as_slice(), 7, Code::Entry),
+            !read,
+            "{first}"
+        );
     }
     Ok(())
 }
@@ -276,14 +297,33 @@ fn limits(rt: HostRuntime) -> Result<(), Fail> {
     let claim = claim_of(alloc, pivots.as_slice());
     assert!(rt; claim.is_some_and(|c| has_pivots(&c, 1, &basis)));
     for (block, stage, numbers) in [
-        ("limit\nwidth price 1000001 0 999999\nexhausted\nend\n", Stage::Price, (1_000_001, 0, 999_999)),
-        ("limit\nwidth column 1 65535 2\nfrontier\nend\n", Stage::Column, (1, 65_535, 2)),
-        ("limit\nwidth update 0 0 0\nexhausted\nend\n", Stage::Update, (0, 0, 0)),
-        ("limit\nwidth scale 3 2 1\nexhausted\nend\n", Stage::Scale, (3, 2, 1)),
+        (
+            "limit\nwidth price 1000001 0 999999\nexhausted\nend\n",
+            Stage::Price,
+            (1_000_001, 0, 999_999),
+        ),
+        (
+            "limit\nwidth column 1 65535 2\nfrontier\nend\n",
+            Stage::Column,
+            (1, 65_535, 2),
+        ),
+        (
+            "limit\nwidth update 0 0 0\nexhausted\nend\n",
+            Stage::Update,
+            (0, 0, 0),
+        ),
+        (
+            "limit\nwidth scale 3 2 1\nexhausted\nend\n",
+            Stage::Scale,
+            (3, 2, 1),
+        ),
     ] {
         let bytes = joined(alloc, &[UNIFORM, block])?;
         let claim = claim_of(alloc, bytes.as_slice());
-        assert!(rt; claim.is_some_and(|c| has_width(&c, stage, numbers)), "{block}");
+        assert!(rt;
+            claim.is_some_and(|c| has_width(&c, stage, numbers)),
+            "{block}"
+        );
     }
     Ok(())
 }
@@ -318,7 +358,10 @@ fn other_kinds(rt: HostRuntime) -> Result<(), Fail> {
     ] {
         let bytes = joined(alloc, &[document, "realizable\nvector 1 0 0\nend\n"])?;
         let claim = claim_of(alloc, bytes.as_slice());
-        assert!(rt; claim.is_some_and(|c| has_realization(&c, &[(1, 0, 0)])), "{document}");
+        assert!(rt;
+            claim.is_some_and(|c| has_realization(&c, &[(1, 0, 0)])),
+            "{document}"
+        );
     }
     let points = joined(alloc, &["om 1\npoints 1\n-2 0 5\nend\nrealizable\nend\n"])?;
     let claim = claim_of(alloc, points.as_slice());
@@ -474,7 +517,10 @@ fn lines_past_the_greatest_number(rt: HostRuntime) -> Result<(), Fail> {
         ("vector 0 0\n", Code::Entry),
         ("vector 0 0 1099511627777\n", Code::Entry),
     ] {
-        let bytes = joined(alloc, &[UNIFORM, "realizable\n", four, four, four, four, last])?;
+        let bytes = joined(
+            alloc,
+            &[UNIFORM, "realizable\n", four, four, four, four, last],
+        )?;
         assert!(rt; has_fault(alloc, bytes.as_slice(), 22, code), "{last}");
     }
     Ok(())
