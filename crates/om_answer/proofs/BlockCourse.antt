@@ -2,7 +2,7 @@
 --
 -- Main definitions: IsFront, IsRest, IsPart
 -- Main results: block_shows
-use Rattle.std.proofs.Common.{◌≡◌, ℕ, suc, ◌+◌, ◌≤◌, ◌<◌, ◌⊎◌, List, [], ◌∷◌, ◌++◌, Bool, true, false, cond, length, refl, sym, ap, subst, ◌∙◌, arith, inl, inr, length-append, append_assoc, append-nil}
+use Rattle.std.proofs.Common.{◌≡◌, ℕ, ◌≤◌, ◌<◌, ◌⊎◌, List, [], ◌∷◌, ◌++◌, true, cond, length, refl, sym, ap, subst, ◌∙◌, arith, inl, inr, length-append, append_assoc}
 use Rattle.std.specs.Prelude.{Option, Some, None, Result, Ok, Err, codes, nat_lt}
 use Rattle.std.proofs.lemmas.Bool.{ltb-true}
 use Rattle.om_text.specs.declared.code.Code.{Code}
@@ -14,7 +14,6 @@ use Rattle.om_vectors.specs.WholeVectors.{WholeVector}
 use Rattle.om_vectors.specs.declared.unfound.Unfound.{Unfound}
 use Rattle.om_vectors.specs.declared.unfound.Unfound.TheVariants as unfound
 use Rattle.om_certificate.specs.declared.entry.Entry.{Entry}
-use Rattle.om_certificate.specs.declared.weight.Weight.{Weight}
 use Rattle.om_certificate.specs.declared.lp_end.LpEnd.{LpEnd}
 use Rattle.om_certificate.specs.declared.verdict.Verdict.{Verdict}
 use Rattle.om_certificate.specs.declared.verdict.Verdict.TheVariants as verdict

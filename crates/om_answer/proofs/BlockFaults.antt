@@ -2,7 +2,7 @@
 --
 -- Main definitions: HasShape
 -- Main results: block_error
-use Rattle.std.proofs.Common.{◌≡◌, ℕ, zero, suc, ◌+◌, ◌≤◌, ◌<◌, List, [], ◌∷◌, ◌++◌, Bool, true, false, cond, ◌&&◌, ◌||◌, length, refl, sym, ap, subst, ◌∙◌, arith, inl, inr}
+use Rattle.std.proofs.Common.{◌≡◌, ℕ, ◌+◌, List, [], ◌∷◌, ◌++◌, Bool, true, false, cond, ◌&&◌, ◌||◌, length, refl, ap, ◌∙◌, arith, inl, inr}
 use Rattle.std.specs.Prelude.{Option, Some, None, Result, Ok, Err, codes, nat_lt, nat_le, is_some}
 use Rattle.std.specs.List.{list_any}
 use Rattle.std.proofs.lemmas.List.Folds.{list_any-append}
@@ -23,9 +23,9 @@ use Rattle.om_answer.specs.declared.block.Front.TheVariants as front
 use Rattle.om_answer.specs.BlockLines.{word_line, vector_of, entry_of, weight_of, pivots_of, basis_of, width_of}
 use Rattle.om_answer.specs.Block.{AreLinesOf, IsTableauEnd, pivots, width, IsBlock, realizable, nonrealizable, undecided, limit, MOST_VECTORS, MOST_WEIGHTS}
 use Rattle.om_answer.specs.BlockReading.{opened, with_next, with_entry, tested, with_tableau, with_basis, searched, closed, block_step}
-use Rattle.om_answer.specs.ClaimFault.{last_passing, is_past, goes_past, code_in_block, code_after_document}
+use Rattle.om_answer.specs.ClaimFault.{last_passing, code_in_block, code_after_document}
 use Rattle.om_answer.proofs.BlockForms.{not_line, lines_not, all_passing, none_passing, last_passing-append, vector_no_weight, weight_no_vector, entry_named, pivots_named, basis_named, width_named}
-use Rattle.om_answer.proofs.BlockCourse.{IsFront, IsPart, IsBegun}
+use Rattle.om_answer.proofs.BlockCourse.{IsFront, IsPart}
 
 -- lines without an end line, of which the last v are vectors and the last w are weights
 pub record HasShape (v w : ℕ) (ls : List (List (List ℕ))) : Type 0 where

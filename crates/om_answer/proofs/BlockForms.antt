@@ -1,12 +1,12 @@
 -- What lines of a form are not: the end line, or lines of another form; and how many of the last lines pass a test.
 --
 -- Main results: not_line, named_line, vector_no_weight, last_passing-append, all_passing, none_passing
-use Rattle.std.proofs.Common.{◌≡◌, ℕ, suc, ◌+◌, ◌≤◌, ◌<◌, List, [], ◌∷◌, ◌++◌, Bool, true, false, cond, length, map, refl, sym, ap, subst, ◌∙◌, arith, inl, inr, zero-add, append_assoc}
-use Rattle.std.specs.Prelude.{ℤ, Option, Some, None, codes, bytes_eq, option_and_then, is_some}
+use Rattle.std.proofs.Common.{◌≡◌, ℕ, suc, ◌+◌, List, [], ◌∷◌, ◌++◌, Bool, false, cond, length, map, refl, sym, ap, subst, ◌∙◌, arith, inl, inr}
+use Rattle.std.specs.Prelude.{Option, Some, None, codes, bytes_eq, option_and_then, is_some}
 use Rattle.std.proofs.lemmas.Slice.Eq.{bytes_eq-Decides}
 use Rattle.std.specs.List.{list_any}
 use Rattle.std.proofs.lemmas.List.{map-append, length-map}
-use Rattle.om_text.specs.Document.{is_line, end_line}
+use Rattle.om_text.specs.Document.{is_line}
 use Rattle.om_text.proofs.Distinct.{either}
 use Rattle.om_text.proofs.Filling.{is_line-Decides}
 use Rattle.om_vectors.specs.WholeVectors.{WholeVector}
@@ -14,7 +14,7 @@ use Rattle.om_certificate.specs.declared.entry.Entry.{Entry}
 use Rattle.om_certificate.specs.declared.weight.Weight.{Weight}
 use Rattle.om_certificate.specs.declared.lp_end.LpEnd.{LpEnd}
 use Rattle.om_answer.specs.Numbers.{numbers_within}
-use Rattle.om_answer.specs.BlockLines.{after_name, named_numbers, strictness, vector_of, vector_from, entry_of, entry_from, entry_ranges, weight_of, weight_from, vector_ranges, weight_ranges, pivots_ranges, pivots_of, count_from, basis_of, some_of, plain_numbers, width_of, width_after}
+use Rattle.om_answer.specs.BlockLines.{after_name, strictness, vector_of, vector_from, entry_of, entry_from, entry_ranges, weight_of, weight_from, vector_ranges, weight_ranges, pivots_ranges, pivots_of, count_from, basis_of, some_of, plain_numbers, width_of, width_after}
 use Rattle.om_answer.specs.Block.{AreLinesOf}
 use Rattle.om_answer.specs.ClaimFault.{last_passing}
 

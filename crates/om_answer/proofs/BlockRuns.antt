@@ -1,12 +1,11 @@
 -- The lines of a verdict block are read to its end, and from each state some lines complete a block.
 --
 -- Main results: block_runs, block_completes
-use Rattle.std.proofs.Common.{◌≡◌, ℕ, zero, suc, ◌+◌, ◌≤◌, ◌<◌, List, [], ◌∷◌, ◌++◌, Bool, true, false, cond, length, map, refl, sym, ap, subst, ◌∙◌, arith, inl, inr, length-append, append_assoc, append-nil}
-use Rattle.std.specs.Prelude.{Option, Some, None, Result, Ok, Err, codes, nat_lt}
+use Rattle.std.proofs.Common.{◌≡◌, ℕ, ◌+◌, ◌≤◌, ◌<◌, List, [], ◌∷◌, ◌++◌, Bool, true, false, cond, length, refl, ap, ◌∙◌, arith, length-append, append_assoc, append-nil}
+use Rattle.std.specs.Prelude.{Option, Some, Result, Ok, Err, codes}
 use Rattle.std.proofs.lemmas.Bool.{lt-ltb}
 use Rattle.om_text.specs.declared.code.Code.{Code}
 use Rattle.om_text.specs.declared.code.Code.TheVariants as code
-use Rattle.om_text.specs.Lines.{wordful}
 use Rattle.om_text.specs.Document.{is_line, end_line}
 use Rattle.om_text.proofs.Language.{run_words, bind, IsCompletion}
 use Rattle.om_vectors.specs.WholeVectors.{WholeVector}
@@ -22,9 +21,9 @@ use Rattle.om_answer.specs.declared.block.Block.{Block}
 use Rattle.om_answer.specs.declared.block.Block.TheVariants.{Empty, Vectors, Entries, Weights, Tableau, Pivots, Tested, Exhausted, Frontier, Closed}
 use Rattle.om_answer.specs.declared.block.Front.{Front}
 use Rattle.om_answer.specs.declared.block.Front.TheVariants as front
-use Rattle.om_answer.specs.BlockLines.{word_line, vector_of, entry_of, weight_of, pivots_of, basis_of, width_of}
+use Rattle.om_answer.specs.BlockLines.{word_line, vector_of, entry_of, weight_of}
 use Rattle.om_answer.specs.Block.{AreLinesOf, IsSearchEnd, exhausted, frontier, IsTableauEnd, pivots, width, IsBlock, realizable, nonrealizable, undecided, limit, MOST_VECTORS, MOST_WEIGHTS}
-use Rattle.om_answer.specs.BlockReading.{with_next, with_entry, tested, with_tableau, with_basis, searched, ended, closed, block_step, block_value}
+use Rattle.om_answer.specs.BlockReading.{with_next, searched, ended, block_step, block_value}
 use Rattle.om_answer.proofs.BlockForms.{not_line, lines_head, lines_tail, width_no_pivots}
 
 -- the lines of a block in turn

@@ -2,19 +2,18 @@
 --
 -- Main definitions: ClaimState, claim_step, claim_value, ShowsClaim
 -- Main results: claim_from, claim_outcome, claim_fault_from, fault_claim_outcome, document_passes, document_fault
-use Rattle.std.proofs.Common.{◌≡◌, ℕ, zero, suc, ◌+◌, List, [], ◌∷◌, ◌++◌, Bool, true, false, cond, length, refl, sym, ap, subst, ◌∙◌, arith, inl, inr, append_assoc, append-nil}
-use Rattle.std.specs.Prelude.{Option, Some, None, Result, Ok, Err, codes, is_none}
-use Rattle.std.specs.List.{list_any, list_all}
+use Rattle.std.proofs.Common.{◌≡◌, ℕ, ◌+◌, List, [], ◌∷◌, ◌++◌, Bool, true, false, length, refl, sym, ap, subst, ◌∙◌, arith, inl, inr, append_assoc, append-nil}
+use Rattle.std.specs.Prelude.{Option, Some, None, Result, Ok, Err, codes}
+use Rattle.std.specs.List.{list_any}
 use Rattle.om_text.specs.declared.code.Code.{Code}
 use Rattle.om_text.specs.declared.code.Code.TheVariants as code
 use Rattle.om_text.specs.declared.document.Document.{Document}
 use Rattle.om_text.specs.declared.state.State.{State}
 use Rattle.om_text.specs.declared.state.State.TheVariants.{Start, Versioned, Open, Closed}
 use Rattle.om_text.specs.Lines.{words, wordful, has_any}
-use Rattle.om_text.specs.Steps.{step_if, advance_by, finish_by, then_lines, outcome_by}
-use Rattle.om_text.specs.Document.{IsSpelled, IsDocument, is_line, version_line, end_line, is_body_line}
+use Rattle.om_text.specs.Steps.{step_if, finish_by, then_lines, outcome_by}
+use Rattle.om_text.specs.Document.{IsSpelled, IsDocument, is_line, version_line, end_line}
 use Rattle.om_text.specs.Heading.{heading}
-use Rattle.om_text.specs.Fault.{place, table, first_of}
 use Rattle.om_text.specs.Reading.{step, value_of, outcome}
 use Rattle.om_text.proofs.Language.{run_words, bind, IsCompletion, wordful-append, value_outcome, outcome_value, outcome_fault, fault_outcome, outcome_passes}
 use Rattle.om_text.proofs.Course.{Shows, IsOpen, step_shows, step_error, spelled_run, no_end}
@@ -26,10 +25,9 @@ use Rattle.om_certificate.specs.declared.verdict.Verdict.TheVariants.{Realizable
 use Rattle.om_answer.specs.declared.claim.Claim.{Claim}
 use Rattle.om_answer.specs.declared.block.Block.{Block}
 use Rattle.om_answer.specs.declared.block.Block.TheVariants as block
-use Rattle.om_answer.specs.Block.{IsBlock}
 use Rattle.om_answer.specs.BlockReading.{block_step, block_value, block_outcome}
 use Rattle.om_answer.specs.Claim.{IsSpelledClaim, IsClaim}
-use Rattle.om_answer.specs.ClaimFault.{lines_after_end, code_after_document, code_by_end, claim_code, IsClaimFault}
+use Rattle.om_answer.specs.ClaimFault.{lines_after_end, claim_code, IsClaimFault}
 use Rattle.om_answer.proofs.BlockCourse.{IsPart, block_shows}
 use Rattle.om_answer.proofs.BlockFaults.{block_error}
 use Rattle.om_answer.proofs.BlockRuns.{run_block, block_runs, block_completes}

@@ -7,3 +7,4 @@ pub mod BlockFaults
 pub mod BlockRuns
 pub mod ClaimCourse
 pub mod ClaimReading
+pub mod ClaimSizes

@@ -2,7 +2,7 @@
 --
 -- Main definitions: continued
 -- Main results: no_word, other_number, next_number, last_number
-use Rattle.std.proofs.Common.{◌≡◌, ℕ, suc, ◌+◌, ◌<◌, ◌≤◌, List, true, false, not, [], ◌∷◌, ◌++◌, length, refl, sym, ap, ◌∙◌, drop, take, take-suc, take_all, get_or, append_assoc, append-nil, drop-cons, arith}
+use Rattle.std.proofs.Common.{◌≡◌, ℕ, suc, ◌+◌, ◌<◌, ◌≤◌, List, true, false, not, [], ◌∷◌, ◌++◌, length, refl, ap, drop, take, take-suc, take_all, get_or, append_assoc, append-nil, drop-cons, arith}
 use Rattle.std.specs.Prelude.{ℤ, Option, Some, None}
 use Rattle.std.proofs.lemmas.List.{drop_all}
 use Rattle.om_text.specs.Lines.{has_any}

@@ -1,18 +1,18 @@
 -- What is read from numbers that are in their ranges.
 --
 -- Main results: entry_read, vector_read
-use Rattle.std.proofs.Common.{◌≡◌, ℕ, suc, zero, ◌+◌, ◌≤◌, ◌<◌, ◌^◌, List, [], ◌∷◌, Bool, length, get_or, refl, ap, ◌∙◌, arith}
-use Rattle.std.specs.Prelude.{ℤ, pos, negsuc, ◌≤ℤ◌, unsigned_abs, Option, Some, None, FitsSigned}
+use Rattle.std.proofs.Common.{◌≡◌, ℕ, ◌≤◌, ◌<◌, ◌^◌, List, [], ◌∷◌, Bool, get_or, refl, ap, ◌∙◌, arith}
+use Rattle.std.specs.Prelude.{ℤ, pos, negsuc, unsigned_abs, Option, Some, None, FitsSigned}
 use Rattle.std.specs.Int.{w64, w128, cast_signed, cast_unsigned}
 use Rattle.std.specs.Option.{SomeIff}
 use Rattle.std.proofs.Math.Dec.{leb→le}
 use Rattle.std.proofs.lemmas.Int.{to_z-of_z}
-use Rattle.om_signs.specs.declared.limits.TheConstants.{MAX_ELEMENTS, MAX_MULTIPLICITY, MAX_COORDINATE}
+use Rattle.om_signs.specs.declared.limits.TheConstants.{MAX_ELEMENTS, MAX_MULTIPLICITY}
 use Rattle.om_vectors.specs.WholeVectors.{WholeVector, vector_of, IsWithinLimit, IsCoordinate}
 use Rattle.om_certificate.specs.declared.entry.Entry.{Entry}
-use Rattle.om_answer.specs.declared.range.Range.TheVariants.{Between, UpToSize}
+use Rattle.om_answer.specs.declared.range.Range.TheVariants.{Between}
 use Rattle.om_answer.specs.Numbers.{IsIn, AreIn}
-use Rattle.om_answer.specs.BlockLines.{entry_ranges, entry_from, vector_ranges, vector_from}
+use Rattle.om_answer.specs.BlockLines.{entry_ranges, entry_from}
 
 fits_between : (low high : ℕ) (z : ℤ) → high < 2 ^ 64 → IsIn (Between low high) z → FitsSigned w128 z
 fits_between low high (pos n) h i = let l : n ≤ high = leb→le n high i.1.le in let k : n < 2 ^ 127 = omega (arith, h, l) in record { sfits = k }

@@ -4,7 +4,6 @@
 use Rattle.std.specs.Prelude.{ℕ, ◌+◌, ℤ, List, [], ◌∷◌, Bool, true, false, cond, nat_lt, ◌&&◌, unsigned_abs, codes, Option, Some, None, bytes_eq, option_and_then}
 use Rattle.om_signs.specs.declared.limits.TheConstants.{MAX_ELEMENTS, MAX_COORDINATE, MAX_MULTIPLICITY, MAX_WEIGHT}
 use Rattle.om_vectors.specs.WholeVectors.{WholeVector}
-use Rattle.om_grassmann.specs.declared.statement.Statement.{Statement}
 use Rattle.om_simplex.specs.declared.stage.Stage.{Stage}
 use Rattle.om_simplex.specs.declared.stage.Stage.TheVariants as stage
 use Rattle.om_certificate.specs.declared.entry.Entry.{Entry}
@@ -12,7 +11,7 @@ use Rattle.om_certificate.specs.declared.weight.Weight.{Weight}
 use Rattle.om_certificate.specs.declared.lp_end.LpEnd.{LpEnd}
 use Rattle.om_certificate.specs.declared.lp_end.LpEnd.TheVariants as lp_end
 use Rattle.om_text.specs.Words.{plain}
-use Rattle.om_answer.specs.declared.block_lines.TheConstants.{MOST_PIVOTS, MOST_ROW, MOST_PLAIN}
+use Rattle.om_answer.specs.declared.block_lines.TheConstants.{MOST_PIVOTS, MOST_ROW, MOST_PLAIN, TERMS}
 use Rattle.om_answer.specs.declared.range.Range.{Range}
 use Rattle.om_answer.specs.declared.range.Range.TheVariants.{Between, UpToSize}
 use Rattle.om_answer.specs.Numbers.{numbers_within, with_item}
@@ -49,9 +48,13 @@ vector_from _ = None
 abbrev pub vector_of : List (List ℕ) → Option WholeVector
 vector_of w = option_and_then vector_from (named_numbers (codes "vector") vector_ranges w)
 
+-- the number of a term
+abbrev pub term : Range
+term = Between 1 TERMS
+
 -- five elements, a small side, a big side and a multiplicity
 abbrev pub entry_ranges : List Range
-entry_ranges = element ∷ element ∷ element ∷ element ∷ element ∷ Between 1 3 ∷ Between 1 3 ∷ Between 1 MAX_MULTIPLICITY ∷ []
+entry_ranges = element ∷ element ∷ element ∷ element ∷ element ∷ term ∷ term ∷ Between 1 MAX_MULTIPLICITY ∷ []
 
 abbrev pub entry_from : Bool → List ℤ → Option Entry
 entry_from strict (a ∷ b ∷ c ∷ d ∷ e ∷ small ∷ big ∷ times ∷ []) = Some (record {
@@ -122,7 +125,7 @@ abbrev pub width_from : Stage → List ℤ → Option LpEnd
 width_from s (p ∷ r ∷ c ∷ []) = Some (lp_end.Width s (unsigned_abs p) (unsigned_abs r) (unsigned_abs c))
 width_from s _ = None
 
--- the number of a pivot, a row and a place
+-- the number of a pivot, which may be one more than the most pivots, a row and a place
 abbrev pub width_ranges : List Range
 width_ranges = Between 0 (MOST_PIVOTS + 1) ∷ Between 0 MOST_ROW ∷ Between 0 MOST_PLAIN ∷ []
 

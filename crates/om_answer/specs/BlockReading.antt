@@ -1,10 +1,8 @@
 -- Reading a verdict block line by line: what the reader's loop follows. Not part of the definition of claims.
-use Rattle.std.specs.Prelude.{ℕ, List, [], ◌∷◌, ◌++◌, cond, nat_lt, length, codes, bytes_eq, Option, Some, None, Result, Ok, Err}
-use Rattle.om_vectors.specs.WholeVectors.{WholeVector}
+use Rattle.std.specs.Prelude.{ℕ, List, [], ◌∷◌, ◌++◌, cond, nat_lt, length, codes, Option, Some, None, Result, Ok, Err}
 use Rattle.om_vectors.specs.declared.unfound.Unfound.{Unfound}
 use Rattle.om_vectors.specs.declared.unfound.Unfound.TheVariants as unfound
 use Rattle.om_certificate.specs.declared.entry.Entry.{Entry}
-use Rattle.om_certificate.specs.declared.weight.Weight.{Weight}
 use Rattle.om_certificate.specs.declared.lp_end.LpEnd.{LpEnd}
 use Rattle.om_certificate.specs.declared.lp_end.LpEnd.TheVariants as lp_end
 use Rattle.om_certificate.specs.declared.verdict.Verdict.{Verdict}

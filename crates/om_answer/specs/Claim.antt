@@ -1,7 +1,10 @@
 -- Claims: a document and then a verdict block.
 --
 -- Trusted: `read_claim` promises exactly this.
-use Rattle.std.specs.Prelude.{ℕ, ◌≡◌, List, ◌++◌}
+use Rattle.std.specs.Prelude.{ℕ, ◌≡◌, List, ◌++◌, IfOk}
+use Rattle.om_certificate.specs.declared.verdict.Verdict.{Verdict}
+use Rattle.om_certificate.specs.Verdicts.{certificate_of}
+use Rattle.om_certificate.specs.Validity.{IsWithinLimits}
 use Rattle.om_text.specs.Lines.{wordful}
 use Rattle.om_text.specs.Document.{IsSpelled}
 use Rattle.om_answer.specs.Block.{IsBlock}
@@ -18,3 +21,7 @@ pub record IsSpelledClaim (ls : List (List (List ℕ))) (c : Claim) : Type 0 whe
 -- the lines are a claim, and c is its value
 abbrev pub IsClaim : List (List ℕ) → Claim → Type 0
 IsClaim ls c = IsSpelledClaim (wordful ls) c
+
+-- where the verdict hands on evidence, this is within the limits of the checker
+abbrev pub HasEvidenceWithinLimits : Verdict → Type 0
+HasEvidenceWithinLimits v = IfOk (certificate_of v) IsWithinLimits

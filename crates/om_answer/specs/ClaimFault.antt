@@ -1,7 +1,7 @@
 -- The first line at fault in a claim, and its code.
 --
 -- Trusted: which line is named for an input that is no claim, and with which code.
-use Rattle.std.specs.Prelude.{ℕ, zero, suc, List, [], ◌∷◌, Bool, cond, nat_le, ◌&&◌, ◌||◌, Option, Some, None, is_some}
+use Rattle.std.specs.Prelude.{ℕ, suc, List, [], ◌∷◌, Bool, cond, nat_le, ◌&&◌, ◌||◌, Option, Some, None, is_some}
 use Rattle.std.specs.List.{list_any}
 use Rattle.om_text.specs.declared.code.Code.{Code}
 use Rattle.om_text.specs.declared.code.Code.TheVariants as code
@@ -31,7 +31,8 @@ is_past p most ls w = p w && nat_le most (last_passing p 0 ls)
 abbrev pub goes_past : List (List (List ℕ)) → List (List ℕ) → Bool
 goes_past ls w = is_past (λ l. is_some (vector_of l)) MOST_VECTORS ls w || is_past (λ l. is_some (weight_of l)) MOST_WEIGHTS ls w
 
--- the code of a line in a block, after the verdict word and the lines ls: `many`, then `after`, then `entry`
+-- the code of a line in a block, after the verdict word and the lines ls: `after` behind the block's end, where nothing goes
+-- past a greatest number; before it `many`, and else `entry`
 abbrev pub code_in_block : List (List (List ℕ)) → List (List ℕ) → Code
 code_in_block ls w = cond (list_any (λ l. is_line l end_line) ls) code.After (cond (goes_past ls w) code.Many code.Entry)
 

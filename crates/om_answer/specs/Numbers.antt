@@ -26,6 +26,8 @@ numbers_within [] [] = Some []
 numbers_within (r ∷ rs) (w ∷ ws) = with_item (number_within r w) (numbers_within rs ws)
 numbers_within _ _ = None
 
+-- ---- what the reader asks of ranges and promises of numbers; no part of the definition of claims
+
 -- a range whose sizes the reader can hold
 abbrev pub IsReadable : Range → Type 0
 IsReadable (Between low high) = Unit {0}

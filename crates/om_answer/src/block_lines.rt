@@ -26,11 +26,14 @@ pub const MOST_ROW: u64 = 65_535;
 /// The greatest number of six digits.
 pub const MOST_PLAIN: u64 = 999_999;
 
+/// How many terms a statement has.
+pub const TERMS: u64 = 3;
+
 /// An element.
 const ELEMENT: Range = Range::Between(1, MAX_ELEMENTS as u64);
 
 /// One of the three terms of a statement.
-const TERM: Range = Range::Between(1, 3);
+const TERM: Range = Range::Between(1, TERMS);
 
 /// The words after a name, where a line begins with it.
 pub fn rest_after<'a>(name: &[u8], line: &'a [u8]) -> Option<&'a [u8]>

@@ -1,12 +1,13 @@
 //! Reading a claim: a document and then a verdict block.
 
 ghost use Rattle.std.specs.Prelude.{◌≡◌, ℕ, ◌*◌, ◌+◌, ◌-◌, ◌≤◌, ◌^◌, length, IfOk};
+ghost use Rattle.om_signs.specs.declared.limits.TheConstants.{MAX_INPUT};
 ghost use Rattle.om_text.specs.declared.code.Code.{Code};
 ghost use Rattle.om_text.specs.Lines.{lines};
 ghost use Rattle.om_text.specs.Parsed.{ComesTo, IfLine};
 ghost use Rattle.om_text.specs.Form.{IsInForm};
 ghost use Rattle.om_answer.specs.declared.claim.Claim.{Claim};
-ghost use Rattle.om_answer.specs.Claim.{IsClaim};
+ghost use Rattle.om_answer.specs.Claim.{IsClaim, HasEvidenceWithinLimits};
 ghost use Rattle.om_answer.specs.ClaimFault.{IsClaimFault};
 
 use super::block_reader::read_block;
@@ -28,6 +29,10 @@ pub fn read_claim(alloc: Global, bytes: &[u8]) -> Result<Claim, ParseError>
     requires { length bytes.now ≤ 2 ^ 32 - 2 }
     // What is read is a claim, with this value.
     ensures claim { IfOk result (λ c. IsClaim (lines bytes.now) c) }
+    // Its document has the forms of documents, within the limits.
+    ensures form { IfOk result (λ c. IsInForm c.document) }
+    // Of an input that isn't too long, its evidence is within the limits of the checker.
+    ensures evidence { length bytes.now ≤ MAX_INPUT → IfOk result (λ c. HasEvidenceWithinLimits c.verdict) }
     // A claim is read, unless memory runs out.
     ensures every { (c : Claim) → IsClaim (lines bytes.now) c → ComesTo result (Ok c) }
     // The line that is named is the first at fault, with its code.
