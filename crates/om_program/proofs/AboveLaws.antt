@@ -1,12 +1,12 @@
 -- The first element above a number.
 --
 -- Main results: the first element of a mask above n (first_found), and that there is none (none_found); a mask without elements above n (mask_below).
-use Rattle.std.specs.Prelude.{ℕ, ◌≡◌, ◌+◌, ◌*◌, ◌/◌, ◌%◌, ◌<◌, ◌≤◌, ◌^◌, List, [], ◌∷◌, Some, None, nat_lt, refl}
-use Rattle.std.proofs.Common.{zero, suc, arith, inl, inr, sym, subst, ◌∙◌, pow-suc}
+use Rattle.std.specs.Prelude.{ℕ, ◌≡◌, ◌+◌, ◌*◌, ◌/◌, ◌%◌, ◌<◌, ◌≤◌, ◌^◌, List, [], ◌∷◌, Some, None, refl}
+use Rattle.std.proofs.Common.{zero, suc, arith, inl, inr, sym, subst, pow-suc}
 use Rattle.std.proofs.lemmas.Bool.{cases_eq, cases_lt, eq-eqb, ne_eqb, lt-ltb, le-ltb}
 use Rattle.om_signs.specs.declared.limits.TheConstants.{MAX_ELEMENTS}
 use Rattle.om_subsets.specs.Subsets.{IsSubsetFrom, IsMember}
-use Rattle.om_subsets.specs.Members.{members, members-subset}
+use Rattle.om_subsets.specs.Members.{members}
 use Rattle.om_subsets.proofs.Order.{members_from}
 use Rattle.om_program.specs.Operations.{first_above}
 

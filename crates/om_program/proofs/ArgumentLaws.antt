@@ -1,9 +1,9 @@
 -- What no words, and one word alone, behind the first one of a command are read as.
-use Rattle.std.specs.Prelude.{ℕ, ◌≡◌, ◌<◌, ◌+◌, ◌↔◌, length, map, List, [], ◌∷◌, ◌++◌, refl, Bool, true, false, ◌==◌, suc, Result, Ok, Err, Option, Some, None}
+use Rattle.std.specs.Prelude.{ℕ, ◌≡◌, ◌<◌, length, map, List, [], ◌∷◌, refl, true, false, ◌==◌, suc, Ok, Err, Option, Some, None}
 use Rattle.std.proofs.Common.{arith, ap, subst, sym, ◌∙◌}
 use Rattle.std.proofs.lemmas.Bool.{false≢true, ne_eqb}
 use Rattle.om_program.specs.declared.usage.Usage.{Usage}
-use Rattle.om_program.specs.Words.{AreNone, IsAlone, Begins, IsFault, at_word, at_end, HasValue, IsRead}
+use Rattle.om_program.specs.Words.{AreNone, IsAlone, at_word, at_end, IsRead}
 use Rattle.om_program.proofs.WordLaws.{first_of, tail_of}
 
 too_long : (word : List ℕ) (words : List (List ℕ)) → word ∷ words ≡ [] → ⊥

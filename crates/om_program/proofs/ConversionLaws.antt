@@ -2,10 +2,11 @@
 --
 -- Main results: a document as itself (own_outcome); the circuits, cocircuits and covectors of a chirotope (circuits_outcome, cocircuits_outcome,
 -- covectors_outcome); the cocircuits of covectors (minimal_outcome).
-use Rattle.std.specs.Prelude.{ℕ, ℤ, ◌≡◌, ◌<◌, ◌↔◌, length, Bool, true, false, List, [], refl, Ok}
+use Rattle.std.specs.Prelude.{ℕ, ℤ, ◌≡◌, ◌↔◌, true, false, List, [], refl, Ok}
 use Rattle.std.specs.List.{Contains}
 use Rattle.std.proofs.Common.{sym, ◌∙◌, ap, subst, arith}
 use Rattle.std.proofs.lemmas.Bool.{false≢true}
+use Rattle.std.proofs.lemmas.List.{length-map}
 use Rattle.om_signs.specs.declared.limits.TheConstants.{MAX_MEMBERS}
 use Rattle.om_signs.specs.declared.sign.Sign.{Sign}
 use Rattle.om_signs.specs.declared.raw_map.RawMap.{RawMap}
@@ -13,7 +14,6 @@ use Rattle.om_chirotope.specs.Map.{SignMap, map_of}
 use Rattle.om_circuits.specs.SignedSets as sets
 use Rattle.om_circuits.specs.Axioms.{MeetsCircuitAxioms}
 use Rattle.om_covectors.specs.CovectorSets as covectors
-use Rattle.om_covectors.specs.Axioms.{MeetsCovectorAxioms}
 use Rattle.om_oriented.specs.Circuits.{IsCircuitOfChirotope, IsCocircuitOfChirotope}
 use Rattle.om_oriented.specs.Covectors.{IsCovectorOfChirotope, IsCovectorOfCircuits, IsCovectorOfCocircuits, IsCovectorOfCovectors}
 use Rattle.om_oriented.specs.Denotation.{DenoteTheSame}
@@ -27,8 +27,8 @@ use Rattle.om_answer.specs.declared.kind.Kind.TheVariants as kind
 use Rattle.om_program.specs.declared.representation.Representation.TheVariants as representation
 use Rattle.om_program.specs.Axioms.{MeetsAxioms}
 use Rattle.om_program.specs.Covectors.{IsOfBody, IsCovectorOfBody}
-use Rattle.om_program.specs.Points.{points_map}
-use Rattle.om_program.specs.Conversions.{has_kind, is_built, given, IsMemberAs, HasTooMany, HasMembersOf, IsConverted, IsOutcome}
+use Rattle.om_program.specs.Points.{points_map, vector_of_point}
+use Rattle.om_program.specs.Conversions.{has_kind, is_built, given, HasTooMany, HasMembersOf, IsOutcome}
 
 -- ---- a document as itself
 
@@ -115,15 +115,19 @@ abbrev pub given_document : Document → Document
 given_document d = record { elements = d.elements; body = given d.body }
 
 pub own_outcome : (k : Kind) (d e : Document) → e ≡ given_document d → IsInForm e → MeetsAxioms e.body → has_kind k d.body ≡ true → IsOutcome k d (Ok e)
-own_outcome k d e same form axioms own = (own_built k d.body own, own_few k d.body own, record {
-  form = form;
-  kind = rw same (own_kind k d.body own);
-  elements = ap (λ u. u.elements) same;
-  axioms = axioms;
-  same = λ x. rw same (own_covectors d.elements d.body x);
-  members = rw same (own_members d.body);
-  own = λ h. same;
-})
+own_outcome k d e same form axioms own = (
+  own_built k d.body own,
+  own_few k d.body own,
+  record {
+    form = form;
+    kind = rw same (own_kind k d.body own);
+    elements = ap (λ u. u.elements) same;
+    axioms = axioms;
+    same = λ x. rw same (own_covectors d.elements d.body x);
+    members = rw same (own_members d.body);
+    own = λ h. same;
+  },
+)
 
 -- ---- a chirotope as lists
 
@@ -131,7 +135,7 @@ abbrev pub map_document : RawMap → Document
 map_document m = record { elements = m.elements; body = body.Chirotope m }
 
 abbrev pub points_document : List (List ℤ) → Document
-points_document points = record { elements = length points; body = body.Points points }
+points_document points = record { elements = (points_map points).elements; body = body.Points points }
 
 abbrev pub circuits_document : sets.Listing → Document
 circuits_document s = record { elements = s.elements; body = body.Circuits s.members }
@@ -143,26 +147,34 @@ abbrev pub covectors_document : covectors.Listing → Document
 covectors_document s = record { elements = s.elements; body = body.Covectors s.members }
 
 at_circuits : (m : RawMap) (s : sets.Listing) → IsInForm (circuits_document s) → MeetsAxioms (body.Circuits s.members) → s.elements ≡ m.elements → AreAllOf (IsCircuitOfChirotope (map_of m)) s.members → DenoteTheSame m.elements (IsCovectorOfChirotope (map_of m)) (IsCovectorOfCircuits s) → (HasTooMany kind.Circuits (body.Chirotope m) → ⊥) → IsOutcome kind.Circuits (map_document m) (Ok (circuits_document s))
-at_circuits m s form axioms count members same few = (refl, few, record {
-  form = form;
-  kind = refl;
-  elements = count;
-  axioms = axioms;
-  same = λ x. (λ h. (same x h.size).0 h, λ q. (same x (q.size ∙ count)).1 q);
-  members = members;
-  own = λ h. no_two h;
-})
+at_circuits m s form axioms count members same few = (
+  refl,
+  few,
+  record {
+    form = form;
+    kind = refl;
+    elements = count;
+    axioms = axioms;
+    same = λ x. (λ h. (same x h.size).0 h, λ q. (same x (q.size ∙ count)).1 q);
+    members = members;
+    own = λ h. no_two h;
+  },
+)
 
-of_points_circuits : (points : List (List ℤ)) (s : sets.Listing) → IsInForm (circuits_document s) → MeetsAxioms (body.Circuits s.members) → s.elements ≡ length points → AreAllOf (IsCircuitOfChirotope (points_map points)) s.members → DenoteTheSame length points (IsCovectorOfChirotope (points_map points)) (IsCovectorOfCircuits s) → (HasTooMany kind.Circuits (body.Points points) → ⊥) → IsOutcome kind.Circuits (points_document points) (Ok (circuits_document s))
-of_points_circuits points s form axioms count members same few = (refl, few, record {
-  form = form;
-  kind = refl;
-  elements = count;
-  axioms = axioms;
-  same = λ x. (λ h. (same x h.size).0 h, λ q. (same x (q.size ∙ count)).1 q);
-  members = members;
-  own = λ h. no_two h;
-})
+of_points_circuits : (points : List (List ℤ)) (s : sets.Listing) → IsInForm (circuits_document s) → MeetsAxioms (body.Circuits s.members) → s.elements ≡ (points_map points).elements → AreAllOf (IsCircuitOfChirotope (points_map points)) s.members → DenoteTheSame (points_map points).elements (IsCovectorOfChirotope (points_map points)) (IsCovectorOfCircuits s) → (HasTooMany kind.Circuits (body.Points points) → ⊥) → IsOutcome kind.Circuits (points_document points) (Ok (circuits_document s))
+of_points_circuits points s form axioms count members same few = (
+  refl,
+  few,
+  record {
+    form = form;
+    kind = refl;
+    elements = count;
+    axioms = axioms;
+    same = λ x. (λ h. (same x h.size).0 h, λ q. (same x (q.size ∙ count)).1 q);
+    members = members;
+    own = λ h. no_two h;
+  },
+)
 
 pub circuits_outcome : (n : ℕ) (b : Body) (e : Document) (c : SignMap) (s : sets.Listing) → IsOfBody n b (representation.Chirotope c) → e ≡ circuits_document s → IsInForm e → MeetsAxioms e.body → s.elements ≡ c.elements → AreAllOf (IsCircuitOfChirotope c) s.members → DenoteTheSame c.elements (IsCovectorOfChirotope c) (IsCovectorOfCircuits s) → (HasMoreThan MAX_MEMBERS (IsCircuitOfChirotope c) → ⊥) → IsOutcome kind.Circuits (record { elements = n; body = b }) (Ok e)
 circuits_outcome n (body.Chirotope m) e c s (is, size) made form axioms count members same few =
@@ -170,7 +182,8 @@ circuits_outcome n (body.Chirotope m) e c s (is, size) made form axioms count me
     (subst (λ k. IsOutcome kind.Circuits (map_document m) (Ok k)) (sym made)
     (at_circuits m s (subst IsInForm made form) (subst (λ k. MeetsAxioms k.body) made axioms) (subst (λ k. s.elements ≡ k.elements) is count) (subst (λ k. AreAllOf (IsCircuitOfChirotope k) s.members) is members)
     (subst (λ k. DenoteTheSame k.elements (IsCovectorOfChirotope k) (IsCovectorOfCircuits s)) is same) (subst (λ k. HasMoreThan MAX_MEMBERS (IsCircuitOfChirotope k) → ⊥) is few)))
-circuits_outcome n (body.Points points) e c s (is, size) made form axioms count members same few =
+circuits_outcome n (body.Points points) e c s (is, total) made form axioms count members same few =
+    let size : (points_map points).elements ≡ n = length-map points vector_of_point ∙ total in
     subst (λ k. IsOutcome kind.Circuits (record { elements = k; body = body.Points points }) (Ok e)) size
     (subst (λ k. IsOutcome kind.Circuits (points_document points) (Ok k)) (sym made)
     (of_points_circuits points s (subst IsInForm made form) (subst (λ k. MeetsAxioms k.body) made axioms) (subst (λ k. s.elements ≡ k.elements) is count) (subst (λ k. AreAllOf (IsCircuitOfChirotope k) s.members) is members)
@@ -180,26 +193,34 @@ circuits_outcome n (body.Cocircuits members) e c s other made form axioms count 
 circuits_outcome n (body.Covectors members) e c s other made form axioms count all same few = absurd other
 
 at_cocircuits : (m : RawMap) (s : sets.Listing) → IsInForm (cocircuits_document s) → MeetsAxioms (body.Cocircuits s.members) → s.elements ≡ m.elements → AreAllOf (IsCocircuitOfChirotope (map_of m)) s.members → DenoteTheSame m.elements (IsCovectorOfChirotope (map_of m)) (IsCovectorOfCocircuits s) → (HasTooMany kind.Cocircuits (body.Chirotope m) → ⊥) → IsOutcome kind.Cocircuits (map_document m) (Ok (cocircuits_document s))
-at_cocircuits m s form axioms count members same few = (refl, few, record {
-  form = form;
-  kind = refl;
-  elements = count;
-  axioms = axioms;
-  same = λ x. (λ h. (same x h.size).0 h, λ q. (same x (q.size ∙ count)).1 q);
-  members = members;
-  own = λ h. no_two h;
-})
+at_cocircuits m s form axioms count members same few = (
+  refl,
+  few,
+  record {
+    form = form;
+    kind = refl;
+    elements = count;
+    axioms = axioms;
+    same = λ x. (λ h. (same x h.size).0 h, λ q. (same x (q.size ∙ count)).1 q);
+    members = members;
+    own = λ h. no_two h;
+  },
+)
 
-of_points_cocircuits : (points : List (List ℤ)) (s : sets.Listing) → IsInForm (cocircuits_document s) → MeetsAxioms (body.Cocircuits s.members) → s.elements ≡ length points → AreAllOf (IsCocircuitOfChirotope (points_map points)) s.members → DenoteTheSame length points (IsCovectorOfChirotope (points_map points)) (IsCovectorOfCocircuits s) → (HasTooMany kind.Cocircuits (body.Points points) → ⊥) → IsOutcome kind.Cocircuits (points_document points) (Ok (cocircuits_document s))
-of_points_cocircuits points s form axioms count members same few = (refl, few, record {
-  form = form;
-  kind = refl;
-  elements = count;
-  axioms = axioms;
-  same = λ x. (λ h. (same x h.size).0 h, λ q. (same x (q.size ∙ count)).1 q);
-  members = members;
-  own = λ h. no_two h;
-})
+of_points_cocircuits : (points : List (List ℤ)) (s : sets.Listing) → IsInForm (cocircuits_document s) → MeetsAxioms (body.Cocircuits s.members) → s.elements ≡ (points_map points).elements → AreAllOf (IsCocircuitOfChirotope (points_map points)) s.members → DenoteTheSame (points_map points).elements (IsCovectorOfChirotope (points_map points)) (IsCovectorOfCocircuits s) → (HasTooMany kind.Cocircuits (body.Points points) → ⊥) → IsOutcome kind.Cocircuits (points_document points) (Ok (cocircuits_document s))
+of_points_cocircuits points s form axioms count members same few = (
+  refl,
+  few,
+  record {
+    form = form;
+    kind = refl;
+    elements = count;
+    axioms = axioms;
+    same = λ x. (λ h. (same x h.size).0 h, λ q. (same x (q.size ∙ count)).1 q);
+    members = members;
+    own = λ h. no_two h;
+  },
+)
 
 pub cocircuits_outcome : (n : ℕ) (b : Body) (e : Document) (c : SignMap) (s : sets.Listing) → IsOfBody n b (representation.Chirotope c) → e ≡ cocircuits_document s → IsInForm e → MeetsAxioms e.body → s.elements ≡ c.elements → AreAllOf (IsCocircuitOfChirotope c) s.members → DenoteTheSame c.elements (IsCovectorOfChirotope c) (IsCovectorOfCocircuits s) → (HasMoreThan MAX_MEMBERS (IsCocircuitOfChirotope c) → ⊥) → IsOutcome kind.Cocircuits (record { elements = n; body = b }) (Ok e)
 cocircuits_outcome n (body.Chirotope m) e c s (is, size) made form axioms count members same few =
@@ -207,7 +228,8 @@ cocircuits_outcome n (body.Chirotope m) e c s (is, size) made form axioms count 
     (subst (λ k. IsOutcome kind.Cocircuits (map_document m) (Ok k)) (sym made)
     (at_cocircuits m s (subst IsInForm made form) (subst (λ k. MeetsAxioms k.body) made axioms) (subst (λ k. s.elements ≡ k.elements) is count) (subst (λ k. AreAllOf (IsCocircuitOfChirotope k) s.members) is members)
     (subst (λ k. DenoteTheSame k.elements (IsCovectorOfChirotope k) (IsCovectorOfCocircuits s)) is same) (subst (λ k. HasMoreThan MAX_MEMBERS (IsCocircuitOfChirotope k) → ⊥) is few)))
-cocircuits_outcome n (body.Points points) e c s (is, size) made form axioms count members same few =
+cocircuits_outcome n (body.Points points) e c s (is, total) made form axioms count members same few =
+    let size : (points_map points).elements ≡ n = length-map points vector_of_point ∙ total in
     subst (λ k. IsOutcome kind.Cocircuits (record { elements = k; body = body.Points points }) (Ok e)) size
     (subst (λ k. IsOutcome kind.Cocircuits (points_document points) (Ok k)) (sym made)
     (of_points_cocircuits points s (subst IsInForm made form) (subst (λ k. MeetsAxioms k.body) made axioms) (subst (λ k. s.elements ≡ k.elements) is count) (subst (λ k. AreAllOf (IsCocircuitOfChirotope k) s.members) is members)
@@ -217,26 +239,34 @@ cocircuits_outcome n (body.Cocircuits members) e c s other made form axioms coun
 cocircuits_outcome n (body.Covectors members) e c s other made form axioms count all same few = absurd other
 
 at_covectors : (m : RawMap) (s : covectors.Listing) → IsInForm (covectors_document s) → MeetsAxioms (body.Covectors s.members) → s.elements ≡ m.elements → AreAllOf (IsCovectorOfChirotope (map_of m)) s.members → DenoteTheSame m.elements (IsCovectorOfChirotope (map_of m)) (IsCovectorOfCovectors s) → (HasTooMany kind.Covectors (body.Chirotope m) → ⊥) → IsOutcome kind.Covectors (map_document m) (Ok (covectors_document s))
-at_covectors m s form axioms count members same few = (refl, few, record {
-  form = form;
-  kind = refl;
-  elements = count;
-  axioms = axioms;
-  same = λ x. (λ h. (same x h.size).0 h, λ q. (same x (q.size ∙ count)).1 q);
-  members = members;
-  own = λ h. no_two h;
-})
+at_covectors m s form axioms count members same few = (
+  refl,
+  few,
+  record {
+    form = form;
+    kind = refl;
+    elements = count;
+    axioms = axioms;
+    same = λ x. (λ h. (same x h.size).0 h, λ q. (same x (q.size ∙ count)).1 q);
+    members = members;
+    own = λ h. no_two h;
+  },
+)
 
-of_points_covectors : (points : List (List ℤ)) (s : covectors.Listing) → IsInForm (covectors_document s) → MeetsAxioms (body.Covectors s.members) → s.elements ≡ length points → AreAllOf (IsCovectorOfChirotope (points_map points)) s.members → DenoteTheSame length points (IsCovectorOfChirotope (points_map points)) (IsCovectorOfCovectors s) → (HasTooMany kind.Covectors (body.Points points) → ⊥) → IsOutcome kind.Covectors (points_document points) (Ok (covectors_document s))
-of_points_covectors points s form axioms count members same few = (refl, few, record {
-  form = form;
-  kind = refl;
-  elements = count;
-  axioms = axioms;
-  same = λ x. (λ h. (same x h.size).0 h, λ q. (same x (q.size ∙ count)).1 q);
-  members = members;
-  own = λ h. no_two h;
-})
+of_points_covectors : (points : List (List ℤ)) (s : covectors.Listing) → IsInForm (covectors_document s) → MeetsAxioms (body.Covectors s.members) → s.elements ≡ (points_map points).elements → AreAllOf (IsCovectorOfChirotope (points_map points)) s.members → DenoteTheSame (points_map points).elements (IsCovectorOfChirotope (points_map points)) (IsCovectorOfCovectors s) → (HasTooMany kind.Covectors (body.Points points) → ⊥) → IsOutcome kind.Covectors (points_document points) (Ok (covectors_document s))
+of_points_covectors points s form axioms count members same few = (
+  refl,
+  few,
+  record {
+    form = form;
+    kind = refl;
+    elements = count;
+    axioms = axioms;
+    same = λ x. (λ h. (same x h.size).0 h, λ q. (same x (q.size ∙ count)).1 q);
+    members = members;
+    own = λ h. no_two h;
+  },
+)
 
 pub covectors_outcome : (n : ℕ) (b : Body) (e : Document) (c : SignMap) (s : covectors.Listing) → IsOfBody n b (representation.Chirotope c) → e ≡ covectors_document s → IsInForm e → MeetsAxioms e.body → s.elements ≡ c.elements → AreAllOf (IsCovectorOfChirotope c) s.members → DenoteTheSame c.elements (IsCovectorOfChirotope c) (IsCovectorOfCovectors s) → (HasMoreThan MAX_MEMBERS (IsCovectorOfChirotope c) → ⊥) → IsOutcome kind.Covectors (record { elements = n; body = b }) (Ok e)
 covectors_outcome n (body.Chirotope m) e c s (is, size) made form axioms count members same few =
@@ -244,7 +274,8 @@ covectors_outcome n (body.Chirotope m) e c s (is, size) made form axioms count m
     (subst (λ k. IsOutcome kind.Covectors (map_document m) (Ok k)) (sym made)
     (at_covectors m s (subst IsInForm made form) (subst (λ k. MeetsAxioms k.body) made axioms) (subst (λ k. s.elements ≡ k.elements) is count) (subst (λ k. AreAllOf (IsCovectorOfChirotope k) s.members) is members)
     (subst (λ k. DenoteTheSame k.elements (IsCovectorOfChirotope k) (IsCovectorOfCovectors s)) is same) (subst (λ k. HasMoreThan MAX_MEMBERS (IsCovectorOfChirotope k) → ⊥) is few)))
-covectors_outcome n (body.Points points) e c s (is, size) made form axioms count members same few =
+covectors_outcome n (body.Points points) e c s (is, total) made form axioms count members same few =
+    let size : (points_map points).elements ≡ n = length-map points vector_of_point ∙ total in
     subst (λ k. IsOutcome kind.Covectors (record { elements = k; body = body.Points points }) (Ok e)) size
     (subst (λ k. IsOutcome kind.Covectors (points_document points) (Ok k)) (sym made)
     (of_points_covectors points s (subst IsInForm made form) (subst (λ k. MeetsAxioms k.body) made axioms) (subst (λ k. s.elements ≡ k.elements) is count) (subst (λ k. AreAllOf (IsCovectorOfChirotope k) s.members) is members)
@@ -256,15 +287,19 @@ covectors_outcome n (body.Covectors members) e c s other made form axioms count 
 -- ---- covectors as cocircuits
 
 at_minimal : (c : covectors.Listing) (s : sets.Listing) → IsInForm (cocircuits_document s) → MeetsCircuitAxioms s.members → s.elements ≡ c.elements → DenoteTheSame c.elements (Contains c.members) (IsCovectorOfCocircuits s) → IsOutcome kind.Cocircuits (covectors_document c) (Ok (cocircuits_document s))
-at_minimal c s form axioms count same = (refl, covectors_few kind.Cocircuits c.members, record {
-  form = form;
-  kind = refl;
-  elements = count;
-  axioms = axioms;
-  same = λ x. (λ h. (same x h.size).0 h.member, λ q. record { size = q.size ∙ count; member = (same x (q.size ∙ count)).1 q });
-  members = tt;
-  own = λ h. no_two h;
-})
+at_minimal c s form axioms count same = (
+  refl,
+  covectors_few kind.Cocircuits c.members,
+  record {
+    form = form;
+    kind = refl;
+    elements = count;
+    axioms = axioms;
+    same = λ x. (λ h. (same x h.size).0 h.member, λ q. record { size = q.size ∙ count; member = (same x (q.size ∙ count)).1 q });
+    members = tt;
+    own = λ h. no_two h;
+  },
+)
 
 pub minimal_outcome : (n : ℕ) (b : Body) (e : Document) (c : covectors.Listing) (s : sets.Listing) → IsOfBody n b (representation.Covectors c) → e ≡ cocircuits_document s → IsInForm e → MeetsAxioms e.body → s.elements ≡ c.elements → DenoteTheSame c.elements (Contains c.members) (IsCovectorOfCocircuits s) → IsOutcome kind.Cocircuits (record { elements = n; body = b }) (Ok e)
 minimal_outcome n (body.Covectors members) e c s is made form axioms count same =

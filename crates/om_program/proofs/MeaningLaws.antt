@@ -2,7 +2,7 @@
 --
 -- Main results: an answer that means something (answers), of one line (said); the answer and the cut-off answer of a task, from what was read and
 -- written (task_answer, task_cut_off), and of words (word_answer, word_cut_off).
-use Rattle.std.specs.Prelude.{ℕ, ◌≡◌, ◌<◌, ◌≤◌, ◌+◌, List, [], ◌∷◌, ◌++◌, length, take, Option, Some, None, IfOk, IfSome, Result, refl}
+use Rattle.std.specs.Prelude.{ℕ, ◌≡◌, ◌<◌, ◌+◌, List, ◌++◌, length, Option, Some, None, IfOk, IfSome, Result}
 use Rattle.std.proofs.Common.{sym, ◌∙◌, ap, subst, arith}
 use Rattle.std.specs.Io.KnownBytes.{Appends, Consumes, IsAtEnd}
 use Rattle.std.proofs.lemmas.Result.{IfOk-weaker}
@@ -15,9 +15,8 @@ use Rattle.om_answer.specs.declared.line.Line.TheVariants as line
 use Rattle.om_program.specs.declared.status.Status.{Status}
 use Rattle.om_program.specs.declared.status.Status.TheVariants as status
 use Rattle.om_program.specs.declared.reply.Reply.{Reply}
-use Rattle.om_answer.specs.Texts.{line_text}
 use Rattle.om_program.specs.Words.{Names, IsUsage}
-use Rattle.om_program.specs.Meaning.{Answer, Means, TaskMeans, says, usage, named}
+use Rattle.om_program.specs.Meaning.{Answer, Means, says, usage, named}
 use Rattle.om_program.specs.Run.{IsMeantBy, IsWhole, IsFront, IsCutOff, IsAnswer, IsCutOffAnswer, IsTaskAnswer, IsCutOffTask}
 
 pub answers : {E : Type 0} (r : Result Reply E) (a : Answer) (P : Answer → Type 0) → P a → IfOk r (λ reply. record { status = reply.status; text = reply.text.items } ≡ a) → IfOk r (λ reply. P (record { status = reply.status; text = reply.text.items }))

@@ -2,7 +2,8 @@
 --
 -- Main results: of_chirotope, of_circuits, of_cocircuits, of_covectors; the answer for a representation (meant_by).
 use Rattle.std.specs.Prelude.{ℕ, ◌≡◌, List, Result, IfOk}
-use Rattle.std.proofs.Common.{subst}
+use Rattle.std.proofs.Common.{subst, ◌∙◌}
+use Rattle.std.proofs.lemmas.List.{length-map}
 use Rattle.om_signs.specs.declared.sign.Sign.{Sign}
 use Rattle.om_chirotope.specs.Map.{SignMap, map_of}
 use Rattle.om_circuits.specs.SignedSets.{Listing}
@@ -17,7 +18,7 @@ use Rattle.std.proofs.lemmas.Result.{IfOk-weaker}
 use Rattle.om_text.specs.declared.document.Document.{Document}
 use Rattle.om_program.specs.declared.reply.Reply.{Reply}
 use Rattle.om_program.specs.declared.representation.Representation.{Representation}
-use Rattle.om_program.specs.Points.{points_map}
+use Rattle.om_program.specs.Points.{points_map, vector_of_point}
 use Rattle.om_program.specs.Covectors.{IsOfBody, IsCovectorOfBody, Represents, IsCovectorIn}
 use Rattle.om_program.specs.Meaning.{Answer, IsMembership}
 
@@ -25,7 +26,8 @@ pub of_chirotope : (n : ℕ) (b : Body) (c : SignMap) (x : List Sign) (answer : 
 of_chirotope n (body.Chirotope m) c x answer (same, size) h =
     subst (λ k. IsMembership k (IsCovectorOfChirotope (map_of m)) x answer) size
     (subst (λ k. IsMembership k.elements (IsCovectorOfChirotope k) x answer) same h)
-of_chirotope n (body.Points points) c x answer (same, size) h =
+of_chirotope n (body.Points points) c x answer (same, total) h =
+    let size : (points_map points).elements ≡ n = length-map points vector_of_point ∙ total in
     subst (λ k. IsMembership k (IsCovectorOfChirotope (points_map points)) x answer) size
     (subst (λ k. IsMembership k.elements (IsCovectorOfChirotope k) x answer) same h)
 of_chirotope n (body.Circuits members) c x answer other h = absurd other

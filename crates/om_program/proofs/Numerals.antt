@@ -2,11 +2,11 @@
 --
 -- Main results: the words that a loop has taken (taken_none, taken_more); a word at fault behind them (taken_fault), and their end (taken_end,
 -- taken_empty).
-use Rattle.std.specs.Prelude.{ℕ, ◌≡◌, ◌<◌, ◌≤◌, ◌+◌, ◌-◌, ◌^◌, ◌↔◌, ◌⊎◌, length, map, List, [], ◌∷◌, ◌++◌, refl, suc, Result, Ok, Err, Some}
+use Rattle.std.specs.Prelude.{ℕ, ◌≡◌, ◌<◌, ◌≤◌, ◌+◌, ◌^◌, ◌↔◌, ◌⊎◌, length, map, List, [], ◌∷◌, ◌++◌, refl, suc, Ok, Err, Some}
 use native.Mathlib.Numerals.{unary_clauses}
 use Rattle.std.specs.Fmt.{decimal}
 use Rattle.std.proofs.Common.{zero, get_or, drop, take, arith, ap, subst, sym, ◌∙◌, inl, inr, append-nil, lit≤}
-use Rattle.std.proofs.lemmas.Bool.{eq-eqb, ne_eqb, le-ltb}
+use Rattle.std.proofs.lemmas.Bool.{ne_eqb, le-ltb}
 use Rattle.std.proofs.lemmas.List.{map-append, length-map}
 use Rattle.std.proofs.lemmas.Fmt.{decimal_injective}
 use Rattle.om_signs.specs.declared.limits.TheConstants.{MAX_ELEMENTS}
@@ -15,7 +15,6 @@ use Rattle.om_subsets.specs.Lists.{IsIncreasing}
 use Rattle.om_subsets.specs.Members.{members, mask_of}
 use Rattle.om_subsets.proofs.Places.{members-zero}
 use Rattle.om_subsets.proofs.Statements.{subset_is_increasing}
-use Rattle.om_program.specs.declared.usage.Usage.{Usage}
 use Rattle.om_program.specs.Words.{IsElement, AreElements, Begins, IsFault, at_word, at_end, HasValue, IsRead}
 use Rattle.om_program.proofs.WordLaws.{first_of, tail_of}
 use Rattle.om_program.proofs.ArgumentLaws.{no_value, one_some}

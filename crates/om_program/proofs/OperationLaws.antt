@@ -2,11 +2,12 @@
 --
 -- Main results: an element above the number of elements (outside_meant), the only element (last_meant), the chirotope that is made (made_meant); lists
 -- (lists_not_built); words that name elements (names_elements).
-use Rattle.std.specs.Prelude.{ℕ, ◌≡◌, ◌<◌, ◌^◌, List, length, Some, None, true, false, refl, ◌⊎◌}
+use Rattle.std.specs.Prelude.{ℕ, ◌≡◌, ◌<◌, ◌^◌, List, Some, None, true, refl, ◌⊎◌}
 use Rattle.std.proofs.Common.{sym, subst, ◌∙◌, inl, inr}
+use Rattle.std.proofs.lemmas.List.{length-map}
 use Rattle.om_signs.specs.declared.limits.TheConstants.{MAX_ELEMENTS}
 use Rattle.om_subsets.proofs.Masks.{mask_of-lt}
-use Rattle.om_chirotope.specs.Map.{SignMap, map_of}
+use Rattle.om_chirotope.specs.Map.{SignMap}
 use Rattle.om_circuits.specs.declared.circuits.Circuits.{Circuits}
 use Rattle.om_circuits.specs.declared.cocircuits.Cocircuits.{Cocircuits}
 use Rattle.om_covectors.specs.CovectorSets as sets
@@ -23,15 +24,17 @@ use Rattle.om_program.specs.declared.status.Status.TheVariants as status
 use Rattle.om_program.specs.declared.task.Task.{Task}
 use Rattle.om_program.specs.declared.task.Task.TheVariants as task
 use Rattle.om_program.specs.Axioms.{MeetsAxioms}
-use Rattle.om_program.specs.Points.{map_document}
+use Rattle.om_program.specs.Points.{map_document, points_map, vector_of_point}
 use Rattle.om_program.specs.Covectors.{IsOfBody, Represents}
 use Rattle.om_program.specs.Operations.{NamesElements, IsChirotopeOf, named_elements, first_above, drops_element}
-use Rattle.om_program.specs.Words.{Names, IsAlone, IsElement, AreElements, AreArguments}
+use Rattle.om_program.specs.Words.{Names, AreArguments}
 use Rattle.om_program.specs.Meaning.{IsOperation, says, shows, not_built, outside, last, made}
 
 pub outside_meant : (o : Operation) (n : ℕ) (b : Body) (c : SignMap) (e : ℕ) → IsOfBody n b (representation.Chirotope c) → Some e ≡ first_above c.elements (named_elements o) → IsOperation o (record { elements = n; body = b }) (says status.Refused (line.RefusedPlace e))
 outside_meant o n (body.Chirotope m) c e (is, size) found = outside e refl (subst (λ k. first_above k (named_elements o) ≡ Some e) size (subst (λ k. first_above k.elements (named_elements o) ≡ Some e) is (sym found)))
-outside_meant o n (body.Points points) c e (is, size) found = outside e refl (subst (λ k. first_above k (named_elements o) ≡ Some e) size (subst (λ k. first_above k.elements (named_elements o) ≡ Some e) is (sym found)))
+outside_meant o n (body.Points points) c e (is, total) found =
+    let size : (points_map points).elements ≡ n = length-map points vector_of_point ∙ total in
+    outside e refl (subst (λ k. first_above k (named_elements o) ≡ Some e) size (subst (λ k. first_above k.elements (named_elements o) ≡ Some e) is (sym found)))
 outside_meant o n (body.Circuits members) c e other found = absurd other
 outside_meant o n (body.Cocircuits members) c e other found = absurd other
 outside_meant o n (body.Covectors members) c e other found = absurd other
@@ -39,7 +42,8 @@ outside_meant o n (body.Covectors members) c e other found = absurd other
 pub last_meant : (o : Operation) (n : ℕ) (b : Body) (c : SignMap) → IsOfBody n b (representation.Chirotope c) → None ≡ first_above c.elements (named_elements o) → drops_element o ≡ true → c.elements ≡ 1 → IsOperation o (record { elements = n; body = b }) (says status.Refused line.RefusedLastelement)
 last_meant o n (body.Chirotope m) c (is, size) none drops one =
     last refl (subst (λ k. first_above k (named_elements o) ≡ None) size (subst (λ k. first_above k.elements (named_elements o) ≡ None) is (sym none))) drops (subst (λ k. k ≡ 1) size (subst (λ k. k.elements ≡ 1) is one))
-last_meant o n (body.Points points) c (is, size) none drops one =
+last_meant o n (body.Points points) c (is, total) none drops one =
+    let size : (points_map points).elements ≡ n = length-map points vector_of_point ∙ total in
     last refl (subst (λ k. first_above k (named_elements o) ≡ None) size (subst (λ k. first_above k.elements (named_elements o) ≡ None) is (sym none))) drops (subst (λ k. k ≡ 1) size (subst (λ k. k.elements ≡ 1) is one))
 last_meant o n (body.Circuits members) c other none drops one = absurd other
 last_meant o n (body.Cocircuits members) c other none drops one = absurd other
@@ -51,9 +55,10 @@ made_meant o n (body.Chirotope k) c m e (is, size) none left whole same form axi
     (subst (λ u. IsOperation o (record { elements = k.elements; body = body.Chirotope k }) (shows u)) (sym same)
     (made (map_document m) refl (subst (λ u. first_above u.elements (named_elements o) ≡ None) is (sym none)) (subst (λ u. drops_element o ≡ true → u.elements ≡ 1 → ⊥) is left)
     (record { form = subst IsInForm same form; axioms = subst (λ u. MeetsAxioms u.body) same axioms; body = subst (λ u. IsChirotopeOf o u.elements (IsCovectorOfChirotope u) m) is whole })))
-made_meant o n (body.Points points) c m e (is, size) none left whole same form axioms =
+made_meant o n (body.Points points) c m e (is, total) none left whole same form axioms =
+    let size : (points_map points).elements ≡ n = length-map points vector_of_point ∙ total in
     subst (λ j. IsOperation o (record { elements = j; body = body.Points points }) (shows e)) size
-    (subst (λ u. IsOperation o (record { elements = length points; body = body.Points points }) (shows u)) (sym same)
+    (subst (λ u. IsOperation o (record { elements = (points_map points).elements; body = body.Points points }) (shows u)) (sym same)
     (made (map_document m) refl (subst (λ u. first_above u.elements (named_elements o) ≡ None) is (sym none)) (subst (λ u. drops_element o ≡ true → u.elements ≡ 1 → ⊥) is left)
     (record { form = subst IsInForm same form; axioms = subst (λ u. MeetsAxioms u.body) same axioms; body = subst (λ u. IsChirotopeOf o u.elements (IsCovectorOfChirotope u) m) is whole })))
 made_meant o n (body.Circuits members) c m e other none left whole same form axioms = absurd other
@@ -71,7 +76,6 @@ cocircuits_not_built : (o : Operation) (n : ℕ) (b : Body) (s : Cocircuits) →
 cocircuits_not_built o n (body.Cocircuits members) s is = not_built refl
 cocircuits_not_built o n (body.Chirotope m) s other = absurd other
 cocircuits_not_built o n (body.Points points) s other = absurd other
-circuits_not_built o n (body.Points points) s other = absurd other
 cocircuits_not_built o n (body.Circuits members) s other = absurd other
 cocircuits_not_built o n (body.Covectors members) s other = absurd other
 

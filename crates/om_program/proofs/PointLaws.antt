@@ -1,8 +1,8 @@
 -- Points as vectors within the limit.
 --
 -- Main results: the coordinates of a point (point_within); a list of vectors that is filled point by point (filled_none, filled_more, filled_all).
-use Rattle.std.specs.Prelude.{ℕ, ℤ, ◌≡◌, ◌+◌, ◌<◌, ◌≤◌, pos, List, [], ◌∷◌, ◌++◌, length, map, take, All, refl}
-use Rattle.std.proofs.Common.{zero, suc, arith, get_or, ap, sym, ◌∙◌, subst, lit≤}
+use Rattle.std.specs.Prelude.{ℕ, ℤ, ◌≡◌, ◌+◌, ◌<◌, ◌≤◌, pos, List, [], ◌∷◌, ◌++◌, length, map, take, refl}
+use Rattle.std.proofs.Common.{arith, get_or, ap, sym, ◌∙◌}
 use Rattle.std.proofs.lemmas.List.{map-append, length-map}
 use Rattle.om_vectors.specs.WholeVectors.{WholeVector, IsWithinLimit}
 use Rattle.om_text.specs.Form.{IsPoint}

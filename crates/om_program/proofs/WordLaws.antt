@@ -2,7 +2,7 @@
 --
 -- Main results: no words (no_words_at_fault); a first word that no command has (first_at_fault); of words behind a verb, from what they are read as
 -- to the task that is named (ok_named, err_named), for each verb (accept_shape, member_shape, ..).
-use Rattle.std.specs.Prelude.{ℕ, ◌≡◌, ◌<◌, ◌≤◌, ◌+◌, length, map, List, [], ◌∷◌, ◌++◌, codes, refl, cond, nat_eq, ◌↔◌, suc, Result, Ok, Err, IfErr, IsErrAnd}
+use Rattle.std.specs.Prelude.{ℕ, ◌≡◌, ◌<◌, ◌≤◌, ◌+◌, length, map, List, [], ◌∷◌, ◌++◌, codes, refl, cond, nat_eq, ◌↔◌, Result, Ok, Err, IfErr, IsErrAnd}
 use Rattle.std.proofs.Common.{get_or, drop, take, ◌-◌, arith, ap, subst, sym, ◌∙◌}
 use Rattle.std.proofs.Math.Seq.{take-length}
 use Rattle.om_signs.specs.declared.sign.Sign.{Sign}

@@ -1,8 +1,7 @@
 -- The axioms of each kind of document, and the line that names their first violated instance.
-use Rattle.std.specs.Prelude.{ℕ, ℤ, ◌≡◌, List}
+use Rattle.std.specs.Prelude.{ℤ, ◌≡◌, List}
 use Rattle.om_signs.specs.declared.sign.Sign.{Sign}
 use Rattle.om_signs.specs.declared.raw_map.RawMap.{RawMap}
-use Rattle.om_subsets.specs.Members.{Chosen}
 use Rattle.om_chirotope.specs.Map.{map_of}
 use Rattle.om_chirotope.specs.Chirotope as maps
 use Rattle.om_chirotope.specs.declared.map_refused.MapRefused.{MapRefused}

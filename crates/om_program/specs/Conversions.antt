@@ -1,5 +1,5 @@
 -- Documents of one kind as documents of another.
-use Rattle.std.specs.Prelude.{ℕ, ◌≡◌, ◌↔◌, List, Bool, true, false, Result, Ok, Err}
+use Rattle.std.specs.Prelude.{◌≡◌, ◌↔◌, List, Bool, true, false, Result, Ok, Err}
 use Rattle.om_signs.specs.declared.limits.TheConstants.{MAX_MEMBERS}
 use Rattle.om_signs.specs.declared.sign.Sign.{Sign}
 use Rattle.om_chirotope.specs.Map.{map_of}

@@ -1,5 +1,5 @@
 -- Points of a document as vectors, and the map of the signs of their triple products.
-use Rattle.std.specs.Prelude.{ℕ, ℤ, pos, List, map}
+use Rattle.std.specs.Prelude.{ℤ, pos, List, map}
 use Rattle.std.proofs.Common.{get_or}
 use Rattle.om_signs.specs.declared.raw_map.RawMap.{RawMap}
 use Rattle.om_chirotope.specs.Map.{SignMap}

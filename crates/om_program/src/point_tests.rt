@@ -8,10 +8,12 @@ use std::test::Fail;
 const POINTS: &str = "om 1\npoints 4\n1 0 0\n0 1 0\n0 0 1\n1 -1 1\nend\n";
 
 /// The nine points of Pappus' theorem.
-const PAPPUS_POINTS: &str = "om 1\npoints 9\n1 0 0\n1 2 0\n1 6 0\n1 0 2\n1 2 2\n1 6 2\n1 4 1\n1 3 1\n1 1 1\nend\n";
+const PAPPUS_POINTS: &str =
+    "om 1\npoints 9\n1 0 0\n1 2 0\n1 6 0\n1 0 2\n1 2 2\n1 6 2\n1 4 1\n1 3 1\n1 1 1\nend\n";
 
 /// The chirotope of Pappus' theorem.
-const PAPPUS: &str = "om 1\nchirotope 3 9\n0++++++++++++--------0-0++++++++++----0---+0+++++---0+-0++++++++\n0------------------0\nend\n";
+const PAPPUS: &str =
+    "om 1\nchirotope 3 9\n0++++++++++++--------0-0++++++++++----0---+0+++++---0+-0++++++++\n0------------------0\nend\n";
 
 #[test]
 fn points_work_as_their_chirotope(rt: HostRuntime) -> Result<(), Fail> {
@@ -22,16 +24,8 @@ fn points_work_as_their_chirotope(rt: HostRuntime) -> Result<(), Fail> {
         (&["convert", "chirotope"], POINTS, UNIFORM),
         (&["convert", "circuits"], POINTS, CIRCUITS),
         (&["convert", "cocircuits"], POINTS, COCIRCUITS),
-        (
-            &["dual"],
-            POINTS,
-            "om 1\nchirotope 1 4\n+-+-\nend\n",
-        ),
-        (
-            &["delete", "4"],
-            POINTS,
-            "om 1\nchirotope 3 3\n+\nend\n",
-        ),
+        (&["dual"], POINTS, "om 1\nchirotope 1 4\n+-+-\nend\n"),
+        (&["delete", "4"], POINTS, "om 1\nchirotope 3 3\n+\nend\n"),
         (
             &["contract", "1"],
             POINTS,
@@ -55,13 +49,7 @@ fn points_work_as_their_chirotope(rt: HostRuntime) -> Result<(), Fail> {
             "accepted\n",
         ),
     ] {
-        ends(
-            &rt,
-            rt.alloc(),
-            Case::new(words, input),
-            Status::Done,
-            text,
-        )?;
+        ends(&rt, rt.alloc(), Case::new(words, input), Status::Done, text)?;
     }
     Ok(())
 }

@@ -15,10 +15,7 @@ use om_vectors::{SignsError, Vector, Word, signs_of};
 use std::alloc::Global;
 
 /// The chirotope of the signs of the triple products of points, or why there is none.
-pub fn chirotope_of_points(
-    alloc: Global,
-    points: &[[i64; 3]],
-) -> Result<Chirotope, Unrepresented>
+pub fn chirotope_of_points(alloc: Global, points: &[[i64; 3]]) -> Result<Chirotope, Unrepresented>
     requires low { 1 ≤ length points.now }
     requires high { length points.now ≤ MAX_ELEMENTS }
     requires each { All IsPoint points.now }

@@ -1,4 +1,4 @@
-use Rattle.std.proofs.Common.{refl, sym, ap, ◌∙◌}
+use Rattle.std.proofs.Common.{refl, sym, ◌∙◌}
 use Rattle.om_program.proofs.ArgumentLaws.{alone_bad, alone_many, alone_read, none_some, one_some}
 use Rattle.om_program.proofs.argument.alone.Goals as goal
 

@@ -1,8 +1,4 @@
-use Rattle.std.specs.Prelude.{map, string_bytes}
-use Rattle.std.proofs.Common.{sym, subst}
-use Rattle.om_program.specs.Words.{IsAlone, IsRead}
 use Rattle.om_program.proofs.ArgumentLaws.{alone_empty}
-use Rattle.om_program.proofs.WordLaws.{first_and_rest}
 use Rattle.om_program.proofs.argument.only.Goals as goal
 
 pub returns-in-empty : goal.returns-in-empty

@@ -1,9 +1,7 @@
-use Rattle.std.specs.Prelude.{map, string_bytes}
-use Rattle.std.proofs.Common.{arith, refl, sym, subst, ◌∙◌, ◌+◌}
+use Rattle.std.proofs.Common.{refl, ◌∙◌}
 use Rattle.om_signs.specs.declared.limits.TheConstants.{MAX_ELEMENTS}
-use Rattle.om_subsets.specs.Members.{members}
 use Rattle.om_program.proofs.ArgumentLaws.{none_some}
-use Rattle.om_program.proofs.Numerals.{AreTaken, taken_none, taken_more, taken_fault, taken_empty, taken_end, item_at, length-words, length-words_end, no_members}
+use Rattle.om_program.proofs.Numerals.{taken_none, taken_more, taken_fault, taken_empty, taken_end, item_at, length-words, length-words_end, no_members}
 use Rattle.om_program.proofs.arguments.elements.Goals as goal
 
 pub loop-word-init : goal.loop-word-init

@@ -1,4 +1,4 @@
-use Rattle.std.specs.Prelude.{◌≡◌, ◌↔◌, ◌∷◌, Ok, Err, map, string_bytes, IfErr}
+use Rattle.std.specs.Prelude.{◌≡◌, ◌↔◌, ◌∷◌, Ok, map, string_bytes, IfErr}
 use Rattle.std.proofs.Common.{refl, sym, subst}
 use Rattle.om_program.specs.Words.{Names, IsUsage}
 use Rattle.om_program.proofs.ArgumentLaws.{none_some, no_value}

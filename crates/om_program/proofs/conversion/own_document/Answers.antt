@@ -1,6 +1,4 @@
-use Rattle.std.specs.Prelude.{◌≡◌}
 use Rattle.std.proofs.Common.{subst}
-use Rattle.om_program.specs.declared.representation.Representation.{Representation}
 use Rattle.om_program.specs.Covectors.{Represents}
 use Rattle.om_program.proofs.GivenLaws.{given_map, given_circuits, given_cocircuits, given_covectors}
 use Rattle.om_program.proofs.conversion.own_document.Goals as goal

@@ -1,4 +1,4 @@
-use Rattle.std.specs.Prelude.{◌≡◌, Some, None, true}
+use Rattle.std.specs.Prelude.{◌≡◌, true}
 use Rattle.std.proofs.Common.{sym, ap, ◌∙◌}
 use Rattle.std.proofs.lemmas.Bool.{false≢true}
 use Rattle.om_text.specs.declared.document.Document.{Document}
@@ -35,4 +35,4 @@ returns-clause-meant c =
     ] in
     let m = c.in_ok-made.made in
     answers _ (shows c.map_document.result) P (λ d represents.
-      made_meant c.args.operation d.elements d.body c.args.chirotope m _ represents none left c.in_ok-made.ensures c.map_document.ensures.map c.map_document.ensures.form c.map_document.ensures.axioms) c.show.ensures
+    made_meant c.args.operation d.elements d.body c.args.chirotope m _ represents none left c.in_ok-made.ensures c.map_document.ensures.map c.map_document.ensures.form c.map_document.ensures.axioms) c.show.ensures

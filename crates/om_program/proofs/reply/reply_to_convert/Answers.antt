@@ -1,4 +1,4 @@
-use Rattle.std.specs.Prelude.{◌≡◌, Err}
+use Rattle.std.specs.Prelude.{Err}
 use Rattle.std.proofs.Common.{sym, subst}
 use Rattle.om_text.specs.declared.document.Document.{Document}
 use Rattle.om_answer.specs.declared.line.Line.TheVariants as line
