@@ -4,6 +4,7 @@ use Rattle.std.proofs.Common.{zero, suc}
 use Rattle.std.specs.Fmt.{decimal}
 use Rattle.std.specs.List.{join_with_byte}
 use Rattle.om_subsets.specs.Members.{Chosen}
+use Rattle.om_grassmann.specs.declared.statement.Statement.{Statement}
 use Rattle.om_text.specs.declared.code.Code.{Code}
 use Rattle.om_text.specs.declared.code.Code.TheVariants as code
 use Rattle.om_answer.specs.declared.line.Line.{Line}
@@ -45,7 +46,7 @@ code_text code.Claim = codes "claim"
 code_text code.Entry = codes "entry"
 code_text code.Missing = codes "missing"
 
--- a number as a field, a subset as a field, and a code as a field
+-- a number as a field, a subset as a field, a code as a field, and a statement as seven fields
 abbrev pub number : ℕ → List ℕ
 number n = spaced (decimal n)
 
@@ -54,6 +55,9 @@ subset s = spaced (subset_text s.elements)
 
 abbrev pub coded : Code → List ℕ
 coded c = spaced (code_text c)
+
+abbrev pub stated : Statement → List ℕ
+stated st = number st.a ++ number st.b ++ number st.c ++ number st.d ++ number st.e ++ number st.small ++ number st.big
 
 -- the words of a line's name in lower case
 abbrev pub line_words : Line → List ℕ
@@ -88,6 +92,7 @@ line_words (line.RefusedUnlawful k) = codes "refused unlawful"
 line_words (line.RefusedUnbalanced t small big) = codes "refused unbalanced"
 line_words line.RefusedNostrict = codes "refused nostrict"
 line_words (line.RefusedBracket k) = codes "refused bracket"
+line_words (line.RefusedWeightfails st) = codes "refused weightfails"
 
 -- the fields of a line in their order
 abbrev pub line_fields : Line → List ℕ
@@ -108,6 +113,7 @@ line_fields (line.RefusedWrongsign t) = subset t
 line_fields (line.RefusedUnlawful k) = number k
 line_fields (line.RefusedUnbalanced t small big) = subset t ++ number small ++ number big
 line_fields (line.RefusedBracket k) = number k
+line_fields (line.RefusedWeightfails st) = stated st
 line_fields _ = []
 
 -- a line: the words of its name, and then its fields

@@ -3,9 +3,10 @@
 ghost use Rattle.std.specs.Prelude.{◌≡◌, ◌++◌, ◌∷◌, OnOk, map};
 ghost use Rattle.std.specs.List.{join_with_byte};
 ghost use Rattle.std.specs.Fmt.{decimal};
-ghost use Rattle.om_answer.specs.Texts.{code_text, subset_text, spaced, after_comma};
+ghost use Rattle.om_answer.specs.Texts.{code_text, subset_text, spaced, stated, after_comma};
 
 use itoa::Buffer;
+use om_grassmann::Statement;
 use om_signs::NoMemory;
 use om_subsets::Subset;
 use om_text::Code;
@@ -62,6 +63,19 @@ pub fn push_code(text: &mut Vec<u8>, code: Code) -> Result<(), NoMemory>
         Code::Entry => push(text, b"entry"),
         Code::Missing => push(text, b"missing"),
     }
+}
+
+/// Puts the five elements and the two sides of a statement at the end, each behind a space.
+pub fn push_statement(text: &mut Vec<u8>, statement: Statement) -> Result<(), NoMemory>
+    ensures { OnOk result (text.new.items ≡ text.old.items ++ stated statement) }
+{
+    push_number(text, u128::from(statement.a))?;
+    push_number(text, u128::from(statement.b))?;
+    push_number(text, u128::from(statement.c))?;
+    push_number(text, u128::from(statement.d))?;
+    push_number(text, u128::from(statement.e))?;
+    push_number(text, u128::from(statement.small))?;
+    push_number(text, u128::from(statement.big))
 }
 
 /// Puts a space and the elements of a subset, joined by commas, at the end, and `none` for the empty one.

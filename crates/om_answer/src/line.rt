@@ -1,3 +1,4 @@
+use om_grassmann::Statement;
 use om_subsets::Subset;
 use om_text::Code;
 
@@ -109,5 +110,9 @@ pub enum Line {
     /// Weight `entry`, counted from 1, isn't that of the bracket whose turn it is.
     RefusedBracket {
         entry: u32,
+    },
+    /// The first lawful statement that the weights don't meet.
+    RefusedWeightfails {
+        statement: Statement,
     },
 }

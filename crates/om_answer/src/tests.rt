@@ -3,6 +3,7 @@
 ghost use Rattle.std.specs.Prelude.{◌<◌};
 
 use super::{Line, print_line};
+use om_grassmann::Statement;
 use om_subsets::Subset;
 use om_text::Code;
 use std::alloc::Global;
@@ -74,6 +75,21 @@ fn lines_with_numbers(rt: HostRuntime) -> Result<(), Fail> {
         ),
         (Line::RefusedUnlawful { entry: 7 }, "refused unlawful 7\n"),
         (Line::RefusedBracket { entry: 10 }, "refused bracket 10\n"),
+        (
+            Line::RefusedWeightfails {
+                statement: Statement {
+                    a: 1,
+                    b: 2,
+                    c: 3,
+                    d: 4,
+                    e: 15,
+                    small: 2,
+                    big: 3,
+                    strict: true,
+                },
+            },
+            "refused weightfails 1 2 3 4 15 2 3\n",
+        ),
     ] {
         prints(&rt, rt.alloc(), line, text)?;
     }

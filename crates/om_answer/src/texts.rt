@@ -1,7 +1,7 @@
 ghost use Rattle.std.specs.Prelude.{◌≡◌, ◌++◌, IfOk, OnOk};
 ghost use Rattle.om_answer.specs.Texts.{line_text, line_words, line_fields};
 
-use super::fields::{push, push_code, push_number, push_subset};
+use super::fields::{push, push_code, push_number, push_statement, push_subset};
 use super::line::Line;
 use om_signs::NoMemory;
 use std::alloc::Global;
@@ -56,6 +56,7 @@ fn words_of(line: &Line) -> &'static str
         Line::RefusedUnbalanced { .. } => "refused unbalanced",
         Line::RefusedNostrict => "refused nostrict",
         Line::RefusedBracket { .. } => "refused bracket",
+        Line::RefusedWeightfails { .. } => "refused weightfails",
     }
 }
 
@@ -108,6 +109,7 @@ fn push_fields(text: &mut Vec<u8>, line: &Line) -> Result<(), NoMemory>
             push_number(text, *big)
         }
         Line::RefusedBracket { entry } => push_number(text, u128::from(*entry)),
+        Line::RefusedWeightfails { statement } => push_statement(text, *statement),
         _ => Ok(()),
     }
 }
