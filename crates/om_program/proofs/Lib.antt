@@ -1,5 +1,6 @@
 mod AboveLaws
 mod ArgumentLaws
+mod ClaimLaws
 mod ConversionLaws
 mod GivenLaws
 mod MeaningLaws

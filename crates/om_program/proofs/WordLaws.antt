@@ -9,7 +9,7 @@ use Rattle.om_signs.specs.declared.sign.Sign.{Sign}
 use Rattle.om_answer.specs.declared.kind.Kind.{Kind}
 use Rattle.om_answer.specs.declared.kind.Kind.TheVariants as kind
 use Rattle.om_program.specs.declared.task.Task.{Task}
-use Rattle.om_program.specs.declared.task.Task.TheVariants.{Accept, Member, Convert, Dual, Delete, Contract, Reorient}
+use Rattle.om_program.specs.declared.task.Task.TheVariants.{Accept, Member, Convert, Dual, Delete, Contract, Reorient, Check}
 use Rattle.om_program.specs.declared.usage.Usage.{Usage}
 use Rattle.om_program.specs.declared.verb.Verb.{Verb}
 use Rattle.om_program.specs.declared.verb.Verb.TheVariants as verb
@@ -26,7 +26,7 @@ first_of (word ∷ words) = word
 -- ---- verbs and kinds are told by their words
 
 abbrev by_fourth : ℕ → Verb
-by_fourth b = cond (nat_eq b 98) verb.Member (cond (nat_eq b 118) verb.Convert (cond (nat_eq b 108) verb.Dual (cond (nat_eq b 101) verb.Delete (cond (nat_eq b 116) verb.Contract verb.Reorient))))
+by_fourth b = cond (nat_eq b 98) verb.Member (cond (nat_eq b 118) verb.Convert (cond (nat_eq b 108) verb.Dual (cond (nat_eq b 101) verb.Delete (cond (nat_eq b 116) verb.Contract (cond (nat_eq b 114) verb.Reorient verb.Check)))))
 
 abbrev read_verb : List ℕ → Verb
 read_verb word = cond (nat_eq (get_or word 0 0) 97) verb.Accept (by_fourth (get_or word 3 0))
@@ -39,6 +39,7 @@ verb_back verb.Dual = refl
 verb_back verb.Delete = refl
 verb_back verb.Contract = refl
 verb_back verb.Reorient = refl
+verb_back verb.Check = refl
 
 pub same_verb : (u v : Verb) → verb_word u ≡ verb_word v → u ≡ v
 same_verb u v same = sym (verb_back u) ∙ ap read_verb same ∙ verb_back v
@@ -186,6 +187,7 @@ accept_shape = record { verb = λ a. refl; arguments = λ a words. (λ h. h, λ 
     only (Delete e) same = cc
     only (Contract e) same = cc
     only (Reorient mask) same = cc
+    only Check same = cc
 
 pub dual_shape : IsShape verb.Dual AreNone (λ _. Dual)
 dual_shape = record { verb = λ a. refl; arguments = λ a words. (λ h. h, λ h. h); only = only }
@@ -198,6 +200,20 @@ dual_shape = record { verb = λ a. refl; arguments = λ a words. (λ h. h, λ h.
     only (Delete e) same = cc
     only (Contract e) same = cc
     only (Reorient mask) same = cc
+    only Check same = cc
+
+pub check_shape : IsShape verb.Check AreNone (λ _. Check)
+check_shape = record { verb = λ a. refl; arguments = λ a words. (λ h. h, λ h. h); only = only }
+  where
+    only : (task : Task) → verb_of task ≡ verb.Check → (a : Unit {0}) × (task ≡ Check)
+    only Accept same = cc
+    only (Member x) same = cc
+    only (Convert k) same = cc
+    only Dual same = cc
+    only (Delete e) same = cc
+    only (Contract e) same = cc
+    only (Reorient mask) same = cc
+    only Check same = (tt, refl)
 
 pub member_shape : IsShape verb.Member (IsAlone Spells) Member
 member_shape = record { verb = λ a. refl; arguments = λ a words. (λ h. h, λ h. h); only = only }
@@ -210,6 +226,7 @@ member_shape = record { verb = λ a. refl; arguments = λ a words. (λ h. h, λ 
     only (Delete e) same = cc
     only (Contract e) same = cc
     only (Reorient mask) same = cc
+    only Check same = cc
 
 pub convert_shape : IsShape verb.Convert (IsAlone NamesKind) Convert
 convert_shape = record { verb = λ a. refl; arguments = λ a words. (λ h. h, λ h. h); only = only }
@@ -222,6 +239,7 @@ convert_shape = record { verb = λ a. refl; arguments = λ a words. (λ h. h, λ
     only (Delete e) same = cc
     only (Contract e) same = cc
     only (Reorient mask) same = cc
+    only Check same = cc
 
 pub delete_shape : IsShape verb.Delete (IsAlone IsElement) Delete
 delete_shape = record { verb = λ a. refl; arguments = λ a words. (λ h. h, λ h. h); only = only }
@@ -234,6 +252,7 @@ delete_shape = record { verb = λ a. refl; arguments = λ a words. (λ h. h, λ 
     only (Delete e) same = (e, refl)
     only (Contract e) same = cc
     only (Reorient mask) same = cc
+    only Check same = cc
 
 pub contract_shape : IsShape verb.Contract (IsAlone IsElement) Contract
 contract_shape = record { verb = λ a. refl; arguments = λ a words. (λ h. h, λ h. h); only = only }
@@ -246,6 +265,7 @@ contract_shape = record { verb = λ a. refl; arguments = λ a words. (λ h. h, �
     only (Delete e) same = cc
     only (Contract e) same = (e, refl)
     only (Reorient mask) same = cc
+    only Check same = cc
 
 pub reorient_shape : IsShape verb.Reorient AreElements Reorient
 reorient_shape = record { verb = λ a. refl; arguments = λ a words. (λ h. h, λ h. h); only = only }
@@ -258,6 +278,7 @@ reorient_shape = record { verb = λ a. refl; arguments = λ a words. (λ h. h, �
     only (Delete e) same = cc
     only (Contract e) same = cc
     only (Reorient mask) same = (mask, refl)
+    only Check same = cc
 
 -- ---- a list of words and its first word
 

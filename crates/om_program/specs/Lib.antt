@@ -1,9 +1,11 @@
 pub mod Words
 pub mod Samples
+pub mod Tasks
 pub mod Points
 pub mod Axioms
 pub mod Covectors
 pub mod Conversions
 pub mod Operations
+pub mod Claims
 pub mod Meaning
 pub mod Run

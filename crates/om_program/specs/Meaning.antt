@@ -9,7 +9,7 @@ use Rattle.om_text.specs.Lines.{lines}
 use Rattle.om_text.specs.Document.{IsDocument}
 use Rattle.om_text.specs.Fault.{IsFault}
 use Rattle.om_program.specs.declared.task.Task.{Task}
-use Rattle.om_program.specs.declared.task.Task.TheVariants.{Accept, Member, Convert, Dual, Delete, Contract, Reorient}
+use Rattle.om_program.specs.declared.task.Task.TheVariants.{Accept, Member, Convert, Dual, Delete, Contract, Reorient, Check}
 use Rattle.om_answer.specs.declared.line.Line.{Line}
 use Rattle.om_answer.specs.declared.line.Line.TheVariants as line
 use Rattle.om_program.specs.declared.status.Status.{Status}
@@ -24,6 +24,11 @@ use Rattle.om_program.specs.Conversions.{is_built, HasTooMany, IsConverted}
 use Rattle.om_program.specs.declared.operation.Operation.{Operation}
 use Rattle.om_program.specs.declared.operation.Operation.TheVariants as operation
 use Rattle.om_program.specs.Operations.{is_operable, named_elements, first_above, drops_element, IsMade}
+use Rattle.om_answer.specs.declared.claim.Claim.{Claim}
+use Rattle.om_answer.specs.Claim.{IsClaim}
+use Rattle.om_answer.specs.ClaimFault.{IsClaimFault}
+use Rattle.om_program.specs.Tasks.{reads_claim}
+use Rattle.om_program.specs.Claims.{ClaimMeans}
 
 -- an answer: a status and a text
 pub record Answer : Type 0 where
@@ -65,7 +70,7 @@ pub data IsOperation (o : Operation) (d : Document) : Answer → Type 0 where
   -- the canonical form of the normal chirotope that it makes
   made : (e : Document) → is_operable d.body ≡ true → first_above d.elements (named_elements o) ≡ None → (drops_element o ≡ true → d.elements ≡ 1 → ⊥) → IsMade o d e → IsOperation o d (shows e)
 
--- the answer to a task on a document that meets its axioms
+-- the answer to a task on a document that meets its axioms; a check asks for a claim
 abbrev pub IsAnswerOf : Task → Document → Answer → Type 0
 IsAnswerOf Accept d answer = answer ≡ says status.Done line.Accepted
 IsAnswerOf (Member x) d answer = IsMembership d.elements (IsCovectorIn d) x answer
@@ -74,6 +79,7 @@ IsAnswerOf Dual d answer = IsOperation operation.Dual d answer
 IsAnswerOf (Delete e) d answer = IsOperation (operation.Delete e) d answer
 IsAnswerOf (Contract e) d answer = IsOperation (operation.Contract e) d answer
 IsAnswerOf (Reorient mask) d answer = IsOperation (operation.Reorient mask) d answer
+IsAnswerOf Check d answer = ⊥
 
 -- what a task means for a document
 pub data DocumentMeans (task : Task) (d : Document) : Answer → Type 0 where
@@ -86,10 +92,14 @@ pub data DocumentMeans (task : Task) (d : Document) : Answer → Type 0 where
 pub data TaskMeans (task : Task) (bytes : List ℕ) : Answer → Type 0 where
   -- the input is longer than the limit
   long : MAX_INPUT < length bytes → TaskMeans task bytes (says status.Refused line.RefusedLong)
-  -- a line is at fault
-  faulty : (n : ℕ) (c : Code) → length bytes ≤ MAX_INPUT → IsFault (lines bytes) n c → TaskMeans task bytes (says status.Refused (line.RefusedLine n c))
+  -- the task asks for a document, and a line is at fault
+  faulty : (n : ℕ) (c : Code) → reads_claim task ≡ false → length bytes ≤ MAX_INPUT → IsFault (lines bytes) n c → TaskMeans task bytes (says status.Refused (line.RefusedLine n c))
   -- the input is a document
-  read : (d : Document) (answer : Answer) → length bytes ≤ MAX_INPUT → IsDocument (lines bytes) d → DocumentMeans task d answer → TaskMeans task bytes answer
+  read : (d : Document) (answer : Answer) → reads_claim task ≡ false → length bytes ≤ MAX_INPUT → IsDocument (lines bytes) d → DocumentMeans task d answer → TaskMeans task bytes answer
+  -- the task asks for a claim, and a line is at fault
+  faulty_claim : (n : ℕ) (c : Code) → reads_claim task ≡ true → length bytes ≤ MAX_INPUT → IsClaimFault (lines bytes) n c → TaskMeans task bytes (says status.Refused (line.RefusedLine n c))
+  -- the input is a claim
+  claimed : (c : Claim) (s : Status) (l : Line) → reads_claim task ≡ true → length bytes ≤ MAX_INPUT → IsClaim (lines bytes) c → ClaimMeans c s l → TaskMeans task bytes (says s l)
 
 -- what words and an input mean
 pub data Means (words : List (List ℕ)) (bytes : List ℕ) : Answer → Type 0 where

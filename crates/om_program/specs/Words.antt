@@ -10,7 +10,7 @@ use Rattle.om_text.specs.Words.{is_sign, sign_of_byte}
 use Rattle.om_answer.specs.declared.kind.Kind.{Kind}
 use Rattle.om_answer.specs.declared.kind.Kind.TheVariants as kind
 use Rattle.om_program.specs.declared.task.Task.{Task}
-use Rattle.om_program.specs.declared.task.Task.TheVariants.{Accept, Member, Convert, Dual, Delete, Contract, Reorient}
+use Rattle.om_program.specs.declared.task.Task.TheVariants.{Accept, Member, Convert, Dual, Delete, Contract, Reorient, Check}
 use Rattle.om_program.specs.declared.usage.Usage.{Usage}
 use Rattle.om_program.specs.declared.verb.Verb.{Verb}
 use Rattle.om_program.specs.declared.verb.Verb.TheVariants as verb
@@ -64,6 +64,7 @@ verb_of Dual = verb.Dual
 verb_of (Delete e) = verb.Delete
 verb_of (Contract e) = verb.Contract
 verb_of (Reorient mask) = verb.Reorient
+verb_of Check = verb.Check
 
 abbrev pub verb_word : Verb → List ℕ
 verb_word verb.Accept = codes "accept"
@@ -73,6 +74,7 @@ verb_word verb.Dual = codes "dual"
 verb_word verb.Delete = codes "delete"
 verb_word verb.Contract = codes "contract"
 verb_word verb.Reorient = codes "reorient"
+verb_word verb.Check = codes "check"
 
 -- the words behind the first one are those of the task
 abbrev pub AreArguments : Task → List (List ℕ) → Type 0
@@ -83,6 +85,7 @@ AreArguments Dual words = AreNone words tt
 AreArguments (Delete e) words = IsAlone IsElement words e
 AreArguments (Contract e) words = IsAlone IsElement words e
 AreArguments (Reorient mask) words = AreElements words mask
+AreArguments Check words = AreNone words tt
 
 -- the words name the task
 pub record Names (words : List (List ℕ)) (task : Task) : Type 0 where

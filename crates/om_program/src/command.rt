@@ -47,5 +47,9 @@ fn after_verb(verb: Verb, rest: &[String]) -> Result<Task, Usage>
         Verb::Delete => Ok(Task::Delete(only(rest)?)),
         Verb::Contract => Ok(Task::Contract(only(rest)?)),
         Verb::Reorient => Ok(Task::Reorient(elements(rest)?)),
+        Verb::Check => {
+            none(rest)?;
+            Ok(Task::Check)
+        }
     }
 }

@@ -3,9 +3,12 @@
 
 mod argument;
 mod arguments;
+#[cfg(test)]
+mod claim_tests;
 mod command;
 mod conversion;
 mod documents;
+mod finding;
 #[cfg(test)]
 mod map_tests;
 mod operation;
@@ -24,6 +27,7 @@ mod unconverted;
 mod unrepresented;
 mod usage;
 mod verb;
+mod verification;
 mod write_usage;
 mod written;
 

@@ -1,9 +1,12 @@
-ghost use Rattle.std.specs.Prelude.{◌≡◌, ◌<◌, ◌≤◌, ℕ, List, IfOk, length};
+ghost use Rattle.std.specs.Prelude.{◌≡◌, ◌<◌, ◌≤◌, ℕ, List, IfOk, length, false};
 ghost use Rattle.om_program.specs.Meaning.{TaskMeans, DocumentMeans, IsAnswerOf, IsMembership, IsConversion, IsOperation, says, shows};
 ghost use Rattle.om_program.specs.Axioms.{MeetsAxioms};
 ghost use Rattle.om_program.specs.Covectors.{Represents, IsCovectorIn};
 ghost use Rattle.om_program.specs.Operations.{IsLawful, NamesElements};
+ghost use Rattle.om_program.specs.Tasks.{reads_claim};
+ghost use Rattle.om_text.specs.Lines.{lines};
 ghost use Rattle.om_text.specs.Form.{IsInForm};
+ghost use Rattle.om_answer.specs.Claim.{IsClaim, HasEvidenceWithinLimits};
 ghost use Rattle.om_text.specs.declared.document.Document.{Document};
 ghost use Rattle.om_program.specs.Run.{IsAnswered};
 
@@ -12,10 +15,11 @@ use crate::documents::map_document;
 use crate::operation::{Operation, operated, place_above, takes_element};
 use crate::representation::{Representation, represented};
 use crate::status::Status;
-use crate::task::Task;
+use crate::task::{Task, reads_claim};
 use crate::unconverted::Unconverted;
 use crate::unrepresented::Unrepresented;
-use om_answer::{Kind, Line, print_line};
+use crate::verification::verified;
+use om_answer::{Claim, Kind, Line, print_line, read_claim};
 use om_chirotope::Chirotope;
 use om_oriented::Oriented;
 use om_signs::{MAX_INPUT, NoMemory, SignVec};
@@ -50,6 +54,26 @@ pub fn reply_to<R: Threads + Sync>(
     ensures meant { IfOk result (λ reply. TaskMeans task bytes.now (record { status = reply.status; text = reply.text.items })) }
     ensures answered { IfOk result (λ reply. IsAnswered reply.status) }
 {
+    if reads_claim(&task) {
+        reply_to_claim(rt, alloc, bytes)
+    } else {
+        reply_to_query(rt, alloc, task, bytes)
+    }
+}
+
+/// The answer to a task that asks for a document.
+fn reply_to_query<R: Threads + Sync>(
+    rt: &R,
+    alloc: Global,
+    task: Task,
+    bytes: &[u8],
+) -> Result<Reply, NoMemory>
+    requires short { length bytes.now ≤ MAX_INPUT }
+    requires lawful { NamesElements task }
+    requires document { reads_claim task ≡ false }
+    ensures meant { IfOk result (λ reply. TaskMeans task bytes.now (record { status = reply.status; text = reply.text.items })) }
+    ensures answered { IfOk result (λ reply. IsAnswered reply.status) }
+{
     match parse(alloc, bytes) {
         Ok(document) => reply_to_document(rt, alloc, task, document),
         Err(ParseError::Line { line, code }) => {
@@ -57,6 +81,33 @@ pub fn reply_to<R: Threads + Sync>(
         }
         Err(ParseError::Memory) => Err(NoMemory),
     }
+}
+
+/// The answer to a check.
+fn reply_to_claim<R: Threads + Sync>(rt: &R, alloc: Global, bytes: &[u8]) -> Result<Reply, NoMemory>
+    requires short { length bytes.now ≤ MAX_INPUT }
+    ensures meant { IfOk result (λ reply. TaskMeans Task.Check bytes.now (record { status = reply.status; text = reply.text.items })) }
+    ensures answered { IfOk result (λ reply. IsAnswered reply.status) }
+{
+    match read_claim(alloc, bytes) {
+        Ok(claim) => reply_to_read(rt, alloc, claim),
+        Err(ParseError::Line { line, code }) => {
+            let why = Line::RefusedLine { line, code };
+            say(alloc, Status::Refused, why)
+        }
+        Err(ParseError::Memory) => Err(NoMemory),
+    }
+}
+
+/// The answer to a claim.
+fn reply_to_read<R: Threads + Sync>(rt: &R, alloc: Global, claim: Claim) -> Result<Reply, NoMemory>
+    requires form { IsInForm claim.document }
+    requires evidence { HasEvidenceWithinLimits claim.verdict }
+    ensures meant { IfOk result (λ reply. (bytes : List ℕ) → length bytes ≤ MAX_INPUT → IsClaim (lines bytes) claim → TaskMeans Task.Check bytes (record { status = reply.status; text = reply.text.items })) }
+    ensures answered { IfOk result (λ reply. IsAnswered reply.status) }
+{
+    let found = verified(rt, alloc, claim)?;
+    say(alloc, found.status, found.line)
 }
 
 /// The answer to an input past the limit.
@@ -76,6 +127,7 @@ fn reply_to_document<R: Threads + Sync>(
 ) -> Result<Reply, NoMemory>
     requires form { IsInForm document }
     requires lawful { NamesElements task }
+    requires document { reads_claim task ≡ false }
     ensures meant { IfOk result (λ reply. DocumentMeans task document (record { status = reply.status; text = reply.text.items })) }
     ensures answered { IfOk result (λ reply. IsAnswered reply.status) }
 {
@@ -92,7 +144,8 @@ fn reply_to_representation(
     task: Task,
     representation: Representation,
 ) -> Result<Reply, NoMemory>
-    requires { NamesElements task }
+    requires lawful { NamesElements task }
+    requires document { reads_claim task ≡ false }
     ensures meant { IfOk result (λ reply. (d : Document) → Represents d representation → MeetsAxioms d.body → IsAnswerOf task d (record { status = reply.status; text = reply.text.items })) }
     ensures answered { IfOk result (λ reply. IsAnswered reply.status) }
 {
@@ -106,6 +159,7 @@ fn reply_to_representation(
         Task::Reorient(mask) => {
             reply_to_operation(alloc, representation, Operation::Reorient(mask))
         }
+        Task::Check => unreachable!(),
     }
 }
 

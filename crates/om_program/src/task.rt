@@ -1,3 +1,6 @@
+ghost use Rattle.std.specs.Prelude.{◌≡◌};
+ghost use Rattle.om_program.specs.Tasks.{reads_claim};
+
 use om_answer::Kind;
 use om_signs::SignVec;
 
@@ -18,4 +21,13 @@ pub enum Task {
     Contract(u8),
     /// `reorient E..`: the reorientation on the elements of this mask, in which bit e - 1 stands for e.
     Reorient(u32),
+    /// `check`: whether the verdict of a claim has proof.
+    Check,
+}
+
+/// Whether a task asks for a claim, in place of a document.
+pub fn reads_claim(task: &Task) -> bool
+    ensures { result ≡ reads_claim task.now }
+{
+    matches!(task, Task::Check)
 }

@@ -13,6 +13,7 @@ pub enum Verb {
     Delete,
     Contract,
     Reorient,
+    Check,
 }
 
 /// The verb that a word is.
@@ -33,6 +34,8 @@ pub fn named_verb(word: &String) -> Option<Verb>
         Some(Verb::Contract)
     } else if is_word(word, "reorient") {
         Some(Verb::Reorient)
+    } else if is_word(word, "check") {
+        Some(Verb::Check)
     } else {
         None
     }
