@@ -5,7 +5,6 @@
 use Rattle.std.specs.Prelude.{ℕ, ◌≡◌, Some, None, Ok, Err, refl}
 use Rattle.std.proofs.Common.{ap, sym, subst, inl, inr}
 use Rattle.om_chirotope.specs.Map.{SignMap}
-use Rattle.om_text.specs.declared.document.Document.{Document}
 use Rattle.om_text.specs.declared.body.Body.{Body}
 use Rattle.om_text.specs.declared.body.Body.TheVariants as body
 use Rattle.om_certificate.specs.declared.evidence.Evidence.{Evidence}

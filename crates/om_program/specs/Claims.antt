@@ -1,5 +1,5 @@
 -- What a claim means: whether its verdict has proof for the chirotope of its document. The answer is one line, with a status.
-use Rattle.std.specs.Prelude.{◌≡◌, ◌≢◌, Option, Some, None, Result, Ok}
+use Rattle.std.specs.Prelude.{◌≡◌, ◌≢◌, Option, Some, None, Ok}
 use Rattle.om_chirotope.specs.Map.{SignMap, map_of}
 use Rattle.om_text.specs.declared.body.Body.{Body}
 use Rattle.om_text.specs.declared.body.Body.TheVariants as body
