@@ -101,15 +101,15 @@ none_at_all m k h = record {
   count = omega arith;
 }
 
-first_place : (m : SignMap) (u : Statement) → IsLawful m u → frame_place (record { a = 1; b = 1; c = 2; d = 3; e = 4 }) * 9 + 0 ≤ place u
+first_place : (m : SignMap) (u : Statement) → IsLawful m u → frame_place (record { a = 1; b = 1; c = 2; d = 3; e = 4 }) * 9 ≤ place u
 unfolding frame_place
 first_place m u h = let p = h.placed in omega arith
 
-pub number_none : (m : SignMap) (low : ℕ) (r : Option Statement) → low ≡ frame_place (record { a = 1; b = 1; c = 2; d = 3; e = 4 }) * 9 + 0 → IfNone r (HasNoneFrom m low) → IfNone r (HasAtMost m 0)
+pub number_none : (m : SignMap) (low : ℕ) (r : Option Statement) → low ≡ frame_place (record { a = 1; b = 1; c = 2; d = 3; e = 4 }) * 9 → IfNone r (HasNoneFrom m low) → IfNone r (HasAtMost m 0)
 number_none m low None e h = none_at_all m 0 (λ u hu. let p = h u hu in let q = first_place m u hu in omega arith)
 number_none m low (Some t) e h = tt
 
-pub number_first : (m : SignMap) (low : ℕ) (r : Option Statement) → m.elements < 256 → low ≡ frame_place (record { a = 1; b = 1; c = 2; d = 3; e = 4 }) * 9 + 0 → IfSome r (λ t. IsFirstFrom m low t) → IfSome r (λ t. IsNumber m 0 t)
+pub number_first : (m : SignMap) (low : ℕ) (r : Option Statement) → m.elements < 256 → low ≡ frame_place (record { a = 1; b = 1; c = 2; d = 3; e = 4 }) * 9 → IfSome r (λ t. IsFirstFrom m low t) → IfSome r (λ t. IsNumber m 0 t)
 number_first m low r l e h = IfSome_then r h (λ t f. record {
   lawful = f.lawful;
   before = [];

@@ -1,7 +1,9 @@
 -- The places of statements: frames by their digits, and the order of statements as the order of places.
 --
--- Main results: same_frame, that places of one block have one frame; before-place and place-before.
-use Rattle.std.specs.Prelude.{ℕ, ◌≡◌, ◌+◌, ◌*◌, ◌<◌, ◌≤◌, ◌⊎◌}
+-- Main results: same_frame, that places of one block have one frame; lawful_places and places_before, that the order is that of
+-- the places; next_from and last_from, for the first statement from a place on; none_from and first_from_later, where none
+-- stands up to a later place.
+use Rattle.std.specs.Prelude.{ℕ, ◌≡◌, ◌+◌, ◌*◌, ◌<◌, ◌≤◌, ◌⊎◌, Option, Some, None, IfNone}
 use Rattle.std.proofs.Common.{sym, ap, arith, inl, inr}
 use Rattle.std.proofs.lemmas.Bool.{cases_lt}
 use Rattle.om_chirotope.specs.Map.{SignMap}
@@ -9,7 +11,7 @@ use Rattle.om_grassmann.specs.declared.statement.Statement.{Statement}
 use Rattle.om_grassmann.specs.declared.frame.Frame.{Frame}
 use Rattle.om_grassmann.specs.Statements.{IsPlaced, AreTwo, IsLawful}
 use Rattle.om_grassmann.specs.Order.{IsBefore, IsNext, IsLast}
-use Rattle.om_grassmann.specs.Walk.{IsFrame, frame_place, frame_of, direction, place, HasNoneFrom, IsFirstFrom}
+use Rattle.om_grassmann.specs.Walk.{IsFrame, frame_place, frame_of, direction, place, HasNoneBetween, HasNoneFrom, IsFirstFrom}
 use Rattle.om_grassmann.proofs.OrderLaws.{before_total}
 
 -- a statement has the elements of a frame
@@ -95,3 +97,18 @@ next_from m low s t l e hs h =
 
 pub last_from : (m : SignMap) (low : ℕ) (s : Statement) → m.elements < 256 → low ≡ place s + 1 → IsLawful m s → HasNoneFrom m low → IsLast m s
 last_from m low s l e hs h = λ u hu. let p = h u hu in at_most m s u l hs hu (omega arith)
+
+-- ---- where none stands up to a later place
+
+pub none_from : (m : SignMap) (low high : ℕ) (r : Option Statement) → HasNoneBetween m low high → IfNone r (HasNoneFrom m high) → IfNone r (HasNoneFrom m low)
+none_from m low high (Some t) between none = tt
+none_from m low high None between none = λ u hu.
+    elim (cases_lt (place u) low) [
+      | inl lt ↦ lt
+      | inr ge ↦ let x = between u hu ge in let y = none u hu in absurd (omega arith)
+    ]
+
+pub first_from_later : (m : SignMap) (low high : ℕ) (t : Statement) → low ≤ high → HasNoneBetween m low high → IsFirstFrom m high t → IsFirstFrom m low t
+first_from_later m low high t le between h =
+    let from = h.from in
+    record { lawful = h.lawful; from = omega arith; first = λ u hu ge. h.first u hu (between u hu ge) }

@@ -3,6 +3,7 @@
 -- Reference: Björner, Las Vergnas, Sturmfels, White and Ziegler, Oriented Matroids, chapter 8.
 use Rattle.std.specs.Prelude.{ℕ, ◌+◌, ◌-◌, [], ◌∷◌, cond, nat_eq}
 use Rattle.om_signs.specs.declared.sign.Sign.{Sign}
+use Rattle.om_signs.specs.declared.sign.Sign.TheVariants.{Minus, Zero, Plus}
 use Rattle.om_signs.specs.Sign.{opposite, product}
 use Rattle.om_chirotope.specs.Map.{SignMap, value_of}
 use Rattle.om_grassmann.specs.declared.statement.Statement.{Statement}
@@ -39,3 +40,7 @@ term_of terms i = pick i terms.first terms.second terms.third
 -- the third of the numbers 1, 2, 3 beside two of them
 abbrev pub third : ℕ → ℕ → ℕ
 third i j = 6 - (i + j)
+
+-- plus for the small term of a statement, minus for the big one, and for the third plus where it is strict and else zero
+abbrev pub told : Statement → ℕ → Sign
+told st i = cond (nat_eq i st.small) Plus (cond (nat_eq i st.big) Minus (cond st.strict Plus Zero))

@@ -1,11 +1,14 @@
 -- The places of statements as numbers, by which the walk over them goes. No public clause speaks of these.
-use Rattle.std.specs.Prelude.{ℕ, ◌+◌, ◌-◌, ◌*◌, ◌/◌, ◌%◌, ◌<◌, ◌≤◌, Bool, Option, Some, None}
+use Rattle.std.specs.Prelude.{ℕ, ◌≡◌, ◌≢◌, ◌+◌, ◌-◌, ◌*◌, ◌/◌, ◌%◌, ◌<◌, ◌≤◌, Bool, Option, Some, None}
+use Rattle.om_signs.specs.declared.sign.Sign.{Sign}
+use Rattle.om_signs.specs.declared.sign.Sign.TheVariants.{Zero}
+use Rattle.om_signs.specs.Sign.{product}
 use Rattle.om_chirotope.specs.Map.{SignMap}
 use Rattle.om_grassmann.specs.declared.statement.Statement.{Statement}
 use Rattle.om_grassmann.specs.declared.frame.Frame.{Frame}
 use Rattle.om_grassmann.specs.declared.terms.Terms.{Terms}
-use Rattle.om_grassmann.specs.Statements.{IsElement, AreTwo, HasSigns, IsLawful}
-use Rattle.om_grassmann.specs.Terms.{term_of, third}
+use Rattle.om_grassmann.specs.Statements.{IsElement, IsPlaced, AreTwo, HasSigns, IsLawful}
+use Rattle.om_grassmann.specs.Terms.{first_term, second_term, third_term, term_of, third}
 
 -- an element a and four increasing elements of 1 to n, of which a may be one
 pub record IsFrame (n : ℕ) (f : Frame) : Type 0 where
@@ -49,6 +52,19 @@ pub record IsFirstFrom (m : SignMap) (low : ℕ) (t : Statement) : Type 0 where
 -- the statement of a frame with the direction that has this number
 abbrev pub statement_of : Frame → ℕ → Bool → Statement
 statement_of f k strict = record { a = f.a; b = f.b; c = f.c; d = f.d; e = f.e; small = k / 3 + 1; big = k % 3 + 1; strict = strict }
+
+-- the signs of the terms on the distinct elements of a frame, or all three negated: each multiplied by one nonzero sign
+pub record AreTermsOn (m : SignMap) (f : Frame) (terms : Terms) : Type 0 where
+  pub rank : m.rank ≡ 3
+  pub few : m.elements < 256
+  pub st : Statement
+  pub on : frame_of st ≡ f
+  pub placed : IsPlaced m.elements st
+  pub factor : Sign
+  pub nonzero : factor ≢ Zero
+  pub first : terms.first ≡ product factor (first_term m st)
+  pub second : terms.second ≡ product factor (second_term m st)
+  pub third : terms.third ≡ product factor (third_term m st)
 
 -- whether the signs of the terms give a statement with these two sides, and which kind
 abbrev pub IsKind : Terms → ℕ → ℕ → Option Bool → Type 0

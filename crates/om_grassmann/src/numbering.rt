@@ -31,5 +31,5 @@ fn first_statement(chi: &Chirotope) -> Option<Statement>
     if chi.rank() != 3 || chi.elements() < 5 {
         return None;
     }
-    first_from(chi, Frame::first(), 0)
+    first_from(chi, Frame::first())
 }

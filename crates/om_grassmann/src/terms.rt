@@ -1,7 +1,7 @@
 //! The terms of the three-term relation.
 
 ghost use Rattle.std.specs.Prelude.{◌≡◌};
-ghost use Rattle.om_grassmann.specs.Terms.{bracket, first_term, second_term, third_term, term_of};
+ghost use Rattle.om_grassmann.specs.Terms.{bracket, first_term, second_term, third_term, term_of, told};
 ghost use Rattle.om_grassmann.specs.Statements.{IsElement, IsPlaced};
 
 use super::statement::Statement;
@@ -34,6 +34,19 @@ impl Terms {
         }
     }
 
+    /// What a lawful statement tells of the signs of its terms: the signs themselves, or all three negated.
+    pub fn told_by(st: Statement) -> Terms
+        ensures first { result.first ≡ told st 1 }
+        ensures second { result.second ≡ told st 2 }
+        ensures third { result.third ≡ told st 3 }
+    {
+        Terms {
+            first: told_sign(st, 1),
+            second: told_sign(st, 2),
+            third: told_sign(st, 3),
+        }
+    }
+
     /// The term with this number, from 1 to 3.
     pub fn get(self, number: u8) -> Sign
         ensures { result ≡ term_of self number }
@@ -57,4 +70,20 @@ fn value(chi: &Chirotope, x: u8, y: u8, z: u8) -> Sign
     ensures { result ≡ bracket chi.now x y z }
 {
     chi.value(&[x, y, z])
+}
+
+/// What a lawful statement tells of the sign of the term with a number from 1 to 3: the signs of all three terms are these
+/// or their negatives.
+fn told_sign(st: Statement, number: u8) -> Sign
+    ensures { result ≡ told st number }
+{
+    if number == st.small {
+        Sign::Plus
+    } else if number == st.big {
+        Sign::Minus
+    } else if st.strict {
+        Sign::Plus
+    } else {
+        Sign::Zero
+    }
 }

@@ -1,9 +1,10 @@
 //! The walk over the lawful statements in order.
 
 ghost use Rattle.std.specs.Prelude.{◌≡◌, ◌+◌, ◌*◌, ◌<◌, ◌≤◌, ◌↔◌, IsNone, IfNone, IfSome};
+ghost use Rattle.om_chirotope.specs.Map.{SignMap};
 ghost use Rattle.om_grassmann.specs.Statements.{IsLawful};
 ghost use Rattle.om_grassmann.specs.Order.{IsNext, IsLast};
-ghost use Rattle.om_grassmann.specs.Walk.{IsFrame, frame_place, HasNoneBetween, HasNoneFrom, IsFirstFrom, IsKind, statement_of};
+ghost use Rattle.om_grassmann.specs.Walk.{IsFrame, frame_place, HasNoneBetween, HasNoneFrom, IsFirstFrom, AreTermsOn, IsKind, statement_of};
 
 use super::frame::Frame;
 use super::lawfulness::{are_two, have_signs, is_placed};
@@ -16,7 +17,8 @@ use om_signs::{MAX_ELEMENTS, Sign};
 const DIRECTIONS: u8 = 9;
 
 /// The lawful statement after a lawful statement, in the lexicographic order by a, b, c, d, e, `small` and `big`, or
-/// None exactly where this is the last one. It takes no memory.
+/// None exactly where this is the last one. It takes no memory, and looks up signs of the next elements alone: those of
+/// the statement's own elements follow from the statement.
 ///
 /// Source: Bokowski and Richter-Gebert, *On the finding of final polynomials*, 1990.
 pub fn following(chi: &Chirotope, st: Statement) -> Option<Statement>
@@ -24,25 +26,43 @@ pub fn following(chi: &Chirotope, st: Statement) -> Option<Statement>
     ensures none { IsNone result ↔ IsLast chi.now st }
     ensures next { IfSome result (λ t. IsNext chi.now st t) }
 {
-    first_from(chi, Frame::of(st), 3 * (st.small - 1) + st.big)
+    // this call tells that there are few elements
+    let _n = chi.elements();
+    let frame = Frame::of(st);
+    if let Some(next) = first_in_frame(frame, Terms::told_by(st), 3 * (st.small - 1) + st.big) {
+        return Some(next);
+    }
+    first_after(chi, frame)
 }
 
-/// The first lawful statement from a frame on, and in this frame from a direction on.
-pub fn first_from(chi: &Chirotope, start: Frame, from: u8) -> Option<Statement>
+/// The first lawful statement from a frame on.
+pub fn first_from(chi: &Chirotope, start: Frame) -> Option<Statement>
     requires rank { chi.now.rank ≡ 3 }
     requires frame { IsFrame chi.now.elements start }
-    requires from { from ≤ DIRECTIONS }
     ensures limit { chi.now.elements ≤ MAX_ELEMENTS }
-    ensures none { IfNone result (HasNoneFrom chi.now (frame_place start * 9 + from)) }
-    ensures first { IfSome result (λ t. IsFirstFrom chi.now (frame_place start * 9 + from) t) }
+    ensures none { IfNone result (HasNoneFrom chi.now (frame_place start * 9)) }
+    ensures first { IfSome result (λ t. IsFirstFrom chi.now (frame_place start * 9) t) }
 {
-    let n = chi.elements();
-    if let Some(st) = first_in_frame(chi, start, from) {
+    // this call tells that there are few elements
+    let _n = chi.elements();
+    if let Some(st) = first_of_frame(chi, start) {
         return Some(st);
     }
+    first_after(chi, start)
+}
+
+/// The first lawful statement of the frames after a frame.
+fn first_after(chi: &Chirotope, start: Frame) -> Option<Statement>
+    requires rank { chi.now.rank ≡ 3 }
+    requires frame { IsFrame chi.now.elements start }
+    ensures limit { chi.now.elements ≤ MAX_ELEMENTS }
+    ensures none { IfNone result (HasNoneFrom chi.now (frame_place start * 9 + 9)) }
+    ensures first { IfSome result (λ t. IsFirstFrom chi.now (frame_place start * 9 + 9) t) }
+{
+    let n = chi.elements();
     let mut frame = start;
     while let Some(next) = frame.next(n) {
-        if let Some(st) = first_in_frame(chi, next, 0) {
+        if let Some(st) = first_of_frame(chi, next) {
             return Some(st);
         }
         frame = next;
@@ -50,18 +70,26 @@ pub fn first_from(chi: &Chirotope, start: Frame, from: u8) -> Option<Statement>
     None
 }
 
-/// The first lawful statement of a frame from a direction on.
-fn first_in_frame(chi: &Chirotope, frame: Frame, from: u8) -> Option<Statement>
+/// The first lawful statement of a frame.
+fn first_of_frame(chi: &Chirotope, frame: Frame) -> Option<Statement>
     requires rank { chi.now.rank ≡ 3 }
     requires frame { IsFrame chi.now.elements frame }
-    requires from { from ≤ DIRECTIONS }
-    ensures none { IfNone result (HasNoneBetween chi.now (frame_place frame * 9 + from) (frame_place frame * 9 + 9)) }
-    ensures first { IfSome result (λ t. IsFirstFrom chi.now (frame_place frame * 9 + from) t) }
+    ensures none { IfNone result (HasNoneBetween chi.now (frame_place frame * 9) (frame_place frame * 9 + 9)) }
+    ensures first { IfSome result (λ t. IsFirstFrom chi.now (frame_place frame * 9) t) }
 {
-    if !is_placed(candidate(frame, 0, false), chi.elements()) {
+    let st = candidate(frame, 0, false);
+    if !is_placed(st, chi.elements()) {
         return None;
     }
-    let terms = Terms::of(chi, candidate(frame, 0, false));
+    first_in_frame(frame, Terms::of(chi, st), 0)
+}
+
+/// The first lawful statement of a frame from a direction on, by the signs of the terms, or by all three negated.
+fn first_in_frame(frame: Frame, terms: Terms, from: u8) -> Option<Statement>
+    requires { from ≤ DIRECTIONS }
+    ensures none { IfNone result ((m : SignMap) → AreTermsOn m frame terms → HasNoneBetween m (frame_place frame * 9 + from) (frame_place frame * 9 + 9)) }
+    ensures first { IfSome result (λ t. (m : SignMap) → AreTermsOn m frame terms → IsFirstFrom m (frame_place frame * 9 + from) t) }
+{
     for direction in from..DIRECTIONS {
         if let Some(strict) = kind_of(terms, direction / 3 + 1, direction % 3 + 1) {
             return Some(candidate(frame, direction, strict));

@@ -1,7 +1,0 @@
-use Rattle.std.proofs.Common.{arith}
-use Rattle.om_grassmann.specs.Walk.{frame_place}
-use Rattle.om_grassmann.proofs.walk.first_from.Goals as goal
-
-pub loop-next-smaller : goal.loop-next-smaller
-unfolding frame_place
-loop-next-smaller c = omega (arith, c.in-Some-next.ensures.later, c.in-Some-next.ensures.frame)
