@@ -14,7 +14,7 @@ use Rattle.om_signs.proofs.Bits.{bit_at_and_not, one_shl_32, bit_from_test, no_b
 use Rattle.om_circuits.specs.Vectors.{IsOpposedAt, Eliminates}
 use Rattle.om_circuits.specs.Axioms.{HasEliminator}
 use Rattle.om_circuits.specs.Scans.{IsWithin, HasWithin}
-use Rattle.om_circuits.proofs.MaskLaws.{plus_bit, minus_bit, bit_or_none, zero_mask}
+use Rattle.om_members.proofs.MaskLaws.{plus_bit, minus_bit, bit_or_none, zero_mask}
 
 -- `x.plus() & y.minus()`
 pub opposed_bit : (xs ys : List Sign) (p m : ℕ) → IsMaskOf (length xs) (IsPlus xs) p → IsMaskOf (length ys) (IsMinus ys) m → (e : ℕ) → (bit_at (bit_and p m) (e - 1) ≡ 1) ↔ IsOpposedAt xs ys e

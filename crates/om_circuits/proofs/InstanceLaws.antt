@@ -2,32 +2,22 @@
 --
 -- Main results: axioms_met: where no scan finds an instance, the axioms hold; first_nested_violated, first_stuck_violated: what a scan finds is
 -- the first violated instance; violated_breaks: a violated instance breaks the axioms.
-use Rattle.std.proofs.Common.{ℕ, ◌≡◌, ◌≢◌, ◌+◌, ◌-◌, ◌<◌, ◌≤◌, List, [], ◌∷◌, length, sym, subst, arith, inl, inr}
+use Rattle.std.proofs.Common.{ℕ, ◌≡◌, ◌≢◌, ◌+◌, ◌-◌, ◌≤◌, List, [], ◌∷◌, length, sym, subst, arith, inl, inr}
 use Rattle.std.specs.List.{Contains}
 use Rattle.om_signs.specs.declared.sign.Sign.{Sign}
 use Rattle.om_circuits.specs.declared.set_refused.SetRefused.{SetRefused}
 use Rattle.om_circuits.specs.declared.set_refused.SetRefused.TheVariants.{Zero, NoNegative, Nested, NoElimination}
-use Rattle.om_circuits.specs.Vectors.{negated, IsZero, IsOpposedAt}
+use Rattle.om_members.specs.Vectors.{negated, IsZero}
+use Rattle.om_circuits.specs.Vectors.{IsOpposedAt}
 use Rattle.om_circuits.specs.Axioms.{HasEliminator, MeetsCircuitAxioms}
-use Rattle.om_circuits.specs.SignedSets.{HaveLength}
-use Rattle.om_circuits.specs.Instances.{IsPosition, IsNestedIn, HasNoEliminator, IsViolated, key, IsBefore, IsFirstViolated}
-use Rattle.om_circuits.specs.Scans.{nth, AllBelow, IsFirstBadPair, IsNotZeroAt, HasNegativeAt, IsUnnestedIn, HasEliminatorIfAsked, AreNestedAt, AreUnnestedAt, IsFreeAt, IsFirstStuck}
+use Rattle.om_members.specs.Listings.{HaveLength}
+use Rattle.om_members.specs.Positions.{IsPosition, IsBefore}
+use Rattle.om_circuits.specs.Instances.{IsNestedIn, HasNoEliminator, IsViolated, key, IsFirstViolated}
+use Rattle.om_members.specs.Scans.{nth, AllBelow, IsFirstBadPair, HasNegativeAt}
+use Rattle.om_circuits.specs.Scans.{IsNotZeroAt, IsUnnestedIn, HasEliminatorIfAsked, AreNestedAt, AreUnnestedAt, IsFreeAt, IsFirstStuck}
 use Rattle.om_circuits.proofs.MaskLaws.{element_within}
-use Rattle.om_circuits.proofs.ScanLaws.{nth_contained, contains_nth}
-
--- ---- the order of instances
-
-same_number : (a : ℕ) (xs ys : List ℕ) → IsBefore (a ∷ xs) (a ∷ ys) → IsBefore xs ys
-same_number a xs ys (inl lt) = absurd (omega arith)
-same_number a xs ys (inr r) = r.1
-
-greater_number : (a b : ℕ) (xs ys : List ℕ) → b < a → IsBefore (a ∷ xs) (b ∷ ys) → ⊥
-greater_number a b xs ys l (inl lt) = absurd (omega arith)
-greater_number a b xs ys l (inr r) = let e = r.0 in absurd (omega arith)
-
-last_number : (x y : ℕ) → IsBefore (x ∷ []) (y ∷ []) → x < y
-last_number x y (inl lt) = lt
-last_number x y (inr r) = absurd r.1
+use Rattle.om_members.proofs.OrderLaws.{same_number, greater_number, last_number}
+use Rattle.om_members.proofs.ScanLaws.{nth_contained, contains_nth}
 
 -- ---- one axiom at one instance
 

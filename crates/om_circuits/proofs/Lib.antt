@@ -1,4 +1,3 @@
 pub mod MaskLaws
-pub mod ScanLaws
 pub mod EliminationLaws
 pub mod InstanceLaws

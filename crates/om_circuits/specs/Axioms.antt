@@ -4,15 +4,13 @@
 use Rattle.std.specs.Prelude.{ℕ, ◌≡◌, ◌≢◌, ◌≤◌, ◌⊎◌, List}
 use Rattle.std.specs.List.{Contains}
 use Rattle.om_signs.specs.declared.sign.Sign.{Sign}
-use Rattle.om_circuits.specs.Vectors.{negated, IsZero, HasSupportIn, IsOpposedAt, Eliminates}
+use Rattle.om_members.specs.Listings.{IsSymmetric}
+use Rattle.om_members.specs.Vectors.{negated, IsZero, HasSupportIn}
+use Rattle.om_circuits.specs.Vectors.{IsOpposedAt, Eliminates}
 
 -- the zero vector is no member
 abbrev pub HasNoZero : List (List Sign) → Type 0
 HasNoZero members = (X : List Sign) → Contains members X → IsZero X → ⊥
-
--- the negative of a member is a member
-abbrev pub IsSymmetric : List (List Sign) → Type 0
-IsSymmetric members = (X : List Sign) → Contains members X → Contains members (negated X)
 
 -- where the support of a member lies in that of another, the two are equal or negatives
 abbrev pub IsIncomparable : List (List Sign) → Type 0

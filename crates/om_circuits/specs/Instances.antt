@@ -1,19 +1,13 @@
 -- Violated instances of the axioms of circuits, by positions in a list of members, and their order. Positions and elements count from 1.
-use Rattle.std.specs.Prelude.{ℕ, ◌≡◌, ◌≢◌, ◌-◌, ◌<◌, ◌≤◌, ◌⊎◌, List, [], ◌∷◌, length, slice_index_or}
+use Rattle.std.specs.Prelude.{ℕ, ◌≢◌, ◌-◌, ◌≤◌, List, [], ◌∷◌}
 use Rattle.std.specs.List.{Contains}
 use Rattle.om_signs.specs.declared.sign.Sign.{Sign}
 use Rattle.om_circuits.specs.declared.set_refused.SetRefused.{SetRefused}
 use Rattle.om_circuits.specs.declared.set_refused.SetRefused.TheVariants.{Zero, NoNegative, Nested, NoElimination}
-use Rattle.om_circuits.specs.Vectors.{negated, IsZero, HasSupportIn, IsOpposedAt}
+use Rattle.om_members.specs.Positions.{IsPosition, member_at, IsBefore}
+use Rattle.om_members.specs.Vectors.{negated, IsZero, HasSupportIn}
+use Rattle.om_circuits.specs.Vectors.{IsOpposedAt}
 use Rattle.om_circuits.specs.Axioms.{HasEliminator}
-
--- a position of the list
-abbrev pub IsPosition : List (List Sign) → ℕ → Type 0
-IsPosition members i = (1 ≤ i) × (i ≤ length members)
-
--- the member at a position
-abbrev pub member_at : List (List Sign) → ℕ → List Sign
-member_at members i = slice_index_or members (i - 1) []
 
 -- the support of X lies in that of Y, and X is neither Y nor its negative
 pub record IsNestedIn (X Y : List Sign) : Type 0 where
@@ -41,11 +35,6 @@ key (Zero i) = 0 ∷ i ∷ []
 key (NoNegative i) = 1 ∷ i ∷ []
 key (Nested i j) = 2 ∷ i ∷ j ∷ []
 key (NoElimination i j e) = 3 ∷ i ∷ j ∷ e ∷ []
-
--- the first number in which the lists differ is smaller in the first list
-abbrev pub IsBefore : List ℕ → List ℕ → Type 0
-IsBefore (x ∷ xs) (y ∷ ys) = (x < y) ⊎ ((x ≡ y) × IsBefore xs ys)
-IsBefore _ _ = ⊥
 
 -- a violated instance, and none before it is violated
 pub record IsFirstViolated (members : List (List Sign)) (why : SetRefused) : Type 0 where

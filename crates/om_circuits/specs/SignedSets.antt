@@ -1,22 +1,9 @@
 -- Finite sets of sign vectors, listed, that meet the axioms of circuits.
-use Rattle.std.specs.Prelude.{ℕ, ◌≡◌, ◌≢◌, ◌≤◌, List, length}
-use Rattle.std.specs.List.{All, AllPairs}
+use Rattle.std.specs.Prelude.{ℕ, ◌≤◌, List, length}
 use Rattle.om_signs.specs.declared.sign.Sign.{Sign}
 use Rattle.om_signs.specs.declared.limits.TheConstants.{MAX_ELEMENTS, MAX_MEMBERS}
+use Rattle.om_members.specs.Listings.{HaveLength, AreDistinct}
 use Rattle.om_circuits.specs.Axioms.{MeetsCircuitAxioms}
-
--- the number of elements, and the members in the order of the list
-pub record Listing : Type 0 where
-  pub elements : ℕ
-  pub members : List (List Sign)
-
--- each member has n signs
-abbrev pub HaveLength : ℕ → List (List Sign) → Type 0
-HaveLength n members = All (λ X. length X ≡ n) members
-
--- no member stands twice
-abbrev pub AreDistinct : List (List Sign) → Type 0
-AreDistinct members = AllPairs (λ X Y. X ≢ Y) members
 
 -- within the limits, distinct, and with the axioms
 pub record IsSignedSet (n : ℕ) (members : List (List Sign)) : Type 0 where

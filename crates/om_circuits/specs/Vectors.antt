@@ -1,23 +1,10 @@
 -- What the axioms of circuits ask of one, two and three sign vectors. Elements count from 1.
 --
 -- Reference: Björner, Las Vergnas, Sturmfels, White and Ziegler, Oriented Matroids, chapter 3.
-use Rattle.std.specs.Prelude.{ℕ, ◌≡◌, ◌⊎◌, List, map}
+use Rattle.std.specs.Prelude.{ℕ, ◌≡◌, ◌⊎◌, List}
 use Rattle.om_signs.specs.declared.sign.Sign.{Sign}
 use Rattle.om_signs.specs.declared.sign.Sign.TheVariants.{Minus, Zero, Plus}
-use Rattle.om_signs.specs.Sign.{opposite}
 use Rattle.om_signs.specs.SignVec.{place}
-
--- all signs are opposite
-abbrev pub negated : List Sign → List Sign
-negated X = map opposite X
-
--- all signs are zero
-abbrev pub IsZero : List Sign → Type 0
-IsZero X = (e : ℕ) → place X e ≡ Zero
-
--- the support of X lies in that of Y
-abbrev pub HasSupportIn : List Sign → List Sign → Type 0
-HasSupportIn X Y = (e : ℕ) → place Y e ≡ Zero → place X e ≡ Zero
 
 -- X is plus and Y is minus at e
 pub record IsOpposedAt (X Y : List Sign) (e : ℕ) : Type 0 where

@@ -2,14 +2,15 @@
 
 ghost use Rattle.std.specs.Prelude.{◌≡◌, ◌↔◌, ◌≤◌, length, IsOk, IfOk, IfErr, IfSome, IfNone};
 ghost use Rattle.om_circuits.specs.Axioms.{MeetsCircuitAxioms};
-ghost use Rattle.om_circuits.specs.SignedSets.{HaveLength, AreDistinct};
+ghost use Rattle.om_members.specs.Listings.{HaveLength, AreDistinct};
 ghost use Rattle.om_circuits.specs.Instances.{IsFirstViolated};
 
 use super::bad_set::BadSet;
 use super::elimination::first_stuck;
 use super::set_refused::SetRefused;
 use super::signed_set::SignedSet;
-use super::supports::{first_nested, first_without_negative, first_zero};
+use super::supports::{first_nested, first_zero};
+use om_members::first_without_negative;
 use om_signs::{List, MAX_ELEMENTS, MAX_MEMBERS, SignVec};
 use std::thread::Threads;
 

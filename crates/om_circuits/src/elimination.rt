@@ -1,10 +1,11 @@
 //! The axiom of elimination.
 
-ghost use Rattle.std.specs.Prelude.{◌≡◌, ◌↔◌, ◌+◌, ◌≤◌, ◌<◌, ◌^◌, length, IsTrue, IfSome, IfNone};
+ghost use Rattle.std.specs.Prelude.{◌↔◌, ◌+◌, ◌≤◌, ◌<◌, length, IsTrue, IfSome, IfNone};
 ghost use Rattle.om_circuits.specs.Instances.{HasNoEliminator};
-ghost use Rattle.om_circuits.specs.Scans.{AllBelow, IsFirstBad, IsWithin, HasWithin, HasEliminatorIfAsked, IsFree, IsFreeAt, IsFirstStuckWith, IsFirstStuck};
+ghost use Rattle.om_members.specs.Scans.{AllBelow, IsFirstBad};
+ghost use Rattle.om_circuits.specs.Scans.{IsWithin, HasWithin, HasEliminatorIfAsked, IsFree, IsFreeAt, IsFirstStuckWith, IsFirstStuck};
 
-use super::supports::are_same;
+use om_members::are_same;
 use om_signs::{MAX_ELEMENTS, SignVec};
 
 /// Whether the places with a plus lie in one mask and those with a minus in another.

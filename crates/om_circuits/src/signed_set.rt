@@ -1,6 +1,7 @@
 ghost use Rattle.std.specs.Prelude.{◌≡◌, ◌≤◌, length};
 ghost use Rattle.om_circuits.specs.Axioms.{MeetsCircuitAxioms};
-ghost use Rattle.om_circuits.specs.SignedSets.{HaveLength, AreDistinct, IsSignedSet};
+ghost use Rattle.om_members.specs.Listings.{HaveLength, AreDistinct};
+ghost use Rattle.om_circuits.specs.SignedSets.{IsSignedSet};
 
 use om_signs::{List, MAX_ELEMENTS, MAX_MEMBERS, SignVec};
 use std::marker::Model;
@@ -16,7 +17,8 @@ pub struct SignedSet {
 }
 
 impl Model for SignedSet {
-    ghost use Rattle.om_circuits.specs.SignedSets.{Listing, IsSignedSet};
+    ghost use Rattle.om_members.specs.Listings.{Listing};
+    ghost use Rattle.om_circuits.specs.SignedSets.{IsSignedSet};
 
     ghost Value = { Listing };
 

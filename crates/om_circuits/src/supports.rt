@@ -1,19 +1,12 @@
-//! The axioms on zero, on negatives and on supports.
+//! The axioms on zero and on supports.
 
-ghost use Rattle.std.specs.Prelude.{◌≡◌, ◌↔◌, ◌<◌, length, IsTrue, MatchBool, IfSome, IfNone};
-ghost use Rattle.std.specs.List.{Contains};
-ghost use Rattle.om_circuits.specs.Vectors.{IsZero};
+ghost use Rattle.std.specs.Prelude.{◌<◌, length, MatchBool, IfSome, IfNone};
 ghost use Rattle.om_circuits.specs.Instances.{IsNestedIn};
-ghost use Rattle.om_circuits.specs.Scans.{AllBelow, IsFirstBad, IsFirstBadPair, IsZeroAt, IsNotZeroAt, HasNegativeAt, HasNoNegativeAt, IsUnnestedIn, AreNestedAt, AreUnnestedAt, nth};
+ghost use Rattle.om_members.specs.Scans.{AllBelow, IsFirstBad, IsFirstBadPair, nth};
+ghost use Rattle.om_circuits.specs.Scans.{IsZeroAt, IsNotZeroAt, IsUnnestedIn, AreNestedAt, AreUnnestedAt};
 
+use om_members::{are_same, is_zero};
 use om_signs::SignVec;
-
-/// Whether all signs are zero.
-fn is_zero(x: SignVec) -> bool
-    ensures { IsTrue result ↔ IsZero x }
-{
-    x.support() == 0
-}
 
 /// The place of the first zero vector.
 pub fn first_zero(members: &[SignVec]) -> Option<usize>
@@ -22,38 +15,6 @@ pub fn first_zero(members: &[SignVec]) -> Option<usize>
 {
     for (k, x) in members.iter().enumerate() {
         if is_zero(*x) {
-            return Some(k);
-        }
-    }
-    None
-}
-
-/// Whether two vectors are the same.
-pub fn are_same(x: SignVec, y: SignVec) -> bool
-    ensures { IsTrue result ↔ (x ≡ y) }
-{
-    x == y
-}
-
-/// Whether a vector is a member.
-pub fn is_member(members: &[SignVec], x: SignVec) -> bool
-    ensures { IsTrue result ↔ Contains members.now x }
-{
-    for y in members {
-        if are_same(*y, x) {
-            return true;
-        }
-    }
-    false
-}
-
-/// The place of the first member whose negative is no member.
-pub fn first_without_negative(members: &[SignVec]) -> Option<usize>
-    ensures none { IfNone result (AllBelow (length members.now) (HasNegativeAt members.now)) }
-    ensures first { IfSome result (IsFirstBad (length members.now) (HasNoNegativeAt members.now) (HasNegativeAt members.now)) }
-{
-    for (k, x) in members.iter().enumerate() {
-        if !is_member(members, x.neg()) {
             return Some(k);
         }
     }

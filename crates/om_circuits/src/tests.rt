@@ -1,10 +1,10 @@
 //! A table of lists, accepted or refused.
 
 ghost use Rattle.std.specs.Prelude.{◌≡◌, ◌≤◌, length, IfOk};
-ghost use Rattle.om_circuits.specs.SignedSets.{HaveLength, AreDistinct};
+ghost use Rattle.om_members.specs.Listings.{HaveLength, AreDistinct};
 
-use super::supports::is_member;
 use super::{SetRefused, check};
+use om_members::is_member;
 use om_signs::{List, MAX_ELEMENTS, MAX_MEMBERS, NoMemory, Sign, SignVec};
 use std::alloc::Global;
 use std::test::Fail;

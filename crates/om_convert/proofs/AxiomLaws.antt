@@ -22,9 +22,10 @@ use Rattle.om_laws.specs.Bridge.{as_function}
 use Rattle.om_laws.specs.Chirotope.{elements_to}
 use Rattle.om_laws.proofs.ChirotopeLaws.{member_from_element}
 use Rattle.om_laws.proofs.BridgeLaws.{as_function-compose, as_function-negated}
-use Rattle.om_covectors.specs.Vectors.{negated, IsSeparatedAt}
+use Rattle.om_members.specs.Vectors.{negated}
+use Rattle.om_covectors.specs.Vectors.{IsSeparatedAt}
 use Rattle.om_covectors.specs.Axioms.{MeetsCovectorAxioms}
-use Rattle.om_covectors.specs.CovectorSets.{HaveLength}
+use Rattle.om_members.specs.Listings.{HaveLength}
 use Rattle.om_covectors.specs.Minimality.{IsMinimal}
 use Rattle.om_convert.specs.Families.{as_functions}
 use Rattle.om_convert.proofs.FunctionLaws.{listed, unlisted, at_place, zero_function, nonzero_element, support_lists, support_functions, product_minus, nonzero_of_minus, opposite_of_minus}

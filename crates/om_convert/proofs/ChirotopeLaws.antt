@@ -28,9 +28,8 @@ use Rattle.om_chirotope.specs.Map.{SignMap}
 use Rattle.om_chirotope.specs.Chirotope.{IsChirotope}
 use Rattle.om_chirotope.proofs.Theory.{theory_chirotope}
 use Rattle.om_circuits.specs.Axioms.{MeetsCircuitAxioms}
-use Rattle.om_circuits.specs.SignedSets.{Listing, HaveLength}
+use Rattle.om_members.specs.Listings.{Listing, HaveLength}
 use Rattle.om_covectors.specs.Axioms.{MeetsCovectorAxioms}
-use Rattle.om_covectors.specs.CovectorSets as sets
 use Rattle.om_oriented.specs.Circuits.{IsCircuitOfChirotope, IsCocircuitOfChirotope}
 use Rattle.om_oriented.specs.Covectors.{IsCovectorOfChirotope, IsCovectorOfCircuits, IsCovectorOfCocircuits, IsCovectorOfCovectors}
 use Rattle.om_oriented.specs.Denotation.{DenoteTheSame}
@@ -180,7 +179,7 @@ module _ (m : SignMap) where
         covector_axioms m.elements (IsCovectorOfChirotope m) (IsCovector (elements_to m.elements) (tuples_of m)) covectors_of members all
         (pairs.covector_axioms (elements_to m.elements) (IsCircuit (elements_to m.elements) (tuples_of m)) (IsCocircuit (tuples_of m)) (dual_pair (elements_to m.elements) (tuples_of m) om))
 
-    pub same_as_covectors : (d : sets.Listing) → d.elements ≡ m.elements → d.members ≡ members → DenoteTheSame m.elements (IsCovectorOfChirotope m) (IsCovectorOfCovectors d)
+    pub same_as_covectors : (d : Listing) → d.elements ≡ m.elements → d.members ≡ members → DenoteTheSame m.elements (IsCovectorOfChirotope m) (IsCovectorOfCovectors d)
     same_as_covectors d e q X l = (
       λ x. record { size = l ∙ sym e; member = subst (λ k. Contains k X) (sym q) (all.complete X x) },
       λ x. all.sound X (subst (λ k. Contains k X) q x.member),

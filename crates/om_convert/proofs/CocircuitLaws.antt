@@ -19,10 +19,9 @@ use Rattle.om_laws.specs.Bridge.{as_function}
 use Rattle.om_laws.specs.Chirotope.{elements_to}
 use Rattle.om_laws.proofs.MinimalLaws as minimal
 use Rattle.om_covectors.specs.Axioms.{MeetsCovectorAxioms}
-use Rattle.om_covectors.specs.CovectorSets.{HaveLength}
+use Rattle.om_members.specs.Listings.{HaveLength, Listing}
 use Rattle.om_covectors.specs.Minimality.{IsMinimal, AreThose}
 use Rattle.om_circuits.specs.Axioms.{MeetsCircuitAxioms}
-use Rattle.om_circuits.specs.SignedSets.{Listing}
 use Rattle.om_oriented.specs.Covectors.{IsCovectorOfCocircuits}
 use Rattle.om_oriented.specs.Denotation.{DenoteTheSame}
 use Rattle.om_oriented.specs.Listings.{AreAllOf}

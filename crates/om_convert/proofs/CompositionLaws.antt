@@ -13,7 +13,7 @@ use Rattle.om_signs.specs.declared.sign.Sign.TheVariants.{Minus, Zero, Plus}
 use Rattle.om_signs.specs.Sign.{first_nonzero}
 use Rattle.om_signs.specs.SignVec.{compose}
 use Rattle.om_signs.proofs.Vectors.{length-compose}
-use Rattle.om_circuits.specs.SignedSets.{HaveLength}
+use Rattle.om_members.specs.Listings.{HaveLength}
 use Rattle.om_oriented.specs.Listings.{AreAllOf}
 use Rattle.om_convert.specs.declared.convert_error.ConvertError.{ConvertError}
 use Rattle.om_convert.specs.Compositions.{composition_of, AreFrom, IsCompositionOf}

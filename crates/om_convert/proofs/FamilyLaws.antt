@@ -20,9 +20,10 @@ use Rattle.om_laws.specs.Axioms.{CircuitAxioms, CovectorAxioms, AreSeparatedAt, 
 use Rattle.om_laws.specs.Compositions.{HasConformingParts}
 use Rattle.om_laws.specs.Bridge.{as_function}
 use Rattle.om_laws.proofs.BridgeLaws.{as_function-compose, as_function-negated, conformal_functions, conformal_lists}
-use Rattle.om_circuits.specs.Vectors.{negated, HasSupportIn, IsOpposedAt, Eliminates}
+use Rattle.om_members.specs.Vectors.{negated, HasSupportIn}
+use Rattle.om_circuits.specs.Vectors.{IsOpposedAt, Eliminates}
 use Rattle.om_circuits.specs.Axioms.{MeetsCircuitAxioms, HasEliminator}
-use Rattle.om_circuits.specs.SignedSets.{HaveLength}
+use Rattle.om_members.specs.Listings.{HaveLength}
 use Rattle.om_covectors.specs.Vectors.{IsSeparatedAt}
 use Rattle.om_covectors.specs.Axioms.{MeetsCovectorAxioms, HasZero, HasCovectorEliminator}
 use Rattle.om_oriented.specs.Listings.{AreAllOf}

@@ -14,7 +14,7 @@ use Rattle.om_laws.specs.Vectors as vectors
 use Rattle.om_laws.specs.Families.{IsListed}
 use Rattle.om_laws.specs.Bridge.{as_function}
 use Rattle.om_laws.proofs.SignLaws.{zero_or_nonzero}
-use Rattle.om_covectors.specs.Vectors.{IsZero, HasSupportIn}
+use Rattle.om_members.specs.Vectors.{IsZero, HasSupportIn}
 use Rattle.om_convert.specs.Families.{as_functions}
 use Rattle.om_convert.proofs.SelectionLaws.{contains_first, contains_later, first_or_later}
 

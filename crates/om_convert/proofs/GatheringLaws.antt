@@ -17,7 +17,7 @@ use Rattle.om_signs.specs.declared.limits.TheConstants.{MAX_MEMBERS}
 use Rattle.om_signs.specs.Sign.{opposite}
 use Rattle.om_signs.specs.SignVec.{at, compose, IsNonzero, IsMaskOf}
 use Rattle.om_signs.proofs.Bits.{some_bit}
-use Rattle.om_circuits.specs.SignedSets.{AreDistinct}
+use Rattle.om_members.specs.Listings.{AreDistinct}
 use Rattle.om_oriented.specs.Circuits.{HasNonzero}
 use Rattle.om_oriented.specs.Listings.{AreAllOf, HasMoreThan}
 use Rattle.om_convert.specs.declared.convert_error.ConvertError.{ConvertError}

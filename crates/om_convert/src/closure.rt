@@ -1,7 +1,7 @@
 //! Closing a set of sign vectors under composition.
 
 ghost use Rattle.std.specs.Prelude.{◌≤◌, IfOk, IfErr};
-ghost use Rattle.om_circuits.specs.SignedSets.{HaveLength};
+ghost use Rattle.om_members.specs.Listings.{HaveLength};
 ghost use Rattle.om_oriented.specs.Listings.{AreAllOf};
 ghost use Rattle.om_convert.specs.Compositions.{IsCompositionOf};
 ghost use Rattle.om_convert.specs.Limits.{IsCause};

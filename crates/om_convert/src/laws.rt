@@ -9,7 +9,7 @@ ghost use Rattle.om_laws.specs.Axioms.{CovectorAxioms};
 ghost use Rattle.om_laws.specs.Chirotope.{elements_to};
 ghost use Rattle.om_laws.specs.Families.{IsListed, AreSupportedOn};
 ghost use Rattle.om_covectors.specs.Axioms.{MeetsCovectorAxioms};
-ghost use Rattle.om_covectors.specs.CovectorSets.{HaveLength};
+ghost use Rattle.om_members.specs.Listings.{HaveLength};
 ghost use Rattle.om_covectors.specs.Minimality.{IsMinimal, AreThose};
 ghost use Rattle.om_circuits.specs.Axioms.{MeetsCircuitAxioms};
 ghost use Rattle.om_oriented.specs.Covectors.{HasConformingMember};

@@ -1,5 +1,5 @@
 ghost use Rattle.std.specs.Prelude.{◌≡◌, ◌<◌, ◌≤◌, ◌↔◌, [], length, IsTrue, IfOk, IfErr, OnOk, slice_get, Some};
-ghost use Rattle.om_circuits.specs.SignedSets.{HaveLength};
+ghost use Rattle.om_members.specs.Listings.{HaveLength};
 ghost use Rattle.om_convert.specs.Gathering.{IsMemberSet, IsOldOrAdded, IsExtendedBy, IsNonzeroUpToSign, IsComposedWith};
 ghost use Rattle.om_convert.specs.Limits.{IsCause};
 

@@ -2,7 +2,7 @@
 
 ghost use Rattle.std.specs.Prelude.{◌≡◌, ◌≤◌, ◌↔◌, IsTrue, IfOk, length};
 ghost use Rattle.std.specs.List.{Contains};
-ghost use Rattle.om_covectors.specs.CovectorSets.{HaveLength, AreDistinct};
+ghost use Rattle.om_members.specs.Listings.{HaveLength, AreDistinct};
 
 use super::{
     ConvertError, chirotope_to_circuits, chirotope_to_cocircuits, chirotope_to_covectors,

@@ -14,7 +14,8 @@ use Rattle.om_signs.proofs.Bits.{bit_at_and_not, one_shl_32, bit_from_test, no_b
 use Rattle.om_covectors.specs.Vectors.{IsSeparatedAt, EliminatesFromComposition}
 use Rattle.om_covectors.specs.Axioms.{HasCovectorEliminator}
 use Rattle.om_covectors.specs.Scans.{IsFixedOutside, HasFixedOutside}
-use Rattle.om_covectors.proofs.MaskLaws.{bit_or_none, zero_mask, plus_bit, minus_bit, separated_bit}
+use Rattle.om_members.proofs.MaskLaws.{bit_or_none, zero_mask, plus_bit, minus_bit}
+use Rattle.om_covectors.proofs.MaskLaws.{separated_bit}
 
 same_bit : (a b : ℕ) → a < 2 → b < 2 → (a ≡ 1 → b ≡ 1) → (b ≡ 1 → a ≡ 1) → a ≡ b
 same_bit a b la lb f g = elim (cases_eq a 1) [

@@ -8,27 +8,17 @@ use Rattle.om_signs.specs.declared.sign.Sign.{Sign}
 use Rattle.om_signs.specs.SignVec.{compose}
 use Rattle.om_covectors.specs.declared.cov_refused.CovRefused.{CovRefused}
 use Rattle.om_covectors.specs.declared.cov_refused.CovRefused.TheVariants.{NoZero, NoNegative, NoComposition, NoElimination}
-use Rattle.om_covectors.specs.Vectors.{negated, IsSeparatedAt}
+use Rattle.om_members.specs.Vectors.{negated}
+use Rattle.om_covectors.specs.Vectors.{IsSeparatedAt}
 use Rattle.om_covectors.specs.Axioms.{HasZero, HasCovectorEliminator, MeetsCovectorAxioms}
-use Rattle.om_covectors.specs.CovectorSets.{HaveLength}
-use Rattle.om_covectors.specs.Instances.{IsPosition, HasNoCovectorEliminator, IsViolatedCovectorAxiom, covector_key, IsBefore, IsFirstViolatedCovectorAxiom}
-use Rattle.om_covectors.specs.Scans.{nth, AllBelow, IsFirstBad, IsFirstBadPair, HasNegativeAt, HasNoNegativeAt, HasCompositionAt, HasNoCompositionAt, HasCovectorEliminatorIfAsked, IsUnblockedAt, IsFirstBlocked}
+use Rattle.om_members.specs.Listings.{HaveLength}
+use Rattle.om_members.specs.Positions.{IsPosition, IsBefore}
+use Rattle.om_covectors.specs.Instances.{HasNoCovectorEliminator, IsViolatedCovectorAxiom, covector_key, IsFirstViolatedCovectorAxiom}
+use Rattle.om_members.specs.Scans.{nth, AllBelow, IsFirstBad, IsFirstBadPair, HasNegativeAt, HasNoNegativeAt}
+use Rattle.om_covectors.specs.Scans.{HasCompositionAt, HasNoCompositionAt, HasCovectorEliminatorIfAsked, IsUnblockedAt, IsFirstBlocked}
 use Rattle.om_covectors.proofs.MaskLaws.{element_within}
-use Rattle.om_covectors.proofs.ScanLaws.{nth_contained, contains_nth}
-
--- ---- the order of instances
-
-same_number : (a : ℕ) (xs ys : List ℕ) → IsBefore (a ∷ xs) (a ∷ ys) → IsBefore xs ys
-same_number a xs ys (inl lt) = absurd (omega arith)
-same_number a xs ys (inr r) = r.1
-
-greater_number : (a b : ℕ) (xs ys : List ℕ) → b < a → IsBefore (a ∷ xs) (b ∷ ys) → ⊥
-greater_number a b xs ys l (inl lt) = absurd (omega arith)
-greater_number a b xs ys l (inr r) = let e = r.0 in absurd (omega arith)
-
-last_number : (x y : ℕ) → IsBefore (x ∷ []) (y ∷ []) → x < y
-last_number x y (inl lt) = lt
-last_number x y (inr r) = absurd r.1
+use Rattle.om_members.proofs.OrderLaws.{same_number, greater_number, last_number}
+use Rattle.om_members.proofs.ScanLaws.{nth_contained, contains_nth}
 
 -- ---- one axiom at one instance
 

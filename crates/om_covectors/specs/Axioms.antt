@@ -5,15 +5,13 @@ use Rattle.std.specs.Prelude.{ℕ, ◌≤◌, List}
 use Rattle.std.specs.List.{Contains}
 use Rattle.om_signs.specs.declared.sign.Sign.{Sign}
 use Rattle.om_signs.specs.SignVec.{compose}
-use Rattle.om_covectors.specs.Vectors.{negated, IsZero, IsSeparatedAt, EliminatesFromComposition}
+use Rattle.om_members.specs.Listings.{IsSymmetric}
+use Rattle.om_members.specs.Vectors.{IsZero}
+use Rattle.om_covectors.specs.Vectors.{IsSeparatedAt, EliminatesFromComposition}
 
 -- the zero vector is a member
 abbrev pub HasZero : List (List Sign) → Type 0
 HasZero members = (X : List Sign) × Contains members X × IsZero X
-
--- the negative of a member is a member
-abbrev pub IsSymmetric : List (List Sign) → Type 0
-IsSymmetric members = (X : List Sign) → Contains members X → Contains members (negated X)
 
 -- the composition of two members, in either order, is a member
 abbrev pub HasCompositions : List (List Sign) → Type 0

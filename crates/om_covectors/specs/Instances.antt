@@ -1,20 +1,14 @@
 -- Violated instances of the axioms of covectors, by positions in a list of members, and their order. Positions and elements count from 1.
-use Rattle.std.specs.Prelude.{ℕ, ◌≡◌, ◌-◌, ◌<◌, ◌≤◌, ◌⊎◌, List, [], ◌∷◌, length, slice_index_or}
+use Rattle.std.specs.Prelude.{ℕ, ◌-◌, ◌≤◌, List, [], ◌∷◌}
 use Rattle.std.specs.List.{Contains}
 use Rattle.om_signs.specs.declared.sign.Sign.{Sign}
 use Rattle.om_signs.specs.SignVec.{compose}
 use Rattle.om_covectors.specs.declared.cov_refused.CovRefused.{CovRefused}
 use Rattle.om_covectors.specs.declared.cov_refused.CovRefused.TheVariants.{NoZero, NoNegative, NoComposition, NoElimination}
-use Rattle.om_covectors.specs.Vectors.{negated, IsSeparatedAt}
+use Rattle.om_members.specs.Positions.{IsPosition, member_at, IsBefore}
+use Rattle.om_members.specs.Vectors.{negated}
+use Rattle.om_covectors.specs.Vectors.{IsSeparatedAt}
 use Rattle.om_covectors.specs.Axioms.{HasZero, HasCovectorEliminator}
-
--- a position of the list
-abbrev pub IsPosition : List (List Sign) → ℕ → Type 0
-IsPosition members i = (1 ≤ i) × (i ≤ length members)
-
--- the member at a position
-abbrev pub member_at : List (List Sign) → ℕ → List Sign
-member_at members i = slice_index_or members (i - 1) []
 
 -- e is in the separation of X and Y, and no member eliminates e from their composition
 pub record HasNoCovectorEliminator (members : List (List Sign)) (X Y : List Sign) (e : ℕ) : Type 0 where
@@ -35,11 +29,6 @@ covector_key NoZero = 0 ∷ []
 covector_key (NoNegative i) = 1 ∷ i ∷ []
 covector_key (NoComposition i j) = 2 ∷ i ∷ j ∷ []
 covector_key (NoElimination i j e) = 3 ∷ i ∷ j ∷ e ∷ []
-
--- the first number in which the lists differ is smaller in the first list
-abbrev pub IsBefore : List ℕ → List ℕ → Type 0
-IsBefore (x ∷ xs) (y ∷ ys) = (x < y) ⊎ ((x ≡ y) × IsBefore xs ys)
-IsBefore _ _ = ⊥
 
 -- a violated instance, and none before it is violated
 pub record IsFirstViolatedCovectorAxiom (members : List (List Sign)) (why : CovRefused) : Type 0 where

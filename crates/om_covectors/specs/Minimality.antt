@@ -4,7 +4,7 @@
 use Rattle.std.specs.Prelude.{◌≡◌, ◌⊎◌, List, [], ◌∷◌}
 use Rattle.std.specs.List.{Contains}
 use Rattle.om_signs.specs.declared.sign.Sign.{Sign}
-use Rattle.om_covectors.specs.Vectors.{IsZero, HasSupportIn}
+use Rattle.om_members.specs.Vectors.{IsZero, HasSupportIn}
 
 -- Y is not zero, and its support lies in that of X and is not the same
 pub record HasSmallerSupport (Y X : List Sign) : Type 0 where

@@ -1,40 +1,13 @@
 -- What the scans of a list of members say. Places in a list count from 0 here.
-use Rattle.std.specs.Prelude.{ℕ, ◌≡◌, ◌+◌, ◌≤◌, ◌<◌, ◌↔◌, List, [], length, slice_index_or}
+use Rattle.std.specs.Prelude.{ℕ, ◌≡◌, ◌+◌, ◌≤◌, ◌<◌, ◌↔◌, List, length}
 use Rattle.std.specs.Int.{bit_at}
 use Rattle.std.specs.List.{Contains}
 use Rattle.om_signs.specs.declared.sign.Sign.{Sign}
 use Rattle.om_signs.specs.SignVec.{compose, IsPlus, IsMinus}
-use Rattle.om_covectors.specs.Vectors.{negated, IsSeparatedAt}
+use Rattle.om_members.specs.Scans.{nth, AllBelow, IsFirstBadPair}
+use Rattle.om_covectors.specs.Vectors.{IsSeparatedAt}
 use Rattle.om_covectors.specs.Axioms.{HasCovectorEliminator}
 use Rattle.om_covectors.specs.Instances.{HasNoCovectorEliminator}
-
--- the member at a place
-abbrev pub nth : List (List Sign) → ℕ → List Sign
-nth members k = slice_index_or members k []
-
--- it holds of each number below n
-abbrev pub AllBelow : ℕ → (ℕ → Type 0) → Type 0
-AllBelow n Good = (k : ℕ) → k < n → Good k
-
--- the first bad number below n: those before it are good
-pub record IsFirstBad (n : ℕ) (Bad Good : ℕ → Type 0) (k : ℕ) : Type 0 where
-  pub within : k < n
-  pub bad : Bad k
-  pub before : AllBelow k Good
-
--- the first bad pair below n and m: those before it, by the first number and then by the second, are good
-pub record IsFirstBadPair (n m : ℕ) (Bad Good : ℕ → ℕ → Type 0) (i j : ℕ) : Type 0 where
-  pub within : i < n
-  pub second : IsFirstBad m (Bad i) (Good i) j
-  pub before : AllBelow i (λ a. AllBelow m (Good a))
-
--- the negative of the member at a place is a member
-abbrev pub HasNegativeAt : List (List Sign) → ℕ → Type 0
-HasNegativeAt members k = Contains members (negated (nth members k))
-
--- the negative of the member at a place is no member
-abbrev pub HasNoNegativeAt : List (List Sign) → ℕ → Type 0
-HasNoNegativeAt members k = HasNegativeAt members k → ⊥
 
 -- the composition of a vector and the member at a place is a member
 abbrev pub HasCompositionWith : List (List Sign) → List Sign → ℕ → Type 0

@@ -1,23 +1,11 @@
 -- What the axioms of covectors ask of one, two and three sign vectors. Elements count from 1.
 --
 -- Reference: Björner, Las Vergnas, Sturmfels, White and Ziegler, Oriented Matroids, chapter 4.
-use Rattle.std.specs.Prelude.{ℕ, ◌≡◌, ◌-◌, List, map}
+use Rattle.std.specs.Prelude.{ℕ, ◌≡◌, ◌-◌, List}
 use Rattle.om_signs.specs.declared.sign.Sign.{Sign}
 use Rattle.om_signs.specs.declared.sign.Sign.TheVariants.{Zero}
 use Rattle.om_signs.specs.Sign.{opposite}
 use Rattle.om_signs.specs.SignVec.{place, compose, IsSeparated}
-
--- all signs are opposite
-abbrev pub negated : List Sign → List Sign
-negated X = map opposite X
-
--- all signs are zero
-abbrev pub IsZero : List Sign → Type 0
-IsZero X = (e : ℕ) → place X e ≡ Zero
-
--- the support of X lies in that of Y
-abbrev pub HasSupportIn : List Sign → List Sign → Type 0
-HasSupportIn X Y = (e : ℕ) → place Y e ≡ Zero → place X e ≡ Zero
 
 -- e is in the separation of X and Y: the signs there are opposite, and neither is zero
 abbrev pub IsSeparatedAt : List Sign → List Sign → ℕ → Type 0

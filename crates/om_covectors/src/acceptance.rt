@@ -2,14 +2,15 @@
 
 ghost use Rattle.std.specs.Prelude.{◌≡◌, ◌↔◌, ◌≤◌, length, IsOk, IfOk, IfErr, IfSome, IfNone};
 ghost use Rattle.om_covectors.specs.Axioms.{MeetsCovectorAxioms};
-ghost use Rattle.om_covectors.specs.CovectorSets.{HaveLength, AreDistinct};
+ghost use Rattle.om_members.specs.Listings.{HaveLength, AreDistinct};
 ghost use Rattle.om_covectors.specs.Instances.{IsFirstViolatedCovectorAxiom};
 
 use super::bad_cov::BadCov;
-use super::closure::{first_uncomposed, first_without_negative, has_zero};
+use super::closure::{first_uncomposed, has_zero};
 use super::cov_refused::CovRefused;
 use super::covectors::Covectors;
 use super::elimination::first_blocked;
+use om_members::first_without_negative;
 use om_signs::{List, MAX_ELEMENTS, MAX_MEMBERS, SignVec};
 use std::thread::Threads;
 

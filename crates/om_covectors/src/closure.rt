@@ -1,20 +1,13 @@
-//! The axioms on zero, on negatives and on compositions.
+//! The axioms on zero and on compositions.
 
-ghost use Rattle.std.specs.Prelude.{◌≡◌, ◌↔◌, length, IsTrue, IfSome, IfNone};
-ghost use Rattle.std.specs.List.{Contains};
-ghost use Rattle.om_covectors.specs.Vectors.{IsZero};
+ghost use Rattle.std.specs.Prelude.{◌↔◌, length, IsTrue, IfSome, IfNone};
 ghost use Rattle.om_covectors.specs.Axioms.{HasZero};
-ghost use Rattle.om_covectors.specs.CovectorSets.{HaveLength};
-ghost use Rattle.om_covectors.specs.Scans.{AllBelow, IsFirstBad, IsFirstBadPair, HasNegativeAt, HasNoNegativeAt, HasCompositionWith, HasNoCompositionWith, HasCompositionAt, HasNoCompositionAt};
+ghost use Rattle.om_members.specs.Listings.{HaveLength};
+ghost use Rattle.om_members.specs.Scans.{AllBelow, IsFirstBad, IsFirstBadPair};
+ghost use Rattle.om_covectors.specs.Scans.{HasCompositionWith, HasNoCompositionWith, HasCompositionAt, HasNoCompositionAt};
 
+use om_members::{is_member, is_zero};
 use om_signs::SignVec;
-
-/// Whether all signs are zero.
-pub fn is_zero(x: SignVec) -> bool
-    ensures { IsTrue result ↔ IsZero x }
-{
-    x.support() == 0
-}
 
 /// Whether the zero vector is a member.
 pub fn has_zero(members: &[SignVec]) -> bool
@@ -26,38 +19,6 @@ pub fn has_zero(members: &[SignVec]) -> bool
         }
     }
     false
-}
-
-/// Whether two vectors are the same.
-pub fn are_same(x: SignVec, y: SignVec) -> bool
-    ensures { IsTrue result ↔ (x ≡ y) }
-{
-    x == y
-}
-
-/// Whether a vector is a member.
-pub fn is_member(members: &[SignVec], x: SignVec) -> bool
-    ensures { IsTrue result ↔ Contains members.now x }
-{
-    for y in members {
-        if are_same(*y, x) {
-            return true;
-        }
-    }
-    false
-}
-
-/// The place of the first member whose negative is no member.
-pub fn first_without_negative(members: &[SignVec]) -> Option<usize>
-    ensures none { IfNone result (AllBelow (length members.now) (HasNegativeAt members.now)) }
-    ensures first { IfSome result (IsFirstBad (length members.now) (HasNoNegativeAt members.now) (HasNegativeAt members.now)) }
-{
-    for (k, x) in members.iter().enumerate() {
-        if !is_member(members, x.neg()) {
-            return Some(k);
-        }
-    }
-    None
 }
 
 /// The place of the first member with which the composition of x is no member.

@@ -1,11 +1,12 @@
 ghost use Rattle.std.specs.Prelude.{◌≡◌, ◌≤◌, ◌↔◌, length, IfOk, IsTrue};
 ghost use Rattle.std.specs.List.{Contains};
 ghost use Rattle.om_covectors.specs.Axioms.{MeetsCovectorAxioms};
-ghost use Rattle.om_covectors.specs.CovectorSets.{HaveLength, AreDistinct, IsCovectorSet};
+ghost use Rattle.om_members.specs.Listings.{HaveLength, AreDistinct};
+ghost use Rattle.om_covectors.specs.CovectorSets.{IsCovectorSet};
 ghost use Rattle.om_covectors.specs.Minimality.{IsMinimal, AreThose};
 
-use super::closure::is_member;
 use super::minimality::is_minimal;
+use om_members::is_member;
 use om_signs::{List, MAX_ELEMENTS, MAX_MEMBERS, NoMemory, SignVec};
 use std::alloc::Global;
 use std::marker::Model;
@@ -21,7 +22,8 @@ pub struct Covectors {
 }
 
 impl Model for Covectors {
-    ghost use Rattle.om_covectors.specs.CovectorSets.{Listing, IsCovectorSet};
+    ghost use Rattle.om_members.specs.Listings.{Listing};
+    ghost use Rattle.om_covectors.specs.CovectorSets.{IsCovectorSet};
 
     ghost Value = { Listing };
 

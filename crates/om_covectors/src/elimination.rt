@@ -1,9 +1,10 @@
 //! The axiom of elimination.
 
 ghost use Rattle.std.specs.Prelude.{◌≡◌, ◌↔◌, ◌+◌, ◌≤◌, length, IsTrue, IfSome, IfNone};
-ghost use Rattle.om_covectors.specs.CovectorSets.{HaveLength};
+ghost use Rattle.om_members.specs.Listings.{HaveLength};
 ghost use Rattle.om_covectors.specs.Instances.{HasNoCovectorEliminator};
-ghost use Rattle.om_covectors.specs.Scans.{AllBelow, IsFirstBad, IsFixedOutside, HasFixedOutside, HasCovectorEliminatorIfAsked, IsUnblocked, IsUnblockedAt, IsFirstBlockedWith, IsFirstBlocked};
+ghost use Rattle.om_members.specs.Scans.{AllBelow, IsFirstBad};
+ghost use Rattle.om_covectors.specs.Scans.{IsFixedOutside, HasFixedOutside, HasCovectorEliminatorIfAsked, IsUnblocked, IsUnblockedAt, IsFirstBlockedWith, IsFirstBlocked};
 
 use om_signs::{MAX_ELEMENTS, SignVec};
 

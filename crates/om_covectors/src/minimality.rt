@@ -3,7 +3,7 @@
 ghost use Rattle.std.specs.Prelude.{◌↔◌, IsTrue, MatchBool};
 ghost use Rattle.om_covectors.specs.Minimality.{HasSmallerSupport, HasNoSmallerSupport, IsMinimal};
 
-use super::closure::is_zero;
+use om_members::is_zero;
 use om_signs::SignVec;
 
 /// Whether y is not zero and its support lies strictly in that of x.

@@ -1,10 +1,10 @@
 //! Tables of lists, accepted or refused, and of their members of minimal support.
 
 ghost use Rattle.std.specs.Prelude.{◌≡◌, ◌≤◌, length, IfOk};
-ghost use Rattle.om_covectors.specs.CovectorSets.{HaveLength, AreDistinct};
+ghost use Rattle.om_members.specs.Listings.{HaveLength, AreDistinct};
 
-use super::closure::is_member;
 use super::{CovRefused, check};
+use om_members::is_member;
 use om_signs::{List, MAX_ELEMENTS, MAX_MEMBERS, NoMemory, Sign, SignVec};
 use std::alloc::Global;
 use std::test::Fail;

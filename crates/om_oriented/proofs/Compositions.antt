@@ -17,8 +17,8 @@ use Rattle.std.specs.Cmp.{tied_itself, Equal-is}
 use Rattle.std.specs.Ordering.{is_eq}
 use Rattle.om_signs.specs.Order.{lexicographic}
 use Rattle.om_signs.specs.OrderLaws.{lexicographic-total, same_from_order, same_masks, matches_eq}
-use Rattle.om_circuits.specs.Scans.{nth}
-use Rattle.om_circuits.proofs.ScanLaws.{nth_contained}
+use Rattle.om_members.specs.Scans.{nth}
+use Rattle.om_members.proofs.ScanLaws.{nth_contained}
 use Rattle.om_oriented.specs.Covectors.{HasConformingMember}
 use Rattle.om_oriented.specs.CovectorLaws.{at_zero}
 

@@ -13,7 +13,8 @@ use Rattle.om_signs.specs.Sign.{opposite, product, first_nonzero}
 use Rattle.om_signs.specs.SignVec.{at, place, compose, IsOrthogonal}
 use Rattle.om_signs.specs.SignVec as lists
 use Rattle.om_signs.proofs.Vectors.{length-compose}
-use Rattle.om_circuits.specs.Vectors.{negated, HasSupportIn, Eliminates}
+use Rattle.om_members.specs.Vectors.{negated, HasSupportIn}
+use Rattle.om_circuits.specs.Vectors.{Eliminates}
 use Rattle.om_covectors.specs.Vectors.{EliminatesFromComposition}
 use Rattle.om_laws.specs.Signs.{IsNonzero}
 use Rattle.om_laws.specs.Members.{IsMember}

@@ -5,7 +5,7 @@ use Rattle.std.specs.Prelude.{ℕ, ◌≡◌, List, replicate}
 use Rattle.om_signs.specs.declared.sign.Sign.{Sign}
 use Rattle.om_signs.specs.declared.sign.Sign.TheVariants.{Zero}
 use Rattle.om_signs.specs.SignVec.{at, compose, IsNonzero, IsConformal, IsOrthogonal}
-use Rattle.om_circuits.specs.Vectors.{HasSupportIn}
+use Rattle.om_members.specs.Vectors.{HasSupportIn}
 use Rattle.om_oriented.specs.Circuits.{HasNonzero}
 
 -- the composition of some members, each with n signs: of none it is zero, and a member goes in front of a composition

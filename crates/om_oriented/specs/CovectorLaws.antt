@@ -15,9 +15,10 @@ use Rattle.om_signs.specs.Sign.{opposite, product}
 use Rattle.om_signs.specs.SignVec.{at, IsNonzero, HasProduct, IsOrthogonal, IsConformal}
 use Rattle.om_chirotope.specs.Map.{SignMap}
 use Rattle.om_chirotope.specs.Chirotope.{IsSound}
-use Rattle.om_circuits.specs.SignedSets.{Listing, IsSignedSet}
+use Rattle.om_members.specs.Vectors.{IsZero}
+use Rattle.om_members.specs.Listings.{Listing}
+use Rattle.om_circuits.specs.SignedSets.{IsSignedSet}
 use Rattle.om_oriented.specs.Covectors.{IsCovectorOfChirotope, IsCovectorOfCircuits, IsCovectorOfCocircuits, IsCovectorOfCovectors, HasConformingMember}
-use Rattle.om_covectors.specs.Vectors as sets
 use Rattle.om_covectors.specs.CovectorSets as covector_sets
 
 -- ---- the zero vector
@@ -106,13 +107,13 @@ negative_of_cocircuits c X v l h = record {
 
 -- ---- a set of covectors
 
-zero_is : (X : List Sign) (n : ℕ) → length X ≡ n → sets.IsZero X → X ≡ replicate n Zero
+zero_is : (X : List Sign) (n : ℕ) → length X ≡ n → IsZero X → X ≡ replicate n Zero
 zero_is X n size zero = ext_get_or Zero X (replicate n Zero) (size ∙ sym (length-replicate n Zero)) (λ i l. (let e : i ≡ i + 1 - 1 = omega arith in ap (at X) e) ∙ zero (i + 1) ∙ sym (at_zero n i))
 
 contains_replaced : (members : List (List Sign)) (X Y : List Sign) → X ≡ Y → Contains members X → Contains members Y
 contains_replaced members X Y same c = subst (Contains members) same c
 
-pub zero_of_covectors : (c : covector_sets.Listing) → covector_sets.IsCovectorSet c.elements c.members → IsCovectorOfCovectors c (replicate c.elements Zero)
+pub zero_of_covectors : (c : Listing) → covector_sets.IsCovectorSet c.elements c.members → IsCovectorOfCovectors c (replicate c.elements Zero)
 zero_of_covectors c v =
     let z = v.axioms.zero in
     record {
@@ -120,8 +121,8 @@ zero_of_covectors c v =
       member = contains_replaced c.members z.0 (replicate c.elements Zero) (zero_is z.0 c.elements (length_of c v z.0 z.1) z.2) z.1;
     }
   where
-    length_of : (c : covector_sets.Listing) → covector_sets.IsCovectorSet c.elements c.members → (X : List Sign) → Contains c.members X → length X ≡ c.elements
+    length_of : (c : Listing) → covector_sets.IsCovectorSet c.elements c.members → (X : List Sign) → Contains c.members X → length X ≡ c.elements
     length_of c v X m = All-contains (λ Y. length Y ≡ c.elements) c.members X v.lengths m
 
-pub negative_of_covectors : (c : covector_sets.Listing) (X : List Sign) → covector_sets.IsCovectorSet c.elements c.members → length X ≡ c.elements → IsCovectorOfCovectors c X → IsCovectorOfCovectors c (map opposite X)
+pub negative_of_covectors : (c : Listing) (X : List Sign) → covector_sets.IsCovectorSet c.elements c.members → length X ≡ c.elements → IsCovectorOfCovectors c X → IsCovectorOfCovectors c (map opposite X)
 negative_of_covectors c X v l h = record { size = length-map X opposite ∙ l; member = v.axioms.symmetric X h.member }

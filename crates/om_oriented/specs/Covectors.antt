@@ -7,8 +7,7 @@ use Rattle.om_signs.specs.declared.sign.Sign.{Sign}
 use Rattle.om_signs.specs.SignVec.{at, IsNonzero, IsOrthogonal, IsConformal}
 use Rattle.om_subsets.specs.Subsets.{IsSubsetFrom}
 use Rattle.om_chirotope.specs.Map.{SignMap, circuit_vector}
-use Rattle.om_circuits.specs.SignedSets.{Listing}
-use Rattle.om_covectors.specs.CovectorSets as sets
+use Rattle.om_members.specs.Listings.{Listing}
 
 -- a sign for each element, and orthogonal to the vector V of each increasing list S of one element more than the rank
 pub record IsCovectorOfChirotope (m : SignMap) (X : List Sign) : Type 0 where
@@ -30,6 +29,6 @@ pub record IsCovectorOfCocircuits (cocircuits : Listing) (X : List Sign) : Type 
   pub composed : (i : ℕ) → IsNonzero X i → HasConformingMember cocircuits.members X i
 
 -- a sign for each element, and a member
-pub record IsCovectorOfCovectors (covectors : sets.Listing) (X : List Sign) : Type 0 where
+pub record IsCovectorOfCovectors (covectors : Listing) (X : List Sign) : Type 0 where
   pub size : length X ≡ covectors.elements
   pub member : Contains covectors.members X

@@ -5,7 +5,8 @@ use Rattle.std.specs.Prelude.{ℕ, ◌≢◌, ◌≤◌, List, replicate}
 use Rattle.om_signs.specs.declared.sign.Sign.{Sign}
 use Rattle.om_signs.specs.declared.sign.Sign.TheVariants.{Zero}
 use Rattle.om_signs.specs.SignVec.{compose}
-use Rattle.om_circuits.specs.Vectors.{negated, HasSupportIn, IsOpposedAt, Eliminates}
+use Rattle.om_members.specs.Vectors.{negated, HasSupportIn}
+use Rattle.om_circuits.specs.Vectors.{IsOpposedAt, Eliminates}
 use Rattle.om_covectors.specs.Vectors.{IsSeparatedAt, EliminatesFromComposition}
 use Rattle.om_oriented.specs.Circuits.{HasNonzero, IsUpToSign}
 

@@ -2,7 +2,8 @@
 
 ghost use Rattle.std.specs.Prelude.{◌≡◌, ◌↔◌, All, IsTrue, length};
 ghost use Rattle.om_signs.specs.SignVec.{IsOrthogonal};
-ghost use Rattle.om_circuits.specs.SignedSets.{HaveLength, IsSignedSet};
+ghost use Rattle.om_members.specs.Listings.{HaveLength};
+ghost use Rattle.om_circuits.specs.SignedSets.{IsSignedSet};
 ghost use Rattle.om_oriented.specs.Covectors.{IsCovectorOfCircuits};
 ghost use Rattle.om_oriented.specs.CovectorLaws.{zero_of_circuits, negative_of_circuits};
 

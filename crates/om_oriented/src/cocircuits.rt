@@ -2,7 +2,8 @@
 
 ghost use Rattle.std.specs.Prelude.{ℕ, ◌≡◌, ◌↔◌, List, IsTrue, length};
 ghost use Rattle.om_signs.specs.SignVec.{IsNonzero};
-ghost use Rattle.om_circuits.specs.SignedSets.{HaveLength, IsSignedSet};
+ghost use Rattle.om_members.specs.Listings.{HaveLength};
+ghost use Rattle.om_circuits.specs.SignedSets.{IsSignedSet};
 ghost use Rattle.om_oriented.specs.Covectors.{IsCovectorOfCocircuits, HasConformingMember};
 ghost use Rattle.om_oriented.specs.CovectorLaws.{zero_of_cocircuits, negative_of_cocircuits};
 

@@ -2,7 +2,7 @@
 
 ghost use Rattle.std.specs.Prelude.{◌≡◌, ◌≢◌, ◌+◌, ◌<◌, ◌≤◌, ◌↔◌, IsTrue, IfOk, length};
 ghost use Rattle.std.specs.List.{Contains};
-ghost use Rattle.om_circuits.specs.SignedSets.{HaveLength, AreDistinct};
+ghost use Rattle.om_members.specs.Listings.{HaveLength, AreDistinct};
 
 use super::{Differ, Oriented, same};
 use om_chirotope::Chirotope;

@@ -11,9 +11,8 @@ use Rattle.om_signs.specs.declared.limits.TheConstants.{MAX_MEMBERS}
 use Rattle.om_signs.specs.declared.sign.Sign.{Sign}
 use Rattle.om_signs.specs.declared.raw_map.RawMap.{RawMap}
 use Rattle.om_chirotope.specs.Map.{SignMap, map_of}
-use Rattle.om_circuits.specs.SignedSets as sets
+use Rattle.om_members.specs.Listings.{Listing}
 use Rattle.om_circuits.specs.Axioms.{MeetsCircuitAxioms}
-use Rattle.om_covectors.specs.CovectorSets as covectors
 use Rattle.om_oriented.specs.Circuits.{IsCircuitOfChirotope, IsCocircuitOfChirotope}
 use Rattle.om_oriented.specs.Covectors.{IsCovectorOfChirotope, IsCovectorOfCircuits, IsCovectorOfCocircuits, IsCovectorOfCovectors}
 use Rattle.om_oriented.specs.Denotation.{DenoteTheSame}
@@ -26,9 +25,9 @@ use Rattle.om_answer.specs.declared.kind.Kind.{Kind}
 use Rattle.om_answer.specs.declared.kind.Kind.TheVariants as kind
 use Rattle.om_program.specs.declared.representation.Representation.TheVariants as representation
 use Rattle.om_program.specs.Axioms.{MeetsAxioms}
-use Rattle.om_program.specs.Covectors.{IsOfBody, IsCovectorOfBody}
+use Rattle.om_program.specs.Covectors.{IsOfBody, IsCovectorOfBody, IsCovectorIn}
 use Rattle.om_program.specs.Points.{points_map, vector_of_point}
-use Rattle.om_program.specs.Conversions.{has_kind, is_built, given, HasTooMany, HasMembersOf, IsOutcome}
+use Rattle.om_program.specs.Conversions.{has_kind, is_built, given, IsMemberAs, HasTooMany, HasMembersOfMap, HasMembersOf, IsOutcome}
 
 -- ---- a document as itself
 
@@ -54,25 +53,6 @@ own_built kind.Circuits (body.Covectors members) own = no_two own
 own_built kind.Cocircuits (body.Covectors members) own = refl
 own_built kind.Covectors (body.Covectors members) own = refl
 
--- a list gives no members of another kind
-circuits_few : (k : Kind) (members : List (List Sign)) → HasTooMany k (body.Circuits members) → ⊥
-circuits_few kind.Chirotope members more = nobody more
-circuits_few kind.Circuits members more = nobody more
-circuits_few kind.Cocircuits members more = nobody more
-circuits_few kind.Covectors members more = nobody more
-
-cocircuits_few : (k : Kind) (members : List (List Sign)) → HasTooMany k (body.Cocircuits members) → ⊥
-cocircuits_few kind.Chirotope members more = nobody more
-cocircuits_few kind.Circuits members more = nobody more
-cocircuits_few kind.Cocircuits members more = nobody more
-cocircuits_few kind.Covectors members more = nobody more
-
-covectors_few : (k : Kind) (members : List (List Sign)) → HasTooMany k (body.Covectors members) → ⊥
-covectors_few kind.Chirotope members more = nobody more
-covectors_few kind.Circuits members more = nobody more
-covectors_few kind.Cocircuits members more = nobody more
-covectors_few kind.Covectors members more = nobody more
-
 own_few : (k : Kind) (b : Body) → has_kind k b ≡ true → HasTooMany k b → ⊥
 own_few kind.Chirotope (body.Chirotope m) own more = nobody more
 own_few kind.Circuits (body.Chirotope m) own more = no_two own
@@ -82,9 +62,9 @@ own_few kind.Chirotope (body.Points points) own more = nobody more
 own_few kind.Circuits (body.Points points) own more = no_two own
 own_few kind.Cocircuits (body.Points points) own more = no_two own
 own_few kind.Covectors (body.Points points) own more = no_two own
-own_few k (body.Circuits members) own more = circuits_few k members more
-own_few k (body.Cocircuits members) own more = cocircuits_few k members more
-own_few k (body.Covectors members) own more = covectors_few k members more
+own_few k (body.Circuits members) own more = more
+own_few k (body.Cocircuits members) own more = more
+own_few k (body.Covectors members) own more = more
 
 own_members : (b : Body) → HasMembersOf b (given b)
 own_members (body.Chirotope m) = tt
@@ -131,165 +111,82 @@ own_outcome k d e same form axioms own = (
 
 -- ---- a chirotope as lists
 
-abbrev pub map_document : RawMap → Document
-map_document m = record { elements = m.elements; body = body.Chirotope m }
-
-abbrev pub points_document : List (List ℤ) → Document
-points_document points = record { elements = (points_map points).elements; body = body.Points points }
-
-abbrev pub circuits_document : sets.Listing → Document
+abbrev pub circuits_document : Listing → Document
 circuits_document s = record { elements = s.elements; body = body.Circuits s.members }
 
-abbrev pub cocircuits_document : sets.Listing → Document
+abbrev pub cocircuits_document : Listing → Document
 cocircuits_document s = record { elements = s.elements; body = body.Cocircuits s.members }
 
-abbrev pub covectors_document : covectors.Listing → Document
+abbrev pub covectors_document : Listing → Document
 covectors_document s = record { elements = s.elements; body = body.Covectors s.members }
 
-at_circuits : (m : RawMap) (s : sets.Listing) → IsInForm (circuits_document s) → MeetsAxioms (body.Circuits s.members) → s.elements ≡ m.elements → AreAllOf (IsCircuitOfChirotope (map_of m)) s.members → DenoteTheSame m.elements (IsCovectorOfChirotope (map_of m)) (IsCovectorOfCircuits s) → (HasTooMany kind.Circuits (body.Chirotope m) → ⊥) → IsOutcome kind.Circuits (map_document m) (Ok (circuits_document s))
-at_circuits m s form axioms count members same few = (
+-- a list is no map
+not_own : {P : Type 0} (k : Kind) (m : RawMap) → (k ≡ kind.Chirotope → ⊥) → has_kind k (body.Chirotope m) ≡ true → P
+not_own kind.Chirotope m other own = absurd (other refl)
+not_own kind.Circuits m other own = no_two own
+not_own kind.Cocircuits m other own = no_two own
+not_own kind.Covectors m other own = no_two own
+
+not_own_points : {P : Type 0} (k : Kind) (points : List (List ℤ)) → (k ≡ kind.Chirotope → ⊥) → has_kind k (body.Points points) ≡ true → P
+not_own_points kind.Chirotope points other own = absurd (other refl)
+not_own_points kind.Circuits points other own = no_two own
+not_own_points kind.Cocircuits points other own = no_two own
+not_own_points kind.Covectors points other own = no_two own
+
+-- a document of another kind with the members that the map gives, and the same covectors
+of_map : (k : Kind) (n : ℕ) (b : Body) (e : Document) (c : SignMap) → (k ≡ kind.Chirotope → ⊥) → IsOfBody n b (representation.Chirotope c) → IsInForm e → has_kind k e.body ≡ true → MeetsAxioms e.body → e.elements ≡ c.elements
+    → ((x : List Sign) → IsCovectorOfChirotope c x ↔ IsCovectorIn e x) → HasMembersOfMap c e.body → (HasMoreThan MAX_MEMBERS (IsMemberAs k c) → ⊥) → IsOutcome k (record { elements = n; body = b }) (Ok e)
+of_map k n (body.Chirotope m) e c other (is, size) form kind axioms count same members few = (
   refl,
-  few,
+  subst (λ u. HasMoreThan MAX_MEMBERS (IsMemberAs k u) → ⊥) is few,
   record {
     form = form;
-    kind = refl;
-    elements = count;
+    kind = kind;
+    elements = count ∙ ap (λ u. u.elements) is ∙ size;
     axioms = axioms;
-    same = λ x. (λ h. (same x h.size).0 h, λ q. (same x (q.size ∙ count)).1 q);
-    members = members;
-    own = λ h. no_two h;
+    same = subst (λ u. (x : List Sign) → IsCovectorOfChirotope u x ↔ IsCovectorIn e x) is same;
+    members = subst (λ u. HasMembersOfMap u e.body) is members;
+    own = not_own k m other;
   },
 )
-
-of_points_circuits : (points : List (List ℤ)) (s : sets.Listing) → IsInForm (circuits_document s) → MeetsAxioms (body.Circuits s.members) → s.elements ≡ (points_map points).elements → AreAllOf (IsCircuitOfChirotope (points_map points)) s.members → DenoteTheSame (points_map points).elements (IsCovectorOfChirotope (points_map points)) (IsCovectorOfCircuits s) → (HasTooMany kind.Circuits (body.Points points) → ⊥) → IsOutcome kind.Circuits (points_document points) (Ok (circuits_document s))
-of_points_circuits points s form axioms count members same few = (
+of_map k n (body.Points points) e c other (is, total) form kind axioms count same members few = (
   refl,
-  few,
+  subst (λ u. HasMoreThan MAX_MEMBERS (IsMemberAs k u) → ⊥) is few,
   record {
     form = form;
-    kind = refl;
-    elements = count;
+    kind = kind;
+    elements = count ∙ ap (λ u. u.elements) is ∙ length-map points vector_of_point ∙ total;
     axioms = axioms;
-    same = λ x. (λ h. (same x h.size).0 h, λ q. (same x (q.size ∙ count)).1 q);
-    members = members;
-    own = λ h. no_two h;
+    same = subst (λ u. (x : List Sign) → IsCovectorOfChirotope u x ↔ IsCovectorIn e x) is same;
+    members = subst (λ u. HasMembersOfMap u e.body) is members;
+    own = not_own_points k points other;
   },
 )
+of_map k n (body.Circuits members) e c other represents form kind axioms count same all few = absurd represents
+of_map k n (body.Cocircuits members) e c other represents form kind axioms count same all few = absurd represents
+of_map k n (body.Covectors members) e c other represents form kind axioms count same all few = absurd represents
 
-pub circuits_outcome : (n : ℕ) (b : Body) (e : Document) (c : SignMap) (s : sets.Listing) → IsOfBody n b (representation.Chirotope c) → e ≡ circuits_document s → IsInForm e → MeetsAxioms e.body → s.elements ≡ c.elements → AreAllOf (IsCircuitOfChirotope c) s.members → DenoteTheSame c.elements (IsCovectorOfChirotope c) (IsCovectorOfCircuits s) → (HasMoreThan MAX_MEMBERS (IsCircuitOfChirotope c) → ⊥) → IsOutcome kind.Circuits (record { elements = n; body = b }) (Ok e)
-circuits_outcome n (body.Chirotope m) e c s (is, size) made form axioms count members same few =
-    subst (λ k. IsOutcome kind.Circuits (record { elements = k; body = body.Chirotope m }) (Ok e)) size
-    (subst (λ k. IsOutcome kind.Circuits (map_document m) (Ok k)) (sym made)
-    (at_circuits m s (subst IsInForm made form) (subst (λ k. MeetsAxioms k.body) made axioms) (subst (λ k. s.elements ≡ k.elements) is count) (subst (λ k. AreAllOf (IsCircuitOfChirotope k) s.members) is members)
-    (subst (λ k. DenoteTheSame k.elements (IsCovectorOfChirotope k) (IsCovectorOfCircuits s)) is same) (subst (λ k. HasMoreThan MAX_MEMBERS (IsCircuitOfChirotope k) → ⊥) is few)))
-circuits_outcome n (body.Points points) e c s (is, total) made form axioms count members same few =
-    let size : (points_map points).elements ≡ n = length-map points vector_of_point ∙ total in
-    subst (λ k. IsOutcome kind.Circuits (record { elements = k; body = body.Points points }) (Ok e)) size
-    (subst (λ k. IsOutcome kind.Circuits (points_document points) (Ok k)) (sym made)
-    (of_points_circuits points s (subst IsInForm made form) (subst (λ k. MeetsAxioms k.body) made axioms) (subst (λ k. s.elements ≡ k.elements) is count) (subst (λ k. AreAllOf (IsCircuitOfChirotope k) s.members) is members)
-    (subst (λ k. DenoteTheSame k.elements (IsCovectorOfChirotope k) (IsCovectorOfCircuits s)) is same) (subst (λ k. HasMoreThan MAX_MEMBERS (IsCircuitOfChirotope k) → ⊥) is few)))
-circuits_outcome n (body.Circuits members) e c s other made form axioms count all same few = absurd other
-circuits_outcome n (body.Cocircuits members) e c s other made form axioms count all same few = absurd other
-circuits_outcome n (body.Covectors members) e c s other made form axioms count all same few = absurd other
+pub circuits_outcome : (n : ℕ) (b : Body) (e : Document) (c : SignMap) (s : Listing) → IsOfBody n b (representation.Chirotope c) → e ≡ circuits_document s → IsInForm e → MeetsAxioms e.body → s.elements ≡ c.elements → AreAllOf (IsCircuitOfChirotope c) s.members → DenoteTheSame c.elements (IsCovectorOfChirotope c) (IsCovectorOfCircuits s) → (HasMoreThan MAX_MEMBERS (IsCircuitOfChirotope c) → ⊥) → IsOutcome kind.Circuits (record { elements = n; body = b }) (Ok e)
+circuits_outcome n b e c s represents made form axioms count members same few =
+    subst (λ u. IsOutcome kind.Circuits (record { elements = n; body = b }) (Ok u)) (sym made)
+    (of_map kind.Circuits n b (circuits_document s) c (λ q. cc) represents (subst IsInForm made form) refl (subst (λ u. MeetsAxioms u.body) made axioms) count (λ x. (λ h. (same x h.size).0 h, λ q. (same x (q.size ∙ count)).1 q)) members few)
 
-at_cocircuits : (m : RawMap) (s : sets.Listing) → IsInForm (cocircuits_document s) → MeetsAxioms (body.Cocircuits s.members) → s.elements ≡ m.elements → AreAllOf (IsCocircuitOfChirotope (map_of m)) s.members → DenoteTheSame m.elements (IsCovectorOfChirotope (map_of m)) (IsCovectorOfCocircuits s) → (HasTooMany kind.Cocircuits (body.Chirotope m) → ⊥) → IsOutcome kind.Cocircuits (map_document m) (Ok (cocircuits_document s))
-at_cocircuits m s form axioms count members same few = (
-  refl,
-  few,
-  record {
-    form = form;
-    kind = refl;
-    elements = count;
-    axioms = axioms;
-    same = λ x. (λ h. (same x h.size).0 h, λ q. (same x (q.size ∙ count)).1 q);
-    members = members;
-    own = λ h. no_two h;
-  },
-)
+pub cocircuits_outcome : (n : ℕ) (b : Body) (e : Document) (c : SignMap) (s : Listing) → IsOfBody n b (representation.Chirotope c) → e ≡ cocircuits_document s → IsInForm e → MeetsAxioms e.body → s.elements ≡ c.elements → AreAllOf (IsCocircuitOfChirotope c) s.members → DenoteTheSame c.elements (IsCovectorOfChirotope c) (IsCovectorOfCocircuits s) → (HasMoreThan MAX_MEMBERS (IsCocircuitOfChirotope c) → ⊥) → IsOutcome kind.Cocircuits (record { elements = n; body = b }) (Ok e)
+cocircuits_outcome n b e c s represents made form axioms count members same few =
+    subst (λ u. IsOutcome kind.Cocircuits (record { elements = n; body = b }) (Ok u)) (sym made)
+    (of_map kind.Cocircuits n b (cocircuits_document s) c (λ q. cc) represents (subst IsInForm made form) refl (subst (λ u. MeetsAxioms u.body) made axioms) count (λ x. (λ h. (same x h.size).0 h, λ q. (same x (q.size ∙ count)).1 q)) members few)
 
-of_points_cocircuits : (points : List (List ℤ)) (s : sets.Listing) → IsInForm (cocircuits_document s) → MeetsAxioms (body.Cocircuits s.members) → s.elements ≡ (points_map points).elements → AreAllOf (IsCocircuitOfChirotope (points_map points)) s.members → DenoteTheSame (points_map points).elements (IsCovectorOfChirotope (points_map points)) (IsCovectorOfCocircuits s) → (HasTooMany kind.Cocircuits (body.Points points) → ⊥) → IsOutcome kind.Cocircuits (points_document points) (Ok (cocircuits_document s))
-of_points_cocircuits points s form axioms count members same few = (
-  refl,
-  few,
-  record {
-    form = form;
-    kind = refl;
-    elements = count;
-    axioms = axioms;
-    same = λ x. (λ h. (same x h.size).0 h, λ q. (same x (q.size ∙ count)).1 q);
-    members = members;
-    own = λ h. no_two h;
-  },
-)
-
-pub cocircuits_outcome : (n : ℕ) (b : Body) (e : Document) (c : SignMap) (s : sets.Listing) → IsOfBody n b (representation.Chirotope c) → e ≡ cocircuits_document s → IsInForm e → MeetsAxioms e.body → s.elements ≡ c.elements → AreAllOf (IsCocircuitOfChirotope c) s.members → DenoteTheSame c.elements (IsCovectorOfChirotope c) (IsCovectorOfCocircuits s) → (HasMoreThan MAX_MEMBERS (IsCocircuitOfChirotope c) → ⊥) → IsOutcome kind.Cocircuits (record { elements = n; body = b }) (Ok e)
-cocircuits_outcome n (body.Chirotope m) e c s (is, size) made form axioms count members same few =
-    subst (λ k. IsOutcome kind.Cocircuits (record { elements = k; body = body.Chirotope m }) (Ok e)) size
-    (subst (λ k. IsOutcome kind.Cocircuits (map_document m) (Ok k)) (sym made)
-    (at_cocircuits m s (subst IsInForm made form) (subst (λ k. MeetsAxioms k.body) made axioms) (subst (λ k. s.elements ≡ k.elements) is count) (subst (λ k. AreAllOf (IsCocircuitOfChirotope k) s.members) is members)
-    (subst (λ k. DenoteTheSame k.elements (IsCovectorOfChirotope k) (IsCovectorOfCocircuits s)) is same) (subst (λ k. HasMoreThan MAX_MEMBERS (IsCocircuitOfChirotope k) → ⊥) is few)))
-cocircuits_outcome n (body.Points points) e c s (is, total) made form axioms count members same few =
-    let size : (points_map points).elements ≡ n = length-map points vector_of_point ∙ total in
-    subst (λ k. IsOutcome kind.Cocircuits (record { elements = k; body = body.Points points }) (Ok e)) size
-    (subst (λ k. IsOutcome kind.Cocircuits (points_document points) (Ok k)) (sym made)
-    (of_points_cocircuits points s (subst IsInForm made form) (subst (λ k. MeetsAxioms k.body) made axioms) (subst (λ k. s.elements ≡ k.elements) is count) (subst (λ k. AreAllOf (IsCocircuitOfChirotope k) s.members) is members)
-    (subst (λ k. DenoteTheSame k.elements (IsCovectorOfChirotope k) (IsCovectorOfCocircuits s)) is same) (subst (λ k. HasMoreThan MAX_MEMBERS (IsCocircuitOfChirotope k) → ⊥) is few)))
-cocircuits_outcome n (body.Circuits members) e c s other made form axioms count all same few = absurd other
-cocircuits_outcome n (body.Cocircuits members) e c s other made form axioms count all same few = absurd other
-cocircuits_outcome n (body.Covectors members) e c s other made form axioms count all same few = absurd other
-
-at_covectors : (m : RawMap) (s : covectors.Listing) → IsInForm (covectors_document s) → MeetsAxioms (body.Covectors s.members) → s.elements ≡ m.elements → AreAllOf (IsCovectorOfChirotope (map_of m)) s.members → DenoteTheSame m.elements (IsCovectorOfChirotope (map_of m)) (IsCovectorOfCovectors s) → (HasTooMany kind.Covectors (body.Chirotope m) → ⊥) → IsOutcome kind.Covectors (map_document m) (Ok (covectors_document s))
-at_covectors m s form axioms count members same few = (
-  refl,
-  few,
-  record {
-    form = form;
-    kind = refl;
-    elements = count;
-    axioms = axioms;
-    same = λ x. (λ h. (same x h.size).0 h, λ q. (same x (q.size ∙ count)).1 q);
-    members = members;
-    own = λ h. no_two h;
-  },
-)
-
-of_points_covectors : (points : List (List ℤ)) (s : covectors.Listing) → IsInForm (covectors_document s) → MeetsAxioms (body.Covectors s.members) → s.elements ≡ (points_map points).elements → AreAllOf (IsCovectorOfChirotope (points_map points)) s.members → DenoteTheSame (points_map points).elements (IsCovectorOfChirotope (points_map points)) (IsCovectorOfCovectors s) → (HasTooMany kind.Covectors (body.Points points) → ⊥) → IsOutcome kind.Covectors (points_document points) (Ok (covectors_document s))
-of_points_covectors points s form axioms count members same few = (
-  refl,
-  few,
-  record {
-    form = form;
-    kind = refl;
-    elements = count;
-    axioms = axioms;
-    same = λ x. (λ h. (same x h.size).0 h, λ q. (same x (q.size ∙ count)).1 q);
-    members = members;
-    own = λ h. no_two h;
-  },
-)
-
-pub covectors_outcome : (n : ℕ) (b : Body) (e : Document) (c : SignMap) (s : covectors.Listing) → IsOfBody n b (representation.Chirotope c) → e ≡ covectors_document s → IsInForm e → MeetsAxioms e.body → s.elements ≡ c.elements → AreAllOf (IsCovectorOfChirotope c) s.members → DenoteTheSame c.elements (IsCovectorOfChirotope c) (IsCovectorOfCovectors s) → (HasMoreThan MAX_MEMBERS (IsCovectorOfChirotope c) → ⊥) → IsOutcome kind.Covectors (record { elements = n; body = b }) (Ok e)
-covectors_outcome n (body.Chirotope m) e c s (is, size) made form axioms count members same few =
-    subst (λ k. IsOutcome kind.Covectors (record { elements = k; body = body.Chirotope m }) (Ok e)) size
-    (subst (λ k. IsOutcome kind.Covectors (map_document m) (Ok k)) (sym made)
-    (at_covectors m s (subst IsInForm made form) (subst (λ k. MeetsAxioms k.body) made axioms) (subst (λ k. s.elements ≡ k.elements) is count) (subst (λ k. AreAllOf (IsCovectorOfChirotope k) s.members) is members)
-    (subst (λ k. DenoteTheSame k.elements (IsCovectorOfChirotope k) (IsCovectorOfCovectors s)) is same) (subst (λ k. HasMoreThan MAX_MEMBERS (IsCovectorOfChirotope k) → ⊥) is few)))
-covectors_outcome n (body.Points points) e c s (is, total) made form axioms count members same few =
-    let size : (points_map points).elements ≡ n = length-map points vector_of_point ∙ total in
-    subst (λ k. IsOutcome kind.Covectors (record { elements = k; body = body.Points points }) (Ok e)) size
-    (subst (λ k. IsOutcome kind.Covectors (points_document points) (Ok k)) (sym made)
-    (of_points_covectors points s (subst IsInForm made form) (subst (λ k. MeetsAxioms k.body) made axioms) (subst (λ k. s.elements ≡ k.elements) is count) (subst (λ k. AreAllOf (IsCovectorOfChirotope k) s.members) is members)
-    (subst (λ k. DenoteTheSame k.elements (IsCovectorOfChirotope k) (IsCovectorOfCovectors s)) is same) (subst (λ k. HasMoreThan MAX_MEMBERS (IsCovectorOfChirotope k) → ⊥) is few)))
-covectors_outcome n (body.Circuits members) e c s other made form axioms count all same few = absurd other
-covectors_outcome n (body.Cocircuits members) e c s other made form axioms count all same few = absurd other
-covectors_outcome n (body.Covectors members) e c s other made form axioms count all same few = absurd other
+pub covectors_outcome : (n : ℕ) (b : Body) (e : Document) (c : SignMap) (s : Listing) → IsOfBody n b (representation.Chirotope c) → e ≡ covectors_document s → IsInForm e → MeetsAxioms e.body → s.elements ≡ c.elements → AreAllOf (IsCovectorOfChirotope c) s.members → DenoteTheSame c.elements (IsCovectorOfChirotope c) (IsCovectorOfCovectors s) → (HasMoreThan MAX_MEMBERS (IsCovectorOfChirotope c) → ⊥) → IsOutcome kind.Covectors (record { elements = n; body = b }) (Ok e)
+covectors_outcome n b e c s represents made form axioms count members same few =
+    subst (λ u. IsOutcome kind.Covectors (record { elements = n; body = b }) (Ok u)) (sym made)
+    (of_map kind.Covectors n b (covectors_document s) c (λ q. cc) represents (subst IsInForm made form) refl (subst (λ u. MeetsAxioms u.body) made axioms) count (λ x. (λ h. (same x h.size).0 h, λ q. (same x (q.size ∙ count)).1 q)) members few)
 
 -- ---- covectors as cocircuits
 
-at_minimal : (c : covectors.Listing) (s : sets.Listing) → IsInForm (cocircuits_document s) → MeetsCircuitAxioms s.members → s.elements ≡ c.elements → DenoteTheSame c.elements (Contains c.members) (IsCovectorOfCocircuits s) → IsOutcome kind.Cocircuits (covectors_document c) (Ok (cocircuits_document s))
+at_minimal : (c s : Listing) → IsInForm (cocircuits_document s) → MeetsCircuitAxioms s.members → s.elements ≡ c.elements → DenoteTheSame c.elements (Contains c.members) (IsCovectorOfCocircuits s) → IsOutcome kind.Cocircuits (covectors_document c) (Ok (cocircuits_document s))
 at_minimal c s form axioms count same = (
   refl,
-  covectors_few kind.Cocircuits c.members,
+  (λ more. more),
   record {
     form = form;
     kind = refl;
@@ -301,7 +198,7 @@ at_minimal c s form axioms count same = (
   },
 )
 
-pub minimal_outcome : (n : ℕ) (b : Body) (e : Document) (c : covectors.Listing) (s : sets.Listing) → IsOfBody n b (representation.Covectors c) → e ≡ cocircuits_document s → IsInForm e → MeetsAxioms e.body → s.elements ≡ c.elements → DenoteTheSame c.elements (Contains c.members) (IsCovectorOfCocircuits s) → IsOutcome kind.Cocircuits (record { elements = n; body = b }) (Ok e)
+pub minimal_outcome : (n : ℕ) (b : Body) (e : Document) (c s : Listing) → IsOfBody n b (representation.Covectors c) → e ≡ cocircuits_document s → IsInForm e → MeetsAxioms e.body → s.elements ≡ c.elements → DenoteTheSame c.elements (Contains c.members) (IsCovectorOfCocircuits s) → IsOutcome kind.Cocircuits (record { elements = n; body = b }) (Ok e)
 minimal_outcome n (body.Covectors members) e c s is made form axioms count same =
     subst (λ d. IsOutcome kind.Cocircuits d (Ok e)) (ap covectors_document is)
     (subst (λ k. IsOutcome kind.Cocircuits (covectors_document c) (Ok k)) (sym made) (at_minimal c s (subst IsInForm made form) (subst (λ k. MeetsAxioms k.body) made axioms) count same))

@@ -3,9 +3,9 @@ use Rattle.std.specs.Prelude.{ℕ, ◌≡◌}
 use Rattle.std.proofs.Common.{ap, ◌∙◌}
 use Rattle.std.proofs.lemmas.List.{length-map}
 use Rattle.om_chirotope.specs.Map.{SignMap}
+use Rattle.om_members.specs.Listings.{Listing}
 use Rattle.om_circuits.specs.declared.circuits.Circuits.{Circuits}
 use Rattle.om_circuits.specs.declared.cocircuits.Cocircuits.{Cocircuits}
-use Rattle.om_covectors.specs.CovectorSets as sets
 use Rattle.om_text.specs.declared.document.Document.{Document}
 use Rattle.om_text.specs.declared.body.Body.{Body}
 use Rattle.om_text.specs.declared.body.Body.TheVariants as body
@@ -37,7 +37,7 @@ given_cocircuits n (body.Cocircuits members) c e is same = same
 given_cocircuits n (body.Covectors members) c e is same = absurd is
 given_cocircuits n (body.Points points) c e is same = absurd is
 
-pub given_covectors : (n : ℕ) (b : Body) (c : sets.Listing) (e : Document) → IsOfBody n b (representation.Covectors c) → e ≡ record { elements = n; body = b } → e ≡ record { elements = n; body = given b }
+pub given_covectors : (n : ℕ) (b : Body) (c : Listing) (e : Document) → IsOfBody n b (representation.Covectors c) → e ≡ record { elements = n; body = b } → e ≡ record { elements = n; body = given b }
 given_covectors n (body.Chirotope m) c e is same = absurd is
 given_covectors n (body.Circuits members) c e is same = absurd is
 given_covectors n (body.Cocircuits members) c e is same = absurd is

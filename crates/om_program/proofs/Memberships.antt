@@ -6,11 +6,10 @@ use Rattle.std.proofs.Common.{subst, ◌∙◌}
 use Rattle.std.proofs.lemmas.List.{length-map}
 use Rattle.om_signs.specs.declared.sign.Sign.{Sign}
 use Rattle.om_chirotope.specs.Map.{SignMap, map_of}
-use Rattle.om_circuits.specs.SignedSets.{Listing}
+use Rattle.om_members.specs.Listings.{Listing}
 use Rattle.om_circuits.specs.declared.circuits.Circuits.{Circuits}
 use Rattle.om_circuits.specs.declared.cocircuits.Cocircuits.{Cocircuits}
 use Rattle.om_oriented.specs.Covectors.{IsCovectorOfChirotope, IsCovectorOfCircuits, IsCovectorOfCocircuits, IsCovectorOfCovectors}
-use Rattle.om_covectors.specs.CovectorSets as sets
 use Rattle.om_text.specs.declared.body.Body.{Body}
 use Rattle.om_text.specs.declared.body.Body.TheVariants as body
 use Rattle.om_program.specs.declared.representation.Representation.TheVariants as representation
@@ -48,8 +47,8 @@ of_cocircuits n (body.Points points) c x answer other h = absurd other
 of_cocircuits n (body.Circuits members) c x answer other h = absurd other
 of_cocircuits n (body.Covectors members) c x answer other h = absurd other
 
-pub of_covectors : (n : ℕ) (b : Body) (c : sets.Listing) (x : List Sign) (answer : Answer) → IsOfBody n b (representation.Covectors c) → IsMembership c.elements (IsCovectorOfCovectors c) x answer → IsMembership n (IsCovectorOfBody n b) x answer
-of_covectors n (body.Covectors members) c x answer same h = let P : sets.Listing → Type 0 = λ k. IsMembership k.elements (IsCovectorOfCovectors k) x answer in subst P same h
+pub of_covectors : (n : ℕ) (b : Body) (c : Listing) (x : List Sign) (answer : Answer) → IsOfBody n b (representation.Covectors c) → IsMembership c.elements (IsCovectorOfCovectors c) x answer → IsMembership n (IsCovectorOfBody n b) x answer
+of_covectors n (body.Covectors members) c x answer same h = let P : Listing → Type 0 = λ k. IsMembership k.elements (IsCovectorOfCovectors k) x answer in subst P same h
 of_covectors n (body.Chirotope m) c x answer other h = absurd other
 of_covectors n (body.Points points) c x answer other h = absurd other
 of_covectors n (body.Circuits members) c x answer other h = absurd other

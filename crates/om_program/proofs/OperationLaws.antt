@@ -8,9 +8,9 @@ use Rattle.std.proofs.lemmas.List.{length-map}
 use Rattle.om_signs.specs.declared.limits.TheConstants.{MAX_ELEMENTS}
 use Rattle.om_subsets.proofs.Masks.{mask_of-lt}
 use Rattle.om_chirotope.specs.Map.{SignMap}
+use Rattle.om_members.specs.Listings.{Listing}
 use Rattle.om_circuits.specs.declared.circuits.Circuits.{Circuits}
 use Rattle.om_circuits.specs.declared.cocircuits.Cocircuits.{Cocircuits}
-use Rattle.om_covectors.specs.CovectorSets as sets
 use Rattle.om_oriented.specs.Covectors.{IsCovectorOfChirotope}
 use Rattle.om_text.specs.declared.document.Document.{Document}
 use Rattle.om_text.specs.declared.body.Body.{Body}
@@ -79,7 +79,7 @@ cocircuits_not_built o n (body.Points points) s other = absurd other
 cocircuits_not_built o n (body.Circuits members) s other = absurd other
 cocircuits_not_built o n (body.Covectors members) s other = absurd other
 
-covectors_not_built : (o : Operation) (n : ℕ) (b : Body) (s : sets.Listing) → IsOfBody n b (representation.Covectors s) → IsOperation o (record { elements = n; body = b }) (says status.Refused line.RefusedUnbuilt)
+covectors_not_built : (o : Operation) (n : ℕ) (b : Body) (s : Listing) → IsOfBody n b (representation.Covectors s) → IsOperation o (record { elements = n; body = b }) (says status.Refused line.RefusedUnbuilt)
 covectors_not_built o n (body.Covectors members) s is = not_built refl
 covectors_not_built o n (body.Chirotope m) s other = absurd other
 covectors_not_built o n (body.Points points) s other = absurd other
@@ -88,7 +88,7 @@ covectors_not_built o n (body.Cocircuits members) s other = absurd other
 
 -- a list of sign vectors
 abbrev pub IsList : Representation → Type 0
-IsList r = ((s : Circuits) × (r ≡ representation.Circuits s)) ⊎ (((s : Cocircuits) × (r ≡ representation.Cocircuits s)) ⊎ ((s : sets.Listing) × (r ≡ representation.Covectors s)))
+IsList r = ((s : Circuits) × (r ≡ representation.Circuits s)) ⊎ (((s : Cocircuits) × (r ≡ representation.Cocircuits s)) ⊎ ((s : Listing) × (r ≡ representation.Covectors s)))
 
 pub lists_not_built : (o : Operation) (d : Document) (r : Representation) → IsList r → Represents d r → IsOperation o d (says status.Refused line.RefusedUnbuilt)
 lists_not_built o d r (inl (s, same)) represents = circuits_not_built o d.elements d.body s (subst (Represents d) same represents)

@@ -2,7 +2,7 @@
 use Rattle.std.specs.Prelude.{◌≡◌, ◌↔◌, List, Bool, true, false, Result, Ok, Err}
 use Rattle.om_signs.specs.declared.limits.TheConstants.{MAX_MEMBERS}
 use Rattle.om_signs.specs.declared.sign.Sign.{Sign}
-use Rattle.om_chirotope.specs.Map.{map_of}
+use Rattle.om_chirotope.specs.Map.{SignMap, map_of}
 use Rattle.om_oriented.specs.Circuits.{IsCircuitOfChirotope, IsCocircuitOfChirotope}
 use Rattle.om_oriented.specs.Covectors.{IsCovectorOfChirotope}
 use Rattle.om_oriented.specs.Listings.{AreAllOf, HasMoreThan}
@@ -42,27 +42,29 @@ is_built kind.Cocircuits (body.Covectors members) = true
 is_built k b = has_kind k b
 
 -- the sign vectors that a map gives as members of a list of a kind
-abbrev pub IsMemberAs : Kind → Body → List Sign → Type 0
-IsMemberAs kind.Circuits (body.Chirotope m) = IsCircuitOfChirotope (map_of m)
-IsMemberAs kind.Cocircuits (body.Chirotope m) = IsCocircuitOfChirotope (map_of m)
-IsMemberAs kind.Covectors (body.Chirotope m) = IsCovectorOfChirotope (map_of m)
-IsMemberAs kind.Circuits (body.Points points) = IsCircuitOfChirotope (points_map points)
-IsMemberAs kind.Cocircuits (body.Points points) = IsCocircuitOfChirotope (points_map points)
-IsMemberAs kind.Covectors (body.Points points) = IsCovectorOfChirotope (points_map points)
-IsMemberAs _ _ = λ x. ⊥
+abbrev pub IsMemberAs : Kind → SignMap → List Sign → Type 0
+IsMemberAs kind.Circuits m = IsCircuitOfChirotope m
+IsMemberAs kind.Cocircuits m = IsCocircuitOfChirotope m
+IsMemberAs kind.Covectors m = IsCovectorOfChirotope m
+IsMemberAs kind.Chirotope m = λ x. ⊥
 
--- a map gives more members of a kind than a list may have
+-- a map, or that of points, gives more members of a kind than a list may have
 abbrev pub HasTooMany : Kind → Body → Type 0
-HasTooMany k b = HasMoreThan MAX_MEMBERS (IsMemberAs k b)
+HasTooMany k (body.Chirotope m) = HasMoreThan MAX_MEMBERS (IsMemberAs k (map_of m))
+HasTooMany k (body.Points points) = HasMoreThan MAX_MEMBERS (IsMemberAs k (points_map points))
+HasTooMany k _ = ⊥
+
+-- a list has exactly the members of its kind that a map gives
+abbrev pub HasMembersOfMap : SignMap → Body → Type 0
+HasMembersOfMap m (body.Circuits members) = AreAllOf (IsMemberAs kind.Circuits m) members
+HasMembersOfMap m (body.Cocircuits members) = AreAllOf (IsMemberAs kind.Cocircuits m) members
+HasMembersOfMap m (body.Covectors members) = AreAllOf (IsMemberAs kind.Covectors m) members
+HasMembersOfMap m _ = Unit {0}
 
 -- the second body has exactly the members of its kind that the first one gives, where that is a map or points
 abbrev pub HasMembersOf : Body → Body → Type 0
-HasMembersOf (body.Chirotope m) (body.Circuits members) = AreAllOf (IsCircuitOfChirotope (map_of m)) members
-HasMembersOf (body.Chirotope m) (body.Cocircuits members) = AreAllOf (IsCocircuitOfChirotope (map_of m)) members
-HasMembersOf (body.Chirotope m) (body.Covectors members) = AreAllOf (IsCovectorOfChirotope (map_of m)) members
-HasMembersOf (body.Points points) (body.Circuits members) = AreAllOf (IsCircuitOfChirotope (points_map points)) members
-HasMembersOf (body.Points points) (body.Cocircuits members) = AreAllOf (IsCocircuitOfChirotope (points_map points)) members
-HasMembersOf (body.Points points) (body.Covectors members) = AreAllOf (IsCovectorOfChirotope (points_map points)) members
+HasMembersOf (body.Chirotope m) b = HasMembersOfMap (map_of m) b
+HasMembersOf (body.Points points) b = HasMembersOfMap (points_map points) b
 HasMembersOf _ _ = Unit {0}
 
 -- e is d as a document of a kind: it meets the axioms of this kind and denotes the same; a document of the kind is itself, and

@@ -1,6 +1,6 @@
 use Rattle.std.proofs.Common.{◌≡◌, ◌≢◌, ◌-◌, ◌<◌, ◌↔◌, List, Bool, true, false, IsTrue, arith, below_more, refl, sym, ◌∙◌}
 use Rattle.om_signs.specs.declared.sign.Sign.{Sign}
-use Rattle.om_circuits.specs.Vectors.{negated}
+use Rattle.om_members.specs.Vectors.{negated}
 use Rattle.om_circuits.specs.Scans.{HasEliminatorIfAsked}
 use Rattle.om_circuits.proofs.EliminationLaws.{has_within_eliminator, opposed_if_tested, tested_if_opposed, none_opposed}
 use Rattle.om_circuits.proofs.elimination.first_stuck_element.Goals as goal

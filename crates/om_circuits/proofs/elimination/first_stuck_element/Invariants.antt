@@ -1,4 +1,5 @@
-use Rattle.om_circuits.specs.Scans.{AllBelow, HasEliminatorIfAsked}
+use Rattle.om_members.specs.Scans.{AllBelow}
+use Rattle.om_circuits.specs.Scans.{HasEliminatorIfAsked}
 use Rattle.om_circuits.proofs.elimination.first_stuck_element.Given as goal
 
 abbrev pub invariant-loop-e : goal.invariant-loop-e

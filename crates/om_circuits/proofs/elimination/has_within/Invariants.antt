@@ -1,4 +1,5 @@
-use Rattle.om_circuits.specs.Scans.{AllBelow, IsWithin, nth}
+use Rattle.om_members.specs.Scans.{AllBelow, nth}
+use Rattle.om_circuits.specs.Scans.{IsWithin}
 use Rattle.om_circuits.proofs.elimination.has_within.Given as goal
 
 abbrev pub invariant-loop-z : goal.invariant-loop-z

@@ -1,4 +1,5 @@
-use Rattle.om_circuits.specs.Scans.{AllBelow, IsUnnestedIn, nth}
+use Rattle.om_members.specs.Scans.{AllBelow, nth}
+use Rattle.om_circuits.specs.Scans.{IsUnnestedIn}
 use Rattle.om_circuits.proofs.supports.first_around.Given as goal
 
 abbrev pub invariant-loop-k : goal.invariant-loop-k

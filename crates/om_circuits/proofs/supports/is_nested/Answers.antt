@@ -1,10 +1,10 @@
 use Rattle.std.proofs.Common.{◌≡◌, ◌≢◌, ◌↔◌, List, Bool, true, false, not, IsTrue, MatchBool, refl, sym, ◌∙◌, inl, inr}
 use Rattle.std.proofs.lemmas.Bool.{eqb-true}
 use Rattle.om_signs.specs.declared.sign.Sign.{Sign}
-use Rattle.om_circuits.specs.Vectors.{negated, HasSupportIn}
+use Rattle.om_members.specs.Vectors.{negated, HasSupportIn}
 use Rattle.om_circuits.specs.Instances.{IsNestedIn}
 use Rattle.om_circuits.specs.Scans.{IsUnnestedIn}
-use Rattle.om_circuits.proofs.MaskLaws.{nested_test}
+use Rattle.om_members.proofs.MaskLaws.{support_test}
 use Rattle.om_circuits.proofs.supports.is_nested.Goals as goal
 use Rattle.om_circuits.proofs.supports.is_nested.Goals.{then-support-eq0, else-support-eq0}
 
@@ -29,7 +29,7 @@ pub returns-then-not-are_same : goal.returns-then-not-are_same
 returns-then-not-are_same c = elim c.if-support-eq0.branch [
   | then-support-eq0 w ↦
       negatives c.args.x c.args.y c.neg.result c.are_same-then-not-are_same.result
-      ((nested_test c.args.x c.args.y c.support.result c.support-2.result c.support.type_inv c.support-2.type_inv c.support.ensures c.support-2.ensures).0 w.if-support-eq0.true)
+      ((support_test c.args.x c.args.y c.support.result c.support-2.result c.support.type_inv c.support-2.type_inv c.support.ensures c.support-2.ensures).0 w.if-support-eq0.true)
       (λ e. not_true w.are_same.result (sym w.value-is ∙ c.if-not-are_same.true) (w.are_same.ensures.1 e))
       c.neg.ensures
       c.are_same-then-not-are_same.ensures
@@ -39,5 +39,5 @@ returns-then-not-are_same c = elim c.if-support-eq0.branch [
 pub returns-else-not-are_same : goal.returns-else-not-are_same
 returns-else-not-are_same c = unnested c.if-support-eq0.value c.args.x c.args.y c.if-not-are_same.false (elim c.if-support-eq0.branch [
   | then-support-eq0 w ↦ λ _. inl (w.are_same.ensures.0 (from_not w.are_same.result (sym w.value-is ∙ c.if-not-are_same.false)))
-  | else-support-eq0 w ↦ λ h. absurd (w.if-support-eq0.false ((nested_test c.args.x c.args.y c.support.result c.support-2.result c.support.type_inv c.support-2.type_inv c.support.ensures c.support-2.ensures).1 h))
+  | else-support-eq0 w ↦ λ h. absurd (w.if-support-eq0.false ((support_test c.args.x c.args.y c.support.result c.support-2.result c.support.type_inv c.support-2.type_inv c.support.ensures c.support-2.ensures).1 h))
 ])

@@ -1,6 +1,6 @@
 use Rattle.std.proofs.Common.{◌≤◌, length}
 use Rattle.om_signs.specs.declared.limits.TheConstants.{MAX_MEMBERS}
-use Rattle.om_circuits.specs.SignedSets.{HaveLength, AreDistinct}
+use Rattle.om_members.specs.Listings.{HaveLength, AreDistinct}
 use Rattle.om_circuits.proofs.tests.list_of.Given as goal
 
 abbrev pub invariant-loop-word : goal.invariant-loop-word

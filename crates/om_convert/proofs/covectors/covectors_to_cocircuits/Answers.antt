@@ -1,5 +1,5 @@
 use Rattle.std.proofs.Common.{◌≡◌, length, sym, subst, ◌∙◌, arith}
-use Rattle.om_covectors.specs.CovectorSets.{HaveLength}
+use Rattle.om_members.specs.Listings.{HaveLength}
 use Rattle.om_covectors.specs.Minimality.{IsMinimal}
 use Rattle.om_convert.proofs.SelectionLaws.{those_all, those_few, those_distinct}
 use Rattle.om_convert.proofs.CocircuitLaws.{minimal_axioms, same_covectors}

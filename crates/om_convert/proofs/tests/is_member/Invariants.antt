@@ -1,5 +1,5 @@
 use Rattle.std.proofs.Common.{◌≢◌}
-use Rattle.om_covectors.specs.Scans.{AllBelow, nth}
+use Rattle.om_members.specs.Scans.{AllBelow, nth}
 use Rattle.om_convert.proofs.tests.is_member.Given as goal
 
 abbrev pub invariant-loop-y : goal.invariant-loop-y

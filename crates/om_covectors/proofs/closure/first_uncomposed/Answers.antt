@@ -1,6 +1,7 @@
 use Rattle.std.proofs.Common.{length, below_more, sym, subst}
-use Rattle.om_covectors.specs.Scans.{AllBelow, IsFirstBad, HasCompositionWith, HasNoCompositionWith, HasCompositionAt}
-use Rattle.om_covectors.proofs.ScanLaws.{nth_read}
+use Rattle.om_members.specs.Scans.{AllBelow, IsFirstBad}
+use Rattle.om_covectors.specs.Scans.{HasCompositionWith, HasNoCompositionWith, HasCompositionAt}
+use Rattle.om_members.proofs.ScanLaws.{nth_read}
 use Rattle.om_covectors.proofs.closure.first_uncomposed.Goals as goal
 
 pub returns-in-Some-clause-first : goal.returns-in-Some-clause-first

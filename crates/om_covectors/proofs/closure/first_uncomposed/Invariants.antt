@@ -1,5 +1,6 @@
 use Rattle.std.proofs.Common.{length}
-use Rattle.om_covectors.specs.Scans.{AllBelow, HasCompositionAt}
+use Rattle.om_members.specs.Scans.{AllBelow}
+use Rattle.om_covectors.specs.Scans.{HasCompositionAt}
 use Rattle.om_covectors.proofs.closure.first_uncomposed.Given as goal
 
 abbrev pub invariant-loop-i : goal.invariant-loop-i

@@ -3,7 +3,7 @@ use Rattle.std.specs.List.{Contains}
 use Rattle.om_signs.specs.declared.sign.Sign.{Sign}
 use Rattle.om_signs.specs.SignVec.{compose}
 use Rattle.om_covectors.specs.Scans.{HasCompositionWith}
-use Rattle.om_covectors.proofs.ScanLaws.{nth_read}
+use Rattle.om_members.proofs.ScanLaws.{nth_read}
 use Rattle.om_covectors.proofs.closure.first_uncomposed_with.Goals as goal
 
 composition_found : (members : List (List Sign)) (k : ℕ) (x y n : List Sign) → k < length members → y ≡ get_or members k y → n ≡ compose x y → Contains members n → HasCompositionWith members x k

@@ -1,4 +1,5 @@
-use Rattle.om_covectors.specs.Scans.{AllBelow, HasCompositionWith}
+use Rattle.om_members.specs.Scans.{AllBelow}
+use Rattle.om_covectors.specs.Scans.{HasCompositionWith}
 use Rattle.om_covectors.proofs.closure.first_uncomposed_with.Given as goal
 
 abbrev pub invariant-loop-j : goal.invariant-loop-j

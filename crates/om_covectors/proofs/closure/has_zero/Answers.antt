@@ -1,6 +1,6 @@
 use Rattle.std.proofs.Common.{◌≡◌, true, false, sym, subst, arith}
-use Rattle.om_covectors.specs.Vectors.{IsZero}
-use Rattle.om_covectors.proofs.ScanLaws.{nth_contained}
+use Rattle.om_members.specs.Vectors.{IsZero}
+use Rattle.om_members.proofs.ScanLaws.{nth_contained}
 use Rattle.om_covectors.proofs.closure.has_zero.Goals as goal
 
 pub returns : goal.returns

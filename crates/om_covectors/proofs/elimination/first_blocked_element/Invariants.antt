@@ -1,4 +1,5 @@
-use Rattle.om_covectors.specs.Scans.{AllBelow, HasCovectorEliminatorIfAsked}
+use Rattle.om_members.specs.Scans.{AllBelow}
+use Rattle.om_covectors.specs.Scans.{HasCovectorEliminatorIfAsked}
 use Rattle.om_covectors.proofs.elimination.first_blocked_element.Given as goal
 
 abbrev pub invariant-loop-e : goal.invariant-loop-e

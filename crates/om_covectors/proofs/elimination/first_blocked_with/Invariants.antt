@@ -1,5 +1,6 @@
 use Rattle.std.proofs.Common.{◌+◌}
-use Rattle.om_covectors.specs.Scans.{AllBelow, IsUnblockedWith}
+use Rattle.om_members.specs.Scans.{AllBelow}
+use Rattle.om_covectors.specs.Scans.{IsUnblockedWith}
 use Rattle.om_covectors.proofs.elimination.first_blocked_with.Given as goal
 
 abbrev pub invariant-loop-j : goal.invariant-loop-j

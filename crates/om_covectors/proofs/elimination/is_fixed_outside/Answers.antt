@@ -1,6 +1,6 @@
 use Rattle.std.proofs.lemmas.Bool.{eq-eqb, eqb-true}
 use Rattle.om_signs.specs.SignVec.{IsPlus, IsMinus}
-use Rattle.om_covectors.proofs.MaskLaws.{plus_bit, minus_bit}
+use Rattle.om_members.proofs.MaskLaws.{plus_bit, minus_bit}
 use Rattle.om_covectors.proofs.EliminationLaws.{fixed_mask}
 use Rattle.om_covectors.proofs.elimination.is_fixed_outside.Goals as goal
 

@@ -1,29 +1,10 @@
-use Rattle.std.proofs.Common.{ℕ, ◌≡◌, ◌⊎◌, List, [], ◌∷◌, length, suc, refl, arith, inl, inr, sym}
-use Rattle.std.proofs.lemmas.Bool.{cases_lt}
+use Rattle.std.proofs.Common.{◌≡◌, ◌⊎◌, [], ◌∷◌, refl, arith, inl, inr}
 use Rattle.om_covectors.specs.declared.cov_refused.CovRefused.{CovRefused}
 use Rattle.om_covectors.specs.declared.cov_refused.CovRefused.TheVariants.{NoZero, NoNegative, NoComposition, NoElimination}
-use Rattle.om_covectors.specs.Instances.{covector_key, IsBefore}
+use Rattle.om_members.specs.Positions.{IsBefore}
+use Rattle.om_covectors.specs.Instances.{covector_key}
+use Rattle.om_members.proofs.OrderLaws.{ordered}
 use Rattle.om_covectors.proofs.laws.one_first_instance.Goals as goal
-
--- of two lists of one length one is before the other, or they are equal
-ordered : (xs ys : List ℕ) → length xs ≡ length ys → IsBefore xs ys ⊎ (IsBefore ys xs ⊎ (xs ≡ ys))
-ordered [] [] l = inr (inr refl)
-ordered [] (y ∷ ys) l = absurd (let e : 0 ≡ suc (length ys) = l in omega arith)
-ordered (x ∷ xs) [] l = absurd (let e : suc (length xs) ≡ 0 = l in omega arith)
-ordered (x ∷ xs) (y ∷ ys) l = elim (cases_lt x y) [
-  | inl lt ↦ inl (inl lt)
-  | inr ge ↦ elim (cases_lt y x) [
-    | inl lt ↦ inr (inl (inl lt))
-    | inr le ↦
-        let e : x ≡ y = omega arith in
-        let m : length xs ≡ length ys = let k : suc (length xs) ≡ suc (length ys) = l in omega arith in
-        elim (ordered xs ys m) [
-          | inl b ↦ inl (inr (e, b))
-          | inr (inl b) ↦ inr (inl (inr (sym e, b)))
-          | inr (inr q) ↦ inr (inr (cc (e, q)))
-        ]
-  ]
-]
 
 -- an instance is known by its key
 same_key : (a b : CovRefused) → covector_key a ≡ covector_key b → a ≡ b

@@ -1,9 +1,9 @@
 use Rattle.std.proofs.Common.{◌≡◌, ◌↔◌, List, Bool, true, false, not, IsTrue, MatchBool, nat_eq, bit_and, ◌-◌, refl, sym, ◌∙◌}
 use Rattle.std.proofs.lemmas.Bool.{eq-eqb, eqb-true}
 use Rattle.om_signs.specs.declared.sign.Sign.{Sign}
-use Rattle.om_covectors.specs.Vectors.{IsZero, HasSupportIn}
+use Rattle.om_members.specs.Vectors.{IsZero, HasSupportIn}
 use Rattle.om_covectors.specs.Minimality.{HasSmallerSupport, HasNoSmallerSupport}
-use Rattle.om_covectors.proofs.MaskLaws.{zero_support, support_test}
+use Rattle.om_members.proofs.MaskLaws.{zero_support, support_test}
 use Rattle.om_covectors.proofs.minimality.has_smaller_support.Goals as goal
 use Rattle.om_covectors.proofs.minimality.has_smaller_support.Goals.{then-inner-ne0, else-inner-ne0}
 

@@ -1,6 +1,6 @@
 use Rattle.std.proofs.Common.{◌≡◌, true, false, refl, sym, ◌∙◌, subst, arith}
 use Rattle.om_covectors.specs.Minimality.{HasNoSmallerSupport}
-use Rattle.om_covectors.proofs.ScanLaws.{nth_contained}
+use Rattle.om_members.proofs.ScanLaws.{nth_contained}
 use Rattle.om_covectors.proofs.minimality.is_minimal.Goals as goal
 
 pub returns : goal.returns

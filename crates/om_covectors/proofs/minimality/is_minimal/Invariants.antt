@@ -1,5 +1,5 @@
 use Rattle.om_covectors.specs.Minimality.{HasNoSmallerSupport}
-use Rattle.om_covectors.specs.Scans.{AllBelow, nth}
+use Rattle.om_members.specs.Scans.{AllBelow, nth}
 use Rattle.om_covectors.proofs.minimality.is_minimal.Given as goal
 
 abbrev pub invariant-loop-y : goal.invariant-loop-y

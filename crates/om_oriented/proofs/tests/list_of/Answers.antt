@@ -5,7 +5,7 @@ use Rattle.std.proofs.lemmas.List.Elements.{All-push}
 use Rattle.std.proofs.lemmas.List.Quantifiers.{all_pairs_push}
 use Rattle.om_signs.specs.declared.sign.Sign.{Sign}
 use Rattle.om_signs.specs.declared.limits.TheConstants.{MAX_MEMBERS}
-use Rattle.om_circuits.specs.SignedSets.{HaveLength, AreDistinct}
+use Rattle.om_members.specs.Listings.{HaveLength, AreDistinct}
 use Rattle.om_oriented.proofs.tests.list_of.Goals as goal
 use Rattle.om_oriented.proofs.tests.list_of.Goals.{then-len-lt-MAX_MEMBERS+then-not-is_member+in_ok-push, else-len-lt-MAX_MEMBERS}
 

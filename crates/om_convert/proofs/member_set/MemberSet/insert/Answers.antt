@@ -3,7 +3,7 @@ use Rattle.std.proofs.Common.{◌≡◌, ◌<◌, ◌≤◌, [], ◌∷◌, ◌+
 use Rattle.std.proofs.lemmas.Bool.{cases_lt}
 use Rattle.std.proofs.lemmas.List.{length-append}
 use Rattle.om_signs.specs.declared.limits.TheConstants.{MAX_MEMBERS}
-use Rattle.om_circuits.specs.SignedSets.{AreDistinct}
+use Rattle.om_members.specs.Listings.{AreDistinct}
 use Rattle.om_convert.specs.Gathering.{IsMemberSet, IsExtendedBy}
 use Rattle.om_convert.proofs.GatheringLaws.{unchanged, pushed, pushed_distinct, full}
 use Rattle.om_convert.proofs.KeyLaws.{contained, not_contained, inserted}

@@ -6,7 +6,7 @@ use Rattle.std.proofs.Common.{ℕ, ◌≡◌, ◌<◌, List, [], length, get_or,
 use Rattle.std.specs.List.{Contains}
 use Rattle.std.proofs.lemmas.List.{get_or_default}
 use Rattle.om_signs.specs.declared.sign.Sign.{Sign}
-use Rattle.om_covectors.specs.Scans.{nth}
+use Rattle.om_members.specs.Scans.{nth}
 
 pub nth_read : (members : List (List Sign)) (k : ℕ) (x : List Sign) → k < length members → x ≡ get_or members k x → nth members k ≡ x
 nth_read members k x lt e = get_or_default members k [] x lt ∙ sym e

@@ -2,10 +2,10 @@ use Rattle.std.proofs.Common.{ℕ, ◌≡◌, ◌<◌, List, length, map, get_or
 use Rattle.std.specs.List.{Contains}
 use Rattle.om_signs.specs.declared.sign.Sign.{Sign}
 use Rattle.om_signs.specs.Sign.{opposite}
-use Rattle.om_circuits.specs.Vectors.{negated}
-use Rattle.om_circuits.specs.Scans.{HasNegativeAt}
-use Rattle.om_circuits.proofs.ScanLaws.{nth_read}
-use Rattle.om_circuits.proofs.supports.first_without_negative.Goals as goal
+use Rattle.om_members.specs.Vectors.{negated}
+use Rattle.om_members.specs.Scans.{HasNegativeAt}
+use Rattle.om_members.proofs.ScanLaws.{nth_read}
+use Rattle.om_members.proofs.members.first_without_negative.Goals as goal
 
 negative_found : (members : List (List Sign)) (k : ℕ) (x n : List Sign) → k < length members → x ≡ get_or members k x → n ≡ map opposite x → Contains members n → HasNegativeAt members k
 negative_found members k x n lt is e h = subst (Contains members) (e ∙ ap negated (sym (nth_read members k x lt is))) h

@@ -1,0 +1,4 @@
+pub mod Vectors
+pub mod Listings
+pub mod Positions
+pub mod Scans

@@ -1,0 +1,20 @@
+-- Negatives, zero vectors and supports. Elements count from 1.
+--
+-- Reference: Björner, Las Vergnas, Sturmfels, White and Ziegler, Oriented Matroids, chapter 3.
+use Rattle.std.specs.Prelude.{ℕ, ◌≡◌, List, map}
+use Rattle.om_signs.specs.declared.sign.Sign.{Sign}
+use Rattle.om_signs.specs.declared.sign.Sign.TheVariants.{Zero}
+use Rattle.om_signs.specs.Sign.{opposite}
+use Rattle.om_signs.specs.SignVec.{place}
+
+-- all signs are opposite
+abbrev pub negated : List Sign → List Sign
+negated X = map opposite X
+
+-- all signs are zero
+abbrev pub IsZero : List Sign → Type 0
+IsZero X = (e : ℕ) → place X e ≡ Zero
+
+-- the support of X lies in that of Y
+abbrev pub HasSupportIn : List Sign → List Sign → Type 0
+HasSupportIn X Y = (e : ℕ) → place Y e ≡ Zero → place X e ≡ Zero
