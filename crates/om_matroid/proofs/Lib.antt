@@ -3,4 +3,5 @@ mod ListLaws
 mod WalkLaws
 mod RankLaws
 mod ElementLaws
+mod ParallelLaws
 mod ExchangeLaws
