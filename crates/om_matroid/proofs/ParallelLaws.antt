@@ -11,8 +11,8 @@ use Rattle.om_subsets.proofs.Statements.{subset_is_increasing, members_with}
 use Rattle.om_laws.proofs.SortingLaws.{increasing_distinct}
 use Rattle.om_chirotope.specs.Map.{SignMap}
 use Rattle.om_chirotope.proofs.Cocircuits.{length-with}
+use Rattle.om_chirotope.proofs.Theory.{lawful_with}
 use Rattle.om_matroid.specs.Bases.{IsBasis, IsPartOf, IsRankOf, IsLoop, AreParallel}
-use Rattle.om_matroid.proofs.ListLaws.{subset_with}
 use Rattle.om_matroid.proofs.WalkLaws.{HasNoneBefore, none_at_all, place_of}
 
 -- the basis at some place below k has e
@@ -39,7 +39,7 @@ module _ (m : SignMap) (e f : ℕ) where
   not_parallel ne b (basis, k, l) parallel =
       let low = members_from 1 m.elements e b basis.list k in
       let high = members_from 1 m.elements f b basis.list l in
-      let list = subset_with 1 m.elements e (f ∷ []) (subset_with 1 m.elements f [] tt (omega arith) (omega arith)) (omega arith) (omega arith) in
+      let list = lawful_with 1 m.elements e (f ∷ []) (lawful_with 1 m.elements f [] tt (omega arith) (omega arith)) (omega arith) (omega arith) in
       let few = parallel.rank.greatest (with_element e (f ∷ [])) (record { list = list; part = λ g q. (members_with e g (f ∷ [])).0 q; independent = (b, basis, λ g q. either g ((members_with e g (f ∷ [])).0 q)) }) in
       let size : length (with_element e (f ∷ [])) ≡ length (f ∷ []) + 1 = length-with e (f ∷ []) other in
       absurd (omega arith)
@@ -72,7 +72,7 @@ module _ (m : SignMap) (e f : ℕ) where
 
     rank_one : (b : List ℕ) → IsBasis m b → IsMember e b → IsRankOf m (e ∷ f ∷ []) 1
     rank_one b basis k = let bound = members_from 1 m.elements e b basis.list k in record {
-      reached = (e ∷ [], record { list = subset_with 1 m.elements e [] tt (omega arith) (omega arith); part = λ g q. first g q; independent = (b, basis, λ g q. only g q) }, refl);
+      reached = (e ∷ [], record { list = lawful_with 1 m.elements e [] tt (omega arith) (omega arith); part = λ g q. first g q; independent = (b, basis, λ g q. only g q) }, refl);
       greatest = λ t p. short t p.list p.part p.independent;
     }
       where
