@@ -1,6 +1,6 @@
 mod MaskLaws
 mod ListLaws
-mod WalkLaws
+pub mod WalkLaws
 mod RankLaws
 mod ElementLaws
 mod ParallelLaws
