@@ -1,6 +1,6 @@
 -- A map meets the axioms exactly where its values on tuples are a chirotope of the theory.
 --
--- Main results: theory_chirotope and back, map_chirotope.
+-- Main results: theory_chirotope and back, map_chirotope; an increasing list with an element increases (lawful_with).
 use Rattle.std.specs.Prelude.{ℕ, ◌≡◌, ◌≢◌, ◌+◌, ◌-◌, ◌<◌, ◌≤◌, List, [], ◌∷◌, length, refl}
 use Rattle.std.proofs.Common.{zero, suc, sym, ◌∙◌, arith, inl, inr}
 use Rattle.std.proofs.lemmas.Bool.{cases_eq, eq-eqb, ne_eqb, lt-ltb, le-ltb}
@@ -58,11 +58,11 @@ theory_chirotope m c = base c.nonzero
 
 -- ---- and back: a nonzero tuple gives a nonzero increasing list
 
-later_list : (low m : ℕ) (ys : List ℕ) → IsSubsetFrom (low + 1) m ys → IsSubsetFrom low (suc m) ys
+pub later_list : (low m : ℕ) (ys : List ℕ) → IsSubsetFrom (low + 1) m ys → IsSubsetFrom low (suc m) ys
 later_list low m [] h = tt
 later_list low m (y ∷ ys) h = let above = head_low (low + 1) m y ys h in let ne : y ≢ low = omega arith in inr (ne, h)
 
-lawful_with : (low m e : ℕ) (ys : List ℕ) → IsSubsetFrom low m ys → low ≤ e → e < low + m → IsSubsetFrom low m (with_element e ys)
+pub lawful_with : (low m e : ℕ) (ys : List ℕ) → IsSubsetFrom low m ys → low ≤ e → e < low + m → IsSubsetFrom low m (with_element e ys)
 lawful_with low zero e ys h a b = absurd (omega arith)
 lawful_with low (suc m) e [] h a b = elim (cases_eq e low) [
   | inl q ↦ inl (q, tt)

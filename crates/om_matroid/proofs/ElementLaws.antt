@@ -1,16 +1,12 @@
--- Loops, coloops and parallel elements, by what the walks tell.
+-- Loops and coloops, by what the walks tell.
 --
--- Main results: no basis is with e exactly where e is a loop (loop_both), and none without e exactly where it is a coloop (coloop_both); of two elements that are no loops, the rank of the set of both
--- tells whether they are parallel (parallel_both).
-use Rattle.std.proofs.Common.{ℕ, ◌≡◌, ◌↔◌, List, [], ◌∷◌, refl, sym, subst, ◌∙◌, inl, inr, nat_eq, not, Bool, true, false, IsTrue}
-use Rattle.std.proofs.lemmas.Bool.{eq-eqb, eqb-true}
-use Rattle.om_subsets.specs.Subsets.{IsMember, with_element}
-use Rattle.om_subsets.proofs.Statements.{members_with}
+-- Main results: no basis is with e exactly where e is a loop (loop_both), and none without e exactly where it is a coloop (coloop_both).
+use Rattle.std.proofs.Common.{ℕ, ◌≡◌, ◌↔◌, List, [], ◌∷◌, refl, sym, subst, ◌∙◌, inl, inr, not, Bool, true, false, IsTrue}
+use Rattle.om_subsets.specs.Subsets.{IsMember}
 use Rattle.om_laws.proofs.MemberLaws.{member_or_not}
 use Rattle.om_chirotope.specs.Map.{SignMap}
-use Rattle.om_matroid.specs.Bases.{IsBasis, IsLoop, IsColoop, IsRankOf, AreParallel}
+use Rattle.om_matroid.specs.Bases.{IsBasis, IsLoop, IsColoop}
 use Rattle.om_matroid.specs.Search.{IsBasisBetween}
-use Rattle.om_matroid.proofs.RankLaws.{one_rank, rank_of_members}
 
 -- a test that negates another
 pub none_both : (some none : Bool) {P Q : Type 0} → some ≡ not none → (some ≡ false) ↔ P → P ↔ Q → IsTrue none ↔ Q
@@ -22,10 +18,6 @@ refuted b both e p = let f : true ≡ false = sym (both.1 p) ∙ e in absurd_boo
   where
     absurd_bool : true ≡ false → ⊥
     absurd_bool f = cc
-
-pub false_from_not : (b : Bool) → not b ≡ true → b ≡ false
-false_from_not true e = sym e
-false_from_not false e = refl
 
 module _ (m : SignMap) (e : ℕ) where
   no_basis_with : ((b : List ℕ) → IsBasisBetween m (e ∷ []) [] b → ⊥) ↔ IsLoop m e
@@ -57,12 +49,3 @@ module _ (m : SignMap) (e : ℕ) where
   coloop_both inside outside p q =
       subst (λ i. ((b : List ℕ) → IsBasisBetween m i outside b → ⊥) ↔ IsColoop m e) (sym p)
       (subst (λ o. ((b : List ℕ) → IsBasisBetween m [] o b → ⊥) ↔ IsColoop m e) (sym q) no_basis_without)
-
-pub parallel_both : (m : SignMap) (e f : ℕ) (s : List ℕ) (k : ℕ) → s ≡ with_element e (f ∷ []) → (IsLoop m e → ⊥) → (IsLoop m f → ⊥) → IsRankOf m s k → IsTrue (nat_eq k 1) ↔ AreParallel m e f
-parallel_both m e f s k q first second rank = (
-  λ one. record { first = first; second = second; rank = subst (IsRankOf m (e ∷ f ∷ [])) (eqb-true k 1 one) both },
-  λ parallel. eq-eqb k 1 (one_rank m (e ∷ f ∷ []) k 1 both parallel.rank),
-)
-  where
-    both : IsRankOf m (e ∷ f ∷ []) k
-    both = rank_of_members m (with_element e (f ∷ [])) (e ∷ f ∷ []) k (λ x. members_with e x (f ∷ [])) (subst (λ l. IsRankOf m l k) q rank)

@@ -21,9 +21,9 @@ use Rattle.om_chirotope.specs.Map.{SignMap, chi_of, value_of}
 use Rattle.om_chirotope.specs.Chirotope.{IsChirotope}
 use Rattle.om_chirotope.proofs.Circuits.{length-without}
 use Rattle.om_chirotope.proofs.Cocircuits.{along_even, along_odd, length-with}
-use Rattle.om_chirotope.proofs.Theory.{theory_chirotope}
+use Rattle.om_chirotope.proofs.Theory.{theory_chirotope, lawful_with}
 use Rattle.om_matroid.specs.Bases.{IsBasis, IsExchange}
-use Rattle.om_matroid.proofs.ListLaws.{subset_with, subset_without, without_middle}
+use Rattle.om_matroid.proofs.ListLaws.{subset_without, without_middle}
 
 -- the value with an element in its place, from that with the element behind
 nonzero_in_place : (n e : ℕ) (f : List ℕ → Sign) (xs : List ℕ) → IsSubsetFrom 1 n xs → IsSubsetFrom 1 n (with_element e xs) → (IsMember e xs → ⊥) → value f (xs ++ e ∷ []) ≢ Zero → value f (with_element e xs) ≢ Zero
@@ -51,7 +51,7 @@ module _ (m : SignMap) (axioms : IsChirotope m) where
       let bound = each_member (IsElement m.elements) (u ++ y ∷ v) tuple.within y (member_middle y u v) in
       let low = bound.0 in
       let high = bound.1 in
-      let lawful = subset_with 1 m.elements y rest list low (omega arith) in
+      let lawful = lawful_with 1 m.elements y rest list low (omega arith) in
       let without = without_middle u x v (increasing_distinct (u ++ x ∷ v) ((subset_is_increasing m.elements (u ++ x ∷ v)).0 basis.list).0) in
       let behind : IsBase chi ((u ++ v) ++ y ∷ []) = ((bases.fundamental_cocircuit (elements_to m.elements) chi (theory_chirotope m axioms) u v x (base_of_basis (u ++ x ∷ v) basis)).exchange y).1 base in
       let value_behind : value_of m ((u ++ v) ++ y ∷ []) ≢ Zero = (λ z. behind (on_tuples_at m.elements m.rank (chi_of m) ((u ++ v) ++ y ∷ []) (on_tuples_tuple m.elements m.rank (chi_of m) ((u ++ v) ++ y ∷ []) behind) ∙ z)) in

@@ -1,6 +1,7 @@
 mod MaskLaws
 mod ListLaws
-mod WalkLaws
+pub mod WalkLaws
 mod RankLaws
 mod ElementLaws
+mod ParallelLaws
 mod ExchangeLaws

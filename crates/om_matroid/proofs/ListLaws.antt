@@ -1,37 +1,15 @@
--- Increasing lists with an element, without one, and within one another.
+-- Increasing lists without an element, and within one another.
 --
--- Main results: both changes keep a list increasing (subset_with, subset_without); a part has no more elements (length_of_part); leaving out an
--- element that stands in the middle (without_middle).
-use Rattle.std.proofs.Common.{ℕ, zero, suc, ◌≡◌, ◌≢◌, ◌+◌, ◌<◌, ◌≤◌, List, [], ◌∷◌, ◌++◌, length, refl, sym, ap, inl, inr, arith}
-use Rattle.std.proofs.lemmas.Bool.{cases_eq, eq-eqb, ne_eqb, lt-ltb, le-ltb}
-use Rattle.om_subsets.specs.Subsets.{IsSubsetFrom, IsMember, with_element, without_element}
-use Rattle.om_subsets.proofs.Order.{head_low, members_from}
+-- Main results: a list without an element increases (subset_without); a part has no more elements (length_of_part); leaving out an element that
+-- stands in the middle (without_middle).
+use Rattle.std.proofs.Common.{ℕ, zero, suc, ◌≡◌, ◌≢◌, ◌+◌, ◌≤◌, List, [], ◌∷◌, ◌++◌, length, refl, sym, ap, inl, inr, arith}
+use Rattle.std.proofs.lemmas.Bool.{cases_eq, eq-eqb, ne_eqb}
+use Rattle.om_subsets.specs.Subsets.{IsSubsetFrom, IsMember, without_element}
+use Rattle.om_subsets.proofs.Order.{members_from}
 use Rattle.om_laws.specs.Members.{IsDistinct}
 use Rattle.om_laws.proofs.MemberLaws.{member_middle}
+use Rattle.om_chirotope.proofs.Theory.{later_list}
 use Rattle.om_matroid.specs.Bases.{IsPartOf}
-
-later_list : (low m : ℕ) (ys : List ℕ) → IsSubsetFrom (low + 1) m ys → IsSubsetFrom low (suc m) ys
-later_list low m [] h = tt
-later_list low m (y ∷ ys) h = let above = head_low (low + 1) m y ys h in let ne : y ≢ low = omega arith in inr (ne, h)
-
-pub subset_with : (low m e : ℕ) (ys : List ℕ) → IsSubsetFrom low m ys → low ≤ e → e < low + m → IsSubsetFrom low m (with_element e ys)
-subset_with low zero e ys h a b = absurd (omega arith)
-subset_with low (suc m) e [] h a b = elim (cases_eq e low) [
-  | inl q ↦ inl (q, tt)
-  | inr n ↦ inr (n, subset_with (low + 1) m e [] tt (omega arith) (omega arith))
-]
-subset_with low (suc m) e (x ∷ xs) (inl (q, h)) a b = elim (cases_eq e x) [
-  | inl p ↦ rw (eq-eqb e x p) (inl (q, h))
-  | inr n ↦ let ge : x ≤ e = omega arith in rw (ne_eqb e x n, le-ltb e x ge) (inl (q, subset_with (low + 1) m e xs h (omega arith) (omega arith)))
-]
-subset_with low (suc m) e (x ∷ xs) (inr (g, h)) a b = elim (cases_eq e low) [
-  | inl p ↦
-      let above = head_low (low + 1) m x xs h in
-      let ne : e ≢ x = omega arith in
-      let lt : e < x = omega arith in
-      rw (ne_eqb e x ne, lt-ltb e x lt) (inl (p, h))
-  | inr n ↦ later_list low m (with_element e (x ∷ xs)) (subset_with (low + 1) m e (x ∷ xs) h (omega arith) (omega arith))
-]
 
 pub subset_without : (low m e : ℕ) (ys : List ℕ) → IsSubsetFrom low m ys → IsSubsetFrom low m (without_element e ys)
 subset_without low m e [] h = tt

@@ -2,8 +2,7 @@
 --
 -- Main definitions: IsRankBefore.
 -- Main results: the empty set has the first rank (rank_at_first); a basis with more elements raises the rank (rank_raised), and others keep it
--- (rank_kept_small, rank_kept_other); after the last set it is the rank (rank_at_last); a set has one rank (one_rank), which its members
--- alone decide (rank_of_members).
+-- (rank_kept_small, rank_kept_other); after the last set it is the rank (rank_at_last).
 use Rattle.std.proofs.Common.{ℕ, ◌≡◌, ◌+◌, ◌<◌, ◌≤◌, ◌↔◌, List, [], length, refl, sym, subst, inl, inr, arith}
 use Rattle.std.proofs.lemmas.Bool.{cases_eq}
 use Rattle.om_subsets.specs.Subsets.{IsSubsetFrom, IsMember, choose, subset_at}
@@ -75,19 +74,3 @@ rank_at_last m s k h = record {
     within : (t : List ℕ) → IsSubsetFrom 1 m.elements t → IsPartOf t s → (b : List ℕ) × IsBasis m b × IsPartOf t b → length t ≤ k
     within t list part (b, basis, inside) =
         each_set (λ c. IsBasis m c → IsPartOf t c → length t ≤ k) m.elements m.rank (λ j l other sub. h.greatest j l other t list part sub) b basis.list basis.size basis inside
-
-pub one_rank : (m : SignMap) (s : List ℕ) (j k : ℕ) → IsRankOf m s j → IsRankOf m s k → j ≡ k
-one_rank m s j k a b =
-    let p = a.reached in
-    let q = b.reached in
-    let l = b.greatest p.0 p.1 in
-    let r = a.greatest q.0 q.1 in
-    let x = p.2 in
-    let y = q.2 in
-    omega arith
-
-pub rank_of_members : (m : SignMap) (s u : List ℕ) (k : ℕ) → ((e : ℕ) → IsMember e s ↔ IsMember e u) → IsRankOf m s k → IsRankOf m u k
-rank_of_members m s u k same r = record {
-  reached = let p = r.reached in (p.0, record { list = p.1.list; part = λ e l. (same e).0 (p.1.part e l); independent = p.1.independent }, p.2);
-  greatest = λ t p. r.greatest t (record { list = p.list; part = λ e l. (same e).1 (p.part e l); independent = p.independent });
-}

@@ -16,7 +16,7 @@ HasNoneBefore P n r k = (j : ℕ) → j < k → P (subset_at n r j) → ⊥
 
 module _ (P : List ℕ → Type 0) (n r : ℕ) where
   -- a set stands at its place
-  place_of : (b : List ℕ) → IsSubsetFrom 1 n b → length b ≡ r → (rank_of n b < choose n r) × (subset_at n r (rank_of n b) ≡ b)
+  pub place_of : (b : List ℕ) → IsSubsetFrom 1 n b → length b ≡ r → (rank_of n b < choose n r) × (subset_at n r (rank_of n b) ≡ b)
   place_of b list size = (
     subst (λ k. rank_of n b < choose n k) size (rank_from-lt 1 n b list),
     subst (λ k. subset_at n k (rank_of n b) ≡ b) size (get_or-rank_from 1 n b list),

@@ -1,14 +1,15 @@
 //! Loops, coloops and parallel elements.
 
 ghost use Rattle.std.specs.Prelude.{◌≡◌, ◌≤◌, ◌↔◌, IsTrue};
-ghost use Rattle.om_matroid.specs.Bases.{IsLoop, IsColoop, AreParallel};
+ghost use Rattle.om_subsets.specs.Subsets.{IsMember};
+ghost use Rattle.om_matroid.specs.Bases.{IsBasis, IsLoop, IsColoop, AreParallel};
 
-use super::ranks::rank_of;
-use super::search::first_between;
+use super::search::{first_between, is_basis};
 use om_chirotope::Chirotope;
 use om_subsets::Subset;
 
-/// Whether e is a loop: an element of no basis. e is from 1 to n, for the number n of elements. It takes no memory.
+/// Whether e is a loop: an element of no basis. e is from 1 to n, for the number n of elements. It walks at most once over the
+/// sets of as many elements as the rank, and takes no memory.
 ///
 /// Source: Björner, Las Vergnas, Sturmfels, White and Ziegler, *Oriented Matroids*, chapter 3.
 pub fn is_loop(chi: &Chirotope, e: u8) -> bool
@@ -20,7 +21,8 @@ pub fn is_loop(chi: &Chirotope, e: u8) -> bool
     first_between(chi, nothing.with(e), nothing).is_none()
 }
 
-/// Whether e is a coloop: an element of every basis. e is from 1 to n, for the number n of elements. It takes no memory.
+/// Whether e is a coloop: an element of every basis. e is from 1 to n, for the number n of elements. It walks at most once over
+/// the sets of as many elements as the rank, and takes no memory.
 ///
 /// Source: Björner, Las Vergnas, Sturmfels, White and Ziegler, *Oriented Matroids*, chapter 3.
 pub fn is_coloop(chi: &Chirotope, e: u8) -> bool
@@ -32,8 +34,26 @@ pub fn is_coloop(chi: &Chirotope, e: u8) -> bool
     first_between(chi, nothing, nothing.with(e)).is_none()
 }
 
+/// Whether a set is a basis that has e, and whether it is one that has f.
+fn in_basis(chi: &Chirotope, b: Subset, e: u8, f: u8) -> (bool, bool)
+    requires n { b.n ≡ chi.now.elements }
+    requires e_low { 1 ≤ e }
+    requires e_high { e ≤ chi.now.elements }
+    requires f_low { 1 ≤ f }
+    requires f_high { f ≤ chi.now.elements }
+    ensures first { IsTrue result.0 ↔ (IsBasis chi.now b.elements × IsMember e b.elements) }
+    ensures second { IsTrue result.1 ↔ (IsBasis chi.now b.elements × IsMember f b.elements) }
+{
+    if is_basis(chi, b) {
+        (b.has(e), b.has(f))
+    } else {
+        (false, false)
+    }
+}
+
 /// Whether e and f are parallel: neither is a loop, and the set of both has rank 1. So e is parallel to itself exactly where
-/// it is no loop. e and f are from 1 to n, for the number n of elements. It takes no memory.
+/// it is no loop. e and f are from 1 to n, for the number n of elements. It walks at most once over the sets of as many
+/// elements as the rank, since no basis has both of two parallel elements, and takes no memory.
 ///
 /// Source: Björner, Las Vergnas, Sturmfels, White and Ziegler, *Oriented Matroids*, chapter 3.
 pub fn parallel(chi: &Chirotope, e: u8, f: u8) -> bool
@@ -43,6 +63,18 @@ pub fn parallel(chi: &Chirotope, e: u8, f: u8) -> bool
     requires f_high { f ≤ chi.now.elements }
     ensures { IsTrue result ↔ AreParallel chi.now e f }
 {
-    let both = Subset::first(0, chi.elements()).with(f).with(e);
-    !is_loop(chi, e) && !is_loop(chi, f) && rank_of(chi, both) == 1
+    let rank = chi.rank();
+    let elements = chi.elements();
+    let mut first = false;
+    let mut second = false;
+    for k in 0..Subset::choose(elements, rank) {
+        let b = Subset::unrank(k, rank, elements);
+        let (with_e, with_f) = in_basis(chi, b, e, f);
+        if with_e && with_f && e != f {
+            return false;
+        }
+        first = first || with_e;
+        second = second || with_f;
+    }
+    first && second
 }

@@ -1,18 +1,15 @@
 -- Bases as increasing lists, and as tuples.
 --
--- Main results: a tuple that is a base gives a basis, with e or without it (basis_list), and conversely (avoided, in_base);
--- an element that no basis avoids is a coloop, and one that none has is a loop (coloop_tuple, coloop_list, loop_tuple); a basis is there or not
--- (decide_basis).
-use Rattle.std.specs.Prelude.{ℕ, ◌≡◌, ◌≢◌, ◌↔◌, ◌⊎◌, ◌+◌, ◌<◌, ◌≤◌, List, [], ◌∷◌, ◌++◌, length, Bool, true, false, IsTrue}
-use Rattle.std.proofs.Common.{zero, suc, sym, ◌∙◌, ap, subst, inl, inr, arith, refl, ⊎_elim}
+-- Main definitions: HasBasis.
+-- Main results: a tuple that is a base gives a basis, with e or without it (basis_list), and conversely (avoided, in_base); an element that is no
+-- coloop is avoided by a basis, and one that is no loop is in a basis (basis_off, basis_on); an element that no basis avoids is a coloop, and one
+-- that none has is a loop (coloop_tuple, coloop_list, loop_tuple); a basis is there or not (decide_basis).
+use Rattle.std.specs.Prelude.{ℕ, ◌≡◌, ◌↔◌, ◌⊎◌, ◌+◌, ◌≤◌, List, [], ◌∷◌, ◌++◌, length, Bool, true, false, IsTrue}
+use Rattle.std.proofs.Common.{zero, suc, sym, subst, inl, inr, arith, refl, ⊎_elim}
 use Rattle.std.proofs.lemmas.Bool.{false≢true, cases_eq}
-use Rattle.om_signs.specs.declared.sign.Sign.{Sign}
-use Rattle.om_signs.specs.declared.sign.Sign.TheVariants.{Zero}
-use Rattle.om_signs.specs.Sign.{opposite}
-use Rattle.om_subsets.specs.Subsets.{IsSubsetFrom, IsMember, choose, rank_of, subset_at}
-use Rattle.om_subsets.proofs.Order.{same_place, rank_from-lt, listed}
+use Rattle.om_subsets.specs.Subsets.{IsSubsetFrom, IsMember, choose, subset_at}
+use Rattle.om_subsets.proofs.Order.{listed}
 use Rattle.om_laws.specs.Signs.{IsNonzero}
-use Rattle.om_laws.specs.Sorting.{IsIncreasing, on_tuples}
 use Rattle.om_laws.specs.Minors.{IsAvoided}
 use Rattle.om_laws.specs.Parallel.{IsInBase}
 use Rattle.om_laws.specs.Members.{IsDistinct}
@@ -21,14 +18,17 @@ use Rattle.om_laws.proofs.MemberLaws.{member_or_not, split_at}
 use Rattle.om_laws.proofs.SignLaws.{nonzero_from_opposite, zero_or_nonzero}
 use Rattle.om_laws.proofs.SortingLaws.{by_sorting}
 use Rattle.om_laws.proofs.TupleLaws.{nonzero_distinct}
-use Rattle.om_laws.proofs.TupleSizes.{on_tuples_alternating, on_tuples_tuple}
-use Rattle.om_chirotope.specs.Map.{SignMap, chi_of}
+use Rattle.om_laws.proofs.TupleSizes.{on_tuples_at, on_tuples_alternating, on_tuples_tuple}
+use Rattle.om_chirotope.specs.Map.{SignMap, chi_of, value_of}
 use Rattle.om_chirotope.specs.Chirotope.{IsChirotope}
 use Rattle.om_chirotope.proofs.Theory.{theory_chirotope}
-use Rattle.om_oriented.proofs.ChirotopeBridge.{tuples_of, from_tuple}
-use Rattle.om_dual.proofs.Uniqueness.{tuples_at}
-use Rattle.om_minors.specs.Minors as words
-use Rattle.om_minors.specs.Minors.{IsBasis, HasBasis}
+use Rattle.om_matroid.specs.Bases.{IsBasis, IsColoop, IsLoop}
+use Rattle.om_matroid.proofs.WalkLaws.{HasNoneBefore, none_at_all}
+use Rattle.om_oriented.proofs.ChirotopeBridge.{tuples_of, to_tuple, from_tuple}
+
+-- some basis has e, where `inside` is true, and else some basis avoids e
+abbrev pub HasBasis : SignMap → ℕ → Bool → Type 0
+HasBasis m e inside = (xs : List ℕ) × IsBasis m xs × (IsTrue inside ↔ IsMember e xs)
 
 swap_member : (g x y : ℕ) (cs bs : List ℕ) → IsMember g (cs ++ x ∷ y ∷ bs) → IsMember g (cs ++ y ∷ x ∷ bs)
 swap_member g x y [] bs (inl q) = inr (inl q)
@@ -39,7 +39,7 @@ swap_member g x y (c ∷ cs) bs (inr h) = inr (swap_member g x y cs bs h)
 
 module _ (m : SignMap) where
   pub basis_nonzero : (xs : List ℕ) → IsBasis m xs → IsNonzero (tuples_of m xs)
-  basis_nonzero xs b = subst IsNonzero (sym (tuples_at m xs b.increasing b.size)) b.nonzero
+  basis_nonzero xs b = subst IsNonzero (sym (on_tuples_at m.elements m.rank (chi_of m) xs (to_tuple m.elements m.rank xs b.list b.size))) b.nonzero
 
   -- a tuple with a nonzero value, which has e or not as the test says, gives such a basis
   pub basis_list : (e : ℕ) (inside : Bool) (t : List ℕ) → IsNonzero (tuples_of m t) → (IsTrue inside ↔ IsMember e t) → HasBasis m e inside
@@ -49,8 +49,7 @@ module _ (m : SignMap) where
       (λ x cs bs n w. absurd (repeated x cs bs (nonzero_distinct (tuples_of m) (on_tuples_alternating m.elements m.rank (chi_of m)) (cs ++ x ∷ x ∷ bs) n)))
       (λ xs i n w.
       let t = on_tuples_tuple m.elements m.rank (chi_of m) xs n in
-      let s = from_tuple m.elements m.rank xs t i in
-      (xs, record { increasing = s; size = t.size; nonzero = subst IsNonzero (tuples_at m xs s t.size) n }, w))
+      (xs, record { list = from_tuple m.elements m.rank xs t i; size = t.size; nonzero = subst IsNonzero (on_tuples_at m.elements m.rank (chi_of m) xs t) n }, w))
     where
       repeated : (x : ℕ) (cs bs : List ℕ) → IsDistinct (cs ++ x ∷ x ∷ bs) → ⊥
       repeated x [] bs d = d.0 (inl refl)
@@ -78,7 +77,7 @@ module _ (m : SignMap) where
   pub loop_tuple : (e : ℕ) → (HasBasis m e true → ⊥) → theory.IsLoop (tuples_of m) e
   loop_tuple e none t n k = none (basis_list e true t n (inner e t k))
 
-  pub coloop_list : (e : ℕ) → (HasBasis m e false → ⊥) → words.IsColoop m e
+  pub coloop_list : (e : ℕ) → (HasBasis m e false → ⊥) → IsColoop m e
   coloop_list e none xs b = ⊎_elim (λ k. k) (λ off. absurd (none (xs, b, outside e xs off))) (member_or_not e xs)
 
   -- an element that no basis avoids is in some basis, and one that none has is avoided by some
@@ -99,46 +98,49 @@ module _ (m : SignMap) where
       long [] k = absurd k
       long (x ∷ xs) k = let l : length (x ∷ xs) ≡ length xs + 1 = omega arith in omega arith
 
-  -- ---- the loop over the sets
-
-  -- none of the first k sets is such a basis
-  abbrev pub NoneBelow : ℕ → Bool → ℕ → Type 0
-  NoneBelow e inside k = (xs : List ℕ) → IsBasis m xs → (IsTrue inside ↔ IsMember e xs) → rank_of m.elements xs < k → ⊥
-
-  pub none_more : (e : ℕ) (inside : Bool) (k : ℕ) (s : List ℕ) → IsSubsetFrom 1 m.elements s → length s ≡ m.rank → rank_of m.elements s ≡ k → (IsBasis m s × (IsTrue inside ↔ IsMember e s) → ⊥) → NoneBelow e inside k → NoneBelow e inside (k + 1)
-  none_more e inside k s h l r none all xs b w lt = elim (cases_eq (rank_of m.elements xs) k) [
-    | inl q ↦
-        let same : xs ≡ s = same_place m.elements xs s b.increasing h (b.size ∙ sym l) (q ∙ sym r) in
-        none (subst (λ t. IsBasis m t × (IsTrue inside ↔ IsMember e t)) same (b, w))
-    | inr n ↦ all xs b w (omega arith)
-  ]
-
-  pub none_all : (e : ℕ) (inside : Bool) (k : ℕ) → choose m.elements m.rank ≤ k → NoneBelow e inside k → HasBasis m e inside → ⊥
-  none_all e inside k le all (xs, b, w) =
-      let few : rank_of m.elements xs < choose m.elements m.rank = subst (λ r. rank_of m.elements xs < choose m.elements r) b.size (rank_from-lt 1 m.elements xs b.increasing) in
-      all xs b w (omega arith)
-
   -- ---- such a basis is there or not
 
-  such_or_not : (e : ℕ) (inside : Bool) (s : List ℕ) → IsSubsetFrom 1 m.elements s → length s ≡ m.rank → (IsBasis m s × (IsTrue inside ↔ IsMember e s)) ⊎ (IsBasis m s × (IsTrue inside ↔ IsMember e s) → ⊥)
-  such_or_not e inside s h l = ⊎_elim (λ z. inr (λ w. w.0.nonzero z)) (λ n. go inside (member_or_not e s) (record { increasing = h; size = l; nonzero = n })) (zero_or_nonzero (chi_of m s))
+  -- a basis that has e or not, as the test says
+  abbrev IsSuch : ℕ → Bool → List ℕ → Type 0
+  IsSuch e inside xs = IsBasis m xs × (IsTrue inside ↔ IsMember e xs)
+
+  such_or_not : (e : ℕ) (inside : Bool) (s : List ℕ) → IsSubsetFrom 1 m.elements s → length s ≡ m.rank → IsSuch e inside s ⊎ (IsSuch e inside s → ⊥)
+  such_or_not e inside s h l = ⊎_elim (λ z. inr (λ w. w.0.nonzero z)) (λ n. go inside (member_or_not e s) (record { list = h; size = l; nonzero = n })) (zero_or_nonzero (value_of m s))
     where
-      go : (b : Bool) → IsMember e s ⊎ (IsMember e s → ⊥) → IsBasis m s → (IsBasis m s × (IsTrue b ↔ IsMember e s)) ⊎ (IsBasis m s × (IsTrue b ↔ IsMember e s) → ⊥)
+      go : (b : Bool) → IsMember e s ⊎ (IsMember e s → ⊥) → IsBasis m s → IsSuch e b s ⊎ (IsSuch e b s → ⊥)
       go true (inl k) w = inl (w, inner e s k)
       go true (inr off) w = inr (λ q. off (q.1.0 refl))
       go false (inl k) w = inr (λ q. false≢true (q.1.1 k))
       go false (inr off) w = inl (w, outside e s off)
 
-  decide_below : (e : ℕ) (inside : Bool) (k : ℕ) → k ≤ choose m.elements m.rank → HasBasis m e inside ⊎ NoneBelow e inside k
-  decide_below e inside zero le = inr (λ xs b w l. absurd (omega arith))
+  decide_below : (e : ℕ) (inside : Bool) (k : ℕ) → k ≤ choose m.elements m.rank → HasBasis m e inside ⊎ HasNoneBefore (IsSuch e inside) m.elements m.rank k
+  decide_below e inside zero le = inr (λ j l. absurd (omega arith))
   decide_below e inside (suc k) le = ⊎_elim (λ h. inl h)
       (λ none.
       let t = listed 1 m.elements m.rank k (omega arith) in
-      let up : k + 1 ≡ suc k = omega arith in
       ⊎_elim (λ w. inl (subset_at m.elements m.rank k, w.0, w.1))
-      (λ off. inr (subst (NoneBelow e inside) up (none_more e inside k (subset_at m.elements m.rank k) t.lawful t.size t.place off none)))
+      (λ off. inr (λ j l. elim (cases_eq j k) [
+        | inl q ↦ subst (λ i. IsSuch e inside (subset_at m.elements m.rank i) → ⊥) (sym q) off
+        | inr n ↦ none j (omega arith)
+      ]))
       (such_or_not e inside (subset_at m.elements m.rank k) t.lawful t.size))
       (decide_below e inside k (omega arith))
 
   pub decide_basis : (e : ℕ) (inside : Bool) → HasBasis m e inside ⊎ (HasBasis m e inside → ⊥)
-  decide_basis e inside = ⊎_elim (λ h. inl h) (λ none. inr (none_all e inside (choose m.elements m.rank) (omega arith) none)) (decide_below e inside (choose m.elements m.rank) (omega arith))
+  decide_basis e inside = ⊎_elim (λ h. inl h)
+      (λ none. inr (λ h. none_at_all (IsSuch e inside) m.elements m.rank none h.0 h.1.list h.1.size (h.1, h.2)))
+      (decide_below e inside (choose m.elements m.rank) (omega arith))
+
+  -- ---- coloops and loops
+
+  pub coloop_none : (e : ℕ) → IsColoop m e → HasBasis m e false → ⊥
+  coloop_none e coloop (xs, b, w) = false≢true (w.1 (coloop xs b))
+
+  pub loop_none : (e : ℕ) → IsLoop m e → HasBasis m e true → ⊥
+  loop_none e loop (xs, b, w) = loop xs b (w.0 refl)
+
+  pub basis_off : (e : ℕ) → (IsColoop m e → ⊥) → HasBasis m e false
+  basis_off e some = ⊎_elim (λ h. h) (λ none. absurd (some (coloop_list e none))) (decide_basis e false)
+
+  pub basis_on : (e : ℕ) → (IsLoop m e → ⊥) → HasBasis m e true
+  basis_on e some = ⊎_elim (λ h. h) (λ none. absurd (some (λ xs b k. none (xs, b, inner e xs k)))) (decide_basis e true)

@@ -1,16 +1,16 @@
 -- Deletion in the dual is the dual of contraction, as sets of lists of signs.
 --
 -- Main results: dual_exists, deletion_exists, chirotopes with these covectors; dual_deletion.
-use Rattle.std.specs.Prelude.{ℕ, ◌≡◌, ◌↔◌, ◌⊎◌, ◌+◌, ◌-◌, ◌<◌, ◌≤◌, List, length, refl, Bool, true, false}
+use Rattle.std.specs.Prelude.{ℕ, ◌≡◌, ◌⊎◌, ◌+◌, ◌-◌, ◌<◌, ◌≤◌, List, length, refl, false}
 use Rattle.std.specs.List.{insert, remove}
-use Rattle.std.proofs.Common.{zero, suc, sym, ◌∙◌, ap, subst, inl, inr, ⊎_elim, arith}
+use Rattle.std.proofs.Common.{sym, ◌∙◌, ap, subst, inl, inr, ⊎_elim, arith}
 use Rattle.std.proofs.lemmas.Bool.{cases_lt, cases_eq}
 use Rattle.std.proofs.lemmas.List.{ext_get_or}
 use Rattle.std.proofs.lemmas.List.Edits.{length-insert, length-remove, get_or-insert_below, get_or-insert_at, get_or-insert_above, get_or-remove_below, get_or-remove_above}
 use Rattle.om_signs.specs.declared.sign.Sign.{Sign}
 use Rattle.om_signs.specs.declared.sign.Sign.TheVariants.{Minus, Zero, Plus}
 use Rattle.om_signs.specs.Sign.{product}
-use Rattle.om_signs.specs.SignVec.{at, place, HasProduct, IsOrthogonal}
+use Rattle.om_signs.specs.SignVec.{at, HasProduct, IsOrthogonal}
 use Rattle.om_laws.specs.Signs.{IsNonzero}
 use Rattle.om_laws.proofs.SignLaws.{product_comm, product_zero_right, plus_nonzero, minus_nonzero}
 use Rattle.om_chirotope.specs.Map.{SignMap, negated, IsLedBy}
@@ -24,7 +24,7 @@ use Rattle.om_dual.specs.Dual.{dual_of}
 use Rattle.om_dual.proofs.DualMaps.{dual_axioms, is_dual, dual_normal}
 use Rattle.om_dual.proofs.NormalForms.{normal_covectors, normal_elements}
 use Rattle.om_dual.proofs.Uniqueness.{normal_axioms}
-use Rattle.om_minors.specs.Minors.{HasBasis, deleted, contracted}
+use Rattle.om_minors.specs.Minors.{deleted, contracted}
 use Rattle.om_minors.proofs.BasisLaws.{basis_with, decide_basis}
 use Rattle.om_minors.proofs.MinorLists.{deletion_at, coloop_deletion}
 use Rattle.om_minors.proofs.MinorMaps.{deleted_axioms, contracted_axioms}

@@ -26,8 +26,8 @@ use Rattle.om_oriented.specs.Operations.{IsDeletion, IsContraction}
 use Rattle.om_oriented.proofs.ChirotopeBridge.{tuples_of, same_lists, covector_function, covector_list}
 use Rattle.om_dual.specs.Maps.{IsNormalFormOf}
 use Rattle.om_dual.proofs.NormalForms.{which_covectors}
-use Rattle.om_minors.specs.Minors.{HasBasis, deleted, contracted}
-use Rattle.om_minors.proofs.BasisLaws.{rank_low, basis_with, basis_without, coloop_tuple, loop_tuple}
+use Rattle.om_minors.specs.Minors.{deleted, contracted}
+use Rattle.om_minors.proofs.BasisLaws.{HasBasis, rank_low, basis_with, coloop_tuple, loop_tuple}
 use Rattle.om_minors.proofs.MinorMaps.{one_more, element, larger_chirotope, larger_avoided, larger_in_base, deleted_tuples, contracted_tuples}
 use Rattle.om_minors.proofs.Skips.{skip_below, skip_above}
 

@@ -7,7 +7,6 @@ use Rattle.std.proofs.Common.{zero, suc, sym, ◌∙◌, ap, subst, inl, inr, ar
 use Rattle.std.proofs.lemmas.Bool.{cases_lt, cases_eq, false≢true}
 use Rattle.std.proofs.lemmas.List.{length-append, length-map}
 use Rattle.om_signs.specs.declared.sign.Sign.{Sign}
-use Rattle.om_signs.specs.declared.sign.Sign.TheVariants.{Zero}
 use Rattle.om_subsets.specs.Subsets.{IsSubsetFrom, IsMember}
 use Rattle.om_laws.specs.Chirotope as theory
 use Rattle.om_laws.specs.Chirotope.{elements_to}
@@ -24,8 +23,8 @@ use Rattle.om_chirotope.specs.Chirotope.{IsChirotope}
 use Rattle.om_chirotope.proofs.Theory.{theory_chirotope}
 use Rattle.om_oriented.proofs.ChirotopeBridge.{tuples_of}
 use Rattle.om_dual.proofs.Rules.{tuples_by, whole_by, chirotope_by}
-use Rattle.om_minors.specs.Minors.{HasBasis, deleted, contracted}
-use Rattle.om_minors.proofs.BasisLaws.{avoided, in_base, rank_low}
+use Rattle.om_minors.specs.Minors.{deleted, contracted}
+use Rattle.om_minors.proofs.BasisLaws.{HasBasis, avoided, in_base, rank_low}
 use Rattle.om_minors.proofs.Skips.{skip_below, skip_above}
 
 -- ---- the whole set
@@ -130,7 +129,7 @@ module _ (m : SignMap) (om : IsChirotope m) (e : ℕ) (several : 2 ≤ m.element
     | inr g ↦
         let part = om.whole.part in
         let s = b.size in
-        absurd (false≢true (w.1 (whole_set 1 m.elements xs b.increasing (omega (arith, s, g, part)) e low (omega (arith, high)))))
+        absurd (false≢true (w.1 (whole_set 1 m.elements xs b.list (omega (arith, s, g, part)) e low (omega (arith, high)))))
   ]
 
   pub deleted_axioms : HasBasis m e false → IsChirotope (deleted e m)

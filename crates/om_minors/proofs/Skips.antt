@@ -14,7 +14,7 @@ use Rattle.om_signs.proofs.Bits.{one_shl_32}
 use Rattle.om_subsets.specs.Members.{members, mask_of}
 use Rattle.om_subsets.specs.Subsets.{IsSubsetFrom, IsMember, with_element, count_above}
 use Rattle.om_subsets.proofs.Edits.{members_same}
-use Rattle.om_subsets.proofs.Masks.{mask_of-lt, members-mask_of}
+use Rattle.om_subsets.proofs.Masks.{members-mask_of}
 use Rattle.om_laws.specs.Minors.{skip, contraction}
 use Rattle.om_signs.specs.declared.sign.Sign.{Sign}
 use Rattle.om_signs.specs.Sign.{opposite}

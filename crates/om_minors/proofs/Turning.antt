@@ -1,25 +1,24 @@
 -- Reorientations of maps and of lists of signs.
 --
 -- Main results: turned_odd, turned_even, the sign of the elements that a mask names; reoriented_tuples, reoriented_axioms, is_reorientation; twice.
-use Rattle.std.specs.Prelude.{ℕ, ◌≡◌, ◌≢◌, ◌↔◌, ◌⊎◌, ◌+◌, ◌-◌, ◌*◌, ◌/◌, ◌%◌, ◌<◌, ◌≤◌, ◌^◌, List, [], ◌∷◌, length, map, refl, cond, nat_eq, bit_and, Bool, true, false}
+use Rattle.std.specs.Prelude.{ℕ, ◌≡◌, ◌≢◌, ◌⊎◌, ◌+◌, ◌-◌, ◌/◌, ◌%◌, ◌<◌, ◌≤◌, List, [], ◌∷◌, length, map, refl, cond, nat_eq, bit_and, Bool, true, false}
 use Rattle.std.specs.Int.{bit_at}
-use Rattle.std.proofs.Common.{zero, suc, sym, ◌∙◌, ap, subst, inl, inr, arith, min, get_or, set}
+use Rattle.std.proofs.Common.{zero, suc, sym, ◌∙◌, ap, inl, inr, arith, min, set}
 use Rattle.std.proofs.lemmas.Bool.{cases_eq, eq-eqb, ne_eqb}
 use Rattle.std.proofs.lemmas.List.{ext_get_or, length-map, get_or-map, get_or-set_same, get_or-set_other}
-use Rattle.std.proofs.lemmas.Nat.Bits.{bit_at_lowest, bit_at-suc, bit_at-lt, bit_at_and, same_from_bits}
+use Rattle.std.proofs.lemmas.Nat.Bits.{bit_at_lowest, bit_at-suc, bit_at_and, same_from_bits}
 use Rattle.om_signs.specs.declared.sign.Sign.{Sign}
 use Rattle.om_signs.specs.declared.sign.Sign.TheVariants.{Minus, Zero, Plus}
 use Rattle.om_signs.specs.Sign.{opposite, product}
 use Rattle.om_signs.specs.SignVec.{at, flip}
 use Rattle.om_signs.proofs.Vectors.{at-flip_from, length-flip_from}
 use Rattle.om_subsets.specs.Members.{members, mask_of}
-use Rattle.om_subsets.specs.Subsets.{IsSubsetFrom, choose, all_subsets, subset_at, rank_of}
+use Rattle.om_subsets.specs.Subsets.{IsSubsetFrom, choose, all_subsets, subset_at}
 use Rattle.om_subsets.proofs.Masks.{members-mask_of}
 use Rattle.om_subsets.proofs.Order.{length-subsets_from, listed}
 use Rattle.om_laws.specs.Bridge.{as_function}
 use Rattle.om_laws.specs.Chirotope.{elements_to}
 use Rattle.om_laws.specs.Circuits.{IsCircuit}
-use Rattle.om_laws.specs.Covectors.{IsCovector}
 use Rattle.om_laws.specs.Reorientation.{turning, signs_product, reoriented, turned, negative}
 use Rattle.om_laws.specs.Sorting.{IsIncreasing, on_tuples}
 use Rattle.om_laws.proofs.PairLaws.{covector_same}

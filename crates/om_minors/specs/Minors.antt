@@ -1,32 +1,12 @@
--- Coloops and loops of a map, and the maps of its deletions, contractions and reorientations.
+-- The maps of deletions, contractions and reorientations.
 --
 -- Reference: Björner, Las Vergnas, Sturmfels, White and Ziegler, Oriented Matroids, chapters 3 and 4.
-use Rattle.std.specs.Prelude.{ℕ, ◌≡◌, ◌≢◌, ◌-◌, ◌↔◌, List, length, Bool, IsTrue, nat_eq}
+use Rattle.std.specs.Prelude.{ℕ, ◌-◌, Bool, nat_eq}
 use Rattle.std.specs.Int.{bit_at}
-use Rattle.om_signs.specs.declared.sign.Sign.TheVariants.{Zero}
-use Rattle.om_subsets.specs.Subsets.{IsSubsetFrom, IsMember}
 use Rattle.om_laws.specs.Minors.{deletion, contraction}
 use Rattle.om_laws.specs.Reorientation.{reoriented}
 use Rattle.om_chirotope.specs.Map.{SignMap, chi_of, value_of}
 use Rattle.om_dual.specs.Maps.{map_by}
-
--- an increasing list of as many elements as the rank, whose sign isn't zero
-pub record IsBasis (m : SignMap) (xs : List ℕ) : Type 0 where
-  pub increasing : IsSubsetFrom 1 m.elements xs
-  pub size : length xs ≡ m.rank
-  pub nonzero : chi_of m xs ≢ Zero
-
--- some basis has e, where `inside` is true, and else some basis avoids e
-abbrev pub HasBasis : SignMap → ℕ → Bool → Type 0
-HasBasis m e inside = (xs : List ℕ) × IsBasis m xs × (IsTrue inside ↔ IsMember e xs)
-
--- an element of every basis
-abbrev pub IsColoop : SignMap → ℕ → Type 0
-IsColoop m e = (xs : List ℕ) → IsBasis m xs → IsMember e xs
-
--- an element of no basis
-abbrev pub IsLoop : SignMap → ℕ → Type 0
-IsLoop m e = (xs : List ℕ) → IsBasis m xs → IsMember e xs → ⊥
 
 -- the signs of the lists without e, with the elements after e moved down by one
 abbrev pub deleted : ℕ → SignMap → SignMap

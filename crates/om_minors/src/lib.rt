@@ -6,7 +6,6 @@
 //! Source of the notions: Björner, Las Vergnas, Sturmfels, White and Ziegler, *Oriented Matroids*, chapters 3 and 4.
 #![tactic(auto)]
 
-mod bases;
 mod laws;
 mod minor_error;
 mod minors;

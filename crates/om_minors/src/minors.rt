@@ -8,12 +8,13 @@ ghost use Rattle.om_chirotope.specs.Map.{IsLedBy};
 ghost use Rattle.om_oriented.specs.Covectors.{IsCovectorOfChirotope};
 ghost use Rattle.om_oriented.specs.Operations.{IsDeletion, IsContraction};
 ghost use Rattle.om_dual.specs.Maps.{IsNormalFormOf};
-ghost use Rattle.om_minors.specs.Minors.{HasBasis, IsColoop, IsLoop, deleted, contracted};
+ghost use Rattle.om_matroid.specs.Bases.{IsColoop, IsLoop};
+ghost use Rattle.om_minors.specs.Minors.{deleted, contracted};
 
-use super::bases::has_basis;
 use super::minor_error::MinorError;
 use om_chirotope::Chirotope;
 use om_dual::{SignRule, normal_by};
+use om_matroid::{is_coloop, is_loop};
 use om_signs::{MAX_PLACES, NoMemory, Sign};
 use om_subsets::Subset;
 use std::alloc::Global;
@@ -43,10 +44,10 @@ pub fn delete_chirotope(alloc: Global, chi: &Chirotope, e: u8) -> Result<Chiroto
     if chi.elements() == 1 {
         return Err(MinorError::LastElement);
     }
-    if has_basis(chi, e, false) {
-        Ok(general_deletion(alloc, chi, e)?)
-    } else {
+    if is_coloop(chi, e) {
         Ok(general_contraction(alloc, chi, e)?)
+    } else {
+        Ok(general_deletion(alloc, chi, e)?)
     }
 }
 
@@ -75,30 +76,30 @@ pub fn contract_chirotope(alloc: Global, chi: &Chirotope, e: u8) -> Result<Chiro
     if chi.elements() == 1 {
         return Err(MinorError::LastElement);
     }
-    if has_basis(chi, e, true) {
-        Ok(general_contraction(alloc, chi, e)?)
-    } else {
+    if is_loop(chi, e) {
         Ok(general_deletion(alloc, chi, e)?)
+    } else {
+        Ok(general_contraction(alloc, chi, e)?)
     }
 }
 
-/// The normal chirotope of the signs of the lists without e, an element that some basis avoids.
+/// The normal chirotope of the signs of the lists without e, an element that is no coloop.
 fn general_deletion(alloc: Global, chi: &Chirotope, e: u8) -> Result<Chirotope, NoMemory>
     requires low { 1 ≤ e }
     requires high { e ≤ chi.now.elements }
     requires several { 2 ≤ chi.now.elements }
-    requires avoided { HasBasis chi.now e false }
+    requires avoided { IsColoop chi.now e → ⊥ }
     ensures { IfOk result (IsNormalFormOf (deleted e chi.now)) }
 {
     normal_by(alloc, chi.rank(), chi.elements() - 1, &Deletion { chi, e })
 }
 
-/// The normal chirotope of the values of the tuples with e at their end, for an element e of some basis.
+/// The normal chirotope of the values of the tuples with e at their end, for an element e that is no loop.
 fn general_contraction(alloc: Global, chi: &Chirotope, e: u8) -> Result<Chirotope, NoMemory>
     requires low { 1 ≤ e }
     requires high { e ≤ chi.now.elements }
     requires several { 2 ≤ chi.now.elements }
-    requires used { HasBasis chi.now e true }
+    requires used { IsLoop chi.now e → ⊥ }
     ensures { IfOk result (IsNormalFormOf (contracted e chi.now)) }
 {
     normal_by(

@@ -2,27 +2,13 @@ use Rattle.std.proofs.Common.{sym, ◌∙◌, arith, ◌≤◌}
 use Rattle.std.proofs.lemmas.Bool.{false≢true}
 use Rattle.om_dual.proofs.NormalForms.{normal_rank}
 use Rattle.om_minors.specs.Minors.{contracted}
-use Rattle.om_minors.proofs.BasisLaws.{basis_without, rank_low}
+use Rattle.om_minors.proofs.BasisLaws.{basis_on, basis_without, coloop_none, loop_none, rank_low}
 use Rattle.om_minors.proofs.MinorLists.{contraction_at, loop_contraction}
 use Rattle.om_minors.proofs.minors.contract_chirotope.Goals as goal
 
 pub general_deletion-requires-clause-avoided : goal.general_deletion-requires-clause-avoided
-general_deletion-requires-clause-avoided c =
-    basis_without c.args.chi.now c.rank-rank.ensures.lawful c.args.e (λ b. false≢true (sym c.if-has_basis.false ∙ c.has_basis.ensures.1 b))
-
-pub returns-in_ok-general_contraction-clause-contraction : goal.returns-in_ok-general_contraction-clause-contraction
-returns-in_ok-general_contraction-clause-contraction c =
-    let some = c.elements.ensures.low in
-    let n = c.elements.ensures.value in
-    let other = c.if-elements-eq1.false in
-    let several : 2 ≤ c.args.chi.now.elements = omega arith in
-    contraction_at c.args.chi.now c.rank-rank.ensures.lawful c.args.e several c.requires.low c.requires.high c.in_ok-general_contraction.field-0 (c.has_basis.ensures.0 c.if-has_basis.true) c.in_ok-general_contraction.ensures
-
-pub returns-in_ok-general_contraction-clause-rank : goal.returns-in_ok-general_contraction-clause-rank
-returns-in_ok-general_contraction-clause-rank c = λ no.
-    let r = normal_rank (contracted c.args.e c.args.chi.now) c.in_ok-general_contraction.field-0 c.in_ok-general_contraction.ensures in
-    let low = rank_low c.args.chi.now c.args.e (c.has_basis.ensures.0 c.if-has_basis.true) in
-    omega (arith, r, low)
+general_deletion-requires-clause-avoided c = λ coloop.
+    coloop_none c.args.chi.now c.args.e coloop (basis_without c.args.chi.now c.rank-rank.ensures.lawful c.args.e (loop_none c.args.chi.now c.args.e (c.is_loop.ensures.0 c.if-is_loop.true)))
 
 pub returns-in_ok-general_deletion-clause-contraction : goal.returns-in_ok-general_deletion-clause-contraction
 returns-in_ok-general_deletion-clause-contraction c =
@@ -30,4 +16,19 @@ returns-in_ok-general_deletion-clause-contraction c =
     let n = c.elements.ensures.value in
     let other = c.if-elements-eq1.false in
     let several : 2 ≤ c.args.chi.now.elements = omega arith in
-    loop_contraction c.args.chi.now c.rank-rank.ensures.lawful c.args.e several c.requires.low c.requires.high c.in_ok-general_deletion.field-0 (λ b. false≢true (sym c.if-has_basis.false ∙ c.has_basis.ensures.1 b)) c.in_ok-general_deletion.ensures
+    loop_contraction c.args.chi.now c.rank-rank.ensures.lawful c.args.e several c.requires.low c.requires.high c.in_ok-general_deletion.field-0 (loop_none c.args.chi.now c.args.e (c.is_loop.ensures.0 c.if-is_loop.true)) c.in_ok-general_deletion.ensures
+
+pub returns-in_ok-general_contraction-clause-contraction : goal.returns-in_ok-general_contraction-clause-contraction
+returns-in_ok-general_contraction-clause-contraction c =
+    let some = c.elements.ensures.low in
+    let n = c.elements.ensures.value in
+    let other = c.if-elements-eq1.false in
+    let several : 2 ≤ c.args.chi.now.elements = omega arith in
+    contraction_at c.args.chi.now c.rank-rank.ensures.lawful c.args.e several c.requires.low c.requires.high c.in_ok-general_contraction.field-0
+    (basis_on c.args.chi.now c.args.e (λ loop. false≢true (sym c.if-is_loop.false ∙ c.is_loop.ensures.1 loop))) c.in_ok-general_contraction.ensures
+
+pub returns-in_ok-general_contraction-clause-rank : goal.returns-in_ok-general_contraction-clause-rank
+returns-in_ok-general_contraction-clause-rank c = λ no.
+    let r = normal_rank (contracted c.args.e c.args.chi.now) c.in_ok-general_contraction.field-0 c.in_ok-general_contraction.ensures in
+    let low = rank_low c.args.chi.now c.args.e (basis_on c.args.chi.now c.args.e no) in
+    omega (arith, r, low)

@@ -1,9 +1,9 @@
-use Rattle.std.proofs.Common.{◌≡◌, ◌∙◌, ap, subst, sym, ℕ, ◌+◌, ◌-◌, ◌<◌, ◌^◌, length}
+use Rattle.std.proofs.Common.{◌∙◌, ap, subst, sym, ◌+◌, ◌-◌, ◌<◌, ◌^◌, length}
 use Rattle.std.proofs.lemmas.List.{length-map}
 use Rattle.om_laws.specs.Minors.{skip}
 use Rattle.om_subsets.specs.Members.{members, mask_of}
 use Rattle.om_subsets.proofs.Masks.{mask_of-lt}
-use Rattle.om_minors.proofs.Skips.{spread, spread_code, spread_small, skipped_members}
+use Rattle.om_minors.proofs.Skips.{spread_code, spread_small, skipped_members}
 use Rattle.om_minors.proofs.minors.skipping.Goals as goal
 
 pub from_mask-requires-clause-within : goal.from_mask-requires-clause-within

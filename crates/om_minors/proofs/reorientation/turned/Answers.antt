@@ -1,9 +1,9 @@
-use Rattle.std.proofs.Common.{sym, ◌∙◌, ap, arith, length, ◌≡◌, ◌<◌, ◌≤◌, refl}
+use Rattle.std.proofs.Common.{◌∙◌, ap, arith, length, ◌<◌}
 use Rattle.om_signs.specs.declared.sign.Sign.TheVariants.{Zero}
 use Rattle.std.proofs.lemmas.List.{length-set}
 use Rattle.std.proofs.lemmas.Option.{get_or_from_slice_get}
 use Rattle.om_chirotope.specs.Map.{map_of}
-use Rattle.om_subsets.specs.Subsets.{subset_at, choose}
+use Rattle.om_subsets.specs.Subsets.{subset_at}
 use Rattle.om_minors.proofs.Turning.{turned_more, turned_rest, turned_all}
 use Rattle.om_minors.proofs.reorientation.turned.Goals as goal
 

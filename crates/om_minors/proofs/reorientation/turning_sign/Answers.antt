@@ -1,4 +1,3 @@
-use Rattle.std.proofs.Common.{◌≡◌, ◌∙◌, ap, sym, ◌%◌, length}
 use Rattle.om_minors.proofs.Turning.{turned_odd, turned_even}
 use Rattle.om_minors.proofs.reorientation.turning_sign.Goals as goal
 
