@@ -3,16 +3,13 @@
 -- Main results: the family is supported on the elements 1 to n (supported), and meets the axioms of covectors (covector_axioms); its members of
 -- least support are the functions of the minimal members (minimal_function, minimal_list).
 use Rattle.std.specs.List.{Contains}
-use Rattle.std.proofs.lemmas.Bool.{cases_lt}
-use Rattle.std.proofs.lemmas.List.{get_or_past}
 use Rattle.std.proofs.lemmas.List.Elements.{All-contains}
-use Rattle.std.proofs.Common.{ℕ, zero, suc, ◌≡◌, ◌-◌, List, length, refl, sym, ap, subst, ◌∙◌, inl, inr, arith}
+use Rattle.std.proofs.Common.{ℕ, zero, suc, ◌≡◌, ◌-◌, List, length, refl, sym, ap, subst, ◌∙◌, arith}
 use Rattle.om_signs.specs.declared.sign.Sign.{Sign}
 use Rattle.om_signs.specs.declared.sign.Sign.TheVariants.{Minus, Zero}
 use Rattle.om_signs.specs.Sign.{opposite, product, first_nonzero}
 use Rattle.om_signs.specs.SignVec.{at, compose}
 use Rattle.om_laws.specs.Signs.{IsNonzero}
-use Rattle.om_laws.specs.Members.{IsMember}
 use Rattle.om_laws.specs.Vectors.{SignVector, zero_vector, composition}
 use Rattle.om_laws.specs.Vectors as vectors
 use Rattle.om_laws.specs.Axioms.{CovectorAxioms, AreSeparatedAt}
@@ -20,7 +17,6 @@ use Rattle.om_laws.specs.Covectors as families
 use Rattle.om_laws.specs.Families.{IsListed, AreSupportedOn}
 use Rattle.om_laws.specs.Bridge.{as_function}
 use Rattle.om_laws.specs.Chirotope.{elements_to}
-use Rattle.om_laws.proofs.ChirotopeLaws.{member_from_element}
 use Rattle.om_laws.proofs.BridgeLaws.{as_function-compose, as_function-negated}
 use Rattle.om_members.specs.Vectors.{negated}
 use Rattle.om_covectors.specs.Vectors.{IsSeparatedAt}
@@ -28,26 +24,21 @@ use Rattle.om_covectors.specs.Axioms.{MeetsCovectorAxioms}
 use Rattle.om_members.specs.Listings.{HaveLength}
 use Rattle.om_covectors.specs.Minimality.{IsMinimal}
 use Rattle.om_convert.specs.Families.{as_functions}
-use Rattle.om_convert.proofs.FunctionLaws.{listed, unlisted, at_place, zero_function, nonzero_element, support_lists, support_functions, product_minus, nonzero_of_minus, opposite_of_minus}
+use Rattle.om_oriented.proofs.ChirotopeBridge.{list_supported}
+use Rattle.om_oriented.proofs.ListFunctions.{at_place, support_list, support_function, minus_of_opposite, nonzero_of_minus, opposite_of_minus}
+use Rattle.om_convert.proofs.FunctionLaws.{listed, unlisted, zero_function, nonzero_element}
 
 -- ---- support
-
-element_of_list : (n : ℕ) (X : List Sign) → length X ≡ n → (e : ℕ) → IsNonzero (as_function X e) → IsMember e (elements_to n)
-element_of_list n X l zero k = absurd (k refl)
-element_of_list n X l (suc i) k = elim (cases_lt i n) [
-  | inl lt ↦ member_from_element n (suc i) (omega arith, omega arith)
-  | inr ge ↦ absurd (k (get_or_past X i Zero (omega arith)))
-]
 
 pub supported : (n : ℕ) (members : List (List Sign)) → HaveLength n members → AreSupportedOn (elements_to n) (as_functions members)
 supported n members lengths f h e k =
     let u = unlisted members f h in
-    element_of_list n u.0 (All-contains (λ X. length X ≡ n) members u.0 lengths u.1) e (subst IsNonzero (u.2 e) k)
+    list_supported n u.0 (All-contains (λ X. length X ≡ n) members u.0 lengths u.1) e (subst IsNonzero (u.2 e) k)
 
 -- ---- axioms
 
 separated_lists : (X Y : List Sign) (i : ℕ) → IsNonzero (at X i) → at X i ≡ opposite (at Y i) → IsSeparatedAt X Y (suc i)
-separated_lists X Y i n q = ap (λ k. product (at X k) (at Y k)) (let e : suc i - 1 ≡ i = omega arith in e) ∙ product_minus (at X i) (at Y i) n q
+separated_lists X Y i n q = ap (λ k. product (at X k) (at Y k)) (let e : suc i - 1 ≡ i = omega arith in e) ∙ minus_of_opposite (at X i) (at Y i) n q
 
 separated_functions : (X Y : List Sign) (i : ℕ) → IsSeparatedAt X Y (suc i) → AreSeparatedAt (as_function X) (as_function Y) (suc i)
 separated_functions X Y i s =
@@ -96,8 +87,8 @@ module _ (members : List (List Sign)) (axioms : MeetsCovectorAxioms members) whe
   least_function X m Z lz nz sub g k =
       let u = unlisted members Z lz in
       let within : vectors.HasSupportIn (as_function u.0) (as_function X) = λ h n. sub h (subst IsNonzero (sym (u.2 h)) n) in
-      let back = m.least u.0 u.1 (λ z. nz.1 (u.2 nz.0 ∙ zero_function u.0 z nz.0)) (support_lists u.0 X within) in
-      subst IsNonzero (sym (u.2 g)) (support_functions X u.0 back g k)
+      let back = m.least u.0 u.1 (λ z. nz.1 (u.2 nz.0 ∙ zero_function u.0 z nz.0)) (support_list u.0 X within) in
+      subst IsNonzero (sym (u.2 g)) (support_function X u.0 back g k)
 
   pub minimal_function : (X : List Sign) → Contains members X → IsMinimal members X → families.IsMinimal (IsListed (as_functions members)) (as_function X)
   minimal_function X c m = record { member = own X c; nonzero = nonzero_element X m.nonzero; least = least_function X m }
@@ -105,6 +96,6 @@ module _ (members : List (List Sign)) (axioms : MeetsCovectorAxioms members) whe
   pub minimal_list : (f : SignVector) (X : List Sign) → families.IsMinimal (IsListed (as_functions members)) f → ((e : ℕ) → f e ≡ as_function X e) → IsMinimal members X
   minimal_list f X m q = record {
     nonzero = λ z. m.nonzero.1 (q m.nonzero.0 ∙ zero_function X z m.nonzero.0);
-    least = λ Y y nonzero sub. support_lists X Y (λ g n. m.least (as_function Y) (own Y y) (nonzero_element Y nonzero)
-        (λ h k. subst IsNonzero (sym (q h)) (support_functions Y X sub h k)) g (subst IsNonzero (sym (q g)) n));
+    least = λ Y y nonzero sub. support_list X Y (λ g n. m.least (as_function Y) (own Y y) (nonzero_element Y nonzero)
+        (λ h k. subst IsNonzero (sym (q h)) (support_function Y X sub h k)) g (subst IsNonzero (sym (q g)) n));
   }

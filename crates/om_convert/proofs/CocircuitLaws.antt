@@ -25,12 +25,15 @@ use Rattle.om_circuits.specs.Axioms.{MeetsCircuitAxioms}
 use Rattle.om_oriented.specs.Covectors.{IsCovectorOfCocircuits}
 use Rattle.om_oriented.specs.Denotation.{DenoteTheSame}
 use Rattle.om_oriented.specs.Listings.{AreAllOf}
+use Rattle.om_oriented.specs.Compositions as lists
 use Rattle.om_oriented.proofs.ChirotopeBridge.{same_lists}
+use Rattle.om_oriented.proofs.ListFunctions.{AreFunctionsOf}
+use Rattle.om_oriented.proofs.FamilyLaws.{family_axioms, family_parts}
 use Rattle.om_convert.specs.Families.{as_functions, HasMinimalPart, IsComposedOf}
 use Rattle.om_convert.proofs.SelectionLaws.{those_contained, contained_those}
 use Rattle.om_convert.proofs.FunctionLaws.{unlisted}
 use Rattle.om_convert.proofs.AxiomLaws.{supported, own, covector_axioms, minimal_function, minimal_list}
-use Rattle.om_convert.proofs.FamilyLaws.{AreFunctionsOf, parts_of_lists, circuit_axioms, composed_both}
+use Rattle.om_convert.proofs.FamilyLaws.{circuit_axioms, composed_both}
 
 -- a member of minimal support
 abbrev pub IsLeast : List (List Sign) → List Sign → Type 0
@@ -60,10 +63,11 @@ module _ (n : ℕ) (members : List (List Sign)) (lengths : HaveLength n members)
 
   -- ---- conformal decomposition
 
+  least_parts : (X : List Sign) → HasConformingParts (families.IsMinimal (IsListed (as_functions members))) (as_function X) ↔ lists.HasConformingParts (IsLeast members) X
+  least_parts = family_parts n (IsLeast members) (families.IsMinimal (IsListed (as_functions members))) least_functions
+
   pub minimal_part : (X : List Sign) → Contains members X → (i : ℕ) → IsNonzero (at X i) → HasMinimalPart members X i
-  minimal_part X m i k =
-      let y = parts_of_lists n (IsLeast members) (families.IsMinimal (IsListed (as_functions members))) least_functions X ((parts_of_functions (as_function X)).0 (own members axioms X m)) i k in
-      (y.0, y.1.0, y.1.1, y.2, y.3)
+  minimal_part X m i k = let y = (least_parts X).0 ((parts_of_functions (as_function X)).0 (own members axioms X m)) i k in (y.0, y.1.0, y.1.1, y.2, y.3)
 
   -- ---- the minimal members
 
@@ -75,13 +79,14 @@ module _ (n : ℕ) (members : List (List Sign)) (lengths : HaveLength n members)
     }
 
     pub minimal_axioms : MeetsCircuitAxioms cocircuits
-    minimal_axioms = circuit_axioms n (IsLeast members) (families.IsMinimal (IsListed (as_functions members))) least_functions cocircuits all_least axioms_of_functions
+    minimal_axioms = circuit_axioms (IsLeast members) cocircuits all_least
+        (family_axioms n (IsLeast members) (families.IsMinimal (IsListed (as_functions members))) least_functions axioms_of_functions)
 
     pub composed : (X : List Sign) → length X ≡ n → Contains members X ↔ IsComposedOf cocircuits X
     composed X l =
-        let b = composed_both n (IsLeast members) (families.IsMinimal (IsListed (as_functions members))) least_functions cocircuits all_least X in (
-          λ m. b.1 ((parts_of_functions (as_function X)).0 (own members axioms X m)),
-          λ h. same_member (as_function X) X l ((parts_of_functions (as_function X)).1 (b.0 h)) (λ e. refl),
+        let b = composed_both (IsLeast members) cocircuits all_least X in (
+          λ m. b.0 ((least_parts X).0 ((parts_of_functions (as_function X)).0 (own members axioms X m))),
+          λ h. same_member (as_function X) X l ((parts_of_functions (as_function X)).1 ((least_parts X).1 (b.1 h))) (λ e. refl),
         )
 
     pub same_covectors : (d : Listing) → d.elements ≡ n → d.members ≡ cocircuits → DenoteTheSame n (Contains members) (IsCovectorOfCocircuits d)

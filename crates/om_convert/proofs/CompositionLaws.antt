@@ -12,7 +12,7 @@ use Rattle.om_signs.specs.declared.sign.Sign.{Sign}
 use Rattle.om_signs.specs.declared.sign.Sign.TheVariants.{Minus, Zero, Plus}
 use Rattle.om_signs.specs.Sign.{first_nonzero}
 use Rattle.om_signs.specs.SignVec.{compose}
-use Rattle.om_signs.proofs.Vectors.{length-compose}
+use Rattle.om_signs.proofs.Vectors.{length-compose, first_nonzero-zero}
 use Rattle.om_members.specs.Listings.{HaveLength}
 use Rattle.om_oriented.specs.Listings.{AreAllOf}
 use Rattle.om_convert.specs.declared.convert_error.ConvertError.{ConvertError}
@@ -23,11 +23,6 @@ use Rattle.om_convert.proofs.SelectionLaws.{none_contained}
 use Rattle.om_convert.proofs.CountingLaws.{cause_of_cause}
 
 -- ---- compositions
-
-first_zero : (s : Sign) → first_nonzero s Zero ≡ s
-first_zero Minus = refl
-first_zero Zero = refl
-first_zero Plus = refl
 
 first_assoc : (r s t : Sign) → first_nonzero r (first_nonzero s t) ≡ first_nonzero (first_nonzero r s) t
 first_assoc Minus s t = refl
@@ -44,7 +39,7 @@ compose_zero : (X : List Sign) (n : ℕ) → length X ≡ n → compose X (repli
 compose_zero [] zero l = refl
 compose_zero [] (suc n) l = absurd (omega arith)
 compose_zero (x ∷ xs) zero l = refl
-compose_zero (x ∷ xs) (suc n) l = λ i. first_zero x i ∷ compose_zero xs n (omega arith) i
+compose_zero (x ∷ xs) (suc n) l = λ i. first_nonzero-zero x i ∷ compose_zero xs n (omega arith) i
 
 zero_compose : (X : List Sign) (n : ℕ) → length X ≡ n → compose (replicate n Zero) X ≡ X
 zero_compose [] zero l = refl

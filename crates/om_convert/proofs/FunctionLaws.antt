@@ -1,20 +1,20 @@
 -- Lists of lists of signs as families of functions.
 --
--- Main results: a function is listed exactly where it is that of a member (listed, unlisted); supports and zero vectors of lists are those of
--- functions.
+-- Main results: a function is listed exactly where it is that of a member (listed, unlisted); zero vectors of lists are those of functions
+-- (zero_function, nonzero_element).
 use Rattle.std.specs.List.{Contains}
 use Rattle.std.proofs.Common.{ℕ, zero, suc, ◌≡◌, ◌-◌, List, [], ◌∷◌, refl, sym, ap, ◌∙◌, inl, inr, ⊎_elim, arith}
 use Rattle.om_signs.specs.declared.sign.Sign.{Sign}
-use Rattle.om_signs.specs.declared.sign.Sign.TheVariants.{Minus, Zero}
-use Rattle.om_signs.specs.Sign.{opposite, product}
-use Rattle.om_signs.specs.SignVec.{at, place}
+use Rattle.om_signs.specs.declared.sign.Sign.TheVariants.{Zero}
+use Rattle.om_signs.specs.SignVec.{at}
 use Rattle.om_laws.specs.Signs.{IsNonzero}
 use Rattle.om_laws.specs.Vectors.{SignVector}
 use Rattle.om_laws.specs.Vectors as vectors
 use Rattle.om_laws.specs.Families.{IsListed}
 use Rattle.om_laws.specs.Bridge.{as_function}
 use Rattle.om_laws.proofs.SignLaws.{zero_or_nonzero}
-use Rattle.om_members.specs.Vectors.{IsZero, HasSupportIn}
+use Rattle.om_members.specs.Vectors.{IsZero}
+use Rattle.om_oriented.proofs.ListFunctions.{at_place}
 use Rattle.om_convert.specs.Families.{as_functions}
 use Rattle.om_convert.proofs.SelectionLaws.{contains_first, contains_later, first_or_later}
 
@@ -34,9 +34,6 @@ unlisted (Y ∷ Ys) f (inr h) = let r = unlisted Ys f h in (r.0, contains_later 
 
 -- ---- signs at elements
 
-pub at_place : (X : List Sign) (i : ℕ) → place X (suc i) ≡ at X i
-at_place X i = let e : suc i - 1 ≡ i = omega arith in ap (at X) e
-
 pub zero_function : (X : List Sign) → IsZero X → (e : ℕ) → as_function X e ≡ Zero
 zero_function X z zero = refl
 zero_function X z (suc i) = sym (at_place X i) ∙ z (suc i)
@@ -54,23 +51,3 @@ nonzero_place (x ∷ xs) h = ⊎_elim
 
 pub nonzero_element : (X : List Sign) → (IsZero X → ⊥) → vectors.HasNonzero (as_function X)
 nonzero_element X h = let r = nonzero_place X (λ all. h (λ e. all (e - 1))) in (suc r.0, r.1)
-
--- ---- supports
-
-pub support_lists : (X Y : List Sign) → vectors.HasSupportIn (as_function X) (as_function Y) → HasSupportIn X Y
-support_lists X Y s e z = ⊎_elim (λ q. q) (λ n. absurd (s (suc (e - 1)) n z)) (zero_or_nonzero (place X e))
-
-pub support_functions : (X Y : List Sign) → HasSupportIn X Y → vectors.HasSupportIn (as_function X) (as_function Y)
-support_functions X Y h zero n = n
-support_functions X Y h (suc i) n = λ z. n (sym (at_place X i) ∙ h (suc i) (at_place Y i ∙ z))
-
--- ---- separation
-
-pub product_minus : (s t : Sign) → IsNonzero s → s ≡ opposite t → product s t ≡ Minus
-product_minus s t = grind arith
-
-pub nonzero_of_minus : (s t : Sign) → product s t ≡ Minus → IsNonzero s
-nonzero_of_minus s t = grind arith
-
-pub opposite_of_minus : (s t : Sign) → product s t ≡ Minus → s ≡ opposite t
-opposite_of_minus s t = grind arith

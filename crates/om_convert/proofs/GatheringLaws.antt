@@ -5,18 +5,19 @@
 use Rattle.std.specs.List.{Contains}
 use Rattle.std.proofs.lemmas.List.{append-nil, append_assoc, length-append, get_or_default, get_or_past}
 use Rattle.std.proofs.lemmas.Nat.Bits.{bit_at-zero, bit_at_above}
-use Rattle.std.proofs.Math.ListN.{get_or-map}
 use Rattle.std.specs.Int.{bit_at}
 use Rattle.std.proofs.lemmas.Bool.{cases_lt}
 use Rattle.std.proofs.lemmas.List.Elements.{All-contains_itself, Contains-append_left, Contains-push, Contains-push_cases, Contains-get_or}
 use Rattle.std.proofs.lemmas.List.Quantifiers.{all_pairs_push}
 use Rattle.std.proofs.Common.{ℕ, ◌≡◌, ◌≢◌, ◌+◌, ◌<◌, ◌≤◌, ◌^◌, ◌⊎◌, get_or, map, List, [], ◌∷◌, ◌++◌, length, refl, sym, ap, subst, ◌∙◌, inl, inr, ⊎_elim, arith}
 use Rattle.om_signs.specs.declared.sign.Sign.{Sign}
-use Rattle.om_signs.specs.declared.sign.Sign.TheVariants.{Minus, Zero, Plus}
+use Rattle.om_signs.specs.declared.sign.Sign.TheVariants.{Zero}
 use Rattle.om_signs.specs.declared.limits.TheConstants.{MAX_MEMBERS}
 use Rattle.om_signs.specs.Sign.{opposite}
 use Rattle.om_signs.specs.SignVec.{at, compose, IsNonzero, IsMaskOf}
 use Rattle.om_signs.proofs.Bits.{some_bit}
+use Rattle.om_signs.proofs.Vectors.{at-map-opposite}
+use Rattle.om_laws.proofs.SignLaws.{opposite_nonzero}
 use Rattle.om_members.specs.Listings.{AreDistinct}
 use Rattle.om_oriented.specs.Circuits.{HasNonzero}
 use Rattle.om_oriented.specs.Listings.{AreAllOf, HasMoreThan}
@@ -80,20 +81,12 @@ cause_first P R p old e c = cause_of_cause (IsOldOrAdded old P) (IsOldOrAdded ol
 
 -- ---- a vector and its negative
 
-opposite_zero : (s : Sign) → opposite s ≡ Zero → s ≡ Zero
-opposite_zero Minus e = cc
-opposite_zero Zero e = refl
-opposite_zero Plus e = cc
-
-at_negative : (V : List Sign) (i : ℕ) → at (map opposite V) i ≡ opposite (at V i)
-at_negative V i = get_or-map opposite V i Zero
-
 nonzero_negative : (V : List Sign) → HasNonzero V → HasNonzero (map opposite V)
-nonzero_negative V (i, n) = (i, λ e. n (opposite_zero (at V i) (sym (at_negative V i) ∙ e)))
+nonzero_negative V (i, n) = (i, λ e. opposite_nonzero (at V i) n (sym (at-map-opposite V i) ∙ e))
 
 nonzero_of_signed : (V X : List Sign) → IsNonzeroUpToSign V X → HasNonzero V
 nonzero_of_signed V X (n, inl q) = subst HasNonzero q n
-nonzero_of_signed V X ((i, n), inr q) = (i, λ e. n (ap (λ Z. at Z i) q ∙ at_negative V i ∙ ap opposite e))
+nonzero_of_signed V X ((i, n), inr q) = (i, λ e. n (ap (λ Z. at Z i) q ∙ at-map-opposite V i ∙ ap opposite e))
 
 itself : (V : List Sign) → HasNonzero V → (X : List Sign) → X ≡ V → IsNonzeroUpToSign V X
 itself V n X q = (subst HasNonzero (sym q) n, inl q)

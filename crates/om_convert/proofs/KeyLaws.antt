@@ -3,23 +3,22 @@
 -- Main results: what the set finds is in its list, and what it doesn't find is not (contained, not_contained); what is inserted
 -- goes last, if it isn't there (inserted).
 use Rattle.std.specs.List.{Contains, list_any}
-use Rattle.std.proofs.Common.{true, false, ◌≡◌, List, [], ◌∷◌, ◌++◌, if◌then◌else◌, get_or, sym, ap, ◌∙◌, true≢false}
-use Rattle.std.specs.Cmp.{Equal-is}
+use Rattle.std.proofs.Common.{true, false, ◌≡◌, List, [], ◌∷◌, ◌++◌, if◌then◌else◌, get_or, refl, sym, ap, ◌∙◌, true≢false}
 use Rattle.std.proofs.lemmas.List.Folds.{list_any_at}
 use Rattle.om_signs.specs.declared.sign.Sign.{Sign}
-use Rattle.om_signs.specs.Order.{lexicographic}
-use Rattle.om_signs.specs.OrderLaws.{same_masks, matches_eq, same_from_order, order_of_same}
+use Rattle.om_signs.specs.OrderLaws.{same_masks}
+use Rattle.om_oriented.proofs.Compositions.{same_vectors}
 use Rattle.indexmap.specs.IndexSet.{insert_key}
 use Rattle.indexmap.proofs.CallerLemmas.{Contains-list_any}
 
-same_vectors : (X Y : List Sign) → same_masks X Y ≡ true → X ≡ Y
-same_vectors X Y h = same_from_order X Y ((Equal-is (lexicographic X Y)).0 (sym (matches_eq X Y) ∙ h))
+found : (X Y : List Sign) → same_masks X Y ≡ true → X ≡ Y
+found X Y h = (same_vectors X Y (same_masks X Y) refl).0 h
 
 masks_of_same : (X Y : List Sign) → X ≡ Y → same_masks X Y ≡ true
-masks_of_same X Y q = matches_eq X Y ∙ (Equal-is (lexicographic X Y)).1 (order_of_same X Y q)
+masks_of_same X Y q = (same_vectors X Y (same_masks X Y) refl).1 q
 
 pub contained : (keys : List (List Sign)) (X : List Sign) → list_any (same_masks X) keys ≡ true → Contains keys X
-contained keys X h = Contains-list_any same_masks same_vectors keys X h
+contained keys X h = Contains-list_any same_masks found keys X h
 
 pub not_contained : (keys : List (List Sign)) (X : List Sign) → list_any (same_masks X) keys ≡ false → Contains keys X → ⊥
 not_contained keys X h c = true≢false (sym (list_any_at (same_masks X) keys c.0 X c.1 (masks_of_same X (get_or keys c.0 X) (sym c.2))) ∙ h)

@@ -4,12 +4,13 @@
 -- more element of the whole set; listing_first, that element alone.
 use Rattle.std.specs.Prelude.{ℕ, ◌≡◌, ◌≢◌, ◌+◌, ◌-◌, ◌*◌, ◌/◌, ◌%◌, ◌<◌, ◌≤◌, ◌^◌, List, [], ◌∷◌, ◌++◌, length, refl}
 use Rattle.std.specs.List.{range_with_len}
-use Rattle.std.proofs.Common.{zero, suc, sym, ◌∙◌, ap, inl, inr, arith, pow-suc, append-nil}
+use Rattle.std.proofs.Common.{zero, suc, sym, ◌∙◌, ap, inl, inr, arith, append-nil}
 use Rattle.std.proofs.lemmas.Bool.{cases_eq, eq-eqb, ne_eqb}
 use Rattle.std.proofs.lemmas.List.FromFn.{length-range_with_len}
 use Rattle.om_signs.specs.declared.sign.Sign.{Sign}
 use Rattle.om_signs.specs.declared.sign.Sign.TheVariants.{Minus, Plus}
 use Rattle.om_signs.specs.Sign.{product}
+use Rattle.om_subsets.proofs.Places.{double}
 use Rattle.om_subsets.specs.Members.{members, mask_of, members-subset}
 use Rattle.om_subsets.specs.Subsets.{IsSubsetFrom, IsMember, count_above}
 use Rattle.om_subsets.proofs.Masks.{mask_of-lt, members-mask_of}
@@ -64,9 +65,6 @@ complement_members mask e (suc m) l =
             | inr k ↦ rw k.1 (ap (λ l. e ∷ l) rest)
           ])
     ]
-  where
-    double : (m : ℕ) → 2 ^ suc m ≡ 2 * 2 ^ m
-    double m = let p = pow-suc 2 m in omega arith
 
 -- the complement of a set, by its mask
 pub complement_set : (n : ℕ) (xs : List ℕ) → IsSubsetFrom 1 n xs → members (2 ^ n - 1 - mask_of 1 xs n) 1 n ≡ complement (elements_to n) xs

@@ -3,13 +3,13 @@
 -- Main definitions: IsComposition
 -- Main results: a conforming member may be composed (one_more), and another left out (passed); the composition of all conforming members is the
 -- vector exactly where each sign of its support is that of a conforming member (composed_is).
-use Rattle.std.specs.Prelude.{ℕ, ◌≡◌, ◌≢◌, ◌+◌, ◌<◌, ◌≤◌, ◌↔◌, ◌⊎◌, List, length, replicate, refl, Bool, IsTrue}
+use Rattle.std.specs.Prelude.{ℕ, ◌≡◌, ◌+◌, ◌<◌, ◌≤◌, ◌↔◌, ◌⊎◌, List, length, replicate, Bool, IsTrue}
 use Rattle.std.specs.List.{Contains}
 use Rattle.std.proofs.Common.{sym, ◌∙◌, ap, subst, arith, inl, inr}
 use Rattle.std.proofs.lemmas.Bool.{cases_eq}
 use Rattle.std.proofs.lemmas.List.{ext_get_or, length-replicate}
 use Rattle.om_signs.specs.declared.sign.Sign.{Sign}
-use Rattle.om_signs.specs.declared.sign.Sign.TheVariants.{Minus, Zero, Plus}
+use Rattle.om_signs.specs.declared.sign.Sign.TheVariants.{Zero}
 use Rattle.om_signs.specs.Sign.{first_nonzero}
 use Rattle.om_signs.specs.SignVec.{at, compose, IsNonzero, IsConformal}
 use Rattle.om_signs.proofs.Vectors.{at-compose, length-compose}
@@ -17,15 +17,11 @@ use Rattle.std.specs.Cmp.{tied_itself, Equal-is}
 use Rattle.std.specs.Ordering.{is_eq}
 use Rattle.om_signs.specs.Order.{lexicographic}
 use Rattle.om_signs.specs.OrderLaws.{lexicographic-total, same_from_order, same_masks, matches_eq}
+use Rattle.om_laws.proofs.SignLaws.{zero_or_nonzero, first_nonzero_left}
 use Rattle.om_members.specs.Scans.{nth}
 use Rattle.om_members.proofs.ScanLaws.{nth_contained}
 use Rattle.om_oriented.specs.Covectors.{HasConformingMember}
 use Rattle.om_oriented.specs.CovectorLaws.{at_zero}
-
-zero_or_not : (s : Sign) → (s ≡ Zero) ⊎ (s ≢ Zero)
-zero_or_not Minus = inr (λ e. cc)
-zero_or_not Zero = inl refl
-zero_or_not Plus = inr (λ e. cc)
 
 -- Z is the composition of those of the first k members that conform to X
 pub record IsComposition (members : List (List Sign)) (X : List Sign) (k : ℕ) (Z : List Sign) : Type 0 where
@@ -45,12 +41,6 @@ none_composed members X Z n e l = record {
   where
     zero_at : (i : ℕ) → at Z i ≡ Zero
     zero_at i = ap (λ W. at W i) e ∙ at_zero n i
-
--- the first sign that is not zero
-first_of : (s t : Sign) → s ≢ Zero → first_nonzero s t ≡ s
-first_of Minus t n = refl
-first_of Zero t n = absurd (n refl)
-first_of Plus t n = refl
 
 module _ (members : List (List Sign)) (X : List Sign) (k : ℕ) (Z : List Sign) (h : IsComposition members X k Z) where
   -- a member that doesn't conform
@@ -74,7 +64,7 @@ module _ (members : List (List Sign)) (X : List Sign) (k : ℕ) (Z : List Sign) 
     from_zero i z = sign_at i ∙ ap (λ s. first_nonzero s (at Y i)) z
 
     from_nonzero : (i : ℕ) → IsNonzero Z i → at (compose Z Y) i ≡ at Z i
-    from_nonzero i nonzero = sign_at i ∙ first_of (at Z i) (at Y i) nonzero
+    from_nonzero i nonzero = sign_at i ∙ first_nonzero_left (at Z i) (at Y i) nonzero
 
     nonzero_of_member : (i : ℕ) → at Z i ≡ Zero → IsNonzero (compose Z Y) i → IsNonzero Y i
     nonzero_of_member i z nonzero y = nonzero (from_zero i z ∙ y)
@@ -97,10 +87,10 @@ module _ (members : List (List Sign)) (X : List Sign) (k : ℕ) (Z : List Sign) 
     pub one_more : (W : List Sign) → W ≡ compose Z Y → IsComposition members X (k + 1) W
     one_more W is = subst (IsComposition members X (k + 1)) (sym is) (record {
       size = length-compose Z Y (h.size ∙ sym l) ∙ h.size;
-      conformal = λ i nonzero. same_sign i (zero_or_not (at Z i)) nonzero;
-      member = λ i nonzero. with_member i (zero_or_not (at Z i)) nonzero;
+      conformal = λ i nonzero. same_sign i (zero_or_nonzero (at Z i)) nonzero;
+      member = λ i nonzero. with_member i (zero_or_nonzero (at Z i)) nonzero;
       all = λ j i lt conformal nonzero. elim (cases_eq j k) [
-        | inl q ↦ now_nonzero i (zero_or_not (at Z i)) (subst (λ V. IsNonzero V i) (sym e) (subst (λ a. IsNonzero (nth members a) i) q nonzero))
+        | inl q ↦ now_nonzero i (zero_or_nonzero (at Z i)) (subst (λ V. IsNonzero V i) (sym e) (subst (λ a. IsNonzero (nth members a) i) q nonzero))
         | inr n ↦ still_nonzero i (h.all j i (omega arith) conformal nonzero)
       ];
     })
@@ -116,7 +106,7 @@ same_vectors xs ys r e = (
 pub composed_is : (members : List (List Sign)) (X Z : List Sign) (k : ℕ) (r : Bool) → length members ≤ k → IsComposition members X k Z → (IsTrue r ↔ (Z ≡ X)) → IsTrue r ↔ ((i : ℕ) → IsNonzero X i → HasConformingMember members X i)
 composed_is members X Z k r few h f = (
   λ t i nonzero. h.member i (λ z. nonzero (sym (ap (λ W. at W i) (f.0 t)) ∙ z)),
-  λ g. f.1 (ext_get_or Zero Z X h.size (λ i lt. same_at i (zero_or_not (at Z i)) (zero_or_not (at X i)) g)),
+  λ g. f.1 (ext_get_or Zero Z X h.size (λ i lt. same_at i (zero_or_nonzero (at Z i)) (zero_or_nonzero (at X i)) g)),
 )
   where
     found : (i : ℕ) → IsNonzero X i → HasConformingMember members X i → IsNonzero Z i

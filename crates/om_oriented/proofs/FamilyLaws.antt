@@ -1,26 +1,25 @@
 -- The laws of circuits, cocircuits and covectors of a chirotope, from functions to lists of signs.
 --
--- Main results: orthogonality (orthogonal), the painting lemma (painting_one, painting_both), the axioms of circuits, cocircuits and covectors
+-- Main results: a family of lists of n signs meets the axioms that the family of its functions meets (family_axioms, family_covector_axioms), and has
+-- the same conforming parts (family_parts); orthogonality (orthogonal), the painting lemma (painting_one, painting_both), the axioms of circuits, cocircuits and covectors
 -- (circuit_axioms, cocircuit_axioms, covector_axioms), conformal decomposition and compositions (conformal_both, composition_both), denotations
 -- (parts_both, orthogonal_both), and the cocircuits as the covectors of least support (least_both).
 -- Reference: Björner, Las Vergnas, Sturmfels, White and Ziegler, Oriented Matroids, chapters 3 and 4.
-use Rattle.std.proofs.Common.{ℕ, zero, suc, ◌≡◌, ◌≢◌, ◌-◌, ◌<◌, ◌≤◌, ◌↔◌, ◌⊎◌, List, [], ◌∷◌, length, map, replicate, cond, refl, sym, ap, subst, ◌∙◌, inl, inr, ⊎_elim, arith}
+use Rattle.std.proofs.Common.{ℕ, zero, suc, ◌≡◌, ◌-◌, ◌<◌, ◌≤◌, ◌↔◌, ◌⊎◌, List, [], ◌∷◌, length, replicate, cond, refl, sym, ap, subst, ◌∙◌, inl, inr, ⊎_elim, arith}
 use Rattle.std.proofs.lemmas.Bool.{cases_lt, lt-ltb, le-ltb}
 use Rattle.std.proofs.lemmas.List.{length-map, length-replicate}
 use Rattle.om_signs.specs.declared.sign.Sign.{Sign}
-use Rattle.om_signs.specs.declared.sign.Sign.TheVariants.{Minus, Zero, Plus}
-use Rattle.om_signs.specs.Sign.{opposite, product, first_nonzero}
+use Rattle.om_signs.specs.declared.sign.Sign.TheVariants.{Zero}
+use Rattle.om_signs.specs.Sign.{opposite, first_nonzero}
 use Rattle.om_signs.specs.SignVec.{at, place, compose, IsOrthogonal}
 use Rattle.om_signs.specs.SignVec as lists
 use Rattle.om_signs.proofs.Vectors.{length-compose}
-use Rattle.om_members.specs.Vectors.{negated, HasSupportIn}
-use Rattle.om_circuits.specs.Vectors.{Eliminates}
-use Rattle.om_covectors.specs.Vectors.{EliminatesFromComposition}
+use Rattle.om_members.specs.Vectors.{negated}
 use Rattle.om_laws.specs.Signs.{IsNonzero}
 use Rattle.om_laws.specs.Members.{IsMember}
 use Rattle.om_laws.specs.Vectors.{SignVector, zero_vector, composition, IsSupportedOn, AreEqualUpToSign, Orthogonal}
 use Rattle.om_laws.specs.Vectors as vectors
-use Rattle.om_laws.specs.Axioms.{CircuitAxioms, CovectorAxioms, AreSeparatedAt, IsFromEither}
+use Rattle.om_laws.specs.Axioms.{CircuitAxioms, CovectorAxioms}
 use Rattle.om_laws.specs.Chirotope.{elements_to}
 use Rattle.om_laws.specs.Chirotope as theory
 use Rattle.om_laws.specs.Circuits.{IsCircuit, IsCocircuit}
@@ -42,88 +41,79 @@ use Rattle.om_laws.proofs.BridgeLaws.{as_function-as_list, as_function-negated, 
 use Rattle.om_chirotope.specs.Map.{SignMap}
 use Rattle.om_chirotope.specs.Chirotope.{IsChirotope}
 use Rattle.om_chirotope.proofs.Theory.{theory_chirotope}
-use Rattle.om_oriented.specs.Circuits.{HasNonzero, IsUpToSign, IsCircuitOfChirotope, IsCocircuitOfChirotope}
+use Rattle.om_oriented.specs.Circuits.{IsCircuitOfChirotope, IsCocircuitOfChirotope}
 use Rattle.om_oriented.specs.Covectors.{IsCovectorOfChirotope}
-use Rattle.om_oriented.specs.CovectorLaws.{at_zero}
 use Rattle.om_oriented.specs.FamilyAxioms.{HasCircuitAxioms, HasCovectorAxioms}
 use Rattle.om_oriented.specs.Painting.{IsFittingCircuit, IsFittingCocircuit}
 use Rattle.om_oriented.specs.Compositions.{IsCompositionOf, none, front, IsConforming, HasConformingParts, IsOrthogonalToEach, IsOfLeastSupport}
-use Rattle.om_oriented.proofs.ChirotopeBridge.{tuples_of, same_lists, list_supported, nonzero_function, nonzero_list, circuit_length, circuit_function, circuit_of_function, circuit_supported, circuit_list, cocircuit_length, cocircuit_function, cocircuit_of_function, cocircuit_supported, cocircuit_list, covector_function, covector_of_function, covector_list}
+use Rattle.om_oriented.proofs.ListFunctions.{AreFunctionsOf, place_function, support_function, support_list, up_to_sign, negative_list, zero_is_list, opposed, separated, eliminates, eliminates_from_composition}
+use Rattle.om_oriented.proofs.ChirotopeBridge.{tuples_of, same_lists, list_supported, nonzero_function, nonzero_list, circuit_length, circuit_function, circuit_supported, circuit_list, cocircuit_length, cocircuit_function, cocircuit_of_function, cocircuit_supported, cocircuit_list, covector_function, covector_of_function, covector_list}
 
--- ---- signs
+-- ---- families of lists and of their functions
 
-opposed : (s t : Sign) → s ≡ Plus → t ≡ Minus → IsNonzero s × (s ≡ opposite t)
-opposed s t p q = ((λ z. let e : Plus ≡ Zero = sym p ∙ z in absurd_sign e), p ∙ sym (ap opposite q))
-  where
-    absurd_sign : Plus ≡ Zero → ⊥
-    absurd_sign e = cc
-
-nonzero_of_minus : (s t : Sign) → product s t ≡ Minus → IsNonzero s
-nonzero_of_minus s t = grind arith
-
-opposite_of_minus : (s t : Sign) → product s t ≡ Minus → s ≡ opposite t
-opposite_of_minus s t = grind arith
-
-minus_of_opposite : (s t : Sign) → IsNonzero s → s ≡ opposite t → product s t ≡ Minus
-minus_of_opposite s t = grind arith
-
--- ---- lists
-
-support_function : (X Y : List Sign) → HasSupportIn X Y → vectors.HasSupportIn (as_function X) (as_function Y)
-support_function X Y h zero n = n
-support_function X Y h (suc i) n = λ z. n (let e : suc i - 1 ≡ i = omega arith in sym (ap (at X) e) ∙ h (suc i) (ap (at Y) e ∙ z))
-
-support_list : (X Y : List Sign) → vectors.HasSupportIn (as_function X) (as_function Y) → HasSupportIn X Y
-support_list X Y s e z = ⊎_elim (λ q. q) (λ n. absurd (s (suc (e - 1)) n z)) (zero_or_nonzero (place X e))
-
-up_to_sign : (n : ℕ) (X Y : List Sign) → length X ≡ n → length Y ≡ n → AreEqualUpToSign (as_function X) (as_function Y) → IsUpToSign X Y
-up_to_sign n X Y l k (inl q) = inl (same_lists n X Y l k q)
-up_to_sign n X Y l k (inr q) = inr (same_lists n X (map opposite Y) l (length-map Y opposite ∙ k) (λ e. q e ∙ sym (as_function-negated Y e)))
-
-not_negated : (n : ℕ) (X Y : List Sign) → length X ≡ n → length Y ≡ n → X ≢ negated Y → ((g : ℕ) → as_function X g ≡ opposite (as_function Y g)) → ⊥
-not_negated n X Y l k other q = other (same_lists n X (map opposite Y) l (length-map Y opposite ∙ k) (λ e. q e ∙ sym (as_function-negated Y e)))
-
-place_function : (X : List Sign) (e : ℕ) → 1 ≤ e → place X e ≡ as_function X e
-place_function X zero low = absurd (omega arith)
-place_function X (suc i) low = let e : suc i - 1 ≡ i = omega arith in ap (at X) e
-
-zero_is_list : (n : ℕ) (e : ℕ) → as_function (replicate n Zero) e ≡ zero_vector e
-zero_is_list n zero = refl
-zero_is_list n (suc i) = at_zero n i
-
--- the vector that eliminates, as a list
-eliminates : (n : ℕ) (X Y : List Sign) (e : ℕ) (Z : SignVector) → IsSupportedOn (elements_to n) Z → Z (suc (e - 1)) ≡ Zero → IsFromEither (as_function X) (as_function Y) Z → Eliminates X Y e (as_list n Z)
-eliminates n X Y e Z sup gone either = record {
-  zero = back (suc (e - 1)) ∙ gone;
-  plus = λ f p. from f Plus (λ z. cc) (sym (back (suc (f - 1))) ∙ p);
-  minus = λ f p. from f Minus (λ z. cc) (sym (back (suc (f - 1))) ∙ p);
-}
-  where
-    back : (g : ℕ) → as_function (as_list n Z) g ≡ Z g
-    back = as_function-as_list n Z sup
-
-    from : (f : ℕ) (s : Sign) → IsNonzero s → Z (suc (f - 1)) ≡ s → (place X f ≡ s) ⊎ (place Y f ≡ s)
-    from f s n p = ⊎_elim (λ q. inl (sym q ∙ p)) (λ q. inr (sym q ∙ p)) (either (suc (f - 1)) (λ z. n (sym p ∙ z)))
-
--- ---- the axioms of circuits
-
-module _ (n : ℕ) (D : SignVector → Type 0) (P : List Sign → Type 0)
-    (size : (X : List Sign) → P X → length X ≡ n) (forth : (X : List Sign) → P X → D (as_function X)) (back : (X : List Sign) → length X ≡ n → D (as_function X) → P X)
-    (supported : (F : SignVector) → D F → IsSupportedOn (elements_to n) F) (same : (F G : SignVector) → ((e : ℕ) → F e ≡ G e) → D G → D F) where
-  list_of : (F : SignVector) → D F → P (as_list n F)
-  list_of F d = back (as_list n F) (length-as_list n F) (same (as_function (as_list n F)) F (as_function-as_list n F (supported F d)) d)
-
-  negated_member : CircuitAxioms D → (X : List Sign) → P X → P (negated X)
-  negated_member axioms X x = back (negated X) (length-map X opposite ∙ size X x) (same (as_function (negated X)) (vectors.negated (as_function X)) (as_function-negated X) (axioms.negation (as_function X) (forth X x)))
+module _ (n : ℕ) (P : List Sign → Type 0) (D : SignVector → Type 0) (of : AreFunctionsOf n P D) where
+  -- a list whose function is one of the family
+  member : (F : SignVector) → D F → (X : List Sign) → length X ≡ n → ((e : ℕ) → F e ≡ as_function X e) → P X
+  member F f X l q =
+      let u = of.list F f in
+      subst P (same_lists n u.0 X (of.size u.0 u.1) l (λ e. sym (u.2 e) ∙ q e)) u.1
 
   pub family_axioms : CircuitAxioms D → HasCircuitAxioms P
   family_axioms axioms = record {
-    nonzero = λ X x. nonzero_list X (axioms.nonzero (as_function X) (forth X x));
-    symmetric = negated_member axioms;
-    incomparable = λ X Y x y sub. up_to_sign n X Y (size X x) (size Y y) (axioms.incomparable (as_function X) (as_function Y) (forth X x) (forth Y y) (support_function X Y sub));
+    nonzero = λ X x. nonzero_list X (axioms.nonzero (as_function X) (of.function X x));
+    symmetric = λ X x. member (vectors.negated (as_function X)) (axioms.negation (as_function X) (of.function X x)) (negated X) (length-map X opposite ∙ of.size X x) (λ e. sym (as_function-negated X e));
+    incomparable = λ X Y x y sub. up_to_sign n X Y (of.size X x) (of.size Y y) (axioms.incomparable (as_function X) (as_function Y) (of.function X x) (of.function Y y) (support_function X Y sub));
     elimination = λ X Y x y other e low opposite_at.
-        let z = axioms.elimination (as_function X) (as_function Y) (forth X x) (forth Y y) (not_negated n X Y (size X x) (size Y y) other) (suc (e - 1)) (opposed (place X e) (place Y e) opposite_at.plus opposite_at.minus) in
-        (as_list n z.0, list_of z.0 z.1, eliminates n X Y e z.0 (supported z.0 z.1) z.2 z.3);
+        let z = axioms.elimination (as_function X) (as_function Y) (of.function X x) (of.function Y y) (λ q. other (negative_list n X Y (of.size X x) (of.size Y y) q)) (suc (e - 1)) (opposed X Y e opposite_at) in
+        let u = of.list z.0 z.1 in
+        (u.0, u.1, eliminates X Y e z.0 u.0 z.2 z.3 u.2);
+  }
+
+  pub family_covector_axioms : CovectorAxioms D → HasCovectorAxioms n P
+  family_covector_axioms axioms = record {
+    zero = member zero_vector axioms.zero (replicate n Zero) (length-replicate n Zero) (λ e. sym (zero_is_list n e));
+    symmetric = λ X x. member (vectors.negated (as_function X)) (axioms.negation (as_function X) (of.function X x)) (negated X) (length-map X opposite ∙ of.size X x) (λ e. sym (as_function-negated X e));
+    compositions = λ X Y x y. member (composition (as_function X) (as_function Y)) (axioms.composition_closed (as_function X) (as_function Y) (of.function X x) (of.function Y y))
+        (compose X Y) (length-compose X Y (of.size X x ∙ sym (of.size Y y)) ∙ of.size X x) (λ e. sym (as_function-compose X Y e));
+    elimination = λ X Y x y e low apart.
+        let z = axioms.elimination (as_function X) (as_function Y) (of.function X x) (of.function Y y) (suc (e - 1)) (separated X Y e apart) in
+        let u = of.list z.0 z.1 in
+        (u.0, u.1, eliminates_from_composition X Y e z.0 u.0 z.2 z.3 u.2);
+  }
+
+  -- what conforming functions say of a vector, conforming lists say of its list
+  pub family_parts : (X : List Sign) → functions.HasConformingParts D (as_function X) ↔ HasConformingParts P X
+  family_parts X = (λ h i n. list_part i (h (suc i) n), function_parts)
+    where
+      list_part : (i : ℕ) → (Y : SignVector) × D Y × (Y (suc i) ≡ at X i) × vectors.IsConformal Y (as_function X) → (Z : List Sign) × P Z × lists.IsConformal Z X × (at Z i ≡ at X i)
+      list_part i (Y, y, q, conformal) =
+          let u = of.list Y y in
+          (u.0, u.1, conformal_lists u.0 X (λ e n. sym (u.2 e) ∙ conformal e (subst IsNonzero (sym (u.2 e)) n)), sym (u.2 (suc i)) ∙ q)
+
+      function_parts : HasConformingParts P X → functions.HasConformingParts D (as_function X)
+      function_parts parts zero n = absurd (n refl)
+      function_parts parts (suc i) n = let p = parts i n in (as_function p.0, of.function p.0 p.1, p.3, conformal_functions p.0 X p.2)
+
+module _ (m : SignMap) where
+  circuits_of : AreFunctionsOf m.elements (IsCircuitOfChirotope m) (IsCircuit (elements_to m.elements) (tuples_of m))
+  circuits_of = record {
+    size = circuit_length m;
+    function = circuit_function m;
+    list = λ Z z. (as_list m.elements Z, circuit_list m Z z, λ e. sym (as_function-as_list m.elements Z (circuit_supported m Z z) e));
+  }
+
+  cocircuits_of : AreFunctionsOf m.elements (IsCocircuitOfChirotope m) (IsCocircuit (tuples_of m))
+  cocircuits_of = record {
+    size = cocircuit_length m;
+    function = cocircuit_function m;
+    list = λ Z z. (as_list m.elements Z, cocircuit_list m Z z, λ e. sym (as_function-as_list m.elements Z (cocircuit_supported m Z z) e));
+  }
+
+  covectors_of : AreFunctionsOf m.elements (IsCovectorOfChirotope m) (IsCovector (elements_to m.elements) (tuples_of m))
+  covectors_of = record {
+    size = λ X x. x.size;
+    function = covector_function m;
+    list = λ Z z. (as_list m.elements Z, covector_list m Z z, λ e. sym (as_function-as_list m.elements Z z.supported e));
   }
 
 module _ (m : SignMap) (chirotope : IsChirotope m) where
@@ -134,63 +124,32 @@ module _ (m : SignMap) (chirotope : IsChirotope m) where
   axioms = theory_chirotope m chirotope
 
   pub circuit_axioms : HasCircuitAxioms (IsCircuitOfChirotope m)
-  circuit_axioms = family_axioms m.elements (IsCircuit elements (tuples_of m)) (IsCircuitOfChirotope m) (circuit_length m) (circuit_function m) (circuit_of_function m) (circuit_supported m)
-      (covectors.circuit_same elements (tuples_of m)) (pairs.cocircuit_axioms elements (IsCocircuit (tuples_of m)) (IsCircuit elements (tuples_of m)) (swapped_pair elements (tuples_of m) axioms))
+  circuit_axioms = family_axioms m.elements (IsCircuitOfChirotope m) (IsCircuit elements (tuples_of m)) (circuits_of m)
+      (pairs.cocircuit_axioms elements (IsCocircuit (tuples_of m)) (IsCircuit elements (tuples_of m)) (swapped_pair elements (tuples_of m) axioms))
 
   pub cocircuit_axioms : HasCircuitAxioms (IsCocircuitOfChirotope m)
-  cocircuit_axioms = family_axioms m.elements (IsCocircuit (tuples_of m)) (IsCocircuitOfChirotope m) (cocircuit_length m) (cocircuit_function m) (cocircuit_of_function m) (cocircuit_supported m)
-      (covectors.cocircuit_same (tuples_of m)) (pairs.cocircuit_axioms elements (IsCircuit elements (tuples_of m)) (IsCocircuit (tuples_of m)) (dual_pair elements (tuples_of m) axioms))
+  cocircuit_axioms = family_axioms m.elements (IsCocircuitOfChirotope m) (IsCocircuit (tuples_of m)) (cocircuits_of m)
+      (pairs.cocircuit_axioms elements (IsCircuit elements (tuples_of m)) (IsCocircuit (tuples_of m)) (dual_pair elements (tuples_of m) axioms))
 
   pub orthogonal : (X Y : List Sign) → IsCircuitOfChirotope m X → IsCocircuitOfChirotope m Y → IsOrthogonal X Y
   orthogonal X Y x y = orthogonal_lists X Y (circuit_orthogonal elements (tuples_of m) axioms (as_function X) (as_function Y) (circuit_function m X x) (cocircuit_function m Y y))
 
   -- ---- covectors
 
-  covector_family : CovectorAxioms (IsCovector elements (tuples_of m))
-  covector_family = pairs.covector_axioms elements (IsCircuit elements (tuples_of m)) (IsCocircuit (tuples_of m)) (dual_pair elements (tuples_of m) axioms)
-
-  -- a list whose function is a covector
-  covector_from : (X : List Sign) (F : SignVector) → length X ≡ m.elements → ((e : ℕ) → as_function X e ≡ F e) → IsCovector elements (tuples_of m) F → IsCovectorOfChirotope m X
-  covector_from X F l q c = covector_of_function m X l (covector_same elements (IsCircuit elements (tuples_of m)) (as_function X) F q c)
-
-  zero_covector : IsCovectorOfChirotope m (replicate m.elements Zero)
-  zero_covector = covector_from (replicate m.elements Zero) zero_vector (length-replicate m.elements Zero) (zero_is_list m.elements) covector_family.zero
-
-  composed_covector : (X Y : List Sign) → IsCovectorOfChirotope m X → IsCovectorOfChirotope m Y → IsCovectorOfChirotope m (compose X Y)
-  composed_covector X Y x y = covector_from (compose X Y) (composition (as_function X) (as_function Y)) (length-compose X Y (x.size ∙ sym y.size) ∙ x.size) (as_function-compose X Y)
-      (covector_family.composition_closed (as_function X) (as_function Y) (covector_function m X x) (covector_function m Y y))
-
   pub covector_axioms : HasCovectorAxioms m.elements (IsCovectorOfChirotope m)
-  covector_axioms = record {
-    zero = zero_covector;
-    symmetric = λ X x. covector_from (negated X) (vectors.negated (as_function X)) (length-map X opposite ∙ x.size) (as_function-negated X) (covector_family.negation (as_function X) (covector_function m X x));
-    compositions = composed_covector;
-    elimination = λ X Y x y e low separated. eliminated X Y e
-        (covector_family.elimination (as_function X) (as_function Y) (covector_function m X x) (covector_function m Y y) (suc (e - 1))
-        (nonzero_of_minus (place X e) (place Y e) separated, opposite_of_minus (place X e) (place Y e) separated));
-  }
-    where
-      eliminated : (X Y : List Sign) (e : ℕ) → (Z : SignVector) × IsCovector elements (tuples_of m) Z × (Z (suc (e - 1)) ≡ Zero) × ((g : ℕ) → (AreSeparatedAt (as_function X) (as_function Y) g → ⊥) → Z g ≡ composition (as_function X) (as_function Y) g)
-          → (Z : List Sign) × IsCovectorOfChirotope m Z × EliminatesFromComposition X Y e Z
-      eliminated X Y e (Z, c, gone, outside) =
-          let back = as_function-as_list m.elements Z c.supported in (
-            as_list m.elements Z,
-            covector_list m Z c,
-            record {
-              zero = back (suc (e - 1)) ∙ gone;
-              outside = λ f apart. back (suc (f - 1)) ∙ outside (suc (f - 1)) (λ s. apart (minus_of_opposite (place X f) (place Y f) s.0 s.1)) ∙ sym (as_function-compose X Y (suc (f - 1)));
-            },
-          )
+  covector_axioms = family_covector_axioms m.elements (IsCovectorOfChirotope m) (IsCovector elements (tuples_of m)) (covectors_of m)
+      (pairs.covector_axioms elements (IsCircuit elements (tuples_of m)) (IsCocircuit (tuples_of m)) (dual_pair elements (tuples_of m) axioms))
 
   -- ---- compositions
 
-  cocircuit_covector : (X : List Sign) → IsCocircuitOfChirotope m X → IsCovectorOfChirotope m X
+  -- a cocircuit is a covector
+  pub cocircuit_covector : (X : List Sign) → IsCocircuitOfChirotope m X → IsCovectorOfChirotope m X
   cocircuit_covector X x = covector_of_function m X (cocircuit_length m X x)
       (pairs.cocircuit_is_covector elements (IsCircuit elements (tuples_of m)) (IsCocircuit (tuples_of m)) (dual_pair elements (tuples_of m) axioms) (as_function X) (cocircuit_function m X x))
 
   composed : (P : List Sign → Type 0) → ((Y : List Sign) → P Y → IsCovectorOfChirotope m Y) → (X : List Sign) → IsCompositionOf m.elements P X → IsCovectorOfChirotope m X
-  composed P each X none = zero_covector
-  composed P each X (front Y Z y z) = composed_covector Y Z (each Y y) (composed P each Z z)
+  composed P each X none = covector_axioms.zero
+  composed P each X (front Y Z y z) = covector_axioms.compositions Y Z (each Y y) (composed P each Z z)
 
   list_of_composition : (P : List Sign → Type 0) (D : SignVector → Type 0) → ((F : SignVector) → D F → P (as_list m.elements F)) → ((F : SignVector) → D F → IsSupportedOn elements F)
       → (Ys : List SignVector) → functions.EachVector D Ys → (X : List Sign) × IsCompositionOf m.elements P X × (length X ≡ m.elements) × ((e : ℕ) → as_function X e ≡ functions.composition_of Ys e)
@@ -247,23 +206,13 @@ module _ (m : SignMap) (chirotope : IsChirotope m) where
           (λ e. sym (as_function-as_list m.elements F (circuit_supported m F f) e)) (orthogonal_functions X (as_list m.elements F) (each (as_list m.elements F) (circuit_list m F f)))
 
   pub parts_both : (X : List Sign) → length X ≡ m.elements → IsCovectorOfChirotope m X ↔ HasConformingParts (IsCocircuitOfChirotope m) X
-  parts_both X l = (λ x i n. list_part i (both.0 (covector_function m X x) (suc i) n), λ parts. covector_of_function m X l (both.1 (function_parts parts)))
+  parts_both X l = (λ x. parts.0 (both.0 (covector_function m X x)), λ h. covector_of_function m X l (both.1 (parts.1 h)))
     where
       both : IsCovector elements (tuples_of m) (as_function X) ↔ functions.HasConformingParts (IsCocircuit (tuples_of m)) (as_function X)
       both = covectors.parts_both elements (IsCircuit elements (tuples_of m)) (IsCocircuit (tuples_of m)) (dual_pair elements (tuples_of m) axioms) (as_function X)
 
-      list_part : (i : ℕ) → (Y : SignVector) × IsCocircuit (tuples_of m) Y × (Y (suc i) ≡ at X i) × vectors.IsConformal Y (as_function X) → (Z : List Sign) × IsCocircuitOfChirotope m Z × lists.IsConformal Z X × (at Z i ≡ at X i)
-      list_part i (Y, y, q, conformal) =
-          let back = as_function-as_list m.elements Y (cocircuit_supported m Y y) in (
-            as_list m.elements Y,
-            cocircuit_list m Y y,
-            conformal_lists (as_list m.elements Y) X (λ e n. back e ∙ conformal e (subst IsNonzero (back e) n)),
-            back (suc i) ∙ q,
-          )
-
-      function_parts : HasConformingParts (IsCocircuitOfChirotope m) X → functions.HasConformingParts (IsCocircuit (tuples_of m)) (as_function X)
-      function_parts parts zero n = absurd (n refl)
-      function_parts parts (suc i) n = let p = parts i n in (as_function p.0, cocircuit_function m p.0 p.1, p.3, conformal_functions p.0 X p.2)
+      parts : functions.HasConformingParts (IsCocircuit (tuples_of m)) (as_function X) ↔ HasConformingParts (IsCocircuitOfChirotope m) X
+      parts = family_parts m.elements (IsCocircuitOfChirotope m) (IsCocircuit (tuples_of m)) (cocircuits_of m) X
 
   -- ---- least support
 

@@ -1,7 +1,8 @@
 pub mod ChirotopeBridge
+pub mod ListFunctions
 mod PlaceLaws
 mod Members
 mod Walks
 mod Sets
-mod Compositions
-mod FamilyLaws
+pub mod Compositions
+pub mod FamilyLaws

@@ -18,7 +18,7 @@ lawful-requires-clause-axioms c =
 pub returns-clause-same : goal.returns-clause-same
 returns-clause-same c =
     let all = subst (AreAllOf (IsCircuitOfChirotope c.args.chi.now)) (sym c.in_ok-circuits.ensures.value) c.in_ok-gathered.ensures.members in
-    same_as_circuits c.args.chi.now c.in_ok-circuits.circuits all c.lawful.result (c.lawful.ensures.elements ∙ c.elements.ensures.value) c.lawful.ensures.members
+    same_as_circuits c.args.chi.now c.in_ok-circuits.circuits all c.all_circuits.ensures.lawful c.lawful.result (c.lawful.ensures.elements ∙ c.elements.ensures.value) c.lawful.ensures.members
 
 pub returns-clause-few : goal.returns-clause-few
 returns-clause-few c = listed_within (IsCircuitOfChirotope c.args.chi.now) c.in_ok-gathered.gathered c.in_ok-gathered.ensures.members c.in_ok-circuits.ensures.lawful.few

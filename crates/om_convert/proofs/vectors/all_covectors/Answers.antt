@@ -6,13 +6,14 @@ use Rattle.om_oriented.specs.Listings.{AreAllOf}
 use Rattle.om_convert.specs.Compositions.{IsCompositionOf}
 use Rattle.om_convert.specs.Limits.{IsCause}
 use Rattle.om_convert.proofs.CountingLaws.{cause_of_cause}
-use Rattle.om_convert.proofs.ChirotopeLaws.{cocircuit_lengths, covector_of_cocircuit, covector_of_composition, covectors_of_compositions}
+use Rattle.om_oriented.proofs.FamilyLaws.{cocircuit_covector}
+use Rattle.om_convert.proofs.ChirotopeLaws.{cocircuit_lengths, covector_of_composition, covectors_of_compositions}
 use Rattle.om_convert.proofs.vectors.all_covectors.Goals as goal
 
 pub returns-in_err-cocircuits-clause-many : goal.returns-in_err-cocircuits-clause-many
 returns-in_err-cocircuits-clause-many c =
     let p = err_from_is_err_and c.from_residual.result c.from_residual.ensures.1 in
-    rw (p.1, p.2) (cause_of_cause (IsCocircuitOfChirotope c.args.chi.now) (IsCovectorOfChirotope c.args.chi.now) (covector_of_cocircuit c.args.chi.now c.all_cocircuits.ensures.lawful) c.in_err-cocircuits.field-0.0 c.in_err-cocircuits.ensures.many)
+    rw (p.1, p.2) (cause_of_cause (IsCocircuitOfChirotope c.args.chi.now) (IsCovectorOfChirotope c.args.chi.now) (cocircuit_covector c.args.chi.now c.all_cocircuits.ensures.lawful) c.in_err-cocircuits.field-0.0 c.in_err-cocircuits.ensures.many)
 
 pub all_compositions-requires-clause-lengths : goal.all_compositions-requires-clause-lengths
 all_compositions-requires-clause-lengths c =
