@@ -8,3 +8,4 @@ pub mod BlockRuns
 pub mod ClaimCourse
 pub mod ClaimReading
 pub mod ClaimSizes
+pub mod OneReading

@@ -1,0 +1,21 @@
+//! Laws of the definition of claims. A law is a function that does nothing: its contract is the law.
+
+ghost use Rattle.std.specs.Prelude.{ℕ, ◌≡◌, ◌⊎◌, List};
+ghost use Rattle.om_text.specs.declared.code.Code.{Code};
+ghost use Rattle.om_text.specs.Lines.{lines};
+ghost use Rattle.om_answer.specs.declared.claim.Claim.{Claim};
+ghost use Rattle.om_answer.specs.Claim.{IsClaim};
+ghost use Rattle.om_answer.specs.ClaimFault.{IsClaimFault};
+
+/// Bytes have one reading, whatever they are and however many: they are one claim alone, or they have one first line at
+/// fault alone, with one code, and never both.
+pub fn bytes_have_one_reading()
+    // Claims that the same bytes are, are equal: the same document, and the same verdict with the same evidence.
+    ensures value { (bytes : List ℕ) (claim other : Claim) → IsClaim (lines bytes) claim → IsClaim (lines bytes) other → claim ≡ other }
+    // Bytes have one first line at fault at most, and it has one code.
+    ensures fault { (bytes : List ℕ) (line other : ℕ) (code another : Code) → IsClaimFault (lines bytes) line code → IsClaimFault (lines bytes) other another → (line ≡ other) × (code ≡ another) }
+    // Bytes that are a claim have no fault.
+    ensures apart { (bytes : List ℕ) (claim : Claim) (line : ℕ) (code : Code) → IsClaim (lines bytes) claim → IsClaimFault (lines bytes) line code → ⊥ }
+    // Bytes are a claim, or they have a fault.
+    ensures either { (bytes : List ℕ) → ((claim : Claim) × IsClaim (lines bytes) claim) ⊎ ((line : ℕ) × (code : Code) × IsClaimFault (lines bytes) line code) }
+{}
