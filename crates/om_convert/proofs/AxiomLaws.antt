@@ -1,7 +1,7 @@
 -- A list that meets the axioms of covectors, as a family of functions.
 --
 -- Main results: the family is supported on the elements 1 to n (supported), and meets the axioms of covectors (covector_axioms); its members of
--- least support are the functions of the minimal members (minimal_function, minimal_list).
+-- minimal support are the functions of the minimal members (minimal_function, minimal_list).
 use Rattle.std.specs.List.{Contains}
 use Rattle.std.proofs.lemmas.List.Elements.{All-contains}
 use Rattle.std.proofs.Common.{ℕ, zero, suc, ◌≡◌, ◌-◌, List, length, refl, sym, ap, subst, ◌∙◌, arith}

@@ -2,7 +2,7 @@
 --
 -- Main results: a vector is a covector exactly if it is a composition of cocircuits (composition_both), of cocircuits that conform to it
 -- (conformal_both), and if cocircuits that conform to it reach each of its elements (parts_both); the cocircuits are the nonzero covectors of
--- least support (minimal_both). For circuits and vectors, take the pair in the other order. Being a circuit or a cocircuit depends on the
+-- minimal support (minimal_both). For circuits and vectors, take the pair in the other order. Being a circuit or a cocircuit depends on the
 -- signs alone (circuit_same, cocircuit_same).
 -- Reference: Björner, Las Vergnas, Sturmfels, White and Ziegler, Oriented Matroids, chapters 3 and 4.
 use Rattle.std.specs.Prelude.{ℕ, ◌≡◌, ◌↔◌, List}

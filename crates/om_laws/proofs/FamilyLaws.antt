@@ -1,7 +1,7 @@
 -- A finite family of sign vectors that is closed under negation and has the elimination of covectors.
 --
--- Main results: at each element of its support a member has the sign of a member of least support that conforms to it (decompose); members of
--- least support are equal up to sign where one support lies in the other (least_incomparable), and have elimination (least_elimination).
+-- Main results: at each element of its support a member has the sign of a member of minimal support that conforms to it (decompose); members of
+-- minimal support are equal up to sign where one support lies in the other (least_incomparable), and have elimination (least_elimination).
 -- Reference: Björner, Las Vergnas, Sturmfels, White and Ziegler, Oriented Matroids, chapters 3 and 4.
 use Rattle.std.specs.Prelude.{◌≡◌, ◌⊎◌, ℕ, ◌≤◌, List, [], ◌∷◌, refl}
 use Rattle.std.proofs.Common.{zero, suc, sym, ap, ◌∙◌, subst, ⊎_elim, inl, inr, arith}
@@ -114,7 +114,7 @@ module _ (Ls : List SignVector) (E : List ℕ)
         pulled (separation_size Y w.0) Y w.0 ly w.1 e h ne (λ g n. sub g (w.3 g n)) w.2 nh (w.4 h zh) (omega arith))
         (zero_or_nonzero (Z e))
 
-    -- of least support
+    -- of minimal support
     size_of_support : SignVector → ℕ
     size_of_support X = count (λ g. IsNonzero (X g)) (λ g. X g ≡ Zero) (λ g. ⊎_elim (λ q. inr q) (λ q. inl q) (zero_or_nonzero (X g))) E
 
@@ -182,7 +182,7 @@ module _ (Ls : List SignVector) (E : List ℕ)
     pub decompose : (X : SignVector) → L X → (e : ℕ) → IsNonzero (X e) → Part X e
     decompose X lx e n = conform (size_of_support X) X X lx e n (λ g m. refl) refl (omega arith)
 
-    -- members of least support with one support inside the other are equal up to sign
+    -- members of minimal support with one support inside the other are equal up to sign
     pub least_incomparable : (X Y : SignVector) → L X → L Y → HasLeastSupport L X → HasLeastSupport L Y → (e : ℕ) → IsNonzero (X e) → HasSupportIn X Y → AreEqualUpToSign X Y
     least_incomparable X Y lx ly mx my e n sub =
         let back : HasSupportIn Y X = my X lx (e, n) sub in
@@ -208,7 +208,7 @@ module _ (Ls : List SignVector) (E : List ℕ)
         (λ q. inr (λ g. opposite_back (X g) (Y g) (same (λ i. opposite (X i)) (l1 X lx) (ap opposite q ∙ opposite-opposite (Y e)) (λ i m. subst IsNonzero (opposite-opposite (X i)) (opposite_nonzero (opposite (X i)) m)) (λ i m. opposite_nonzero (X i) m) g)))
         (equal_or_opposite (X e) (Y e) n (sub e n))
 
-    -- elimination for members of least support
+    -- elimination for members of minimal support
     pub least_elimination : (X Y : SignVector) → L X → L Y → (e h : ℕ) → IsNonzero (X e) → Y e ≡ opposite (X e) → IsNonzero (first_nonzero (X h) (Y h)) → (IsNonzero (X h) → Y h ≡ opposite (X h) → ⊥)
         → (Z : SignVector) × L Z × HasLeastSupport L Z × (Z e ≡ Zero) × IsNonzero (Z h) × ((g : ℕ) → IsNonzero (Z g) → (Z g ≡ X g) ⊎ (Z g ≡ Y g))
     least_elimination X Y lx ly e h n op nh no_op =

@@ -1,4 +1,4 @@
--- The members of least support of a finite family that meets the covector axioms.
+-- The members of minimal support of a finite family that meets the covector axioms.
 --
 -- Main results: the members are what has, at each element of its support, the sign of one of them that conforms to it (parts_both), so they are
 -- the compositions of these (composition_both); these meet the circuit axioms (minimal_axioms).
@@ -55,7 +55,7 @@ module _ (E : List ℕ) (Ls : List SignVector) (supported : AreSupportedOn E Ls)
         (z.0, record { member = z.1; nonzero = (h.0, z.4); least = z.2 }, z.3, z.5);
   }
 
-  -- ---- the members are the compositions of those of least support
+  -- ---- the members are the compositions of those of minimal support
 
   composition_listed : (Ys : List SignVector) → EachVector (IsMinimal (IsListed Ls)) Ys → IsListed Ls (composition_of Ys)
   composition_listed [] m = axioms.zero

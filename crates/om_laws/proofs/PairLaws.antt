@@ -2,7 +2,7 @@
 --
 -- Main results: the cocircuits meet the circuit axioms (cocircuit_axioms) and the covectors the covector axioms (covector_axioms); strong elimination
 -- (elimination_at); conformal decomposition of covectors; the covectors are the compositions of cocircuits (covector_is_composition, composition_is_covector), and
--- the cocircuits are the nonzero covectors of least support (cocircuit_minimal, minimal_is_cocircuit); a vector is orthogonal to all covectors
+-- the cocircuits are the nonzero covectors of minimal support (cocircuit_minimal, minimal_is_cocircuit); a vector is orthogonal to all covectors
 -- exactly if it is orthogonal to all cocircuits (orthogonal_to_covectors, orthogonal_to_cocircuits). For circuits and vectors, take the pair in
 -- the other order.
 -- Reference: Björner, Las Vergnas, Sturmfels, White and Ziegler, Oriented Matroids, chapters 3 and 4.
@@ -406,7 +406,7 @@ module _ (E : List ℕ) (C D : SignVector → Type 0) (pair : IsDualPair E C D) 
   pub parts_of_covector : (X : SignVector) → IsCovectorOf E C X → HasConformingParts D X
   parts_of_covector X x = conformal_decomposition X x.supported x.orthogonal
 
-  -- ---- cocircuits are the nonzero covectors of least support
+  -- ---- cocircuits are the nonzero covectors of minimal support
 
   pub cocircuit_minimal : (Y : SignVector) → D Y → HasLeastSupport (IsCovectorOf E C) Y
   cocircuit_minimal Y d Z z n sub g m =

@@ -27,7 +27,7 @@ IsVector E chi = IsCovectorOf E (IsCocircuit chi)
 abbrev pub HasLeastSupport : (SignVector → Type 0) → SignVector → Type 0
 HasLeastSupport L X = (Z : SignVector) → L Z → HasNonzero Z → HasSupportIn Z X → HasSupportIn X Z
 
--- a nonzero member of least support
+-- a nonzero member of minimal support
 pub record IsMinimal (L : SignVector → Type 0) (X : SignVector) : Type 0 where
   pub member : L X
   pub nonzero : HasNonzero X

@@ -37,8 +37,8 @@ pub fn conforming_parts()
     ensures vectors { (E : List ℕ) (chi : List ℕ → Sign) → IsChirotope E chi → (X : SignVector) → IsVector E chi X ↔ HasConformingParts (IsCircuit E chi) X }
 {}
 
-/// The cocircuits are the nonzero covectors of least support, and the circuits are the nonzero vectors of least support.
-pub fn least_support()
+/// The cocircuits are the nonzero covectors of minimal support, and the circuits are the nonzero vectors of minimal support.
+pub fn minimal_support()
     ensures cocircuits { (E : List ℕ) (chi : List ℕ → Sign) → IsChirotope E chi → (X : SignVector) → IsCocircuit chi X ↔ IsMinimal (IsCovector E chi) X }
     ensures circuits { (E : List ℕ) (chi : List ℕ → Sign) → IsChirotope E chi → (X : SignVector) → IsCircuit E chi X ↔ IsMinimal (IsVector E chi) X }
 {}

@@ -7,10 +7,10 @@ ghost use Rattle.om_laws.specs.Covectors.{IsMinimal};
 ghost use Rattle.om_laws.specs.Compositions.{IsComposition, HasConformingParts};
 ghost use Rattle.om_laws.specs.Families.{IsListed, AreSupportedOn};
 
-/// Of a list of sign vectors that meets the covector axioms, the nonzero members of least support meet the circuit axioms. The
+/// Of a list of sign vectors that meets the covector axioms, the nonzero members of minimal support meet the circuit axioms. The
 /// members are what has, at each element of its support, the sign of some one of these that conforms to it, and they are the
 /// compositions of these.
-pub fn members_of_least_support()
+pub fn members_of_minimal_support()
     ensures axioms { (E : List ℕ) (Ls : List SignVector) → AreSupportedOn E Ls → CovectorAxioms (IsListed Ls) → CircuitAxioms (IsMinimal (IsListed Ls)) }
     ensures parts { (E : List ℕ) (Ls : List SignVector) → AreSupportedOn E Ls → CovectorAxioms (IsListed Ls) → (X : SignVector) → IsListed Ls X ↔ HasConformingParts (IsMinimal (IsListed Ls)) X }
     ensures compositions { (E : List ℕ) (Ls : List SignVector) → AreSupportedOn E Ls → CovectorAxioms (IsListed Ls) → (X : SignVector) → IsListed Ls X ↔ IsComposition (IsMinimal (IsListed Ls)) X }

@@ -23,7 +23,7 @@ mod vectors;
 pub use bases::{exchange, fundamental_circuit, fundamental_cocircuit};
 pub use circuits::{orthogonality, painting, strong_elimination};
 pub use covectors::{
-    axioms, compositions, conformal_decomposition, conforming_parts, least_support,
+    axioms, compositions, conformal_decomposition, conforming_parts, minimal_support,
     vectors_and_covectors,
 };
 pub use denotation::{
@@ -31,7 +31,7 @@ pub use denotation::{
 };
 pub use dual::{double_dual, dual_on_increasing_lists, duality};
 pub use elements::{loops_and_coloops, parallel_elements};
-pub use families::members_of_least_support;
+pub use families::members_of_minimal_support;
 pub use lists::{
     composition_of_lists, conformity_of_lists, lists_and_functions, negation_of_lists,
     orthogonality_of_lists, relation_as_orthogonality,

@@ -3,7 +3,7 @@
 -- Main results: a family of lists of n signs meets the axioms that the family of its functions meets (family_axioms, family_covector_axioms), and has
 -- the same conforming parts (family_parts); orthogonality (orthogonal), the painting lemma (painting_one, painting_both), the axioms of circuits, cocircuits and covectors
 -- (circuit_axioms, cocircuit_axioms, covector_axioms), conformal decomposition and compositions (conformal_both, composition_both), denotations
--- (parts_both, orthogonal_both), and the cocircuits as the covectors of least support (least_both).
+-- (parts_both, orthogonal_both), and the cocircuits as the covectors of minimal support (least_both).
 -- Reference: Björner, Las Vergnas, Sturmfels, White and Ziegler, Oriented Matroids, chapters 3 and 4.
 use Rattle.std.proofs.Common.{ℕ, zero, suc, ◌≡◌, ◌-◌, ◌<◌, ◌≤◌, ◌↔◌, ◌⊎◌, List, [], ◌∷◌, length, replicate, cond, refl, sym, ap, subst, ◌∙◌, inl, inr, ⊎_elim, arith}
 use Rattle.std.proofs.lemmas.Bool.{cases_lt, lt-ltb, le-ltb}
@@ -214,7 +214,7 @@ module _ (m : SignMap) (chirotope : IsChirotope m) where
       parts : functions.HasConformingParts (IsCocircuit (tuples_of m)) (as_function X) ↔ HasConformingParts (IsCocircuitOfChirotope m) X
       parts = family_parts m.elements (IsCocircuitOfChirotope m) (IsCocircuit (tuples_of m)) (cocircuits_of m) X
 
-  -- ---- least support
+  -- ---- minimal support
 
   minimal_both : (F : SignVector) → IsCocircuit (tuples_of m) F ↔ IsMinimal (IsCovector elements (tuples_of m)) F
   minimal_both = covectors.minimal_both elements (IsCircuit elements (tuples_of m)) (IsCocircuit (tuples_of m)) (dual_pair elements (tuples_of m) axioms) (covectors.cocircuit_same (tuples_of m))

@@ -1,4 +1,4 @@
--- Compositions of the members of a family of sign vectors, and members of least support. Places count from 0.
+-- Compositions of the members of a family of sign vectors, and members of minimal support. Places count from 0.
 --
 -- Reference: Björner, Las Vergnas, Sturmfels, White and Ziegler, Oriented Matroids, chapters 3 and 4.
 use Rattle.std.specs.Prelude.{ℕ, ◌≡◌, List, replicate}

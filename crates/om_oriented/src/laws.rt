@@ -70,9 +70,9 @@ pub fn denotations()
         → IsCovectorOfChirotope m X ↔ HasConformingParts (IsCocircuitOfChirotope m) X }
 {}
 
-/// The cocircuits are the nonzero covectors of least support.
+/// The cocircuits are the nonzero covectors of minimal support.
 ///
 /// Source: Björner, Las Vergnas, Sturmfels, White and Ziegler, *Oriented Matroids*, chapters 3 and 4.
-pub fn least_support()
+pub fn minimal_support()
     ensures { (m : SignMap) → IsChirotope m → (X : List Sign) → IsCocircuitOfChirotope m X ↔ IsOfLeastSupport (IsCovectorOfChirotope m) X }
 {}

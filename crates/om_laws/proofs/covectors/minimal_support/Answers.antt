@@ -1,7 +1,7 @@
 use Rattle.om_laws.specs.Circuits.{IsCircuit, IsCocircuit}
 use Rattle.om_laws.proofs.CovectorLaws as laws
 use Rattle.om_laws.proofs.DualPairs.{dual_pair, swapped_pair}
-use Rattle.om_laws.proofs.covectors.least_support.Goals as goal
+use Rattle.om_laws.proofs.covectors.minimal_support.Goals as goal
 
 pub returns-clause-cocircuits : goal.returns-clause-cocircuits
 returns-clause-cocircuits c = λ E chi om X. laws.minimal_both E (IsCircuit E chi) (IsCocircuit chi) (dual_pair E chi om) (laws.cocircuit_same chi) X

@@ -1,5 +1,5 @@
 use Rattle.om_oriented.proofs.FamilyLaws.{least_both}
-use Rattle.om_oriented.proofs.laws.least_support.Goals as goal
+use Rattle.om_oriented.proofs.laws.minimal_support.Goals as goal
 
 pub returns : goal.returns
 returns c = λ m chirotope X. least_both m chirotope X

@@ -1,5 +1,5 @@
 use Rattle.om_laws.proofs.MinimalLaws.{composition_both, minimal_axioms, parts_both}
-use Rattle.om_laws.proofs.families.members_of_least_support.Goals as goal
+use Rattle.om_laws.proofs.families.members_of_minimal_support.Goals as goal
 
 pub returns-clause-axioms : goal.returns-clause-axioms
 returns-clause-axioms c = λ E Ls s a. minimal_axioms E Ls s a
