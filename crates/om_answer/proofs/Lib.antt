@@ -9,3 +9,6 @@ pub mod ClaimCourse
 pub mod ClaimReading
 pub mod ClaimSizes
 pub mod OneReading
+pub mod BlockTexts
+pub mod Spelled
+pub mod VerdictReading

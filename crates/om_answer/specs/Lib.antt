@@ -4,4 +4,6 @@ pub mod BlockLines
 pub mod Block
 pub mod Claim
 pub mod ClaimFault
+pub mod VerdictText
+pub mod VerdictForm
 pub mod BlockReading

@@ -2,7 +2,7 @@
 
 ghost use Rattle.std.specs.Prelude.{◌≡◌, ◌++◌, ◌∷◌, OnOk, map};
 ghost use Rattle.std.specs.List.{join_with_byte};
-ghost use Rattle.std.specs.Fmt.{decimal};
+ghost use Rattle.std.specs.Fmt.{decimal, signed_decimal};
 ghost use Rattle.om_answer.specs.Texts.{code_text, subset_text, spaced, stated, after_comma};
 
 use itoa::Buffer;
@@ -33,6 +33,15 @@ pub fn push_number(text: &mut Vec<u8>, n: u128) -> Result<(), NoMemory>
 {
     push(text, b" ")?;
     push_digits(text, n)
+}
+
+/// Puts a space and a number with a sign at the end.
+pub fn push_signed(text: &mut Vec<u8>, n: i128) -> Result<(), NoMemory>
+    ensures { OnOk result (text.new.items ≡ text.old.items ++ spaced (signed_decimal n)) }
+{
+    push(text, b" ")?;
+    let mut buffer = Buffer::new();
+    push(text, buffer.format(n).as_bytes())
 }
 
 /// Puts a space and a code, with its number where it has one, at the end.

@@ -20,6 +20,10 @@ mod range;
 #[cfg(test)]
 mod tests;
 mod texts;
+mod verdict;
+mod verdict_lines;
+#[cfg(test)]
+mod verdict_tests;
 
 pub use claim::Claim;
 pub use claim_reader::read_claim;
@@ -27,3 +31,4 @@ pub use kind::Kind;
 pub use laws::bytes_have_one_reading;
 pub use line::Line;
 pub use texts::print_line;
+pub use verdict::print_verdict;

@@ -21,7 +21,7 @@ member_from low (suc m) e (x ∷ xs) (inl (q, h)) (inl r) = omega arith
 member_from low (suc m) e (x ∷ xs) (inl (q, h)) (inr r) = let i = member_from (low + 1) m e xs h r in omega arith
 member_from low (suc m) e (x ∷ xs) (inr (q, h)) k = let i = member_from (low + 1) m e (x ∷ xs) h k in omega arith
 
-without_below : (low m e : ℕ) (xs : List ℕ) → IsSubsetFrom low m xs → e < low → without_element e xs ≡ xs
+pub without_below : (low m e : ℕ) (xs : List ℕ) → IsSubsetFrom low m xs → e < low → without_element e xs ≡ xs
 without_below low m e [] h l = refl
 without_below low zero e (x ∷ xs) h l = absurd h
 without_below low (suc m) e (x ∷ xs) (inl (q, h)) l =
@@ -29,7 +29,7 @@ without_below low (suc m) e (x ∷ xs) (inl (q, h)) l =
     rw (ne_eqb e x ne) (ap (λ k. x ∷ k) (without_below (low + 1) m e xs h (omega arith)))
 without_below low (suc m) e (x ∷ xs) (inr (q, h)) l = without_below (low + 1) m e (x ∷ xs) h (omega arith)
 
-count_below : (low m e : ℕ) (xs : List ℕ) → IsSubsetFrom low m xs → e < low → count_above e xs ≡ length xs
+pub count_below : (low m e : ℕ) (xs : List ℕ) → IsSubsetFrom low m xs → e < low → count_above e xs ≡ length xs
 count_below low m e [] h l = refl
 count_below low zero e (x ∷ xs) h l = absurd h
 count_below low (suc m) e (x ∷ xs) (inl (q, h)) l =

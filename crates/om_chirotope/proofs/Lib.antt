@@ -7,3 +7,7 @@ pub mod Axioms
 pub mod Negation
 pub mod SortedTuples
 pub mod Theory
+pub mod ExchangeForms
+pub mod ThreeTerms
+pub mod Marks
+pub mod Rows

@@ -13,7 +13,7 @@ use Rattle.om_subsets.proofs.Order.{head_low}
 use Rattle.om_subsets.proofs.Statements.{subset_is_increasing}
 use Rattle.om_laws.specs.Tuples.{value, sorted, sort_sign, before_sign}
 use Rattle.om_laws.specs.Sorting.{IsIncreasing, IsTuple, IsElement, Each, on_tuples}
-use Rattle.om_laws.specs.Relations.{HasIncreasingRelations}
+use Rattle.om_laws.specs.Relations.{HasIncreasingRelations, HasRelations}
 use Rattle.om_laws.specs.Chirotope as theory
 use Rattle.om_laws.specs.Chirotope.{elements_to}
 use Rattle.om_laws.proofs.TupleSizes.{each_member, on_tuples_at, on_tuples_tuple}
@@ -26,14 +26,14 @@ use Rattle.om_chirotope.proofs.Cocircuits.{insert_with, length-with}
 use Rattle.om_chirotope.proofs.SortedTuples.{before_member, before_sorted}
 
 -- an increasing tuple is an increasing list
-from_tuple : (n k : ℕ) (xs : List ℕ) → IsTuple n k xs → IsIncreasing xs → IsSubsetFrom 1 n xs
+pub from_tuple : (n k : ℕ) (xs : List ℕ) → IsTuple n k xs → IsIncreasing xs → IsSubsetFrom 1 n xs
 from_tuple n k xs t i = (subset_is_increasing n xs).1 (i, λ e q. each_member (IsElement n) xs t.within e q)
 
 each_element : (n : ℕ) (xs : List ℕ) → IsWithin 1 n xs → Each (IsElement n) xs
 each_element n [] h = tt
 each_element n (x ∷ xs) h = (h x (inl refl), each_element n xs (λ e q. h e (inr q)))
 
-to_tuple : (n k : ℕ) (xs : List ℕ) → IsSubsetFrom 1 n xs → length xs ≡ k → IsTuple n k xs
+pub to_tuple : (n k : ℕ) (xs : List ℕ) → IsSubsetFrom 1 n xs → length xs ≡ k → IsTuple n k xs
 to_tuple n k xs h l = record { size = l; within = each_element n xs ((subset_is_increasing n xs).0 h).1 }
 
 relations : (m : SignMap) → IsChirotope m → HasIncreasingRelations m.elements m.rank (value_of m)
@@ -120,18 +120,18 @@ some_value m c = go c.base
           λ z. parts.1 (sym (value_in_order 1 m.elements (chi_of m) (sorted t) s.lawful) ∙ z),
         )
 
+pub orthogonal_of_relations : (m : SignMap) → HasRelations (on_tuples m.elements m.rank (chi_of m)) → HasOrthogonalPairs m
+orthogonal_of_relations m rel s a p =
+    let ps = p.s_size in
+    let pa = p.a_size in
+    let ss : length s ≡ suc m.rank = omega arith in
+    let sa : length a ≡ m.rank - 1 = omega arith in
+    let ts = to_tuple m.elements (suc m.rank) s p.s_list ss in
+    let ta = to_tuple m.elements (m.rank - 1) a p.a_list sa in
+    let is = ((subset_is_increasing m.elements s).0 p.s_list).0 in
+    let ia = ((subset_is_increasing m.elements a).0 p.a_list).0 in
+    relation_to_lists m.elements (suc m.rank) (value_of m) s a ts is
+    (relations_of_increasing_tuples m.elements m.rank (chi_of m) rel s a (omega arith) ts ta is ia)
+
 pub map_chirotope : (m : SignMap) → IsMap m → theory.IsChirotope (elements_to m.elements) (on_tuples m.elements m.rank (chi_of m)) → IsChirotope m
-map_chirotope m w c = record { whole = w; nonzero = some_value m c; orthogonal = each }
-  where
-    each : HasOrthogonalPairs m
-    each s a p =
-        let ps = p.s_size in
-        let pa = p.a_size in
-        let ss : length s ≡ suc m.rank = omega arith in
-        let sa : length a ≡ m.rank - 1 = omega arith in
-        let ts = to_tuple m.elements (suc m.rank) s p.s_list ss in
-        let ta = to_tuple m.elements (m.rank - 1) a p.a_list sa in
-        let is = ((subset_is_increasing m.elements s).0 p.s_list).0 in
-        let ia = ((subset_is_increasing m.elements a).0 p.a_list).0 in
-        relation_to_lists m.elements (suc m.rank) (value_of m) s a ts is
-        (relations_of_increasing_tuples m.elements m.rank (chi_of m) c.relations s a (omega arith) ts ta is ia)
+map_chirotope m w c = record { whole = w; nonzero = some_value m c; orthogonal = orthogonal_of_relations m c.relations }

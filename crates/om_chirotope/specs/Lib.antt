@@ -1,2 +1,4 @@
 pub mod Map
 pub mod Chirotope
+pub mod ThreeTerm
+pub mod Pictures

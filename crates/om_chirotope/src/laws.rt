@@ -7,6 +7,7 @@ ghost use Rattle.om_signs.specs.SignVec.{place};
 ghost use Rattle.om_subsets.specs.Subsets.{IsSubsetFrom, IsMember};
 ghost use Rattle.om_chirotope.specs.Map.{SignMap, IsMap, chi_of, value_of, circuit_vector, cocircuit_vector, parity_sign};
 ghost use Rattle.om_chirotope.specs.Chirotope.{IsChirotope};
+ghost use Rattle.om_chirotope.specs.ThreeTerm.{MeetsThreeTermTest};
 ghost use Rattle.om_laws.specs.Chirotope as theory;
 ghost use Rattle.om_laws.specs.Chirotope.{elements_to};
 ghost use Rattle.om_laws.specs.Sorting.{on_tuples};
@@ -28,4 +29,12 @@ pub fn vectors_of_a_map()
 /// elements, and 0 on all other lists, make an alternating map with a nonzero value that has the relations for all lists.
 pub fn axioms_and_relations()
     ensures { (m : SignMap) → IsMap m → IsChirotope m ↔ theory.IsChirotope (elements_to m.elements) (on_tuples m.elements m.rank (chi_of m)) }
+{}
+
+/// The three-term test: a map meets the axioms exactly where some value isn't 0, bases have exchange, and the three-term
+/// relations hold. So the relations of lists of any sizes follow from those of lists that differ in few elements.
+///
+/// Source: Björner, Las Vergnas, Sturmfels, White and Ziegler, *Oriented Matroids*, chapter 3.
+pub fn three_term_test()
+    ensures { (m : SignMap) → MeetsThreeTermTest m ↔ IsChirotope m }
 {}

@@ -7,11 +7,12 @@ mod chirotope;
 mod laws;
 mod map_refused;
 mod scan;
+mod three_terms;
 mod vectors;
 
 pub use bad_map::BadMap;
 pub use checking::check;
 pub use chirotope::Chirotope;
-pub use laws::{axioms_and_relations, vectors_of_a_map};
+pub use laws::{axioms_and_relations, three_term_test, vectors_of_a_map};
 pub use map_refused::MapRefused;
 pub use scan::violated;

@@ -7,6 +7,7 @@ ghost use Rattle.om_subsets.specs.Subsets.{choose};
 ghost use Rattle.om_chirotope.specs.Map.{map_of, cocircuit_vectors};
 ghost use Rattle.om_chirotope.specs.Chirotope.{HasOrthogonalPairs, IsFirstViolated};
 
+use super::three_terms::meets_test;
 use super::vectors::{circuit_of, cocircuit_of};
 use om_signs::{MAX_PLACES, RawMap, SignVec};
 use om_subsets::{MOST_SUBSETS, Subset};
@@ -37,7 +38,8 @@ pub fn violated(raw: &RawMap) -> Option<(Subset, Subset)>
     scan_with_table(raw)
 }
 
-/// The first violated pair, by a table of all vectors U.
+/// The first violated pair, by a table of all vectors U. Where there are more pairs than sets of elements, the three-term test
+/// comes first, which most often spares the scan of a map that meets the axioms.
 fn scan_with_table(raw: &RawMap) -> Option<(Subset, Subset)>
     requires low { 1 ≤ raw.now.elements }
     requires high { raw.now.elements ≤ MAX_PLACES }
@@ -51,6 +53,10 @@ fn scan_with_table(raw: &RawMap) -> Option<(Subset, Subset)>
     let count = Subset::choose(raw.elements, raw.rank - 1) as usize;
     let cocircuits = &mut table[..count];
     fill(raw, cocircuits);
+    let pairs = Subset::choose(raw.elements, raw.rank + 1) as u64 * count as u64;
+    if pairs > 1u64 << raw.elements && meets_test(raw, cocircuits) {
+        return None;
+    }
     scan(raw, cocircuits)
 }
 

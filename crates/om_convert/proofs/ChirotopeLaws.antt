@@ -12,14 +12,14 @@ use Rattle.om_chirotope.specs.Chirotope.{IsChirotope}
 use Rattle.om_circuits.specs.Axioms.{MeetsCircuitAxioms}
 use Rattle.om_members.specs.Listings.{Listing, HaveLength}
 use Rattle.om_covectors.specs.Axioms.{MeetsCovectorAxioms}
-use Rattle.om_oriented.specs.Circuits.{IsCircuitOfChirotope, IsCocircuitOfChirotope}
-use Rattle.om_oriented.specs.Compositions as families
-use Rattle.om_oriented.specs.Compositions.{none, front}
-use Rattle.om_oriented.specs.Covectors.{IsCovectorOfChirotope, IsCovectorOfCircuits, IsCovectorOfCocircuits, IsCovectorOfCovectors}
-use Rattle.om_oriented.specs.Denotation.{DenoteTheSame}
-use Rattle.om_oriented.specs.Listings.{AreAllOf}
-use Rattle.om_oriented.proofs.ChirotopeBridge.{circuit_length, cocircuit_length}
-use Rattle.om_oriented.proofs.FamilyLaws as chirotopes
+use Rattle.om_denotation.specs.Circuits.{IsCircuitOfChirotope, IsCocircuitOfChirotope}
+use Rattle.om_denotation.specs.Compositions as families
+use Rattle.om_denotation.specs.Compositions.{none, front}
+use Rattle.om_denotation.specs.Covectors.{IsCovectorOfChirotope, IsCovectorOfCircuits, IsCovectorOfCocircuits, IsCovectorOfCovectors}
+use Rattle.om_denotation.specs.Denotation.{DenoteTheSame}
+use Rattle.om_denotation.specs.Listings.{AreAllOf}
+use Rattle.om_denotation.proofs.ChirotopeBridge.{circuit_length, cocircuit_length}
+use Rattle.om_denotation.proofs.FamilyLaws as chirotopes
 use Rattle.om_convert.specs.Compositions.{composition_of, AreFrom, IsCompositionOf}
 use Rattle.om_convert.specs.Families.{IsComposedOf}
 use Rattle.om_convert.proofs.FamilyLaws.{lengths, circuit_axioms, covector_axioms, composed_both}

@@ -22,17 +22,18 @@ use Rattle.om_covectors.specs.Axioms.{MeetsCovectorAxioms}
 use Rattle.om_members.specs.Listings.{HaveLength, Listing}
 use Rattle.om_covectors.specs.Minimality.{IsMinimal, AreThose}
 use Rattle.om_circuits.specs.Axioms.{MeetsCircuitAxioms}
-use Rattle.om_oriented.specs.Covectors.{IsCovectorOfCocircuits}
-use Rattle.om_oriented.specs.Denotation.{DenoteTheSame}
-use Rattle.om_oriented.specs.Listings.{AreAllOf}
-use Rattle.om_oriented.specs.Compositions as lists
-use Rattle.om_oriented.proofs.ChirotopeBridge.{same_lists}
-use Rattle.om_oriented.proofs.ListFunctions.{AreFunctionsOf}
-use Rattle.om_oriented.proofs.FamilyLaws.{family_axioms, family_parts}
-use Rattle.om_convert.specs.Families.{as_functions, HasMinimalPart, IsComposedOf}
-use Rattle.om_convert.proofs.SelectionLaws.{those_contained, contained_those}
-use Rattle.om_convert.proofs.FunctionLaws.{unlisted}
-use Rattle.om_convert.proofs.AxiomLaws.{supported, own, covector_axioms, minimal_function, minimal_list}
+use Rattle.om_denotation.specs.Covectors.{IsCovectorOfCocircuits}
+use Rattle.om_denotation.specs.Denotation.{DenoteTheSame}
+use Rattle.om_denotation.specs.Listings.{AreAllOf}
+use Rattle.om_denotation.specs.Compositions as lists
+use Rattle.om_denotation.proofs.ChirotopeBridge.{same_lists}
+use Rattle.om_denotation.proofs.ListFunctions.{AreFunctionsOf}
+use Rattle.om_denotation.proofs.FamilyLaws.{family_axioms, family_parts}
+use Rattle.om_denotation.specs.Families.{as_functions}
+use Rattle.om_convert.specs.Families.{HasMinimalPart, IsComposedOf}
+use Rattle.om_denotation.proofs.SelectionLaws.{those_contained, contained_those}
+use Rattle.om_denotation.proofs.FunctionLaws.{unlisted}
+use Rattle.om_denotation.proofs.AxiomLaws.{supported, own, covector_axioms, minimal_function, minimal_list}
 use Rattle.om_convert.proofs.FamilyLaws.{circuit_axioms, composed_both}
 
 -- a member of minimal support

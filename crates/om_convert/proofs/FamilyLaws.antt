@@ -12,11 +12,11 @@ use Rattle.om_members.specs.Vectors.{negated}
 use Rattle.om_circuits.specs.Axioms.{MeetsCircuitAxioms}
 use Rattle.om_members.specs.Listings.{HaveLength}
 use Rattle.om_covectors.specs.Axioms.{MeetsCovectorAxioms}
-use Rattle.om_oriented.specs.Compositions.{HasConformingParts}
-use Rattle.om_oriented.specs.CovectorLaws.{at_zero}
-use Rattle.om_oriented.specs.FamilyAxioms.{HasCircuitAxioms, HasCovectorAxioms}
-use Rattle.om_oriented.specs.Listings.{AreAllOf}
-use Rattle.om_oriented.proofs.ListFunctions.{at_place}
+use Rattle.om_denotation.specs.Compositions.{HasConformingParts}
+use Rattle.om_denotation.specs.CovectorLaws.{at_zero}
+use Rattle.om_denotation.specs.FamilyAxioms.{HasCircuitAxioms, HasCovectorAxioms}
+use Rattle.om_denotation.specs.Listings.{AreAllOf}
+use Rattle.om_denotation.proofs.ListFunctions.{at_place}
 use Rattle.om_convert.specs.Families.{IsComposedOf}
 
 module _ (P : List Sign → Type 0) (members : List (List Sign)) (all : AreAllOf P members) where

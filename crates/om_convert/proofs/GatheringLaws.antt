@@ -19,12 +19,12 @@ use Rattle.om_signs.proofs.Bits.{some_bit}
 use Rattle.om_signs.proofs.Vectors.{at-map-opposite}
 use Rattle.om_laws.proofs.SignLaws.{opposite_nonzero}
 use Rattle.om_members.specs.Listings.{AreDistinct}
-use Rattle.om_oriented.specs.Circuits.{HasNonzero}
-use Rattle.om_oriented.specs.Listings.{AreAllOf, HasMoreThan}
+use Rattle.om_denotation.specs.Circuits.{HasNonzero}
+use Rattle.om_denotation.specs.Listings.{AreAllOf, HasMoreThan}
 use Rattle.om_convert.specs.declared.convert_error.ConvertError.{ConvertError}
 use Rattle.om_convert.specs.Gathering.{IsOldOrAdded, IsExtendedBy, IsNonzeroUpToSign, IsComposedWith}
 use Rattle.om_convert.specs.Limits.{IsCause}
-use Rattle.om_convert.proofs.SelectionLaws.{none_contained}
+use Rattle.om_denotation.proofs.SelectionLaws.{none_contained}
 use Rattle.om_convert.proofs.CountingLaws.{cause_of_cause}
 
 -- ---- one vector

@@ -1,6 +1,3 @@
-pub mod SelectionLaws
-pub mod FunctionLaws
-pub mod AxiomLaws
 pub mod FamilyLaws
 pub mod CocircuitLaws
 pub mod CountingLaws
@@ -9,3 +6,4 @@ pub mod CompositionLaws
 pub mod PlaceLaws
 pub mod KeyLaws
 pub mod ChirotopeLaws
+pub mod SameFamilies

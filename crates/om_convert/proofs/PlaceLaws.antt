@@ -9,8 +9,8 @@ use Rattle.om_subsets.specs.Subsets.{choose, rank_of, subset_at, IsSubsetFrom}
 use Rattle.om_subsets.proofs.Order.{listed, rank_from-lt, get_or-rank_from}
 use Rattle.om_subsets.proofs.Table.{choose_above}
 use Rattle.om_chirotope.specs.Map.{SignMap, circuit_vector, cocircuit_vector}
-use Rattle.om_oriented.specs.Circuits.{IsCircuitOfChirotope, IsCocircuitOfChirotope}
-use Rattle.om_oriented.specs.Listings.{AreAllOf}
+use Rattle.om_denotation.specs.Circuits.{IsCircuitOfChirotope, IsCocircuitOfChirotope}
+use Rattle.om_denotation.specs.Listings.{AreAllOf}
 use Rattle.om_convert.specs.declared.convert_error.ConvertError.{ConvertError}
 use Rattle.om_convert.specs.Gathering.{IsOldOrAdded, IsExtendedBy, IsNonzeroUpToSign}
 use Rattle.om_convert.specs.Limits.{IsCause}

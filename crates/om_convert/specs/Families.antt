@@ -1,18 +1,12 @@
--- Lists of lists of signs as finite families of functions, and their members of minimal support.
+-- Members of minimal support of finite lists of sign vectors.
 --
 -- Reference: Björner, Las Vergnas, Sturmfels, White and Ziegler, Oriented Matroids, chapters 3 and 4.
-use Rattle.std.specs.Prelude.{ℕ, ◌≡◌, List, map}
+use Rattle.std.specs.Prelude.{ℕ, ◌≡◌, List}
 use Rattle.std.specs.List.{Contains}
 use Rattle.om_signs.specs.declared.sign.Sign.{Sign}
 use Rattle.om_signs.specs.SignVec.{at, IsNonzero, IsConformal}
-use Rattle.om_laws.specs.Vectors.{SignVector}
-use Rattle.om_laws.specs.Bridge.{as_function}
 use Rattle.om_covectors.specs.Minimality.{IsMinimal}
-use Rattle.om_oriented.specs.Covectors.{HasConformingMember}
-
--- the function of each member
-abbrev pub as_functions : List (List Sign) → List SignVector
-as_functions members = map as_function members
+use Rattle.om_denotation.specs.Covectors.{HasConformingMember}
 
 -- some member of minimal support conforms to X and has its sign at a place, counted from 0
 abbrev pub HasMinimalPart : List (List Sign) → List Sign → ℕ → Type 0

@@ -5,7 +5,7 @@ use Rattle.om_signs.specs.declared.sign.Sign.{Sign}
 use Rattle.om_signs.specs.declared.limits.TheConstants.{MAX_MEMBERS}
 use Rattle.om_signs.specs.SignVec.{compose}
 use Rattle.om_members.specs.Listings.{AreDistinct}
-use Rattle.om_oriented.specs.Circuits.{HasNonzero, IsUpToSign}
+use Rattle.om_denotation.specs.Circuits.{HasNonzero, IsUpToSign}
 
 -- no vector stands twice, and there are no more than a list may have
 pub record IsMemberSet (members : List (List Sign)) : Type 0 where

@@ -1,10 +1,10 @@
 //! Conversions of chirotopes.
 
 ghost use Rattle.std.specs.Prelude.{◌≡◌, IfOk, IfErr, OnOk};
-ghost use Rattle.om_oriented.specs.Circuits.{IsCircuitOfChirotope, IsCocircuitOfChirotope};
-ghost use Rattle.om_oriented.specs.Covectors.{IsCovectorOfChirotope, IsCovectorOfCircuits, IsCovectorOfCocircuits, IsCovectorOfCovectors};
-ghost use Rattle.om_oriented.specs.Denotation.{DenoteTheSame};
-ghost use Rattle.om_oriented.specs.Listings.{AreAllOf};
+ghost use Rattle.om_denotation.specs.Circuits.{IsCircuitOfChirotope, IsCocircuitOfChirotope};
+ghost use Rattle.om_denotation.specs.Covectors.{IsCovectorOfChirotope, IsCovectorOfCircuits, IsCovectorOfCocircuits, IsCovectorOfCovectors};
+ghost use Rattle.om_denotation.specs.Denotation.{DenoteTheSame};
+ghost use Rattle.om_denotation.specs.Listings.{AreAllOf};
 ghost use Rattle.om_convert.specs.Limits.{IsCause, IsWithinLimit};
 
 use super::convert_error::ConvertError;

@@ -2,7 +2,7 @@
 
 ghost use Rattle.std.specs.Prelude.{◌≤◌, IfOk, IfErr};
 ghost use Rattle.om_members.specs.Listings.{HaveLength};
-ghost use Rattle.om_oriented.specs.Listings.{AreAllOf};
+ghost use Rattle.om_denotation.specs.Listings.{AreAllOf};
 ghost use Rattle.om_convert.specs.Compositions.{IsCompositionOf};
 ghost use Rattle.om_convert.specs.Limits.{IsCause};
 

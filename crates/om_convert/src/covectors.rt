@@ -3,8 +3,8 @@
 ghost use Rattle.std.specs.Prelude.{◌≡◌, IfOk, IsOkUnless};
 ghost use Rattle.std.specs.List.{Contains};
 ghost use Rattle.om_covectors.specs.Minimality.{IsMinimal, AreThose};
-ghost use Rattle.om_oriented.specs.Covectors.{IsCovectorOfCocircuits};
-ghost use Rattle.om_oriented.specs.Denotation.{DenoteTheSame};
+ghost use Rattle.om_denotation.specs.Covectors.{IsCovectorOfCocircuits};
+ghost use Rattle.om_denotation.specs.Denotation.{DenoteTheSame};
 
 use super::convert_error::ConvertError;
 use om_circuits::{Cocircuits, SignedSet};

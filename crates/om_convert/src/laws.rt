@@ -12,9 +12,10 @@ ghost use Rattle.om_covectors.specs.Axioms.{MeetsCovectorAxioms};
 ghost use Rattle.om_members.specs.Listings.{HaveLength};
 ghost use Rattle.om_covectors.specs.Minimality.{IsMinimal, AreThose};
 ghost use Rattle.om_circuits.specs.Axioms.{MeetsCircuitAxioms};
-ghost use Rattle.om_oriented.specs.Covectors.{HasConformingMember};
-ghost use Rattle.om_oriented.specs.Denotation.{DenoteTheSame};
-ghost use Rattle.om_convert.specs.Families.{as_functions, HasMinimalPart, IsComposedOf};
+ghost use Rattle.om_denotation.specs.Covectors.{HasConformingMember};
+ghost use Rattle.om_denotation.specs.Denotation.{DenoteTheSame};
+ghost use Rattle.om_denotation.specs.Families.{as_functions};
+ghost use Rattle.om_convert.specs.Families.{HasMinimalPart, IsComposedOf};
 
 /// Lists of n signs that meet the axioms of covectors are functions that meet them, zero off the elements 1 to n.
 ///

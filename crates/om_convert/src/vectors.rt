@@ -2,9 +2,9 @@
 
 ghost use Rattle.std.specs.Prelude.{IfOk, IfErr};
 ghost use Rattle.om_chirotope.specs.Chirotope.{IsChirotope};
-ghost use Rattle.om_oriented.specs.Circuits.{IsCircuitOfChirotope, IsCocircuitOfChirotope};
-ghost use Rattle.om_oriented.specs.Covectors.{IsCovectorOfChirotope};
-ghost use Rattle.om_oriented.specs.Listings.{AreAllOf};
+ghost use Rattle.om_denotation.specs.Circuits.{IsCircuitOfChirotope, IsCocircuitOfChirotope};
+ghost use Rattle.om_denotation.specs.Covectors.{IsCovectorOfChirotope};
+ghost use Rattle.om_denotation.specs.Listings.{AreAllOf};
 ghost use Rattle.om_convert.specs.Limits.{IsCause};
 
 use super::closure::all_compositions;

@@ -1,5 +1,1 @@
-pub mod Rules
-pub mod NormalForms
-pub mod Uniqueness
-pub mod ListingSigns
-pub mod DualMaps
+mod VectorLaws

@@ -3,10 +3,10 @@
 ghost use Rattle.std.specs.Prelude.{◌≡◌, ℕ};
 ghost use Rattle.om_chirotope.specs.Map.{SignMap};
 ghost use Rattle.om_chirotope.specs.Chirotope.{IsChirotope};
-ghost use Rattle.om_oriented.specs.Covectors.{IsCovectorOfChirotope};
-ghost use Rattle.om_oriented.specs.Denotation.{DenoteTheSame};
-ghost use Rattle.om_dual.specs.Maps.{IsNormalFormOf};
-ghost use Rattle.om_dual.specs.Dual.{dual_of};
+ghost use Rattle.om_denotation.specs.Covectors.{IsCovectorOfChirotope};
+ghost use Rattle.om_denotation.specs.Denotation.{DenoteTheSame};
+ghost use Rattle.om_denotation.specs.Maps.{IsNormalFormOf};
+ghost use Rattle.om_denotation.specs.Dual.{dual_of};
 
 /// The dual of the dual of a chirotope is its normal form.
 ///

@@ -6,12 +6,11 @@
 //! Source of the notions: Björner, Las Vergnas, Sturmfels, White and Ziegler, *Oriented Matroids*, chapters 3 and 4.
 #![tactic(auto)]
 
-mod duality;
 mod laws;
-mod sign_rule;
+mod lists;
 #[cfg(test)]
 mod tests;
 
-pub use duality::dual;
+pub use lists::{dual_circuits, dual_cocircuits, dual_covectors};
 pub use laws::{dual_of_the_dual, normal_forms};
-pub use sign_rule::{SignRule, normal_by};
+pub use om_denotation::{SignRule, dual, normal_by};

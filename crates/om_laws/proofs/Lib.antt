@@ -30,4 +30,15 @@ pub mod MinorLaws
 pub mod Missing
 pub mod RankTwoLaws
 pub mod ThreeTermLaws
+pub mod ThreeTermOrders
+pub mod ThreeTermSigns
+pub mod ExchangeOrders
 pub mod UniquenessLaws
+pub mod ExistenceHelpers
+pub mod CocircuitBases
+pub mod Growth
+pub mod Construction
+pub mod Existence
+pub mod FiniteExistence
+pub mod CovectorExistence
+pub mod SizeLaws

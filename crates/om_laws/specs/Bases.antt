@@ -1,11 +1,12 @@
 -- Bases of a chirotope: their exchange, and their fundamental circuits and cocircuits.
 --
 -- Reference: Björner, Las Vergnas, Sturmfels, White and Ziegler, Oriented Matroids, chapter 3.
-use Rattle.std.specs.Prelude.{ℕ, ◌≡◌, ◌⊎◌, ◌↔◌, List, ◌∷◌, ◌++◌}
+use Rattle.std.specs.Prelude.{ℕ, ◌≡◌, ◌⊎◌, ◌↔◌, List, [], ◌∷◌, ◌++◌}
 use Rattle.om_signs.specs.declared.sign.Sign.{Sign}
 use Rattle.om_signs.specs.declared.sign.Sign.TheVariants.{Zero}
 use Rattle.om_laws.specs.Signs.{IsNonzero}
 use Rattle.om_laws.specs.Members.{IsMember}
+use Rattle.om_laws.specs.Sorting.{IsIncreasing}
 use Rattle.om_laws.specs.Vectors.{SignVector}
 use Rattle.om_laws.specs.Circuits.{IsCircuit, IsCocircuit}
 
@@ -16,6 +17,10 @@ IsBase chi t = IsNonzero (chi t)
 -- for an element e of a base, and a base c without it, some element of c takes the place of e
 abbrev pub HasExchange : (List ℕ → Sign) → Type 0
 HasExchange chi = (u : List ℕ) (e : ℕ) (v c : List ℕ) → IsBase chi (u ++ e ∷ v) → IsBase chi c → (IsMember e c → ⊥) → (h : ℕ) × IsMember h c × (IsMember h (u ++ e ∷ v) → ⊥) × IsBase chi (u ++ h ∷ v)
+
+-- the same, of increasing lists: where a and e make a base, some element of each base c makes one with a
+abbrev pub HasIncreasingExchange : (List ℕ → Sign) → Type 0
+HasIncreasingExchange chi = (a c : List ℕ) (e : ℕ) → IsIncreasing a → IsIncreasing c → IsBase chi (a ++ e ∷ []) → IsBase chi c → (h : ℕ) × IsMember h c × IsBase chi (a ++ h ∷ [])
 
 -- some element h of c takes the place of e, and e takes the place of h in c
 abbrev pub SymmetricExchange : (List ℕ → Sign) → List ℕ → ℕ → List ℕ → List ℕ → Type 0

@@ -5,6 +5,8 @@ use Rattle.std.specs.Prelude.{ℕ, List, [], ◌∷◌, ◌++◌}
 use Rattle.om_signs.specs.declared.sign.Sign.{Sign}
 use Rattle.om_signs.specs.declared.sign.Sign.TheVariants.{Minus, Zero, Plus}
 use Rattle.om_signs.specs.Sign.{opposite, product}
+use Rattle.om_laws.specs.Members.{IsMember}
+use Rattle.om_laws.specs.Sorting.{IsIncreasing}
 
 -- three signs that are all zero, or that include a plus and a minus
 abbrev pub AreBalanced : Sign → Sign → Sign → Type 0
@@ -20,3 +22,7 @@ AreBalanced a b c = ⊥
 -- for each tuple p and elements a, b, c, d: the products of the values at p with ab and cd, with ac and bd, negated, and with ad and bc
 abbrev pub HasThreeTermRelations : (List ℕ → Sign) → Type 0
 HasThreeTermRelations chi = (p : List ℕ) (a b c d : ℕ) → AreBalanced (product (chi (p ++ a ∷ b ∷ [])) (chi (p ++ c ∷ d ∷ []))) (opposite (product (chi (p ++ a ∷ c ∷ [])) (chi (p ++ b ∷ d ∷ [])))) (product (chi (p ++ a ∷ d ∷ [])) (chi (p ++ b ∷ c ∷ [])))
+
+-- the same, of an increasing tuple p and four increasing elements off it
+abbrev pub HasIncreasingThreeTermRelations : (List ℕ → Sign) → Type 0
+HasIncreasingThreeTermRelations chi = (p : List ℕ) (a b c d : ℕ) → IsIncreasing p → IsIncreasing (a ∷ b ∷ c ∷ d ∷ []) → (IsMember a p → ⊥) → (IsMember b p → ⊥) → (IsMember c p → ⊥) → (IsMember d p → ⊥) → AreBalanced (product (chi (p ++ a ∷ b ∷ [])) (chi (p ++ c ∷ d ∷ []))) (opposite (product (chi (p ++ a ∷ c ∷ [])) (chi (p ++ b ∷ d ∷ [])))) (product (chi (p ++ a ∷ d ∷ [])) (chi (p ++ b ∷ c ∷ [])))

@@ -1,6 +1,6 @@
 //! Bases of a chirotope: the tuples with a nonzero value.
 
-ghost use Rattle.std.specs.Prelude.{List, ℕ, [], ◌∷◌, ◌++◌};
+ghost use Rattle.std.specs.Prelude.{◌≡◌, List, ℕ, [], ◌∷◌, ◌++◌, length};
 ghost use Rattle.om_signs.specs.declared.sign.Sign.{Sign};
 ghost use Rattle.om_laws.specs.Members.{IsMember};
 ghost use Rattle.om_laws.specs.Relations.{around, along};
@@ -22,4 +22,9 @@ pub fn fundamental_circuit()
 /// The fundamental cocircuit of a base and one of its elements is the vector along the others.
 pub fn fundamental_cocircuit()
     ensures { (E : List ℕ) (chi : List ℕ → Sign) → IsChirotope E chi → (u : List ℕ) (e : ℕ) (v : List ℕ) → IsBase chi (u ++ e ∷ v) → IsFundamentalCocircuit chi u e v (along chi (u ++ v)) }
+{}
+
+/// All bases have as many elements.
+pub fn bases_have_one_size()
+    ensures { (E : List ℕ) (chi : List ℕ → Sign) → IsChirotope E chi → (s t : List ℕ) → IsBase chi s → IsBase chi t → length s ≡ length t }
 {}

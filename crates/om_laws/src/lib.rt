@@ -20,7 +20,7 @@ mod relations;
 mod tuples;
 mod vectors;
 
-pub use bases::{exchange, fundamental_circuit, fundamental_cocircuit};
+pub use bases::{bases_have_one_size, exchange, fundamental_circuit, fundamental_cocircuit};
 pub use circuits::{orthogonality, painting, strong_elimination};
 pub use covectors::{
     axioms, compositions, conformal_decomposition, conforming_parts, minimal_support,
@@ -31,7 +31,7 @@ pub use denotation::{
 };
 pub use dual::{double_dual, dual_on_increasing_lists, duality};
 pub use elements::{loops_and_coloops, parallel_elements};
-pub use families::members_of_minimal_support;
+pub use families::{chirotope_of_circuits, chirotope_of_covectors, members_of_minimal_support};
 pub use lists::{
     composition_of_lists, conformity_of_lists, lists_and_functions, negation_of_lists,
     orthogonality_of_lists, relation_as_orthogonality,
@@ -39,8 +39,9 @@ pub use lists::{
 pub use minors::{contraction_of_an_element, deletion_of_an_element, minors_at_a_coloop_or_loop};
 pub use operations::{negation, reorientation};
 pub use relations::{
-    around_a_list, balance_is_orthogonality, chirotope_of_increasing_lists,
-    relations_of_increasing_lists, three_term_relations,
+    around_a_list, balance_is_orthogonality, chirotope_of_increasing_lists, exchange_in_order,
+    relations_of_increasing_lists, three_term_relations, three_term_relations_in_order,
+    three_terms_of_all_lists,
 };
 pub use tuples::{
     only_alternating_map, value_alternates, value_at_a_repeat, value_when_increasing,

@@ -6,8 +6,8 @@ ghost use Rattle.om_laws.specs.Signs.{IsNonzero, negated_times};
 ghost use Rattle.om_laws.specs.Members.{IsMember, IsDistinct};
 ghost use Rattle.om_laws.specs.Vectors.{SignVector, Orthogonal};
 ghost use Rattle.om_laws.specs.Tuples.{IsAlternating, value};
-ghost use Rattle.om_laws.specs.Bases.{HasExchange};
-ghost use Rattle.om_laws.specs.ThreeTerm.{HasThreeTermRelations};
+ghost use Rattle.om_laws.specs.Bases.{HasExchange, HasIncreasingExchange};
+ghost use Rattle.om_laws.specs.ThreeTerm.{HasThreeTermRelations, HasIncreasingThreeTermRelations};
 ghost use Rattle.om_laws.specs.Sorting.{IsIncreasing, IsTuple, on_tuples};
 ghost use Rattle.om_laws.specs.Relations.{around, IsBalanced, HasIncreasingRelations, HasRelations};
 ghost use Rattle.om_laws.specs.Chirotope.{IsChirotope, elements_to};
@@ -38,4 +38,20 @@ pub fn chirotope_of_increasing_lists()
 /// Exchange of bases and the three-term relations give the relations of all lists, in every rank.
 pub fn three_term_relations()
     ensures { (chi : List ℕ → Sign) → IsAlternating chi → HasExchange chi → HasThreeTermRelations chi → HasRelations chi }
+{}
+
+/// The three-term relations of increasing tuples and increasing elements are those of tuples and elements in any order.
+pub fn three_term_relations_in_order()
+    ensures { (chi : List ℕ → Sign) → IsAlternating chi → HasIncreasingThreeTermRelations chi → HasThreeTermRelations chi }
+{}
+
+/// The relations of all lists include the three-term relations.
+pub fn three_terms_of_all_lists()
+    ensures { (chi : List ℕ → Sign) → IsAlternating chi → HasRelations chi → HasThreeTermRelations chi }
+{}
+
+/// Exchange of bases is that of increasing lists: where an increasing list and an element make a base, some element of
+/// each increasing base makes one with the list.
+pub fn exchange_in_order()
+    ensures { (chi : List ℕ → Sign) → IsAlternating chi → HasIncreasingExchange chi ↔ HasExchange chi }
 {}

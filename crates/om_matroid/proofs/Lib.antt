@@ -1,7 +1,7 @@
 mod MaskLaws
-mod ListLaws
+pub mod ListLaws
 pub mod WalkLaws
 mod RankLaws
 mod ElementLaws
 mod ParallelLaws
-mod ExchangeLaws
+pub mod ExchangeLaws

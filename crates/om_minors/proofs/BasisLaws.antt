@@ -24,7 +24,7 @@ use Rattle.om_chirotope.specs.Chirotope.{IsChirotope}
 use Rattle.om_chirotope.proofs.Theory.{theory_chirotope}
 use Rattle.om_matroid.specs.Bases.{IsBasis, IsColoop, IsLoop}
 use Rattle.om_matroid.proofs.WalkLaws.{HasNoneBefore, none_at_all}
-use Rattle.om_oriented.proofs.ChirotopeBridge.{tuples_of, to_tuple, from_tuple}
+use Rattle.om_denotation.proofs.ChirotopeBridge.{tuples_of, to_tuple, from_tuple}
 
 -- some basis has e, where `inside` is true, and else some basis avoids e
 abbrev pub HasBasis : SignMap → ℕ → Bool → Type 0

@@ -17,13 +17,13 @@ use Rattle.om_chirotope.specs.Map.{SignMap, negated, IsLedBy}
 use Rattle.om_chirotope.specs.Chirotope.{IsChirotope, IsAllZero}
 use Rattle.om_chirotope.proofs.Negation.{leader, led_negated}
 use Rattle.om_chirotope.proofs.Axioms.{not_all_zero}
-use Rattle.om_oriented.specs.Covectors.{IsCovectorOfChirotope}
-use Rattle.om_oriented.specs.Operations.{IsDual, IsDeletion, IsContraction, IsWithout}
-use Rattle.om_dual.specs.Maps.{IsNormalFormOf}
-use Rattle.om_dual.specs.Dual.{dual_of}
-use Rattle.om_dual.proofs.DualMaps.{dual_axioms, is_dual, dual_normal}
-use Rattle.om_dual.proofs.NormalForms.{normal_covectors, normal_elements}
-use Rattle.om_dual.proofs.Uniqueness.{normal_axioms}
+use Rattle.om_denotation.specs.Covectors.{IsCovectorOfChirotope}
+use Rattle.om_denotation.specs.Operations.{IsDual, IsDeletion, IsContraction, IsWithout}
+use Rattle.om_denotation.specs.Maps.{IsNormalFormOf}
+use Rattle.om_denotation.specs.Dual.{dual_of}
+use Rattle.om_denotation.proofs.DualMaps.{dual_axioms, is_dual, dual_normal}
+use Rattle.om_denotation.proofs.NormalForms.{normal_covectors, normal_elements}
+use Rattle.om_denotation.proofs.Uniqueness.{normal_axioms}
 use Rattle.om_minors.specs.Minors.{deleted, contracted}
 use Rattle.om_minors.proofs.BasisLaws.{basis_with, decide_basis}
 use Rattle.om_minors.proofs.MinorLists.{deletion_at, coloop_deletion}

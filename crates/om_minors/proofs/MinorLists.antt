@@ -21,11 +21,11 @@ use Rattle.om_laws.proofs.MinorLaws.{deletion_both, contraction_both, coloop_bot
 use Rattle.om_chirotope.specs.Map.{SignMap, chi_of}
 use Rattle.om_chirotope.specs.Chirotope.{IsChirotope}
 use Rattle.om_chirotope.proofs.Places.{place-vector}
-use Rattle.om_oriented.specs.Covectors.{IsCovectorOfChirotope}
-use Rattle.om_oriented.specs.Operations.{IsDeletion, IsContraction}
-use Rattle.om_oriented.proofs.ChirotopeBridge.{tuples_of, same_lists, covector_function, covector_list}
-use Rattle.om_dual.specs.Maps.{IsNormalFormOf}
-use Rattle.om_dual.proofs.NormalForms.{which_covectors}
+use Rattle.om_denotation.specs.Covectors.{IsCovectorOfChirotope}
+use Rattle.om_denotation.specs.Operations.{IsDeletion, IsContraction}
+use Rattle.om_denotation.proofs.ChirotopeBridge.{tuples_of, same_lists, covector_function, covector_list}
+use Rattle.om_denotation.specs.Maps.{IsNormalFormOf}
+use Rattle.om_denotation.proofs.NormalForms.{which_covectors}
 use Rattle.om_minors.specs.Minors.{deleted, contracted}
 use Rattle.om_minors.proofs.BasisLaws.{HasBasis, rank_low, basis_with, coloop_tuple, loop_tuple}
 use Rattle.om_minors.proofs.MinorMaps.{one_more, element, larger_chirotope, larger_avoided, larger_in_base, deleted_tuples, contracted_tuples}

@@ -21,8 +21,8 @@ use Rattle.om_laws.proofs.TupleSizes.{is_tuple_cases, on_tuples_at, on_tuples_of
 use Rattle.om_chirotope.specs.Map.{SignMap, chi_of, value_of}
 use Rattle.om_chirotope.specs.Chirotope.{IsChirotope}
 use Rattle.om_chirotope.proofs.Theory.{theory_chirotope}
-use Rattle.om_oriented.proofs.ChirotopeBridge.{tuples_of}
-use Rattle.om_dual.proofs.Rules.{tuples_by, whole_by, chirotope_by}
+use Rattle.om_denotation.proofs.ChirotopeBridge.{tuples_of}
+use Rattle.om_denotation.proofs.Rules.{tuples_by, whole_by, chirotope_by}
 use Rattle.om_minors.specs.Minors.{deleted, contracted}
 use Rattle.om_minors.proofs.BasisLaws.{HasBasis, avoided, in_base, rank_low}
 use Rattle.om_minors.proofs.Skips.{skip_below, skip_above}

@@ -31,14 +31,14 @@ use Rattle.om_chirotope.specs.Map.{SignMap, chi_of, negated, parity_sign}
 use Rattle.om_chirotope.specs.Chirotope.{IsChirotope}
 use Rattle.om_chirotope.proofs.Circuits.{parity_sign-suc}
 use Rattle.om_chirotope.proofs.Theory.{theory_chirotope}
-use Rattle.om_oriented.specs.Covectors.{IsCovectorOfChirotope}
-use Rattle.om_oriented.specs.Operations.{IsReorientation}
-use Rattle.om_oriented.proofs.ChirotopeBridge.{tuples_of}
-use Rattle.om_dual.specs.Maps.{IsNormalFormOf}
-use Rattle.om_dual.proofs.ListingSigns.{even_parity, odd_parity}
-use Rattle.om_dual.proofs.NormalForms.{tuples_negated, covector_both, which_covectors, normal_elements}
-use Rattle.om_dual.proofs.Uniqueness.{same_up_to_sign, normal_up_to_sign, normal_axioms, flipped}
-use Rattle.om_dual.proofs.Rules.{tuples_by, whole_by, chirotope_by}
+use Rattle.om_denotation.specs.Covectors.{IsCovectorOfChirotope}
+use Rattle.om_denotation.specs.Operations.{IsReorientation}
+use Rattle.om_denotation.proofs.ChirotopeBridge.{tuples_of}
+use Rattle.om_denotation.specs.Maps.{IsNormalFormOf}
+use Rattle.om_denotation.proofs.ListingSigns.{even_parity, odd_parity}
+use Rattle.om_denotation.proofs.NormalForms.{tuples_negated, covector_both, which_covectors, normal_elements}
+use Rattle.om_denotation.proofs.Uniqueness.{same_up_to_sign, normal_up_to_sign, normal_axioms, flipped}
+use Rattle.om_denotation.proofs.Rules.{tuples_by, whole_by, chirotope_by}
 use Rattle.om_minors.specs.Minors.{names, reoriented_on}
 
 -- ---- the sign of the elements that a mask names

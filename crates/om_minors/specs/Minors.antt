@@ -6,7 +6,7 @@ use Rattle.std.specs.Int.{bit_at}
 use Rattle.om_laws.specs.Minors.{deletion, contraction}
 use Rattle.om_laws.specs.Reorientation.{reoriented}
 use Rattle.om_chirotope.specs.Map.{SignMap, chi_of, value_of}
-use Rattle.om_dual.specs.Maps.{map_by}
+use Rattle.om_denotation.specs.Maps.{map_by}
 
 -- the signs of the lists without e, with the elements after e moved down by one
 abbrev pub deleted : ℕ → SignMap → SignMap

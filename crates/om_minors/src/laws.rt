@@ -3,9 +3,9 @@
 ghost use Rattle.std.specs.Prelude.{ℕ, ◌≡◌, ◌≤◌, ◌<◌, ◌-◌, ◌^◌};
 ghost use Rattle.om_chirotope.specs.Map.{SignMap};
 ghost use Rattle.om_chirotope.specs.Chirotope.{IsChirotope};
-ghost use Rattle.om_oriented.specs.Covectors.{IsCovectorOfChirotope};
-ghost use Rattle.om_oriented.specs.Operations.{IsDual, IsDeletion, IsContraction};
-ghost use Rattle.om_dual.specs.Maps.{IsNormalFormOf};
+ghost use Rattle.om_denotation.specs.Covectors.{IsCovectorOfChirotope};
+ghost use Rattle.om_denotation.specs.Operations.{IsDual, IsDeletion, IsContraction};
+ghost use Rattle.om_denotation.specs.Maps.{IsNormalFormOf};
 ghost use Rattle.om_minors.specs.Minors.{reoriented_on};
 
 /// Deletion in the dual is the dual of contraction: where D is the dual of M, K the contraction of M at e, and L the dual

@@ -5,9 +5,9 @@ ghost use Rattle.om_signs.specs.declared.sign.Sign.TheVariants.{Plus};
 ghost use Rattle.om_subsets.specs.Subsets.{choose};
 ghost use Rattle.om_laws.specs.Reorientation.{turning, signs_product};
 ghost use Rattle.om_chirotope.specs.Map.{map_of, IsLedBy};
-ghost use Rattle.om_oriented.specs.Covectors.{IsCovectorOfChirotope};
-ghost use Rattle.om_oriented.specs.Operations.{IsReorientation};
-ghost use Rattle.om_dual.specs.Maps.{IsNormalFormOf};
+ghost use Rattle.om_denotation.specs.Covectors.{IsCovectorOfChirotope};
+ghost use Rattle.om_denotation.specs.Operations.{IsReorientation};
+ghost use Rattle.om_denotation.specs.Maps.{IsNormalFormOf};
 ghost use Rattle.om_minors.specs.Minors.{names, reoriented_on};
 
 use om_chirotope::Chirotope;

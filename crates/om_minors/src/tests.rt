@@ -4,7 +4,7 @@ ghost use Rattle.std.specs.Prelude.{◌≡◌, ◌≤◌, IfOk};
 
 use super::{MinorError, contract_chirotope, delete_chirotope, reorient_chirotope};
 use om_chirotope::{Chirotope, check};
-use om_dual::dual;
+use om_denotation::dual;
 use om_signs::{List, MAX_ELEMENTS, NoMemory, RawMap, Sign};
 use om_subsets::Subset;
 use std::alloc::Global;

@@ -20,8 +20,8 @@ use Rattle.om_signs.specs.OrderLaws.{lexicographic-total, same_from_order, same_
 use Rattle.om_laws.proofs.SignLaws.{zero_or_nonzero, first_nonzero_left}
 use Rattle.om_members.specs.Scans.{nth}
 use Rattle.om_members.proofs.ScanLaws.{nth_contained}
-use Rattle.om_oriented.specs.Covectors.{HasConformingMember}
-use Rattle.om_oriented.specs.CovectorLaws.{at_zero}
+use Rattle.om_denotation.specs.Covectors.{HasConformingMember}
+use Rattle.om_denotation.specs.CovectorLaws.{at_zero}
 
 -- Z is the composition of those of the first k members that conform to X
 pub record IsComposition (members : List (List Sign)) (X : List Sign) (k : ℕ) (Z : List Sign) : Type 0 where

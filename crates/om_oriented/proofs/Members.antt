@@ -7,7 +7,7 @@ use Rattle.std.proofs.lemmas.List.Elements.{All-contains_itself}
 use Rattle.om_signs.specs.declared.sign.Sign.{Sign}
 use Rattle.om_signs.specs.SignVec.{IsOrthogonal}
 use Rattle.om_members.specs.Listings.{Listing}
-use Rattle.om_oriented.specs.Covectors.{IsCovectorOfCircuits}
+use Rattle.om_denotation.specs.Covectors.{IsCovectorOfCircuits}
 
 pub covector_of_circuits : (c : Listing) (members : List (List Sign)) (X : List Sign) (r : Bool) → members ≡ c.members → length X ≡ c.elements → (IsTrue r ↔ All (IsOrthogonal X) members) → IsTrue r ↔ IsCovectorOfCircuits c X
 covector_of_circuits c members X r e l f = (

@@ -14,7 +14,7 @@ use Rattle.om_subsets.proofs.Table.{choose_above}
 use Rattle.om_laws.specs.Relations.{around}
 use Rattle.om_chirotope.specs.Map.{SignMap, value_of, circuit_vector}
 use Rattle.om_chirotope.proofs.Places.{length-vector}
-use Rattle.om_oriented.specs.Covectors.{IsCovectorOfChirotope}
+use Rattle.om_denotation.specs.Covectors.{IsCovectorOfChirotope}
 
 -- S is a set of one element more than the rank, and X is orthogonal to the vector V of each such set before S
 pub record IsOrthogonalBefore (m : SignMap) (X : List Sign) (s : Chosen) : Type 0 where

@@ -14,7 +14,7 @@ use Rattle.om_signs.specs.declared.sign.Sign.TheVariants.{Minus, Zero, Plus}
 use Rattle.om_signs.specs.SignVec.{at}
 use Rattle.om_signs.specs.Order.{sign_rank}
 use Rattle.om_oriented.specs.Places.{base_three}
-use Rattle.om_oriented.specs.Denotation.{DenoteTheSame, IsOfOneAlone, HaveDifference, IsFirstDifference}
+use Rattle.om_denotation.specs.Denotation.{DenoteTheSame, IsOfOneAlone, HaveDifference, IsFirstDifference}
 use Rattle.om_oriented.proofs.PlaceLaws.{base_three-lt, base_three-set, base_three-least, same_place, before_lt}
 
 -- the last k signs, plus before, are now minus, and the others are as before

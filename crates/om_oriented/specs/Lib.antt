@@ -1,10 +1,1 @@
-pub mod Covectors
-pub mod CovectorLaws
-pub mod Denotation
 pub mod Places
-pub mod Circuits
-pub mod Listings
-pub mod Operations
-pub mod FamilyAxioms
-pub mod Painting
-pub mod Compositions

@@ -2,8 +2,9 @@
 
 ghost use Rattle.std.specs.Prelude.{◌≡◌, ◌↔◌, IsTrue, length};
 ghost use Rattle.om_chirotope.specs.Chirotope.{IsSound};
-ghost use Rattle.om_oriented.specs.Covectors.{IsCovectorOfChirotope};
-ghost use Rattle.om_oriented.specs.CovectorLaws.{zero_of_chirotope, negative_of_chirotope};
+ghost use Rattle.om_denotation.specs.Covectors.{IsCovectorOfChirotope};
+ghost use Rattle.om_denotation.specs.CovectorLaws.{zero_of_chirotope, negative_of_chirotope};
+ghost use Rattle.om_denotation.proofs.KindLaws.{composition_of_chirotope, elimination_of_chirotope};
 
 use super::oriented::Oriented;
 use om_chirotope::Chirotope;
@@ -43,6 +44,10 @@ impl Oriented for Chirotope {
     ghost zero = { zero_of_chirotope };
 
     ghost negative = { negative_of_chirotope };
+
+    ghost composition = { composition_of_chirotope };
+
+    ghost elimination = { elimination_of_chirotope };
 
     fn elements(&self) -> u8 {
         // this call tells that the axioms hold

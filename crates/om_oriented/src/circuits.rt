@@ -4,8 +4,9 @@ ghost use Rattle.std.specs.Prelude.{◌≡◌, ◌↔◌, All, IsTrue, length};
 ghost use Rattle.om_signs.specs.SignVec.{IsOrthogonal};
 ghost use Rattle.om_members.specs.Listings.{HaveLength};
 ghost use Rattle.om_circuits.specs.SignedSets.{IsSignedSet};
-ghost use Rattle.om_oriented.specs.Covectors.{IsCovectorOfCircuits};
-ghost use Rattle.om_oriented.specs.CovectorLaws.{zero_of_circuits, negative_of_circuits};
+ghost use Rattle.om_denotation.specs.Covectors.{IsCovectorOfCircuits};
+ghost use Rattle.om_denotation.specs.CovectorLaws.{zero_of_circuits, negative_of_circuits};
+ghost use Rattle.om_denotation.proofs.KindLaws.{composition_of_circuits, elimination_of_circuits};
 
 use super::oriented::Oriented;
 use om_circuits::Circuits;
@@ -30,6 +31,10 @@ impl Oriented for Circuits {
     ghost zero = { λ c. zero_of_circuits c.0 };
 
     ghost negative = { λ c. negative_of_circuits c.0 };
+
+    ghost composition = { λ c. composition_of_circuits c.0 };
+
+    ghost elimination = { λ c. elimination_of_circuits c.0 };
 
     fn elements(&self) -> u8 {
         self.0.elements()

@@ -4,8 +4,9 @@ ghost use Rattle.std.specs.Prelude.{ℕ, ◌≡◌, ◌↔◌, List, IsTrue, len
 ghost use Rattle.om_signs.specs.SignVec.{IsNonzero};
 ghost use Rattle.om_members.specs.Listings.{HaveLength};
 ghost use Rattle.om_circuits.specs.SignedSets.{IsSignedSet};
-ghost use Rattle.om_oriented.specs.Covectors.{IsCovectorOfCocircuits, HasConformingMember};
-ghost use Rattle.om_oriented.specs.CovectorLaws.{zero_of_cocircuits, negative_of_cocircuits};
+ghost use Rattle.om_denotation.specs.Covectors.{IsCovectorOfCocircuits, HasConformingMember};
+ghost use Rattle.om_denotation.specs.CovectorLaws.{zero_of_cocircuits, negative_of_cocircuits};
+ghost use Rattle.om_denotation.proofs.KindLaws.{composition_of_cocircuits, elimination_of_cocircuits};
 
 use super::oriented::Oriented;
 use om_circuits::Cocircuits;
@@ -38,6 +39,10 @@ impl Oriented for Cocircuits {
     ghost zero = { λ c. zero_of_cocircuits c.0 };
 
     ghost negative = { λ c. negative_of_cocircuits c.0 };
+
+    ghost composition = { λ c. composition_of_cocircuits c.0 };
+
+    ghost elimination = { λ c. elimination_of_cocircuits c.0 };
 
     fn elements(&self) -> u8 {
         self.0.elements()

@@ -1,5 +1,5 @@
 ghost use Rattle.std.specs.Prelude.{◌≡◌, ◌↔◌, IsOk, IsErr, IfErr};
-ghost use Rattle.om_oriented.specs.Denotation.{DenoteTheSame, HaveDifference, IsFirstDifference};
+ghost use Rattle.om_denotation.specs.Denotation.{DenoteTheSame, HaveDifference, IsFirstDifference};
 
 use super::differ::Differ;
 use super::oriented::Oriented;

@@ -1,8 +1,9 @@
 //! The covectors of a set of covectors.
 
 ghost use Rattle.om_covectors.specs.CovectorSets.{IsCovectorSet};
-ghost use Rattle.om_oriented.specs.Covectors.{IsCovectorOfCovectors};
-ghost use Rattle.om_oriented.specs.CovectorLaws.{zero_of_covectors, negative_of_covectors};
+ghost use Rattle.om_denotation.specs.Covectors.{IsCovectorOfCovectors};
+ghost use Rattle.om_denotation.specs.CovectorLaws.{zero_of_covectors, negative_of_covectors};
+ghost use Rattle.om_denotation.proofs.KindLaws.{composition_of_covectors, elimination_of_covectors};
 
 use super::oriented::Oriented;
 use om_covectors::Covectors;
@@ -19,6 +20,10 @@ impl Oriented for Covectors {
     ghost zero = { zero_of_covectors };
 
     ghost negative = { negative_of_covectors };
+
+    ghost composition = { composition_of_covectors };
+
+    ghost elimination = { elimination_of_covectors };
 
     fn elements(&self) -> u8 {
         Covectors::elements(self)

@@ -2,16 +2,22 @@
 //! contract is the law.
 
 ghost use Rattle.std.specs.Prelude.{ℕ, ◌≡◌, ◌≤◌, ◌↔◌, ◌⊎◌, List, length};
+ghost use Rattle.std.specs.List.{Contains};
 ghost use Rattle.om_signs.specs.declared.sign.Sign.{Sign};
 ghost use Rattle.om_signs.specs.SignVec.{IsOrthogonal};
 ghost use Rattle.om_laws.specs.Colours.{Colour, IsColoured};
-ghost use Rattle.om_chirotope.specs.Map.{SignMap};
+ghost use Rattle.om_chirotope.specs.Map.{SignMap, negated};
 ghost use Rattle.om_chirotope.specs.Chirotope.{IsChirotope};
-ghost use Rattle.om_oriented.specs.Circuits.{IsCircuitOfChirotope, IsCocircuitOfChirotope};
-ghost use Rattle.om_oriented.specs.Covectors.{IsCovectorOfChirotope};
-ghost use Rattle.om_oriented.specs.FamilyAxioms.{HasCircuitAxioms, HasCovectorAxioms};
-ghost use Rattle.om_oriented.specs.Painting.{IsFittingCircuit, IsFittingCocircuit};
-ghost use Rattle.om_oriented.specs.Compositions.{IsCompositionOf, IsConforming, HasConformingParts, IsOrthogonalToEach, IsOfLeastSupport};
+ghost use Rattle.om_members.specs.Listings.{Listing, HaveLength};
+ghost use Rattle.om_circuits.specs.Axioms.{MeetsCircuitAxioms};
+ghost use Rattle.om_covectors.specs.Axioms.{MeetsCovectorAxioms};
+ghost use Rattle.om_denotation.specs.Circuits.{IsCircuitOfChirotope, IsCocircuitOfChirotope};
+ghost use Rattle.om_denotation.specs.Covectors.{IsCovectorOfChirotope, IsCovectorOfCircuits, IsCovectorOfCocircuits, IsCovectorOfCovectors};
+ghost use Rattle.om_denotation.specs.Denotation.{DenoteTheSame};
+ghost use Rattle.om_denotation.specs.Existence.{HasCircuits, HasCocircuits, HasCovectors};
+ghost use Rattle.om_denotation.specs.FamilyAxioms.{HasCircuitAxioms, HasCovectorAxioms};
+ghost use Rattle.om_denotation.specs.Painting.{IsFittingCircuit, IsFittingCocircuit};
+ghost use Rattle.om_denotation.specs.Compositions.{IsCompositionOf, IsConforming, HasConformingParts, IsOrthogonalToEach, IsOfLeastSupport};
 
 /// Each circuit is orthogonal to each cocircuit.
 ///
@@ -75,4 +81,30 @@ pub fn denotations()
 /// Source: Björner, Las Vergnas, Sturmfels, White and Ziegler, *Oriented Matroids*, chapters 3 and 4.
 pub fn minimal_support()
     ensures { (m : SignMap) → IsChirotope m → (X : List Sign) → IsCocircuitOfChirotope m X ↔ IsOfLeastSupport (IsCovectorOfChirotope m) X }
+{}
+
+/// Each list that meets the axioms of circuits is that of the circuits of a chirotope, and that of the cocircuits of another one;
+/// and each list that meets the axioms of covectors is that of the covectors of a chirotope. The chirotope denotes the same as the
+/// list.
+///
+/// Source: Björner, Las Vergnas, Sturmfels, White and Ziegler, *Oriented Matroids*, chapter 3.
+pub fn chirotopes_of_lists()
+    ensures circuits { (c : Listing) → HaveLength c.elements c.members → MeetsCircuitAxioms c.members → (m : SignMap) × HasCircuits c m }
+    ensures cocircuits { (c : Listing) → HaveLength c.elements c.members → MeetsCircuitAxioms c.members → (m : SignMap) × HasCocircuits c m }
+    ensures covectors { (c : Listing) → HaveLength c.elements c.members → MeetsCovectorAxioms c.members → (m : SignMap) × HasCovectors c m }
+{}
+
+/// What denotes an oriented matroid is unique among its kind: two chirotopes that denote the same are equal or negatives of each
+/// other, and two lists of circuits, of cocircuits or of covectors that denote the same have the same members.
+///
+/// Source: Björner, Las Vergnas, Sturmfels, White and Ziegler, *Oriented Matroids*, chapter 3.
+pub fn uniqueness()
+    ensures chirotopes { (m k : SignMap) → IsChirotope m → IsChirotope k → k.elements ≡ m.elements
+        → DenoteTheSame m.elements (IsCovectorOfChirotope m) (IsCovectorOfChirotope k) → (k ≡ m) ⊎ (k ≡ negated m) }
+    ensures circuits { (c d : Listing) → HaveLength c.elements c.members → HaveLength d.elements d.members → MeetsCircuitAxioms c.members → MeetsCircuitAxioms d.members
+        → d.elements ≡ c.elements → DenoteTheSame c.elements (IsCovectorOfCircuits c) (IsCovectorOfCircuits d) → (X : List Sign) → Contains c.members X ↔ Contains d.members X }
+    ensures cocircuits { (c d : Listing) → HaveLength c.elements c.members → HaveLength d.elements d.members → MeetsCircuitAxioms c.members → MeetsCircuitAxioms d.members
+        → d.elements ≡ c.elements → DenoteTheSame c.elements (IsCovectorOfCocircuits c) (IsCovectorOfCocircuits d) → (X : List Sign) → Contains c.members X ↔ Contains d.members X }
+    ensures covectors { (c d : Listing) → HaveLength c.elements c.members → HaveLength d.elements d.members
+        → d.elements ≡ c.elements → DenoteTheSame c.elements (IsCovectorOfCovectors c) (IsCovectorOfCovectors d) → (X : List Sign) → Contains c.members X ↔ Contains d.members X }
 {}

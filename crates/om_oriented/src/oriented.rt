@@ -2,6 +2,9 @@ ghost use Rattle.std.specs.Prelude.{ℕ, ◌≡◌, ◌≤◌, ◌↔◌, List, 
 ghost use Rattle.om_signs.specs.declared.sign.Sign.{Sign};
 ghost use Rattle.om_signs.specs.declared.sign.Sign.TheVariants.{Zero};
 ghost use Rattle.om_signs.specs.Sign.{opposite};
+ghost use Rattle.om_signs.specs.SignVec.{compose};
+ghost use Rattle.om_covectors.specs.Vectors.{IsSeparatedAt};
+ghost use Rattle.om_denotation.specs.Elimination.{HasEliminator};
 
 use om_signs::{MAX_ELEMENTS, SignVec};
 
@@ -36,6 +39,12 @@ pub trait Oriented {
     /// The negative of a covector is a covector.
     ghost negative: { (M : Self) (X : List Sign) → valid M → length X ≡ elements M → is_covector M X → is_covector M (map opposite X) };
 
-    // Two more laws of covectors belong here, below the last fn: the composition of two covectors is a covector, and of
-    // two covectors each element of the separation is eliminated by a covector. Both have `valid` as their premise.
+    /// The composition of two covectors is a covector.
+    ghost composition: { (M : Self) (X Y : List Sign) → valid M → length X ≡ elements M → length Y ≡ elements M
+        → is_covector M X → is_covector M Y → is_covector M (compose X Y) };
+
+    /// Of two covectors each element of the separation is eliminated by a covector: it is zero there, and outside the
+    /// separation it is their composition.
+    ghost elimination: { (M : Self) (X Y : List Sign) (e : ℕ) → valid M → length X ≡ elements M → length Y ≡ elements M
+        → is_covector M X → is_covector M Y → 1 ≤ e → IsSeparatedAt X Y e → HasEliminator (elements M) (is_covector M) X Y e };
 }

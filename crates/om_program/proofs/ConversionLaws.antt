@@ -13,10 +13,10 @@ use Rattle.om_signs.specs.declared.raw_map.RawMap.{RawMap}
 use Rattle.om_chirotope.specs.Map.{SignMap, map_of}
 use Rattle.om_members.specs.Listings.{Listing}
 use Rattle.om_circuits.specs.Axioms.{MeetsCircuitAxioms}
-use Rattle.om_oriented.specs.Circuits.{IsCircuitOfChirotope, IsCocircuitOfChirotope}
-use Rattle.om_oriented.specs.Covectors.{IsCovectorOfChirotope, IsCovectorOfCircuits, IsCovectorOfCocircuits, IsCovectorOfCovectors}
-use Rattle.om_oriented.specs.Denotation.{DenoteTheSame}
-use Rattle.om_oriented.specs.Listings.{AreAllOf, HasMoreThan}
+use Rattle.om_denotation.specs.Circuits.{IsCircuitOfChirotope, IsCocircuitOfChirotope}
+use Rattle.om_denotation.specs.Covectors.{IsCovectorOfChirotope, IsCovectorOfCircuits, IsCovectorOfCocircuits, IsCovectorOfCovectors}
+use Rattle.om_denotation.specs.Denotation.{DenoteTheSame}
+use Rattle.om_denotation.specs.Listings.{AreAllOf, HasMoreThan}
 use Rattle.om_text.specs.declared.document.Document.{Document}
 use Rattle.om_text.specs.declared.body.Body.{Body}
 use Rattle.om_text.specs.declared.body.Body.TheVariants as body

@@ -11,7 +11,7 @@ use Rattle.om_chirotope.specs.Map.{SignMap}
 use Rattle.om_members.specs.Listings.{Listing}
 use Rattle.om_circuits.specs.declared.circuits.Circuits.{Circuits}
 use Rattle.om_circuits.specs.declared.cocircuits.Cocircuits.{Cocircuits}
-use Rattle.om_oriented.specs.Covectors.{IsCovectorOfChirotope}
+use Rattle.om_denotation.specs.Covectors.{IsCovectorOfChirotope}
 use Rattle.om_text.specs.declared.document.Document.{Document}
 use Rattle.om_text.specs.declared.body.Body.{Body}
 use Rattle.om_text.specs.declared.body.Body.TheVariants as body

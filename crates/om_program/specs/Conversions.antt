@@ -3,9 +3,9 @@ use Rattle.std.specs.Prelude.{◌≡◌, ◌↔◌, List, Bool, true, false, Res
 use Rattle.om_signs.specs.declared.limits.TheConstants.{MAX_MEMBERS}
 use Rattle.om_signs.specs.declared.sign.Sign.{Sign}
 use Rattle.om_chirotope.specs.Map.{SignMap, map_of}
-use Rattle.om_oriented.specs.Circuits.{IsCircuitOfChirotope, IsCocircuitOfChirotope}
-use Rattle.om_oriented.specs.Covectors.{IsCovectorOfChirotope}
-use Rattle.om_oriented.specs.Listings.{AreAllOf, HasMoreThan}
+use Rattle.om_denotation.specs.Circuits.{IsCircuitOfChirotope, IsCocircuitOfChirotope}
+use Rattle.om_denotation.specs.Covectors.{IsCovectorOfChirotope}
+use Rattle.om_denotation.specs.Listings.{AreAllOf, HasMoreThan}
 use Rattle.om_convert.specs.declared.convert_error.ConvertError.{ConvertError}
 use Rattle.om_convert.specs.declared.convert_error.ConvertError.TheVariants as convert
 use Rattle.om_text.specs.declared.document.Document.{Document}

@@ -6,8 +6,8 @@ use Rattle.om_signs.specs.declared.sign.Sign.{Sign}
 use Rattle.om_signs.specs.declared.sign.Sign.TheVariants.{Plus}
 use Rattle.om_subsets.specs.Members.{members}
 use Rattle.om_chirotope.specs.Map.{SignMap, map_of, IsLedBy}
-use Rattle.om_oriented.specs.Covectors.{IsCovectorOfChirotope}
-use Rattle.om_oriented.specs.Operations.{IsDual, IsDeletion, IsContraction, IsReorientation}
+use Rattle.om_denotation.specs.Covectors.{IsCovectorOfChirotope}
+use Rattle.om_denotation.specs.Operations.{IsDual, IsDeletion, IsContraction, IsReorientation}
 use Rattle.om_text.specs.declared.document.Document.{Document}
 use Rattle.om_text.specs.declared.body.Body.{Body}
 use Rattle.om_text.specs.declared.body.Body.TheVariants as body

@@ -1,6 +1,6 @@
 ghost use Rattle.std.specs.Prelude.{◌≡◌, ◌<◌, ◌≤◌, ◌^◌, ◌∷◌, [], IfOk, true};
 ghost use Rattle.om_subsets.specs.Members.{members};
-ghost use Rattle.om_oriented.specs.Covectors.{IsCovectorOfChirotope};
+ghost use Rattle.om_denotation.specs.Covectors.{IsCovectorOfChirotope};
 ghost use Rattle.om_program.specs.Operations.{IsLawful, IsChirotopeOf, named_elements, first_above, drops_element};
 
 use om_chirotope::Chirotope;

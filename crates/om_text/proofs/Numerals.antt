@@ -1,14 +1,15 @@
 -- Numbers as they are printed are words, and are read again.
 --
 -- Main definitions: IsDecimal, IsNumber, IsSigned
--- Main results: decimal_word, number_word, signed_word
-use Rattle.std.proofs.Common.{◌≡◌, ℕ, zero, suc, ◌<◌, ◌≤◌, ◌^◌, List, [], ◌∷◌, Bool, true, false, ◌||◌, ◌⊎◌, inl, inr, length, get_or, refl, ap, arith, nat_eq}
+-- Main results: decimal_word, number_word, unsigned_word, signed_word
+use Rattle.std.proofs.Common.{◌≡◌, ℕ, zero, suc, ◌<◌, ◌≤◌, ◌^◌, List, [], ◌∷◌, Bool, true, false, ◌||◌, ◌⊎◌, ◌+◌, ◌%◌, ◌++◌, inl, inr, length, get_or, refl, ap, ◌∙◌, arith, nat_eq, length-append}
+use Rattle.std.proofs.Math.ListN.{get_or-append}
 use Rattle.std.specs.Prelude.{ℤ, pos, negsuc, unsigned_abs, decimal, Some, option_map}
 use Rattle.std.specs.Fmt.{signed_decimal}
 use Rattle.std.specs.List.{list_all}
 use Rattle.std.proofs.Common.{eq-eqb, rules}
 use Rattle.std.proofs.lemmas.Bool.{le-leb}
-use Rattle.std.proofs.lemmas.Fmt.{digits_decimal, digits_value-decimal, decimal_nonempty, length-decimal-le, first_decimal, decimal_digit}
+use Rattle.std.proofs.lemmas.Fmt.{decimal_is_IsNumeral_wide, decimal_by_steps_wide, length-decimal-le, decimal_digit}
 use Rattle.std.proofs.lemmas.Str.Parse.{IsNumeralModel, numerals_by_fold}
 use Rattle.om_text.specs.Lines.{has_any}
 use Rattle.om_text.specs.Words.{is_digit, number_from, begins_with, is_decimal, plain, unsigned, negative, signed}
@@ -57,26 +58,32 @@ is_decimal_word w d l (inr n) = rw (d, le-leb 1 (length w) l, n) (or_true (nat_e
     or_true true = refl
     or_true false = refl
 
-no_leading_zero : (k : ℕ) → k < 2 ^ 64 → (length (decimal k) ≡ 1) ⊎ (begins_with 48 (decimal k) ≡ false)
-no_leading_zero zero h = inl (ap length (decimal_digit 0 (omega arith)))
-no_leading_zero (suc k) h = inr (first_is_not (decimal (suc k)) (first_decimal (suc k) (omega arith) h))
+-- the first digit of a number other than 0
+first_digit : (k : ℕ) → 0 < k → k < 10 ^ 64 → 48 < get_or (decimal k) 0 0
+first_digit k some small = (decimal_by_steps_wide (λ m ds. (0 < length ds) × (0 < m → 48 < get_or ds 0 0)) (λ m l. (omega arith, λ a. omega arith))
+    (λ m ds l h. (omega (arith, length-append ds ((48 + m % 10) ∷ [])), λ a. omega (arith, get_or-append ds ((48 + m % 10) ∷ []) 0 0 h.0, h.1 (omega arith)))) k small).1 some
 
-pub decimal_word : (k : ℕ) → k < 2 ^ 64 → IsDecimal k
+no_leading_zero : (k : ℕ) → k < 10 ^ 64 → (length (decimal k) ≡ 1) ⊎ (begins_with 48 (decimal k) ≡ false)
+no_leading_zero zero h = inl (ap length (decimal_digit 0 (omega arith)))
+no_leading_zero (suc k) h = inr (first_is_not (decimal (suc k)) (first_digit (suc k) (omega arith) h))
+
+pub decimal_word : (k : ℕ) → k < 10 ^ 64 → IsDecimal k
 decimal_word k h =
-    let digits = digits_decimal numerals k h in
-    let any = decimal_nonempty k h in
+    let numeral = decimal_is_IsNumeral_wide k h in
+    let digits = numerals.from (decimal k) numeral.0.1 in
+    let any = numeral.0.0 in
     record {
       digits = digits;
       bytes = digits_are_word (decimal k) digits;
       any = any_of (decimal k) any;
       word = is_decimal_word (decimal k) digits any (no_leading_zero k h);
-      number = digits_value-decimal numerals k h;
+      number = numerals.same (decimal k) numeral.0.1 ∙ numeral.1;
     }
 
 pub number_word : (k : ℕ) → k < 10 ^ 6 → IsNumber k
 number_word k h =
     let small : k < 2 ^ 64 = omega arith in
-    let w = decimal_word k small in
+    let w = decimal_word k (omega arith) in
     let few = length-decimal-le 6 k (omega arith) h small in
     record {
       bytes = w.bytes;
@@ -99,10 +106,10 @@ digits_no_minus : (w : List ℕ) → list_all is_digit w ≡ true → begins_wit
 digits_no_minus [] h = refl
 digits_no_minus (b ∷ w) h = digit_no_minus b (both (is_digit b) (list_all is_digit w) h).0
 
-unsigned_word : (limit k : ℕ) → IsDecimal k → k ≤ limit → unsigned limit (decimal k) ≡ Some k
+pub unsigned_word : (limit k : ℕ) → IsDecimal k → k ≤ limit → unsigned limit (decimal k) ≡ Some k
 unsigned_word limit k d h = rw (d.word, d.number, le-leb k limit h) refl
 
-pub signed_word : (limit : ℕ) (z : ℤ) → limit < 2 ^ 63 → unsigned_abs z ≤ limit → IsSigned limit z
+pub signed_word : (limit : ℕ) (z : ℤ) → limit < 10 ^ 64 → unsigned_abs z ≤ limit → IsSigned limit z
 signed_word limit (pos n) l h =
     let d = decimal_word n (omega arith) in
     record {

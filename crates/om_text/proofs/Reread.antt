@@ -1,7 +1,7 @@
 -- The canonical form of a document is a document, and reads as this one with its members sorted.
 --
 -- Main definitions: AreRows, AreCut, IsPointLine, IsReread
--- Main results: printed_document
+-- Main results: printed_one_line, printed_spelled, printed_document
 use Rattle.std.proofs.Common.{◌≡◌, ℕ, zero, suc, ◌+◌, ◌*◌, ◌/◌, ◌<◌, ◌≤◌, ◌^◌, List, [], ◌∷◌, ◌++◌, true, false, ◌&&◌, cond, length, take, drop, map, refl, sym, ap, subst, ◌∙◌, arith, append-nil, nat_eq, nat_le, length-drop, eq-eqb}
 use Rattle.std.specs.Prelude.{ℤ, unsigned_abs, is_some, unwrap_or, codes, decimal, filter, Some, None, All, option_and_then}
 use Rattle.std.specs.List.{list_all, concat}
@@ -173,10 +173,10 @@ record IsReread (d : Document) : Type 0 where
   room : has_room (sorted_document d) ≡ true
   complete : is_complete (sorted_document d) ≡ true
 
-reread_lines : (d : Document) → IsReread d → lines (printed d) ≡ printed_lines d
-reread_lines d p =
+reread_one_line : (d : Document) → IsReread d → list_all is_one_line (printed_lines d) ≡ true
+reread_one_line d p =
     let t : list_all is_one_line (body_lines d.body ++ codes "end" ∷ []) ≡ true = list_all-append is_one_line (body_lines d.body) (codes "end" ∷ []) ∙ rw p.body_one_line refl in
-    lines_text (printed_lines d) (rw p.kind_one_line t)
+    rw p.kind_one_line t
 
 reread_words : (d : Document) → (p : IsReread d) → wordful (printed_lines d) ≡ version_line ∷ p.kind_words ∷ (p.body ++ end_line ∷ [])
 reread_words d p =
@@ -184,22 +184,20 @@ reread_words d p =
     ∙ ap (λ b. version_line ∷ cond b (p.kind_words ∷ wordful (body_lines d.body ++ codes "end" ∷ [])) (wordful (body_lines d.body ++ codes "end" ∷ []))) p.any
     ∙ ap (λ x. version_line ∷ p.kind_words ∷ x) (wordful-append (body_lines d.body) (codes "end" ∷ []) ∙ ap (λ x. x ++ end_line ∷ []) p.body_words)
 
-reread : (d : Document) → IsReread d → IsDocument (lines (printed d)) (sorted_document d)
-reread d p =
-    let s : IsSpelled (wordful (printed_lines d)) (sorted_document d) = record {
-      kind_line = p.kind_words;
-      head = p.head;
-      body = p.body;
-      lines = reread_words d p;
-      heading = p.opens;
-      elements = p.elements;
-      rank = p.rank;
-      each = p.each;
-      room = ap has_room p.value ∙ p.room;
-      complete = ap is_complete p.value ∙ p.complete;
-      value = sym p.value;
-    } in
-    subst (λ ls. IsDocument ls (sorted_document d)) (sym (reread_lines d p)) s
+reread : (d : Document) → IsReread d → IsSpelled (wordful (printed_lines d)) (sorted_document d)
+reread d p = record {
+  kind_line = p.kind_words;
+  head = p.head;
+  body = p.body;
+  lines = reread_words d p;
+  heading = p.opens;
+  elements = p.elements;
+  rank = p.rank;
+  each = p.each;
+  room = ap has_room p.value ∙ p.room;
+  complete = ap is_complete p.value ∙ p.complete;
+  value = sym p.value;
+}
 
 -- ---- each kind
 
@@ -314,6 +312,13 @@ body_reread n b f =
       complete = refl;
     }
 
+-- the lines of the canonical form of a document are lines, and spell this one with its members sorted
+pub printed_one_line : (d : Document) → IsInForm d → list_all is_one_line (printed_lines d) ≡ true
+printed_one_line d f = reread_one_line d (body_reread d.elements d.body f)
+
+pub printed_spelled : (d : Document) → IsInForm d → IsSpelled (wordful (printed_lines d)) (sorted_document d)
+printed_spelled d f = reread d (body_reread d.elements d.body f)
+
 -- the canonical form of a document is a document, and its value is this one with its members sorted
 pub printed_document : (d : Document) → IsInForm d → IsDocument (lines (printed d)) (sorted_document d)
-printed_document d f = reread d (body_reread d.elements d.body f)
+printed_document d f = subst (λ ls. IsDocument ls (sorted_document d)) (sym (lines_text (printed_lines d) (printed_one_line d f))) (printed_spelled d f)

@@ -1,7 +1,7 @@
 -- Words with blanks between them, as text, and their lines.
 --
--- Main definitions: is_word_byte, single
--- Main results: words_one, words_two, words_three, signs_are_word
+-- Main definitions: is_word_byte, is_word, is_word_line, single
+-- Main results: words_one, words_two, words_three, words_spaced, wordful_spaced, spaced_one_lines, signs_are_word
 use Rattle.std.proofs.Common.{◌≡◌, ℕ, List, [], ◌∷◌, ◌++◌, Bool, true, false, not, ◌&&◌, map, refl, sym, ap, ◌∙◌, append-nil, inl, inr, nat_eq}
 use Rattle.std.specs.Prelude.{filter}
 use Rattle.std.specs.List.{list_all}
@@ -9,7 +9,8 @@ use Rattle.std.proofs.lemmas.Bool.{eqb-true}
 use Rattle.std.proofs.lemmas.List.Folds.{list_all-append}
 use Rattle.om_signs.specs.declared.sign.Sign.{Sign}
 use Rattle.om_signs.specs.declared.sign.Sign.TheVariants.{Minus, Zero, Plus}
-use Rattle.om_text.specs.Lines.{with_first, uncommented, is_blank, pieces, has_any, runs, words}
+use Rattle.om_text.specs.Lines.{with_first, uncommented, is_blank, pieces, has_any, runs, words, wordful}
+use Rattle.om_text.specs.Print.{spaced}
 use Rattle.om_text.specs.Words.{is_sign, sign_of_byte, byte_of}
 use Rattle.om_text.proofs.Distinct.{either, both}
 use Rattle.om_text.proofs.Feeds.{is_one_line, not_true}
@@ -69,6 +70,65 @@ words_three w v u h e g f k l =
     ap runs (uncommented_word w (32 ∷ (v ++ 32 ∷ u)) h ∙ ap (λ x. w ++ 32 ∷ x) (uncommented_two v u g k))
     ∙ ap (filter has_any) (pieces_word w (v ++ 32 ∷ u) h ∙ ap (λ x. w ∷ x) (pieces_word v u g ∙ ap (λ x. v ∷ x) (pieces_one u k)))
     ∙ rw (e, f, l) refl
+
+-- a word, as printed
+abbrev pub is_word : List ℕ → Bool
+is_word w = list_all is_word_byte w && has_any w
+
+-- a line of some words
+abbrev pub is_word_line : List (List ℕ) → Bool
+is_word_line ws = has_any ws && list_all is_word ws
+
+uncommented_spaced : (ws : List (List ℕ)) → list_all is_word ws ≡ true → uncommented (spaced ws) ≡ spaced ws
+uncommented_spaced [] h = refl
+uncommented_spaced (w ∷ []) h = uncommented_one w (both (list_all is_word_byte w) (has_any w) (both (is_word w) true h).0).0
+uncommented_spaced (w ∷ v ∷ ws) h =
+    let a = both (is_word w) (list_all is_word (v ∷ ws)) h in
+    let b = both (list_all is_word_byte w) (has_any w) a.0 in
+    uncommented_word w (32 ∷ spaced (v ∷ ws)) b.0 ∙ ap (λ x. w ++ 32 ∷ x) (uncommented_spaced (v ∷ ws) a.1)
+
+pieces_spaced : (w : List ℕ) (ws : List (List ℕ)) → list_all is_word (w ∷ ws) ≡ true → pieces (spaced (w ∷ ws)) ≡ w ∷ ws
+pieces_spaced w [] h = pieces_one w (both (list_all is_word_byte w) (has_any w) (both (is_word w) true h).0).0
+pieces_spaced w (v ∷ ws) h =
+    let a = both (is_word w) (list_all is_word (v ∷ ws)) h in
+    let b = both (list_all is_word_byte w) (has_any w) a.0 in
+    pieces_word w (spaced (v ∷ ws)) b.0 ∙ ap (λ x. w ∷ x) (pieces_spaced v ws a.1)
+
+all_full : (ws : List (List ℕ)) → list_all is_word ws ≡ true → filter has_any ws ≡ ws
+all_full [] h = refl
+all_full (w ∷ ws) h =
+    let a = both (is_word w) (list_all is_word ws) h in
+    let b = both (list_all is_word_byte w) (has_any w) a.0 in
+    rw b.1 (ap (λ x. w ∷ x) (all_full ws a.1))
+
+-- words with single spaces between them are read as these words
+pub words_spaced : (ws : List (List ℕ)) → list_all is_word ws ≡ true → words (spaced ws) ≡ ws
+words_spaced [] h = refl
+words_spaced (w ∷ ws) h = ap runs (uncommented_spaced (w ∷ ws) h) ∙ ap (filter has_any) (pieces_spaced w ws h) ∙ all_full (w ∷ ws) h
+
+pub spaced_one_line : (ws : List (List ℕ)) → list_all is_word ws ≡ true → is_one_line (spaced ws) ≡ true
+spaced_one_line [] h = refl
+spaced_one_line (w ∷ []) h = word_one_line w (both (list_all is_word_byte w) (has_any w) (both (is_word w) true h).0).0
+spaced_one_line (w ∷ v ∷ ws) h =
+    let a = both (is_word w) (list_all is_word (v ∷ ws)) h in
+    let b = both (list_all is_word_byte w) (has_any w) a.0 in
+    list_all-append (λ b. not (nat_eq b 10)) w (32 ∷ spaced (v ∷ ws)) ∙ rw (word_one_line w b.0, spaced_one_line (v ∷ ws) a.1) refl
+
+-- lines of words are read as these lines
+pub wordful_spaced : (ls : List (List (List ℕ))) → list_all is_word_line ls ≡ true → wordful (map spaced ls) ≡ ls
+wordful_spaced [] h = refl
+wordful_spaced (l ∷ ls) h =
+    let a = both (is_word_line l) (list_all is_word_line ls) h in
+    let b = both (has_any l) (list_all is_word l) a.0 in
+    ap (λ x. filter has_any (x ∷ map words (map spaced ls))) (words_spaced l b.1)
+    ∙ rw b.0 (ap (λ x. l ∷ x) (wordful_spaced ls a.1))
+
+pub spaced_one_lines : (ls : List (List (List ℕ))) → list_all is_word_line ls ≡ true → list_all is_one_line (map spaced ls) ≡ true
+spaced_one_lines [] h = refl
+spaced_one_lines (l ∷ ls) h =
+    let a = both (is_word_line l) (list_all is_word_line ls) h in
+    let b = both (has_any l) (list_all is_word l) a.0 in
+    rw (spaced_one_line l b.1) (spaced_one_lines ls a.1)
 
 pub two_one_line : (w v : List ℕ) → list_all is_word_byte w ≡ true → list_all is_word_byte v ≡ true → is_one_line (w ++ 32 ∷ v) ≡ true
 two_one_line w v h g = list_all-append (λ b. not (nat_eq b 10)) w (32 ∷ v) ∙ rw (word_one_line w h, word_one_line v g) refl

@@ -1,6 +1,6 @@
 use Rattle.std.proofs.Common.{sym, ◌∙◌, subst}
-use Rattle.om_oriented.specs.Circuits.{IsCircuitOfChirotope}
-use Rattle.om_oriented.specs.Listings.{AreAllOf}
+use Rattle.om_denotation.specs.Circuits.{IsCircuitOfChirotope}
+use Rattle.om_denotation.specs.Listings.{AreAllOf}
 use Rattle.om_convert.proofs.CountingLaws.{listed_within}
 use Rattle.om_convert.proofs.ChirotopeLaws.{circuit_lengths, circuits_lawful, same_as_circuits}
 use Rattle.om_convert.proofs.chirotopes.chirotope_to_circuits.Goals as goal

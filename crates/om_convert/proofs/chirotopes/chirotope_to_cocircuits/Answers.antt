@@ -1,6 +1,6 @@
 use Rattle.std.proofs.Common.{sym, ◌∙◌, subst}
-use Rattle.om_oriented.specs.Circuits.{IsCocircuitOfChirotope}
-use Rattle.om_oriented.specs.Listings.{AreAllOf}
+use Rattle.om_denotation.specs.Circuits.{IsCocircuitOfChirotope}
+use Rattle.om_denotation.specs.Listings.{AreAllOf}
 use Rattle.om_convert.proofs.CountingLaws.{listed_within}
 use Rattle.om_convert.proofs.ChirotopeLaws.{cocircuit_lengths, cocircuits_lawful, same_as_cocircuits}
 use Rattle.om_convert.proofs.chirotopes.chirotope_to_cocircuits.Goals as goal

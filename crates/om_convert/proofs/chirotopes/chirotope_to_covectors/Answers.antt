@@ -1,6 +1,6 @@
 use Rattle.std.proofs.Common.{sym, ◌∙◌, subst}
-use Rattle.om_oriented.specs.Covectors.{IsCovectorOfChirotope}
-use Rattle.om_oriented.specs.Listings.{AreAllOf}
+use Rattle.om_denotation.specs.Covectors.{IsCovectorOfChirotope}
+use Rattle.om_denotation.specs.Listings.{AreAllOf}
 use Rattle.om_convert.proofs.CountingLaws.{listed_within}
 use Rattle.om_convert.proofs.ChirotopeLaws.{covector_lengths, covectors_lawful, same_as_covectors}
 use Rattle.om_convert.proofs.chirotopes.chirotope_to_covectors.Goals as goal

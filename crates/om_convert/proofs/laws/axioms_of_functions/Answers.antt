@@ -1,4 +1,4 @@
-use Rattle.om_convert.proofs.AxiomLaws.{supported, covector_axioms}
+use Rattle.om_denotation.proofs.AxiomLaws.{supported, covector_axioms}
 use Rattle.om_convert.proofs.laws.axioms_of_functions.Goals as goal
 
 pub returns-clause-support : goal.returns-clause-support

@@ -2,8 +2,8 @@ use Rattle.std.proofs.Common.{◌+◌, ◌<◌, ◌≡◌, sym, ◌∙◌, ap, s
 use Rattle.std.proofs.lemmas.Result.{err_from_is_err_and}
 use Rattle.om_subsets.specs.Subsets.{subset_at, choose}
 use Rattle.om_chirotope.specs.Map.{circuit_vector}
-use Rattle.om_oriented.specs.Circuits.{IsCircuitOfChirotope}
-use Rattle.om_oriented.specs.Listings.{AreAllOf}
+use Rattle.om_denotation.specs.Circuits.{IsCircuitOfChirotope}
+use Rattle.om_denotation.specs.Listings.{AreAllOf}
 use Rattle.om_convert.proofs.PlaceLaws.{IsOfPlace, none_at_places, gathered_more, cause_at_place, circuits_of_places, circuit_cause, no_circuits}
 use Rattle.om_convert.proofs.vectors.all_circuits.Goals as goal
 use Rattle.om_convert.proofs.vectors.all_circuits.Goals.{then-rank-elements+else-loop-k-test, else-rank-elements}

@@ -2,8 +2,8 @@ use Rattle.std.proofs.Common.{◌-◌, ◌<◌, ◌≡◌, sym, ◌∙◌, ap, s
 use Rattle.std.proofs.lemmas.Result.{err_from_is_err_and}
 use Rattle.om_subsets.specs.Subsets.{subset_at, choose}
 use Rattle.om_chirotope.specs.Map.{cocircuit_vector}
-use Rattle.om_oriented.specs.Circuits.{IsCocircuitOfChirotope}
-use Rattle.om_oriented.specs.Listings.{AreAllOf}
+use Rattle.om_denotation.specs.Circuits.{IsCocircuitOfChirotope}
+use Rattle.om_denotation.specs.Listings.{AreAllOf}
 use Rattle.om_convert.proofs.PlaceLaws.{IsOfPlace, none_at_places, gathered_more, cause_at_place, cocircuits_of_places, cocircuit_cause, no_cocircuits}
 use Rattle.om_convert.proofs.vectors.all_cocircuits.Goals as goal
 use Rattle.om_convert.proofs.vectors.all_cocircuits.Goals.{then-rank-gt0+else-loop-k-test, else-rank-gt0}

@@ -1,6 +1,6 @@
 use Rattle.std.proofs.Common.{◌-◌}
 use Rattle.om_chirotope.specs.Map.{cocircuit_vector}
-use Rattle.om_oriented.specs.Listings.{AreAllOf}
+use Rattle.om_denotation.specs.Listings.{AreAllOf}
 use Rattle.om_convert.proofs.PlaceLaws.{IsOfPlace}
 use Rattle.om_convert.proofs.vectors.all_cocircuits.Given as goal
 

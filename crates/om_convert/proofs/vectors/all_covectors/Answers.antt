@@ -1,12 +1,12 @@
 use Rattle.std.proofs.Common.{sym, ◌∙◌, subst}
 use Rattle.std.proofs.lemmas.Result.{err_from_is_err_and}
-use Rattle.om_oriented.specs.Circuits.{IsCocircuitOfChirotope}
-use Rattle.om_oriented.specs.Covectors.{IsCovectorOfChirotope}
-use Rattle.om_oriented.specs.Listings.{AreAllOf}
+use Rattle.om_denotation.specs.Circuits.{IsCocircuitOfChirotope}
+use Rattle.om_denotation.specs.Covectors.{IsCovectorOfChirotope}
+use Rattle.om_denotation.specs.Listings.{AreAllOf}
 use Rattle.om_convert.specs.Compositions.{IsCompositionOf}
 use Rattle.om_convert.specs.Limits.{IsCause}
 use Rattle.om_convert.proofs.CountingLaws.{cause_of_cause}
-use Rattle.om_oriented.proofs.FamilyLaws.{cocircuit_covector}
+use Rattle.om_denotation.proofs.FamilyLaws.{cocircuit_covector}
 use Rattle.om_convert.proofs.ChirotopeLaws.{cocircuit_lengths, covector_of_composition, covectors_of_compositions}
 use Rattle.om_convert.proofs.vectors.all_covectors.Goals as goal
 

@@ -1,4 +1,4 @@
-use Rattle.om_dual.proofs.DualMaps.{dual_normal}
+use Rattle.om_denotation.proofs.DualMaps.{dual_normal}
 use Rattle.om_dual.proofs.laws.dual_of_the_dual.Goals as goal
 
 pub returns : goal.returns

@@ -1,5 +1,5 @@
-use Rattle.om_dual.proofs.NormalForms.{normal_covectors}
-use Rattle.om_dual.proofs.Uniqueness.{one_normal_form, same_by_covectors, normal_up_to_sign}
+use Rattle.om_denotation.proofs.NormalForms.{normal_covectors}
+use Rattle.om_denotation.proofs.Uniqueness.{one_normal_form, same_by_covectors, normal_up_to_sign}
 use Rattle.om_dual.proofs.laws.normal_forms.Goals as goal
 
 pub returns-clause-one : goal.returns-clause-one

@@ -1,6 +1,6 @@
 use Rattle.std.proofs.Common.{sym, ◌∙◌, arith, ◌≤◌}
 use Rattle.std.proofs.lemmas.Bool.{false≢true}
-use Rattle.om_dual.proofs.NormalForms.{normal_rank}
+use Rattle.om_denotation.proofs.NormalForms.{normal_rank}
 use Rattle.om_minors.specs.Minors.{contracted}
 use Rattle.om_minors.proofs.BasisLaws.{basis_off, basis_with, coloop_none, loop_none, rank_low}
 use Rattle.om_minors.proofs.MinorLists.{deletion_at, coloop_deletion}

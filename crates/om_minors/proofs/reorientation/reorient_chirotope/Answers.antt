@@ -1,6 +1,6 @@
 use Rattle.std.proofs.Common.{sym, ◌∙◌, ap, subst}
 use Rattle.om_chirotope.specs.Chirotope.{IsChirotope}
-use Rattle.om_dual.specs.Maps.{IsNormalFormOf}
+use Rattle.om_denotation.specs.Maps.{IsNormalFormOf}
 use Rattle.om_minors.specs.Minors.{reoriented_on}
 use Rattle.om_minors.proofs.Turning.{reoriented_axioms, is_reorientation}
 use Rattle.om_minors.proofs.reorientation.reorient_chirotope.Goals as goal

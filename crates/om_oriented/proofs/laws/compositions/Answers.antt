@@ -1,4 +1,4 @@
-use Rattle.om_oriented.proofs.FamilyLaws.{composition_both}
+use Rattle.om_denotation.proofs.FamilyLaws.{composition_both}
 use Rattle.om_oriented.proofs.laws.compositions.Goals as goal
 
 pub returns : goal.returns

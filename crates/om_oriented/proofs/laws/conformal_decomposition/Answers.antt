@@ -1,4 +1,4 @@
-use Rattle.om_oriented.proofs.FamilyLaws.{conformal_both}
+use Rattle.om_denotation.proofs.FamilyLaws.{conformal_both}
 use Rattle.om_oriented.proofs.laws.conformal_decomposition.Goals as goal
 
 pub returns : goal.returns

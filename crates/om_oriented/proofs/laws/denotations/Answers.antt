@@ -1,4 +1,4 @@
-use Rattle.om_oriented.proofs.FamilyLaws.{orthogonal_both, parts_both}
+use Rattle.om_denotation.proofs.FamilyLaws.{orthogonal_both, parts_both}
 use Rattle.om_oriented.proofs.laws.denotations.Goals as goal
 
 pub returns-clause-circuits : goal.returns-clause-circuits

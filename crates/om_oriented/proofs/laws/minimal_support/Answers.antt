@@ -1,4 +1,4 @@
-use Rattle.om_oriented.proofs.FamilyLaws.{least_both}
+use Rattle.om_denotation.proofs.FamilyLaws.{least_both}
 use Rattle.om_oriented.proofs.laws.minimal_support.Goals as goal
 
 pub returns : goal.returns

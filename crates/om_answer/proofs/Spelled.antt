@@ -1,0 +1,205 @@
+-- The lines of a block, as they are printed, say what they are printed of.
+--
+-- Main definitions: IsLine, AreLines
+-- Main results: vector_line, entry_line, weight_line, pivots_line, basis_line, width_line, all_lines
+use Rattle.std.proofs.Common.{◌≡◌, ℕ, suc, ◌≤◌, ◌<◌, ◌^◌, List, [], ◌∷◌, Bool, true, false, ◌&&◌, length, map, refl, ap, ◌∙◌, arith}
+use Rattle.std.proofs.lemmas.Int.{ints}
+use Rattle.std.specs.Prelude.{ℤ, pos, negsuc, unsigned_abs, codes, decimal, Option, Some, None, option_map, option_and_then, cond, All}
+use Rattle.std.specs.Fmt.{signed_decimal}
+use Rattle.std.specs.List.{list_all}
+use Rattle.std.proofs.lemmas.Bool.{le-leb, lt-ltb}
+use Rattle.std.proofs.lemmas.List.Elements.{All-head, All-tail}
+use Rattle.om_vectors.specs.WholeVectors.{WholeVector, IsWithinLimit}
+use Rattle.om_simplex.specs.declared.stage.Stage.{Stage}
+use Rattle.om_simplex.specs.declared.stage.Stage.TheVariants as stage
+use Rattle.om_certificate.specs.declared.entry.Entry.{Entry}
+use Rattle.om_certificate.specs.declared.weight.Weight.{Weight}
+use Rattle.om_certificate.specs.declared.lp_end.LpEnd.TheVariants as lp_end
+use Rattle.om_text.specs.Words.{plain}
+use Rattle.om_text.proofs.Texts.{is_word, is_word_line}
+use Rattle.om_text.proofs.Numerals.{decimal_word, number_word, unsigned_word, signed_word}
+use Rattle.om_answer.specs.declared.block_lines.TheConstants.{MOST_PLAIN}
+use Rattle.om_answer.specs.declared.range.Range.{Range}
+use Rattle.om_answer.specs.declared.range.Range.TheVariants.{Between, UpToSize}
+use Rattle.om_answer.specs.Numbers.{at_least, number_within, with_item, numbers_within, IsIn, AreIn}
+use Rattle.om_answer.specs.BlockLines.{vector_ranges, vector_from, vector_of, entry_ranges, entry_from, strictness, entry_of, weight_ranges, weight_from, weight_of, count_from, pivots_ranges, pivots_of, plain_numbers, some_of, basis_of, stage_of, width_from, width_ranges, width_after, width_of}
+use Rattle.om_answer.specs.VerdictText.{named, vector_numbers, vector_words, entry_numbers, relation_name, entry_words, weight_numbers, weight_words, stage_name, width_numbers}
+use Rattle.om_answer.specs.VerdictForm.{IsEntryInForm, IsWeightInForm, IsBasisInForm}
+
+-- ---- numbers
+
+-- a range whose numbers are printed and read back
+IsNarrow : Range → Type 0
+IsNarrow (Between low high) = high < 2 ^ 120
+IsNarrow (UpToSize size) = size < 2 ^ 120
+
+-- a number is printed as a word, and this is read as the number
+record IsRead (r : Range) (z : ℤ) : Type 0 where
+  value : number_within r (signed_decimal z) ≡ Some z
+  word : is_word (signed_decimal z) ≡ true
+
+number_read : (r : Range) (z : ℤ) → IsNarrow r → IsIn r z → IsRead r z
+unfolding IsNarrow
+number_read (Between low high) (pos k) n i =
+    let above : low ≤ k = omega (arith, ints, i.0) in
+    let below : k ≤ high = omega (arith, ints, i.1) in
+    let d = decimal_word k (omega arith) in
+    record {
+      value = ap (λ o. option_map pos (option_and_then (at_least low) o)) (unsigned_word high k d below)
+          ∙ ap (λ b. option_map pos (cond b (Some k) None)) (le-leb low k above);
+      word = rw (d.bytes, d.any) refl;
+    }
+number_read (Between low high) (negsuc k) n i = absurd (omega (arith, ints, i.0))
+number_read (UpToSize size) z n i =
+    let s = signed_word size z (omega arith) i in
+    record { value = s.value; word = rw (s.bytes, s.any) refl }
+
+-- ranges of this form
+AreNarrow : List Range → Type 0
+AreNarrow [] = Unit {0}
+AreNarrow (r ∷ rs) = IsNarrow r × AreNarrow rs
+
+record AreRead (rs : List Range) (zs : List ℤ) : Type 0 where
+  values : numbers_within rs (map signed_decimal zs) ≡ Some zs
+  words : list_all is_word (map signed_decimal zs) ≡ true
+
+numbers_read : (rs : List Range) (zs : List ℤ) → AreNarrow rs → AreIn rs zs → AreRead rs zs
+unfolding AreNarrow
+numbers_read [] [] n i = record { values = refl; words = refl }
+numbers_read [] (z ∷ zs) n i = absurd i
+numbers_read (r ∷ rs) [] n i = absurd i
+numbers_read (r ∷ rs) (z ∷ zs) n i =
+    let h = number_read r z n.0 i.0 in
+    let t = numbers_read rs zs n.1 i.1 in
+    record {
+      values = ap (λ o. with_item o (numbers_within rs (map signed_decimal zs))) h.value ∙ ap (with_item (Some z)) t.values;
+      words = ap (λ b. b && list_all is_word (map signed_decimal zs)) h.word ∙ t.words;
+    }
+
+-- plain numbers
+record ArePlain (ns : List ℕ) : Type 0 where
+  values : plain_numbers (map decimal ns) ≡ Some ns
+  words : list_all is_word (map decimal ns) ≡ true
+
+plain_read : (ns : List ℕ) → All (λ n. n ≤ MOST_PLAIN) ns → ArePlain ns
+plain_read [] a = record { values = refl; words = refl }
+plain_read (n ∷ ns) a =
+    let l = All-head (λ n. n ≤ MOST_PLAIN) n ns a in
+    let h = number_word n (omega (arith, l)) in
+    let t = plain_read ns (All-tail (λ n. n ≤ MOST_PLAIN) n ns a) in
+    let w : is_word (decimal n) ≡ true = rw (h.bytes, h.any) refl in
+    record {
+      values = ap (λ o. with_item o (plain_numbers (map decimal ns))) h.value ∙ ap (with_item (Some n)) t.values;
+      words = ap (λ b. b && list_all is_word (map decimal ns)) w ∙ t.words;
+    }
+
+-- ---- lines
+
+-- the words of a line are words, and say x
+pub record IsLine {A : Type 0} (line_of : List (List ℕ) → Option A) (ws : List (List ℕ)) (x : A) : Type 0 where
+  pub value : line_of ws ≡ Some x
+  pub words : is_word_line ws ≡ true
+
+vectors_narrow : AreNarrow vector_ranges
+unfolding AreNarrow IsNarrow
+vectors_narrow = (omega arith, (omega arith, (omega arith, tt)))
+
+pub vector_line : (v : WholeVector) → IsWithinLimit v → IsLine vector_of (vector_words v) v
+vector_line v h =
+    let r = numbers_read vector_ranges (vector_numbers v) vectors_narrow (h.x, (h.y, (h.z, tt))) in
+    record { value = ap (option_and_then vector_from) r.values; words = r.words }
+
+entries_narrow : AreNarrow entry_ranges
+unfolding AreNarrow IsNarrow
+entries_narrow = (omega arith, (omega arith, (omega arith, (omega arith, (omega arith, (omega arith, (omega arith, (omega arith, tt))))))))
+
+relation_read : (strict : Bool) → strictness (relation_name strict) ≡ Some strict
+relation_read true = refl
+relation_read false = refl
+
+relation_word : (strict : Bool) → is_word (relation_name strict) ≡ true
+relation_word true = refl
+relation_word false = refl
+
+pub entry_line : (e : Entry) → IsEntryInForm e → IsLine entry_of (entry_words e) e
+entry_line e h =
+    let r = numbers_read entry_ranges (entry_numbers e) entries_narrow h in
+    let s = e.statement.strict in
+    let ws = map signed_decimal (entry_numbers e) in
+    record {
+      value = ap (option_and_then (λ strict. option_and_then (entry_from strict) (numbers_within entry_ranges ws))) (relation_read s)
+          ∙ ap (option_and_then (entry_from s)) r.values;
+      words = ap (λ b. b && list_all is_word ws) (relation_word s) ∙ r.words;
+    }
+
+weights_narrow : AreNarrow weight_ranges
+unfolding AreNarrow IsNarrow
+weights_narrow = (omega arith, (omega arith, (omega arith, (omega arith, tt))))
+
+pub weight_line : (w : Weight) → IsWeightInForm w → IsLine weight_of (weight_words w) w
+weight_line w h =
+    let r = numbers_read weight_ranges (weight_numbers w) weights_narrow h.numbers in
+    record {
+      value = ap (option_and_then weight_from) r.values ∙ rw (lt-ltb w.a w.b h.first, lt-ltb w.b w.c h.second) refl;
+      words = r.words;
+    }
+
+pivots_narrow : AreNarrow pivots_ranges
+unfolding AreNarrow IsNarrow
+pivots_narrow = (omega arith, tt)
+
+pub pivots_line : (count : ℕ) → AreIn pivots_ranges (pos count ∷ []) → IsLine pivots_of (named (codes "pivots") (pos count ∷ [])) count
+pivots_line count h =
+    let r = numbers_read pivots_ranges (pos count ∷ []) pivots_narrow h in
+    record { value = ap (option_and_then count_from) r.values; words = r.words }
+
+some_numbers : (ns : List ℕ) → 1 ≤ length ns → some_of ns ≡ Some ns
+some_numbers [] h = absurd (omega arith)
+some_numbers (n ∷ ns) h = refl
+
+pub basis_line : (basis : List ℕ) → IsBasisInForm basis → IsLine basis_of (codes "basis" ∷ map decimal basis) basis
+basis_line basis h =
+    let r = plain_read basis h.plain in
+    record { value = ap (option_and_then some_of) r.values ∙ some_numbers basis h.some; words = r.words }
+
+widths_narrow : AreNarrow width_ranges
+unfolding AreNarrow IsNarrow
+widths_narrow = (omega arith, (omega arith, (omega arith, tt)))
+
+stage_read : (s : Stage) → stage_of (stage_name s) ≡ Some s
+stage_read stage.Price = refl
+stage_read stage.Column = refl
+stage_read stage.Update = refl
+stage_read stage.Scale = refl
+
+stage_word : (s : Stage) → is_word (stage_name s) ≡ true
+stage_word stage.Price = refl
+stage_word stage.Column = refl
+stage_word stage.Update = refl
+stage_word stage.Scale = refl
+
+pub width_line : (s : Stage) (p r c : ℕ) → AreIn width_ranges (width_numbers p r c) → IsLine width_of (codes "width" ∷ named (stage_name s) (width_numbers p r c)) (lp_end.Width s p r c)
+width_line s p r c h =
+    let k = numbers_read width_ranges (width_numbers p r c) widths_narrow h in
+    let ws = map signed_decimal (width_numbers p r c) in
+    record {
+      value = ap (option_and_then (λ s. option_and_then (width_from s) (numbers_within width_ranges ws))) (stage_read s)
+          ∙ ap (option_and_then (width_from s)) k.values;
+      words = ap (λ b. b && list_all is_word ws) (stage_word s) ∙ k.words;
+    }
+
+-- ---- lists of lines
+
+pub record AreLines {A : Type 0} (line_of : List (List ℕ) → Option A) (ls : List (List (List ℕ))) (xs : List A) : Type 0 where
+  pub values : map line_of ls ≡ map Some xs
+  pub words : list_all is_word_line ls ≡ true
+
+pub all_lines : {A : Type 0} (P : A → Type 0) (line_of : List (List ℕ) → Option A) (words_of : A → List (List ℕ)) → ((x : A) → P x → IsLine line_of (words_of x) x) → (xs : List A) → All P xs → AreLines line_of (map words_of xs) xs
+all_lines P line_of words_of each [] a = record { values = refl; words = refl }
+all_lines P line_of words_of each (x ∷ xs) a =
+    let h = each x (All-head P x xs a) in
+    let t = all_lines P line_of words_of each xs (All-tail P x xs a) in
+    record {
+      values = ap (λ o. o ∷ map line_of (map words_of xs)) h.value ∙ ap (λ os. Some x ∷ os) t.values;
+      words = ap (λ b. b && list_all is_word_line (map words_of xs)) h.words ∙ t.words;
+    }

@@ -1,0 +1,226 @@
+//! The lines of a verdict block, as they are printed.
+
+ghost use Rattle.std.specs.Prelude.{◌≡◌, ◌++◌, ◌∷◌, [], All, OnOk, map, codes};
+ghost use Rattle.om_vectors.specs.WholeVectors.{IsWithinLimit};
+ghost use Rattle.om_answer.specs.VerdictForm.{IsSearchInForm, HasWordsInForm};
+ghost use Rattle.std.specs.Fmt.{decimal};
+ghost use Rattle.om_answer.specs.BlockLines.{word_line};
+ghost use Rattle.om_answer.specs.VerdictText.{lines_text, tail_text, vector_words, entry_words, weight_words, relation_name, search_lines, stage_name, tableau_lines, verdict_name, verdict_lines, block_lines};
+
+use super::fields::{push, push_number, push_signed};
+use om_certificate::{Entry, LpEnd, Verdict, Weight};
+use om_signs::NoMemory;
+use om_simplex::Stage;
+use om_vectors::{Unfound, Vector};
+
+/// Puts numbers at the end, each behind a space.
+fn push_numbers(text: &mut Vec<u8>, numbers: &[u64]) -> Result<(), NoMemory>
+    ensures { OnOk result (text.new.items ≡ text.old.items ++ tail_text (map decimal numbers.now)) }
+{
+    for number in numbers {
+        push_number(text, u128::from(*number))?;
+    }
+    Ok(())
+}
+
+/// Puts a line at the end: its name, and then numbers.
+fn push_named(text: &mut Vec<u8>, name: &[u8], numbers: &[u64]) -> Result<(), NoMemory>
+    ensures { OnOk result (text.new.items ≡ text.old.items ++ lines_text ((name.now ∷ map decimal numbers.now) ∷ [])) }
+{
+    push(text, name)?;
+    push_numbers(text, numbers)?;
+    push(text, b"\n")
+}
+
+/// Puts a vector at the end, as a line.
+fn push_vector(text: &mut Vec<u8>, vector: Vector) -> Result<(), NoMemory>
+    ensures text { OnOk result (text.new.items ≡ text.old.items ++ lines_text (vector_words vector ∷ [])) }
+    ensures within { OnOk result (IsWithinLimit vector) }
+{
+    push(text, b"vector")?;
+    push_signed(text, i128::from(vector.x()))?;
+    push_signed(text, i128::from(vector.y()))?;
+    push_signed(text, i128::from(vector.z()))?;
+    push(text, b"\n")
+}
+
+/// Puts vectors at the end, one a line.
+fn push_vectors(text: &mut Vec<u8>, vectors: &[Vector]) -> Result<(), NoMemory>
+    ensures text { OnOk result (text.new.items ≡ text.old.items ++ lines_text (map vector_words vectors.now)) }
+    ensures within { OnOk result (All IsWithinLimit vectors.now) }
+{
+    for vector in vectors {
+        push_vector(text, *vector)?;
+    }
+    Ok(())
+}
+
+/// The name of the line of a statement.
+fn relation(strict: bool) -> &'static [u8]
+    ensures { result.now ≡ relation_name strict }
+{
+    if strict { b"lt" } else { b"eq" }
+}
+
+/// Puts an entry at the end, as a line.
+fn push_entry(text: &mut Vec<u8>, entry: Entry) -> Result<(), NoMemory>
+    ensures { OnOk result (text.new.items ≡ text.old.items ++ lines_text (entry_words entry ∷ [])) }
+{
+    let Entry { statement, times } = entry;
+    let numbers = [
+        u64::from(statement.a),
+        u64::from(statement.b),
+        u64::from(statement.c),
+        u64::from(statement.d),
+        u64::from(statement.e),
+        u64::from(statement.small),
+        u64::from(statement.big),
+        times,
+    ];
+    push_named(text, relation(statement.strict), &numbers)
+}
+
+/// Puts entries at the end, one a line.
+fn push_entries(text: &mut Vec<u8>, entries: &[Entry]) -> Result<(), NoMemory>
+    ensures { OnOk result (text.new.items ≡ text.old.items ++ lines_text (map entry_words entries.now)) }
+{
+    for entry in entries {
+        push_entry(text, *entry)?;
+    }
+    Ok(())
+}
+
+/// Puts a weight at the end, as a line.
+fn push_weight(text: &mut Vec<u8>, weight: Weight) -> Result<(), NoMemory>
+    ensures { OnOk result (text.new.items ≡ text.old.items ++ lines_text (weight_words weight ∷ [])) }
+{
+    push(text, b"weight")?;
+    push_number(text, u128::from(weight.a))?;
+    push_number(text, u128::from(weight.b))?;
+    push_number(text, u128::from(weight.c))?;
+    push_signed(text, weight.value)?;
+    push(text, b"\n")
+}
+
+/// Puts weights at the end, one a line.
+fn push_weights(text: &mut Vec<u8>, weights: &[Weight]) -> Result<(), NoMemory>
+    ensures { OnOk result (text.new.items ≡ text.old.items ++ lines_text (map weight_words weights.now)) }
+{
+    for weight in weights {
+        push_weight(text, *weight)?;
+    }
+    Ok(())
+}
+
+/// Puts the end of a search at the end.
+fn push_search(text: &mut Vec<u8>, unfound: &Unfound) -> Result<(), NoMemory>
+    ensures text { OnOk result (text.new.items ≡ text.old.items ++ lines_text (search_lines unfound.now)) }
+    ensures within { OnOk result (IsSearchInForm unfound.now) }
+{
+    match unfound {
+        Unfound::Exhausted => push(text, b"exhausted\n"),
+        Unfound::Frontier(word) => {
+            let _len = word.len();
+            push(text, b"frontier\n")?;
+            push_vectors(text, word.as_slice())
+        }
+    }
+}
+
+/// The name of a stage behind the word `width`.
+fn width_name(stage: Stage) -> &'static [u8]
+    ensures { result.now ≡ codes "width " ++ stage_name stage }
+{
+    match stage {
+        Stage::Price => b"width price",
+        Stage::Column => b"width column",
+        Stage::Update => b"width update",
+        Stage::Scale => b"width scale",
+    }
+}
+
+/// Puts the end of a tableau by a width at the end, as a line.
+fn push_width(
+    text: &mut Vec<u8>,
+    stage: Stage,
+    pivot: u32,
+    row: u16,
+    place: u32,
+) -> Result<(), NoMemory>
+    ensures { OnOk result (text.new.items ≡ text.old.items ++ lines_text (tableau_lines (LpEnd.Width stage pivot row place))) }
+{
+    let numbers = [u64::from(pivot), u64::from(row), u64::from(place)];
+    push_named(text, width_name(stage), &numbers)
+}
+
+/// Puts basis numbers at the end, each behind a space.
+fn push_places(text: &mut Vec<u8>, basis: &[u32]) -> Result<(), NoMemory>
+    ensures { OnOk result (text.new.items ≡ text.old.items ++ tail_text (map decimal basis.now)) }
+{
+    for place in basis {
+        push_number(text, u128::from(*place))?;
+    }
+    Ok(())
+}
+
+/// Puts the end of a tableau by its budget of pivots at the end.
+fn push_pivots(text: &mut Vec<u8>, count: u32, basis: &[u32]) -> Result<(), NoMemory>
+    ensures { OnOk result (text.new.items ≡ text.old.items ++ lines_text (tableau_lines (LpEnd.Pivots count basis.now))) }
+{
+    push_named(text, b"pivots", &[u64::from(count)])?;
+    push(text, b"basis")?;
+    push_places(text, basis)?;
+    push(text, b"\n")
+}
+
+/// Puts the end of a tableau at the end.
+fn push_tableau(text: &mut Vec<u8>, end: &LpEnd) -> Result<(), NoMemory>
+    ensures { OnOk result (text.new.items ≡ text.old.items ++ lines_text (tableau_lines end.now)) }
+{
+    match end {
+        LpEnd::Pivots { count, basis } => push_pivots(text, *count, basis.as_slice()),
+        LpEnd::Width {
+            stage,
+            pivot,
+            row,
+            place,
+        } => push_width(text, *stage, *pivot, *row, *place),
+    }
+}
+
+/// Puts the verdict word and the lines of what the verdict has at the end.
+fn push_lines(text: &mut Vec<u8>, verdict: &Verdict) -> Result<(), NoMemory>
+    ensures text { OnOk result (text.new.items ≡ text.old.items ++ lines_text (word_line (verdict_name verdict.now) ∷ verdict_lines verdict.now)) }
+    ensures within { OnOk result (HasWordsInForm verdict.now) }
+{
+    match verdict {
+        Verdict::Realizable(word) => {
+            let _len = word.len();
+            push(text, b"realizable\n")?;
+            push_vectors(text, word.as_slice())
+        }
+        Verdict::Nonrealizable(entries) => {
+            push(text, b"nonrealizable\n")?;
+            push_entries(text, entries.as_slice())
+        }
+        Verdict::Undecided(weights, unfound) => {
+            push(text, b"undecided\n")?;
+            push_weights(text, weights.as_slice())?;
+            push_search(text, unfound)
+        }
+        Verdict::Limit(end, unfound) => {
+            push(text, b"limit\n")?;
+            push_tableau(text, end)?;
+            push_search(text, unfound)
+        }
+    }
+}
+
+/// Puts the block of a verdict at the end.
+pub fn push_block(text: &mut Vec<u8>, verdict: &Verdict) -> Result<(), NoMemory>
+    ensures text { OnOk result (text.new.items ≡ text.old.items ++ lines_text (block_lines verdict.now)) }
+    ensures within { OnOk result (HasWordsInForm verdict.now) }
+{
+    push_lines(text, verdict)?;
+    push(text, b"end\n")
+}

@@ -1,0 +1,43 @@
+-- What the quick form of the three-term test keeps of a map: marks of the sets that contain a basis, and the rows of its pictures.
+use Rattle.std.specs.Prelude.{ℕ, ◌≡◌, ◌+◌, ◌-◌, ◌*◌, ◌%◌, bit_and, ◌<◌, ◌≤◌, ◌^◌, List, [], ◌∷◌, ◌++◌, length, Bool, true, false}
+use Rattle.std.specs.Int.{bit_at}
+use Rattle.std.proofs.Math.ListN.{get_or}
+use Rattle.om_signs.specs.declared.sign.Sign.{Sign}
+use Rattle.om_signs.specs.Sign.{opposite, product}
+use Rattle.om_subsets.specs.Subsets.{IsMember}
+use Rattle.om_subsets.specs.Members.{mask_of}
+use Rattle.om_laws.specs.ThreeTerm.{AreBalanced}
+use Rattle.om_chirotope.specs.Map.{SignMap, value_of, cocircuit_vector}
+use Rattle.om_chirotope.specs.ThreeTerm.{IsBasis}
+
+-- the mask of 32 bits without bit i
+abbrev pub without_bit : ℕ → ℕ → ℕ
+without_bit mask i = bit_and mask (4294967295 - 1 * 2 ^ i % 4294967296)
+
+-- a table with a mark for each set, by its mask, and a mark at each basis
+pub record AreMarked (m : SignMap) (marks : List Bool) : Type 0 where
+  pub size : length marks ≡ 2 ^ m.elements
+  pub bases : (b : List ℕ) → IsBasis m b → get_or marks (mask_of 1 b m.elements) false ≡ true
+
+-- each element of the list has its bit in the mask
+abbrev pub IsInMask : List ℕ → ℕ → Type 0
+IsInMask b mask = (i : ℕ) → IsMember (i + 1) b → bit_at mask i ≡ 1
+
+-- and a mark at each set below a limit that contains a basis
+pub record AreMarkedAbove (m : SignMap) (marks : List Bool) (limit : ℕ) : Type 0 where
+  pub marked : AreMarked m marks
+  pub above : (mask : ℕ) (b : List ℕ) → mask < limit → IsBasis m b → IsInMask b mask → get_or marks mask false ≡ true
+
+-- at x - 1, for the elements x off P below a limit, the row of x: at each y the value of P with x and y behind it
+pub record AreRowsBelow (m : SignMap) (p : List ℕ) (rows : List (List Sign)) (limit : ℕ) : Type 0 where
+  pub room : m.elements ≤ length rows
+  pub lengths : (k : ℕ) → k < length rows → length (get_or rows k []) ≡ m.elements
+  pub row : (x : ℕ) → 1 ≤ x → x < limit → (IsMember x p → ⊥) → get_or rows (x - 1) [] ≡ cocircuit_vector m (p ++ x ∷ [])
+
+-- the three-term relations of P with x, y, z and each element w
+pub record IsBalancedTriple (m : SignMap) (p : List ℕ) (x y z : ℕ) : Type 0 where
+  pub each : (w : ℕ) → 1 ≤ w → w ≤ m.elements
+      → AreBalanced
+      (product (value_of m (p ++ x ∷ y ∷ [])) (value_of m (p ++ z ∷ w ∷ [])))
+      (opposite (product (value_of m (p ++ x ∷ z ∷ [])) (value_of m (p ++ y ∷ w ∷ []))))
+      (product (value_of m (p ++ x ∷ w ∷ [])) (value_of m (p ++ y ∷ z ∷ [])))

@@ -1,0 +1,288 @@
+//! The three-term test: a quick way to see that all pairs of sign vectors are orthogonal.
+
+ghost use Rattle.std.specs.Prelude.{ℕ, List, ◌≡◌, ◌≢◌, ◌+◌, ◌-◌, ◌<◌, ◌≤◌, ◌^◌, ◌↔◌, ◌∷◌, ◌++◌, length, map, IsTrue, false, true, []};
+ghost use Rattle.std.specs.Int.{bit_at};
+ghost use Rattle.std.proofs.Math.ListN.{get_or};
+ghost use Rattle.om_signs.specs.Sign.{opposite, product};
+ghost use Rattle.om_signs.specs.SignVec.{at, place};
+ghost use Rattle.om_subsets.specs.Subsets.{choose, IsMember, IsSubsetFrom};
+ghost use Rattle.om_laws.specs.ThreeTerm.{AreBalanced};
+ghost use Rattle.om_chirotope.specs.Map.{map_of, cocircuit_vector, cocircuit_vectors};
+ghost use Rattle.om_chirotope.specs.Chirotope.{HasOrthogonalPairs};
+ghost use Rattle.om_chirotope.specs.ThreeTerm.{HasListExchange, HasThreeTermRelations};
+ghost use Rattle.om_chirotope.specs.Pictures.{AreMarked, AreMarkedAbove, AreRowsBelow, IsBalancedTriple, without_bit};
+
+use super::vectors::sign_at;
+use om_signs::{MAX_PLACES, RawMap, Sign, SignVec};
+use om_subsets::Subset;
+
+/// The number of sets of [`MAX_PLACES`] elements.
+const SETS: usize = 131_072;
+
+/// The number of rows of a picture: one for each element.
+const ROWS: usize = MAX_PLACES as usize;
+
+/// Whether the map meets the three-term test, whether or not some value isn't 0. Then every pair of its sign vectors is
+/// orthogonal.
+pub fn meets_test(raw: &RawMap, cocircuits: &[SignVec]) -> bool
+    requires low { 1 ≤ raw.now.elements }
+    requires high { raw.now.elements ≤ MAX_PLACES }
+    requires rank_low { 1 ≤ raw.now.rank }
+    requires rank_high { raw.now.rank < raw.now.elements }
+    requires whole { length raw.now.signs ≡ choose raw.now.elements raw.now.rank }
+    requires filled { cocircuits.now ≡ cocircuit_vectors (map_of raw.now) }
+    ensures { IsTrue result → HasOrthogonalPairs (map_of raw.now) }
+{
+    has_exchange(raw, cocircuits) && has_relations(raw, cocircuits)
+}
+
+/// Whether each basis has an element in the support of each vector U that isn't zero, by a table that marks the sets
+/// which contain a basis.
+fn has_exchange(raw: &RawMap, cocircuits: &[SignVec]) -> bool
+    requires low { 1 ≤ raw.now.elements }
+    requires high { raw.now.elements ≤ MAX_PLACES }
+    requires rank_low { 1 ≤ raw.now.rank }
+    requires rank_high { raw.now.rank < raw.now.elements }
+    requires whole { length raw.now.signs ≡ choose raw.now.elements raw.now.rank }
+    requires filled { cocircuits.now ≡ cocircuit_vectors (map_of raw.now) }
+    ensures { IsTrue result → HasListExchange (map_of raw.now) }
+{
+    let mut table = [false; SETS];
+    has_exchange_by(raw, cocircuits, &mut table)
+}
+
+/// The same, by a table for the marks.
+fn has_exchange_by(raw: &RawMap, cocircuits: &[SignVec], table: &mut [bool]) -> bool
+    requires low { 1 ≤ raw.now.elements }
+    requires high { raw.now.elements ≤ MAX_PLACES }
+    requires rank_low { 1 ≤ raw.now.rank }
+    requires rank_high { raw.now.rank < raw.now.elements }
+    requires whole { length raw.now.signs ≡ choose raw.now.elements raw.now.rank }
+    requires filled { cocircuits.now ≡ cocircuit_vectors (map_of raw.now) }
+    requires room { length table.old ≡ 131072 }
+    ensures { IsTrue result → HasListExchange (map_of raw.now) }
+{
+    let sets = number_of_sets(raw.elements);
+    let marks = &mut table[..sets];
+    mark_bases(raw, marks);
+    mark_above(raw, marks);
+    each_basis_meets_each(raw, cocircuits, marks)
+}
+
+/// The number of sets of some elements.
+fn number_of_sets(elements: u8) -> usize
+    requires { elements ≤ MAX_PLACES }
+    ensures value { result ≡ 2 ^ elements }
+    ensures few { result ≤ 131072 }
+{
+    1usize << elements
+}
+
+/// Marks the sets that are bases.
+fn mark_bases(raw: &RawMap, marks: &mut [bool])
+    requires high { raw.now.elements ≤ MAX_PLACES }
+    requires rank { raw.now.rank ≤ raw.now.elements }
+    requires whole { length raw.now.signs ≡ choose raw.now.elements raw.now.rank }
+    requires room { length marks.old ≡ 2 ^ raw.now.elements }
+    ensures { AreMarked (map_of raw.now) marks.new }
+{
+    for k in 0..Subset::choose(raw.elements, raw.rank) {
+        let b = Subset::unrank(k, raw.rank, raw.elements);
+        if is_nonzero(sign_at(raw, b)) {
+            marks[b.mask() as usize] = true;
+        }
+    }
+}
+
+/// Whether the sign isn't 0.
+fn is_nonzero(sign: Sign) -> bool
+    ensures { IsTrue result ↔ (sign ≢ Sign.Zero) }
+{
+    sign != Sign::Zero
+}
+
+/// Marks each set that has one element more than a marked one.
+fn mark_above(raw: &RawMap, marks: &mut [bool])
+    requires high { raw.now.elements ≤ MAX_PLACES }
+    requires room { length marks.old ≡ 2 ^ raw.now.elements }
+    requires bases { AreMarked (map_of raw.now) marks.old }
+    ensures { AreMarkedAbove (map_of raw.now) marks.new (2 ^ raw.now.elements) }
+{
+    for set in 0..number_of_sets(raw.elements) as u32 {
+        if has_marked_part(marks, set, raw.elements) {
+            marks[set as usize] = true;
+        }
+    }
+}
+
+/// Whether some set of one element less is marked.
+fn has_marked_part(marks: &[bool], set: u32, elements: u8) -> bool
+    requires high { elements ≤ MAX_PLACES }
+    requires room { length marks.now ≡ 2 ^ elements }
+    requires within { set < 2 ^ elements }
+    ensures { (i : ℕ) → i < elements → bit_at set i ≡ 1 → get_or marks.now (without_bit set i) false ≡ true → IsTrue result }
+{
+    for i in 0..elements {
+        if set >> i & 1 == 1 && marks[(set & !(1u32 << i)) as usize] {
+            return true;
+        }
+    }
+    false
+}
+
+/// Whether no set is marked that lies off the support of a vector U which isn't zero.
+fn each_basis_meets_each(raw: &RawMap, cocircuits: &[SignVec], marks: &[bool]) -> bool
+    requires low { 1 ≤ raw.now.elements }
+    requires high { raw.now.elements ≤ MAX_PLACES }
+    requires rank_low { 1 ≤ raw.now.rank }
+    requires room { length marks.now ≡ 2 ^ raw.now.elements }
+    requires filled { cocircuits.now ≡ cocircuit_vectors (map_of raw.now) }
+    requires marked { AreMarkedAbove (map_of raw.now) marks.now (2 ^ raw.now.elements) }
+    ensures { IsTrue result → HasListExchange (map_of raw.now) }
+{
+    let all = (1u32 << raw.elements) - 1;
+    for u in cocircuits {
+        let support = u.support();
+        if support != 0 && marks[(all & !support) as usize] {
+            return false;
+        }
+    }
+    true
+}
+
+/// Whether the three-term relations hold.
+fn has_relations(raw: &RawMap, cocircuits: &[SignVec]) -> bool
+    requires low { 1 ≤ raw.now.elements }
+    requires high { raw.now.elements ≤ MAX_PLACES }
+    requires rank_low { 1 ≤ raw.now.rank }
+    requires rank_high { raw.now.rank < raw.now.elements }
+    requires filled { cocircuits.now ≡ cocircuit_vectors (map_of raw.now) }
+    ensures { IsTrue result → HasThreeTermRelations (map_of raw.now) }
+{
+    if raw.rank < 2 {
+        return true;
+    }
+    for k in 0..Subset::choose(raw.elements, raw.rank - 2) {
+        let p = Subset::unrank(k, raw.rank - 2, raw.elements);
+        if !has_relations_at(raw, cocircuits, p) {
+            return false;
+        }
+    }
+    true
+}
+
+/// Whether the three-term relations of a list P hold, by the rows of its picture: the row of x has at each y the value
+/// of P with x and y behind it.
+fn has_relations_at(raw: &RawMap, cocircuits: &[SignVec], p: Subset) -> bool
+    requires low { 1 ≤ raw.now.elements }
+    requires high { raw.now.elements ≤ MAX_PLACES }
+    requires rank { length p.elements + 2 ≡ raw.now.rank }
+    requires rank_high { raw.now.rank < raw.now.elements }
+    requires n { p.n ≡ raw.now.elements }
+    requires filled { cocircuits.now ≡ cocircuit_vectors (map_of raw.now) }
+    ensures { IsTrue result → (x y z : ℕ) → 1 ≤ x → x < y → y < z → z ≤ raw.now.elements → (IsMember x p.elements → ⊥) → (IsMember y p.elements → ⊥) → (IsMember z p.elements → ⊥) → IsBalancedTriple (map_of raw.now) p.elements x y z }
+{
+    let mut rows = [SignVec::zero(raw.elements); ROWS];
+    for x in 1..raw.elements + 1 {
+        if !p.has(x) {
+            rows[x as usize - 1] = row_of(raw, cocircuits, p, x);
+        }
+    }
+    for x in 1..raw.elements + 1 {
+        if !p.has(x) && !are_balanced_from(raw, &rows, p, x) {
+            return false;
+        }
+    }
+    true
+}
+
+/// The row of an element x off P.
+fn row_of(raw: &RawMap, cocircuits: &[SignVec], p: Subset, x: u8) -> SignVec
+    requires high { raw.now.elements ≤ MAX_PLACES }
+    requires rank { length p.elements + 2 ≡ raw.now.rank }
+    requires rank_high { raw.now.rank < raw.now.elements }
+    requires n { p.n ≡ raw.now.elements }
+    requires filled { cocircuits.now ≡ cocircuit_vectors (map_of raw.now) }
+    requires x_low { 1 ≤ x }
+    requires x_high { x ≤ raw.now.elements }
+    requires off { IsMember x p.elements → ⊥ }
+    ensures { result ≡ cocircuit_vector (map_of raw.now) (p.elements ++ x ∷ []) }
+{
+    let _size = p.size();
+    let vector = cocircuits[p.with(x).rank() as usize];
+    if p.odd_after(x) { vector.neg() } else { vector }
+}
+
+/// Whether the relations of x with two later elements hold.
+fn are_balanced_from(raw: &RawMap, rows: &[SignVec; ROWS], p: Subset, x: u8) -> bool
+    requires high { raw.now.elements ≤ MAX_PLACES }
+    requires n { p.n ≡ raw.now.elements }
+    requires rows { AreRowsBelow (map_of raw.now) p.elements rows.now (raw.now.elements + 1) }
+    requires x_low { 1 ≤ x }
+    requires x_high { x ≤ raw.now.elements }
+    requires x_off { IsMember x p.elements → ⊥ }
+    ensures { IsTrue result → (y z : ℕ) → x < y → y < z → z ≤ raw.now.elements → (IsMember y p.elements → ⊥) → (IsMember z p.elements → ⊥) → IsBalancedTriple (map_of raw.now) p.elements x y z }
+{
+    for y in x + 1..raw.elements + 1 {
+        if !p.has(y) && !are_balanced_with(raw, rows, p, x, y) {
+            return false;
+        }
+    }
+    true
+}
+
+/// Whether the relations of x and y with a later element hold.
+fn are_balanced_with(raw: &RawMap, rows: &[SignVec; ROWS], p: Subset, x: u8, y: u8) -> bool
+    requires high { raw.now.elements ≤ MAX_PLACES }
+    requires n { p.n ≡ raw.now.elements }
+    requires rows { AreRowsBelow (map_of raw.now) p.elements rows.now (raw.now.elements + 1) }
+    requires x_low { 1 ≤ x }
+    requires x_off { IsMember x p.elements → ⊥ }
+    requires y_low { x < y }
+    requires y_high { y ≤ raw.now.elements }
+    requires y_off { IsMember y p.elements → ⊥ }
+    ensures { IsTrue result → (z : ℕ) → y < z → z ≤ raw.now.elements → (IsMember z p.elements → ⊥) → IsBalancedTriple (map_of raw.now) p.elements x y z }
+{
+    let first = rows[x as usize - 1];
+    let second = rows[y as usize - 1];
+    let off = ((1u32 << raw.elements) - 1) & !p.mask();
+    let mut rest = off & !((1u32 << y) - 1);
+    while rest != 0 {
+        let i = rest.trailing_zeros();
+        if !are_balanced(first, second, rows[i as usize], y, i as u8 + 1) {
+            return false;
+        }
+        rest &= !(1u32 << i);
+    }
+    true
+}
+
+/// Whether the relations of three rows with all elements hold: those of the elements x, y and z.
+fn are_balanced(first: SignVec, second: SignVec, third: SignVec, y: u8, z: u8) -> bool
+    requires second { length second ≡ length first }
+    requires third { length third ≡ length first }
+    requires y_low { 1 ≤ y }
+    requires y_high { y ≤ length first }
+    requires z_low { 1 ≤ z }
+    requires z_high { z ≤ length first }
+    ensures { IsTrue result → (i : ℕ) → i < length first → AreBalanced (product (place first y) (at third i)) (opposite (product (place first z) (at second i))) (product (at first i) (place second z)) }
+{
+    let u = scaled(first.get(y), third);
+    let v = scaled(first.get(z).neg(), second);
+    let w = scaled(second.get(z), first);
+    let plus = u.plus() | v.plus() | w.plus();
+    let minus = u.minus() | v.minus() | w.minus();
+    plus == minus
+}
+
+/// The vector with each sign multiplied by s.
+fn scaled(s: Sign, vector: SignVec) -> SignVec
+    ensures len { length result ≡ length vector }
+    ensures signs { (i : ℕ) → i < length vector → at result i ≡ product s (at vector i) }
+{
+    match s {
+        Sign::Plus => vector,
+        Sign::Zero => SignVec::zero(vector.len()),
+        Sign::Minus => vector.neg(),
+    }
+}

@@ -1,0 +1,25 @@
+use Rattle.std.proofs.Common.{subst, sym, ◌∙◌}
+use Rattle.om_denotation.specs.Circuits.{IsCocircuitOfChirotope}
+use Rattle.om_denotation.specs.Compositions.{IsOfLeastSupport}
+use Rattle.om_denotation.specs.Covectors.{IsCovectorOfChirotope, IsCovectorOfCircuits, IsCovectorOfCocircuits}
+use Rattle.om_chirotope.specs.Chirotope.{IsChirotope}
+use Rattle.om_convert.proofs.SameFamilies.{joined, all_same, within_same, cause_same, cocircuits_of}
+use Rattle.om_convert.proofs.lists.circuits_to_cocircuits.Goals as goal
+
+pub returns-in-Ok-clause-members : goal.returns-in-Ok-clause-members
+returns-in-Ok-clause-members c = all_same (IsCocircuitOfChirotope c.in_ok-chi.chi) (IsOfLeastSupport (IsCovectorOfCircuits c.args.c.now.0))
+    (cocircuits_of c.args.c.now.0.elements (IsCovectorOfCircuits c.args.c.now.0) c.in_ok-chi.chi (subst IsChirotope c.chi.view_is c.chi.invariant.axioms) c.in_ok-chi.ensures.elements (λ X x. x.size) c.in_ok-chi.ensures.same)
+    c.in-Ok.cocircuits.0.members c.in-Ok.ensures.members
+
+pub returns-in-Ok-clause-few : goal.returns-in-Ok-clause-few
+returns-in-Ok-clause-few c = within_same (IsCocircuitOfChirotope c.in_ok-chi.chi) (IsOfLeastSupport (IsCovectorOfCircuits c.args.c.now.0))
+    (cocircuits_of c.args.c.now.0.elements (IsCovectorOfCircuits c.args.c.now.0) c.in_ok-chi.chi (subst IsChirotope c.chi.view_is c.chi.invariant.axioms) c.in_ok-chi.ensures.elements (λ X x. x.size) c.in_ok-chi.ensures.same)
+    c.in-Ok.ensures.few
+
+pub returns-clause-many : goal.returns-clause-many
+returns-clause-many c = cause_same (IsCocircuitOfChirotope c.in_ok-chi.chi) (IsOfLeastSupport (IsCovectorOfCircuits c.args.c.now.0))
+    (cocircuits_of c.args.c.now.0.elements (IsCovectorOfCircuits c.args.c.now.0) c.in_ok-chi.chi (subst IsChirotope c.chi.view_is c.chi.invariant.axioms) c.in_ok-chi.ensures.elements (λ X x. x.size) c.in_ok-chi.ensures.same)
+    c.in-Err.error c.in-Err.ensures.many
+
+pub returns-in-Ok-clause-same : goal.returns-in-Ok-clause-same
+returns-in-Ok-clause-same c = joined c.args.c.now.0.elements c.in_ok-chi.chi.elements (IsCovectorOfCircuits c.args.c.now.0) (IsCovectorOfChirotope c.in_ok-chi.chi) (IsCovectorOfCocircuits c.in-Ok.cocircuits.0) c.in_ok-chi.ensures.elements c.in_ok-chi.ensures.same c.in-Ok.ensures.same

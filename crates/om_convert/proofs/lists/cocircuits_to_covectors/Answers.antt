@@ -1,0 +1,22 @@
+use Rattle.std.proofs.Common.{subst, sym, ◌∙◌}
+use Rattle.om_denotation.specs.Covectors.{IsCovectorOfChirotope, IsCovectorOfCocircuits, IsCovectorOfCovectors}
+use Rattle.om_convert.proofs.SameFamilies.{joined, all_same, within_same, cause_same, equal_families}
+use Rattle.om_convert.proofs.lists.cocircuits_to_covectors.Goals as goal
+
+pub returns-in-Ok-clause-members : goal.returns-in-Ok-clause-members
+returns-in-Ok-clause-members c = all_same (IsCovectorOfChirotope c.in_ok-chi.chi) (IsCovectorOfCocircuits c.args.c.now.0)
+    (equal_families c.args.c.now.0.elements (IsCovectorOfCocircuits c.args.c.now.0) (IsCovectorOfChirotope c.in_ok-chi.chi) (λ X x. x.size) (λ X x. x.size ∙ c.in_ok-chi.ensures.elements) c.in_ok-chi.ensures.same)
+    c.in-Ok.covectors.members c.in-Ok.ensures.members
+
+pub returns-in-Ok-clause-few : goal.returns-in-Ok-clause-few
+returns-in-Ok-clause-few c = within_same (IsCovectorOfChirotope c.in_ok-chi.chi) (IsCovectorOfCocircuits c.args.c.now.0)
+    (equal_families c.args.c.now.0.elements (IsCovectorOfCocircuits c.args.c.now.0) (IsCovectorOfChirotope c.in_ok-chi.chi) (λ X x. x.size) (λ X x. x.size ∙ c.in_ok-chi.ensures.elements) c.in_ok-chi.ensures.same)
+    c.in-Ok.ensures.few
+
+pub returns-clause-many : goal.returns-clause-many
+returns-clause-many c = cause_same (IsCovectorOfChirotope c.in_ok-chi.chi) (IsCovectorOfCocircuits c.args.c.now.0)
+    (equal_families c.args.c.now.0.elements (IsCovectorOfCocircuits c.args.c.now.0) (IsCovectorOfChirotope c.in_ok-chi.chi) (λ X x. x.size) (λ X x. x.size ∙ c.in_ok-chi.ensures.elements) c.in_ok-chi.ensures.same)
+    c.in-Err.error c.in-Err.ensures.many
+
+pub returns-in-Ok-clause-same : goal.returns-in-Ok-clause-same
+returns-in-Ok-clause-same c = joined c.args.c.now.0.elements c.in_ok-chi.chi.elements (IsCovectorOfCocircuits c.args.c.now.0) (IsCovectorOfChirotope c.in_ok-chi.chi) (IsCovectorOfCovectors c.in-Ok.covectors) c.in_ok-chi.ensures.elements c.in_ok-chi.ensures.same c.in-Ok.ensures.same

@@ -1,0 +1,28 @@
+use Rattle.om_denotation.specs.Covectors.{IsCovectorOfChirotope, IsCovectorOfCircuits}
+use Rattle.std.proofs.Common.{subst}
+use Rattle.om_chirotope.specs.Chirotope.{IsChirotope}
+use Rattle.om_denotation.specs.Circuits.{IsCircuitOfChirotope}
+use Rattle.om_denotation.specs.Compositions.{IsOfLeastSupport}
+use Rattle.om_denotation.specs.Vectors.{IsVectorOf}
+use Rattle.std.specs.List.{Contains}
+use Rattle.om_denotation.proofs.DualLists.{circuits_of}
+use Rattle.om_convert.proofs.SameFamilies.{joined, all_same, within_same, cause_same}
+use Rattle.om_convert.proofs.lists.covectors_to_circuits.Goals as goal
+
+pub returns-in-Ok-clause-members : goal.returns-in-Ok-clause-members
+returns-in-Ok-clause-members c = all_same (IsCircuitOfChirotope c.in_ok-chi.chi) (IsOfLeastSupport (IsVectorOf c.args.c.now.elements (Contains c.args.c.now.members)))
+    (circuits_of c.args.c.now.elements (Contains c.args.c.now.members) c.in_ok-chi.chi (subst IsChirotope c.chi.view_is c.chi.invariant.axioms) c.in_ok-chi.ensures.elements c.in_ok-chi.ensures.same)
+    c.in-Ok.circuits.0.members c.in-Ok.ensures.members
+
+pub returns-in-Ok-clause-few : goal.returns-in-Ok-clause-few
+returns-in-Ok-clause-few c = within_same (IsCircuitOfChirotope c.in_ok-chi.chi) (IsOfLeastSupport (IsVectorOf c.args.c.now.elements (Contains c.args.c.now.members)))
+    (circuits_of c.args.c.now.elements (Contains c.args.c.now.members) c.in_ok-chi.chi (subst IsChirotope c.chi.view_is c.chi.invariant.axioms) c.in_ok-chi.ensures.elements c.in_ok-chi.ensures.same)
+    c.in-Ok.ensures.few
+
+pub returns-clause-many : goal.returns-clause-many
+returns-clause-many c = cause_same (IsCircuitOfChirotope c.in_ok-chi.chi) (IsOfLeastSupport (IsVectorOf c.args.c.now.elements (Contains c.args.c.now.members)))
+    (circuits_of c.args.c.now.elements (Contains c.args.c.now.members) c.in_ok-chi.chi (subst IsChirotope c.chi.view_is c.chi.invariant.axioms) c.in_ok-chi.ensures.elements c.in_ok-chi.ensures.same)
+    c.in-Err.error c.in-Err.ensures.many
+
+pub returns-in-Ok-clause-same : goal.returns-in-Ok-clause-same
+returns-in-Ok-clause-same c = joined c.args.c.now.elements c.in_ok-chi.chi.elements (Contains c.args.c.now.members) (IsCovectorOfChirotope c.in_ok-chi.chi) (IsCovectorOfCircuits c.in-Ok.circuits.0) c.in_ok-chi.ensures.elements c.in_ok-chi.ensures.same c.in-Ok.ensures.same

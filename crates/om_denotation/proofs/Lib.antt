@@ -1,0 +1,16 @@
+pub mod ChirotopeBridge
+pub mod ListFunctions
+pub mod FamilyLaws
+pub mod SelectionLaws
+pub mod FunctionLaws
+pub mod AxiomLaws
+pub mod Rules
+pub mod NormalForms
+pub mod Uniqueness
+pub mod DualMaps
+pub mod ListingSigns
+pub mod CircuitFunctions
+pub mod ListExistence
+pub mod ListUniqueness
+pub mod KindLaws
+pub mod DualLists

@@ -1,0 +1,15 @@
+pub mod Circuits
+pub mod Covectors
+pub mod CovectorLaws
+pub mod Denotation
+pub mod Listings
+pub mod Operations
+pub mod FamilyAxioms
+pub mod Painting
+pub mod Compositions
+pub mod Maps
+pub mod Dual
+pub mod Families
+pub mod Existence
+pub mod Elimination
+pub mod Vectors

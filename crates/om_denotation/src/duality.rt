@@ -1,0 +1,106 @@
+//! The dual of a chirotope.
+
+ghost use Rattle.std.specs.Prelude.{◌≡◌, ◌≤◌, ◌+◌, ◌-◌, ◌++◌, ◌∷◌, [], length, IfOk};
+ghost use Rattle.om_signs.specs.declared.sign.Sign.TheVariants.{Plus};
+ghost use Rattle.om_laws.specs.Chirotope.{elements_to};
+ghost use Rattle.om_laws.specs.Dual.{complement, dual_on_increasing};
+ghost use Rattle.om_laws.specs.Tuples.{sort_sign};
+ghost use Rattle.om_chirotope.specs.Map.{chi_of, IsLedBy};
+ghost use Rattle.om_denotation.specs.Covectors.{IsCovectorOfChirotope};
+ghost use Rattle.om_denotation.specs.Operations.{IsDual};
+ghost use Rattle.om_denotation.specs.Maps.{IsNormalFormOf};
+ghost use Rattle.om_denotation.specs.Dual.{dual_of};
+
+use super::sign_rule::{SignRule, normal_by};
+use om_chirotope::Chirotope;
+use om_signs::{NoMemory, Sign};
+use om_subsets::Subset;
+use std::alloc::Global;
+
+/// The normal chirotope of the dual, whose covectors are the sign vectors that are orthogonal to every covector. Its rank is
+/// the number of elements less the rank. Before it is made normal, the sign of each increasing list is that of its
+/// complement times the sign of the permutation that lists it and then its complement, both in order. The signs take
+/// their memory from `alloc`.
+///
+/// [`NoMemory`] comes only for want of memory.
+///
+/// Source: Björner, Las Vergnas, Sturmfels, White and Ziegler, *Oriented Matroids*, chapter 3.
+pub fn dual(alloc: Global, chi: &Chirotope) -> Result<Chirotope, NoMemory>
+    ensures rank { IfOk result (λ d. d.rank + chi.now.rank ≡ chi.now.elements) }
+    ensures elements { IfOk result (λ d. d.elements ≡ chi.now.elements) }
+    ensures dual { IfOk result (λ d.
+        IsDual chi.now.elements (IsCovectorOfChirotope chi.now) (IsCovectorOfChirotope d)) }
+    ensures normal { IfOk result (λ d. IsLedBy Plus d.signs) }
+    ensures value { IfOk result (IsNormalFormOf (dual_of chi.now)) }
+{
+    let rank = chi.elements() - chi.rank();
+    normal_by(alloc, rank, chi.elements(), &Complements { chi })
+}
+
+/// The rule of the dual.
+#[derive(Drop)]
+struct Complements<'a> {
+    chi: &'a Chirotope,
+}
+
+impl SignRule for Complements<'_> {
+    ghost use Rattle.std.specs.Prelude.{◌-◌};
+    ghost use Rattle.om_chirotope.specs.Map.{chi_of};
+    ghost use Rattle.om_chirotope.specs.Chirotope.{IsSound};
+    ghost use Rattle.om_laws.specs.Dual.{dual_on_increasing};
+
+    ghost rank = { λ c. c.chi.now.elements - c.chi.now.rank };
+
+    ghost elements = { λ c. c.chi.now.elements };
+
+    ghost rule = { λ c. dual_on_increasing c.chi.now.elements (chi_of c.chi.now) };
+
+    ghost valid = { λ c. IsSound c.chi.now };
+
+    fn sign(&self, s: Subset) -> Sign {
+        let rest = complement_of(s);
+        let sign = self.chi.at(rest);
+        listing_sign(s).times(sign)
+    }
+}
+
+/// The elements off a set.
+fn complement_of(s: Subset) -> Subset
+    ensures n { result.n ≡ s.n }
+    ensures elements { result.elements ≡ complement (elements_to s.n) s.elements }
+    ensures size { length result.elements + length s.elements ≡ s.n }
+{
+    // this call tells that the list of the set increases, as in the functions below
+    let _size = s.size();
+    Subset::from_mask((1u32 << s.n()) - 1 - s.mask(), s.n())
+}
+
+/// The sign of the permutation that lists a set in order and then the elements off it in order.
+fn listing_sign(s: Subset) -> Sign
+    ensures { result ≡ sort_sign (s.elements ++ complement (elements_to s.n) s.elements) }
+{
+    let _size = s.size();
+    let mut sign = Sign::Plus;
+    for e in 1..s.n() + 1 {
+        sign = sign.times(moving_sign(s, e));
+    }
+    sign
+}
+
+/// The sign of the permutation that moves an element off the set from behind the set over the greater ones. For an element
+/// of the set it is plus. The element is from 1 to n.
+fn moving_sign(s: Subset, e: u8) -> Sign
+    requires low { 1 ≤ e }
+    requires high { e ≤ s.n }
+    ensures { result ≡ sort_sign (s.elements ++ complement (e ∷ []) s.elements) }
+{
+    let _size = s.size();
+    if s.has(e) {
+        return Sign::Plus;
+    }
+    if s.odd_after(e) {
+        Sign::Minus
+    } else {
+        Sign::Plus
+    }
+}

@@ -1,0 +1,63 @@
+//! Chirotopes by a rule for their signs.
+
+ghost use Rattle.std.specs.Prelude.{ℕ, ◌≡◌, List, IfOk, length};
+ghost use Rattle.om_signs.specs.declared.sign.Sign.{Sign};
+ghost use Rattle.om_subsets.specs.Subsets.{all_subsets};
+ghost use Rattle.om_chirotope.specs.Chirotope.{IsChirotope, IsWithinLimits};
+ghost use Rattle.om_denotation.specs.Maps.{map_by, IsNormalFormOf};
+
+use om_chirotope::Chirotope;
+use om_signs::{NoMemory, RawMap, Sign};
+use om_subsets::Subset;
+use std::alloc::Global;
+
+/// A rule that gives each increasing list of some size a sign.
+pub trait SignRule {
+    /// The size of the lists.
+    ghost rank: { Self → ℕ };
+
+    /// The n of the elements 1 to n that the lists are taken from.
+    ghost elements: { Self → ℕ };
+
+    /// The sign of each list.
+    ghost rule: { Self → List ℕ → Sign };
+
+    /// What has to hold of the value.
+    ghost valid: { Self → Type 0 };
+
+    /// The sign of a set of the size of the rule.
+    fn sign(&self, s: Subset) -> Sign
+        requires valid { valid self.now }
+        requires n { s.n ≡ elements self.now }
+        requires size { length s.elements ≡ rank self.now }
+        ensures { result ≡ rule self.now s.elements };
+}
+
+/// The normal one of the chirotope with the signs of a rule and its negative: the first sign that isn't 0 is plus. The
+/// signs make a chirotope, which isn't tested. They take their memory from `alloc`.
+///
+/// [`NoMemory`] comes only for want of memory.
+pub fn normal_by<T: SignRule>(
+    alloc: Global,
+    rank: u8,
+    elements: u8,
+    rule: &T,
+) -> Result<Chirotope, NoMemory>
+    requires valid { T.valid rule.now }
+    requires rank { T.rank rule.now ≡ rank }
+    requires elements { T.elements rule.now ≡ elements }
+    requires axioms { IsChirotope (map_by rank elements (T.rule rule.now)) }
+    requires limits { IsWithinLimits (map_by rank elements (T.rule rule.now)) }
+    ensures { IfOk result (IsNormalFormOf (map_by rank elements (T.rule rule.now))) }
+{
+    let mut signs = om_signs::List::new(alloc);
+    for place in 0..Subset::choose(elements, rank) {
+        signs.push(rule.sign(Subset::unrank(place, rank, elements)))?;
+    }
+    Ok(Chirotope::lawful(RawMap {
+        rank,
+        elements,
+        signs,
+    })
+    .normal())
+}

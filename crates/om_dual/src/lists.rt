@@ -1,0 +1,59 @@
+//! Duals of circuits, of cocircuits and of covectors.
+
+ghost use Rattle.std.specs.Prelude.{◌≡◌, IfOk, IfErr, OnOk};
+ghost use Rattle.std.specs.List.{Contains};
+ghost use Rattle.om_convert.specs.Limits.{IsCause, IsWithinLimit};
+ghost use Rattle.om_denotation.specs.Covectors.{IsCovectorOfCircuits, IsCovectorOfCocircuits, IsCovectorOfCovectors};
+ghost use Rattle.om_denotation.specs.Listings.{AreAllOf};
+ghost use Rattle.om_denotation.specs.Operations.{IsDual};
+ghost use Rattle.om_denotation.specs.Vectors.{IsVectorOf};
+
+use om_circuits::{Circuits, Cocircuits};
+use om_convert::{ConvertError, chirotope_to_covectors, covectors_to_chirotope};
+use om_covectors::Covectors;
+use om_denotation::dual;
+use std::alloc::Global;
+
+/// The cocircuits of the dual: the same members. It takes no memory.
+///
+/// Source: Björner, Las Vergnas, Sturmfels, White and Ziegler, *Oriented Matroids*, chapter 3.
+pub fn dual_circuits(c: Circuits) -> Cocircuits
+    ensures members { result.0 ≡ c.0 }
+    ensures dual { IsDual c.0.elements (IsCovectorOfCircuits c.0) (IsCovectorOfCocircuits result.0) }
+{
+    // this call tells that the axioms hold, as in the function below
+    let _elements = c.0.elements();
+    Cocircuits(c.0)
+}
+
+/// The circuits of the dual: the same members. It takes no memory.
+///
+/// Source: Björner, Las Vergnas, Sturmfels, White and Ziegler, *Oriented Matroids*, chapter 3.
+pub fn dual_cocircuits(c: Cocircuits) -> Circuits
+    ensures members { result.0 ≡ c.0 }
+    ensures dual { IsDual c.0.elements (IsCovectorOfCocircuits c.0) (IsCovectorOfCircuits result.0) }
+{
+    let _elements = c.0.elements();
+    Circuits(c.0)
+}
+
+/// The covectors of the dual: the sign vectors that are orthogonal to every covector. The list takes its memory from `alloc`.
+///
+/// [`ConvertError::TooMany`] comes exactly where there are more of them than [`MAX_MEMBERS`](om_signs::MAX_MEMBERS), which
+/// it names, if memory lasts until the first of these; [`ConvertError::Memory`] comes only for want of memory.
+///
+/// Source: Björner, Las Vergnas, Sturmfels, White and Ziegler, *Oriented Matroids*, chapter 3.
+pub fn dual_covectors(alloc: Global, c: &Covectors) -> Result<Covectors, ConvertError>
+    ensures elements { IfOk result (λ d. d.elements ≡ c.now.elements) }
+    ensures members { IfOk result (λ d. AreAllOf (IsVectorOf c.now.elements (Contains c.now.members)) d.members) }
+    ensures dual { IfOk result (λ d. IsDual c.now.elements (Contains c.now.members) (IsCovectorOfCovectors d)) }
+    ensures few { OnOk result (IsWithinLimit (IsVectorOf c.now.elements (Contains c.now.members))) }
+    ensures many { IfErr result (IsCause (IsVectorOf c.now.elements (Contains c.now.members))) }
+{
+    let chi = covectors_to_chirotope(alloc, c)?;
+    let turned = dual(alloc, &chi)?;
+    match chirotope_to_covectors(alloc, &turned) {
+        Ok(covectors) => Ok(covectors),
+        Err(error) => Err(error),
+    }
+}

@@ -1,0 +1,4 @@
+mod HittingLaws
+mod SetLaws
+mod CarryLaws
+mod MeetingLaws

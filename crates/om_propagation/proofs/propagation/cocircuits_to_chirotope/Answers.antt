@@ -1,0 +1,12 @@
+use Rattle.std.proofs.lemmas.Result.{IfOk-weaker}
+use Rattle.om_chirotope.specs.Map.{SignMap}
+use Rattle.om_denotation.specs.Covectors.{IsCovectorOfChirotope, IsCovectorOfCocircuits}
+use Rattle.om_denotation.specs.Denotation.{DenoteTheSame}
+use Rattle.om_propagation.specs.Hitting.{IsNormalOf}
+use Rattle.om_propagation.proofs.MeetingLaws.{denotes}
+use Rattle.om_propagation.proofs.propagation.cocircuits_to_chirotope.Goals as goal
+
+pub returns-clause-same : goal.returns-clause-same
+returns-clause-same c =
+    let P : SignMap → Type 0 = λ m. DenoteTheSame c.args.c.now.0.elements (IsCovectorOfCocircuits c.args.c.now.0) (IsCovectorOfChirotope m) in
+    IfOk-weaker c.chirotope_of.result (IsNormalOf c.args.c.now.0.elements c.args.c.now.0.members) P (λ m h. denotes c.args.c.now.0 m h) c.chirotope_of.ensures

@@ -1,0 +1,73 @@
+-- Sets that every cocircuit of a list meets, and the chirotope that a list of cocircuits stands for.
+--
+-- Reference: Björner, Las Vergnas, Sturmfels, White and Ziegler, Oriented Matroids, chapter 3.
+use Rattle.std.specs.Prelude.{ℕ, ◌≡◌, ◌≢◌, ◌<◌, ◌≤◌, ◌⊎◌, List, length}
+use Rattle.std.specs.List.{Contains}
+use Rattle.om_signs.specs.declared.sign.Sign.{Sign}
+use Rattle.om_signs.specs.declared.sign.Sign.TheVariants.{Zero, Plus}
+use Rattle.om_signs.specs.Sign.{product}
+use Rattle.om_signs.specs.SignVec.{at, place}
+use Rattle.om_subsets.specs.Subsets.{IsMember, with_element, without_element, count_above, rank_of}
+use Rattle.om_chirotope.specs.Map.{SignMap, IsLedBy, parity_sign}
+use Rattle.om_chirotope.specs.Chirotope.{IsChirotope}
+use Rattle.om_denotation.specs.Circuits.{IsCocircuitOfChirotope}
+use Rattle.om_denotation.specs.Listings.{AreAllOf}
+
+-- not zero at some element of a set
+abbrev pub IsMet : List ℕ → List Sign → Type 0
+IsMet s Y = (e : ℕ) × IsMember e s × (place Y e ≢ Zero)
+
+-- each vector of a list is nonzero at some element of the set
+abbrev pub MeetsEach : List (List Sign) → List ℕ → Type 0
+MeetsEach members s = (Y : List Sign) → Contains members Y → IsMet s Y
+
+-- some vector of a list is zero on the set
+abbrev pub MissesSome : List (List Sign) → List ℕ → Type 0
+MissesSome members s = (Y : List Sign) × Contains members Y × (IsMet s Y → ⊥)
+
+-- the set without e where it meets each vector, and the set where it does not
+abbrev pub IsNarrowed : List (List Sign) → List ℕ → ℕ → List ℕ → Type 0
+IsNarrowed members s e t = ((t ≡ without_element e s) × MeetsEach members t) ⊎ ((t ≡ s) × MissesSome members (without_element e s))
+
+-- it meets each vector of a list, and without any of its elements it does not
+pub record IsLeastMeeting (members : List (List Sign)) (s : List ℕ) : Type 0 where
+  pub each : MeetsEach members s
+  pub least : (e : ℕ) → IsMember e s → MissesSome members (without_element e s)
+
+-- a chirotope on n elements with these cocircuits, whose first sign that isn't zero is plus
+pub record IsNormalOf (n : ℕ) (members : List (List Sign)) (m : SignMap) : Type 0 where
+  pub axioms : IsChirotope m
+  pub elements : m.elements ≡ n
+  pub cocircuits : AreAllOf (IsCocircuitOfChirotope m) members
+  pub normal : IsLedBy Plus m.signs
+
+-- the first signs of each normal chirotope of the list
+abbrev pub AreFirstSigns : ℕ → ℕ → List (List Sign) → List Sign → Type 0
+AreFirstSigns n rank members signs = (m : SignMap) → IsNormalOf n members m → m.rank ≡ rank → (k : ℕ) → k < length signs → at signs k ≡ at m.signs k
+
+-- the sign of the set a with e, by a vector y that is zero on a, from the sign s of the set a with h
+abbrev pub carried_sign : List ℕ → ℕ → ℕ → List Sign → Sign → Sign
+carried_sign a e h y s = product (product (product (product (parity_sign (count_above e a)) (parity_sign (count_above h a))) (place y e)) (place y h)) s
+
+-- the sign s of a set t, from that of a set before it which has a smaller element h in the place of e
+pub record IsCarried (n : ℕ) (members : List (List Sign)) (before : List Sign) (t : List ℕ) (e : ℕ) (s : Sign) : Type 0 where
+  pub inside : IsMember e t
+  pub vector : List Sign
+  pub member : Contains members vector
+  pub missed : IsMet (without_element e t) vector → ⊥
+  pub other : ℕ
+  pub low : 1 ≤ other
+  pub below : other < e
+  pub nonzero : place vector other ≢ Zero
+  pub value : s ≡ carried_sign (without_element e t) e other vector (at before (rank_of n (with_element other (without_element e t))))
+
+-- some vector is zero on t without e, and on all elements below e
+pub record IsLeastAt (members : List (List Sign)) (t : List ℕ) (e : ℕ) : Type 0 where
+  pub vector : List Sign
+  pub member : Contains members vector
+  pub missed : IsMet (without_element e t) vector → ⊥
+  pub zero : (h : ℕ) → 1 ≤ h → h < e → place vector h ≡ Zero
+
+-- no sign is carried to t over its element e: t without e meets each vector, or no smaller element takes the place of e
+abbrev pub HasNoneCarried : List (List Sign) → List ℕ → ℕ → Type 0
+HasNoneCarried members t e = IsMember e t → MeetsEach members (without_element e t) ⊎ IsLeastAt members t e

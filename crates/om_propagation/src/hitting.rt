@@ -1,0 +1,69 @@
+//! Sets that meet every vector of a list.
+
+ghost use Rattle.std.specs.Prelude.{◌≡◌, ◌≤◌, ◌↔◌, IsTrue, IfSome, IfNone, length};
+ghost use Rattle.std.specs.List.{Contains};
+ghost use Rattle.om_members.specs.Listings.{HaveLength};
+ghost use Rattle.om_subsets.specs.Subsets.{first_of, IsSubsetFrom};
+ghost use Rattle.om_propagation.specs.Hitting.{IsMet, MeetsEach, IsNarrowed, IsLeastMeeting};
+
+use om_signs::{MAX_ELEMENTS, SignVec};
+use om_subsets::Subset;
+
+/// Whether a vector is nonzero at some element of a set.
+pub fn meets(y: SignVec, s: Subset) -> bool
+    requires { length y ≡ s.n }
+    ensures { IsTrue result ↔ IsMet s.elements y }
+{
+    // this call tells that the list of the set increases
+    let _size = s.size();
+    y.support() & s.mask() != 0
+}
+
+/// The first vector that is zero on a set.
+pub fn first_missed(vectors: &[SignVec], s: Subset) -> Option<SignVec>
+    requires { HaveLength s.n vectors.now }
+    ensures none { IfNone result (MeetsEach vectors.now s.elements) }
+    ensures contained { IfSome result (Contains vectors.now) }
+    ensures missed { IfSome result (λ y. IsMet s.elements y → ⊥) }
+{
+    for y in vectors {
+        if !meets(*y, s) {
+            return Some(*y);
+        }
+    }
+    None
+}
+
+/// The set without an element if it still meets each vector, and else the set.
+fn narrowed(vectors: &[SignVec], set: Subset, e: u8) -> Subset
+    requires low { 1 ≤ e }
+    requires high { e ≤ set.n }
+    requires lengths { HaveLength set.n vectors.now }
+    requires lawful { IsSubsetFrom 1 set.n set.elements }
+    ensures n { result.n ≡ set.n }
+    ensures lawful { IsSubsetFrom 1 result.n result.elements }
+    ensures narrowed { IsNarrowed vectors.now set.elements e result.elements }
+{
+    let rest = set.without(e);
+    if first_missed(vectors, rest).is_some() {
+        set
+    } else {
+        rest
+    }
+}
+
+/// A set that meets each vector, and of which no element can be left out. No vector is zero.
+pub fn least_meeting(elements: u8, vectors: &[SignVec]) -> Subset
+    requires high { elements ≤ MAX_ELEMENTS }
+    requires lengths { HaveLength elements vectors.now }
+    requires nonzero { MeetsEach vectors.now (first_of 1 elements) }
+    ensures n { result.n ≡ elements }
+    ensures lawful { IsSubsetFrom 1 elements result.elements }
+    ensures least { IsLeastMeeting vectors.now result.elements }
+{
+    let mut set = Subset::first(elements, elements);
+    for e in 1..elements + 1 {
+        set = narrowed(vectors, set, e);
+    }
+    set
+}

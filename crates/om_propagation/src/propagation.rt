@@ -1,0 +1,78 @@
+//! The chirotope of a set of cocircuits, and that of a set of circuits.
+
+ghost use Rattle.std.specs.Prelude.{◌≡◌, IfOk};
+ghost use Rattle.om_signs.specs.declared.sign.Sign.TheVariants.{Plus};
+ghost use Rattle.om_chirotope.specs.Map.{IsLedBy};
+ghost use Rattle.om_denotation.specs.Circuits.{IsCircuitOfChirotope, IsCocircuitOfChirotope};
+ghost use Rattle.om_denotation.specs.Covectors.{IsCovectorOfChirotope, IsCovectorOfCircuits, IsCovectorOfCocircuits};
+ghost use Rattle.om_denotation.specs.Denotation.{DenoteTheSame};
+ghost use Rattle.om_denotation.specs.Listings.{AreAllOf};
+ghost use Rattle.om_propagation.specs.Hitting.{IsNormalOf};
+
+use super::hitting::least_meeting;
+use super::signs::sign_of;
+use om_chirotope::Chirotope;
+use om_circuits::{Circuits, Cocircuits, SignedSet};
+use om_denotation::dual;
+use om_signs::{List, NoMemory, RawMap};
+use om_subsets::Subset;
+use std::alloc::Global;
+
+/// The normal chirotope whose cocircuits are the members of a set. Its signs take their memory from `alloc`.
+///
+/// The bases are the sets of as many elements as the rank that meet each member. The first one has the sign plus, and each
+/// other one has its sign from that of a basis before it with one other element, by a member that is zero on what both have
+/// in common.
+///
+/// [`NoMemory`] comes only for want of memory.
+pub fn chirotope_of(alloc: Global, set: &SignedSet) -> Result<Chirotope, NoMemory>
+    ensures { IfOk result (IsNormalOf set.now.elements set.now.members) }
+{
+    let elements = set.elements();
+    let vectors = set.members();
+    let rank = least_meeting(elements, vectors).size();
+    let mut signs = List::new(alloc);
+    for k in 0..Subset::choose(elements, rank) {
+        let t = Subset::unrank(k, rank, elements);
+        let sign = sign_of(vectors, signs.as_slice(), t);
+        signs.push(sign)?;
+    }
+    Ok(Chirotope::lawful(RawMap {
+        rank,
+        elements,
+        signs,
+    }))
+}
+
+/// The normal chirotope with these cocircuits. Both have the same elements and denote the same oriented matroid. Its signs
+/// take their memory from `alloc`.
+///
+/// [`NoMemory`] comes only for want of memory.
+///
+/// Source: Björner, Las Vergnas, Sturmfels, White and Ziegler, *Oriented Matroids*, chapter 3.
+pub fn cocircuits_to_chirotope(alloc: Global, c: &Cocircuits) -> Result<Chirotope, NoMemory>
+    ensures elements { IfOk result (λ m. m.elements ≡ c.now.0.elements) }
+    ensures cocircuits { IfOk result (λ m. AreAllOf (IsCocircuitOfChirotope m) c.now.0.members) }
+    ensures same { IfOk result (λ m.
+        DenoteTheSame c.now.0.elements (IsCovectorOfCocircuits c.now.0) (IsCovectorOfChirotope m)) }
+    ensures normal { IfOk result (λ m. IsLedBy Plus m.signs) }
+{
+    chirotope_of(alloc, &c.0)
+}
+
+/// The normal chirotope with these circuits: the dual of that whose cocircuits they are. Both have the same elements and
+/// denote the same oriented matroid. Its signs take their memory from `alloc`.
+///
+/// [`NoMemory`] comes only for want of memory.
+///
+/// Source: Björner, Las Vergnas, Sturmfels, White and Ziegler, *Oriented Matroids*, chapter 3.
+pub fn circuits_to_chirotope(alloc: Global, c: &Circuits) -> Result<Chirotope, NoMemory>
+    ensures elements { IfOk result (λ m. m.elements ≡ c.now.0.elements) }
+    ensures circuits { IfOk result (λ m. AreAllOf (IsCircuitOfChirotope m) c.now.0.members) }
+    ensures same { IfOk result (λ m.
+        DenoteTheSame c.now.0.elements (IsCovectorOfCircuits c.now.0) (IsCovectorOfChirotope m)) }
+    ensures normal { IfOk result (λ m. IsLedBy Plus m.signs) }
+{
+    let other = chirotope_of(alloc, &c.0)?;
+    dual(alloc, &other)
+}

@@ -1,0 +1,113 @@
+//! The sign of a set from those of the sets before it.
+
+ghost use Rattle.std.specs.Prelude.{ℕ, ◌≡◌, ◌≢◌, ◌≤◌, ◌<◌, IfSome, IfNone, length};
+ghost use Rattle.om_signs.specs.SignVec.{at, place};
+ghost use Rattle.om_subsets.specs.Subsets.{IsSubsetFrom, count_above, rank_of};
+ghost use Rattle.om_chirotope.specs.Map.{SignMap, parity_sign};
+ghost use Rattle.om_members.specs.Listings.{HaveLength};
+ghost use Rattle.om_propagation.specs.Hitting.{MeetsEach, IsNormalOf, AreFirstSigns, carried_sign, IsCarried, HasNoneCarried};
+
+use super::hitting::first_missed;
+use om_signs::{Sign, SignVec};
+use om_subsets::Subset;
+
+/// The power of -1 to the number of elements of a set above e.
+fn parity_above(a: Subset, e: u8) -> Sign
+    requires low { 1 ≤ e }
+    requires high { e ≤ a.n }
+    ensures { result ≡ parity_sign (count_above e a.elements) }
+{
+    if a.odd_after(e) {
+        Sign::Minus
+    } else {
+        Sign::Plus
+    }
+}
+
+/// The sign of a set with e, by a vector that is zero on the set, from the sign of the set with h.
+fn carried(a: Subset, e: u8, h: u8, y: SignVec, sign: Sign) -> Sign
+    requires n { length y ≡ a.n }
+    requires e_low { 1 ≤ e }
+    requires e_high { e ≤ a.n }
+    requires h_low { 1 ≤ h }
+    requires h_high { h ≤ a.n }
+    ensures { result ≡ carried_sign a.elements e h y sign }
+{
+    let parity = parity_above(a, e).times(parity_above(a, h));
+    parity.times(y.get(e)).times(y.get(h)).times(sign)
+}
+
+/// The first element below e at which a vector is nonzero.
+fn first_below(y: SignVec, e: u8) -> Option<u8>
+    requires { e ≤ length y }
+    ensures none { IfNone result ((h : ℕ) → 1 ≤ h → h < e → place y h ≡ Sign.Zero) }
+    ensures low { IfSome result (λ h. 1 ≤ h) }
+    ensures high { IfSome result (λ h. h < e) }
+    ensures nonzero { IfSome result (λ h. place y h ≢ Sign.Zero) }
+{
+    for h in 1..e {
+        if y.get(h) != Sign::Zero {
+            return Some(h);
+        }
+    }
+    None
+}
+
+/// The sign of a set from that of a set before it, which has a smaller element in the place of e. None where e is not in
+/// the set, or there is no such set.
+fn sign_over(vectors: &[SignVec], before: &[Sign], t: Subset, e: u8) -> Option<Sign>
+    requires low { 1 ≤ e }
+    requires high { e ≤ t.n }
+    requires lengths { HaveLength t.n vectors.now }
+    requires lawful { IsSubsetFrom 1 t.n t.elements }
+    requires place { rank_of t.n t.elements ≡ length before.now }
+    ensures none { IfNone result (HasNoneCarried vectors.now t.elements e) }
+    ensures some { IfSome result (IsCarried t.n vectors.now before.now t.elements e) }
+{
+    if !t.has(e) {
+        return None;
+    }
+    let a = t.without(e);
+    match first_missed(vectors, a) {
+        None => None,
+        Some(y) => match first_below(y, e) {
+            None => None,
+            Some(h) => {
+                let other = a.with(h);
+                Some(carried(a, e, h, y, before[other.rank() as usize]))
+            }
+        },
+    }
+}
+
+/// The sign of a basis in the normal chirotope with these cocircuits, from those of the sets before it.
+fn sign_of_basis(vectors: &[SignVec], before: &[Sign], t: Subset) -> Sign
+    requires lengths { HaveLength t.n vectors.now }
+    requires place { rank_of t.n t.elements ≡ length before.now }
+    requires signs { AreFirstSigns t.n (length t.elements) vectors.now before.now }
+    requires basis { MeetsEach vectors.now t.elements }
+    ensures { (m : SignMap) → IsNormalOf t.n vectors.now m → m.rank ≡ length t.elements → result ≡ at m.signs (length before.now) }
+{
+    // this call tells that the list of the set increases, as in the function below
+    let _size = t.size();
+    for e in 1..t.n() + 1 {
+        if let Some(sign) = sign_over(vectors, before, t, e) {
+            return sign;
+        }
+    }
+    Sign::Plus
+}
+
+/// The sign of a set in the normal chirotope with these cocircuits, from those of the sets before it.
+pub fn sign_of(vectors: &[SignVec], before: &[Sign], t: Subset) -> Sign
+    requires lengths { HaveLength t.n vectors.now }
+    requires place { rank_of t.n t.elements ≡ length before.now }
+    requires signs { AreFirstSigns t.n (length t.elements) vectors.now before.now }
+    ensures { (m : SignMap) → IsNormalOf t.n vectors.now m → m.rank ≡ length t.elements → result ≡ at m.signs (length before.now) }
+{
+    let _size = t.size();
+    match first_missed(vectors, t) {
+        Some(_) => Sign::Zero,
+        None => sign_of_basis(vectors, before, t),
+    }
+}
