@@ -18,7 +18,7 @@ use Rattle.om_certificate.specs.declared.lp_end.LpEnd.TheVariants as lp_end
 use Rattle.om_text.specs.Words.{plain}
 use Rattle.om_text.proofs.Texts.{is_word, is_word_line}
 use Rattle.om_text.proofs.Numerals.{decimal_word, number_word, unsigned_word, signed_word}
-use Rattle.om_answer.specs.declared.block_lines.TheConstants.{MOST_PLAIN}
+use Rattle.om_signs.specs.declared.limits.TheConstants.{MAX_PLAIN}
 use Rattle.om_answer.specs.declared.range.Range.{Range}
 use Rattle.om_answer.specs.declared.range.Range.TheVariants.{Between, UpToSize}
 use Rattle.om_answer.specs.Numbers.{at_least, number_within, with_item, numbers_within, IsIn, AreIn}
@@ -81,12 +81,12 @@ record ArePlain (ns : List ℕ) : Type 0 where
   values : plain_numbers (map decimal ns) ≡ Some ns
   words : list_all is_word (map decimal ns) ≡ true
 
-plain_read : (ns : List ℕ) → All (λ n. n ≤ MOST_PLAIN) ns → ArePlain ns
+plain_read : (ns : List ℕ) → All (λ n. n ≤ MAX_PLAIN) ns → ArePlain ns
 plain_read [] a = record { values = refl; words = refl }
 plain_read (n ∷ ns) a =
-    let l = All-head (λ n. n ≤ MOST_PLAIN) n ns a in
+    let l = All-head (λ n. n ≤ MAX_PLAIN) n ns a in
     let h = number_word n (omega (arith, l)) in
-    let t = plain_read ns (All-tail (λ n. n ≤ MOST_PLAIN) n ns a) in
+    let t = plain_read ns (All-tail (λ n. n ≤ MAX_PLAIN) n ns a) in
     let w : is_word (decimal n) ≡ true = rw (h.bytes, h.any) refl in
     record {
       values = ap (λ o. with_item o (plain_numbers (map decimal ns))) h.value ∙ ap (with_item (Some n)) t.values;

@@ -2,7 +2,7 @@
 --
 -- Trusted: what a claim is rests on these definitions.
 use Rattle.std.specs.Prelude.{ℕ, ◌+◌, ℤ, List, [], ◌∷◌, Bool, true, false, cond, nat_lt, ◌&&◌, unsigned_abs, codes, Option, Some, None, bytes_eq, option_and_then}
-use Rattle.om_signs.specs.declared.limits.TheConstants.{MAX_ELEMENTS, MAX_COORDINATE, MAX_MULTIPLICITY, MAX_WEIGHT}
+use Rattle.om_signs.specs.declared.limits.TheConstants.{MAX_ELEMENTS, MAX_COORDINATE, MAX_MULTIPLICITY, MAX_WEIGHT, MAX_PIVOTS, MAX_ROW_NAMED, MAX_PLAIN}
 use Rattle.om_vectors.specs.WholeVectors.{WholeVector}
 use Rattle.om_simplex.specs.declared.stage.Stage.{Stage}
 use Rattle.om_simplex.specs.declared.stage.Stage.TheVariants as stage
@@ -11,7 +11,7 @@ use Rattle.om_certificate.specs.declared.weight.Weight.{Weight}
 use Rattle.om_certificate.specs.declared.lp_end.LpEnd.{LpEnd}
 use Rattle.om_certificate.specs.declared.lp_end.LpEnd.TheVariants as lp_end
 use Rattle.om_text.specs.Words.{plain}
-use Rattle.om_answer.specs.declared.block_lines.TheConstants.{MOST_PIVOTS, MOST_ROW, MOST_PLAIN, TERMS}
+use Rattle.om_answer.specs.declared.block_lines.TheConstants.{TERMS}
 use Rattle.om_answer.specs.declared.range.Range.{Range}
 use Rattle.om_answer.specs.declared.range.Range.TheVariants.{Between, UpToSize}
 use Rattle.om_answer.specs.Numbers.{numbers_within, with_item}
@@ -93,7 +93,7 @@ count_from (n ∷ []) = Some (unsigned_abs n)
 count_from _ = None
 
 abbrev pub pivots_ranges : List Range
-pivots_ranges = Between 0 MOST_PIVOTS ∷ []
+pivots_ranges = Between 0 MAX_PIVOTS ∷ []
 
 -- `pivots P`
 abbrev pub pivots_of : List (List ℕ) → Option ℕ
@@ -127,7 +127,7 @@ width_from s _ = None
 
 -- the number of a pivot, which may be one more than the most pivots, a row and a place
 abbrev pub width_ranges : List Range
-width_ranges = Between 0 (MOST_PIVOTS + 1) ∷ Between 0 MOST_ROW ∷ Between 0 MOST_PLAIN ∷ []
+width_ranges = Between 0 (MAX_PIVOTS + 1) ∷ Between 0 MAX_ROW_NAMED ∷ Between 0 MAX_PLAIN ∷ []
 
 abbrev pub width_after : List (List ℕ) → Option LpEnd
 width_after [] = None

@@ -11,7 +11,7 @@ use Rattle.om_certificate.specs.declared.lp_end.LpEnd.{LpEnd}
 use Rattle.om_certificate.specs.declared.lp_end.LpEnd.TheVariants as lp_end
 use Rattle.om_certificate.specs.declared.verdict.Verdict.{Verdict}
 use Rattle.om_certificate.specs.declared.verdict.Verdict.TheVariants.{Realizable, Nonrealizable, Undecided, Limit}
-use Rattle.om_answer.specs.declared.block_lines.TheConstants.{MOST_PLAIN}
+use Rattle.om_signs.specs.declared.limits.TheConstants.{MAX_PLAIN}
 use Rattle.om_answer.specs.Numbers.{AreIn}
 use Rattle.om_answer.specs.BlockLines.{entry_ranges, weight_ranges, pivots_ranges, width_ranges}
 use Rattle.om_answer.specs.Block.{MOST_VECTORS, MOST_WEIGHTS}
@@ -35,7 +35,7 @@ pub record AreWeightsInForm (ws : List Weight) : Type 0 where
 -- one basis number or more, each of at most six digits
 pub record IsBasisInForm (basis : List ℕ) : Type 0 where
   pub some : 1 ≤ length basis
-  pub plain : All (λ b. b ≤ MOST_PLAIN) basis
+  pub plain : All (λ b. b ≤ MAX_PLAIN) basis
 
 -- a budget of pivots in its range, with a basis
 pub record ArePivotsInForm (count : ℕ) (basis : List ℕ) : Type 0 where

@@ -10,21 +10,14 @@ use super::numbers::{MOST_NUMBERS, numbers_of};
 use super::range::Range;
 use om_certificate::{Entry, LpEnd, Weight};
 use om_grassmann::Statement;
-use om_signs::{MAX_COORDINATE, MAX_ELEMENTS, MAX_MULTIPLICITY, MAX_WEIGHT};
+use om_signs::{
+    MAX_COORDINATE, MAX_ELEMENTS, MAX_MULTIPLICITY, MAX_PIVOTS, MAX_PLAIN, MAX_ROW_NAMED, MAX_WEIGHT,
+};
 use om_simplex::Stage;
 use om_text::lines::{first_word, same};
 use om_vectors::Vector;
 use smallvec::SmallVec;
 use std::alloc::Global;
-
-/// The most pivots of a budget that a line may give.
-pub const MOST_PIVOTS: u64 = 1_000_000;
-
-/// The greatest row of a tableau that a line may give.
-pub const MOST_ROW: u64 = 65_535;
-
-/// The greatest number of six digits.
-pub const MOST_PLAIN: u64 = 999_999;
 
 /// How many terms a statement has.
 pub const TERMS: u64 = 3;
@@ -211,7 +204,7 @@ fn count_of_numbers(numbers: &[i128]) -> Option<u32>
 pub fn pivots_line(alloc: Global, line: &[u8]) -> Option<u32>
     ensures { result ≡ pivots_of (runs line.now) }
 {
-    let ranges = [Range::Between(0, MOST_PIVOTS)];
+    let ranges = [Range::Between(0, MAX_PIVOTS as u64)];
     let numbers = numbers_after(alloc, b"pivots", &ranges, line)?;
     count_of_numbers(numbers.as_slice())
 }
@@ -256,9 +249,9 @@ fn width_of_words(alloc: Global, line: &[u8]) -> Option<LpEnd>
     let (name, rest) = first_word(line)?;
     let stage = stage_of_name(name)?;
     let ranges = [
-        Range::Between(0, MOST_PIVOTS + 1),
-        Range::Between(0, MOST_ROW),
-        Range::Between(0, MOST_PLAIN),
+        Range::Between(0, MAX_PIVOTS as u64 + 1),
+        Range::Between(0, MAX_ROW_NAMED as u64),
+        Range::Between(0, MAX_PLAIN as u64),
     ];
     let numbers = numbers_of(alloc, &ranges, rest)?;
     width_of_numbers(stage, numbers.as_slice())

@@ -6,6 +6,7 @@ ghost use Rattle.om_text.specs.Document.{is_line, end_line};
 ghost use Rattle.om_text.specs.Added.{Gives};
 ghost use Rattle.om_text.specs.Parsed.{ComesTo};
 ghost use Rattle.om_answer.specs.BlockLines.{plain_numbers, vector_of, entry_of, weight_of, pivots_of, basis_of, some_of};
+ghost use Rattle.om_signs.specs.declared.limits.TheConstants.{MAX_READ};
 ghost use Rattle.om_answer.specs.Block.{MOST_VECTORS, MOST_WEIGHTS};
 ghost use Rattle.om_answer.specs.BlockReading.{opened, next_item, another, with_tableau, with_basis, ended, block_step, block_advance, block_outcome};
 
@@ -269,7 +270,7 @@ fn advance(alloc: Global, block: Block, line: &[u8]) -> Result<Block, Refusal>
 
 /// What the bytes of a block come to, after `line` lines before them: a verdict, or the first line at fault.
 pub fn read_block(alloc: Global, bytes: &[u8], line: u32) -> Result<Verdict, ParseError>
-    requires { line + length bytes.now ≤ 2 ^ 32 - 2 }
+    requires { line + length bytes.now ≤ MAX_READ }
     ensures { ComesTo result (block_outcome Block.Empty line (lines bytes.now)) }
 {
     let mut rest = bytes;

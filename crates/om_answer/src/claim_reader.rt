@@ -1,7 +1,7 @@
 //! Reading a claim: a document and then a verdict block.
 
 ghost use Rattle.std.specs.Prelude.{◌≡◌, ℕ, ◌*◌, ◌+◌, ◌-◌, ◌≤◌, ◌^◌, length, IfOk};
-ghost use Rattle.om_signs.specs.declared.limits.TheConstants.{MAX_INPUT};
+ghost use Rattle.om_signs.specs.declared.limits.TheConstants.{MAX_INPUT, MAX_READ};
 ghost use Rattle.om_text.specs.declared.code.Code.{Code};
 ghost use Rattle.om_text.specs.Lines.{lines};
 ghost use Rattle.om_text.specs.Parsed.{ComesTo, IfLine};
@@ -26,7 +26,7 @@ use std::alloc::Global;
 /// claim goes on, with its code. The end of the input counts as the line after the last one. [`ParseError::Memory`] where
 /// memory ran out.
 pub fn read_claim(alloc: Global, bytes: &[u8]) -> Result<Claim, ParseError>
-    requires { length bytes.now ≤ 2 ^ 32 - 2 }
+    requires { length bytes.now ≤ MAX_READ }
     // What is read is a claim, with this value.
     ensures claim { IfOk result (λ c. IsClaim (lines bytes.now) c) }
     // Its document has the forms of documents, within the limits.

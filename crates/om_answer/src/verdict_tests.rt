@@ -2,7 +2,7 @@
 
 ghost use Rattle.std.specs.Prelude.{◌≤◌, All, IfOk};
 ghost use Rattle.om_signs.specs.declared.limits.TheConstants.{MAX_ELEMENTS};
-ghost use Rattle.om_answer.specs.declared.block_lines.TheConstants.{MOST_PLAIN};
+ghost use Rattle.om_signs.specs.declared.limits.TheConstants.{MAX_PLAIN};
 ghost use Rattle.om_answer.specs.VerdictForm.{IsEntryInForm, AreWeightsInForm, IsVerdictInForm, IsBasisInForm};
 
 use super::{print_verdict, read_claim};
@@ -140,8 +140,8 @@ fn four_weights(alloc: Global) -> Result<List<Weight>, NoMemory>
 
 /// Basis numbers with one more.
 fn with_number(basis: List<u32>, number: u32) -> Result<List<u32>, NoMemory>
-    requires small { number ≤ MOST_PLAIN }
-    requires plain { All (λ b. b ≤ MOST_PLAIN) basis }
+    requires small { number ≤ MAX_PLAIN }
+    requires plain { All (λ b. b ≤ MAX_PLAIN) basis }
     ensures { IfOk result IsBasisInForm }
 {
     let mut numbers = basis;

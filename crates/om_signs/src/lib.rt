@@ -16,8 +16,9 @@ mod threads;
 pub use block::Block;
 pub use laws::{orthogonality_by_supports, ties_of_order};
 pub use limits::{
-    MAX_BLOCKS, MAX_COORDINATE, MAX_ELEMENTS, MAX_ENTRIES, MAX_INPUT, MAX_MEMBERS,
-    MAX_MULTIPLICITY, MAX_PLACES, MAX_WEIGHT,
+    MAX_BLOCKS, MAX_BOX, MAX_COLUMNS, MAX_COORDINATE, MAX_ELEMENTS, MAX_ENTRIES, MAX_INPUT,
+    MAX_LINES, MAX_MEMBERS, MAX_MULTIPLICITY, MAX_PIVOTS, MAX_PLACES, MAX_PLAIN, MAX_READ,
+    MAX_ROW_NAMED, MAX_ROWS, MAX_STEPS, MAX_VALUES, MAX_WEIGHT,
 };
 pub use list::List;
 pub use no_memory::NoMemory;

@@ -27,3 +27,33 @@ pub const MAX_WEIGHT: i128 = 1_267_650_600_228_229_401_496_703_205_376;
 
 /// The most entries of a certificate.
 pub const MAX_ENTRIES: usize = 100_000;
+
+/// The most values of a chirotope: those of rank 8 on 16 elements.
+pub const MAX_VALUES: u32 = 12_870;
+
+/// The greatest number that is written with at most six digits.
+pub const MAX_PLAIN: u32 = 999_999;
+
+/// The most bytes that a reader of documents or claims takes, so that it can number their lines.
+pub const MAX_READ: usize = 4_294_967_294;
+
+/// The most rows of a tableau, which are the places of a row: one for each triple of 20 elements, and one.
+pub const MAX_ROWS: u16 = 1_141;
+
+/// The greatest number of a row that a claim may name.
+pub const MAX_ROW_NAMED: u16 = 65_535;
+
+/// The most columns of a tableau.
+pub const MAX_COLUMNS: usize = 200_000;
+
+/// The most pivots of a tableau run; the least is 1.
+pub const MAX_PIVOTS: u32 = 1_000_000;
+
+/// The greatest box of a search for vectors; the least is 1.
+pub const MAX_BOX: u16 = 1_000;
+
+/// The most steps of a search for vectors; the least is 1.
+pub const MAX_STEPS: u64 = 1_000_000_000;
+
+/// The most lines of a listing of extensions; the least is 1.
+pub const MAX_LINES: u64 = 1_000_000;

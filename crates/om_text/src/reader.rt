@@ -1,6 +1,7 @@
 //! Reading documents line by line.
 
 ghost use Rattle.std.specs.Prelude.{◌≡◌, ◌≢◌, ℕ, ◌+◌, ◌<◌, ◌≤◌, ◌^◌, ◌-◌, ◌∷◌, [], length, true, false, IfOk, IfErr};
+ghost use Rattle.om_signs.specs.declared.limits.TheConstants.{MAX_READ};
 ghost use Rattle.om_text.specs.declared.document.Document.{Document};
 ghost use Rattle.om_text.specs.declared.code.Code.{Code};
 ghost use Rattle.om_text.specs.Lines.{runs, lines};
@@ -149,7 +150,7 @@ fn unless_over(state: State, stops: bool) -> Result<State, Document>
 /// What the bytes come to: a document with the number of bytes and of lines that were read, or the first line at fault.
 /// Reading goes on to the end of the bytes, or stops behind the line `end`.
 fn course(alloc: Global, bytes: &[u8], stops: bool) -> Result<(Document, usize, u32), ParseError>
-    requires { length bytes.now ≤ 2 ^ 32 - 2 }
+    requires { length bytes.now ≤ MAX_READ }
     ensures whole { stops ≡ false → IsWhole bytes.now result }
     ensures front { stops ≡ true → IsFront bytes.now result }
 {
@@ -180,7 +181,7 @@ fn course(alloc: Global, bytes: &[u8], stops: bool) -> Result<(Document, usize, 
 
 /// The document that all the bytes are.
 fn whole(alloc: Global, bytes: &[u8]) -> Result<Document, ParseError>
-    requires { length bytes.now ≤ 2 ^ 32 - 2 }
+    requires { length bytes.now ≤ MAX_READ }
     ensures { ComesTo result (outcome State.Start 0 (lines bytes.now)) }
 {
     let (document, _len, _lines) = course(alloc, bytes, false)?;
@@ -203,7 +204,7 @@ fn whole(alloc: Global, bytes: &[u8]) -> Result<Document, ParseError>
 /// which no document goes on, and `code` the first of the list of [`Code`] that holds of this line. The end of the input
 /// counts as the line after the last one, with [`Code::Missing`]. [`ParseError::Memory`] where memory ran out.
 pub fn parse(alloc: Global, bytes: &[u8]) -> Result<Document, ParseError>
-    requires { length bytes.now ≤ 2 ^ 32 - 2 }
+    requires { length bytes.now ≤ MAX_READ }
     // What is read is a document, with this value.
     ensures document { IfOk result (λ d. IsDocument (lines bytes.now) d) }
     // It has the forms of documents, within the limits.
@@ -229,7 +230,7 @@ pub fn parse(alloc: Global, bytes: &[u8]) -> Result<Document, ParseError>
 /// [`ParseError::Line`] exactly where [`parse`] names a line with a code other than [`Code::After`], with the same line and
 /// the same code. [`ParseError::Memory`] where memory ran out.
 pub fn parse_part(alloc: Global, bytes: &[u8]) -> Result<(Document, usize, u32), ParseError>
-    requires { length bytes.now ≤ 2 ^ 32 - 2 }
+    requires { length bytes.now ≤ MAX_READ }
     // The lines read are a document with this value, and the last of them is its end line.
     ensures part { IfOk result (λ r. IsPart bytes.now r.0 r.1 r.2) }
     // It has the forms of documents, within the limits.
