@@ -1,0 +1,11 @@
+/// How far a decision goes before it gives up.
+///
+/// `box_size` is the greatest size of a coordinate that the search tries, from 1 to [`MAX_BOX`](om_signs::MAX_BOX); `steps`
+/// the words that it visits, from 1 to [`MAX_STEPS`](om_signs::MAX_STEPS); `pivots` the pivots of the tableau, from 1 to
+/// [`MAX_PIVOTS`](om_signs::MAX_PIVOTS).
+#[derive(Clone, Copy, Debug, PartialEq, Eq)]
+pub struct Budgets {
+    pub box_size: u16,
+    pub steps: u64,
+    pub pivots: u32,
+}
