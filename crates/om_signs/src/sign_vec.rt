@@ -269,27 +269,29 @@ mod tests {
         SignVec::zero(2).set(1, sign(word[0])).set(2, sign(word[1]))
     }
 
+    fn is_row(x: SignVec, y: SignVec, want: bool) -> bool
+        requires { length x ≡ length y }
+    {
+        x.orthogonal(y) == want && y.orthogonal(x) == want
+    }
+
     #[test]
     fn two_places_in_order(rt: HostRuntime) {
-        for (i, x) in LISTED.iter().enumerate() {
-            for (j, y) in LISTED.iter().enumerate() {
-                assert_eq!(rt; pair(*x).cmp(&pair(*y)), i.cmp(&j), "at {i} and {j}");
-            }
+        for k in 0..8 {
+            assert!(rt; pair(LISTED[k]) < pair(LISTED[k + 1]));
         }
     }
 
     #[test]
     fn prefixes_come_first(rt: HostRuntime) {
         let short = SignVec::zero(1);
-        assert!(rt; short < pair(*b"0-"));
-        assert!(rt; pair(*b"-+") < short);
+        assert!(rt; short < pair(*b"0-") && pair(*b"-+") < short);
     }
 
     #[test]
     fn orthogonal_pairs(rt: HostRuntime) {
         for (x, y, want) in ROWS {
-            assert_eq!(rt; pair(x).orthogonal(pair(y)), want);
-            assert_eq!(rt; pair(y).orthogonal(pair(x)), want);
+            assert!(rt; is_row(pair(x), pair(y), want));
         }
     }
 
@@ -298,29 +300,22 @@ mod tests {
     fn compositions_and_negatives(rt: HostRuntime) {
         let x = pair(*b"+0");
         let y = pair(*b"-+");
-        assert_eq!(rt;
-            [x.compose(y), y.compose(x), y.neg(), y.flip(0b10)],
-            [pair(*b"++"), y, pair(*b"+-"), pair(*b"--")]
-        );
+        let made = [x.compose(y), y.compose(x), y.neg(), y.flip(0b10)];
+        assert!(rt; made == [pair(*b"++"), y, pair(*b"+-"), pair(*b"--")]);
     }
 
     #[test]
     fn places(rt: HostRuntime) {
         let x = pair(*b"+0");
         let y = pair(*b"-+");
-        assert_eq!(rt; [x.separation(y), x.support()], [0b01, 0b01]);
-        assert_eq!(rt; y.drop_place(1).get(1), y.get(2));
-        assert_eq!(rt; y.get(2), Sign::Plus);
+        assert!(rt; x.separation(y) == 0b01 && x.support() == 0b01);
+        assert!(rt; y.get(2) == Sign::Plus && y.drop_place(1).get(1) == Sign::Plus);
     }
 
     #[test]
     fn conformity(rt: HostRuntime) {
         let x = pair(*b"+0");
-        let y = pair(*b"-+");
-        let z = pair(*b"++");
-        assert_eq!(rt;
-            [x.conforms(z), z.conforms(x), x.conforms(y)],
-            [true, false, false]
-        );
+        let y = pair(*b"++");
+        assert!(rt; x.conforms(y) && !y.conforms(x) && !x.conforms(pair(*b"-+")));
     }
 }
