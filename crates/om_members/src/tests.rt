@@ -17,9 +17,10 @@ fn vectors_and_members(rt: HostRuntime) {
 fn negatives(rt: HostRuntime) {
     let zero = SignVec::zero(2);
     let plus = zero.set(1, Sign::Plus);
-    let listed = [plus, zero, plus.neg(), plus.set(2, Sign::Minus)];
-    assert!(rt; first_without_negative(&listed) == Some(3));
-    assert!(rt; first_without_negative(&listed[..3]).is_none());
-    assert!(rt; first_without_negative(&listed[1..2]).is_none());
-    assert!(rt; first_without_negative(&listed[..1]) == Some(0));
+    let minus = plus.neg();
+    let both = plus.set(2, Sign::Minus);
+    assert!(rt; first_without_negative(&[]).is_none());
+    assert!(rt; first_without_negative(&[plus, zero, minus]).is_none());
+    assert!(rt; first_without_negative(&[plus, zero, minus, both]) == Some(3));
+    assert!(rt; first_without_negative(&[zero, plus, both]) == Some(1));
 }

@@ -106,20 +106,14 @@ fn writes(alloc: Global, room: usize, piece: usize, failing: u32, count: usize) 
 #[test]
 fn readings_fail_or_end(rt: HostRuntime) {
     for (failing, limit, first, rest) in READINGS {
-        assert!(rt;
-            reads(rt.alloc(), failing, limit, first, rest),
-            "{failing} {limit}"
-        );
+        assert!(rt; reads(rt.alloc(), failing, limit, first, rest));
     }
 }
 
 #[test]
 fn writings_fail_or_end(rt: HostRuntime) {
     for (room, piece, failing, count) in WRITINGS {
-        assert!(rt;
-            writes(rt.alloc(), room, piece, failing, count),
-            "{room} {failing}"
-        );
+        assert!(rt; writes(rt.alloc(), room, piece, failing, count));
     }
 }
 
