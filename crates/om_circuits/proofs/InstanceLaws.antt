@@ -1,6 +1,6 @@
 -- From the scans to the axioms and to the first violated instance.
 --
--- Main results: axioms_met: where no scan finds an instance, the axioms hold; first_nested_violated, first_stuck_violated: what a scan finds is
+-- Main results: axioms_met: where no scan finds an instance, the axioms hold; first_nested_violated, first_blocked_violated: what a scan finds is
 -- the first violated instance; violated_breaks: a violated instance breaks the axioms.
 use Rattle.std.proofs.Common.{ℕ, ◌≡◌, ◌≢◌, ◌+◌, ◌-◌, ◌≤◌, List, [], ◌∷◌, length, sym, subst, arith, inl, inr}
 use Rattle.std.specs.List.{Contains}
@@ -14,7 +14,7 @@ use Rattle.om_members.specs.Listings.{HaveLength}
 use Rattle.om_members.specs.Positions.{IsPosition, IsBefore}
 use Rattle.om_circuits.specs.Instances.{IsNestedIn, HasNoEliminator, IsViolated, key, IsFirstViolated}
 use Rattle.om_members.specs.Scans.{nth, AllBelow, IsFirstBadPair, HasNegativeAt}
-use Rattle.om_circuits.specs.Scans.{IsNotZeroAt, IsUnnestedIn, HasEliminatorIfAsked, AreNestedAt, AreUnnestedAt, IsFreeAt, IsFirstStuck}
+use Rattle.om_circuits.specs.Scans.{IsNotZeroAt, IsUnnestedIn, HasEliminatorIfAsked, AreNestedAt, AreUnnestedAt, IsUnblockedAt, IsFirstBlocked}
 use Rattle.om_circuits.proofs.MaskLaws.{element_within}
 use Rattle.om_members.proofs.OrderLaws.{same_number, greater_number, last_number}
 use Rattle.om_members.proofs.ScanLaws.{nth_contained, contains_nth}
@@ -24,8 +24,8 @@ use Rattle.om_members.proofs.ScanLaws.{nth_contained, contains_nth}
 not_both_nested : (X Y : List Sign) → IsUnnestedIn X Y → IsNestedIn X Y → ⊥
 not_both_nested X Y h v = elim (h v.within) [ inl e ↦ v.other e | inr e ↦ v.not_negative e ]
 
-not_both_stuck : (members : List (List Sign)) (X Y : List Sign) (e : ℕ) → HasEliminatorIfAsked members X Y e → HasNoEliminator members X Y e → ⊥
-not_both_stuck members X Y e h v = v.none (h v.element v.not_negative v.opposed)
+not_both_blocked : (members : List (List Sign)) (X Y : List Sign) (e : ℕ) → HasEliminatorIfAsked members X Y e → HasNoEliminator members X Y e → ⊥
+not_both_blocked members X Y e h v = v.none (h v.element v.not_negative v.opposed)
 
 module _ (members : List (List Sign)) where
   none_zero : AllBelow (length members) (IsNotZeroAt members) → (i : ℕ) → IsViolated members (Zero i) → ⊥
@@ -40,17 +40,17 @@ module _ (members : List (List Sign)) where
       not_both_nested (nth members (i - 1)) (nth members (j - 1)) (h (i - 1) (omega arith) (j - 1) (omega arith)) v.2
 
   module _ (n : ℕ) (lengths : HaveLength n members) where
-    none_stuck_at : (i j e : ℕ) → IsPosition members i → IsPosition members j → IsFreeAt members n (i - 1) → HasNoEliminator members (nth members (i - 1)) (nth members (j - 1)) e → ⊥
-    none_stuck_at i j e p q h v =
+    none_blocked_at : (i j e : ℕ) → IsPosition members i → IsPosition members j → IsUnblockedAt members n (i - 1) → HasNoEliminator members (nth members (i - 1)) (nth members (j - 1)) e → ⊥
+    none_blocked_at i j e p q h v =
         let a = p.0 in let b = p.1 in let c = q.0 in let d = q.1 in
         let l : length (nth members (i - 1)) ≡ n = lengths (i - 1) [] (omega arith) in
-        not_both_stuck members (nth members (i - 1)) (nth members (j - 1)) e (h (j - 1) (omega arith) e (element_within (nth members (i - 1)) e n l v.opposed.plus)) v
+        not_both_blocked members (nth members (i - 1)) (nth members (j - 1)) e (h (j - 1) (omega arith) e (element_within (nth members (i - 1)) e n l v.opposed.plus)) v
 
     -- ---- the first violated instance
 
-    pub first_stuck_violated : (i j e : ℕ) → AllBelow (length members) (IsNotZeroAt members) → AllBelow (length members) (HasNegativeAt members) → AllBelow (length members) (λ i. AllBelow (length members) (AreUnnestedAt members i))
-        → IsFirstStuck members n i j e → IsFirstViolated members (NoElimination (i + 1) (j + 1) e)
-    first_stuck_violated i j e hz hn hs f = record { violated = ((omega arith, here), (omega arith, there), stuck); first = before }
+    pub first_blocked_violated : (i j e : ℕ) → AllBelow (length members) (IsNotZeroAt members) → AllBelow (length members) (HasNegativeAt members) → AllBelow (length members) (λ i. AllBelow (length members) (AreUnnestedAt members i))
+        → IsFirstBlocked members n i j e → IsFirstViolated members (NoElimination (i + 1) (j + 1) e)
+    first_blocked_violated i j e hz hn hs f = record { violated = ((omega arith, here), (omega arith, there), blocked); first = before }
       where
         here : i + 1 ≤ length members
         here = let l = f.within in omega arith
@@ -58,8 +58,8 @@ module _ (members : List (List Sign)) where
         there : j + 1 ≤ length members
         there = let l = f.rest.within in omega arith
 
-        stuck : HasNoEliminator members (nth members (i + 1 - 1)) (nth members (j + 1 - 1)) e
-        stuck =
+        blocked : HasNoEliminator members (nth members (i + 1 - 1)) (nth members (j + 1 - 1)) e
+        blocked =
             let a : i ≡ i + 1 - 1 = omega arith in
             let b : j ≡ j + 1 - 1 = omega arith in
             subst (λ k. HasNoEliminator members (nth members k) (nth members (j + 1 - 1)) e) a (subst (λ k. HasNoEliminator members (nth members i) (nth members k) e) b f.rest.second.bad)
@@ -69,15 +69,15 @@ module _ (members : List (List Sign)) where
         later b d (inl lt) p v =
             let l : length (nth members i) ≡ n = lengths i [] f.within in
             let low = p.0 in
-            not_both_stuck members (nth members i) (nth members (b - 1)) d (f.rest.before (b - 1) (omega arith) d (element_within (nth members i) d n l v.opposed.plus)) v
+            not_both_blocked members (nth members i) (nth members (b - 1)) d (f.rest.before (b - 1) (omega arith) d (element_within (nth members i) d n l v.opposed.plus)) v
         later b d (inr (q, o)) p v =
             let lt = last_number d e o in
             let e' : b - 1 ≡ j = omega arith in
-            not_both_stuck members (nth members i) (nth members j) d (f.rest.second.before d lt) (subst (λ k. HasNoEliminator members (nth members i) (nth members k) d) e' v)
+            not_both_blocked members (nth members i) (nth members j) d (f.rest.second.before d lt) (subst (λ k. HasNoEliminator members (nth members i) (nth members k) d) e' v)
 
         -- an instance of the same axiom
         same : (a b d : ℕ) → IsBefore (a ∷ b ∷ d ∷ []) ((i + 1) ∷ (j + 1) ∷ e ∷ []) → IsViolated members (NoElimination a b d) → ⊥
-        same a b d (inl lt) v = let p = v.0.0 in none_stuck_at a b d v.0 v.1 (f.before (a - 1) (omega arith)) v.2
+        same a b d (inl lt) v = let p = v.0.0 in none_blocked_at a b d v.0 v.1 (f.before (a - 1) (omega arith)) v.2
         same a b d (inr (q, o)) v =
             let e' : a - 1 ≡ i = omega arith in
             later b d o v.1 (subst (λ k. HasNoEliminator members (nth members k) (nth members (b - 1)) d) e' v.2)
@@ -128,7 +128,7 @@ module _ (members : List (List Sign)) where
   of_members P h X Y x y = subst (λ Z. P Z Y) (nth_contained members X x) (subst (λ Z. P (nth members x.0) Z) (nth_contained members Y y) (h x.0 x.1 y.0 y.1))
 
   pub axioms_met : (n : ℕ) → HaveLength n members → AllBelow (length members) (IsNotZeroAt members) → AllBelow (length members) (HasNegativeAt members) → AllBelow (length members) (λ i. AllBelow (length members) (AreUnnestedAt members i))
-      → AllBelow (length members) (IsFreeAt members n) → MeetsCircuitAxioms members
+      → AllBelow (length members) (IsUnblockedAt members n) → MeetsCircuitAxioms members
   axioms_met n lengths hz hn hs hf = record {
     no_zero = λ X x z. hz x.0 x.1 (subst IsZero (sym (nth_contained members X x)) z);
     symmetric = λ X x. subst (λ Z. Contains members (negated Z)) (nth_contained members X x) (hn x.0 x.1);

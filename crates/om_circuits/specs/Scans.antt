@@ -44,27 +44,27 @@ abbrev pub HasWithin : List (List Sign) → ℕ → ℕ → Type 0
 HasWithin members plus minus = (Z : List Sign) × Contains members Z × IsWithin plus minus Z
 
 -- the axiom of elimination is violated by a vector, the member at a place, and an element
-abbrev pub IsStuckWith : List (List Sign) → List Sign → ℕ → ℕ → Type 0
-IsStuckWith members X j e = HasNoEliminator members X (nth members j) e
+abbrev pub IsBlockedWith : List (List Sign) → List Sign → ℕ → ℕ → Type 0
+IsBlockedWith members X j e = HasNoEliminator members X (nth members j) e
 
 -- the axiom of elimination, of a vector, the member at a place, and an element
-abbrev pub IsFreeWith : List (List Sign) → List Sign → ℕ → ℕ → Type 0
-IsFreeWith members X j e = HasEliminatorIfAsked members X (nth members j) e
+abbrev pub IsUnblockedWith : List (List Sign) → List Sign → ℕ → ℕ → Type 0
+IsUnblockedWith members X j e = HasEliminatorIfAsked members X (nth members j) e
 
 -- the axiom of elimination, of a vector and each member, up to element n
-abbrev pub IsFree : List (List Sign) → ℕ → List Sign → Type 0
-IsFree members n X = AllBelow (length members) (λ j. AllBelow (n + 1) (IsFreeWith members X j))
+abbrev pub IsUnblocked : List (List Sign) → ℕ → List Sign → Type 0
+IsUnblocked members n X = AllBelow (length members) (λ j. AllBelow (n + 1) (IsUnblockedWith members X j))
 
 -- the same of the member at a place and each member
-abbrev pub IsFreeAt : List (List Sign) → ℕ → ℕ → Type 0
-IsFreeAt members n i = IsFree members n (nth members i)
+abbrev pub IsUnblockedAt : List (List Sign) → ℕ → ℕ → Type 0
+IsUnblockedAt members n i = IsUnblocked members n (nth members i)
 
 -- the first member and element with which a vector violates the axiom of elimination
-abbrev pub IsFirstStuckWith : List (List Sign) → ℕ → List Sign → ℕ → ℕ → Type 0
-IsFirstStuckWith members n X = IsFirstBadPair (length members) (n + 1) (IsStuckWith members X) (IsFreeWith members X)
+abbrev pub IsFirstBlockedWith : List (List Sign) → ℕ → List Sign → ℕ → ℕ → Type 0
+IsFirstBlockedWith members n X = IsFirstBadPair (length members) (n + 1) (IsBlockedWith members X) (IsUnblockedWith members X)
 
 -- the first two members and element that violate the axiom of elimination
-pub record IsFirstStuck (members : List (List Sign)) (n i j e : ℕ) : Type 0 where
+pub record IsFirstBlocked (members : List (List Sign)) (n i j e : ℕ) : Type 0 where
   pub within : i < length members
-  pub rest : IsFirstStuckWith members n (nth members i) j e
-  pub before : AllBelow i (IsFreeAt members n)
+  pub rest : IsFirstBlockedWith members n (nth members i) j e
+  pub before : AllBelow i (IsUnblockedAt members n)

@@ -6,7 +6,7 @@ ghost use Rattle.om_members.specs.Listings.{HaveLength, AreDistinct};
 ghost use Rattle.om_circuits.specs.Instances.{IsFirstViolated};
 
 use super::bad_set::BadSet;
-use super::elimination::first_stuck;
+use super::elimination::first_blocked;
 use super::set_refused::SetRefused;
 use super::signed_set::SignedSet;
 use super::supports::{first_nested, first_zero};
@@ -34,7 +34,7 @@ fn first_violated(members: &[SignVec], elements: u8) -> Option<SetRefused>
             j: j as u32 + 1,
         });
     }
-    let (i, j, e) = first_stuck(members, elements)?;
+    let (i, j, e) = first_blocked(members, elements)?;
     Some(SetRefused::NoElimination {
         i: i as u32 + 1,
         j: j as u32 + 1,

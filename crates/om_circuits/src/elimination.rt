@@ -3,7 +3,7 @@
 ghost use Rattle.std.specs.Prelude.{◌↔◌, ◌+◌, ◌≤◌, ◌<◌, length, IsTrue, IfSome, IfNone};
 ghost use Rattle.om_circuits.specs.Instances.{HasNoEliminator};
 ghost use Rattle.om_members.specs.Scans.{AllBelow, IsFirstBad};
-ghost use Rattle.om_circuits.specs.Scans.{IsWithin, HasWithin, HasEliminatorIfAsked, IsFree, IsFreeAt, IsFirstStuckWith, IsFirstStuck};
+ghost use Rattle.om_circuits.specs.Scans.{IsWithin, HasWithin, HasEliminatorIfAsked, IsUnblocked, IsUnblockedAt, IsFirstBlockedWith, IsFirstBlocked};
 
 use om_members::are_same;
 use om_signs::{MAX_ELEMENTS, SignVec};
@@ -28,7 +28,7 @@ fn has_within(members: &[SignVec], plus: u32, minus: u32) -> bool
 }
 
 /// The first element that no member eliminates from x and y.
-fn first_stuck_element(members: &[SignVec], elements: u8, x: SignVec, y: SignVec) -> Option<u8>
+fn first_blocked_element(members: &[SignVec], elements: u8, x: SignVec, y: SignVec) -> Option<u8>
     requires { elements ≤ MAX_ELEMENTS }
     ensures none { IfNone result (AllBelow (elements + 1) (HasEliminatorIfAsked members.now x y)) }
     ensures first { IfSome result (IsFirstBad (elements + 1) (HasNoEliminator members.now x y) (HasEliminatorIfAsked members.now x y)) }
@@ -49,13 +49,13 @@ fn first_stuck_element(members: &[SignVec], elements: u8, x: SignVec, y: SignVec
 }
 
 /// The place of the first member from which and x some element can't be eliminated, and the element.
-fn first_stuck_with(members: &[SignVec], elements: u8, x: SignVec) -> Option<(usize, u8)>
+fn first_blocked_with(members: &[SignVec], elements: u8, x: SignVec) -> Option<(usize, u8)>
     requires { elements ≤ MAX_ELEMENTS }
-    ensures none { IfNone result (IsFree members.now elements x) }
-    ensures first { IfSome result (λ p. IsFirstStuckWith members.now elements x p.0 p.1) }
+    ensures none { IfNone result (IsUnblocked members.now elements x) }
+    ensures first { IfSome result (λ p. IsFirstBlockedWith members.now elements x p.0 p.1) }
 {
     for (j, y) in members.iter().enumerate() {
-        if let Some(e) = first_stuck_element(members, elements, x, *y) {
+        if let Some(e) = first_blocked_element(members, elements, x, *y) {
             return Some((j, e));
         }
     }
@@ -63,13 +63,13 @@ fn first_stuck_with(members: &[SignVec], elements: u8, x: SignVec) -> Option<(us
 }
 
 /// The places of the first two members from which some element can't be eliminated, and the element.
-pub fn first_stuck(members: &[SignVec], elements: u8) -> Option<(usize, usize, u8)>
+pub fn first_blocked(members: &[SignVec], elements: u8) -> Option<(usize, usize, u8)>
     requires { elements ≤ MAX_ELEMENTS }
-    ensures none { IfNone result (AllBelow (length members.now) (IsFreeAt members.now elements)) }
-    ensures first { IfSome result (λ t. IsFirstStuck members.now elements t.0 t.1 t.2) }
+    ensures none { IfNone result (AllBelow (length members.now) (IsUnblockedAt members.now elements)) }
+    ensures first { IfSome result (λ t. IsFirstBlocked members.now elements t.0 t.1 t.2) }
 {
     for (i, x) in members.iter().enumerate() {
-        if let Some((j, e)) = first_stuck_with(members, elements, *x) {
+        if let Some((j, e)) = first_blocked_with(members, elements, *x) {
             return Some((i, j, e));
         }
     }

@@ -29,7 +29,7 @@ fn is_nested(x: SignVec, y: SignVec) -> bool
 }
 
 /// The place of the first member in which x is nested.
-fn first_around(members: &[SignVec], x: SignVec) -> Option<usize>
+fn first_nested_with(members: &[SignVec], x: SignVec) -> Option<usize>
     ensures none { IfNone result (AllBelow (length members.now) (λ j. IsUnnestedIn x (nth members.now j))) }
     ensures first { IfSome result (IsFirstBad (length members.now) (λ j. IsNestedIn x (nth members.now j)) (λ j. IsUnnestedIn x (nth members.now j))) }
 {
@@ -47,7 +47,7 @@ pub fn first_nested(members: &[SignVec]) -> Option<(usize, usize)>
     ensures first { IfSome result (λ p. IsFirstBadPair (length members.now) (length members.now) (AreNestedAt members.now) (AreUnnestedAt members.now) p.0 p.1) }
 {
     for (i, x) in members.iter().enumerate() {
-        if let Some(j) = first_around(members, *x) {
+        if let Some(j) = first_nested_with(members, *x) {
             return Some((i, j));
         }
     }

@@ -12,20 +12,20 @@ use om_covectors::Covectors;
 use std::alloc::Global;
 
 /// The cocircuits of the oriented matroid with these covectors: its nonzero covectors of minimal support, in the order in
-/// which the covectors were listed. Both have the same elements and denote the same oriented matroid. The list takes its
-/// memory from `alloc`.
+/// which the covectors were listed. Both have the same elements and denote the same oriented matroid. The list has the
+/// allocator of the covectors' own list, so this call leaves the one that it is passed, as the other conversions are.
 ///
 /// [`ConvertError::Memory`] comes only for want of memory, and [`ConvertError::TooMany`] never: there are no more
 /// cocircuits than covectors.
 ///
 /// Source: Björner, Las Vergnas, Sturmfels, White and Ziegler, *Oriented Matroids*, chapters 3 and 4.
-pub fn covectors_to_cocircuits(alloc: Global, c: &Covectors) -> Result<Cocircuits, ConvertError>
+pub fn covectors_to_cocircuits(_alloc: Global, c: &Covectors) -> Result<Cocircuits, ConvertError>
     ensures elements { IfOk result (λ d. d.0.elements ≡ c.now.elements) }
     ensures members { IfOk result (λ d. AreThose (IsMinimal c.now.members) c.now.members d.0.members) }
     ensures same { IfOk result (λ d.
         DenoteTheSame c.now.elements (Contains c.now.members) (IsCovectorOfCocircuits d.0)) }
     ensures memory { IsOkUnless result ConvertError.Memory }
 {
-    let minimal = c.minimal(alloc)?;
+    let minimal = c.minimal()?;
     Ok(Cocircuits(SignedSet::lawful(c.elements(), minimal)))
 }

@@ -8,7 +8,6 @@ ghost use Rattle.om_covectors.specs.Minimality.{IsMinimal, AreThose};
 use super::minimality::is_minimal;
 use om_members::is_member;
 use om_signs::{List, MAX_ELEMENTS, MAX_MEMBERS, NoMemory, SignVec};
-use std::alloc::Global;
 use std::marker::Model;
 
 /// An oriented matroid by its covectors: a finite set of sign vectors that meets the axioms of covectors. Its members are
@@ -79,16 +78,16 @@ impl Covectors {
     }
 
     /// The nonzero members of minimal support, in the order in which they were listed. They are the cocircuits of the
-    /// oriented matroid. The list takes its memory from `alloc`.
+    /// oriented matroid. The list has the allocator of the covectors' own list.
     ///
     /// [`NoMemory`] comes only for want of memory.
     ///
     /// Source: Björner, Las Vergnas, Sturmfels, White and Ziegler, *Oriented Matroids*, chapters 3 and 4.
-    pub fn minimal(&self, alloc: Global) -> Result<List<SignVec>, NoMemory>
+    pub fn minimal(&self) -> Result<List<SignVec>, NoMemory>
         ensures { IfOk result (AreThose (IsMinimal self.now.members) self.now.members) }
     {
         let members = self.list.as_slice();
-        let mut least = List::new(alloc);
+        let mut least = self.list.empty_like();
         for x in members {
             if is_minimal(members, *x) {
                 least.push(*x)?;

@@ -7,7 +7,7 @@ use super::{CovRefused, check};
 use om_members::is_member;
 use om_signs::{List, MAX_ELEMENTS, MAX_MEMBERS, NoMemory, Sign, SignVec};
 use std::alloc::Global;
-use std::test::Fail;
+use std::thread::Threads;
 
 /// The vector of a word of signs; where the word is too short, the rest is zero.
 fn vector_of(elements: u8, word: &[u8]) -> SignVec
@@ -52,63 +52,86 @@ const PLANE: &[&str] = &[
     "000", "+++", "0++", "---", "0--", "++-", "+0-", "--+", "-0+", "+--", "++0", "-++", "--0",
 ];
 
-#[test]
-fn lists_are_accepted_or_refused(rt: HostRuntime) -> Result<(), Fail> {
-    for (elements, words, wanted) in [
-        (1, &[][..], Some(CovRefused::NoZero)),
-        (1, &["+", "-"], Some(CovRefused::NoZero)),
-        (1, &["0", "+"], Some(CovRefused::NoNegative { i: 2 })),
-        (
-            2,
-            &["00", "+0", "-0", "0+", "0-"],
-            Some(CovRefused::NoComposition { i: 2, j: 4 }),
-        ),
-        (
-            2,
-            &["00", "++", "--", "+-", "-+"],
-            Some(CovRefused::NoElimination { i: 2, j: 4, e: 2 }),
-        ),
-        (
-            3,
-            &[
-                "000", "+++", "0++", "---", "0--", "++-", "--+", "+--", "++0", "-++", "--0",
-            ],
-            Some(CovRefused::NoElimination { i: 2, j: 5, e: 2 }),
-        ),
-        (1, &["0"], None),
-        (1, &["0", "+", "-"], None),
-        (3, &["000", "+00", "-00"], None),
-        (3, PLANE, None),
-    ] {
-        let list = list_of(rt.alloc(), elements, words)?;
-        let count = list.len();
-        let refused = match check(&rt, elements, list) {
+const ROWS: [(u8, &[&str], Option<CovRefused>); 10] = [
+    (1, &[], Some(CovRefused::NoZero)),
+    (1, &["+", "-"], Some(CovRefused::NoZero)),
+    (1, &["0", "+"], Some(CovRefused::NoNegative { i: 2 })),
+    (2, &["00", "+0", "-0", "0+", "0-"], Some(CovRefused::NoComposition { i: 2, j: 4 })),
+    (2, &["00", "++", "--", "+-", "-+"], Some(CovRefused::NoElimination { i: 2, j: 4, e: 2 })),
+    (
+        3,
+        &[
+            "000", "+++", "0++", "---", "0--", "++-", "--+", "+--", "++0", "-++", "--0",
+        ],
+        Some(CovRefused::NoElimination { i: 2, j: 5, e: 2 }),
+    ),
+    (1, &["0"], None),
+    (1, &["0", "+", "-"], None),
+    (3, &["000", "+00", "-00"], None),
+    (3, PLANE, None),
+];
+
+// Lists of covectors of three elements, and their members of minimal support.
+const LEAST: [(&[&str], &[&str]); 3] = [
+    (&["000"], &[]),
+    (&["000", "+00", "-00"], &["+00", "-00"]),
+    (PLANE, &["0++", "0--", "+0-", "-0+", "++0", "--0"]),
+];
+
+/// Whether the test of the vectors of some words, which are distinct, has the wanted answer; accepted covectors are as they
+/// were listed.
+fn is_answered<R: Threads + Sync>(
+    rt: &R,
+    alloc: Global,
+    elements: u8,
+    words: &[&str],
+    wanted: Option<CovRefused>,
+) -> bool {
+    let elements = elements.clamp(1, MAX_ELEMENTS);
+    match list_of(alloc, elements, words) {
+        Ok(list) => match check(rt, elements, list) {
             Ok(covectors) => {
-                assert_eq!(rt; covectors.elements(), elements);
-                assert_eq!(rt; covectors.members().len(), count);
-                assert_eq!(rt; covectors.into_list().len(), count);
-                None
+                wanted.is_none()
+                    && covectors.elements() == elements
+                    && covectors.members().len() == words.len()
+                    && covectors.into_list().len() == words.len()
             }
-            Err(bad) => Some(bad.why),
-        };
-        assert_eq!(rt; refused, wanted, "of {elements} elements");
+            Err(bad) => wanted == Some(bad.why),
+        },
+        Err(_) => false,
     }
-    Ok(())
+}
+
+/// The members of minimal support of the covectors of some words; of a list that is refused, the list.
+fn least<R: Threads + Sync>(
+    rt: &R,
+    alloc: Global,
+    words: &[&str],
+) -> Result<List<SignVec>, NoMemory> {
+    match check(rt, 3, list_of(alloc, 3, words)?) {
+        Ok(covectors) => covectors.minimal(),
+        Err(bad) => Ok(bad.list),
+    }
+}
+
+/// Whether two lists that were made hold the same vectors in the same order.
+fn are_equal(xs: Result<List<SignVec>, NoMemory>, ys: Result<List<SignVec>, NoMemory>) -> bool {
+    match (xs, ys) {
+        (Ok(xs), Ok(ys)) => xs.as_slice() == ys.as_slice(),
+        _ => false,
+    }
 }
 
 #[test]
-fn members_of_minimal_support(rt: HostRuntime) -> Result<(), Fail> {
-    for (words, wanted) in [
-        (&["000"][..], &[][..]),
-        (&["000", "+00", "-00"], &["+00", "-00"]),
-        (PLANE, &["0++", "0--", "+0-", "-0+", "++0", "--0"]),
-    ] {
-        let wanted = list_of(rt.alloc(), 3, wanted)?;
-        let least = match check(&rt, 3, list_of(rt.alloc(), 3, words)?) {
-            Ok(covectors) => covectors.minimal(rt.alloc())?,
-            Err(bad) => bad.list,
-        };
-        assert!(rt; least.as_slice() == wanted.as_slice());
+fn lists_are_accepted_or_refused(rt: HostRuntime) {
+    for (elements, words, wanted) in ROWS {
+        assert!(rt; is_answered(&rt, rt.alloc(), elements, words, wanted));
     }
-    Ok(())
+}
+
+#[test]
+fn members_of_minimal_support(rt: HostRuntime) {
+    for (words, wanted) in LEAST {
+        assert!(rt; are_equal(least(&rt, rt.alloc(), words), list_of(rt.alloc(), 3, wanted)));
+    }
 }

@@ -1,12 +1,10 @@
 //! Failures at each call and at each byte, against what a reader or a writer by hand would get.
 
-ghost use Rattle.std.specs.Prelude.{◌≤◌};
-
 use super::{
-    CountSink, MemSink, MemSource, ReadError, StdSink, StdSource, SureSource, WriteFault, read_all,
-    write_all,
+    CountSink, MemSink, MemSource, ReadError, Sink, Source, StdSink, StdSource, SureSource,
+    WriteFault, read_all, write_all,
 };
-use om_signs::{List, NoMemory};
+use om_signs::{List, MAX_INPUT, NoMemory};
 use std::alloc::Global;
 
 // Five bytes.
@@ -15,6 +13,36 @@ const TEXT: &[u8] = b"om 1\n";
 type Read = Result<Vec<u8>, ReadError>;
 
 type Want = Result<&'static [u8], ReadError>;
+
+// The text in pieces of two with a limit, where one call fails: what the first and the second reading give. The first six
+// fail at each call in turn, the others end around the length of the text.
+const READINGS: [(u32, usize, Want, Want); 10] = [
+    (1, 10, Err(ReadError::ReadFault), Ok(b"om 1\n")),
+    (2, 10, Err(ReadError::ReadFault), Ok(b" 1\n")),
+    (3, 10, Err(ReadError::ReadFault), Ok(b"\n")),
+    (4, 10, Err(ReadError::ReadFault), Ok(b"")),
+    (5, 10, Ok(b"om 1\n"), Err(ReadError::ReadFault)),
+    (6, 10, Ok(b"om 1\n"), Ok(b"")),
+    (100, 5, Ok(b"om 1\n"), Ok(b"")),
+    (100, 4, Err(ReadError::TooLong), Ok(b"")),
+    (100, 3, Err(ReadError::TooLong), Ok(b"\n")),
+    (100, 0, Err(ReadError::TooLong), Err(ReadError::TooLong)),
+];
+
+// The text written to a room in pieces, where one call fails: how many of its bytes are taken. The first four fail at each
+// call in turn, the others have a room that ends at each byte.
+const WRITINGS: [(usize, usize, u32, usize); 10] = [
+    (10, 2, 1, 0),
+    (10, 2, 2, 2),
+    (10, 2, 3, 4),
+    (10, 2, 4, 5),
+    (0, 10, 100, 0),
+    (1, 10, 100, 1),
+    (2, 10, 100, 2),
+    (3, 10, 100, 3),
+    (4, 10, 100, 4),
+    (5, 10, 100, 5),
+];
 
 // The list of one number.
 fn only(alloc: Global, call: u32) -> Result<List<u32>, NoMemory> {
@@ -31,110 +59,80 @@ fn is_read(read: Read, want: Want) -> bool {
     }
 }
 
-// What is read of the text, given in pieces of two, where one call fails, and what is read after that.
-fn read_twice(alloc: Global, failing: u32, limit: usize) -> Result<(Read, Read), NoMemory>
-    requires { limit ≤ 10 }
-{
+// Whether a source gives this up to its end or the limit.
+fn gives<S: Source>(alloc: Global, source: &mut S, limit: usize, want: Want) -> bool {
+    is_read(read_all(alloc, source, limit.min(MAX_INPUT)), want)
+}
+
+// The text in pieces of two, where one call fails.
+fn source(alloc: Global, failing: u32) -> Result<MemSource, NoMemory> {
     let bytes = Vec::from_slice(alloc, TEXT)?;
-    let mut source = MemSource::new(bytes, 2, only(alloc, failing)?);
-    let first = read_all(alloc, &mut source, limit);
-    let rest = read_all(alloc, &mut source, limit);
-    Ok((first, rest))
+    Ok(MemSource::new(bytes, 2, only(alloc, failing)?))
 }
 
-// The answer to writing the text in pieces of at most `piece`, and the sink.
-fn written(
-    alloc: Global,
-    room: usize,
-    piece: usize,
-    failing: u32,
-) -> Result<(Result<(), WriteFault>, MemSink), NoMemory>
-    requires { 1 ≤ piece }
-{
-    let mut sink = MemSink::new(alloc, room, piece, only(alloc, failing)?)?;
-    let answer = write_all(&mut sink, TEXT);
-    Ok((answer, sink))
+// Whether the first and the second reading give this.
+fn reads(alloc: Global, failing: u32, limit: usize, first: Want, rest: Want) -> bool {
+    match source(alloc, failing) {
+        Ok(mut source) => {
+            gives(alloc, &mut source, limit, first) && gives(alloc, &mut source, limit, rest)
+        }
+        Err(_) => false,
+    }
 }
 
-#[test]
-fn a_read_fails_at_each_call(rt: HostRuntime) {
-    let table: [(u32, Want, Want); 6] = [
-        (1, Err(ReadError::ReadFault), Ok(b"om 1\n")),
-        (2, Err(ReadError::ReadFault), Ok(b" 1\n")),
-        (3, Err(ReadError::ReadFault), Ok(b"\n")),
-        (4, Err(ReadError::ReadFault), Ok(b"")),
-        (5, Ok(b"om 1\n"), Err(ReadError::ReadFault)),
-        (6, Ok(b"om 1\n"), Ok(b"")),
-    ];
-    for (failing, first, rest) in table {
-        let (a, b) = read_twice(rt.alloc(), failing, 10).expect(&rt, "memory");
-        assert!(rt; is_read(a, first), "call {failing}");
-        assert!(rt; is_read(b, rest), "after call {failing}");
+// Whether a sink takes this many bytes of the text, and says so.
+fn takes<K: Sink>(sink: &mut K, count: usize) -> bool {
+    match write_all(sink, TEXT) {
+        Ok(()) => count == TEXT.len(),
+        Err(WriteFault { written }) => written == count && count < TEXT.len(),
+    }
+}
+
+// A room in memory, which takes pieces of at most `piece`, where one call fails.
+fn sink(alloc: Global, room: usize, piece: usize, failing: u32) -> Result<MemSink, NoMemory> {
+    MemSink::new(alloc, room, piece.max(1), only(alloc, failing)?)
+}
+
+// Whether this many bytes are taken, and are the first ones of the text.
+fn writes(alloc: Global, room: usize, piece: usize, failing: u32, count: usize) -> bool {
+    match sink(alloc, room, piece, failing) {
+        Ok(mut sink) => {
+            takes(&mut sink, count) && sink.bytes() == &TEXT[..count.min(TEXT.len())]
+        }
+        Err(_) => false,
     }
 }
 
 #[test]
-fn a_limit_takes_one_byte_more(rt: HostRuntime) {
-    let table: [(usize, Want, Want); 4] = [
-        (5, Ok(b"om 1\n"), Ok(b"")),
-        (4, Err(ReadError::TooLong), Ok(b"")),
-        (3, Err(ReadError::TooLong), Ok(b"\n")),
-        (0, Err(ReadError::TooLong), Err(ReadError::TooLong)),
-    ];
-    for (limit, first, rest) in table {
-        let (a, b) = read_twice(rt.alloc(), 100, limit).expect(&rt, "memory");
-        assert!(rt; is_read(a, first), "limit {limit}");
-        assert!(rt; is_read(b, rest), "after limit {limit}");
+fn readings_fail_or_end(rt: HostRuntime) {
+    for (failing, limit, first, rest) in READINGS {
+        assert!(rt; reads(rt.alloc(), failing, limit, first, rest));
     }
 }
 
 #[test]
-fn a_write_fails_at_each_call(rt: HostRuntime) {
-    for (failing, count) in [(1, 0), (2, 2), (3, 4)] {
-        let (answer, sink) = written(rt.alloc(), 10, 2, failing).expect(&rt, "memory");
-        assert_eq!(rt;
-            answer,
-            Err(WriteFault { written: count }),
-            "call {failing}"
-        );
-        assert!(rt; sink.bytes() == &TEXT[..count], "call {failing}");
+fn writings_fail_or_end(rt: HostRuntime) {
+    for (room, piece, failing, count) in WRITINGS {
+        assert!(rt; writes(rt.alloc(), room, piece, failing, count));
     }
-    let (answer, sink) = written(rt.alloc(), 10, 2, 4).expect(&rt, "memory");
-    assert_eq!(rt; answer, Ok(()));
-    assert!(rt; sink.bytes() == TEXT);
 }
 
 #[test]
-fn a_room_ends_at_each_byte(rt: HostRuntime) {
-    for room in 0..5 {
-        let (answer, sink) = written(rt.alloc(), room, 10, 100).expect(&rt, "memory");
-        assert_eq!(rt; answer, Err(WriteFault { written: room }), "room {room}");
-        assert!(rt; sink.bytes() == &TEXT[..room], "room {room}");
-    }
-    let (answer, sink) = written(rt.alloc(), 5, 10, 100).expect(&rt, "memory");
-    assert_eq!(rt; answer, Ok(()));
-    assert!(rt; sink.bytes() == TEXT);
-}
-
-#[test]
-fn sure_ones_never_fail(rt: HostRuntime) {
+fn a_sure_source_never_fails(rt: HostRuntime) {
     let bytes = Vec::from_slice(rt.alloc(), TEXT).expect(&rt, "memory");
-    let mut source = SureSource::new(bytes);
-    assert!(rt; is_read(read_all(rt.alloc(), &mut source, 5), Ok(TEXT)));
+    assert!(rt; gives(rt.alloc(), &mut SureSource::new(bytes), 5, Ok(TEXT)));
+}
+
+#[test]
+fn a_sink_counts(rt: HostRuntime) {
     let mut sink = CountSink::new();
-    assert_eq!(rt; sink.taken(), 0);
-    assert_eq!(rt; write_all(&mut sink, TEXT), Ok(()));
-    assert_eq!(rt; write_all(&mut sink, TEXT), Ok(()));
-    assert_eq!(rt; sink.taken(), 10);
+    assert!(rt; takes(&mut sink, 5) && takes(&mut sink, 5) && sink.taken() == 10);
 }
 
 #[test]
 fn readers_and_writers_of_std(rt: HostRuntime) {
-    let mut source = StdSource::new(TEXT);
-    assert!(rt; is_read(read_all(rt.alloc(), &mut source, 5), Ok(TEXT)));
-    let mut sink = StdSink::new(Vec::new(rt.alloc()));
-    assert_eq!(rt; write_all(&mut sink, TEXT), Ok(()));
+    assert!(rt; gives(rt.alloc(), &mut StdSource::new(TEXT), 5, Ok(TEXT)));
+    assert!(rt; takes(&mut StdSink::new(Vec::new(rt.alloc())), 5));
     let mut room = [0u8; 3];
-    let mut short = StdSink::new(room.as_mut_slice());
-    assert_eq!(rt; write_all(&mut short, TEXT), Err(WriteFault { written: 3 }));
+    assert!(rt; takes(&mut StdSink::new(room.as_mut_slice()), 3));
 }

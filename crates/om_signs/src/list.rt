@@ -90,37 +90,29 @@ impl<T: Copy> List<T> {
 #[cfg(test)]
 mod tests {
     use super::*;
-    use crate::{Sign, SignVec};
 
-    fn three(alloc: Global) -> Result<List<Sign>, NoMemory>
-        ensures { IfOk result (λ l. length l ≡ 3) }
+    fn two(alloc: Global) -> Result<List<u8>, NoMemory>
+        ensures { IfOk result (λ l. length l ≡ 2) }
     {
-        let mut signs = List::new(alloc);
-        signs.push(Sign::Plus)?;
-        signs.push(Sign::Zero)?;
-        signs.push(Sign::Minus)?;
-        Ok(signs)
+        let mut bytes = List::new(alloc);
+        bytes.push(1)?;
+        bytes.push(2)?;
+        Ok(bytes)
     }
 
     #[test]
     fn pushes_and_copies(rt: HostRuntime) {
-        let mut signs = three(rt.alloc()).expect(&rt, "memory for three signs");
-        let copied = signs.copy().expect(&rt, "memory for three signs");
-        signs.set(1, Sign::Plus);
-        let changed = [Sign::Plus, Sign::Plus, Sign::Minus];
-        let first = [Sign::Plus, Sign::Zero, Sign::Minus];
-        assert!(rt; signs.as_slice() == changed.as_slice());
-        assert!(rt; copied.as_slice() == first.as_slice());
+        let mut bytes = two(rt.alloc()).expect(&rt, "memory for two bytes");
+        let copied = bytes.copy().expect(&rt, "memory for two bytes");
+        bytes.set(1, 3);
+        assert!(rt; bytes.as_slice() == [1, 3].as_slice());
+        assert!(rt; copied.as_slice() == [1, 2].as_slice());
     }
 
     #[test]
-    fn holds_vectors(rt: HostRuntime) {
-        let mut vectors = List::new(rt.alloc());
-        let x = SignVec::zero(3).set(2, Sign::Minus);
-        assert_eq!(rt; vectors.push(x), Ok(()));
-        assert_eq!(rt; vectors.len(), 1);
-        assert_eq!(rt; vectors.at(0), x);
-        let numbers: List<u32> = vectors.empty_like();
-        assert_eq!(rt; numbers.len(), 0);
+    fn is_empty_like_another(rt: HostRuntime) {
+        let bytes: List<u8> = List::new(rt.alloc());
+        let mut numbers: List<u32> = bytes.empty_like();
+        assert!(rt; numbers.len() == 0 && numbers.push(7).is_ok());
     }
 }

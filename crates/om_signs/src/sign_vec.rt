@@ -240,92 +240,82 @@ impl PartialOrd for SignVec {
 mod tests {
     use super::*;
 
-    fn pair(a: Sign, b: Sign) -> SignVec
-        ensures { length result ≡ 2 }
-    {
-        SignVec::zero(2).set(1, a).set(2, b)
-    }
+    // Vectors of two places are orthogonal where the products of their signs are both zero, or one plus and one minus.
+    const ROWS: [([u8; 2], [u8; 2], bool); 6] = [
+        (*b"++", *b"+-", true),
+        (*b"++", *b"++", false),
+        (*b"+-", *b"-+", false),
+        (*b"+0", *b"0+", true),
+        (*b"+0", *b"++", false),
+        (*b"00", *b"--", true),
+    ];
 
     // The nine vectors of two places, as they are ordered by hand.
-    #[test]
-    fn two_places_in_order(rt: HostRuntime) {
-        let listed = [
-            pair(Sign::Minus, Sign::Minus),
-            pair(Sign::Minus, Sign::Zero),
-            pair(Sign::Minus, Sign::Plus),
-            pair(Sign::Zero, Sign::Minus),
-            pair(Sign::Zero, Sign::Zero),
-            pair(Sign::Zero, Sign::Plus),
-            pair(Sign::Plus, Sign::Minus),
-            pair(Sign::Plus, Sign::Zero),
-            pair(Sign::Plus, Sign::Plus),
-        ];
-        for (i, x) in listed.iter().enumerate() {
-            for (j, y) in listed.iter().enumerate() {
-                assert_eq!(rt; x.cmp(y), i.cmp(&j), "at {i} and {j}");
-            }
+    const LISTED: [[u8; 2]; 9] = [
+        *b"--", *b"-0", *b"-+", *b"0-", *b"00", *b"0+", *b"+-", *b"+0", *b"++",
+    ];
+
+    fn sign(byte: u8) -> Sign {
+        match byte {
+            b'-' => Sign::Minus,
+            b'+' => Sign::Plus,
+            _ => Sign::Zero,
         }
-        let short = SignVec::zero(1);
-        assert!(rt; short < pair(Sign::Zero, Sign::Minus));
-        assert!(rt; pair(Sign::Minus, Sign::Plus) < short);
     }
 
-    // Vectors of two places are orthogonal where the products of their signs are both zero, or one plus and one minus.
+    fn pair(word: [u8; 2]) -> SignVec
+        ensures { length result ≡ 2 }
+    {
+        SignVec::zero(2).set(1, sign(word[0])).set(2, sign(word[1]))
+    }
+
+    fn is_row(x: SignVec, y: SignVec, want: bool) -> bool
+        requires { length x ≡ length y }
+    {
+        x.orthogonal(y) == want && y.orthogonal(x) == want
+    }
+
     #[test]
-    fn orthogonal_pairs(rt: HostRuntime) {
-        let table = [
-            (
-                pair(Sign::Plus, Sign::Plus),
-                pair(Sign::Plus, Sign::Minus),
-                true,
-            ),
-            (
-                pair(Sign::Plus, Sign::Plus),
-                pair(Sign::Plus, Sign::Plus),
-                false,
-            ),
-            (
-                pair(Sign::Plus, Sign::Minus),
-                pair(Sign::Minus, Sign::Plus),
-                false,
-            ),
-            (
-                pair(Sign::Plus, Sign::Zero),
-                pair(Sign::Zero, Sign::Plus),
-                true,
-            ),
-            (
-                pair(Sign::Plus, Sign::Zero),
-                pair(Sign::Plus, Sign::Plus),
-                false,
-            ),
-            (
-                pair(Sign::Zero, Sign::Zero),
-                pair(Sign::Minus, Sign::Minus),
-                true,
-            ),
-        ];
-        for (x, y, want) in table {
-            assert_eq!(rt; x.orthogonal(y), want);
-            assert_eq!(rt; y.orthogonal(x), want);
+    fn two_places_in_order(rt: HostRuntime) {
+        for k in 0..8 {
+            assert!(rt; pair(LISTED[k]) < pair(LISTED[k + 1]));
         }
     }
-    // Two vectors, and what each call makes of them by its definition.
+
     #[test]
-    fn operations(rt: HostRuntime) {
-        let x = pair(Sign::Plus, Sign::Zero);
-        let y = pair(Sign::Minus, Sign::Plus);
-        let composed = x.compose(y);
-        assert_eq!(rt; composed, pair(Sign::Plus, Sign::Plus));
-        assert_eq!(rt; y.compose(x), y);
-        assert_eq!(rt; x.separation(y), 0b01);
-        assert_eq!(rt; x.support(), 0b01);
-        assert!(rt; x.conforms(composed));
-        assert!(rt; !composed.conforms(x));
-        assert!(rt; !x.conforms(y));
-        assert_eq!(rt; y.neg(), pair(Sign::Plus, Sign::Minus));
-        assert_eq!(rt; y.flip(0b10), pair(Sign::Minus, Sign::Minus));
-        assert_eq!(rt; y.drop_place(1), SignVec::zero(1).set(1, Sign::Plus));
-        assert_eq!(rt; y.get(2), Sign::Plus);
+    fn prefixes_come_first(rt: HostRuntime) {
+        let short = SignVec::zero(1);
+        assert!(rt; short < pair(*b"0-") && pair(*b"-+") < short);
+    }
+
+    #[test]
+    fn orthogonal_pairs(rt: HostRuntime) {
+        for (x, y, want) in ROWS {
+            assert!(rt; is_row(pair(x), pair(y), want));
+        }
+    }
+
+    // What each call makes of two vectors by its definition.
+    #[test]
+    fn compositions_and_negatives(rt: HostRuntime) {
+        let x = pair(*b"+0");
+        let y = pair(*b"-+");
+        let made = [x.compose(y), y.compose(x), y.neg(), y.flip(0b10)];
+        assert!(rt; made == [pair(*b"++"), y, pair(*b"+-"), pair(*b"--")]);
+    }
+
+    #[test]
+    fn places(rt: HostRuntime) {
+        let x = pair(*b"+0");
+        let y = pair(*b"-+");
+        assert!(rt; x.separation(y) == 0b01 && x.support() == 0b01);
+        assert!(rt; y.get(2) == Sign::Plus && y.drop_place(1).get(1) == Sign::Plus);
+    }
+
+    #[test]
+    fn conformity(rt: HostRuntime) {
+        let x = pair(*b"+0");
+        let y = pair(*b"++");
+        assert!(rt; x.conforms(y) && !y.conforms(x) && !x.conforms(pair(*b"-+")));
     }
 }

@@ -227,28 +227,34 @@ impl Subset {
 mod tests {
     use super::*;
 
+    // The pairs of four elements at their places, as they are ordered by hand.
+    const PAIRS: [(u32, u32); 6] = [
+        (0, 0b0011),
+        (1, 0b0101),
+        (2, 0b1001),
+        (3, 0b0110),
+        (4, 0b1010),
+        (5, 0b1100),
+    ];
+
+    fn stands_at(pair: Subset, place: u32, mask: u32) -> bool {
+        pair.rank() == place && pair.mask() == mask && pair.next().is_none() == (place == 5)
+    }
+
     #[test]
     fn pairs_of_four(rt: HostRuntime) {
         let mut pair = Subset::first(2, 4);
-        for (place, mask) in [
-            (0, 0b0011),
-            (1, 0b0101),
-            (2, 0b1001),
-            (3, 0b0110),
-            (4, 0b1010),
-            (5, 0b1100),
-        ] {
-            assert_eq!(rt; pair.mask(), mask);
-            assert_eq!(rt; pair.rank(), place);
-            assert_eq!(rt; pair.next().is_none(), place == 5);
-            if let Some(next) = pair.next() {
-                pair = next;
-            }
+        for (place, mask) in PAIRS {
+            assert!(rt; stands_at(pair, place, mask));
+            pair = pair.next().unwrap_or(pair);
         }
-        assert_eq!(rt; pair, Subset::unrank(5, 2, 4));
-        assert_eq!(rt; pair, Subset::from_mask(0b1100, 4));
-        assert_eq!(rt; pair.without(4).with(1), Subset::from_mask(0b0101, 4));
+    }
+
+    #[test]
+    fn the_last_pair(rt: HostRuntime) {
+        let pair = Subset::from_mask(0b1100, 4);
+        assert!(rt; pair == Subset::unrank(5, 2, 4) && Subset::choose(4, 2) == 6);
+        assert!(rt; pair.without(4).with(1) == Subset::from_mask(0b0101, 4));
         assert!(rt; pair.has(3) && pair.odd_after(3) && !pair.odd_after(2));
-        assert_eq!(rt; Subset::choose(4, 2), 6);
     }
 }

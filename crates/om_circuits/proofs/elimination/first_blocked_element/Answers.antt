@@ -3,8 +3,8 @@ use Rattle.om_signs.specs.declared.sign.Sign.{Sign}
 use Rattle.om_members.specs.Vectors.{negated}
 use Rattle.om_circuits.specs.Scans.{HasEliminatorIfAsked}
 use Rattle.om_circuits.proofs.EliminationLaws.{has_within_eliminator, opposed_if_tested, tested_if_opposed, none_opposed}
-use Rattle.om_circuits.proofs.elimination.first_stuck_element.Goals as goal
-use Rattle.om_circuits.proofs.elimination.first_stuck_element.Goals.{then-opposed-eq0-via-then-opposed-eq0, then-opposed-eq0-via-else-opposed-eq0+then-are_same, else-opposed-bit-ne0-via-then-opposed-bit-ne0+else-not-has_within, else-opposed-bit-ne0-via-else-opposed-bit-ne0}
+use Rattle.om_circuits.proofs.elimination.first_blocked_element.Goals as goal
+use Rattle.om_circuits.proofs.elimination.first_blocked_element.Goals.{then-opposed-eq0-via-then-opposed-eq0, then-opposed-eq0-via-else-opposed-eq0+then-are_same, else-opposed-bit-ne0-via-then-opposed-bit-ne0+else-not-has_within, else-opposed-bit-ne0-via-else-opposed-bit-ne0}
 
 not_same : (r : Bool) (xs ys ns : List Sign) → (IsTrue r ↔ (xs ≡ ns)) → ns ≡ negated ys → r ≡ false → xs ≢ negated ys
 not_same r xs ys ns h e f q = let t : false ≡ true = sym f ∙ h.1 (q ∙ sym e) in cc
