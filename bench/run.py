@@ -2,7 +2,7 @@
 """bench/run.py [--runs N]
 
 Builds the program and times it, the whole process each time, on inputs that it makes itself. Prints a table: the least
-time of N runs (5), the rate, the rate or time asked for, and how many times better than asked the measured one is.
+time of N runs (5), the rate, the target (a rate or a time), and how many times better than the target the measured one is.
 """
 import argparse
 import itertools
@@ -113,28 +113,28 @@ def least_time(words, data, runs, wanted):
     return best
 
 
-def row(name, took, amount, unit, asked_rate=None, asked_time=None):
+def row(name, took, amount, unit, target_rate=None, target_time=None):
     rate = "%.1f %s" % (amount / took, unit) if unit else ""
-    if asked_rate is not None:
-        asked, ratio = "%.1f %s" % (asked_rate, unit), amount / took / asked_rate
-    elif asked_time is not None:
-        asked, ratio = "%.4f s" % asked_time, asked_time / took
+    if target_rate is not None:
+        target, ratio = "%.1f %s" % (target_rate, unit), amount / took / target_rate
+    elif target_time is not None:
+        target, ratio = "%.4f s" % target_time, target_time / took
     else:
-        asked, ratio = "", None
-    print("%-58s %9.4f s  %18s  %18s  %s" % (name, took, rate, asked, "" if ratio is None else "%.2f" % ratio))
+        target, ratio = "", None
+    print("%-58s %9.4f s  %18s  %18s  %s" % (name, took, rate, target, "" if ratio is None else "%.2f" % ratio))
 
 
 def conversions(runs):
     """Conversions of chirotopes all of whose values are plus."""
-    print("%-58s %11s  %18s  %18s  %s" % ("convert", "least time", "", "asked", "ratio"))
-    for kind, rank, elements, members, asked in (
+    print("%-58s %11s  %18s  %18s  %s" % ("convert", "least time", "", "target", "ratio"))
+    for kind, rank, elements, members, target in (
             ("circuits", 3, 12, circuits_of_alternating(3, 12), 0.01),
             ("cocircuits", 3, 16, cocircuits_of_alternating(16), 0.008),
             ("covectors", 3, 16, covectors_of_alternating(16), 0.2)):
         took = least_time(["convert", kind], alternating(rank, elements), runs, document(kind, elements, members))
-        row("%d %s of rank %d on %d elements" % (len(members), kind, rank, elements), took, 1, "", asked_time=asked)
+        row("%d %s of rank %d on %d elements" % (len(members), kind, rank, elements), took, 1, "", target_time=target)
     took = least_time(["convert", "covectors"], alternating(16, 16), runs, b"limit members 1024\n")
-    row("covectors of rank 16 on 16 elements: too many", took, 1, "", asked_time=0.01)
+    row("covectors of rank 16 on 16 elements: too many", took, 1, "", target_time=0.01)
 
 
 def document_of_map(rank, elements, signs):
@@ -147,13 +147,13 @@ def document_of_map(rank, elements, signs):
 
 def operations(runs):
     """Duals, minors and reorientations of the chirotope of rank 8 on 16 elements all of whose values are plus."""
-    print("%-58s %11s  %18s  %18s  %s" % ("operations", "least time", "", "asked", "ratio"))
+    print("%-58s %11s  %18s  %18s  %s" % ("operations", "least time", "", "target", "ratio"))
     sets = list(itertools.combinations(range(1, 17), 8))
     scan = least_time(["accept"], alternating(8, 16), runs, b"accepted\n")
     # the sign of a list and then its complement is that of the sum of its elements
     dual = [(-1) ** (sum(a) + 8 * 9 // 2) for a in sets]
     took = least_time(["dual"], alternating(8, 16), runs, document_of_map(8, 16, dual))
-    row("dual of chirotope 8 16, with the scan of its axioms", took, 1, "", asked_time=0.04 + scan)
+    row("dual of chirotope 8 16, with the scan of its axioms", took, 1, "", target_time=0.04 + scan)
     took = least_time(["delete", "16"], alternating(8, 16), runs, document_of_map(8, 15, [1] * math.comb(15, 8)))
     row("deletion in chirotope 8 16, without the scan", max(took - scan, 1e-5), 1, "")
     took = least_time(["contract", "16"], alternating(8, 16), runs, document_of_map(7, 15, [1] * math.comb(15, 7)))
@@ -182,11 +182,93 @@ def weights(elements):
 
 def claims(runs):
     """Claims that are checked."""
-    print("%-58s %11s  %18s  %18s  %s" % ("check", "least time", "", "asked", "ratio"))
+    print("%-58s %11s  %18s  %18s  %s" % ("check", "least time", "", "target", "ratio"))
     took = least_time(["check"], certificate(12), runs, b"valid nonrealizable\n")
-    row("a certificate of 108 entries", took, 1, "", asked_time=0.01)
+    row("a certificate of 108 entries", took, 1, "", target_time=0.01)
     took = least_time(["check"], weights(16), runs, b"valid undecided\n")
-    row("560 weights on 16 elements", took, 1, "", asked_time=0.01)
+    row("560 weights on 16 elements", took, 1, "", target_time=0.01)
+
+
+def times(words, data, runs):
+    """The least time of some runs, and what they write; each run has to write the same."""
+    wanted = subprocess.run([PROGRAM] + words, input=data, capture_output=True).stdout
+    return least_time(words, data, runs, wanted), wanted
+
+
+def lists(runs):
+    """Lists of the uniform oriented matroid of rank 3 on 16 elements all of whose values are plus, to the other kinds."""
+    print("%-58s %11s  %18s  %18s  %s" % ("lists", "least time", "", "target", "ratio"))
+    wanted = {"chirotope": document_of_map(3, 16, [1] * math.comb(16, 3))}
+    for kind, members in (("cocircuits", cocircuits_of_alternating(16)), ("covectors", covectors_of_alternating(16))):
+        wanted[kind] = document(kind, 16, members)
+    for kind, data in sorted(wanted.items()):
+        scan = least_time(["accept"], data, runs, b"accepted\n")
+        for other, answer in sorted(wanted.items()):
+            if kind != "chirotope" and other != kind:
+                took = least_time(["convert", other], data, runs, answer)
+                row("%s to %s, without the axioms" % (kind, other), max(took - scan, 1e-5), 1, "", target_time=0.01)
+    data = wanted["covectors"]
+    scan = least_time(["accept"], data, runs, b"accepted\n")
+    for verb in ("delete", "contract"):
+        took, _ = times([verb, "16"], data, runs)
+        row("%s an element of 963 covectors, without the axioms" % verb, max(took - scan, 1e-5), 1, "", target_time=0.005)
+
+
+NON_PAPPUS = os.path.join(TOP, "examples", "non-pappus.om")
+
+
+def decisions(runs):
+    """The linear program and the search for realizing vectors."""
+    print("%-58s %11s  %18s  %18s  %s" % ("decide", "least time", "rate", "target", "ratio"))
+    with open(NON_PAPPUS, "rb") as file:
+        data = file.read()
+    took, text = times(["decide", "--steps=1"], data, runs)
+    row("non-Pappus, the tableau alone: %s" % text.split(b"end\n")[1].split()[0].decode(), took, 1, "", target_time=0.05)
+    took, _ = times(["decide"], data, runs)
+    row("non-Pappus with the default budgets", took, 1, "", target_time=0.15)
+    without = least_time(["decide", "--steps=1"], data, runs, text)
+    for steps in (2000000, 20000000):
+        took, _ = times(["decide", "--box=40", "--steps=%d" % steps], data, max(1, runs // 2))
+        row("%d words of the search, without the tableau" % steps, took - without, steps / 1e6, "M words/s", target_rate=20.0)
+
+
+def wirings(runs):
+    """Wirings and mutations of the uniform chirotope of rank 3 on 16 elements all of whose values are plus."""
+    print("%-58s %11s  %18s  %18s  %s" % ("wirings and mutations", "least time", "", "target", "ratio"))
+    took, wiring = times(["wiring"], alternating(3, 16), runs)
+    row("wiring of a chirotope of rank 3 on 16 elements", took, 1, "", target_time=0.003)
+    for kind in ("chirotope", "cocircuits"):
+        took, _ = times(["convert", kind], wiring, runs)
+        row("a wiring of %d blocks to %s" % (wiring.count(b"-"), kind), took, 1, "", target_time=0.003)
+    took, _ = times(["mutations"], alternating(3, 16), runs)
+    row("mutations of a chirotope of rank 3 on 16 elements", took, 1, "", target_time=0.003)
+
+
+def extensions(runs):
+    """Extensions by one element, on one processor and on all."""
+    print("%-58s %11s  %18s  %18s  %s" % ("extend", "least time", "rate", "target", "ratio"))
+    for elements, first, one, all_ in ((9, 2000, 0.03, None), (15, 100000, 0.4, 0.25)):
+        for name, processors, target in (("one processor", {min(os.sched_getaffinity(0))}, one), ("all processors", os.sched_getaffinity(0), all_)):
+            held = os.sched_getaffinity(0)
+            os.sched_setaffinity(0, processors)
+            took, text = times(["extend", "--first=%d" % first], alternating(3, elements), runs)
+            os.sched_setaffinity(0, held)
+            count = len(text.split(b"\n")) - 4
+            row("%d extensions of rank 3 on %d elements, %s" % (count, elements, name), took, count / 1e3, "k/s", target_time=target)
+
+
+def painting(runs):
+    """Painting, hulls and lexicographic extensions, and made inputs."""
+    print("%-58s %11s  %18s  %18s  %s" % ("painting, hulls, extensions, made inputs", "least time", "", "target", "ratio"))
+    for rank, target in ((3, 0.003), (8, 0.04)):
+        data = alternating(rank, 16)
+        for words in (["hull"], ["paint", "R" * 16, "1"], ["lexext", "+1", "-2"]):
+            if words[0] == "lexext":
+                data = alternating(rank, 15)
+            took, text = times(words, data, runs)
+            row("%s of rank %d" % (words[0], rank), took, 1, "", target_time=target if words[0] != "lexext" else None)
+    took, _ = times(["make", "7"], b"", runs)
+    row("make 7", took, 1, "", target_time=0.015)
 
 
 def main():
@@ -200,31 +282,30 @@ def main():
         sys.exit("the program wasn't built:\n" + built.stderr.decode())
 
     accepted = b"accepted\n"
-    print("%-58s %11s  %18s  %18s  %s" % ("accept", "least time", "rate", "asked", "ratio"))
+    print("%-58s %11s  %18s  %18s  %s" % ("accept", "least time", "rate", "target", "ratio"))
     start = least_time(["accept"], small, runs * 4, accepted)
-    row("chirotope 3 4: process start and a small document", start, 1, "", asked_time=0.001)
-    for rank, elements, asked in ((3, 16, None), (8, 16, 200.0)):
+    row("chirotope 3 4: process start and a small document", start, 1, "", target_time=0.001)
+    for rank, elements, target in ((3, 16, None), (8, 16, 200.0)):
         took = least_time(["accept"], alternating(rank, elements), runs, accepted)
         row("chirotope %d %d, all plus: %d pairs" % (rank, elements, pairs(rank, elements)), took,
-            pairs(rank, elements) / 1e6, "M pairs/s", asked_rate=asked)
-    for rank, elements, asked in ((3, 8, 0.01), (3, 12, 10.0), (7, 12, 10.0)):
+            pairs(rank, elements) / 1e6, "M pairs/s", target_rate=target)
+    for rank, elements, target in ((3, 8, 0.01), (3, 12, 10.0), (7, 12, 10.0)):
         circuits = document("circuits", elements, circuits_of_alternating(rank, elements))
         took = least_time(["accept"], circuits, runs, accepted)
         row("%d circuits of rank %d on %d elements" % (2 * math.comb(elements, rank + 1), rank, elements), took, 1, "",
-            asked_time=asked)
+            target_time=target)
     covectors = covectors_of_alternating(16)
     took = least_time(["accept"], document("covectors", 16, covectors), runs, accepted)
-    row("%d covectors of rank 3 on 16 elements" % len(covectors), took, 1, "", asked_time=10.0)
+    row("%d covectors of rank 3 on 16 elements" % len(covectors), took, 1, "", target_time=10.0)
     size = 1000000
     took = least_time(["accept"], comments(size), runs, accepted)
-    row("1 MB of comment lines, without process start", max(took - start, 1e-5), size / 1e6, "MB/s", asked_rate=100.0)
+    row("1 MB of comment lines, without process start", max(took - start, 1e-5), size / 1e6, "MB/s", target_rate=100.0)
     scan = least_time(["accept"], alternating(8, 16), runs, accepted)
     took = least_time(["accept"], sign_lines(size), runs, accepted)
-    row("1 MB of lines of signs and blanks, without the scan", max(took - scan, 1e-5), size / 1e6, "MB/s", asked_rate=50.0)
+    row("1 MB of lines of signs and blanks, without the scan", max(took - scan, 1e-5), size / 1e6, "MB/s", target_rate=50.0)
 
-    conversions(runs)
-    operations(runs)
-    claims(runs)
+    for part in (conversions, operations, lists, claims, decisions, wirings, extensions, painting):
+        part(runs)
 
 
 if __name__ == "__main__":

@@ -56,8 +56,16 @@ const ROWS: [(u8, &[&str], Option<CovRefused>); 10] = [
     (1, &[], Some(CovRefused::NoZero)),
     (1, &["+", "-"], Some(CovRefused::NoZero)),
     (1, &["0", "+"], Some(CovRefused::NoNegative { i: 2 })),
-    (2, &["00", "+0", "-0", "0+", "0-"], Some(CovRefused::NoComposition { i: 2, j: 4 })),
-    (2, &["00", "++", "--", "+-", "-+"], Some(CovRefused::NoElimination { i: 2, j: 4, e: 2 })),
+    (
+        2,
+        &["00", "+0", "-0", "0+", "0-"],
+        Some(CovRefused::NoComposition { i: 2, j: 4 }),
+    ),
+    (
+        2,
+        &["00", "++", "--", "+-", "-+"],
+        Some(CovRefused::NoElimination { i: 2, j: 4, e: 2 }),
+    ),
     (
         3,
         &[
@@ -132,6 +140,11 @@ fn lists_are_accepted_or_refused(rt: HostRuntime) {
 #[test]
 fn members_of_minimal_support(rt: HostRuntime) {
     for (words, wanted) in LEAST {
-        assert!(rt; are_equal(least(&rt, rt.alloc(), words), list_of(rt.alloc(), 3, wanted)));
+        assert!(rt;
+            are_equal(
+                least(&rt, rt.alloc(), words),
+                list_of(rt.alloc(), 3, wanted)
+            )
+        );
     }
 }
