@@ -56,25 +56,28 @@ fn is_all_zero(signs: &[Sign]) -> bool
 #[cfg(test)]
 mod tests {
     use super::*;
-    use om_signs::{List, MAX_PLACES, NoMemory};
+    use om_signs::{List, NoMemory};
     use om_subsets::Subset;
     use std::alloc::Global;
     use std::process::Abort;
 
-    /// Why a map is refused, or None where it is accepted. A byte `+` or `-` is a sign, and any other is 0.
-    fn refusal<R: Threads + Sync + Abort>(
+    /// The map with the signs of a text: a byte `+` or `-` is a sign, and any other is 0.
+    fn map_of_text<R: Abort>(
         rt: &R,
         alloc: Global,
         rank: u8,
         elements: u8,
-        bytes: &[u8],
-    ) -> Result<Option<MapRefused>, NoMemory>
+        text: &str,
+    ) -> Result<RawMap, NoMemory>
         requires low { 1 ≤ elements }
         requires high { elements ≤ MAX_ELEMENTS }
         requires part { rank ≤ elements }
+        ensures rank { IfOk result (λ raw. raw.rank ≡ rank) }
+        ensures elements { IfOk result (λ raw. raw.elements ≡ elements) }
+        ensures whole { IfOk result (λ raw. length raw.signs ≡ choose elements rank) }
     {
         let mut signs = List::new(alloc);
-        for byte in bytes {
+        for byte in text.as_bytes() {
             signs.push(match *byte {
                 b'+' => Sign::Plus,
                 b'-' => Sign::Minus,
@@ -82,55 +85,70 @@ mod tests {
             })?;
         }
         assert_eq!(rt; signs.len(), Subset::choose(elements, rank) as usize);
-        let raw = RawMap {
+        Ok(RawMap {
             rank,
             elements,
             signs,
-        };
+        })
+    }
+
+    /// Why a map is refused, or None where it is accepted.
+    fn refusal<R: Threads + Sync>(rt: &R, raw: RawMap) -> Option<MapRefused>
+        requires low { 1 ≤ raw.elements }
+        requires high { raw.elements ≤ MAX_ELEMENTS }
+        requires rank { raw.rank ≤ raw.elements }
+        requires whole { length raw.signs ≡ choose raw.elements raw.rank }
+    {
         match check(rt, raw) {
-            Ok(_) => Ok(None),
-            Err(bad) => Ok(Some(bad.why)),
+            Ok(_) => None,
+            Err(bad) => Some(bad.why),
         }
     }
 
-    fn pair(s: u32, a: u32, n: u8) -> Option<MapRefused>
-        requires small { n ≤ MAX_PLACES }
-        requires s_within { s < 2 ^ n }
-        requires a_within { a < 2 ^ n }
+    /// The refusal of the pair with these masks, or that of all signs 0 where both masks are 0.
+    fn refusal_of(masks: (u32, u32), n: u8) -> Option<MapRefused>
+        requires { n ≤ MAX_ELEMENTS }
     {
+        let (s, a) = masks;
+        if s == 0 && a == 0 {
+            return Some(MapRefused::AllZero);
+        }
+        if s >= 1 << n || a >= 1 << n {
+            return None;
+        }
         Some(MapRefused::Relation {
             s: Subset::from_mask(s, n),
             a: Subset::from_mask(a, n),
         })
     }
 
+    // The maps on 6 elements have more pairs than there are sets of elements.
     #[test]
-    fn accepted(rt: HostRuntime) -> Result<(), NoMemory> {
-        let alloc = rt.alloc();
-        assert_eq!(rt; refusal(&rt, alloc, 3, 4, b"++++")?, None);
-        assert_eq!(rt; refusal(&rt, alloc, 2, 4, b"++++++")?, None);
-        assert_eq!(rt; refusal(&rt, alloc, 0, 3, b"-")?, None);
-        assert_eq!(rt; refusal(&rt, alloc, 3, 3, b"-")?, None);
-        assert_eq!(rt; refusal(&rt, alloc, 1, 3, b"00-")?, None);
-        Ok(())
-    }
-
-    #[test]
-    fn refused(rt: HostRuntime) -> Result<(), NoMemory> {
-        let alloc = rt.alloc();
-        let all_zero = Some(MapRefused::AllZero);
-        assert_eq!(rt; refusal(&rt, alloc, 3, 4, b"0000")?, all_zero);
-        assert_eq!(rt; refusal(&rt, alloc, 0, 3, b"0")?, all_zero);
-        assert_eq!(rt; refusal(&rt, alloc, 3, 3, b"0")?, all_zero);
-        assert_eq!(rt;
-            refusal(&rt, alloc, 2, 4, b"+-++++")?,
-            pair(0b0111, 0b1000, 4)
-        );
-        // two bases without an element in common, and no other: the first set S with the last set A
-        assert_eq!(rt;
-            refusal(&rt, alloc, 3, 6, b"+000000000000000000+")?,
-            pair(0b001111, 0b110000, 6)
-        );
+    fn accepted_and_refused(rt: HostRuntime) -> Result<(), NoMemory> {
+        for (rank, elements, text, wanted) in [
+            (3, 4, "++++", None),
+            (2, 4, "++++++", None),
+            (0, 3, "-", None),
+            (3, 3, "-", None),
+            (1, 3, "00-", None),
+            (3, 6, "++++++++++++++++++++", None),
+            (3, 4, "0000", Some((0, 0))),
+            (0, 3, "0", Some((0, 0))),
+            (3, 3, "0", Some((0, 0))),
+            (2, 4, "+-++++", Some((0b0111, 0b1000))),
+            // two bases without an element in common, and no other: the first set S with the last set A
+            (3, 6, "+000000000000000000+", Some((0b001111, 0b110000))),
+            // 1, 3 and 5 turned: with 1, 2, 3 and 4 the signs of 1 and 5 have no plus
+            (3, 6, "+++++-++++++++++++++", Some((0b001111, 0b010001))),
+        ] {
+            assert!(rt; 1 <= elements && elements <= MAX_ELEMENTS && rank <= elements);
+            let raw = map_of_text(&rt, rt.alloc(), rank, elements, text)?;
+            let wanted = match wanted {
+                Some(masks) => refusal_of(masks, elements),
+                None => None,
+            };
+            assert!(rt; refusal(&rt, raw) == wanted, "{text}");
+        }
         Ok(())
     }
 }

@@ -198,38 +198,30 @@ mod tests {
 
     #[test]
     fn three_elements(rt: HostRuntime) -> Result<(), NoMemory> {
-        if let Some(chi) = triangle(&rt, rt.alloc())? {
-            let all = Subset::from_mask(0b111, 3);
-            let last = Subset::from_mask(0b100, 3);
-            assert_eq!(rt; chi.at(all.without(2)), Sign::Minus);
-            assert_eq!(rt; chi.value(&[2, 1]), Sign::Minus);
-            assert_eq!(rt; chi.value(&[3, 1]), Sign::Plus);
-            assert_eq!(rt; chi.value(&[2, 2]), Sign::Zero);
-            assert_eq!(rt;
-                chi.circuit_of(all),
-                SignVec::zero(3)
-                    .set(1, Sign::Minus)
-                    .set(2, Sign::Minus)
-                    .set(3, Sign::Minus)
-            );
-            assert_eq!(rt;
-                chi.cocircuit_of(last),
-                SignVec::zero(3).set(1, Sign::Plus).set(2, Sign::Minus)
-            );
-            let copy = chi.copy()?;
-            let turned = copy.negate().into_raw();
-            assert_eq!(rt;
-                turned.signs.as_slice(),
-                [Sign::Minus, Sign::Plus, Sign::Minus].as_slice()
-            );
-            let normal = chi.negate().normal().into_raw();
-            assert_eq!(rt;
-                normal.signs.as_slice(),
-                [Sign::Plus, Sign::Minus, Sign::Plus].as_slice()
-            );
-            return Ok(());
-        }
-        assert!(rt; false);
+        let Some(chi) = triangle(&rt, rt.alloc())? else {
+            panic!(rt; "refused");
+        };
+        let all = Subset::from_mask(0b111, 3);
+        let last = Subset::from_mask(0b100, 3);
+        let values = [
+            chi.at(all.without(2)),
+            chi.value(&[2, 1]),
+            chi.value(&[3, 1]),
+            chi.value(&[2, 2]),
+        ];
+        assert_eq!(rt; values, [Sign::Minus, Sign::Minus, Sign::Plus, Sign::Zero]);
+        let units = SignVec::zero(3).set(1, Sign::Plus);
+        assert_eq!(rt;
+            chi.circuit_of(all),
+            units.set(2, Sign::Plus).set(3, Sign::Plus).neg()
+        );
+        assert_eq!(rt; chi.cocircuit_of(last), units.set(2, Sign::Minus));
+        let turned = chi.copy()?.negate().into_raw();
+        let wanted = [Sign::Minus, Sign::Plus, Sign::Minus];
+        assert_eq!(rt; turned.signs.as_slice(), wanted.as_slice());
+        let normal = chi.negate().normal().into_raw();
+        let wanted = [Sign::Plus, Sign::Minus, Sign::Plus];
+        assert_eq!(rt; normal.signs.as_slice(), wanted.as_slice());
         Ok(())
     }
 }

@@ -7,6 +7,7 @@ mod chirotope;
 mod laws;
 mod map_refused;
 mod scan;
+mod threads;
 mod three_terms;
 mod vectors;
 

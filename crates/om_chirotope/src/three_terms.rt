@@ -17,7 +17,7 @@ use om_signs::{MAX_PLACES, RawMap, Sign, SignVec};
 use om_subsets::Subset;
 
 /// The number of sets of [`MAX_PLACES`] elements.
-const SETS: usize = 131_072;
+const SETS: usize = 1 << MAX_PLACES;
 
 /// The number of rows of a picture: one for each element.
 const ROWS: usize = MAX_PLACES as usize;
@@ -59,7 +59,7 @@ fn has_exchange_by(raw: &RawMap, cocircuits: &[SignVec], table: &mut [bool]) -> 
     requires rank_high { raw.now.rank < raw.now.elements }
     requires whole { length raw.now.signs ≡ choose raw.now.elements raw.now.rank }
     requires filled { cocircuits.now ≡ cocircuit_vectors (map_of raw.now) }
-    requires room { length table.old ≡ 131072 }
+    requires room { length table.old ≡ SETS }
     ensures { IsTrue result → HasListExchange (map_of raw.now) }
 {
     let sets = number_of_sets(raw.elements);
@@ -73,7 +73,7 @@ fn has_exchange_by(raw: &RawMap, cocircuits: &[SignVec], table: &mut [bool]) -> 
 fn number_of_sets(elements: u8) -> usize
     requires { elements ≤ MAX_PLACES }
     ensures value { result ≡ 2 ^ elements }
-    ensures few { result ≤ 131072 }
+    ensures few { result ≤ SETS }
 {
     1usize << elements
 }

@@ -1,6 +1,6 @@
 //! Chirotopes with loops, coloops and parallel elements, worked out by hand.
 
-ghost use Rattle.std.specs.Prelude.{◌≡◌, ◌≤◌, IfOk};
+ghost use Rattle.std.specs.Prelude.{◌≡◌, ◌≤◌, IfSome};
 
 use super::search::{is_basis, is_part};
 use super::{exchange, extend_to_basis, first_basis, is_coloop, is_loop, parallel, rank_of};
@@ -17,32 +17,45 @@ use std::thread::Threads;
 const PAPPUS: &str =
     "0++++++++++++--------0-0++++++++++----0---+0+++++---0+-0++++++++0------------------0";
 
-/// The sign of a byte; any other byte than `+` and `-` is zero.
-fn sign_of(byte: u8) -> Sign {
-    match byte {
-        b'+' => Sign::Plus,
-        b'-' => Sign::Minus,
-        _ => Sign::Zero,
-    }
+/// What is known of the matroid of a chirotope. Sets are masks.
+#[derive(Clone, Copy)]
+struct Row<'a> {
+    loops: u32,
+    coloops: u32,
+    first: u32,
+    /// Elements e and f, and whether they are parallel.
+    pairs: &'a [(u8, u8, bool)],
+    /// Sets, and their ranks.
+    ranks: &'a [(u32, u8)],
+    /// Parts of bases, a basis that has the part, and the first that has it.
+    extended: &'a [(u32, u32, u32)],
+    /// Bases b and c, an element e of b alone, and what takes its place.
+    exchanged: &'a [(u32, u32, u8, u8)],
 }
 
-/// The chirotope of a word of signs, which meets the axioms.
+/// The signs of a text; any other byte than `+` and `-` is zero.
+fn signs_of(alloc: Global, text: &str) -> Result<List<Sign>, Fail> {
+    let mut signs = List::new(alloc);
+    for byte in text.as_bytes() {
+        signs.push(match *byte {
+            b'+' => Sign::Plus,
+            b'-' => Sign::Minus,
+            _ => Sign::Zero,
+        })?;
+    }
+    Ok(signs)
+}
+
+/// The chirotope of a text of signs, which meets the axioms.
 fn chirotope_of<R: Threads + Sync + Abort>(
     rt: &R,
     alloc: Global,
     rank: u8,
     elements: u8,
-    word: &str,
-) -> Result<Chirotope, Fail>
-    requires low { 1 ≤ elements }
-    requires high { elements ≤ MAX_ELEMENTS }
-    requires part { rank ≤ elements }
-    ensures elements { IfOk result (λ c. c.elements ≡ elements) }
-{
-    let mut signs = List::new(alloc);
-    for byte in word.as_bytes() {
-        signs.push(sign_of(*byte))?;
-    }
+    text: &str,
+) -> Result<Chirotope, Fail> {
+    assert!(rt; 1 <= elements && elements <= MAX_ELEMENTS && rank <= elements);
+    let signs = signs_of(alloc, text)?;
     assert_eq!(rt; signs.len(), Subset::choose(elements, rank) as usize);
     let raw = RawMap {
         rank,
@@ -51,16 +64,52 @@ fn chirotope_of<R: Threads + Sync + Abort>(
     };
     match om_chirotope::check(rt, raw) {
         Ok(chi) => Ok(chi),
-        Err(bad) => panic!(rt; "refused for {:?}", bad.why),
+        Err(_) => panic!(rt; "refused: {text}"),
     }
 }
 
-/// Whether the ranks of the sets of some masks are these.
-fn has_ranks(chi: &Chirotope, ranks: &[(u32, u8)]) -> bool {
+/// The set with this mask, where it is one of elements of the chirotope.
+fn set_of(chi: &Chirotope, mask: u32) -> Option<Subset>
+    ensures { IfSome result (λ s. s.n ≡ chi.now.elements) }
+{
     let n = chi.elements();
-    for (mask, rank) in ranks {
-        if *mask >= 1 << n || rank_of(chi, Subset::from_mask(*mask, n)) != *rank {
+    if mask < 1 << n {
+        Some(Subset::from_mask(mask, n))
+    } else {
+        None
+    }
+}
+
+/// Whether these are the loops and the coloops.
+fn are_loops_and_coloops(chi: &Chirotope, loops: u32, coloops: u32) -> bool {
+    for e in 1..chi.elements() + 1 {
+        if is_loop(chi, e) != (loops >> (e - 1) & 1 == 1) {
             return false;
+        }
+        if is_coloop(chi, e) != (coloops >> (e - 1) & 1 == 1) {
+            return false;
+        }
+    }
+    true
+}
+
+/// Whether the pairs are parallel that are said to be, and no others.
+fn are_parallel(chi: &Chirotope, pairs: &[(u8, u8, bool)]) -> bool {
+    let n = chi.elements();
+    for (e, f, wanted) in pairs {
+        if *e < 1 || *e > n || *f < 1 || *f > n || parallel(chi, *e, *f) != *wanted {
+            return false;
+        }
+    }
+    true
+}
+
+/// Whether the sets have these ranks.
+fn have_ranks(chi: &Chirotope, ranks: &[(u32, u8)]) -> bool {
+    for (mask, rank) in ranks {
+        match set_of(chi, *mask) {
+            Some(set) if rank_of(chi, set) == *rank => {}
+            _ => return false,
         }
     }
     true
@@ -78,6 +127,20 @@ fn extended(chi: &Chirotope, inside: Subset, basis: Subset) -> Option<Subset>
     }
 }
 
+/// Whether the first bases that contain some sets are these, where other given bases contain them.
+fn are_extended(chi: &Chirotope, extensions: &[(u32, u32, u32)]) -> bool {
+    for (inside, basis, wanted) in extensions {
+        match (set_of(chi, *inside), set_of(chi, *basis)) {
+            (Some(inside), Some(basis)) => match extended(chi, inside, basis) {
+                Some(found) if found.mask() == *wanted => {}
+                _ => return false,
+            },
+            _ => return false,
+        }
+    }
+    true
+}
+
 /// What takes the place of e in b, where b and c are bases and e is in b alone.
 fn exchanged(chi: &Chirotope, b: Subset, c: Subset, e: u8) -> Option<u8>
     requires b { b.n ≡ chi.now.elements }
@@ -92,105 +155,149 @@ fn exchanged(chi: &Chirotope, b: Subset, c: Subset, e: u8) -> Option<u8>
     }
 }
 
+/// Whether these take the places of elements of one basis, by others.
+fn are_exchanged(chi: &Chirotope, exchanges: &[(u32, u32, u8, u8)]) -> bool {
+    for (b, c, e, wanted) in exchanges {
+        if *e < 1 || *e > chi.elements() {
+            return false;
+        }
+        match (set_of(chi, *b), set_of(chi, *c)) {
+            (Some(b), Some(c)) => match exchanged(chi, b, c, *e) {
+                Some(found) if found == *wanted => {}
+                _ => return false,
+            },
+            _ => return false,
+        }
+    }
+    true
+}
+
+/// Asserts what is known of the matroid of the chirotope of a text.
+fn assert_row<R: Threads + Sync + Abort>(
+    rt: &R,
+    alloc: Global,
+    rank: u8,
+    elements: u8,
+    text: &str,
+    row: &Row,
+) -> Result<(), Fail> {
+    let chi = chirotope_of(rt, alloc, rank, elements, text)?;
+    assert!(rt; are_loops_and_coloops(&chi, row.loops, row.coloops));
+    assert_eq!(rt; first_basis(&chi).mask(), row.first);
+    assert!(rt; are_parallel(&chi, row.pairs));
+    assert!(rt; have_ranks(&chi, row.ranks));
+    assert!(rt; are_extended(&chi, row.extended));
+    assert!(rt; are_exchanged(&chi, row.exchanged));
+    Ok(())
+}
+
 // The bases are 13 and 23: 1 and 2 are parallel, 3 is a coloop, and 4 is a loop.
 #[test]
 fn parallel_elements_a_coloop_and_a_loop(rt: HostRuntime) -> Result<(), Fail> {
-    let chi = chirotope_of(&rt, rt.alloc(), 2, 4, "0+0+00")?;
-    assert!(rt; !is_loop(&chi, 1) && !is_loop(&chi, 2) && !is_loop(&chi, 3) && is_loop(&chi, 4));
-    assert!(rt; !is_coloop(&chi, 1) && !is_coloop(&chi, 2) && is_coloop(&chi, 3));
-    assert!(rt; !is_coloop(&chi, 4));
-    assert!(rt; parallel(&chi, 1, 2) && parallel(&chi, 2, 1) && parallel(&chi, 3, 3));
-    assert!(rt; !parallel(&chi, 1, 3) && !parallel(&chi, 1, 4) && !parallel(&chi, 4, 4));
-    assert!(rt; has_ranks(&chi, &[(0b0000, 0), (0b0001, 1), (0b1000, 0), (0b0011, 1)]));
-    assert!(rt; has_ranks(&chi, &[(0b1011, 1), (0b0101, 2), (0b1100, 1), (0b1111, 2)]));
-    let (first, second) = (Subset::from_mask(0b0101, 4), Subset::from_mask(0b0110, 4));
-    assert_eq!(rt; first_basis(&chi), first);
-    assert_eq!(rt;
-        extended(&chi, Subset::from_mask(0b0010, 4), second),
-        Some(second)
-    );
-    assert_eq!(rt;
-        extended(&chi, Subset::from_mask(0b0100, 4), second),
-        Some(first)
-    );
-    assert_eq!(rt; exchanged(&chi, first, second, 1), Some(2));
-    Ok(())
+    let row = Row {
+        loops: 0b1000,
+        coloops: 0b0100,
+        first: 0b0101,
+        pairs: &[
+            (1, 2, true),
+            (2, 1, true),
+            (3, 3, true),
+            (1, 3, false),
+            (1, 4, false),
+            (4, 4, false),
+        ],
+        ranks: &[
+            (0b0000, 0),
+            (0b0001, 1),
+            (0b1000, 0),
+            (0b0011, 1),
+            (0b1011, 1),
+            (0b0101, 2),
+            (0b1100, 1),
+            (0b1111, 2),
+        ],
+        extended: &[(0b0010, 0b0110, 0b0110), (0b0100, 0b0110, 0b0101)],
+        exchanged: &[(0b0101, 0b0110, 1, 2)],
+    };
+    assert_row(&rt, rt.alloc(), 2, 4, "0+0+00", &row)
 }
 
 // The bases are 123, 124 and 234: 2 is a coloop, and the others have rank 2.
 #[test]
 fn coloop_of_rank_three(rt: HostRuntime) -> Result<(), Fail> {
-    let chi = chirotope_of(&rt, rt.alloc(), 3, 4, "++0-")?;
-    assert!(rt; !is_coloop(&chi, 1) && is_coloop(&chi, 2) && !is_coloop(&chi, 3));
-    assert!(rt; !is_coloop(&chi, 4) && !is_loop(&chi, 1) && !is_loop(&chi, 2));
-    assert!(rt; !parallel(&chi, 1, 3) && !parallel(&chi, 3, 4) && parallel(&chi, 4, 4));
-    assert!(rt; has_ranks(&chi, &[(0b1101, 2), (0b1001, 2), (0b0111, 3), (0b1111, 3)]));
-    let last = Subset::from_mask(0b1110, 4);
-    assert_eq!(rt; first_basis(&chi), Subset::from_mask(0b0111, 4));
-    assert_eq!(rt;
-        extended(&chi, Subset::from_mask(0b1000, 4), last),
-        Some(Subset::from_mask(0b1011, 4))
-    );
-    assert_eq!(rt;
-        extended(&chi, Subset::from_mask(0b1100, 4), last),
-        Some(last)
-    );
-    assert_eq!(rt;
-        exchanged(&chi, Subset::from_mask(0b0111, 4), last, 1),
-        Some(4)
-    );
-    Ok(())
+    let row = Row {
+        loops: 0,
+        coloops: 0b0010,
+        first: 0b0111,
+        pairs: &[(1, 3, false), (3, 4, false), (4, 4, true)],
+        ranks: &[(0b1101, 2), (0b1001, 2), (0b0111, 3), (0b1111, 3)],
+        extended: &[(0b1000, 0b1110, 0b1011), (0b1100, 0b1110, 0b1110)],
+        exchanged: &[(0b0111, 0b1110, 1, 4)],
+    };
+    assert_row(&rt, rt.alloc(), 3, 4, "++0-", &row)
 }
 
 // 124 is the first triple that is on no line; of 3, 5 and 6 the first is on the line of 1 and 2.
 #[test]
 fn pappus(rt: HostRuntime) -> Result<(), Fail> {
-    let chi = chirotope_of(&rt, rt.alloc(), 3, 9, PAPPUS)?;
-    for e in 1..10 {
-        assert!(rt; !is_loop(&chi, e) && !is_coloop(&chi, e) && parallel(&chi, e, e));
-        assert!(rt; e == 9 || !parallel(&chi, e, 9));
-    }
-    assert!(rt;
-        has_ranks(
-            &chi,
-            &[
-                (0b111, 2),
-                (0b1011, 3),
-                (0b1_0001_0001, 2),
-                (0b1_1111_1111, 3)
-            ]
-        )
-    );
-    assert!(rt; has_ranks(&chi, &[(0, 0), (0b10, 1), (0b11, 2)]));
-    let (first, other) = (
-        Subset::from_mask(0b1011, 9),
-        Subset::from_mask(0b11_0100, 9),
-    );
-    assert_eq!(rt; first_basis(&chi), first);
-    let with_two_and_three = Subset::from_mask(0b1110, 9);
-    assert_eq!(rt;
-        extended(&chi, Subset::from_mask(0b110, 9), with_two_and_three),
-        Some(with_two_and_three)
-    );
-    assert_eq!(rt;
-        extended(&chi, Subset::from_mask(0b1000, 9), with_two_and_three),
-        Some(first)
-    );
-    assert_eq!(rt; exchanged(&chi, first, other, 1), Some(3));
-    assert_eq!(rt; exchanged(&chi, first, other, 4), Some(5));
-    Ok(())
+    let row = Row {
+        loops: 0,
+        coloops: 0,
+        first: 0b1011,
+        pairs: &[
+            (1, 1, true),
+            (5, 5, true),
+            (9, 9, true),
+            (1, 9, false),
+            (2, 9, false),
+            (3, 9, false),
+            (4, 9, false),
+            (5, 9, false),
+            (6, 9, false),
+            (7, 9, false),
+            (8, 9, false),
+        ],
+        ranks: &[
+            (0b111, 2),
+            (0b1011, 3),
+            (0b1_0001_0001, 2),
+            (0b1_1111_1111, 3),
+            (0, 0),
+            (0b10, 1),
+            (0b11, 2),
+        ],
+        extended: &[(0b110, 0b1110, 0b1110), (0b1000, 0b1110, 0b1011)],
+        exchanged: &[(0b1011, 0b11_0100, 1, 3), (0b1011, 0b11_0100, 4, 5)],
+    };
+    assert_row(&rt, rt.alloc(), 3, 9, PAPPUS, &row)
 }
 
-// In rank 0 the empty set is the only basis and each element is a loop; in the rank of all elements all are coloops.
+// The empty set is the only basis, and each element is a loop.
 #[test]
-fn lowest_and_highest_rank(rt: HostRuntime) -> Result<(), Fail> {
-    let lowest = chirotope_of(&rt, rt.alloc(), 0, 2, "+")?;
-    assert!(rt; is_loop(&lowest, 1) && is_loop(&lowest, 2) && !is_coloop(&lowest, 1));
-    assert!(rt; !parallel(&lowest, 1, 1) && has_ranks(&lowest, &[(0b00, 0), (0b11, 0)]));
-    assert_eq!(rt; first_basis(&lowest), Subset::first(0, 2));
-    let highest = chirotope_of(&rt, rt.alloc(), 2, 2, "+")?;
-    assert!(rt; is_coloop(&highest, 1) && is_coloop(&highest, 2) && !is_loop(&highest, 1));
-    assert!(rt; !parallel(&highest, 1, 2) && has_ranks(&highest, &[(0b01, 1), (0b11, 2)]));
-    assert_eq!(rt; first_basis(&highest), Subset::first(2, 2));
-    Ok(())
+fn lowest_rank(rt: HostRuntime) -> Result<(), Fail> {
+    let row = Row {
+        loops: 0b11,
+        coloops: 0,
+        first: 0,
+        pairs: &[(1, 1, false)],
+        ranks: &[(0b00, 0), (0b11, 0)],
+        extended: &[(0, 0, 0)],
+        exchanged: &[],
+    };
+    assert_row(&rt, rt.alloc(), 0, 2, "+", &row)
+}
+
+// In the rank of all elements all are coloops.
+#[test]
+fn highest_rank(rt: HostRuntime) -> Result<(), Fail> {
+    let row = Row {
+        loops: 0,
+        coloops: 0b11,
+        first: 0b11,
+        pairs: &[(1, 2, false)],
+        ranks: &[(0b01, 1), (0b11, 2)],
+        extended: &[(0b01, 0b11, 0b11)],
+        exchanged: &[],
+    };
+    assert_row(&rt, rt.alloc(), 2, 2, "+", &row)
 }
