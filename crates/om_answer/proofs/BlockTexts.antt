@@ -1,15 +1,14 @@
 -- The text of a block, put together line by line.
 --
--- Main results: on_ok, tail_more, lines_more, line_whole, tail_next, lines_after, coordinate_next, width_named, within_more
+-- Main results: on_ok, tail_more, lines_more, line_whole, tail_next, lines_after, coordinate_next, width_named
 use Rattle.std.proofs.Common.{◌≡◌, ℕ, ◌+◌, ◌<◌, List, [], ◌∷◌, ◌++◌, length, take, get_or, map, refl, sym, ap, ◌∙◌, append_assoc, append-nil, arith}
 use Rattle.std.proofs.lemmas.Int.{to_z-of_z, fits_signed_from_abs}
 use Rattle.om_signs.specs.declared.limits.TheConstants.{MAX_COORDINATE}
-use Rattle.std.proofs.lemmas.List.Elements.{All-nil, All-cons, All-append}
-use Rattle.om_vectors.specs.WholeVectors.{WholeVector, IsCoordinate, IsWithinLimit}
+use Rattle.om_vectors.specs.WholeVectors.{IsCoordinate}
 use mir.Syntax.{w64, w128}
 use mir.Val.{to_z, of_z}
 use Rattle.std.proofs.lemmas.List.{take_more, map-append}
-use Rattle.std.specs.Prelude.{ℤ, codes, decimal, Result, Ok, Err, OnOk, All}
+use Rattle.std.specs.Prelude.{ℤ, codes, decimal, Result, Ok, Err, OnOk}
 use Rattle.std.specs.Fmt.{signed_decimal}
 use Rattle.om_text.specs.Print.{text_of, spaced}
 use Rattle.om_text.proofs.Printing.{text_of-append}
@@ -75,7 +74,3 @@ coordinate_next ws x v wide first old new h e w o n = tail_next ws (signed_decim
 -- a line of a width, from its first two words together
 pub width_named : (stage name : List ℕ) (a p b r d c : ℕ) (old new : List ℕ) → name ≡ codes "width " ++ stage → a ≡ p → b ≡ r → d ≡ c → new ≡ old ++ lines_text ((name ∷ decimal a ∷ decimal b ∷ decimal d ∷ []) ∷ []) → new ≡ old ++ lines_text ((codes "width" ∷ stage ∷ decimal p ∷ decimal r ∷ decimal c ∷ []) ∷ [])
 width_named stage name a p b r d c old new n e f g h = h ∙ rw (n, e, f, g) refl
-
--- one more vector within its limit
-pub within_more : (vs : List WholeVector) (i : ℕ) (v : WholeVector) → i < length vs → v ≡ get_or vs i v → All IsWithinLimit (take i vs) → IsWithinLimit v → All IsWithinLimit (take (i + 1) vs)
-within_more vs i v l e a h = rw (take_more vs i v l, ← e) (All-append IsWithinLimit (take i vs) (v ∷ []) a (All-cons IsWithinLimit v [] h (All-nil IsWithinLimit)))

@@ -15,16 +15,16 @@ use Rattle.om_simplex.specs.declared.stage.Stage.TheVariants as stage
 use Rattle.om_certificate.specs.declared.entry.Entry.{Entry}
 use Rattle.om_certificate.specs.declared.weight.Weight.{Weight}
 use Rattle.om_certificate.specs.declared.lp_end.LpEnd.TheVariants as lp_end
+use Rattle.om_certificate.specs.Forms.{IsEntryInForm, IsWeightInForm, IsWidthInForm}
 use Rattle.om_text.specs.Words.{plain}
 use Rattle.om_text.proofs.Texts.{is_word, is_word_line}
 use Rattle.om_text.proofs.Numerals.{decimal_word, number_word, unsigned_word, signed_word}
-use Rattle.om_signs.specs.declared.limits.TheConstants.{MAX_PLAIN}
+use Rattle.om_signs.specs.declared.limits.TheConstants.{MAX_PIVOTS, MAX_PLAIN}
 use Rattle.om_answer.specs.declared.range.Range.{Range}
 use Rattle.om_answer.specs.declared.range.Range.TheVariants.{Between, UpToSize}
 use Rattle.om_answer.specs.Numbers.{at_least, number_within, with_item, numbers_within, IsIn, AreIn}
 use Rattle.om_answer.specs.BlockLines.{vector_ranges, vector_from, vector_of, entry_ranges, entry_from, strictness, entry_of, weight_ranges, weight_from, weight_of, count_from, pivots_ranges, pivots_of, plain_numbers, some_of, basis_of, stage_of, width_from, width_ranges, width_after, width_of}
 use Rattle.om_answer.specs.VerdictText.{named, vector_numbers, vector_words, entry_numbers, relation_name, entry_words, weight_numbers, weight_words, stage_name, width_numbers}
-use Rattle.om_answer.specs.VerdictForm.{IsEntryInForm, IsWeightInForm, IsBasisInForm}
 
 -- ---- numbers
 
@@ -53,6 +53,9 @@ number_read (Between low high) (negsuc k) n i = absurd (omega (arith, ints, i.0)
 number_read (UpToSize size) z n i =
     let s = signed_word size z (omega arith) i in
     record { value = s.value; word = rw (s.bytes, s.any) refl }
+
+between : {low high k : ℕ} → low ≤ k → k ≤ high → IsIn (Between low high) (pos k)
+between l h = (omega (arith, ints), omega (arith, ints))
 
 -- ranges of this form
 AreNarrow : List Range → Type 0
@@ -121,9 +124,13 @@ relation_word : (strict : Bool) → is_word (relation_name strict) ≡ true
 relation_word true = refl
 relation_word false = refl
 
+-- the numbers of an entry are in their ranges
+entry_in : (e : Entry) → IsEntryInForm e → AreIn entry_ranges (entry_numbers e)
+entry_in e h = (between h.a.low h.a.high, (between h.b.low h.b.high, (between h.c.low h.c.high, (between h.d.low h.d.high, (between h.e.low h.e.high, (between h.small.low h.small.high, (between h.big.low h.big.high, (between h.times.low h.times.high, tt))))))))
+
 pub entry_line : (e : Entry) → IsEntryInForm e → IsLine entry_of (entry_words e) e
 entry_line e h =
-    let r = numbers_read entry_ranges (entry_numbers e) entries_narrow h in
+    let r = numbers_read entry_ranges (entry_numbers e) entries_narrow (entry_in e h) in
     let s = e.statement.strict in
     let ws = map signed_decimal (entry_numbers e) in
     record {
@@ -136,11 +143,19 @@ weights_narrow : AreNarrow weight_ranges
 unfolding AreNarrow IsNarrow
 weights_narrow = (omega arith, (omega arith, (omega arith, (omega arith, tt))))
 
+weight_in : (w : Weight) → IsWeightInForm w → AreIn weight_ranges (weight_numbers w)
+weight_in w h =
+    let a = h.a in
+    let b = h.a_b in
+    let c = h.b_c in
+    let d = h.c in
+    (between a (omega arith), (between (omega arith) (omega arith), (between (omega arith) d, (h.size, tt))))
+
 pub weight_line : (w : Weight) → IsWeightInForm w → IsLine weight_of (weight_words w) w
 weight_line w h =
-    let r = numbers_read weight_ranges (weight_numbers w) weights_narrow h.numbers in
+    let r = numbers_read weight_ranges (weight_numbers w) weights_narrow (weight_in w h) in
     record {
-      value = ap (option_and_then weight_from) r.values ∙ rw (lt-ltb w.a w.b h.first, lt-ltb w.b w.c h.second) refl;
+      value = ap (option_and_then weight_from) r.values ∙ rw (lt-ltb w.a w.b h.a_b, lt-ltb w.b w.c h.b_c) refl;
       words = r.words;
     }
 
@@ -148,19 +163,19 @@ pivots_narrow : AreNarrow pivots_ranges
 unfolding AreNarrow IsNarrow
 pivots_narrow = (omega arith, tt)
 
-pub pivots_line : (count : ℕ) → AreIn pivots_ranges (pos count ∷ []) → IsLine pivots_of (named (codes "pivots") (pos count ∷ [])) count
+pub pivots_line : (count : ℕ) → count ≤ MAX_PIVOTS → IsLine pivots_of (named (codes "pivots") (pos count ∷ [])) count
 pivots_line count h =
-    let r = numbers_read pivots_ranges (pos count ∷ []) pivots_narrow h in
+    let r = numbers_read pivots_ranges (pos count ∷ []) pivots_narrow (between (omega arith) h, tt) in
     record { value = ap (option_and_then count_from) r.values; words = r.words }
 
 some_numbers : (ns : List ℕ) → 1 ≤ length ns → some_of ns ≡ Some ns
 some_numbers [] h = absurd (omega arith)
 some_numbers (n ∷ ns) h = refl
 
-pub basis_line : (basis : List ℕ) → IsBasisInForm basis → IsLine basis_of (codes "basis" ∷ map decimal basis) basis
-basis_line basis h =
-    let r = plain_read basis h.plain in
-    record { value = ap (option_and_then some_of) r.values ∙ some_numbers basis h.some; words = r.words }
+pub basis_line : (basis : List ℕ) → 1 ≤ length basis → All (λ b. b ≤ MAX_PLAIN) basis → IsLine basis_of (codes "basis" ∷ map decimal basis) basis
+basis_line basis some plain =
+    let r = plain_read basis plain in
+    record { value = ap (option_and_then some_of) r.values ∙ some_numbers basis some; words = r.words }
 
 widths_narrow : AreNarrow width_ranges
 unfolding AreNarrow IsNarrow
@@ -178,9 +193,9 @@ stage_word stage.Column = refl
 stage_word stage.Update = refl
 stage_word stage.Scale = refl
 
-pub width_line : (s : Stage) (p r c : ℕ) → AreIn width_ranges (width_numbers p r c) → IsLine width_of (codes "width" ∷ named (stage_name s) (width_numbers p r c)) (lp_end.Width s p r c)
+pub width_line : (s : Stage) (p r c : ℕ) → IsWidthInForm p r c → IsLine width_of (codes "width" ∷ named (stage_name s) (width_numbers p r c)) (lp_end.Width s p r c)
 width_line s p r c h =
-    let k = numbers_read width_ranges (width_numbers p r c) widths_narrow h in
+    let k = numbers_read width_ranges (width_numbers p r c) widths_narrow (between (omega arith) h.pivot_most, (between (omega arith) h.row_most, (between (omega arith) h.place_most, tt))) in
     let ws = map signed_decimal (width_numbers p r c) in
     record {
       value = ap (option_and_then (λ s. option_and_then (width_from s) (numbers_within width_ranges ws))) (stage_read s)

@@ -13,6 +13,7 @@ use Rattle.om_certificate.specs.declared.lp_end.LpEnd.{LpEnd}
 use Rattle.om_certificate.specs.declared.lp_end.LpEnd.TheVariants as lp_end
 use Rattle.om_certificate.specs.declared.verdict.Verdict.{Verdict}
 use Rattle.om_certificate.specs.declared.verdict.Verdict.TheVariants.{Realizable, Nonrealizable, Undecided, Limit}
+use Rattle.om_certificate.specs.Forms.{IsEntryInForm, IsWeightInForm, IsEndInForm, IsSearchInForm, IsVerdictInForm}
 use Rattle.om_text.specs.Lines.{lines, wordful}
 use Rattle.om_text.specs.Document.{end_line}
 use Rattle.om_text.specs.Form.{IsInForm}
@@ -26,7 +27,6 @@ use Rattle.om_answer.specs.BlockLines.{word_line, vector_of, entry_of, weight_of
 use Rattle.om_answer.specs.Block.{IsSearchEnd, IsTableauEnd, IsBlock, exhausted, frontier, pivots, width, realizable, nonrealizable, undecided, limit}
 use Rattle.om_answer.specs.Claim.{IsClaim, IsSpelledClaim}
 use Rattle.om_answer.specs.VerdictText.{named, vector_words, entry_words, weight_words, search_lines, tableau_lines, verdict_name, verdict_lines, block_lines, lines_text, chirotope_document, verdict_text, claim_of}
-use Rattle.om_answer.specs.VerdictForm.{IsEntryInForm, IsWeightInForm, IsEndInForm, IsVerdictInForm, IsWordInForm, IsSearchInForm, HasWordsInForm}
 use Rattle.om_answer.proofs.Spelled.{IsLine, AreLines, vector_line, entry_line, weight_line, pivots_line, basis_line, width_line, all_lines}
 
 -- lines of words that end a search, or a tableau
@@ -47,7 +47,7 @@ record IsTableau (ls : List (List (List ℕ))) (e : LpEnd) : Type 0 where
 tableau_read : (e : LpEnd) → IsEndInForm e → IsTableau (tableau_lines e) e
 tableau_read (lp_end.Pivots count basis) h =
     let p = pivots_line count h.budget in
-    let b = basis_line basis h.numbers in
+    let b = basis_line basis h.some h.plain in
     record {
       ends = pivots _ _ count basis p.value b.value;
       words = ap (λ a. a && list_all is_word_line ((codes "basis" ∷ map decimal basis) ∷ [])) p.words ∙ ap (λ a. a && true) b.words;
@@ -71,33 +71,33 @@ closed_words ls ks h g = list_all-append is_word_line (ls ++ ks) (end_line ∷ [
 one_closed : (ls : List (List (List ℕ))) → list_all is_word_line ls ≡ true → list_all is_word_line (ls ++ end_line ∷ []) ≡ true
 one_closed ls h = list_all-append is_word_line ls (end_line ∷ []) ∙ rw h refl
 
-pub block_read : (v : Verdict) → IsVerdictInForm v → HasWordsInForm v → IsSaid v
-block_read (Realizable vs) f h =
+pub block_read : (v : Verdict) → IsVerdictInForm v → IsSaid v
+block_read (Realizable vs) h =
     let r = all_lines IsWithinLimit vector_of vector_words vector_line vs h.each in
     record { block = realizable (map vector_words vs) vs r.values h.few; words = one_closed (map vector_words vs) r.words }
-block_read (Nonrealizable es) f h =
-    let r = all_lines IsEntryInForm entry_of entry_words entry_line es f in
+block_read (Nonrealizable es) h =
+    let r = all_lines IsEntryInForm entry_of entry_words entry_line es h in
     record { block = nonrealizable (map entry_words es) es r.values; words = one_closed (map entry_words es) r.words }
-block_read (Undecided ws u) f h =
-    let r = all_lines IsWeightInForm weight_of weight_words weight_line ws f.each in
-    let s = search_read u h in
+block_read (Undecided ws u) h =
+    let r = all_lines IsWeightInForm weight_of weight_words weight_line ws h.0.each in
+    let s = search_read u h.1 in
     record {
-      block = undecided (map weight_words ws) (search_lines u) ws u r.values f.few s.ends;
+      block = undecided (map weight_words ws) (search_lines u) ws u r.values h.0.few s.ends;
       words = closed_words (map weight_words ws) (search_lines u) r.words s.words;
     }
-block_read (Limit e u) f h =
-    let t = tableau_read e f in
-    let s = search_read u h in
+block_read (Limit e u) h =
+    let t = tableau_read e h.0 in
+    let s = search_read u h.1 in
     record {
       block = limit (tableau_lines e) (search_lines u) e u t.ends s.ends;
       words = closed_words (tableau_lines e) (search_lines u) t.words s.words;
     }
 
 -- the text of a verdict on a chirotope is the claim of both
-pub claim_read : (m : SignMap) (v : Verdict) → IsInForm (chirotope_document m) → IsVerdictInForm v → HasWordsInForm v → IsClaim (lines (verdict_text m v)) (claim_of m v)
-claim_read m v d f h =
+pub claim_read : (m : SignMap) (v : Verdict) → IsInForm (chirotope_document m) → IsVerdictInForm v → IsClaim (lines (verdict_text m v)) (claim_of m v)
+claim_read m v d h =
     let top = printed_lines (chirotope_document m) in
-    let b = block_read v f h in
+    let b = block_read v h in
     let behind = map spaced (block_lines v) in
     let whole : lines (verdict_text m v) ≡ top ++ behind = ap lines (sym (text_of-append top behind)) ∙ lines_of_text (top ++ behind) (one_line-append top behind (printed_one_line (chirotope_document m) d) (spaced_one_lines (block_lines v) b.words)) in
     let s : IsSpelledClaim (wordful (top ++ behind)) (claim_of m v) = record {

@@ -5,5 +5,4 @@ pub mod Block
 pub mod Claim
 pub mod ClaimFault
 pub mod VerdictText
-pub mod VerdictForm
 pub mod BlockReading

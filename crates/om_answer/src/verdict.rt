@@ -1,11 +1,11 @@
 //! Printing a verdict on a chirotope.
 
 ghost use Rattle.std.specs.Prelude.{◌≡◌, IfOk};
+ghost use Rattle.om_certificate.specs.Forms.{IsVerdictInForm};
 ghost use Rattle.om_text.specs.Form.{IsInForm};
 ghost use Rattle.om_text.specs.Lines.{lines};
 ghost use Rattle.om_answer.specs.Claim.{IsClaim};
 ghost use Rattle.om_answer.specs.VerdictText.{chirotope_document, verdict_text, claim_of};
-ghost use Rattle.om_answer.specs.VerdictForm.{IsVerdictInForm};
 
 use super::verdict_lines::push_block;
 use om_certificate::Verdict;
@@ -31,10 +31,10 @@ fn document_of(chi: &Chirotope) -> Result<Document, NoMemory>
 /// The text of a verdict on a chirotope: the canonical form of the chirotope's document, and then the lines of the verdict
 /// block. The text takes its memory from `alloc`, and the signs are copied with their own allocator.
 ///
-/// The verdict has the forms and is within the limits of a block: the numbers of its entries and its weights are in their
-/// ranges, the elements of a weight increase, there are at most as many weights as sets of three elements, and the end of a
-/// tableau has its numbers in their ranges, with a basis number or more behind a budget of pivots. What is printed is then a
-/// claim, and [`crate::read_claim`] reads this document and this verdict from it.
+/// The verdict has the forms and is within the limits of a claim: its vectors are no more than elements may be, the numbers
+/// of its entries and its weights are in their ranges, the elements of a weight increase, there are at most as many weights
+/// as sets of three elements, and the end of a tableau has its numbers in their ranges, with a basis number or more behind a
+/// budget of pivots. What is printed is then a claim, and [`crate::read_claim`] reads this document and this verdict from it.
 ///
 /// [`NoMemory`] comes only for want of memory.
 pub fn print_verdict(alloc: Global, chi: &Chirotope, verdict: &Verdict) -> Result<Vec<u8>, NoMemory>

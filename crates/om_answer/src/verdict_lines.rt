@@ -1,8 +1,6 @@
 //! The lines of a verdict block, as they are printed.
 
-ghost use Rattle.std.specs.Prelude.{◌≡◌, ◌++◌, ◌∷◌, [], All, OnOk, map, codes};
-ghost use Rattle.om_vectors.specs.WholeVectors.{IsWithinLimit};
-ghost use Rattle.om_answer.specs.VerdictForm.{IsSearchInForm, HasWordsInForm};
+ghost use Rattle.std.specs.Prelude.{◌≡◌, ◌++◌, ◌∷◌, [], OnOk, map, codes};
 ghost use Rattle.std.specs.Fmt.{decimal};
 ghost use Rattle.om_answer.specs.BlockLines.{word_line};
 ghost use Rattle.om_answer.specs.VerdictText.{lines_text, tail_text, vector_words, entry_words, weight_words, relation_name, search_lines, stage_name, tableau_lines, verdict_name, verdict_lines, block_lines};
@@ -34,8 +32,7 @@ fn push_named(text: &mut Vec<u8>, name: &[u8], numbers: &[u64]) -> Result<(), No
 
 /// Puts a vector at the end, as a line.
 fn push_vector(text: &mut Vec<u8>, vector: Vector) -> Result<(), NoMemory>
-    ensures text { OnOk result (text.new.items ≡ text.old.items ++ lines_text (vector_words vector ∷ [])) }
-    ensures within { OnOk result (IsWithinLimit vector) }
+    ensures { OnOk result (text.new.items ≡ text.old.items ++ lines_text (vector_words vector ∷ [])) }
 {
     push(text, b"vector")?;
     push_signed(text, i128::from(vector.x()))?;
@@ -46,8 +43,7 @@ fn push_vector(text: &mut Vec<u8>, vector: Vector) -> Result<(), NoMemory>
 
 /// Puts vectors at the end, one a line.
 fn push_vectors(text: &mut Vec<u8>, vectors: &[Vector]) -> Result<(), NoMemory>
-    ensures text { OnOk result (text.new.items ≡ text.old.items ++ lines_text (map vector_words vectors.now)) }
-    ensures within { OnOk result (All IsWithinLimit vectors.now) }
+    ensures { OnOk result (text.new.items ≡ text.old.items ++ lines_text (map vector_words vectors.now)) }
 {
     for vector in vectors {
         push_vector(text, *vector)?;
@@ -114,13 +110,11 @@ fn push_weights(text: &mut Vec<u8>, weights: &[Weight]) -> Result<(), NoMemory>
 
 /// Puts the end of a search at the end.
 fn push_search(text: &mut Vec<u8>, unfound: &Unfound) -> Result<(), NoMemory>
-    ensures text { OnOk result (text.new.items ≡ text.old.items ++ lines_text (search_lines unfound.now)) }
-    ensures within { OnOk result (IsSearchInForm unfound.now) }
+    ensures { OnOk result (text.new.items ≡ text.old.items ++ lines_text (search_lines unfound.now)) }
 {
     match unfound {
         Unfound::Exhausted => push(text, b"exhausted\n"),
         Unfound::Frontier(word) => {
-            let _len = word.len();
             push(text, b"frontier\n")?;
             push_vectors(text, word.as_slice())
         }
@@ -190,12 +184,10 @@ fn push_tableau(text: &mut Vec<u8>, end: &LpEnd) -> Result<(), NoMemory>
 
 /// Puts the verdict word and the lines of what the verdict has at the end.
 fn push_lines(text: &mut Vec<u8>, verdict: &Verdict) -> Result<(), NoMemory>
-    ensures text { OnOk result (text.new.items ≡ text.old.items ++ lines_text (word_line (verdict_name verdict.now) ∷ verdict_lines verdict.now)) }
-    ensures within { OnOk result (HasWordsInForm verdict.now) }
+    ensures { OnOk result (text.new.items ≡ text.old.items ++ lines_text (word_line (verdict_name verdict.now) ∷ verdict_lines verdict.now)) }
 {
     match verdict {
         Verdict::Realizable(word) => {
-            let _len = word.len();
             push(text, b"realizable\n")?;
             push_vectors(text, word.as_slice())
         }
@@ -218,8 +210,7 @@ fn push_lines(text: &mut Vec<u8>, verdict: &Verdict) -> Result<(), NoMemory>
 
 /// Puts the block of a verdict at the end.
 pub fn push_block(text: &mut Vec<u8>, verdict: &Verdict) -> Result<(), NoMemory>
-    ensures text { OnOk result (text.new.items ≡ text.old.items ++ lines_text (block_lines verdict.now)) }
-    ensures within { OnOk result (HasWordsInForm verdict.now) }
+    ensures { OnOk result (text.new.items ≡ text.old.items ++ lines_text (block_lines verdict.now)) }
 {
     push_lines(text, verdict)?;
     push(text, b"end\n")

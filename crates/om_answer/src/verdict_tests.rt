@@ -1,9 +1,8 @@
 //! Texts of verdicts that are written out.
 
 ghost use Rattle.std.specs.Prelude.{◌≤◌, All, IfOk};
-ghost use Rattle.om_signs.specs.declared.limits.TheConstants.{MAX_ELEMENTS};
-ghost use Rattle.om_signs.specs.declared.limits.TheConstants.{MAX_PLAIN};
-ghost use Rattle.om_answer.specs.VerdictForm.{IsEntryInForm, AreWeightsInForm, IsVerdictInForm, IsBasisInForm};
+ghost use Rattle.om_signs.specs.declared.limits.TheConstants.{MAX_ELEMENTS, MAX_PLAIN, MAX_PIVOTS};
+ghost use Rattle.om_certificate.specs.Forms.{AreVectorsInForm, IsEntryInForm, AreWeightsInForm, ArePivotsInForm, IsVerdictInForm};
 
 use super::{print_verdict, read_claim};
 use om_certificate::{Entry, LpEnd, Stage, Verdict, Weight};
@@ -58,7 +57,9 @@ fn is_printed(
 }
 
 /// The word with these vectors.
-fn word(vectors: &[(i64, i64, i64)]) -> Word {
+fn word(vectors: &[(i64, i64, i64)]) -> Word
+    ensures { AreVectorsInForm result }
+{
     let mut word = Word::new();
     for (x, y, z) in vectors {
         if let Some(vector) = Vector::new(*x, *y, *z) {
@@ -142,7 +143,7 @@ fn four_weights(alloc: Global) -> Result<List<Weight>, NoMemory>
 fn with_number(basis: List<u32>, number: u32) -> Result<List<u32>, NoMemory>
     requires small { number ≤ MAX_PLAIN }
     requires plain { All (λ b. b ≤ MAX_PLAIN) basis }
-    ensures { IfOk result IsBasisInForm }
+    ensures { IfOk result (ArePivotsInForm 1) }
 {
     let mut numbers = basis;
     numbers.push(number)?;
@@ -151,7 +152,7 @@ fn with_number(basis: List<u32>, number: u32) -> Result<List<u32>, NoMemory>
 
 /// The basis after one pivot.
 fn first_basis(alloc: Global) -> Result<List<u32>, NoMemory>
-    ensures { IfOk result IsBasisInForm }
+    ensures { IfOk result (ArePivotsInForm 1) }
 {
     let mut basis = with_number(List::new(alloc), 12)?;
     for number in 2..12 {

@@ -4,3 +4,4 @@ pub mod Validity
 pub mod Refusals
 pub mod Tables
 pub mod Verdicts
+pub mod Forms

@@ -8,10 +8,10 @@ use Rattle.om_answer.proofs.VerdictReading.{claim_read}
 use Rattle.om_answer.proofs.verdict.print_verdict.Goals as goal
 
 pub returns-clause-text : goal.returns-clause-text
-returns-clause-text c = c.in_ok-push_block.ensures.text ∙ ap (λ bytes. bytes ++ lines_text (block_lines c.args.verdict.now)) (c.in_ok-text.ensures.bytes ∙ ap printed c.in_ok-document.ensures.value)
+returns-clause-text c = c.in_ok-push_block.ensures ∙ ap (λ bytes. bytes ++ lines_text (block_lines c.args.verdict.now)) (c.in_ok-text.ensures.bytes ∙ ap printed c.in_ok-document.ensures.value)
 
 pub returns-clause-claim : goal.returns-clause-claim
 returns-clause-claim c =
     let m = c.args.chi.now in
     let v = c.args.verdict.now in
-    subst (λ bytes. IsClaim (lines bytes) (claim_of m v)) (sym (returns-clause-text c)) (claim_read m v (subst IsInForm c.in_ok-document.ensures.value c.in_ok-document.ensures.form) c.requires.form c.in_ok-push_block.ensures.within)
+    subst (λ bytes. IsClaim (lines bytes) (claim_of m v)) (sym (returns-clause-text c)) (claim_read m v (subst IsInForm c.in_ok-document.ensures.value c.in_ok-document.ensures.form) c.requires.form)

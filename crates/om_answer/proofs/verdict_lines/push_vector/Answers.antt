@@ -4,8 +4,8 @@ use Rattle.std.specs.Fmt.{signed_decimal}
 use Rattle.om_answer.proofs.BlockTexts.{on_ok, line_whole, coordinate_next}
 use Rattle.om_answer.proofs.verdict_lines.push_vector.Goals as goal
 
-pub returns-clause-text : goal.returns-clause-text
-returns-clause-text c =
+pub returns : goal.returns
+returns c =
     let v = c.args.vector in
     let name = c.push.new.text.items in
     let x = coordinate_next [] c.x.result v.x c.from.result name name c.push_signed.new.text.items c.x.ensures.size c.x.ensures.value c.from.ensures (sym (append-nil name)) c.in_ok-push_signed.ensures in

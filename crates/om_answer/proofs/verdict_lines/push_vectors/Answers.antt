@@ -1,9 +1,6 @@
 use Rattle.om_answer.specs.VerdictText.{vector_words}
-use Rattle.om_answer.proofs.BlockTexts.{lines_more, within_more}
+use Rattle.om_answer.proofs.BlockTexts.{lines_more}
 use Rattle.om_answer.proofs.verdict_lines.push_vectors.Goals as goal
 
 pub loop-vector-preserved : goal.loop-vector-preserved
-loop-vector-preserved c = record {
-  text = lines_more vector_words c.args.text.now.items _ _ c.args.vectors.now c.loop-vector.vector-index _ c.vector-item.result c.loop-vector-test.true c.vector-item.is c.loop-vector.invariant.text c.in_ok-push_vector.ensures.text;
-  within = within_more c.args.vectors.now c.loop-vector.vector-index _ c.loop-vector-test.true c.vector-item.is c.loop-vector.invariant.within c.in_ok-push_vector.ensures.within;
-}
+loop-vector-preserved c = lines_more vector_words c.args.text.now.items _ _ c.args.vectors.now c.loop-vector.vector-index _ c.vector-item.result c.loop-vector-test.true c.vector-item.is c.loop-vector.invariant c.in_ok-push_vector.ensures

@@ -1,0 +1,22 @@
+use Rattle.std.proofs.Common.{◌≤◌, arith}
+use Rattle.om_signs.specs.declared.limits.TheConstants.{MAX_ELEMENTS}
+use Rattle.om_decide.specs.Verdicts.{realizable}
+use Rattle.om_decide.proofs.VerdictLaws.{verdict_shown}
+use Rattle.om_decide.proofs.VerdictForms.{verdict_form}
+use Rattle.om_decide.proofs.deciding.decide.Goals as goal
+
+pub returns-in-Ok-clause-verdict : goal.returns-in-Ok-clause-verdict
+returns-in-Ok-clause-verdict c = realizable c.in-Ok.word c.in-Ok.ensures.found
+
+pub returns-in-Ok-clause-form : goal.returns-in-Ok-clause-form
+returns-in-Ok-clause-form c =
+    let small : c.args.chi.now.elements ≤ MAX_ELEMENTS = (let e = c.elements-elements.ensures.value in let h = c.elements-elements.ensures.high in omega arith) in
+    verdict_form c.args.chi.now small c.args.budgets c.requires _ (realizable c.in-Ok.word c.in-Ok.ensures.found)
+
+pub returns-in-Ok-by_tableau-clause-shown : goal.returns-in-Ok-by_tableau-clause-shown
+returns-in-Ok-by_tableau-clause-shown c = verdict_shown c.args.chi.now c.args.budgets c.in-Ok-by_tableau.verdict c.in-Ok-by_tableau.ensures
+
+pub returns-in-Ok-by_tableau-clause-form : goal.returns-in-Ok-by_tableau-clause-form
+returns-in-Ok-by_tableau-clause-form c =
+    let small : c.args.chi.now.elements ≤ MAX_ELEMENTS = (let e = c.elements-elements.ensures.value in let h = c.elements-elements.ensures.high in omega arith) in
+    verdict_form c.args.chi.now small c.args.budgets c.requires c.in-Ok-by_tableau.verdict c.in-Ok-by_tableau.ensures

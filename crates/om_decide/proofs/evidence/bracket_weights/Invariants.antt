@@ -1,0 +1,5 @@
+use Rattle.om_decide.proofs.WeightLists.{AreWeightsTo}
+use Rattle.om_decide.proofs.evidence.bracket_weights.Given as goal
+
+abbrev pub invariant-loop-place : goal.invariant-loop-place
+invariant-loop-place l = AreWeightsTo l.chi l.values l.place l.weights

@@ -1,0 +1,106 @@
+//! The decision whether vectors realize a chirotope.
+
+ghost use Rattle.std.specs.Prelude.{◌≡◌, ◌≤◌, IfOk, IfErr};
+ghost use Rattle.om_chirotope.specs.Chirotope.{IsChirotope};
+ghost use Rattle.om_signs.specs.declared.limits.TheConstants.{MAX_ELEMENTS};
+ghost use Rattle.om_points.specs.Searches.{IsUnfound};
+ghost use Rattle.om_certificate.specs.Forms.{IsVerdictInForm};
+ghost use Rattle.om_certificate.specs.Validity.{IsValid};
+ghost use Rattle.om_certificate.specs.Verdicts.{certificate_of};
+ghost use Rattle.om_decide.specs.Answers.{IsRefusal};
+ghost use Rattle.om_decide.specs.Verdicts.{AreBudgets, IsVerdictOf};
+
+use super::budgets::Budgets;
+use super::decide_error::DecideError;
+use super::evidence::{bracket_weights, entries};
+use super::making::lawful_statements;
+use super::program::run;
+use om_certificate::{LpEnd, Verdict};
+use om_chirotope::Chirotope;
+use om_points::search;
+use om_signs::NoMemory;
+use om_simplex::Outcome;
+use om_vectors::Unfound;
+use std::alloc::Global;
+
+/// The verdict on a chirotope of rank 3: whether vectors of whole numbers realize it.
+///
+/// - [`Verdict::Realizable`] has the vectors that [`search`] finds in the box within the steps.
+/// - [`Verdict::Nonrealizable`] has the statements of a biquadratic final polynomial with their multiplicities, where the
+///   linear program over the lawful statements ends balanced. No vectors of any size realize the chirotope then.
+/// - [`Verdict::Undecided`] has weights of the nonzero brackets, where the search found no vectors and the program ended
+///   with weights, so that there is no such polynomial; and where the search ended.
+/// - [`Verdict::Limit`] has the end of the program where it made all its pivots or came to a number that is too wide, and
+///   where the search ended, without vectors. `Pivots` has the budget and a basis number for each row.
+///
+/// The verdict is a function of the chirotope and the budgets. Its vectors, entries or weights are valid evidence, as
+/// [`check`](om_certificate::check) says it, and it has the forms and limits that a claim can carry.
+///
+/// Each budget is in the range that [`Budgets`] names. `NotRank3` comes exactly where the rank isn't 3, and `Memory` only
+/// for want of memory, in rank 3.
+///
+/// Source: Bokowski and Richter-Gebert, *On the finding of final polynomials*, 1990.
+pub fn decide(alloc: Global, chi: &Chirotope, budgets: Budgets) -> Result<Verdict, DecideError>
+    requires { AreBudgets budgets }
+    ensures verdict { IfOk result (IsVerdictOf chi.now budgets) }
+    ensures shown { IfOk result (λ verdict. IfOk (certificate_of verdict) (IsValid chi.now)) }
+    ensures form { IfOk result IsVerdictInForm }
+    ensures refused { IfErr result (IsRefusal chi.now) }
+{
+    let _elements = chi.elements();
+    if chi.rank() != 3 {
+        return Err(DecideError::NotRank3 { r: chi.rank() });
+    }
+    match search(chi, budgets.box_size, budgets.steps) {
+        Ok(word) => Ok(Verdict::Realizable(word)),
+        Err(unfound) => match by_tableau(alloc, chi, budgets, unfound) {
+            Ok(verdict) => Ok(verdict),
+            Err(_) => Err(DecideError::Memory),
+        },
+    }
+}
+
+/// The verdict on a chirotope of rank 3 where the search ended without vectors.
+fn by_tableau(
+    alloc: Global,
+    chi: &Chirotope,
+    budgets: Budgets,
+    unfound: Unfound,
+) -> Result<Verdict, NoMemory>
+    requires rank { chi.now.rank ≡ 3 }
+    requires lawful { IsChirotope chi.now }
+    requires small { chi.now.elements ≤ MAX_ELEMENTS }
+    requires budgets { AreBudgets budgets }
+    requires unfound { IsUnfound budgets.box_size chi.now budgets.steps unfound }
+    ensures { IfOk result (IsVerdictOf chi.now budgets) }
+{
+    let statements = lawful_statements(alloc, chi)?;
+    match run(alloc, chi, statements.as_slice(), budgets.pivots)? {
+        Outcome::Balanced(counts) => {
+            let entries = entries(alloc, statements.as_slice(), counts.as_slice())?;
+            Ok(Verdict::Nonrealizable(entries))
+        }
+        Outcome::Weights(values) => {
+            let weights = bracket_weights(alloc, chi, &values)?;
+            Ok(Verdict::Undecided(weights, unfound))
+        }
+        Outcome::PivotLimit { basis } => {
+            let count = budgets.pivots;
+            Ok(Verdict::Limit(LpEnd::Pivots { count, basis }, unfound))
+        }
+        Outcome::Width {
+            stage,
+            pivot,
+            row,
+            place,
+        } => {
+            let end = LpEnd::Width {
+                stage,
+                pivot,
+                row,
+                place,
+            };
+            Ok(Verdict::Limit(end, unfound))
+        }
+    }
+}

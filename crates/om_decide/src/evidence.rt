@@ -1,0 +1,84 @@
+//! What the ends of the linear program stand for: entries of a certificate, and weights of brackets.
+
+ghost use Rattle.std.specs.Prelude.{◌≡◌, ◌≤◌, ◌<◌, ◌+◌, ℕ, length, All, IfOk};
+ghost use Rattle.om_subsets.specs.Subsets.{IsMember};
+ghost use Rattle.om_rows.specs.Rows.{IsPlace};
+ghost use Rattle.om_certificate.specs.Weights.{nonzero_brackets};
+ghost use Rattle.om_decide.specs.Columns.{entries_of, weight_on, weights_on};
+ghost use Rattle.om_decide.specs.Making.{IsLeastFrom};
+
+use super::making::is_nonzero;
+use om_certificate::{Entry, Weight};
+use om_chirotope::Chirotope;
+use om_grassmann::Statement;
+use om_signs::{List, NoMemory};
+use om_simplex::Count;
+use om_subsets::Subset;
+use std::alloc::Global;
+
+/// The statements of counted columns, each with how often it is counted.
+pub fn entries(
+    alloc: Global,
+    statements: &[Statement],
+    counts: &[Count],
+) -> Result<List<Entry>, NoMemory>
+    requires { All (λ c. IsPlace (length statements.now) c.column) counts.now }
+    ensures { IfOk result (λ entries. entries ≡ entries_of statements.now counts.now) }
+{
+    let mut entries = List::new(alloc);
+    for count in counts {
+        entries.push(Entry {
+            statement: statements[count.column as usize - 1],
+            times: count.times,
+        })?;
+    }
+    Ok(entries)
+}
+
+/// The nonzero brackets with these weights, in lexicographic order.
+pub fn bracket_weights(
+    alloc: Global,
+    chi: &Chirotope,
+    values: &List<i128>,
+) -> Result<List<Weight>, NoMemory>
+    requires rank { chi.now.rank ≡ 3 }
+    requires part { 3 ≤ chi.now.elements }
+    requires size { length values.now ≡ length (nonzero_brackets chi.now) }
+    ensures { IfOk result (λ weights. weights ≡ weights_on (nonzero_brackets chi.now) values.now) }
+{
+    let n = chi.elements();
+    let mut weights = List::new(alloc);
+    for place in 0..Subset::choose(n, 3) {
+        let bracket = Subset::unrank(place, 3, n);
+        if is_nonzero(chi, bracket) {
+            weights.push(bracket_weight(bracket, values.at(weights.len())))?;
+        }
+    }
+    Ok(weights)
+}
+
+/// A bracket with a weight.
+fn bracket_weight(bracket: Subset, value: i128) -> Weight
+    requires { length bracket.elements ≡ 3 }
+    ensures { result ≡ weight_on bracket.elements value }
+{
+    let _size = bracket.size();
+    let a = least_from(bracket, 1);
+    let b = least_from(bracket, a + 1);
+    let c = least_from(bracket, b + 1);
+    Weight { a, b, c, value }
+}
+
+/// The least element of a subset from a number on, and one more than the greatest possible element where there is none.
+fn least_from(subset: Subset, low: u8) -> u8
+    requires { 1 ≤ low }
+    ensures { IsLeastFrom subset low result }
+{
+    let n = subset.n();
+    for e in low..n + 1 {
+        if subset.has(e) {
+            return e;
+        }
+    }
+    n + 1
+}
