@@ -8,5 +8,7 @@ mod Memberships
 mod Numerals
 mod OperationLaws
 mod PointLaws
+mod ReplyLaws
 mod SignWords
+mod VerbLaws
 mod WordLaws

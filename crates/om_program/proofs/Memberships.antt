@@ -1,7 +1,7 @@
 -- From the covectors of a representation to those of the document that it represents.
 --
--- Main results: of_chirotope, of_circuits, of_cocircuits, of_covectors; the answer for a representation (meant_by).
-use Rattle.std.specs.Prelude.{ℕ, ◌≡◌, List, Result, IfOk}
+-- Main results: of_chirotope, of_circuits, of_cocircuits, of_covectors.
+use Rattle.std.specs.Prelude.{ℕ, ◌≡◌, List}
 use Rattle.std.proofs.Common.{subst, ◌∙◌}
 use Rattle.std.proofs.lemmas.List.{length-map}
 use Rattle.om_signs.specs.declared.sign.Sign.{Sign}
@@ -13,13 +13,10 @@ use Rattle.om_denotation.specs.Covectors.{IsCovectorOfChirotope, IsCovectorOfCir
 use Rattle.om_text.specs.declared.body.Body.{Body}
 use Rattle.om_text.specs.declared.body.Body.TheVariants as body
 use Rattle.om_program.specs.declared.representation.Representation.TheVariants as representation
-use Rattle.std.proofs.lemmas.Result.{IfOk-weaker}
-use Rattle.om_text.specs.declared.document.Document.{Document}
-use Rattle.om_program.specs.declared.reply.Reply.{Reply}
-use Rattle.om_program.specs.declared.representation.Representation.{Representation}
 use Rattle.om_program.specs.Points.{points_map, vector_of_point}
-use Rattle.om_program.specs.Covectors.{IsOfBody, IsCovectorOfBody, Represents, IsCovectorIn}
-use Rattle.om_program.specs.Meaning.{Answer, IsMembership}
+use Rattle.om_program.specs.Covectors.{IsOfBody, IsCovectorOfBody}
+use Rattle.om_program.specs.declared.answer.Answer.{Answer}
+use Rattle.om_program.specs.Memberships.{IsMembership}
 
 pub of_chirotope : (n : ℕ) (b : Body) (c : SignMap) (x : List Sign) (answer : Answer) → IsOfBody n b (representation.Chirotope c) → IsMembership c.elements (IsCovectorOfChirotope c) x answer → IsMembership n (IsCovectorOfBody n b) x answer
 of_chirotope n (body.Chirotope m) c x answer (same, size) h =
@@ -53,7 +50,3 @@ of_covectors n (body.Chirotope m) c x answer other h = absurd other
 of_covectors n (body.Points points) c x answer other h = absurd other
 of_covectors n (body.Circuits members) c x answer other h = absurd other
 of_covectors n (body.Cocircuits members) c x answer other h = absurd other
-
--- an answer that means something for a representation, where that gives the meaning for each document that it represents
-pub meant_by : {E : Type 0} (r : Result Reply E) (now known : Representation) (x : List Sign) (P : Answer → Type 0) → now ≡ known → ((d : Document) (answer : Answer) → Represents d known → P answer → IsMembership d.elements (IsCovectorIn d) x answer) → IfOk r (λ reply. P (record { status = reply.status; text = reply.text.items })) → IfOk r (λ reply. (d : Document) → Represents d now → IsMembership d.elements (IsCovectorIn d) x (record { status = reply.status; text = reply.text.items }))
-meant_by r now known x P same f = IfOk-weaker r _ _ (λ reply p d represents. f d _ (subst (Represents d) same represents) p)

@@ -13,6 +13,7 @@ use Rattle.om_program.specs.declared.task.Task.TheVariants.{Accept, Member, Conv
 use Rattle.om_program.specs.declared.usage.Usage.{Usage}
 use Rattle.om_program.specs.declared.verb.Verb.{Verb}
 use Rattle.om_program.specs.declared.verb.Verb.TheVariants as verb
+use Rattle.om_program.proofs.VerbLaws.{same_verb}
 use Rattle.om_program.specs.Words.{Names, AreNamed, Spells, NamesKind, IsElement, AreElements, AreNone, IsAlone, AreArguments, kind_word, verb_word, verb_of, AreCommand, Begins, IsFault, IsUsage, at_word, at_end, HasValue, IsRead}
 
 abbrev pub tail_of : List (List ℕ) → List (List ℕ)
@@ -23,26 +24,7 @@ abbrev pub first_of : List (List ℕ) → List ℕ
 first_of [] = []
 first_of (word ∷ words) = word
 
--- ---- verbs and kinds are told by their words
-
-abbrev by_fourth : ℕ → Verb
-by_fourth b = cond (nat_eq b 98) verb.Member (cond (nat_eq b 118) verb.Convert (cond (nat_eq b 108) verb.Dual (cond (nat_eq b 101) verb.Delete (cond (nat_eq b 116) verb.Contract (cond (nat_eq b 114) verb.Reorient verb.Check)))))
-
-abbrev read_verb : List ℕ → Verb
-read_verb word = cond (nat_eq (get_or word 0 0) 97) verb.Accept (by_fourth (get_or word 3 0))
-
-verb_back : (v : Verb) → read_verb (verb_word v) ≡ v
-verb_back verb.Accept = refl
-verb_back verb.Member = refl
-verb_back verb.Convert = refl
-verb_back verb.Dual = refl
-verb_back verb.Delete = refl
-verb_back verb.Contract = refl
-verb_back verb.Reorient = refl
-verb_back verb.Check = refl
-
-pub same_verb : (u v : Verb) → verb_word u ≡ verb_word v → u ≡ v
-same_verb u v same = sym (verb_back u) ∙ ap read_verb same ∙ verb_back v
+-- ---- kinds are told by their words
 
 abbrev read_kind : List ℕ → Kind
 read_kind word = let b : ℕ = get_or word 2 0 in cond (nat_eq b 105) kind.Chirotope (cond (nat_eq b 114) kind.Circuits (cond (nat_eq b 99) kind.Cocircuits kind.Covectors))
@@ -176,109 +158,75 @@ pub err_passed : {A : Type 0} (v : Verb) (Reading : List (List ℕ) → A → Ty
 err_passed v Reading make words result u (Ok t) shape read is err = absurd err
 err_passed v Reading make words result u (Err e) shape read is err = rw err (err_named v Reading make words result u shape read is)
 
+-- ---- the tasks of a verb: a line for each verb in each of these
+
+-- the values that tell the tasks of a verb apart
+abbrev Value : Verb → Type 0
+Value verb.Accept = Unit {0}
+Value verb.Member = List Sign
+Value verb.Convert = Kind
+Value verb.Dual = Unit {0}
+Value verb.Delete = ℕ
+Value verb.Contract = ℕ
+Value verb.Reorient = ℕ
+Value verb.Check = Unit {0}
+
+abbrev value_of : (task : Task) → Value (verb_of task)
+value_of Accept = tt
+value_of (Member x) = x
+value_of (Convert k) = k
+value_of Dual = tt
+value_of (Delete e) = e
+value_of (Contract e) = e
+value_of (Reorient mask) = mask
+value_of Check = tt
+
+abbrev task_of : (v : Verb) → Value v → Task
+task_of verb.Accept _ = Accept
+task_of verb.Member x = Member x
+task_of verb.Convert k = Convert k
+task_of verb.Dual _ = Dual
+task_of verb.Delete e = Delete e
+task_of verb.Contract e = Contract e
+task_of verb.Reorient mask = Reorient mask
+task_of verb.Check _ = Check
+
+task_back : (task : Task) → task ≡ task_of (verb_of task) (value_of task)
+task_back Accept = refl
+task_back (Member x) = refl
+task_back (Convert k) = refl
+task_back Dual = refl
+task_back (Delete e) = refl
+task_back (Contract e) = refl
+task_back (Reorient mask) = refl
+task_back Check = refl
+
+only : (v : Verb) (task : Task) → verb_of task ≡ v → (a : Value v) × (task ≡ task_of v a)
+only v task same = subst (λ u. (a : Value u) × (task ≡ task_of u a)) same (value_of task, task_back task)
+
 pub accept_shape : IsShape verb.Accept AreNone (λ _. Accept)
-accept_shape = record { verb = λ a. refl; arguments = λ a words. (λ h. h, λ h. h); only = only }
-  where
-    only : (task : Task) → verb_of task ≡ verb.Accept → (a : Unit {0}) × (task ≡ Accept)
-    only Accept same = (tt, refl)
-    only (Member x) same = cc
-    only (Convert k) same = cc
-    only Dual same = cc
-    only (Delete e) same = cc
-    only (Contract e) same = cc
-    only (Reorient mask) same = cc
-    only Check same = cc
-
-pub dual_shape : IsShape verb.Dual AreNone (λ _. Dual)
-dual_shape = record { verb = λ a. refl; arguments = λ a words. (λ h. h, λ h. h); only = only }
-  where
-    only : (task : Task) → verb_of task ≡ verb.Dual → (a : Unit {0}) × (task ≡ Dual)
-    only Accept same = cc
-    only (Member x) same = cc
-    only (Convert k) same = cc
-    only Dual same = (tt, refl)
-    only (Delete e) same = cc
-    only (Contract e) same = cc
-    only (Reorient mask) same = cc
-    only Check same = cc
-
-pub check_shape : IsShape verb.Check AreNone (λ _. Check)
-check_shape = record { verb = λ a. refl; arguments = λ a words. (λ h. h, λ h. h); only = only }
-  where
-    only : (task : Task) → verb_of task ≡ verb.Check → (a : Unit {0}) × (task ≡ Check)
-    only Accept same = cc
-    only (Member x) same = cc
-    only (Convert k) same = cc
-    only Dual same = cc
-    only (Delete e) same = cc
-    only (Contract e) same = cc
-    only (Reorient mask) same = cc
-    only Check same = (tt, refl)
+accept_shape = record { verb = λ a. refl; arguments = λ a words. (λ h. h, λ h. h); only = only verb.Accept }
 
 pub member_shape : IsShape verb.Member (IsAlone Spells) Member
-member_shape = record { verb = λ a. refl; arguments = λ a words. (λ h. h, λ h. h); only = only }
-  where
-    only : (task : Task) → verb_of task ≡ verb.Member → (a : List Sign) × (task ≡ Member a)
-    only Accept same = cc
-    only (Member x) same = (x, refl)
-    only (Convert k) same = cc
-    only Dual same = cc
-    only (Delete e) same = cc
-    only (Contract e) same = cc
-    only (Reorient mask) same = cc
-    only Check same = cc
+member_shape = record { verb = λ a. refl; arguments = λ a words. (λ h. h, λ h. h); only = only verb.Member }
 
 pub convert_shape : IsShape verb.Convert (IsAlone NamesKind) Convert
-convert_shape = record { verb = λ a. refl; arguments = λ a words. (λ h. h, λ h. h); only = only }
-  where
-    only : (task : Task) → verb_of task ≡ verb.Convert → (a : Kind) × (task ≡ Convert a)
-    only Accept same = cc
-    only (Member x) same = cc
-    only (Convert k) same = (k, refl)
-    only Dual same = cc
-    only (Delete e) same = cc
-    only (Contract e) same = cc
-    only (Reorient mask) same = cc
-    only Check same = cc
+convert_shape = record { verb = λ a. refl; arguments = λ a words. (λ h. h, λ h. h); only = only verb.Convert }
+
+pub dual_shape : IsShape verb.Dual AreNone (λ _. Dual)
+dual_shape = record { verb = λ a. refl; arguments = λ a words. (λ h. h, λ h. h); only = only verb.Dual }
 
 pub delete_shape : IsShape verb.Delete (IsAlone IsElement) Delete
-delete_shape = record { verb = λ a. refl; arguments = λ a words. (λ h. h, λ h. h); only = only }
-  where
-    only : (task : Task) → verb_of task ≡ verb.Delete → (a : ℕ) × (task ≡ Delete a)
-    only Accept same = cc
-    only (Member x) same = cc
-    only (Convert k) same = cc
-    only Dual same = cc
-    only (Delete e) same = (e, refl)
-    only (Contract e) same = cc
-    only (Reorient mask) same = cc
-    only Check same = cc
+delete_shape = record { verb = λ a. refl; arguments = λ a words. (λ h. h, λ h. h); only = only verb.Delete }
 
 pub contract_shape : IsShape verb.Contract (IsAlone IsElement) Contract
-contract_shape = record { verb = λ a. refl; arguments = λ a words. (λ h. h, λ h. h); only = only }
-  where
-    only : (task : Task) → verb_of task ≡ verb.Contract → (a : ℕ) × (task ≡ Contract a)
-    only Accept same = cc
-    only (Member x) same = cc
-    only (Convert k) same = cc
-    only Dual same = cc
-    only (Delete e) same = cc
-    only (Contract e) same = (e, refl)
-    only (Reorient mask) same = cc
-    only Check same = cc
+contract_shape = record { verb = λ a. refl; arguments = λ a words. (λ h. h, λ h. h); only = only verb.Contract }
 
 pub reorient_shape : IsShape verb.Reorient AreElements Reorient
-reorient_shape = record { verb = λ a. refl; arguments = λ a words. (λ h. h, λ h. h); only = only }
-  where
-    only : (task : Task) → verb_of task ≡ verb.Reorient → (a : ℕ) × (task ≡ Reorient a)
-    only Accept same = cc
-    only (Member x) same = cc
-    only (Convert k) same = cc
-    only Dual same = cc
-    only (Delete e) same = cc
-    only (Contract e) same = cc
-    only (Reorient mask) same = (mask, refl)
-    only Check same = cc
+reorient_shape = record { verb = λ a. refl; arguments = λ a words. (λ h. h, λ h. h); only = only verb.Reorient }
+
+pub check_shape : IsShape verb.Check AreNone (λ _. Check)
+check_shape = record { verb = λ a. refl; arguments = λ a words. (λ h. h, λ h. h); only = only verb.Check }
 
 -- ---- a list of words and its first word
 

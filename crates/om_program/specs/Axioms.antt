@@ -36,11 +36,14 @@ abbrev pub map_line : MapRefused → Line
 map_line AllZero = RefusedAllzero
 map_line (Relation s a) = RefusedRelation s a
 
--- the line for a map: all values are zero; else the first pair of lists that isn't orthogonal
+-- why a map is no chirotope: all values are zero; else the first pair of lists that isn't orthogonal
+abbrev pub IsViolatedMap : RawMap → MapRefused → Type 0
+IsViolatedMap m AllZero = maps.IsAllZero m.signs
+IsViolatedMap m (Relation s a) = (maps.IsAllZero m.signs → ⊥) × maps.IsFirstViolated (map_of m) s a
+
+-- the line for a map: the first of these
 abbrev pub IsMapRefused : RawMap → Line → Type 0
-IsMapRefused m RefusedAllzero = maps.IsAllZero m.signs
-IsMapRefused m (RefusedRelation s a) = (maps.IsAllZero m.signs → ⊥) × maps.IsFirstViolated (map_of m) s a
-IsMapRefused m _ = ⊥
+IsMapRefused m l = (why : MapRefused) × ((l ≡ map_line why) × IsViolatedMap m why)
 
 -- the line that names a violated instance of the axioms of circuits
 abbrev pub set_line : SetRefused → Line

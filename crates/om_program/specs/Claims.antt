@@ -1,8 +1,6 @@
--- What a claim means: whether its verdict has proof for the chirotope of its document. The answer is one line, with a status.
-use Rattle.std.specs.Prelude.{◌≡◌, ◌≢◌, Option, Some, None, Ok}
-use Rattle.om_chirotope.specs.Map.{SignMap, map_of}
-use Rattle.om_text.specs.declared.body.Body.{Body}
-use Rattle.om_text.specs.declared.body.Body.TheVariants as body
+-- What a claim means: whether its verdict has proof for the chirotope of its document. The answer is one line.
+use Rattle.std.specs.Prelude.{◌≡◌, ◌≢◌, false, Ok}
+use Rattle.om_chirotope.specs.Map.{SignMap}
 use Rattle.om_certificate.specs.declared.evidence.Evidence.{Evidence}
 use Rattle.om_certificate.specs.declared.evidence.Evidence.TheVariants as evidence
 use Rattle.om_certificate.specs.declared.cert_refused.CertRefused.{CertRefused}
@@ -17,16 +15,8 @@ use Rattle.om_vectors.specs.declared.unfound.Unfound.{Unfound}
 use Rattle.om_answer.specs.declared.claim.Claim.{Claim}
 use Rattle.om_answer.specs.declared.line.Line.{Line}
 use Rattle.om_answer.specs.declared.line.Line.TheVariants as line
-use Rattle.om_program.specs.declared.status.Status.{Status}
-use Rattle.om_program.specs.declared.status.Status.TheVariants.{Done, Refused}
-use Rattle.om_program.specs.Points.{points_map}
+use Rattle.om_program.specs.Chirotopes.{IsChirotopeOf, is_operable}
 use Rattle.om_program.specs.Axioms.{MeetsAxioms, IsRefused}
-
--- the chirotope of a body: the given map, or that of the signs of points; from a list of sign vectors it isn't made yet
-abbrev pub chirotope_in : Body → Option SignMap
-chirotope_in (body.Chirotope m) = Some (map_of m)
-chirotope_in (body.Points points) = Some (points_map points)
-chirotope_in _ = None
 
 -- the line that says what valid evidence proves
 abbrev pub valid_line : Evidence → Line
@@ -46,27 +36,27 @@ refusal_line (cert.Bracket k) = line.RefusedBracket k
 refusal_line (cert.WeightFails st) = line.RefusedWeightfails st
 
 -- what evidence means for a map
-pub data EvidenceMeans (m : SignMap) (e : Evidence) : Status → Line → Type 0 where
+pub data EvidenceMeans (m : SignMap) (e : Evidence) : Line → Type 0 where
   -- it proves nothing, and this is the first reason
-  refused : (why : CertRefused) → IsRefusal m e why → EvidenceMeans m e Refused (refusal_line why)
+  refused : (why : CertRefused) → IsRefusal m e why → EvidenceMeans m e (refusal_line why)
   -- the vectors realize the map; the entries are a certificate, so that no vectors of whole numbers of any size realize it; the
   -- weights are such that no list of entries at all is a certificate
-  valid : IsValid m e → Shows m e → EvidenceMeans m e Done (valid_line e)
+  valid : IsValid m e → Shows m e → EvidenceMeans m e (valid_line e)
 
 -- what a verdict means for a map
-pub data VerdictMeans (m : SignMap) (v : Verdict) : Status → Line → Type 0 where
+pub data VerdictMeans (m : SignMap) (v : Verdict) : Line → Type 0 where
   -- verdicts are of rank 3
-  other_rank : m.rank ≢ 3 → VerdictMeans m v Refused (line.RefusedNotrank3 m.rank)
+  other_rank : m.rank ≢ 3 → VerdictMeans m v (line.RefusedNotrank3 m.rank)
   -- a limit has no certificate
-  limited : (end : LpEnd) (unfound : Unfound) → m.rank ≡ 3 → v ≡ Limit end unfound → VerdictMeans m v Refused line.RefusedNocertificate
+  limited : (end : LpEnd) (unfound : Unfound) → m.rank ≡ 3 → v ≡ Limit end unfound → VerdictMeans m v line.RefusedNocertificate
   -- every other verdict has evidence
-  judged : (e : Evidence) (s : Status) (l : Line) → m.rank ≡ 3 → certificate_of v ≡ Ok e → EvidenceMeans m e s l → VerdictMeans m v s l
+  judged : (e : Evidence) (l : Line) → m.rank ≡ 3 → certificate_of v ≡ Ok e → EvidenceMeans m e l → VerdictMeans m v l
 
 -- what a claim means
-pub data ClaimMeans (c : Claim) : Status → Line → Type 0 where
+pub data ClaimMeans (c : Claim) : Line → Type 0 where
   -- its document fails the axioms of its kind, and this line names the first violated instance
-  fails_axioms : (why : Line) → IsRefused c.document.body why → ClaimMeans c Refused why
+  fails_axioms : (why : Line) → IsRefused c.document.body why → ClaimMeans c why
   -- claims of lists aren't built yet
-  not_built : MeetsAxioms c.document.body → chirotope_in c.document.body ≡ None → ClaimMeans c Refused line.RefusedUnbuilt
+  not_built : MeetsAxioms c.document.body → is_operable c.document.body ≡ false → ClaimMeans c line.RefusedUnbuilt
   -- the verdict is of this chirotope
-  verified : (m : SignMap) (s : Status) (l : Line) → MeetsAxioms c.document.body → chirotope_in c.document.body ≡ Some m → VerdictMeans m c.verdict s l → ClaimMeans c s l
+  verified : (m : SignMap) (l : Line) → MeetsAxioms c.document.body → IsChirotopeOf c.document m → VerdictMeans m c.verdict l → ClaimMeans c l

@@ -1,5 +1,5 @@
 -- Documents of one kind as documents of another.
-use Rattle.std.specs.Prelude.{◌≡◌, ◌↔◌, List, Bool, true, false, Result, Ok, Err}
+use Rattle.std.specs.Prelude.{◌≡◌, ◌↔◌, List, Bool, true, false}
 use Rattle.om_signs.specs.declared.limits.TheConstants.{MAX_MEMBERS}
 use Rattle.om_signs.specs.declared.sign.Sign.{Sign}
 use Rattle.om_chirotope.specs.Map.{SignMap, map_of}
@@ -14,8 +14,9 @@ use Rattle.om_text.specs.declared.body.Body.TheVariants as body
 use Rattle.om_text.specs.Form.{IsInForm}
 use Rattle.om_answer.specs.declared.kind.Kind.{Kind}
 use Rattle.om_answer.specs.declared.kind.Kind.TheVariants as kind
-use Rattle.om_program.specs.declared.unconverted.Unconverted.{Unconverted}
-use Rattle.om_program.specs.declared.unconverted.Unconverted.TheVariants as unconverted
+use Rattle.om_answer.specs.declared.line.Line.TheVariants as line
+use Rattle.om_program.specs.declared.answer.Answer.{Answer}
+use Rattle.om_program.specs.Answers.{says, shows}
 use Rattle.om_program.specs.Points.{points_map, raw_of}
 use Rattle.om_program.specs.Axioms.{MeetsAxioms}
 use Rattle.om_program.specs.Covectors.{IsCovectorIn}
@@ -78,14 +79,16 @@ pub record IsConverted (k : Kind) (d e : Document) : Type 0 where
   pub members : HasMembersOf d.body e.body
   pub own : has_kind k d.body ≡ true → e ≡ record { elements = d.elements; body = given d.body }
 
--- why a list that isn't made has no document
-abbrev pub failure : ConvertError → Unconverted
-failure (convert.TooMany limit) = unconverted.TooMany limit
-failure convert.Memory = unconverted.Memory
+-- a document as one of a kind
+pub data IsConversion (k : Kind) (d : Document) : Answer → Type 0 where
+  -- the converted document
+  converted : (e : Document) → is_built k d.body ≡ true → (HasTooMany k d.body → ⊥) → IsConverted k d e → IsConversion k d (shows e)
+  -- it would have more members than a list may have
+  limited : is_built k d.body ≡ true → HasTooMany k d.body → IsConversion k d (says (line.LimitMembers MAX_MEMBERS))
+  -- the conversion isn't built yet
+  unbuilt : is_built k d.body ≡ false → IsConversion k d (says line.RefusedUnbuilt)
 
--- what comes of a conversion: the converted document where it is built and has few enough members, and else why there is none
-abbrev pub IsOutcome : Kind → Document → Result Document Unconverted → Type 0
-IsOutcome k d (Ok e) = (is_built k d.body ≡ true) × (HasTooMany k d.body → ⊥) × IsConverted k d e
-IsOutcome k d (Err unconverted.Unbuilt) = is_built k d.body ≡ false
-IsOutcome k d (Err (unconverted.TooMany limit)) = (is_built k d.body ≡ true) × (limit ≡ MAX_MEMBERS) × HasTooMany k d.body
-IsOutcome k d (Err unconverted.Memory) = Unit {0}
+-- the answer where a list isn't made for having too many members; want of memory has none
+abbrev pub IsTooMany : ConvertError → Answer → Type 0
+IsTooMany (convert.TooMany limit) a = a ≡ says (line.LimitMembers limit)
+IsTooMany convert.Memory a = ⊥

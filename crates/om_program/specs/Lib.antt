@@ -1,11 +1,16 @@
 pub mod Words
 pub mod Samples
-pub mod Tasks
+pub mod Statuses
+pub mod Answers
 pub mod Points
 pub mod Axioms
 pub mod Covectors
+pub mod Represented
+pub mod Chirotopes
+pub mod Memberships
 pub mod Conversions
 pub mod Operations
+pub mod Tasks
 pub mod Claims
 pub mod Meaning
 pub mod Run

@@ -1,5 +1,5 @@
 -- The operations on oriented matroids: duals, minors and reorientations.
-use Rattle.std.specs.Prelude.{ℕ, ◌≡◌, ◌<◌, ◌≤◌, ◌^◌, ◌-◌, List, [], ◌∷◌, Bool, true, false, Option, nat_lt}
+use Rattle.std.specs.Prelude.{ℕ, ◌≡◌, ◌<◌, ◌≤◌, ◌^◌, ◌-◌, List, [], ◌∷◌, true, false, Option, Some, None, nat_lt}
 use Rattle.std.specs.List.{find}
 use Rattle.om_signs.specs.declared.limits.TheConstants.{MAX_ELEMENTS}
 use Rattle.om_signs.specs.declared.sign.Sign.{Sign}
@@ -12,18 +12,14 @@ use Rattle.om_text.specs.declared.document.Document.{Document}
 use Rattle.om_text.specs.declared.body.Body.{Body}
 use Rattle.om_text.specs.declared.body.Body.TheVariants as body
 use Rattle.om_text.specs.Form.{IsInForm}
+use Rattle.om_answer.specs.declared.line.Line.TheVariants as line
+use Rattle.om_program.specs.declared.answer.Answer.{Answer}
 use Rattle.om_program.specs.declared.operation.Operation.{Operation}
 use Rattle.om_program.specs.declared.operation.Operation.TheVariants.{Dual, Delete, Contract, Reorient}
-use Rattle.om_program.specs.declared.task.Task.{Task}
-use Rattle.om_program.specs.declared.task.Task.TheVariants as task
+use Rattle.om_program.specs.Answers.{says, shows}
 use Rattle.om_program.specs.Axioms.{MeetsAxioms}
+use Rattle.om_program.specs.Chirotopes.{is_operable}
 use Rattle.om_program.specs.Covectors.{IsCovectorIn}
-
--- whether the operations are built for a body: they are for chirotopes and points
-abbrev pub is_operable : Body → Bool
-is_operable (body.Chirotope m) = true
-is_operable (body.Points points) = true
-is_operable _ = false
 
 -- the elements that an operation names, in increasing order
 abbrev pub named_elements : Operation → List ℕ
@@ -39,22 +35,15 @@ IsLawful (Delete e) = (1 ≤ e) × (e ≤ MAX_ELEMENTS)
 IsLawful (Contract e) = (1 ≤ e) × (e ≤ MAX_ELEMENTS)
 IsLawful (Reorient mask) = mask < 2 ^ MAX_ELEMENTS
 
--- the elements that a task names lie within the limit
-abbrev pub NamesElements : Task → Type 0
-NamesElements (task.Delete e) = IsLawful (Delete e)
-NamesElements (task.Contract e) = IsLawful (Contract e)
-NamesElements (task.Reorient mask) = IsLawful (Reorient mask)
-NamesElements _ = Unit {0}
-
 -- the first of the elements that is above n
 abbrev pub first_above : ℕ → List ℕ → Option ℕ
 first_above n elements = find (λ e. nat_lt n e) elements
 
--- whether an operation takes an element away
-abbrev pub drops_element : Operation → Bool
-drops_element (Delete e) = true
-drops_element (Contract e) = true
-drops_element _ = false
+-- an operation takes an element away, and there is one alone
+abbrev pub TakesOnly : Operation → ℕ → Type 0
+TakesOnly (Delete e) n = n ≡ 1
+TakesOnly (Contract e) n = n ≡ 1
+TakesOnly _ n = ⊥
 
 -- how many of n elements an operation leaves
 abbrev pub elements_left : Operation → ℕ → ℕ
@@ -70,14 +59,14 @@ AreMade (Contract e) n P Q = IsContraction n e P Q
 AreMade (Reorient mask) n P Q = IsReorientation n mask P Q
 
 -- a map with the covectors that an operation makes of the covectors P on n elements; its first sign that isn't zero is plus
-pub record IsChirotopeOf (o : Operation) (n : ℕ) (P : List Sign → Type 0) (m : SignMap) : Type 0 where
+pub record IsMapMade (o : Operation) (n : ℕ) (P : List Sign → Type 0) (m : SignMap) : Type 0 where
   pub elements : m.elements ≡ elements_left o n
   pub normal : IsLedBy Plus m.signs
   pub covectors : AreMade o n P (IsCovectorOfChirotope m)
 
 -- the body is such a map
 abbrev pub IsBodyOf : Operation → ℕ → (List Sign → Type 0) → Body → Type 0
-IsBodyOf o n P (body.Chirotope m) = IsChirotopeOf o n P (map_of m)
+IsBodyOf o n P (body.Chirotope m) = IsMapMade o n P (map_of m)
 IsBodyOf o n P _ = ⊥
 
 -- e is what an operation makes of d, as the document of a normal chirotope
@@ -85,3 +74,14 @@ pub record IsMade (o : Operation) (d e : Document) : Type 0 where
   pub form : IsInForm e
   pub axioms : MeetsAxioms e.body
   pub body : IsBodyOf o d.elements (IsCovectorIn d) e.body
+
+-- what an operation makes of a document
+pub data IsOperation (o : Operation) (d : Document) : Answer → Type 0 where
+  -- the operations aren't built yet for this kind
+  not_built : is_operable d.body ≡ false → IsOperation o d (says line.RefusedUnbuilt)
+  -- it names an element above the number of elements
+  outside : (e : ℕ) → is_operable d.body ≡ true → first_above d.elements (named_elements o) ≡ Some e → IsOperation o d (says (line.RefusedPlace e))
+  -- it would take the only element away
+  last : is_operable d.body ≡ true → first_above d.elements (named_elements o) ≡ None → TakesOnly o d.elements → IsOperation o d (says line.RefusedLastelement)
+  -- the document of the normal chirotope that it makes
+  made : (e : Document) → is_operable d.body ≡ true → first_above d.elements (named_elements o) ≡ None → (TakesOnly o d.elements → ⊥) → IsMade o d e → IsOperation o d (shows e)

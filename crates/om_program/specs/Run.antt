@@ -1,33 +1,27 @@
 -- What a run has written, beside what its words and its input mean.
-use Rattle.std.specs.Prelude.{ℕ, ◌<◌, List, length, take, IfSome, Option}
+use Rattle.std.specs.Prelude.{ℕ, ◌≡◌, ◌<◌, List, length, take, IfSome, Option}
 use Rattle.std.specs.Io.KnownBytes.{Appends}
 use Rattle.om_program.specs.declared.task.Task.{Task}
 use Rattle.om_program.specs.declared.status.Status.{Status}
-use Rattle.om_program.specs.declared.status.Status.TheVariants.{ReadFault, WriteFault, NoMemory}
-use Rattle.om_program.specs.Meaning.{Answer, Means, TaskMeans}
-
--- a status with which the whole text was written: none of read fault, write fault and want of memory
-abbrev pub IsAnswered : Status → Type 0
-IsAnswered ReadFault = ⊥
-IsAnswered WriteFault = ⊥
-IsAnswered NoMemory = ⊥
-IsAnswered _ = Unit {0}
+use Rattle.om_program.specs.declared.answer.Answer.{Answer}
+use Rattle.om_program.specs.Answers.{status_of, text_of}
+use Rattle.om_program.specs.Meaning.{Means, TaskMeans}
 
 -- where the source tells the bytes that it had left, the answer is what they mean
 abbrev pub IsMeantBy : (List ℕ → Answer → Type 0) → Option (List ℕ) → Answer → Type 0
 IsMeantBy Meaning left answer = IfSome left (λ bytes. Meaning bytes answer)
 
--- a text of this meaning, with this status, was written whole
+-- an answer of this meaning, with this status, was written whole
 abbrev pub IsWhole : (Answer → Type 0) → Status → Option (List ℕ) → Option (List ℕ) → Type 0
-IsWhole Meaning status old new = (text : List ℕ) × (Meaning (record { status = status; text = text }) × Appends old new text)
+IsWhole Meaning status old new = (answer : Answer) × (Meaning answer × ((status ≡ status_of answer) × Appends old new (text_of answer)))
 
 -- the first bytes of a text were written, and not all of them
 abbrev pub IsFront : Option (List ℕ) → Option (List ℕ) → List ℕ → Type 0
 IsFront old new text = (k : ℕ) × ((k < length text) × Appends old new (take k text))
 
--- a text of this meaning was begun, and not finished
+-- an answer of this meaning was begun, and not finished
 abbrev pub IsCutOff : (Answer → Type 0) → Option (List ℕ) → Option (List ℕ) → Type 0
-IsCutOff Meaning old new = (answer : Answer) × (Meaning answer × IsFront old new answer.text)
+IsCutOff Meaning old new = (answer : Answer) × (Meaning answer × IsFront old new (text_of answer))
 
 -- where the source tells the bytes that it had left: the status, and the bytes that the sink has taken, are those that the words and
 -- these bytes mean

@@ -1,9 +1,19 @@
--- What tasks read.
-use Rattle.std.specs.Prelude.{Bool, true, false}
+-- What tasks read, and their arguments.
+use Rattle.om_program.specs.declared.operation.Operation.TheVariants as operation
+use Rattle.om_program.specs.declared.reads.Reads.{Reads}
+use Rattle.om_program.specs.declared.reads.Reads.TheVariants as kind
 use Rattle.om_program.specs.declared.task.Task.{Task}
-use Rattle.om_program.specs.declared.task.Task.TheVariants.{Check}
+use Rattle.om_program.specs.declared.task.Task.TheVariants.{Delete, Contract, Reorient, Check}
+use Rattle.om_program.specs.Operations.{IsLawful}
 
--- whether a task asks for a claim, in place of a document
-abbrev pub reads_claim : Task → Bool
-reads_claim Check = true
-reads_claim _ = false
+-- what a task reads
+abbrev pub reads : Task → Reads
+reads Check = kind.Claim
+reads _ = kind.Document
+
+-- the arguments of a task lie within the limits
+abbrev pub HasLawfulArguments : Task → Type 0
+HasLawfulArguments (Delete e) = IsLawful (operation.Delete e)
+HasLawfulArguments (Contract e) = IsLawful (operation.Contract e)
+HasLawfulArguments (Reorient mask) = IsLawful (operation.Reorient mask)
+HasLawfulArguments _ = Unit {0}

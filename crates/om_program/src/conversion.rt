@@ -1,166 +1,129 @@
-ghost use Rattle.std.specs.Prelude.{◌≡◌, IfOk, false};
-ghost use Rattle.om_text.specs.declared.document.Document.{Document};
-ghost use Rattle.om_text.specs.Form.{IsInForm};
-ghost use Rattle.om_program.specs.Axioms.{MeetsAxioms};
-ghost use Rattle.om_program.specs.Covectors.{Represents};
-ghost use Rattle.om_program.specs.Conversions.{has_kind, given, IsOutcome, failure};
+//! Documents of one kind as documents of another.
 
+ghost use Rattle.std.specs.Prelude.{◌≡◌, IfOk};
+ghost use Rattle.om_program.specs.Answers.{says};
+ghost use Rattle.om_program.specs.Represented.{IsMeantFor};
+ghost use Rattle.om_program.specs.Conversions.{IsConversion, IsTooMany};
+
+use crate::answer::Answer;
 use crate::documents::{circuits_document, cocircuits_document, covectors_document, map_document};
 use crate::representation::Representation;
-use crate::unconverted::Unconverted;
-use om_answer::Kind;
+use om_answer::{Kind, Line};
 use om_chirotope::Chirotope;
+use om_circuits::{Circuits, Cocircuits};
 use om_convert::{
     ConvertError, chirotope_to_circuits, chirotope_to_cocircuits, chirotope_to_covectors,
     covectors_to_cocircuits,
 };
 use om_covectors::Covectors;
-use om_text::Document;
+use om_signs::NoMemory;
 use std::alloc::Global;
 
-/// The document of a kind that denotes the same, or why there is none.
-pub fn converted(
+/// The document of a kind that denotes the same oriented matroid, or the line that says why there is none.
+pub fn convert(
     alloc: Global,
     representation: Representation,
     kind: Kind,
-) -> Result<Document, Unconverted>
-    ensures form { IfOk result IsInForm }
-    ensures outcome { (d : Document) → Represents d representation → MeetsAxioms d.body → IsOutcome kind d result }
-{
-    if is_own_kind(&representation, kind) {
-        Ok(own_document(representation))
-    } else {
-        converted_list(alloc, &representation, kind)
-    }
-}
-
-/// The document of another kind that denotes the same, or why there is none.
-fn converted_list(
-    alloc: Global,
-    representation: &Representation,
-    kind: Kind,
-) -> Result<Document, Unconverted>
-    requires { (d : Document) → Represents d representation.now → has_kind kind d.body ≡ false }
-    ensures form { IfOk result IsInForm }
-    ensures outcome { (d : Document) → Represents d representation.now → IsOutcome kind d result }
+) -> Result<Answer, NoMemory>
+    ensures { IfOk result (IsMeantFor (IsConversion kind) representation) }
 {
     match representation {
-        Representation::Chirotope(chirotope) => converted_chirotope(alloc, chirotope, kind),
-        Representation::Covectors(covectors) => converted_covectors(alloc, covectors, kind),
-        Representation::Circuits(_) | Representation::Cocircuits(_) => Err(Unconverted::Unbuilt),
+        Representation::Chirotope(chirotope) => convert_chirotope(alloc, chirotope, kind),
+        Representation::Circuits(circuits) => Ok(convert_circuits(circuits, kind)),
+        Representation::Cocircuits(cocircuits) => Ok(convert_cocircuits(cocircuits, kind)),
+        Representation::Covectors(covectors) => convert_covectors(alloc, covectors, kind),
     }
 }
 
-/// The document of another kind that denotes the same as a chirotope, or why there is none.
-fn converted_chirotope(
-    alloc: Global,
-    chirotope: &Chirotope,
-    kind: Kind,
-) -> Result<Document, Unconverted>
-    requires { (d : Document) → Represents d (Representation.Chirotope chirotope.now) → has_kind kind d.body ≡ false }
-    ensures form { IfOk result IsInForm }
-    ensures outcome { (d : Document) → Represents d (Representation.Chirotope chirotope.now) → IsOutcome kind d result }
+/// A chirotope as a document of a kind.
+fn convert_chirotope(alloc: Global, chirotope: Chirotope, kind: Kind) -> Result<Answer, NoMemory>
+    ensures { IfOk result (IsMeantFor (IsConversion kind) (Representation.Chirotope chirotope)) }
 {
     match kind {
-        Kind::Chirotope => Err(Unconverted::Unbuilt),
-        Kind::Circuits => circuits_of(alloc, chirotope),
-        Kind::Cocircuits => cocircuits_of(alloc, chirotope),
-        Kind::Covectors => covectors_of(alloc, chirotope),
+        Kind::Chirotope => Ok(Answer::Document(map_document(chirotope))),
+        Kind::Circuits => list_circuits(alloc, &chirotope),
+        Kind::Cocircuits => list_cocircuits(alloc, &chirotope),
+        Kind::Covectors => list_covectors(alloc, &chirotope),
     }
 }
 
-/// The document of the circuits of a chirotope, or why there is none.
-fn circuits_of(alloc: Global, chirotope: &Chirotope) -> Result<Document, Unconverted>
-    ensures form { IfOk result IsInForm }
-    ensures outcome { (d : Document) → Represents d (Representation.Chirotope chirotope.now) → IsOutcome Kind.Circuits d result }
+/// The document of the circuits of a chirotope.
+fn list_circuits(alloc: Global, chirotope: &Chirotope) -> Result<Answer, NoMemory>
+    ensures { IfOk result (IsMeantFor (IsConversion Kind.Circuits) (Representation.Chirotope chirotope.now)) }
 {
     match chirotope_to_circuits(alloc, chirotope) {
-        Ok(circuits) => Ok(circuits_document(circuits)),
-        Err(why) => Err(unlisted(why)),
+        Ok(circuits) => Ok(Answer::Document(circuits_document(circuits))),
+        Err(why) => refuse_list(why),
     }
 }
 
-/// The document of the cocircuits of a chirotope, or why there is none.
-fn cocircuits_of(alloc: Global, chirotope: &Chirotope) -> Result<Document, Unconverted>
-    ensures form { IfOk result IsInForm }
-    ensures outcome { (d : Document) → Represents d (Representation.Chirotope chirotope.now) → IsOutcome Kind.Cocircuits d result }
+/// The document of the cocircuits of a chirotope.
+fn list_cocircuits(alloc: Global, chirotope: &Chirotope) -> Result<Answer, NoMemory>
+    ensures { IfOk result (IsMeantFor (IsConversion Kind.Cocircuits) (Representation.Chirotope chirotope.now)) }
 {
     match chirotope_to_cocircuits(alloc, chirotope) {
-        Ok(cocircuits) => Ok(cocircuits_document(cocircuits)),
-        Err(why) => Err(unlisted(why)),
+        Ok(cocircuits) => Ok(Answer::Document(cocircuits_document(cocircuits))),
+        Err(why) => refuse_list(why),
     }
 }
 
-/// The document of the covectors of a chirotope, or why there is none.
-fn covectors_of(alloc: Global, chirotope: &Chirotope) -> Result<Document, Unconverted>
-    ensures form { IfOk result IsInForm }
-    ensures outcome { (d : Document) → Represents d (Representation.Chirotope chirotope.now) → IsOutcome Kind.Covectors d result }
+/// The document of the covectors of a chirotope.
+fn list_covectors(alloc: Global, chirotope: &Chirotope) -> Result<Answer, NoMemory>
+    ensures { IfOk result (IsMeantFor (IsConversion Kind.Covectors) (Representation.Chirotope chirotope.now)) }
 {
     match chirotope_to_covectors(alloc, chirotope) {
-        Ok(covectors) => Ok(covectors_document(covectors)),
-        Err(why) => Err(unlisted(why)),
+        Ok(covectors) => Ok(Answer::Document(covectors_document(covectors))),
+        Err(why) => refuse_list(why),
     }
 }
 
-/// Why a list has no document.
-fn unlisted(why: ConvertError) -> Unconverted
-    ensures { result ≡ failure why }
-{
-    match why {
-        ConvertError::TooMany { limit } => Unconverted::TooMany { limit },
-        ConvertError::Memory => Unconverted::Memory,
-    }
-}
-
-/// The document of another kind that denotes the same as covectors, or why there is none.
-fn converted_covectors(
-    alloc: Global,
-    covectors: &Covectors,
-    kind: Kind,
-) -> Result<Document, Unconverted>
-    requires { (d : Document) → Represents d (Representation.Covectors covectors.now) → has_kind kind d.body ≡ false }
-    ensures form { IfOk result IsInForm }
-    ensures outcome { (d : Document) → Represents d (Representation.Covectors covectors.now) → IsOutcome kind d result }
+/// Circuits as a document of a kind.
+fn convert_circuits(circuits: Circuits, kind: Kind) -> Answer
+    ensures { IsMeantFor (IsConversion kind) (Representation.Circuits circuits) result }
 {
     match kind {
-        Kind::Cocircuits => cocircuits_among(alloc, covectors),
-        Kind::Chirotope | Kind::Circuits | Kind::Covectors => Err(Unconverted::Unbuilt),
+        Kind::Circuits => Answer::Document(circuits_document(circuits)),
+        Kind::Chirotope | Kind::Cocircuits | Kind::Covectors => Answer::Line(Line::RefusedUnbuilt),
+    }
+}
+
+/// Cocircuits as a document of a kind.
+fn convert_cocircuits(cocircuits: Cocircuits, kind: Kind) -> Answer
+    ensures { IsMeantFor (IsConversion kind) (Representation.Cocircuits cocircuits) result }
+{
+    match kind {
+        Kind::Cocircuits => Answer::Document(cocircuits_document(cocircuits)),
+        Kind::Chirotope | Kind::Circuits | Kind::Covectors => Answer::Line(Line::RefusedUnbuilt),
+    }
+}
+
+/// Covectors as a document of a kind.
+fn convert_covectors(alloc: Global, covectors: Covectors, kind: Kind) -> Result<Answer, NoMemory>
+    ensures { IfOk result (IsMeantFor (IsConversion kind) (Representation.Covectors covectors)) }
+{
+    match kind {
+        Kind::Cocircuits => list_minimal(alloc, &covectors),
+        Kind::Covectors => Ok(Answer::Document(covectors_document(covectors))),
+        Kind::Chirotope | Kind::Circuits => Ok(Answer::Line(Line::RefusedUnbuilt)),
     }
 }
 
 /// The document of the cocircuits of an oriented matroid with these covectors.
-fn cocircuits_among(alloc: Global, covectors: &Covectors) -> Result<Document, Unconverted>
-    ensures form { IfOk result IsInForm }
-    ensures outcome { (d : Document) → Represents d (Representation.Covectors covectors.now) → IsOutcome Kind.Cocircuits d result }
+fn list_minimal(alloc: Global, covectors: &Covectors) -> Result<Answer, NoMemory>
+    ensures { IfOk result (IsMeantFor (IsConversion Kind.Cocircuits) (Representation.Covectors covectors.now)) }
 {
     match covectors_to_cocircuits(alloc, covectors) {
-        Ok(cocircuits) => Ok(cocircuits_document(cocircuits)),
-        Err(_) => Err(Unconverted::Memory),
+        Ok(cocircuits) => Ok(Answer::Document(cocircuits_document(cocircuits))),
+        Err(why) => refuse_list(why),
     }
 }
 
-/// Whether a representation is of a kind.
-fn is_own_kind(representation: &Representation, kind: Kind) -> bool
-    ensures { (d : Document) → Represents d representation.now → result ≡ has_kind kind d.body }
+/// The answer where a list isn't made: it would have too many members, or memory was wanting.
+fn refuse_list(why: ConvertError) -> Result<Answer, NoMemory>
+    ensures { IfOk result (IsTooMany why) }
 {
-    match representation {
-        Representation::Chirotope(_) => kind == Kind::Chirotope,
-        Representation::Circuits(_) => kind == Kind::Circuits,
-        Representation::Cocircuits(_) => kind == Kind::Cocircuits,
-        Representation::Covectors(_) => kind == Kind::Covectors,
-    }
-}
-
-/// The document of a representation, of its own kind.
-fn own_document(representation: Representation) -> Document
-    ensures form { IsInForm result }
-    ensures axioms { MeetsAxioms result.body }
-    ensures own { (d : Document) → Represents d representation → result ≡ record { elements = d.elements; body = given d.body } }
-{
-    match representation {
-        Representation::Chirotope(chirotope) => map_document(chirotope),
-        Representation::Circuits(circuits) => circuits_document(circuits),
-        Representation::Cocircuits(cocircuits) => cocircuits_document(cocircuits),
-        Representation::Covectors(covectors) => covectors_document(covectors),
+    match why {
+        ConvertError::TooMany { limit } => Ok(Answer::Line(Line::LimitMembers { limit })),
+        ConvertError::Memory => Err(NoMemory),
     }
 }

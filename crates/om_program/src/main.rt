@@ -1,21 +1,25 @@
 //! The program `om`: it reads words and standard input, and writes one answer to standard output.
 #![tactic(auto)]
 
+mod answer;
+mod answering;
 mod argument;
 mod arguments;
+mod chirotope_choice;
 #[cfg(test)]
 mod claim_tests;
 mod command;
 mod conversion;
 mod documents;
-mod finding;
 #[cfg(test)]
 mod map_tests;
+mod membership;
 mod operation;
 #[cfg(test)]
 mod point_tests;
 mod point_vectors;
-mod reply;
+mod print_answer;
+mod reads;
 mod representation;
 mod run;
 mod spelling;
@@ -23,7 +27,6 @@ mod status;
 mod task;
 #[cfg(test)]
 mod tests;
-mod unconverted;
 mod unrepresented;
 mod usage;
 mod verb;
@@ -31,12 +34,11 @@ mod verification;
 mod write_usage;
 mod written;
 
+use crate::run::run;
+use crate::status::Status;
 use om_port::{StdSink, StdSource};
 use std::process::ExitCode;
 use std::{env, io};
-
-/// The exit code where memory for the list of words is wanting.
-const NO_MEMORY: u8 = 6;
 
 /// The exit code where the runtime doesn't hand the words over.
 const NO_WORDS: u8 = 7;
@@ -49,11 +51,11 @@ fn main(rt: HostRuntime) -> ExitCode {
     let _program = arguments.next();
     for word in arguments {
         if words.push(word).is_err() {
-            return ExitCode::from(NO_MEMORY);
+            return ExitCode::from(Status::NoMemory.code());
         }
     }
     let mut source = StdSource::new(rt.reader());
     let mut sink = StdSink::new(io::writer(&rt));
-    let status = run::run(&rt, rt.alloc(), words.as_slice(), &mut source, &mut sink);
-    ExitCode::from(status as u8)
+    let status = run(&rt, rt.alloc(), words.as_slice(), &mut source, &mut sink);
+    ExitCode::from(status.code())
 }

@@ -1,11 +1,18 @@
-ghost use Rattle.std.specs.Prelude.{◌≡◌, ◌<◌, ◌≤◌, ◌^◌, ◌∷◌, [], IfOk, true};
+//! Duals, minors and reorientations.
+
+ghost use Rattle.std.specs.Prelude.{◌≡◌, ◌<◌, ◌≤◌, ◌^◌, ◌∷◌, [], IfOk, OnOk, IsErrOf};
 ghost use Rattle.om_subsets.specs.Members.{members};
 ghost use Rattle.om_denotation.specs.Covectors.{IsCovectorOfChirotope};
-ghost use Rattle.om_program.specs.Operations.{IsLawful, IsChirotopeOf, named_elements, first_above, drops_element};
+ghost use Rattle.om_program.specs.Represented.{IsMeantFor};
+ghost use Rattle.om_program.specs.Operations.{IsLawful, IsOperation, IsMapMade, TakesOnly, named_elements, first_above};
 
+use crate::answer::Answer;
+use crate::documents::map_document;
+use crate::representation::Representation;
+use om_answer::Line;
 use om_chirotope::Chirotope;
 use om_dual::dual;
-use om_minors::{contract_chirotope, delete_chirotope, reorient_chirotope};
+use om_minors::{MinorError, contract_chirotope, delete_chirotope, reorient_chirotope};
 use om_signs::{MAX_ELEMENTS, NoMemory};
 use om_subsets::Subset;
 use std::alloc::Global;
@@ -23,52 +30,61 @@ pub enum Operation {
     Reorient(u32),
 }
 
+/// What an operation makes of an oriented matroid.
+pub fn operate(
+    alloc: Global,
+    representation: Representation,
+    operation: Operation,
+) -> Result<Answer, NoMemory>
+    requires { IsLawful operation }
+    ensures { IfOk result (IsMeantFor (IsOperation operation) representation) }
+{
+    match representation {
+        Representation::Chirotope(chirotope) => operate_on(alloc, chirotope, operation),
+        Representation::Circuits(_)
+        | Representation::Cocircuits(_)
+        | Representation::Covectors(_) => Ok(Answer::Line(Line::RefusedUnbuilt)),
+    }
+}
+
+/// What an operation makes of a chirotope.
+fn operate_on(alloc: Global, chirotope: Chirotope, operation: Operation) -> Result<Answer, NoMemory>
+    requires { IsLawful operation }
+    ensures { IfOk result (IsMeantFor (IsOperation operation) (Representation.Chirotope chirotope)) }
+{
+    if let Some(e) = place_above(chirotope.elements(), operation) {
+        return Ok(Answer::Line(Line::RefusedPlace { e }));
+    }
+    match make_chirotope(alloc, chirotope, operation) {
+        Ok(made) => Ok(Answer::Document(map_document(made))),
+        Err(MinorError::LastElement) => Ok(Answer::Line(Line::RefusedLastelement)),
+        Err(MinorError::Memory) => Err(NoMemory),
+    }
+}
+
 /// What an operation makes of a chirotope, as a normal chirotope. The elements that it names are elements of the
-/// chirotope, and one that takes an element away leaves another one.
-pub fn operated(
+/// chirotope. `LastElement` comes exactly where it would take the only one away.
+fn make_chirotope(
     alloc: Global,
     chirotope: Chirotope,
     operation: Operation,
-) -> Result<Chirotope, NoMemory>
+) -> Result<Chirotope, MinorError>
     requires lawful { IsLawful operation }
     requires within { first_above chirotope.elements (named_elements operation) ≡ None }
-    requires left { drops_element operation ≡ true → chirotope.elements ≡ 1 → ⊥ }
-    ensures { IfOk result (IsChirotopeOf operation chirotope.elements (IsCovectorOfChirotope chirotope)) }
+    ensures made { IfOk result (IsMapMade operation chirotope.elements (IsCovectorOfChirotope chirotope)) }
+    ensures left { OnOk result (TakesOnly operation chirotope.elements → ⊥) }
+    ensures last { IsErrOf result MinorError.LastElement → TakesOnly operation chirotope.elements }
 {
     match operation {
-        Operation::Dual => dual(alloc, &chirotope),
-        Operation::Delete(e) => deleted(alloc, &chirotope, e),
-        Operation::Contract(e) => contracted(alloc, &chirotope, e),
+        Operation::Dual => Ok(dual(alloc, &chirotope)?),
+        Operation::Delete(e) => delete_chirotope(alloc, &chirotope, e),
+        Operation::Contract(e) => contract_chirotope(alloc, &chirotope, e),
         Operation::Reorient(mask) => Ok(reorient_chirotope(chirotope, mask)),
     }
 }
 
-/// The deletion of an element that isn't the only one.
-fn deleted(alloc: Global, chirotope: &Chirotope, e: u8) -> Result<Chirotope, NoMemory>
-    requires low { 1 ≤ e }
-    requires high { e ≤ chirotope.now.elements }
-    ensures { IfOk result (IsChirotopeOf (Operation.Delete e) chirotope.now.elements (IsCovectorOfChirotope chirotope.now)) }
-{
-    match delete_chirotope(alloc, chirotope, e) {
-        Ok(minor) => Ok(minor),
-        Err(_) => Err(NoMemory),
-    }
-}
-
-/// The contraction of an element that isn't the only one.
-fn contracted(alloc: Global, chirotope: &Chirotope, e: u8) -> Result<Chirotope, NoMemory>
-    requires low { 1 ≤ e }
-    requires high { e ≤ chirotope.now.elements }
-    ensures { IfOk result (IsChirotopeOf (Operation.Contract e) chirotope.now.elements (IsCovectorOfChirotope chirotope.now)) }
-{
-    match contract_chirotope(alloc, chirotope, e) {
-        Ok(minor) => Ok(minor),
-        Err(_) => Err(NoMemory),
-    }
-}
-
 /// The first element that an operation names and that is above n.
-pub fn place_above(n: u8, operation: Operation) -> Option<u8>
+fn place_above(n: u8, operation: Operation) -> Option<u8>
     requires high { n ≤ MAX_ELEMENTS }
     requires lawful { IsLawful operation }
     ensures { result ≡ first_above n (named_elements operation) }
@@ -100,11 +116,4 @@ fn first_of_mask(n: u8, mask: u32) -> Option<u8>
         }
     }
     None
-}
-
-/// Whether an operation takes an element away.
-pub fn takes_element(operation: Operation) -> bool
-    ensures { result ≡ drops_element operation }
-{
-    matches!(operation, Operation::Delete(_) | Operation::Contract(_))
 }

@@ -30,7 +30,7 @@ pub enum Representation {
 
 /// The oriented matroid that a document gives, where it meets the axioms of its kind, and else the line that names the
 /// first violated instance.
-pub fn represented<R: Threads + Sync>(
+pub fn represent<R: Threads + Sync>(
     rt: &R,
     alloc: Global,
     document: Document,
@@ -42,17 +42,17 @@ pub fn represented<R: Threads + Sync>(
 {
     let Document { elements, body } = document;
     match body {
-        Body::Chirotope(raw) => Ok(Representation::Chirotope(chirotope(rt, raw)?)),
+        Body::Chirotope(raw) => Ok(Representation::Chirotope(check_map(rt, raw)?)),
         Body::Circuits(list) => {
-            let set = signed_set(rt, elements, list)?;
+            let set = check_set(rt, elements, list)?;
             Ok(Representation::Circuits(Circuits(set)))
         }
         Body::Cocircuits(list) => {
-            let set = signed_set(rt, elements, list)?;
+            let set = check_set(rt, elements, list)?;
             Ok(Representation::Cocircuits(Cocircuits(set)))
         }
         Body::Covectors(list) => {
-            let covectors = covector_set(rt, elements, list)?;
+            let covectors = check_covectors(rt, elements, list)?;
             Ok(Representation::Covectors(covectors))
         }
         Body::Points(points) => Ok(Representation::Chirotope(chirotope_of_points(
@@ -63,7 +63,7 @@ pub fn represented<R: Threads + Sync>(
 }
 
 /// The chirotope of a map, or the line that refuses the map.
-fn chirotope<R: Threads + Sync>(rt: &R, raw: RawMap) -> Result<Chirotope, Unrepresented>
+fn check_map<R: Threads + Sync>(rt: &R, raw: RawMap) -> Result<Chirotope, Unrepresented>
     requires low { 1 ≤ raw.elements }
     requires high { raw.elements ≤ MAX_ELEMENTS }
     requires whole { IsMapOn raw.elements raw }
@@ -88,7 +88,7 @@ fn map_refusal(why: MapRefused) -> Line
 }
 
 /// The set of the members of a list, or the line that refuses the list.
-fn signed_set<R: Threads + Sync>(
+fn check_set<R: Threads + Sync>(
     rt: &R,
     elements: u8,
     list: List<SignVec>,
@@ -119,7 +119,7 @@ fn set_refusal(why: SetRefused) -> Line
 }
 
 /// The covectors of a list, or the line that refuses the list.
-fn covector_set<R: Threads + Sync>(
+fn check_covectors<R: Threads + Sync>(
     rt: &R,
     elements: u8,
     list: List<SignVec>,

@@ -1,19 +1,25 @@
-ghost use Rattle.std.specs.Prelude.{◌≡◌, ◌⊎◌, ◌≤◌, IfOk, map, string_bytes};
-ghost use Rattle.std.specs.Io.KnownBytes.{Keeps};
+ghost use Rattle.std.specs.Prelude.{◌≡◌, ◌≢◌, ◌⊎◌, ◌≤◌, IfOk, map, string_bytes};
+ghost use Rattle.std.specs.Io.KnownBytes.{Appends, Keeps};
 ghost use Rattle.om_port.specs.Causes.{Rose, TakesSome};
 ghost use Rattle.om_program.specs.Words.{AreCommand};
-ghost use Rattle.om_program.specs.Run.{IsAnswered, IsAnswer, IsCutOffAnswer, IsTaskAnswer, IsCutOffTask, IsMeantBy};
+ghost use Rattle.om_program.specs.Answers.{IsReply, status_of, text_of};
+ghost use Rattle.om_program.specs.Statuses.{IsAnswered};
+ghost use Rattle.om_program.specs.Run.{IsFront, IsAnswer, IsCutOffAnswer, IsTaskAnswer, IsCutOffTask, IsMeantBy};
 ghost use Rattle.om_program.specs.Meaning.{TaskMeans};
-ghost use Rattle.om_program.specs.Operations.{NamesElements};
+ghost use Rattle.om_program.specs.Tasks.{HasLawfulArguments, reads};
 
+use crate::answer::Answer;
+use crate::answering::answer_input;
 use crate::command::command;
-use crate::reply::{Reply, refuse_long, reply_to};
+use crate::print_answer::print_answer;
+use crate::reads::Reads;
 use crate::status::Status;
 use crate::task::Task;
 use crate::write_usage::write_usage;
 use crate::written::written;
+use om_answer::Line;
 use om_port::{ReadError, Sink, Source, read_all};
-use om_signs::MAX_INPUT;
+use om_signs::{MAX_INPUT, NoMemory};
 use std::alloc::Global;
 use std::thread::Threads;
 
@@ -38,8 +44,10 @@ pub fn run<R: Threads + Sync, S: Source, K: Sink>(
     ensures read { result ≡ Status.ReadFault → Rose (S.faults source.old) (S.faults source.new) }
     ensures write { result ≡ Status.WriteFault → Rose (K.faults sink.old) (K.faults sink.new) }
 
-    // Words that aren't a command end with their usage, or with a write fault, and leave the source as it was.
+    // Words that aren't a command end with their usage, or with a write fault, and leave the source as it was. No command ends
+    // with usage, whatever the source tells.
     ensures usage { (AreCommand (map string_bytes words.now) → ⊥) → (result ≡ Status.Usage) ⊎ (result ≡ Status.WriteFault) }
+    ensures only { result ≡ Status.Usage → AreCommand (map string_bytes words.now) → ⊥ }
     ensures unread { (AreCommand (map string_bytes words.now) → ⊥) → source.new ≡ source.old }
 
     // The source has given a prefix of what it had left, and no count falls.
@@ -61,50 +69,101 @@ fn carry_out<R: Threads + Sync, S: Source, K: Sink>(
     source: &mut S,
     sink: &mut K,
 ) -> Status
-    requires { NamesElements task }
+    requires { HasLawfulArguments task }
+    ensures no_usage { result ≢ Status.Usage }
     ensures answer { IsAnswered result → IsTaskAnswer task (S.left source.old) result (K.taken sink.old) (K.taken sink.new) }
     ensures silent_fault { result ≡ Status.ReadFault → Keeps (K.taken sink.old) (K.taken sink.new) }
     ensures silent_memory { result ≡ Status.NoMemory → Keeps (K.taken sink.old) (K.taken sink.new) }
     ensures cut { result ≡ Status.WriteFault → IsCutOffTask task (S.left source.old) (K.taken sink.old) (K.taken sink.new) }
     ensures read { result ≡ Status.ReadFault → Rose (S.faults source.old) (S.faults source.new) }
     ensures write { result ≡ Status.WriteFault → Rose (K.faults sink.old) (K.faults sink.new) }
+    ensures unread { reads task ≡ Reads.Nothing → source.new ≡ source.old }
     ensures prefix { TakesSome (S.left source.old) (S.left source.new) }
     ensures source_later { S.faults source.old ≤ S.faults source.new }
     ensures sink_later { K.faults sink.old ≤ K.faults sink.new }
 {
-    match make_reply(rt, alloc, task, source) {
-        Ok(reply) => written(sink, reply.text.as_slice(), reply.status),
-        Err(Unanswered::ReadFault) => Status::ReadFault,
-        Err(Unanswered::NoMemory) => Status::NoMemory,
+    match decide(rt, alloc, task, source) {
+        Ok(answer) => write_answer(alloc, &answer, sink),
+        Err(Undecided::ReadFault) => Status::ReadFault,
+        Err(Undecided::NoMemory) => Status::NoMemory,
     }
 }
 
 /// Why there is no answer to be written.
 #[derive(Clone, Copy)]
-enum Unanswered {
+enum Undecided {
     ReadFault,
     NoMemory,
 }
 
-/// Reads the input and makes the whole answer to a task.
-fn make_reply<R: Threads + Sync, S: Source>(
+impl From<NoMemory> for Undecided {
+    ghost use Rattle.om_program.specs.declared.run.Undecided.TheVariants as undecided;
+
+    ghost from_gives = { λ _ e. e ≡ undecided.NoMemory };
+
+    fn from(_: NoMemory) -> Self {
+        Undecided::NoMemory
+    }
+}
+
+/// Decides the answer to a task, and reads what it needs.
+fn decide<R: Threads + Sync, S: Source>(
     rt: &R,
     alloc: Global,
     task: Task,
     source: &mut S,
-) -> Result<Reply, Unanswered>
-    requires { NamesElements task }
-    ensures meant { IfOk result (λ reply. IsMeantBy (TaskMeans task) (S.left source.old) (record { status = reply.status; text = reply.text.items })) }
-    ensures answered { IfOk result (λ reply. IsAnswered reply.status) }
-    ensures read { result ≡ Err Unanswered.ReadFault → Rose (S.faults source.old) (S.faults source.new) }
+) -> Result<Answer, Undecided>
+    requires { HasLawfulArguments task }
+    ensures meant { IfOk result (IsMeantBy (TaskMeans task) (S.left source.old)) }
+    ensures reply { IfOk result IsReply }
+    ensures read { result ≡ Err Undecided.ReadFault → Rose (S.faults source.old) (S.faults source.new) }
+    ensures unread { reads task ≡ Reads.Nothing → source.new ≡ source.old }
     ensures prefix { TakesSome (S.left source.old) (S.left source.new) }
     ensures later { S.faults source.old ≤ S.faults source.new }
 {
-    let made = match read_all(alloc, source, MAX_INPUT) {
-        Ok(bytes) => reply_to(rt, alloc, task, bytes.as_slice()),
-        Err(ReadError::TooLong) => refuse_long(alloc),
-        Err(ReadError::ReadFault) => return Err(Unanswered::ReadFault),
-        Err(ReadError::Memory) => return Err(Unanswered::NoMemory),
-    };
-    made.map_err(|_| Unanswered::NoMemory)
+    match task.reads() {
+        Reads::Document | Reads::Claim => decide_input(rt, alloc, task, source),
+        // no task of today reads nothing
+        Reads::Nothing => unreachable!(),
+    }
+}
+
+/// Reads the input, and decides the answer to a task on it.
+fn decide_input<R: Threads + Sync, S: Source>(
+    rt: &R,
+    alloc: Global,
+    task: Task,
+    source: &mut S,
+) -> Result<Answer, Undecided>
+    requires lawful { HasLawfulArguments task }
+    requires reading { reads task ≡ Reads.Nothing → ⊥ }
+    ensures meant { IfOk result (IsMeantBy (TaskMeans task) (S.left source.old)) }
+    ensures reply { IfOk result IsReply }
+    ensures read { result ≡ Err Undecided.ReadFault → Rose (S.faults source.old) (S.faults source.new) }
+    ensures prefix { TakesSome (S.left source.old) (S.left source.new) }
+    ensures later { S.faults source.old ≤ S.faults source.new }
+{
+    match read_all(alloc, source, MAX_INPUT) {
+        Ok(bytes) => Ok(answer_input(rt, alloc, task, bytes.as_slice())?),
+        Err(ReadError::TooLong) => Ok(Answer::Line(Line::RefusedLong)),
+        Err(ReadError::ReadFault) => Err(Undecided::ReadFault),
+        Err(ReadError::Memory) => Err(Undecided::NoMemory),
+    }
+}
+
+/// Makes the text of an answer, and writes it. This is the one place where answers to commands are written.
+fn write_answer<K: Sink>(alloc: Global, answer: &Answer, sink: &mut K) -> Status
+    requires { IsReply answer.now }
+    ensures whole { IsAnswered result → (result ≡ status_of answer.now) × Appends (K.taken sink.old) (K.taken sink.new) (text_of answer.now) }
+    ensures cut { result ≡ Status.WriteFault → IsFront (K.taken sink.old) (K.taken sink.new) (text_of answer.now) }
+    ensures silent { result ≡ Status.NoMemory → Keeps (K.taken sink.old) (K.taken sink.new) }
+    ensures fault { result ≡ Status.WriteFault → Rose (K.faults sink.old) (K.faults sink.new) }
+    ensures no_read { result ≢ Status.ReadFault }
+    ensures no_usage { result ≢ Status.Usage }
+    ensures later { K.faults sink.old ≤ K.faults sink.new }
+{
+    match print_answer(alloc, answer) {
+        Ok(text) => written(sink, text.as_slice(), answer.status()),
+        Err(_) => Status::NoMemory,
+    }
 }

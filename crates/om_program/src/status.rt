@@ -1,18 +1,38 @@
-/// How a run ends. The program's exit code is the number of its status.
+ghost use Rattle.std.specs.Prelude.{◌≡◌};
+ghost use Rattle.om_program.specs.Statuses.{code_of};
+
+/// How a run ends.
 #[derive(Clone, Copy, Debug, PartialEq, Eq)]
 pub enum Status {
-    /// 0: the command was carried out, and its whole answer was written.
+    /// The command was carried out, and its whole answer was written.
     Done,
-    /// 1: the input was refused, and the whole refusal was written.
+    /// The input was refused, and the whole refusal was written.
     Refused,
-    /// 2: the words aren't a command, and `usage K` was written.
+    /// The words aren't a command, and `usage K` was written.
     Usage,
-    /// 3: the answer would pass a limit, and the whole line that says so was written.
+    /// The answer would pass a limit, and the whole line that says so was written.
     Limit,
-    /// 4: reading failed, and nothing was written.
+    /// Reading failed, and nothing was written.
     ReadFault,
-    /// 5: writing failed, and only a part of the answer was written.
+    /// Writing failed, and only a part of the answer was written.
     WriteFault,
-    /// 6: memory was wanting, and nothing was written.
+    /// Memory was wanting, and nothing was written.
     NoMemory,
+}
+
+impl Status {
+    /// The program's exit code: the place of the status among these seven, counted from 0.
+    pub fn code(self) -> u8
+        ensures { result ≡ code_of self }
+    {
+        match self {
+            Status::Done => 0,
+            Status::Refused => 1,
+            Status::Usage => 2,
+            Status::Limit => 3,
+            Status::ReadFault => 4,
+            Status::WriteFault => 5,
+            Status::NoMemory => 6,
+        }
+    }
 }

@@ -1,6 +1,7 @@
 ghost use Rattle.std.specs.Prelude.{◌≡◌};
-ghost use Rattle.om_program.specs.Tasks.{reads_claim};
+ghost use Rattle.om_program.specs.Tasks.{reads};
 
+use crate::reads::Reads;
 use om_answer::Kind;
 use om_signs::SignVec;
 
@@ -25,9 +26,14 @@ pub enum Task {
     Check,
 }
 
-/// Whether a task asks for a claim, in place of a document.
-pub fn reads_claim(task: &Task) -> bool
-    ensures { result ≡ reads_claim task.now }
-{
-    matches!(task, Task::Check)
+impl Task {
+    /// What the task reads.
+    pub fn reads(&self) -> Reads
+        ensures { result ≡ reads self.now }
+    {
+        match self {
+            Task::Check => Reads::Claim,
+            _ => Reads::Document,
+        }
+    }
 }

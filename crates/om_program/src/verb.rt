@@ -16,27 +16,44 @@ pub enum Verb {
     Check,
 }
 
+/// All verbs.
+const VERBS: [Verb; 8] = [
+    Verb::Accept,
+    Verb::Member,
+    Verb::Convert,
+    Verb::Dual,
+    Verb::Delete,
+    Verb::Contract,
+    Verb::Reorient,
+    Verb::Check,
+];
+
+impl Verb {
+    /// The word.
+    fn word(self) -> &'static str
+        ensures { result.now ≡ verb_word self }
+    {
+        match self {
+            Verb::Accept => "accept",
+            Verb::Member => "member",
+            Verb::Convert => "convert",
+            Verb::Dual => "dual",
+            Verb::Delete => "delete",
+            Verb::Contract => "contract",
+            Verb::Reorient => "reorient",
+            Verb::Check => "check",
+        }
+    }
+}
+
 /// The verb that a word is.
 pub fn named_verb(word: &String) -> Option<Verb>
     ensures { (verb : Verb) → (result ≡ Some verb) ↔ (string_bytes word.now ≡ verb_word verb) }
 {
-    if is_word(word, "accept") {
-        Some(Verb::Accept)
-    } else if is_word(word, "member") {
-        Some(Verb::Member)
-    } else if is_word(word, "convert") {
-        Some(Verb::Convert)
-    } else if is_word(word, "dual") {
-        Some(Verb::Dual)
-    } else if is_word(word, "delete") {
-        Some(Verb::Delete)
-    } else if is_word(word, "contract") {
-        Some(Verb::Contract)
-    } else if is_word(word, "reorient") {
-        Some(Verb::Reorient)
-    } else if is_word(word, "check") {
-        Some(Verb::Check)
-    } else {
-        None
+    for verb in VERBS {
+        if is_word(word, verb.word()) {
+            return Some(verb);
+        }
     }
+    None
 }

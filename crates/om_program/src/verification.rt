@@ -9,9 +9,8 @@ ghost use Rattle.om_program.specs.Axioms.{MeetsAxioms};
 ghost use Rattle.om_program.specs.Covectors.{Represents};
 ghost use Rattle.om_program.specs.Claims.{ClaimMeans, VerdictMeans, EvidenceMeans, valid_line, refusal_line};
 
-use crate::finding::Finding;
-use crate::representation::{Representation, represented};
-use crate::status::Status;
+use crate::chirotope_choice::choose_chirotope;
+use crate::representation::{Representation, represent};
 use crate::unrepresented::Unrepresented;
 use om_answer::{Claim, Line};
 use om_certificate::{CertRefused, Evidence, Verdict, certificate, check};
@@ -20,81 +19,66 @@ use om_signs::NoMemory;
 use std::alloc::Global;
 use std::thread::Threads;
 
-/// What a claim comes to.
-pub fn verified<R: Threads + Sync>(rt: &R, alloc: Global, claim: Claim) -> Result<Finding, NoMemory>
+/// The line that answers a claim.
+pub fn verify<R: Threads + Sync>(rt: &R, alloc: Global, claim: Claim) -> Result<Line, NoMemory>
     requires form { IsInForm claim.document }
     requires evidence { HasEvidenceWithinLimits claim.verdict }
-    ensures { IfOk result (λ found. ClaimMeans claim found.status found.line) }
+    ensures { IfOk result (ClaimMeans claim) }
 {
     let Claim { document, verdict } = claim;
-    match represented(rt, alloc, document) {
-        Ok(representation) => Ok(verified_representation(representation, verdict)),
-        Err(Unrepresented::Refused(why)) => Ok(refused(why)),
+    match represent(rt, alloc, document) {
+        Ok(representation) => Ok(verify_representation(representation, verdict)),
+        Err(Unrepresented::Refused(why)) => Ok(why),
         Err(Unrepresented::Memory) => Err(NoMemory),
     }
 }
 
-/// A refusal with this line.
-fn refused(line: Line) -> Finding
-    ensures { result ≡ record { status = Status.Refused; line = line } }
+/// The line that answers a verdict on an oriented matroid.
+fn verify_representation(representation: Representation, verdict: Verdict) -> Line
+    requires { HasEvidenceWithinLimits verdict }
+    ensures { (d : Document) → Represents d representation → MeetsAxioms d.body → ClaimMeans (record { document = d; verdict = verdict }) result }
 {
-    Finding {
-        status: Status::Refused,
-        line,
+    match choose_chirotope(representation) {
+        Ok(chirotope) => verify_verdict(&chirotope, verdict),
+        Err(why) => why,
     }
 }
 
-/// What a verdict on an oriented matroid comes to.
-fn verified_representation(representation: Representation, verdict: Verdict) -> Finding
+/// The line that answers a verdict on a chirotope.
+fn verify_verdict(chirotope: &Chirotope, verdict: Verdict) -> Line
     requires { HasEvidenceWithinLimits verdict }
-    ensures { (d : Document) → Represents d representation → MeetsAxioms d.body → ClaimMeans (record { document = d; verdict = verdict }) result.status result.line }
-{
-    match representation {
-        Representation::Chirotope(chirotope) => verified_chirotope(&chirotope, verdict),
-        Representation::Circuits(_)
-        | Representation::Cocircuits(_)
-        | Representation::Covectors(_) => refused(Line::RefusedUnbuilt),
-    }
-}
-
-/// What a verdict on a chirotope comes to.
-fn verified_chirotope(chirotope: &Chirotope, verdict: Verdict) -> Finding
-    requires { HasEvidenceWithinLimits verdict }
-    ensures { VerdictMeans chirotope.now verdict result.status result.line }
+    ensures { VerdictMeans chirotope.now verdict result }
 {
     let r = chirotope.rank();
     if r != 3 {
-        return refused(Line::RefusedNotrank3 { r });
+        return Line::RefusedNotrank3 { r };
     }
     match certificate(verdict) {
-        Ok(evidence) => verified_evidence(chirotope, &evidence),
-        Err(_) => refused(Line::RefusedNocertificate),
+        Ok(evidence) => verify_evidence(chirotope, &evidence),
+        // the verdict comes back exactly where it is a limit
+        Err(_) => Line::RefusedNocertificate,
     }
 }
 
-/// What evidence on a chirotope comes to.
-fn verified_evidence(chirotope: &Chirotope, evidence: &Evidence) -> Finding
+/// The line that answers evidence on a chirotope.
+fn verify_evidence(chirotope: &Chirotope, evidence: &Evidence) -> Line
     requires { IsWithinLimits evidence.now }
-    ensures { EvidenceMeans chirotope.now evidence.now result.status result.line }
+    ensures { EvidenceMeans chirotope.now evidence.now result }
 {
     match check(chirotope, evidence) {
-        Ok(()) => valid(evidence),
-        Err(why) => refused(refusal_line(why)),
+        Ok(()) => valid_line(evidence),
+        Err(why) => refusal_line(why),
     }
 }
 
-/// That evidence is valid.
-fn valid(evidence: &Evidence) -> Finding
-    ensures { result ≡ record { status = Status.Done; line = valid_line evidence.now } }
+/// The line that says what valid evidence proves.
+fn valid_line(evidence: &Evidence) -> Line
+    ensures { result ≡ valid_line evidence.now }
 {
-    let line = match evidence {
+    match evidence {
         Evidence::Vectors(_) => Line::ValidRealizable,
         Evidence::Balanced(_) => Line::ValidNonrealizable,
         Evidence::Weights(_) => Line::ValidUndecided,
-    };
-    Finding {
-        status: Status::Done,
-        line,
     }
 }
 

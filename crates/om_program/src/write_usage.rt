@@ -1,7 +1,8 @@
 ghost use Rattle.std.specs.Prelude.{◌≡◌, ◌≤◌, ◌⊎◌, ◌+◌, ◌++◌, take, length};
 ghost use Rattle.std.specs.Io.KnownBytes.{Appends};
 ghost use Rattle.om_port.specs.Causes.{Rose};
-ghost use Rattle.om_program.specs.Run.{IsAnswered, IsFront};
+ghost use Rattle.om_program.specs.Statuses.{IsAnswered};
+ghost use Rattle.om_program.specs.Run.{IsFront};
 ghost use Rattle.om_answer.specs.Texts.{line_text};
 
 use crate::status::Status;

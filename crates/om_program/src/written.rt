@@ -1,7 +1,8 @@
 ghost use Rattle.std.specs.Prelude.{◌≡◌, ◌⊎◌, ◌≤◌};
 ghost use Rattle.std.specs.Io.KnownBytes.{Appends};
 ghost use Rattle.om_port.specs.Causes.{Rose};
-ghost use Rattle.om_program.specs.Run.{IsAnswered, IsFront};
+ghost use Rattle.om_program.specs.Statuses.{IsAnswered};
+ghost use Rattle.om_program.specs.Run.{IsFront};
 
 use crate::status::Status;
 use om_port::{Sink, write_all};

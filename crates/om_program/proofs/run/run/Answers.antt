@@ -1,11 +1,12 @@
+use Rattle.std.specs.Prelude.{◌≡◌, Ok, Err}
 use Rattle.std.proofs.Common.{refl, rules}
 use Rattle.om_program.specs.Meaning.{Means}
 use Rattle.om_program.proofs.MeaningLaws.{whole, cut_off, named_answer, named_cut_off, usage_meant}
-use Rattle.om_program.proofs.OperationLaws.{names_elements}
+use Rattle.om_program.proofs.OperationLaws.{lawful_arguments}
 use Rattle.om_program.proofs.run.run.Goals as goal
 
 pub carry_out-requires : goal.carry_out-requires
-carry_out-requires g c = (search rules, names_elements _ _ ((c.in-Ok.ensures.task c.in-Ok.task).0 refl))
+carry_out-requires g c = (search rules, lawful_arguments _ _ ((c.in-Ok.ensures.task c.in-Ok.task).0 refl))
 
 pub returns-in-Ok-clause-answer : goal.returns-in-Ok-clause-answer
 returns-in-Ok-clause-answer g c = λ answered. named_answer _ _ _ _ _ _ ((c.in-Ok.ensures.task c.in-Ok.task).0 refl) (c.carry_out.ensures.answer answered)
@@ -14,7 +15,13 @@ pub returns-in-Ok-clause-cut : goal.returns-in-Ok-clause-cut
 returns-in-Ok-clause-cut g c = λ cut. named_cut_off _ _ _ _ _ ((c.in-Ok.ensures.task c.in-Ok.task).0 refl) (c.carry_out.ensures.cut cut)
 
 pub returns-in-Err-clause-answer : goal.returns-in-Err-clause-answer
-returns-in-Err-clause-answer g c = λ answered. whole (Means _) _ _ _ _ _ _ (usage_meant _ _ _ c.in-Err.ensures.usage) (c.write_usage.ensures.whole answered)
+returns-in-Err-clause-answer g c = λ answered. whole (Means _) _ _ _ _ _ (usage_meant _ _ _ c.in-Err.ensures.usage) (c.write_usage.ensures.whole answered)
 
 pub returns-in-Err-clause-cut : goal.returns-in-Err-clause-cut
 returns-in-Err-clause-cut g c = λ cut. cut_off (Means _) _ _ _ _ (usage_meant _ _ _ c.in-Err.ensures.usage) (c.write_usage.ensures.cut cut)
+
+no_value : {A E : Type 0} (e : E) (a : A) → (Err e ≡ Ok a) → ⊥
+no_value e a same = cc
+
+pub returns-in-Err-clause-only : goal.returns-in-Err-clause-only
+returns-in-Err-clause-only g c = λ is command. no_value _ _ ((c.in-Err.ensures.task command.0).1 command.1)

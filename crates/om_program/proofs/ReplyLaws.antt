@@ -1,0 +1,156 @@
+-- What a task means is an answer to a command: never a usage, and of a form that can be written.
+--
+-- Main results: task_replies; such an answer is written with a status other than that of usage (reply_status, replied_answered, replied_no_usage).
+use Rattle.std.specs.Prelude.{ℕ, ◌≡◌, List}
+use Rattle.std.proofs.Common.{sym, subst}
+use Rattle.om_signs.specs.declared.sign.Sign.{Sign}
+use Rattle.om_chirotope.specs.Map.{SignMap}
+use Rattle.om_chirotope.specs.declared.map_refused.MapRefused.{MapRefused}
+use Rattle.om_chirotope.specs.declared.map_refused.MapRefused.TheVariants as map
+use Rattle.om_circuits.specs.declared.set_refused.SetRefused.{SetRefused}
+use Rattle.om_circuits.specs.declared.set_refused.SetRefused.TheVariants as set
+use Rattle.om_covectors.specs.declared.cov_refused.CovRefused.{CovRefused}
+use Rattle.om_covectors.specs.declared.cov_refused.CovRefused.TheVariants as cov
+use Rattle.om_text.specs.declared.document.Document.{Document}
+use Rattle.om_text.specs.declared.body.Body.{Body}
+use Rattle.om_text.specs.declared.body.Body.TheVariants as body
+use Rattle.om_certificate.specs.declared.cert_refused.CertRefused.{CertRefused}
+use Rattle.om_certificate.specs.declared.cert_refused.CertRefused.TheVariants as cert
+use Rattle.om_certificate.specs.declared.evidence.Evidence.{Evidence}
+use Rattle.om_certificate.specs.declared.evidence.Evidence.TheVariants as evidence
+use Rattle.om_certificate.specs.declared.verdict.Verdict.{Verdict}
+use Rattle.om_answer.specs.declared.claim.Claim.{Claim}
+use Rattle.om_answer.specs.declared.kind.Kind.{Kind}
+use Rattle.om_answer.specs.declared.line.Line.{Line}
+use Rattle.om_program.specs.declared.answer.Answer.{Answer}
+use Rattle.om_program.specs.declared.answer.Answer.TheVariants as answer
+use Rattle.om_program.specs.declared.operation.Operation.{Operation}
+use Rattle.om_program.specs.declared.operation.Operation.TheVariants as operation
+use Rattle.om_program.specs.declared.status.Status.{Status}
+use Rattle.om_program.specs.declared.status.Status.TheVariants as status
+use Rattle.om_program.specs.declared.task.Task.{Task}
+use Rattle.om_program.specs.declared.task.Task.TheVariants.{Accept, Member, Convert, Dual, Delete, Contract, Reorient, Check}
+use Rattle.om_program.specs.Statuses.{IsAnswered, IsReplied}
+use Rattle.om_program.specs.Answers.{IsReply, status_of, status_of_line}
+use Rattle.om_program.specs.Axioms.{IsRefused, set_line, map_line, cov_line}
+use Rattle.om_program.specs.Memberships.{IsMembership, wrong_length, covector, not_covector}
+use Rattle.om_program.specs.Conversions.{IsConversion, converted, limited, unbuilt}
+use Rattle.om_program.specs.Operations.{IsOperation, not_built, outside, last, made}
+use Rattle.om_program.specs.Claims as claims
+use Rattle.om_program.specs.Meaning.{IsAnswerOf, DocumentMeans, refused, answered, TaskMeans, long, faulty, read, faulty_claim, claimed}
+
+-- ---- statuses
+
+pub reply_status : (a : Answer) → IsReply a → IsReplied (status_of a)
+reply_status (answer.Line l) reply = reply
+reply_status (answer.Document d) reply = tt
+
+pub replied_answered : (s : Status) → IsReplied s → IsAnswered s
+replied_answered status.Done replied = tt
+replied_answered status.Refused replied = tt
+replied_answered status.Usage replied = tt
+replied_answered status.Limit replied = tt
+replied_answered status.ReadFault replied = replied
+replied_answered status.WriteFault replied = replied
+replied_answered status.NoMemory replied = replied
+
+pub replied_no_usage : (s : Status) → IsReplied s → s ≡ status.Usage → ⊥
+replied_no_usage s replied same = subst IsReplied same replied
+
+-- ---- the lines of the axioms
+
+map_refused : (why : MapRefused) → IsReplied (status_of_line (map_line why))
+map_refused map.AllZero = tt
+map_refused (map.Relation s a) = tt
+
+set_refused : (why : SetRefused) → IsReplied (status_of_line (set_line why))
+set_refused (set.Zero i) = tt
+set_refused (set.NoNegative i) = tt
+set_refused (set.Nested i j) = tt
+set_refused (set.NoElimination i j e) = tt
+
+cov_refused : (why : CovRefused) → IsReplied (status_of_line (cov_line why))
+cov_refused cov.NoZero = tt
+cov_refused (cov.NoNegative i) = tt
+cov_refused (cov.NoComposition i j) = tt
+cov_refused (cov.NoElimination i j e) = tt
+
+replied_line : (k l : Line) → l ≡ k → IsReplied (status_of_line k) → IsReplied (status_of_line l)
+replied_line k l same replied = subst (λ m. IsReplied (status_of_line m)) (sym same) replied
+
+refused_replies : (b : Body) (l : Line) → IsRefused b l → IsReplied (status_of_line l)
+refused_replies (body.Chirotope m) l (why, (same, is)) = replied_line _ l same (map_refused why)
+refused_replies (body.Circuits members) l (why, (same, is)) = replied_line _ l same (set_refused why)
+refused_replies (body.Cocircuits members) l (why, (same, is)) = replied_line _ l same (set_refused why)
+refused_replies (body.Covectors members) l (why, (same, is)) = replied_line _ l same (cov_refused why)
+refused_replies (body.Points points) l (same, is) = replied_line _ l same tt
+
+-- ---- the answers of the commands
+
+membership_replies : (n : ℕ) (P : List Sign → Type 0) (x : List Sign) (a : Answer) → IsMembership n P x a → IsReply a
+membership_replies n P x a (wrong_length other) = tt
+membership_replies n P x a (covector size is) = tt
+membership_replies n P x a (not_covector size is) = tt
+
+conversion_replies : (k : Kind) (d : Document) (a : Answer) → IsConversion k d a → IsReply a
+conversion_replies k d a (converted e built few is) = is.form
+conversion_replies k d a (limited built many) = tt
+conversion_replies k d a (unbuilt not) = tt
+
+operation_replies : (o : Operation) (d : Document) (a : Answer) → IsOperation o d a → IsReply a
+operation_replies o d a (not_built not) = tt
+operation_replies o d a (outside e built above) = tt
+operation_replies o d a (last built within takes) = tt
+operation_replies o d a (made e built within left is) = is.form
+
+certificate_replies : (why : CertRefused) → IsReplied (status_of_line (claims.refusal_line why))
+certificate_replies (cert.NotRank3 r) = tt
+certificate_replies (cert.Number wanted given) = tt
+certificate_replies (cert.WrongSign t) = tt
+certificate_replies (cert.Unlawful k) = tt
+certificate_replies (cert.Unbalanced b small big) = tt
+certificate_replies cert.NoStrict = tt
+certificate_replies (cert.Bracket k) = tt
+certificate_replies (cert.WeightFails st) = tt
+
+valid_replies : (e : Evidence) → IsReplied (status_of_line (claims.valid_line e))
+valid_replies (evidence.Vectors vs) = tt
+valid_replies (evidence.Balanced es) = tt
+valid_replies (evidence.Weights ws) = tt
+
+evidence_replies : (m : SignMap) (e : Evidence) (l : Line) → claims.EvidenceMeans m e l → IsReplied (status_of_line l)
+evidence_replies m e l (claims.refused why is) = certificate_replies why
+evidence_replies m e l (claims.valid is shows) = valid_replies e
+
+verdict_replies : (m : SignMap) (v : Verdict) (l : Line) → claims.VerdictMeans m v l → IsReplied (status_of_line l)
+verdict_replies m v l (claims.other_rank other) = tt
+verdict_replies m v l (claims.limited end unfound three is) = tt
+verdict_replies m v l (claims.judged e k three is means) = evidence_replies m e l means
+
+claim_replies : (c : Claim) (l : Line) → claims.ClaimMeans c l → IsReplied (status_of_line l)
+claim_replies c l (claims.fails_axioms why is) = refused_replies c.document.body l is
+claim_replies c l (claims.not_built axioms not) = tt
+claim_replies c l (claims.verified m k axioms is means) = verdict_replies m c.verdict l means
+
+-- ---- the answers of tasks: one line for each
+
+task_answer_replies : (t : Task) (d : Document) (a : Answer) → IsAnswerOf t d a → IsReply a
+task_answer_replies Accept d a is = subst IsReply (sym is) tt
+task_answer_replies (Member x) d a is = membership_replies _ _ x a is
+task_answer_replies (Convert k) d a is = conversion_replies k d a is
+task_answer_replies Dual d a is = operation_replies operation.Dual d a is
+task_answer_replies (Delete e) d a is = operation_replies (operation.Delete e) d a is
+task_answer_replies (Contract e) d a is = operation_replies (operation.Contract e) d a is
+task_answer_replies (Reorient mask) d a is = operation_replies (operation.Reorient mask) d a is
+task_answer_replies Check d a is = absurd is
+
+document_replies : (t : Task) (d : Document) (a : Answer) → DocumentMeans t d a → IsReply a
+document_replies t d a (refused why is) = refused_replies d.body why is
+document_replies t d a (answered b axioms is) = task_answer_replies t d a is
+
+pub task_replies : (t : Task) (bytes : List ℕ) (a : Answer) → TaskMeans t bytes a → IsReply a
+task_replies t bytes a (long reads past) = tt
+task_replies t bytes a (faulty n c reads short is) = tt
+task_replies t bytes a (read d b reads short is means) = document_replies t d a means
+task_replies t bytes a (faulty_claim n c reads short is) = tt
+task_replies t bytes a (claimed c l reads short is means) = claim_replies c l means

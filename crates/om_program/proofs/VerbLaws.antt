@@ -1,0 +1,66 @@
+-- Verbs are told apart by their words: a line for each verb in each of these.
+--
+-- Main results: verbs with one word are one (same_verb); each verb stands in the list of all (verb_at).
+use Rattle.std.specs.Prelude.{ℕ, ◌≡◌, ◌<◌, List, codes, cond, refl, length}
+use Rattle.std.specs.Str.{bytes_eq}
+use Rattle.std.proofs.Common.{get_or, ap, sym, ◌∙◌, lit≤}
+use Rattle.om_program.specs.declared.verb.Verb.{Verb}
+use Rattle.om_program.specs.declared.verb.Verb.TheVariants as verb
+use Rattle.om_program.specs.declared.verb.TheConstants.{VERBS}
+use Rattle.om_program.specs.Words.{verb_word}
+
+-- the verb that a word is
+abbrev verb_of_word : List ℕ → Verb
+verb_of_word word =
+    cond (bytes_eq word (codes "accept")) verb.Accept (
+    cond (bytes_eq word (codes "member")) verb.Member (
+    cond (bytes_eq word (codes "convert")) verb.Convert (
+    cond (bytes_eq word (codes "dual")) verb.Dual (
+    cond (bytes_eq word (codes "delete")) verb.Delete (
+    cond (bytes_eq word (codes "contract")) verb.Contract (
+    cond (bytes_eq word (codes "reorient")) verb.Reorient (
+    verb.Check)))))))
+
+word_back : (v : Verb) → verb_of_word (verb_word v) ≡ v
+word_back verb.Accept = refl
+word_back verb.Member = refl
+word_back verb.Convert = refl
+word_back verb.Dual = refl
+word_back verb.Delete = refl
+word_back verb.Contract = refl
+word_back verb.Reorient = refl
+word_back verb.Check = refl
+
+pub same_verb : (u v : Verb) → verb_word u ≡ verb_word v → u ≡ v
+same_verb u v same = sym (word_back u) ∙ ap verb_of_word same ∙ word_back v
+
+-- the place of a verb in the list of all
+abbrev pub place_of : Verb → ℕ
+place_of verb.Accept = 0
+place_of verb.Member = 1
+place_of verb.Convert = 2
+place_of verb.Dual = 3
+place_of verb.Delete = 4
+place_of verb.Contract = 5
+place_of verb.Reorient = 6
+place_of verb.Check = 7
+
+pub verb_at : (u v : Verb) → get_or VERBS (place_of v) u ≡ v
+verb_at u verb.Accept = refl
+verb_at u verb.Member = refl
+verb_at u verb.Convert = refl
+verb_at u verb.Dual = refl
+verb_at u verb.Delete = refl
+verb_at u verb.Contract = refl
+verb_at u verb.Reorient = refl
+verb_at u verb.Check = refl
+
+pub place_within : (v : Verb) → place_of v < length VERBS
+place_within verb.Accept = lit≤ tt
+place_within verb.Member = lit≤ tt
+place_within verb.Convert = lit≤ tt
+place_within verb.Dual = lit≤ tt
+place_within verb.Delete = lit≤ tt
+place_within verb.Contract = lit≤ tt
+place_within verb.Reorient = lit≤ tt
+place_within verb.Check = lit≤ tt

@@ -1,0 +1,67 @@
+ghost use Rattle.std.specs.Prelude.{◌≡◌};
+ghost use Rattle.om_program.specs.Answers.{status_of, status_of_line};
+
+use crate::status::Status;
+use om_answer::Line;
+use om_text::Document;
+
+/// What the program answers. The code of a command decides it, and it is printed once, at the end of the run.
+#[derive(Drop)]
+pub enum Answer {
+    /// One line.
+    Line(Line),
+    /// A document, in canonical form.
+    Document(Document),
+}
+
+impl Answer {
+    /// How a run ends that has written this answer whole.
+    pub fn status(&self) -> Status
+        ensures { result ≡ status_of self.now }
+    {
+        match self {
+            Answer::Line(line) => status_of_line(line),
+            Answer::Document(_) => Status::Done,
+        }
+    }
+}
+
+/// How a run ends that has written this line.
+fn status_of_line(line: &Line) -> Status
+    ensures { result ≡ status_of_line line.now }
+{
+    match line {
+        Line::Accepted => Status::Done,
+        Line::Covector => Status::Done,
+        Line::NotCovector => Status::Done,
+        Line::ValidRealizable => Status::Done,
+        Line::ValidNonrealizable => Status::Done,
+        Line::ValidUndecided => Status::Done,
+        Line::Usage { .. } => Status::Usage,
+        Line::LimitMembers { .. } => Status::Limit,
+        Line::RefusedUnbuilt => Status::Refused,
+        Line::RefusedLong => Status::Refused,
+        Line::RefusedLine { .. } => Status::Refused,
+        Line::RefusedAllzero => Status::Refused,
+        Line::RefusedRelation { .. } => Status::Refused,
+        Line::RefusedZero { .. } => Status::Refused,
+        Line::RefusedNonegative { .. } => Status::Refused,
+        Line::RefusedNested { .. } => Status::Refused,
+        Line::RefusedNoelimination { .. } => Status::Refused,
+        Line::RefusedNozero => Status::Refused,
+        Line::RefusedNocomposition { .. } => Status::Refused,
+        Line::RefusedRanklow => Status::Refused,
+        Line::RefusedLength { .. } => Status::Refused,
+        Line::RefusedPlace { .. } => Status::Refused,
+        Line::RefusedLastelement => Status::Refused,
+        Line::RefusedNotrank3 { .. } => Status::Refused,
+        Line::RefusedNocertificate => Status::Refused,
+        Line::RefusedNumber { .. } => Status::Refused,
+        Line::RefusedWrongsign { .. } => Status::Refused,
+        Line::RefusedUnlawful { .. } => Status::Refused,
+        Line::RefusedUnbalanced { .. } => Status::Refused,
+        Line::RefusedNostrict => Status::Refused,
+        Line::RefusedBracket { .. } => Status::Refused,
+        Line::RefusedWeightfails { .. } => Status::Refused,
+    }
+}

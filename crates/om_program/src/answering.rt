@@ -1,0 +1,114 @@
+//! From an input to the answer.
+
+ghost use Rattle.std.specs.Prelude.{◌≡◌, ◌≤◌, IfOk, length};
+ghost use Rattle.om_text.specs.Form.{IsInForm};
+ghost use Rattle.om_program.specs.Meaning.{TaskMeans, DocumentMeans, IsAnswerOf};
+ghost use Rattle.om_program.specs.Represented.{IsMeantFor};
+ghost use Rattle.om_program.specs.Tasks.{HasLawfulArguments, reads};
+
+use crate::answer::Answer;
+use crate::conversion::convert;
+use crate::membership::find_membership;
+use crate::operation::{Operation, operate};
+use crate::reads::Reads;
+use crate::representation::{Representation, represent};
+use crate::task::Task;
+use crate::unrepresented::Unrepresented;
+use crate::verification::verify;
+use om_answer::{Line, read_claim};
+use om_signs::{MAX_INPUT, NoMemory};
+use om_text::{Document, ParseError, parse};
+use std::alloc::Global;
+use std::thread::Threads;
+
+/// The answer to a task on an input within the limit.
+pub fn answer_input<R: Threads + Sync>(
+    rt: &R,
+    alloc: Global,
+    task: Task,
+    bytes: &[u8],
+) -> Result<Answer, NoMemory>
+    requires short { length bytes.now ≤ MAX_INPUT }
+    requires lawful { HasLawfulArguments task }
+    requires reading { reads task ≡ Reads.Nothing → ⊥ }
+    ensures { IfOk result (TaskMeans task bytes.now) }
+{
+    match task.reads() {
+        Reads::Document => answer_text(rt, alloc, task, bytes),
+        Reads::Claim => answer_claim(rt, alloc, bytes),
+        Reads::Nothing => unreachable!(),
+    }
+}
+
+/// The answer to a task that reads a document.
+fn answer_text<R: Threads + Sync>(
+    rt: &R,
+    alloc: Global,
+    task: Task,
+    bytes: &[u8],
+) -> Result<Answer, NoMemory>
+    requires short { length bytes.now ≤ MAX_INPUT }
+    requires lawful { HasLawfulArguments task }
+    requires document { reads task ≡ Reads.Document }
+    ensures { IfOk result (TaskMeans task bytes.now) }
+{
+    match parse(alloc, bytes) {
+        Ok(document) => answer_document(rt, alloc, task, document),
+        Err(ParseError::Line { line, code }) => Ok(Answer::Line(Line::RefusedLine { line, code })),
+        Err(ParseError::Memory) => Err(NoMemory),
+    }
+}
+
+/// The answer to a task that reads a claim.
+fn answer_claim<R: Threads + Sync>(rt: &R, alloc: Global, bytes: &[u8]) -> Result<Answer, NoMemory>
+    requires { length bytes.now ≤ MAX_INPUT }
+    ensures { IfOk result (λ answer. (task : Task) → reads task ≡ Reads.Claim → TaskMeans task bytes.now answer) }
+{
+    match read_claim(alloc, bytes) {
+        Ok(claim) => Ok(Answer::Line(verify(rt, alloc, claim)?)),
+        Err(ParseError::Line { line, code }) => Ok(Answer::Line(Line::RefusedLine { line, code })),
+        Err(ParseError::Memory) => Err(NoMemory),
+    }
+}
+
+/// The answer to a task on a document.
+fn answer_document<R: Threads + Sync>(
+    rt: &R,
+    alloc: Global,
+    task: Task,
+    document: Document,
+) -> Result<Answer, NoMemory>
+    requires form { IsInForm document }
+    requires lawful { HasLawfulArguments task }
+    requires document { reads task ≡ Reads.Document }
+    ensures { IfOk result (DocumentMeans task document) }
+{
+    match represent(rt, alloc, document) {
+        Ok(representation) => answer_task(alloc, task, representation),
+        Err(Unrepresented::Refused(why)) => Ok(Answer::Line(why)),
+        Err(Unrepresented::Memory) => Err(NoMemory),
+    }
+}
+
+/// The answer to a task on an oriented matroid.
+fn answer_task(
+    alloc: Global,
+    task: Task,
+    representation: Representation,
+) -> Result<Answer, NoMemory>
+    requires lawful { HasLawfulArguments task }
+    requires document { reads task ≡ Reads.Document }
+    ensures { IfOk result (IsMeantFor (IsAnswerOf task) representation) }
+{
+    match task {
+        Task::Accept => Ok(Answer::Line(Line::Accepted)),
+        Task::Member(x) => Ok(find_membership(&representation, x)),
+        Task::Convert(kind) => convert(alloc, representation, kind),
+        Task::Dual => operate(alloc, representation, Operation::Dual),
+        Task::Delete(e) => operate(alloc, representation, Operation::Delete(e)),
+        Task::Contract(e) => operate(alloc, representation, Operation::Contract(e)),
+        Task::Reorient(mask) => operate(alloc, representation, Operation::Reorient(mask)),
+        // the source of this one is a claim
+        Task::Check => unreachable!(),
+    }
+}

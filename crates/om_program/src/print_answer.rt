@@ -1,0 +1,21 @@
+//! The text of an answer.
+
+ghost use Rattle.std.specs.Prelude.{◌≡◌, IfOk};
+ghost use Rattle.om_program.specs.Answers.{IsReply, text_of};
+
+use crate::answer::Answer;
+use om_answer::print_line;
+use om_signs::NoMemory;
+use om_text::print;
+use std::alloc::Global;
+
+/// The text of an answer to a command.
+pub fn print_answer(alloc: Global, answer: &Answer) -> Result<Vec<u8>, NoMemory>
+    requires { IsReply answer.now }
+    ensures { IfOk result (λ text. text.items ≡ text_of answer.now) }
+{
+    match answer {
+        Answer::Line(line) => print_line(alloc, line),
+        Answer::Document(document) => print(alloc, document),
+    }
+}
