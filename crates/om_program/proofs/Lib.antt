@@ -2,11 +2,15 @@ mod AboveLaws
 mod ArgumentLaws
 mod ClaimLaws
 mod ConversionLaws
+mod FitLaws
 mod GivenLaws
+mod ListingLaws
 mod MeaningLaws
 mod Memberships
 mod Numerals
 mod OperationLaws
+mod OptionLaws
 mod PointLaws
 mod SignWords
+mod TripleLaws
 mod WordLaws

@@ -5,29 +5,38 @@ mod argument;
 mod arguments;
 #[cfg(test)]
 mod claim_tests;
+mod colouring;
 mod command;
 mod conversion;
 mod documents;
 mod finding;
+mod leading;
+mod limits;
 #[cfg(test)]
 mod map_tests;
+mod numbered;
 mod operation;
+mod options;
 #[cfg(test)]
 mod point_tests;
 mod point_vectors;
 mod reply;
 mod representation;
 mod run;
+mod setting;
 mod spelling;
 mod status;
 mod task;
 #[cfg(test)]
 mod tests;
+mod triple;
 mod unconverted;
 mod unrepresented;
 mod usage;
 mod verb;
 mod verification;
+#[cfg(test)]
+mod word_tests;
 mod write_usage;
 mod written;
 
