@@ -2,9 +2,9 @@
 --
 -- Main results: words that fit (fits_taken, fits_all); a word that doesn't (unfit_at), and that it is the one at fault (first_unfit); items of a
 -- list as words (item_word); a test of some word (any_found, any_none).
-use Rattle.std.specs.Prelude.{ℕ, ◌≡◌, ◌<◌, ◌≤◌, ◌+◌, ◌-◌, Bool, true, false, List, [], ◌∷◌, ◌++◌, length, map, refl}
+use Rattle.std.specs.Prelude.{ℕ, ◌≡◌, ◌<◌, ◌≤◌, ◌+◌, Bool, true, false, List, [], ◌∷◌, ◌++◌, length, map, refl}
 use Rattle.std.specs.List.{list_any}
-use Rattle.std.proofs.Common.{get_or, take, drop, zero, suc, arith, ap, subst, sym, ◌∙◌, append_assoc, append-nil, length-append}
+use Rattle.std.proofs.Common.{get_or, take, drop, zero, suc, arith, ap, subst, sym, ◌∙◌, append_assoc, length-append}
 use Rattle.std.proofs.lemmas.Bool.{both_ways}
 use Rattle.std.proofs.lemmas.List.{length-take-le, take-take, get_or-take, take_at, get_or_at, take-append-drop, drop_more, get_or_default}
 use Rattle.std.proofs.lemmas.List.Folds.{list_any_at, list_any_none}

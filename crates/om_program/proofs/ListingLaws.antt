@@ -2,13 +2,12 @@
 --
 -- Main results: a list that is filled in order (filled_none, filled_more, filled_all); the colours of a word (colours_read,
 -- colours_within); what colours and an element are read as (colouring_read, ..); what elements with signs are read as (leading_read, ..).
-use Rattle.std.specs.Prelude.{ℕ, ◌≡◌, ◌<◌, ◌≤◌, ◌+◌, ◌-◌, ◌↔◌, ◌==◌, ◌&&◌, Bool, true, false, cond, nat_le, nat_lt, List, [], ◌∷◌, ◌++◌, length, map, replicate, Option, Some, None, is_some, Result, Ok, Err, IfErr, IsErrAnd, slice_get, codes, refl}
-use Rattle.std.specs.List.{list_all, list_any, filter_map}
+use Rattle.std.specs.Prelude.{ℕ, ◌≡◌, ◌<◌, ◌≤◌, ◌+◌, ◌-◌, ◌↔◌, ◌==◌, ◌&&◌, Bool, true, false, cond, nat_le, List, [], ◌∷◌, ◌++◌, length, map, replicate, Option, Some, None, is_some, Result, Ok, Err, IfErr, IsErrAnd, codes, refl}
+use Rattle.std.specs.List.{list_all, filter_map}
 use Rattle.std.specs.Fmt.{decimal}
-use Rattle.std.proofs.Common.{get_or, take, drop, set, zero, suc, arith, ap, subst, sym, ◌∙◌, append_assoc, append-nil, lit≤, below_more, length-append}
-use Rattle.std.proofs.lemmas.Bool.{false≢true, eqb-true, le-leb, lt-leb, leb-true, and_from, and_parts, and_left, and_right}
+use Rattle.std.proofs.Common.{get_or, take, set, zero, suc, arith, ap, subst, sym, ◌∙◌, append_assoc, append-nil, lit≤, below_more}
+use Rattle.std.proofs.lemmas.Bool.{false≢true, eqb-true, le-leb, leb-true, and_from, and_parts}
 use Rattle.std.proofs.lemmas.List.{take_more, take_all, set_at, length_push}
-use Rattle.std.proofs.lemmas.List.Folds.{list_all_at}
 use Rattle.std.proofs.lemmas.List.Elements.{filter_map-append}
 use Rattle.om_signs.specs.declared.limits.TheConstants.{MAX_ELEMENTS}
 use Rattle.om_signs.specs.declared.sign.Sign.TheVariants.{Plus}
@@ -21,7 +20,7 @@ use Rattle.om_program.specs.declared.colouring.Colouring.{Colouring}
 use Rattle.om_program.specs.declared.leading.Leading.{Leading}
 use Rattle.om_program.specs.Words.{IsElement, Begins, IsFault, at_word, at_end, HasValue, IsRead}
 use Rattle.om_program.specs.Readings.{EachFits}
-use Rattle.om_program.specs.Triples.{IsElementWithin, IsElementAt}
+use Rattle.om_program.specs.Triples.{IsElementAt}
 use Rattle.om_program.specs.Listings.{padded, colour_of, are_colours, colours_of, AreColouring, signed_of, is_leading, AreLeading}
 use Rattle.om_program.proofs.WordLaws.{first_of, tail_of}
 use Rattle.om_program.proofs.ArgumentLaws.{no_value, none_some, one_some}

@@ -4,8 +4,8 @@
 -- options are (set_read, set_fault, seed_read, ..); the number of a setting (number_found, number_more, number_end), which is
 -- within its limits (number_of_within).
 use Rattle.std.specs.Prelude.{ℕ, ◌≡◌, ◌↔◌, ◌<◌, ◌≤◌, ◌+◌, Bool, true, false, cond, not, nat_eq, nat_le, ◌&&◌, ◌||◌, List, [], ◌∷◌, ◌++◌, length, map, Option, Some, None, is_some, unwrap_or, Result, Ok, Err, IfErr, IsErrAnd, codes, refl}
-use Rattle.std.specs.List.{list_any, starts_with}
-use Rattle.std.proofs.Common.{get_or, take, drop, zero, suc, arith, ap, subst, sym, ◌∙◌, append-nil, below_more, lit≤}
+use Rattle.std.specs.List.{starts_with}
+use Rattle.std.proofs.Common.{get_or, take, drop, suc, arith, ap, subst, sym, ◌∙◌, append-nil, below_more, lit≤}
 use Rattle.std.proofs.lemmas.Bool.{false≢true, leb-true}
 use Rattle.std.proofs.lemmas.List.{take_more, drop_more, drop_all}
 use Rattle.std.proofs.lemmas.List.Folds.{list_any-append}

@@ -1,5 +1,5 @@
 -- Numbers, options `--name=K`, and the commands that have them.
-use Rattle.std.specs.Prelude.{ℕ, ◌≡◌, ◌<◌, ◌∷◌, List, [], Bool, cond, not, nat_eq, nat_le, ◌&&◌, codes, length, drop, Option, Some, None, is_some, unwrap_or}
+use Rattle.std.specs.Prelude.{ℕ, ◌≡◌, ◌∷◌, List, [], Bool, cond, not, nat_eq, nat_le, ◌&&◌, codes, length, drop, Option, Some, None, is_some, unwrap_or}
 use Rattle.std.specs.List.{list_any, starts_with}
 use Rattle.om_signs.specs.declared.limits.TheConstants.{MAX_ELEMENTS, MAX_LINES, MAX_BOX, MAX_STEPS, MAX_PIVOTS}
 use Rattle.om_text.specs.Words.{unsigned}

@@ -2,8 +2,8 @@ use Rattle.std.specs.Prelude.{◌≤◌, length, string_bytes}
 use Rattle.std.proofs.Common.{arith, Global}
 use Rattle.std.proofs.lemmas.List.{take-map, length-take-le}
 use Rattle.om_program.proofs.FitLaws.{item_word}
-use Rattle.om_program.proofs.Numerals.{length-words, length-words_end}
-use Rattle.om_program.proofs.ListingLaws.{few_of, some_of, signed_none, signed_more, leading_fault, leading_missing, leading_read}
+use Rattle.om_program.proofs.Numerals.{length-words}
+use Rattle.om_program.proofs.ListingLaws.{few_of, signed_none, signed_more, leading_fault, leading_missing}
 use Rattle.om_program.proofs.leading.signed_elements.Goals as goal
 
 pub loop-i-init : goal.loop-i-init

@@ -1,4 +1,3 @@
-use Rattle.std.specs.Prelude.{◌≡◌, Some, None, string_bytes}
 use Rattle.std.proofs.Common.{◌∙◌, ap, sym}
 use Rattle.om_program.specs.Options.{number_within}
 use Rattle.om_program.proofs.OptionLaws.{seed_read, seed_passed, seed_bad}

@@ -1,8 +1,7 @@
-use Rattle.std.proofs.Common.{arith, ap, sym, ◌∙◌, subst}
-use Rattle.std.proofs.lemmas.List.{length-map}
+use Rattle.std.proofs.Common.{sym, ◌∙◌}
 use Rattle.om_program.proofs.FitLaws.{item_word}
-use Rattle.om_program.proofs.Numerals.{length-words, length-words_end}
-use Rattle.om_program.proofs.OptionLaws.{number_found, number_more, number_end}
+use Rattle.om_program.proofs.Numerals.{length-words}
+use Rattle.om_program.proofs.OptionLaws.{number_found, number_more}
 use Rattle.om_program.proofs.options.number_of.Goals as goal
 
 pub loop-word-preserved : goal.loop-word-preserved

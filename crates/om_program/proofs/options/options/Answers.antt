@@ -1,10 +1,9 @@
-use Rattle.std.specs.Prelude.{◌≡◌, map, string_bytes, take, true, false}
-use Rattle.std.proofs.Common.{sym, ◌∙◌, subst, Global}
+use Rattle.std.specs.Prelude.{string_bytes}
+use Rattle.std.proofs.Common.{sym, ◌∙◌, Global}
 use Rattle.std.proofs.lemmas.List.{take-map}
-use Rattle.om_program.specs.Options.{is_option}
 use Rattle.om_program.proofs.FitLaws.{item_word}
 use Rattle.om_program.proofs.Numerals.{length-words, length-words_end}
-use Rattle.om_program.proofs.OptionLaws.{ArePassed, passed_none, passed_more, options_fault, options_read}
+use Rattle.om_program.proofs.OptionLaws.{passed_none, passed_more, options_fault, options_read}
 use Rattle.om_program.proofs.options.options.Goals as goal
 
 pub loop-i-init : goal.loop-i-init

@@ -1,4 +1,4 @@
-use Rattle.std.proofs.Common.{arith, refl}
+use Rattle.std.proofs.Common.{arith}
 use Rattle.om_program.proofs.TripleLaws.{first_bad, second_bad, third_bad, triple_long, triple_read}
 use Rattle.om_program.proofs.triple.triple.Goals as goal
 
