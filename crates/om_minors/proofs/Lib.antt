@@ -4,3 +4,8 @@ pub mod MinorMaps
 pub mod MinorLists
 pub mod Turning
 pub mod DualMinors
+pub mod DroppedPlaces
+pub mod FlippedLists
+pub mod FamilyMinors
+pub mod ListMinors
+pub mod ListReorientations
