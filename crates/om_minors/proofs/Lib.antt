@@ -9,3 +9,6 @@ pub mod FlippedLists
 pub mod FamilyMinors
 pub mod ListMinors
 pub mod ListReorientations
+pub mod GatheringLaws
+pub mod DroppedMembers
+pub mod CovectorMinors

@@ -9,6 +9,7 @@
 mod circuits;
 mod cocircuits;
 mod covectors;
+mod dropping;
 mod flipping;
 mod laws;
 mod minor_error;
@@ -20,7 +21,7 @@ mod tests;
 
 pub use circuits::reorient_circuits;
 pub use cocircuits::reorient_cocircuits;
-pub use covectors::reorient_covectors;
+pub use covectors::{contract_covectors, delete_covectors, reorient_covectors};
 pub use laws::{deletion_and_contraction_are_dual, reorientation_twice};
 pub use minor_error::MinorError;
 pub use minors::{contract_chirotope, delete_chirotope};
