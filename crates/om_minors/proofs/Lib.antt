@@ -12,3 +12,4 @@ pub mod ListReorientations
 pub mod GatheringLaws
 pub mod DroppedMembers
 pub mod CovectorMinors
+pub mod SetMinors

@@ -12,6 +12,7 @@ mod covectors;
 mod dropping;
 mod flipping;
 mod laws;
+mod least;
 mod minor_error;
 mod minors;
 mod reorientation;
@@ -19,8 +20,8 @@ mod signed_sets;
 #[cfg(test)]
 mod tests;
 
-pub use circuits::reorient_circuits;
-pub use cocircuits::reorient_cocircuits;
+pub use circuits::{contract_circuits, delete_circuits, reorient_circuits};
+pub use cocircuits::{contract_cocircuits, delete_cocircuits, reorient_cocircuits};
 pub use covectors::{contract_covectors, delete_covectors, reorient_covectors};
 pub use laws::{deletion_and_contraction_are_dual, reorientation_twice};
 pub use minor_error::MinorError;
