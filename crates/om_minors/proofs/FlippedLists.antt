@@ -22,7 +22,6 @@ use Rattle.om_denotation.specs.Operations.{IsDual, IsReorientation}
 
 -- ---- one sign
 
-
 twice_turned : (b : Bool) (s : Sign) → cond b (opposite (cond b (opposite s) s)) (cond b (opposite s) s) ≡ s
 twice_turned true s = grind arith
 twice_turned false s = refl

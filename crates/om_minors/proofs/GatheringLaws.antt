@@ -4,7 +4,7 @@
 -- Main results: one vector more gives nothing new (gathered_kept) or something new (gathered_more), till all are read (gathered_all); a vector that
 -- is new for a set goes to its end (new_key), and one that isn't leaves it (old_key); vectors that are the same without a place where they have the
 -- same sign are the same (same_restored), so that of distinct vectors none is dropped twice (not_twice).
-use Rattle.std.specs.Prelude.{ℕ, ◌≡◌, ◌≢◌, ◌⊎◌, ◌+◌, ◌-◌, ◌<◌, ◌≤◌, List, [], ◌∷◌, ◌++◌, length, if◌then◌else◌, refl, true, false}
+use Rattle.std.specs.Prelude.{ℕ, ◌≡◌, ◌⊎◌, ◌+◌, ◌-◌, ◌<◌, ◌≤◌, List, [], ◌∷◌, ◌++◌, length, if◌then◌else◌, true, false}
 use Rattle.std.specs.List.{Contains, remove, list_any}
 use Rattle.std.proofs.Common.{take, drop, get_or, sym, ◌∙◌, ap, subst, inl, inr, ⊎_elim, arith}
 use Rattle.std.proofs.lemmas.Bool.{cases_lt, cases_eq}

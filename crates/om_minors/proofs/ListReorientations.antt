@@ -3,7 +3,7 @@
 -- Main results: the members of a list of circuits or of cocircuits, each negated on a mask, meet the axioms (reoriented_axioms) and are those of the
 -- reorientation (reoriented_circuits, reoriented_cocircuits); so it is with covectors (reoriented_covector_axioms, covectors_reoriented).
 -- Reference: Björner, Las Vergnas, Sturmfels, White and Ziegler, Oriented Matroids, chapter 3.
-use Rattle.std.specs.Prelude.{ℕ, ◌≡◌, List, length, map}
+use Rattle.std.specs.Prelude.{ℕ, ◌≡◌, List, map}
 use Rattle.std.specs.List.{Contains}
 use Rattle.std.proofs.Common.{sym, ◌∙◌, subst}
 use Rattle.om_signs.specs.declared.sign.Sign.{Sign}

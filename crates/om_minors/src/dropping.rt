@@ -29,7 +29,11 @@ pub fn without_place(alloc: Global, vectors: &[SignVec], e: u8) -> Result<List<S
 }
 
 /// The vectors that are 0 at e, without this place, in their order.
-pub fn zero_without_place(alloc: Global, vectors: &[SignVec], e: u8) -> Result<List<SignVec>, NoMemory>
+pub fn zero_without_place(
+    alloc: Global,
+    vectors: &[SignVec],
+    e: u8,
+) -> Result<List<SignVec>, NoMemory>
     requires low { 1 ≤ e }
     requires places { HavePlace e vectors.now }
     requires distinct { AreDistinct vectors.now }

@@ -1,4 +1,4 @@
-use Rattle.std.proofs.Common.{◌≡◌, ◌+◌, ◌-◌, ◌<◌, ◌++◌, [], ◌∷◌, List, Bool, true, false, not, sym, ◌∙◌, ap, subst}
+use Rattle.std.proofs.Common.{◌≡◌, ◌+◌, ◌-◌, ◌++◌, [], ◌∷◌, List, Bool, true, false, not, sym, ◌∙◌, ap, subst}
 use Rattle.std.specs.List.{Contains, remove}
 use Rattle.om_signs.specs.declared.sign.Sign.{Sign}
 use Rattle.om_convert.proofs.KeyLaws.{contained, not_contained}

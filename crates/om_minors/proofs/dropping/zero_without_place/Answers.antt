@@ -1,7 +1,6 @@
 use denote.Enum.Bare.{sameb}
-use Rattle.std.proofs.Common.{true, false, true≢false, refl, ◌≡◌, ◌+◌, ◌-◌, ◌<◌, ◌≤◌, List, length, sym, ◌∙◌, subst, arith}
-use Rattle.std.proofs.lemmas.List.Elements.{All-contains, All-get_or}
-use Rattle.std.specs.List.{Contains, remove}
+use Rattle.std.proofs.Common.{true, true≢false, refl, ◌≡◌, ◌+◌, ◌-◌, sym, ◌∙◌, subst}
+use Rattle.std.specs.List.{remove}
 use Rattle.om_signs.specs.declared.sign.Sign.{Sign}
 use Rattle.om_signs.specs.declared.sign.Sign.TheVariants.{Minus, Zero, Plus}
 use Rattle.om_signs.specs.contracts.sign.Sign.{the_type}

@@ -1,4 +1,4 @@
-use Rattle.std.proofs.Common.{◌∙◌, ◌<◌, [], length, set, sym, ap, arith}
+use Rattle.std.proofs.Common.{◌∙◌, ◌<◌, length, set, sym, ap, arith}
 use Rattle.std.proofs.lemmas.List.Edits.{map_over_more}
 use Rattle.std.proofs.lemmas.Option.{get_or_from_slice_get}
 use Rattle.om_signs.specs.SignVec.{flip}

@@ -1,4 +1,4 @@
-use Rattle.std.proofs.Common.{sym, subst, ap, ◌∙◌, arith, ◌≤◌, length}
+use Rattle.std.proofs.Common.{sym, subst, ap, arith, length}
 use Rattle.std.specs.List.{Contains}
 use Rattle.om_members.specs.Listings.{AreDistinct}
 use Rattle.om_signs.specs.declared.limits.TheConstants.{MAX_MEMBERS}

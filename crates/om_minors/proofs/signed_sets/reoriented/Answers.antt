@@ -1,4 +1,4 @@
-use Rattle.std.proofs.Common.{◌∙◌, ap, map, refl, sym, subst}
+use Rattle.std.proofs.Common.{◌∙◌, ap, map, sym, subst}
 use Rattle.om_signs.specs.SignVec.{flip}
 use Rattle.om_members.specs.Listings.{AreDistinct}
 use Rattle.om_minors.proofs.FlippedLists.{flipped_distinct}
