@@ -1,5 +1,5 @@
 use Rattle.om_certificate.specs.Validity.{AreEntriesWithinLimits}
-use Rattle.om_certificate.proofs.tests.entries_of.Given as goal
+use Rattle.om_certificate.proofs.tests.nine_entries.Given as goal
 
-abbrev pub invariant-loop-row : goal.invariant-loop-row
-invariant-loop-row l = AreEntriesWithinLimits l.list
+abbrev pub invariant-loop-i : goal.invariant-loop-i
+invariant-loop-i l = AreEntriesWithinLimits l.list
