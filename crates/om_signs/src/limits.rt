@@ -1,4 +1,6 @@
-//! The limits of the workbench. Each number stands here alone, and the other crates take it from here.
+//! The limits of the workbench. Each number stands here alone: the code and the contracts of all crates take it from here
+//! by its name. What follows from a limit, as the length of a table, stands where it is used, and a proof may compute with
+//! the number.
 
 /// The most bytes that an input may have.
 pub const MAX_INPUT: usize = 1_048_576;

@@ -69,6 +69,13 @@ impl<T: Copy> List<T> {
         Ok(())
     }
 
+    /// The empty list of values of any type, with the allocator of this list. It takes no memory.
+    pub fn empty_like<U: Copy>(&self) -> List<U>
+        ensures { result ≡ [] }
+    {
+        List::new(*self.items.allocator())
+    }
+
     /// A list of the same values, with the same allocator.
     ///
     /// [`NoMemory`] comes only for want of memory.
@@ -113,5 +120,7 @@ mod tests {
         assert_eq!(rt; vectors.push(x), Ok(()));
         assert_eq!(rt; vectors.len(), 1);
         assert_eq!(rt; vectors.at(0), x);
+        let numbers: List<u32> = vectors.empty_like();
+        assert_eq!(rt; numbers.len(), 0);
     }
 }

@@ -4,6 +4,7 @@
 mod binomials;
 mod laws;
 mod subset;
+mod threads;
 
 pub use binomials::MOST_SUBSETS;
 pub use laws::{

@@ -226,7 +226,6 @@ impl Subset {
 #[cfg(test)]
 mod tests {
     use super::*;
-    use std::thread::join;
 
     #[test]
     fn pairs_of_four(rt: HostRuntime) {
@@ -251,13 +250,5 @@ mod tests {
         assert_eq!(rt; pair.without(4).with(1), Subset::from_mask(0b0101, 4));
         assert!(rt; pair.has(3) && pair.odd_after(3) && !pair.odd_after(2));
         assert_eq!(rt; Subset::choose(4, 2), 6);
-    }
-
-    #[test]
-    fn shared_by_threads(rt: HostRuntime) {
-        let pair = Subset::first(2, 4);
-        let (place, size) = join(&rt, || pair.rank(), || pair.size());
-        assert_eq!(rt; place, 0);
-        assert_eq!(rt; size, 2);
     }
 }

@@ -1,0 +1,111 @@
+//! Signs and sign vectors of texts, and texts of them.
+
+ghost use Rattle.std.specs.Prelude.{◌≡◌, ◌≤◌, length, IfOk};
+ghost use Rattle.om_members.specs.Listings.{HaveLength, AreDistinct};
+
+use super::sample_error::SampleError;
+use om_members::is_member;
+use om_signs::{List, MAX_ELEMENTS, MAX_MEMBERS, MAX_PLACES, RawMap, Sign, SignVec};
+use std::alloc::Global;
+
+/// The sign of a byte: that of `+` or `-`, and zero for any other.
+pub fn sign_of(byte: u8) -> Sign {
+    match byte {
+        b'+' => Sign::Plus,
+        b'-' => Sign::Minus,
+        _ => Sign::Zero,
+    }
+}
+
+/// The signs of a text, one for each byte. The list takes its memory from `alloc`.
+///
+/// [`SampleError::Memory`] comes for want of memory, and no other error does.
+pub fn signs_of(alloc: Global, text: &str) -> Result<List<Sign>, SampleError> {
+    let mut signs = List::new(alloc);
+    for byte in text.as_bytes() {
+        signs.push(sign_of(*byte))?;
+    }
+    Ok(signs)
+}
+
+/// The sign vector of a text, with a place for each of the elements, from 1 to [`MAX_PLACES`]. Where the text is too
+/// short, the last places are zero; where it is too long, its end is left out.
+pub fn vector_of(elements: u8, text: &str) -> SignVec
+    requires low { 1 ≤ elements }
+    requires high { elements ≤ MAX_PLACES }
+    ensures { length result ≡ elements }
+{
+    let mut vector = SignVec::zero(elements);
+    for (k, byte) in text.as_bytes().iter().enumerate() {
+        if k < elements as usize {
+            vector = vector.set(k as u8 + 1, sign_of(*byte));
+        }
+    }
+    vector
+}
+
+/// The sign vectors of some texts, in their order; one that stood before is left out. The list takes its memory from
+/// `alloc`.
+///
+/// [`SampleError::Refused`] comes where the elements aren't from 1 to [`MAX_ELEMENTS`], or where there are more than
+/// [`MAX_MEMBERS`] distinct vectors; [`SampleError::Memory`] for want of memory.
+pub fn vectors_of(alloc: Global, elements: u8, texts: &[&str]) -> Result<List<SignVec>, SampleError>
+    ensures low { IfOk result (λ l. 1 ≤ elements) }
+    ensures high { IfOk result (λ l. elements ≤ MAX_ELEMENTS) }
+    ensures lengths { IfOk result (HaveLength elements) }
+    ensures distinct { IfOk result AreDistinct }
+    ensures few { IfOk result (λ l. length l ≤ MAX_MEMBERS) }
+{
+    if elements < 1 || elements > MAX_ELEMENTS {
+        return Err(SampleError::Refused);
+    }
+    let mut list = List::new(alloc);
+    for text in texts {
+        let vector = vector_of(elements, text);
+        if !is_member(list.as_slice(), vector) {
+            if list.len() >= MAX_MEMBERS {
+                return Err(SampleError::Refused);
+            }
+            list.push(vector)?;
+        }
+    }
+    Ok(list)
+}
+
+/// The letter of a sign: `-`, `0` or `+`.
+fn letter_of(sign: Sign) -> &'static str {
+    match sign {
+        Sign::Minus => "-",
+        Sign::Zero => "0",
+        Sign::Plus => "+",
+    }
+}
+
+/// The text of a map: its rank, its number of elements and its signs, as `2 3 +-+`. It takes its memory from `alloc`.
+///
+/// [`SampleError::Memory`] comes for want of memory, and no other error does.
+pub fn text_of_map(alloc: Global, raw: &RawMap) -> Result<String, SampleError> {
+    let (rank, elements) = (raw.rank, raw.elements);
+    let mut text = format!(in alloc; "{rank} {elements} ")?;
+    for sign in raw.signs.as_slice() {
+        text.push_str(letter_of(*sign))?;
+    }
+    Ok(text)
+}
+
+/// The text of some sign vectors, in their order, with a space between two, as `0++ -0+`. It takes its memory from
+/// `alloc`.
+///
+/// [`SampleError::Memory`] comes for want of memory, and no other error does.
+pub fn text_of_vectors(alloc: Global, vectors: &[SignVec]) -> Result<String, SampleError> {
+    let mut text = String::new(alloc);
+    for vector in vectors {
+        if !text.is_empty() {
+            text.push_str(" ")?;
+        }
+        for e in 1..vector.len() + 1 {
+            text.push_str(letter_of(vector.get(e)))?;
+        }
+    }
+    Ok(text)
+}

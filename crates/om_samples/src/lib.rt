@@ -1,0 +1,14 @@
+//! Small oriented matroids written as texts, and the texts of what is made of them: for tests alone.
+//!
+//! A text has one character for each sign: `+`, `-`, and any other for zero.
+#![tactic(auto)]
+
+mod letters;
+mod sample_error;
+mod samples;
+#[cfg(test)]
+mod tests;
+
+pub use letters::{sign_of, signs_of, text_of_map, text_of_vectors, vector_of, vectors_of};
+pub use sample_error::SampleError;
+pub use samples::{chirotope_of, circuits_of, cocircuits_of, covectors_of};

@@ -1,0 +1,27 @@
+use om_signs::NoMemory;
+use std::alloc::AllocError;
+use thiserror::Error;
+
+/// Why there is no sample.
+#[derive(Clone, Copy, Debug, PartialEq, Eq, Error)]
+pub enum SampleError {
+    /// The texts don't write what was asked for: a number is out of its range, a text has another length, or what the
+    /// texts write breaks an axiom.
+    #[error("refused")]
+    Refused,
+    /// Want of memory.
+    #[error("out of memory")]
+    Memory,
+}
+
+impl From<NoMemory> for SampleError {
+    fn from(_: NoMemory) -> Self {
+        SampleError::Memory
+    }
+}
+
+impl From<AllocError> for SampleError {
+    fn from(_: AllocError) -> Self {
+        SampleError::Memory
+    }
+}

@@ -1,0 +1,110 @@
+//! Chirotopes, circuits, cocircuits and covectors of texts.
+
+ghost use Rattle.std.specs.Prelude.{◌≡◌, IfOk};
+
+use super::letters::{signs_of, vectors_of};
+use super::sample_error::SampleError;
+use om_chirotope::Chirotope;
+use om_circuits::{Circuits, Cocircuits, SignedSet};
+use om_covectors::Covectors;
+use om_signs::{MAX_ELEMENTS, RawMap};
+use om_subsets::Subset;
+use std::alloc::Global;
+use std::thread::Threads;
+
+/// The chirotope of a rank and a number of elements whose signs, in lexicographic order of the sets, are those of a text.
+/// It takes its memory from `alloc`.
+///
+/// [`SampleError::Refused`] comes where the elements aren't from 1 to [`MAX_ELEMENTS`], the rank is more, the text has
+/// not one byte for each set, or the signs break an axiom; [`SampleError::Memory`] for want of memory.
+pub fn chirotope_of<R: Threads + Sync>(
+    rt: &R,
+    alloc: Global,
+    rank: u8,
+    elements: u8,
+    text: &str,
+) -> Result<Chirotope, SampleError>
+    ensures rank { IfOk result (λ c. c.rank ≡ rank) }
+    ensures elements { IfOk result (λ c. c.elements ≡ elements) }
+{
+    if elements < 1 || elements > MAX_ELEMENTS || rank > elements {
+        return Err(SampleError::Refused);
+    }
+    let signs = signs_of(alloc, text)?;
+    if signs.len() != Subset::choose(elements, rank) as usize {
+        return Err(SampleError::Refused);
+    }
+    let raw = RawMap {
+        rank,
+        elements,
+        signs,
+    };
+    match om_chirotope::check(rt, raw) {
+        Ok(chi) => Ok(chi),
+        Err(_) => Err(SampleError::Refused),
+    }
+}
+
+/// The set of some texts, which meets the axioms of circuits.
+fn set_of<R: Threads + Sync>(
+    rt: &R,
+    alloc: Global,
+    elements: u8,
+    texts: &[&str],
+) -> Result<SignedSet, SampleError>
+    ensures { IfOk result (λ s. s.elements ≡ elements) }
+{
+    let list = vectors_of(alloc, elements, texts)?;
+    match om_circuits::check(rt, elements, list) {
+        Ok(set) => Ok(set),
+        Err(_) => Err(SampleError::Refused),
+    }
+}
+
+/// The oriented matroid whose circuits are the sign vectors of some texts. It takes its memory from `alloc`.
+///
+/// [`SampleError::Refused`] comes where the elements aren't from 1 to [`MAX_ELEMENTS`], there are too many vectors, or
+/// they break an axiom; [`SampleError::Memory`] for want of memory.
+pub fn circuits_of<R: Threads + Sync>(
+    rt: &R,
+    alloc: Global,
+    elements: u8,
+    texts: &[&str],
+) -> Result<Circuits, SampleError>
+    ensures { IfOk result (λ c. c.0.elements ≡ elements) }
+{
+    Ok(Circuits(set_of(rt, alloc, elements, texts)?))
+}
+
+/// The oriented matroid whose cocircuits are the sign vectors of some texts. It takes its memory from `alloc`.
+///
+/// The errors are those of [`circuits_of`].
+pub fn cocircuits_of<R: Threads + Sync>(
+    rt: &R,
+    alloc: Global,
+    elements: u8,
+    texts: &[&str],
+) -> Result<Cocircuits, SampleError>
+    ensures { IfOk result (λ c. c.0.elements ≡ elements) }
+{
+    Ok(Cocircuits(set_of(rt, alloc, elements, texts)?))
+}
+
+/// The oriented matroid whose covectors are the sign vectors of some texts. It takes its memory from `alloc`.
+///
+/// [`SampleError::Refused`] comes where the elements aren't from 1 to [`MAX_ELEMENTS`], there are too many vectors, or
+/// they break an axiom; [`SampleError::Memory`] for want of memory.
+pub fn covectors_of<R: Threads + Sync>(
+    rt: &R,
+    alloc: Global,
+    elements: u8,
+    texts: &[&str],
+) -> Result<Covectors, SampleError>
+    ensures { IfOk result (λ c. c.elements ≡ elements) }
+{
+    let list = vectors_of(alloc, elements, texts)?;
+    match om_covectors::check(rt, elements, list) {
+        Ok(covectors) => Ok(covectors),
+        Err(_) => Err(SampleError::Refused),
+    }
+}
