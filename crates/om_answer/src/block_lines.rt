@@ -11,7 +11,8 @@ use super::range::Range;
 use om_certificate::{Entry, LpEnd, Weight};
 use om_grassmann::Statement;
 use om_signs::{
-    MAX_COORDINATE, MAX_ELEMENTS, MAX_MULTIPLICITY, MAX_PIVOTS, MAX_PLAIN, MAX_ROW_NAMED, MAX_WEIGHT,
+    MAX_COORDINATE, MAX_ELEMENTS, MAX_MULTIPLICITY, MAX_PIVOTS, MAX_PLAIN, MAX_ROW_NAMED,
+    MAX_WEIGHT,
 };
 use om_simplex::Stage;
 use om_text::lines::{first_word, same};
