@@ -2,9 +2,7 @@ mod AboveLaws
 mod ArgumentLaws
 mod ClaimLaws
 mod ConversionLaws
-mod GivenLaws
 mod MeaningLaws
-mod Memberships
 mod Numerals
 mod OperationLaws
 mod PointLaws

@@ -31,6 +31,7 @@ mod unrepresented;
 mod usage;
 mod verb;
 mod verification;
+mod wiring_maps;
 mod write_usage;
 mod written;
 
