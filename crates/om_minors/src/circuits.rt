@@ -13,8 +13,8 @@ use super::signed_sets::{least_part, reoriented, zero_part};
 use om_circuits::Circuits;
 use std::alloc::Global;
 
-/// The circuits of the deletion of e, from 1 to n: the circuits that are 0 at e, without their sign there. The elements after e are moved down by one. The list takes its memory
-/// from `alloc`.
+/// The circuits of the deletion of e, from 1 to n: the circuits that are 0 at e, without their
+/// sign there. The elements after e are moved down by one. The list takes its memory from `alloc`.
 ///
 /// [`MinorError::LastElement`] comes exactly where n is 1, and [`MinorError::Memory`] only for want of memory.
 ///
@@ -24,8 +24,10 @@ pub fn delete_circuits(alloc: Global, c: &Circuits, e: u8) -> Result<Circuits, M
     requires high { e ≤ c.now.0.elements }
     ensures last_element { IsErrOf result MinorError.LastElement ↔ (c.now.0.elements ≡ 1) }
     ensures elements { IfOk result (λ d. d.0.elements + 1 ≡ c.now.0.elements) }
-    ensures members { IfOk result (λ d. AreAllOf (IsZeroWithout c.now.0.elements e (Contains c.now.0.members)) d.0.members) }
-    ensures deletion { IfOk result (λ d. IsDeletion c.now.0.elements e (IsCovectorOfCircuits c.now.0) (IsCovectorOfCircuits d.0)) }
+    ensures members { IfOk result (λ d.
+        AreAllOf (IsZeroWithout c.now.0.elements e (Contains c.now.0.members)) d.0.members) }
+    ensures deletion { IfOk result (λ d.
+        IsDeletion c.now.0.elements e (IsCovectorOfCircuits c.now.0) (IsCovectorOfCircuits d.0)) }
 {
     if c.0.elements() == 1 {
         return Err(MinorError::LastElement);
@@ -33,9 +35,9 @@ pub fn delete_circuits(alloc: Global, c: &Circuits, e: u8) -> Result<Circuits, M
     Ok(Circuits(zero_part(alloc, &c.0, e)?))
 }
 
-/// The circuits of the contraction of e, from 1 to n: the circuits without their sign at e, each once, as far as they are
-/// not zero and no other that isn't zero has less support. The elements after e are moved down by one. The list takes its memory
-/// from `alloc`.
+/// The circuits of the contraction of e, from 1 to n: those of least support among the circuits
+/// without their sign at e that are not zero, each once. The elements after e are moved down by one. The list takes its
+/// memory from `alloc`.
 ///
 /// [`MinorError::LastElement`] comes exactly where n is 1, and [`MinorError::Memory`] only for want of memory.
 ///
@@ -45,8 +47,10 @@ pub fn contract_circuits(alloc: Global, c: &Circuits, e: u8) -> Result<Circuits,
     requires high { e ≤ c.now.0.elements }
     ensures last_element { IsErrOf result MinorError.LastElement ↔ (c.now.0.elements ≡ 1) }
     ensures elements { IfOk result (λ d. d.0.elements + 1 ≡ c.now.0.elements) }
-    ensures members { IfOk result (λ d. AreAllOf (IsOfLeastSupport (IsWithout c.now.0.elements e (Contains c.now.0.members))) d.0.members) }
-    ensures contraction { IfOk result (λ d. IsContraction c.now.0.elements e (IsCovectorOfCircuits c.now.0) (IsCovectorOfCircuits d.0)) }
+    ensures members { IfOk result (λ d.
+        AreAllOf (IsOfLeastSupport (IsWithout c.now.0.elements e (Contains c.now.0.members))) d.0.members) }
+    ensures contraction { IfOk result (λ d.
+        IsContraction c.now.0.elements e (IsCovectorOfCircuits c.now.0) (IsCovectorOfCircuits d.0)) }
 {
     if c.0.elements() == 1 {
         return Err(MinorError::LastElement);

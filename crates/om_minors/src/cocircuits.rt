@@ -13,9 +13,9 @@ use super::signed_sets::{least_part, reoriented, zero_part};
 use om_circuits::Cocircuits;
 use std::alloc::Global;
 
-/// The cocircuits of the deletion of e, from 1 to n: the cocircuits without their sign at e, each once, as far as they are
-/// not zero and no other that isn't zero has less support. The elements after e are moved down by one. The list takes its memory
-/// from `alloc`.
+/// The cocircuits of the deletion of e, from 1 to n: those of least support among the cocircuits
+/// without their sign at e that are not zero, each once. The elements after e are moved down by one. The list takes its
+/// memory from `alloc`.
 ///
 /// [`MinorError::LastElement`] comes exactly where n is 1, and [`MinorError::Memory`] only for want of memory.
 ///
@@ -25,8 +25,10 @@ pub fn delete_cocircuits(alloc: Global, c: &Cocircuits, e: u8) -> Result<Cocircu
     requires high { e ≤ c.now.0.elements }
     ensures last_element { IsErrOf result MinorError.LastElement ↔ (c.now.0.elements ≡ 1) }
     ensures elements { IfOk result (λ d. d.0.elements + 1 ≡ c.now.0.elements) }
-    ensures members { IfOk result (λ d. AreAllOf (IsOfLeastSupport (IsWithout c.now.0.elements e (Contains c.now.0.members))) d.0.members) }
-    ensures deletion { IfOk result (λ d. IsDeletion c.now.0.elements e (IsCovectorOfCocircuits c.now.0) (IsCovectorOfCocircuits d.0)) }
+    ensures members { IfOk result (λ d.
+        AreAllOf (IsOfLeastSupport (IsWithout c.now.0.elements e (Contains c.now.0.members))) d.0.members) }
+    ensures deletion { IfOk result (λ d.
+        IsDeletion c.now.0.elements e (IsCovectorOfCocircuits c.now.0) (IsCovectorOfCocircuits d.0)) }
 {
     if c.0.elements() == 1 {
         return Err(MinorError::LastElement);
@@ -34,8 +36,8 @@ pub fn delete_cocircuits(alloc: Global, c: &Cocircuits, e: u8) -> Result<Cocircu
     Ok(Cocircuits(least_part(alloc, &c.0, e)?))
 }
 
-/// The cocircuits of the contraction of e, from 1 to n: the cocircuits that are 0 at e, without their sign there. The elements after e are moved down by one. The list takes its memory
-/// from `alloc`.
+/// The cocircuits of the contraction of e, from 1 to n: the cocircuits that are 0 at e, without their
+/// sign there. The elements after e are moved down by one. The list takes its memory from `alloc`.
 ///
 /// [`MinorError::LastElement`] comes exactly where n is 1, and [`MinorError::Memory`] only for want of memory.
 ///
@@ -45,8 +47,10 @@ pub fn contract_cocircuits(alloc: Global, c: &Cocircuits, e: u8) -> Result<Cocir
     requires high { e ≤ c.now.0.elements }
     ensures last_element { IsErrOf result MinorError.LastElement ↔ (c.now.0.elements ≡ 1) }
     ensures elements { IfOk result (λ d. d.0.elements + 1 ≡ c.now.0.elements) }
-    ensures members { IfOk result (λ d. AreAllOf (IsZeroWithout c.now.0.elements e (Contains c.now.0.members)) d.0.members) }
-    ensures contraction { IfOk result (λ d. IsContraction c.now.0.elements e (IsCovectorOfCocircuits c.now.0) (IsCovectorOfCocircuits d.0)) }
+    ensures members { IfOk result (λ d.
+        AreAllOf (IsZeroWithout c.now.0.elements e (Contains c.now.0.members)) d.0.members) }
+    ensures contraction { IfOk result (λ d.
+        IsContraction c.now.0.elements e (IsCovectorOfCocircuits c.now.0) (IsCovectorOfCocircuits d.0)) }
 {
     if c.0.elements() == 1 {
         return Err(MinorError::LastElement);

@@ -1,7 +1,8 @@
 //! Deletion, contraction and reorientation of oriented matroids.
 //!
 //! [`delete_chirotope`] and [`contract_chirotope`] take a chirotope and an element and give the normal chirotope of the
-//! minor; [`reorient_chirotope`] gives that of the reorientation on a set of elements.
+//! minor; [`reorient_chirotope`] gives that of the reorientation on a set of elements. The calls on circuits, on cocircuits
+//! and on covectors do the same with the members of a list.
 //!
 //! Source of the notions: Björner, Las Vergnas, Sturmfels, White and Ziegler, *Oriented Matroids*, chapters 3 and 4.
 #![tactic(auto)]
