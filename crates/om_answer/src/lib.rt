@@ -1,6 +1,6 @@
 //! The texts that the program prints, and the claims that it reads back.
 //!
-//! A [`Line`] is an answer of one line, and [`print_line`] gives its text. A [`Claim`] is a document with a verdict on its
+//! A [`Line`] is an answer of one line, and [`print_line`] gives its text; [`pieces`] puts together longer texts. A [`Claim`] is a document with a verdict on its
 //! chirotope, and [`read_claim`] reads one.
 #![tactic(auto)]
 
@@ -11,11 +11,13 @@ mod claim;
 mod claim_reader;
 #[cfg(test)]
 mod claim_tests;
+mod field;
 mod fields;
 mod kind;
 mod laws;
 mod line;
 mod numbers;
+pub mod pieces;
 mod range;
 #[cfg(test)]
 mod tests;

@@ -1,4 +1,5 @@
 use om_grassmann::Statement;
+use om_signs::SignVec;
 use om_subsets::Subset;
 use om_text::Code;
 
@@ -18,6 +19,18 @@ pub enum Line {
     ValidNonrealizable,
     /// The claim's weights show that there is no final polynomial of this form.
     ValidUndecided,
+    /// The circuit `x` fits the colours.
+    Circuit {
+        x: SignVec,
+    },
+    /// No circuit fits the colours, and the cocircuit `x` does.
+    Cocircuit {
+        x: SignVec,
+    },
+    /// The oriented matroid isn't acyclic: no sign of its circuit `x` is minus.
+    Cyclic {
+        x: SignVec,
+    },
     /// The words aren't a command: word `word`, counted from 1, is at fault.
     Usage {
         word: u32,
@@ -25,6 +38,10 @@ pub enum Line {
     /// The answer would have more than `limit` members.
     LimitMembers {
         limit: u32,
+    },
+    /// The chirotope of the oriented matroid has `values` values, and this is above the limit.
+    LimitValues {
+        values: u32,
     },
     /// The command isn't built yet for this kind of document.
     RefusedUnbuilt,
@@ -68,8 +85,20 @@ pub enum Line {
         i: u32,
         j: u32,
     },
+    /// Block `step` of the wiring, counted from 1, has fewer than two positions, or one that isn't a wire's.
+    RefusedRange {
+        step: u32,
+    },
+    /// The labels at block `step` of the wiring, counted from 1, aren't increasing.
+    RefusedNotincreasing {
+        step: u32,
+    },
+    /// The blocks of the wiring don't end in the reversed order.
+    RefusedNotreversed,
     /// No three of the points have a triple product other than 0.
     RefusedRanklow,
+    /// The rank of the wiring isn't 3: all values of its map are zero.
+    RefusedFlatrank,
     /// The sign vector has `given` signs, and this isn't the number of elements.
     RefusedLength {
         given: u32,
@@ -83,6 +112,26 @@ pub enum Line {
     /// The rank is `r`, and the command asks for rank 3.
     RefusedNotrank3 {
         r: u8,
+    },
+    /// There are `n` elements, and there is no room for one more.
+    RefusedFull {
+        n: u8,
+    },
+    /// The three elements are no basis.
+    RefusedNotbasis,
+    /// With the element at infinity, this is the first pair of sets at which the axioms of a chirotope fail.
+    RefusedNotsweepable {
+        s: Subset,
+        a: Subset,
+    },
+    /// With the value of the three elements negated, this is the first pair of sets at which the axioms of a chirotope fail.
+    RefusedNotmutation {
+        s: Subset,
+        a: Subset,
+    },
+    /// The element `e`, at which a painting is asked for, is black or white.
+    RefusedColour {
+        e: u8,
     },
     /// The claim has no certificate.
     RefusedNocertificate,

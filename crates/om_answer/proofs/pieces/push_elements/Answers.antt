@@ -1,8 +1,8 @@
 use Rattle.std.proofs.Common.{arith, refl, sym, ap, ◌∙◌}
 use Rattle.std.proofs.lemmas.Bool.{false≢true}
 use Rattle.om_answer.proofs.Elements.{IsJoined, joined_none, joined_element, joined_other, joined_all}
-use Rattle.om_answer.proofs.fields.push_elements.Goals as goal
-use Rattle.om_answer.proofs.fields.push_elements.Goals.{then-has+in_ok-push_element, else-has}
+use Rattle.om_answer.proofs.pieces.push_elements.Goals as goal
+use Rattle.om_answer.proofs.pieces.push_elements.Goals.{then-has+in_ok-push_element, else-has}
 
 pub loop-e-init : goal.loop-e-init
 loop-e-init c = joined_none _ _ _ c.size-size.ensures.lawful

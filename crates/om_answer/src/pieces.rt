@@ -1,0 +1,101 @@
+//! Pieces of texts. Each call puts one at the end of a text; the other answer is want of memory, which is all that
+//! [`NoMemory`] ever says here.
+
+ghost use Rattle.std.specs.Prelude.{◌≡◌, ◌++◌, ◌∷◌, [], OnOk, map};
+ghost use Rattle.std.specs.List.{join_with_byte};
+ghost use Rattle.std.specs.Fmt.{decimal};
+ghost use Rattle.om_text.specs.Words.{byte_of};
+ghost use Rattle.om_answer.specs.Texts.{after_comma, signs_text, subset_text};
+
+use itoa::Buffer;
+use om_signs::{NoMemory, Sign, SignVec};
+use om_subsets::Subset;
+
+/// Puts a word, or any other bytes, at the end.
+pub fn push(text: &mut Vec<u8>, word: &[u8]) -> Result<(), NoMemory>
+    ensures { OnOk result (text.new.items ≡ text.old.items ++ word.now) }
+{
+    text.extend_from_slice(word)?;
+    Ok(())
+}
+
+/// Puts a line feed at the end.
+pub fn push_line_feed(text: &mut Vec<u8>) -> Result<(), NoMemory>
+    ensures { OnOk result (text.new.items ≡ text.old.items ++ 10 ∷ []) }
+{
+    push(text, b"\n")
+}
+
+/// Puts the decimal digits of a number at the end.
+pub fn push_decimal(text: &mut Vec<u8>, n: u128) -> Result<(), NoMemory>
+    ensures { OnOk result (text.new.items ≡ text.old.items ++ decimal n) }
+{
+    let mut buffer = Buffer::new();
+    push(text, buffer.format(n).as_bytes())
+}
+
+/// Puts the elements of a subset, joined by commas, at the end, and `none` for the empty one.
+pub fn push_subset(text: &mut Vec<u8>, subset: Subset) -> Result<(), NoMemory>
+    ensures { OnOk result (text.new.items ≡ text.old.items ++ subset_text subset.elements) }
+{
+    if subset.size() == 0 {
+        return push(text, b"none");
+    }
+    push_elements(text, subset)
+}
+
+/// Puts the elements of a subset, joined by commas, at the end.
+fn push_elements(text: &mut Vec<u8>, subset: Subset) -> Result<(), NoMemory>
+    ensures { OnOk result (text.new.items ≡ text.old.items ++ join_with_byte 44 (map decimal subset.elements)) }
+{
+    let mut before = 0u8;
+    let _size = subset.size();
+    for e in 1..subset.n() + 1 {
+        if subset.has(e) {
+            push_element(text, before, e)?;
+            before += 1;
+        }
+    }
+    Ok(())
+}
+
+/// Puts an element at the end, behind a comma where others stand before it.
+fn push_element(text: &mut Vec<u8>, before: u8, e: u8) -> Result<(), NoMemory>
+    ensures { OnOk result (text.new.items ≡ text.old.items ++ after_comma before (decimal e)) }
+{
+    if before > 0 {
+        push(text, b",")?;
+    }
+    push_decimal(text, u128::from(e))
+}
+
+/// Puts signs at the end: `-`, `0` or `+` for each.
+pub fn push_signs(text: &mut Vec<u8>, signs: &[Sign]) -> Result<(), NoMemory>
+    ensures { OnOk result (text.new.items ≡ text.old.items ++ signs_text signs.now) }
+{
+    for sign in signs {
+        push_sign(text, *sign)?;
+    }
+    Ok(())
+}
+
+/// Puts the signs of a sign vector at the end, in the order of the elements: `-`, `0` or `+` for each.
+pub fn push_vector(text: &mut Vec<u8>, vector: SignVec) -> Result<(), NoMemory>
+    ensures { OnOk result (text.new.items ≡ text.old.items ++ signs_text vector) }
+{
+    for place in 0..vector.len() {
+        push_sign(text, vector.get(place + 1))?;
+    }
+    Ok(())
+}
+
+/// Puts a sign at the end: `-`, `0` or `+`.
+fn push_sign(text: &mut Vec<u8>, sign: Sign) -> Result<(), NoMemory>
+    ensures { OnOk result (text.new.items ≡ text.old.items ++ byte_of sign ∷ []) }
+{
+    match sign {
+        Sign::Minus => push(text, b"-"),
+        Sign::Zero => push(text, b"0"),
+        Sign::Plus => push(text, b"+"),
+    }
+}
