@@ -2,13 +2,17 @@ mod AboveLaws
 mod ArgumentLaws
 mod ClaimLaws
 mod ConversionLaws
+mod FitLaws
 mod GivenLaws
+mod ListingLaws
 mod MeaningLaws
 mod Memberships
 mod Numerals
 mod OperationLaws
+mod OptionLaws
 mod PointLaws
 mod ReplyLaws
 mod SignWords
+mod TripleLaws
 mod VerbLaws
 mod WordLaws
