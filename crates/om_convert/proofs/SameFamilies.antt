@@ -5,7 +5,7 @@
 -- and the covectors (covectors_listed) of a chirotope that denotes the same.
 use Rattle.std.specs.List.{Contains}
 use Rattle.std.proofs.lemmas.List.Elements.{All-contains}
-use Rattle.std.proofs.Common.{ℕ, ◌≡◌, ◌↔◌, List, length, sym, subst, ◌∙◌}
+use Rattle.std.proofs.Common.{ℕ, ◌≡◌, ◌↔◌, List, length, sym, ◌∙◌}
 use Rattle.om_signs.specs.declared.sign.Sign.{Sign}
 use Rattle.om_signs.specs.declared.limits.TheConstants.{MAX_MEMBERS}
 use Rattle.om_chirotope.specs.Map.{SignMap}

@@ -14,8 +14,8 @@ use om_covectors::Covectors;
 use om_members::is_member;
 use om_oriented::same;
 use om_samples::{
-    chirotope_of, circuits_of, cocircuits_of, covectors_of, text_of_map, text_of_vectors,
-    vectors_of,
+    SampleError, chirotope_of, circuits_of, cocircuits_of, covectors_of, text_of_map,
+    text_of_vectors, vector_of,
 };
 use om_signs::{MAX_MEMBERS, NoMemory, SignVec};
 use std::alloc::Global;
@@ -198,36 +198,66 @@ fn give_each_other(
         && are_covectors(cocircuits_to_covectors(alloc, cocircuits), covectors)
 }
 
-/// Whether the four kinds of a row denote the same and convert to each other, and the covectors are as many as wanted, with
-/// those of the row among them.
-fn agree<R: Threads + Sync>(rt: &R, alloc: Global, row: Row) -> Result<bool, Fail> {
-    let n = row.elements;
-    let chi = chirotope_of(rt, alloc, row.rank, n, row.signs)?;
-    let circuits = circuits_of(rt, alloc, n, row.circuits)?;
-    let cocircuits = cocircuits_of(rt, alloc, n, row.cocircuits)?;
-    let covectors = chirotope_to_covectors(alloc, &chi)?;
-    let some = vectors_of(alloc, n, row.covectors)?;
+/// Whether there are so many covectors, with those of some texts among them.
+fn have_some(covectors: &Covectors, count: usize, texts: &[&str]) -> bool {
+    let n = covectors.elements();
     let members = covectors.members();
-    let listed = members.len() == row.count && some.as_slice().iter().all(|x| is_member(members, *x));
-    let same = same(&chi, &circuits).is_ok()
-        && same(&chi, &cocircuits).is_ok()
-        && same(&chi, &covectors).is_ok();
-    let each = give_each_other(alloc, &chi, row.text, &circuits, &cocircuits, &covectors);
-    Ok(listed && same && each)
+    members.len() == count
+        && texts
+            .iter()
+            .all(|text| is_member(members, vector_of(n, text)))
+}
+
+/// Whether the kinds of a row denote the same and convert to each other, and the covectors are those of the row.
+fn convert(
+    alloc: Global,
+    row: Row,
+    chi: &Chirotope,
+    circuits: &Circuits,
+    cocircuits: &Cocircuits,
+) -> bool
+    requires circuits { chi.now.elements ≡ circuits.now.0.elements }
+    requires cocircuits { chi.now.elements ≡ cocircuits.now.0.elements }
+{
+    match chirotope_to_covectors(alloc, chi) {
+        Ok(covectors) => {
+            same(chi, circuits).is_ok()
+                && same(chi, cocircuits).is_ok()
+                && same(chi, &covectors).is_ok()
+                && have_some(&covectors, row.count, row.covectors)
+                && give_each_other(alloc, chi, row.text, circuits, cocircuits, &covectors)
+        }
+        Err(_) => false,
+    }
+}
+
+/// Whether a row holds.
+fn holds<R: Threads + Sync>(rt: &R, alloc: Global, row: Row) -> Result<bool, SampleError> {
+    let chi = chirotope_of(rt, alloc, row.rank, row.elements, row.signs)?;
+    let circuits = circuits_of(rt, alloc, row.elements, row.circuits)?;
+    let cocircuits = cocircuits_of(rt, alloc, row.elements, row.cocircuits)?;
+    Ok(convert(alloc, row, &chi, &circuits, &cocircuits))
+}
+
+/// The text of cocircuits that were found.
+fn text_of(alloc: Global, found: Result<Cocircuits, ConvertError>) -> Result<String, SampleError> {
+    match found {
+        Ok(cocircuits) => text_of_vectors(alloc, cocircuits.0.members()),
+        Err(_) => Err(SampleError::Memory),
+    }
 }
 
 /// The text of the cocircuits of some covectors of three elements.
-fn least<R: Threads + Sync>(rt: &R, alloc: Global, texts: &[&str]) -> Result<String, Fail> {
+fn least<R: Threads + Sync>(rt: &R, alloc: Global, texts: &[&str]) -> Result<String, SampleError> {
     let covectors = covectors_of(rt, alloc, 3, texts)?;
-    let cocircuits = covectors_to_cocircuits(alloc, &covectors)?;
-    Ok(text_of_vectors(alloc, cocircuits.0.members())?)
+    text_of(alloc, covectors_to_cocircuits(alloc, &covectors))
 }
 
 #[test]
 fn twelve_conversions(rt: HostRuntime) -> Result<(), Fail> {
     for row in ROWS {
-        let holds = agree(&rt, rt.alloc(), row)?;
-        assert!(rt; holds);
+        let row_holds = holds(&rt, rt.alloc(), row)?;
+        assert!(rt; row_holds);
     }
     Ok(())
 }
@@ -239,21 +269,6 @@ fn covectors_give_their_cocircuits(rt: HostRuntime) -> Result<(), Fail> {
         assert_eq!(rt; text.as_str(), wanted);
     }
     Ok(())
-}
-
-/// The chirotope whose signs are all plus, of a rank on 13 elements or 16.
-fn all_plus<R: Threads + Sync>(
-    rt: &R,
-    alloc: Global,
-    rank: u8,
-    elements: u8,
-    count: usize,
-) -> Result<Chirotope, Fail> {
-    let mut signs = String::new(alloc);
-    for _k in 0..count {
-        signs.push_str("+")?;
-    }
-    Ok(chirotope_of(rt, alloc, rank, elements, signs.as_str())?)
 }
 
 /// Whether there are too many members, and the answer names the limit.
@@ -269,21 +284,54 @@ fn is_many<T: Drop>(found: Result<T, ConvertError>) -> bool {
     }
 }
 
-// There are 286 sets of 3, and of 10, of 13 elements, and 715 of 4, and of 9. Where all signs are plus, the vectors V of the
-// sets of 4 have these supports; and the vectors U of the sets of 9 have the other elements as supports. In rank 16 on 16
-// elements there are 32 cocircuits, and 3 to the power 16 covectors.
+/// Ranks, numbers of elements and of signs, and of what there is too much: circuits, cocircuits and covectors.
+///
+/// There are 286 sets of 3, and of 10, of 13 elements, and 715 of 4, and of 9. Where all signs are plus, the vectors V of the
+/// sets of 4 have these supports; and the vectors U of the sets of 9 have the other elements as supports. In rank 16 on 16
+/// elements there are 32 cocircuits, and 3 to the power 16 covectors.
+const TOO_MANY: [(u8, u8, usize, bool, bool, bool); 3] = [
+    (3, 13, 286, true, false, false),
+    (10, 13, 286, false, true, true),
+    (16, 16, 1, false, false, true),
+];
+
+/// Whether a chirotope has too much of what is named.
+fn has_too_many(
+    alloc: Global,
+    chi: &Chirotope,
+    circuits: bool,
+    cocircuits: bool,
+    covectors: bool,
+) -> bool {
+    (!circuits || is_many(chirotope_to_circuits(alloc, chi)))
+        && (!cocircuits || is_many(chirotope_to_cocircuits(alloc, chi)))
+        && (!covectors || is_many(chirotope_to_covectors(alloc, chi)))
+}
+
+/// The chirotope whose signs are all plus.
+fn all_plus<R: Threads + Sync>(
+    rt: &R,
+    alloc: Global,
+    rank: u8,
+    elements: u8,
+    count: usize,
+) -> Result<Chirotope, SampleError> {
+    let mut signs = String::new(alloc);
+    for _k in 0..count {
+        signs.push_str("+")?;
+    }
+    chirotope_of(rt, alloc, rank, elements, signs.as_str())
+}
+
 #[test]
 fn too_many(rt: HostRuntime) -> Result<(), Fail> {
-    let alloc = rt.alloc();
-    let low = all_plus(&rt, alloc, 3, 13, 286)?;
-    let high = all_plus(&rt, alloc, 10, 13, 286)?;
-    let highest = all_plus(&rt, alloc, 16, 16, 1)?;
-    let free = circuits_of(&rt, alloc, 16, &[])?;
-    assert!(rt; is_many(chirotope_to_circuits(alloc, &low)));
-    assert!(rt; is_many(chirotope_to_cocircuits(alloc, &high)));
-    assert!(rt; is_many(chirotope_to_covectors(alloc, &high)));
-    assert!(rt; is_many(chirotope_to_covectors(alloc, &highest)));
-    assert!(rt; is_many(circuits_to_covectors(alloc, &free)));
+    for (rank, elements, count, circuits, cocircuits, covectors) in TOO_MANY {
+        let chi = all_plus(&rt, rt.alloc(), rank, elements, count)?;
+        assert!(rt; has_too_many(rt.alloc(), &chi, circuits, cocircuits, covectors));
+    }
+    // the one of rank 16 once more, which has no circuits
+    let free = circuits_of(&rt, rt.alloc(), 16, &[])?;
+    assert!(rt; is_many(circuits_to_covectors(rt.alloc(), &free)));
     Ok(())
 }
 

@@ -6,7 +6,7 @@
 use Rattle.std.specs.List.{Contains}
 use Rattle.std.proofs.lemmas.List.Elements.{All-contains}
 use Rattle.std.proofs.lemmas.List.FromFn.{length-range_with_len}
-use Rattle.std.proofs.Common.{ℕ, ◌≡◌, ◌≤◌, ◌↔◌, List, length, refl, sym, ap, subst, ◌∙◌, inl, inr, ⊎_elim, arith}
+use Rattle.std.proofs.Common.{ℕ, ◌≡◌, ◌≤◌, ◌↔◌, List, length, refl, sym, subst, ◌∙◌, inl, inr, ⊎_elim, arith}
 use Rattle.om_signs.specs.declared.sign.Sign.{Sign}
 use Rattle.om_laws.specs.Signs.{IsNonzero}
 use Rattle.om_laws.specs.Vectors.{SignVector}
@@ -16,7 +16,7 @@ use Rattle.om_laws.specs.Chirotope as theory
 use Rattle.om_laws.specs.Chirotope.{elements_to}
 use Rattle.om_laws.specs.Circuits.{IsCircuit, IsCocircuit}
 use Rattle.om_laws.specs.Covectors.{IsCovector}
-use Rattle.om_laws.specs.Dual.{dual_map, complement}
+use Rattle.om_laws.specs.Dual.{dual_map}
 use Rattle.om_laws.specs.Families.{IsListed}
 use Rattle.om_laws.specs.Bridge.{as_function}
 use Rattle.om_laws.proofs.SignLaws.{zero_or_nonzero}
@@ -29,7 +29,7 @@ use Rattle.om_laws.proofs.DualSizes.{length_complement}
 use Rattle.om_laws.proofs.DualLaws.{dual_chirotope, dual_circuit, cocircuit_dual}
 use Rattle.om_laws.proofs.FiniteExistence.{list_map, list_chirotope, list_member_cocircuit, list_cocircuit_member}
 use Rattle.om_laws.proofs.CovectorExistence.{covectors_map, covectors_chirotope, member_covector, covector_member}
-use Rattle.om_chirotope.specs.Map.{SignMap, IsMap}
+use Rattle.om_chirotope.specs.Map.{SignMap}
 use Rattle.om_chirotope.specs.Chirotope.{IsChirotope}
 use Rattle.om_members.specs.Listings.{Listing, HaveLength}
 use Rattle.om_circuits.specs.Axioms.{MeetsCircuitAxioms}
@@ -124,8 +124,7 @@ module _ (c : Listing) (lengths : HaveLength c.elements c.members) where
     of_cocircuits =
         let m = made c.elements chi om in
         let all : AreAllOf (IsCocircuitOfChirotope m) c.members = all_of c.elements c.members lengths (IsCocircuitOfChirotope m) (IsCocircuit chi) (cocircuit_length m) (cocircuit_both c.elements chi om) member_both in
-        let parts = parts_both m (made_axioms c.elements chi om) in
-        (
+        let parts = parts_both m (made_axioms c.elements chi om) in (
           m,
           record {
             axioms = made_axioms c.elements chi om;
@@ -151,8 +150,7 @@ module _ (c : Listing) (lengths : HaveLength c.elements c.members) where
     of_circuits =
         let m = made c.elements (dual_map E chi) dual_om in
         let all : AreAllOf (IsCircuitOfChirotope m) c.members = all_of c.elements c.members lengths (IsCircuitOfChirotope m) (IsCircuit E (dual_map E chi)) (circuit_length m) (circuit_both c.elements (dual_map E chi) dual_om) circuit_member_both in
-        let each = orthogonal_both m (made_axioms c.elements (dual_map E chi) dual_om) in
-        (
+        let each = orthogonal_both m (made_axioms c.elements (dual_map E chi) dual_om) in (
           m,
           record {
             axioms = made_axioms c.elements (dual_map E chi) dual_om;
@@ -181,8 +179,7 @@ module _ (c : Listing) (lengths : HaveLength c.elements c.members) where
     pub of_covectors : (m : SignMap) × HasCovectors c m
     of_covectors =
         let m = made c.elements psi psi_om in
-        let all : AreAllOf (IsCovectorOfChirotope m) c.members = all_of c.elements c.members lengths (IsCovectorOfChirotope m) (IsCovector E psi) (λ X x. x.size) (covector_both c.elements psi psi_om) covector_member_both in
-        (
+        let all : AreAllOf (IsCovectorOfChirotope m) c.members = all_of c.elements c.members lengths (IsCovectorOfChirotope m) (IsCovector E psi) (λ X x. x.size) (covector_both c.elements psi psi_om) covector_member_both in (
           m,
           record {
             axioms = made_axioms c.elements psi psi_om;

@@ -1,11 +1,14 @@
 //! Duals worked out by hand.
 
+ghost use Rattle.std.specs.Prelude.{◌≡◌, IfOk};
+
 use super::{dual, dual_circuits, dual_cocircuits, dual_covectors};
+use om_chirotope::Chirotope;
 use om_convert::{ConvertError, chirotope_to_covectors};
-use om_members::is_member;
+use om_covectors::Covectors;
 use om_oriented::{Oriented, same};
 use om_samples::{
-    chirotope_of, circuits_of, covectors_of, text_of_map, text_of_vectors, vector_of, vectors_of,
+    SampleError, chirotope_of, circuits_of, covectors_of, text_of_map, text_of_vectors, vector_of,
 };
 use om_signs::MAX_MEMBERS;
 use std::alloc::Global;
@@ -44,23 +47,25 @@ const COVECTORS: [(u8, u8, &str, &[&str]); 3] = [
     (0, 1, "+", &["-", "0", "+"]),
 ];
 
-/// The text of the dual of a chirotope.
-fn dual_text<R: Threads + Sync>(
+/// The dual of a chirotope.
+fn dual_of<R: Threads + Sync>(
     rt: &R,
     alloc: Global,
     rank: u8,
     elements: u8,
     signs: &str,
-) -> Result<String, Fail> {
+) -> Result<Chirotope, SampleError>
+    ensures { IfOk result (λ d. d.elements ≡ elements) }
+{
     let chi = chirotope_of(rt, alloc, rank, elements, signs)?;
-    let turned = dual(alloc, &chi)?;
-    Ok(text_of_map(alloc, &turned.into_raw())?)
+    Ok(dual(alloc, &chi)?)
 }
 
 #[test]
 fn duals(rt: HostRuntime) -> Result<(), Fail> {
     for (rank, elements, signs, wanted) in CHIROTOPES {
-        let text = dual_text(&rt, rt.alloc(), rank, elements, signs)?;
+        let turned = dual_of(&rt, rt.alloc(), rank, elements, signs)?;
+        let text = text_of_map(rt.alloc(), &turned.into_raw())?;
         assert_eq!(rt; text.as_str(), wanted);
     }
     Ok(())
@@ -69,48 +74,73 @@ fn duals(rt: HostRuntime) -> Result<(), Fail> {
 // A circuit of the chirotope is a covector of its dual, and a sign vector that isn't orthogonal to a covector is none.
 #[test]
 fn covectors_of_a_dual(rt: HostRuntime) -> Result<(), Fail> {
-    let turned = dual(rt.alloc(), &chirotope_of(&rt, rt.alloc(), 3, 4, "++++")?)?;
+    let turned = dual_of(&rt, rt.alloc(), 3, 4, "++++")?;
     assert!(rt; turned.is_covector(vector_of(4, "+-+-")));
     assert!(rt; !turned.is_covector(vector_of(4, "+0+0")));
     Ok(())
 }
 
-/// Whether some circuits, as the cocircuits of the dual, denote the same as the dual of a chirotope, and are the same list as
-/// its circuits again.
-fn turn_back<R: Threads + Sync>(
+/// Whether the dual of a row's chirotope and the cocircuits that are its circuits denote the same.
+fn turn<R: Threads + Sync>(
     rt: &R,
     alloc: Global,
     row: (u8, u8, &str, &[&str], &str),
-) -> Result<bool, Fail> {
-    let (rank, elements, signs, circuits, text) = row;
-    let turned = dual(alloc, &chirotope_of(rt, alloc, rank, elements, signs)?)?;
-    let cocircuits = dual_circuits(circuits_of(rt, alloc, elements, circuits)?);
-    let listed = same(&turned, &cocircuits).is_ok();
-    let back = text_of_vectors(alloc, dual_cocircuits(cocircuits).0.members())?;
-    Ok(listed && back.as_str() == text)
+) -> Result<bool, SampleError> {
+    let (rank, elements, signs, circuits, _text) = row;
+    let turned = dual_of(rt, alloc, rank, elements, signs)?;
+    let circuits = circuits_of(rt, alloc, elements, circuits)?;
+    Ok(same(&turned, &dual_circuits(circuits)).is_ok())
 }
 
-/// Whether the dual of the covectors of a chirotope has these covectors, in any order.
+/// The text of the dual of the dual of some circuits.
+fn turned_back<R: Threads + Sync>(
+    rt: &R,
+    alloc: Global,
+    elements: u8,
+    circuits: &[&str],
+) -> Result<String, SampleError> {
+    let circuits = circuits_of(rt, alloc, elements, circuits)?;
+    let back = dual_cocircuits(dual_circuits(circuits));
+    text_of_vectors(alloc, back.0.members())
+}
+
+/// Whether the dual of covectors that were found has these covectors.
+fn is_dual_of(alloc: Global, found: Result<Covectors, ConvertError>, wanted: &Covectors) -> bool {
+    match found {
+        Ok(covectors) => match dual_covectors(alloc, &covectors) {
+            Ok(turned) => {
+                turned.elements() == wanted.elements() && same(&turned, wanted).is_ok()
+            }
+            Err(_) => false,
+        },
+        Err(_) => false,
+    }
+}
+
+/// Whether the dual of the covectors of a row's chirotope has the covectors of the row.
 fn has_dual<R: Threads + Sync>(
     rt: &R,
     alloc: Global,
     row: (u8, u8, &str, &[&str]),
-) -> Result<bool, Fail> {
+) -> Result<bool, SampleError> {
     let (rank, elements, signs, wanted) = row;
-    let covectors = chirotope_to_covectors(alloc, &chirotope_of(rt, alloc, rank, elements, signs)?)?;
-    let turned = dual_covectors(alloc, &covectors)?;
-    let wanted = vectors_of(alloc, elements, wanted)?;
-    let members = turned.members();
-    let all = wanted.as_slice().iter().all(|x| is_member(members, *x));
-    Ok(all && members.len() == wanted.len())
+    let chi = chirotope_of(rt, alloc, rank, elements, signs)?;
+    let wanted = covectors_of(rt, alloc, elements, wanted)?;
+    Ok(is_dual_of(alloc, chirotope_to_covectors(alloc, &chi), &wanted))
 }
 
 #[test]
-fn duals_of_lists(rt: HostRuntime) -> Result<(), Fail> {
+fn duals_of_circuits(rt: HostRuntime) -> Result<(), Fail> {
     for row in CIRCUITS {
-        let holds = turn_back(&rt, rt.alloc(), row)?;
-        assert!(rt; holds);
+        let denotes_the_dual = turn(&rt, rt.alloc(), row)?;
+        let text = turned_back(&rt, rt.alloc(), row.1, row.3)?;
+        assert!(rt; denotes_the_dual && text.as_str() == row.4);
     }
+    Ok(())
+}
+
+#[test]
+fn duals_of_covectors(rt: HostRuntime) -> Result<(), Fail> {
     for row in COVECTORS {
         let holds = has_dual(&rt, rt.alloc(), row)?;
         assert!(rt; holds);
@@ -126,6 +156,6 @@ fn too_many_covectors(rt: HostRuntime) -> Result<(), Fail> {
     let many = ConvertError::TooMany {
         limit: MAX_MEMBERS as u32,
     };
-    assert_eq!(rt; dual_covectors(rt.alloc(), &zero).err(), Some(many));
+    assert!(rt; dual_covectors(rt.alloc(), &zero).err() == Some(many));
     Ok(())
 }

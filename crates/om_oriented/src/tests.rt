@@ -3,9 +3,7 @@
 ghost use Rattle.std.specs.Prelude.{◌≡◌};
 
 use super::{Oriented, same};
-use om_samples::{
-    SampleError, chirotope_of, circuits_of, cocircuits_of, covectors_of, vector_of,
-};
+use om_samples::{SampleError, chirotope_of, circuits_of, cocircuits_of, covectors_of, vector_of};
 use std::alloc::Global;
 use std::test::Fail;
 use std::thread::Threads;
@@ -36,8 +34,10 @@ const OF_THREE_KINDS: [(u8, u8, &str, &[&str], &[&str], &str); 4] = [
 
 /// Chirotopes on two elements, by rank and signs, and their first difference. Of two elements that are both loops, only `00`
 /// is a covector; where the second is none, `0-` and `0+` are too.
-const OF_TWO_ELEMENTS: [(u8, &str, u8, &str, &str); 2] =
-    [(0, "+", 1, "0+", "0-"), (0, "+", 2, "+", "--")];
+const OF_TWO_ELEMENTS: [(u8, &str, u8, &str, &str); 2] = [
+    (0, "+", 1, "0+", "0-"),
+    (0, "+", 2, "+", "--"),
+];
 
 /// Whether `++-+` is a covector of a value with four elements, and `+-+-` is none.
 fn is_as_expected<M: Oriented>(value: &M) -> bool {

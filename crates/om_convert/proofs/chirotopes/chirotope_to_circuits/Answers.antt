@@ -28,4 +28,4 @@ pub returns-clause-unique : goal.returns-clause-unique
 returns-clause-unique c =
     let all = subst (AreAllOf (IsCircuitOfChirotope c.args.chi.now)) (sym c.in_ok-circuits.ensures.value) c.in_ok-gathered.ensures.members in
     only_circuits c.lawful.result c.args.chi.now.elements c.in_ok-circuits.circuits (c.lawful.ensures.elements ∙ c.elements.ensures.value) c.lawful.ensures.members
-        (circuit_lengths c.args.chi.now c.in_ok-circuits.circuits all) (circuits_lawful c.args.chi.now c.in_ok-circuits.circuits all c.all_circuits.ensures.lawful)
+    (circuit_lengths c.args.chi.now c.in_ok-circuits.circuits all) (circuits_lawful c.args.chi.now c.in_ok-circuits.circuits all c.all_circuits.ensures.lawful)

@@ -28,4 +28,4 @@ pub returns-clause-unique : goal.returns-clause-unique
 returns-clause-unique c =
     let all = subst (AreAllOf (IsCocircuitOfChirotope c.args.chi.now)) (sym c.in_ok-cocircuits.ensures.value) c.in_ok-gathered.ensures.members in
     only_cocircuits c.lawful.result c.args.chi.now.elements c.in_ok-cocircuits.cocircuits (c.lawful.ensures.elements ∙ c.elements.ensures.value) c.lawful.ensures.members
-        (cocircuit_lengths c.args.chi.now c.all_cocircuits.ensures.lawful c.in_ok-cocircuits.cocircuits all) (cocircuits_lawful c.args.chi.now c.all_cocircuits.ensures.lawful c.in_ok-cocircuits.cocircuits all)
+    (cocircuit_lengths c.args.chi.now c.all_cocircuits.ensures.lawful c.in_ok-cocircuits.cocircuits all) (cocircuits_lawful c.args.chi.now c.all_cocircuits.ensures.lawful c.in_ok-cocircuits.cocircuits all)

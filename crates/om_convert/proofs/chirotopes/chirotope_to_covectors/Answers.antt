@@ -28,4 +28,4 @@ pub returns-clause-unique : goal.returns-clause-unique
 returns-clause-unique c =
     let all = subst (AreAllOf (IsCovectorOfChirotope c.args.chi.now)) (sym c.in_ok-covectors.ensures.value) c.in_ok-gathered.ensures.members in
     only_covectors c.lawful.result c.args.chi.now.elements c.in_ok-covectors.covectors (c.lawful.ensures.elements ∙ c.elements.ensures.value) c.lawful.ensures.members
-        (covector_lengths c.args.chi.now c.in_ok-covectors.covectors all)
+    (covector_lengths c.args.chi.now c.in_ok-covectors.covectors all)

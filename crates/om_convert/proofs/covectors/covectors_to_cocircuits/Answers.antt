@@ -35,5 +35,5 @@ pub returns-clause-unique : goal.returns-clause-unique
 returns-clause-unique c =
     let s = c.elements.ensures.lawful in
     only_cocircuits c.lawful.result c.args.c.now.elements c.in_ok-minimal.minimal (c.lawful.ensures.elements ∙ c.elements.ensures.value) c.lawful.ensures.members
-        (those_all (IsMinimal c.args.c.now.members) (λ X. length X ≡ c.args.c.now.elements) c.args.c.now.members c.in_ok-minimal.minimal c.in_ok-minimal.ensures s.lengths)
-        (minimal_axioms c.args.c.now.elements c.args.c.now.members s.lengths s.axioms c.in_ok-minimal.minimal c.in_ok-minimal.ensures)
+    (those_all (IsMinimal c.args.c.now.members) (λ X. length X ≡ c.args.c.now.elements) c.args.c.now.members c.in_ok-minimal.minimal c.in_ok-minimal.ensures s.lengths)
+    (minimal_axioms c.args.c.now.elements c.args.c.now.members s.lengths s.axioms c.in_ok-minimal.minimal c.in_ok-minimal.ensures)

@@ -25,4 +25,4 @@ pub returns-clause-unique : goal.returns-clause-unique
 returns-clause-unique c =
     let Q : SignMap → Type 0 = IsNormalFormOf (map_by (c.elements.result - c.rank.result) c.elements-2.result (dual_on_increasing c.args.chi.now.elements (chi_of c.args.chi.now))) in
     IfOk-weaker c.normal_by.result Q IsOnlyChirotope (λ d h. only_chirotope d (normal_axioms (dual_of c.args.chi.now) d (dual_axioms c.args.chi.now c.rank.ensures.lawful)
-        (rw (c.elements.ensures.value, c.elements-2.ensures.value, c.rank.ensures.value) at h))) c.normal_by.ensures
+    (rw (c.elements.ensures.value, c.elements-2.ensures.value, c.rank.ensures.value) at h))) c.normal_by.ensures

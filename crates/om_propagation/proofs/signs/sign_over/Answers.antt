@@ -1,8 +1,8 @@
-use Rattle.std.proofs.Common.{◌≡◌, ◌∙◌, ℕ, List, ap, subst, sym, inl, refl, length, ◌<◌}
+use Rattle.std.proofs.Common.{◌≡◌, ◌∙◌, ℕ, List, ap, subst, sym, inl, length, ◌<◌}
 use Rattle.std.proofs.lemmas.List.{get_or_default}
 use Rattle.om_signs.specs.declared.sign.Sign.TheVariants.{Minus, Zero}
 use Rattle.om_signs.specs.SignVec.{at}
-use Rattle.om_subsets.specs.Subsets.{IsMember, rank_of, with_element, without_element}
+use Rattle.om_subsets.specs.Subsets.{rank_of, with_element, without_element}
 use Rattle.om_propagation.specs.Hitting.{IsMet, MeetsEach, carried_sign}
 use Rattle.om_propagation.proofs.CarryLaws.{earlier_place}
 use Rattle.om_propagation.proofs.signs.sign_over.Goals as goal
@@ -14,7 +14,7 @@ place_of n i j e h k t a b q w p v r = r ∙ ap (rank_of j) (v ∙ ap (with_elem
 pub bounds-before-rank : goal.bounds-before-rank
 bounds-before-rank c =
     let q = place_of c.args.t.n c.without-a.result.n c.with-other.result.n c.args.e c.in-Some-first_below.h c.rank.result c.args.t.elements c.without-a.result.elements c.with-other.result.elements
-        c.without-a.ensures.n c.without-a.ensures.elements c.with-other.ensures.n c.with-other.ensures.elements c.rank.ensures.value in
+    c.without-a.ensures.n c.without-a.ensures.elements c.with-other.ensures.n c.with-other.ensures.elements c.rank.ensures.value in
     let missed = subst (λ a. IsMet a c.in-Some.y → ⊥) c.without-a.ensures.elements c.in-Some.ensures.missed in
     subst (λ k. k < length c.args.before.now) (sym q) (subst (λ k. rank_of c.args.t.n (with_element c.in-Some-first_below.h (without_element c.args.e c.args.t.elements)) < k) c.requires.place
     (earlier_place c.args.t.n c.args.t.elements c.args.e c.in-Some-first_below.h c.requires.lawful (c.has.ensures.0 c.if-not-has.false) c.in-Some-first_below.ensures.low c.in-Some-first_below.ensures.high
@@ -26,7 +26,7 @@ returns-in-None-clause-none c = λ m. inl (subst (MeetsEach c.args.vectors.now) 
 pub returns-in-Some-first_below-clause-some : goal.returns-in-Some-first_below-clause-some
 returns-in-Some-first_below-clause-some c =
     let q = place_of c.args.t.n c.without-a.result.n c.with-other.result.n c.args.e c.in-Some-first_below.h c.rank.result c.args.t.elements c.without-a.result.elements c.with-other.result.elements
-        c.without-a.ensures.n c.without-a.ensures.elements c.with-other.ensures.n c.with-other.ensures.elements c.rank.ensures.value in
+    c.without-a.ensures.n c.without-a.ensures.elements c.with-other.ensures.n c.with-other.ensures.elements c.rank.ensures.value in
     let missed = subst (λ a. IsMet a c.in-Some.y → ⊥) c.without-a.ensures.elements c.in-Some.ensures.missed in
     let few : c.rank.result < length c.args.before.now = subst (λ k. k < length c.args.before.now) (sym q) (subst (λ k. rank_of c.args.t.n (with_element c.in-Some-first_below.h (without_element c.args.e c.args.t.elements)) < k) c.requires.place
     (earlier_place c.args.t.n c.args.t.elements c.args.e c.in-Some-first_below.h c.requires.lawful (c.has.ensures.0 c.if-not-has.false) c.in-Some-first_below.ensures.low c.in-Some-first_below.ensures.high
