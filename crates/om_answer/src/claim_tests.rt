@@ -1,4 +1,4 @@
-//! Claims with what the format says that they are.
+//! Claims with what the format says that they are. In the texts a `/` stands for the end of a line.
 
 use super::verdict_lines::push_block;
 use super::{Line, print_line, read_claim};
@@ -9,21 +9,148 @@ use std::process::Abort;
 use std::test::Fail;
 
 /// The chirotope of rank 3 on four elements with all values plus.
-const UNIFORM: &str = "om 1\nchirotope 3 4\n++++\nend\n";
+const UNIFORM: &str = "om 1/chirotope 3 4/++++/end/";
 
 /// The Pappus chirotope with one line less.
 const NON_PAPPUS: &str =
-    "om 1\nchirotope 3 9\n0++++++++++++--------0-0++++++++++----0---+0+++++---0+-0++++++++\n0------------------+\nend\n";
+    "om 1/chirotope 3 9/0++++++++++++--------0-0++++++++++----0---+0+++++---0+-0++++++++/0------------------+/end/";
 
 /// All entries of its certificate but the first.
 const EIGHT_ENTRIES: &str =
-    "eq 1 4 5 7 9 3 1 1\neq 1 4 6 7 8 1 3 1\neq 4 1 5 6 7 1 2 1\neq 4 1 2 7 9 1 3 1\neq 4 1 3 7 8 3 1 1\nlt 7 1 4 8 9 3 2 1\neq 7 1 2 4 6 3 1 1\neq 7 1 3 4 5 1 3 1\nend\n";
+    "eq 1 4 5 7 9 3 1 1/eq 1 4 6 7 8 1 3 1/eq 4 1 5 6 7 1 2 1/eq 4 1 2 7 9 1 3 1/eq 4 1 3 7 8 3 1 1/lt 7 1 4 8 9 3 2 1/eq 7 1 2 4 6 3 1 1/eq 7 1 3 4 5 1 3 1/end/";
+
+/// Blocks behind the document of four elements that are in canonical form.
+const BLOCKS: &str = "realizable/vector 1 0 0/vector 0 1 0/vector 0 0 1/vector 1 -1 1/end/
+realizable/vector 1099511627776 -1099511627776 0/end/
+nonrealizable/end/
+nonrealizable/lt 5 4 3 2 1 1 1 1/eq 16 16 16 16 16 3 3 7/end/
+undecided/weight 1 2 3 1/weight 1 2 4 -1267650600228229401496703205376/weight 1 3 4 1267650600228229401496703205376/weight 2 3 16 0/frontier/vector 1 -1 0/end/
+undecided/exhausted/end/
+undecided/frontier/end/
+limit/pivots 1000000/basis 0/exhausted/end/
+limit/pivots 0/basis 999999 999999/exhausted/end/
+limit/width price 1000001 0 999999/exhausted/end/
+limit/width column 1 65535 2/frontier/end/
+limit/width update 0 0 0/exhausted/end/
+limit/width scale 3 2 1/exhausted/end/";
+
+/// Claims in canonical form on documents of other kinds.
+const CLAIMS: &str =
+    "om 1/chirotope 3 5/++++++++++/end/limit/pivots 1/basis 12 2 3 4 5 6 7 8 9 10 11/frontier/vector -1 -1 -1/end/
+om 1/points 1/-2 0 5/end/realizable/end/
+om 1/points 2/1 0 0/0 1 0/end/realizable/vector 1 0 0/end/
+om 1/circuits 2/+-/end/realizable/vector 1 0 0/end/
+om 1/cocircuits 2/end/realizable/vector 1 0 0/end/
+om 1/covectors 1/0/end/realizable/vector 1 0 0/end/
+om 1/wiring 3/1-2/2-3/1-2/end/realizable/vector 1 0 0/end/";
+
+/// Inputs whose first fault lies in the document or behind it: its line and its code.
+const FAULTS_OF_DOCUMENTS: &str = " = 1 missing
+om 1/ = 2 missing
+om 1/chirotope 3 4/ = 3 missing
+om 1/chirotope 3 4/++++/ = 4 missing
+om 2/ = 1 version
+om 1/chirotope 3 4/realizable/ = 3 sign
+om 1/chirotope 3 4/+++/end/ = 4 few
+om 1/wiring 3/1-2 realizable/ = 3 block
+om 1/points 1/1 0/end/ = 3 number
+om 1/chirotope 3 4/++++/end/ = 5 missing";
+
+/// Blocks behind the document of four elements: the line and the code of their first fault.
+const FAULTS_OF_BLOCKS: &str = "perhaps = 5 claim
+realizable x/ = 5 claim
+end/ = 5 claim
+Realizable/ = 5 claim
+/# verdict/vector 1 0 0/ = 7 claim
+exhausted/ = 5 claim
+realizable = 6 missing
+realizable/vector 1 0 0/ = 7 missing
+realizable/vector 1 0 0/vector 0 1 0/ = 8 missing
+realizable/vector 1 0 0/vector 0 1 0/vector 0 0 1/ = 9 missing
+realizable/vector 1 0 0/vector 0 1 0/vector 0 0 1/vector 1 -1 1/ = 10 missing
+nonrealizable/lt 1 2 3 4 5 1 2 1/ = 7 missing
+undecided/ = 6 missing
+undecided/exhausted/ = 7 missing
+undecided/frontier/# none/ = 8 missing
+limit/ = 6 missing
+limit/pivots 1/ = 7 missing
+limit/pivots 1/basis 1/ = 8 missing
+realizable/end/end/ = 7 after
+realizable/end//# more/vector 1 0 0 = 9 after
+nonrealizable/end/nonrealizable/ = 7 after
+undecided/exhausted/end/om 1/ = 8 after
+limit/pivots 1/basis/ = 7 entry
+limit/pivots 1/basis 1000000/ = 7 entry
+limit/pivots 1/basis 1 -1/ = 7 entry
+limit/pivots 1/pivots 1/ = 7 entry
+limit/pivots 1/width price 1 0 1/ = 7 entry
+limit/pivots 1/basis 1/basis 1/ = 8 entry
+limit/pivots 1/basis 1/end/ = 8 entry
+limit/pivots 1/basis 1/exhausted/vector 1 0 0/ = 9 entry
+limit/width price 1 0 1/frontier/weight 1 2 3 0/ = 8 entry
+undecided/exhausted/vector 1 0 0/ = 7 entry
+undecided/frontier/exhausted/ = 7 entry";
+
+/// Blocks behind this document whose second line has no form that may stand there.
+const LINES_OF_NO_FORM: &str = "realizable/vector 1 0/
+realizable/vector 1 0 0 0/
+realizable/vector 1 0 -0/
+realizable/vector 01 0 0/
+realizable/vector +1 0 0/
+realizable/vector 1099511627777 0 0/
+realizable/vector 0 0 -1099511627777/
+realizable/vectors 1 0 0/
+realizable/realizable/
+realizable/exhausted/
+realizable/end x/
+undecided/vector 1 0 0/
+undecided/end/
+undecided/frontier x/
+nonrealizable/vector 1 0 0/
+nonrealizable/exhausted/
+nonrealizable/lt 01 2 3 4 5 1 2 1/
+nonrealizable/lt -0 2 3 4 5 1 2 1/
+nonrealizable/lt 0 2 3 4 5 1 2 1/
+nonrealizable/lt 17 2 3 4 5 1 2 1/
+nonrealizable/lt 1 2 3 4 17 1 2 1/
+nonrealizable/eq 1 2 3 4 5 0 2 1/
+nonrealizable/eq 1 2 3 4 5 1 4 1/
+nonrealizable/eq 1 2 3 4 5 1 2 01/
+nonrealizable/eq 1 2 3 4 5 1 2/
+nonrealizable/eq 1 2 3 4 5 1 2 1 1/
+nonrealizable/le 1 2 3 4 5 1 2 1/
+undecided/weight 1 2 3 1267650600228229401496703205377/
+undecided/weight 1 2 3 -1267650600228229401496703205377/
+undecided/weight 1 3 2 0/
+undecided/weight 2 1 3 0/
+undecided/weight 1 1 2 0/
+undecided/weight 1 2 2 0/
+undecided/weight 0 1 2 0/
+undecided/weight 1 2 17 0/
+undecided/weight 1 2 3 -0/
+undecided/weight 1 2 3 00/
+undecided/weight 1 2 3/
+undecided/weight 1 2 3 4 5/
+limit/pivots 1000001/
+limit/pivots 01/
+limit/pivots/
+limit/exhausted/
+limit/end/
+limit/basis 1/
+limit/width prices 1 0 1/
+limit/width price 1000002 0 1/
+limit/width price 1 65536 1/
+limit/width price 1 0 1000000/
+limit/width price 1 0/
+limit/width 1 0 1/";
 
 /// Texts one behind another.
 fn joined(alloc: Global, texts: &[&str]) -> Result<Vec<u8>, Fail> {
     let mut bytes = Vec::new(alloc);
     for text in texts {
-        bytes.extend_from_slice(text.as_bytes())?;
+        for byte in text.as_bytes() {
+            bytes.push(if *byte == b'/' { b'\n' } else { *byte })?;
+        }
     }
     Ok(bytes)
 }
@@ -55,247 +182,95 @@ fn read_as<R: Abort>(rt: &R, alloc: Global, texts: &[&str], others: &[&str]) -> 
     Ok(())
 }
 
+/// Asks that each row of a table, behind a document, has the first fault that the row names.
+fn have_faults<R: Abort>(rt: &R, alloc: Global, document: &str, table: &str) -> Result<(), Fail> {
+    for row in table.split('\n') {
+        let (block, fault) = row.split_once(" = ").ok_or("no fault")?;
+        read_as(
+            rt,
+            alloc,
+            &[document, block],
+            &["refused line ", fault, "/"],
+        )?;
+    }
+    Ok(())
+}
+
+/// A line so many times.
+fn repeated(alloc: Global, line: &str, times: u32) -> Result<String, Fail> {
+    let mut text = String::new(alloc);
+    for _ in 0..times {
+        text.push_str(line)?;
+    }
+    Ok(text)
+}
+
+/// Asks that lines behind a verdict word, and then a last line, have this first fault.
+fn fails_behind<R: Abort>(
+    rt: &R,
+    alloc: Global,
+    word: &str,
+    lines: String,
+    last: &str,
+    fault: &str,
+) -> Result<(), Fail> {
+    let texts = [UNIFORM, word, lines.as_str(), last];
+    read_as(rt, alloc, &texts, &["refused line ", fault, "/"])
+}
+
 #[test]
 fn claims_in_canonical_form(rt: HostRuntime) -> Result<(), Fail> {
-    for (document, block) in [
-        (
-            UNIFORM,
-            "realizable\nvector 1 0 0\nvector 0 1 0\nvector 0 0 1\nvector 1 -1 1\nend\n",
-        ),
-        (
-            UNIFORM,
-            "realizable\nvector 1099511627776 -1099511627776 0\nend\n",
-        ),
-        (UNIFORM, "nonrealizable\nend\n"),
-        (
-            UNIFORM,
-            "nonrealizable\nlt 5 4 3 2 1 1 1 1\neq 16 16 16 16 16 3 3 7\nend\n",
-        ),
-        (
-            UNIFORM,
-            "undecided\nweight 1 2 3 1\nweight 1 2 4 -1267650600228229401496703205376\nweight 1 3 4 1267650600228229401496703205376\nweight 2 3 16 0\nfrontier\nvector 1 -1 0\nend\n",
-        ),
-        (UNIFORM, "undecided\nexhausted\nend\n"),
-        (UNIFORM, "undecided\nfrontier\nend\n"),
-        (
-            "om 1\nchirotope 3 5\n++++++++++\nend\n",
-            "limit\npivots 1\nbasis 12 2 3 4 5 6 7 8 9 10 11\nfrontier\nvector -1 -1 -1\nend\n",
-        ),
-        (UNIFORM, "limit\npivots 1000000\nbasis 0\nexhausted\nend\n"),
-        (
-            UNIFORM,
-            "limit\npivots 0\nbasis 999999 999999\nexhausted\nend\n",
-        ),
-        (
-            UNIFORM,
-            "limit\nwidth price 1000001 0 999999\nexhausted\nend\n",
-        ),
-        (UNIFORM, "limit\nwidth column 1 65535 2\nfrontier\nend\n"),
-        (UNIFORM, "limit\nwidth update 0 0 0\nexhausted\nend\n"),
-        (UNIFORM, "limit\nwidth scale 3 2 1\nexhausted\nend\n"),
-        ("om 1\npoints 1\n-2 0 5\nend\n", "realizable\nend\n"),
-        (
-            "om 1\npoints 2\n1 0 0\n0 1 0\nend\n",
-            "realizable\nvector 1 0 0\nend\n",
-        ),
-        (
-            "om 1\ncircuits 2\n+-\nend\n",
-            "realizable\nvector 1 0 0\nend\n",
-        ),
-        (
-            "om 1\ncocircuits 2\nend\n",
-            "realizable\nvector 1 0 0\nend\n",
-        ),
-        (
-            "om 1\ncovectors 1\n0\nend\n",
-            "realizable\nvector 1 0 0\nend\n",
-        ),
-        (
-            "om 1\nwiring 3\n1-2\n2-3\n1-2\nend\n",
-            "realizable\nvector 1 0 0\nend\n",
-        ),
-    ] {
-        read_as(&rt, rt.alloc(), &[document, block], &[document, block])?;
+    for block in BLOCKS.split('\n') {
+        read_as(&rt, rt.alloc(), &[UNIFORM, block], &[UNIFORM, block])?;
+    }
+    for claim in CLAIMS.split('\n') {
+        read_as(&rt, rt.alloc(), &[claim], &[claim])?;
     }
     Ok(())
 }
 
 #[test]
 fn claims_in_other_layouts(rt: HostRuntime) -> Result<(), Fail> {
-    for (block, canonical) in [
-        ("realizable\nend", "realizable\nend\n"),
-        (
-            "\n# a block\nrealizable # of vectors\n\n \t\r\nvector\t1  0 0\r\n#\nend\n\n# the end\n",
-            "realizable\nvector 1 0 0\nend\n",
-        ),
-    ] {
-        read_as(&rt, rt.alloc(), &[UNIFORM, block], &[UNIFORM, canonical])?;
-    }
-    Ok(())
+    let block = "/# a block/realizable # of vectors// \t\r/vector\t1  0 0\r/#/end//# the end/";
+    let canonical = "realizable/vector 1 0 0/end/";
+    read_as(&rt, rt.alloc(), &[UNIFORM, block], &[UNIFORM, canonical])?;
+    read_as(
+        &rt,
+        rt.alloc(),
+        &[UNIFORM, "realizable/end"],
+        &[UNIFORM, "realizable/end/"],
+    )
 }
 
 #[test]
 fn certificates(rt: HostRuntime) -> Result<(), Fail> {
-    for (first, found) in [
-        ("nonrealizable\neq 1 2 3 4 7 3 2 1\n", ""),
-        ("nonrealizable\neq 1 2 3 4 7 3 2 9223372036854775808\n", ""),
-        (
-            "nonrealizable\neq 1 2 3 4 7 3 2 0\n",
-            "refused line 7 entry\n",
-        ),
-        (
-            "nonrealizable\neq 1 2 3 4 7 3 2 9223372036854775809\n",
-            "refused line 7 entry\n",
-        ),
+    for first in [
+        "nonrealizable/eq 1 2 3 4 7 3 2 1/",
+        "nonrealizable/eq 1 2 3 4 7 3 2 9223372036854775808/",
     ] {
         let texts = [NON_PAPPUS, first, EIGHT_ENTRIES];
-        if found.is_empty() {
-            read_as(&rt, rt.alloc(), &texts, &texts)?;
-        } else {
-            read_as(&rt, rt.alloc(), &texts, &[found])?;
-        }
+        read_as(&rt, rt.alloc(), &texts, &texts)?;
+    }
+    for first in [
+        "nonrealizable/eq 1 2 3 4 7 3 2 0/",
+        "nonrealizable/eq 1 2 3 4 7 3 2 9223372036854775809/",
+    ] {
+        let texts = [NON_PAPPUS, first, EIGHT_ENTRIES];
+        read_as(&rt, rt.alloc(), &texts, &["refused line 7 entry/"])?;
     }
     Ok(())
 }
 
 #[test]
-fn faults_of_documents(rt: HostRuntime) -> Result<(), Fail> {
-    for (text, fault) in [
-        ("", "1 missing\n"),
-        ("om 1\n", "2 missing\n"),
-        ("om 1\nchirotope 3 4\n", "3 missing\n"),
-        ("om 1\nchirotope 3 4\n++++\n", "4 missing\n"),
-        (UNIFORM, "5 missing\n"),
-        ("om 2\n", "1 version\n"),
-        ("om 1\nchirotope 3 4\nrealizable\n", "3 sign\n"),
-        ("om 1\nchirotope 3 4\n+++\nend\n", "4 few\n"),
-        ("om 1\nwiring 3\n1-2 realizable\n", "3 block\n"),
-        ("om 1\npoints 1\n1 0\nend\n", "3 number\n"),
-    ] {
-        read_as(&rt, rt.alloc(), &[text], &["refused line ", fault])?;
-    }
-    Ok(())
-}
-
-#[test]
-fn faults_of_blocks(rt: HostRuntime) -> Result<(), Fail> {
-    for (block, fault) in [
-        ("perhaps", "5 claim\n"),
-        ("realizable x\n", "5 claim\n"),
-        ("end\n", "5 claim\n"),
-        ("Realizable\n", "5 claim\n"),
-        ("\n# verdict\nvector 1 0 0\n", "7 claim\n"),
-        ("exhausted\n", "5 claim\n"),
-        ("realizable", "6 missing\n"),
-        ("realizable\nvector 1 0 0\n", "7 missing\n"),
-        ("realizable\nvector 1 0 0\nvector 0 1 0\n", "8 missing\n"),
-        (
-            "realizable\nvector 1 0 0\nvector 0 1 0\nvector 0 0 1\n",
-            "9 missing\n",
-        ),
-        (
-            "realizable\nvector 1 0 0\nvector 0 1 0\nvector 0 0 1\nvector 1 -1 1\n",
-            "10 missing\n",
-        ),
-        ("nonrealizable\nlt 1 2 3 4 5 1 2 1\n", "7 missing\n"),
-        ("undecided\n", "6 missing\n"),
-        ("undecided\nexhausted\n", "7 missing\n"),
-        ("undecided\nfrontier\n# none\n", "8 missing\n"),
-        ("limit\n", "6 missing\n"),
-        ("limit\npivots 1\n", "7 missing\n"),
-        ("limit\npivots 1\nbasis 1\n", "8 missing\n"),
-        ("realizable\nend\nend\n", "7 after\n"),
-        ("realizable\nend\n\n# more\nvector 1 0 0", "9 after\n"),
-        ("nonrealizable\nend\nnonrealizable\n", "7 after\n"),
-        ("undecided\nexhausted\nend\nom 1\n", "8 after\n"),
-        ("limit\npivots 1\nbasis\n", "7 entry\n"),
-        ("limit\npivots 1\nbasis 1000000\n", "7 entry\n"),
-        ("limit\npivots 1\nbasis 1 -1\n", "7 entry\n"),
-        ("limit\npivots 1\npivots 1\n", "7 entry\n"),
-        ("limit\npivots 1\nwidth price 1 0 1\n", "7 entry\n"),
-        ("limit\npivots 1\nbasis 1\nbasis 1\n", "8 entry\n"),
-        ("limit\npivots 1\nbasis 1\nend\n", "8 entry\n"),
-        (
-            "limit\npivots 1\nbasis 1\nexhausted\nvector 1 0 0\n",
-            "9 entry\n",
-        ),
-        (
-            "limit\nwidth price 1 0 1\nfrontier\nweight 1 2 3 0\n",
-            "8 entry\n",
-        ),
-        ("undecided\nexhausted\nvector 1 0 0\n", "7 entry\n"),
-        ("undecided\nfrontier\nexhausted\n", "7 entry\n"),
-    ] {
+fn faults(rt: HostRuntime) -> Result<(), Fail> {
+    have_faults(&rt, rt.alloc(), "", FAULTS_OF_DOCUMENTS)?;
+    have_faults(&rt, rt.alloc(), UNIFORM, FAULTS_OF_BLOCKS)?;
+    for block in LINES_OF_NO_FORM.split('\n') {
         read_as(
             &rt,
             rt.alloc(),
             &[UNIFORM, block],
-            &["refused line ", fault],
-        )?;
-    }
-    Ok(())
-}
-
-#[test]
-fn lines_of_no_form(rt: HostRuntime) -> Result<(), Fail> {
-    for block in [
-        "realizable\nvector 1 0\n",
-        "realizable\nvector 1 0 0 0\n",
-        "realizable\nvector 1 0 -0\n",
-        "realizable\nvector 01 0 0\n",
-        "realizable\nvector +1 0 0\n",
-        "realizable\nvector 1099511627777 0 0\n",
-        "realizable\nvector 0 0 -1099511627777\n",
-        "realizable\nvectors 1 0 0\n",
-        "realizable\nrealizable\n",
-        "realizable\nexhausted\n",
-        "realizable\nend x\n",
-        "undecided\nvector 1 0 0\n",
-        "undecided\nend\n",
-        "undecided\nfrontier x\n",
-        "nonrealizable\nvector 1 0 0\n",
-        "nonrealizable\nexhausted\n",
-        "nonrealizable\nlt 01 2 3 4 5 1 2 1\n",
-        "nonrealizable\nlt -0 2 3 4 5 1 2 1\n",
-        "nonrealizable\nlt 0 2 3 4 5 1 2 1\n",
-        "nonrealizable\nlt 17 2 3 4 5 1 2 1\n",
-        "nonrealizable\nlt 1 2 3 4 17 1 2 1\n",
-        "nonrealizable\neq 1 2 3 4 5 0 2 1\n",
-        "nonrealizable\neq 1 2 3 4 5 1 4 1\n",
-        "nonrealizable\neq 1 2 3 4 5 1 2 01\n",
-        "nonrealizable\neq 1 2 3 4 5 1 2\n",
-        "nonrealizable\neq 1 2 3 4 5 1 2 1 1\n",
-        "nonrealizable\nle 1 2 3 4 5 1 2 1\n",
-        "undecided\nweight 1 2 3 1267650600228229401496703205377\n",
-        "undecided\nweight 1 2 3 -1267650600228229401496703205377\n",
-        "undecided\nweight 1 3 2 0\n",
-        "undecided\nweight 2 1 3 0\n",
-        "undecided\nweight 1 1 2 0\n",
-        "undecided\nweight 1 2 2 0\n",
-        "undecided\nweight 0 1 2 0\n",
-        "undecided\nweight 1 2 17 0\n",
-        "undecided\nweight 1 2 3 -0\n",
-        "undecided\nweight 1 2 3 00\n",
-        "undecided\nweight 1 2 3\n",
-        "undecided\nweight 1 2 3 4 5\n",
-        "limit\npivots 1000001\n",
-        "limit\npivots 01\n",
-        "limit\npivots\n",
-        "limit\nexhausted\n",
-        "limit\nend\n",
-        "limit\nbasis 1\n",
-        "limit\nwidth prices 1 0 1\n",
-        "limit\nwidth price 1000002 0 1\n",
-        "limit\nwidth price 1 65536 1\n",
-        "limit\nwidth price 1 0 1000000\n",
-        "limit\nwidth price 1 0\n",
-        "limit\nwidth 1 0 1\n",
-    ] {
-        read_as(
-            &rt,
-            rt.alloc(),
-            &[UNIFORM, block],
-            &["refused line 6 entry\n"],
+            &["refused line 6 entry/"],
         )?;
     }
     Ok(())
@@ -303,32 +278,23 @@ fn lines_of_no_form(rt: HostRuntime) -> Result<(), Fail> {
 
 #[test]
 fn lines_past_the_greatest_numbers(rt: HostRuntime) -> Result<(), Fail> {
-    let alloc = rt.alloc();
-    for (line, times, last, fault) in [
-        ("vector 0 0 0\n", 16, "vector 0 0 0\n", "22 many\n"),
-        ("vector 0 0 0\n", 16, "vector 0 0\n", "22 entry\n"),
+    let vector = "vector 0 0 0/";
+    let weight = "weight 1 2 3 0/";
+    for (word, line, times, last, fault) in [
+        ("realizable/", vector, 16, vector, "22 many"),
+        ("realizable/", vector, 16, "vector 0 0/", "22 entry"),
         (
-            "vector 0 0 0\n",
+            "realizable/",
+            vector,
             16,
-            "vector 0 0 1099511627777\n",
-            "22 entry\n",
+            "vector 0 0 1099511627777/",
+            "22 entry",
         ),
-        ("weight 1 2 3 0\n", 560, "", "566 missing\n"),
-        ("weight 1 2 3 0\n", 560, "weight 1 2 3 0\n", "566 many\n"),
+        ("undecided/", weight, 560, "", "566 missing"),
+        ("undecided/", weight, 560, weight, "566 many"),
     ] {
-        let word = if times == 16_u32 {
-            "realizable\n"
-        } else {
-            "undecided\n"
-        };
-        let mut bytes = joined(alloc, &[UNIFORM, word])?;
-        for _ in 0..times {
-            bytes.extend_from_slice(line.as_bytes())?;
-        }
-        bytes.extend_from_slice(last.as_bytes())?;
-        let found = reading(alloc, bytes.as_slice())?;
-        let expected = joined(alloc, &["refused line ", fault])?;
-        assert!(rt; found.as_slice() == expected.as_slice(), "{fault}");
+        let lines = repeated(rt.alloc(), line, times)?;
+        fails_behind(&rt, rt.alloc(), word, lines, last, fault)?;
     }
     Ok(())
 }

@@ -1,251 +1,204 @@
-//! Inputs with the answers that the format asks for.
+//! Inputs with the answers that the format asks for. In the texts a `/` stands for the end of a line.
 
 use super::lines::{before_comment, first_line, first_word, has_no_words, same};
 use super::words::{plain_number, signed_number, unsigned_number};
 use super::*;
 use om_signs::{MAX_BLOCKS, MAX_INPUT, MAX_MULTIPLICITY, MAX_WEIGHT};
 use std::alloc::Global;
+use std::process::Abort;
 use std::test::Fail;
 
-/// Whether an input has its first fault at this line, with this code. A document at the front of it has the same fault,
-/// unless it is that of a line behind the document.
-fn has_fault(alloc: Global, bytes: &[u8], line: u32, code: Code) -> bool {
-    if MAX_INPUT < bytes.len() {
-        return false;
+/// Inputs whose first fault lies before the body: its line and its code.
+const FAULTS_OF_HEADINGS: &str = " = 1 Missing
+/ = 2 Missing
+# = 2 Missing
+om 1/ = 2 Missing
+om 1/chirotope 3 4/ = 3 Missing
+om 2 = 1 Version
+om 1 1 = 1 Version
+om\x0b1 = 1 Version
+om\x001 = 1 Version
+\u{feff}om 1 = 1 Version
+realizable/om 1 = 1 Version
+om 1/vectors 3 = 2 Kind
+/om 1/wiring x = 3 Header
+om 1/chirotope 3 = 2 Header
+om 1/chirotope 3 4 5 = 2 Header
+om 1/chirotope 3 04 = 2 Header
+om 1/chirotope 3 1000000 = 2 Header
+om 1/chirotope 1 1 1 1 1 1 1 1 1 1 1 1 1 1 1 1 1 1 = 2 Header
+om 1/circuits 3 3/ = 2 Header
+om 1/points 3 3/ = 2 Header
+om 1/chirotope 3 17/end/ = 2 Elements { n: 17 }
+om 1/points 17/ = 2 Elements { n: 17 }
+om 1/chirotope 5 0/ = 2 Elements { n: 0 }
+om 1/chirotope 18 17/ = 2 Elements { n: 17 }
+om 1/chirotope 5 4/end/ = 2 Rank { r: 5 }";
+
+/// Inputs whose first fault lies in the body or behind it.
+const FAULTS_OF_BODIES: &str = "om 1/chirotope 3 4/++++/ = 4 Missing
+om 1/chirotope 3 4/+++++/end/ = 3 Many
+om 1/chirotope 3 4/+++/end/ = 4 Few
+om 1/chirotope 0 1/+/foo/ = 4 Sign
+om 1/chirotope 0 1/+/-/ = 4 Many
+om 1/chirotope 1 1/+/realizable = 4 Sign
+om 1/chirotope 3 4/++++/end//# more/end = 7 After
+om 1/circuits 3/+-/ = 3 Length
+om 1/circuits 3/+x/ = 3 Sign
+om 1/cocircuits 2/+-/end/+- = 5 After
+om 1/wiring 3/1-2 2/ = 3 Block
+om 1/wiring 3/1-2-3/ = 3 Block
+om 1/wiring 3/1-2/1-02/ = 4 Block
+om 1/wiring 3/1-1000/ = 3 Block
+om 1/wiring 3/-1-2/ = 3 Block
+om 1/wiring 3/1-2/end/1-2 = 5 After
+om 1/wiring 3/1-2/ = 4 Missing";
+
+/// The same of points.
+const FAULTS_OF_POINTS: &str = "om 1/points 1/1 0 0/end/end = 5 After
+om 1/points 1/1 0 0/0 1 0 = 4 Many
+om 1/points 1/1 0 0/0 1 = 4 Number
+om 1/points 1/1 0 0/ = 4 Missing
+om 1/points 2/1 0 0/ = 4 Missing
+om 1/points 2/1 0 0/end = 4 Few
+om 1/points 1/end = 3 Few
+om 1/points 1/end/realizable = 3 Few
+om 1/points 3/1099511627777 0 0/ = 3 Number
+om 1/points 3/1 0 = 3 Number
+om 1/points 3/1 0 0 0 = 3 Number
+om 1/points 3/1 0 x = 3 Number
+om 1/points 3/01 0 0 = 3 Number
+om 1/points 3/0 -0 0 = 3 Number
+om 1/points 3/0 0 -01 = 3 Number
+om 1/points 3/+1 0 0 = 3 Number
+om 1/points 3/- 0 0 = 3 Number
+om 1/points 3/--1 0 0 = 3 Number
+om 1/points 3/1- 0 0 = 3 Number
+om 1/points 3/1,0 0 0 = 3 Number
+om 1/points 3/0 0 -1099511627777 = 3 Number
+om 1/points 3/0 0 18446744073709551616 = 3 Number
+om 1/points 3/0 0 340282366920938463463374607431768211456 = 3 Number
+om 1/points 3/0 -99999999999999999999999999999999999999999999999999999999999999999 0 = 3 Number
+om 1/points 3/ende = 3 Number";
+
+/// Inputs and their canonical forms.
+const CANONICAL_FORMS: &str =
+    "# my map\r/\r/om 1\r/chirotope 3 4\r/+ +\r/++ # all plus\r/end\r/ = om 1/chirotope 3 4/++++/end/
+om 1/chirotope 2 12/+ - 0 +++++++ ++++++++++ ++++++++++ ++++++++++ ++++++++++ ++++++++++ +++++-//end = om 1/chirotope 2 12/+-0+++++++++++++++++++++++++++++++++++++++++++++++++++++++++++++/+-/end/
+om 1/circuits 4/+-+-/-+ -+/+-+-/end = om 1/circuits 4/-+-+/+-+-/end/
+om 1/cocircuits 2/+-/00/0+/+0/-+/end = om 1/cocircuits 2/-+/00/0+/+-/+0/end/
+om 1/covectors 1/0/+/-/+/end = om 1/covectors 1/-/0/+/end/
+om 1/wiring 3/1-2 2-3 1-2/end = om 1/wiring 3/1-2/2-3/1-2/end/
+om 1/wiring 1//7-999\t0-0 # any/end/ = om 1/wiring 1/7-999/0-0/end/
+om 1/points 3 # greatest/ 1099511627776\t0 0\r/0 -1099511627776 0//0 0 -10/end = om 1/points 3/1099511627776 0 0/0 -1099511627776 0/0 0 -10/end/
+om 1/points 9/1 0 0/1 2 0/1 6 0/1 0 2/1 2 2/1 6 2/1 4 1/1 3 1/1 1 1/end/ = om 1/points 9/1 0 0/1 2 0/1 6 0/1 0 2/1 2 2/1 6 2/1 4 1/1 3 1/1 1 1/end/";
+
+/// Inputs with a document at the front: its canonical form with the number of bytes and of lines, or its first fault.
+const FRONTS: &str = "om 1/points 1/1 0 0/end/ = om 1/points 1/1 0 0/end/24 4
+om 1/points 1/1 0 0/end = om 1/points 1/1 0 0/end/23 4
+om 1/points 1/1 0 0/end/realizable/ = om 1/points 1/1 0 0/end/24 4
+om 1/points 1/1 0 0/end/# end//end/ = om 1/points 1/1 0 0/end/24 4
+/om 1/points 1/1 0 0/end # of it\r// = om 1/points 1/1 0 0/end/34 5
+ = 1 Missing
+om 1/points 1/1 0 0/ = 4 Missing
+om 1/points 1/end/realizable = 3 Few
+om 1/chirotope 1 1/+/realizable = 4 Sign
+realizable/om 1 = 1 Version";
+
+/// The bytes of a text.
+fn bytes_of(alloc: Global, text: &str) -> Result<Vec<u8>, Fail> {
+    let mut bytes = Vec::new(alloc);
+    for byte in text.as_bytes() {
+        bytes.push(if *byte == b'/' { b'\n' } else { *byte })?;
     }
-    let fault = ParseError::Line { line, code };
-    let whole = match parse(alloc, bytes) {
-        Ok(_) => false,
-        Err(error) => error == fault,
-    };
-    let front = match parse_part(alloc, bytes) {
-        Ok(_) => code == Code::After,
-        Err(error) => error == fault,
-    };
-    whole && front
+    Ok(bytes)
 }
 
-/// Whether the canonical form of what an input gives is this one.
-fn has_form(alloc: Global, bytes: &[u8], form: &str) -> bool {
+/// The line and the code of a fault.
+fn fault_of(alloc: Global, error: ParseError) -> Result<Vec<u8>, Fail> {
+    match error {
+        ParseError::Line { line, code } => {
+            let text = format!(in alloc; "{line} {code:?}")?;
+            Ok(text.into_bytes())
+        }
+        ParseError::Memory => Err(Fail::new("out of memory")),
+    }
+}
+
+/// What an input is read as: the canonical form of a document, or a fault.
+fn reading(alloc: Global, bytes: &[u8]) -> Result<Vec<u8>, Fail> {
     if MAX_INPUT < bytes.len() {
-        return false;
+        return Err(Fail::new("too long"));
     }
     match parse(alloc, bytes) {
-        Ok(document) => match print(alloc, &document) {
-            Ok(out) => out.as_slice() == form.as_bytes(),
-            Err(_) => false,
-        },
-        Err(_) => false,
+        Ok(document) => Ok(print(alloc, &document)?),
+        Err(error) => fault_of(alloc, error),
     }
 }
 
-/// Whether the front of an input is a document with this canonical form, of so many bytes and lines.
-fn has_front(alloc: Global, bytes: &[u8], form: &str, len: usize, lines: u32) -> bool {
+/// What stands at the front of an input: the canonical form of a document with its bytes and lines, or a fault.
+fn front(alloc: Global, bytes: &[u8]) -> Result<Vec<u8>, Fail> {
     if MAX_INPUT < bytes.len() {
-        return false;
+        return Err(Fail::new("too long"));
     }
     match parse_part(alloc, bytes) {
-        Ok((document, read, count)) => match print(alloc, &document) {
-            Ok(out) => out.as_slice() == form.as_bytes() && read == len && count == lines,
-            Err(_) => false,
-        },
-        Err(_) => false,
+        Ok((document, len, lines)) => {
+            let mut out = print(alloc, &document)?;
+            let size = format!(in alloc; "{len} {lines}")?;
+            out.extend_from_slice(size.as_bytes())?;
+            Ok(out)
+        }
+        Err(error) => fault_of(alloc, error),
     }
 }
 
-#[test]
-fn faults_of_headings(rt: HostRuntime) {
-    for (text, line, code) in [
-        ("", 1, Code::Missing),
-        ("\n", 2, Code::Missing),
-        ("#", 2, Code::Missing),
-        ("om 1\n", 2, Code::Missing),
-        ("om 1\nchirotope 3 4\n", 3, Code::Missing),
-        ("om 2", 1, Code::Version),
-        ("om 1 1", 1, Code::Version),
-        ("om\x0b1", 1, Code::Version),
-        ("om\x001", 1, Code::Version),
-        ("\u{feff}om 1", 1, Code::Version),
-        ("realizable\nom 1", 1, Code::Version),
-        ("om 1\nvectors 3", 2, Code::Kind),
-        ("\nom 1\nwiring x", 3, Code::Header),
-        ("om 1\nchirotope 3", 2, Code::Header),
-        ("om 1\nchirotope 3 4 5", 2, Code::Header),
-        ("om 1\nchirotope 3 04", 2, Code::Header),
-        ("om 1\nchirotope 3 1000000", 2, Code::Header),
-        (
-            "om 1\nchirotope 1 1 1 1 1 1 1 1 1 1 1 1 1 1 1 1 1 1",
-            2,
-            Code::Header,
-        ),
-        ("om 1\ncircuits 3 3\n", 2, Code::Header),
-        ("om 1\npoints 3 3\n", 2, Code::Header),
-        ("om 1\nchirotope 3 17\nend\n", 2, Code::Elements { n: 17 }),
-        ("om 1\npoints 17\n", 2, Code::Elements { n: 17 }),
-        ("om 1\nchirotope 5 0\n", 2, Code::Elements { n: 0 }),
-        ("om 1\nchirotope 18 17\n", 2, Code::Elements { n: 17 }),
-        ("om 1\nchirotope 5 4\nend\n", 2, Code::Rank { r: 5 }),
-    ] {
-        assert!(rt;
-            has_fault(rt.alloc(), text.as_bytes(), line, code),
-            "{text}"
-        );
+/// Asks that each input of a table is read as the answer behind it.
+fn are_read<R: Abort>(rt: &R, alloc: Global, table: &str) -> Result<(), Fail> {
+    for row in table.split('\n') {
+        let (text, answer) = row.split_once(" = ").ok_or("no answer")?;
+        let bytes = bytes_of(alloc, text)?;
+        let found = reading(alloc, bytes.as_slice())?;
+        let expected = bytes_of(alloc, answer)?;
+        assert!(rt; found.as_slice() == expected.as_slice(), "{row}");
     }
+    Ok(())
 }
 
 #[test]
-fn faults_of_bodies(rt: HostRuntime) {
-    for (text, line, code) in [
-        ("om 1\nchirotope 3 4\n++++\n", 4, Code::Missing),
-        ("om 1\nchirotope 3 4\n+++++\nend\n", 3, Code::Many),
-        ("om 1\nchirotope 3 4\n+++\nend\n", 4, Code::Few),
-        ("om 1\nchirotope 0 1\n+\nfoo\n", 4, Code::Sign),
-        ("om 1\nchirotope 0 1\n+\n-\n", 4, Code::Many),
-        ("om 1\nchirotope 1 1\n+\nrealizable", 4, Code::Sign),
-        (
-            "om 1\nchirotope 3 4\n++++\nend\n\n# more\nend",
-            7,
-            Code::After,
-        ),
-        ("om 1\ncircuits 3\n+-\n", 3, Code::Length),
-        ("om 1\ncircuits 3\n+x\n", 3, Code::Sign),
-        ("om 1\ncocircuits 2\n+-\nend\n+-", 5, Code::After),
-        ("om 1\nwiring 3\n1-2 2\n", 3, Code::Block),
-        ("om 1\nwiring 3\n1-2-3\n", 3, Code::Block),
-        ("om 1\nwiring 3\n1-2\n1-02\n", 4, Code::Block),
-        ("om 1\nwiring 3\n1-1000\n", 3, Code::Block),
-        ("om 1\nwiring 3\n-1-2\n", 3, Code::Block),
-        ("om 1\nwiring 3\n1-2\nend\n1-2", 5, Code::After),
-        ("om 1\nwiring 3\n1-2\n", 4, Code::Missing),
-    ] {
-        assert!(rt;
-            has_fault(rt.alloc(), text.as_bytes(), line, code),
-            "{text}"
-        );
-    }
+fn inputs(rt: HostRuntime) -> Result<(), Fail> {
+    are_read(&rt, rt.alloc(), FAULTS_OF_HEADINGS)?;
+    are_read(&rt, rt.alloc(), FAULTS_OF_BODIES)?;
+    are_read(&rt, rt.alloc(), FAULTS_OF_POINTS)?;
+    are_read(&rt, rt.alloc(), CANONICAL_FORMS)
 }
 
 #[test]
-fn faults_of_points(rt: HostRuntime) {
-    for (text, line, code) in [
-        ("om 1\npoints 1\n1 0 0\nend\nend", 5, Code::After),
-        ("om 1\npoints 1\n1 0 0\n0 1 0", 4, Code::Many),
-        ("om 1\npoints 1\n1 0 0\n0 1", 4, Code::Number),
-        ("om 1\npoints 1\n1 0 0\n", 4, Code::Missing),
-        ("om 1\npoints 2\n1 0 0\n", 4, Code::Missing),
-        ("om 1\npoints 2\n1 0 0\nend", 4, Code::Few),
-        ("om 1\npoints 1\nend", 3, Code::Few),
-        ("om 1\npoints 1\nend\nrealizable", 3, Code::Few),
-        ("om 1\npoints 3\n1099511627777 0 0\n", 3, Code::Number),
-        ("om 1\npoints 3\n1 0", 3, Code::Number),
-        ("om 1\npoints 3\n1 0 0 0", 3, Code::Number),
-        ("om 1\npoints 3\n1 0 x", 3, Code::Number),
-        ("om 1\npoints 3\n01 0 0", 3, Code::Number),
-        ("om 1\npoints 3\n0 -0 0", 3, Code::Number),
-        ("om 1\npoints 3\n0 0 -01", 3, Code::Number),
-        ("om 1\npoints 3\n+1 0 0", 3, Code::Number),
-        ("om 1\npoints 3\n- 0 0", 3, Code::Number),
-        ("om 1\npoints 3\n--1 0 0", 3, Code::Number),
-        ("om 1\npoints 3\n1- 0 0", 3, Code::Number),
-        ("om 1\npoints 3\n1,0 0 0", 3, Code::Number),
-        ("om 1\npoints 3\n0 0 -1099511627777", 3, Code::Number),
-        ("om 1\npoints 3\n0 0 18446744073709551616", 3, Code::Number),
-        (
-            "om 1\npoints 3\n0 0 340282366920938463463374607431768211456",
-            3,
-            Code::Number,
-        ),
-        (
-            "om 1\npoints 3\n0 -99999999999999999999999999999999999999999999999999999999999999999 0",
-            3,
-            Code::Number,
-        ),
-        ("om 1\npoints 3\nende", 3, Code::Number),
-    ] {
-        assert!(rt;
-            has_fault(rt.alloc(), text.as_bytes(), line, code),
-            "{text}"
-        );
+fn documents_at_the_front(rt: HostRuntime) -> Result<(), Fail> {
+    for row in FRONTS.split('\n') {
+        let (text, answer) = row.split_once(" = ").ok_or("no answer")?;
+        let bytes = bytes_of(rt.alloc(), text)?;
+        let found = front(rt.alloc(), bytes.as_slice())?;
+        let expected = bytes_of(rt.alloc(), answer)?;
+        assert!(rt; found.as_slice() == expected.as_slice(), "{row}");
     }
-}
-
-#[test]
-fn canonical_forms(rt: HostRuntime) {
-    for (text, form) in [
-        (
-            "# my map\r\n\r\nom 1\r\nchirotope 3 4\r\n+ +\r\n++ # all plus\r\nend\r\n",
-            "om 1\nchirotope 3 4\n++++\nend\n",
-        ),
-        (
-            "om 1\nchirotope 2 12\n+ - 0 +++++++ ++++++++++ ++++++++++ ++++++++++ ++++++++++ ++++++++++ +++++-\n\nend",
-            "om 1\nchirotope 2 12\n+-0+++++++++++++++++++++++++++++++++++++++++++++++++++++++++++++\n+-\nend\n",
-        ),
-        (
-            "om 1\ncircuits 4\n+-+-\n-+ -+\n+-+-\nend",
-            "om 1\ncircuits 4\n-+-+\n+-+-\nend\n",
-        ),
-        (
-            "om 1\ncocircuits 2\n+-\n00\n0+\n+0\n-+\nend",
-            "om 1\ncocircuits 2\n-+\n00\n0+\n+-\n+0\nend\n",
-        ),
-        (
-            "om 1\ncovectors 1\n0\n+\n-\n+\nend",
-            "om 1\ncovectors 1\n-\n0\n+\nend\n",
-        ),
-        (
-            "om 1\nwiring 3\n1-2 2-3 1-2\nend",
-            "om 1\nwiring 3\n1-2\n2-3\n1-2\nend\n",
-        ),
-        (
-            "om 1\nwiring 1\n\n7-999\t0-0 # any\nend\n",
-            "om 1\nwiring 1\n7-999\n0-0\nend\n",
-        ),
-        (
-            "om 1\npoints 3 # greatest\n 1099511627776\t0 0\r\n0 -1099511627776 0\n\n0 0 -10\nend",
-            "om 1\npoints 3\n1099511627776 0 0\n0 -1099511627776 0\n0 0 -10\nend\n",
-        ),
-        (
-            "om 1\npoints 9\n1 0 0\n1 2 0\n1 6 0\n1 0 2\n1 2 2\n1 6 2\n1 4 1\n1 3 1\n1 1 1\nend\n",
-            "om 1\npoints 9\n1 0 0\n1 2 0\n1 6 0\n1 0 2\n1 2 2\n1 6 2\n1 4 1\n1 3 1\n1 1 1\nend\n",
-        ),
-    ] {
-        assert!(rt; has_form(rt.alloc(), text.as_bytes(), form), "{text}");
-    }
-}
-
-#[test]
-fn documents_at_the_front(rt: HostRuntime) {
-    for (text, len, lines) in [
-        ("om 1\npoints 1\n1 0 0\nend\n", 24, 4),
-        ("om 1\npoints 1\n1 0 0\nend", 23, 4),
-        ("om 1\npoints 1\n1 0 0\nend\nrealizable\n", 24, 4),
-        ("om 1\npoints 1\n1 0 0\nend\n# end\n\nend\n", 24, 4),
-        ("\nom 1\npoints 1\n1 0 0\nend # of it\r\n\n", 34, 5),
-    ] {
-        let form = "om 1\npoints 1\n1 0 0\nend\n";
-        assert!(rt;
-            has_front(rt.alloc(), text.as_bytes(), form, len, lines),
-            "{text}"
-        );
-    }
+    Ok(())
 }
 
 #[test]
 fn lines_past_the_greatest_number_of_blocks(rt: HostRuntime) -> Result<(), Fail> {
-    for (last, line, code) in [
-        ("\n", 4, Code::Missing),
-        ("1-2\n", 3, Code::Many),
-        ("1-2 1_2\n", 3, Code::Block),
+    let alloc = rt.alloc();
+    for (last, fault) in [
+        ("\n", "4 Missing"),
+        ("1-2\n", "3 Many"),
+        ("1-2 1_2\n", "3 Block"),
     ] {
-        let mut bytes = Vec::from_slice(rt.alloc(), b"om 1\nwiring 2\n")?;
+        let mut bytes = bytes_of(alloc, "om 1/wiring 2/")?;
         for _ in 0..MAX_BLOCKS {
             bytes.extend_from_slice(b"1-2 ")?;
         }
         bytes.extend_from_slice(last.as_bytes())?;
-        assert!(rt;
-            has_fault(rt.alloc(), bytes.as_slice(), line, code),
-            "{last}"
-        );
+        let found = reading(alloc, bytes.as_slice())?;
+        assert!(rt; found.as_slice() == fault.as_bytes(), "{fault}");
     }
     Ok(())
 }
