@@ -244,22 +244,9 @@ def wirings(runs):
     row("mutations of a chirotope of rank 3 on 16 elements", took, 1, "", target_time=0.003)
 
 
-def extensions(runs):
-    """Extensions by one element, on one processor and on all."""
-    print("%-58s %11s  %18s  %18s  %s" % ("extend", "least time", "rate", "target", "ratio"))
-    for elements, first, one, all_ in ((9, 2000, 0.03, None), (15, 100000, 0.4, 0.25)):
-        for name, processors, target in (("one processor", {min(os.sched_getaffinity(0))}, one), ("all processors", os.sched_getaffinity(0), all_)):
-            held = os.sched_getaffinity(0)
-            os.sched_setaffinity(0, processors)
-            took, text = times(["extend", "--first=%d" % first], alternating(3, elements), runs)
-            os.sched_setaffinity(0, held)
-            count = len(text.split(b"\n")) - 4
-            row("%d extensions of rank 3 on %d elements, %s" % (count, elements, name), took, count / 1e3, "k/s", target_time=target)
-
-
 def painting(runs):
-    """Painting, hulls and lexicographic extensions, and made inputs."""
-    print("%-58s %11s  %18s  %18s  %s" % ("painting, hulls, extensions, made inputs", "least time", "", "target", "ratio"))
+    """Painting, hulls and lexicographic extensions."""
+    print("%-58s %11s  %18s  %18s  %s" % ("painting, hulls, lexicographic extensions", "least time", "", "target", "ratio"))
     for rank, target in ((3, 0.003), (8, 0.04)):
         data = alternating(rank, 16)
         for words in (["hull"], ["paint", "R" * 16, "1"], ["lexext", "+1", "-2"]):
@@ -267,8 +254,6 @@ def painting(runs):
                 data = alternating(rank, 15)
             took, text = times(words, data, runs)
             row("%s of rank %d" % (words[0], rank), took, 1, "", target_time=target if words[0] != "lexext" else None)
-    took, _ = times(["make", "7"], b"", runs)
-    row("make 7", took, 1, "", target_time=0.015)
 
 
 def main():
@@ -304,7 +289,7 @@ def main():
     took = least_time(["accept"], sign_lines(size), runs, accepted)
     row("1 MB of lines of signs and blanks, without the scan", max(took - scan, 1e-5), size / 1e6, "MB/s", target_rate=50.0)
 
-    for part in (conversions, operations, lists, claims, decisions, wirings, extensions, painting):
+    for part in (conversions, operations, lists, claims, decisions, wirings, painting):
         part(runs)
 
 
