@@ -34,7 +34,7 @@ made_meant o c m e none left whole same form axioms =
 abbrev pub IsList : Representation → Type 0
 IsList r = ((s : Circuits) × (r ≡ representation.Circuits s)) ⊎ (((s : Cocircuits) × (r ≡ representation.Cocircuits s)) ⊎ ((s : Listing) × (r ≡ representation.Covectors s)))
 
-pub no_list : (c : SignMap) → IsList (representation.Chirotope c) → ⊥
+no_list : (c : SignMap) → IsList (representation.Chirotope c) → ⊥
 no_list c (inl (s, same)) = cc
 no_list c (inr (inl (s, same))) = cc
 no_list c (inr (inr (s, same))) = cc

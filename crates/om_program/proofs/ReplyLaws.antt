@@ -135,14 +135,10 @@ verdict_replies m v l (claims.other_rank other) = tt
 verdict_replies m v l (claims.limited end unfound three is) = tt
 verdict_replies m v l (claims.judged e k three is means) = evidence_replies m e l means
 
-judged_replies : (d : Document) (v : Verdict) (l : Line) → claims.IsJudged d v l → IsReplied (status_of_line l)
-judged_replies d v l (claims.not_built not) = tt
-judged_replies d v l (claims.verified m k is means) = verdict_replies m v l means
-
 claim_replies : (c : Claim) (l : Line) → claims.ClaimMeans c l → IsReplied (status_of_line l)
 claim_replies c l (claims.fails_axioms why is) = refused_replies c.document.elements c.document.body l is
 claim_replies c l (claims.flat axioms is) = tt
-claim_replies c l (claims.judged_on k axioms bent is) = judged_replies _ c.verdict l is
+claim_replies c l (claims.verified m k axioms bent is means) = verdict_replies m c.verdict l means
 
 -- ---- the answers of tasks: one line for each
 

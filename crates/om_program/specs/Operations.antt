@@ -1,5 +1,5 @@
 -- The operations on oriented matroids: duals, minors and reorientations.
-use Rattle.std.specs.Prelude.{ℕ, ◌≡◌, ◌<◌, ◌≤◌, ◌^◌, ◌-◌, List, [], ◌∷◌, true, false, Option, Some, None, nat_lt}
+use Rattle.std.specs.Prelude.{ℕ, ◌≡◌, ◌<◌, ◌≤◌, ◌^◌, ◌-◌, List, [], ◌∷◌, Bool, true, false, Option, Some, None, nat_lt}
 use Rattle.std.specs.List.{find}
 use Rattle.om_signs.specs.declared.limits.TheConstants.{MAX_ELEMENTS}
 use Rattle.om_signs.specs.declared.sign.Sign.{Sign}
@@ -18,8 +18,12 @@ use Rattle.om_program.specs.declared.operation.Operation.{Operation}
 use Rattle.om_program.specs.declared.operation.Operation.TheVariants.{Dual, Delete, Contract, Reorient}
 use Rattle.om_program.specs.Answers.{says, shows}
 use Rattle.om_program.specs.Axioms.{MeetsAxioms}
-use Rattle.om_program.specs.Chirotopes.{is_operable}
 use Rattle.om_program.specs.Covectors.{IsCovectorIn}
+
+-- whether the operations are built for a body: they are for chirotopes
+abbrev pub is_operable : Body → Bool
+is_operable (body.Chirotope m) = true
+is_operable _ = false
 
 -- the elements that an operation names, in increasing order
 abbrev pub named_elements : Operation → List ℕ
