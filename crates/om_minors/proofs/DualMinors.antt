@@ -55,20 +55,20 @@ product_restored Y W i s l q (j, p) = elim (cases_lt j i) [
   )
 ]
 
-orthogonal_removed : (Y W : List Sign) (i : ℕ) → i < length Y → length W ≡ length Y → at W i ≡ Zero → IsOrthogonal Y W → IsOrthogonal (remove Y i) (remove W i)
+pub orthogonal_removed : (Y W : List Sign) (i : ℕ) → i < length Y → length W ≡ length Y → at W i ≡ Zero → IsOrthogonal Y W → IsOrthogonal (remove Y i) (remove W i)
 orthogonal_removed Y W i l q z o = (
   (λ h. product_removed Y W i Minus l q z minus_nonzero (o.0 (product_restored Y W i Plus l q h))),
   (λ h. product_removed Y W i Plus l q z plus_nonzero (o.1 (product_restored Y W i Minus l q h))),
 )
 
-orthogonal_restored : (Y W : List Sign) (i : ℕ) → i < length Y → length W ≡ length Y → at W i ≡ Zero → IsOrthogonal (remove Y i) (remove W i) → IsOrthogonal Y W
+pub orthogonal_restored : (Y W : List Sign) (i : ℕ) → i < length Y → length W ≡ length Y → at W i ≡ Zero → IsOrthogonal (remove Y i) (remove W i) → IsOrthogonal Y W
 orthogonal_restored Y W i l q z o = (
   (λ h. product_restored Y W i Minus l q (o.0 (product_removed Y W i Plus l q z plus_nonzero h))),
   (λ h. product_restored Y W i Plus l q (o.1 (product_removed Y W i Minus l q z minus_nonzero h))),
 )
 
 -- a list with a zero put in, and without it
-removed_insert : (Z : List Sign) (i : ℕ) → i ≤ length Z → remove (insert Z i Zero) i ≡ Z
+pub removed_insert : (Z : List Sign) (i : ℕ) → i ≤ length Z → remove (insert Z i Zero) i ≡ Z
 removed_insert Z i l =
     let longer = length-insert Z i Zero l in
     let inside : i < length (insert Z i Zero) = omega arith in
@@ -78,7 +78,7 @@ removed_insert Z i l =
       | inr g ↦ get_or-remove_above (insert Z i Zero) i Zero k g inside ∙ get_or-insert_above Z i Zero Zero k g l
     ])
 
-orthogonal_turned : (X Y : List Sign) → IsOrthogonal X Y → IsOrthogonal Y X
+pub orthogonal_turned : (X Y : List Sign) → IsOrthogonal X Y → IsOrthogonal Y X
 orthogonal_turned X Y o = ((λ h. turned Y X Minus (o.0 (turned X Y Plus h))), (λ h. turned Y X Plus (o.1 (turned X Y Minus h))))
   where
     turned : (X Y : List Sign) (s : Sign) → HasProduct Y X s → HasProduct X Y s
@@ -86,7 +86,7 @@ orthogonal_turned X Y o = ((λ h. turned Y X Minus (o.0 (turned X Y Plus h))), (
 
 -- ---- covectors of a chirotope
 
-normal_exists : (m : SignMap) → IsChirotope m → (d : SignMap) × IsNormalFormOf m d
+pub normal_exists : (m : SignMap) → IsChirotope m → (d : SignMap) × IsNormalFormOf m d
 normal_exists m om = by_case (leader m.signs)
   where
     by_case : IsLedBy Plus m.signs ⊎ IsLedBy Minus m.signs ⊎ IsAllZero m.signs → (d : SignMap) × IsNormalFormOf m d
@@ -121,7 +121,7 @@ dual_exists m om =
     )
 
 -- a chirotope whose covectors are those of the deletion
-deletion_exists : (m : SignMap) → IsChirotope m → (e : ℕ) → 2 ≤ m.elements → 1 ≤ e → e ≤ m.elements
+pub deletion_exists : (m : SignMap) → IsChirotope m → (e : ℕ) → 2 ≤ m.elements → 1 ≤ e → e ≤ m.elements
     → (d : SignMap) × IsChirotope d × (d.elements ≡ m.elements - 1) × IsDeletion m.elements e (IsCovectorOfChirotope m) (IsCovectorOfChirotope d)
 deletion_exists m om e several low high = ⊎_elim
     (λ b.

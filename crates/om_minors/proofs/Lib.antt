@@ -4,3 +4,12 @@ pub mod MinorMaps
 pub mod MinorLists
 pub mod Turning
 pub mod DualMinors
+pub mod DroppedPlaces
+pub mod FlippedLists
+pub mod FamilyMinors
+pub mod ListMinors
+pub mod ListReorientations
+pub mod GatheringLaws
+pub mod DroppedMembers
+pub mod CovectorMinors
+pub mod SetMinors

@@ -1,1 +1,2 @@
 pub mod Minors
+pub mod Dropped

@@ -1,0 +1,74 @@
+//! Deletion, contraction and reorientation of circuits.
+
+ghost use Rattle.std.specs.Prelude.{◌≡◌, ◌≤◌, ◌<◌, ◌+◌, ◌^◌, ◌↔◌, IfOk, IsErrOf, map};
+ghost use Rattle.std.specs.List.{Contains};
+ghost use Rattle.om_signs.specs.SignVec.{flip};
+ghost use Rattle.om_denotation.specs.Compositions.{IsOfLeastSupport};
+ghost use Rattle.om_denotation.specs.Covectors.{IsCovectorOfCircuits};
+ghost use Rattle.om_denotation.specs.Listings.{AreAllOf};
+ghost use Rattle.om_denotation.specs.Operations.{IsWithout, IsZeroWithout, IsDeletion, IsContraction, IsReorientation};
+
+use super::minor_error::MinorError;
+use super::signed_sets::{least_part, reoriented, zero_part};
+use om_circuits::Circuits;
+use std::alloc::Global;
+
+/// The circuits of the deletion of e, from 1 to n: the circuits that are 0 at e, without their
+/// sign there. The elements after e are moved down by one. The list takes its memory from `alloc`.
+///
+/// [`MinorError::LastElement`] comes exactly where n is 1, and [`MinorError::Memory`] only for want of memory.
+///
+/// Source: Björner, Las Vergnas, Sturmfels, White and Ziegler, *Oriented Matroids*, chapter 3.
+pub fn delete_circuits(alloc: Global, c: &Circuits, e: u8) -> Result<Circuits, MinorError>
+    requires low { 1 ≤ e }
+    requires high { e ≤ c.now.0.elements }
+    ensures last_element { IsErrOf result MinorError.LastElement ↔ (c.now.0.elements ≡ 1) }
+    ensures elements { IfOk result (λ d. d.0.elements + 1 ≡ c.now.0.elements) }
+    ensures members { IfOk result (λ d.
+        AreAllOf (IsZeroWithout c.now.0.elements e (Contains c.now.0.members)) d.0.members) }
+    ensures deletion { IfOk result (λ d.
+        IsDeletion c.now.0.elements e (IsCovectorOfCircuits c.now.0) (IsCovectorOfCircuits d.0)) }
+{
+    if c.0.elements() == 1 {
+        return Err(MinorError::LastElement);
+    }
+    Ok(Circuits(zero_part(alloc, &c.0, e)?))
+}
+
+/// The circuits of the contraction of e, from 1 to n: those of least support among the circuits
+/// without their sign at e that are not zero, each once. The elements after e are moved down by one. The list takes its
+/// memory from `alloc`.
+///
+/// [`MinorError::LastElement`] comes exactly where n is 1, and [`MinorError::Memory`] only for want of memory.
+///
+/// Source: Björner, Las Vergnas, Sturmfels, White and Ziegler, *Oriented Matroids*, chapter 3.
+pub fn contract_circuits(alloc: Global, c: &Circuits, e: u8) -> Result<Circuits, MinorError>
+    requires low { 1 ≤ e }
+    requires high { e ≤ c.now.0.elements }
+    ensures last_element { IsErrOf result MinorError.LastElement ↔ (c.now.0.elements ≡ 1) }
+    ensures elements { IfOk result (λ d. d.0.elements + 1 ≡ c.now.0.elements) }
+    ensures members { IfOk result (λ d.
+        AreAllOf (IsOfLeastSupport (IsWithout c.now.0.elements e (Contains c.now.0.members))) d.0.members) }
+    ensures contraction { IfOk result (λ d.
+        IsContraction c.now.0.elements e (IsCovectorOfCircuits c.now.0) (IsCovectorOfCircuits d.0)) }
+{
+    if c.0.elements() == 1 {
+        return Err(MinorError::LastElement);
+    }
+    Ok(Circuits(least_part(alloc, &c.0, e)?))
+}
+
+/// The circuits of the reorientation on the elements of a mask, whose bit e - 1 stands for e: the circuits with their
+/// signs at these elements negated, in their order. The mask names elements from 1 to n. It takes no memory.
+///
+/// Source: Björner, Las Vergnas, Sturmfels, White and Ziegler, *Oriented Matroids*, chapter 3.
+pub fn reorient_circuits(c: Circuits, mask: u32) -> Circuits
+    requires { mask < 2 ^ c.0.elements }
+    ensures elements { result.0.elements ≡ c.0.elements }
+    ensures members { result.0.members ≡ map (flip mask) c.0.members }
+    ensures reorientation { IsReorientation c.0.elements mask (IsCovectorOfCircuits c.0) (IsCovectorOfCircuits result.0) }
+{
+    // this call tells that the axioms hold
+    let _elements = c.0.elements();
+    Circuits(reoriented(c.0, mask))
+}

@@ -1,0 +1,55 @@
+//! Minors and reorientations of the members of a list of circuits or of cocircuits.
+
+ghost use Rattle.std.specs.Prelude.{◌≡◌, ◌≤◌, ◌<◌, ◌+◌, ◌^◌, IfOk, map};
+ghost use Rattle.std.specs.List.{Contains};
+ghost use Rattle.om_signs.specs.SignVec.{flip};
+ghost use Rattle.om_denotation.specs.Compositions.{IsOfLeastSupport};
+ghost use Rattle.om_denotation.specs.Listings.{AreAllOf};
+ghost use Rattle.om_denotation.specs.Operations.{IsWithout, IsZeroWithout};
+
+use super::dropping::{without_place, zero_without_place};
+use super::flipping::flipped;
+use super::least::least;
+use om_circuits::SignedSet;
+use om_signs::NoMemory;
+use std::alloc::Global;
+
+/// The members that are 0 at e, without their sign there: the circuits of the deletion, and the cocircuits of the
+/// contraction.
+pub fn zero_part(alloc: Global, set: &SignedSet, e: u8) -> Result<SignedSet, NoMemory>
+    requires low { 1 ≤ e }
+    requires high { e ≤ set.now.elements }
+    requires several { 2 ≤ set.now.elements }
+    ensures elements { IfOk result (λ d. d.elements + 1 ≡ set.now.elements) }
+    ensures members { IfOk result (λ d. AreAllOf (IsZeroWithout set.now.elements e (Contains set.now.members)) d.members) }
+{
+    let elements = set.elements();
+    let list = zero_without_place(alloc, set.members(), e)?;
+    Ok(SignedSet::lawful(elements - 1, list))
+}
+
+/// The members without their sign at e, each once, as far as they are not zero and of least support: the cocircuits of the
+/// deletion, and the circuits of the contraction.
+pub fn least_part(alloc: Global, set: &SignedSet, e: u8) -> Result<SignedSet, NoMemory>
+    requires low { 1 ≤ e }
+    requires high { e ≤ set.now.elements }
+    requires several { 2 ≤ set.now.elements }
+    ensures elements { IfOk result (λ d. d.elements + 1 ≡ set.now.elements) }
+    ensures members { IfOk result (λ d.
+        AreAllOf (IsOfLeastSupport (IsWithout set.now.elements e (Contains set.now.members))) d.members) }
+{
+    let elements = set.elements();
+    let without = without_place(alloc, set.members(), e)?;
+    let list = least(alloc, without.as_slice())?;
+    Ok(SignedSet::lawful(elements - 1, list))
+}
+
+/// The members with their signs at the elements of the mask negated, in their order.
+pub fn reoriented(set: SignedSet, mask: u32) -> SignedSet
+    requires { mask < 2 ^ set.elements }
+    ensures elements { result.elements ≡ set.elements }
+    ensures members { result.members ≡ map (flip mask) set.members }
+{
+    let elements = set.elements();
+    SignedSet::lawful(elements, flipped(set.into_list(), mask))
+}
