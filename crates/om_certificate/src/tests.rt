@@ -1,81 +1,122 @@
 //! Evidence on small chirotopes and on the non-Pappus chirotope, with answers worked out by hand.
 
-ghost use Rattle.std.specs.Prelude.{◌≤◌, IfOk};
+ghost use Rattle.std.specs.Prelude.{◌≡◌, IfOk};
 ghost use Rattle.om_certificate.specs.Validity.{AreEntriesWithinLimits, AreWeightsWithinLimits, IsWithinLimits};
 
 use super::{CertRefused, Entry, Evidence, LpEnd, Verdict, Weight, certificate, check};
-use om_chirotope::Chirotope;
 use om_grassmann::Statement;
-use om_signs::{
-    List, MAX_ELEMENTS, MAX_ENTRIES, MAX_MULTIPLICITY, MAX_WEIGHT, NoMemory, RawMap, Sign,
-};
-use om_subsets::Subset;
+use om_samples::{SampleError, chirotope_of};
+use om_signs::{List, MAX_ELEMENTS, MAX_ENTRIES, MAX_MULTIPLICITY, MAX_WEIGHT, NoMemory};
 use om_vectors::{Unfound, Vector, Word};
 use std::alloc::Global;
-use std::process::Abort;
+use std::test::Fail;
 use std::thread::Threads;
 
 /// The chirotope of nine points of which all triples but 789 are collinear as in Pappus's theorem.
-const NON_PAPPUS: &[u8] =
-    b"0++++++++++++--------0-0++++++++++----0---+0+++++---0+-0++++++++0------------------+";
+const NON_PAPPUS: &str =
+    "0++++++++++++--------0-0++++++++++----0---+0+++++---0+-0++++++++0------------------+";
 
 /// The chirotope of the Pappus configuration, in which 789 is collinear too.
-const PAPPUS: &[u8] =
-    b"0++++++++++++--------0-0++++++++++----0---+0+++++---0+-0++++++++0------------------0";
+const PAPPUS: &str =
+    "0++++++++++++--------0-0++++++++++----0---+0+++++---0+-0++++++++0------------------0";
 
-/// The sign of a byte; any other byte than `+` and `-` is zero.
-fn sign_of(byte: u8) -> Sign {
-    match byte {
-        b'+' => Sign::Plus,
-        b'-' => Sign::Minus,
-        _ => Sign::Zero,
+/// Vectors that realize it.
+const POINTS: [[i64; 3]; 9] = [
+    [1, 0, 0],
+    [1, 2, 0],
+    [1, 6, 0],
+    [1, 0, 2],
+    [1, 2, 2],
+    [1, 6, 2],
+    [1, 4, 1],
+    [1, 3, 1],
+    [1, 1, 1],
+];
+
+/// Three unit vectors and a fourth, with which they have the signs `++++`.
+const FOUR: [[i64; 3]; 4] = [[1, 0, 0], [0, 1, 0], [0, 0, 1], [1, -1, 1]];
+
+/// The same with a fourth with which the sign of 134 is minus.
+const OTHER_FOUR: [[i64; 3]; 4] = [[1, 0, 0], [0, 1, 0], [0, 0, 1], [1, 1, 1]];
+
+/// Nine statements: five elements and two numbers of terms each.
+const NINE: [[u8; 7]; 9] = [
+    [1, 2, 3, 4, 7, 3, 2],
+    [1, 4, 5, 7, 9, 3, 1],
+    [1, 4, 6, 7, 8, 1, 3],
+    [4, 1, 5, 6, 7, 1, 2],
+    [4, 1, 2, 7, 9, 1, 3],
+    [4, 1, 3, 7, 8, 3, 1],
+    [7, 1, 4, 8, 9, 3, 2],
+    [7, 1, 2, 4, 6, 3, 1],
+    [7, 1, 3, 4, 5, 1, 3],
+];
+
+/// The ten triples of five elements, and whether they are on the inner side of the statements.
+const TEN: [([u8; 3], bool); 10] = [
+    ([1, 2, 3], false),
+    ([1, 2, 4], true),
+    ([1, 2, 5], false),
+    ([1, 3, 4], true),
+    ([1, 3, 5], true),
+    ([1, 4, 5], false),
+    ([2, 3, 4], false),
+    ([2, 3, 5], true),
+    ([2, 4, 5], true),
+    ([3, 4, 5], false),
+];
+
+/// An answer of the check: its name, and its numbers with zeros behind them. Sets are masks.
+type Told = (&'static str, u128, u128, u128);
+
+/// What a refusal tells. Of a statement the numbers are its elements as digits and its two terms.
+fn told(why: &CertRefused) -> Told {
+    match why {
+        CertRefused::NotRank3 { r } => ("rank", *r as u128, 0, 0),
+        CertRefused::Number { wanted, given } => ("number", *wanted as u128, *given as u128, 0),
+        CertRefused::WrongSign { triple } => ("sign", triple.mask() as u128, 0, 0),
+        CertRefused::Unlawful { entry } => ("unlawful", *entry as u128, 0, 0),
+        CertRefused::Unbalanced {
+            bracket,
+            small,
+            big,
+        } => ("unbalanced", bracket.mask() as u128, *small, *big),
+        CertRefused::NoStrict => ("no strict", 0, 0, 0),
+        CertRefused::Bracket { entry } => ("bracket", *entry as u128, 0, 0),
+        CertRefused::WeightFails { statement } => (
+            "fails",
+            digits_of(*statement),
+            statement.small as u128,
+            statement.big as u128,
+        ),
     }
 }
 
-/// The chirotope with these signs.
-fn chirotope_of<R: Threads + Sync + Abort>(
+/// The elements of a statement as digits.
+fn digits_of(st: Statement) -> u128 {
+    let (a, b, c) = (st.a as u128, st.b as u128, st.c as u128);
+    let (d, e) = (st.d as u128, st.e as u128);
+    a * 10_000 + b * 1_000 + c * 100 + d * 10 + e
+}
+
+/// Whether the check tells this of evidence, on the chirotope with these signs.
+fn tells<R: Threads + Sync>(
     rt: &R,
     alloc: Global,
     rank: u8,
     elements: u8,
-    bytes: &[u8],
-) -> Result<Chirotope, NoMemory>
-    requires low { 1 ≤ elements }
-    requires high { elements ≤ MAX_ELEMENTS }
-    requires rank { rank ≤ elements }
-{
-    let mut signs = List::new(alloc);
-    for byte in bytes {
-        signs.push(sign_of(*byte))?;
-    }
-    assert_eq!(rt; signs.len(), Subset::choose(elements, rank) as usize);
-    let raw = RawMap {
-        rank,
-        elements,
-        signs,
-    };
-    match om_chirotope::check(rt, raw) {
-        Ok(chi) => Ok(chi),
-        Err(bad) => panic!(rt; "refused for {:?}", bad.why),
-    }
-}
-
-/// What the check says of evidence on the chirotope with these signs.
-fn answer<R: Threads + Sync + Abort>(
-    rt: &R,
-    alloc: Global,
-    rank: u8,
-    elements: u8,
-    bytes: &[u8],
+    signs: &str,
     evidence: &Evidence,
-) -> Result<Result<(), CertRefused>, NoMemory>
-    requires low { 1 ≤ elements }
-    requires high { elements ≤ MAX_ELEMENTS }
-    requires rank { rank ≤ elements }
-    requires limits { IsWithinLimits evidence.now }
+    wanted: Told,
+) -> Result<bool, SampleError>
+    requires { IsWithinLimits evidence.now }
 {
-    let chi = chirotope_of(rt, alloc, rank, elements, bytes)?;
-    Ok(check(&chi, evidence))
+    let chi = chirotope_of(rt, alloc, rank, elements, signs)?;
+    let found = match check(&chi, evidence) {
+        Ok(()) => ("valid", 0, 0, 0),
+        Err(why) => told(&why),
+    };
+    Ok(found.0 == wanted.0 && found.1 == wanted.1 && found.2 == wanted.2 && found.3 == wanted.3)
 }
 
 /// The vectors with these coordinates.
@@ -91,64 +132,31 @@ fn word_of(rows: &[[i64; 3]]) -> Word {
     word
 }
 
-/// Three unit vectors and a fourth with the signs `++++` where its last two coordinates are -1 and 1.
-fn four_vectors(y: i64) -> Evidence
+/// Vectors as evidence.
+fn vectors(rows: &[[i64; 3]]) -> Evidence
     ensures { IsWithinLimits result }
 {
-    Evidence::Vectors(word_of(&[[1, 0, 0], [0, 1, 0], [0, 0, 1], [1, y, 1]]))
+    Evidence::Vectors(word_of(rows))
 }
 
 #[test]
-fn vectors(rt: HostRuntime) -> Result<(), NoMemory> {
+fn evidence_of_vectors(rt: HostRuntime) -> Result<(), Fail> {
     let alloc = rt.alloc();
-    assert_eq!(rt;
-        answer(&rt, alloc, 3, 4, b"++++", &four_vectors(-1))?,
-        Ok(())
-    );
-    let triple = Subset::from_mask(0b1101, 4);
-    assert_eq!(rt;
-        answer(&rt, alloc, 3, 4, b"++++", &four_vectors(1))?,
-        Err(CertRefused::WrongSign { triple })
-    );
+    let four = vectors(&FOUR);
+    assert!(rt; tells(&rt, alloc, 3, 4, "++++", &four, ("valid", 0, 0, 0))?);
+    assert!(rt; tells(&rt, alloc, 3, 5, "++++++++++", &four, ("number", 5, 4, 0))?);
+    assert!(rt; tells(&rt, alloc, 2, 4, "++++++", &four, ("rank", 2, 0, 0))?);
+    let other = vectors(&OTHER_FOUR);
+    assert!(rt; tells(&rt, alloc, 3, 4, "++++", &other, ("sign", 0b1101, 0, 0))?);
+    let nine = vectors(&POINTS);
+    assert!(rt; tells(&rt, alloc, 3, 9, PAPPUS, &nine, ("valid", 0, 0, 0))?);
     Ok(())
 }
 
-#[test]
-fn number_of_vectors(rt: HostRuntime) -> Result<(), NoMemory> {
-    assert_eq!(rt;
-        answer(&rt, rt.alloc(), 3, 5, b"++++++++++", &four_vectors(-1))?,
-        Err(CertRefused::Number {
-            wanted: 5,
-            given: 4
-        })
-    );
-    Ok(())
-}
-
-#[test]
-fn rank_2(rt: HostRuntime) -> Result<(), NoMemory> {
-    assert_eq!(rt;
-        answer(&rt, rt.alloc(), 2, 4, b"++++++", &four_vectors(-1))?,
-        Err(CertRefused::NotRank3 { r: 2 })
-    );
-    Ok(())
-}
-
-/// The list of some entries; those beyond the limits are left out.
-fn entries_of(alloc: Global, rows: &[Entry]) -> Result<List<Entry>, NoMemory>
-    ensures { IfOk result AreEntriesWithinLimits }
+/// A statement with its multiplicity.
+fn entry(numbers: [u8; 7], strict: bool, times: u64) -> Entry
+    ensures { result.times ≡ times }
 {
-    let mut list = List::new(alloc);
-    for row in rows {
-        if list.len() < MAX_ENTRIES && 1 <= row.times && row.times <= MAX_MULTIPLICITY {
-            list.push(*row)?;
-        }
-    }
-    Ok(list)
-}
-
-/// A statement, written as in a document, with its multiplicity.
-fn entry(numbers: [u8; 7], strict: bool, times: u64) -> Entry {
     let [a, b, c, d, e, small, big] = numbers;
     Entry {
         statement: Statement {
@@ -165,224 +173,161 @@ fn entry(numbers: [u8; 7], strict: bool, times: u64) -> Entry {
     }
 }
 
-/// The nine statements against non-Pappus, with the kind of the seventh, and the multiplicities of the first and the seventh.
-fn nine_entries(alloc: Global, strict: bool, first: u64, seventh: u64) -> Result<Evidence, NoMemory>
-    ensures { IfOk result IsWithinLimits }
-{
-    let rows = [
-        entry([1, 2, 3, 4, 7, 3, 2], false, first),
-        entry([1, 4, 5, 7, 9, 3, 1], false, 1),
-        entry([1, 4, 6, 7, 8, 1, 3], false, 1),
-        entry([4, 1, 5, 6, 7, 1, 2], false, 1),
-        entry([4, 1, 2, 7, 9, 1, 3], false, 1),
-        entry([4, 1, 3, 7, 8, 3, 1], false, 1),
-        entry([7, 1, 4, 8, 9, 3, 2], strict, seventh),
-        entry([7, 1, 2, 4, 6, 3, 1], false, 1),
-        entry([7, 1, 3, 4, 5, 1, 3], false, 1),
-    ];
-    Ok(Evidence::Balanced(entries_of(alloc, &rows)?))
-}
-
-#[test]
-fn non_pappus(rt: HostRuntime) -> Result<(), NoMemory> {
-    let evidence = nine_entries(rt.alloc(), true, 1, 1)?;
-    assert_eq!(rt;
-        answer(&rt, rt.alloc(), 3, 9, NON_PAPPUS, &evidence)?,
-        Ok(())
-    );
-    Ok(())
-}
-
-/// A list of entries that is unbalanced on non-Pappus.
-fn assert_unbalanced<R: Threads + Sync + Abort>(
-    rt: &R,
+/// The nine statements, with the kind of the seventh, and the multiplicities of the first and the seventh. Those with
+/// multiplicities beyond the limits are left out.
+fn nine_entries(
     alloc: Global,
+    strict: bool,
     first: u64,
     seventh: u64,
-    bracket: Subset,
-    big: u128,
-) -> Result<(), NoMemory> {
-    let evidence = nine_entries(alloc, true, first, seventh)?;
-    assert_eq!(rt;
-        answer(rt, alloc, 3, 9, NON_PAPPUS, &evidence)?,
-        Err(CertRefused::Unbalanced {
-            bracket,
-            small: 1,
-            big,
-        })
-    );
-    Ok(())
-}
-
-#[test]
-fn unbalanced(rt: HostRuntime) -> Result<(), NoMemory> {
-    let bracket_178 = Subset::from_mask(0b011000001, 9);
-    assert_unbalanced(&rt, rt.alloc(), 1, 2, bracket_178, 2)?;
-    let bracket_124 = Subset::from_mask(0b000001011, 9);
-    assert_unbalanced(
-        &rt,
-        rt.alloc(),
-        MAX_MULTIPLICITY,
-        1,
-        bracket_124,
-        MAX_MULTIPLICITY as u128,
-    )
-}
-
-#[test]
-fn unlawful(rt: HostRuntime) -> Result<(), NoMemory> {
-    let equations = nine_entries(rt.alloc(), false, 1, 1)?;
-    assert_eq!(rt;
-        answer(&rt, rt.alloc(), 3, 9, NON_PAPPUS, &equations)?,
-        Err(CertRefused::Unlawful { entry: 7 })
-    );
-    Ok(())
-}
-
-#[test]
-fn no_strict(rt: HostRuntime) -> Result<(), NoMemory> {
-    let equations = nine_entries(rt.alloc(), false, 1, 1)?;
-    assert_eq!(rt;
-        answer(&rt, rt.alloc(), 3, 9, PAPPUS, &equations)?,
-        Err(CertRefused::NoStrict)
-    );
-    Ok(())
-}
-
-/// The list of some weights; those beyond the limits are left out.
-fn weights_of(alloc: Global, rows: &[Weight]) -> Result<List<Weight>, NoMemory>
-    ensures { IfOk result AreWeightsWithinLimits }
+) -> Result<List<Entry>, NoMemory>
+    ensures { IfOk result AreEntriesWithinLimits }
 {
     let mut list = List::new(alloc);
-    for row in rows {
-        if list.len() < MAX_ENTRIES && row.value.unsigned_abs() <= MAX_WEIGHT.unsigned_abs() {
-            list.push(*row)?;
+    for (i, numbers) in NINE.iter().enumerate() {
+        let times = match i {
+            0 => first,
+            6 => seventh,
+            _ => 1,
+        };
+        if list.len() < MAX_ENTRIES && 1 <= times && times <= MAX_MULTIPLICITY {
+            list.push(entry(*numbers, strict && i == 6, times))?;
         }
     }
     Ok(list)
 }
 
-/// A weight of the bracket of three elements.
-fn weight(bracket: [u8; 3], value: i128) -> Weight {
-    let [a, b, c] = bracket;
-    Weight { a, b, c, value }
+/// Whether the check tells this of the nine statements, on nine points.
+fn tells_of_entries<R: Threads + Sync>(
+    rt: &R,
+    alloc: Global,
+    signs: &str,
+    strict: bool,
+    first: u64,
+    seventh: u64,
+    wanted: Told,
+) -> Result<bool, SampleError> {
+    let entries = nine_entries(alloc, strict, first, seventh)?;
+    tells(rt, alloc, 3, 9, signs, &Evidence::Balanced(entries), wanted)
 }
 
-/// Weights for the uniform chirotope of rank 3 on five elements: one value on 123, 125, 145, 234 and 345, one on 124, 134, 235
-/// and 245, and one on the bracket that stands for 135.
+// 178 is the mask 0b011000001, and 124 the mask 0b1011
+#[test]
+fn evidence_of_entries(rt: HostRuntime) -> Result<(), Fail> {
+    let most = MAX_MULTIPLICITY;
+    for (signs, strict, first, seventh, wanted) in [
+        (NON_PAPPUS, true, 1, 1, ("valid", 0, 0, 0)),
+        (NON_PAPPUS, true, 1, 2, ("unbalanced", 0b011000001, 1, 2)),
+        (
+            NON_PAPPUS,
+            true,
+            most,
+            1,
+            ("unbalanced", 0b1011, 1, most as u128),
+        ),
+        (NON_PAPPUS, false, 1, 1, ("unlawful", 7, 0, 0)),
+        (PAPPUS, false, 1, 1, ("no strict", 0, 0, 0)),
+    ] {
+        assert!(rt; tells_of_entries(&rt, rt.alloc(), signs, strict, first, seventh, wanted)?);
+    }
+    Ok(())
+}
+
+/// The ten weights, with one value outside and one inside, and with 153 in the place of 135 where it is `turned`. Those
+/// beyond the limits are left out.
 fn ten_weights(
     alloc: Global,
     outer: i128,
     inner: i128,
-    middle: [u8; 3],
-) -> Result<Evidence, NoMemory>
-    ensures { IfOk result IsWithinLimits }
+    turned: bool,
+) -> Result<List<Weight>, NoMemory>
+    ensures { IfOk result AreWeightsWithinLimits }
 {
-    let rows = [
-        weight([1, 2, 3], outer),
-        weight([1, 2, 4], inner),
-        weight([1, 2, 5], outer),
-        weight([1, 3, 4], inner),
-        weight(middle, inner),
-        weight([1, 4, 5], outer),
-        weight([2, 3, 4], outer),
-        weight([2, 3, 5], inner),
-        weight([2, 4, 5], inner),
-        weight([3, 4, 5], outer),
-    ];
-    Ok(Evidence::Weights(weights_of(alloc, &rows)?))
+    let mut list = List::new(alloc);
+    for (i, (triple, is_inner)) in TEN.iter().enumerate() {
+        let [a, b, c] = *triple;
+        let value = if *is_inner { inner } else { outer };
+        let (b, c) = if turned && i == 4 { (c, b) } else { (b, c) };
+        if list.len() < MAX_ENTRIES && value.unsigned_abs() <= MAX_WEIGHT.unsigned_abs() {
+            list.push(Weight { a, b, c, value })?;
+        }
+    }
+    Ok(list)
+}
+
+/// Whether the check tells this of the ten weights.
+fn tells_of_weights<R: Threads + Sync>(
+    rt: &R,
+    alloc: Global,
+    elements: u8,
+    signs: &str,
+    outer: i128,
+    turned: bool,
+    wanted: Told,
+) -> Result<bool, SampleError> {
+    let weights = ten_weights(alloc, outer, 1, turned)?;
+    tells(
+        rt,
+        alloc,
+        3,
+        elements,
+        signs,
+        &Evidence::Weights(weights),
+        wanted,
+    )
 }
 
 #[test]
-fn weights(rt: HostRuntime) -> Result<(), NoMemory> {
-    let evidence = ten_weights(rt.alloc(), 0, 1, [1, 3, 5])?;
-    assert_eq!(rt;
-        answer(&rt, rt.alloc(), 3, 5, b"++++++++++", &evidence)?,
-        Ok(())
-    );
+fn evidence_of_weights(rt: HostRuntime) -> Result<(), Fail> {
+    for (elements, signs, outer, turned, wanted) in [
+        (5, "++++++++++", 0, false, ("valid", 0, 0, 0)),
+        (5, "++++++++++", 1, false, ("fails", 12345, 1, 2)),
+        (5, "++++++++++", 0, true, ("bracket", 5, 0, 0)),
+        (4, "++0+", 0, false, ("number", 3, 10, 0)),
+    ] {
+        assert!(rt; tells_of_weights(&rt, rt.alloc(), elements, signs, outer, turned, wanted)?);
+    }
     Ok(())
 }
 
-#[test]
-fn equal_weights(rt: HostRuntime) -> Result<(), NoMemory> {
-    let evidence = ten_weights(rt.alloc(), 1, 1, [1, 3, 5])?;
-    let statement = entry([1, 2, 3, 4, 5, 1, 2], true, 1).statement;
-    assert_eq!(rt;
-        answer(&rt, rt.alloc(), 3, 5, b"++++++++++", &evidence)?,
-        Err(CertRefused::WeightFails { statement })
-    );
-    Ok(())
-}
-
-#[test]
-fn other_bracket(rt: HostRuntime) -> Result<(), NoMemory> {
-    let evidence = ten_weights(rt.alloc(), 0, 1, [1, 5, 3])?;
-    assert_eq!(rt;
-        answer(&rt, rt.alloc(), 3, 5, b"++++++++++", &evidence)?,
-        Err(CertRefused::Bracket { entry: 5 })
-    );
-    Ok(())
-}
-
-#[test]
-fn number_of_weights(rt: HostRuntime) -> Result<(), NoMemory> {
-    let evidence = ten_weights(rt.alloc(), 0, 1, [1, 3, 5])?;
-    assert_eq!(rt;
-        answer(&rt, rt.alloc(), 3, 4, b"++0+", &evidence)?,
-        Err(CertRefused::Number {
-            wanted: 3,
-            given: 10
-        })
-    );
-    Ok(())
-}
-
-/// The number of vectors, where the evidence is vectors.
-fn vectors_in(evidence: &Evidence) -> Option<u8> {
+/// The kind of evidence, and how much there is of it.
+fn amount(evidence: &Evidence) -> (u8, usize) {
     match evidence {
-        Evidence::Vectors(word) => Some(word.len()),
-        _ => None,
+        Evidence::Vectors(word) => (1, word.len() as usize),
+        Evidence::Balanced(entries) => (2, entries.len()),
+        Evidence::Weights(weights) => (3, weights.len()),
+    }
+}
+
+/// The kind 4 and the number of pivots of a verdict that ended at their limit.
+fn pivots(verdict: &Verdict) -> (u8, usize) {
+    match verdict {
+        Verdict::Limit(LpEnd::Pivots { count, .. }, _) => (4, *count as usize),
+        _ => (5, 0),
+    }
+}
+
+/// The kind of what a verdict hands on, and how much there is of it.
+fn handed_on(verdict: Verdict) -> (u8, usize) {
+    match certificate(verdict) {
+        Ok(evidence) => amount(&evidence),
+        Err(verdict) => pivots(&verdict),
     }
 }
 
 #[test]
-fn vectors_of_a_verdict(rt: HostRuntime) {
-    let word = word_of(&[[1, 0, 0], [0, 1, 0]]);
-    match certificate(Verdict::Realizable(word)) {
-        Ok(evidence) => assert_eq!(rt; vectors_in(&evidence), Some(2)),
-        Err(_) => panic!(rt; "no evidence"),
-    }
-}
-
-#[test]
-fn entries_of_a_verdict(rt: HostRuntime) -> Result<(), NoMemory> {
-    let entries = entries_of(rt.alloc(), &[entry([1, 2, 3, 4, 5, 1, 2], true, 7)])?;
-    match certificate(Verdict::Nonrealizable(entries)) {
-        Ok(Evidence::Balanced(found)) => assert_eq!(rt; found.len(), 1),
-        _ => panic!(rt; "not entries"),
-    }
-    Ok(())
-}
-
-#[test]
-fn weights_of_a_verdict(rt: HostRuntime) -> Result<(), NoMemory> {
-    let weights = weights_of(rt.alloc(), &[weight([1, 2, 3], 7)])?;
-    match certificate(Verdict::Undecided(weights, Unfound::Exhausted)) {
-        Ok(Evidence::Weights(found)) => assert_eq!(rt; found.len(), 1),
-        _ => panic!(rt; "not weights"),
-    }
-    Ok(())
-}
-
-#[test]
-fn limit_has_no_certificate(rt: HostRuntime) -> Result<(), NoMemory> {
+fn evidence_of_verdicts(rt: HostRuntime) -> Result<(), Fail> {
+    let alloc = rt.alloc();
+    let vectors = Verdict::Realizable(word_of(&FOUR));
+    assert_eq!(rt; handed_on(vectors), (1, 4));
+    let entries = Verdict::Nonrealizable(nine_entries(alloc, true, 1, 7)?);
+    assert_eq!(rt; handed_on(entries), (2, 9));
+    let weights = Verdict::Undecided(ten_weights(alloc, 0, 1, false)?, Unfound::Exhausted);
+    assert_eq!(rt; handed_on(weights), (3, 10));
     let end = LpEnd::Pivots {
         count: 1,
-        basis: List::new(rt.alloc()),
+        basis: List::new(alloc),
     };
-    match certificate(Verdict::Limit(end, Unfound::Exhausted)) {
-        Err(Verdict::Limit(LpEnd::Pivots { count, .. }, _)) => assert_eq!(rt; count, 1),
-        _ => panic!(rt; "not the limit"),
-    }
+    assert_eq!(rt; handed_on(Verdict::Limit(end, Unfound::Exhausted)), (4, 1));
     Ok(())
 }

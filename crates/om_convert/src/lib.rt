@@ -21,9 +21,12 @@ mod vectors;
 pub use chirotopes::{chirotope_to_circuits, chirotope_to_cocircuits, chirotope_to_covectors};
 pub use convert_error::ConvertError;
 pub use covectors::covectors_to_cocircuits;
-pub use lists::{circuits_to_cocircuits, circuits_to_covectors, cocircuits_to_circuits, cocircuits_to_covectors, covectors_to_chirotope, covectors_to_circuits};
-pub use om_propagation::{circuits_to_chirotope, cocircuits_to_chirotope};
 pub use laws::{
     axioms_of_functions, cocircuits_of_covectors, conformal_decomposition,
     covectors_of_minimal_members,
 };
+pub use lists::{
+    circuits_to_cocircuits, circuits_to_covectors, cocircuits_to_circuits, cocircuits_to_covectors,
+    covectors_to_chirotope, covectors_to_circuits,
+};
+pub use om_propagation::{circuits_to_chirotope, cocircuits_to_chirotope};

@@ -54,7 +54,7 @@ module _ (members : List (List Sign)) (axioms : MeetsCircuitAxioms members) wher
       → (i : ℕ) → at X i ≡ Plus → at Y i ≡ Minus → IsEliminated X Y (suc i)
   in_order X Y x y apart i p q =
       let z = axioms.elimination X Y x y (λ r. apart (λ g. ap (λ Z. as_function Z g) r ∙ as_function-negated Y g)) (suc i) (omega arith)
-          (record { plus = at_place X i ∙ p; minus = at_place Y i ∙ q }) in
+      (record { plus = at_place X i ∙ p; minus = at_place Y i ∙ q }) in
       (as_function z.0, function_listed members z.0 z.1, sym (at_place z.0 i) ∙ z.2.zero, from_either X Y z.0 (suc i) z.2)
 
   eliminate : (X Y : List Sign) → Contains members X → Contains members Y → (((g : ℕ) → as_function X g ≡ opposite (as_function Y g)) → ⊥)
@@ -83,6 +83,6 @@ module _ (members : List (List Sign)) (axioms : MeetsCircuitAxioms members) wher
     incomparable = same_up_to_sign;
     elimination = λ f g h k apart e s. let u = unlisted members f h in let v = unlisted members g k in
         let z = eliminate u.0 v.0 u.1 v.1 (λ q. apart (λ d. u.2 d ∙ q d ∙ ap opposite (sym (v.2 d)))) e
-            (subst IsNonzero (u.2 e) s.0, sym (u.2 e) ∙ s.1 ∙ ap opposite (v.2 e)) in
+        (subst IsNonzero (u.2 e) s.0, sym (u.2 e) ∙ s.1 ∙ ap opposite (v.2 e)) in
         (z.0, z.1, z.2, λ d n. ⊎_elim (λ q. inl (q ∙ sym (u.2 d))) (λ q. inr (q ∙ sym (v.2 d))) (z.3 d n));
   }

@@ -124,8 +124,7 @@ module _ (c : Listing) (lengths : HaveLength c.elements c.members) where
     of_cocircuits =
         let m = made c.elements chi om in
         let all : AreAllOf (IsCocircuitOfChirotope m) c.members = all_of c.elements c.members lengths (IsCocircuitOfChirotope m) (IsCocircuit chi) (cocircuit_length m) (cocircuit_both c.elements chi om) member_both in
-        let parts = parts_both m (made_axioms c.elements chi om) in
-        (
+        let parts = parts_both m (made_axioms c.elements chi om) in (
           m,
           record {
             axioms = made_axioms c.elements chi om;
@@ -151,8 +150,7 @@ module _ (c : Listing) (lengths : HaveLength c.elements c.members) where
     of_circuits =
         let m = made c.elements (dual_map E chi) dual_om in
         let all : AreAllOf (IsCircuitOfChirotope m) c.members = all_of c.elements c.members lengths (IsCircuitOfChirotope m) (IsCircuit E (dual_map E chi)) (circuit_length m) (circuit_both c.elements (dual_map E chi) dual_om) circuit_member_both in
-        let each = orthogonal_both m (made_axioms c.elements (dual_map E chi) dual_om) in
-        (
+        let each = orthogonal_both m (made_axioms c.elements (dual_map E chi) dual_om) in (
           m,
           record {
             axioms = made_axioms c.elements (dual_map E chi) dual_om;
@@ -181,8 +179,7 @@ module _ (c : Listing) (lengths : HaveLength c.elements c.members) where
     pub of_covectors : (m : SignMap) × HasCovectors c m
     of_covectors =
         let m = made c.elements psi psi_om in
-        let all : AreAllOf (IsCovectorOfChirotope m) c.members = all_of c.elements c.members lengths (IsCovectorOfChirotope m) (IsCovector E psi) (λ X x. x.size) (covector_both c.elements psi psi_om) covector_member_both in
-        (
+        let all : AreAllOf (IsCovectorOfChirotope m) c.members = all_of c.elements c.members lengths (IsCovectorOfChirotope m) (IsCovector E psi) (λ X x. x.size) (covector_both c.elements psi psi_om) covector_member_both in (
           m,
           record {
             axioms = made_axioms c.elements psi psi_om;

@@ -11,6 +11,6 @@ mod lists;
 #[cfg(test)]
 mod tests;
 
-pub use lists::{dual_circuits, dual_cocircuits, dual_covectors};
 pub use laws::{dual_of_the_dual, normal_forms};
+pub use lists::{dual_circuits, dual_cocircuits, dual_covectors};
 pub use om_denotation::{SignRule, dual, normal_by};

@@ -17,6 +17,27 @@ use std::thread::Threads;
 const PAPPUS: &str =
     "0++++++++++++--------0-0++++++++++----0---+0+++++---0+-0++++++++0------------------0";
 
+/// In the Pappus configuration each element is parallel to itself alone.
+const PAPPUS_PAIRS: [(u8, u8, bool); 17] = [
+    (1, 1, true),
+    (2, 2, true),
+    (3, 3, true),
+    (4, 4, true),
+    (5, 5, true),
+    (6, 6, true),
+    (7, 7, true),
+    (8, 8, true),
+    (9, 9, true),
+    (1, 9, false),
+    (2, 9, false),
+    (3, 9, false),
+    (4, 9, false),
+    (5, 9, false),
+    (6, 9, false),
+    (7, 9, false),
+    (8, 9, false),
+];
+
 /// What is known of the matroid of a chirotope. Sets are masks.
 #[derive(Clone, Copy)]
 struct Row<'a> {
@@ -244,19 +265,7 @@ fn pappus(rt: HostRuntime) -> Result<(), Fail> {
         loops: 0,
         coloops: 0,
         first: 0b1011,
-        pairs: &[
-            (1, 1, true),
-            (5, 5, true),
-            (9, 9, true),
-            (1, 9, false),
-            (2, 9, false),
-            (3, 9, false),
-            (4, 9, false),
-            (5, 9, false),
-            (6, 9, false),
-            (7, 9, false),
-            (8, 9, false),
-        ],
+        pairs: &PAPPUS_PAIRS,
         ranks: &[
             (0b111, 2),
             (0b1011, 3),

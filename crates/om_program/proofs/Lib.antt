@@ -2,11 +2,15 @@ mod AboveLaws
 mod ArgumentLaws
 mod ClaimLaws
 mod ConversionLaws
+mod FitLaws
+mod ListingLaws
 mod MeaningLaws
 mod Numerals
 mod OperationLaws
+mod OptionLaws
 mod PointLaws
 mod ReplyLaws
 mod SignWords
+mod TripleLaws
 mod VerbLaws
 mod WordLaws

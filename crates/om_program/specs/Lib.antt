@@ -1,5 +1,9 @@
 pub mod Words
 pub mod Samples
+pub mod Readings
+pub mod Options
+pub mod Triples
+pub mod Listings
 pub mod Statuses
 pub mod Answers
 pub mod Points

@@ -8,13 +8,18 @@ mod arguments;
 mod chirotope_choice;
 #[cfg(test)]
 mod claim_tests;
+mod colouring;
 mod command;
 mod conversion;
 mod documents;
+mod leading;
+mod limits;
 #[cfg(test)]
 mod map_tests;
 mod membership;
+mod numbered;
 mod operation;
+mod options;
 #[cfg(test)]
 mod point_tests;
 mod point_vectors;
@@ -22,16 +27,20 @@ mod print_answer;
 mod reads;
 mod representation;
 mod run;
+mod setting;
 mod spelling;
 mod status;
 mod task;
 #[cfg(test)]
 mod tests;
+mod triple;
 mod unrepresented;
 mod usage;
 mod verb;
 mod verification;
 mod wiring_maps;
+#[cfg(test)]
+mod word_tests;
 mod write_usage;
 mod written;
 

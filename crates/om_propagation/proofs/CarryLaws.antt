@@ -220,9 +220,9 @@ module _ (n : ℕ) (members : List (List Sign)) (m : SignMap) (h : IsNormalOf n 
             let behind : IsNonzero (chi (rest ++ g ∷ [])) = (λ z. k (place_function Y g low ∙ same_zero (as_function Y) (along chi rest) same g z)) in
             let other : IsNonzero (chi_of m (with_element g rest)) = right_factor_nonzero (parity_sign (count_above g rest)) (chi_of m (with_element g rest)) (subst IsNonzero (value_behind g low high fresh) behind) in
             let products : product (place Y e) (place Y g) ≡ product (chi (rest ++ e ∷ [])) (chi (rest ++ g ∷ [])) =
-                ap (λ x. product x (place Y g)) (place_function Y e bounds.0)
-                ∙ ap (product (as_function Y e)) (place_function Y g low)
-                ∙ same_products (as_function Y) (along chi rest) same e g in
+            ap (λ x. product x (place Y g)) (place_function Y e bounds.0)
+            ∙ ap (product (as_function Y e)) (place_function Y g low)
+            ∙ same_products (as_function Y) (along chi rest) same e g in
             carry (parity_sign (count_above e rest)) (parity_sign (count_above g rest)) (chi_of m (with_element g rest)) (chi_of m t) (place Y e) (place Y g)
             (parity_nonzero (count_above e rest)) (parity_nonzero (count_above g rest)) other
             (products ∙ ap (λ x. product x (chi (rest ++ g ∷ []))) own_value ∙ ap (product (product (parity_sign (count_above e rest)) (chi_of m t))) (value_behind g low high fresh))

@@ -142,6 +142,6 @@ module _ (E : List ℕ) (chi : List ℕ → Sign) (om : IsChirotope E chi) where
     sharp_base d sharp =
         let k = base_within in
         same_as_base k.0 k.1 d k.2 (λ g m. ⊎_elim
-            (λ j. j)
-            (λ out. let y = sharp g m in let h = base_hits k.0 k.1 y.0 y.1 in absurd (h.2 (y.2 h.0 (k.2 h.0 h.1) (λ q. out (subst (λ i. IsMember i k.0) q h.1)))))
-            (member_or_not g k.0))
+        (λ j. j)
+        (λ out. let y = sharp g m in let h = base_hits k.0 k.1 y.0 y.1 in absurd (h.2 (y.2 h.0 (k.2 h.0 h.1) (λ q. out (subst (λ i. IsMember i k.0) q h.1)))))
+        (member_or_not g k.0))

@@ -14,7 +14,7 @@ place_of n i j e h k t a b q w p v r = r ∙ ap (rank_of j) (v ∙ ap (with_elem
 pub bounds-before-rank : goal.bounds-before-rank
 bounds-before-rank c =
     let q = place_of c.args.t.n c.without-a.result.n c.with-other.result.n c.args.e c.in-Some-first_below.h c.rank.result c.args.t.elements c.without-a.result.elements c.with-other.result.elements
-        c.without-a.ensures.n c.without-a.ensures.elements c.with-other.ensures.n c.with-other.ensures.elements c.rank.ensures.value in
+    c.without-a.ensures.n c.without-a.ensures.elements c.with-other.ensures.n c.with-other.ensures.elements c.rank.ensures.value in
     let missed = subst (λ a. IsMet a c.in-Some.y → ⊥) c.without-a.ensures.elements c.in-Some.ensures.missed in
     subst (λ k. k < length c.args.before.now) (sym q) (subst (λ k. rank_of c.args.t.n (with_element c.in-Some-first_below.h (without_element c.args.e c.args.t.elements)) < k) c.requires.place
     (earlier_place c.args.t.n c.args.t.elements c.args.e c.in-Some-first_below.h c.requires.lawful (c.has.ensures.0 c.if-not-has.false) c.in-Some-first_below.ensures.low c.in-Some-first_below.ensures.high
@@ -26,7 +26,7 @@ returns-in-None-clause-none c = λ m. inl (subst (MeetsEach c.args.vectors.now) 
 pub returns-in-Some-first_below-clause-some : goal.returns-in-Some-first_below-clause-some
 returns-in-Some-first_below-clause-some c =
     let q = place_of c.args.t.n c.without-a.result.n c.with-other.result.n c.args.e c.in-Some-first_below.h c.rank.result c.args.t.elements c.without-a.result.elements c.with-other.result.elements
-        c.without-a.ensures.n c.without-a.ensures.elements c.with-other.ensures.n c.with-other.ensures.elements c.rank.ensures.value in
+    c.without-a.ensures.n c.without-a.ensures.elements c.with-other.ensures.n c.with-other.ensures.elements c.rank.ensures.value in
     let missed = subst (λ a. IsMet a c.in-Some.y → ⊥) c.without-a.ensures.elements c.in-Some.ensures.missed in
     let few : c.rank.result < length c.args.before.now = subst (λ k. k < length c.args.before.now) (sym q) (subst (λ k. rank_of c.args.t.n (with_element c.in-Some-first_below.h (without_element c.args.e c.args.t.elements)) < k) c.requires.place
     (earlier_place c.args.t.n c.args.t.elements c.args.e c.in-Some-first_below.h c.requires.lawful (c.has.ensures.0 c.if-not-has.false) c.in-Some-first_below.ensures.low c.in-Some-first_below.ensures.high
