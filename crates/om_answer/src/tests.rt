@@ -2,8 +2,11 @@
 
 ghost use Rattle.std.specs.Prelude.{◌<◌};
 
+use super::pieces::{push, push_decimal, push_line_feed, push_signs, push_subset};
 use super::{Line, print_line};
 use om_grassmann::Statement;
+use om_samples::vector_of;
+use om_signs::Sign;
 use om_subsets::Subset;
 use om_text::Code;
 use std::alloc::Global;
@@ -37,8 +40,11 @@ fn lines_without_fields(rt: HostRuntime) -> Result<(), Fail> {
         (Line::RefusedLong, "refused long\n"),
         (Line::RefusedAllzero, "refused allzero\n"),
         (Line::RefusedNozero, "refused nozero\n"),
+        (Line::RefusedNotreversed, "refused notreversed\n"),
         (Line::RefusedRanklow, "refused ranklow\n"),
+        (Line::RefusedFlatrank, "refused flatrank\n"),
         (Line::RefusedLastelement, "refused lastelement\n"),
+        (Line::RefusedNotbasis, "refused notbasis\n"),
         (Line::RefusedNocertificate, "refused nocertificate\n"),
         (Line::RefusedNostrict, "refused nostrict\n"),
     ] {
@@ -52,6 +58,10 @@ fn lines_with_numbers(rt: HostRuntime) -> Result<(), Fail> {
     for (line, text) in [
         (Line::Usage { word: 1 }, "usage 1\n"),
         (Line::LimitMembers { limit: 1024 }, "limit members 1024\n"),
+        (
+            Line::LimitValues { values: 184_756 },
+            "limit values 184756\n",
+        ),
         (Line::RefusedZero { i: 2 }, "refused zero 2\n"),
         (Line::RefusedNonegative { i: 1 }, "refused nonegative 1\n"),
         (Line::RefusedNested { i: 1, j: 3 }, "refused nested 1 3\n"),
@@ -63,9 +73,16 @@ fn lines_with_numbers(rt: HostRuntime) -> Result<(), Fail> {
             Line::RefusedNocomposition { i: 2, j: 4 },
             "refused nocomposition 2 4\n",
         ),
+        (Line::RefusedRange { step: 2 }, "refused range 2\n"),
+        (
+            Line::RefusedNotincreasing { step: 2 },
+            "refused notincreasing 2\n",
+        ),
         (Line::RefusedLength { given: 3 }, "refused length 3\n"),
         (Line::RefusedPlace { e: 5 }, "refused place 5\n"),
         (Line::RefusedNotrank3 { r: 2 }, "refused notrank3 2\n"),
+        (Line::RefusedFull { n: 16 }, "refused full 16\n"),
+        (Line::RefusedColour { e: 1 }, "refused colour 1\n"),
         (
             Line::RefusedNumber {
                 wanted: 4,
@@ -114,6 +131,20 @@ fn lines_with_sets_and_codes(rt: HostRuntime) -> Result<(), Fail> {
             "refused relation 1 none\n",
         ),
         (
+            Line::RefusedNotsweepable {
+                s: subset(0b1111),
+                a: subset(0b1_0001),
+            },
+            "refused notsweepable 1,2,3,4 1,5\n",
+        ),
+        (
+            Line::RefusedNotmutation {
+                s: subset(0b1111),
+                a: subset(0b1_0001),
+            },
+            "refused notmutation 1,2,3,4 1,5\n",
+        ),
+        (
             Line::RefusedWrongsign {
                 triple: subset(0b1101),
             },
@@ -151,5 +182,44 @@ fn lines_with_sets_and_codes(rt: HostRuntime) -> Result<(), Fail> {
     ] {
         prints(&rt, rt.alloc(), line, text)?;
     }
+    Ok(())
+}
+
+#[test]
+fn lines_with_sign_vectors(rt: HostRuntime) -> Result<(), Fail> {
+    for (line, text) in [
+        (
+            Line::Circuit {
+                x: vector_of(4, "+-+-"),
+            },
+            "circuit +-+-\n",
+        ),
+        (
+            Line::Cocircuit {
+                x: vector_of(4, "+00+"),
+            },
+            "cocircuit +00+\n",
+        ),
+        (
+            Line::Cyclic {
+                x: vector_of(4, "++++"),
+            },
+            "cyclic ++++\n",
+        ),
+    ] {
+        prints(&rt, rt.alloc(), line, text)?;
+    }
+    Ok(())
+}
+
+#[test]
+fn signs_of_a_signature(rt: HostRuntime) -> Result<(), Fail> {
+    let mut text = Vec::new(rt.alloc());
+    push_decimal(&mut text, 4)?;
+    push(&mut text, b" ")?;
+    push_subset(&mut text, subset(0b1101))?;
+    push_signs(&mut text, &[Sign::Minus, Sign::Zero, Sign::Plus])?;
+    push_line_feed(&mut text)?;
+    assert_eq!(rt; text.as_slice(), b"4 1,3,4-0+\n".as_slice());
     Ok(())
 }
