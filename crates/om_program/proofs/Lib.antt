@@ -2,6 +2,7 @@ mod AboveLaws
 mod ArgumentLaws
 mod ClaimLaws
 mod ConversionLaws
+mod DecisionLaws
 mod FitLaws
 mod ListingLaws
 mod MeaningLaws
@@ -12,5 +13,6 @@ mod PointLaws
 mod ReplyLaws
 mod SignWords
 mod TripleLaws
+mod ValidClaimLaws
 mod VerbLaws
 mod WordLaws

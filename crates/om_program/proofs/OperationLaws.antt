@@ -22,6 +22,7 @@ use Rattle.om_program.specs.Axioms.{MeetsAxioms}
 use Rattle.om_program.specs.Documents.{map_document, document_of}
 use Rattle.om_program.specs.Operations.{IsOperation, IsMapMade, TakesOnly, named_elements, first_above, not_built, made}
 use Rattle.om_program.specs.Words.{Names, AreArguments}
+use Rattle.om_program.proofs.DecisionLaws.{lawful_budgets}
 use Rattle.om_program.specs.Answers.{says, shows}
 use Rattle.om_program.specs.Tasks.{HasLawfulArguments}
 
@@ -56,4 +57,5 @@ lawful_arguments words t named = lawful t named.arguments named.behind
     lawful (task.Delete e) rest (word, (is, element)) = (element.low, element.high)
     lawful (task.Contract e) rest (word, (is, element)) = (element.low, element.high)
     lawful (task.Reorient mask) rest all = subst (λ u. u < 2 ^ MAX_ELEMENTS) (sym all.value) (mask_of-lt 1 MAX_ELEMENTS all.elements)
+    lawful (task.Decide b) rest behind = lawful_budgets rest b behind
     lawful task.Check rest behind = tt

@@ -1,7 +1,8 @@
+pub mod Fits
+pub mod Options
 pub mod Words
 pub mod Samples
 pub mod Readings
-pub mod Options
 pub mod Triples
 pub mod Listings
 pub mod Statuses
@@ -15,7 +16,9 @@ pub mod Chirotopes
 pub mod Memberships
 pub mod Conversions
 pub mod Operations
+pub mod Decisions
 pub mod Tasks
 pub mod Claims
 pub mod Meaning
+pub mod ValidClaims
 pub mod Run

@@ -9,8 +9,9 @@ use Rattle.om_subsets.specs.Members.{mask_of}
 use Rattle.om_text.specs.Words.{is_sign, sign_of_byte}
 use Rattle.om_answer.specs.declared.kind.Kind.{Kind}
 use Rattle.om_answer.specs.declared.kind.Kind.TheVariants as kind
+use Rattle.om_program.specs.Options.{AreBudgets}
 use Rattle.om_program.specs.declared.task.Task.{Task}
-use Rattle.om_program.specs.declared.task.Task.TheVariants.{Accept, Member, Convert, Dual, Delete, Contract, Reorient, Check}
+use Rattle.om_program.specs.declared.task.Task.TheVariants.{Accept, Member, Convert, Dual, Delete, Contract, Reorient, Decide, Check}
 use Rattle.om_program.specs.declared.usage.Usage.{Usage}
 use Rattle.om_program.specs.declared.verb.Verb.{Verb}
 use Rattle.om_program.specs.declared.verb.Verb.TheVariants as verb
@@ -64,6 +65,7 @@ verb_of Dual = verb.Dual
 verb_of (Delete e) = verb.Delete
 verb_of (Contract e) = verb.Contract
 verb_of (Reorient mask) = verb.Reorient
+verb_of (Decide b) = verb.Decide
 verb_of Check = verb.Check
 
 abbrev pub verb_word : Verb → List ℕ
@@ -74,6 +76,7 @@ verb_word verb.Dual = codes "dual"
 verb_word verb.Delete = codes "delete"
 verb_word verb.Contract = codes "contract"
 verb_word verb.Reorient = codes "reorient"
+verb_word verb.Decide = codes "decide"
 verb_word verb.Check = codes "check"
 
 -- the words behind the first one are those of the task
@@ -85,6 +88,7 @@ AreArguments Dual words = AreNone words tt
 AreArguments (Delete e) words = IsAlone IsElement words e
 AreArguments (Contract e) words = IsAlone IsElement words e
 AreArguments (Reorient mask) words = AreElements words mask
+AreArguments (Decide b) words = AreBudgets words b
 AreArguments Check words = AreNone words tt
 
 -- the words name the task

@@ -8,6 +8,7 @@ ghost use Rattle.om_program.specs.Tasks.{HasLawfulArguments, reads};
 
 use crate::answer::Answer;
 use crate::conversion::convert;
+use crate::decision::judge;
 use crate::membership::find_membership;
 use crate::operation::{Operation, operate};
 use crate::reads::Reads;
@@ -119,6 +120,7 @@ fn answer_task(
         Task::Delete(e) => operate(alloc, representation, Operation::Delete(e)),
         Task::Contract(e) => operate(alloc, representation, Operation::Contract(e)),
         Task::Reorient(mask) => operate(alloc, representation, Operation::Reorient(mask)),
+        Task::Decide(budgets) => judge(alloc, representation, budgets),
         // the source of this one is a claim
         Task::Check => unreachable!(),
     }

@@ -9,7 +9,7 @@ use std::test::Fail;
 use std::thread::Threads;
 
 /// The all-plus chirotope of five elements.
-const FIVE: &str = "om 1\nchirotope 3 5\n++++++++++\nend\n";
+pub const FIVE: &str = "om 1\nchirotope 3 5\n++++++++++\nend\n";
 
 /// The chirotope of Pappus' theorem, up to the value of its last triple.
 const NINE: &str =

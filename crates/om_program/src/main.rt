@@ -11,6 +11,9 @@ mod claim_tests;
 mod colouring;
 mod command;
 mod conversion;
+mod decision;
+#[cfg(test)]
+mod decision_tests;
 mod documents;
 mod leading;
 mod limits;

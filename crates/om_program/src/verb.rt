@@ -13,11 +13,12 @@ pub enum Verb {
     Delete,
     Contract,
     Reorient,
+    Decide,
     Check,
 }
 
 /// All verbs.
-const VERBS: [Verb; 8] = [
+const VERBS: [Verb; 9] = [
     Verb::Accept,
     Verb::Member,
     Verb::Convert,
@@ -25,6 +26,7 @@ const VERBS: [Verb; 8] = [
     Verb::Delete,
     Verb::Contract,
     Verb::Reorient,
+    Verb::Decide,
     Verb::Check,
 ];
 
@@ -41,6 +43,7 @@ impl Verb {
             Verb::Delete => "delete",
             Verb::Contract => "contract",
             Verb::Reorient => "reorient",
+            Verb::Decide => "decide",
             Verb::Check => "check",
         }
     }
