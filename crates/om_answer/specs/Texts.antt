@@ -35,7 +35,6 @@ signs_text xs = map byte_of xs
 
 -- a code of a line at fault, with its number where it has one
 abbrev pub code_text : Code → List ℕ
-code_text code.Unbuilt = codes "unbuilt"
 code_text code.Version = codes "version"
 code_text code.Kind = codes "kind"
 code_text code.Header = codes "header"
@@ -43,6 +42,7 @@ code_text (code.Elements n) = codes "elements" ++ spaced (decimal n)
 code_text (code.Rank r) = codes "rank" ++ spaced (decimal r)
 code_text code.Sign = codes "sign"
 code_text code.Length = codes "length"
+code_text code.Block = codes "block"
 code_text code.Number = codes "number"
 code_text code.Many = codes "many"
 code_text code.Few = codes "few"

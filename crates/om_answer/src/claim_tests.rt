@@ -381,7 +381,7 @@ fn faults_of_documents(rt: HostRuntime) -> Result<(), Fail> {
         ("om 2\n", 1, Code::Version),
         ("om 1\nchirotope 3 4\nrealizable\n", 3, Code::Sign),
         ("om 1\nchirotope 3 4\n+++\nend\n", 4, Code::Few),
-        ("om 1\nwiring 3\n", 2, Code::Unbuilt),
+        ("om 1\nwiring 3\n1-2 realizable\n", 3, Code::Block),
         ("om 1\npoints 1\n1 0\nend\n", 3, Code::Number),
     ] {
         let bytes = joined(alloc, &[text])?;

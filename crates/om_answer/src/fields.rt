@@ -35,7 +35,6 @@ fn push_code(text: &mut Vec<u8>, code: Code) -> Result<(), NoMemory>
 {
     push(text, b" ")?;
     match code {
-        Code::Unbuilt => push(text, b"unbuilt"),
         Code::Version => push(text, b"version"),
         Code::Kind => push(text, b"kind"),
         Code::Header => push(text, b"header"),
@@ -49,6 +48,7 @@ fn push_code(text: &mut Vec<u8>, code: Code) -> Result<(), NoMemory>
         }
         Code::Sign => push(text, b"sign"),
         Code::Length => push(text, b"length"),
+        Code::Block => push(text, b"block"),
         Code::Number => push(text, b"number"),
         Code::Many => push(text, b"many"),
         Code::Few => push(text, b"few"),

@@ -3,10 +3,8 @@ mod ArgumentLaws
 mod ClaimLaws
 mod ConversionLaws
 mod FitLaws
-mod GivenLaws
 mod ListingLaws
 mod MeaningLaws
-mod Memberships
 mod Numerals
 mod OperationLaws
 mod OptionLaws

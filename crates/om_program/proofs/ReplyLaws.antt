@@ -11,6 +11,8 @@ use Rattle.om_circuits.specs.declared.set_refused.SetRefused.{SetRefused}
 use Rattle.om_circuits.specs.declared.set_refused.SetRefused.TheVariants as set
 use Rattle.om_covectors.specs.declared.cov_refused.CovRefused.{CovRefused}
 use Rattle.om_covectors.specs.declared.cov_refused.CovRefused.TheVariants as cov
+use Rattle.om_wiring.specs.declared.wiring_refused.WiringRefused.{WiringRefused}
+use Rattle.om_wiring.specs.declared.wiring_refused.WiringRefused.TheVariants as wiring
 use Rattle.om_text.specs.declared.document.Document.{Document}
 use Rattle.om_text.specs.declared.body.Body.{Body}
 use Rattle.om_text.specs.declared.body.Body.TheVariants as body
@@ -32,12 +34,12 @@ use Rattle.om_program.specs.declared.task.Task.{Task}
 use Rattle.om_program.specs.declared.task.Task.TheVariants.{Accept, Member, Convert, Dual, Delete, Contract, Reorient, Check}
 use Rattle.om_program.specs.Statuses.{IsAnswered, IsReplied}
 use Rattle.om_program.specs.Answers.{IsReply, status_of, status_of_line}
-use Rattle.om_program.specs.Axioms.{IsRefused, set_line, map_line, cov_line}
+use Rattle.om_program.specs.Axioms.{IsRefusedOn, set_line, map_line, cov_line, wiring_line}
 use Rattle.om_program.specs.Memberships.{IsMembership, wrong_length, covector, not_covector}
 use Rattle.om_program.specs.Conversions.{IsConversion, converted, limited, unbuilt}
 use Rattle.om_program.specs.Operations.{IsOperation, not_built, outside, last, made}
 use Rattle.om_program.specs.Claims as claims
-use Rattle.om_program.specs.Meaning.{IsAnswerOf, DocumentMeans, refused, answered, TaskMeans, long, faulty, read, faulty_claim, claimed}
+use Rattle.om_program.specs.Meaning.{IsAnswerOf, DocumentMeans, flat_line, refused, flat, answered, TaskMeans, long, faulty, read, faulty_claim, claimed}
 
 -- ---- statuses
 
@@ -75,15 +77,21 @@ cov_refused (cov.NoNegative i) = tt
 cov_refused (cov.NoComposition i j) = tt
 cov_refused (cov.NoElimination i j e) = tt
 
+wiring_refused : (why : WiringRefused) → IsReplied (status_of_line (wiring_line why))
+wiring_refused (wiring.Range step) = tt
+wiring_refused (wiring.NotIncreasing step) = tt
+wiring_refused wiring.NotReversed = tt
+
 replied_line : (k l : Line) → l ≡ k → IsReplied (status_of_line k) → IsReplied (status_of_line l)
 replied_line k l same replied = subst (λ m. IsReplied (status_of_line m)) (sym same) replied
 
-refused_replies : (b : Body) (l : Line) → IsRefused b l → IsReplied (status_of_line l)
-refused_replies (body.Chirotope m) l (why, (same, is)) = replied_line _ l same (map_refused why)
-refused_replies (body.Circuits members) l (why, (same, is)) = replied_line _ l same (set_refused why)
-refused_replies (body.Cocircuits members) l (why, (same, is)) = replied_line _ l same (set_refused why)
-refused_replies (body.Covectors members) l (why, (same, is)) = replied_line _ l same (cov_refused why)
-refused_replies (body.Points points) l (same, is) = replied_line _ l same tt
+refused_replies : (n : ℕ) (b : Body) (l : Line) → IsRefusedOn n b l → IsReplied (status_of_line l)
+refused_replies n (body.Chirotope m) l (why, (same, is)) = replied_line _ l same (map_refused why)
+refused_replies n (body.Circuits members) l (why, (same, is)) = replied_line _ l same (set_refused why)
+refused_replies n (body.Cocircuits members) l (why, (same, is)) = replied_line _ l same (set_refused why)
+refused_replies n (body.Covectors members) l (why, (same, is)) = replied_line _ l same (cov_refused why)
+refused_replies n (body.Wiring blocks) l (why, (same, is)) = replied_line _ l same (wiring_refused why)
+refused_replies n (body.Points points) l (same, is) = replied_line _ l same tt
 
 -- ---- the answers of the commands
 
@@ -127,10 +135,14 @@ verdict_replies m v l (claims.other_rank other) = tt
 verdict_replies m v l (claims.limited end unfound three is) = tt
 verdict_replies m v l (claims.judged e k three is means) = evidence_replies m e l means
 
+judged_replies : (d : Document) (v : Verdict) (l : Line) → claims.IsJudged d v l → IsReplied (status_of_line l)
+judged_replies d v l (claims.not_built not) = tt
+judged_replies d v l (claims.verified m k is means) = verdict_replies m v l means
+
 claim_replies : (c : Claim) (l : Line) → claims.ClaimMeans c l → IsReplied (status_of_line l)
-claim_replies c l (claims.fails_axioms why is) = refused_replies c.document.body l is
-claim_replies c l (claims.not_built axioms not) = tt
-claim_replies c l (claims.verified m k axioms is means) = verdict_replies m c.verdict l means
+claim_replies c l (claims.fails_axioms why is) = refused_replies c.document.elements c.document.body l is
+claim_replies c l (claims.flat axioms is) = tt
+claim_replies c l (claims.judged_on k axioms bent is) = judged_replies _ c.verdict l is
 
 -- ---- the answers of tasks: one line for each
 
@@ -144,9 +156,14 @@ task_answer_replies (Contract e) d a is = operation_replies (operation.Contract 
 task_answer_replies (Reorient mask) d a is = operation_replies (operation.Reorient mask) d a is
 task_answer_replies Check d a is = absurd is
 
+flat_replies : (t : Task) → IsReplied (status_of_line (flat_line t))
+flat_replies Accept = tt
+flat_replies _ = tt
+
 document_replies : (t : Task) (d : Document) (a : Answer) → DocumentMeans t d a → IsReply a
-document_replies t d a (refused why is) = refused_replies d.body why is
-document_replies t d a (answered b axioms is) = task_answer_replies t d a is
+document_replies t d a (refused why is) = refused_replies d.elements d.body why is
+document_replies t d a (flat axioms is) = flat_replies t
+document_replies t d a (answered b axioms bent is) = task_answer_replies t _ a is
 
 pub task_replies : (t : Task) (bytes : List ℕ) (a : Answer) → TaskMeans t bytes a → IsReply a
 task_replies t bytes a (long reads past) = tt

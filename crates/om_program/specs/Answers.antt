@@ -25,11 +25,15 @@ abbrev pub status_of_line : Line → Status
 status_of_line line.Accepted = Done
 status_of_line line.Covector = Done
 status_of_line line.NotCovector = Done
+status_of_line (line.Circuit x) = Done
+status_of_line (line.Cocircuit x) = Done
+status_of_line (line.Cyclic x) = Done
 status_of_line line.ValidRealizable = Done
 status_of_line line.ValidNonrealizable = Done
 status_of_line line.ValidUndecided = Done
 status_of_line (line.Usage k) = Usage
 status_of_line (line.LimitMembers k) = Limit
+status_of_line (line.LimitValues k) = Limit
 status_of_line _ = Refused
 
 -- how a run ends that has written this answer

@@ -1,5 +1,6 @@
 -- The axioms of each kind of document, and the line that names their first violated instance.
-use Rattle.std.specs.Prelude.{ℤ, ◌≡◌, List}
+use Rattle.std.specs.Prelude.{ℕ, ℤ, ◌≡◌, List}
+use Rattle.om_signs.specs.declared.block.Block.{Block}
 use Rattle.om_signs.specs.declared.sign.Sign.{Sign}
 use Rattle.om_signs.specs.declared.raw_map.RawMap.{RawMap}
 use Rattle.om_chirotope.specs.Map.{map_of}
@@ -15,21 +16,39 @@ use Rattle.om_covectors.specs.declared.cov_refused.CovRefused.TheVariants as cov
 use Rattle.om_covectors.specs.Axioms.{MeetsCovectorAxioms}
 use Rattle.om_covectors.specs.Instances.{IsFirstViolatedCovectorAxiom}
 use Rattle.om_vectors.specs.Realizations.{IsRankLow}
+use Rattle.om_wiring.specs.declared.wiring_refused.WiringRefused.{WiringRefused}
+use Rattle.om_wiring.specs.declared.wiring_refused.WiringRefused.TheVariants as wiring
+use Rattle.om_wiring.specs.Maps.{IsFlat}
+use Rattle.om_wiring.specs.Refusals as wirings
+use Rattle.om_wiring.specs.Wirings.{IsWiring}
+use Rattle.om_text.specs.declared.document.Document.{Document}
 use Rattle.om_text.specs.declared.body.Body.{Body}
-use Rattle.om_text.specs.declared.body.Body.TheVariants.{Chirotope, Circuits, Cocircuits, Covectors, Points}
+use Rattle.om_text.specs.declared.body.Body.TheVariants.{Chirotope, Circuits, Cocircuits, Covectors, Wiring, Points}
 use Rattle.om_answer.specs.declared.line.Line.{Line}
-use Rattle.om_answer.specs.declared.line.Line.TheVariants.{RefusedAllzero, RefusedRelation, RefusedZero, RefusedNonegative, RefusedNested, RefusedNoelimination, RefusedNozero, RefusedNocomposition, RefusedRanklow}
+use Rattle.om_answer.specs.declared.line.Line.TheVariants.{RefusedAllzero, RefusedRelation, RefusedZero, RefusedNonegative, RefusedNested, RefusedNoelimination, RefusedNozero, RefusedNocomposition, RefusedRange, RefusedNotincreasing, RefusedNotreversed, RefusedRanklow}
 use Rattle.om_program.specs.declared.unrepresented.Unrepresented.{Unrepresented}
 use Rattle.om_program.specs.declared.unrepresented.Unrepresented.TheVariants as unrepresented
 use Rattle.om_program.specs.Points.{vectors_of}
 
--- the body meets the axioms of its kind; for points: some triple product isn't 0
-abbrev pub MeetsAxioms : Body → Type 0
-MeetsAxioms (Chirotope m) = maps.IsChirotope (map_of m)
-MeetsAxioms (Circuits members) = MeetsCircuitAxioms members
-MeetsAxioms (Cocircuits members) = MeetsCircuitAxioms members
-MeetsAxioms (Covectors members) = MeetsCovectorAxioms members
-MeetsAxioms (Points points) = IsRankLow (vectors_of points) → ⊥
+-- the body, on n elements, meets the axioms of its kind; for points: some triple product isn't 0
+abbrev pub MeetsAxiomsOn : ℕ → Body → Type 0
+MeetsAxiomsOn n (Chirotope m) = maps.IsChirotope (map_of m)
+MeetsAxiomsOn n (Circuits members) = MeetsCircuitAxioms members
+MeetsAxiomsOn n (Cocircuits members) = MeetsCircuitAxioms members
+MeetsAxiomsOn n (Covectors members) = MeetsCovectorAxioms members
+MeetsAxiomsOn n (Wiring blocks) = IsWiring n blocks
+MeetsAxiomsOn n (Points points) = IsRankLow (vectors_of points) → ⊥
+
+abbrev pub MeetsAxioms : Document → Type 0
+MeetsAxioms d = MeetsAxiomsOn d.elements d.body
+
+-- the body is a wiring whose map is zero at each triple: it meets its axioms, and gives no chirotope
+abbrev pub IsFlatOn : ℕ → Body → Type 0
+IsFlatOn n (Wiring blocks) = IsFlat n blocks
+IsFlatOn n _ = ⊥
+
+abbrev pub IsFlatDocument : Document → Type 0
+IsFlatDocument d = IsFlatOn d.elements d.body
 
 -- the line that says why a map is no chirotope
 abbrev pub map_line : MapRefused → Line
@@ -71,15 +90,30 @@ IsCovRefused members l = (why : CovRefused) × ((l ≡ cov_line why) × IsFirstV
 abbrev pub IsRankRefused : List (List ℤ) → Line → Type 0
 IsRankRefused points l = (l ≡ RefusedRanklow) × IsRankLow (vectors_of points)
 
--- the line that refuses the body
-abbrev pub IsRefused : Body → Line → Type 0
-IsRefused (Chirotope m) l = IsMapRefused m l
-IsRefused (Circuits members) l = IsSetRefused members l
-IsRefused (Cocircuits members) l = IsSetRefused members l
-IsRefused (Covectors members) l = IsCovRefused members l
-IsRefused (Points points) l = IsRankRefused points l
+-- the line that says why blocks are no wiring diagram
+abbrev pub wiring_line : WiringRefused → Line
+wiring_line (wiring.Range step) = RefusedRange step
+wiring_line (wiring.NotIncreasing step) = RefusedNotincreasing step
+wiring_line wiring.NotReversed = RefusedNotreversed
 
--- why a body gives no oriented matroid: the line that refuses it, or want of memory
-abbrev pub IsRefusal : Body → Unrepresented → Type 0
-IsRefusal b (unrepresented.Refused l) = IsRefused b l
-IsRefusal b unrepresented.Memory = Unit {0}
+-- the line for a wiring: the first step that breaks a rule, or the last order
+abbrev pub IsWiringRefused : ℕ → List Block → Line → Type 0
+IsWiringRefused n blocks l = (why : WiringRefused) × ((l ≡ wiring_line why) × wirings.IsRefusal n blocks why)
+
+-- the line that refuses the body, on n elements
+abbrev pub IsRefusedOn : ℕ → Body → Line → Type 0
+IsRefusedOn n (Chirotope m) l = IsMapRefused m l
+IsRefusedOn n (Circuits members) l = IsSetRefused members l
+IsRefusedOn n (Cocircuits members) l = IsSetRefused members l
+IsRefusedOn n (Covectors members) l = IsCovRefused members l
+IsRefusedOn n (Wiring blocks) l = IsWiringRefused n blocks l
+IsRefusedOn n (Points points) l = IsRankRefused points l
+
+abbrev pub IsRefused : Document → Line → Type 0
+IsRefused d l = IsRefusedOn d.elements d.body l
+
+-- why a body on n elements gives no oriented matroid: the line that refuses it, that it is a flat wiring, or want of memory
+abbrev pub IsRefusal : ℕ → Body → Unrepresented → Type 0
+IsRefusal n b (unrepresented.Refused l) = IsRefusedOn n b l
+IsRefusal n b unrepresented.Flat = MeetsAxiomsOn n b × IsFlatOn n b
+IsRefusal n b unrepresented.Memory = Unit {0}

@@ -17,28 +17,20 @@ use Rattle.om_answer.specs.declared.kind.Kind.TheVariants as kind
 use Rattle.om_answer.specs.declared.line.Line.TheVariants as line
 use Rattle.om_program.specs.declared.answer.Answer.{Answer}
 use Rattle.om_program.specs.Answers.{says, shows}
-use Rattle.om_program.specs.Points.{points_map, raw_of}
 use Rattle.om_program.specs.Axioms.{MeetsAxioms}
 use Rattle.om_program.specs.Covectors.{IsCovectorIn}
 
--- whether a body is of a kind; points are a chirotope
+-- whether a body is of a kind
 abbrev pub has_kind : Kind → Body → Bool
 has_kind kind.Chirotope (body.Chirotope m) = true
 has_kind kind.Circuits (body.Circuits members) = true
 has_kind kind.Cocircuits (body.Cocircuits members) = true
 has_kind kind.Covectors (body.Covectors members) = true
-has_kind kind.Chirotope (body.Points points) = true
 has_kind _ _ = false
 
--- a body as one of its own kind: points as the map of their signs
-abbrev pub given : Body → Body
-given (body.Points points) = body.Chirotope (raw_of (points_map points))
-given b = b
-
--- whether the conversion of a body to a kind is built: a chirotope or points to every kind, covectors to cocircuits, and each kind to itself
+-- whether the conversion of a body to a kind is built: a chirotope to every kind, covectors to cocircuits, and each kind to itself
 abbrev pub is_built : Kind → Body → Bool
 is_built k (body.Chirotope m) = true
-is_built k (body.Points points) = true
 is_built kind.Cocircuits (body.Covectors members) = true
 is_built k b = has_kind k b
 
@@ -49,10 +41,9 @@ IsMemberAs kind.Cocircuits m = IsCocircuitOfChirotope m
 IsMemberAs kind.Covectors m = IsCovectorOfChirotope m
 IsMemberAs kind.Chirotope m = λ x. ⊥
 
--- a map, or that of points, gives more members of a kind than a list may have
+-- a map gives more members of a kind than a list may have
 abbrev pub HasTooMany : Kind → Body → Type 0
 HasTooMany k (body.Chirotope m) = HasMoreThan MAX_MEMBERS (IsMemberAs k (map_of m))
-HasTooMany k (body.Points points) = HasMoreThan MAX_MEMBERS (IsMemberAs k (points_map points))
 HasTooMany k _ = ⊥
 
 -- a list has exactly the members of its kind that a map gives
@@ -62,22 +53,20 @@ HasMembersOfMap m (body.Cocircuits members) = AreAllOf (IsMemberAs kind.Cocircui
 HasMembersOfMap m (body.Covectors members) = AreAllOf (IsMemberAs kind.Covectors m) members
 HasMembersOfMap m _ = Unit {0}
 
--- the second body has exactly the members of its kind that the first one gives, where that is a map or points
+-- the second body has exactly the members of its kind that the first one gives, where that is a map
 abbrev pub HasMembersOf : Body → Body → Type 0
 HasMembersOf (body.Chirotope m) b = HasMembersOfMap (map_of m) b
-HasMembersOf (body.Points points) b = HasMembersOfMap (points_map points) b
 HasMembersOf _ _ = Unit {0}
 
--- e is d as a document of a kind: it meets the axioms of this kind and denotes the same; a document of the kind is itself, and
--- points are the map of their signs
+-- e is d as a document of a kind: it meets the axioms of this kind and denotes the same; a document of the kind is itself
 pub record IsConverted (k : Kind) (d e : Document) : Type 0 where
   pub form : IsInForm e
   pub kind : has_kind k e.body ≡ true
   pub elements : e.elements ≡ d.elements
-  pub axioms : MeetsAxioms e.body
+  pub axioms : MeetsAxioms e
   pub same : (x : List Sign) → IsCovectorIn d x ↔ IsCovectorIn e x
   pub members : HasMembersOf d.body e.body
-  pub own : has_kind k d.body ≡ true → e ≡ record { elements = d.elements; body = given d.body }
+  pub own : has_kind k d.body ≡ true → e ≡ d
 
 -- a document as one of a kind
 pub data IsConversion (k : Kind) (d : Document) : Answer → Type 0 where

@@ -9,6 +9,7 @@ pub mod Answers
 pub mod Points
 pub mod Axioms
 pub mod Covectors
+pub mod Documents
 pub mod Represented
 pub mod Chirotopes
 pub mod Memberships

@@ -19,16 +19,17 @@ use Rattle.om_program.specs.declared.reads.Reads.TheVariants as source
 use Rattle.om_program.specs.declared.task.Task.{Task}
 use Rattle.om_program.specs.declared.task.Task.TheVariants.{Accept, Member, Convert, Dual, Delete, Contract, Reorient, Check}
 use Rattle.om_program.specs.Answers.{says}
-use Rattle.om_program.specs.Axioms.{MeetsAxioms, IsRefused}
+use Rattle.om_program.specs.Axioms.{MeetsAxioms, IsRefused, IsFlatDocument}
 use Rattle.om_program.specs.Claims.{ClaimMeans}
 use Rattle.om_program.specs.Conversions.{IsConversion}
 use Rattle.om_program.specs.Covectors.{IsCovectorIn}
+use Rattle.om_program.specs.Documents.{worked_on}
 use Rattle.om_program.specs.Memberships.{IsMembership}
 use Rattle.om_program.specs.Operations.{IsOperation}
 use Rattle.om_program.specs.Tasks.{reads}
 use Rattle.om_program.specs.Words.{Names, IsUsage}
 
--- the answer to a task on a document that meets its axioms; a check reads a claim
+-- the answer to a task on the document of a chirotope or of a list that meets its axioms; a check reads a claim
 abbrev pub IsAnswerOf : Task → Document → Answer → Type 0
 IsAnswerOf Accept d answer = answer ≡ says line.Accepted
 IsAnswerOf (Member x) d answer = IsMembership d.elements (IsCovectorIn d) x answer
@@ -39,12 +40,19 @@ IsAnswerOf (Contract e) d answer = IsOperation (operation.Contract e) d answer
 IsAnswerOf (Reorient mask) d answer = IsOperation (operation.Reorient mask) d answer
 IsAnswerOf Check d answer = ⊥
 
+-- the answer to a task on a wiring that gives no chirotope: it is accepted, and nothing else can be done with it
+abbrev pub flat_line : Task → Line
+flat_line Accept = line.Accepted
+flat_line _ = line.RefusedFlatrank
+
 -- what a task means for a document
 pub data DocumentMeans (task : Task) (d : Document) : Answer → Type 0 where
   -- the document fails the axioms of its kind, and this line names the first violated instance
-  refused : (why : Line) → IsRefused d.body why → DocumentMeans task d (says why)
-  -- it meets them
-  answered : (answer : Answer) → MeetsAxioms d.body → IsAnswerOf task d answer → DocumentMeans task d answer
+  refused : (why : Line) → IsRefused d why → DocumentMeans task d (says why)
+  -- it meets them, and is a wiring that gives no chirotope
+  flat : MeetsAxioms d → IsFlatDocument d → DocumentMeans task d (says (flat_line task))
+  -- it meets them and gives an oriented matroid: points and wirings by their map, each other document as it is
+  answered : (answer : Answer) → MeetsAxioms d → (IsFlatDocument d → ⊥) → IsAnswerOf task (worked_on d) answer → DocumentMeans task d answer
 
 -- what a task means for an input
 pub data TaskMeans (task : Task) (bytes : List ℕ) : Answer → Type 0 where

@@ -72,7 +72,7 @@ IsBodyOf o n P _ = ⊥
 -- e is what an operation makes of d, as the document of a normal chirotope
 pub record IsMade (o : Operation) (d e : Document) : Type 0 where
   pub form : IsInForm e
-  pub axioms : MeetsAxioms e.body
+  pub axioms : MeetsAxioms e
   pub body : IsBodyOf o d.elements (IsCovectorIn d) e.body
 
 -- what an operation makes of a document

@@ -1,10 +1,7 @@
 -- Points of a document as vectors, and the map of the signs of their triple products.
 use Rattle.std.specs.Prelude.{ℤ, pos, List, map}
 use Rattle.std.proofs.Common.{get_or}
-use Rattle.om_signs.specs.declared.raw_map.RawMap.{RawMap}
 use Rattle.om_chirotope.specs.Map.{SignMap}
-use Rattle.om_text.specs.declared.document.Document.{Document}
-use Rattle.om_text.specs.declared.body.Body.TheVariants.{Chirotope}
 use Rattle.om_vectors.specs.WholeVectors.{WholeVector, vector_of}
 use Rattle.om_vectors.specs.Realizations.{signs_map}
 
@@ -19,11 +16,3 @@ vectors_of points = map vector_of_point points
 -- the map of the signs of the triple products of points
 abbrev pub points_map : List (List ℤ) → SignMap
 points_map points = signs_map (vectors_of points)
-
--- a map as it stands in a document
-abbrev pub raw_of : SignMap → RawMap
-raw_of m = record { rank = m.rank; elements = m.elements; signs = m.signs }
-
--- the document of a map
-abbrev pub map_document : SignMap → Document
-map_document m = record { elements = m.elements; body = Chirotope (raw_of m) }

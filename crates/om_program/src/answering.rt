@@ -2,7 +2,7 @@
 
 ghost use Rattle.std.specs.Prelude.{◌≡◌, ◌≤◌, IfOk, length};
 ghost use Rattle.om_text.specs.Form.{IsInForm};
-ghost use Rattle.om_program.specs.Meaning.{TaskMeans, DocumentMeans, IsAnswerOf};
+ghost use Rattle.om_program.specs.Meaning.{TaskMeans, DocumentMeans, IsAnswerOf, flat_line};
 ghost use Rattle.om_program.specs.Represented.{IsMeantFor};
 ghost use Rattle.om_program.specs.Tasks.{HasLawfulArguments, reads};
 
@@ -86,7 +86,18 @@ fn answer_document<R: Threads + Sync>(
     match represent(rt, alloc, document) {
         Ok(representation) => answer_task(alloc, task, representation),
         Err(Unrepresented::Refused(why)) => Ok(Answer::Line(why)),
+        Err(Unrepresented::Flat) => Ok(Answer::Line(flat_line(task))),
         Err(Unrepresented::Memory) => Err(NoMemory),
+    }
+}
+
+/// The line that answers a task on a wiring that gives no chirotope.
+fn flat_line(task: Task) -> Line
+    ensures { result ≡ flat_line task }
+{
+    match task {
+        Task::Accept => Line::Accepted,
+        _ => Line::RefusedFlatrank,
     }
 }
 

@@ -1,20 +1,19 @@
 //! The chirotope on which the commands of rank 3 work.
 
 ghost use Rattle.std.specs.Prelude.{◌≡◌, IfOk, IfErr, false};
-ghost use Rattle.om_text.specs.declared.document.Document.{Document};
-ghost use Rattle.om_program.specs.Covectors.{Represents};
+ghost use Rattle.om_program.specs.Documents.{document_of};
 ghost use Rattle.om_program.specs.Chirotopes.{IsChirotopeOf, is_operable};
 
 use crate::representation::Representation;
 use om_answer::Line;
 use om_chirotope::Chirotope;
 
-/// The chirotope of a document on which the commands of rank 3 work: the given one, or that of points. For lists this isn't
-/// built yet, and the answer is the line that says so.
+/// The chirotope on which the commands of rank 3 work: the given one. For lists this isn't built yet, and the answer is the
+/// line that says so.
 pub fn choose_chirotope(representation: Representation) -> Result<Chirotope, Line>
-    ensures chosen { IfOk result (λ c. (d : Document) → Represents d representation → IsChirotopeOf d c) }
+    ensures chosen { IfOk result (IsChirotopeOf (document_of representation)) }
     ensures refused { IfErr result (λ why. why ≡ Line.RefusedUnbuilt) }
-    ensures list { IfErr result (λ why. (d : Document) → Represents d representation → is_operable d.body ≡ false) }
+    ensures list { IfErr result (λ why. is_operable (document_of representation).body ≡ false) }
 {
     match representation {
         Representation::Chirotope(chirotope) => Ok(chirotope),

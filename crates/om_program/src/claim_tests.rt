@@ -258,6 +258,10 @@ fn claims_that_are_not_looked_at(rt: HostRuntime) -> Result<(), Fail> {
             "refused unbuilt\n",
         ),
         (
+            &["om 1\nwiring 3\n1-3\nend\n", "realizable\nend\n"],
+            "refused flatrank\n",
+        ),
+        (
             &["om 1\ncircuits 2\n+-\nend\n", "realizable\nend\n"],
             "refused nonegative 1\n",
         ),

@@ -1,13 +1,10 @@
 //! The documents of values.
 
 ghost use Rattle.std.specs.Prelude.{◌≡◌};
-ghost use Rattle.om_text.specs.declared.document.Document.{Document};
 ghost use Rattle.om_text.specs.Form.{IsInForm};
 ghost use Rattle.om_program.specs.Axioms.{MeetsAxioms};
-ghost use Rattle.om_program.specs.Covectors.{Represents};
-ghost use Rattle.om_program.specs.Points.{map_document};
+ghost use Rattle.om_program.specs.Documents.{map_document, circuits_document, cocircuits_document, covectors_document};
 
-use crate::representation::Representation;
 use om_chirotope::Chirotope;
 use om_circuits::{Circuits, Cocircuits};
 use om_covectors::Covectors;
@@ -16,8 +13,8 @@ use om_text::{Body, Document};
 /// The document of a chirotope.
 pub fn map_document(chirotope: Chirotope) -> Document
     ensures form { IsInForm result }
-    ensures axioms { MeetsAxioms result.body }
-    ensures map { result ≡ map_document chirotope }
+    ensures axioms { MeetsAxioms result }
+    ensures value { result ≡ map_document chirotope }
 {
     let elements = chirotope.elements();
     let _rank = chirotope.rank();
@@ -30,8 +27,8 @@ pub fn map_document(chirotope: Chirotope) -> Document
 /// The document of circuits.
 pub fn circuits_document(circuits: Circuits) -> Document
     ensures form { IsInForm result }
-    ensures axioms { MeetsAxioms result.body }
-    ensures own { (d : Document) → Represents d (Representation.Circuits circuits) → result ≡ d }
+    ensures axioms { MeetsAxioms result }
+    ensures value { result ≡ circuits_document circuits.0 }
 {
     let Circuits(set) = circuits;
     let elements = set.elements();
@@ -44,8 +41,8 @@ pub fn circuits_document(circuits: Circuits) -> Document
 /// The document of cocircuits.
 pub fn cocircuits_document(cocircuits: Cocircuits) -> Document
     ensures form { IsInForm result }
-    ensures axioms { MeetsAxioms result.body }
-    ensures own { (d : Document) → Represents d (Representation.Cocircuits cocircuits) → result ≡ d }
+    ensures axioms { MeetsAxioms result }
+    ensures value { result ≡ cocircuits_document cocircuits.0 }
 {
     let Cocircuits(set) = cocircuits;
     let elements = set.elements();
@@ -58,8 +55,8 @@ pub fn cocircuits_document(cocircuits: Cocircuits) -> Document
 /// The document of covectors.
 pub fn covectors_document(covectors: Covectors) -> Document
     ensures form { IsInForm result }
-    ensures axioms { MeetsAxioms result.body }
-    ensures own { (d : Document) → Represents d (Representation.Covectors covectors) → result ≡ d }
+    ensures axioms { MeetsAxioms result }
+    ensures value { result ≡ covectors_document covectors }
 {
     let elements = covectors.elements();
     Document {

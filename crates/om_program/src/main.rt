@@ -38,6 +38,7 @@ mod unrepresented;
 mod usage;
 mod verb;
 mod verification;
+mod wiring_maps;
 #[cfg(test)]
 mod word_tests;
 mod write_usage;

@@ -1,7 +1,7 @@
 //! Runs on chirotopes: conversions into lists, duals, minors and reorientations.
 
 use crate::status::Status;
-use crate::tests::{CIRCUITS, COCIRCUITS, Case, UNIFORM, ends, written};
+use crate::tests::{CIRCUITS, COCIRCUITS, Case, FLAT, UNIFORM, ends, written};
 use std::test::Fail;
 
 /// Elements 1 and 2 are parallel, 3 is a coloop, and 4 is a loop.
@@ -128,6 +128,8 @@ fn operations_that_are_refused(rt: HostRuntime) -> Result<(), Fail> {
         (&["delete", "1"], POINT, "refused lastelement\n"),
         (&["contract", "1"], POINT, "refused lastelement\n"),
         (&["delete", "2"], POINT, "refused place 2\n"),
+        (&["delete", "4"], FLAT, "refused flatrank\n"),
+        (&["member", "0000"], FLAT, "refused flatrank\n"),
         (&["dual"], CIRCUITS, "refused unbuilt\n"),
         (&["delete", "5"], COCIRCUITS, "refused unbuilt\n"),
         (

@@ -21,7 +21,7 @@ pub fn chirotope_of_points(alloc: Global, points: &[[i64; 3]]) -> Result<Chiroto
     requires each { All IsPoint points.now }
     ensures value { IfOk result (λ c. c ≡ points_map points.now) }
     ensures axioms { OnOk result (IsRankLow (vectors_of points.now) → ⊥) }
-    ensures refused { IfErr result (IsRefusal (Points points.now)) }
+    ensures refused { IfErr result (IsRefusal (length points.now) (Points points.now)) }
 {
     let word = word_of(points);
     match signs_of(alloc, word.as_slice()) {

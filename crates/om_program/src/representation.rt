@@ -2,14 +2,15 @@ ghost use Rattle.std.specs.Prelude.{◌≡◌, ◌↔◌, ◌≤◌, length, IsO
 ghost use Rattle.om_text.specs.Form.{IsInForm, AreMembersOn};
 ghost use Rattle.om_circuits.specs.Axioms.{MeetsCircuitAxioms};
 ghost use Rattle.om_covectors.specs.Axioms.{MeetsCovectorAxioms};
-ghost use Rattle.om_program.specs.Axioms.{MeetsAxioms, IsRefusal, map_line, set_line, cov_line};
+ghost use Rattle.om_program.specs.Axioms.{MeetsAxioms, IsFlatDocument, IsRefusal, map_line, set_line, cov_line};
 ghost use Rattle.om_chirotope.specs.Map.{map_of};
 ghost use Rattle.om_chirotope.specs.Chirotope.{IsChirotope};
 ghost use Rattle.om_text.specs.Form.{IsMapOn};
-ghost use Rattle.om_program.specs.Covectors.{Represents};
+ghost use Rattle.om_program.specs.Documents.{document_of, worked_on};
 
 use crate::point_vectors::chirotope_of_points;
 use crate::unrepresented::Unrepresented;
+use crate::wiring_maps::chirotope_of_wiring;
 use om_answer::Line;
 use om_chirotope::{Chirotope, MapRefused};
 use om_circuits::{Circuits, Cocircuits, SetRefused, SignedSet};
@@ -19,7 +20,7 @@ use om_text::{Body, Document};
 use std::alloc::Global;
 use std::thread::Threads;
 
-/// An oriented matroid, in the way in which a document gives it.
+/// An oriented matroid, in the way in which a document gives it: points and wirings give their chirotope.
 #[derive(Drop)]
 pub enum Representation {
     Chirotope(Chirotope),
@@ -28,17 +29,18 @@ pub enum Representation {
     Covectors(Covectors),
 }
 
-/// The oriented matroid that a document gives, where it meets the axioms of its kind, and else the line that names the
-/// first violated instance.
+/// The oriented matroid that a document gives, where it meets the axioms of its kind and isn't a flat wiring; and where it fails
+/// the axioms, the line that names the first violated instance.
 pub fn represent<R: Threads + Sync>(
     rt: &R,
     alloc: Global,
     document: Document,
 ) -> Result<Representation, Unrepresented>
     requires { IsInForm document }
-    ensures accepted { OnOk result (MeetsAxioms document.body) }
-    ensures value { IfOk result (Represents document) }
-    ensures refused { IfErr result (IsRefusal document.body) }
+    ensures accepted { OnOk result (MeetsAxioms document) }
+    ensures bent { OnOk result (IsFlatDocument document → ⊥) }
+    ensures value { IfOk result (λ representation. document_of representation ≡ worked_on document) }
+    ensures refused { IfErr result (IsRefusal document.elements document.body) }
 {
     let Document { elements, body } = document;
     match body {
@@ -55,6 +57,9 @@ pub fn represent<R: Threads + Sync>(
             let covectors = check_covectors(rt, elements, list)?;
             Ok(Representation::Covectors(covectors))
         }
+        Body::Wiring(blocks) => Ok(Representation::Chirotope(chirotope_of_wiring(
+            alloc, elements, blocks,
+        )?)),
         Body::Points(points) => Ok(Representation::Chirotope(chirotope_of_points(
             alloc,
             points.as_slice(),
@@ -69,7 +74,7 @@ fn check_map<R: Threads + Sync>(rt: &R, raw: RawMap) -> Result<Chirotope, Unrepr
     requires whole { IsMapOn raw.elements raw }
     ensures accepted { IsOk result ↔ IsChirotope (map_of raw) }
     ensures value { IfOk result (λ c. c ≡ map_of raw) }
-    ensures refused { IfErr result (IsRefusal (Body.Chirotope raw)) }
+    ensures refused { IfErr result (IsRefusal raw.elements (Body.Chirotope raw)) }
 {
     match om_chirotope::check(rt, raw) {
         Ok(chirotope) => Ok(chirotope),
@@ -98,7 +103,7 @@ fn check_set<R: Threads + Sync>(
     requires members { AreMembersOn elements list }
     ensures accepted { IsOk result ↔ MeetsCircuitAxioms list }
     ensures value { IfOk result (λ set. set ≡ record { elements = elements; members = list }) }
-    ensures refused { IfErr result (IsRefusal (Body.Circuits list)) }
+    ensures refused { IfErr result (IsRefusal elements (Body.Circuits list)) }
 {
     match om_circuits::check(rt, elements, list) {
         Ok(set) => Ok(set),
@@ -129,7 +134,7 @@ fn check_covectors<R: Threads + Sync>(
     requires members { AreMembersOn elements list }
     ensures accepted { IsOk result ↔ MeetsCovectorAxioms list }
     ensures value { IfOk result (λ set. set ≡ record { elements = elements; members = list }) }
-    ensures refused { IfErr result (IsRefusal (Body.Covectors list)) }
+    ensures refused { IfErr result (IsRefusal elements (Body.Covectors list)) }
 {
     match om_covectors::check(rt, elements, list) {
         Ok(set) => Ok(set),

@@ -115,6 +115,9 @@ fn words_that_are_no_command(rt: HostRuntime) -> Result<(), Fail> {
     )
 }
 
+/// A wiring whose map is zero.
+pub const FLAT: &str = "om 1\nwiring 3\n1-3\nend\n";
+
 pub const CIRCUITS: &str = "om 1\ncircuits 4\n-+-+\n+-+-\nend\n";
 
 pub const COCIRCUITS: &str =
@@ -203,6 +206,8 @@ fn documents_that_are_accepted(rt: HostRuntime) -> Result<(), Fail> {
         "om 1\ncircuits 4\n-+-+\n+-+-\n-+-+\nend\n",
         COCIRCUITS,
         "om 1\ncocircuits 3\nend\n",
+        "om 1\nwiring 3\n1-2 2-3 1-2\nend\n",
+        FLAT,
     ] {
         ends(
             &rt,
@@ -237,6 +242,13 @@ fn documents_that_fail_their_axioms(rt: HostRuntime) -> Result<(), Fail> {
         (
             "om 1\ncircuits 3\n+-0\n0+-\n-+0\n0-+\nend\n",
             "refused noelimination 2 1 2\n",
+        ),
+        ("om 1\nwiring 4\nend\n", "refused notreversed\n"),
+        ("om 1\nwiring 3\n1-2\nend\n", "refused notreversed\n"),
+        ("om 1\nwiring 3\n1-2 3-4\nend\n", "refused range 2\n"),
+        (
+            "om 1\nwiring 3\n1-2 1-2\nend\n",
+            "refused notincreasing 2\n",
         ),
     ] {
         ends(
@@ -321,6 +333,19 @@ fn conversions(rt: HostRuntime) -> Result<(), Fail> {
             Status::Done,
             "om 1\nchirotope 2 2\n-\nend\n",
         ),
+        (
+            "chirotope",
+            "om 1\nwiring 3\n1-2 2-3 1-2\nend\n",
+            Status::Done,
+            "om 1\nchirotope 3 3\n+\nend\n",
+        ),
+        (
+            "chirotope",
+            "om 1\nwiring 3\n2-3 1-2 2-3\nend\n",
+            Status::Done,
+            "om 1\nchirotope 3 3\n-\nend\n",
+        ),
+        ("chirotope", FLAT, Status::Refused, "refused flatrank\n"),
         ("circuits", UNIFORM, Status::Done, CIRCUITS),
         ("cocircuits", UNIFORM, Status::Done, COCIRCUITS),
         ("chirotope", CIRCUITS, Status::Refused, "refused unbuilt\n"),
@@ -391,7 +416,6 @@ fn documents_with_a_line_at_fault(rt: HostRuntime) -> Result<(), Fail> {
         ("om 1\nchirotope 5 4\nend\n", "refused line 2 rank 5\n"),
         ("om 1\nchirotope 03 4\nend\n", "refused line 2 header\n"),
         ("om 1\nspheres 4\nend\n", "refused line 2 kind\n"),
-        ("om 1\nwiring 4\nend\n", "refused line 2 unbuilt\n"),
         (
             "om 2\nchirotope 3 4\n++++\nend\n",
             "refused line 1 version\n",

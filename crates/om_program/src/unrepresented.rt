@@ -5,6 +5,8 @@ use om_answer::Line;
 pub enum Unrepresented {
     /// It fails the axioms of its kind, and this line names the first violated instance.
     Refused(Line),
+    /// It is a wiring whose map is zero at each triple: it meets its axioms, and gives no chirotope.
+    Flat,
     /// Want of memory.
     Memory,
 }

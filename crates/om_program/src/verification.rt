@@ -2,12 +2,10 @@
 
 ghost use Rattle.std.specs.Prelude.{◌≡◌, IfOk};
 ghost use Rattle.om_text.specs.Form.{IsInForm};
-ghost use Rattle.om_text.specs.declared.document.Document.{Document};
 ghost use Rattle.om_certificate.specs.Validity.{IsWithinLimits};
 ghost use Rattle.om_answer.specs.Claim.{HasEvidenceWithinLimits};
-ghost use Rattle.om_program.specs.Axioms.{MeetsAxioms};
-ghost use Rattle.om_program.specs.Covectors.{Represents};
-ghost use Rattle.om_program.specs.Claims.{ClaimMeans, VerdictMeans, EvidenceMeans, valid_line, refusal_line};
+ghost use Rattle.om_program.specs.Documents.{document_of};
+ghost use Rattle.om_program.specs.Claims.{ClaimMeans, IsJudged, VerdictMeans, EvidenceMeans, valid_line, refusal_line};
 
 use crate::chirotope_choice::choose_chirotope;
 use crate::representation::{Representation, represent};
@@ -29,6 +27,7 @@ pub fn verify<R: Threads + Sync>(rt: &R, alloc: Global, claim: Claim) -> Result<
     match represent(rt, alloc, document) {
         Ok(representation) => Ok(verify_representation(representation, verdict)),
         Err(Unrepresented::Refused(why)) => Ok(why),
+        Err(Unrepresented::Flat) => Ok(Line::RefusedFlatrank),
         Err(Unrepresented::Memory) => Err(NoMemory),
     }
 }
@@ -36,7 +35,7 @@ pub fn verify<R: Threads + Sync>(rt: &R, alloc: Global, claim: Claim) -> Result<
 /// The line that answers a verdict on an oriented matroid.
 fn verify_representation(representation: Representation, verdict: Verdict) -> Line
     requires { HasEvidenceWithinLimits verdict }
-    ensures { (d : Document) → Represents d representation → MeetsAxioms d.body → ClaimMeans (record { document = d; verdict = verdict }) result }
+    ensures { IsJudged (document_of representation) verdict result }
 {
     match choose_chirotope(representation) {
         Ok(chirotope) => verify_verdict(&chirotope, verdict),

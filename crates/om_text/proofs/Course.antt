@@ -12,14 +12,14 @@ use Rattle.om_text.specs.declared.code.Code.TheVariants as code
 use Rattle.om_text.specs.declared.state.State.{State}
 use Rattle.om_text.specs.declared.state.State.TheVariants.{Start, Versioned, Open, Closed}
 use Rattle.om_text.specs.declared.kind.Kind.{Kind}
-use Rattle.om_text.specs.Document.{IsSpelled, is_line, version_line, end_line, is_body_line, has_signs, has_length, has_numbers, filled, has_room, is_complete}
-use Rattle.om_text.specs.Heading.{is_unbuilt, first_word, kind_of, heading, opened, has_elements, has_rank, rank_of_body}
+use Rattle.om_text.specs.Document.{IsSpelled, is_line, version_line, end_line, is_body_line, has_signs, has_length, has_blocks, has_numbers, filled, has_room, is_complete}
+use Rattle.om_text.specs.Heading.{first_word, kind_of, heading, opened, has_elements, has_rank, rank_of_body}
 use Rattle.om_text.specs.Fault.{kind, body, «end», after, place, when, first_of, table}
 use Rattle.om_text.specs.Reading.{step, after_kind, with_heading, after_body, after_end, added}
 use Rattle.om_text.proofs.Language as any
 use Rattle.om_text.proofs.Language.{bind}
 use Rattle.om_text.proofs.Distinct.{either, both}
-use Rattle.om_text.proofs.Filling.{is_line-Decides, line_not_end, has_signs_filled, has_length_filled, has_numbers_filled, filled_added, room_before, room_empty}
+use Rattle.om_text.proofs.Filling.{is_line-Decides, line_not_end, has_signs_filled, has_length_filled, has_blocks_filled, has_numbers_filled, filled_added, room_before, room_empty}
 
 -- the lines so far are a document's up to a place in its body
 pub record IsOpen (ls : List (List (List ℕ))) (d : Document) : Type 0 where
@@ -56,21 +56,23 @@ ok_same s t h = cc
 pub record IsTaken (d : Document) (w : List (List ℕ)) (t : State) : Type 0 where
   pub signs : has_signs d w ≡ true
   pub length : has_length d w ≡ true
+  pub blocks : has_blocks d w ≡ true
   pub numbers : has_numbers d w ≡ true
   pub room : has_room (added d w) ≡ true
   pub state : Open (added d w) ≡ t
 
 pub taken : (d : Document) (w : List (List ℕ)) (t : State) → after_body d w ≡ Ok t → IsTaken d w t
 taken d w t h =
-    let p = at (has_signs d w) (has_length d w) (has_numbers d w) (has_room (added d w)) (Open (added d w)) t h in
-    record { signs = p.0; length = p.1; numbers = p.2; room = p.3; state = p.4 }
+    let p = at (has_signs d w) (has_length d w) (has_blocks d w) (has_numbers d w) (has_room (added d w)) (Open (added d w)) t h in
+    record { signs = p.0; length = p.1; blocks = p.2; numbers = p.3; room = p.4; state = p.5 }
   where
-    at : (a b c e : Bool) (x t : State) → cond a (cond b (cond c (cond e (Ok x) (Err code.Many)) (Err code.Number)) (Err code.Length)) (Err code.Sign) ≡ Ok t → (a ≡ true) × (b ≡ true) × (c ≡ true) × (e ≡ true) × (x ≡ t)
-    at true true true true x t h = (refl, refl, refl, refl, ok_same x t h)
-    at true true true false x t h = cc
-    at true true false e x t h = cc
-    at true false c e x t h = cc
-    at false b c e x t h = cc
+    at : (a b f c e : Bool) (x t : State) → cond a (cond b (cond f (cond c (cond e (Ok x) (Err code.Many)) (Err code.Number)) (Err code.Block)) (Err code.Length)) (Err code.Sign) ≡ Ok t → (a ≡ true) × (b ≡ true) × (f ≡ true) × (c ≡ true) × (e ≡ true) × (x ≡ t)
+    at true true true true true x t h = (refl, refl, refl, refl, refl, ok_same x t h)
+    at true true true true false x t h = cc
+    at true true true false e x t h = cc
+    at true true false c e x t h = cc
+    at true false f c e x t h = cc
+    at false b f c e x t h = cc
 
 list_all-append : (p : List (List ℕ) → Bool) (xs : List (List (List ℕ))) (y : List (List ℕ)) → list_all p xs ≡ true → p y ≡ true → list_all p (xs ++ y ∷ []) ≡ true
 list_all-append p [] y h e = rw e refl
@@ -88,8 +90,7 @@ heading_shows (Some d) w t e h =
 
 kind_shows : (w : List (List ℕ)) (t : State) → after_kind w ≡ Ok t → Shows t (version_line ∷ w ∷ [])
 kind_shows w t h =
-    let a = cond_err (is_unbuilt (first_word w)) (cond (is_none (kind_of (first_word w))) (Err code.Kind) (with_heading (heading w))) code.Unbuilt t h in
-    let b = cond_err (is_none (kind_of (first_word w))) (with_heading (heading w)) code.Kind t a.1 in
+    let b = cond_err (is_none (kind_of (first_word w))) (with_heading (heading w)) code.Kind t h in
     heading_shows (heading w) w t refl b.1
 
 body_shows : (ls : List (List (List ℕ))) (d : Document) (w : List (List ℕ)) (t : State) → IsOpen ls d → after_body d w ≡ Ok t → Shows t (ls ++ w ∷ [])
@@ -98,8 +99,9 @@ body_shows ls d w t o h =
     let v : added d w ≡ filled o.head (o.body ++ w ∷ []) = ap (λ e. added e w) o.value ∙ ap (λ x. record { elements = o.head.elements; body = x }) (filled_added o.head.body o.body w) in
     let s : has_signs o.head w ≡ true = sym (has_signs_filled o.head.body o.body w) ∙ sym (ap (λ e. has_signs e w) o.value) ∙ a.signs in
     let l : has_length o.head w ≡ true = sym (has_length_filled o.head.body o.body o.head.elements w) ∙ sym (ap (λ e. has_length e w) o.value) ∙ a.length in
+    let k : has_blocks o.head w ≡ true = sym (has_blocks_filled o.head.body o.body w) ∙ sym (ap (λ e. has_blocks e w) o.value) ∙ a.blocks in
     let m : has_numbers o.head w ≡ true = sym (has_numbers_filled o.head.body o.body w) ∙ sym (ap (λ e. has_numbers e w) o.value) ∙ a.numbers in
-    let line : is_body_line o.head w ≡ true = rw (s, l, m) refl in
+    let line : is_body_line o.head w ≡ true = rw (s, l, k, m) refl in
     let n : IsOpen (ls ++ w ∷ []) (added d w) = record {
       kind_line = o.kind_line;
       head = o.head;
@@ -170,14 +172,15 @@ heading_rows (Some d) c tail h =
     (λ g. rows_not (has_rank d) (code.Rank (rank_of_body d.body)) c (Ok (Open (filled d []))) tail (no_error _ c tail) g) h
 
 kind_rows : (w : List (List ℕ)) (c : Code) → after_kind w ≡ Err c → first_of (table kind w) ≡ Some c
-kind_rows w c h = rows_when (is_unbuilt (first_word w)) code.Unbuilt c _ _ (λ g. rows_when (is_none (kind_of (first_word w))) code.Kind c _ _ (λ k. heading_rows (heading w) c _ k) g) h
+kind_rows w c h = rows_when (is_none (kind_of (first_word w))) code.Kind c _ _ (λ k. heading_rows (heading w) c _ k) h
 
-body_rows : (head d : Document) (ls : List (List (List ℕ))) (w : List (List ℕ)) (c : Code) → has_signs d w ≡ has_signs head w → has_length d w ≡ has_length head w → has_numbers d w ≡ has_numbers head w → has_room (added d w) ≡ has_room (filled head (ls ++ w ∷ [])) → after_body d w ≡ Err c → first_of (table (body head ls) w) ≡ Some c
-body_rows head d ls w c s l m r h =
+body_rows : (head d : Document) (ls : List (List (List ℕ))) (w : List (List ℕ)) (c : Code) → has_signs d w ≡ has_signs head w → has_length d w ≡ has_length head w → has_blocks d w ≡ has_blocks head w → has_numbers d w ≡ has_numbers head w → has_room (added d w) ≡ has_room (filled head (ls ++ w ∷ [])) → after_body d w ≡ Err c → first_of (table (body head ls) w) ≡ Some c
+body_rows head d ls w c s l b m r h =
     rw (← s) (rows_not (has_signs d w) code.Sign c _ _
     (λ g. rw (← l) (rows_not (has_length d w) code.Length c _ _
+    (λ f. rw (← b) (rows_not (has_blocks d w) code.Block c _ _
     (λ k. rw (← m) (rows_not (has_numbers d w) code.Number c _ _
-    (λ j. rw (← r) (rows_not (has_room (added d w)) code.Many c (Ok (Open (added d w))) (None ∷ None ∷ []) (no_error _ c (None ∷ None ∷ [])) j)) k)) g)) h)
+    (λ j. rw (← r) (rows_not (has_room (added d w)) code.Many c (Ok (Open (added d w))) (None ∷ None ∷ []) (no_error _ c (None ∷ None ∷ [])) j)) k)) f)) g)) h)
 
 end_rows : (head d : Document) (ls : List (List (List ℕ))) (w : List (List ℕ)) (c : Code) → is_complete d ≡ is_complete (filled head ls) → after_end d ≡ Err c → first_of (table («end» head ls) w) ≡ Some c
 end_rows head d ls w c e h = rw (← e) (rows_not (is_complete d) code.Few c (Ok (Closed d)) (None ∷ []) (no_error _ c (None ∷ [])) h)
@@ -193,7 +196,7 @@ pub step_error : (s : State) (ls : List (List (List ℕ))) (w : List (List ℕ))
 step_error Start ls w c o h = subst (λ x. first_of (table (place x w) w) ≡ Some c) (sym o) (rows_not (is_line w version_line) code.Version c (Ok Versioned) later (no_error _ c later) h)
   where
     later : List (Option Code)
-    later = None ∷ None ∷ None ∷ None ∷ None ∷ None ∷ None ∷ None ∷ None ∷ None ∷ []
+    later = None ∷ None ∷ None ∷ None ∷ None ∷ None ∷ None ∷ None ∷ None ∷ None ∷ None ∷ []
 step_error Versioned ls w c o h = subst (λ x. first_of (table (place x w) w) ≡ Some c) (sym o) (kind_rows w c h)
 step_error (Open d) ls w c o h =
     let at : place (version_line ∷ o.kind_line ∷ o.body) w ≡ cond (is_line w end_line) («end» o.head o.body) (body o.head o.body) = rw (o.heading, no_end o.head o.body o.each) refl in
@@ -205,9 +208,10 @@ step_error (Open d) ls w c o h =
           let q : place (version_line ∷ o.kind_line ∷ o.body) w ≡ body o.head o.body = at ∙ rw n refl in
           let s : has_signs d w ≡ has_signs o.head w = ap (λ e. has_signs e w) o.value ∙ has_signs_filled o.head.body o.body w in
           let l : has_length d w ≡ has_length o.head w = ap (λ e. has_length e w) o.value ∙ has_length_filled o.head.body o.body o.head.elements w in
+          let k : has_blocks d w ≡ has_blocks o.head w = ap (λ e. has_blocks e w) o.value ∙ has_blocks_filled o.head.body o.body w in
           let m : has_numbers d w ≡ has_numbers o.head w = ap (λ e. has_numbers e w) o.value ∙ has_numbers_filled o.head.body o.body w in
           let v : added d w ≡ filled o.head (o.body ++ w ∷ []) = ap (λ e. added e w) o.value ∙ ap (λ x. record { elements = o.head.elements; body = x }) (filled_added o.head.body o.body w) in
-          subst (λ p. first_of (table p w) ≡ Some c) (sym q) (body_rows o.head d o.body w c s l m (ap has_room v) a)
+          subst (λ p. first_of (table p w) ≡ Some c) (sym q) (body_rows o.head d o.body w c s l k m (ap has_room v) a)
     ])
 step_error (Closed d) ls w c o h =
     let any : list_any (λ l. is_line l end_line) (o.body ++ end_line ∷ []) ≡ true = list_any-append (λ l. is_line l end_line) o.body (end_line ∷ []) ∙ or_true (list_any (λ l. is_line l end_line) o.body) in
@@ -223,12 +227,6 @@ step_error (Closed d) ls w c o h =
 
 -- a document's lines are read to its end
 
-pub built : (w : List ℕ) (k : Kind) → kind_of w ≡ Some k → is_unbuilt w ≡ false
-built w k h = elim (either (is_unbuilt w)) [
-  | inl e ↦ let n = rw e at h in cc
-  | inr n ↦ n
-]
-
 pub named : (o : Option Kind) (f : Kind → Option Document) (d : Document) → option_and_then f o ≡ Some d → (k : Kind) × (o ≡ Some k)
 named None f d h = cc
 named (Some k) f d h = (k, refl)
@@ -238,10 +236,10 @@ kind_ok [] d h e r = cc
 kind_ok (w ∷ ws) d h e r =
     let n = named (kind_of w) (λ k. opened k ws) d h in
     let g : with_heading (heading (w ∷ ws)) ≡ Ok (Open (filled d [])) = ap with_heading h ∙ rw (e, r) refl in
-    passed (is_unbuilt w) (kind_of w) n.0 (with_heading (heading (w ∷ ws))) (built w n.0 n.1) n.1 ∙ g
+    passed (kind_of w) n.0 (with_heading (heading (w ∷ ws))) n.1 ∙ g
   where
-    passed : (u : Bool) (o : Option Kind) (k : Kind) (x : Result State Code) → u ≡ false → o ≡ Some k → cond u (Err code.Unbuilt) (cond (is_none o) (Err code.Kind) x) ≡ x
-    passed u o k x b s = rw (b, s) refl
+    passed : (o : Option Kind) (k : Kind) (x : Result State Code) → o ≡ Some k → cond (is_none o) (Err code.Kind) x ≡ x
+    passed o k x s = rw s refl
 
 -- the lines with words in turn
 abbrev pub run_words : State → List (List (List ℕ)) → Result State Code
@@ -251,8 +249,9 @@ body_run : (head : Document) (pre ls : List (List (List ℕ))) → list_all (is_
 body_run head pre [] a r c = rw (append-nil pre) (let d : is_complete (filled head pre) ≡ true = rw (append-nil pre) at c in rw d refl)
 body_run head pre (w ∷ ws) a r c =
     let b = both (is_body_line head w) (list_all (is_body_line head) ws) a in
-    let f = both (has_signs head w && has_length head w) (has_numbers head w) b.0 in
-    let l = both (has_signs head w) (has_length head w) f.0 in
+    let f = both (has_signs head w && has_length head w && has_blocks head w) (has_numbers head w) b.0 in
+    let g = both (has_signs head w && has_length head w) (has_blocks head w) f.0 in
+    let l = both (has_signs head w) (has_length head w) g.0 in
     let q : (pre ++ w ∷ []) ++ ws ≡ pre ++ w ∷ ws = append_assoc pre (w ∷ []) ws in
     let r2 : has_room (filled head ((pre ++ w ∷ []) ++ ws)) ≡ true = rw q r in
     let c2 : is_complete (filled head ((pre ++ w ∷ []) ++ ws)) ≡ true = rw q c in
@@ -260,15 +259,16 @@ body_run head pre (w ∷ ws) a r c =
     let v : added (filled head pre) w ≡ filled head (pre ++ w ∷ []) = ap (λ x. record { elements = head.elements; body = x }) (filled_added head.body pre w) in
     let s : has_signs (filled head pre) w ≡ true = has_signs_filled head.body pre w ∙ l.0 in
     let n : has_length (filled head pre) w ≡ true = has_length_filled head.body pre head.elements w ∙ l.1 in
+    let k : has_blocks (filled head pre) w ≡ true = has_blocks_filled head.body pre w ∙ g.1 in
     let m : has_numbers (filled head pre) w ≡ true = has_numbers_filled head.body pre w ∙ f.1 in
-    let one : step (Open (filled head pre)) w ≡ Ok (Open (filled head (pre ++ w ∷ []))) = first_step head pre w (line_not_end head.body head.elements w b.0) s n m v room in
+    let one : step (Open (filled head pre)) w ≡ Ok (Open (filled head (pre ++ w ∷ []))) = first_step head pre w (line_not_end head.body head.elements w b.0) s n k m v room in
     let more : run_words (Open (filled head (pre ++ w ∷ []))) (ws ++ end_line ∷ []) ≡ Ok (Closed (filled head ((pre ++ w ∷ []) ++ ws))) = body_run head (pre ++ w ∷ []) ws b.1 r2 c2 in
     ap (λ x. bind x (λ t. run_words t (ws ++ end_line ∷ []))) one ∙ more ∙ ap (λ x. Ok (Closed (filled head x))) q
   where
-    first_step : (head : Document) (pre : List (List (List ℕ))) (w : List (List ℕ)) → is_line w end_line ≡ false → has_signs (filled head pre) w ≡ true → has_length (filled head pre) w ≡ true → has_numbers (filled head pre) w ≡ true → added (filled head pre) w ≡ filled head (pre ++ w ∷ []) → has_room (filled head (pre ++ w ∷ [])) ≡ true → step (Open (filled head pre)) w ≡ Ok (Open (filled head (pre ++ w ∷ [])))
-    first_step head pre w n s l m v r =
+    first_step : (head : Document) (pre : List (List (List ℕ))) (w : List (List ℕ)) → is_line w end_line ≡ false → has_signs (filled head pre) w ≡ true → has_length (filled head pre) w ≡ true → has_blocks (filled head pre) w ≡ true → has_numbers (filled head pre) w ≡ true → added (filled head pre) w ≡ filled head (pre ++ w ∷ []) → has_room (filled head (pre ++ w ∷ [])) ≡ true → step (Open (filled head pre)) w ≡ Ok (Open (filled head (pre ++ w ∷ [])))
+    first_step head pre w n s l k m v r =
         let r2 : has_room (added (filled head pre) w) ≡ true = ap has_room v ∙ r in
-        let g : after_body (filled head pre) w ≡ Ok (Open (added (filled head pre) w)) = chain _ _ _ _ _ s l m r2 in
+        let g : after_body (filled head pre) w ≡ Ok (Open (added (filled head pre) w)) = chain _ _ _ _ _ _ s l k m r2 in
         let c : step (Open (filled head pre)) w ≡ after_body (filled head pre) w = choose_second _ _ _ n in
         c ∙ g ∙ ap (λ e. Ok (Open e)) v
       where
@@ -276,12 +276,13 @@ body_run head pre (w ∷ ws) a r c =
         choose_second true x y h = cc
         choose_second false x y h = refl
 
-        chain : (a b c e : Bool) (x : Result State Code) → a ≡ true → b ≡ true → c ≡ true → e ≡ true → cond a (cond b (cond c (cond e x (Err code.Many)) (Err code.Number)) (Err code.Length)) (Err code.Sign) ≡ x
-        chain true true true true x a b c e = refl
-        chain true true true false x a b c e = cc
-        chain true true false z x a b c e = cc
-        chain true false y z x a b c e = cc
-        chain false u y z x a b c e = cc
+        chain : (a b f c e : Bool) (x : Result State Code) → a ≡ true → b ≡ true → f ≡ true → c ≡ true → e ≡ true → cond a (cond b (cond f (cond c (cond e x (Err code.Many)) (Err code.Number)) (Err code.Block)) (Err code.Length)) (Err code.Sign) ≡ x
+        chain true true true true true x a b f c e = refl
+        chain true true true true false x a b f c e = cc
+        chain true true true false z x a b f c e = cc
+        chain true true false y z x a b f c e = cc
+        chain true false v y z x a b f c e = cc
+        chain false u v y z x a b f c e = cc
 
 -- the lines of a document are read to its end
 pub spelled_run : (ls : List (List (List ℕ))) (d : Document) → IsSpelled ls d → run_words Start ls ≡ Ok (Closed d)

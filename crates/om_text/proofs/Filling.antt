@@ -3,21 +3,23 @@
 -- Main results: filled_added, room_before, room_empty, line_not_end
 use Rattle.std.proofs.Common.{◌≡◌, ℕ, ◌≤◌, List, [], ◌∷◌, ◌++◌, true, false, ◌&&◌, inl, inr, refl, sym, ap, ◌∙◌, arith, length-append, append_assoc, append-nil, map}
 use Rattle.std.specs.Prelude.{Decides, nat_le}
-use Rattle.std.specs.List.{concat}
+use Rattle.std.specs.List.{concat, flat_map}
 use Rattle.std.proofs.lemmas.Slice.Eq.{slice_eq-Decides, bytes_eq-Decides}
 use Rattle.std.proofs.lemmas.List.{map-append}
 use Rattle.std.proofs.lemmas.Bool.{leb-true, le-leb}
+use Rattle.std.proofs.lemmas.List.Concat.{flat_map-append}
 use Rattle.std.proofs.lemmas.List.Folds.{concat-append}
 use Rattle.std.proofs.Math.Dec.{leb-zero}
 use Rattle.om_subsets.specs.Subsets.{choose}
 use Rattle.om_text.specs.declared.document.Document.{Document}
 use Rattle.om_text.specs.declared.body.Body.{Body}
-use Rattle.om_text.specs.declared.body.Body.TheVariants.{Chirotope, Points}
+use Rattle.om_text.specs.declared.body.Body.TheVariants.{Chirotope, Wiring, Points}
 use Rattle.om_text.specs.Words.{sign_of_byte}
 use Rattle.om_text.specs.Rows.{distinct}
 use Rattle.om_text.specs.Members.{members_of, with_members}
+use Rattle.om_text.specs.Blocks.{blocks_on}
 use Rattle.om_text.specs.Points.{point_on}
-use Rattle.om_text.specs.Document.{is_line, end_line, are_signs, signs_of_line, all_signs, filled_body, filled, size_of, room_of, has_signs_in, has_length_in, has_numbers_in, has_room}
+use Rattle.om_text.specs.Document.{is_line, end_line, are_signs, signs_of_line, all_signs, filled_body, filled, size_of, room_of, has_signs_in, has_length_in, has_blocks_in, has_numbers_in, has_room}
 use Rattle.om_text.specs.Reading.{added_body}
 use Rattle.om_text.proofs.Distinct.{either, both, distinct-append, with_member_grows}
 
@@ -33,14 +35,19 @@ signs_not_end w h = elim (either (is_line w end_line)) [
 ]
 
 -- nor is any line of a body
-pub line_not_end : (b : Body) (n : ℕ) (w : List (List ℕ)) → (has_signs_in b w && has_length_in b n w && has_numbers_in b w) ≡ true → is_line w end_line ≡ false
+pub line_not_end : (b : Body) (n : ℕ) (w : List (List ℕ)) → (has_signs_in b w && has_length_in b n w && has_blocks_in b w && has_numbers_in b w) ≡ true → is_line w end_line ≡ false
+line_not_end (Wiring bs) n w h = elim (either (is_line w end_line)) [
+  | inl e ↦ let q : w ≡ end_line = (is_line-Decides w end_line).0 e in
+      let bad = rw q at h in cc
+  | inr n ↦ n
+]
 line_not_end (Points ps) n w h = elim (either (is_line w end_line)) [
   | inl e ↦ let q : w ≡ end_line = (is_line-Decides w end_line).0 e in
       let bad = rw q at h in cc
   | inr n ↦ n
 ]
-line_not_end (Chirotope m) n w h = signs_not_end w (both (are_signs w) true (both (are_signs w && true) true h).0).0
-line_not_end b n w h = signs_not_end w (both (are_signs w) (has_length_in b n w) (both (are_signs w && has_length_in b n w) true h).0).0
+line_not_end (Chirotope m) n w h = signs_not_end w (both (are_signs w) true (both (are_signs w && true) true (both (are_signs w && true && true) true h).0).0).0
+line_not_end b n w h = signs_not_end w (both (are_signs w) (has_length_in b n w) (both (are_signs w && has_length_in b n w) true (both (are_signs w && has_length_in b n w && true) true h).0).0).0
 
 pub has_signs_filled : (b : Body) (ls : List (List (List ℕ))) (w : List (List ℕ)) → has_signs_in (filled_body b ls) w ≡ has_signs_in b w
 has_signs_filled (Chirotope m) ls w = refl
@@ -51,6 +58,11 @@ pub has_numbers_filled : (b : Body) (ls : List (List (List ℕ))) (w : List (Lis
 has_numbers_filled (Chirotope m) ls w = refl
 has_numbers_filled (Points ps) ls w = refl
 has_numbers_filled _ ls w = refl
+
+pub has_blocks_filled : (b : Body) (ls : List (List (List ℕ))) (w : List (List ℕ)) → has_blocks_in (filled_body b ls) w ≡ has_blocks_in b w
+has_blocks_filled (Chirotope m) ls w = refl
+has_blocks_filled (Points ps) ls w = refl
+has_blocks_filled _ ls w = refl
 
 pub has_length_filled : (b : Body) (ls : List (List (List ℕ))) (n : ℕ) (w : List (List ℕ)) → has_length_in (filled_body b ls) n w ≡ has_length_in b n w
 has_length_filled (Chirotope m) ls n w = refl
@@ -65,14 +77,19 @@ room_filled _ ls n = refl
 all_signs-append : (ls : List (List (List ℕ))) (w : List (List ℕ)) → all_signs (ls ++ w ∷ []) ≡ all_signs ls ++ signs_of_line w
 all_signs-append ls w = rw (map-append concat ls (w ∷ []), concat-append (map concat ls) (concat w ∷ []), append-nil (concat w)) (map-append sign_of_byte (concat (map concat ls)) (concat w))
 
+blocks-append : (ls : List (List (List ℕ))) (w : List (List ℕ)) → flat_map blocks_on (ls ++ w ∷ []) ≡ flat_map blocks_on ls ++ blocks_on w
+blocks-append ls w = flat_map-append blocks_on ls (w ∷ []) ∙ ap (λ r. flat_map blocks_on ls ++ r) (append-nil (blocks_on w))
+
 -- one more line
 pub filled_added : (b : Body) (ls : List (List (List ℕ))) (w : List (List ℕ)) → added_body (filled_body b ls) w ≡ filled_body b (ls ++ w ∷ [])
 filled_added (Chirotope m) ls w = ap (λ xs. Chirotope (record { rank = m.rank; elements = m.elements; signs = xs })) (sym (all_signs-append ls w))
+filled_added (Wiring bs) ls w = ap Wiring (sym (blocks-append ls w))
 filled_added (Points ps) ls w = ap Points (sym (map-append point_on ls (w ∷ [])))
 filled_added b ls w = ap (with_members b) (sym (ap distinct (map-append signs_of_line ls (w ∷ [])) ∙ distinct-append (map signs_of_line ls) (signs_of_line w)))
 
 pub size_grows : (b : Body) (w : List (List ℕ)) → size_of b ≤ size_of (added_body b w)
 size_grows (Chirotope m) w = omega (arith, length-append m.signs (signs_of_line w))
+size_grows (Wiring bs) w = omega (arith, length-append bs (blocks_on w))
 size_grows (Points ps) w = omega (arith, length-append ps (point_on w ∷ []))
 size_grows b w = with_member_grows (members_of b) (signs_of_line w)
 

@@ -1,52 +1,31 @@
 -- A document's value has the forms of documents, within the limits.
 --
 -- Main results: document_form
-use Rattle.std.proofs.Common.{◌≡◌, ◌≢◌, arith, ℕ, List, [], ◌∷◌, true, false, not, ◌&&◌, inl, inr, length, map, refl, sym, ap, subst, ◌∙◌}
-use Rattle.std.specs.Prelude.{ℤ, Option, Some, None, is_some, unwrap_or, IfSome, cond, All, AllPairs, filter, bytes_eq, nat_eq, nat_le}
-use Rattle.std.specs.List.{list_all, concat}
+use Rattle.std.proofs.Common.{◌≡◌, ◌≢◌, arith, ℕ, ◌<◌, List, [], ◌∷◌, true, not, ◌&&◌, inl, inr, length, map, refl, sym, subst, ◌∙◌}
+use Rattle.std.specs.Prelude.{ℤ, Option, Some, None, is_some, unwrap_or, IfSome, All, AllPairs, filter, nat_eq, nat_le}
+use Rattle.std.specs.List.{list_all, concat, flat_map, before_first, after_first}
 use Rattle.std.proofs.lemmas.Bool.{leb-true, eqb-true}
-use Rattle.std.proofs.lemmas.Slice.Eq.{bytes_eq-Decides}
 use Rattle.std.proofs.lemmas.List.{length-map}
-use Rattle.std.proofs.lemmas.List.Elements.{All-nil, All-cons, All-head, All-tail, All-filter}
+use Rattle.std.proofs.lemmas.List.Elements.{All-nil, All-cons, All-head, All-tail, All-append, All-filter}
 use Rattle.std.proofs.lemmas.List.Kept.{AllPairs-cons, AllPairs-filter}
-use Rattle.om_signs.specs.declared.limits.TheConstants.{MAX_ELEMENTS, MAX_MEMBERS}
+use Rattle.om_signs.specs.declared.limits.TheConstants.{MAX_ELEMENTS, MAX_MEMBERS, MAX_BLOCKS}
+use Rattle.om_signs.specs.declared.block.Block.{Block}
 use Rattle.om_signs.specs.declared.sign.Sign.{Sign}
 use Rattle.om_text.specs.declared.document.Document.{Document}
 use Rattle.om_text.specs.declared.kind.Kind.{Kind}
 use Rattle.om_text.specs.declared.kind.Kind.TheVariants as kinds
 use Rattle.om_text.specs.Words.{sign_of_byte}
-use Rattle.om_text.specs.Heading.{is_unbuilt, named_kind, kind_of, numbers, opened, headed, heading, empty_body, kind_name, has_elements, has_rank}
+use Rattle.om_text.specs.Heading.{kind_of, numbers, opened, headed, heading, empty_body, has_elements, has_rank}
 use Rattle.om_text.specs.Rows.{same_row, distinct}
 use Rattle.om_text.specs.Document.{IsSpelled, are_signs, signs_of_line, is_body_line, has_room, is_complete, filled, filled_body}
-use Rattle.om_text.specs.Form.{IsInForm, AreMembersOn, IsCoordinate, IsPoint, ArePointsOn, IsBodyOn}
+use Rattle.om_text.specs.Form.{IsInForm, AreMembersOn, IsShort, AreBlocks, IsCoordinate, IsPoint, ArePointsOn, IsBodyOn}
+use Rattle.om_text.specs.Blocks.{position_of, is_dash, with_positions, block_of, block_on, are_blocks, blocks_on}
 use Rattle.om_text.specs.Points.{coordinate, with_three, point_of, point_on}
 use Rattle.om_text.proofs.Distinct.{either, same_row-Decides, both}
-use Rattle.om_text.proofs.Course.{built, named}
+use Rattle.om_text.proofs.Course.{named}
+use Rattle.om_text.proofs.BlockWords.{position_within}
 use Rattle.om_text.proofs.Digits.{signed_within}
 use Rattle.om_text.proofs.Small.{mapped}
-
--- the name of a kind
-abbrev name_of : Kind → List ℕ
-name_of k = kind_name (empty_body k 0 0)
-
--- a word that names a kind, by its first name or by a later one
-named_by : (w : List ℕ) (first k : Kind) (others : Option Kind) → (others ≡ Some k → w ≡ name_of k) → cond (bytes_eq w (name_of first)) (Some first) others ≡ Some k → w ≡ name_of k
-named_by w first k others f h = elim (either (bytes_eq w (name_of first))) [
-  | inl e ↦ let g : ◌≡◌ {A = Option Kind} (Some first) (Some k) = rw e at h in
-      let q : first ≡ k = cc in
-      (bytes_eq-Decides w (name_of first)).0 e ∙ ap name_of q
-  | inr n ↦ let g : others ≡ Some k = rw n at h in f g
-]
-
-name_is : (w : List ℕ) (k : Kind) → named_kind w ≡ Some k → w ≡ name_of k
-name_is w k h = named_by w kinds.Chirotope k _ (named_by w kinds.Circuits k _ (named_by w kinds.Cocircuits k _ (named_by w kinds.Covectors k _ (named_by w kinds.Points k None (λ g. cc))))) h
-
-read_name : (w : List ℕ) (k : Kind) → kind_of w ≡ Some k → named_kind w ≡ Some k
-read_name w k h = let n = rw (built w k h) at h in n
-
-name_of_filled : (k : Kind) (r n : ℕ) (ls : List (List (List ℕ))) → kind_name (filled_body (empty_body k r n) ls) ≡ name_of k
-name_of_filled kinds.Chirotope r n ls = refl
-name_of_filled _ r n ls = refl
 
 All-distinct : (P : List Sign → Type 0) (xs : List (List Sign)) → All P xs → All P (distinct xs)
 All-distinct P [] h = h
@@ -78,11 +57,38 @@ members_form n ls h m = record {
 }
 
 -- the lines of a list
-lines_of_signs : (n : ℕ) (ls : List (List (List ℕ))) → list_all (λ l. are_signs l && nat_eq (length (concat l)) n && true) ls ≡ true → list_all (λ l. are_signs l && nat_eq (length (concat l)) n) ls ≡ true
+lines_of_signs : (n : ℕ) (ls : List (List (List ℕ))) → list_all (λ l. are_signs l && nat_eq (length (concat l)) n && true && true) ls ≡ true → list_all (λ l. are_signs l && nat_eq (length (concat l)) n) ls ≡ true
 lines_of_signs n [] h = refl
 lines_of_signs n (l ∷ ls) h =
-    let a = both (are_signs l && nat_eq (length (concat l)) n && true) (list_all (λ l. are_signs l && nat_eq (length (concat l)) n && true) ls) h in
-    rw ((both (are_signs l && nat_eq (length (concat l)) n) true a.0).0, lines_of_signs n ls a.1) refl
+    let a = both (are_signs l && nat_eq (length (concat l)) n && true && true) (list_all (λ l. are_signs l && nat_eq (length (concat l)) n && true && true) ls) h in
+    let b = both (are_signs l && nat_eq (length (concat l)) n && true) true a.0 in
+    rw ((both (are_signs l && nat_eq (length (concat l)) n) true b.0).0, lines_of_signs n ls a.1) refl
+
+-- the blocks of lines
+
+short_form : (a b : Option ℕ) (d : Block) → IfSome a (λ k. k < 1000) → IfSome b (λ k. k < 1000) → is_some (with_positions a b) ≡ true → IsShort (unwrap_or (with_positions a b) d)
+short_form None b d h g e = cc
+short_form (Some i) None d h g e = cc
+short_form (Some i) (Some j) d h g e = record { first = h; last = g }
+
+block_form : (w : List ℕ) → is_some (block_of w) ≡ true → IsShort (block_on w)
+block_form w h = short_form (position_of (before_first is_dash w)) (position_of (after_first is_dash w)) _ (position_within (before_first is_dash w)) (position_within (after_first is_dash w)) h
+
+each_block : (ws : List (List ℕ)) → are_blocks ws ≡ true → All IsShort (blocks_on ws)
+each_block [] h = All-nil IsShort
+each_block (w ∷ ws) h =
+    let a = both (is_some (block_of w)) (are_blocks ws) h in
+    All-cons IsShort (block_on w) _ (block_form w a.0) (each_block ws a.1)
+
+all_blocks : (ls : List (List (List ℕ))) → list_all (λ l. are_blocks l && true) ls ≡ true → All IsShort (flat_map blocks_on ls)
+all_blocks [] h = All-nil IsShort
+all_blocks (l ∷ ls) h =
+    let a = both (are_blocks l && true) (list_all (λ l. are_blocks l && true) ls) h in
+    let b = both (are_blocks l) true a.0 in
+    All-append IsShort (blocks_on l) (flat_map blocks_on ls) (each_block l b.0) (all_blocks ls a.1)
+
+blocks_form : (ls : List (List (List ℕ))) → list_all (λ l. are_blocks l && true) ls ≡ true → nat_le (length (flat_map blocks_on ls)) MAX_BLOCKS ≡ true → AreBlocks (flat_map blocks_on ls)
+blocks_form ls h m = record { few = leb-true _ _ m; short = all_blocks ls h }
 
 -- the points of lines
 
@@ -110,16 +116,16 @@ points_form n ls h e = record { count = e; each = each_point ls h }
 
 body_form : (k : Kind) (r n : ℕ) (ls : List (List (List ℕ))) → has_rank (headed k (r, n)) ≡ true → list_all (is_body_line (headed k (r, n))) ls ≡ true → has_room (filled (headed k (r, n)) ls) ≡ true → is_complete (filled (headed k (r, n)) ls) ≡ true → IsBodyOn n (filled_body (empty_body k r n) ls)
 body_form kinds.Chirotope r n ls l a m c = record { elements = refl; rank = leb-true r n l; signs = eqb-true _ _ c }
+body_form kinds.Wiring r n ls l a m c = blocks_form ls a m
 body_form kinds.Points r n ls l a m c = points_form n ls a (eqb-true _ _ c)
 body_form _ r n ls l a m c = members_form n ls (lines_of_signs n ls a) m
 
-head_form : (k : Kind) (p : ℕ × ℕ) (ls : List (List (List ℕ))) → is_unbuilt (name_of k) ≡ false → has_elements (headed k p) ≡ true → has_rank (headed k p) ≡ true → list_all (is_body_line (headed k p)) ls ≡ true → has_room (filled (headed k p) ls) ≡ true → is_complete (filled (headed k p) ls) ≡ true → IsInForm (filled (headed k p) ls)
-head_form k p ls u e l a m c =
+head_form : (k : Kind) (p : ℕ × ℕ) (ls : List (List (List ℕ))) → has_elements (headed k p) ≡ true → has_rank (headed k p) ≡ true → list_all (is_body_line (headed k p)) ls ≡ true → has_room (filled (headed k p) ls) ≡ true → is_complete (filled (headed k p) ls) ≡ true → IsInForm (filled (headed k p) ls)
+head_form k p ls e l a m c =
     let b = both (nat_le 1 p.1) (nat_le p.1 MAX_ELEMENTS) e in
     record {
       low = leb-true 1 p.1 b.0;
       high = leb-true p.1 MAX_ELEMENTS b.1;
-      built = ap is_unbuilt (name_of_filled k p.0 p.1 ls) ∙ u;
       body = body_form k p.0 p.1 ls l a m c;
     }
 
@@ -128,8 +134,7 @@ spelled_form w ws head ls h e l a m c =
     let k = named (kind_of w) (λ k. opened k ws) head h in
     let q : opened k.0 ws ≡ Some head = rw k.1 at h in
     let p = mapped (numbers k.0 ws) (headed k.0) head q in
-    let u : is_unbuilt (name_of k.0) ≡ false = ap is_unbuilt (sym (name_is w k.0 (read_name w k.0 k.1))) ∙ built w k.0 k.1 in
-    let f = head_form k.0 p.0 ls u in
+    let f = head_form k.0 p.0 ls in
     subst (λ h. has_elements h ≡ true → has_rank h ≡ true → list_all (is_body_line h) ls ≡ true → has_room (filled h ls) ≡ true → is_complete (filled h ls) ≡ true → IsInForm (filled h ls)) p.1 f e l a m c
 
 -- what a document's lines give is in form

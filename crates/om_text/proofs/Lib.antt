@@ -5,6 +5,8 @@ pub mod Completion
 pub mod Outcome
 pub mod Scan
 pub mod Digits
+pub mod BlockWords
+pub mod BodyLines
 pub mod Coordinates
 pub mod Part
 pub mod Numbers
@@ -15,6 +17,7 @@ pub mod Small
 mod Samples
 mod ListSamples
 mod PointSamples
+mod BlockSamples
 pub mod Printing
 pub mod Texts
 pub mod Numerals

@@ -2,7 +2,7 @@
 --
 -- Main definitions: IsDecimal, IsNumber, IsSigned
 -- Main results: decimal_word, number_word, unsigned_word, signed_word
-use Rattle.std.proofs.Common.{◌≡◌, ℕ, zero, suc, ◌<◌, ◌≤◌, ◌^◌, List, [], ◌∷◌, Bool, true, false, ◌||◌, ◌⊎◌, ◌+◌, ◌%◌, ◌++◌, inl, inr, length, get_or, refl, ap, ◌∙◌, arith, nat_eq, length-append}
+use Rattle.std.proofs.Common.{◌≡◌, ℕ, zero, suc, ◌<◌, ◌≤◌, ◌^◌, List, [], ◌∷◌, Bool, true, false, ◌||◌, ◌⊎◌, ◌+◌, ◌%◌, inl, inr, length, get_or, refl, ap, ◌∙◌, arith, nat_eq, length-append}
 use Rattle.std.proofs.Math.ListN.{get_or-append}
 use Rattle.std.specs.Prelude.{ℤ, pos, negsuc, unsigned_abs, decimal, Some, option_map}
 use Rattle.std.specs.Fmt.{signed_decimal}

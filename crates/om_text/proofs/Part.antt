@@ -14,8 +14,8 @@ use Rattle.om_text.specs.declared.code.Code.TheVariants as code
 use Rattle.om_text.specs.declared.state.State.{State}
 use Rattle.om_text.specs.declared.state.State.TheVariants.{Start, Versioned, Open, Closed}
 use Rattle.om_text.specs.Lines.{lines, words, wordful, has_any, IsSplit}
-use Rattle.om_text.specs.Document.{IsDocument, is_line, version_line, end_line, has_signs, has_length, has_numbers, filled, has_room, is_complete}
-use Rattle.om_text.specs.Heading.{is_unbuilt, first_word, kind_of, heading, has_elements, has_rank, rank_of_body}
+use Rattle.om_text.specs.Document.{IsDocument, is_line, version_line, end_line, has_signs, has_length, has_blocks, has_numbers, filled, has_room, is_complete}
+use Rattle.om_text.specs.Heading.{first_word, kind_of, heading, has_elements, has_rank, rank_of_body}
 use Rattle.om_text.specs.Fault.{IsFault}
 use Rattle.om_text.specs.Form.{IsInForm}
 use Rattle.om_text.specs.Parsed.{ComesTo, IfLine}
@@ -44,8 +44,7 @@ closes Start t w n h e =
     let a = cond_ok (is_line w version_line) (Ok Versioned) code.Version t h in
     let q = rw (← ok_same _ _ a.1) at e in cc
 closes Versioned t w n h e =
-    let a = cond_err (is_unbuilt (first_word w)) (cond (is_none (kind_of (first_word w))) (Err code.Kind) (with_heading (heading w))) code.Unbuilt t h in
-    let b = cond_err (is_none (kind_of (first_word w))) (with_heading (heading w)) code.Kind t a.1 in
+    let b = cond_err (is_none (kind_of (first_word w))) (with_heading (heading w)) code.Kind t h in
     opens (heading w) b.1
   where
     opens : (o : Option Document) → with_heading o ≡ Ok t → w ≡ end_line
@@ -93,16 +92,16 @@ heading_not (Some d) c h =
 step_not_after : (s : State) (w : List (List ℕ)) (c : Code) → is_closed s ≡ false → step s w ≡ Err c → c ≡ code.After → ⊥
 step_not_after Start w c n h = keeps_not (is_line w version_line) code.Version c (Ok Versioned) (λ e. cc) (no_error _ c) h
 step_not_after Versioned w c n h =
-    keeps_when (is_unbuilt (first_word w)) code.Unbuilt c (cond (is_none (kind_of (first_word w))) (Err code.Kind) (with_heading (heading w))) (λ e. cc)
-    (λ g. keeps_when (is_none (kind_of (first_word w))) code.Kind c (with_heading (heading w)) (λ e. cc) (heading_not (heading w) c) g) h
+    keeps_when (is_none (kind_of (first_word w))) code.Kind c (with_heading (heading w)) (λ e. cc) (heading_not (heading w) c) h
 step_not_after (Open d) w c n h = elim (either (is_line w end_line)) [
   | inl y ↦ let g : after_end d ≡ Err c = rw y at h in
       keeps_not (is_complete d) code.Few c (Ok (Closed d)) (λ e. cc) (no_error _ c) g
   | inr y ↦ let g : after_body d w ≡ Err c = rw y at h in
-      keeps_not (has_signs d w) code.Sign c (cond (has_length d w) (cond (has_numbers d w) (cond (has_room (added d w)) (Ok (Open (added d w))) (Err code.Many)) (Err code.Number)) (Err code.Length)) (λ e. cc)
-      (λ g. keeps_not (has_length d w) code.Length c (cond (has_numbers d w) (cond (has_room (added d w)) (Ok (Open (added d w))) (Err code.Many)) (Err code.Number)) (λ e. cc)
+      keeps_not (has_signs d w) code.Sign c (cond (has_length d w) (cond (has_blocks d w) (cond (has_numbers d w) (cond (has_room (added d w)) (Ok (Open (added d w))) (Err code.Many)) (Err code.Number)) (Err code.Block)) (Err code.Length)) (λ e. cc)
+      (λ g. keeps_not (has_length d w) code.Length c (cond (has_blocks d w) (cond (has_numbers d w) (cond (has_room (added d w)) (Ok (Open (added d w))) (Err code.Many)) (Err code.Number)) (Err code.Block)) (λ e. cc)
+      (λ g. keeps_not (has_blocks d w) code.Block c (cond (has_numbers d w) (cond (has_room (added d w)) (Ok (Open (added d w))) (Err code.Many)) (Err code.Number)) (λ e. cc)
       (λ g. keeps_not (has_numbers d w) code.Number c (cond (has_room (added d w)) (Ok (Open (added d w))) (Err code.Many)) (λ e. cc)
-      (λ g. keeps_not (has_room (added d w)) code.Many c (Ok (Open (added d w))) (λ e. cc) (no_error _ c) g) g) g) g
+      (λ g. keeps_not (has_room (added d w)) code.Many c (Ok (Open (added d w))) (λ e. cc) (no_error _ c) g) g) g) g) g
 ]
 step_not_after (Closed d) w c n h = cc
 

@@ -1,16 +1,17 @@
 -- The text of lines, put together piece by piece.
 --
--- Main results: rows_more, members_more, points_more, pushed, printed_bytes
+-- Main results: rows_more, members_more, blocks_more, points_more, pushed, printed_bytes
 use Rattle.std.proofs.Common.{◌≡◌, ℕ, suc, ◌+◌, ◌-◌, ◌/◌, ◌<◌, min, List, [], ◌∷◌, ◌++◌, length, take, drop, get_or, map, refl, sym, ap, ◌∙◌, arith, append_assoc, length-drop, inl, inr, Bool, true, false, nat_eq}
 use Rattle.std.proofs.lemmas.List.{take_rest, take_min, take-map, drop-map, take_more, map-append}
 use Rattle.std.proofs.Math.ListN.{drop_of_length-le}
 use Rattle.std.proofs.lemmas.Bool.{cases_lt, eqb-false, eqb-true}
+use Rattle.om_signs.specs.declared.block.Block.{Block}
 use Rattle.om_signs.specs.declared.sign.Sign.{Sign}
 use Rattle.std.specs.Prelude.{ℤ, codes, Result, Ok, Err, OnOk}
 use Rattle.std.specs.Fmt.{signed_decimal}
 use Rattle.om_text.specs.declared.document.Document.{Document}
 use Rattle.om_text.specs.Words.{byte_of}
-use Rattle.om_text.specs.Print.{text_of, cut, sign_lines, member_lines, spaced, point_lines, kind_text, body_lines, printed}
+use Rattle.om_text.specs.Print.{text_of, cut, sign_lines, member_lines, block_text, block_lines, spaced, point_lines, kind_text, body_lines, printed}
 
 pub text_of-append : (xs ys : List (List ℕ)) → text_of (xs ++ ys) ≡ text_of xs ++ text_of ys
 text_of-append [] ys = refl
@@ -57,6 +58,14 @@ members_more base out new ms i x l e o n =
     let a : text_of (member_lines (take (i + 1) ms)) ≡ text_of (member_lines (take i ms)) ++ (map byte_of x ++ 10 ∷ []) = ap text_of m ∙ text_of-append (member_lines (take i ms)) (map byte_of x ∷ []) in
     n ∙ append_assoc out (map byte_of x) (10 ∷ []) ∙ ap (λ y. y ++ (map byte_of x ++ 10 ∷ [])) o
     ∙ append_assoc base (text_of (member_lines (take i ms))) (map byte_of x ++ 10 ∷ []) ∙ ap (λ y. base ++ y) (sym a)
+
+-- one more block
+pub blocks_more : (base out new : List ℕ) (bs : List Block) (i : ℕ) (d : Block) → i < length bs → out ≡ base ++ text_of (block_lines (take i bs)) → new ≡ out ++ text_of (block_lines (get_or bs i d ∷ [])) → new ≡ base ++ text_of (block_lines (take (i + 1) bs))
+blocks_more base out new bs i d l o n =
+    let b : Block = get_or bs i d in
+    let t : block_lines (take (i + 1) bs) ≡ block_lines (take i bs) ++ block_lines (b ∷ []) = ap block_lines (take_more bs i d l) ∙ map-append block_text (take i bs) (b ∷ []) in
+    n ∙ ap (λ x. x ++ text_of (block_lines (b ∷ []))) o ∙ append_assoc base (text_of (block_lines (take i bs))) (text_of (block_lines (b ∷ [])))
+    ∙ ap (λ x. base ++ x) (sym (ap text_of t ∙ text_of-append (block_lines (take i bs)) (block_lines (b ∷ []))))
 
 -- one more point
 pub points_more : (base out new : List ℕ) (ps : List (List ℤ)) (i : ℕ) → i < length ps → out ≡ base ++ text_of (point_lines (take i ps)) → new ≡ out ++ text_of (point_lines (get_or ps i [] ∷ [])) → new ≡ base ++ text_of (point_lines (take (i + 1) ps))

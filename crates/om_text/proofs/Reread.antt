@@ -2,31 +2,34 @@
 --
 -- Main definitions: AreRows, AreCut, IsPointLine, IsReread
 -- Main results: printed_one_line, printed_spelled, printed_document
-use Rattle.std.proofs.Common.{◌≡◌, ℕ, zero, suc, ◌+◌, ◌*◌, ◌/◌, ◌<◌, ◌≤◌, ◌^◌, List, [], ◌∷◌, ◌++◌, true, false, ◌&&◌, cond, length, take, drop, map, refl, sym, ap, subst, ◌∙◌, arith, append-nil, nat_eq, nat_le, length-drop, eq-eqb}
-use Rattle.std.specs.Prelude.{ℤ, unsigned_abs, is_some, unwrap_or, codes, decimal, filter, Some, None, All, option_and_then}
-use Rattle.std.specs.List.{list_all, concat}
+use Rattle.std.proofs.Common.{◌≡◌, ℕ, zero, suc, ◌+◌, ◌*◌, ◌/◌, ◌<◌, ◌≤◌, ◌^◌, List, [], ◌∷◌, ◌++◌, true, ◌&&◌, cond, length, take, drop, map, refl, sym, ap, subst, ◌∙◌, arith, append-nil, nat_eq, nat_le, length-drop, eq-eqb}
+use Rattle.std.specs.Prelude.{ℤ, unsigned_abs, is_some, unwrap_or, codes, decimal, filter, Some, All, option_and_then}
+use Rattle.std.specs.List.{list_all, concat, flat_map}
 use Rattle.std.specs.Fmt.{signed_decimal}
 use Rattle.std.proofs.lemmas.Bool.{le-leb}
 use Rattle.std.proofs.lemmas.List.{length-map, take-append-drop}
 use Rattle.std.proofs.lemmas.List.Elements.{All-head, All-tail}
 use Rattle.std.proofs.lemmas.List.Folds.{list_all-append}
-use Rattle.om_signs.specs.declared.limits.TheConstants.{MAX_ELEMENTS, MAX_MEMBERS, MAX_COORDINATE}
+use Rattle.om_signs.specs.declared.limits.TheConstants.{MAX_ELEMENTS, MAX_MEMBERS, MAX_BLOCKS, MAX_COORDINATE}
+use Rattle.om_signs.specs.declared.block.Block.{Block}
 use Rattle.om_signs.specs.declared.sign.Sign.{Sign}
 use Rattle.om_subsets.specs.Subsets.{choose}
 use Rattle.om_text.specs.declared.document.Document.{Document}
 use Rattle.om_text.specs.declared.body.Body.{Body}
-use Rattle.om_text.specs.declared.body.Body.TheVariants.{Chirotope, Circuits, Cocircuits, Covectors, Points}
+use Rattle.om_text.specs.declared.body.Body.TheVariants.{Chirotope, Circuits, Cocircuits, Covectors, Wiring, Points}
 use Rattle.om_text.specs.declared.kind.Kind.{Kind}
 use Rattle.om_text.specs.declared.kind.Kind.TheVariants as kinds
 use Rattle.om_text.specs.Lines.{lines, has_any, words, wordful}
 use Rattle.om_text.specs.Words.{is_sign, sign_of_byte, byte_of}
-use Rattle.om_text.specs.Heading.{is_unbuilt, kind_name, named_kind, kind_of, heading, headed, opened, has_elements, has_rank}
+use Rattle.om_text.specs.Heading.{kind_name, kind_of, heading, headed, opened, has_elements, has_rank}
 use Rattle.om_text.specs.Rows.{distinct, sorted}
 use Rattle.om_text.specs.Members.{members_of, with_members}
+use Rattle.om_text.specs.Blocks.{block_of, block_on, are_blocks, blocks_on}
 use Rattle.om_text.specs.Points.{point_of, point_on}
 use Rattle.om_text.specs.Document.{IsDocument, IsSpelled, version_line, end_line, are_signs, signs_of_line, is_body_line, all_signs, filled, has_room, is_complete}
-use Rattle.om_text.specs.Form.{IsInForm, AreMembersOn, IsCoordinate, IsPoint}
-use Rattle.om_text.specs.Print.{cut, sign_lines, member_lines, spaced, point_lines, kind_text, body_lines, printed_lines, printed, sorted_document}
+use Rattle.om_text.specs.Form.{IsInForm, AreMembersOn, IsShort, IsCoordinate, IsPoint}
+use Rattle.om_text.specs.Print.{cut, sign_lines, member_lines, block_text, block_lines, spaced, point_lines, kind_text, body_lines, printed_lines, printed, sorted_document}
+use Rattle.om_text.proofs.BlockWords.{block_word}
 use Rattle.om_text.proofs.Feeds.{is_one_line, lines_text}
 use Rattle.om_text.proofs.Language.{wordful-append}
 use Rattle.om_text.proofs.Numerals.{IsNumber, number_word, IsSigned, signed_word}
@@ -96,7 +99,7 @@ members_read : (ms : List (List Sign)) → map signs_of_line (single (member_lin
 members_read [] = refl
 members_read (x ∷ xs) = ap (λ r. map sign_of_byte r ∷ map signs_of_line (single (member_lines xs))) (append-nil (map byte_of x)) ∙ ap (λ r. r ∷ map signs_of_line (single (member_lines xs))) (signs_of_bytes_of x) ∙ ap (λ r. x ∷ r) (members_read xs)
 
-members_long : (n : ℕ) (ms : List (List Sign)) → All (λ x. length x ≡ n) ms → list_all (λ l. are_signs l && nat_eq (length (concat l)) n && true) (single (member_lines ms)) ≡ true
+members_long : (n : ℕ) (ms : List (List Sign)) → All (λ x. length x ≡ n) ms → list_all (λ l. are_signs l && nat_eq (length (concat l)) n && true && true) (single (member_lines ms)) ≡ true
 members_long n [] a = refl
 members_long n (x ∷ xs) a =
     let j : map byte_of x ++ [] ≡ map byte_of x = append-nil (map byte_of x) in
@@ -153,6 +156,29 @@ points_reread (p ∷ ps) a =
       value = ap (λ o. unwrap_or o [] ∷ map point_on (map (map signed_decimal) ps)) l.point ∙ ap (λ r. p ∷ r) i.value;
     }
 
+-- ---- the lines of blocks
+
+-- the lines of blocks are read as one word each, and these are the blocks
+record AreBlockLines (bs : List Block) : Type 0 where
+  lines_words : wordful (block_lines bs) ≡ single (block_lines bs)
+  one_line : list_all is_one_line (block_lines bs) ≡ true
+  each : list_all (λ l. are_blocks l && true) (single (block_lines bs)) ≡ true
+  value : flat_map blocks_on (single (block_lines bs)) ≡ bs
+
+blocks_reread : (bs : List Block) → All IsShort bs → AreBlockLines bs
+blocks_reread [] a = record { lines_words = refl; one_line = refl; each = refl; value = refl }
+blocks_reread (b ∷ bs) a =
+    let w = block_word b (All-head IsShort b bs a) in
+    let i = blocks_reread bs (All-tail IsShort b bs a) in
+    let s : is_some (block_of (block_text b)) ≡ true = ap is_some w.value in
+    let o : block_on (block_text b) ≡ b = ap (λ o. unwrap_or o (record { first = 0; last = 0 })) w.value in
+    record {
+      lines_words = ap (λ x. filter has_any (x ∷ map words (block_lines bs))) (words_one (block_text b) w.bytes w.any) ∙ ap (λ x. (block_text b ∷ []) ∷ x) i.lines_words;
+      one_line = rw (word_one_line (block_text b) w.bytes) i.one_line;
+      each = rw s i.each;
+      value = ap (λ x. x ∷ flat_map blocks_on (single (block_lines bs))) o ∙ ap (λ x. b ∷ x) i.value;
+    }
+
 -- ---- any document
 
 -- what is printed of d is read as its kind line and its body
@@ -201,11 +227,8 @@ reread d p = record {
 
 -- ---- each kind
 
-read_kind : (w : List ℕ) (k : Kind) → is_unbuilt w ≡ false → named_kind w ≡ Some k → kind_of w ≡ Some k
-read_kind w k u n = ap (λ b. cond b None (named_kind w)) u ∙ n
-
-opens_list : (w : List ℕ) (k : Kind) (n : ℕ) → IsNumber n → is_unbuilt w ≡ false → named_kind w ≡ Some k → opened k (decimal n ∷ []) ≡ Some (headed k (0, n)) → heading (w ∷ decimal n ∷ []) ≡ Some (headed k (0, n))
-opens_list w k n h u m o = ap (option_and_then (λ k. opened k (decimal n ∷ []))) (read_kind w k u m) ∙ o
+opens_list : (w : List ℕ) (k : Kind) (n : ℕ) → IsNumber n → kind_of w ≡ Some k → opened k (decimal n ∷ []) ≡ Some (headed k (0, n)) → heading (w ∷ decimal n ∷ []) ≡ Some (headed k (0, n))
+opens_list w k n h m o = ap (option_and_then (λ k. opened k (decimal n ∷ []))) m ∙ o
 
 numbers_small : (n r : ℕ) → n ≤ MAX_ELEMENTS → r ≤ n → r < 10 ^ 6
 numbers_small n r h l = omega arith
@@ -226,7 +249,7 @@ map_reread n r xs f =
       kind = words_three (codes "chirotope") (decimal r) (decimal n) refl refl hr.bytes hr.any hn.bytes hn.any;
       any = refl;
       kind_one_line = three_one_line (codes "chirotope") (decimal r) (decimal n) refl hr.bytes hn.bytes;
-      opens = ap (option_and_then (λ k. opened k (decimal r ∷ decimal n ∷ []))) (read_kind (codes "chirotope") kinds.Chirotope f.built refl) ∙ rw (hr.value, hn.value) refl;
+      opens = rw (hr.value, hn.value) refl;
       elements = rw (le-leb 1 n f.low, le-leb n MAX_ELEMENTS f.high) refl;
       rank = le-leb r n f.body.rank;
       body = single (sign_lines xs);
@@ -244,7 +267,7 @@ record AreReread (n : ℕ) (ms : List (List Sign)) : Type 0 where
   elements : (nat_le 1 n && nat_le n MAX_ELEMENTS) ≡ true
   rank : nat_le 0 n ≡ true
   rows : AreRows (member_lines (sorted ms))
-  each : list_all (λ l. are_signs l && nat_eq (length (concat l)) n && true) (single (member_lines (sorted ms))) ≡ true
+  each : list_all (λ l. are_signs l && nat_eq (length (concat l)) n && true && true) (single (member_lines (sorted ms))) ≡ true
   value : distinct (map signs_of_line (single (member_lines (sorted ms)))) ≡ sorted ms
   room : nat_le (length (sorted ms)) MAX_MEMBERS ≡ true
 
@@ -266,12 +289,33 @@ kind_of_list : Body → Kind
 kind_of_list (Circuits ms) = kinds.Circuits
 kind_of_list (Cocircuits ms) = kinds.Cocircuits
 kind_of_list (Covectors ms) = kinds.Covectors
+kind_of_list (Wiring bs) = kinds.Wiring
 kind_of_list (Points ps) = kinds.Points
 kind_of_list (Chirotope m) = kinds.Chirotope
 
 body_reread : (n : ℕ) (b : Body) → IsInForm (record { elements = n; body = b }) → IsReread (record { elements = n; body = b })
 unfolding kind_of_list
 body_reread n (Chirotope m) f = subst (λ e. IsReread (record { elements = e; body = Chirotope m })) f.body.elements (map_reread m.elements m.rank m.signs (subst (λ e. IsInForm (record { elements = e; body = Chirotope m })) (sym f.body.elements) f))
+body_reread n (Wiring bs) f =
+    let p = blocks_reread bs f.body.short in
+    let k = number_word n (numbers_small n n f.high (omega arith)) in
+    record {
+      kind_words = codes "wiring" ∷ decimal n ∷ [];
+      head = headed kinds.Wiring (0, n);
+      kind = words_two (codes "wiring") (decimal n) refl refl k.bytes k.any;
+      any = refl;
+      kind_one_line = two_one_line (codes "wiring") (decimal n) refl k.bytes;
+      opens = opens_list (codes "wiring") kinds.Wiring n k refl (rw k.value refl);
+      elements = rw (le-leb 1 n f.low, le-leb n MAX_ELEMENTS f.high) refl;
+      rank = le-leb 0 n (omega arith);
+      body = single (block_lines bs);
+      body_words = p.lines_words;
+      body_one_line = p.one_line;
+      each = p.each;
+      value = ap (λ bs. record { elements = n; body = Wiring bs }) p.value;
+      room = le-leb (length bs) MAX_BLOCKS f.body.few;
+      complete = refl;
+    }
 body_reread n (Points ps) f =
     let p = points_reread ps f.body.each in
     let k = number_word n (numbers_small n n f.high (omega arith)) in
@@ -281,7 +325,7 @@ body_reread n (Points ps) f =
       kind = words_two (codes "points") (decimal n) refl refl k.bytes k.any;
       any = refl;
       kind_one_line = two_one_line (codes "points") (decimal n) refl k.bytes;
-      opens = opens_list (codes "points") kinds.Points n k f.built refl (rw k.value refl);
+      opens = opens_list (codes "points") kinds.Points n k refl (rw k.value refl);
       elements = rw (le-leb 1 n f.low, le-leb n MAX_ELEMENTS f.high) refl;
       rank = le-leb 0 n (omega arith);
       body = map (map signed_decimal) ps;
@@ -300,7 +344,7 @@ body_reread n b f =
       kind = words_two (kind_name b) (decimal n) refl refl p.number.bytes p.number.any;
       any = refl;
       kind_one_line = two_one_line (kind_name b) (decimal n) refl p.number.bytes;
-      opens = opens_list (kind_name b) (kind_of_list b) n p.number f.built refl (rw p.number.value refl);
+      opens = opens_list (kind_name b) (kind_of_list b) n p.number refl (rw p.number.value refl);
       elements = p.elements;
       rank = p.rank;
       body = single (member_lines (sorted (members_of b)));

@@ -58,9 +58,6 @@ no_elements = fault_from _ _ _ refl
 other_version : IsFault (codes "om 2" ∷ []) 1 code.Version
 other_version = fault_from _ _ _ refl
 
-not_built : IsFault ([] ∷ codes "om 1" ∷ codes "wiring x" ∷ []) 3 code.Unbuilt
-not_built = fault_from _ _ _ refl
-
 no_kind : IsFault (codes "om 1" ∷ codes "vectors 3" ∷ []) 2 code.Kind
 no_kind = fault_from _ _ _ refl
 

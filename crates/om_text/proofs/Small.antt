@@ -15,7 +15,7 @@ use Rattle.om_text.specs.declared.state.State.{State}
 use Rattle.om_text.specs.declared.state.State.TheVariants.{Start, Versioned, Open, Closed}
 use Rattle.om_text.specs.Lines.{lines, words, has_any}
 use Rattle.om_text.specs.Document.{is_line, version_line, end_line, filled, filled_body, is_complete}
-use Rattle.om_text.specs.Heading.{is_unbuilt, first_word, kind_of, heading, opened, headed, empty_body, numbers, has_elements, has_rank, rank_of_body}
+use Rattle.om_text.specs.Heading.{first_word, kind_of, heading, opened, headed, empty_body, numbers, has_elements, has_rank, rank_of_body}
 use Rattle.om_text.specs.Reading.{step, advance, with_heading, after_body, after_end, added, added_body, outcome}
 use Rattle.om_text.specs.Steps.{step_if}
 use Rattle.om_text.specs.Added.{IsSmall, IsSmallBody, IsSmallState}
@@ -60,8 +60,7 @@ added_small _ w h = tt
 pub step_small : (s : State) (w : List (List ℕ)) (t : State) → IsSmallState s → step s w ≡ Ok t → IsSmallState t
 step_small Start w t o h = let a = cond_ok (is_line w version_line) (Ok Versioned) code.Version t h in subst IsSmallState (ok_same _ _ a.1) tt
 step_small Versioned w t o h =
-    let a = cond_err (is_unbuilt (first_word w)) (cond (is_none (kind_of (first_word w))) (Err code.Kind) (with_heading (heading w))) code.Unbuilt t h in
-    let b = cond_err (is_none (kind_of (first_word w))) (with_heading (heading w)) code.Kind t a.1 in
+    let b = cond_err (is_none (kind_of (first_word w))) (with_heading (heading w)) code.Kind t h in
     kind_small (heading w) w t refl b.1
 step_small (Open d) w t o h = elim (either (is_line w end_line)) [
   | inl e ↦ let g : after_end d ≡ Ok t = rw e at h in

@@ -1,6 +1,7 @@
 -- What the parts of the reader's code say of one more line. Not part of the definition of documents.
-use Rattle.std.specs.Prelude.{ℕ, ◌≡◌, ◌≢◌, ◌≤◌, List, not, filter, map, cond, nat_le, Result, Ok, Err, length}
+use Rattle.std.specs.Prelude.{ℕ, ◌≡◌, ◌≢◌, ◌≤◌, List, ◌++◌, not, filter, map, cond, nat_le, Result, Ok, Err, length}
 use Rattle.om_signs.specs.declared.limits.TheConstants.{MAX_ELEMENTS, MAX_MEMBERS}
+use Rattle.om_signs.specs.declared.block.Block.{Block}
 use Rattle.om_signs.specs.declared.sign.Sign.{Sign}
 use Rattle.om_text.specs.declared.document.Document.{Document}
 use Rattle.om_text.specs.declared.body.Body.{Body}
@@ -15,10 +16,11 @@ use Rattle.om_text.specs.declared.parse_error.ParseError.{ParseError}
 use Rattle.om_text.specs.declared.parse_error.ParseError.TheVariants as error
 use Rattle.om_text.specs.Fault.{IsFault}
 use Rattle.om_text.specs.Part.{IsPart}
-use Rattle.om_text.specs.Reading.{outcome}
+use Rattle.om_text.specs.Reading.{added_body, outcome}
 use Rattle.om_text.specs.Lines.{is_blank, lines}
 use Rattle.om_text.specs.Words.{sign_of_byte}
-use Rattle.om_text.specs.Document.{size_of, room_of}
+use Rattle.om_text.specs.Blocks.{are_blocks, blocks_on}
+use Rattle.om_text.specs.Document.{has_blocks_in, has_numbers_in, size_of, room_of}
 
 -- a part of the reader answers what reading gives, unless memory ran out
 abbrev pub Gives : {A : Type 0} → Result A Refusal → Result A Code → Type 0
@@ -41,6 +43,14 @@ roomy n b = cond (nat_le (size_of b) (room_of b n)) (Ok b) (Err code.Many)
 -- the same of the members of a list
 abbrev pub few_members : List (List Sign) → Result (List (List Sign)) Code
 few_members ms = cond (nat_le (length ms) MAX_MEMBERS) (Ok ms) (Err code.Many)
+
+-- blocks with those of a line
+abbrev pub more_blocks : List Block → List (List ℕ) → Result (List Block) Code
+more_blocks bs w = cond (are_blocks w) (Ok (bs ++ blocks_on w)) (Err code.Block)
+
+-- a body on n elements with one more line, whose signs and length are those of the kind
+abbrev pub filled_line : ℕ → Body → List (List ℕ) → Result Body Code
+filled_line n b w = cond (has_blocks_in b w) (cond (has_numbers_in b w) (roomy n (added_body b w)) (Err code.Number)) (Err code.Block)
 
 abbrev pub IsSmallBody : Body → Type 0
 IsSmallBody (Chirotope m) = m.elements ≤ MAX_ELEMENTS

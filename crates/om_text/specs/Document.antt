@@ -2,19 +2,20 @@
 --
 -- Trusted: this is what a document is, with its value. Nothing here says how one is read.
 use Rattle.std.specs.Prelude.{ℕ, ◌≡◌, List, [], ◌∷◌, ◌++◌, Bool, true, nat_eq, nat_le, ◌&&◌, length, map, codes, Some, is_some, bytes_eq}
-use Rattle.std.specs.List.{list_all, concat}
+use Rattle.std.specs.List.{list_all, concat, flat_map}
 use Rattle.std.specs.Cmp.Lexicographic.{pointwise}
-use Rattle.om_signs.specs.declared.limits.TheConstants.{MAX_MEMBERS}
+use Rattle.om_signs.specs.declared.limits.TheConstants.{MAX_MEMBERS, MAX_BLOCKS}
 use Rattle.om_signs.specs.declared.sign.Sign.{Sign}
 use Rattle.om_subsets.specs.Subsets.{choose}
 use Rattle.om_text.specs.declared.document.Document.{Document}
 use Rattle.om_text.specs.declared.body.Body.{Body}
-use Rattle.om_text.specs.declared.body.Body.TheVariants.{Chirotope, Points}
+use Rattle.om_text.specs.declared.body.Body.TheVariants.{Chirotope, Wiring, Points}
 use Rattle.om_text.specs.Lines.{wordful}
 use Rattle.om_text.specs.Words.{is_sign, sign_of_byte}
 use Rattle.om_text.specs.Heading.{heading, has_elements, has_rank}
 use Rattle.om_text.specs.Rows.{distinct}
 use Rattle.om_text.specs.Members.{members_of, with_members}
+use Rattle.om_text.specs.Blocks.{are_blocks, blocks_on}
 use Rattle.om_text.specs.Points.{point_of, point_on}
 
 -- whether two lines have the same words
@@ -39,6 +40,7 @@ signs_of_line w = map sign_of_byte (concat w)
 
 -- whether a line has no byte but signs, where this kind of body asks for signs
 abbrev pub has_signs_in : Body → List (List ℕ) → Bool
+has_signs_in (Wiring bs) w = true
 has_signs_in (Points ps) w = true
 has_signs_in _ w = are_signs w
 
@@ -49,12 +51,22 @@ has_signs d w = has_signs_in d.body w
 -- whether a line has the length that this kind of body asks for
 abbrev pub has_length_in : Body → ℕ → List (List ℕ) → Bool
 has_length_in (Chirotope m) n w = true
+has_length_in (Wiring bs) n w = true
 has_length_in (Points ps) n w = true
 has_length_in _ n w = nat_eq (length (concat w)) n
 
 -- a line of a list has as many signs as there are elements
 abbrev pub has_length : Document → List (List ℕ) → Bool
 has_length d w = has_length_in d.body d.elements w
+
+-- whether the words of a line are blocks, where this kind of body asks for blocks
+abbrev pub has_blocks_in : Body → List (List ℕ) → Bool
+has_blocks_in (Wiring bs) w = are_blocks w
+has_blocks_in _ w = true
+
+-- each word of a line of a wiring is a block
+abbrev pub has_blocks : Document → List (List ℕ) → Bool
+has_blocks d w = has_blocks_in d.body w
 
 -- whether a line is a point, where this kind of body asks for points
 abbrev pub has_numbers_in : Body → List (List ℕ) → Bool
@@ -67,15 +79,17 @@ has_numbers d w = has_numbers_in d.body w
 
 -- a line that may stand in the body
 abbrev pub is_body_line : Document → List (List ℕ) → Bool
-is_body_line d w = has_signs d w && has_length d w && has_numbers d w
+is_body_line d w = has_signs d w && has_length d w && has_blocks d w && has_numbers d w
 
 -- the signs of all lines together
 abbrev pub all_signs : List (List (List ℕ)) → List Sign
 all_signs body = map sign_of_byte (concat (map concat body))
 
--- the body that lines give: the values of a map, the points, or the distinct members in the order of their first lines
+-- the body that lines give: the values of a map, the blocks, the points, or the distinct members in the order of their first
+-- lines
 abbrev pub filled_body : Body → List (List (List ℕ)) → Body
 filled_body (Chirotope m) body = Chirotope (record { rank = m.rank; elements = m.elements; signs = all_signs body })
+filled_body (Wiring _) body = Wiring (flat_map blocks_on body)
 filled_body (Points _) body = Points (map point_on body)
 filled_body b body = with_members b (distinct (map signs_of_line body))
 
@@ -83,15 +97,17 @@ filled_body b body = with_members b (distinct (map signs_of_line body))
 abbrev pub filled : Document → List (List (List ℕ)) → Document
 filled d body = record { elements = d.elements; body = filled_body d.body body }
 
--- how many values, points or members a body has
+-- how many values, blocks, points or members a body has
 abbrev pub size_of : Body → ℕ
 size_of (Chirotope m) = length m.signs
+size_of (Wiring bs) = length bs
 size_of (Points ps) = length ps
 size_of b = length (members_of b)
 
 -- how many it may have on n elements
 abbrev pub room_of : Body → ℕ → ℕ
 room_of (Chirotope m) n = choose m.elements m.rank
+room_of (Wiring bs) n = MAX_BLOCKS
 room_of (Points ps) n = n
 room_of _ n = MAX_MEMBERS
 
@@ -99,7 +115,8 @@ room_of _ n = MAX_MEMBERS
 abbrev pub has_room : Document → Bool
 has_room d = nat_le (size_of d.body) (room_of d.body d.elements)
 
--- whether a body on n elements may end: a map has all its values, there is a point for each element, and a list may always end
+-- whether a body on n elements may end: a map has all its values, there is a point for each element, and a list or a wiring
+-- may always end
 abbrev pub is_complete_body : Body → ℕ → Bool
 is_complete_body (Chirotope m) n = nat_eq (length m.signs) (choose m.elements m.rank)
 is_complete_body (Points ps) n = nat_eq (length ps) n

@@ -7,8 +7,8 @@ use Rattle.om_text.specs.declared.document.Document.{Document}
 use Rattle.om_text.specs.declared.code.Code.{Code}
 use Rattle.om_text.specs.declared.code.Code.TheVariants as code
 use Rattle.om_text.specs.Lines.{words, wordful}
-use Rattle.om_text.specs.Document.{IsDocument, is_line, version_line, end_line, has_signs, has_length, has_numbers, filled, has_room, is_complete}
-use Rattle.om_text.specs.Heading.{is_unbuilt, first_word, kind_of, heading, has_elements, has_rank, rank_of_body}
+use Rattle.om_text.specs.Document.{IsDocument, is_line, version_line, end_line, has_signs, has_length, has_blocks, has_numbers, filled, has_room, is_complete}
+use Rattle.om_text.specs.Heading.{first_word, kind_of, heading, has_elements, has_rank, rank_of_body}
 
 -- What a line with words is, by the lines with words before it: the first line, the kind line, a line in the body of a
 -- document after its earlier body lines, its end line, or a line after that.
@@ -34,11 +34,6 @@ place (v ∷ k ∷ ls) w = place_in_body (heading k) ls w
 abbrev pub when : Bool → Code → Option Code
 when true c = Some c
 when false c = None
-
--- the kind line names a kind that is not read yet
-abbrev pub unbuilt : Place → List (List ℕ) → Option Code
-unbuilt kind w = when (is_unbuilt (first_word w)) code.Unbuilt
-unbuilt _ w = None
 
 -- the first line isn't the version line
 abbrev pub version : Place → List (List ℕ) → Option Code
@@ -75,6 +70,11 @@ abbrev pub length_row : Place → List (List ℕ) → Option Code
 length_row (body d ls) w = when (not (has_length d w)) code.Length
 length_row _ w = None
 
+-- a word of a line of a wiring is no block
+abbrev pub block : Place → List (List ℕ) → Option Code
+block (body d ls) w = when (not (has_blocks d w)) code.Block
+block _ w = None
+
 -- a line of points hasn't exactly three coordinates
 abbrev pub number : Place → List (List ℕ) → Option Code
 number (body d ls) w = when (not (has_numbers d w)) code.Number
@@ -98,14 +98,14 @@ after_row _ w = None
 -- the rows in the order of the table
 abbrev pub table : Place → List (List ℕ) → List (Option Code)
 table p w =
-    unbuilt p w
-    ∷ version p w
+    version p w
     ∷ kind_row p w
     ∷ header p w
     ∷ elements p w
     ∷ rank p w
     ∷ sign p w
     ∷ length_row p w
+    ∷ block p w
     ∷ number p w
     ∷ many p w
     ∷ few p w

@@ -1,15 +1,15 @@
 -- The forms and the limits of a document's value.
 --
 -- Trusted: `parse` promises them, and `print` asks for them.
-use Rattle.std.specs.Prelude.{ℕ, ◌≡◌, ◌≢◌, ◌≤◌, ℤ, unsigned_abs, List, length, false, All, AllPairs}
-use Rattle.om_signs.specs.declared.limits.TheConstants.{MAX_ELEMENTS, MAX_MEMBERS, MAX_COORDINATE}
+use Rattle.std.specs.Prelude.{ℕ, ◌≡◌, ◌≢◌, ◌<◌, ◌≤◌, ℤ, unsigned_abs, List, length, All, AllPairs}
+use Rattle.om_signs.specs.declared.limits.TheConstants.{MAX_ELEMENTS, MAX_MEMBERS, MAX_BLOCKS, MAX_COORDINATE}
+use Rattle.om_signs.specs.declared.block.Block.{Block}
 use Rattle.om_signs.specs.declared.sign.Sign.{Sign}
 use Rattle.om_signs.specs.declared.raw_map.RawMap.{RawMap}
 use Rattle.om_subsets.specs.Subsets.{choose}
 use Rattle.om_text.specs.declared.document.Document.{Document}
 use Rattle.om_text.specs.declared.body.Body.{Body}
-use Rattle.om_text.specs.declared.body.Body.TheVariants.{Chirotope, Points}
-use Rattle.om_text.specs.Heading.{is_unbuilt, kind_name}
+use Rattle.om_text.specs.declared.body.Body.TheVariants.{Chirotope, Wiring, Points}
 use Rattle.om_text.specs.Members.{members_of}
 
 -- a map on n elements, with a value for each set of its rank
@@ -23,6 +23,16 @@ pub record AreMembersOn (n : ℕ) (ms : List (List Sign)) : Type 0 where
   pub few : length ms ≤ MAX_MEMBERS
   pub long : All (λ x. length x ≡ n) ms
   pub distinct : AllPairs (λ x y. x ≢ y) ms
+
+-- a block whose positions are written with at most three digits
+pub record IsShort (b : Block) : Type 0 where
+  pub first : b.first < 1000
+  pub last : b.last < 1000
+
+-- such blocks, no more than a wiring may have
+pub record AreBlocks (bs : List Block) : Type 0 where
+  pub few : length bs ≤ MAX_BLOCKS
+  pub short : All IsShort bs
 
 -- a whole number within the limit
 abbrev pub IsCoordinate : ℤ → Type 0
@@ -41,12 +51,12 @@ pub record ArePointsOn (n : ℕ) (ps : List (List ℤ)) : Type 0 where
 -- a body on n elements
 abbrev pub IsBodyOn : ℕ → Body → Type 0
 IsBodyOn n (Chirotope m) = IsMapOn n m
+IsBodyOn n (Wiring bs) = AreBlocks bs
 IsBodyOn n (Points ps) = ArePointsOn n ps
 IsBodyOn n b = AreMembersOn n (members_of b)
 
--- a document of a kind that is read, within the limits
+-- a document within the limits
 pub record IsInForm (d : Document) : Type 0 where
   pub low : 1 ≤ d.elements
   pub high : d.elements ≤ MAX_ELEMENTS
-  pub built : is_unbuilt (kind_name d.body) ≡ false
   pub body : IsBodyOn d.elements d.body

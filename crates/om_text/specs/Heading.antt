@@ -5,27 +5,20 @@ use Rattle.std.specs.Prelude.{ℕ, List, [], ◌∷◌, Bool, cond, nat_le, ◌&
 use Rattle.om_signs.specs.declared.limits.TheConstants.{MAX_ELEMENTS}
 use Rattle.om_text.specs.declared.document.Document.{Document}
 use Rattle.om_text.specs.declared.body.Body.{Body}
-use Rattle.om_text.specs.declared.body.Body.TheVariants.{Chirotope, Circuits, Cocircuits, Covectors, Points}
+use Rattle.om_text.specs.declared.body.Body.TheVariants.{Chirotope, Circuits, Cocircuits, Covectors, Wiring, Points}
 use Rattle.om_text.specs.declared.kind.Kind.{Kind}
 use Rattle.om_text.specs.declared.kind.Kind.TheVariants as kinds
 use Rattle.om_text.specs.Words.{plain}
 
--- the names of the kinds of documents that are not read yet
-abbrev pub is_unbuilt : List ℕ → Bool
-is_unbuilt w = bytes_eq w (codes "wiring")
-
 -- the kind that a name stands for
-abbrev pub named_kind : List ℕ → Option Kind
-named_kind w =
+abbrev pub kind_of : List ℕ → Option Kind
+kind_of w =
     cond (bytes_eq w (codes "chirotope")) (Some kinds.Chirotope)
     (cond (bytes_eq w (codes "circuits")) (Some kinds.Circuits)
     (cond (bytes_eq w (codes "cocircuits")) (Some kinds.Cocircuits)
     (cond (bytes_eq w (codes "covectors")) (Some kinds.Covectors)
-    (cond (bytes_eq w (codes "points")) (Some kinds.Points) None))))
-
--- the same among the kinds that are read
-abbrev pub kind_of : List ℕ → Option Kind
-kind_of w = cond (is_unbuilt w) None (named_kind w)
+    (cond (bytes_eq w (codes "wiring")) (Some kinds.Wiring)
+    (cond (bytes_eq w (codes "points")) (Some kinds.Points) None)))))
 
 -- a number in front of others, where both are there
 abbrev pub with_number : Option ℕ → Option (List ℕ) → Option (List ℕ)
@@ -54,6 +47,7 @@ empty_body kinds.Chirotope r n = Chirotope (record { rank = r; elements = n; sig
 empty_body kinds.Circuits r n = Circuits []
 empty_body kinds.Cocircuits r n = Cocircuits []
 empty_body kinds.Covectors r n = Covectors []
+empty_body kinds.Wiring r n = Wiring []
 empty_body kinds.Points r n = Points []
 
 -- an empty document with these numbers
@@ -80,6 +74,7 @@ kind_name (Chirotope m) = codes "chirotope"
 kind_name (Circuits ms) = codes "circuits"
 kind_name (Cocircuits ms) = codes "cocircuits"
 kind_name (Covectors ms) = codes "covectors"
+kind_name (Wiring bs) = codes "wiring"
 kind_name (Points ps) = codes "points"
 
 -- the rank that a kind line gives; 0 where the kind has none

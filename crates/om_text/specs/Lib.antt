@@ -4,6 +4,7 @@ pub mod Heading
 pub mod Rows
 pub mod Members
 pub mod Points
+pub mod Blocks
 pub mod Document
 pub mod Fault
 pub mod Form

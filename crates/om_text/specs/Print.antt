@@ -3,10 +3,11 @@
 -- Trusted: `print` gives exactly this.
 use Rattle.std.specs.Prelude.{ℕ, zero, suc, ◌+◌, ◌/◌, ℤ, List, [], ◌∷◌, ◌++◌, length, take, drop, map, codes, decimal}
 use Rattle.std.specs.Fmt.{signed_decimal}
+use Rattle.om_signs.specs.declared.block.Block.{Block}
 use Rattle.om_signs.specs.declared.sign.Sign.{Sign}
 use Rattle.om_text.specs.declared.document.Document.{Document}
 use Rattle.om_text.specs.declared.body.Body.{Body}
-use Rattle.om_text.specs.declared.body.Body.TheVariants.{Chirotope, Points}
+use Rattle.om_text.specs.declared.body.Body.TheVariants.{Chirotope, Wiring, Points}
 use Rattle.om_text.specs.Words.{byte_of}
 use Rattle.om_text.specs.Heading.{kind_name}
 use Rattle.om_text.specs.Rows.{sorted}
@@ -40,6 +41,14 @@ spaced (w ∷ v ∷ ws) = w ++ 32 ∷ spaced (v ∷ ws)
 abbrev pub point_lines : List (List ℤ) → List (List ℕ)
 point_lines ps = map (λ p. spaced (map signed_decimal p)) ps
 
+-- a block as a word
+abbrev pub block_text : Block → List ℕ
+block_text b = decimal b.first ++ 45 ∷ decimal b.last
+
+-- blocks, one a line
+abbrev pub block_lines : List Block → List (List ℕ)
+block_lines bs = map block_text bs
+
 -- the numbers of a kind line, each after a space
 abbrev pub sizes_text : ℕ → Body → List ℕ
 sizes_text n (Chirotope m) = 32 ∷ (decimal m.rank ++ 32 ∷ decimal n)
@@ -52,6 +61,7 @@ kind_text d = kind_name d.body ++ sizes_text d.elements d.body
 -- the lines of the body
 abbrev pub body_lines : Body → List (List ℕ)
 body_lines (Chirotope m) = sign_lines m.signs
+body_lines (Wiring bs) = block_lines bs
 body_lines (Points ps) = point_lines ps
 body_lines b = member_lines (sorted (members_of b))
 

@@ -4,7 +4,7 @@ use Rattle.std.specs.List.{list_any}
 use Rattle.om_signs.specs.declared.sign.Sign.{Sign}
 use Rattle.om_text.specs.declared.document.Document.{Document}
 use Rattle.om_text.specs.declared.body.Body.{Body}
-use Rattle.om_text.specs.declared.body.Body.TheVariants.{Chirotope, Points}
+use Rattle.om_text.specs.declared.body.Body.TheVariants.{Chirotope, Wiring, Points}
 use Rattle.om_text.specs.declared.code.Code.{Code}
 use Rattle.om_text.specs.declared.code.Code.TheVariants as code
 use Rattle.om_text.specs.declared.state.State.{State}
@@ -12,9 +12,10 @@ use Rattle.om_text.specs.declared.state.State.TheVariants.{Start, Versioned, Ope
 use Rattle.om_text.specs.Steps.{advance_by, outcome_by}
 use Rattle.om_text.specs.Rows.{same_row}
 use Rattle.om_text.specs.Members.{members_of, with_members}
+use Rattle.om_text.specs.Blocks.{blocks_on}
 use Rattle.om_text.specs.Points.{point_on}
-use Rattle.om_text.specs.Document.{is_line, version_line, end_line, signs_of_line, has_signs, has_length, has_numbers, filled, has_room, is_complete}
-use Rattle.om_text.specs.Heading.{is_unbuilt, first_word, kind_of, heading, has_elements, has_rank, rank_of_body}
+use Rattle.om_text.specs.Document.{is_line, version_line, end_line, signs_of_line, has_signs, has_length, has_blocks, has_numbers, filled, has_room, is_complete}
+use Rattle.om_text.specs.Heading.{first_word, kind_of, heading, has_elements, has_rank, rank_of_body}
 
 -- a member at the end, if it isn't there
 abbrev pub with_member : List (List Sign) → List Sign → List (List Sign)
@@ -23,6 +24,7 @@ with_member ms x = cond (list_any (λ y. same_row y x) ms) ms (ms ++ x ∷ [])
 -- a body with one more line
 abbrev pub added_body : Body → List (List ℕ) → Body
 added_body (Chirotope m) w = Chirotope (record { rank = m.rank; elements = m.elements; signs = m.signs ++ signs_of_line w })
+added_body (Wiring bs) w = Wiring (bs ++ blocks_on w)
 added_body (Points ps) w = Points (ps ++ point_on w ∷ [])
 added_body b w = with_members b (with_member (members_of b) (signs_of_line w))
 
@@ -41,15 +43,16 @@ with_heading (Some d) = in_range d
 
 -- after the kind line
 abbrev pub after_kind : List (List ℕ) → Result State Code
-after_kind w = cond (is_unbuilt (first_word w)) (Err code.Unbuilt) (cond (is_none (kind_of (first_word w))) (Err code.Kind) (with_heading (heading w)))
+after_kind w = cond (is_none (kind_of (first_word w))) (Err code.Kind) (with_heading (heading w))
 
 -- after a body line
 abbrev pub after_body : Document → List (List ℕ) → Result State Code
 after_body d w =
     cond (has_signs d w)
     (cond (has_length d w)
+    (cond (has_blocks d w)
     (cond (has_numbers d w)
-    (cond (has_room (added d w)) (Ok (Open (added d w))) (Err code.Many)) (Err code.Number)) (Err code.Length)) (Err code.Sign)
+    (cond (has_room (added d w)) (Ok (Open (added d w))) (Err code.Many)) (Err code.Number)) (Err code.Block)) (Err code.Length)) (Err code.Sign)
 
 -- after the end line
 abbrev pub after_end : Document → Result State Code

@@ -1,4 +1,4 @@
-use om_signs::{List, RawMap, SignVec};
+use om_signs::{Block, List, RawMap, SignVec};
 
 /// What a document says after its kind line.
 ///
@@ -13,6 +13,8 @@ pub enum Body {
     Cocircuits(List<SignVec>),
     /// The covectors.
     Covectors(List<SignVec>),
+    /// The steps of a wiring diagram, in their order: at most [`om_signs::MAX_BLOCKS`], and each position is at most 999.
+    Wiring(List<Block>),
     /// The points of the elements 1, 2, and so on: three coordinates each, of a size of at most [`om_signs::MAX_COORDINATE`].
     Points(List<[i64; 3]>),
 }

@@ -1,22 +1,24 @@
 //! The lines of a body.
 
-ghost use Rattle.std.specs.Prelude.{◌≡◌, ℕ, ◌+◌, ◌-◌, ◌<◌, ◌≤◌, ◌++◌, ◌||◌, length, not, map, true, is_some, filter, count_by, OnOk, IsTrue, ◌↔◌};
+ghost use Rattle.std.specs.Prelude.{◌≡◌, ℕ, ◌+◌, ◌-◌, ◌<◌, ◌≤◌, ◌++◌, ◌||◌, length, not, map, true, filter, count_by, OnOk, IsTrue, ◌↔◌};
 ghost use Rattle.std.specs.List.{list_all, list_any, concat};
 ghost use Rattle.om_text.specs.Lines.{runs, is_blank};
 ghost use Rattle.om_text.specs.Words.{is_sign};
-ghost use Rattle.om_text.specs.Points.{point_of};
-ghost use Rattle.om_text.specs.Document.{are_signs, signs_of_line, has_signs_in, has_length_in, has_numbers_in};
+ghost use Rattle.om_text.specs.Document.{are_signs, signs_of_line, has_signs_in, has_length_in};
 ghost use Rattle.om_text.specs.Rows.{same_row};
 ghost use Rattle.om_text.specs.Reading.{with_member, added_body};
-ghost use Rattle.om_text.specs.Added.{Gives, IsSmallBody, roomy, few_members};
+ghost use Rattle.om_text.specs.Added.{Gives, IsSmallBody, roomy, few_members, more_blocks, filled_line};
 
+use super::blocks::block_of;
 use super::body::Body;
 use super::code::Code;
-use super::lines::is_blank_byte;
+use super::lines::{first_word, is_blank_byte};
 use super::points::point;
 use super::refusal::Refusal;
 use super::words::{is_sign_byte, sign_of};
-use om_signs::{List, MAX_ELEMENTS, MAX_MEMBERS, NoMemory, RawMap, Sign, SignVec};
+use om_signs::{
+    Block, List, MAX_BLOCKS, MAX_ELEMENTS, MAX_MEMBERS, NoMemory, RawMap, Sign, SignVec,
+};
 use om_subsets::Subset;
 
 fn are_sign_bytes(line: &[u8]) -> bool
@@ -138,15 +140,45 @@ fn with_list_line(
     with_row(members, sign_vector(elements, line))
 }
 
+/// The blocks with those of one more line.
+fn with_words(mut blocks: List<Block>, line: &[u8]) -> Result<List<Block>, Refusal>
+    ensures { Gives result (more_blocks blocks (runs line.now)) }
+{
+    let mut rest = line;
+    while let Some((word, after)) = first_word(rest) {
+        let block = match block_of(word) {
+            Some(block) => block,
+            None => return Err(Refusal::Line(Code::Block)),
+        };
+        blocks.push(block)?;
+        rest = after;
+    }
+    Ok(blocks)
+}
+
+/// A wiring with one more line.
+fn with_blocks(blocks: List<Block>, line: &[u8]) -> Result<Body, Refusal>
+    ensures { (n : ℕ) → Gives result (filled_line n (Body.Wiring blocks) (runs line.now)) }
+{
+    let blocks = with_words(blocks, line)?;
+    if MAX_BLOCKS < blocks.len() {
+        return Err(Refusal::Line(Code::Many));
+    }
+    Ok(Body::Wiring(blocks))
+}
+
 /// The points with one more line.
 fn with_point(mut points: List<[i64; 3]>, elements: u8, line: &[u8]) -> Result<Body, Refusal>
-    requires { is_some (point_of (runs line.now)) ≡ true }
-    ensures { Gives result (roomy elements (added_body (Body.Points points) (runs line.now))) }
+    ensures { Gives result (filled_line elements (Body.Points points) (runs line.now)) }
 {
+    let found = match point(line) {
+        Some(found) => found,
+        None => return Err(Refusal::Line(Code::Number)),
+    };
     if elements as usize <= points.len() {
         return Err(Refusal::Line(Code::Many));
     }
-    points.push(point(line).unwrap())?;
+    points.push(found)?;
     Ok(Body::Points(points))
 }
 
@@ -155,20 +187,10 @@ pub fn has_signs_line(body: &Body, line: &[u8]) -> bool
     ensures { result ≡ has_signs_in body.now (runs line.now) }
 {
     match body {
-        Body::Points(_) => true,
+        Body::Wiring(_) | Body::Points(_) => true,
         Body::Chirotope(_) | Body::Circuits(_) | Body::Cocircuits(_) | Body::Covectors(_) => {
             are_signs_line(line)
         }
-    }
-}
-
-/// Whether a line of points is a point.
-pub fn has_numbers_line(body: &Body, line: &[u8]) -> bool
-    ensures { result ≡ has_numbers_in body.now (runs line.now) }
-{
-    match body {
-        Body::Points(_) => point(line).is_some(),
-        Body::Chirotope(_) | Body::Circuits(_) | Body::Cocircuits(_) | Body::Covectors(_) => true,
     }
 }
 
@@ -177,27 +199,27 @@ pub fn has_length_line(body: &Body, elements: u8, line: &[u8]) -> bool
     ensures { result ≡ has_length_in body.now elements (runs line.now) }
 {
     match body {
-        Body::Chirotope(_) | Body::Points(_) => true,
+        Body::Chirotope(_) | Body::Wiring(_) | Body::Points(_) => true,
         Body::Circuits(_) | Body::Cocircuits(_) | Body::Covectors(_) => {
             sign_count(line) == elements as usize
         }
     }
 }
 
-/// A body with one more line.
+/// A body with one more line, whose signs and length are those of the kind.
 pub fn with_line(body: Body, elements: u8, line: &[u8]) -> Result<Body, Refusal>
     requires low { 1 ≤ elements }
     requires high { elements ≤ MAX_ELEMENTS }
     requires small { IsSmallBody body }
     requires len { has_length_in body elements (runs line.now) ≡ true }
-    requires numbers { has_numbers_in body (runs line.now) ≡ true }
-    ensures { Gives result (roomy elements (added_body body (runs line.now))) }
+    ensures { Gives result (filled_line elements body (runs line.now)) }
 {
     match body {
         Body::Chirotope(map) => with_values(map, line),
         Body::Circuits(members) => Ok(Body::Circuits(with_list_line(members, elements, line)?)),
         Body::Cocircuits(members) => Ok(Body::Cocircuits(with_list_line(members, elements, line)?)),
         Body::Covectors(members) => Ok(Body::Covectors(with_list_line(members, elements, line)?)),
+        Body::Wiring(blocks) => with_blocks(blocks, line),
         Body::Points(points) => with_point(points, elements, line),
     }
 }

@@ -3,9 +3,6 @@ use thiserror::Error;
 /// What is wrong at a line. Where several hold of one line, the first of this list is named.
 #[derive(Clone, Copy, Debug, PartialEq, Eq, Error)]
 pub enum Code {
-    /// The kind line names a kind that isn't read yet; nothing else of the line counts.
-    #[error("this kind of document is not read yet")]
-    Unbuilt,
     /// The first line with words isn't `om 1`.
     #[error("the first line with words is not `om 1`")]
     Version,
@@ -27,11 +24,14 @@ pub enum Code {
     /// A member has another number of signs than there are elements.
     #[error("a member has not as many signs as there are elements")]
     Length,
+    /// A word of a wiring's line isn't two plain numbers of at most three digits with a `-` between them.
+    #[error("a word of a wiring is no block")]
+    Block,
     /// A line of points hasn't exactly three signed numbers of a size of at most [`om_signs::MAX_COORDINATE`].
     #[error("a line of points has not exactly three numbers in range")]
     Number,
-    /// The line goes past the number of values of the map, past one point for each element, or past
-    /// [`om_signs::MAX_MEMBERS`] distinct members.
+    /// The line goes past the number of values of the map, past one point for each element, past [`om_signs::MAX_BLOCKS`]
+    /// blocks, or past [`om_signs::MAX_MEMBERS`] distinct members.
     #[error("the line goes past the greatest size of the body")]
     Many,
     /// The line `end` comes before the map has all its values, or before there is a point for each element.

@@ -3,7 +3,7 @@
 ghost use Rattle.std.specs.Prelude.{◌≡◌, ℕ, ◌<◌, [], IfSome, IfNone, Some, None};
 ghost use Rattle.om_text.specs.Lines.{runs};
 ghost use Rattle.om_text.specs.Words.{plain};
-ghost use Rattle.om_text.specs.Heading.{is_unbuilt, named_kind, plain_numbers, sizes, numbers, headed, rank_of_body, empty_body};
+ghost use Rattle.om_text.specs.Heading.{kind_of, plain_numbers, sizes, numbers, headed, rank_of_body, empty_body};
 ghost use Rattle.om_text.specs.Document.{filled};
 ghost use Rattle.om_text.specs.Reading.{in_range, after_kind};
 
@@ -24,18 +24,12 @@ pub enum Kind {
     Circuits,
     Cocircuits,
     Covectors,
+    Wiring,
     Points,
 }
 
-/// Whether a word names a kind that isn't read yet.
-fn is_unbuilt_name(word: &[u8]) -> bool
-    ensures { result ≡ is_unbuilt word.now }
-{
-    same(word, b"wiring")
-}
-
 fn kind_of_name(word: &[u8]) -> Option<Kind>
-    ensures { result ≡ named_kind word.now }
+    ensures { result ≡ kind_of word.now }
 {
     if same(word, b"chirotope") {
         Some(Kind::Chirotope)
@@ -45,6 +39,8 @@ fn kind_of_name(word: &[u8]) -> Option<Kind>
         Some(Kind::Cocircuits)
     } else if same(word, b"covectors") {
         Some(Kind::Covectors)
+    } else if same(word, b"wiring") {
+        Some(Kind::Wiring)
     } else if same(word, b"points") {
         Some(Kind::Points)
     } else {
@@ -78,9 +74,10 @@ fn sizes_of(kind: Kind, numbers: &[u32]) -> Option<(u32, u32)>
 {
     match (kind, numbers) {
         (Kind::Chirotope, [rank, elements]) => Some((*rank, *elements)),
-        (Kind::Circuits | Kind::Cocircuits | Kind::Covectors | Kind::Points, [elements]) => {
-            Some((0, *elements))
-        }
+        (
+            Kind::Circuits | Kind::Cocircuits | Kind::Covectors | Kind::Wiring | Kind::Points,
+            [elements],
+        ) => Some((0, *elements)),
         _ => None,
     }
 }
@@ -105,6 +102,7 @@ fn empty_document(alloc: Global, kind: Kind, rank: u8, elements: u8) -> Document
         Kind::Circuits => Body::Circuits(List::new(alloc)),
         Kind::Cocircuits => Body::Cocircuits(List::new(alloc)),
         Kind::Covectors => Body::Covectors(List::new(alloc)),
+        Kind::Wiring => Body::Wiring(List::new(alloc)),
         Kind::Points => Body::Points(List::new(alloc)),
     };
     Document { elements, body }
@@ -116,7 +114,7 @@ fn rank_given(kind: Kind, rank: u32) -> u32
 {
     match kind {
         Kind::Chirotope => rank,
-        Kind::Circuits | Kind::Cocircuits | Kind::Covectors | Kind::Points => 0,
+        Kind::Circuits | Kind::Cocircuits | Kind::Covectors | Kind::Wiring | Kind::Points => 0,
     }
 }
 
@@ -141,9 +139,6 @@ pub fn kind_line(alloc: Global, line: &[u8]) -> Result<State, Code>
         Some(found) => found,
         None => return Err(Code::Kind),
     };
-    if is_unbuilt_name(name) {
-        return Err(Code::Unbuilt);
-    }
     let kind = match kind_of_name(name) {
         Some(kind) => kind,
         None => return Err(Code::Kind),

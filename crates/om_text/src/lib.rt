@@ -1,6 +1,7 @@
 //! Documents of oriented matroids: read from bytes line by line, and printed in canonical form.
 #![tactic(auto)]
 
+mod blocks;
 mod body;
 mod body_lines;
 mod code;

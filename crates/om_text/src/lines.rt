@@ -23,7 +23,7 @@ fn byte_place(bytes: &[u8], byte: u8) -> Option<usize>
 }
 
 /// How many bytes stand before the first such byte.
-fn len_before(bytes: &[u8], byte: u8) -> usize
+pub(crate) fn len_before(bytes: &[u8], byte: u8) -> usize
     ensures value { result ≡ position_or_len (λ b. nat_eq b byte) bytes.now }
     ensures within { result ≤ length bytes.now }
 {

@@ -8,11 +8,11 @@ ghost use Rattle.om_text.specs.Rows.{sorted};
 ghost use Rattle.om_text.specs.Document.{IsDocument};
 ghost use Rattle.om_text.specs.Form.{IsPoint, IsBodyOn, IsInForm};
 ghost use Rattle.std.specs.Fmt.{signed_decimal};
-ghost use Rattle.om_text.specs.Print.{text_of, sign_lines, member_lines, point_lines, body_lines, kind_text, printed, sorted_document};
+ghost use Rattle.om_text.specs.Print.{text_of, sign_lines, member_lines, block_lines, point_lines, body_lines, kind_text, printed, sorted_document};
 
 use super::body::Body;
 use super::document::Document;
-use om_signs::{List, NoMemory, Sign, SignVec};
+use om_signs::{Block, List, NoMemory, Sign, SignVec};
 use std::alloc::Global;
 
 /// How many signs of a map stand in a line.
@@ -109,6 +109,32 @@ fn push_point(out: &mut Vec<u8>, point: [i64; 3]) -> Result<(), NoMemory>
     push_bytes(out, text.as_slice())
 }
 
+/// The line of a block.
+fn block_text(alloc: Global, first: u16, last: u16) -> Result<Vec<u8>, NoMemory>
+    ensures { IfOk result (λ bytes. bytes.items ≡ decimal first ++ 45 ∷ (decimal last ++ 10 ∷ [])) }
+{
+    let text = format!(in alloc; "{first}-{last}\n")?;
+    Ok(text.into_bytes())
+}
+
+/// Puts a block at the end, as a line.
+fn push_block(out: &mut Vec<u8>, block: Block) -> Result<(), NoMemory>
+    ensures { OnOk result (out.new.items ≡ out.old.items ++ text_of (block_lines (block ∷ []))) }
+{
+    let text = block_text(*out.allocator(), block.first, block.last)?;
+    push_bytes(out, text.as_slice())
+}
+
+/// Puts blocks at the end, one a line.
+fn push_blocks(out: &mut Vec<u8>, blocks: &[Block]) -> Result<(), NoMemory>
+    ensures { OnOk result (out.new.items ≡ out.old.items ++ text_of (block_lines blocks.now)) }
+{
+    for block in blocks {
+        push_block(out, *block)?;
+    }
+    Ok(())
+}
+
 /// Puts points at the end, one a line.
 fn push_points(out: &mut Vec<u8>, points: &[[i64; 3]]) -> Result<(), NoMemory>
     requires { All IsPoint points.now }
@@ -154,6 +180,7 @@ fn heading(alloc: Global, document: &Document) -> Result<Vec<u8>, NoMemory>
         Body::Circuits(_) => list_heading(alloc, "circuits", document.elements),
         Body::Cocircuits(_) => list_heading(alloc, "cocircuits", document.elements),
         Body::Covectors(_) => list_heading(alloc, "covectors", document.elements),
+        Body::Wiring(_) => list_heading(alloc, "wiring", document.elements),
         Body::Points(_) => list_heading(alloc, "points", document.elements),
     }
 }
@@ -167,17 +194,19 @@ fn push_body(out: &mut Vec<u8>, body: &Body, elements: u8) -> Result<(), NoMemor
         Body::Circuits(members) | Body::Cocircuits(members) | Body::Covectors(members) => {
             push_members(out, members)
         }
+        Body::Wiring(blocks) => push_blocks(out, blocks.as_slice()),
         Body::Points(points) => push_points(out, points.as_slice()),
     }
 }
 
 /// The canonical form of a document: the line `om 1`, the kind line with single spaces, the body and the line `end`. The
 /// values of a map stand in lines of 64 and a last shorter line, the members of a list one a line, sorted by the first
-/// place where they differ, with `-` before `0` before `+`, and the points one a line in their order, with single spaces.
+/// place where they differ, with `-` before `0` before `+`, the blocks of a wiring one a line in their order, and the points
+/// one a line in their order, with single spaces.
 ///
 /// The document has the forms and is within the limits that [`crate::parse`] promises: its numbers are in range, a map has
-/// a value for each set of its rank, the members of a list are different and have a sign for each element, and there is a
-/// point for each element. Reading the canonical form gives it back with its members sorted.
+/// a value for each set of its rank, the members of a list are different and have a sign for each element, the positions of
+/// blocks are at most 999, and there is a point for each element. Reading the canonical form gives it back with its members sorted.
 pub fn print(alloc: Global, document: &Document) -> Result<Vec<u8>, NoMemory>
     requires form { IsInForm document.now }
     ensures bytes { IfOk result (λ bytes. bytes.items ≡ printed document.now) }

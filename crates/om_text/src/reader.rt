@@ -14,7 +14,7 @@ ghost use Rattle.om_text.specs.Part.{IsPart};
 ghost use Rattle.om_text.specs.Parsed.{ComesTo, IfLine};
 
 use super::body::Body;
-use super::body_lines::{has_length_line, has_numbers_line, has_signs_line, with_line};
+use super::body_lines::{has_length_line, has_signs_line, with_line};
 use super::code::Code;
 use super::document::Document;
 use super::kind::kind_line;
@@ -47,7 +47,7 @@ fn is_full(body: &Body, elements: u8) -> bool
     match body {
         Body::Chirotope(map) => map.signs.len() == Subset::choose(map.elements, map.rank) as usize,
         Body::Points(points) => points.len() == elements as usize,
-        Body::Circuits(_) | Body::Cocircuits(_) | Body::Covectors(_) => true,
+        Body::Circuits(_) | Body::Cocircuits(_) | Body::Covectors(_) | Body::Wiring(_) => true,
     }
 }
 
@@ -71,9 +71,6 @@ fn body_line(document: Document, line: &[u8]) -> Result<State, Refusal>
     }
     if !has_length_line(&document.body, document.elements, line) {
         return Err(Refusal::Line(Code::Length));
-    }
-    if !has_numbers_line(&document.body, line) {
-        return Err(Refusal::Line(Code::Number));
     }
     let Document { elements, body } = document;
     let body = with_line(body, elements, line)?;
@@ -192,9 +189,10 @@ fn whole(alloc: Global, bytes: &[u8]) -> Result<Document, ParseError>
 ///
 /// The bytes are split into lines at line feeds. In a line, everything from the first `#` on is a comment, and the words
 /// are the longest runs of bytes other than space, tab and carriage return; a line without words is passed over. The lines
-/// with words are `om 1`, a kind line (`chirotope r n`, `circuits n`, `cocircuits n`, `covectors n` or `points n`), body
-/// lines, and `end`. The body of a map or a list has the signs `+`, `-` and `0`: a map exactly one for each set of `r`
-/// elements, joined over all body lines; a list one member of `n` signs a line, and a repeated line adds nothing. Points
+/// with words are `om 1`, a kind line (`chirotope r n`, `circuits n`, `cocircuits n`, `covectors n`, `wiring n` or
+/// `points n`), body lines, and `end`. The body of a map or a list has the signs `+`, `-` and `0`: a map exactly one for
+/// each set of `r` elements, joined over all body lines; a list one member of `n` signs a line, and a repeated line adds
+/// nothing. A wiring has words `i-j`, two numbers of at most three digits without a leading zero, one block each. Points
 /// have exactly `n` lines of three numbers of a size of at most [`om_signs::MAX_COORDINATE`]: decimal digits without a
 /// leading zero, with or without a `-` before them, and `0` without one.
 ///

@@ -88,7 +88,7 @@ fn first_lines(rt: HostRuntime) -> Result<(), Fail> {
 #[test]
 fn kind_lines(rt: HostRuntime) -> Result<(), Fail> {
     let alloc = rt.alloc();
-    assert!(rt; has_fault(alloc, b"\nom 1\nwiring x", 3, Code::Unbuilt));
+    assert!(rt; has_fault(alloc, b"\nom 1\nwiring x", 3, Code::Header));
     assert!(rt; has_fault(alloc, b"om 1\nvectors 3", 2, Code::Kind));
     assert!(rt; has_fault(alloc, b"om 1\nchirotope 3", 2, Code::Header));
     assert!(rt; has_fault(alloc, b"om 1\nchirotope 3 4 5", 2, Code::Header));

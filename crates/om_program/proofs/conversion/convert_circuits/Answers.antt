@@ -1,8 +1,10 @@
-use Rattle.om_program.proofs.ConversionLaws.{own_circuits, circuits_unbuilt, no_circuits}
+use Rattle.om_program.proofs.ConversionLaws.{own_circuits, circuits_unbuilt}
 use Rattle.om_program.proofs.conversion.convert_circuits.Goals as goal
 
 pub returns-in-Circuits : goal.returns-in-Circuits
-returns-in-Circuits c = λ d represents axioms. rw c.in-Circuits.is (own_circuits d c.args.circuits c.circuits_document.result represents (c.circuits_document.ensures.own d represents) c.circuits_document.ensures.form c.circuits_document.ensures.axioms)
+returns-in-Circuits c =
+    let d = c.circuits_document.ensures in
+    rw c.in-Circuits.is (own_circuits c.args.circuits.0 c.circuits_document.result d.value d.form d.axioms)
 
 pub returns-in-Chirotope : goal.returns-in-Chirotope
-returns-in-Chirotope c = λ d represents axioms. circuits_unbuilt c.args.kind d c.args.circuits (no_circuits c.args.kind c.in-Chirotope.is) represents
+returns-in-Chirotope c = circuits_unbuilt c.args.kind c.args.circuits.0 c.in-Chirotope.is

@@ -1,0 +1,51 @@
+//! The chirotope of a wiring.
+
+ghost use Rattle.std.specs.Prelude.{◌≡◌, ◌≤◌, OnOk, IfOk, IfErr};
+ghost use Rattle.om_text.specs.declared.body.Body.TheVariants.{Wiring};
+ghost use Rattle.om_text.specs.Form.{AreBlocks};
+ghost use Rattle.om_wiring.specs.Maps.{IsFlat, wiring_map};
+ghost use Rattle.om_wiring.specs.Wirings.{IsWiring};
+ghost use Rattle.om_program.specs.Axioms.{IsRefusal, wiring_line};
+
+use crate::unrepresented::Unrepresented;
+use om_answer::Line;
+use om_chirotope::Chirotope;
+use om_signs::{Block, List, MAX_ELEMENTS};
+use om_wiring::{FlatError, WiringRefused, check, chirotope};
+use std::alloc::Global;
+
+/// The chirotope of a wiring with these blocks, or why there is none.
+pub fn chirotope_of_wiring(
+    alloc: Global,
+    elements: u8,
+    blocks: List<Block>,
+) -> Result<Chirotope, Unrepresented>
+    requires low { 1 ≤ elements }
+    requires high { elements ≤ MAX_ELEMENTS }
+    requires blocks { AreBlocks blocks }
+    ensures value { IfOk result (λ c. c ≡ wiring_map elements blocks) }
+    ensures axioms { OnOk result (IsWiring elements blocks) }
+    ensures bent { OnOk result (IsFlat elements blocks → ⊥) }
+    ensures refused { IfErr result (IsRefusal elements (Wiring blocks)) }
+{
+    let wiring = match check(elements, blocks) {
+        Ok(wiring) => wiring,
+        Err(bad) => return Err(Unrepresented::Refused(wiring_refusal(bad.why))),
+    };
+    match chirotope(alloc, &wiring) {
+        Ok(chirotope) => Ok(chirotope),
+        Err(FlatError::FlatRank) => Err(Unrepresented::Flat),
+        Err(FlatError::Memory) => Err(Unrepresented::Memory),
+    }
+}
+
+/// The line that says why blocks are no wiring diagram.
+fn wiring_refusal(why: WiringRefused) -> Line
+    ensures { result ≡ wiring_line why }
+{
+    match why {
+        WiringRefused::Range { step } => Line::RefusedRange { step },
+        WiringRefused::NotIncreasing { step } => Line::RefusedNotincreasing { step },
+        WiringRefused::NotReversed => Line::RefusedNotreversed,
+    }
+}

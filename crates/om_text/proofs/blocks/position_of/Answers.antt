@@ -1,0 +1,6 @@
+use Rattle.std.proofs.Common.{◌<◌, arith}
+use Rattle.om_text.proofs.BlockWords.{plain_small}
+use Rattle.om_text.proofs.blocks.position_of.Goals as goal
+
+pub overflow_cast-result : goal.overflow_cast-result
+overflow_cast-result c = let s : c.in-Some.number < 1000 = plain_small c.args.word.now _ c.if-word-gt-MOST_DIGITS.false c.in-Some.ensures in omega arith

@@ -1,0 +1,54 @@
+//! The words of wirings.
+
+ghost use Rattle.std.specs.Prelude.{◌≡◌, ◌≤◌, IfSome};
+ghost use Rattle.std.specs.List.{before_first, after_first};
+ghost use Rattle.om_text.specs.Blocks.{position_of, is_dash, block_of};
+
+use super::lines::len_before;
+use super::words::plain_number;
+use om_signs::Block;
+
+/// The most digits of a position.
+const MOST_DIGITS: usize = 3;
+
+/// The part of a word before its first `-`.
+fn before_dash(word: &[u8]) -> &[u8]
+    ensures { result.now ≡ before_first is_dash word.now }
+{
+    let end = len_before(word, b'-');
+    &word[..end]
+}
+
+/// The part of a word behind its first `-`, and no bytes where it has none.
+fn after_dash(word: &[u8]) -> &[u8]
+    ensures { result.now ≡ after_first is_dash word.now }
+{
+    let end = len_before(word, b'-');
+    if end < word.len() {
+        &word[end + 1..]
+    } else {
+        &word[end..]
+    }
+}
+
+/// The position that a word is: a plain number of at most `MOST_DIGITS` digits.
+fn position_of(word: &[u8]) -> Option<u16>
+    ensures { result ≡ position_of word.now }
+{
+    if MOST_DIGITS < word.len() {
+        return None;
+    }
+    match plain_number(word) {
+        Some(number) => Some(number as u16),
+        None => None,
+    }
+}
+
+/// The block that a word is: two plain numbers of at most three digits with a `-` between them.
+pub fn block_of(word: &[u8]) -> Option<Block>
+    ensures { result ≡ block_of word.now }
+{
+    let first = position_of(before_dash(word))?;
+    let last = position_of(after_dash(word))?;
+    Some(Block { first, last })
+}
