@@ -3,12 +3,15 @@ mod ArgumentLaws
 mod ClaimLaws
 mod ConversionLaws
 mod FitLaws
+mod FlipLaws
 mod ListingLaws
 mod MeaningLaws
+mod MutationLaws
 mod Numerals
 mod OperationLaws
 mod OptionLaws
 mod PointLaws
+mod RankThreeLaws
 mod ReplyLaws
 mod SignWords
 mod TripleLaws

@@ -1,10 +1,12 @@
+pub mod Elements
+pub mod Triples
 pub mod Words
 pub mod Samples
 pub mod Readings
 pub mod Options
-pub mod Triples
 pub mod Listings
 pub mod Statuses
+pub mod MutationTexts
 pub mod Answers
 pub mod Points
 pub mod Axioms
@@ -12,9 +14,12 @@ pub mod Covectors
 pub mod Documents
 pub mod Represented
 pub mod Chirotopes
+pub mod RankThree
 pub mod Memberships
 pub mod Conversions
 pub mod Operations
+pub mod MutationLists
+pub mod Flips
 pub mod Tasks
 pub mod Claims
 pub mod Meaning

@@ -3,7 +3,8 @@ use Rattle.om_program.specs.declared.operation.Operation.TheVariants as operatio
 use Rattle.om_program.specs.declared.reads.Reads.{Reads}
 use Rattle.om_program.specs.declared.reads.Reads.TheVariants as kind
 use Rattle.om_program.specs.declared.task.Task.{Task}
-use Rattle.om_program.specs.declared.task.Task.TheVariants.{Delete, Contract, Reorient, Check}
+use Rattle.om_program.specs.declared.task.Task.TheVariants.{Delete, Contract, Reorient, Flip, Check}
+use Rattle.om_program.specs.Flips.{AreIncreasing}
 use Rattle.om_program.specs.Operations.{IsLawful}
 
 -- what a task reads
@@ -16,4 +17,5 @@ abbrev pub HasLawfulArguments : Task → Type 0
 HasLawfulArguments (Delete e) = IsLawful (operation.Delete e)
 HasLawfulArguments (Contract e) = IsLawful (operation.Contract e)
 HasLawfulArguments (Reorient mask) = IsLawful (operation.Reorient mask)
+HasLawfulArguments (Flip a b c) = AreIncreasing a b c
 HasLawfulArguments _ = Unit {0}

@@ -3,6 +3,8 @@ ghost use Rattle.om_program.specs.Answers.{status_of, status_of_line};
 
 use crate::status::Status;
 use om_answer::Line;
+use om_signs::List;
+use om_subsets::Subset;
 use om_text::Document;
 
 /// What the program answers. The code of a command decides it, and it is printed once, at the end of the run.
@@ -12,6 +14,8 @@ pub enum Answer {
     Line(Line),
     /// A document, in canonical form.
     Document(Document),
+    /// Mutations: one line that says how many there are, a line for each, and `end`.
+    Mutations(List<Subset>),
 }
 
 impl Answer {
@@ -22,6 +26,7 @@ impl Answer {
         match self {
             Answer::Line(line) => status_of_line(line),
             Answer::Document(_) => Status::Done,
+            Answer::Mutations(_) => Status::Done,
         }
     }
 }

@@ -8,7 +8,9 @@ ghost use Rattle.om_program.specs.Tasks.{HasLawfulArguments, reads};
 
 use crate::answer::Answer;
 use crate::conversion::convert;
+use crate::flipping::flip_triple;
 use crate::membership::find_membership;
+use crate::mutation_list::list_mutations;
 use crate::operation::{Operation, operate};
 use crate::reads::Reads;
 use crate::representation::{Representation, represent};
@@ -119,6 +121,8 @@ fn answer_task(
         Task::Delete(e) => operate(alloc, representation, Operation::Delete(e)),
         Task::Contract(e) => operate(alloc, representation, Operation::Contract(e)),
         Task::Reorient(mask) => operate(alloc, representation, Operation::Reorient(mask)),
+        Task::Mutations => list_mutations(alloc, representation),
+        Task::Flip(a, b, c) => Ok(flip_triple(representation, a, b, c)),
         // the source of this one is a claim
         Task::Check => unreachable!(),
     }

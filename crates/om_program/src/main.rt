@@ -12,11 +12,16 @@ mod colouring;
 mod command;
 mod conversion;
 mod documents;
+mod flipping;
 mod leading;
 mod limits;
 #[cfg(test)]
 mod map_tests;
 mod membership;
+mod mutation_list;
+#[cfg(test)]
+mod mutation_tests;
+mod mutation_text;
 mod numbered;
 mod operation;
 mod options;

@@ -13,11 +13,13 @@ pub enum Verb {
     Delete,
     Contract,
     Reorient,
+    Mutations,
+    Flip,
     Check,
 }
 
 /// All verbs.
-const VERBS: [Verb; 8] = [
+const VERBS: [Verb; 10] = [
     Verb::Accept,
     Verb::Member,
     Verb::Convert,
@@ -25,6 +27,8 @@ const VERBS: [Verb; 8] = [
     Verb::Delete,
     Verb::Contract,
     Verb::Reorient,
+    Verb::Mutations,
+    Verb::Flip,
     Verb::Check,
 ];
 
@@ -41,6 +45,8 @@ impl Verb {
             Verb::Delete => "delete",
             Verb::Contract => "contract",
             Verb::Reorient => "reorient",
+            Verb::Mutations => "mutations",
+            Verb::Flip => "flip",
             Verb::Check => "check",
         }
     }
