@@ -1,8 +1,8 @@
 -- The set of three elements, and why its triple isn't flipped.
 --
 -- Main results: no element is above n (within_of_none); the elements of the set (three_elements); a refusal (refused_flip).
-use Rattle.std.specs.Prelude.{ℕ, ◌≡◌, ◌+◌, ◌<◌, ◌≤◌, List, [], ◌∷◌, Some, None, cond, nat_lt, nat_eq, refl}
-use Rattle.std.proofs.Common.{zero, suc, arith, sym, ap, ◌∙◌, inl, inr}
+use Rattle.std.specs.Prelude.{ℕ, ◌≡◌, ◌+◌, ◌<◌, ◌≤◌, List, [], ◌∷◌, Some, None, refl}
+use Rattle.std.proofs.Common.{zero, suc, arith, sym, ◌∙◌, inl, inr}
 use Rattle.std.proofs.lemmas.Bool.{cases_lt, lt-ltb, le-ltb, ne_eqb}
 use Rattle.om_subsets.specs.Subsets.{with_element}
 use Rattle.om_subsets.specs.Members.{Chosen, members}
@@ -31,19 +31,19 @@ three_elements a b c l k =
 pub within_of_none : (n a b c : ℕ) → first_above n (triple_of a b c) ≡ None → c ≤ n
 within_of_none n a b c none = elim (cases_lt n c) [
   | inl lt ↦ elim (cases_lt n a) [
-    | inl la ↦ absurd (no_some (sym (ap (λ t. cond t (Some a) (cond (nat_lt n b) (Some b) (cond (nat_lt n c) (Some c) None))) (lt-ltb n a la)) ∙ none))
+    | inl la ↦ let e : first_above n (triple_of a b c) ≡ Some a = rw (lt-ltb n a la) refl in absurd (no_some a (sym e ∙ none))
     | inr ga ↦ elim (cases_lt n b) [
-      | inl lb ↦ absurd (no_some (sym (rw (le-ltb n a ga, lt-ltb n b lb) refl) ∙ none))
-      | inr gb ↦ absurd (no_some (sym (rw (le-ltb n a ga, le-ltb n b gb, lt-ltb n c lt) refl) ∙ none))
+      | inl lb ↦ let e : first_above n (triple_of a b c) ≡ Some b = rw (le-ltb n a ga, lt-ltb n b lb) refl in absurd (no_some b (sym e ∙ none))
+      | inr gb ↦ let e : first_above n (triple_of a b c) ≡ Some c = rw (le-ltb n a ga, le-ltb n b gb, lt-ltb n c lt) refl in absurd (no_some c (sym e ∙ none))
     ]
   ]
   | inr ge ↦ ge
 ]
   where
-    no_some : {x : ℕ} → Some x ≡ None → ⊥
-    no_some same = cc
+    no_some : (x : ℕ) → Some x ≡ None → ⊥
+    no_some x same = cc
 
 pub refused_flip : (m : SignMap) (t : Chosen) (why : FlipRefused) → first_above m.elements t.elements ≡ None → IsRefusal m t why → IsFlipOfMap t.elements m (says (flip_refusal why))
 refused_flip m t (why.NotRank3 r) none (is, other) = rw is (other_rank none other)
-refused_flip m t why.NotBasis none (three, zero) = no_basis none three zero
+refused_flip m t why.NotBasis none (three, null) = no_basis none three null
 refused_flip m t (why.NotMutation s a) none is = no_mutation s a none is.0 is.1 is.2

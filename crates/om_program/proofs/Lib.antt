@@ -14,6 +14,7 @@ mod PointLaws
 mod RankThreeLaws
 mod ReplyLaws
 mod SignWords
+mod SweepLaws
 mod TripleLaws
 mod VerbLaws
 mod WordLaws

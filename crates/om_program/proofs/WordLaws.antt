@@ -9,7 +9,7 @@ use Rattle.om_signs.specs.declared.sign.Sign.{Sign}
 use Rattle.om_answer.specs.declared.kind.Kind.{Kind}
 use Rattle.om_answer.specs.declared.kind.Kind.TheVariants as kind
 use Rattle.om_program.specs.declared.task.Task.{Task}
-use Rattle.om_program.specs.declared.task.Task.TheVariants.{Accept, Member, Convert, Dual, Delete, Contract, Reorient, Mutations, Flip, Check}
+use Rattle.om_program.specs.declared.task.Task.TheVariants.{Accept, Member, Convert, Dual, Delete, Contract, Reorient, Wiring, Mutations, Flip, Check}
 use Rattle.om_program.specs.declared.usage.Usage.{Usage}
 use Rattle.om_program.specs.declared.verb.Verb.{Verb}
 use Rattle.om_program.specs.declared.verb.Verb.TheVariants as verb
@@ -170,6 +170,7 @@ Value verb.Dual = Unit {0}
 Value verb.Delete = ℕ
 Value verb.Contract = ℕ
 Value verb.Reorient = ℕ
+Value verb.Wiring = Unit {0}
 Value verb.Mutations = Unit {0}
 Value verb.Flip = ℕ × ℕ × ℕ
 Value verb.Check = Unit {0}
@@ -182,6 +183,7 @@ value_of Dual = tt
 value_of (Delete e) = e
 value_of (Contract e) = e
 value_of (Reorient mask) = mask
+value_of Wiring = tt
 value_of Mutations = tt
 value_of (Flip a b c) = (a, b, c)
 value_of Check = tt
@@ -194,6 +196,7 @@ task_of verb.Dual _ = Dual
 task_of verb.Delete e = Delete e
 task_of verb.Contract e = Contract e
 task_of verb.Reorient mask = Reorient mask
+task_of verb.Wiring _ = Wiring
 task_of verb.Mutations _ = Mutations
 task_of verb.Flip t = Flip t.0 t.1 t.2
 task_of verb.Check _ = Check
@@ -206,6 +209,7 @@ task_back Dual = refl
 task_back (Delete e) = refl
 task_back (Contract e) = refl
 task_back (Reorient mask) = refl
+task_back Wiring = refl
 task_back Mutations = refl
 task_back (Flip a b c) = refl
 task_back Check = refl
@@ -233,6 +237,9 @@ contract_shape = record { verb = λ a. refl; arguments = λ a words. (λ h. h, �
 
 pub reorient_shape : IsShape verb.Reorient AreElements Reorient
 reorient_shape = record { verb = λ a. refl; arguments = λ a words. (λ h. h, λ h. h); only = only verb.Reorient }
+
+pub wiring_shape : IsShape verb.Wiring AreNone (λ _. Wiring)
+wiring_shape = record { verb = λ a. refl; arguments = λ a words. (λ h. h, λ h. h); only = only verb.Wiring }
 
 pub mutations_shape : IsShape verb.Mutations AreNone (λ _. Mutations)
 mutations_shape = record { verb = λ a. refl; arguments = λ a words. (λ h. h, λ h. h); only = only verb.Mutations }

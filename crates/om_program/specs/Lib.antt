@@ -18,6 +18,7 @@ pub mod RankThree
 pub mod Memberships
 pub mod Conversions
 pub mod Operations
+pub mod Sweeps
 pub mod MutationLists
 pub mod Flips
 pub mod Tasks

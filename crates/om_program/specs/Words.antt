@@ -10,7 +10,7 @@ use Rattle.om_text.specs.Words.{is_sign, sign_of_byte}
 use Rattle.om_answer.specs.declared.kind.Kind.{Kind}
 use Rattle.om_answer.specs.declared.kind.Kind.TheVariants as kind
 use Rattle.om_program.specs.declared.task.Task.{Task}
-use Rattle.om_program.specs.declared.task.Task.TheVariants.{Accept, Member, Convert, Dual, Delete, Contract, Reorient, Mutations, Flip, Check}
+use Rattle.om_program.specs.declared.task.Task.TheVariants.{Accept, Member, Convert, Dual, Delete, Contract, Reorient, Wiring, Mutations, Flip, Check}
 use Rattle.om_program.specs.declared.usage.Usage.{Usage}
 use Rattle.om_program.specs.declared.verb.Verb.{Verb}
 use Rattle.om_program.specs.declared.verb.Verb.TheVariants as verb
@@ -60,6 +60,7 @@ verb_of Dual = verb.Dual
 verb_of (Delete e) = verb.Delete
 verb_of (Contract e) = verb.Contract
 verb_of (Reorient mask) = verb.Reorient
+verb_of Wiring = verb.Wiring
 verb_of Mutations = verb.Mutations
 verb_of (Flip a b c) = verb.Flip
 verb_of Check = verb.Check
@@ -72,6 +73,7 @@ verb_word verb.Dual = codes "dual"
 verb_word verb.Delete = codes "delete"
 verb_word verb.Contract = codes "contract"
 verb_word verb.Reorient = codes "reorient"
+verb_word verb.Wiring = codes "wiring"
 verb_word verb.Mutations = codes "mutations"
 verb_word verb.Flip = codes "flip"
 verb_word verb.Check = codes "check"
@@ -85,6 +87,7 @@ AreArguments Dual words = AreNone words tt
 AreArguments (Delete e) words = IsAlone IsElement words e
 AreArguments (Contract e) words = IsAlone IsElement words e
 AreArguments (Reorient mask) words = AreElements words mask
+AreArguments Wiring words = AreNone words tt
 AreArguments Mutations words = AreNone words tt
 AreArguments (Flip a b c) words = AreTriple words (a, b, c)
 AreArguments Check words = AreNone words tt

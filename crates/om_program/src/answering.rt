@@ -14,6 +14,7 @@ use crate::mutation_list::list_mutations;
 use crate::operation::{Operation, operate};
 use crate::reads::Reads;
 use crate::representation::{Representation, represent};
+use crate::sweeping::find_wiring;
 use crate::task::Task;
 use crate::unrepresented::Unrepresented;
 use crate::verification::verify;
@@ -121,6 +122,7 @@ fn answer_task(
         Task::Delete(e) => operate(alloc, representation, Operation::Delete(e)),
         Task::Contract(e) => operate(alloc, representation, Operation::Contract(e)),
         Task::Reorient(mask) => operate(alloc, representation, Operation::Reorient(mask)),
+        Task::Wiring => find_wiring(alloc, representation),
         Task::Mutations => list_mutations(alloc, representation),
         Task::Flip(a, b, c) => Ok(flip_triple(representation, a, b, c)),
         // the source of this one is a claim

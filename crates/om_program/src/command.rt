@@ -48,6 +48,10 @@ fn after_verb(verb: Verb, rest: &[String]) -> Result<Task, Usage>
         Verb::Delete => Ok(Task::Delete(only(rest)?)),
         Verb::Contract => Ok(Task::Contract(only(rest)?)),
         Verb::Reorient => Ok(Task::Reorient(elements(rest)?)),
+        Verb::Wiring => {
+            none(rest)?;
+            Ok(Task::Wiring)
+        }
         Verb::Mutations => {
             none(rest)?;
             Ok(Task::Mutations)

@@ -35,6 +35,7 @@ mod run;
 mod setting;
 mod spelling;
 mod status;
+mod sweeping;
 mod task;
 #[cfg(test)]
 mod tests;

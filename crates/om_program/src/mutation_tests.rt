@@ -1,4 +1,4 @@
-//! Runs of the commands on mutations.
+//! Runs of the commands on wirings and mutations.
 
 use crate::status::Status;
 use crate::tests::{Case, UNIFORM, ends};
@@ -14,7 +14,7 @@ const NINE: &str =
 const PAIR: &str = "om 1\nchirotope 2 3\n+++\nend\n";
 
 #[test]
-fn mutations_and_flips(rt: HostRuntime) -> Result<(), Fail> {
+fn wirings_mutations_and_flips(rt: HostRuntime) -> Result<(), Fail> {
     for (words, input, status, text) in [
         (
             &["mutations"][..],

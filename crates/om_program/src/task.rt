@@ -22,6 +22,8 @@ pub enum Task {
     Contract(u8),
     /// `reorient E..`: the reorientation on the elements of this mask, in which bit e - 1 stands for e.
     Reorient(u32),
+    /// `wiring`: the least wiring of the chirotope.
+    Wiring,
     /// `mutations`: the mutations of the chirotope.
     Mutations,
     /// `flip A B C`: the chirotope with the sign of these three elements turned.

@@ -13,13 +13,14 @@ pub enum Verb {
     Delete,
     Contract,
     Reorient,
+    Wiring,
     Mutations,
     Flip,
     Check,
 }
 
 /// All verbs.
-const VERBS: [Verb; 10] = [
+const VERBS: [Verb; 11] = [
     Verb::Accept,
     Verb::Member,
     Verb::Convert,
@@ -27,6 +28,7 @@ const VERBS: [Verb; 10] = [
     Verb::Delete,
     Verb::Contract,
     Verb::Reorient,
+    Verb::Wiring,
     Verb::Mutations,
     Verb::Flip,
     Verb::Check,
@@ -45,6 +47,7 @@ impl Verb {
             Verb::Delete => "delete",
             Verb::Contract => "contract",
             Verb::Reorient => "reorient",
+            Verb::Wiring => "wiring",
             Verb::Mutations => "mutations",
             Verb::Flip => "flip",
             Verb::Check => "check",
