@@ -57,5 +57,8 @@ lawful_arguments words t named = lawful t named.arguments named.behind
     lawful (task.Delete e) rest (word, (is, element)) = (element.low, element.high)
     lawful (task.Contract e) rest (word, (is, element)) = (element.low, element.high)
     lawful (task.Reorient mask) rest all = subst (λ u. u < 2 ^ MAX_ELEMENTS) (sym all.value) (mask_of-lt 1 MAX_ELEMENTS all.elements)
+    lawful task.Wiring rest behind = tt
+    lawful task.Mutations rest behind = tt
+    lawful (task.Flip a b c) rest t = record { low = t.low; first = t.first; second = t.second; high = t.high }
     lawful (task.Decide b) rest behind = lawful_budgets rest b behind
     lawful task.Check rest behind = tt

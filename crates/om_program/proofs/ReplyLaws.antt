@@ -31,13 +31,14 @@ use Rattle.om_program.specs.declared.operation.Operation.TheVariants as operatio
 use Rattle.om_program.specs.declared.status.Status.{Status}
 use Rattle.om_program.specs.declared.status.Status.TheVariants as status
 use Rattle.om_program.specs.declared.task.Task.{Task}
-use Rattle.om_program.specs.declared.task.Task.TheVariants.{Accept, Member, Convert, Dual, Delete, Contract, Reorient, Decide, Check}
+use Rattle.om_program.specs.declared.task.Task.TheVariants.{Accept, Member, Convert, Dual, Delete, Contract, Reorient, Wiring, Mutations, Flip, Decide, Check}
 use Rattle.om_program.specs.Statuses.{IsAnswered, IsReplied}
 use Rattle.om_program.specs.Answers.{IsReply, status_of, status_of_line}
 use Rattle.om_program.specs.Axioms.{IsRefusedOn, set_line, map_line, cov_line, wiring_line}
 use Rattle.om_program.specs.Memberships.{IsMembership, wrong_length, covector, not_covector}
 use Rattle.om_program.specs.Conversions.{IsConversion, converted, limited, unbuilt}
 use Rattle.om_program.specs.Operations.{IsOperation, not_built, outside, last, made}
+use Rattle.om_program.proofs.RankThreeLaws.{wiring_replies, mutations_replies, flip_replies}
 use Rattle.om_program.specs.Claims as claims
 use Rattle.om_program.proofs.DecisionLaws.{verdict_status, decision_replies}
 use Rattle.om_program.specs.Meaning.{IsAnswerOf, DocumentMeans, flat_line, refused, flat, answered, TaskMeans, long, faulty, read, faulty_claim, claimed}
@@ -47,6 +48,7 @@ use Rattle.om_program.specs.Meaning.{IsAnswerOf, DocumentMeans, flat_line, refus
 pub reply_status : (a : Answer) → IsReply a → IsReplied (status_of a)
 reply_status (answer.Line l) reply = reply
 reply_status (answer.Document d) reply = tt
+reply_status (answer.Mutations sets) reply = tt
 reply_status (answer.Verdict m v) reply = verdict_status v
 
 pub replied_answered : (s : Status) → IsReplied s → IsAnswered s
@@ -152,6 +154,9 @@ task_answer_replies Dual d a is = operation_replies operation.Dual d a is
 task_answer_replies (Delete e) d a is = operation_replies (operation.Delete e) d a is
 task_answer_replies (Contract e) d a is = operation_replies (operation.Contract e) d a is
 task_answer_replies (Reorient mask) d a is = operation_replies (operation.Reorient mask) d a is
+task_answer_replies Wiring d a is = wiring_replies d a is
+task_answer_replies Mutations d a is = mutations_replies d a is
+task_answer_replies (Flip x y z) d a is = flip_replies x y z d a is
 task_answer_replies (Decide b) d a is = decision_replies b d a is
 task_answer_replies Check d a is = absurd is
 

@@ -11,11 +11,12 @@ use Rattle.om_answer.specs.declared.kind.Kind.TheVariants as kind
 use Rattle.om_decide.specs.declared.budgets.Budgets.{Budgets}
 use Rattle.om_program.specs.Options.{AreBudgets}
 use Rattle.om_program.specs.declared.task.Task.{Task}
-use Rattle.om_program.specs.declared.task.Task.TheVariants.{Accept, Member, Convert, Dual, Delete, Contract, Reorient, Decide, Check}
+use Rattle.om_program.specs.declared.task.Task.TheVariants.{Accept, Member, Convert, Dual, Delete, Contract, Reorient, Wiring, Mutations, Flip, Decide, Check}
 use Rattle.om_program.specs.declared.usage.Usage.{Usage}
 use Rattle.om_program.specs.declared.verb.Verb.{Verb}
 use Rattle.om_program.specs.declared.verb.Verb.TheVariants as verb
 use Rattle.om_program.proofs.VerbLaws.{same_verb}
+use Rattle.om_program.specs.Triples.{AreTriple}
 use Rattle.om_program.specs.Words.{Names, AreNamed, Spells, NamesKind, IsElement, AreElements, AreNone, IsAlone, AreArguments, kind_word, verb_word, verb_of, AreCommand, Begins, IsFault, IsUsage, at_word, at_end, HasValue, IsRead}
 
 abbrev pub tail_of : List (List ℕ) → List (List ℕ)
@@ -171,6 +172,9 @@ Value verb.Dual = Unit {0}
 Value verb.Delete = ℕ
 Value verb.Contract = ℕ
 Value verb.Reorient = ℕ
+Value verb.Wiring = Unit {0}
+Value verb.Mutations = Unit {0}
+Value verb.Flip = ℕ × ℕ × ℕ
 Value verb.Decide = Budgets
 Value verb.Check = Unit {0}
 
@@ -182,6 +186,9 @@ value_of Dual = tt
 value_of (Delete e) = e
 value_of (Contract e) = e
 value_of (Reorient mask) = mask
+value_of Wiring = tt
+value_of Mutations = tt
+value_of (Flip a b c) = (a, b, c)
 value_of (Decide b) = b
 value_of Check = tt
 
@@ -193,6 +200,9 @@ task_of verb.Dual _ = Dual
 task_of verb.Delete e = Delete e
 task_of verb.Contract e = Contract e
 task_of verb.Reorient mask = Reorient mask
+task_of verb.Wiring _ = Wiring
+task_of verb.Mutations _ = Mutations
+task_of verb.Flip t = Flip t.0 t.1 t.2
 task_of verb.Decide b = Decide b
 task_of verb.Check _ = Check
 
@@ -204,6 +214,9 @@ task_back Dual = refl
 task_back (Delete e) = refl
 task_back (Contract e) = refl
 task_back (Reorient mask) = refl
+task_back Wiring = refl
+task_back Mutations = refl
+task_back (Flip a b c) = refl
 task_back (Decide b) = refl
 task_back Check = refl
 
@@ -230,6 +243,15 @@ contract_shape = record { verb = λ a. refl; arguments = λ a words. (λ h. h, �
 
 pub reorient_shape : IsShape verb.Reorient AreElements Reorient
 reorient_shape = record { verb = λ a. refl; arguments = λ a words. (λ h. h, λ h. h); only = only verb.Reorient }
+
+pub wiring_shape : IsShape verb.Wiring AreNone (λ _. Wiring)
+wiring_shape = record { verb = λ a. refl; arguments = λ a words. (λ h. h, λ h. h); only = only verb.Wiring }
+
+pub mutations_shape : IsShape verb.Mutations AreNone (λ _. Mutations)
+mutations_shape = record { verb = λ a. refl; arguments = λ a words. (λ h. h, λ h. h); only = only verb.Mutations }
+
+pub flip_shape : IsShape verb.Flip AreTriple (λ t. Flip t.0 t.1 t.2)
+flip_shape = record { verb = λ a. refl; arguments = λ a words. (λ h. h, λ h. h); only = only verb.Flip }
 
 pub decide_shape : IsShape verb.Decide AreBudgets Decide
 decide_shape = record { verb = λ a. refl; arguments = λ a words. (λ h. h, λ h. h); only = only verb.Decide }

@@ -4,7 +4,8 @@ use Rattle.om_program.specs.declared.operation.Operation.TheVariants as operatio
 use Rattle.om_program.specs.declared.reads.Reads.{Reads}
 use Rattle.om_program.specs.declared.reads.Reads.TheVariants as kind
 use Rattle.om_program.specs.declared.task.Task.{Task}
-use Rattle.om_program.specs.declared.task.Task.TheVariants.{Delete, Contract, Reorient, Decide, Check}
+use Rattle.om_program.specs.declared.task.Task.TheVariants.{Delete, Contract, Reorient, Flip, Decide, Check}
+use Rattle.om_program.specs.Flips.{AreIncreasing}
 use Rattle.om_program.specs.Operations.{IsLawful}
 
 -- what a task reads
@@ -17,5 +18,6 @@ abbrev pub HasLawfulArguments : Task → Type 0
 HasLawfulArguments (Delete e) = IsLawful (operation.Delete e)
 HasLawfulArguments (Contract e) = IsLawful (operation.Contract e)
 HasLawfulArguments (Reorient mask) = IsLawful (operation.Reorient mask)
+HasLawfulArguments (Flip a b c) = AreIncreasing a b c
 HasLawfulArguments (Decide b) = AreBudgets b
 HasLawfulArguments _ = Unit {0}

@@ -3,6 +3,8 @@ ghost use Rattle.om_program.specs.Answers.{status_of, status_of_line, status_of_
 
 use crate::status::Status;
 use om_answer::Line;
+use om_signs::List;
+use om_subsets::Subset;
 use om_certificate::Verdict;
 use om_chirotope::Chirotope;
 use om_text::Document;
@@ -14,6 +16,8 @@ pub enum Answer {
     Line(Line),
     /// A document, in canonical form.
     Document(Document),
+    /// Mutations: one line that says how many there are, a line for each, and `end`.
+    Mutations(List<Subset>),
     /// A verdict on a chirotope: the document of the chirotope, and behind it the verdict.
     Verdict {
         chirotope: Chirotope,
@@ -29,6 +33,7 @@ impl Answer {
         match self {
             Answer::Line(line) => status_of_line(line),
             Answer::Document(_) => Status::Done,
+            Answer::Mutations(_) => Status::Done,
             Answer::Verdict { verdict, .. } => status_of_verdict(verdict),
         }
     }

@@ -15,11 +15,16 @@ mod decision;
 #[cfg(test)]
 mod decision_tests;
 mod documents;
+mod flipping;
 mod leading;
 mod limits;
 #[cfg(test)]
 mod map_tests;
 mod membership;
+mod mutation_list;
+#[cfg(test)]
+mod mutation_tests;
+mod mutation_text;
 mod numbered;
 mod operation;
 mod options;
@@ -33,6 +38,7 @@ mod run;
 mod setting;
 mod spelling;
 mod status;
+mod sweeping;
 mod task;
 #[cfg(test)]
 mod tests;

@@ -23,6 +23,12 @@ pub enum Task {
     Contract(u8),
     /// `reorient E..`: the reorientation on the elements of this mask, in which bit e - 1 stands for e.
     Reorient(u32),
+    /// `wiring`: the least wiring of the chirotope.
+    Wiring,
+    /// `mutations`: the mutations of the chirotope.
+    Mutations,
+    /// `flip A B C`: the chirotope with the sign of these three elements turned.
+    Flip(u8, u8, u8),
     /// `decide --box=K --steps=T --pivots=P`: whether vectors realize it, within these budgets.
     Decide(Budgets),
     /// `check`: whether the verdict of a claim has proof.
