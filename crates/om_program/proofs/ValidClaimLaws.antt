@@ -25,7 +25,7 @@ use Rattle.om_program.specs.declared.task.Task.{Task}
 use Rattle.om_program.specs.declared.task.Task.TheVariants.{Decide, Check}
 use Rattle.om_program.specs.declared.verb.Verb.TheVariants as verb
 use Rattle.om_program.specs.Answers.{says, judges}
-use Rattle.om_program.specs.Claims.{EvidenceMeans, valid, judged, verified, valid_line}
+use Rattle.om_program.specs.Claims.{valid, judged, verified, valid_line}
 use Rattle.om_program.specs.Decisions.{IsDecided, DecisionMeans, other_rank, decided, IsDecision, of_chirotope}
 use Rattle.om_program.specs.Meaning.{Means, usage, named, TaskMeans, long, faulty, read, faulty_claim, claimed, DocumentMeans, refused, flat, answered}
 use Rattle.om_program.specs.ValidClaims.{IsLimit, IsFoundValid, VerdictsAreFoundValid}
