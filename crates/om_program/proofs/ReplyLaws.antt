@@ -36,7 +36,7 @@ use Rattle.om_program.specs.Statuses.{IsAnswered, IsReplied}
 use Rattle.om_program.specs.Answers.{IsReply, status_of, status_of_line}
 use Rattle.om_program.specs.Axioms.{IsRefusedOn, set_line, map_line, cov_line, wiring_line}
 use Rattle.om_program.specs.Memberships.{IsMembership, wrong_length, covector, not_covector}
-use Rattle.om_program.specs.Conversions.{IsConversion, converted, limited, unbuilt}
+use Rattle.om_program.specs.Conversions.{IsConversion, itself, limited, converted}
 use Rattle.om_program.specs.Operations.{IsOperation, not_built, outside, last, made}
 use Rattle.om_program.proofs.RankThreeLaws.{wiring_replies, mutations_replies, flip_replies}
 use Rattle.om_program.specs.Claims as claims
@@ -105,9 +105,9 @@ membership_replies n P x a (covector size is) = tt
 membership_replies n P x a (not_covector size is) = tt
 
 conversion_replies : (k : Kind) (d : Document) (a : Answer) → IsConversion k d a → IsReply a
-conversion_replies k d a (converted e built few is) = is.form
-conversion_replies k d a (limited built many) = tt
-conversion_replies k d a (unbuilt not) = tt
+conversion_replies k d a (itself own form) = form
+conversion_replies k d a (limited other many) = tt
+conversion_replies k d a (converted e other few is) = is.form
 
 operation_replies : (o : Operation) (d : Document) (a : Answer) → IsOperation o d a → IsReply a
 operation_replies o d a (not_built not) = tt

@@ -14,15 +14,6 @@ const POINT: &str = "om 1\nchirotope 1 1\n+\nend\n";
 #[test]
 fn answers_that_are_accepted_and_converted_on(rt: HostRuntime) -> Result<(), Fail> {
     let alloc = rt.alloc();
-    for answer in [CIRCUITS, COCIRCUITS] {
-        ends(
-            &rt,
-            alloc,
-            Case::new(&["accept"], answer),
-            Status::Done,
-            "accepted\n",
-        )?;
-    }
     let covectors = written(
         &rt,
         alloc,
@@ -33,16 +24,28 @@ fn answers_that_are_accepted_and_converted_on(rt: HostRuntime) -> Result<(), Fai
     assert!(&rt; bytes.starts_with(b"om 1\ncovectors 4\n----\n---0\n"));
     assert!(&rt; bytes.ends_with(b"\n++++\nend\n"));
     assert_eq!(&rt; bytes.iter().filter(|b| **b == b'\n').count(), 54);
-    let list = Case {
-        input: bytes,
-        ..Case::new(&["accept"], "")
-    };
-    ends(&rt, alloc, list, Status::Done, "accepted\n")?;
-    let back = Case {
-        input: bytes,
-        ..Case::new(&["convert", "cocircuits"], "")
-    };
-    ends(&rt, alloc, back, Status::Done, COCIRCUITS)
+    for (words, text) in [
+        (&["accept"][..], "accepted\n"),
+        (&["convert", "chirotope"], UNIFORM),
+        (&["convert", "circuits"], CIRCUITS),
+        (&["convert", "cocircuits"], COCIRCUITS),
+    ] {
+        let case = Case {
+            input: bytes,
+            ..Case::new(words, "")
+        };
+        ends(&rt, alloc, case, Status::Done, text)?;
+    }
+    for input in [CIRCUITS, COCIRCUITS] {
+        let again = written(
+            &rt,
+            alloc,
+            Case::new(&["convert", "covectors"], input),
+            Status::Done,
+        )?;
+        assert_eq!(&rt; again.as_slice(), bytes);
+    }
+    Ok(())
 }
 
 #[test]
