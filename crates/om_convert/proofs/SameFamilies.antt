@@ -1,13 +1,16 @@
 -- What is said of a family of sign vectors, of an equal family.
 --
 -- Main results: things that denote the same in turn (joined); the same lists (all_same), limits (within_same) and causes (cause_same); families that
--- denote the same are equal where both have n signs (equal_families); the members of least support (least_same), and the cocircuits of a chirotope
--- that denotes the same (cocircuits_of).
-use Rattle.std.proofs.Common.{ℕ, ◌≡◌, ◌↔◌, List, length, sym, subst, ◌∙◌}
+-- denote the same are equal where both have n signs (equal_families); the members of least support (least_same), and the cocircuits (cocircuits_of)
+-- and the covectors (covectors_listed) of a chirotope that denotes the same.
+use Rattle.std.specs.List.{Contains}
+use Rattle.std.proofs.lemmas.List.Elements.{All-contains}
+use Rattle.std.proofs.Common.{ℕ, ◌≡◌, ◌↔◌, List, length, sym, ◌∙◌}
 use Rattle.om_signs.specs.declared.sign.Sign.{Sign}
 use Rattle.om_signs.specs.declared.limits.TheConstants.{MAX_MEMBERS}
 use Rattle.om_chirotope.specs.Map.{SignMap}
 use Rattle.om_chirotope.specs.Chirotope.{IsChirotope}
+use Rattle.om_members.specs.Listings.{Listing, HaveLength}
 use Rattle.om_denotation.specs.Circuits.{IsCocircuitOfChirotope}
 use Rattle.om_denotation.specs.Compositions.{IsOfLeastSupport}
 use Rattle.om_denotation.specs.Covectors.{IsCovectorOfChirotope}
@@ -54,3 +57,13 @@ cocircuits_of n P m om q size same X =
       λ x. least_same (IsCovectorOfChirotope m) P both X (least.0 x),
       λ x. least.1 (least_same P (IsCovectorOfChirotope m) (turned (IsCovectorOfChirotope m) P both) X x),
     )
+
+-- the covectors of a chirotope that denotes the same as a list of covectors, by what denotes the same as both
+pub covectors_listed : (c : Listing) (m : SignMap) (k : ℕ) (P : List Sign → Type 0) → HaveLength c.elements c.members → k ≡ c.elements → m.elements ≡ k
+    → DenoteTheSame c.elements (Contains c.members) P → DenoteTheSame k P (IsCovectorOfChirotope m) → AreAllOf (IsCovectorOfChirotope m) c.members
+covectors_listed c m k P lengths q r a b =
+    let same = joined c.elements k (Contains c.members) P (IsCovectorOfChirotope m) q a b in
+    record {
+      sound = λ X x. (same X (All-contains (λ Y. length Y ≡ c.elements) c.members X lengths x)).0 x;
+      complete = λ X x. (same X (x.size ∙ r ∙ q)).1 x;
+    }

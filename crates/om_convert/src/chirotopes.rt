@@ -5,6 +5,7 @@ ghost use Rattle.om_denotation.specs.Circuits.{IsCircuitOfChirotope, IsCocircuit
 ghost use Rattle.om_denotation.specs.Covectors.{IsCovectorOfChirotope, IsCovectorOfCircuits, IsCovectorOfCocircuits, IsCovectorOfCovectors};
 ghost use Rattle.om_denotation.specs.Denotation.{DenoteTheSame};
 ghost use Rattle.om_denotation.specs.Listings.{AreAllOf};
+ghost use Rattle.om_denotation.specs.Only.{AreOnlyCircuits, AreOnlyCocircuits, AreOnlyCovectors};
 ghost use Rattle.om_convert.specs.Limits.{IsCause, IsWithinLimit};
 
 use super::convert_error::ConvertError;
@@ -14,9 +15,9 @@ use om_circuits::{Circuits, Cocircuits, SignedSet};
 use om_covectors::Covectors;
 use std::alloc::Global;
 
-/// The circuits of the oriented matroid of a chirotope: the vectors V of the increasing lists of one element more than the
-/// rank, and their negatives, as far as they aren't zero. Both have the same elements and denote the same oriented matroid.
-/// The list takes its memory from `alloc`.
+/// The circuits of the oriented matroid of a chirotope: the vectors V of the increasing lists of one element more than
+/// the rank, and their negatives, as far as they aren't zero. Both have the same elements and denote the same oriented
+/// matroid, and no other list of circuits does, up to the order. The list takes its memory from `alloc`.
 ///
 /// [`ConvertError::TooMany`] comes exactly where there are more circuits than [`MAX_MEMBERS`](om_signs::MAX_MEMBERS), which
 /// it names, if memory lasts until the first of these; [`ConvertError::Memory`] comes only for want of memory.
@@ -27,6 +28,7 @@ pub fn chirotope_to_circuits(alloc: Global, chi: &Chirotope) -> Result<Circuits,
     ensures members { IfOk result (λ c. AreAllOf (IsCircuitOfChirotope chi.now) c.0.members) }
     ensures same { IfOk result (λ c.
         DenoteTheSame chi.now.elements (IsCovectorOfChirotope chi.now) (IsCovectorOfCircuits c.0)) }
+    ensures unique { IfOk result (λ c. AreOnlyCircuits c.0) }
     ensures few { OnOk result (IsWithinLimit (IsCircuitOfChirotope chi.now)) }
     ensures many { IfErr result (IsCause (IsCircuitOfChirotope chi.now)) }
 {
@@ -35,9 +37,9 @@ pub fn chirotope_to_circuits(alloc: Global, chi: &Chirotope) -> Result<Circuits,
     Ok(Circuits(SignedSet::lawful(chi.elements(), circuits)))
 }
 
-/// The cocircuits of the oriented matroid of a chirotope: the vectors U of the increasing lists of one element less than
-/// the rank, and their negatives, as far as they aren't zero. Both have the same elements and denote the same oriented
-/// matroid. The list takes its memory from `alloc`.
+/// The cocircuits of the oriented matroid of a chirotope: the vectors U of the increasing lists of one element less
+/// than the rank, and their negatives, as far as they aren't zero. Both have the same elements and denote the same
+/// oriented matroid, and no other list of cocircuits does, up to the order. The list takes its memory from `alloc`.
 ///
 /// [`ConvertError::TooMany`] comes exactly where there are more cocircuits than [`MAX_MEMBERS`](om_signs::MAX_MEMBERS),
 /// which it names, if memory lasts until the first of these; [`ConvertError::Memory`] comes only for want of memory.
@@ -48,6 +50,7 @@ pub fn chirotope_to_cocircuits(alloc: Global, chi: &Chirotope) -> Result<Cocircu
     ensures members { IfOk result (λ c. AreAllOf (IsCocircuitOfChirotope chi.now) c.0.members) }
     ensures same { IfOk result (λ c.
         DenoteTheSame chi.now.elements (IsCovectorOfChirotope chi.now) (IsCovectorOfCocircuits c.0)) }
+    ensures unique { IfOk result (λ c. AreOnlyCocircuits c.0) }
     ensures few { OnOk result (IsWithinLimit (IsCocircuitOfChirotope chi.now)) }
     ensures many { IfErr result (IsCause (IsCocircuitOfChirotope chi.now)) }
 {
@@ -56,8 +59,9 @@ pub fn chirotope_to_cocircuits(alloc: Global, chi: &Chirotope) -> Result<Cocircu
     Ok(Cocircuits(SignedSet::lawful(chi.elements(), cocircuits)))
 }
 
-/// The covectors of the oriented matroid of a chirotope: the compositions of its cocircuits. Both have the same elements
-/// and denote the same oriented matroid. The list takes its memory from `alloc`.
+/// The covectors of the oriented matroid of a chirotope: the compositions of its cocircuits. Both have the same
+/// elements and denote the same oriented matroid, and no other list of covectors does, up to the order. The list takes
+/// its memory from `alloc`.
 ///
 /// [`ConvertError::TooMany`] comes exactly where there are more covectors than [`MAX_MEMBERS`](om_signs::MAX_MEMBERS),
 /// which it names, if memory lasts until the first of these; [`ConvertError::Memory`] comes only for want of memory.
@@ -68,6 +72,7 @@ pub fn chirotope_to_covectors(alloc: Global, chi: &Chirotope) -> Result<Covector
     ensures members { IfOk result (λ c. AreAllOf (IsCovectorOfChirotope chi.now) c.members) }
     ensures same { IfOk result (λ c.
         DenoteTheSame chi.now.elements (IsCovectorOfChirotope chi.now) (IsCovectorOfCovectors c)) }
+    ensures unique { IfOk result AreOnlyCovectors }
     ensures few { OnOk result (IsWithinLimit (IsCovectorOfChirotope chi.now)) }
     ensures many { IfErr result (IsCause (IsCovectorOfChirotope chi.now)) }
 {

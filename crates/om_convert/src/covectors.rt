@@ -5,15 +5,17 @@ ghost use Rattle.std.specs.List.{Contains};
 ghost use Rattle.om_covectors.specs.Minimality.{IsMinimal, AreThose};
 ghost use Rattle.om_denotation.specs.Covectors.{IsCovectorOfCocircuits};
 ghost use Rattle.om_denotation.specs.Denotation.{DenoteTheSame};
+ghost use Rattle.om_denotation.specs.Only.{AreOnlyCocircuits};
 
 use super::convert_error::ConvertError;
 use om_circuits::{Cocircuits, SignedSet};
 use om_covectors::Covectors;
 use std::alloc::Global;
 
-/// The cocircuits of the oriented matroid with these covectors: its nonzero covectors of minimal support, in the order in
-/// which the covectors were listed. Both have the same elements and denote the same oriented matroid. The list has the
-/// allocator of the covectors' own list, so this call leaves the one that it is passed, as the other conversions are.
+/// The cocircuits of the oriented matroid with these covectors: its nonzero covectors of minimal support, in the order
+/// in which the covectors were listed. Both have the same elements and denote the same oriented matroid, and no other
+/// list of cocircuits does, up to the order. The list has the allocator of the covectors' own list, so this call leaves
+/// the one that it is passed, as the other conversions are.
 ///
 /// [`ConvertError::Memory`] comes only for want of memory, and [`ConvertError::TooMany`] never: there are no more
 /// cocircuits than covectors.
@@ -24,6 +26,7 @@ pub fn covectors_to_cocircuits(_alloc: Global, c: &Covectors) -> Result<Cocircui
     ensures members { IfOk result (λ d. AreThose (IsMinimal c.now.members) c.now.members d.0.members) }
     ensures same { IfOk result (λ d.
         DenoteTheSame c.now.elements (Contains c.now.members) (IsCovectorOfCocircuits d.0)) }
+    ensures unique { IfOk result (λ d. AreOnlyCocircuits d.0) }
     ensures memory { IsOkUnless result ConvertError.Memory }
 {
     let minimal = c.minimal()?;

@@ -1,8 +1,8 @@
 //! Conversions between the kinds of values that denote an oriented matroid.
 //!
-//! [`chirotope_to_circuits`], [`chirotope_to_cocircuits`] and [`chirotope_to_covectors`] take a chirotope and list the
-//! circuits, the cocircuits and the covectors of its oriented matroid. [`covectors_to_cocircuits`] takes the covectors and
-//! gives the cocircuits.
+//! Each of chirotope, circuits, cocircuits and covectors converts to each of the three others, as [`chirotope_to_circuits`]
+//! and [`circuits_to_chirotope`]. The answer denotes the same oriented matroid, and is the only one of its kind that does: a
+//! chirotope up to sign, a list up to the order of its members.
 //!
 //! Source of the notions: Björner, Las Vergnas, Sturmfels, White and Ziegler, *Oriented Matroids*, chapters 3 and 4.
 #![tactic(auto)]

@@ -8,6 +8,7 @@ ghost use Rattle.om_denotation.specs.Compositions.{IsOfLeastSupport};
 ghost use Rattle.om_denotation.specs.Covectors.{IsCovectorOfChirotope, IsCovectorOfCircuits, IsCovectorOfCocircuits, IsCovectorOfCovectors};
 ghost use Rattle.om_denotation.specs.Denotation.{DenoteTheSame};
 ghost use Rattle.om_denotation.specs.Listings.{AreAllOf};
+ghost use Rattle.om_denotation.specs.Only.{IsOnlyChirotope, AreOnlyCircuits, AreOnlyCocircuits, AreOnlyCovectors};
 ghost use Rattle.om_denotation.specs.Vectors.{IsVectorOf};
 ghost use Rattle.om_convert.specs.Limits.{IsCause, IsWithinLimit};
 
@@ -21,18 +22,22 @@ use om_propagation::{circuits_to_chirotope, cocircuits_to_chirotope};
 use om_signs::NoMemory;
 use std::alloc::Global;
 
-/// The normal chirotope with these covectors. Both have the same elements and denote the same oriented matroid. Its signs
-/// take their memory from `alloc`.
+/// The normal chirotope with these covectors. Both have the same elements and denote the same oriented matroid, and no
+/// other chirotope does but its negative. Its signs take their memory from `alloc`.
 ///
 /// [`NoMemory`] comes only for want of memory.
 ///
 /// Source: Björner, Las Vergnas, Sturmfels, White and Ziegler, *Oriented Matroids*, chapters 3 and 4.
 pub fn covectors_to_chirotope(alloc: Global, c: &Covectors) -> Result<Chirotope, NoMemory>
     ensures elements { IfOk result (λ m. m.elements ≡ c.now.elements) }
+    ensures covectors { IfOk result (λ m. AreAllOf (IsCovectorOfChirotope m) c.now.members) }
     ensures same { IfOk result (λ m.
         DenoteTheSame c.now.elements (Contains c.now.members) (IsCovectorOfChirotope m)) }
     ensures normal { IfOk result (λ m. IsLedBy Plus m.signs) }
+    ensures unique { IfOk result IsOnlyChirotope }
 {
+    // this call tells that the axioms hold
+    let _elements = c.elements();
     match covectors_to_cocircuits(alloc, c) {
         Ok(cocircuits) => {
             let chi = cocircuits_to_chirotope(alloc, &cocircuits)?;
@@ -42,8 +47,9 @@ pub fn covectors_to_chirotope(alloc: Global, c: &Covectors) -> Result<Chirotope,
     }
 }
 
-/// The cocircuits of the oriented matroid with these circuits: its nonzero covectors of minimal support. Both have the same
-/// elements and denote the same oriented matroid. The list takes its memory from `alloc`.
+/// The cocircuits of the oriented matroid with these circuits: its nonzero covectors of minimal support. Both have the
+/// same elements and denote the same oriented matroid, and no other list of cocircuits does, up to the order. The list
+/// takes its memory from `alloc`.
 ///
 /// [`ConvertError::TooMany`] comes exactly where there are more cocircuits than [`MAX_MEMBERS`](om_signs::MAX_MEMBERS),
 /// which it names, if memory lasts until the first of these; [`ConvertError::Memory`] comes only for want of memory.
@@ -54,6 +60,7 @@ pub fn circuits_to_cocircuits(alloc: Global, c: &Circuits) -> Result<Cocircuits,
     ensures members { IfOk result (λ d. AreAllOf (IsOfLeastSupport (IsCovectorOfCircuits c.now.0)) d.0.members) }
     ensures same { IfOk result (λ d.
         DenoteTheSame c.now.0.elements (IsCovectorOfCircuits c.now.0) (IsCovectorOfCocircuits d.0)) }
+    ensures unique { IfOk result (λ d. AreOnlyCocircuits d.0) }
     ensures few { OnOk result (IsWithinLimit (IsOfLeastSupport (IsCovectorOfCircuits c.now.0))) }
     ensures many { IfErr result (IsCause (IsOfLeastSupport (IsCovectorOfCircuits c.now.0))) }
 {
@@ -65,7 +72,7 @@ pub fn circuits_to_cocircuits(alloc: Global, c: &Circuits) -> Result<Cocircuits,
 }
 
 /// The covectors of the oriented matroid with these circuits. Both have the same elements and denote the same oriented
-/// matroid. The list takes its memory from `alloc`.
+/// matroid, and no other list of covectors does, up to the order. The list takes its memory from `alloc`.
 ///
 /// [`ConvertError::TooMany`] comes exactly where there are more covectors than [`MAX_MEMBERS`](om_signs::MAX_MEMBERS),
 /// which it names, if memory lasts until the first of these; [`ConvertError::Memory`] comes only for want of memory.
@@ -76,6 +83,7 @@ pub fn circuits_to_covectors(alloc: Global, c: &Circuits) -> Result<Covectors, C
     ensures members { IfOk result (λ d. AreAllOf (IsCovectorOfCircuits c.now.0) d.members) }
     ensures same { IfOk result (λ d.
         DenoteTheSame c.now.0.elements (IsCovectorOfCircuits c.now.0) (IsCovectorOfCovectors d)) }
+    ensures unique { IfOk result AreOnlyCovectors }
     ensures few { OnOk result (IsWithinLimit (IsCovectorOfCircuits c.now.0)) }
     ensures many { IfErr result (IsCause (IsCovectorOfCircuits c.now.0)) }
 {
@@ -86,8 +94,8 @@ pub fn circuits_to_covectors(alloc: Global, c: &Circuits) -> Result<Covectors, C
     }
 }
 
-/// The covectors of the oriented matroid with these cocircuits. Both have the same elements and denote the same oriented
-/// matroid. The list takes its memory from `alloc`.
+/// The covectors of the oriented matroid with these cocircuits. Both have the same elements and denote the same
+/// oriented matroid, and no other list of covectors does, up to the order. The list takes its memory from `alloc`.
 ///
 /// [`ConvertError::TooMany`] comes exactly where there are more covectors than [`MAX_MEMBERS`](om_signs::MAX_MEMBERS),
 /// which it names, if memory lasts until the first of these; [`ConvertError::Memory`] comes only for want of memory.
@@ -98,6 +106,7 @@ pub fn cocircuits_to_covectors(alloc: Global, c: &Cocircuits) -> Result<Covector
     ensures members { IfOk result (λ d. AreAllOf (IsCovectorOfCocircuits c.now.0) d.members) }
     ensures same { IfOk result (λ d.
         DenoteTheSame c.now.0.elements (IsCovectorOfCocircuits c.now.0) (IsCovectorOfCovectors d)) }
+    ensures unique { IfOk result AreOnlyCovectors }
     ensures few { OnOk result (IsWithinLimit (IsCovectorOfCocircuits c.now.0)) }
     ensures many { IfErr result (IsCause (IsCovectorOfCocircuits c.now.0)) }
 {
@@ -108,8 +117,9 @@ pub fn cocircuits_to_covectors(alloc: Global, c: &Cocircuits) -> Result<Covector
     }
 }
 
-/// The circuits of the oriented matroid with these cocircuits: its nonzero vectors of minimal support. Both have the same
-/// elements and denote the same oriented matroid. The list takes its memory from `alloc`.
+/// The circuits of the oriented matroid with these cocircuits: its nonzero vectors of minimal support. Both have the
+/// same elements and denote the same oriented matroid, and no other list of circuits does, up to the order. The list
+/// takes its memory from `alloc`.
 ///
 /// [`ConvertError::TooMany`] comes exactly where there are more circuits than [`MAX_MEMBERS`](om_signs::MAX_MEMBERS), which
 /// it names, if memory lasts until the first of these; [`ConvertError::Memory`] comes only for want of memory.
@@ -120,6 +130,7 @@ pub fn cocircuits_to_circuits(alloc: Global, c: &Cocircuits) -> Result<Circuits,
     ensures members { IfOk result (λ d. AreAllOf (IsOfLeastSupport (IsVectorOf c.now.0.elements (IsCovectorOfCocircuits c.now.0))) d.0.members) }
     ensures same { IfOk result (λ d.
         DenoteTheSame c.now.0.elements (IsCovectorOfCocircuits c.now.0) (IsCovectorOfCircuits d.0)) }
+    ensures unique { IfOk result (λ d. AreOnlyCircuits d.0) }
     ensures few { OnOk result (IsWithinLimit (IsOfLeastSupport (IsVectorOf c.now.0.elements (IsCovectorOfCocircuits c.now.0)))) }
     ensures many { IfErr result (IsCause (IsOfLeastSupport (IsVectorOf c.now.0.elements (IsCovectorOfCocircuits c.now.0)))) }
 {
@@ -130,8 +141,9 @@ pub fn cocircuits_to_circuits(alloc: Global, c: &Cocircuits) -> Result<Circuits,
     }
 }
 
-/// The circuits of the oriented matroid with these covectors: its nonzero vectors of minimal support. Both have the same
-/// elements and denote the same oriented matroid. The list takes its memory from `alloc`.
+/// The circuits of the oriented matroid with these covectors: its nonzero vectors of minimal support. Both have the
+/// same elements and denote the same oriented matroid, and no other list of circuits does, up to the order. The list
+/// takes its memory from `alloc`.
 ///
 /// [`ConvertError::TooMany`] comes exactly where there are more circuits than [`MAX_MEMBERS`](om_signs::MAX_MEMBERS), which
 /// it names, if memory lasts until the first of these; [`ConvertError::Memory`] comes only for want of memory.
@@ -142,6 +154,7 @@ pub fn covectors_to_circuits(alloc: Global, c: &Covectors) -> Result<Circuits, C
     ensures members { IfOk result (λ d. AreAllOf (IsOfLeastSupport (IsVectorOf c.now.elements (Contains c.now.members))) d.0.members) }
     ensures same { IfOk result (λ d.
         DenoteTheSame c.now.elements (Contains c.now.members) (IsCovectorOfCircuits d.0)) }
+    ensures unique { IfOk result (λ d. AreOnlyCircuits d.0) }
     ensures few { OnOk result (IsWithinLimit (IsOfLeastSupport (IsVectorOf c.now.elements (Contains c.now.members)))) }
     ensures many { IfErr result (IsCause (IsOfLeastSupport (IsVectorOf c.now.elements (Contains c.now.members)))) }
 {

@@ -1,21 +1,127 @@
 //! Representations of small oriented matroids, worked out by hand, and what they convert to.
 
-ghost use Rattle.std.specs.Prelude.{◌≡◌, ◌≤◌, ◌↔◌, IsTrue, IfOk, length};
-ghost use Rattle.std.specs.List.{Contains};
-ghost use Rattle.om_members.specs.Listings.{HaveLength, AreDistinct};
+ghost use Rattle.std.specs.Prelude.{◌≡◌};
 
 use super::{
     ConvertError, chirotope_to_circuits, chirotope_to_cocircuits, chirotope_to_covectors,
+    circuits_to_chirotope, circuits_to_cocircuits, circuits_to_covectors, cocircuits_to_chirotope,
+    cocircuits_to_circuits, cocircuits_to_covectors, covectors_to_chirotope, covectors_to_circuits,
     covectors_to_cocircuits,
 };
 use om_chirotope::Chirotope;
+use om_circuits::{Circuits, Cocircuits};
+use om_covectors::Covectors;
+use om_members::is_member;
 use om_oriented::same;
-use om_signs::{List, MAX_ELEMENTS, MAX_MEMBERS, NoMemory, RawMap, Sign, SignVec};
-use om_subsets::Subset;
+use om_samples::{
+    SampleError, chirotope_of, circuits_of, cocircuits_of, covectors_of, text_of_map,
+    text_of_vectors, vector_of,
+};
+use om_signs::{MAX_MEMBERS, NoMemory, SignVec};
 use std::alloc::Global;
-use std::process::Abort;
 use std::test::Fail;
 use std::thread::Threads;
+
+/// One oriented matroid in its representations. The covectors are as many as `count`, with some among them.
+#[derive(Clone, Copy)]
+struct Row<'a> {
+    rank: u8,
+    elements: u8,
+    signs: &'a str,
+    text: &'a str,
+    circuits: &'a [&'a str],
+    cocircuits: &'a [&'a str],
+    count: usize,
+    covectors: &'a [&'a str],
+}
+
+const ROWS: [Row; 7] = [
+    // The signs without 1, 2, 3 and 4 in turn are all plus, so the one vector V has the signs -+-+. Of the 81 vectors of four
+    // signs 51 are orthogonal to it: 15 nonzero ones have products with it that are plus or zero, and 15 have such that are
+    // minus or zero.
+    Row {
+        rank: 3,
+        elements: 4,
+        signs: "++++",
+        text: "3 4 ++++",
+        circuits: &["-+-+", "+-+-"],
+        cocircuits: &[
+            "--00", "-00-", "-0+0", "0--0", "0-0+", "00--", "00++", "0+0-", "0++0", "+0-0", "+00+",
+            "++00",
+        ],
+        count: 51,
+        covectors: &["0000", "----", "++++"],
+    },
+    // 1 and 2 are parallel, 3 is a coloop and 4 a loop.
+    Row {
+        rank: 2,
+        elements: 4,
+        signs: "0+0+00",
+        text: "2 4 0+0+00",
+        circuits: &["+-00", "-+00", "000+", "000-"],
+        cocircuits: &["++00", "--00", "00+0", "00-0"],
+        count: 9,
+        covectors: &[
+            "0000", "++00", "--00", "00+0", "00-0", "+++0", "++-0", "--+0", "---0",
+        ],
+    },
+    // In rank 0 each element is a loop, and a circuit of its own.
+    Row {
+        rank: 0,
+        elements: 2,
+        signs: "+",
+        text: "0 2 +",
+        circuits: &["-0", "0-", "0+", "+0"],
+        cocircuits: &[],
+        count: 1,
+        covectors: &["00"],
+    },
+    Row {
+        rank: 0,
+        elements: 3,
+        signs: "+",
+        text: "0 3 +",
+        circuits: &["+00", "-00", "0+0", "0-0", "00+", "00-"],
+        cocircuits: &[],
+        count: 1,
+        covectors: &["000"],
+    },
+    // In the rank of all elements each is a coloop, and a cocircuit of its own. Every vector is a covector: also +++, which is
+    // no composition of two cocircuits.
+    Row {
+        rank: 3,
+        elements: 3,
+        signs: "+",
+        text: "3 3 +",
+        circuits: &[],
+        cocircuits: &["-00", "0-0", "00-", "00+", "0+0", "+00"],
+        count: 27,
+        covectors: &["+++"],
+    },
+    // The first and the second element are parallel, and the third is a loop.
+    Row {
+        rank: 1,
+        elements: 3,
+        signs: "+-0",
+        text: "1 3 +-0",
+        circuits: &["++0", "--0", "00+", "00-"],
+        cocircuits: &["+-0", "-+0"],
+        count: 3,
+        covectors: &["000", "+-0", "-+0"],
+    },
+    // Three lines through a point of the plane, given by normal vectors of which the second is the sum of the first and the
+    // third.
+    Row {
+        rank: 2,
+        elements: 3,
+        signs: "+++",
+        text: "2 3 +++",
+        circuits: &["-+-", "+-+"],
+        cocircuits: &["0++", "0--", "--0", "++0", "-0+", "+0-"],
+        count: 13,
+        covectors: PLANE,
+    },
+];
 
 /// The 13 covectors of three lines through a point of the plane, given by normal vectors of which the second is the sum of
 /// the first and the third: the point, six rays and six sectors. Where signs 1 and 3 are plus, so is sign 2.
@@ -23,291 +129,209 @@ const PLANE: &[&str] = &[
     "+++", "0++", "---", "0--", "000", "--0", "++0", "-++", "-0+", "+--", "+0-", "--+", "++-",
 ];
 
-/// The cocircuits of the uniform rank 3 oriented matroid on 4 elements whose chirotope is `++++`.
-const COCIRCUITS: [&str; 12] = [
-    "--00", "-00-", "-0+0", "0--0", "0-0+", "00--", "00++", "0+0-", "0++0", "+0-0", "+00+", "++00",
+/// Lists of covectors of three elements, and their cocircuits in the order in which the covectors stand.
+const LEAST: [(&[&str], &str); 3] = [
+    (&["000"], ""),
+    (&["000", "+00", "-00"], "+00 -00"),
+    (PLANE, "0++ 0-- --0 ++0 -0+ +0-"),
 ];
 
-/// The sign of a byte; any other byte than `+` and `-` is zero.
-fn sign_of(byte: u8) -> Sign {
-    match byte {
-        b'+' => Sign::Plus,
-        b'-' => Sign::Minus,
-        _ => Sign::Zero,
+/// Whether two lists have the same vectors, in any order.
+fn have_same(xs: &[SignVec], ys: &[SignVec]) -> bool {
+    xs.len() == ys.len() && xs.iter().all(|x| is_member(ys, *x))
+}
+
+/// Whether a chirotope was found, with this text.
+fn is_chirotope(alloc: Global, found: Result<Chirotope, NoMemory>, wanted: &str) -> bool {
+    match found {
+        Ok(chi) => match text_of_map(alloc, &chi.into_raw()) {
+            Ok(text) => text.as_str() == wanted,
+            Err(_) => false,
+        },
+        Err(_) => false,
     }
 }
 
-/// The vector of a word of signs; where the word is too short, the rest is zero.
-fn vector_of(elements: u8, word: &str) -> SignVec
-    requires low { 1 ≤ elements }
-    requires high { elements ≤ MAX_ELEMENTS }
-    ensures { length result ≡ elements }
-{
-    let mut vector = SignVec::zero(elements);
-    for (k, byte) in word.as_bytes().iter().enumerate() {
-        if k < elements as usize {
-            vector = vector.set(k as u8 + 1, sign_of(*byte));
-        }
-    }
-    vector
-}
-
-/// Whether two vectors are the same.
-fn are_same(x: SignVec, y: SignVec) -> bool
-    ensures { IsTrue result ↔ (x ≡ y) }
-{
-    x == y
-}
-
-/// Whether a vector is a member.
-fn is_member(members: &[SignVec], x: SignVec) -> bool
-    ensures { IsTrue result ↔ Contains members.now x }
-{
-    for y in members {
-        if are_same(*y, x) {
-            return true;
-        }
-    }
-    false
-}
-
-/// The distinct vectors of some words.
-fn list_of(alloc: Global, elements: u8, words: &[&str]) -> Result<List<SignVec>, NoMemory>
-    requires low { 1 ≤ elements }
-    requires high { elements ≤ MAX_ELEMENTS }
-    ensures lengths { IfOk result (HaveLength elements) }
-    ensures distinct { IfOk result AreDistinct }
-    ensures few { IfOk result (λ l. length l ≤ MAX_MEMBERS) }
-{
-    let mut list = List::new(alloc);
-    for word in words {
-        let vector = vector_of(elements, word);
-        if list.len() < MAX_MEMBERS && !is_member(list.as_slice(), vector) {
-            list.push(vector)?;
-        }
-    }
-    Ok(list)
-}
-
-/// Whether the vectors of some words are among the members.
-fn have_all(members: &[SignVec], elements: u8, words: &[&str]) -> bool
-    requires low { 1 ≤ elements }
-    requires high { elements ≤ MAX_ELEMENTS }
-{
-    for word in words {
-        if !is_member(members, vector_of(elements, word)) {
-            return false;
-        }
-    }
-    true
-}
-
-/// Whether the members are the vectors of some words, in any order.
-fn are_all(members: &[SignVec], elements: u8, words: &[&str]) -> bool
-    requires low { 1 ≤ elements }
-    requires high { elements ≤ MAX_ELEMENTS }
-{
-    members.len() == words.len() && have_all(members, elements, words)
-}
-
-/// The chirotope of a list of signs, which meets the axioms.
-fn accepted<R: Threads + Sync + Abort>(
-    rt: &R,
-    rank: u8,
-    elements: u8,
-    signs: List<Sign>,
-) -> Chirotope
-    requires low { 1 ≤ elements }
-    requires high { elements ≤ MAX_ELEMENTS }
-    requires part { rank ≤ elements }
-    ensures { result.elements ≡ elements }
-{
-    assert_eq!(rt; signs.len(), Subset::choose(elements, rank) as usize);
-    let raw = RawMap {
-        rank,
-        elements,
-        signs,
-    };
-    match om_chirotope::check(rt, raw) {
-        Ok(chi) => chi,
-        Err(bad) => panic!(rt; "refused for {:?}", bad.why),
+/// Whether circuits were found, and are these in any order.
+fn are_circuits(found: Result<Circuits, ConvertError>, wanted: &Circuits) -> bool {
+    match found {
+        Ok(circuits) => have_same(circuits.0.members(), wanted.0.members()),
+        Err(_) => false,
     }
 }
 
-/// The chirotope of a word of signs, which meets the axioms.
-fn chirotope_of<R: Threads + Sync + Abort>(
-    rt: &R,
-    alloc: Global,
-    rank: u8,
-    elements: u8,
-    word: &str,
-) -> Result<Chirotope, NoMemory>
-    requires low { 1 ≤ elements }
-    requires high { elements ≤ MAX_ELEMENTS }
-    requires part { rank ≤ elements }
-    ensures { IfOk result (λ c. c.elements ≡ elements) }
-{
-    let mut signs = List::new(alloc);
-    for byte in word.as_bytes() {
-        signs.push(sign_of(*byte))?;
+/// Whether cocircuits were found, and are these in any order.
+fn are_cocircuits(found: Result<Cocircuits, ConvertError>, wanted: &Cocircuits) -> bool {
+    match found {
+        Ok(cocircuits) => have_same(cocircuits.0.members(), wanted.0.members()),
+        Err(_) => false,
     }
-    Ok(accepted(rt, rank, elements, signs))
 }
 
-/// The chirotope whose signs are all plus.
-fn all_plus<R: Threads + Sync + Abort>(
-    rt: &R,
-    alloc: Global,
-    rank: u8,
-    elements: u8,
-) -> Result<Chirotope, NoMemory>
-    requires low { 1 ≤ elements }
-    requires high { elements ≤ MAX_ELEMENTS }
-    requires part { rank ≤ elements }
-    ensures { IfOk result (λ c. c.elements ≡ elements) }
-{
-    let mut signs = List::new(alloc);
-    for _k in 0..Subset::choose(elements, rank) {
-        signs.push(Sign::Plus)?;
+/// Whether covectors were found, and are these in any order.
+fn are_covectors(found: Result<Covectors, ConvertError>, wanted: &Covectors) -> bool {
+    match found {
+        Ok(covectors) => have_same(covectors.members(), wanted.members()),
+        Err(_) => false,
     }
-    Ok(accepted(rt, rank, elements, signs))
 }
 
-/// Whether the circuits of a chirotope are the vectors of some words, in any order, and denote the same.
-fn has_circuits(alloc: Global, chi: &Chirotope, words: &[&str]) -> Result<bool, ConvertError> {
-    let circuits = chirotope_to_circuits(alloc, chi)?;
-    let listed = are_all(circuits.0.members(), chi.elements(), words);
-    Ok(listed && same(chi, &circuits).is_ok())
-}
-
-/// Whether the cocircuits of a chirotope are the vectors of some words, in any order, and denote the same.
-fn has_cocircuits(alloc: Global, chi: &Chirotope, words: &[&str]) -> Result<bool, ConvertError> {
-    let cocircuits = chirotope_to_cocircuits(alloc, chi)?;
-    let listed = are_all(cocircuits.0.members(), chi.elements(), words);
-    Ok(listed && same(chi, &cocircuits).is_ok())
-}
-
-/// Whether the covectors of a chirotope are as many as wanted, have the vectors of some words among them, and denote the
-/// same.
-fn has_covectors(
+/// Whether each of the four kinds converts to the three others.
+fn give_each_other(
     alloc: Global,
     chi: &Chirotope,
-    count: usize,
-    words: &[&str],
-) -> Result<bool, ConvertError> {
-    let covectors = chirotope_to_covectors(alloc, chi)?;
-    let listed = have_all(covectors.members(), chi.elements(), words);
-    Ok(listed && covectors.members().len() == count && same(chi, &covectors).is_ok())
+    text: &str,
+    circuits: &Circuits,
+    cocircuits: &Cocircuits,
+    covectors: &Covectors,
+) -> bool {
+    is_chirotope(alloc, circuits_to_chirotope(alloc, circuits), text)
+        && is_chirotope(alloc, cocircuits_to_chirotope(alloc, cocircuits), text)
+        && is_chirotope(alloc, covectors_to_chirotope(alloc, covectors), text)
+        && are_circuits(chirotope_to_circuits(alloc, chi), circuits)
+        && are_circuits(cocircuits_to_circuits(alloc, cocircuits), circuits)
+        && are_circuits(covectors_to_circuits(alloc, covectors), circuits)
+        && are_cocircuits(chirotope_to_cocircuits(alloc, chi), cocircuits)
+        && are_cocircuits(circuits_to_cocircuits(alloc, circuits), cocircuits)
+        && are_cocircuits(covectors_to_cocircuits(alloc, covectors), cocircuits)
+        && are_covectors(circuits_to_covectors(alloc, circuits), covectors)
+        && are_covectors(cocircuits_to_covectors(alloc, cocircuits), covectors)
 }
 
-/// Whether the cocircuits of the covectors of a chirotope are the vectors of some words, in any order.
-fn has_minimal_covectors(
+/// Whether there are so many covectors, with those of some texts among them.
+fn have_some(covectors: &Covectors, count: usize, texts: &[&str]) -> bool {
+    let n = covectors.elements();
+    let members = covectors.members();
+    members.len() == count
+        && texts
+            .iter()
+            .all(|text| is_member(members, vector_of(n, text)))
+}
+
+/// Whether the kinds of a row denote the same and convert to each other, and the covectors are those of the row.
+fn convert(
     alloc: Global,
+    row: Row,
     chi: &Chirotope,
-    words: &[&str],
-) -> Result<bool, ConvertError> {
-    let covectors = chirotope_to_covectors(alloc, chi)?;
-    let cocircuits = covectors_to_cocircuits(alloc, &covectors)?;
-    Ok(are_all(cocircuits.0.members(), chi.elements(), words))
+    circuits: &Circuits,
+    cocircuits: &Cocircuits,
+) -> bool
+    requires circuits { chi.now.elements ≡ circuits.now.0.elements }
+    requires cocircuits { chi.now.elements ≡ cocircuits.now.0.elements }
+{
+    match chirotope_to_covectors(alloc, chi) {
+        Ok(covectors) => {
+            same(chi, circuits).is_ok()
+                && same(chi, cocircuits).is_ok()
+                && same(chi, &covectors).is_ok()
+                && have_some(&covectors, row.count, row.covectors)
+                && give_each_other(alloc, chi, row.text, circuits, cocircuits, &covectors)
+        }
+        Err(_) => false,
+    }
 }
 
-// The signs without 1, 2, 3 and 4 in turn are all plus, so the one vector V has the signs -+-+. Of the 81 vectors of four
-// signs 51 are orthogonal to it: 15 nonzero ones have products with it that are plus or zero, and 15 have such that are
-// minus or zero.
-#[test]
-fn four_points(rt: HostRuntime) -> Result<(), Fail> {
-    let chi = chirotope_of(&rt, rt.alloc(), 3, 4, "++++")?;
-    assert!(rt; has_circuits(rt.alloc(), &chi, &["-+-+", "+-+-"])?);
-    assert!(rt; has_cocircuits(rt.alloc(), &chi, &COCIRCUITS)?);
-    assert!(rt; has_covectors(rt.alloc(), &chi, 51, &["0000", "----", "++++"])?);
-    assert!(rt; has_minimal_covectors(rt.alloc(), &chi, &COCIRCUITS)?);
-    Ok(())
+/// Whether a row holds.
+fn holds<R: Threads + Sync>(rt: &R, alloc: Global, row: Row) -> Result<bool, SampleError> {
+    let chi = chirotope_of(rt, alloc, row.rank, row.elements, row.signs)?;
+    let circuits = circuits_of(rt, alloc, row.elements, row.circuits)?;
+    let cocircuits = cocircuits_of(rt, alloc, row.elements, row.cocircuits)?;
+    Ok(convert(alloc, row, &chi, &circuits, &cocircuits))
 }
 
-// In rank 0 each element is a loop, and a circuit of its own.
-#[test]
-fn lowest_rank(rt: HostRuntime) -> Result<(), Fail> {
-    let chi = chirotope_of(&rt, rt.alloc(), 0, 2, "+")?;
-    assert!(rt; has_circuits(rt.alloc(), &chi, &["-0", "0-", "0+", "+0"])?);
-    assert!(rt; has_cocircuits(rt.alloc(), &chi, &[])?);
-    assert!(rt; has_covectors(rt.alloc(), &chi, 1, &["00"])?);
-    Ok(())
+/// The text of cocircuits that were found.
+fn text_of(alloc: Global, found: Result<Cocircuits, ConvertError>) -> Result<String, SampleError> {
+    match found {
+        Ok(cocircuits) => text_of_vectors(alloc, cocircuits.0.members()),
+        Err(_) => Err(SampleError::Memory),
+    }
 }
 
-// In the rank of all elements each is a coloop, and a cocircuit of its own. Every vector is a covector: also +++, which is
-// no composition of two cocircuits.
-#[test]
-fn highest_rank(rt: HostRuntime) -> Result<(), Fail> {
-    let chi = chirotope_of(&rt, rt.alloc(), 3, 3, "+")?;
-    assert!(rt; has_circuits(rt.alloc(), &chi, &[])?);
-    assert!(rt;
-        has_cocircuits(
-            rt.alloc(),
-            &chi,
-            &["-00", "0-0", "00-", "00+", "0+0", "+00"]
-        )?
-    );
-    assert!(rt; has_covectors(rt.alloc(), &chi, 27, &["+++"])?);
-    Ok(())
+/// The text of the cocircuits of some covectors of three elements.
+fn least<R: Threads + Sync>(rt: &R, alloc: Global, texts: &[&str]) -> Result<String, SampleError> {
+    let covectors = covectors_of(rt, alloc, 3, texts)?;
+    text_of(alloc, covectors_to_cocircuits(alloc, &covectors))
 }
 
-// The first and the second element are parallel, and the third is a loop.
 #[test]
-fn loop_and_parallel_elements(rt: HostRuntime) -> Result<(), Fail> {
-    let chi = chirotope_of(&rt, rt.alloc(), 1, 3, "+-0")?;
-    assert!(rt; has_circuits(rt.alloc(), &chi, &["++0", "--0", "00+", "00-"])?);
-    assert!(rt; has_cocircuits(rt.alloc(), &chi, &["+-0", "-+0"])?);
-    assert!(rt; has_covectors(rt.alloc(), &chi, 3, &["000", "+-0", "-+0"])?);
-    Ok(())
-}
-
-/// The answer where there are more members than the limit.
-const MANY: ConvertError = ConvertError::TooMany {
-    limit: MAX_MEMBERS as u32,
-};
-
-// There are 715 sets of 4 of 13 elements. Where all signs are plus, their vectors V have these supports.
-#[test]
-fn too_many_circuits(rt: HostRuntime) -> Result<(), Fail> {
-    let chi = all_plus(&rt, rt.alloc(), 3, 13)?;
-    assert_eq!(rt; chirotope_to_circuits(rt.alloc(), &chi).err(), Some(MANY));
-    Ok(())
-}
-
-// There are 715 sets of 9 of 13 elements. Where all signs are plus, their vectors U have the other elements as supports.
-#[test]
-fn too_many_cocircuits(rt: HostRuntime) -> Result<(), Fail> {
-    let chi = all_plus(&rt, rt.alloc(), 10, 13)?;
-    assert_eq!(rt; chirotope_to_cocircuits(rt.alloc(), &chi).err(), Some(MANY));
-    assert_eq!(rt; chirotope_to_covectors(rt.alloc(), &chi).err(), Some(MANY));
-    Ok(())
-}
-
-// There are 32 cocircuits, and 3 to the power 16 covectors.
-#[test]
-fn too_many_covectors(rt: HostRuntime) -> Result<(), Fail> {
-    let chi = all_plus(&rt, rt.alloc(), 16, 16)?;
-    assert_eq!(rt; chirotope_to_covectors(rt.alloc(), &chi).err(), Some(MANY));
+fn twelve_conversions(rt: HostRuntime) -> Result<(), Fail> {
+    for row in ROWS {
+        let row_holds = holds(&rt, rt.alloc(), row)?;
+        assert!(rt; row_holds);
+    }
     Ok(())
 }
 
 #[test]
 fn covectors_give_their_cocircuits(rt: HostRuntime) -> Result<(), Fail> {
-    for (covectors, wanted) in [
-        (&["000"][..], &[][..]),
-        (&["000", "+00", "-00"], &["+00", "-00"]),
-        (PLANE, &["0++", "0--", "--0", "++0", "-0+", "+0-"]),
-    ] {
-        let wanted = list_of(rt.alloc(), 3, wanted)?;
-        match om_covectors::check(&rt, 3, list_of(rt.alloc(), 3, covectors)?) {
-            Ok(covectors) => {
-                let cocircuits = covectors_to_cocircuits(rt.alloc(), &covectors)?;
-                assert_eq!(rt; cocircuits.0.elements(), 3);
-                assert!(rt; cocircuits.0.members() == wanted.as_slice());
-            }
-            Err(bad) => assert!(rt; false, "refused for {:?}", bad.why),
+    for (covectors, wanted) in LEAST {
+        let text = least(&rt, rt.alloc(), covectors)?;
+        assert_eq!(rt; text.as_str(), wanted);
+    }
+    Ok(())
+}
+
+/// Whether there are too many members, and the answer names the limit.
+fn is_many<T: Drop>(found: Result<T, ConvertError>) -> bool {
+    match found {
+        Ok(_) => false,
+        Err(error) => {
+            error
+                == ConvertError::TooMany {
+                    limit: MAX_MEMBERS as u32,
+                }
         }
     }
+}
+
+/// Ranks, numbers of elements and of signs, and of what there is too much: circuits, cocircuits and covectors.
+///
+/// There are 286 sets of 3, and of 10, of 13 elements, and 715 of 4, and of 9. Where all signs are plus, the vectors V of the
+/// sets of 4 have these supports; and the vectors U of the sets of 9 have the other elements as supports. In rank 16 on 16
+/// elements there are 32 cocircuits, and 3 to the power 16 covectors.
+const TOO_MANY: [(u8, u8, usize, bool, bool, bool); 3] = [
+    (3, 13, 286, true, false, false),
+    (10, 13, 286, false, true, true),
+    (16, 16, 1, false, false, true),
+];
+
+/// Whether a chirotope has too much of what is named.
+fn has_too_many(
+    alloc: Global,
+    chi: &Chirotope,
+    circuits: bool,
+    cocircuits: bool,
+    covectors: bool,
+) -> bool {
+    (!circuits || is_many(chirotope_to_circuits(alloc, chi)))
+        && (!cocircuits || is_many(chirotope_to_cocircuits(alloc, chi)))
+        && (!covectors || is_many(chirotope_to_covectors(alloc, chi)))
+}
+
+/// The chirotope whose signs are all plus.
+fn all_plus<R: Threads + Sync>(
+    rt: &R,
+    alloc: Global,
+    rank: u8,
+    elements: u8,
+    count: usize,
+) -> Result<Chirotope, SampleError> {
+    let mut signs = String::new(alloc);
+    for _k in 0..count {
+        signs.push_str("+")?;
+    }
+    chirotope_of(rt, alloc, rank, elements, signs.as_str())
+}
+
+#[test]
+fn too_many(rt: HostRuntime) -> Result<(), Fail> {
+    for (rank, elements, count, circuits, cocircuits, covectors) in TOO_MANY {
+        let chi = all_plus(&rt, rt.alloc(), rank, elements, count)?;
+        assert!(rt; has_too_many(rt.alloc(), &chi, circuits, cocircuits, covectors));
+    }
+    // the one of rank 16 once more, which has no circuits
+    let free = circuits_of(&rt, rt.alloc(), 16, &[])?;
+    assert!(rt; is_many(circuits_to_covectors(rt.alloc(), &free)));
     Ok(())
 }
 

@@ -18,7 +18,7 @@ use Rattle.om_laws.proofs.SignLaws.{plus_or_minus, opposite_swap}
 use Rattle.om_laws.proofs.BridgeLaws.{as_function-negated}
 use Rattle.om_members.specs.Vectors.{negated}
 use Rattle.om_members.specs.Listings.{HaveLength}
-use Rattle.om_circuits.specs.Vectors.{IsOpposedAt, Eliminates}
+use Rattle.om_circuits.specs.Vectors.{Eliminates}
 use Rattle.om_circuits.specs.Axioms.{MeetsCircuitAxioms}
 use Rattle.om_denotation.specs.Families.{as_functions}
 use Rattle.om_denotation.proofs.ChirotopeBridge.{same_lists}

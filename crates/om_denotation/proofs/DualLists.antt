@@ -4,10 +4,9 @@
 -- read as cocircuits, denotes the dual (dual_of_circuits), and so does a list of cocircuits, read as circuits (dual_of_cocircuits); the circuits of what
 -- denotes the same as a chirotope (circuits_of).
 -- Reference: Björner, Las Vergnas, Sturmfels, White and Ziegler, Oriented Matroids, chapter 3.
-use Rattle.std.proofs.Common.{ℕ, ◌≡◌, ◌↔◌, ◌⊎◌, List, length, refl, sym, ap, subst, ◌∙◌, inl, inr}
+use Rattle.std.proofs.Common.{ℕ, ◌≡◌, ◌↔◌, ◌⊎◌, List, refl, sym, subst, ◌∙◌, inl, inr}
 use Rattle.om_signs.specs.declared.sign.Sign.{Sign}
 use Rattle.om_signs.specs.declared.sign.Sign.TheVariants.{Minus, Plus}
-use Rattle.om_signs.specs.SignVec.{IsOrthogonal}
 use Rattle.om_laws.specs.Chirotope.{elements_to}
 use Rattle.om_laws.specs.Circuits.{IsCircuit, IsCocircuit}
 use Rattle.om_laws.specs.Dual.{dual_map}
@@ -26,7 +25,6 @@ use Rattle.om_denotation.specs.Compositions.{IsOfLeastSupport}
 use Rattle.om_denotation.specs.Covectors.{IsCovectorOfChirotope, IsCovectorOfCircuits, IsCovectorOfCocircuits}
 use Rattle.om_denotation.specs.Denotation.{DenoteTheSame}
 use Rattle.om_denotation.specs.Existence.{HasCircuits, HasCocircuits}
-use Rattle.om_denotation.specs.Listings.{AreAllOf}
 use Rattle.om_denotation.specs.Maps.{IsNormalFormOf}
 use Rattle.om_denotation.specs.Dual.{dual_of}
 use Rattle.om_denotation.specs.Operations.{IsDual}

@@ -5,7 +5,7 @@
 -- elimination_of_covectors).
 -- Reference: Björner, Las Vergnas, Sturmfels, White and Ziegler, Oriented Matroids, chapter 4.
 use Rattle.std.proofs.lemmas.List.Elements.{All-contains}
-use Rattle.std.proofs.Common.{ℕ, ◌≡◌, ◌≤◌, List, length, sym, ap, subst, ◌∙◌}
+use Rattle.std.proofs.Common.{ℕ, ◌≡◌, ◌≤◌, List, length, sym, ◌∙◌}
 use Rattle.om_signs.specs.declared.sign.Sign.{Sign}
 use Rattle.om_signs.specs.SignVec.{compose}
 use Rattle.om_signs.proofs.Vectors.{length-compose}
@@ -13,7 +13,7 @@ use Rattle.om_chirotope.specs.Map.{SignMap}
 use Rattle.om_chirotope.specs.Chirotope.{IsChirotope, IsSound}
 use Rattle.om_members.specs.Listings.{Listing}
 use Rattle.om_circuits.specs.SignedSets.{IsSignedSet}
-use Rattle.om_covectors.specs.Vectors.{IsSeparatedAt, EliminatesFromComposition}
+use Rattle.om_covectors.specs.Vectors.{IsSeparatedAt}
 use Rattle.om_covectors.specs.CovectorSets as covector_sets
 use Rattle.om_denotation.specs.Covectors.{IsCovectorOfChirotope, IsCovectorOfCircuits, IsCovectorOfCocircuits, IsCovectorOfCovectors}
 use Rattle.om_denotation.specs.Denotation.{DenoteTheSame}

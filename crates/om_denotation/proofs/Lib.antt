@@ -14,3 +14,4 @@ pub mod ListExistence
 pub mod ListUniqueness
 pub mod KindLaws
 pub mod DualLists
+pub mod OnlyLaws

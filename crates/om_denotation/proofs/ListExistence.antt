@@ -6,7 +6,7 @@
 use Rattle.std.specs.List.{Contains}
 use Rattle.std.proofs.lemmas.List.Elements.{All-contains}
 use Rattle.std.proofs.lemmas.List.FromFn.{length-range_with_len}
-use Rattle.std.proofs.Common.{ℕ, ◌≡◌, ◌≤◌, ◌↔◌, List, length, refl, sym, ap, subst, ◌∙◌, inl, inr, ⊎_elim, arith}
+use Rattle.std.proofs.Common.{ℕ, ◌≡◌, ◌≤◌, ◌↔◌, List, length, refl, sym, subst, ◌∙◌, inl, inr, ⊎_elim, arith}
 use Rattle.om_signs.specs.declared.sign.Sign.{Sign}
 use Rattle.om_laws.specs.Signs.{IsNonzero}
 use Rattle.om_laws.specs.Vectors.{SignVector}
@@ -16,7 +16,7 @@ use Rattle.om_laws.specs.Chirotope as theory
 use Rattle.om_laws.specs.Chirotope.{elements_to}
 use Rattle.om_laws.specs.Circuits.{IsCircuit, IsCocircuit}
 use Rattle.om_laws.specs.Covectors.{IsCovector}
-use Rattle.om_laws.specs.Dual.{dual_map, complement}
+use Rattle.om_laws.specs.Dual.{dual_map}
 use Rattle.om_laws.specs.Families.{IsListed}
 use Rattle.om_laws.specs.Bridge.{as_function}
 use Rattle.om_laws.proofs.SignLaws.{zero_or_nonzero}
@@ -29,7 +29,7 @@ use Rattle.om_laws.proofs.DualSizes.{length_complement}
 use Rattle.om_laws.proofs.DualLaws.{dual_chirotope, dual_circuit, cocircuit_dual}
 use Rattle.om_laws.proofs.FiniteExistence.{list_map, list_chirotope, list_member_cocircuit, list_cocircuit_member}
 use Rattle.om_laws.proofs.CovectorExistence.{covectors_map, covectors_chirotope, member_covector, covector_member}
-use Rattle.om_chirotope.specs.Map.{SignMap, IsMap}
+use Rattle.om_chirotope.specs.Map.{SignMap}
 use Rattle.om_chirotope.specs.Chirotope.{IsChirotope}
 use Rattle.om_members.specs.Listings.{Listing, HaveLength}
 use Rattle.om_circuits.specs.Axioms.{MeetsCircuitAxioms}

@@ -5,7 +5,7 @@
 -- Reference: Björner, Las Vergnas, Sturmfels, White and Ziegler, Oriented Matroids, chapter 3.
 use Rattle.std.specs.List.{Contains}
 use Rattle.std.proofs.lemmas.List.Elements.{All-contains}
-use Rattle.std.proofs.Common.{ℕ, ◌≡◌, ◌↔◌, ◌⊎◌, List, length, refl, sym, ap, subst, ◌∙◌, inl, inr}
+use Rattle.std.proofs.Common.{ℕ, ◌≡◌, ◌↔◌, ◌⊎◌, List, length, sym, subst, ◌∙◌, inl, inr}
 use Rattle.om_signs.specs.declared.sign.Sign.{Sign}
 use Rattle.om_laws.specs.Chirotope.{elements_to}
 use Rattle.om_laws.specs.Circuits.{IsCircuit, IsCocircuit}
@@ -13,7 +13,6 @@ use Rattle.om_laws.specs.Reorientation.{negative}
 use Rattle.om_laws.specs.Bridge.{as_function}
 use Rattle.om_laws.proofs.ReorientationLaws.{negative_circuit, circuit_negative, negative_cocircuit, cocircuit_negative}
 use Rattle.om_chirotope.specs.Map.{SignMap, negated}
-use Rattle.om_chirotope.specs.Chirotope.{IsChirotope}
 use Rattle.om_members.specs.Listings.{Listing, HaveLength}
 use Rattle.om_circuits.specs.Axioms.{MeetsCircuitAxioms}
 use Rattle.om_denotation.specs.Circuits.{IsCircuitOfChirotope, IsCocircuitOfChirotope}

@@ -13,3 +13,4 @@ pub mod Families
 pub mod Existence
 pub mod Elimination
 pub mod Vectors
+pub mod Only

@@ -10,6 +10,7 @@ ghost use Rattle.om_denotation.specs.Covectors.{IsCovectorOfChirotope};
 ghost use Rattle.om_denotation.specs.Operations.{IsDual};
 ghost use Rattle.om_denotation.specs.Maps.{IsNormalFormOf};
 ghost use Rattle.om_denotation.specs.Dual.{dual_of};
+ghost use Rattle.om_denotation.specs.Only.{IsOnlyChirotope};
 
 use super::sign_rule::{SignRule, normal_by};
 use om_chirotope::Chirotope;
@@ -32,6 +33,7 @@ pub fn dual(alloc: Global, chi: &Chirotope) -> Result<Chirotope, NoMemory>
         IsDual chi.now.elements (IsCovectorOfChirotope chi.now) (IsCovectorOfChirotope d)) }
     ensures normal { IfOk result (λ d. IsLedBy Plus d.signs) }
     ensures value { IfOk result (IsNormalFormOf (dual_of chi.now)) }
+    ensures unique { IfOk result IsOnlyChirotope }
 {
     let rank = chi.elements() - chi.rank();
     normal_by(alloc, rank, chi.elements(), &Complements { chi })

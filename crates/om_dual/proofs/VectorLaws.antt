@@ -1,7 +1,7 @@
 -- The covectors of the dual are the vectors.
 --
 -- Main results: vectors_both, dual_of_vectors.
-use Rattle.std.proofs.Common.{ℕ, ◌≡◌, ◌↔◌, List, length, sym, subst, ◌∙◌}
+use Rattle.std.proofs.Common.{ℕ, ◌≡◌, ◌↔◌, List, sym, subst, ◌∙◌}
 use Rattle.om_signs.specs.declared.sign.Sign.{Sign}
 use Rattle.om_chirotope.specs.Map.{SignMap}
 use Rattle.om_denotation.specs.Covectors.{IsCovectorOfChirotope}

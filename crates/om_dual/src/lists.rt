@@ -5,6 +5,7 @@ ghost use Rattle.std.specs.List.{Contains};
 ghost use Rattle.om_convert.specs.Limits.{IsCause, IsWithinLimit};
 ghost use Rattle.om_denotation.specs.Covectors.{IsCovectorOfCircuits, IsCovectorOfCocircuits, IsCovectorOfCovectors};
 ghost use Rattle.om_denotation.specs.Listings.{AreAllOf};
+ghost use Rattle.om_denotation.specs.Only.{AreOnlyCircuits, AreOnlyCocircuits, AreOnlyCovectors};
 ghost use Rattle.om_denotation.specs.Operations.{IsDual};
 ghost use Rattle.om_denotation.specs.Vectors.{IsVectorOf};
 
@@ -14,30 +15,35 @@ use om_covectors::Covectors;
 use om_denotation::dual;
 use std::alloc::Global;
 
-/// The cocircuits of the dual: the same members. It takes no memory.
+/// The cocircuits of the dual: the same members. No other list of cocircuits denotes the dual, up to the order. It takes no
+/// memory.
 ///
 /// Source: Björner, Las Vergnas, Sturmfels, White and Ziegler, *Oriented Matroids*, chapter 3.
 pub fn dual_circuits(c: Circuits) -> Cocircuits
     ensures members { result.0 ≡ c.0 }
     ensures dual { IsDual c.0.elements (IsCovectorOfCircuits c.0) (IsCovectorOfCocircuits result.0) }
+    ensures unique { AreOnlyCocircuits result.0 }
 {
     // this call tells that the axioms hold, as in the function below
     let _elements = c.0.elements();
     Cocircuits(c.0)
 }
 
-/// The circuits of the dual: the same members. It takes no memory.
+/// The circuits of the dual: the same members. No other list of circuits denotes the dual, up to the order. It takes no
+/// memory.
 ///
 /// Source: Björner, Las Vergnas, Sturmfels, White and Ziegler, *Oriented Matroids*, chapter 3.
 pub fn dual_cocircuits(c: Cocircuits) -> Circuits
     ensures members { result.0 ≡ c.0 }
     ensures dual { IsDual c.0.elements (IsCovectorOfCocircuits c.0) (IsCovectorOfCircuits result.0) }
+    ensures unique { AreOnlyCircuits result.0 }
 {
     let _elements = c.0.elements();
     Circuits(c.0)
 }
 
-/// The covectors of the dual: the sign vectors that are orthogonal to every covector. The list takes its memory from `alloc`.
+/// The covectors of the dual: the sign vectors that are orthogonal to every covector. No other list of covectors denotes the
+/// dual, up to the order. The list takes its memory from `alloc`.
 ///
 /// [`ConvertError::TooMany`] comes exactly where there are more of them than [`MAX_MEMBERS`](om_signs::MAX_MEMBERS), which
 /// it names, if memory lasts until the first of these; [`ConvertError::Memory`] comes only for want of memory.
@@ -47,6 +53,7 @@ pub fn dual_covectors(alloc: Global, c: &Covectors) -> Result<Covectors, Convert
     ensures elements { IfOk result (λ d. d.elements ≡ c.now.elements) }
     ensures members { IfOk result (λ d. AreAllOf (IsVectorOf c.now.elements (Contains c.now.members)) d.members) }
     ensures dual { IfOk result (λ d. IsDual c.now.elements (Contains c.now.members) (IsCovectorOfCovectors d)) }
+    ensures unique { IfOk result AreOnlyCovectors }
     ensures few { OnOk result (IsWithinLimit (IsVectorOf c.now.elements (Contains c.now.members))) }
     ensures many { IfErr result (IsCause (IsVectorOf c.now.elements (Contains c.now.members))) }
 {

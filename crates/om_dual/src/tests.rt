@@ -1,98 +1,161 @@
 //! Duals worked out by hand.
 
-ghost use Rattle.std.specs.Prelude.{◌≡◌, ◌≤◌, IfOk, length};
+ghost use Rattle.std.specs.Prelude.{◌≡◌, IfOk};
 
-use super::dual;
-use om_chirotope::{Chirotope, check};
-use om_oriented::Oriented;
-use om_signs::{List, MAX_ELEMENTS, NoMemory, RawMap, Sign, SignVec};
-use om_subsets::Subset;
+use super::{dual, dual_circuits, dual_cocircuits, dual_covectors};
+use om_chirotope::Chirotope;
+use om_convert::{ConvertError, chirotope_to_covectors};
+use om_covectors::Covectors;
+use om_oriented::{Oriented, same};
+use om_samples::{
+    SampleError, chirotope_of, circuits_of, covectors_of, text_of_map, text_of_vectors, vector_of,
+};
+use om_signs::MAX_MEMBERS;
 use std::alloc::Global;
-use std::process::Abort;
+use std::test::Fail;
 use std::thread::Threads;
 
-/// The signs of a word; any other byte than `+` and `-` is zero.
-fn signs_of(alloc: Global, word: &str) -> Result<List<Sign>, NoMemory> {
-    let mut signs = List::new(alloc);
-    for byte in word.as_bytes() {
-        signs.push(match *byte {
-            b'+' => Sign::Plus,
-            b'-' => Sign::Minus,
-            _ => Sign::Zero,
-        })?;
-    }
-    Ok(signs)
-}
+/// Chirotopes by rank, number of elements and signs, and their duals. In the fourth row 1 and 2 are parallel, 3 is a coloop
+/// and 4 a loop, and the last two change places.
+const CHIROTOPES: [(u8, u8, &str, &str); 8] = [
+    (3, 4, "++++", "1 4 +-+-"),
+    (1, 4, "+-+-", "3 4 ++++"),
+    (3, 4, "+---", "1 4 +-++"),
+    (2, 4, "0+0+00", "2 4 00+0-0"),
+    (0, 2, "-", "2 2 +"),
+    (2, 2, "-", "0 2 +"),
+    (0, 1, "+", "1 1 +"),
+    (1, 1, "+", "0 1 +"),
+];
 
-/// The chirotope of a word of signs, which meets the axioms.
-fn chirotope_of<R: Threads + Sync + Abort>(
+/// Chirotopes by rank, number of elements and signs, their circuits, and the text of these.
+const CIRCUITS: [(u8, u8, &str, &[&str], &str); 2] = [
+    (3, 4, "++++", &["-+-+", "+-+-"], "-+-+ +-+-"),
+    (
+        2,
+        4,
+        "0+0+00",
+        &["+-00", "-+00", "000+", "000-"],
+        "+-00 -+00 000+ 000-",
+    ),
+];
+
+/// Chirotopes by rank, number of elements and signs, and the covectors of their duals.
+const COVECTORS: [(u8, u8, &str, &[&str]); 3] = [
+    (3, 4, "++++", &["-+-+", "0000", "+-+-"]),
+    (2, 2, "+", &["00"]),
+    (0, 1, "+", &["-", "0", "+"]),
+];
+
+/// The dual of a chirotope.
+fn dual_of<R: Threads + Sync>(
     rt: &R,
     alloc: Global,
     rank: u8,
     elements: u8,
-    word: &str,
-) -> Result<Chirotope, NoMemory>
-    requires low { 1 ≤ elements }
-    requires high { elements ≤ MAX_ELEMENTS }
-    requires part { rank ≤ elements }
-    ensures { IfOk result (λ c. c.elements ≡ elements) }
+    signs: &str,
+) -> Result<Chirotope, SampleError>
+    ensures { IfOk result (λ d. d.elements ≡ elements) }
 {
-    let signs = signs_of(alloc, word)?;
-    assert_eq!(rt; signs.len(), Subset::choose(elements, rank) as usize);
-    let raw = RawMap {
-        rank,
-        elements,
-        signs,
-    };
-    match check(rt, raw) {
-        Ok(chi) => Ok(chi),
-        Err(bad) => panic!(rt; "refused for {:?}", bad.why),
-    }
-}
-
-/// Asserts that the dual of the chirotope of a word has this rank and these signs.
-fn assert_dual<R: Threads + Sync + Abort>(
-    rt: &R,
-    alloc: Global,
-    rank: u8,
-    elements: u8,
-    word: &str,
-    wanted: &str,
-) -> Result<(), NoMemory>
-    requires low { 1 ≤ elements }
-    requires high { elements ≤ MAX_ELEMENTS }
-    requires part { rank ≤ elements }
-{
-    let raw = dual(alloc, &chirotope_of(rt, alloc, rank, elements, word)?)?.into_raw();
-    let signs = signs_of(alloc, wanted)?;
-    assert_eq!(rt; raw.rank, elements - rank);
-    assert_eq!(rt; raw.elements, elements);
-    assert!(rt; raw.signs.as_slice() == signs.as_slice());
-    Ok(())
+    let chi = chirotope_of(rt, alloc, rank, elements, signs)?;
+    Ok(dual(alloc, &chi)?)
 }
 
 #[test]
-fn duals(rt: HostRuntime) -> Result<(), NoMemory> {
-    let alloc = rt.alloc();
-    assert_dual(&rt, alloc, 3, 4, "++++", "+-+-")?;
-    assert_dual(&rt, alloc, 1, 4, "+-+-", "++++")?;
-    assert_dual(&rt, alloc, 3, 4, "+---", "+-++")?;
-    // two pairs of elements that are in no basis together, a coloop and a loop, which change places
-    assert_dual(&rt, alloc, 2, 4, "0+0+00", "00+0-0")?;
-    assert_dual(&rt, alloc, 0, 2, "-", "+")?;
-    assert_dual(&rt, alloc, 2, 2, "-", "+")?;
-    assert_dual(&rt, alloc, 0, 1, "+", "+")?;
-    assert_dual(&rt, alloc, 1, 1, "+", "+")?;
+fn duals(rt: HostRuntime) -> Result<(), Fail> {
+    for (rank, elements, signs, wanted) in CHIROTOPES {
+        let turned = dual_of(&rt, rt.alloc(), rank, elements, signs)?;
+        let text = text_of_map(rt.alloc(), &turned.into_raw())?;
+        assert_eq!(rt; text.as_str(), wanted);
+    }
     Ok(())
 }
 
 // A circuit of the chirotope is a covector of its dual, and a sign vector that isn't orthogonal to a covector is none.
 #[test]
-fn covectors_of_a_dual(rt: HostRuntime) -> Result<(), NoMemory> {
-    let turned = dual(rt.alloc(), &chirotope_of(&rt, rt.alloc(), 3, 4, "++++")?)?;
-    let plus = SignVec::zero(4).set(1, Sign::Plus).set(3, Sign::Plus);
-    let circuit = plus.set(2, Sign::Minus).set(4, Sign::Minus);
-    assert!(rt; turned.is_covector(circuit));
-    assert!(rt; !turned.is_covector(plus));
+fn covectors_of_a_dual(rt: HostRuntime) -> Result<(), Fail> {
+    let turned = dual_of(&rt, rt.alloc(), 3, 4, "++++")?;
+    assert!(rt; turned.is_covector(vector_of(4, "+-+-")));
+    assert!(rt; !turned.is_covector(vector_of(4, "+0+0")));
+    Ok(())
+}
+
+/// Whether the dual of a row's chirotope and the cocircuits that are its circuits denote the same.
+fn turn<R: Threads + Sync>(
+    rt: &R,
+    alloc: Global,
+    row: (u8, u8, &str, &[&str], &str),
+) -> Result<bool, SampleError> {
+    let (rank, elements, signs, circuits, _text) = row;
+    let turned = dual_of(rt, alloc, rank, elements, signs)?;
+    let circuits = circuits_of(rt, alloc, elements, circuits)?;
+    Ok(same(&turned, &dual_circuits(circuits)).is_ok())
+}
+
+/// The text of the dual of the dual of some circuits.
+fn turned_back<R: Threads + Sync>(
+    rt: &R,
+    alloc: Global,
+    elements: u8,
+    circuits: &[&str],
+) -> Result<String, SampleError> {
+    let circuits = circuits_of(rt, alloc, elements, circuits)?;
+    let back = dual_cocircuits(dual_circuits(circuits));
+    text_of_vectors(alloc, back.0.members())
+}
+
+/// Whether the dual of covectors that were found has these covectors.
+fn is_dual_of(alloc: Global, found: Result<Covectors, ConvertError>, wanted: &Covectors) -> bool {
+    match found {
+        Ok(covectors) => match dual_covectors(alloc, &covectors) {
+            Ok(turned) => {
+                turned.elements() == wanted.elements() && same(&turned, wanted).is_ok()
+            }
+            Err(_) => false,
+        },
+        Err(_) => false,
+    }
+}
+
+/// Whether the dual of the covectors of a row's chirotope has the covectors of the row.
+fn has_dual<R: Threads + Sync>(
+    rt: &R,
+    alloc: Global,
+    row: (u8, u8, &str, &[&str]),
+) -> Result<bool, SampleError> {
+    let (rank, elements, signs, wanted) = row;
+    let chi = chirotope_of(rt, alloc, rank, elements, signs)?;
+    let wanted = covectors_of(rt, alloc, elements, wanted)?;
+    Ok(is_dual_of(alloc, chirotope_to_covectors(alloc, &chi), &wanted))
+}
+
+#[test]
+fn duals_of_circuits(rt: HostRuntime) -> Result<(), Fail> {
+    for row in CIRCUITS {
+        let denotes_the_dual = turn(&rt, rt.alloc(), row)?;
+        let text = turned_back(&rt, rt.alloc(), row.1, row.3)?;
+        assert!(rt; denotes_the_dual && text.as_str() == row.4);
+    }
+    Ok(())
+}
+
+#[test]
+fn duals_of_covectors(rt: HostRuntime) -> Result<(), Fail> {
+    for row in COVECTORS {
+        let holds = has_dual(&rt, rt.alloc(), row)?;
+        assert!(rt; holds);
+    }
+    Ok(())
+}
+
+// Where each of 16 elements is a loop, zero is the only covector, and each of the 3 to the power 16 sign vectors is one of
+// the dual.
+#[test]
+fn too_many_covectors(rt: HostRuntime) -> Result<(), Fail> {
+    let zero = covectors_of(&rt, rt.alloc(), 16, &["0000000000000000"])?;
+    let many = ConvertError::TooMany {
+        limit: MAX_MEMBERS as u32,
+    };
+    assert!(rt; dual_covectors(rt.alloc(), &zero).err() == Some(many));
     Ok(())
 }

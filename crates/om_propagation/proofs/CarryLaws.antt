@@ -3,22 +3,22 @@
 -- Main results: a set of the rank is a basis exactly where it meets each member (basis_meets, meeting_basis); a least set that meets each member has
 -- as many elements as the rank (least_size); the sign of a basis from that of one before it (carried_is), and of the first basis (first_is_plus).
 -- Reference: Björner, Las Vergnas, Sturmfels, White and Ziegler, Oriented Matroids, chapter 3.
-use Rattle.std.specs.Prelude.{ℕ, ◌≡◌, ◌≢◌, ◌+◌, ◌<◌, ◌≤◌, ◌-◌, ◌⊎◌, List, [], ◌∷◌, ◌++◌, length, refl}
+use Rattle.std.specs.Prelude.{ℕ, ◌≡◌, ◌≢◌, ◌+◌, ◌<◌, ◌≤◌, List, [], ◌∷◌, ◌++◌, length, refl}
 use Rattle.std.specs.List.{Contains}
 use Rattle.std.proofs.Common.{zero, suc, sym, ap, subst, ◌∙◌, ⊎_elim, inl, inr, arith}
 use Rattle.std.proofs.lemmas.Bool.{cases_eq, cases_lt}
-use Rattle.std.proofs.lemmas.List.{length-append, get_or_past}
+use Rattle.std.proofs.lemmas.List.{length-append}
 use Rattle.om_signs.specs.declared.sign.Sign.{Sign}
 use Rattle.om_signs.specs.declared.sign.Sign.TheVariants.{Minus, Zero, Plus}
-use Rattle.om_signs.specs.Sign.{opposite, product}
+use Rattle.om_signs.specs.Sign.{product}
 use Rattle.om_signs.specs.SignVec.{at, place}
 use Rattle.om_subsets.specs.Subsets.{IsSubsetFrom, IsMember, with_element, without_element, count_above, rank_of, choose, subset_at}
 use Rattle.om_subsets.specs.Lists.{IsBefore}
 use Rattle.om_subsets.proofs.Order.{members_from, lexicographic, listed, rank_from-lt}
-use Rattle.om_subsets.proofs.Statements.{members_without, members_with}
+use Rattle.om_subsets.proofs.Statements.{members_without}
 use Rattle.om_laws.specs.Signs.{IsNonzero}
 use Rattle.om_laws.specs.Vectors.{SignVector, AreEqualUpToSign}
-use Rattle.om_laws.specs.Tuples.{value, sorted, sort_sign}
+use Rattle.om_laws.specs.Tuples.{sorted}
 use Rattle.om_laws.specs.Sorting.{IsElement, IsTuple}
 use Rattle.om_laws.specs.Relations.{along}
 use Rattle.om_laws.specs.Chirotope as theory
@@ -30,10 +30,9 @@ use Rattle.om_laws.proofs.MemberLaws.{member_last}
 use Rattle.om_laws.proofs.SortingLaws.{increasing_distinct}
 use Rattle.om_laws.proofs.TupleSizes.{each_from, on_tuples_at, on_tuples_tuple}
 use Rattle.om_laws.proofs.VectorLaws.{same_products, same_zero, same_sym}
-use Rattle.om_laws.proofs.BridgeLaws.{as_function-as_list, length-as_list}
+use Rattle.om_laws.proofs.BridgeLaws.{as_function-as_list}
 use Rattle.om_laws.proofs.BaseLaws.{along_member_zero}
-use Rattle.om_chirotope.specs.Map.{SignMap, chi_of, value_of, parity_sign}
-use Rattle.om_chirotope.specs.Chirotope.{IsChirotope}
+use Rattle.om_chirotope.specs.Map.{SignMap, chi_of, parity_sign}
 use Rattle.om_chirotope.proofs.Circuits.{length-without, parity_sign-suc}
 use Rattle.om_chirotope.proofs.Cocircuits.{sorted_end, insert_with, sign_end, length-with}
 use Rattle.om_chirotope.proofs.InOrder.{value_in_order}
@@ -41,11 +40,10 @@ use Rattle.om_chirotope.proofs.Theory.{theory_chirotope, lawful_with}
 use Rattle.om_matroid.specs.Bases.{IsBasis, IsExchange}
 use Rattle.om_matroid.proofs.ExchangeLaws.{symmetric_exchange}
 use Rattle.om_matroid.proofs.ListLaws.{subset_without}
-use Rattle.om_denotation.specs.Circuits.{IsCocircuitOfChirotope}
 use Rattle.om_denotation.proofs.ChirotopeBridge.{tuples_of, cocircuit_function, cocircuit_supported, cocircuit_list, increasing_subset}
 use Rattle.om_denotation.proofs.ListFunctions.{at_place, place_function}
 use Rattle.om_denotation.proofs.Uniqueness.{tuples_at}
-use Rattle.om_propagation.specs.Hitting.{IsMet, MeetsEach, MissesSome, IsLeastMeeting, IsNormalOf, carried_sign, IsCarried, IsLeastAt, HasNoneCarried, AreFirstSigns}
+use Rattle.om_propagation.specs.Hitting.{IsMet, MeetsEach, MissesSome, IsLeastMeeting, IsNormalOf, carried_sign, IsCarried, HasNoneCarried, AreFirstSigns}
 use Rattle.om_propagation.proofs.HittingLaws.{Meets, base_hits, hitting_base, sharp_base, vanishing_same}
 use Rattle.om_propagation.proofs.SetLaws.{with_without, exchanged_before, first_new, IsFirstNew}
 

@@ -4,7 +4,7 @@
 -- as many elements and no repeat (hitting_base) or where no element can be left out (sharp_size); a cocircuit that is zero on a base without one
 -- element is the vector along the others, up to sign (vanishing_same).
 -- Reference: Björner, Las Vergnas, Sturmfels, White and Ziegler, Oriented Matroids, chapter 3.
-use Rattle.std.specs.Prelude.{ℕ, ◌≡◌, ◌≢◌, ◌≤◌, ◌+◌, ◌⊎◌, List, [], ◌∷◌, ◌++◌, length, refl}
+use Rattle.std.specs.Prelude.{ℕ, ◌≡◌, ◌≢◌, ◌≤◌, ◌⊎◌, List, [], ◌∷◌, ◌++◌, length, refl}
 use Rattle.std.proofs.Common.{zero, suc, sym, ap, subst, ◌∙◌, ⊎_elim, inl, inr, arith}
 use Rattle.om_signs.specs.declared.sign.Sign.{Sign}
 use Rattle.om_signs.specs.declared.sign.Sign.TheVariants.{Zero}
@@ -16,8 +16,8 @@ use Rattle.om_laws.specs.Circuits.{IsCircuit, IsCocircuit}
 use Rattle.om_laws.specs.Dual.{complement}
 use Rattle.om_laws.specs.Chirotope.{IsChirotope}
 use Rattle.om_laws.proofs.SignLaws.{zero_or_nonzero, opposite_nonzero}
-use Rattle.om_laws.proofs.MemberLaws.{member_or_not, search_members, split_at, distinct_last, member_last, member_drop}
-use Rattle.om_laws.proofs.TupleLaws.{nonzero_distinct, nonzero_to_end}
+use Rattle.om_laws.proofs.MemberLaws.{member_or_not, search_members, split_at, distinct_last, member_last}
+use Rattle.om_laws.proofs.TupleLaws.{nonzero_distinct}
 use Rattle.om_laws.proofs.BlockLaws.{same_members}
 use Rattle.om_laws.proofs.BaseLaws.{fundamental_circuit, fundamental_cocircuit, other_common, cocircuit_supported}
 use Rattle.om_laws.proofs.VectorLaws.{same_zero, same_sym}

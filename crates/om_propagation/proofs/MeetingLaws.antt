@@ -3,25 +3,23 @@
 -- Main definitions: IsNarrowedTo, what holds of a set of which the elements below e are needed.
 -- Main results: the test of a vector (meets_test); one more member (met_more), each member (met_all); one more element (narrowed_start, narrowed_more,
 -- narrowed_least); one more sign (signs_more), and all signs (signs_are); the normal chirotope of a list (normal_of, denotes).
-use Rattle.std.specs.Prelude.{ℕ, ◌≡◌, ◌≢◌, ◌+◌, ◌<◌, ◌≤◌, ◌-◌, ◌↔◌, ◌⊎◌, ◌^◌, List, [], ◌∷◌, ◌++◌, length, refl, map, not, nat_eq, Bool, true, false, IsTrue, bit_and, slice_index_or}
+use Rattle.std.specs.Prelude.{ℕ, ◌≡◌, ◌≢◌, ◌+◌, ◌<◌, ◌≤◌, ◌-◌, ◌↔◌, ◌⊎◌, List, [], ◌∷◌, ◌++◌, length, refl, not, nat_eq, true, false, IsTrue, bit_and, slice_index_or}
 use Rattle.std.specs.Int.{bit_at}
-use Rattle.std.specs.List.{Contains}
-use Rattle.std.proofs.Common.{zero, suc, sym, ap, subst, ◌∙◌, ⊎_elim, inl, inr, arith, min, get_or}
-use Rattle.std.proofs.lemmas.Bool.{cases_eq, cases_lt, eq-eqb, ne_eqb, eqb-true}
+use Rattle.std.proofs.Common.{zero, suc, sym, ap, subst, ◌∙◌, inl, inr, arith, min}
+use Rattle.std.proofs.lemmas.Bool.{cases_eq, cases_lt, eq-eqb, ne_eqb}
 use Rattle.std.proofs.lemmas.Nat.Bits.{bit_at_and}
 use Rattle.std.proofs.lemmas.List.{ext_get_or, get_or_append_left, get_or_push, get_or_past, length-append}
 use Rattle.std.proofs.lemmas.List.Elements.{All-contains}
 use Rattle.om_signs.specs.declared.sign.Sign.{Sign}
 use Rattle.om_signs.specs.declared.sign.Sign.TheVariants.{Minus, Zero, Plus}
-use Rattle.om_signs.specs.SignVec.{at, place, IsMaskOf, IsNonzero}
-use Rattle.om_subsets.specs.Subsets.{IsSubsetFrom, IsMember, with_element, without_element, first_of, choose, rank_of}
+use Rattle.om_signs.specs.SignVec.{at, IsMaskOf, IsNonzero}
+use Rattle.om_subsets.specs.Subsets.{IsSubsetFrom, IsMember, without_element, first_of, choose, rank_of}
 use Rattle.om_subsets.proofs.Order.{members_from}
 use Rattle.om_subsets.proofs.Statements.{members_without}
 use Rattle.om_laws.specs.Bridge.{as_function}
 use Rattle.om_laws.proofs.ChirotopeLaws.{element_from_member, elements_distinct}
 use Rattle.om_members.specs.Listings.{Listing, HaveLength}
 use Rattle.om_members.specs.Scans.{nth, AllBelow}
-use Rattle.om_members.specs.Vectors.{IsZero}
 use Rattle.om_members.proofs.MaskLaws.{zero_mask, support_bit, bit_or_none}
 use Rattle.om_members.proofs.ScanLaws.{nth_read, nth_contained}
 use Rattle.om_chirotope.specs.Map.{SignMap, negated, IsLedBy}
@@ -53,7 +51,7 @@ use Rattle.om_denotation.proofs.NormalForms.{normal_elements}
 use Rattle.om_denotation.proofs.Uniqueness.{normal_axioms}
 use Rattle.om_denotation.proofs.DualMaps.{dual_tuples, dual_axioms}
 use Rattle.om_propagation.specs.Hitting.{IsMet, MeetsEach, MissesSome, IsNarrowed, IsLeastMeeting, IsNormalOf, AreFirstSigns}
-use Rattle.om_propagation.proofs.HittingLaws.{Meets, meets_or_zero}
+use Rattle.om_propagation.proofs.HittingLaws.{meets_or_zero}
 use Rattle.om_propagation.proofs.CarryLaws.{met_list, least_size}
 
 -- ---- one vector

@@ -7,6 +7,7 @@ ghost use Rattle.om_denotation.specs.Circuits.{IsCircuitOfChirotope, IsCocircuit
 ghost use Rattle.om_denotation.specs.Covectors.{IsCovectorOfChirotope, IsCovectorOfCircuits, IsCovectorOfCocircuits};
 ghost use Rattle.om_denotation.specs.Denotation.{DenoteTheSame};
 ghost use Rattle.om_denotation.specs.Listings.{AreAllOf};
+ghost use Rattle.om_denotation.specs.Only.{IsOnlyChirotope};
 ghost use Rattle.om_propagation.specs.Hitting.{IsNormalOf};
 
 use super::hitting::least_meeting;
@@ -44,8 +45,8 @@ pub fn chirotope_of(alloc: Global, set: &SignedSet) -> Result<Chirotope, NoMemor
     }))
 }
 
-/// The normal chirotope with these cocircuits. Both have the same elements and denote the same oriented matroid. Its signs
-/// take their memory from `alloc`.
+/// The normal chirotope with these cocircuits. Both have the same elements and denote the same oriented matroid, and it is the
+/// only chirotope that does, up to sign. Its signs take their memory from `alloc`.
 ///
 /// [`NoMemory`] comes only for want of memory.
 ///
@@ -56,12 +57,14 @@ pub fn cocircuits_to_chirotope(alloc: Global, c: &Cocircuits) -> Result<Chirotop
     ensures same { IfOk result (λ m.
         DenoteTheSame c.now.0.elements (IsCovectorOfCocircuits c.now.0) (IsCovectorOfChirotope m)) }
     ensures normal { IfOk result (λ m. IsLedBy Plus m.signs) }
+    ensures unique { IfOk result IsOnlyChirotope }
 {
     chirotope_of(alloc, &c.0)
 }
 
 /// The normal chirotope with these circuits: the dual of that whose cocircuits they are. Both have the same elements and
-/// denote the same oriented matroid. Its signs take their memory from `alloc`.
+/// denote the same oriented matroid, and it is the only chirotope that does, up to sign. Its signs take their memory from
+/// `alloc`.
 ///
 /// [`NoMemory`] comes only for want of memory.
 ///
@@ -72,6 +75,7 @@ pub fn circuits_to_chirotope(alloc: Global, c: &Circuits) -> Result<Chirotope, N
     ensures same { IfOk result (λ m.
         DenoteTheSame c.now.0.elements (IsCovectorOfCircuits c.now.0) (IsCovectorOfChirotope m)) }
     ensures normal { IfOk result (λ m. IsLedBy Plus m.signs) }
+    ensures unique { IfOk result IsOnlyChirotope }
 {
     let other = chirotope_of(alloc, &c.0)?;
     dual(alloc, &other)

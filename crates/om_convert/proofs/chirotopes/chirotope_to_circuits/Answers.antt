@@ -1,6 +1,7 @@
 use Rattle.std.proofs.Common.{sym, ◌∙◌, subst}
 use Rattle.om_denotation.specs.Circuits.{IsCircuitOfChirotope}
 use Rattle.om_denotation.specs.Listings.{AreAllOf}
+use Rattle.om_denotation.proofs.OnlyLaws.{only_circuits}
 use Rattle.om_convert.proofs.CountingLaws.{listed_within}
 use Rattle.om_convert.proofs.ChirotopeLaws.{circuit_lengths, circuits_lawful, same_as_circuits}
 use Rattle.om_convert.proofs.chirotopes.chirotope_to_circuits.Goals as goal
@@ -22,3 +23,9 @@ returns-clause-same c =
 
 pub returns-clause-few : goal.returns-clause-few
 returns-clause-few c = listed_within (IsCircuitOfChirotope c.args.chi.now) c.in_ok-gathered.gathered c.in_ok-gathered.ensures.members c.in_ok-circuits.ensures.lawful.few
+
+pub returns-clause-unique : goal.returns-clause-unique
+returns-clause-unique c =
+    let all = subst (AreAllOf (IsCircuitOfChirotope c.args.chi.now)) (sym c.in_ok-circuits.ensures.value) c.in_ok-gathered.ensures.members in
+    only_circuits c.lawful.result c.args.chi.now.elements c.in_ok-circuits.circuits (c.lawful.ensures.elements ∙ c.elements.ensures.value) c.lawful.ensures.members
+    (circuit_lengths c.args.chi.now c.in_ok-circuits.circuits all) (circuits_lawful c.args.chi.now c.in_ok-circuits.circuits all c.all_circuits.ensures.lawful)

@@ -1,6 +1,7 @@
 use Rattle.std.proofs.Common.{sym, ◌∙◌, subst}
 use Rattle.om_denotation.specs.Circuits.{IsCocircuitOfChirotope}
 use Rattle.om_denotation.specs.Listings.{AreAllOf}
+use Rattle.om_denotation.proofs.OnlyLaws.{only_cocircuits}
 use Rattle.om_convert.proofs.CountingLaws.{listed_within}
 use Rattle.om_convert.proofs.ChirotopeLaws.{cocircuit_lengths, cocircuits_lawful, same_as_cocircuits}
 use Rattle.om_convert.proofs.chirotopes.chirotope_to_cocircuits.Goals as goal
@@ -22,3 +23,9 @@ returns-clause-same c =
 
 pub returns-clause-few : goal.returns-clause-few
 returns-clause-few c = listed_within (IsCocircuitOfChirotope c.args.chi.now) c.in_ok-gathered.gathered c.in_ok-gathered.ensures.members c.in_ok-cocircuits.ensures.lawful.few
+
+pub returns-clause-unique : goal.returns-clause-unique
+returns-clause-unique c =
+    let all = subst (AreAllOf (IsCocircuitOfChirotope c.args.chi.now)) (sym c.in_ok-cocircuits.ensures.value) c.in_ok-gathered.ensures.members in
+    only_cocircuits c.lawful.result c.args.chi.now.elements c.in_ok-cocircuits.cocircuits (c.lawful.ensures.elements ∙ c.elements.ensures.value) c.lawful.ensures.members
+    (cocircuit_lengths c.args.chi.now c.all_cocircuits.ensures.lawful c.in_ok-cocircuits.cocircuits all) (cocircuits_lawful c.args.chi.now c.all_cocircuits.ensures.lawful c.in_ok-cocircuits.cocircuits all)

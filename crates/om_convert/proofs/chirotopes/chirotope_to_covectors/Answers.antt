@@ -1,6 +1,7 @@
 use Rattle.std.proofs.Common.{sym, ◌∙◌, subst}
 use Rattle.om_denotation.specs.Covectors.{IsCovectorOfChirotope}
 use Rattle.om_denotation.specs.Listings.{AreAllOf}
+use Rattle.om_denotation.proofs.OnlyLaws.{only_covectors}
 use Rattle.om_convert.proofs.CountingLaws.{listed_within}
 use Rattle.om_convert.proofs.ChirotopeLaws.{covector_lengths, covectors_lawful, same_as_covectors}
 use Rattle.om_convert.proofs.chirotopes.chirotope_to_covectors.Goals as goal
@@ -22,3 +23,9 @@ returns-clause-same c =
 
 pub returns-clause-few : goal.returns-clause-few
 returns-clause-few c = listed_within (IsCovectorOfChirotope c.args.chi.now) c.in_ok-gathered.gathered c.in_ok-gathered.ensures.members c.in_ok-covectors.ensures.lawful.few
+
+pub returns-clause-unique : goal.returns-clause-unique
+returns-clause-unique c =
+    let all = subst (AreAllOf (IsCovectorOfChirotope c.args.chi.now)) (sym c.in_ok-covectors.ensures.value) c.in_ok-gathered.ensures.members in
+    only_covectors c.lawful.result c.args.chi.now.elements c.in_ok-covectors.covectors (c.lawful.ensures.elements ∙ c.elements.ensures.value) c.lawful.ensures.members
+    (covector_lengths c.args.chi.now c.in_ok-covectors.covectors all)

@@ -2,6 +2,7 @@ use Rattle.std.proofs.Common.{◌≡◌, length, sym, subst, ◌∙◌, arith}
 use Rattle.om_members.specs.Listings.{HaveLength}
 use Rattle.om_covectors.specs.Minimality.{IsMinimal}
 use Rattle.om_denotation.proofs.SelectionLaws.{those_all, those_few, those_distinct}
+use Rattle.om_denotation.proofs.OnlyLaws.{only_cocircuits}
 use Rattle.om_convert.proofs.CocircuitLaws.{minimal_axioms, same_covectors}
 use Rattle.om_convert.proofs.covectors.covectors_to_cocircuits.Goals as goal
 
@@ -29,3 +30,10 @@ pub returns-clause-same : goal.returns-clause-same
 returns-clause-same c =
     let s = c.elements.ensures.lawful in
     same_covectors c.args.c.now.elements c.args.c.now.members s.lengths s.axioms c.in_ok-minimal.minimal c.in_ok-minimal.ensures c.lawful.result (c.lawful.ensures.elements ∙ c.elements.ensures.value) c.lawful.ensures.members
+
+pub returns-clause-unique : goal.returns-clause-unique
+returns-clause-unique c =
+    let s = c.elements.ensures.lawful in
+    only_cocircuits c.lawful.result c.args.c.now.elements c.in_ok-minimal.minimal (c.lawful.ensures.elements ∙ c.elements.ensures.value) c.lawful.ensures.members
+    (those_all (IsMinimal c.args.c.now.members) (λ X. length X ≡ c.args.c.now.elements) c.args.c.now.members c.in_ok-minimal.minimal c.in_ok-minimal.ensures s.lengths)
+    (minimal_axioms c.args.c.now.elements c.args.c.now.members s.lengths s.axioms c.in_ok-minimal.minimal c.in_ok-minimal.ensures)

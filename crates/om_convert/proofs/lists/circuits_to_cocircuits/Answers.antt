@@ -1,4 +1,4 @@
-use Rattle.std.proofs.Common.{subst, sym, ◌∙◌}
+use Rattle.std.proofs.Common.{subst}
 use Rattle.om_denotation.specs.Circuits.{IsCocircuitOfChirotope}
 use Rattle.om_denotation.specs.Compositions.{IsOfLeastSupport}
 use Rattle.om_denotation.specs.Covectors.{IsCovectorOfChirotope, IsCovectorOfCircuits, IsCovectorOfCocircuits}

@@ -1,4 +1,4 @@
-use Rattle.std.proofs.Common.{subst, sym, ◌∙◌}
+use Rattle.std.proofs.Common.{◌∙◌}
 use Rattle.om_denotation.specs.Covectors.{IsCovectorOfChirotope, IsCovectorOfCircuits, IsCovectorOfCovectors}
 use Rattle.om_convert.proofs.SameFamilies.{joined, all_same, within_same, cause_same, equal_families}
 use Rattle.om_convert.proofs.lists.circuits_to_covectors.Goals as goal

@@ -1,4 +1,4 @@
-use Rattle.std.proofs.Common.{arith, refl}
+use Rattle.std.proofs.Common.{arith}
 use Rattle.om_propagation.proofs.MeetingLaws.{met_more, met_all}
 use Rattle.om_propagation.proofs.hitting.first_missed.Goals as goal
 

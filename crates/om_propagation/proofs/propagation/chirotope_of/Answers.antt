@@ -1,7 +1,5 @@
-use Rattle.std.proofs.Common.{◌≡◌, ◌∙◌, sym, subst, ap, arith}
-use Rattle.om_signs.specs.declared.sign.Sign.TheVariants.{Plus}
+use Rattle.std.proofs.Common.{◌≡◌, sym, subst, arith}
 use Rattle.om_subsets.specs.Subsets.{choose}
-use Rattle.om_chirotope.specs.Map.{SignMap}
 use Rattle.om_propagation.specs.Hitting.{IsNormalOf}
 use Rattle.om_propagation.proofs.MeetingLaws.{start_meets, signs_start, signs_before, place_is, signs_pushed, made_normal}
 use Rattle.om_propagation.proofs.propagation.chirotope_of.Goals as goal

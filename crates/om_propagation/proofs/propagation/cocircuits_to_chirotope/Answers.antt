@@ -2,6 +2,8 @@ use Rattle.std.proofs.lemmas.Result.{IfOk-weaker}
 use Rattle.om_chirotope.specs.Map.{SignMap}
 use Rattle.om_denotation.specs.Covectors.{IsCovectorOfChirotope, IsCovectorOfCocircuits}
 use Rattle.om_denotation.specs.Denotation.{DenoteTheSame}
+use Rattle.om_denotation.specs.Only.{IsOnlyChirotope}
+use Rattle.om_denotation.proofs.OnlyLaws.{only_chirotope}
 use Rattle.om_propagation.specs.Hitting.{IsNormalOf}
 use Rattle.om_propagation.proofs.MeetingLaws.{denotes}
 use Rattle.om_propagation.proofs.propagation.cocircuits_to_chirotope.Goals as goal
@@ -10,3 +12,7 @@ pub returns-clause-same : goal.returns-clause-same
 returns-clause-same c =
     let P : SignMap → Type 0 = λ m. DenoteTheSame c.args.c.now.0.elements (IsCovectorOfCocircuits c.args.c.now.0) (IsCovectorOfChirotope m) in
     IfOk-weaker c.chirotope_of.result (IsNormalOf c.args.c.now.0.elements c.args.c.now.0.members) P (λ m h. denotes c.args.c.now.0 m h) c.chirotope_of.ensures
+
+pub returns-clause-unique : goal.returns-clause-unique
+returns-clause-unique c =
+    IfOk-weaker c.chirotope_of.result (IsNormalOf c.args.c.now.0.elements c.args.c.now.0.members) IsOnlyChirotope (λ m h. only_chirotope m h.axioms) c.chirotope_of.ensures

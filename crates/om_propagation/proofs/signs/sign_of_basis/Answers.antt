@@ -1,4 +1,4 @@
-use Rattle.std.proofs.Common.{arith, subst, sym, length}
+use Rattle.std.proofs.Common.{arith, length}
 use Rattle.om_propagation.proofs.CarryLaws.{carried_value, plus_sign, none_more, none_all}
 use Rattle.om_propagation.proofs.signs.sign_of_basis.Goals as goal
 

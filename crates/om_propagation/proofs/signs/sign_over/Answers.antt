@@ -1,8 +1,8 @@
-use Rattle.std.proofs.Common.{◌≡◌, ◌∙◌, ℕ, List, ap, subst, sym, inl, refl, length, ◌<◌}
+use Rattle.std.proofs.Common.{◌≡◌, ◌∙◌, ℕ, List, ap, subst, sym, inl, length, ◌<◌}
 use Rattle.std.proofs.lemmas.List.{get_or_default}
 use Rattle.om_signs.specs.declared.sign.Sign.TheVariants.{Minus, Zero}
 use Rattle.om_signs.specs.SignVec.{at}
-use Rattle.om_subsets.specs.Subsets.{IsMember, rank_of, with_element, without_element}
+use Rattle.om_subsets.specs.Subsets.{rank_of, with_element, without_element}
 use Rattle.om_propagation.specs.Hitting.{IsMet, MeetsEach, carried_sign}
 use Rattle.om_propagation.proofs.CarryLaws.{earlier_place}
 use Rattle.om_propagation.proofs.signs.sign_over.Goals as goal
