@@ -11,6 +11,7 @@ mod claim_tests;
 mod command;
 mod conversion;
 mod documents;
+mod making;
 #[cfg(test)]
 mod map_tests;
 mod membership;
@@ -27,6 +28,7 @@ mod status;
 mod task;
 #[cfg(test)]
 mod tests;
+mod unmade;
 mod unrepresented;
 mod usage;
 mod verb;
