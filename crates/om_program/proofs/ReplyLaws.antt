@@ -37,7 +37,8 @@ use Rattle.om_program.specs.Answers.{IsReply, status_of, status_of_line}
 use Rattle.om_program.specs.Axioms.{IsRefusedOn, set_line, map_line, cov_line, wiring_line}
 use Rattle.om_program.specs.Memberships.{IsMembership, wrong_length, covector, not_covector}
 use Rattle.om_program.specs.Conversions.{IsConversion, itself, limited, converted}
-use Rattle.om_program.specs.Operations.{IsOperation, not_built, outside, last, made}
+use Rattle.om_program.specs.Operations.{IsOperation, outside, last, made}
+use Rattle.om_program.specs.Operations as operations
 use Rattle.om_program.proofs.RankThreeLaws.{wiring_replies, mutations_replies, flip_replies}
 use Rattle.om_program.specs.Claims as claims
 use Rattle.om_program.proofs.DecisionLaws.{verdict_status, decision_replies}
@@ -110,10 +111,10 @@ conversion_replies k d a (limited other many) = tt
 conversion_replies k d a (converted e other few is) = is.form
 
 operation_replies : (o : Operation) (d : Document) (a : Answer) → IsOperation o d a → IsReply a
-operation_replies o d a (not_built not) = tt
-operation_replies o d a (outside e built above) = tt
-operation_replies o d a (last built within takes) = tt
-operation_replies o d a (made e built within left is) = is.form
+operation_replies o d a (outside e above) = tt
+operation_replies o d a (last within takes) = tt
+operation_replies o d a (operations.limited within many) = tt
+operation_replies o d a (made e within left few is) = is.form
 
 certificate_replies : (why : CertRefused) → IsReplied (status_of_line (claims.refusal_line why))
 certificate_replies (cert.NotRank3 r) = tt

@@ -18,6 +18,7 @@ mod documents;
 mod flipping;
 mod leading;
 mod limits;
+mod making;
 #[cfg(test)]
 mod map_tests;
 mod membership;
@@ -43,6 +44,7 @@ mod task;
 #[cfg(test)]
 mod tests;
 mod triple;
+mod unmade;
 mod unrepresented;
 mod usage;
 mod verb;
