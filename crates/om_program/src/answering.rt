@@ -8,8 +8,8 @@ ghost use Rattle.om_program.specs.Tasks.{HasLawfulArguments, reads};
 
 use crate::answer::Answer;
 use crate::conversion::convert;
-use crate::flipping::flip_triple;
 use crate::decision::judge;
+use crate::flipping::flip_triple;
 use crate::membership::find_membership;
 use crate::mutation_list::list_mutations;
 use crate::operation::{Operation, operate};
