@@ -1,25 +1,14 @@
 -- What claims come to.
 --
--- Main results: lists have no chirotope yet (list_unbuilt); a limit (limit_meant).
-use Rattle.std.specs.Prelude.{ℕ, ◌≡◌, Ok, Err, refl, false}
+-- Main result: a limit (limit_meant).
+use Rattle.std.specs.Prelude.{◌≡◌, Ok, Err, refl}
 use Rattle.om_chirotope.specs.Map.{SignMap}
 use Rattle.om_certificate.specs.declared.evidence.Evidence.{Evidence}
 use Rattle.om_certificate.specs.declared.verdict.Verdict.{Verdict}
 use Rattle.om_certificate.specs.declared.verdict.Verdict.TheVariants.{Realizable, Nonrealizable, Undecided, Limit}
 use Rattle.om_certificate.specs.Verdicts.{certificate_of}
 use Rattle.om_answer.specs.declared.line.Line.TheVariants as line
-use Rattle.om_program.specs.declared.representation.Representation.{Representation}
-use Rattle.om_program.specs.declared.representation.Representation.TheVariants as representation
-use Rattle.om_program.specs.Chirotopes.{is_operable}
 use Rattle.om_program.specs.Claims.{VerdictMeans, limited}
-use Rattle.om_program.specs.Documents.{document_of}
-use Rattle.om_program.proofs.OperationLaws.{IsList, no_list}
-
-pub list_unbuilt : (r : Representation) → IsList r → is_operable (document_of r).body ≡ false
-list_unbuilt (representation.Chirotope c) list = absurd (no_list c list)
-list_unbuilt (representation.Circuits s) list = refl
-list_unbuilt (representation.Cocircuits s) list = refl
-list_unbuilt (representation.Covectors s) list = refl
 
 no_err : (e : Evidence) (w : Verdict) → Ok e ≡ Err w → ⊥
 no_err e w same = cc

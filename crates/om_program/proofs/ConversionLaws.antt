@@ -1,137 +1,203 @@
 -- Documents that denote the same.
 --
--- Main results: a document as itself (own_map, own_circuits, own_cocircuits, own_covectors); conversions that aren't built (circuits_unbuilt,
--- cocircuits_unbuilt, covectors_unbuilt); too many members (too_many); the circuits, cocircuits and covectors of a chirotope
--- (circuits_converted, cocircuits_converted, covectors_converted); the cocircuits of covectors (minimal_converted).
-use Rattle.std.specs.Prelude.{ℕ, ◌≡◌, ◌↔◌, ◌⊎◌, true, false, List, [], refl}
+-- Main results: the chirotope of a representation denotes the same (elements_of, same_of); a document as itself (own_converted); a document as a
+-- chirotope (chirotope_made); lists that are made by way of a chirotope (circuits_made, cocircuits_made, covectors_made), and those with too many
+-- members (many_circuits, many_cocircuits, many_covectors); covectors as cocircuits (minimal_made); a representation of one of some kinds (one_of_two,
+-- one_of_three).
+use Rattle.std.specs.Prelude.{ℕ, ◌≡◌, ◌↔◌, ◌⊎◌, true, false, List, [], length, refl}
 use Rattle.std.specs.List.{Contains}
 use Rattle.std.proofs.Common.{sym, ◌∙◌, ap, subst, arith, inl, inr}
-use Rattle.std.proofs.lemmas.Bool.{false≢true}
+use Rattle.std.proofs.lemmas.List.Elements.{All-contains}
 use Rattle.om_signs.specs.declared.limits.TheConstants.{MAX_MEMBERS}
 use Rattle.om_signs.specs.declared.sign.Sign.{Sign}
+use Rattle.om_chirotope.specs.Chirotope.{IsChirotope}
 use Rattle.om_chirotope.specs.Map.{SignMap}
-use Rattle.om_members.specs.Listings.{Listing}
+use Rattle.om_members.specs.Listings.{Listing, HaveLength}
+use Rattle.om_covectors.specs.Minimality.{IsMinimal, AreThose}
 use Rattle.om_convert.specs.declared.convert_error.ConvertError.{ConvertError}
 use Rattle.om_convert.specs.declared.convert_error.ConvertError.TheVariants as convert
-use Rattle.om_convert.specs.Limits.{IsCause}
+use Rattle.om_convert.specs.Limits.{IsCause, IsWithinLimit}
+use Rattle.om_convert.proofs.CountingLaws.{listed_within}
+use Rattle.om_convert.proofs.SameFamilies as families
 use Rattle.om_denotation.specs.Circuits.{IsCircuitOfChirotope, IsCocircuitOfChirotope}
+use Rattle.om_denotation.specs.Compositions.{IsOfLeastSupport}
 use Rattle.om_denotation.specs.Covectors.{IsCovectorOfChirotope, IsCovectorOfCircuits, IsCovectorOfCocircuits, IsCovectorOfCovectors}
 use Rattle.om_denotation.specs.Denotation.{DenoteTheSame}
 use Rattle.om_denotation.specs.Listings.{AreAllOf, HasMoreThan}
+use Rattle.om_denotation.proofs.DualLists.{circuits_of}
+use Rattle.om_minors.proofs.DroppedMembers.{least_all}
 use Rattle.om_text.specs.declared.document.Document.{Document}
+use Rattle.om_text.specs.declared.body.Body.{Body}
+use Rattle.om_text.specs.declared.body.Body.TheVariants as body
 use Rattle.om_text.specs.Form.{IsInForm}
 use Rattle.om_answer.specs.declared.kind.Kind.{Kind}
 use Rattle.om_answer.specs.declared.kind.Kind.TheVariants as kind
 use Rattle.om_answer.specs.declared.line.Line.TheVariants as line
 use Rattle.om_program.specs.declared.answer.Answer.{Answer}
+use Rattle.om_program.specs.declared.representation.Representation.{Representation}
+use Rattle.om_program.specs.declared.representation.Representation.TheVariants as representation
 use Rattle.om_program.specs.Axioms.{MeetsAxioms}
-use Rattle.om_program.specs.Documents.{map_document, circuits_document, cocircuits_document, covectors_document}
+use Rattle.om_program.specs.Chirotopes.{IsChirotopeOf, IsNormalChirotopeOf}
+use Rattle.om_program.specs.Covectors.{IsCovectorIn}
+use Rattle.om_program.specs.Documents.{document_of, map_document, circuits_document, cocircuits_document, covectors_document}
 use Rattle.om_program.specs.Answers.{says, shows}
-use Rattle.om_program.specs.Conversions.{has_kind, is_built, IsMemberAs, HasTooMany, HasMembersOf, IsConversion, converted, limited, unbuilt, IsTooMany}
+use Rattle.om_program.specs.Conversions.{has_kind, IsMemberOf, HasExactly, IsConversion, IsConversionFrom, itself, limited, converted, IsTooMany}
+
+-- ---- the chirotope of a representation
+
+pub size_in : (r : Representation) (X : List Sign) → IsCovectorIn (document_of r) X → length X ≡ (document_of r).elements
+size_in (representation.Chirotope m) X x = x.size
+size_in (representation.Circuits s) X x = x.size
+size_in (representation.Cocircuits s) X x = x.size
+size_in (representation.Covectors s) X x = x.size
+
+pub elements_of : (r : Representation) (c : SignMap) → IsChirotopeOf (document_of r) c → c.elements ≡ (document_of r).elements
+elements_of (representation.Chirotope m) c is = ap (λ u. u.elements) is
+elements_of (representation.Circuits s) c is = is.elements
+elements_of (representation.Cocircuits s) c is = is.elements
+elements_of (representation.Covectors s) c is = is.elements
+
+pub same_of : (r : Representation) (c : SignMap) → IsChirotopeOf (document_of r) c → DenoteTheSame (document_of r).elements (IsCovectorIn (document_of r)) (IsCovectorOfChirotope c)
+same_of (representation.Chirotope m) c is = subst (λ u. DenoteTheSame m.elements (IsCovectorOfChirotope m) (IsCovectorOfChirotope u)) (sym is) (λ X size. (λ h. h, λ h. h))
+same_of (representation.Circuits s) c is = is.same
+same_of (representation.Cocircuits s) c is = is.same
+same_of (representation.Covectors s) c is = is.same
 
 -- ---- a document as itself
+
+pub own_converted : (k : Kind) (d e : Document) → has_kind k d.body ≡ true → e ≡ d → IsInForm e → IsConversion k d (shows e)
+own_converted k d e own same form = subst (λ u. IsConversion k d (shows u)) (sym same) (itself own (subst IsInForm same form))
+
+-- ---- a document as a chirotope
 
 nobody : {k : ℕ} → HasMoreThan k (λ (x : List Sign). ⊥) → ⊥
 nobody more = more.each 0 [] (let many = more.many in omega (arith, many))
 
-no_two : {P : Type 0} → false ≡ true → P
-no_two same = absurd (false≢true same)
-
-own_converted : (k : Kind) (d e : Document) → is_built k d.body ≡ true → (HasTooMany k d.body → ⊥) → HasMembersOf d.body d.body → has_kind k d.body ≡ true → e ≡ d → IsInForm e → MeetsAxioms e → IsConversion k d (shows e)
-own_converted k d e built few members own same form axioms = converted e built few (record {
-  form = form;
-  kind = rw same own;
-  elements = ap (λ u. u.elements) same;
-  axioms = axioms;
-  same = λ x. rw same (λ h. h, λ h. h);
-  members = rw same members;
-  own = λ h. same;
-})
-
-pub own_map : (c : SignMap) (e : Document) → e ≡ map_document c → IsInForm e → MeetsAxioms e → IsConversion kind.Chirotope (map_document c) (shows e)
-own_map c e same form axioms = own_converted kind.Chirotope (map_document c) e refl nobody tt refl same form axioms
-
-pub own_circuits : (s : Listing) (e : Document) → e ≡ circuits_document s → IsInForm e → MeetsAxioms e → IsConversion kind.Circuits (circuits_document s) (shows e)
-own_circuits s e same form axioms = own_converted kind.Circuits (circuits_document s) e refl (λ more. more) tt refl same form axioms
-
-pub own_cocircuits : (s : Listing) (e : Document) → e ≡ cocircuits_document s → IsInForm e → MeetsAxioms e → IsConversion kind.Cocircuits (cocircuits_document s) (shows e)
-own_cocircuits s e same form axioms = own_converted kind.Cocircuits (cocircuits_document s) e refl (λ more. more) tt refl same form axioms
-
-pub own_covectors : (s : Listing) (e : Document) → e ≡ covectors_document s → IsInForm e → MeetsAxioms e → IsConversion kind.Covectors (covectors_document s) (shows e)
-own_covectors s e same form axioms = own_converted kind.Covectors (covectors_document s) e refl (λ more. more) tt refl same form axioms
-
--- ---- conversions that aren't built
-
-pub circuits_unbuilt : (k : Kind) (s : Listing) → (k ≡ kind.Chirotope) ⊎ ((k ≡ kind.Cocircuits) ⊎ (k ≡ kind.Covectors)) → IsConversion k (circuits_document s) (says line.RefusedUnbuilt)
-circuits_unbuilt k s (inl is) = subst (λ j. IsConversion j (circuits_document s) (says line.RefusedUnbuilt)) (sym is) (unbuilt refl)
-circuits_unbuilt k s (inr (inl is)) = subst (λ j. IsConversion j (circuits_document s) (says line.RefusedUnbuilt)) (sym is) (unbuilt refl)
-circuits_unbuilt k s (inr (inr is)) = subst (λ j. IsConversion j (circuits_document s) (says line.RefusedUnbuilt)) (sym is) (unbuilt refl)
-
-pub cocircuits_unbuilt : (k : Kind) (s : Listing) → (k ≡ kind.Chirotope) ⊎ ((k ≡ kind.Circuits) ⊎ (k ≡ kind.Covectors)) → IsConversion k (cocircuits_document s) (says line.RefusedUnbuilt)
-cocircuits_unbuilt k s (inl is) = subst (λ j. IsConversion j (cocircuits_document s) (says line.RefusedUnbuilt)) (sym is) (unbuilt refl)
-cocircuits_unbuilt k s (inr (inl is)) = subst (λ j. IsConversion j (cocircuits_document s) (says line.RefusedUnbuilt)) (sym is) (unbuilt refl)
-cocircuits_unbuilt k s (inr (inr is)) = subst (λ j. IsConversion j (cocircuits_document s) (says line.RefusedUnbuilt)) (sym is) (unbuilt refl)
-
-pub covectors_unbuilt : (k : Kind) (s : Listing) → (k ≡ kind.Chirotope) ⊎ (k ≡ kind.Circuits) → IsConversion k (covectors_document s) (says line.RefusedUnbuilt)
-covectors_unbuilt k s (inl is) = subst (λ j. IsConversion j (covectors_document s) (says line.RefusedUnbuilt)) (sym is) (unbuilt refl)
-covectors_unbuilt k s (inr is) = subst (λ j. IsConversion j (covectors_document s) (says line.RefusedUnbuilt)) (sym is) (unbuilt refl)
-
--- ---- too many members
-
-pub too_many : (k : Kind) (c : SignMap) (why : ConvertError) (a : Answer) → IsCause (IsMemberAs k c) why → IsTooMany why a → IsConversion k (map_document c) a
-too_many k c (convert.TooMany limit) a (is, more) same =
-    let all : a ≡ says (line.LimitMembers MAX_MEMBERS) = same ∙ ap (λ n. says (line.LimitMembers n)) is in
-    subst (IsConversion k (map_document c)) (sym all) (limited refl more)
-too_many k c convert.Memory a cause same = absurd same
-
--- ---- a chirotope as lists
-
-pub circuits_converted : (c : SignMap) (s : Listing) (e : Document) → e ≡ circuits_document s → IsInForm e → MeetsAxioms e → s.elements ≡ c.elements → AreAllOf (IsCircuitOfChirotope c) s.members → DenoteTheSame c.elements (IsCovectorOfChirotope c) (IsCovectorOfCircuits s) → (HasMoreThan MAX_MEMBERS (IsCircuitOfChirotope c) → ⊥) → IsConversion kind.Circuits (map_document c) (shows e)
-circuits_converted c s e made form axioms count members same few =
-    subst (λ u. IsConversion kind.Circuits (map_document c) (shows u)) (sym made) (converted (circuits_document s) refl few (record {
+normal_made : (d : Document) (c : SignMap) (e : Document) → has_kind kind.Chirotope d.body ≡ false → ((X : List Sign) → IsCovectorIn d X → length X ≡ d.elements) → IsNormalChirotopeOf d c → e ≡ map_document c → IsInForm e → MeetsAxioms e → IsConversion kind.Chirotope d (shows e)
+normal_made d c e other size of made form axioms =
+    subst (λ u. IsConversion kind.Chirotope d (shows u)) (sym made) (converted (map_document c) other nobody (record {
       form = subst IsInForm made form;
       kind = refl;
-      elements = count;
+      elements = of.elements;
       axioms = subst MeetsAxioms made axioms;
-      same = λ x. (λ h. (same x h.size).0 h, λ q. (same x (q.size ∙ count)).1 q);
-      members = members;
-      own = λ h. no_two h;
+      same = λ X. (λ h. (of.same X (size X h)).0 h, λ q. (of.same X (q.size ∙ of.elements)).1 q);
+      members = of.normal;
     }))
 
-pub cocircuits_converted : (c : SignMap) (s : Listing) (e : Document) → e ≡ cocircuits_document s → IsInForm e → MeetsAxioms e → s.elements ≡ c.elements → AreAllOf (IsCocircuitOfChirotope c) s.members → DenoteTheSame c.elements (IsCovectorOfChirotope c) (IsCovectorOfCocircuits s) → (HasMoreThan MAX_MEMBERS (IsCocircuitOfChirotope c) → ⊥) → IsConversion kind.Cocircuits (map_document c) (shows e)
-cocircuits_converted c s e made form axioms count members same few =
-    subst (λ u. IsConversion kind.Cocircuits (map_document c) (shows u)) (sym made) (converted (cocircuits_document s) refl few (record {
-      form = subst IsInForm made form;
-      kind = refl;
-      elements = count;
-      axioms = subst MeetsAxioms made axioms;
-      same = λ x. (λ h. (same x h.size).0 h, λ q. (same x (q.size ∙ count)).1 q);
-      members = members;
-      own = λ h. no_two h;
-    }))
+pub chirotope_made : (r : Representation) (c : SignMap) (e : Document) → IsChirotopeOf (document_of r) c → e ≡ map_document c → IsInForm e → MeetsAxioms e → IsConversion kind.Chirotope (document_of r) (shows e)
+chirotope_made (representation.Chirotope m) c e of made form axioms = own_converted kind.Chirotope (map_document m) e refl (made ∙ ap map_document of) form
+chirotope_made (representation.Circuits s) c e of made form axioms = normal_made (circuits_document s.0) c e refl (size_in (representation.Circuits s)) of made form axioms
+chirotope_made (representation.Cocircuits s) c e of made form axioms = normal_made (cocircuits_document s.0) c e refl (size_in (representation.Cocircuits s)) of made form axioms
+chirotope_made (representation.Covectors s) c e of made form axioms = normal_made (covectors_document s) c e refl (size_in (representation.Covectors s)) of made form axioms
 
-pub covectors_converted : (c : SignMap) (s : Listing) (e : Document) → e ≡ covectors_document s → IsInForm e → MeetsAxioms e → s.elements ≡ c.elements → AreAllOf (IsCovectorOfChirotope c) s.members → DenoteTheSame c.elements (IsCovectorOfChirotope c) (IsCovectorOfCovectors s) → (HasMoreThan MAX_MEMBERS (IsCovectorOfChirotope c) → ⊥) → IsConversion kind.Covectors (map_document c) (shows e)
-covectors_converted c s e made form axioms count members same few =
-    subst (λ u. IsConversion kind.Covectors (map_document c) (shows u)) (sym made) (converted (covectors_document s) refl few (record {
-      form = subst IsInForm made form;
-      kind = refl;
-      elements = count;
-      axioms = subst MeetsAxioms made axioms;
-      same = λ x. (λ h. (same x h.size).0 h, λ q. (same x (q.size ∙ count)).1 q);
-      members = members;
-      own = λ h. no_two h;
-    }))
+-- ---- lists, by way of a chirotope
+
+exactly_same : (P Q : List Sign → Type 0) → ((X : List Sign) → P X ↔ Q X) → (b : Body) → HasExactly P b → HasExactly Q b
+exactly_same P Q both (body.Chirotope m) h = h
+exactly_same P Q both (body.Circuits members) h = families.all_same P Q both members h
+exactly_same P Q both (body.Cocircuits members) h = families.all_same P Q both members h
+exactly_same P Q both (body.Covectors members) h = families.all_same P Q both members h
+exactly_same P Q both (body.Wiring blocks) h = tt
+exactly_same P Q both (body.Points points) h = tt
+
+module _ (r : Representation) (c : SignMap) (om : IsChirotope c) (of : IsChirotopeOf (document_of r) c) where
+  circuit_in : (X : List Sign) → IsCircuitOfChirotope c X ↔ IsMemberOf kind.Circuits (document_of r) X
+  circuit_in X = circuits_of (document_of r).elements (IsCovectorIn (document_of r)) c om (elements_of r c of) (same_of r c of) X
+
+  cocircuit_in : (X : List Sign) → IsCocircuitOfChirotope c X ↔ IsMemberOf kind.Cocircuits (document_of r) X
+  cocircuit_in X = families.cocircuits_of (document_of r).elements (IsCovectorIn (document_of r)) c om (elements_of r c of) (size_in r) (same_of r c of) X
+
+  covector_in : (X : List Sign) → IsCovectorOfChirotope c X ↔ IsCovectorIn (document_of r) X
+  covector_in X = families.equal_families (document_of r).elements (IsCovectorIn (document_of r)) (IsCovectorOfChirotope c) (size_in r) (λ Y y. y.size ∙ elements_of r c of) (same_of r c of) X
+
+  -- a list of a kind, whose members of the chirotope are P
+  module _ (k : Kind) (P : List Sign → Type 0) (both : (X : List Sign) → P X ↔ IsMemberOf k (document_of r) X) where
+    many_made : (why : ConvertError) (a : Answer) → has_kind k (document_of r).body ≡ false → IsCause P why → IsTooMany why a → IsConversion k (document_of r) a
+    many_made (convert.TooMany limit) a other cause same =
+        let most = families.cause_same P (IsMemberOf k (document_of r)) both (convert.TooMany limit) cause in
+        let all : a ≡ says (line.LimitMembers MAX_MEMBERS) = same ∙ ap (λ n. says (line.LimitMembers n)) most.0 in
+        subst (IsConversion k (document_of r)) (sym all) (limited other most.1)
+    many_made convert.Memory a other cause same = absurd same
+
+    list_made : (e u : Document) → has_kind k (document_of r).body ≡ false → e ≡ u → IsInForm e → MeetsAxioms e → has_kind k u.body ≡ true → u.elements ≡ c.elements → ((X : List Sign) → IsCovectorIn u X → length X ≡ u.elements) → HasExactly P u.body → DenoteTheSame c.elements (IsCovectorOfChirotope c) (IsCovectorIn u) → IsWithinLimit P → IsConversion k (document_of r) (shows e)
+    list_made e u other made form axioms own count size members same few =
+        subst (λ v. IsConversion k (document_of r) (shows v)) (sym made) (converted u other (families.within_same P (IsMemberOf k (document_of r)) both few) (record {
+          form = subst IsInForm made form;
+          kind = own;
+          elements = count ∙ elements_of r c of;
+          axioms = subst MeetsAxioms made axioms;
+          same = λ X. (λ h. let x = (covector_in X).1 h in (same X x.size).0 x, λ q. (covector_in X).0 ((same X (size X q ∙ count)).1 q));
+          members = exactly_same P (IsMemberOf k (document_of r)) both u.body members;
+        }))
+
+  many_circuits_of : (why : ConvertError) (a : Answer) → has_kind kind.Circuits (document_of r).body ≡ false → IsCause (IsCircuitOfChirotope c) why → IsTooMany why a → IsConversion kind.Circuits (document_of r) a
+  many_circuits_of = many_made kind.Circuits (IsCircuitOfChirotope c) circuit_in
+
+  many_cocircuits_of : (why : ConvertError) (a : Answer) → has_kind kind.Cocircuits (document_of r).body ≡ false → IsCause (IsCocircuitOfChirotope c) why → IsTooMany why a → IsConversion kind.Cocircuits (document_of r) a
+  many_cocircuits_of = many_made kind.Cocircuits (IsCocircuitOfChirotope c) cocircuit_in
+
+  many_covectors_of : (why : ConvertError) (a : Answer) → has_kind kind.Covectors (document_of r).body ≡ false → IsCause (IsCovectorOfChirotope c) why → IsTooMany why a → IsConversion kind.Covectors (document_of r) a
+  many_covectors_of = many_made kind.Covectors (IsCovectorOfChirotope c) covector_in
+
+  pub circuits_made : (s : Listing) (e : Document) → has_kind kind.Circuits (document_of r).body ≡ false → e ≡ circuits_document s → IsInForm e → MeetsAxioms e → s.elements ≡ c.elements → AreAllOf (IsCircuitOfChirotope c) s.members → DenoteTheSame c.elements (IsCovectorOfChirotope c) (IsCovectorOfCircuits s) → IsWithinLimit (IsCircuitOfChirotope c) → IsConversion kind.Circuits (document_of r) (shows e)
+  circuits_made s e other made form axioms count members same few =
+      list_made kind.Circuits (IsCircuitOfChirotope c) circuit_in e (circuits_document s) other made form axioms refl count (λ X x. x.size) members same few
+
+  pub cocircuits_made : (s : Listing) (e : Document) → has_kind kind.Cocircuits (document_of r).body ≡ false → e ≡ cocircuits_document s → IsInForm e → MeetsAxioms e → s.elements ≡ c.elements → AreAllOf (IsCocircuitOfChirotope c) s.members → DenoteTheSame c.elements (IsCovectorOfChirotope c) (IsCovectorOfCocircuits s) → IsWithinLimit (IsCocircuitOfChirotope c) → IsConversion kind.Cocircuits (document_of r) (shows e)
+  cocircuits_made s e other made form axioms count members same few =
+      list_made kind.Cocircuits (IsCocircuitOfChirotope c) cocircuit_in e (cocircuits_document s) other made form axioms refl count (λ X x. x.size) members same few
+
+  pub covectors_made : (s : Listing) (e : Document) → has_kind kind.Covectors (document_of r).body ≡ false → e ≡ covectors_document s → IsInForm e → MeetsAxioms e → s.elements ≡ c.elements → AreAllOf (IsCovectorOfChirotope c) s.members → DenoteTheSame c.elements (IsCovectorOfChirotope c) (IsCovectorOfCovectors s) → IsWithinLimit (IsCovectorOfChirotope c) → IsConversion kind.Covectors (document_of r) (shows e)
+  covectors_made s e other made form axioms count members same few =
+      list_made kind.Covectors (IsCovectorOfChirotope c) covector_in e (covectors_document s) other made form axioms refl count (λ X x. x.size) members same few
+
+-- too many members
+
+pub many_circuits : (c : SignMap) → IsChirotope c → (why : ConvertError) (a : Answer) → IsCause (IsCircuitOfChirotope c) why → IsTooMany why a → IsConversionFrom kind.Circuits c a
+many_circuits c om why a cause many = λ r of other. many_circuits_of r c om of why a other cause many
+
+pub many_cocircuits : (c : SignMap) → IsChirotope c → (why : ConvertError) (a : Answer) → IsCause (IsCocircuitOfChirotope c) why → IsTooMany why a → IsConversionFrom kind.Cocircuits c a
+many_cocircuits c om why a cause many = λ r of other. many_cocircuits_of r c om of why a other cause many
+
+pub many_covectors : (c : SignMap) → IsChirotope c → (why : ConvertError) (a : Answer) → IsCause (IsCovectorOfChirotope c) why → IsTooMany why a → IsConversionFrom kind.Covectors c a
+many_covectors c om why a cause many = λ r of other. many_covectors_of r c om of why a other cause many
+
+pub from_chirotope : (k : Kind) (r : Representation) (c : SignMap) → IsChirotopeOf (document_of r) c → has_kind k (document_of r).body ≡ false → (a : Answer) → IsConversionFrom k c a → IsConversion k (document_of r) a
+from_chirotope k r c of other a from = from r of other
 
 -- ---- covectors as cocircuits
 
-pub minimal_converted : (c s : Listing) (e : Document) → e ≡ cocircuits_document s → IsInForm e → MeetsAxioms e → s.elements ≡ c.elements → DenoteTheSame c.elements (Contains c.members) (IsCovectorOfCocircuits s) → IsConversion kind.Cocircuits (covectors_document c) (shows e)
-minimal_converted c s e made form axioms count same =
-    subst (λ u. IsConversion kind.Cocircuits (covectors_document c) (shows u)) (sym made) (converted (cocircuits_document s) refl (λ more. more) (record {
-      form = subst IsInForm made form;
+pub minimal_made : (c s : Listing) (e : Document) → e ≡ cocircuits_document s → IsInForm e → MeetsAxioms e → s.elements ≡ c.elements → HaveLength c.elements c.members → AreThose (IsMinimal c.members) c.members s.members → DenoteTheSame c.elements (Contains c.members) (IsCovectorOfCocircuits s) → IsConversion kind.Cocircuits (covectors_document c) (shows e)
+minimal_made c s e made form axioms count lengths those same =
+    subst (λ u. IsConversion kind.Cocircuits (covectors_document c) (shows u)) (sym made) (converted (cocircuits_document s) refl (listed_within (IsMemberOf kind.Cocircuits (covectors_document c)) s.members members whole.body.few) (record {
+      form = whole;
       kind = refl;
       elements = count;
       axioms = subst MeetsAxioms made axioms;
-      same = λ x. (λ h. (same x h.size).0 h.member, λ q. record { size = q.size ∙ count; member = (same x (q.size ∙ count)).1 q });
-      members = tt;
-      own = λ h. no_two h;
+      same = λ X. (λ h. (same X h.size).0 h.member, λ q. record { size = q.size ∙ count; member = (same X (q.size ∙ count)).1 q });
+      members = members;
     }))
+  where
+    whole : IsInForm (cocircuits_document s)
+    whole = subst IsInForm made form
+
+    given : AreAllOf (IsCovectorOfCovectors c) c.members
+    given = record {
+      sound = λ X x. record { size = All-contains (λ Y. length Y ≡ c.elements) c.members X lengths x; member = x };
+      complete = λ X x. x.member;
+    }
+
+    members : AreAllOf (IsOfLeastSupport (IsCovectorOfCovectors c)) s.members
+    members = least_all (IsCovectorOfCovectors c) c.members given s.members those
+
+-- ---- a representation of one of some kinds
+
+module _ (Q : Representation → Type 0) (r : Representation) where
+  pub one_of_two : {A B : Type 0} (f : A → Representation) (g : B → Representation) → ((a : A) → Q (f a)) → ((b : B) → Q (g b)) → ((a : A) × (r ≡ f a)) ⊎ ((b : B) × (r ≡ g b)) → Q r
+  one_of_two f g p q (inl (a, is)) = subst Q (sym is) (p a)
+  one_of_two f g p q (inr (b, is)) = subst Q (sym is) (q b)
+
+  pub one_of_three : {A B C : Type 0} (f : A → Representation) (g : B → Representation) (h : C → Representation) → ((a : A) → Q (f a)) → ((b : B) → Q (g b)) → ((c : C) → Q (h c)) → ((a : A) × (r ≡ f a)) ⊎ (((b : B) × (r ≡ g b)) ⊎ ((c : C) × (r ≡ h c))) → Q r
+  one_of_three f g h p q s (inl (a, is)) = subst Q (sym is) (p a)
+  one_of_three f g h p q s (inr (inl (b, is))) = subst Q (sym is) (q b)
+  one_of_three f g h p q s (inr (inr (c, is))) = subst Q (sym is) (s c)

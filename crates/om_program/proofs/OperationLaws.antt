@@ -1,49 +1,89 @@
--- What an operation makes of a chirotope, as an answer.
+-- What an operation makes of an oriented matroid, as an answer.
 --
--- Main results: the chirotope that is made (made_meant); lists (lists_not_built); the arguments that words name (lawful_arguments).
-use Rattle.std.specs.Prelude.{ℕ, ◌≡◌, ◌<◌, ◌^◌, List, None, refl, ◌⊎◌}
-use Rattle.std.proofs.Common.{sym, subst, inl, inr}
-use Rattle.om_signs.specs.declared.limits.TheConstants.{MAX_ELEMENTS}
+-- Main results: what is made of a chirotope (chirotope_outcome); the dual of covectors (dual_outcome,
+-- dual_unmade); what is made, as an answer (made_meant), and too many members (limit_meant); the arguments that words name (lawful_arguments).
+use Rattle.std.specs.Prelude.{ℕ, ◌≡◌, ◌↔◌, ◌<◌, ◌^◌, List, None, Result, Ok, Err, refl}
+use Rattle.std.specs.Result.{IsErrAnd}
+use Rattle.std.specs.List.{Contains}
+use Rattle.std.proofs.Common.{sym, subst}
+use Rattle.om_signs.specs.declared.limits.TheConstants.{MAX_ELEMENTS, MAX_MEMBERS}
+use Rattle.om_signs.specs.declared.sign.Sign.{Sign}
 use Rattle.om_subsets.proofs.Masks.{mask_of-lt}
 use Rattle.om_chirotope.specs.Map.{SignMap}
 use Rattle.om_members.specs.Listings.{Listing}
-use Rattle.om_circuits.specs.declared.circuits.Circuits.{Circuits}
-use Rattle.om_circuits.specs.declared.cocircuits.Cocircuits.{Cocircuits}
-use Rattle.om_denotation.specs.Covectors.{IsCovectorOfChirotope}
+use Rattle.om_convert.specs.declared.convert_error.ConvertError.{ConvertError}
+use Rattle.om_convert.specs.declared.convert_error.ConvertError.TheVariants as convert
+use Rattle.om_convert.specs.Limits.{IsCause, IsWithinLimit}
+use Rattle.om_convert.proofs.SameFamilies as families
+use Rattle.om_denotation.specs.Covectors.{IsCovectorOfChirotope, IsCovectorOfCovectors}
+use Rattle.om_denotation.specs.Operations.{IsDual}
+use Rattle.om_denotation.specs.Vectors.{IsVectorOf}
 use Rattle.om_text.specs.declared.document.Document.{Document}
 use Rattle.om_text.specs.Form.{IsInForm}
 use Rattle.om_answer.specs.declared.line.Line.TheVariants as line
 use Rattle.om_program.specs.declared.operation.Operation.{Operation}
+use Rattle.om_program.specs.declared.operation.Operation.TheVariants as operation
 use Rattle.om_program.specs.declared.representation.Representation.{Representation}
 use Rattle.om_program.specs.declared.representation.Representation.TheVariants as representation
 use Rattle.om_program.specs.declared.task.Task.{Task}
+use Rattle.om_program.specs.declared.unmade.Unmade.{Unmade}
 use Rattle.om_program.specs.declared.task.Task.TheVariants as task
 use Rattle.om_program.specs.Axioms.{MeetsAxioms}
-use Rattle.om_program.specs.Documents.{map_document, document_of}
-use Rattle.om_program.specs.Operations.{IsOperation, IsMapMade, TakesOnly, named_elements, first_above, not_built, made}
+use Rattle.om_program.specs.Documents.{map_document, covectors_document, document_of}
+use Rattle.om_program.specs.Operations.{IsOperation, IsMapMade, IsOutcome, HasTooManyMade, TakesOnly, named_elements, first_above, of_conversion, limited, made}
 use Rattle.om_program.specs.Words.{Names, AreArguments}
+use Rattle.om_program.proofs.DecisionLaws.{lawful_budgets}
 use Rattle.om_program.specs.Answers.{says, shows}
 use Rattle.om_program.specs.Tasks.{HasLawfulArguments}
 
-pub made_meant : (o : Operation) (c m : SignMap) (e : Document) → None ≡ first_above c.elements (named_elements o) → (TakesOnly o c.elements → ⊥) → IsMapMade o c.elements (IsCovectorOfChirotope c) m → e ≡ map_document m → IsInForm e → MeetsAxioms e → IsOperation o (map_document c) (shows e)
-made_meant o c m e none left whole same form axioms =
-    subst (λ u. IsOperation o (map_document c) (shows u)) (sym same)
-    (made (map_document m) refl (sym none) left (record { form = subst IsInForm same form; axioms = subst MeetsAxioms same axioms; body = whole }))
+-- ---- a chirotope
 
--- a list of sign vectors
-abbrev pub IsList : Representation → Type 0
-IsList r = ((s : Circuits) × (r ≡ representation.Circuits s)) ⊎ (((s : Cocircuits) × (r ≡ representation.Cocircuits s)) ⊎ ((s : Listing) × (r ≡ representation.Covectors s)))
+pub chirotope_outcome : (o : Operation) (c m : SignMap) → (TakesOnly o c.elements → ⊥) → IsMapMade o c.elements (IsCovectorOfChirotope c) m → IsOutcome o (map_document c) (Ok (representation.Chirotope m))
+chirotope_outcome o c m left is = (left, (λ none. none, record { elements = is.elements; kind = refl; normal = is.normal; covectors = is.covectors }))
 
-pub no_list : (c : SignMap) → IsList (representation.Chirotope c) → ⊥
-no_list c (inl (s, same)) = cc
-no_list c (inr (inl (s, same))) = cc
-no_list c (inr (inr (s, same))) = cc
+-- ---- the dual of covectors
 
-pub lists_not_built : (o : Operation) (r : Representation) → IsList r → IsOperation o (document_of r) (says line.RefusedUnbuilt)
-lists_not_built o (representation.Chirotope c) list = absurd (no_list c list)
-lists_not_built o (representation.Circuits s) list = not_built refl
-lists_not_built o (representation.Cocircuits s) list = not_built refl
-lists_not_built o (representation.Covectors s) list = not_built refl
+module _ (c : Listing) where
+  vectors_both : (X : List Sign) → IsVectorOf c.elements (Contains c.members) X ↔ IsVectorOf c.elements (IsCovectorOfCovectors c) X
+  vectors_both X = (
+    λ v. (v.0, λ Y size y. v.1 Y size y.member),
+    λ v. (v.0, λ Y size y. v.1 Y size (record { size = size; member = y })),
+  )
+
+  pub dual_outcome : (d : Listing) → d.elements ≡ c.elements → IsDual c.elements (Contains c.members) (IsCovectorOfCovectors d) → IsWithinLimit (IsVectorOf c.elements (Contains c.members)) → IsOutcome operation.Dual (covectors_document c) (Ok (representation.Covectors d))
+  dual_outcome d count dual few = (
+    λ none. none,
+    (
+      families.within_same (IsVectorOf c.elements (Contains c.members)) (IsVectorOf c.elements (IsCovectorOfCovectors c)) vectors_both few,
+      record {
+        elements = count;
+        kind = refl;
+        normal = tt;
+        covectors = λ Y size. (
+          λ q X long x. (dual Y size).0 q X long x.member,
+          λ all. (dual Y size).1 (λ X long x. all X long (record { size = long; member = x })),
+        );
+      },
+    ),
+  )
+
+  dual_refused : (why : ConvertError) → IsCause (IsVectorOf c.elements (Contains c.members)) why → IsOutcome operation.Dual (covectors_document c) (Err (of_conversion why))
+  dual_refused (convert.TooMany limit) cause = families.cause_same (IsVectorOf c.elements (Contains c.members)) (IsVectorOf c.elements (IsCovectorOfCovectors c)) vectors_both (convert.TooMany limit) cause
+  dual_refused convert.Memory cause = tt
+
+  pub dual_unmade : (r : Result Representation Unmade) (why : ConvertError) → IsErrAnd r (λ e. e ≡ of_conversion why) → IsCause (IsVectorOf c.elements (Contains c.members)) why → IsOutcome operation.Dual (covectors_document c) r
+  dual_unmade (Ok m) why is cause = absurd is
+  dual_unmade (Err e) why is cause = subst (λ u. IsOutcome operation.Dual (covectors_document c) (Err u)) (sym is) (dual_refused why cause)
+
+-- ---- the answer
+
+pub made_meant : (o : Operation) (r m : Representation) (e : Document) → None ≡ first_above (document_of r).elements (named_elements o) → IsOutcome o (document_of r) (Ok m) → e ≡ document_of m → IsInForm e → MeetsAxioms e → IsOperation o (document_of r) (shows e)
+made_meant o r m e none (left, (few, image)) same form axioms =
+    subst (λ u. IsOperation o (document_of r) (shows u)) (sym same)
+    (made (document_of m) (sym none) left few (record { form = subst IsInForm same form; axioms = subst MeetsAxioms same axioms; image = image }))
+
+pub limit_meant : (o : Operation) (d : Document) (limit : ℕ) → None ≡ first_above d.elements (named_elements o) → (limit ≡ MAX_MEMBERS) × HasTooManyMade o d → IsOperation o d (says (line.LimitMembers limit))
+limit_meant o d limit none (is, many) = subst (λ k. IsOperation o d (says (line.LimitMembers k))) (sym is) (limited (sym none) many)
 
 pub lawful_arguments : (words : List (List ℕ)) (t : Task) → Names words t → HasLawfulArguments t
 lawful_arguments words t named = lawful t named.arguments named.behind
@@ -56,4 +96,8 @@ lawful_arguments words t named = lawful t named.arguments named.behind
     lawful (task.Delete e) rest (word, (is, element)) = (element.low, element.high)
     lawful (task.Contract e) rest (word, (is, element)) = (element.low, element.high)
     lawful (task.Reorient mask) rest all = subst (λ u. u < 2 ^ MAX_ELEMENTS) (sym all.value) (mask_of-lt 1 MAX_ELEMENTS all.elements)
+    lawful task.Wiring rest behind = tt
+    lawful task.Mutations rest behind = tt
+    lawful (task.Flip a b c) rest t = record { low = t.low; first = t.first; second = t.second; high = t.high }
+    lawful (task.Decide b) rest behind = lawful_budgets rest b behind
     lawful task.Check rest behind = tt

@@ -31,14 +31,17 @@ use Rattle.om_program.specs.declared.operation.Operation.TheVariants as operatio
 use Rattle.om_program.specs.declared.status.Status.{Status}
 use Rattle.om_program.specs.declared.status.Status.TheVariants as status
 use Rattle.om_program.specs.declared.task.Task.{Task}
-use Rattle.om_program.specs.declared.task.Task.TheVariants.{Accept, Member, Convert, Dual, Delete, Contract, Reorient, Check}
+use Rattle.om_program.specs.declared.task.Task.TheVariants.{Accept, Member, Convert, Dual, Delete, Contract, Reorient, Wiring, Mutations, Flip, Decide, Check}
 use Rattle.om_program.specs.Statuses.{IsAnswered, IsReplied}
 use Rattle.om_program.specs.Answers.{IsReply, status_of, status_of_line}
 use Rattle.om_program.specs.Axioms.{IsRefusedOn, set_line, map_line, cov_line, wiring_line}
 use Rattle.om_program.specs.Memberships.{IsMembership, wrong_length, covector, not_covector}
-use Rattle.om_program.specs.Conversions.{IsConversion, converted, limited, unbuilt}
-use Rattle.om_program.specs.Operations.{IsOperation, not_built, outside, last, made}
+use Rattle.om_program.specs.Conversions.{IsConversion, itself, limited, converted}
+use Rattle.om_program.specs.Operations.{IsOperation, outside, last, made}
+use Rattle.om_program.specs.Operations as operations
+use Rattle.om_program.proofs.RankThreeLaws.{wiring_replies, mutations_replies, flip_replies}
 use Rattle.om_program.specs.Claims as claims
+use Rattle.om_program.proofs.DecisionLaws.{verdict_status, decision_replies}
 use Rattle.om_program.specs.Meaning.{IsAnswerOf, DocumentMeans, flat_line, refused, flat, answered, TaskMeans, long, faulty, read, faulty_claim, claimed}
 
 -- ---- statuses
@@ -46,6 +49,8 @@ use Rattle.om_program.specs.Meaning.{IsAnswerOf, DocumentMeans, flat_line, refus
 pub reply_status : (a : Answer) → IsReply a → IsReplied (status_of a)
 reply_status (answer.Line l) reply = reply
 reply_status (answer.Document d) reply = tt
+reply_status (answer.Mutations sets) reply = tt
+reply_status (answer.Verdict m v) reply = verdict_status v
 
 pub replied_answered : (s : Status) → IsReplied s → IsAnswered s
 replied_answered status.Done replied = tt
@@ -101,15 +106,15 @@ membership_replies n P x a (covector size is) = tt
 membership_replies n P x a (not_covector size is) = tt
 
 conversion_replies : (k : Kind) (d : Document) (a : Answer) → IsConversion k d a → IsReply a
-conversion_replies k d a (converted e built few is) = is.form
-conversion_replies k d a (limited built many) = tt
-conversion_replies k d a (unbuilt not) = tt
+conversion_replies k d a (itself own form) = form
+conversion_replies k d a (limited other many) = tt
+conversion_replies k d a (converted e other few is) = is.form
 
 operation_replies : (o : Operation) (d : Document) (a : Answer) → IsOperation o d a → IsReply a
-operation_replies o d a (not_built not) = tt
-operation_replies o d a (outside e built above) = tt
-operation_replies o d a (last built within takes) = tt
-operation_replies o d a (made e built within left is) = is.form
+operation_replies o d a (outside e above) = tt
+operation_replies o d a (last within takes) = tt
+operation_replies o d a (operations.limited within many) = tt
+operation_replies o d a (made e within left few is) = is.form
 
 certificate_replies : (why : CertRefused) → IsReplied (status_of_line (claims.refusal_line why))
 certificate_replies (cert.NotRank3 r) = tt
@@ -135,14 +140,10 @@ verdict_replies m v l (claims.other_rank other) = tt
 verdict_replies m v l (claims.limited end unfound three is) = tt
 verdict_replies m v l (claims.judged e k three is means) = evidence_replies m e l means
 
-judged_replies : (d : Document) (v : Verdict) (l : Line) → claims.IsJudged d v l → IsReplied (status_of_line l)
-judged_replies d v l (claims.not_built not) = tt
-judged_replies d v l (claims.verified m k is means) = verdict_replies m v l means
-
 claim_replies : (c : Claim) (l : Line) → claims.ClaimMeans c l → IsReplied (status_of_line l)
 claim_replies c l (claims.fails_axioms why is) = refused_replies c.document.elements c.document.body l is
 claim_replies c l (claims.flat axioms is) = tt
-claim_replies c l (claims.judged_on k axioms bent is) = judged_replies _ c.verdict l is
+claim_replies c l (claims.verified m k axioms bent is means) = verdict_replies m c.verdict l means
 
 -- ---- the answers of tasks: one line for each
 
@@ -154,6 +155,10 @@ task_answer_replies Dual d a is = operation_replies operation.Dual d a is
 task_answer_replies (Delete e) d a is = operation_replies (operation.Delete e) d a is
 task_answer_replies (Contract e) d a is = operation_replies (operation.Contract e) d a is
 task_answer_replies (Reorient mask) d a is = operation_replies (operation.Reorient mask) d a is
+task_answer_replies Wiring d a is = wiring_replies d a is
+task_answer_replies Mutations d a is = mutations_replies d a is
+task_answer_replies (Flip x y z) d a is = flip_replies x y z d a is
+task_answer_replies (Decide b) d a is = decision_replies b d a is
 task_answer_replies Check d a is = absurd is
 
 flat_replies : (t : Task) → IsReplied (status_of_line (flat_line t))

@@ -19,7 +19,11 @@ verb_of_word word =
     cond (bytes_eq word (codes "delete")) verb.Delete (
     cond (bytes_eq word (codes "contract")) verb.Contract (
     cond (bytes_eq word (codes "reorient")) verb.Reorient (
-    verb.Check)))))))
+    cond (bytes_eq word (codes "wiring")) verb.Wiring (
+    cond (bytes_eq word (codes "mutations")) verb.Mutations (
+    cond (bytes_eq word (codes "flip")) verb.Flip (
+    cond (bytes_eq word (codes "decide")) verb.Decide (
+    verb.Check)))))))))))
 
 word_back : (v : Verb) → verb_of_word (verb_word v) ≡ v
 word_back verb.Accept = refl
@@ -29,6 +33,10 @@ word_back verb.Dual = refl
 word_back verb.Delete = refl
 word_back verb.Contract = refl
 word_back verb.Reorient = refl
+word_back verb.Wiring = refl
+word_back verb.Mutations = refl
+word_back verb.Flip = refl
+word_back verb.Decide = refl
 word_back verb.Check = refl
 
 pub same_verb : (u v : Verb) → verb_word u ≡ verb_word v → u ≡ v
@@ -43,7 +51,11 @@ place_of verb.Dual = 3
 place_of verb.Delete = 4
 place_of verb.Contract = 5
 place_of verb.Reorient = 6
-place_of verb.Check = 7
+place_of verb.Wiring = 7
+place_of verb.Mutations = 8
+place_of verb.Flip = 9
+place_of verb.Decide = 10
+place_of verb.Check = 11
 
 pub verb_at : (u v : Verb) → get_or VERBS (place_of v) u ≡ v
 verb_at u verb.Accept = refl
@@ -53,6 +65,10 @@ verb_at u verb.Dual = refl
 verb_at u verb.Delete = refl
 verb_at u verb.Contract = refl
 verb_at u verb.Reorient = refl
+verb_at u verb.Wiring = refl
+verb_at u verb.Mutations = refl
+verb_at u verb.Flip = refl
+verb_at u verb.Decide = refl
 verb_at u verb.Check = refl
 
 pub place_within : (v : Verb) → place_of v < length VERBS
@@ -63,4 +79,8 @@ place_within verb.Dual = lit≤ tt
 place_within verb.Delete = lit≤ tt
 place_within verb.Contract = lit≤ tt
 place_within verb.Reorient = lit≤ tt
+place_within verb.Wiring = lit≤ tt
+place_within verb.Mutations = lit≤ tt
+place_within verb.Flip = lit≤ tt
+place_within verb.Decide = lit≤ tt
 place_within verb.Check = lit≤ tt

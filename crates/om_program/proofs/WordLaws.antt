@@ -8,12 +8,15 @@ use Rattle.std.proofs.Math.Seq.{take-length}
 use Rattle.om_signs.specs.declared.sign.Sign.{Sign}
 use Rattle.om_answer.specs.declared.kind.Kind.{Kind}
 use Rattle.om_answer.specs.declared.kind.Kind.TheVariants as kind
+use Rattle.om_decide.specs.declared.budgets.Budgets.{Budgets}
+use Rattle.om_program.specs.Options.{AreBudgets}
 use Rattle.om_program.specs.declared.task.Task.{Task}
-use Rattle.om_program.specs.declared.task.Task.TheVariants.{Accept, Member, Convert, Dual, Delete, Contract, Reorient, Check}
+use Rattle.om_program.specs.declared.task.Task.TheVariants.{Accept, Member, Convert, Dual, Delete, Contract, Reorient, Wiring, Mutations, Flip, Decide, Check}
 use Rattle.om_program.specs.declared.usage.Usage.{Usage}
 use Rattle.om_program.specs.declared.verb.Verb.{Verb}
 use Rattle.om_program.specs.declared.verb.Verb.TheVariants as verb
 use Rattle.om_program.proofs.VerbLaws.{same_verb}
+use Rattle.om_program.specs.Triples.{AreTriple}
 use Rattle.om_program.specs.Words.{Names, AreNamed, Spells, NamesKind, IsElement, AreElements, AreNone, IsAlone, AreArguments, kind_word, verb_word, verb_of, AreCommand, Begins, IsFault, IsUsage, at_word, at_end, HasValue, IsRead}
 
 abbrev pub tail_of : List (List ℕ) → List (List ℕ)
@@ -169,6 +172,10 @@ Value verb.Dual = Unit {0}
 Value verb.Delete = ℕ
 Value verb.Contract = ℕ
 Value verb.Reorient = ℕ
+Value verb.Wiring = Unit {0}
+Value verb.Mutations = Unit {0}
+Value verb.Flip = ℕ × ℕ × ℕ
+Value verb.Decide = Budgets
 Value verb.Check = Unit {0}
 
 abbrev value_of : (task : Task) → Value (verb_of task)
@@ -179,6 +186,10 @@ value_of Dual = tt
 value_of (Delete e) = e
 value_of (Contract e) = e
 value_of (Reorient mask) = mask
+value_of Wiring = tt
+value_of Mutations = tt
+value_of (Flip a b c) = (a, b, c)
+value_of (Decide b) = b
 value_of Check = tt
 
 abbrev task_of : (v : Verb) → Value v → Task
@@ -189,6 +200,10 @@ task_of verb.Dual _ = Dual
 task_of verb.Delete e = Delete e
 task_of verb.Contract e = Contract e
 task_of verb.Reorient mask = Reorient mask
+task_of verb.Wiring _ = Wiring
+task_of verb.Mutations _ = Mutations
+task_of verb.Flip t = Flip t.0 t.1 t.2
+task_of verb.Decide b = Decide b
 task_of verb.Check _ = Check
 
 task_back : (task : Task) → task ≡ task_of (verb_of task) (value_of task)
@@ -199,6 +214,10 @@ task_back Dual = refl
 task_back (Delete e) = refl
 task_back (Contract e) = refl
 task_back (Reorient mask) = refl
+task_back Wiring = refl
+task_back Mutations = refl
+task_back (Flip a b c) = refl
+task_back (Decide b) = refl
 task_back Check = refl
 
 only : (v : Verb) (task : Task) → verb_of task ≡ v → (a : Value v) × (task ≡ task_of v a)
@@ -224,6 +243,18 @@ contract_shape = record { verb = λ a. refl; arguments = λ a words. (λ h. h, �
 
 pub reorient_shape : IsShape verb.Reorient AreElements Reorient
 reorient_shape = record { verb = λ a. refl; arguments = λ a words. (λ h. h, λ h. h); only = only verb.Reorient }
+
+pub wiring_shape : IsShape verb.Wiring AreNone (λ _. Wiring)
+wiring_shape = record { verb = λ a. refl; arguments = λ a words. (λ h. h, λ h. h); only = only verb.Wiring }
+
+pub mutations_shape : IsShape verb.Mutations AreNone (λ _. Mutations)
+mutations_shape = record { verb = λ a. refl; arguments = λ a words. (λ h. h, λ h. h); only = only verb.Mutations }
+
+pub flip_shape : IsShape verb.Flip AreTriple (λ t. Flip t.0 t.1 t.2)
+flip_shape = record { verb = λ a. refl; arguments = λ a words. (λ h. h, λ h. h); only = only verb.Flip }
+
+pub decide_shape : IsShape verb.Decide AreBudgets Decide
+decide_shape = record { verb = λ a. refl; arguments = λ a words. (λ h. h, λ h. h); only = only verb.Decide }
 
 pub check_shape : IsShape verb.Check AreNone (λ _. Check)
 check_shape = record { verb = λ a. refl; arguments = λ a words. (λ h. h, λ h. h); only = only verb.Check }

@@ -1,16 +1,23 @@
 -- Answers: how a run ends that has written one whole, and its text.
 use Rattle.std.specs.Prelude.{ℕ, List}
+use Rattle.om_chirotope.specs.Map.{SignMap}
+use Rattle.om_certificate.specs.declared.verdict.Verdict.{Verdict}
+use Rattle.om_certificate.specs.declared.verdict.Verdict.TheVariants as verdict
+use Rattle.om_certificate.specs.Forms.{IsVerdictInForm}
 use Rattle.om_text.specs.declared.document.Document.{Document}
 use Rattle.om_text.specs.Form.{IsInForm}
 use Rattle.om_text.specs.Print.{printed}
 use Rattle.om_answer.specs.declared.line.Line.{Line}
 use Rattle.om_answer.specs.declared.line.Line.TheVariants as line
 use Rattle.om_answer.specs.Texts.{line_text}
+use Rattle.om_subsets.specs.Members.{Chosen}
+use Rattle.om_answer.specs.VerdictText.{verdict_text}
 use Rattle.om_program.specs.declared.answer.Answer.{Answer}
 use Rattle.om_program.specs.declared.answer.Answer.TheVariants as answer
 use Rattle.om_program.specs.declared.status.Status.{Status}
 use Rattle.om_program.specs.declared.status.Status.TheVariants.{Done, Refused, Usage, Limit}
 use Rattle.om_program.specs.Statuses.{IsReplied}
+use Rattle.om_program.specs.MutationTexts.{mutations_text}
 
 -- an answer of one line
 abbrev pub says : Line → Answer
@@ -19,6 +26,14 @@ says l = answer.Line l
 -- an answer that is a document
 abbrev pub shows : Document → Answer
 shows d = answer.Document d
+
+-- an answer that lists mutations
+abbrev pub lists : List Chosen → Answer
+lists sets = answer.Mutations sets
+
+-- an answer that is a verdict on a chirotope
+abbrev pub judges : SignMap → Verdict → Answer
+judges m v = answer.Verdict m v
 
 -- how a run ends that has written this line; each line but these is a refusal
 abbrev pub status_of_line : Line → Status
@@ -36,17 +51,28 @@ status_of_line (line.LimitMembers k) = Limit
 status_of_line (line.LimitValues k) = Limit
 status_of_line _ = Refused
 
+-- how a run ends that has written this verdict
+abbrev pub status_of_verdict : Verdict → Status
+status_of_verdict (verdict.Limit end unfound) = Limit
+status_of_verdict _ = Done
+
 -- how a run ends that has written this answer
 abbrev pub status_of : Answer → Status
 status_of (answer.Line l) = status_of_line l
 status_of (answer.Document d) = Done
+status_of (answer.Mutations sets) = Done
+status_of (answer.Verdict m v) = status_of_verdict v
 
--- the bytes of an answer; a document is written in canonical form
+-- the bytes of an answer; a document is written in canonical form, and a verdict behind the document of its chirotope
 abbrev pub text_of : Answer → List ℕ
 text_of (answer.Line l) = line_text l
 text_of (answer.Document d) = printed d
+text_of (answer.Mutations sets) = mutations_text sets
+text_of (answer.Verdict m v) = verdict_text m v
 
 -- an answer to a command: a line that isn't a usage, or what has the forms in which it is written
 abbrev pub IsReply : Answer → Type 0
 IsReply (answer.Line l) = IsReplied (status_of_line l)
 IsReply (answer.Document d) = IsInForm d
+IsReply (answer.Mutations sets) = Unit {0}
+IsReply (answer.Verdict m v) = IsVerdictInForm v

@@ -1,20 +1,28 @@
--- The chirotope of a document on which the commands of rank 3 work.
-use Rattle.std.specs.Prelude.{◌≡◌, Bool, true, false}
-use Rattle.om_chirotope.specs.Map.{SignMap, map_of}
+-- The chirotope on which the commands of rank 3 work.
+use Rattle.std.specs.Prelude.{◌≡◌}
+use Rattle.om_signs.specs.declared.sign.Sign.TheVariants.{Plus}
+use Rattle.om_chirotope.specs.Chirotope.{IsChirotope}
+use Rattle.om_chirotope.specs.Map.{SignMap, map_of, IsLedBy}
+use Rattle.om_denotation.specs.Covectors.{IsCovectorOfChirotope}
+use Rattle.om_denotation.specs.Denotation.{DenoteTheSame}
 use Rattle.om_text.specs.declared.document.Document.{Document}
 use Rattle.om_text.specs.declared.body.Body.{Body}
 use Rattle.om_text.specs.declared.body.Body.TheVariants as body
+use Rattle.om_program.specs.Covectors.{IsCovectorIn}
 
--- whether the commands on chirotopes are built for a body: they are for chirotopes
-abbrev pub is_operable : Body → Bool
-is_operable (body.Chirotope m) = true
-is_operable _ = false
+-- the normal chirotope of what a document denotes: it has the same elements and the same covectors, and its first sign that isn't zero
+-- is plus
+pub record IsNormalChirotopeOf (d : Document) (c : SignMap) : Type 0 where
+  pub axioms : IsChirotope c
+  pub elements : c.elements ≡ d.elements
+  pub same : DenoteTheSame d.elements (IsCovectorIn d) (IsCovectorOfChirotope c)
+  pub normal : IsLedBy Plus c.signs
 
--- the given map; from a list of sign vectors it isn't made yet
-abbrev pub IsChirotopeOfBody : Body → SignMap → Type 0
-IsChirotopeOfBody (body.Chirotope m) c = c ≡ map_of m
-IsChirotopeOfBody _ c = ⊥
+-- the given map, and the normal chirotope of a list
+abbrev pub IsChirotopeWith : Body → Document → SignMap → Type 0
+IsChirotopeWith (body.Chirotope m) d c = c ≡ map_of m
+IsChirotopeWith _ d c = IsNormalChirotopeOf d c
 
--- the map is the chirotope of the document
+-- the map is the chirotope of the document of a chirotope or of a list
 abbrev pub IsChirotopeOf : Document → SignMap → Type 0
-IsChirotopeOf d c = IsChirotopeOfBody d.body c
+IsChirotopeOf d c = IsChirotopeWith d.body d c

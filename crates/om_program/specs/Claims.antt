@@ -1,5 +1,5 @@
 -- What a claim means: whether its verdict has proof for the chirotope of its document. The answer is one line.
-use Rattle.std.specs.Prelude.{◌≡◌, ◌≢◌, false, Ok}
+use Rattle.std.specs.Prelude.{◌≡◌, ◌≢◌, Ok}
 use Rattle.om_chirotope.specs.Map.{SignMap}
 use Rattle.om_certificate.specs.declared.evidence.Evidence.{Evidence}
 use Rattle.om_certificate.specs.declared.evidence.Evidence.TheVariants as evidence
@@ -12,11 +12,10 @@ use Rattle.om_certificate.specs.Verdicts.{certificate_of}
 use Rattle.om_certificate.specs.Validity.{IsValid, Shows}
 use Rattle.om_certificate.specs.Refusals.{IsRefusal}
 use Rattle.om_vectors.specs.declared.unfound.Unfound.{Unfound}
-use Rattle.om_text.specs.declared.document.Document.{Document}
 use Rattle.om_answer.specs.declared.claim.Claim.{Claim}
 use Rattle.om_answer.specs.declared.line.Line.{Line}
 use Rattle.om_answer.specs.declared.line.Line.TheVariants as line
-use Rattle.om_program.specs.Chirotopes.{IsChirotopeOf, is_operable}
+use Rattle.om_program.specs.Chirotopes.{IsChirotopeOf}
 use Rattle.om_program.specs.Axioms.{MeetsAxioms, IsRefused, IsFlatDocument}
 use Rattle.om_program.specs.Documents.{worked_on}
 
@@ -54,18 +53,11 @@ pub data VerdictMeans (m : SignMap) (v : Verdict) : Line → Type 0 where
   -- every other verdict has evidence
   judged : (e : Evidence) (l : Line) → m.rank ≡ 3 → certificate_of v ≡ Ok e → EvidenceMeans m e l → VerdictMeans m v l
 
--- what a verdict means for the oriented matroid of the document of a chirotope or of a list
-pub data IsJudged (d : Document) (v : Verdict) : Line → Type 0 where
-  -- verdicts on lists aren't built yet
-  not_built : is_operable d.body ≡ false → IsJudged d v line.RefusedUnbuilt
-  -- the verdict is of this chirotope
-  verified : (m : SignMap) (l : Line) → IsChirotopeOf d m → VerdictMeans m v l → IsJudged d v l
-
 -- what a claim means
 pub data ClaimMeans (c : Claim) : Line → Type 0 where
   -- its document fails the axioms of its kind, and this line names the first violated instance
   fails_axioms : (why : Line) → IsRefused c.document why → ClaimMeans c why
   -- it meets them, and is a wiring that gives no chirotope
   flat : MeetsAxioms c.document → IsFlatDocument c.document → ClaimMeans c line.RefusedFlatrank
-  -- it meets them and gives an oriented matroid, and the verdict is of this
-  judged_on : (l : Line) → MeetsAxioms c.document → (IsFlatDocument c.document → ⊥) → IsJudged (worked_on c.document) c.verdict l → ClaimMeans c l
+  -- it meets them and gives an oriented matroid, and the verdict is of its chirotope
+  verified : (m : SignMap) (l : Line) → MeetsAxioms c.document → (IsFlatDocument c.document → ⊥) → IsChirotopeOf (worked_on c.document) m → VerdictMeans m c.verdict l → ClaimMeans c l

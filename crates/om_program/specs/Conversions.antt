@@ -1,11 +1,12 @@
 -- Documents of one kind as documents of another.
-use Rattle.std.specs.Prelude.{◌≡◌, ◌↔◌, List, Bool, true, false}
+use Rattle.std.specs.Prelude.{ℕ, ◌≡◌, ◌↔◌, List, Bool, true, false}
 use Rattle.om_signs.specs.declared.limits.TheConstants.{MAX_MEMBERS}
 use Rattle.om_signs.specs.declared.sign.Sign.{Sign}
-use Rattle.om_chirotope.specs.Map.{SignMap, map_of}
-use Rattle.om_denotation.specs.Circuits.{IsCircuitOfChirotope, IsCocircuitOfChirotope}
-use Rattle.om_denotation.specs.Covectors.{IsCovectorOfChirotope}
+use Rattle.om_signs.specs.declared.sign.Sign.TheVariants.{Plus}
+use Rattle.om_chirotope.specs.Map.{SignMap, map_of, IsLedBy}
+use Rattle.om_denotation.specs.Compositions.{IsOfLeastSupport}
 use Rattle.om_denotation.specs.Listings.{AreAllOf, HasMoreThan}
+use Rattle.om_denotation.specs.Vectors.{IsVectorOf}
 use Rattle.om_convert.specs.declared.convert_error.ConvertError.{ConvertError}
 use Rattle.om_convert.specs.declared.convert_error.ConvertError.TheVariants as convert
 use Rattle.om_text.specs.declared.document.Document.{Document}
@@ -16,9 +17,13 @@ use Rattle.om_answer.specs.declared.kind.Kind.{Kind}
 use Rattle.om_answer.specs.declared.kind.Kind.TheVariants as kind
 use Rattle.om_answer.specs.declared.line.Line.TheVariants as line
 use Rattle.om_program.specs.declared.answer.Answer.{Answer}
+use Rattle.om_program.specs.declared.representation.Representation.{Representation}
 use Rattle.om_program.specs.Answers.{says, shows}
 use Rattle.om_program.specs.Axioms.{MeetsAxioms}
+use Rattle.om_program.specs.Chirotopes.{IsChirotopeOf}
 use Rattle.om_program.specs.Covectors.{IsCovectorIn}
+use Rattle.om_program.specs.Documents.{document_of}
+use Rattle.om_program.specs.Represented.{IsMeantFor}
 
 -- whether a body is of a kind
 abbrev pub has_kind : Kind → Body → Bool
@@ -28,54 +33,52 @@ has_kind kind.Cocircuits (body.Cocircuits members) = true
 has_kind kind.Covectors (body.Covectors members) = true
 has_kind _ _ = false
 
--- whether the conversion of a body to a kind is built: a chirotope to every kind, covectors to cocircuits, and each kind to itself
-abbrev pub is_built : Kind → Body → Bool
-is_built k (body.Chirotope m) = true
-is_built kind.Cocircuits (body.Covectors members) = true
-is_built k b = has_kind k b
+-- the members of a list of a kind that covectors P on n elements give: circuits are the vectors of least support, and cocircuits the covectors of
+-- least support
+abbrev pub IsMemberAs : Kind → ℕ → (List Sign → Type 0) → List Sign → Type 0
+IsMemberAs kind.Circuits n P = IsOfLeastSupport (IsVectorOf n P)
+IsMemberAs kind.Cocircuits n P = IsOfLeastSupport P
+IsMemberAs kind.Covectors n P = P
+IsMemberAs kind.Chirotope n P = λ x. ⊥
 
--- the sign vectors that a map gives as members of a list of a kind
-abbrev pub IsMemberAs : Kind → SignMap → List Sign → Type 0
-IsMemberAs kind.Circuits m = IsCircuitOfChirotope m
-IsMemberAs kind.Cocircuits m = IsCocircuitOfChirotope m
-IsMemberAs kind.Covectors m = IsCovectorOfChirotope m
-IsMemberAs kind.Chirotope m = λ x. ⊥
+-- the members of a list of a kind that a document gives
+abbrev pub IsMemberOf : Kind → Document → List Sign → Type 0
+IsMemberOf k d = IsMemberAs k d.elements (IsCovectorIn d)
 
--- a map gives more members of a kind than a list may have
-abbrev pub HasTooMany : Kind → Body → Type 0
-HasTooMany k (body.Chirotope m) = HasMoreThan MAX_MEMBERS (IsMemberAs k (map_of m))
-HasTooMany k _ = ⊥
+-- it gives more of them than a list may have
+abbrev pub HasTooMany : Kind → Document → Type 0
+HasTooMany k d = HasMoreThan MAX_MEMBERS (IsMemberOf k d)
 
--- a list has exactly the members of its kind that a map gives
-abbrev pub HasMembersOfMap : SignMap → Body → Type 0
-HasMembersOfMap m (body.Circuits members) = AreAllOf (IsMemberAs kind.Circuits m) members
-HasMembersOfMap m (body.Cocircuits members) = AreAllOf (IsMemberAs kind.Cocircuits m) members
-HasMembersOfMap m (body.Covectors members) = AreAllOf (IsMemberAs kind.Covectors m) members
-HasMembersOfMap m _ = Unit {0}
+-- a list has exactly these members; of a map, the first sign that isn't zero is plus
+abbrev pub HasExactly : (List Sign → Type 0) → Body → Type 0
+HasExactly P (body.Chirotope m) = IsLedBy Plus (map_of m).signs
+HasExactly P (body.Circuits members) = AreAllOf P members
+HasExactly P (body.Cocircuits members) = AreAllOf P members
+HasExactly P (body.Covectors members) = AreAllOf P members
+HasExactly P _ = Unit {0}
 
--- the second body has exactly the members of its kind that the first one gives, where that is a map
-abbrev pub HasMembersOf : Body → Body → Type 0
-HasMembersOf (body.Chirotope m) b = HasMembersOfMap (map_of m) b
-HasMembersOf _ _ = Unit {0}
-
--- e is d as a document of a kind: it meets the axioms of this kind and denotes the same; a document of the kind is itself
+-- e is d as a document of another kind: it meets the axioms of this kind and denotes the same. A list has exactly the members that d gives, and a
+-- chirotope is the normal one
 pub record IsConverted (k : Kind) (d e : Document) : Type 0 where
   pub form : IsInForm e
   pub kind : has_kind k e.body ≡ true
   pub elements : e.elements ≡ d.elements
   pub axioms : MeetsAxioms e
   pub same : (x : List Sign) → IsCovectorIn d x ↔ IsCovectorIn e x
-  pub members : HasMembersOf d.body e.body
-  pub own : has_kind k d.body ≡ true → e ≡ d
+  pub members : HasExactly (IsMemberOf k d) e.body
 
 -- a document as one of a kind
 pub data IsConversion (k : Kind) (d : Document) : Answer → Type 0 where
+  -- a document of the kind is itself
+  itself : has_kind k d.body ≡ true → IsInForm d → IsConversion k d (shows d)
+  -- the list would have more members than it may have
+  limited : has_kind k d.body ≡ false → HasTooMany k d → IsConversion k d (says (line.LimitMembers MAX_MEMBERS))
   -- the converted document
-  converted : (e : Document) → is_built k d.body ≡ true → (HasTooMany k d.body → ⊥) → IsConverted k d e → IsConversion k d (shows e)
-  -- it would have more members than a list may have
-  limited : is_built k d.body ≡ true → HasTooMany k d.body → IsConversion k d (says (line.LimitMembers MAX_MEMBERS))
-  -- the conversion isn't built yet
-  unbuilt : is_built k d.body ≡ false → IsConversion k d (says line.RefusedUnbuilt)
+  converted : (e : Document) → has_kind k d.body ≡ false → (HasTooMany k d → ⊥) → IsConverted k d e → IsConversion k d (shows e)
+
+-- the answer converts whatever has this chirotope and isn't of the kind
+abbrev pub IsConversionFrom : Kind → SignMap → Answer → Type 0
+IsConversionFrom k c answer = (r : Representation) → IsChirotopeOf (document_of r) c → has_kind k (document_of r).body ≡ false → IsMeantFor (IsConversion k) r answer
 
 -- the answer where a list isn't made for having too many members; want of memory has none
 abbrev pub IsTooMany : ConvertError → Answer → Type 0

@@ -17,15 +17,19 @@ use Rattle.om_program.specs.declared.answer.Answer.{Answer}
 use Rattle.om_program.specs.declared.operation.Operation.TheVariants as operation
 use Rattle.om_program.specs.declared.reads.Reads.TheVariants as source
 use Rattle.om_program.specs.declared.task.Task.{Task}
-use Rattle.om_program.specs.declared.task.Task.TheVariants.{Accept, Member, Convert, Dual, Delete, Contract, Reorient, Check}
+use Rattle.om_program.specs.declared.task.Task.TheVariants.{Accept, Member, Convert, Dual, Delete, Contract, Reorient, Wiring, Mutations, Flip, Decide, Check}
 use Rattle.om_program.specs.Answers.{says}
 use Rattle.om_program.specs.Axioms.{MeetsAxioms, IsRefused, IsFlatDocument}
 use Rattle.om_program.specs.Claims.{ClaimMeans}
 use Rattle.om_program.specs.Conversions.{IsConversion}
 use Rattle.om_program.specs.Covectors.{IsCovectorIn}
+use Rattle.om_program.specs.Decisions.{IsDecision}
 use Rattle.om_program.specs.Documents.{worked_on}
+use Rattle.om_program.specs.Flips.{IsFlip}
 use Rattle.om_program.specs.Memberships.{IsMembership}
+use Rattle.om_program.specs.MutationLists.{AreMutations}
 use Rattle.om_program.specs.Operations.{IsOperation}
+use Rattle.om_program.specs.Sweeps.{IsWiringOf}
 use Rattle.om_program.specs.Tasks.{reads}
 use Rattle.om_program.specs.Words.{Names, IsUsage}
 
@@ -38,6 +42,10 @@ IsAnswerOf Dual d answer = IsOperation operation.Dual d answer
 IsAnswerOf (Delete e) d answer = IsOperation (operation.Delete e) d answer
 IsAnswerOf (Contract e) d answer = IsOperation (operation.Contract e) d answer
 IsAnswerOf (Reorient mask) d answer = IsOperation (operation.Reorient mask) d answer
+IsAnswerOf Wiring d answer = IsWiringOf d answer
+IsAnswerOf Mutations d answer = AreMutations d answer
+IsAnswerOf (Flip a b c) d answer = IsFlip a b c d answer
+IsAnswerOf (Decide b) d answer = IsDecision b d answer
 IsAnswerOf Check d answer = ⊥
 
 -- the answer to a task on a wiring that gives no chirotope: it is accepted, and nothing else can be done with it

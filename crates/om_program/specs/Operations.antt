@@ -1,25 +1,37 @@
 -- The operations on oriented matroids: duals, minors and reorientations.
-use Rattle.std.specs.Prelude.{ℕ, ◌≡◌, ◌<◌, ◌≤◌, ◌^◌, ◌-◌, List, [], ◌∷◌, true, false, Option, Some, None, nat_lt}
+use Rattle.std.specs.Prelude.{ℕ, ◌≡◌, ◌<◌, ◌≤◌, ◌^◌, ◌-◌, List, [], ◌∷◌, true, Option, Some, None, nat_lt, Result, Ok, Err}
 use Rattle.std.specs.List.{find}
-use Rattle.om_signs.specs.declared.limits.TheConstants.{MAX_ELEMENTS}
+use Rattle.om_signs.specs.declared.limits.TheConstants.{MAX_ELEMENTS, MAX_MEMBERS}
 use Rattle.om_signs.specs.declared.sign.Sign.{Sign}
 use Rattle.om_signs.specs.declared.sign.Sign.TheVariants.{Plus}
 use Rattle.om_subsets.specs.Members.{members}
 use Rattle.om_chirotope.specs.Map.{SignMap, map_of, IsLedBy}
 use Rattle.om_denotation.specs.Covectors.{IsCovectorOfChirotope}
+use Rattle.om_denotation.specs.Listings.{HasMoreThan}
 use Rattle.om_denotation.specs.Operations.{IsDual, IsDeletion, IsContraction, IsReorientation}
+use Rattle.om_denotation.specs.Vectors.{IsVectorOf}
+use Rattle.om_convert.specs.declared.convert_error.ConvertError.{ConvertError}
+use Rattle.om_convert.specs.declared.convert_error.ConvertError.TheVariants as convert
+use Rattle.om_minors.specs.declared.minor_error.MinorError.{MinorError}
+use Rattle.om_minors.specs.declared.minor_error.MinorError.TheVariants as minor
 use Rattle.om_text.specs.declared.document.Document.{Document}
 use Rattle.om_text.specs.declared.body.Body.{Body}
 use Rattle.om_text.specs.declared.body.Body.TheVariants as body
 use Rattle.om_text.specs.Form.{IsInForm}
+use Rattle.om_answer.specs.declared.kind.Kind.{Kind}
+use Rattle.om_answer.specs.declared.kind.Kind.TheVariants as kind
 use Rattle.om_answer.specs.declared.line.Line.TheVariants as line
 use Rattle.om_program.specs.declared.answer.Answer.{Answer}
 use Rattle.om_program.specs.declared.operation.Operation.{Operation}
 use Rattle.om_program.specs.declared.operation.Operation.TheVariants.{Dual, Delete, Contract, Reorient}
+use Rattle.om_program.specs.declared.representation.Representation.{Representation}
+use Rattle.om_program.specs.declared.unmade.Unmade.{Unmade}
+use Rattle.om_program.specs.declared.unmade.Unmade.TheVariants as unmade
 use Rattle.om_program.specs.Answers.{says, shows}
 use Rattle.om_program.specs.Axioms.{MeetsAxioms}
-use Rattle.om_program.specs.Chirotopes.{is_operable}
+use Rattle.om_program.specs.Conversions.{has_kind}
 use Rattle.om_program.specs.Covectors.{IsCovectorIn}
+use Rattle.om_program.specs.Documents.{document_of}
 
 -- the elements that an operation names, in increasing order
 abbrev pub named_elements : Operation → List ℕ
@@ -64,24 +76,65 @@ pub record IsMapMade (o : Operation) (n : ℕ) (P : List Sign → Type 0) (m : S
   pub normal : IsLedBy Plus m.signs
   pub covectors : AreMade o n P (IsCovectorOfChirotope m)
 
--- the body is such a map
-abbrev pub IsBodyOf : Operation → ℕ → (List Sign → Type 0) → Body → Type 0
-IsBodyOf o n P (body.Chirotope m) = IsMapMade o n P (map_of m)
-IsBodyOf o n P _ = ⊥
+-- the kind of what an operation makes of a body: the dual of circuits is a list of cocircuits, and that of cocircuits one of circuits; else the kind
+-- stays
+abbrev pub kind_made : Body → Operation → Kind
+kind_made (body.Circuits members) Dual = kind.Cocircuits
+kind_made (body.Circuits members) _ = kind.Circuits
+kind_made (body.Cocircuits members) Dual = kind.Circuits
+kind_made (body.Cocircuits members) _ = kind.Cocircuits
+kind_made (body.Covectors members) _ = kind.Covectors
+kind_made _ _ = kind.Chirotope
 
--- e is what an operation makes of d, as the document of a normal chirotope
+-- of a map, the first sign that isn't zero is plus
+abbrev pub IsNormalBody : Body → Type 0
+IsNormalBody (body.Chirotope m) = IsLedBy Plus (map_of m).signs
+IsNormalBody _ = Unit {0}
+
+-- e has the covectors that an operation makes of those of d
+pub record IsImage (o : Operation) (d e : Document) : Type 0 where
+  pub elements : e.elements ≡ elements_left o d.elements
+  pub kind : has_kind (kind_made d.body o) e.body ≡ true
+  pub normal : IsNormalBody e.body
+  pub covectors : AreMade o d.elements (IsCovectorIn d) (IsCovectorIn e)
+
+-- the dual of covectors has more covectors than a list may have; the other lists have no more members than the one of which they are made
+abbrev pub HasTooManyOn : Body → Operation → ℕ → (List Sign → Type 0) → Type 0
+HasTooManyOn (body.Covectors members) Dual n P = HasMoreThan MAX_MEMBERS (IsVectorOf n P)
+HasTooManyOn _ _ _ _ = ⊥
+
+abbrev pub HasTooManyMade : Operation → Document → Type 0
+HasTooManyMade o d = HasTooManyOn d.body o d.elements (IsCovectorIn d)
+
+-- the outcome of an operation on d: what it makes, where it wouldn't take the only element away and the members aren't too many, or why it makes nothing
+abbrev pub IsOutcome : Operation → Document → Result Representation Unmade → Type 0
+IsOutcome o d (Ok r) = (TakesOnly o d.elements → ⊥) × ((HasTooManyMade o d → ⊥) × IsImage o d (document_of r))
+IsOutcome o d (Err unmade.LastElement) = TakesOnly o d.elements
+IsOutcome o d (Err (unmade.TooMany limit)) = (limit ≡ MAX_MEMBERS) × HasTooManyMade o d
+IsOutcome o d (Err unmade.Memory) = Unit {0}
+
+-- the errors of the calls below
+abbrev pub of_minor : MinorError → Unmade
+of_minor minor.LastElement = unmade.LastElement
+of_minor minor.Memory = unmade.Memory
+
+abbrev pub of_conversion : ConvertError → Unmade
+of_conversion (convert.TooMany limit) = unmade.TooMany limit
+of_conversion convert.Memory = unmade.Memory
+
+-- e is what an operation makes of d
 pub record IsMade (o : Operation) (d e : Document) : Type 0 where
   pub form : IsInForm e
   pub axioms : MeetsAxioms e
-  pub body : IsBodyOf o d.elements (IsCovectorIn d) e.body
+  pub image : IsImage o d e
 
 -- what an operation makes of a document
 pub data IsOperation (o : Operation) (d : Document) : Answer → Type 0 where
-  -- the operations aren't built yet for this kind
-  not_built : is_operable d.body ≡ false → IsOperation o d (says line.RefusedUnbuilt)
   -- it names an element above the number of elements
-  outside : (e : ℕ) → is_operable d.body ≡ true → first_above d.elements (named_elements o) ≡ Some e → IsOperation o d (says (line.RefusedPlace e))
+  outside : (e : ℕ) → first_above d.elements (named_elements o) ≡ Some e → IsOperation o d (says (line.RefusedPlace e))
   -- it would take the only element away
-  last : is_operable d.body ≡ true → first_above d.elements (named_elements o) ≡ None → TakesOnly o d.elements → IsOperation o d (says line.RefusedLastelement)
-  -- the document of the normal chirotope that it makes
-  made : (e : Document) → is_operable d.body ≡ true → first_above d.elements (named_elements o) ≡ None → (TakesOnly o d.elements → ⊥) → IsMade o d e → IsOperation o d (shows e)
+  last : first_above d.elements (named_elements o) ≡ None → TakesOnly o d.elements → IsOperation o d (says line.RefusedLastelement)
+  -- the list would have more members than it may have
+  limited : first_above d.elements (named_elements o) ≡ None → HasTooManyMade o d → IsOperation o d (says (line.LimitMembers MAX_MEMBERS))
+  -- the document that it makes
+  made : (e : Document) → first_above d.elements (named_elements o) ≡ None → (TakesOnly o d.elements → ⊥) → (HasTooManyMade o d → ⊥) → IsMade o d e → IsOperation o d (shows e)

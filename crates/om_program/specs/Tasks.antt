@@ -1,9 +1,11 @@
 -- What tasks read, and their arguments.
+use Rattle.om_decide.specs.Verdicts.{AreBudgets}
 use Rattle.om_program.specs.declared.operation.Operation.TheVariants as operation
 use Rattle.om_program.specs.declared.reads.Reads.{Reads}
 use Rattle.om_program.specs.declared.reads.Reads.TheVariants as kind
 use Rattle.om_program.specs.declared.task.Task.{Task}
-use Rattle.om_program.specs.declared.task.Task.TheVariants.{Delete, Contract, Reorient, Check}
+use Rattle.om_program.specs.declared.task.Task.TheVariants.{Delete, Contract, Reorient, Flip, Decide, Check}
+use Rattle.om_program.specs.Flips.{AreIncreasing}
 use Rattle.om_program.specs.Operations.{IsLawful}
 
 -- what a task reads
@@ -16,4 +18,6 @@ abbrev pub HasLawfulArguments : Task → Type 0
 HasLawfulArguments (Delete e) = IsLawful (operation.Delete e)
 HasLawfulArguments (Contract e) = IsLawful (operation.Contract e)
 HasLawfulArguments (Reorient mask) = IsLawful (operation.Reorient mask)
+HasLawfulArguments (Flip a b c) = AreIncreasing a b c
+HasLawfulArguments (Decide b) = AreBudgets b
 HasLawfulArguments _ = Unit {0}

@@ -2,7 +2,7 @@
 use Rattle.std.specs.Prelude.{ℕ, ◌≡◌, ◌<◌, ◌≤◌, List, [], ◌∷◌, Some, slice_get}
 use Rattle.std.specs.Fmt.{decimal}
 use Rattle.om_signs.specs.declared.limits.TheConstants.{MAX_ELEMENTS}
-use Rattle.om_program.specs.Words.{IsElement}
+use Rattle.om_program.specs.Elements.{IsElement}
 
 -- the words are the numbers of three elements, strictly increasing
 pub record AreTriple (words : List (List ℕ)) (triple : ℕ × ℕ × ℕ) : Type 0 where

@@ -9,11 +9,14 @@ use Rattle.om_subsets.specs.Members.{mask_of}
 use Rattle.om_text.specs.Words.{is_sign, sign_of_byte}
 use Rattle.om_answer.specs.declared.kind.Kind.{Kind}
 use Rattle.om_answer.specs.declared.kind.Kind.TheVariants as kind
+use Rattle.om_program.specs.Options.{AreBudgets}
 use Rattle.om_program.specs.declared.task.Task.{Task}
-use Rattle.om_program.specs.declared.task.Task.TheVariants.{Accept, Member, Convert, Dual, Delete, Contract, Reorient, Check}
+use Rattle.om_program.specs.declared.task.Task.TheVariants.{Accept, Member, Convert, Dual, Delete, Contract, Reorient, Wiring, Mutations, Flip, Decide, Check}
 use Rattle.om_program.specs.declared.usage.Usage.{Usage}
 use Rattle.om_program.specs.declared.verb.Verb.{Verb}
 use Rattle.om_program.specs.declared.verb.Verb.TheVariants as verb
+use Rattle.om_program.specs.Triples.{AreTriple}
+pub use Rattle.om_program.specs.Elements.{IsElement}
 
 -- the word spells the sign vector: a byte `+`, `-` or `0` for each element, within the limit on elements
 pub record Spells (word : List ℕ) (x : List Sign) : Type 0 where
@@ -32,12 +35,6 @@ kind_word kind.Covectors = codes "covectors"
 -- the word names the kind
 abbrev pub NamesKind : List ℕ → Kind → Type 0
 NamesKind word k = word ≡ kind_word k
-
--- the word is the number of an element: digits without a leading zero, from 1 to the limit on elements
-pub record IsElement (word : List ℕ) (e : ℕ) : Type 0 where
-  pub low : 1 ≤ e
-  pub high : e ≤ MAX_ELEMENTS
-  pub digits : word ≡ decimal e
 
 -- the words are the numbers of at least one element, strictly increasing, and the mask is that of these elements
 pub record AreElements (words : List (List ℕ)) (mask : ℕ) : Type 0 where
@@ -64,6 +61,10 @@ verb_of Dual = verb.Dual
 verb_of (Delete e) = verb.Delete
 verb_of (Contract e) = verb.Contract
 verb_of (Reorient mask) = verb.Reorient
+verb_of Wiring = verb.Wiring
+verb_of Mutations = verb.Mutations
+verb_of (Flip a b c) = verb.Flip
+verb_of (Decide b) = verb.Decide
 verb_of Check = verb.Check
 
 abbrev pub verb_word : Verb → List ℕ
@@ -74,6 +75,10 @@ verb_word verb.Dual = codes "dual"
 verb_word verb.Delete = codes "delete"
 verb_word verb.Contract = codes "contract"
 verb_word verb.Reorient = codes "reorient"
+verb_word verb.Wiring = codes "wiring"
+verb_word verb.Mutations = codes "mutations"
+verb_word verb.Flip = codes "flip"
+verb_word verb.Decide = codes "decide"
 verb_word verb.Check = codes "check"
 
 -- the words behind the first one are those of the task
@@ -85,6 +90,10 @@ AreArguments Dual words = AreNone words tt
 AreArguments (Delete e) words = IsAlone IsElement words e
 AreArguments (Contract e) words = IsAlone IsElement words e
 AreArguments (Reorient mask) words = AreElements words mask
+AreArguments Wiring words = AreNone words tt
+AreArguments Mutations words = AreNone words tt
+AreArguments (Flip a b c) words = AreTriple words (a, b, c)
+AreArguments (Decide b) words = AreBudgets words b
 AreArguments Check words = AreNone words tt
 
 -- the words name the task

@@ -1,8 +1,12 @@
 ghost use Rattle.std.specs.Prelude.{◌≡◌};
-ghost use Rattle.om_program.specs.Answers.{status_of, status_of_line};
+ghost use Rattle.om_program.specs.Answers.{status_of, status_of_line, status_of_verdict};
 
 use crate::status::Status;
 use om_answer::Line;
+use om_certificate::Verdict;
+use om_chirotope::Chirotope;
+use om_signs::List;
+use om_subsets::Subset;
 use om_text::Document;
 
 /// What the program answers. The code of a command decides it, and it is printed once, at the end of the run.
@@ -12,6 +16,13 @@ pub enum Answer {
     Line(Line),
     /// A document, in canonical form.
     Document(Document),
+    /// Mutations: one line that says how many there are, a line for each, and `end`.
+    Mutations(List<Subset>),
+    /// A verdict on a chirotope: the document of the chirotope, and behind it the verdict.
+    Verdict {
+        chirotope: Chirotope,
+        verdict: Verdict,
+    },
 }
 
 impl Answer {
@@ -22,7 +33,19 @@ impl Answer {
         match self {
             Answer::Line(line) => status_of_line(line),
             Answer::Document(_) => Status::Done,
+            Answer::Mutations(_) => Status::Done,
+            Answer::Verdict { verdict, .. } => status_of_verdict(verdict),
         }
+    }
+}
+
+/// How a run ends that has written this verdict.
+fn status_of_verdict(verdict: &Verdict) -> Status
+    ensures { result ≡ status_of_verdict verdict.now }
+{
+    match verdict {
+        Verdict::Limit(..) => Status::Limit,
+        Verdict::Realizable(_) | Verdict::Nonrealizable(_) | Verdict::Undecided(..) => Status::Done,
     }
 }
 

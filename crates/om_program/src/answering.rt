@@ -8,10 +8,14 @@ ghost use Rattle.om_program.specs.Tasks.{HasLawfulArguments, reads};
 
 use crate::answer::Answer;
 use crate::conversion::convert;
+use crate::decision::judge;
+use crate::flipping::flip_triple;
 use crate::membership::find_membership;
+use crate::mutation_list::list_mutations;
 use crate::operation::{Operation, operate};
 use crate::reads::Reads;
 use crate::representation::{Representation, represent};
+use crate::sweeping::find_wiring;
 use crate::task::Task;
 use crate::unrepresented::Unrepresented;
 use crate::verification::verify;
@@ -119,6 +123,10 @@ fn answer_task(
         Task::Delete(e) => operate(alloc, representation, Operation::Delete(e)),
         Task::Contract(e) => operate(alloc, representation, Operation::Contract(e)),
         Task::Reorient(mask) => operate(alloc, representation, Operation::Reorient(mask)),
+        Task::Wiring => find_wiring(alloc, representation),
+        Task::Mutations => list_mutations(alloc, representation),
+        Task::Flip(a, b, c) => flip_triple(alloc, representation, a, b, c),
+        Task::Decide(budgets) => judge(alloc, representation, budgets),
         // the source of this one is a claim
         Task::Check => unreachable!(),
     }

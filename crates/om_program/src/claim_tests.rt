@@ -1,7 +1,7 @@
 //! Checks of claims.
 
 use crate::status::Status;
-use crate::tests::{Case, UNIFORM, ends};
+use crate::tests::{CIRCUITS, Case, UNIFORM, ends};
 use om_signs::NoMemory;
 use std::alloc::Global;
 use std::process::Abort;
@@ -9,7 +9,7 @@ use std::test::Fail;
 use std::thread::Threads;
 
 /// The all-plus chirotope of five elements.
-const FIVE: &str = "om 1\nchirotope 3 5\n++++++++++\nend\n";
+pub const FIVE: &str = "om 1\nchirotope 3 5\n++++++++++\nend\n";
 
 /// The chirotope of Pappus' theorem, up to the value of its last triple.
 const NINE: &str =
@@ -61,6 +61,10 @@ fn claims_that_are_valid(rt: HostRuntime) -> Result<(), Fail> {
     for (texts, line) in [
         (
             &[UNIFORM, VECTORS, "vector 1 -1 1\nend\n"][..],
+            "valid realizable\n",
+        ),
+        (
+            &[CIRCUITS, VECTORS, "vector 1 -1 1\nend\n"],
             "valid realizable\n",
         ),
         (
@@ -250,12 +254,8 @@ fn claims_that_are_not_looked_at(rt: HostRuntime) -> Result<(), Fail> {
             "refused ranklow\n",
         ),
         (
-            &["om 1\ncircuits 4\n-+-+\n+-+-\nend\n", "realizable\nend\n"],
-            "refused unbuilt\n",
-        ),
-        (
             &["om 1\ncovectors 1\n0\n+\n-\nend\n", "realizable\nend\n"],
-            "refused unbuilt\n",
+            "refused notrank3 1\n",
         ),
         (
             &["om 1\nwiring 3\n1-3\nend\n", "realizable\nend\n"],

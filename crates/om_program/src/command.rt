@@ -3,7 +3,9 @@ ghost use Rattle.om_program.specs.Words.{Names, AreNamed, IsUsage};
 
 use crate::argument::only;
 use crate::arguments::{elements, none};
+use crate::numbered::budgets;
 use crate::task::Task;
+use crate::triple::triple;
 use crate::usage::Usage;
 use crate::verb::{Verb, named_verb};
 
@@ -47,6 +49,19 @@ fn after_verb(verb: Verb, rest: &[String]) -> Result<Task, Usage>
         Verb::Delete => Ok(Task::Delete(only(rest)?)),
         Verb::Contract => Ok(Task::Contract(only(rest)?)),
         Verb::Reorient => Ok(Task::Reorient(elements(rest)?)),
+        Verb::Wiring => {
+            none(rest)?;
+            Ok(Task::Wiring)
+        }
+        Verb::Mutations => {
+            none(rest)?;
+            Ok(Task::Mutations)
+        }
+        Verb::Flip => {
+            let (a, b, c) = triple(rest)?;
+            Ok(Task::Flip(a, b, c))
+        }
+        Verb::Decide => Ok(Task::Decide(budgets(rest)?)),
         Verb::Check => {
             none(rest)?;
             Ok(Task::Check)

@@ -1,16 +1,15 @@
 //! Documents of one kind as documents of another.
 
 ghost use Rattle.std.specs.Prelude.{◌≡◌, IfOk};
-ghost use Rattle.om_program.specs.Answers.{says};
 ghost use Rattle.om_program.specs.Represented.{IsMeantFor};
-ghost use Rattle.om_program.specs.Conversions.{IsConversion, IsTooMany};
+ghost use Rattle.om_program.specs.Conversions.{IsConversion, IsConversionFrom, IsTooMany};
 
 use crate::answer::Answer;
+use crate::chirotope_choice::choose_chirotope;
 use crate::documents::{circuits_document, cocircuits_document, covectors_document, map_document};
 use crate::representation::Representation;
 use om_answer::{Kind, Line};
 use om_chirotope::Chirotope;
-use om_circuits::{Circuits, Cocircuits};
 use om_convert::{
     ConvertError, chirotope_to_circuits, chirotope_to_cocircuits, chirotope_to_covectors,
     covectors_to_cocircuits,
@@ -19,7 +18,8 @@ use om_covectors::Covectors;
 use om_signs::NoMemory;
 use std::alloc::Global;
 
-/// The document of a kind that denotes the same oriented matroid, or the line that says why there is none.
+/// The document of a kind that denotes the same oriented matroid, or the line that says that the list would have too many
+/// members. A document of the kind is itself, and a list as a chirotope is the normal one.
 pub fn convert(
     alloc: Global,
     representation: Representation,
@@ -27,84 +27,101 @@ pub fn convert(
 ) -> Result<Answer, NoMemory>
     ensures { IfOk result (IsMeantFor (IsConversion kind) representation) }
 {
-    match representation {
-        Representation::Chirotope(chirotope) => convert_chirotope(alloc, chirotope, kind),
-        Representation::Circuits(circuits) => Ok(convert_circuits(circuits, kind)),
-        Representation::Cocircuits(cocircuits) => Ok(convert_cocircuits(cocircuits, kind)),
-        Representation::Covectors(covectors) => convert_covectors(alloc, covectors, kind),
+    match kind {
+        Kind::Chirotope => to_chirotope(alloc, representation),
+        Kind::Circuits => to_circuits(alloc, representation),
+        Kind::Cocircuits => to_cocircuits(alloc, representation),
+        Kind::Covectors => to_covectors(alloc, representation),
     }
 }
 
-/// A chirotope as a document of a kind.
-fn convert_chirotope(alloc: Global, chirotope: Chirotope, kind: Kind) -> Result<Answer, NoMemory>
-    ensures { IfOk result (IsMeantFor (IsConversion kind) (Representation.Chirotope chirotope)) }
+/// The document of the chirotope of an oriented matroid.
+fn to_chirotope(alloc: Global, representation: Representation) -> Result<Answer, NoMemory>
+    ensures { IfOk result (IsMeantFor (IsConversion Kind.Chirotope) representation) }
 {
-    match kind {
-        Kind::Chirotope => Ok(Answer::Document(map_document(chirotope))),
-        Kind::Circuits => list_circuits(alloc, &chirotope),
-        Kind::Cocircuits => list_cocircuits(alloc, &chirotope),
-        Kind::Covectors => list_covectors(alloc, &chirotope),
+    let chirotope = choose_chirotope(alloc, representation)?;
+    Ok(Answer::Document(map_document(chirotope)))
+}
+
+/// The document of the circuits of an oriented matroid.
+fn to_circuits(alloc: Global, representation: Representation) -> Result<Answer, NoMemory>
+    ensures { IfOk result (IsMeantFor (IsConversion Kind.Circuits) representation) }
+{
+    match representation {
+        Representation::Circuits(circuits) => Ok(Answer::Document(circuits_document(circuits))),
+        Representation::Chirotope(_)
+        | Representation::Cocircuits(_)
+        | Representation::Covectors(_) => {
+            let chirotope = choose_chirotope(alloc, representation)?;
+            list_circuits(alloc, &chirotope)
+        }
     }
 }
 
 /// The document of the circuits of a chirotope.
 fn list_circuits(alloc: Global, chirotope: &Chirotope) -> Result<Answer, NoMemory>
-    ensures { IfOk result (IsMeantFor (IsConversion Kind.Circuits) (Representation.Chirotope chirotope.now)) }
+    ensures { IfOk result (IsConversionFrom Kind.Circuits chirotope.now) }
 {
+    // this call tells that the axioms hold
+    let _rank = chirotope.rank();
     match chirotope_to_circuits(alloc, chirotope) {
         Ok(circuits) => Ok(Answer::Document(circuits_document(circuits))),
         Err(why) => refuse_list(why),
     }
 }
 
+/// The document of the cocircuits of an oriented matroid.
+fn to_cocircuits(alloc: Global, representation: Representation) -> Result<Answer, NoMemory>
+    ensures { IfOk result (IsMeantFor (IsConversion Kind.Cocircuits) representation) }
+{
+    match representation {
+        Representation::Cocircuits(cocircuits) => {
+            Ok(Answer::Document(cocircuits_document(cocircuits)))
+        }
+        Representation::Covectors(covectors) => list_minimal(alloc, &covectors),
+        Representation::Chirotope(_) | Representation::Circuits(_) => {
+            let chirotope = choose_chirotope(alloc, representation)?;
+            list_cocircuits(alloc, &chirotope)
+        }
+    }
+}
+
 /// The document of the cocircuits of a chirotope.
 fn list_cocircuits(alloc: Global, chirotope: &Chirotope) -> Result<Answer, NoMemory>
-    ensures { IfOk result (IsMeantFor (IsConversion Kind.Cocircuits) (Representation.Chirotope chirotope.now)) }
+    ensures { IfOk result (IsConversionFrom Kind.Cocircuits chirotope.now) }
 {
+    // this call tells that the axioms hold
+    let _rank = chirotope.rank();
     match chirotope_to_cocircuits(alloc, chirotope) {
         Ok(cocircuits) => Ok(Answer::Document(cocircuits_document(cocircuits))),
         Err(why) => refuse_list(why),
     }
 }
 
+/// The document of the covectors of an oriented matroid.
+fn to_covectors(alloc: Global, representation: Representation) -> Result<Answer, NoMemory>
+    ensures { IfOk result (IsMeantFor (IsConversion Kind.Covectors) representation) }
+{
+    match representation {
+        Representation::Covectors(covectors) => Ok(Answer::Document(covectors_document(covectors))),
+        Representation::Chirotope(_)
+        | Representation::Circuits(_)
+        | Representation::Cocircuits(_) => {
+            let chirotope = choose_chirotope(alloc, representation)?;
+            list_covectors(alloc, &chirotope)
+        }
+    }
+}
+
 /// The document of the covectors of a chirotope.
 fn list_covectors(alloc: Global, chirotope: &Chirotope) -> Result<Answer, NoMemory>
-    ensures { IfOk result (IsMeantFor (IsConversion Kind.Covectors) (Representation.Chirotope chirotope.now)) }
+    ensures { IfOk result (IsConversionFrom Kind.Covectors chirotope.now) }
 {
+    // this call tells that the axioms hold
+    let _rank = chirotope.rank();
     match chirotope_to_covectors(alloc, chirotope) {
         Ok(covectors) => Ok(Answer::Document(covectors_document(covectors))),
         Err(why) => refuse_list(why),
-    }
-}
-
-/// Circuits as a document of a kind.
-fn convert_circuits(circuits: Circuits, kind: Kind) -> Answer
-    ensures { IsMeantFor (IsConversion kind) (Representation.Circuits circuits) result }
-{
-    match kind {
-        Kind::Circuits => Answer::Document(circuits_document(circuits)),
-        Kind::Chirotope | Kind::Cocircuits | Kind::Covectors => Answer::Line(Line::RefusedUnbuilt),
-    }
-}
-
-/// Cocircuits as a document of a kind.
-fn convert_cocircuits(cocircuits: Cocircuits, kind: Kind) -> Answer
-    ensures { IsMeantFor (IsConversion kind) (Representation.Cocircuits cocircuits) result }
-{
-    match kind {
-        Kind::Cocircuits => Answer::Document(cocircuits_document(cocircuits)),
-        Kind::Chirotope | Kind::Circuits | Kind::Covectors => Answer::Line(Line::RefusedUnbuilt),
-    }
-}
-
-/// Covectors as a document of a kind.
-fn convert_covectors(alloc: Global, covectors: Covectors, kind: Kind) -> Result<Answer, NoMemory>
-    ensures { IfOk result (IsMeantFor (IsConversion kind) (Representation.Covectors covectors)) }
-{
-    match kind {
-        Kind::Cocircuits => list_minimal(alloc, &covectors),
-        Kind::Covectors => Ok(Answer::Document(covectors_document(covectors))),
-        Kind::Chirotope | Kind::Circuits => Ok(Answer::Line(Line::RefusedUnbuilt)),
     }
 }
 
@@ -112,6 +129,8 @@ fn convert_covectors(alloc: Global, covectors: Covectors, kind: Kind) -> Result<
 fn list_minimal(alloc: Global, covectors: &Covectors) -> Result<Answer, NoMemory>
     ensures { IfOk result (IsMeantFor (IsConversion Kind.Cocircuits) (Representation.Covectors covectors.now)) }
 {
+    // this call tells that the members have a sign for each element
+    let _elements = covectors.elements();
     match covectors_to_cocircuits(alloc, covectors) {
         Ok(cocircuits) => Ok(Answer::Document(cocircuits_document(cocircuits))),
         Err(why) => refuse_list(why),

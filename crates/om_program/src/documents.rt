@@ -3,12 +3,27 @@
 ghost use Rattle.std.specs.Prelude.{◌≡◌};
 ghost use Rattle.om_text.specs.Form.{IsInForm};
 ghost use Rattle.om_program.specs.Axioms.{MeetsAxioms};
-ghost use Rattle.om_program.specs.Documents.{map_document, circuits_document, cocircuits_document, covectors_document};
+ghost use Rattle.om_program.specs.Documents.{document_of, map_document, circuits_document, cocircuits_document, covectors_document};
 
+use crate::representation::Representation;
 use om_chirotope::Chirotope;
 use om_circuits::{Circuits, Cocircuits};
 use om_covectors::Covectors;
 use om_text::{Body, Document};
+
+/// The document of an oriented matroid.
+pub fn document_of(representation: Representation) -> Document
+    ensures form { IsInForm result }
+    ensures axioms { MeetsAxioms result }
+    ensures value { result ≡ document_of representation }
+{
+    match representation {
+        Representation::Chirotope(chirotope) => map_document(chirotope),
+        Representation::Circuits(circuits) => circuits_document(circuits),
+        Representation::Cocircuits(cocircuits) => cocircuits_document(cocircuits),
+        Representation::Covectors(covectors) => covectors_document(covectors),
+    }
+}
 
 /// The document of a chirotope.
 pub fn map_document(chirotope: Chirotope) -> Document

@@ -11,12 +11,21 @@ mod claim_tests;
 mod colouring;
 mod command;
 mod conversion;
+mod decision;
+#[cfg(test)]
+mod decision_tests;
 mod documents;
+mod flipping;
 mod leading;
 mod limits;
+mod making;
 #[cfg(test)]
 mod map_tests;
 mod membership;
+mod mutation_list;
+#[cfg(test)]
+mod mutation_tests;
+mod mutation_text;
 mod numbered;
 mod operation;
 mod options;
@@ -30,10 +39,12 @@ mod run;
 mod setting;
 mod spelling;
 mod status;
+mod sweeping;
 mod task;
 #[cfg(test)]
 mod tests;
 mod triple;
+mod unmade;
 mod unrepresented;
 mod usage;
 mod verb;

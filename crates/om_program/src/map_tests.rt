@@ -14,15 +14,6 @@ const POINT: &str = "om 1\nchirotope 1 1\n+\nend\n";
 #[test]
 fn answers_that_are_accepted_and_converted_on(rt: HostRuntime) -> Result<(), Fail> {
     let alloc = rt.alloc();
-    for answer in [CIRCUITS, COCIRCUITS] {
-        ends(
-            &rt,
-            alloc,
-            Case::new(&["accept"], answer),
-            Status::Done,
-            "accepted\n",
-        )?;
-    }
     let covectors = written(
         &rt,
         alloc,
@@ -33,16 +24,28 @@ fn answers_that_are_accepted_and_converted_on(rt: HostRuntime) -> Result<(), Fai
     assert!(&rt; bytes.starts_with(b"om 1\ncovectors 4\n----\n---0\n"));
     assert!(&rt; bytes.ends_with(b"\n++++\nend\n"));
     assert_eq!(&rt; bytes.iter().filter(|b| **b == b'\n').count(), 54);
-    let list = Case {
-        input: bytes,
-        ..Case::new(&["accept"], "")
-    };
-    ends(&rt, alloc, list, Status::Done, "accepted\n")?;
-    let back = Case {
-        input: bytes,
-        ..Case::new(&["convert", "cocircuits"], "")
-    };
-    ends(&rt, alloc, back, Status::Done, COCIRCUITS)
+    for (words, text) in [
+        (&["accept"][..], "accepted\n"),
+        (&["convert", "chirotope"], UNIFORM),
+        (&["convert", "circuits"], CIRCUITS),
+        (&["convert", "cocircuits"], COCIRCUITS),
+    ] {
+        let case = Case {
+            input: bytes,
+            ..Case::new(words, "")
+        };
+        ends(&rt, alloc, case, Status::Done, text)?;
+    }
+    for input in [CIRCUITS, COCIRCUITS] {
+        let again = written(
+            &rt,
+            alloc,
+            Case::new(&["convert", "covectors"], input),
+            Status::Done,
+        )?;
+        assert_eq!(&rt; again.as_slice(), bytes);
+    }
+    Ok(())
 }
 
 #[test]
@@ -130,8 +133,12 @@ fn operations_that_are_refused(rt: HostRuntime) -> Result<(), Fail> {
         (&["delete", "2"], POINT, "refused place 2\n"),
         (&["delete", "4"], FLAT, "refused flatrank\n"),
         (&["member", "0000"], FLAT, "refused flatrank\n"),
-        (&["dual"], CIRCUITS, "refused unbuilt\n"),
-        (&["delete", "5"], COCIRCUITS, "refused unbuilt\n"),
+        (&["delete", "5"], COCIRCUITS, "refused place 5\n"),
+        (
+            &["delete", "1"],
+            "om 1\ncovectors 1\n0\nend\n",
+            "refused lastelement\n",
+        ),
         (
             &["delete", "5"],
             "om 1\nchirotope 3 4\n0000\nend\n",
@@ -145,6 +152,99 @@ fn operations_that_are_refused(rt: HostRuntime) -> Result<(), Fail> {
             Status::Refused,
             text,
         )?;
+    }
+    Ok(())
+}
+
+/// The circuits, the cocircuits and the covectors of the mixed chirotope.
+const MIXED_CIRCUITS: &str = "om 1\ncircuits 4\n-+00\n000-\n000+\n+-00\nend\n";
+
+const MIXED_COCIRCUITS: &str = "om 1\ncocircuits 4\n--00\n00-0\n00+0\n++00\nend\n";
+
+const MIXED_COVECTORS: &str =
+    "om 1\ncovectors 4\n---0\n--00\n--+0\n00-0\n0000\n00+0\n++-0\n++00\n+++0\nend\n";
+
+#[test]
+fn operations_on_lists(rt: HostRuntime) -> Result<(), Fail> {
+    let covectors = written(
+        &rt,
+        rt.alloc(),
+        Case::new(&["convert", "covectors"], UNIFORM),
+        Status::Done,
+    )?;
+    let dual = Case {
+        input: covectors.as_slice(),
+        ..Case::new(&["dual"], "")
+    };
+    ends(
+        &rt,
+        rt.alloc(),
+        dual,
+        Status::Done,
+        "om 1\ncovectors 4\n-+-+\n0000\n+-+-\nend\n",
+    )?;
+    for (words, input, text) in [
+        (
+            &["dual"][..],
+            CIRCUITS,
+            "om 1\ncocircuits 4\n-+-+\n+-+-\nend\n",
+        ),
+        (&["dual"], "om 1\ncocircuits 4\n-+-+\n+-+-\nend\n", CIRCUITS),
+        (
+            &["reorient", "1", "3"],
+            CIRCUITS,
+            "om 1\ncircuits 4\n----\n++++\nend\n",
+        ),
+        (&["convert", "circuits"], MIXED, MIXED_CIRCUITS),
+        (&["convert", "cocircuits"], MIXED, MIXED_COCIRCUITS),
+        (&["convert", "covectors"], MIXED, MIXED_COVECTORS),
+        (
+            &["contract", "4"],
+            MIXED_CIRCUITS,
+            "om 1\ncircuits 3\n-+0\n+-0\nend\n",
+        ),
+        (
+            &["delete", "4"],
+            MIXED_CIRCUITS,
+            "om 1\ncircuits 3\n-+0\n+-0\nend\n",
+        ),
+        (
+            &["delete", "3"],
+            MIXED_CIRCUITS,
+            "om 1\ncircuits 3\n-+0\n00-\n00+\n+-0\nend\n",
+        ),
+        (
+            &["contract", "4"],
+            MIXED_COCIRCUITS,
+            "om 1\ncocircuits 3\n--0\n00-\n00+\n++0\nend\n",
+        ),
+        (
+            &["delete", "4"],
+            MIXED_COCIRCUITS,
+            "om 1\ncocircuits 3\n--0\n00-\n00+\n++0\nend\n",
+        ),
+        (
+            &["delete", "3"],
+            MIXED_COCIRCUITS,
+            "om 1\ncocircuits 3\n--0\n++0\nend\n",
+        ),
+        (
+            &["contract", "4"],
+            MIXED_COVECTORS,
+            "om 1\ncovectors 3\n---\n--0\n--+\n00-\n000\n00+\n++-\n++0\n+++\nend\n",
+        ),
+        (
+            &["delete", "4"],
+            MIXED_COVECTORS,
+            "om 1\ncovectors 3\n---\n--0\n--+\n00-\n000\n00+\n++-\n++0\n+++\nend\n",
+        ),
+        (
+            &["delete", "3"],
+            MIXED_COVECTORS,
+            "om 1\ncovectors 3\n--0\n000\n++0\nend\n",
+        ),
+    ] {
+        ends(&rt, rt.alloc(), Case::new(words, input), Status::Done, text)?;
     }
     Ok(())
 }

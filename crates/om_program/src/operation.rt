@@ -1,18 +1,16 @@
 //! Duals, minors and reorientations.
 
-ghost use Rattle.std.specs.Prelude.{◌≡◌, ◌<◌, ◌≤◌, ◌^◌, ◌∷◌, [], IfOk, OnOk, IsErrOf};
+ghost use Rattle.std.specs.Prelude.{◌≡◌, ◌<◌, ◌≤◌, ◌^◌, ◌∷◌, [], IfOk};
 ghost use Rattle.om_subsets.specs.Members.{members};
-ghost use Rattle.om_denotation.specs.Covectors.{IsCovectorOfChirotope};
 ghost use Rattle.om_program.specs.Represented.{IsMeantFor};
-ghost use Rattle.om_program.specs.Operations.{IsLawful, IsOperation, IsMapMade, TakesOnly, named_elements, first_above};
+ghost use Rattle.om_program.specs.Operations.{IsLawful, IsOperation, named_elements, first_above};
 
 use crate::answer::Answer;
-use crate::documents::map_document;
+use crate::documents::document_of;
+use crate::making::make;
 use crate::representation::Representation;
+use crate::unmade::Unmade;
 use om_answer::Line;
-use om_chirotope::Chirotope;
-use om_dual::dual;
-use om_minors::{MinorError, contract_chirotope, delete_chirotope, reorient_chirotope};
 use om_signs::{MAX_ELEMENTS, NoMemory};
 use om_subsets::Subset;
 use std::alloc::Global;
@@ -39,47 +37,14 @@ pub fn operate(
     requires { IsLawful operation }
     ensures { IfOk result (IsMeantFor (IsOperation operation) representation) }
 {
-    match representation {
-        Representation::Chirotope(chirotope) => operate_on(alloc, chirotope, operation),
-        Representation::Circuits(_)
-        | Representation::Cocircuits(_)
-        | Representation::Covectors(_) => Ok(Answer::Line(Line::RefusedUnbuilt)),
-    }
-}
-
-/// What an operation makes of a chirotope.
-fn operate_on(alloc: Global, chirotope: Chirotope, operation: Operation) -> Result<Answer, NoMemory>
-    requires { IsLawful operation }
-    ensures { IfOk result (IsMeantFor (IsOperation operation) (Representation.Chirotope chirotope)) }
-{
-    if let Some(e) = place_above(chirotope.elements(), operation) {
+    if let Some(e) = place_above(representation.elements(), operation) {
         return Ok(Answer::Line(Line::RefusedPlace { e }));
     }
-    match make_chirotope(alloc, chirotope, operation) {
-        Ok(made) => Ok(Answer::Document(map_document(made))),
-        Err(MinorError::LastElement) => Ok(Answer::Line(Line::RefusedLastelement)),
-        Err(MinorError::Memory) => Err(NoMemory),
-    }
-}
-
-/// What an operation makes of a chirotope, as a normal chirotope. The elements that it names are elements of the
-/// chirotope. `LastElement` comes exactly where it would take the only one away.
-fn make_chirotope(
-    alloc: Global,
-    chirotope: Chirotope,
-    operation: Operation,
-) -> Result<Chirotope, MinorError>
-    requires lawful { IsLawful operation }
-    requires within { first_above chirotope.elements (named_elements operation) ≡ None }
-    ensures made { IfOk result (IsMapMade operation chirotope.elements (IsCovectorOfChirotope chirotope)) }
-    ensures left { OnOk result (TakesOnly operation chirotope.elements → ⊥) }
-    ensures last { IsErrOf result MinorError.LastElement → TakesOnly operation chirotope.elements }
-{
-    match operation {
-        Operation::Dual => Ok(dual(alloc, &chirotope)?),
-        Operation::Delete(e) => delete_chirotope(alloc, &chirotope, e),
-        Operation::Contract(e) => contract_chirotope(alloc, &chirotope, e),
-        Operation::Reorient(mask) => Ok(reorient_chirotope(chirotope, mask)),
+    match make(alloc, representation, operation) {
+        Ok(made) => Ok(Answer::Document(document_of(made))),
+        Err(Unmade::LastElement) => Ok(Answer::Line(Line::RefusedLastelement)),
+        Err(Unmade::TooMany { limit }) => Ok(Answer::Line(Line::LimitMembers { limit })),
+        Err(Unmade::Memory) => Err(NoMemory),
     }
 }
 

@@ -4,7 +4,8 @@ ghost use Rattle.std.specs.Prelude.{◌≡◌, IfOk};
 ghost use Rattle.om_program.specs.Answers.{IsReply, text_of};
 
 use crate::answer::Answer;
-use om_answer::print_line;
+use crate::mutation_text::print_mutations;
+use om_answer::{print_line, print_verdict};
 use om_signs::NoMemory;
 use om_text::print;
 use std::alloc::Global;
@@ -17,5 +18,7 @@ pub fn print_answer(alloc: Global, answer: &Answer) -> Result<Vec<u8>, NoMemory>
     match answer {
         Answer::Line(line) => print_line(alloc, line),
         Answer::Document(document) => print(alloc, document),
+        Answer::Mutations(sets) => print_mutations(alloc, sets),
+        Answer::Verdict { chirotope, verdict } => print_verdict(alloc, chirotope, verdict),
     }
 }

@@ -29,6 +29,21 @@ pub enum Representation {
     Covectors(Covectors),
 }
 
+impl Representation {
+    /// The number of elements.
+    pub fn elements(&self) -> u8
+        ensures value { result ≡ (document_of self.now).elements }
+        ensures high { result ≤ MAX_ELEMENTS }
+    {
+        match self {
+            Representation::Chirotope(chirotope) => chirotope.elements(),
+            Representation::Circuits(circuits) => circuits.0.elements(),
+            Representation::Cocircuits(cocircuits) => cocircuits.0.elements(),
+            Representation::Covectors(covectors) => covectors.elements(),
+        }
+    }
+}
+
 /// The oriented matroid that a document gives, where it meets the axioms of its kind and isn't a flat wiring; and where it fails
 /// the axioms, the line that names the first violated instance.
 pub fn represent<R: Threads + Sync>(

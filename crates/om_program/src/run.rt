@@ -7,6 +7,7 @@ ghost use Rattle.om_program.specs.Statuses.{IsAnswered};
 ghost use Rattle.om_program.specs.Run.{IsFront, IsAnswer, IsCutOffAnswer, IsTaskAnswer, IsCutOffTask, IsMeantBy};
 ghost use Rattle.om_program.specs.Meaning.{TaskMeans};
 ghost use Rattle.om_program.specs.Tasks.{HasLawfulArguments, reads};
+ghost use Rattle.om_program.specs.ValidClaims.{VerdictsAreFoundValid};
 
 use crate::answer::Answer;
 use crate::answering::answer_input;
@@ -49,6 +50,9 @@ pub fn run<R: Threads + Sync, S: Source, K: Sink>(
     ensures usage { (AreCommand (map string_bytes words.now) → ⊥) → (result ≡ Status.Usage) ⊎ (result ≡ Status.WriteFault) }
     ensures only { result ≡ Status.Usage → AreCommand (map string_bytes words.now) → ⊥ }
     ensures unread { (AreCommand (map string_bytes words.now) → ⊥) → source.new ≡ source.old }
+
+    // What `decide` answers, other than a limit, is a claim that `check` finds valid, with the word of the verdict.
+    ensures decided { VerdictsAreFoundValid }
 
     // The source has given a prefix of what it had left, and no count falls.
     ensures prefix { TakesSome (S.left source.old) (S.left source.new) }

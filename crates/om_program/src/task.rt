@@ -3,6 +3,7 @@ ghost use Rattle.om_program.specs.Tasks.{reads};
 
 use crate::reads::Reads;
 use om_answer::Kind;
+use om_decide::Budgets;
 use om_signs::SignVec;
 
 /// What the words after the program's name ask for.
@@ -22,6 +23,14 @@ pub enum Task {
     Contract(u8),
     /// `reorient E..`: the reorientation on the elements of this mask, in which bit e - 1 stands for e.
     Reorient(u32),
+    /// `wiring`: the least wiring of the chirotope.
+    Wiring,
+    /// `mutations`: the mutations of the chirotope.
+    Mutations,
+    /// `flip A B C`: the chirotope with the sign of these three elements turned.
+    Flip(u8, u8, u8),
+    /// `decide --box=K --steps=T --pivots=P`: whether vectors realize it, within these budgets.
+    Decide(Budgets),
     /// `check`: whether the verdict of a claim has proof.
     Check,
 }

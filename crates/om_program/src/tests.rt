@@ -326,7 +326,30 @@ fn conversions(rt: HostRuntime) -> Result<(), Fail> {
             Status::Done,
             "om 1\ncovectors 3\n-00\n000\n+00\nend\n",
         ),
-        ("circuits", three, Status::Refused, "refused unbuilt\n"),
+        (
+            "circuits",
+            three,
+            Status::Done,
+            "om 1\ncircuits 3\n0-0\n00-\n00+\n0+0\nend\n",
+        ),
+        (
+            "chirotope",
+            three,
+            Status::Done,
+            "om 1\nchirotope 1 3\n+00\nend\n",
+        ),
+        (
+            "chirotope",
+            "om 1\ncircuits 3\nend\n",
+            Status::Done,
+            "om 1\nchirotope 3 3\n+\nend\n",
+        ),
+        (
+            "chirotope",
+            "om 1\ncocircuits 3\nend\n",
+            Status::Done,
+            "om 1\nchirotope 0 3\n+\nend\n",
+        ),
         (
             "chirotope",
             "om 1\nchirotope 2 2\n - \nend",
@@ -348,7 +371,10 @@ fn conversions(rt: HostRuntime) -> Result<(), Fail> {
         ("chirotope", FLAT, Status::Refused, "refused flatrank\n"),
         ("circuits", UNIFORM, Status::Done, CIRCUITS),
         ("cocircuits", UNIFORM, Status::Done, COCIRCUITS),
-        ("chirotope", CIRCUITS, Status::Refused, "refused unbuilt\n"),
+        ("chirotope", CIRCUITS, Status::Done, UNIFORM),
+        ("cocircuits", CIRCUITS, Status::Done, COCIRCUITS),
+        ("chirotope", COCIRCUITS, Status::Done, UNIFORM),
+        ("circuits", COCIRCUITS, Status::Done, CIRCUITS),
         (
             "circuits",
             "om 1\ncircuits 4\n+-+-\n-+-+\nend\n",

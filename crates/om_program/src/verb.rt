@@ -13,11 +13,15 @@ pub enum Verb {
     Delete,
     Contract,
     Reorient,
+    Wiring,
+    Mutations,
+    Flip,
+    Decide,
     Check,
 }
 
 /// All verbs.
-const VERBS: [Verb; 8] = [
+const VERBS: [Verb; 12] = [
     Verb::Accept,
     Verb::Member,
     Verb::Convert,
@@ -25,6 +29,10 @@ const VERBS: [Verb; 8] = [
     Verb::Delete,
     Verb::Contract,
     Verb::Reorient,
+    Verb::Wiring,
+    Verb::Mutations,
+    Verb::Flip,
+    Verb::Decide,
     Verb::Check,
 ];
 
@@ -41,6 +49,10 @@ impl Verb {
             Verb::Delete => "delete",
             Verb::Contract => "contract",
             Verb::Reorient => "reorient",
+            Verb::Wiring => "wiring",
+            Verb::Mutations => "mutations",
+            Verb::Flip => "flip",
+            Verb::Decide => "decide",
             Verb::Check => "check",
         }
     }

@@ -4,11 +4,10 @@ ghost use Rattle.std.specs.Prelude.{◌≡◌, IfOk};
 ghost use Rattle.om_text.specs.Form.{IsInForm};
 ghost use Rattle.om_certificate.specs.Validity.{IsWithinLimits};
 ghost use Rattle.om_answer.specs.Claim.{HasEvidenceWithinLimits};
-ghost use Rattle.om_program.specs.Documents.{document_of};
-ghost use Rattle.om_program.specs.Claims.{ClaimMeans, IsJudged, VerdictMeans, EvidenceMeans, valid_line, refusal_line};
+ghost use Rattle.om_program.specs.Claims.{ClaimMeans, VerdictMeans, EvidenceMeans, valid_line, refusal_line};
 
 use crate::chirotope_choice::choose_chirotope;
-use crate::representation::{Representation, represent};
+use crate::representation::represent;
 use crate::unrepresented::Unrepresented;
 use om_answer::{Claim, Line};
 use om_certificate::{CertRefused, Evidence, Verdict, certificate, check};
@@ -25,21 +24,13 @@ pub fn verify<R: Threads + Sync>(rt: &R, alloc: Global, claim: Claim) -> Result<
 {
     let Claim { document, verdict } = claim;
     match represent(rt, alloc, document) {
-        Ok(representation) => Ok(verify_representation(representation, verdict)),
+        Ok(representation) => {
+            let chirotope = choose_chirotope(alloc, representation)?;
+            Ok(verify_verdict(&chirotope, verdict))
+        }
         Err(Unrepresented::Refused(why)) => Ok(why),
         Err(Unrepresented::Flat) => Ok(Line::RefusedFlatrank),
         Err(Unrepresented::Memory) => Err(NoMemory),
-    }
-}
-
-/// The line that answers a verdict on an oriented matroid.
-fn verify_representation(representation: Representation, verdict: Verdict) -> Line
-    requires { HasEvidenceWithinLimits verdict }
-    ensures { IsJudged (document_of representation) verdict result }
-{
-    match choose_chirotope(representation) {
-        Ok(chirotope) => verify_verdict(&chirotope, verdict),
-        Err(why) => why,
     }
 }
 

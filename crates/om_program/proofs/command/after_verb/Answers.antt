@@ -1,4 +1,4 @@
-use Rattle.om_program.proofs.WordLaws.{ok_named, err_passed, accept_shape, member_shape, convert_shape, dual_shape, delete_shape, contract_shape, reorient_shape, check_shape}
+use Rattle.om_program.proofs.WordLaws.{ok_named, err_passed, accept_shape, member_shape, convert_shape, dual_shape, delete_shape, contract_shape, reorient_shape, wiring_shape, mutations_shape, flip_shape, decide_shape, check_shape}
 use Rattle.om_program.proofs.command.after_verb.Goals as goal
 
 pub returns-in_ok-none-in-Accept : goal.returns-in_ok-none-in-Accept
@@ -42,6 +42,30 @@ returns-in_ok-elements-in-Reorient c = rw c.in-Reorient.is (ok_named _ _ _ _ _ _
 
 pub returns-in_err-elements-in-Reorient : goal.returns-in_err-elements-in-Reorient
 returns-in_err-elements-in-Reorient c = rw c.in-Reorient.is (err_passed _ _ _ _ _ _ _ reorient_shape c.elements.ensures c.in_err-elements-in-Reorient.was c.from_residual-in_err-elements-in-Reorient.ensures.1)
+
+pub returns-in_ok-none-in-Wiring : goal.returns-in_ok-none-in-Wiring
+returns-in_ok-none-in-Wiring c = rw c.in-Wiring.is (ok_named _ _ _ _ _ _ wiring_shape c.none-in-Wiring.ensures c.in_ok-none-in-Wiring.was)
+
+pub returns-in_err-none-in-Wiring : goal.returns-in_err-none-in-Wiring
+returns-in_err-none-in-Wiring c = rw c.in-Wiring.is (err_passed _ _ _ _ _ _ _ wiring_shape c.none-in-Wiring.ensures c.in_err-none-in-Wiring.was c.from_residual-in_err-none-in-Wiring.ensures.1)
+
+pub returns-in_ok-none-in-Mutations : goal.returns-in_ok-none-in-Mutations
+returns-in_ok-none-in-Mutations c = rw c.in-Mutations.is (ok_named _ _ _ _ _ _ mutations_shape c.none-in-Mutations.ensures c.in_ok-none-in-Mutations.was)
+
+pub returns-in_err-none-in-Mutations : goal.returns-in_err-none-in-Mutations
+returns-in_err-none-in-Mutations c = rw c.in-Mutations.is (err_passed _ _ _ _ _ _ _ mutations_shape c.none-in-Mutations.ensures c.in_err-none-in-Mutations.was c.from_residual-in_err-none-in-Mutations.ensures.1)
+
+pub returns-in_ok-a-in-Flip : goal.returns-in_ok-a-in-Flip
+returns-in_ok-a-in-Flip c = rw c.in-Flip.is (ok_named _ _ _ _ _ _ flip_shape c.triple.ensures c.in_ok-a-in-Flip.was)
+
+pub returns-in_err-a-in-Flip : goal.returns-in_err-a-in-Flip
+returns-in_err-a-in-Flip c = rw c.in-Flip.is (err_passed _ _ _ _ _ _ _ flip_shape c.triple.ensures c.in_err-a-in-Flip.was c.from_residual-in_err-a-in-Flip.ensures.1)
+
+pub returns-in_ok-budgets-in-Decide : goal.returns-in_ok-budgets-in-Decide
+returns-in_ok-budgets-in-Decide c = rw c.in-Decide.is (ok_named _ _ _ _ _ _ decide_shape c.budgets.ensures c.in_ok-budgets-in-Decide.was)
+
+pub returns-in_err-budgets-in-Decide : goal.returns-in_err-budgets-in-Decide
+returns-in_err-budgets-in-Decide c = rw c.in-Decide.is (err_passed _ _ _ _ _ _ _ decide_shape c.budgets.ensures c.in_err-budgets-in-Decide.was c.from_residual-in_err-budgets-in-Decide.ensures.1)
 
 pub returns-in_ok-none-in-Check : goal.returns-in_ok-none-in-Check
 returns-in_ok-none-in-Check c = rw c.in-Check.is (ok_named _ _ _ _ _ _ check_shape c.none-in-Check.ensures c.in_ok-none-in-Check.was)

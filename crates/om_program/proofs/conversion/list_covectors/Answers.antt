@@ -1,12 +1,11 @@
 use Rattle.std.proofs.lemmas.Result.{IfOk-weaker}
-use Rattle.om_answer.specs.declared.kind.Kind.TheVariants as kind
-use Rattle.om_program.proofs.ConversionLaws.{covectors_converted, too_many}
+use Rattle.om_program.proofs.ConversionLaws.{covectors_made, many_covectors}
 use Rattle.om_program.proofs.conversion.list_covectors.Goals as goal
 
 pub returns-in-Ok : goal.returns-in-Ok
-returns-in-Ok c =
+returns-in-Ok c = λ r of other.
     let d = c.covectors_document.ensures in
-    covectors_converted c.args.chirotope.now c.in-Ok.covectors c.covectors_document.result d.value d.form d.axioms c.in-Ok.ensures.elements c.in-Ok.ensures.members c.in-Ok.ensures.same c.in-Ok.ensures.few
+    covectors_made r c.args.chirotope.now c.rank-rank.ensures.lawful of c.in-Ok.covectors c.covectors_document.result other d.value d.form d.axioms c.in-Ok.ensures.elements c.in-Ok.ensures.members c.in-Ok.ensures.same c.in-Ok.ensures.few
 
 pub returns-in-Err : goal.returns-in-Err
-returns-in-Err c = IfOk-weaker _ _ _ (λ a many. too_many kind.Covectors c.args.chirotope.now c.in-Err.why a c.in-Err.ensures.many many) c.refuse_list.ensures
+returns-in-Err c = IfOk-weaker _ _ _ (λ a many. many_covectors c.args.chirotope.now c.rank-rank.ensures.lawful c.in-Err.why a c.in-Err.ensures.many many) c.refuse_list.ensures

@@ -3,6 +3,7 @@ use Rattle.std.proofs.Common.{refl, rules}
 use Rattle.om_program.specs.Meaning.{Means}
 use Rattle.om_program.proofs.MeaningLaws.{whole, cut_off, named_answer, named_cut_off, usage_meant}
 use Rattle.om_program.proofs.OperationLaws.{lawful_arguments}
+use Rattle.om_program.proofs.ValidClaimLaws.{verdicts_found_valid}
 use Rattle.om_program.proofs.run.run.Goals as goal
 
 pub carry_out-requires : goal.carry_out-requires
@@ -13,6 +14,12 @@ returns-in-Ok-clause-answer g c = λ answered. named_answer _ _ _ _ _ _ ((c.in-O
 
 pub returns-in-Ok-clause-cut : goal.returns-in-Ok-clause-cut
 returns-in-Ok-clause-cut g c = λ cut. named_cut_off _ _ _ _ _ ((c.in-Ok.ensures.task c.in-Ok.task).0 refl) (c.carry_out.ensures.cut cut)
+
+pub returns-in-Ok-clause-decided : goal.returns-in-Ok-clause-decided
+returns-in-Ok-clause-decided g c = verdicts_found_valid
+
+pub returns-in-Err-clause-decided : goal.returns-in-Err-clause-decided
+returns-in-Err-clause-decided g c = verdicts_found_valid
 
 pub returns-in-Err-clause-answer : goal.returns-in-Err-clause-answer
 returns-in-Err-clause-answer g c = λ answered. whole (Means _) _ _ _ _ _ (usage_meant _ _ _ c.in-Err.ensures.usage) (c.write_usage.ensures.whole answered)

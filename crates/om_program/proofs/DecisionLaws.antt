@@ -1,0 +1,76 @@
+-- Decisions as answers.
+--
+-- Main results: the budgets that words name are in their ranges (lawful_budgets); what a call says of a verdict (verdict_decided), and of the answer
+-- to a document (decision_meant); a verdict is written with a status other than that of usage (verdict_status), and a decision is an answer that can
+-- be written (decision_replies).
+use Rattle.std.specs.Prelude.{ℕ, ◌≡◌, ◌≤◌, List, Result, Ok, Err, IfOk}
+use Rattle.std.proofs.Common.{arith, sym, subst}
+use Rattle.om_signs.specs.declared.limits.TheConstants.{MAX_ELEMENTS}
+use Rattle.om_chirotope.specs.Map.{SignMap}
+use Rattle.om_chirotope.specs.Chirotope.{IsChirotope}
+use Rattle.om_vectors.specs.Realizations.{Realizes}
+use Rattle.om_certificate.specs.declared.verdict.Verdict.{Verdict}
+use Rattle.om_certificate.specs.declared.verdict.Verdict.TheVariants.{Realizable, Nonrealizable, Undecided, Limit}
+use Rattle.om_certificate.specs.Forms.{IsVerdictInForm}
+use Rattle.om_decide.specs.declared.budgets.Budgets.{Budgets}
+use Rattle.om_decide.specs.Verdicts as decide
+use Rattle.om_decide.proofs.VerdictLaws.{verdict_shown}
+use Rattle.om_text.specs.declared.document.Document.{Document}
+use Rattle.om_program.specs.declared.answer.Answer.{Answer}
+use Rattle.om_program.specs.declared.representation.Representation.{Representation}
+use Rattle.om_program.specs.declared.setting.Setting.TheVariants.{BoxSize, Steps, Pivots}
+use Rattle.om_program.specs.Answers.{IsReply, status_of_verdict}
+use Rattle.om_program.specs.Statuses.{IsReplied}
+use Rattle.om_program.specs.Options.{AreBudgets, budgets_of}
+use Rattle.om_program.specs.Chirotopes.{IsChirotopeOf}
+use Rattle.om_program.specs.Documents.{document_of}
+use Rattle.om_program.specs.Represented.{IsMeantFor}
+use Rattle.om_program.specs.Decisions.{IsDecided, DecisionMeans, other_rank, decided, IsDecision, of_chirotope}
+use Rattle.om_program.proofs.OptionLaws.{number_of_within}
+
+amount_lawful : (words : List (List ℕ)) → decide.AreBudgets (budgets_of words)
+amount_lawful words =
+    let box = number_of_within words BoxSize in
+    let steps = number_of_within words Steps in
+    let pivots = number_of_within words Pivots in
+    record { box_low = box.low; box_high = box.high; steps_low = steps.low; steps_high = steps.high; pivots_low = pivots.low; pivots_high = pivots.high }
+
+pub lawful_budgets : (words : List (List ℕ)) (b : Budgets) → AreBudgets words b → decide.AreBudgets b
+lawful_budgets words b set = subst decide.AreBudgets (sym set.1) (amount_lawful words)
+
+-- ---- a verdict on a chirotope
+
+verdict_rank : (m : SignMap) (b : Budgets) (v : Verdict) → decide.IsVerdictOf m b v → m.rank ≡ 3
+verdict_rank m b v (decide.realizable vs found) = let realizes : Realizes vs m = verdict_shown m b v (decide.realizable vs found) in realizes.rank
+verdict_rank m b v (decide.nonrealizable counts end) = end.rank
+verdict_rank m b v (decide.undecided zs u end unfound) = end.rank
+verdict_rank m b v (decide.pivot_limit basis u end unfound) = end.rank
+verdict_rank m b v (decide.width stage pivot row place u end unfound) = end.rank
+
+pub verdict_decided : (m : SignMap) (b : Budgets) (v : Verdict) (n : ℕ) → n ≡ m.elements → 1 ≤ n → n ≤ MAX_ELEMENTS → IsChirotope m → decide.IsVerdictOf m b v → IsVerdictInForm v → IsDecided m b v
+verdict_decided m b v n size low high axioms verdict form = record {
+  rank = verdict_rank m b v verdict;
+  sound = record { axioms = axioms; limits = record { low = omega (arith, size, low); high = omega (arith, size, high) } };
+  verdict = verdict;
+  form = form;
+}
+
+-- ---- decisions as answers
+
+-- the decision of the chirotope that was chosen is that of the document of the representation
+pub decision_meant : (b : Budgets) (c : SignMap) (r : Representation) → IsChirotopeOf (document_of r) c → {E : Type 0} (result : Result Answer E) → IfOk result (DecisionMeans c b) → IfOk result (IsMeantFor (IsDecision b) r)
+decision_meant b c r chosen (Ok answer) means = of_chirotope c answer chosen means
+decision_meant b c r chosen (Err e) means = tt
+
+pub verdict_status : (v : Verdict) → IsReplied (status_of_verdict v)
+verdict_status (Realizable vs) = tt
+verdict_status (Nonrealizable es) = tt
+verdict_status (Undecided ws u) = tt
+verdict_status (Limit end u) = tt
+
+means_replies : (m : SignMap) (b : Budgets) (a : Answer) → DecisionMeans m b a → IsReply a
+means_replies m b a (other_rank other) = tt
+means_replies m b a (decided v is) = is.form
+
+pub decision_replies : (b : Budgets) (d : Document) (a : Answer) → IsDecision b d a → IsReply a
+decision_replies b d a (of_chirotope m answer of means) = means_replies m b a means

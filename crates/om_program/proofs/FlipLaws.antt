@@ -1,0 +1,49 @@
+-- The set of three elements, and why its triple isn't flipped.
+--
+-- Main results: no element is above n (within_of_none); the elements of the set (three_elements); a refusal (refused_flip).
+use Rattle.std.specs.Prelude.{ℕ, ◌≡◌, ◌+◌, ◌<◌, ◌≤◌, [], Some, None, refl}
+use Rattle.std.proofs.Common.{zero, suc, arith, sym, ◌∙◌, inl, inr}
+use Rattle.std.proofs.lemmas.Bool.{cases_lt, lt-ltb, le-ltb, ne_eqb}
+use Rattle.om_subsets.specs.Subsets.{with_element}
+use Rattle.om_subsets.specs.Members.{Chosen, members}
+use Rattle.om_chirotope.specs.Map.{SignMap}
+use Rattle.om_mutate.specs.declared.flip_refused.FlipRefused.{FlipRefused}
+use Rattle.om_mutate.specs.declared.flip_refused.FlipRefused.TheVariants as why
+use Rattle.om_mutate.specs.Refusals.{IsRefusal}
+use Rattle.om_program.specs.Answers.{says}
+use Rattle.om_program.specs.Operations.{first_above}
+use Rattle.om_program.specs.Flips.{triple_of, flip_refusal, IsFlipOfMap, other_rank, no_basis, no_mutation}
+
+pub no_members : (e m : ℕ) → members 0 e m ≡ []
+no_members e zero = refl
+no_members e (suc m) = no_members (e + 1) m
+
+pub three_elements : (a b c : ℕ) → a < b → b < c → with_element c (with_element b (with_element a [])) ≡ triple_of a b c
+three_elements a b c l k =
+    let ba : b ≡ a → ⊥ = omega arith in
+    let ca : c ≡ a → ⊥ = omega arith in
+    let cb : c ≡ b → ⊥ = omega arith in
+    let ab : a ≤ b = omega arith in
+    let ac : a ≤ c = omega arith in
+    let bc : b ≤ c = omega arith in
+    rw (ne_eqb b a ba, le-ltb b a ab) (rw (ne_eqb c a ca, le-ltb c a ac) (rw (ne_eqb c b cb, le-ltb c b bc) refl))
+
+pub within_of_none : (n a b c : ℕ) → first_above n (triple_of a b c) ≡ None → c ≤ n
+within_of_none n a b c none = elim (cases_lt n c) [
+  | inl lt ↦ elim (cases_lt n a) [
+    | inl la ↦ let e : first_above n (triple_of a b c) ≡ Some a = rw (lt-ltb n a la) refl in absurd (no_some a (sym e ∙ none))
+    | inr ga ↦ elim (cases_lt n b) [
+      | inl lb ↦ let e : first_above n (triple_of a b c) ≡ Some b = rw (le-ltb n a ga, lt-ltb n b lb) refl in absurd (no_some b (sym e ∙ none))
+      | inr gb ↦ let e : first_above n (triple_of a b c) ≡ Some c = rw (le-ltb n a ga, le-ltb n b gb, lt-ltb n c lt) refl in absurd (no_some c (sym e ∙ none))
+    ]
+  ]
+  | inr ge ↦ ge
+]
+  where
+    no_some : (x : ℕ) → Some x ≡ None → ⊥
+    no_some x same = cc
+
+pub refused_flip : (m : SignMap) (t : Chosen) (why : FlipRefused) → first_above m.elements t.elements ≡ None → IsRefusal m t why → IsFlipOfMap t.elements m (says (flip_refusal why))
+refused_flip m t (why.NotRank3 r) none (is, other) = rw is (other_rank none other)
+refused_flip m t why.NotBasis none (three, null) = no_basis none three null
+refused_flip m t (why.NotMutation s a) none is = no_mutation s a none is.0 is.1 is.2

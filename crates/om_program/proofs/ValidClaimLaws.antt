@@ -1,0 +1,110 @@
+-- The text of a verdict, given to `check`.
+--
+-- Main results: verdicts_found_valid.
+use Rattle.std.specs.Prelude.{ℕ, ◌≡◌, ◌≤◌, List, [], ◌∷◌, codes, length, refl, Ok}
+use Rattle.std.proofs.Common.{sym, ap, subst}
+use Rattle.om_signs.specs.declared.limits.TheConstants.{MAX_INPUT}
+use Rattle.om_chirotope.specs.Map.{SignMap}
+use Rattle.om_chirotope.specs.Chirotope.{IsSound}
+use Rattle.om_certificate.specs.declared.evidence.Evidence.{Evidence}
+use Rattle.om_certificate.specs.declared.evidence.Evidence.TheVariants.{Vectors, Balanced, Weights}
+use Rattle.om_certificate.specs.declared.verdict.Verdict.{Verdict}
+use Rattle.om_certificate.specs.declared.verdict.Verdict.TheVariants.{Realizable, Nonrealizable, Undecided, Limit}
+use Rattle.om_certificate.specs.Verdicts.{certificate_of}
+use Rattle.om_certificate.specs.Validity.{IsValid, Shows}
+use Rattle.om_certificate.proofs.Exclusion.{certificate_excludes, weights_exclude}
+use Rattle.om_decide.specs.declared.budgets.Budgets.{Budgets}
+use Rattle.om_decide.proofs.VerdictLaws.{verdict_shown}
+use Rattle.om_text.specs.declared.document.Document.{Document}
+use Rattle.om_text.specs.Form.{IsInForm}
+use Rattle.om_answer.specs.VerdictText.{chirotope_document, claim_of, verdict_text}
+use Rattle.om_answer.proofs.VerdictReading.{claim_read}
+use Rattle.om_program.specs.declared.answer.Answer.{Answer}
+use Rattle.om_program.specs.declared.answer.Answer.TheVariants as answer
+use Rattle.om_program.specs.declared.task.Task.{Task}
+use Rattle.om_program.specs.declared.task.Task.TheVariants.{Decide, Check}
+use Rattle.om_program.specs.declared.verb.Verb.TheVariants as verb
+use Rattle.om_program.specs.Answers.{says, judges}
+use Rattle.om_program.specs.Claims.{valid, judged, verified, valid_line}
+use Rattle.om_program.specs.Decisions.{IsDecided, DecisionMeans, other_rank, decided, IsDecision, of_chirotope}
+use Rattle.om_program.specs.Meaning.{Means, usage, named, TaskMeans, long, faulty, read, faulty_claim, claimed, DocumentMeans, refused, flat, answered}
+use Rattle.om_program.specs.ValidClaims.{IsLimit, IsFoundValid, VerdictsAreFoundValid}
+use Rattle.om_program.specs.Words.{Names, verb_of}
+use Rattle.om_program.proofs.VerbLaws.{same_verb}
+use Rattle.om_program.proofs.WordLaws.{first_of, decide_shape}
+
+-- ---- where a verdict comes from
+
+-- the verdict that an answer has is on a map and has these budgets
+abbrev IsJudged : Budgets → Answer → Type 0
+IsJudged b (answer.Line l) = Unit {0}
+IsJudged b (answer.Document d) = Unit {0}
+IsJudged b (answer.Mutations sets) = Unit {0}
+IsJudged b (answer.Verdict m v) = IsDecided m b v
+
+map_judged : (m : SignMap) (b : Budgets) (a : Answer) → DecisionMeans m b a → IsJudged b a
+map_judged m b a (other_rank other) = tt
+map_judged m b a (decided v is) = is
+
+decision_judged : (b : Budgets) (d : Document) (a : Answer) → IsDecision b d a → IsJudged b a
+decision_judged b d a (of_chirotope m answer of means) = map_judged m b a means
+
+document_judged : (b : Budgets) (d : Document) (a : Answer) → DocumentMeans (Decide b) d a → IsJudged b a
+document_judged b d a (refused why is) = tt
+document_judged b d a (flat axioms is) = tt
+document_judged b d a (answered answer axioms bent is) = decision_judged b _ a is
+
+task_judged : (b : Budgets) (bytes : List ℕ) (a : Answer) → TaskMeans (Decide b) bytes a → IsJudged b a
+task_judged b bytes a (long reads past) = tt
+task_judged b bytes a (faulty n c reads short is) = tt
+task_judged b bytes a (read d answer reads short is means) = document_judged b d a means
+task_judged b bytes a (faulty_claim n c reads short is) = tt
+task_judged b bytes a (claimed c l reads short is means) = tt
+
+-- some budgets are those of the verdict that an answer has
+abbrev IsSomeJudged : Answer → Type 0
+IsSomeJudged a = (b : Budgets) × IsJudged b a
+
+-- words that begin with `decide` name a decision
+named_decide : (options : List (List ℕ)) (task : Task) → Names (codes "decide" ∷ options) task → (b : Budgets) × (task ≡ Decide b)
+named_decide options task names = decide_shape.only task (sym (same_verb verb.Decide (verb_of task) (ap first_of names.first)))
+
+no_budgets : Budgets
+no_budgets = record { box_size = 1; steps = 1; pivots = 1 }
+
+words_judged : (options : List (List ℕ)) (bytes : List ℕ) (a : Answer) → Means (codes "decide" ∷ options) bytes a → IsSomeJudged a
+words_judged options bytes a (usage k at) = (no_budgets, tt)
+words_judged options bytes a (named task answer names means) =
+    let found = named_decide options task names in
+    (found.0, task_judged found.0 bytes a (subst (λ t. TaskMeans t bytes a) found.1 means))
+
+-- ---- what the check of its text answers
+
+document_form : (m : SignMap) → IsSound m → IsInForm (chirotope_document m)
+document_form m sound = record {
+  low = sound.limits.low;
+  high = sound.limits.high;
+  body = record { elements = refl; rank = sound.axioms.whole.part; signs = sound.axioms.whole.whole };
+}
+
+evidence_shown : (m : SignMap) (e : Evidence) → IsValid m e → Shows m e
+evidence_shown m (Vectors vs) realizes = realizes
+evidence_shown m (Balanced es) certificate = certificate_excludes m es certificate
+evidence_shown m (Weights ws) weights = weights_exclude m ws weights
+
+evidence_checked : (m : SignMap) (b : Budgets) (v : Verdict) (e : Evidence) → IsDecided m b v → certificate_of v ≡ Ok e → IsValid m e → length (verdict_text m v) ≤ MAX_INPUT → Means (codes "check" ∷ []) (verdict_text m v) (says (valid_line e))
+evidence_checked m b v e is same holds short =
+    named Check _ (record { arguments = []; first = refl; behind = refl })
+    (claimed (claim_of m v) (valid_line e) refl short (claim_read m v (document_form m is.sound) is.form)
+    (verified m (valid_line e) is.sound.axioms (λ bent. bent) refl (judged e (valid_line e) is.rank same (valid holds (evidence_shown m e holds)))))
+
+verdict_checked : (m : SignMap) (b : Budgets) (v : Verdict) → IsDecided m b v → (IsLimit v → ⊥) → length (verdict_text m v) ≤ MAX_INPUT → IsFoundValid (verdict_text m v) v
+verdict_checked m b (Realizable vs) is no_limit short = record { line = _; word = refl; means = evidence_checked m b (Realizable vs) (Vectors vs) is refl (verdict_shown m b (Realizable vs) is.verdict) short }
+verdict_checked m b (Nonrealizable es) is no_limit short = record { line = _; word = refl; means = evidence_checked m b (Nonrealizable es) (Balanced es) is refl (verdict_shown m b (Nonrealizable es) is.verdict) short }
+verdict_checked m b (Undecided ws u) is no_limit short = record { line = _; word = refl; means = evidence_checked m b (Undecided ws u) (Weights ws) is refl (verdict_shown m b (Undecided ws u) is.verdict) short }
+verdict_checked m b (Limit end u) is no_limit short = absurd (no_limit tt)
+
+pub verdicts_found_valid : VerdictsAreFoundValid
+verdicts_found_valid options bytes m v means no_limit short =
+    let found = words_judged options bytes (judges m v) means in
+    verdict_checked m found.0 v found.1 no_limit short

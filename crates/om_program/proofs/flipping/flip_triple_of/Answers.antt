@@ -1,0 +1,37 @@
+use Rattle.std.specs.Prelude.{ℕ, ◌≡◌, List, length, None}
+use Rattle.std.proofs.Common.{refl, sym, ap, subst, ◌∙◌}
+use Rattle.om_mutate.specs.Mutations.{flipped, IsMutation}
+use Rattle.om_program.specs.Answers.{says}
+use Rattle.om_program.specs.Documents.{map_document}
+use Rattle.om_program.specs.Operations.{first_above}
+use Rattle.om_program.specs.Flips.{triple_of, flip_refusal, IsFlipOfMap, outside, turned}
+use Rattle.om_program.proofs.FlipLaws.{within_of_none, refused_flip}
+use Rattle.om_program.proofs.flipping.flip_triple_of.Goals as goal
+
+pub subset_of-requires : goal.subset_of-requires
+subset_of-requires c = record {
+  increasing = c.requires;
+  within = within_of_none c.elements-n.result c.args.a c.args.b c.args.c (sym c.place_above.ensures ∙ c.in_default.is);
+  few = c.elements-n.ensures.high;
+}
+
+pub flip-requires : goal.flip-requires
+flip-requires c = record { n = c.subset_of.ensures.n ∙ c.elements-n.ensures.value; size = ap length c.subset_of.ensures.elements }
+
+pub returns-in-Some : goal.returns-in-Some
+returns-in-Some c = outside c.in-Some.e (ap (λ k. first_above k (triple_of c.args.a c.args.b c.args.c)) (sym c.elements-n.ensures.value) ∙ sym c.place_above.ensures ∙ c.in-Some.is)
+
+pub returns-in-Ok : goal.returns-in-Ok
+returns-in-Ok c =
+    let none = ap (λ k. first_above k (triple_of c.args.a c.args.b c.args.c)) (sym c.elements-n.ensures.value) ∙ sym c.place_above.ensures ∙ c.in_default.is in
+    let is = c.in-Ok.ensures.accepted.0 refl in
+    let same = c.in-Ok.ensures.value ∙ ap (flipped c.args.chirotope) c.subset_of.ensures.elements in
+    turned c.map_document.result none is.0 (subst (IsMutation c.args.chirotope) c.subset_of.ensures.elements is.1) (c.map_document.ensures.value ∙ ap map_document same) c.map_document.ensures.form
+
+pub returns-in-Err : goal.returns-in-Err
+returns-in-Err c =
+    let none = ap (λ k. first_above k (triple_of c.args.a c.args.b c.args.c)) (sym c.elements-n.ensures.value) ∙ sym c.place_above.ensures ∙ c.in_default.is in
+    let P : List ℕ → Type 0 = λ t. first_above c.args.chirotope.elements t ≡ None in
+    let Q : List ℕ → Type 0 = λ t. IsFlipOfMap t c.args.chirotope (says (flip_refusal c.in-Err.bad.why)) in
+    let refused = refused_flip c.args.chirotope c.subset_of.result c.in-Err.bad.why (subst P (sym c.subset_of.ensures.elements) none) c.in-Err.ensures.refused in
+    rw c.flip_refusal.ensures (subst Q c.subset_of.ensures.elements refused)

@@ -1,0 +1,32 @@
+-- Whether vectors realize the oriented matroid of a document: the verdict on its chirotope, within budgets.
+use Rattle.std.specs.Prelude.{◌≡◌, ◌≢◌}
+use Rattle.om_chirotope.specs.Map.{SignMap}
+use Rattle.om_chirotope.specs.Chirotope.{IsSound}
+use Rattle.om_certificate.specs.declared.verdict.Verdict.{Verdict}
+use Rattle.om_certificate.specs.Forms.{IsVerdictInForm}
+use Rattle.om_decide.specs.declared.budgets.Budgets.{Budgets}
+use Rattle.om_decide.specs.Verdicts.{IsVerdictOf}
+use Rattle.om_text.specs.declared.document.Document.{Document}
+use Rattle.om_answer.specs.declared.line.Line.TheVariants as line
+use Rattle.om_program.specs.declared.answer.Answer.{Answer}
+use Rattle.om_program.specs.Answers.{says, judges}
+use Rattle.om_program.specs.Chirotopes.{IsChirotopeOf}
+
+-- the verdict on a map of rank 3 by these budgets; the map is a chirotope, and the verdict has the forms and the limits of a claim
+pub record IsDecided (m : SignMap) (b : Budgets) (v : Verdict) : Type 0 where
+  pub rank : m.rank ≡ 3
+  pub sound : IsSound m
+  pub verdict : IsVerdictOf m b v
+  pub form : IsVerdictInForm v
+
+-- what the decision of a map comes to
+pub data DecisionMeans (m : SignMap) (b : Budgets) : Answer → Type 0 where
+  -- verdicts are of rank 3
+  other_rank : m.rank ≢ 3 → DecisionMeans m b (says (line.RefusedNotrank3 m.rank))
+  -- the map with the verdict on it
+  decided : (v : Verdict) → IsDecided m b v → DecisionMeans m b (judges m v)
+
+-- what the decision of a document comes to
+pub data IsDecision (b : Budgets) (d : Document) : Answer → Type 0 where
+  -- that of its chirotope
+  of_chirotope : (m : SignMap) (answer : Answer) → IsChirotopeOf d m → DecisionMeans m b answer → IsDecision b d answer

@@ -1,0 +1,53 @@
+-- What the flip of a triple is: the chirotope with the sign of three elements turned.
+use Rattle.std.specs.Prelude.{ℕ, ◌≡◌, ◌≢◌, ◌<◌, ◌≤◌, List, [], ◌∷◌, Some, None}
+use Rattle.om_signs.specs.declared.limits.TheConstants.{MAX_ELEMENTS}
+use Rattle.om_signs.specs.declared.sign.Sign.TheVariants.{Zero}
+use Rattle.om_subsets.specs.Members.{Chosen}
+use Rattle.om_chirotope.specs.Map.{SignMap, chi_of}
+use Rattle.om_chirotope.specs.Chirotope.{IsFirstViolated}
+use Rattle.om_mutate.specs.declared.flip_refused.FlipRefused.{FlipRefused}
+use Rattle.om_mutate.specs.declared.flip_refused.FlipRefused.TheVariants as why
+use Rattle.om_mutate.specs.Mutations.{flipped, IsMutation}
+use Rattle.om_text.specs.declared.document.Document.{Document}
+use Rattle.om_text.specs.Form.{IsInForm}
+use Rattle.om_answer.specs.declared.line.Line.{Line}
+use Rattle.om_answer.specs.declared.line.Line.TheVariants as line
+use Rattle.om_program.specs.declared.answer.Answer.{Answer}
+use Rattle.om_program.specs.Answers.{says, shows}
+use Rattle.om_program.specs.Documents.{map_document}
+use Rattle.om_program.specs.Operations.{first_above}
+use Rattle.om_program.specs.RankThree.{IsForChirotope}
+
+-- three elements, strictly increasing, within the limit
+pub record AreIncreasing (a b c : ℕ) : Type 0 where
+  pub low : 1 ≤ a
+  pub first : a < b
+  pub second : b < c
+  pub high : c ≤ MAX_ELEMENTS
+
+-- the list of three elements
+abbrev pub triple_of : ℕ → ℕ → ℕ → List ℕ
+triple_of a b c = a ∷ b ∷ c ∷ []
+
+-- the line that says why a triple can't be flipped
+abbrev pub flip_refusal : FlipRefused → Line
+flip_refusal (why.NotRank3 r) = line.RefusedNotrank3 r
+flip_refusal why.NotBasis = line.RefusedNotbasis
+flip_refusal (why.NotMutation s a) = line.RefusedNotmutation s a
+
+-- the flip of a triple of a map
+pub data IsFlipOfMap (t : List ℕ) (m : SignMap) : Answer → Type 0 where
+  -- its first element above the number of elements
+  outside : (e : ℕ) → first_above m.elements t ≡ Some e → IsFlipOfMap t m (says (line.RefusedPlace e))
+  -- flips are of rank 3
+  other_rank : first_above m.elements t ≡ None → m.rank ≢ 3 → IsFlipOfMap t m (says (line.RefusedNotrank3 m.rank))
+  -- its sign is zero
+  no_basis : first_above m.elements t ≡ None → m.rank ≡ 3 → chi_of m t ≡ Zero → IsFlipOfMap t m (says line.RefusedNotbasis)
+  -- with its sign turned the map breaks the axioms, and this pair is the first one
+  no_mutation : (s a : Chosen) → first_above m.elements t ≡ None → m.rank ≡ 3 → chi_of m t ≢ Zero → IsFirstViolated (flipped m t) s a → IsFlipOfMap t m (says (line.RefusedNotmutation s a))
+  -- it is a mutation: the document of the map with its sign turned
+  turned : (e : Document) → first_above m.elements t ≡ None → m.rank ≡ 3 → IsMutation m t → e ≡ map_document (flipped m t) → IsInForm e → IsFlipOfMap t m (shows e)
+
+-- the flip of three elements of the chirotope of a document
+abbrev pub IsFlip : ℕ → ℕ → ℕ → Document → Answer → Type 0
+IsFlip a b c d answer = IsForChirotope (IsFlipOfMap (triple_of a b c)) d answer

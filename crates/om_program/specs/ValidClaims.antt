@@ -1,0 +1,26 @@
+-- What `decide` answers is a claim that `check` finds valid.
+use Rattle.std.specs.Prelude.{ℕ, ◌≡◌, ◌≤◌, List, [], ◌∷◌, ◌++◌, codes, length}
+use Rattle.om_signs.specs.declared.limits.TheConstants.{MAX_INPUT}
+use Rattle.om_chirotope.specs.Map.{SignMap}
+use Rattle.om_certificate.specs.declared.verdict.Verdict.{Verdict}
+use Rattle.om_certificate.specs.declared.verdict.Verdict.TheVariants as verdict
+use Rattle.om_answer.specs.declared.line.Line.{Line}
+use Rattle.om_answer.specs.Texts.{line_text}
+use Rattle.om_answer.specs.VerdictText.{verdict_name, verdict_text}
+use Rattle.om_program.specs.Answers.{says, judges}
+use Rattle.om_program.specs.Meaning.{Means}
+
+-- the verdict is a limit
+abbrev pub IsLimit : Verdict → Type 0
+IsLimit (verdict.Limit end unfound) = Unit {0}
+IsLimit _ = ⊥
+
+-- of these bytes `check` answers `valid`, with the word of the verdict
+pub record IsFoundValid (bytes : List ℕ) (v : Verdict) : Type 0 where
+  pub line : Line
+  pub word : line_text line ≡ codes "valid " ++ verdict_name v ++ 10 ∷ []
+  pub means : Means (codes "check" ∷ []) bytes (says line)
+
+-- the text of each verdict of `decide` other than a limit, where it is no longer than an input may be, is found valid
+abbrev pub VerdictsAreFoundValid : Type 0
+VerdictsAreFoundValid = (options : List (List ℕ)) (bytes : List ℕ) (m : SignMap) (v : Verdict) → Means (codes "decide" ∷ options) bytes (judges m v) → (IsLimit v → ⊥) → length (verdict_text m v) ≤ MAX_INPUT → IsFoundValid (verdict_text m v) v

@@ -1,0 +1,46 @@
+//! The verdict whether vectors realize an oriented matroid.
+
+ghost use Rattle.std.specs.Prelude.{IfOk};
+ghost use Rattle.om_decide.specs.Verdicts.{AreBudgets};
+ghost use Rattle.om_program.specs.Represented.{IsMeantFor};
+ghost use Rattle.om_program.specs.Decisions.{IsDecision, DecisionMeans};
+
+use crate::answer::Answer;
+use crate::chirotope_choice::choose_chirotope;
+use crate::representation::Representation;
+use om_answer::Line;
+use om_chirotope::Chirotope;
+use om_decide::{Budgets, DecideError, decide};
+use om_signs::NoMemory;
+use std::alloc::Global;
+
+/// The verdict on the chirotope of an oriented matroid, within budgets.
+pub fn judge(
+    alloc: Global,
+    representation: Representation,
+    budgets: Budgets,
+) -> Result<Answer, NoMemory>
+    requires { AreBudgets budgets }
+    ensures { IfOk result (IsMeantFor (IsDecision budgets) representation) }
+{
+    let chirotope = choose_chirotope(alloc, representation)?;
+    judge_chirotope(alloc, chirotope, budgets)
+}
+
+/// The verdict on a chirotope, within budgets.
+fn judge_chirotope(
+    alloc: Global,
+    chirotope: Chirotope,
+    budgets: Budgets,
+) -> Result<Answer, NoMemory>
+    requires { AreBudgets budgets }
+    ensures { IfOk result (DecisionMeans chirotope budgets) }
+{
+    let _elements = chirotope.elements();
+    let r = chirotope.rank();
+    match decide(alloc, &chirotope, budgets) {
+        Ok(verdict) => Ok(Answer::Verdict { chirotope, verdict }),
+        Err(DecideError::NotRank3 { .. }) => Ok(Answer::Line(Line::RefusedNotrank3 { r })),
+        Err(DecideError::Memory) => Err(NoMemory),
+    }
+}

@@ -1,0 +1,84 @@
+//! The flip of three elements of a chirotope.
+
+ghost use Rattle.std.specs.Prelude.{◌≡◌, ◌≤◌, IfOk, None};
+ghost use Rattle.om_program.specs.Flips.{AreIncreasing, IsFlip, IsFlipOfMap, flip_refusal, triple_of};
+ghost use Rattle.om_program.specs.Operations.{first_above};
+ghost use Rattle.om_program.specs.Represented.{IsMeantFor};
+
+use crate::answer::Answer;
+use crate::chirotope_choice::choose_chirotope;
+use crate::documents::map_document;
+use crate::representation::Representation;
+use om_answer::Line;
+use om_chirotope::Chirotope;
+use om_mutate::{FlipRefused, flip};
+use om_signs::{MAX_ELEMENTS, NoMemory};
+use om_subsets::Subset;
+use std::alloc::Global;
+
+/// The chirotope of an oriented matroid with the sign of three elements turned. The elements are strictly increasing.
+pub fn flip_triple(
+    alloc: Global,
+    representation: Representation,
+    a: u8,
+    b: u8,
+    c: u8,
+) -> Result<Answer, NoMemory>
+    requires { AreIncreasing a b c }
+    ensures { IfOk result (IsMeantFor (IsFlip a b c) representation) }
+{
+    let chirotope = choose_chirotope(alloc, representation)?;
+    Ok(flip_triple_of(chirotope, a, b, c))
+}
+
+/// The chirotope with the sign of three elements turned.
+fn flip_triple_of(chirotope: Chirotope, a: u8, b: u8, c: u8) -> Answer
+    requires { AreIncreasing a b c }
+    ensures { IsFlipOfMap (triple_of a b c) chirotope result }
+{
+    let n = chirotope.elements();
+    if let Some(e) = place_above(n, a, b, c) {
+        return Answer::Line(Line::RefusedPlace { e });
+    }
+    match flip(chirotope, subset_of(n, a, b, c)) {
+        Ok(turned) => Answer::Document(map_document(turned)),
+        Err(bad) => Answer::Line(flip_refusal(bad.why)),
+    }
+}
+
+/// The first of three elements that is above n.
+fn place_above(n: u8, a: u8, b: u8, c: u8) -> Option<u8>
+    ensures { result ≡ first_above n (triple_of a b c) }
+{
+    if n < a {
+        Some(a)
+    } else if n < b {
+        Some(b)
+    } else if n < c {
+        Some(c)
+    } else {
+        None
+    }
+}
+
+/// The set of three elements of 1 to n, which are strictly increasing.
+fn subset_of(n: u8, a: u8, b: u8, c: u8) -> Subset
+    requires increasing { AreIncreasing a b c }
+    requires within { c ≤ n }
+    requires few { n ≤ MAX_ELEMENTS }
+    ensures n { result.n ≡ n }
+    ensures elements { result.elements ≡ triple_of a b c }
+{
+    Subset::from_mask(0, n).with(a).with(b).with(c)
+}
+
+/// The line that says why a triple can't be flipped.
+fn flip_refusal(why: FlipRefused) -> Line
+    ensures { result ≡ flip_refusal why }
+{
+    match why {
+        FlipRefused::NotRank3 { r } => Line::RefusedNotrank3 { r },
+        FlipRefused::NotBasis => Line::RefusedNotbasis,
+        FlipRefused::NotMutation { s, a } => Line::RefusedNotmutation { s, a },
+    }
+}

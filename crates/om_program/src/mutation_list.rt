@@ -1,0 +1,33 @@
+//! The mutations of a chirotope.
+
+ghost use Rattle.std.specs.Prelude.{IfOk};
+ghost use Rattle.om_program.specs.MutationLists.{AreMutations, AreMutationsOfMap};
+ghost use Rattle.om_program.specs.Represented.{IsMeantFor};
+
+use crate::answer::Answer;
+use crate::chirotope_choice::choose_chirotope;
+use crate::representation::Representation;
+use om_answer::Line;
+use om_chirotope::Chirotope;
+use om_mutate::{MutationError, mutations};
+use om_signs::NoMemory;
+use std::alloc::Global;
+
+/// The mutations of the chirotope of an oriented matroid.
+pub fn list_mutations(alloc: Global, representation: Representation) -> Result<Answer, NoMemory>
+    ensures { IfOk result (IsMeantFor AreMutations representation) }
+{
+    let chirotope = choose_chirotope(alloc, representation)?;
+    list_mutations_of(alloc, &chirotope)
+}
+
+/// The mutations of a chirotope.
+fn list_mutations_of(alloc: Global, chirotope: &Chirotope) -> Result<Answer, NoMemory>
+    ensures { IfOk result (AreMutationsOfMap chirotope.now) }
+{
+    match mutations(alloc, chirotope) {
+        Ok(sets) => Ok(Answer::Mutations(sets)),
+        Err(MutationError::NotRank3 { r }) => Ok(Answer::Line(Line::RefusedNotrank3 { r })),
+        Err(MutationError::Memory) => Err(NoMemory),
+    }
+}

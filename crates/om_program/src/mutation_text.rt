@@ -1,0 +1,34 @@
+//! The text of a list of mutations.
+
+ghost use Rattle.std.specs.Prelude.{◌≡◌, ◌++◌, IfOk, OnOk};
+ghost use Rattle.om_text.specs.Print.{text_of};
+ghost use Rattle.om_program.specs.MutationTexts.{set_lines, mutations_text};
+
+use om_answer::pieces::{push, push_decimal, push_line_feed, push_subset};
+use om_signs::{List, NoMemory};
+use om_subsets::Subset;
+use std::alloc::Global;
+
+/// The text of a list of mutations: a line that says how many there are, a line for each, and `end`.
+pub fn print_mutations(alloc: Global, sets: &List<Subset>) -> Result<Vec<u8>, NoMemory>
+    ensures { IfOk result (λ text. text.items ≡ mutations_text sets.now) }
+{
+    let mut text = Vec::new(alloc);
+    push(&mut text, b"mutations ")?;
+    push_decimal(&mut text, sets.len() as u128)?;
+    push_line_feed(&mut text)?;
+    push_sets(&mut text, sets.as_slice())?;
+    push(&mut text, b"end\n")?;
+    Ok(text)
+}
+
+/// Puts sets at the end, one a line.
+fn push_sets(text: &mut Vec<u8>, sets: &[Subset]) -> Result<(), NoMemory>
+    ensures { OnOk result (text.new.items ≡ text.old.items ++ text_of (set_lines sets.now)) }
+{
+    for set in sets {
+        push_subset(text, *set)?;
+        push_line_feed(text)?;
+    }
+    Ok(())
+}

@@ -1,0 +1,57 @@
+//! The wiring of a chirotope.
+
+ghost use Rattle.std.specs.Prelude.{◌≡◌, IfOk};
+ghost use Rattle.om_text.specs.Form.{IsInForm};
+ghost use Rattle.om_program.specs.Represented.{IsMeantFor};
+ghost use Rattle.om_program.specs.Sweeps.{IsSweepRefusal, IsWiringOf, IsWiringOfMap, wiring_document};
+
+use crate::answer::Answer;
+use crate::chirotope_choice::choose_chirotope;
+use crate::representation::Representation;
+use om_answer::Line;
+use om_chirotope::Chirotope;
+use om_signs::NoMemory;
+use om_text::{Body, Document};
+use om_wiring::{SweepError, Wiring, sweep};
+use std::alloc::Global;
+
+/// The least wiring of the chirotope of an oriented matroid.
+pub fn find_wiring(alloc: Global, representation: Representation) -> Result<Answer, NoMemory>
+    ensures { IfOk result (IsMeantFor IsWiringOf representation) }
+{
+    let chirotope = choose_chirotope(alloc, representation)?;
+    find_wiring_of(alloc, &chirotope)
+}
+
+/// The least wiring of a chirotope.
+fn find_wiring_of(alloc: Global, chirotope: &Chirotope) -> Result<Answer, NoMemory>
+    ensures { IfOk result (IsWiringOfMap chirotope.now) }
+{
+    match sweep(alloc, chirotope) {
+        Ok(wiring) => Ok(Answer::Document(wiring_document(wiring))),
+        Err(why) => sweep_refusal(why),
+    }
+}
+
+/// The line that says why a chirotope isn't swept, or want of memory.
+fn sweep_refusal(why: SweepError) -> Result<Answer, NoMemory>
+    ensures { IfOk result (IsSweepRefusal why) }
+{
+    match why {
+        SweepError::NotRank3 { r } => Ok(Answer::Line(Line::RefusedNotrank3 { r })),
+        SweepError::NotSweepable { s, a } => Ok(Answer::Line(Line::RefusedNotsweepable { s, a })),
+        SweepError::Memory => Err(NoMemory),
+    }
+}
+
+/// The document of a wiring diagram.
+fn wiring_document(wiring: Wiring) -> Document
+    ensures form { IsInForm result }
+    ensures value { result ≡ wiring_document wiring.elements wiring.blocks }
+{
+    let elements = wiring.elements();
+    Document {
+        elements,
+        body: Body::Wiring(wiring.into_blocks()),
+    }
+}

@@ -1,0 +1,41 @@
+use om_convert::ConvertError;
+use om_minors::MinorError;
+
+/// Why an operation makes nothing.
+#[derive(Clone, Copy, Debug, PartialEq, Eq)]
+pub enum Unmade {
+    /// It would take the only element away.
+    LastElement,
+    /// A list would have more than `limit` members.
+    TooMany { limit: u32 },
+    /// Want of memory.
+    Memory,
+}
+
+impl From<MinorError> for Unmade {
+    ghost use Rattle.std.specs.Prelude.{◌≡◌};
+    ghost use Rattle.om_program.specs.Operations.{of_minor};
+
+    ghost from_gives = { λ why e. e ≡ of_minor why };
+
+    fn from(why: MinorError) -> Self {
+        match why {
+            MinorError::LastElement => Unmade::LastElement,
+            MinorError::Memory => Unmade::Memory,
+        }
+    }
+}
+
+impl From<ConvertError> for Unmade {
+    ghost use Rattle.std.specs.Prelude.{◌≡◌};
+    ghost use Rattle.om_program.specs.Operations.{of_conversion};
+
+    ghost from_gives = { λ why e. e ≡ of_conversion why };
+
+    fn from(why: ConvertError) -> Self {
+        match why {
+            ConvertError::TooMany { limit } => Unmade::TooMany { limit },
+            ConvertError::Memory => Unmade::Memory,
+        }
+    }
+}
