@@ -4,6 +4,8 @@ mod ClaimLaws
 mod ConversionLaws
 mod FitLaws
 mod FlipLaws
+mod HullLaws
+mod LeadingLaws
 mod ListingLaws
 mod MeaningLaws
 mod MutationLaws
@@ -12,6 +14,7 @@ mod OperationLaws
 mod OptionLaws
 mod PointLaws
 mod RankThreeLaws
+mod ReachLaws
 mod ReplyLaws
 mod SignWords
 mod TripleLaws

@@ -24,6 +24,7 @@ use Rattle.om_program.specs.Operations.{IsOperation, IsMapMade, TakesOnly, named
 use Rattle.om_program.specs.Words.{Names, AreArguments}
 use Rattle.om_program.specs.Answers.{says, shows}
 use Rattle.om_program.specs.Tasks.{HasLawfulArguments}
+use Rattle.om_program.proofs.LeadingLaws.{lawful_leading}
 
 pub made_meant : (o : Operation) (c m : SignMap) (e : Document) → None ≡ first_above c.elements (named_elements o) → (TakesOnly o c.elements → ⊥) → IsMapMade o c.elements (IsCovectorOfChirotope c) m → e ≡ map_document m → IsInForm e → MeetsAxioms e → IsOperation o (map_document c) (shows e)
 made_meant o c m e none left whole same form axioms =
@@ -58,4 +59,7 @@ lawful_arguments words t named = lawful t named.arguments named.behind
     lawful (task.Reorient mask) rest all = subst (λ u. u < 2 ^ MAX_ELEMENTS) (sym all.value) (mask_of-lt 1 MAX_ELEMENTS all.elements)
     lawful task.Mutations rest behind = tt
     lawful (task.Flip a b c) rest t = record { low = t.low; first = t.first; second = t.second; high = t.high }
+    lawful (task.Paint colouring) rest read = read.element.low
+    lawful task.Hull rest behind = tt
+    lawful (task.Lexext leading) rest read = lawful_leading rest leading read
     lawful task.Check rest behind = tt

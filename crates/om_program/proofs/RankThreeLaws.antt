@@ -10,7 +10,7 @@ use Rattle.om_program.specs.RankThree.{IsForChirotope, no_chirotope, for_chiroto
 use Rattle.om_program.specs.MutationLists as mutations
 use Rattle.om_program.specs.Flips as flips
 
-chirotope_replies : (Meaning : SignMap → Answer → Type 0) (d : Document) (a : Answer) → ((m : SignMap) (b : Answer) → Meaning m b → IsReply b) → IsForChirotope Meaning d a → IsReply a
+pub chirotope_replies : (Meaning : SignMap → Answer → Type 0) (d : Document) (a : Answer) → ((m : SignMap) (b : Answer) → Meaning m b → IsReply b) → IsForChirotope Meaning d a → IsReply a
 chirotope_replies Meaning d a replies (no_chirotope not) = tt
 chirotope_replies Meaning d a replies (for_chirotope m b is means) = replies m a means
 

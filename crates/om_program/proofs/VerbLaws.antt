@@ -21,7 +21,10 @@ verb_of_word word =
     cond (bytes_eq word (codes "reorient")) verb.Reorient (
     cond (bytes_eq word (codes "mutations")) verb.Mutations (
     cond (bytes_eq word (codes "flip")) verb.Flip (
-    verb.Check)))))))))
+    cond (bytes_eq word (codes "paint")) verb.Paint (
+    cond (bytes_eq word (codes "hull")) verb.Hull (
+    cond (bytes_eq word (codes "lexext")) verb.Lexext (
+    verb.Check))))))))))))
 
 word_back : (v : Verb) → verb_of_word (verb_word v) ≡ v
 word_back verb.Accept = refl
@@ -33,6 +36,9 @@ word_back verb.Contract = refl
 word_back verb.Reorient = refl
 word_back verb.Mutations = refl
 word_back verb.Flip = refl
+word_back verb.Paint = refl
+word_back verb.Hull = refl
+word_back verb.Lexext = refl
 word_back verb.Check = refl
 
 pub same_verb : (u v : Verb) → verb_word u ≡ verb_word v → u ≡ v
@@ -49,7 +55,10 @@ place_of verb.Contract = 5
 place_of verb.Reorient = 6
 place_of verb.Mutations = 7
 place_of verb.Flip = 8
-place_of verb.Check = 9
+place_of verb.Paint = 9
+place_of verb.Hull = 10
+place_of verb.Lexext = 11
+place_of verb.Check = 12
 
 pub verb_at : (u v : Verb) → get_or VERBS (place_of v) u ≡ v
 verb_at u verb.Accept = refl
@@ -61,6 +70,9 @@ verb_at u verb.Contract = refl
 verb_at u verb.Reorient = refl
 verb_at u verb.Mutations = refl
 verb_at u verb.Flip = refl
+verb_at u verb.Paint = refl
+verb_at u verb.Hull = refl
+verb_at u verb.Lexext = refl
 verb_at u verb.Check = refl
 
 pub place_within : (v : Verb) → place_of v < length VERBS
@@ -73,4 +85,7 @@ place_within verb.Contract = lit≤ tt
 place_within verb.Reorient = lit≤ tt
 place_within verb.Mutations = lit≤ tt
 place_within verb.Flip = lit≤ tt
+place_within verb.Paint = lit≤ tt
+place_within verb.Hull = lit≤ tt
+place_within verb.Lexext = lit≤ tt
 place_within verb.Check = lit≤ tt

@@ -9,11 +9,14 @@ use Rattle.om_signs.specs.declared.sign.Sign.{Sign}
 use Rattle.om_answer.specs.declared.kind.Kind.{Kind}
 use Rattle.om_answer.specs.declared.kind.Kind.TheVariants as kind
 use Rattle.om_program.specs.declared.task.Task.{Task}
-use Rattle.om_program.specs.declared.task.Task.TheVariants.{Accept, Member, Convert, Dual, Delete, Contract, Reorient, Mutations, Flip, Check}
+use Rattle.om_program.specs.declared.task.Task.TheVariants.{Accept, Member, Convert, Dual, Delete, Contract, Reorient, Mutations, Flip, Paint, Hull, Lexext, Check}
 use Rattle.om_program.specs.declared.usage.Usage.{Usage}
+use Rattle.om_program.specs.declared.colouring.Colouring.{Colouring}
+use Rattle.om_program.specs.declared.leading.Leading.{Leading}
 use Rattle.om_program.specs.declared.verb.Verb.{Verb}
 use Rattle.om_program.specs.declared.verb.Verb.TheVariants as verb
 use Rattle.om_program.proofs.VerbLaws.{same_verb}
+use Rattle.om_program.specs.Listings.{AreColouring, AreLeading}
 use Rattle.om_program.specs.Triples.{AreTriple}
 use Rattle.om_program.specs.Words.{Names, AreNamed, Spells, NamesKind, IsElement, AreElements, AreNone, IsAlone, AreArguments, kind_word, verb_word, verb_of, AreCommand, Begins, IsFault, IsUsage, at_word, at_end, HasValue, IsRead}
 
@@ -172,6 +175,9 @@ Value verb.Contract = ℕ
 Value verb.Reorient = ℕ
 Value verb.Mutations = Unit {0}
 Value verb.Flip = ℕ × ℕ × ℕ
+Value verb.Paint = Colouring
+Value verb.Hull = Unit {0}
+Value verb.Lexext = Leading
 Value verb.Check = Unit {0}
 
 abbrev value_of : (task : Task) → Value (verb_of task)
@@ -184,6 +190,9 @@ value_of (Contract e) = e
 value_of (Reorient mask) = mask
 value_of Mutations = tt
 value_of (Flip a b c) = (a, b, c)
+value_of (Paint colouring) = colouring
+value_of Hull = tt
+value_of (Lexext leading) = leading
 value_of Check = tt
 
 abbrev task_of : (v : Verb) → Value v → Task
@@ -196,6 +205,9 @@ task_of verb.Contract e = Contract e
 task_of verb.Reorient mask = Reorient mask
 task_of verb.Mutations _ = Mutations
 task_of verb.Flip t = Flip t.0 t.1 t.2
+task_of verb.Paint colouring = Paint colouring
+task_of verb.Hull _ = Hull
+task_of verb.Lexext leading = Lexext leading
 task_of verb.Check _ = Check
 
 task_back : (task : Task) → task ≡ task_of (verb_of task) (value_of task)
@@ -208,6 +220,9 @@ task_back (Contract e) = refl
 task_back (Reorient mask) = refl
 task_back Mutations = refl
 task_back (Flip a b c) = refl
+task_back (Paint colouring) = refl
+task_back Hull = refl
+task_back (Lexext leading) = refl
 task_back Check = refl
 
 only : (v : Verb) (task : Task) → verb_of task ≡ v → (a : Value v) × (task ≡ task_of v a)
@@ -239,6 +254,15 @@ mutations_shape = record { verb = λ a. refl; arguments = λ a words. (λ h. h, 
 
 pub flip_shape : IsShape verb.Flip AreTriple (λ t. Flip t.0 t.1 t.2)
 flip_shape = record { verb = λ a. refl; arguments = λ a words. (λ h. h, λ h. h); only = only verb.Flip }
+
+pub paint_shape : IsShape verb.Paint AreColouring Paint
+paint_shape = record { verb = λ a. refl; arguments = λ a words. (λ h. h, λ h. h); only = only verb.Paint }
+
+pub hull_shape : IsShape verb.Hull AreNone (λ _. Hull)
+hull_shape = record { verb = λ a. refl; arguments = λ a words. (λ h. h, λ h. h); only = only verb.Hull }
+
+pub lexext_shape : IsShape verb.Lexext AreLeading Lexext
+lexext_shape = record { verb = λ a. refl; arguments = λ a words. (λ h. h, λ h. h); only = only verb.Lexext }
 
 pub check_shape : IsShape verb.Check AreNone (λ _. Check)
 check_shape = record { verb = λ a. refl; arguments = λ a words. (λ h. h, λ h. h); only = only verb.Check }

@@ -1,12 +1,14 @@
 pub mod Elements
 pub mod Triples
+pub mod Fits
+pub mod Options
+pub mod Listings
 pub mod Words
 pub mod Samples
 pub mod Readings
-pub mod Options
-pub mod Listings
 pub mod Statuses
 pub mod MutationTexts
+pub mod HullTexts
 pub mod Answers
 pub mod Points
 pub mod Axioms
@@ -20,6 +22,9 @@ pub mod Conversions
 pub mod Operations
 pub mod MutationLists
 pub mod Flips
+pub mod Paintings
+pub mod Hulls
+pub mod LexicalExtensions
 pub mod Tasks
 pub mod Claims
 pub mod Meaning

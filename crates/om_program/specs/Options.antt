@@ -6,7 +6,7 @@ use Rattle.om_text.specs.Words.{unsigned}
 use Rattle.om_decide.specs.declared.budgets.Budgets.{Budgets}
 use Rattle.om_program.specs.declared.setting.Setting.{Setting}
 use Rattle.om_program.specs.declared.setting.Setting.TheVariants.{First, BoxSize, Steps, Pivots, Count}
-use Rattle.om_program.specs.Readings.{EachFits}
+use Rattle.om_program.specs.Fits.{EachFits}
 
 -- a number that isn't below the least
 abbrev pub from_least : ℕ → Option ℕ → Option ℕ

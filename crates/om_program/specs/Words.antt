@@ -10,10 +10,11 @@ use Rattle.om_text.specs.Words.{is_sign, sign_of_byte}
 use Rattle.om_answer.specs.declared.kind.Kind.{Kind}
 use Rattle.om_answer.specs.declared.kind.Kind.TheVariants as kind
 use Rattle.om_program.specs.declared.task.Task.{Task}
-use Rattle.om_program.specs.declared.task.Task.TheVariants.{Accept, Member, Convert, Dual, Delete, Contract, Reorient, Mutations, Flip, Check}
+use Rattle.om_program.specs.declared.task.Task.TheVariants.{Accept, Member, Convert, Dual, Delete, Contract, Reorient, Mutations, Flip, Paint, Hull, Lexext, Check}
 use Rattle.om_program.specs.declared.usage.Usage.{Usage}
 use Rattle.om_program.specs.declared.verb.Verb.{Verb}
 use Rattle.om_program.specs.declared.verb.Verb.TheVariants as verb
+use Rattle.om_program.specs.Listings.{AreColouring, AreLeading}
 use Rattle.om_program.specs.Triples.{AreTriple}
 pub use Rattle.om_program.specs.Elements.{IsElement}
 
@@ -62,6 +63,9 @@ verb_of (Contract e) = verb.Contract
 verb_of (Reorient mask) = verb.Reorient
 verb_of Mutations = verb.Mutations
 verb_of (Flip a b c) = verb.Flip
+verb_of (Paint colouring) = verb.Paint
+verb_of Hull = verb.Hull
+verb_of (Lexext leading) = verb.Lexext
 verb_of Check = verb.Check
 
 abbrev pub verb_word : Verb → List ℕ
@@ -74,6 +78,9 @@ verb_word verb.Contract = codes "contract"
 verb_word verb.Reorient = codes "reorient"
 verb_word verb.Mutations = codes "mutations"
 verb_word verb.Flip = codes "flip"
+verb_word verb.Paint = codes "paint"
+verb_word verb.Hull = codes "hull"
+verb_word verb.Lexext = codes "lexext"
 verb_word verb.Check = codes "check"
 
 -- the words behind the first one are those of the task
@@ -87,6 +94,9 @@ AreArguments (Contract e) words = IsAlone IsElement words e
 AreArguments (Reorient mask) words = AreElements words mask
 AreArguments Mutations words = AreNone words tt
 AreArguments (Flip a b c) words = AreTriple words (a, b, c)
+AreArguments (Paint colouring) words = AreColouring words colouring
+AreArguments Hull words = AreNone words tt
+AreArguments (Lexext leading) words = AreLeading words leading
 AreArguments Check words = AreNone words tt
 
 -- the words name the task

@@ -3,6 +3,7 @@ ghost use Rattle.om_program.specs.Answers.{status_of, status_of_line};
 
 use crate::status::Status;
 use om_answer::Line;
+use om_paint::Painted;
 use om_signs::List;
 use om_subsets::Subset;
 use om_text::Document;
@@ -16,6 +17,8 @@ pub enum Answer {
     Document(Document),
     /// Mutations: one line that says how many there are, a line for each, and `end`.
     Mutations(List<Subset>),
+    /// The hull of an acyclic oriented matroid: `acyclic`, a line for each element, and `end`.
+    Hull(List<Painted>),
 }
 
 impl Answer {
@@ -27,6 +30,7 @@ impl Answer {
             Answer::Line(line) => status_of_line(line),
             Answer::Document(_) => Status::Done,
             Answer::Mutations(_) => Status::Done,
+            Answer::Hull(_) => Status::Done,
         }
     }
 }

@@ -8,10 +8,13 @@ ghost use Rattle.om_program.specs.Tasks.{HasLawfulArguments, reads};
 
 use crate::answer::Answer;
 use crate::conversion::convert;
+use crate::convex_hull::find_hull;
 use crate::flipping::flip_triple;
+use crate::lexical_extension::extend_lexically;
 use crate::membership::find_membership;
 use crate::mutation_list::list_mutations;
 use crate::operation::{Operation, operate};
+use crate::painting::find_painting;
 use crate::reads::Reads;
 use crate::representation::{Representation, represent};
 use crate::task::Task;
@@ -123,6 +126,9 @@ fn answer_task(
         Task::Reorient(mask) => operate(alloc, representation, Operation::Reorient(mask)),
         Task::Mutations => list_mutations(alloc, representation),
         Task::Flip(a, b, c) => Ok(flip_triple(representation, a, b, c)),
+        Task::Paint(colouring) => Ok(find_painting(representation, colouring)),
+        Task::Hull => find_hull(alloc, representation),
+        Task::Lexext(leading) => extend_lexically(alloc, representation, leading),
         // the source of this one is a claim
         Task::Check => unreachable!(),
     }

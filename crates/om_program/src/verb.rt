@@ -15,11 +15,14 @@ pub enum Verb {
     Reorient,
     Mutations,
     Flip,
+    Paint,
+    Hull,
+    Lexext,
     Check,
 }
 
 /// All verbs.
-const VERBS: [Verb; 10] = [
+const VERBS: [Verb; 13] = [
     Verb::Accept,
     Verb::Member,
     Verb::Convert,
@@ -29,6 +32,9 @@ const VERBS: [Verb; 10] = [
     Verb::Reorient,
     Verb::Mutations,
     Verb::Flip,
+    Verb::Paint,
+    Verb::Hull,
+    Verb::Lexext,
     Verb::Check,
 ];
 
@@ -47,6 +53,9 @@ impl Verb {
             Verb::Reorient => "reorient",
             Verb::Mutations => "mutations",
             Verb::Flip => "flip",
+            Verb::Paint => "paint",
+            Verb::Hull => "hull",
+            Verb::Lexext => "lexext",
             Verb::Check => "check",
         }
     }

@@ -1,4 +1,4 @@
-use Rattle.om_program.proofs.WordLaws.{ok_named, err_passed, accept_shape, member_shape, convert_shape, dual_shape, delete_shape, contract_shape, reorient_shape, mutations_shape, flip_shape, check_shape}
+use Rattle.om_program.proofs.WordLaws.{ok_named, err_passed, accept_shape, member_shape, convert_shape, dual_shape, delete_shape, contract_shape, reorient_shape, mutations_shape, flip_shape, paint_shape, hull_shape, lexext_shape, check_shape}
 use Rattle.om_program.proofs.command.after_verb.Goals as goal
 
 pub returns-in_ok-none-in-Accept : goal.returns-in_ok-none-in-Accept
@@ -49,11 +49,29 @@ returns-in_ok-none-in-Mutations c = rw c.in-Mutations.is (ok_named _ _ _ _ _ _ m
 pub returns-in_err-none-in-Mutations : goal.returns-in_err-none-in-Mutations
 returns-in_err-none-in-Mutations c = rw c.in-Mutations.is (err_passed _ _ _ _ _ _ _ mutations_shape c.none-in-Mutations.ensures c.in_err-none-in-Mutations.was c.from_residual-in_err-none-in-Mutations.ensures.1)
 
-pub returns-in_ok-triple : goal.returns-in_ok-triple
-returns-in_ok-triple c = ?
+pub returns-in_ok-a-in-Flip : goal.returns-in_ok-a-in-Flip
+returns-in_ok-a-in-Flip c = rw c.in-Flip.is (ok_named _ _ _ _ _ _ flip_shape c.triple.ensures c.in_ok-a-in-Flip.was)
 
-pub returns-in_err-triple : goal.returns-in_err-triple
-returns-in_err-triple c = ?
+pub returns-in_err-a-in-Flip : goal.returns-in_err-a-in-Flip
+returns-in_err-a-in-Flip c = rw c.in-Flip.is (err_passed _ _ _ _ _ _ _ flip_shape c.triple.ensures c.in_err-a-in-Flip.was c.from_residual-in_err-a-in-Flip.ensures.1)
+
+pub returns-in_ok-colours_and_element-in-Paint : goal.returns-in_ok-colours_and_element-in-Paint
+returns-in_ok-colours_and_element-in-Paint c = rw c.in-Paint.is (ok_named _ _ _ _ _ _ paint_shape c.colours_and_element.ensures c.in_ok-colours_and_element-in-Paint.was)
+
+pub returns-in_err-colours_and_element-in-Paint : goal.returns-in_err-colours_and_element-in-Paint
+returns-in_err-colours_and_element-in-Paint c = rw c.in-Paint.is (err_passed _ _ _ _ _ _ _ paint_shape c.colours_and_element.ensures c.in_err-colours_and_element-in-Paint.was c.from_residual-in_err-colours_and_element-in-Paint.ensures.1)
+
+pub returns-in_ok-none-in-Hull : goal.returns-in_ok-none-in-Hull
+returns-in_ok-none-in-Hull c = rw c.in-Hull.is (ok_named _ _ _ _ _ _ hull_shape c.none-in-Hull.ensures c.in_ok-none-in-Hull.was)
+
+pub returns-in_err-none-in-Hull : goal.returns-in_err-none-in-Hull
+returns-in_err-none-in-Hull c = rw c.in-Hull.is (err_passed _ _ _ _ _ _ _ hull_shape c.none-in-Hull.ensures c.in_err-none-in-Hull.was c.from_residual-in_err-none-in-Hull.ensures.1)
+
+pub returns-in_ok-signed_elements-in-Lexext : goal.returns-in_ok-signed_elements-in-Lexext
+returns-in_ok-signed_elements-in-Lexext c = rw c.in-Lexext.is (ok_named _ _ _ _ _ _ lexext_shape c.signed_elements.ensures c.in_ok-signed_elements-in-Lexext.was)
+
+pub returns-in_err-signed_elements-in-Lexext : goal.returns-in_err-signed_elements-in-Lexext
+returns-in_err-signed_elements-in-Lexext c = rw c.in-Lexext.is (err_passed _ _ _ _ _ _ _ lexext_shape c.signed_elements.ensures c.in_err-signed_elements-in-Lexext.was c.from_residual-in_err-signed_elements-in-Lexext.ensures.1)
 
 pub returns-in_ok-none-in-Check : goal.returns-in_ok-none-in-Check
 returns-in_ok-none-in-Check c = rw c.in-Check.is (ok_named _ _ _ _ _ _ check_shape c.none-in-Check.ensures c.in_ok-none-in-Check.was)
