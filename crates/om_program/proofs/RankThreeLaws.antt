@@ -15,6 +15,9 @@ use Rattle.om_program.specs.Sweeps as sweeps
 use Rattle.om_program.specs.MutationLists as mutations
 use Rattle.om_program.specs.Flips as flips
 
+pub chirotope_replies : (Meaning : SignMap → Answer → Type 0) (d : Document) (a : Answer) → ((m : SignMap) (b : Answer) → Meaning m b → IsReply b) → IsForChirotope Meaning d a → IsReply a
+chirotope_replies Meaning d a replies (no_chirotope not) = tt
+
 pub of_rank3 : {A E : Type 0} (m : SignMap) (result : Result A E) (other : ℕ → E) → ((r : ℕ) → IsErrOf result (other r) ↔ ((r ≡ m.rank) × (m.rank ≢ 3))) → ((r : ℕ) → result ≡ Err (other r) → ⊥) → m.rank ≡ 3
 of_rank3 m result other rank not = elim (cases_eq m.rank 3) [
   | inl same ↦ same
