@@ -32,6 +32,7 @@ shows d = answer.Document d
 -- an answer that lists mutations
 abbrev pub lists : List Chosen → Answer
 lists sets = answer.Mutations sets
+
 -- an answer that is a verdict on a chirotope
 abbrev pub judges : SignMap → Verdict → Answer
 judges m v = answer.Verdict m v

@@ -3,11 +3,11 @@ ghost use Rattle.om_program.specs.Answers.{status_of, status_of_line, status_of_
 
 use crate::status::Status;
 use om_answer::Line;
+use om_certificate::Verdict;
+use om_chirotope::Chirotope;
 use om_paint::Painted;
 use om_signs::List;
 use om_subsets::Subset;
-use om_certificate::Verdict;
-use om_chirotope::Chirotope;
 use om_text::Document;
 
 /// What the program answers. The code of a command decides it, and it is printed once, at the end of the run.
