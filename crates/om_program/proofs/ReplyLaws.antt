@@ -36,8 +36,8 @@ use Rattle.om_program.specs.Statuses.{IsAnswered, IsReplied}
 use Rattle.om_program.specs.Answers.{IsReply, status_of, status_of_line}
 use Rattle.om_program.specs.Axioms.{IsRefusedOn, set_line, map_line, cov_line, wiring_line}
 use Rattle.om_program.specs.Memberships.{IsMembership, wrong_length, covector, not_covector}
-use Rattle.om_program.specs.Conversions.{IsConversion, converted, limited, unbuilt, itself}
-use Rattle.om_program.specs.Operations.{IsOperation, not_built, outside, last, made}
+use Rattle.om_program.specs.Conversions.{IsConversion, itself, limited, converted}
+use Rattle.om_program.specs.Operations.{IsOperation, outside, last, made}
 use Rattle.om_program.proofs.RankThreeLaws.{mutations_replies, flip_replies, wiring_replies}
 use Rattle.om_program.proofs.ReachLaws.{painting_replies, hull_replies, extension_replies}
 use Rattle.om_program.specs.Operations as operations
