@@ -4,6 +4,8 @@ mod ClaimLaws
 mod ConversionLaws
 mod FitLaws
 mod FlipLaws
+mod HullLaws
+mod LeadingLaws
 mod DecisionLaws
 mod ListingLaws
 mod MeaningLaws
@@ -13,6 +15,7 @@ mod OperationLaws
 mod OptionLaws
 mod PointLaws
 mod RankThreeLaws
+mod ReachLaws
 mod ReplyLaws
 mod SignWords
 mod SweepLaws

@@ -2,7 +2,7 @@
 --
 -- Main results: what is made of a chirotope (chirotope_outcome); the dual of covectors (dual_outcome,
 -- dual_unmade); what is made, as an answer (made_meant), and too many members (limit_meant); the arguments that words name (lawful_arguments).
-use Rattle.std.specs.Prelude.{ℕ, ◌≡◌, ◌↔◌, ◌<◌, ◌^◌, List, None, Result, Ok, Err, refl}
+use Rattle.std.specs.Prelude.{ℕ, ◌≡◌, ◌↔◌, ◌<◌, ◌^◌, List, length, None, Result, Ok, Err, refl}
 use Rattle.std.specs.Result.{IsErrAnd}
 use Rattle.std.specs.List.{Contains}
 use Rattle.std.proofs.Common.{sym, subst}
@@ -35,6 +35,7 @@ use Rattle.om_program.specs.Words.{Names, AreArguments}
 use Rattle.om_program.proofs.DecisionLaws.{lawful_budgets}
 use Rattle.om_program.specs.Answers.{says, shows}
 use Rattle.om_program.specs.Tasks.{HasLawfulArguments}
+use Rattle.om_program.proofs.LeadingLaws.{lawful_leading}
 
 -- ---- a chirotope
 
@@ -99,5 +100,8 @@ lawful_arguments words t named = lawful t named.arguments named.behind
     lawful task.Wiring rest behind = tt
     lawful task.Mutations rest behind = tt
     lawful (task.Flip a b c) rest t = record { low = t.low; first = t.first; second = t.second; high = t.high }
+    lawful (task.Paint colouring) rest read = read.element.low
+    lawful task.Hull rest behind = tt
+    lawful (task.Lexext leading) rest read = lawful_leading rest leading read
     lawful (task.Decide b) rest behind = lawful_budgets rest b behind
     lawful task.Check rest behind = tt

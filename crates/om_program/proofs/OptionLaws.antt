@@ -119,7 +119,7 @@ default_within Steps = record { low = lit≤ tt; high = lit≤ tt }
 default_within Pivots = record { low = lit≤ tt; high = lit≤ tt }
 default_within Count = record { low = lit≤ tt; high = lit≤ tt }
 
-number_limits : (least greatest n : ℕ) (word : List ℕ) → number_within least greatest word ≡ Some n → (least ≤ n) × (n ≤ greatest)
+pub number_limits : (least greatest n : ℕ) (word : List ℕ) → number_within least greatest word ≡ Some n → (least ≤ n) × (n ≤ greatest)
 number_limits least greatest n word is = by_decimal (is_decimal word) is
   where
     by_limit : (b : Bool) → nat_le (number_from 0 word) greatest ≡ b → from_least least (cond b (Some (number_from 0 word)) None) ≡ Some n → (least ≤ n) × (n ≤ greatest)

@@ -28,7 +28,7 @@ pub result_for_chirotope : {E : Type 0} (Meaning : SignMap → Answer → Type 0
 result_for_chirotope Meaning d m (Ok a) is means = for_chirotope m a is means
 result_for_chirotope Meaning d m (Err e) is means = tt
 
-chirotope_replies : (Meaning : SignMap → Answer → Type 0) (d : Document) (a : Answer) → ((m : SignMap) (b : Answer) → Meaning m b → IsReply b) → IsForChirotope Meaning d a → IsReply a
+pub chirotope_replies : (Meaning : SignMap → Answer → Type 0) (d : Document) (a : Answer) → ((m : SignMap) (b : Answer) → Meaning m b → IsReply b) → IsForChirotope Meaning d a → IsReply a
 chirotope_replies Meaning d a replies (for_chirotope m b is means) = replies m a means
 
 wiring_of_map_replies : (m : SignMap) (a : Answer) → sweeps.IsWiringOfMap m a → IsReply a

@@ -11,11 +11,14 @@ use Rattle.om_answer.specs.declared.kind.Kind.TheVariants as kind
 use Rattle.om_decide.specs.declared.budgets.Budgets.{Budgets}
 use Rattle.om_program.specs.Options.{AreBudgets}
 use Rattle.om_program.specs.declared.task.Task.{Task}
-use Rattle.om_program.specs.declared.task.Task.TheVariants.{Accept, Member, Convert, Dual, Delete, Contract, Reorient, Wiring, Mutations, Flip, Decide, Check}
+use Rattle.om_program.specs.declared.task.Task.TheVariants.{Accept, Member, Convert, Dual, Delete, Contract, Reorient, Wiring, Mutations, Flip, Decide, Paint, Hull, Lexext, Check}
 use Rattle.om_program.specs.declared.usage.Usage.{Usage}
+use Rattle.om_program.specs.declared.colouring.Colouring.{Colouring}
+use Rattle.om_program.specs.declared.leading.Leading.{Leading}
 use Rattle.om_program.specs.declared.verb.Verb.{Verb}
 use Rattle.om_program.specs.declared.verb.Verb.TheVariants as verb
 use Rattle.om_program.proofs.VerbLaws.{same_verb}
+use Rattle.om_program.specs.Listings.{AreColouring, AreLeading}
 use Rattle.om_program.specs.Triples.{AreTriple}
 use Rattle.om_program.specs.Words.{Names, AreNamed, Spells, NamesKind, IsElement, AreElements, AreNone, IsAlone, AreArguments, kind_word, verb_word, verb_of, AreCommand, Begins, IsFault, IsUsage, at_word, at_end, HasValue, IsRead}
 
@@ -175,6 +178,9 @@ Value verb.Reorient = ℕ
 Value verb.Wiring = Unit {0}
 Value verb.Mutations = Unit {0}
 Value verb.Flip = ℕ × ℕ × ℕ
+Value verb.Paint = Colouring
+Value verb.Hull = Unit {0}
+Value verb.Lexext = Leading
 Value verb.Decide = Budgets
 Value verb.Check = Unit {0}
 
@@ -189,6 +195,9 @@ value_of (Reorient mask) = mask
 value_of Wiring = tt
 value_of Mutations = tt
 value_of (Flip a b c) = (a, b, c)
+value_of (Paint colouring) = colouring
+value_of Hull = tt
+value_of (Lexext leading) = leading
 value_of (Decide b) = b
 value_of Check = tt
 
@@ -203,6 +212,9 @@ task_of verb.Reorient mask = Reorient mask
 task_of verb.Wiring _ = Wiring
 task_of verb.Mutations _ = Mutations
 task_of verb.Flip t = Flip t.0 t.1 t.2
+task_of verb.Paint colouring = Paint colouring
+task_of verb.Hull _ = Hull
+task_of verb.Lexext leading = Lexext leading
 task_of verb.Decide b = Decide b
 task_of verb.Check _ = Check
 
@@ -217,6 +229,9 @@ task_back (Reorient mask) = refl
 task_back Wiring = refl
 task_back Mutations = refl
 task_back (Flip a b c) = refl
+task_back (Paint colouring) = refl
+task_back Hull = refl
+task_back (Lexext leading) = refl
 task_back (Decide b) = refl
 task_back Check = refl
 
@@ -252,6 +267,15 @@ mutations_shape = record { verb = λ a. refl; arguments = λ a words. (λ h. h, 
 
 pub flip_shape : IsShape verb.Flip AreTriple (λ t. Flip t.0 t.1 t.2)
 flip_shape = record { verb = λ a. refl; arguments = λ a words. (λ h. h, λ h. h); only = only verb.Flip }
+
+pub paint_shape : IsShape verb.Paint AreColouring Paint
+paint_shape = record { verb = λ a. refl; arguments = λ a words. (λ h. h, λ h. h); only = only verb.Paint }
+
+pub hull_shape : IsShape verb.Hull AreNone (λ _. Hull)
+hull_shape = record { verb = λ a. refl; arguments = λ a words. (λ h. h, λ h. h); only = only verb.Hull }
+
+pub lexext_shape : IsShape verb.Lexext AreLeading Lexext
+lexext_shape = record { verb = λ a. refl; arguments = λ a words. (λ h. h, λ h. h); only = only verb.Lexext }
 
 pub decide_shape : IsShape verb.Decide AreBudgets Decide
 decide_shape = record { verb = λ a. refl; arguments = λ a words. (λ h. h, λ h. h); only = only verb.Decide }

@@ -10,6 +10,7 @@ use Rattle.om_text.specs.Print.{printed}
 use Rattle.om_answer.specs.declared.line.Line.{Line}
 use Rattle.om_answer.specs.declared.line.Line.TheVariants as line
 use Rattle.om_answer.specs.Texts.{line_text}
+use Rattle.om_paint.specs.declared.painted.Painted.{Painted}
 use Rattle.om_subsets.specs.Members.{Chosen}
 use Rattle.om_answer.specs.VerdictText.{verdict_text}
 use Rattle.om_program.specs.declared.answer.Answer.{Answer}
@@ -17,6 +18,7 @@ use Rattle.om_program.specs.declared.answer.Answer.TheVariants as answer
 use Rattle.om_program.specs.declared.status.Status.{Status}
 use Rattle.om_program.specs.declared.status.Status.TheVariants.{Done, Refused, Usage, Limit}
 use Rattle.om_program.specs.Statuses.{IsReplied}
+use Rattle.om_program.specs.HullTexts.{hull_text}
 use Rattle.om_program.specs.MutationTexts.{mutations_text}
 
 -- an answer of one line
@@ -34,6 +36,10 @@ lists sets = answer.Mutations sets
 -- an answer that is a verdict on a chirotope
 abbrev pub judges : SignMap → Verdict → Answer
 judges m v = answer.Verdict m v
+
+-- an answer that tells a hull
+abbrev pub tells : List Painted → Answer
+tells items = answer.Hull items
 
 -- how a run ends that has written this line; each line but these is a refusal
 abbrev pub status_of_line : Line → Status
@@ -61,6 +67,7 @@ abbrev pub status_of : Answer → Status
 status_of (answer.Line l) = status_of_line l
 status_of (answer.Document d) = Done
 status_of (answer.Mutations sets) = Done
+status_of (answer.Hull items) = Done
 status_of (answer.Verdict m v) = status_of_verdict v
 
 -- the bytes of an answer; a document is written in canonical form, and a verdict behind the document of its chirotope
@@ -68,6 +75,7 @@ abbrev pub text_of : Answer → List ℕ
 text_of (answer.Line l) = line_text l
 text_of (answer.Document d) = printed d
 text_of (answer.Mutations sets) = mutations_text sets
+text_of (answer.Hull items) = hull_text items
 text_of (answer.Verdict m v) = verdict_text m v
 
 -- an answer to a command: a line that isn't a usage, or what has the forms in which it is written
@@ -75,4 +83,5 @@ abbrev pub IsReply : Answer → Type 0
 IsReply (answer.Line l) = IsReplied (status_of_line l)
 IsReply (answer.Document d) = IsInForm d
 IsReply (answer.Mutations sets) = Unit {0}
+IsReply (answer.Hull items) = Unit {0}
 IsReply (answer.Verdict m v) = IsVerdictInForm v

@@ -14,8 +14,8 @@ use Rattle.om_answer.specs.declared.line.Line.{Line}
 use Rattle.om_answer.specs.declared.line.Line.TheVariants as line
 use Rattle.om_program.specs.declared.answer.Answer.{Answer}
 use Rattle.om_program.specs.Answers.{says, shows}
-use Rattle.om_program.specs.Documents.{map_document}
 use Rattle.om_program.specs.Operations.{first_above}
+use Rattle.om_program.specs.Documents.{map_document}
 use Rattle.om_program.specs.RankThree.{IsForChirotope}
 
 -- three elements, strictly increasing, within the limit

@@ -2,12 +2,13 @@ pub mod Fits
 pub mod Options
 pub mod Elements
 pub mod Triples
+pub mod Listings
 pub mod Words
 pub mod Samples
 pub mod Readings
-pub mod Listings
 pub mod Statuses
 pub mod MutationTexts
+pub mod HullTexts
 pub mod Answers
 pub mod Points
 pub mod Axioms
@@ -22,6 +23,9 @@ pub mod Operations
 pub mod Sweeps
 pub mod MutationLists
 pub mod Flips
+pub mod Paintings
+pub mod Hulls
+pub mod LexicalExtensions
 pub mod Decisions
 pub mod Tasks
 pub mod Claims

@@ -10,8 +10,8 @@ use Rattle.om_lexext.specs.declared.signed.Signed.{Signed}
 use Rattle.om_program.specs.declared.limits.TheConstants.{MAX_LISTED}
 use Rattle.om_program.specs.declared.colouring.Colouring.{Colouring}
 use Rattle.om_program.specs.declared.leading.Leading.{Leading}
-use Rattle.om_program.specs.Words.{IsElement}
-use Rattle.om_program.specs.Readings.{EachFits}
+use Rattle.om_program.specs.Elements.{IsElement}
+use Rattle.om_program.specs.Fits.{EachFits}
 use Rattle.om_program.specs.Options.{number_within}
 
 -- the values, and behind them the filler up to the most that are listed

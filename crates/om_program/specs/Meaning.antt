@@ -17,7 +17,7 @@ use Rattle.om_program.specs.declared.answer.Answer.{Answer}
 use Rattle.om_program.specs.declared.operation.Operation.TheVariants as operation
 use Rattle.om_program.specs.declared.reads.Reads.TheVariants as source
 use Rattle.om_program.specs.declared.task.Task.{Task}
-use Rattle.om_program.specs.declared.task.Task.TheVariants.{Accept, Member, Convert, Dual, Delete, Contract, Reorient, Wiring, Mutations, Flip, Decide, Check}
+use Rattle.om_program.specs.declared.task.Task.TheVariants.{Accept, Member, Convert, Dual, Delete, Contract, Reorient, Wiring, Mutations, Flip, Decide, Paint, Hull, Lexext, Check}
 use Rattle.om_program.specs.Answers.{says}
 use Rattle.om_program.specs.Axioms.{MeetsAxioms, IsRefused, IsFlatDocument}
 use Rattle.om_program.specs.Claims.{ClaimMeans}
@@ -26,9 +26,12 @@ use Rattle.om_program.specs.Covectors.{IsCovectorIn}
 use Rattle.om_program.specs.Decisions.{IsDecision}
 use Rattle.om_program.specs.Documents.{worked_on}
 use Rattle.om_program.specs.Flips.{IsFlip}
+use Rattle.om_program.specs.Hulls.{IsHull}
+use Rattle.om_program.specs.LexicalExtensions.{IsLexicalExtension}
 use Rattle.om_program.specs.Memberships.{IsMembership}
 use Rattle.om_program.specs.MutationLists.{AreMutations}
 use Rattle.om_program.specs.Operations.{IsOperation}
+use Rattle.om_program.specs.Paintings.{IsPainting}
 use Rattle.om_program.specs.Sweeps.{IsWiringOf}
 use Rattle.om_program.specs.Tasks.{reads}
 use Rattle.om_program.specs.Words.{Names, IsUsage}
@@ -45,6 +48,9 @@ IsAnswerOf (Reorient mask) d answer = IsOperation (operation.Reorient mask) d an
 IsAnswerOf Wiring d answer = IsWiringOf d answer
 IsAnswerOf Mutations d answer = AreMutations d answer
 IsAnswerOf (Flip a b c) d answer = IsFlip a b c d answer
+IsAnswerOf (Paint colouring) d answer = IsPainting colouring d answer
+IsAnswerOf Hull d answer = IsHull d answer
+IsAnswerOf (Lexext leading) d answer = IsLexicalExtension leading d answer
 IsAnswerOf (Decide b) d answer = IsDecision b d answer
 IsAnswerOf Check d answer = ⊥
 

@@ -11,10 +11,11 @@ use Rattle.om_answer.specs.declared.kind.Kind.{Kind}
 use Rattle.om_answer.specs.declared.kind.Kind.TheVariants as kind
 use Rattle.om_program.specs.Options.{AreBudgets}
 use Rattle.om_program.specs.declared.task.Task.{Task}
-use Rattle.om_program.specs.declared.task.Task.TheVariants.{Accept, Member, Convert, Dual, Delete, Contract, Reorient, Wiring, Mutations, Flip, Decide, Check}
+use Rattle.om_program.specs.declared.task.Task.TheVariants.{Accept, Member, Convert, Dual, Delete, Contract, Reorient, Wiring, Mutations, Flip, Decide, Paint, Hull, Lexext, Check}
 use Rattle.om_program.specs.declared.usage.Usage.{Usage}
 use Rattle.om_program.specs.declared.verb.Verb.{Verb}
 use Rattle.om_program.specs.declared.verb.Verb.TheVariants as verb
+use Rattle.om_program.specs.Listings.{AreColouring, AreLeading}
 use Rattle.om_program.specs.Triples.{AreTriple}
 pub use Rattle.om_program.specs.Elements.{IsElement}
 
@@ -64,6 +65,9 @@ verb_of (Reorient mask) = verb.Reorient
 verb_of Wiring = verb.Wiring
 verb_of Mutations = verb.Mutations
 verb_of (Flip a b c) = verb.Flip
+verb_of (Paint colouring) = verb.Paint
+verb_of Hull = verb.Hull
+verb_of (Lexext leading) = verb.Lexext
 verb_of (Decide b) = verb.Decide
 verb_of Check = verb.Check
 
@@ -78,6 +82,9 @@ verb_word verb.Reorient = codes "reorient"
 verb_word verb.Wiring = codes "wiring"
 verb_word verb.Mutations = codes "mutations"
 verb_word verb.Flip = codes "flip"
+verb_word verb.Paint = codes "paint"
+verb_word verb.Hull = codes "hull"
+verb_word verb.Lexext = codes "lexext"
 verb_word verb.Decide = codes "decide"
 verb_word verb.Check = codes "check"
 
@@ -93,6 +100,9 @@ AreArguments (Reorient mask) words = AreElements words mask
 AreArguments Wiring words = AreNone words tt
 AreArguments Mutations words = AreNone words tt
 AreArguments (Flip a b c) words = AreTriple words (a, b, c)
+AreArguments (Paint colouring) words = AreColouring words colouring
+AreArguments Hull words = AreNone words tt
+AreArguments (Lexext leading) words = AreLeading words leading
 AreArguments (Decide b) words = AreBudgets words b
 AreArguments Check words = AreNone words tt
 

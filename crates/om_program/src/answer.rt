@@ -5,6 +5,7 @@ use crate::status::Status;
 use om_answer::Line;
 use om_certificate::Verdict;
 use om_chirotope::Chirotope;
+use om_paint::Painted;
 use om_signs::List;
 use om_subsets::Subset;
 use om_text::Document;
@@ -18,6 +19,8 @@ pub enum Answer {
     Document(Document),
     /// Mutations: one line that says how many there are, a line for each, and `end`.
     Mutations(List<Subset>),
+    /// The hull of an acyclic oriented matroid: `acyclic`, a line for each element, and `end`.
+    Hull(List<Painted>),
     /// A verdict on a chirotope: the document of the chirotope, and behind it the verdict.
     Verdict {
         chirotope: Chirotope,
@@ -34,6 +37,7 @@ impl Answer {
             Answer::Line(line) => status_of_line(line),
             Answer::Document(_) => Status::Done,
             Answer::Mutations(_) => Status::Done,
+            Answer::Hull(_) => Status::Done,
             Answer::Verdict { verdict, .. } => status_of_verdict(verdict),
         }
     }

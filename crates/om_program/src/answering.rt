@@ -8,11 +8,14 @@ ghost use Rattle.om_program.specs.Tasks.{HasLawfulArguments, reads};
 
 use crate::answer::Answer;
 use crate::conversion::convert;
+use crate::convex_hull::find_hull;
 use crate::decision::judge;
 use crate::flipping::flip_triple;
+use crate::lexical_extension::extend_lexically;
 use crate::membership::find_membership;
 use crate::mutation_list::list_mutations;
 use crate::operation::{Operation, operate};
+use crate::painting::find_painting;
 use crate::reads::Reads;
 use crate::representation::{Representation, represent};
 use crate::sweeping::find_wiring;
@@ -125,6 +128,9 @@ fn answer_task(
         Task::Reorient(mask) => operate(alloc, representation, Operation::Reorient(mask)),
         Task::Wiring => find_wiring(alloc, representation),
         Task::Mutations => list_mutations(alloc, representation),
+        Task::Paint(colouring) => find_painting(alloc, representation, colouring),
+        Task::Hull => find_hull(alloc, representation),
+        Task::Lexext(leading) => extend_lexically(alloc, representation, leading),
         Task::Flip(a, b, c) => flip_triple(alloc, representation, a, b, c),
         Task::Decide(budgets) => judge(alloc, representation, budgets),
         // the source of this one is a claim

@@ -3,6 +3,8 @@ ghost use Rattle.om_program.specs.Words.{Names, AreNamed, IsUsage};
 
 use crate::argument::only;
 use crate::arguments::{elements, none};
+use crate::colouring::colours_and_element;
+use crate::leading::signed_elements;
 use crate::numbered::budgets;
 use crate::task::Task;
 use crate::triple::triple;
@@ -61,6 +63,12 @@ fn after_verb(verb: Verb, rest: &[String]) -> Result<Task, Usage>
             let (a, b, c) = triple(rest)?;
             Ok(Task::Flip(a, b, c))
         }
+        Verb::Paint => Ok(Task::Paint(colours_and_element(rest)?)),
+        Verb::Hull => {
+            none(rest)?;
+            Ok(Task::Hull)
+        }
+        Verb::Lexext => Ok(Task::Lexext(signed_elements(rest)?)),
         Verb::Decide => Ok(Task::Decide(budgets(rest)?)),
         Verb::Check => {
             none(rest)?;

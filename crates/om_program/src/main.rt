@@ -11,12 +11,15 @@ mod claim_tests;
 mod colouring;
 mod command;
 mod conversion;
+mod convex_hull;
 mod decision;
 #[cfg(test)]
 mod decision_tests;
 mod documents;
 mod flipping;
+mod hull_text;
 mod leading;
+mod lexical_extension;
 mod limits;
 mod making;
 #[cfg(test)]
@@ -29,10 +32,13 @@ mod mutation_text;
 mod numbered;
 mod operation;
 mod options;
+mod painting;
 #[cfg(test)]
 mod point_tests;
 mod point_vectors;
 mod print_answer;
+#[cfg(test)]
+mod reach_tests;
 mod reads;
 mod representation;
 mod run;

@@ -1,6 +1,8 @@
 ghost use Rattle.std.specs.Prelude.{◌≡◌};
 ghost use Rattle.om_program.specs.Tasks.{reads};
 
+use crate::colouring::Colouring;
+use crate::leading::Leading;
 use crate::reads::Reads;
 use om_answer::Kind;
 use om_decide::Budgets;
@@ -29,6 +31,12 @@ pub enum Task {
     Mutations,
     /// `flip A B C`: the chirotope with the sign of these three elements turned.
     Flip(u8, u8, u8),
+    /// `paint COLOURS E`: the circuit or the cocircuit that fits these colours at this element.
+    Paint(Colouring),
+    /// `hull`: whether the oriented matroid is acyclic, and its extreme elements.
+    Hull,
+    /// `lexext W..`: the lexicographic extension by these elements with signs.
+    Lexext(Leading),
     /// `decide --box=K --steps=T --pivots=P`: whether vectors realize it, within these budgets.
     Decide(Budgets),
     /// `check`: whether the verdict of a claim has proof.

@@ -16,12 +16,15 @@ pub enum Verb {
     Wiring,
     Mutations,
     Flip,
+    Paint,
+    Hull,
+    Lexext,
     Decide,
     Check,
 }
 
 /// All verbs.
-const VERBS: [Verb; 12] = [
+const VERBS: [Verb; 15] = [
     Verb::Accept,
     Verb::Member,
     Verb::Convert,
@@ -32,6 +35,9 @@ const VERBS: [Verb; 12] = [
     Verb::Wiring,
     Verb::Mutations,
     Verb::Flip,
+    Verb::Paint,
+    Verb::Hull,
+    Verb::Lexext,
     Verb::Decide,
     Verb::Check,
 ];
@@ -52,6 +58,9 @@ impl Verb {
             Verb::Wiring => "wiring",
             Verb::Mutations => "mutations",
             Verb::Flip => "flip",
+            Verb::Paint => "paint",
+            Verb::Hull => "hull",
+            Verb::Lexext => "lexext",
             Verb::Decide => "decide",
             Verb::Check => "check",
         }

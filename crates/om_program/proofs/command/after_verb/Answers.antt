@@ -1,4 +1,4 @@
-use Rattle.om_program.proofs.WordLaws.{ok_named, err_passed, accept_shape, member_shape, convert_shape, dual_shape, delete_shape, contract_shape, reorient_shape, wiring_shape, mutations_shape, flip_shape, decide_shape, check_shape}
+use Rattle.om_program.proofs.WordLaws.{ok_named, err_passed, accept_shape, member_shape, convert_shape, dual_shape, delete_shape, contract_shape, reorient_shape, mutations_shape, flip_shape, paint_shape, hull_shape, lexext_shape, wiring_shape, decide_shape, check_shape}
 use Rattle.om_program.proofs.command.after_verb.Goals as goal
 
 pub returns-in_ok-none-in-Accept : goal.returns-in_ok-none-in-Accept
@@ -60,6 +60,24 @@ returns-in_ok-a-in-Flip c = rw c.in-Flip.is (ok_named _ _ _ _ _ _ flip_shape c.t
 
 pub returns-in_err-a-in-Flip : goal.returns-in_err-a-in-Flip
 returns-in_err-a-in-Flip c = rw c.in-Flip.is (err_passed _ _ _ _ _ _ _ flip_shape c.triple.ensures c.in_err-a-in-Flip.was c.from_residual-in_err-a-in-Flip.ensures.1)
+
+pub returns-in_ok-colours_and_element-in-Paint : goal.returns-in_ok-colours_and_element-in-Paint
+returns-in_ok-colours_and_element-in-Paint c = rw c.in-Paint.is (ok_named _ _ _ _ _ _ paint_shape c.colours_and_element.ensures c.in_ok-colours_and_element-in-Paint.was)
+
+pub returns-in_err-colours_and_element-in-Paint : goal.returns-in_err-colours_and_element-in-Paint
+returns-in_err-colours_and_element-in-Paint c = rw c.in-Paint.is (err_passed _ _ _ _ _ _ _ paint_shape c.colours_and_element.ensures c.in_err-colours_and_element-in-Paint.was c.from_residual-in_err-colours_and_element-in-Paint.ensures.1)
+
+pub returns-in_ok-none-in-Hull : goal.returns-in_ok-none-in-Hull
+returns-in_ok-none-in-Hull c = rw c.in-Hull.is (ok_named _ _ _ _ _ _ hull_shape c.none-in-Hull.ensures c.in_ok-none-in-Hull.was)
+
+pub returns-in_err-none-in-Hull : goal.returns-in_err-none-in-Hull
+returns-in_err-none-in-Hull c = rw c.in-Hull.is (err_passed _ _ _ _ _ _ _ hull_shape c.none-in-Hull.ensures c.in_err-none-in-Hull.was c.from_residual-in_err-none-in-Hull.ensures.1)
+
+pub returns-in_ok-signed_elements-in-Lexext : goal.returns-in_ok-signed_elements-in-Lexext
+returns-in_ok-signed_elements-in-Lexext c = rw c.in-Lexext.is (ok_named _ _ _ _ _ _ lexext_shape c.signed_elements.ensures c.in_ok-signed_elements-in-Lexext.was)
+
+pub returns-in_err-signed_elements-in-Lexext : goal.returns-in_err-signed_elements-in-Lexext
+returns-in_err-signed_elements-in-Lexext c = rw c.in-Lexext.is (err_passed _ _ _ _ _ _ _ lexext_shape c.signed_elements.ensures c.in_err-signed_elements-in-Lexext.was c.from_residual-in_err-signed_elements-in-Lexext.ensures.1)
 
 pub returns-in_ok-budgets-in-Decide : goal.returns-in_ok-budgets-in-Decide
 returns-in_ok-budgets-in-Decide c = rw c.in-Decide.is (ok_named _ _ _ _ _ _ decide_shape c.budgets.ensures c.in_ok-budgets-in-Decide.was)

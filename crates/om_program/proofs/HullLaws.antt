@@ -1,0 +1,58 @@
+-- The text of a hull, and acyclic chirotopes.
+--
+-- Main results: a line (element_pushed); one more item (items_more); the whole text (hull_bytes); a hull without an error is acyclic
+-- (acyclic_of_hull); a circuit without a minus as the answer (cyclic_meant).
+use Rattle.std.specs.Prelude.{ℕ, ◌≡◌, ◌↔◌, ◌+◌, ◌<◌, List, [], ◌∷◌, ◌++◌, codes, length, take, Result, Ok, IsErrAnd, refl}
+use Rattle.std.proofs.Common.{get_or, arith, sym, ap, subst, ◌∙◌, append_assoc}
+use Rattle.std.proofs.lemmas.List.{take_more, length-take-le}
+use Rattle.om_signs.specs.declared.sign.Sign.{Sign}
+use Rattle.om_chirotope.specs.Map.{SignMap}
+use Rattle.om_denotation.specs.Covectors.{IsCovectorOfChirotope}
+use Rattle.om_paint.specs.declared.painted.Painted.{Painted}
+use Rattle.om_paint.specs.declared.hull_error.HullError.{HullError}
+use Rattle.om_paint.specs.declared.hull_error.HullError.TheVariants as why_of
+use Rattle.om_paint.specs.Paintings.{IsFirst}
+use Rattle.om_paint.specs.Hulls.{all_plus, IsPositiveCircuit, IsCyclic, IfCyclic}
+use Rattle.om_text.specs.Print.{text_of}
+use Rattle.om_text.proofs.Printing.{text_of-append}
+use Rattle.om_program.specs.declared.answer.Answer.{Answer}
+use Rattle.om_program.specs.Hulls.{IsHullOfMap, IsCyclicAnswer, cyclic}
+use Rattle.om_program.specs.HullTexts.{item_text, item_lines, hull_text}
+
+-- ---- texts
+
+pub element_pushed : (base word digits signs : List ℕ) → (((((base ++ word) ++ 32 ∷ []) ++ digits) ++ 32 ∷ []) ++ signs) ++ 10 ∷ [] ≡ base ++ (((word ++ 32 ∷ digits) ++ 32 ∷ signs) ++ 10 ∷ [])
+element_pushed base word digits signs = simp append_assoc
+
+lines_more : (e : ℕ) (items : List Painted) (x : Painted) → item_lines e (items ++ x ∷ []) ≡ item_lines e items ++ item_text (e + length items) x ∷ []
+lines_more e [] x = let same : e ≡ e + length {A = Painted} [] = omega arith in ap (λ k. item_text k x ∷ []) same
+lines_more e (y ∷ ys) x =
+    let same : e + 1 + length ys ≡ e + length (y ∷ ys) = omega arith in
+    ap (λ ls. item_text e y ∷ ls) (lines_more (e + 1) ys x ∙ ap (λ k. item_lines (e + 1) ys ++ item_text k x ∷ []) same)
+
+pub items_more : (base out new : List ℕ) (items : List Painted) (i : ℕ) (x : Painted) → i < length items → x ≡ get_or items i x → out ≡ base ++ text_of (item_lines 1 (take i items)) → new ≡ out ++ (item_text (i + 1) x ++ 10 ∷ []) → new ≡ base ++ text_of (item_lines 1 (take (i + 1) items))
+items_more base out new items i x l e o n =
+    let t : take (i + 1) items ≡ take i items ++ x ∷ [] = take_more items i x l ∙ ap (λ y. take i items ++ y ∷ []) (sym e) in
+    let size : length (take i items) ≡ i = length-take-le i items (omega (arith, l)) in
+    let place : 1 + length (take i items) ≡ i + 1 = omega (arith, size) in
+    let m : item_lines 1 (take (i + 1) items) ≡ item_lines 1 (take i items) ++ item_text (i + 1) x ∷ [] = ap (item_lines 1) t ∙ lines_more 1 (take i items) x ∙ ap (λ k. item_lines 1 (take i items) ++ item_text k x ∷ []) place in
+    let a : text_of (item_lines 1 (take (i + 1) items)) ≡ text_of (item_lines 1 (take i items)) ++ (item_text (i + 1) x ++ 10 ∷ []) = ap text_of m ∙ text_of-append (item_lines 1 (take i items)) (item_text (i + 1) x ∷ []) in
+    n ∙ ap (λ y. y ++ (item_text (i + 1) x ++ 10 ∷ [])) o
+    ∙ append_assoc base (text_of (item_lines 1 (take i items))) (item_text (i + 1) x ++ 10 ∷ []) ∙ ap (λ y. base ++ y) (sym a)
+
+pub hull_bytes : (items : List Painted) → (codes "acyclic\n" ++ text_of (item_lines 1 items)) ++ codes "end\n" ≡ hull_text items
+hull_bytes items =
+    let last : List (List ℕ) = codes "end" ∷ [] in
+    append_assoc (codes "acyclic\n") (text_of (item_lines 1 items)) (text_of last)
+    ∙ ap (λ r. codes "acyclic" ++ 10 ∷ r) (sym (text_of-append (item_lines 1 items) last))
+
+-- ---- acyclic chirotopes
+
+pub acyclic_of_hull : {A : Type 0} (m : SignMap) (result : Result A HullError) (a : A) → IsCovectorOfChirotope m (all_plus m.elements) ↔ ((X : List Sign) → IsPositiveCircuit m X → ⊥) → IsErrAnd result IsCyclic ↔ (IsCovectorOfChirotope m (all_plus m.elements) → ⊥) → result ≡ Ok a → IsCovectorOfChirotope m (all_plus m.elements)
+acyclic_of_hull m result a both named is =
+    let no_error : IsErrAnd result IsCyclic → ⊥ = λ h. subst (λ r. IsErrAnd r IsCyclic) is h in
+    both.1 (λ X positive. no_error (named.1 (λ covector. both.0 covector X positive)))
+
+pub cyclic_meant : (m : SignMap) (why : HullError) (a : Answer) → IsCyclic why ↔ (IsCovectorOfChirotope m (all_plus m.elements) → ⊥) → IfCyclic (IsFirst (IsPositiveCircuit m)) why → IsCyclicAnswer why a → IsHullOfMap m a
+cyclic_meant m (why_of.Cyclic X) a named first same = subst (IsHullOfMap m) (sym same) (cyclic X (named.0 tt) first)
+cyclic_meant m why_of.Memory a named first none = absurd none

@@ -1,0 +1,46 @@
+-- The answers of `paint`, `hull` and `lexext` are answers to a command.
+--
+-- Main results: painting_replies, hull_replies, extension_replies.
+use Rattle.std.specs.Prelude.{List}
+use Rattle.om_chirotope.specs.Map.{SignMap}
+use Rattle.om_lexext.specs.declared.signed.Signed.{Signed}
+use Rattle.om_paint.specs.declared.painted.Painted.{Painted}
+use Rattle.om_paint.specs.declared.painted.Painted.TheVariants.{Circuit, Cocircuit}
+use Rattle.om_text.specs.declared.document.Document.{Document}
+use Rattle.om_program.specs.declared.answer.Answer.{Answer}
+use Rattle.om_program.specs.declared.colouring.Colouring.{Colouring}
+use Rattle.om_program.specs.declared.leading.Leading.{Leading}
+use Rattle.om_program.specs.Answers.{IsReply, says}
+use Rattle.om_program.specs.Paintings as paintings
+use Rattle.om_program.specs.Hulls as hulls
+use Rattle.om_program.specs.LexicalExtensions as extensions
+use Rattle.om_program.proofs.RankThreeLaws.{chirotope_replies}
+
+painted_replies : (item : Painted) → IsReply (says (paintings.painted_line item))
+painted_replies (Circuit X) = tt
+painted_replies (Cocircuit Y) = tt
+
+painting_of_map_replies : (c : Colouring) (m : SignMap) (a : Answer) → paintings.IsPaintingOfMap c m a → IsReply a
+painting_of_map_replies c m a (paintings.other_length other) = tt
+painting_of_map_replies c m a (paintings.outside count above) = tt
+painting_of_map_replies c m a (paintings.uncoloured count within not) = tt
+painting_of_map_replies c m a (paintings.painted item count within coloured is) = painted_replies item
+
+pub painting_replies : (c : Colouring) (d : Document) (a : Answer) → paintings.IsPainting c d a → IsReply a
+painting_replies c d a is = chirotope_replies (paintings.IsPaintingOfMap c) d a (painting_of_map_replies c) is
+
+hull_of_map_replies : (m : SignMap) (a : Answer) → hulls.IsHullOfMap m a → IsReply a
+hull_of_map_replies m a (hulls.cyclic X not first) = tt
+hull_of_map_replies m a (hulls.acyclic items is size each extreme) = tt
+
+pub hull_replies : (d : Document) (a : Answer) → hulls.IsHull d a → IsReply a
+hull_replies d a is = chirotope_replies hulls.IsHullOfMap d a hull_of_map_replies is
+
+extension_of_map_replies : (list : List Signed) (m : SignMap) (a : Answer) → extensions.IsExtensionOfMap list m a → IsReply a
+extension_of_map_replies list m a (extensions.outside e above) = tt
+extension_of_map_replies list m a (extensions.full none most) = tt
+extension_of_map_replies list m a (extensions.limited none few many) = tt
+extension_of_map_replies list m a (extensions.extended x e none few fits is same form axioms) = form
+
+pub extension_replies : (l : Leading) (d : Document) (a : Answer) → extensions.IsLexicalExtension l d a → IsReply a
+extension_replies l d a is = chirotope_replies (extensions.IsExtensionOfMap (extensions.given_list l)) d a (extension_of_map_replies (extensions.given_list l)) is

@@ -1,0 +1,43 @@
+-- What fits colours of the elements at an element: a circuit or a cocircuit of the chirotope of a document.
+use Rattle.std.specs.Prelude.{ℕ, ◌≡◌, ◌≢◌, ◌<◌, ◌≤◌, List, take}
+use Rattle.om_laws.specs.Colours.{IsColoured}
+use Rattle.om_chirotope.specs.Map.{SignMap}
+use Rattle.om_paint.specs.declared.colour.Colour.{Colour}
+use Rattle.om_paint.specs.declared.painted.Painted.{Painted}
+use Rattle.om_paint.specs.declared.painted.Painted.TheVariants.{Circuit, Cocircuit}
+use Rattle.om_paint.specs.Paintings.{colouring, IsPaintingOf}
+use Rattle.om_text.specs.declared.document.Document.{Document}
+use Rattle.om_answer.specs.declared.line.Line.{Line}
+use Rattle.om_answer.specs.declared.line.Line.TheVariants as line
+use Rattle.om_program.specs.declared.answer.Answer.{Answer}
+use Rattle.om_program.specs.declared.colouring.Colouring.{Colouring}
+use Rattle.om_program.specs.Answers.{says}
+use Rattle.om_program.specs.RankThree.{IsForChirotope}
+
+-- the element counts from 1
+abbrev pub HasElement : Colouring → Type 0
+HasElement c = 1 ≤ c.e
+
+-- the given colours
+abbrev pub given_colours : Colouring → List Colour
+given_colours c = take c.count c.colours
+
+-- the line that names what fits
+abbrev pub painted_line : Painted → Line
+painted_line (Circuit X) = line.Circuit X
+painted_line (Cocircuit Y) = line.Cocircuit Y
+
+-- what fits colours at an element of a map
+pub data IsPaintingOfMap (c : Colouring) (m : SignMap) : Answer → Type 0 where
+  -- there aren't as many colours as elements
+  other_length : c.count ≢ m.elements → IsPaintingOfMap c m (says (line.RefusedLength c.count))
+  -- the element is above the number of elements
+  outside : c.count ≡ m.elements → m.elements < c.e → IsPaintingOfMap c m (says (line.RefusedPlace c.e))
+  -- it is neither red nor green
+  uncoloured : c.count ≡ m.elements → c.e ≤ m.elements → (IsColoured (colouring (given_colours c) c.e) → ⊥) → IsPaintingOfMap c m (says (line.RefusedColour c.e))
+  -- the first circuit that fits, and where none does, the first cocircuit that does
+  painted : (item : Painted) → c.count ≡ m.elements → c.e ≤ m.elements → IsColoured (colouring (given_colours c) c.e) → IsPaintingOf m (colouring (given_colours c)) c.e item → IsPaintingOfMap c m (says (painted_line item))
+
+-- what fits colours at an element of the chirotope of a document
+abbrev pub IsPainting : Colouring → Document → Answer → Type 0
+IsPainting c d answer = IsForChirotope (IsPaintingOfMap c) d answer

@@ -1,0 +1,45 @@
+//! The convex hull of an oriented matroid.
+
+ghost use Rattle.std.specs.Prelude.{IfOk};
+ghost use Rattle.om_program.specs.Hulls.{IsCyclicAnswer, IsHull, IsHullOfMap};
+ghost use Rattle.om_program.specs.Represented.{IsMeantFor};
+
+use crate::answer::Answer;
+use crate::chirotope_choice::choose_chirotope;
+use crate::representation::Representation;
+use om_answer::Line;
+use om_chirotope::Chirotope;
+use om_paint::{HullError, acyclic_chirotopes, hull};
+use om_signs::NoMemory;
+use std::alloc::Global;
+
+/// The hull of the chirotope of an oriented matroid: which elements are extreme, or the first circuit without a minus.
+pub fn find_hull(alloc: Global, representation: Representation) -> Result<Answer, NoMemory>
+    ensures { IfOk result (IsMeantFor IsHull representation) }
+{
+    let chirotope = choose_chirotope(alloc, representation)?;
+    find_hull_of(alloc, &chirotope)
+}
+
+/// The hull of a chirotope.
+fn find_hull_of(alloc: Global, chirotope: &Chirotope) -> Result<Answer, NoMemory>
+    ensures { IfOk result (IsHullOfMap chirotope.now) }
+{
+    // this call tells that the axioms hold, and this one which chirotopes are acyclic
+    let _rank = chirotope.rank();
+    acyclic_chirotopes();
+    match hull(alloc, chirotope) {
+        Ok(items) => Ok(Answer::Hull(items)),
+        Err(why) => refuse_hull(why),
+    }
+}
+
+/// The answer where there is no hull: the circuit without a minus. Want of memory has none.
+fn refuse_hull(why: HullError) -> Result<Answer, NoMemory>
+    ensures { IfOk result (IsCyclicAnswer why) }
+{
+    match why {
+        HullError::Cyclic { x } => Ok(Answer::Line(Line::Cyclic { x })),
+        HullError::Memory => Err(NoMemory),
+    }
+}
