@@ -2,16 +2,18 @@
 """examples/check.py
 
 Runs every command that the pages show, and compares what it prints with what they say. In a fenced block of a page a
-line `$ COMMAND` is a command, run at the top of the repository, and the lines up to the next one are its output.
+line `$ COMMAND` is a command, run at the top of the repository, and the lines up to the next one are its output. Commands
+of TOPCOM are left out where it isn't installed, and those after them on the same page that read what they wrote.
 The last line is 'examples: N passed, M failed', and the exit code is 1 where one failed.
 """
 import os
 import re
+import shutil
 import subprocess
 import sys
 
 TOP = os.path.dirname(os.path.dirname(os.path.abspath(__file__)))
-PAGES = ["README.md", "examples/README.md"]
+PAGES = ["README.md", "examples/README.md"] + ["neighbours/" + name for name in sorted(os.listdir(os.path.join(TOP, "neighbours"))) if name.endswith(".md")]
 PAGES += sorted("docs/" + name for name in os.listdir(os.path.join(TOP, "docs")) if name.endswith(".md"))
 
 
@@ -32,11 +34,14 @@ def sessions(text):
 
 def main():
     passed = failed = 0
+    has_topcom = shutil.which("topcom-chiro2circuits") is not None
     subprocess.run(["./om", "accept"], cwd=TOP, stdin=open(os.path.join(TOP, "examples", "pappus.om")), stdout=subprocess.DEVNULL)
     for page in PAGES:
         with open(os.path.join(TOP, page)) as file:
             text = file.read()
         for command, wanted in sessions(text):
+            if not has_topcom and ("topcom-chiro" in command or "topcom-points2" in command or "/tmp/theirs" in command):
+                continue
             run = subprocess.run(["bash", "-c", command], cwd=TOP, stdin=subprocess.DEVNULL, capture_output=True, text=True, timeout=60)
             if run.stdout == wanted:
                 passed += 1
