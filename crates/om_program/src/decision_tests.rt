@@ -48,7 +48,12 @@ fn verdicts(rt: HostRuntime) -> Result<(), Fail> {
             Status::Refused,
             "refused notrank3 2\n",
         ),
-        (&["decide"], CIRCUITS, Status::Refused, "refused unbuilt\n"),
+        (
+            &["decide", "--box=1", "--steps=20"],
+            CIRCUITS,
+            Status::Done,
+            "om 1\nchirotope 3 4\n++++\nend\nrealizable\nvector 1 0 0\nvector 0 1 0\nvector 0 0 1\nvector 1 -1 1\nend\n",
+        ),
         (&["decide", "--box=0"], "", Status::Usage, "usage 2\n"),
         (
             &["decide", "--box=3", "--box=3"],
