@@ -1,16 +1,16 @@
-//! Texts of verdicts that are written out.
+//! Texts of verdicts that are written out; those with vectors are tested through the whole program.
 
 ghost use Rattle.std.specs.Prelude.{◌≤◌, All, IfOk};
 ghost use Rattle.om_signs.specs.declared.limits.TheConstants.{MAX_ELEMENTS, MAX_PLAIN, MAX_PIVOTS};
-ghost use Rattle.om_certificate.specs.Forms.{AreVectorsInForm, IsEntryInForm, AreWeightsInForm, ArePivotsInForm, IsVerdictInForm};
+ghost use Rattle.om_certificate.specs.Forms.{IsEntryInForm, AreWeightsInForm, ArePivotsInForm, IsVerdictInForm};
 
 use super::{print_verdict, read_claim};
 use om_certificate::{Entry, LpEnd, Stage, Verdict, Weight};
 use om_chirotope::{Chirotope, check};
 use om_grassmann::Statement;
-use om_signs::{List, MAX_ELEMENTS, MAX_INPUT, NoMemory, RawMap, Sign};
+use om_signs::{List, MAX_INPUT, NoMemory, RawMap, Sign};
 use om_subsets::Subset;
-use om_vectors::{Unfound, Vector, Word};
+use om_vectors::Unfound;
 use std::alloc::Global;
 use std::process::Abort;
 use std::test::Fail;
@@ -54,21 +54,6 @@ fn is_printed(
     let text = print_verdict(alloc, chi, verdict)?;
     let read = text.len() <= MAX_INPUT && read_claim(alloc, text.as_slice()).is_ok();
     Ok(read && text.as_slice() == expected.as_bytes())
-}
-
-/// The word with these vectors.
-fn word(vectors: &[(i64, i64, i64)]) -> Word
-    ensures { AreVectorsInForm result }
-{
-    let mut word = Word::new();
-    for (x, y, z) in vectors {
-        if let Some(vector) = Vector::new(*x, *y, *z) {
-            if word.len() < MAX_ELEMENTS {
-                word.push(vector);
-            }
-        }
-    }
-    word
 }
 
 /// A strict statement and an equation.
@@ -162,17 +147,6 @@ fn first_basis(alloc: Global) -> Result<List<u32>, NoMemory>
 }
 
 #[test]
-fn realizable(rt: HostRuntime) -> Result<(), Fail> {
-    let alloc = rt.alloc();
-    let chi = uniform(&rt, alloc, 4)?;
-    let verdict = Verdict::Realizable(word(&[(1, 0, 0), (0, 1, 0), (0, 0, 1), (1, -1, 1)]));
-    let expected =
-        "om 1\nchirotope 3 4\n++++\nend\nrealizable\nvector 1 0 0\nvector 0 1 0\nvector 0 0 1\nvector 1 -1 1\nend\n";
-    assert!(rt; is_printed(alloc, &chi, &verdict, expected)?);
-    Ok(())
-}
-
-#[test]
 fn nonrealizable(rt: HostRuntime) -> Result<(), Fail> {
     let alloc = rt.alloc();
     let chi = uniform(&rt, alloc, 5)?;
@@ -187,24 +161,9 @@ fn nonrealizable(rt: HostRuntime) -> Result<(), Fail> {
 fn undecided(rt: HostRuntime) -> Result<(), Fail> {
     let alloc = rt.alloc();
     let chi = uniform(&rt, alloc, 4)?;
-    let verdict = Verdict::Undecided(four_weights(alloc)?, Unfound::Frontier(word(&[(1, -1, 0)])));
+    let verdict = Verdict::Undecided(four_weights(alloc)?, Unfound::Exhausted);
     let expected =
-        "om 1\nchirotope 3 4\n++++\nend\nundecided\nweight 1 2 3 1\nweight 1 2 4 1\nweight 1 3 4 1\nweight 2 3 4 1\nfrontier\nvector 1 -1 0\nend\n";
-    assert!(rt; is_printed(alloc, &chi, &verdict, expected)?);
-    Ok(())
-}
-
-#[test]
-fn limit_at_a_frontier(rt: HostRuntime) -> Result<(), Fail> {
-    let alloc = rt.alloc();
-    let chi = uniform(&rt, alloc, 5)?;
-    let end = LpEnd::Pivots {
-        count: 1,
-        basis: first_basis(alloc)?,
-    };
-    let verdict = Verdict::Limit(end, Unfound::Frontier(word(&[(-1, -1, -1)])));
-    let expected =
-        "om 1\nchirotope 3 5\n++++++++++\nend\nlimit\npivots 1\nbasis 12 2 3 4 5 6 7 8 9 10 11\nfrontier\nvector -1 -1 -1\nend\n";
+        "om 1\nchirotope 3 4\n++++\nend\nundecided\nweight 1 2 3 1\nweight 1 2 4 1\nweight 1 3 4 1\nweight 2 3 4 1\nexhausted\nend\n";
     assert!(rt; is_printed(alloc, &chi, &verdict, expected)?);
     Ok(())
 }
