@@ -1,12 +1,14 @@
 -- The lines of a verdict block are read to its end, and from each state some lines complete a block.
 --
--- Main results: block_runs, block_completes
+-- Main results: block_runs, block_completes, block_one_line
 use Rattle.std.proofs.Common.{◌≡◌, ℕ, ◌+◌, ◌≤◌, ◌<◌, List, [], ◌∷◌, ◌++◌, Bool, true, false, cond, length, refl, ap, ◌∙◌, arith, length-append, append_assoc, append-nil}
 use Rattle.std.specs.Prelude.{Option, Some, Result, Ok, Err, codes}
+use Rattle.std.specs.List.{list_all}
 use Rattle.std.proofs.lemmas.Bool.{lt-ltb}
 use Rattle.om_text.specs.declared.code.Code.{Code}
 use Rattle.om_text.specs.declared.code.Code.TheVariants as code
 use Rattle.om_text.specs.Document.{is_line, end_line}
+use Rattle.om_text.proofs.Feeds.{is_one_line}
 use Rattle.om_text.proofs.Language.{run_words, bind, IsCompletion}
 use Rattle.om_vectors.specs.WholeVectors.{WholeVector}
 use Rattle.om_vectors.specs.declared.unfound.Unfound.{Unfound}
@@ -114,3 +116,17 @@ block_completes (Tested e) = (codes "exhausted" ∷ codes "end" ∷ [], record {
 block_completes (Exhausted f) = (codes "end" ∷ [], record { last = Closed (ended f unfound.Exhausted); is = ended f unfound.Exhausted; run = refl; gives = refl })
 block_completes (Frontier f vs) = (codes "end" ∷ [], record { last = Closed (ended f (unfound.Frontier vs)); is = ended f (unfound.Frontier vs); run = refl; gives = refl })
 block_completes (Closed v) = ([], record { last = Closed v; is = v; run = refl; gives = refl })
+
+-- these lines hold no line feed
+pub block_one_line : (b : Block) → list_all is_one_line (block_completes b).0 ≡ true
+unfolding block_completes
+block_one_line Empty = refl
+block_one_line (Vectors vs) = refl
+block_one_line (Entries es) = refl
+block_one_line (Weights ws) = refl
+block_one_line Tableau = refl
+block_one_line (Pivots p) = refl
+block_one_line (Tested e) = refl
+block_one_line (Exhausted f) = refl
+block_one_line (Frontier f vs) = refl
+block_one_line (Closed v) = refl

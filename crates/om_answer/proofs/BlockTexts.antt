@@ -3,7 +3,6 @@
 -- Main results: on_ok, tail_more, lines_more, line_whole, tail_next, lines_after, coordinate_next, width_named
 use Rattle.std.proofs.Common.{◌≡◌, ℕ, ◌+◌, ◌<◌, List, [], ◌∷◌, ◌++◌, length, take, get_or, map, refl, sym, ap, ◌∙◌, append_assoc, append-nil, arith}
 use Rattle.std.proofs.lemmas.Int.{to_z-of_z, fits_signed_from_abs}
-use Rattle.om_signs.specs.declared.limits.TheConstants.{MAX_COORDINATE}
 use Rattle.om_vectors.specs.WholeVectors.{IsCoordinate}
 use mir.Syntax.{w64, w128}
 use mir.Val.{to_z, of_z}
@@ -12,7 +11,7 @@ use Rattle.std.specs.Prelude.{ℤ, codes, decimal, Result, Ok, Err, OnOk}
 use Rattle.std.specs.Fmt.{signed_decimal}
 use Rattle.om_text.specs.Print.{text_of, spaced}
 use Rattle.om_text.proofs.Printing.{text_of-append}
-use Rattle.om_answer.specs.VerdictText.{named, lines_text, tail_text}
+use Rattle.om_answer.specs.VerdictText.{lines_text, tail_text}
 
 -- what holds where a call succeeds, from something else that holds there
 pub on_ok : {E A B : Type 0} (r : Result Unit E) → (A → B) → OnOk r A → OnOk r B

@@ -1,24 +1,29 @@
 -- Claims read line by line, first the document and then the block: what that comes to is the claim or the first fault.
 --
 -- Main definitions: ClaimState, claim_step, claim_value, ShowsClaim
--- Main results: claim_from, claim_outcome, claim_fault_from, fault_claim_outcome, document_passes, document_fault
-use Rattle.std.proofs.Common.{◌≡◌, ℕ, ◌+◌, List, [], ◌∷◌, ◌++◌, Bool, true, false, length, refl, sym, ap, subst, ◌∙◌, arith, inl, inr, append_assoc, append-nil}
+-- Main results: claim_from, claim_outcome, claim_fault_from, fault_claim_outcome, document_passes, document_fault, begins_bytes, bytes_begin
+use Rattle.std.proofs.Common.{◌≡◌, ℕ, ◌+◌, List, [], ◌∷◌, ◌++◌, Bool, true, false, length, refl, sym, ap, subst, ◌∙◌, arith, inl, inr, append_assoc, append-nil, ◌≤◌, take, drop}
 use Rattle.std.specs.Prelude.{Option, Some, None, Result, Ok, Err, codes}
-use Rattle.std.specs.List.{list_any}
+use Rattle.std.specs.List.{list_all, list_any}
+use Rattle.std.proofs.lemmas.List.{length-take-le, take-append-drop}
 use Rattle.om_text.specs.declared.code.Code.{Code}
 use Rattle.om_text.specs.declared.code.Code.TheVariants as code
 use Rattle.om_text.specs.declared.document.Document.{Document}
 use Rattle.om_text.specs.declared.state.State.{State}
 use Rattle.om_text.specs.declared.state.State.TheVariants.{Start, Versioned, Open, Closed}
-use Rattle.om_text.specs.Lines.{words, wordful, has_any}
+use Rattle.om_text.specs.Lines.{lines, words, wordful, has_any}
 use Rattle.om_text.specs.Steps.{step_if, finish_by, then_lines, outcome_by}
 use Rattle.om_text.specs.Document.{IsSpelled, IsDocument, is_line, version_line, end_line}
+use Rattle.om_text.specs.Fault.{Begins}
 use Rattle.om_text.specs.Heading.{heading}
+use Rattle.om_text.specs.Print.{text_of}
 use Rattle.om_text.specs.Reading.{step, value_of, outcome}
-use Rattle.om_text.proofs.Language.{run_words, bind, IsCompletion, wordful-append, value_outcome, outcome_value, outcome_fault, fault_outcome, outcome_passes}
+use Rattle.om_text.proofs.Language.{run_words, bind, IsCompletion, wordful-append, value_outcome, outcome_value, outcome_fault, fault_outcome, outcome_passes, run_shows, run-append, run_value, begins_run}
 use Rattle.om_text.proofs.Course.{Shows, IsOpen, step_shows, step_error, spelled_run, no_end}
 use Rattle.om_text.proofs.Completion as completions
 use Rattle.om_text.proofs.Distinct.{either}
+use Rattle.om_text.proofs.Feeds.{is_one_line, lines_text, lines_one_line, one_line-take, one_line-append}
+use Rattle.om_text.proofs.Outcome.{take_front}
 use Rattle.om_text.proofs.Filling.{is_line-Decides}
 use Rattle.om_certificate.specs.declared.verdict.Verdict.{Verdict}
 use Rattle.om_certificate.specs.declared.verdict.Verdict.TheVariants.{Realizable}
@@ -27,10 +32,10 @@ use Rattle.om_answer.specs.declared.block.Block.{Block}
 use Rattle.om_answer.specs.declared.block.Block.TheVariants as block
 use Rattle.om_answer.specs.BlockReading.{block_step, block_value, block_outcome}
 use Rattle.om_answer.specs.Claim.{IsSpelledClaim, IsClaim}
-use Rattle.om_answer.specs.ClaimFault.{lines_after_end, claim_code, IsClaimFault}
+use Rattle.om_answer.specs.ClaimFault.{lines_after_end, claim_code, AreClaim, IsClaimFault}
 use Rattle.om_answer.proofs.BlockCourse.{IsPart, block_shows}
 use Rattle.om_answer.proofs.BlockFaults.{block_error}
-use Rattle.om_answer.proofs.BlockRuns.{run_block, block_runs, block_completes}
+use Rattle.om_answer.proofs.BlockRuns.{run_block, block_runs, block_completes, block_one_line}
 
 -- in the document, or in the block after it
 pub data ClaimState : Type 0 where
@@ -350,3 +355,33 @@ document_passes front rest d o =
     outcome_passes ClaimState Claim claim_step claim_value start IsSpelledClaim claim_code ShowsClaim refl steps errors ends runs completes front rest start (in_document (Closed d)) 0 r
     ∙ closed_comes d rest (0 + length front)
     ∙ ap (λ n. joined d (block_outcome block.Empty n rest)) z
+
+-- ---- beginnings as bytes
+
+-- the lines that complete a claim hold no line feed
+completes_in_one_line : (s : ClaimState) (ls : List (List (List ℕ))) (o : ShowsClaim s ls) → list_all is_one_line (completes s ls o).0 ≡ true
+unfolding completes document_completes
+completes_in_one_line (in_document s) ls o = let c = completions.completion s ls o in one_line-append c.0 least c.1.one_line refl
+completes_in_one_line (in_block d b) ls o = block_one_line b
+
+-- lines that complete what was read
+run_completes : (ls : List (List ℕ)) (s : ClaimState) → run_claim start (wordful ls) ≡ Ok s → (more : List (List ℕ)) × (list_all is_one_line more ≡ true) × AreClaim (ls ++ more)
+run_completes ls s h =
+    let o : ShowsClaim s (wordful ls) = run_shows ClaimState Claim claim_step claim_value start IsSpelledClaim claim_code ShowsClaim refl steps errors ends runs completes (wordful ls) [] start s refl h in
+    let c = completes s (wordful ls) o in
+    let r = run-append ClaimState Claim claim_step claim_value start IsSpelledClaim claim_code ShowsClaim refl steps errors ends runs completes ls c.0 s h ∙ c.1.run in
+    (c.0, completes_in_one_line s (wordful ls) o, (c.1.is, run_value ClaimState Claim claim_step claim_value start IsSpelledClaim claim_code ShowsClaim refl steps errors ends runs completes (ls ++ c.0) c.1.last c.1.is r c.1.gives))
+
+-- lines begin a claim exactly where some bytes that are a claim begin with them
+pub begins_bytes : (bytes : List ℕ) (k : ℕ) → k ≤ length (lines bytes) → Begins AreClaim (take k (lines bytes)) → (text : List ℕ) × (take k (lines text) ≡ take k (lines bytes)) × AreClaim (lines text)
+begins_bytes bytes k h b =
+    let p = take k (lines bytes) in
+    let r = begins_run ClaimState Claim claim_step claim_value start IsSpelledClaim claim_code ShowsClaim refl steps errors ends runs completes p b in
+    let c = run_completes p r.0 r.1 in
+    let one : list_all is_one_line (p ++ c.0) ≡ true = one_line-append p c.0 (one_line-take k (lines bytes) (lines_one_line bytes)) c.1 in
+    let e : lines (text_of (p ++ c.0)) ≡ p ++ c.0 = lines_text (p ++ c.0) one in
+    let n : length p ≡ k = length-take-le k (lines bytes) h in
+    (text_of (p ++ c.0), ap (take k) e ∙ ap (λ j. take j (p ++ c.0)) (sym n) ∙ take_front p c.0, subst AreClaim (sym e) c.2)
+
+pub bytes_begin : (bytes : List ℕ) (k : ℕ) → (text : List ℕ) × (take k (lines text) ≡ take k (lines bytes)) × AreClaim (lines text) → Begins AreClaim (take k (lines bytes))
+bytes_begin bytes k (text, e, d) = (drop k (lines text), subst AreClaim (sym (take-append-drop k (lines text)) ∙ ap (λ x. x ++ drop k (lines text)) e) d)

@@ -2,9 +2,9 @@
 --
 -- Main definitions: IsLine, AreLines
 -- Main results: vector_line, entry_line, weight_line, pivots_line, basis_line, width_line, all_lines
-use Rattle.std.proofs.Common.{◌≡◌, ℕ, suc, ◌≤◌, ◌<◌, ◌^◌, List, [], ◌∷◌, Bool, true, false, ◌&&◌, length, map, refl, ap, ◌∙◌, arith}
+use Rattle.std.proofs.Common.{◌≡◌, ℕ, ◌≤◌, ◌<◌, ◌^◌, List, [], ◌∷◌, Bool, true, false, ◌&&◌, length, map, refl, ap, ◌∙◌, arith}
 use Rattle.std.proofs.lemmas.Int.{ints}
-use Rattle.std.specs.Prelude.{ℤ, pos, negsuc, unsigned_abs, codes, decimal, Option, Some, None, option_map, option_and_then, cond, All}
+use Rattle.std.specs.Prelude.{ℤ, pos, negsuc, codes, decimal, Option, Some, None, option_map, option_and_then, cond, All}
 use Rattle.std.specs.Fmt.{signed_decimal}
 use Rattle.std.specs.List.{list_all}
 use Rattle.std.proofs.lemmas.Bool.{le-leb, lt-ltb}
@@ -23,7 +23,7 @@ use Rattle.om_signs.specs.declared.limits.TheConstants.{MAX_PIVOTS, MAX_PLAIN}
 use Rattle.om_answer.specs.declared.range.Range.{Range}
 use Rattle.om_answer.specs.declared.range.Range.TheVariants.{Between, UpToSize}
 use Rattle.om_answer.specs.Numbers.{at_least, number_within, with_item, numbers_within, IsIn, AreIn}
-use Rattle.om_answer.specs.BlockLines.{vector_ranges, vector_from, vector_of, entry_ranges, entry_from, strictness, entry_of, weight_ranges, weight_from, weight_of, count_from, pivots_ranges, pivots_of, plain_numbers, some_of, basis_of, stage_of, width_from, width_ranges, width_after, width_of}
+use Rattle.om_answer.specs.BlockLines.{vector_ranges, vector_from, vector_of, entry_ranges, entry_from, strictness, entry_of, weight_ranges, weight_from, weight_of, count_from, pivots_ranges, pivots_of, plain_numbers, some_of, basis_of, stage_of, width_from, width_ranges, width_of}
 use Rattle.om_answer.specs.VerdictText.{named, vector_numbers, vector_words, entry_numbers, relation_name, entry_words, weight_numbers, weight_words, stage_name, width_numbers}
 
 -- ---- numbers

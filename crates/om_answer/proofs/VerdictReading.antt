@@ -1,7 +1,7 @@
 -- What is printed of a verdict is a block of this verdict, and behind the chirotope's document it is a claim.
 --
 -- Main results: block_read, claim_read
-use Rattle.std.proofs.Common.{◌≡◌, ℕ, List, [], ◌∷◌, ◌++◌, true, ◌&&◌, map, refl, sym, ap, subst, ◌∙◌, append_assoc}
+use Rattle.std.proofs.Common.{◌≡◌, ℕ, List, [], ◌∷◌, ◌++◌, true, ◌&&◌, map, refl, sym, ap, subst, ◌∙◌}
 use Rattle.std.specs.Prelude.{codes, decimal}
 use Rattle.std.specs.List.{list_all}
 use Rattle.std.proofs.lemmas.List.Folds.{list_all-append}
@@ -23,11 +23,11 @@ use Rattle.om_text.proofs.Language.{wordful-append}
 use Rattle.om_text.proofs.Printing.{text_of-append}
 use Rattle.om_text.proofs.Reread.{printed_one_line, printed_spelled}
 use Rattle.om_text.proofs.Texts.{is_word_line, wordful_spaced, spaced_one_lines}
-use Rattle.om_answer.specs.BlockLines.{word_line, vector_of, entry_of, weight_of, width_of}
+use Rattle.om_answer.specs.BlockLines.{vector_of, entry_of, weight_of}
 use Rattle.om_answer.specs.Block.{IsSearchEnd, IsTableauEnd, IsBlock, exhausted, frontier, pivots, width, realizable, nonrealizable, undecided, limit}
 use Rattle.om_answer.specs.Claim.{IsClaim, IsSpelledClaim}
-use Rattle.om_answer.specs.VerdictText.{named, vector_words, entry_words, weight_words, search_lines, tableau_lines, verdict_name, verdict_lines, block_lines, lines_text, chirotope_document, verdict_text, claim_of}
-use Rattle.om_answer.proofs.Spelled.{IsLine, AreLines, vector_line, entry_line, weight_line, pivots_line, basis_line, width_line, all_lines}
+use Rattle.om_answer.specs.VerdictText.{vector_words, entry_words, weight_words, search_lines, tableau_lines, block_lines, chirotope_document, verdict_text, claim_of}
+use Rattle.om_answer.proofs.Spelled.{vector_line, entry_line, weight_line, pivots_line, basis_line, width_line, all_lines}
 
 -- lines of words that end a search, or a tableau
 record IsSearch (ls : List (List (List ℕ))) (u : Unfound) : Type 0 where

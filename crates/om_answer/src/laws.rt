@@ -1,11 +1,12 @@
 //! Laws of the definition of claims. A law is a function that does nothing: its contract is the law.
 
-ghost use Rattle.std.specs.Prelude.{ℕ, ◌≡◌, ◌⊎◌, List};
+ghost use Rattle.std.specs.Prelude.{ℕ, ◌≡◌, ◌≤◌, ◌↔◌, ◌⊎◌, List, length, take};
 ghost use Rattle.om_text.specs.declared.code.Code.{Code};
+ghost use Rattle.om_text.specs.Fault.{Begins};
 ghost use Rattle.om_text.specs.Lines.{lines};
 ghost use Rattle.om_answer.specs.declared.claim.Claim.{Claim};
 ghost use Rattle.om_answer.specs.Claim.{IsClaim};
-ghost use Rattle.om_answer.specs.ClaimFault.{IsClaimFault};
+ghost use Rattle.om_answer.specs.ClaimFault.{AreClaim, IsClaimFault};
 
 /// Bytes have one reading, whatever they are and however many: they are one claim alone, or they have one first line at
 /// fault alone, with one code, and never both.
@@ -18,4 +19,12 @@ pub fn bytes_have_one_reading()
     ensures apart { (bytes : List ℕ) (claim : Claim) (line : ℕ) (code : Code) → IsClaim (lines bytes) claim → IsClaimFault (lines bytes) line code → ⊥ }
     // Bytes are a claim, or they have a fault.
     ensures either { (bytes : List ℕ) → ((claim : Claim) × IsClaim (lines bytes) claim) ⊎ ((line : ℕ) × (code : Code) × IsClaimFault (lines bytes) line code) }
+{}
+
+/// That the first lines of an input begin a claim says the same of lists of lines and of inputs of bytes: some claim in
+/// bytes, of whatever length, begins with these lines.
+pub fn claims_begin_as_bytes()
+    ensures { (bytes : List ℕ) (k : ℕ) → k ≤ length (lines bytes) →
+        Begins AreClaim (take k (lines bytes))
+        ↔ ((text : List ℕ) × (take k (lines text) ≡ take k (lines bytes)) × AreClaim (lines text)) }
 {}

@@ -30,7 +30,7 @@ mod verdict_tests;
 pub use claim::Claim;
 pub use claim_reader::read_claim;
 pub use kind::Kind;
-pub use laws::bytes_have_one_reading;
+pub use laws::{bytes_have_one_reading, claims_begin_as_bytes};
 pub use line::Line;
 pub use texts::print_line;
 pub use verdict::print_verdict;

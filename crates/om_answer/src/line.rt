@@ -43,8 +43,6 @@ pub enum Line {
     LimitValues {
         values: u32,
     },
-    /// The command isn't built yet for this kind of document.
-    RefusedUnbuilt,
     /// The input has more bytes than the limit.
     RefusedLong,
     /// Line `line` of the input, counted from 1, is the first at fault.
@@ -132,6 +130,19 @@ pub enum Line {
     /// The element `e`, at which a painting is asked for, is black or white.
     RefusedColour {
         e: u8,
+    },
+    /// The three-term test is asked of a document that isn't a map.
+    RefusedNotmap,
+    /// The element `e` of the basis `b` can't be exchanged for one of the basis `c`.
+    RefusedNoexchange {
+        b: Subset,
+        c: Subset,
+        e: u8,
+    },
+    /// The three-term relation of the set `p` with the four elements of `q` fails.
+    RefusedThreeterm {
+        p: Subset,
+        q: Subset,
     },
     /// The claim has no certificate.
     RefusedNocertificate,

@@ -36,7 +36,6 @@ fn lines_without_fields(rt: HostRuntime) -> Result<(), Fail> {
         (Line::ValidRealizable, "valid realizable\n"),
         (Line::ValidNonrealizable, "valid nonrealizable\n"),
         (Line::ValidUndecided, "valid undecided\n"),
-        (Line::RefusedUnbuilt, "refused unbuilt\n"),
         (Line::RefusedLong, "refused long\n"),
         (Line::RefusedAllzero, "refused allzero\n"),
         (Line::RefusedNozero, "refused nozero\n"),
@@ -45,6 +44,7 @@ fn lines_without_fields(rt: HostRuntime) -> Result<(), Fail> {
         (Line::RefusedFlatrank, "refused flatrank\n"),
         (Line::RefusedLastelement, "refused lastelement\n"),
         (Line::RefusedNotbasis, "refused notbasis\n"),
+        (Line::RefusedNotmap, "refused notmap\n"),
         (Line::RefusedNocertificate, "refused nocertificate\n"),
         (Line::RefusedNostrict, "refused nostrict\n"),
     ] {
@@ -143,6 +143,21 @@ fn lines_with_sets_and_codes(rt: HostRuntime) -> Result<(), Fail> {
                 a: subset(0b1_0001),
             },
             "refused notmutation 1,2,3,4 1,5\n",
+        ),
+        (
+            Line::RefusedNoexchange {
+                b: subset(0b11),
+                c: subset(0b1100),
+                e: 1,
+            },
+            "refused noexchange 1,2 3,4 1\n",
+        ),
+        (
+            Line::RefusedThreeterm {
+                p: subset(0),
+                q: subset(0b1111),
+            },
+            "refused threeterm none 1,2,3,4\n",
         ),
         (
             Line::RefusedWrongsign {

@@ -41,7 +41,6 @@ pub fn print_line(alloc: Global, line: &Line) -> Result<Vec<u8>, NoMemory>
         Line::Usage { word } => text_of(alloc, "usage", &[Number(*word)]),
         Line::LimitMembers { limit } => text_of(alloc, "limit members", &[Number(*limit)]),
         Line::LimitValues { values } => text_of(alloc, "limit values", &[Number(*values)]),
-        Line::RefusedUnbuilt => text_of(alloc, "refused unbuilt", &[]),
         Line::RefusedLong => text_of(alloc, "refused long", &[]),
         Line::RefusedLine { line, code } => text_of(
             alloc,
@@ -90,6 +89,13 @@ pub fn print_line(alloc: Global, line: &Line) -> Result<Vec<u8>, NoMemory>
             &[Set(*s), Set(*a)],
         ),
         Line::RefusedColour { e } => text_of(alloc, "refused colour", &[Small(*e)]),
+        Line::RefusedNotmap => text_of(alloc, "refused notmap", &[]),
+        Line::RefusedNoexchange { b, c, e } => text_of(
+            alloc,
+            "refused noexchange",
+            &[Set(*b), Set(*c), Small(*e)],
+        ),
+        Line::RefusedThreeterm { p, q } => text_of(alloc, "refused threeterm", &[Set(*p), Set(*q)]),
         Line::RefusedNocertificate => text_of(alloc, "refused nocertificate", &[]),
         Line::RefusedNumber { wanted, given } => text_of(
             alloc,

@@ -1,6 +1,6 @@
-use Rattle.std.proofs.Common.{arith, refl, sym, ap, ◌∙◌}
+use Rattle.std.proofs.Common.{arith, sym, ◌∙◌}
 use Rattle.std.proofs.lemmas.Bool.{false≢true}
-use Rattle.om_answer.proofs.Elements.{IsJoined, joined_none, joined_element, joined_other, joined_all}
+use Rattle.om_answer.proofs.Elements.{joined_none, joined_element, joined_other, joined_all}
 use Rattle.om_answer.proofs.pieces.push_elements.Goals as goal
 use Rattle.om_answer.proofs.pieces.push_elements.Goals.{then-has+in_ok-push_element, else-has}
 

@@ -1,4 +1,4 @@
-use Rattle.std.proofs.Common.{◌≡◌, ◌++◌, ap, sym, subst, ◌∙◌}
+use Rattle.std.proofs.Common.{◌++◌, ap, sym, subst, ◌∙◌}
 use Rattle.om_text.specs.Lines.{lines}
 use Rattle.om_text.specs.Form.{IsInForm}
 use Rattle.om_text.specs.Print.{printed}

@@ -1,4 +1,4 @@
-use Rattle.std.proofs.Common.{◌≡◌, [], ◌∷◌, ◌++◌, map, ap, sym, subst}
+use Rattle.std.proofs.Common.{◌≡◌, [], ◌∷◌, ◌++◌, map, sym, subst}
 use Rattle.std.specs.Prelude.{codes}
 use Rattle.om_answer.specs.BlockLines.{word_line}
 use Rattle.om_answer.specs.VerdictText.{lines_text, entry_words, weight_words, search_lines, verdict_name, verdict_lines}

@@ -1,4 +1,3 @@
-use Rattle.std.proofs.Common.{sym, refl, subst}
 use Rattle.std.specs.Prelude.{decimal}
 use Rattle.om_answer.proofs.BlockTexts.{tail_more}
 use Rattle.om_answer.proofs.verdict_lines.push_places.Goals as goal

@@ -1,4 +1,4 @@
-use Rattle.std.proofs.Common.{[], ◌∷◌, ◌++◌, sym, append-nil}
+use Rattle.std.proofs.Common.{[], ◌∷◌, sym, append-nil}
 use Rattle.std.specs.Prelude.{codes}
 use Rattle.std.specs.Fmt.{signed_decimal}
 use Rattle.om_answer.proofs.BlockTexts.{on_ok, line_whole, coordinate_next}

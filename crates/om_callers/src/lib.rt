@@ -1,0 +1,14 @@
+//! Callers of the library, to copy from: from bytes to covectors, and a search over all triples.
+//!
+//! Each shows what a caller writes, and what the contracts of the calls give him.
+#![tactic(auto)]
+
+mod not_read;
+mod reading;
+#[cfg(test)]
+mod tests;
+mod triples;
+
+pub use not_read::NotRead;
+pub use reading::covectors_of_text;
+pub use triples::first_triple;

@@ -1,0 +1,24 @@
+use om_chirotope::MapRefused;
+use om_signs::NoMemory;
+use om_text::Code;
+use thiserror::Error;
+
+/// Why bytes give no covectors.
+#[derive(Clone, Copy, Debug, PartialEq, Eq, Error)]
+pub enum NotRead {
+    /// The bytes are no document: the first line at fault, counted from 1, and what is wrong with it.
+    #[error("line {line}: {code}")]
+    Line { line: u32, code: Code },
+    /// The document is of another kind than `chirotope`.
+    #[error("no chirotope is given")]
+    Kind,
+    /// The map is no chirotope.
+    #[error("{0}")]
+    Axioms(MapRefused),
+    /// There are more covectors than `limit`.
+    #[error("more than {limit} covectors")]
+    TooMany { limit: u32 },
+    /// Want of memory.
+    #[error("out of memory")]
+    Memory,
+}

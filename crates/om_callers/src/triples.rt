@@ -1,0 +1,28 @@
+//! A search over all triples.
+
+ghost use Rattle.std.specs.Prelude.{◌≡◌, IfSome, IfNone};
+ghost use Rattle.om_callers.specs.Triples.{IsFirstWithSign, HasNoneWithSign};
+
+use om_chirotope::Chirotope;
+use om_signs::Sign;
+use om_subsets::Subset;
+
+/// The lexicographically first triple of elements to which a chirotope of rank 3 gives a sign, and None where it gives
+/// this sign to no triple. It takes no memory.
+///
+/// Source: Björner, Las Vergnas, Sturmfels, White and Ziegler, *Oriented Matroids*, chapter 3.
+pub fn first_triple(chi: &Chirotope, sign: Sign) -> Option<Subset>
+    requires { chi.now.rank ≡ 3 }
+    ensures found { IfSome result (IsFirstWithSign chi.now sign) }
+    ensures none { IfNone result (HasNoneWithSign chi.now sign) }
+{
+    let n = chi.elements();
+    let rank = chi.rank();
+    for k in 0..Subset::choose(n, rank) {
+        let triple = Subset::unrank(k, rank, n);
+        if chi.at(triple) == sign {
+            return Some(triple);
+        }
+    }
+    None
+}
