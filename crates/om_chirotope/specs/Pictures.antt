@@ -14,16 +14,21 @@ use Rattle.om_chirotope.specs.ThreeTerm.{IsBasis}
 abbrev pub without_bit : ℕ → ℕ → ℕ
 without_bit mask i = bit_and mask (4294967295 - 1 * 2 ^ i % 4294967296)
 
--- a table with a mark for each set, by its mask, and a mark at each basis
-pub record AreMarked (m : SignMap) (marks : List Bool) : Type 0 where
-  pub size : length marks ≡ 2 ^ m.elements
-  pub bases : (b : List ℕ) → IsBasis m b → get_or marks (mask_of 1 b m.elements) false ≡ true
-
 -- each element of the list has its bit in the mask
 abbrev pub IsInMask : List ℕ → ℕ → Type 0
 IsInMask b mask = (i : ℕ) → IsMember (i + 1) b → bit_at mask i ≡ 1
 
--- and a mark at each set below a limit that contains a basis
+-- a basis in the set of a mask
+abbrev pub HasBasisIn : SignMap → ℕ → Type 0
+HasBasisIn m mask = (b : List ℕ) × IsBasis m b × IsInMask b mask
+
+-- a table with a place for each set, by its mask, with a mark at each basis, and at no set without a basis in it
+pub record AreMarked (m : SignMap) (marks : List Bool) : Type 0 where
+  pub size : length marks ≡ 2 ^ m.elements
+  pub bases : (b : List ℕ) → IsBasis m b → get_or marks (mask_of 1 b m.elements) false ≡ true
+  pub only : (mask : ℕ) → get_or marks mask false ≡ true → HasBasisIn m mask
+
+-- and with a mark at each set below a limit that contains a basis
 pub record AreMarkedAbove (m : SignMap) (marks : List Bool) (limit : ℕ) : Type 0 where
   pub marked : AreMarked m marks
   pub above : (mask : ℕ) (b : List ℕ) → mask < limit → IsBasis m b → IsInMask b mask → get_or marks mask false ≡ true

@@ -4,6 +4,7 @@
 mod bad_map;
 mod checking;
 mod chirotope;
+mod cocircuit_table;
 mod laws;
 mod map_refused;
 mod scan;
@@ -17,3 +18,4 @@ pub use chirotope::Chirotope;
 pub use laws::{axioms_and_relations, three_term_test, vectors_of_a_map};
 pub use map_refused::MapRefused;
 pub use scan::violated;
+pub use three_terms::has_exchange;

@@ -7,13 +7,11 @@ ghost use Rattle.om_subsets.specs.Subsets.{choose};
 ghost use Rattle.om_chirotope.specs.Map.{map_of, cocircuit_vectors};
 ghost use Rattle.om_chirotope.specs.Chirotope.{HasOrthogonalPairs, IsFirstViolated};
 
+use super::cocircuit_table::{ROOM, fill};
 use super::three_terms::meets_test;
-use super::vectors::{circuit_of, cocircuit_of};
+use super::vectors::circuit_of;
 use om_signs::{MAX_PLACES, RawMap, SignVec};
 use om_subsets::{MOST_SUBSETS, Subset};
-
-/// The room of the table of the vectors U.
-const ROOM: usize = MOST_SUBSETS as usize;
 
 /// The first pair, by S and then by A in lexicographic order, whose sign vectors V of S and U of A aren't orthogonal,
 /// or None where every pair is orthogonal: S has one element more than the rank, and A one less. In rank 0 there is no A,
@@ -58,22 +56,6 @@ fn scan_with_table(raw: &RawMap) -> Option<(Subset, Subset)>
         return None;
     }
     scan(raw, cocircuits)
-}
-
-/// Writes the vectors U of all sets of one element less than the rank, in lexicographic order.
-fn fill(raw: &RawMap, table: &mut [SignVec])
-    requires low { 1 ≤ raw.now.elements }
-    requires high { raw.now.elements ≤ MAX_PLACES }
-    requires rank_low { 1 ≤ raw.now.rank }
-    requires rank_high { raw.now.rank < raw.now.elements }
-    requires whole { length raw.now.signs ≡ choose raw.now.elements raw.now.rank }
-    requires room { length table.old ≡ choose raw.now.elements (raw.now.rank - 1) }
-    ensures { table.new ≡ cocircuit_vectors (map_of raw.now) }
-{
-    for place in 0..Subset::choose(raw.elements, raw.rank - 1) {
-        let a = Subset::unrank(place, raw.rank - 1, raw.elements);
-        table[place as usize] = cocircuit_of(raw, a);
-    }
 }
 
 /// The first violated pair, from the vectors U of all sets of one element less than the rank.

@@ -9,9 +9,10 @@ ghost use Rattle.om_subsets.specs.Subsets.{choose, IsMember, IsSubsetFrom};
 ghost use Rattle.om_laws.specs.ThreeTerm.{AreBalanced};
 ghost use Rattle.om_chirotope.specs.Map.{map_of, cocircuit_vector, cocircuit_vectors};
 ghost use Rattle.om_chirotope.specs.Chirotope.{HasOrthogonalPairs};
-ghost use Rattle.om_chirotope.specs.ThreeTerm.{HasListExchange, HasThreeTermRelations};
+ghost use Rattle.om_chirotope.specs.ThreeTerm.{HasExchange, HasListExchange, HasThreeTermRelations};
 ghost use Rattle.om_chirotope.specs.Pictures.{AreMarked, AreMarkedAbove, AreRowsBelow, IsBalancedTriple, without_bit};
 
+use super::cocircuit_table::{ROOM, fill};
 use super::vectors::sign_at;
 use om_signs::{MAX_PLACES, RawMap, Sign, SignVec};
 use om_subsets::Subset;
@@ -33,37 +34,63 @@ pub fn meets_test(raw: &RawMap, cocircuits: &[SignVec]) -> bool
     requires filled { cocircuits.now ≡ cocircuit_vectors (map_of raw.now) }
     ensures { IsTrue result → HasOrthogonalPairs (map_of raw.now) }
 {
-    has_exchange(raw, cocircuits) && has_relations(raw, cocircuits)
+    has_list_exchange(raw, cocircuits) && has_relations(raw, cocircuits)
+}
+
+/// Whether the bases of a map have exchange: an element e of a basis B that isn't in a basis C changes places with some
+/// element f of C that isn't in B. A basis is a set of as many elements as the rank whose value isn't 0; a map without a
+/// basis has exchange.
+///
+/// The elements are from 1 to [`MAX_PLACES`], the rank is at most their number, and there is one sign for each
+/// increasing list. It takes no memory.
+///
+/// Source: Björner, Las Vergnas, Sturmfels, White and Ziegler, *Oriented Matroids*, chapter 3.
+pub fn has_exchange(raw: &RawMap) -> bool
+    requires low { 1 ≤ raw.now.elements }
+    requires high { raw.now.elements ≤ MAX_PLACES }
+    requires rank { raw.now.rank ≤ raw.now.elements }
+    requires whole { length raw.now.signs ≡ choose raw.now.elements raw.now.rank }
+    ensures { IsTrue result ↔ HasExchange (map_of raw.now) }
+{
+    if raw.rank == 0 {
+        return true;
+    }
+    let mut table = [SignVec::zero(raw.elements); ROOM];
+    let count = Subset::choose(raw.elements, raw.rank - 1) as usize;
+    let cocircuits = &mut table[..count];
+    fill(raw, cocircuits);
+    has_list_exchange(raw, cocircuits)
 }
 
 /// Whether each basis has an element in the support of each vector U that isn't zero, by a table that marks the sets
 /// which contain a basis.
-fn has_exchange(raw: &RawMap, cocircuits: &[SignVec]) -> bool
+fn has_list_exchange(raw: &RawMap, cocircuits: &[SignVec]) -> bool
     requires low { 1 ≤ raw.now.elements }
     requires high { raw.now.elements ≤ MAX_PLACES }
     requires rank_low { 1 ≤ raw.now.rank }
-    requires rank_high { raw.now.rank < raw.now.elements }
+    requires rank_high { raw.now.rank ≤ raw.now.elements }
     requires whole { length raw.now.signs ≡ choose raw.now.elements raw.now.rank }
     requires filled { cocircuits.now ≡ cocircuit_vectors (map_of raw.now) }
-    ensures { IsTrue result → HasListExchange (map_of raw.now) }
+    ensures { IsTrue result ↔ HasListExchange (map_of raw.now) }
 {
     let mut table = [false; SETS];
-    has_exchange_by(raw, cocircuits, &mut table)
+    has_list_exchange_by(raw, cocircuits, &mut table)
 }
 
 /// The same, by a table for the marks.
-fn has_exchange_by(raw: &RawMap, cocircuits: &[SignVec], table: &mut [bool]) -> bool
+fn has_list_exchange_by(raw: &RawMap, cocircuits: &[SignVec], table: &mut [bool]) -> bool
     requires low { 1 ≤ raw.now.elements }
     requires high { raw.now.elements ≤ MAX_PLACES }
     requires rank_low { 1 ≤ raw.now.rank }
-    requires rank_high { raw.now.rank < raw.now.elements }
+    requires rank_high { raw.now.rank ≤ raw.now.elements }
     requires whole { length raw.now.signs ≡ choose raw.now.elements raw.now.rank }
     requires filled { cocircuits.now ≡ cocircuit_vectors (map_of raw.now) }
     requires room { length table.old ≡ SETS }
-    ensures { IsTrue result → HasListExchange (map_of raw.now) }
+    ensures { IsTrue result ↔ HasListExchange (map_of raw.now) }
 {
     let sets = number_of_sets(raw.elements);
     let marks = &mut table[..sets];
+    clear(marks);
     mark_bases(raw, marks);
     mark_above(raw, marks);
     each_basis_meets_each(raw, cocircuits, marks)
@@ -78,12 +105,23 @@ fn number_of_sets(elements: u8) -> usize
     1usize << elements
 }
 
+/// Takes away all marks.
+fn clear(marks: &mut [bool])
+    ensures room { length marks.new ≡ length marks.old }
+    ensures clear { (i : ℕ) → get_or marks.new i false ≡ false }
+{
+    for i in 0..marks.len() {
+        marks[i] = false;
+    }
+}
+
 /// Marks the sets that are bases.
 fn mark_bases(raw: &RawMap, marks: &mut [bool])
     requires high { raw.now.elements ≤ MAX_PLACES }
     requires rank { raw.now.rank ≤ raw.now.elements }
     requires whole { length raw.now.signs ≡ choose raw.now.elements raw.now.rank }
     requires room { length marks.old ≡ 2 ^ raw.now.elements }
+    requires clear { (i : ℕ) → get_or marks.old i false ≡ false }
     ensures { AreMarked (map_of raw.now) marks.new }
 {
     for k in 0..Subset::choose(raw.elements, raw.rank) {
@@ -120,7 +158,7 @@ fn has_marked_part(marks: &[bool], set: u32, elements: u8) -> bool
     requires high { elements ≤ MAX_PLACES }
     requires room { length marks.now ≡ 2 ^ elements }
     requires within { set < 2 ^ elements }
-    ensures { (i : ℕ) → i < elements → bit_at set i ≡ 1 → get_or marks.now (without_bit set i) false ≡ true → IsTrue result }
+    ensures { IsTrue result ↔ ((i : ℕ) × (i < elements) × (bit_at set i ≡ 1) × (get_or marks.now (without_bit set i) false ≡ true)) }
 {
     for i in 0..elements {
         if set >> i & 1 == 1 && marks[(set & !(1u32 << i)) as usize] {
@@ -138,7 +176,7 @@ fn each_basis_meets_each(raw: &RawMap, cocircuits: &[SignVec], marks: &[bool]) -
     requires room { length marks.now ≡ 2 ^ raw.now.elements }
     requires filled { cocircuits.now ≡ cocircuit_vectors (map_of raw.now) }
     requires marked { AreMarkedAbove (map_of raw.now) marks.now (2 ^ raw.now.elements) }
-    ensures { IsTrue result → HasListExchange (map_of raw.now) }
+    ensures { IsTrue result ↔ HasListExchange (map_of raw.now) }
 {
     let all = (1u32 << raw.elements) - 1;
     for u in cocircuits {
