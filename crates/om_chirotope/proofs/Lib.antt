@@ -13,3 +13,4 @@ pub mod Marks
 pub mod Rows
 pub mod SignChecks
 pub mod FirstRow
+pub mod BlockLaws

@@ -8,6 +8,7 @@ mod cocircuit_table;
 mod laws;
 mod map_refused;
 mod scan;
+mod threaded_scan;
 mod threads;
 mod three_terms;
 mod vectors;
