@@ -43,6 +43,13 @@ nonzero_value m w n = go (some_place m.signs)
           λ z. s (sym (ap (at m.signs) t.place) ∙ sym (value_in_order 1 m.elements (chi_of m) (subset_at m.elements m.rank k) t.lawful) ∙ z),
         )
 
+pub nonzero_or_zeros : (m : SignMap) → IsMap m → HasNonzeroValue m ⊎ IsAllZero m.signs
+nonzero_or_zeros m w = go (some_place m.signs)
+  where
+    go : ((k : ℕ) × (k < length m.signs) × (at m.signs k ≢ Zero)) ⊎ IsAllZero m.signs → HasNonzeroValue m ⊎ IsAllZero m.signs
+    go (inr all) = inr all
+    go (inl (k, l, s)) = inl (nonzero_value m w (λ all. s (all k Zero l)))
+
 pub not_all_zero : (m : SignMap) → IsMap m → IsAllZero m.signs → HasNonzeroValue m → ⊥
 not_all_zero m w z (xs, h, l, n) =
     let whole = w.whole in

@@ -1,7 +1,7 @@
 -- Two forms of the exchange of bases: of an element of a basis B off a basis C, and of the list that is left of B.
 --
--- Main results: exchange_from_lists and back, exchange_of_lists.
-use Rattle.std.specs.Prelude.{ℕ, ◌≡◌, ◌≢◌, ◌+◌, ◌%◌, ◌<◌, ◌≤◌, ◌⊎◌, List, [], ◌∷◌, ◌++◌, refl}
+-- Main results: exchange_from_lists and back, exchange_of_lists; exchange_of_rank_zero.
+use Rattle.std.specs.Prelude.{ℕ, ◌≡◌, ◌≢◌, ◌+◌, ◌%◌, ◌<◌, ◌≤◌, ◌⊎◌, List, [], ◌∷◌, ◌++◌, length, refl}
 use Rattle.std.proofs.Common.{zero, suc, sym, ap, subst, ◌∙◌, ⊎_elim, inl, inr, arith}
 use Rattle.std.proofs.lemmas.Bool.{cases_eq, cases_lt, eq-eqb, ne_eqb, lt-ltb, le-ltb}
 use Rattle.om_signs.specs.declared.sign.Sign.{Sign}
@@ -149,3 +149,10 @@ module _ (m : SignMap) where
       go n =
           let k = ex (with_element e a) c e made.0 second ((members_with e e a).1 (inl refl)) n in
           (k.0, k.1, with_of_basis a k.0 h.list (λ j. k.2 ((members_with e k.0 a).1 (inr j))) (subst (λ l. IsBasis m (with_element k.0 l)) back k.3))
+
+pub exchange_of_rank_zero : (m : SignMap) → m.rank ≡ 0 → HasExchange m
+exchange_of_rank_zero m r b c e first second inside outside = absurd (nothing b (first.size ∙ r) inside)
+  where
+    nothing : (xs : List ℕ) → length xs ≡ 0 → IsMember e xs → ⊥
+    nothing [] q k = k
+    nothing (x ∷ xs) q k = omega (arith, q)

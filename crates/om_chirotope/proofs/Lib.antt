@@ -11,3 +11,6 @@ pub mod ExchangeForms
 pub mod ThreeTerms
 pub mod Marks
 pub mod Rows
+pub mod SignChecks
+pub mod FirstRow
+pub mod BlockLaws

@@ -1,62 +1,47 @@
--- The rows of the pictures of a map, and the relations of three of them.
-use Rattle.std.specs.Prelude.{ℕ, ◌≡◌, ◌≢◌, ◌+◌, ◌-◌, ◌*◌, ◌%◌, ◌<◌, ◌≤◌, ◌^◌, ◌⊎◌, List, [], ◌∷◌, ◌++◌, length, map, refl, bit_and, bit_or}
+-- The rows of the pictures of a map, and the masks that the test of their relations keeps.
+--
+-- Main results: balanced_of_masks and back, masks_of_balanced; rows_more, rows_skip; cleared_more, all_cleared; relations_of_pictures.
+use Rattle.std.specs.Prelude.{ℕ, ◌≡◌, ◌≢◌, ◌+◌, ◌-◌, ◌*◌, ◌%◌, ◌<◌, ◌≤◌, ◌^◌, ◌⊎◌, ◌↔◌, List, [], ◌∷◌, ◌++◌, length, map, refl, bit_and, bit_or}
 use Rattle.std.specs.Int.{bit_at}
-use Rattle.std.proofs.Common.{sym, ◌∙◌, ap, arith, inl, inr, subst, get_or, set}
+use Rattle.std.proofs.Common.{sym, ◌∙◌, ap, arith, inl, inr, subst, get_or, set, replicate}
 use Rattle.std.proofs.Common.{⊎_elim, zero, suc, append_assoc, w32, max}
 use Rattle.std.specs.Int.{trailing_zeros}
 use Rattle.std.proofs.lemmas.Bool.{cases_eq, cases_lt, cases_order, eq-eqb, ne_eqb, lt-ltb, le-ltb}
-use Rattle.std.proofs.lemmas.List.{length-set, length-map, get_or-map, get_or-set_same, get_or-set_other}
+use Rattle.std.proofs.lemmas.List.{get_or_past, length-set, length-map, length-replicate, get_or-map, get_or-replicate, get_or-set_same, get_or-set_other}
 use Rattle.std.proofs.lemmas.List.FromFn.{get_or-map-range_with_len}
 use Rattle.std.proofs.lemmas.Nat.{and_le_l}
-use Rattle.std.proofs.Math.Pow.{pow_mono, pow_pos}
-use Rattle.std.proofs.lemmas.Nat.Bits.{bit_at-lt, bit_at-zero, bit_at_or, bit_at_ones, bit_at_ones_above, bit_at-trailing_zeros, bit_at_clear_other, bit_at_clear_same, bit_at_above}
-use Rattle.om_signs.proofs.Bits.{bit_at_and_not, one_shl_32}
+use Rattle.std.proofs.Math.Pow.{pow_mono}
+use Rattle.std.proofs.lemmas.Nat.Bits.{bit_at-lt, bit_at-zero, bit_at_or, bit_at-trailing_zeros, bit_at_clear_other, bit_at_clear_same, bit_at_above, bit_at_set_same, bit_at_set_other, same_from_bits}
+use Rattle.om_signs.proofs.Bits.{lt_from_bits, some_bit}
+use Rattle.om_signs.specs.declared.limits.TheConstants.{MAX_PLACES}
 use Rattle.om_signs.specs.declared.sign.Sign.{Sign}
 use Rattle.om_signs.specs.declared.sign.Sign.TheVariants.{Minus, Zero, Plus}
 use Rattle.om_signs.specs.Sign.{opposite, product}
-use Rattle.om_signs.specs.SignVec.{at, place, IsMaskOf, IsPlus, IsMinus}
+use Rattle.om_signs.specs.SignVec.{at, place, IsMaskOf, IsNonzero, IsPlus, IsMinus}
 use Rattle.om_subsets.specs.Subsets.{choose, rank_of, IsSubsetFrom, IsMember, with_element, count_above}
 use Rattle.om_subsets.proofs.Order.{same_place, rank_from-lt}
+use Rattle.om_laws.specs.Bridge.{as_list}
 use Rattle.om_laws.specs.Relations.{along}
 use Rattle.om_laws.specs.Signs.{negated_times}
 use Rattle.om_laws.specs.Tuples.{IsAlternating}
 use Rattle.om_laws.specs.ThreeTerm.{AreBalanced}
+use Rattle.om_laws.proofs.MemberLaws.{member_left}
 use Rattle.om_laws.proofs.ThreeTermSigns.{IsOneOf, balanced_from}
-use Rattle.om_laws.proofs.TupleLaws.{moved_over, value_alternating}
+use Rattle.om_laws.proofs.TupleLaws.{last_repeat_zero, moved_over, value_alternating}
 use Rattle.om_subsets.proofs.Statements.{subset_is_increasing}
 use Rattle.om_subsets.specs.Members.{Chosen}
 use Rattle.om_chirotope.specs.Map.{SignMap, chi_of, value_of, cocircuit_vector, cocircuit_vectors, parity_sign}
 use Rattle.om_chirotope.specs.ThreeTerm.{HasThreeTermRelations}
-use Rattle.om_chirotope.specs.Pictures.{AreRowsBelow, IsBalancedTriple}
+use Rattle.om_chirotope.specs.Pictures.{AreRowsBelow, HasRelationsAt, IsBalancedTriple, IsLive, IsTriple}
 use Rattle.om_chirotope.proofs.Circuits.{parity_sign-suc, count_below}
 use Rattle.om_chirotope.proofs.Cocircuits.{length-with}
 use Rattle.om_chirotope.proofs.Tables.{length-table, vector_of_place}
-use Rattle.om_chirotope.proofs.Places.{vector_is, length-vector, cocircuit_place}
+use Rattle.om_chirotope.proofs.Places.{vector_is, length-vector}
 use Rattle.om_chirotope.proofs.ThreeTerms.{balanced_same}
-
--- y and z are later elements off P
-pub record AreLater (m : SignMap) (p : List ℕ) (x y z : ℕ) : Type 0 where
-  pub first : x < y
-  pub second : y < z
-  pub high : z ≤ m.elements
-  pub y_off : IsMember y p → ⊥
-  pub z_off : IsMember z p → ⊥
-
--- the relations of x and y hold with each z off P, except where a mask has a bit at z - 1
-abbrev pub AreBalancedUnless : SignMap → List ℕ → ℕ → ℕ → ℕ → Type 0
-AreBalancedUnless m p x y rest = (z : ℕ) → AreLater m p x y z → (bit_at rest (z - 1) ≡ 1) ⊎ IsBalancedTriple m p x y z
-
--- the relations of x hold with each y below a limit
-abbrev pub AreBalancedSecond : SignMap → List ℕ → ℕ → ℕ → Type 0
-AreBalancedSecond m p x limit = (y z : ℕ) → y < limit → AreLater m p x y z → IsBalancedTriple m p x y z
-
--- the relations of each x below a limit hold
-abbrev pub AreBalancedFirst : SignMap → List ℕ → ℕ → Type 0
-AreBalancedFirst m p limit = (x y z : ℕ) → 1 ≤ x → x < limit → (IsMember x p → ⊥) → AreLater m p x y z → IsBalancedTriple m p x y z
 
 -- the relations of the first k lists P hold
 abbrev pub AreBalancedBelow : SignMap → ℕ → Type 0
-AreBalancedBelow m k = (p : List ℕ) → IsSubsetFrom 1 m.elements p → length p + 2 ≡ m.rank → rank_of m.elements p < k → AreBalancedFirst m p (m.elements + 1)
+AreBalancedBelow m k = (p : List ℕ) → IsSubsetFrom 1 m.elements p → length p + 2 ≡ m.rank → rank_of m.elements p < k → HasRelationsAt m p
 
 -- ---- the row of an element: the vector of P with it, negated where the number of later elements of P is odd
 
@@ -149,6 +134,75 @@ one_of x y z e = elim (cases_eq x 1) [
     last : (x y z : ℕ) → max (max x y) z ≡ 1 → x ≢ 1 → y ≢ 1 → z ≡ 1
     last x y z e n k = grind arith
 
+no_sign : {s : Sign} → IsOneOf Zero Zero Zero s → Zero ≡ s
+no_sign (inl e) = e
+no_sign (inr (inl e)) = e
+no_sign (inr (inr e)) = e
+
+zero_plus : Zero ≡ Plus → ⊥
+zero_plus e = cc
+
+zero_minus : Zero ≡ Minus → ⊥
+zero_minus e = cc
+
+with_minus : (x y z : Sign) → AreBalanced x y z → IsOneOf x y z Plus → IsOneOf x y z Minus
+with_minus Minus Minus Minus h k = absurd h
+with_minus Minus Minus Zero h k = absurd h
+with_minus Minus Minus Plus h k = inl refl
+with_minus Minus Zero Minus h k = absurd h
+with_minus Minus Zero Zero h k = absurd h
+with_minus Minus Zero Plus h k = inl refl
+with_minus Minus Plus Minus h k = inl refl
+with_minus Minus Plus Zero h k = inl refl
+with_minus Minus Plus Plus h k = inl refl
+with_minus Zero Minus Minus h k = absurd h
+with_minus Zero Minus Zero h k = absurd h
+with_minus Zero Minus Plus h k = inr (inl refl)
+with_minus Zero Zero Minus h k = absurd h
+with_minus Zero Zero Zero h k = absurd (zero_plus (no_sign k))
+with_minus Zero Zero Plus h k = absurd h
+with_minus Zero Plus Minus h k = inr (inr refl)
+with_minus Zero Plus Zero h k = absurd h
+with_minus Zero Plus Plus h k = absurd h
+with_minus Plus Minus Minus h k = inr (inl refl)
+with_minus Plus Minus Zero h k = inr (inl refl)
+with_minus Plus Minus Plus h k = inr (inl refl)
+with_minus Plus Zero Minus h k = inr (inr refl)
+with_minus Plus Zero Zero h k = absurd h
+with_minus Plus Zero Plus h k = absurd h
+with_minus Plus Plus Minus h k = inr (inr refl)
+with_minus Plus Plus Zero h k = absurd h
+with_minus Plus Plus Plus h k = absurd h
+
+with_plus : (x y z : Sign) → AreBalanced x y z → IsOneOf x y z Minus → IsOneOf x y z Plus
+with_plus Minus Minus Minus h k = absurd h
+with_plus Minus Minus Zero h k = absurd h
+with_plus Minus Minus Plus h k = inr (inr refl)
+with_plus Minus Zero Minus h k = absurd h
+with_plus Minus Zero Zero h k = absurd h
+with_plus Minus Zero Plus h k = inr (inr refl)
+with_plus Minus Plus Minus h k = inr (inl refl)
+with_plus Minus Plus Zero h k = inr (inl refl)
+with_plus Minus Plus Plus h k = inr (inl refl)
+with_plus Zero Minus Minus h k = absurd h
+with_plus Zero Minus Zero h k = absurd h
+with_plus Zero Minus Plus h k = inr (inr refl)
+with_plus Zero Zero Minus h k = absurd h
+with_plus Zero Zero Zero h k = absurd (zero_minus (no_sign k))
+with_plus Zero Zero Plus h k = absurd h
+with_plus Zero Plus Minus h k = inr (inl refl)
+with_plus Zero Plus Zero h k = absurd h
+with_plus Zero Plus Plus h k = absurd h
+with_plus Plus Minus Minus h k = inl refl
+with_plus Plus Minus Zero h k = inl refl
+with_plus Plus Minus Plus h k = inl refl
+with_plus Plus Zero Minus h k = inl refl
+with_plus Plus Zero Zero h k = absurd h
+with_plus Plus Zero Plus h k = absurd h
+with_plus Plus Plus Minus h k = inl refl
+with_plus Plus Plus Zero h k = absurd h
+with_plus Plus Plus Plus h k = absurd h
+
 module _ (us vs ws : List Sign) (p q r p' q' r' i : ℕ)
     (up : IsMaskOf (length us) (IsPlus us) p) (vp : IsMaskOf (length vs) (IsPlus vs) q) (wp : IsMaskOf (length ws) (IsPlus ws) r)
     (um : IsMaskOf (length us) (IsMinus us) p') (vm : IsMaskOf (length vs) (IsMinus vs) q') (wm : IsMaskOf (length ws) (IsMinus ws) r')
@@ -190,54 +244,28 @@ module _ (us vs ws : List Sign) (p q r p' q' r' i : ℕ)
       (λ h. minus_sign (ap (λ k. bit_at k i) (sym e) ∙ plus_bit h))
       (λ h. plus_sign (ap (λ k. bit_at k i) e ∙ minus_bit h))
 
-row_place : (m : SignMap) (p : List ℕ) (x e : ℕ) (row : List Sign) → row ≡ cocircuit_vector m (p ++ x ∷ []) → 1 ≤ e → e ≤ m.elements → place row e ≡ value_of m (p ++ x ∷ e ∷ [])
-row_place m p x e row q low high = ap (λ r. place r e) q ∙ cocircuit_place m (p ++ x ∷ []) e low high ∙ ap (value_of m) (append_assoc p (x ∷ []) (e ∷ []))
+  pub same_bits : AreBalanced (at us i) (at vs i) (at ws i) → bit_at (bit_or (bit_or p q) r) i ≡ bit_at (bit_or (bit_or p' q') r') i
+  same_bits h = elim (cases_eq (bit_at (bit_or (bit_or p q) r) i) 1) [
+    | inl o ↦ o ∙ sym (minus_bit (with_minus (at us i) (at vs i) (at ws i) h (plus_sign o)))
+    | inr n ↦ elim (cases_eq (bit_at (bit_or (bit_or p' q') r') i) 1) [
+      | inl o ↦ absurd (n (plus_bit (with_plus (at us i) (at vs i) (at ws i) h (minus_sign o))))
+      | inr k ↦ let a = bit_at-lt (bit_or (bit_or p q) r) i in let b = bit_at-lt (bit_or (bit_or p' q') r') i in omega (arith, a, b, n, k)
+    ]
+  ]
 
--- the relations of x, y and z from their rows
-pub triple_of_rows : (m : SignMap) (p : List ℕ) (x y z : ℕ) (first second third : List Sign) → first ≡ cocircuit_vector m (p ++ x ∷ []) → second ≡ cocircuit_vector m (p ++ y ∷ []) → third ≡ cocircuit_vector m (p ++ z ∷ [])
-    → 1 ≤ y → y ≤ m.elements → 1 ≤ z → z ≤ m.elements
-    → ((i : ℕ) → i < length first → AreBalanced (product (place first y) (at third i)) (opposite (product (place first z) (at second i))) (product (at first i) (place second z)))
-    → IsBalancedTriple m p x y z
-triple_of_rows m p x y z first second third e1 e2 e3 yl yh zl zh h = record { each = each }
-  where
-    each : (w : ℕ) → 1 ≤ w → w ≤ m.elements → AreBalanced (product (value_of m (p ++ x ∷ y ∷ [])) (value_of m (p ++ z ∷ w ∷ []))) (opposite (product (value_of m (p ++ x ∷ z ∷ [])) (value_of m (p ++ y ∷ w ∷ [])))) (product (value_of m (p ++ x ∷ w ∷ [])) (value_of m (p ++ y ∷ z ∷ [])))
-    each w wl wh =
-        let len : length first ≡ m.elements = ap length e1 ∙ length-vector m.elements (along (value_of m) (p ++ x ∷ [])) in
-        balanced_same _ _ _ _ _ _
-        (two (row_place m p x y first e1 yl yh) (row_place m p z w third e3 wl wh))
-        (ap opposite (two (row_place m p x z first e1 zl zh) (row_place m p y w second e2 wl wh)))
-        (two (row_place m p x w first e1 wl wh) (row_place m p y z second e2 zl zh))
-        (h (w - 1) (omega arith))
-      where
-        two : {a b c d : Sign} → a ≡ c → b ≡ d → product c d ≡ product a b
-        two {a} {b} {c} {d} s t = ap (λ k. product k d) (sym s) ∙ ap (product a) (sym t)
+no_bits : (p q r n i : ℕ) → p < 2 ^ n → q < 2 ^ n → r < 2 ^ n → n ≤ i → bit_at (bit_or (bit_or p q) r) i ≡ 0
+no_bits p q r n i a b c g = bit_at_or (bit_or p q) r i ∙ ap (λ k. max k (bit_at r i)) (bit_at_or p q i) ∙ rw (bit_at_above p n i a g, bit_at_above q n i b g, bit_at_above r n i c g) refl
 
--- ---- the elements off P after y, as a mask
-
-pub off_bit : (n y z mask : ℕ) (p : List ℕ) → n ≤ 17 → y ≤ n → y < z → z ≤ n → IsMaskOf n (λ i. IsMember (i + 1) p) mask → (IsMember z p → ⊥)
-    → bit_at (bit_and (bit_and (1 * 2 ^ n % 4294967296 - 1) (4294967295 - mask)) (4294967295 - (1 * 2 ^ y % 4294967296 - 1))) (z - 1) ≡ 1
-off_bit n y z mask p few yn yz zn is off =
-    let within = is.within in
-    let room : 2 ^ n ≤ 2 ^ 17 = pow_mono {j = 17} few in
-    let low : 2 ^ y ≤ 2 ^ 17 = pow_mono {j = 17} (omega arith) in
-    let sn : 1 * 2 ^ n % 4294967296 ≡ 2 ^ n = one_shl_32 n (omega arith) in
-    let sy : 1 * 2 ^ y % 4294967296 ≡ 2 ^ y = one_shl_32 y (omega arith) in
-    let le : bit_and (2 ^ n - 1) (4294967295 - mask) ≤ 2 ^ n - 1 = and_le_l (2 ^ n - 1) (4294967295 - mask) in
-    let back : z ≡ z - 1 + 1 = omega arith in
-    let none : bit_at mask (z - 1) ≡ 0 = zero (λ q. off (subst (λ i. IsMember i p) (sym back) ((is.holds (z - 1) (omega arith)).0 q))) in
-    rw (sn, sy) (bit_at_and_not (bit_and (2 ^ n - 1) (4294967295 - mask)) (2 ^ y - 1) (z - 1) (omega arith) (omega arith)
-    ∙ rw (bit_at_and_not (2 ^ n - 1) mask (z - 1) (omega arith) (omega arith), bit_at_ones n (z - 1) (omega arith), none, bit_at_ones_above y (z - 1) (omega arith)) refl)
-  where
-    zero : (bit_at mask (z - 1) ≡ 1 → ⊥) → bit_at mask (z - 1) ≡ 0
-    zero h = let l = bit_at-lt mask (z - 1) in elim (cases_eq (bit_at mask (z - 1)) 1) [ inl q ↦ absurd (h q) | inr k ↦ omega arith ]
-
-pub off_within : (n y mask : ℕ) → n ≤ 17 → bit_and (bit_and (1 * 2 ^ n % 4294967296 - 1) (4294967295 - mask)) (4294967295 - (1 * 2 ^ y % 4294967296 - 1)) < 2 ^ n
-off_within n y mask few =
-    let pos : 0 < 2 ^ n = pow_pos n in
-    let sn : 1 * 2 ^ n % 4294967296 ≡ 2 ^ n = one_shl_32 n (omega arith) in
-    let a = and_le_l (bit_and (1 * 2 ^ n % 4294967296 - 1) (4294967295 - mask)) (4294967295 - (1 * 2 ^ y % 4294967296 - 1)) in
-    let b = and_le_l (1 * 2 ^ n % 4294967296 - 1) (4294967295 - mask) in
-    omega arith
+pub masks_of_balanced : (us vs ws : List Sign) (p q r p' q' r' : ℕ)
+    → IsMaskOf (length us) (IsPlus us) p → IsMaskOf (length vs) (IsPlus vs) q → IsMaskOf (length ws) (IsPlus ws) r
+    → IsMaskOf (length us) (IsMinus us) p' → IsMaskOf (length vs) (IsMinus vs) q' → IsMaskOf (length ws) (IsMinus ws) r'
+    → length vs ≡ length us → length ws ≡ length us → ((i : ℕ) → i < length us → AreBalanced (at us i) (at vs i) (at ws i)) → bit_or (bit_or p q) r ≡ bit_or (bit_or p' q') r'
+masks_of_balanced us vs ws p q r p' q' r' up vp wp um vm wm lv lw all = same_from_bits (bit_or (bit_or p q) r) (bit_or (bit_or p' q') r') (λ i. elim (cases_lt i (length us)) [
+  | inl l ↦ same_bits us vs ws p q r p' q' r' i up vp wp um vm wm l (omega (arith, l, lv)) (omega (arith, l, lw)) (all i l)
+  | inr g ↦
+      no_bits p q r (length us) i up.within (subst (λ k. q < 2 ^ k) lv vp.within) (subst (λ k. r < 2 ^ k) lw wp.within) g
+      ∙ sym (no_bits p' q' r' (length us) i um.within (subst (λ k. q' < 2 ^ k) lv vm.within) (subst (λ k. r' < 2 ^ k) lw wm.within) g)
+])
 
 -- ---- the lowest bit of a mask
 
@@ -246,11 +274,13 @@ pub record IsLowest (mask n i : ℕ) : Type 0 where
   pub here : i < n
   pub bit : bit_at mask i ≡ 1
   pub smaller : bit_and mask (4294967295 - 1 * 2 ^ i % 4294967296) < mask
+  pub none : bit_at (bit_and mask (4294967295 - 1 * 2 ^ i % 4294967296)) i ≡ 0
   pub others : (j : ℕ) → j < 32 → j ≢ i → bit_at (bit_and mask (4294967295 - 1 * 2 ^ i % 4294967296)) j ≡ bit_at mask j
+  pub lower : (j : ℕ) → j < i → bit_at mask j ≡ 0
 
-pub lowest_bit : (mask n : ℕ) → n ≤ 17 → mask < 2 ^ n → mask ≢ 0 → IsLowest mask n (trailing_zeros w32 mask)
+pub lowest_bit : (mask n : ℕ) → n ≤ MAX_PLACES → mask < 2 ^ n → mask ≢ 0 → IsLowest mask n (trailing_zeros w32 mask)
 lowest_bit mask n few within some =
-    let room : 2 ^ n ≤ 2 ^ 17 = pow_mono {j = 17} few in
+    let room : 2 ^ n ≤ 2 ^ MAX_PLACES = pow_mono {j = MAX_PLACES} few in
     let t = bit_at-trailing_zeros w32 mask (omega arith) (omega arith) in
     let inside = t.0 in
     let one = t.1 in
@@ -263,7 +293,9 @@ lowest_bit mask n few within some =
         | inl q ↦ absurd (zero_one (bit_at mask (trailing_zeros w32 mask)) (sym (ap (λ k. bit_at k (trailing_zeros w32 mask)) q) ∙ cleared) t.1)
         | inr k ↦ omega arith
       ];
+      none = cleared;
       others = λ j l ne. bit_at_clear_other w32 mask (trailing_zeros w32 mask) t.0 j l ne;
+      lower = t.2;
     }
   where
     zero_one : (b : ℕ) → b ≡ 0 → b ≡ 1 → ⊥
@@ -276,25 +308,18 @@ relations_of_pictures m k le all p a b c d f =
     let size = f.size in
     let sized : length p ≡ m.rank - 2 = omega arith in
     let few : rank_of m.elements p < choose m.elements (m.rank - 2) = subst (λ i. rank_of m.elements p < choose m.elements i) sized (rank_from-lt 1 m.elements p f.list) in
-    let four = (subset_is_increasing m.elements (a ∷ b ∷ c ∷ d ∷ [])).0 f.four in
-    let ab = four.0.0 in
-    let bc = four.0.1.0 in
-    let cd = four.0.1.1.0 in
-    let la = (four.1 a (inl refl)).0 in
-    let lb = (four.1 b (inr (inl refl))).0 in
-    let ha = (four.1 a (inl refl)).1 in
-    let hc = (four.1 c (inr (inr (inl refl)))).1 in
-    let ld = four.1 d (inr (inr (inr (inl refl)))) in
-    swapped (all p f.list f.size (omega arith) a b c la (omega arith) f.a_off (record { first = ab; second = bc; high = hc; y_off = f.b_off; z_off = f.c_off })) d ld.0 ld.1
+    let each = ((subset_is_increasing m.elements (a ∷ b ∷ c ∷ d ∷ [])).0 f.four).1 in
+    let d_in = each d (inr (inr (inr (inl refl)))) in
+    swapped (all p f.list f.size (omega arith) a b c (each a (inl refl)) (each b (inr (inl refl))) (each c (inr (inr (inl refl))))) d d_in.0 d_in.1
   where
     swapped : IsBalancedTriple m p a b c → (d : ℕ) → 1 ≤ d → d ≤ m.elements → AreBalanced (product (value_of m (p ++ a ∷ b ∷ [])) (value_of m (p ++ c ∷ d ∷ []))) (opposite (product (value_of m (p ++ a ∷ c ∷ [])) (value_of m (p ++ b ∷ d ∷ [])))) (product (value_of m (p ++ a ∷ d ∷ [])) (value_of m (p ++ b ∷ c ∷ [])))
     swapped t d low high = t.each d low high
 
-pub pictures_more : (m : SignMap) (p : List ℕ) (k : ℕ) → IsSubsetFrom 1 m.elements p → length p + 2 ≡ m.rank → rank_of m.elements p ≡ k → AreBalancedFirst m p (m.elements + 1) → AreBalancedBelow m k → AreBalancedBelow m (k + 1)
+pub pictures_more : (m : SignMap) (p : List ℕ) (k : ℕ) → IsSubsetFrom 1 m.elements p → length p + 2 ≡ m.rank → rank_of m.elements p ≡ k → HasRelationsAt m p → AreBalancedBelow m k → AreBalancedBelow m (k + 1)
 pictures_more m p k hp lp rp here all q hq lq rq = elim (cases_eq (rank_of m.elements q) k) [
   | inl e ↦
       let same : q ≡ p = same_place m.elements q p hq hp (omega arith) (e ∙ sym rp) in
-      subst (λ l. AreBalancedFirst m l (m.elements + 1)) (sym same) here
+      subst (HasRelationsAt m) (sym same) here
   | inr n ↦ all q hq lq (omega arith)
 ]
 
@@ -312,63 +337,216 @@ row_in_table m p x k a table an ae ha off lp kr et =
     let few = v.0 in
     (omega (arith, few, same, len), ap (λ t. get_or t k []) et ∙ ap (λ j. get_or (cocircuit_vectors m) j []) same ∙ v.1)
 
-pub rows_more : (m : SignMap) (p : List ℕ) (rows : List (List Sign)) (x : ℕ) (row : List Sign) → 1 ≤ x → x - 1 < length rows → row ≡ cocircuit_vector m (p ++ x ∷ []) → AreRowsBelow m p rows x → AreRowsBelow m p (set rows (x - 1) row) (x + 1)
-rows_more m p rows x row low l e h = record { room = (let a = h.room in let b = length-set rows (x - 1) row in omega (arith, a, b)); lengths = lengths; row = each }
+-- the rows of the elements below x are written, and the others are zero
+pub record AreWritten (m : SignMap) (p : List ℕ) (rows : List (List Sign)) (x : ℕ) : Type 0 where
+  pub room : MAX_PLACES ≤ length rows
+  pub below : AreRowsBelow m p rows x
+  pub rest : (k : ℕ) → x ≤ k + 1 → k < length rows → get_or rows k [] ≡ replicate m.elements Zero
+
+zeros_are : (n : ℕ) (f : ℕ → Sign) → ((e : ℕ) → 1 ≤ e → e ≤ n → f e ≡ Zero) → replicate n Zero ≡ as_list n f
+zeros_are n f h = vector_is n f (replicate n Zero) (length-replicate n Zero) (λ k l. get_or-replicate n k Zero Zero l ∙ sym (h (k + 1) (omega arith) (omega (arith, l))))
+
+pub none_written : (m : SignMap) (p : List ℕ) (rows : List (List Sign)) → MAX_PLACES ≤ length rows → ((k : ℕ) → k < length rows → get_or rows k [] ≡ replicate m.elements Zero) → AreWritten m p rows 1
+none_written m p rows room h = record {
+  room = room;
+  below = record { lengths = λ k l. ap length (h k l) ∙ length-replicate m.elements Zero; row = λ x low l. absurd (omega (arith, low, l)) };
+  rest = λ k g l. h k l;
+}
+
+pub rows_more : (m : SignMap) (p : List ℕ) (rows : List (List Sign)) (x : ℕ) (row : List Sign) → 1 ≤ x → x - 1 < length rows → row ≡ cocircuit_vector m (p ++ x ∷ []) → AreWritten m p rows x → AreWritten m p (set rows (x - 1) row) (x + 1)
+rows_more m p rows x row low l e h = record { room = (let a = h.room in let b = length-set rows (x - 1) row in omega (arith, a, b)); below = record { lengths = lengths; row = each }; rest = rest }
   where
     lengths : (k : ℕ) → k < length (set rows (x - 1) row) → length (get_or (set rows (x - 1) row) k []) ≡ m.elements
     lengths k lt = elim (cases_eq k (x - 1)) [
       | inl q ↦ ap (λ j. length (get_or (set rows (x - 1) row) j [])) q ∙ ap length (get_or-set_same rows (x - 1) row [] l) ∙ ap length e ∙ length-vector m.elements (along (value_of m) (p ++ x ∷ []))
-      | inr n ↦ ap length (get_or-set_other rows (x - 1) k row [] n) ∙ h.lengths k (let s = length-set rows (x - 1) row in omega (arith, lt, s))
+      | inr n ↦ ap length (get_or-set_other rows (x - 1) k row [] n) ∙ h.below.lengths k (let s = length-set rows (x - 1) row in omega (arith, lt, s))
     ]
 
-    each : (y : ℕ) → 1 ≤ y → y < x + 1 → (IsMember y p → ⊥) → get_or (set rows (x - 1) row) (y - 1) [] ≡ cocircuit_vector m (p ++ y ∷ [])
-    each y yl yh off = elim (cases_eq y x) [
+    each : (y : ℕ) → 1 ≤ y → y < x + 1 → get_or (set rows (x - 1) row) (y - 1) [] ≡ cocircuit_vector m (p ++ y ∷ [])
+    each y yl yh = elim (cases_eq y x) [
       | inl q ↦ ap (λ j. get_or (set rows (x - 1) row) (j - 1) []) q ∙ get_or-set_same rows (x - 1) row [] l ∙ e ∙ ap (λ j. cocircuit_vector m (p ++ j ∷ [])) (sym q)
-      | inr n ↦ let ne : y - 1 ≢ x - 1 = omega arith in get_or-set_other rows (x - 1) (y - 1) row [] ne ∙ h.row y yl (omega arith) off
+      | inr n ↦ let ne : y - 1 ≢ x - 1 = omega (arith, n, yl, low) in get_or-set_other rows (x - 1) (y - 1) row [] ne ∙ h.below.row y yl (omega (arith, n, yh))
     ]
 
-pub rows_skip : (m : SignMap) (p : List ℕ) (rows : List (List Sign)) (x : ℕ) → IsMember x p → AreRowsBelow m p rows x → AreRowsBelow m p rows (x + 1)
-rows_skip m p rows x k h = record { room = h.room; lengths = h.lengths; row = each }
+    rest : (k : ℕ) → x + 1 ≤ k + 1 → k < length (set rows (x - 1) row) → get_or (set rows (x - 1) row) k [] ≡ replicate m.elements Zero
+    rest k g lt = let ne : k ≢ x - 1 = omega (arith, g, low) in get_or-set_other rows (x - 1) k row [] ne ∙ h.rest k (omega (arith, g)) (let s = length-set rows (x - 1) row in omega (arith, lt, s))
+
+-- an element of P has the row of zeros
+pub rows_skip : (m : SignMap) (p : List ℕ) (rows : List (List Sign)) (x : ℕ) → 1 ≤ x → x - 1 < length rows → IsSubsetFrom 1 m.elements p → IsMember x p → AreWritten m p rows x → AreWritten m p rows (x + 1)
+rows_skip m p rows x low inside list k h = record {
+  room = h.room;
+  below = record { lengths = h.below.lengths; row = each };
+  rest = λ j g l. h.rest j (omega (arith, g)) l;
+}
   where
-    each : (y : ℕ) → 1 ≤ y → y < x + 1 → (IsMember y p → ⊥) → get_or rows (y - 1) [] ≡ cocircuit_vector m (p ++ y ∷ [])
-    each y yl yh off = elim (cases_eq y x) [
-      | inl q ↦ absurd (off (subst (λ j. IsMember j p) (sym q) k))
-      | inr n ↦ h.row y yl (omega arith) off
+    each : (y : ℕ) → 1 ≤ y → y < x + 1 → get_or rows (y - 1) [] ≡ cocircuit_vector m (p ++ y ∷ [])
+    each y yl yh = elim (cases_eq y x) [
+      | inl q ↦
+          ap (λ j. get_or rows (j - 1) []) q ∙ h.rest (x - 1) (omega (arith, low)) inside
+          ∙ zeros_are m.elements (along (value_of m) (p ++ x ∷ [])) (λ e el eh. repeated e) ∙ ap (λ j. cocircuit_vector m (p ++ j ∷ [])) (sym q)
+      | inr n ↦ h.below.row y yl (omega (arith, n, yh))
+    ]
+      where
+        repeated : (e : ℕ) → along (value_of m) (p ++ x ∷ []) e ≡ Zero
+        repeated e =
+            let alt = value_alternating (chi_of m) in
+            let zero : value_of m (p ++ e ∷ x ∷ []) ≡ Zero = ap (value_of m) (sym (append_assoc p (e ∷ []) (x ∷ []))) ∙ last_repeat_zero (value_of m) alt (p ++ e ∷ []) x (member_left x p (e ∷ []) k) in
+            ap (value_of m) (append_assoc p (x ∷ []) (e ∷ [])) ∙ alt e x p [] ∙ ap opposite zero
+
+-- ---- the rows of a mask
+
+zero_one : (b : ℕ) → b ≡ 0 → b ≡ 1 → ⊥
+zero_one b p q = omega (arith, p, q)
+
+pub bit_inside : (mask n k : ℕ) → mask < 2 ^ n → bit_at mask k ≡ 1 → k < n
+bit_inside mask n k w o = elim (cases_lt k n) [ inl l ↦ l | inr g ↦ absurd (zero_one (bit_at mask k) (bit_at_above mask n k w g) o) ]
+
+bit_below_32 : (mask n k : ℕ) → n ≤ MAX_PLACES → mask < 2 ^ n → bit_at mask k ≡ 1 → k < 32
+bit_below_32 mask n k few w o = elim (cases_lt k n) [ inl l ↦ omega (arith, l, few) | inr g ↦ absurd (zero_one (bit_at mask k) (bit_at_above mask n k w g) o) ]
+
+-- a bit that is left is one of the mask, and above the lowest
+pub left_bit : (rest n i k : ℕ) → n ≤ MAX_PLACES → IsLowest rest n i → rest < 2 ^ n → bit_at (bit_and rest (4294967295 - 1 * 2 ^ i % 4294967296)) k ≡ 1 → (bit_at rest k ≡ 1) × (i < k)
+left_bit rest n i k few low within o =
+    let a = low.smaller in
+    let w : bit_and rest (4294967295 - 1 * 2 ^ i % 4294967296) < 2 ^ n = omega (arith, a, within) in
+    let small = bit_below_32 (bit_and rest (4294967295 - 1 * 2 ^ i % 4294967296)) n k few w o in
+    elim (cases_order k i) [
+      | inl q ↦ absurd (zero_one _ (ap (bit_at (bit_and rest (4294967295 - 1 * 2 ^ i % 4294967296))) q ∙ low.none) o)
+      | inr (inl lt) ↦ let ne : k ≢ i = omega (arith, lt) in absurd (zero_one (bit_at rest k) (low.lower k lt) (sym (low.others k small ne) ∙ o))
+      | inr (inr gt) ↦ let ne : k ≢ i = omega (arith, gt) in (sym (low.others k small ne) ∙ o, gt)
     ]
 
-pub first_more : (m : SignMap) (p : List ℕ) (x : ℕ) → IsMember x p ⊎ ((y z : ℕ) → AreLater m p x y z → IsBalancedTriple m p x y z) → AreBalancedFirst m p x → AreBalancedFirst m p (x + 1)
-first_more m p x here all x' y z low l off later = elim (cases_eq x' x) [
-  | inl q ↦ go here (subst (λ j. IsMember j p → ⊥) q off) (subst (λ j. AreLater m p j y z) q later) q
-  | inr n ↦ all x' y z low (omega arith) off later
-]
-  where
-    go : IsMember x p ⊎ ((y z : ℕ) → AreLater m p x y z → IsBalancedTriple m p x y z) → (IsMember x p → ⊥) → AreLater m p x y z → x' ≡ x → IsBalancedTriple m p x' y z
-    go (inl k) o t q = absurd (o k)
-    go (inr f) o t q = subst (λ j. IsBalancedTriple m p j y z) (sym q) (f y z t)
+-- a mask is cleared bit by bit, and what has been cleared is done
+pub record IsCleared (later rest n : ℕ) (Done : ℕ → Type 0) : Type 0 where
+  pub within : rest < 2 ^ n
+  pub part : (k : ℕ) → bit_at rest k ≡ 1 → bit_at later k ≡ 1
+  pub done : (k : ℕ) → bit_at later k ≡ 1 → (bit_at rest k ≡ 1) ⊎ Done k
+  pub above : (j k : ℕ) → bit_at rest j ≡ 1 → j < k → bit_at later k ≡ 1 → bit_at rest k ≡ 1
 
-pub second_more : (m : SignMap) (p : List ℕ) (x y : ℕ) → IsMember y p ⊎ ((z : ℕ) → AreLater m p x y z → IsBalancedTriple m p x y z) → AreBalancedSecond m p x y → AreBalancedSecond m p x (y + 1)
-second_more m p x y here all y' z l later = elim (cases_eq y' y) [
-  | inl q ↦ go here (subst (λ j. AreLater m p x j z) q later) q
-  | inr n ↦ all y' z (omega arith) later
-]
-  where
-    go : IsMember y p ⊎ ((z : ℕ) → AreLater m p x y z → IsBalancedTriple m p x y z) → AreLater m p x y z → y' ≡ y → IsBalancedTriple m p x y' z
-    go (inl k) t q = absurd (t.y_off k)
-    go (inr f) t q = subst (λ j. IsBalancedTriple m p x j z) (sym q) (f z t)
+pub uncleared : (later n : ℕ) (Done : ℕ → Type 0) → later < 2 ^ n → IsCleared later later n Done
+uncleared later n Done w = record { within = w; part = λ k h. h; done = λ k h. inl h; above = λ j k h l g. g }
 
-pub unless_more : (m : SignMap) (p : List ℕ) (x y rest i : ℕ) → m.elements ≤ 17 → IsLowest rest m.elements i → (AreLater m p x y (i + 1) → IsBalancedTriple m p x y (i + 1)) → AreBalancedUnless m p x y rest → AreBalancedUnless m p x y (bit_and rest (4294967295 - 1 * 2 ^ i % 4294967296))
-unless_more m p x y rest i few low here all z later = elim (cases_eq z (i + 1)) [
-  | inl q ↦ inr (subst (IsBalancedTriple m p x y) (sym q) (here (subst (AreLater m p x y) q later)))
-  | inr n ↦
-      let a = later.first in
-      let b = later.second in
-      let h = later.high in
-      let ne : z - 1 ≢ i = omega arith in
-      ⊎_elim (λ o. inl (low.others (z - 1) (omega arith) ne ∙ o)) (λ t. inr t) (all z later)
+pub cleared_more : (later rest n i : ℕ) (Done : ℕ → Type 0) → n ≤ MAX_PLACES → IsLowest rest n i → Done i → IsCleared later rest n Done → IsCleared later (bit_and rest (4294967295 - 1 * 2 ^ i % 4294967296)) n Done
+cleared_more later rest n i Done few low here h = record {
+  within = (let a = low.smaller in let b = h.within in omega (arith, a, b));
+  part = λ k o. h.part k (left_bit rest n i k few low h.within o).0;
+  done = λ k o. elim (cases_eq k i) [
+    | inl q ↦ inr (subst Done (sym q) here)
+    | inr ne ↦ ⊎_elim (λ b. inl (low.others k (bit_below_32 rest n k few h.within b) ne ∙ b)) (λ d. inr d) (h.done k o)
+  ];
+  above = λ j k o l g.
+      let c = left_bit rest n i j few low h.within o in
+      let ij = c.1 in
+      let ne : k ≢ i = omega (arith, ij, l) in
+      let b = h.above j k c.0 l g in
+      low.others k (bit_below_32 rest n k few h.within b) ne ∙ b;
+}
+
+-- what is left after the lowest bit is later
+pub left_later : (later rest n i k : ℕ) (Done : ℕ → Type 0) → n ≤ MAX_PLACES → IsLowest rest n i → IsCleared later rest n Done → bit_at (bit_and rest (4294967295 - 1 * 2 ^ i % 4294967296)) k ≡ 1 → (i < k) × (bit_at later k ≡ 1)
+left_later later rest n i k Done few low h o = let c = left_bit rest n i k few low h.within o in (c.1, h.part k c.0)
+
+-- and all that is later is left
+pub others_left : (later rest n i k : ℕ) (Done : ℕ → Type 0) → n ≤ MAX_PLACES → IsLowest rest n i → IsCleared later rest n Done → i < k → bit_at later k ≡ 1 → bit_at (bit_and rest (4294967295 - 1 * 2 ^ i % 4294967296)) k ≡ 1
+others_left later rest n i k Done few low h l o =
+    let b = h.above i k low.bit l o in
+    let ne : k ≢ i = omega (arith, l) in
+    low.others k (bit_below_32 rest n k few h.within b) ne ∙ b
+
+-- where nothing is left, all is done
+pub all_cleared : (later rest n : ℕ) (Done : ℕ → Type 0) → rest ≡ 0 → IsCleared later rest n Done → (k : ℕ) → bit_at later k ≡ 1 → Done k
+all_cleared later rest n Done z h k o = ⊎_elim (λ b. absurd (none (sym (ap (λ x. bit_at x k) z) ∙ b))) (λ d. d) (h.done k o)
+  where
+    none : bit_at 0 k ≡ 1 → ⊥
+    none q = let e = bit_at-zero k in omega (arith, e, q)
+
+-- ---- three rows of a table
+
+two : {a b c d : Sign} → a ≡ c → b ≡ d → product a b ≡ product c d
+two {a} {b} {c} {d} s t = ap (λ k. product k b) s ∙ ap (product c) t
+
+at_place : (y : ℕ) (first row : List Sign) → first ≡ row → at row y ≡ place first (y + 1)
+at_place y first row e = let back : y ≡ y + 1 - 1 = omega arith in ap (λ r. at r y) (sym e) ∙ ap (at first) back
+
+pub triple_of_rows : (rows : List (List Sign)) (x y z : ℕ) (first second third : List Sign) → first ≡ get_or rows x [] → second ≡ get_or rows y [] → third ≡ get_or rows z []
+    → ((i : ℕ) → i < length first → AreBalanced (product (place first (y + 1)) (at third i)) (opposite (product (place first (z + 1)) (at second i))) (product (at first i) (place second (z + 1))))
+    → IsTriple rows x y z
+triple_of_rows rows x y z first second third e1 e2 e3 h = record {
+  each = λ l lt.
+      balanced_same _ _ _ _ _ _
+      (two (at_place y first _ e1) (ap (λ r. at r l) (sym e3)))
+      (ap opposite (two (at_place z first _ e1) (ap (λ r. at r l) (sym e2))))
+      (two (ap (λ r. at r l) (sym e1)) (at_place z second _ e2))
+      (h l (subst (λ r. l < length r) (sym e1) lt));
+}
+
+pub triple_to_rows : (rows : List (List Sign)) (x y z : ℕ) (first second third : List Sign) → first ≡ get_or rows x [] → second ≡ get_or rows y [] → third ≡ get_or rows z []
+    → IsTriple rows x y z
+    → (i : ℕ) → i < length first → AreBalanced (product (place first (y + 1)) (at third i)) (opposite (product (place first (z + 1)) (at second i))) (product (at first i) (place second (z + 1)))
+triple_to_rows rows x y z first second third e1 e2 e3 t l lt =
+    balanced_same _ _ _ _ _ _
+    (sym (two (at_place y first _ e1) (ap (λ r. at r l) (sym e3))))
+    (ap opposite (sym (two (at_place z first _ e1) (ap (λ r. at r l) (sym e2)))))
+    (sym (two (ap (λ r. at r l) (sym e1)) (at_place z second _ e2)))
+    (t.each l (subst (λ r. l < length r) e1 lt))
+
+-- ---- the mask of the rows that aren't zero
+
+pub live_of_support : (rows : List (List Sign)) (i n support : ℕ) (u : List Sign) → n ≤ MAX_PLACES → length u ≡ n → u ≡ get_or rows i [] → IsMaskOf (length u) (IsNonzero u) support → support ≢ 0 → IsLive rows i
+live_of_support rows i n support u few len e is some = go (some_bit support some (let w = is.within in let r = room in omega (arith, w, r)))
+  where
+    room : 2 ^ length u ≤ 2 ^ MAX_PLACES
+    room = pow_mono {j = MAX_PLACES} (omega (arith, few, len))
+
+    go : (l : ℕ) × (bit_at support l ≡ 1) → IsLive rows i
+    go (l, o) = (l, λ z. (is.holds l inside).0 o (ap (λ v. at v l) e ∙ z))
+      where
+        inside : l < length u
+        inside = elim (cases_lt l (length u)) [ inl lt ↦ lt | inr g ↦ let none = bit_at_above support (length u) l is.within g in absurd (omega (arith, o, none)) ]
+
+pub dead_of_support : (rows : List (List Sign)) (i support : ℕ) (u : List Sign) → u ≡ get_or rows i [] → IsMaskOf (length u) (IsNonzero u) support → support ≡ 0 → IsLive rows i → ⊥
+dead_of_support rows i support u e is z (l, nz) = elim (cases_lt l (length u)) [
+  | inl lt ↦
+      let o = (is.holds l lt).1 (λ q. nz (ap (λ v. at v l) (sym e) ∙ q)) in
+      let none = sym (ap (λ k. bit_at k l) z) ∙ o in
+      let zero = bit_at-zero l in
+      omega (arith, none, zero)
+  | inr g ↦ nz (ap (λ v. at v l) (sym e) ∙ get_or_past u l Zero g)
 ]
 
-pub none_left : (m : SignMap) (p : List ℕ) (x y rest z : ℕ) → rest ≡ 0 → AreBalancedUnless m p x y rest → AreLater m p x y z → IsBalancedTriple m p x y z
-none_left m p x y rest z e all later = ⊎_elim (λ o. absurd (zero_one (z - 1) (sym (ap (λ k. bit_at k (z - 1)) e) ∙ o))) (λ t. t) (all z later)
+pub live_more : (P : ℕ → Type 0) (live i : ℕ) → i < 32 → P i → IsMaskOf i P live → IsMaskOf (i + 1) P (bit_or live (1 * 2 ^ i % 4294967296))
+live_more P live i few here h = record { within = lt_from_bits (bit_or live (1 * 2 ^ i % 4294967296)) (i + 1) above; holds = holds }
   where
-    zero_one : (i : ℕ) → bit_at 0 i ≡ 1 → ⊥
-    zero_one i q = let e = bit_at-zero i in omega (arith, e, q)
+    above : (j : ℕ) → i + 1 ≤ j → bit_at (bit_or live (1 * 2 ^ i % 4294967296)) j ≡ 0
+    above j g = let ne : j ≢ i = omega (arith, g) in bit_at_set_other w32 live i few j ne ∙ bit_at_above live i j h.within (omega (arith, g))
+
+    holds : (j : ℕ) → j < i + 1 → (bit_at (bit_or live (1 * 2 ^ i % 4294967296)) j ≡ 1) ↔ P j
+    holds j l = elim (cases_eq j i) [
+      | inl q ↦ (λ o. subst P (sym q) here, λ k. ap (bit_at (bit_or live (1 * 2 ^ i % 4294967296))) q ∙ bit_at_set_same w32 live i few)
+      | inr ne ↦
+          let same = bit_at_set_other w32 live i few j ne in
+          let old = h.holds j (omega (arith, l, ne)) in
+          (λ o. old.0 (sym same ∙ o), λ k. same ∙ old.1 k)
+    ]
+
+pub live_skip : (P : ℕ → Type 0) (live i : ℕ) → (P i → ⊥) → IsMaskOf i P live → IsMaskOf (i + 1) P live
+live_skip P live i dead h = record { within = (let w = h.within in let p : 2 ^ i ≤ 2 ^ (i + 1) = pow_mono (omega arith) in omega (arith, w, p)); holds = holds }
+  where
+    holds : (j : ℕ) → j < i + 1 → (bit_at live j ≡ 1) ↔ P j
+    holds j l = elim (cases_eq j i) [
+      | inl q ↦ (λ o. let none = bit_at_above live i j h.within (omega (arith, q)) in absurd (omega (arith, o, none)), λ k. absurd (dead (subst P q k)))
+      | inr ne ↦ h.holds j (omega (arith, l, ne))
+    ]
+
+pub dead_rows : (n live : ℕ) (P : ℕ → Type 0) → live ≡ 0 → IsMaskOf n P live → (j : ℕ) → j < n → P j → ⊥
+dead_rows n live P z is j l h =
+    let o = sym (ap (λ k. bit_at k j) z) ∙ (is.holds j l).1 h in
+    let none = bit_at-zero j in
+    omega (arith, o, none)
+
+-- a row that isn't the lowest has its bit in the rest, or is zero
+pub other_rows : (n live i : ℕ) (P : ℕ → Type 0) → n ≤ MAX_PLACES → IsLowest live n i → IsMaskOf n P live → (j : ℕ) → j < n → j ≢ i → (bit_at (bit_and live (4294967295 - 1 * 2 ^ i % 4294967296)) j ≡ 1) ⊎ (P j → ⊥)
+other_rows n live i P few low is j l ne = elim (cases_eq (bit_at live j) 1) [
+  | inl o ↦ inl (low.others j (omega (arith, l, few)) ne ∙ o)
+  | inr k ↦ inr (λ h. k ((is.holds j l).1 h))
+]

@@ -1,20 +1,22 @@
 -- The three-term test holds exactly where the axioms do.
 --
 -- Main results: relations_of_test, the relations of all lists from exchange and the three-term relations; chirotope_of_test and back,
--- test_of_chirotope.
-use Rattle.std.specs.Prelude.{ℕ, ◌≡◌, ◌≢◌, ◌+◌, ◌-◌, ◌⊎◌, List, [], ◌∷◌, ◌++◌, length, refl}
+-- test_of_chirotope; test_of_orthogonal, of a map that may be zero.
+use Rattle.std.specs.Prelude.{ℕ, ◌≡◌, ◌≢◌, ◌+◌, ◌-◌, ◌<◌, ◌⊎◌, List, [], ◌∷◌, ◌++◌, length, refl}
 use Rattle.std.proofs.Common.{suc, sym, ap, subst, ◌∙◌, arith, inl, inr}
-use Rattle.std.proofs.lemmas.List.{length-append}
+use Rattle.std.proofs.lemmas.Bool.{cases_lt}
+use Rattle.std.proofs.lemmas.List.{length-append, get_or_past}
 use Rattle.om_signs.specs.declared.sign.Sign.{Sign}
 use Rattle.om_signs.specs.declared.sign.Sign.TheVariants.{Zero}
 use Rattle.om_signs.specs.Sign.{opposite, product}
-use Rattle.om_subsets.specs.Subsets.{IsSubsetFrom}
+use Rattle.om_subsets.specs.Subsets.{IsSubsetFrom, rank_of}
 use Rattle.om_subsets.proofs.Statements.{subset_is_increasing}
 use Rattle.om_laws.specs.Bases.{IsBase, HasIncreasingExchange}
 use Rattle.om_laws.specs.Chirotope.{elements_to}
 use Rattle.om_laws.specs.Members.{IsMember}
 use Rattle.om_laws.specs.Relations.{HasRelations}
 use Rattle.om_laws.specs.Sorting.{IsElement, IsTuple, on_tuples}
+use Rattle.om_laws.specs.Tuples.{sort_sign, sorted}
 use Rattle.om_laws.specs.ThreeTerm.{AreBalanced, HasIncreasingThreeTermRelations}
 use Rattle.om_laws.proofs.BaseLaws.{exchange}
 use Rattle.om_laws.proofs.ChirotopeLaws.{member_from_element}
@@ -25,9 +27,11 @@ use Rattle.om_laws.proofs.ThreeTermLaws.{three_term_relations}
 use Rattle.om_laws.proofs.ThreeTermOrders.{three_terms_in_order}
 use Rattle.om_laws.proofs.ThreeTermSigns.{three_terms_of_relations}
 use Rattle.om_laws.proofs.TupleSizes.{each_from, each_member, is_tuple_cases, on_tuples_alternating, on_tuples_at, on_tuples_tuple, tuple_last, tuple_rank, tuple_with}
-use Rattle.om_chirotope.specs.Map.{SignMap, chi_of, value_of}
-use Rattle.om_chirotope.specs.Chirotope.{HasNonzeroValue, IsChirotope}
+use Rattle.om_chirotope.specs.Map.{SignMap, IsMap, chi_of, value_of}
+use Rattle.om_chirotope.specs.Chirotope.{HasNonzeroValue, HasOrthogonalPairs, IsAllZero, IsChirotope}
+use Rattle.om_chirotope.specs.Pictures.{HasRelationsAt}
 use Rattle.om_chirotope.specs.ThreeTerm.{HasListExchange, HasThreeTermRelations, MeetsThreeTermTest}
+use Rattle.om_chirotope.proofs.Axioms.{nonzero_or_zeros}
 use Rattle.om_chirotope.proofs.ExchangeForms.{exchange_from_lists, exchange_of_lists}
 use Rattle.om_chirotope.proofs.Theory.{from_tuple, map_chirotope, theory_chirotope, to_tuple}
 
@@ -35,7 +39,7 @@ pub balanced_same : (x y z x' y' z' : Sign) → x' ≡ x → y' ≡ y → z' ≡
 balanced_same x y z x' y' z' p q r h =
     subst (λ s. AreBalanced s y' z') (sym p) (subst (λ s. AreBalanced x s z') (sym q) (subst (λ s. AreBalanced x y s) (sym r) h))
 
-balanced_zeros : (x y z : Sign) → x ≡ Zero → y ≡ Zero → z ≡ Zero → AreBalanced x y z
+pub balanced_zeros : (x y z : Sign) → x ≡ Zero → y ≡ Zero → z ≡ Zero → AreBalanced x y z
 balanced_zeros x y z p q r = balanced_same Zero Zero Zero x y z p q r tt
 
 opposite_zero : (s : Sign) → s ≡ Zero → opposite s ≡ Zero
@@ -188,6 +192,23 @@ module _ (m : SignMap) where
           (opposite_zero _ (zero_product _ _ (λ s t. none (turn (four_from p a c b d s t)))))
           (zero_product _ _ (λ s t. none (turn_last (four_from p a d b c s t))))
 
+  pub relations_of_low_rank : m.rank < 2 → HasThreeTermRelations m
+  relations_of_low_rank l p a b c d f = let s = f.size in absurd (omega (arith, l, s))
+
+  -- the relations of P with any four elements
+  pub relations_at : HasThreeTermRelations m → (p : List ℕ) → IsSubsetFrom 1 n p → length p + 2 ≡ r → HasRelationsAt m p
+  relations_at rel p list size x y z ix iy iz = record {
+    each = λ w wl wh.
+        let wp = ((subset_is_increasing n p).0 list).1 in
+        let t : (a b : ℕ) → IsElement n a → IsElement n b → IsTuple n r (p ++ a ∷ b ∷ []) = λ a b i j. pair_tuple p a b size wp i j in
+        let iw : IsElement n w = (wl, wh) in
+        balanced_same _ _ _ _ _ _
+        (sym (same_product _ _ (t x y ix iy) (t z w iz iw)))
+        (ap opposite (sym (same_product _ _ (t x z ix iz) (t y w iy iw))))
+        (sym (same_product _ _ (t x w ix iw) (t y z iy iz)))
+        (three_terms_in_order chi (on_tuples_alternating n r (chi_of m)) (theory_three_terms rel) p x y z w);
+  }
+
   map_three_terms : ((p : List ℕ) (a b c d : ℕ) → AreBalanced (product (chi (p ++ a ∷ b ∷ [])) (chi (p ++ c ∷ d ∷ []))) (opposite (product (chi (p ++ a ∷ c ∷ [])) (chi (p ++ b ∷ d ∷ [])))) (product (chi (p ++ a ∷ d ∷ [])) (chi (p ++ b ∷ c ∷ [])))) → HasThreeTermRelations m
   map_three_terms rel p a b c d h =
       let wp = ((subset_is_increasing n p).0 h.list).1 in
@@ -232,3 +253,25 @@ module _ (m : SignMap) where
         exchange = exchange_from_lists m (map_exchange (exchange_of_increasing chi t.alternating (exchange (elements_to n) chi t)));
         relations = map_three_terms (three_terms_of_relations chi t.alternating t.relations);
       }
+
+  -- ---- the same of a map that may be zero
+
+  zero_value : IsAllZero m.signs → (xs : List ℕ) → value_of m xs ≡ Zero
+  zero_value z xs = product_zero_right (sort_sign xs) (chi_of m (sorted xs)) (elim (cases_lt (rank_of n (sorted xs)) (length m.signs)) [
+    | inl l ↦ z (rank_of n (sorted xs)) Zero l
+    | inr g ↦ get_or_past m.signs (rank_of n (sorted xs)) Zero g
+  ])
+
+  relations_of_zeros : IsAllZero m.signs → HasThreeTermRelations m
+  relations_of_zeros z p a b c d f = balanced_zeros _ _ _ (left a b c d) (opposite_zero _ (left a c b d)) (left a d b c)
+    where
+      left : (a b c d : ℕ) → product (value_of m (p ++ a ∷ b ∷ [])) (value_of m (p ++ c ∷ d ∷ [])) ≡ Zero
+      left a b c d = product_zero_left _ _ (zero_value z (p ++ a ∷ b ∷ []))
+
+  pub test_of_orthogonal : IsMap m → HasOrthogonalPairs m → HasListExchange m × HasThreeTermRelations m
+  test_of_orthogonal whole all = elim (nonzero_or_zeros m whole) [
+    | inl some ↦
+        let t = test_of_chirotope (record { whole = whole; nonzero = some; orthogonal = all }) in
+        (exchange_of_lists m t.exchange, t.relations)
+    | inr z ↦ ((λ a c e h basis. absurd (basis.nonzero (zero_value z c))), relations_of_zeros z)
+  ]

@@ -2,3 +2,5 @@ pub mod Map
 pub mod Chirotope
 pub mod ThreeTerm
 pub mod Pictures
+pub mod Blocks
+pub mod Settlement

@@ -1,11 +1,14 @@
 -- What the quick form of the three-term test keeps of a map: marks of the sets that contain a basis, and the rows of its pictures.
-use Rattle.std.specs.Prelude.{ℕ, ◌≡◌, ◌+◌, ◌-◌, ◌*◌, ◌%◌, bit_and, ◌<◌, ◌≤◌, ◌^◌, List, [], ◌∷◌, ◌++◌, length, Bool, true, false}
+use Rattle.std.specs.Prelude.{ℕ, ◌≡◌, ◌+◌, ◌≢◌, ◌-◌, ◌*◌, ◌%◌, bit_and, ◌<◌, ◌≤◌, ◌^◌, List, [], ◌∷◌, ◌++◌, length, Bool, true, false}
 use Rattle.std.specs.Int.{bit_at}
 use Rattle.std.proofs.Math.ListN.{get_or}
 use Rattle.om_signs.specs.declared.sign.Sign.{Sign}
+use Rattle.om_signs.specs.declared.sign.Sign.TheVariants.{Zero}
 use Rattle.om_signs.specs.Sign.{opposite, product}
+use Rattle.om_signs.specs.SignVec.{at}
 use Rattle.om_subsets.specs.Subsets.{IsMember}
 use Rattle.om_subsets.specs.Members.{mask_of}
+use Rattle.om_laws.specs.Sorting.{IsElement}
 use Rattle.om_laws.specs.ThreeTerm.{AreBalanced}
 use Rattle.om_chirotope.specs.Map.{SignMap, value_of, cocircuit_vector}
 use Rattle.om_chirotope.specs.ThreeTerm.{IsBasis}
@@ -14,25 +17,45 @@ use Rattle.om_chirotope.specs.ThreeTerm.{IsBasis}
 abbrev pub without_bit : ℕ → ℕ → ℕ
 without_bit mask i = bit_and mask (4294967295 - 1 * 2 ^ i % 4294967296)
 
--- a table with a mark for each set, by its mask, and a mark at each basis
-pub record AreMarked (m : SignMap) (marks : List Bool) : Type 0 where
-  pub size : length marks ≡ 2 ^ m.elements
-  pub bases : (b : List ℕ) → IsBasis m b → get_or marks (mask_of 1 b m.elements) false ≡ true
-
 -- each element of the list has its bit in the mask
 abbrev pub IsInMask : List ℕ → ℕ → Type 0
 IsInMask b mask = (i : ℕ) → IsMember (i + 1) b → bit_at mask i ≡ 1
 
--- and a mark at each set below a limit that contains a basis
+-- a basis in the set of a mask
+abbrev pub HasBasisIn : SignMap → ℕ → Type 0
+HasBasisIn m mask = (b : List ℕ) × IsBasis m b × IsInMask b mask
+
+-- a table with a place for each set, by its mask, with a mark at each basis, and at no set without a basis in it
+pub record AreMarked (m : SignMap) (marks : List Bool) : Type 0 where
+  pub size : length marks ≡ 2 ^ m.elements
+  pub bases : (b : List ℕ) → IsBasis m b → get_or marks (mask_of 1 b m.elements) false ≡ true
+  pub only : (mask : ℕ) → get_or marks mask false ≡ true → HasBasisIn m mask
+
+-- and with a mark at each set below a limit that contains a basis
 pub record AreMarkedAbove (m : SignMap) (marks : List Bool) (limit : ℕ) : Type 0 where
   pub marked : AreMarked m marks
   pub above : (mask : ℕ) (b : List ℕ) → mask < limit → IsBasis m b → IsInMask b mask → get_or marks mask false ≡ true
 
--- at x - 1, for the elements x off P below a limit, the row of x: at each y the value of P with x and y behind it
+-- at x - 1, for each element x below a limit, the row of x: at each y the value of P with x and y behind it
 pub record AreRowsBelow (m : SignMap) (p : List ℕ) (rows : List (List Sign)) (limit : ℕ) : Type 0 where
-  pub room : m.elements ≤ length rows
   pub lengths : (k : ℕ) → k < length rows → length (get_or rows k []) ≡ m.elements
-  pub row : (x : ℕ) → 1 ≤ x → x < limit → (IsMember x p → ⊥) → get_or rows (x - 1) [] ≡ cocircuit_vector m (p ++ x ∷ [])
+  pub row : (x : ℕ) → 1 ≤ x → x < limit → get_or rows (x - 1) [] ≡ cocircuit_vector m (p ++ x ∷ [])
+
+-- rows of one length
+abbrev pub AreLong : List (List Sign) → ℕ → Type 0
+AreLong rows n = (k : ℕ) → k < length rows → length (get_or rows k []) ≡ n
+
+-- a row that isn't zero
+abbrev pub IsLive : List (List Sign) → ℕ → Type 0
+IsLive rows i = (l : ℕ) × (at (get_or rows i []) l ≢ Zero)
+
+-- the relations of the rows i, j and k with each place
+pub record IsTriple (rows : List (List Sign)) (i j k : ℕ) : Type 0 where
+  pub each : (l : ℕ) → l < length (get_or rows i [])
+      → AreBalanced
+      (product (at (get_or rows i []) j) (at (get_or rows k []) l))
+      (opposite (product (at (get_or rows i []) k) (at (get_or rows j []) l)))
+      (product (at (get_or rows i []) l) (at (get_or rows j []) k))
 
 -- the three-term relations of P with x, y, z and each element w
 pub record IsBalancedTriple (m : SignMap) (p : List ℕ) (x y z : ℕ) : Type 0 where
@@ -41,3 +64,7 @@ pub record IsBalancedTriple (m : SignMap) (p : List ℕ) (x y z : ℕ) : Type 0 
       (product (value_of m (p ++ x ∷ y ∷ [])) (value_of m (p ++ z ∷ w ∷ [])))
       (opposite (product (value_of m (p ++ x ∷ z ∷ [])) (value_of m (p ++ y ∷ w ∷ []))))
       (product (value_of m (p ++ x ∷ w ∷ [])) (value_of m (p ++ y ∷ z ∷ [])))
+
+-- the three-term relations of P with any four elements
+abbrev pub HasRelationsAt : SignMap → List ℕ → Type 0
+HasRelationsAt m p = (x y z : ℕ) → IsElement m.elements x → IsElement m.elements y → IsElement m.elements z → IsBalancedTriple m p x y z

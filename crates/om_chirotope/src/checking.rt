@@ -9,7 +9,7 @@ ghost use Rattle.om_chirotope.specs.Chirotope.{IsChirotope, IsAllZero, IsFirstVi
 use super::bad_map::BadMap;
 use super::chirotope::Chirotope;
 use super::map_refused::MapRefused;
-use super::scan::violated;
+use super::scan::violated_on_threads;
 use om_signs::{MAX_ELEMENTS, RawMap, Sign};
 use std::thread::Threads;
 
@@ -37,7 +37,7 @@ pub fn check<R: Threads + Sync>(rt: &R, raw: RawMap) -> Result<Chirotope, BadMap
             why: MapRefused::AllZero,
         });
     }
-    match violated(&raw) {
+    match violated_on_threads(rt, &raw) {
         None => Ok(Chirotope::lawful(raw)),
         Some((s, a)) => Err(BadMap {
             raw,

@@ -4,9 +4,11 @@
 mod bad_map;
 mod checking;
 mod chirotope;
+mod cocircuit_table;
 mod laws;
 mod map_refused;
 mod scan;
+mod threaded_scan;
 mod threads;
 mod three_terms;
 mod vectors;
@@ -17,3 +19,4 @@ pub use chirotope::Chirotope;
 pub use laws::{axioms_and_relations, three_term_test, vectors_of_a_map};
 pub use map_refused::MapRefused;
 pub use scan::violated;
+pub use three_terms::has_exchange;

@@ -6,14 +6,15 @@ ghost use Rattle.om_signs.specs.SignVec.{IsOrthogonal};
 ghost use Rattle.om_subsets.specs.Subsets.{choose};
 ghost use Rattle.om_chirotope.specs.Map.{map_of, cocircuit_vectors};
 ghost use Rattle.om_chirotope.specs.Chirotope.{HasOrthogonalPairs, IsFirstViolated};
+ghost use Rattle.om_chirotope.specs.Settlement.{IsSettled};
 
+use super::cocircuit_table::{ROOM, fill_while_orthogonal};
+use super::threaded_scan::scan_on_threads;
 use super::three_terms::meets_test;
-use super::vectors::{circuit_of, cocircuit_of};
+use super::vectors::circuit_of;
 use om_signs::{MAX_PLACES, RawMap, SignVec};
 use om_subsets::{MOST_SUBSETS, Subset};
-
-/// The room of the table of the vectors U.
-const ROOM: usize = MOST_SUBSETS as usize;
+use std::thread::Threads;
 
 /// The first pair, by S and then by A in lexicographic order, whose sign vectors V of S and U of A aren't orthogonal,
 /// or None where every pair is orthogonal: S has one element more than the rank, and A one less. In rank 0 there is no A,
@@ -35,45 +36,83 @@ pub fn violated(raw: &RawMap) -> Option<(Subset, Subset)>
     if raw.rank == raw.elements {
         return None;
     }
-    scan_with_table(raw)
+    let mut table = [SignVec::zero(raw.elements); ROOM];
+    let count = Subset::choose(raw.elements, raw.rank - 1) as usize;
+    let cocircuits = &mut table[..count];
+    match settle(raw, cocircuits) {
+        Settled::Orthogonal => None,
+        Settled::Violated { s, a } => Some((s, a)),
+        Settled::Open => scan(raw, cocircuits),
+    }
 }
 
-/// The first violated pair, by a table of all vectors U. Where there are more pairs than sets of elements, the three-term test
-/// comes first, which most often spares the scan of a map that meets the axioms.
-fn scan_with_table(raw: &RawMap) -> Option<(Subset, Subset)>
+/// The same, where what has to be scanned is shared out among threads.
+pub fn violated_on_threads<R: Threads + Sync>(rt: &R, raw: &RawMap) -> Option<(Subset, Subset)>
     requires low { 1 ≤ raw.now.elements }
     requires high { raw.now.elements ≤ MAX_PLACES }
-    requires rank_low { 1 ≤ raw.now.rank }
-    requires rank_high { raw.now.rank < raw.now.elements }
+    requires rank { raw.now.rank ≤ raw.now.elements }
     requires whole { length raw.now.signs ≡ choose raw.now.elements raw.now.rank }
     ensures none { IsNone result ↔ HasOrthogonalPairs (map_of raw.now) }
     ensures first { IfSome result (λ p. IsFirstViolated (map_of raw.now) p.0 p.1) }
 {
+    if raw.rank == 0 {
+        return None;
+    }
+    if raw.rank == raw.elements {
+        return None;
+    }
     let mut table = [SignVec::zero(raw.elements); ROOM];
     let count = Subset::choose(raw.elements, raw.rank - 1) as usize;
     let cocircuits = &mut table[..count];
-    fill(raw, cocircuits);
-    let pairs = Subset::choose(raw.elements, raw.rank + 1) as u64 * count as u64;
-    if pairs > 1u64 << raw.elements && meets_test(raw, cocircuits) {
-        return None;
+    match settle(raw, cocircuits) {
+        Settled::Orthogonal => None,
+        Settled::Violated { s, a } => Some((s, a)),
+        Settled::Open => scan_on_threads(rt, raw, cocircuits),
     }
-    scan(raw, cocircuits)
 }
 
-/// Writes the vectors U of all sets of one element less than the rank, in lexicographic order.
-fn fill(raw: &RawMap, table: &mut [SignVec])
+/// What is known of a map before its pairs are scanned.
+enum Settled {
+    /// Every pair is orthogonal.
+    Orthogonal,
+    /// The first violated pair is this one.
+    Violated { s: Subset, a: Subset },
+    /// Neither is known.
+    Open,
+}
+
+/// What the pairs of the first set S, and then the three-term test, say of a map. It fills the table with the vectors U of all
+/// sets of one element less than the rank, unless the first set S has a violated pair. The test is asked where there are more
+/// pairs than sets of elements.
+fn settle(raw: &RawMap, cocircuits: &mut [SignVec]) -> Settled
     requires low { 1 ≤ raw.now.elements }
     requires high { raw.now.elements ≤ MAX_PLACES }
     requires rank_low { 1 ≤ raw.now.rank }
     requires rank_high { raw.now.rank < raw.now.elements }
     requires whole { length raw.now.signs ≡ choose raw.now.elements raw.now.rank }
-    requires room { length table.old ≡ choose raw.now.elements (raw.now.rank - 1) }
-    ensures { table.new ≡ cocircuit_vectors (map_of raw.now) }
+    requires room { length cocircuits.old ≡ choose raw.now.elements (raw.now.rank - 1) }
+    ensures { IsSettled (map_of raw.now) cocircuits.new result }
 {
-    for place in 0..Subset::choose(raw.elements, raw.rank - 1) {
-        let a = Subset::unrank(place, raw.rank - 1, raw.elements);
-        table[place as usize] = cocircuit_of(raw, a);
+    let s = Subset::first(raw.rank + 1, raw.elements);
+    if let Some(k) = fill_while_orthogonal(raw, circuit_of(raw, s), cocircuits) {
+        let a = Subset::unrank(k, raw.rank - 1, raw.elements);
+        return Settled::Violated { s, a };
     }
+    if has_many_pairs(raw) && meets_test(raw, cocircuits) {
+        return Settled::Orthogonal;
+    }
+    Settled::Open
+}
+
+/// Whether there are more pairs of a set S and a set A than sets of elements.
+fn has_many_pairs(raw: &RawMap) -> bool
+    requires high { raw.now.elements ≤ MAX_PLACES }
+    requires rank_low { 1 ≤ raw.now.rank }
+    requires rank_high { raw.now.rank < raw.now.elements }
+{
+    let sets = u64::from(Subset::choose(raw.elements, raw.rank + 1));
+    let cosets = u64::from(Subset::choose(raw.elements, raw.rank - 1));
+    sets * cosets > 1u64 << raw.elements
 }
 
 /// The first violated pair, from the vectors U of all sets of one element less than the rank.
@@ -90,7 +129,7 @@ fn scan(raw: &RawMap, cocircuits: &[SignVec]) -> Option<(Subset, Subset)>
 {
     for place in 0..Subset::choose(raw.elements, raw.rank + 1) {
         let s = Subset::unrank(place, raw.rank + 1, raw.elements);
-        if let Some(k) = first_not_orthogonal(circuit_of(raw, s), cocircuits) {
+        if let Some(k) = first_not_orthogonal(circuit_of(raw, s), cocircuits, 0, cocircuits.len()) {
             let a = Subset::unrank(k as u32, raw.rank - 1, raw.elements);
             return Some((s, a));
         }
@@ -98,16 +137,25 @@ fn scan(raw: &RawMap, cocircuits: &[SignVec]) -> Option<(Subset, Subset)>
     None
 }
 
-/// The place of the first vector of the table that isn't orthogonal to this one.
-fn first_not_orthogonal(vector: SignVec, table: &[SignVec]) -> Option<usize>
-    requires { (k : ℕ) → k < length table.now → length vector ≡ length (get_or table.now k []) }
-    ensures none { IfNone result ((k : ℕ) → k < length table.now → IsOrthogonal vector (get_or table.now k [])) }
-    ensures within { IfSome result (λ k. k < length table.now) }
+/// The place of the first vector of a part of the table that isn't orthogonal to this one, from place `from` on and before
+/// `end`.
+pub fn first_not_orthogonal(
+    vector: SignVec,
+    table: &[SignVec],
+    from: usize,
+    end: usize,
+) -> Option<usize>
+    requires part { from ≤ end }
+    requires within { end ≤ length table.now }
+    requires lengths { (k : ℕ) → k < length table.now → length vector ≡ length (get_or table.now k []) }
+    ensures none { IfNone result ((k : ℕ) → from ≤ k → k < end → IsOrthogonal vector (get_or table.now k [])) }
+    ensures low { IfSome result (λ k. from ≤ k) }
+    ensures within { IfSome result (λ k. k < end) }
     ensures here { IfSome result (λ k. IsOrthogonal vector (get_or table.now k []) → ⊥) }
-    ensures before { IfSome result (λ k. (j : ℕ) → j < k → IsOrthogonal vector (get_or table.now j [])) }
+    ensures before { IfSome result (λ k. (j : ℕ) → from ≤ j → j < k → IsOrthogonal vector (get_or table.now j [])) }
 {
-    for (k, other) in table.iter().enumerate() {
-        if !vector.orthogonal(*other) {
+    for k in from..end {
+        if !vector.orthogonal(table[k]) {
             return Some(k);
         }
     }

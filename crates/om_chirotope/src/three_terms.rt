@@ -1,17 +1,18 @@
 //! The three-term test: a quick way to see that all pairs of sign vectors are orthogonal.
 
-ghost use Rattle.std.specs.Prelude.{ℕ, List, ◌≡◌, ◌≢◌, ◌+◌, ◌-◌, ◌<◌, ◌≤◌, ◌^◌, ◌↔◌, ◌∷◌, ◌++◌, length, map, IsTrue, false, true, []};
+ghost use Rattle.std.specs.Prelude.{ℕ, List, ◌≡◌, ◌≢◌, ◌+◌, ◌-◌, ◌<◌, ◌≤◌, ◌^◌, ◌↔◌, ◌∷◌, ◌++◌, length, replicate, IsTrue, false, true, []};
 ghost use Rattle.std.specs.Int.{bit_at};
 ghost use Rattle.std.proofs.Math.ListN.{get_or};
 ghost use Rattle.om_signs.specs.Sign.{opposite, product};
-ghost use Rattle.om_signs.specs.SignVec.{at, place};
+ghost use Rattle.om_signs.specs.SignVec.{at, place, IsMaskOf};
 ghost use Rattle.om_subsets.specs.Subsets.{choose, IsMember, IsSubsetFrom};
 ghost use Rattle.om_laws.specs.ThreeTerm.{AreBalanced};
 ghost use Rattle.om_chirotope.specs.Map.{map_of, cocircuit_vector, cocircuit_vectors};
 ghost use Rattle.om_chirotope.specs.Chirotope.{HasOrthogonalPairs};
-ghost use Rattle.om_chirotope.specs.ThreeTerm.{HasListExchange, HasThreeTermRelations};
-ghost use Rattle.om_chirotope.specs.Pictures.{AreMarked, AreMarkedAbove, AreRowsBelow, IsBalancedTriple, without_bit};
+ghost use Rattle.om_chirotope.specs.ThreeTerm.{HasExchange, HasListExchange, HasThreeTermRelations};
+ghost use Rattle.om_chirotope.specs.Pictures.{AreLong, AreMarked, AreMarkedAbove, AreRowsBelow, HasRelationsAt, IsLive, IsTriple, without_bit};
 
+use super::cocircuit_table::{ROOM, fill};
 use super::vectors::sign_at;
 use om_signs::{MAX_PLACES, RawMap, Sign, SignVec};
 use om_subsets::Subset;
@@ -22,8 +23,8 @@ const SETS: usize = 1 << MAX_PLACES;
 /// The number of rows of a picture: one for each element.
 const ROWS: usize = MAX_PLACES as usize;
 
-/// Whether the map meets the three-term test, whether or not some value isn't 0. Then every pair of its sign vectors is
-/// orthogonal.
+/// Whether every pair of sign vectors of the map is orthogonal, by the three-term test: whether bases have exchange, and the
+/// three-term relations hold.
 pub fn meets_test(raw: &RawMap, cocircuits: &[SignVec]) -> bool
     requires low { 1 ≤ raw.now.elements }
     requires high { raw.now.elements ≤ MAX_PLACES }
@@ -31,39 +32,65 @@ pub fn meets_test(raw: &RawMap, cocircuits: &[SignVec]) -> bool
     requires rank_high { raw.now.rank < raw.now.elements }
     requires whole { length raw.now.signs ≡ choose raw.now.elements raw.now.rank }
     requires filled { cocircuits.now ≡ cocircuit_vectors (map_of raw.now) }
-    ensures { IsTrue result → HasOrthogonalPairs (map_of raw.now) }
+    ensures { IsTrue result ↔ HasOrthogonalPairs (map_of raw.now) }
 {
-    has_exchange(raw, cocircuits) && has_relations(raw, cocircuits)
+    has_list_exchange(raw, cocircuits) && has_relations(raw, cocircuits)
+}
+
+/// Whether the bases of a map have exchange: an element e of a basis B that isn't in a basis C changes places with some
+/// element f of C that isn't in B. A basis is a set of as many elements as the rank whose value isn't 0; a map without a
+/// basis has exchange.
+///
+/// The elements are from 1 to [`MAX_PLACES`], the rank is at most their number, and there is one sign for each
+/// increasing list. It takes no memory.
+///
+/// Source: Björner, Las Vergnas, Sturmfels, White and Ziegler, *Oriented Matroids*, chapter 3.
+pub fn has_exchange(raw: &RawMap) -> bool
+    requires low { 1 ≤ raw.now.elements }
+    requires high { raw.now.elements ≤ MAX_PLACES }
+    requires rank { raw.now.rank ≤ raw.now.elements }
+    requires whole { length raw.now.signs ≡ choose raw.now.elements raw.now.rank }
+    ensures { IsTrue result ↔ HasExchange (map_of raw.now) }
+{
+    if raw.rank == 0 {
+        return true;
+    }
+    let mut table = [SignVec::zero(raw.elements); ROOM];
+    let count = Subset::choose(raw.elements, raw.rank - 1) as usize;
+    let cocircuits = &mut table[..count];
+    fill(raw, cocircuits);
+    has_list_exchange(raw, cocircuits)
 }
 
 /// Whether each basis has an element in the support of each vector U that isn't zero, by a table that marks the sets
 /// which contain a basis.
-fn has_exchange(raw: &RawMap, cocircuits: &[SignVec]) -> bool
+fn has_list_exchange(raw: &RawMap, cocircuits: &[SignVec]) -> bool
     requires low { 1 ≤ raw.now.elements }
     requires high { raw.now.elements ≤ MAX_PLACES }
     requires rank_low { 1 ≤ raw.now.rank }
-    requires rank_high { raw.now.rank < raw.now.elements }
+    requires rank_high { raw.now.rank ≤ raw.now.elements }
     requires whole { length raw.now.signs ≡ choose raw.now.elements raw.now.rank }
     requires filled { cocircuits.now ≡ cocircuit_vectors (map_of raw.now) }
-    ensures { IsTrue result → HasListExchange (map_of raw.now) }
+    ensures { IsTrue result ↔ HasListExchange (map_of raw.now) }
 {
     let mut table = [false; SETS];
-    has_exchange_by(raw, cocircuits, &mut table)
+    has_list_exchange_by(raw, cocircuits, &mut table)
 }
 
 /// The same, by a table for the marks.
-fn has_exchange_by(raw: &RawMap, cocircuits: &[SignVec], table: &mut [bool]) -> bool
+fn has_list_exchange_by(raw: &RawMap, cocircuits: &[SignVec], table: &mut [bool]) -> bool
     requires low { 1 ≤ raw.now.elements }
     requires high { raw.now.elements ≤ MAX_PLACES }
     requires rank_low { 1 ≤ raw.now.rank }
-    requires rank_high { raw.now.rank < raw.now.elements }
+    requires rank_high { raw.now.rank ≤ raw.now.elements }
     requires whole { length raw.now.signs ≡ choose raw.now.elements raw.now.rank }
     requires filled { cocircuits.now ≡ cocircuit_vectors (map_of raw.now) }
     requires room { length table.old ≡ SETS }
-    ensures { IsTrue result → HasListExchange (map_of raw.now) }
+    ensures { IsTrue result ↔ HasListExchange (map_of raw.now) }
 {
     let sets = number_of_sets(raw.elements);
     let marks = &mut table[..sets];
+    clear(marks);
     mark_bases(raw, marks);
     mark_above(raw, marks);
     each_basis_meets_each(raw, cocircuits, marks)
@@ -78,12 +105,23 @@ fn number_of_sets(elements: u8) -> usize
     1usize << elements
 }
 
+/// Takes away all marks.
+fn clear(marks: &mut [bool])
+    ensures room { length marks.new ≡ length marks.old }
+    ensures clear { (i : ℕ) → get_or marks.new i false ≡ false }
+{
+    for i in 0..marks.len() {
+        marks[i] = false;
+    }
+}
+
 /// Marks the sets that are bases.
 fn mark_bases(raw: &RawMap, marks: &mut [bool])
     requires high { raw.now.elements ≤ MAX_PLACES }
     requires rank { raw.now.rank ≤ raw.now.elements }
     requires whole { length raw.now.signs ≡ choose raw.now.elements raw.now.rank }
     requires room { length marks.old ≡ 2 ^ raw.now.elements }
+    requires clear { (i : ℕ) → get_or marks.old i false ≡ false }
     ensures { AreMarked (map_of raw.now) marks.new }
 {
     for k in 0..Subset::choose(raw.elements, raw.rank) {
@@ -120,7 +158,7 @@ fn has_marked_part(marks: &[bool], set: u32, elements: u8) -> bool
     requires high { elements ≤ MAX_PLACES }
     requires room { length marks.now ≡ 2 ^ elements }
     requires within { set < 2 ^ elements }
-    ensures { (i : ℕ) → i < elements → bit_at set i ≡ 1 → get_or marks.now (without_bit set i) false ≡ true → IsTrue result }
+    ensures { IsTrue result ↔ ((i : ℕ) × (i < elements) × (bit_at set i ≡ 1) × (get_or marks.now (without_bit set i) false ≡ true)) }
 {
     for i in 0..elements {
         if set >> i & 1 == 1 && marks[(set & !(1u32 << i)) as usize] {
@@ -138,7 +176,7 @@ fn each_basis_meets_each(raw: &RawMap, cocircuits: &[SignVec], marks: &[bool]) -
     requires room { length marks.now ≡ 2 ^ raw.now.elements }
     requires filled { cocircuits.now ≡ cocircuit_vectors (map_of raw.now) }
     requires marked { AreMarkedAbove (map_of raw.now) marks.now (2 ^ raw.now.elements) }
-    ensures { IsTrue result → HasListExchange (map_of raw.now) }
+    ensures { IsTrue result ↔ HasListExchange (map_of raw.now) }
 {
     let all = (1u32 << raw.elements) - 1;
     for u in cocircuits {
@@ -157,7 +195,7 @@ fn has_relations(raw: &RawMap, cocircuits: &[SignVec]) -> bool
     requires rank_low { 1 ≤ raw.now.rank }
     requires rank_high { raw.now.rank < raw.now.elements }
     requires filled { cocircuits.now ≡ cocircuit_vectors (map_of raw.now) }
-    ensures { IsTrue result → HasThreeTermRelations (map_of raw.now) }
+    ensures { IsTrue result ↔ HasThreeTermRelations (map_of raw.now) }
 {
     if raw.rank < 2 {
         return true;
@@ -172,28 +210,44 @@ fn has_relations(raw: &RawMap, cocircuits: &[SignVec]) -> bool
 }
 
 /// Whether the three-term relations of a list P hold, by the rows of its picture: the row of x has at each y the value
-/// of P with x and y behind it.
+/// of P with x and y behind it. Where the relations of the first row that isn't zero hold with any two later ones, all do.
 fn has_relations_at(raw: &RawMap, cocircuits: &[SignVec], p: Subset) -> bool
     requires low { 1 ≤ raw.now.elements }
     requires high { raw.now.elements ≤ MAX_PLACES }
     requires rank { length p.elements + 2 ≡ raw.now.rank }
     requires rank_high { raw.now.rank < raw.now.elements }
     requires n { p.n ≡ raw.now.elements }
+    requires list { IsSubsetFrom 1 raw.now.elements p.elements }
     requires filled { cocircuits.now ≡ cocircuit_vectors (map_of raw.now) }
-    ensures { IsTrue result → (x y z : ℕ) → 1 ≤ x → x < y → y < z → z ≤ raw.now.elements → (IsMember x p.elements → ⊥) → (IsMember y p.elements → ⊥) → (IsMember z p.elements → ⊥) → IsBalancedTriple (map_of raw.now) p.elements x y z }
+    ensures { IsTrue result ↔ HasRelationsAt (map_of raw.now) p.elements }
 {
     let mut rows = [SignVec::zero(raw.elements); ROWS];
+    fill_rows(raw, cocircuits, p, &mut rows);
+    let live = live_rows(&rows, raw.elements);
+    if live == 0 {
+        return true;
+    }
+    let first = live.trailing_zeros();
+    are_balanced_from(&rows, raw.elements, first, live & !(1u32 << first))
+}
+
+/// Writes the row of each element.
+fn fill_rows(raw: &RawMap, cocircuits: &[SignVec], p: Subset, rows: &mut [SignVec; ROWS])
+    requires high { raw.now.elements ≤ MAX_PLACES }
+    requires rank { length p.elements + 2 ≡ raw.now.rank }
+    requires rank_high { raw.now.rank < raw.now.elements }
+    requires n { p.n ≡ raw.now.elements }
+    requires filled { cocircuits.now ≡ cocircuit_vectors (map_of raw.now) }
+    requires list { IsSubsetFrom 1 raw.now.elements p.elements }
+    requires room { MAX_PLACES ≤ length rows.old }
+    requires zero { (i : ℕ) → i < length rows.old → get_or rows.old i [] ≡ replicate raw.now.elements Sign.Zero }
+    ensures { AreRowsBelow (map_of raw.now) p.elements rows.new (raw.now.elements + 1) }
+{
     for x in 1..raw.elements + 1 {
         if !p.has(x) {
             rows[x as usize - 1] = row_of(raw, cocircuits, p, x);
         }
     }
-    for x in 1..raw.elements + 1 {
-        if !p.has(x) && !are_balanced_from(raw, &rows, p, x) {
-            return false;
-        }
-    }
-    true
 }
 
 /// The row of an element x off P.
@@ -213,46 +267,58 @@ fn row_of(raw: &RawMap, cocircuits: &[SignVec], p: Subset, x: u8) -> SignVec
     if p.odd_after(x) { vector.neg() } else { vector }
 }
 
-/// Whether the relations of x with two later elements hold.
-fn are_balanced_from(raw: &RawMap, rows: &[SignVec; ROWS], p: Subset, x: u8) -> bool
-    requires high { raw.now.elements ≤ MAX_PLACES }
-    requires n { p.n ≡ raw.now.elements }
-    requires rows { AreRowsBelow (map_of raw.now) p.elements rows.now (raw.now.elements + 1) }
-    requires x_low { 1 ≤ x }
-    requires x_high { x ≤ raw.now.elements }
-    requires x_off { IsMember x p.elements → ⊥ }
-    ensures { IsTrue result → (y z : ℕ) → x < y → y < z → z ≤ raw.now.elements → (IsMember y p.elements → ⊥) → (IsMember z p.elements → ⊥) → IsBalancedTriple (map_of raw.now) p.elements x y z }
+/// The mask of the rows that aren't zero.
+fn live_rows(rows: &[SignVec; ROWS], elements: u8) -> u32
+    requires high { elements ≤ MAX_PLACES }
+    requires rows { AreLong rows.now elements }
+    ensures { IsMaskOf elements (λ i. IsLive rows.now i) result }
 {
-    for y in x + 1..raw.elements + 1 {
-        if !p.has(y) && !are_balanced_with(raw, rows, p, x, y) {
+    let mut live = 0u32;
+    for i in 0..elements {
+        if rows[i as usize].support() != 0 {
+            live |= 1u32 << i;
+        }
+    }
+    live
+}
+
+/// Whether the relations of row x hold with any two of a mask of rows.
+fn are_balanced_from(rows: &[SignVec; ROWS], elements: u8, x: u32, later: u32) -> bool
+    requires high { elements ≤ MAX_PLACES }
+    requires rows { AreLong rows.now elements }
+    requires x { x < elements }
+    requires later { later < 2 ^ elements }
+    ensures { IsTrue result ↔ ((j k : ℕ) → j < k → bit_at later j ≡ 1 → bit_at later k ≡ 1 → IsTriple rows.now x j k) }
+{
+    let mut rest = later;
+    while rest != 0 {
+        let y = rest.trailing_zeros();
+        rest &= !(1u32 << y);
+        if !are_balanced_with(rows, elements, x, y, rest) {
             return false;
         }
     }
     true
 }
 
-/// Whether the relations of x and y with a later element hold.
-fn are_balanced_with(raw: &RawMap, rows: &[SignVec; ROWS], p: Subset, x: u8, y: u8) -> bool
-    requires high { raw.now.elements ≤ MAX_PLACES }
-    requires n { p.n ≡ raw.now.elements }
-    requires rows { AreRowsBelow (map_of raw.now) p.elements rows.now (raw.now.elements + 1) }
-    requires x_low { 1 ≤ x }
-    requires x_off { IsMember x p.elements → ⊥ }
-    requires y_low { x < y }
-    requires y_high { y ≤ raw.now.elements }
-    requires y_off { IsMember y p.elements → ⊥ }
-    ensures { IsTrue result → (z : ℕ) → y < z → z ≤ raw.now.elements → (IsMember z p.elements → ⊥) → IsBalancedTriple (map_of raw.now) p.elements x y z }
+/// Whether the relations of rows x and y hold with each of a mask of rows.
+fn are_balanced_with(rows: &[SignVec; ROWS], elements: u8, x: u32, y: u32, later: u32) -> bool
+    requires high { elements ≤ MAX_PLACES }
+    requires rows { AreLong rows.now elements }
+    requires x { x < elements }
+    requires y { y < elements }
+    requires later { later < 2 ^ elements }
+    ensures { IsTrue result ↔ ((k : ℕ) → bit_at later k ≡ 1 → IsTriple rows.now x y k) }
 {
-    let first = rows[x as usize - 1];
-    let second = rows[y as usize - 1];
-    let off = ((1u32 << raw.elements) - 1) & !p.mask();
-    let mut rest = off & !((1u32 << y) - 1);
+    let first = rows[x as usize];
+    let second = rows[y as usize];
+    let mut rest = later;
     while rest != 0 {
-        let i = rest.trailing_zeros();
-        if !are_balanced(first, second, rows[i as usize], y, i as u8 + 1) {
+        let z = rest.trailing_zeros();
+        if !are_balanced(first, second, rows[z as usize], y as u8 + 1, z as u8 + 1) {
             return false;
         }
-        rest &= !(1u32 << i);
+        rest &= !(1u32 << z);
     }
     true
 }
@@ -265,7 +331,7 @@ fn are_balanced(first: SignVec, second: SignVec, third: SignVec, y: u8, z: u8) -
     requires y_high { y ≤ length first }
     requires z_low { 1 ≤ z }
     requires z_high { z ≤ length first }
-    ensures { IsTrue result → (i : ℕ) → i < length first → AreBalanced (product (place first y) (at third i)) (opposite (product (place first z) (at second i))) (product (at first i) (place second z)) }
+    ensures { IsTrue result ↔ ((i : ℕ) → i < length first → AreBalanced (product (place first y) (at third i)) (opposite (product (place first z) (at second i))) (product (at first i) (place second z))) }
 {
     let u = scaled(first.get(y), third);
     let v = scaled(first.get(z).neg(), second);

@@ -1,14 +1,47 @@
-use Rattle.std.proofs.Common.{arith, refl, inl, inr}
-use Rattle.om_chirotope.specs.Map.{map_of}
-use Rattle.om_chirotope.proofs.Rows.{second_more}
+use Rattle.std.proofs.Common.{ℕ, arith, refl, w32, ◌≡◌, ◌<◌}
+use Rattle.std.proofs.lemmas.Bool.{false≢true}
+use Rattle.std.specs.Int.{bit_at, trailing_zeros}
+use Rattle.om_chirotope.specs.Pictures.{IsTriple}
+use Rattle.om_chirotope.proofs.Rows.{IsLowest, all_cleared, cleared_more, lowest_bit, left_later, others_left, uncleared}
 use Rattle.om_chirotope.proofs.three_terms.are_balanced_from.Goals as goal
-use Rattle.om_chirotope.proofs.three_terms.are_balanced_from.Goals.{else-not-has-via-then-not-has+else-not-are_balanced_with, else-not-has-via-else-not-has}
 
-pub loop-y-preserved : goal.loop-y-preserved
-loop-y-preserved c = second_more (map_of c.args.raw.now) c.args.p.elements c.args.x c.loop-y.y (elim c.else-not-has.branch [
-  | else-not-has-via-then-not-has+else-not-are_balanced_with w ↦ inr (λ z later. w.if-not-are_balanced_with.ensures refl z later.second later.high later.z_off)
-  | else-not-has-via-else-not-has w ↦ inl (w.if-not-has.ensures.0 refl)
-]) c.loop-y.invariant
+pub loop-rest-init : goal.loop-rest-init
+loop-rest-init c = uncleared c.args.later c.args.elements _ c.requires.later
+
+pub are_balanced_with-requires-clause-y : goal.are_balanced_with-requires-clause-y
+are_balanced_with-requires-clause-y c =
+    let low : IsLowest c.loop-rest.rest c.args.elements (trailing_zeros w32 c.loop-rest.rest) = lowest_bit c.loop-rest.rest c.args.elements c.requires.high c.loop-rest.invariant.within c.loop-rest-test.true in
+    low.here
+
+pub are_balanced_with-requires-clause-later : goal.are_balanced_with-requires-clause-later
+are_balanced_with-requires-clause-later c =
+    let low : IsLowest c.loop-rest.rest c.args.elements (trailing_zeros w32 c.loop-rest.rest) = lowest_bit c.loop-rest.rest c.args.elements c.requires.high c.loop-rest.invariant.within c.loop-rest-test.true in
+    let smaller = low.smaller in
+    let within = c.loop-rest.invariant.within in
+    omega (arith, smaller, within)
+
+pub loop-rest-smaller : goal.loop-rest-smaller
+loop-rest-smaller c =
+    let low : IsLowest c.loop-rest.rest c.args.elements (trailing_zeros w32 c.loop-rest.rest) = lowest_bit c.loop-rest.rest c.args.elements c.requires.high c.loop-rest.invariant.within c.loop-rest-test.true in
+    low.smaller
+
+pub loop-rest-preserved : goal.loop-rest-preserved
+loop-rest-preserved c =
+    let tz = trailing_zeros w32 c.loop-rest.rest in
+    let low : IsLowest c.loop-rest.rest c.args.elements tz = lowest_bit c.loop-rest.rest c.args.elements c.requires.high c.loop-rest.invariant.within c.loop-rest-test.true in
+    cleared_more c.args.later c.loop-rest.rest c.args.elements tz (λ j. (k : ℕ) → j < k → bit_at c.args.later k ≡ 1 → IsTriple c.args.rows.now c.args.x j k) c.requires.high low
+    (λ k l o. c.if-not-are_balanced_with.ensures.0 refl k (others_left c.args.later c.loop-rest.rest c.args.elements tz k _ c.requires.high low c.loop-rest.invariant l o))
+    c.loop-rest.invariant
+
+pub returns-then-not-are_balanced_with : goal.returns-then-not-are_balanced_with
+returns-then-not-are_balanced_with c =
+    let tz = trailing_zeros w32 c.loop-rest.rest in
+    let low : IsLowest c.loop-rest.rest c.args.elements tz = lowest_bit c.loop-rest.rest c.args.elements c.requires.high c.loop-rest.invariant.within c.loop-rest-test.true in (
+      λ t. absurd (false≢true t),
+      λ all. absurd (false≢true (c.if-not-are_balanced_with.ensures.1 (λ k o.
+          let b = left_later c.args.later c.loop-rest.rest c.args.elements tz k _ c.requires.high low c.loop-rest.invariant o in
+          all tz k b.0 (c.loop-rest.invariant.part tz low.bit) b.1))),
+    )
 
 pub returns : goal.returns
-returns c = λ t y z xy yz high yo zo. let over = c.loop-y-test.false in c.loop-y.invariant y z (omega arith) (record { first = xy; second = yz; high = high; y_off = yo; z_off = zo })
+returns c = (λ t j k l o b. all_cleared c.args.later c.loop-rest.rest c.args.elements (λ j. (k : ℕ) → j < k → bit_at c.args.later k ≡ 1 → IsTriple c.args.rows.now c.args.x j k) c.loop-rest-test.false c.loop-rest.invariant j o k l b, λ all. refl)

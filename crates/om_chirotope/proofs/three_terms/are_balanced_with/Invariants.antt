@@ -1,13 +1,9 @@
-use Rattle.std.proofs.Common.{◌<◌, ◌^◌}
-use Rattle.om_chirotope.specs.Map.{map_of}
-use Rattle.om_chirotope.proofs.Rows.{AreBalancedUnless}
+use Rattle.om_chirotope.specs.Pictures.{IsTriple}
+use Rattle.om_chirotope.proofs.Rows.{IsCleared}
 use Rattle.om_chirotope.proofs.three_terms.are_balanced_with.Given as goal
 
 abbrev pub invariant-loop-rest : goal.invariant-loop-rest
-invariant-loop-rest l = record {
-  within : l.rest < 2 ^ l.raw.elements;
-  balanced : AreBalancedUnless (map_of l.raw) l.fn.p.elements l.x l.y l.rest;
-}
+invariant-loop-rest l = IsCleared l.later l.rest l.elements (λ k. IsTriple l.rows l.x l.y k)
 
 abbrev pub decreases-loop-rest : goal.decreases-loop-rest
 decreases-loop-rest l = l.rest

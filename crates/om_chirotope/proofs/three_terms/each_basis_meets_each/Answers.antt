@@ -1,8 +1,8 @@
-use Rattle.std.proofs.Common.{arith, sym, ap, subst, ◌∙◌, inl, inr, get_or, length, [], ◌≡◌}
-use Rattle.std.proofs.lemmas.Bool.{cases_eq}
+use Rattle.std.proofs.Common.{arith, refl, sym, ap, subst, ◌∙◌, inl, inr, get_or, length, [], ◌≡◌}
+use Rattle.std.proofs.lemmas.Bool.{cases_eq, false≢true}
 use Rattle.std.proofs.lemmas.List.{get_or_default}
 use Rattle.om_chirotope.specs.Map.{map_of}
-use Rattle.om_chirotope.proofs.Marks.{IsMet, exchange_of_met, met_of_mark, met_of_zero, table_length}
+use Rattle.om_chirotope.proofs.Marks.{IsMet, exchange_of_met, no_exchange, met_of_mark, met_of_zero, table_length}
 use Rattle.om_chirotope.proofs.three_terms.each_basis_meets_each.Goals as goal
 use Rattle.om_chirotope.proofs.three_terms.each_basis_meets_each.Goals.{else-support-ne0-via-then-support-ne0+else-marks-all, else-support-ne0-via-else-support-ne0}
 
@@ -19,5 +19,11 @@ loop-u-preserved c = λ k l. elim (cases_eq k c.loop-u.u-index) [
   | inr n ↦ c.loop-u.invariant k (omega arith)
 ]
 
+pub returns-then-marks-all : goal.returns-then-marks-all
+returns-then-marks-all c =
+    let m = map_of c.args.raw.now in
+    let e : c.u-item.result ≡ get_or c.args.cocircuits.now c.loop-u.u-index [] = c.u-item.is ∙ get_or_default c.args.cocircuits.now c.loop-u.u-index _ [] c.loop-u-test.true in
+    (λ t. absurd (false≢true t), λ ex. absurd (no_exchange m c.args.marks.now c.args.cocircuits.now c.loop-u.u-index c.support-support.result c.u-item.result c.requires.high c.requires.rank_low c.requires.filled c.loop-u-test.true e c.support-support.ensures c.if-support-ne0.true c.requires.marked.marked c.if-marks-all.true ex))
+
 pub returns : goal.returns
-returns c = λ t. exchange_of_met (map_of c.args.raw.now) c.args.cocircuits.now c.loop-u.u-index c.requires.filled c.loop-u-test.false c.loop-u.invariant
+returns c = (λ t. exchange_of_met (map_of c.args.raw.now) c.args.cocircuits.now c.loop-u.u-index c.requires.filled c.loop-u-test.false c.loop-u.invariant, λ ex. refl)

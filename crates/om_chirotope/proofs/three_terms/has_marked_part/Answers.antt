@@ -1,5 +1,5 @@
-use Rattle.std.proofs.Common.{arith, sym, subst, ◌∙◌, inl, inr, get_or, ◌≡◌, true, false}
-use Rattle.std.proofs.lemmas.Bool.{cases_eq, true≢false}
+use Rattle.std.proofs.Common.{arith, refl, sym, subst, ◌∙◌, inl, inr, get_or, ◌≡◌, true, false}
+use Rattle.std.proofs.lemmas.Bool.{cases_eq, false≢true, true≢false}
 use Rattle.std.specs.Int.{bit_at}
 use Rattle.std.proofs.lemmas.Nat.Bits.{shr_and_one}
 use Rattle.om_chirotope.specs.Pictures.{without_bit}
@@ -14,3 +14,9 @@ loop-i-preserved c = λ j l one h. elim (cases_eq j c.loop-i.i) [
   ]
   | inr n ↦ c.loop-i.invariant j (omega arith) one h
 ]
+
+pub returns-then-marks-set : goal.returns-then-marks-set
+returns-then-marks-set c = (λ t. (c.loop-i.i, c.loop-i-test.true, sym (shr_and_one c.args.set c.loop-i.i) ∙ c.if-set-i-eq1.true, c.if-marks-set.true), λ h. refl)
+
+pub returns : goal.returns
+returns c = (λ t. absurd (false≢true t), λ (i, l, one, h). absurd (c.loop-i.invariant i (let over = c.loop-i-test.false in omega (arith, over, l)) one h))

@@ -1,27 +1,37 @@
-use Rattle.std.proofs.Common.{arith, refl, sym, subst, inl, inr, ◌+◌}
+use Rattle.std.proofs.Common.{arith, refl, w32}
+use Rattle.std.specs.Int.{trailing_zeros}
 use Rattle.om_chirotope.specs.Map.{map_of}
-use Rattle.om_chirotope.specs.Pictures.{AreRowsBelow}
-use Rattle.om_chirotope.proofs.Rows.{rows_more, rows_skip, first_more}
+use Rattle.om_chirotope.proofs.FirstRow.{relations_of_first_row, relations_of_zeros, triple_from_relations}
+use Rattle.om_chirotope.proofs.Rows.{IsLowest, bit_inside, dead_rows, lowest_bit, other_rows, left_bit}
 use Rattle.om_chirotope.proofs.three_terms.has_relations_at.Goals as goal
-use Rattle.om_chirotope.proofs.three_terms.has_relations_at.Goals.{then-not-has, else-not-has}
-use Rattle.om_chirotope.proofs.three_terms.has_relations_at.Goals.{else-not-has-2-via-then-not-has-2+else-not-are_balanced_from, else-not-has-2-via-else-not-has-2}
 
-pub loop-x-preserved : goal.loop-x-preserved
-loop-x-preserved c = elim c.if-not-has.branch [
-  | then-not-has w ↦
-      let low = c.loop-x.auto.x in
-      subst (λ rs. AreRowsBelow (map_of c.args.raw.now) c.args.p.elements rs (c.loop-x.x + 1)) (sym w.rows-is)
-      (rows_more (map_of c.args.raw.now) c.args.p.elements c.loop-x.rows c.loop-x.x w.row_of.result low (let room = c.loop-x.invariant.room in let h = c.loop-x-test.true in omega (arith, room, h, low)) w.row_of.ensures c.loop-x.invariant)
-  | else-not-has w ↦
-      subst (λ rs. AreRowsBelow (map_of c.args.raw.now) c.args.p.elements rs (c.loop-x.x + 1)) (sym w.rows-is)
-      (rows_skip (map_of c.args.raw.now) c.args.p.elements c.loop-x.rows c.loop-x.x (w.if-not-has.ensures.0 refl) c.loop-x.invariant)
-]
+pub returns-then-live-eq0 : goal.returns-then-live-eq0
+returns-then-live-eq0 c = (λ t. relations_of_zeros (map_of c.args.raw.now) c.args.p.elements c.fill_rows.new.rows c.fill_rows.ensures (dead_rows c.args.raw.now.elements c.live_rows-live.result _ c.if-live-eq0.true c.live_rows-live.ensures), λ all. refl)
 
-pub loop-x-2-preserved : goal.loop-x-2-preserved
-loop-x-2-preserved c = first_more (map_of c.args.raw.now) c.args.p.elements c.loop-x-2.x (elim c.else-not-has-2.branch [
-  | else-not-has-2-via-then-not-has-2+else-not-are_balanced_from w ↦ inr (λ y z later. w.if-not-are_balanced_from.ensures refl y z later.first later.second later.high later.y_off later.z_off)
-  | else-not-has-2-via-else-not-has-2 w ↦ inl (w.if-not-has-2.ensures.0 refl)
-]) c.loop-x-2.invariant
+pub are_balanced_from-requires-clause-x : goal.are_balanced_from-requires-clause-x
+are_balanced_from-requires-clause-x c =
+    let low : IsLowest c.live_rows-live.result c.args.raw.now.elements (trailing_zeros w32 c.live_rows-live.result) = lowest_bit c.live_rows-live.result c.args.raw.now.elements c.requires.high c.live_rows-live.ensures.within c.if-live-eq0.false in
+    low.here
+
+pub are_balanced_from-requires-clause-later : goal.are_balanced_from-requires-clause-later
+are_balanced_from-requires-clause-later c =
+    let low : IsLowest c.live_rows-live.result c.args.raw.now.elements (trailing_zeros w32 c.live_rows-live.result) = lowest_bit c.live_rows-live.result c.args.raw.now.elements c.requires.high c.live_rows-live.ensures.within c.if-live-eq0.false in
+    let smaller = low.smaller in
+    let within = c.live_rows-live.ensures.within in
+    omega (arith, smaller, within)
 
 pub returns : goal.returns
-returns c = λ t x y z low xy yz high xo yo zo. let over = c.loop-x-2-test.false in c.loop-x-2.invariant x y z low (omega arith) xo (record { first = xy; second = yz; high = high; y_off = yo; z_off = zo })
+returns c =
+    let m = map_of c.args.raw.now in
+    let live = c.live_rows-live.result in
+    let first = trailing_zeros w32 live in
+    let rows = c.fill_rows.new.rows in
+    let low : IsLowest live m.elements first = lowest_bit live m.elements c.requires.high c.live_rows-live.ensures.within c.if-live-eq0.false in (
+      λ t. relations_of_first_row m c.args.p.elements rows c.fill_rows.ensures first _ low.here ((c.live_rows-live.ensures.holds first low.here).0 low.bit)
+          (other_rows m.elements live first _ c.requires.high low c.live_rows-live.ensures) (c.are_balanced_from.ensures.0 t),
+      λ all. c.are_balanced_from.ensures.1 (λ j k l o b.
+          let within = c.live_rows-live.ensures.within in
+          let bj = left_bit live m.elements first j c.requires.high low within o in
+          let bk = left_bit live m.elements first k c.requires.high low within b in
+          triple_from_relations m c.args.p.elements rows c.fill_rows.ensures first j k low.here (bit_inside live m.elements j within bj.0) (bit_inside live m.elements k within bk.0) all),
+    )

@@ -1,7 +1,7 @@
 use Rattle.std.proofs.Common.{arith}
 use Rattle.om_chirotope.specs.Map.{map_of}
 use Rattle.om_chirotope.proofs.Tables.{table_done}
-use Rattle.om_chirotope.proofs.scan.fill.Goals as goal
+use Rattle.om_chirotope.proofs.cocircuit_table.fill.Goals as goal
 
 pub returns : goal.returns
 returns c =

@@ -1,0 +1,45 @@
+use Rattle.std.proofs.Common.{arith, refl, sym, ap, subst, below_more, ◌∙◌, ◌≡◌, ◌-◌, ◌<◌, [], get_or, length}
+use Rattle.std.proofs.lemmas.Bool.{false≢true}
+use Rattle.std.proofs.lemmas.List.{length-set}
+use Rattle.om_signs.specs.SignVec.{IsOrthogonal}
+use Rattle.om_subsets.specs.Subsets.{choose, subset_at}
+use Rattle.om_laws.specs.Relations.{along}
+use Rattle.om_chirotope.specs.Map.{map_of, cocircuit_vector, cocircuit_vectors, value_of}
+use Rattle.om_chirotope.proofs.Places.{length-vector}
+use Rattle.om_chirotope.proofs.Tables.{table_at, table_done, table_more}
+use Rattle.om_chirotope.proofs.cocircuit_table.fill_while_orthogonal.Goals as goal
+
+pub orthogonal-requires : goal.orthogonal-requires
+orthogonal-requires c = c.requires.vector ∙ sym (ap length c.cocircuit_of-other.ensures ∙ length-vector c.args.raw.now.elements (along (value_of (map_of c.args.raw.now)) c.unrank-a.result.elements))
+
+pub returns-then-not-orthogonal-clause-here : goal.returns-then-not-orthogonal-clause-here
+returns-then-not-orthogonal-clause-here c = λ o.
+    let m = map_of c.args.raw.now in
+    let end = c.choose-place-end.ensures.value in
+    let test = c.loop-place-test.true in
+    let l : c.loop-place.place < choose m.elements (m.rank - 1) = omega (arith, end, test) in
+    let e : c.cocircuit_of-other.result ≡ cocircuit_vector m (subset_at m.elements (m.rank - 1) c.loop-place.place) = c.cocircuit_of-other.ensures ∙ ap (cocircuit_vector m) c.unrank-a.ensures.elements in
+    false≢true (c.if-not-orthogonal.ensures.1 (subst (IsOrthogonal c.args.vector) (table_at m c.loop-place.place l ∙ sym e) o))
+
+pub loop-place-preserved : goal.loop-place-preserved
+loop-place-preserved c =
+    let m = map_of c.args.raw.now in
+    let end = c.choose-place-end.ensures.value in
+    let test = c.loop-place-test.true in
+    let room = c.requires.room in
+    let size = c.loop-place.invariant.size in
+    let l : c.loop-place.place < choose m.elements (m.rank - 1) = omega (arith, end, test) in
+    let e : c.cocircuit_of-other.result ≡ cocircuit_vector m (subset_at m.elements (m.rank - 1) c.loop-place.place) = c.cocircuit_of-other.ensures ∙ ap (cocircuit_vector m) c.unrank-a.ensures.elements in
+    record {
+      size = length-set _ _ _ ∙ size;
+      filled = table_more m c.loop-place.table c.loop-place.place c.cocircuit_of-other.result (omega (arith, l, room, size)) e c.loop-place.invariant.filled;
+      held = below_more _ _ c.loop-place.invariant.held (subst (IsOrthogonal c.args.vector) (e ∙ sym (table_at m c.loop-place.place l)) (c.if-not-orthogonal.ensures.0 refl));
+    }
+
+pub returns-clause-none : goal.returns-clause-none
+returns-clause-none c =
+    let size = c.loop-place.invariant.size in
+    let room = c.requires.room in
+    let end = c.choose-place-end.ensures.value in
+    let over = c.loop-place-test.false in
+    table_done (map_of c.args.raw.now) c.loop-place.table (omega (arith, size, room)) (λ j l. c.loop-place.invariant.filled j (omega (arith, l, end, over)))

@@ -1,0 +1,56 @@
+//! The table of the vectors U of a map.
+
+ghost use Rattle.std.specs.Prelude.{ℕ, ◌≡◌, ◌-◌, ◌<◌, ◌≤◌, [], length, IfNone, IfSome};
+ghost use Rattle.std.proofs.Math.ListN.{get_or};
+ghost use Rattle.om_signs.specs.SignVec.{IsOrthogonal};
+ghost use Rattle.om_subsets.specs.Subsets.{choose};
+ghost use Rattle.om_chirotope.specs.Map.{map_of, cocircuit_vectors};
+
+use super::vectors::cocircuit_of;
+use om_signs::{MAX_PLACES, RawMap, SignVec};
+use om_subsets::{MOST_SUBSETS, Subset};
+
+/// The room of the table.
+pub const ROOM: usize = MOST_SUBSETS as usize;
+
+/// Writes the vectors U of all sets of one element less than the rank, in lexicographic order.
+pub fn fill(raw: &RawMap, table: &mut [SignVec])
+    requires low { 1 ≤ raw.now.elements }
+    requires high { raw.now.elements ≤ MAX_PLACES }
+    requires rank_low { 1 ≤ raw.now.rank }
+    requires rank_high { raw.now.rank ≤ raw.now.elements }
+    requires whole { length raw.now.signs ≡ choose raw.now.elements raw.now.rank }
+    requires room { length table.old ≡ choose raw.now.elements (raw.now.rank - 1) }
+    ensures { table.new ≡ cocircuit_vectors (map_of raw.now) }
+{
+    for place in 0..Subset::choose(raw.elements, raw.rank - 1) {
+        let a = Subset::unrank(place, raw.rank - 1, raw.elements);
+        table[place as usize] = cocircuit_of(raw, a);
+    }
+}
+
+/// Writes the vectors U of all sets of one element less than the rank, in lexicographic order, up to the first that isn't
+/// orthogonal to a vector; the answer is its place, or None where each is orthogonal.
+pub fn fill_while_orthogonal(raw: &RawMap, vector: SignVec, table: &mut [SignVec]) -> Option<u32>
+    requires low { 1 ≤ raw.now.elements }
+    requires high { raw.now.elements ≤ MAX_PLACES }
+    requires rank_low { 1 ≤ raw.now.rank }
+    requires rank_high { raw.now.rank ≤ raw.now.elements }
+    requires whole { length raw.now.signs ≡ choose raw.now.elements raw.now.rank }
+    requires room { length table.old ≡ choose raw.now.elements (raw.now.rank - 1) }
+    requires vector { length vector ≡ raw.now.elements }
+    ensures none { IfNone result (table.new ≡ cocircuit_vectors (map_of raw.now)) }
+    ensures within { IfSome result (λ k. k < choose raw.now.elements (raw.now.rank - 1)) }
+    ensures here { IfSome result (λ k. IsOrthogonal vector (get_or (cocircuit_vectors (map_of raw.now)) k []) → ⊥) }
+    ensures before { IfSome result (λ k. (j : ℕ) → j < k → IsOrthogonal vector (get_or (cocircuit_vectors (map_of raw.now)) j [])) }
+{
+    for place in 0..Subset::choose(raw.elements, raw.rank - 1) {
+        let a = Subset::unrank(place, raw.rank - 1, raw.elements);
+        let other = cocircuit_of(raw, a);
+        if !vector.orthogonal(other) {
+            return Some(place);
+        }
+        table[place as usize] = other;
+    }
+    None
+}
