@@ -24,7 +24,7 @@ use Rattle.om_members.proofs.ScanLaws.{nth_contained, contains_nth}
 not_both_nested : (X Y : List Sign) → IsUnnestedIn X Y → IsNestedIn X Y → ⊥
 not_both_nested X Y h v = elim (h v.within) [ inl e ↦ v.other e | inr e ↦ v.not_negative e ]
 
-not_both_blocked : (members : List (List Sign)) (X Y : List Sign) (e : ℕ) → HasEliminatorIfAsked members X Y e → HasNoEliminator members X Y e → ⊥
+pub not_both_blocked : (members : List (List Sign)) (X Y : List Sign) (e : ℕ) → HasEliminatorIfAsked members X Y e → HasNoEliminator members X Y e → ⊥
 not_both_blocked members X Y e h v = v.none (h v.element v.not_negative v.opposed)
 
 module _ (members : List (List Sign)) where

@@ -1,3 +1,4 @@
 pub mod MaskLaws
 pub mod EliminationLaws
 pub mod InstanceLaws
+pub mod DecisionLaws

@@ -15,7 +15,11 @@ use om_signs::{List, MAX_ELEMENTS, MAX_MEMBERS, SignVec};
 use std::thread::Threads;
 
 /// The first violated instance of the axioms.
-fn first_violated(members: &[SignVec], elements: u8) -> Option<SetRefused>
+fn first_violated<R: Threads + Sync>(
+    rt: &R,
+    members: &[SignVec],
+    elements: u8,
+) -> Option<SetRefused>
     requires high { elements ≤ MAX_ELEMENTS }
     requires lengths { HaveLength elements members.now }
     requires few { length members.now ≤ MAX_MEMBERS }
@@ -28,13 +32,13 @@ fn first_violated(members: &[SignVec], elements: u8) -> Option<SetRefused>
     if let Some(i) = first_without_negative(members) {
         return Some(SetRefused::NoNegative { i: i as u32 + 1 });
     }
-    if let Some((i, j)) = first_nested(members) {
+    if let Some((i, j)) = first_nested(rt, members) {
         return Some(SetRefused::Nested {
             i: i as u32 + 1,
             j: j as u32 + 1,
         });
     }
-    let (i, j, e) = first_blocked(members, elements)?;
+    let (i, j, e) = first_blocked(rt, members, elements)?;
     Some(SetRefused::NoElimination {
         i: i as u32 + 1,
         j: j as u32 + 1,
@@ -48,7 +52,7 @@ fn first_violated(members: &[SignVec], elements: u8) -> Option<SetRefused>
 ///
 /// Source: Björner, Las Vergnas, Sturmfels, White and Ziegler, *Oriented Matroids*, chapter 3.
 pub fn check<R: Threads + Sync>(
-    _rt: &R,
+    rt: &R,
     elements: u8,
     list: List<SignVec>,
 ) -> Result<SignedSet, BadSet>
@@ -63,7 +67,7 @@ pub fn check<R: Threads + Sync>(
     ensures unchanged { IfErr result (λ b. b.list ≡ list) }
     ensures first { IfErr result (λ b. IsFirstViolated list b.why) }
 {
-    match first_violated(list.as_slice(), elements) {
+    match first_violated(rt, list.as_slice(), elements) {
         None => Ok(SignedSet::lawful(elements, list)),
         Some(why) => Err(BadSet { list, why }),
     }

@@ -1,12 +1,15 @@
 //! The axiom of elimination.
 
 ghost use Rattle.std.specs.Prelude.{◌↔◌, ◌+◌, ◌≤◌, ◌<◌, length, IsTrue, IfSome, IfNone};
+ghost use Rattle.om_signs.specs.declared.limits.TheConstants.{MAX_ELEMENTS};
 ghost use Rattle.om_circuits.specs.Instances.{HasNoEliminator};
 ghost use Rattle.om_members.specs.Scans.{AllBelow, IsFirstBad};
 ghost use Rattle.om_circuits.specs.Scans.{IsWithin, HasWithin, HasEliminatorIfAsked, IsUnblocked, IsUnblockedAt, IsFirstBlockedWith, IsFirstBlocked};
 
 use om_members::are_same;
-use om_signs::{MAX_ELEMENTS, SignVec};
+use om_parallel::{Probe, first_bad};
+use om_signs::SignVec;
+use std::thread::Threads;
 
 /// Whether the places with a plus lie in one mask and those with a minus in another.
 fn is_within(z: SignVec, plus: u32, minus: u32) -> bool
@@ -62,16 +65,43 @@ fn first_blocked_with(members: &[SignVec], elements: u8, x: SignVec) -> Option<(
     None
 }
 
-/// The places of the first two members from which some element can't be eliminated, and the element.
-pub fn first_blocked(members: &[SignVec], elements: u8) -> Option<(usize, usize, u8)>
+/// The members of a list, numbered from 0: a number is bad where from its member and some member an element can't be
+/// eliminated.
+#[derive(Drop)]
+struct BlockedMembers<'a> {
+    members: &'a [SignVec],
+    elements: u8,
+    ghost high: { elements ≤ MAX_ELEMENTS },
+}
+
+impl Probe for BlockedMembers<'_> {
+    ghost use Rattle.std.specs.Prelude.{length};
+    ghost use Rattle.om_members.specs.Scans.{IsBadBelow};
+    ghost use Rattle.om_circuits.specs.Scans.{IsUnblockedAt};
+
+    ghost is_bad = { λ s. IsBadBelow (length s.members.now) (IsUnblockedAt s.members.now s.elements) };
+
+    fn bad(&self, k: u64) -> bool {
+        if k >= self.members.len() as u64 {
+            return false;
+        }
+        first_blocked_with(self.members, self.elements, self.members[k as usize]).is_some()
+    }
+}
+
+/// The places of the first two members from which some element can't be eliminated, and the element. The first members are
+/// shared out among threads.
+pub fn first_blocked<R: Threads + Sync>(
+    rt: &R,
+    members: &[SignVec],
+    elements: u8,
+) -> Option<(usize, usize, u8)>
     requires { elements ≤ MAX_ELEMENTS }
     ensures none { IfNone result (AllBelow (length members.now) (IsUnblockedAt members.now elements)) }
     ensures first { IfSome result (λ t. IsFirstBlocked members.now elements t.0 t.1 t.2) }
 {
-    for (i, x) in members.iter().enumerate() {
-        if let Some((j, e)) = first_blocked_with(members, elements, *x) {
-            return Some((i, j, e));
-        }
-    }
-    None
+    let blocked = BlockedMembers { members, elements };
+    let i = first_bad(rt, &blocked, members.len() as u64)? as usize;
+    let (j, e) = first_blocked_with(members, elements, members[i])?;
+    Some((i, j, e))
 }

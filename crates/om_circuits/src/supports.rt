@@ -6,7 +6,9 @@ ghost use Rattle.om_members.specs.Scans.{AllBelow, IsFirstBad, IsFirstBadPair, n
 ghost use Rattle.om_circuits.specs.Scans.{IsZeroAt, IsNotZeroAt, IsUnnestedIn, AreNestedAt, AreUnnestedAt};
 
 use om_members::{are_same, is_zero};
+use om_parallel::{Probe, first_bad};
 use om_signs::SignVec;
+use std::thread::Threads;
 
 /// The place of the first zero vector.
 pub fn first_zero(members: &[SignVec]) -> Option<usize>
@@ -41,15 +43,35 @@ fn first_nested_with(members: &[SignVec], x: SignVec) -> Option<usize>
     None
 }
 
-/// The places of the first two members of which the first is nested in the second.
-pub fn first_nested(members: &[SignVec]) -> Option<(usize, usize)>
+/// The members of a list, numbered from 0: a number is bad where its member is nested in some member.
+#[derive(Drop)]
+struct NestedMembers<'a> {
+    members: &'a [SignVec],
+}
+
+impl Probe for NestedMembers<'_> {
+    ghost use Rattle.std.specs.Prelude.{length};
+    ghost use Rattle.om_members.specs.Scans.{AllBelow, IsBadBelow};
+    ghost use Rattle.om_circuits.specs.Scans.{AreUnnestedAt};
+
+    ghost is_bad = { λ s. IsBadBelow (length s.members.now) (λ i. AllBelow (length s.members.now) (AreUnnestedAt s.members.now i)) };
+
+    fn bad(&self, k: u64) -> bool {
+        if k >= self.members.len() as u64 {
+            return false;
+        }
+        first_nested_with(self.members, self.members[k as usize]).is_some()
+    }
+}
+
+/// The places of the first two members of which the first is nested in the second. The first members are shared out among
+/// threads.
+pub fn first_nested<R: Threads + Sync>(rt: &R, members: &[SignVec]) -> Option<(usize, usize)>
     ensures none { IfNone result (AllBelow (length members.now) (λ i. AllBelow (length members.now) (AreUnnestedAt members.now i))) }
     ensures first { IfSome result (λ p. IsFirstBadPair (length members.now) (length members.now) (AreNestedAt members.now) (AreUnnestedAt members.now) p.0 p.1) }
 {
-    for (i, x) in members.iter().enumerate() {
-        if let Some(j) = first_nested_with(members, *x) {
-            return Some((i, j));
-        }
-    }
-    None
+    let nested = NestedMembers { members };
+    let i = first_bad(rt, &nested, members.len() as u64)? as usize;
+    let j = first_nested_with(members, members[i])?;
+    Some((i, j))
 }

@@ -68,7 +68,7 @@ fn is_answered<R: Threads + Sync>(
     }
 }
 
-const ROWS: [(u8, &[&str], Option<SetRefused>); 7] = [
+const ROWS: [(u8, &[&str], Option<SetRefused>); 10] = [
     (2, &["+-"], Some(SetRefused::NoNegative { i: 1 })),
     (
         2,
@@ -80,6 +80,21 @@ const ROWS: [(u8, &[&str], Option<SetRefused>); 7] = [
         3,
         &["+-0", "0+-", "-+0", "0-+"],
         Some(SetRefused::NoElimination { i: 2, j: 1, e: 2 }),
+    ),
+    (
+        3,
+        &["+00", "-00", "++0", "--0", "0+0", "0-0"],
+        Some(SetRefused::Nested { i: 1, j: 3 }),
+    ),
+    (
+        4,
+        &["++00", "--00", "00++", "00--", "00+0", "00-0"],
+        Some(SetRefused::Nested { i: 5, j: 3 }),
+    ),
+    (
+        5,
+        &["000++", "000--", "+-000", "0+-00", "-+000", "0-+00"],
+        Some(SetRefused::NoElimination { i: 4, j: 3, e: 2 }),
     ),
     (4, &["-+-+", "+-+-"], None),
     (

@@ -22,7 +22,7 @@ use Rattle.om_members.proofs.ScanLaws.{nth_contained, contains_nth}
 
 -- ---- one axiom at one instance
 
-not_both_blocked : (members : List (List Sign)) (X Y : List Sign) (e : ℕ) → HasCovectorEliminatorIfAsked members X Y e → HasNoCovectorEliminator members X Y e → ⊥
+pub not_both_blocked : (members : List (List Sign)) (X Y : List Sign) (e : ℕ) → HasCovectorEliminatorIfAsked members X Y e → HasNoCovectorEliminator members X Y e → ⊥
 not_both_blocked members X Y e h v = v.none (h v.element v.separated)
 
 module _ (members : List (List Sign)) where

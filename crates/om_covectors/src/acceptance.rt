@@ -15,7 +15,11 @@ use om_signs::{List, MAX_ELEMENTS, MAX_MEMBERS, SignVec};
 use std::thread::Threads;
 
 /// The first violated instance of the axioms.
-fn first_violated(members: &[SignVec], elements: u8) -> Option<CovRefused>
+fn first_violated<R: Threads + Sync>(
+    rt: &R,
+    members: &[SignVec],
+    elements: u8,
+) -> Option<CovRefused>
     requires high { elements ≤ MAX_ELEMENTS }
     requires lengths { HaveLength elements members.now }
     requires few { length members.now ≤ MAX_MEMBERS }
@@ -28,13 +32,13 @@ fn first_violated(members: &[SignVec], elements: u8) -> Option<CovRefused>
     if let Some(i) = first_without_negative(members) {
         return Some(CovRefused::NoNegative { i: i as u32 + 1 });
     }
-    if let Some((i, j)) = first_uncomposed(members, elements) {
+    if let Some((i, j)) = first_uncomposed(rt, members, elements) {
         return Some(CovRefused::NoComposition {
             i: i as u32 + 1,
             j: j as u32 + 1,
         });
     }
-    let (i, j, e) = first_blocked(members, elements)?;
+    let (i, j, e) = first_blocked(rt, members, elements)?;
     Some(CovRefused::NoElimination {
         i: i as u32 + 1,
         j: j as u32 + 1,
@@ -48,7 +52,7 @@ fn first_violated(members: &[SignVec], elements: u8) -> Option<CovRefused>
 ///
 /// Source: Björner, Las Vergnas, Sturmfels, White and Ziegler, *Oriented Matroids*, chapter 4.
 pub fn check<R: Threads + Sync>(
-    _rt: &R,
+    rt: &R,
     elements: u8,
     list: List<SignVec>,
 ) -> Result<Covectors, BadCov>
@@ -63,7 +67,7 @@ pub fn check<R: Threads + Sync>(
     ensures unchanged { IfErr result (λ b. b.list ≡ list) }
     ensures first { IfErr result (λ b. IsFirstViolatedCovectorAxiom list b.why) }
 {
-    match first_violated(list.as_slice(), elements) {
+    match first_violated(rt, list.as_slice(), elements) {
         None => Ok(Covectors::lawful(elements, list)),
         Some(why) => Err(BadCov { list, why }),
     }

@@ -7,7 +7,9 @@ ghost use Rattle.om_members.specs.Scans.{AllBelow, IsFirstBad, IsFirstBadPair};
 ghost use Rattle.om_covectors.specs.Scans.{HasCompositionWith, HasNoCompositionWith, HasCompositionAt, HasNoCompositionAt};
 
 use om_members::{is_member, is_zero};
+use om_parallel::{Probe, first_bad};
 use om_signs::SignVec;
+use std::thread::Threads;
 
 /// Whether the zero vector is a member.
 pub fn has_zero(members: &[SignVec]) -> bool
@@ -35,16 +37,41 @@ fn first_uncomposed_with(members: &[SignVec], x: SignVec) -> Option<usize>
     None
 }
 
-/// The places of the first two members whose composition is no member.
-pub fn first_uncomposed(members: &[SignVec], elements: u8) -> Option<(usize, usize)>
+/// The members of a list, numbered from 0: a number is bad where the composition of its member and some member is no member.
+#[derive(Drop)]
+struct UncomposedMembers<'a> {
+    members: &'a [SignVec],
+    elements: u8,
+    ghost lengths: { HaveLength elements members.now },
+}
+
+impl Probe for UncomposedMembers<'_> {
+    ghost use Rattle.std.specs.Prelude.{length};
+    ghost use Rattle.om_members.specs.Scans.{AllBelow, IsBadBelow};
+    ghost use Rattle.om_covectors.specs.Scans.{HasCompositionAt};
+
+    ghost is_bad = { λ s. IsBadBelow (length s.members.now) (λ i. AllBelow (length s.members.now) (HasCompositionAt s.members.now i)) };
+
+    fn bad(&self, k: u64) -> bool {
+        if k >= self.members.len() as u64 {
+            return false;
+        }
+        first_uncomposed_with(self.members, self.members[k as usize]).is_some()
+    }
+}
+
+/// The places of the first two members whose composition is no member. The first members are shared out among threads.
+pub fn first_uncomposed<R: Threads + Sync>(
+    rt: &R,
+    members: &[SignVec],
+    elements: u8,
+) -> Option<(usize, usize)>
     requires { HaveLength elements members.now }
     ensures none { IfNone result (AllBelow (length members.now) (λ i. AllBelow (length members.now) (HasCompositionAt members.now i))) }
     ensures first { IfSome result (λ p. IsFirstBadPair (length members.now) (length members.now) (HasNoCompositionAt members.now) (HasCompositionAt members.now) p.0 p.1) }
 {
-    for (i, x) in members.iter().enumerate() {
-        if let Some(j) = first_uncomposed_with(members, *x) {
-            return Some((i, j));
-        }
-    }
-    None
+    let uncomposed = UncomposedMembers { members, elements };
+    let i = first_bad(rt, &uncomposed, members.len() as u64)? as usize;
+    let j = first_uncomposed_with(members, members[i])?;
+    Some((i, j))
 }

@@ -52,7 +52,7 @@ const PLANE: &[&str] = &[
     "000", "+++", "0++", "---", "0--", "++-", "+0-", "--+", "-0+", "+--", "++0", "-++", "--0",
 ];
 
-const ROWS: [(u8, &[&str], Option<CovRefused>); 10] = [
+const ROWS: [(u8, &[&str], Option<CovRefused>); 12] = [
     (1, &[], Some(CovRefused::NoZero)),
     (1, &["+", "-"], Some(CovRefused::NoZero)),
     (1, &["0", "+"], Some(CovRefused::NoNegative { i: 2 })),
@@ -72,6 +72,20 @@ const ROWS: [(u8, &[&str], Option<CovRefused>); 10] = [
             "000", "+++", "0++", "---", "0--", "++-", "--+", "+--", "++0", "-++", "--0",
         ],
         Some(CovRefused::NoElimination { i: 2, j: 5, e: 2 }),
+    ),
+    (
+        3,
+        &["000", "+-+", "-+-", "-+0", "+-0"],
+        Some(CovRefused::NoComposition { i: 4, j: 2 }),
+    ),
+    (
+        3,
+        &[
+            "---", "--+", "-0-", "-0+", "-+-", "-++", "000", "+--", "+-+", "+0-", "+0+", "++-",
+            "+++", "--0", "-00", "-+0", "0--", "0-+", "00-", "00+", "0+-", "0++", "+-0", "+00",
+            "++0",
+        ],
+        Some(CovRefused::NoElimination { i: 14, j: 23, e: 1 }),
     ),
     (1, &["0"], None),
     (1, &["0", "+", "-"], None),

@@ -1,3 +1,4 @@
 pub mod MaskLaws
 pub mod ScanLaws
 pub mod OrderLaws
+pub mod DecisionLaws

@@ -12,6 +12,11 @@ nth members k = slice_index_or members k []
 abbrev pub AllBelow : ℕ → (ℕ → Type 0) → Type 0
 AllBelow n Good = (k : ℕ) → k < n → Good k
 
+-- the number is below n, and isn't good
+pub record IsBadBelow (n : ℕ) (Good : ℕ → Type 0) (k : ℕ) : Type 0 where
+  pub within : k < n
+  pub not_good : Good k → ⊥
+
 -- the first bad number below n: those before it are good
 pub record IsFirstBad (n : ℕ) (Bad Good : ℕ → Type 0) (k : ℕ) : Type 0 where
   pub within : k < n

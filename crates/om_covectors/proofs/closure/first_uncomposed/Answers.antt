@@ -1,18 +1,11 @@
-use Rattle.std.proofs.Common.{length, below_more, sym, subst}
-use Rattle.om_members.specs.Scans.{AllBelow, IsFirstBad}
-use Rattle.om_covectors.specs.Scans.{HasCompositionWith, HasNoCompositionWith, HasCompositionAt}
-use Rattle.om_members.proofs.ScanLaws.{nth_read}
+use Rattle.om_covectors.proofs.DecisionLaws.{all_composed, uncomposed_found, some_uncomposed}
 use Rattle.om_covectors.proofs.closure.first_uncomposed.Goals as goal
 
-pub returns-in-Some-clause-first : goal.returns-in-Some-clause-first
-returns-in-Some-clause-first c = record {
-  within = c.loop-i-test.true;
-  second = subst (λ X. IsFirstBad (length c.args.members.now) (HasNoCompositionWith c.args.members.now X) (HasCompositionWith c.args.members.now X) c.in-Some.j)
-      (sym (nth_read c.args.members.now c.loop-i.i c.index-members-i.result c.loop-i-test.true c.index-members-i.is)) c.in-Some.ensures.first;
-  before = c.loop-i.invariant;
-}
+pub returns-in_err-i-clause-none : goal.returns-in_err-i-clause-none
+returns-in_err-i-clause-none g c = rw c.from_residual.ensures (all_composed c.args.members.now c.in_err-i.ensures)
 
-pub loop-i-preserved : goal.loop-i-preserved
-loop-i-preserved c = below_more (λ i. AllBelow (length c.args.members.now) (HasCompositionAt c.args.members.now i)) c.loop-i.i c.loop-i.invariant
-    (subst (λ X. AllBelow (length c.args.members.now) (HasCompositionWith c.args.members.now X))
-    (sym (nth_read c.args.members.now c.loop-i.i c.index-members-i.result c.loop-i-test.true c.index-members-i.is)) c.in_default.ensures.none)
+pub returns-in_err-j-clause-none : goal.returns-in_err-j-clause-none
+returns-in_err-j-clause-none g c = absurd (some_uncomposed c.args.members.now c.in_ok-i.i c.index-members-i.result c.index-members-i.is c.in_ok-i.ensures c.in_err-j.ensures.none)
+
+pub returns-clause-first : goal.returns-clause-first
+returns-clause-first g c = uncomposed_found c.args.members.now c.in_ok-i.i c.in_ok-j.j c.index-members-i.result c.index-members-i.is c.in_ok-i.ensures c.in_ok-j.ensures.first
