@@ -1,6 +1,7 @@
 ghost use Rattle.std.specs.Prelude.{◌≡◌, ◌<◌, ◌≤◌, ◌↔◌, [], length, IsTrue, IfOk, IfErr, OnOk, slice_get, Some};
-ghost use Rattle.om_members.specs.Listings.{HaveLength};
-ghost use Rattle.om_convert.specs.Gathering.{IsMemberSet, IsOldOrAdded, IsExtendedBy, IsNonzeroUpToSign, IsComposedWith};
+ghost use Rattle.std.specs.List.{Contains};
+ghost use Rattle.om_members.specs.Listings.{HaveLength, AreDistinct};
+ghost use Rattle.om_convert.specs.Gathering.{IsMemberSet, HaveTheSame, IsOldOrAdded, IsExtendedBy, IsNonzeroUpToSign, IsComposedWith};
 ghost use Rattle.om_convert.specs.Limits.{IsCause};
 
 use super::convert_error::ConvertError;
@@ -67,6 +68,29 @@ impl MemberSet {
         self.set.len() >= MAX_MEMBERS
     }
 
+    /// Whether a vector is a member.
+    pub fn contains(&self, x: SignVec) -> bool
+        ensures { IsTrue result ↔ Contains self.now x }
+    {
+        self.set.contains(&x)
+    }
+
+    /// Whether the members are those of a list in which no vector stands twice, in whatever order.
+    pub fn is_set_of(&self, list: &[SignVec]) -> bool
+        requires { AreDistinct list.now }
+        ensures { IsTrue result ↔ HaveTheSame self.now list.now }
+    {
+        if self.len() != list.len() {
+            return false;
+        }
+        for x in list {
+            if !self.contains(*x) {
+                return false;
+            }
+        }
+        true
+    }
+
     /// Adds a vector at the end, if it is no member.
     ///
     /// [`ConvertError::TooMany`] comes exactly where it is no member and there are as many as may be, and then names their
@@ -75,7 +99,7 @@ impl MemberSet {
         ensures added { OnOk result (IsExtendedBy (λ X. X ≡ x) self.old self.new) }
         ensures many { IfErr result (IsCause (IsOldOrAdded self.old (λ X. X ≡ x))) }
     {
-        if self.set.contains(&x) {
+        if self.contains(x) {
             return Ok(());
         }
         if self.is_full() {
