@@ -99,7 +99,7 @@ impl MemberSet {
         ensures added { OnOk result (IsExtendedBy (λ X. X ≡ x) self.old self.new) }
         ensures many { IfErr result (IsCause (IsOldOrAdded self.old (λ X. X ≡ x))) }
     {
-        if self.contains(x) {
+        if self.set.contains(&x) {
             return Ok(());
         }
         if self.is_full() {
