@@ -148,6 +148,16 @@ cause_gathered P Q R p q old e h c = cause_of_cause (IsOldOrAdded old Q) R (λ X
 abbrev pub IsComposedBelow : List Sign → List (List Sign) → ℕ → List Sign → Type 0
 IsComposedBelow X Ys k Z = (i : ℕ) × (i < k) × (i < length Ys) × (Z ≡ compose X (get_or Ys i []))
 
+-- those that are composed so far were added, and two vectors are members
+pub record AreComposedBelow (X : List Sign) (Ys : List (List Sign)) (k : ℕ) (old new : List (List Sign)) (before last : List Sign) : Type 0 where
+  pub added : IsExtendedBy (IsComposedBelow X Ys k) old new
+  pub first : Contains new before
+  pub second : Contains new last
+
+-- a member stays one
+pub still_member : (P : List Sign → Type 0) (old new : List (List Sign)) (X : List Sign) → IsExtendedBy P old new → Contains old X → Contains new X
+still_member P old new X h c = subst (λ l. Contains l X) (sym h.kept) (Contains-append_left old h.rest X c)
+
 pub none_composed : (X : List Sign) (Ys : List (List Sign)) (old : List (List Sign)) → IsExtendedBy (IsComposedBelow X Ys 0) old old
 none_composed X Ys old = unchanged (IsComposedBelow X Ys 0) old (λ Z h. let l = h.1 in absurd (omega (arith, l)))
 

@@ -7,3 +7,4 @@ pub mod PlaceLaws
 pub mod KeyLaws
 pub mod ChirotopeLaws
 pub mod SameFamilies
+pub mod SameMembers

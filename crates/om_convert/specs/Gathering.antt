@@ -1,5 +1,5 @@
 -- Lists of distinct sign vectors that grow at their end.
-use Rattle.std.specs.Prelude.{◌≡◌, ◌⊎◌, ◌≤◌, List, ◌++◌, length}
+use Rattle.std.specs.Prelude.{◌≡◌, ◌⊎◌, ◌≤◌, ◌↔◌, List, ◌++◌, length}
 use Rattle.std.specs.List.{Contains}
 use Rattle.om_signs.specs.declared.sign.Sign.{Sign}
 use Rattle.om_signs.specs.declared.limits.TheConstants.{MAX_MEMBERS}
@@ -11,6 +11,10 @@ use Rattle.om_denotation.specs.Circuits.{HasNonzero, IsUpToSign}
 pub record IsMemberSet (members : List (List Sign)) : Type 0 where
   pub distinct : AreDistinct members
   pub few : length members ≤ MAX_MEMBERS
+
+-- two lists with the same vectors
+abbrev pub HaveTheSame : List (List Sign) → List (List Sign) → Type 0
+HaveTheSame xs ys = (X : List Sign) → Contains xs X ↔ Contains ys X
 
 -- a member, or one of the vectors that are added
 abbrev pub IsOldOrAdded : List (List Sign) → (List Sign → Type 0) → List Sign → Type 0

@@ -2,3 +2,4 @@ pub mod Families
 pub mod Limits
 pub mod Gathering
 pub mod Compositions
+pub mod Reading

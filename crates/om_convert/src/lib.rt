@@ -14,6 +14,10 @@ mod covectors;
 mod laws;
 mod lists;
 mod member_set;
+mod read_error;
+mod reading;
+#[cfg(test)]
+mod reading_tests;
 #[cfg(test)]
 mod tests;
 mod vectors;
@@ -30,3 +34,5 @@ pub use lists::{
     covectors_to_chirotope, covectors_to_circuits,
 };
 pub use om_propagation::{circuits_to_chirotope, cocircuits_to_chirotope};
+pub use read_error::{ReadCovError, ReadSetError};
+pub use reading::{read_circuits, read_cocircuits, read_covectors};

@@ -1,10 +1,12 @@
 ghost use Rattle.std.specs.Prelude.{◌≡◌, ◌<◌, ◌≤◌, ◌↔◌, [], length, IsTrue, IfOk, IfErr, OnOk, slice_get, Some};
-ghost use Rattle.om_members.specs.Listings.{HaveLength};
-ghost use Rattle.om_convert.specs.Gathering.{IsMemberSet, IsOldOrAdded, IsExtendedBy, IsNonzeroUpToSign, IsComposedWith};
+ghost use Rattle.std.specs.List.{Contains};
+ghost use Rattle.om_members.specs.Listings.{HaveLength, AreDistinct};
+ghost use Rattle.om_convert.specs.Gathering.{IsMemberSet, HaveTheSame, IsOldOrAdded, IsExtendedBy, IsNonzeroUpToSign, IsComposedWith};
 ghost use Rattle.om_convert.specs.Limits.{IsCause};
 
 use super::convert_error::ConvertError;
 use indexmap::IndexSet;
+use om_members::are_same;
 use om_signs::{List, MAX_MEMBERS, NoMemory, SignVec};
 use std::alloc::Global;
 use std::marker::Model;
@@ -67,6 +69,29 @@ impl MemberSet {
         self.set.len() >= MAX_MEMBERS
     }
 
+    /// Whether a vector is a member.
+    pub fn contains(&self, x: SignVec) -> bool
+        ensures { IsTrue result ↔ Contains self.now x }
+    {
+        self.set.contains(&x)
+    }
+
+    /// Whether the members are those of a list in which no vector stands twice, in whatever order.
+    pub fn is_set_of(&self, list: &[SignVec]) -> bool
+        requires { AreDistinct list.now }
+        ensures { IsTrue result ↔ HaveTheSame self.now list.now }
+    {
+        if self.len() != list.len() {
+            return false;
+        }
+        for x in list {
+            if !self.contains(*x) {
+                return false;
+            }
+        }
+        true
+    }
+
     /// Adds a vector at the end, if it is no member.
     ///
     /// [`ConvertError::TooMany`] comes exactly where it is no member and there are as many as may be, and then names their
@@ -103,17 +128,47 @@ impl MemberSet {
         Ok(())
     }
 
-    /// Adds the compositions of `x` with each vector of `ys` at the end, as far as they are no members. All have as many
-    /// places as `x`.
+    /// Adds a vector at the end, if it is no member. Two members are looked at first.
+    ///
+    /// The errors are those of [`MemberSet::insert`].
+    fn insert_beside(
+        &mut self,
+        x: SignVec,
+        first: SignVec,
+        second: SignVec,
+    ) -> Result<(), ConvertError>
+        requires first { Contains self.old first }
+        requires second { Contains self.old second }
+        ensures added { OnOk result (IsExtendedBy (λ X. X ≡ x) self.old self.new) }
+        ensures many { IfErr result (IsCause (IsOldOrAdded self.old (λ X. X ≡ x))) }
+    {
+        if are_same(x, first) {
+            return Ok(());
+        }
+        if are_same(x, second) {
+            return Ok(());
+        }
+        self.insert(x)
+    }
+
+    /// Adds the compositions of the member `x` with each vector of `ys` at the end, as far as they are no members. All have as
+    /// many places as `x`. The last two compositions are looked at first: where a vector and its negative stand side by side,
+    /// the next composition is most often one of these.
     ///
     /// The errors are those of [`MemberSet::insert`].
     pub fn insert_composed(&mut self, x: SignVec, ys: &[SignVec]) -> Result<(), ConvertError>
-        requires { HaveLength (length x) ys.now }
+        requires member { Contains self.old x }
+        requires lengths { HaveLength (length x) ys.now }
         ensures added { OnOk result (IsExtendedBy (IsComposedWith x ys.now) self.old self.new) }
         ensures many { IfErr result (IsCause (IsOldOrAdded self.old (IsComposedWith x ys.now))) }
     {
+        let mut before = x;
+        let mut last = x;
         for y in ys {
-            self.insert(x.compose(*y))?;
+            let composed = x.compose(*y);
+            self.insert_beside(composed, before, last)?;
+            before = last;
+            last = composed;
         }
         Ok(())
     }

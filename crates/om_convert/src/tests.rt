@@ -24,18 +24,18 @@ use std::thread::Threads;
 
 /// One oriented matroid in its representations. The covectors are as many as `count`, with some among them.
 #[derive(Clone, Copy)]
-struct Row<'a> {
-    rank: u8,
-    elements: u8,
-    signs: &'a str,
-    text: &'a str,
-    circuits: &'a [&'a str],
-    cocircuits: &'a [&'a str],
-    count: usize,
-    covectors: &'a [&'a str],
+pub struct Row<'a> {
+    pub rank: u8,
+    pub elements: u8,
+    pub signs: &'a str,
+    pub text: &'a str,
+    pub circuits: &'a [&'a str],
+    pub cocircuits: &'a [&'a str],
+    pub count: usize,
+    pub covectors: &'a [&'a str],
 }
 
-const ROWS: [Row; 7] = [
+pub const ROWS: [Row; 7] = [
     // The signs without 1, 2, 3 and 4 in turn are all plus, so the one vector V has the signs -+-+. Of the 81 vectors of four
     // signs 51 are orthogonal to it: 15 nonzero ones have products with it that are plus or zero, and 15 have such that are
     // minus or zero.

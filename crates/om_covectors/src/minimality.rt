@@ -15,7 +15,9 @@ fn has_smaller_support(y: SignVec, x: SignVec) -> bool
     inner != 0 && inner & !outer == 0 && outer & !inner != 0
 }
 
-/// Whether a vector is not zero and no nonzero member has its support strictly inside.
+/// Whether a vector is not zero and no nonzero member has its support strictly inside. It takes no memory.
+///
+/// Source: Björner, Las Vergnas, Sturmfels, White and Ziegler, *Oriented Matroids*, chapter 3.
 pub fn is_minimal(members: &[SignVec], x: SignVec) -> bool
     ensures { IsTrue result ↔ IsMinimal members.now x }
 {

@@ -1,4 +1,6 @@
-ghost use Rattle.std.specs.Prelude.{◌≡◌, ◌↔◌, ◌≤◌, length, IsOk, OnOk, IfOk, IfErr};
+ghost use Rattle.std.specs.Prelude.{ℕ, ◌≡◌, ◌↔◌, ◌≤◌, List, length, IsOk, OnOk, IfOk, IfErr};
+ghost use Rattle.om_signs.specs.declared.sign.Sign.{Sign};
+ghost use Rattle.om_convert.specs.Reading.{IsSetReadError, IsCovReadError};
 ghost use Rattle.om_text.specs.Form.{IsInForm, AreMembersOn};
 ghost use Rattle.om_circuits.specs.Axioms.{MeetsCircuitAxioms};
 ghost use Rattle.om_covectors.specs.Axioms.{MeetsCovectorAxioms};
@@ -13,7 +15,8 @@ use crate::unrepresented::Unrepresented;
 use crate::wiring_maps::chirotope_of_wiring;
 use om_answer::Line;
 use om_chirotope::{Chirotope, MapRefused};
-use om_circuits::{Circuits, Cocircuits, SetRefused, SignedSet};
+use om_circuits::{Circuits, Cocircuits, SetRefused};
+use om_convert::{ReadCovError, ReadSetError, read_circuits, read_cocircuits, read_covectors};
 use om_covectors::{CovRefused, Covectors};
 use om_signs::{List, MAX_ELEMENTS, RawMap, SignVec};
 use om_text::{Body, Document};
@@ -61,15 +64,15 @@ pub fn represent<R: Threads + Sync>(
     match body {
         Body::Chirotope(raw) => Ok(Representation::Chirotope(check_map(rt, raw)?)),
         Body::Circuits(list) => {
-            let set = check_set(rt, elements, list)?;
-            Ok(Representation::Circuits(Circuits(set)))
+            let circuits = check_circuits(rt, alloc, elements, list)?;
+            Ok(Representation::Circuits(circuits))
         }
         Body::Cocircuits(list) => {
-            let set = check_set(rt, elements, list)?;
-            Ok(Representation::Cocircuits(Cocircuits(set)))
+            let cocircuits = check_cocircuits(rt, alloc, elements, list)?;
+            Ok(Representation::Cocircuits(cocircuits))
         }
         Body::Covectors(list) => {
-            let covectors = check_covectors(rt, elements, list)?;
+            let covectors = check_covectors(rt, alloc, elements, list)?;
             Ok(Representation::Covectors(covectors))
         }
         Body::Wiring(blocks) => Ok(Representation::Chirotope(chirotope_of_wiring(
@@ -107,22 +110,53 @@ fn map_refusal(why: MapRefused) -> Line
     }
 }
 
-/// The set of the members of a list, or the line that refuses the list.
-fn check_set<R: Threads + Sync>(
+/// The circuits of a list, or why they are none: the line that refuses the list, or want of memory.
+fn check_circuits<R: Threads + Sync>(
     rt: &R,
+    alloc: Global,
     elements: u8,
     list: List<SignVec>,
-) -> Result<SignedSet, Unrepresented>
+) -> Result<Circuits, Unrepresented>
     requires low { 1 ≤ elements }
     requires high { elements ≤ MAX_ELEMENTS }
     requires members { AreMembersOn elements list }
-    ensures accepted { IsOk result ↔ MeetsCircuitAxioms list }
-    ensures value { IfOk result (λ set. set ≡ record { elements = elements; members = list }) }
+    ensures accepted { OnOk result (MeetsCircuitAxioms list) }
+    ensures value { IfOk result (λ c. c.0 ≡ record { elements = elements; members = list }) }
     ensures refused { IfErr result (IsRefusal elements (Body.Circuits list)) }
 {
-    match om_circuits::check(rt, elements, list) {
+    match read_circuits(rt, alloc, elements, list) {
         Ok(set) => Ok(set),
-        Err(bad) => Err(Unrepresented::Refused(set_refusal(bad.why))),
+        Err(error) => Err(unread_set(error)),
+    }
+}
+
+/// The cocircuits of a list, or why they are none: the line that refuses the list, or want of memory.
+fn check_cocircuits<R: Threads + Sync>(
+    rt: &R,
+    alloc: Global,
+    elements: u8,
+    list: List<SignVec>,
+) -> Result<Cocircuits, Unrepresented>
+    requires low { 1 ≤ elements }
+    requires high { elements ≤ MAX_ELEMENTS }
+    requires members { AreMembersOn elements list }
+    ensures accepted { OnOk result (MeetsCircuitAxioms list) }
+    ensures value { IfOk result (λ c. c.0 ≡ record { elements = elements; members = list }) }
+    ensures refused { IfErr result (IsRefusal elements (Body.Cocircuits list)) }
+{
+    match read_cocircuits(rt, alloc, elements, list) {
+        Ok(set) => Ok(set),
+        Err(error) => Err(unread_set(error)),
+    }
+}
+
+/// Why a list gives no circuits or cocircuits: the line that refuses it, or want of memory.
+fn unread_set(error: ReadSetError) -> Unrepresented
+    ensures { (n : ℕ) (list : List (List Sign)) → IsSetReadError list error → IsRefusal n (Body.Circuits list) result }
+{
+    match error {
+        ReadSetError::Bad(bad) => Unrepresented::Refused(set_refusal(bad.why)),
+        ReadSetError::Memory(_) => Unrepresented::Memory,
     }
 }
 
@@ -138,22 +172,33 @@ fn set_refusal(why: SetRefused) -> Line
     }
 }
 
-/// The covectors of a list, or the line that refuses the list.
+/// The covectors of a list, or why they are none: the line that refuses the list, or want of memory.
 fn check_covectors<R: Threads + Sync>(
     rt: &R,
+    alloc: Global,
     elements: u8,
     list: List<SignVec>,
 ) -> Result<Covectors, Unrepresented>
     requires low { 1 ≤ elements }
     requires high { elements ≤ MAX_ELEMENTS }
     requires members { AreMembersOn elements list }
-    ensures accepted { IsOk result ↔ MeetsCovectorAxioms list }
+    ensures accepted { OnOk result (MeetsCovectorAxioms list) }
     ensures value { IfOk result (λ set. set ≡ record { elements = elements; members = list }) }
     ensures refused { IfErr result (IsRefusal elements (Body.Covectors list)) }
 {
-    match om_covectors::check(rt, elements, list) {
-        Ok(set) => Ok(set),
-        Err(bad) => Err(Unrepresented::Refused(covector_refusal(bad.why))),
+    match read_covectors(rt, alloc, elements, list) {
+        Ok(covectors) => Ok(covectors),
+        Err(error) => Err(unread_covectors(error)),
+    }
+}
+
+/// Why a list gives no covectors: the line that refuses it, or want of memory.
+fn unread_covectors(error: ReadCovError) -> Unrepresented
+    ensures { (n : ℕ) (list : List (List Sign)) → IsCovReadError list error → IsRefusal n (Body.Covectors list) result }
+{
+    match error {
+        ReadCovError::Bad(bad) => Unrepresented::Refused(covector_refusal(bad.why)),
+        ReadCovError::Memory(_) => Unrepresented::Memory,
     }
 }
 

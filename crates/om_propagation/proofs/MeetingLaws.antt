@@ -50,7 +50,7 @@ use Rattle.om_denotation.proofs.Rules.{same_maps}
 use Rattle.om_denotation.proofs.NormalForms.{normal_elements}
 use Rattle.om_denotation.proofs.Uniqueness.{normal_axioms}
 use Rattle.om_denotation.proofs.DualMaps.{dual_tuples, dual_axioms}
-use Rattle.om_propagation.specs.Hitting.{IsMet, MeetsEach, MissesSome, IsNarrowed, IsLeastMeeting, IsNormalOf, AreFirstSigns}
+use Rattle.om_propagation.specs.Hitting.{IsMet, MeetsEach, MissesSome, IsNarrowed, IsLeastMeeting, IsNormalOf, IsEachNormalOf, AreFirstSigns}
 use Rattle.om_propagation.proofs.HittingLaws.{meets_or_zero}
 use Rattle.om_propagation.proofs.CarryLaws.{met_list, least_size}
 
@@ -215,15 +215,14 @@ signs_more n rank members k old new s h q here = record {
     long = ap length q ∙ length-append old (s ∷ []) ∙ (let z = h.size in let one : length (s ∷ []) ≡ 1 = refl in omega (arith, z, one))
 
 -- all signs
-pub signs_are : (n rank : ℕ) (members : List (List Sign)) (k : ℕ) (signs : List Sign) → AreSigns n rank members k signs → k ≡ choose n rank → (m : SignMap) → IsNormalOf n members m → m.rank ≡ rank
-    → IsNormalOf n members (record { rank = rank; elements = n; signs = signs })
+pub signs_are : (n rank : ℕ) (members : List (List Sign)) (k : ℕ) (signs : List Sign) → AreSigns n rank members k signs → k ≡ choose n rank → IsEachNormalOf n members (record { rank = rank; elements = n; signs = signs })
 signs_are n rank members k signs h q m hm r =
     let whole : length m.signs ≡ choose n rank = hm.axioms.whole.whole ∙ ap (λ i. choose i m.rank) hm.elements ∙ ap (choose n) r in
     let same : signs ≡ m.signs = ext_get_or Zero signs m.signs (h.size ∙ q ∙ sym whole) (λ j l. h.first m hm r j l) in
-    subst (IsNormalOf n members) (both m r hm.elements signs same) hm
+    sym (both r hm.elements signs same)
   where
-    both : (m : SignMap) → m.rank ≡ rank → m.elements ≡ n → (xs : List Sign) → xs ≡ m.signs → m ≡ record { rank = rank; elements = n; signs = xs }
-    both m r e xs s = rw (sym r, sym e, s) refl
+    both : m.rank ≡ rank → m.elements ≡ n → (xs : List Sign) → xs ≡ m.signs → m ≡ record { rank = rank; elements = n; signs = xs }
+    both r e xs s = rw (sym r, sym e, s) refl
 
 pub denotes : (c : Listing) (m : SignMap) → IsNormalOf c.elements c.members m → DenoteTheSame c.elements (IsCovectorOfCocircuits c) (IsCovectorOfChirotope m)
 denotes c m h X l =
@@ -252,14 +251,14 @@ pub signs_pushed : (n rank : ℕ) (members : List (List Sign)) (k i : ℕ) (old 
 signs_pushed n rank members k i old new slice s t h q l w p here = signs_more n rank members k old new s h p
     (λ m hm r. here m (subst (λ j. IsNormalOf j members m) (sym q) hm) (r ∙ sym l) ∙ ap (λ xs. at m.signs (length xs)) w)
 
-pub made_normal : (c : Listing) → IsSignedSet c.elements c.members → (n rank : ℕ) (vectors : List (List Sign)) (s : List ℕ) (k : ℕ) (signs : List Sign) → n ≡ c.elements → vectors ≡ c.members
-    → IsSubsetFrom 1 n s → IsLeastMeeting vectors s → rank ≡ length s → AreSigns n rank vectors k signs → k ≡ choose n rank → IsNormalOf c.elements c.members (record { rank = rank; elements = n; signs = signs })
-made_normal c v n rank vectors s k signs q w list least r h e =
+pub made_normal : (c : Listing) → IsSignedSet c.elements c.members → (n : ℕ) (vectors : List (List Sign)) (s : List ℕ) (map : SignMap) → n ≡ c.elements → vectors ≡ c.members
+    → IsSubsetFrom 1 n s → IsLeastMeeting vectors s → map.rank ≡ length s → IsEachNormalOf n vectors map → IsNormalOf c.elements c.members map
+made_normal c v n vectors s map q w list least r each =
     let of = normal_of c v.lengths v.axioms in
     let of' : IsNormalOf n vectors of.0 = subst (λ i. IsNormalOf i vectors of.0) (sym q) (subst (λ l. IsNormalOf c.elements l of.0) (sym w) of.1) in
     let size : length s ≡ of.0.rank = least_size n vectors of.0 of' s (subst (λ i. IsSubsetFrom 1 i s) (sym of'.elements) list) least in
-    let made = signs_are n rank vectors k signs h e of.0 of' (sym size ∙ sym r) in
-    subst (λ i. IsNormalOf i c.members (record { rank = rank; elements = n; signs = signs })) q (subst (λ l. IsNormalOf n l (record { rank = rank; elements = n; signs = signs })) w made)
+    let same : map ≡ of.0 = each of.0 of' (sym size ∙ sym r) in
+    subst (IsNormalOf c.elements c.members) (sym same) of.1
 
 -- ---- circuits
 

@@ -45,6 +45,10 @@ pub record IsNormalOf (n : ℕ) (members : List (List Sign)) (m : SignMap) : Typ
 abbrev pub AreFirstSigns : ℕ → ℕ → List (List Sign) → List Sign → Type 0
 AreFirstSigns n rank members signs = (m : SignMap) → IsNormalOf n members m → m.rank ≡ rank → (k : ℕ) → k < length signs → at signs k ≡ at m.signs k
 
+-- the sign at a place of each normal chirotope of the list
+abbrev pub IsNextSign : ℕ → ℕ → List (List Sign) → ℕ → Sign → Type 0
+IsNextSign n rank members k s = (m : SignMap) → IsNormalOf n members m → m.rank ≡ rank → s ≡ at m.signs k
+
 -- the sign of the set a with e, by a vector y that is zero on a, from the sign s of the set a with h
 abbrev pub carried_sign : List ℕ → ℕ → ℕ → List Sign → Sign → Sign
 carried_sign a e h y s = product (product (product (product (parity_sign (count_above e a)) (parity_sign (count_above h a))) (place y e)) (place y h)) s
@@ -71,3 +75,7 @@ pub record IsLeastAt (members : List (List Sign)) (t : List ℕ) (e : ℕ) : Typ
 -- no sign is carried to t over its element e: t without e meets each vector, or no smaller element takes the place of e
 abbrev pub HasNoneCarried : List (List Sign) → List ℕ → ℕ → Type 0
 HasNoneCarried members t e = IsMember e t → MeetsEach members (without_element e t) ⊎ IsLeastAt members t e
+
+-- each normal chirotope of the list that has the rank of the map
+abbrev pub IsEachNormalOf : ℕ → List (List Sign) → SignMap → Type 0
+IsEachNormalOf n members map = (m : SignMap) → IsNormalOf n members m → m.rank ≡ map.rank → map ≡ m

@@ -9,4 +9,7 @@ mod signs;
 #[cfg(test)]
 mod tests;
 
-pub use propagation::{chirotope_of, circuits_to_chirotope, cocircuits_to_chirotope};
+pub use hitting::{first_missed, least_meeting};
+pub use propagation::{
+    chirotope_of, circuits_to_chirotope, cocircuits_to_chirotope, propagated_map,
+};

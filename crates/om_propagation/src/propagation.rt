@@ -1,23 +1,59 @@
 //! The chirotope of a set of cocircuits, and that of a set of circuits.
 
-ghost use Rattle.std.specs.Prelude.{◌≡◌, IfOk};
+ghost use Rattle.std.specs.Prelude.{◌≡◌, ◌≤◌, IfOk, length};
 ghost use Rattle.om_signs.specs.declared.sign.Sign.TheVariants.{Plus};
-ghost use Rattle.om_chirotope.specs.Map.{IsLedBy};
+ghost use Rattle.om_chirotope.specs.Map.{IsLedBy, map_of};
 ghost use Rattle.om_denotation.specs.Circuits.{IsCircuitOfChirotope, IsCocircuitOfChirotope};
 ghost use Rattle.om_denotation.specs.Covectors.{IsCovectorOfChirotope, IsCovectorOfCircuits, IsCovectorOfCocircuits};
 ghost use Rattle.om_denotation.specs.Denotation.{DenoteTheSame};
 ghost use Rattle.om_denotation.specs.Listings.{AreAllOf};
 ghost use Rattle.om_denotation.specs.Only.{IsOnlyChirotope};
-ghost use Rattle.om_propagation.specs.Hitting.{IsNormalOf};
+ghost use Rattle.om_propagation.specs.Hitting.{IsNormalOf, IsEachNormalOf};
+ghost use Rattle.om_members.specs.Listings.{HaveLength};
+ghost use Rattle.om_subsets.specs.Subsets.{choose};
 
 use super::hitting::least_meeting;
 use super::signs::sign_of;
 use om_chirotope::Chirotope;
 use om_circuits::{Circuits, Cocircuits, SignedSet};
 use om_denotation::dual;
-use om_signs::{List, NoMemory, RawMap};
+use om_signs::{List, MAX_ELEMENTS, NoMemory, RawMap, SignVec};
 use om_subsets::Subset;
 use std::alloc::Global;
+
+/// The map of this rank, at most `elements`, whose signs are carried from neighbouring sets by the vectors, each of which has
+/// `elements` signs. Where the vectors are the cocircuits of a chirotope of this rank, it is the normal one; from other
+/// vectors it is some map. Its signs take their memory from `alloc`.
+///
+/// [`NoMemory`] comes only for want of memory.
+///
+/// Source: Björner, Las Vergnas, Sturmfels, White and Ziegler, *Oriented Matroids*, chapter 3.
+pub fn propagated_map(
+    alloc: Global,
+    vectors: &[SignVec],
+    rank: u8,
+    elements: u8,
+) -> Result<RawMap, NoMemory>
+    requires part { rank ≤ elements }
+    requires high { elements ≤ MAX_ELEMENTS }
+    requires lengths { HaveLength elements vectors.now }
+    ensures rank { IfOk result (λ raw. raw.rank ≡ rank) }
+    ensures elements { IfOk result (λ raw. raw.elements ≡ elements) }
+    ensures whole { IfOk result (λ raw. length raw.signs ≡ choose elements rank) }
+    ensures normal { IfOk result (λ raw. IsEachNormalOf elements vectors.now (map_of raw)) }
+{
+    let mut signs = List::new(alloc);
+    for k in 0..Subset::choose(elements, rank) {
+        let t = Subset::unrank(k, rank, elements);
+        let sign = sign_of(vectors, signs.as_slice(), t);
+        signs.push(sign)?;
+    }
+    Ok(RawMap {
+        rank,
+        elements,
+        signs,
+    })
+}
 
 /// The normal chirotope whose cocircuits are the members of a set. Its signs take their memory from `alloc`.
 ///
@@ -32,17 +68,8 @@ pub fn chirotope_of(alloc: Global, set: &SignedSet) -> Result<Chirotope, NoMemor
     let elements = set.elements();
     let vectors = set.members();
     let rank = least_meeting(elements, vectors).size();
-    let mut signs = List::new(alloc);
-    for k in 0..Subset::choose(elements, rank) {
-        let t = Subset::unrank(k, rank, elements);
-        let sign = sign_of(vectors, signs.as_slice(), t);
-        signs.push(sign)?;
-    }
-    Ok(Chirotope::lawful(RawMap {
-        rank,
-        elements,
-        signs,
-    }))
+    let raw = propagated_map(alloc, vectors, rank, elements)?;
+    Ok(Chirotope::lawful(raw))
 }
 
 /// The normal chirotope with these cocircuits. Both have the same elements and denote the same oriented matroid, and it is the

@@ -3,9 +3,9 @@
 ghost use Rattle.std.specs.Prelude.{ℕ, ◌≡◌, ◌≢◌, ◌≤◌, ◌<◌, IfSome, IfNone, length};
 ghost use Rattle.om_signs.specs.SignVec.{at, place};
 ghost use Rattle.om_subsets.specs.Subsets.{IsSubsetFrom, count_above, rank_of};
-ghost use Rattle.om_chirotope.specs.Map.{SignMap, parity_sign};
+ghost use Rattle.om_chirotope.specs.Map.{parity_sign};
 ghost use Rattle.om_members.specs.Listings.{HaveLength};
-ghost use Rattle.om_propagation.specs.Hitting.{MeetsEach, IsNormalOf, AreFirstSigns, carried_sign, IsCarried, HasNoneCarried};
+ghost use Rattle.om_propagation.specs.Hitting.{MeetsEach, AreFirstSigns, IsNextSign, carried_sign, IsCarried, HasNoneCarried};
 
 use super::hitting::first_missed;
 use om_signs::{Sign, SignVec};
@@ -80,13 +80,13 @@ fn sign_over(vectors: &[SignVec], before: &[Sign], t: Subset, e: u8) -> Option<S
     }
 }
 
-/// The sign of a basis in the normal chirotope with these cocircuits, from those of the sets before it.
+/// The sign of a set that meets each vector, from those of the sets before it: the sign of this basis in the normal chirotope
+/// with these cocircuits, if there is one, and those before are its signs.
 fn sign_of_basis(vectors: &[SignVec], before: &[Sign], t: Subset) -> Sign
     requires lengths { HaveLength t.n vectors.now }
     requires place { rank_of t.n t.elements ≡ length before.now }
-    requires signs { AreFirstSigns t.n (length t.elements) vectors.now before.now }
     requires basis { MeetsEach vectors.now t.elements }
-    ensures { (m : SignMap) → IsNormalOf t.n vectors.now m → m.rank ≡ length t.elements → result ≡ at m.signs (length before.now) }
+    ensures { AreFirstSigns t.n (length t.elements) vectors.now before.now → IsNextSign t.n (length t.elements) vectors.now (length before.now) result }
 {
     // this call tells that the list of the set increases, as in the function below
     let _size = t.size();
@@ -98,12 +98,12 @@ fn sign_of_basis(vectors: &[SignVec], before: &[Sign], t: Subset) -> Sign
     Sign::Plus
 }
 
-/// The sign of a set in the normal chirotope with these cocircuits, from those of the sets before it.
+/// The sign of a set from those of the sets before it: its sign in the normal chirotope with these cocircuits, if there is one,
+/// and those before are its signs.
 pub fn sign_of(vectors: &[SignVec], before: &[Sign], t: Subset) -> Sign
     requires lengths { HaveLength t.n vectors.now }
     requires place { rank_of t.n t.elements ≡ length before.now }
-    requires signs { AreFirstSigns t.n (length t.elements) vectors.now before.now }
-    ensures { (m : SignMap) → IsNormalOf t.n vectors.now m → m.rank ≡ length t.elements → result ≡ at m.signs (length before.now) }
+    ensures { AreFirstSigns t.n (length t.elements) vectors.now before.now → IsNextSign t.n (length t.elements) vectors.now (length before.now) result }
 {
     let _size = t.size();
     match first_missed(vectors, t) {

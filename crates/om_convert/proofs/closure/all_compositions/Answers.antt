@@ -20,8 +20,13 @@ loop-done-init c = closed_start c.args.elements c.args.vectors.now c.requires.le
     (subst (λ l. IsExtendedBy (λ X. X ≡ replicate c.args.elements Zero) l c.insert.new.self) c.new-members.ensures
     (subst (λ Z. IsExtendedBy (λ X. X ≡ Z) c.new-members.result c.insert.new.self) c.zero.ensures c.in_ok-insert.ensures.added))
 
-pub insert_composed-requires : goal.insert_composed-requires
-insert_composed-requires c =
+pub insert_composed-requires-clause-member : goal.insert_composed-requires-clause-member
+insert_composed-requires-clause-member c =
+    let below = subst (λ n. c.loop-done.done < n) c.len.ensures.value c.loop-done-test.true in
+    (c.loop-done.done, below, get_or_from_slice_get c.loop-done.members c.loop-done.done c.at.result c.at.result c.at.ensures)
+
+pub insert_composed-requires-clause-lengths : goal.insert_composed-requires-clause-lengths
+insert_composed-requires-clause-lengths c =
     let below = subst (λ n. c.loop-done.done < n) c.len.ensures.value c.loop-done-test.true in
     let here : Contains c.loop-done.members c.at.result = (c.loop-done.done, below, get_or_from_slice_get c.loop-done.members c.loop-done.done c.at.result c.at.result c.at.ensures) in
     let size = composition_length c.args.elements c.args.vectors.now c.requires.lengths c.at.result (c.loop-done.invariant.sound c.at.result here) in

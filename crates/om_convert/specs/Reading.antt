@@ -1,0 +1,35 @@
+-- Why lists of sign vectors are not accepted: the first violated instance, or want of memory. The list comes back unchanged.
+use Rattle.std.specs.Prelude.{◌≡◌, List}
+use Rattle.om_signs.specs.declared.sign.Sign.{Sign}
+use Rattle.om_circuits.specs.declared.bad_set.BadSet.{BadSet}
+use Rattle.om_circuits.specs.Axioms.{MeetsCircuitAxioms}
+use Rattle.om_circuits.specs.Instances.{IsFirstViolated}
+use Rattle.om_covectors.specs.declared.bad_cov.BadCov.{BadCov}
+use Rattle.om_covectors.specs.Axioms.{MeetsCovectorAxioms}
+use Rattle.om_covectors.specs.Instances.{IsFirstViolatedCovectorAxiom}
+use Rattle.om_convert.specs.declared.read_error.ReadSetError.{ReadSetError}
+use Rattle.om_convert.specs.declared.read_error.ReadSetError.TheVariants as sets
+use Rattle.om_convert.specs.declared.read_error.ReadCovError.{ReadCovError}
+use Rattle.om_convert.specs.declared.read_error.ReadCovError.TheVariants as covectors
+
+-- the list fails the axioms of circuits, and comes back with the first violated instance
+pub record IsBadSet (members : List (List Sign)) (bad : BadSet) : Type 0 where
+  pub unchanged : bad.list ≡ members
+  pub first : IsFirstViolated members bad.why
+  pub violated : MeetsCircuitAxioms members → ⊥
+
+-- the list fails the axioms of covectors, and comes back with the first violated instance
+pub record IsBadCov (members : List (List Sign)) (bad : BadCov) : Type 0 where
+  pub unchanged : bad.list ≡ members
+  pub first : IsFirstViolatedCovectorAxiom members bad.why
+  pub violated : MeetsCovectorAxioms members → ⊥
+
+-- why a list is not accepted as circuits or as cocircuits
+abbrev pub IsSetReadError : List (List Sign) → ReadSetError → Type 0
+IsSetReadError members (sets.Bad bad) = IsBadSet members bad
+IsSetReadError members (sets.Memory list) = list ≡ members
+
+-- why a list is not accepted as covectors
+abbrev pub IsCovReadError : List (List Sign) → ReadCovError → Type 0
+IsCovReadError members (covectors.Bad bad) = IsBadCov members bad
+IsCovReadError members (covectors.Memory list) = list ≡ members

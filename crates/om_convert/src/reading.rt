@@ -1,0 +1,226 @@
+//! Lists that are accepted by way of a chirotope.
+//!
+//! A map is proposed from the list. Where it is a chirotope, and what is made of it has the members of the list and no others, the
+//! list meets the axioms. Else nothing is known, and the scan of the axioms decides.
+
+ghost use Rattle.std.specs.Prelude.{◌≡◌, ◌≤◌, length, IsTrue, IfOk, IfErr, OnOk};
+ghost use Rattle.om_circuits.specs.Axioms.{MeetsCircuitAxioms};
+ghost use Rattle.om_covectors.specs.Axioms.{MeetsCovectorAxioms};
+ghost use Rattle.om_covectors.specs.Minimality.{IsMinimal, AreThose};
+ghost use Rattle.om_members.specs.Listings.{HaveLength, AreDistinct};
+ghost use Rattle.om_convert.specs.Reading.{IsSetReadError, IsCovReadError};
+
+use super::convert_error::ConvertError;
+use super::read_error::{ReadCovError, ReadSetError};
+use super::vectors::{all_cocircuits, all_covectors};
+use om_chirotope::Chirotope;
+use om_circuits::{Circuits, Cocircuits, SignedSet};
+use om_covectors::{Covectors, is_minimal};
+use om_propagation::{first_missed, least_meeting, propagated_map};
+use om_signs::{List, MAX_ELEMENTS, MAX_MEMBERS, MAX_VALUES, NoMemory, SignVec};
+use om_subsets::Subset;
+use std::alloc::Global;
+use std::thread::Threads;
+
+/// The circuits of this list, whose members are distinct and have `elements` signs each, if they meet the axioms of circuits;
+/// else the list, unchanged, and the first violated instance, as [`om_circuits::check`] gives it. Members stay in their order.
+///
+/// [`ReadSetError::Memory`] comes only for want of memory, and hands the list back.
+///
+/// Source: Björner, Las Vergnas, Sturmfels, White and Ziegler, *Oriented Matroids*, chapter 3.
+pub fn read_circuits<R: Threads + Sync>(
+    rt: &R,
+    alloc: Global,
+    elements: u8,
+    list: List<SignVec>,
+) -> Result<Circuits, ReadSetError>
+    requires low { 1 ≤ elements }
+    requires high { elements ≤ MAX_ELEMENTS }
+    requires lengths { HaveLength elements list }
+    requires distinct { AreDistinct list }
+    requires few { length list ≤ MAX_MEMBERS }
+    ensures accepted { OnOk result (MeetsCircuitAxioms list) }
+    ensures elements { IfOk result (λ c. c.0.elements ≡ elements) }
+    ensures members { IfOk result (λ c. c.0.members ≡ list) }
+    ensures refused { IfErr result (IsSetReadError list) }
+{
+    match read_set(rt, alloc, elements, list) {
+        Ok(set) => Ok(Circuits(set)),
+        Err(error) => Err(error),
+    }
+}
+
+/// The cocircuits of this list, whose members are distinct and have `elements` signs each, if they meet the axioms of circuits,
+/// which are those of cocircuits; else the list, unchanged, and the first violated instance, as [`om_circuits::check`] gives it.
+/// Members stay in their order.
+///
+/// [`ReadSetError::Memory`] comes only for want of memory, and hands the list back.
+///
+/// Source: Björner, Las Vergnas, Sturmfels, White and Ziegler, *Oriented Matroids*, chapter 3.
+pub fn read_cocircuits<R: Threads + Sync>(
+    rt: &R,
+    alloc: Global,
+    elements: u8,
+    list: List<SignVec>,
+) -> Result<Cocircuits, ReadSetError>
+    requires low { 1 ≤ elements }
+    requires high { elements ≤ MAX_ELEMENTS }
+    requires lengths { HaveLength elements list }
+    requires distinct { AreDistinct list }
+    requires few { length list ≤ MAX_MEMBERS }
+    ensures accepted { OnOk result (MeetsCircuitAxioms list) }
+    ensures elements { IfOk result (λ c. c.0.elements ≡ elements) }
+    ensures members { IfOk result (λ c. c.0.members ≡ list) }
+    ensures refused { IfErr result (IsSetReadError list) }
+{
+    match read_set(rt, alloc, elements, list) {
+        Ok(set) => Ok(Cocircuits(set)),
+        Err(error) => Err(error),
+    }
+}
+
+/// The covectors of this list, whose members are distinct and have `elements` signs each, if they meet the axioms of
+/// covectors; else the list, unchanged, and the first violated instance, as [`om_covectors::check`] gives it. Members stay in
+/// their order.
+///
+/// [`ReadCovError::Memory`] comes only for want of memory, and hands the list back.
+///
+/// Source: Björner, Las Vergnas, Sturmfels, White and Ziegler, *Oriented Matroids*, chapter 4.
+pub fn read_covectors<R: Threads + Sync>(
+    rt: &R,
+    alloc: Global,
+    elements: u8,
+    list: List<SignVec>,
+) -> Result<Covectors, ReadCovError>
+    requires low { 1 ≤ elements }
+    requires high { elements ≤ MAX_ELEMENTS }
+    requires lengths { HaveLength elements list }
+    requires distinct { AreDistinct list }
+    requires few { length list ≤ MAX_MEMBERS }
+    ensures accepted { OnOk result (MeetsCovectorAxioms list) }
+    ensures elements { IfOk result (λ c. c.elements ≡ elements) }
+    ensures members { IfOk result (λ c. c.members ≡ list) }
+    ensures refused { IfErr result (IsCovReadError list) }
+{
+    match are_covectors_of_proposal(rt, alloc, elements, list.as_slice()) {
+        Err(NoMemory) => Err(ReadCovError::Memory(list)),
+        Ok(true) => Ok(Covectors::lawful(elements, list)),
+        Ok(false) => match om_covectors::check(rt, elements, list) {
+            Ok(covectors) => Ok(covectors),
+            Err(bad) => Err(ReadCovError::Bad(bad)),
+        },
+    }
+}
+
+/// The set of the members of a list, as the calls above say. Circuits are the cocircuits of the dual, so one way serves both.
+fn read_set<R: Threads + Sync>(
+    rt: &R,
+    alloc: Global,
+    elements: u8,
+    list: List<SignVec>,
+) -> Result<SignedSet, ReadSetError>
+    requires low { 1 ≤ elements }
+    requires high { elements ≤ MAX_ELEMENTS }
+    requires lengths { HaveLength elements list }
+    requires distinct { AreDistinct list }
+    requires few { length list ≤ MAX_MEMBERS }
+    ensures accepted { OnOk result (MeetsCircuitAxioms list) }
+    ensures elements { IfOk result (λ s. s.elements ≡ elements) }
+    ensures members { IfOk result (λ s. s.members ≡ list) }
+    ensures refused { IfErr result (IsSetReadError list) }
+{
+    match are_cocircuits_of_proposal(rt, alloc, elements, list.as_slice()) {
+        Err(NoMemory) => Err(ReadSetError::Memory(list)),
+        Ok(true) => Ok(SignedSet::lawful(elements, list)),
+        Ok(false) => match om_circuits::check(rt, elements, list) {
+            Ok(set) => Ok(set),
+            Err(bad) => Err(ReadSetError::Bad(bad)),
+        },
+    }
+}
+
+/// Whether vectors are seen to be the cocircuits of the chirotope that is proposed from them.
+fn are_cocircuits_of_proposal<R: Threads + Sync>(
+    rt: &R,
+    alloc: Global,
+    elements: u8,
+    vectors: &[SignVec],
+) -> Result<bool, NoMemory>
+    requires low { 1 ≤ elements }
+    requires high { elements ≤ MAX_ELEMENTS }
+    requires lengths { HaveLength elements vectors.now }
+    requires distinct { AreDistinct vectors.now }
+    ensures { IfOk result (λ seen. IsTrue seen → MeetsCircuitAxioms vectors.now) }
+{
+    match proposed_chirotope(rt, alloc, elements, vectors)? {
+        None => Ok(false),
+        Some(chi) => match all_cocircuits(alloc, &chi) {
+            Ok(cocircuits) => Ok(cocircuits.is_set_of(vectors)),
+            Err(ConvertError::TooMany { .. }) => Ok(false),
+            Err(ConvertError::Memory) => Err(NoMemory),
+        },
+    }
+}
+
+/// Whether vectors are seen to be the covectors of the chirotope that is proposed from those of minimal support.
+fn are_covectors_of_proposal<R: Threads + Sync>(
+    rt: &R,
+    alloc: Global,
+    elements: u8,
+    vectors: &[SignVec],
+) -> Result<bool, NoMemory>
+    requires low { 1 ≤ elements }
+    requires high { elements ≤ MAX_ELEMENTS }
+    requires lengths { HaveLength elements vectors.now }
+    requires distinct { AreDistinct vectors.now }
+    ensures { IfOk result (λ seen. IsTrue seen → MeetsCovectorAxioms vectors.now) }
+{
+    let minimal = minimal_vectors(alloc, vectors)?;
+    match proposed_chirotope(rt, alloc, elements, minimal.as_slice())? {
+        None => Ok(false),
+        Some(chi) => match all_covectors(alloc, &chi) {
+            Ok(covectors) => Ok(covectors.is_set_of(vectors)),
+            Err(ConvertError::TooMany { .. }) => Ok(false),
+            Err(ConvertError::Memory) => Err(NoMemory),
+        },
+    }
+}
+
+/// A chirotope whose cocircuits the vectors may be: the map that is carried through the sets that meet each of them, where this
+/// map is a chirotope. None also where some vector is zero, and where the map would have more than [`MAX_VALUES`] values.
+fn proposed_chirotope<R: Threads + Sync>(
+    rt: &R,
+    alloc: Global,
+    elements: u8,
+    vectors: &[SignVec],
+) -> Result<Option<Chirotope>, NoMemory>
+    requires low { 1 ≤ elements }
+    requires high { elements ≤ MAX_ELEMENTS }
+    requires lengths { HaveLength elements vectors.now }
+{
+    if first_missed(vectors, Subset::first(elements, elements)).is_some() {
+        return Ok(None);
+    }
+    let rank = least_meeting(elements, vectors).size();
+    if Subset::choose(elements, rank) > MAX_VALUES {
+        return Ok(None);
+    }
+    let raw = propagated_map(alloc, vectors, rank, elements)?;
+    match om_chirotope::check(rt, raw) {
+        Ok(chi) => Ok(Some(chi)),
+        Err(_) => Ok(None),
+    }
+}
+
+/// The nonzero vectors of minimal support, in their order.
+fn minimal_vectors(alloc: Global, vectors: &[SignVec]) -> Result<List<SignVec>, NoMemory>
+    ensures { IfOk result (AreThose (IsMinimal vectors.now) vectors.now) }
+{
+    let mut minimal = List::new(alloc);
+    for x in vectors {
+        if is_minimal(vectors, *x) {
+            minimal.push(*x)?;
+        }
+    }
+    Ok(minimal)
+}
