@@ -17,3 +17,4 @@ pub use elements::{is_coloop, is_loop, parallel};
 pub use exchanges::exchange;
 pub use laws::exchange_of_bases;
 pub use ranks::rank_of;
+pub use search::are_apart;

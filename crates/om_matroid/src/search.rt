@@ -25,8 +25,8 @@ pub fn is_part(s: Subset, b: Subset) -> bool
     s.mask() & b.mask() == s.mask()
 }
 
-/// Whether two sets have no common element.
-fn are_apart(s: Subset, b: Subset) -> bool
+/// Whether two sets of some of the elements 1 to n have no common element. Both have the same n.
+pub fn are_apart(s: Subset, b: Subset) -> bool
     requires { s.n ≡ b.n }
     ensures { IsTrue result ↔ AreApart s.elements b.elements }
 {

@@ -1,0 +1,3 @@
+mod SetLaws
+mod ExchangeLaws
+mod RelationLaws

@@ -1,0 +1,96 @@
+//! The three-term test as a test of maps.
+
+ghost use Rattle.std.specs.Prelude.{ℕ, ◌≡◌, ◌≤◌, ◌↔◌, length, IsTrue, IsOk, IfOk, IfErr, IfNone, IfSome};
+ghost use Rattle.om_subsets.specs.Subsets.{choose};
+ghost use Rattle.om_subsets.specs.Members.{Chosen};
+ghost use Rattle.om_chirotope.specs.Map.{map_of};
+ghost use Rattle.om_chirotope.specs.Chirotope.{IsChirotope, IsAllZero};
+ghost use Rattle.om_chirotope.specs.ThreeTerm.{MeetsThreeTermTest, HasExchange};
+ghost use Rattle.om_threeterm.specs.Violations.{IsFirstUnexchanged, IsFirstUnbalanced};
+
+use super::bad_three::BadThree;
+use super::exchanges::first_unexchanged;
+use super::relations::first_unbalanced;
+use super::three_refused::ThreeRefused;
+use om_chirotope::{Chirotope, violated};
+use om_signs::{MAX_ELEMENTS, RawMap, Sign};
+use std::thread::Threads;
+
+/// The chirotope with this map, where it meets the three-term test, which is where it meets the axioms; else the map back,
+/// with the first part of the test that fails: [`AllZero`](ThreeRefused::AllZero) exactly where all values are 0, then
+/// [`NoExchange`](ThreeRefused::NoExchange) with the first violated exchange, and [`ThreeTerm`](ThreeRefused::ThreeTerm) with
+/// the first violated relation, where bases have exchange.
+///
+/// The elements are from 1 to [`MAX_ELEMENTS`], the rank is at most their number, and there is one sign for each increasing
+/// list of that many elements. It takes no memory, and scans on several threads.
+///
+/// Source: Björner, Las Vergnas, Sturmfels, White and Ziegler, *Oriented Matroids*, chapter 3.
+pub fn check<R: Threads + Sync>(rt: &R, raw: RawMap) -> Result<Chirotope, BadThree>
+    requires low { 1 ≤ raw.elements }
+    requires high { raw.elements ≤ MAX_ELEMENTS }
+    requires rank { raw.rank ≤ raw.elements }
+    requires whole { length raw.signs ≡ choose raw.elements raw.rank }
+    ensures accepted { IsOk result ↔ IsChirotope (map_of raw) }
+    ensures tested { IsOk result ↔ MeetsThreeTermTest (map_of raw) }
+    ensures value { IfOk result (λ c. c ≡ map_of raw) }
+    ensures kept { IfErr result (λ bad. bad.raw ≡ raw) }
+    ensures all_zero { IfErr result (λ bad. (bad.why ≡ ThreeRefused.AllZero) ↔ IsAllZero raw.signs) }
+    ensures exchange { IfErr result (λ bad. (b c : Chosen) (e : ℕ) → bad.why ≡ ThreeRefused.NoExchange b c e → IsFirstUnexchanged (map_of raw) b c e) }
+    ensures relation { IfErr result (λ bad. (p q : Chosen) → bad.why ≡ ThreeRefused.ThreeTerm p q → HasExchange (map_of raw) × IsFirstUnbalanced (map_of raw) p q) }
+{
+    if meets_axioms(&raw) {
+        return Ok(Chirotope::lawful(raw));
+    }
+    match first_failure(rt, &raw) {
+        None => Ok(Chirotope::lawful(raw)),
+        Some(why) => Err(BadThree { raw, why }),
+    }
+}
+
+/// Whether the map meets the axioms, by the quick test of om_chirotope.
+fn meets_axioms(raw: &RawMap) -> bool
+    requires low { 1 ≤ raw.now.elements }
+    requires high { raw.now.elements ≤ MAX_ELEMENTS }
+    requires rank { raw.now.rank ≤ raw.now.elements }
+    requires whole { length raw.now.signs ≡ choose raw.now.elements raw.now.rank }
+    ensures { IsTrue result ↔ IsChirotope (map_of raw.now) }
+{
+    if is_all_zero(raw.signs.as_slice()) {
+        return false;
+    }
+    match violated(raw) {
+        None => true,
+        Some(_) => false,
+    }
+}
+
+/// The first part of the three-term test that fails, or None where the map meets it.
+fn first_failure<R: Threads + Sync>(rt: &R, raw: &RawMap) -> Option<ThreeRefused>
+    requires low { 1 ≤ raw.now.elements }
+    requires high { raw.now.elements ≤ MAX_ELEMENTS }
+    requires rank { raw.now.rank ≤ raw.now.elements }
+    requires whole { length raw.now.signs ≡ choose raw.now.elements raw.now.rank }
+    ensures none { IfNone result (MeetsThreeTermTest (map_of raw.now)) }
+    ensures some { IfSome result (λ why. MeetsThreeTermTest (map_of raw.now) → ⊥) }
+    ensures all_zero { IfSome result (λ why. (why ≡ ThreeRefused.AllZero) ↔ IsAllZero raw.now.signs) }
+    ensures exchange { IfSome result (λ why. (b c : Chosen) (e : ℕ) → why ≡ ThreeRefused.NoExchange b c e → IsFirstUnexchanged (map_of raw.now) b c e) }
+    ensures relation { IfSome result (λ why. (p q : Chosen) → why ≡ ThreeRefused.ThreeTerm p q → HasExchange (map_of raw.now) × IsFirstUnbalanced (map_of raw.now) p q) }
+{
+    if is_all_zero(raw.signs.as_slice()) {
+        return Some(ThreeRefused::AllZero);
+    }
+    if let Some((b, c, e)) = first_unexchanged(rt, raw) {
+        return Some(ThreeRefused::NoExchange { b, c, e });
+    }
+    match first_unbalanced(rt, raw) {
+        None => None,
+        Some((p, q)) => Some(ThreeRefused::ThreeTerm { p, q }),
+    }
+}
+
+/// Whether every sign is 0.
+fn is_all_zero(signs: &[Sign]) -> bool
+    ensures { IsTrue result ↔ IsAllZero signs.now }
+{
+    signs.iter().all(|sign| *sign == Sign::Zero)
+}

@@ -1,0 +1,201 @@
+//! The scan for exchanges of bases that are violated.
+
+ghost use Rattle.std.specs.Prelude.{ℕ, List, ◌≡◌, ◌+◌, ◌<◌, ◌≤◌, ◌↔◌, length, IsTrue, IsNone, IfNone, IfSome};
+ghost use Rattle.om_signs.specs.declared.limits.TheConstants.{MAX_PLACES};
+ghost use Rattle.om_subsets.specs.Subsets.{choose, subset_at, IsMember, with_element};
+ghost use Rattle.om_matroid.specs.Search.{AreApart};
+ghost use Rattle.om_chirotope.specs.Map.{map_of};
+ghost use Rattle.om_chirotope.specs.ThreeTerm.{IsBasis, HasExchange};
+ghost use Rattle.om_threeterm.specs.Violations.{IsUnexchanged, IsFirstUnexchanged, IsFirstUnexchangedOf};
+ghost use Rattle.om_threeterm.specs.Sets.{all_chosen, IsInPlace, IsUnexchangedAt};
+
+use super::sets::{ROOM, fill, is_basis, is_basis_at};
+use om_matroid::are_apart;
+use om_parallel::{Probe, first_bad};
+use om_signs::{MAX_PLACES, RawMap};
+use om_subsets::Subset;
+use std::thread::Threads;
+
+/// The first violated exchange: the bases b and c, and the element e of b that changes places with no element of c; or
+/// None where bases have exchange. It takes no memory.
+pub fn first_unexchanged<R: Threads + Sync>(rt: &R, raw: &RawMap) -> Option<(Subset, Subset, u8)>
+    requires low { 1 ≤ raw.now.elements }
+    requires high { raw.now.elements ≤ MAX_PLACES }
+    requires rank { raw.now.rank ≤ raw.now.elements }
+    requires whole { length raw.now.signs ≡ choose raw.now.elements raw.now.rank }
+    ensures none { IfNone result (HasExchange (map_of raw.now)) }
+    ensures first { IfSome result (λ x. IsFirstUnexchanged (map_of raw.now) x.0 x.1 x.2) }
+{
+    let mut room = [Subset::from_mask(0, raw.elements); ROOM];
+    let count = Subset::choose(raw.elements, raw.rank) as usize;
+    let sets = &mut room[..count];
+    fill(raw.elements, raw.rank, sets);
+    first_unexchanged_among(rt, raw, sets)
+}
+
+/// A map, and the sets of as many elements as its rank. The number of a set is its place; it is bad where an exchange of
+/// this set is violated.
+#[derive(Drop)]
+struct Bases<'a> {
+    raw: &'a RawMap,
+    sets: &'a [Subset],
+    ghost low: { 1 ≤ raw.now.elements },
+    ghost high: { raw.now.elements ≤ MAX_PLACES },
+    ghost rank: { raw.now.rank ≤ raw.now.elements },
+    ghost whole: { length raw.now.signs ≡ choose raw.now.elements raw.now.rank },
+    ghost filled: { sets.now ≡ all_chosen raw.now.elements raw.now.rank },
+}
+
+impl Probe for Bases<'_> {
+    ghost use Rattle.om_chirotope.specs.Map.{map_of};
+    ghost use Rattle.om_threeterm.specs.Sets.{IsUnexchangedAt};
+
+    ghost is_bad = { λ s k. IsUnexchangedAt (map_of s.raw.now) k };
+
+    fn bad(&self, k: u64) -> bool {
+        is_unexchanged_at(self.raw, self.sets, k)
+    }
+}
+
+/// Whether some exchange of the set at place k is violated. Past the last place there is none.
+fn is_unexchanged_at(raw: &RawMap, sets: &[Subset], k: u64) -> bool
+    requires low { 1 ≤ raw.now.elements }
+    requires high { raw.now.elements ≤ MAX_PLACES }
+    requires whole { length raw.now.signs ≡ choose raw.now.elements raw.now.rank }
+    requires filled { sets.now ≡ all_chosen raw.now.elements raw.now.rank }
+    ensures { IsTrue result ↔ IsUnexchangedAt (map_of raw.now) k }
+{
+    if k >= sets.len() as u64 {
+        return false;
+    }
+    match first_unexchanged_of(raw, sets, sets[k as usize]) {
+        None => false,
+        Some(_) => true,
+    }
+}
+
+/// The first violated exchange, from the sets of as many elements as the rank.
+fn first_unexchanged_among<R: Threads + Sync>(
+    rt: &R,
+    raw: &RawMap,
+    sets: &[Subset],
+) -> Option<(Subset, Subset, u8)>
+    requires low { 1 ≤ raw.now.elements }
+    requires high { raw.now.elements ≤ MAX_PLACES }
+    requires rank { raw.now.rank ≤ raw.now.elements }
+    requires whole { length raw.now.signs ≡ choose raw.now.elements raw.now.rank }
+    requires filled { sets.now ≡ all_chosen raw.now.elements raw.now.rank }
+    ensures none { IfNone result (HasExchange (map_of raw.now)) }
+    ensures first { IfSome result (λ x. IsFirstUnexchanged (map_of raw.now) x.0 x.1 x.2) }
+{
+    let bases = Bases { raw, sets };
+    match first_bad(rt, &bases, sets.len() as u64) {
+        None => None,
+        Some(k) => {
+            let b = sets[k as usize];
+            let (c, e) = first_unexchanged_of(raw, sets, b)?;
+            Some((b, c, e))
+        }
+    }
+}
+
+/// The first violated exchange of a set: the basis c and the element e of the set that changes places with no element of c;
+/// or None where the set is no basis, or is one and has exchange with all bases.
+fn first_unexchanged_of(raw: &RawMap, sets: &[Subset], b: Subset) -> Option<(Subset, u8)>
+    requires low { 1 ≤ raw.now.elements }
+    requires high { raw.now.elements ≤ MAX_PLACES }
+    requires whole { length raw.now.signs ≡ choose raw.now.elements raw.now.rank }
+    requires filled { sets.now ≡ all_chosen raw.now.elements raw.now.rank }
+    requires n { b.n ≡ raw.now.elements }
+    requires size { length b.elements ≡ raw.now.rank }
+    ensures none { IfNone result ((c : List ℕ) (e : ℕ) → IsUnexchanged (map_of raw.now) b.elements c e → ⊥) }
+    ensures first { IfSome result (λ x. IsFirstUnexchangedOf (map_of raw.now) b.elements x.0 x.1) }
+{
+    if !is_basis(raw, b) {
+        return None;
+    }
+    let mut limit = sets.len();
+    let mut found = None;
+    for e in 1..raw.elements + 1 {
+        if let Some(k) = first_unexchanged_by(raw, sets, b, e, limit) {
+            limit = k;
+            found = Some(e);
+        }
+    }
+    match found {
+        None => None,
+        Some(e) => Some((sets[limit], e)),
+    }
+}
+
+/// The first place below a limit of a basis with which the exchange of the basis b and its element e is violated. Where e is
+/// no element of b, there is none.
+fn first_unexchanged_by(
+    raw: &RawMap,
+    sets: &[Subset],
+    b: Subset,
+    e: u8,
+    limit: usize,
+) -> Option<usize>
+    requires low { 1 ≤ raw.now.elements }
+    requires high { raw.now.elements ≤ MAX_PLACES }
+    requires whole { length raw.now.signs ≡ choose raw.now.elements raw.now.rank }
+    requires filled { sets.now ≡ all_chosen raw.now.elements raw.now.rank }
+    requires n { b.n ≡ raw.now.elements }
+    requires basis { IsBasis (map_of raw.now) b.elements }
+    requires e_low { 1 ≤ e }
+    requires e_high { e ≤ raw.now.elements }
+    requires limit { limit ≤ length sets.now }
+    ensures none { IfNone result ((j : ℕ) → j < limit → IsUnexchanged (map_of raw.now) b.elements (subset_at raw.now.elements raw.now.rank j) e → ⊥) }
+    ensures within { IfSome result (λ k. k < limit) }
+    ensures here { IfSome result (λ k. IsUnexchanged (map_of raw.now) b.elements (subset_at raw.now.elements raw.now.rank k) e) }
+    ensures earlier { IfSome result (λ k. (j : ℕ) → j < k → IsUnexchanged (map_of raw.now) b.elements (subset_at raw.now.elements raw.now.rank j) e → ⊥) }
+{
+    if !b.has(e) {
+        return None;
+    }
+    first_basis_apart(raw, sets, in_place_of(raw, b, e), limit)
+}
+
+/// The elements that may stand in the place of an element e of a basis b: e itself, and each f not in b that makes a basis
+/// of b without e.
+fn in_place_of(raw: &RawMap, b: Subset, e: u8) -> Subset
+    requires high { raw.now.elements ≤ MAX_PLACES }
+    requires whole { length raw.now.signs ≡ choose raw.now.elements raw.now.rank }
+    requires n { b.n ≡ raw.now.elements }
+    requires basis { IsBasis (map_of raw.now) b.elements }
+    requires e_low { 1 ≤ e }
+    requires e_high { e ≤ raw.now.elements }
+    requires inside { IsMember e b.elements }
+    ensures n { result.n ≡ raw.now.elements }
+    ensures each { (f : ℕ) → IsMember f result.elements ↔ IsInPlace (map_of raw.now) b.elements e f }
+{
+    let rest = b.without(e);
+    let mut others = Subset::from_mask(0, raw.elements).with(e);
+    for f in 1..raw.elements + 1 {
+        if !b.has(f) && is_basis(raw, rest.with(f)) {
+            others = others.with(f);
+        }
+    }
+    others
+}
+
+/// The first place below a limit of a basis that has no element in common with a set.
+fn first_basis_apart(raw: &RawMap, sets: &[Subset], set: Subset, limit: usize) -> Option<usize>
+    requires whole { length raw.now.signs ≡ choose raw.now.elements raw.now.rank }
+    requires filled { sets.now ≡ all_chosen raw.now.elements raw.now.rank }
+    requires n { set.n ≡ raw.now.elements }
+    requires limit { limit ≤ length sets.now }
+    ensures none { IfNone result ((j : ℕ) → j < limit → IsBasis (map_of raw.now) (subset_at raw.now.elements raw.now.rank j) → AreApart (subset_at raw.now.elements raw.now.rank j) set.elements → ⊥) }
+    ensures within { IfSome result (λ k. k < limit) }
+    ensures basis { IfSome result (λ k. IsBasis (map_of raw.now) (subset_at raw.now.elements raw.now.rank k)) }
+    ensures apart { IfSome result (λ k. AreApart (subset_at raw.now.elements raw.now.rank k) set.elements) }
+    ensures earlier { IfSome result (λ k. (j : ℕ) → j < k → IsBasis (map_of raw.now) (subset_at raw.now.elements raw.now.rank j) → AreApart (subset_at raw.now.elements raw.now.rank j) set.elements → ⊥) }
+{
+    for k in 0..limit {
+        if is_basis_at(raw, k) && are_apart(sets[k], set) {
+            return Some(k);
+        }
+    }
+    None
+}

@@ -1,0 +1,186 @@
+//! The scan for three-term relations that are violated.
+
+ghost use Rattle.std.specs.Prelude.{ℕ, List, ◌≡◌, ◌+◌, ◌-◌, ◌<◌, ◌≤◌, ◌↔◌, ◌∷◌, ◌++◌, [], length, IsTrue, IfNone, IfSome};
+ghost use Rattle.om_signs.specs.declared.limits.TheConstants.{MAX_PLACES};
+ghost use Rattle.om_threeterm.specs.declared.relations.TheConstants.{FOUR};
+ghost use Rattle.om_subsets.specs.Subsets.{choose, IsMember};
+ghost use Rattle.om_laws.specs.ThreeTerm.{AreBalanced};
+ghost use Rattle.om_chirotope.specs.Map.{map_of, value_of};
+ghost use Rattle.om_chirotope.specs.ThreeTerm.{HasThreeTermRelations, IsFrame};
+ghost use Rattle.om_threeterm.specs.Violations.{HasRelation, IsUnbalancedList, IsFirstUnbalanced, IsFirstUnbalancedOf};
+ghost use Rattle.om_threeterm.specs.Sets.{all_chosen};
+
+use super::sets::{ROOM, fill, four_of};
+use om_matroid::are_apart;
+use om_parallel::{Probe, first_bad};
+use om_signs::{MAX_PLACES, RawMap, Sign};
+use om_subsets::Subset;
+use std::thread::Threads;
+
+/// The number of elements of a relation besides those of P.
+const FOUR: u8 = 4;
+
+/// The first violated three-term relation: the set p of two elements less than the rank, and the set q of four elements off
+/// it; or None where the relations hold. It takes no memory.
+pub fn first_unbalanced<R: Threads + Sync>(rt: &R, raw: &RawMap) -> Option<(Subset, Subset)>
+    requires low { 1 ≤ raw.now.elements }
+    requires high { raw.now.elements ≤ MAX_PLACES }
+    requires rank { raw.now.rank ≤ raw.now.elements }
+    requires whole { length raw.now.signs ≡ choose raw.now.elements raw.now.rank }
+    ensures none { IfNone result (HasThreeTermRelations (map_of raw.now)) }
+    ensures first { IfSome result (λ x. IsFirstUnbalanced (map_of raw.now) x.0 x.1) }
+{
+    if raw.rank < 2 {
+        return None;
+    }
+    let mut room = [Subset::from_mask(0, raw.elements); ROOM];
+    let count = Subset::choose(raw.elements, FOUR) as usize;
+    let fours = &mut room[..count];
+    fill(raw.elements, FOUR, fours);
+    first_unbalanced_among(rt, raw, fours)
+}
+
+/// A map, and the sets of four elements. The number of a set of two elements less than the rank is its place; it is bad where
+/// a relation of this set is violated.
+#[derive(Drop)]
+struct Frames<'a> {
+    raw: &'a RawMap,
+    fours: &'a [Subset],
+    ghost low: { 2 ≤ raw.now.rank },
+    ghost high: { raw.now.elements ≤ MAX_PLACES },
+    ghost rank: { raw.now.rank ≤ raw.now.elements },
+    ghost whole: { length raw.now.signs ≡ choose raw.now.elements raw.now.rank },
+    ghost filled: { fours.now ≡ all_chosen raw.now.elements FOUR },
+}
+
+impl Probe for Frames<'_> {
+    ghost use Rattle.om_chirotope.specs.Map.{map_of};
+    ghost use Rattle.om_threeterm.specs.Sets.{IsUnbalancedAt};
+
+    ghost is_bad = { λ s k. IsUnbalancedAt (map_of s.raw.now) k };
+
+    fn bad(&self, k: u64) -> bool {
+        let size = self.raw.rank - 2;
+        if k >= Subset::choose(self.raw.elements, size) as u64 {
+            return false;
+        }
+        let p = Subset::unrank(k as u32, size, self.raw.elements);
+        match first_unbalanced_of(self.raw, self.fours, p) {
+            None => false,
+            Some(_) => true,
+        }
+    }
+}
+
+/// The first violated relation, from the sets of four elements.
+fn first_unbalanced_among<R: Threads + Sync>(
+    rt: &R,
+    raw: &RawMap,
+    fours: &[Subset],
+) -> Option<(Subset, Subset)>
+    requires low { 2 ≤ raw.now.rank }
+    requires high { raw.now.elements ≤ MAX_PLACES }
+    requires rank { raw.now.rank ≤ raw.now.elements }
+    requires whole { length raw.now.signs ≡ choose raw.now.elements raw.now.rank }
+    requires filled { fours.now ≡ all_chosen raw.now.elements FOUR }
+    ensures none { IfNone result (HasThreeTermRelations (map_of raw.now)) }
+    ensures first { IfSome result (λ x. IsFirstUnbalanced (map_of raw.now) x.0 x.1) }
+{
+    let frames = Frames { raw, fours };
+    let count = Subset::choose(raw.elements, raw.rank - 2) as u64;
+    match first_bad(rt, &frames, count) {
+        None => None,
+        Some(k) => {
+            let p = Subset::unrank(k as u32, raw.rank - 2, raw.elements);
+            match first_unbalanced_of(raw, fours, p) {
+                None => None,
+                Some(q) => Some((p, q)),
+            }
+        }
+    }
+}
+
+/// The first set q of four elements off a set p whose relation is violated, or None where those of p hold.
+fn first_unbalanced_of(raw: &RawMap, fours: &[Subset], p: Subset) -> Option<Subset>
+    requires high { raw.now.elements ≤ MAX_PLACES }
+    requires whole { length raw.now.signs ≡ choose raw.now.elements raw.now.rank }
+    requires filled { fours.now ≡ all_chosen raw.now.elements FOUR }
+    requires n { p.n ≡ raw.now.elements }
+    requires size { length p.elements + 2 ≡ raw.now.rank }
+    ensures none { IfNone result ((q : List ℕ) → IsUnbalancedList (map_of raw.now) p.elements q → ⊥) }
+    ensures first { IfSome result (λ q. IsFirstUnbalancedOf (map_of raw.now) p.elements q) }
+{
+    for (k, q) in fours.iter().enumerate() {
+        if is_unbalanced(raw, p, *q) {
+            return Some(fours[k]);
+        }
+    }
+    None
+}
+
+/// Whether four elements stand off a set p, and their relation is violated.
+fn is_unbalanced(raw: &RawMap, p: Subset, q: Subset) -> bool
+    requires whole { length raw.now.signs ≡ choose raw.now.elements raw.now.rank }
+    requires p_n { p.n ≡ raw.now.elements }
+    requires p_size { length p.elements + 2 ≡ raw.now.rank }
+    requires q_n { q.n ≡ raw.now.elements }
+    requires q_size { length q.elements ≡ 4 }
+    ensures { IsTrue result ↔ IsUnbalancedList (map_of raw.now) p.elements q.elements }
+{
+    let _sizes = (p.size(), q.size());
+    if !are_apart(p, q) {
+        return false;
+    }
+    let (a, b, c, d) = four_of(q);
+    !has_relation(raw, p, a, b, c, d)
+}
+
+/// Whether the relation of p with four elements holds.
+fn has_relation(raw: &RawMap, p: Subset, a: u8, b: u8, c: u8, d: u8) -> bool
+    requires whole { length raw.now.signs ≡ choose raw.now.elements raw.now.rank }
+    requires n { p.n ≡ raw.now.elements }
+    requires frame { IsFrame (map_of raw.now) p.elements a b c d }
+    requires a_low { 1 ≤ a }
+    requires a_b { a < b }
+    requires b_c { b < c }
+    requires c_d { c < d }
+    requires d_high { d ≤ raw.now.elements }
+    ensures { IsTrue result ↔ HasRelation (map_of raw.now) p.elements a b c d }
+{
+    let first = value_with(raw, p, a, b).times(value_with(raw, p, c, d));
+    let second = value_with(raw, p, a, c).times(value_with(raw, p, b, d));
+    let third = value_with(raw, p, a, d).times(value_with(raw, p, b, c));
+    are_balanced(first, second.neg(), third)
+}
+
+/// The value of a set p with two elements off it behind.
+fn value_with(raw: &RawMap, p: Subset, x: u8, y: u8) -> Sign
+    requires whole { length raw.now.signs ≡ choose raw.now.elements raw.now.rank }
+    requires n { p.n ≡ raw.now.elements }
+    requires size { length p.elements + 2 ≡ raw.now.rank }
+    requires x_low { 1 ≤ x }
+    requires order { x < y }
+    requires y_high { y ≤ raw.now.elements }
+    requires x_off { IsMember x p.elements → ⊥ }
+    requires y_off { IsMember y p.elements → ⊥ }
+    ensures { result ≡ value_of (map_of raw.now) (p.elements ++ x ∷ y ∷ []) }
+{
+    let _size = p.size();
+    let sign = raw.signs.at(p.with(x).with(y).rank() as usize);
+    if p.odd_after(x) == p.odd_after(y) {
+        sign
+    } else {
+        sign.neg()
+    }
+}
+
+/// Whether three signs are all 0, or include a plus and a minus.
+fn are_balanced(first: Sign, second: Sign, third: Sign) -> bool
+    ensures { IsTrue result ↔ AreBalanced first second third }
+{
+    match first {
+        Sign::Zero => second == third.neg(),
+        Sign::Plus => second == Sign::Minus || third == Sign::Minus,
+        Sign::Minus => second == Sign::Plus || third == Sign::Plus,
+    }
+}

@@ -1,0 +1,76 @@
+//! Sets of elements: all sets of one size, which of them are bases, and the elements of a set of four.
+
+ghost use Rattle.std.specs.Prelude.{ℕ, ◌≡◌, ◌+◌, ◌<◌, ◌≤◌, ◌↔◌, ◌∷◌, [], length, IsTrue};
+ghost use Rattle.om_subsets.specs.Subsets.{choose, subset_at};
+ghost use Rattle.om_chirotope.specs.Map.{map_of};
+ghost use Rattle.om_chirotope.specs.ThreeTerm.{IsBasis};
+ghost use Rattle.om_threeterm.specs.Sets.{all_chosen};
+
+use om_signs::{MAX_PLACES, RawMap, Sign};
+use om_subsets::{MOST_SUBSETS, Subset};
+
+/// The room of a table of all sets of one size.
+pub const ROOM: usize = MOST_SUBSETS as usize;
+
+/// Writes all sets of `size` of the elements 1 to `elements`, in lexicographic order.
+pub fn fill(elements: u8, size: u8, table: &mut [Subset])
+    requires high { elements ≤ MAX_PLACES }
+    requires room { length table.old ≡ choose elements size }
+    ensures { table.new ≡ all_chosen elements size }
+{
+    if size > elements {
+        return;
+    }
+    for place in 0..Subset::choose(elements, size) {
+        table[place as usize] = Subset::unrank(place, size, elements);
+    }
+}
+
+/// Whether a set of as many elements as the rank is a basis.
+pub fn is_basis(raw: &RawMap, s: Subset) -> bool
+    requires n { s.n ≡ raw.now.elements }
+    requires size { length s.elements ≡ raw.now.rank }
+    requires whole { length raw.now.signs ≡ choose raw.now.elements raw.now.rank }
+    ensures { IsTrue result ↔ IsBasis (map_of raw.now) s.elements }
+{
+    is_nonzero(raw.signs.at(s.rank() as usize))
+}
+
+/// Whether the set at place k, of as many elements as the rank, is a basis.
+pub fn is_basis_at(raw: &RawMap, k: usize) -> bool
+    requires whole { length raw.now.signs ≡ choose raw.now.elements raw.now.rank }
+    requires within { k < choose raw.now.elements raw.now.rank }
+    ensures { IsTrue result ↔ IsBasis (map_of raw.now) (subset_at raw.now.elements raw.now.rank k) }
+{
+    is_nonzero(raw.signs.at(k))
+}
+
+/// Whether the sign isn't 0.
+fn is_nonzero(sign: Sign) -> bool
+    ensures { IsTrue result ↔ (sign ≡ Sign.Zero → ⊥) }
+{
+    sign != Sign::Zero
+}
+
+/// The elements of a set of four, in their order.
+pub fn four_of(q: Subset) -> (u8, u8, u8, u8)
+    requires { length q.elements ≡ 4 }
+    ensures { q.elements ≡ result.0 ∷ result.1 ∷ result.2 ∷ result.3 ∷ [] }
+{
+    let (a, after_a) = split_least(q);
+    let (b, after_b) = split_least(after_a);
+    let (c, after_c) = split_least(after_b);
+    let (d, _) = split_least(after_c);
+    (a, b, c, d)
+}
+
+/// The least element of a set, and the set of the others.
+fn split_least(s: Subset) -> (u8, Subset)
+    requires { 1 ≤ length s.elements }
+    ensures { s.elements ≡ result.0 ∷ result.1.elements }
+{
+    let _size = s.size();
+    let mask = s.mask();
+    let least = mask.trailing_zeros() as u8 + 1;
+    (least, Subset::from_mask(mask & (mask - 1), s.n()))
+}
