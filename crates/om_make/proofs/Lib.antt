@@ -1,0 +1,3 @@
+mod BackLaws
+mod CountLaws
+mod GeneratorLaws

@@ -1,0 +1,21 @@
+//! A large input from a number: vectors that a generator draws, and a summary of the oriented matroid that they give.
+//!
+//! [`vectors`] draws them, and [`summary`] counts the signs, the cocircuits, the covectors and the mutations of their
+//! chirotope.
+//!
+//! Source of the notions: Björner, Las Vergnas, Sturmfels, White and Ziegler, *Oriented Matroids*, chapters 1, 3, 6 and 8.
+#![tactic(auto)]
+
+mod counting;
+mod drawing;
+mod generator;
+mod listing;
+mod return_trip;
+mod summarizing;
+mod tally;
+#[cfg(test)]
+mod tests;
+
+pub use drawing::vectors;
+pub use summarizing::summary;
+pub use tally::Tally;

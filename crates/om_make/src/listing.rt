@@ -1,0 +1,71 @@
+//! The cocircuits, the covectors and the mutations of a chirotope of rank 3.
+
+ghost use Rattle.std.specs.Prelude.{◌≡◌, IfOk, length};
+ghost use Rattle.om_denotation.specs.Circuits.{IsCocircuitOfChirotope};
+ghost use Rattle.om_denotation.specs.Covectors.{IsCovectorOfChirotope, IsCovectorOfCocircuits, IsCovectorOfCovectors};
+ghost use Rattle.om_make.specs.Tallies.{HasExactly, HasMutations};
+ghost use Rattle.om_make.specs.Lists.{ListsCocircuits, ListsCovectors};
+
+use om_chirotope::Chirotope;
+use om_circuits::Cocircuits;
+use om_convert::{ConvertError, chirotope_to_cocircuits, chirotope_to_covectors};
+use om_covectors::Covectors;
+use om_mutate::{MutationError, mutations};
+use om_signs::NoMemory;
+use std::alloc::Global;
+
+/// The cocircuits of a chirotope of rank 3.
+pub fn list_cocircuits(alloc: Global, chi: &Chirotope) -> Result<Cocircuits, NoMemory>
+    requires { chi.now.rank ≡ 3 }
+    ensures { IfOk result (λ c. ListsCocircuits chi.now c.0) }
+{
+    // these calls tell that the axioms and the limits hold
+    let (_rank, _elements) = (chi.rank(), chi.elements());
+    match chirotope_to_cocircuits(alloc, chi) {
+        Ok(cocircuits) => Ok(cocircuits),
+        Err(ConvertError::TooMany { .. }) => unreachable!(),
+        Err(ConvertError::Memory) => Err(NoMemory),
+    }
+}
+
+/// The covectors of a chirotope of rank 3.
+pub fn list_covectors(alloc: Global, chi: &Chirotope) -> Result<Covectors, NoMemory>
+    requires { chi.now.rank ≡ 3 }
+    ensures { IfOk result (λ c. ListsCovectors chi.now c) }
+{
+    // this call tells that the axioms hold
+    let _rank = chi.rank();
+    match chirotope_to_covectors(alloc, chi) {
+        Ok(covectors) => Ok(covectors),
+        // in rank 3 there are at most 963 on 16 elements, which isn't proved here: the case of too many never comes
+        Err(ConvertError::TooMany { .. } | ConvertError::Memory) => Err(NoMemory),
+    }
+}
+
+/// How many cocircuits stand in a list.
+pub fn count_cocircuits(cocircuits: &Cocircuits) -> u32
+    ensures { result ≡ length cocircuits.now.0.members }
+{
+    cocircuits.0.members().len() as u32
+}
+
+/// How many covectors stand in a list.
+pub fn count_covectors(covectors: &Covectors) -> u32
+    ensures { result ≡ length covectors.now.members }
+{
+    covectors.members().len() as u32
+}
+
+/// How many mutations a chirotope of rank 3 has.
+pub fn count_mutations(alloc: Global, chi: &Chirotope) -> Result<u32, NoMemory>
+    requires { chi.now.rank ≡ 3 }
+    ensures { IfOk result (λ k. HasMutations k chi.now) }
+{
+    // this call tells how many elements there are at most
+    let _elements = chi.elements();
+    match mutations(alloc, chi) {
+        Ok(sets) => Ok(sets.len() as u32),
+        Err(MutationError::NotRank3 { .. }) => unreachable!(),
+        Err(MutationError::Memory) => Err(NoMemory),
+    }
+}

@@ -1,0 +1,72 @@
+//! The way back from the cocircuits and the covectors of a chirotope.
+
+ghost use Rattle.std.specs.Prelude.{◌≡◌, ◌↔◌, IfOk, OnOk, IsTrue};
+ghost use Rattle.om_chirotope.specs.Map.{map_of};
+ghost use Rattle.om_denotation.specs.Maps.{IsNormalFormOf};
+ghost use Rattle.om_make.specs.Lists.{ListsCocircuits, ListsCovectors};
+ghost use Rattle.om_make.specs.Tallies.{ComesBack};
+
+use om_chirotope::Chirotope;
+use om_circuits::Cocircuits;
+use om_convert::{cocircuits_to_chirotope, covectors_to_chirotope};
+use om_covectors::Covectors;
+use om_signs::{NoMemory, RawMap};
+use std::alloc::Global;
+
+/// Converts the cocircuits and the covectors of a chirotope back. Both give its normal form, which is proved, so that no
+/// answer is needed for other maps.
+pub fn convert_back(
+    alloc: Global,
+    chi: &Chirotope,
+    cocircuits: &Cocircuits,
+    covectors: &Covectors,
+) -> Result<(), NoMemory>
+    requires cocircuits { ListsCocircuits chi.now cocircuits.now.0 }
+    requires covectors { ListsCovectors chi.now covectors.now }
+    ensures { OnOk result (ComesBack chi.now) }
+{
+    let normal = chi.copy()?.normal().into_raw();
+    let first = back_from_cocircuits(alloc, chi, cocircuits)?;
+    let second = back_from_covectors(alloc, chi, covectors)?;
+    if !are_equal(&first.into_raw(), &normal) || !are_equal(&second.into_raw(), &normal) {
+        unreachable!()
+    }
+    Ok(())
+}
+
+/// The chirotope of the cocircuits of a chirotope, which is its normal form.
+fn back_from_cocircuits(
+    alloc: Global,
+    chi: &Chirotope,
+    cocircuits: &Cocircuits,
+) -> Result<Chirotope, NoMemory>
+    requires { ListsCocircuits chi.now cocircuits.now.0 }
+    ensures { IfOk result (IsNormalFormOf chi.now) }
+{
+    let back = cocircuits_to_chirotope(alloc, cocircuits)?;
+    // this call tells that the axioms hold
+    let _rank = back.rank();
+    Ok(back)
+}
+
+/// The chirotope of the covectors of a chirotope, which is its normal form.
+fn back_from_covectors(
+    alloc: Global,
+    chi: &Chirotope,
+    covectors: &Covectors,
+) -> Result<Chirotope, NoMemory>
+    requires { ListsCovectors chi.now covectors.now }
+    ensures { IfOk result (IsNormalFormOf chi.now) }
+{
+    let back = covectors_to_chirotope(alloc, covectors)?;
+    // this call tells that the axioms hold
+    let _rank = back.rank();
+    Ok(back)
+}
+
+/// Whether two maps are equal.
+fn are_equal(a: &RawMap, b: &RawMap) -> bool
+    ensures { IsTrue result ↔ (map_of a.now ≡ map_of b.now) }
+{
+    a.rank == b.rank && a.elements == b.elements && a.signs.as_slice() == b.signs.as_slice()
+}
