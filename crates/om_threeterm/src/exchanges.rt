@@ -10,6 +10,7 @@ ghost use Rattle.om_threeterm.specs.Violations.{IsUnexchanged, IsFirstUnexchange
 ghost use Rattle.om_threeterm.specs.Sets.{all_chosen, IsInPlace, IsUnexchangedAt};
 
 use super::sets::{ROOM, fill, is_basis, is_basis_at};
+use om_chirotope::has_exchange;
 use om_matroid::are_apart;
 use om_parallel::{Probe, first_bad};
 use om_signs::{MAX_PLACES, RawMap};
@@ -26,6 +27,9 @@ pub fn first_unexchanged<R: Threads + Sync>(rt: &R, raw: &RawMap) -> Option<(Sub
     ensures none { IfNone result (HasExchange (map_of raw.now)) }
     ensures first { IfSome result (λ x. IsFirstUnexchanged (map_of raw.now) x.0 x.1 x.2) }
 {
+    if has_exchange(raw) {
+        return None;
+    }
     let mut room = [Subset::from_mask(0, raw.elements); ROOM];
     let count = Subset::choose(raw.elements, raw.rank) as usize;
     let sets = &mut room[..count];
