@@ -6,3 +6,4 @@ pub mod Unrank
 pub mod Lowest
 pub mod Masks
 pub mod Statements
+pub mod Reverse

@@ -4,6 +4,7 @@ ghost use Rattle.std.specs.Prelude.{◌≡◌, ◌≢◌, ℕ, ◌+◌, ◌<◌,
 ghost use Rattle.om_subsets.specs.Subsets.{choose, all_subsets, subset_at, rank_of, IsSubsetFrom, IsMember, with_element, without_element};
 ghost use Rattle.om_subsets.specs.Lists.{IsIncreasing, IsWithin, IsBefore};
 ghost use Rattle.om_subsets.specs.Members.{members, mask_of};
+ghost use Rattle.om_subsets.specs.Reverse.{revlex_subsets, revlex_subset_at, revlex_rank_of, IsRevlexBefore};
 
 /// A list stands for a subset of 1 to n exactly where each of its numbers is below the next and all are from 1 to n.
 pub fn increasing_lists()
@@ -34,6 +35,23 @@ pub fn lexicographic_order()
 pub fn successor()
     ensures later { (n : ℕ) (xs ys : List ℕ) → IsSubsetFrom 1 n xs → IsSubsetFrom 1 n ys → length xs ≡ length ys → rank_of n ys ≡ rank_of n xs + 1 → IsBefore xs ys }
     ensures next { (n : ℕ) (xs ys zs : List ℕ) → IsSubsetFrom 1 n xs → IsSubsetFrom 1 n ys → IsSubsetFrom 1 n zs → length xs ≡ length ys → length zs ≡ length xs → rank_of n ys ≡ rank_of n xs + 1 → IsBefore xs zs → IsBefore zs ys → ⊥ }
+{}
+
+/// Of two subsets of one size, one has the smaller place in reverse lexicographic order exactly where, at the last place in
+/// which their lists differ, it has the smaller element.
+pub fn reverse_lexicographic_order()
+    ensures { (n : ℕ) (xs ys : List ℕ) → IsSubsetFrom 1 n xs → IsSubsetFrom 1 n ys → length xs ≡ length ys → IsRevlexBefore xs ys ↔ (revlex_rank_of xs < revlex_rank_of ys) }
+{}
+
+/// In reverse lexicographic order too there are as many lists as ways to take r of n, each subset stands at its place among
+/// those of its size, and at each place stands a subset that has this place.
+pub fn reverse_places_and_lists()
+    ensures number { (n r : ℕ) → length (revlex_subsets n r) ≡ choose n r }
+    ensures small { (n : ℕ) (xs : List ℕ) → IsSubsetFrom 1 n xs → revlex_rank_of xs < choose n (length xs) }
+    ensures list_of_place { (n : ℕ) (xs : List ℕ) → IsSubsetFrom 1 n xs → revlex_subset_at n (length xs) (revlex_rank_of xs) ≡ xs }
+    ensures lawful { (n r k : ℕ) → k < choose n r → IsSubsetFrom 1 n (revlex_subset_at n r k) }
+    ensures size { (n r k : ℕ) → k < choose n r → length (revlex_subset_at n r k) ≡ r }
+    ensures place_of_list { (n r k : ℕ) → k < choose n r → revlex_rank_of (revlex_subset_at n r k) ≡ k }
 {}
 
 /// A list with an element has this element and its former ones, and a list without an element has its former ones

@@ -9,6 +9,6 @@ mod threads;
 pub use binomials::MOST_SUBSETS;
 pub use laws::{
     changed_members, increasing_lists, lexicographic_order, masks_and_lists, number_of_subsets,
-    places_and_lists, successor,
+    places_and_lists, reverse_lexicographic_order, reverse_places_and_lists, successor,
 };
 pub use subset::Subset;

@@ -2,6 +2,7 @@ ghost use Rattle.std.specs.Prelude.{◌≡◌, ℕ, ◌+◌, ◌-◌, ◌<◌, �
 ghost use Rattle.om_signs.specs.SignVec.{IsMaskOf};
 ghost use Rattle.om_subsets.specs.Subsets.{choose, rank_of, subset_at, first_of, IsSubsetFrom, IsMember, with_element, without_element, count_above};
 ghost use Rattle.om_subsets.specs.Members.{members, mask_of};
+ghost use Rattle.om_subsets.specs.Reverse.{revlex_rank_of, revlex_subset_at};
 
 use super::binomials::{BINOMIALS, MOST_SUBSETS};
 use om_signs::MAX_PLACES;
@@ -176,6 +177,55 @@ impl Subset {
         Subset { mask, n }
     }
 
+    /// The place of this subset in the reverse lexicographic order of those of its size, from 0 on: of two lists that one
+    /// comes first that has the smaller element at the last place in which they differ.
+    pub fn rank_revlex(self) -> u32
+        ensures value { result ≡ revlex_rank_of self.elements }
+        ensures small { result < choose self.n (length self.elements) }
+        ensures back { revlex_subset_at self.n (length self.elements) result ≡ self.elements }
+        ensures lawful { IsSubsetFrom 1 self.n self.elements }
+    {
+        let mut rest = self.mask;
+        let mut place = 0u8;
+        let mut rank = 0u32;
+        while rest != 0 {
+            // the sets that go on alike after this place, and have a smaller element at it, come before
+            let below = rest.trailing_zeros() as u8;
+            place += 1;
+            rank += Subset::choose(below, place);
+            rest &= rest - 1;
+        }
+        rank
+    }
+
+    /// The subset at place k, from 0 on, in the reverse lexicographic order of those of r of the elements 1 to n. r is at
+    /// most n, n is at most [`MAX_PLACES`], and k is below `choose(n, r)`.
+    pub fn unrank_revlex(k: u32, r: u8, n: u8) -> Subset
+        requires part { r ≤ n }
+        requires small { n ≤ MAX_PLACES }
+        requires place { k < choose n r }
+        ensures n { result.n ≡ n }
+        ensures elements { result.elements ≡ revlex_subset_at n r k }
+        ensures size { length result.elements ≡ r }
+        ensures place { revlex_rank_of result.elements ≡ k }
+        ensures lawful { IsSubsetFrom 1 n result.elements }
+    {
+        let mut left = r;
+        let mut rest = k;
+        let mut mask = 0u32;
+        for j in 0..n {
+            // the sets without the greatest of the elements that are left come before those with it
+            let i = n - 1 - j;
+            let without = Subset::choose(i, left);
+            if without <= rest {
+                rest -= without;
+                mask |= 1u32 << i;
+                left -= 1;
+            }
+        }
+        Subset { mask, n }
+    }
+
     /// Whether e is an element of the set. e is from 1 to n.
     pub fn has(self, e: u8) -> bool
         requires low { 1 ≤ e }
@@ -247,6 +297,43 @@ mod tests {
         for (place, mask) in PAIRS {
             assert!(rt; stands_at(pair, place, mask));
             pair = pair.next().unwrap_or(pair);
+        }
+    }
+
+    // The pairs of four elements in reverse lexicographic order, as they are ordered by hand: 12, 13, 23, 14, 24, 34.
+    const REVERSE_PAIRS: [(u32, u32); 6] = [
+        (0, 0b0011),
+        (1, 0b0101),
+        (2, 0b0110),
+        (3, 0b1001),
+        (4, 0b1010),
+        (5, 0b1100),
+    ];
+
+    #[test]
+    fn pairs_of_four_in_reverse(rt: HostRuntime) {
+        for (place, mask) in REVERSE_PAIRS {
+            let pair = Subset::unrank_revlex(place, 2, 4);
+            assert!(rt; pair.mask() == mask && pair.rank_revlex() == place);
+        }
+    }
+
+    // Three of the elements 1 to 6 at their places in reverse lexicographic order: 123, 124, 134, 234, 125 and, as the last
+    // of the 20, 456.
+    const REVERSE_TRIPLES: [(u32, u32); 6] = [
+        (0, 0b000111),
+        (1, 0b001011),
+        (2, 0b001101),
+        (3, 0b001110),
+        (4, 0b010011),
+        (19, 0b111000),
+    ];
+
+    #[test]
+    fn triples_of_six_in_reverse(rt: HostRuntime) {
+        for (place, mask) in REVERSE_TRIPLES {
+            let triple = Subset::unrank_revlex(place, 3, 6);
+            assert!(rt; triple == Subset::from_mask(mask, 6) && triple.rank_revlex() == place);
         }
     }
 
