@@ -56,6 +56,7 @@ fn is_all_zero(signs: &[Sign]) -> bool
 #[cfg(test)]
 mod tests {
     use super::*;
+    use crate::has_exchange;
     use om_signs::{List, NoMemory};
     use om_subsets::Subset;
     use std::alloc::Global;
@@ -148,6 +149,68 @@ mod tests {
                 None => None,
             };
             assert!(rt; refusal(&rt, raw) == wanted, "{text}");
+        }
+        Ok(())
+    }
+
+    /// The map with a minus at one place and plus at all others.
+    fn map_with_a_minus<R: Abort>(
+        rt: &R,
+        alloc: Global,
+        rank: u8,
+        elements: u8,
+        place: u32,
+    ) -> Result<RawMap, NoMemory>
+        requires low { 1 ≤ elements }
+        requires high { elements ≤ MAX_ELEMENTS }
+        requires part { rank ≤ elements }
+        ensures rank { IfOk result (λ raw. raw.rank ≡ rank) }
+        ensures elements { IfOk result (λ raw. raw.elements ≡ elements) }
+        ensures whole { IfOk result (λ raw. length raw.signs ≡ choose elements rank) }
+    {
+        let mut signs = List::new(alloc);
+        for k in 0..Subset::choose(elements, rank) {
+            signs.push(if k == place { Sign::Minus } else { Sign::Plus })?;
+        }
+        assert_eq!(rt; signs.len(), Subset::choose(elements, rank) as usize);
+        Ok(RawMap {
+            rank,
+            elements,
+            signs,
+        })
+    }
+
+    // The place of the minus, and the first violated pair. In the last row it is found while the vectors are made, and in
+    // the others the first set S has none, and the three-term test fails.
+    const TURNED: [(u8, u8, u32, (u32, u32)); 4] = [
+        (3, 7, 20, (0b0001111, 0b0101000)),
+        (2, 6, 10, (0b001101, 0b010000)),
+        (4, 8, 49, (0b00101111, 0b10101000)),
+        (8, 16, 1, (0b01_1111_1111, 0b10_0011_1111)),
+    ];
+
+    #[test]
+    fn one_sign_turned(rt: HostRuntime) -> Result<(), NoMemory> {
+        for (rank, elements, place, wanted) in TURNED {
+            assert!(rt; 1 <= elements && elements <= MAX_ELEMENTS && rank <= elements);
+            let raw = map_with_a_minus(&rt, rt.alloc(), rank, elements, place)?;
+            assert!(rt; refusal(&rt, raw) == refusal_of(wanted, elements));
+        }
+        Ok(())
+    }
+
+    // In the first row the bases 123 and 456 have no exchange; in the last there is no basis.
+    #[test]
+    fn exchange(rt: HostRuntime) -> Result<(), NoMemory> {
+        for (rank, elements, text, wanted) in [
+            (3, 6, "+000000000000000000+", false),
+            (3, 6, "+++++-++++++++++++++", true),
+            (0, 3, "-", true),
+            (3, 3, "0", true),
+        ] {
+            assert!(rt; 1 <= elements && elements <= MAX_ELEMENTS && rank <= elements);
+            let raw = map_of_text(&rt, rt.alloc(), rank, elements, text)?;
+            assert!(rt; has_exchange(&raw) == wanted);
         }
         Ok(())
     }

@@ -19,7 +19,7 @@ use om_subsets::{MOST_SUBSETS, Subset};
 use std::thread::Threads;
 
 /// How many vectors U one call looks at.
-pub const BLOCK: usize = 512;
+pub const BLOCK: usize = 1_024;
 
 /// The pairs of a map, numbered by S and then by blocks of sets A: a number is bad where the vector V of its set S isn't
 /// orthogonal to the vector U of some set of its block.
