@@ -1,13 +1,14 @@
 //! Lists that are accepted by way of a chirotope.
 //!
-//! A map is proposed from the list. Where it is a chirotope, and what is made of it has the members of the list and no others, the
+//! A map is proposed from the list, if that is quicker than a scan. Where it is a chirotope, and what is made of it has the members of the list and no others, the
 //! list meets the axioms. Else nothing is known, and the scan of the axioms decides.
 
-ghost use Rattle.std.specs.Prelude.{◌≡◌, ◌≤◌, length, IsTrue, IfOk, IfErr, OnOk};
+ghost use Rattle.std.specs.Prelude.{◌≡◌, ◌≤◌, length, IsTrue, IfOk, IfErr, IfSome, OnOk};
 ghost use Rattle.om_circuits.specs.Axioms.{MeetsCircuitAxioms};
 ghost use Rattle.om_covectors.specs.Axioms.{MeetsCovectorAxioms};
 ghost use Rattle.om_covectors.specs.Minimality.{IsMinimal, AreThose};
 ghost use Rattle.om_members.specs.Listings.{HaveLength, AreDistinct};
+ghost use Rattle.om_propagation.specs.Hitting.{IsEachNormalOf};
 ghost use Rattle.om_convert.specs.Reading.{IsSetReadError, IsCovReadError};
 
 use super::convert_error::ConvertError;
@@ -152,7 +153,7 @@ fn are_cocircuits_of_proposal<R: Threads + Sync>(
     requires distinct { AreDistinct vectors.now }
     ensures { IfOk result (λ seen. IsTrue seen → MeetsCircuitAxioms vectors.now) }
 {
-    match proposed_chirotope(rt, alloc, elements, vectors)? {
+    match proposed_chirotope(rt, alloc, elements, vectors, vectors.len())? {
         None => Ok(false),
         Some(chi) => match all_cocircuits(alloc, &chi) {
             Ok(cocircuits) => Ok(cocircuits.is_set_of(vectors)),
@@ -176,7 +177,7 @@ fn are_covectors_of_proposal<R: Threads + Sync>(
     ensures { IfOk result (λ seen. IsTrue seen → MeetsCovectorAxioms vectors.now) }
 {
     let minimal = minimal_vectors(alloc, vectors)?;
-    match proposed_chirotope(rt, alloc, elements, minimal.as_slice())? {
+    match proposed_chirotope(rt, alloc, elements, minimal.as_slice(), vectors.len())? {
         None => Ok(false),
         Some(chi) => match all_covectors(alloc, &chi) {
             Ok(covectors) => Ok(covectors.is_set_of(vectors)),
@@ -186,23 +187,38 @@ fn are_covectors_of_proposal<R: Threads + Sync>(
     }
 }
 
-/// A chirotope whose cocircuits the vectors may be: the map that is carried through the sets that meet each of them, where this
-/// map is a chirotope. None also where some vector is zero, and where the map would have more than [`MAX_VALUES`] values.
+/// As many triples of members as a scan takes in the time of one value of a proposed map.
+const TRIPLES_PER_VALUE: usize = 1_000;
+
+/// Whether a map of so many values is proposed for a list of so many members: it has no more than [`MAX_VALUES`], and takes less
+/// time than the scan of the list.
+fn is_proposed(members: usize, values: u32) -> bool
+    ensures { IsTrue result → values ≤ MAX_VALUES }
+{
+    let triples = members.saturating_mul(members).saturating_mul(members);
+    values <= MAX_VALUES && values as usize <= triples / TRIPLES_PER_VALUE
+}
+
+/// The chirotope whose cocircuits the vectors may be, for a list of so many members: the map that is carried through the sets
+/// that meet each vector, where this map is a chirotope. None also where some vector is zero, and where no map is proposed.
 fn proposed_chirotope<R: Threads + Sync>(
     rt: &R,
     alloc: Global,
     elements: u8,
     vectors: &[SignVec],
+    members: usize,
 ) -> Result<Option<Chirotope>, NoMemory>
     requires low { 1 ≤ elements }
     requires high { elements ≤ MAX_ELEMENTS }
     requires lengths { HaveLength elements vectors.now }
+    ensures elements { IfOk result (λ found. IfSome found (λ m. m.elements ≡ elements)) }
+    ensures normal { IfOk result (λ found. IfSome found (IsEachNormalOf elements vectors.now)) }
 {
     if first_missed(vectors, Subset::first(elements, elements)).is_some() {
         return Ok(None);
     }
     let rank = least_meeting(elements, vectors).size();
-    if Subset::choose(elements, rank) > MAX_VALUES {
+    if !is_proposed(members, Subset::choose(elements, rank)) {
         return Ok(None);
     }
     let raw = propagated_map(alloc, vectors, rank, elements)?;

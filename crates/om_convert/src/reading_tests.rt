@@ -1,7 +1,12 @@
 //! Lists that are read: those of small oriented matroids, and lists that fail an axiom.
 
-use super::tests::ROWS;
-use super::{ReadCovError, ReadSetError, read_circuits, read_cocircuits, read_covectors};
+use super::tests::{ROWS, all_plus};
+use super::{
+    ConvertError, ReadCovError, ReadSetError, chirotope_to_circuits, chirotope_to_cocircuits,
+    chirotope_to_covectors, read_circuits, read_cocircuits, read_covectors,
+};
+use om_circuits::{Circuits, Cocircuits};
+use om_covectors::Covectors;
 use om_samples::{SampleError, text_of_vectors, vectors_of};
 use std::alloc::Global;
 use std::test::Fail;
@@ -128,6 +133,87 @@ fn lists_are_read_in_their_order(rt: HostRuntime) -> Result<(), Fail> {
             assert!(rt; covectors);
         }
     }
+    Ok(())
+}
+
+/// Whether the circuits that were made are read, and stay in their order.
+fn reads_circuits<R: Threads + Sync>(
+    rt: &R,
+    alloc: Global,
+    made: Result<Circuits, ConvertError>,
+) -> Result<bool, SampleError> {
+    match made {
+        Ok(circuits) => {
+            let elements = circuits.0.elements();
+            let list = circuits.0.into_list();
+            let wanted = text_of_vectors(alloc, list.as_slice())?;
+            match read_circuits(rt, alloc, elements, list) {
+                Ok(read) => {
+                    let found = text_of_vectors(alloc, read.0.members())?;
+                    Ok(found.as_str() == wanted.as_str())
+                }
+                Err(_) => Ok(false),
+            }
+        }
+        Err(_) => Ok(false),
+    }
+}
+
+/// Whether the cocircuits that were made are read, and stay in their order.
+fn reads_cocircuits<R: Threads + Sync>(
+    rt: &R,
+    alloc: Global,
+    made: Result<Cocircuits, ConvertError>,
+) -> Result<bool, SampleError> {
+    match made {
+        Ok(cocircuits) => {
+            let elements = cocircuits.0.elements();
+            let list = cocircuits.0.into_list();
+            let wanted = text_of_vectors(alloc, list.as_slice())?;
+            match read_cocircuits(rt, alloc, elements, list) {
+                Ok(read) => {
+                    let found = text_of_vectors(alloc, read.0.members())?;
+                    Ok(found.as_str() == wanted.as_str())
+                }
+                Err(_) => Ok(false),
+            }
+        }
+        Err(_) => Ok(false),
+    }
+}
+
+/// Whether the covectors that were made are read, and stay in their order.
+fn reads_covectors<R: Threads + Sync>(
+    rt: &R,
+    alloc: Global,
+    made: Result<Covectors, ConvertError>,
+) -> Result<bool, SampleError> {
+    match made {
+        Ok(covectors) => {
+            let elements = covectors.elements();
+            let list = covectors.into_list();
+            let wanted = text_of_vectors(alloc, list.as_slice())?;
+            match read_covectors(rt, alloc, elements, list) {
+                Ok(read) => {
+                    let found = text_of_vectors(alloc, read.members())?;
+                    Ok(found.as_str() == wanted.as_str())
+                }
+                Err(_) => Ok(false),
+            }
+        }
+        Err(_) => Ok(false),
+    }
+}
+
+// the lists are so long that a map is proposed
+#[test]
+fn long_lists_are_read(rt: HostRuntime) -> Result<(), Fail> {
+    let alloc = rt.alloc();
+    let chi = all_plus(&rt, alloc, 3, 8, 56)?;
+    let circuits = reads_circuits(&rt, alloc, chirotope_to_circuits(alloc, &chi))?;
+    let cocircuits = reads_cocircuits(&rt, alloc, chirotope_to_cocircuits(alloc, &chi))?;
+    let covectors = reads_covectors(&rt, alloc, chirotope_to_covectors(alloc, &chi))?;
+    assert!(rt; circuits && cocircuits && covectors);
     Ok(())
 }
 

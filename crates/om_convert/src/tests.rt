@@ -309,7 +309,7 @@ fn has_too_many(
 }
 
 /// The chirotope whose signs are all plus.
-fn all_plus<R: Threads + Sync>(
+pub fn all_plus<R: Threads + Sync>(
     rt: &R,
     alloc: Global,
     rank: u8,

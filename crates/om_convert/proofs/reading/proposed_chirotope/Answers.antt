@@ -1,6 +1,5 @@
 use Rattle.std.specs.Option.{IfNone}
 use Rattle.std.proofs.Common.{◌≡◌, true, false, Option, Some, None, is_some, sym, subst, ◌∙◌}
-use Rattle.om_signs.specs.declared.sign.Sign.{Sign}
 use Rattle.om_propagation.specs.Hitting.{MeetsEach}
 use Rattle.om_convert.proofs.reading.proposed_chirotope.Goals as goal
 

@@ -1,5 +1,5 @@
 use Rattle.std.specs.List.{Contains}
-use Rattle.std.proofs.Common.{◌≡◌, true, false, refl, sym, ◌∙◌, subst, arith}
+use Rattle.std.proofs.Common.{◌≡◌, true, false, refl, sym, ◌∙◌, subst}
 use Rattle.om_members.proofs.ScanLaws.{nth_read, contains_nth}
 use Rattle.om_convert.proofs.SameMembers.{equal_numbers, same_members, contained_more, contained_all}
 use Rattle.om_convert.proofs.member_set.MemberSet.is_set_of.Goals as goal
