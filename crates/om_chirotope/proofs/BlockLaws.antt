@@ -16,8 +16,8 @@ use Rattle.om_subsets.specs.Members.{Chosen}
 use Rattle.om_subsets.proofs.Order.{get_or-rank_from, rank_from-lt}
 use Rattle.om_laws.proofs.SignLaws.{product_zero_left, product_zero_right}
 use Rattle.om_chirotope.specs.declared.threaded_scan.TheConstants.{BLOCK}
-use Rattle.om_chirotope.specs.Blocks.{HasViolatedPair, IsInBlock, IsViolatedAt}
-use Rattle.om_chirotope.specs.Chirotope.{HasOrthogonalPairs, IsFirstViolated, IsPair}
+use Rattle.om_chirotope.specs.Blocks.{HasViolatedPair, IsInBlock}
+use Rattle.om_chirotope.specs.Chirotope.{HasOrthogonalPairs, IsFirstViolated}
 use Rattle.om_chirotope.specs.Map.{SignMap, circuit_vector, cocircuit_vectors}
 use Rattle.om_chirotope.proofs.Tables.{AllBelow, all_done, found, length-table, vector_of_place}
 

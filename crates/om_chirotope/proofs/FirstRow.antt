@@ -1,7 +1,7 @@
 -- The relations of the first row that isn't zero, with two later ones at a time, give all relations of a picture.
 --
 -- Main results: relations_of_first_row; triple_from_relations.
-use Rattle.std.specs.Prelude.{ℕ, ◌≡◌, ◌≢◌, ◌+◌, ◌-◌, ◌<◌, ◌≤◌, ◌⊎◌, List, [], ◌∷◌, ◌++◌, length, refl}
+use Rattle.std.specs.Prelude.{ℕ, ◌≡◌, ◌≢◌, ◌+◌, ◌-◌, ◌<◌, ◌⊎◌, List, [], ◌∷◌, ◌++◌, length, refl}
 use Rattle.std.specs.Int.{bit_at}
 use Rattle.std.proofs.Common.{sym, ap, subst, ◌∙◌, inl, inr, arith, get_or, append_assoc}
 use Rattle.std.proofs.lemmas.Bool.{cases_lt, cases_order}
@@ -15,8 +15,8 @@ use Rattle.om_laws.specs.Sorting.{IsElement}
 use Rattle.om_laws.specs.ThreeTerm.{AreBalanced}
 use Rattle.om_laws.proofs.SignLaws.{product_zero_left, product_zero_right, zero_or_nonzero}
 use Rattle.om_laws.proofs.TupleLaws.{value_alternating}
-use Rattle.om_chirotope.specs.Map.{SignMap, chi_of, value_of, cocircuit_vector}
-use Rattle.om_chirotope.specs.Pictures.{AreRowsBelow, HasRelationsAt, IsBalancedTriple, IsLive, IsTriple}
+use Rattle.om_chirotope.specs.Map.{SignMap, chi_of, value_of}
+use Rattle.om_chirotope.specs.Pictures.{AreRowsBelow, HasRelationsAt, IsLive, IsTriple}
 use Rattle.om_chirotope.proofs.Places.{cocircuit_place, length-vector}
 use Rattle.om_chirotope.proofs.SignChecks.{alone, cancel_first, cancel_second, cancel_third, relation_of_four, swapped}
 use Rattle.om_chirotope.proofs.ThreeTerms.{balanced_same, balanced_zeros}

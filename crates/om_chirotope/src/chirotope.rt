@@ -43,6 +43,7 @@ impl Chirotope {
     /// The rank: the number of elements in each list that has a sign.
     pub fn rank(&self) -> u8
         ensures value { result ≡ self.now.rank }
+        ensures high { result ≤ self.now.elements }
         ensures lawful { IsChirotope self.now }
     {
         self.raw.rank

@@ -2,7 +2,7 @@
 --
 -- Main results: all_unnested, all_unblocked: where no number is bad, the axiom holds; nested_found, blocked_found: the least bad number is the
 -- first member of the first instance.
-use Rattle.std.proofs.Common.{ℕ, ◌≡◌, ◌+◌, ◌-◌, ◌<◌, ◌≤◌, ◌⊎◌, ◌↔◌, List, length, get_or, Option, None, Some, is_some, IfNone, IfSome, IsTrue, true, false, refl, sym, ◌∙◌, subst, arith, inl, inr}
+use Rattle.std.proofs.Common.{ℕ, ◌≡◌, ◌+◌, ◌-◌, ◌<◌, ◌≤◌, ◌⊎◌, ◌↔◌, List, length, get_or, Option, None, Some, is_some, IfNone, IfSome, IsTrue, true, false, refl, sym, ◌∙◌, subst, arith}
 use Rattle.std.proofs.lemmas.List.{get_or_past}
 use Rattle.om_signs.specs.declared.sign.Sign.{Sign}
 use Rattle.om_signs.specs.declared.sign.Sign.TheVariants.{Minus, Zero, Plus}
@@ -15,7 +15,6 @@ use Rattle.om_parallel.specs.FirstBad.{IsNoneBad, IsLeastBad}
 use Rattle.om_circuits.specs.Instances.{IsNestedIn}
 use Rattle.om_circuits.proofs.InstanceLaws.{not_both_blocked}
 use Rattle.om_circuits.specs.Vectors.{Eliminates}
-use Rattle.om_circuits.specs.Axioms.{HasEliminator}
 use Rattle.om_circuits.specs.Scans.{IsUnnestedIn, AreNestedAt, AreUnnestedAt, IsUnblocked, IsUnblockedAt, IsFirstBlockedWith, IsFirstBlocked}
 
 past : (Z : List Sign) (f : ℕ) → length Z + 1 ≤ f → place Z f ≡ Zero

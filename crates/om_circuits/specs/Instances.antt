@@ -1,5 +1,5 @@
 -- Violated instances of the axioms of circuits, by positions in a list of members, and their order. Positions and elements count from 1.
-use Rattle.std.specs.Prelude.{ℕ, ◌≢◌, ◌-◌, ◌≤◌, List, [], ◌∷◌}
+use Rattle.std.specs.Prelude.{ℕ, ◌≢◌, ◌≤◌, List, [], ◌∷◌}
 use Rattle.std.specs.List.{Contains}
 use Rattle.om_signs.specs.declared.sign.Sign.{Sign}
 use Rattle.om_circuits.specs.declared.set_refused.SetRefused.{SetRefused}

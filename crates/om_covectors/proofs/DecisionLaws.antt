@@ -2,19 +2,18 @@
 --
 -- Main results: all_composed, all_unblocked: where no number is bad, the axiom holds; uncomposed_found, blocked_found: the least bad number is
 -- the first member of the first instance.
-use Rattle.std.proofs.Common.{ℕ, ◌≡◌, ◌+◌, ◌-◌, ◌<◌, ◌≤◌, ◌⊎◌, ◌↔◌, List, length, get_or, Option, None, Some, is_some, IfNone, IfSome, IsTrue, true, false, refl, sym, ◌∙◌, subst, arith, inl, inr}
+use Rattle.std.proofs.Common.{ℕ, ◌≡◌, ◌+◌, ◌-◌, ◌<◌, ◌≤◌, ◌↔◌, List, length, get_or, Option, None, Some, is_some, IfNone, IfSome, IsTrue, true, false, refl, sym, ◌∙◌, subst, arith}
 use Rattle.std.proofs.lemmas.List.{get_or_past}
 use Rattle.om_signs.specs.declared.sign.Sign.{Sign}
 use Rattle.om_signs.specs.declared.sign.Sign.TheVariants.{Minus, Zero}
 use Rattle.om_signs.specs.Sign.{product}
-use Rattle.om_signs.specs.SignVec.{at, place, compose}
+use Rattle.om_signs.specs.SignVec.{place, compose}
 use Rattle.om_members.specs.Scans.{nth, AllBelow, IsBadBelow, IsFirstBad, IsFirstBadPair}
 use Rattle.om_members.proofs.DecisionLaws.{IsDecided, not_false, decided_if, decided_both, decided_not, decided_same, same_sign, each_place, some_member, is_contained, all_good}
 use Rattle.om_members.proofs.ScanLaws.{nth_read}
 use Rattle.om_parallel.specs.FirstBad.{IsNoneBad, IsLeastBad}
 use Rattle.om_covectors.proofs.InstanceLaws.{not_both_blocked}
 use Rattle.om_covectors.specs.Vectors.{IsSeparatedAt, EliminatesFromComposition}
-use Rattle.om_covectors.specs.Axioms.{HasCovectorEliminator}
 use Rattle.om_covectors.specs.Scans.{HasCompositionWith, HasNoCompositionWith, HasCompositionAt, HasNoCompositionAt, IsUnblocked, IsUnblockedAt, IsFirstBlockedWith, IsFirstBlocked}
 
 past : (Z : List Sign) (f : ℕ) → length Z + 1 ≤ f → place Z f ≡ Zero

@@ -8,7 +8,7 @@ use Rattle.std.proofs.lemmas.List.{get_or_past}
 use Rattle.om_signs.specs.declared.sign.Sign.{Sign}
 use Rattle.om_signs.specs.declared.sign.Sign.TheVariants.{Minus, Zero}
 use Rattle.om_signs.specs.Sign.{product}
-use Rattle.om_signs.specs.SignVec.{at, place, IsMaskOf, IsSeparated}
+use Rattle.om_signs.specs.SignVec.{at, IsMaskOf, IsSeparated}
 use Rattle.om_members.proofs.MaskLaws.{bit_of_mask}
 use Rattle.om_covectors.specs.Vectors.{IsSeparatedAt}
 

@@ -4,7 +4,6 @@
 use Rattle.std.specs.Prelude.{ℕ, ◌≡◌, ◌-◌, List}
 use Rattle.om_signs.specs.declared.sign.Sign.{Sign}
 use Rattle.om_signs.specs.declared.sign.Sign.TheVariants.{Zero}
-use Rattle.om_signs.specs.Sign.{opposite}
 use Rattle.om_signs.specs.SignVec.{place, compose, IsSeparated}
 
 -- e is in the separation of X and Y: the signs there are opposite, and neither is zero

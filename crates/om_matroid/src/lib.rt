@@ -16,5 +16,6 @@ pub use bases::{extend_to_basis, first_basis};
 pub use elements::{is_coloop, is_loop, parallel};
 pub use exchanges::exchange;
 pub use laws::exchange_of_bases;
+pub use om_chirotope::three_term_test;
 pub use ranks::rank_of;
 pub use search::are_apart;

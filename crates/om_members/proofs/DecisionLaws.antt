@@ -2,7 +2,7 @@
 --
 -- Main results: same_vector, some_member, each_place: equal vectors, a member with a property, and what holds at all places, are decided;
 -- not_false: what is decided and isn't false holds; all_good: where no number is bad, all are good.
-use Rattle.std.proofs.Common.{ℕ, zero, suc, ◌≡◌, ◌+◌, ◌<◌, ◌≤◌, ◌⊎◌, List, [], ◌∷◌, length, below_more, refl, sym, subst, arith, inl, inr}
+use Rattle.std.proofs.Common.{ℕ, zero, suc, ◌≡◌, ◌<◌, ◌≤◌, ◌⊎◌, List, [], ◌∷◌, length, refl, sym, subst, arith, inl, inr}
 use Rattle.std.proofs.lemmas.Bool.{cases_lt}
 use Rattle.std.specs.List.{Contains}
 use Rattle.om_signs.specs.declared.sign.Sign.{Sign}

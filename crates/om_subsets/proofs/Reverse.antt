@@ -2,7 +2,7 @@
 --
 -- Main results: each list stands at its place and at no other (`reverse_small`, `at_reverse_rank`, `reverse_listed`), the places follow the
 -- order (`reverse_order`); `begun_reverse`, `reverse_skip`, `reverse_take`, `reverse_end`: the set at a place, chosen from the greatest number on.
-use Rattle.std.proofs.Common.{ℕ, zero, suc, ◌≡◌, ◌≢◌, ◌+◌, ◌-◌, ◌*◌, ◌/◌, ◌%◌, ◌<◌, ◌≤◌, ◌^◌, ◌↔◌, ◌⊎◌, List, [], ◌∷◌, ◌++◌, length, map, get_or, bit_and, bit_or, w32, refl, sym, ◌∙◌, ap, subst, arith, inl, inr}
+use Rattle.std.proofs.Common.{ℕ, zero, suc, ◌≡◌, ◌+◌, ◌-◌, ◌*◌, ◌/◌, ◌%◌, ◌<◌, ◌≤◌, ◌^◌, ◌↔◌, ◌⊎◌, List, [], ◌∷◌, ◌++◌, length, map, bit_and, bit_or, w32, refl, sym, ◌∙◌, ap, subst, arith, inl, inr}
 use Rattle.std.specs.Int.{trailing_zeros}
 use Rattle.std.proofs.lemmas.Bool.{cases_lt}
 use Rattle.std.proofs.lemmas.List.{append-nil, length-append, length-map, length_push, get_or_append_left, get_or-append-add, get_or-map, append_assoc, ext_get_or}

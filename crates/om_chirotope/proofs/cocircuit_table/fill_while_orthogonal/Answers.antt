@@ -1,10 +1,10 @@
-use Rattle.std.proofs.Common.{arith, refl, sym, ap, subst, below_more, ◌∙◌, ◌≡◌, ◌-◌, ◌<◌, [], get_or, length}
+use Rattle.std.proofs.Common.{arith, refl, sym, ap, subst, below_more, ◌∙◌, ◌≡◌, ◌-◌, ◌<◌, length}
 use Rattle.std.proofs.lemmas.Bool.{false≢true}
 use Rattle.std.proofs.lemmas.List.{length-set}
 use Rattle.om_signs.specs.SignVec.{IsOrthogonal}
 use Rattle.om_subsets.specs.Subsets.{choose, subset_at}
 use Rattle.om_laws.specs.Relations.{along}
-use Rattle.om_chirotope.specs.Map.{map_of, cocircuit_vector, cocircuit_vectors, value_of}
+use Rattle.om_chirotope.specs.Map.{map_of, cocircuit_vector, value_of}
 use Rattle.om_chirotope.proofs.Places.{length-vector}
 use Rattle.om_chirotope.proofs.Tables.{table_at, table_done, table_more}
 use Rattle.om_chirotope.proofs.cocircuit_table.fill_while_orthogonal.Goals as goal

@@ -1,4 +1,4 @@
-use Rattle.std.proofs.Common.{ℕ, subst, [], ◌*◌, ◌<◌, ◌≤◌, length, get_or}
+use Rattle.std.proofs.Common.{ℕ, subst, [], ◌<◌, length, get_or}
 use Rattle.std.specs.Prelude.{IfNone, IfSome}
 use Rattle.om_signs.specs.SignVec.{IsOrthogonal}
 use Rattle.om_chirotope.specs.Blocks.{IsInBlock}

@@ -1,4 +1,4 @@
-use Rattle.std.proofs.Common.{arith, refl, sym, ap, subst, ◌∙◌, get_or, length, [], ◌≡◌, ◌+◌, ◌-◌, ◌<◌, w32}
+use Rattle.std.proofs.Common.{arith, refl, sym, ap, ◌∙◌, get_or, length, [], ◌≡◌, ◌<◌, w32}
 use Rattle.std.proofs.lemmas.Bool.{false≢true}
 use Rattle.std.proofs.lemmas.List.{get_or_default}
 use Rattle.std.specs.Int.{trailing_zeros}

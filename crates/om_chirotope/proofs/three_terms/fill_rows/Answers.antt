@@ -1,4 +1,4 @@
-use Rattle.std.proofs.Common.{arith, refl, sym, subst, ◌+◌, ◌-◌}
+use Rattle.std.proofs.Common.{arith, refl, sym, subst, ◌+◌}
 use Rattle.om_chirotope.specs.Map.{map_of}
 use Rattle.om_chirotope.proofs.Rows.{AreWritten, none_written, rows_more, rows_skip}
 use Rattle.om_chirotope.proofs.three_terms.fill_rows.Goals as goal

@@ -1,4 +1,4 @@
-use Rattle.std.proofs.Common.{arith, refl, sym, ap, subst, ◌∙◌, get_or, length, [], ◌≡◌, ◌+◌, ◌<◌}
+use Rattle.std.proofs.Common.{arith, sym, ap, subst, ◌∙◌, get_or, length, [], ◌≡◌, ◌+◌, ◌<◌}
 use Rattle.std.proofs.lemmas.List.{get_or_default}
 use Rattle.om_signs.specs.SignVec.{IsMaskOf}
 use Rattle.om_chirotope.specs.Pictures.{IsLive}

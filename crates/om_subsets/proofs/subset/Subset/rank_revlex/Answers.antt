@@ -2,7 +2,7 @@ use Rattle.std.proofs.Common.{◌≡◌, ◌+◌, ◌<◌, ◌≤◌, ◌^◌, �
 use Rattle.om_signs.specs.declared.limits.TheConstants.{MAX_PLACES}
 use Rattle.om_subsets.specs.Subsets.{IsSubsetFrom}
 use Rattle.om_subsets.specs.Members.{Chosen, members, members-subset}
-use Rattle.om_subsets.specs.Reverse.{revlex_rank_from, revlex_rank_of}
+use Rattle.om_subsets.specs.Reverse.{revlex_rank_of}
 use Rattle.om_subsets.proofs.Places.{length-members}
 use Rattle.om_subsets.proofs.Reverse.{reverse_turn, no_reverse_turn, reverse_small_of, reverse_small, at_reverse_rank}
 use Rattle.om_subsets.proofs.subset.Subset.rank_revlex.Goals as goal

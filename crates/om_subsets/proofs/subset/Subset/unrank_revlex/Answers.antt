@@ -1,5 +1,5 @@
-use Rattle.std.proofs.Common.{◌≡◌, ◌-◌, ◌+◌, ◌<◌, ◌≤◌, suc, sym, subst, ap, ◌∙◌, arith, length}
-use Rattle.om_subsets.specs.Subsets.{choose, IsSubsetFrom}
+use Rattle.std.proofs.Common.{◌≡◌, ◌-◌, ◌+◌, ◌<◌, ◌≤◌, suc, ap, ◌∙◌, arith, length}
+use Rattle.om_subsets.specs.Subsets.{choose}
 use Rattle.om_subsets.specs.Members.{members-subset}
 use Rattle.om_subsets.specs.Reverse.{revlex_rank_of}
 use Rattle.om_subsets.proofs.Places.{bits_fit}
