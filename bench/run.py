@@ -97,15 +97,21 @@ def sign_lines(size):
     return b"om 1\nchirotope 8 16\n" + line * signs + b"end\n"
 
 
-def least_time(words, data, runs, wanted):
-    """The least time of some runs, each of which has to write what is wanted."""
+def keep_to(processors):
+    """What a new process does to run on so many processors alone."""
+    return lambda: os.sched_setaffinity(0, sorted(os.sched_getaffinity(0))[:processors])
+
+
+def least_time(words, data, runs, wanted, processors=None):
+    """The least time of some runs, each of which has to write what is wanted; on so many processors, or on all."""
     best = None
+    pin = None if processors is None else keep_to(processors)
     with tempfile.TemporaryFile() as held:
         held.write(data)
         for _ in range(runs):
             held.seek(0)
             start = time.perf_counter()
-            done = subprocess.run([PROGRAM] + words, stdin=held, capture_output=True)
+            done = subprocess.run([PROGRAM] + words, stdin=held, capture_output=True, preexec_fn=pin)
             took = time.perf_counter() - start
             if done.stdout != wanted:
                 sys.exit("%s answered %r" % (" ".join(words), done.stdout[:200]))
@@ -189,10 +195,10 @@ def claims(runs):
     row("560 weights on 16 elements", took, 1, "", target_time=0.01)
 
 
-def times(words, data, runs):
+def times(words, data, runs, processors=None):
     """The least time of some runs, and what they write; each run has to write the same."""
     wanted = subprocess.run([PROGRAM] + words, input=data, capture_output=True).stdout
-    return least_time(words, data, runs, wanted), wanted
+    return least_time(words, data, runs, wanted, processors), wanted
 
 
 def beside_axioms(name, took, scan, target):
@@ -253,6 +259,14 @@ def wirings(runs):
     row("mutations of a chirotope of rank 3 on 16 elements", took, 1, "", target_time=0.003)
 
 
+def extensions(runs):
+    """Extensions by one element of the uniform chirotopes of rank 3 all of whose values are plus."""
+    print("%-58s %11s  %18s  %18s  %s" % ("extensions", "least time", "", "target", "ratio"))
+    for elements, first, processors, target in ((9, 2000, 1, 0.03), (15, 100000, 1, 0.4), (15, 100000, 4, 0.25)):
+        took, text = times(["extend", "--first=%d" % first], alternating(3, elements), runs, processors)
+        row("%d of %d elements, %d processors: %d bytes" % (first, elements, processors, len(text)), took, 1, "", target_time=target)
+
+
 def painting(runs):
     """Painting, hulls and lexicographic extensions."""
     print("%-58s %11s  %18s  %18s  %s" % ("painting, hulls, lexicographic extensions", "least time", "", "target", "ratio"))
@@ -298,7 +312,7 @@ def main():
     took = least_time(["accept"], sign_lines(size), runs, accepted)
     row("1 MB of lines of signs and blanks, without the scan", max(took - scan, 1e-5), size / 1e6, "MB/s", target_rate=50.0)
 
-    for part in (conversions, operations, lists, claims, decisions, wirings, painting):
+    for part in (conversions, operations, lists, claims, decisions, wirings, extensions, painting):
         part(runs)
 
 

@@ -2,6 +2,7 @@ mod AboveLaws
 mod ArgumentLaws
 mod ClaimLaws
 mod ConversionLaws
+mod ExtensionLaws
 mod FitLaws
 mod FlipLaws
 mod HullLaws

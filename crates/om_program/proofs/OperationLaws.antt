@@ -36,6 +36,7 @@ use Rattle.om_program.proofs.DecisionLaws.{lawful_budgets}
 use Rattle.om_program.specs.Answers.{says, shows}
 use Rattle.om_program.specs.Tasks.{HasLawfulArguments}
 use Rattle.om_program.proofs.LeadingLaws.{lawful_leading}
+use Rattle.om_program.proofs.ExtensionLaws.{lawful_lines}
 
 -- ---- a chirotope
 
@@ -100,6 +101,7 @@ lawful_arguments words t named = lawful t named.arguments named.behind
     lawful task.Wiring rest behind = tt
     lawful task.Mutations rest behind = tt
     lawful (task.Flip a b c) rest t = record { low = t.low; first = t.first; second = t.second; high = t.high }
+    lawful (task.Extend first) rest set = lawful_lines rest first set
     lawful (task.Paint colouring) rest read = read.element.low
     lawful task.Hull rest behind = tt
     lawful (task.Lexext leading) rest read = lawful_leading rest leading read

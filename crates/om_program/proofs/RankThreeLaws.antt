@@ -1,7 +1,7 @@
 -- The commands of rank 3.
 --
 -- Main results: the rank, where a call says that it isn't another one (of_rank3); from a meaning for the chirotope to that for the document (result_for_chirotope); the
--- answers are answers to a command (wiring_replies, mutations_replies, flip_replies).
+-- answers are answers to a command (wiring_replies, mutations_replies, extensions_reply, flip_replies).
 use Rattle.std.specs.Prelude.{ℕ, ◌≡◌, ◌≢◌, ◌↔◌, List, Result, Ok, Err, IsErrOf, IfOk, refl}
 use Rattle.std.proofs.Common.{inl, inr}
 use Rattle.std.proofs.lemmas.Bool.{cases_eq}
@@ -13,6 +13,7 @@ use Rattle.om_program.specs.Chirotopes.{IsChirotopeOf}
 use Rattle.om_program.specs.RankThree.{IsForChirotope, for_chirotope}
 use Rattle.om_program.specs.Sweeps as sweeps
 use Rattle.om_program.specs.MutationLists as mutations
+use Rattle.om_program.specs.ExtensionLists as extensions
 use Rattle.om_program.specs.Flips as flips
 
 pub of_rank3 : {A E : Type 0} (m : SignMap) (result : Result A E) (other : ℕ → E) → ((r : ℕ) → IsErrOf result (other r) ↔ ((r ≡ m.rank) × (m.rank ≢ 3))) → ((r : ℕ) → result ≡ Err (other r) → ⊥) → m.rank ≡ 3
@@ -45,6 +46,14 @@ mutations_of_map_reply m a (mutations.listed sets three all) = tt
 
 pub mutations_replies : (d : Document) (a : Answer) → mutations.AreMutations d a → IsReply a
 mutations_replies d a is = chirotope_replies mutations.AreMutationsOfMap d a mutations_of_map_reply is
+
+extensions_of_map_reply : (first : ℕ) (m : SignMap) (a : Answer) → extensions.AreExtensionsOfMap first m a → IsReply a
+extensions_of_map_reply first m a (extensions.other_rank other) = tt
+extensions_of_map_reply first m a (extensions.full three most) = tt
+extensions_of_map_reply first m a (extensions.listed l three few are) = tt
+
+pub extensions_reply : (first : ℕ) (d : Document) (a : Answer) → extensions.AreExtensions first d a → IsReply a
+extensions_reply first d a is = chirotope_replies (extensions.AreExtensionsOfMap first) d a (extensions_of_map_reply first) is
 
 flip_of_map_replies : (t : List ℕ) (m : SignMap) (a : Answer) → flips.IsFlipOfMap t m a → IsReply a
 flip_of_map_replies t m a (flips.outside e above) = tt

@@ -31,14 +31,14 @@ use Rattle.om_program.specs.declared.operation.Operation.TheVariants as operatio
 use Rattle.om_program.specs.declared.status.Status.{Status}
 use Rattle.om_program.specs.declared.status.Status.TheVariants as status
 use Rattle.om_program.specs.declared.task.Task.{Task}
-use Rattle.om_program.specs.declared.task.Task.TheVariants.{Accept, Member, Convert, Dual, Delete, Contract, Reorient, Wiring, Mutations, Flip, Decide, Paint, Hull, Lexext, Check}
+use Rattle.om_program.specs.declared.task.Task.TheVariants.{Accept, Member, Convert, Dual, Delete, Contract, Reorient, Wiring, Mutations, Flip, Extend, Decide, Paint, Hull, Lexext, Check}
 use Rattle.om_program.specs.Statuses.{IsAnswered, IsReplied}
 use Rattle.om_program.specs.Answers.{IsReply, status_of, status_of_line}
 use Rattle.om_program.specs.Axioms.{IsRefusedOn, set_line, map_line, cov_line, wiring_line}
 use Rattle.om_program.specs.Memberships.{IsMembership, wrong_length, covector, not_covector}
 use Rattle.om_program.specs.Conversions.{IsConversion, itself, limited, converted}
 use Rattle.om_program.specs.Operations.{IsOperation, outside, last, made}
-use Rattle.om_program.proofs.RankThreeLaws.{mutations_replies, flip_replies, wiring_replies}
+use Rattle.om_program.proofs.RankThreeLaws.{mutations_replies, extensions_reply, flip_replies, wiring_replies}
 use Rattle.om_program.proofs.ReachLaws.{painting_replies, hull_replies, extension_replies}
 use Rattle.om_program.specs.Operations as operations
 use Rattle.om_program.specs.Claims as claims
@@ -51,6 +51,7 @@ pub reply_status : (a : Answer) → IsReply a → IsReplied (status_of a)
 reply_status (answer.Line l) reply = reply
 reply_status (answer.Document d) reply = tt
 reply_status (answer.Mutations sets) reply = tt
+reply_status (answer.Extensions n l) reply = tt
 reply_status (answer.Hull items) reply = tt
 reply_status (answer.Verdict m v) reply = verdict_status v
 
@@ -160,6 +161,7 @@ task_answer_replies (Reorient mask) d a is = operation_replies (operation.Reorie
 task_answer_replies Wiring d a is = wiring_replies d a is
 task_answer_replies Mutations d a is = mutations_replies d a is
 task_answer_replies (Flip x y z) d a is = flip_replies x y z d a is
+task_answer_replies (Extend first) d a is = extensions_reply first d a is
 task_answer_replies (Paint colouring) d a is = painting_replies colouring d a is
 task_answer_replies Hull d a is = hull_replies d a is
 task_answer_replies (Lexext leading) d a is = extension_replies leading d a is

@@ -40,6 +40,7 @@ abbrev IsJudged : Budgets → Answer → Type 0
 IsJudged b (answer.Line l) = Unit {0}
 IsJudged b (answer.Document d) = Unit {0}
 IsJudged b (answer.Mutations sets) = Unit {0}
+IsJudged b (answer.Extensions n l) = Unit {0}
 IsJudged b (answer.Hull items) = Unit {0}
 IsJudged b (answer.Verdict m v) = IsDecided m b v
 

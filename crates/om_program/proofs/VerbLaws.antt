@@ -22,11 +22,12 @@ verb_of_word word =
     cond (bytes_eq word (codes "wiring")) verb.Wiring (
     cond (bytes_eq word (codes "mutations")) verb.Mutations (
     cond (bytes_eq word (codes "flip")) verb.Flip (
+    cond (bytes_eq word (codes "extend")) verb.Extend (
     cond (bytes_eq word (codes "paint")) verb.Paint (
     cond (bytes_eq word (codes "hull")) verb.Hull (
     cond (bytes_eq word (codes "lexext")) verb.Lexext (
     cond (bytes_eq word (codes "decide")) verb.Decide (
-    verb.Check))))))))))))))
+    verb.Check)))))))))))))))
 
 word_back : (v : Verb) → verb_of_word (verb_word v) ≡ v
 word_back verb.Accept = refl
@@ -39,6 +40,7 @@ word_back verb.Reorient = refl
 word_back verb.Wiring = refl
 word_back verb.Mutations = refl
 word_back verb.Flip = refl
+word_back verb.Extend = refl
 word_back verb.Paint = refl
 word_back verb.Hull = refl
 word_back verb.Lexext = refl
@@ -60,11 +62,12 @@ place_of verb.Reorient = 6
 place_of verb.Wiring = 7
 place_of verb.Mutations = 8
 place_of verb.Flip = 9
-place_of verb.Paint = 10
-place_of verb.Hull = 11
-place_of verb.Lexext = 12
-place_of verb.Decide = 13
-place_of verb.Check = 14
+place_of verb.Extend = 10
+place_of verb.Paint = 11
+place_of verb.Hull = 12
+place_of verb.Lexext = 13
+place_of verb.Decide = 14
+place_of verb.Check = 15
 
 pub verb_at : (u v : Verb) → get_or VERBS (place_of v) u ≡ v
 verb_at u verb.Accept = refl
@@ -77,6 +80,7 @@ verb_at u verb.Reorient = refl
 verb_at u verb.Wiring = refl
 verb_at u verb.Mutations = refl
 verb_at u verb.Flip = refl
+verb_at u verb.Extend = refl
 verb_at u verb.Paint = refl
 verb_at u verb.Hull = refl
 verb_at u verb.Lexext = refl
@@ -94,6 +98,7 @@ place_within verb.Reorient = lit≤ tt
 place_within verb.Wiring = lit≤ tt
 place_within verb.Mutations = lit≤ tt
 place_within verb.Flip = lit≤ tt
+place_within verb.Extend = lit≤ tt
 place_within verb.Paint = lit≤ tt
 place_within verb.Hull = lit≤ tt
 place_within verb.Lexext = lit≤ tt

@@ -9,9 +9,9 @@ use Rattle.om_signs.specs.declared.sign.Sign.{Sign}
 use Rattle.om_answer.specs.declared.kind.Kind.{Kind}
 use Rattle.om_answer.specs.declared.kind.Kind.TheVariants as kind
 use Rattle.om_decide.specs.declared.budgets.Budgets.{Budgets}
-use Rattle.om_program.specs.Options.{AreBudgets}
+use Rattle.om_program.specs.Options.{AreBudgets, AreLines}
 use Rattle.om_program.specs.declared.task.Task.{Task}
-use Rattle.om_program.specs.declared.task.Task.TheVariants.{Accept, Member, Convert, Dual, Delete, Contract, Reorient, Wiring, Mutations, Flip, Decide, Paint, Hull, Lexext, Check}
+use Rattle.om_program.specs.declared.task.Task.TheVariants.{Accept, Member, Convert, Dual, Delete, Contract, Reorient, Wiring, Mutations, Flip, Extend, Decide, Paint, Hull, Lexext, Check}
 use Rattle.om_program.specs.declared.usage.Usage.{Usage}
 use Rattle.om_program.specs.declared.colouring.Colouring.{Colouring}
 use Rattle.om_program.specs.declared.leading.Leading.{Leading}
@@ -178,6 +178,7 @@ Value verb.Reorient = ℕ
 Value verb.Wiring = Unit {0}
 Value verb.Mutations = Unit {0}
 Value verb.Flip = ℕ × ℕ × ℕ
+Value verb.Extend = ℕ
 Value verb.Paint = Colouring
 Value verb.Hull = Unit {0}
 Value verb.Lexext = Leading
@@ -195,6 +196,7 @@ value_of (Reorient mask) = mask
 value_of Wiring = tt
 value_of Mutations = tt
 value_of (Flip a b c) = (a, b, c)
+value_of (Extend first) = first
 value_of (Paint colouring) = colouring
 value_of Hull = tt
 value_of (Lexext leading) = leading
@@ -212,6 +214,7 @@ task_of verb.Reorient mask = Reorient mask
 task_of verb.Wiring _ = Wiring
 task_of verb.Mutations _ = Mutations
 task_of verb.Flip t = Flip t.0 t.1 t.2
+task_of verb.Extend first = Extend first
 task_of verb.Paint colouring = Paint colouring
 task_of verb.Hull _ = Hull
 task_of verb.Lexext leading = Lexext leading
@@ -229,6 +232,7 @@ task_back (Reorient mask) = refl
 task_back Wiring = refl
 task_back Mutations = refl
 task_back (Flip a b c) = refl
+task_back (Extend first) = refl
 task_back (Paint colouring) = refl
 task_back Hull = refl
 task_back (Lexext leading) = refl
@@ -267,6 +271,9 @@ mutations_shape = record { verb = λ a. refl; arguments = λ a words. (λ h. h, 
 
 pub flip_shape : IsShape verb.Flip AreTriple (λ t. Flip t.0 t.1 t.2)
 flip_shape = record { verb = λ a. refl; arguments = λ a words. (λ h. h, λ h. h); only = only verb.Flip }
+
+pub extend_shape : IsShape verb.Extend AreLines Extend
+extend_shape = record { verb = λ a. refl; arguments = λ a words. (λ h. h, λ h. h); only = only verb.Extend }
 
 pub paint_shape : IsShape verb.Paint AreColouring Paint
 paint_shape = record { verb = λ a. refl; arguments = λ a words. (λ h. h, λ h. h); only = only verb.Paint }

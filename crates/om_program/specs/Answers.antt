@@ -10,6 +10,7 @@ use Rattle.om_text.specs.Print.{printed}
 use Rattle.om_answer.specs.declared.line.Line.{Line}
 use Rattle.om_answer.specs.declared.line.Line.TheVariants as line
 use Rattle.om_answer.specs.Texts.{line_text}
+use Rattle.om_localize.specs.declared.listing.Listing.{Listing}
 use Rattle.om_paint.specs.declared.painted.Painted.{Painted}
 use Rattle.om_subsets.specs.Members.{Chosen}
 use Rattle.om_answer.specs.VerdictText.{verdict_text}
@@ -18,6 +19,7 @@ use Rattle.om_program.specs.declared.answer.Answer.TheVariants as answer
 use Rattle.om_program.specs.declared.status.Status.{Status}
 use Rattle.om_program.specs.declared.status.Status.TheVariants.{Done, Refused, Usage, Limit}
 use Rattle.om_program.specs.Statuses.{IsReplied}
+use Rattle.om_program.specs.ExtensionTexts.{extensions_text}
 use Rattle.om_program.specs.HullTexts.{hull_text}
 use Rattle.om_program.specs.MutationTexts.{mutations_text}
 
@@ -32,6 +34,10 @@ shows d = answer.Document d
 -- an answer that lists mutations
 abbrev pub lists : List Chosen → Answer
 lists sets = answer.Mutations sets
+
+-- an answer that lists extensions of a map on so many elements
+abbrev pub lists_extensions : ℕ → Listing → Answer
+lists_extensions n l = answer.Extensions n l
 
 -- an answer that is a verdict on a chirotope
 abbrev pub judges : SignMap → Verdict → Answer
@@ -67,6 +73,7 @@ abbrev pub status_of : Answer → Status
 status_of (answer.Line l) = status_of_line l
 status_of (answer.Document d) = Done
 status_of (answer.Mutations sets) = Done
+status_of (answer.Extensions n l) = Done
 status_of (answer.Hull items) = Done
 status_of (answer.Verdict m v) = status_of_verdict v
 
@@ -75,6 +82,7 @@ abbrev pub text_of : Answer → List ℕ
 text_of (answer.Line l) = line_text l
 text_of (answer.Document d) = printed d
 text_of (answer.Mutations sets) = mutations_text sets
+text_of (answer.Extensions n l) = extensions_text n l
 text_of (answer.Hull items) = hull_text items
 text_of (answer.Verdict m v) = verdict_text m v
 
@@ -83,5 +91,6 @@ abbrev pub IsReply : Answer → Type 0
 IsReply (answer.Line l) = IsReplied (status_of_line l)
 IsReply (answer.Document d) = IsInForm d
 IsReply (answer.Mutations sets) = Unit {0}
+IsReply (answer.Extensions n l) = Unit {0}
 IsReply (answer.Hull items) = Unit {0}
 IsReply (answer.Verdict m v) = IsVerdictInForm v

@@ -8,6 +8,7 @@ pub mod Samples
 pub mod Readings
 pub mod Statuses
 pub mod MutationTexts
+pub mod ExtensionTexts
 pub mod HullTexts
 pub mod Answers
 pub mod Points
@@ -22,6 +23,7 @@ pub mod Conversions
 pub mod Operations
 pub mod Sweeps
 pub mod MutationLists
+pub mod ExtensionLists
 pub mod Flips
 pub mod Paintings
 pub mod Hulls

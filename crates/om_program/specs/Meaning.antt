@@ -17,7 +17,7 @@ use Rattle.om_program.specs.declared.answer.Answer.{Answer}
 use Rattle.om_program.specs.declared.operation.Operation.TheVariants as operation
 use Rattle.om_program.specs.declared.reads.Reads.TheVariants as source
 use Rattle.om_program.specs.declared.task.Task.{Task}
-use Rattle.om_program.specs.declared.task.Task.TheVariants.{Accept, Member, Convert, Dual, Delete, Contract, Reorient, Wiring, Mutations, Flip, Decide, Paint, Hull, Lexext, Check}
+use Rattle.om_program.specs.declared.task.Task.TheVariants.{Accept, Member, Convert, Dual, Delete, Contract, Reorient, Wiring, Mutations, Flip, Extend, Decide, Paint, Hull, Lexext, Check}
 use Rattle.om_program.specs.Answers.{says}
 use Rattle.om_program.specs.Axioms.{MeetsAxioms, IsRefused, IsFlatDocument}
 use Rattle.om_program.specs.Claims.{ClaimMeans}
@@ -25,6 +25,7 @@ use Rattle.om_program.specs.Conversions.{IsConversion}
 use Rattle.om_program.specs.Covectors.{IsCovectorIn}
 use Rattle.om_program.specs.Decisions.{IsDecision}
 use Rattle.om_program.specs.Documents.{worked_on}
+use Rattle.om_program.specs.ExtensionLists.{AreExtensions}
 use Rattle.om_program.specs.Flips.{IsFlip}
 use Rattle.om_program.specs.Hulls.{IsHull}
 use Rattle.om_program.specs.LexicalExtensions.{IsLexicalExtension}
@@ -48,6 +49,7 @@ IsAnswerOf (Reorient mask) d answer = IsOperation (operation.Reorient mask) d an
 IsAnswerOf Wiring d answer = IsWiringOf d answer
 IsAnswerOf Mutations d answer = AreMutations d answer
 IsAnswerOf (Flip a b c) d answer = IsFlip a b c d answer
+IsAnswerOf (Extend first) d answer = AreExtensions first d answer
 IsAnswerOf (Paint colouring) d answer = IsPainting colouring d answer
 IsAnswerOf Hull d answer = IsHull d answer
 IsAnswerOf (Lexext leading) d answer = IsLexicalExtension leading d answer

@@ -4,7 +4,8 @@ use Rattle.om_program.specs.declared.operation.Operation.TheVariants as operatio
 use Rattle.om_program.specs.declared.reads.Reads.{Reads}
 use Rattle.om_program.specs.declared.reads.Reads.TheVariants as kind
 use Rattle.om_program.specs.declared.task.Task.{Task}
-use Rattle.om_program.specs.declared.task.Task.TheVariants.{Delete, Contract, Reorient, Flip, Decide, Paint, Lexext, Check}
+use Rattle.om_program.specs.declared.task.Task.TheVariants.{Delete, Contract, Reorient, Flip, Extend, Decide, Paint, Lexext, Check}
+use Rattle.om_program.specs.ExtensionLists.{IsNumberOfLines}
 use Rattle.om_program.specs.Flips.{AreIncreasing}
 use Rattle.om_program.specs.LexicalExtensions.{AreLawful}
 use Rattle.om_program.specs.Operations.{IsLawful}
@@ -21,6 +22,7 @@ HasLawfulArguments (Delete e) = IsLawful (operation.Delete e)
 HasLawfulArguments (Contract e) = IsLawful (operation.Contract e)
 HasLawfulArguments (Reorient mask) = IsLawful (operation.Reorient mask)
 HasLawfulArguments (Flip a b c) = AreIncreasing a b c
+HasLawfulArguments (Extend first) = IsNumberOfLines first
 HasLawfulArguments (Paint colouring) = HasElement colouring
 HasLawfulArguments (Lexext leading) = AreLawful leading
 HasLawfulArguments (Decide b) = AreBudgets b

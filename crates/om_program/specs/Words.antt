@@ -9,9 +9,9 @@ use Rattle.om_subsets.specs.Members.{mask_of}
 use Rattle.om_text.specs.Words.{is_sign, sign_of_byte}
 use Rattle.om_answer.specs.declared.kind.Kind.{Kind}
 use Rattle.om_answer.specs.declared.kind.Kind.TheVariants as kind
-use Rattle.om_program.specs.Options.{AreBudgets}
+use Rattle.om_program.specs.Options.{AreBudgets, AreLines}
 use Rattle.om_program.specs.declared.task.Task.{Task}
-use Rattle.om_program.specs.declared.task.Task.TheVariants.{Accept, Member, Convert, Dual, Delete, Contract, Reorient, Wiring, Mutations, Flip, Decide, Paint, Hull, Lexext, Check}
+use Rattle.om_program.specs.declared.task.Task.TheVariants.{Accept, Member, Convert, Dual, Delete, Contract, Reorient, Wiring, Mutations, Flip, Extend, Decide, Paint, Hull, Lexext, Check}
 use Rattle.om_program.specs.declared.usage.Usage.{Usage}
 use Rattle.om_program.specs.declared.verb.Verb.{Verb}
 use Rattle.om_program.specs.declared.verb.Verb.TheVariants as verb
@@ -65,6 +65,7 @@ verb_of (Reorient mask) = verb.Reorient
 verb_of Wiring = verb.Wiring
 verb_of Mutations = verb.Mutations
 verb_of (Flip a b c) = verb.Flip
+verb_of (Extend first) = verb.Extend
 verb_of (Paint colouring) = verb.Paint
 verb_of Hull = verb.Hull
 verb_of (Lexext leading) = verb.Lexext
@@ -82,6 +83,7 @@ verb_word verb.Reorient = codes "reorient"
 verb_word verb.Wiring = codes "wiring"
 verb_word verb.Mutations = codes "mutations"
 verb_word verb.Flip = codes "flip"
+verb_word verb.Extend = codes "extend"
 verb_word verb.Paint = codes "paint"
 verb_word verb.Hull = codes "hull"
 verb_word verb.Lexext = codes "lexext"
@@ -100,6 +102,7 @@ AreArguments (Reorient mask) words = AreElements words mask
 AreArguments Wiring words = AreNone words tt
 AreArguments Mutations words = AreNone words tt
 AreArguments (Flip a b c) words = AreTriple words (a, b, c)
+AreArguments (Extend first) words = AreLines words first
 AreArguments (Paint colouring) words = AreColouring words colouring
 AreArguments Hull words = AreNone words tt
 AreArguments (Lexext leading) words = AreLeading words leading

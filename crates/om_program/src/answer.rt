@@ -5,6 +5,7 @@ use crate::status::Status;
 use om_answer::Line;
 use om_certificate::Verdict;
 use om_chirotope::Chirotope;
+use om_localize::Listing;
 use om_paint::Painted;
 use om_signs::List;
 use om_subsets::Subset;
@@ -19,6 +20,12 @@ pub enum Answer {
     Document(Document),
     /// Mutations: one line that says how many there are, a line for each, and `end`.
     Mutations(List<Subset>),
+    /// Extensions of a map on this many elements: `om 1`, `extensions` and the number of elements, a line for each
+    /// signature, and `end`, or `more` where a further one exists.
+    Extensions {
+        elements: u8,
+        listing: Listing,
+    },
     /// The hull of an acyclic oriented matroid: `acyclic`, a line for each element, and `end`.
     Hull(List<Painted>),
     /// A verdict on a chirotope: the document of the chirotope, and behind it the verdict.
@@ -37,6 +44,7 @@ impl Answer {
             Answer::Line(line) => status_of_line(line),
             Answer::Document(_) => Status::Done,
             Answer::Mutations(_) => Status::Done,
+            Answer::Extensions { .. } => Status::Done,
             Answer::Hull(_) => Status::Done,
             Answer::Verdict { verdict, .. } => status_of_verdict(verdict),
         }

@@ -10,6 +10,7 @@ use crate::answer::Answer;
 use crate::conversion::convert;
 use crate::convex_hull::find_hull;
 use crate::decision::judge;
+use crate::extension_list::list_extensions;
 use crate::flipping::flip_triple;
 use crate::lexical_extension::extend_lexically;
 use crate::membership::find_membership;
@@ -91,7 +92,7 @@ fn answer_document<R: Threads + Sync>(
     ensures { IfOk result (DocumentMeans task document) }
 {
     match represent(rt, alloc, document) {
-        Ok(representation) => answer_task(alloc, task, representation),
+        Ok(representation) => answer_task(rt, alloc, task, representation),
         Err(Unrepresented::Refused(why)) => Ok(Answer::Line(why)),
         Err(Unrepresented::Flat) => Ok(Answer::Line(flat_line(task))),
         Err(Unrepresented::Memory) => Err(NoMemory),
@@ -109,7 +110,8 @@ fn flat_line(task: Task) -> Line
 }
 
 /// The answer to a task on an oriented matroid.
-fn answer_task(
+fn answer_task<R: Threads + Sync>(
+    rt: &R,
     alloc: Global,
     task: Task,
     representation: Representation,
@@ -132,6 +134,7 @@ fn answer_task(
         Task::Hull => find_hull(alloc, representation),
         Task::Lexext(leading) => extend_lexically(alloc, representation, leading),
         Task::Flip(a, b, c) => flip_triple(alloc, representation, a, b, c),
+        Task::Extend { first } => list_extensions(rt, alloc, representation, first),
         Task::Decide(budgets) => judge(alloc, representation, budgets),
         // the source of this one is a claim
         Task::Check => unreachable!(),

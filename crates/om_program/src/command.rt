@@ -5,7 +5,7 @@ use crate::argument::only;
 use crate::arguments::{elements, none};
 use crate::colouring::colours_and_element;
 use crate::leading::signed_elements;
-use crate::numbered::budgets;
+use crate::numbered::{budgets, lines};
 use crate::task::Task;
 use crate::triple::triple;
 use crate::usage::Usage;
@@ -63,6 +63,9 @@ fn after_verb(verb: Verb, rest: &[String]) -> Result<Task, Usage>
             let (a, b, c) = triple(rest)?;
             Ok(Task::Flip(a, b, c))
         }
+        Verb::Extend => Ok(Task::Extend {
+            first: lines(rest)?,
+        }),
         Verb::Paint => Ok(Task::Paint(colours_and_element(rest)?)),
         Verb::Hull => {
             none(rest)?;

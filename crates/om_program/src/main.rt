@@ -16,6 +16,10 @@ mod decision;
 #[cfg(test)]
 mod decision_tests;
 mod documents;
+mod extension_list;
+#[cfg(test)]
+mod extension_tests;
+mod extension_text;
 mod flipping;
 mod hull_text;
 mod leading;

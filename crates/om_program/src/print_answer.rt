@@ -4,6 +4,7 @@ ghost use Rattle.std.specs.Prelude.{◌≡◌, IfOk};
 ghost use Rattle.om_program.specs.Answers.{IsReply, text_of};
 
 use crate::answer::Answer;
+use crate::extension_text::print_extensions;
 use crate::hull_text::print_hull;
 use crate::mutation_text::print_mutations;
 use om_answer::{print_line, print_verdict};
@@ -20,6 +21,7 @@ pub fn print_answer(alloc: Global, answer: &Answer) -> Result<Vec<u8>, NoMemory>
         Answer::Line(line) => print_line(alloc, line),
         Answer::Document(document) => print(alloc, document),
         Answer::Mutations(sets) => print_mutations(alloc, sets),
+        Answer::Extensions { elements, listing } => print_extensions(alloc, *elements, listing),
         Answer::Hull(items) => print_hull(alloc, items),
         Answer::Verdict { chirotope, verdict } => print_verdict(alloc, chirotope, verdict),
     }

@@ -31,6 +31,8 @@ pub enum Task {
     Mutations,
     /// `flip A B C`: the chirotope with the sign of these three elements turned.
     Flip(u8, u8, u8),
+    /// `extend --first=K`: the first K extensions of the chirotope by one element.
+    Extend { first: u64 },
     /// `paint COLOURS E`: the circuit or the cocircuit that fits these colours at this element.
     Paint(Colouring),
     /// `hull`: whether the oriented matroid is acyclic, and its extreme elements.

@@ -16,6 +16,7 @@ pub enum Verb {
     Wiring,
     Mutations,
     Flip,
+    Extend,
     Paint,
     Hull,
     Lexext,
@@ -24,7 +25,7 @@ pub enum Verb {
 }
 
 /// All verbs.
-const VERBS: [Verb; 15] = [
+const VERBS: [Verb; 16] = [
     Verb::Accept,
     Verb::Member,
     Verb::Convert,
@@ -35,6 +36,7 @@ const VERBS: [Verb; 15] = [
     Verb::Wiring,
     Verb::Mutations,
     Verb::Flip,
+    Verb::Extend,
     Verb::Paint,
     Verb::Hull,
     Verb::Lexext,
@@ -58,6 +60,7 @@ impl Verb {
             Verb::Wiring => "wiring",
             Verb::Mutations => "mutations",
             Verb::Flip => "flip",
+            Verb::Extend => "extend",
             Verb::Paint => "paint",
             Verb::Hull => "hull",
             Verb::Lexext => "lexext",

@@ -1,4 +1,4 @@
-use Rattle.om_program.proofs.WordLaws.{ok_named, err_passed, accept_shape, member_shape, convert_shape, dual_shape, delete_shape, contract_shape, reorient_shape, mutations_shape, flip_shape, paint_shape, hull_shape, lexext_shape, wiring_shape, decide_shape, check_shape}
+use Rattle.om_program.proofs.WordLaws.{ok_named, err_passed, accept_shape, member_shape, convert_shape, dual_shape, delete_shape, contract_shape, reorient_shape, mutations_shape, flip_shape, extend_shape, paint_shape, hull_shape, lexext_shape, wiring_shape, decide_shape, check_shape}
 use Rattle.om_program.proofs.command.after_verb.Goals as goal
 
 pub returns-in_ok-none-in-Accept : goal.returns-in_ok-none-in-Accept
@@ -60,6 +60,12 @@ returns-in_ok-a-in-Flip c = rw c.in-Flip.is (ok_named _ _ _ _ _ _ flip_shape c.t
 
 pub returns-in_err-a-in-Flip : goal.returns-in_err-a-in-Flip
 returns-in_err-a-in-Flip c = rw c.in-Flip.is (err_passed _ _ _ _ _ _ _ flip_shape c.triple.ensures c.in_err-a-in-Flip.was c.from_residual-in_err-a-in-Flip.ensures.1)
+
+pub returns-in_ok-lines-in-Extend : goal.returns-in_ok-lines-in-Extend
+returns-in_ok-lines-in-Extend c = rw c.in-Extend.is (ok_named _ _ _ _ _ _ extend_shape c.lines.ensures c.in_ok-lines-in-Extend.was)
+
+pub returns-in_err-lines-in-Extend : goal.returns-in_err-lines-in-Extend
+returns-in_err-lines-in-Extend c = rw c.in-Extend.is (err_passed _ _ _ _ _ _ _ extend_shape c.lines.ensures c.in_err-lines-in-Extend.was c.from_residual-in_err-lines-in-Extend.ensures.1)
 
 pub returns-in_ok-colours_and_element-in-Paint : goal.returns-in_ok-colours_and_element-in-Paint
 returns-in_ok-colours_and_element-in-Paint c = rw c.in-Paint.is (ok_named _ _ _ _ _ _ paint_shape c.colours_and_element.ensures c.in_ok-colours_and_element-in-Paint.was)

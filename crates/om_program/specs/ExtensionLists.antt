@@ -1,0 +1,29 @@
+-- What the list of the extensions of a chirotope by one element is.
+use Rattle.std.specs.Prelude.{ℕ, ◌≡◌, ◌≢◌, ◌≤◌, ◌<◌}
+use Rattle.om_signs.specs.declared.limits.TheConstants.{MAX_ELEMENTS, MAX_LINES}
+use Rattle.om_chirotope.specs.Map.{SignMap}
+use Rattle.om_localize.specs.declared.listing.Listing.{Listing}
+use Rattle.om_localize.specs.Extensions.{IsSignature}
+use Rattle.om_localize.specs.Listings.{AreFirst}
+use Rattle.om_text.specs.declared.document.Document.{Document}
+use Rattle.om_answer.specs.declared.line.Line.TheVariants as line
+use Rattle.om_program.specs.declared.answer.Answer.{Answer}
+use Rattle.om_program.specs.Answers.{says, lists_extensions}
+use Rattle.om_program.specs.RankThree.{IsForChirotope}
+
+-- a number of lines that may be asked for
+abbrev pub IsNumberOfLines : ℕ → Type 0
+IsNumberOfLines first = (1 ≤ first) × (first ≤ MAX_LINES)
+
+-- the first extensions of a map
+pub data AreExtensionsOfMap (first : ℕ) (m : SignMap) : Answer → Type 0 where
+  -- extensions are listed in rank 3
+  other_rank : m.rank ≢ 3 → AreExtensionsOfMap first m (says (line.RefusedNotrank3 m.rank))
+  -- there are as many elements as may be
+  full : m.rank ≡ 3 → m.elements ≡ MAX_ELEMENTS → AreExtensionsOfMap first m (says (line.RefusedFull m.elements))
+  -- the first of their signatures in lexicographic order, each once, or all where there are fewer, and whether there is a further one
+  listed : (l : Listing) → m.rank ≡ 3 → m.elements < MAX_ELEMENTS → AreFirst (IsSignature m) first l.lines l.more → AreExtensionsOfMap first m (lists_extensions m.elements l)
+
+-- the first extensions of the chirotope of a document
+abbrev pub AreExtensions : ℕ → Document → Answer → Type 0
+AreExtensions first d answer = IsForChirotope (AreExtensionsOfMap first) d answer

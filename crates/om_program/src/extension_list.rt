@@ -1,0 +1,48 @@
+//! The extensions of a chirotope by one element.
+
+ghost use Rattle.std.specs.Prelude.{◌≤◌, IfOk};
+ghost use Rattle.om_program.specs.ExtensionLists.{AreExtensions, AreExtensionsOfMap, IsNumberOfLines};
+ghost use Rattle.om_program.specs.Represented.{IsMeantFor};
+
+use crate::answer::Answer;
+use crate::chirotope_choice::choose_chirotope;
+use crate::representation::Representation;
+use om_answer::Line;
+use om_chirotope::Chirotope;
+use om_localize::{ExtendError, extensions};
+use om_signs::NoMemory;
+use std::alloc::Global;
+use std::thread::Threads;
+
+/// The first extensions of the chirotope of an oriented matroid by one element, as many as `first` says.
+pub fn list_extensions<R: Threads + Sync>(
+    rt: &R,
+    alloc: Global,
+    representation: Representation,
+    first: u64,
+) -> Result<Answer, NoMemory>
+    requires { IsNumberOfLines first }
+    ensures { IfOk result (IsMeantFor (AreExtensions first) representation) }
+{
+    let chirotope = choose_chirotope(alloc, representation)?;
+    list_extensions_of(rt, alloc, &chirotope, first)
+}
+
+/// The first extensions of a chirotope.
+fn list_extensions_of<R: Threads + Sync>(
+    rt: &R,
+    alloc: Global,
+    chirotope: &Chirotope,
+    first: u64,
+) -> Result<Answer, NoMemory>
+    requires { IsNumberOfLines first }
+    ensures { IfOk result (AreExtensionsOfMap first chirotope.now) }
+{
+    let elements = chirotope.elements();
+    match extensions(rt, alloc, chirotope, first) {
+        Ok(listing) => Ok(Answer::Extensions { elements, listing }),
+        Err(ExtendError::NotRank3 { r }) => Ok(Answer::Line(Line::RefusedNotrank3 { r })),
+        Err(ExtendError::Full { n }) => Ok(Answer::Line(Line::RefusedFull { n })),
+        Err(ExtendError::Memory) => Err(NoMemory),
+    }
+}

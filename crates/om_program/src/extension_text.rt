@@ -1,0 +1,65 @@
+//! The text of a list of extensions.
+
+ghost use Rattle.std.specs.Prelude.{◌≡◌, ◌++◌, ◌∷◌, [], IfOk, OnOk};
+ghost use Rattle.om_text.specs.Print.{text_of};
+ghost use Rattle.om_text.specs.Words.{byte_of};
+ghost use Rattle.om_answer.specs.Texts.{signs_text};
+ghost use Rattle.om_program.specs.ExtensionTexts.{signature_lines, last_word, extensions_text};
+
+use om_answer::pieces::{push, push_decimal, push_line_feed};
+use om_localize::{Listing, Signature};
+use om_signs::{NoMemory, Sign};
+use std::alloc::Global;
+
+/// The text of a list of extensions of a map on this many elements: two lines that say what it is, a line for each
+/// signature, and `end`, or `more` where a further one exists.
+pub fn print_extensions(alloc: Global, elements: u8, listing: &Listing) -> Result<Vec<u8>, NoMemory>
+    ensures { IfOk result (λ text. text.items ≡ extensions_text elements listing.now) }
+{
+    let mut text = Vec::new(alloc);
+    push(&mut text, b"om 1\nextensions ")?;
+    push_decimal(&mut text, u128::from(elements))?;
+    push_line_feed(&mut text)?;
+    push_signatures(&mut text, listing.lines.as_slice())?;
+    push(&mut text, last_word(listing.more))?;
+    push_line_feed(&mut text)?;
+    Ok(text)
+}
+
+/// The last word of a list: whether it goes on behind its last line.
+fn last_word(more: bool) -> &'static [u8]
+    ensures { result.now ≡ last_word more }
+{
+    if more { b"more" } else { b"end" }
+}
+
+/// Puts signatures at the end, one a line.
+fn push_signatures(text: &mut Vec<u8>, signatures: &[Signature]) -> Result<(), NoMemory>
+    ensures { OnOk result (text.new.items ≡ text.old.items ++ text_of (signature_lines signatures.now)) }
+{
+    for signature in signatures {
+        push_signature(text, signature)?;
+    }
+    Ok(())
+}
+
+/// Puts a signature at the end, and a line feed.
+fn push_signature(text: &mut Vec<u8>, signature: &Signature) -> Result<(), NoMemory>
+    ensures { OnOk result (text.new.items ≡ text.old.items ++ (signs_text signature.now ++ 10 ∷ [])) }
+{
+    for k in 0..signature.len() {
+        text.push(byte_of(signature.at(k)))?;
+    }
+    push_line_feed(text)
+}
+
+/// The byte of a sign.
+fn byte_of(sign: Sign) -> u8
+    ensures { result ≡ byte_of sign }
+{
+    match sign {
+        Sign::Minus => b'-',
+        Sign::Zero => b'0',
+        Sign::Plus => b'+',
+    }
+}
