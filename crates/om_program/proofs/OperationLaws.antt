@@ -105,5 +105,6 @@ lawful_arguments words t named = lawful t named.arguments named.behind
     lawful (task.Paint colouring) rest read = read.element.low
     lawful task.Hull rest behind = tt
     lawful (task.Lexext leading) rest read = lawful_leading rest leading read
+    lawful task.Threeterm rest behind = tt
     lawful (task.Decide b) rest behind = lawful_budgets rest b behind
     lawful task.Check rest behind = tt

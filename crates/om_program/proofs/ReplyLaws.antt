@@ -31,7 +31,7 @@ use Rattle.om_program.specs.declared.operation.Operation.TheVariants as operatio
 use Rattle.om_program.specs.declared.status.Status.{Status}
 use Rattle.om_program.specs.declared.status.Status.TheVariants as status
 use Rattle.om_program.specs.declared.task.Task.{Task}
-use Rattle.om_program.specs.declared.task.Task.TheVariants.{Accept, Member, Convert, Dual, Delete, Contract, Reorient, Wiring, Mutations, Flip, Extend, Decide, Paint, Hull, Lexext, Check}
+use Rattle.om_program.specs.declared.task.Task.TheVariants.{Accept, Member, Convert, Dual, Delete, Contract, Reorient, Wiring, Mutations, Flip, Extend, Decide, Paint, Hull, Lexext, Threeterm, Check}
 use Rattle.om_program.specs.Statuses.{IsAnswered, IsReplied}
 use Rattle.om_program.specs.Answers.{IsReply, status_of, status_of_line}
 use Rattle.om_program.specs.Axioms.{IsRefusedOn, set_line, map_line, cov_line, wiring_line}
@@ -41,9 +41,13 @@ use Rattle.om_program.specs.Operations.{IsOperation, outside, last, made}
 use Rattle.om_program.proofs.RankThreeLaws.{mutations_replies, extensions_reply, flip_replies, wiring_replies}
 use Rattle.om_program.proofs.ReachLaws.{painting_replies, hull_replies, extension_replies}
 use Rattle.om_program.specs.Operations as operations
+use Rattle.om_program.specs.ThreeTermTests as tests
+use Rattle.om_signs.specs.declared.raw_map.RawMap.{RawMap}
+use Rattle.om_threeterm.specs.declared.three_refused.ThreeRefused.{ThreeRefused}
+use Rattle.om_threeterm.specs.declared.three_refused.ThreeRefused.TheVariants as three
 use Rattle.om_program.specs.Claims as claims
 use Rattle.om_program.proofs.DecisionLaws.{verdict_status, decision_replies}
-use Rattle.om_program.specs.Meaning.{IsAnswerOf, DocumentMeans, flat_line, refused, flat, answered, TaskMeans, long, faulty, read, faulty_claim, claimed}
+use Rattle.om_program.specs.Meaning.{IsAnswerOf, DocumentMeans, flat_line, tested, refused, flat, answered, TaskMeans, long, faulty, read, faulty_claim, claimed}
 
 -- ---- statuses
 
@@ -148,6 +152,20 @@ claim_replies c l (claims.fails_axioms why is) = refused_replies c.document.elem
 claim_replies c l (claims.flat axioms is) = tt
 claim_replies c l (claims.verified m k axioms bent is means) = verdict_replies m c.verdict l means
 
+failure_replies : (why : ThreeRefused) → IsReplied (status_of_line (tests.failure_line why))
+failure_replies three.AllZero = tt
+failure_replies (three.NoExchange b c e) = tt
+failure_replies (three.ThreeTerm p q) = tt
+
+map_test_replies : (m : RawMap) (a : Answer) → tests.IsTestOfMap m a → IsReply a
+map_test_replies m a (tests.fails why is) = failure_replies why
+map_test_replies m a (tests.meets is) = tt
+
+test_replies : (d : Document) (a : Answer) → tests.IsThreeTermTest d a → IsReply a
+test_replies d a (tests.of_map m b same is) = map_test_replies m a is
+test_replies d a (tests.refused why no is) = refused_replies d.elements d.body why is
+test_replies d a (tests.no_map no axioms) = tt
+
 -- ---- the answers of tasks: one line for each
 
 task_answer_replies : (t : Task) (d : Document) (a : Answer) → IsAnswerOf t d a → IsReply a
@@ -165,6 +183,7 @@ task_answer_replies (Extend first) d a is = extensions_reply first d a is
 task_answer_replies (Paint colouring) d a is = painting_replies colouring d a is
 task_answer_replies Hull d a is = hull_replies d a is
 task_answer_replies (Lexext leading) d a is = extension_replies leading d a is
+task_answer_replies Threeterm d a is = absurd is
 task_answer_replies (Decide b) d a is = decision_replies b d a is
 task_answer_replies Check d a is = absurd is
 
@@ -173,9 +192,10 @@ flat_replies Accept = tt
 flat_replies _ = tt
 
 document_replies : (t : Task) (d : Document) (a : Answer) → DocumentMeans t d a → IsReply a
-document_replies t d a (refused why is) = refused_replies d.elements d.body why is
-document_replies t d a (flat axioms is) = flat_replies t
-document_replies t d a (answered b axioms bent is) = task_answer_replies t _ a is
+document_replies t d a (tested b same is) = test_replies d a is
+document_replies t d a (refused why other is) = refused_replies d.elements d.body why is
+document_replies t d a (flat other axioms is) = flat_replies t
+document_replies t d a (answered b other axioms bent is) = task_answer_replies t _ a is
 
 pub task_replies : (t : Task) (bytes : List ℕ) (a : Answer) → TaskMeans t bytes a → IsReply a
 task_replies t bytes a (long reads past) = tt

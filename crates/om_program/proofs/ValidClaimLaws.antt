@@ -27,7 +27,7 @@ use Rattle.om_program.specs.declared.verb.Verb.TheVariants as verb
 use Rattle.om_program.specs.Answers.{says, judges}
 use Rattle.om_program.specs.Claims.{valid, judged, verified, valid_line}
 use Rattle.om_program.specs.Decisions.{IsDecided, DecisionMeans, other_rank, decided, IsDecision, of_chirotope}
-use Rattle.om_program.specs.Meaning.{Means, usage, named, TaskMeans, long, faulty, read, faulty_claim, claimed, DocumentMeans, refused, flat, answered}
+use Rattle.om_program.specs.Meaning.{Means, usage, named, TaskMeans, long, faulty, read, faulty_claim, claimed, DocumentMeans, tested, refused, flat, answered}
 use Rattle.om_program.specs.ValidClaims.{IsLimit, IsFoundValid, VerdictsAreFoundValid}
 use Rattle.om_program.specs.Words.{Names, verb_of}
 use Rattle.om_program.proofs.VerbLaws.{same_verb}
@@ -52,9 +52,10 @@ decision_judged : (b : Budgets) (d : Document) (a : Answer) → IsDecision b d a
 decision_judged b d a (of_chirotope m answer of means) = map_judged m b a means
 
 document_judged : (b : Budgets) (d : Document) (a : Answer) → DocumentMeans (Decide b) d a → IsJudged b a
-document_judged b d a (refused why is) = tt
-document_judged b d a (flat axioms is) = tt
-document_judged b d a (answered answer axioms bent is) = decision_judged b _ a is
+document_judged b d a (tested answer same is) = cc
+document_judged b d a (refused why other is) = tt
+document_judged b d a (flat other axioms is) = tt
+document_judged b d a (answered answer other axioms bent is) = decision_judged b _ a is
 
 task_judged : (b : Budgets) (bytes : List ℕ) (a : Answer) → TaskMeans (Decide b) bytes a → IsJudged b a
 task_judged b bytes a (long reads past) = tt

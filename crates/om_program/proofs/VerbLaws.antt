@@ -26,8 +26,9 @@ verb_of_word word =
     cond (bytes_eq word (codes "paint")) verb.Paint (
     cond (bytes_eq word (codes "hull")) verb.Hull (
     cond (bytes_eq word (codes "lexext")) verb.Lexext (
+    cond (bytes_eq word (codes "threeterm")) verb.Threeterm (
     cond (bytes_eq word (codes "decide")) verb.Decide (
-    verb.Check)))))))))))))))
+    verb.Check))))))))))))))))
 
 word_back : (v : Verb) → verb_of_word (verb_word v) ≡ v
 word_back verb.Accept = refl
@@ -44,6 +45,7 @@ word_back verb.Extend = refl
 word_back verb.Paint = refl
 word_back verb.Hull = refl
 word_back verb.Lexext = refl
+word_back verb.Threeterm = refl
 word_back verb.Decide = refl
 word_back verb.Check = refl
 
@@ -66,8 +68,9 @@ place_of verb.Extend = 10
 place_of verb.Paint = 11
 place_of verb.Hull = 12
 place_of verb.Lexext = 13
-place_of verb.Decide = 14
-place_of verb.Check = 15
+place_of verb.Threeterm = 14
+place_of verb.Decide = 15
+place_of verb.Check = 16
 
 pub verb_at : (u v : Verb) → get_or VERBS (place_of v) u ≡ v
 verb_at u verb.Accept = refl
@@ -84,6 +87,7 @@ verb_at u verb.Extend = refl
 verb_at u verb.Paint = refl
 verb_at u verb.Hull = refl
 verb_at u verb.Lexext = refl
+verb_at u verb.Threeterm = refl
 verb_at u verb.Decide = refl
 verb_at u verb.Check = refl
 
@@ -102,5 +106,6 @@ place_within verb.Extend = lit≤ tt
 place_within verb.Paint = lit≤ tt
 place_within verb.Hull = lit≤ tt
 place_within verb.Lexext = lit≤ tt
+place_within verb.Threeterm = lit≤ tt
 place_within verb.Decide = lit≤ tt
 place_within verb.Check = lit≤ tt

@@ -11,7 +11,7 @@ use Rattle.om_answer.specs.declared.kind.Kind.TheVariants as kind
 use Rattle.om_decide.specs.declared.budgets.Budgets.{Budgets}
 use Rattle.om_program.specs.Options.{AreBudgets, AreLines}
 use Rattle.om_program.specs.declared.task.Task.{Task}
-use Rattle.om_program.specs.declared.task.Task.TheVariants.{Accept, Member, Convert, Dual, Delete, Contract, Reorient, Wiring, Mutations, Flip, Extend, Decide, Paint, Hull, Lexext, Check}
+use Rattle.om_program.specs.declared.task.Task.TheVariants.{Accept, Member, Convert, Dual, Delete, Contract, Reorient, Wiring, Mutations, Flip, Extend, Decide, Paint, Hull, Lexext, Threeterm, Check}
 use Rattle.om_program.specs.declared.usage.Usage.{Usage}
 use Rattle.om_program.specs.declared.colouring.Colouring.{Colouring}
 use Rattle.om_program.specs.declared.leading.Leading.{Leading}
@@ -182,6 +182,7 @@ Value verb.Extend = ℕ
 Value verb.Paint = Colouring
 Value verb.Hull = Unit {0}
 Value verb.Lexext = Leading
+Value verb.Threeterm = Unit {0}
 Value verb.Decide = Budgets
 Value verb.Check = Unit {0}
 
@@ -200,6 +201,7 @@ value_of (Extend first) = first
 value_of (Paint colouring) = colouring
 value_of Hull = tt
 value_of (Lexext leading) = leading
+value_of Threeterm = tt
 value_of (Decide b) = b
 value_of Check = tt
 
@@ -218,6 +220,7 @@ task_of verb.Extend first = Extend first
 task_of verb.Paint colouring = Paint colouring
 task_of verb.Hull _ = Hull
 task_of verb.Lexext leading = Lexext leading
+task_of verb.Threeterm _ = Threeterm
 task_of verb.Decide b = Decide b
 task_of verb.Check _ = Check
 
@@ -236,6 +239,7 @@ task_back (Extend first) = refl
 task_back (Paint colouring) = refl
 task_back Hull = refl
 task_back (Lexext leading) = refl
+task_back Threeterm = refl
 task_back (Decide b) = refl
 task_back Check = refl
 
@@ -283,6 +287,9 @@ hull_shape = record { verb = λ a. refl; arguments = λ a words. (λ h. h, λ h.
 
 pub lexext_shape : IsShape verb.Lexext AreLeading Lexext
 lexext_shape = record { verb = λ a. refl; arguments = λ a words. (λ h. h, λ h. h); only = only verb.Lexext }
+
+pub threeterm_shape : IsShape verb.Threeterm AreNone (λ _. Threeterm)
+threeterm_shape = record { verb = λ a. refl; arguments = λ a words. (λ h. h, λ h. h); only = only verb.Threeterm }
 
 pub decide_shape : IsShape verb.Decide AreBudgets Decide
 decide_shape = record { verb = λ a. refl; arguments = λ a words. (λ h. h, λ h. h); only = only verb.Decide }

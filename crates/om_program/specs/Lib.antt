@@ -30,6 +30,7 @@ pub mod Hulls
 pub mod LexicalExtensions
 pub mod Decisions
 pub mod Tasks
+pub mod ThreeTermTests
 pub mod Claims
 pub mod Meaning
 pub mod ValidClaims

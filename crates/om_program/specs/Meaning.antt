@@ -1,7 +1,7 @@
 -- What the words after the program's name and the bytes of its input mean: an answer, with its status and its text. This is the
 -- relation that `run` is proved against; its cases stand in the order in which they are looked at, and each holds only where none
 -- before it does. What each command answers stands in a file of its own.
-use Rattle.std.specs.Prelude.{ℕ, ◌≡◌, ◌<◌, ◌≤◌, List, length}
+use Rattle.std.specs.Prelude.{ℕ, ◌≡◌, ◌≢◌, ◌<◌, ◌≤◌, List, length}
 use Rattle.om_signs.specs.declared.limits.TheConstants.{MAX_INPUT}
 use Rattle.om_text.specs.declared.code.Code.{Code}
 use Rattle.om_text.specs.declared.document.Document.{Document}
@@ -17,7 +17,7 @@ use Rattle.om_program.specs.declared.answer.Answer.{Answer}
 use Rattle.om_program.specs.declared.operation.Operation.TheVariants as operation
 use Rattle.om_program.specs.declared.reads.Reads.TheVariants as source
 use Rattle.om_program.specs.declared.task.Task.{Task}
-use Rattle.om_program.specs.declared.task.Task.TheVariants.{Accept, Member, Convert, Dual, Delete, Contract, Reorient, Wiring, Mutations, Flip, Extend, Decide, Paint, Hull, Lexext, Check}
+use Rattle.om_program.specs.declared.task.Task.TheVariants.{Accept, Member, Convert, Dual, Delete, Contract, Reorient, Wiring, Mutations, Flip, Extend, Decide, Paint, Hull, Lexext, Threeterm, Check}
 use Rattle.om_program.specs.Answers.{says}
 use Rattle.om_program.specs.Axioms.{MeetsAxioms, IsRefused, IsFlatDocument}
 use Rattle.om_program.specs.Claims.{ClaimMeans}
@@ -35,6 +35,7 @@ use Rattle.om_program.specs.Operations.{IsOperation}
 use Rattle.om_program.specs.Paintings.{IsPainting}
 use Rattle.om_program.specs.Sweeps.{IsWiringOf}
 use Rattle.om_program.specs.Tasks.{reads}
+use Rattle.om_program.specs.ThreeTermTests.{IsThreeTermTest}
 use Rattle.om_program.specs.Words.{Names, IsUsage}
 
 -- the answer to a task on the document of a chirotope or of a list that meets its axioms; a check reads a claim
@@ -53,6 +54,7 @@ IsAnswerOf (Extend first) d answer = AreExtensions first d answer
 IsAnswerOf (Paint colouring) d answer = IsPainting colouring d answer
 IsAnswerOf Hull d answer = IsHull d answer
 IsAnswerOf (Lexext leading) d answer = IsLexicalExtension leading d answer
+IsAnswerOf Threeterm d answer = ⊥
 IsAnswerOf (Decide b) d answer = IsDecision b d answer
 IsAnswerOf Check d answer = ⊥
 
@@ -63,12 +65,14 @@ flat_line _ = line.RefusedFlatrank
 
 -- what a task means for a document
 pub data DocumentMeans (task : Task) (d : Document) : Answer → Type 0 where
+  -- the document is given to the three-term test
+  tested : (answer : Answer) → task ≡ Threeterm → IsThreeTermTest d answer → DocumentMeans task d answer
   -- the document fails the axioms of its kind, and this line names the first violated instance
-  refused : (why : Line) → IsRefused d why → DocumentMeans task d (says why)
+  refused : (why : Line) → task ≢ Threeterm → IsRefused d why → DocumentMeans task d (says why)
   -- it meets them, and is a wiring that gives no chirotope
-  flat : MeetsAxioms d → IsFlatDocument d → DocumentMeans task d (says (flat_line task))
+  flat : task ≢ Threeterm → MeetsAxioms d → IsFlatDocument d → DocumentMeans task d (says (flat_line task))
   -- it meets them and gives an oriented matroid: points and wirings by their map, each other document as it is
-  answered : (answer : Answer) → MeetsAxioms d → (IsFlatDocument d → ⊥) → IsAnswerOf task (worked_on d) answer → DocumentMeans task d answer
+  answered : (answer : Answer) → task ≢ Threeterm → MeetsAxioms d → (IsFlatDocument d → ⊥) → IsAnswerOf task (worked_on d) answer → DocumentMeans task d answer
 
 -- what a task means for an input
 pub data TaskMeans (task : Task) (bytes : List ℕ) : Answer → Type 0 where

@@ -11,7 +11,7 @@ use Rattle.om_answer.specs.declared.kind.Kind.{Kind}
 use Rattle.om_answer.specs.declared.kind.Kind.TheVariants as kind
 use Rattle.om_program.specs.Options.{AreBudgets, AreLines}
 use Rattle.om_program.specs.declared.task.Task.{Task}
-use Rattle.om_program.specs.declared.task.Task.TheVariants.{Accept, Member, Convert, Dual, Delete, Contract, Reorient, Wiring, Mutations, Flip, Extend, Decide, Paint, Hull, Lexext, Check}
+use Rattle.om_program.specs.declared.task.Task.TheVariants.{Accept, Member, Convert, Dual, Delete, Contract, Reorient, Wiring, Mutations, Flip, Extend, Decide, Paint, Hull, Lexext, Threeterm, Check}
 use Rattle.om_program.specs.declared.usage.Usage.{Usage}
 use Rattle.om_program.specs.declared.verb.Verb.{Verb}
 use Rattle.om_program.specs.declared.verb.Verb.TheVariants as verb
@@ -69,6 +69,7 @@ verb_of (Extend first) = verb.Extend
 verb_of (Paint colouring) = verb.Paint
 verb_of Hull = verb.Hull
 verb_of (Lexext leading) = verb.Lexext
+verb_of Threeterm = verb.Threeterm
 verb_of (Decide b) = verb.Decide
 verb_of Check = verb.Check
 
@@ -87,6 +88,7 @@ verb_word verb.Extend = codes "extend"
 verb_word verb.Paint = codes "paint"
 verb_word verb.Hull = codes "hull"
 verb_word verb.Lexext = codes "lexext"
+verb_word verb.Threeterm = codes "threeterm"
 verb_word verb.Decide = codes "decide"
 verb_word verb.Check = codes "check"
 
@@ -106,6 +108,7 @@ AreArguments (Extend first) words = AreLines words first
 AreArguments (Paint colouring) words = AreColouring words colouring
 AreArguments Hull words = AreNone words tt
 AreArguments (Lexext leading) words = AreLeading words leading
+AreArguments Threeterm words = AreNone words tt
 AreArguments (Decide b) words = AreBudgets words b
 AreArguments Check words = AreNone words tt
 

@@ -1,6 +1,6 @@
 //! From an input to the answer.
 
-ghost use Rattle.std.specs.Prelude.{◌≡◌, ◌≤◌, IfOk, length};
+ghost use Rattle.std.specs.Prelude.{◌≡◌, ◌≢◌, ◌≤◌, IfOk, length};
 ghost use Rattle.om_text.specs.Form.{IsInForm};
 ghost use Rattle.om_program.specs.Meaning.{TaskMeans, DocumentMeans, IsAnswerOf, flat_line};
 ghost use Rattle.om_program.specs.Represented.{IsMeantFor};
@@ -21,6 +21,7 @@ use crate::reads::Reads;
 use crate::representation::{Representation, represent};
 use crate::sweeping::find_wiring;
 use crate::task::Task;
+use crate::three_terms::test_three_terms;
 use crate::unrepresented::Unrepresented;
 use crate::verification::verify;
 use om_answer::{Line, read_claim};
@@ -91,6 +92,25 @@ fn answer_document<R: Threads + Sync>(
     requires document { reads task ≡ Reads.Document }
     ensures { IfOk result (DocumentMeans task document) }
 {
+    match task {
+        Task::Threeterm => test_three_terms(rt, alloc, document),
+        _ => answer_represented(rt, alloc, task, document),
+    }
+}
+
+/// The answer to a task on a document whose axioms are looked at: that is any task but the three-term test.
+fn answer_represented<R: Threads + Sync>(
+    rt: &R,
+    alloc: Global,
+    task: Task,
+    document: Document,
+) -> Result<Answer, NoMemory>
+    requires form { IsInForm document }
+    requires lawful { HasLawfulArguments task }
+    requires document { reads task ≡ Reads.Document }
+    requires other { task ≢ Task.Threeterm }
+    ensures { IfOk result (DocumentMeans task document) }
+{
     match represent(rt, alloc, document) {
         Ok(representation) => answer_task(rt, alloc, task, representation),
         Err(Unrepresented::Refused(why)) => Ok(Answer::Line(why)),
@@ -118,6 +138,7 @@ fn answer_task<R: Threads + Sync>(
 ) -> Result<Answer, NoMemory>
     requires lawful { HasLawfulArguments task }
     requires document { reads task ≡ Reads.Document }
+    requires other { task ≢ Task.Threeterm }
     ensures { IfOk result (IsMeantFor (IsAnswerOf task) representation) }
 {
     match task {
@@ -136,6 +157,8 @@ fn answer_task<R: Threads + Sync>(
         Task::Flip(a, b, c) => flip_triple(alloc, representation, a, b, c),
         Task::Extend { first } => list_extensions(rt, alloc, representation, first),
         Task::Decide(budgets) => judge(alloc, representation, budgets),
+        // a map is tested as it stands in its document
+        Task::Threeterm => unreachable!(),
         // the source of this one is a claim
         Task::Check => unreachable!(),
     }

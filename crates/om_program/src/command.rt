@@ -72,6 +72,10 @@ fn after_verb(verb: Verb, rest: &[String]) -> Result<Task, Usage>
             Ok(Task::Hull)
         }
         Verb::Lexext => Ok(Task::Lexext(signed_elements(rest)?)),
+        Verb::Threeterm => {
+            none(rest)?;
+            Ok(Task::Threeterm)
+        }
         Verb::Decide => Ok(Task::Decide(budgets(rest)?)),
         Verb::Check => {
             none(rest)?;

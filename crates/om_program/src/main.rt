@@ -53,6 +53,7 @@ mod sweeping;
 mod task;
 #[cfg(test)]
 mod tests;
+mod three_terms;
 mod triple;
 mod unmade;
 mod unrepresented;

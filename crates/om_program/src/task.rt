@@ -39,6 +39,8 @@ pub enum Task {
     Hull,
     /// `lexext W..`: the lexicographic extension by these elements with signs.
     Lexext(Leading),
+    /// `threeterm`: whether the map of the document meets the three-term test.
+    Threeterm,
     /// `decide --box=K --steps=T --pivots=P`: whether vectors realize it, within these budgets.
     Decide(Budgets),
     /// `check`: whether the verdict of a claim has proof.

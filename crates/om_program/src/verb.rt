@@ -20,12 +20,13 @@ pub enum Verb {
     Paint,
     Hull,
     Lexext,
+    Threeterm,
     Decide,
     Check,
 }
 
 /// All verbs.
-const VERBS: [Verb; 16] = [
+const VERBS: [Verb; 17] = [
     Verb::Accept,
     Verb::Member,
     Verb::Convert,
@@ -40,6 +41,7 @@ const VERBS: [Verb; 16] = [
     Verb::Paint,
     Verb::Hull,
     Verb::Lexext,
+    Verb::Threeterm,
     Verb::Decide,
     Verb::Check,
 ];
@@ -64,6 +66,7 @@ impl Verb {
             Verb::Paint => "paint",
             Verb::Hull => "hull",
             Verb::Lexext => "lexext",
+            Verb::Threeterm => "threeterm",
             Verb::Decide => "decide",
             Verb::Check => "check",
         }

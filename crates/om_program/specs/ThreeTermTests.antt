@@ -1,0 +1,50 @@
+-- What the three-term test of a document comes to. Of a map it is asked in place of the axioms, to which it is equal; no document of
+-- another kind is tested.
+use Rattle.std.specs.Prelude.{◌≡◌}
+use Rattle.om_signs.specs.declared.raw_map.RawMap.{RawMap}
+use Rattle.om_chirotope.specs.Chirotope.{IsAllZero}
+use Rattle.om_chirotope.specs.Map.{map_of}
+use Rattle.om_chirotope.specs.ThreeTerm.{MeetsThreeTermTest, HasExchange}
+use Rattle.om_threeterm.specs.declared.three_refused.ThreeRefused.{ThreeRefused}
+use Rattle.om_threeterm.specs.declared.three_refused.ThreeRefused.TheVariants.{AllZero, NoExchange, ThreeTerm}
+use Rattle.om_threeterm.specs.Violations.{IsFirstUnexchanged, IsFirstUnbalanced}
+use Rattle.om_text.specs.declared.body.Body.{Body}
+use Rattle.om_text.specs.declared.body.Body.TheVariants.{Chirotope}
+use Rattle.om_text.specs.declared.document.Document.{Document}
+use Rattle.om_answer.specs.declared.line.Line.{Line}
+use Rattle.om_answer.specs.declared.line.Line.TheVariants as line
+use Rattle.om_program.specs.declared.answer.Answer.{Answer}
+use Rattle.om_program.specs.Answers.{says}
+use Rattle.om_program.specs.Axioms.{MeetsAxioms, IsRefused}
+
+-- the line that names the first part of the test that fails
+abbrev pub failure_line : ThreeRefused → Line
+failure_line AllZero = line.RefusedAllzero
+failure_line (NoExchange b c e) = line.RefusedNoexchange b c e
+failure_line (ThreeTerm p q) = line.RefusedThreeterm p q
+
+-- the first part of the test that a map fails: all values are zero; else the first violated exchange; else the first violated relation
+abbrev pub IsFirstFailure : RawMap → ThreeRefused → Type 0
+IsFirstFailure m AllZero = IsAllZero m.signs
+IsFirstFailure m (NoExchange b c e) = (IsAllZero m.signs → ⊥) × IsFirstUnexchanged (map_of m) b c e
+IsFirstFailure m (ThreeTerm p q) = (IsAllZero m.signs → ⊥) × (HasExchange (map_of m) × IsFirstUnbalanced (map_of m) p q)
+
+-- the test of a map
+pub data IsTestOfMap (m : RawMap) : Answer → Type 0 where
+  -- a part of it fails
+  fails : (why : ThreeRefused) → IsFirstFailure m why → IsTestOfMap m (says (failure_line why))
+  -- the map meets it
+  meets : MeetsThreeTermTest (map_of m) → IsTestOfMap m (says line.Accepted)
+
+-- the body isn't a map
+abbrev pub IsNoMap : Body → Type 0
+IsNoMap b = (m : RawMap) → b ≡ Chirotope m → ⊥
+
+-- the test of a document
+pub data IsThreeTermTest (d : Document) : Answer → Type 0 where
+  -- the document is that of a map, which is tested
+  of_map : (m : RawMap) (answer : Answer) → d.body ≡ Chirotope m → IsTestOfMap m answer → IsThreeTermTest d answer
+  -- it is of another kind, and fails the axioms of its kind
+  refused : (why : Line) → IsNoMap d.body → IsRefused d why → IsThreeTermTest d (says why)
+  -- it is of another kind, and meets them
+  no_map : IsNoMap d.body → MeetsAxioms d → IsThreeTermTest d (says line.RefusedNotmap)

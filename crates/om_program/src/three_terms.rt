@@ -1,0 +1,74 @@
+//! The three-term test as a command.
+
+ghost use Rattle.std.specs.Prelude.{◌≡◌, ◌≤◌, IfOk};
+ghost use Rattle.om_text.specs.Form.{IsInForm, IsMapOn};
+ghost use Rattle.om_program.specs.Answers.{says};
+ghost use Rattle.om_program.specs.ThreeTermTests.{IsThreeTermTest, IsTestOfMap, IsNoMap, failure_line};
+
+use crate::answer::Answer;
+use crate::representation::represent;
+use crate::unrepresented::Unrepresented;
+use om_answer::Line;
+use om_signs::{MAX_ELEMENTS, NoMemory, RawMap};
+use om_text::{Body, Document};
+use om_threeterm::{ThreeRefused, check};
+use std::alloc::Global;
+use std::thread::Threads;
+
+/// What the three-term test of a document comes to.
+pub fn test_three_terms<R: Threads + Sync>(
+    rt: &R,
+    alloc: Global,
+    document: Document,
+) -> Result<Answer, NoMemory>
+    requires { IsInForm document }
+    ensures { IfOk result (IsThreeTermTest document) }
+{
+    let Document { elements, body } = document;
+    match body {
+        Body::Chirotope(raw) => Ok(Answer::Line(test_map(rt, raw))),
+        body => test_other(rt, alloc, Document { elements, body }),
+    }
+}
+
+/// The line that says what the test of a map comes to.
+fn test_map<R: Threads + Sync>(rt: &R, raw: RawMap) -> Line
+    requires low { 1 ≤ raw.elements }
+    requires high { raw.elements ≤ MAX_ELEMENTS }
+    requires whole { IsMapOn raw.elements raw }
+    ensures { IsTestOfMap raw (says result) }
+{
+    match check(rt, raw) {
+        Ok(_) => Line::Accepted,
+        Err(bad) => failure_line(bad.why),
+    }
+}
+
+/// The line that names the first part of the test that fails.
+fn failure_line(why: ThreeRefused) -> Line
+    ensures { result ≡ failure_line why }
+{
+    match why {
+        ThreeRefused::AllZero => Line::RefusedAllzero,
+        ThreeRefused::NoExchange { b, c, e } => Line::RefusedNoexchange { b, c, e },
+        ThreeRefused::ThreeTerm { p, q } => Line::RefusedThreeterm { p, q },
+    }
+}
+
+/// The answer to a document that isn't that of a map.
+fn test_other<R: Threads + Sync>(
+    rt: &R,
+    alloc: Global,
+    document: Document,
+) -> Result<Answer, NoMemory>
+    requires form { IsInForm document }
+    requires no_map { IsNoMap document.body }
+    ensures { IfOk result (IsThreeTermTest document) }
+{
+    match represent(rt, alloc, document) {
+        Ok(_) => Ok(Answer::Line(Line::RefusedNotmap)),
+        Err(Unrepresented::Refused(why)) => Ok(Answer::Line(why)),
+        Err(Unrepresented::Flat) => Ok(Answer::Line(Line::RefusedNotmap)),
+        Err(Unrepresented::Memory) => Err(NoMemory),
+    }
+}
