@@ -133,12 +133,12 @@ module _ (H : ℕ → List Sign → Type 0) (x : List Sign) (firsts : List (Opti
 
     pub put : (i : ℕ) → class ≡ Some i → i < length firsts → HasNonzero x → ComesBefore x (get_or firsts i None) → (j : ℕ) → IsEarlierOf (H j) (get_or firsts j None) x (get_or (set firsts i (Some x)) j None)
     put i e lt nonzero before j = elim (cases_eq j i) [
-      | inl s ↦ inl
-          ( ap (λ k. get_or (set firsts i (Some x)) k None) s ∙ get_or-set_same firsts i (Some x) None lt
-          , nonzero
-          , (in_class j).1 (e ∙ ap Some (sym s))
-          , subst (λ k. ComesBefore x (get_or firsts k None)) (sym s) before
-          )
+      | inl s ↦ inl (
+        ap (λ k. get_or (set firsts i (Some x)) k None) s ∙ get_or-set_same firsts i (Some x) None lt,
+        nonzero,
+        (in_class j).1 (e ∙ ap Some (sym s)),
+        subst (λ k. ComesBefore x (get_or firsts k None)) (sym s) before,
+      )
       | inr d ↦ inr (get_or-set_other firsts i j (Some x) None d, λ n q b. d (sym (same_class i j e q)))
     ]
 

@@ -69,18 +69,18 @@ module _ (X : List Sign) (s : Sign) (not : s ≢ Zero) (mask : ℕ) (m : IsMaskO
   )
 
   -- they lie in a mask exactly where nothing is left without it
-  pub within_both : mask < 2 ^ 32 → (open : ℕ) → open < 2 ^ 32 → (bit_and mask (4294967295 - open) ≡ 0) ↔ ((i : ℕ) → at X i ≡ s → bit_at open i ≡ 1)
-  within_both small open fits = (
+  pub within_both : mask < 2 ^ 32 → (free : ℕ) → free < 2 ^ 32 → (bit_and mask (4294967295 - free) ≡ 0) ↔ ((i : ℕ) → at X i ≡ s → bit_at free i ≡ 1)
+  within_both small free fits = (
     λ z i q.
         let b = (bit_both i).0 q in
-        let e = bit_at_and_not mask open i small fits in
-        let o : bit_at (bit_and mask (4294967295 - open)) i ≡ 0 = ap (λ k. bit_at k i) z ∙ bit_at-zero i in
-        let l = bit_at-lt open i in
+        let e = bit_at_and_not mask free i small fits in
+        let o : bit_at (bit_and mask (4294967295 - free)) i ≡ 0 = ap (λ k. bit_at k i) z ∙ bit_at-zero i in
+        let l = bit_at-lt free i in
         omega arith,
-    λ h. same_from_bits (bit_and mask (4294967295 - open)) 0 (λ i. bit_at_and_not mask open i small fits ∙ left h i ∙ sym (bit_at-zero i)),
+    λ h. same_from_bits (bit_and mask (4294967295 - free)) 0 (λ i. bit_at_and_not mask free i small fits ∙ left h i ∙ sym (bit_at-zero i)),
   )
     where
-      left : ((i : ℕ) → at X i ≡ s → bit_at open i ≡ 1) → (i : ℕ) → min (bit_at mask i) (1 - bit_at open i) ≡ 0
+      left : ((i : ℕ) → at X i ≡ s → bit_at free i ≡ 1) → (i : ℕ) → min (bit_at mask i) (1 - bit_at free i) ≡ 0
       left h i = elim (cases_eq (bit_at mask i) 1) [
         | inl b ↦ let o = h i ((bit_both i).1 b) in omega arith
         | inr n ↦ let z = one_or_none mask i n in omega arith
@@ -123,7 +123,8 @@ module _ (X : List Sign) (mask : ℕ) (m : IsMaskOf (length X) (IsMinus X) mask)
           | inl j ↦ omega arith
           | inr n ↦ absurd (not_both (bit_at mask k) (ap (λ j. bit_at j k) e ∙ bit_at-pow_other t k n) ((minus_both k).0 q))
         ],
-        λ f. (minus_both k).1 (let j : k ≡ t = omega arith in ap (bit_at mask) j ∙ here)),
+        λ f. (minus_both k).1 (let j : k ≡ t = omega arith in ap (bit_at mask) j ∙ here),
+      ),
     )
       where
         here : bit_at mask t ≡ 1
@@ -141,3 +142,9 @@ module _ (X : List Sign) (mask : ℕ) (m : IsMaskOf (length X) (IsMinus X) mask)
 
 pub lowest_minus : (mask : ℕ) → mask ≢ 0 → mask < 2 ^ 32 → bit_at mask (trailing_zeros w32 mask) ≡ 1
 lowest_minus mask n small = let h = bit_at-trailing_zeros w32 mask (omega arith) small in h.1.0
+
+pub bit_within : (mask n t : ℕ) → mask < 2 ^ n → bit_at mask t ≡ 1 → t < n
+bit_within mask n t small b = elim (cases_lt t n) [
+  | inl lt ↦ lt
+  | inr ge ↦ absurd (not_both (bit_at mask t) (bit_at_above mask n t small ge) b)
+]
