@@ -4,7 +4,7 @@
 -- Main results: one vector more (one_more), also with a place for each class (kept_zero, kept_none, kept_late, put), both signs of the vector at one place more (place_more), no places (no_places); the walk over the sets of a size begins
 -- (filled_at_first), goes on (filled_on) and ends (filled_at_last); all places are all circuits (first_of_circuits, no_circuits) and all cocircuits
 -- (first_of_cocircuits, no_cocircuits).
-use Rattle.std.proofs.Common.{ℕ, ◌≡◌, ◌+◌, ◌-◌, ◌<◌, ◌≤◌, ◌⊎◌, List, length, map, get_or, replicate, set, refl, sym, ap, subst, ◌∙◌, inl, inr, ⊎_elim, arith}
+use Rattle.std.proofs.Common.{ℕ, ◌≡◌, ◌+◌, ◌-◌, ◌<◌, ◌≤◌, ◌⊎◌, ◌↔◌, List, length, map, get_or, replicate, set, refl, sym, ap, subst, ◌∙◌, inl, inr, ⊎_elim, arith}
 use Rattle.std.specs.Prelude.{Option, None, Some}
 use Rattle.std.specs.Cmp.{tied_itself}
 use Rattle.std.specs.declared.cmp.Ordering.TheVariants.{Less}
@@ -150,18 +150,18 @@ AreFirsts V H n size k firsts = (i : ℕ) → i < CLASSES → IsFirstIfAny (IsPa
 
 -- s is a set of the size, and the vectors of the sets before it have been met
 pub record IsFilledBefore (V : List ℕ → List Sign) (H : ℕ → List Sign → Type 0) (n size : ℕ) (s : Chosen) (firsts : List (Option (List Sign))) : Type 0 where
-  pub n : s.n ≡ n
-  pub size : length s.elements ≡ size
+  pub within : s.n ≡ n
+  pub sized : length s.elements ≡ size
   pub list : IsSubsetFrom 1 n s.elements
-  pub firsts : AreFirsts V H n size (rank_of n s.elements) firsts
+  pub met : AreFirsts V H n size (rank_of n s.elements) firsts
 
 module _ (V : List ℕ → List Sign) (H : ℕ → List Sign → Type 0) (n size : ℕ) where
   pub filled_at_first : (s : Chosen) (n' size' : ℕ) → n' ≡ n → size' ≡ size → s.n ≡ n' → length s.elements ≡ size' → rank_of n' s.elements ≡ 0 → IsSubsetFrom 1 n' s.elements → IsFilledBefore V H n size s (replicate CLASSES None)
   filled_at_first s n' size' en es sn few place list = record {
-    n = sn ∙ en;
-    size = few ∙ es;
+    within = sn ∙ en;
+    sized = few ∙ es;
     list = subst (λ k. IsSubsetFrom 1 k s.elements) en list;
-    firsts = λ i lt. subst (λ k. IsFirstIfAny (IsPassing V (H i) n size k) (get_or (replicate CLASSES None) i None)) (sym (subst (λ k. rank_of k s.elements ≡ 0) en place)) (none_yet i lt);
+    met = λ i lt. subst (λ k. IsFirstIfAny (IsPassing V (H i) n size k) (get_or (replicate CLASSES None) i None)) (sym (subst (λ k. rank_of k s.elements ≡ 0) en place)) (none_yet i lt);
   }
     where
       none_yet : (i : ℕ) → i < CLASSES → IsFirstIfAny (IsPassing V (H i) n size 0) (get_or (replicate CLASSES None) i None)
@@ -171,26 +171,26 @@ module _ (V : List ℕ → List Sign) (H : ℕ → List Sign → Type 0) (n size
       (a : (i : ℕ) → i < CLASSES → IsEarlierOf (H i) (get_or old i None) v (get_or mid i None))
       (b : (i : ℕ) → i < CLASSES → IsEarlierOf (H i) (get_or mid i None) w (get_or new i None)) where
     here : s.elements ≡ subset_at n size (rank_of n s.elements)
-    here = sym (subst (λ k. subset_at n k (rank_of n s.elements) ≡ s.elements) h.size (get_or-rank_from 1 n s.elements h.list))
+    here = sym (subst (λ k. subset_at n k (rank_of n s.elements) ≡ s.elements) h.sized (get_or-rank_from 1 n s.elements h.list))
 
-    met : AreFirsts V H n size (rank_of n s.elements + 1) new
-    met i lt = place_more V (H i) n size (rank_of n s.elements) v w (e ∙ ap V here) d (get_or old i None) (get_or mid i None) (get_or new i None) (h.firsts i lt) (a i lt) (b i lt)
+    one_set_more : AreFirsts V H n size (rank_of n s.elements + 1) new
+    one_set_more i lt = place_more V (H i) n size (rank_of n s.elements) v w (e ∙ ap V here) d (get_or old i None) (get_or mid i None) (get_or new i None) (h.met i lt) (a i lt) (b i lt)
 
     pub filled_on : (t : Chosen) → t.n ≡ s.n → length t.elements ≡ length s.elements → rank_of t.n t.elements ≡ rank_of s.n s.elements + 1 → IsSubsetFrom 1 t.n t.elements → IsFilledBefore V H n size t new
     filled_on t tn few place list =
-        let m : t.n ≡ n = tn ∙ h.n in
-        let next : rank_of n t.elements ≡ rank_of n s.elements + 1 = subst (λ k. rank_of k t.elements ≡ rank_of n s.elements + 1) m (place ∙ ap (λ k. rank_of k s.elements + 1) h.n) in
+        let m : t.n ≡ n = tn ∙ h.within in
+        let next : rank_of n t.elements ≡ rank_of n s.elements + 1 = subst (λ k. rank_of k t.elements ≡ rank_of n s.elements + 1) m (place ∙ ap (λ k. rank_of k s.elements + 1) h.within) in
         record {
-          n = m;
-          size = few ∙ h.size;
+          within = m;
+          sized = few ∙ h.sized;
           list = subst (λ k. IsSubsetFrom 1 k t.elements) m list;
-          firsts = subst (λ k. AreFirsts V H n size k new) (sym next) met;
+          met = subst (λ k. AreFirsts V H n size k new) (sym next) one_set_more;
         }
 
     pub filled_at_last : rank_of s.n s.elements + 1 ≡ choose s.n (length s.elements) → AreFirsts V H n size (choose n size) new
     filled_at_last last =
-        let end : rank_of n s.elements + 1 ≡ choose n size = sym (ap (λ k. rank_of k s.elements + 1) h.n) ∙ last ∙ ap (λ k. choose k (length s.elements)) h.n ∙ ap (choose n) h.size in
-        subst (λ k. AreFirsts V H n size k new) end met
+        let end : rank_of n s.elements + 1 ≡ choose n size = sym (ap (λ k. rank_of k s.elements + 1) h.within) ∙ last ∙ ap (λ k. choose k (length s.elements)) h.within ∙ ap (choose n) h.sized in
+        subst (λ k. AreFirsts V H n size k new) end one_set_more
 
 -- the sets that are left become fewer
 pub fewer : (s t : Chosen) → t.n ≡ s.n → length t.elements ≡ length s.elements → rank_of t.n t.elements ≡ rank_of s.n s.elements + 1 → IsSubsetFrom 1 t.n t.elements → choose t.n (length t.elements) - rank_of t.n t.elements < choose s.n (length s.elements) - rank_of s.n s.elements

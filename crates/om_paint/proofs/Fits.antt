@@ -47,14 +47,14 @@ zero_from_support V mask m z (i, n) = elim (cases_lt i (length V)) [
 -- ---- the masks of a colouring
 
 pub circuit_zero : (c : laws.Colour) → laws.CircuitMay c Zero
-circuit_zero red e = cc
-circuit_zero green e = cc
+circuit_zero red = λ e. cc
+circuit_zero green = λ e. cc
 circuit_zero black = tt
 circuit_zero white = refl
 
 pub cocircuit_zero : (c : laws.Colour) → laws.CocircuitMay c Zero
-cocircuit_zero red e = cc
-cocircuit_zero green e = cc
+cocircuit_zero red = λ e. cc
+cocircuit_zero green = λ e. cc
 cocircuit_zero black = refl
 cocircuit_zero white = tt
 
@@ -80,11 +80,14 @@ module _ (may : laws.Colour → Sign → Type 0) (zero_may : (c : laws.Colour) �
 
   pub allowed_both : (e : ℕ) → IsAllowed plus minus e X ↔ ((place X e ≢ Zero) × ((f : ℕ) → 1 ≤ f → f ≤ length colours → may (colouring colours f) (place X f)))
   allowed_both e = (
-    λ h. (h.0, λ f low high. allowed_sign h.1.0 h.1.1 (f - 1) (omega (arith, low, high)) (place X f) refl),
+    λ h. (h.0, λ f low high. allowed_sign h.1 h.2 (f - 1) (omega (arith, low, high)) (place X f) refl),
     λ h. (h.0, λ i q. let a = sign_allowed h.1 Plus plus_not_zero i q in (p.holds i a.0).1 a.1, λ i q. let a = sign_allowed h.1 Minus minus_not_zero i q in (m.holds i a.0).1 a.1),
   )
 
 -- ---- the painting lemma
+
+abbrev IsClassZero : ℕ → Type 0
+IsClassZero i = i ≡ 0
 
 module _ (m : SignMap) (colours : List Colour) (e : ℕ) (whole : length colours ≡ m.elements) where
   abbrev pub Circuits : List Sign → Type 0
@@ -118,13 +121,13 @@ module _ (m : SignMap) (colours : List Colour) (e : ℕ) (whole : length colours
   not_unpainted chirotope low high coloured c d = ⊎_elim (λ h. c h.0 (from_fitting h.0 h.1)) (λ h. d h.0 (from_cofitting h.0 h.1)) (painting_one m chirotope (colouring colours) e (low, high) coloured)
 
   pub fitting_circuits : (Q : List Sign → Type 0) → ((X : List Sign) → length X ≡ length colours → Q X ↔ FitsCircuit colours e X)
-      → (o : Option (List Sign)) → IsFirstIfAny (λ X. IsCircuitOfChirotope m X × ((0 ≡ 0) × Q X)) o → IsFirstIfAny Circuits o
-  fitting_circuits Q q o h = first_same (λ X. IsCircuitOfChirotope m X × ((0 ≡ 0) × Q X)) Circuits
+      → (o : Option (List Sign)) → IsFirstIfAny (λ X. IsCircuitOfChirotope m X × (IsClassZero 0 × Q X)) o → IsFirstIfAny Circuits o
+  fitting_circuits Q q o h = first_same (λ X. IsCircuitOfChirotope m X × (IsClassZero 0 × Q X)) Circuits
       (λ X a. (a.0, (q X (circuit_length m X a.0 ∙ sym whole)).0 a.1.1))
       (λ X a. (a.0, (refl, (q X (circuit_length m X a.0 ∙ sym whole)).1 a.1))) o h
 
   pub fitting_cocircuits : (Q : List Sign → Type 0) → ((X : List Sign) → length X ≡ length colours → Q X ↔ FitsCocircuit colours e X)
-      → (o : Option (List Sign)) → IsFirstIfAny (λ X. IsCocircuitOfChirotope m X × ((0 ≡ 0) × Q X)) o → IsFirstIfAny Cocircuits o
-  fitting_cocircuits Q q o h = first_same (λ X. IsCocircuitOfChirotope m X × ((0 ≡ 0) × Q X)) Cocircuits
+      → (o : Option (List Sign)) → IsFirstIfAny (λ X. IsCocircuitOfChirotope m X × (IsClassZero 0 × Q X)) o → IsFirstIfAny Cocircuits o
+  fitting_cocircuits Q q o h = first_same (λ X. IsCocircuitOfChirotope m X × (IsClassZero 0 × Q X)) Cocircuits
       (λ X a. (a.0, (q X (cocircuit_length m X a.0 ∙ sym whole)).0 a.1.1))
       (λ X a. (a.0, (refl, (q X (cocircuit_length m X a.0 ∙ sym whole)).1 a.1))) o h

@@ -3,7 +3,7 @@
 -- Main results: the vector of pluses is orthogonal to a nonzero vector exactly where that has both signs, so that acyclic chirotopes are those without a circuit
 -- without a minus (acyclic_both); the circuits and cocircuits that fit where one element is green are those with it as their only minus place (first_circuit_at,
 -- first_cocircuit_at, some_item, extreme_item, extreme_both).
-use Rattle.std.proofs.Common.{ℕ, zero, suc, ◌≡◌, ◌≢◌, ◌+◌, ◌-◌, ◌<◌, ◌≤◌, ◌⊎◌, ◌↔◌, List, [], ◌∷◌, ◌++◌, length, replicate, refl, sym, ap, subst, ◌∙◌, inl, inr, ⊎_elim, arith}
+use Rattle.std.proofs.Common.{ℕ, zero, suc, ◌≡◌, ◌≢◌, ◌+◌, ◌-◌, ◌<◌, ◌≤◌, ◌⊎◌, ◌↔◌, List, [], ◌∷◌, ◌++◌, length, replicate, refl, sym, ap, subst, ◌∙◌, inl, inr, ⊎_elim, arith, get_or}
 use Rattle.std.specs.Prelude.{Option, None}
 use Rattle.std.proofs.lemmas.Bool.{cases_eq, eq-eqb, ne_eqb}
 use Rattle.std.proofs.lemmas.List.{length-replicate, get_or-replicate, get_or_past, ext_get_or}
@@ -22,6 +22,8 @@ use Rattle.om_denotation.specs.Covectors.{IsCovectorOfChirotope}
 use Rattle.om_denotation.specs.Painting.{IsFittingCircuit, IsFittingCocircuit}
 use Rattle.om_denotation.proofs.ChirotopeBridge.{circuit_length, cocircuit_length}
 use Rattle.om_denotation.proofs.FamilyLaws.{orthogonal_both, circuit_axioms, painting_one, painting_both}
+use Rattle.om_signs.specs.declared.limits.TheConstants.{MAX_ELEMENTS}
+use Rattle.om_paint.specs.declared.classes.TheConstants.{CLASSES}
 use Rattle.om_paint.specs.declared.painted.Painted.{Painted}
 use Rattle.om_paint.specs.declared.painted.Painted.TheVariants.{Circuit, Cocircuit}
 use Rattle.om_paint.specs.Paintings.{HasNoMinus, IsFirstIfAny, IsPaintingOf}
@@ -101,7 +103,7 @@ red_at e f n = rw (ne_eqb f e n) refl
 -- ---- one minus or none
 
 none_both : (X : List Sign) → HasMinusAloneAt 0 X ↔ HasNoMinus X
-none_both X = (λ h i q. let z = (h i).0 q in omega (arith, z), λ h i. (λ q. absurd (h i q), λ z. omega (arith, z)))
+none_both X = (λ h i q. let z = (h i).0 q in omega (arith, z), λ h i. (λ q. absurd (h i q), λ z. absurd (omega (arith, z))))
 
 alone_both : (n e : ℕ) (X : List Sign) → length X ≡ n → 1 ≤ e → e ≤ n → HasMinusAloneAt e X ↔ IsOnlyMinus n e X
 alone_both n e X size low high = (
@@ -117,6 +119,11 @@ alone_both n e X size low high = (
           let back : i ≡ i + 1 - 1 = omega arith in
           absurd (h.1 (i + 1) (omega arith) (omega (arith, lt)) d (ap (at X) (sym back) ∙ q))
     ]
+
+-- what stands at the place of an element
+pub placed : (m : SignMap) (n e : ℕ) → e ≤ m.elements → n ≡ m.elements → n ≤ MAX_ELEMENTS → (firsts : List (Option (List Sign))) (P : ℕ → List Sign → Type 0)
+    → ((i : ℕ) → i < CLASSES → IsFirstIfAny (P i) (get_or firsts i None)) → (o : Option (List Sign)) → get_or firsts e None ≡ o → IsFirstIfAny (P e) o
+placed m n e high q few firsts P h o s = subst (IsFirstIfAny (P e)) s (h e (omega arith))
 
 module _ (m : SignMap) (chirotope : IsChirotope m) where
   size_of : (X : List Sign) → IsCircuitOfChirotope m X → length X ≡ m.elements

@@ -9,7 +9,7 @@ use Rattle.std.proofs.lemmas.Nat.Bits.{bit_at-zero, bit_at-lt, bit_at_and, bit_a
 use Rattle.std.proofs.lemmas.Bool.{cases_lt, cases_eq}
 use Rattle.std.proofs.lemmas.List.{get_or_past}
 use Rattle.om_signs.specs.declared.sign.Sign.{Sign}
-use Rattle.om_signs.specs.declared.sign.Sign.TheVariants.{Zero, Minus}
+use Rattle.om_signs.specs.declared.sign.Sign.TheVariants.{Zero, Minus, Plus}
 use Rattle.om_signs.specs.SignVec.{at, IsMaskOf, IsMinus}
 use Rattle.om_signs.proofs.Bits.{lt_from_bits, bit_at_and_not}
 use Rattle.om_paint.specs.Classes.{HasMinusAloneAt}
@@ -88,10 +88,13 @@ module _ (X : List Sign) (s : Sign) (not : s ≢ Zero) (mask : ℕ) (m : IsMaskO
 
 -- ---- the minuses
 
-minus_not_zero : Minus ≢ Zero
+pub plus_not_zero : Plus ≢ Zero
+plus_not_zero e = cc
+
+pub minus_not_zero : Minus ≢ Zero
 minus_not_zero e = cc
 
-value : Option ℕ → ℕ
+abbrev value : Option ℕ → ℕ
 value None = 0
 value (Some i) = i
 
@@ -141,10 +144,13 @@ module _ (X : List Sign) (mask : ℕ) (m : IsMaskOf (length X) (IsMinus X) mask)
     ]))
 
 pub lowest_minus : (mask : ℕ) → mask ≢ 0 → mask < 2 ^ 32 → bit_at mask (trailing_zeros w32 mask) ≡ 1
-lowest_minus mask n small = let h = bit_at-trailing_zeros w32 mask (omega arith) small in h.1.0
+lowest_minus mask n small = let h = bit_at-trailing_zeros w32 mask (omega arith) small in h.1
 
 pub bit_within : (mask n t : ℕ) → mask < 2 ^ n → bit_at mask t ≡ 1 → t < n
 bit_within mask n t small b = elim (cases_lt t n) [
   | inl lt ↦ lt
   | inr ge ↦ absurd (not_both (bit_at mask t) (bit_at_above mask n t small ge) b)
 ]
+
+pub lowest_small : (mask : ℕ) → mask ≢ 0 → mask < 2 ^ 32 → trailing_zeros w32 mask < 32
+lowest_small mask n small = let h = bit_at-trailing_zeros w32 mask (omega arith) small in h.0
