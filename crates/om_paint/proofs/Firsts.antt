@@ -1,7 +1,7 @@
 -- The lexicographically first member of a family of sign vectors, as the family grows, and the families of the vectors of increasing lists.
 --
 -- Main definitions: IsFilledBefore
--- Main results: one vector more (one_more), also with a place for each class (kept_zero, kept_none, kept_late, put), both signs of the vector at one place more (place_more), no places (no_places); the walk over the sets of a size begins
+-- Main results: one vector more (one_more), also with a place for each class (kept_zero, put), and what stands there (placed), both signs of the vector at one place more (place_more), no places (no_places); the walk over the sets of a size begins
 -- (filled_at_first), goes on (filled_on) and ends (filled_at_last); all places are all circuits (first_of_circuits, no_circuits) and all cocircuits
 -- (first_of_cocircuits, no_cocircuits).
 use Rattle.std.proofs.Common.{ℕ, ◌≡◌, ◌+◌, ◌-◌, ◌<◌, ◌≤◌, ◌⊎◌, ◌↔◌, List, length, map, get_or, replicate, set, refl, sym, ap, subst, ◌∙◌, inl, inr, ⊎_elim, arith}
@@ -9,7 +9,7 @@ use Rattle.std.specs.Prelude.{Option, None, Some}
 use Rattle.std.specs.Cmp.{tied_itself}
 use Rattle.std.specs.declared.cmp.Ordering.TheVariants.{Less}
 use Rattle.std.proofs.lemmas.Bool.{cases_lt, cases_eq}
-use Rattle.std.proofs.lemmas.List.{get_or-replicate, get_or-set_same, get_or-set_other}
+use Rattle.std.proofs.lemmas.List.{get_or-replicate, get_or-set_same, get_or-set_other, get_or_default}
 use Rattle.om_signs.specs.declared.sign.Sign.{Sign}
 use Rattle.om_signs.specs.Sign.{opposite}
 use Rattle.om_signs.specs.Order.{lexicographic}
@@ -122,14 +122,8 @@ module _ (H : ℕ → List Sign → Type 0) (x : List Sign) (firsts : List (Opti
   kept_zero z j = inr (refl, λ n q b. z n)
 
   module _ (class : Option ℕ) (in_class : (i : ℕ) → H i x ↔ (class ≡ Some i)) where
-    pub kept_none : class ≡ None → (j : ℕ) → IsEarlierOf (H j) (get_or firsts j None) x (get_or firsts j None)
-    kept_none e j = inr (refl, λ n q b. let c = sym e ∙ (in_class j).0 q in cc)
-
     same_class : (i j : ℕ) → class ≡ Some i → H j x → i ≡ j
     same_class i j e q = some_same i j (sym e ∙ (in_class j).0 q)
-
-    pub kept_late : (i : ℕ) → class ≡ Some i → (ComesBefore x (get_or firsts i None) → ⊥) → (j : ℕ) → IsEarlierOf (H j) (get_or firsts j None) x (get_or firsts j None)
-    kept_late i e late j = inr (refl, λ n q b. late (subst (λ k. ComesBefore x (get_or firsts k None)) (sym (same_class i j e q)) b))
 
     pub put : (i : ℕ) → class ≡ Some i → i < length firsts → HasNonzero x → ComesBefore x (get_or firsts i None) → (j : ℕ) → IsEarlierOf (H j) (get_or firsts j None) x (get_or (set firsts i (Some x)) j None)
     put i e lt nonzero before j = elim (cases_eq j i) [
@@ -141,6 +135,11 @@ module _ (H : ℕ → List Sign → Type 0) (x : List Sign) (firsts : List (Opti
       )
       | inr d ↦ inr (get_or-set_other firsts i j (Some x) None d, λ n q b. d (sym (same_class i j e q)))
     ]
+
+-- what stands at the place of a class, whatever is read past the end
+pub placed : (P : ℕ → List Sign → Type 0) (firsts : List (Option (List Sign))) (e : ℕ) → length firsts ≡ CLASSES → e < CLASSES → ((i : ℕ) → i < CLASSES → IsFirstIfAny (P i) (get_or firsts i None))
+    → (d o : Option (List Sign)) → get_or firsts e d ≡ o → IsFirstIfAny (P e) o
+placed P firsts e size lt h d o s = subst (IsFirstIfAny (P e)) (get_or_default firsts e None d (omega (arith, size, lt)) ∙ s) (h e lt)
 
 -- ---- the walk over the sets of a size, with a place for each class
 

@@ -25,7 +25,7 @@ use Rattle.om_paint.specs.declared.colour.Colour.TheVariants.{Black}
 use Rattle.om_paint.specs.Paintings.{shade, colouring, FitsCircuit, FitsCocircuit, IsFirst, IsFirstIfAny}
 use Rattle.om_paint.specs.Classes.{IsAllowed}
 use Rattle.om_paint.proofs.Firsts.{first_same}
-use Rattle.om_paint.proofs.Masks.{inside}
+use Rattle.om_paint.proofs.Masks.{inside, plus_not_zero, minus_not_zero}
 
 -- ---- masks
 
@@ -57,12 +57,6 @@ cocircuit_zero red = λ e. cc
 cocircuit_zero green = λ e. cc
 cocircuit_zero black = refl
 cocircuit_zero white = tt
-
-plus_not_zero : Plus ≢ Zero
-plus_not_zero e = cc
-
-minus_not_zero : Minus ≢ Zero
-minus_not_zero e = cc
 
 module _ (may : laws.Colour → Sign → Type 0) (zero_may : (c : laws.Colour) → may c Zero) (colours : List Colour) (plus minus : ℕ)
     (p : IsMaskOf (length colours) (λ i. may (shade (get_or colours i Black)) Plus) plus)

@@ -30,7 +30,7 @@ use Rattle.om_paint.specs.Paintings.{HasNoMinus, IsFirstIfAny, IsPaintingOf}
 use Rattle.om_paint.specs.Classes.{HasMinusAloneAt}
 use Rattle.om_paint.specs.Hulls.{all_plus, IsPositiveCircuit, IsOnlyMinus, IsExtreme, green_alone, IsCocircuitItem, EachItem}
 use Rattle.om_paint.proofs.Firsts.{first_same}
-use Rattle.om_paint.proofs.Masks.{inside}
+use Rattle.om_paint.proofs.Masks.{inside, plus_not_zero, minus_not_zero}
 
 pub all_pluses : (n : ℕ) (x : List Sign) → length x ≡ n → ((k : ℕ) → k < n → at x k ≡ Plus) → x ≡ all_plus n
 all_pluses n x l h = ext_get_or Zero x (replicate n Plus) (l ∙ sym (length-replicate n Plus)) (λ k lt.
@@ -44,12 +44,6 @@ plus_product s t e = ap (λ u. product u t) e
 
 plus_at : (n i : ℕ) → i < n → at (all_plus n) i ≡ Plus
 plus_at n i lt = get_or-replicate n i Plus Zero lt
-
-plus_not_zero : Plus ≢ Zero
-plus_not_zero e = cc
-
-minus_not_zero : Minus ≢ Zero
-minus_not_zero e = cc
 
 right_nonzero : (s t u : Sign) → u ≢ Zero → product s t ≡ u → t ≢ Zero
 right_nonzero Minus t u n e z = n (sym e ∙ ap opposite z)
@@ -120,10 +114,9 @@ alone_both n e X size low high = (
           absurd (h.1 (i + 1) (omega arith) (omega (arith, lt)) d (ap (at X) (sym back) ∙ q))
     ]
 
--- what stands at the place of an element
-pub placed : (m : SignMap) (n e : ℕ) → e ≤ m.elements → n ≡ m.elements → n ≤ MAX_ELEMENTS → (firsts : List (Option (List Sign))) (P : ℕ → List Sign → Type 0)
-    → ((i : ℕ) → i < CLASSES → IsFirstIfAny (P i) (get_or firsts i None)) → (o : Option (List Sign)) → get_or firsts e None ≡ o → IsFirstIfAny (P e) o
-placed m n e high q few firsts P h o s = subst (IsFirstIfAny (P e)) s (h e (omega arith))
+-- each element has a class
+pub has_class : (n k e : ℕ) → e ≤ n → k ≡ n → k ≤ MAX_ELEMENTS → e < CLASSES
+has_class n k e high same few = omega arith
 
 module _ (m : SignMap) (chirotope : IsChirotope m) where
   size_of : (X : List Sign) → IsCircuitOfChirotope m X → length X ≡ m.elements
