@@ -4,7 +4,7 @@
 -- Main results: one vector more (one_more), also with a place for each class (kept_zero, put), and what stands there (placed), both signs of the vector at one place more (place_more), no places (no_places); the walk over the sets of a size begins
 -- (filled_at_first), goes on (filled_on) and ends (filled_at_last); all places are all circuits (first_of_circuits, no_circuits) and all cocircuits
 -- (first_of_cocircuits, no_cocircuits).
-use Rattle.std.proofs.Common.{ℕ, ◌≡◌, ◌+◌, ◌-◌, ◌<◌, ◌≤◌, ◌⊎◌, ◌↔◌, List, length, map, get_or, replicate, set, refl, sym, ap, subst, ◌∙◌, inl, inr, ⊎_elim, arith}
+use Rattle.std.proofs.Common.{ℕ, ◌≡◌, ◌+◌, ◌-◌, ◌<◌, ◌⊎◌, ◌↔◌, List, length, map, get_or, replicate, set, refl, sym, ap, subst, ◌∙◌, inl, inr, ⊎_elim, arith}
 use Rattle.std.specs.Prelude.{Option, None, Some}
 use Rattle.std.specs.Cmp.{tied_itself}
 use Rattle.std.specs.declared.cmp.Ordering.TheVariants.{Less}

@@ -1,4 +1,4 @@
-use Rattle.std.proofs.Common.{◌+◌, ◌-◌, length}
+use Rattle.std.proofs.Common.{◌-◌, length}
 use Rattle.om_subsets.specs.Subsets.{choose, rank_of}
 use Rattle.om_chirotope.specs.Map.{cocircuit_vector}
 use Rattle.om_paint.proofs.Firsts.{IsFilledBefore}

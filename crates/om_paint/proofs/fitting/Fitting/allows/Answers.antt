@@ -1,4 +1,4 @@
-use Rattle.std.proofs.Common.{◌≡◌, ◌≢◌, ◌<◌, ◌^◌, true, false, sym, subst, ap, ◌∙◌, arith, rules}
+use Rattle.std.proofs.Common.{◌≡◌, ◌≢◌, ◌<◌, ◌^◌, true, false, sym, subst, arith, rules}
 use Rattle.om_signs.specs.declared.sign.Sign.TheVariants.{Plus, Zero, Minus}
 use Rattle.om_paint.proofs.Masks.{within_both, plus_not_zero, minus_not_zero}
 use Rattle.om_paint.proofs.fitting.Fitting.allows.Goals as goal
@@ -18,8 +18,7 @@ returns c =
     let small : c.args.self.now.may_be_plus < 2 ^ 32 = omega arith in
     let small' : c.args.self.now.may_be_minus < 2 ^ 32 = omega arith in
     let pluses = (within_both c.args.x Plus plus_not_zero c.plus.result c.plus.ensures c.plus.type_inv c.args.self.now.may_be_plus small).0 c.if-plus-self-ne0.false in
-    let minuses = (within_both c.args.x Minus minus_not_zero c.minus.result c.minus.ensures c.minus.type_inv c.args.self.now.may_be_minus small').0 c.if-minus-self-ne0.false in
-    (
+    let minuses = (within_both c.args.x Minus minus_not_zero c.minus.result c.minus.ensures c.minus.type_inv c.args.self.now.may_be_minus small').0 c.if-minus-self-ne0.false in (
       λ t. (subst (λ s. s ≢ Zero) c.get.ensures (search (rules, t)), pluses, minuses),
       λ h. (let n = subst (λ s. s ≢ Zero) (sym c.get.ensures) h.0 in search (rules, n)),
     )

@@ -1,9 +1,6 @@
-use Rattle.std.proofs.Common.{◌≡◌, ◌+◌, ◌≤◌, ◌<◌, ◌^◌, sym, subst, ◌∙◌, arith, w32, length}
+use Rattle.std.proofs.Common.{sym, ◌∙◌, arith, w32, length}
 use Rattle.std.specs.Int.{trailing_zeros}
-use Rattle.std.proofs.lemmas.Nat.Bits.{bit_at-trailing_zeros}
-use Rattle.om_signs.specs.declared.limits.TheConstants.{MAX_ELEMENTS}
 use Rattle.om_signs.proofs.Bits.{one_shl_32}
-use Rattle.om_paint.specs.declared.classes.TheConstants.{CLASSES}
 use Rattle.om_paint.proofs.Masks.{no_minus_class, one_minus_class, no_class, lowest_minus, bit_within, lowest_small}
 use Rattle.om_paint.proofs.minuses.MinusesClasses.class_of.Goals as goal
 
