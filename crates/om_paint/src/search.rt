@@ -24,8 +24,9 @@ pub fn first_circuits<C: Classes>(chi: &Chirotope, classes: &C) -> Firsts
     let mut s = Subset::first(rank + 1, elements);
     loop {
         let v = chi.circuit_of(s);
+        let negative = v.neg();
         meet(&mut firsts, classes, v);
-        meet(&mut firsts, classes, v.neg());
+        meet(&mut firsts, classes, negative);
         match s.next() {
             Some(next) => s = next,
             None => return firsts,
@@ -48,8 +49,9 @@ pub fn first_cocircuits<C: Classes>(chi: &Chirotope, classes: &C) -> Firsts
     let mut a = Subset::first(rank - 1, elements);
     loop {
         let u = chi.cocircuit_of(a);
+        let negative = u.neg();
         meet(&mut firsts, classes, u);
-        meet(&mut firsts, classes, u.neg());
+        meet(&mut firsts, classes, negative);
         match a.next() {
             Some(next) => a = next,
             None => return firsts,
