@@ -1,25 +1,31 @@
--- Tests of sign vectors, and what fits a colouring.
+-- What fits a colouring, by masks.
 --
--- Main results: no minus (no_minus); one element more (may_more); the families that the searches go over are those of the painting lemma (first_fitting, none_fitting,
--- first_cofitting, not_unpainted).
-use Rattle.std.proofs.Common.{ℕ, ◌≡◌, ◌≢◌, ◌+◌, ◌<◌, ◌≤◌, ◌^◌, List, length, sym, ap, subst, ◌∙◌, inl, inr, ⊎_elim, arith}
+-- Main results: what the masks of a colouring allow is what fits it (allowed_both); the families that the searches go over are those of the painting lemma
+-- (fitting_circuits, fitting_cocircuits, first_fitting, none_fitting, first_cofitting, not_unpainted).
+use Rattle.std.proofs.Common.{ℕ, ◌≡◌, ◌≢◌, ◌+◌, ◌-◌, ◌<◌, ◌≤◌, ◌^◌, ◌↔◌, List, length, get_or, refl, sym, ap, subst, ◌∙◌, inl, inr, ⊎_elim, arith}
+use Rattle.std.specs.Prelude.{Option}
 use Rattle.std.specs.Int.{bit_at}
 use Rattle.std.proofs.lemmas.Nat.Bits.{bit_at-zero, bit_at_above}
-use Rattle.std.proofs.lemmas.Bool.{cases_lt, cases_eq}
+use Rattle.std.proofs.lemmas.Bool.{cases_lt}
 use Rattle.std.proofs.lemmas.List.{get_or_past}
 use Rattle.om_signs.specs.declared.sign.Sign.{Sign}
-use Rattle.om_signs.specs.declared.sign.Sign.TheVariants.{Zero, Minus}
-use Rattle.om_signs.specs.SignVec.{at, place, IsMaskOf, IsNonzero, IsMinus}
+use Rattle.om_signs.specs.declared.sign.Sign.TheVariants.{Minus, Zero, Plus}
+use Rattle.om_signs.specs.SignVec.{at, place, IsMaskOf, IsNonzero}
 use Rattle.om_signs.proofs.Bits.{some_bit}
-use Rattle.om_laws.specs.Colours.{IsColoured}
+use Rattle.om_laws.specs.Colours.{red, green, black, white, IsColoured}
 use Rattle.om_laws.specs.Colours as laws
 use Rattle.om_chirotope.specs.Map.{SignMap}
 use Rattle.om_chirotope.specs.Chirotope.{IsChirotope}
 use Rattle.om_denotation.specs.Circuits.{HasNonzero, IsCircuitOfChirotope, IsCocircuitOfChirotope}
 use Rattle.om_denotation.specs.Painting.{IsFittingCircuit, IsFittingCocircuit}
+use Rattle.om_denotation.proofs.ChirotopeBridge.{circuit_length, cocircuit_length}
 use Rattle.om_denotation.proofs.FamilyLaws.{painting_one}
 use Rattle.om_paint.specs.declared.colour.Colour.{Colour}
-use Rattle.om_paint.specs.Paintings.{colouring, FitsCircuit, FitsCocircuit, HasNoMinus, IsFirst}
+use Rattle.om_paint.specs.declared.colour.Colour.TheVariants.{Black}
+use Rattle.om_paint.specs.Paintings.{shade, colouring, FitsCircuit, FitsCocircuit, IsFirst, IsFirstIfAny}
+use Rattle.om_paint.specs.Classes.{IsAllowed}
+use Rattle.om_paint.proofs.Firsts.{first_same}
+use Rattle.om_paint.proofs.Masks.{inside, plus_not_zero, minus_not_zero}
 
 -- ---- masks
 
@@ -38,34 +44,44 @@ zero_from_support V mask m z (i, n) = elim (cases_lt i (length V)) [
   | inr ge ↦ n (get_or_past V i Zero ge)
 ]
 
-zero_no_minus : (V : List Sign) (i : ℕ) → length V ≤ i → at V i ≡ Minus → ⊥
-zero_no_minus V i ge q = let z = get_or_past V i Zero ge in cc
+-- ---- the masks of a colouring
 
-pub no_minus_from_mask : (V : List Sign) (mask : ℕ) → IsMaskOf (length V) (IsMinus V) mask → mask ≡ 0 → HasNoMinus V
-no_minus_from_mask V mask m z i q = elim (cases_lt i (length V)) [
-  | inl lt ↦ let b : bit_at mask i ≡ 0 = ap (λ k. bit_at k i) z ∙ bit_at-zero i in let h = (m.holds i lt).1 q in omega (arith, b, h)
-  | inr ge ↦ zero_no_minus V i ge q
-]
+pub circuit_zero : (c : laws.Colour) → laws.CircuitMay c Zero
+circuit_zero red = λ e. cc
+circuit_zero green = λ e. cc
+circuit_zero black = tt
+circuit_zero white = refl
 
-pub mask_from_no_minus : (V : List Sign) (mask : ℕ) → IsMaskOf (length V) (IsMinus V) mask → mask < 2 ^ 32 → HasNoMinus V → mask ≡ 0
-mask_from_no_minus V mask m small none = ⊎_elim (λ z. z) (λ n. absurd (by (some_bit mask n small))) (cases_eq mask 0)
-  where
-    by : (i : ℕ) × (bit_at mask i ≡ 1) → ⊥
-    by (i, b) = elim (cases_lt i (length V)) [
-      | inl lt ↦ none i ((m.holds i lt).0 b)
-      | inr ge ↦ let z = bit_at_above mask (length V) i m.within ge in omega (arith, b, z)
-    ]
+pub cocircuit_zero : (c : laws.Colour) → laws.CocircuitMay c Zero
+cocircuit_zero red = λ e. cc
+cocircuit_zero green = λ e. cc
+cocircuit_zero black = refl
+cocircuit_zero white = tt
 
--- ---- one element more
+module _ (may : laws.Colour → Sign → Type 0) (zero_may : (c : laws.Colour) → may c Zero) (colours : List Colour) (plus minus : ℕ)
+    (p : IsMaskOf (length colours) (λ i. may (shade (get_or colours i Black)) Plus) plus)
+    (m : IsMaskOf (length colours) (λ i. may (shade (get_or colours i Black)) Minus) minus) (X : List Sign) (size : length X ≡ length colours) where
+  allowed_sign : ((i : ℕ) → at X i ≡ Plus → bit_at plus i ≡ 1) → ((i : ℕ) → at X i ≡ Minus → bit_at minus i ≡ 1) → (i : ℕ) → i < length colours → (s : Sign) → at X i ≡ s → may (shade (get_or colours i Black)) s
+  allowed_sign a b i lt Minus q = (m.holds i lt).0 (b i q)
+  allowed_sign a b i lt Zero q = zero_may (shade (get_or colours i Black))
+  allowed_sign a b i lt Plus q = (p.holds i lt).0 (a i q)
 
-pub may_more : (may : laws.Colour → Sign → Type 0) (colours : List Colour) (X : List Sign) (i : ℕ)
-    → ((f : ℕ) → 1 ≤ f → f ≤ i → may (colouring colours f) (place X f)) → may (colouring colours (i + 1)) (place X (i + 1)) → (f : ℕ) → 1 ≤ f → f ≤ i + 1 → may (colouring colours f) (place X f)
-may_more may colours X i h s f low high = elim (cases_lt i f) [
-  | inl lt ↦ let e : i + 1 ≡ f = omega (arith, lt, high) in subst (λ g. may (colouring colours g) (place X g)) e s
-  | inr ge ↦ h f low ge
-]
+  sign_allowed : ((f : ℕ) → 1 ≤ f → f ≤ length colours → may (colouring colours f) (place X f)) → (s : Sign) → s ≢ Zero → (i : ℕ) → at X i ≡ s → (i < length colours) × may (shade (get_or colours i Black)) s
+  sign_allowed h s n i q =
+      let lt : i < length colours = subst (λ k. i < k) size (inside X i s n q) in
+      let back : i + 1 - 1 ≡ i = omega arith in
+      (lt, subst (may (shade (get_or colours i Black))) q (subst (λ j. may (shade (get_or colours j Black)) (at X j)) back (h (i + 1) (omega arith) (omega (arith, lt)))))
+
+  pub allowed_both : (e : ℕ) → IsAllowed plus minus e X ↔ ((place X e ≢ Zero) × ((f : ℕ) → 1 ≤ f → f ≤ length colours → may (colouring colours f) (place X f)))
+  allowed_both e = (
+    λ h. (h.0, λ f low high. allowed_sign h.1 h.2 (f - 1) (omega (arith, low, high)) (place X f) refl),
+    λ h. (h.0, λ i q. let a = sign_allowed h.1 Plus plus_not_zero i q in (p.holds i a.0).1 a.1, λ i q. let a = sign_allowed h.1 Minus minus_not_zero i q in (m.holds i a.0).1 a.1),
+  )
 
 -- ---- the painting lemma
+
+abbrev IsClassZero : ℕ → Type 0
+IsClassZero i = i ≡ 0
 
 module _ (m : SignMap) (colours : List Colour) (e : ℕ) (whole : length colours ≡ m.elements) where
   abbrev pub Circuits : List Sign → Type 0
@@ -97,3 +113,15 @@ module _ (m : SignMap) (colours : List Colour) (e : ℕ) (whole : length colours
 
   pub not_unpainted : IsChirotope m → 1 ≤ e → e ≤ m.elements → IsColoured (colouring colours e) → ((X : List Sign) → Circuits X → ⊥) → ((X : List Sign) → Cocircuits X → ⊥) → ⊥
   not_unpainted chirotope low high coloured c d = ⊎_elim (λ h. c h.0 (from_fitting h.0 h.1)) (λ h. d h.0 (from_cofitting h.0 h.1)) (painting_one m chirotope (colouring colours) e (low, high) coloured)
+
+  pub fitting_circuits : (Q : List Sign → Type 0) → ((X : List Sign) → length X ≡ length colours → Q X ↔ FitsCircuit colours e X)
+      → (o : Option (List Sign)) → IsFirstIfAny (λ X. IsCircuitOfChirotope m X × (IsClassZero 0 × Q X)) o → IsFirstIfAny Circuits o
+  fitting_circuits Q q o h = first_same (λ X. IsCircuitOfChirotope m X × (IsClassZero 0 × Q X)) Circuits
+      (λ X a. (a.0, (q X (circuit_length m X a.0 ∙ sym whole)).0 a.1.1))
+      (λ X a. (a.0, (refl, (q X (circuit_length m X a.0 ∙ sym whole)).1 a.1))) o h
+
+  pub fitting_cocircuits : (Q : List Sign → Type 0) → ((X : List Sign) → length X ≡ length colours → Q X ↔ FitsCocircuit colours e X)
+      → (o : Option (List Sign)) → IsFirstIfAny (λ X. IsCocircuitOfChirotope m X × (IsClassZero 0 × Q X)) o → IsFirstIfAny Cocircuits o
+  fitting_cocircuits Q q o h = first_same (λ X. IsCocircuitOfChirotope m X × (IsClassZero 0 × Q X)) Cocircuits
+      (λ X a. (a.0, (q X (cocircuit_length m X a.0 ∙ sym whole)).0 a.1.1))
+      (λ X a. (a.0, (refl, (q X (cocircuit_length m X a.0 ∙ sym whole)).1 a.1))) o h

@@ -1,10 +1,12 @@
 -- Acyclic chirotopes and their extreme elements.
 --
 -- Main results: the vector of pluses is orthogonal to a nonzero vector exactly where that has both signs, so that acyclic chirotopes are those without a circuit
--- without a minus (acyclic_both); the circuits that fit where one element is green are those with it as their only minus place (extreme_item, extreme_both).
-use Rattle.std.proofs.Common.{ℕ, zero, suc, ◌≡◌, ◌≢◌, ◌+◌, ◌-◌, ◌<◌, ◌≤◌, ◌⊎◌, ◌↔◌, List, [], ◌∷◌, ◌++◌, length, replicate, set, take, refl, sym, ap, subst, ◌∙◌, inl, inr, ⊎_elim, arith, get_or}
-use Rattle.std.proofs.lemmas.Bool.{cases_lt, cases_eq, eq-eqb, ne_eqb}
-use Rattle.std.proofs.lemmas.List.{length-replicate, get_or-replicate, get_or_past, ext_get_or, get_or-take, get_or-set_same, get_or-set_other}
+-- without a minus (acyclic_both); the circuits and cocircuits that fit where one element is green are those with it as their only minus place (first_circuit_at,
+-- first_cocircuit_at, some_item, extreme_item, extreme_both).
+use Rattle.std.proofs.Common.{ℕ, zero, suc, ◌≡◌, ◌≢◌, ◌+◌, ◌-◌, ◌<◌, ◌≤◌, ◌⊎◌, ◌↔◌, List, [], ◌∷◌, ◌++◌, length, replicate, refl, sym, ap, subst, ◌∙◌, inl, inr, ⊎_elim, arith}
+use Rattle.std.specs.Prelude.{Option, None}
+use Rattle.std.proofs.lemmas.Bool.{cases_eq, eq-eqb, ne_eqb}
+use Rattle.std.proofs.lemmas.List.{length-replicate, get_or-replicate, get_or_past, ext_get_or}
 use Rattle.om_signs.specs.declared.sign.Sign.{Sign}
 use Rattle.om_signs.specs.declared.sign.Sign.TheVariants.{Minus, Zero, Plus}
 use Rattle.om_signs.specs.Sign.{opposite, product}
@@ -15,16 +17,20 @@ use Rattle.om_laws.specs.Colours.{red, green, IsColoured}
 use Rattle.om_laws.specs.Colours as laws
 use Rattle.om_chirotope.specs.Map.{SignMap}
 use Rattle.om_chirotope.specs.Chirotope.{IsChirotope}
-use Rattle.om_denotation.specs.Circuits.{IsCircuitOfChirotope}
+use Rattle.om_denotation.specs.Circuits.{IsCircuitOfChirotope, IsCocircuitOfChirotope}
 use Rattle.om_denotation.specs.Covectors.{IsCovectorOfChirotope}
 use Rattle.om_denotation.specs.Painting.{IsFittingCircuit, IsFittingCocircuit}
-use Rattle.om_denotation.proofs.ChirotopeBridge.{circuit_length}
+use Rattle.om_denotation.proofs.ChirotopeBridge.{circuit_length, cocircuit_length}
 use Rattle.om_denotation.proofs.FamilyLaws.{orthogonal_both, circuit_axioms, painting_one, painting_both}
-use Rattle.om_paint.specs.declared.colour.Colour.TheVariants.{Red, Green, Black}
+use Rattle.om_signs.specs.declared.limits.TheConstants.{MAX_ELEMENTS}
+use Rattle.om_paint.specs.declared.classes.TheConstants.{CLASSES}
 use Rattle.om_paint.specs.declared.painted.Painted.{Painted}
 use Rattle.om_paint.specs.declared.painted.Painted.TheVariants.{Circuit, Cocircuit}
-use Rattle.om_paint.specs.Paintings.{shade, colouring, HasNoMinus, IsPaintingOf}
+use Rattle.om_paint.specs.Paintings.{HasNoMinus, IsFirstIfAny, IsPaintingOf}
+use Rattle.om_paint.specs.Classes.{HasMinusAloneAt}
 use Rattle.om_paint.specs.Hulls.{all_plus, IsPositiveCircuit, IsOnlyMinus, IsExtreme, green_alone, IsCocircuitItem, EachItem}
+use Rattle.om_paint.proofs.Firsts.{first_same}
+use Rattle.om_paint.proofs.Masks.{inside, plus_not_zero, minus_not_zero}
 
 pub all_pluses : (n : ℕ) (x : List Sign) → length x ≡ n → ((k : ℕ) → k < n → at x k ≡ Plus) → x ≡ all_plus n
 all_pluses n x l h = ext_get_or Zero x (replicate n Plus) (l ∙ sym (length-replicate n Plus)) (λ k lt.
@@ -38,18 +44,6 @@ plus_product s t e = ap (λ u. product u t) e
 
 plus_at : (n i : ℕ) → i < n → at (all_plus n) i ≡ Plus
 plus_at n i lt = get_or-replicate n i Plus Zero lt
-
-inside : (X : List Sign) (i : ℕ) (s : Sign) → s ≢ Zero → at X i ≡ s → i < length X
-inside X i s n e = elim (cases_lt i (length X)) [
-  | inl lt ↦ lt
-  | inr ge ↦ absurd (n (sym e ∙ get_or_past X i Zero ge))
-]
-
-plus_not_zero : Plus ≢ Zero
-plus_not_zero e = cc
-
-minus_not_zero : Minus ≢ Zero
-minus_not_zero e = cc
 
 right_nonzero : (s t u : Sign) → u ≢ Zero → product s t ≡ u → t ≢ Zero
 right_nonzero Minus t u n e z = n (sym e ∙ ap opposite z)
@@ -99,6 +93,30 @@ green_at e f q = rw (eq-eqb f e q) refl
 
 red_at : (e f : ℕ) → f ≢ e → green_alone e f ≡ red
 red_at e f n = rw (ne_eqb f e n) refl
+
+-- ---- one minus or none
+
+none_both : (X : List Sign) → HasMinusAloneAt 0 X ↔ HasNoMinus X
+none_both X = (λ h i q. let z = (h i).0 q in omega (arith, z), λ h i. (λ q. absurd (h i q), λ z. absurd (omega (arith, z))))
+
+alone_both : (n e : ℕ) (X : List Sign) → length X ≡ n → 1 ≤ e → e ≤ n → HasMinusAloneAt e X ↔ IsOnlyMinus n e X
+alone_both n e X size low high = (
+  λ h. ((h (e - 1)).1 (omega (arith, low)), λ f a b d q. let s = (h (f - 1)).0 q in d (omega (arith, a, s))),
+  λ h i. (only h i, λ s. let back : e - 1 ≡ i = omega (arith, s) in ap (at X) (sym back) ∙ h.0),
+)
+  where
+    only : IsOnlyMinus n e X → (i : ℕ) → at X i ≡ Minus → i + 1 ≡ e
+    only h i q = elim (cases_eq (i + 1) e) [
+      | inl s ↦ s
+      | inr d ↦
+          let lt = subst (λ k. i < k) size (inside X i Minus minus_not_zero q) in
+          let back : i ≡ i + 1 - 1 = omega arith in
+          absurd (h.1 (i + 1) (omega arith) (omega (arith, lt)) d (ap (at X) (sym back) ∙ q))
+    ]
+
+-- each element has a class
+pub has_class : (n k e : ℕ) → e ≤ n → k ≡ n → k ≤ MAX_ELEMENTS → e < CLASSES
+has_class n k e high same few = omega arith
 
 module _ (m : SignMap) (chirotope : IsChirotope m) where
   size_of : (X : List Sign) → IsCircuitOfChirotope m X → length X ≡ m.elements
@@ -151,6 +169,22 @@ module _ (m : SignMap) (chirotope : IsChirotope m) where
   extreme_item e low high (Circuit X) h = (λ a. absurd a, λ k. k X h.member.circuit (only_minus e low high X h.member))
   extreme_item e low high (Cocircuit Y) h = (λ a X c o. h.0 X (from_only_minus e X c o), λ k. tt)
 
+  only_minus_of_cocircuit : (e : ℕ) → 1 ≤ e → e ≤ m.elements → (Y : List Sign) → IsFittingCocircuit m (green_alone e) e Y → IsOnlyMinus m.elements e Y
+  only_minus_of_cocircuit e low high Y h = (
+    ⊎_elim (λ p. absurd ((subst (λ k. laws.CocircuitMay k (place Y e)) (green_at e e refl) (h.fits e low high)) p)) (λ q. q) (sign_cases (place Y e) h.through),
+    λ f a b n. subst (λ k. laws.CocircuitMay k (place Y f)) (red_at e f n) (h.fits f a b),
+  )
+
+  cocircuit_from_only_minus : (e : ℕ) → (Y : List Sign) → IsCocircuitOfChirotope m Y → IsOnlyMinus m.elements e Y → IsFittingCocircuit m (green_alone e) e Y
+  cocircuit_from_only_minus e Y c (q, others) = record {
+    cocircuit = c;
+    through = λ z. let s = sym q ∙ z in cc;
+    fits = λ f a b. ⊎_elim
+        (λ s. subst (λ k. laws.CocircuitMay k (place Y f)) (sym (green_at e f s)) (subst (λ g. place Y g ≢ Plus) (sym s) (λ p. let t = sym q ∙ p in cc)))
+        (λ n. subst (λ k. laws.CocircuitMay k (place Y f)) (sym (red_at e f n)) (others f a b n))
+        (cases_eq f e);
+  }
+
   coloured_alone : (e : ℕ) → IsColoured (green_alone e e)
   coloured_alone e = subst IsColoured (sym (green_at e e refl)) tt
 
@@ -160,35 +194,24 @@ module _ (m : SignMap) (chirotope : IsChirotope m) where
     λ y X c o. painting_both m chirotope (green_alone e) e (low, high) (coloured_alone e) X y.0 (from_only_minus e X c o) y.1,
   )
 
--- ---- the colours of a hull
+  -- ---- the places of the classes
 
--- red on 1 to n, and green at e, as a list
-green_listed : (k n e f : ℕ) → 1 ≤ e → e ≤ n → n ≤ k → 1 ≤ f → f ≤ n → colouring (take n (set (replicate k Red) (e - 1) Green)) f ≡ green_alone e f
-green_listed k n e f a b c d g =
-    let l = length-replicate k Red in
-    ap shade (get_or-take n (set (replicate k Red) (e - 1) Green) (f - 1) Black (omega (arith, d, g)))
-    ∙ ⊎_elim
-    (λ s. ap shade (ap (λ i. get_or (set (replicate k Red) (e - 1) Green) (i - 1) Black) s ∙ get_or-set_same (replicate k Red) (e - 1) Green Black (omega (arith, a, b, c, l))) ∙ sym (green_at e f s))
-    (λ n'. ap shade (get_or-set_other (replicate k Red) (e - 1) (f - 1) Green Black (omega (arith, a, d, n')) ∙ get_or-replicate k (f - 1) Red Black (omega (arith, c, d, g))) ∙ sym (red_at e f n'))
-    (cases_eq f e)
+  pub positive_first : (o : Option (List Sign)) → IsFirstIfAny (λ X. IsCircuitOfChirotope m X × HasMinusAloneAt 0 X) o → IsFirstIfAny (IsPositiveCircuit m) o
+  positive_first o h = first_same (λ X. IsCircuitOfChirotope m X × HasMinusAloneAt 0 X) (IsPositiveCircuit m) (λ X a. (a.0, (none_both X).0 a.1)) (λ X a. (a.0, (none_both X).1 a.1)) o h
 
-module _ (m : SignMap) (c d : ℕ → laws.Colour) (e : ℕ) (q : (f : ℕ) → 1 ≤ f → f ≤ m.elements → c f ≡ d f) where
-  to_other : (X : List Sign) → IsFittingCircuit m c e X → IsFittingCircuit m d e X
-  to_other X h = record { circuit = h.circuit; through = h.through; fits = λ f a b. subst (λ k. laws.CircuitMay k (place X f)) (q f a b) (h.fits f a b) }
+  module _ (e : ℕ) (low : 1 ≤ e) (high : e ≤ m.elements) where
+    pub first_circuit_at : (o : Option (List Sign)) → IsFirstIfAny (λ X. IsCircuitOfChirotope m X × HasMinusAloneAt e X) o → IsFirstIfAny (IsFittingCircuit m (green_alone e) e) o
+    first_circuit_at o h = first_same (λ X. IsCircuitOfChirotope m X × HasMinusAloneAt e X) (IsFittingCircuit m (green_alone e) e)
+        (λ X a. from_only_minus e X a.0 ((alone_both m.elements e X (circuit_length m X a.0) low high).0 a.1))
+        (λ X a. (a.circuit, (alone_both m.elements e X (circuit_length m X a.circuit) low high).1 (only_minus e low high X a))) o h
 
-  to_coother : (X : List Sign) → IsFittingCocircuit m c e X → IsFittingCocircuit m d e X
-  to_coother X h = record { cocircuit = h.cocircuit; through = h.through; fits = λ f a b. subst (λ k. laws.CocircuitMay k (place X f)) (q f a b) (h.fits f a b) }
+    pub first_cocircuit_at : (o : Option (List Sign)) → IsFirstIfAny (λ X. IsCocircuitOfChirotope m X × HasMinusAloneAt e X) o → IsFirstIfAny (IsFittingCocircuit m (green_alone e) e) o
+    first_cocircuit_at o h = first_same (λ X. IsCocircuitOfChirotope m X × HasMinusAloneAt e X) (IsFittingCocircuit m (green_alone e) e)
+        (λ X a. cocircuit_from_only_minus e X a.0 ((alone_both m.elements e X (cocircuit_length m X a.0) low high).0 a.1))
+        (λ X a. (a.cocircuit, (alone_both m.elements e X (cocircuit_length m X a.cocircuit) low high).1 (only_minus_of_cocircuit e low high X a))) o h
 
-painting_same : (m : SignMap) (c d : ℕ → laws.Colour) (e : ℕ) → ((f : ℕ) → 1 ≤ f → f ≤ m.elements → c f ≡ d f) → (item : Painted) → IsPaintingOf m c e item → IsPaintingOf m d e item
-painting_same m c d e q (Circuit X) h = record { member = to_other m c d e q X h.member; first = λ Y p l. h.first Y (to_other m d c e (λ f a b. sym (q f a b)) Y p) l }
-painting_same m c d e q (Cocircuit Y) h = (
-  λ X p. h.0 X (to_other m d c e (λ f a b. sym (q f a b)) X p),
-  record { member = to_coother m c d e q Y h.1.member; first = λ Z p l. h.1.first Z (to_coother m d c e (λ f a b. sym (q f a b)) Z p) l },
-)
-
-pub painting_listed : (m : SignMap) (k e : ℕ) → 1 ≤ e → e ≤ m.elements → m.elements ≤ k → (item : Painted)
-    → IsPaintingOf m (colouring (take m.elements (set (replicate k Red) (e - 1) Green))) e item → IsPaintingOf m (green_alone e) e item
-painting_listed m k e a b c item h = painting_same m (colouring (take m.elements (set (replicate k Red) (e - 1) Green))) (green_alone e) e (λ f d g. green_listed k m.elements e f a b c d g) item h
+    pub some_item : IsFirstIfAny (IsFittingCircuit m (green_alone e) e) None → IsFirstIfAny (IsFittingCocircuit m (green_alone e) e) None → ⊥
+    some_item a b = ⊎_elim (λ x. a x.0 x.1) (λ y. b y.0 y.1) (painting_one m chirotope (green_alone e) e (low, high) (coloured_alone e))
 
 -- ---- the list of items
 

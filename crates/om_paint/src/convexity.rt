@@ -1,19 +1,20 @@
 //! Whether an oriented matroid is acyclic, and its extreme elements.
 
-ghost use Rattle.std.specs.Prelude.{◌≡◌, ◌≤◌, ◌↔◌, IsTrue, IfOk, IfErr, IsErrAnd, length};
+ghost use Rattle.std.specs.Prelude.{ℕ, ◌≡◌, ◌<◌, ◌≤◌, ◌↔◌, IsTrue, IfOk, IfErr, IsErrAnd, None, get_or, length};
+ghost use Rattle.om_denotation.specs.Circuits.{IsCircuitOfChirotope, IsCocircuitOfChirotope};
 ghost use Rattle.om_denotation.specs.Covectors.{IsCovectorOfChirotope};
-ghost use Rattle.om_paint.specs.Paintings.{IsFirst, IsPaintingOf};
+ghost use Rattle.om_paint.specs.Paintings.{IsFirst, IsFirstIfAny, IsPaintingOf};
+ghost use Rattle.om_paint.specs.Classes.{HasMinusAloneAt};
 ghost use Rattle.om_paint.specs.Hulls.{all_plus, IsPositiveCircuit, IsExtreme, green_alone, IsCocircuitItem, EachItem, IsCyclic, IfCyclic};
 
-use super::allowance::NoMinus;
-use super::colour::Colour;
+use super::classes::{CLASSES, Firsts};
 use super::hull_error::HullError;
+use super::minuses::Minuses;
 use super::painted::Painted;
-use super::paintings::paint;
-use super::search::first_circuit;
+use super::search::{first_circuits, first_cocircuits};
 use om_chirotope::Chirotope;
 use om_oriented::Oriented;
-use om_signs::{List, MAX_ELEMENTS, MAX_PLACES, Sign, SignVec};
+use om_signs::{List, MAX_PLACES, Sign, SignVec};
 use std::alloc::Global;
 
 /// Whether the oriented matroid is acyclic: the vector of all pluses is a covector. It takes no memory.
@@ -57,27 +58,36 @@ pub fn hull(alloc: Global, chi: &Chirotope) -> Result<List<Painted>, HullError>
     // this call tells that the axioms hold
     let _rank = chi.rank();
     let elements = chi.elements();
-    if let Some(x) = first_circuit(chi, &NoMinus { elements }) {
+    let circuits = first_circuits(chi, &Minuses { elements });
+    if let Some(x) = circuits[0] {
         return Err(HullError::Cyclic { x });
     }
+    let cocircuits = first_cocircuits(chi, &Minuses { elements });
     let mut items = List::new(alloc);
     for e in 1..elements + 1 {
-        items.push(evidence(chi, e))?;
+        items.push(evidence(chi, &circuits, &cocircuits, e))?;
     }
     Ok(items)
 }
 
-/// What fits at an element that is green, with all others red. The element is from 1 to n.
-fn evidence(chi: &Chirotope, e: u8) -> Painted
+/// What fits at an element that is green, with all others red: the first circuit or the first cocircuit that has it as its
+/// only minus. The element is from 1 to n.
+fn evidence(chi: &Chirotope, circuits: &Firsts, cocircuits: &Firsts, e: u8) -> Painted
     requires low { 1 ≤ e }
     requires high { e ≤ chi.now.elements }
+    requires circuits { (i : ℕ) → i < CLASSES → IsFirstIfAny (λ X. IsCircuitOfChirotope chi.now X × HasMinusAloneAt i X) (get_or circuits.now i None) }
+    requires cocircuits { (i : ℕ) → i < CLASSES → IsFirstIfAny (λ X. IsCocircuitOfChirotope chi.now X × HasMinusAloneAt i X) (get_or cocircuits.now i None) }
     ensures painting { IsPaintingOf chi.now (green_alone e) e result }
     ensures extreme { IsCocircuitItem result ↔ IsExtreme chi.now e }
 {
-    // this call tells that the axioms hold
+    // these calls tell that the axioms hold, and how many elements there are
     let _rank = chi.rank();
-    let elements = chi.elements() as usize;
-    let mut colours = [Colour::Red; MAX_ELEMENTS as usize];
-    colours[e as usize - 1] = Colour::Green;
-    paint(chi, &colours[..elements], e)
+    let _elements = chi.elements();
+    if let Some(x) = circuits[e as usize] {
+        return Painted::Circuit(x);
+    }
+    match cocircuits[e as usize] {
+        Some(y) => Painted::Cocircuit(y),
+        None => unreachable!(),
+    }
 }

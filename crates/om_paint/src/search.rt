@@ -1,70 +1,86 @@
-//! The lexicographically first circuit and cocircuit that pass a test.
+//! The lexicographically first circuits and cocircuits of classes of sign vectors.
 
-ghost use Rattle.std.specs.Prelude.{◌≡◌, length};
+ghost use Rattle.std.specs.Prelude.{ℕ, ◌≡◌, ◌<◌, ◌↔◌, IsTrue, None, get_or, length};
 ghost use Rattle.om_denotation.specs.Circuits.{IsCircuitOfChirotope, IsCocircuitOfChirotope};
-ghost use Rattle.om_paint.specs.Paintings.{IsFirstIfAny, IsEarlierOf};
+ghost use Rattle.om_paint.specs.Paintings.{IsFirstIfAny, IsEarlierOf, ComesBefore};
 
-use super::allowance::Allowance;
+use super::classes::{CLASSES, Classes, Firsts};
 use om_chirotope::Chirotope;
 use om_signs::SignVec;
 use om_subsets::Subset;
 
-/// The first circuit that passes, if any does. It takes no memory.
-pub fn first_circuit<A: Allowance>(chi: &Chirotope, allowance: &A) -> Option<SignVec>
-    requires valid { A.valid allowance.now }
-    requires elements { A.elements allowance.now ≡ chi.now.elements }
-    ensures { IsFirstIfAny (λ X. IsCircuitOfChirotope chi.now X × A.allowed allowance.now X) result }
+/// The first circuit of each class, if it has any. It takes no memory.
+pub fn first_circuits<C: Classes>(chi: &Chirotope, classes: &C) -> Firsts
+    requires valid { C.valid classes.now }
+    requires elements { C.elements classes.now ≡ chi.now.elements }
+    ensures { (i : ℕ) → i < CLASSES → IsFirstIfAny (λ X. IsCircuitOfChirotope chi.now X × C.holds classes.now i X) (get_or result i None) }
 {
-    let elements = chi.elements();
+    let mut firsts = [None; CLASSES];
     let rank = chi.rank();
-    let mut first = None;
-    if rank < elements {
-        let size = rank + 1;
-        for k in 0..Subset::choose(elements, size) {
-            let s = Subset::unrank(k, size, elements);
-            let v = chi.circuit_of(s);
-            first = earlier(first, allowance, v);
-            first = earlier(first, allowance, v.neg());
+    let elements = chi.elements();
+    if rank == elements {
+        return firsts;
+    }
+    let mut s = Subset::first(rank + 1, elements);
+    loop {
+        let v = chi.circuit_of(s);
+        let negative = v.neg();
+        meet(&mut firsts, classes, v);
+        meet(&mut firsts, classes, negative);
+        match s.next() {
+            Some(next) => s = next,
+            None => return firsts,
         }
     }
-    first
 }
 
-/// The first cocircuit that passes, if any does. It takes no memory.
-pub fn first_cocircuit<A: Allowance>(chi: &Chirotope, allowance: &A) -> Option<SignVec>
-    requires valid { A.valid allowance.now }
-    requires elements { A.elements allowance.now ≡ chi.now.elements }
-    ensures { IsFirstIfAny (λ X. IsCocircuitOfChirotope chi.now X × A.allowed allowance.now X) result }
+/// The first cocircuit of each class, if it has any. It takes no memory.
+pub fn first_cocircuits<C: Classes>(chi: &Chirotope, classes: &C) -> Firsts
+    requires valid { C.valid classes.now }
+    requires elements { C.elements classes.now ≡ chi.now.elements }
+    ensures { (i : ℕ) → i < CLASSES → IsFirstIfAny (λ X. IsCocircuitOfChirotope chi.now X × C.holds classes.now i X) (get_or result i None) }
 {
-    let elements = chi.elements();
+    let mut firsts = [None; CLASSES];
     let rank = chi.rank();
-    let mut first = None;
-    if 0 < rank {
-        let size = rank - 1;
-        for k in 0..Subset::choose(elements, size) {
-            let a = Subset::unrank(k, size, elements);
-            let u = chi.cocircuit_of(a);
-            first = earlier(first, allowance, u);
-            first = earlier(first, allowance, u.neg());
+    let elements = chi.elements();
+    if rank == 0 {
+        return firsts;
+    }
+    let mut a = Subset::first(rank - 1, elements);
+    loop {
+        let u = chi.cocircuit_of(a);
+        let negative = u.neg();
+        meet(&mut firsts, classes, u);
+        meet(&mut firsts, classes, negative);
+        match a.next() {
+            Some(next) => a = next,
+            None => return firsts,
         }
     }
-    first
 }
 
-/// The vector `x`, where it isn't zero, passes, and comes before the first one so far, and else that one.
-fn earlier<A: Allowance>(first: Option<SignVec>, allowance: &A, x: SignVec) -> Option<SignVec>
-    requires valid { A.valid allowance.now }
-    requires size { length x ≡ A.elements allowance.now }
-    ensures { IsEarlierOf (A.allowed allowance.now) first x result }
+/// Puts a vector that isn't zero into the place of its class, if it is in one, where none that comes before stands there.
+fn meet<C: Classes>(firsts: &mut Firsts, classes: &C, x: SignVec)
+    requires valid { C.valid classes.now }
+    requires size { length x ≡ C.elements classes.now }
+    ensures { (i : ℕ) → i < CLASSES → IsEarlierOf (C.holds classes.now i) (get_or firsts.old i None) x (get_or firsts.new i None) }
 {
     if x.support() == 0 {
-        return first;
+        return;
     }
-    if !allowance.allows(x) {
-        return first;
+    if let Some(i) = classes.class_of(x) {
+        if is_earlier(x, firsts[i]) {
+            firsts[i] = Some(x);
+        }
     }
+}
+
+/// Whether a vector comes before the first one so far, or there is none yet.
+fn is_earlier(x: SignVec, first: Option<SignVec>) -> bool
+    ensures { IsTrue result ↔ ComesBefore x first }
+{
     match first {
-        Some(y) => { if x < y { Some(x) } else { first } }
-        None => Some(x),
+        Some(y) => x < y,
+        None => true,
     }
 }

@@ -1,7 +1,7 @@
 //! Runs on points.
 
 use crate::status::Status;
-use crate::tests::{CIRCUITS, COCIRCUITS, Case, UNIFORM, ends, written};
+use crate::tests::{CIRCUITS, COCIRCUITS, Case, UNIFORM, ends};
 use std::test::Fail;
 
 /// Four points whose triple products are all positive.
@@ -14,25 +14,6 @@ const PAPPUS_POINTS: &str =
 /// The chirotope of Pappus' theorem.
 const PAPPUS: &str =
     "om 1\nchirotope 3 9\n0++++++++++++--------0-0++++++++++----0---+0+++++---0+-0++++++++\n0------------------0\nend\n";
-
-/// Sixteen points on a curve of degree two: the triple products, in the order of the curve, are all positive.
-const CURVE: &str =
-    "om 1\npoints 16\n1 1 1\n1 2 4\n1 3 9\n1 4 16\n1 5 25\n1 6 36\n1 7 49\n1 8 64\n1 9 81\n1 10 100\n1 11 121\n1 12 144\n1 13 169\n1 14 196\n1 15 225\n1 16 256\nend\n";
-
-/// Sixteen points in general position have 963 covectors.
-#[test]
-fn covectors_of_sixteen_points_are_accepted(rt: HostRuntime) -> Result<(), Fail> {
-    let convert = Case {
-        room: 20_000,
-        ..Case::new(&["convert", "covectors"], CURVE)
-    };
-    let covectors = written(&rt, rt.alloc(), convert, Status::Done)?;
-    let accept = Case {
-        input: covectors.as_slice(),
-        ..Case::new(&["accept"], "")
-    };
-    ends(&rt, rt.alloc(), accept, Status::Done, "accepted\n")
-}
 
 #[test]
 fn points_work_as_their_chirotope(rt: HostRuntime) -> Result<(), Fail> {
