@@ -2,7 +2,7 @@
 _om() {
   local word=${COMP_WORDS[COMP_CWORD]} before=${COMP_WORDS[COMP_CWORD - 1]}
   if [ "$COMP_CWORD" -eq 1 ]; then
-    COMPREPLY=($(compgen -W "accept member convert dual delete contract reorient wiring mutations flip decide check paint hull lexext" -- "$word"))
+    COMPREPLY=($(compgen -W "accept member convert dual delete contract reorient wiring mutations flip decide check paint hull lexext make" -- "$word"))
     return
   fi
   case ${COMP_WORDS[1]}:$COMP_CWORD in
@@ -10,6 +10,7 @@ _om() {
     delete:2 | contract:2 | paint:3) COMPREPLY=($(compgen -W "$(seq 16)" -- "$word")) ;;
     flip:[234] | reorient:*) COMPREPLY=($(compgen -W "$(seq $((${before//[!0-9]/} + 1)) 16)" -- "$word")) ;;
     decide:[234]) COMPREPLY=($(compgen -W "--box= --steps= --pivots=" -- "$word")) && compopt -o nospace ;;
+    make:3) COMPREPLY=($(compgen -W "--count=" -- "$word")) && compopt -o nospace ;;
     lexext:*) COMPREPLY=($(compgen -W "$(seq -f '+%g' 16) $(seq -f '-%g' 16)" -- "$word")) ;;
   esac
 }

@@ -1,6 +1,7 @@
 mod AboveLaws
 mod ArgumentLaws
 mod ClaimLaws
+mod CompletenessLaws
 mod ConversionLaws
 mod FitLaws
 mod FlipLaws
@@ -8,6 +9,7 @@ mod HullLaws
 mod LeadingLaws
 mod DecisionLaws
 mod ListingLaws
+mod MadeLaws
 mod MeaningLaws
 mod MutationLaws
 mod Numerals

@@ -36,6 +36,7 @@ use Rattle.om_program.proofs.DecisionLaws.{lawful_budgets}
 use Rattle.om_program.specs.Answers.{says, shows}
 use Rattle.om_program.specs.Tasks.{HasLawfulArguments}
 use Rattle.om_program.proofs.LeadingLaws.{lawful_leading}
+use Rattle.om_program.proofs.MadeLaws.{lawful_count}
 
 -- ---- a chirotope
 
@@ -105,3 +106,4 @@ lawful_arguments words t named = lawful t named.arguments named.behind
     lawful (task.Lexext leading) rest read = lawful_leading rest leading read
     lawful (task.Decide b) rest behind = lawful_budgets rest b behind
     lawful task.Check rest behind = tt
+    lawful (task.Make seed count) rest behind = lawful_count rest (seed, count) behind

@@ -26,7 +26,8 @@ verb_of_word word =
     cond (bytes_eq word (codes "hull")) verb.Hull (
     cond (bytes_eq word (codes "lexext")) verb.Lexext (
     cond (bytes_eq word (codes "decide")) verb.Decide (
-    verb.Check))))))))))))))
+    cond (bytes_eq word (codes "check")) verb.Check (
+    verb.Make)))))))))))))))
 
 word_back : (v : Verb) → verb_of_word (verb_word v) ≡ v
 word_back verb.Accept = refl
@@ -44,6 +45,7 @@ word_back verb.Hull = refl
 word_back verb.Lexext = refl
 word_back verb.Decide = refl
 word_back verb.Check = refl
+word_back verb.Make = refl
 
 pub same_verb : (u v : Verb) → verb_word u ≡ verb_word v → u ≡ v
 same_verb u v same = sym (word_back u) ∙ ap verb_of_word same ∙ word_back v
@@ -65,6 +67,7 @@ place_of verb.Hull = 11
 place_of verb.Lexext = 12
 place_of verb.Decide = 13
 place_of verb.Check = 14
+place_of verb.Make = 15
 
 pub verb_at : (u v : Verb) → get_or VERBS (place_of v) u ≡ v
 verb_at u verb.Accept = refl
@@ -82,6 +85,7 @@ verb_at u verb.Hull = refl
 verb_at u verb.Lexext = refl
 verb_at u verb.Decide = refl
 verb_at u verb.Check = refl
+verb_at u verb.Make = refl
 
 pub place_within : (v : Verb) → place_of v < length VERBS
 place_within verb.Accept = lit≤ tt
@@ -99,3 +103,4 @@ place_within verb.Hull = lit≤ tt
 place_within verb.Lexext = lit≤ tt
 place_within verb.Decide = lit≤ tt
 place_within verb.Check = lit≤ tt
+place_within verb.Make = lit≤ tt

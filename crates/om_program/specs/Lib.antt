@@ -9,6 +9,7 @@ pub mod Readings
 pub mod Statuses
 pub mod MutationTexts
 pub mod HullTexts
+pub mod MadeTexts
 pub mod Answers
 pub mod Points
 pub mod Axioms
@@ -26,9 +27,11 @@ pub mod Flips
 pub mod Paintings
 pub mod Hulls
 pub mod LexicalExtensions
+pub mod MadeInputs
 pub mod Decisions
 pub mod Tasks
 pub mod Claims
 pub mod Meaning
 pub mod ValidClaims
 pub mod Run
+pub mod Completeness

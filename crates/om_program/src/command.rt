@@ -5,7 +5,7 @@ use crate::argument::only;
 use crate::arguments::{elements, none};
 use crate::colouring::colours_and_element;
 use crate::leading::signed_elements;
-use crate::numbered::budgets;
+use crate::numbered::{budgets, seed_and_count};
 use crate::task::Task;
 use crate::triple::triple;
 use crate::usage::Usage;
@@ -73,6 +73,10 @@ fn after_verb(verb: Verb, rest: &[String]) -> Result<Task, Usage>
         Verb::Check => {
             none(rest)?;
             Ok(Task::Check)
+        }
+        Verb::Make => {
+            let (seed, count) = seed_and_count(rest)?;
+            Ok(Task::Make { seed, count })
         }
     }
 }

@@ -5,6 +5,7 @@ ghost use Rattle.om_program.specs.Answers.{IsReply, text_of};
 
 use crate::answer::Answer;
 use crate::hull_text::print_hull;
+use crate::made_text::print_made;
 use crate::mutation_text::print_mutations;
 use om_answer::{print_line, print_verdict};
 use om_signs::NoMemory;
@@ -22,5 +23,6 @@ pub fn print_answer(alloc: Global, answer: &Answer) -> Result<Vec<u8>, NoMemory>
         Answer::Mutations(sets) => print_mutations(alloc, sets),
         Answer::Hull(items) => print_hull(alloc, items),
         Answer::Verdict { chirotope, verdict } => print_verdict(alloc, chirotope, verdict),
+        Answer::Made { vectors, tally } => print_made(alloc, vectors, tally),
     }
 }

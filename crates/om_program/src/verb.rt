@@ -21,10 +21,11 @@ pub enum Verb {
     Lexext,
     Decide,
     Check,
+    Make,
 }
 
 /// All verbs.
-const VERBS: [Verb; 15] = [
+const VERBS: [Verb; 16] = [
     Verb::Accept,
     Verb::Member,
     Verb::Convert,
@@ -40,6 +41,7 @@ const VERBS: [Verb; 15] = [
     Verb::Lexext,
     Verb::Decide,
     Verb::Check,
+    Verb::Make,
 ];
 
 impl Verb {
@@ -63,6 +65,7 @@ impl Verb {
             Verb::Lexext => "lexext",
             Verb::Decide => "decide",
             Verb::Check => "check",
+            Verb::Make => "make",
         }
     }
 }
