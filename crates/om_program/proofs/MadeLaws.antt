@@ -13,7 +13,7 @@ use Rattle.om_make.specs.Generator.{unit_vectors, vectors_drawn, made_vectors}
 use Rattle.om_make.specs.Tallies.{BeginsWithUnits, IsTally, ComesBack}
 use Rattle.om_text.specs.Form.{IsPoint, IsInForm}
 use Rattle.om_text.specs.Print.{text_of}
-use Rattle.om_vectors.specs.WholeVectors.{WholeVector, IsCoordinate}
+use Rattle.om_vectors.specs.WholeVectors.{WholeVector, vector_of, IsCoordinate}
 use Rattle.om_vectors.specs.Realizations.{signs_map}
 use Rattle.om_program.specs.declared.answer.Answer.{Answer}
 use Rattle.om_program.specs.declared.setting.Setting.TheVariants.{Count}
@@ -62,7 +62,20 @@ points_more vs k d v old new l is before pushed = pushed ∙ rw (before, is) (sy
     map_push [] w = refl
     map_push (u ∷ us) w = ap (λ l. coordinates u ∷ l) (map_push us w)
 
+pub coordinates_are : (v : WholeVector) (x y z : ℤ) → x ≡ v.x → y ≡ v.y → z ≡ v.z → x ∷ y ∷ z ∷ [] ≡ coordinates v
+coordinates_are v x y z p q r = rw (p, q, r) refl
+
+pub each_more : (old new : List (List ℤ)) (x y z : ℤ) → new ≡ old ++ (x ∷ y ∷ z ∷ []) ∷ [] → IsCoordinate x → IsCoordinate y → IsCoordinate z → All IsPoint old → All IsPoint new
+each_more old new x y z pushed a b c each = subst (All IsPoint) (sym pushed) (All-push IsPoint old (x ∷ y ∷ z ∷ []) each (coordinates_point (vector_of x y z) a b c))
+
 -- ---- the lines of the summary
+
+-- a line, and what is behind it
+pushed_line : (a l rest x y : List ℕ) → x ≡ a ++ (l ++ 10 ∷ []) → y ≡ x ++ rest → y ≡ a ++ (l ++ 10 ∷ rest)
+pushed_line a l rest x y p q = q ∙ ap (λ z. z ++ rest) p ∙ append_assoc a (l ++ 10 ∷ []) rest ∙ ap (λ z. a ++ z) (append_assoc l (10 ∷ []) rest)
+
+pub count_pushed : (a name digits : List ℕ) → a ++ name ++ digits ++ 10 ∷ [] ≡ a ++ (name ++ digits ++ 10 ∷ [])
+count_pushed a name digits = append_assoc (a ++ name) digits (10 ∷ []) ∙ append_assoc a name (digits ++ 10 ∷ []) ∙ ap (λ z. a ++ z) (sym (append_assoc name digits (10 ∷ [])))
 
 pub tally_pushed : (t : Tally) (a b c d e f g h : List ℕ)
     → b ≡ a ++ (codes "plus " ++ decimal t.plus ++ 10 ∷ [])
@@ -72,4 +85,16 @@ pub tally_pushed : (t : Tally) (a b c d e f g h : List ℕ)
     → f ≡ e ++ (codes "covectors " ++ decimal t.covectors ++ 10 ∷ [])
     → g ≡ f ++ (codes "mutations " ++ decimal t.mutations ++ 10 ∷ [])
     → h ≡ g ++ codes "back equal\n" → h ≡ a ++ text_of (tally_lines t)
-tally_pushed t a b c d e f g h p q r s u v w = w ∙ rw (v, u, s, r, q, p) (simp append_assoc)
+tally_pushed t a b c d e f g h p q r s u v w =
+    let rest_6 = text_of (codes "back equal" ∷ []) in
+    let rest_5 = (codes "mutations " ++ decimal t.mutations) ++ 10 ∷ rest_6 in
+    let rest_4 = (codes "covectors " ++ decimal t.covectors) ++ 10 ∷ rest_5 in
+    let rest_3 = (codes "cocircuits " ++ decimal t.cocircuits) ++ 10 ∷ rest_4 in
+    let rest_2 = (codes "minus " ++ decimal t.minus) ++ 10 ∷ rest_3 in
+    let rest_1 = (codes "zero " ++ decimal t.zero) ++ 10 ∷ rest_2 in
+    pushed_line a (codes "plus " ++ decimal t.plus) rest_1 b h p
+    (pushed_line b (codes "zero " ++ decimal t.zero) rest_2 c h q
+    (pushed_line c (codes "minus " ++ decimal t.minus) rest_3 d h r
+    (pushed_line d (codes "cocircuits " ++ decimal t.cocircuits) rest_4 e h s
+    (pushed_line e (codes "covectors " ++ decimal t.covectors) rest_5 f h u
+    (pushed_line f (codes "mutations " ++ decimal t.mutations) rest_6 g h v w)))))
