@@ -257,6 +257,8 @@ def wirings(runs):
         row("a wiring of %d blocks to %s" % (wiring.count(b"-"), kind), took, 1, "", target_time=0.003)
     took, _ = times(["mutations"], alternating(3, 16), runs)
     row("mutations of a chirotope of rank 3 on 16 elements", took, 1, "", target_time=0.003)
+    took, _ = times(["make", "7"], b"", runs)
+    row("sixteen points from a number, and their summary", took, 1, "", target_time=0.015)
 
 
 def extensions(runs):

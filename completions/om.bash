@@ -2,7 +2,7 @@
 _om() {
   local word=${COMP_WORDS[COMP_CWORD]} before=${COMP_WORDS[COMP_CWORD - 1]}
   if [ "$COMP_CWORD" -eq 1 ]; then
-    COMPREPLY=($(compgen -W "accept member convert dual delete contract reorient wiring mutations flip extend decide check paint hull lexext" -- "$word"))
+    COMPREPLY=($(compgen -W "accept member convert dual delete contract reorient wiring mutations flip extend decide check paint hull lexext threeterm make" -- "$word"))
     return
   fi
   case ${COMP_WORDS[1]}:$COMP_CWORD in
@@ -11,6 +11,7 @@ _om() {
     flip:[234] | reorient:*) COMPREPLY=($(compgen -W "$(seq $((${before//[!0-9]/} + 1)) 16)" -- "$word")) ;;
     extend:2) COMPREPLY=($(compgen -W "--first=" -- "$word")) && compopt -o nospace ;;
     decide:[234]) COMPREPLY=($(compgen -W "--box= --steps= --pivots=" -- "$word")) && compopt -o nospace ;;
+    make:3) COMPREPLY=($(compgen -W "--count=" -- "$word")) && compopt -o nospace ;;
     lexext:*) COMPREPLY=($(compgen -W "$(seq -f '+%g' 16) $(seq -f '-%g' 16)" -- "$word")) ;;
   esac
 }

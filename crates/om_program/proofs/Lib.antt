@@ -1,6 +1,7 @@
 mod AboveLaws
 mod ArgumentLaws
 mod ClaimLaws
+mod CompletenessLaws
 mod ConversionLaws
 mod ExtensionLaws
 mod FitLaws
@@ -9,6 +10,7 @@ mod HullLaws
 mod LeadingLaws
 mod DecisionLaws
 mod ListingLaws
+mod MadeLaws
 mod MeaningLaws
 mod MutationLaws
 mod Numerals

@@ -37,6 +37,7 @@ use Rattle.om_program.specs.Answers.{says, shows}
 use Rattle.om_program.specs.Tasks.{HasLawfulArguments}
 use Rattle.om_program.proofs.LeadingLaws.{lawful_leading}
 use Rattle.om_program.proofs.ExtensionLaws.{lawful_lines}
+use Rattle.om_program.proofs.MadeLaws.{lawful_count}
 
 -- ---- a chirotope
 
@@ -108,3 +109,4 @@ lawful_arguments words t named = lawful t named.arguments named.behind
     lawful task.Threeterm rest behind = tt
     lawful (task.Decide b) rest behind = lawful_budgets rest b behind
     lawful task.Check rest behind = tt
+    lawful (task.Make seed count) rest behind = lawful_count rest (seed, count) behind

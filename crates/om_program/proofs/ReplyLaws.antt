@@ -31,7 +31,7 @@ use Rattle.om_program.specs.declared.operation.Operation.TheVariants as operatio
 use Rattle.om_program.specs.declared.status.Status.{Status}
 use Rattle.om_program.specs.declared.status.Status.TheVariants as status
 use Rattle.om_program.specs.declared.task.Task.{Task}
-use Rattle.om_program.specs.declared.task.Task.TheVariants.{Accept, Member, Convert, Dual, Delete, Contract, Reorient, Wiring, Mutations, Flip, Extend, Decide, Paint, Hull, Lexext, Threeterm, Check}
+use Rattle.om_program.specs.declared.task.Task.TheVariants.{Accept, Member, Convert, Dual, Delete, Contract, Reorient, Wiring, Mutations, Flip, Extend, Decide, Paint, Hull, Lexext, Threeterm, Check, Make}
 use Rattle.om_program.specs.Statuses.{IsAnswered, IsReplied}
 use Rattle.om_program.specs.Answers.{IsReply, status_of, status_of_line}
 use Rattle.om_program.specs.Axioms.{IsRefusedOn, set_line, map_line, cov_line, wiring_line}
@@ -39,6 +39,7 @@ use Rattle.om_program.specs.Memberships.{IsMembership, wrong_length, covector, n
 use Rattle.om_program.specs.Conversions.{IsConversion, itself, limited, converted}
 use Rattle.om_program.specs.Operations.{IsOperation, outside, last, made}
 use Rattle.om_program.proofs.RankThreeLaws.{mutations_replies, extensions_reply, flip_replies, wiring_replies}
+use Rattle.om_program.proofs.MadeLaws.{made_replies}
 use Rattle.om_program.proofs.ReachLaws.{painting_replies, hull_replies, extension_replies}
 use Rattle.om_program.specs.Operations as operations
 use Rattle.om_program.specs.ThreeTermTests as tests
@@ -47,7 +48,7 @@ use Rattle.om_threeterm.specs.declared.three_refused.ThreeRefused.{ThreeRefused}
 use Rattle.om_threeterm.specs.declared.three_refused.ThreeRefused.TheVariants as three
 use Rattle.om_program.specs.Claims as claims
 use Rattle.om_program.proofs.DecisionLaws.{verdict_status, decision_replies}
-use Rattle.om_program.specs.Meaning.{IsAnswerOf, DocumentMeans, flat_line, tested, refused, flat, answered, TaskMeans, long, faulty, read, faulty_claim, claimed}
+use Rattle.om_program.specs.Meaning.{IsAnswerOf, DocumentMeans, flat_line, tested, refused, flat, answered, TaskMeans, long, faulty, read, faulty_claim, claimed, alone}
 
 -- ---- statuses
 
@@ -58,6 +59,7 @@ reply_status (answer.Mutations sets) reply = tt
 reply_status (answer.Extensions n l) reply = tt
 reply_status (answer.Hull items) reply = tt
 reply_status (answer.Verdict m v) reply = verdict_status v
+reply_status (answer.Made vs t) reply = tt
 
 pub replied_answered : (s : Status) → IsReplied s → IsAnswered s
 replied_answered status.Done replied = tt
@@ -186,6 +188,7 @@ task_answer_replies (Lexext leading) d a is = extension_replies leading d a is
 task_answer_replies Threeterm d a is = absurd is
 task_answer_replies (Decide b) d a is = decision_replies b d a is
 task_answer_replies Check d a is = absurd is
+task_answer_replies (Make seed count) d a is = absurd is
 
 flat_replies : (t : Task) → IsReplied (status_of_line (flat_line t))
 flat_replies Accept = tt
@@ -203,3 +206,4 @@ task_replies t bytes a (faulty n c reads short is) = tt
 task_replies t bytes a (read d b reads short is means) = document_replies t d a means
 task_replies t bytes a (faulty_claim n c reads short is) = tt
 task_replies t bytes a (claimed c l reads short is means) = claim_replies c l means
+task_replies t bytes a (alone seed count b same is) = made_replies seed count b is

@@ -27,7 +27,7 @@ use Rattle.om_program.specs.declared.verb.Verb.TheVariants as verb
 use Rattle.om_program.specs.Answers.{says, judges}
 use Rattle.om_program.specs.Claims.{valid, judged, verified, valid_line}
 use Rattle.om_program.specs.Decisions.{IsDecided, DecisionMeans, other_rank, decided, IsDecision, of_chirotope}
-use Rattle.om_program.specs.Meaning.{Means, usage, named, TaskMeans, long, faulty, read, faulty_claim, claimed, DocumentMeans, tested, refused, flat, answered}
+use Rattle.om_program.specs.Meaning.{Means, usage, named, TaskMeans, long, faulty, read, faulty_claim, claimed, alone, DocumentMeans, tested, refused, flat, answered}
 use Rattle.om_program.specs.ValidClaims.{IsLimit, IsFoundValid, VerdictsAreFoundValid}
 use Rattle.om_program.specs.Words.{Names, verb_of}
 use Rattle.om_program.proofs.VerbLaws.{same_verb}
@@ -43,6 +43,7 @@ IsJudged b (answer.Mutations sets) = Unit {0}
 IsJudged b (answer.Extensions n l) = Unit {0}
 IsJudged b (answer.Hull items) = Unit {0}
 IsJudged b (answer.Verdict m v) = IsDecided m b v
+IsJudged b (answer.Made vs t) = Unit {0}
 
 map_judged : (m : SignMap) (b : Budgets) (a : Answer) → DecisionMeans m b a → IsJudged b a
 map_judged m b a (other_rank other) = tt
@@ -63,6 +64,7 @@ task_judged b bytes a (faulty n c reads short is) = tt
 task_judged b bytes a (read d answer reads short is means) = document_judged b d a means
 task_judged b bytes a (faulty_claim n c reads short is) = tt
 task_judged b bytes a (claimed c l reads short is means) = tt
+task_judged b bytes a (alone seed count answer same is) = cc
 
 -- some budgets are those of the verdict that an answer has
 abbrev IsSomeJudged : Answer → Type 0

@@ -28,7 +28,8 @@ verb_of_word word =
     cond (bytes_eq word (codes "lexext")) verb.Lexext (
     cond (bytes_eq word (codes "threeterm")) verb.Threeterm (
     cond (bytes_eq word (codes "decide")) verb.Decide (
-    verb.Check))))))))))))))))
+    cond (bytes_eq word (codes "check")) verb.Check (
+    verb.Make)))))))))))))))))
 
 word_back : (v : Verb) → verb_of_word (verb_word v) ≡ v
 word_back verb.Accept = refl
@@ -48,6 +49,7 @@ word_back verb.Lexext = refl
 word_back verb.Threeterm = refl
 word_back verb.Decide = refl
 word_back verb.Check = refl
+word_back verb.Make = refl
 
 pub same_verb : (u v : Verb) → verb_word u ≡ verb_word v → u ≡ v
 same_verb u v same = sym (word_back u) ∙ ap verb_of_word same ∙ word_back v
@@ -71,6 +73,7 @@ place_of verb.Lexext = 13
 place_of verb.Threeterm = 14
 place_of verb.Decide = 15
 place_of verb.Check = 16
+place_of verb.Make = 17
 
 pub verb_at : (u v : Verb) → get_or VERBS (place_of v) u ≡ v
 verb_at u verb.Accept = refl
@@ -90,6 +93,7 @@ verb_at u verb.Lexext = refl
 verb_at u verb.Threeterm = refl
 verb_at u verb.Decide = refl
 verb_at u verb.Check = refl
+verb_at u verb.Make = refl
 
 pub place_within : (v : Verb) → place_of v < length VERBS
 place_within verb.Accept = lit≤ tt
@@ -109,3 +113,4 @@ place_within verb.Lexext = lit≤ tt
 place_within verb.Threeterm = lit≤ tt
 place_within verb.Decide = lit≤ tt
 place_within verb.Check = lit≤ tt
+place_within verb.Make = lit≤ tt

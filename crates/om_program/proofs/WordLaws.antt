@@ -9,9 +9,9 @@ use Rattle.om_signs.specs.declared.sign.Sign.{Sign}
 use Rattle.om_answer.specs.declared.kind.Kind.{Kind}
 use Rattle.om_answer.specs.declared.kind.Kind.TheVariants as kind
 use Rattle.om_decide.specs.declared.budgets.Budgets.{Budgets}
-use Rattle.om_program.specs.Options.{AreBudgets, AreLines}
+use Rattle.om_program.specs.Options.{AreBudgets, AreSeedAndCount, AreLines}
 use Rattle.om_program.specs.declared.task.Task.{Task}
-use Rattle.om_program.specs.declared.task.Task.TheVariants.{Accept, Member, Convert, Dual, Delete, Contract, Reorient, Wiring, Mutations, Flip, Extend, Decide, Paint, Hull, Lexext, Threeterm, Check}
+use Rattle.om_program.specs.declared.task.Task.TheVariants.{Accept, Member, Convert, Dual, Delete, Contract, Reorient, Wiring, Mutations, Flip, Extend, Decide, Paint, Hull, Lexext, Threeterm, Check, Make}
 use Rattle.om_program.specs.declared.usage.Usage.{Usage}
 use Rattle.om_program.specs.declared.colouring.Colouring.{Colouring}
 use Rattle.om_program.specs.declared.leading.Leading.{Leading}
@@ -185,6 +185,7 @@ Value verb.Lexext = Leading
 Value verb.Threeterm = Unit {0}
 Value verb.Decide = Budgets
 Value verb.Check = Unit {0}
+Value verb.Make = ℕ × ℕ
 
 abbrev value_of : (task : Task) → Value (verb_of task)
 value_of Accept = tt
@@ -204,6 +205,7 @@ value_of (Lexext leading) = leading
 value_of Threeterm = tt
 value_of (Decide b) = b
 value_of Check = tt
+value_of (Make seed count) = (seed, count)
 
 abbrev task_of : (v : Verb) → Value v → Task
 task_of verb.Accept _ = Accept
@@ -223,6 +225,7 @@ task_of verb.Lexext leading = Lexext leading
 task_of verb.Threeterm _ = Threeterm
 task_of verb.Decide b = Decide b
 task_of verb.Check _ = Check
+task_of verb.Make made = Make made.0 made.1
 
 task_back : (task : Task) → task ≡ task_of (verb_of task) (value_of task)
 task_back Accept = refl
@@ -242,6 +245,7 @@ task_back (Lexext leading) = refl
 task_back Threeterm = refl
 task_back (Decide b) = refl
 task_back Check = refl
+task_back (Make seed count) = refl
 
 only : (v : Verb) (task : Task) → verb_of task ≡ v → (a : Value v) × (task ≡ task_of v a)
 only v task same = subst (λ u. (a : Value u) × (task ≡ task_of u a)) same (value_of task, task_back task)
@@ -296,6 +300,9 @@ decide_shape = record { verb = λ a. refl; arguments = λ a words. (λ h. h, λ 
 
 pub check_shape : IsShape verb.Check AreNone (λ _. Check)
 check_shape = record { verb = λ a. refl; arguments = λ a words. (λ h. h, λ h. h); only = only verb.Check }
+
+pub make_shape : IsShape verb.Make AreSeedAndCount (λ made. Make made.0 made.1)
+make_shape = record { verb = λ a. refl; arguments = λ a words. (λ h. h, λ h. h); only = only verb.Make }
 
 -- ---- a list of words and its first word
 

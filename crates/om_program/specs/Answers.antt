@@ -1,5 +1,5 @@
 -- Answers: how a run ends that has written one whole, and its text.
-use Rattle.std.specs.Prelude.{ℕ, List}
+use Rattle.std.specs.Prelude.{ℕ, ◌≤◌, List, length}
 use Rattle.om_chirotope.specs.Map.{SignMap}
 use Rattle.om_certificate.specs.declared.verdict.Verdict.{Verdict}
 use Rattle.om_certificate.specs.declared.verdict.Verdict.TheVariants as verdict
@@ -22,6 +22,9 @@ use Rattle.om_program.specs.Statuses.{IsReplied}
 use Rattle.om_program.specs.ExtensionTexts.{extensions_text}
 use Rattle.om_program.specs.HullTexts.{hull_text}
 use Rattle.om_program.specs.MutationTexts.{mutations_text}
+use Rattle.om_program.specs.MadeTexts.{made_text}
+use Rattle.om_make.specs.declared.tally.Tally.{Tally}
+use Rattle.om_vectors.specs.WholeVectors.{WholeVector}
 
 -- an answer of one line
 abbrev pub says : Line → Answer
@@ -46,6 +49,10 @@ judges m v = answer.Verdict m v
 -- an answer that tells a hull
 abbrev pub tells : List Painted → Answer
 tells items = answer.Hull items
+
+-- an answer that is vectors with their summary
+abbrev pub makes : List WholeVector → Tally → Answer
+makes vs t = answer.Made vs t
 
 -- how a run ends that has written this line; each line but these is a refusal
 abbrev pub status_of_line : Line → Status
@@ -76,6 +83,7 @@ status_of (answer.Mutations sets) = Done
 status_of (answer.Extensions n l) = Done
 status_of (answer.Hull items) = Done
 status_of (answer.Verdict m v) = status_of_verdict v
+status_of (answer.Made vs t) = Done
 
 -- the bytes of an answer; a document is written in canonical form, and a verdict behind the document of its chirotope
 abbrev pub text_of : Answer → List ℕ
@@ -85,6 +93,7 @@ text_of (answer.Mutations sets) = mutations_text sets
 text_of (answer.Extensions n l) = extensions_text n l
 text_of (answer.Hull items) = hull_text items
 text_of (answer.Verdict m v) = verdict_text m v
+text_of (answer.Made vs t) = made_text vs t
 
 -- an answer to a command: a line that isn't a usage, or what has the forms in which it is written
 abbrev pub IsReply : Answer → Type 0
@@ -94,3 +103,4 @@ IsReply (answer.Mutations sets) = Unit {0}
 IsReply (answer.Extensions n l) = Unit {0}
 IsReply (answer.Hull items) = Unit {0}
 IsReply (answer.Verdict m v) = IsVerdictInForm v
+IsReply (answer.Made vs t) = 1 ≤ length vs

@@ -10,6 +10,7 @@ pub mod Statuses
 pub mod MutationTexts
 pub mod ExtensionTexts
 pub mod HullTexts
+pub mod MadeTexts
 pub mod Answers
 pub mod Points
 pub mod Axioms
@@ -28,6 +29,7 @@ pub mod Flips
 pub mod Paintings
 pub mod Hulls
 pub mod LexicalExtensions
+pub mod MadeInputs
 pub mod Decisions
 pub mod Tasks
 pub mod ThreeTermTests
@@ -35,3 +37,4 @@ pub mod Claims
 pub mod Meaning
 pub mod ValidClaims
 pub mod Run
+pub mod Completeness

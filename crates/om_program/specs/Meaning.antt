@@ -17,7 +17,7 @@ use Rattle.om_program.specs.declared.answer.Answer.{Answer}
 use Rattle.om_program.specs.declared.operation.Operation.TheVariants as operation
 use Rattle.om_program.specs.declared.reads.Reads.TheVariants as source
 use Rattle.om_program.specs.declared.task.Task.{Task}
-use Rattle.om_program.specs.declared.task.Task.TheVariants.{Accept, Member, Convert, Dual, Delete, Contract, Reorient, Wiring, Mutations, Flip, Extend, Decide, Paint, Hull, Lexext, Threeterm, Check}
+use Rattle.om_program.specs.declared.task.Task.TheVariants.{Accept, Member, Convert, Dual, Delete, Contract, Reorient, Wiring, Mutations, Flip, Extend, Decide, Paint, Hull, Lexext, Threeterm, Check, Make}
 use Rattle.om_program.specs.Answers.{says}
 use Rattle.om_program.specs.Axioms.{MeetsAxioms, IsRefused, IsFlatDocument}
 use Rattle.om_program.specs.Claims.{ClaimMeans}
@@ -29,6 +29,7 @@ use Rattle.om_program.specs.ExtensionLists.{AreExtensions}
 use Rattle.om_program.specs.Flips.{IsFlip}
 use Rattle.om_program.specs.Hulls.{IsHull}
 use Rattle.om_program.specs.LexicalExtensions.{IsLexicalExtension}
+use Rattle.om_program.specs.MadeInputs.{IsMade}
 use Rattle.om_program.specs.Memberships.{IsMembership}
 use Rattle.om_program.specs.MutationLists.{AreMutations}
 use Rattle.om_program.specs.Operations.{IsOperation}
@@ -38,7 +39,7 @@ use Rattle.om_program.specs.Tasks.{reads}
 use Rattle.om_program.specs.ThreeTermTests.{IsThreeTermTest}
 use Rattle.om_program.specs.Words.{Names, IsUsage}
 
--- the answer to a task on the document of a chirotope or of a list that meets its axioms; a check reads a claim
+-- the answer to a task on the document of a chirotope or of a list that meets its axioms; a check reads a claim, and `make` nothing
 abbrev pub IsAnswerOf : Task → Document → Answer → Type 0
 IsAnswerOf Accept d answer = answer ≡ says line.Accepted
 IsAnswerOf (Member x) d answer = IsMembership d.elements (IsCovectorIn d) x answer
@@ -57,6 +58,7 @@ IsAnswerOf (Lexext leading) d answer = IsLexicalExtension leading d answer
 IsAnswerOf Threeterm d answer = ⊥
 IsAnswerOf (Decide b) d answer = IsDecision b d answer
 IsAnswerOf Check d answer = ⊥
+IsAnswerOf (Make seed count) d answer = ⊥
 
 -- the answer to a task on a wiring that gives no chirotope: it is accepted, and nothing else can be done with it
 abbrev pub flat_line : Task → Line
@@ -86,6 +88,8 @@ pub data TaskMeans (task : Task) (bytes : List ℕ) : Answer → Type 0 where
   faulty_claim : (n : ℕ) (c : Code) → reads task ≡ source.Claim → length bytes ≤ MAX_INPUT → IsClaimFault (lines bytes) n c → TaskMeans task bytes (says (line.RefusedLine n c))
   -- the input is a claim
   claimed : (c : Claim) (l : Line) → reads task ≡ source.Claim → length bytes ≤ MAX_INPUT → IsClaim (lines bytes) c → ClaimMeans c l → TaskMeans task bytes (says l)
+  -- the task reads nothing, and makes vectors from a number, whatever the input
+  alone : (seed count : ℕ) (answer : Answer) → task ≡ Make seed count → IsMade seed count answer → TaskMeans task bytes answer
 
 -- what words and an input mean
 pub data Means (words : List (List ℕ)) (bytes : List ℕ) : Answer → Type 0 where

@@ -9,9 +9,9 @@ use Rattle.om_subsets.specs.Members.{mask_of}
 use Rattle.om_text.specs.Words.{is_sign, sign_of_byte}
 use Rattle.om_answer.specs.declared.kind.Kind.{Kind}
 use Rattle.om_answer.specs.declared.kind.Kind.TheVariants as kind
-use Rattle.om_program.specs.Options.{AreBudgets, AreLines}
+use Rattle.om_program.specs.Options.{AreBudgets, AreSeedAndCount, AreLines}
 use Rattle.om_program.specs.declared.task.Task.{Task}
-use Rattle.om_program.specs.declared.task.Task.TheVariants.{Accept, Member, Convert, Dual, Delete, Contract, Reorient, Wiring, Mutations, Flip, Extend, Decide, Paint, Hull, Lexext, Threeterm, Check}
+use Rattle.om_program.specs.declared.task.Task.TheVariants.{Accept, Member, Convert, Dual, Delete, Contract, Reorient, Wiring, Mutations, Flip, Extend, Decide, Paint, Hull, Lexext, Threeterm, Check, Make}
 use Rattle.om_program.specs.declared.usage.Usage.{Usage}
 use Rattle.om_program.specs.declared.verb.Verb.{Verb}
 use Rattle.om_program.specs.declared.verb.Verb.TheVariants as verb
@@ -72,6 +72,7 @@ verb_of (Lexext leading) = verb.Lexext
 verb_of Threeterm = verb.Threeterm
 verb_of (Decide b) = verb.Decide
 verb_of Check = verb.Check
+verb_of (Make seed count) = verb.Make
 
 abbrev pub verb_word : Verb → List ℕ
 verb_word verb.Accept = codes "accept"
@@ -91,6 +92,7 @@ verb_word verb.Lexext = codes "lexext"
 verb_word verb.Threeterm = codes "threeterm"
 verb_word verb.Decide = codes "decide"
 verb_word verb.Check = codes "check"
+verb_word verb.Make = codes "make"
 
 -- the words behind the first one are those of the task
 abbrev pub AreArguments : Task → List (List ℕ) → Type 0
@@ -111,6 +113,7 @@ AreArguments (Lexext leading) words = AreLeading words leading
 AreArguments Threeterm words = AreNone words tt
 AreArguments (Decide b) words = AreBudgets words b
 AreArguments Check words = AreNone words tt
+AreArguments (Make seed count) words = AreSeedAndCount words (seed, count)
 
 -- the words name the task
 pub record Names (words : List (List ℕ)) (task : Task) : Type 0 where

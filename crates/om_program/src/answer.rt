@@ -6,10 +6,12 @@ use om_answer::Line;
 use om_certificate::Verdict;
 use om_chirotope::Chirotope;
 use om_localize::Listing;
+use om_make::Tally;
 use om_paint::Painted;
 use om_signs::List;
 use om_subsets::Subset;
 use om_text::Document;
+use om_vectors::Word;
 
 /// What the program answers. The code of a command decides it, and it is printed once, at the end of the run.
 #[derive(Drop)]
@@ -33,6 +35,11 @@ pub enum Answer {
         chirotope: Chirotope,
         verdict: Verdict,
     },
+    /// Vectors that a number gives: the document of the points, and behind it what there is to count of them.
+    Made {
+        vectors: Word,
+        tally: Tally,
+    },
 }
 
 impl Answer {
@@ -47,6 +54,7 @@ impl Answer {
             Answer::Extensions { .. } => Status::Done,
             Answer::Hull(_) => Status::Done,
             Answer::Verdict { verdict, .. } => status_of_verdict(verdict),
+            Answer::Made { .. } => Status::Done,
         }
     }
 }

@@ -1,6 +1,6 @@
 //! From an input to the answer.
 
-ghost use Rattle.std.specs.Prelude.{◌≡◌, ◌≢◌, ◌≤◌, IfOk, length};
+ghost use Rattle.std.specs.Prelude.{◌≡◌, ◌≢◌, ◌≤◌, IfOk, List, length, ℕ};
 ghost use Rattle.om_text.specs.Form.{IsInForm};
 ghost use Rattle.om_program.specs.Meaning.{TaskMeans, DocumentMeans, IsAnswerOf, flat_line};
 ghost use Rattle.om_program.specs.Represented.{IsMeantFor};
@@ -13,6 +13,7 @@ use crate::decision::judge;
 use crate::extension_list::list_extensions;
 use crate::flipping::flip_triple;
 use crate::lexical_extension::extend_lexically;
+use crate::made_input::make_input;
 use crate::membership::find_membership;
 use crate::mutation_list::list_mutations;
 use crate::operation::{Operation, operate};
@@ -46,6 +47,19 @@ pub fn answer_input<R: Threads + Sync>(
         Reads::Document => answer_text(rt, alloc, task, bytes),
         Reads::Claim => answer_claim(rt, alloc, bytes),
         Reads::Nothing => unreachable!(),
+    }
+}
+
+/// The answer to a task that reads nothing, whatever the input.
+pub fn answer_alone(alloc: Global, task: Task) -> Result<Answer, NoMemory>
+    requires lawful { HasLawfulArguments task }
+    requires alone { reads task ≡ Reads.Nothing }
+    ensures { IfOk result (λ answer. (bytes : List ℕ) → TaskMeans task bytes answer) }
+{
+    match task {
+        Task::Make { seed, count } => make_input(alloc, seed, count),
+        // each other one reads an input
+        _ => unreachable!(),
     }
 }
 
@@ -159,7 +173,7 @@ fn answer_task<R: Threads + Sync>(
         Task::Decide(budgets) => judge(alloc, representation, budgets),
         // a map is tested as it stands in its document
         Task::Threeterm => unreachable!(),
-        // the source of this one is a claim
-        Task::Check => unreachable!(),
+        // these ones don't read a document
+        Task::Check | Task::Make { .. } => unreachable!(),
     }
 }

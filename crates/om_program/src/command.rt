@@ -5,7 +5,7 @@ use crate::argument::only;
 use crate::arguments::{elements, none};
 use crate::colouring::colours_and_element;
 use crate::leading::signed_elements;
-use crate::numbered::{budgets, lines};
+use crate::numbered::{budgets, seed_and_count, lines};
 use crate::task::Task;
 use crate::triple::triple;
 use crate::usage::Usage;
@@ -80,6 +80,10 @@ fn after_verb(verb: Verb, rest: &[String]) -> Result<Task, Usage>
         Verb::Check => {
             none(rest)?;
             Ok(Task::Check)
+        }
+        Verb::Make => {
+            let (seed, count) = seed_and_count(rest)?;
+            Ok(Task::Make { seed, count })
         }
     }
 }

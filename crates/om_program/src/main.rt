@@ -25,6 +25,10 @@ mod hull_text;
 mod leading;
 mod lexical_extension;
 mod limits;
+mod made_input;
+mod made_text;
+#[cfg(test)]
+mod make_tests;
 mod making;
 #[cfg(test)]
 mod map_tests;

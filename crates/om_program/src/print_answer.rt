@@ -6,6 +6,7 @@ ghost use Rattle.om_program.specs.Answers.{IsReply, text_of};
 use crate::answer::Answer;
 use crate::extension_text::print_extensions;
 use crate::hull_text::print_hull;
+use crate::made_text::print_made;
 use crate::mutation_text::print_mutations;
 use om_answer::{print_line, print_verdict};
 use om_signs::NoMemory;
@@ -24,5 +25,6 @@ pub fn print_answer(alloc: Global, answer: &Answer) -> Result<Vec<u8>, NoMemory>
         Answer::Extensions { elements, listing } => print_extensions(alloc, *elements, listing),
         Answer::Hull(items) => print_hull(alloc, items),
         Answer::Verdict { chirotope, verdict } => print_verdict(alloc, chirotope, verdict),
+        Answer::Made { vectors, tally } => print_made(alloc, vectors, tally),
     }
 }

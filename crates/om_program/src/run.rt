@@ -1,16 +1,17 @@
 ghost use Rattle.std.specs.Prelude.{◌≡◌, ◌≢◌, ◌⊎◌, ◌≤◌, IfOk, map, string_bytes};
 ghost use Rattle.std.specs.Io.KnownBytes.{Appends, Keeps};
 ghost use Rattle.om_port.specs.Causes.{Rose, TakesSome};
-ghost use Rattle.om_program.specs.Words.{AreCommand};
+ghost use Rattle.om_program.specs.Words.{AreCommand, Names};
 ghost use Rattle.om_program.specs.Answers.{IsReply, status_of, text_of};
 ghost use Rattle.om_program.specs.Statuses.{IsAnswered};
 ghost use Rattle.om_program.specs.Run.{IsFront, IsAnswer, IsCutOffAnswer, IsTaskAnswer, IsCutOffTask, IsMeantBy};
+ghost use Rattle.om_program.specs.Completeness.{IsAnswerable, IsDoneOrNoMemory};
 ghost use Rattle.om_program.specs.Meaning.{TaskMeans};
 ghost use Rattle.om_program.specs.Tasks.{HasLawfulArguments, reads};
 ghost use Rattle.om_program.specs.ValidClaims.{VerdictsAreFoundValid};
 
 use crate::answer::Answer;
-use crate::answering::answer_input;
+use crate::answering::{answer_alone, answer_input};
 use crate::command::command;
 use crate::print_answer::print_answer;
 use crate::reads::Reads;
@@ -50,6 +51,15 @@ pub fn run<R: Threads + Sync, S: Source, K: Sink>(
     ensures usage { (AreCommand (map string_bytes words.now) → ⊥) → (result ≡ Status.Usage) ⊎ (result ≡ Status.WriteFault) }
     ensures only { result ≡ Status.Usage → AreCommand (map string_bytes words.now) → ⊥ }
     ensures unread { (AreCommand (map string_bytes words.now) → ⊥) → source.new ≡ source.old }
+
+    // A command that reads nothing leaves the source as it was.
+    ensures alone { (task : Task) → Names (map string_bytes words.now) task → reads task ≡ Reads.Nothing → source.new ≡ source.old }
+
+    // Completeness: where the words are a command, what it reads is there and meets its axioms, its answer is no refusal and no limit,
+    // and no fault is counted in this run, the run ends with status 0 and has written the answer, or memory was wanting.
+    ensures complete { IsAnswerable (map string_bytes words.now) (S.left source.old)
+        → (Rose (S.faults source.old) (S.faults source.new) → ⊥) → (Rose (K.faults sink.old) (K.faults sink.new) → ⊥)
+        → IsDoneOrNoMemory (map string_bytes words.now) (S.left source.old) result (K.taken sink.old) (K.taken sink.new) }
 
     // What `decide` answers, other than a limit, is a claim that `check` finds valid, with the word of the verdict.
     ensures decided { VerdictsAreFoundValid }
@@ -127,8 +137,7 @@ fn decide<R: Threads + Sync, S: Source>(
 {
     match task.reads() {
         Reads::Document | Reads::Claim => decide_input(rt, alloc, task, source),
-        // no task of today reads nothing
-        Reads::Nothing => unreachable!(),
+        Reads::Nothing => Ok(answer_alone(alloc, task)?),
     }
 }
 

@@ -45,6 +45,8 @@ pub enum Task {
     Decide(Budgets),
     /// `check`: whether the verdict of a claim has proof.
     Check,
+    /// `make N --count=K`: so many vectors that the number gives, and their summary.
+    Make { seed: u32, count: u8 },
 }
 
 impl Task {
@@ -54,6 +56,7 @@ impl Task {
     {
         match self {
             Task::Check => Reads::Claim,
+            Task::Make { .. } => Reads::Nothing,
             _ => Reads::Document,
         }
     }

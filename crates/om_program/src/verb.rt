@@ -23,10 +23,11 @@ pub enum Verb {
     Threeterm,
     Decide,
     Check,
+    Make,
 }
 
 /// All verbs.
-const VERBS: [Verb; 17] = [
+const VERBS: [Verb; 18] = [
     Verb::Accept,
     Verb::Member,
     Verb::Convert,
@@ -44,6 +45,7 @@ const VERBS: [Verb; 17] = [
     Verb::Threeterm,
     Verb::Decide,
     Verb::Check,
+    Verb::Make,
 ];
 
 impl Verb {
@@ -69,6 +71,7 @@ impl Verb {
             Verb::Threeterm => "threeterm",
             Verb::Decide => "decide",
             Verb::Check => "check",
+            Verb::Make => "make",
         }
     }
 }

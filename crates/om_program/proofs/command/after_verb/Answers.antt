@@ -1,4 +1,4 @@
-use Rattle.om_program.proofs.WordLaws.{ok_named, err_passed, accept_shape, member_shape, convert_shape, dual_shape, delete_shape, contract_shape, reorient_shape, mutations_shape, flip_shape, extend_shape, paint_shape, hull_shape, threeterm_shape, lexext_shape, wiring_shape, decide_shape, check_shape}
+use Rattle.om_program.proofs.WordLaws.{ok_named, err_passed, accept_shape, member_shape, convert_shape, dual_shape, delete_shape, contract_shape, reorient_shape, mutations_shape, flip_shape, extend_shape, paint_shape, hull_shape, threeterm_shape, lexext_shape, wiring_shape, decide_shape, check_shape, make_shape}
 use Rattle.om_program.proofs.command.after_verb.Goals as goal
 
 pub returns-in_ok-none-in-Accept : goal.returns-in_ok-none-in-Accept
@@ -102,3 +102,9 @@ returns-in_ok-none-in-Check c = rw c.in-Check.is (ok_named _ _ _ _ _ _ check_sha
 
 pub returns-in_err-none-in-Check : goal.returns-in_err-none-in-Check
 returns-in_err-none-in-Check c = rw c.in-Check.is (err_passed _ _ _ _ _ _ _ check_shape c.none-in-Check.ensures c.in_err-none-in-Check.was c.from_residual-in_err-none-in-Check.ensures.1)
+
+pub returns-in_ok-seed-in-Make : goal.returns-in_ok-seed-in-Make
+returns-in_ok-seed-in-Make c = rw c.in-Make.is (ok_named _ _ _ _ _ _ make_shape c.seed_and_count.ensures c.in_ok-seed-in-Make.was)
+
+pub returns-in_err-seed-in-Make : goal.returns-in_err-seed-in-Make
+returns-in_err-seed-in-Make c = rw c.in-Make.is (err_passed _ _ _ _ _ _ _ make_shape c.seed_and_count.ensures c.in_err-seed-in-Make.was c.from_residual-in_err-seed-in-Make.ensures.1)

@@ -1,5 +1,8 @@
 use Rattle.std.specs.Prelude.{◌≡◌, Ok, Err}
-use Rattle.std.proofs.Common.{refl, rules}
+use Rattle.std.proofs.Common.{refl, rules, sym, subst}
+use Rattle.om_program.specs.declared.reads.Reads.TheVariants as source
+use Rattle.om_program.specs.Tasks.{reads}
+use Rattle.om_program.proofs.CompletenessLaws.{always_answered}
 use Rattle.om_program.specs.Meaning.{Means}
 use Rattle.om_program.proofs.MeaningLaws.{whole, cut_off, named_answer, named_cut_off, usage_meant}
 use Rattle.om_program.proofs.OperationLaws.{lawful_arguments}
@@ -32,3 +35,20 @@ no_value e a same = cc
 
 pub returns-in-Err-clause-only : goal.returns-in-Err-clause-only
 returns-in-Err-clause-only g c = λ is command. no_value _ _ ((c.in-Err.ensures.task command.0).1 command.1)
+
+same_value : {A E : Type 0} (a b : A) → (Ok {E = E} a ≡ Ok b) → a ≡ b
+same_value a b same = cc
+
+pub returns-in-Ok-clause-alone : goal.returns-in-Ok-clause-alone
+returns-in-Ok-clause-alone g c = λ task named nothing. c.carry_out.ensures.unread (subst (λ t. reads t ≡ source.Nothing) (sym (same_value _ _ ((c.in-Ok.ensures.task task).1 named))) nothing)
+
+pub returns-in-Err-clause-alone : goal.returns-in-Err-clause-alone
+returns-in-Err-clause-alone g c = λ task named nothing. absurd (no_value _ _ ((c.in-Err.ensures.task task).1 named))
+
+pub returns-in-Ok-clause-complete : goal.returns-in-Ok-clause-complete
+returns-in-Ok-clause-complete g c = λ given no_read no_write.
+    always_answered _ c.in-Ok.task _ _ _ _ given (sym (same_value _ _ ((c.in-Ok.ensures.task given.task).1 given.names))) ((c.in-Ok.ensures.task c.in-Ok.task).0 refl)
+    c.carry_out.ensures.answer c.carry_out.ensures.no_usage (λ e. no_read (c.carry_out.ensures.read e)) (λ e. no_write (c.carry_out.ensures.write e))
+
+pub returns-in-Err-clause-complete : goal.returns-in-Err-clause-complete
+returns-in-Err-clause-complete g c = λ given no_read no_write. absurd (no_value _ _ ((c.in-Err.ensures.task given.task).1 given.names))

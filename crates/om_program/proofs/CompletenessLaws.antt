@@ -1,0 +1,97 @@
+-- A command that may be answered is answered, or memory is wanting.
+--
+-- Main results: always_answered.
+use Rattle.std.specs.Prelude.{ℕ, ◌≡◌, ◌<◌, ◌≤◌, ◌⊎◌, List, length, Option, Some, None, IfSome, refl}
+use Rattle.std.proofs.Common.{sym, ◌∙◌, ap, subst, inl, inr, arith}
+use Rattle.om_signs.specs.declared.limits.TheConstants.{MAX_INPUT}
+use Rattle.om_text.specs.declared.document.Document.{Document}
+use Rattle.om_text.specs.Lines.{lines}
+use Rattle.om_text.specs.Document.{IsDocument}
+use Rattle.om_answer.specs.declared.claim.Claim.{Claim}
+use Rattle.om_answer.specs.declared.line.Line.{Line}
+use Rattle.om_answer.specs.Claim.{IsClaim}
+use Rattle.om_answer.proofs.OneReading as claims
+use Rattle.om_text.proofs.Outcome.{same_value, no_fault}
+use Rattle.om_program.specs.declared.answer.Answer.{Answer}
+use Rattle.om_program.specs.declared.reads.Reads.TheVariants as source
+use Rattle.om_program.specs.declared.status.Status.{Status}
+use Rattle.om_program.specs.declared.status.Status.TheVariants.{Done, Refused, Usage, Limit, ReadFault, WriteFault, NoMemory}
+use Rattle.om_program.specs.declared.task.Task.{Task}
+use Rattle.om_program.specs.declared.task.Task.TheVariants.{Make}
+use Rattle.om_program.specs.Answers.{says, status_of}
+use Rattle.om_program.specs.Claims.{ClaimMeans}
+use Rattle.om_program.specs.Completeness.{HasInput, none, document, claim, IsAnswerable, IsDoneOrNoMemory, IsFulfilled}
+use Rattle.om_program.specs.MadeInputs.{IsMade, made}
+use Rattle.om_program.specs.Meaning.{DocumentMeans, TaskMeans, long, faulty, read, faulty_claim, claimed, alone}
+use Rattle.om_program.specs.Run.{IsAnswer, IsTaskAnswer, IsWhole}
+use Rattle.om_program.specs.Statuses.{IsAnswered}
+use Rattle.om_program.specs.Tasks.{reads}
+use Rattle.om_program.specs.Words.{Names}
+use Rattle.om_program.proofs.MeaningLaws.{named_answer}
+
+-- tasks that read other things are other tasks
+apart_document_claim : {t : Task} → reads t ≡ source.Document → reads t ≡ source.Claim → ⊥
+apart_document_claim p q = let e = sym p ∙ q in cc
+
+apart_nothing_document : {t : Task} → reads t ≡ source.Nothing → reads t ≡ source.Document → ⊥
+apart_nothing_document p q = let e = sym p ∙ q in cc
+
+apart_nothing_claim : {t : Task} → reads t ≡ source.Nothing → reads t ≡ source.Claim → ⊥
+apart_nothing_claim p q = let e = sym p ∙ q in cc
+
+make_alone : {t : Task} (seed count : ℕ) → t ≡ Make seed count → reads t ≡ source.Nothing
+make_alone seed count same = ap reads same
+
+made_done : (seed count : ℕ) (a : Answer) → IsMade seed count a → status_of a ≡ Done
+made_done seed count a (made t tally back) = refl
+
+-- whatever a task means for an input that lets it answer has the status 0
+fulfilled : (t : Task) (bytes : List ℕ) → HasInput t bytes → (a : Answer) → TaskMeans t bytes a → status_of a ≡ Done
+fulfilled t bytes (none nothing) a (long reading past) = absurd (reading nothing)
+fulfilled t bytes (none nothing) a (faulty n c reading short is) = absurd (apart_nothing_document nothing reading)
+fulfilled t bytes (none nothing) a (read d b reading short is means) = absurd (apart_nothing_document nothing reading)
+fulfilled t bytes (none nothing) a (faulty_claim n c reading short is) = absurd (apart_nothing_claim nothing reading)
+fulfilled t bytes (none nothing) a (claimed c l reading short is means) = absurd (apart_nothing_claim nothing reading)
+fulfilled t bytes (none nothing) a (alone seed count b same is) = made_done seed count a is
+fulfilled t bytes (document d reads_document short is axioms done) a (long reading past) = absurd (omega arith)
+fulfilled t bytes (document d reads_document short is axioms done) a (faulty n c reading short' at) = absurd (no_fault (lines bytes) d n c is at)
+fulfilled t bytes (document d reads_document short is axioms done) a (read e b reading short' other means) = done a (subst (λ k. DocumentMeans t k a) (sym (same_value (lines bytes) d e is other)) means)
+fulfilled t bytes (document d reads_document short is axioms done) a (faulty_claim n c reading short' at) = absurd (apart_document_claim reads_document reading)
+fulfilled t bytes (document d reads_document short is axioms done) a (claimed c l reading short' other means) = absurd (apart_document_claim reads_document reading)
+fulfilled t bytes (document d reads_document short is axioms done) a (alone seed count b same made) = made_done seed count a made
+fulfilled t bytes (claim c reads_claim short is axioms done) a (long reading past) = absurd (omega arith)
+fulfilled t bytes (claim c reads_claim short is axioms done) a (faulty n code reading short' at) = absurd (apart_document_claim reading reads_claim)
+fulfilled t bytes (claim c reads_claim short is axioms done) a (read e b reading short' other means) = absurd (apart_document_claim reading reads_claim)
+fulfilled t bytes (claim c reads_claim short is axioms done) a (faulty_claim n code reading short' at) = absurd (claims.no_fault (lines bytes) c n code is at)
+fulfilled t bytes (claim c reads_claim short is axioms done) a (claimed e l reading short' other means) = done l (subst (λ k. ClaimMeans k l) (sym (claims.same_claim (lines bytes) c e is other)) means)
+fulfilled t bytes (claim c reads_claim short is axioms done) a (alone seed count b same made) = made_done seed count a made
+
+-- a status that the answer of a task has
+status_done : (t : Task) (bytes : List ℕ) (status : Status) (old new : Option (List ℕ)) → HasInput t bytes → IsWhole (TaskMeans t bytes) status old new → status ≡ Done
+status_done t bytes status old new input (a, (means, (is, appends))) = is ∙ fulfilled t bytes input a means
+
+-- a run of a task that ends without a fault
+pub always_answered : (words : List (List ℕ)) (t : Task) (left old new : Option (List ℕ)) (status : Status) (u : IsAnswerable words left) → u.task ≡ t → Names words t
+    → (IsAnswered status → IsTaskAnswer t left status old new) → (status ≡ Usage → ⊥) → (status ≡ ReadFault → ⊥) → (status ≡ WriteFault → ⊥) → IsDoneOrNoMemory words left status old new
+always_answered words t left old new status u same names answer no_usage no_read no_write = by_status status answer no_usage no_read no_write
+  where
+    input : HasInput t u.bytes
+    input = subst (λ k. HasInput k u.bytes) same u.input
+
+    done : (s : Status) → IsTaskAnswer t left s old new → s ≡ Done
+    done s is = status_done t u.bytes s old new input (subst (λ l. IsTaskAnswer t l s old new) u.told is)
+
+    no_refusal : Refused ≡ Done → ⊥
+    no_refusal e = cc
+
+    no_limit : Limit ≡ Done → ⊥
+    no_limit e = cc
+
+    by_status : (s : Status) → (IsAnswered s → IsTaskAnswer t left s old new) → (s ≡ Usage → ⊥) → (s ≡ ReadFault → ⊥) → (s ≡ WriteFault → ⊥) → IsDoneOrNoMemory words left s old new
+    by_status Done answer no_usage no_read no_write = inl (refl, named_answer words t left old new Done names (answer tt))
+    by_status Refused answer no_usage no_read no_write = absurd (no_refusal (done Refused (answer tt)))
+    by_status Usage answer no_usage no_read no_write = absurd (no_usage refl)
+    by_status Limit answer no_usage no_read no_write = absurd (no_limit (done Limit (answer tt)))
+    by_status ReadFault answer no_usage no_read no_write = absurd (no_read refl)
+    by_status WriteFault answer no_usage no_read no_write = absurd (no_write refl)
+    by_status NoMemory answer no_usage no_read no_write = inr refl

@@ -1,0 +1,100 @@
+-- Vectors that a number gives, as an answer.
+--
+-- Main results: the count that words name is in its range (lawful_count); the vectors that are made begin with the unit vectors (made_units), and
+-- are an answer that can be written (made_replies), by what the call says (made_meant); the document of the points (points_form, points_more) and the lines of the summary (tally_pushed).
+use Rattle.std.specs.Prelude.{ℕ, ℤ, ◌≡◌, ◌≤◌, ◌<◌, ◌+◌, ◌-◌, List, [], ◌∷◌, ◌++◌, length, map, take, codes, refl, All}
+use Rattle.std.proofs.Common.{arith, sym, subst, ap, ◌∙◌, get_or, append_assoc}
+use Rattle.std.proofs.lemmas.List.{length-append, length-map, take_more}
+use Rattle.std.proofs.lemmas.List.Elements.{All-push}
+use Rattle.std.specs.Fmt.{decimal}
+use Rattle.om_signs.specs.declared.limits.TheConstants.{MAX_ELEMENTS}
+use Rattle.om_make.specs.declared.tally.Tally.{Tally}
+use Rattle.om_make.specs.Generator.{unit_vectors, vectors_drawn, made_vectors}
+use Rattle.om_make.specs.Tallies.{BeginsWithUnits, IsTally, ComesBack}
+use Rattle.om_text.specs.Form.{IsPoint, IsInForm}
+use Rattle.om_text.specs.Print.{text_of}
+use Rattle.om_vectors.specs.WholeVectors.{WholeVector, vector_of, IsCoordinate}
+use Rattle.om_vectors.specs.Realizations.{signs_map}
+use Rattle.om_program.specs.declared.answer.Answer.{Answer}
+use Rattle.om_program.specs.declared.setting.Setting.TheVariants.{Count}
+use Rattle.om_program.specs.Answers.{IsReply, makes}
+use Rattle.om_program.specs.MadeTexts.{coordinates, points_document, tally_lines}
+use Rattle.om_program.specs.MadeInputs.{IsMade, made}
+use Rattle.om_program.specs.Options.{AreSeedAndCount}
+use Rattle.om_program.specs.Tasks.{IsCount}
+use Rattle.om_program.proofs.OptionLaws.{number_of_within}
+
+pub lawful_count : (words : List (List ℕ)) (a : ℕ × ℕ) → AreSeedAndCount words a → IsCount a.1
+lawful_count words a read =
+    let within = number_of_within read.1.0 Count in
+    subst IsCount (sym read.1.1.2.1) (record { low = within.low; high = within.high })
+
+pub made_some : (seed count : ℕ) → 1 ≤ length (made_vectors seed count)
+made_some seed count = let e = length-append unit_vectors (vectors_drawn seed (count - 3)) in omega arith
+
+pub made_replies : (seed count : ℕ) (a : Answer) → IsMade seed count a → IsReply a
+made_replies seed count a (made t tally back) = made_some seed count
+
+pub made_units : (seed count : ℕ) (vs : List WholeVector) → vs ≡ made_vectors seed count → BeginsWithUnits vs
+made_units seed count vs e = rw e refl
+
+pub made_meant : (seed count : ℕ) (vs : List WholeVector) (t : Tally) → vs ≡ made_vectors seed count → IsTally vs t → ComesBack (signs_map vs) → IsMade seed count (makes vs t)
+made_meant seed count vs t e tally back =
+    let P : List WholeVector → Type 0 = λ ws. IsTally ws t in
+    let Q : List WholeVector → Type 0 = λ ws. ComesBack (signs_map ws) in
+    subst (λ ws. IsMade seed count (makes ws t)) (sym e) (made t (subst P e tally) (subst Q e back))
+
+-- ---- the document of the points
+
+pub points_form : (vs : List WholeVector) → 1 ≤ length vs → length vs ≤ MAX_ELEMENTS → All IsPoint (map coordinates vs) → IsInForm (points_document vs)
+points_form vs low high each = record { low = low; high = high; body = record { count = length-map vs coordinates; each = each } }
+
+pub coordinates_point : (v : WholeVector) → IsCoordinate v.x → IsCoordinate v.y → IsCoordinate v.z → IsPoint (coordinates v)
+coordinates_point v x y z = record { three = refl; small = small }
+  where
+    small : All (λ c. IsCoordinate c) (coordinates v)
+    small = All-push (λ c. IsCoordinate c) (v.x ∷ v.y ∷ []) v.z (All-push (λ c. IsCoordinate c) (v.x ∷ []) v.y (All-push (λ c. IsCoordinate c) [] v.x (λ k d l. absurd (omega arith)) x) y) z
+
+pub points_more : (vs : List WholeVector) (k : ℕ) (d v : WholeVector) (old new : List (List ℤ)) → k < length vs → v ≡ get_or vs k d → old ≡ map coordinates (take k vs) → new ≡ old ++ coordinates v ∷ [] → new ≡ map coordinates (take (k + 1) vs)
+points_more vs k d v old new l is before pushed = pushed ∙ rw (before, is) (sym (ap (map coordinates) (take_more vs k d l) ∙ map_push (take k vs) (get_or vs k d)))
+  where
+    map_push : (ws : List WholeVector) (w : WholeVector) → map coordinates (ws ++ w ∷ []) ≡ map coordinates ws ++ coordinates w ∷ []
+    map_push [] w = refl
+    map_push (u ∷ us) w = ap (λ l. coordinates u ∷ l) (map_push us w)
+
+pub coordinates_are : (v : WholeVector) (x y z : ℤ) → x ≡ v.x → y ≡ v.y → z ≡ v.z → x ∷ y ∷ z ∷ [] ≡ coordinates v
+coordinates_are v x y z p q r = rw (p, q, r) refl
+
+pub each_more : (old new : List (List ℤ)) (x y z : ℤ) → new ≡ old ++ (x ∷ y ∷ z ∷ []) ∷ [] → IsCoordinate x → IsCoordinate y → IsCoordinate z → All IsPoint old → All IsPoint new
+each_more old new x y z pushed a b c each = subst (All IsPoint) (sym pushed) (All-push IsPoint old (x ∷ y ∷ z ∷ []) each (coordinates_point (vector_of x y z) a b c))
+
+-- ---- the lines of the summary
+
+-- a line, and what is behind it
+pushed_line : (a l rest x y : List ℕ) → x ≡ a ++ (l ++ 10 ∷ []) → y ≡ x ++ rest → y ≡ a ++ (l ++ 10 ∷ rest)
+pushed_line a l rest x y p q = q ∙ ap (λ z. z ++ rest) p ∙ append_assoc a (l ++ 10 ∷ []) rest ∙ ap (λ z. a ++ z) (append_assoc l (10 ∷ []) rest)
+
+pub count_pushed : (a name digits : List ℕ) → a ++ name ++ digits ++ 10 ∷ [] ≡ a ++ (name ++ digits ++ 10 ∷ [])
+count_pushed a name digits = append_assoc (a ++ name) digits (10 ∷ []) ∙ append_assoc a name (digits ++ 10 ∷ []) ∙ ap (λ z. a ++ z) (sym (append_assoc name digits (10 ∷ [])))
+
+pub tally_pushed : (t : Tally) (a b c d e f g h : List ℕ)
+    → b ≡ a ++ (codes "plus " ++ decimal t.plus ++ 10 ∷ [])
+    → c ≡ b ++ (codes "zero " ++ decimal t.zero ++ 10 ∷ [])
+    → d ≡ c ++ (codes "minus " ++ decimal t.minus ++ 10 ∷ [])
+    → e ≡ d ++ (codes "cocircuits " ++ decimal t.cocircuits ++ 10 ∷ [])
+    → f ≡ e ++ (codes "covectors " ++ decimal t.covectors ++ 10 ∷ [])
+    → g ≡ f ++ (codes "mutations " ++ decimal t.mutations ++ 10 ∷ [])
+    → h ≡ g ++ codes "back equal\n" → h ≡ a ++ text_of (tally_lines t)
+tally_pushed t a b c d e f g h p q r s u v w =
+    let rest_6 = text_of (codes "back equal" ∷ []) in
+    let rest_5 = (codes "mutations " ++ decimal t.mutations) ++ 10 ∷ rest_6 in
+    let rest_4 = (codes "covectors " ++ decimal t.covectors) ++ 10 ∷ rest_5 in
+    let rest_3 = (codes "cocircuits " ++ decimal t.cocircuits) ++ 10 ∷ rest_4 in
+    let rest_2 = (codes "minus " ++ decimal t.minus) ++ 10 ∷ rest_3 in
+    let rest_1 = (codes "zero " ++ decimal t.zero) ++ 10 ∷ rest_2 in
+    pushed_line a (codes "plus " ++ decimal t.plus) rest_1 b h p
+    (pushed_line b (codes "zero " ++ decimal t.zero) rest_2 c h q
+    (pushed_line c (codes "minus " ++ decimal t.minus) rest_3 d h r
+    (pushed_line d (codes "cocircuits " ++ decimal t.cocircuits) rest_4 e h s
+    (pushed_line e (codes "covectors " ++ decimal t.covectors) rest_5 f h u
+    (pushed_line f (codes "mutations " ++ decimal t.mutations) rest_6 g h v w)))))

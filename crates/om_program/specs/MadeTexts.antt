@@ -1,0 +1,31 @@
+-- The text of vectors that a number gives, and of their summary.
+use Rattle.std.specs.Prelude.{ℕ, ℤ, List, [], ◌∷◌, ◌++◌, codes, length, map}
+use Rattle.std.specs.Fmt.{decimal}
+use Rattle.om_text.specs.declared.document.Document.{Document}
+use Rattle.om_text.specs.declared.body.Body.TheVariants.{Points}
+use Rattle.om_text.specs.Print.{printed, text_of}
+use Rattle.om_vectors.specs.WholeVectors.{WholeVector}
+use Rattle.om_make.specs.declared.tally.Tally.{Tally}
+
+-- the point of a vector
+abbrev pub coordinates : WholeVector → List ℤ
+coordinates v = v.x ∷ v.y ∷ v.z ∷ []
+
+-- the document of points with the coordinates of vectors
+abbrev pub points_document : List WholeVector → Document
+points_document vs = record { elements = length vs; body = Points (map coordinates vs) }
+
+-- a line for each count, and that both lists are, converted back, equal to the normal chirotope
+abbrev pub tally_lines : Tally → List (List ℕ)
+tally_lines t =
+    (codes "plus " ++ decimal t.plus)
+    ∷ (codes "zero " ++ decimal t.zero)
+    ∷ (codes "minus " ++ decimal t.minus)
+    ∷ (codes "cocircuits " ++ decimal t.cocircuits)
+    ∷ (codes "covectors " ++ decimal t.covectors)
+    ∷ (codes "mutations " ++ decimal t.mutations)
+    ∷ codes "back equal"
+    ∷ []
+
+abbrev pub made_text : List WholeVector → Tally → List ℕ
+made_text vs t = printed (points_document vs) ++ text_of (tally_lines t)

@@ -1,0 +1,23 @@
+//! A large input that a number gives, and its summary.
+
+ghost use Rattle.std.specs.Prelude.{◌≤◌, IfOk};
+ghost use Rattle.om_program.specs.MadeInputs.{IsMade};
+
+use crate::answer::Answer;
+use om_make::{summary, vectors};
+use om_signs::{MAX_ELEMENTS, NoMemory};
+use std::alloc::Global;
+
+/// `count` vectors that a number gives, from 3 to [`MAX_ELEMENTS`], and what there is to count of them.
+pub fn make_input(alloc: Global, seed: u32, count: u8) -> Result<Answer, NoMemory>
+    requires low { 3 ≤ count }
+    requires high { count ≤ MAX_ELEMENTS }
+    ensures { IfOk result (IsMade seed count) }
+{
+    let made = vectors(seed, count);
+    let tally = summary(alloc, &made)?;
+    Ok(Answer::Made {
+        vectors: made,
+        tally,
+    })
+}

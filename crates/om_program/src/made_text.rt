@@ -1,0 +1,63 @@
+//! The text of vectors that a number gives, and of their summary.
+
+ghost use Rattle.std.specs.Prelude.{◌≡◌, ◌≤◌, ◌++◌, ◌∷◌, [], All, IfOk, OnOk, length, decimal, map};
+ghost use Rattle.om_text.specs.Form.{IsPoint};
+ghost use Rattle.om_text.specs.Print.{text_of};
+ghost use Rattle.om_program.specs.MadeTexts.{made_text, points_document, coordinates, tally_lines};
+
+use om_answer::pieces::{push, push_decimal, push_line_feed};
+use om_make::Tally;
+use om_signs::{List, MAX_ELEMENTS, NoMemory};
+use om_text::{Body, Document, print};
+use om_vectors::{Vector, Word};
+use std::alloc::Global;
+
+/// The text of vectors and of their summary: the document of the points, then a line for each count, and a line that says
+/// that both lists, converted back, are equal to the normal chirotope of the points.
+pub fn print_made(alloc: Global, vectors: &Word, tally: &Tally) -> Result<Vec<u8>, NoMemory>
+    requires { 1 ≤ length vectors.now }
+    ensures { IfOk result (λ text. text.items ≡ made_text vectors.now tally.now) }
+{
+    let document = points_document(alloc, vectors)?;
+    let mut text = print(alloc, &document)?;
+    push_tally(&mut text, tally)?;
+    Ok(text)
+}
+
+/// The document of points with the coordinates of vectors.
+fn points_document(alloc: Global, vectors: &Word) -> Result<Document, NoMemory>
+    ensures value { IfOk result (λ d. d ≡ points_document vectors.now) }
+    ensures each { OnOk result (All IsPoint (map coordinates vectors.now)) }
+    ensures few { OnOk result (length vectors.now ≤ MAX_ELEMENTS) }
+{
+    let mut points = List::new(alloc);
+    for v in vectors.as_slice() {
+        points.push([v.x(), v.y(), v.z()])?;
+    }
+    Ok(Document {
+        elements: vectors.len(),
+        body: Body::Points(points),
+    })
+}
+
+/// Puts the lines of a summary at the end.
+fn push_tally(text: &mut Vec<u8>, tally: &Tally) -> Result<(), NoMemory>
+    ensures { OnOk result (text.new.items ≡ text.old.items ++ text_of (tally_lines tally.now)) }
+{
+    push_count(text, b"plus ", tally.plus)?;
+    push_count(text, b"zero ", tally.zero)?;
+    push_count(text, b"minus ", tally.minus)?;
+    push_count(text, b"cocircuits ", tally.cocircuits)?;
+    push_count(text, b"covectors ", tally.covectors)?;
+    push_count(text, b"mutations ", tally.mutations)?;
+    push(text, b"back equal\n")
+}
+
+/// Puts a line with a name and a number at the end.
+fn push_count(text: &mut Vec<u8>, name: &[u8], count: u32) -> Result<(), NoMemory>
+    ensures { OnOk result (text.new.items ≡ text.old.items ++ (name.now ++ decimal count ++ 10 ∷ [])) }
+{
+    push(text, name)?;
+    push_decimal(text, count as u128)?;
+    push_line_feed(text)
+}
