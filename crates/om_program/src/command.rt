@@ -5,7 +5,7 @@ use crate::argument::only;
 use crate::arguments::{elements, none};
 use crate::colouring::colours_and_element;
 use crate::leading::signed_elements;
-use crate::numbered::{budgets, seed_and_count, lines};
+use crate::numbered::{budgets, lines, seed_and_count};
 use crate::task::Task;
 use crate::triple::triple;
 use crate::usage::Usage;
