@@ -1,7 +1,7 @@
-//! Runs of the commands on paintings, hulls and lexicographic extensions.
+//! Runs of the commands on paintings, hulls, lexicographic extensions and the three-term test.
 
 use crate::status::Status;
-use crate::tests::{Case, UNIFORM, ends};
+use crate::tests::{Case, FLAT, UNIFORM, ends};
 use std::test::Fail;
 
 const INNER: &str = "om 1\nchirotope 3 4\n--+-\nend\n";
@@ -11,7 +11,7 @@ const ROUND: &str = "om 1\nchirotope 3 4\n+-+-\nend\n";
 const PAIR: &str = "om 1\nchirotope 2 3\n+++\nend\n";
 
 #[test]
-fn paintings_hulls_and_extensions(rt: HostRuntime) -> Result<(), Fail> {
+fn paintings_hulls_extensions_and_tests(rt: HostRuntime) -> Result<(), Fail> {
     for (words, input, status, text) in [
         (
             &["paint", "RRRR", "1"][..],
@@ -88,6 +88,39 @@ fn paintings_hulls_and_extensions(rt: HostRuntime) -> Result<(), Fail> {
         ),
         (&["lexext", "4"], "", Status::Usage, "usage 2\n"),
         (&["lexext", "+4", "-4"], "", Status::Usage, "usage 3\n"),
+        (&["threeterm"], UNIFORM, Status::Done, "accepted\n"),
+        (
+            &["threeterm"],
+            "om 1\nchirotope 2 4\n+-++++\nend\n",
+            Status::Refused,
+            "refused threeterm none 1,2,3,4\n",
+        ),
+        (
+            &["threeterm"],
+            "om 1\nchirotope 2 4\n+0000+\nend\n",
+            Status::Refused,
+            "refused noexchange 1,2 3,4 1\n",
+        ),
+        (
+            &["threeterm"],
+            "om 1\nchirotope 1 2\n00\nend\n",
+            Status::Refused,
+            "refused allzero\n",
+        ),
+        (
+            &["threeterm"],
+            "om 1\ncircuits 2\n+-\nend\n",
+            Status::Refused,
+            "refused nonegative 1\n",
+        ),
+        (
+            &["threeterm"],
+            "om 1\ncircuits 3\nend\n",
+            Status::Refused,
+            "refused notmap\n",
+        ),
+        (&["threeterm"], FLAT, Status::Refused, "refused notmap\n"),
+        (&["threeterm", "x"], "", Status::Usage, "usage 2\n"),
     ] {
         ends(&rt, rt.alloc(), Case::new(words, input), status, text)?;
     }
