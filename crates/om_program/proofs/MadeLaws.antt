@@ -65,8 +65,12 @@ points_more vs k d v old new l is before pushed = pushed ∙ rw (before, is) (sy
 pub coordinates_are : (v : WholeVector) (x y z : ℤ) → x ≡ v.x → y ≡ v.y → z ≡ v.z → x ∷ y ∷ z ∷ [] ≡ coordinates v
 coordinates_are v x y z p q r = rw (p, q, r) refl
 
-pub each_more : (old new : List (List ℤ)) (x y z : ℤ) → new ≡ old ++ (x ∷ y ∷ z ∷ []) ∷ [] → IsCoordinate x → IsCoordinate y → IsCoordinate z → All IsPoint old → All IsPoint new
-each_more old new x y z pushed a b c each = subst (All IsPoint) (sym pushed) (All-push IsPoint old (x ∷ y ∷ z ∷ []) each (coordinates_point (vector_of x y z) a b c))
+-- the same, of a list that is equal to the vectors
+pub points_more_of : (ws vs : List WholeVector) → ws ≡ vs → (k : ℕ) (d v : WholeVector) (old new : List (List ℤ)) → k < length ws → v ≡ get_or ws k d → old ≡ map coordinates (take k vs) → new ≡ old ++ coordinates v ∷ [] → new ≡ map coordinates (take (k + 1) vs)
+points_more_of ws vs e k d v old new l is before pushed = subst (λ us. old ≡ map coordinates (take k us) → new ≡ map coordinates (take (k + 1) us)) e (λ b. points_more ws k d v old new l is b pushed) before
+
+pub each_more : (old new : List (List ℤ)) (p : List ℤ) → new ≡ old ++ p ∷ [] → IsPoint p → All IsPoint old → All IsPoint new
+each_more old new p pushed is each = subst (All IsPoint) (sym pushed) (All-push IsPoint old p each is)
 
 -- ---- the lines of the summary
 

@@ -32,12 +32,20 @@ fn points_document(alloc: Global, vectors: &Word) -> Result<Document, NoMemory>
 {
     let mut points = List::new(alloc);
     for v in vectors.as_slice() {
-        points.push([v.x(), v.y(), v.z()])?;
+        push_point(&mut points, v)?;
     }
     Ok(Document {
         elements: vectors.len(),
         body: Body::Points(points),
     })
+}
+
+/// Adds the point with the coordinates of a vector.
+fn push_point(points: &mut List<[i64; 3]>, v: &Vector) -> Result<(), NoMemory>
+    ensures pushed { OnOk result (points.new ≡ points.old ++ coordinates v.now ∷ []) }
+    ensures point { OnOk result (IsPoint (coordinates v.now)) }
+{
+    points.push([v.x(), v.y(), v.z()])
 }
 
 /// Puts the lines of a summary at the end.

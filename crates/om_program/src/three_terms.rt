@@ -6,7 +6,7 @@ ghost use Rattle.om_program.specs.Answers.{says};
 ghost use Rattle.om_program.specs.ThreeTermTests.{IsThreeTermTest, IsTestOfMap, IsNoMap, failure_line};
 
 use crate::answer::Answer;
-use crate::representation::represent;
+use crate::representation::{Representation, represent};
 use crate::unrepresented::Unrepresented;
 use om_answer::Line;
 use om_signs::{MAX_ELEMENTS, NoMemory, RawMap};
@@ -66,9 +66,16 @@ fn test_other<R: Threads + Sync>(
     ensures { IfOk result (IsThreeTermTest document) }
 {
     match represent(rt, alloc, document) {
-        Ok(_) => Ok(Answer::Line(Line::RefusedNotmap)),
+        Ok(representation) => Ok(Answer::Line(no_map_line(representation))),
         Err(Unrepresented::Refused(why)) => Ok(Answer::Line(why)),
         Err(Unrepresented::Flat) => Ok(Answer::Line(Line::RefusedNotmap)),
         Err(Unrepresented::Memory) => Err(NoMemory),
     }
+}
+
+/// The line that answers a document of another kind that gives an oriented matroid.
+fn no_map_line(_representation: Representation) -> Line
+    ensures { result ≡ Line.RefusedNotmap }
+{
+    Line::RefusedNotmap
 }
