@@ -1,15 +1,9 @@
 -- A command that may be answered is answered, or memory is wanting.
 --
 -- Main results: always_answered.
-use Rattle.std.specs.Prelude.{ℕ, ◌≡◌, ◌<◌, ◌≤◌, ◌⊎◌, List, length, Option, Some, None, IfSome, refl}
-use Rattle.std.proofs.Common.{sym, ◌∙◌, ap, subst, inl, inr, arith}
-use Rattle.om_signs.specs.declared.limits.TheConstants.{MAX_INPUT}
-use Rattle.om_text.specs.declared.document.Document.{Document}
+use Rattle.std.specs.Prelude.{ℕ, ◌≡◌, List, Option, refl}
+use Rattle.std.proofs.Common.{sym, ◌∙◌, subst, inl, inr, arith}
 use Rattle.om_text.specs.Lines.{lines}
-use Rattle.om_text.specs.Document.{IsDocument}
-use Rattle.om_answer.specs.declared.claim.Claim.{Claim}
-use Rattle.om_answer.specs.declared.line.Line.{Line}
-use Rattle.om_answer.specs.Claim.{IsClaim}
 use Rattle.om_answer.proofs.OneReading as claims
 use Rattle.om_text.proofs.Outcome.{same_value, no_fault}
 use Rattle.om_program.specs.declared.answer.Answer.{Answer}
@@ -17,30 +11,26 @@ use Rattle.om_program.specs.declared.reads.Reads.TheVariants as source
 use Rattle.om_program.specs.declared.status.Status.{Status}
 use Rattle.om_program.specs.declared.status.Status.TheVariants.{Done, Refused, Usage, Limit, ReadFault, WriteFault, NoMemory}
 use Rattle.om_program.specs.declared.task.Task.{Task}
-use Rattle.om_program.specs.declared.task.Task.TheVariants.{Make}
-use Rattle.om_program.specs.Answers.{says, status_of}
+use Rattle.om_program.specs.Answers.{status_of}
 use Rattle.om_program.specs.Claims.{ClaimMeans}
-use Rattle.om_program.specs.Completeness.{HasInput, none, document, claim, IsAnswerable, IsDoneOrNoMemory, IsFulfilled}
+use Rattle.om_program.specs.Completeness.{HasInput, none, document, claim, IsAnswerable, IsDoneOrNoMemory}
 use Rattle.om_program.specs.MadeInputs.{IsMade, made}
 use Rattle.om_program.specs.Meaning.{DocumentMeans, TaskMeans, long, faulty, read, faulty_claim, claimed, alone}
-use Rattle.om_program.specs.Run.{IsAnswer, IsTaskAnswer, IsWhole}
+use Rattle.om_program.specs.Run.{IsTaskAnswer, IsWhole}
 use Rattle.om_program.specs.Statuses.{IsAnswered}
 use Rattle.om_program.specs.Tasks.{reads}
 use Rattle.om_program.specs.Words.{Names}
 use Rattle.om_program.proofs.MeaningLaws.{named_answer}
 
 -- tasks that read other things are other tasks
-apart_document_claim : {t : Task} → reads t ≡ source.Document → reads t ≡ source.Claim → ⊥
-apart_document_claim p q = let e = sym p ∙ q in cc
+apart_document_claim : (t : Task) → reads t ≡ source.Document → reads t ≡ source.Claim → ⊥
+apart_document_claim t p q = let e = sym p ∙ q in cc
 
-apart_nothing_document : {t : Task} → reads t ≡ source.Nothing → reads t ≡ source.Document → ⊥
-apart_nothing_document p q = let e = sym p ∙ q in cc
+apart_nothing_document : (t : Task) → reads t ≡ source.Nothing → reads t ≡ source.Document → ⊥
+apart_nothing_document t p q = let e = sym p ∙ q in cc
 
-apart_nothing_claim : {t : Task} → reads t ≡ source.Nothing → reads t ≡ source.Claim → ⊥
-apart_nothing_claim p q = let e = sym p ∙ q in cc
-
-make_alone : {t : Task} (seed count : ℕ) → t ≡ Make seed count → reads t ≡ source.Nothing
-make_alone seed count same = ap reads same
+apart_nothing_claim : (t : Task) → reads t ≡ source.Nothing → reads t ≡ source.Claim → ⊥
+apart_nothing_claim t p q = let e = sym p ∙ q in cc
 
 made_done : (seed count : ℕ) (a : Answer) → IsMade seed count a → status_of a ≡ Done
 made_done seed count a (made t tally back) = refl
@@ -48,23 +38,23 @@ made_done seed count a (made t tally back) = refl
 -- whatever a task means for an input that lets it answer has the status 0
 fulfilled : (t : Task) (bytes : List ℕ) → HasInput t bytes → (a : Answer) → TaskMeans t bytes a → status_of a ≡ Done
 fulfilled t bytes (none nothing) a (long reading past) = absurd (reading nothing)
-fulfilled t bytes (none nothing) a (faulty n c reading short is) = absurd (apart_nothing_document nothing reading)
-fulfilled t bytes (none nothing) a (read d b reading short is means) = absurd (apart_nothing_document nothing reading)
-fulfilled t bytes (none nothing) a (faulty_claim n c reading short is) = absurd (apart_nothing_claim nothing reading)
-fulfilled t bytes (none nothing) a (claimed c l reading short is means) = absurd (apart_nothing_claim nothing reading)
+fulfilled t bytes (none nothing) a (faulty n c reading short is) = absurd (apart_nothing_document t nothing reading)
+fulfilled t bytes (none nothing) a (read d b reading short is means) = absurd (apart_nothing_document t nothing reading)
+fulfilled t bytes (none nothing) a (faulty_claim n c reading short is) = absurd (apart_nothing_claim t nothing reading)
+fulfilled t bytes (none nothing) a (claimed c l reading short is means) = absurd (apart_nothing_claim t nothing reading)
 fulfilled t bytes (none nothing) a (alone seed count b same is) = made_done seed count a is
 fulfilled t bytes (document d reads_document short is axioms done) a (long reading past) = absurd (omega arith)
 fulfilled t bytes (document d reads_document short is axioms done) a (faulty n c reading short' at) = absurd (no_fault (lines bytes) d n c is at)
 fulfilled t bytes (document d reads_document short is axioms done) a (read e b reading short' other means) = done a (subst (λ k. DocumentMeans t k a) (sym (same_value (lines bytes) d e is other)) means)
-fulfilled t bytes (document d reads_document short is axioms done) a (faulty_claim n c reading short' at) = absurd (apart_document_claim reads_document reading)
-fulfilled t bytes (document d reads_document short is axioms done) a (claimed c l reading short' other means) = absurd (apart_document_claim reads_document reading)
-fulfilled t bytes (document d reads_document short is axioms done) a (alone seed count b same made) = made_done seed count a made
+fulfilled t bytes (document d reads_document short is axioms done) a (faulty_claim n c reading short' at) = absurd (apart_document_claim t reads_document reading)
+fulfilled t bytes (document d reads_document short is axioms done) a (claimed c l reading short' other means) = absurd (apart_document_claim t reads_document reading)
+fulfilled t bytes (document d reads_document short is axioms done) a (alone seed count b same is_made) = made_done seed count a is_made
 fulfilled t bytes (claim c reads_claim short is axioms done) a (long reading past) = absurd (omega arith)
-fulfilled t bytes (claim c reads_claim short is axioms done) a (faulty n code reading short' at) = absurd (apart_document_claim reading reads_claim)
-fulfilled t bytes (claim c reads_claim short is axioms done) a (read e b reading short' other means) = absurd (apart_document_claim reading reads_claim)
+fulfilled t bytes (claim c reads_claim short is axioms done) a (faulty n code reading short' at) = absurd (apart_document_claim t reading reads_claim)
+fulfilled t bytes (claim c reads_claim short is axioms done) a (read e b reading short' other means) = absurd (apart_document_claim t reading reads_claim)
 fulfilled t bytes (claim c reads_claim short is axioms done) a (faulty_claim n code reading short' at) = absurd (claims.no_fault (lines bytes) c n code is at)
 fulfilled t bytes (claim c reads_claim short is axioms done) a (claimed e l reading short' other means) = done l (subst (λ k. ClaimMeans k l) (sym (claims.same_claim (lines bytes) c e is other)) means)
-fulfilled t bytes (claim c reads_claim short is axioms done) a (alone seed count b same made) = made_done seed count a made
+fulfilled t bytes (claim c reads_claim short is axioms done) a (alone seed count b same is_made) = made_done seed count a is_made
 
 -- a status that the answer of a task has
 status_done : (t : Task) (bytes : List ℕ) (status : Status) (old new : Option (List ℕ)) → HasInput t bytes → IsWhole (TaskMeans t bytes) status old new → status ≡ Done

@@ -41,7 +41,7 @@ use Rattle.om_program.specs.Chirotopes.{IsChirotopeOf, IsNormalChirotopeOf}
 use Rattle.om_program.specs.Covectors.{IsCovectorIn}
 use Rattle.om_program.specs.Documents.{document_of, map_document, circuits_document, cocircuits_document, covectors_document}
 use Rattle.om_program.specs.Answers.{says, shows}
-use Rattle.om_program.specs.Conversions.{has_kind, IsMemberOf, HasTooMany, HasExactly, IsConverted, IsConversion, IsConversionFrom, itself, limited, converted, IsTooMany}
+use Rattle.om_program.specs.Conversions.{has_kind, IsMemberOf, HasExactly, IsConversion, IsConversionFrom, itself, limited, converted, IsTooMany}
 
 -- ---- the chirotope of a representation
 

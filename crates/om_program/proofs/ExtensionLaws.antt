@@ -2,7 +2,7 @@
 --
 -- Main results: the number of lines that words name may be asked for (lawful_lines); a listing and the two errors as answers (listing_meant,
 -- rank_meant, full_meant); one more signature (signatures_more); the whole text (extensions_made).
-use Rattle.std.specs.Prelude.{ℕ, ◌≡◌, ◌≢◌, ◌↔◌, ◌+◌, ◌<◌, ◌≤◌, Result, Ok, IsErrOf, refl, List, [], ◌∷◌, ◌++◌, Bool, true, false, codes, length, map, take}
+use Rattle.std.specs.Prelude.{ℕ, ◌≡◌, ◌≢◌, ◌↔◌, ◌+◌, ◌<◌, ◌≤◌, Result, Ok, IsErrOf, refl, List, [], ◌∷◌, ◌++◌, codes, length, take}
 use Rattle.std.specs.Fmt.{decimal}
 use Rattle.std.proofs.Common.{inl, inr, arith, get_or, sym, ap, subst, ◌∙◌, append_assoc}
 use Rattle.std.proofs.lemmas.List.{take_more, map-append}
@@ -16,7 +16,6 @@ use Rattle.om_localize.specs.Extensions.{IsSignature}
 use Rattle.om_localize.specs.Listings.{AreFirst}
 use Rattle.om_localize.specs.declared.listing.Listing.{Listing}
 use Rattle.om_text.specs.Print.{text_of}
-use Rattle.om_text.specs.Words.{byte_of}
 use Rattle.om_text.proofs.Printing.{text_of-append}
 use Rattle.om_answer.specs.declared.line.Line.TheVariants as line
 use Rattle.om_answer.specs.Texts.{signs_text}

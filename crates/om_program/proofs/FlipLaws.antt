@@ -1,7 +1,7 @@
 -- The set of three elements, and why its triple isn't flipped.
 --
 -- Main results: no element is above n (within_of_none); the elements of the set (three_elements); a refusal (refused_flip).
-use Rattle.std.specs.Prelude.{ℕ, ◌≡◌, ◌+◌, ◌<◌, ◌≤◌, List, [], ◌∷◌, Some, None, refl}
+use Rattle.std.specs.Prelude.{ℕ, ◌≡◌, ◌+◌, ◌<◌, ◌≤◌, [], Some, None, refl}
 use Rattle.std.proofs.Common.{zero, suc, arith, sym, ◌∙◌, inl, inr}
 use Rattle.std.proofs.lemmas.Bool.{cases_lt, lt-ltb, le-ltb, ne_eqb}
 use Rattle.om_subsets.specs.Subsets.{with_element}

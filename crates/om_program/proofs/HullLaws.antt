@@ -2,7 +2,7 @@
 --
 -- Main results: a line (element_pushed); one more item (items_more); the whole text (hull_bytes); a hull without an error is acyclic
 -- (acyclic_of_hull); a circuit without a minus as the answer (cyclic_meant).
-use Rattle.std.specs.Prelude.{ℕ, ◌≡◌, ◌↔◌, ◌+◌, ◌<◌, List, [], ◌∷◌, ◌++◌, codes, length, take, Result, Ok, IsErrAnd, refl}
+use Rattle.std.specs.Prelude.{ℕ, ◌≡◌, ◌↔◌, ◌+◌, ◌<◌, List, [], ◌∷◌, ◌++◌, codes, length, take, Result, Ok, IsErrAnd}
 use Rattle.std.proofs.Common.{get_or, arith, sym, ap, subst, ◌∙◌, append_assoc}
 use Rattle.std.proofs.lemmas.List.{take_more, length-take-le}
 use Rattle.om_signs.specs.declared.sign.Sign.{Sign}

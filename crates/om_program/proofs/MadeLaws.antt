@@ -13,7 +13,7 @@ use Rattle.om_make.specs.Generator.{unit_vectors, vectors_drawn, made_vectors}
 use Rattle.om_make.specs.Tallies.{BeginsWithUnits, IsTally, ComesBack}
 use Rattle.om_text.specs.Form.{IsPoint, IsInForm}
 use Rattle.om_text.specs.Print.{text_of}
-use Rattle.om_vectors.specs.WholeVectors.{WholeVector, vector_of, IsCoordinate}
+use Rattle.om_vectors.specs.WholeVectors.{WholeVector, IsCoordinate}
 use Rattle.om_vectors.specs.Realizations.{signs_map}
 use Rattle.om_program.specs.declared.answer.Answer.{Answer}
 use Rattle.om_program.specs.declared.setting.Setting.TheVariants.{Count}

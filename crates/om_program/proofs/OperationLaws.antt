@@ -2,7 +2,7 @@
 --
 -- Main results: what is made of a chirotope (chirotope_outcome); the dual of covectors (dual_outcome,
 -- dual_unmade); what is made, as an answer (made_meant), and too many members (limit_meant); the arguments that words name (lawful_arguments).
-use Rattle.std.specs.Prelude.{ℕ, ◌≡◌, ◌↔◌, ◌<◌, ◌^◌, List, length, None, Result, Ok, Err, refl}
+use Rattle.std.specs.Prelude.{ℕ, ◌≡◌, ◌↔◌, ◌<◌, ◌^◌, List, None, Result, Ok, Err, refl}
 use Rattle.std.specs.Result.{IsErrAnd}
 use Rattle.std.specs.List.{Contains}
 use Rattle.std.proofs.Common.{sym, subst}

@@ -165,8 +165,8 @@ map_test_replies m a (tests.meets is) = tt
 
 test_replies : (d : Document) (a : Answer) → tests.IsThreeTermTest d a → IsReply a
 test_replies d a (tests.of_map m b same is) = map_test_replies m a is
-test_replies d a (tests.refused why no is) = refused_replies d.elements d.body why is
-test_replies d a (tests.no_map no axioms) = tt
+test_replies d a (tests.refused why other is) = refused_replies d.elements d.body why is
+test_replies d a (tests.no_map other axioms) = tt
 
 -- ---- the answers of tasks: one line for each
 

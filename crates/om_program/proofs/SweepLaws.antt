@@ -1,7 +1,7 @@
 -- Wirings as documents.
 --
 -- Main results: the document of a wiring diagram is in form (wiring_in_form); why a chirotope isn't swept, as an answer (refused_sweep).
-use Rattle.std.specs.Prelude.{ℕ, ◌≡◌, ◌≢◌, ◌↔◌, ◌<◌, ◌≤◌, List, [], ◌∷◌, ◌++◌, length, All, Result, Err, IsErrOf, refl}
+use Rattle.std.specs.Prelude.{ℕ, ◌≡◌, ◌≢◌, ◌↔◌, ◌≤◌, List, [], ◌∷◌, ◌++◌, length, All, Result, Err, IsErrOf, refl}
 use Rattle.std.proofs.Common.{arith, sym, ◌∙◌, append_assoc}
 use Rattle.std.proofs.lemmas.List.Elements.{All-nil, All-cons}
 use Rattle.om_signs.specs.declared.block.Block.{Block}

@@ -1,5 +1,5 @@
 -- What fits colours of the elements at an element: a circuit or a cocircuit of the chirotope of a document.
-use Rattle.std.specs.Prelude.{ℕ, ◌≡◌, ◌≢◌, ◌<◌, ◌≤◌, List, take}
+use Rattle.std.specs.Prelude.{◌≡◌, ◌≢◌, ◌<◌, ◌≤◌, List, take}
 use Rattle.om_laws.specs.Colours.{IsColoured}
 use Rattle.om_chirotope.specs.Map.{SignMap}
 use Rattle.om_paint.specs.declared.colour.Colour.{Colour}

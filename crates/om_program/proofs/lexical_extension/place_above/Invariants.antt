@@ -1,4 +1,4 @@
-use Rattle.std.proofs.Common.{◌≡◌, ℕ, ◌<◌, ◌≤◌, get_or}
+use Rattle.std.proofs.Common.{ℕ, ◌<◌, ◌≤◌, get_or}
 use Rattle.om_program.specs.LexicalExtensions.{elements_of}
 use Rattle.om_program.proofs.lexical_extension.place_above.Given as goal
 

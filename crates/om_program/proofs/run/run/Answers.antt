@@ -1,4 +1,4 @@
-use Rattle.std.specs.Prelude.{◌≡◌, Ok, Err}
+use Rattle.std.specs.Prelude.{◌≡◌, Result, Ok, Err}
 use Rattle.std.proofs.Common.{refl, rules, sym, subst}
 use Rattle.om_program.specs.declared.reads.Reads.TheVariants as source
 use Rattle.om_program.specs.Tasks.{reads}
@@ -30,13 +30,13 @@ returns-in-Err-clause-answer g c = λ answered. whole (Means _) _ _ _ _ _ (usage
 pub returns-in-Err-clause-cut : goal.returns-in-Err-clause-cut
 returns-in-Err-clause-cut g c = λ cut. cut_off (Means _) _ _ _ _ (usage_meant _ _ _ c.in-Err.ensures.usage) (c.write_usage.ensures.cut cut)
 
-no_value : {A E : Type 0} (e : E) (a : A) → (Err e ≡ Ok a) → ⊥
+no_value : {A E : Type 0} (e : E) (a : A) → ◌≡◌ {A = Result A E} (Err e) (Ok a) → ⊥
 no_value e a same = cc
 
 pub returns-in-Err-clause-only : goal.returns-in-Err-clause-only
 returns-in-Err-clause-only g c = λ is command. no_value _ _ ((c.in-Err.ensures.task command.0).1 command.1)
 
-same_value : {A E : Type 0} (a b : A) → (Ok {E = E} a ≡ Ok b) → a ≡ b
+same_value : {A E : Type 0} (a b : A) → ◌≡◌ {A = Result A E} (Ok a) (Ok b) → a ≡ b
 same_value a b same = cc
 
 pub returns-in-Ok-clause-alone : goal.returns-in-Ok-clause-alone
