@@ -17,6 +17,7 @@ use om_subsets::Subset;
 use std::alloc::Global;
 
 /// The chirotope of an oriented matroid with the sign of three elements turned. The elements are strictly increasing.
+#[inline(never)]
 pub fn flip_triple(
     alloc: Global,
     representation: Representation,

@@ -86,6 +86,7 @@ pub fn represent<R: Threads + Sync>(
 }
 
 /// The chirotope of a map, or the line that refuses the map.
+#[inline(never)]
 fn check_map<R: Threads + Sync>(rt: &R, raw: RawMap) -> Result<Chirotope, Unrepresented>
     requires low { 1 ≤ raw.elements }
     requires high { raw.elements ≤ MAX_ELEMENTS }
@@ -111,6 +112,7 @@ fn map_refusal(why: MapRefused) -> Line
 }
 
 /// The circuits of a list, or why they are none: the line that refuses the list, or want of memory.
+#[inline(never)]
 fn check_circuits<R: Threads + Sync>(
     rt: &R,
     alloc: Global,
@@ -131,6 +133,7 @@ fn check_circuits<R: Threads + Sync>(
 }
 
 /// The cocircuits of a list, or why they are none: the line that refuses the list, or want of memory.
+#[inline(never)]
 fn check_cocircuits<R: Threads + Sync>(
     rt: &R,
     alloc: Global,
@@ -173,6 +176,7 @@ fn set_refusal(why: SetRefused) -> Line
 }
 
 /// The covectors of a list, or why they are none: the line that refuses the list, or want of memory.
+#[inline(never)]
 fn check_covectors<R: Threads + Sync>(
     rt: &R,
     alloc: Global,

@@ -16,6 +16,7 @@ use om_wiring::{SweepError, Wiring, sweep};
 use std::alloc::Global;
 
 /// The least wiring of the chirotope of an oriented matroid.
+#[inline(never)]
 pub fn find_wiring(alloc: Global, representation: Representation) -> Result<Answer, NoMemory>
     ensures { IfOk result (IsMeantFor IsWiringOf representation) }
 {

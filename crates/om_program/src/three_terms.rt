@@ -32,6 +32,7 @@ pub fn test_three_terms<R: Threads + Sync>(
 }
 
 /// The line that says what the test of a map comes to.
+#[inline(never)]
 fn test_map<R: Threads + Sync>(rt: &R, raw: RawMap) -> Line
     requires low { 1 ≤ raw.elements }
     requires high { raw.elements ≤ MAX_ELEMENTS }

@@ -48,6 +48,7 @@ pub fn check<R: Threads + Sync>(rt: &R, raw: RawMap) -> Result<Chirotope, BadThr
 }
 
 /// Whether the map meets the axioms, by the quick test of om_chirotope.
+#[inline(never)]
 fn meets_axioms(raw: &RawMap) -> bool
     requires low { 1 ≤ raw.now.elements }
     requires high { raw.now.elements ≤ MAX_ELEMENTS }

@@ -19,6 +19,7 @@ use std::thread::Threads;
 
 /// The first violated exchange: the bases b and c, and the element e of b that changes places with no element of c; or
 /// None where bases have exchange. It takes no memory.
+#[inline(never)]
 pub fn first_unexchanged<R: Threads + Sync>(rt: &R, raw: &RawMap) -> Option<(Subset, Subset, u8)>
     requires low { 1 ≤ raw.now.elements }
     requires high { raw.now.elements ≤ MAX_PLACES }

@@ -22,6 +22,7 @@ const FOUR: u8 = 4;
 
 /// The first violated three-term relation: the set p of two elements less than the rank, and the set q of four elements off
 /// it; or None where the relations hold. It takes no memory.
+#[inline(never)]
 pub fn first_unbalanced<R: Threads + Sync>(rt: &R, raw: &RawMap) -> Option<(Subset, Subset)>
     requires low { 1 ≤ raw.now.elements }
     requires high { raw.now.elements ≤ MAX_PLACES }
