@@ -19,7 +19,6 @@ use std::thread::Threads;
 
 /// The first violated exchange: the bases b and c, and the element e of b that changes places with no element of c; or
 /// None where bases have exchange. It takes no memory.
-#[inline(never)]
 pub fn first_unexchanged<R: Threads + Sync>(rt: &R, raw: &RawMap) -> Option<(Subset, Subset, u8)>
     requires low { 1 ≤ raw.now.elements }
     requires high { raw.now.elements ≤ MAX_PLACES }
@@ -31,6 +30,22 @@ pub fn first_unexchanged<R: Threads + Sync>(rt: &R, raw: &RawMap) -> Option<(Sub
     if has_exchange(raw) {
         return None;
     }
+    first_unexchanged_by_scan(rt, raw)
+}
+
+/// The same, by a scan of all bases.
+#[inline(never)]
+fn first_unexchanged_by_scan<R: Threads + Sync>(
+    rt: &R,
+    raw: &RawMap,
+) -> Option<(Subset, Subset, u8)>
+    requires low { 1 ≤ raw.now.elements }
+    requires high { raw.now.elements ≤ MAX_PLACES }
+    requires rank { raw.now.rank ≤ raw.now.elements }
+    requires whole { length raw.now.signs ≡ choose raw.now.elements raw.now.rank }
+    ensures none { IfNone result (HasExchange (map_of raw.now)) }
+    ensures first { IfSome result (λ x. IsFirstUnexchanged (map_of raw.now) x.0 x.1 x.2) }
+{
     let mut room = [Subset::from_mask(0, raw.elements); ROOM];
     let count = Subset::choose(raw.elements, raw.rank) as usize;
     let sets = &mut room[..count];
