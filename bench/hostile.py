@@ -21,7 +21,7 @@ RANK_3 = b"om 1\nchirotope 3 16\n" + b"+" * 560 + b"\nend\n"
 COMMANDS = [
     ["accept"], ["member", "++-+"], ["convert", "circuits"], ["convert", "cocircuits"], ["convert", "covectors"], ["convert", "chirotope"],
     ["dual"], ["delete", "1"], ["contract", "2"], ["reorient", "1", "3"], ["wiring"], ["mutations"], ["flip", "1", "2", "3"], ["hull"],
-    ["paint", "RRRR", "1"], ["lexext", "+1", "-2"], ["decide", "--box=1", "--steps=200", "--pivots=50"], ["check"],
+    ["paint", "RRRR", "1"], ["lexext", "+1", "-2"], ["extend", "--first=20"], ["threeterm"], ["decide", "--box=1", "--steps=200", "--pivots=50"], ["check"],
 ]
 
 
@@ -123,8 +123,12 @@ def changed_examples(tally, random_):
 def little_stack(tally):
     def small():
         resource.setrlimit(resource.RLIMIT_STACK, (512 * 1024, 512 * 1024))
+
+    def larger():
+        resource.setrlimit(resource.RLIMIT_STACK, (768 * 1024, 768 * 1024))
     for words, data in [(["accept"], LARGE), (["dual"], LARGE), (["hull"], LARGE), (["convert", "covectors"], RANK_3), (["wiring"], RANK_3), (["mutations"], RANK_3)]:
         tally.expect("%s with a stack of 512 KB" % words, run(words, data, before=small), exactly(0))
+    tally.expect("threeterm with a stack of 768 KB", run(["threeterm"], LARGE, before=larger), exactly(0))
     with open(os.path.join(TOP, "examples", "non-pappus.om"), "rb") as file:
         tally.expect("decide with a stack of 512 KB", run(["decide"], file.read(), before=small), exactly(0))
 
