@@ -230,6 +230,58 @@ def lists(runs):
 
 
 NON_PAPPUS = os.path.join(TOP, "examples", "non-pappus.om")
+# Ringel's uniform arrangement of nine pseudolines that no lines have: each collinear triple of the non-Pappus chirotope is
+# turned to one side
+RINGEL = "-++++++++++++--------+--++++++++++--------+++++++---++--++++++++-------------------+"
+# the signs of an extension of it by one element, at the pairs of the nine
+TENTH = "------------------------++--++++++++"
+
+
+def signs_of(data):
+    """The signs of a chirotope document, by sets."""
+    lines = [line for line in (line.split("#")[0].strip() for line in data.decode().split("\n")) if line]
+    elements = int(lines[1].split()[2])
+    text = "".join(lines[2:lines.index("end")])
+    return elements, dict(zip(itertools.combinations(range(1, elements + 1), 3), ("-0+".index(c) - 1 for c in text)))
+
+
+def columns_of(data):
+    """The number of lawful three-term statements of a chirotope of rank 3, which are the columns of its tableau."""
+    elements, signs = signs_of(data)
+
+    def value(*triple):
+        inversions = sum(triple[i] > triple[j] for i in range(3) for j in range(i + 1, 3))
+        return signs[tuple(sorted(triple))] * (-1) ** inversions
+
+    count = 0
+    for a in range(1, elements + 1):
+        for b, c, d, e in itertools.combinations([x for x in range(1, elements + 1) if x != a], 4):
+            terms = (value(a, b, c) * value(a, d, e), -value(a, b, d) * value(a, c, e), value(a, b, e) * value(a, c, d))
+            for i, j in itertools.permutations(range(3), 2):
+                k = 3 - i - j
+                if terms[i] and (terms[i] == terms[k] == -terms[j] or (terms[k] == 0 and terms[i] == -terms[j])):
+                    count += 1
+    return count
+
+
+def pivots_of(data):
+    """The number of pivots of the tableau run: the least budget with which the verdict isn't `limit`."""
+    low, high = 1, 20000
+    while low < high:
+        middle = (low + high) // 2
+        text = subprocess.run([PROGRAM, "decide", "--box=1", "--steps=1", "--pivots=%d" % middle], input=data, capture_output=True).stdout
+        if b"\nlimit\n" in text:
+            low = middle + 1
+        else:
+            high = middle
+    return low
+
+
+def ringel_on_ten():
+    """The extension of Ringel's chirotope by a tenth element."""
+    _, old = signs_of(chirotope(3, 9, RINGEL))
+    new = dict(zip(itertools.combinations(range(1, 10), 2), TENTH))
+    return chirotope(3, 10, "".join(new[t[:2]] if t[2] == 10 else "-0+"[old[t] + 1] for t in itertools.combinations(range(1, 11), 3)))
 
 
 def decisions(runs):
@@ -237,11 +289,13 @@ def decisions(runs):
     print("%-58s %11s  %18s  %18s  %s" % ("decide", "least time", "rate", "target", "ratio"))
     with open(NON_PAPPUS, "rb") as file:
         data = file.read()
-    took, text = times(["decide", "--steps=1"], data, runs)
-    row("non-Pappus, the tableau alone: %s" % text.split(b"end\n")[1].split()[0].decode(), took, 1, "", target_time=0.05)
+    for name, document_, target in (("non-Pappus", data, 0.05), ("Ringel's", chirotope(3, 9, RINGEL), None), ("Ringel's on ten", ringel_on_ten(), 0.15)):
+        took, text = times(["decide", "--box=1", "--steps=1"], document_, runs)
+        verdict = text.split(b"end\n")[1].split()[0].decode()
+        row("%s, %d columns, %d pivots: %s" % (name, columns_of(document_), pivots_of(document_), verdict), took, 1, "", target_time=target)
     took, _ = times(["decide"], data, runs)
     row("non-Pappus with the default budgets", took, 1, "", target_time=0.15)
-    without = least_time(["decide", "--steps=1"], data, runs, text)
+    without, _ = times(["decide", "--steps=1"], data, runs)
     for steps in (2000000, 20000000):
         took, _ = times(["decide", "--box=40", "--steps=%d" % steps], data, max(1, runs // 2))
         row("%d words of the search, without the tableau" % steps, took - without, steps / 1e6, "M words/s", target_rate=20.0)
@@ -295,18 +349,28 @@ def main():
     print("%-58s %11s  %18s  %18s  %s" % ("accept", "least time", "rate", "target", "ratio"))
     start = least_time(["accept"], small, runs * 4, accepted)
     row("chirotope 3 4: process start and a small document", start, 1, "", target_time=0.001)
-    for rank, elements, target in ((3, 16, None), (8, 16, 200.0)):
+    for rank, elements, target in ((3, 16, None), (8, 16, 0.015)):
         took = least_time(["accept"], alternating(rank, elements), runs, accepted)
         row("chirotope %d %d, all plus: %d pairs" % (rank, elements, pairs(rank, elements)), took,
-            pairs(rank, elements) / 1e6, "M pairs/s", target_rate=target)
-    for rank, elements, target in ((3, 8, 0.01), (3, 12, 10.0), (7, 12, 10.0)):
+            pairs(rank, elements) / 1e6, "M pairs/s", target_time=target)
+    took = least_time(["threeterm"], alternating(8, 16), runs, accepted)
+    row("the three-term test of chirotope 8 16, all plus", took, 1, "", target_time=0.015)
+    signs = "+-" + "+" * (math.comb(16, 8) - 2)
+    took, text = times(["accept"], chirotope(8, 16, signs), runs)
+    row("chirotope 8 16, refused at its first set", took, 1, "", target_time=0.001)
+    signs = "+" * 6000 + "-" + "+" * (math.comb(16, 8) - 6001)
+    alone, _ = times(["accept"], chirotope(8, 16, signs), runs, 1)
+    row("chirotope 8 16, refused by the scan on one processor", alone, 1, "")
+    took, _ = times(["accept"], chirotope(8, 16, signs), runs, 4)
+    row("chirotope 8 16, refused by the scan on four", took, 1, "", target_time=alone / 2)
+    for rank, elements, target in ((3, 8, 0.01), (3, 12, 0.015), (7, 12, 0.015)):
         circuits = document("circuits", elements, circuits_of_alternating(rank, elements))
         took = least_time(["accept"], circuits, runs, accepted)
         row("%d circuits of rank %d on %d elements" % (2 * math.comb(elements, rank + 1), rank, elements), took, 1, "",
             target_time=target)
     covectors = covectors_of_alternating(16)
     took = least_time(["accept"], document("covectors", 16, covectors), runs, accepted)
-    row("%d covectors of rank 3 on 16 elements" % len(covectors), took, 1, "", target_time=10.0)
+    row("%d covectors of rank 3 on 16 elements" % len(covectors), took, 1, "", target_time=0.015)
     size = 1000000
     took = least_time(["accept"], comments(size), runs, accepted)
     row("1 MB of comment lines, without process start", max(took - start, 1e-5), size / 1e6, "MB/s", target_rate=100.0)
