@@ -1,7 +1,7 @@
 //! Runs of the command that lists extensions.
 
 use crate::status::Status;
-use crate::tests::{Case, UNIFORM, ends, written};
+use crate::tests::{Case, UNIFORM, ends};
 use std::test::Fail;
 
 const SINGLE: &str = "om 1\nchirotope 3 3\n+\nend\n";
@@ -13,8 +13,8 @@ const SINGLE_EXTENSIONS: &str = "om 1\nextensions 3\n\
      ---\n--0\n--+\n-0-\n-00\n-0+\n-+-\n-+0\n-++\n0--\n0-0\n0-+\n00-\n000\n\
      00+\n0+-\n0+0\n0++\n+--\n+-0\n+-+\n+0-\n+00\n+0+\n++-\n++0\n+++\nend\n";
 
-/// The extensions of the all-plus chirotope of four elements, without the last line. Among them are the lexicographic ones
-/// by `+4`, with the signs `++0+00`, by `+4 -3`, with `+++++0`, and by `+4 -3 +2`, with `++++++`.
+/// The extensions of the all-plus chirotope of four elements but for the last one, `++++++`, which is the lexicographic one by
+/// `+4 -3 +2`. Among them are the lexicographic ones by `+4`, with the signs `++0+00`, and by `+4 -3`, with `+++++0`.
 const UNIFORM_EXTENSIONS: &str = "om 1\nextensions 4\n\
      ------\n-----0\n-----+\n----0+\n----++\n---0++\n---+++\n--0---\n--0-00\n--0-++\n\
      --00++\n--0+++\n--+---\n--+-0-\n--+-+-\n--+-+0\n--+-++\n--+0++\n--++++\n-0+---\n\
@@ -23,7 +23,7 @@ const UNIFORM_EXTENSIONS: &str = "om 1\nextensions 4\n\
      0++00-\n0++++-\n0++++0\n0+++++\n+-----\n+----0\n+----+\n+--0-+\n+--+-+\n+--+0+\n\
      +--+++\n+0----\n+0-0-0\n+0-+-+\n+0-+0+\n+0-+++\n++----\n++-0--\n++-+--\n++-+-0\n\
      ++-+-+\n++-+0+\n++-+++\n++0---\n++00--\n++0+--\n++0+00\n++0+++\n+++---\n+++0--\n\
-     ++++--\n++++0-\n+++++-\n+++++0\n++++++\n";
+     ++++--\n++++0-\n+++++-\n+++++0\n";
 
 #[test]
 fn extensions_and_refusals(rt: HostRuntime) -> Result<(), Fail> {
@@ -57,18 +57,19 @@ fn extensions_and_refusals(rt: HostRuntime) -> Result<(), Fail> {
 
 #[test]
 fn a_listing_that_ends_and_one_that_goes_on(rt: HostRuntime) -> Result<(), Fail> {
-    for (words, lines, last) in [
-        (&["extend"][..], 75, "end\n"),
-        (&["extend", "--first=75"], 75, "end\n"),
-        (&["extend", "--first=74"], 74, "more\n"),
+    for (words, rest) in [
+        (&["extend"][..], "++++++\nend\n"),
+        (&["extend", "--first=75"], "++++++\nend\n"),
+        (&["extend", "--first=74"], "more\n"),
     ] {
-        let text = written(&rt, rt.alloc(), Case::new(words, UNIFORM), Status::Done)?;
-        let head = UNIFORM_EXTENSIONS.len() - 7 * (75 - lines);
-        assert_eq!(&rt;
-            &text.as_slice()[..head],
-            &UNIFORM_EXTENSIONS.as_bytes()[..head]
-        );
-        assert_eq!(&rt; &text.as_slice()[head..], last.as_bytes());
+        let text = format!(in rt.alloc(); "{UNIFORM_EXTENSIONS}{rest}")?;
+        ends(
+            &rt,
+            rt.alloc(),
+            Case::new(words, UNIFORM),
+            Status::Done,
+            text.as_str(),
+        )?;
     }
     Ok(())
 }
