@@ -1,6 +1,7 @@
 pub mod InOrder
 pub mod Circuits
 pub mod Cocircuits
+pub mod WithPlaces
 pub mod Places
 pub mod Tables
 pub mod Axioms
