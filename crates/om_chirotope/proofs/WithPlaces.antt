@@ -47,17 +47,19 @@ in_step n xs e (suc m) left place head (y ∷ ys) k w = go w.list
         let s = w.size in
         let end = w.end in (
           omega (arith, s),
-          (m,
-          head,
-          ys,
-          record {
-            end = omega (arith, end);
-            list = h;
-            size = omega (arith, s);
-            here = sym (ap (λ k. head + k) (step ys)) ∙ w.here;
-            same = λ f l. (λ i. tail f l ((w.same f (omega (arith, l))).0 i), λ i. (w.same f (omega (arith, l))).1 (inr i));
-            more = λ f l u out. w.more f (omega (arith, l)) u (λ i. out (tail f l i)) ∙ ap (λ k. head + k) (ap (rank_from e (suc m)) (with_later f l) ∙ step (with_element f ys));
-          }),
+          (
+            m,
+            head,
+            ys,
+            record {
+              end = omega (arith, end);
+              list = h;
+              size = omega (arith, s);
+              here = sym (ap (λ k. head + k) (step ys)) ∙ w.here;
+              same = λ f l. (λ i. tail f l ((w.same f (omega (arith, l))).0 i), λ i. (w.same f (omega (arith, l))).1 (inr i));
+              more = λ f l u out. w.more f (omega (arith, l)) u (λ i. out (tail f l i)) ∙ ap (λ k. head + k) (ap (rank_from e (suc m)) (with_later f l) ∙ step (with_element f ys));
+            },
+          ),
         )
       where
         step : (zs : List ℕ) → rank_from e (suc m) (y ∷ zs) ≡ rank_from (e + 1) m zs

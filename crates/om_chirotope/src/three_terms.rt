@@ -13,8 +13,8 @@ ghost use Rattle.om_chirotope.specs.ThreeTerm.{HasExchange, HasListExchange, Has
 ghost use Rattle.om_chirotope.specs.Pictures.{AreLong, AreMarked, AreMarkedAbove, AreRowsBelow, HasRelationsAt, IsLive, IsTriple, without_bit};
 
 use super::cocircuit_table::{ROOM, fill};
-use super::vectors::sign_at;
-use super::walking::places_with;
+use super::vectors::sign_of;
+use super::walking::{following, places_with};
 use om_signs::{MAX_PLACES, RawMap, Sign, SignVec};
 use om_subsets::Subset;
 
@@ -125,11 +125,12 @@ fn mark_bases(raw: &RawMap, marks: &mut [bool])
     requires clear { (i : ℕ) → get_or marks.old i false ≡ false }
     ensures { AreMarked (map_of raw.now) marks.new }
 {
+    let mut b = Subset::first(raw.rank, raw.elements);
     for k in 0..Subset::choose(raw.elements, raw.rank) {
-        let b = Subset::unrank(k, raw.rank, raw.elements);
-        if is_nonzero(sign_at(raw, b)) {
+        if is_nonzero(sign_of(raw, b, k)) {
             marks[b.mask() as usize] = true;
         }
+        b = following(b);
     }
 }
 
@@ -201,11 +202,12 @@ fn has_relations(raw: &RawMap, cocircuits: &[SignVec]) -> bool
     if raw.rank < 2 {
         return true;
     }
-    for k in 0..Subset::choose(raw.elements, raw.rank - 2) {
-        let p = Subset::unrank(k, raw.rank - 2, raw.elements);
+    let mut p = Subset::first(raw.rank - 2, raw.elements);
+    for _k in 0..Subset::choose(raw.elements, raw.rank - 2) {
         if !has_relations_at(raw, cocircuits, p) {
             return false;
         }
+        p = following(p);
     }
     true
 }

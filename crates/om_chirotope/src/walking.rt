@@ -2,7 +2,7 @@
 
 ghost use Rattle.std.specs.Prelude.{ℕ, ◌≡◌, ◌+◌, ◌-◌, ◌<◌, ◌≤◌, length};
 ghost use Rattle.std.proofs.Math.ListN.{get_or};
-ghost use Rattle.om_subsets.specs.Subsets.{choose, rank_of, subset_at, IsMember, IsSubsetFrom, with_element};
+ghost use Rattle.om_subsets.specs.Subsets.{choose, rank_of, IsMember, IsSubsetFrom, with_element};
 
 use om_signs::MAX_PLACES;
 use om_subsets::Subset;
@@ -15,7 +15,9 @@ pub fn following(set: Subset) -> Subset
     ensures n { result.n ≡ set.n }
     ensures size { length result.elements ≡ length set.elements }
     ensures place { rank_of set.n set.elements + 1 < choose set.n (length set.elements) → rank_of result.n result.elements ≡ rank_of set.n set.elements + 1 }
+    ensures lawful { IsSubsetFrom 1 result.n result.elements }
 {
+    let _size = set.size();
     match set.next() {
         None => set,
         Some(next) => next,

@@ -1,4 +1,4 @@
-use Rattle.std.proofs.Common.{arith, subst, length, ◌≡◌, ◌<◌, ◌∙◌, sym, ap}
+use Rattle.std.proofs.Common.{arith, length, ◌≡◌, ◌∙◌, sym, ap}
 use Rattle.std.proofs.lemmas.Option.{get_or_from_slice_get}
 use Rattle.om_signs.specs.declared.sign.Sign.TheVariants.{Zero}
 use Rattle.om_signs.specs.SignVec.{at}

@@ -1,8 +1,7 @@
-use Rattle.std.proofs.Common.{ℕ, arith, refl, sym, ap, subst, ◌∙◌, inl, inr, get_or, length, set, ◌≡◌, ◌+◌, ◌-◌, ◌<◌, ◌≤◌}
+use Rattle.std.proofs.Common.{arith, refl, sym, ap, subst, ◌∙◌, inl, inr, get_or, length, set, ◌+◌, ◌-◌, ◌≤◌}
 use Rattle.std.proofs.lemmas.Bool.{cases_eq, false≢true}
 use Rattle.std.proofs.lemmas.List.{length-set, get_or-set_same, get_or-set_other}
-use Rattle.om_signs.specs.declared.limits.TheConstants.{MAX_PLACES}
-use Rattle.om_subsets.specs.Subsets.{choose, rank_of, IsMember, with_element}
+use Rattle.om_subsets.specs.Subsets.{rank_of, IsMember, with_element}
 use Rattle.om_subsets.proofs.Table.{choose_most}
 use Rattle.om_chirotope.proofs.WithPlaces.{IsWalk, IsStep, walk_start, walk_in, walk_off}
 use Rattle.om_chirotope.proofs.walking.places_with.Goals as goal

@@ -1,4 +1,4 @@
-use Rattle.std.proofs.Common.{ℕ, ◌≡◌, ◌+◌, ◌-◌, ◌*◌, ◌<◌, ◌≤◌, get_or, length}
+use Rattle.std.proofs.Common.{ℕ, ◌≡◌, ◌-◌, ◌*◌, ◌<◌, ◌≤◌, get_or, length}
 use Rattle.om_signs.specs.declared.limits.TheConstants.{MAX_PLACES}
 use Rattle.om_subsets.specs.Subsets.{rank_of, IsMember, with_element}
 use Rattle.om_subsets.specs.declared.binomials.TheConstants.{MOST_SUBSETS}
