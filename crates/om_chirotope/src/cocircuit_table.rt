@@ -7,6 +7,7 @@ ghost use Rattle.om_subsets.specs.Subsets.{choose};
 ghost use Rattle.om_chirotope.specs.Map.{map_of, cocircuit_vectors};
 
 use super::vectors::cocircuit_of;
+use super::walking::following;
 use om_signs::{MAX_PLACES, RawMap, SignVec};
 use om_subsets::{MOST_SUBSETS, Subset};
 
@@ -23,9 +24,10 @@ pub fn fill(raw: &RawMap, table: &mut [SignVec])
     requires room { length table.old ≡ choose raw.now.elements (raw.now.rank - 1) }
     ensures { table.new ≡ cocircuit_vectors (map_of raw.now) }
 {
+    let mut a = Subset::first(raw.rank - 1, raw.elements);
     for place in 0..Subset::choose(raw.elements, raw.rank - 1) {
-        let a = Subset::unrank(place, raw.rank - 1, raw.elements);
         table[place as usize] = cocircuit_of(raw, a);
+        a = following(a);
     }
 }
 
@@ -44,13 +46,14 @@ pub fn fill_while_orthogonal(raw: &RawMap, vector: SignVec, table: &mut [SignVec
     ensures here { IfSome result (λ k. IsOrthogonal vector (get_or (cocircuit_vectors (map_of raw.now)) k []) → ⊥) }
     ensures before { IfSome result (λ k. (j : ℕ) → j < k → IsOrthogonal vector (get_or (cocircuit_vectors (map_of raw.now)) j [])) }
 {
+    let mut a = Subset::first(raw.rank - 1, raw.elements);
     for place in 0..Subset::choose(raw.elements, raw.rank - 1) {
-        let a = Subset::unrank(place, raw.rank - 1, raw.elements);
         let other = cocircuit_of(raw, a);
         if !vector.orthogonal(other) {
             return Some(place);
         }
         table[place as usize] = other;
+        a = following(a);
     }
     None
 }

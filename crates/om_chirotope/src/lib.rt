@@ -12,6 +12,7 @@ mod threaded_scan;
 mod threads;
 mod three_terms;
 mod vectors;
+mod walking;
 
 pub use bad_map::BadMap;
 pub use checking::check;

@@ -5,7 +5,7 @@ ghost use Rattle.std.specs.Int.{bit_at};
 ghost use Rattle.std.proofs.Math.ListN.{get_or};
 ghost use Rattle.om_signs.specs.Sign.{opposite, product};
 ghost use Rattle.om_signs.specs.SignVec.{at, place, IsMaskOf};
-ghost use Rattle.om_subsets.specs.Subsets.{choose, IsMember, IsSubsetFrom};
+ghost use Rattle.om_subsets.specs.Subsets.{choose, rank_of, IsMember, IsSubsetFrom, with_element};
 ghost use Rattle.om_laws.specs.ThreeTerm.{AreBalanced};
 ghost use Rattle.om_chirotope.specs.Map.{map_of, cocircuit_vector, cocircuit_vectors};
 ghost use Rattle.om_chirotope.specs.Chirotope.{HasOrthogonalPairs};
@@ -13,7 +13,8 @@ ghost use Rattle.om_chirotope.specs.ThreeTerm.{HasExchange, HasListExchange, Has
 ghost use Rattle.om_chirotope.specs.Pictures.{AreLong, AreMarked, AreMarkedAbove, AreRowsBelow, HasRelationsAt, IsLive, IsTriple, without_bit};
 
 use super::cocircuit_table::{ROOM, fill};
-use super::vectors::sign_at;
+use super::vectors::sign_of;
+use super::walking::{following, places_with};
 use om_signs::{MAX_PLACES, RawMap, Sign, SignVec};
 use om_subsets::Subset;
 
@@ -124,11 +125,12 @@ fn mark_bases(raw: &RawMap, marks: &mut [bool])
     requires clear { (i : ℕ) → get_or marks.old i false ≡ false }
     ensures { AreMarked (map_of raw.now) marks.new }
 {
+    let mut b = Subset::first(raw.rank, raw.elements);
     for k in 0..Subset::choose(raw.elements, raw.rank) {
-        let b = Subset::unrank(k, raw.rank, raw.elements);
-        if is_nonzero(sign_at(raw, b)) {
+        if is_nonzero(sign_of(raw, b, k)) {
             marks[b.mask() as usize] = true;
         }
+        b = following(b);
     }
 }
 
@@ -200,11 +202,12 @@ fn has_relations(raw: &RawMap, cocircuits: &[SignVec]) -> bool
     if raw.rank < 2 {
         return true;
     }
-    for k in 0..Subset::choose(raw.elements, raw.rank - 2) {
-        let p = Subset::unrank(k, raw.rank - 2, raw.elements);
+    let mut p = Subset::first(raw.rank - 2, raw.elements);
+    for _k in 0..Subset::choose(raw.elements, raw.rank - 2) {
         if !has_relations_at(raw, cocircuits, p) {
             return false;
         }
+        p = following(p);
     }
     true
 }
@@ -243,15 +246,16 @@ fn fill_rows(raw: &RawMap, cocircuits: &[SignVec], p: Subset, rows: &mut [SignVe
     requires zero { (i : ℕ) → i < length rows.old → get_or rows.old i [] ≡ replicate raw.now.elements Sign.Zero }
     ensures { AreRowsBelow (map_of raw.now) p.elements rows.new (raw.now.elements + 1) }
 {
+    let places = places_with(p);
     for x in 1..raw.elements + 1 {
         if !p.has(x) {
-            rows[x as usize - 1] = row_of(raw, cocircuits, p, x);
+            rows[x as usize - 1] = row_of(raw, cocircuits, p, x, places[x as usize - 1]);
         }
     }
 }
 
-/// The row of an element x off P.
-fn row_of(raw: &RawMap, cocircuits: &[SignVec], p: Subset, x: u8) -> SignVec
+/// The row of an element x off P, by the place of P with x.
+fn row_of(raw: &RawMap, cocircuits: &[SignVec], p: Subset, x: u8, place: u32) -> SignVec
     requires high { raw.now.elements ≤ MAX_PLACES }
     requires rank { length p.elements + 2 ≡ raw.now.rank }
     requires rank_high { raw.now.rank < raw.now.elements }
@@ -260,10 +264,12 @@ fn row_of(raw: &RawMap, cocircuits: &[SignVec], p: Subset, x: u8) -> SignVec
     requires x_low { 1 ≤ x }
     requires x_high { x ≤ raw.now.elements }
     requires off { IsMember x p.elements → ⊥ }
+    requires place { place ≡ rank_of p.n (with_element x p.elements) }
     ensures { result ≡ cocircuit_vector (map_of raw.now) (p.elements ++ x ∷ []) }
 {
     let _size = p.size();
-    let vector = cocircuits[p.with(x).rank() as usize];
+    let _with = p.with(x);
+    let vector = cocircuits[place as usize];
     if p.odd_after(x) { vector.neg() } else { vector }
 }
 

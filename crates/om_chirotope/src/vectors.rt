@@ -1,12 +1,13 @@
 //! The signs of sets under a map, and the two sign vectors.
 
 ghost use Rattle.std.specs.Prelude.{◌≡◌, ◌+◌, ◌<◌, ◌≤◌, length};
-ghost use Rattle.om_subsets.specs.Subsets.{choose, IsMember};
+ghost use Rattle.om_subsets.specs.Subsets.{choose, rank_of, IsMember, with_element};
 ghost use Rattle.om_subsets.specs.Lists.{IsWithin};
 ghost use Rattle.om_laws.specs.Tuples.{before_sign};
 ghost use Rattle.om_laws.specs.Relations.{around, along};
 ghost use Rattle.om_chirotope.specs.Map.{map_of, chi_of, value_of, circuit_vector, cocircuit_vector};
 
+use super::walking::places_with;
 use om_signs::{MAX_PLACES, RawMap, Sign, SignVec};
 use om_subsets::Subset;
 
@@ -18,7 +19,20 @@ pub fn sign_at(raw: &RawMap, s: Subset) -> Sign
     ensures place { result ≡ chi_of (map_of raw.now) s.elements }
     ensures value { result ≡ value_of (map_of raw.now) s.elements }
 {
-    raw.signs.at(s.rank() as usize)
+    sign_of(raw, s, s.rank())
+}
+
+/// The same, by the place of the set.
+pub fn sign_of(raw: &RawMap, s: Subset, place: u32) -> Sign
+    requires n { s.n ≡ raw.now.elements }
+    requires size { length s.elements ≡ raw.now.rank }
+    requires whole { length raw.now.signs ≡ choose raw.now.elements raw.now.rank }
+    requires place { place ≡ rank_of s.n s.elements }
+    ensures place { result ≡ chi_of (map_of raw.now) s.elements }
+    ensures value { result ≡ value_of (map_of raw.now) s.elements }
+{
+    let _size = s.size();
+    raw.signs.at(place as usize)
 }
 
 /// The sign at e of the vector V of s.
@@ -58,20 +72,21 @@ pub fn circuit_of(raw: &RawMap, s: Subset) -> SignVec
     vector
 }
 
-/// The sign at e of the vector U of a.
-fn cocircuit_sign(raw: &RawMap, a: Subset, e: u8) -> Sign
+/// The sign at e of the vector U of a, by the place of a with e.
+fn cocircuit_sign(raw: &RawMap, a: Subset, e: u8, place: u32) -> Sign
     requires low { 1 ≤ e }
     requires high { e ≤ raw.now.elements }
     requires n { a.n ≡ raw.now.elements }
     requires size { length a.elements + 1 ≡ raw.now.rank }
     requires whole { length raw.now.signs ≡ choose raw.now.elements raw.now.rank }
+    requires place { (IsMember e a.elements → ⊥) → place ≡ rank_of a.n (with_element e a.elements) }
     ensures { result ≡ along (value_of (map_of raw.now)) a.elements e }
 {
     let _size = a.size();
     if a.has(e) {
         return Sign::Zero;
     }
-    let sign = sign_at(raw, a.with(e));
+    let sign = sign_of(raw, a.with(e), place);
     if a.odd_after(e) { sign.neg() } else { sign }
 }
 
@@ -84,9 +99,10 @@ pub fn cocircuit_of(raw: &RawMap, a: Subset) -> SignVec
     requires whole { length raw.now.signs ≡ choose raw.now.elements raw.now.rank }
     ensures { result ≡ cocircuit_vector (map_of raw.now) a.elements }
 {
+    let places = places_with(a);
     let mut vector = SignVec::zero(raw.elements);
     for e in 1..raw.elements + 1 {
-        vector = vector.set(e, cocircuit_sign(raw, a, e));
+        vector = vector.set(e, cocircuit_sign(raw, a, e, places[e as usize - 1]));
     }
     vector
 }

@@ -1,0 +1,47 @@
+//! Sets of one size in their order, and the places of the sets with one element more.
+
+ghost use Rattle.std.specs.Prelude.{ℕ, ◌≡◌, ◌+◌, ◌-◌, ◌<◌, ◌≤◌, length};
+ghost use Rattle.std.proofs.Math.ListN.{get_or};
+ghost use Rattle.om_subsets.specs.Subsets.{choose, rank_of, IsMember, IsSubsetFrom, with_element};
+
+use om_signs::MAX_PLACES;
+use om_subsets::Subset;
+
+/// The number of places of a set with one element more: one for each element.
+pub const PLACES: usize = MAX_PLACES as usize;
+
+/// The next set of this size in lexicographic order, or this one where it is the last.
+pub fn following(set: Subset) -> Subset
+    ensures n { result.n ≡ set.n }
+    ensures size { length result.elements ≡ length set.elements }
+    ensures place { rank_of set.n set.elements + 1 < choose set.n (length set.elements) → rank_of result.n result.elements ≡ rank_of set.n set.elements + 1 }
+    ensures lawful { IsSubsetFrom 1 result.n result.elements }
+{
+    let _size = set.size();
+    match set.next() {
+        None => set,
+        Some(next) => next,
+    }
+}
+
+/// The places of the sets with one element more: at e - 1, for each element e that isn't in the set, the place of the set
+/// with e in the lexicographic order of those of its size.
+pub fn places_with(set: Subset) -> [u32; PLACES]
+    ensures { (e : ℕ) → 1 ≤ e → e ≤ set.n → (IsMember e set.elements → ⊥) → get_or result (e - 1) 0 ≡ rank_of set.n (with_element e set.elements) }
+{
+    let mut places = [0u32; PLACES];
+    let mut left = set.size();
+    // the place of the set, with what has to be added to it where the further element comes after those looked at
+    let mut place = set.rank();
+    for e in 1..set.n() + 1 {
+        if set.has(e) {
+            left -= 1;
+        } else {
+            let without = Subset::choose(set.n() - e, left);
+            let here = place + without - Subset::choose(set.n() - e + 1, left);
+            places[e as usize - 1] = here;
+            place = here + without;
+        }
+    }
+    places
+}
