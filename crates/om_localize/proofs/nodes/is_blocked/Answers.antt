@@ -1,4 +1,4 @@
-use Rattle.std.proofs.Common.{sym, subst, ◌≡◌, get_or, ◌∙◌}
+use Rattle.std.proofs.Common.{sym, ◌∙◌}
 use Rattle.om_localize.proofs.OpenLaws.{closed_first, closed_second}
 use Rattle.om_localize.proofs.nodes.is_blocked.Goals as goal
 
