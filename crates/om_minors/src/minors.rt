@@ -2,8 +2,6 @@
 
 ghost use Rattle.std.specs.Prelude.{ℕ, ◌≡◌, ◌≤◌, ◌<◌, ◌+◌, ◌-◌, ◌↔◌, IfOk, IsErrOf, length, map, true, false};
 ghost use Rattle.om_signs.specs.declared.sign.Sign.TheVariants.{Plus};
-ghost use Rattle.om_subsets.specs.Subsets.{IsSubsetFrom};
-ghost use Rattle.om_laws.specs.Minors.{skip};
 ghost use Rattle.om_chirotope.specs.Map.{IsLedBy};
 ghost use Rattle.om_denotation.specs.Covectors.{IsCovectorOfChirotope};
 ghost use Rattle.om_denotation.specs.Operations.{IsDeletion, IsContraction};
@@ -15,7 +13,7 @@ use super::minor_error::MinorError;
 use om_chirotope::Chirotope;
 use om_denotation::{SignRule, normal_by};
 use om_matroid::{is_coloop, is_loop};
-use om_signs::{MAX_PLACES, NoMemory, Sign};
+use om_signs::{NoMemory, Sign};
 use om_subsets::Subset;
 use std::alloc::Global;
 
