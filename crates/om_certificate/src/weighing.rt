@@ -121,7 +121,10 @@ fn bracket_set(weight: Weight, n: u8) -> Subset
     requires increasing { IsOfTriple n weight }
     ensures { sides.IsTriple n (bracket_of weight) result }
 {
-    Subset::triple(weight.a, weight.b, weight.c, n)
+    Subset::first(0, n)
+        .with(weight.c)
+        .with(weight.b)
+        .with(weight.a)
 }
 
 /// Writes the weights into a table of zeros, each at the place of its bracket.

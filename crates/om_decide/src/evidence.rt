@@ -62,7 +62,7 @@ fn bracket_weight(bracket: Subset, value: i128) -> Weight
     requires { length bracket.elements ≡ 3 }
     ensures { result ≡ weight_on bracket.elements value }
 {
-    bracket.is_lawful();
+    let _size = bracket.size();
     let a = least_from(bracket, 1);
     let b = least_from(bracket, a + 1);
     let c = least_from(bracket, b + 1);

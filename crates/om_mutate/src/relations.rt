@@ -1,6 +1,7 @@
 //! The test of one triple by the three-term relations that hold it.
 
 ghost use Rattle.std.specs.Prelude.{ℕ, ◌≡◌, ◌<◌, ◌≤◌, ◌↔◌, ◌∷◌, length, IsTrue};
+ghost use Rattle.om_subsets.specs.Subsets.{without_element};
 ghost use Rattle.om_laws.specs.Sorting.{IsElement};
 ghost use Rattle.om_laws.specs.ThreeTerm as three_term;
 ghost use Rattle.om_mutate.specs.Mutations.{IsMutation};
