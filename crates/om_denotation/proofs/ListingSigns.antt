@@ -1,8 +1,8 @@
--- Complements of masks, and the sign of the permutation that lists a set and then the elements off it.
+-- The complement of a set, and the sign of the permutation that lists a set and then the elements off it.
 --
--- Main results: complement_members, the complement of a mask's members; sort_append, the sign of two lists one after the other; listing_more, one
+-- Main results: complement_is, the set of the elements off another; sort_append, the sign of two lists one after the other; listing_more, one
 -- more element of the whole set; listing_first, that element alone.
-use Rattle.std.specs.Prelude.{ℕ, ◌≡◌, ◌≢◌, ◌+◌, ◌-◌, ◌*◌, ◌/◌, ◌%◌, ◌<◌, ◌≤◌, ◌^◌, List, [], ◌∷◌, ◌++◌, length, refl}
+use Rattle.std.specs.Prelude.{ℕ, ◌≡◌, ◌≢◌, ◌+◌, ◌-◌, ◌*◌, ◌/◌, ◌%◌, ◌<◌, ◌≤◌, ◌^◌, ◌↔◌, List, [], ◌∷◌, ◌++◌, length, refl}
 use Rattle.std.specs.List.{range_with_len}
 use Rattle.std.proofs.Common.{zero, suc, sym, ◌∙◌, ap, inl, inr, arith, append-nil}
 use Rattle.std.proofs.lemmas.Bool.{cases_eq, eq-eqb, ne_eqb}
@@ -14,68 +14,38 @@ use Rattle.om_subsets.proofs.Places.{double}
 use Rattle.om_subsets.specs.Members.{members, mask_of, members-subset}
 use Rattle.om_subsets.specs.Subsets.{IsSubsetFrom, IsMember, count_above}
 use Rattle.om_subsets.proofs.Masks.{mask_of-lt, members-mask_of}
+use Rattle.om_subsets.proofs.Firsts.{same_members}
 use Rattle.om_subsets.proofs.Order.{members_from}
 use Rattle.om_laws.specs.Chirotope.{elements_to}
 use Rattle.om_laws.specs.Dual.{complement}
 use Rattle.om_laws.specs.Sorting.{IsIncreasing}
 use Rattle.om_laws.specs.Tuples.{sort_sign, before_sign, order_sign}
-use Rattle.om_laws.proofs.Complements.{is_member_cases}
+use Rattle.om_laws.proofs.Complements.{is_member_cases, complement_is_complement}
 use Rattle.om_laws.proofs.DualSizes.{length_complement, complement_increasing}
 use Rattle.om_laws.proofs.SignLaws.{product-plus}
 use Rattle.om_laws.proofs.SortingLaws.{value_increasing, increasing_distinct}
-use Rattle.om_laws.proofs.ChirotopeLaws.{elements_distinct, member_from_element}
+use Rattle.om_laws.proofs.ChirotopeLaws.{elements_distinct, member_from_element, element_from_member}
 use Rattle.om_chirotope.specs.Map.{parity_sign}
 use Rattle.om_chirotope.proofs.Cocircuits.{sign_end}
+use Rattle.om_chirotope.proofs.Theory.{later_list}
 use Rattle.om_denotation.proofs.ChirotopeBridge.{increasing_subset}
 
--- ---- complements of masks
+-- ---- the complement of a set
 
--- an element off the whole set doesn't matter
-complement_other : (E : List ℕ) (e : ℕ) (a : List ℕ) → (IsMember e E → ⊥) → complement E (e ∷ a) ≡ complement E a
-complement_other [] e a n = refl
-complement_other (g ∷ E) e a n =
-    let ne : g ≢ e = (λ q. n (inl (sym q))) in
-    let rest = complement_other E e a (λ m. n (inr m)) in
-    rw (ne_eqb g e ne) (elim (is_member_cases g a) [
-      | inl k ↦ rw k.1 rest
-      | inr k ↦ rw k.1 (ap (λ l. g ∷ l) rest)
-    ])
+complement_subset : (low m : ℕ) (xs : List ℕ) → IsSubsetFrom low m (complement (range_with_len low m) xs)
+complement_subset low zero xs = tt
+complement_subset low (suc m) xs = elim (is_member_cases low xs) [
+  | inl k ↦ rw k.1 (later_list low m (complement (range_with_len (low + 1) m) xs) (complement_subset (low + 1) m xs))
+  | inr k ↦ rw k.1 (inl (refl, complement_subset (low + 1) m xs))
+]
 
-above_range : (e low m : ℕ) → e < low → IsMember e (range_with_len low m) → ⊥
-above_range e low zero l h = h
-above_range e low (suc m) l (inl q) = omega arith
-above_range e low (suc m) l (inr h) = above_range e (low + 1) m (omega arith) h
-
-pub complement_members : (mask e m : ℕ) → mask < 2 ^ m → members (2 ^ m - 1 - mask) e m ≡ complement (range_with_len e m) (members mask e m)
-complement_members mask e zero l = refl
-complement_members mask e (suc m) l =
-    let p : 2 ^ suc m ≡ 2 * 2 ^ m = double m in
-    let half : (2 ^ suc m - 1 - mask) / 2 ≡ 2 ^ m - 1 - mask / 2 = omega arith in
-    let rest : members (2 ^ m - 1 - mask / 2) (e + 1) m ≡ complement (range_with_len (e + 1) m) (members (mask / 2) (e + 1) m) = complement_members (mask / 2) (e + 1) m (omega arith) in
-    let below : IsMember e (members (mask / 2) (e + 1) m) → ⊥ = (λ h. (let k = (members_from (e + 1) m e (members (mask / 2) (e + 1) m) (members-subset (mask / 2) (e + 1) m) h).0 in omega (arith, k))) in
-    elim (cases_eq (mask % 2) 1) [
-      | inl o ↦
-          let z : (2 ^ suc m - 1 - mask) % 2 ≢ 1 = omega arith in
-          rw (eq-eqb (mask % 2) 1 o, ne_eqb ((2 ^ suc m - 1 - mask) % 2) 1 z, half, eq-eqb e e refl)
-          (rest ∙ sym (complement_other (range_with_len (e + 1) m) e (members (mask / 2) (e + 1) m) (above_range e (e + 1) m (omega arith))))
-      | inr n ↦
-          let o : (2 ^ suc m - 1 - mask) % 2 ≡ 1 = omega arith in
-          rw (ne_eqb (mask % 2) 1 n, eq-eqb ((2 ^ suc m - 1 - mask) % 2) 1 o, half) (elim (is_member_cases e (members (mask / 2) (e + 1) m)) [
-            | inl k ↦ absurd (below k.0)
-            | inr k ↦ rw k.1 (ap (λ l. e ∷ l) rest)
-          ])
-    ]
-
--- the complement of a set, by its mask
-pub complement_set : (n : ℕ) (xs : List ℕ) → IsSubsetFrom 1 n xs → members (2 ^ n - 1 - mask_of 1 xs n) 1 n ≡ complement (elements_to n) xs
-complement_set n xs h = complement_members (mask_of 1 xs n) 1 n (mask_of-lt 1 n xs) ∙ ap (complement (range_with_len 1 n)) (members-mask_of 1 n xs h)
-
-pub complement_size : (n : ℕ) (xs : List ℕ) → IsSubsetFrom 1 n xs → length (complement (elements_to n) xs) + length xs ≡ n
-complement_size n xs h =
-    let both = length_complement (elements_to n) xs (elements_distinct n) (increasing_distinct xs (increasing_subset n xs h))
-    (λ e m. let k = members_from 1 n e xs h m in let low = k.0 in let high = k.1 in member_from_element n e (low, omega (arith, high))) in
-    let all = length-range_with_len 1 n in
-    omega (arith, both, all)
+-- a set with the elements off another
+pub complement_is : (n : ℕ) (xs ys : List ℕ) → IsSubsetFrom 1 n ys → ((e : ℕ) → IsMember e ys ↔ ((1 ≤ e) × (e ≤ n) × (IsMember e xs → ⊥))) → ys ≡ complement (elements_to n) xs
+complement_is n xs ys h members =
+    let c = complement_is_complement (elements_to n) xs (elements_distinct n) in
+    same_members 1 n ys (complement (elements_to n) xs) h (complement_subset 1 n xs)
+    (λ e q. let k = (members e).0 q in c.all e (member_from_element n e (k.0, k.1)) k.2)
+    (λ e q. let b = element_from_member n e (c.among e q) in (members e).1 (b.0, b.1, c.apart e q))
 
 -- ---- the sign of two lists one after the other
 

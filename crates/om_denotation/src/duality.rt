@@ -1,6 +1,6 @@
 //! The dual of a chirotope.
 
-ghost use Rattle.std.specs.Prelude.{◌≡◌, ◌≤◌, ◌+◌, ◌-◌, ◌++◌, ◌∷◌, [], length, IfOk};
+ghost use Rattle.std.specs.Prelude.{◌≡◌, ◌≤◌, ◌+◌, ◌-◌, ◌++◌, ◌∷◌, [], IfOk};
 ghost use Rattle.om_signs.specs.declared.sign.Sign.TheVariants.{Plus};
 ghost use Rattle.om_laws.specs.Chirotope.{elements_to};
 ghost use Rattle.om_laws.specs.Dual.{complement, dual_on_increasing};
@@ -60,28 +60,17 @@ impl SignRule for Complements<'_> {
     ghost valid = { λ c. IsSound c.chi.now };
 
     fn sign(&self, s: Subset) -> Sign {
-        let rest = complement_of(s);
+        let rest = s.complement();
         let sign = self.chi.at(rest);
         listing_sign(s).times(sign)
     }
-}
-
-/// The elements off a set.
-fn complement_of(s: Subset) -> Subset
-    ensures n { result.n ≡ s.n }
-    ensures elements { result.elements ≡ complement (elements_to s.n) s.elements }
-    ensures size { length result.elements + length s.elements ≡ s.n }
-{
-    // this call tells that the list of the set increases, as in the functions below
-    let _size = s.size();
-    Subset::from_mask((1u32 << s.n()) - 1 - s.mask(), s.n())
 }
 
 /// The sign of the permutation that lists a set in order and then the elements off it in order.
 fn listing_sign(s: Subset) -> Sign
     ensures { result ≡ sort_sign (s.elements ++ complement (elements_to s.n) s.elements) }
 {
-    let _size = s.size();
+    s.is_lawful();
     let mut sign = Sign::Plus;
     for e in 1..s.n() + 1 {
         sign = sign.times(moving_sign(s, e));
@@ -96,7 +85,7 @@ fn moving_sign(s: Subset, e: u8) -> Sign
     requires high { e ≤ s.n }
     ensures { result ≡ sort_sign (s.elements ++ complement (e ∷ []) s.elements) }
 {
-    let _size = s.size();
+    s.is_lawful();
     if s.has(e) {
         return Sign::Plus;
     }

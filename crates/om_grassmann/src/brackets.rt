@@ -58,5 +58,5 @@ fn set_of(x: u8, y: u8, z: u8, n: u8) -> Subset
     requires y_z { y ≢ z }
     ensures { IsTriple n (triple x y z) result }
 {
-    Subset::first(0, n).with(z).with(y).with(x)
+    Subset::triple(x, y, z, n)
 }

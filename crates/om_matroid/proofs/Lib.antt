@@ -1,4 +1,3 @@
-mod MaskLaws
 pub mod ListLaws
 pub mod WalkLaws
 mod RankLaws

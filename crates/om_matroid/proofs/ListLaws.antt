@@ -4,12 +4,11 @@
 -- stands in the middle (without_middle).
 use Rattle.std.proofs.Common.{ℕ, zero, suc, ◌≡◌, ◌≢◌, ◌+◌, ◌≤◌, List, [], ◌∷◌, ◌++◌, length, refl, sym, ap, inl, inr, arith}
 use Rattle.std.proofs.lemmas.Bool.{cases_eq, eq-eqb, ne_eqb}
-use Rattle.om_subsets.specs.Subsets.{IsSubsetFrom, IsMember, without_element}
+use Rattle.om_subsets.specs.Subsets.{IsSubsetFrom, IsMember, without_element, IsPartOf}
 use Rattle.om_subsets.proofs.Order.{members_from}
 use Rattle.om_laws.specs.Members.{IsDistinct}
 use Rattle.om_laws.proofs.MemberLaws.{member_middle}
 use Rattle.om_chirotope.proofs.Theory.{later_list}
-use Rattle.om_matroid.specs.Bases.{IsPartOf}
 
 pub subset_without : (low m e : ℕ) (ys : List ℕ) → IsSubsetFrom low m ys → IsSubsetFrom low m (without_element e ys)
 subset_without low m e [] h = tt

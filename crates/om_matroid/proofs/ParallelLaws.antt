@@ -5,14 +5,14 @@
 -- (not_parallel); where no basis has both of two elements, they are parallel exactly where neither is a loop (parallel_at_last).
 use Rattle.std.proofs.Common.{ℕ, ◌≡◌, ◌≢◌, ◌+◌, ◌<◌, ◌≤◌, ◌↔◌, ◌⊎◌, List, [], ◌∷◌, length, refl, sym, subst, ◌∙◌, inl, inr, arith, Bool, true, false, IsTrue}
 use Rattle.std.proofs.lemmas.Bool.{false≢true}
-use Rattle.om_subsets.specs.Subsets.{IsSubsetFrom, IsMember, with_element, choose, rank_of, subset_at}
+use Rattle.om_subsets.specs.Subsets.{IsSubsetFrom, IsMember, with_element, choose, rank_of, subset_at, IsPartOf}
 use Rattle.om_subsets.proofs.Order.{members_from}
 use Rattle.om_subsets.proofs.Statements.{subset_is_increasing, members_with}
 use Rattle.om_laws.proofs.SortingLaws.{increasing_distinct}
 use Rattle.om_chirotope.specs.Map.{SignMap}
 use Rattle.om_chirotope.proofs.Cocircuits.{length-with}
 use Rattle.om_chirotope.proofs.Theory.{lawful_with}
-use Rattle.om_matroid.specs.Bases.{IsBasis, IsPartOf, IsRankOf, IsLoop, AreParallel}
+use Rattle.om_matroid.specs.Bases.{IsBasis, IsRankOf, IsLoop, AreParallel}
 use Rattle.om_matroid.proofs.WalkLaws.{HasNoneBefore, none_at_all, place_of}
 
 -- the basis at some place below k has e

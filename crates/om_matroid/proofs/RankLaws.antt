@@ -5,10 +5,10 @@
 -- (rank_kept_small, rank_kept_other); after the last set it is the rank (rank_at_last).
 use Rattle.std.proofs.Common.{ℕ, ◌≡◌, ◌+◌, ◌<◌, ◌≤◌, ◌↔◌, List, [], length, refl, sym, subst, inl, inr, arith}
 use Rattle.std.proofs.lemmas.Bool.{cases_eq}
-use Rattle.om_subsets.specs.Subsets.{IsSubsetFrom, IsMember, choose, subset_at}
+use Rattle.om_subsets.specs.Subsets.{IsSubsetFrom, IsMember, choose, subset_at, IsPartOf}
 use Rattle.om_chirotope.specs.Map.{SignMap}
 use Rattle.om_chirotope.specs.Chirotope.{IsChirotope}
-use Rattle.om_matroid.specs.Bases.{IsBasis, IsPartOf, IsIndependentPart, IsRankOf}
+use Rattle.om_matroid.specs.Bases.{IsBasis, IsIndependentPart, IsRankOf}
 use Rattle.om_matroid.proofs.ListLaws.{length_of_part}
 use Rattle.om_matroid.proofs.WalkLaws.{each_set}
 

@@ -3,7 +3,7 @@
 -- Reference: Björner, Las Vergnas, Sturmfels, White and Ziegler, Oriented Matroids, chapter 3.
 use Rattle.std.specs.Prelude.{ℕ, ◌≡◌, ◌≢◌, ◌≤◌, List, [], ◌∷◌, length}
 use Rattle.om_signs.specs.declared.sign.Sign.TheVariants.{Zero}
-use Rattle.om_subsets.specs.Subsets.{IsSubsetFrom, IsMember, with_element, without_element}
+use Rattle.om_subsets.specs.Subsets.{IsSubsetFrom, IsMember, IsPartOf, with_element, without_element}
 use Rattle.om_subsets.specs.Lists.{IsBefore}
 use Rattle.om_chirotope.specs.Map.{SignMap, value_of}
 
@@ -12,10 +12,6 @@ pub record IsBasis (m : SignMap) (b : List ℕ) : Type 0 where
   pub list : IsSubsetFrom 1 m.elements b
   pub size : length b ≡ m.rank
   pub nonzero : value_of m b ≢ Zero
-
--- each element of the first set is one of the second
-abbrev pub IsPartOf : List ℕ → List ℕ → Type 0
-IsPartOf t s = (e : ℕ) → IsMember e t → IsMember e s
 
 -- contained in some basis
 abbrev pub IsIndependent : SignMap → List ℕ → Type 0

@@ -1,24 +1,11 @@
 //! The rank of a set.
 
-ghost use Rattle.std.specs.Prelude.{◌≡◌, ◌↔◌, ℕ};
-ghost use Rattle.om_subsets.specs.Subsets.{IsSubsetFrom, IsMember};
+ghost use Rattle.std.specs.Prelude.{◌≡◌};
 ghost use Rattle.om_matroid.specs.Bases.{IsRankOf};
 
 use super::search::is_basis;
 use om_chirotope::Chirotope;
 use om_subsets::Subset;
-
-/// The elements that stand in both sets.
-fn common(s: Subset, b: Subset) -> Subset
-    requires { s.n ≡ b.n }
-    ensures n { result.n ≡ s.n }
-    ensures members { (e : ℕ) → IsMember e result.elements ↔ (IsMember e s.elements × IsMember e b.elements) }
-    ensures lawful { IsSubsetFrom 1 result.n result.elements }
-{
-    let _sizes = (s.size(), b.size());
-    let n = s.n();
-    Subset::from_mask(s.mask() & b.mask(), n)
-}
 
 /// The rank of a set of some of the elements 1 to n, for the number n of elements: the number of elements of its greatest
 /// independent part. That is the most elements that it has in common with a basis. It walks once over the sets of as many
@@ -34,7 +21,7 @@ pub fn rank_of(chi: &Chirotope, s: Subset) -> u8
     let mut most = 0;
     for k in 0..Subset::choose(elements, rank) {
         let b = Subset::unrank(k, rank, elements);
-        let size = common(s, b).size();
+        let size = s.intersection(b).size();
         if most < size && is_basis(chi, b) {
             most = size;
         }

@@ -1,8 +1,9 @@
 //! The walk over the sets of as many elements as the rank, in lexicographic order.
 
 ghost use Rattle.std.specs.Prelude.{◌≡◌, ◌↔◌, ℕ, List, IsTrue, IsNone, IfSome};
-ghost use Rattle.om_matroid.specs.Bases.{IsBasis, IsPartOf};
-ghost use Rattle.om_matroid.specs.Search.{AreApart, IsBasisBetween, IsFirstBetween};
+ghost use Rattle.om_subsets.specs.Subsets.{AreApart};
+ghost use Rattle.om_matroid.specs.Bases.{IsBasis};
+ghost use Rattle.om_matroid.specs.Search.{IsBasisBetween, IsFirstBetween};
 
 use om_chirotope::Chirotope;
 use om_signs::Sign;
@@ -16,22 +17,12 @@ pub fn is_basis(chi: &Chirotope, b: Subset) -> bool
     b.size() == chi.rank() && chi.at(b) != Sign::Zero
 }
 
-/// Whether each element of the first set is one of the second.
-pub fn is_part(s: Subset, b: Subset) -> bool
-    requires { s.n ≡ b.n }
-    ensures { IsTrue result ↔ IsPartOf s.elements b.elements }
-{
-    let _size = s.size();
-    s.mask() & b.mask() == s.mask()
-}
-
 /// Whether two sets of some of the elements 1 to n have no common element. Both have the same n.
 pub fn are_apart(s: Subset, b: Subset) -> bool
     requires { s.n ≡ b.n }
     ensures { IsTrue result ↔ AreApart s.elements b.elements }
 {
-    let _sizes = (s.size(), b.size());
-    s.mask() & b.mask() == 0
+    s.is_apart_from(b)
 }
 
 /// Whether a set is a basis that contains one set and has no element of another.
@@ -41,7 +32,7 @@ fn is_between(chi: &Chirotope, inside: Subset, outside: Subset, b: Subset) -> bo
     requires set { b.n ≡ chi.now.elements }
     ensures { IsTrue result ↔ IsBasisBetween chi.now inside.elements outside.elements b.elements }
 {
-    is_part(inside, b) && are_apart(outside, b) && is_basis(chi, b)
+    inside.is_part_of(b) && outside.is_apart_from(b) && is_basis(chi, b)
 }
 
 /// The lexicographically first basis that contains one set and has no element of another, or None where there is no such

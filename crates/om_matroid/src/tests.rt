@@ -2,7 +2,7 @@
 
 ghost use Rattle.std.specs.Prelude.{◌≡◌, ◌≤◌, IfSome};
 
-use super::search::{is_basis, is_part};
+use super::search::is_basis;
 use super::{exchange, extend_to_basis, first_basis, is_coloop, is_loop, parallel, rank_of};
 use om_chirotope::Chirotope;
 use om_signs::{List, MAX_ELEMENTS, RawMap, Sign};
@@ -141,7 +141,7 @@ fn extended(chi: &Chirotope, inside: Subset, basis: Subset) -> Option<Subset>
     requires inside { inside.n ≡ chi.now.elements }
     requires basis { basis.n ≡ chi.now.elements }
 {
-    if is_basis(chi, basis) && is_part(inside, basis) {
+    if is_basis(chi, basis) && inside.is_part_of(basis) {
         Some(extend_to_basis(chi, inside))
     } else {
         None

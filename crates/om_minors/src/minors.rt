@@ -2,8 +2,6 @@
 
 ghost use Rattle.std.specs.Prelude.{ℕ, ◌≡◌, ◌≤◌, ◌<◌, ◌+◌, ◌-◌, ◌↔◌, IfOk, IsErrOf, length, map, true, false};
 ghost use Rattle.om_signs.specs.declared.sign.Sign.TheVariants.{Plus};
-ghost use Rattle.om_subsets.specs.Subsets.{IsSubsetFrom};
-ghost use Rattle.om_laws.specs.Minors.{skip};
 ghost use Rattle.om_chirotope.specs.Map.{IsLedBy};
 ghost use Rattle.om_denotation.specs.Covectors.{IsCovectorOfChirotope};
 ghost use Rattle.om_denotation.specs.Operations.{IsDeletion, IsContraction};
@@ -15,7 +13,7 @@ use super::minor_error::MinorError;
 use om_chirotope::Chirotope;
 use om_denotation::{SignRule, normal_by};
 use om_matroid::{is_coloop, is_loop};
-use om_signs::{MAX_PLACES, NoMemory, Sign};
+use om_signs::{NoMemory, Sign};
 use om_subsets::Subset;
 use std::alloc::Global;
 
@@ -132,7 +130,7 @@ impl SignRule for Deletion<'_> {
     ghost valid = { λ d. IsSound d.chi.now × (1 ≤ d.e) × (d.e ≤ d.chi.now.elements) };
 
     fn sign(&self, s: Subset) -> Sign {
-        self.chi.at(skipping(s, self.e))
+        self.chi.at(s.skipping(self.e))
     }
 }
 
@@ -158,7 +156,7 @@ impl SignRule for Contraction<'_> {
     ghost valid = { λ c. IsSound c.chi.now × (1 ≤ c.e) × (c.e ≤ c.chi.now.elements) × (1 ≤ c.chi.now.rank) };
 
     fn sign(&self, s: Subset) -> Sign {
-        let others = skipping(s, self.e);
+        let others = s.skipping(self.e);
         let sign = self.chi.at(others.with(self.e));
         if others.odd_after(self.e) {
             sign.neg()
@@ -166,21 +164,4 @@ impl SignRule for Contraction<'_> {
             sign
         }
     }
-}
-
-/// The set with its elements from e on moved up by one, so that it avoids e.
-fn skipping(s: Subset, e: u8) -> Subset
-    requires low { 1 ≤ e }
-    requires high { e ≤ s.n + 1 }
-    requires room { s.n < MAX_PLACES }
-    ensures n { result.n ≡ s.n + 1 }
-    ensures elements { result.elements ≡ map (skip e) s.elements }
-    ensures size { length result.elements ≡ length s.elements }
-    ensures lawful { IsSubsetFrom 1 result.n result.elements }
-{
-    // this call tells that the list of the set increases
-    let _size = s.size();
-    let before = s.mask() & ((1u32 << (e - 1)) - 1);
-    let behind = s.mask() >> (e - 1) << e;
-    Subset::from_mask(before | behind, s.n() + 1)
 }

@@ -54,8 +54,7 @@ fn turned(raw: RawMap, mask: u32) -> RawMap
 fn turning_sign(s: Subset, mask: u32) -> Sign
     ensures { result ≡ signs_product (turning (names mask)) s.elements }
 {
-    // this call tells that the list of the set increases
-    let _size = s.size();
+    s.is_lawful();
     let named = Subset::from_mask(s.mask() & mask, s.n());
     if named.size() % 2 == 1 {
         Sign::Minus

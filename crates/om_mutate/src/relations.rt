@@ -20,15 +20,15 @@ pub fn is_mutation(chi: &Chirotope, triple: Subset) -> bool
     ensures { IsTrue result ↔ IsMutation chi.now triple.elements }
 {
     let _rank = chi.rank();
-    let _size = triple.size();
+    triple.is_lawful();
     if chi.at(triple) == Sign::Zero {
         return false;
     }
-    let a = least(triple);
+    let a = triple.least();
     let later = triple.without(a);
-    let b = least(later);
+    let b = later.least();
     let last = later.without(b);
-    let c = least(last);
+    let c = last.least();
     stays_balanced_around(chi, a, b, c)
 }
 
@@ -47,23 +47,6 @@ fn stays_balanced_around(chi: &Chirotope, a: u8, b: u8, c: u8) -> bool
         return false;
     }
     stays_balanced_at(chi, c, a, b)
-}
-
-/// The least element of a set that isn't empty.
-fn least(s: Subset) -> u8
-    requires { 0 < length s.elements }
-    ensures low { 1 ≤ result }
-    ensures high { result ≤ s.n }
-    ensures first { s.elements ≡ result ∷ without_element result s.elements }
-{
-    let last = s.n();
-    let _size = s.size();
-    for e in 1..last {
-        if s.has(e) {
-            return e;
-        }
-    }
-    last
 }
 
 /// Whether the relations of p with x, y and two other elements stay balanced where the sign of p, x and y is turned.

@@ -14,8 +14,7 @@ pub fn meets(y: SignVec, s: Subset) -> bool
     requires { length y ≡ s.n }
     ensures { IsTrue result ↔ IsMet s.elements y }
 {
-    // this call tells that the list of the set increases
-    let _size = s.size();
+    s.is_lawful();
     y.support() & s.mask() != 0
 }
 

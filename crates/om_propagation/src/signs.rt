@@ -88,8 +88,7 @@ fn sign_of_basis(vectors: &[SignVec], before: &[Sign], t: Subset) -> Sign
     requires basis { MeetsEach vectors.now t.elements }
     ensures { AreFirstSigns t.n (length t.elements) vectors.now before.now → IsNextSign t.n (length t.elements) vectors.now (length before.now) result }
 {
-    // this call tells that the list of the set increases, as in the function below
-    let _size = t.size();
+    t.is_lawful();
     for e in 1..t.n() + 1 {
         if let Some(sign) = sign_over(vectors, before, t, e) {
             return sign;
@@ -105,7 +104,7 @@ pub fn sign_of(vectors: &[SignVec], before: &[Sign], t: Subset) -> Sign
     requires place { rank_of t.n t.elements ≡ length before.now }
     ensures { AreFirstSigns t.n (length t.elements) vectors.now before.now → IsNextSign t.n (length t.elements) vectors.now (length before.now) result }
 {
-    let _size = t.size();
+    t.is_lawful();
     match first_missed(vectors, t) {
         Some(_) => Sign::Zero,
         None => sign_of_basis(vectors, before, t),

@@ -7,3 +7,8 @@ pub mod Lowest
 pub mod Masks
 pub mod Statements
 pub mod Reverse
+pub mod Relations
+pub mod Firsts
+pub mod Shorter
+pub mod Skips
+pub mod Complements

@@ -48,6 +48,14 @@ abbrev pub IsMember : ℕ → List ℕ → Type 0
 IsMember e [] = ⊥
 IsMember e (x ∷ xs) = (e ≡ x) ⊎ IsMember e xs
 
+-- each number of the first list stands in the second one
+abbrev pub IsPartOf : List ℕ → List ℕ → Type 0
+IsPartOf t s = (e : ℕ) → IsMember e t → IsMember e s
+
+-- no number stands in both lists
+abbrev pub AreApart : List ℕ → List ℕ → Type 0
+AreApart s t = (e : ℕ) → IsMember e s → IsMember e t → ⊥
+
 -- an increasing list with one more number, if it isn't there
 abbrev pub with_element : ℕ → List ℕ → List ℕ
 with_element e [] = e ∷ []

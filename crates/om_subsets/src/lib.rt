@@ -3,6 +3,7 @@
 
 mod binomials;
 mod laws;
+mod operations;
 mod subset;
 mod threads;
 

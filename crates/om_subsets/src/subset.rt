@@ -75,6 +75,15 @@ impl Subset {
         self.n
     }
 
+    /// The elements stand in increasing order and are from 1 to n, and n is at most [`MAX_PLACES`]. It does nothing: its contract is
+    /// the fact.
+    pub fn is_lawful(self)
+        ensures lawful { IsSubsetFrom 1 self.n self.elements }
+        ensures small { self.n ≤ MAX_PLACES }
+    {
+        let _mask = self.mask;
+    }
+
     /// How many elements the set has.
     pub fn size(self) -> u8
         ensures value { result ≡ length self.elements }

@@ -1,7 +1,7 @@
--- The elements of a triple one by one, and triples by their places.
+-- Triples by their places.
 --
 -- Main definitions: HoldsBelow, what holds of the triples of the first places.
--- Main results: least_first and last_first, how a set begins; held_all and held_before, from the places to the triples;
+-- Main results: held_all and held_before, from the places to the triples;
 -- realized_triple and realizes_from, what it is to realize a map.
 use Rattle.std.proofs.Common.{ℕ, zero, suc, ◌≡◌, ◌≢◌, ◌+◌, ◌<◌, ◌≤◌, List, [], ◌∷◌, length, map, take, refl, sym, ◌∙◌, ap, inl, inr, arith, subst}
 use Rattle.std.proofs.lemmas.Bool.{cases_eq, cases_lt, eq-eqb, ne_eqb}
@@ -20,38 +20,6 @@ use Rattle.om_vectors.specs.WholeVectors.{WholeVector, sign_of}
 use Rattle.om_vectors.specs.Realizations.{triple_sign, signs_map, IsTriple, Realizes, IsFirstOther, IsRankLow}
 use Rattle.om_vectors.proofs.TripleSigns.{bracket, triple_subset, chirotope_of}
 use Rattle.om_vectors.proofs.NumberSigns.{sign_zero}
-
--- what comes behind the first element is greater
-above_head : (low m x : ℕ) (ys : List ℕ) → IsSubsetFrom low m (x ∷ ys) → (e : ℕ) → IsMember e ys → x < e
-above_head low zero x ys h e q = absurd h
-above_head low (suc m) x ys (inl (p, h)) e q = let b = members_from (low + 1) m e ys h q in omega arith
-above_head low (suc m) x ys (inr (p, h)) e q = above_head (low + 1) m x ys h e q
-
-without_other : (e : ℕ) (ys : List ℕ) → (IsMember e ys → ⊥) → without_element e ys ≡ ys
-without_other e [] n = refl
-without_other e (y ∷ ys) n = rw (ne_eqb e y (λ q. n (inl q))) (ap (λ zs. y ∷ zs) (without_other e ys (λ q. n (inr q))))
-
-without_first : (n x : ℕ) (ys : List ℕ) → IsSubsetFrom 1 n (x ∷ ys) → without_element x (x ∷ ys) ≡ ys
-without_first n x ys h = rw (eq-eqb x x refl) (without_other x ys (λ q. let l = above_head 1 n x ys h x q in omega arith))
-
--- a member that no smaller number is comes first
-pub least_first : (n e : ℕ) (xs : List ℕ) → IsSubsetFrom 1 n xs → IsMember e xs → ((k : ℕ) → k < e → IsMember k xs → ⊥) → xs ≡ e ∷ without_element e xs
-least_first n e [] h q none = absurd q
-least_first n e (x ∷ xs) h (inl q) none = ap (λ zs. x ∷ zs) (sym (without_first n x xs h)) ∙ ap (λ k. k ∷ without_element k (x ∷ xs)) (sym q)
-least_first n e (x ∷ xs) h (inr q) none = absurd (none x (above_head 1 n x xs h e q) (inl refl))
-
--- a member that is no number below n is n
-pub last_first : (n : ℕ) (xs : List ℕ) → IsSubsetFrom 1 n xs → 0 < length xs → ((k : ℕ) → k < n → IsMember k xs → ⊥) → xs ≡ n ∷ without_element n xs
-last_first n [] h l none = absurd (omega arith)
-last_first n (x ∷ xs) h l none =
-    let b = members_from 1 n x (x ∷ xs) h (inl refl) in
-    elim (cases_eq x n) [
-      | inl q ↦ least_first n n (x ∷ xs) h (inl (sym q)) none
-      | inr ne ↦ absurd (none x (omega arith) (inl refl))
-    ]
-
-pub none_at_zero : (n k : ℕ) (xs : List ℕ) → IsSubsetFrom 1 n xs → k < 1 → IsMember k xs → ⊥
-none_at_zero n k xs h l q = let b = members_from 1 n k xs h q in omega arith
 
 -- ---- triples one by one, in lexicographic order
 

@@ -1,8 +1,7 @@
 //! The signs of the triple products of the vectors of a set.
 
-ghost use Rattle.std.specs.Prelude.{◌≡◌, ◌<◌, ◌≤◌, [], ◌∷◌, length};
+ghost use Rattle.std.specs.Prelude.{◌≡◌, length};
 ghost use Rattle.om_signs.specs.declared.limits.TheConstants.{MAX_ELEMENTS};
-ghost use Rattle.om_subsets.specs.Subsets.{without_element};
 ghost use Rattle.om_vectors.specs.WholeVectors.{sign_of};
 ghost use Rattle.om_vectors.specs.Realizations.{triple_sign};
 
@@ -18,32 +17,15 @@ pub(crate) fn sign_of_triple(vectors: &[Vector], s: Subset) -> Sign
     requires size { length s.elements ≡ 3 }
     ensures { result ≡ triple_sign vectors.now s.elements }
 {
-    let a = least(s);
+    let a = s.least();
     let later = s.without(a);
-    let b = least(later);
-    let c = least(later.without(b));
+    let b = later.least();
+    let c = later.without(b).least();
     sign(triple(
         vectors[a as usize - 1],
         vectors[b as usize - 1],
         vectors[c as usize - 1],
     ))
-}
-
-/// The least element of a set that isn't empty.
-fn least(s: Subset) -> u8
-    requires { 0 < length s.elements }
-    ensures low { 1 ≤ result }
-    ensures high { result ≤ s.n }
-    ensures first { s.elements ≡ result ∷ without_element result s.elements }
-{
-    let last = s.n();
-    let _size = s.size();
-    for e in 1..last {
-        if s.has(e) {
-            return e;
-        }
-    }
-    last
 }
 
 /// The sign of a number.

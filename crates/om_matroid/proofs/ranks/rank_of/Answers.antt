@@ -9,17 +9,17 @@ pub loop-k-preserved : goal.loop-k-preserved
 loop-k-preserved c =
     let m = c.args.chi.now in
     let place : c.unrank-b.result.elements ≡ subset_at m.elements m.rank c.loop-k.k = c.unrank-b.ensures.elements ∙ ap (λ n. subset_at n c.rank-rank.result c.loop-k.k) c.elements-elements.ensures.value ∙ ap (λ r. subset_at m.elements r c.loop-k.k) c.rank-rank.ensures.value in
-    let list = subst (λ n. IsSubsetFrom 1 n c.common.result.elements) (c.common.ensures.n ∙ c.requires) c.common.ensures.lawful in
+    let list = subst (λ n. IsSubsetFrom 1 n c.intersection.result.elements) (c.intersection.ensures.n ∙ c.requires) c.intersection.ensures.lawful in
     elim c.if-most-size.branch [
       | then-most-size+then-is_basis w ↦
-          let size : c.if-most-size.most ≡ length c.common.result.elements = w.most-is ∙ c.size-size.ensures.value in
+          let size : c.if-most-size.most ≡ length c.intersection.result.elements = w.most-is ∙ c.size-size.ensures.value in
           subst (IsRankBefore m c.args.s.elements (c.loop-k.k + 1)) (sym size)
-          (rank_raised m c.args.s.elements c.loop-k.k c.loop-k.most c.loop-k.invariant c.unrank-b.result.elements c.common.result.elements place list c.common.ensures.members (w.is_basis.ensures.0 w.if-is_basis.true) (let l = c.size-size.ensures.value in let lt = w.if-most-size.true in omega arith))
+          (rank_raised m c.args.s.elements c.loop-k.k c.loop-k.most c.loop-k.invariant c.unrank-b.result.elements c.intersection.result.elements place list c.intersection.ensures.members (w.is_basis.ensures.0 w.if-is_basis.true) (let l = c.size-size.ensures.value in let lt = w.if-most-size.true in omega arith))
       | else-most-size w ↦ subst (IsRankBefore m c.args.s.elements (c.loop-k.k + 1)) (sym w.most-is) (elim w.else-most-size.branch [
         | else-most-size-via-then-most-size+else-is_basis u ↦
             rank_kept_other m c.args.s.elements c.loop-k.k c.loop-k.most c.loop-k.invariant c.unrank-b.result.elements place (refuted u.is_basis.result u.is_basis.ensures u.if-is_basis.false)
         | else-most-size-via-else-most-size u ↦
-            rank_kept_small m c.args.s.elements c.loop-k.k c.loop-k.most c.loop-k.invariant c.unrank-b.result.elements c.common.result.elements place list c.common.ensures.members
+            rank_kept_small m c.args.s.elements c.loop-k.k c.loop-k.most c.loop-k.invariant c.unrank-b.result.elements c.intersection.result.elements place list c.intersection.ensures.members
             (let l = c.size-size.ensures.value in let ge = u.if-most-size.false in omega arith)
       ])
     ]

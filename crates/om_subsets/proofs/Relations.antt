@@ -7,10 +7,8 @@ use Rattle.std.proofs.Common.{ℕ, ◌≡◌, ◌+◌, ◌-◌, ◌<◌, ◌≤�
 use Rattle.std.proofs.lemmas.Bool.{cases_lt, cases_eq}
 use Rattle.std.proofs.lemmas.Nat.Bits.{bit_at-zero, bit_at-lt, bit_at_and, bit_at_above, same_from_bits}
 use Rattle.om_signs.specs.SignVec.{IsMaskOf}
-use Rattle.om_subsets.specs.Subsets.{IsSubsetFrom, IsMember}
+use Rattle.om_subsets.specs.Subsets.{IsSubsetFrom, IsMember, IsPartOf, AreApart}
 use Rattle.om_subsets.proofs.Order.{members_from}
-use Rattle.om_matroid.specs.Bases.{IsPartOf}
-use Rattle.om_matroid.specs.Search.{AreApart}
 
 -- the bit of a member, and the member of a bit
 bit_of_member : (n : ℕ) (s : List ℕ) (p : ℕ) → IsMaskOf n (λ i. IsMember (i + 1) s) p → IsSubsetFrom 1 n s → (e : ℕ) → IsMember e s → bit_at p (e - 1) ≡ 1

@@ -1,0 +1,55 @@
+-- How an increasing list begins.
+--
+-- Main results: least_first and last_first, the first number of a list; without_first, the list behind it; same_members, lists with the same
+-- numbers are the same.
+use Rattle.std.proofs.Common.{ℕ, zero, suc, ◌≡◌, ◌+◌, ◌<◌, List, [], ◌∷◌, length, refl, sym, ◌∙◌, ap, inl, inr, arith}
+use Rattle.std.proofs.lemmas.Bool.{cases_eq, eq-eqb, ne_eqb}
+use Rattle.om_subsets.specs.Subsets.{IsSubsetFrom, IsMember, without_element}
+use Rattle.om_subsets.proofs.Order.{members_from}
+
+-- what comes behind the first element is greater
+above_head : (low m x : ℕ) (ys : List ℕ) → IsSubsetFrom low m (x ∷ ys) → (e : ℕ) → IsMember e ys → x < e
+above_head low zero x ys h e q = absurd h
+above_head low (suc m) x ys (inl (p, h)) e q = let b = members_from (low + 1) m e ys h q in omega arith
+above_head low (suc m) x ys (inr (p, h)) e q = above_head (low + 1) m x ys h e q
+
+without_other : (e : ℕ) (ys : List ℕ) → (IsMember e ys → ⊥) → without_element e ys ≡ ys
+without_other e [] n = refl
+without_other e (y ∷ ys) n = rw (ne_eqb e y (λ q. n (inl q))) (ap (λ zs. y ∷ zs) (without_other e ys (λ q. n (inr q))))
+
+without_first : (n x : ℕ) (ys : List ℕ) → IsSubsetFrom 1 n (x ∷ ys) → without_element x (x ∷ ys) ≡ ys
+without_first n x ys h = rw (eq-eqb x x refl) (without_other x ys (λ q. let l = above_head 1 n x ys h x q in omega arith))
+
+-- a member that no smaller number is comes first
+pub least_first : (n e : ℕ) (xs : List ℕ) → IsSubsetFrom 1 n xs → IsMember e xs → ((k : ℕ) → k < e → IsMember k xs → ⊥) → xs ≡ e ∷ without_element e xs
+least_first n e [] h q none = absurd q
+least_first n e (x ∷ xs) h (inl q) none = ap (λ zs. x ∷ zs) (sym (without_first n x xs h)) ∙ ap (λ k. k ∷ without_element k (x ∷ xs)) (sym q)
+least_first n e (x ∷ xs) h (inr q) none = absurd (none x (above_head 1 n x xs h e q) (inl refl))
+
+-- a member that is no number below n is n
+pub last_first : (n : ℕ) (xs : List ℕ) → IsSubsetFrom 1 n xs → 0 < length xs → ((k : ℕ) → k < n → IsMember k xs → ⊥) → xs ≡ n ∷ without_element n xs
+last_first n [] h l none = absurd (omega arith)
+last_first n (x ∷ xs) h l none =
+    let b = members_from 1 n x (x ∷ xs) h (inl refl) in
+    elim (cases_eq x n) [
+      | inl q ↦ least_first n n (x ∷ xs) h (inl (sym q)) none
+      | inr ne ↦ absurd (none x (omega arith) (inl refl))
+    ]
+
+pub none_at_zero : (n k : ℕ) (xs : List ℕ) → IsSubsetFrom 1 n xs → k < 1 → IsMember k xs → ⊥
+none_at_zero n k xs h l q = let b = members_from 1 n k xs h q in omega arith
+
+-- lists with the same numbers
+pub same_members : (low m : ℕ) (xs ys : List ℕ) → IsSubsetFrom low m xs → IsSubsetFrom low m ys → ((e : ℕ) → IsMember e xs → IsMember e ys) → ((e : ℕ) → IsMember e ys → IsMember e xs) → xs ≡ ys
+same_members low m [] [] a b h k = refl
+same_members low m [] (y ∷ ys) a b h k = absurd (k y (inl refl))
+same_members low m (x ∷ xs) [] a b h k = absurd (h x (inl refl))
+same_members low zero (x ∷ xs) (y ∷ ys) a b h k = absurd a
+same_members low (suc m) (x ∷ xs) (y ∷ ys) (inl a) (inl b) h k =
+    let i = same_members (low + 1) m xs ys a.1 b.1 (λ e p. elim (h e (inr p)) [ inl q ↦ let l = members_from (low + 1) m e xs a.1 p in let z = b.0 in absurd (omega arith) | inr r ↦ r ]) (λ e p. elim (k e (inr p)) [ inl q ↦ let l = members_from (low + 1) m e ys b.1 p in let z = a.0 in absurd (omega arith) | inr r ↦ r ]) in
+    let p = a.0 in
+    let q = b.0 in
+    cc
+same_members low (suc m) (x ∷ xs) (y ∷ ys) (inl a) (inr b) h k = let l = members_from (low + 1) m x (y ∷ ys) b.1 (h x (inl refl)) in let z = a.0 in absurd (omega arith)
+same_members low (suc m) (x ∷ xs) (y ∷ ys) (inr a) (inl b) h k = let l = members_from (low + 1) m y (x ∷ xs) a.1 (k y (inl refl)) in let z = b.0 in absurd (omega arith)
+same_members low (suc m) (x ∷ xs) (y ∷ ys) (inr a) (inr b) h k = same_members (low + 1) m (x ∷ xs) (y ∷ ys) a.1 b.1 h k

@@ -1,0 +1,115 @@
+//! What two sets have in common, and sets that are made of others.
+
+ghost use Rattle.std.specs.Prelude.{◌≡◌, ◌↔◌, ◌≤◌, ◌<◌, ◌+◌, ℕ, [], ◌∷◌, length, map, cond, nat_lt, IsTrue};
+ghost use Rattle.om_subsets.specs.Subsets.{IsSubsetFrom, IsMember, IsPartOf, AreApart, with_element, without_element};
+
+use super::subset::Subset;
+use om_signs::MAX_PLACES;
+
+impl Subset {
+    /// The set of three of the elements 1 to n, in any order. n is at most [`MAX_PLACES`].
+    pub fn triple(x: u8, y: u8, z: u8, n: u8) -> Subset
+        requires small { n ≤ MAX_PLACES }
+        requires x_low { 1 ≤ x }
+        requires x_high { x ≤ n }
+        requires y_low { 1 ≤ y }
+        requires y_high { y ≤ n }
+        requires z_low { 1 ≤ z }
+        requires z_high { z ≤ n }
+        ensures n { result.n ≡ n }
+        ensures elements { result.elements ≡ with_element x (with_element y (z ∷ [])) }
+        ensures lawful { IsSubsetFrom 1 n result.elements }
+    {
+        Subset::first(0, n).with(z).with(y).with(x)
+    }
+
+    /// The least element. The set isn't empty.
+    pub fn least(self) -> u8
+        requires { 0 < length self.elements }
+        ensures low { 1 ≤ result }
+        ensures high { result ≤ self.n }
+        ensures first { self.elements ≡ result ∷ without_element result self.elements }
+    {
+        self.is_lawful();
+        let last = self.n();
+        for e in 1..last {
+            if self.has(e) {
+                return e;
+            }
+        }
+        last
+    }
+
+    /// Whether each element of this set is one of the other. Both have the same n.
+    pub fn is_part_of(self, other: Subset) -> bool
+        requires { other.n ≡ self.n }
+        ensures { IsTrue result ↔ IsPartOf self.elements other.elements }
+    {
+        self.is_lawful();
+        let mask = self.mask();
+        mask & other.mask() == mask
+    }
+
+    /// Whether no element stands in both sets. Both have the same n.
+    pub fn is_apart_from(self, other: Subset) -> bool
+        requires { other.n ≡ self.n }
+        ensures { IsTrue result ↔ AreApart self.elements other.elements }
+    {
+        self.is_lawful();
+        other.is_lawful();
+        self.mask() & other.mask() == 0
+    }
+
+    /// The elements that stand in both sets. Both have the same n.
+    pub fn intersection(self, other: Subset) -> Subset
+        requires { other.n ≡ self.n }
+        ensures n { result.n ≡ self.n }
+        ensures members { (e : ℕ) → IsMember e result.elements ↔ (IsMember e self.elements × IsMember e other.elements) }
+        ensures lawful { IsSubsetFrom 1 result.n result.elements }
+    {
+        self.is_lawful();
+        other.is_lawful();
+        let n = self.n();
+        Subset::from_mask(self.mask() & other.mask(), n)
+    }
+
+    /// The elements of 1 to n that aren't in the set.
+    pub fn complement(self) -> Subset
+        ensures n { result.n ≡ self.n }
+        ensures members { (e : ℕ) → IsMember e result.elements ↔ ((1 ≤ e) × (e ≤ self.n) × (IsMember e self.elements → ⊥)) }
+        ensures size { length result.elements + length self.elements ≡ self.n }
+        ensures lawful { IsSubsetFrom 1 result.n result.elements }
+    {
+        self.is_lawful();
+        Subset::from_mask((1u32 << self.n()) - 1 - self.mask(), self.n())
+    }
+
+    /// The set with its elements from e on moved up by one, so that it avoids e: a set of some of the elements 1 to n + 1. e is from 1
+    /// to n + 1, and n is below [`MAX_PLACES`].
+    pub fn skipping(self, e: u8) -> Subset
+        requires low { 1 ≤ e }
+        requires high { e ≤ self.n + 1 }
+        requires room { self.n < MAX_PLACES }
+        ensures n { result.n ≡ self.n + 1 }
+        ensures elements { result.elements ≡ map (λ x. cond (nat_lt x e) x (x + 1)) self.elements }
+        ensures size { length result.elements ≡ length self.elements }
+        ensures lawful { IsSubsetFrom 1 result.n result.elements }
+    {
+        self.is_lawful();
+        let before = self.mask() & ((1u32 << (e - 1)) - 1);
+        let behind = self.mask() >> (e - 1) << e;
+        Subset::from_mask(before | behind, self.n() + 1)
+    }
+
+    /// The set as one of some of the elements before n. n is no element of it, and isn't 0.
+    pub fn before_last(self) -> Subset
+        requires some { 1 ≤ self.n }
+        requires off { IsMember self.n self.elements → ⊥ }
+        ensures n { result.n + 1 ≡ self.n }
+        ensures elements { result.elements ≡ self.elements }
+        ensures lawful { IsSubsetFrom 1 result.n result.elements }
+    {
+        self.is_lawful();
+        Subset::from_mask(self.mask(), self.n() - 1)
+    }
+}
