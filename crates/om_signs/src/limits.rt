@@ -15,6 +15,9 @@ pub const MAX_PLACES: u8 = 17;
 /// The most distinct members of a list of sign vectors, read or made.
 pub const MAX_MEMBERS: usize = 1_024;
 
+/// The most bytes of a name of an element; the least is 1.
+pub const MAX_NAME: usize = 16;
+
 /// The most blocks of a wiring diagram.
 pub const MAX_BLOCKS: usize = 1_024;
 
