@@ -14,6 +14,7 @@ use Rattle.om_text.specs.declared.state.State.{State}
 use Rattle.om_text.specs.declared.state.State.TheVariants.{Start, Open}
 use Rattle.om_text.specs.declared.parse_error.ParseError.{ParseError}
 use Rattle.om_text.specs.declared.parse_error.ParseError.TheVariants as error
+use Rattle.om_text.specs.declared.setting.Setting.{Setting}
 use Rattle.om_text.specs.Fault.{IsFault}
 use Rattle.om_text.specs.Part.{IsPart}
 use Rattle.om_text.specs.Reading.{added_body, outcome}
@@ -49,8 +50,8 @@ abbrev pub more_blocks : List Block → List (List ℕ) → Result (List Block) 
 more_blocks bs w = cond (are_blocks w) (Ok (bs ++ blocks_on w)) (Err code.Block)
 
 -- a body on n elements with one more line, whose signs and length are those of the kind
-abbrev pub filled_line : ℕ → Body → List (List ℕ) → Result Body Code
-filled_line n b w = cond (has_blocks_in b w) (cond (has_numbers_in b w) (roomy n (added_body b w)) (Err code.Number)) (Err code.Block)
+abbrev pub filled_line : Setting → ℕ → Body → List (List ℕ) → Result Body Code
+filled_line s n b w = cond (has_blocks_in b w) (cond (has_numbers_in b w) (roomy n (added_body s b w)) (Err code.Number)) (Err code.Block)
 
 abbrev pub IsSmallBody : Body → Type 0
 IsSmallBody (Chirotope m) = m.elements ≤ MAX_ELEMENTS
@@ -63,7 +64,7 @@ pub record IsSmall (d : Document) : Type 0 where
   pub body : IsSmallBody d.body
 
 abbrev pub IsSmallState : State → Type 0
-IsSmallState (Open d) = IsSmall d
+IsSmallState (Open d) = IsSmall d.document
 IsSmallState _ = Unit {0}
 
 -- why a line with this number is not read

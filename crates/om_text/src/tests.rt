@@ -14,7 +14,8 @@ const FAULTS_OF_HEADINGS: &str = " = 1 Missing
 # = 2 Missing
 om 1/ = 2 Missing
 om 1/chirotope 3 4/ = 3 Missing
-om 2 = 1 Version
+om 3 = 1 Version
+om 2 = 2 Missing
 om 1 1 = 1 Version
 om\x0b1 = 1 Version
 om\x001 = 1 Version
@@ -105,6 +106,17 @@ om 1/points 1/end/realizable = 3 Few
 om 1/chirotope 1 1/+/realizable = 4 Sign
 realizable/om 1 = 1 Version";
 
+/// Inputs of version 2 and the canonical forms of their documents, or their first faults.
+const VERSION_TWO: &str =
+    "om 2/chirotope 2 4/names e1 e2 e3 e4/order revlex/0++000/end = om 1/chirotope 2 4/0+0+00/end/
+om 2/circuits 4/half/+-+-/end = om 1/circuits 4/-+-+/+-+-/end/
+om 2/circuits 3/names a half end/half/+-0/end = om 1/circuits 3/-+0/+-0/end/
+om 2/chirotope 3 4/names a b c/++++/end = 3 Setting
+om 2/chirotope 2 3/order revlex/order lex/ = 4 Setting
+om 2/wiring 3/half/ = 3 Setting
+om 1/circuits 2/half/end = 3 Sign
+om 2/circuits 2/+-/half/end = 4 Sign";
+
 /// The bytes of a text.
 fn bytes_of(alloc: Global, text: &str) -> Result<Vec<u8>, Fail> {
     let mut bytes = Vec::new(alloc);
@@ -169,7 +181,8 @@ fn inputs(rt: HostRuntime) -> Result<(), Fail> {
     are_read(&rt, rt.alloc(), FAULTS_OF_HEADINGS)?;
     are_read(&rt, rt.alloc(), FAULTS_OF_BODIES)?;
     are_read(&rt, rt.alloc(), FAULTS_OF_POINTS)?;
-    are_read(&rt, rt.alloc(), CANONICAL_FORMS)
+    are_read(&rt, rt.alloc(), CANONICAL_FORMS)?;
+    are_read(&rt, rt.alloc(), VERSION_TWO)
 }
 
 #[test]
