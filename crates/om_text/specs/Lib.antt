@@ -4,6 +4,7 @@ pub mod Heading
 pub mod Rows
 pub mod Members
 pub mod Names
+pub mod NameBytes
 pub mod Settings
 pub mod Points
 pub mod Blocks

@@ -1,7 +1,8 @@
 -- Reading documents line by line: what the reader's loop follows. Not part of the definition of documents.
-use Rattle.std.specs.Prelude.{ℕ, List, [], ◌∷◌, ◌++◌, ◌&&◌, Bool, true, false, cond, Option, Some, None, Result, Ok, Err, is_none}
+use Rattle.std.specs.Prelude.{ℕ, List, [], ◌∷◌, ◌++◌, ◌&&◌, Bool, true, false, cond, map, Option, Some, None, Result, Ok, Err, is_none}
 use Rattle.std.specs.List.{list_any}
 use Rattle.om_signs.specs.declared.sign.Sign.{Sign}
+use Rattle.om_signs.specs.Sign.{opposite}
 use Rattle.om_text.specs.declared.document.Document.{Document}
 use Rattle.om_text.specs.declared.body.Body.{Body}
 use Rattle.om_text.specs.declared.body.Body.TheVariants.{Chirotope, Wiring, Points}
@@ -13,7 +14,7 @@ use Rattle.om_text.specs.declared.draft.Draft.{Draft}
 use Rattle.om_text.specs.declared.stage.Stage.{Stage}
 use Rattle.om_text.specs.declared.stage.Stage.TheVariants.{Names, Choice, Full, Body as InBody}
 use Rattle.om_text.specs.declared.setting.Setting.{Setting}
-use Rattle.om_text.specs.declared.setting.Setting.TheVariants.{Plain}
+use Rattle.om_text.specs.declared.setting.Setting.TheVariants.{Plain, Half}
 use Rattle.om_text.specs.declared.version.Version.{Version}
 use Rattle.om_text.specs.declared.version.Version.TheVariants.{One, Two}
 use Rattle.om_text.specs.Steps.{advance_by, outcome_by}
@@ -22,7 +23,7 @@ use Rattle.om_text.specs.Members.{members_of, with_members}
 use Rattle.om_text.specs.Blocks.{blocks_on}
 use Rattle.om_text.specs.Points.{point_on}
 use Rattle.om_text.specs.Settings.{is_line, version_of, begins_as_setting, other_words, is_names_line, setting_in, finished}
-use Rattle.om_text.specs.Document.{end_line, signs_of_line, members_of_line, has_signs, has_length, has_blocks, has_numbers, filled, has_room, is_complete}
+use Rattle.om_text.specs.Document.{end_line, signs_of_line, has_signs, has_length, has_blocks, has_numbers, filled, has_room, is_complete}
 use Rattle.om_text.specs.Heading.{first_word, kind_of, heading, has_elements, has_rank, rank_of_body}
 
 -- a member at the end, if it isn't there
@@ -34,9 +35,14 @@ abbrev pub with_each : List (List Sign) → List (List Sign) → List (List Sign
 with_each ms [] = ms
 with_each ms (x ∷ xs) = with_each (with_member ms x) xs
 
+-- the members that a line with this member gives
+abbrev pub members_on : Setting → List Sign → List (List Sign)
+members_on Half x = x ∷ map opposite x ∷ []
+members_on _ x = x ∷ []
+
 -- the members with those of one more line
 abbrev pub with_line_members : Setting → List (List Sign) → List (List ℕ) → List (List Sign)
-with_line_members s ms w = with_each ms (members_of_line s w)
+with_line_members s ms w = with_each ms (members_on s (signs_of_line w))
 
 -- a body with one more line
 abbrev pub added_body : Setting → Body → List (List ℕ) → Body
@@ -113,12 +119,12 @@ after_body d w =
     (cond (has_room (added d w).document) (Ok (Open (added d w))) (Err code.Many)) (Err code.Number)) (Err code.Block)) (Err code.Length)) (Err code.Sign)
 
 -- the document of a draft that has all its lines
-abbrev pub whole : Draft → Document
-whole d = finished d.document.names d.setting d.document
+abbrev pub finished_draft : Draft → Document
+finished_draft d = finished d.document.names d.setting d.document
 
 -- after the end line
 abbrev pub after_end : Draft → Result State Code
-after_end d = cond (is_complete d.document) (Ok (Closed (whole d))) (Err code.Few)
+after_end d = cond (is_complete d.document) (Ok (Closed (finished_draft d))) (Err code.Few)
 
 -- after a line of a document that is still open
 abbrev pub open_step : Draft → List (List ℕ) → Result State Code

@@ -6,8 +6,8 @@ ghost use Rattle.om_text.specs.Lines.{runs, is_blank};
 ghost use Rattle.om_text.specs.Words.{is_sign};
 ghost use Rattle.om_text.specs.Document.{are_signs, signs_of_line, members_of_line, has_signs_in, has_length_in};
 ghost use Rattle.om_text.specs.Rows.{same_row};
-ghost use Rattle.om_text.specs.Reading.{with_member, with_line_members, added_body};
-ghost use Rattle.om_text.specs.Added.{Gives, IsSmallBody, roomy, few_members, more_blocks, filled_line};
+ghost use Rattle.om_text.specs.Reading.{with_member, with_each, members_on, with_line_members, added_body};
+ghost use Rattle.om_text.specs.Added.{Gives, IsSmallMap, IsSmallBody, roomy, few_members, more_blocks, filled_line};
 
 use super::blocks::block_of;
 use super::body::Body;
@@ -62,7 +62,7 @@ pub fn push_signs(signs: &mut List<Sign>, line: &[u8]) -> Result<(), NoMemory>
 
 /// A map with the values of one more line.
 fn with_values(mut map: RawMap, line: &[u8]) -> Result<Body, Refusal>
-    requires { map.elements ≤ MAX_ELEMENTS }
+    requires { IsSmallMap map }
     ensures { (n : ℕ) (s : Setting) → Gives result (roomy n (added_body s (Body.Chirotope map) (runs line.now))) }
 {
     let room = Subset::choose(map.elements, map.rank) as usize;
@@ -132,7 +132,9 @@ fn with_row_members(
     setting: Setting,
     members: List<SignVec>,
     member: SignVec,
-) -> Result<List<SignVec>, Refusal> {
+) -> Result<List<SignVec>, Refusal>
+    ensures { Gives result (few_members (with_each members (members_on setting member))) }
+{
     match setting {
         Setting::Half => with_row(with_row(members, member)?, member.neg()),
         Setting::Plain | Setting::Revlex => with_row(members, member),

@@ -16,7 +16,7 @@ pub struct Name {
 
 impl Model for Name {
     ghost use Rattle.std.specs.Prelude.{ℕ, List, take, length};
-    ghost use Rattle.om_text.specs.NameBytes.{IsKept, padded, padded_back};
+    ghost use Rattle.om_text.specs.NameBytes.{IsKept, padded, padded_back, count_back};
 
     ghost Value = { List ℕ };
 
@@ -26,7 +26,7 @@ impl Model for Name {
 
     ghost inverse = { λ w. record { bytes = padded w; len = length w } };
 
-    ghost inverse_ok = { λ n h. Prim.simp (padded_back) };
+    ghost inverse_ok = { λ n h. Prim.simp (padded_back, count_back) };
 }
 
 fn is_name_byte(byte: u8) -> bool

@@ -5,12 +5,12 @@ ghost use Rattle.om_signs.specs.declared.limits.TheConstants.{MAX_READ};
 ghost use Rattle.om_text.specs.declared.document.Document.{Document};
 ghost use Rattle.om_text.specs.declared.code.Code.{Code};
 ghost use Rattle.om_text.specs.Lines.{runs, lines};
-ghost use Rattle.om_text.specs.Settings.{is_line, version_of, in_lexicographic_order, finished};
+ghost use Rattle.om_text.specs.Settings.{is_line, version_of, in_lexicographic_order};
 ghost use Rattle.om_text.specs.Document.{IsDocument, end_line, is_complete, is_complete_body};
 ghost use Rattle.om_text.specs.Form.{IsInForm};
 ghost use Rattle.om_text.specs.Fault.{IsFault};
-ghost use Rattle.om_text.specs.Reading.{step, advance, takes_settings, open_step, after_body, after_end, is_closed, outcome};
-ghost use Rattle.om_text.specs.Added.{Gives, IsSmall, IsSmallBody, IsSmallState, fault_at, IsWhole, IsFront};
+ghost use Rattle.om_text.specs.Reading.{step, advance, takes_settings, finished_draft, open_step, after_body, after_end, is_closed, outcome};
+ghost use Rattle.om_text.specs.Added.{Gives, IsSmall, IsSmallBody, IsSmallState, has_all_values, fault_at, IsWhole, IsFront};
 ghost use Rattle.om_text.specs.Part.{IsPart};
 ghost use Rattle.om_text.specs.Parsed.{ComesTo, IfLine};
 
@@ -67,7 +67,11 @@ fn is_full(body: &Body, elements: u8) -> bool
 }
 
 /// A body with its values in lexicographic order.
-fn in_lexicographic_order(setting: Setting, body: Body) -> Result<Body, NoMemory> {
+fn in_lexicographic_order(setting: Setting, body: Body) -> Result<Body, NoMemory>
+    requires small { IsSmallBody body }
+    requires full { has_all_values body ≡ true }
+    ensures { IfOk result (λ b. b ≡ in_lexicographic_order setting body) }
+{
     match (setting, body) {
         (Setting::Revlex, Body::Chirotope(map)) => {
             let signs = values_from_revlex(&map)?;
@@ -82,7 +86,11 @@ fn in_lexicographic_order(setting: Setting, body: Body) -> Result<Body, NoMemory
 }
 
 /// The document of a draft that has all its lines.
-fn finished(draft: Draft) -> Result<Document, NoMemory> {
+fn finished(draft: Draft) -> Result<Document, NoMemory>
+    requires small { IsSmall draft.document }
+    requires full { is_complete draft.document ≡ true }
+    ensures { IfOk result (λ d. d ≡ finished_draft draft) }
+{
     let Document {
         elements,
         body,
@@ -150,7 +158,10 @@ fn takes_settings(stage: Stage) -> bool
 }
 
 /// The state after one more line with words of a document that is still open.
-fn open_line(alloc: Global, draft: Draft, line: &[u8]) -> Result<State, Refusal> {
+fn open_line(alloc: Global, draft: Draft, line: &[u8]) -> Result<State, Refusal>
+    requires { IsSmall draft.document }
+    ensures { Gives result (open_step draft (runs line.now)) }
+{
     if takes_settings(draft.stage) && begins_as_setting(line) {
         setting_line(alloc, draft, line)
     } else if is_end(line) {

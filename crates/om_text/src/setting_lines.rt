@@ -1,13 +1,12 @@
 //! The setting lines of version 2.
 
-ghost use Rattle.std.specs.Prelude.{◌≡◌, ◌≤◌, cond, Some, None, IfOk};
+ghost use Rattle.std.specs.Prelude.{◌≡◌, ℕ, ◌∷◌, [], cond, codes, Some, None, IfOk, bytes_eq};
 ghost use Rattle.std.specs.List.{list_any};
-ghost use Rattle.om_signs.specs.declared.limits.TheConstants.{MAX_ELEMENTS};
-ghost use Rattle.std.specs.Prelude.{bytes_eq};
+ghost use Rattle.om_signs.specs.declared.raw_map.RawMap.{RawMap};
 ghost use Rattle.om_text.specs.Lines.{runs};
 ghost use Rattle.om_text.specs.Names.{are_names};
-ghost use Rattle.om_text.specs.Settings.{begins_as_setting, setting_in, order_of};
-ghost use Rattle.om_text.specs.Reading.{set_to, chosen, after_setting};
+ghost use Rattle.om_text.specs.Settings.{is_line, begins_as_setting, other_words, is_names_line, setting_in};
+ghost use Rattle.om_text.specs.Reading.{after_choice, after_names, after_setting};
 ghost use Rattle.om_text.specs.Added.{Gives};
 
 use super::body::Body;
@@ -35,12 +34,10 @@ pub fn begins_as_setting(line: &[u8]) -> bool
     }
 }
 
-fn are_equal(a: Name, b: Name) -> bool {
-    a == b
-}
-
-fn has_name(names: &List<Name>, name: Name) -> bool {
-    names.as_slice().iter().any(|n| are_equal(*n, name))
+fn has_name(names: &[Name], word: &[u8]) -> bool
+    ensures { result ≡ list_any (λ name. bytes_eq name word.now) names.now }
+{
+    names.iter().any(|name| same(name.as_bytes(), word))
 }
 
 /// The names that words are, where they are a name for each of so many elements, and no two of them equal.
@@ -50,13 +47,13 @@ fn names_on(alloc: Global, elements: u8, words: &[u8]) -> Result<Option<List<Nam
     let mut names = List::new(alloc);
     let mut rest = words;
     while let Some((word, after)) = first_word(rest) {
+        if names.len() == elements as usize || has_name(names.as_slice(), word) {
+            return Ok(None);
+        }
         let name = match Name::new(word) {
             Some(name) => name,
             None => return Ok(None),
         };
-        if has_name(&names, name) {
-            return Ok(None);
-        }
         names.push(name)?;
         rest = after;
     }
@@ -68,7 +65,9 @@ fn names_on(alloc: Global, elements: u8, words: &[u8]) -> Result<Option<List<Nam
 }
 
 /// The order that an `order` line names.
-fn order_of(line: &[u8]) -> Option<Setting> {
+fn order_of(line: &[u8]) -> Option<Setting>
+    ensures { (m : RawMap) → result ≡ setting_in (Body.Chirotope m) (runs line.now) }
+{
     let (first, rest) = first_word(line)?;
     if !same(first, b"order") {
         None
@@ -81,7 +80,9 @@ fn order_of(line: &[u8]) -> Option<Setting> {
     }
 }
 
-fn half_of(line: &[u8]) -> Option<Setting> {
+fn half_of(line: &[u8]) -> Option<Setting>
+    ensures { result ≡ cond (is_line (runs line.now) (codes "half" ∷ [])) (Some Setting.Half) None }
+{
     if is_only_word(line, b"half") {
         Some(Setting::Half)
     } else {
@@ -102,7 +103,7 @@ fn setting_of(body: &Body, line: &[u8]) -> Option<Setting>
 
 /// A draft with the setting of one more line.
 fn choice(draft: Draft, line: &[u8]) -> Result<State, Refusal>
-    ensures { Gives result (chosen draft (runs line.now)) }
+    ensures { Gives result (after_choice draft (runs line.now)) }
 {
     match setting_of(&draft.document.body, line) {
         Some(setting) => Ok(State::Open(Draft {
@@ -115,7 +116,10 @@ fn choice(draft: Draft, line: &[u8]) -> Result<State, Refusal>
 }
 
 /// The names of a `names` line for so many elements.
-fn names_line(alloc: Global, elements: u8, line: &[u8]) -> Result<Option<List<Name>>, NoMemory> {
+fn names_line(alloc: Global, elements: u8, line: &[u8]) -> Result<Option<List<Name>>, NoMemory>
+    ensures { IfOk result (λ found. found
+        ≡ cond (is_names_line elements (runs line.now)) (Some (other_words (runs line.now))) None) }
+{
     match first_word(line) {
         Some((first, rest)) if same(first, b"names") => names_on(alloc, elements, rest),
         _ => Ok(None),
@@ -123,7 +127,9 @@ fn names_line(alloc: Global, elements: u8, line: &[u8]) -> Result<Option<List<Na
 }
 
 /// A draft after the kind line with one more line.
-fn names_or_choice(alloc: Global, draft: Draft, line: &[u8]) -> Result<State, Refusal> {
+fn names_or_choice(alloc: Global, draft: Draft, line: &[u8]) -> Result<State, Refusal>
+    ensures { Gives result (after_names draft (runs line.now)) }
+{
     match names_line(alloc, draft.document.elements, line)? {
         Some(names) => {
             let Document {
@@ -147,7 +153,7 @@ fn names_or_choice(alloc: Global, draft: Draft, line: &[u8]) -> Result<State, Re
 
 /// The state after a line that begins as a setting line does, where setting lines may come.
 pub fn setting_line(alloc: Global, draft: Draft, line: &[u8]) -> Result<State, Refusal>
-    ensures { Gives result (after_setting draft (runs line.now)) }
+    ensures { Gives result (after_setting draft.stage draft (runs line.now)) }
 {
     match draft.stage {
         Stage::Names => names_or_choice(alloc, draft, line),
