@@ -2,6 +2,7 @@ pub mod Distinct
 pub mod Filling
 pub mod SettingLines
 pub mod NameForms
+pub mod RevlexValues
 pub mod Course
 pub mod Completion
 pub mod Outcome
