@@ -19,6 +19,7 @@ pub mod Joined
 pub mod Small
 mod Samples
 mod ListSamples
+mod SettingSamples
 mod PointSamples
 mod BlockSamples
 pub mod Printing
