@@ -636,8 +636,7 @@ open_no_end ls d o = ap (list_any (λ l. is_line l end_line)) o.lines ∙ front_
 -- the lines of a document have one end line, the last one
 pub spelled_no_end : (ls : List (List (List ℕ))) (d : Document) → IsSpelled ls d → (front : List (List (List ℕ))) × (ls ≡ front ++ end_line ∷ []) × (list_any (λ l. is_line l end_line) front ≡ false)
 spelled_no_end ls d o =
-    let front = o.first_line ∷ o.kind_line ∷ o.settings ++ o.body in
-    (
+    let front = o.first_line ∷ o.kind_line ∷ o.settings ++ o.body in (
       front,
       o.lines,
       front_no_end o.first_line o.kind_line o.version o.head o.settings o.body (o.names, o.setting) o.numbered o.heading o.set o.each,
