@@ -23,13 +23,13 @@ use Rattle.om_text.specs.Lines.{has_any}
 use Rattle.om_text.specs.Settings.{is_line, version_of, begins_as_setting, other_words, is_names_line, setting_in, settings_of, settings_in, finished}
 use Rattle.om_text.specs.Document.{IsSpelled, end_line, is_body_line, has_signs, has_length, has_blocks, has_numbers, filled_body, filled, has_room, is_complete}
 use Rattle.om_text.specs.Heading.{first_word, kind_of, heading, opened, has_elements, has_rank, rank_of_body}
-use Rattle.om_text.specs.Fault.{kind, setting, body, «end», after, Place, place_in_body, place_after_kind, place, when, first_of, table}
-use Rattle.om_text.specs.Reading.{step, with_version, after_kind, first_stage, draft_of, first_draft, with_heading, takes_settings, with_setting, after_setting, open_step, after_body, finished_draft, after_end, added_document, added}
+use Rattle.om_text.specs.Fault.{kind, setting, body, «end», after, place_in_body, place_after_kind, place, when, first_of, table}
+use Rattle.om_text.specs.Reading.{step, with_version, after_kind, first_stage, draft_of, first_draft, with_heading, takes_settings, with_setting, after_setting, after_body, finished_draft, after_end, added}
 use Rattle.om_text.proofs.Language as any
 use Rattle.om_text.proofs.Language.{bind}
 use Rattle.om_text.proofs.Distinct.{either, both}
 use Rattle.om_text.proofs.Filling.{is_line-Decides, line_not_end, has_signs_filled, has_length_filled, has_blocks_filled, has_numbers_filled, filled_added, room_before, room_empty, empty_filled}
-use Rattle.om_text.proofs.SettingLines.{names_begin, settings_begin, line_not_setting, lines_not_settings, settings_not_end, front_of, behind_of, setting_same}
+use Rattle.om_text.proofs.SettingLines.{settings_begin, line_not_setting, lines_not_settings, settings_not_end, front_of, behind_of, setting_same}
 
 -- which setting lines may come, after the setting lines ss and the body's lines ls of a document in version v that a kind line
 -- opens as d

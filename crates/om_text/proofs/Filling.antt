@@ -23,7 +23,7 @@ use Rattle.om_text.specs.declared.setting.Setting.{Setting}
 use Rattle.om_text.specs.declared.setting.Setting.TheVariants.{Plain, Revlex, Half}
 use Rattle.om_text.specs.Settings.{is_line}
 use Rattle.om_text.specs.Document.{end_line, are_signs, signs_of_line, members_of_line, all_signs, filled_body, filled, size_of, room_of, has_signs_in, has_length_in, has_blocks_in, has_numbers_in, has_room}
-use Rattle.om_text.specs.Reading.{members_on, with_line_members, with_each, added_body}
+use Rattle.om_text.specs.Reading.{members_on, with_line_members, added_body}
 use Rattle.om_text.proofs.Distinct.{either, both, distinct-each, with_each_grows}
 
 pub is_line-Decides : (w v : List (List ℕ)) → Decides (is_line w v) (w ≡ v)

@@ -29,7 +29,7 @@ use Rattle.om_text.specs.Points.{point_of, point_on}
 use Rattle.om_text.specs.declared.setting.Setting.TheVariants.{Plain}
 use Rattle.om_text.specs.declared.version.Version.TheVariants.{One}
 use Rattle.om_text.specs.Settings.{version_one_line, finished}
-use Rattle.om_text.specs.Document.{IsDocument, IsSpelled, end_line, are_signs, signs_of_line, members_of_line, is_body_line, all_signs, filled, has_room, is_complete}
+use Rattle.om_text.specs.Document.{IsDocument, IsSpelled, end_line, are_signs, members_of_line, is_body_line, all_signs, filled, has_room, is_complete}
 use Rattle.om_text.specs.Form.{IsInForm, AreMembersOn, IsShort, IsCoordinate, IsPoint}
 use Rattle.om_text.specs.Print.{cut, sign_lines, member_lines, block_text, block_lines, spaced, point_lines, kind_text, body_lines, printed_lines, printed, sorted_document}
 use Rattle.om_text.proofs.BlockWords.{block_word}

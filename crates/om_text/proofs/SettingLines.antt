@@ -1,7 +1,7 @@
 -- The setting lines of a document, one after the other.
 --
 -- Main results: settings_begin, settings_names, line_not_setting, lines_not_settings, settings_not_end, front_of, behind_of, setting_same, names_more, choice_more, full_more
-use Rattle.std.proofs.Common.{◌≡◌, ℕ, List, [], ◌∷◌, ◌++◌, Bool, true, false, cond, ◌&&◌, ◌||◌, inl, inr, ◌⊎◌, refl, sym, ap, subst, ◌∙◌}
+use Rattle.std.proofs.Common.{◌≡◌, ℕ, List, [], ◌∷◌, ◌++◌, Bool, true, false, ◌&&◌, ◌||◌, inl, inr, ◌⊎◌, refl, sym, ap, subst, ◌∙◌}
 use Rattle.std.specs.Prelude.{Option, Some, None, codes, bytes_eq, option_map, is_some}
 use Rattle.std.specs.List.{list_all, list_any}
 use Rattle.std.proofs.lemmas.Slice.Eq.{bytes_eq-Decides}
@@ -11,10 +11,10 @@ use Rattle.om_text.specs.declared.body.Body.TheVariants.{Chirotope, Wiring, Poin
 use Rattle.om_text.specs.declared.version.Version.{Version}
 use Rattle.om_text.specs.declared.version.Version.TheVariants.{One, Two}
 use Rattle.om_text.specs.declared.setting.Setting.{Setting}
-use Rattle.om_text.specs.declared.setting.Setting.TheVariants.{Plain, Revlex, Half}
+use Rattle.om_text.specs.declared.setting.Setting.TheVariants.{Plain}
 use Rattle.om_text.specs.Heading.{first_word}
 use Rattle.om_text.specs.Names.{are_names}
-use Rattle.om_text.specs.Settings.{is_line, begins_as_setting, other_words, is_names_line, setting_in, set_by, settings_of, settings_in, front_settings, behind_settings}
+use Rattle.om_text.specs.Settings.{is_line, begins_as_setting, other_words, is_names_line, setting_in, set_by, settings_in, front_settings, behind_settings}
 use Rattle.om_text.specs.Document.{end_line, are_signs, has_signs_in, has_length_in, has_blocks_in, has_numbers_in, is_body_line, filled_body}
 use Rattle.om_text.specs.Points.{point_of}
 use Rattle.om_text.proofs.Distinct.{either, both}

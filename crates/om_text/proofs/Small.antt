@@ -22,11 +22,11 @@ use Rattle.om_text.specs.declared.setting.Setting.{Setting}
 use Rattle.om_text.specs.declared.setting.Setting.TheVariants.{Plain}
 use Rattle.om_text.specs.declared.version.Version.{Version}
 use Rattle.om_text.specs.Settings.{is_line, version_of, begins_as_setting, other_words, is_names_line, setting_in}
-use Rattle.om_text.specs.Document.{end_line, filled, filled_body, is_complete}
+use Rattle.om_text.specs.Document.{end_line, filled_body, is_complete}
 use Rattle.om_text.specs.Heading.{first_word, kind_of, heading, opened, headed, empty_body, numbers, has_elements, has_rank, rank_of_body}
 use Rattle.om_text.specs.Reading.{step, advance, with_version, first_draft, with_heading, takes_settings, with_names, with_setting, after_choice, after_setting, after_body, finished_draft, after_end, added, added_body, outcome}
 use Rattle.om_text.specs.Steps.{step_if}
-use Rattle.om_text.specs.Added.{IsSmall, IsSmallMap, IsSmallBody, IsSmallState}
+use Rattle.om_text.specs.Added.{IsSmall, IsSmallBody, IsSmallState}
 use Rattle.om_text.proofs.Distinct.{either, both}
 use Rattle.om_text.proofs.Course.{cond_ok, cond_err, ok_same, named, taken}
 
