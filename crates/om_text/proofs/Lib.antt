@@ -12,6 +12,9 @@ pub mod Part
 pub mod Numbers
 pub mod Forms
 pub mod Sorting
+pub mod Orders
+pub mod Halves
+pub mod NameTexts
 pub mod Joined
 pub mod Small
 mod Samples
