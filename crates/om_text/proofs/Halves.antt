@@ -1,27 +1,30 @@
 -- Half of the members of a list that is closed under negation, and the members that it stands for.
 --
 -- Main definitions: has, pairs
--- Main results: doubled_permutes, half_long, half_read
+-- Main results: doubled_permutes, members_permute, half_long, half_read
 use Rattle.std.proofs.Common.{◌≡◌, ◌≢◌, ℕ, List, [], ◌∷◌, ◌++◌, Bool, true, false, not, ◌&&◌, ◌||◌, inl, inr, length, map, refl, sym, ap, subst, ◌∙◌, append-nil}
 use Rattle.std.specs.Prelude.{All, AllPairs, Contains, filter}
 use Rattle.std.specs.List.{list_any, flat_map}
 use Rattle.std.specs.List.Sorted.{IsPermutation}
 use Rattle.std.proofs.lemmas.List.Elements.{All-filter}
 use Rattle.std.proofs.lemmas.List.Folds.{list_any_at}
-use Rattle.std.proofs.lemmas.List.Sorted.{list_any-IsPermutation}
+use Rattle.std.proofs.lemmas.List.Sorted.{list_any-IsPermutation, IsPermutation-refl}
 use Rattle.std.proofs.lemmas.Map.Views.{Contains-from_any}
 use Rattle.om_signs.specs.declared.sign.Sign.{Sign}
 use Rattle.om_signs.specs.declared.sign.Sign.TheVariants.{Minus, Zero, Plus}
 use Rattle.om_signs.specs.Sign.{opposite}
+use Rattle.om_text.specs.declared.body.Body.{Body}
+use Rattle.om_text.specs.declared.body.Body.TheVariants.{Chirotope, Wiring, Points}
 use Rattle.om_text.specs.declared.setting.Setting.TheVariants.{Half}
 use Rattle.om_text.specs.Words.{sign_of_byte, byte_of}
 use Rattle.om_text.specs.Rows.{same_row, distinct, sorted}
 use Rattle.om_text.specs.Document.{members_of_line}
+use Rattle.om_text.specs.Members.{members_of}
+use Rattle.om_text.specs.Form.{IsBodyOn}
 use Rattle.om_text.specs.Print.{member_lines}
-use Rattle.om_text.specs.PrintTwo.{begins_with_plus, half_of, doubled}
+use Rattle.om_text.specs.PrintTwo.{begins_with_plus, half_of, doubled, doubled_body, IsClosedUnderNegation}
 use Rattle.om_text.proofs.Distinct.{either, same_row-Decides}
-use Rattle.om_text.proofs.Forms.{distinct_differ}
-use Rattle.om_text.proofs.Sorting.{All-sorted, sorted_permutes, same_members}
+use Rattle.om_text.proofs.Sorting.{All-sorted, distinct_differ, sorted_permutes, same_members}
 use Rattle.om_text.proofs.Texts.{single, signs_of_bytes_of}
 
 -- whether z is a member
@@ -163,3 +166,10 @@ half_read [] = refl
 half_read (x ∷ xs) =
     let e : map sign_of_byte (map byte_of x ++ []) ≡ x = ap (map sign_of_byte) (append-nil (map byte_of x)) ∙ signs_of_bytes_of x in
     ap (λ y. y ∷ map opposite y ∷ flat_map (members_of_line Half) (single (member_lines xs))) e ∙ ap (λ r. x ∷ map opposite x ∷ r) (half_read xs)
+
+-- the same of the members of a body
+pub members_permute : (n : ℕ) (b : Body) → IsBodyOn n b → IsClosedUnderNegation b → IsPermutation (members_of b) (members_of (doubled_body b))
+members_permute n (Chirotope m) h c = IsPermutation-refl []
+members_permute n (Wiring bs) h c = IsPermutation-refl []
+members_permute n (Points ps) h c = IsPermutation-refl []
+members_permute n b h c = doubled_permutes (members_of b) h.distinct c

@@ -22,8 +22,12 @@ mod ListSamples
 mod PointSamples
 mod BlockSamples
 pub mod Printing
+pub mod PrintingTwo
 pub mod Texts
 pub mod Numerals
+pub mod BodyTexts
+pub mod KindLines
 pub mod Reread
+pub mod RereadTwo
 pub mod Feeds
 pub mod Language

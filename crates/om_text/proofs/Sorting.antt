@@ -1,6 +1,6 @@
 -- Sorted members.
 --
--- Main results: sorted_is, sorted_permutes, sorted_rises, All-sorted, sorted_differ, length-sorted, distinct_itself, same_members
+-- Main results: sorted_is, sorted_permutes, sorted_rises, All-sorted, sorted_differ, length-sorted, distinct_differ, distinct_itself, same_members
 use Rattle.std.proofs.Common.{◌≡◌, ◌≢◌, ◌≤◌, ◌+◌, ℕ, zero, suc, arith, List, [], ◌∷◌, false, cond, not, inl, inr, length, refl, sym, ap, subst, ◌∙◌}
 use Rattle.std.specs.Prelude.{All, AllPairs, filter, sum_by}
 use Rattle.std.specs.List.{list_any}
@@ -10,7 +10,7 @@ use Rattle.std.specs.declared.cmp.Ordering.{Ordering}
 use Rattle.std.specs.declared.cmp.Ordering.TheVariants.{Less, Equal, Greater}
 use Rattle.std.specs.Ordering.{is_lt, ordering_reverse}
 use Rattle.std.proofs.lemmas.List.Elements.{All-nil, All-cons, All-head, All-tail}
-use Rattle.std.proofs.lemmas.List.Kept.{AllPairs-cons}
+use Rattle.std.proofs.lemmas.List.Kept.{AllPairs-cons, AllPairs-filter}
 use Rattle.std.proofs.lemmas.List.Sorted.{ranks_by, sorted_far, sum_by-IsPermutation, IsPermutation-refl, IsPermutation-sym, IsPermutation-trans, IsPermutation-middle, IsPermutation-cons}
 use Rattle.std.proofs.lemmas.List.Sums.{sum_by-cons}
 use Rattle.om_signs.specs.declared.sign.Sign.{Sign}
@@ -192,6 +192,17 @@ others_kept x (y ∷ ys) a = elim (either (same_row x y)) [
   | inl e ↦ absurd (All-head (λ y. x ≢ y) y ys a ((same_row-Decides x y).0 e))
   | inr n ↦ rw n (ap (λ r. y ∷ r) (others_kept x ys (All-tail (λ y. x ≢ y) y ys a)))
 ]
+
+others_differ : (x : List Sign) (ys : List (List Sign)) → All (λ y. x ≢ y) (filter (λ y. not (same_row x y)) ys)
+others_differ x [] = All-nil (λ y. x ≢ y)
+others_differ x (y ∷ ys) = elim (either (same_row x y)) [
+  | inl e ↦ rw e (others_differ x ys)
+  | inr n ↦ rw n (All-cons (λ y. x ≢ y) y _ (λ q. let t = (same_row-Decides x y).1 q in cc) (others_differ x ys))
+]
+
+pub distinct_differ : (xs : List (List Sign)) → AllPairs (λ x y. x ≢ y) (distinct xs)
+distinct_differ [] = λ i j d l m. absurd (omega arith)
+distinct_differ (x ∷ xs) = AllPairs-cons (λ x y. x ≢ y) x _ (others_differ x (distinct xs)) (AllPairs-filter (λ x y. x ≢ y) (λ y. not (same_row x y)) (distinct xs) (distinct_differ xs))
 
 pub distinct_itself : (ms : List (List Sign)) → AllPairs (λ x y. x ≢ y) ms → distinct ms ≡ ms
 distinct_itself [] p = refl
