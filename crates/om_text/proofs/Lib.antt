@@ -15,6 +15,9 @@ pub mod Part
 pub mod Numbers
 pub mod Forms
 pub mod Sorting
+pub mod Orders
+pub mod Halves
+pub mod NameTexts
 pub mod Joined
 pub mod Small
 mod Samples
@@ -23,8 +26,12 @@ mod SettingSamples
 mod PointSamples
 mod BlockSamples
 pub mod Printing
+pub mod PrintingTwo
 pub mod Texts
 pub mod Numerals
+pub mod BodyTexts
+pub mod KindLines
 pub mod Reread
+pub mod RereadTwo
 pub mod Feeds
 pub mod Language

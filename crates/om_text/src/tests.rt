@@ -183,7 +183,7 @@ const ENDS_OF_HALVES: [(usize, &str, usize, &str); 5] = [
 ];
 
 /// The bytes of a text.
-fn bytes_of(alloc: Global, text: &str) -> Result<Vec<u8>, Fail> {
+pub fn bytes_of(alloc: Global, text: &str) -> Result<Vec<u8>, Fail> {
     let mut bytes = Vec::new(alloc);
     for byte in text.as_bytes() {
         bytes.push(if *byte == b'/' { b'\n' } else { *byte })?;
