@@ -1,5 +1,8 @@
 pub mod Distinct
 pub mod Filling
+pub mod SettingLines
+pub mod NameForms
+pub mod RevlexValues
 pub mod Course
 pub mod Completion
 pub mod Outcome
@@ -12,15 +15,23 @@ pub mod Part
 pub mod Numbers
 pub mod Forms
 pub mod Sorting
+pub mod Orders
+pub mod Halves
+pub mod NameTexts
 pub mod Joined
 pub mod Small
 mod Samples
 mod ListSamples
+mod SettingSamples
 mod PointSamples
 mod BlockSamples
 pub mod Printing
+pub mod PrintingTwo
 pub mod Texts
 pub mod Numerals
+pub mod BodyTexts
+pub mod KindLines
 pub mod Reread
+pub mod RereadTwo
 pub mod Feeds
 pub mod Language

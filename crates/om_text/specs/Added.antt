@@ -1,7 +1,9 @@
 -- What the parts of the reader's code say of one more line. Not part of the definition of documents.
-use Rattle.std.specs.Prelude.{ℕ, ◌≡◌, ◌≢◌, ◌≤◌, List, ◌++◌, not, filter, map, cond, nat_le, Result, Ok, Err, length}
+use Rattle.std.specs.Prelude.{ℕ, ◌≡◌, ◌≢◌, ◌≤◌, List, ◌++◌, not, filter, map, cond, nat_eq, nat_le, Bool, true, Result, Ok, Err, length}
 use Rattle.om_signs.specs.declared.limits.TheConstants.{MAX_ELEMENTS, MAX_MEMBERS}
 use Rattle.om_signs.specs.declared.block.Block.{Block}
+use Rattle.om_signs.specs.declared.raw_map.RawMap.{RawMap}
+use Rattle.om_subsets.specs.Subsets.{choose}
 use Rattle.om_signs.specs.declared.sign.Sign.{Sign}
 use Rattle.om_text.specs.declared.document.Document.{Document}
 use Rattle.om_text.specs.declared.body.Body.{Body}
@@ -14,6 +16,7 @@ use Rattle.om_text.specs.declared.state.State.{State}
 use Rattle.om_text.specs.declared.state.State.TheVariants.{Start, Open}
 use Rattle.om_text.specs.declared.parse_error.ParseError.{ParseError}
 use Rattle.om_text.specs.declared.parse_error.ParseError.TheVariants as error
+use Rattle.om_text.specs.declared.setting.Setting.{Setting}
 use Rattle.om_text.specs.Fault.{IsFault}
 use Rattle.om_text.specs.Part.{IsPart}
 use Rattle.om_text.specs.Reading.{added_body, outcome}
@@ -49,11 +52,16 @@ abbrev pub more_blocks : List Block → List (List ℕ) → Result (List Block) 
 more_blocks bs w = cond (are_blocks w) (Ok (bs ++ blocks_on w)) (Err code.Block)
 
 -- a body on n elements with one more line, whose signs and length are those of the kind
-abbrev pub filled_line : ℕ → Body → List (List ℕ) → Result Body Code
-filled_line n b w = cond (has_blocks_in b w) (cond (has_numbers_in b w) (roomy n (added_body b w)) (Err code.Number)) (Err code.Block)
+abbrev pub filled_line : Setting → ℕ → Body → List (List ℕ) → Result Body Code
+filled_line s n b w = cond (has_blocks_in b w) (cond (has_numbers_in b w) (roomy n (added_body s b w)) (Err code.Number)) (Err code.Block)
+
+-- the numbers of a map are in range
+pub record IsSmallMap (m : RawMap) : Type 0 where
+  pub elements : m.elements ≤ MAX_ELEMENTS
+  pub rank : m.rank ≤ m.elements
 
 abbrev pub IsSmallBody : Body → Type 0
-IsSmallBody (Chirotope m) = m.elements ≤ MAX_ELEMENTS
+IsSmallBody (Chirotope m) = IsSmallMap m
 IsSmallBody _ = Unit {0}
 
 -- the numbers of the heading are in range
@@ -63,8 +71,13 @@ pub record IsSmall (d : Document) : Type 0 where
   pub body : IsSmallBody d.body
 
 abbrev pub IsSmallState : State → Type 0
-IsSmallState (Open d) = IsSmall d
+IsSmallState (Open d) = IsSmall d.document
 IsSmallState _ = Unit {0}
+
+-- whether a map has a value for each set of its rank; nothing is asked of another body
+abbrev pub has_all_values : Body → Bool
+has_all_values (Chirotope m) = nat_eq (length m.signs) (choose m.elements m.rank)
+has_all_values _ = true
 
 -- why a line with this number is not read
 abbrev pub fault_at : ℕ → Refusal → ParseError

@@ -1,11 +1,11 @@
 -- Documents, over whole lists of lines.
 --
 -- Trusted: this is what a document is, with its value. Nothing here says how one is read.
-use Rattle.std.specs.Prelude.{ℕ, ◌≡◌, List, [], ◌∷◌, ◌++◌, Bool, true, nat_eq, nat_le, ◌&&◌, length, map, codes, Some, is_some, bytes_eq}
+use Rattle.std.specs.Prelude.{ℕ, ◌≡◌, List, [], ◌∷◌, ◌++◌, Bool, true, nat_eq, nat_le, ◌&&◌, length, map, codes, Some, is_some}
 use Rattle.std.specs.List.{list_all, concat, flat_map}
-use Rattle.std.specs.Cmp.Lexicographic.{pointwise}
 use Rattle.om_signs.specs.declared.limits.TheConstants.{MAX_MEMBERS, MAX_BLOCKS}
 use Rattle.om_signs.specs.declared.sign.Sign.{Sign}
+use Rattle.om_signs.specs.Sign.{opposite}
 use Rattle.om_subsets.specs.Subsets.{choose}
 use Rattle.om_text.specs.declared.document.Document.{Document}
 use Rattle.om_text.specs.declared.body.Body.{Body}
@@ -13,18 +13,14 @@ use Rattle.om_text.specs.declared.body.Body.TheVariants.{Chirotope, Wiring, Poin
 use Rattle.om_text.specs.Lines.{wordful}
 use Rattle.om_text.specs.Words.{is_sign, sign_of_byte}
 use Rattle.om_text.specs.Heading.{heading, has_elements, has_rank}
+use Rattle.om_text.specs.declared.version.Version.{Version}
+use Rattle.om_text.specs.declared.setting.Setting.{Setting}
+use Rattle.om_text.specs.declared.setting.Setting.TheVariants.{Half}
+use Rattle.om_text.specs.Settings.{version_of, settings_in, finished}
 use Rattle.om_text.specs.Rows.{distinct}
 use Rattle.om_text.specs.Members.{members_of, with_members}
 use Rattle.om_text.specs.Blocks.{are_blocks, blocks_on}
 use Rattle.om_text.specs.Points.{point_of, point_on}
-
--- whether two lines have the same words
-abbrev pub is_line : List (List ℕ) → List (List ℕ) → Bool
-is_line = pointwise bytes_eq
-
--- the words of the first line
-abbrev pub version_line : List (List ℕ)
-version_line = codes "om" ∷ codes "1" ∷ []
 
 -- the words of the last line
 abbrev pub end_line : List (List ℕ)
@@ -85,17 +81,22 @@ is_body_line d w = has_signs d w && has_length d w && has_blocks d w && has_numb
 abbrev pub all_signs : List (List (List ℕ)) → List Sign
 all_signs body = map sign_of_byte (concat (map concat body))
 
--- the body that lines give: the values of a map, the blocks, the points, or the distinct members in the order of their first
--- lines
-abbrev pub filled_body : Body → List (List (List ℕ)) → Body
-filled_body (Chirotope m) body = Chirotope (record { rank = m.rank; elements = m.elements; signs = all_signs body })
-filled_body (Wiring _) body = Wiring (flat_map blocks_on body)
-filled_body (Points _) body = Points (map point_on body)
-filled_body b body = with_members b (distinct (map signs_of_line body))
+-- the members that a line gives: the sign vector of its signs, and after `half` the negative of it too
+abbrev pub members_of_line : Setting → List (List ℕ) → List (List Sign)
+members_of_line Half w = signs_of_line w ∷ map opposite (signs_of_line w) ∷ []
+members_of_line _ w = signs_of_line w ∷ []
 
--- the document that a heading and the lines after it give
-abbrev pub filled : Document → List (List (List ℕ)) → Document
-filled d body = record { elements = d.elements; body = filled_body d.body body }
+-- the body that lines give: the values of a map in the order of the lines, the blocks, the points, or the distinct members in
+-- the order of their first lines
+abbrev pub filled_body : Setting → Body → List (List (List ℕ)) → Body
+filled_body s (Chirotope m) body = Chirotope (record { rank = m.rank; elements = m.elements; signs = all_signs body })
+filled_body s (Wiring _) body = Wiring (flat_map blocks_on body)
+filled_body s (Points _) body = Points (map point_on body)
+filled_body s b body = with_members b (distinct (flat_map (members_of_line s) body))
+
+-- the document that a heading and the lines of its body give, with its values in the order of the lines
+abbrev pub filled : Setting → Document → List (List (List ℕ)) → Document
+filled s d body = record { elements = d.elements; body = filled_body s d.body body; names = d.names }
 
 -- how many values, blocks, points or members a body has
 abbrev pub size_of : Body → ℕ
@@ -126,20 +127,27 @@ is_complete_body _ n = true
 abbrev pub is_complete : Document → Bool
 is_complete d = is_complete_body d.body d.elements
 
--- the words of lines are the version line, a kind line with its numbers in range, lines of a body within the limits, and
--- the end line; d is the document that they give
+-- the words of lines are a version line, a kind line with its numbers in range, setting lines that this version and kind may
+-- have, lines of a body within the limits, and the end line; d is the document that they give
 pub record IsSpelled (ls : List (List (List ℕ))) (d : Document) : Type 0 where
+  pub first_line : List (List ℕ)
+  pub version : Version
   pub kind_line : List (List ℕ)
   pub head : Document
+  pub settings : List (List (List ℕ))
+  pub names : List (List ℕ)
+  pub setting : Setting
   pub body : List (List (List ℕ))
-  pub lines : ls ≡ version_line ∷ kind_line ∷ body ++ end_line ∷ []
+  pub lines : ls ≡ first_line ∷ kind_line ∷ settings ++ body ++ end_line ∷ []
+  pub numbered : version_of first_line ≡ Some version
   pub heading : heading kind_line ≡ Some head
   pub elements : has_elements head ≡ true
   pub rank : has_rank head ≡ true
+  pub set : settings_in version head settings ≡ Some (names, setting)
   pub each : list_all (is_body_line head) body ≡ true
-  pub room : has_room (filled head body) ≡ true
-  pub complete : is_complete (filled head body) ≡ true
-  pub value : d ≡ filled head body
+  pub room : has_room (filled setting head body) ≡ true
+  pub complete : is_complete (filled setting head body) ≡ true
+  pub value : d ≡ finished names setting (filled setting head body)
 
 -- the lines are a document, and d is its value
 abbrev pub IsDocument : List (List ℕ) → Document → Type 0

@@ -1,43 +1,62 @@
 -- The first line at fault, and its code.
 --
 -- Trusted: which line is named for an input that is no document, and with which code.
-use Rattle.std.specs.Prelude.{ℕ, ◌≡◌, ◌+◌, List, [], ◌∷◌, ◌++◌, Bool, true, false, cond, not, length, Option, Some, None, is_none, option_and_then}
-use Rattle.std.specs.List.{list_any}
+use Rattle.std.specs.Prelude.{ℕ, ◌≡◌, ◌+◌, List, [], ◌∷◌, ◌++◌, Bool, true, false, cond, not, ◌&&◌, length, Option, Some, None, is_none, option_and_then}
+use Rattle.std.specs.List.{list_all, list_any}
 use Rattle.om_text.specs.declared.document.Document.{Document}
 use Rattle.om_text.specs.declared.code.Code.{Code}
 use Rattle.om_text.specs.declared.code.Code.TheVariants as code
+use Rattle.om_text.specs.declared.version.Version.{Version}
+use Rattle.om_text.specs.declared.version.Version.TheVariants.{One, Two}
+use Rattle.om_text.specs.declared.setting.Setting.{Setting}
 use Rattle.om_text.specs.Lines.{words, wordful}
-use Rattle.om_text.specs.Document.{IsDocument, is_line, version_line, end_line, has_signs, has_length, has_blocks, has_numbers, filled, has_room, is_complete}
+use Rattle.om_text.specs.Settings.{is_line, version_of, begins_as_setting, settings_of, settings_in, front_settings, behind_settings}
+use Rattle.om_text.specs.Document.{IsDocument, end_line, has_signs, has_length, has_blocks, has_numbers, filled, has_room, is_complete}
 use Rattle.om_text.specs.Heading.{first_word, kind_of, heading, has_elements, has_rank, rank_of_body}
 
--- What a line with words is, by the lines with words before it: the first line, the kind line, a line in the body of a
--- document after its earlier body lines, its end line, or a line after that.
+-- What a line with words is, by the lines with words before it: the first line, the kind line, a line that begins as a setting
+-- line does, directly after the kind line of version 2 and the setting lines so far, a line in the body of a document after its
+-- earlier body lines, its end line, or a line after that.
 pub data Place : Type 0 where
   first : Place
   kind : Place
-  body : Document → List (List (List ℕ)) → Place
-  «end» : Document → List (List (List ℕ)) → Place
+  setting : Document → List (List (List ℕ)) → Place
+  body : Setting → Document → List (List (List ℕ)) → Place
+  «end» : Setting → Document → List (List (List ℕ)) → Place
   after : Place
 
--- a place after a kind line that opens d, by the lines ls after it
-abbrev pub place_in_body : Option Document → List (List (List ℕ)) → List (List ℕ) → Place
-place_in_body None ls w = after
-place_in_body (Some d) ls w = cond (list_any (λ l. is_line l end_line) ls) after (cond (is_line w end_line) («end» d ls) (body d ls))
+-- a place after a kind line that opens d and setting lines, by the body's lines ls after them
+abbrev pub place_in_body : Option (List (List ℕ) × Setting) → Document → List (List (List ℕ)) → List (List ℕ) → Place
+place_in_body None d ls w = after
+place_in_body (Some s) d ls w = cond (list_any (λ l. is_line l end_line) ls) after (cond (is_line w end_line) («end» s.1 d ls) (body s.1 d ls))
+
+-- a place after a kind line of version 2 that opens d, by the lines ls after it
+abbrev pub place_in_two : Document → List (List (List ℕ)) → List (List ℕ) → Place
+place_in_two d ls w =
+    cond (list_all begins_as_setting ls && begins_as_setting w)
+    (setting d ls)
+    (place_in_body (settings_of d (front_settings ls)) d (behind_settings ls) w)
+
+-- the same in each version
+abbrev pub place_after_kind : Option Version → Option Document → List (List (List ℕ)) → List (List ℕ) → Place
+place_after_kind (Some One) (Some d) ls w = place_in_body (settings_in One d []) d ls w
+place_after_kind (Some Two) (Some d) ls w = place_in_two d ls w
+place_after_kind _ _ ls w = after
 
 -- the place of the line w after the lines with words ls
 abbrev pub place : List (List (List ℕ)) → List (List ℕ) → Place
 place [] w = first
 place (v ∷ []) w = kind
-place (v ∷ k ∷ ls) w = place_in_body (heading k) ls w
+place (v ∷ k ∷ ls) w = place_after_kind (version_of v) (heading k) ls w
 
 -- The rows of the table of codes. Each gives its code where it holds.
 abbrev pub when : Bool → Code → Option Code
 when true c = Some c
 when false c = None
 
--- the first line isn't the version line
+-- the first line names no version
 abbrev pub version : Place → List (List ℕ) → Option Code
-version first w = when (not (is_line w version_line)) code.Version
+version first w = when (is_none (version_of w)) code.Version
 version _ w = None
 
 -- the kind line names no kind
@@ -60,34 +79,39 @@ abbrev pub rank : Place → List (List ℕ) → Option Code
 rank kind w = option_and_then (λ d. when (not (has_rank d)) (code.Rank (rank_of_body d.body))) (heading w)
 rank _ w = None
 
+-- a line that begins as a setting line does isn't one that may stand there
+abbrev pub setting_row : Place → List (List ℕ) → Option Code
+setting_row (setting d ls) w = when (is_none (settings_of d (ls ++ w ∷ []))) code.Setting
+setting_row _ w = None
+
 -- a line of a map or a list has a byte that is no sign
 abbrev pub sign : Place → List (List ℕ) → Option Code
-sign (body d ls) w = when (not (has_signs d w)) code.Sign
+sign (body s d ls) w = when (not (has_signs d w)) code.Sign
 sign _ w = None
 
 -- a member has another number of signs than there are elements
 abbrev pub length_row : Place → List (List ℕ) → Option Code
-length_row (body d ls) w = when (not (has_length d w)) code.Length
+length_row (body s d ls) w = when (not (has_length d w)) code.Length
 length_row _ w = None
 
 -- a word of a line of a wiring is no block
 abbrev pub block : Place → List (List ℕ) → Option Code
-block (body d ls) w = when (not (has_blocks d w)) code.Block
+block (body s d ls) w = when (not (has_blocks d w)) code.Block
 block _ w = None
 
 -- a line of points hasn't exactly three coordinates
 abbrev pub number : Place → List (List ℕ) → Option Code
-number (body d ls) w = when (not (has_numbers d w)) code.Number
+number (body s d ls) w = when (not (has_numbers d w)) code.Number
 number _ w = None
 
 -- the line goes past the greatest size of the body
 abbrev pub many : Place → List (List ℕ) → Option Code
-many (body d ls) w = when (not (has_room (filled d (ls ++ w ∷ [])))) code.Many
+many (body s d ls) w = when (not (has_room (filled s d (ls ++ w ∷ [])))) code.Many
 many _ w = None
 
 -- the body is not complete at the end line
 abbrev pub few : Place → List (List ℕ) → Option Code
-few («end» d ls) w = when (not (is_complete (filled d ls))) code.Few
+few («end» s d ls) w = when (not (is_complete (filled s d ls))) code.Few
 few _ w = None
 
 -- a line follows the end line
@@ -103,6 +127,7 @@ table p w =
     ∷ header p w
     ∷ elements p w
     ∷ rank p w
+    ∷ setting_row p w
     ∷ sign p w
     ∷ length_row p w
     ∷ block p w

@@ -1,7 +1,7 @@
 -- The forms and the limits of a document's value.
 --
 -- Trusted: `parse` promises them, and `print` asks for them.
-use Rattle.std.specs.Prelude.{ℕ, ◌≡◌, ◌≢◌, ◌<◌, ◌≤◌, ℤ, unsigned_abs, List, length, All, AllPairs}
+use Rattle.std.specs.Prelude.{ℕ, ◌≡◌, ◌≢◌, ◌<◌, ◌≤◌, ◌⊎◌, ℤ, unsigned_abs, List, [], true, length, All, AllPairs}
 use Rattle.om_signs.specs.declared.limits.TheConstants.{MAX_ELEMENTS, MAX_MEMBERS, MAX_BLOCKS, MAX_COORDINATE}
 use Rattle.om_signs.specs.declared.block.Block.{Block}
 use Rattle.om_signs.specs.declared.sign.Sign.{Sign}
@@ -11,6 +11,7 @@ use Rattle.om_text.specs.declared.document.Document.{Document}
 use Rattle.om_text.specs.declared.body.Body.{Body}
 use Rattle.om_text.specs.declared.body.Body.TheVariants.{Chirotope, Wiring, Points}
 use Rattle.om_text.specs.Members.{members_of}
+use Rattle.om_text.specs.Names.{are_names}
 
 -- a map on n elements, with a value for each set of its rank
 pub record IsMapOn (n : ℕ) (m : RawMap) : Type 0 where
@@ -55,8 +56,13 @@ IsBodyOn n (Wiring bs) = AreBlocks bs
 IsBodyOn n (Points ps) = ArePointsOn n ps
 IsBodyOn n b = AreMembersOn n (members_of b)
 
+-- no names, or a name for each of n elements
+abbrev pub AreNamesOn : ℕ → List (List ℕ) → Type 0
+AreNamesOn n names = (names ≡ []) ⊎ (are_names n names ≡ true)
+
 -- a document within the limits
 pub record IsInForm (d : Document) : Type 0 where
   pub low : 1 ≤ d.elements
   pub high : d.elements ≤ MAX_ELEMENTS
   pub body : IsBodyOn d.elements d.body
+  pub names : AreNamesOn d.elements d.names

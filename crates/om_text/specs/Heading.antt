@@ -50,9 +50,9 @@ empty_body kinds.Covectors r n = Covectors []
 empty_body kinds.Wiring r n = Wiring []
 empty_body kinds.Points r n = Points []
 
--- an empty document with these numbers
+-- an empty document with these numbers, and without names
 abbrev pub headed : Kind → ℕ × ℕ → Document
-headed k p = record { elements = p.1; body = empty_body k p.0 p.1 }
+headed k p = record { elements = p.1; body = empty_body k p.0 p.1; names = [] }
 
 -- the empty document that the words after a kind name open
 abbrev pub opened : Kind → List (List ℕ) → Option Document

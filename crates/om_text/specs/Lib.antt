@@ -3,12 +3,16 @@ pub mod Words
 pub mod Heading
 pub mod Rows
 pub mod Members
+pub mod Names
+pub mod NameBytes
+pub mod Settings
 pub mod Points
 pub mod Blocks
 pub mod Document
 pub mod Fault
 pub mod Form
 pub mod Print
+pub mod PrintTwo
 pub mod Parsed
 pub mod Part
 pub mod Steps

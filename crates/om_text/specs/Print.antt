@@ -77,6 +77,6 @@ printed d = text_of (printed_lines d)
 abbrev pub sorted_body : Body → Body
 sorted_body b = with_members b (sorted (members_of b))
 
--- the same document with its members sorted
+-- the same document with its members sorted, and without names
 abbrev pub sorted_document : Document → Document
-sorted_document d = record { elements = d.elements; body = sorted_body d.body }
+sorted_document d = record { elements = d.elements; body = sorted_body d.body; names = [] }

@@ -4,10 +4,10 @@ ghost use Rattle.std.specs.Prelude.{◌≡◌, ℕ, ◌+◌, ◌-◌, ◌<◌, �
 ghost use Rattle.std.specs.List.{list_all, list_any, concat};
 ghost use Rattle.om_text.specs.Lines.{runs, is_blank};
 ghost use Rattle.om_text.specs.Words.{is_sign};
-ghost use Rattle.om_text.specs.Document.{are_signs, signs_of_line, has_signs_in, has_length_in};
+ghost use Rattle.om_text.specs.Document.{are_signs, signs_of_line, members_of_line, has_signs_in, has_length_in};
 ghost use Rattle.om_text.specs.Rows.{same_row};
-ghost use Rattle.om_text.specs.Reading.{with_member, added_body};
-ghost use Rattle.om_text.specs.Added.{Gives, IsSmallBody, roomy, few_members, more_blocks, filled_line};
+ghost use Rattle.om_text.specs.Reading.{with_member, with_each, members_on, with_line_members, added_body};
+ghost use Rattle.om_text.specs.Added.{Gives, IsSmallMap, IsSmallBody, roomy, few_members, more_blocks, filled_line};
 
 use super::blocks::block_of;
 use super::body::Body;
@@ -15,6 +15,7 @@ use super::code::Code;
 use super::lines::{first_word, is_blank_byte};
 use super::points::point;
 use super::refusal::Refusal;
+use super::setting::Setting;
 use super::words::{is_sign_byte, sign_of};
 use om_signs::{
     Block, List, MAX_BLOCKS, MAX_ELEMENTS, MAX_MEMBERS, NoMemory, RawMap, Sign, SignVec,
@@ -61,8 +62,8 @@ pub fn push_signs(signs: &mut List<Sign>, line: &[u8]) -> Result<(), NoMemory>
 
 /// A map with the values of one more line.
 fn with_values(mut map: RawMap, line: &[u8]) -> Result<Body, Refusal>
-    requires { map.elements ≤ MAX_ELEMENTS }
-    ensures { (n : ℕ) → Gives result (roomy n (added_body (Body.Chirotope map) (runs line.now))) }
+    requires { IsSmallMap map }
+    ensures { (n : ℕ) (s : Setting) → Gives result (roomy n (added_body s (Body.Chirotope map) (runs line.now))) }
 {
     let room = Subset::choose(map.elements, map.rank) as usize;
     let size = map.signs.len().saturating_add(sign_count(line));
@@ -85,7 +86,7 @@ fn same_signs(a: SignVec, b: SignVec) -> bool
     are_equal(a, b)
 }
 
-fn has_member(members: &List<SignVec>, member: SignVec) -> bool
+pub fn has_member(members: &List<SignVec>, member: SignVec) -> bool
     ensures { result ≡ list_any (λ y. same_row y member) members.now }
 {
     members.as_slice().iter().any(|m| same_signs(*m, member))
@@ -126,8 +127,23 @@ fn with_row(mut members: List<SignVec>, member: SignVec) -> Result<List<SignVec>
     Ok(members)
 }
 
-/// The members of a list with one more line.
+/// The members with those of a line that stands for this one.
+fn with_row_members(
+    setting: Setting,
+    members: List<SignVec>,
+    member: SignVec,
+) -> Result<List<SignVec>, Refusal>
+    ensures { Gives result (few_members (with_each members (members_on setting member))) }
+{
+    match setting {
+        Setting::Half => with_row(with_row(members, member)?, member.neg()),
+        Setting::Plain | Setting::Revlex => with_row(members, member),
+    }
+}
+
+/// The members of a list with those of one more line.
 fn with_list_line(
+    setting: Setting,
     members: List<SignVec>,
     elements: u8,
     line: &[u8],
@@ -135,9 +151,9 @@ fn with_list_line(
     requires low { 1 ≤ elements }
     requires high { elements ≤ MAX_ELEMENTS }
     requires len { length (concat (runs line.now)) ≡ elements }
-    ensures { Gives result (few_members (with_member members (signs_of_line (runs line.now)))) }
+    ensures { Gives result (few_members (with_line_members setting members (runs line.now))) }
 {
-    with_row(members, sign_vector(elements, line))
+    with_row_members(setting, members, sign_vector(elements, line))
 }
 
 /// The blocks with those of one more line.
@@ -158,7 +174,7 @@ fn with_words(mut blocks: List<Block>, line: &[u8]) -> Result<List<Block>, Refus
 
 /// A wiring with one more line.
 fn with_blocks(blocks: List<Block>, line: &[u8]) -> Result<Body, Refusal>
-    ensures { (n : ℕ) → Gives result (filled_line n (Body.Wiring blocks) (runs line.now)) }
+    ensures { (n : ℕ) (s : Setting) → Gives result (filled_line s n (Body.Wiring blocks) (runs line.now)) }
 {
     let blocks = with_words(blocks, line)?;
     if MAX_BLOCKS < blocks.len() {
@@ -169,7 +185,7 @@ fn with_blocks(blocks: List<Block>, line: &[u8]) -> Result<Body, Refusal>
 
 /// The points with one more line.
 fn with_point(mut points: List<[i64; 3]>, elements: u8, line: &[u8]) -> Result<Body, Refusal>
-    ensures { Gives result (filled_line elements (Body.Points points) (runs line.now)) }
+    ensures { (s : Setting) → Gives result (filled_line s elements (Body.Points points) (runs line.now)) }
 {
     let found = match point(line) {
         Some(found) => found,
@@ -207,18 +223,24 @@ pub fn has_length_line(body: &Body, elements: u8, line: &[u8]) -> bool
 }
 
 /// A body with one more line, whose signs and length are those of the kind.
-pub fn with_line(body: Body, elements: u8, line: &[u8]) -> Result<Body, Refusal>
+pub fn with_line(setting: Setting, body: Body, elements: u8, line: &[u8]) -> Result<Body, Refusal>
     requires low { 1 ≤ elements }
     requires high { elements ≤ MAX_ELEMENTS }
     requires small { IsSmallBody body }
     requires len { has_length_in body elements (runs line.now) ≡ true }
-    ensures { Gives result (filled_line elements body (runs line.now)) }
+    ensures { Gives result (filled_line setting elements body (runs line.now)) }
 {
     match body {
         Body::Chirotope(map) => with_values(map, line),
-        Body::Circuits(members) => Ok(Body::Circuits(with_list_line(members, elements, line)?)),
-        Body::Cocircuits(members) => Ok(Body::Cocircuits(with_list_line(members, elements, line)?)),
-        Body::Covectors(members) => Ok(Body::Covectors(with_list_line(members, elements, line)?)),
+        Body::Circuits(members) => Ok(Body::Circuits(with_list_line(
+            setting, members, elements, line,
+        )?)),
+        Body::Cocircuits(members) => Ok(Body::Cocircuits(with_list_line(
+            setting, members, elements, line,
+        )?)),
+        Body::Covectors(members) => Ok(Body::Covectors(with_list_line(
+            setting, members, elements, line,
+        )?)),
         Body::Wiring(blocks) => with_blocks(blocks, line),
         Body::Points(points) => with_point(points, elements, line),
     }

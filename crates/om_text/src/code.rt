@@ -3,8 +3,8 @@ use thiserror::Error;
 /// What is wrong at a line. Where several hold of one line, the first of this list is named.
 #[derive(Clone, Copy, Debug, PartialEq, Eq, Error)]
 pub enum Code {
-    /// The first line with words isn't `om 1`.
-    #[error("the first line with words is not `om 1`")]
+    /// The first line with words is neither `om 1` nor `om 2`.
+    #[error("the first line with words is neither `om 1` nor `om 2`")]
     Version,
     /// The first word of the kind line names no kind.
     #[error("the kind line names no kind")]
@@ -18,6 +18,10 @@ pub enum Code {
     /// The kind line gives the rank `r`, and this is above the number of elements.
     #[error("rank {r} is above the number of elements")]
     Rank { r: u32 },
+    /// In version 2, a line directly after the kind line or after setting lines begins with `names`, `order` or `half`, and
+    /// isn't a setting line that may stand there.
+    #[error("the line is no setting that may stand here")]
+    Setting,
     /// A line of a map or a list has a byte other than `+`, `-` and `0` in its words.
     #[error("a body line has a byte that is no sign")]
     Sign,

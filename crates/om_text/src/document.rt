@@ -1,4 +1,6 @@
 use super::body::Body;
+use super::name::Name;
+use om_signs::List;
 
 /// A document of an oriented matroid on the elements 1 to `elements`, whether or not it meets any axiom.
 #[derive(Drop)]
@@ -6,4 +8,6 @@ pub struct Document {
     /// How many elements there are, from 1 to [`om_signs::MAX_ELEMENTS`].
     pub elements: u8,
     pub body: Body,
+    /// The names of the elements 1, 2, and so on, no two of them equal, or none at all.
+    pub names: List<Name>,
 }

@@ -4,14 +4,19 @@ ghost use Rattle.std.specs.Prelude.{◌≡◌, ℕ, ◌<◌, [], IfSome, IfNone,
 ghost use Rattle.om_text.specs.Lines.{runs};
 ghost use Rattle.om_text.specs.Words.{plain};
 ghost use Rattle.om_text.specs.Heading.{kind_of, plain_numbers, sizes, numbers, headed, rank_of_body, empty_body};
-ghost use Rattle.om_text.specs.Document.{filled};
-ghost use Rattle.om_text.specs.Reading.{in_range, after_kind};
+ghost use Rattle.om_text.specs.declared.setting.Setting.TheVariants.{Plain};
+ghost use Rattle.om_text.specs.Document.{filled_body};
+ghost use Rattle.om_text.specs.Reading.{in_range, first_stage, after_kind};
 
 use super::body::Body;
 use super::code::Code;
 use super::document::Document;
+use super::draft::Draft;
 use super::lines::{first_word, same};
+use super::setting::Setting;
+use super::stage::Stage;
 use super::state::State;
+use super::version::Version;
 use super::words::plain_number;
 use om_signs::{List, MAX_ELEMENTS, RawMap};
 use smallvec::SmallVec;
@@ -90,10 +95,10 @@ fn sizes_in(alloc: Global, kind: Kind, line: &[u8]) -> Option<(u32, u32)>
     sizes_of(kind, numbers.as_slice())
 }
 
-fn empty_document(alloc: Global, kind: Kind, rank: u8, elements: u8) -> Document
-    ensures { result ≡ filled (headed kind (rank, elements)) [] }
+fn empty_body(alloc: Global, kind: Kind, rank: u8, elements: u8) -> Body
+    ensures { result ≡ filled_body Plain (empty_body kind rank elements) [] }
 {
-    let body = match kind {
+    match kind {
         Kind::Chirotope => Body::Chirotope(RawMap {
             rank,
             elements,
@@ -104,8 +109,7 @@ fn empty_document(alloc: Global, kind: Kind, rank: u8, elements: u8) -> Document
         Kind::Covectors => Body::Covectors(List::new(alloc)),
         Kind::Wiring => Body::Wiring(List::new(alloc)),
         Kind::Points => Body::Points(List::new(alloc)),
-    };
-    Document { elements, body }
+    }
 }
 
 /// The rank that a kind line gives: only a map has one.
@@ -118,8 +122,24 @@ fn rank_given(kind: Kind, rank: u32) -> u32
     }
 }
 
-fn open(alloc: Global, kind: Kind, given: u32, elements: u32) -> Result<State, Code>
-    ensures { result ≡ in_range (headed kind (given, elements)) }
+/// Which setting lines may come after the kind line.
+fn first_stage(version: Version) -> Stage
+    ensures { result ≡ first_stage version }
+{
+    match version {
+        Version::One => Stage::Body,
+        Version::Two => Stage::Names,
+    }
+}
+
+fn open(
+    alloc: Global,
+    version: Version,
+    kind: Kind,
+    given: u32,
+    elements: u32,
+) -> Result<State, Code>
+    ensures { result ≡ in_range version (headed kind (given, elements)) }
 {
     if elements < 1 || u32::from(MAX_ELEMENTS) < elements {
         return Err(Code::Elements { n: elements });
@@ -128,12 +148,20 @@ fn open(alloc: Global, kind: Kind, given: u32, elements: u32) -> Result<State, C
     if elements < rank {
         return Err(Code::Rank { r: rank });
     }
-    Ok(State::Open(empty_document(alloc, kind, rank as u8, elements as u8)))
+    Ok(State::Open(Draft {
+        document: Document {
+            elements: elements as u8,
+            body: empty_body(alloc, kind, rank as u8, elements as u8),
+            names: List::new(alloc),
+        },
+        setting: Setting::Plain,
+        stage: first_stage(version),
+    }))
 }
 
 /// What a kind line opens.
-pub fn kind_line(alloc: Global, line: &[u8]) -> Result<State, Code>
-    ensures { result ≡ after_kind (runs line.now) }
+pub fn kind_line(alloc: Global, version: Version, line: &[u8]) -> Result<State, Code>
+    ensures { result ≡ after_kind version (runs line.now) }
 {
     let (name, rest) = match first_word(line) {
         Some(found) => found,
@@ -144,7 +172,7 @@ pub fn kind_line(alloc: Global, line: &[u8]) -> Result<State, Code>
         None => return Err(Code::Kind),
     };
     match sizes_in(alloc, kind, rest) {
-        Some((rank, elements)) => open(alloc, kind, rank, elements),
+        Some((rank, elements)) => open(alloc, version, kind, rank, elements),
         None => Err(Code::Header),
     }
 }

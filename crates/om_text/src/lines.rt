@@ -6,7 +6,7 @@
 ghost use Rattle.std.specs.Prelude.{◌≡◌, ◌+◌, ◌<◌, ◌≤◌, ◌∷◌, [], length, nat_eq, not, ◌||◌, MatchOption, IfSome, bytes_eq};
 ghost use Rattle.std.specs.List.{position, position_or_len, list_all};
 ghost use Rattle.om_text.specs.Lines.{lines, IsSplit, uncommented, runs, is_blank, has_any};
-ghost use Rattle.om_text.specs.Document.{is_line};
+ghost use Rattle.om_text.specs.Settings.{is_line};
 
 /// Whether a word has these bytes.
 pub fn same(word: &[u8], text: &[u8]) -> bool

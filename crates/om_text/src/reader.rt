@@ -5,11 +5,12 @@ ghost use Rattle.om_signs.specs.declared.limits.TheConstants.{MAX_READ};
 ghost use Rattle.om_text.specs.declared.document.Document.{Document};
 ghost use Rattle.om_text.specs.declared.code.Code.{Code};
 ghost use Rattle.om_text.specs.Lines.{runs, lines};
-ghost use Rattle.om_text.specs.Document.{IsDocument, is_line, version_line, end_line, is_complete, is_complete_body};
+ghost use Rattle.om_text.specs.Settings.{is_line, version_of, in_lexicographic_order};
+ghost use Rattle.om_text.specs.Document.{IsDocument, end_line, is_complete, is_complete_body};
 ghost use Rattle.om_text.specs.Form.{IsInForm};
 ghost use Rattle.om_text.specs.Fault.{IsFault};
-ghost use Rattle.om_text.specs.Reading.{step, advance, after_body, after_end, is_closed, outcome};
-ghost use Rattle.om_text.specs.Added.{Gives, IsSmall, IsSmallBody, IsSmallState, fault_at, IsWhole, IsFront};
+ghost use Rattle.om_text.specs.Reading.{step, advance, takes_settings, finished_draft, open_step, after_body, after_end, is_closed, outcome};
+ghost use Rattle.om_text.specs.Added.{Gives, IsSmall, IsSmallBody, IsSmallState, has_all_values, fault_at, IsWhole, IsFront};
 ghost use Rattle.om_text.specs.Part.{IsPart};
 ghost use Rattle.om_text.specs.Parsed.{ComesTo, IfLine};
 
@@ -17,11 +18,18 @@ use super::body::Body;
 use super::body_lines::{has_length_line, has_signs_line, with_line};
 use super::code::Code;
 use super::document::Document;
+use super::draft::Draft;
 use super::kind::kind_line;
 use super::lines::{before_comment, first_line, first_word, has_no_words, is_only_word, same};
 use super::parse_error::ParseError;
 use super::refusal::Refusal;
+use super::revlex::values_from_revlex;
+use super::setting::Setting;
+use super::setting_lines::{begins_as_setting, setting_line};
+use super::stage::Stage;
 use super::state::State;
+use super::version::Version;
+use om_signs::{NoMemory, RawMap};
 use om_subsets::Subset;
 use std::alloc::Global;
 
@@ -31,12 +39,19 @@ fn is_end(line: &[u8]) -> bool
     is_only_word(line, b"end")
 }
 
-fn is_version(line: &[u8]) -> bool
-    ensures { result ≡ is_line (runs line.now) version_line }
+/// The version that a first line names.
+fn version_of(line: &[u8]) -> Option<Version>
+    ensures { result ≡ version_of (runs line.now) }
 {
-    match first_word(line) {
-        Some((first, rest)) => same(first, b"om") && is_only_word(rest, b"1"),
-        None => false,
+    let (first, rest) = first_word(line)?;
+    if !same(first, b"om") {
+        None
+    } else if is_only_word(rest, b"1") {
+        Some(Version::One)
+    } else if is_only_word(rest, b"2") {
+        Some(Version::Two)
+    } else {
+        None
     }
 }
 
@@ -51,30 +66,109 @@ fn is_full(body: &Body, elements: u8) -> bool
     }
 }
 
-fn close(document: Document) -> Result<State, Refusal>
-    requires { IsSmall document }
-    ensures { Gives result (after_end document) }
+/// A body with its values in lexicographic order.
+fn in_lexicographic_order(setting: Setting, body: Body) -> Result<Body, NoMemory>
+    requires small { IsSmallBody body }
+    requires full { has_all_values body ≡ true }
+    ensures { IfOk result (λ b. b ≡ in_lexicographic_order setting body) }
 {
-    if is_full(&document.body, document.elements) {
-        Ok(State::Closed(document))
+    match (setting, body) {
+        (Setting::Revlex, Body::Chirotope(map)) => {
+            let signs = values_from_revlex(&map)?;
+            Ok(Body::Chirotope(RawMap {
+                rank: map.rank,
+                elements: map.elements,
+                signs,
+            }))
+        }
+        (_, body) => Ok(body),
+    }
+}
+
+/// The document of a draft that has all its lines.
+fn finished(draft: Draft) -> Result<Document, NoMemory>
+    requires small { IsSmall draft.document }
+    requires full { is_complete draft.document ≡ true }
+    ensures { IfOk result (λ d. d ≡ finished_draft draft) }
+{
+    let Document {
+        elements,
+        body,
+        names,
+    } = draft.document;
+    let body = in_lexicographic_order(draft.setting, body)?;
+    Ok(Document {
+        elements,
+        body,
+        names,
+    })
+}
+
+fn close(draft: Draft) -> Result<State, Refusal>
+    requires { IsSmall draft.document }
+    ensures { Gives result (after_end draft) }
+{
+    if is_full(&draft.document.body, draft.document.elements) {
+        Ok(State::Closed(finished(draft)?))
     } else {
         Err(Refusal::Line(Code::Few))
     }
 }
 
-fn body_line(document: Document, line: &[u8]) -> Result<State, Refusal>
-    requires { IsSmall document }
-    ensures { Gives result (after_body document (runs line.now)) }
+fn body_line(draft: Draft, line: &[u8]) -> Result<State, Refusal>
+    requires { IsSmall draft.document }
+    ensures { Gives result (after_body draft (runs line.now)) }
 {
+    let Draft {
+        document,
+        setting,
+        ..
+    } = draft;
     if !has_signs_line(&document.body, line) {
         return Err(Refusal::Line(Code::Sign));
     }
     if !has_length_line(&document.body, document.elements, line) {
         return Err(Refusal::Line(Code::Length));
     }
-    let Document { elements, body } = document;
-    let body = with_line(body, elements, line)?;
-    Ok(State::Open(Document { elements, body }))
+    let Document {
+        elements,
+        body,
+        names,
+    } = document;
+    let body = with_line(setting, body, elements, line)?;
+    Ok(State::Open(Draft {
+        document: Document {
+            elements,
+            body,
+            names,
+        },
+        setting,
+        stage: Stage::Body,
+    }))
+}
+
+/// Whether a line that begins as a setting line does is one, or at fault.
+fn takes_settings(stage: Stage) -> bool
+    ensures { result ≡ takes_settings stage }
+{
+    match stage {
+        Stage::Names | Stage::Choice | Stage::Full => true,
+        Stage::Body => false,
+    }
+}
+
+/// The state after one more line with words of a document that is still open.
+fn open_line(alloc: Global, draft: Draft, line: &[u8]) -> Result<State, Refusal>
+    requires { IsSmall draft.document }
+    ensures { Gives result (open_step draft (runs line.now)) }
+{
+    if takes_settings(draft.stage) && begins_as_setting(line) {
+        setting_line(alloc, draft, line)
+    } else if is_end(line) {
+        close(draft)
+    } else {
+        body_line(draft, line)
+    }
 }
 
 /// The state after one more line with words.
@@ -83,24 +177,15 @@ fn step(alloc: Global, state: State, line: &[u8]) -> Result<State, Refusal>
     ensures { Gives result (step state (runs line.now)) }
 {
     match state {
-        State::Start => {
-            if is_version(line) {
-                Ok(State::Versioned)
-            } else {
-                Err(Refusal::Line(Code::Version))
-            }
-        }
-        State::Versioned => match kind_line(alloc, line) {
+        State::Start => match version_of(line) {
+            Some(version) => Ok(State::Versioned(version)),
+            None => Err(Refusal::Line(Code::Version)),
+        },
+        State::Versioned(version) => match kind_line(alloc, version, line) {
             Ok(state) => Ok(state),
             Err(code) => Err(Refusal::Line(code)),
         },
-        State::Open(document) => {
-            if is_end(line) {
-                close(document)
-            } else {
-                body_line(document, line)
-            }
-        }
+        State::Open(draft) => open_line(alloc, draft, line),
         State::Closed(_) => Err(Refusal::Line(Code::After)),
     }
 }
@@ -139,8 +224,8 @@ fn unless_over(state: State, stops: bool) -> Result<State, Document>
     match state {
         State::Closed(document) => Err(document),
         State::Start => Ok(State::Start),
-        State::Versioned => Ok(State::Versioned),
-        State::Open(document) => Ok(State::Open(document)),
+        State::Versioned(version) => Ok(State::Versioned(version)),
+        State::Open(draft) => Ok(State::Open(draft)),
     }
 }
 
@@ -189,12 +274,19 @@ fn whole(alloc: Global, bytes: &[u8]) -> Result<Document, ParseError>
 ///
 /// The bytes are split into lines at line feeds. In a line, everything from the first `#` on is a comment, and the words
 /// are the longest runs of bytes other than space, tab and carriage return; a line without words is passed over. The lines
-/// with words are `om 1`, a kind line (`chirotope r n`, `circuits n`, `cocircuits n`, `covectors n`, `wiring n` or
-/// `points n`), body lines, and `end`. The body of a map or a list has the signs `+`, `-` and `0`: a map exactly one for
-/// each set of `r` elements, joined over all body lines; a list one member of `n` signs a line, and a repeated line adds
-/// nothing. A wiring has words `i-j`, two numbers of at most three digits without a leading zero, one block each. Points
-/// have exactly `n` lines of three numbers of a size of at most [`om_signs::MAX_COORDINATE`]: decimal digits without a
-/// leading zero, with or without a `-` before them, and `0` without one.
+/// with words are `om 1` or `om 2`, a kind line (`chirotope r n`, `circuits n`, `cocircuits n`, `covectors n`, `wiring n` or
+/// `points n`), after `om 2` setting lines, body lines, and `end`. The body of a map or a list has the signs `+`, `-` and
+/// `0`: a map exactly one for each set of `r` elements, joined over all body lines; a list one member of `n` signs a line,
+/// and a repeated line adds nothing. A wiring has words `i-j`, two numbers of at most three digits without a leading zero,
+/// one block each. Points have exactly `n` lines of three numbers of a size of at most [`om_signs::MAX_COORDINATE`]: decimal
+/// digits without a leading zero, with or without a `-` before them, and `0` without one.
+///
+/// The setting lines are `names` with a [`Name`](crate::Name) for each element, no two of them equal; and then, for a map,
+/// `order lex` or `order revlex`, and for a list `half`. Each may be left out. After `order revlex` the values of a map stand
+/// in reverse lexicographic order: a set stands before another where, at the last place in which their increasing lists
+/// differ, it has the smaller element. The document has them in lexicographic order. After `half` each line of a list stands
+/// for its member and then for the negative of it. A line after the first body line is no setting line, whatever it begins
+/// with.
 ///
 /// # Errors
 ///

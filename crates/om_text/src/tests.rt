@@ -3,7 +3,7 @@
 use super::lines::{before_comment, first_line, first_word, has_no_words, same};
 use super::words::{plain_number, signed_number, unsigned_number};
 use super::*;
-use om_signs::{MAX_BLOCKS, MAX_INPUT, MAX_MULTIPLICITY, MAX_WEIGHT};
+use om_signs::{MAX_BLOCKS, MAX_INPUT, MAX_MEMBERS, MAX_MULTIPLICITY, MAX_WEIGHT};
 use std::alloc::Global;
 use std::process::Abort;
 use std::test::Fail;
@@ -14,7 +14,8 @@ const FAULTS_OF_HEADINGS: &str = " = 1 Missing
 # = 2 Missing
 om 1/ = 2 Missing
 om 1/chirotope 3 4/ = 3 Missing
-om 2 = 1 Version
+om 3 = 1 Version
+om 2 = 2 Missing
 om 1 1 = 1 Version
 om\x0b1 = 1 Version
 om\x001 = 1 Version
@@ -105,8 +106,84 @@ om 1/points 1/end/realizable = 3 Few
 om 1/chirotope 1 1/+/realizable = 4 Sign
 realizable/om 1 = 1 Version";
 
+/// Inputs of version 2 and the canonical forms of their documents.
+const FORMS_IN_TWO: &str =
+    "om 2/chirotope 2 4/names e1 e2 e3 e4/order revlex/0++000/end = om 1/chirotope 2 4/0+0+00/end/
+om 2/chirotope 3 5/order revlex/000+- 00000/end = om 1/chirotope 3 5/00-000+000/end/
+om 2/chirotope 1 3 # two/# names a b c d/ order\trevlex\r//+-/0/end/ = om 1/chirotope 1 3/+-0/end/
+om 2/chirotope 2 4/order lex/0+0+00/end = om 1/chirotope 2 4/0+0+00/end/
+om 2/chirotope 2 4/0+0+00/end = om 1/chirotope 2 4/0+0+00/end/
+om 2/chirotope 0 1/names order/order revlex/-/end = om 1/chirotope 0 1/-/end/
+om 2/circuits 4/names e1 e2 e3 e4/half/+-+-/end = om 1/circuits 4/-+-+/+-+-/end/
+om 2/circuits 3/half/+-0/0+-/end = om 1/circuits 3/-+0/0-+/0+-/+-0/end/
+om 2/cocircuits 2/half/+-/00/-+/0 +/+-/00/end = om 1/cocircuits 2/-+/0-/00/0+/+-/end/
+om 2/covectors 1/names e1/half/0/+/end = om 1/covectors 1/-/0/+/end/
+om 2/covectors 2/names a b/+-/end = om 1/covectors 2/+-/end/
+om 2/circuits 3/half/end = om 1/circuits 3/end/
+om 2/wiring 3/names names half end/1-2 2-3/end = om 1/wiring 3/1-2/2-3/end/
+om 2/points 1/names _/1 0 0/end = om 1/points 1/1 0 0/end/";
+
+/// Inputs whose first fault is a setting line.
+const FAULTS_OF_SETTINGS: &str = "om 2/chirotope 3 4/names a b c/++++/end = 3 Setting
+om 2/chirotope 3 4/names a b c d e/ = 3 Setting
+om 2/chirotope 3 4/names/ = 3 Setting
+om 2/chirotope 3 4/names a b c a/ = 3 Setting
+om 2/wiring 2/names a Abcdefghij_012345/ = 3 Setting
+om 2/wiring 2/names a b-c/ = 3 Setting
+om 2/wiring 2/names a \u{e4}/ = 3 Setting
+om 2/wiring 1/names a/names a/ = 4 Setting
+om 2/circuits 1/half/half/ = 4 Setting
+om 2/circuits 1/half/names a/ = 4 Setting
+om 2/circuits 1/order lex/ = 3 Setting
+om 2/chirotope 0 1/names a/half/ = 4 Setting
+om 2/wiring 3/half/ = 3 Setting
+om 2/points 3/order lex/ = 3 Setting
+om 2/chirotope 2 3/order revlex/order lex/ = 4 Setting
+om 2/chirotope 2 3/order/ = 3 Setting
+om 2/chirotope 2 3/order lex lex/ = 3 Setting
+om 2/chirotope 2 3/order Revlex/ = 3 Setting
+om 2/circuits 1/half +/ = 3 Setting";
+
+/// Inputs with a line that begins as a setting line does where it is a body line, and other faults of version 2.
+const OTHER_FAULTS_IN_TWO: &str = "om 1/circuits 2/half/end = 3 Sign
+om 1/chirotope 1 2/order revlex/ = 3 Sign
+om 1/wiring 2/names a b/ = 3 Block
+om 1/points 1/names a/ = 3 Number
+om 2/circuits 2/+-/half/end = 4 Sign
+om 2/circuits 2/half/+-/names a b/ = 5 Sign
+om 2/chirotope 1 2/+/order lex/ = 4 Sign
+om 2/wiring 2/1-2/names a b/ = 4 Block
+om 2/points 2/1 0 0/names a b/ = 4 Number
+om 2/circuits 2/halfs/ = 3 Sign
+om 2/circuits 2/half/+/ = 4 Length
+om 2/chirotope 1 2/order revlex/+++/ = 4 Many
+om 2/chirotope 1 2/order revlex/+/end = 5 Few
+om 2/chirotope 0 1/names a/+/end/names a = 6 After
+om 2/vectors 3 = 2 Kind
+om 2/circuits 2/names a b/half/ = 5 Missing
+om 2 2 = 1 Version
+om 02 = 1 Version";
+
+/// Inputs and the names that they give.
+const NAMES: &str = "om 2/wiring 3/names a half end/end = a half end
+om 2/chirotope 0 1/names names/order lex/+/end = names
+om 2/circuits 2/names Abcdefghij_01234 _/half/end = Abcdefghij_01234 _
+om 2/covectors 2/names b B/+-/end = b B
+om 2/covectors 2/half/+-/end = 
+om 1/wiring 3/end = ";
+
+/// How many lines fewer than half of the greatest number of members a list of halves has, no two of them equal or opposite,
+/// which lines come behind them, and the line at fault, less the number of those lines, with its code.
+const ENDS_OF_HALVES: [(usize, &str, usize, &str); 5] = [
+    (0, "", 4, "Missing"),
+    (0, "-+++++++++++++++/", 5, "Missing"),
+    (0, "+000000000000000/", 4, "Many"),
+    (0, "0000000000000000/", 4, "Many"),
+    (1, "0000000000000000/+000000000000000/", 5, "Many"),
+];
+
 /// The bytes of a text.
-fn bytes_of(alloc: Global, text: &str) -> Result<Vec<u8>, Fail> {
+pub fn bytes_of(alloc: Global, text: &str) -> Result<Vec<u8>, Fail> {
     let mut bytes = Vec::new(alloc);
     for byte in text.as_bytes() {
         bytes.push(if *byte == b'/' { b'\n' } else { *byte })?;
@@ -170,6 +247,79 @@ fn inputs(rt: HostRuntime) -> Result<(), Fail> {
     are_read(&rt, rt.alloc(), FAULTS_OF_BODIES)?;
     are_read(&rt, rt.alloc(), FAULTS_OF_POINTS)?;
     are_read(&rt, rt.alloc(), CANONICAL_FORMS)
+}
+
+#[test]
+fn inputs_in_version_two(rt: HostRuntime) -> Result<(), Fail> {
+    are_read(&rt, rt.alloc(), FORMS_IN_TWO)?;
+    are_read(&rt, rt.alloc(), FAULTS_OF_SETTINGS)?;
+    are_read(&rt, rt.alloc(), OTHER_FAULTS_IN_TWO)
+}
+
+/// The names of a document, with single spaces.
+fn joined_names(alloc: Global, bytes: &[u8]) -> Result<Vec<u8>, Fail> {
+    if MAX_INPUT < bytes.len() {
+        return Err(Fail::new("too long"));
+    }
+    let document = match parse(alloc, bytes) {
+        Ok(document) => document,
+        Err(error) => return fault_of(alloc, error),
+    };
+    let mut joined = Vec::new(alloc);
+    for name in document.names.as_slice() {
+        if !joined.is_empty() {
+            joined.push(b' ')?;
+        }
+        joined.extend_from_slice(name.as_bytes())?;
+    }
+    Ok(joined)
+}
+
+#[test]
+fn names_of_elements(rt: HostRuntime) -> Result<(), Fail> {
+    for row in NAMES.split('\n') {
+        let (text, answer) = row.split_once(" = ").ok_or("no answer")?;
+        let bytes = bytes_of(rt.alloc(), text)?;
+        let found = joined_names(rt.alloc(), bytes.as_slice())?;
+        assert!(rt; found.as_slice() == answer.as_bytes(), "{row}");
+    }
+    Ok(())
+}
+
+/// A list of halves on 16 elements with this many lines, no two of them equal or opposite, and the lines behind them.
+fn halves(alloc: Global, count: usize, last: &str) -> Result<Vec<u8>, Fail> {
+    let mut bytes = bytes_of(alloc, "om 2/cocircuits 16/half/")?;
+    for number in 0..count {
+        bytes.push(b'+')?;
+        for bit in 0..15u32 {
+            bytes.push(if number >> bit & 1 == 1 { b'+' } else { b'-' })?;
+        }
+        bytes.push(b'\n')?;
+    }
+    let behind = bytes_of(alloc, last)?;
+    bytes.extend_from_slice(behind.as_slice())?;
+    Ok(bytes)
+}
+
+#[test]
+fn halves_past_the_greatest_number_of_members(rt: HostRuntime) -> Result<(), Fail> {
+    for (fewer, last, line, code) in ENDS_OF_HALVES {
+        let count = MAX_MEMBERS / 2 - fewer;
+        let bytes = halves(rt.alloc(), count, last)?;
+        let found = reading(rt.alloc(), bytes.as_slice())?;
+        let fault = format!(in rt.alloc(); "{} {code}", count + line)?;
+        assert!(rt; found.as_slice() == fault.as_bytes(), "{fault}");
+    }
+    Ok(())
+}
+
+#[test]
+fn halves_up_to_the_greatest_number_of_members(rt: HostRuntime) -> Result<(), Fail> {
+    let bytes = halves(rt.alloc(), MAX_MEMBERS / 2, "end")?;
+    let found = reading(rt.alloc(), bytes.as_slice())?;
+    // two lines, a line for each member, and the line `end`
+    assert!(rt; found.len() == 5 + 14 + 17 * MAX_MEMBERS + 4);
+    Ok(())
 }
 
 #[test]

@@ -1,0 +1,24 @@
+//! Values in reverse lexicographic order.
+
+ghost use Rattle.std.specs.Prelude.{◌≡◌, ◌≤◌, IfOk, length};
+ghost use Rattle.om_signs.specs.declared.limits.TheConstants.{MAX_ELEMENTS};
+ghost use Rattle.om_subsets.specs.Subsets.{choose};
+ghost use Rattle.om_text.specs.Settings.{values_from_revlex};
+
+use om_signs::{List, NoMemory, RawMap, Sign};
+use om_subsets::Subset;
+
+/// The values of a map in lexicographic order of the sets, where they stand in reverse lexicographic order.
+pub fn values_from_revlex(map: &RawMap) -> Result<List<Sign>, NoMemory>
+    requires rank { map.now.rank ≤ map.now.elements }
+    requires elements { map.now.elements ≤ MAX_ELEMENTS }
+    requires signs { length map.now.signs ≡ choose map.now.elements map.now.rank }
+    ensures { IfOk result (λ signs. signs ≡ values_from_revlex map.now) }
+{
+    let mut signs = map.signs.empty_like();
+    for place in 0..Subset::choose(map.elements, map.rank) {
+        let subset = Subset::unrank(place, map.rank, map.elements);
+        signs.push(map.signs.at(subset.rank_revlex() as usize))?;
+    }
+    Ok(signs)
+}

@@ -1,0 +1,10 @@
+/// How the body lines of a document are read.
+#[derive(Clone, Copy)]
+pub enum Setting {
+    /// The values of a map stand in lexicographic order, and each line of a list is a member.
+    Plain,
+    /// The values of a map stand in reverse lexicographic order.
+    Revlex,
+    /// Each line of a list stands for its member and for the negative of it.
+    Half,
+}
