@@ -1,13 +1,12 @@
 -- A document's value has the forms of documents, within the limits.
 --
 -- Main results: document_form
-use Rattle.std.proofs.Common.{◌≡◌, ◌≢◌, arith, ℕ, ◌<◌, List, [], ◌∷◌, true, not, ◌&&◌, inl, inr, length, map, refl, sym, ap, subst, ◌∙◌}
-use Rattle.std.specs.Prelude.{ℤ, Option, Some, None, is_some, unwrap_or, IfSome, All, AllPairs, filter, nat_eq, nat_le, slice_index_or}
+use Rattle.std.proofs.Common.{◌≡◌, ℕ, ◌<◌, List, [], ◌∷◌, true, not, ◌&&◌, length, map, refl, sym, ap, subst, ◌∙◌}
+use Rattle.std.specs.Prelude.{ℤ, Option, Some, None, is_some, unwrap_or, IfSome, All, nat_eq, nat_le, slice_index_or}
 use Rattle.std.specs.List.{list_all, concat, flat_map, before_first, after_first}
 use Rattle.std.proofs.lemmas.Bool.{leb-true, eqb-true}
 use Rattle.std.proofs.lemmas.List.{length-map}
 use Rattle.std.proofs.lemmas.List.Elements.{All-nil, All-cons, All-head, All-tail, All-append, All-filter}
-use Rattle.std.proofs.lemmas.List.Kept.{AllPairs-cons, AllPairs-filter}
 use Rattle.om_signs.specs.declared.limits.TheConstants.{MAX_ELEMENTS, MAX_MEMBERS, MAX_BLOCKS}
 use Rattle.om_signs.specs.declared.block.Block.{Block}
 use Rattle.om_signs.specs.declared.raw_map.RawMap.{RawMap}
