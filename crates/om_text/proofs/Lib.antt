@@ -1,5 +1,6 @@
 pub mod Distinct
 pub mod Filling
+pub mod SettingLines
 pub mod Course
 pub mod Completion
 pub mod Outcome
