@@ -1,6 +1,8 @@
 pub mod Distinct
 pub mod Filling
 pub mod SettingLines
+pub mod NameForms
+pub mod RevlexValues
 pub mod Course
 pub mod Completion
 pub mod Outcome
@@ -17,6 +19,7 @@ pub mod Joined
 pub mod Small
 mod Samples
 mod ListSamples
+mod SettingSamples
 mod PointSamples
 mod BlockSamples
 pub mod Printing

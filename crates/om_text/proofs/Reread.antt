@@ -26,7 +26,10 @@ use Rattle.om_text.specs.Rows.{distinct, sorted}
 use Rattle.om_text.specs.Members.{members_of, with_members}
 use Rattle.om_text.specs.Blocks.{block_of, block_on, are_blocks, blocks_on}
 use Rattle.om_text.specs.Points.{point_of, point_on}
-use Rattle.om_text.specs.Document.{IsDocument, IsSpelled, version_line, end_line, are_signs, signs_of_line, is_body_line, all_signs, filled, has_room, is_complete}
+use Rattle.om_text.specs.declared.setting.Setting.TheVariants.{Plain}
+use Rattle.om_text.specs.declared.version.Version.TheVariants.{One}
+use Rattle.om_text.specs.Settings.{version_one_line, finished}
+use Rattle.om_text.specs.Document.{IsDocument, IsSpelled, end_line, are_signs, signs_of_line, members_of_line, is_body_line, all_signs, filled, has_room, is_complete}
 use Rattle.om_text.specs.Form.{IsInForm, AreMembersOn, IsShort, IsCoordinate, IsPoint}
 use Rattle.om_text.specs.Print.{cut, sign_lines, member_lines, block_text, block_lines, spaced, point_lines, kind_text, body_lines, printed_lines, printed, sorted_document}
 use Rattle.om_text.proofs.BlockWords.{block_word}
@@ -95,9 +98,9 @@ member_rows : (n : ℕ) (ms : List (List Sign)) → 1 ≤ n → All (λ x. lengt
 member_rows n [] l a = no_rows
 member_rows n (x ∷ xs) l a = one_row (map byte_of x) (member_lines xs) (bytes_are_signs x) (any_byte n x l (All-head (λ x. length x ≡ n) x xs a)) (member_rows n xs l (All-tail (λ x. length x ≡ n) x xs a))
 
-members_read : (ms : List (List Sign)) → map signs_of_line (single (member_lines ms)) ≡ ms
+members_read : (ms : List (List Sign)) → flat_map (members_of_line Plain) (single (member_lines ms)) ≡ ms
 members_read [] = refl
-members_read (x ∷ xs) = ap (λ r. map sign_of_byte r ∷ map signs_of_line (single (member_lines xs))) (append-nil (map byte_of x)) ∙ ap (λ r. r ∷ map signs_of_line (single (member_lines xs))) (signs_of_bytes_of x) ∙ ap (λ r. x ∷ r) (members_read xs)
+members_read (x ∷ xs) = ap (λ r. map sign_of_byte r ∷ flat_map (members_of_line Plain) (single (member_lines xs))) (append-nil (map byte_of x)) ∙ ap (λ r. r ∷ flat_map (members_of_line Plain) (single (member_lines xs))) (signs_of_bytes_of x) ∙ ap (λ r. x ∷ r) (members_read xs)
 
 members_long : (n : ℕ) (ms : List (List Sign)) → All (λ x. length x ≡ n) ms → list_all (λ l. are_signs l && nat_eq (length (concat l)) n && true && true) (single (member_lines ms)) ≡ true
 members_long n [] a = refl
@@ -195,7 +198,7 @@ record IsReread (d : Document) : Type 0 where
   body_words : wordful (body_lines d.body) ≡ body
   body_one_line : list_all is_one_line (body_lines d.body) ≡ true
   each : list_all (is_body_line head) body ≡ true
-  value : filled head body ≡ sorted_document d
+  value : filled Plain head body ≡ sorted_document d
   room : has_room (sorted_document d) ≡ true
   complete : is_complete (sorted_document d) ≡ true
 
@@ -204,25 +207,32 @@ reread_one_line d p =
     let t : list_all is_one_line (body_lines d.body ++ codes "end" ∷ []) ≡ true = list_all-append is_one_line (body_lines d.body) (codes "end" ∷ []) ∙ rw p.body_one_line refl in
     rw p.kind_one_line t
 
-reread_words : (d : Document) → (p : IsReread d) → wordful (printed_lines d) ≡ version_line ∷ p.kind_words ∷ (p.body ++ end_line ∷ [])
+reread_words : (d : Document) → (p : IsReread d) → wordful (printed_lines d) ≡ version_one_line ∷ p.kind_words ∷ (p.body ++ end_line ∷ [])
 reread_words d p =
-    ap (λ x. version_line ∷ filter has_any (x ∷ map words (body_lines d.body ++ codes "end" ∷ []))) p.kind
-    ∙ ap (λ b. version_line ∷ cond b (p.kind_words ∷ wordful (body_lines d.body ++ codes "end" ∷ [])) (wordful (body_lines d.body ++ codes "end" ∷ []))) p.any
-    ∙ ap (λ x. version_line ∷ p.kind_words ∷ x) (wordful-append (body_lines d.body) (codes "end" ∷ []) ∙ ap (λ x. x ++ end_line ∷ []) p.body_words)
+    ap (λ x. version_one_line ∷ filter has_any (x ∷ map words (body_lines d.body ++ codes "end" ∷ []))) p.kind
+    ∙ ap (λ b. version_one_line ∷ cond b (p.kind_words ∷ wordful (body_lines d.body ++ codes "end" ∷ [])) (wordful (body_lines d.body ++ codes "end" ∷ []))) p.any
+    ∙ ap (λ x. version_one_line ∷ p.kind_words ∷ x) (wordful-append (body_lines d.body) (codes "end" ∷ []) ∙ ap (λ x. x ++ end_line ∷ []) p.body_words)
 
 reread : (d : Document) → IsReread d → IsSpelled (wordful (printed_lines d)) (sorted_document d)
 reread d p = record {
+  first_line = version_one_line;
+  version = One;
   kind_line = p.kind_words;
   head = p.head;
+  settings = [];
+  names = [];
+  setting = Plain;
   body = p.body;
   lines = reread_words d p;
+  numbered = refl;
   heading = p.opens;
   elements = p.elements;
   rank = p.rank;
+  set = refl;
   each = p.each;
   room = ap has_room p.value ∙ p.room;
   complete = ap is_complete p.value ∙ p.complete;
-  value = sym p.value;
+  value = ap (finished [] Plain) (sym p.value);
 }
 
 -- ---- each kind
@@ -237,8 +247,8 @@ body_signs : (r n : ℕ) (ls : List (List (List ℕ))) → list_all are_signs ls
 body_signs r n [] h = refl
 body_signs r n (l ∷ ls) h = let a = both (are_signs l) (list_all are_signs ls) h in rw (a.0, body_signs r n ls a.1) refl
 
-map_reread : (n r : ℕ) (xs : List Sign) → IsInForm (record { elements = n; body = Chirotope (record { rank = r; elements = n; signs = xs }) }) → IsReread (record { elements = n; body = Chirotope (record { rank = r; elements = n; signs = xs }) })
-map_reread n r xs f =
+map_reread : (n r : ℕ) (xs : List Sign) (names : List (List ℕ)) → IsInForm (record { elements = n; body = Chirotope (record { rank = r; elements = n; signs = xs }); names = names }) → IsReread (record { elements = n; body = Chirotope (record { rank = r; elements = n; signs = xs }); names = names })
+map_reread n r xs names f =
     let hr = number_word r (numbers_small n r f.high f.body.rank) in
     let hn = number_word n (numbers_small n n f.high (omega arith)) in
     let c = map_rows xs in
@@ -256,7 +266,7 @@ map_reread n r xs f =
       body_words = c.rows.lines_words;
       body_one_line = c.rows.one_line;
       each = body_signs r n (single (sign_lines xs)) c.rows.signs;
-      value = ap (λ xs. record { elements = n; body = Chirotope (record { rank = r; elements = n; signs = xs }) }) values;
+      value = ap (λ xs. record { elements = n; body = Chirotope (record { rank = r; elements = n; signs = xs }); names = [] }) values;
       room = le-leb (length xs) (choose n r) (let a = f.body.signs in omega arith);
       complete = eq-eqb (length xs) (choose n r) f.body.signs;
     }
@@ -268,7 +278,7 @@ record AreReread (n : ℕ) (ms : List (List Sign)) : Type 0 where
   rank : nat_le 0 n ≡ true
   rows : AreRows (member_lines (sorted ms))
   each : list_all (λ l. are_signs l && nat_eq (length (concat l)) n && true && true) (single (member_lines (sorted ms))) ≡ true
-  value : distinct (map signs_of_line (single (member_lines (sorted ms)))) ≡ sorted ms
+  value : distinct (flat_map (members_of_line Plain) (single (member_lines (sorted ms)))) ≡ sorted ms
   room : nat_le (length (sorted ms)) MAX_MEMBERS ≡ true
 
 members_reread : (n : ℕ) (ms : List (List Sign)) → 1 ≤ n → n ≤ MAX_ELEMENTS → AreMembersOn n ms → AreReread n ms
@@ -293,10 +303,10 @@ kind_of_list (Wiring bs) = kinds.Wiring
 kind_of_list (Points ps) = kinds.Points
 kind_of_list (Chirotope m) = kinds.Chirotope
 
-body_reread : (n : ℕ) (b : Body) → IsInForm (record { elements = n; body = b }) → IsReread (record { elements = n; body = b })
+body_reread : (n : ℕ) (b : Body) (names : List (List ℕ)) → IsInForm (record { elements = n; body = b; names = names }) → IsReread (record { elements = n; body = b; names = names })
 unfolding kind_of_list
-body_reread n (Chirotope m) f = subst (λ e. IsReread (record { elements = e; body = Chirotope m })) f.body.elements (map_reread m.elements m.rank m.signs (subst (λ e. IsInForm (record { elements = e; body = Chirotope m })) (sym f.body.elements) f))
-body_reread n (Wiring bs) f =
+body_reread n (Chirotope m) names f = subst (λ e. IsReread (record { elements = e; body = Chirotope m; names = names })) f.body.elements (map_reread m.elements m.rank m.signs names (subst (λ e. IsInForm (record { elements = e; body = Chirotope m; names = names })) (sym f.body.elements) f))
+body_reread n (Wiring bs) names f =
     let p = blocks_reread bs f.body.short in
     let k = number_word n (numbers_small n n f.high (omega arith)) in
     record {
@@ -312,11 +322,11 @@ body_reread n (Wiring bs) f =
       body_words = p.lines_words;
       body_one_line = p.one_line;
       each = p.each;
-      value = ap (λ bs. record { elements = n; body = Wiring bs }) p.value;
+      value = ap (λ bs. record { elements = n; body = Wiring bs; names = [] }) p.value;
       room = le-leb (length bs) MAX_BLOCKS f.body.few;
       complete = refl;
     }
-body_reread n (Points ps) f =
+body_reread n (Points ps) names f =
     let p = points_reread ps f.body.each in
     let k = number_word n (numbers_small n n f.high (omega arith)) in
     record {
@@ -332,11 +342,11 @@ body_reread n (Points ps) f =
       body_words = p.lines_words;
       body_one_line = p.one_line;
       each = p.each;
-      value = ap (λ ps. record { elements = n; body = Points ps }) p.value;
+      value = ap (λ ps. record { elements = n; body = Points ps; names = [] }) p.value;
       room = le-leb (length ps) n (let c = f.body.count in omega arith);
       complete = eq-eqb (length ps) n f.body.count;
     }
-body_reread n b f =
+body_reread n b names f =
     let p = members_reread n (members_of b) f.low f.high f.body in
     record {
       kind_words = kind_name b ∷ decimal n ∷ [];
@@ -351,17 +361,17 @@ body_reread n b f =
       body_words = p.rows.lines_words;
       body_one_line = p.rows.one_line;
       each = p.each;
-      value = ap (λ ms. record { elements = n; body = with_members b ms }) p.value;
+      value = ap (λ ms. record { elements = n; body = with_members b ms; names = [] }) p.value;
       room = p.room;
       complete = refl;
     }
 
 -- the lines of the canonical form of a document are lines, and spell this one with its members sorted
 pub printed_one_line : (d : Document) → IsInForm d → list_all is_one_line (printed_lines d) ≡ true
-printed_one_line d f = reread_one_line d (body_reread d.elements d.body f)
+printed_one_line d f = reread_one_line d (body_reread d.elements d.body d.names f)
 
 pub printed_spelled : (d : Document) → IsInForm d → IsSpelled (wordful (printed_lines d)) (sorted_document d)
-printed_spelled d f = reread d (body_reread d.elements d.body f)
+printed_spelled d f = reread d (body_reread d.elements d.body d.names f)
 
 -- the canonical form of a document is a document, and its value is this one with its members sorted
 pub printed_document : (d : Document) → IsInForm d → IsDocument (lines (printed d)) (sorted_document d)
