@@ -1,4 +1,7 @@
 -- The nonzero brackets among the first triples in lexicographic order.
+--
+-- Main definitions: nonzero_below, IsMatching
+-- Main results: below_none, below_all, below_more, more_nonzero, more_zero, below_length, below_take, next_nonzero, more_length, bracket_triples, next_within, one_matched, none_matched, first_other, all_matched
 use Rattle.std.specs.Prelude.{ℕ, ◌≡◌, ◌+◌, ◌<◌, ◌≤◌, true, false, List, [], ◌∷◌, ◌++◌, length, map, filter, cond, take, drop, slice_get, Some, All}
 use Rattle.std.proofs.Common.{refl, sym, ◌∙◌, ap, arith}
 use Rattle.std.proofs.Math.ListN.{get_or}

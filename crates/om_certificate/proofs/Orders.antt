@@ -1,4 +1,7 @@
 -- Natural numbers under multiplication and whole numbers under addition, as values that combine.
+--
+-- Main definitions: products, sums
+-- Main results: less_sum, less_product
 use Rattle.std.specs.Prelude.{ℕ, ◌+◌, ◌*◌, ◌<◌, ◌≤◌, ℤ, pos, ◌+ℤ◌, ◌<ℤ◌, ◌≤ℤ◌}
 use Rattle.std.proofs.Common.{arith}
 use Rattle.std.proofs.Math.Nat.{mul_assoc, mul_comm}

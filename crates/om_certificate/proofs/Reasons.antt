@@ -1,4 +1,6 @@
 -- Reasons of refusals from the values that the code has.
+--
+-- Main results: vectors_refused, weights_refused, weight_of_triple, all_balanced, unbalanced_refused
 use Rattle.std.specs.Prelude.{ℕ, ◌≡◌, ◌≢◌, ◌<◌, List, length}
 use Rattle.std.proofs.Math.ListN.{get_or}
 use Rattle.om_subsets.specs.Subsets.{choose, rank_of}

@@ -2,6 +2,9 @@
 -- combine to at most those of its big side, and in one entry to less, some place doesn't stand equally often on both.
 --
 -- Main result: unbalanced.
+--
+-- Main definitions: AnyByRecursion, tally, side, IsBelow, IsOrdered, IsStrict
+-- Main results: unbalanced
 use Rattle.std.specs.Prelude.{ℕ, ◌≡◌, ◌+◌, ◌*◌, ◌<◌, ◌≤◌, List, [], ◌∷◌, ◌⊎◌}
 use Rattle.std.proofs.Common.{sym, ◌∙◌, ap, arith, inl, inr, subst}
 use Rattle.std.specs.List.{AllByRecursion as Each}

@@ -1,4 +1,6 @@
 -- Increasing triples and their places in lexicographic order.
+--
+-- Main results: place_below, triple_at_place, triple_of_place, place_of_place, same_triple, same-place, triples_room, triple_elements
 use Rattle.std.specs.Prelude.{ℕ, ◌+◌, ◌-◌, ◌≡◌, ◌<◌, ◌≤◌, List, [], ◌∷◌, nat_eq}
 use Rattle.std.proofs.Common.{refl, sym, ◌∙◌, ap, arith, inl, inr, subst, zero, suc}
 use Rattle.std.proofs.lemmas.Slice.Eq.{bytes_eq-Decides}

@@ -1,4 +1,7 @@
 -- The walk over the lawful statements in order.
+--
+-- Main definitions: IsWalk
+-- Main results: none_lawful, first_lawful, first_unmet_here, met_by_table, nearer_following, walk_following
 use Rattle.std.specs.Prelude.{ℕ, ◌≡◌, ◌-◌, ◌*◌, ◌^◌, ◌<◌, ℤ, pos, ◌+ℤ◌, Bool, IsTrue, ◌↔◌, List, Option, Some, None, IsNone, IfSome}
 use Rattle.std.specs.List.{Contains}
 use Rattle.std.proofs.Math.ListN.{get_or}

@@ -1,4 +1,6 @@
 -- What the answers of the check say of the axioms.
+--
+-- Main results: nonzero_value, nonzero_or_zeros, not_all_zero
 use Rattle.std.specs.Prelude.{ℕ, ◌≡◌, ◌≢◌, ◌<◌, List, [], ◌∷◌, length, refl, ◌⊎◌}
 use Rattle.std.proofs.Common.{zero, suc, sym, ◌∙◌, ap, arith, inl, inr, subst, get_or}
 use Rattle.om_signs.specs.declared.sign.Sign.{Sign}

@@ -1,4 +1,6 @@
 -- The sign of a vector V at one element, from the set without it.
+--
+-- Main results: parity_sign-suc, without_below, count_below, above_le, around_member, around_other, length-without, around_same, around_opposite, parities_same, parities_differ
 use Rattle.std.specs.Prelude.{ℕ, ◌≡◌, ◌≢◌, ◌+◌, ◌-◌, ◌%◌, ◌<◌, ◌≤◌, List, [], ◌∷◌, length, cond, nat_eq, nat_lt, refl, ◌⊎◌, ◌↔◌, Bool, true, false}
 use Rattle.std.specs.Bool.{beq}
 use Rattle.std.proofs.Common.{zero, suc, ap, arith, inl, inr}

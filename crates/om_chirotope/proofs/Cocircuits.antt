@@ -1,4 +1,6 @@
 -- The sign of a vector U at one element, from the set with it.
+--
+-- Main results: sorted_end, insert_with, sign_end, sign_member, along_member, along_even, along_odd, length-with, with_lawful
 use Rattle.std.specs.Prelude.{ℕ, ◌≡◌, ◌≢◌, ◌+◌, ◌%◌, ◌<◌, ◌≤◌, List, [], ◌∷◌, ◌++◌, length, cond, nat_lt, refl, Bool, true, false}
 use Rattle.std.proofs.Common.{zero, suc, sym, ◌∙◌, ap, arith, inl, inr, subst}
 use Rattle.std.proofs.lemmas.Bool.{cases_order, ne_eqb, lt-ltb, le-ltb}

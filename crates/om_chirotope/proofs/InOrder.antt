@@ -1,4 +1,6 @@
 -- The value of a map on an increasing list.
+--
+-- Main results: insert_comm, value_in_order
 use Rattle.std.specs.Prelude.{ℕ, ◌≡◌, ◌≢◌, ◌+◌, ◌<◌, List, [], ◌∷◌, refl}
 use Rattle.std.proofs.Common.{zero, suc, ◌∙◌, ap, arith, inl, inr}
 use Rattle.std.proofs.lemmas.Bool.{lt-ltb}

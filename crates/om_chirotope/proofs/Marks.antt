@@ -1,4 +1,7 @@
 -- Marks of the sets that contain a basis.
+--
+-- Main definitions: AreBasesMarkedBelow, IsMet, off_support
+-- Main results: mark_kept, basis_marked, all_marked, none_marked, mark_only, basis_in_itself, above_more, basis_in_more, nothing_above, met_of_mark, met_of_zero, no_exchange, exchange_of_met, table_length
 use Rattle.std.specs.Prelude.{ℕ, ◌≡◌, ◌≢◌, ◌+◌, ◌-◌, ◌*◌, ◌%◌, ◌<◌, ◌≤◌, ◌^◌, ◌⊎◌, ◌↔◌, List, [], ◌∷◌, ◌++◌, length, refl, Bool, true, false, bit_and}
 use Rattle.std.specs.Int.{bit_at}
 use Rattle.std.proofs.Common.{sym, ◌∙◌, ap, arith, inl, inr, subst, get_or, set}

@@ -1,4 +1,6 @@
 -- The signs of the two vectors of a map, place by place.
+--
+-- Main results: vector_is, vector_more, length-vector, place-vector, around_place, circuit_place, circuit_off, cocircuit_place
 use Rattle.std.specs.Prelude.{ℕ, ◌≡◌, ◌≢◌, ◌+◌, ◌-◌, ◌<◌, ◌≤◌, List, [], ◌∷◌, ◌++◌, length, refl}
 use Rattle.std.specs.List.{remove}
 use Rattle.std.proofs.Common.{zero, suc, sym, ◌∙◌, arith, inl, inr, set, get_or}

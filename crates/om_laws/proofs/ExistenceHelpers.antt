@@ -1,4 +1,7 @@
 -- Helpers.
+--
+-- Main definitions: Vanishes
+-- Main results: left_of_two, right_of_two, zero_of_two, left_factor_nonzero, distinct_insert, same_nonzero, negated_for_none, negated_for_one, negated_for_swap, nonzero_from_negated_for
 use Rattle.std.specs.Prelude.{ℕ, ◌≡◌, ◌⊎◌, List, [], ◌∷◌, ◌++◌, refl}
 use Rattle.std.proofs.Common.{sym, ◌∙◌, ap, subst, arith, inl, inr, ⊎_elim}
 use Rattle.om_signs.specs.declared.sign.Sign.{Sign}

@@ -1,4 +1,6 @@
 -- What no words, and one word alone, behind the first one of a command are read as.
+--
+-- Main results: no_value, none_read, some_read, alone_empty, alone_bad, alone_many, alone_read, none_some, one_some
 use Rattle.std.specs.Prelude.{ℕ, ◌≡◌, ◌<◌, length, map, List, [], ◌∷◌, refl, true, false, ◌==◌, suc, Ok, Err, Option, Some, None}
 use Rattle.std.proofs.Common.{arith, ap, subst, sym, ◌∙◌}
 use Rattle.std.proofs.lemmas.Bool.{false≢true, ne_eqb}

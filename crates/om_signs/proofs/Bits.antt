@@ -1,4 +1,6 @@
 -- Laws of one bit of a mask of 32 bits, in the forms that the code's goals have.
+--
+-- Main results: lt_from_bits, bit_at_and_not, one_shl_32, bit_from_test, no_bit_from_test, some_bit, nonzero_from_bit
 use Rattle.std.proofs.Common.{ℕ, ◌≡◌, ◌≢◌, ◌+◌, ◌-◌, ◌*◌, ◌/◌, ◌%◌, ◌<◌, ◌≤◌, ◌^◌, min, sym, ◌∙◌, ap, arith, bit_and, inl, inr, w32}
 use Rattle.std.specs.Int.{bit_at}
 use Rattle.std.proofs.lemmas.Bool.{cases_lt, cases_eq}

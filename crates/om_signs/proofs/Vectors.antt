@@ -1,4 +1,7 @@
 -- What masks stand for, place by place, and what each operation on masks makes of it.
+--
+-- Main definitions: Shows, Stands, Back
+-- Main results: length_is, shows, never_both, sign_of_is, stands, first_nonzero-zero, at-compose, length-compose, at-map-opposite, at-replicate, plus_of_opposite, minus_of_opposite, zero_made, neg_made, fits_32, compose_made, get_plus, get_minus, get_zero, set_made, from_plus_bit, from_minus_bit, bit_same, bit_apart, separation_made, support_made, orthogonal_test, conforms_test, drop_made, at-flip_from, length-flip_from, flip_made, masks_back, and_regroup
 use Rattle.std.proofs.Common.{ℕ, ◌≡◌, ◌≢◌, ◌+◌, ◌-◌, ◌*◌, ◌/◌, ◌%◌, ◌<◌, ◌≤◌, ◌^◌, ◌↔◌, zero, suc, min, max, refl, sym, ◌∙◌, ap, arith, bit_and, bit_or, inl, inr, List, [], ◌∷◌, length, map, replicate, set, Bool, true, false, cond, nat_eq, IsTrue}
 use Rattle.std.specs.Int.{bit_at}
 use Rattle.std.specs.List.{remove}

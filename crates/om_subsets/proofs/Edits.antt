@@ -1,4 +1,7 @@
 -- What a bit that is set, cleared or tested does to the members.
+--
+-- Main definitions: IsEdit
+-- Main results: members_same, member_bit, with_members, without_members, count_members, set_edit, clear_edit, set_fits, has_test, odd_test
 use Rattle.std.proofs.Common.{ℕ, ◌≡◌, ◌≢◌, ◌+◌, ◌-◌, ◌*◌, ◌/◌, ◌%◌, ◌<◌, ◌≤◌, ◌^◌, List, ◌∷◌, length, zero, suc, refl, sym, ◌∙◌, arith, nat_eq, inl, inr, bit_and, bit_or, ◌↔◌, add-one, w32, IsTrue}
 use Rattle.std.specs.Int.{bit_at}
 use Rattle.std.proofs.Math.Pow.{pow-lt}

@@ -1,4 +1,7 @@
 -- Masks and increasing lists go into one another.
+--
+-- Main definitions: IsBack
+-- Main results: mask_of-lt, members-mask_of, bits_are_members, parts_back
 use Rattle.std.proofs.Common.{ℕ, ◌≡◌, ◌+◌, ◌*◌, ◌/◌, ◌%◌, ◌<◌, ◌^◌, List, [], ◌∷◌, zero, suc, refl, sym, ◌∙◌, ap, arith, inl, inr, ◌↔◌, true, false, cond}
 use Rattle.std.proofs.lemmas.Bool.{eq-eqb, ne_eqb}
 use Rattle.std.specs.Int.{bit_at}

@@ -1,4 +1,7 @@
 -- How loops over the bits of a mask go through its members.
+--
+-- Main definitions: from_place, rank_from_place, IsLast, IsMoved, IsNext, IsTail
+-- Main results: bits_fit, double, members-zero, members-ones, first_mask, first_members, ones-members, from_start, member_here, none_here, rank_member, rank_skipped, rank_none, choose_all, length-members, last_end, last_none, last_member, moved, moved_below, moved_members, length-first_of, rank-first_of, moved_rank, same_low, from_low, tail_more, tail_same, tail_small, next_made, not_last
 use Rattle.std.proofs.Common.{ℕ, ◌≡◌, ◌≢◌, ◌+◌, ◌-◌, ◌*◌, ◌/◌, ◌%◌, ◌<◌, ◌≤◌, ◌^◌, List, [], ◌∷◌, length, zero, suc, refl, sym, ◌∙◌, ap, arith, false, inl, inr, pow-suc, bit_and, add-one}
 use Rattle.std.proofs.Math.Pow.{pow_pos, pow_mono}
 use Rattle.std.proofs.Math.Nat.{div-div-eq-div-mul, div-one}

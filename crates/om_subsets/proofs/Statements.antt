@@ -1,4 +1,6 @@
 -- The laws that the crate states as functions.
+--
+-- Main results: subset_is_increasing, next_place, members_with, members_without
 use Rattle.std.proofs.Common.{ℕ, ◌≡◌, ◌≢◌, ◌+◌, List, [], ◌∷◌, length, sym, ◌∙◌, arith, inl, inr, ◌↔◌, ◌⊎◌}
 use Rattle.std.proofs.lemmas.Bool.{cases_eq, cases_lt, eq-eqb, ne_eqb, lt-ltb, le-ltb}
 use Rattle.om_subsets.specs.Subsets.{rank_of, IsSubsetFrom, IsMember, with_element, without_element}

@@ -1,4 +1,6 @@
 -- The table of the binomial coefficients has the right entries.
+--
+-- Main results: table_entry, choose_above, choose_most
 use Rattle.std.proofs.Common.{ℕ, ◌≡◌, ◌+◌, ◌<◌, ◌≤◌, List, [], ◌∷◌, length, get_or, zero, suc, refl, ◌∙◌, ap, arith, Bool, true, ◌&&◌, nat_eq, add-zero, zero-add}
 use Rattle.std.proofs.lemmas.Bool.{and_parts, eqb-true, leb-true, cases_lt}
 use Rattle.std.proofs.Common.{nat_le, inl, inr}

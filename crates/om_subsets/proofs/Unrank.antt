@@ -1,4 +1,7 @@
 -- The set at a place, chosen one number at a time.
+--
+-- Main definitions: Completes, IsBegun
+-- Main results: begun, begun_done, begun_skip, begun_take, begun_end, listed_end
 use Rattle.std.proofs.Common.{ℕ, ◌≡◌, ◌≢◌, ◌+◌, ◌-◌, ◌*◌, ◌/◌, ◌%◌, ◌<◌, ◌≤◌, ◌^◌, length, zero, suc, refl, sym, ◌∙◌, ap, arith, bit_and, bit_or, add-one, max}
 use Rattle.std.specs.Int.{bit_at}
 use Rattle.std.proofs.Math.Pow.{pow-lt}

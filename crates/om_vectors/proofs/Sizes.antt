@@ -1,4 +1,7 @@
 -- The sizes of products of coordinates, so that no product overflows.
+--
+-- Main definitions: wide, IsExact
+-- Main results: pair_size, pair_fits, product_size, product_fits, one, plus, minus, read_back
 use Rattle.std.proofs.Common.{ℕ, ◌≡◌, ◌+◌, ◌*◌, ◌≤◌, ◌<◌, ◌^◌, lit<, ◌∙◌, arith}
 use Rattle.std.specs.Prelude.{ℤ, ◌+ℤ◌, ◌-ℤ◌, ◌*ℤ◌, unsigned_abs, FitsSigned}
 use mir.Syntax.{w64, w128}

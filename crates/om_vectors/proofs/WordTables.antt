@@ -1,4 +1,7 @@
 -- The table of a word after a vector was added, and while vectors are cut off.
+--
+-- Main definitions: IsCutTo, IsBack
+-- Main results: pushed, table_back, both
 use Rattle.std.proofs.Common.{ℕ, ◌≡◌, ◌+◌, ◌<◌, ◌≤◌, List, length, take, set, get_or, Bool, ◌&&◌, ◌∙◌, ◌++◌, ap, sym, arith}
 use Rattle.std.proofs.lemmas.List.{length-set, get_or-set_other}
 use Rattle.om_signs.specs.declared.limits.TheConstants.{MAX_ELEMENTS}
