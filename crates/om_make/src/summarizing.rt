@@ -12,15 +12,18 @@ use om_chirotope::Chirotope;
 use om_signs::{NoMemory, Sign};
 use om_vectors::{SignsError, Word, signs_of};
 use std::alloc::Global;
+use std::thread::Threads;
 
 /// What there is to count of vectors that begin with the three unit vectors, in their order: the triples with each sign,
 /// and the cocircuits, the covectors and the mutations of the chirotope of these signs. Both lists are converted back,
 /// which gives the normal form of the chirotope.
 ///
+/// All of it is counted on the calling thread: `_rt` is there so that the call can go on to more without another signature.
+///
 /// [`NoMemory`] comes only for want of memory.
 ///
 /// Source of the notions: Björner, Las Vergnas, Sturmfels, White and Ziegler, *Oriented Matroids*, chapters 1, 3, 6 and 8.
-pub fn summary(alloc: Global, vectors: &Word) -> Result<Tally, NoMemory>
+pub fn summary<R: Threads + Sync>(_rt: &R, alloc: Global, vectors: &Word) -> Result<Tally, NoMemory>
     requires { BeginsWithUnits vectors.now }
     ensures tally { IfOk result (IsTally vectors.now) }
     ensures back { OnOk result (ComesBack (signs_map vectors.now)) }

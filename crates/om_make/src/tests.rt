@@ -55,7 +55,7 @@ fn summaries(rt: HostRuntime) -> Result<(), Fail> {
         (7, MAX_ELEMENTS, [268, 5, 287, 220, 903, 34]),
     ];
     for (seed, count, wanted) in rows {
-        let tally = summary(rt.alloc(), &vectors(seed, count))?;
+        let tally = summary(&rt, rt.alloc(), &vectors(seed, count))?;
         assert_eq!(rt; counts(tally), wanted);
     }
     Ok(())

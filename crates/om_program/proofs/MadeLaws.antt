@@ -62,9 +62,6 @@ points_more vs k d v old new l is before pushed = pushed ∙ rw (before, is) (sy
     map_push [] w = refl
     map_push (u ∷ us) w = ap (λ l. coordinates u ∷ l) (map_push us w)
 
-pub coordinates_are : (v : WholeVector) (x y z : ℤ) → x ≡ v.x → y ≡ v.y → z ≡ v.z → x ∷ y ∷ z ∷ [] ≡ coordinates v
-coordinates_are v x y z p q r = rw (p, q, r) refl
-
 -- the same, of a list that is equal to the vectors
 pub points_more_of : (ws vs : List WholeVector) → ws ≡ vs → (k : ℕ) (d v : WholeVector) (old new : List (List ℤ)) → k < length ws → v ≡ get_or ws k d → old ≡ map coordinates (take k vs) → new ≡ old ++ coordinates v ∷ [] → new ≡ map coordinates (take (k + 1) vs)
 points_more_of ws vs e k d v old new l is before pushed = subst (λ us. old ≡ map coordinates (take k us) → new ≡ map coordinates (take (k + 1) us)) e (λ b. points_more ws k d v old new l is b pushed) before

@@ -51,13 +51,17 @@ pub fn answer_input<R: Threads + Sync>(
 }
 
 /// The answer to a task that reads nothing, whatever the input.
-pub fn answer_alone(alloc: Global, task: Task) -> Result<Answer, NoMemory>
+pub fn answer_alone<R: Threads + Sync>(
+    rt: &R,
+    alloc: Global,
+    task: Task,
+) -> Result<Answer, NoMemory>
     requires lawful { HasLawfulArguments task }
     requires alone { reads task ≡ Reads.Nothing }
     ensures { IfOk result (λ answer. (bytes : List ℕ) → TaskMeans task bytes answer) }
 {
     match task {
-        Task::Make { seed, count } => make_input(alloc, seed, count),
+        Task::Make { seed, count } => make_input(rt, alloc, seed, count),
         // each other one reads an input
         _ => unreachable!(),
     }

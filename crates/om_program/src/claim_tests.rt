@@ -29,6 +29,20 @@ const MORE_ENTRIES: &str = "eq 7 1 2 4 6 3 1 1\neq 7 1 3 4 5 1 3 1\nend\n";
 /// Vectors that realize the all-plus chirotope of four elements, but for the last one.
 const VECTORS: &str = "realizable\nvector 1 0 0\nvector 0 1 0\nvector 0 0 1\n";
 
+/// The lines of a valid claim, and the answer to it where it is cut off before the line.
+const CUT_OFF: [(&str, &str); 10] = [
+    ("om 1\n", "refused line 1 missing\n"),
+    ("chirotope 3 4\n", "refused line 2 missing\n"),
+    ("++++\n", "refused line 3 missing\n"),
+    ("end\n", "refused line 4 missing\n"),
+    ("realizable\n", "refused line 5 missing\n"),
+    ("vector 1 0 0\n", "refused line 6 missing\n"),
+    ("vector 0 1 0\n", "refused line 7 missing\n"),
+    ("vector 0 0 1\n", "refused line 8 missing\n"),
+    ("vector 1 -1 1\n", "refused line 9 missing\n"),
+    ("end\n", "refused line 10 missing\n"),
+];
+
 /// Texts, one behind another.
 fn joined(alloc: Global, texts: &[&str]) -> Result<String, NoMemory> {
     let mut all = String::new(alloc);
@@ -111,6 +125,22 @@ fn claims_that_are_valid(rt: HostRuntime) -> Result<(), Fail> {
         checks(&rt, rt.alloc(), texts, Status::Done, line)?;
     }
     Ok(())
+}
+
+#[test]
+fn claims_that_are_cut_off(rt: HostRuntime) -> Result<(), Fail> {
+    let mut claim = String::new(rt.alloc());
+    for (line, answer) in CUT_OFF {
+        checks(&rt, rt.alloc(), &[claim.as_str()], Status::Refused, answer)?;
+        claim.push_str(line)?;
+    }
+    checks(
+        &rt,
+        rt.alloc(),
+        &[claim.as_str()],
+        Status::Done,
+        "valid realizable\n",
+    )
 }
 
 #[test]

@@ -7,15 +7,21 @@ use crate::answer::Answer;
 use om_make::{summary, vectors};
 use om_signs::{MAX_ELEMENTS, NoMemory};
 use std::alloc::Global;
+use std::thread::Threads;
 
 /// `count` vectors that a number gives, from 3 to [`MAX_ELEMENTS`], and what there is to count of them.
-pub fn make_input(alloc: Global, seed: u32, count: u8) -> Result<Answer, NoMemory>
+pub fn make_input<R: Threads + Sync>(
+    rt: &R,
+    alloc: Global,
+    seed: u32,
+    count: u8,
+) -> Result<Answer, NoMemory>
     requires low { 3 ≤ count }
     requires high { count ≤ MAX_ELEMENTS }
     ensures { IfOk result (IsMade seed count) }
 {
     let made = vectors(seed, count);
-    let tally = summary(alloc, &made)?;
+    let tally = summary(rt, alloc, &made)?;
     Ok(Answer::Made {
         vectors: made,
         tally,

@@ -137,7 +137,7 @@ fn decide<R: Threads + Sync, S: Source>(
 {
     match task.reads() {
         Reads::Document | Reads::Claim => decide_input(rt, alloc, task, source),
-        Reads::Nothing => Ok(answer_alone(alloc, task)?),
+        Reads::Nothing => Ok(answer_alone(rt, alloc, task)?),
     }
 }
 

@@ -6,7 +6,7 @@ use Rattle.om_program.specs.Meaning.{TaskMeans, alone}
 use Rattle.om_program.proofs.answering.answer_alone.Goals as goal
 
 pub returns : goal.returns
-returns c =
+returns g c =
     let P : Answer → Type 0 = IsMade c.in-Make.seed c.in-Make.count in
     let Q : Answer → Type 0 = λ answer. (bytes : List ℕ) → TaskMeans c.args.task bytes answer in
     let step : (answer : Answer) → P answer → Q answer = λ answer made bytes. alone c.in-Make.seed c.in-Make.count answer c.in-Make.is made in
