@@ -7,7 +7,8 @@ use Rattle.std.specs.Prelude.{Option, Some, None, Result, Ok, Err, codes, nat_lt
 use Rattle.std.proofs.lemmas.Bool.{ltb-true}
 use Rattle.om_text.specs.declared.code.Code.{Code}
 use Rattle.om_text.specs.declared.code.Code.TheVariants as code
-use Rattle.om_text.specs.Document.{is_line, end_line}
+use Rattle.om_text.specs.Settings.{is_line}
+use Rattle.om_text.specs.Document.{end_line}
 use Rattle.om_text.proofs.Distinct.{either}
 use Rattle.om_text.proofs.Filling.{is_line-Decides}
 use Rattle.om_vectors.specs.WholeVectors.{WholeVector}

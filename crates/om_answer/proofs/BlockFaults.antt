@@ -9,7 +9,8 @@ use Rattle.std.proofs.lemmas.List.Folds.{list_any-append}
 use Rattle.std.proofs.lemmas.Bool.{le-leb, ltb-false}
 use Rattle.om_text.specs.declared.code.Code.{Code}
 use Rattle.om_text.specs.declared.code.Code.TheVariants as code
-use Rattle.om_text.specs.Document.{is_line, end_line}
+use Rattle.om_text.specs.Settings.{is_line}
+use Rattle.om_text.specs.Document.{end_line}
 use Rattle.om_text.proofs.Distinct.{either}
 use Rattle.om_vectors.specs.WholeVectors.{WholeVector}
 use Rattle.om_certificate.specs.declared.entry.Entry.{Entry}

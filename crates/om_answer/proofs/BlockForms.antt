@@ -6,7 +6,7 @@ use Rattle.std.specs.Prelude.{Option, Some, None, codes, bytes_eq, option_and_th
 use Rattle.std.proofs.lemmas.Slice.Eq.{bytes_eq-Decides}
 use Rattle.std.specs.List.{list_any}
 use Rattle.std.proofs.lemmas.List.{map-append, length-map}
-use Rattle.om_text.specs.Document.{is_line}
+use Rattle.om_text.specs.Settings.{is_line}
 use Rattle.om_text.proofs.Distinct.{either}
 use Rattle.om_text.proofs.Filling.{is_line-Decides}
 use Rattle.om_vectors.specs.WholeVectors.{WholeVector}

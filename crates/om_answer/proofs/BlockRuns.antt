@@ -7,7 +7,8 @@ use Rattle.std.specs.List.{list_all}
 use Rattle.std.proofs.lemmas.Bool.{lt-ltb}
 use Rattle.om_text.specs.declared.code.Code.{Code}
 use Rattle.om_text.specs.declared.code.Code.TheVariants as code
-use Rattle.om_text.specs.Document.{is_line, end_line}
+use Rattle.om_text.specs.Settings.{is_line}
+use Rattle.om_text.specs.Document.{end_line}
 use Rattle.om_text.proofs.Feeds.{is_one_line}
 use Rattle.om_text.proofs.Language.{run_words, bind, IsCompletion}
 use Rattle.om_vectors.specs.WholeVectors.{WholeVector}

@@ -13,7 +13,8 @@ use Rattle.om_text.specs.declared.state.State.{State}
 use Rattle.om_text.specs.declared.state.State.TheVariants.{Start, Versioned, Open, Closed}
 use Rattle.om_text.specs.Lines.{lines, words, wordful, has_any}
 use Rattle.om_text.specs.Steps.{step_if, finish_by, then_lines, outcome_by}
-use Rattle.om_text.specs.Document.{IsSpelled, IsDocument, is_line, version_line, end_line}
+use Rattle.om_text.specs.Settings.{is_line}
+use Rattle.om_text.specs.Document.{IsSpelled, IsDocument, end_line}
 use Rattle.om_text.specs.Fault.{Begins}
 use Rattle.om_text.specs.Heading.{heading}
 use Rattle.om_text.specs.Print.{text_of}

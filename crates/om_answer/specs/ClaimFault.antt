@@ -6,7 +6,8 @@ use Rattle.std.specs.List.{list_any}
 use Rattle.om_text.specs.declared.code.Code.{Code}
 use Rattle.om_text.specs.declared.code.Code.TheVariants as code
 use Rattle.om_text.specs.Lines.{words, wordful}
-use Rattle.om_text.specs.Document.{is_line, end_line}
+use Rattle.om_text.specs.Settings.{is_line}
+use Rattle.om_text.specs.Document.{end_line}
 use Rattle.om_text.specs.Fault.{IsFaultIn, place, table, first_of}
 use Rattle.om_answer.specs.declared.claim.Claim.{Claim}
 use Rattle.om_answer.specs.BlockLines.{vector_of, weight_of}

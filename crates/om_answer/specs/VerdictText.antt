@@ -94,7 +94,7 @@ lines_text ls = text_of (map spaced ls)
 
 -- the document of a chirotope
 abbrev pub chirotope_document : SignMap → Document
-chirotope_document m = record { elements = m.elements; body = Chirotope (record { rank = m.rank; elements = m.elements; signs = m.signs }) }
+chirotope_document m = record { elements = m.elements; body = Chirotope (record { rank = m.rank; elements = m.elements; signs = m.signs }); names = [] }
 
 -- the text of a verdict on a chirotope
 abbrev pub verdict_text : SignMap → Verdict → List ℕ

@@ -2,7 +2,8 @@
 
 ghost use Rattle.std.specs.Prelude.{◌≡◌, ◌+◌, ◌-◌, ◌≤◌, ◌^◌, length, IfOk};
 ghost use Rattle.om_text.specs.Lines.{runs, lines};
-ghost use Rattle.om_text.specs.Document.{is_line, end_line};
+ghost use Rattle.om_text.specs.Settings.{is_line};
+ghost use Rattle.om_text.specs.Document.{end_line};
 ghost use Rattle.om_text.specs.Added.{Gives};
 ghost use Rattle.om_text.specs.Parsed.{ComesTo};
 ghost use Rattle.om_answer.specs.BlockLines.{plain_numbers, vector_of, entry_of, weight_of, pivots_of, basis_of, some_of};

@@ -44,12 +44,25 @@ om 1/cocircuits 2/end/realizable/vector 1 0 0/end/
 om 1/covectors 1/0/end/realizable/vector 1 0 0/end/
 om 1/wiring 3/1-2/2-3/1-2/end/realizable/vector 1 0 0/end/";
 
+/// Claims in version 2, and behind the ` = ` the document in version 1 without names; the block is the same.
+const CLAIMS_OF_VERSION_2: &str =
+    "om 2/chirotope 3 4/names a b c d/order revlex/+++-/end/ = om 1/chirotope 3 4/+++-/end/
+om 2/chirotope 2 4/order revlex/0++000/end/ = om 1/chirotope 2 4/0+0+00/end/
+om 2/points 1/names end/-2 0 5/end/ = om 1/points 1/-2 0 5/end/
+om 2/circuits 2/names half end/half/+-/end/ = om 1/circuits 2/-+/+-/end/
+om 2/covectors 1/half/0/+/end/ = om 1/covectors 1/-/0/+/end/";
+
 /// Inputs whose first fault lies in the document or behind it: its line and its code.
 const FAULTS_OF_DOCUMENTS: &str = " = 1 missing
 om 1/ = 2 missing
 om 1/chirotope 3 4/ = 3 missing
 om 1/chirotope 3 4/++++/ = 4 missing
-om 2/ = 1 version
+om 3/ = 1 version
+om 2/ = 2 missing
+om 2/chirotope 3 4/realizable/ = 3 sign
+om 2/chirotope 3 4/names a b c/++++/end/ = 3 setting
+om 2/chirotope 3 4/names a b c d/names a b c d/ = 4 setting
+om 2/chirotope 3 4/++++/end/names a b c d/ = 5 claim
 om 1/chirotope 3 4/realizable/ = 3 sign
 om 1/chirotope 3 4/+++/end/ = 4 few
 om 1/wiring 3/1-2 realizable/ = 3 block
@@ -225,6 +238,16 @@ fn claims_in_canonical_form(rt: HostRuntime) -> Result<(), Fail> {
     }
     for claim in CLAIMS.split('\n') {
         read_as(&rt, rt.alloc(), &[claim], &[claim])?;
+    }
+    Ok(())
+}
+
+#[test]
+fn claims_in_version_2(rt: HostRuntime) -> Result<(), Fail> {
+    let block = "realizable/vector 1 0 0/end/";
+    for row in CLAIMS_OF_VERSION_2.split('\n') {
+        let (claim, document) = row.split_once(" = ").ok_or("no document")?;
+        read_as(&rt, rt.alloc(), &[claim, block], &[document, block])?;
     }
     Ok(())
 }

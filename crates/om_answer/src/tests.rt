@@ -194,6 +194,13 @@ fn lines_with_sets_and_codes(rt: HostRuntime) -> Result<(), Fail> {
             },
             "refused line 2 rank 5\n",
         ),
+        (
+            Line::RefusedLine {
+                line: 4,
+                code: Code::Setting,
+            },
+            "refused line 4 setting\n",
+        ),
     ] {
         prints(&rt, rt.alloc(), line, text)?;
     }

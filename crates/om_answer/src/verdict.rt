@@ -10,12 +10,12 @@ ghost use Rattle.om_answer.specs.VerdictText.{chirotope_document, verdict_text, 
 use super::verdict_lines::push_block;
 use om_certificate::Verdict;
 use om_chirotope::Chirotope;
-use om_signs::NoMemory;
+use om_signs::{List, NoMemory};
 use om_text::{Body, Document, print};
 use std::alloc::Global;
 
-/// The document of a chirotope.
-fn document_of(chi: &Chirotope) -> Result<Document, NoMemory>
+/// The document of a chirotope, without names.
+fn document_of(alloc: Global, chi: &Chirotope) -> Result<Document, NoMemory>
     ensures value { IfOk result (λ d. d ≡ chirotope_document chi.now) }
     ensures form { IfOk result IsInForm }
 {
@@ -25,6 +25,7 @@ fn document_of(chi: &Chirotope) -> Result<Document, NoMemory>
     Ok(Document {
         elements,
         body: Body::Chirotope(copy.into_raw()),
+        names: List::new(alloc),
     })
 }
 
@@ -43,7 +44,7 @@ pub fn print_verdict(alloc: Global, chi: &Chirotope, verdict: &Verdict) -> Resul
     // What is printed is a claim: the chirotope's document and this verdict.
     ensures claim { IfOk result (λ text. IsClaim (lines text.items) (claim_of chi.now verdict.now)) }
 {
-    let document = document_of(chi)?;
+    let document = document_of(alloc, chi)?;
     let mut text = print(alloc, &document)?;
     push_block(&mut text, verdict)?;
     Ok(text)
