@@ -18,10 +18,14 @@ PROGRAM = os.path.abspath(sys.argv[1]) if len(sys.argv) > 1 else os.path.join(TO
 UNIFORM = b"om 1\nchirotope 3 4\n++++\nend\n"
 LARGE = b"om 1\nchirotope 8 16\n" + b"+" * 12870 + b"\nend\n"
 RANK_3 = b"om 1\nchirotope 3 16\n" + b"+" * 560 + b"\nend\n"
+# two bases alone, which have no element in common
+NO_EXCHANGE = b"om 1\nchirotope 8 16\n+" + b"0" * 12868 + b"+\nend\n"
+# one sign of the uniform chirotope turned, that of a set whose sign can't be turned alone
+NO_RELATION = b"om 1\nchirotope 8 16\n" + b"+" * 6000 + b"-" + b"+" * 6869 + b"\nend\n"
 COMMANDS = [
     ["accept"], ["member", "++-+"], ["convert", "circuits"], ["convert", "cocircuits"], ["convert", "covectors"], ["convert", "chirotope"],
     ["dual"], ["delete", "1"], ["contract", "2"], ["reorient", "1", "3"], ["wiring"], ["mutations"], ["flip", "1", "2", "3"], ["hull"],
-    ["paint", "RRRR", "1"], ["lexext", "+1", "-2"], ["extend", "--first=20"], ["threeterm"], ["decide", "--box=1", "--steps=200", "--pivots=50"], ["check"],
+    ["paint", "RRRR", "1"], ["lexext", "+1", "-2"], ["extend", "--first=20"], ["threeterm"], ["upgrade"], ["decide", "--box=1", "--steps=200", "--pivots=50"], ["check"],
 ]
 
 
@@ -123,12 +127,12 @@ def changed_examples(tally, random_):
 def little_stack(tally):
     def small():
         resource.setrlimit(resource.RLIMIT_STACK, (512 * 1024, 512 * 1024))
-
-    def larger():
-        resource.setrlimit(resource.RLIMIT_STACK, (768 * 1024, 768 * 1024))
-    for words, data in [(["accept"], LARGE), (["dual"], LARGE), (["hull"], LARGE), (["convert", "covectors"], RANK_3), (["wiring"], RANK_3), (["mutations"], RANK_3)]:
-        tally.expect("%s with a stack of 512 KB" % words, run(words, data, before=small), exactly(0))
-    tally.expect("threeterm with a stack of 768 KB", run(["threeterm"], LARGE, before=larger), exactly(0))
+    for words, data, code in [
+        (["accept"], LARGE, 0), (["threeterm"], LARGE, 0), (["dual"], LARGE, 0), (["hull"], LARGE, 0), (["upgrade"], LARGE, 0),
+        (["convert", "covectors"], RANK_3, 0), (["wiring"], RANK_3, 0), (["mutations"], RANK_3, 0), (["accept"], NO_EXCHANGE, 1),
+        (["threeterm"], NO_EXCHANGE, 1), (["accept"], NO_RELATION, 1), (["threeterm"], NO_RELATION, 1),
+    ]:
+        tally.expect("%s with a stack of 512 KB" % words, run(words, data, before=small), exactly(code))
     with open(os.path.join(TOP, "examples", "non-pappus.om"), "rb") as file:
         tally.expect("decide with a stack of 512 KB", run(["decide"], file.read(), before=small), exactly(0))
 

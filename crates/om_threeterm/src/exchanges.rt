@@ -27,10 +27,23 @@ pub fn first_unexchanged<R: Threads + Sync>(rt: &R, raw: &RawMap) -> Option<(Sub
     ensures none { IfNone result (HasExchange (map_of raw.now)) }
     ensures first { IfSome result (λ x. IsFirstUnexchanged (map_of raw.now) x.0 x.1 x.2) }
 {
-    if has_exchange(raw) {
+    if has_exchange_apart(raw) {
         return None;
     }
     first_unexchanged_by_scan(rt, raw)
+}
+
+/// Whether bases have exchange, by the quick test. It is no part of its caller, so that its table isn't on the stack while the
+/// scan runs.
+#[inline(never)]
+fn has_exchange_apart(raw: &RawMap) -> bool
+    requires low { 1 ≤ raw.now.elements }
+    requires high { raw.now.elements ≤ MAX_PLACES }
+    requires rank { raw.now.rank ≤ raw.now.elements }
+    requires whole { length raw.now.signs ≡ choose raw.now.elements raw.now.rank }
+    ensures { IsTrue result ↔ HasExchange (map_of raw.now) }
+{
+    has_exchange(raw)
 }
 
 /// The same, by a scan of all bases.
