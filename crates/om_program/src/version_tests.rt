@@ -61,7 +61,7 @@ const ANSWERS: [(&[&str], &str, &str); 8] = [
         "om 1\ncovectors 1\n-\n0\n+\nend\n",
     ),
     (&["member", "-"], LINE_TWO, "covector\n"),
-    (&["reorient", "2"], NAMED, "om 1\nchirotope 2 3\n++-\nend\n"),
+    (&["reorient", "2"], NAMED, "om 1\nchirotope 2 3\n+++\nend\n"),
     (&["delete", "3"], NAMED, "om 1\nchirotope 2 2\n+\nend\n"),
     (&["accept"], FLAT_TWO, "accepted\n"),
 ];
