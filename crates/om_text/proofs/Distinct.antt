@@ -1,14 +1,14 @@
 -- The distinct members of a list, member by member.
 --
--- Main results: both, same_row-Decides, distinct-append, with_member_grows
-use Rattle.std.proofs.Common.{◌≡◌, ◌≤◌, List, [], ◌∷◌, ◌++◌, Bool, true, false, cond, not, ◌&&◌, ◌||◌, ◌⊎◌, inl, inr, length, refl, sym, ap, ◌∙◌, arith, length-append, append-nil}
+-- Main results: both, same_row-Decides, distinct-append, distinct-each, with_member_grows, with_each_grows
+use Rattle.std.proofs.Common.{◌≡◌, ◌≤◌, List, [], ◌∷◌, ◌++◌, Bool, true, false, cond, not, ◌&&◌, ◌||◌, ◌⊎◌, inl, inr, length, refl, sym, ap, ◌∙◌, arith, length-append, append_assoc, append-nil}
 use Rattle.std.specs.Prelude.{filter, Decides, IsTrue}
 use Rattle.std.specs.List.{list_any}
 use Rattle.std.proofs.lemmas.Slice.Eq.{slice_eq-Decides}
 use Rattle.om_signs.specs.declared.sign.Sign.{Sign}
 use Rattle.om_signs.specs.declared.sign.Sign.TheVariants.{Minus, Zero, Plus}
 use Rattle.om_text.specs.Rows.{same_sign, same_row, distinct}
-use Rattle.om_text.specs.Reading.{with_member}
+use Rattle.om_text.specs.Reading.{with_member, with_each}
 
 pub either : (b : Bool) → (b ≡ true) ⊎ (b ≡ false)
 either true = inl refl
@@ -83,11 +83,20 @@ distinct-append (y ∷ ys) x = ap (λ r. y ∷ others y r) (distinct-append ys x
   | inr n ↦ rw n (ap (λ r. y ∷ r) (others-with_other y x (distinct ys) n) ∙ pull y x (list_any (λ z. same_row z x) (others y (distinct ys))) (others y (distinct ys)))
 ]
 
+-- several members more
+pub distinct-each : (xs ys : List (List Sign)) → distinct (xs ++ ys) ≡ with_each (distinct xs) ys
+distinct-each xs [] = ap distinct (append-nil xs)
+distinct-each xs (y ∷ ys) = ap distinct (sym (append_assoc xs (y ∷ []) ys)) ∙ distinct-each (xs ++ y ∷ []) ys ∙ ap (λ ms. with_each ms ys) (distinct-append xs y)
+
 pub with_member_grows : (ms : List (List Sign)) (x : List Sign) → length ms ≤ length (with_member ms x)
 with_member_grows ms x = elim (either (list_any (λ z. same_row z x) ms)) [
   | inl a ↦ rw a (omega arith)
   | inr a ↦ rw a (omega (arith, length-append ms (x ∷ [])))
 ]
+
+pub with_each_grows : (ms xs : List (List Sign)) → length ms ≤ length (with_each ms xs)
+with_each_grows ms [] = omega arith
+with_each_grows ms (x ∷ xs) = let a = with_member_grows ms x in let b = with_each_grows (with_member ms x) xs in omega arith
 
 pub same_from_iff : (r : Bool) (x y : List Sign) → (IsTrue r → x ≡ y) × (x ≡ y → IsTrue r) → r ≡ same_row x y
 same_from_iff true x y h = sym ((same_row-Decides x y).1 (h.0 refl))

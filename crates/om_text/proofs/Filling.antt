@@ -19,9 +19,12 @@ use Rattle.om_text.specs.Rows.{distinct}
 use Rattle.om_text.specs.Members.{members_of, with_members}
 use Rattle.om_text.specs.Blocks.{blocks_on}
 use Rattle.om_text.specs.Points.{point_on}
-use Rattle.om_text.specs.Document.{is_line, end_line, are_signs, signs_of_line, all_signs, filled_body, filled, size_of, room_of, has_signs_in, has_length_in, has_blocks_in, has_numbers_in, has_room}
-use Rattle.om_text.specs.Reading.{added_body}
-use Rattle.om_text.proofs.Distinct.{either, both, distinct-append, with_member_grows}
+use Rattle.om_text.specs.declared.setting.Setting.{Setting}
+use Rattle.om_text.specs.declared.setting.Setting.TheVariants.{Plain, Revlex, Half}
+use Rattle.om_text.specs.Settings.{is_line}
+use Rattle.om_text.specs.Document.{end_line, are_signs, signs_of_line, members_of_line, all_signs, filled_body, filled, size_of, room_of, has_signs_in, has_length_in, has_blocks_in, has_numbers_in, has_room}
+use Rattle.om_text.specs.Reading.{members_on, with_line_members, with_each, added_body}
+use Rattle.om_text.proofs.Distinct.{either, both, distinct-each, with_each_grows}
 
 pub is_line-Decides : (w v : List (List ℕ)) → Decides (is_line w v) (w ≡ v)
 is_line-Decides w v = slice_eq-Decides bytes_eq-Decides w v (is_line w v) refl
@@ -49,30 +52,30 @@ line_not_end (Points ps) n w h = elim (either (is_line w end_line)) [
 line_not_end (Chirotope m) n w h = signs_not_end w (both (are_signs w) true (both (are_signs w && true) true (both (are_signs w && true && true) true h).0).0).0
 line_not_end b n w h = signs_not_end w (both (are_signs w) (has_length_in b n w) (both (are_signs w && has_length_in b n w) true (both (are_signs w && has_length_in b n w && true) true h).0).0).0
 
-pub has_signs_filled : (b : Body) (ls : List (List (List ℕ))) (w : List (List ℕ)) → has_signs_in (filled_body b ls) w ≡ has_signs_in b w
-has_signs_filled (Chirotope m) ls w = refl
-has_signs_filled (Points ps) ls w = refl
-has_signs_filled _ ls w = refl
+pub has_signs_filled : (s : Setting) (b : Body) (ls : List (List (List ℕ))) (w : List (List ℕ)) → has_signs_in (filled_body s b ls) w ≡ has_signs_in b w
+has_signs_filled s (Chirotope m) ls w = refl
+has_signs_filled s (Points ps) ls w = refl
+has_signs_filled s _ ls w = refl
 
-pub has_numbers_filled : (b : Body) (ls : List (List (List ℕ))) (w : List (List ℕ)) → has_numbers_in (filled_body b ls) w ≡ has_numbers_in b w
-has_numbers_filled (Chirotope m) ls w = refl
-has_numbers_filled (Points ps) ls w = refl
-has_numbers_filled _ ls w = refl
+pub has_numbers_filled : (s : Setting) (b : Body) (ls : List (List (List ℕ))) (w : List (List ℕ)) → has_numbers_in (filled_body s b ls) w ≡ has_numbers_in b w
+has_numbers_filled s (Chirotope m) ls w = refl
+has_numbers_filled s (Points ps) ls w = refl
+has_numbers_filled s _ ls w = refl
 
-pub has_blocks_filled : (b : Body) (ls : List (List (List ℕ))) (w : List (List ℕ)) → has_blocks_in (filled_body b ls) w ≡ has_blocks_in b w
-has_blocks_filled (Chirotope m) ls w = refl
-has_blocks_filled (Points ps) ls w = refl
-has_blocks_filled _ ls w = refl
+pub has_blocks_filled : (s : Setting) (b : Body) (ls : List (List (List ℕ))) (w : List (List ℕ)) → has_blocks_in (filled_body s b ls) w ≡ has_blocks_in b w
+has_blocks_filled s (Chirotope m) ls w = refl
+has_blocks_filled s (Points ps) ls w = refl
+has_blocks_filled s _ ls w = refl
 
-pub has_length_filled : (b : Body) (ls : List (List (List ℕ))) (n : ℕ) (w : List (List ℕ)) → has_length_in (filled_body b ls) n w ≡ has_length_in b n w
-has_length_filled (Chirotope m) ls n w = refl
-has_length_filled (Points ps) ls n w = refl
-has_length_filled _ ls n w = refl
+pub has_length_filled : (s : Setting) (b : Body) (ls : List (List (List ℕ))) (n : ℕ) (w : List (List ℕ)) → has_length_in (filled_body s b ls) n w ≡ has_length_in b n w
+has_length_filled s (Chirotope m) ls n w = refl
+has_length_filled s (Points ps) ls n w = refl
+has_length_filled s _ ls n w = refl
 
-pub room_filled : (b : Body) (ls : List (List (List ℕ))) (n : ℕ) → room_of (filled_body b ls) n ≡ room_of b n
-room_filled (Chirotope m) ls n = refl
-room_filled (Points ps) ls n = refl
-room_filled _ ls n = refl
+pub room_filled : (s : Setting) (b : Body) (ls : List (List (List ℕ))) (n : ℕ) → room_of (filled_body s b ls) n ≡ room_of b n
+room_filled s (Chirotope m) ls n = refl
+room_filled s (Points ps) ls n = refl
+room_filled s _ ls n = refl
 
 all_signs-append : (ls : List (List (List ℕ))) (w : List (List ℕ)) → all_signs (ls ++ w ∷ []) ≡ all_signs ls ++ signs_of_line w
 all_signs-append ls w = rw (map-append concat ls (w ∷ []), concat-append (map concat ls) (concat w ∷ []), append-nil (concat w)) (map-append sign_of_byte (concat (map concat ls)) (concat w))
@@ -80,40 +83,57 @@ all_signs-append ls w = rw (map-append concat ls (w ∷ []), concat-append (map 
 blocks-append : (ls : List (List (List ℕ))) (w : List (List ℕ)) → flat_map blocks_on (ls ++ w ∷ []) ≡ flat_map blocks_on ls ++ blocks_on w
 blocks-append ls w = flat_map-append blocks_on ls (w ∷ []) ∙ ap (λ r. flat_map blocks_on ls ++ r) (append-nil (blocks_on w))
 
+members_line : (s : Setting) (w : List (List ℕ)) → members_of_line s w ≡ members_on s (signs_of_line w)
+members_line Plain w = refl
+members_line Revlex w = refl
+members_line Half w = refl
+
+members-append : (s : Setting) (ls : List (List (List ℕ))) (w : List (List ℕ)) → distinct (flat_map (members_of_line s) (ls ++ w ∷ [])) ≡ with_line_members s (distinct (flat_map (members_of_line s) ls)) w
+members-append s ls w =
+    let e : flat_map (members_of_line s) (ls ++ w ∷ []) ≡ flat_map (members_of_line s) ls ++ members_on s (signs_of_line w) = flat_map-append (members_of_line s) ls (w ∷ []) ∙ ap (λ r. flat_map (members_of_line s) ls ++ r) (append-nil (members_of_line s w) ∙ members_line s w) in
+    ap distinct e ∙ distinct-each (flat_map (members_of_line s) ls) (members_on s (signs_of_line w))
+
 -- one more line
-pub filled_added : (b : Body) (ls : List (List (List ℕ))) (w : List (List ℕ)) → added_body (filled_body b ls) w ≡ filled_body b (ls ++ w ∷ [])
-filled_added (Chirotope m) ls w = ap (λ xs. Chirotope (record { rank = m.rank; elements = m.elements; signs = xs })) (sym (all_signs-append ls w))
-filled_added (Wiring bs) ls w = ap Wiring (sym (blocks-append ls w))
-filled_added (Points ps) ls w = ap Points (sym (map-append point_on ls (w ∷ [])))
-filled_added b ls w = ap (with_members b) (sym (ap distinct (map-append signs_of_line ls (w ∷ [])) ∙ distinct-append (map signs_of_line ls) (signs_of_line w)))
+pub filled_added : (s : Setting) (b : Body) (ls : List (List (List ℕ))) (w : List (List ℕ)) → added_body s (filled_body s b ls) w ≡ filled_body s b (ls ++ w ∷ [])
+filled_added s (Chirotope m) ls w = ap (λ xs. Chirotope (record { rank = m.rank; elements = m.elements; signs = xs })) (sym (all_signs-append ls w))
+filled_added s (Wiring bs) ls w = ap Wiring (sym (blocks-append ls w))
+filled_added s (Points ps) ls w = ap Points (sym (map-append point_on ls (w ∷ [])))
+filled_added s b ls w = ap (with_members b) (sym (members-append s ls w))
 
-pub size_grows : (b : Body) (w : List (List ℕ)) → size_of b ≤ size_of (added_body b w)
-size_grows (Chirotope m) w = omega (arith, length-append m.signs (signs_of_line w))
-size_grows (Wiring bs) w = omega (arith, length-append bs (blocks_on w))
-size_grows (Points ps) w = omega (arith, length-append ps (point_on w ∷ []))
-size_grows b w = with_member_grows (members_of b) (signs_of_line w)
+pub size_grows : (s : Setting) (b : Body) (w : List (List ℕ)) → size_of b ≤ size_of (added_body s b w)
+size_grows s (Chirotope m) w = omega (arith, length-append m.signs (signs_of_line w))
+size_grows s (Wiring bs) w = omega (arith, length-append bs (blocks_on w))
+size_grows s (Points ps) w = omega (arith, length-append ps (point_on w ∷ []))
+size_grows s b w = with_each_grows (members_of b) (members_on s (signs_of_line w))
 
-pub size_prefix : (b : Body) (xs ys : List (List (List ℕ))) → size_of (filled_body b xs) ≤ size_of (filled_body b (xs ++ ys))
-size_prefix b xs [] = rw (append-nil xs) (omega arith)
-size_prefix b xs (y ∷ ys) =
-    let one : size_of (filled_body b xs) ≤ size_of (filled_body b (xs ++ y ∷ [])) = rw (← filled_added b xs y) (size_grows (filled_body b xs) y) in
-    let more : size_of (filled_body b (xs ++ y ∷ [])) ≤ size_of (filled_body b ((xs ++ y ∷ []) ++ ys)) = size_prefix b (xs ++ y ∷ []) ys in
+pub size_prefix : (s : Setting) (b : Body) (xs ys : List (List (List ℕ))) → size_of (filled_body s b xs) ≤ size_of (filled_body s b (xs ++ ys))
+size_prefix s b xs [] = rw (append-nil xs) (omega arith)
+size_prefix s b xs (y ∷ ys) =
+    let one : size_of (filled_body s b xs) ≤ size_of (filled_body s b (xs ++ y ∷ [])) = rw (← filled_added s b xs y) (size_grows s (filled_body s b xs) y) in
+    let more : size_of (filled_body s b (xs ++ y ∷ [])) ≤ size_of (filled_body s b ((xs ++ y ∷ []) ++ ys)) = size_prefix s b (xs ++ y ∷ []) ys in
     let e : (xs ++ y ∷ []) ++ ys ≡ xs ++ y ∷ ys = append_assoc xs (y ∷ []) ys in
     rw (← e) (omega arith)
 
 -- a document with room had it before
-pub room_before : (d : Document) (xs ys : List (List (List ℕ))) → has_room (filled d (xs ++ ys)) ≡ true → has_room (filled d xs) ≡ true
-room_before d xs ys h =
-    let r = room_filled d.body xs d.elements in
-    let q = room_filled d.body (xs ++ ys) d.elements in
-    let g = size_prefix d.body xs ys in
-    let l : size_of (filled_body d.body (xs ++ ys)) ≤ room_of (filled_body d.body (xs ++ ys)) d.elements = leb-true _ _ h in
+pub room_before : (s : Setting) (d : Document) (xs ys : List (List (List ℕ))) → has_room (filled s d (xs ++ ys)) ≡ true → has_room (filled s d xs) ≡ true
+room_before s d xs ys h =
+    let r = room_filled s d.body xs d.elements in
+    let q = room_filled s d.body (xs ++ ys) d.elements in
+    let g = size_prefix s d.body xs ys in
+    let l : size_of (filled_body s d.body (xs ++ ys)) ≤ room_of (filled_body s d.body (xs ++ ys)) d.elements = leb-true _ _ h in
     le-leb _ _ (omega arith)
 
-pub room_empty : (d : Document) → has_room (filled d []) ≡ true
-room_empty d = at d.body
+pub room_empty : (s : Setting) (d : Document) → has_room (filled s d []) ≡ true
+room_empty s d = at d.body
   where
-    at : (b : Body) → nat_le (size_of (filled_body b [])) (room_of (filled_body b []) d.elements) ≡ true
+    at : (b : Body) → nat_le (size_of (filled_body s b [])) (room_of (filled_body s b []) d.elements) ≡ true
     at (Chirotope m) = leb-zero (choose m.elements m.rank)
     at (Points ps) = leb-zero d.elements
     at _ = refl
+
+-- without body lines the setting says nothing
+pub empty_filled : (s t : Setting) (b : Body) → filled_body s b [] ≡ filled_body t b []
+empty_filled s t (Chirotope m) = refl
+empty_filled s t (Wiring bs) = refl
+empty_filled s t (Points ps) = refl
+empty_filled s t b = refl

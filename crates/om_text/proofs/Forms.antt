@@ -21,26 +21,16 @@ use Rattle.om_text.specs.Document.{IsSpelled, are_signs, signs_of_line, is_body_
 use Rattle.om_text.specs.Form.{IsInForm, AreMembersOn, IsShort, AreBlocks, IsCoordinate, IsPoint, ArePointsOn, IsBodyOn}
 use Rattle.om_text.specs.Blocks.{position_of, is_dash, with_positions, block_of, block_on, are_blocks, blocks_on}
 use Rattle.om_text.specs.Points.{coordinate, with_three, point_of, point_on}
-use Rattle.om_text.proofs.Distinct.{either, same_row-Decides, both}
+use Rattle.om_text.proofs.Distinct.{both}
 use Rattle.om_text.proofs.Course.{named}
 use Rattle.om_text.proofs.BlockWords.{position_within}
 use Rattle.om_text.proofs.Digits.{signed_within}
 use Rattle.om_text.proofs.Small.{mapped}
+use Rattle.om_text.proofs.Sorting.{distinct_differ}
 
 All-distinct : (P : List Sign → Type 0) (xs : List (List Sign)) → All P xs → All P (distinct xs)
 All-distinct P [] h = h
 All-distinct P (x ∷ xs) h = All-cons P x _ (All-head P x xs h) (All-filter (λ y. not (same_row x y)) P (distinct xs) (All-distinct P xs (All-tail P x xs h)))
-
-others_differ : (x : List Sign) (ys : List (List Sign)) → All (λ y. x ≢ y) (filter (λ y. not (same_row x y)) ys)
-others_differ x [] = All-nil (λ y. x ≢ y)
-others_differ x (y ∷ ys) = elim (either (same_row x y)) [
-  | inl e ↦ rw e (others_differ x ys)
-  | inr n ↦ rw n (All-cons (λ y. x ≢ y) y _ (λ q. let t = (same_row-Decides x y).1 q in cc) (others_differ x ys))
-]
-
-pub distinct_differ : (xs : List (List Sign)) → AllPairs (λ x y. x ≢ y) (distinct xs)
-distinct_differ [] = λ i j d l m. absurd (omega arith)
-distinct_differ (x ∷ xs) = AllPairs-cons (λ x y. x ≢ y) x _ (others_differ x (distinct xs)) (AllPairs-filter (λ x y. x ≢ y) (λ y. not (same_row x y)) (distinct xs) (distinct_differ xs))
 
 rows_long : (n : ℕ) (ls : List (List (List ℕ))) → list_all (λ l. are_signs l && nat_eq (length (concat l)) n) ls ≡ true → All (λ x. length x ≡ n) (map signs_of_line ls)
 rows_long n [] h = All-nil (λ x. length x ≡ n)

@@ -1,5 +1,6 @@
 pub mod Distinct
 pub mod Filling
+pub mod SettingLines
 pub mod Course
 pub mod Completion
 pub mod Outcome
@@ -12,6 +13,9 @@ pub mod Part
 pub mod Numbers
 pub mod Forms
 pub mod Sorting
+pub mod Orders
+pub mod Halves
+pub mod NameTexts
 pub mod Joined
 pub mod Small
 mod Samples
@@ -19,8 +23,12 @@ mod ListSamples
 mod PointSamples
 mod BlockSamples
 pub mod Printing
+pub mod PrintingTwo
 pub mod Texts
 pub mod Numerals
+pub mod BodyTexts
+pub mod KindLines
 pub mod Reread
+pub mod RereadTwo
 pub mod Feeds
 pub mod Language

@@ -1,6 +1,6 @@
 -- The text of lines, put together piece by piece.
 --
--- Main results: rows_more, members_more, blocks_more, points_more, pushed, printed_bytes
+-- Main results: sign_lines_step, rows_more, members_more, blocks_more, points_more, pushed, printed_bytes
 use Rattle.std.proofs.Common.{◌≡◌, ℕ, suc, ◌+◌, ◌-◌, ◌/◌, ◌<◌, min, List, [], ◌∷◌, ◌++◌, length, take, drop, get_or, map, refl, sym, ap, ◌∙◌, arith, append_assoc, length-drop, inl, inr, Bool, true, false, nat_eq}
 use Rattle.std.proofs.lemmas.List.{take_rest, take_min, take-map, drop-map, take_more, map-append}
 use Rattle.std.proofs.Math.ListN.{drop_of_length-le}

@@ -1,16 +1,17 @@
 -- Sorted members.
 --
--- Main results: sorted_is, sorted_permutes, sorted_rises, All-sorted, sorted_differ, length-sorted, distinct_itself
+-- Main results: sorted_is, sorted_permutes, sorted_rises, All-sorted, sorted_differ, length-sorted, distinct_differ, distinct_itself, same_members
 use Rattle.std.proofs.Common.{◌≡◌, ◌≢◌, ◌≤◌, ◌+◌, ℕ, zero, suc, arith, List, [], ◌∷◌, false, cond, not, inl, inr, length, refl, sym, ap, subst, ◌∙◌}
 use Rattle.std.specs.Prelude.{All, AllPairs, filter, sum_by}
+use Rattle.std.specs.List.{list_any}
 use Rattle.std.specs.List.Sorted.{IsPermutation, IsSorted}
 use Rattle.std.specs.Cmp.{IsStrictWeakOrder}
 use Rattle.std.specs.declared.cmp.Ordering.{Ordering}
 use Rattle.std.specs.declared.cmp.Ordering.TheVariants.{Less, Equal, Greater}
 use Rattle.std.specs.Ordering.{is_lt, ordering_reverse}
 use Rattle.std.proofs.lemmas.List.Elements.{All-nil, All-cons, All-head, All-tail}
-use Rattle.std.proofs.lemmas.List.Kept.{AllPairs-cons}
-use Rattle.std.proofs.lemmas.List.Sorted.{ranks_by, sorted_far, sum_by-IsPermutation, IsPermutation-refl, IsPermutation-trans, IsPermutation-middle, IsPermutation-cons}
+use Rattle.std.proofs.lemmas.List.Kept.{AllPairs-cons, AllPairs-filter}
+use Rattle.std.proofs.lemmas.List.Sorted.{ranks_by, sorted_far, sum_by-IsPermutation, IsPermutation-refl, IsPermutation-sym, IsPermutation-trans, IsPermutation-middle, IsPermutation-cons}
 use Rattle.std.proofs.lemmas.List.Sums.{sum_by-cons}
 use Rattle.om_signs.specs.declared.sign.Sign.{Sign}
 use Rattle.om_signs.specs.Order.{lexicographic}
@@ -192,8 +193,46 @@ others_kept x (y ∷ ys) a = elim (either (same_row x y)) [
   | inr n ↦ rw n (ap (λ r. y ∷ r) (others_kept x ys (All-tail (λ y. x ≢ y) y ys a)))
 ]
 
+others_differ : (x : List Sign) (ys : List (List Sign)) → All (λ y. x ≢ y) (filter (λ y. not (same_row x y)) ys)
+others_differ x [] = All-nil (λ y. x ≢ y)
+others_differ x (y ∷ ys) = elim (either (same_row x y)) [
+  | inl e ↦ rw e (others_differ x ys)
+  | inr n ↦ rw n (All-cons (λ y. x ≢ y) y _ (λ q. let t = (same_row-Decides x y).1 q in cc) (others_differ x ys))
+]
+
+pub distinct_differ : (xs : List (List Sign)) → AllPairs (λ x y. x ≢ y) (distinct xs)
+distinct_differ [] = λ i j d l m. absurd (omega arith)
+distinct_differ (x ∷ xs) = AllPairs-cons (λ x y. x ≢ y) x _ (others_differ x (distinct xs)) (AllPairs-filter (λ x y. x ≢ y) (λ y. not (same_row x y)) (distinct xs) (distinct_differ xs))
+
 pub distinct_itself : (ms : List (List Sign)) → AllPairs (λ x y. x ≢ y) ms → distinct ms ≡ ms
 distinct_itself [] p = refl
 distinct_itself (x ∷ xs) p =
     ap (λ r. x ∷ filter (λ y. not (same_row x y)) r) (distinct_itself xs (pairs_tail (λ x y. x ≢ y) x xs p))
     ∙ ap (λ r. x ∷ r) (others_kept x xs (pairs_head (λ x y. x ≢ y) x xs p))
+
+-- different members, each of which is a member of the other list
+
+no_other : (x : List Sign) (ys : List (List Sign)) → All (λ y. x ≢ y) ys → list_any (same_row x) ys ≡ false
+no_other x [] a = refl
+no_other x (y ∷ ys) a = elim (either (same_row x y)) [
+  | inl e ↦ absurd (All-head (λ y. x ≢ y) y ys a ((same_row-Decides x y).0 e))
+  | inr n ↦ rw n (no_other x ys (All-tail (λ y. x ≢ y) y ys a))
+]
+
+-- a member of different members stands there once
+count-different : (z : List Sign) (xs : List (List Sign)) → AllPairs (λ x y. x ≢ y) xs → count z xs ≡ cond (list_any (same_row z) xs) 1 0
+unfolding count tally
+count-different z [] p = refl
+count-different z (x ∷ xs) p = elim (either (same_row z x)) [
+  | inl e ↦
+      let q : z ≡ x = (same_row-Decides z x).0 e in
+      let n : list_any (same_row z) xs ≡ false = subst (λ y. list_any (same_row y) xs ≡ false) (sym q) (no_other x xs (pairs_head (λ x y. x ≢ y) x xs p)) in
+      let k : count z xs ≡ 0 = count-different z xs (pairs_tail (λ x y. x ≢ y) x xs p) ∙ ap (λ b. cond b 1 0) n in
+      rw e (omega arith)
+  | inr n ↦ let i = count-different z xs (pairs_tail (λ x y. x ≢ y) x xs p) in rw n (omega arith)
+]
+
+pub same_members : (xs ys : List (List Sign)) → AllPairs (λ x y. x ≢ y) xs → AllPairs (λ x y. x ≢ y) ys → ((z : List Sign) → list_any (same_row z) xs ≡ list_any (same_row z) ys) → IsPermutation xs ys
+same_members xs ys p q h =
+    let e : sorted xs ≡ sorted ys = unique (sorted xs) (sorted ys) (sorted_up xs) (sorted_up ys) (λ z. count-sorted z xs ∙ count-different z xs p ∙ ap (λ b. cond b 1 0) (h z) ∙ sym (count-different z ys q) ∙ sym (count-sorted z ys)) in
+    IsPermutation-trans xs (sorted xs) ys (sorted_permutes xs) (subst (λ zs. IsPermutation zs ys) (sym e) (IsPermutation-sym ys (sorted ys) (sorted_permutes ys)))

@@ -64,9 +64,13 @@ abbrev pub first_stage : Version → Stage
 first_stage One = InBody
 first_stage Two = Names
 
+-- the draft of a document with these names
+abbrev pub draft_of : List (List ℕ) → Setting → Document → Stage → Draft
+draft_of names s d g = record { document = record { elements = d.elements; body = d.body; names = names }; setting = s; stage = g }
+
 -- the draft that a kind line opens
 abbrev pub first_draft : Version → Document → Draft
-first_draft v d = record { document = filled Plain d []; setting = Plain; stage = first_stage v }
+first_draft v d = draft_of [] Plain (filled Plain d []) (first_stage v)
 
 -- this draft, if its numbers are in range
 abbrev pub in_range : Version → Document → Result State Code
@@ -88,7 +92,7 @@ takes_settings _ = true
 
 -- a draft with these names
 abbrev pub with_names : Draft → List (List ℕ) → Draft
-with_names d ws = record { document = record { elements = d.document.elements; body = d.document.body; names = ws }; setting = d.setting; stage = Choice }
+with_names d ws = draft_of ws d.setting d.document Choice
 
 -- a draft with what an `order` or `half` line says
 abbrev pub with_setting : Draft → Option Setting → Result State Code

@@ -5,7 +5,7 @@ ghost use Rattle.om_text.specs.Lines.{runs};
 ghost use Rattle.om_text.specs.Words.{plain};
 ghost use Rattle.om_text.specs.Heading.{kind_of, plain_numbers, sizes, numbers, headed, rank_of_body, empty_body};
 ghost use Rattle.om_text.specs.declared.setting.Setting.TheVariants.{Plain};
-ghost use Rattle.om_text.specs.Document.{filled};
+ghost use Rattle.om_text.specs.Document.{filled_body};
 ghost use Rattle.om_text.specs.Reading.{in_range, first_stage, after_kind};
 
 use super::body::Body;
@@ -95,10 +95,10 @@ fn sizes_in(alloc: Global, kind: Kind, line: &[u8]) -> Option<(u32, u32)>
     sizes_of(kind, numbers.as_slice())
 }
 
-fn empty_document(alloc: Global, kind: Kind, rank: u8, elements: u8) -> Document
-    ensures { result ≡ filled Plain (headed kind (rank, elements)) [] }
+fn empty_body(alloc: Global, kind: Kind, rank: u8, elements: u8) -> Body
+    ensures { result ≡ filled_body Plain (empty_body kind rank elements) [] }
 {
-    let body = match kind {
+    match kind {
         Kind::Chirotope => Body::Chirotope(RawMap {
             rank,
             elements,
@@ -109,11 +109,6 @@ fn empty_document(alloc: Global, kind: Kind, rank: u8, elements: u8) -> Document
         Kind::Covectors => Body::Covectors(List::new(alloc)),
         Kind::Wiring => Body::Wiring(List::new(alloc)),
         Kind::Points => Body::Points(List::new(alloc)),
-    };
-    Document {
-        elements,
-        body,
-        names: List::new(alloc),
     }
 }
 
@@ -154,7 +149,11 @@ fn open(
         return Err(Code::Rank { r: rank });
     }
     Ok(State::Open(Draft {
-        document: empty_document(alloc, kind, rank as u8, elements as u8),
+        document: Document {
+            elements: elements as u8,
+            body: empty_body(alloc, kind, rank as u8, elements as u8),
+            names: List::new(alloc),
+        },
         setting: Setting::Plain,
         stage: first_stage(version),
     }))

@@ -14,6 +14,7 @@ mod name;
 mod parse_error;
 mod points;
 mod printer;
+mod printer_two;
 mod reader;
 mod refusal;
 mod revlex;
@@ -36,5 +37,6 @@ pub use laws::{
 pub use name::Name;
 pub use parse_error::ParseError;
 pub use printer::print;
+pub use printer_two::print_two;
 pub use reader::{parse, parse_part};
 pub use refusal::Refusal;

@@ -16,9 +16,9 @@ use om_signs::{Block, List, NoMemory, Sign, SignVec};
 use std::alloc::Global;
 
 /// How many signs of a map stand in a line.
-const LINE_SIGNS: usize = 64;
+pub const LINE_SIGNS: usize = 64;
 
-fn byte_of_sign(sign: Sign) -> u8
+pub fn byte_of_sign(sign: Sign) -> u8
     ensures { result ≡ byte_of sign }
 {
     match sign {
@@ -53,7 +53,7 @@ fn push_rows(out: &mut Vec<u8>, signs: &[Sign]) -> Result<(), NoMemory>
 }
 
 /// Puts a sign vector at the end, as a line.
-fn push_member(out: &mut Vec<u8>, member: SignVec) -> Result<(), NoMemory>
+pub fn push_member(out: &mut Vec<u8>, member: SignVec) -> Result<(), NoMemory>
     ensures { OnOk result (out.new.items ≡ out.old.items ++ map byte_of member ++ 10 ∷ []) }
 {
     for place in 0..member.len() {
@@ -64,7 +64,7 @@ fn push_member(out: &mut Vec<u8>, member: SignVec) -> Result<(), NoMemory>
 }
 
 /// The members, sorted.
-fn sorted_members(alloc: Global, members: &[SignVec]) -> Result<Vec<SignVec>, NoMemory>
+pub fn sorted_members(alloc: Global, members: &[SignVec]) -> Result<Vec<SignVec>, NoMemory>
     ensures { IfOk result (λ v. v.items ≡ sorted members.now) }
 {
     let mut rows = Vec::from_slice(alloc, members)?;
@@ -126,7 +126,7 @@ fn push_block(out: &mut Vec<u8>, block: Block) -> Result<(), NoMemory>
 }
 
 /// Puts blocks at the end, one a line.
-fn push_blocks(out: &mut Vec<u8>, blocks: &[Block]) -> Result<(), NoMemory>
+pub fn push_blocks(out: &mut Vec<u8>, blocks: &[Block]) -> Result<(), NoMemory>
     ensures { OnOk result (out.new.items ≡ out.old.items ++ text_of (block_lines blocks.now)) }
 {
     for block in blocks {
@@ -136,7 +136,7 @@ fn push_blocks(out: &mut Vec<u8>, blocks: &[Block]) -> Result<(), NoMemory>
 }
 
 /// Puts points at the end, one a line.
-fn push_points(out: &mut Vec<u8>, points: &[[i64; 3]]) -> Result<(), NoMemory>
+pub fn push_points(out: &mut Vec<u8>, points: &[[i64; 3]]) -> Result<(), NoMemory>
     requires { All IsPoint points.now }
     ensures { OnOk result (out.new.items ≡ out.old.items ++ text_of (point_lines points.now)) }
 {
@@ -146,43 +146,52 @@ fn push_points(out: &mut Vec<u8>, points: &[[i64; 3]]) -> Result<(), NoMemory>
     Ok(())
 }
 
-fn push_bytes(out: &mut Vec<u8>, bytes: &[u8]) -> Result<(), NoMemory>
+pub fn push_bytes(out: &mut Vec<u8>, bytes: &[u8]) -> Result<(), NoMemory>
     ensures { OnOk result (out.new.items ≡ out.old.items ++ bytes.now) }
 {
     out.extend_from_slice(bytes)?;
     Ok(())
 }
 
-/// The first two lines of a map.
-fn map_heading(alloc: Global, rank: u8, elements: u8) -> Result<Vec<u8>, NoMemory>
+/// The kind line of a map.
+fn map_line(alloc: Global, rank: u8, elements: u8) -> Result<Vec<u8>, NoMemory>
     ensures { IfOk result (λ bytes. bytes.items
-        ≡ codes "om 1" ++ 10 ∷ (codes "chirotope " ++ (decimal rank ++ 32 ∷ (decimal elements ++ 10 ∷ [])))) }
+        ≡ codes "chirotope " ++ (decimal rank ++ 32 ∷ (decimal elements ++ 10 ∷ []))) }
 {
-    let text = format!(in alloc; "om 1\nchirotope {rank} {elements}\n")?;
+    let text = format!(in alloc; "chirotope {rank} {elements}\n")?;
     Ok(text.into_bytes())
 }
 
-/// The first two lines of a list of this kind.
-fn list_heading(alloc: Global, name: &str, elements: u8) -> Result<Vec<u8>, NoMemory>
-    ensures { IfOk result (λ bytes. bytes.items
-        ≡ codes "om 1" ++ 10 ∷ (name.now ++ 32 ∷ (decimal elements ++ 10 ∷ []))) }
+/// The kind line of another kind.
+fn list_line(alloc: Global, name: &str, elements: u8) -> Result<Vec<u8>, NoMemory>
+    ensures { IfOk result (λ bytes. bytes.items ≡ name.now ++ 32 ∷ (decimal elements ++ 10 ∷ [])) }
 {
-    let text = format!(in alloc; "om 1\n{name} {elements}\n")?;
+    let text = format!(in alloc; "{name} {elements}\n")?;
     Ok(text.into_bytes())
 }
 
-/// The first two lines.
-fn heading(alloc: Global, document: &Document) -> Result<Vec<u8>, NoMemory>
-    ensures { IfOk result (λ bytes. bytes.items ≡ text_of (codes "om 1" ∷ kind_text document.now ∷ [])) }
+/// The kind line.
+fn kind_line(alloc: Global, document: &Document) -> Result<Vec<u8>, NoMemory>
+    ensures { IfOk result (λ bytes. bytes.items ≡ text_of (kind_text document.now ∷ [])) }
 {
     match &document.body {
-        Body::Chirotope(map) => map_heading(alloc, map.rank, document.elements),
-        Body::Circuits(_) => list_heading(alloc, "circuits", document.elements),
-        Body::Cocircuits(_) => list_heading(alloc, "cocircuits", document.elements),
-        Body::Covectors(_) => list_heading(alloc, "covectors", document.elements),
-        Body::Wiring(_) => list_heading(alloc, "wiring", document.elements),
-        Body::Points(_) => list_heading(alloc, "points", document.elements),
+        Body::Chirotope(map) => map_line(alloc, map.rank, document.elements),
+        Body::Circuits(_) => list_line(alloc, "circuits", document.elements),
+        Body::Cocircuits(_) => list_line(alloc, "cocircuits", document.elements),
+        Body::Covectors(_) => list_line(alloc, "covectors", document.elements),
+        Body::Wiring(_) => list_line(alloc, "wiring", document.elements),
+        Body::Points(_) => list_line(alloc, "points", document.elements),
     }
+}
+
+/// The first two lines: the one that is given, and the kind line.
+pub fn heading(alloc: Global, version: &[u8], document: &Document) -> Result<Vec<u8>, NoMemory>
+    ensures { IfOk result (λ bytes. bytes.items ≡ version.now ++ text_of (kind_text document.now ∷ [])) }
+{
+    let mut out = Vec::from_slice(alloc, version)?;
+    let line = kind_line(alloc, document)?;
+    push_bytes(&mut out, line.as_slice())?;
+    Ok(out)
 }
 
 fn push_body(out: &mut Vec<u8>, body: &Body, elements: u8) -> Result<(), NoMemory>
@@ -213,7 +222,7 @@ pub fn print(alloc: Global, document: &Document) -> Result<Vec<u8>, NoMemory>
     // What is printed is a document, and reads as this one with its members sorted.
     ensures again { IfOk result (λ bytes. IsDocument (lines bytes.items) (sorted_document document.now)) }
 {
-    let mut out = heading(alloc, document)?;
+    let mut out = heading(alloc, b"om 1\n", document)?;
     push_body(&mut out, &document.body, document.elements)?;
     push_bytes(&mut out, b"end\n")?;
     Ok(out)
