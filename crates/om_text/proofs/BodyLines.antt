@@ -1,9 +1,10 @@
--- What a line of a body makes of an open document, from what it makes of the body.
+-- What a line of a body makes of a draft, from what it makes of the body.
 --
 -- Main results: open_line, open_refused
 use Rattle.std.proofs.Common.{◌≡◌, ℕ, List, Bool, true, false, cond, ap}
 use Rattle.std.specs.Prelude.{Ok, Err}
-use Rattle.om_text.specs.declared.document.Document.{Document}
+use Rattle.om_text.specs.declared.draft.Draft.{Draft}
+use Rattle.om_text.specs.declared.stage.Stage.TheVariants.{Body as InBody}
 use Rattle.om_text.specs.declared.body.Body.{Body}
 use Rattle.om_text.specs.declared.code.Code.{Code}
 use Rattle.om_text.specs.declared.code.Code.TheVariants as code
@@ -15,12 +16,16 @@ use Rattle.om_text.specs.Document.{has_signs, has_length, has_blocks, has_number
 use Rattle.om_text.specs.Reading.{after_body, added, added_body}
 use Rattle.om_text.specs.Added.{Gives, filled_line}
 
--- the document goes on with the body that the line makes
-pub open_line : (d : Document) (w : List (List ℕ)) (b : Body) → has_signs d w ≡ true → has_length d w ≡ true → filled_line d.elements d.body w ≡ Ok b → after_body d w ≡ Ok (Open (record { elements = d.elements; body = b }))
-open_line d w b s l h = at (has_signs d w) (has_length d w) (has_blocks d w) (has_numbers d w) (has_room (added d w)) (added_body d.body w) b s l h
+-- a draft with this body
+abbrev pub with_body : Draft → Body → Draft
+with_body d b = record { document = record { elements = d.document.elements; body = b; names = d.document.names }; setting = d.setting; stage = InBody }
+
+-- the draft goes on with the body that the line makes
+pub open_line : (d : Draft) (w : List (List ℕ)) (b : Body) → has_signs d.document w ≡ true → has_length d.document w ≡ true → filled_line d.setting d.document.elements d.document.body w ≡ Ok b → after_body d w ≡ Ok (Open (with_body d b))
+open_line d w b s l h = at (has_signs d.document w) (has_length d.document w) (has_blocks d.document w) (has_numbers d.document w) (has_room (added d w).document) (added_body d.setting d.document.body w) b s l h
   where
-    at : (s l f c e : Bool) (x b : Body) → s ≡ true → l ≡ true → cond f (cond c (cond e (Ok x) (Err code.Many)) (Err code.Number)) (Err code.Block) ≡ Ok b → cond s (cond l (cond f (cond c (cond e (Ok (Open (record { elements = d.elements; body = x }))) (Err code.Many)) (Err code.Number)) (Err code.Block)) (Err code.Length)) (Err code.Sign) ≡ Ok (Open (record { elements = d.elements; body = b }))
-    at true true true true true x b s l h = let q : x ≡ b = cc in ap (λ y. Ok (Open (record { elements = d.elements; body = y }))) q
+    at : (s l f c e : Bool) (x b : Body) → s ≡ true → l ≡ true → cond f (cond c (cond e (Ok x) (Err code.Many)) (Err code.Number)) (Err code.Block) ≡ Ok b → cond s (cond l (cond f (cond c (cond e (Ok (Open (with_body d x))) (Err code.Many)) (Err code.Number)) (Err code.Block)) (Err code.Length)) (Err code.Sign) ≡ Ok (Open (with_body d b))
+    at true true true true true x b s l h = let q : x ≡ b = cc in ap (λ y. Ok (Open (with_body d y))) q
     at true true true true false x b s l h = cc
     at true true true false e x b s l h = cc
     at true true false c e x b s l h = cc
@@ -28,9 +33,9 @@ open_line d w b s l h = at (has_signs d w) (has_length d w) (has_blocks d w) (ha
     at false l f c e x b s m h = cc
 
 -- a line that the body refuses is refused
-pub open_refused : (d : Document) (w : List (List ℕ)) (r : Refusal) → has_signs d w ≡ true → has_length d w ≡ true → Gives {A = Body} (Err r) (filled_line d.elements d.body w) → Gives {A = State} (Err r) (after_body d w)
+pub open_refused : (d : Draft) (w : List (List ℕ)) (r : Refusal) → has_signs d.document w ≡ true → has_length d.document w ≡ true → Gives {A = Body} (Err r) (filled_line d.setting d.document.elements d.document.body w) → Gives {A = State} (Err r) (after_body d w)
 open_refused d w refusal.Memory s l h = tt
-open_refused d w (refusal.Line c) s l h = at (has_signs d w) (has_length d w) (has_blocks d w) (has_numbers d w) (has_room (added d w)) (added_body d.body w) (Open (added d w)) c s l h
+open_refused d w (refusal.Line c) s l h = at (has_signs d.document w) (has_length d.document w) (has_blocks d.document w) (has_numbers d.document w) (has_room (added d w).document) (added_body d.setting d.document.body w) (Open (added d w)) c s l h
   where
     at : (s l f g e : Bool) (x : Body) (t : State) (c : Code) → s ≡ true → l ≡ true → cond f (cond g (cond e (Ok x) (Err code.Many)) (Err code.Number)) (Err code.Block) ≡ Err c → cond s (cond l (cond f (cond g (cond e (Ok t) (Err code.Many)) (Err code.Number)) (Err code.Block)) (Err code.Length)) (Err code.Sign) ≡ Err c
     at true true true true true x t c s l h = cc

@@ -1,7 +1,7 @@
 -- The lines of a body, as they are read.
 --
 -- Main definitions: AreRows, AreCut, ArePointLines, AreBlockLines
--- Main results: map_rows, member_rows, members_long, points_reread, blocks_reread
+-- Main results: map_rows, map_each, member_rows, members_long, points_reread, blocks_reread
 use Rattle.std.proofs.Common.{◌≡◌, ℕ, zero, suc, ◌+◌, ◌*◌, ◌/◌, ◌<◌, ◌≤◌, List, [], ◌∷◌, ◌++◌, true, ◌&&◌, cond, length, take, drop, map, refl, sym, ap, ◌∙◌, arith, append-nil, nat_eq, length-drop, eq-eqb}
 use Rattle.std.specs.Prelude.{ℤ, unsigned_abs, is_some, unwrap_or, filter, Some, All}
 use Rattle.std.specs.List.{list_all, concat, flat_map}
@@ -12,13 +12,15 @@ use Rattle.std.proofs.lemmas.List.Folds.{list_all-append}
 use Rattle.om_signs.specs.declared.limits.TheConstants.{MAX_COORDINATE}
 use Rattle.om_signs.specs.declared.block.Block.{Block}
 use Rattle.om_signs.specs.declared.sign.Sign.{Sign}
+use Rattle.om_text.specs.declared.kind.Kind.TheVariants as kinds
+use Rattle.om_text.specs.Heading.{headed}
 use Rattle.om_text.specs.Lines.{has_any, words, wordful}
 use Rattle.om_text.specs.Words.{is_sign, byte_of}
 use Rattle.om_text.specs.Blocks.{block_of, block_on, are_blocks, blocks_on}
 use Rattle.om_text.specs.Points.{point_of, point_on}
-use Rattle.om_text.specs.Document.{are_signs}
+use Rattle.om_text.specs.Document.{are_signs, is_body_line}
 use Rattle.om_text.specs.Form.{IsShort, IsCoordinate, IsPoint}
-use Rattle.om_text.specs.Print.{cut, sign_lines, member_lines, block_text, block_lines, spaced, point_lines}
+use Rattle.om_text.specs.Print.{cut, member_lines, block_text, block_lines, spaced, point_lines}
 use Rattle.om_text.proofs.BlockWords.{block_word}
 use Rattle.om_text.proofs.Feeds.{is_one_line}
 use Rattle.om_text.proofs.Numerals.{IsSigned, signed_word}
@@ -72,6 +74,11 @@ cut_rows (suc k) (b ∷ bs) h l s =
 
 pub map_rows : (xs : List Sign) → AreCut ((length xs + 63) / 64) (map byte_of xs)
 map_rows xs = let n = length-map xs byte_of in cut_rows ((length xs + 63) / 64) (map byte_of xs) (omega arith) (omega arith) (bytes_are_signs xs)
+
+-- they may stand in the body of a map
+pub map_each : (r n : ℕ) (ls : List (List (List ℕ))) → list_all are_signs ls ≡ true → list_all (is_body_line (headed kinds.Chirotope (r, n))) ls ≡ true
+map_each r n [] h = refl
+map_each r n (l ∷ ls) h = let a = both (are_signs l) (list_all are_signs ls) h in rw (a.0, map_each r n ls a.1) refl
 
 -- ---- the lines of members
 

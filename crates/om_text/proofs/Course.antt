@@ -82,7 +82,7 @@ cond_err false r c t h = (refl, h)
 pub ok_same : (s t : State) → ◌≡◌ {A = Result State Code} (Ok s) (Ok t) → s ≡ t
 ok_same s t h = cc
 
-and_no : (a : Bool) → (a && false) ≡ false
+pub and_no : (a : Bool) → (a && false) ≡ false
 and_no true = refl
 and_no false = refl
 

@@ -1,8 +1,8 @@
 -- A document's value has the forms of documents, within the limits.
 --
 -- Main results: document_form
-use Rattle.std.proofs.Common.{◌≡◌, ◌≢◌, arith, ℕ, ◌<◌, List, [], ◌∷◌, true, not, ◌&&◌, inl, inr, length, map, refl, sym, subst, ◌∙◌}
-use Rattle.std.specs.Prelude.{ℤ, Option, Some, None, is_some, unwrap_or, IfSome, All, AllPairs, filter, nat_eq, nat_le}
+use Rattle.std.proofs.Common.{◌≡◌, ◌≢◌, arith, ℕ, ◌<◌, List, [], ◌∷◌, true, not, ◌&&◌, inl, inr, length, map, refl, sym, ap, subst, ◌∙◌}
+use Rattle.std.specs.Prelude.{ℤ, Option, Some, None, is_some, unwrap_or, IfSome, All, AllPairs, filter, nat_eq, nat_le, slice_index_or}
 use Rattle.std.specs.List.{list_all, concat, flat_map, before_first, after_first}
 use Rattle.std.proofs.lemmas.Bool.{leb-true, eqb-true}
 use Rattle.std.proofs.lemmas.List.{length-map}
@@ -10,18 +10,29 @@ use Rattle.std.proofs.lemmas.List.Elements.{All-nil, All-cons, All-head, All-tai
 use Rattle.std.proofs.lemmas.List.Kept.{AllPairs-cons, AllPairs-filter}
 use Rattle.om_signs.specs.declared.limits.TheConstants.{MAX_ELEMENTS, MAX_MEMBERS, MAX_BLOCKS}
 use Rattle.om_signs.specs.declared.block.Block.{Block}
+use Rattle.om_signs.specs.declared.raw_map.RawMap.{RawMap}
 use Rattle.om_signs.specs.declared.sign.Sign.{Sign}
+use Rattle.om_signs.specs.declared.sign.Sign.TheVariants.{Zero}
+use Rattle.om_signs.specs.Sign.{opposite}
+use Rattle.om_subsets.specs.Subsets.{choose, all_subsets}
+use Rattle.om_subsets.specs.Reverse.{revlex_rank_of}
+use Rattle.om_subsets.proofs.Order.{length-subsets_from}
 use Rattle.om_text.specs.declared.document.Document.{Document}
+use Rattle.om_text.specs.declared.body.Body.TheVariants.{Chirotope}
+use Rattle.om_text.specs.declared.setting.Setting.{Setting}
+use Rattle.om_text.specs.declared.setting.Setting.TheVariants.{Plain, Revlex, Half}
 use Rattle.om_text.specs.declared.kind.Kind.{Kind}
 use Rattle.om_text.specs.declared.kind.Kind.TheVariants as kinds
 use Rattle.om_text.specs.Words.{sign_of_byte}
 use Rattle.om_text.specs.Heading.{kind_of, numbers, opened, headed, heading, empty_body, has_elements, has_rank}
 use Rattle.om_text.specs.Rows.{same_row, distinct}
-use Rattle.om_text.specs.Document.{IsSpelled, are_signs, signs_of_line, is_body_line, has_room, is_complete, filled, filled_body}
-use Rattle.om_text.specs.Form.{IsInForm, AreMembersOn, IsShort, AreBlocks, IsCoordinate, IsPoint, ArePointsOn, IsBodyOn}
+use Rattle.om_text.specs.Settings.{in_lexicographic_order, finished}
+use Rattle.om_text.specs.Document.{IsSpelled, are_signs, signs_of_line, members_of_line, all_signs, is_body_line, has_room, is_complete, filled, filled_body}
+use Rattle.om_text.specs.Form.{IsInForm, AreMembersOn, IsShort, AreBlocks, IsCoordinate, IsPoint, ArePointsOn, IsBodyOn, IsMapOn, AreNamesOn}
 use Rattle.om_text.specs.Blocks.{position_of, is_dash, with_positions, block_of, block_on, are_blocks, blocks_on}
 use Rattle.om_text.specs.Points.{coordinate, with_three, point_of, point_on}
 use Rattle.om_text.proofs.Distinct.{both}
+use Rattle.om_text.proofs.SettingLines.{settings_names}
 use Rattle.om_text.proofs.Course.{named}
 use Rattle.om_text.proofs.BlockWords.{position_within}
 use Rattle.om_text.proofs.Digits.{signed_within}
@@ -32,18 +43,26 @@ All-distinct : (P : List Sign → Type 0) (xs : List (List Sign)) → All P xs �
 All-distinct P [] h = h
 All-distinct P (x ∷ xs) h = All-cons P x _ (All-head P x xs h) (All-filter (λ y. not (same_row x y)) P (distinct xs) (All-distinct P xs (All-tail P x xs h)))
 
-rows_long : (n : ℕ) (ls : List (List (List ℕ))) → list_all (λ l. are_signs l && nat_eq (length (concat l)) n) ls ≡ true → All (λ x. length x ≡ n) (map signs_of_line ls)
-rows_long n [] h = All-nil (λ x. length x ≡ n)
-rows_long n (l ∷ ls) h =
+opposite_long : (n : ℕ) (x : List Sign) → length x ≡ n → length (map opposite x) ≡ n
+opposite_long n x h = length-map x opposite ∙ h
+
+line_long : (s : Setting) (n : ℕ) (l : List (List ℕ)) → length (signs_of_line l) ≡ n → All (λ x. length x ≡ n) (members_of_line s l)
+line_long Half n l h = All-cons (λ x. length x ≡ n) (signs_of_line l) (map opposite (signs_of_line l) ∷ []) h (All-cons (λ x. length x ≡ n) (map opposite (signs_of_line l)) [] (opposite_long n (signs_of_line l) h) (All-nil (λ x. length x ≡ n)))
+line_long Plain n l h = All-cons (λ x. length x ≡ n) (signs_of_line l) [] h (All-nil (λ x. length x ≡ n))
+line_long Revlex n l h = All-cons (λ x. length x ≡ n) (signs_of_line l) [] h (All-nil (λ x. length x ≡ n))
+
+rows_long : (s : Setting) (n : ℕ) (ls : List (List (List ℕ))) → list_all (λ l. are_signs l && nat_eq (length (concat l)) n) ls ≡ true → All (λ x. length x ≡ n) (flat_map (members_of_line s) ls)
+rows_long s n [] h = All-nil (λ x. length x ≡ n)
+rows_long s n (l ∷ ls) h =
     let a = both (are_signs l && nat_eq (length (concat l)) n) (list_all (λ l. are_signs l && nat_eq (length (concat l)) n) ls) h in
     let b = both (are_signs l) (nat_eq (length (concat l)) n) a.0 in
-    All-cons (λ x. length x ≡ n) (signs_of_line l) _ (length-map (concat l) sign_of_byte ∙ eqb-true _ _ b.1) (rows_long n ls a.1)
+    All-append (λ x. length x ≡ n) (members_of_line s l) (flat_map (members_of_line s) ls) (line_long s n l (length-map (concat l) sign_of_byte ∙ eqb-true _ _ b.1)) (rows_long s n ls a.1)
 
-members_form : (n : ℕ) (ls : List (List (List ℕ))) → list_all (λ l. are_signs l && nat_eq (length (concat l)) n) ls ≡ true → nat_le (length (distinct (map signs_of_line ls))) MAX_MEMBERS ≡ true → AreMembersOn n (distinct (map signs_of_line ls))
-members_form n ls h m = record {
+members_form : (s : Setting) (n : ℕ) (ls : List (List (List ℕ))) → list_all (λ l. are_signs l && nat_eq (length (concat l)) n) ls ≡ true → nat_le (length (distinct (flat_map (members_of_line s) ls))) MAX_MEMBERS ≡ true → AreMembersOn n (distinct (flat_map (members_of_line s) ls))
+members_form s n ls h m = record {
   few = leb-true _ _ m;
-  long = All-distinct (λ x. length x ≡ n) (map signs_of_line ls) (rows_long n ls h);
-  distinct = distinct_differ (map signs_of_line ls);
+  long = All-distinct (λ x. length x ≡ n) (flat_map (members_of_line s) ls) (rows_long s n ls h);
+  distinct = distinct_differ (flat_map (members_of_line s) ls);
 }
 
 -- the lines of a list
@@ -104,28 +123,45 @@ each_point (l ∷ ls) h =
 points_form : (n : ℕ) (ls : List (List (List ℕ))) → list_all (λ l. is_some (point_of l)) ls ≡ true → length (map point_on ls) ≡ n → ArePointsOn n (map point_on ls)
 points_form n ls h e = record { count = e; each = each_point ls h }
 
-body_form : (k : Kind) (r n : ℕ) (ls : List (List (List ℕ))) → has_rank (headed k (r, n)) ≡ true → list_all (is_body_line (headed k (r, n))) ls ≡ true → has_room (filled (headed k (r, n)) ls) ≡ true → is_complete (filled (headed k (r, n)) ls) ≡ true → IsBodyOn n (filled_body (empty_body k r n) ls)
-body_form kinds.Chirotope r n ls l a m c = record { elements = refl; rank = leb-true r n l; signs = eqb-true _ _ c }
-body_form kinds.Wiring r n ls l a m c = blocks_form ls a m
-body_form kinds.Points r n ls l a m c = points_form n ls a (eqb-true _ _ c)
-body_form _ r n ls l a m c = members_form n ls (lines_of_signs n ls a) m
+-- the values of a map, in lexicographic order
+map_form : (s : Setting) (n : ℕ) (m : RawMap) → IsMapOn n m → IsBodyOn n (in_lexicographic_order s (Chirotope m))
+map_form Plain n m f = f
+map_form Half n m f = f
+map_form Revlex n m f = record {
+  elements = f.elements;
+  rank = f.rank;
+  signs = length-map (all_subsets m.elements m.rank) (λ s. slice_index_or m.signs (revlex_rank_of s) Zero) ∙ length-subsets_from 1 m.elements m.rank ∙ ap (λ n. choose n m.rank) f.elements;
+}
 
-head_form : (k : Kind) (p : ℕ × ℕ) (ls : List (List (List ℕ))) → has_elements (headed k p) ≡ true → has_rank (headed k p) ≡ true → list_all (is_body_line (headed k p)) ls ≡ true → has_room (filled (headed k p) ls) ≡ true → is_complete (filled (headed k p) ls) ≡ true → IsInForm (filled (headed k p) ls)
-head_form k p ls e l a m c =
+body_form : (s : Setting) (k : Kind) (r n : ℕ) (ls : List (List (List ℕ))) → has_rank (headed k (r, n)) ≡ true → list_all (is_body_line (headed k (r, n))) ls ≡ true → has_room (filled s (headed k (r, n)) ls) ≡ true → is_complete (filled s (headed k (r, n)) ls) ≡ true → IsBodyOn n (in_lexicographic_order s (filled_body s (empty_body k r n) ls))
+body_form s kinds.Chirotope r n ls l a m c = map_form s n (record { rank = r; elements = n; signs = all_signs ls }) (record { elements = refl; rank = leb-true r n l; signs = eqb-true _ _ c })
+body_form Plain kinds.Wiring r n ls l a m c = blocks_form ls a m
+body_form Revlex kinds.Wiring r n ls l a m c = blocks_form ls a m
+body_form Half kinds.Wiring r n ls l a m c = blocks_form ls a m
+body_form Plain kinds.Points r n ls l a m c = points_form n ls a (eqb-true _ _ c)
+body_form Revlex kinds.Points r n ls l a m c = points_form n ls a (eqb-true _ _ c)
+body_form Half kinds.Points r n ls l a m c = points_form n ls a (eqb-true _ _ c)
+body_form Plain _ r n ls l a m c = members_form Plain n ls (lines_of_signs n ls a) m
+body_form Revlex _ r n ls l a m c = members_form Revlex n ls (lines_of_signs n ls a) m
+body_form Half _ r n ls l a m c = members_form Half n ls (lines_of_signs n ls a) m
+
+head_form : (names : List (List ℕ)) (s : Setting) (k : Kind) (p : ℕ × ℕ) (ls : List (List (List ℕ))) → has_elements (headed k p) ≡ true → has_rank (headed k p) ≡ true → list_all (is_body_line (headed k p)) ls ≡ true → has_room (filled s (headed k p) ls) ≡ true → is_complete (filled s (headed k p) ls) ≡ true → AreNamesOn p.1 names → IsInForm (finished names s (filled s (headed k p) ls))
+head_form names s k p ls e l a m c w =
     let b = both (nat_le 1 p.1) (nat_le p.1 MAX_ELEMENTS) e in
     record {
       low = leb-true 1 p.1 b.0;
       high = leb-true p.1 MAX_ELEMENTS b.1;
-      body = body_form k p.0 p.1 ls l a m c;
+      body = body_form s k p.0 p.1 ls l a m c;
+      names = w;
     }
 
-spelled_form : (w : List ℕ) (ws : List (List ℕ)) (head : Document) (ls : List (List (List ℕ))) → heading (w ∷ ws) ≡ Some head → has_elements head ≡ true → has_rank head ≡ true → list_all (is_body_line head) ls ≡ true → has_room (filled head ls) ≡ true → is_complete (filled head ls) ≡ true → IsInForm (filled head ls)
-spelled_form w ws head ls h e l a m c =
+spelled_form : (names : List (List ℕ)) (s : Setting) (w : List ℕ) (ws : List (List ℕ)) (head : Document) (ls : List (List (List ℕ))) → heading (w ∷ ws) ≡ Some head → has_elements head ≡ true → has_rank head ≡ true → list_all (is_body_line head) ls ≡ true → has_room (filled s head ls) ≡ true → is_complete (filled s head ls) ≡ true → AreNamesOn head.elements names → IsInForm (finished names s (filled s head ls))
+spelled_form names s w ws head ls h e l a m c g =
     let k = named (kind_of w) (λ k. opened k ws) head h in
     let q : opened k.0 ws ≡ Some head = rw k.1 at h in
     let p = mapped (numbers k.0 ws) (headed k.0) head q in
-    let f = head_form k.0 p.0 ls in
-    subst (λ h. has_elements h ≡ true → has_rank h ≡ true → list_all (is_body_line h) ls ≡ true → has_room (filled h ls) ≡ true → is_complete (filled h ls) ≡ true → IsInForm (filled h ls)) p.1 f e l a m c
+    let f = head_form names s k.0 p.0 ls in
+    subst (λ h. has_elements h ≡ true → has_rank h ≡ true → list_all (is_body_line h) ls ≡ true → has_room (filled s h ls) ≡ true → is_complete (filled s h ls) ≡ true → AreNamesOn h.elements names → IsInForm (finished names s (filled s h ls))) p.1 f e l a m c g
 
 -- what a document's lines give is in form
 pub document_form : (ls : List (List (List ℕ))) (d : Document) → IsSpelled ls d → IsInForm d
@@ -133,4 +169,4 @@ document_form ls d s = at s.kind_line s.heading
   where
     at : (w : List (List ℕ)) → heading w ≡ Some s.head → IsInForm d
     at [] h = cc
-    at (w ∷ ws) h = subst IsInForm (sym s.value) (spelled_form w ws s.head s.body h s.elements s.rank s.each s.room s.complete)
+    at (w ∷ ws) h = subst IsInForm (sym s.value) (spelled_form s.names s.setting w ws s.head s.body h s.elements s.rank s.each s.room s.complete (settings_names s.version s.head s.settings s.names s.setting s.set))

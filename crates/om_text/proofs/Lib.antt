@@ -1,6 +1,7 @@
 pub mod Distinct
 pub mod Filling
 pub mod SettingLines
+pub mod NameForms
 pub mod Course
 pub mod Completion
 pub mod Outcome

@@ -29,7 +29,7 @@ code_at ls w = first_of (table (place ls w) w)
 
 ends : (s : State) (ls : List (List (List ℕ))) (d : Document) → Shows s ls → value_of s ≡ Some d → IsSpelled ls d
 ends Start ls d o h = cc
-ends Versioned ls d o h = cc
+ends (Versioned v) ls d o h = cc
 ends (Open e) ls d o h = cc
 ends (Closed e) ls d o h = let q : e ≡ d = cc in subst (λ d. IsSpelled ls d) q o
 

@@ -2,7 +2,7 @@
 --
 -- Main definitions: IsRead
 -- Main results: read_start, read_more, read_part, same_part, part_no_fault, whole_refused, front_refused, whole_unfinished, front_unfinished, whole_document, front_part, front_form, front_fault, front_every, front_first
-use Rattle.std.proofs.Common.{◌≡◌, ◌⊎◌, inl, inr, ℕ, ◌+◌, ◌-◌, ◌<◌, ◌≤◌, min, List, [], ◌∷◌, ◌++◌, Bool, true, false, cond, length, take, drop, refl, sym, ap, subst, ◌∙◌, arith, append_assoc, append-nil, length-append}
+use Rattle.std.proofs.Common.{◌≡◌, ◌⊎◌, inl, inr, ℕ, ◌+◌, ◌-◌, ◌<◌, ◌≤◌, min, List, [], ◌∷◌, ◌++◌, Bool, true, false, cond, ◌&&◌, length, take, drop, refl, sym, ap, subst, ◌∙◌, arith, append_assoc, append-nil, length-append}
 use Rattle.std.specs.Prelude.{◌≢◌, Option, Some, None, Result, Ok, Err, IfOk, is_none}
 use Rattle.std.specs.List.{list_all}
 use Rattle.std.proofs.lemmas.Bool.{cases_lt}
@@ -14,7 +14,13 @@ use Rattle.om_text.specs.declared.code.Code.TheVariants as code
 use Rattle.om_text.specs.declared.state.State.{State}
 use Rattle.om_text.specs.declared.state.State.TheVariants.{Start, Versioned, Open, Closed}
 use Rattle.om_text.specs.Lines.{lines, words, wordful, has_any, IsSplit}
-use Rattle.om_text.specs.Document.{IsDocument, is_line, version_line, end_line, has_signs, has_length, has_blocks, has_numbers, filled, has_room, is_complete}
+use Rattle.om_text.specs.declared.draft.Draft.{Draft}
+use Rattle.om_text.specs.declared.stage.Stage.{Stage}
+use Rattle.om_text.specs.declared.stage.Stage.TheVariants.{Names, Choice, Full, Body as InBody}
+use Rattle.om_text.specs.declared.setting.Setting.{Setting}
+use Rattle.om_text.specs.declared.version.Version.{Version}
+use Rattle.om_text.specs.Settings.{is_line, version_of, begins_as_setting, other_words, is_names_line, setting_in}
+use Rattle.om_text.specs.Document.{IsDocument, end_line, has_signs, has_length, has_blocks, has_numbers, has_room, is_complete}
 use Rattle.om_text.specs.Heading.{first_word, kind_of, heading, has_elements, has_rank, rank_of_body}
 use Rattle.om_text.specs.Fault.{IsFault}
 use Rattle.om_text.specs.Form.{IsInForm}
@@ -23,7 +29,7 @@ use Rattle.om_text.specs.declared.parse_error.ParseError.{ParseError}
 use Rattle.om_text.specs.declared.parse_error.ParseError.TheVariants as error
 use Rattle.om_text.specs.Part.{EndsWithEnd, IsPart}
 use Rattle.om_text.specs.Print.{text_of}
-use Rattle.om_text.specs.Reading.{step, advance, with_heading, after_body, after_end, added, is_closed, outcome}
+use Rattle.om_text.specs.Reading.{step, advance, with_version, first_draft, with_heading, takes_settings, with_names, with_setting, after_choice, after_setting, after_body, finished_draft, after_end, added, is_closed, outcome}
 use Rattle.om_text.specs.Steps.{step_if}
 use Rattle.om_text.specs.Added.{Gives, fault_at, IsWhole, IsFront}
 use Rattle.om_text.specs.declared.refusal.Refusal.{Refusal}
@@ -38,25 +44,50 @@ use Rattle.om_text.proofs.Outcome.{fault_from, outcome_from, same_value, same_fa
 
 -- ---- where the document closes
 
+-- a state that is not closed
+open_state : (d : Draft) (t : State) → ◌≡◌ {A = Result State Code} (Ok (Open d)) (Ok t) → is_closed t ≡ false
+open_state d t h = sym (ap is_closed (ok_same (Open d) t h))
+
+version_opens : (o : Option Version) (t : State) → with_version o ≡ Ok t → is_closed t ≡ false
+version_opens None t h = cc
+version_opens (Some v) t h = sym (ap is_closed (ok_same (Versioned v) t h))
+
+heading_opens : (v : Version) (o : Option Document) (t : State) → with_heading v o ≡ Ok t → is_closed t ≡ false
+heading_opens v None t g = cc
+heading_opens v (Some d) t g =
+    let a = cond_ok (has_elements d) (cond (has_rank d) (Ok (Open (first_draft v d))) (Err (code.Rank (rank_of_body d.body)))) (code.Elements d.elements) t g in
+    let b = cond_ok (has_rank d) (Ok (Open (first_draft v d))) (code.Rank (rank_of_body d.body)) t a.1 in
+    open_state (first_draft v d) t b.1
+
+setting_opens : (d : Draft) (o : Option Setting) (t : State) → with_setting d o ≡ Ok t → is_closed t ≡ false
+setting_opens d None t h = cc
+setting_opens d (Some s) t h = open_state _ t h
+
+settings_open : (g : Stage) (d : Draft) (w : List (List ℕ)) (t : State) → after_setting g d w ≡ Ok t → is_closed t ≡ false
+settings_open Names d w t h = elim (either (is_names_line d.document.elements w)) [
+  | inl y ↦ let g : ◌≡◌ {A = Result State Code} (Ok (Open (with_names d (other_words w)))) (Ok t) = rw y at h in open_state _ t g
+  | inr n ↦ let g : after_choice d w ≡ Ok t = rw n at h in setting_opens d (setting_in d.document.body w) t g
+]
+settings_open Choice d w t h = setting_opens d (setting_in d.document.body w) t h
+settings_open Full d w t h = cc
+settings_open InBody d w t h = cc
+
+differ : (t : State) → is_closed t ≡ false → is_closed t ≡ true → ⊥
+differ t a b = let c = sym a ∙ b in cc
+
 -- a line that closes a state is an end line
 closes : (s t : State) (w : List (List ℕ)) → is_closed s ≡ false → step s w ≡ Ok t → is_closed t ≡ true → w ≡ end_line
-closes Start t w n h e =
-    let a = cond_ok (is_line w version_line) (Ok Versioned) code.Version t h in
-    let q = rw (← ok_same _ _ a.1) at e in cc
-closes Versioned t w n h e =
-    let b = cond_err (is_none (kind_of (first_word w))) (with_heading (heading w)) code.Kind t h in
-    opens (heading w) b.1
-  where
-    opens : (o : Option Document) → with_heading o ≡ Ok t → w ≡ end_line
-    opens None g = cc
-    opens (Some d) g =
-        let a = cond_ok (has_elements d) (cond (has_rank d) (Ok (Open (filled d []))) (Err (code.Rank (rank_of_body d.body)))) (code.Elements d.elements) t g in
-        let b = cond_ok (has_rank d) (Ok (Open (filled d []))) (code.Rank (rank_of_body d.body)) t a.1 in
-        let q = rw (← ok_same _ _ b.1) at e in cc
-closes (Open d) t w n h e = elim (either (is_line w end_line)) [
-  | inl y ↦ (is_line-Decides w end_line).0 y
-  | inr y ↦ let g : after_body d w ≡ Ok t = rw y at h in
-      let q = rw (← (taken d w t g).state) at e in cc
+closes Start t w n h e = absurd (differ t (version_opens (version_of w) t h) e)
+closes (Versioned v) t w n h e =
+    let b = cond_err (is_none (kind_of (first_word w))) (with_heading v (heading w)) code.Kind t h in
+    absurd (differ t (heading_opens v (heading w) t b.1) e)
+closes (Open d) t w n h e = elim (either (takes_settings d.stage && begins_as_setting w)) [
+  | inl y ↦ let g : after_setting d.stage d w ≡ Ok t = rw y at h in absurd (differ t (settings_open d.stage d w t g) e)
+  | inr f ↦ let k : cond (is_line w end_line) (after_end d) (after_body d w) ≡ Ok t = rw f at h in
+      elim (either (is_line w end_line)) [
+        | inl y ↦ (is_line-Decides w end_line).0 y
+        | inr y ↦ let g : after_body d w ≡ Ok t = rw y at k in absurd (differ t (sym (ap is_closed (taken d w t g).state)) e)
+      ]
 ]
 closes (Closed d) t w n h e = cc
 
@@ -83,26 +114,57 @@ keeps_when false x c r n f h = f h
 no_error : (t : State) (c : Code) → ◌≡◌ {A = Result State Code} (Ok t) (Err c) → c ≡ code.After → ⊥
 no_error t c h = cc
 
-heading_not : (o : Option Document) (c : Code) → with_heading o ≡ Err c → c ≡ code.After → ⊥
-heading_not None c h = keeps_not false code.Header c (Err code.Header) (λ e. cc) (λ g e. cc) h
-heading_not (Some d) c h =
-    keeps_not (has_elements d) (code.Elements d.elements) c (cond (has_rank d) (Ok (Open (filled d []))) (Err (code.Rank (rank_of_body d.body)))) (λ e. cc)
-    (λ g. keeps_not (has_rank d) (code.Rank (rank_of_body d.body)) c (Ok (Open (filled d []))) (λ e. cc) (no_error _ c) g) h
+version_not : (o : Option Version) (c : Code) → with_version o ≡ Err c → c ≡ code.After → ⊥
+version_not None c h = keeps_not false code.Version c (Err code.Version) (λ e. cc) (λ g e. cc) h
+version_not (Some v) c h = cc
+
+heading_not : (v : Version) (o : Option Document) (c : Code) → with_heading v o ≡ Err c → c ≡ code.After → ⊥
+heading_not v None c h = keeps_not false code.Header c (Err code.Header) (λ e. cc) (λ g e. cc) h
+heading_not v (Some d) c h =
+    keeps_not (has_elements d) (code.Elements d.elements) c (cond (has_rank d) (Ok (Open (first_draft v d))) (Err (code.Rank (rank_of_body d.body)))) (λ e. cc)
+    (λ g. keeps_not (has_rank d) (code.Rank (rank_of_body d.body)) c (Ok (Open (first_draft v d))) (λ e. cc) (no_error _ c) g) h
+
+no_setting : (c : Code) → ◌≡◌ {A = Result State Code} (Err code.Setting) (Err c) → c ≡ code.After → ⊥
+no_setting c h = keeps_not false code.Setting c (Err code.Setting) (λ e. cc) (λ g e. cc) h
+
+setting_not : (d : Draft) (o : Option Setting) (c : Code) → with_setting d o ≡ Err c → c ≡ code.After → ⊥
+setting_not d None c h = no_setting c h
+setting_not d (Some s) c h = no_error _ c h
+
+settings_not : (g : Stage) (d : Draft) (w : List (List ℕ)) (c : Code) → after_setting g d w ≡ Err c → c ≡ code.After → ⊥
+settings_not Names d w c h = elim (either (is_names_line d.document.elements w)) [
+  | inl y ↦ let g : ◌≡◌ {A = Result State Code} (Ok (Open (with_names d (other_words w)))) (Err c) = rw y at h in no_error _ c g
+  | inr n ↦ let g : after_choice d w ≡ Err c = rw n at h in setting_not d (setting_in d.document.body w) c g
+]
+settings_not Choice d w c h = setting_not d (setting_in d.document.body w) c h
+settings_not Full d w c h = no_setting c h
+settings_not InBody d w c h = no_setting c h
 
 step_not_after : (s : State) (w : List (List ℕ)) (c : Code) → is_closed s ≡ false → step s w ≡ Err c → c ≡ code.After → ⊥
-step_not_after Start w c n h = keeps_not (is_line w version_line) code.Version c (Ok Versioned) (λ e. cc) (no_error _ c) h
-step_not_after Versioned w c n h =
-    keeps_when (is_none (kind_of (first_word w))) code.Kind c (with_heading (heading w)) (λ e. cc) (heading_not (heading w) c) h
-step_not_after (Open d) w c n h = elim (either (is_line w end_line)) [
-  | inl y ↦ let g : after_end d ≡ Err c = rw y at h in
-      keeps_not (is_complete d) code.Few c (Ok (Closed d)) (λ e. cc) (no_error _ c) g
-  | inr y ↦ let g : after_body d w ≡ Err c = rw y at h in
-      keeps_not (has_signs d w) code.Sign c (cond (has_length d w) (cond (has_blocks d w) (cond (has_numbers d w) (cond (has_room (added d w)) (Ok (Open (added d w))) (Err code.Many)) (Err code.Number)) (Err code.Block)) (Err code.Length)) (λ e. cc)
-      (λ g. keeps_not (has_length d w) code.Length c (cond (has_blocks d w) (cond (has_numbers d w) (cond (has_room (added d w)) (Ok (Open (added d w))) (Err code.Many)) (Err code.Number)) (Err code.Block)) (λ e. cc)
-      (λ g. keeps_not (has_blocks d w) code.Block c (cond (has_numbers d w) (cond (has_room (added d w)) (Ok (Open (added d w))) (Err code.Many)) (Err code.Number)) (λ e. cc)
-      (λ g. keeps_not (has_numbers d w) code.Number c (cond (has_room (added d w)) (Ok (Open (added d w))) (Err code.Many)) (λ e. cc)
-      (λ g. keeps_not (has_room (added d w)) code.Many c (Ok (Open (added d w))) (λ e. cc) (no_error _ c) g) g) g) g) g
+step_not_after Start w c n h = version_not (version_of w) c h
+step_not_after (Versioned v) w c n h =
+    keeps_when (is_none (kind_of (first_word w))) code.Kind c (with_heading v (heading w)) (λ e. cc) (heading_not v (heading w) c) h
+step_not_after (Open d) w c n h = elim (either (takes_settings d.stage && begins_as_setting w)) [
+  | inl y ↦ let g : after_setting d.stage d w ≡ Err c = rw y at h in settings_not d.stage d w c g
+  | inr f ↦ let k : cond (is_line w end_line) (after_end d) (after_body d w) ≡ Err c = rw f at h in
+      elim (either (is_line w end_line)) [
+        | inl y ↦ let g : after_end d ≡ Err c = rw y at k in
+            keeps_not (is_complete d.document) code.Few c (Ok (Closed (finished_draft d))) (λ e. cc) (no_error _ c) g
+        | inr y ↦ let g : after_body d w ≡ Err c = rw y at k in body_not d w c g
+      ]
 ]
+  where
+    body_not : (d : Draft) (w : List (List ℕ)) (c : Code) → after_body d w ≡ Err c → c ≡ code.After → ⊥
+    body_not d w c g =
+        let e = d.document in
+        let room = cond (has_room (added d w).document) (Ok (Open (added d w))) (Err code.Many) in
+        let numbers = cond (has_numbers e w) room (Err code.Number) in
+        let blocks = cond (has_blocks e w) numbers (Err code.Block) in
+        keeps_not (has_signs e w) code.Sign c (cond (has_length e w) blocks (Err code.Length)) (λ e. cc)
+        (λ g. keeps_not (has_length e w) code.Length c blocks (λ e. cc)
+        (λ g. keeps_not (has_blocks e w) code.Block c numbers (λ e. cc)
+        (λ g. keeps_not (has_numbers e w) code.Number c room (λ e. cc)
+        (λ g. keeps_not (has_room (added d w).document) code.Many c (Ok (Open (added d w))) (λ e. cc) (no_error _ c) g) g) g) g) g
 step_not_after (Closed d) w c n h = cc
 
 pub line_not_after : (s : State) (l : List ℕ) (c : Code) → is_closed s ≡ false → advance s l ≡ Err c → c ≡ code.After → ⊥
@@ -305,7 +367,7 @@ unfinished s n rest c z = ap (λ r. outcome s n (lines r)) (empty rest z) ∙ at
   where
     at : (s : State) → is_closed s ≡ false → outcome s n [] ≡ Err (n + 1, code.Missing)
     at Start c = refl
-    at Versioned c = refl
+    at (Versioned v) c = refl
     at (Open d) c = refl
     at (Closed d) c = cc
 
@@ -320,7 +382,7 @@ front_refused bytes rest line after s n stops (refusal.Line c) e r o l q h = sub
 -- a state other than a closed one
 pub other_state : (s : State) → ((d : Document) → s ≡ Closed d → ⊥) → is_closed s ≡ false
 other_state Start h = refl
-other_state Versioned h = refl
+other_state (Versioned v) h = refl
 other_state (Open d) h = refl
 other_state (Closed d) h = absurd (h d refl)
 

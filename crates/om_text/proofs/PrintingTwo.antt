@@ -1,9 +1,9 @@
 -- The text of a document in version 2, put together piece by piece.
 --
 -- Main results: numbers_more, names_more, names_line_end, value_read, values_more, value_rows_more, begun_at, begun_line, begun_more, printed_two_bytes
-use Rattle.std.proofs.Common.{◌≡◌, ℕ, zero, suc, ◌+◌, ◌-◌, ◌<◌, ◌≤◌, min, List, [], ◌∷◌, ◌++◌, Bool, true, false, inl, inr, length, take, drop, get_or, map, refl, sym, ap, subst, ◌∙◌, append_assoc, append-nil, arith, get_or-drop, length-drop}
+use Rattle.std.proofs.Common.{◌≡◌, ℕ, zero, suc, ◌+◌, ◌-◌, ◌<◌, ◌≤◌, min, List, [], ◌∷◌, ◌++◌, true, false, length, take, drop, get_or, map, refl, sym, ap, ◌∙◌, append_assoc, append-nil, arith, get_or-drop, length-drop}
 use Rattle.std.specs.Prelude.{codes, decimal, filter, Some, Result, Ok, Err, OnOk, slice_get}
-use Rattle.std.specs.List.{flat_map, range_with_len}
+use Rattle.std.specs.List.{flat_map}
 use Rattle.std.proofs.Math.ListN.{drop_of_length-le}
 use Rattle.std.proofs.lemmas.Grind.{flat_map-append}
 use Rattle.std.proofs.lemmas.List.{take_more, map-append, drop-drop, get_or-map}
@@ -12,7 +12,7 @@ use Rattle.std.proofs.lemmas.Option.{get_or_from_slice_get}
 use Rattle.std.proofs.lemmas.List.FromFn.{map-range_with_len_more}
 use Rattle.om_signs.specs.declared.raw_map.RawMap.{RawMap}
 use Rattle.om_signs.specs.declared.sign.Sign.{Sign}
-use Rattle.om_signs.specs.declared.sign.Sign.TheVariants.{Minus, Zero, Plus}
+use Rattle.om_signs.specs.declared.sign.Sign.TheVariants.{Zero}
 use Rattle.om_subsets.specs.Subsets.{choose, rank_of}
 use Rattle.om_subsets.specs.Reverse.{revlex_subsets, revlex_subset_at}
 use Rattle.om_subsets.proofs.Reverse.{length-revlex_subsets}
@@ -20,7 +20,6 @@ use Rattle.om_text.specs.declared.document.Document.{Document}
 use Rattle.om_text.specs.Words.{byte_of}
 use Rattle.om_text.specs.Print.{text_of, sign_lines, member_lines, spaced, kind_text}
 use Rattle.om_text.specs.PrintTwo.{numbered_names, printed_names, values_in_revlex, begins_with_plus, setting_lines, body_lines_two, printed_two}
-use Rattle.om_text.proofs.Distinct.{either}
 use Rattle.om_text.proofs.Printing.{text_of-append, sign_lines_step}
 
 -- ---- names

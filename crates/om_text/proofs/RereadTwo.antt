@@ -2,13 +2,13 @@
 --
 -- Main definitions: IsRereadTwo
 -- Main results: printed_two_spelled, printed_two_document
-use Rattle.std.proofs.Common.{◌≡◌, ℕ, ◌+◌, ◌/◌, ◌<◌, ◌≤◌, ◌^◌, List, [], ◌∷◌, ◌++◌, true, ◌&&◌, cond, length, map, refl, sym, ap, subst, ◌∙◌, arith, nat_eq, nat_le, eq-eqb}
-use Rattle.std.specs.Prelude.{codes, filter, Some, All, option_map}
+use Rattle.std.proofs.Common.{◌≡◌, ℕ, ◌≤◌, List, [], ◌∷◌, ◌++◌, true, ◌&&◌, length, map, refl, sym, ap, subst, ◌∙◌, arith, nat_eq, nat_le, eq-eqb}
+use Rattle.std.specs.Prelude.{codes, Some, option_map}
 use Rattle.std.specs.List.{list_all, concat, flat_map}
 use Rattle.std.specs.Fmt.{signed_decimal}
 use Rattle.std.proofs.lemmas.Bool.{le-leb}
 use Rattle.std.proofs.lemmas.List.Sorted.{length_permutation}
-use Rattle.om_signs.specs.declared.limits.TheConstants.{MAX_ELEMENTS, MAX_MEMBERS, MAX_BLOCKS}
+use Rattle.om_signs.specs.declared.limits.TheConstants.{MAX_MEMBERS, MAX_BLOCKS}
 use Rattle.om_signs.specs.declared.raw_map.RawMap.{RawMap}
 use Rattle.om_signs.specs.declared.sign.Sign.{Sign}
 use Rattle.om_subsets.specs.Subsets.{choose}
@@ -18,7 +18,7 @@ use Rattle.om_text.specs.declared.body.Body.TheVariants.{Chirotope, Wiring, Poin
 use Rattle.om_text.specs.declared.setting.Setting.{Setting}
 use Rattle.om_text.specs.declared.setting.Setting.TheVariants.{Plain, Revlex, Half}
 use Rattle.om_text.specs.declared.version.Version.TheVariants.{Two}
-use Rattle.om_text.specs.Lines.{lines, has_any, words, wordful}
+use Rattle.om_text.specs.Lines.{lines, words, wordful}
 use Rattle.om_text.specs.Words.{sign_of_byte}
 use Rattle.om_text.specs.Rows.{distinct}
 use Rattle.om_text.specs.Names.{are_names}
@@ -27,16 +27,15 @@ use Rattle.om_text.specs.Members.{members_of, with_members}
 use Rattle.om_text.specs.Document.{IsDocument, IsSpelled, end_line, are_signs, is_body_line, all_signs, members_of_line, filled, has_room, is_complete}
 use Rattle.om_text.specs.Form.{IsInForm, AreMembersOn}
 use Rattle.om_text.specs.Print.{sign_lines, member_lines, block_lines, spaced, kind_text}
-use Rattle.om_text.specs.PrintTwo.{printed_names, values_in_revlex, half_of, doubled, setting_lines, body_lines_two, printed_two_lines, printed_two, doubled_body, doubled_document, IsClosedUnderNegation}
-use Rattle.om_text.proofs.BodyTexts.{map_rows, member_rows, members_long, points_reread, blocks_reread}
-use Rattle.om_text.proofs.Distinct.{both}
+use Rattle.om_text.specs.PrintTwo.{printed_names, values_in_revlex, half_of, doubled, setting_lines, body_lines_two, printed_two_lines, printed_two, doubled_document, IsClosedUnderNegation}
+use Rattle.om_text.proofs.BodyTexts.{map_rows, map_each, member_rows, members_long, points_reread, blocks_reread}
 use Rattle.om_text.proofs.Feeds.{is_one_line, lines_text, one_line-append}
-use Rattle.om_text.proofs.Halves.{pairs, IsClosed, doubled_permutes, half_long, half_read}
+use Rattle.om_text.proofs.Halves.{IsClosed, doubled_permutes, half_long, half_read}
 use Rattle.om_text.proofs.KindLines.{head_of, kind_line_read}
 use Rattle.om_text.proofs.Language.{wordful-append}
 use Rattle.om_text.proofs.NameTexts.{printed_are_names, names_line}
 use Rattle.om_text.proofs.Orders.{with_signs, length-values_in_revlex, values_back}
-use Rattle.om_text.proofs.Texts.{words_spaced, spaced_one_line, single, signs_of_bytes_of}
+use Rattle.om_text.proofs.Texts.{words_spaced, wordful-cons, spaced_one_line, single, signs_of_bytes_of}
 
 -- what is printed of d after its names is read as its setting and its body
 record IsRereadTwo (d : Document) : Type 0 where
@@ -80,10 +79,6 @@ one_lines d f p =
     let n = spaced_one_line (names_of d) (names_line d.elements (printed_names d.elements d.names) (named d f)) in
     rw (k.one_line, n) (rest_one_line d p)
 
--- a line with words in front of others
-wordful-cons : (l : List ℕ) (ls : List (List ℕ)) (w : List (List ℕ)) → words l ≡ w → has_any w ≡ true → wordful (l ∷ ls) ≡ w ∷ wordful ls
-wordful-cons l ls w e h = ap (λ x. filter has_any (x ∷ map words ls)) e ∙ ap (λ b. cond b (w ∷ wordful ls) (wordful ls)) h
-
 spelled_words : (d : Document) (f : IsInForm d) (p : IsRereadTwo d) → wordful (printed_two_lines d) ≡ version_two_line ∷ (kind_line_read d f).kind_words ∷ names_of d ∷ ((p.settings ++ p.body) ++ end_line ∷ [])
 spelled_words d f p =
     let k = kind_line_read d f in
@@ -121,10 +116,6 @@ reread_two d f p =
 
 -- ---- each kind
 
-map_each : (r n : ℕ) (xs : List Sign) (ls : List (List (List ℕ))) → list_all are_signs ls ≡ true → list_all (is_body_line (record { elements = n; body = Chirotope (record { rank = r; elements = n; signs = xs }); names = [] })) ls ≡ true
-map_each r n xs [] h = refl
-map_each r n xs (l ∷ ls) h = let a = both (are_signs l) (list_all are_signs ls) h in rw (a.0, map_each r n xs ls a.1) refl
-
 map_reread : (m : RawMap) (names : List (List ℕ)) → length m.signs ≡ choose m.elements m.rank → IsRereadTwo (record { elements = m.elements; body = Chirotope m; names = names })
 map_reread m names h =
     let xs : List Sign = values_in_revlex m in
@@ -140,7 +131,7 @@ map_reread m names h =
       body = single (sign_lines xs);
       body_words = c.rows.lines_words;
       body_one_line = c.rows.one_line;
-      each = map_each m.rank m.elements [] (single (sign_lines xs)) c.rows.signs;
+      each = map_each m.rank m.elements (single (sign_lines xs)) c.rows.signs;
       value =
           ap (λ ys. finished (printed_names m.elements names) Revlex (record { elements = m.elements; body = Chirotope (with_signs m ys); names = [] })) values
           ∙ ap (λ ys. record { elements = m.elements; body = Chirotope (with_signs m ys); names = printed_names m.elements names }) (values_back m h);

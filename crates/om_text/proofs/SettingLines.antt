@@ -1,6 +1,6 @@
 -- The setting lines of a document, one after the other.
 --
--- Main results: settings_begin, line_not_setting, lines_not_settings, settings_not_end, front_of, behind_of, setting_same, names_more, choice_more, full_more
+-- Main results: settings_begin, settings_names, line_not_setting, lines_not_settings, settings_not_end, front_of, behind_of, setting_same, names_more, choice_more, full_more
 use Rattle.std.proofs.Common.{◌≡◌, ℕ, List, [], ◌∷◌, ◌++◌, Bool, true, false, cond, ◌&&◌, ◌||◌, inl, inr, ◌⊎◌, refl, sym, ap, subst, ◌∙◌}
 use Rattle.std.specs.Prelude.{Option, Some, None, codes, bytes_eq, option_map, is_some}
 use Rattle.std.specs.List.{list_all, list_any}
@@ -115,6 +115,26 @@ settings_begin Two d (w ∷ ls) p h = elim (either (is_names_line d.elements w))
   | inr n ↦ let g : option_map (λ s. ([], s)) (set_by d.body (w ∷ ls)) ≡ Some p = rw n at h in
       let m = mapped_some (set_by d.body (w ∷ ls)) (λ s. ([], s)) p g in
       set_begins d.body (w ∷ ls) m.0 m.1
+]
+
+some_first : (a x : List (List ℕ)) (b y : Setting) → ◌≡◌ {A = Option (List (List ℕ) × Setting)} (Some (a, b)) (Some (x, y)) → a ≡ x
+some_first a x b y h = let e : ◌≡◌ {A = List (List ℕ) × Setting} (a, b) (x, y) = cc in ap (λ p. p.0) e
+
+-- setting lines give no names, or a name for each element
+pub settings_names : (v : Version) (d : Document) (ls : List (List (List ℕ))) (names : List (List ℕ)) (s : Setting) → settings_in v d ls ≡ Some (names, s) → (names ≡ []) ⊎ (are_names d.elements names ≡ true)
+settings_names One d [] names s h = inl (sym (some_first [] names Plain s h))
+settings_names Two d [] names s h = inl (sym (some_first [] names Plain s h))
+settings_names One d (w ∷ ls) names s h = cc
+settings_names Two d (w ∷ ls) names s h = elim (either (is_names_line d.elements w)) [
+  | inl y ↦ let g : option_map (λ s. (other_words w, s)) (set_by d.body ls) ≡ Some (names, s) = rw y at h in
+      let m = mapped_some (set_by d.body ls) (λ s. (other_words w, s)) (names, s) g in
+      let k : ◌≡◌ {A = Option (List (List ℕ) × Setting)} (Some (other_words w, m.0)) (Some (names, s)) = sym (ap (option_map (λ s. (other_words w, s))) m.1) ∙ g in
+      let e = some_first (other_words w) names m.0 s k in
+      inr (subst (λ x. are_names d.elements x ≡ true) e (both (bytes_eq (first_word w) (codes "names")) (are_names d.elements (other_words w)) y).1)
+  | inr n ↦ let g : option_map (λ s. ([], s)) (set_by d.body (w ∷ ls)) ≡ Some (names, s) = rw n at h in
+      let m = mapped_some (set_by d.body (w ∷ ls)) (λ s. ([], s)) (names, s) g in
+      let k : ◌≡◌ {A = Option (List (List ℕ) × Setting)} (Some ([], m.0)) (Some (names, s)) = sym (ap (option_map (λ s. ([], s))) m.1) ∙ g in
+      inl (sym (some_first [] names m.0 s k))
 ]
 
 pub settings_not_end : (ls : List (List (List ℕ))) → list_all begins_as_setting ls ≡ true → list_any (λ l. is_line l end_line) ls ≡ false

@@ -1,24 +1,32 @@
 -- The numbers of a heading stay in range.
 --
 -- Main results: advance_small, outcome_step
-use Rattle.std.proofs.Common.{◌≡◌, ℕ, ◌+◌, ◌≤◌, List, [], ◌∷◌, true, cond, refl, sym, subst, inl, inr}
-use Rattle.std.specs.Prelude.{Option, Some, None, Ok, Err, is_none, option_map, nat_le}
+use Rattle.std.proofs.Common.{◌≡◌, ℕ, ◌+◌, ◌≤◌, List, [], ◌∷◌, true, cond, ◌&&◌, refl, sym, subst, inl, inr}
+use Rattle.std.specs.Prelude.{Option, Some, None, Result, Ok, Err, is_none, option_map, nat_le}
 use Rattle.std.proofs.lemmas.Bool.{leb-true}
 use Rattle.om_signs.specs.declared.limits.TheConstants.{MAX_ELEMENTS}
 use Rattle.om_text.specs.declared.document.Document.{Document}
 use Rattle.om_text.specs.declared.body.Body.{Body}
 use Rattle.om_text.specs.declared.body.Body.TheVariants.{Chirotope, Points}
+use Rattle.om_text.specs.declared.code.Code.{Code}
 use Rattle.om_text.specs.declared.code.Code.TheVariants as code
 use Rattle.om_text.specs.declared.kind.Kind.{Kind}
 use Rattle.om_text.specs.declared.kind.Kind.TheVariants as kinds
 use Rattle.om_text.specs.declared.state.State.{State}
 use Rattle.om_text.specs.declared.state.State.TheVariants.{Start, Versioned, Open, Closed}
 use Rattle.om_text.specs.Lines.{lines, words, has_any}
-use Rattle.om_text.specs.Document.{is_line, version_line, end_line, filled, filled_body, is_complete}
+use Rattle.om_text.specs.declared.draft.Draft.{Draft}
+use Rattle.om_text.specs.declared.stage.Stage.{Stage}
+use Rattle.om_text.specs.declared.stage.Stage.TheVariants.{Names, Choice, Full, Body as InBody}
+use Rattle.om_text.specs.declared.setting.Setting.{Setting}
+use Rattle.om_text.specs.declared.setting.Setting.TheVariants.{Plain}
+use Rattle.om_text.specs.declared.version.Version.{Version}
+use Rattle.om_text.specs.Settings.{is_line, version_of, begins_as_setting, other_words, is_names_line, setting_in}
+use Rattle.om_text.specs.Document.{end_line, filled, filled_body, is_complete}
 use Rattle.om_text.specs.Heading.{first_word, kind_of, heading, opened, headed, empty_body, numbers, has_elements, has_rank, rank_of_body}
-use Rattle.om_text.specs.Reading.{step, advance, with_heading, after_body, after_end, added, added_body, outcome}
+use Rattle.om_text.specs.Reading.{step, advance, with_version, first_draft, with_heading, takes_settings, with_names, with_setting, after_choice, after_setting, after_body, finished_draft, after_end, added, added_body, outcome}
 use Rattle.om_text.specs.Steps.{step_if}
-use Rattle.om_text.specs.Added.{IsSmall, IsSmallBody, IsSmallState}
+use Rattle.om_text.specs.Added.{IsSmall, IsSmallMap, IsSmallBody, IsSmallState}
 use Rattle.om_text.proofs.Distinct.{either, both}
 use Rattle.om_text.proofs.Course.{cond_ok, cond_err, ok_same, named, taken}
 
@@ -26,49 +34,73 @@ pub mapped : (o : Option (ℕ × ℕ)) (f : ℕ × ℕ → Document) (d : Docume
 mapped None f d h = cc
 mapped (Some p) f d h = (p, cc)
 
-empty_small : (k : Kind) (p : ℕ × ℕ) → p.1 ≤ MAX_ELEMENTS → IsSmallBody (filled_body (empty_body k p.0 p.1) [])
-empty_small kinds.Chirotope p h = h
-empty_small _ p h = tt
+empty_small : (k : Kind) (p : ℕ × ℕ) → p.1 ≤ MAX_ELEMENTS → rank_of_body (empty_body k p.0 p.1) ≤ p.1 → IsSmallBody (filled_body Plain (empty_body k p.0 p.1) [])
+empty_small kinds.Chirotope p h r = record { elements = h; rank = r }
+empty_small _ p h r = tt
 
-heading_small : (w : List (List ℕ)) (d : Document) → heading w ≡ Some d → has_elements d ≡ true → IsSmall (filled d [])
-heading_small [] d h e = cc
-heading_small (w ∷ ws) d h e =
+heading_small : (v : Version) (w : List (List ℕ)) (d : Document) → heading w ≡ Some d → has_elements d ≡ true → has_rank d ≡ true → IsSmall (first_draft v d).document
+heading_small v [] d h e r = cc
+heading_small v (w ∷ ws) d h e r =
     let n = named (kind_of w) (λ k. opened k ws) d h in
     let q : opened n.0 ws ≡ Some d = rw n.1 at h in
     let m = mapped (numbers n.0 ws) (headed n.0) d q in
     let b = both (nat_le 1 d.elements) (nat_le d.elements MAX_ELEMENTS) e in
     let l : d.elements ≤ MAX_ELEMENTS = leb-true d.elements MAX_ELEMENTS b.1 in
-    let r : m.0.1 ≤ MAX_ELEMENTS = subst (λ d. d.elements ≤ MAX_ELEMENTS) (sym m.1) l in
+    let k : m.0.1 ≤ MAX_ELEMENTS = subst (λ d. d.elements ≤ MAX_ELEMENTS) (sym m.1) l in
+    let f : rank_of_body (empty_body n.0 m.0.0 m.0.1) ≤ m.0.1 = subst (λ d. rank_of_body d.body ≤ d.elements) (sym m.1) (leb-true (rank_of_body d.body) d.elements r) in
     record {
       low = leb-true 1 d.elements b.0;
       high = l;
-      body = subst (λ x. IsSmallBody (filled_body x.body [])) m.1 (empty_small n.0 m.0 r);
+      body = subst (λ x. IsSmallBody (filled_body Plain x.body [])) m.1 (empty_small n.0 m.0 k f);
     }
 
-kind_small : (o : Option Document) (w : List (List ℕ)) (t : State) → heading w ≡ o → with_heading o ≡ Ok t → IsSmallState t
-kind_small None w t e h = cc
-kind_small (Some d) w t e h =
-    let a = cond_ok (has_elements d) (cond (has_rank d) (Ok (Open (filled d []))) (Err (code.Rank (rank_of_body d.body)))) (code.Elements d.elements) t h in
-    let b = cond_ok (has_rank d) (Ok (Open (filled d []))) (code.Rank (rank_of_body d.body)) t a.1 in
-    subst IsSmallState (ok_same _ _ b.1) (heading_small w d e a.0)
+kind_small : (v : Version) (o : Option Document) (w : List (List ℕ)) (t : State) → heading w ≡ o → with_heading v o ≡ Ok t → IsSmallState t
+kind_small v None w t e h = cc
+kind_small v (Some d) w t e h =
+    let a = cond_ok (has_elements d) (cond (has_rank d) (Ok (Open (first_draft v d))) (Err (code.Rank (rank_of_body d.body)))) (code.Elements d.elements) t h in
+    let b = cond_ok (has_rank d) (Ok (Open (first_draft v d))) (code.Rank (rank_of_body d.body)) t a.1 in
+    subst IsSmallState (ok_same _ _ b.1) (heading_small v w d e a.0 b.0)
 
-added_small : (b : Body) (w : List (List ℕ)) → IsSmallBody b → IsSmallBody (added_body b w)
-added_small (Chirotope m) w h = h
-added_small (Points ps) w h = tt
-added_small _ w h = tt
+version_small : (o : Option Version) (t : State) → with_version o ≡ Ok t → IsSmallState t
+version_small None t h = cc
+version_small (Some v) t h = subst IsSmallState (ok_same (Versioned v) t h) tt
+
+added_small : (s : Setting) (b : Body) (w : List (List ℕ)) → IsSmallBody b → IsSmallBody (added_body s b w)
+added_small s (Chirotope m) w h = record { elements = h.elements; rank = h.rank }
+added_small s (Points ps) w h = tt
+added_small s _ w h = tt
+
+setting_small : (d : Draft) (o : Option Setting) (t : State) → IsSmall d.document → with_setting d o ≡ Ok t → IsSmallState t
+setting_small d None t i h = cc
+setting_small d (Some s) t i h = subst IsSmallState (ok_same (Open (record { document = d.document; setting = s; stage = Full })) t h) i
+
+settings_small : (g : Stage) (d : Draft) (w : List (List ℕ)) (t : State) → IsSmall d.document → after_setting g d w ≡ Ok t → IsSmallState t
+settings_small Names d w t i h = elim (either (is_names_line d.document.elements w)) [
+  | inl y ↦ let g : ◌≡◌ {A = Result State Code} (Ok (Open (with_names d (other_words w)))) (Ok t) = rw y at h in
+      let m : IsSmall (with_names d (other_words w)).document = record { low = i.low; high = i.high; body = i.body } in
+      subst IsSmallState (ok_same _ _ g) m
+  | inr n ↦ let g : after_choice d w ≡ Ok t = rw n at h in setting_small d (setting_in d.document.body w) t i g
+]
+settings_small Choice d w t i h = setting_small d (setting_in d.document.body w) t i h
+settings_small Full d w t i h = cc
+settings_small InBody d w t i h = cc
 
 pub step_small : (s : State) (w : List (List ℕ)) (t : State) → IsSmallState s → step s w ≡ Ok t → IsSmallState t
-step_small Start w t o h = let a = cond_ok (is_line w version_line) (Ok Versioned) code.Version t h in subst IsSmallState (ok_same _ _ a.1) tt
-step_small Versioned w t o h =
-    let b = cond_err (is_none (kind_of (first_word w))) (with_heading (heading w)) code.Kind t h in
-    kind_small (heading w) w t refl b.1
-step_small (Open d) w t o h = elim (either (is_line w end_line)) [
-  | inl e ↦ let g : after_end d ≡ Ok t = rw e at h in
-      let a = cond_ok (is_complete d) (Ok (Closed d)) code.Few t g in
-      subst IsSmallState (ok_same _ _ a.1) tt
-  | inr n ↦ let g : after_body d w ≡ Ok t = rw n at h in
-      let m : IsSmall (added d w) = record { low = o.low; high = o.high; body = added_small d.body w o.body } in
-      subst IsSmallState (taken d w t g).state m
+step_small Start w t o h = version_small (version_of w) t h
+step_small (Versioned v) w t o h =
+    let b = cond_err (is_none (kind_of (first_word w))) (with_heading v (heading w)) code.Kind t h in
+    kind_small v (heading w) w t refl b.1
+step_small (Open d) w t o h = elim (either (takes_settings d.stage && begins_as_setting w)) [
+  | inl y ↦ let g : after_setting d.stage d w ≡ Ok t = rw y at h in settings_small d.stage d w t o g
+  | inr f ↦ let k : cond (is_line w end_line) (after_end d) (after_body d w) ≡ Ok t = rw f at h in
+      elim (either (is_line w end_line)) [
+        | inl e ↦ let g : after_end d ≡ Ok t = rw e at k in
+            let a = cond_ok (is_complete d.document) (Ok (Closed (finished_draft d))) code.Few t g in
+            subst IsSmallState (ok_same _ _ a.1) tt
+        | inr n ↦ let g : after_body d w ≡ Ok t = rw n at k in
+            let m : IsSmall (added d w).document = record { low = o.low; high = o.high; body = added_small d.setting d.document.body w o.body } in
+            subst IsSmallState (taken d w t g).state m
+      ]
 ]
 step_small (Closed d) w t o h = cc
 

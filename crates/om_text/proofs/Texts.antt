@@ -1,8 +1,8 @@
 -- Words with blanks between them, as text, and their lines.
 --
 -- Main definitions: is_word_byte, is_word, is_word_line, single
--- Main results: words_one, words_two, words_three, words_spaced, wordful_spaced, spaced_one_lines, signs_are_word
-use Rattle.std.proofs.Common.{◌≡◌, ℕ, List, [], ◌∷◌, ◌++◌, Bool, true, false, not, ◌&&◌, map, refl, sym, ap, ◌∙◌, append-nil, inl, inr, nat_eq}
+-- Main results: words_one, words_two, words_three, words_spaced, wordful-cons, wordful_spaced, spaced_one_lines, signs_are_word
+use Rattle.std.proofs.Common.{◌≡◌, ℕ, List, [], ◌∷◌, ◌++◌, Bool, true, false, cond, not, ◌&&◌, map, refl, sym, ap, ◌∙◌, append-nil, inl, inr, nat_eq}
 use Rattle.std.specs.Prelude.{filter}
 use Rattle.std.specs.List.{list_all}
 use Rattle.std.proofs.lemmas.Bool.{eqb-true}
@@ -113,6 +113,10 @@ spaced_one_line (w ∷ v ∷ ws) h =
     let a = both (is_word w) (list_all is_word (v ∷ ws)) h in
     let b = both (list_all is_word_byte w) (has_any w) a.0 in
     list_all-append (λ b. not (nat_eq b 10)) w (32 ∷ spaced (v ∷ ws)) ∙ rw (word_one_line w b.0, spaced_one_line (v ∷ ws) a.1) refl
+
+-- a line with words in front of others
+pub wordful-cons : (l : List ℕ) (ls : List (List ℕ)) (w : List (List ℕ)) → words l ≡ w → has_any w ≡ true → wordful (l ∷ ls) ≡ w ∷ wordful ls
+wordful-cons l ls w e h = ap (λ x. filter has_any (x ∷ map words ls)) e ∙ ap (λ b. cond b (w ∷ wordful ls) (wordful ls)) h
 
 -- lines of words are read as these lines
 pub wordful_spaced : (ls : List (List (List ℕ))) → list_all is_word_line ls ≡ true → wordful (map spaced ls) ≡ ls

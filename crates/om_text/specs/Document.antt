@@ -1,7 +1,7 @@
 -- Documents, over whole lists of lines.
 --
 -- Trusted: this is what a document is, with its value. Nothing here says how one is read.
-use Rattle.std.specs.Prelude.{ℕ, ◌≡◌, List, [], ◌∷◌, ◌++◌, Bool, true, nat_eq, nat_le, ◌&&◌, length, map, codes, Some, is_some, bytes_eq}
+use Rattle.std.specs.Prelude.{ℕ, ◌≡◌, List, [], ◌∷◌, ◌++◌, Bool, true, nat_eq, nat_le, ◌&&◌, length, map, codes, Some, is_some}
 use Rattle.std.specs.List.{list_all, concat, flat_map}
 use Rattle.om_signs.specs.declared.limits.TheConstants.{MAX_MEMBERS, MAX_BLOCKS}
 use Rattle.om_signs.specs.declared.sign.Sign.{Sign}
@@ -16,7 +16,7 @@ use Rattle.om_text.specs.Heading.{heading, has_elements, has_rank}
 use Rattle.om_text.specs.declared.version.Version.{Version}
 use Rattle.om_text.specs.declared.setting.Setting.{Setting}
 use Rattle.om_text.specs.declared.setting.Setting.TheVariants.{Half}
-use Rattle.om_text.specs.Settings.{is_line, version_of, settings_in, finished}
+use Rattle.om_text.specs.Settings.{version_of, settings_in, finished}
 use Rattle.om_text.specs.Rows.{distinct}
 use Rattle.om_text.specs.Members.{members_of, with_members}
 use Rattle.om_text.specs.Blocks.{are_blocks, blocks_on}

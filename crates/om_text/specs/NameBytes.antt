@@ -14,10 +14,10 @@ padded w = w ++ replicate (MAX_NAME - length w) 0
 pub record IsKept (bytes : List ℕ) (n : ℕ) : Type 0 where
   pub within : n ≤ MAX_NAME
   pub count : length (take n bytes) ≡ n
-  pub zeros : padded (take n bytes) ≡ bytes
+  pub zeros : take n bytes ++ replicate (MAX_NAME - n) 0 ≡ bytes
   pub name : is_name (take n bytes) ≡ true
 
-pub padded_back : (bytes : List ℕ) (n : ℕ) → IsKept bytes n → padded (take n bytes) ≡ bytes
+pub padded_back : (bytes : List ℕ) (n : ℕ) → IsKept bytes n → take n bytes ++ replicate (MAX_NAME - n) 0 ≡ bytes
 padded_back bytes n h = h.zeros
 
 pub count_back : (bytes : List ℕ) (n : ℕ) → IsKept bytes n → length (take n bytes) ≡ n

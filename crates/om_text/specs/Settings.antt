@@ -1,7 +1,7 @@
 -- The versions of the format, and the setting lines of version 2.
 --
 -- Trusted: what a document is rests on these definitions.
-use Rattle.std.specs.Prelude.{ℕ, List, [], ◌∷◌, ◌++◌, Bool, cond, ◌&&◌, ◌||◌, map, codes, Option, Some, None, bytes_eq, option_map, slice_index_or}
+use Rattle.std.specs.Prelude.{ℕ, List, [], ◌∷◌, Bool, cond, ◌&&◌, ◌||◌, map, codes, Option, Some, None, bytes_eq, option_map, slice_index_or}
 use Rattle.std.specs.Cmp.Lexicographic.{pointwise}
 use Rattle.om_signs.specs.declared.raw_map.RawMap.{RawMap}
 use Rattle.om_signs.specs.declared.sign.Sign.{Sign}

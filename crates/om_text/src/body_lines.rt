@@ -86,7 +86,7 @@ fn same_signs(a: SignVec, b: SignVec) -> bool
     are_equal(a, b)
 }
 
-fn has_member(members: &List<SignVec>, member: SignVec) -> bool
+pub fn has_member(members: &List<SignVec>, member: SignVec) -> bool
     ensures { result ≡ list_any (λ y. same_row y member) members.now }
 {
     members.as_slice().iter().any(|m| same_signs(*m, member))

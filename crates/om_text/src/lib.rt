@@ -24,6 +24,8 @@ mod stage;
 mod state;
 #[cfg(test)]
 mod tests;
+#[cfg(test)]
+mod tests_two;
 mod version;
 pub mod words;
 

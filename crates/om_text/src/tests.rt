@@ -118,7 +118,7 @@ om 1/circuits 2/half/end = 3 Sign
 om 2/circuits 2/+-/half/end = 4 Sign";
 
 /// The bytes of a text.
-fn bytes_of(alloc: Global, text: &str) -> Result<Vec<u8>, Fail> {
+pub fn bytes_of(alloc: Global, text: &str) -> Result<Vec<u8>, Fail> {
     let mut bytes = Vec::new(alloc);
     for byte in text.as_bytes() {
         bytes.push(if *byte == b'/' { b'\n' } else { *byte })?;

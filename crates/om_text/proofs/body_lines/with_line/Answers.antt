@@ -4,7 +4,7 @@ use Rattle.om_text.specs.Added.{Gives, filled_line}
 use Rattle.om_text.proofs.body_lines.with_line.Goals as goal
 
 pub returns-in-Chirotope : goal.returns-in-Chirotope
-returns-in-Chirotope c = subst (λ b. Gives c.with_values.result (filled_line c.args.elements b (runs c.args.line.now))) (sym c.in-Chirotope.is) (c.with_values.ensures c.args.elements)
+returns-in-Chirotope c = subst (λ b. Gives c.with_values.result (filled_line c.args.setting c.args.elements b (runs c.args.line.now))) (sym c.in-Chirotope.is) (c.with_values.ensures c.args.elements c.args.setting)
 
 pub returns-in-Wiring : goal.returns-in-Wiring
-returns-in-Wiring c = subst (λ b. Gives c.with_blocks.result (filled_line c.args.elements b (runs c.args.line.now))) (sym c.in-Wiring.is) (c.with_blocks.ensures c.args.elements)
+returns-in-Wiring c = subst (λ b. Gives c.with_blocks.result (filled_line c.args.setting c.args.elements b (runs c.args.line.now))) (sym c.in-Wiring.is) (c.with_blocks.ensures c.args.elements c.args.setting)

@@ -1,4 +1,4 @@
-use Rattle.std.proofs.Common.{refl, ap, ◌∙◌, ◌++◌, sym}
+use Rattle.std.proofs.Common.{refl, ap, ◌∙◌, ◌++◌}
 use Rattle.om_text.proofs.PrintingTwo.{numbers_more}
 use Rattle.om_text.proofs.printer_two.push_numbered_names.Goals as goal
 

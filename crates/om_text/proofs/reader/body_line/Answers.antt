@@ -8,9 +8,9 @@ use Rattle.om_text.proofs.reader.body_line.Goals as goal
 
 pub returns-in_err-body : goal.returns-in_err-body
 returns-in_err-body c =
-    let g : Gives {A = State} (Err c.in_err-body.field-0.0) (after_body c.args.document (runs c.args.line.now))
-    = open_refused c.args.document (runs c.args.line.now) _ (sym c.has_signs_line.ensures ∙ c.if-not-has_signs_line.false) (sym c.has_length_line.ensures ∙ c.if-not-has_length_line.false) c.in_err-body.ensures in
+    let g : Gives {A = State} (Err c.in_err-body.field-0.0) (after_body c.args.draft (runs c.args.line.now))
+    = open_refused c.args.draft (runs c.args.line.now) _ (sym c.has_signs_line.ensures ∙ c.if-not-has_signs_line.false) (sym c.has_length_line.ensures ∙ c.if-not-has_length_line.false) c.in_err-body.ensures in
     search rules
 
 pub returns : goal.returns
-returns c = open_line c.args.document (runs c.args.line.now) c.in_ok-body.body (sym c.has_signs_line.ensures ∙ c.if-not-has_signs_line.false) (sym c.has_length_line.ensures ∙ c.if-not-has_length_line.false) c.in_ok-body.ensures
+returns c = open_line c.args.draft (runs c.args.line.now) c.in_ok-body.body (sym c.has_signs_line.ensures ∙ c.if-not-has_signs_line.false) (sym c.has_length_line.ensures ∙ c.if-not-has_length_line.false) c.in_ok-body.ensures
