@@ -2,6 +2,7 @@ pub mod Distinct
 pub mod Filling
 pub mod SettingLines
 pub mod NameForms
+pub mod RevlexValues
 pub mod Course
 pub mod Completion
 pub mod Outcome
@@ -21,6 +22,7 @@ pub mod Joined
 pub mod Small
 mod Samples
 mod ListSamples
+mod SettingSamples
 mod PointSamples
 mod BlockSamples
 pub mod Printing

@@ -295,7 +295,7 @@ open_before before line d o e =
   where
     at : (s : State) → advance s line ≡ Ok (Closed d) → is_closed s ≡ false
     at Start a = refl
-    at Versioned a = refl
+    at (Versioned v) a = refl
     at (Open x) a = refl
     at (Closed x) a = let b = rw e at a in cc
 

@@ -33,7 +33,7 @@ cut_three = fault_from _ _ _ refl
 abbrev commented_lines : List (List ℕ)
 commented_lines = codes "# my map" ∷ [] ∷ codes "om 1" ∷ codes "chirotope 3 4" ∷ codes "+ +" ∷ codes "++ # all plus" ∷ codes "end" ∷ []
 
-commented : IsDocument commented_lines (record { elements = 4; body = Chirotope (record { rank = 3; elements = 4; signs = Plus ∷ Plus ∷ Plus ∷ Plus ∷ [] }) })
+commented : IsDocument commented_lines (record { elements = 4; body = Chirotope (record { rank = 3; elements = 4; signs = Plus ∷ Plus ∷ Plus ∷ Plus ∷ [] }); names = [] })
 commented = document_from commented_lines _ refl
 
 past : IsFault (codes "om 1" ∷ codes "chirotope 3 4" ∷ codes "+++++" ∷ codes "end" ∷ []) 3 code.Many
@@ -55,7 +55,7 @@ one_more = fault_from _ _ _ refl
 no_elements : IsFault (codes "om 1" ∷ codes "chirotope 5 0" ∷ []) 2 (code.Elements 0)
 no_elements = fault_from _ _ _ refl
 
-other_version : IsFault (codes "om 2" ∷ []) 1 code.Version
+other_version : IsFault (codes "om 3" ∷ []) 1 code.Version
 other_version = fault_from _ _ _ refl
 
 no_kind : IsFault (codes "om 1" ∷ codes "vectors 3" ∷ []) 2 code.Kind
@@ -93,5 +93,5 @@ byte_order_mark = fault_from _ _ _ refl
 abbrev any_comment_lines : List (List ℕ)
 any_comment_lines = (35 ∷ 0 ∷ 255 ∷ 11 ∷ []) ∷ (codes "om 1" ++ 13 ∷ []) ∷ codes "chirotope 0 1#x" ∷ codes "-" ∷ codes "end" ∷ []
 
-any_comment : IsDocument any_comment_lines (record { elements = 1; body = Chirotope (record { rank = 0; elements = 1; signs = Minus ∷ [] }) })
+any_comment : IsDocument any_comment_lines (record { elements = 1; body = Chirotope (record { rank = 0; elements = 1; signs = Minus ∷ [] }); names = [] })
 any_comment = document_from any_comment_lines _ refl

@@ -8,3 +8,6 @@ returns-in-Chirotope c = subst (λ b. Gives c.with_values.result (filled_line c.
 
 pub returns-in-Wiring : goal.returns-in-Wiring
 returns-in-Wiring c = subst (λ b. Gives c.with_blocks.result (filled_line c.args.setting c.args.elements b (runs c.args.line.now))) (sym c.in-Wiring.is) (c.with_blocks.ensures c.args.elements c.args.setting)
+
+pub returns-in-Points : goal.returns-in-Points
+returns-in-Points c = subst (λ b. Gives c.with_point.result (filled_line c.args.setting c.args.elements b (runs c.args.line.now))) (sym c.in-Points.is) (c.with_point.ensures c.args.setting)
