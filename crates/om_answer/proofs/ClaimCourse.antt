@@ -9,6 +9,8 @@ use Rattle.std.proofs.lemmas.List.{length-take-le, take-append-drop}
 use Rattle.om_text.specs.declared.code.Code.{Code}
 use Rattle.om_text.specs.declared.code.Code.TheVariants as code
 use Rattle.om_text.specs.declared.document.Document.{Document}
+use Rattle.om_text.specs.declared.draft.Draft.{Draft}
+use Rattle.om_text.specs.declared.version.Version.{Version}
 use Rattle.om_text.specs.declared.state.State.{State}
 use Rattle.om_text.specs.declared.state.State.TheVariants.{Start, Versioned, Open, Closed}
 use Rattle.om_text.specs.Lines.{lines, words, wordful, has_any}
@@ -16,16 +18,14 @@ use Rattle.om_text.specs.Steps.{step_if, finish_by, then_lines, outcome_by}
 use Rattle.om_text.specs.Settings.{is_line}
 use Rattle.om_text.specs.Document.{IsSpelled, IsDocument, end_line}
 use Rattle.om_text.specs.Fault.{Begins}
-use Rattle.om_text.specs.Heading.{heading}
 use Rattle.om_text.specs.Print.{text_of}
 use Rattle.om_text.specs.Reading.{step, value_of, outcome}
 use Rattle.om_text.proofs.Language.{run_words, bind, IsCompletion, wordful-append, value_outcome, outcome_value, outcome_fault, fault_outcome, outcome_passes, run_shows, run-append, run_value, begins_run}
-use Rattle.om_text.proofs.Course.{Shows, IsOpen, step_shows, step_error, spelled_run, no_end}
+use Rattle.om_text.proofs.Course.{Shows, IsFirst, IsOpen, step_shows, step_error, spelled_run, first_not_end, open_no_end, spelled_no_end}
 use Rattle.om_text.proofs.Completion as completions
 use Rattle.om_text.proofs.Distinct.{either}
 use Rattle.om_text.proofs.Feeds.{is_one_line, lines_text, lines_one_line, one_line-take, one_line-append}
 use Rattle.om_text.proofs.Outcome.{take_front}
-use Rattle.om_text.proofs.Filling.{is_line-Decides}
 use Rattle.om_certificate.specs.declared.verdict.Verdict.{Verdict}
 use Rattle.om_certificate.specs.declared.verdict.Verdict.TheVariants.{Realizable}
 use Rattle.om_answer.specs.declared.claim.Claim.{Claim}
@@ -109,20 +109,12 @@ in_block_shows d b ls front more w t e o p h =
 
 steps : (s : ClaimState) (ls : List (List (List ℕ))) (w : List (List ℕ)) (t : ClaimState) → ShowsClaim s ls → claim_step s w ≡ Ok t → ShowsClaim t (ls ++ w ∷ [])
 steps (in_document Start) ls w t o h = document_shows Start ls w t o h
-steps (in_document Versioned) ls w t o h = document_shows Versioned ls w t o h
+steps (in_document (Versioned v)) ls w t o h = document_shows (Versioned v) ls w t o h
 steps (in_document (Open d)) ls w t o h = document_shows (Open d) ls w t o h
 steps (in_document (Closed d)) ls w t o h = in_block_shows d block.Empty ls ls [] w t (sym (append-nil ls)) o refl h
 steps (in_block d b) ls w t o h = in_block_shows d b ls o.document o.block w t o.lines o.spelled o.part h
 
 -- ---- the codes
-
--- the kind line isn't the end line
-kind_not_end : (k : List (List ℕ)) (d : Document) → heading k ≡ Some d → is_line k end_line ≡ false
-kind_not_end k d h = elim (either (is_line k end_line)) [
-  | inl e ↦ let q : k ≡ end_line = (is_line-Decides k end_line).0 e in
-      let n : ◌≡◌ {A = Option Document} None (Some d) = ap heading (sym q) ∙ h in cc
-  | inr n ↦ n
-]
 
 after_none : (ls more : List (List (List ℕ))) → list_any (λ l. is_line l end_line) ls ≡ false → lines_after_end (ls ++ more) ≡ lines_after_end more
 after_none [] more h = refl
@@ -131,22 +123,19 @@ after_none (l ∷ ls) more h = elim (either (is_line l end_line)) [
   | inr n ↦ let k : list_any (λ l. is_line l end_line) ls ≡ false = rw n at h in rw n (after_none ls more k)
 ]
 
+-- the version line isn't the end line
+first_end : (v : Version) (ls : List (List (List ℕ))) → IsFirst v ls → lines_after_end ls ≡ None
+first_end v ls o = ap lines_after_end o.1 ∙ rw (first_not_end o.0 v o.2) refl
+
 -- the lines of a document that is still open have no end line
-open_end : (ls : List (List (List ℕ))) (d : Document) → IsOpen ls d → lines_after_end ls ≡ None
-open_end ls d o =
-    let b = no_end o.head o.body o.each in
-    let k = kind_not_end o.kind_line o.head o.heading in
-    let a = after_none (version_line ∷ o.kind_line ∷ o.body) [] (rw (k, b) refl) in
-    ap lines_after_end (o.lines ∙ sym (append-nil (version_line ∷ o.kind_line ∷ o.body))) ∙ a
+open_end : (ls : List (List (List ℕ))) (d : Draft) → IsOpen ls d → lines_after_end ls ≡ None
+open_end ls d o = ap lines_after_end (sym (append-nil ls)) ∙ after_none ls [] (open_no_end ls d o)
 
 -- the block begins after the end line of a document
 spelled_end : (ls : List (List (List ℕ))) (d : Document) (more : List (List (List ℕ))) → IsSpelled ls d → lines_after_end (ls ++ more) ≡ Some more
 spelled_end ls d more o =
-    let b = no_end o.head o.body o.each in
-    let k = kind_not_end o.kind_line o.head o.heading in
-    let front = version_line ∷ o.kind_line ∷ o.body in
-    let a = after_none front (end_line ∷ more) (rw (k, b) refl) in
-    ap (λ x. lines_after_end (x ++ more)) o.lines ∙ ap lines_after_end (append_assoc front (end_line ∷ []) more) ∙ a
+    let k = spelled_no_end ls d o in
+    ap (λ x. lines_after_end (x ++ more)) k.1 ∙ ap lines_after_end (append_assoc k.0 (end_line ∷ []) more) ∙ after_none k.0 (end_line ∷ more) k.2
 
 document_step_err : (r : Result State Code) (c : Code) → as_document r ≡ Err c → r ≡ Err c
 document_step_err (Ok s) c h = cc
@@ -166,7 +155,7 @@ in_block_error d b ls front more w c e o p h =
 
 errors : (s : ClaimState) (ls : List (List (List ℕ))) (w : List (List ℕ)) (c : Code) → ShowsClaim s ls → claim_step s w ≡ Err c → claim_code ls w ≡ Some c
 errors (in_document Start) ls w c o h = document_error Start ls w c o (ap lines_after_end o) h
-errors (in_document Versioned) ls w c o h = document_error Versioned ls w c o (ap lines_after_end o) h
+errors (in_document (Versioned v)) ls w c o h = document_error (Versioned v) ls w c o (first_end v ls o) h
 errors (in_document (Open d)) ls w c o h = document_error (Open d) ls w c o (open_end ls d o) h
 errors (in_document (Closed d)) ls w c o h = in_block_error d block.Empty ls ls [] w c (sym (append-nil ls)) o refl h
 errors (in_block d b) ls w c o h = in_block_error d b ls o.document o.block w c o.lines o.spelled o.part h
@@ -202,7 +191,7 @@ bound (Err c) f t h = cc
 -- a step within the document
 open_step : (s : State) (w : List (List ℕ)) (t : State) → step s w ≡ Ok t → claim_step (in_document s) w ≡ Ok (in_document t)
 open_step Start w t h = rw h refl
-open_step Versioned w t h = rw h refl
+open_step (Versioned v) w t h = rw h refl
 open_step (Open d) w t h = rw h refl
 open_step (Closed d) w t h = cc
 
@@ -340,7 +329,7 @@ document_fault_comes (x ∷ ls) s n l c other h = at (words x) (λ t k. document
 
     with_words : (s : State) (w : List (List ℕ)) → ((t : State) → outcome t (n + 1) ls ≡ Err (l, c) → claim_outcome (in_document t) (n + 1) ls ≡ Err (l, c)) → then_lines (step s w) n (λ t. outcome t (n + 1) ls) ≡ Err (l, c) → then_lines (claim_step (in_document s) w) n (λ t. claim_outcome t (n + 1) ls) ≡ Err (l, c)
     with_words Start w next h = open_at (step Start w) next h
-    with_words Versioned w next h = open_at (step Versioned w) next h
+    with_words (Versioned v) w next h = open_at (step (Versioned v) w) next h
     with_words (Open d) w next h = open_at (step (Open d) w) next h
     with_words (Closed d) w next h = let q = err_pair (n + 1, code.After) (l, c) h in absurd (other (sym (ap (λ p. p.1) q)))
 

@@ -609,7 +609,7 @@ spelled_run ls d o =
 -- ---- the end line stands last
 
 -- the version line isn't the end line
-first_not_end : (f : List (List ℕ)) (v : Version) → version_of f ≡ Some v → is_line f end_line ≡ false
+pub first_not_end : (f : List (List ℕ)) (v : Version) → version_of f ≡ Some v → is_line f end_line ≡ false
 first_not_end f v h = elim (either (is_line f end_line)) [
   | inl e ↦ let q : f ≡ end_line = (is_line-Decides f end_line).0 e in
       let n : ◌≡◌ {A = Option Version} None (Some v) = ap version_of (sym q) ∙ h in cc
