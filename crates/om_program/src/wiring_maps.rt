@@ -1,7 +1,7 @@
 //! Wirings, and their chirotopes.
 
 ghost use Rattle.std.specs.Prelude.{◌≡◌, ◌≤◌, OnOk, IfOk, IfErr};
-ghost use Rattle.om_text.specs.declared.body.Body.TheVariants.{Wiring};
+ghost use Rattle.om_text.specs.declared.body.Body.TheVariants as body;
 ghost use Rattle.om_text.specs.Form.{AreBlocks};
 ghost use Rattle.om_wiring.specs.Maps.{IsFlat, wiring_map};
 ghost use Rattle.om_wiring.specs.Wirings.{IsWiring};
@@ -26,7 +26,7 @@ pub fn chirotope_of_wiring(
     ensures value { IfOk result (λ c. c ≡ wiring_map elements blocks) }
     ensures axioms { OnOk result (IsWiring elements blocks) }
     ensures bent { OnOk result (IsFlat elements blocks → ⊥) }
-    ensures refused { IfErr result (IsRefusal elements (Wiring blocks)) }
+    ensures refused { IfErr result (IsRefusal elements (body.Wiring blocks)) }
 {
     let wiring = match wiring_of_blocks(elements, blocks) {
         Ok(wiring) => wiring,
@@ -47,7 +47,7 @@ pub fn wiring_of_blocks(elements: u8, blocks: List<Block>) -> Result<Wiring, Lin
     ensures elements { IfOk result (λ w. w.elements ≡ elements) }
     ensures blocks { IfOk result (λ w. w.blocks ≡ blocks) }
     ensures axioms { OnOk result (IsWiring elements blocks) }
-    ensures refused { IfErr result (IsRefusedOn elements (Wiring blocks)) }
+    ensures refused { IfErr result (IsRefusedOn elements (body.Wiring blocks)) }
 {
     match check(elements, blocks) {
         Ok(wiring) => Ok(wiring),
