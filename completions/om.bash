@@ -2,7 +2,7 @@
 _om() {
   local word=${COMP_WORDS[COMP_CWORD]} before=${COMP_WORDS[COMP_CWORD - 1]}
   if [ "$COMP_CWORD" -eq 1 ]; then
-    COMPREPLY=($(compgen -W "accept member convert dual delete contract reorient wiring mutations flip extend decide check paint hull lexext threeterm make" -- "$word"))
+    COMPREPLY=($(compgen -W "accept member convert dual delete contract reorient wiring mutations flip extend decide check paint hull lexext threeterm upgrade make" -- "$word"))
     return
   fi
   case ${COMP_WORDS[1]}:$COMP_CWORD in

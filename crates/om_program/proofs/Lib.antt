@@ -23,6 +23,7 @@ mod ReplyLaws
 mod SignWords
 mod SweepLaws
 mod TripleLaws
+mod UpgradeLaws
 mod ValidClaimLaws
 mod VerbLaws
 mod WordLaws

@@ -3,7 +3,7 @@
 -- Main results: the count that words name is in its range (lawful_count); the vectors that are made begin with the unit vectors (made_units), and
 -- are an answer that can be written (made_replies), by what the call says (made_meant); the document of the points (points_form, points_more) and the lines of the summary (tally_pushed).
 use Rattle.std.specs.Prelude.{ℕ, ℤ, ◌≡◌, ◌≤◌, ◌<◌, ◌+◌, ◌-◌, List, [], ◌∷◌, ◌++◌, length, map, take, codes, refl, All}
-use Rattle.std.proofs.Common.{arith, sym, subst, ap, ◌∙◌, get_or, append_assoc}
+use Rattle.std.proofs.Common.{arith, inl, sym, subst, ap, ◌∙◌, get_or, append_assoc}
 use Rattle.std.proofs.lemmas.List.{length-append, length-map, take_more}
 use Rattle.std.proofs.lemmas.List.Elements.{All-push}
 use Rattle.std.specs.Fmt.{decimal}
@@ -47,7 +47,7 @@ made_meant seed count vs t e tally back =
 -- ---- the document of the points
 
 pub points_form : (vs : List WholeVector) → 1 ≤ length vs → length vs ≤ MAX_ELEMENTS → All IsPoint (map coordinates vs) → IsInForm (points_document vs)
-points_form vs low high each = record { low = low; high = high; body = record { count = length-map vs coordinates; each = each } }
+points_form vs low high each = record { low = low; high = high; body = record { count = length-map vs coordinates; each = each }; names = inl refl }
 
 pub coordinates_point : (v : WholeVector) → IsCoordinate v.x → IsCoordinate v.y → IsCoordinate v.z → IsPoint (coordinates v)
 coordinates_point v x y z = record { three = refl; small = small }

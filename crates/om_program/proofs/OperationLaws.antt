@@ -107,6 +107,7 @@ lawful_arguments words t named = lawful t named.arguments named.behind
     lawful task.Hull rest behind = tt
     lawful (task.Lexext leading) rest read = lawful_leading rest leading read
     lawful task.Threeterm rest behind = tt
+    lawful task.Upgrade rest behind = tt
     lawful (task.Decide b) rest behind = lawful_budgets rest b behind
     lawful task.Check rest behind = tt
     lawful (task.Make seed count) rest behind = lawful_count rest (seed, count) behind

@@ -11,9 +11,14 @@ use Rattle.om_circuits.specs.declared.set_refused.SetRefused.{SetRefused}
 use Rattle.om_circuits.specs.declared.set_refused.SetRefused.TheVariants as set
 use Rattle.om_covectors.specs.declared.cov_refused.CovRefused.{CovRefused}
 use Rattle.om_covectors.specs.declared.cov_refused.CovRefused.TheVariants as cov
+use Rattle.om_denotation.proofs.SelectionLaws.{none_contained}
 use Rattle.om_wiring.specs.declared.wiring_refused.WiringRefused.{WiringRefused}
 use Rattle.om_wiring.specs.declared.wiring_refused.WiringRefused.TheVariants as wiring
 use Rattle.om_text.specs.declared.document.Document.{Document}
+use Rattle.om_text.specs.Form.{IsInForm}
+use Rattle.om_text.specs.Lines.{lines, wordful}
+use Rattle.om_text.specs.PrintTwo.{IsClosedUnderNegation}
+use Rattle.om_text.proofs.Forms.{document_form}
 use Rattle.om_text.specs.declared.body.Body.{Body}
 use Rattle.om_text.specs.declared.body.Body.TheVariants as body
 use Rattle.om_certificate.specs.declared.cert_refused.CertRefused.{CertRefused}
@@ -31,10 +36,10 @@ use Rattle.om_program.specs.declared.operation.Operation.TheVariants as operatio
 use Rattle.om_program.specs.declared.status.Status.{Status}
 use Rattle.om_program.specs.declared.status.Status.TheVariants as status
 use Rattle.om_program.specs.declared.task.Task.{Task}
-use Rattle.om_program.specs.declared.task.Task.TheVariants.{Accept, Member, Convert, Dual, Delete, Contract, Reorient, Wiring, Mutations, Flip, Extend, Decide, Paint, Hull, Lexext, Threeterm, Check, Make}
+use Rattle.om_program.specs.declared.task.Task.TheVariants.{Accept, Member, Convert, Dual, Delete, Contract, Reorient, Wiring, Mutations, Flip, Extend, Decide, Paint, Hull, Lexext, Threeterm, Upgrade, Check, Make}
 use Rattle.om_program.specs.Statuses.{IsAnswered, IsReplied}
 use Rattle.om_program.specs.Answers.{IsReply, status_of, status_of_line}
-use Rattle.om_program.specs.Axioms.{IsRefusedOn, set_line, map_line, cov_line, wiring_line}
+use Rattle.om_program.specs.Axioms.{MeetsAxiomsOn, IsRefusedOn, set_line, map_line, cov_line, wiring_line}
 use Rattle.om_program.specs.Memberships.{IsMembership, wrong_length, covector, not_covector}
 use Rattle.om_program.specs.Conversions.{IsConversion, itself, limited, converted}
 use Rattle.om_program.specs.Operations.{IsOperation, outside, last, made}
@@ -43,18 +48,20 @@ use Rattle.om_program.proofs.MadeLaws.{made_replies}
 use Rattle.om_program.proofs.ReachLaws.{painting_replies, hull_replies, extension_replies}
 use Rattle.om_program.specs.Operations as operations
 use Rattle.om_program.specs.ThreeTermTests as tests
+use Rattle.om_program.specs.Upgrades as upgrades
 use Rattle.om_signs.specs.declared.raw_map.RawMap.{RawMap}
 use Rattle.om_threeterm.specs.declared.three_refused.ThreeRefused.{ThreeRefused}
 use Rattle.om_threeterm.specs.declared.three_refused.ThreeRefused.TheVariants as three
 use Rattle.om_program.specs.Claims as claims
 use Rattle.om_program.proofs.DecisionLaws.{verdict_status, decision_replies}
-use Rattle.om_program.specs.Meaning.{IsAnswerOf, DocumentMeans, flat_line, tested, refused, flat, answered, TaskMeans, long, faulty, read, faulty_claim, claimed, alone}
+use Rattle.om_program.specs.Meaning.{IsAnswerOf, DocumentMeans, flat_line, tested, upgraded, refused, flat, answered, TaskMeans, long, faulty, read, faulty_claim, claimed, alone}
 
 -- ---- statuses
 
 pub reply_status : (a : Answer) → IsReply a → IsReplied (status_of a)
 reply_status (answer.Line l) reply = reply
 reply_status (answer.Document d) reply = tt
+reply_status (answer.Upgraded d) reply = tt
 reply_status (answer.Mutations sets) reply = tt
 reply_status (answer.Extensions n l) reply = tt
 reply_status (answer.Hull items) reply = tt
@@ -168,6 +175,19 @@ test_replies d a (tests.of_map m b same is) = map_test_replies m a is
 test_replies d a (tests.refused why other is) = refused_replies d.elements d.body why is
 test_replies d a (tests.no_map other axioms) = tt
 
+-- a list that meets its axioms has the negative of each member
+closed_under_negation : (n : ℕ) (b : Body) → MeetsAxiomsOn n b → IsClosedUnderNegation b
+closed_under_negation n (body.Chirotope m) axioms = λ x none. absurd (none_contained x none)
+closed_under_negation n (body.Circuits members) axioms = axioms.symmetric
+closed_under_negation n (body.Cocircuits members) axioms = axioms.symmetric
+closed_under_negation n (body.Covectors members) axioms = axioms.symmetric
+closed_under_negation n (body.Wiring blocks) axioms = λ x none. absurd (none_contained x none)
+closed_under_negation n (body.Points points) axioms = λ x none. absurd (none_contained x none)
+
+upgrade_replies : (d : Document) (a : Answer) → IsInForm d → upgrades.IsUpgrade d a → IsReply a
+upgrade_replies d a form (upgrades.refused why is) = refused_replies d.elements d.body why is
+upgrade_replies d a form (upgrades.kept axioms) = (form, closed_under_negation d.elements d.body axioms)
+
 -- ---- the answers of tasks: one line for each
 
 task_answer_replies : (t : Task) (d : Document) (a : Answer) → IsAnswerOf t d a → IsReply a
@@ -186,6 +206,7 @@ task_answer_replies (Paint colouring) d a is = painting_replies colouring d a is
 task_answer_replies Hull d a is = hull_replies d a is
 task_answer_replies (Lexext leading) d a is = extension_replies leading d a is
 task_answer_replies Threeterm d a is = absurd is
+task_answer_replies Upgrade d a is = absurd is
 task_answer_replies (Decide b) d a is = decision_replies b d a is
 task_answer_replies Check d a is = absurd is
 task_answer_replies (Make seed count) d a is = absurd is
@@ -194,16 +215,17 @@ flat_replies : (t : Task) → IsReplied (status_of_line (flat_line t))
 flat_replies Accept = tt
 flat_replies _ = tt
 
-document_replies : (t : Task) (d : Document) (a : Answer) → DocumentMeans t d a → IsReply a
-document_replies t d a (tested b same is) = test_replies d a is
-document_replies t d a (refused why other is) = refused_replies d.elements d.body why is
-document_replies t d a (flat other axioms is) = flat_replies t
-document_replies t d a (answered b other axioms bent is) = task_answer_replies t _ a is
+document_replies : (t : Task) (d : Document) (a : Answer) → IsInForm d → DocumentMeans t d a → IsReply a
+document_replies t d a form (tested b same is) = test_replies d a is
+document_replies t d a form (upgraded b same is) = upgrade_replies d a form is
+document_replies t d a form (refused why other kept is) = refused_replies d.elements d.body why is
+document_replies t d a form (flat other kept axioms is) = flat_replies t
+document_replies t d a form (answered b other kept axioms bent is) = task_answer_replies t _ a is
 
 pub task_replies : (t : Task) (bytes : List ℕ) (a : Answer) → TaskMeans t bytes a → IsReply a
 task_replies t bytes a (long reads past) = tt
 task_replies t bytes a (faulty n c reads short is) = tt
-task_replies t bytes a (read d b reads short is means) = document_replies t d a means
+task_replies t bytes a (read d b reads short is means) = document_replies t d a (document_form (wordful (lines bytes)) d is) means
 task_replies t bytes a (faulty_claim n c reads short is) = tt
 task_replies t bytes a (claimed c l reads short is means) = claim_replies c l means
 task_replies t bytes a (alone seed count b same is) = made_replies seed count b is

@@ -2,7 +2,7 @@
 --
 -- Main results: the document of a wiring diagram is in form (wiring_in_form); why a chirotope isn't swept, as an answer (refused_sweep).
 use Rattle.std.specs.Prelude.{ℕ, ◌≡◌, ◌≢◌, ◌↔◌, ◌≤◌, List, [], ◌∷◌, ◌++◌, length, All, Result, Err, IsErrOf, refl}
-use Rattle.std.proofs.Common.{arith, sym, ◌∙◌, append_assoc}
+use Rattle.std.proofs.Common.{arith, inl, sym, ◌∙◌, append_assoc}
 use Rattle.std.proofs.lemmas.List.Elements.{All-nil, All-cons}
 use Rattle.om_signs.specs.declared.block.Block.{Block}
 use Rattle.om_signs.specs.declared.limits.TheConstants.{MAX_ELEMENTS, MAX_BLOCKS}
@@ -13,9 +13,10 @@ use Rattle.om_wiring.specs.declared.sweep_error.SweepError.{SweepError}
 use Rattle.om_wiring.specs.declared.sweep_error.SweepError.TheVariants as sweep
 use Rattle.om_wiring.specs.Maps.{extended}
 use Rattle.om_wiring.specs.Wirings.{IsWiring}
+use Rattle.om_text.specs.declared.body.Body.TheVariants.{Wiring}
 use Rattle.om_text.specs.Form.{IsInForm, IsShort}
 use Rattle.om_program.specs.declared.answer.Answer.{Answer}
-use Rattle.om_program.specs.Sweeps.{IsSweepRefusal, IsWiringOfMap, other_rank, not_sweepable, wiring_document}
+use Rattle.om_program.specs.Sweeps.{IsSweepRefusal, IsWiringOfMap, other_rank, not_sweepable}
 use Rattle.om_program.proofs.RankThreeLaws.{of_rank3}
 
 short_from : (n : ℕ) (blocks done rest : List Block) → n ≤ MAX_ELEMENTS → IsWiring n blocks → blocks ≡ done ++ rest → All IsShort rest
@@ -29,13 +30,14 @@ short_from n blocks done (b ∷ rest) high wiring same = All-cons IsShort b rest
         let last = step.high in
         record { first = omega (arith, proper, last, high); last = omega (arith, last, high) }
 
-pub wiring_in_form : (n k : ℕ) (blocks list : List Block) → k ≡ n → list ≡ blocks → 1 ≤ k → k ≤ MAX_ELEMENTS → length blocks ≤ MAX_BLOCKS → IsWiring n blocks → IsInForm (wiring_document k list)
-wiring_in_form n k blocks list same is low high few wiring =
+pub wiring_in_form : (n k : ℕ) (blocks list : List Block) (names : List (List ℕ)) → names ≡ [] → k ≡ n → list ≡ blocks → 1 ≤ k → k ≤ MAX_ELEMENTS → length blocks ≤ MAX_BLOCKS → IsWiring n blocks → IsInForm (record { elements = k; body = Wiring list; names = names })
+wiring_in_form n k blocks list names none same is low high few wiring =
     let within : n ≤ MAX_ELEMENTS = omega (arith, same, high) in
     record {
       low = low;
       high = high;
       body = record { few = rw is few; short = rw is (short_from n blocks [] blocks within wiring refl) };
+      names = inl none;
     }
 
 -- another cause than the rank

@@ -2,7 +2,7 @@
 --
 -- Main results: verdicts_found_valid.
 use Rattle.std.specs.Prelude.{ℕ, ◌≡◌, ◌≤◌, List, [], ◌∷◌, codes, length, refl, Ok}
-use Rattle.std.proofs.Common.{sym, ap, subst}
+use Rattle.std.proofs.Common.{sym, ap, subst, inl}
 use Rattle.om_signs.specs.declared.limits.TheConstants.{MAX_INPUT}
 use Rattle.om_chirotope.specs.Map.{SignMap}
 use Rattle.om_chirotope.specs.Chirotope.{IsSound}
@@ -27,7 +27,7 @@ use Rattle.om_program.specs.declared.verb.Verb.TheVariants as verb
 use Rattle.om_program.specs.Answers.{says, judges}
 use Rattle.om_program.specs.Claims.{valid, judged, verified, valid_line}
 use Rattle.om_program.specs.Decisions.{IsDecided, DecisionMeans, other_rank, decided, IsDecision, of_chirotope}
-use Rattle.om_program.specs.Meaning.{Means, usage, named, TaskMeans, long, faulty, read, faulty_claim, claimed, alone, DocumentMeans, tested, refused, flat, answered}
+use Rattle.om_program.specs.Meaning.{Means, usage, named, TaskMeans, long, faulty, read, faulty_claim, claimed, alone, DocumentMeans, tested, upgraded, refused, flat, answered}
 use Rattle.om_program.specs.ValidClaims.{IsLimit, IsFoundValid, VerdictsAreFoundValid}
 use Rattle.om_program.specs.Words.{Names, verb_of}
 use Rattle.om_program.proofs.VerbLaws.{same_verb}
@@ -39,6 +39,7 @@ use Rattle.om_program.proofs.WordLaws.{first_of, decide_shape}
 abbrev IsJudged : Budgets → Answer → Type 0
 IsJudged b (answer.Line l) = Unit {0}
 IsJudged b (answer.Document d) = Unit {0}
+IsJudged b (answer.Upgraded d) = Unit {0}
 IsJudged b (answer.Mutations sets) = Unit {0}
 IsJudged b (answer.Extensions n l) = Unit {0}
 IsJudged b (answer.Hull items) = Unit {0}
@@ -54,9 +55,10 @@ decision_judged b d a (of_chirotope m answer of means) = map_judged m b a means
 
 document_judged : (b : Budgets) (d : Document) (a : Answer) → DocumentMeans (Decide b) d a → IsJudged b a
 document_judged b d a (tested answer same is) = cc
-document_judged b d a (refused why other is) = tt
-document_judged b d a (flat other axioms is) = tt
-document_judged b d a (answered answer other axioms bent is) = decision_judged b _ a is
+document_judged b d a (upgraded answer same is) = cc
+document_judged b d a (refused why other kept is) = tt
+document_judged b d a (flat other kept axioms is) = tt
+document_judged b d a (answered answer other kept axioms bent is) = decision_judged b _ a is
 
 task_judged : (b : Budgets) (bytes : List ℕ) (a : Answer) → TaskMeans (Decide b) bytes a → IsJudged b a
 task_judged b bytes a (long reads past) = tt
@@ -90,6 +92,7 @@ document_form m sound = record {
   low = sound.limits.low;
   high = sound.limits.high;
   body = record { elements = refl; rank = sound.axioms.whole.part; signs = sound.axioms.whole.whole };
+  names = inl refl;
 }
 
 evidence_shown : (m : SignMap) (e : Evidence) → IsValid m e → Shows m e

@@ -27,9 +27,10 @@ verb_of_word word =
     cond (bytes_eq word (codes "hull")) verb.Hull (
     cond (bytes_eq word (codes "lexext")) verb.Lexext (
     cond (bytes_eq word (codes "threeterm")) verb.Threeterm (
+    cond (bytes_eq word (codes "upgrade")) verb.Upgrade (
     cond (bytes_eq word (codes "decide")) verb.Decide (
     cond (bytes_eq word (codes "check")) verb.Check (
-    verb.Make)))))))))))))))))
+    verb.Make))))))))))))))))))
 
 word_back : (v : Verb) → verb_of_word (verb_word v) ≡ v
 word_back verb.Accept = refl
@@ -47,6 +48,7 @@ word_back verb.Paint = refl
 word_back verb.Hull = refl
 word_back verb.Lexext = refl
 word_back verb.Threeterm = refl
+word_back verb.Upgrade = refl
 word_back verb.Decide = refl
 word_back verb.Check = refl
 word_back verb.Make = refl
@@ -71,9 +73,10 @@ place_of verb.Paint = 11
 place_of verb.Hull = 12
 place_of verb.Lexext = 13
 place_of verb.Threeterm = 14
-place_of verb.Decide = 15
-place_of verb.Check = 16
-place_of verb.Make = 17
+place_of verb.Upgrade = 15
+place_of verb.Decide = 16
+place_of verb.Check = 17
+place_of verb.Make = 18
 
 pub verb_at : (u v : Verb) → get_or VERBS (place_of v) u ≡ v
 verb_at u verb.Accept = refl
@@ -91,6 +94,7 @@ verb_at u verb.Paint = refl
 verb_at u verb.Hull = refl
 verb_at u verb.Lexext = refl
 verb_at u verb.Threeterm = refl
+verb_at u verb.Upgrade = refl
 verb_at u verb.Decide = refl
 verb_at u verb.Check = refl
 verb_at u verb.Make = refl
@@ -111,6 +115,7 @@ place_within verb.Paint = lit≤ tt
 place_within verb.Hull = lit≤ tt
 place_within verb.Lexext = lit≤ tt
 place_within verb.Threeterm = lit≤ tt
+place_within verb.Upgrade = lit≤ tt
 place_within verb.Decide = lit≤ tt
 place_within verb.Check = lit≤ tt
 place_within verb.Make = lit≤ tt

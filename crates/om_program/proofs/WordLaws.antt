@@ -11,7 +11,7 @@ use Rattle.om_answer.specs.declared.kind.Kind.TheVariants as kind
 use Rattle.om_decide.specs.declared.budgets.Budgets.{Budgets}
 use Rattle.om_program.specs.Options.{AreBudgets, AreSeedAndCount, AreLines}
 use Rattle.om_program.specs.declared.task.Task.{Task}
-use Rattle.om_program.specs.declared.task.Task.TheVariants.{Accept, Member, Convert, Dual, Delete, Contract, Reorient, Wiring, Mutations, Flip, Extend, Decide, Paint, Hull, Lexext, Threeterm, Check, Make}
+use Rattle.om_program.specs.declared.task.Task.TheVariants.{Accept, Member, Convert, Dual, Delete, Contract, Reorient, Wiring, Mutations, Flip, Extend, Decide, Paint, Hull, Lexext, Threeterm, Upgrade, Check, Make}
 use Rattle.om_program.specs.declared.usage.Usage.{Usage}
 use Rattle.om_program.specs.declared.colouring.Colouring.{Colouring}
 use Rattle.om_program.specs.declared.leading.Leading.{Leading}
@@ -183,6 +183,7 @@ Value verb.Paint = Colouring
 Value verb.Hull = Unit {0}
 Value verb.Lexext = Leading
 Value verb.Threeterm = Unit {0}
+Value verb.Upgrade = Unit {0}
 Value verb.Decide = Budgets
 Value verb.Check = Unit {0}
 Value verb.Make = ℕ × ℕ
@@ -203,6 +204,7 @@ value_of (Paint colouring) = colouring
 value_of Hull = tt
 value_of (Lexext leading) = leading
 value_of Threeterm = tt
+value_of Upgrade = tt
 value_of (Decide b) = b
 value_of Check = tt
 value_of (Make seed count) = (seed, count)
@@ -223,6 +225,7 @@ task_of verb.Paint colouring = Paint colouring
 task_of verb.Hull _ = Hull
 task_of verb.Lexext leading = Lexext leading
 task_of verb.Threeterm _ = Threeterm
+task_of verb.Upgrade _ = Upgrade
 task_of verb.Decide b = Decide b
 task_of verb.Check _ = Check
 task_of verb.Make made = Make made.0 made.1
@@ -243,6 +246,7 @@ task_back (Paint colouring) = refl
 task_back Hull = refl
 task_back (Lexext leading) = refl
 task_back Threeterm = refl
+task_back Upgrade = refl
 task_back (Decide b) = refl
 task_back Check = refl
 task_back (Make seed count) = refl
@@ -294,6 +298,9 @@ lexext_shape = record { verb = λ a. refl; arguments = λ a words. (λ h. h, λ 
 
 pub threeterm_shape : IsShape verb.Threeterm AreNone (λ _. Threeterm)
 threeterm_shape = record { verb = λ a. refl; arguments = λ a words. (λ h. h, λ h. h); only = only verb.Threeterm }
+
+pub upgrade_shape : IsShape verb.Upgrade AreNone (λ _. Upgrade)
+upgrade_shape = record { verb = λ a. refl; arguments = λ a words. (λ h. h, λ h. h); only = only verb.Upgrade }
 
 pub decide_shape : IsShape verb.Decide AreBudgets Decide
 decide_shape = record { verb = λ a. refl; arguments = λ a words. (λ h. h, λ h. h); only = only verb.Decide }

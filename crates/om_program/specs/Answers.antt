@@ -7,6 +7,7 @@ use Rattle.om_certificate.specs.Forms.{IsVerdictInForm}
 use Rattle.om_text.specs.declared.document.Document.{Document}
 use Rattle.om_text.specs.Form.{IsInForm}
 use Rattle.om_text.specs.Print.{printed}
+use Rattle.om_text.specs.PrintTwo.{printed_two, IsClosedUnderNegation}
 use Rattle.om_answer.specs.declared.line.Line.{Line}
 use Rattle.om_answer.specs.declared.line.Line.TheVariants as line
 use Rattle.om_answer.specs.Texts.{line_text}
@@ -33,6 +34,10 @@ says l = answer.Line l
 -- an answer that is a document
 abbrev pub shows : Document → Answer
 shows d = answer.Document d
+
+-- an answer that is a document in version 2
+abbrev pub upgrades : Document → Answer
+upgrades d = answer.Upgraded d
 
 -- an answer that lists mutations
 abbrev pub lists : List Chosen → Answer
@@ -79,16 +84,18 @@ status_of_verdict _ = Done
 abbrev pub status_of : Answer → Status
 status_of (answer.Line l) = status_of_line l
 status_of (answer.Document d) = Done
+status_of (answer.Upgraded d) = Done
 status_of (answer.Mutations sets) = Done
 status_of (answer.Extensions n l) = Done
 status_of (answer.Hull items) = Done
 status_of (answer.Verdict m v) = status_of_verdict v
 status_of (answer.Made vs t) = Done
 
--- the bytes of an answer; a document is written in canonical form, and a verdict behind the document of its chirotope
+-- the bytes of an answer; a document is written in canonical form or in version 2, and a verdict behind the document of its chirotope
 abbrev pub text_of : Answer → List ℕ
 text_of (answer.Line l) = line_text l
 text_of (answer.Document d) = printed d
+text_of (answer.Upgraded d) = printed_two d
 text_of (answer.Mutations sets) = mutations_text sets
 text_of (answer.Extensions n l) = extensions_text n l
 text_of (answer.Hull items) = hull_text items
@@ -99,6 +106,7 @@ text_of (answer.Made vs t) = made_text vs t
 abbrev pub IsReply : Answer → Type 0
 IsReply (answer.Line l) = IsReplied (status_of_line l)
 IsReply (answer.Document d) = IsInForm d
+IsReply (answer.Upgraded d) = IsInForm d × IsClosedUnderNegation d.body
 IsReply (answer.Mutations sets) = Unit {0}
 IsReply (answer.Extensions n l) = Unit {0}
 IsReply (answer.Hull items) = Unit {0}

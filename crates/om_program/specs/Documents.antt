@@ -1,5 +1,5 @@
--- The documents of values, and the document on which the commands work.
-use Rattle.std.specs.Prelude.{ℕ}
+-- The documents of values, and the document on which the commands work. They have no names.
+use Rattle.std.specs.Prelude.{ℕ, []}
 use Rattle.om_signs.specs.declared.raw_map.RawMap.{RawMap}
 use Rattle.om_chirotope.specs.Map.{SignMap}
 use Rattle.om_members.specs.Listings.{Listing}
@@ -17,17 +17,17 @@ raw_of m = record { rank = m.rank; elements = m.elements; signs = m.signs }
 
 -- the document of a map
 abbrev pub map_document : SignMap → Document
-map_document m = record { elements = m.elements; body = body.Chirotope (raw_of m) }
+map_document m = record { elements = m.elements; body = body.Chirotope (raw_of m); names = [] }
 
 -- the documents of lists
 abbrev pub circuits_document : Listing → Document
-circuits_document s = record { elements = s.elements; body = body.Circuits s.members }
+circuits_document s = record { elements = s.elements; body = body.Circuits s.members; names = [] }
 
 abbrev pub cocircuits_document : Listing → Document
-cocircuits_document s = record { elements = s.elements; body = body.Cocircuits s.members }
+cocircuits_document s = record { elements = s.elements; body = body.Cocircuits s.members; names = [] }
 
 abbrev pub covectors_document : Listing → Document
-covectors_document s = record { elements = s.elements; body = body.Covectors s.members }
+covectors_document s = record { elements = s.elements; body = body.Covectors s.members; names = [] }
 
 -- the document of a representation
 abbrev pub document_of : Representation → Document
@@ -40,9 +40,9 @@ document_of (representation.Covectors c) = covectors_document c
 abbrev pub with_map : ℕ → Body → Document
 with_map n (body.Points points) = map_document (points_map points)
 with_map n (body.Wiring blocks) = map_document (wiring_map n blocks)
-with_map n b = record { elements = n; body = b }
+with_map n b = record { elements = n; body = b; names = [] }
 
--- the document on which the commands work: that of their map for points and wirings, and each other document as it is. It is a chirotope or
+-- the document on which the commands work: that of their map for points and wirings, and each other document as it is, but without its names. It is a chirotope or
 -- a list of circuits, of cocircuits or of covectors
 abbrev pub worked_on : Document → Document
 worked_on d = with_map d.elements d.body

@@ -2,6 +2,7 @@ pub mod Fits
 pub mod Options
 pub mod Elements
 pub mod Triples
+pub mod Upgrades
 pub mod Listings
 pub mod Words
 pub mod Samples

@@ -13,7 +13,7 @@ coordinates v = v.x ∷ v.y ∷ v.z ∷ []
 
 -- the document of points with the coordinates of vectors
 abbrev pub points_document : List WholeVector → Document
-points_document vs = record { elements = length vs; body = Points (map coordinates vs) }
+points_document vs = record { elements = length vs; body = Points (map coordinates vs); names = [] }
 
 -- a line for each count, and that both lists are, converted back, equal to the normal chirotope
 abbrev pub tally_lines : Tally → List (List ℕ)

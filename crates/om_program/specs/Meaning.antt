@@ -17,7 +17,7 @@ use Rattle.om_program.specs.declared.answer.Answer.{Answer}
 use Rattle.om_program.specs.declared.operation.Operation.TheVariants as operation
 use Rattle.om_program.specs.declared.reads.Reads.TheVariants as source
 use Rattle.om_program.specs.declared.task.Task.{Task}
-use Rattle.om_program.specs.declared.task.Task.TheVariants.{Accept, Member, Convert, Dual, Delete, Contract, Reorient, Wiring, Mutations, Flip, Extend, Decide, Paint, Hull, Lexext, Threeterm, Check, Make}
+use Rattle.om_program.specs.declared.task.Task.TheVariants.{Accept, Member, Convert, Dual, Delete, Contract, Reorient, Wiring, Mutations, Flip, Extend, Decide, Paint, Hull, Lexext, Threeterm, Upgrade, Check, Make}
 use Rattle.om_program.specs.Answers.{says}
 use Rattle.om_program.specs.Axioms.{MeetsAxioms, IsRefused, IsFlatDocument}
 use Rattle.om_program.specs.Claims.{ClaimMeans}
@@ -37,9 +37,11 @@ use Rattle.om_program.specs.Paintings.{IsPainting}
 use Rattle.om_program.specs.Sweeps.{IsWiringOf}
 use Rattle.om_program.specs.Tasks.{reads}
 use Rattle.om_program.specs.ThreeTermTests.{IsThreeTermTest}
+use Rattle.om_program.specs.Upgrades.{IsUpgrade}
 use Rattle.om_program.specs.Words.{Names, IsUsage}
 
--- the answer to a task on the document of a chirotope or of a list that meets its axioms; a check reads a claim, and `make` nothing
+-- the answer to a task on the document of a chirotope or of a list that meets its axioms; the three-term test and the upgrade are of the document
+-- as it stands, a check reads a claim, and `make` nothing
 abbrev pub IsAnswerOf : Task → Document → Answer → Type 0
 IsAnswerOf Accept d answer = answer ≡ says line.Accepted
 IsAnswerOf (Member x) d answer = IsMembership d.elements (IsCovectorIn d) x answer
@@ -56,6 +58,7 @@ IsAnswerOf (Paint colouring) d answer = IsPainting colouring d answer
 IsAnswerOf Hull d answer = IsHull d answer
 IsAnswerOf (Lexext leading) d answer = IsLexicalExtension leading d answer
 IsAnswerOf Threeterm d answer = ⊥
+IsAnswerOf Upgrade d answer = ⊥
 IsAnswerOf (Decide b) d answer = IsDecision b d answer
 IsAnswerOf Check d answer = ⊥
 IsAnswerOf (Make seed count) d answer = ⊥
@@ -69,12 +72,14 @@ flat_line _ = line.RefusedFlatrank
 pub data DocumentMeans (task : Task) (d : Document) : Answer → Type 0 where
   -- the document is given to the three-term test
   tested : (answer : Answer) → task ≡ Threeterm → IsThreeTermTest d answer → DocumentMeans task d answer
+  -- it is upgraded
+  upgraded : (answer : Answer) → task ≡ Upgrade → IsUpgrade d answer → DocumentMeans task d answer
   -- the document fails the axioms of its kind, and this line names the first violated instance
-  refused : (why : Line) → task ≢ Threeterm → IsRefused d why → DocumentMeans task d (says why)
+  refused : (why : Line) → task ≢ Threeterm → task ≢ Upgrade → IsRefused d why → DocumentMeans task d (says why)
   -- it meets them, and is a wiring that gives no chirotope
-  flat : task ≢ Threeterm → MeetsAxioms d → IsFlatDocument d → DocumentMeans task d (says (flat_line task))
+  flat : task ≢ Threeterm → task ≢ Upgrade → MeetsAxioms d → IsFlatDocument d → DocumentMeans task d (says (flat_line task))
   -- it meets them and gives an oriented matroid: points and wirings by their map, each other document as it is
-  answered : (answer : Answer) → task ≢ Threeterm → MeetsAxioms d → (IsFlatDocument d → ⊥) → IsAnswerOf task (worked_on d) answer → DocumentMeans task d answer
+  answered : (answer : Answer) → task ≢ Threeterm → task ≢ Upgrade → MeetsAxioms d → (IsFlatDocument d → ⊥) → IsAnswerOf task (worked_on d) answer → DocumentMeans task d answer
 
 -- what a task means for an input
 pub data TaskMeans (task : Task) (bytes : List ℕ) : Answer → Type 0 where

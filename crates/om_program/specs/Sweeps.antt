@@ -1,5 +1,5 @@
 -- What the wiring of a chirotope is.
-use Rattle.std.specs.Prelude.{ℕ, ◌≡◌, ◌≢◌, List}
+use Rattle.std.specs.Prelude.{ℕ, ◌≡◌, ◌≢◌, List, []}
 use Rattle.om_signs.specs.declared.block.Block.{Block}
 use Rattle.om_subsets.specs.Members.{Chosen}
 use Rattle.om_chirotope.specs.Map.{SignMap}
@@ -18,7 +18,7 @@ use Rattle.om_program.specs.RankThree.{IsForChirotope}
 
 -- the document of a wiring diagram
 abbrev pub wiring_document : ℕ → List Block → Document
-wiring_document n blocks = record { elements = n; body = body.Wiring blocks }
+wiring_document n blocks = record { elements = n; body = body.Wiring blocks; names = [] }
 
 -- the wiring of a map
 pub data IsWiringOfMap (m : SignMap) : Answer → Type 0 where

@@ -11,7 +11,7 @@ use Rattle.om_answer.specs.declared.kind.Kind.{Kind}
 use Rattle.om_answer.specs.declared.kind.Kind.TheVariants as kind
 use Rattle.om_program.specs.Options.{AreBudgets, AreSeedAndCount, AreLines}
 use Rattle.om_program.specs.declared.task.Task.{Task}
-use Rattle.om_program.specs.declared.task.Task.TheVariants.{Accept, Member, Convert, Dual, Delete, Contract, Reorient, Wiring, Mutations, Flip, Extend, Decide, Paint, Hull, Lexext, Threeterm, Check, Make}
+use Rattle.om_program.specs.declared.task.Task.TheVariants.{Accept, Member, Convert, Dual, Delete, Contract, Reorient, Wiring, Mutations, Flip, Extend, Decide, Paint, Hull, Lexext, Threeterm, Upgrade, Check, Make}
 use Rattle.om_program.specs.declared.usage.Usage.{Usage}
 use Rattle.om_program.specs.declared.verb.Verb.{Verb}
 use Rattle.om_program.specs.declared.verb.Verb.TheVariants as verb
@@ -70,6 +70,7 @@ verb_of (Paint colouring) = verb.Paint
 verb_of Hull = verb.Hull
 verb_of (Lexext leading) = verb.Lexext
 verb_of Threeterm = verb.Threeterm
+verb_of Upgrade = verb.Upgrade
 verb_of (Decide b) = verb.Decide
 verb_of Check = verb.Check
 verb_of (Make seed count) = verb.Make
@@ -90,6 +91,7 @@ verb_word verb.Paint = codes "paint"
 verb_word verb.Hull = codes "hull"
 verb_word verb.Lexext = codes "lexext"
 verb_word verb.Threeterm = codes "threeterm"
+verb_word verb.Upgrade = codes "upgrade"
 verb_word verb.Decide = codes "decide"
 verb_word verb.Check = codes "check"
 verb_word verb.Make = codes "make"
@@ -111,6 +113,7 @@ AreArguments (Paint colouring) words = AreColouring words colouring
 AreArguments Hull words = AreNone words tt
 AreArguments (Lexext leading) words = AreLeading words leading
 AreArguments Threeterm words = AreNone words tt
+AreArguments Upgrade words = AreNone words tt
 AreArguments (Decide b) words = AreBudgets words b
 AreArguments Check words = AreNone words tt
 AreArguments (Make seed count) words = AreSeedAndCount words (seed, count)

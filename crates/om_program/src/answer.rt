@@ -20,6 +20,8 @@ pub enum Answer {
     Line(Line),
     /// A document, in canonical form.
     Document(Document),
+    /// A document, in version 2 of the format, with its names.
+    Upgraded(Document),
     /// Mutations: one line that says how many there are, a line for each, and `end`.
     Mutations(List<Subset>),
     /// Extensions of a map on this many elements: `om 1`, `extensions` and the number of elements, a line for each
@@ -50,6 +52,7 @@ impl Answer {
         match self {
             Answer::Line(line) => status_of_line(line),
             Answer::Document(_) => Status::Done,
+            Answer::Upgraded(_) => Status::Done,
             Answer::Mutations(_) => Status::Done,
             Answer::Extensions { .. } => Status::Done,
             Answer::Hull(_) => Status::Done,

@@ -24,6 +24,7 @@ use crate::sweeping::find_wiring;
 use crate::task::Task;
 use crate::three_terms::test_three_terms;
 use crate::unrepresented::Unrepresented;
+use crate::upgrading::upgrade;
 use crate::verification::verify;
 use om_answer::{Line, read_claim};
 use om_signs::{MAX_INPUT, NoMemory};
@@ -112,11 +113,12 @@ fn answer_document<R: Threads + Sync>(
 {
     match task {
         Task::Threeterm => test_three_terms(rt, alloc, document),
+        Task::Upgrade => upgrade(rt, alloc, document),
         _ => answer_represented(rt, alloc, task, document),
     }
 }
 
-/// The answer to a task on a document whose axioms are looked at: that is any task but the three-term test.
+/// The answer to a task on the oriented matroid that a document gives: that is any task but the three-term test and the upgrade.
 fn answer_represented<R: Threads + Sync>(
     rt: &R,
     alloc: Global,
@@ -127,6 +129,7 @@ fn answer_represented<R: Threads + Sync>(
     requires lawful { HasLawfulArguments task }
     requires document { reads task ≡ Reads.Document }
     requires other { task ≢ Task.Threeterm }
+    requires kept { task ≢ Task.Upgrade }
     ensures { IfOk result (DocumentMeans task document) }
 {
     match represent(rt, alloc, document) {
@@ -157,6 +160,7 @@ fn answer_task<R: Threads + Sync>(
     requires lawful { HasLawfulArguments task }
     requires document { reads task ≡ Reads.Document }
     requires other { task ≢ Task.Threeterm }
+    requires kept { task ≢ Task.Upgrade }
     ensures { IfOk result (IsMeantFor (IsAnswerOf task) representation) }
 {
     match task {
@@ -175,8 +179,8 @@ fn answer_task<R: Threads + Sync>(
         Task::Flip(a, b, c) => flip_triple(alloc, representation, a, b, c),
         Task::Extend { first } => list_extensions(rt, alloc, representation, first),
         Task::Decide(budgets) => judge(alloc, representation, budgets),
-        // a map is tested as it stands in its document
-        Task::Threeterm => unreachable!(),
+        // a map is tested as it stands in its document, and a document is upgraded as it stands
+        Task::Threeterm | Task::Upgrade => unreachable!(),
         // these ones don't read a document
         Task::Check | Task::Make { .. } => unreachable!(),
     }

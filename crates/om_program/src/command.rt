@@ -76,6 +76,10 @@ fn after_verb(verb: Verb, rest: &[String]) -> Result<Task, Usage>
             none(rest)?;
             Ok(Task::Threeterm)
         }
+        Verb::Upgrade => {
+            none(rest)?;
+            Ok(Task::Upgrade)
+        }
         Verb::Decide => Ok(Task::Decide(budgets(rest)?)),
         Verb::Check => {
             none(rest)?;

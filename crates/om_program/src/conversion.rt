@@ -40,7 +40,7 @@ fn to_chirotope(alloc: Global, representation: Representation) -> Result<Answer,
     ensures { IfOk result (IsMeantFor (IsConversion Kind.Chirotope) representation) }
 {
     let chirotope = choose_chirotope(alloc, representation)?;
-    Ok(Answer::Document(map_document(chirotope)))
+    Ok(Answer::Document(map_document(alloc, chirotope)))
 }
 
 /// The document of the circuits of an oriented matroid.
@@ -48,7 +48,9 @@ fn to_circuits(alloc: Global, representation: Representation) -> Result<Answer, 
     ensures { IfOk result (IsMeantFor (IsConversion Kind.Circuits) representation) }
 {
     match representation {
-        Representation::Circuits(circuits) => Ok(Answer::Document(circuits_document(circuits))),
+        Representation::Circuits(circuits) => Ok(Answer::Document(circuits_document(
+            alloc, circuits,
+        ))),
         Representation::Chirotope(_)
         | Representation::Cocircuits(_)
         | Representation::Covectors(_) => {
@@ -65,7 +67,7 @@ fn list_circuits(alloc: Global, chirotope: &Chirotope) -> Result<Answer, NoMemor
     // this call tells that the axioms hold
     let _rank = chirotope.rank();
     match chirotope_to_circuits(alloc, chirotope) {
-        Ok(circuits) => Ok(Answer::Document(circuits_document(circuits))),
+        Ok(circuits) => Ok(Answer::Document(circuits_document(alloc, circuits))),
         Err(why) => refuse_list(why),
     }
 }
@@ -76,7 +78,7 @@ fn to_cocircuits(alloc: Global, representation: Representation) -> Result<Answer
 {
     match representation {
         Representation::Cocircuits(cocircuits) => {
-            Ok(Answer::Document(cocircuits_document(cocircuits)))
+            Ok(Answer::Document(cocircuits_document(alloc, cocircuits)))
         }
         Representation::Covectors(covectors) => list_minimal(alloc, &covectors),
         Representation::Chirotope(_) | Representation::Circuits(_) => {
@@ -93,7 +95,7 @@ fn list_cocircuits(alloc: Global, chirotope: &Chirotope) -> Result<Answer, NoMem
     // this call tells that the axioms hold
     let _rank = chirotope.rank();
     match chirotope_to_cocircuits(alloc, chirotope) {
-        Ok(cocircuits) => Ok(Answer::Document(cocircuits_document(cocircuits))),
+        Ok(cocircuits) => Ok(Answer::Document(cocircuits_document(alloc, cocircuits))),
         Err(why) => refuse_list(why),
     }
 }
@@ -103,7 +105,9 @@ fn to_covectors(alloc: Global, representation: Representation) -> Result<Answer,
     ensures { IfOk result (IsMeantFor (IsConversion Kind.Covectors) representation) }
 {
     match representation {
-        Representation::Covectors(covectors) => Ok(Answer::Document(covectors_document(covectors))),
+        Representation::Covectors(covectors) => Ok(Answer::Document(covectors_document(
+            alloc, covectors,
+        ))),
         Representation::Chirotope(_)
         | Representation::Circuits(_)
         | Representation::Cocircuits(_) => {
@@ -120,7 +124,7 @@ fn list_covectors(alloc: Global, chirotope: &Chirotope) -> Result<Answer, NoMemo
     // this call tells that the axioms hold
     let _rank = chirotope.rank();
     match chirotope_to_covectors(alloc, chirotope) {
-        Ok(covectors) => Ok(Answer::Document(covectors_document(covectors))),
+        Ok(covectors) => Ok(Answer::Document(covectors_document(alloc, covectors))),
         Err(why) => refuse_list(why),
     }
 }
@@ -132,7 +136,7 @@ fn list_minimal(alloc: Global, covectors: &Covectors) -> Result<Answer, NoMemory
     // this call tells that the members have a sign for each element
     let _elements = covectors.elements();
     match covectors_to_cocircuits(alloc, covectors) {
-        Ok(cocircuits) => Ok(Answer::Document(cocircuits_document(cocircuits))),
+        Ok(cocircuits) => Ok(Answer::Document(cocircuits_document(alloc, cocircuits))),
         Err(why) => refuse_list(why),
     }
 }

@@ -1,4 +1,4 @@
-//! The documents of values.
+//! The documents of values, without names.
 
 ghost use Rattle.std.specs.Prelude.{◌≡◌};
 ghost use Rattle.om_text.specs.Form.{IsInForm};
@@ -9,24 +9,26 @@ use crate::representation::Representation;
 use om_chirotope::Chirotope;
 use om_circuits::{Circuits, Cocircuits};
 use om_covectors::Covectors;
+use om_signs::List;
 use om_text::{Body, Document};
+use std::alloc::Global;
 
 /// The document of an oriented matroid.
-pub fn document_of(representation: Representation) -> Document
+pub fn document_of(alloc: Global, representation: Representation) -> Document
     ensures form { IsInForm result }
     ensures axioms { MeetsAxioms result }
     ensures value { result ≡ document_of representation }
 {
     match representation {
-        Representation::Chirotope(chirotope) => map_document(chirotope),
-        Representation::Circuits(circuits) => circuits_document(circuits),
-        Representation::Cocircuits(cocircuits) => cocircuits_document(cocircuits),
-        Representation::Covectors(covectors) => covectors_document(covectors),
+        Representation::Chirotope(chirotope) => map_document(alloc, chirotope),
+        Representation::Circuits(circuits) => circuits_document(alloc, circuits),
+        Representation::Cocircuits(cocircuits) => cocircuits_document(alloc, cocircuits),
+        Representation::Covectors(covectors) => covectors_document(alloc, covectors),
     }
 }
 
 /// The document of a chirotope.
-pub fn map_document(chirotope: Chirotope) -> Document
+pub fn map_document(alloc: Global, chirotope: Chirotope) -> Document
     ensures form { IsInForm result }
     ensures axioms { MeetsAxioms result }
     ensures value { result ≡ map_document chirotope }
@@ -36,11 +38,12 @@ pub fn map_document(chirotope: Chirotope) -> Document
     Document {
         elements,
         body: Body::Chirotope(chirotope.into_raw()),
+        names: List::new(alloc),
     }
 }
 
 /// The document of circuits.
-pub fn circuits_document(circuits: Circuits) -> Document
+pub fn circuits_document(alloc: Global, circuits: Circuits) -> Document
     ensures form { IsInForm result }
     ensures axioms { MeetsAxioms result }
     ensures value { result ≡ circuits_document circuits.0 }
@@ -50,11 +53,12 @@ pub fn circuits_document(circuits: Circuits) -> Document
     Document {
         elements,
         body: Body::Circuits(set.into_list()),
+        names: List::new(alloc),
     }
 }
 
 /// The document of cocircuits.
-pub fn cocircuits_document(cocircuits: Cocircuits) -> Document
+pub fn cocircuits_document(alloc: Global, cocircuits: Cocircuits) -> Document
     ensures form { IsInForm result }
     ensures axioms { MeetsAxioms result }
     ensures value { result ≡ cocircuits_document cocircuits.0 }
@@ -64,11 +68,12 @@ pub fn cocircuits_document(cocircuits: Cocircuits) -> Document
     Document {
         elements,
         body: Body::Cocircuits(set.into_list()),
+        names: List::new(alloc),
     }
 }
 
 /// The document of covectors.
-pub fn covectors_document(covectors: Covectors) -> Document
+pub fn covectors_document(alloc: Global, covectors: Covectors) -> Document
     ensures form { IsInForm result }
     ensures axioms { MeetsAxioms result }
     ensures value { result ≡ covectors_document covectors }
@@ -77,5 +82,6 @@ pub fn covectors_document(covectors: Covectors) -> Document
     Document {
         elements,
         body: Body::Covectors(covectors.into_list()),
+        names: List::new(alloc),
     }
 }

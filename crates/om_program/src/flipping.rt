@@ -29,11 +29,11 @@ pub fn flip_triple(
     ensures { IfOk result (IsMeantFor (IsFlip a b c) representation) }
 {
     let chirotope = choose_chirotope(alloc, representation)?;
-    Ok(flip_triple_of(chirotope, a, b, c))
+    Ok(flip_triple_of(alloc, chirotope, a, b, c))
 }
 
 /// The chirotope with the sign of three elements turned.
-fn flip_triple_of(chirotope: Chirotope, a: u8, b: u8, c: u8) -> Answer
+fn flip_triple_of(alloc: Global, chirotope: Chirotope, a: u8, b: u8, c: u8) -> Answer
     requires { AreIncreasing a b c }
     ensures { IsFlipOfMap (triple_of a b c) chirotope result }
 {
@@ -42,7 +42,7 @@ fn flip_triple_of(chirotope: Chirotope, a: u8, b: u8, c: u8) -> Answer
         return Answer::Line(Line::RefusedPlace { e });
     }
     match flip(chirotope, subset_of(n, a, b, c)) {
-        Ok(turned) => Answer::Document(map_document(turned)),
+        Ok(turned) => Answer::Document(map_document(alloc, turned)),
         Err(bad) => Answer::Line(flip_refusal(bad.why)),
     }
 }

@@ -40,7 +40,7 @@ fn extend_by(alloc: Global, chirotope: &Chirotope, list: &[Signed]) -> Result<An
         return Ok(Answer::Line(Line::RefusedPlace { e }));
     }
     match lexical(alloc, chirotope, list) {
-        Ok(extension) => Ok(Answer::Document(map_document(extension))),
+        Ok(extension) => Ok(Answer::Document(map_document(alloc, extension))),
         Err(LexError::Full { n }) => Ok(Answer::Line(Line::RefusedFull { n })),
         Err(LexError::Values { count }) => Ok(Answer::Line(Line::LimitValues { values: count })),
         Err(LexError::Memory) => Err(NoMemory),

@@ -37,6 +37,7 @@ fn points_document(alloc: Global, vectors: &Word) -> Result<Document, NoMemory>
     Ok(Document {
         elements: vectors.len(),
         body: Body::Points(points),
+        names: List::new(alloc),
     })
 }
 

@@ -61,9 +61,12 @@ mod three_terms;
 mod triple;
 mod unmade;
 mod unrepresented;
+mod upgrading;
 mod usage;
 mod verb;
 mod verification;
+#[cfg(test)]
+mod version_tests;
 mod wiring_maps;
 #[cfg(test)]
 mod word_tests;

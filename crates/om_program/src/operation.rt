@@ -41,7 +41,7 @@ pub fn operate(
         return Ok(Answer::Line(Line::RefusedPlace { e }));
     }
     match make(alloc, representation, operation) {
-        Ok(made) => Ok(Answer::Document(document_of(made))),
+        Ok(made) => Ok(Answer::Document(document_of(alloc, made))),
         Err(Unmade::LastElement) => Ok(Answer::Line(Line::RefusedLastelement)),
         Err(Unmade::TooMany { limit }) => Ok(Answer::Line(Line::LimitMembers { limit })),
         Err(Unmade::Memory) => Err(NoMemory),

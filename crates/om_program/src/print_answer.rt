@@ -10,7 +10,7 @@ use crate::made_text::print_made;
 use crate::mutation_text::print_mutations;
 use om_answer::{print_line, print_verdict};
 use om_signs::NoMemory;
-use om_text::print;
+use om_text::{print, print_two};
 use std::alloc::Global;
 
 /// The text of an answer to a command.
@@ -21,6 +21,7 @@ pub fn print_answer(alloc: Global, answer: &Answer) -> Result<Vec<u8>, NoMemory>
     match answer {
         Answer::Line(line) => print_line(alloc, line),
         Answer::Document(document) => print(alloc, document),
+        Answer::Upgraded(document) => print_two(alloc, document),
         Answer::Mutations(sets) => print_mutations(alloc, sets),
         Answer::Extensions { elements, listing } => print_extensions(alloc, *elements, listing),
         Answer::Hull(items) => print_hull(alloc, items),

@@ -60,7 +60,7 @@ pub fn represent<R: Threads + Sync>(
     ensures value { IfOk result (λ representation. document_of representation ≡ worked_on document) }
     ensures refused { IfErr result (IsRefusal document.elements document.body) }
 {
-    let Document { elements, body } = document;
+    let Document { elements, body, .. } = document;
     match body {
         Body::Chirotope(raw) => Ok(Representation::Chirotope(check_map(rt, raw)?)),
         Body::Circuits(list) => {

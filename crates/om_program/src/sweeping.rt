@@ -10,7 +10,7 @@ use crate::chirotope_choice::choose_chirotope;
 use crate::representation::Representation;
 use om_answer::Line;
 use om_chirotope::Chirotope;
-use om_signs::NoMemory;
+use om_signs::{List, NoMemory};
 use om_text::{Body, Document};
 use om_wiring::{SweepError, Wiring, sweep};
 use std::alloc::Global;
@@ -29,7 +29,7 @@ fn find_wiring_of(alloc: Global, chirotope: &Chirotope) -> Result<Answer, NoMemo
     ensures { IfOk result (IsWiringOfMap chirotope.now) }
 {
     match sweep(alloc, chirotope) {
-        Ok(wiring) => Ok(Answer::Document(wiring_document(wiring))),
+        Ok(wiring) => Ok(Answer::Document(wiring_document(alloc, wiring))),
         Err(why) => sweep_refusal(why),
     }
 }
@@ -45,8 +45,8 @@ fn sweep_refusal(why: SweepError) -> Result<Answer, NoMemory>
     }
 }
 
-/// The document of a wiring diagram.
-fn wiring_document(wiring: Wiring) -> Document
+/// The document of a wiring diagram, without names.
+fn wiring_document(alloc: Global, wiring: Wiring) -> Document
     ensures form { IsInForm result }
     ensures value { result ≡ wiring_document wiring.elements wiring.blocks }
 {
@@ -54,5 +54,6 @@ fn wiring_document(wiring: Wiring) -> Document
     Document {
         elements,
         body: Body::Wiring(wiring.into_blocks()),
+        names: List::new(alloc),
     }
 }

@@ -41,6 +41,8 @@ pub enum Task {
     Lexext(Leading),
     /// `threeterm`: whether the map of the document meets the three-term test.
     Threeterm,
+    /// `upgrade`: the document in version 2 of the format.
+    Upgrade,
     /// `decide --box=K --steps=T --pivots=P`: whether vectors realize it, within these budgets.
     Decide(Budgets),
     /// `check`: whether the verdict of a claim has proof.

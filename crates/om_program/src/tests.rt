@@ -443,7 +443,7 @@ fn documents_with_a_line_at_fault(rt: HostRuntime) -> Result<(), Fail> {
         ("om 1\nchirotope 03 4\nend\n", "refused line 2 header\n"),
         ("om 1\nspheres 4\nend\n", "refused line 2 kind\n"),
         (
-            "om 2\nchirotope 3 4\n++++\nend\n",
+            "om 3\nchirotope 3 4\n++++\nend\n",
             "refused line 1 version\n",
         ),
         ("om 1\nchirotope 3 4\n++x+\nend\n", "refused line 3 sign\n"),

@@ -24,10 +24,21 @@ pub fn test_three_terms<R: Threads + Sync>(
     requires { IsInForm document }
     ensures { IfOk result (IsThreeTermTest document) }
 {
-    let Document { elements, body } = document;
+    let Document {
+        elements,
+        body,
+        names,
+    } = document;
     match body {
         Body::Chirotope(raw) => Ok(Answer::Line(test_map(rt, raw))),
-        body => test_other(rt, alloc, Document { elements, body }),
+        body => {
+            let document = Document {
+                elements,
+                body,
+                names,
+            };
+            test_other(rt, alloc, document)
+        }
     }
 }
 

@@ -21,13 +21,14 @@ pub enum Verb {
     Hull,
     Lexext,
     Threeterm,
+    Upgrade,
     Decide,
     Check,
     Make,
 }
 
 /// All verbs.
-const VERBS: [Verb; 18] = [
+const VERBS: [Verb; 19] = [
     Verb::Accept,
     Verb::Member,
     Verb::Convert,
@@ -43,6 +44,7 @@ const VERBS: [Verb; 18] = [
     Verb::Hull,
     Verb::Lexext,
     Verb::Threeterm,
+    Verb::Upgrade,
     Verb::Decide,
     Verb::Check,
     Verb::Make,
@@ -69,6 +71,7 @@ impl Verb {
             Verb::Hull => "hull",
             Verb::Lexext => "lexext",
             Verb::Threeterm => "threeterm",
+            Verb::Upgrade => "upgrade",
             Verb::Decide => "decide",
             Verb::Check => "check",
             Verb::Make => "make",

@@ -1,17 +1,17 @@
-//! The chirotope of a wiring.
+//! Wirings, and their chirotopes.
 
 ghost use Rattle.std.specs.Prelude.{◌≡◌, ◌≤◌, OnOk, IfOk, IfErr};
-ghost use Rattle.om_text.specs.declared.body.Body.TheVariants.{Wiring};
+ghost use Rattle.om_text.specs.declared.body.Body.TheVariants as body;
 ghost use Rattle.om_text.specs.Form.{AreBlocks};
 ghost use Rattle.om_wiring.specs.Maps.{IsFlat, wiring_map};
 ghost use Rattle.om_wiring.specs.Wirings.{IsWiring};
-ghost use Rattle.om_program.specs.Axioms.{IsRefusal, wiring_line};
+ghost use Rattle.om_program.specs.Axioms.{IsRefusal, IsRefusedOn, wiring_line};
 
 use crate::unrepresented::Unrepresented;
 use om_answer::Line;
 use om_chirotope::Chirotope;
 use om_signs::{Block, List, MAX_ELEMENTS};
-use om_wiring::{FlatError, WiringRefused, check, chirotope};
+use om_wiring::{FlatError, Wiring, WiringRefused, check, chirotope};
 use std::alloc::Global;
 
 /// The chirotope of a wiring with these blocks, or why there is none.
@@ -26,16 +26,32 @@ pub fn chirotope_of_wiring(
     ensures value { IfOk result (λ c. c ≡ wiring_map elements blocks) }
     ensures axioms { OnOk result (IsWiring elements blocks) }
     ensures bent { OnOk result (IsFlat elements blocks → ⊥) }
-    ensures refused { IfErr result (IsRefusal elements (Wiring blocks)) }
+    ensures refused { IfErr result (IsRefusal elements (body.Wiring blocks)) }
 {
-    let wiring = match check(elements, blocks) {
+    let wiring = match wiring_of_blocks(elements, blocks) {
         Ok(wiring) => wiring,
-        Err(bad) => return Err(Unrepresented::Refused(wiring_refusal(bad.why))),
+        Err(why) => return Err(Unrepresented::Refused(why)),
     };
     match chirotope(alloc, &wiring) {
         Ok(chirotope) => Ok(chirotope),
         Err(FlatError::FlatRank) => Err(Unrepresented::Flat),
         Err(FlatError::Memory) => Err(Unrepresented::Memory),
+    }
+}
+
+/// The wiring with these blocks, or the line that refuses them.
+pub fn wiring_of_blocks(elements: u8, blocks: List<Block>) -> Result<Wiring, Line>
+    requires low { 1 ≤ elements }
+    requires high { elements ≤ MAX_ELEMENTS }
+    requires blocks { AreBlocks blocks }
+    ensures elements { IfOk result (λ w. w.elements ≡ elements) }
+    ensures blocks { IfOk result (λ w. w.blocks ≡ blocks) }
+    ensures axioms { OnOk result (IsWiring elements blocks) }
+    ensures refused { IfErr result (IsRefusedOn elements (body.Wiring blocks)) }
+{
+    match check(elements, blocks) {
+        Ok(wiring) => Ok(wiring),
+        Err(bad) => Err(wiring_refusal(bad.why)),
     }
 }
 

@@ -1,4 +1,4 @@
-use Rattle.om_program.proofs.WordLaws.{ok_named, err_passed, accept_shape, member_shape, convert_shape, dual_shape, delete_shape, contract_shape, reorient_shape, mutations_shape, flip_shape, extend_shape, paint_shape, hull_shape, threeterm_shape, lexext_shape, wiring_shape, decide_shape, check_shape, make_shape}
+use Rattle.om_program.proofs.WordLaws.{ok_named, err_passed, accept_shape, member_shape, convert_shape, dual_shape, delete_shape, contract_shape, reorient_shape, mutations_shape, flip_shape, extend_shape, paint_shape, hull_shape, threeterm_shape, upgrade_shape, lexext_shape, wiring_shape, decide_shape, check_shape, make_shape}
 use Rattle.om_program.proofs.command.after_verb.Goals as goal
 
 pub returns-in_ok-none-in-Accept : goal.returns-in_ok-none-in-Accept
@@ -90,6 +90,12 @@ returns-in_ok-none-in-Threeterm c = rw c.in-Threeterm.is (ok_named _ _ _ _ _ _ t
 
 pub returns-in_err-none-in-Threeterm : goal.returns-in_err-none-in-Threeterm
 returns-in_err-none-in-Threeterm c = rw c.in-Threeterm.is (err_passed _ _ _ _ _ _ _ threeterm_shape c.none-in-Threeterm.ensures c.in_err-none-in-Threeterm.was c.from_residual-in_err-none-in-Threeterm.ensures.1)
+
+pub returns-in_ok-none-in-Upgrade : goal.returns-in_ok-none-in-Upgrade
+returns-in_ok-none-in-Upgrade c = rw c.in-Upgrade.is (ok_named _ _ _ _ _ _ upgrade_shape c.none-in-Upgrade.ensures c.in_ok-none-in-Upgrade.was)
+
+pub returns-in_err-none-in-Upgrade : goal.returns-in_err-none-in-Upgrade
+returns-in_err-none-in-Upgrade c = rw c.in-Upgrade.is (err_passed _ _ _ _ _ _ _ upgrade_shape c.none-in-Upgrade.ensures c.in_err-none-in-Upgrade.was c.from_residual-in_err-none-in-Upgrade.ensures.1)
 
 pub returns-in_ok-budgets-in-Decide : goal.returns-in_ok-budgets-in-Decide
 returns-in_ok-budgets-in-Decide c = rw c.in-Decide.is (ok_named _ _ _ _ _ _ decide_shape c.budgets.ensures c.in_ok-budgets-in-Decide.was)

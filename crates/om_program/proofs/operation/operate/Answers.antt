@@ -25,4 +25,4 @@ pub returns-in-Err-TooMany : goal.returns-in-Err-TooMany
 returns-in-Err-TooMany c =
     let none = sym c.in_default.is ∙ c.place_above.ensures ∙ ap (λ k. first_above k (named_elements c.args.operation)) c.elements.ensures.value in
     let P : Unmade → Type 0 = λ e. IsOutcome c.args.operation (document_of c.args.representation) (Err e) in
-    limit_meant c.args.operation (document_of c.args.representation) c.in-Err-TooMany.limit none (subst P c.in-Err-TooMany.field-0-is c.in-Err-TooMany.ensures)
+    rw c.in-Err-TooMany.limit-is (limit_meant c.args.operation (document_of c.args.representation) c.in-Err-TooMany.limit none (subst P c.in-Err-TooMany.field-0-is c.in-Err-TooMany.ensures))

@@ -1,0 +1,11 @@
+use Rattle.std.proofs.Common.{subst, ◌∙◌}
+use Rattle.om_program.specs.Axioms.{IsRefusal}
+use Rattle.om_program.specs.Upgrades.{refused}
+use Rattle.om_program.proofs.UpgradeLaws.{given_upgraded}
+use Rattle.om_program.proofs.upgrading.upgrade_given.Goals as goal
+
+pub returns-in-Ok : goal.returns-in-Ok
+returns-in-Ok g c = given_upgraded c.args.elements c.args.body c.args.names c.document_of-elements.result c.requires.given (c.document_of-elements.ensures.value ∙ c.in-Ok.ensures.value) c.in-Ok.ensures.accepted
+
+pub returns-in-Err-Refused : goal.returns-in-Err-Refused
+returns-in-Err-Refused g c = rw c.in-Err-Refused.why-is (refused _ (subst (IsRefusal c.args.elements c.args.body) c.in-Err-Refused.field-0-is c.in-Err-Refused.ensures.refused))
