@@ -4,8 +4,6 @@
 -- Main result: total-side, that the values of the sides of a list of entries combine to the total over all places.
 --
 -- Main definitions: Combination, power, total, here
---
--- Main definitions: Combination, power, total, here
 use Rattle.std.specs.Prelude.{ℕ, ◌≡◌, ◌+◌, ◌*◌, ◌<◌, ◌≤◌, cond, nat_eq, refl}
 use Rattle.std.proofs.Common.{zero, suc, sym, ◌∙◌, ap, arith, inl, inr}
 use Rattle.std.proofs.lemmas.Bool.{cases_eq, eq-eqb, ne_eqb}
