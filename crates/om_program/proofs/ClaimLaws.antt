@@ -1,8 +1,6 @@
 -- What claims come to.
 --
--- Main result: a limit (limit_meant).
---
--- Main results: limit_meant
+-- Main results: limit_meant, a limit
 use Rattle.std.specs.Prelude.{◌≡◌, Ok, Err, refl}
 use Rattle.om_chirotope.specs.Map.{SignMap}
 use Rattle.om_certificate.specs.declared.evidence.Evidence.{Evidence}
