@@ -10,7 +10,7 @@ use om_chirotope::check;
 use om_convert::{ConvertError, chirotope_to_covectors};
 use om_covectors::Covectors;
 use om_signs::{MAX_ELEMENTS, MAX_READ, RawMap};
-use om_text::{Body, ParseError, parse};
+use om_text::{Body, Document, ParseError, parse};
 use std::alloc::Global;
 use std::thread::Threads;
 
@@ -29,10 +29,13 @@ pub fn covectors_of_text<R: Threads + Sync>(
     ensures cause { IfErr result (IsCause bytes.now) }
 {
     match parse(alloc, bytes) {
-        Ok(document) => match document.body {
-            Body::Chirotope(raw) => covectors_of_map(rt, alloc, raw),
-            _ => Err(NotRead::Kind),
-        },
+        Ok(document) => {
+            let Document { body, .. } = document;
+            match body {
+                Body::Chirotope(raw) => covectors_of_map(rt, alloc, raw),
+                _ => Err(NotRead::Kind),
+            }
+        }
         Err(ParseError::Line { line, code }) => Err(NotRead::Line { line, code }),
         Err(ParseError::Memory) => Err(NotRead::Memory),
     }
