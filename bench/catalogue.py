@@ -17,7 +17,7 @@ TOP = os.path.dirname(os.path.dirname(os.path.abspath(__file__)))
 PROGRAM = os.path.join(TOP, "crates", "om_program", "out", "om_program")
 NINE = b"om 1\nchirotope 3 9\n" + b"+" * 84 + b"\nend\n"
 STREAM = "awk -v cmd=\"$om accept\" '{ print | cmd } /^end/ { close(cmd) }'"
-EACH = "xargs -P%d -n500 sh -c 'om=$0; for f; do printf \"%%s \" \"$f\"; \"$om\" accept < \"$f\"; done' \"$om\" | sort | cut -d' ' -f2-"
+EACH = "xargs -P%d -n500 sh -c 'om=$0; for f; do printf \"%%s: %%s\\n\" \"$f\" \"$(\"$om\" accept < \"$f\")\"; done' \"$om\" | sort | cut -d' ' -f2-"
 PIPE = "parallel --pipe --block 100k --recstart 'om 1\\n' -k -j%d '" + STREAM.replace("'", "'\\''") + "'"
 
 
@@ -71,7 +71,7 @@ def main():
         for name, command in recipes:
             answers, took = timed(command, folder)
             if answers != wanted:
-                sys.exit("%s: %d answers of another kind" % (name, count - answers.count(b"accepted\n")))
+                sys.exit("%s: other answers: %r" % (name, answers[:200]))
             print("%-40s %10.2f  %18.0f" % (name, took, count / took))
     return 0
 
