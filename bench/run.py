@@ -320,7 +320,7 @@ def extensions(runs):
     print("%-58s %11s  %18s  %18s  %s" % ("extensions", "least time", "", "target", "ratio"))
     for elements, first, processors, target in ((9, 2000, 1, 0.03), (15, 100000, 1, 0.4), (15, 100000, 4, 0.25)):
         took, text = times(["extend", "--first=%d" % first], alternating(3, elements), runs, processors)
-        row("%d of %d elements, %d processors: %d bytes" % (first, elements, processors, len(text)), took, 1, "", target_time=target)
+        row("%d of %d elements, %d processors: %d bytes" % (first, elements, processors, len(text)), took, first / 1e3, "k candidates/s", target_time=target)
 
 
 def painting(runs):
@@ -355,6 +355,10 @@ def main():
             pairs(rank, elements) / 1e6, "M pairs/s", target_time=target)
     took = least_time(["threeterm"], alternating(8, 16), runs, accepted)
     row("the three-term test of chirotope 8 16, all plus", took, 1, "", target_time=0.015)
+    two = alternating(8, 16).replace(b"om 1\nchirotope 8 16\n", b"om 2\nchirotope 8 16\norder revlex\n")
+    row("chirotope 8 16 in reverse lexicographic order", least_time(["accept"], two, runs, accepted), 1, "", target_time=0.018)
+    took, text = times(["upgrade"], alternating(8, 16), runs)
+    row("chirotope 8 16 upgraded: %d bytes" % len(text), took, 1, "")
     signs = "+-" + "+" * (math.comb(16, 8) - 2)
     took, text = times(["accept"], chirotope(8, 16, signs), runs)
     row("chirotope 8 16, refused at its first set", took, 1, "", target_time=0.001)
