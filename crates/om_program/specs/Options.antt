@@ -1,7 +1,7 @@
 -- Numbers, options `--name=K`, and the commands that have them.
 use Rattle.std.specs.Prelude.{ℕ, ◌≡◌, ◌∷◌, List, [], Bool, cond, not, nat_eq, nat_le, ◌&&◌, codes, length, drop, Option, Some, None, is_some, unwrap_or}
 use Rattle.std.specs.List.{list_any, starts_with}
-use Rattle.om_signs.specs.declared.limits.TheConstants.{MAX_ELEMENTS, MAX_LINES, MAX_BOX, MAX_STEPS, MAX_PIVOTS}
+use Rattle.om_signs.specs.declared.limits.TheConstants.{MAX_DRAWN, MAX_LINES, MAX_BOX, MAX_STEPS, MAX_PIVOTS}
 use Rattle.om_text.specs.Words.{unsigned}
 use Rattle.om_decide.specs.declared.budgets.Budgets.{Budgets}
 use Rattle.om_program.specs.declared.setting.Setting.{Setting}
@@ -37,7 +37,7 @@ greatest_number First = MAX_LINES
 greatest_number BoxSize = MAX_BOX
 greatest_number Steps = MAX_STEPS
 greatest_number Pivots = MAX_PIVOTS
-greatest_number Count = MAX_ELEMENTS
+greatest_number Count = MAX_DRAWN
 
 -- the number of a setting that no word gives one
 abbrev pub default_number : Setting → ℕ
@@ -45,7 +45,7 @@ default_number First = 100000
 default_number BoxSize = 6
 default_number Steps = 2000000
 default_number Pivots = 20000
-default_number Count = 16
+default_number Count = MAX_DRAWN
 
 -- the number that a word gives a setting
 abbrev pub given_number : Setting → List ℕ → Option ℕ

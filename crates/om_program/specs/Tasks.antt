@@ -1,7 +1,7 @@
 -- What tasks read, and their arguments.
 use Rattle.std.specs.Prelude.{ℕ, ◌≤◌}
 use Rattle.om_decide.specs.Verdicts.{AreBudgets}
-use Rattle.om_signs.specs.declared.limits.TheConstants.{MAX_ELEMENTS}
+use Rattle.om_signs.specs.declared.limits.TheConstants.{MAX_DRAWN}
 use Rattle.om_program.specs.declared.operation.Operation.TheVariants as operation
 use Rattle.om_program.specs.declared.reads.Reads.{Reads}
 use Rattle.om_program.specs.declared.reads.Reads.TheVariants as kind
@@ -22,7 +22,7 @@ reads _ = kind.Document
 -- as many vectors as may be made
 pub record IsCount (count : ℕ) : Type 0 where
   pub low : 3 ≤ count
-  pub high : count ≤ MAX_ELEMENTS
+  pub high : count ≤ MAX_DRAWN
 
 -- the arguments of a task lie within the limits
 abbrev pub HasLawfulArguments : Task → Type 0

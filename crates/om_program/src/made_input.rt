@@ -5,11 +5,11 @@ ghost use Rattle.om_program.specs.MadeInputs.{IsMade};
 
 use crate::answer::Answer;
 use om_make::{summary, vectors};
-use om_signs::{MAX_ELEMENTS, NoMemory};
+use om_signs::{MAX_DRAWN, NoMemory};
 use std::alloc::Global;
 use std::thread::Threads;
 
-/// `count` vectors that a number gives, from 3 to [`MAX_ELEMENTS`], and what there is to count of them.
+/// `count` vectors that a number gives, from 3 to [`MAX_DRAWN`], and what there is to count of them.
 pub fn make_input<R: Threads + Sync>(
     rt: &R,
     alloc: Global,
@@ -17,7 +17,7 @@ pub fn make_input<R: Threads + Sync>(
     count: u8,
 ) -> Result<Answer, NoMemory>
     requires low { 3 ≤ count }
-    requires high { count ≤ MAX_ELEMENTS }
+    requires high { count ≤ MAX_DRAWN }
     ensures { IfOk result (IsMade seed count) }
 {
     let made = vectors(seed, count);

@@ -1,7 +1,7 @@
 ghost use Rattle.std.specs.Prelude.{◌≡◌, ◌≤◌};
 ghost use Rattle.om_program.specs.Options.{option_text, least_number, greatest_number, default_number};
 
-use om_signs::{MAX_BOX, MAX_ELEMENTS, MAX_LINES, MAX_PIVOTS, MAX_STEPS};
+use om_signs::{MAX_BOX, MAX_DRAWN, MAX_LINES, MAX_PIVOTS, MAX_STEPS};
 
 /// What an option gives a number.
 #[derive(Clone, Copy, Debug, PartialEq, Eq)]
@@ -50,7 +50,7 @@ pub fn greatest_number(setting: Setting) -> u32
         Setting::BoxSize => u32::from(MAX_BOX),
         Setting::Steps => MAX_STEPS as u32,
         Setting::Pivots => MAX_PIVOTS,
-        Setting::Count => u32::from(MAX_ELEMENTS),
+        Setting::Count => u32::from(MAX_DRAWN),
     }
 }
 
@@ -63,6 +63,6 @@ pub fn default_number(setting: Setting) -> u32
         Setting::BoxSize => 6,
         Setting::Steps => 2_000_000,
         Setting::Pivots => 20_000,
-        Setting::Count => 16,
+        Setting::Count => u32::from(MAX_DRAWN),
     }
 }

@@ -6,14 +6,14 @@
 pub const MAX_INPUT: usize = 1_048_576;
 
 /// The most elements that a document may speak of; the least is 1.
-pub const MAX_ELEMENTS: u8 = 16;
+pub const MAX_ELEMENTS: u8 = 20;
 
 /// The most places of a sign vector, and the most elements that a subset is taken from: one more than
 /// [`MAX_ELEMENTS`], for an element at infinity.
-pub const MAX_PLACES: u8 = 17;
+pub const MAX_PLACES: u8 = 21;
 
 /// The most distinct members of a list of sign vectors, read or made.
-pub const MAX_MEMBERS: usize = 1_024;
+pub const MAX_MEMBERS: usize = 4_096;
 
 /// The most bytes of a name of an element; the least is 1.
 pub const MAX_NAME: usize = 16;
@@ -33,8 +33,11 @@ pub const MAX_WEIGHT: i128 = 1_267_650_600_228_229_401_496_703_205_376;
 /// The most entries of a certificate.
 pub const MAX_ENTRIES: usize = 100_000;
 
-/// The most values of a chirotope: those of rank 8 on 16 elements.
+/// The most values that a chirotope keeps: as many as one of rank 8 on 16 elements has.
 pub const MAX_VALUES: u32 = 12_870;
+
+/// The most vectors that are drawn from a number; the least is 3.
+pub const MAX_DRAWN: u8 = 16;
 
 /// The greatest number that is written with at most six digits.
 pub const MAX_PLAIN: u32 = 999_999;

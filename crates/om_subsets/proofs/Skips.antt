@@ -137,6 +137,6 @@ skipped_members n e xs low high h =
 pub spread_code : (mask n e : ℕ) → 1 ≤ e → e ≤ n + 1 → n < MAX_PLACES → mask < 2 ^ n → bit_or (bit_and mask (1 * 2 ^ (e - 1) % 4294967296 - 1)) (mask / 2 ^ (e - 1) * 2 ^ e % 4294967296) ≡ spread mask (e - 1)
 spread_code mask n e low high room l =
     let up : e ≡ e - 1 + 1 = omega arith in
-    let small : 2 ^ (n + 1) ≤ 2 ^ 17 = pow_mono {i = n + 1} {j = 17} (omega arith) in
+    let small : 2 ^ (n + 1) ≤ 2 ^ MAX_PLACES = pow_mono {i = n + 1} {j = MAX_PLACES} (omega arith) in
     let fits : mask / 2 ^ (e - 1) * 2 ^ e < 4294967296 = (let b = behind_small mask (e - 1) n l in rw (ap (λ j. 2 ^ j) up) (omega (arith, b, small))) in
     rw (one_shl_32 (e - 1) (omega arith), mod-eq_of_lt {n = mask / 2 ^ (e - 1) * 2 ^ e} {m = 4294967296} fits) (ap (λ j. bit_or (bit_and mask (2 ^ (e - 1) - 1)) (mask / 2 ^ (e - 1) * 2 ^ j)) up)
