@@ -139,7 +139,7 @@ def conversions(runs):
             ("covectors", 3, 16, covectors_of_alternating(16), 0.2)):
         took = least_time(["convert", kind], alternating(rank, elements), runs, document(kind, elements, members))
         row("%d %s of rank %d on %d elements" % (len(members), kind, rank, elements), took, 1, "", target_time=target)
-    took = least_time(["convert", "covectors"], alternating(16, 16), runs, b"limit members 1024\n")
+    took = least_time(["convert", "covectors"], alternating(16, 16), runs, b"limit members 4096\n")
     row("covectors of rank 16 on 16 elements: too many", took, 1, "", target_time=0.01)
 
 

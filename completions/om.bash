@@ -7,12 +7,12 @@ _om() {
   fi
   case ${COMP_WORDS[1]}:$COMP_CWORD in
     convert:2) COMPREPLY=($(compgen -W "chirotope circuits cocircuits covectors" -- "$word")) ;;
-    delete:2 | contract:2 | paint:3) COMPREPLY=($(compgen -W "$(seq 16)" -- "$word")) ;;
-    flip:[234] | reorient:*) COMPREPLY=($(compgen -W "$(seq $((${before//[!0-9]/} + 1)) 16)" -- "$word")) ;;
+    delete:2 | contract:2 | paint:3) COMPREPLY=($(compgen -W "$(seq 20)" -- "$word")) ;;
+    flip:[234] | reorient:*) COMPREPLY=($(compgen -W "$(seq $((${before//[!0-9]/} + 1)) 20)" -- "$word")) ;;
     extend:2) COMPREPLY=($(compgen -W "--first=" -- "$word")) && compopt -o nospace ;;
     decide:[234]) COMPREPLY=($(compgen -W "--box= --steps= --pivots=" -- "$word")) && compopt -o nospace ;;
     make:3) COMPREPLY=($(compgen -W "--count=" -- "$word")) && compopt -o nospace ;;
-    lexext:*) COMPREPLY=($(compgen -W "$(seq -f '+%g' 16) $(seq -f '-%g' 16)" -- "$word")) ;;
+    lexext:*) COMPREPLY=($(compgen -W "$(seq -f '+%g' 20) $(seq -f '-%g' 20)" -- "$word")) ;;
   esac
 }
 complete -F _om om ./om
