@@ -323,6 +323,19 @@ def extensions(runs):
         row("%d of %d elements, %d processors: %d bytes" % (first, elements, processors, len(text)), took, first / 1e3, "k candidates/s", target_time=target)
 
 
+def largest(runs):
+    """Chirotopes on 19 and 20 elements all of whose values are plus."""
+    print("%-58s %11s  %18s  %18s  %s" % ("on 19 and 20 elements", "least time", "", "target", "ratio"))
+    for rank in (3, 4):
+        took = least_time(["accept"], alternating(rank, 20), runs, b"accepted\n")
+        row("accept of chirotope %d 20: %d pairs" % (rank, pairs(rank, 20)), took, 1, "", target_time=0.02)
+    covectors = covectors_of_alternating(20)
+    took = least_time(["convert", "covectors"], alternating(3, 20), runs, document("covectors", 20, covectors))
+    row("chirotope 3 20 to %d covectors" % len(covectors), took, 1, "", target_time=0.03)
+    took, text = times(["extend", "--first=1000"], alternating(3, 19), runs)
+    row("1000 extensions of 19 elements: %d bytes" % len(text), took, 1, "", target_time=0.06)
+
+
 def painting(runs):
     """Painting, hulls and lexicographic extensions."""
     print("%-58s %11s  %18s  %18s  %s" % ("painting, hulls, lexicographic extensions", "least time", "", "target", "ratio"))
@@ -382,7 +395,7 @@ def main():
     took = least_time(["accept"], sign_lines(size), runs, accepted)
     row("1 MB of lines of signs and blanks, without the scan", max(took - scan, 1e-5), size / 1e6, "MB/s", target_rate=50.0)
 
-    for part in (conversions, operations, lists, claims, decisions, wirings, extensions, painting):
+    for part in (conversions, operations, lists, claims, decisions, wirings, extensions, largest, painting):
         part(runs)
 
 
