@@ -1,7 +1,5 @@
 -- What a lawful statement says of the sizes of triple products, where vectors realize the map.
 --
--- Main result: ordered_sizes.
---
 -- Main definitions: product_at, size_at, first_number, second_number, third_number, number, IsCompared
 -- Main results: size-number, ordered_sizes
 use Rattle.std.specs.Prelude.{ℕ, zero, suc, ◌≡◌, ◌≢◌, ◌*◌, ◌<◌, ◌≤◌, ℤ, pos, negsuc, ◌+ℤ◌, ◌-ℤ◌, ◌*ℤ◌, neg_ℤ, unsigned_abs, Bool, true, false, List, [], ◌∷◌, cond, nat_eq, nat_lt, refl, ◌⊎◌}

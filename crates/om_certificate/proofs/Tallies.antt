@@ -1,8 +1,6 @@
 -- Lists of entries that name two places of a small side and two of a big side, with a multiplicity. Where the values of each small side
 -- combine to at most those of its big side, and in one entry to less, some place doesn't stand equally often on both.
 --
--- Main result: unbalanced.
---
 -- Main definitions: AnyByRecursion, tally, side, IsBelow, IsOrdered, IsStrict
 -- Main results: unbalanced
 use Rattle.std.specs.Prelude.{ℕ, ◌≡◌, ◌+◌, ◌*◌, ◌<◌, ◌≤◌, List, [], ◌∷◌, ◌⊎◌}
