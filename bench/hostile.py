@@ -7,6 +7,7 @@ changed, little stack and little memory. Each run has to end with a documented e
 nothing on standard error and without a signal. Prints a line for each kind of case, and last
 'hostile: N runs, M failed'; the exit code is 1 where one failed.
 """
+import math
 import os
 import random
 import resource
@@ -18,6 +19,9 @@ PROGRAM = os.path.abspath(sys.argv[1]) if len(sys.argv) > 1 else os.path.join(TO
 UNIFORM = b"om 1\nchirotope 3 4\n++++\nend\n"
 LARGE = b"om 1\nchirotope 8 16\n" + b"+" * 12870 + b"\nend\n"
 RANK_3 = b"om 1\nchirotope 3 16\n" + b"+" * 560 + b"\nend\n"
+# the largest documents on 19 and 20 elements, and a list whose chirotope would be too wide
+MOST = [b"om 1\nchirotope %d %d\n" % (rank, elements) + b"+" * math.comb(elements, rank) + b"\nend\n" for rank, elements in ((3, 20), (4, 20), (16, 20), (14, 19))]
+WIDE = b"om 2\ncircuits 20\nhalf\n" + b"".join(b"0" * (2 * i) + b"+-" + b"0" * (18 - 2 * i) + b"\n" for i in range(10)) + b"end\n"
 # two bases alone, which have no element in common
 NO_EXCHANGE = b"om 1\nchirotope 8 16\n+" + b"0" * 12868 + b"+\nend\n"
 # one sign of the uniform chirotope turned, that of a set whose sign can't be turned alone
@@ -133,6 +137,13 @@ def little_stack(tally):
         (["threeterm"], NO_EXCHANGE, 1), (["accept"], NO_RELATION, 1), (["threeterm"], NO_RELATION, 1),
     ]:
         tally.expect("%s with a stack of 512 KB" % words, run(words, data, before=small), exactly(code))
+    for data in MOST:
+        for words, code in (["accept"], 0), (["threeterm"], 0), (["dual"], 0), (["lexext", "+1"], None), (["hull"], 0):
+            tally.expect("%s of a large document with a stack of 512 KB" % words, run(words, data, before=small), documented if code is None else exactly(code))
+    for words, code in (["accept"], 0), (["dual"], 0), (["convert", "chirotope"], 3), (["decide"], 1), (["hull"], 3):
+        tally.expect("%s of a wide list with a stack of 512 KB" % words, run(words, WIDE, before=small), exactly(code))
+    for words, code in (["wiring"], 0), (["mutations"], 0), (["convert", "covectors"], 0), (["extend"], 1):
+        tally.expect("%s of rank 3 on 20 elements with a stack of 512 KB" % words, run(words, MOST[0], before=small), exactly(code))
     with open(os.path.join(TOP, "examples", "non-pappus.om"), "rb") as file:
         tally.expect("decide with a stack of 512 KB", run(["decide"], file.read(), before=small), exactly(0))
 
