@@ -6,6 +6,9 @@ use thiserror::Error;
 /// Why a conversion has no result.
 #[derive(Clone, Copy, Debug, PartialEq, Eq, Error)]
 pub enum ConvertError {
+    /// The chirotope that denotes the same has `values` values, more than a [`Chirotope`](om_chirotope::Chirotope) keeps.
+    #[error("the chirotope has {values} values")]
+    TooWide { values: u32 },
     /// The result would have more than `limit` members.
     #[error("more than {limit} members")]
     TooMany { limit: u32 },

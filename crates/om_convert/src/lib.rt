@@ -2,7 +2,9 @@
 //!
 //! Each of chirotope, circuits, cocircuits and covectors converts to each of the three others, as [`chirotope_to_circuits`]
 //! and [`circuits_to_chirotope`]. The answer denotes the same oriented matroid, and is the only one of its kind that does: a
-//! chirotope up to sign, a list up to the order of its members.
+//! chirotope up to sign, a list up to the order of its members. A list may denote an oriented matroid whose chirotope has more
+//! values than a [`Chirotope`](om_chirotope::Chirotope) keeps: then it converts to no other kind, but for covectors to their
+//! cocircuits, and [`rank_circuits`], [`rank_cocircuits`] and [`rank_covectors`] still give its rank.
 //!
 //! Source of the notions: Björner, Las Vergnas, Sturmfels, White and Ziegler, *Oriented Matroids*, chapters 3 and 4.
 #![tactic(auto)]
@@ -12,6 +14,7 @@ mod closure;
 mod convert_error;
 mod covectors;
 mod laws;
+mod list_chirotopes;
 mod lists;
 mod member_set;
 mod read_error;
@@ -29,10 +32,11 @@ pub use laws::{
     axioms_of_functions, cocircuits_of_covectors, conformal_decomposition,
     covectors_of_minimal_members,
 };
+pub use list_chirotopes::{circuits_to_chirotope, cocircuits_to_chirotope, covectors_to_chirotope};
 pub use lists::{
     circuits_to_cocircuits, circuits_to_covectors, cocircuits_to_circuits, cocircuits_to_covectors,
-    covectors_to_chirotope, covectors_to_circuits,
+    covectors_to_circuits,
 };
-pub use om_propagation::{circuits_to_chirotope, cocircuits_to_chirotope};
+pub use om_propagation::{rank_circuits, rank_cocircuits, rank_covectors};
 pub use read_error::{ReadCovError, ReadSetError};
 pub use reading::{read_circuits, read_cocircuits, read_covectors};

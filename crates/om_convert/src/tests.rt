@@ -142,7 +142,7 @@ fn have_same(xs: &[SignVec], ys: &[SignVec]) -> bool {
 }
 
 /// Whether a chirotope was found, with this text.
-fn is_chirotope(alloc: Global, found: Result<Chirotope, NoMemory>, wanted: &str) -> bool {
+fn is_chirotope(alloc: Global, found: Result<Chirotope, ConvertError>, wanted: &str) -> bool {
     match found {
         Ok(chi) => match text_of_map(alloc, &chi.into_raw()) {
             Ok(text) => text.as_str() == wanted,

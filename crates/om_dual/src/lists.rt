@@ -2,7 +2,7 @@
 
 ghost use Rattle.std.specs.Prelude.{◌≡◌, IfOk, IfErr, OnOk};
 ghost use Rattle.std.specs.List.{Contains};
-ghost use Rattle.om_convert.specs.Limits.{IsCause, IsWithinLimit};
+ghost use Rattle.om_convert.specs.Limits.{IsListCause, IsNarrow, IsWithinLimit};
 ghost use Rattle.om_denotation.specs.Covectors.{IsCovectorOfCircuits, IsCovectorOfCocircuits, IsCovectorOfCovectors};
 ghost use Rattle.om_denotation.specs.Listings.{AreAllOf};
 ghost use Rattle.om_denotation.specs.Only.{AreOnlyCircuits, AreOnlyCocircuits, AreOnlyCovectors};
@@ -45,8 +45,10 @@ pub fn dual_cocircuits(c: Cocircuits) -> Circuits
 /// The covectors of the dual: the sign vectors that are orthogonal to every covector. No other list of covectors denotes the
 /// dual, up to the order. The list takes its memory from `alloc`.
 ///
-/// [`ConvertError::TooMany`] comes exactly where there are more of them than [`MAX_MEMBERS`](om_signs::MAX_MEMBERS), which
-/// it names, if memory lasts until the first of these; [`ConvertError::Memory`] comes only for want of memory.
+/// [`ConvertError::TooWide`] comes exactly where the chirotope of these covectors has more than
+/// [`MAX_VALUES`](om_signs::MAX_VALUES) values, and names their number. [`ConvertError::TooMany`] comes exactly where it hasn't
+/// and the dual has more covectors than [`MAX_MEMBERS`](om_signs::MAX_MEMBERS), which it names, if memory lasts until the first
+/// of these. [`ConvertError::Memory`] comes only for want of memory.
 ///
 /// Source: Björner, Las Vergnas, Sturmfels, White and Ziegler, *Oriented Matroids*, chapter 3.
 pub fn dual_covectors(alloc: Global, c: &Covectors) -> Result<Covectors, ConvertError>
@@ -55,7 +57,8 @@ pub fn dual_covectors(alloc: Global, c: &Covectors) -> Result<Covectors, Convert
     ensures dual { IfOk result (λ d. IsDual c.now.elements (Contains c.now.members) (IsCovectorOfCovectors d)) }
     ensures unique { IfOk result AreOnlyCovectors }
     ensures few { OnOk result (IsWithinLimit (IsVectorOf c.now.elements (Contains c.now.members))) }
-    ensures many { IfErr result (IsCause (IsVectorOf c.now.elements (Contains c.now.members))) }
+    ensures narrow { OnOk result (IsNarrow c.now.elements (Contains c.now.members)) }
+    ensures refused { IfErr result (IsListCause c.now.elements (Contains c.now.members) (IsVectorOf c.now.elements (Contains c.now.members))) }
 {
     let chi = covectors_to_chirotope(alloc, c)?;
     let turned = dual(alloc, &chi)?;

@@ -23,7 +23,7 @@ pub fn list_cocircuits(alloc: Global, chi: &Chirotope) -> Result<Cocircuits, NoM
     let (_rank, _elements) = (chi.rank(), chi.elements());
     match chirotope_to_cocircuits(alloc, chi) {
         Ok(cocircuits) => Ok(cocircuits),
-        Err(ConvertError::TooMany { .. }) => unreachable!(),
+        Err(ConvertError::TooWide { .. } | ConvertError::TooMany { .. }) => unreachable!(),
         Err(ConvertError::Memory) => Err(NoMemory),
     }
 }
@@ -37,8 +37,9 @@ pub fn list_covectors(alloc: Global, chi: &Chirotope) -> Result<Covectors, NoMem
     let _rank = chi.rank();
     match chirotope_to_covectors(alloc, chi) {
         Ok(covectors) => Ok(covectors),
-        // in rank 3 there are at most 963 on 16 elements, which isn't proved here: the case of too many never comes
+        // in rank 3 there are at most 1,523 on 20 elements, which isn't proved here: the case of too many never comes
         Err(ConvertError::TooMany { .. } | ConvertError::Memory) => Err(NoMemory),
+        Err(ConvertError::TooWide { .. }) => unreachable!(),
     }
 }
 

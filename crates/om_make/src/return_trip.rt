@@ -8,7 +8,7 @@ ghost use Rattle.om_make.specs.Tallies.{ComesBack};
 
 use om_chirotope::Chirotope;
 use om_circuits::Cocircuits;
-use om_convert::{cocircuits_to_chirotope, covectors_to_chirotope};
+use om_convert::{ConvertError, cocircuits_to_chirotope, covectors_to_chirotope};
 use om_covectors::Covectors;
 use om_signs::{NoMemory, RawMap};
 use std::alloc::Global;
@@ -21,6 +21,7 @@ pub fn convert_back(
     cocircuits: &Cocircuits,
     covectors: &Covectors,
 ) -> Result<(), NoMemory>
+    requires rank { chi.now.rank ≡ 3 }
     requires cocircuits { ListsCocircuits chi.now cocircuits.now.0 }
     requires covectors { ListsCovectors chi.now covectors.now }
     ensures { OnOk result (ComesBack chi.now) }
@@ -40,13 +41,22 @@ fn back_from_cocircuits(
     chi: &Chirotope,
     cocircuits: &Cocircuits,
 ) -> Result<Chirotope, NoMemory>
-    requires { ListsCocircuits chi.now cocircuits.now.0 }
+    requires rank { chi.now.rank ≡ 3 }
+    requires cocircuits { ListsCocircuits chi.now cocircuits.now.0 }
     ensures { IfOk result (IsNormalFormOf chi.now) }
 {
-    let back = cocircuits_to_chirotope(alloc, cocircuits)?;
-    // this call tells that the axioms hold
-    let _rank = back.rank();
-    Ok(back)
+    // this call tells how many elements there are at most
+    let _elements = chi.elements();
+    match cocircuits_to_chirotope(alloc, cocircuits) {
+        Ok(back) => {
+            // this call tells that the axioms hold
+            let _rank = back.rank();
+            Ok(back)
+        }
+        // a chirotope of rank 3 on 20 elements has 1,140 values
+        Err(ConvertError::TooWide { .. } | ConvertError::TooMany { .. }) => unreachable!(),
+        Err(ConvertError::Memory) => Err(NoMemory),
+    }
 }
 
 /// The chirotope of the covectors of a chirotope, which is its normal form.
@@ -55,13 +65,22 @@ fn back_from_covectors(
     chi: &Chirotope,
     covectors: &Covectors,
 ) -> Result<Chirotope, NoMemory>
-    requires { ListsCovectors chi.now covectors.now }
+    requires rank { chi.now.rank ≡ 3 }
+    requires covectors { ListsCovectors chi.now covectors.now }
     ensures { IfOk result (IsNormalFormOf chi.now) }
 {
-    let back = covectors_to_chirotope(alloc, covectors)?;
-    // this call tells that the axioms hold
-    let _rank = back.rank();
-    Ok(back)
+    // this call tells how many elements there are at most
+    let _elements = chi.elements();
+    match covectors_to_chirotope(alloc, covectors) {
+        Ok(back) => {
+            // this call tells that the axioms hold
+            let _rank = back.rank();
+            Ok(back)
+        }
+        // a chirotope of rank 3 on 20 elements has 1,140 values
+        Err(ConvertError::TooWide { .. } | ConvertError::TooMany { .. }) => unreachable!(),
+        Err(ConvertError::Memory) => Err(NoMemory),
+    }
 }
 
 /// Whether two maps are equal.

@@ -7,6 +7,7 @@ use Rattle.om_signs.specs.declared.sign.Sign.{Sign}
 use Rattle.om_signs.specs.declared.sign.Sign.TheVariants.{Zero, Plus}
 use Rattle.om_signs.specs.Sign.{product}
 use Rattle.om_signs.specs.SignVec.{at, place}
+use Rattle.om_members.specs.Vectors.{IsZero}
 use Rattle.om_subsets.specs.Subsets.{IsMember, with_element, without_element, count_above, rank_of}
 use Rattle.om_chirotope.specs.Map.{SignMap, IsLedBy, parity_sign}
 use Rattle.om_chirotope.specs.Chirotope.{IsChirotope}
@@ -17,22 +18,34 @@ use Rattle.om_denotation.specs.Listings.{AreAllOf}
 abbrev pub IsMet : List ℕ → List Sign → Type 0
 IsMet s Y = (e : ℕ) × IsMember e s × (place Y e ≢ Zero)
 
+-- each vector of a family is nonzero at some element of the set
+abbrev pub MeetsFamily : (List Sign → Type 0) → List ℕ → Type 0
+MeetsFamily P s = (Y : List Sign) → P Y → IsMet s Y
+
+-- some vector of a family is zero on the set
+abbrev pub MissesOne : (List Sign → Type 0) → List ℕ → Type 0
+MissesOne P s = (Y : List Sign) × P Y × (IsMet s Y → ⊥)
+
 -- each vector of a list is nonzero at some element of the set
 abbrev pub MeetsEach : List (List Sign) → List ℕ → Type 0
-MeetsEach members s = (Y : List Sign) → Contains members Y → IsMet s Y
+MeetsEach members s = MeetsFamily (Contains members) s
 
 -- some vector of a list is zero on the set
 abbrev pub MissesSome : List (List Sign) → List ℕ → Type 0
-MissesSome members s = (Y : List Sign) × Contains members Y × (IsMet s Y → ⊥)
+MissesSome members s = MissesOne (Contains members) s
 
--- the set without e where it meets each vector, and the set where it does not
-abbrev pub IsNarrowed : List (List Sign) → List ℕ → ℕ → List ℕ → Type 0
-IsNarrowed members s e t = ((t ≡ without_element e s) × MeetsEach members t) ⊎ ((t ≡ s) × MissesSome members (without_element e s))
+-- a vector of a list that isn't zero
+abbrev pub IsNonzeroMember : List (List Sign) → List Sign → Type 0
+IsNonzeroMember members Y = Contains members Y × (IsZero Y → ⊥)
 
--- it meets each vector of a list, and without any of its elements it does not
-pub record IsLeastMeeting (members : List (List Sign)) (s : List ℕ) : Type 0 where
-  pub each : MeetsEach members s
-  pub least : (e : ℕ) → IsMember e s → MissesSome members (without_element e s)
+-- the set without e where it meets each vector of a family, and the set where it does not
+abbrev pub IsNarrowed : (List Sign → Type 0) → List ℕ → ℕ → List ℕ → Type 0
+IsNarrowed P s e t = ((t ≡ without_element e s) × MeetsFamily P t) ⊎ ((t ≡ s) × MissesOne P (without_element e s))
+
+-- it meets each vector of a family, and without any of its elements it does not
+pub record IsLeastMeeting (P : List Sign → Type 0) (s : List ℕ) : Type 0 where
+  pub each : MeetsFamily P s
+  pub least : (e : ℕ) → IsMember e s → MissesOne P (without_element e s)
 
 -- a chirotope on n elements with these cocircuits, whose first sign that isn't zero is plus
 pub record IsNormalOf (n : ℕ) (members : List (List Sign)) (m : SignMap) : Type 0 where
@@ -40,6 +53,10 @@ pub record IsNormalOf (n : ℕ) (members : List (List Sign)) (m : SignMap) : Typ
   pub elements : m.elements ≡ n
   pub cocircuits : AreAllOf (IsCocircuitOfChirotope m) members
   pub normal : IsLedBy Plus m.signs
+
+-- each normal chirotope of the list has this rank
+abbrev pub IsRankOfNormal : ℕ → List (List Sign) → ℕ → Type 0
+IsRankOfNormal n members rank = (m : SignMap) → IsNormalOf n members m → m.rank ≡ rank
 
 -- the first signs of each normal chirotope of the list
 abbrev pub AreFirstSigns : ℕ → ℕ → List (List Sign) → List Sign → Type 0

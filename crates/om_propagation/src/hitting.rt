@@ -1,11 +1,13 @@
 //! Sets that meet every vector of a list.
 
-ghost use Rattle.std.specs.Prelude.{◌≡◌, ◌≤◌, ◌↔◌, IsTrue, IfSome, IfNone, length};
+ghost use Rattle.std.specs.Prelude.{◌≡◌, ◌≤◌, ◌↔◌, ◌⊎◌, IsTrue, IfSome, IfNone, length};
 ghost use Rattle.std.specs.List.{Contains};
 ghost use Rattle.om_members.specs.Listings.{HaveLength};
-ghost use Rattle.om_subsets.specs.Subsets.{first_of, IsSubsetFrom};
-ghost use Rattle.om_propagation.specs.Hitting.{IsMet, MeetsEach, IsNarrowed, IsLeastMeeting};
+ghost use Rattle.om_members.specs.Vectors.{IsZero};
+ghost use Rattle.om_subsets.specs.Subsets.{IsSubsetFrom};
+ghost use Rattle.om_propagation.specs.Hitting.{IsMet, MeetsEach, MeetsFamily, IsNonzeroMember, IsNarrowed, IsLeastMeeting};
 
+use om_members::is_zero;
 use om_signs::{MAX_ELEMENTS, SignVec};
 use om_subsets::Subset;
 
@@ -33,7 +35,31 @@ pub fn first_missed(vectors: &[SignVec], s: Subset) -> Option<SignVec>
     None
 }
 
-/// The set without an element if it still meets each vector, and else the set.
+/// Whether a vector is zero, or nonzero at some element of a set.
+fn passes(y: SignVec, s: Subset) -> bool
+    requires { length y ≡ s.n }
+    ensures { IsTrue result ↔ (IsZero y ⊎ IsMet s.elements y) }
+{
+    is_zero(y) || meets(y, s)
+}
+
+/// The first vector that is zero on a set and isn't zero.
+fn first_nonzero_missed(vectors: &[SignVec], s: Subset) -> Option<SignVec>
+    requires { HaveLength s.n vectors.now }
+    ensures none { IfNone result (MeetsFamily (IsNonzeroMember vectors.now) s.elements) }
+    ensures contained { IfSome result (Contains vectors.now) }
+    ensures nonzero { IfSome result (λ y. IsZero y → ⊥) }
+    ensures missed { IfSome result (λ y. IsMet s.elements y → ⊥) }
+{
+    for y in vectors {
+        if !passes(*y, s) {
+            return Some(*y);
+        }
+    }
+    None
+}
+
+/// The set without an element if it still meets each nonzero vector, and else the set.
 fn narrowed(vectors: &[SignVec], set: Subset, e: u8) -> Subset
     requires low { 1 ≤ e }
     requires high { e ≤ set.n }
@@ -41,24 +67,23 @@ fn narrowed(vectors: &[SignVec], set: Subset, e: u8) -> Subset
     requires lawful { IsSubsetFrom 1 set.n set.elements }
     ensures n { result.n ≡ set.n }
     ensures lawful { IsSubsetFrom 1 result.n result.elements }
-    ensures narrowed { IsNarrowed vectors.now set.elements e result.elements }
+    ensures narrowed { IsNarrowed (IsNonzeroMember vectors.now) set.elements e result.elements }
 {
     let rest = set.without(e);
-    if first_missed(vectors, rest).is_some() {
+    if first_nonzero_missed(vectors, rest).is_some() {
         set
     } else {
         rest
     }
 }
 
-/// A set that meets each vector, and of which no element can be left out. No vector is zero.
+/// A set that meets each vector that isn't zero, and of which no element can be left out. It takes no memory.
 pub fn least_meeting(elements: u8, vectors: &[SignVec]) -> Subset
     requires high { elements ≤ MAX_ELEMENTS }
     requires lengths { HaveLength elements vectors.now }
-    requires nonzero { MeetsEach vectors.now (first_of 1 elements) }
     ensures n { result.n ≡ elements }
     ensures lawful { IsSubsetFrom 1 elements result.elements }
-    ensures least { IsLeastMeeting vectors.now result.elements }
+    ensures least { IsLeastMeeting (IsNonzeroMember vectors.now) result.elements }
 {
     let mut set = Subset::first(elements, elements);
     for e in 1..elements + 1 {

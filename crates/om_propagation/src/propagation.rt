@@ -8,16 +8,16 @@ ghost use Rattle.om_denotation.specs.Covectors.{IsCovectorOfChirotope, IsCovecto
 ghost use Rattle.om_denotation.specs.Denotation.{DenoteTheSame};
 ghost use Rattle.om_denotation.specs.Listings.{AreAllOf};
 ghost use Rattle.om_denotation.specs.Only.{IsOnlyChirotope};
-ghost use Rattle.om_propagation.specs.Hitting.{IsNormalOf, IsEachNormalOf};
+ghost use Rattle.om_propagation.specs.Hitting.{IsNormalOf, IsEachNormalOf, IsRankOfNormal};
+ghost use Rattle.om_propagation.specs.Ranks.{IsRankFor};
 ghost use Rattle.om_members.specs.Listings.{HaveLength};
 ghost use Rattle.om_subsets.specs.Subsets.{choose};
 
-use super::hitting::least_meeting;
 use super::signs::sign_of;
 use om_chirotope::Chirotope;
 use om_circuits::{Circuits, Cocircuits, SignedSet};
 use om_denotation::dual;
-use om_signs::{List, MAX_ELEMENTS, NoMemory, RawMap, SignVec};
+use om_signs::{List, MAX_ELEMENTS, MAX_VALUES, NoMemory, RawMap, SignVec};
 use om_subsets::Subset;
 use std::alloc::Global;
 
@@ -55,30 +55,39 @@ pub fn propagated_map(
     })
 }
 
-/// The normal chirotope whose cocircuits are the members of a set. Its signs take their memory from `alloc`.
+/// The normal chirotope whose cocircuits are the members of a set, and whose rank this is. It has at most [`MAX_VALUES`]
+/// values. Its signs take their memory from `alloc`.
 ///
 /// The bases are the sets of as many elements as the rank that meet each member. The first one has the sign plus, and each
 /// other one has its sign from that of a basis before it with one other element, by a member that is zero on what both have
 /// in common.
 ///
 /// [`NoMemory`] comes only for want of memory.
-pub fn chirotope_of(alloc: Global, set: &SignedSet) -> Result<Chirotope, NoMemory>
+pub fn chirotope_of(alloc: Global, set: &SignedSet, rank: u8) -> Result<Chirotope, NoMemory>
+    requires rank { IsRankOfNormal set.now.elements set.now.members rank }
+    requires narrow { choose set.now.elements rank ≤ MAX_VALUES }
     ensures { IfOk result (IsNormalOf set.now.elements set.now.members) }
 {
     let elements = set.elements();
     let vectors = set.members();
-    let rank = least_meeting(elements, vectors).size();
     let raw = propagated_map(alloc, vectors, rank, elements)?;
     Ok(Chirotope::lawful(raw))
 }
 
-/// The normal chirotope with these cocircuits. Both have the same elements and denote the same oriented matroid, and it is the
-/// only chirotope that does, up to sign. Its signs take their memory from `alloc`.
+/// The normal chirotope with these cocircuits, whose rank this is. Both have the same elements and denote the same oriented
+/// matroid, and it is the only chirotope that does, up to sign. It has at most [`MAX_VALUES`] values. Its signs take their
+/// memory from `alloc`.
 ///
 /// [`NoMemory`] comes only for want of memory.
 ///
 /// Source: Björner, Las Vergnas, Sturmfels, White and Ziegler, *Oriented Matroids*, chapter 3.
-pub fn cocircuits_to_chirotope(alloc: Global, c: &Cocircuits) -> Result<Chirotope, NoMemory>
+pub fn chirotope_of_cocircuits(
+    alloc: Global,
+    c: &Cocircuits,
+    rank: u8,
+) -> Result<Chirotope, NoMemory>
+    requires rank { IsRankFor c.now.0.elements (IsCovectorOfCocircuits c.now.0) rank }
+    requires narrow { choose c.now.0.elements rank ≤ MAX_VALUES }
     ensures elements { IfOk result (λ m. m.elements ≡ c.now.0.elements) }
     ensures cocircuits { IfOk result (λ m. AreAllOf (IsCocircuitOfChirotope m) c.now.0.members) }
     ensures same { IfOk result (λ m.
@@ -86,17 +95,20 @@ pub fn cocircuits_to_chirotope(alloc: Global, c: &Cocircuits) -> Result<Chirotop
     ensures normal { IfOk result (λ m. IsLedBy Plus m.signs) }
     ensures unique { IfOk result IsOnlyChirotope }
 {
-    chirotope_of(alloc, &c.0)
+    chirotope_of(alloc, &c.0, rank)
 }
 
-/// The normal chirotope with these circuits: the dual of that whose cocircuits they are. Both have the same elements and
-/// denote the same oriented matroid, and it is the only chirotope that does, up to sign. Its signs take their memory from
-/// `alloc`.
+/// The normal chirotope with these circuits, whose rank this is: the dual of that whose cocircuits they are. Both have the
+/// same elements and denote the same oriented matroid, and it is the only chirotope that does, up to sign. It has at most
+/// [`MAX_VALUES`] values. Its signs take their memory from `alloc`.
 ///
 /// [`NoMemory`] comes only for want of memory.
 ///
 /// Source: Björner, Las Vergnas, Sturmfels, White and Ziegler, *Oriented Matroids*, chapter 3.
-pub fn circuits_to_chirotope(alloc: Global, c: &Circuits) -> Result<Chirotope, NoMemory>
+pub fn chirotope_of_circuits(alloc: Global, c: &Circuits, rank: u8) -> Result<Chirotope, NoMemory>
+    requires part { rank ≤ c.now.0.elements }
+    requires rank { IsRankFor c.now.0.elements (IsCovectorOfCircuits c.now.0) rank }
+    requires narrow { choose c.now.0.elements rank ≤ MAX_VALUES }
     ensures elements { IfOk result (λ m. m.elements ≡ c.now.0.elements) }
     ensures circuits { IfOk result (λ m. AreAllOf (IsCircuitOfChirotope m) c.now.0.members) }
     ensures same { IfOk result (λ m.
@@ -104,6 +116,6 @@ pub fn circuits_to_chirotope(alloc: Global, c: &Circuits) -> Result<Chirotope, N
     ensures normal { IfOk result (λ m. IsLedBy Plus m.signs) }
     ensures unique { IfOk result IsOnlyChirotope }
 {
-    let other = chirotope_of(alloc, &c.0)?;
+    let other = chirotope_of(alloc, &c.0, c.0.elements() - rank)?;
     dual(alloc, &other)
 }

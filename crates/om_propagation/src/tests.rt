@@ -1,7 +1,11 @@
 //! Chirotopes of cocircuits and of circuits that were worked out by hand.
 
-use super::{circuits_to_chirotope, cocircuits_to_chirotope};
-use om_samples::{SampleError, circuits_of, cocircuits_of, text_of_map};
+use super::{
+    chirotope_of_circuits, chirotope_of_cocircuits, rank_circuits, rank_cocircuits, rank_covectors,
+};
+use om_samples::{SampleError, circuits_of, cocircuits_of, covectors_of, text_of_map};
+use om_signs::MAX_VALUES;
+use om_subsets::Subset;
 use std::alloc::Global;
 use std::test::Fail;
 use std::thread::Threads;
@@ -34,7 +38,11 @@ fn of_cocircuits<R: Threads + Sync>(
     texts: &[&str],
 ) -> Result<String, SampleError> {
     let cocircuits = cocircuits_of(rt, alloc, elements, texts)?;
-    let chi = cocircuits_to_chirotope(alloc, &cocircuits)?;
+    let rank = rank_cocircuits(&cocircuits);
+    if Subset::choose(cocircuits.0.elements(), rank) > MAX_VALUES {
+        return Err(SampleError::Memory);
+    }
+    let chi = chirotope_of_cocircuits(alloc, &cocircuits, rank)?;
     text_of_map(alloc, &chi.into_raw())
 }
 
@@ -46,7 +54,11 @@ fn of_circuits<R: Threads + Sync>(
     texts: &[&str],
 ) -> Result<String, SampleError> {
     let circuits = circuits_of(rt, alloc, elements, texts)?;
-    let chi = circuits_to_chirotope(alloc, &circuits)?;
+    let rank = rank_circuits(&circuits);
+    if Subset::choose(circuits.0.elements(), rank) > MAX_VALUES {
+        return Err(SampleError::Memory);
+    }
+    let chi = chirotope_of_circuits(alloc, &circuits, rank)?;
     text_of_map(alloc, &chi.into_raw())
 }
 
