@@ -74,8 +74,15 @@ fn has_list_exchange(raw: &RawMap, cocircuits: &[SignVec]) -> bool
     requires filled { cocircuits.now ≡ cocircuit_vectors (map_of raw.now) }
     ensures { IsTrue result ↔ HasListExchange (map_of raw.now) }
 {
-    let mut table = [false; SETS];
+    let mut table = unmarked::<SETS>();
     has_list_exchange_by(raw, cocircuits, &mut table)
+}
+
+/// No marks.
+fn unmarked<const N: usize>() -> [bool; N]
+    ensures { length result ≡ N }
+{
+    [false; N]
 }
 
 /// The same, by a table for the marks.
