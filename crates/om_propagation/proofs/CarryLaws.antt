@@ -1,7 +1,7 @@
 -- The signs of the normal chirotope of a list of cocircuits, from one another.
 --
--- Main results: a set of the rank is a basis exactly where it meets each member (basis_meets, meeting_basis); a least set that meets each member has
--- as many elements as the rank (least_size); the sign of a basis from that of one before it (carried_is), and of the first basis (first_is_plus).
+-- Main results: a set of the rank is a basis exactly where it meets each member (basis_meets, meeting_basis); the sign of a basis from that of one
+-- before it (carried_is), and of the first basis (first_is_plus).
 -- Reference: Björner, Las Vergnas, Sturmfels, White and Ziegler, Oriented Matroids, chapter 3.
 use Rattle.std.specs.Prelude.{ℕ, ◌≡◌, ◌≢◌, ◌+◌, ◌<◌, ◌≤◌, List, [], ◌∷◌, ◌++◌, length, refl}
 use Rattle.std.specs.List.{Contains}
@@ -43,8 +43,8 @@ use Rattle.om_matroid.proofs.ListLaws.{subset_without}
 use Rattle.om_denotation.proofs.ChirotopeBridge.{tuples_of, cocircuit_function, cocircuit_supported, cocircuit_list, increasing_subset}
 use Rattle.om_denotation.proofs.ListFunctions.{at_place, place_function}
 use Rattle.om_denotation.proofs.Uniqueness.{tuples_at}
-use Rattle.om_propagation.specs.Hitting.{IsMet, MeetsEach, MissesSome, IsLeastMeeting, IsNormalOf, carried_sign, IsCarried, HasNoneCarried, AreFirstSigns}
-use Rattle.om_propagation.proofs.HittingLaws.{Meets, base_hits, hitting_base, sharp_base, vanishing_same}
+use Rattle.om_propagation.specs.Hitting.{IsMet, MeetsEach, MissesSome, IsNormalOf, carried_sign, IsCarried, HasNoneCarried, AreFirstSigns}
+use Rattle.om_propagation.proofs.HittingLaws.{Meets, base_hits, hitting_base, vanishing_same}
 use Rattle.om_propagation.proofs.SetLaws.{with_without, exchanged_before, first_new, IsFirstNew}
 
 -- ---- signs
@@ -94,7 +94,7 @@ carry p q s t y z n k j e =
 
 -- ---- sets and vectors
 
-met_function : (n : ℕ) (s : List ℕ) (Y : List Sign) → IsSubsetFrom 1 n s → IsMet s Y → Meets s (as_function Y)
+pub met_function : (n : ℕ) (s : List ℕ) (Y : List Sign) → IsSubsetFrom 1 n s → IsMet s Y → Meets s (as_function Y)
 met_function n s Y list (e, m, k) = let low = (members_from 1 n e s list m).0 in (e, m, λ z. k (place_function Y e low ∙ z))
 
 pub met_list : (s : List ℕ) (Y : List Sign) → Meets s (as_function Y) → IsMet s Y
@@ -140,14 +140,6 @@ module _ (n : ℕ) (members : List (List Sign)) (m : SignMap) (h : IsNormalOf n 
   pub meeting_basis : (t : List ℕ) → IsSubsetFrom 1 m.elements t → length t ≡ m.rank → MeetsEach members t → chi_of m t ≢ Zero
   meeting_basis t list size each = of_base t list size
       (hitting_base E chi om t (meets_all t list each) (increasing_distinct t (increasing_subset m.elements t list)) om.base.0 om.base.1 (size ∙ sym base_size))
-
-  pub least_size : (s : List ℕ) → IsSubsetFrom 1 m.elements s → IsLeastMeeting members s → length s ≡ m.rank
-  least_size s list l = (on_tuples_tuple m.elements m.rank (chi_of m) s (sharp_base E chi om s (meets_all s list l.each) (increasing_distinct s (increasing_subset m.elements s list)) sharp)).size
-    where
-      sharp : (e : ℕ) → IsMember e s → (F : SignVector) × IsCocircuit chi F × ((g : ℕ) → IsMember g s → g ≢ e → F g ≡ Zero)
-      sharp e k =
-          let y = l.least e k in
-          (as_function y.0, of_member y.0 y.1, λ g j ne. ⊎_elim (λ z. z) (λ nz. absurd (y.2 (met_list (without_element e s) y.0 (g, (members_without e g s).1 (ne, j), nz)))) (zero_or_nonzero (as_function y.0 g)))
 
   -- ---- a basis without an element, and another element
 

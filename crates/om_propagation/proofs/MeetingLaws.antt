@@ -1,11 +1,12 @@
 -- The tests and loops that find sets which meet every vector.
 --
 -- Main definitions: IsNarrowedTo, what holds of a set of which the elements below e are needed.
--- Main results: the test of a vector (meets_test); one more member (met_more), each member (met_all); one more element (narrowed_start, narrowed_more,
--- narrowed_least); one more sign (signs_more), and all signs (signs_are); the normal chirotope of a list (normal_of, denotes).
+-- Main results: the tests of a vector (meets_test, passed); one more member (met_more), each member (met_all); one more element (narrowed_start,
+-- narrowed_more, narrowed_least); one more sign (signs_more), and all signs (signs_are); the normal chirotope of a list (normal_of, denotes).
 use Rattle.std.specs.Prelude.{ℕ, ◌≡◌, ◌≢◌, ◌+◌, ◌<◌, ◌≤◌, ◌-◌, ◌↔◌, ◌⊎◌, List, [], ◌∷◌, ◌++◌, length, refl, not, nat_eq, true, false, IsTrue, bit_and, slice_index_or}
 use Rattle.std.specs.Int.{bit_at}
-use Rattle.std.proofs.Common.{zero, suc, sym, ap, subst, ◌∙◌, inl, inr, arith, min}
+use Rattle.std.specs.List.{Contains}
+use Rattle.std.proofs.Common.{zero, suc, sym, ap, subst, ◌∙◌, ⊎_elim, inl, inr, arith, min}
 use Rattle.std.proofs.lemmas.Bool.{cases_eq, cases_lt, eq-eqb, ne_eqb}
 use Rattle.std.proofs.lemmas.Nat.Bits.{bit_at_and}
 use Rattle.std.proofs.lemmas.List.{ext_get_or, get_or_append_left, get_or_push, get_or_past, length-append}
@@ -18,6 +19,7 @@ use Rattle.om_subsets.proofs.Order.{members_from}
 use Rattle.om_subsets.proofs.Statements.{members_without}
 use Rattle.om_laws.specs.Bridge.{as_function}
 use Rattle.om_laws.proofs.ChirotopeLaws.{element_from_member, elements_distinct}
+use Rattle.om_members.specs.Vectors.{IsZero}
 use Rattle.om_members.specs.Listings.{Listing, HaveLength}
 use Rattle.om_members.specs.Scans.{nth, AllBelow}
 use Rattle.om_members.proofs.MaskLaws.{zero_mask, support_bit, bit_or_none}
@@ -50,9 +52,9 @@ use Rattle.om_denotation.proofs.Rules.{same_maps}
 use Rattle.om_denotation.proofs.NormalForms.{normal_elements}
 use Rattle.om_denotation.proofs.Uniqueness.{normal_axioms}
 use Rattle.om_denotation.proofs.DualMaps.{dual_tuples, dual_axioms}
-use Rattle.om_propagation.specs.Hitting.{IsMet, MeetsEach, MissesSome, IsNarrowed, IsLeastMeeting, IsNormalOf, IsEachNormalOf, AreFirstSigns}
+use Rattle.om_propagation.specs.Hitting.{IsMet, MeetsFamily, MissesOne, IsNonzeroMember, IsNarrowed, IsLeastMeeting, IsNormalOf, IsRankOfNormal, IsEachNormalOf, AreFirstSigns}
 use Rattle.om_propagation.proofs.HittingLaws.{meets_or_zero}
-use Rattle.om_propagation.proofs.CarryLaws.{met_list, least_size}
+use Rattle.om_propagation.proofs.CarryLaws.{met_list}
 
 -- ---- one vector
 
@@ -97,36 +99,40 @@ meets_test n Y s a b l list ha hb = elim (meets_or_zero s (as_function Y)) [
         not_both : false ≡ true → ⊥
         not_both q = cc
 
+-- what is zero or met is met where it isn't zero
+pub passed : (Y : List Sign) (s : List ℕ) → IsZero Y ⊎ IsMet s Y → (IsZero Y → ⊥) → IsMet s Y
+passed Y s h nonzero = ⊎_elim (λ z. absurd (nonzero z)) (λ m. m) h
+
 -- ---- the members of a list
 
-pub met_more : (members : List (List Sign)) (s : List ℕ) (i : ℕ) (y : List Sign) → i < length members → y ≡ slice_index_or members i y → AllBelow i (λ k. IsMet s (nth members k)) → IsMet s y
-    → AllBelow (i + 1) (λ k. IsMet s (nth members k))
-met_more members s i y lt q old new k l = elim (cases_eq k i) [
-  | inl e ↦ subst (IsMet s) (sym (ap (nth members) e ∙ nth_read members i y lt q)) new
+pub met_more : (members : List (List Sign)) (P : List Sign → Type 0) (i : ℕ) (y : List Sign) → i < length members → y ≡ slice_index_or members i y → AllBelow i (λ k. P (nth members k)) → P y
+    → AllBelow (i + 1) (λ k. P (nth members k))
+met_more members P i y lt q old new k l = elim (cases_eq k i) [
+  | inl e ↦ subst P (sym (ap (nth members) e ∙ nth_read members i y lt q)) new
   | inr ne ↦ old k (omega arith)
 ]
 
-pub met_all : (members : List (List Sign)) (s : List ℕ) (i : ℕ) → length members ≤ i → AllBelow i (λ k. IsMet s (nth members k)) → MeetsEach members s
-met_all members s i le all Y y = let l = y.1 in subst (IsMet s) (nth_contained members Y y) (all y.0 (omega (arith, l, le)))
+pub met_all : (members : List (List Sign)) (P : List Sign → Type 0) (i : ℕ) → length members ≤ i → AllBelow i (λ k. P (nth members k)) → (Y : List Sign) → Contains members Y → P Y
+met_all members P i le all Y y = let l = y.1 in subst P (nth_contained members Y y) (all y.0 (omega (arith, l, le)))
 
 -- ---- one element after another
 
-pub record IsNarrowedTo (n : ℕ) (members : List (List Sign)) (e k : ℕ) (s : List ℕ) : Type 0 where
+pub record IsNarrowedTo (n : ℕ) (P : List Sign → Type 0) (e k : ℕ) (s : List ℕ) : Type 0 where
   pub n_is : k ≡ n
   pub lawful : IsSubsetFrom 1 n s
-  pub each : MeetsEach members s
-  pub least : (f : ℕ) → IsMember f s → f < e → MissesSome members (without_element f s)
+  pub each : MeetsFamily P s
+  pub least : (f : ℕ) → IsMember f s → f < e → MissesOne P (without_element f s)
 
-pub narrowed_start : (n : ℕ) (members : List (List Sign)) (k : ℕ) (s : List ℕ) → k ≡ n → IsSubsetFrom 1 n s → s ≡ first_of 1 n → MeetsEach members (first_of 1 n) → IsNarrowedTo n members 1 k s
-narrowed_start n members k s q list e each = record {
+pub narrowed_start : (n : ℕ) (P : List Sign → Type 0) (k : ℕ) (s : List ℕ) → k ≡ n → IsSubsetFrom 1 n s → s ≡ first_of 1 n → MeetsFamily P (first_of 1 n) → IsNarrowedTo n P 1 k s
+narrowed_start n P k s q list e each = record {
   n_is = q;
   lawful = list;
-  each = subst (MeetsEach members) (sym e) each;
+  each = subst (MeetsFamily P) (sym e) each;
   least = λ f m lt. let low = (members_from 1 n f s list m).0 in absurd (omega (arith, low, lt));
 }
 
-pub narrowed_more : (n : ℕ) (members : List (List Sign)) (e k j : ℕ) (s t : List ℕ) → IsNarrowedTo n members e k s → j ≡ k → IsSubsetFrom 1 j t → IsNarrowed members s e t → IsNarrowedTo n members (e + 1) j t
-narrowed_more n members e k j s t h q list (inl (w, each)) = record {
+pub narrowed_more : (n : ℕ) (P : List Sign → Type 0) (e k j : ℕ) (s t : List ℕ) → IsNarrowedTo n P e k s → j ≡ k → IsSubsetFrom 1 j t → IsNarrowed P s e t → IsNarrowedTo n P (e + 1) j t
+narrowed_more n P e k j s t h q list (inl (w, each)) = record {
   n_is = q ∙ h.n_is;
   lawful = subst (λ i. IsSubsetFrom 1 i t) (q ∙ h.n_is) list;
   each = each;
@@ -139,36 +145,38 @@ narrowed_more n members e k j s t h q list (inl (w, each)) = record {
   where
     passed : (f g : ℕ) → IsMember g (without_element f t) → IsMember g (without_element f s)
     passed f g m = let a = (members_without f g t).0 m in (members_without f g s).1 (a.0, ((members_without e g s).0 (subst (IsMember g) w a.1)).1)
-narrowed_more n members e k j s t h q list (inr (w, misses)) = record {
+narrowed_more n P e k j s t h q list (inr (w, misses)) = record {
   n_is = q ∙ h.n_is;
   lawful = subst (λ i. IsSubsetFrom 1 i t) (q ∙ h.n_is) list;
-  each = subst (MeetsEach members) (sym w) h.each;
-  least = λ f m lt. subst (λ l. MissesSome members (without_element f l)) (sym w) (elim (cases_eq f e) [
-    | inl p ↦ subst (λ i. MissesSome members (without_element i s)) (sym p) misses
+  each = subst (MeetsFamily P) (sym w) h.each;
+  least = λ f m lt. subst (λ l. MissesOne P (without_element f l)) (sym w) (elim (cases_eq f e) [
+    | inl p ↦ subst (λ i. MissesOne P (without_element i s)) (sym p) misses
     | inr ne ↦ h.least f (subst (IsMember f) w m) (omega arith)
   ]);
 }
 
-pub narrowed_least : (n : ℕ) (members : List (List Sign)) (e k : ℕ) (s : List ℕ) → n + 1 ≤ e → IsNarrowedTo n members e k s → IsLeastMeeting members s
-narrowed_least n members e k s le h = record {
+pub narrowed_least : (n : ℕ) (P : List Sign → Type 0) (e k : ℕ) (s : List ℕ) → n + 1 ≤ e → IsNarrowedTo n P e k s → IsLeastMeeting P s
+narrowed_least n P e k s le h = record {
   each = h.each;
   least = λ f m. let high = (members_from 1 n f s h.lawful m).1 in h.least f m (omega (arith, high, le));
 }
 
--- ---- all signs
+-- ---- all elements
 
 first_member : (low n e : ℕ) → low ≤ e → e < low + n → IsMember e (first_of low n)
 first_member low zero e a b = absurd (omega (arith, a, b))
 first_member low (suc n) e a b = elim (cases_eq e low) [ inl q ↦ inl q | inr ne ↦ inr (first_member (low + 1) n e (omega arith) (omega arith)) ]
 
--- no member is zero, so the set of all elements meets each
-pub all_meet : (n : ℕ) (members : List (List Sign)) → HaveLength n members → MeetsCircuitAxioms members → MeetsEach members (first_of 1 n)
-all_meet n members lengths axioms Y y =
-    let k = nonzero_element Y (axioms.no_zero Y y) in
+-- the set of all elements meets each member that isn't zero
+pub all_meet : (n : ℕ) (members : List (List Sign)) → HaveLength n members → MeetsFamily (IsNonzeroMember members) (first_of 1 n)
+all_meet n members lengths Y (y, nonzero) =
+    let k = nonzero_element Y nonzero in
     let i = element_from_member n k.0 (list_supported n Y (All-contains (λ X. length X ≡ n) members Y lengths y) k.0 k.1) in
     let low = i.0 in
     let high = i.1 in
     (k.0, first_member 1 n k.0 low (omega (arith, high)), λ z. k.1 (sym (place_function Y k.0 low) ∙ z))
+
+-- ---- all signs
 
 -- the normal chirotope of a list
 pub normal_of : (c : Listing) → HaveLength c.elements c.members → MeetsCircuitAxioms c.members → (m : SignMap) × IsNormalOf c.elements c.members m
@@ -233,9 +241,6 @@ denotes c m h X l =
 
 -- ---- the signs of the code
 
-pub start_meets : (c : Listing) (n : ℕ) (vectors : List (List Sign)) → n ≡ c.elements → vectors ≡ c.members → IsSignedSet c.elements c.members → MeetsEach vectors (first_of 1 n)
-start_meets c n vectors q w v = subst (λ i. MeetsEach vectors (first_of 1 i)) (sym q) (subst (λ l. MeetsEach l (first_of 1 c.elements)) (sym w) (all_meet c.elements c.members v.lengths v.axioms))
-
 pub signs_before : (n rank : ℕ) (members : List (List Sign)) (k i : ℕ) (signs slice : List Sign) (t : List ℕ) → AreSigns n rank members k signs → i ≡ n → length t ≡ rank → slice ≡ signs
     → AreFirstSigns i (length t) members slice
 signs_before n rank members k i signs slice t h q l w =
@@ -251,13 +256,21 @@ pub signs_pushed : (n rank : ℕ) (members : List (List Sign)) (k i : ℕ) (old 
 signs_pushed n rank members k i old new slice s t h q l w p here = signs_more n rank members k old new s h p
     (λ m hm r. here m (subst (λ j. IsNormalOf j members m) (sym q) hm) (r ∙ sym l) ∙ ap (λ xs. at m.signs (length xs)) w)
 
-pub made_normal : (c : Listing) → IsSignedSet c.elements c.members → (n : ℕ) (vectors : List (List Sign)) (s : List ℕ) (map : SignMap) → n ≡ c.elements → vectors ≡ c.members
-    → IsSubsetFrom 1 n s → IsLeastMeeting vectors s → map.rank ≡ length s → IsEachNormalOf n vectors map → IsNormalOf c.elements c.members map
-made_normal c v n vectors s map q w list least r each =
+-- the rank of a normal chirotope is at most the number of elements
+pub rank_part : (c : Listing) → IsSignedSet c.elements c.members → (n rank : ℕ) → n ≡ c.elements → IsRankOfNormal c.elements c.members rank → rank ≤ n
+rank_part c v n rank q ranks =
+    let of = normal_of c v.lengths v.axioms in
+    let part = of.1.axioms.whole.part in
+    let elements = of.1.elements in
+    let same = ranks of.0 of.1 in
+    omega (arith, part, elements, same, q)
+
+pub made_normal : (c : Listing) → IsSignedSet c.elements c.members → (n : ℕ) (vectors : List (List Sign)) (rank : ℕ) (map : SignMap) → n ≡ c.elements → vectors ≡ c.members
+    → IsRankOfNormal c.elements c.members rank → map.rank ≡ rank → IsEachNormalOf n vectors map → IsNormalOf c.elements c.members map
+made_normal c v n vectors rank map q w ranks r each =
     let of = normal_of c v.lengths v.axioms in
     let of' : IsNormalOf n vectors of.0 = subst (λ i. IsNormalOf i vectors of.0) (sym q) (subst (λ l. IsNormalOf c.elements l of.0) (sym w) of.1) in
-    let size : length s ≡ of.0.rank = least_size n vectors of.0 of' s (subst (λ i. IsSubsetFrom 1 i s) (sym of'.elements) list) least in
-    let same : map ≡ of.0 = each of.0 of' (sym size ∙ sym r) in
+    let same : map ≡ of.0 = each of.0 of' (ranks of.0 of.1 ∙ sym r) in
     subst (IsNormalOf c.elements c.members) (sym same) of.1
 
 -- ---- circuits

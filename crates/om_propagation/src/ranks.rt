@@ -17,7 +17,8 @@ pub fn rank_circuits(c: &Circuits) -> u8
     ensures high { result ≤ c.now.0.elements }
     ensures rank { IsRankFor c.now.0.elements (IsCovectorOfCircuits c.now.0) result }
 {
-    c.0.elements() - least_meeting(c.0.elements(), c.0.members()).size()
+    let elements = c.0.elements();
+    elements - least_meeting(elements, c.0.members()).size()
 }
 
 /// The rank of the chirotope that denotes the same as some cocircuits, whatever its number of values: the size of a least

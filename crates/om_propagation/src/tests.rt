@@ -1,9 +1,7 @@
 //! Chirotopes of cocircuits and of circuits that were worked out by hand.
 
-use super::{
-    chirotope_of_circuits, chirotope_of_cocircuits, rank_circuits, rank_cocircuits, rank_covectors,
-};
-use om_samples::{SampleError, circuits_of, cocircuits_of, covectors_of, text_of_map};
+use super::{chirotope_of_circuits, chirotope_of_cocircuits, rank_circuits, rank_cocircuits};
+use om_samples::{SampleError, circuits_of, cocircuits_of, text_of_map};
 use om_signs::MAX_VALUES;
 use om_subsets::Subset;
 use std::alloc::Global;
@@ -40,7 +38,7 @@ fn of_cocircuits<R: Threads + Sync>(
     let cocircuits = cocircuits_of(rt, alloc, elements, texts)?;
     let rank = rank_cocircuits(&cocircuits);
     if Subset::choose(cocircuits.0.elements(), rank) > MAX_VALUES {
-        return Err(SampleError::Memory);
+        return Err(SampleError::Refused);
     }
     let chi = chirotope_of_cocircuits(alloc, &cocircuits, rank)?;
     text_of_map(alloc, &chi.into_raw())
@@ -56,7 +54,7 @@ fn of_circuits<R: Threads + Sync>(
     let circuits = circuits_of(rt, alloc, elements, texts)?;
     let rank = rank_circuits(&circuits);
     if Subset::choose(circuits.0.elements(), rank) > MAX_VALUES {
-        return Err(SampleError::Memory);
+        return Err(SampleError::Refused);
     }
     let chi = chirotope_of_circuits(alloc, &circuits, rank)?;
     text_of_map(alloc, &chi.into_raw())

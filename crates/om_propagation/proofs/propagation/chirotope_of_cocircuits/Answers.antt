@@ -1,3 +1,4 @@
+use Rattle.std.proofs.Common.{sym}
 use Rattle.std.proofs.lemmas.Result.{IfOk-weaker}
 use Rattle.om_chirotope.specs.Map.{SignMap}
 use Rattle.om_denotation.specs.Covectors.{IsCovectorOfChirotope, IsCovectorOfCocircuits}
@@ -6,7 +7,10 @@ use Rattle.om_denotation.specs.Only.{IsOnlyChirotope}
 use Rattle.om_denotation.proofs.OnlyLaws.{only_chirotope}
 use Rattle.om_propagation.specs.Hitting.{IsNormalOf}
 use Rattle.om_propagation.proofs.MeetingLaws.{denotes}
-use Rattle.om_propagation.proofs.propagation.cocircuits_to_chirotope.Goals as goal
+use Rattle.om_propagation.proofs.propagation.chirotope_of_cocircuits.Goals as goal
+
+pub chirotope_of-requires-clause-rank : goal.chirotope_of-requires-clause-rank
+chirotope_of-requires-clause-rank c = λ m h. sym (c.requires.rank.each m h.axioms h.elements (denotes c.args.c.now.0 m h))
 
 pub returns-clause-same : goal.returns-clause-same
 returns-clause-same c =
