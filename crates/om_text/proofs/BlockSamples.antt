@@ -57,7 +57,7 @@ unfinished = fault_from _ _ _ refl
 two_numbers : IsFault (codes "om 1" ∷ codes "wiring 3 3" ∷ []) 2 code.Header
 two_numbers = fault_from _ _ _ refl
 
-many_elements : IsFault (codes "om 1" ∷ codes "wiring 17" ∷ []) 2 (code.Elements 17)
+many_elements : IsFault (codes "om 1" ∷ codes "wiring 21" ∷ []) 2 (code.Elements 21)
 many_elements = fault_from _ _ _ refl
 
 printed_lines : block_lines (record { first = 1; last = 12 } ∷ []) ≡ codes "1-12" ∷ []

@@ -22,9 +22,9 @@ use Rattle.om_text.specs.declared.kind.Kind.{Kind}
 use Rattle.om_text.specs.Lines.{has_any}
 use Rattle.om_text.specs.Settings.{is_line, version_of, begins_as_setting, other_words, is_names_line, setting_in, settings_of, settings_in, finished}
 use Rattle.om_text.specs.Document.{IsSpelled, end_line, is_body_line, has_signs, has_length, has_blocks, has_numbers, filled_body, filled, has_room, is_complete}
-use Rattle.om_text.specs.Heading.{first_word, kind_of, heading, opened, has_elements, has_rank, rank_of_body}
+use Rattle.om_text.specs.Heading.{first_word, kind_of, heading, opened, has_elements, has_rank, has_size, rank_of_body, values_of_body}
 use Rattle.om_text.specs.Fault.{kind, setting, body, «end», after, place_in_body, place_after_kind, place, when, first_of, table}
-use Rattle.om_text.specs.Reading.{step, with_version, after_kind, first_stage, draft_of, first_draft, with_heading, takes_settings, with_setting, after_setting, after_body, finished_draft, after_end, added}
+use Rattle.om_text.specs.Reading.{step, with_version, after_kind, first_stage, draft_of, first_draft, in_size, with_heading, takes_settings, with_setting, after_setting, after_body, finished_draft, after_end, added}
 use Rattle.om_text.proofs.Language as any
 use Rattle.om_text.proofs.Language.{bind}
 use Rattle.om_text.proofs.Distinct.{either, both}
@@ -54,6 +54,7 @@ pub record IsOpen (ls : List (List (List ℕ))) (d : Draft) : Type 0 where
   pub heading : heading kind_line ≡ Some head
   pub elements : has_elements head ≡ true
   pub rank : has_rank head ≡ true
+  pub size : has_size head ≡ true
   pub set : settings_in version head settings ≡ Some (names, setting)
   pub each : list_all (is_body_line head) body ≡ true
   pub room : has_room (filled setting head body) ≡ true
@@ -205,11 +206,24 @@ no_settings : (v : Version) (d : Document) → settings_in v d [] ≡ Some ([], 
 no_settings One d = refl
 no_settings Two d = refl
 
+-- what a heading meets that opens a draft
+pub record IsOpened (v : Version) (d : Document) (t : State) : Type 0 where
+  pub elements : has_elements d ≡ true
+  pub rank : has_rank d ≡ true
+  pub size : has_size d ≡ true
+  pub state : Open (first_draft v d) ≡ t
+
+pub heading_ok : (v : Version) (d : Document) (t : State) → with_heading v (Some d) ≡ Ok t → IsOpened v d t
+heading_ok v d t h =
+    let a = cond_ok (has_elements d) (cond (has_rank d) (in_size v d) (Err (code.Rank (rank_of_body d.body)))) (code.Elements d.elements) t h in
+    let b = cond_ok (has_rank d) (in_size v d) (code.Rank (rank_of_body d.body)) t a.1 in
+    let c = cond_ok (has_size d) (Ok (Open (first_draft v d))) (code.Size (values_of_body d.body)) t b.1 in
+    record { elements = a.0; rank = b.0; size = c.0; state = ok_same _ _ c.1 }
+
 heading_shows : (f : List (List ℕ)) (v : Version) (o : Option Document) (w : List (List ℕ)) (t : State) → version_of f ≡ Some v → heading w ≡ o → with_heading v o ≡ Ok t → Shows t (f ∷ w ∷ [])
 heading_shows f v None w t n e h = cc
 heading_shows f v (Some d) w t n e h =
-    let a = cond_ok (has_elements d) (cond (has_rank d) (Ok (Open (first_draft v d))) (Err (code.Rank (rank_of_body d.body)))) _ t h in
-    let b = cond_ok (has_rank d) (Ok (Open (first_draft v d))) _ t a.1 in
+    let a = heading_ok v d t h in
     let o : IsOpen (f ∷ w ∷ []) (first_draft v d) = record {
       first_line = f;
       version = v;
@@ -222,15 +236,16 @@ heading_shows f v (Some d) w t n e h =
       lines = refl;
       numbered = n;
       heading = e;
-      elements = a.0;
-      rank = b.0;
+      elements = a.elements;
+      rank = a.rank;
+      size = a.size;
       set = no_settings v d;
       each = refl;
       room = room_empty Plain d;
       stage = first_stage_is v d;
       value = refl;
     } in
-    subst (λ s. Shows s (f ∷ w ∷ [])) (ok_same _ _ b.1) o
+    subst (λ s. Shows s (f ∷ w ∷ [])) a.state o
 
 kind_shows : (f : List (List ℕ)) (v : Version) (w : List (List ℕ)) (t : State) → version_of f ≡ Some v → after_kind v w ≡ Ok t → Shows t (f ∷ w ∷ [])
 kind_shows f v w t n h =
@@ -257,6 +272,7 @@ setting_shows ls d w t b h = at b.step
           heading = b.draft.heading;
           elements = b.draft.elements;
           rank = b.draft.rank;
+          size = b.draft.size;
           set = m;
           each = refl;
           room = room_empty s b.draft.head;
@@ -288,6 +304,7 @@ body_shows ls d w t o h =
       heading = o.heading;
       elements = o.elements;
       rank = o.rank;
+      size = o.size;
       set = o.set;
       each = list_all-append (is_body_line o.head) o.body w o.each line;
       room = sym (ap (λ e. has_room e.document) v) ∙ a.room;
@@ -313,6 +330,7 @@ end_shows ls d t o h =
       heading = o.heading;
       elements = o.elements;
       rank = o.rank;
+      size = o.size;
       set = o.set;
       each = o.each;
       room = o.room;
@@ -427,11 +445,12 @@ version_rows : (o : Option Version) (c : Code) (rest : List (Option Code)) → w
 version_rows None c rest h = cc
 version_rows (Some v) c rest h = cc
 
-heading_rows : (v : Version) (o : Option Document) (c : Code) (tail : List (Option Code)) → with_heading v o ≡ Err c → first_of (when (is_none o) code.Header ∷ option_and_then (λ d. when (not (has_elements d)) (code.Elements d.elements)) o ∷ option_and_then (λ d. when (not (has_rank d)) (code.Rank (rank_of_body d.body))) o ∷ tail) ≡ Some c
+heading_rows : (v : Version) (o : Option Document) (c : Code) (tail : List (Option Code)) → with_heading v o ≡ Err c → first_of (when (is_none o) code.Header ∷ option_and_then (λ d. when (not (has_elements d)) (code.Elements d.elements)) o ∷ option_and_then (λ d. when (not (has_rank d)) (code.Rank (rank_of_body d.body))) o ∷ option_and_then (λ d. when (not (has_size d)) (code.Size (values_of_body d.body))) o ∷ tail) ≡ Some c
 heading_rows v None c tail h = cc
 heading_rows v (Some d) c tail h =
-    rows_not (has_elements d) (code.Elements d.elements) c (cond (has_rank d) (Ok (Open (first_draft v d))) (Err (code.Rank (rank_of_body d.body)))) (when (not (has_rank d)) (code.Rank (rank_of_body d.body)) ∷ tail)
-    (λ g. rows_not (has_rank d) (code.Rank (rank_of_body d.body)) c (Ok (Open (first_draft v d))) tail (no_error _ c tail) g) h
+    rows_not (has_elements d) (code.Elements d.elements) c (cond (has_rank d) (in_size v d) (Err (code.Rank (rank_of_body d.body)))) (when (not (has_rank d)) (code.Rank (rank_of_body d.body)) ∷ when (not (has_size d)) (code.Size (values_of_body d.body)) ∷ tail)
+    (λ g. rows_not (has_rank d) (code.Rank (rank_of_body d.body)) c (in_size v d) (when (not (has_size d)) (code.Size (values_of_body d.body)) ∷ tail)
+    (λ k. rows_not (has_size d) (code.Size (values_of_body d.body)) c (Ok (Open (first_draft v d))) tail (no_error _ c tail) k) g) h
 
 kind_rows : (v : Version) (w : List (List ℕ)) (c : Code) → after_kind v w ≡ Err c → first_of (table kind w) ≡ Some c
 kind_rows v w c h = rows_when (is_none (kind_of (first_word w))) code.Kind c _ _ (λ k. heading_rows v (heading w) c _ k) h
@@ -459,7 +478,7 @@ pub step_error : (s : State) (ls : List (List (List ℕ))) (w : List (List ℕ))
 step_error Start ls w c o h = subst (λ x. first_of (table (place x w) w) ≡ Some c) (sym o) (version_rows (version_of w) c later h)
   where
     later : List (Option Code)
-    later = None ∷ None ∷ None ∷ None ∷ None ∷ None ∷ None ∷ None ∷ None ∷ None ∷ None ∷ None ∷ []
+    later = None ∷ None ∷ None ∷ None ∷ None ∷ None ∷ None ∷ None ∷ None ∷ None ∷ None ∷ None ∷ None ∷ []
 step_error (Versioned v) ls w c o h = subst (λ x. first_of (table (place x w) w) ≡ Some c) (sym o.1) (kind_rows v w c h)
 step_error (Open d) ls w c o h = elim (either (takes_settings d.stage && begins_as_setting w)) [
   | inl y ↦ let a : after_setting d.stage d w ≡ Err c = rw y at h in
@@ -492,11 +511,11 @@ pub named : (o : Option Kind) (f : Kind → Option Document) (d : Document) → 
 named None f d h = cc
 named (Some k) f d h = (k, refl)
 
-kind_ok : (v : Version) (k : List (List ℕ)) (d : Document) → heading k ≡ Some d → has_elements d ≡ true → has_rank d ≡ true → after_kind v k ≡ Ok (Open (first_draft v d))
-kind_ok v [] d h e r = cc
-kind_ok v (w ∷ ws) d h e r =
+kind_ok : (v : Version) (k : List (List ℕ)) (d : Document) → heading k ≡ Some d → has_elements d ≡ true → has_rank d ≡ true → has_size d ≡ true → after_kind v k ≡ Ok (Open (first_draft v d))
+kind_ok v [] d h e r z = cc
+kind_ok v (w ∷ ws) d h e r z =
     let n = named (kind_of w) (λ k. opened k ws) d h in
-    let g : with_heading v (heading (w ∷ ws)) ≡ Ok (Open (first_draft v d)) = ap (with_heading v) h ∙ rw (e, r) refl in
+    let g : with_heading v (heading (w ∷ ws)) ≡ Ok (Open (first_draft v d)) = ap (with_heading v) h ∙ rw (e, r, z) refl in
     passed (kind_of w) n.0 (with_heading v (heading (w ∷ ws))) n.1 ∙ g
   where
     passed : (o : Option Kind) (k : Kind) (x : Result State Code) → o ≡ Some k → cond (is_none o) (Err code.Kind) x ≡ x
@@ -598,7 +617,7 @@ body_run s names head g pre (w ∷ ws) a r c =
 pub spelled_run : (ls : List (List (List ℕ))) (d : Document) → IsSpelled ls d → run_words Start ls ≡ Ok (Closed d)
 spelled_run ls d o =
     let f : step Start o.first_line ≡ Ok (Versioned o.version) = ap with_version o.numbered in
-    let k : step (Versioned o.version) o.kind_line ≡ Ok (Open (first_draft o.version o.head)) = kind_ok o.version o.kind_line o.head o.heading o.elements o.rank in
+    let k : step (Versioned o.version) o.kind_line ≡ Ok (Open (first_draft o.version o.head)) = kind_ok o.version o.kind_line o.head o.heading o.elements o.rank o.size in
     let r = settings_run o.version o.head o.settings (o.body ++ end_line ∷ []) o.names o.setting o.set in
     let b = body_run o.setting o.names o.head r.stage [] o.body o.each o.room o.complete in
     ap (λ x. run_words Start x) o.lines ∙ ap (λ x. run_words Start (o.first_line ∷ o.kind_line ∷ x)) (append_assoc o.settings o.body (end_line ∷ []))

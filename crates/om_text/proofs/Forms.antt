@@ -7,7 +7,7 @@ use Rattle.std.specs.List.{list_all, concat, flat_map, before_first, after_first
 use Rattle.std.proofs.lemmas.Bool.{leb-true, eqb-true}
 use Rattle.std.proofs.lemmas.List.{length-map}
 use Rattle.std.proofs.lemmas.List.Elements.{All-nil, All-cons, All-head, All-tail, All-append, All-filter}
-use Rattle.om_signs.specs.declared.limits.TheConstants.{MAX_ELEMENTS, MAX_MEMBERS, MAX_BLOCKS}
+use Rattle.om_signs.specs.declared.limits.TheConstants.{MAX_ELEMENTS, MAX_MEMBERS, MAX_VALUES, MAX_BLOCKS}
 use Rattle.om_signs.specs.declared.block.Block.{Block}
 use Rattle.om_signs.specs.declared.raw_map.RawMap.{RawMap}
 use Rattle.om_signs.specs.declared.sign.Sign.{Sign}
@@ -23,7 +23,7 @@ use Rattle.om_text.specs.declared.setting.Setting.TheVariants.{Plain, Revlex, Ha
 use Rattle.om_text.specs.declared.kind.Kind.{Kind}
 use Rattle.om_text.specs.declared.kind.Kind.TheVariants as kinds
 use Rattle.om_text.specs.Words.{sign_of_byte}
-use Rattle.om_text.specs.Heading.{kind_of, numbers, opened, headed, heading, empty_body, has_elements, has_rank}
+use Rattle.om_text.specs.Heading.{kind_of, numbers, opened, headed, heading, empty_body, has_elements, has_rank, has_size}
 use Rattle.om_text.specs.Rows.{same_row, distinct}
 use Rattle.om_text.specs.Settings.{in_lexicographic_order, finished}
 use Rattle.om_text.specs.Document.{IsSpelled, are_signs, signs_of_line, members_of_line, all_signs, is_body_line, has_room, is_complete, filled, filled_body}
@@ -130,37 +130,38 @@ map_form Revlex n m f = record {
   elements = f.elements;
   rank = f.rank;
   signs = length-map (all_subsets m.elements m.rank) (λ s. slice_index_or m.signs (revlex_rank_of s) Zero) ∙ length-subsets_from 1 m.elements m.rank ∙ ap (λ n. choose n m.rank) f.elements;
+  few = f.few;
 }
 
-body_form : (s : Setting) (k : Kind) (r n : ℕ) (ls : List (List (List ℕ))) → has_rank (headed k (r, n)) ≡ true → list_all (is_body_line (headed k (r, n))) ls ≡ true → has_room (filled s (headed k (r, n)) ls) ≡ true → is_complete (filled s (headed k (r, n)) ls) ≡ true → IsBodyOn n (in_lexicographic_order s (filled_body s (empty_body k r n) ls))
-body_form s kinds.Chirotope r n ls l a m c = map_form s n (record { rank = r; elements = n; signs = all_signs ls }) (record { elements = refl; rank = leb-true r n l; signs = eqb-true _ _ c })
-body_form Plain kinds.Wiring r n ls l a m c = blocks_form ls a m
-body_form Revlex kinds.Wiring r n ls l a m c = blocks_form ls a m
-body_form Half kinds.Wiring r n ls l a m c = blocks_form ls a m
-body_form Plain kinds.Points r n ls l a m c = points_form n ls a (eqb-true _ _ c)
-body_form Revlex kinds.Points r n ls l a m c = points_form n ls a (eqb-true _ _ c)
-body_form Half kinds.Points r n ls l a m c = points_form n ls a (eqb-true _ _ c)
-body_form Plain _ r n ls l a m c = members_form Plain n ls (lines_of_signs n ls a) m
-body_form Revlex _ r n ls l a m c = members_form Revlex n ls (lines_of_signs n ls a) m
-body_form Half _ r n ls l a m c = members_form Half n ls (lines_of_signs n ls a) m
+body_form : (s : Setting) (k : Kind) (r n : ℕ) (ls : List (List (List ℕ))) → has_rank (headed k (r, n)) ≡ true → has_size (headed k (r, n)) ≡ true → list_all (is_body_line (headed k (r, n))) ls ≡ true → has_room (filled s (headed k (r, n)) ls) ≡ true → is_complete (filled s (headed k (r, n)) ls) ≡ true → IsBodyOn n (in_lexicographic_order s (filled_body s (empty_body k r n) ls))
+body_form s kinds.Chirotope r n ls l z a m c = map_form s n (record { rank = r; elements = n; signs = all_signs ls }) (record { elements = refl; rank = leb-true r n l; signs = eqb-true _ _ c; few = leb-true (choose n r) MAX_VALUES z })
+body_form Plain kinds.Wiring r n ls l z a m c = blocks_form ls a m
+body_form Revlex kinds.Wiring r n ls l z a m c = blocks_form ls a m
+body_form Half kinds.Wiring r n ls l z a m c = blocks_form ls a m
+body_form Plain kinds.Points r n ls l z a m c = points_form n ls a (eqb-true _ _ c)
+body_form Revlex kinds.Points r n ls l z a m c = points_form n ls a (eqb-true _ _ c)
+body_form Half kinds.Points r n ls l z a m c = points_form n ls a (eqb-true _ _ c)
+body_form Plain _ r n ls l z a m c = members_form Plain n ls (lines_of_signs n ls a) m
+body_form Revlex _ r n ls l z a m c = members_form Revlex n ls (lines_of_signs n ls a) m
+body_form Half _ r n ls l z a m c = members_form Half n ls (lines_of_signs n ls a) m
 
-head_form : (names : List (List ℕ)) (s : Setting) (k : Kind) (p : ℕ × ℕ) (ls : List (List (List ℕ))) → has_elements (headed k p) ≡ true → has_rank (headed k p) ≡ true → list_all (is_body_line (headed k p)) ls ≡ true → has_room (filled s (headed k p) ls) ≡ true → is_complete (filled s (headed k p) ls) ≡ true → AreNamesOn p.1 names → IsInForm (finished names s (filled s (headed k p) ls))
-head_form names s k p ls e l a m c w =
+head_form : (names : List (List ℕ)) (s : Setting) (k : Kind) (p : ℕ × ℕ) (ls : List (List (List ℕ))) → has_elements (headed k p) ≡ true → has_rank (headed k p) ≡ true → has_size (headed k p) ≡ true → list_all (is_body_line (headed k p)) ls ≡ true → has_room (filled s (headed k p) ls) ≡ true → is_complete (filled s (headed k p) ls) ≡ true → AreNamesOn p.1 names → IsInForm (finished names s (filled s (headed k p) ls))
+head_form names s k p ls e l z a m c w =
     let b = both (nat_le 1 p.1) (nat_le p.1 MAX_ELEMENTS) e in
     record {
       low = leb-true 1 p.1 b.0;
       high = leb-true p.1 MAX_ELEMENTS b.1;
-      body = body_form s k p.0 p.1 ls l a m c;
+      body = body_form s k p.0 p.1 ls l z a m c;
       names = w;
     }
 
-spelled_form : (names : List (List ℕ)) (s : Setting) (w : List ℕ) (ws : List (List ℕ)) (head : Document) (ls : List (List (List ℕ))) → heading (w ∷ ws) ≡ Some head → has_elements head ≡ true → has_rank head ≡ true → list_all (is_body_line head) ls ≡ true → has_room (filled s head ls) ≡ true → is_complete (filled s head ls) ≡ true → AreNamesOn head.elements names → IsInForm (finished names s (filled s head ls))
-spelled_form names s w ws head ls h e l a m c g =
+spelled_form : (names : List (List ℕ)) (s : Setting) (w : List ℕ) (ws : List (List ℕ)) (head : Document) (ls : List (List (List ℕ))) → heading (w ∷ ws) ≡ Some head → has_elements head ≡ true → has_rank head ≡ true → has_size head ≡ true → list_all (is_body_line head) ls ≡ true → has_room (filled s head ls) ≡ true → is_complete (filled s head ls) ≡ true → AreNamesOn head.elements names → IsInForm (finished names s (filled s head ls))
+spelled_form names s w ws head ls h e l z a m c g =
     let k = named (kind_of w) (λ k. opened k ws) head h in
     let q : opened k.0 ws ≡ Some head = rw k.1 at h in
     let p = mapped (numbers k.0 ws) (headed k.0) head q in
     let f = head_form names s k.0 p.0 ls in
-    subst (λ h. has_elements h ≡ true → has_rank h ≡ true → list_all (is_body_line h) ls ≡ true → has_room (filled s h ls) ≡ true → is_complete (filled s h ls) ≡ true → AreNamesOn h.elements names → IsInForm (finished names s (filled s h ls))) p.1 f e l a m c g
+    subst (λ h. has_elements h ≡ true → has_rank h ≡ true → has_size h ≡ true → list_all (is_body_line h) ls ≡ true → has_room (filled s h ls) ≡ true → is_complete (filled s h ls) ≡ true → AreNamesOn h.elements names → IsInForm (finished names s (filled s h ls))) p.1 f e l z a m c g
 
 -- what a document's lines give is in form
 pub document_form : (ls : List (List (List ℕ))) (d : Document) → IsSpelled ls d → IsInForm d
@@ -168,4 +169,4 @@ document_form ls d s = at s.kind_line s.heading
   where
     at : (w : List (List ℕ)) → heading w ≡ Some s.head → IsInForm d
     at [] h = cc
-    at (w ∷ ws) h = subst IsInForm (sym s.value) (spelled_form s.names s.setting w ws s.head s.body h s.elements s.rank s.each s.room s.complete (settings_names s.version s.head s.settings s.names s.setting s.set))
+    at (w ∷ ws) h = subst IsInForm (sym s.value) (spelled_form s.names s.setting w ws s.head s.body h s.elements s.rank s.size s.each s.room s.complete (settings_names s.version s.head s.settings s.names s.setting s.set))

@@ -5,14 +5,15 @@
 use Rattle.std.proofs.Common.{◌≡◌, ℕ, ◌<◌, ◌≤◌, ◌^◌, List, [], ◌∷◌, true, refl, ap, ◌∙◌, arith}
 use Rattle.std.specs.Prelude.{codes, decimal, Some, option_and_then}
 use Rattle.std.proofs.lemmas.Bool.{le-leb}
-use Rattle.om_signs.specs.declared.limits.TheConstants.{MAX_ELEMENTS}
+use Rattle.om_signs.specs.declared.limits.TheConstants.{MAX_ELEMENTS, MAX_VALUES}
+use Rattle.om_subsets.specs.Subsets.{choose}
 use Rattle.om_text.specs.declared.document.Document.{Document}
 use Rattle.om_text.specs.declared.body.Body.{Body}
 use Rattle.om_text.specs.declared.body.Body.TheVariants.{Chirotope, Circuits, Cocircuits, Covectors, Wiring, Points}
 use Rattle.om_text.specs.declared.kind.Kind.{Kind}
 use Rattle.om_text.specs.declared.kind.Kind.TheVariants as kinds
 use Rattle.om_text.specs.Lines.{has_any, words}
-use Rattle.om_text.specs.Heading.{kind_name, kind_of, heading, headed, opened, rank_of_body, has_elements, has_rank}
+use Rattle.om_text.specs.Heading.{kind_name, kind_of, heading, headed, opened, rank_of_body, has_elements, has_rank, has_size}
 use Rattle.om_text.specs.Form.{IsInForm, IsBodyOn}
 use Rattle.om_text.specs.Print.{kind_text}
 use Rattle.om_text.proofs.Feeds.{is_one_line}
@@ -41,6 +42,7 @@ pub record IsKindLine (d head : Document) : Type 0 where
   pub opens : heading kind_words ≡ Some head
   pub elements : has_elements head ≡ true
   pub rank : has_rank head ≡ true
+  pub size : has_size head ≡ true
 
 opens_list : (w : List ℕ) (k : Kind) (n : ℕ) → IsNumber n → kind_of w ≡ Some k → opened k (decimal n ∷ []) ≡ Some (headed k (0, n)) → heading (w ∷ decimal n ∷ []) ≡ Some (headed k (0, n))
 opens_list w k n h m o = ap (option_and_then (λ k. opened k (decimal n ∷ []))) m ∙ o
@@ -48,9 +50,9 @@ opens_list w k n h m o = ap (option_and_then (λ k. opened k (decimal n ∷ []))
 numbers_small : (n r : ℕ) → n ≤ MAX_ELEMENTS → r ≤ n → r < 10 ^ 6
 numbers_small n r h l = omega arith
 
-line_read : (n : ℕ) (b : Body) (names : List (List ℕ)) → 1 ≤ n → n ≤ MAX_ELEMENTS → rank_of_body b ≤ n → IsKindLine (record { elements = n; body = b; names = names }) (headed (kind_of_body b) (rank_of_body b, n))
-line_read n (Chirotope m) names low high r =
-    let hr = number_word m.rank (numbers_small n m.rank high r) in
+line_read : (n : ℕ) (b : Body) (names : List (List ℕ)) → 1 ≤ n → n ≤ MAX_ELEMENTS → IsBodyOn n b → IsKindLine (record { elements = n; body = b; names = names }) (headed (kind_of_body b) (rank_of_body b, n))
+line_read n (Chirotope m) names low high f =
+    let hr = number_word m.rank (numbers_small n m.rank high f.rank) in
     let hn = number_word n (numbers_small n n high (omega arith)) in
     record {
       kind_words = codes "chirotope" ∷ decimal m.rank ∷ decimal n ∷ [];
@@ -59,9 +61,10 @@ line_read n (Chirotope m) names low high r =
       one_line = three_one_line (codes "chirotope") (decimal m.rank) (decimal n) refl hr.bytes hn.bytes;
       opens = rw (hr.value, hn.value) refl;
       elements = rw (le-leb 1 n low, le-leb n MAX_ELEMENTS high) refl;
-      rank = le-leb m.rank n r;
+      rank = le-leb m.rank n f.rank;
+      size = le-leb (choose n m.rank) MAX_VALUES f.few;
     }
-line_read n b names low high r =
+line_read n b names low high f =
     let k = number_word n (numbers_small n n high (omega arith)) in
     record {
       kind_words = kind_name b ∷ decimal n ∷ [];
@@ -71,11 +74,8 @@ line_read n b names low high r =
       opens = opens_list (kind_name b) (kind_of_body b) n k refl (rw k.value refl);
       elements = rw (le-leb 1 n low, le-leb n MAX_ELEMENTS high) refl;
       rank = le-leb 0 n (omega arith);
+      size = refl;
     }
 
-rank_within : (n : ℕ) (b : Body) → IsBodyOn n b → rank_of_body b ≤ n
-rank_within n (Chirotope m) h = h.rank
-rank_within n b h = omega arith
-
 pub kind_line_read : (d : Document) → IsInForm d → IsKindLine d (head_of d)
-kind_line_read d f = line_read d.elements d.body d.names f.low f.high (rank_within d.elements d.body f.body)
+kind_line_read d f = line_read d.elements d.body d.names f.low f.high f.body

@@ -21,7 +21,7 @@ use Rattle.om_text.specs.declared.setting.Setting.{Setting}
 use Rattle.om_text.specs.declared.version.Version.{Version}
 use Rattle.om_text.specs.Settings.{is_line, version_of, begins_as_setting, other_words, is_names_line, setting_in}
 use Rattle.om_text.specs.Document.{IsDocument, end_line, has_signs, has_length, has_blocks, has_numbers, has_room, is_complete}
-use Rattle.om_text.specs.Heading.{first_word, kind_of, heading, has_elements, has_rank, rank_of_body}
+use Rattle.om_text.specs.Heading.{first_word, kind_of, heading, has_elements, has_rank, has_size, rank_of_body, values_of_body}
 use Rattle.om_text.specs.Fault.{IsFault}
 use Rattle.om_text.specs.Form.{IsInForm}
 use Rattle.om_text.specs.Parsed.{ComesTo, IfLine}
@@ -29,7 +29,7 @@ use Rattle.om_text.specs.declared.parse_error.ParseError.{ParseError}
 use Rattle.om_text.specs.declared.parse_error.ParseError.TheVariants as error
 use Rattle.om_text.specs.Part.{EndsWithEnd, IsPart}
 use Rattle.om_text.specs.Print.{text_of}
-use Rattle.om_text.specs.Reading.{step, advance, with_version, first_draft, with_heading, takes_settings, with_names, with_setting, after_choice, after_setting, after_body, finished_draft, after_end, added, is_closed, outcome}
+use Rattle.om_text.specs.Reading.{step, advance, with_version, first_draft, in_size, with_heading, takes_settings, with_names, with_setting, after_choice, after_setting, after_body, finished_draft, after_end, added, is_closed, outcome}
 use Rattle.om_text.specs.Steps.{step_if}
 use Rattle.om_text.specs.Added.{Gives, fault_at, IsWhole, IsFront}
 use Rattle.om_text.specs.declared.refusal.Refusal.{Refusal}
@@ -37,7 +37,7 @@ use Rattle.om_text.specs.declared.refusal.Refusal.TheVariants as refusal
 use Rattle.om_text.proofs.Distinct.{either, both}
 use Rattle.om_text.proofs.Feeds.{is_one_line, lines_text, lines_one_line, one_line-append}
 use Rattle.om_text.proofs.Filling.{is_line-Decides}
-use Rattle.om_text.proofs.Course.{cond_ok, cond_err, ok_same, taken, run_words, spelled_run}
+use Rattle.om_text.proofs.Course.{cond_err, ok_same, heading_ok, taken, run_words, spelled_run}
 use Rattle.om_text.proofs.Forms.{document_form}
 use Rattle.om_text.proofs.Printing.{text_of-append}
 use Rattle.om_text.proofs.Outcome.{fault_from, outcome_from, same_value, same_fault, begun, run_document, run_next, run_on, outcome_run, take_front}
@@ -55,9 +55,7 @@ version_opens (Some v) t h = sym (ap is_closed (ok_same (Versioned v) t h))
 heading_opens : (v : Version) (o : Option Document) (t : State) → with_heading v o ≡ Ok t → is_closed t ≡ false
 heading_opens v None t g = cc
 heading_opens v (Some d) t g =
-    let a = cond_ok (has_elements d) (cond (has_rank d) (Ok (Open (first_draft v d))) (Err (code.Rank (rank_of_body d.body)))) (code.Elements d.elements) t g in
-    let b = cond_ok (has_rank d) (Ok (Open (first_draft v d))) (code.Rank (rank_of_body d.body)) t a.1 in
-    open_state (first_draft v d) t b.1
+    sym (ap is_closed (heading_ok v d t g).state)
 
 setting_opens : (d : Draft) (o : Option Setting) (t : State) → with_setting d o ≡ Ok t → is_closed t ≡ false
 setting_opens d None t h = cc
@@ -121,8 +119,9 @@ version_not (Some v) c h = cc
 heading_not : (v : Version) (o : Option Document) (c : Code) → with_heading v o ≡ Err c → c ≡ code.After → ⊥
 heading_not v None c h = keeps_not false code.Header c (Err code.Header) (λ e. cc) (λ g e. cc) h
 heading_not v (Some d) c h =
-    keeps_not (has_elements d) (code.Elements d.elements) c (cond (has_rank d) (Ok (Open (first_draft v d))) (Err (code.Rank (rank_of_body d.body)))) (λ e. cc)
-    (λ g. keeps_not (has_rank d) (code.Rank (rank_of_body d.body)) c (Ok (Open (first_draft v d))) (λ e. cc) (no_error _ c) g) h
+    keeps_not (has_elements d) (code.Elements d.elements) c (cond (has_rank d) (in_size v d) (Err (code.Rank (rank_of_body d.body)))) (λ e. cc)
+    (λ g. keeps_not (has_rank d) (code.Rank (rank_of_body d.body)) c (in_size v d) (λ e. cc)
+    (λ k. keeps_not (has_size d) (code.Size (values_of_body d.body)) c (Ok (Open (first_draft v d))) (λ e. cc) (no_error _ c) k) g) h
 
 no_setting : (c : Code) → ◌≡◌ {A = Result State Code} (Err code.Setting) (Err c) → c ≡ code.After → ⊥
 no_setting c h = keeps_not false code.Setting c (Err code.Setting) (λ e. cc) (λ g e. cc) h

@@ -75,7 +75,7 @@ short = fault_from _ _ _ refl
 unfinished : IsFault (codes "om 1" ∷ codes "points 2" ∷ codes "1 0 0" ∷ []) 4 code.Missing
 unfinished = fault_from _ _ _ refl
 
-many_elements : IsFault (codes "om 1" ∷ codes "points 17" ∷ []) 2 (code.Elements 17)
+many_elements : IsFault (codes "om 1" ∷ codes "points 21" ∷ []) 2 (code.Elements 21)
 many_elements = fault_from _ _ _ refl
 
 printed_lines : point_lines ((pos 1 ∷ negsuc 1 ∷ pos 0 ∷ []) ∷ []) ≡ codes "1 -2 0" ∷ []

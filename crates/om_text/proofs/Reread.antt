@@ -70,6 +70,7 @@ reread d f p =
       heading = k.opens;
       elements = k.elements;
       rank = k.rank;
+      size = k.size;
       set = refl;
       each = p.each;
       room = ap has_room p.value ∙ p.room;

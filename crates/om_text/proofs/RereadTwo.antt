@@ -107,6 +107,7 @@ reread_two d f p =
       heading = k.opens;
       elements = k.elements;
       rank = k.rank;
+      size = k.size;
       set = settings_read d f p;
       each = p.each;
       room = p.room;

@@ -45,6 +45,9 @@ short = fault_from _ _ _ refl
 above : IsFault (codes "om 1" ∷ codes "chirotope 5 4" ∷ codes "end" ∷ []) 2 (code.Rank 5)
 above = fault_from _ _ _ refl
 
+wide : IsFault (codes "om 1" ∷ codes "chirotope 7 17" ∷ codes "end" ∷ []) 2 (code.Size 19448)
+wide = fault_from _ _ _ refl
+
 -- a line in place of the end line is a body line
 other_end : IsFault (codes "om 1" ∷ codes "chirotope 0 1" ∷ codes "+" ∷ codes "foo" ∷ []) 4 code.Sign
 other_end = fault_from _ _ _ refl

@@ -2,7 +2,7 @@
 --
 -- Main results: advance_small, outcome_step
 use Rattle.std.proofs.Common.{◌≡◌, ℕ, ◌+◌, ◌≤◌, List, [], ◌∷◌, true, cond, ◌&&◌, refl, sym, subst, inl, inr}
-use Rattle.std.specs.Prelude.{Option, Some, None, Result, Ok, Err, is_none, option_map, nat_le}
+use Rattle.std.specs.Prelude.{Option, Some, None, Result, Ok, is_none, option_map, nat_le}
 use Rattle.std.proofs.lemmas.Bool.{leb-true}
 use Rattle.om_signs.specs.declared.limits.TheConstants.{MAX_ELEMENTS}
 use Rattle.om_text.specs.declared.document.Document.{Document}
@@ -28,7 +28,7 @@ use Rattle.om_text.specs.Reading.{step, advance, with_version, first_draft, with
 use Rattle.om_text.specs.Steps.{step_if}
 use Rattle.om_text.specs.Added.{IsSmall, IsSmallBody, IsSmallState}
 use Rattle.om_text.proofs.Distinct.{either, both}
-use Rattle.om_text.proofs.Course.{cond_ok, cond_err, ok_same, named, taken}
+use Rattle.om_text.proofs.Course.{cond_ok, cond_err, ok_same, heading_ok, named, taken}
 
 pub mapped : (o : Option (ℕ × ℕ)) (f : ℕ × ℕ → Document) (d : Document) → option_map f o ≡ Some d → (p : ℕ × ℕ) × (f p ≡ d)
 mapped None f d h = cc
@@ -57,9 +57,8 @@ heading_small v (w ∷ ws) d h e r =
 kind_small : (v : Version) (o : Option Document) (w : List (List ℕ)) (t : State) → heading w ≡ o → with_heading v o ≡ Ok t → IsSmallState t
 kind_small v None w t e h = cc
 kind_small v (Some d) w t e h =
-    let a = cond_ok (has_elements d) (cond (has_rank d) (Ok (Open (first_draft v d))) (Err (code.Rank (rank_of_body d.body)))) (code.Elements d.elements) t h in
-    let b = cond_ok (has_rank d) (Ok (Open (first_draft v d))) (code.Rank (rank_of_body d.body)) t a.1 in
-    subst IsSmallState (ok_same _ _ b.1) (heading_small v w d e a.0 b.0)
+    let a = heading_ok v d t h in
+    subst IsSmallState a.state (heading_small v w d e a.elements a.rank)
 
 version_small : (o : Option Version) (t : State) → with_version o ≡ Ok t → IsSmallState t
 version_small None t h = cc

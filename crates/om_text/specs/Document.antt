@@ -12,7 +12,7 @@ use Rattle.om_text.specs.declared.body.Body.{Body}
 use Rattle.om_text.specs.declared.body.Body.TheVariants.{Chirotope, Wiring, Points}
 use Rattle.om_text.specs.Lines.{wordful}
 use Rattle.om_text.specs.Words.{is_sign, sign_of_byte}
-use Rattle.om_text.specs.Heading.{heading, has_elements, has_rank}
+use Rattle.om_text.specs.Heading.{heading, has_elements, has_rank, has_size}
 use Rattle.om_text.specs.declared.version.Version.{Version}
 use Rattle.om_text.specs.declared.setting.Setting.{Setting}
 use Rattle.om_text.specs.declared.setting.Setting.TheVariants.{Half}
@@ -143,6 +143,7 @@ pub record IsSpelled (ls : List (List (List ℕ))) (d : Document) : Type 0 where
   pub heading : heading kind_line ≡ Some head
   pub elements : has_elements head ≡ true
   pub rank : has_rank head ≡ true
+  pub size : has_size head ≡ true
   pub set : settings_in version head settings ≡ Some (names, setting)
   pub each : list_all (is_body_line head) body ≡ true
   pub room : has_room (filled setting head body) ≡ true

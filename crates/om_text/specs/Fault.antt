@@ -12,7 +12,7 @@ use Rattle.om_text.specs.declared.setting.Setting.{Setting}
 use Rattle.om_text.specs.Lines.{words, wordful}
 use Rattle.om_text.specs.Settings.{is_line, version_of, begins_as_setting, settings_of, settings_in, front_settings, behind_settings}
 use Rattle.om_text.specs.Document.{IsDocument, end_line, has_signs, has_length, has_blocks, has_numbers, filled, has_room, is_complete}
-use Rattle.om_text.specs.Heading.{first_word, kind_of, heading, has_elements, has_rank, rank_of_body}
+use Rattle.om_text.specs.Heading.{first_word, kind_of, heading, has_elements, has_rank, has_size, rank_of_body, values_of_body}
 
 -- What a line with words is, by the lines with words before it: the first line, the kind line, a line that begins as a setting
 -- line does, directly after the kind line of version 2 and the setting lines so far, a line in the body of a document after its
@@ -79,6 +79,11 @@ abbrev pub rank : Place → List (List ℕ) → Option Code
 rank kind w = option_and_then (λ d. when (not (has_rank d)) (code.Rank (rank_of_body d.body))) (heading w)
 rank _ w = None
 
+-- a map has more values than it may have
+abbrev pub size : Place → List (List ℕ) → Option Code
+size kind w = option_and_then (λ d. when (not (has_size d)) (code.Size (values_of_body d.body))) (heading w)
+size _ w = None
+
 -- a line that begins as a setting line does isn't one that may stand there
 abbrev pub setting_row : Place → List (List ℕ) → Option Code
 setting_row (setting d ls) w = when (is_none (settings_of d (ls ++ w ∷ []))) code.Setting
@@ -127,6 +132,7 @@ table p w =
     ∷ header p w
     ∷ elements p w
     ∷ rank p w
+    ∷ size p w
     ∷ setting_row p w
     ∷ sign p w
     ∷ length_row p w

@@ -2,7 +2,7 @@
 --
 -- Trusted: `parse` promises them, and `print` asks for them.
 use Rattle.std.specs.Prelude.{ℕ, ◌≡◌, ◌≢◌, ◌<◌, ◌≤◌, ◌⊎◌, ℤ, unsigned_abs, List, [], true, length, All, AllPairs}
-use Rattle.om_signs.specs.declared.limits.TheConstants.{MAX_ELEMENTS, MAX_MEMBERS, MAX_BLOCKS, MAX_COORDINATE}
+use Rattle.om_signs.specs.declared.limits.TheConstants.{MAX_ELEMENTS, MAX_MEMBERS, MAX_VALUES, MAX_BLOCKS, MAX_COORDINATE}
 use Rattle.om_signs.specs.declared.block.Block.{Block}
 use Rattle.om_signs.specs.declared.sign.Sign.{Sign}
 use Rattle.om_signs.specs.declared.raw_map.RawMap.{RawMap}
@@ -13,11 +13,12 @@ use Rattle.om_text.specs.declared.body.Body.TheVariants.{Chirotope, Wiring, Poin
 use Rattle.om_text.specs.Members.{members_of}
 use Rattle.om_text.specs.Names.{are_names}
 
--- a map on n elements, with a value for each set of its rank
+-- a map on n elements, with a value for each set of its rank, and no more values than a map may have
 pub record IsMapOn (n : ℕ) (m : RawMap) : Type 0 where
   pub elements : m.elements ≡ n
   pub rank : m.rank ≤ n
   pub signs : length m.signs ≡ choose n m.rank
+  pub few : choose n m.rank ≤ MAX_VALUES
 
 -- different sign vectors on n elements, no more than a list may have
 pub record AreMembersOn (n : ℕ) (ms : List (List Sign)) : Type 0 where

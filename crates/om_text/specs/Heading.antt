@@ -2,7 +2,8 @@
 --
 -- Trusted: what a document is rests on these definitions.
 use Rattle.std.specs.Prelude.{ℕ, List, [], ◌∷◌, Bool, cond, nat_le, ◌&&◌, codes, Option, Some, None, bytes_eq, option_and_then, option_map}
-use Rattle.om_signs.specs.declared.limits.TheConstants.{MAX_ELEMENTS}
+use Rattle.om_signs.specs.declared.limits.TheConstants.{MAX_ELEMENTS, MAX_VALUES}
+use Rattle.om_subsets.specs.Subsets.{choose}
 use Rattle.om_text.specs.declared.document.Document.{Document}
 use Rattle.om_text.specs.declared.body.Body.{Body}
 use Rattle.om_text.specs.declared.body.Body.TheVariants.{Chirotope, Circuits, Cocircuits, Covectors, Wiring, Points}
@@ -82,6 +83,11 @@ abbrev pub rank_of_body : Body → ℕ
 rank_of_body (Chirotope m) = m.rank
 rank_of_body _ = 0
 
+-- how many values a kind line gives; 0 where the kind has none
+abbrev pub values_of_body : Body → ℕ
+values_of_body (Chirotope m) = choose m.elements m.rank
+values_of_body _ = 0
+
 -- from 1 element to the most that a document may have
 abbrev pub has_elements : Document → Bool
 has_elements d = nat_le 1 d.elements && nat_le d.elements MAX_ELEMENTS
@@ -89,3 +95,7 @@ has_elements d = nat_le 1 d.elements && nat_le d.elements MAX_ELEMENTS
 -- a rank of 0 to the number of elements
 abbrev pub has_rank : Document → Bool
 has_rank d = nat_le (rank_of_body d.body) d.elements
+
+-- no more values than a map may have
+abbrev pub has_size : Document → Bool
+has_size d = nat_le (values_of_body d.body) MAX_VALUES

@@ -24,7 +24,7 @@ use Rattle.om_text.specs.Blocks.{blocks_on}
 use Rattle.om_text.specs.Points.{point_on}
 use Rattle.om_text.specs.Settings.{is_line, version_of, begins_as_setting, other_words, is_names_line, setting_in, finished}
 use Rattle.om_text.specs.Document.{end_line, signs_of_line, has_signs, has_length, has_blocks, has_numbers, filled, has_room, is_complete}
-use Rattle.om_text.specs.Heading.{first_word, kind_of, heading, has_elements, has_rank, rank_of_body}
+use Rattle.om_text.specs.Heading.{first_word, kind_of, heading, has_elements, has_rank, has_size, rank_of_body, values_of_body}
 
 -- a member at the end, if it isn't there
 abbrev pub with_member : List (List Sign) → List Sign → List (List Sign)
@@ -72,9 +72,13 @@ draft_of names s d g = record { document = record { elements = d.elements; body 
 abbrev pub first_draft : Version → Document → Draft
 first_draft v d = draft_of [] Plain (filled Plain d []) (first_stage v)
 
--- this draft, if its numbers are in range
+-- this draft, if its map has no more values than it may have
+abbrev pub in_size : Version → Document → Result State Code
+in_size v d = cond (has_size d) (Ok (Open (first_draft v d))) (Err (code.Size (values_of_body d.body)))
+
+-- the same, if its numbers are in range
 abbrev pub in_range : Version → Document → Result State Code
-in_range v d = cond (has_elements d) (cond (has_rank d) (Ok (Open (first_draft v d))) (Err (code.Rank (rank_of_body d.body)))) (Err (code.Elements d.elements))
+in_range v d = cond (has_elements d) (cond (has_rank d) (in_size v d) (Err (code.Rank (rank_of_body d.body)))) (Err (code.Elements d.elements))
 
 -- the same of what a kind line opens
 abbrev pub with_heading : Version → Option Document → Result State Code

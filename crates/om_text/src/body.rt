@@ -5,7 +5,7 @@ use om_signs::{Block, List, RawMap, SignVec};
 /// The members of a list are distinct, and stand in the order of their first lines.
 #[derive(Drop)]
 pub enum Body {
-    /// The values of a map on the sets of its rank, in lexicographic order of the sets.
+    /// The values of a map on the sets of its rank, in lexicographic order of the sets: at most [`om_signs::MAX_VALUES`].
     Chirotope(RawMap),
     /// The signed circuits.
     Circuits(List<SignVec>),

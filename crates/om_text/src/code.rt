@@ -18,6 +18,9 @@ pub enum Code {
     /// The kind line gives the rank `r`, and this is above the number of elements.
     #[error("rank {r} is above the number of elements")]
     Rank { r: u32 },
+    /// The kind line gives a map this many values, one for each set of its rank, and this is above [`om_signs::MAX_VALUES`].
+    #[error("{values} values are more than a map may have")]
+    Size { values: u32 },
     /// In version 2, a line directly after the kind line or after setting lines begins with `names`, `order` or `half`, and
     /// isn't a setting line that may stand there.
     #[error("the line is no setting that may stand here")]

@@ -1,9 +1,9 @@
 //! The kind line.
 
-ghost use Rattle.std.specs.Prelude.{◌≡◌, ℕ, ◌<◌, [], IfSome, IfNone, Some, None};
+ghost use Rattle.std.specs.Prelude.{◌≡◌, ℕ, ◌≤◌, [], IfSome, IfNone, Some, None};
 ghost use Rattle.om_text.specs.Lines.{runs};
 ghost use Rattle.om_text.specs.Words.{plain};
-ghost use Rattle.om_text.specs.Heading.{kind_of, plain_numbers, sizes, numbers, headed, rank_of_body, empty_body};
+ghost use Rattle.om_text.specs.Heading.{kind_of, plain_numbers, sizes, numbers, headed, rank_of_body, values_of_body, empty_body};
 ghost use Rattle.om_text.specs.declared.setting.Setting.TheVariants.{Plain};
 ghost use Rattle.om_text.specs.Document.{filled_body};
 ghost use Rattle.om_text.specs.Reading.{in_range, first_stage, after_kind};
@@ -18,7 +18,8 @@ use super::stage::Stage;
 use super::state::State;
 use super::version::Version;
 use super::words::plain_number;
-use om_signs::{List, MAX_ELEMENTS, RawMap};
+use om_signs::{List, MAX_ELEMENTS, MAX_VALUES, RawMap};
+use om_subsets::Subset;
 use smallvec::SmallVec;
 use std::alloc::Global;
 
@@ -122,6 +123,17 @@ fn rank_given(kind: Kind, rank: u32) -> u32
     }
 }
 
+/// How many values a kind line gives: only a map has them.
+fn values_given(kind: Kind, rank: u8, elements: u8) -> u32
+    requires { elements ≤ MAX_ELEMENTS }
+    ensures { result ≡ values_of_body (empty_body kind rank elements) }
+{
+    match kind {
+        Kind::Chirotope => Subset::choose(elements, rank),
+        Kind::Circuits | Kind::Cocircuits | Kind::Covectors | Kind::Wiring | Kind::Points => 0,
+    }
+}
+
 /// Which setting lines may come after the kind line.
 fn first_stage(version: Version) -> Stage
     ensures { result ≡ first_stage version }
@@ -147,6 +159,10 @@ fn open(
     let rank = rank_given(kind, given);
     if elements < rank {
         return Err(Code::Rank { r: rank });
+    }
+    let values = values_given(kind, rank as u8, elements as u8);
+    if MAX_VALUES < values {
+        return Err(Code::Size { values });
     }
     Ok(State::Open(Draft {
         document: Document {

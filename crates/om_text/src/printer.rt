@@ -214,8 +214,9 @@ fn push_body(out: &mut Vec<u8>, body: &Body, elements: u8) -> Result<(), NoMemor
 /// one a line in their order, with single spaces.
 ///
 /// The document has the forms and is within the limits that [`crate::parse`] promises: its numbers are in range, a map has
-/// a value for each set of its rank, the members of a list are different and have a sign for each element, the positions of
-/// blocks are at most 999, and there is a point for each element. Reading the canonical form gives it back with its members sorted.
+/// a value for each set of its rank and no more than [`om_signs::MAX_VALUES`], the members of a list are different and have a
+/// sign for each element, the positions of blocks are at most 999, and there is a point for each element. Reading the
+/// canonical form gives it back with its members sorted.
 pub fn print(alloc: Global, document: &Document) -> Result<Vec<u8>, NoMemory>
     requires form { IsInForm document.now }
     ensures bytes { IfOk result (λ bytes. bytes.items ≡ printed document.now) }

@@ -276,8 +276,8 @@ fn whole(alloc: Global, bytes: &[u8]) -> Result<Document, ParseError>
 /// are the longest runs of bytes other than space, tab and carriage return; a line without words is passed over. The lines
 /// with words are `om 1` or `om 2`, a kind line (`chirotope r n`, `circuits n`, `cocircuits n`, `covectors n`, `wiring n` or
 /// `points n`), after `om 2` setting lines, body lines, and `end`. The body of a map or a list has the signs `+`, `-` and
-/// `0`: a map exactly one for each set of `r` elements, joined over all body lines; a list one member of `n` signs a line,
-/// and a repeated line adds nothing. A wiring has words `i-j`, two numbers of at most three digits without a leading zero,
+/// `0`: a map exactly one for each set of `r` elements, at most [`om_signs::MAX_VALUES`], joined over all body lines; a list
+/// one member of `n` signs a line, and a repeated line adds nothing. A wiring has words `i-j`, two numbers of at most three digits without a leading zero,
 /// one block each. Points have exactly `n` lines of three numbers of a size of at most [`om_signs::MAX_COORDINATE`]: decimal
 /// digits without a leading zero, with or without a `-` before them, and `0` without one.
 ///

@@ -30,11 +30,24 @@ om 1/chirotope 3 1000000 = 2 Header
 om 1/chirotope 1 1 1 1 1 1 1 1 1 1 1 1 1 1 1 1 1 1 = 2 Header
 om 1/circuits 3 3/ = 2 Header
 om 1/points 3 3/ = 2 Header
-om 1/chirotope 3 17/end/ = 2 Elements { n: 17 }
-om 1/points 17/ = 2 Elements { n: 17 }
+om 1/chirotope 3 21/end/ = 2 Elements { n: 21 }
+om 1/points 21/ = 2 Elements { n: 21 }
 om 1/chirotope 5 0/ = 2 Elements { n: 0 }
-om 1/chirotope 18 17/ = 2 Elements { n: 17 }
-om 1/chirotope 5 4/end/ = 2 Rank { r: 5 }";
+om 1/chirotope 7 21/ = 2 Elements { n: 21 }
+om 1/chirotope 22 21/ = 2 Elements { n: 21 }
+om 1/chirotope 5 4/end/ = 2 Rank { r: 5 }
+om 1/chirotope 17 7/end/ = 2 Rank { r: 17 }
+om 1/chirotope 21 20/ = 2 Rank { r: 21 }
+om 1/chirotope 7 17/end/ = 2 Size { values: 19448 }
+om 1/chirotope 10 20/ = 2 Size { values: 184756 }
+om 1/chirotope 5 20/ = 2 Size { values: 15504 }
+om 2/chirotope 12 20/order revlex/ = 2 Size { values: 125970 }
+om 1/chirotope 4 20/ = 3 Missing
+om 1/chirotope 8 16/ = 3 Missing
+om 2/chirotope 11 17/order revlex/ = 4 Missing
+om 1/chirotope 20 20/ = 3 Missing
+om 1/cocircuits 20/ = 3 Missing
+om 1/wiring 20/ = 3 Missing";
 
 /// Inputs whose first fault lies in the body or behind it.
 const FAULTS_OF_BODIES: &str = "om 1/chirotope 3 4/++++/ = 4 Missing
@@ -174,12 +187,10 @@ om 1/wiring 3/end = ";
 
 /// How many lines fewer than half of the greatest number of members a list of halves has, no two of them equal or opposite,
 /// which lines come behind them, and the line at fault, less the number of those lines, with its code.
-const ENDS_OF_HALVES: [(usize, &str, usize, &str); 5] = [
-    (0, "", 4, "Missing"),
-    (0, "-+++++++++++++++/", 5, "Missing"),
-    (0, "+000000000000000/", 4, "Many"),
-    (0, "0000000000000000/", 4, "Many"),
-    (1, "0000000000000000/+000000000000000/", 5, "Many"),
+const ENDS_OF_HALVES: [(usize, &str, usize, &str); 3] = [
+    (0, "-+++++++++++++++++++/", 5, "Missing"),
+    (0, "+0000000000000000000/", 4, "Many"),
+    (1, "00000000000000000000/+0000000000000000000/", 5, "Many"),
 ];
 
 /// The bytes of a text.
@@ -286,12 +297,12 @@ fn names_of_elements(rt: HostRuntime) -> Result<(), Fail> {
     Ok(())
 }
 
-/// A list of halves on 16 elements with this many lines, no two of them equal or opposite, and the lines behind them.
+/// A list of halves on 20 elements with this many lines, no two of them equal or opposite, and the lines behind them.
 fn halves(alloc: Global, count: usize, last: &str) -> Result<Vec<u8>, Fail> {
-    let mut bytes = bytes_of(alloc, "om 2/cocircuits 16/half/")?;
+    let mut bytes = bytes_of(alloc, "om 2/cocircuits 20/half/")?;
     for number in 0..count {
         bytes.push(b'+')?;
-        for bit in 0..15u32 {
+        for bit in 0..19u32 {
             bytes.push(if number >> bit & 1 == 1 { b'+' } else { b'-' })?;
         }
         bytes.push(b'\n')?;
@@ -318,7 +329,7 @@ fn halves_up_to_the_greatest_number_of_members(rt: HostRuntime) -> Result<(), Fa
     let bytes = halves(rt.alloc(), MAX_MEMBERS / 2, "end")?;
     let found = reading(rt.alloc(), bytes.as_slice())?;
     // two lines, a line for each member, and the line `end`
-    assert!(rt; found.len() == 5 + 14 + 17 * MAX_MEMBERS + 4);
+    assert!(rt; found.len() == 5 + 14 + 21 * MAX_MEMBERS + 4);
     Ok(())
 }
 
