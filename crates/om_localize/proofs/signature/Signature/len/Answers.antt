@@ -2,4 +2,4 @@ use Rattle.om_localize.proofs.SignatureLaws.{length_in}
 use Rattle.om_localize.proofs.signature.Signature.len.Goals as goal
 
 pub returns-clause-value : goal.returns-clause-value
-returns-clause-value c = length_in _ _ _ c.self.view_is
+returns-clause-value c = length_in _ _ _ _ _ c.self.view_is
