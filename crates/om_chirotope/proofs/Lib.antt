@@ -11,6 +11,7 @@ pub mod SortedTuples
 pub mod Theory
 pub mod ExchangeForms
 pub mod ThreeTerms
+pub mod Words
 pub mod Marks
 pub mod Rows
 pub mod SignChecks

@@ -1,6 +1,7 @@
 pub mod Map
 pub mod Chirotope
 pub mod ThreeTerm
+pub mod Marks
 pub mod Pictures
 pub mod Blocks
 pub mod Settlement

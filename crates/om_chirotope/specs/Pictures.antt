@@ -1,21 +1,18 @@
 -- What the quick form of the three-term test keeps of a map: marks of the sets that contain a basis, and the rows of its pictures.
-use Rattle.std.specs.Prelude.{ℕ, ◌≡◌, ◌+◌, ◌≢◌, ◌-◌, ◌*◌, ◌%◌, bit_and, ◌<◌, ◌≤◌, ◌^◌, List, [], ◌∷◌, ◌++◌, length, Bool, true, false}
+use Rattle.std.specs.Prelude.{ℕ, ◌≡◌, ◌+◌, ◌≢◌, ◌-◌, ◌*◌, ◌<◌, ◌≤◌, ◌^◌, List, [], ◌∷◌, ◌++◌, length}
 use Rattle.std.specs.Int.{bit_at}
 use Rattle.std.proofs.Math.ListN.{get_or}
 use Rattle.om_signs.specs.declared.sign.Sign.{Sign}
 use Rattle.om_signs.specs.declared.sign.Sign.TheVariants.{Zero}
 use Rattle.om_signs.specs.Sign.{opposite, product}
-use Rattle.om_signs.specs.SignVec.{at}
+use Rattle.om_signs.specs.SignVec.{at, place}
 use Rattle.om_subsets.specs.Subsets.{IsMember}
 use Rattle.om_subsets.specs.Members.{mask_of}
 use Rattle.om_laws.specs.Sorting.{IsElement}
 use Rattle.om_laws.specs.ThreeTerm.{AreBalanced}
 use Rattle.om_chirotope.specs.Map.{SignMap, value_of, cocircuit_vector}
+use Rattle.om_chirotope.specs.Marks.{IsMarked}
 use Rattle.om_chirotope.specs.ThreeTerm.{IsBasis}
-
--- the mask of 32 bits without bit i
-abbrev pub without_bit : ℕ → ℕ → ℕ
-without_bit mask i = bit_and mask (4294967295 - 1 * 2 ^ i % 4294967296)
 
 -- each element of the list has its bit in the mask
 abbrev pub IsInMask : List ℕ → ℕ → Type 0
@@ -25,16 +22,21 @@ IsInMask b mask = (i : ℕ) → IsMember (i + 1) b → bit_at mask i ≡ 1
 abbrev pub HasBasisIn : SignMap → ℕ → Type 0
 HasBasisIn m mask = (b : List ℕ) × IsBasis m b × IsInMask b mask
 
--- a table with a place for each set, by its mask, with a mark at each basis, and at no set without a basis in it
-pub record AreMarked (m : SignMap) (marks : List Bool) : Type 0 where
-  pub size : length marks ≡ 2 ^ m.elements
-  pub bases : (b : List ℕ) → IsBasis m b → get_or marks (mask_of 1 b m.elements) false ≡ true
-  pub only : (mask : ℕ) → get_or marks mask false ≡ true → HasBasisIn m mask
+-- words with a bit for each set, with a mark at each basis, and at no set without a basis in it
+pub record AreMarked (m : SignMap) (words : List ℕ) : Type 0 where
+  pub room : 2 ^ m.elements ≤ 64 * length words
+  pub bases : (b : List ℕ) → IsBasis m b → IsMarked words (mask_of 1 b m.elements)
+  pub only : (mask : ℕ) → IsMarked words mask → HasBasisIn m mask
 
--- and with a mark at each set below a limit that contains a basis
-pub record AreMarkedAbove (m : SignMap) (marks : List Bool) (limit : ℕ) : Type 0 where
-  pub marked : AreMarked m marks
-  pub above : (mask : ℕ) (b : List ℕ) → mask < limit → IsBasis m b → IsInMask b mask → get_or marks mask false ≡ true
+-- and with a mark at each set that contains a basis
+pub record AreMarkedAbove (m : SignMap) (words : List ℕ) : Type 0 where
+  pub room : 2 ^ m.elements ≤ 64 * length words
+  pub above : (mask : ℕ) (b : List ℕ) → mask < 2 ^ m.elements → IsBasis m b → IsInMask b mask → IsMarked words mask
+  pub only : (mask : ℕ) → IsMarked words mask → HasBasisIn m mask
+
+-- the vector is zero, or each basis has an element at which it isn't
+abbrev pub IsMet : SignMap → List Sign → Type 0
+IsMet m u = (i : ℕ) → i < m.elements → at u i ≢ Zero → (b : List ℕ) → IsBasis m b → (f : ℕ) × IsMember f b × (place u f ≢ Zero)
 
 -- at x - 1, for each element x below a limit, the row of x: at each y the value of P with x and y behind it
 pub record AreRowsBelow (m : SignMap) (p : List ℕ) (rows : List (List Sign)) (limit : ℕ) : Type 0 where

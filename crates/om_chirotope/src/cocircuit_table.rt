@@ -9,27 +9,11 @@ ghost use Rattle.om_chirotope.specs.Map.{map_of, cocircuit_vectors};
 use super::vectors::cocircuit_of;
 use super::walking::following;
 use om_signs::{MAX_PLACES, RawMap, SignVec};
-use om_subsets::{MOST_SUBSETS, Subset};
+use om_subsets::Subset;
 
-/// The room of the table.
-pub const ROOM: usize = MOST_SUBSETS as usize;
-
-/// Writes the vectors U of all sets of one element less than the rank, in lexicographic order.
-pub fn fill(raw: &RawMap, table: &mut [SignVec])
-    requires low { 1 ≤ raw.now.elements }
-    requires high { raw.now.elements ≤ MAX_PLACES }
-    requires rank_low { 1 ≤ raw.now.rank }
-    requires rank_high { raw.now.rank ≤ raw.now.elements }
-    requires whole { length raw.now.signs ≡ choose raw.now.elements raw.now.rank }
-    requires room { length table.old ≡ choose raw.now.elements (raw.now.rank - 1) }
-    ensures { table.new ≡ cocircuit_vectors (map_of raw.now) }
-{
-    let mut a = Subset::first(raw.rank - 1, raw.elements);
-    for place in 0..Subset::choose(raw.elements, raw.rank - 1) {
-        table[place as usize] = cocircuit_of(raw, a);
-        a = following(a);
-    }
-}
+/// The room of the table: 27,132, which is choose(19, 13). Of all maps on at most 20 elements with at most 12,870 values,
+/// those of rank 14 on 19 elements have the most sets of one element less than the rank.
+pub const ROOM: usize = 27_132;
 
 /// Writes the vectors U of all sets of one element less than the rank, in lexicographic order, up to the first that isn't
 /// orthogonal to a vector; the answer is its place, or None where each is orthogonal.
@@ -53,6 +37,30 @@ pub fn fill_while_orthogonal(raw: &RawMap, vector: SignVec, table: &mut [SignVec
             return Some(place);
         }
         table[place as usize] = other;
+        a = following(a);
+    }
+    None
+}
+
+/// The place of the first set of one element less than the rank, in lexicographic order, whose vector U isn't orthogonal to
+/// a vector, or None where each is. It needs no table.
+pub fn first_not_orthogonal_to(raw: &RawMap, vector: SignVec) -> Option<u32>
+    requires low { 1 ≤ raw.now.elements }
+    requires high { raw.now.elements ≤ MAX_PLACES }
+    requires rank_low { 1 ≤ raw.now.rank }
+    requires rank_high { raw.now.rank ≤ raw.now.elements }
+    requires whole { length raw.now.signs ≡ choose raw.now.elements raw.now.rank }
+    requires vector { length vector ≡ raw.now.elements }
+    ensures none { IfNone result ((j : ℕ) → j < choose raw.now.elements (raw.now.rank - 1) → IsOrthogonal vector (get_or (cocircuit_vectors (map_of raw.now)) j [])) }
+    ensures within { IfSome result (λ k. k < choose raw.now.elements (raw.now.rank - 1)) }
+    ensures here { IfSome result (λ k. IsOrthogonal vector (get_or (cocircuit_vectors (map_of raw.now)) k []) → ⊥) }
+    ensures before { IfSome result (λ k. (j : ℕ) → j < k → IsOrthogonal vector (get_or (cocircuit_vectors (map_of raw.now)) j [])) }
+{
+    let mut a = Subset::first(raw.rank - 1, raw.elements);
+    for place in 0..Subset::choose(raw.elements, raw.rank - 1) {
+        if !vector.orthogonal(cocircuit_of(raw, a)) {
+            return Some(place);
+        }
         a = following(a);
     }
     None

@@ -7,6 +7,7 @@ mod chirotope;
 mod cocircuit_table;
 mod laws;
 mod map_refused;
+mod marking;
 mod scan;
 mod threaded_scan;
 mod threads;

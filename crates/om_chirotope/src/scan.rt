@@ -8,11 +8,11 @@ ghost use Rattle.om_chirotope.specs.Map.{map_of, cocircuit_vectors};
 ghost use Rattle.om_chirotope.specs.Chirotope.{HasOrthogonalPairs, IsFirstViolated};
 ghost use Rattle.om_chirotope.specs.Settlement.{IsSettled};
 
-use super::cocircuit_table::{ROOM, fill_while_orthogonal};
+use super::cocircuit_table::{ROOM, fill_while_orthogonal, first_not_orthogonal_to};
 use super::threaded_scan::scan_on_threads;
 use super::three_terms::meets_test;
 use super::vectors::circuit_of;
-use om_signs::{MAX_PLACES, RawMap, SignVec};
+use om_signs::{MAX_ELEMENTS, MAX_PLACES, RawMap, SignVec};
 use om_subsets::{MOST_SUBSETS, Subset};
 use std::thread::Threads;
 
@@ -36,8 +36,11 @@ pub fn violated(raw: &RawMap) -> Option<(Subset, Subset)>
     if raw.rank == raw.elements {
         return None;
     }
-    let mut table = [SignVec::zero(raw.elements); ROOM];
     let count = Subset::choose(raw.elements, raw.rank - 1) as usize;
+    if count > ROOM {
+        return scan_each(raw);
+    }
+    let mut table = [SignVec::zero(raw.elements); ROOM];
     let cocircuits = &mut table[..count];
     match settle(raw, cocircuits) {
         Settled::Orthogonal => None,
@@ -61,8 +64,11 @@ pub fn violated_on_threads<R: Threads + Sync>(rt: &R, raw: &RawMap) -> Option<(S
     if raw.rank == raw.elements {
         return None;
     }
-    let mut table = [SignVec::zero(raw.elements); ROOM];
     let count = Subset::choose(raw.elements, raw.rank - 1) as usize;
+    if count > ROOM {
+        return scan_each(raw);
+    }
+    let mut table = [SignVec::zero(raw.elements); ROOM];
     let cocircuits = &mut table[..count];
     match settle(raw, cocircuits) {
         Settled::Orthogonal => None,
@@ -83,7 +89,7 @@ enum Settled {
 
 /// What the pairs of the first set S, and then the three-term test, say of a map. It fills the table with the vectors U of all
 /// sets of one element less than the rank, unless the first set S has a violated pair. The test is asked where there are more
-/// pairs than sets of elements.
+/// pairs than sets of elements, of maps on at most [`MAX_ELEMENTS`] elements.
 fn settle(raw: &RawMap, cocircuits: &mut [SignVec]) -> Settled
     requires low { 1 ≤ raw.now.elements }
     requires high { raw.now.elements ≤ MAX_PLACES }
@@ -98,7 +104,7 @@ fn settle(raw: &RawMap, cocircuits: &mut [SignVec]) -> Settled
         let a = Subset::unrank(k, raw.rank - 1, raw.elements);
         return Settled::Violated { s, a };
     }
-    if has_many_pairs(raw) && meets_test(raw, cocircuits) {
+    if raw.elements <= MAX_ELEMENTS && has_many_pairs(raw) && meets_test(raw, cocircuits) {
         return Settled::Orthogonal;
     }
     Settled::Open
@@ -131,6 +137,27 @@ fn scan(raw: &RawMap, cocircuits: &[SignVec]) -> Option<(Subset, Subset)>
         let s = Subset::unrank(place, raw.rank + 1, raw.elements);
         if let Some(k) = first_not_orthogonal(circuit_of(raw, s), cocircuits, 0, cocircuits.len()) {
             let a = Subset::unrank(k as u32, raw.rank - 1, raw.elements);
+            return Some((s, a));
+        }
+    }
+    None
+}
+
+/// The first violated pair, by vectors U that are made anew for each set S: for maps whose vectors U have no room in the table,
+/// which are maps with more values than a chirotope that is read.
+fn scan_each(raw: &RawMap) -> Option<(Subset, Subset)>
+    requires low { 1 ≤ raw.now.elements }
+    requires high { raw.now.elements ≤ MAX_PLACES }
+    requires rank_low { 1 ≤ raw.now.rank }
+    requires rank_high { raw.now.rank < raw.now.elements }
+    requires whole { length raw.now.signs ≡ choose raw.now.elements raw.now.rank }
+    ensures none { IsNone result ↔ HasOrthogonalPairs (map_of raw.now) }
+    ensures first { IfSome result (λ p. IsFirstViolated (map_of raw.now) p.0 p.1) }
+{
+    for place in 0..Subset::choose(raw.elements, raw.rank + 1) {
+        let s = Subset::unrank(place, raw.rank + 1, raw.elements);
+        if let Some(k) = first_not_orthogonal_to(raw, circuit_of(raw, s)) {
+            let a = Subset::unrank(k, raw.rank - 1, raw.elements);
             return Some((s, a));
         }
     }

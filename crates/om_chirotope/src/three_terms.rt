@@ -1,6 +1,6 @@
 //! The three-term test: a quick way to see that all pairs of sign vectors are orthogonal.
 
-ghost use Rattle.std.specs.Prelude.{ℕ, List, ◌≡◌, ◌≢◌, ◌+◌, ◌-◌, ◌<◌, ◌≤◌, ◌^◌, ◌↔◌, ◌∷◌, ◌++◌, length, replicate, IsTrue, false, true, []};
+ghost use Rattle.std.specs.Prelude.{ℕ, List, ◌≡◌, ◌≢◌, ◌+◌, ◌-◌, ◌<◌, ◌≤◌, ◌^◌, ◌↔◌, ◌∷◌, ◌++◌, length, replicate, IsTrue, []};
 ghost use Rattle.std.specs.Int.{bit_at};
 ghost use Rattle.std.proofs.Math.ListN.{get_or};
 ghost use Rattle.om_signs.specs.Sign.{opposite, product};
@@ -10,16 +10,13 @@ ghost use Rattle.om_laws.specs.ThreeTerm.{AreBalanced};
 ghost use Rattle.om_chirotope.specs.Map.{map_of, cocircuit_vector, cocircuit_vectors};
 ghost use Rattle.om_chirotope.specs.Chirotope.{HasOrthogonalPairs};
 ghost use Rattle.om_chirotope.specs.ThreeTerm.{HasExchange, HasListExchange, HasThreeTermRelations};
-ghost use Rattle.om_chirotope.specs.Pictures.{AreLong, AreMarked, AreMarkedAbove, AreRowsBelow, HasRelationsAt, IsLive, IsTriple, without_bit};
+ghost use Rattle.om_chirotope.specs.Pictures.{AreLong, AreMarkedAbove, AreRowsBelow, HasRelationsAt, IsLive, IsMet, IsTriple};
 
-use super::cocircuit_table::{ROOM, fill};
-use super::vectors::sign_of;
+use super::marking::{MOST_WORDS, WORDS, is_marked, mark_sets, number_of_words};
+use super::vectors::cocircuit_of;
 use super::walking::{following, places_with};
-use om_signs::{MAX_PLACES, RawMap, Sign, SignVec};
+use om_signs::{MAX_ELEMENTS, MAX_PLACES, RawMap, Sign, SignVec};
 use om_subsets::Subset;
-
-/// The number of sets of [`MAX_PLACES`] elements.
-const SETS: usize = 1 << MAX_PLACES;
 
 /// The number of rows of a picture: one for each element.
 const ROWS: usize = MAX_PLACES as usize;
@@ -28,7 +25,7 @@ const ROWS: usize = MAX_PLACES as usize;
 /// three-term relations hold.
 pub fn meets_test(raw: &RawMap, cocircuits: &[SignVec]) -> bool
     requires low { 1 ≤ raw.now.elements }
-    requires high { raw.now.elements ≤ MAX_PLACES }
+    requires high { raw.now.elements ≤ MAX_ELEMENTS }
     requires rank_low { 1 ≤ raw.now.rank }
     requires rank_high { raw.now.rank < raw.now.elements }
     requires whole { length raw.now.signs ≡ choose raw.now.elements raw.now.rank }
@@ -56,143 +53,79 @@ pub fn has_exchange(raw: &RawMap) -> bool
     if raw.rank == 0 {
         return true;
     }
-    let mut table = [SignVec::zero(raw.elements); ROOM];
-    let count = Subset::choose(raw.elements, raw.rank - 1) as usize;
-    let cocircuits = &mut table[..count];
-    fill(raw, cocircuits);
-    has_list_exchange(raw, cocircuits)
+    let mut table = [0u64; MOST_WORDS];
+    let marks = &mut table[..number_of_words(raw.elements)];
+    mark_sets(raw, marks);
+    each_vector_is_met(raw, marks)
 }
 
-/// Whether each basis has an element in the support of each vector U that isn't zero, by a table that marks the sets
-/// which contain a basis.
+/// Whether each basis has an element in the support of each vector U that isn't zero, by marks of the sets which contain a
+/// basis. The vectors U are made one after the other.
+fn each_vector_is_met(raw: &RawMap, marks: &[u64]) -> bool
+    requires low { 1 ≤ raw.now.elements }
+    requires high { raw.now.elements ≤ MAX_PLACES }
+    requires rank_low { 1 ≤ raw.now.rank }
+    requires rank_high { raw.now.rank ≤ raw.now.elements }
+    requires whole { length raw.now.signs ≡ choose raw.now.elements raw.now.rank }
+    requires marked { AreMarkedAbove (map_of raw.now) marks.now }
+    ensures { IsTrue result ↔ HasListExchange (map_of raw.now) }
+{
+    let mut a = Subset::first(raw.rank - 1, raw.elements);
+    for k in 0..Subset::choose(raw.elements, raw.rank - 1) {
+        if !is_met(raw, marks, cocircuit_of(raw, a)) {
+            return false;
+        }
+        a = following(a);
+    }
+    true
+}
+
+/// The same, by a table of the vectors U, for at most [`MAX_ELEMENTS`] elements.
 fn has_list_exchange(raw: &RawMap, cocircuits: &[SignVec]) -> bool
     requires low { 1 ≤ raw.now.elements }
-    requires high { raw.now.elements ≤ MAX_PLACES }
+    requires high { raw.now.elements ≤ MAX_ELEMENTS }
     requires rank_low { 1 ≤ raw.now.rank }
     requires rank_high { raw.now.rank ≤ raw.now.elements }
     requires whole { length raw.now.signs ≡ choose raw.now.elements raw.now.rank }
     requires filled { cocircuits.now ≡ cocircuit_vectors (map_of raw.now) }
     ensures { IsTrue result ↔ HasListExchange (map_of raw.now) }
 {
-    let mut table = unmarked::<SETS>();
-    has_list_exchange_by(raw, cocircuits, &mut table)
-}
-
-/// No marks.
-fn unmarked<const N: usize>() -> [bool; N]
-    ensures { length result ≡ N }
-{
-    [false; N]
-}
-
-/// The same, by a table for the marks.
-fn has_list_exchange_by(raw: &RawMap, cocircuits: &[SignVec], table: &mut [bool]) -> bool
-    requires low { 1 ≤ raw.now.elements }
-    requires high { raw.now.elements ≤ MAX_PLACES }
-    requires rank_low { 1 ≤ raw.now.rank }
-    requires rank_high { raw.now.rank ≤ raw.now.elements }
-    requires whole { length raw.now.signs ≡ choose raw.now.elements raw.now.rank }
-    requires filled { cocircuits.now ≡ cocircuit_vectors (map_of raw.now) }
-    requires room { length table.old ≡ SETS }
-    ensures { IsTrue result ↔ HasListExchange (map_of raw.now) }
-{
-    let sets = number_of_sets(raw.elements);
-    let marks = &mut table[..sets];
-    clear(marks);
-    mark_bases(raw, marks);
-    mark_above(raw, marks);
+    let mut table = [0u64; WORDS];
+    let marks = &mut table[..number_of_words(raw.elements)];
+    mark_sets(raw, marks);
     each_basis_meets_each(raw, cocircuits, marks)
 }
 
-/// The number of sets of some elements.
-fn number_of_sets(elements: u8) -> usize
-    requires { elements ≤ MAX_PLACES }
-    ensures value { result ≡ 2 ^ elements }
-    ensures few { result ≤ SETS }
-{
-    1usize << elements
-}
-
-/// Takes away all marks.
-fn clear(marks: &mut [bool])
-    ensures room { length marks.new ≡ length marks.old }
-    ensures clear { (i : ℕ) → get_or marks.new i false ≡ false }
-{
-    for i in 0..marks.len() {
-        marks[i] = false;
-    }
-}
-
-/// Marks the sets that are bases.
-fn mark_bases(raw: &RawMap, marks: &mut [bool])
-    requires high { raw.now.elements ≤ MAX_PLACES }
-    requires rank { raw.now.rank ≤ raw.now.elements }
-    requires whole { length raw.now.signs ≡ choose raw.now.elements raw.now.rank }
-    requires room { length marks.old ≡ 2 ^ raw.now.elements }
-    requires clear { (i : ℕ) → get_or marks.old i false ≡ false }
-    ensures { AreMarked (map_of raw.now) marks.new }
-{
-    let mut b = Subset::first(raw.rank, raw.elements);
-    for k in 0..Subset::choose(raw.elements, raw.rank) {
-        if is_nonzero(sign_of(raw, b, k)) {
-            marks[b.mask() as usize] = true;
-        }
-        b = following(b);
-    }
-}
-
-/// Whether the sign isn't 0.
-fn is_nonzero(sign: Sign) -> bool
-    ensures { IsTrue result ↔ (sign ≢ Sign.Zero) }
-{
-    sign != Sign::Zero
-}
-
-/// Marks each set that has one element more than a marked one.
-fn mark_above(raw: &RawMap, marks: &mut [bool])
-    requires high { raw.now.elements ≤ MAX_PLACES }
-    requires room { length marks.old ≡ 2 ^ raw.now.elements }
-    requires bases { AreMarked (map_of raw.now) marks.old }
-    ensures { AreMarkedAbove (map_of raw.now) marks.new (2 ^ raw.now.elements) }
-{
-    for set in 0..number_of_sets(raw.elements) as u32 {
-        if has_marked_part(marks, set, raw.elements) {
-            marks[set as usize] = true;
-        }
-    }
-}
-
-/// Whether some set of one element less is marked.
-fn has_marked_part(marks: &[bool], set: u32, elements: u8) -> bool
-    requires high { elements ≤ MAX_PLACES }
-    requires room { length marks.now ≡ 2 ^ elements }
-    requires within { set < 2 ^ elements }
-    ensures { IsTrue result ↔ ((i : ℕ) × (i < elements) × (bit_at set i ≡ 1) × (get_or marks.now (without_bit set i) false ≡ true)) }
-{
-    for i in 0..elements {
-        if set >> i & 1 == 1 && marks[(set & !(1u32 << i)) as usize] {
-            return true;
-        }
-    }
-    false
-}
-
-/// Whether no set is marked that lies off the support of a vector U which isn't zero.
-fn each_basis_meets_each(raw: &RawMap, cocircuits: &[SignVec], marks: &[bool]) -> bool
-    requires low { 1 ≤ raw.now.elements }
+/// Whether each basis has an element in the support of each vector U of the table that isn't zero.
+fn each_basis_meets_each(raw: &RawMap, cocircuits: &[SignVec], marks: &[u64]) -> bool
     requires high { raw.now.elements ≤ MAX_PLACES }
     requires rank_low { 1 ≤ raw.now.rank }
-    requires room { length marks.now ≡ 2 ^ raw.now.elements }
     requires filled { cocircuits.now ≡ cocircuit_vectors (map_of raw.now) }
-    requires marked { AreMarkedAbove (map_of raw.now) marks.now (2 ^ raw.now.elements) }
+    requires marked { AreMarkedAbove (map_of raw.now) marks.now }
     ensures { IsTrue result ↔ HasListExchange (map_of raw.now) }
 {
-    let all = (1u32 << raw.elements) - 1;
     for u in cocircuits {
-        let support = u.support();
-        if support != 0 && marks[(all & !support) as usize] {
+        if !is_met(raw, marks, *u) {
             return false;
         }
+    }
+    true
+}
+
+/// Whether a vector is zero, or each basis has an element in its support: whether no set is marked that lies off the support.
+fn is_met(raw: &RawMap, marks: &[u64], u: SignVec) -> bool
+    requires high { raw.now.elements ≤ MAX_PLACES }
+    requires length { length u ≡ raw.now.elements }
+    requires marked { AreMarkedAbove (map_of raw.now) marks.now }
+    ensures { IsTrue result ↔ IsMet (map_of raw.now) u }
+{
+    let support = u.support();
+    if support == 0 {
+        return true;
+    }
+    let all = (1u32 << raw.elements) - 1;
+    if is_marked(marks, all & !support) {
+        return false;
     }
     true
 }

@@ -1,6 +1,6 @@
 use Rattle.std.proofs.Common.{ℕ, ◌<◌, get_or, []}
 use Rattle.om_chirotope.specs.Map.{map_of}
-use Rattle.om_chirotope.proofs.Marks.{IsMet}
+use Rattle.om_chirotope.specs.Pictures.{IsMet}
 use Rattle.om_chirotope.proofs.three_terms.each_basis_meets_each.Given as goal
 
 abbrev pub invariant-loop-u : goal.invariant-loop-u

@@ -1,7 +1,7 @@
-use Rattle.std.proofs.Common.{arith, ◌∙◌, inl, inr, false}
+use Rattle.std.proofs.Common.{arith, ◌∙◌, inl, inr}
 use Rattle.std.proofs.lemmas.Bool.{cases_eq, cases_lt}
 use Rattle.std.proofs.lemmas.List.{length-set, get_or_past, get_or-set_same, get_or-set_other}
-use Rattle.om_chirotope.proofs.three_terms.clear.Goals as goal
+use Rattle.om_chirotope.proofs.marking.clear.Goals as goal
 
 pub loop-i-preserved : goal.loop-i-preserved
 loop-i-preserved c =
@@ -10,8 +10,8 @@ loop-i-preserved c =
     record {
       size = length-set _ _ _ ∙ size;
       clear = λ j l. elim (cases_eq j c.loop-i.i) [
-        | inl q ↦ rw q (get_or-set_same c.loop-i.marks c.loop-i.i false false (omega (arith, inside, size)))
-        | inr n ↦ get_or-set_other c.loop-i.marks c.loop-i.i j false false n ∙ c.loop-i.invariant.clear j (omega (arith, l, n))
+        | inl q ↦ rw q (get_or-set_same c.loop-i.words c.loop-i.i 0 0 (omega (arith, inside, size)))
+        | inr n ↦ get_or-set_other c.loop-i.words c.loop-i.i j 0 0 n ∙ c.loop-i.invariant.clear j (omega (arith, l, n))
       ];
     }
 
@@ -21,5 +21,5 @@ returns-clause-clear c = λ i. elim (cases_lt i c.loop-i.i) [
   | inr g ↦
       let over = c.loop-i-test.false in
       let size = c.loop-i.invariant.size in
-      get_or_past c.loop-i.marks i false (omega (arith, g, over, size))
+      get_or_past c.loop-i.words i 0 (omega (arith, g, over, size))
 ]

@@ -1,0 +1,6 @@
+use Rattle.om_chirotope.specs.Map.{map_of}
+use Rattle.om_chirotope.proofs.Tables.{AllBelow}
+use Rattle.om_chirotope.proofs.scan.scan_each.Given as goal
+
+abbrev pub invariant-loop-place : goal.invariant-loop-place
+invariant-loop-place l = AllBelow (map_of l.raw) l.place

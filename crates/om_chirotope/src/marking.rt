@@ -1,0 +1,159 @@
+//! Marks of the sets that contain a basis: a bit for each set, in words of 64.
+
+ghost use Rattle.std.specs.Prelude.{ℕ, ◌≡◌, ◌≢◌, ◌+◌, ◌*◌, ◌/◌, ◌<◌, ◌≤◌, ◌^◌, ◌↔◌, length, IsTrue};
+ghost use Rattle.std.proofs.Math.ListN.{get_or};
+ghost use Rattle.om_subsets.specs.Subsets.{choose};
+ghost use Rattle.om_chirotope.specs.Map.{map_of};
+ghost use Rattle.om_chirotope.specs.Marks.{mark_at, IsMarked, IsSpread, IsWordSpread};
+ghost use Rattle.om_chirotope.specs.Pictures.{AreMarked, AreMarkedAbove};
+
+use super::vectors::sign_of;
+use super::walking::following;
+use om_signs::{MAX_ELEMENTS, MAX_PLACES, RawMap, Sign};
+use om_subsets::Subset;
+
+/// The words for the sets of [`MAX_ELEMENTS`] elements.
+pub const WORDS: usize = 1 << (MAX_ELEMENTS - 6);
+
+/// The words for the sets of [`MAX_PLACES`] elements.
+pub const MOST_WORDS: usize = 1 << (MAX_PLACES - 6);
+
+/// At place e, the bits of a word whose numbers haven't bit e.
+const LOW: [u64; 6] = [
+    0x5555_5555_5555_5555,
+    0x3333_3333_3333_3333,
+    0x0f0f_0f0f_0f0f_0f0f,
+    0x00ff_00ff_00ff_00ff,
+    0x0000_ffff_0000_ffff,
+    0x0000_0000_ffff_ffff,
+];
+
+/// The number of words for the sets of some elements.
+pub fn number_of_words(elements: u8) -> usize
+    requires { elements ≤ MAX_PLACES }
+    ensures room { 2 ^ elements ≤ 64 * result }
+    ensures few { elements ≤ MAX_ELEMENTS → result ≤ WORDS }
+    ensures most { result ≤ MOST_WORDS }
+{
+    ((1usize << elements) + 63) / 64
+}
+
+/// Marks the sets that contain a basis, and takes away all other marks.
+pub fn mark_sets(raw: &RawMap, words: &mut [u64])
+    requires high { raw.now.elements ≤ MAX_PLACES }
+    requires rank { raw.now.rank ≤ raw.now.elements }
+    requires whole { length raw.now.signs ≡ choose raw.now.elements raw.now.rank }
+    requires room { 2 ^ raw.now.elements ≤ 64 * length words.old }
+    ensures { AreMarkedAbove (map_of raw.now) words.new }
+{
+    clear(words);
+    mark_bases(raw, words);
+    mark_above(raw, words);
+}
+
+/// Whether the set of a mask is marked.
+pub fn is_marked(words: &[u64], set: u32) -> bool
+    requires { set / 64 < length words.now }
+    ensures { IsTrue result ↔ IsMarked words.now set }
+{
+    words[set as usize / 64] >> (set % 64) & 1 == 1
+}
+
+/// Takes away all marks.
+fn clear(words: &mut [u64])
+    ensures room { length words.new ≡ length words.old }
+    ensures clear { (i : ℕ) → get_or words.new i 0 ≡ 0 }
+{
+    for i in 0..words.len() {
+        words[i] = 0;
+    }
+}
+
+/// Marks the sets that are bases.
+fn mark_bases(raw: &RawMap, words: &mut [u64])
+    requires high { raw.now.elements ≤ MAX_PLACES }
+    requires rank { raw.now.rank ≤ raw.now.elements }
+    requires whole { length raw.now.signs ≡ choose raw.now.elements raw.now.rank }
+    requires room { 2 ^ raw.now.elements ≤ 64 * length words.old }
+    requires clear { (i : ℕ) → get_or words.old i 0 ≡ 0 }
+    ensures { AreMarked (map_of raw.now) words.new }
+{
+    let mut b = Subset::first(raw.rank, raw.elements);
+    for k in 0..Subset::choose(raw.elements, raw.rank) {
+        if is_nonzero(sign_of(raw, b, k)) {
+            mark(words, b.mask());
+        }
+        b = following(b);
+    }
+}
+
+/// Whether the sign isn't 0.
+fn is_nonzero(sign: Sign) -> bool
+    ensures { IsTrue result ↔ (sign ≢ Sign.Zero) }
+{
+    sign != Sign::Zero
+}
+
+/// Marks the set of a mask.
+fn mark(words: &mut [u64], set: u32)
+    requires { set / 64 < length words.old }
+    ensures here { IsMarked words.new set }
+    ensures others { (j : ℕ) → j ≢ set → mark_at words.new j ≡ mark_at words.old j }
+{
+    let i = set as usize / 64;
+    words[i] |= 1u64 << (set % 64);
+}
+
+/// Marks each set that has one element or more beside those of a marked one: for each element, the set with it has the mark
+/// of the set without it, in whole words.
+fn mark_above(raw: &RawMap, words: &mut [u64])
+    requires high { raw.now.elements ≤ MAX_PLACES }
+    requires bases { AreMarked (map_of raw.now) words.old }
+    ensures { AreMarkedAbove (map_of raw.now) words.new }
+{
+    for e in 0..raw.elements {
+        spread(words, e);
+    }
+}
+
+/// Marks with each marked set without bit e the set with this bit.
+fn spread(words: &mut [u64], e: u8)
+    requires { e < MAX_PLACES }
+    ensures { IsSpread words.old words.new e }
+{
+    if e < 6 {
+        spread_within(words, e);
+    } else {
+        spread_over(words, e - 6);
+    }
+}
+
+/// The same, for a bit of the place in a word.
+fn spread_within(words: &mut [u64], e: u8)
+    requires { e < 6 }
+    ensures { IsSpread words.old words.new e }
+{
+    for i in 0..words.len() {
+        words[i] = spread_in(words[i], e);
+    }
+}
+
+/// The word with each bit whose number hasn't bit e also at the number with it.
+fn spread_in(word: u64, e: u8) -> u64
+    requires { e < 6 }
+    ensures { IsWordSpread word result e }
+{
+    word | (word & LOW[e as usize]) << (1u32 << e)
+}
+
+/// The same, for bit d of the number of a word.
+fn spread_over(words: &mut [u64], d: u8)
+    requires { d + 6 < MAX_PLACES }
+    ensures { IsSpread words.old words.new (d + 6) }
+{
+    for i in 0..words.len() {
+        if i >> d & 1 == 1 {
+            words[i] |= words[i - (1usize << d)];
+        }
+    }
+}
