@@ -11,7 +11,7 @@ use Rattle.om_signs.specs.declared.limits.TheConstants.{MAX_MEMBERS}
 use Rattle.om_members.specs.Listings.{AreDistinct}
 use Rattle.om_denotation.specs.Listings.{AreAllOf, HasMoreThan}
 use Rattle.om_convert.specs.declared.convert_error.ConvertError.{ConvertError}
-use Rattle.om_convert.specs.declared.convert_error.ConvertError.TheVariants.{TooMany, Memory}
+use Rattle.om_convert.specs.declared.convert_error.ConvertError.TheVariants.{TooWide, TooMany, Memory}
 use Rattle.om_convert.specs.Limits.{IsWithinLimit, IsCause}
 use Rattle.om_denotation.proofs.SelectionLaws.{none_contained, contains_first, contains_later, first_or_later}
 
@@ -53,6 +53,7 @@ pub more_of_more : (k : ℕ) (P Q : List Sign → Type 0) → ((X : List Sign) �
 more_of_more k P Q f h = record { members = h.members; many = h.many; distinct = h.distinct; each = λ i d l. f _ (h.each i d l) }
 
 pub cause_of_cause : (P Q : List Sign → Type 0) → ((X : List Sign) → P X → Q X) → (e : ConvertError) → IsCause P e → IsCause Q e
+cause_of_cause P Q f (TooWide values) c = c
 cause_of_cause P Q f (TooMany limit) c = (c.0, more_of_more MAX_MEMBERS P Q f c.1)
 cause_of_cause P Q f Memory c = tt
 

@@ -8,3 +8,4 @@ pub mod KeyLaws
 pub mod ChirotopeLaws
 pub mod SameFamilies
 pub mod SameMembers
+pub mod WidthLaws

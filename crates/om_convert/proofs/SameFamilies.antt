@@ -18,7 +18,7 @@ use Rattle.om_denotation.specs.Denotation.{DenoteTheSame}
 use Rattle.om_denotation.specs.Listings.{AreAllOf, HasMoreThan}
 use Rattle.om_denotation.proofs.FamilyLaws.{least_both}
 use Rattle.om_convert.specs.declared.convert_error.ConvertError.{ConvertError}
-use Rattle.om_convert.specs.declared.convert_error.ConvertError.TheVariants.{TooMany, Memory}
+use Rattle.om_convert.specs.declared.convert_error.ConvertError.TheVariants.{TooWide, TooMany, Memory}
 use Rattle.om_convert.specs.Limits.{IsWithinLimit, IsCause}
 
 pub joined : (n k : ℕ) (P Q R : List Sign → Type 0) → k ≡ n → DenoteTheSame n P Q → DenoteTheSame k Q R → DenoteTheSame n P R
@@ -32,6 +32,7 @@ module _ (P Q : List Sign → Type 0) (both : (X : List Sign) → P X ↔ Q X) w
   more_same h = record { members = h.members; many = h.many; distinct = h.distinct; each = λ k d l. (both _).0 (h.each k d l) }
 
   pub cause_same : (e : ConvertError) → IsCause P e → IsCause Q e
+  cause_same (TooWide values) h = h
   cause_same (TooMany limit) h = (h.0, more_same h.1)
   cause_same Memory h = tt
 

@@ -6,7 +6,7 @@ use super::{
     ConvertError, chirotope_to_circuits, chirotope_to_cocircuits, chirotope_to_covectors,
     circuits_to_chirotope, circuits_to_cocircuits, circuits_to_covectors, cocircuits_to_chirotope,
     cocircuits_to_circuits, cocircuits_to_covectors, covectors_to_chirotope, covectors_to_circuits,
-    covectors_to_cocircuits,
+    covectors_to_cocircuits, rank_circuits, rank_cocircuits, rank_covectors,
 };
 use om_chirotope::Chirotope;
 use om_circuits::{Circuits, Cocircuits};
@@ -176,6 +176,18 @@ fn are_covectors(found: Result<Covectors, ConvertError>, wanted: &Covectors) -> 
     }
 }
 
+/// Whether the lists have this rank.
+fn have_rank(
+    rank: u8,
+    circuits: &Circuits,
+    cocircuits: &Cocircuits,
+    covectors: &Covectors,
+) -> bool {
+    rank_circuits(circuits) == rank
+        && rank_cocircuits(cocircuits) == rank
+        && rank_covectors(covectors) == rank
+}
+
 /// Whether each of the four kinds converts to the three others.
 fn give_each_other(
     alloc: Global,
@@ -225,6 +237,7 @@ fn convert(
                 && same(chi, cocircuits).is_ok()
                 && same(chi, &covectors).is_ok()
                 && have_some(&covectors, row.count, row.covectors)
+                && have_rank(row.rank, circuits, cocircuits, &covectors)
                 && give_each_other(alloc, chi, row.text, circuits, cocircuits, &covectors)
         }
         Err(_) => false,
@@ -286,12 +299,12 @@ fn is_many<T: Drop>(found: Result<T, ConvertError>) -> bool {
 
 /// Ranks, numbers of elements and of signs, and of what there is too much: circuits, cocircuits and covectors.
 ///
-/// There are 286 sets of 3, and of 10, of 13 elements, and 715 of 4, and of 9. Where all signs are plus, the vectors V of the
-/// sets of 4 have these supports; and the vectors U of the sets of 9 have the other elements as supports. In rank 16 on 16
+/// There are 680 sets of 3, and of 14, of 17 elements, and 2,380 of 4, and of 13. Where all signs are plus, the vectors V of the
+/// sets of 4 have these supports; and the vectors U of the sets of 13 have the other elements as supports. In rank 16 on 16
 /// elements there are 32 cocircuits, and 3 to the power 16 covectors.
 const TOO_MANY: [(u8, u8, usize, bool, bool, bool); 3] = [
-    (3, 13, 286, true, false, false),
-    (10, 13, 286, false, true, true),
+    (3, 17, 680, true, false, false),
+    (14, 17, 680, false, true, true),
     (16, 16, 1, false, false, true),
 ];
 
@@ -335,10 +348,71 @@ fn too_many(rt: HostRuntime) -> Result<(), Fail> {
     Ok(())
 }
 
+/// Ten pairs of elements. Where these are the circuits, the elements of a pair are parallel, and a basis has one of each; where
+/// they are the cocircuits, the same holds for the dual. So the rank is 10, and there are 184,756 sets of 10 of 20 elements.
+const PAIRS: [&str; 20] = [
+    "+-000000000000000000",
+    "-+000000000000000000",
+    "00+-0000000000000000",
+    "00-+0000000000000000",
+    "0000+-00000000000000",
+    "0000-+00000000000000",
+    "000000+-000000000000",
+    "000000-+000000000000",
+    "00000000+-0000000000",
+    "00000000-+0000000000",
+    "0000000000+-00000000",
+    "0000000000-+00000000",
+    "000000000000+-000000",
+    "000000000000-+000000",
+    "00000000000000+-0000",
+    "00000000000000-+0000",
+    "0000000000000000+-00",
+    "0000000000000000-+00",
+    "000000000000000000+-",
+    "000000000000000000-+",
+];
+
+/// Whether the chirotope is too wide, and the answer names this number of values.
+fn is_wide<T: Drop>(found: Result<T, ConvertError>, values: u32) -> bool {
+    match found {
+        Ok(_) => false,
+        Err(error) => error == ConvertError::TooWide { values },
+    }
+}
+
+/// Whether circuits have this rank, and their chirotope too many values.
+fn are_wide_circuits(alloc: Global, circuits: &Circuits, rank: u8, values: u32) -> bool {
+    rank_circuits(circuits) == rank
+        && is_wide(circuits_to_chirotope(alloc, circuits), values)
+        && is_wide(circuits_to_cocircuits(alloc, circuits), values)
+        && is_wide(circuits_to_covectors(alloc, circuits), values)
+}
+
+/// Whether cocircuits have this rank, and their chirotope too many values.
+fn are_wide_cocircuits(alloc: Global, cocircuits: &Cocircuits, rank: u8, values: u32) -> bool {
+    rank_cocircuits(cocircuits) == rank
+        && is_wide(cocircuits_to_chirotope(alloc, cocircuits), values)
+        && is_wide(cocircuits_to_circuits(alloc, cocircuits), values)
+        && is_wide(cocircuits_to_covectors(alloc, cocircuits), values)
+}
+
+#[test]
+fn too_wide(rt: HostRuntime) -> Result<(), Fail> {
+    let alloc = rt.alloc();
+    let circuits = circuits_of(&rt, alloc, 20, &PAIRS)?;
+    let cocircuits = cocircuits_of(&rt, alloc, 20, &PAIRS)?;
+    assert!(rt; are_wide_circuits(alloc, &circuits, 10, 184_756));
+    assert!(rt; are_wide_cocircuits(alloc, &cocircuits, 10, 184_756));
+    Ok(())
+}
+
 #[test]
 fn errors_are_printed(rt: HostRuntime) -> Result<(), Fail> {
+    let wide = format!(in rt.alloc(); "{}", ConvertError::TooWide { values: 5 })?;
     let many = format!(in rt.alloc(); "{}", ConvertError::TooMany { limit: 5 })?;
     let memory = format!(in rt.alloc(); "{}", ConvertError::from(NoMemory))?;
+    assert_eq!(rt; wide.as_str(), "the chirotope has 5 values");
     assert_eq!(rt; many.as_str(), "more than 5 members");
     assert_eq!(rt; memory.as_str(), "out of memory");
     Ok(())

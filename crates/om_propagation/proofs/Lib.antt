@@ -2,4 +2,4 @@ mod HittingLaws
 mod SetLaws
 mod CarryLaws
 mod MeetingLaws
-mod RankLaws
+pub mod RankLaws

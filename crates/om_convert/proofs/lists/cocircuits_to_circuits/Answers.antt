@@ -1,3 +1,4 @@
+use Rattle.std.proofs.lemmas.Result.{err_from_is_err_and}
 use Rattle.std.proofs.Common.{subst}
 use Rattle.om_chirotope.specs.Chirotope.{IsChirotope}
 use Rattle.om_denotation.specs.Circuits.{IsCircuitOfChirotope}
@@ -6,6 +7,7 @@ use Rattle.om_denotation.specs.Vectors.{IsVectorOf}
 use Rattle.om_denotation.specs.Covectors.{IsCovectorOfChirotope, IsCovectorOfCircuits, IsCovectorOfCocircuits}
 use Rattle.om_denotation.proofs.DualLists.{circuits_of}
 use Rattle.om_convert.proofs.SameFamilies.{joined, all_same, within_same, cause_same}
+use Rattle.om_convert.proofs.WidthLaws.{list_of_width, list_of_cause}
 use Rattle.om_convert.proofs.lists.cocircuits_to_circuits.Goals as goal
 
 pub returns-in-Ok-clause-members : goal.returns-in-Ok-clause-members
@@ -18,10 +20,15 @@ returns-in-Ok-clause-few c = within_same (IsCircuitOfChirotope c.in_ok-chi.chi) 
     (circuits_of c.args.c.now.0.elements (IsCovectorOfCocircuits c.args.c.now.0) c.in_ok-chi.chi (subst IsChirotope c.chi.view_is c.chi.invariant.axioms) c.in_ok-chi.ensures.elements c.in_ok-chi.ensures.same)
     c.in-Ok.ensures.few
 
-pub returns-clause-many : goal.returns-clause-many
-returns-clause-many c = cause_same (IsCircuitOfChirotope c.in_ok-chi.chi) (IsOfLeastSupport (IsVectorOf c.args.c.now.0.elements (IsCovectorOfCocircuits c.args.c.now.0)))
+pub returns-clause-refused : goal.returns-clause-refused
+returns-clause-refused c = list_of_cause c.args.c.now.0.elements (IsCovectorOfCocircuits c.args.c.now.0) (IsOfLeastSupport (IsVectorOf c.args.c.now.0.elements (IsCovectorOfCocircuits c.args.c.now.0))) c.in_ok-chi.ensures.narrow c.in-Err.error (cause_same (IsCircuitOfChirotope c.in_ok-chi.chi) (IsOfLeastSupport (IsVectorOf c.args.c.now.0.elements (IsCovectorOfCocircuits c.args.c.now.0)))
     (circuits_of c.args.c.now.0.elements (IsCovectorOfCocircuits c.args.c.now.0) c.in_ok-chi.chi (subst IsChirotope c.chi.view_is c.chi.invariant.axioms) c.in_ok-chi.ensures.elements c.in_ok-chi.ensures.same)
-    c.in-Err.error c.in-Err.ensures.many
+    c.in-Err.error c.in-Err.ensures.many)
+
+pub returns-in_err-chi-clause-refused : goal.returns-in_err-chi-clause-refused
+returns-in_err-chi-clause-refused c =
+    let p = err_from_is_err_and c.from_residual.result c.from_residual.ensures.1 in
+    rw (p.1, p.2) (list_of_width c.args.c.now.0.elements (IsCovectorOfCocircuits c.args.c.now.0) (IsOfLeastSupport (IsVectorOf c.args.c.now.0.elements (IsCovectorOfCocircuits c.args.c.now.0))) c.in_err-chi.field-0.0 c.in_err-chi.ensures.refused)
 
 pub returns-in-Ok-clause-same : goal.returns-in-Ok-clause-same
 returns-in-Ok-clause-same c = joined c.args.c.now.0.elements c.in_ok-chi.chi.elements (IsCovectorOfCocircuits c.args.c.now.0) (IsCovectorOfChirotope c.in_ok-chi.chi) (IsCovectorOfCircuits c.in-Ok.circuits.0) c.in_ok-chi.ensures.elements c.in_ok-chi.ensures.same c.in-Ok.ensures.same

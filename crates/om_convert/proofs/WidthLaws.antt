@@ -1,0 +1,104 @@
+-- Whether the chirotope of what a list denotes has more values than a chirotope keeps.
+--
+-- Main results: by the rank it is no more (narrow_by_rank) or more (wide_by_rank, width_cause); a chirotope of rank 3 has few values (few_triples,
+-- narrow_of_rank_3); the rank of what denotes the same (rank_of_same); the cause of a width, and of a list, as that of a list (list_of_width,
+-- list_of_cause).
+use Rattle.std.specs.Prelude.{ℕ, ◌≡◌, ◌≤◌, ◌<◌, ◌*◌, List, refl}
+use Rattle.std.proofs.Common.{zero, suc, sym, ap, ◌∙◌, arith}
+use Rattle.om_signs.specs.declared.sign.Sign.{Sign}
+use Rattle.om_signs.specs.declared.limits.TheConstants.{MAX_ELEMENTS, MAX_VALUES}
+use Rattle.om_subsets.specs.Subsets.{choose}
+use Rattle.om_chirotope.specs.Map.{SignMap}
+use Rattle.om_chirotope.specs.Chirotope.{IsChirotope}
+use Rattle.om_denotation.specs.Covectors.{IsCovectorOfChirotope}
+use Rattle.om_denotation.specs.Denotation.{DenoteTheSame}
+use Rattle.om_propagation.specs.Ranks.{IsRankFor}
+use Rattle.om_propagation.proofs.RankLaws.{rank_for}
+use Rattle.om_convert.specs.declared.convert_error.ConvertError.{ConvertError}
+use Rattle.om_convert.specs.declared.convert_error.ConvertError.TheVariants.{TooWide, TooMany, Memory}
+use Rattle.om_convert.proofs.SameFamilies.{joined}
+use Rattle.om_convert.specs.Limits.{IsCause, IsWidth, IsWidthCause, IsListCause, IsTooWideFor, IsNarrow}
+
+-- ---- by the rank
+
+module _ (n : ℕ) (P : List Sign → Type 0) (rank : ℕ) (r : IsRankFor n P rank) where
+  pub narrow_by_rank : choose n rank ≤ MAX_VALUES → IsNarrow n P
+  narrow_by_rank few values w =
+      let same : choose n w.map.rank ≡ choose n rank = ap (choose n) (sym (r.each w.map w.axioms w.elements w.same)) in
+      let number = w.number in
+      let wide = w.wide in
+      omega (arith, few, same, number, wide)
+
+  pub wide_by_rank : (values : ℕ) → values ≡ choose n rank → MAX_VALUES < values → IsTooWideFor n P values
+  wide_by_rank values q wide = record {
+    map = r.map;
+    axioms = r.axioms;
+    elements = r.elements;
+    same = r.same;
+    normal = r.normal;
+    number = q ∙ ap (choose n) (r.each r.map r.axioms r.elements r.same);
+    wide = wide;
+  }
+
+  pub width_cause : (k : ℕ) → k ≡ n → (e : ConvertError) → IsWidth (choose k rank) e → IsWidthCause n P e
+  width_cause k q (TooWide values) h = let wide = h.1 in let same = h.0 in wide_by_rank values (h.0 ∙ ap (λ j. choose j rank) q) (omega (arith, wide, same))
+  width_cause k q (TooMany limit) h = h
+  width_cause k q Memory h = tt
+
+-- the rank of what denotes the same
+pub rank_of_same : (n k : ℕ) (P Q : List Sign → Type 0) (rank : ℕ) → k ≡ n → DenoteTheSame n P Q → IsRankFor n P rank → IsRankFor k Q rank
+rank_of_same n k P Q rank e both r = record {
+  each = λ m om q same. r.each m om (q ∙ e) (joined n k P Q (IsCovectorOfChirotope m) e both same);
+  map = r.map;
+  axioms = r.axioms;
+  elements = r.elements ∙ sym e;
+  same = λ X l. (λ x. (r.same X (l ∙ e)).0 ((both X (l ∙ e)).1 x), λ x. (both X (l ∙ e)).0 ((r.same X (l ∙ e)).1 x));
+  normal = r.normal;
+}
+
+-- ---- rank 3
+
+choose_none : (n : ℕ) → choose n 0 ≡ 1
+choose_none zero = refl
+choose_none (suc n) = refl
+
+choose_one : (n : ℕ) → choose n 1 ≡ n
+choose_one zero = refl
+choose_one (suc n) = let a = choose_none n in let b = choose_one n in omega arith
+
+choose_two : (n : ℕ) → choose n 2 ≤ n * n
+choose_two zero = omega arith
+choose_two (suc n) = let a = choose_one n in let b = choose_two n in grind arith
+
+choose_two_more : (n : ℕ) → n ≤ MAX_ELEMENTS → choose n 2 ≤ 400
+choose_two_more n l = let a = choose_two n in let s = squares n MAX_ELEMENTS l in omega (arith, a, s)
+  where
+    squares : (a b : ℕ) → a ≤ b → a * a ≤ b * b
+    squares a b l = grind arith
+
+-- each element more has at most 400 triples with it as the greatest
+choose_three : (n : ℕ) → n ≤ MAX_ELEMENTS → choose n 3 ≤ 400 * n
+choose_three zero l = omega arith
+choose_three (suc n) l =
+    let a = choose_two_more n (omega (arith, l)) in
+    let b = choose_three n (omega (arith, l)) in
+    omega (arith, a, b)
+
+pub few_triples : (n : ℕ) → n ≤ MAX_ELEMENTS → choose n 3 ≤ MAX_VALUES
+few_triples n l = let a = choose_three n l in omega (arith, a, l)
+
+pub narrow_of_rank_3 : (n : ℕ) (P : List Sign → Type 0) (m : SignMap) → n ≤ MAX_ELEMENTS → IsChirotope m → m.elements ≡ n → DenoteTheSame n P (IsCovectorOfChirotope m) → m.rank ≡ 3 → IsNarrow n P
+narrow_of_rank_3 n P m high om q same three = narrow_by_rank n P 3 (rank_for n P m om q same 3 (sym three)) (few_triples n high)
+
+-- ---- causes
+
+module _ (n : ℕ) (P Q : List Sign → Type 0) where
+  pub list_of_width : (e : ConvertError) → IsWidthCause n P e → IsListCause n P Q e
+  list_of_width (TooWide values) h = h
+  list_of_width (TooMany limit) h = absurd h
+  list_of_width Memory h = tt
+
+  pub list_of_cause : IsNarrow n P → (e : ConvertError) → IsCause Q e → IsListCause n P Q e
+  list_of_cause narrow (TooWide values) h = absurd h
+  list_of_cause narrow (TooMany limit) h = (h.0, h.1, narrow)
+  list_of_cause narrow Memory h = tt
