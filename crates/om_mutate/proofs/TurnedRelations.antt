@@ -54,7 +54,7 @@ module _ (m : SignMap) (a b c : ℕ) (w : IsMap m) (r : m.rank ≡ 3) (i : IsRis
   t = a ∷ b ∷ c ∷ []
 
   pub stays_balanced : IsMutation m (a ∷ b ∷ c ∷ []) → (p x y : ℕ) → IsCorner a b c p x y → IsElement m.elements p → IsElement m.elements x → IsElement m.elements y → StaysBalancedAt m p x y
-  stays_balanced u p x y k ip ix iy z iz v iv l = record {
+  stays_balanced u p x y k ip ix iy z iz v iv = record {
     signs = λ zx zy vx vy. balanced_same _ _ _ _ _ _
         (three_values _ _ _ _ (sym (corner_turned m a b c w r i p x y k)) (sym (corner_kept m a b c w r i p x y z v k ip iz iv zx zy)))
         (ap opposite (three_values _ _ _ _ (sym (corner_kept_third m a b c w r i p x y z x k ip iz ix zx zy)) (sym (corner_kept_third m a b c w r i p x y v y k ip iv iy vx vy))))
@@ -118,22 +118,22 @@ module _ (m : SignMap) (a b c : ℕ) (w : IsMap m) (r : m.rank ≡ 3) (i : IsRis
           → d < e → e < f → f < g → q ≢ d → q ≢ e → q ≢ f → q ≢ g → Relation m q d e f g → Relation (flipped m (a ∷ b ∷ c ∷ [])) q d e f g
       relation_in_order q d e f g iq id ie if ig de ef fg nd ne nf ng rel =
           elim (corner_or_kept m a b c w r i q d e iq id ie nd ne de) [
-            | inl k ↦ turned_relation q d e f g k iq id ie if ig (λ z. omega (arith, z, de, ef)) (λ z. omega (arith, z, ef)) (λ z. omega (arith, z, de, ef, fg)) (λ z. omega (arith, z, ef, fg)) (balanced q d e k f if g ig fg)
+            | inl k ↦ turned_relation q d e f g k iq id ie if ig (λ z. omega (arith, z, de, ef)) (λ z. omega (arith, z, ef)) (λ z. omega (arith, z, de, ef, fg)) (λ z. omega (arith, z, ef, fg)) (balanced q d e k f if g ig)
             | inr k1 ↦ elim (corner_or_kept m a b c w r i q f g iq if ig nf ng fg) [
               | inl k ↦ from_last_two (psi q d e) (psi q f g) (psi q d f) (psi q e g) (psi q d g) (psi q e f) _ _ _ _ (swapped q d f) (swapped q e g) (swapped q e f) (swapped q d g)
-                  (turned_relation q f g d e k iq if ig id ie (λ z. omega (arith, z, de, ef)) (λ z. omega (arith, z, de, ef, fg)) (λ z. omega (arith, z, ef)) (λ z. omega (arith, z, ef, fg)) (balanced q f g k d id e ie de))
+                  (turned_relation q f g d e k iq if ig id ie (λ z. omega (arith, z, de, ef)) (λ z. omega (arith, z, de, ef, fg)) (λ z. omega (arith, z, ef)) (λ z. omega (arith, z, ef, fg)) (balanced q f g k d id e ie))
               | inr k2 ↦ elim (corner_or_kept m a b c w r i q d f iq id if nd nf (omega (arith, de, ef))) [
                 | inl k ↦ from_first_third (psi q d e) (psi q f g) (psi q d f) (psi q e g) (psi q d g) (psi q e f) _ (swapped q e f)
-                    (turned_relation q d f e g k iq id if ie ig (λ z. omega (arith, z, de)) (λ z. omega (arith, z, ef)) (λ z. omega (arith, z, de, ef, fg)) (λ z. omega (arith, z, fg)) (balanced q d f k e ie g ig (omega (arith, ef, fg))))
+                    (turned_relation q d f e g k iq id if ie ig (λ z. omega (arith, z, de)) (λ z. omega (arith, z, ef)) (λ z. omega (arith, z, de, ef, fg)) (λ z. omega (arith, z, fg)) (balanced q d f k e ie g ig))
                 | inr k3 ↦ elim (corner_or_kept m a b c w r i q e g iq ie ig ne ng (omega (arith, ef, fg))) [
                   | inl k ↦ from_second_last (psi q d e) (psi q f g) (psi q d f) (psi q e g) (psi q d g) (psi q e f) _ _ _ (swapped q d e) (swapped q f g) (swapped q d g)
-                      (turned_relation q e g d f k iq ie ig id if (λ z. omega (arith, z, de)) (λ z. omega (arith, z, de, ef, fg)) (λ z. omega (arith, z, ef)) (λ z. omega (arith, z, fg)) (balanced q e g k d id f if (omega (arith, de, ef))))
+                      (turned_relation q e g d f k iq ie ig id if (λ z. omega (arith, z, de)) (λ z. omega (arith, z, de, ef, fg)) (λ z. omega (arith, z, ef)) (λ z. omega (arith, z, fg)) (balanced q e g k d id f if))
                   | inr k4 ↦ elim (corner_or_kept m a b c w r i q d g iq id ig nd ng (omega (arith, de, ef, fg))) [
                     | inl k ↦ from_first_last (psi q d e) (psi q f g) (psi q d f) (psi q e g) (psi q d g) (psi q e f) _ _ (swapped q f g) (swapped q e g)
-                        (turned_relation q d g e f k iq id ig ie if (λ z. omega (arith, z, de)) (λ z. omega (arith, z, ef, fg)) (λ z. omega (arith, z, de, ef)) (λ z. omega (arith, z, fg)) (balanced q d g k e ie f if ef))
+                        (turned_relation q d g e f k iq id ig ie if (λ z. omega (arith, z, de)) (λ z. omega (arith, z, ef, fg)) (λ z. omega (arith, z, de, ef)) (λ z. omega (arith, z, fg)) (balanced q d g k e ie f if))
                     | inr k5 ↦ elim (corner_or_kept m a b c w r i q e f iq ie if ne nf ef) [
                       | inl k ↦ from_middle_two (psi q d e) (psi q f g) (psi q d f) (psi q e g) (psi q d g) (psi q e f) _ _ (swapped q d e) (swapped q d f)
-                          (turned_relation q e f d g k iq ie if id ig (λ z. omega (arith, z, de)) (λ z. omega (arith, z, de, ef)) (λ z. omega (arith, z, ef, fg)) (λ z. omega (arith, z, fg)) (balanced q e f k d id g ig (omega (arith, de, ef, fg))))
+                          (turned_relation q e f d g k iq ie if id ig (λ z. omega (arith, z, de)) (λ z. omega (arith, z, de, ef)) (λ z. omega (arith, z, ef, fg)) (λ z. omega (arith, z, fg)) (balanced q e f k d id g ig))
                       | inr k6 ↦ balanced_same _ _ _ _ _ _ (three_values _ _ _ _ k1 k2) (ap opposite (three_values _ _ _ _ k3 k4)) (three_values _ _ _ _ k5 k6) rel
                     ]
                   ]

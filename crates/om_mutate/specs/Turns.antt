@@ -1,8 +1,10 @@
 -- Whether the sign of one triple of a map may be turned alone: what the three-term relations that hold the triple say.
 --
 -- Reference: Björner, Las Vergnas, Sturmfels, White and Ziegler, Oriented Matroids, chapter 3.
-use Rattle.std.specs.Prelude.{ℕ, ◌≢◌, ◌<◌, [], ◌∷◌}
+use Rattle.std.specs.Prelude.{ℕ, ◌≢◌, ◌-◌, List, [], ◌∷◌, slice_set}
+use Rattle.om_signs.specs.declared.sign.Sign.{Sign}
 use Rattle.om_signs.specs.Sign.{opposite, product}
+use Rattle.om_signs.specs.SignVec.{place}
 use Rattle.om_laws.specs.Sorting.{IsElement}
 use Rattle.om_laws.specs.ThreeTerm.{AreBalanced}
 use Rattle.om_chirotope.specs.Map.{SignMap, value_of}
@@ -15,16 +17,20 @@ pub record StaysBalanced (m : SignMap) (p x y z w : ℕ) : Type 0 where
       (opposite (product (value_of m (p ∷ x ∷ z ∷ [])) (value_of m (p ∷ y ∷ w ∷ []))))
       (product (value_of m (p ∷ x ∷ w ∷ [])) (value_of m (p ∷ y ∷ z ∷ [])))
 
--- the same for z and all greater w
-abbrev pub StaysBalancedAfter : SignMap → ℕ → ℕ → ℕ → ℕ → Type 0
-StaysBalancedAfter m p x y z = (w : ℕ) → IsElement m.elements w → z < w → StaysBalanced m p x y z w
+-- the same for z and all w
+abbrev pub StaysBalancedWith : SignMap → ℕ → ℕ → ℕ → ℕ → Type 0
+StaysBalancedWith m p x y z = (w : ℕ) → IsElement m.elements w → StaysBalanced m p x y z w
 
 -- the same for all z
 abbrev pub StaysBalancedAt : SignMap → ℕ → ℕ → ℕ → Type 0
-StaysBalancedAt m p x y = (z : ℕ) → IsElement m.elements z → StaysBalancedAfter m p x y z
+StaysBalancedAt m p x y = (z : ℕ) → IsElement m.elements z → StaysBalancedWith m p x y z
 
 -- the same at each of three elements with the other two
 pub record StaysBalancedAround (m : SignMap) (a b c : ℕ) : Type 0 where
   pub first : StaysBalancedAt m a b c
   pub second : StaysBalancedAt m b a c
   pub third : StaysBalancedAt m c a b
+
+-- the vector with the sign at an element turned
+abbrev pub turned_row : List Sign → ℕ → List Sign
+turned_row row e = slice_set row (e - 1) (opposite (place row e))

@@ -1,19 +1,22 @@
 //! The test of one triple by the three-term relations that hold it.
 
-ghost use Rattle.std.specs.Prelude.{ℕ, ◌≡◌, ◌<◌, ◌≤◌, ◌↔◌, ◌∷◌, length, IsTrue};
+ghost use Rattle.std.specs.Prelude.{ℕ, ◌≡◌, ◌-◌, ◌<◌, ◌≤◌, ◌↔◌, ◌∷◌, [], length, IsTrue, slice_set};
+ghost use Rattle.om_signs.specs.Sign.{opposite, product};
+ghost use Rattle.om_signs.specs.SignVec.{at, place};
 ghost use Rattle.om_subsets.specs.Subsets.{without_element};
 ghost use Rattle.om_laws.specs.Sorting.{IsElement};
-ghost use Rattle.om_laws.specs.ThreeTerm as three_term;
+ghost use Rattle.om_laws.specs.ThreeTerm.{AreBalanced};
+ghost use Rattle.om_chirotope.specs.Map.{cocircuit_vector};
 ghost use Rattle.om_mutate.specs.Mutations.{IsMutation};
-ghost use Rattle.om_mutate.specs.Turns.{StaysBalanced, StaysBalancedAfter, StaysBalancedAround, StaysBalancedAt};
+ghost use Rattle.om_mutate.specs.Turns.{StaysBalancedAround, StaysBalancedAt, StaysBalancedWith, turned_row};
 
-use om_chirotope::Chirotope;
-use om_signs::Sign;
+use om_signs::{Sign, SignVec};
 use om_subsets::Subset;
+use om_wiring::Values;
 
 /// Whether a triple of a chirotope is a mutation: its sign isn't 0, and the three-term relations that hold it stay balanced where
 /// this sign is turned. Bases stay bases, and the other relations stay as they are.
-pub fn is_mutation(chi: &Chirotope, triple: Subset) -> bool
+pub fn is_mutation(chi: &Values, triple: Subset) -> bool
     requires rank { chi.now.rank ≡ 3 }
     requires n { triple.n ≡ chi.now.elements }
     requires size { length triple.elements ≡ 3 }
@@ -33,7 +36,7 @@ pub fn is_mutation(chi: &Chirotope, triple: Subset) -> bool
 }
 
 /// Whether the relations of each of a, b and c with the other two stay balanced where the sign of the three is turned.
-fn stays_balanced_around(chi: &Chirotope, a: u8, b: u8, c: u8) -> bool
+fn stays_balanced_around(chi: &Values, a: u8, b: u8, c: u8) -> bool
     requires rank { chi.now.rank ≡ 3 }
     requires a { IsElement chi.now.elements a }
     requires b { IsElement chi.now.elements b }
@@ -49,49 +52,54 @@ fn stays_balanced_around(chi: &Chirotope, a: u8, b: u8, c: u8) -> bool
     stays_balanced_at(chi, c, a, b)
 }
 
-/// Whether the relations of p with x, y and two other elements stay balanced where the sign of p, x and y is turned.
-fn stays_balanced_at(chi: &Chirotope, p: u8, x: u8, y: u8) -> bool
+/// Whether the relations of p with x, y and two other elements stay balanced where the sign of p, x and y is turned. The rows of p
+/// with x and with y are turned for this at one place each.
+fn stays_balanced_at(chi: &Values, p: u8, x: u8, y: u8) -> bool
     requires rank { chi.now.rank ≡ 3 }
     requires p { IsElement chi.now.elements p }
     requires x { IsElement chi.now.elements x }
     requires y { IsElement chi.now.elements y }
     ensures { IsTrue result ↔ StaysBalancedAt chi.now p x y }
 {
-    for z in 1..chi.elements() + 1 {
-        if !stays_balanced_after(chi, p, x, y, z) {
-            return false;
-        }
-    }
-    true
-}
-
-/// The same for z and all greater elements.
-fn stays_balanced_after(chi: &Chirotope, p: u8, x: u8, y: u8, z: u8) -> bool
-    requires rank { chi.now.rank ≡ 3 }
-    requires p { IsElement chi.now.elements p }
-    requires x { IsElement chi.now.elements x }
-    requires y { IsElement chi.now.elements y }
-    requires z { IsElement chi.now.elements z }
-    ensures { IsTrue result ↔ StaysBalancedAfter chi.now p x y z }
-{
     let elements = chi.elements();
-    for w in z + 1..elements + 1 {
-        if !stays_balanced(chi, p, x, y, z, w) {
+    let first = turned(chi.row(p, x), y);
+    let second = turned(chi.row(p, y), x);
+    for z in 1..elements + 1 {
+        if !stays_balanced_with(chi, first, second, p, x, y, z) {
             return false;
         }
     }
     true
 }
 
-/// Whether the relation of p with x, y, z and w stays balanced where the sign of p, x and y is turned, if the four differ.
-fn stays_balanced(chi: &Chirotope, p: u8, x: u8, y: u8, z: u8, w: u8) -> bool
+/// The vector with the sign at an element turned.
+fn turned(row: SignVec, e: u8) -> SignVec
+    requires low { 1 ≤ e }
+    requires high { e ≤ length row }
+    ensures { result ≡ turned_row row e }
+{
+    row.set(e, row.get(e).neg())
+}
+
+/// Whether the relations of p with x, y, z and each other element stay balanced, by the turned rows. Where the other element is x or
+/// y, they do so by themselves.
+fn stays_balanced_with(
+    chi: &Values,
+    first: SignVec,
+    second: SignVec,
+    p: u8,
+    x: u8,
+    y: u8,
+    z: u8,
+) -> bool
     requires rank { chi.now.rank ≡ 3 }
     requires p { IsElement chi.now.elements p }
     requires x { IsElement chi.now.elements x }
     requires y { IsElement chi.now.elements y }
     requires z { IsElement chi.now.elements z }
-    requires w { IsElement chi.now.elements w }
-    ensures { IsTrue result ↔ StaysBalanced chi.now p x y z w }
+    requires first { first ≡ turned_row (cocircuit_vector chi.now (p ∷ x ∷ [])) y }
+    requires second { second ≡ turned_row (cocircuit_vector chi.now (p ∷ y ∷ [])) x }
+    ensures { IsTrue result ↔ StaysBalancedWith chi.now p x y z }
 {
     if z == x {
         return true;
@@ -99,23 +107,35 @@ fn stays_balanced(chi: &Chirotope, p: u8, x: u8, y: u8, z: u8, w: u8) -> bool
     if z == y {
         return true;
     }
-    if w == x {
-        return true;
-    }
-    if w == y {
-        return true;
-    }
-    let first = chi.value(&[p, x, y]).neg().times(chi.value(&[p, z, w]));
-    let second = chi.value(&[p, x, z]).times(chi.value(&[p, y, w])).neg();
-    let third = chi.value(&[p, x, w]).times(chi.value(&[p, y, z]));
-    are_balanced(first, second, third)
+    are_balanced(first, second, chi.row(p, z), y, z)
 }
 
-/// Whether three signs are all zero, or include a plus and a minus.
-fn are_balanced(a: Sign, b: Sign, c: Sign) -> bool
-    ensures { IsTrue result ↔ three_term.AreBalanced a b c }
+/// Whether the relations of three rows with all elements hold: those of the elements x, y and z.
+fn are_balanced(first: SignVec, second: SignVec, third: SignVec, y: u8, z: u8) -> bool
+    requires second { length second ≡ length first }
+    requires third { length third ≡ length first }
+    requires y_low { 1 ≤ y }
+    requires y_high { y ≤ length first }
+    requires z_low { 1 ≤ z }
+    requires z_high { z ≤ length first }
+    ensures { IsTrue result ↔ ((i : ℕ) → i < length first → AreBalanced (product (place first y) (at third i)) (opposite (product (place first z) (at second i))) (product (at first i) (place second z))) }
 {
-    let plus = a == Sign::Plus || b == Sign::Plus || c == Sign::Plus;
-    let minus = a == Sign::Minus || b == Sign::Minus || c == Sign::Minus;
+    let u = scaled(first.get(y), third);
+    let v = scaled(first.get(z).neg(), second);
+    let w = scaled(second.get(z), first);
+    let plus = u.plus() | v.plus() | w.plus();
+    let minus = u.minus() | v.minus() | w.minus();
     plus == minus
+}
+
+/// The vector with each sign multiplied by s.
+fn scaled(s: Sign, vector: SignVec) -> SignVec
+    ensures len { length result ≡ length vector }
+    ensures signs { (i : ℕ) → i < length vector → at result i ≡ product s (at vector i) }
+{
+    match s {
+        Sign::Plus => vector,
+        Sign::Zero => SignVec::zero(vector.len()),
+        Sign::Minus => vector.neg(),
+    }
 }
