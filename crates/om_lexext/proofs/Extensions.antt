@@ -1,7 +1,7 @@
 -- The map of a lexicographic extension, by its signs on increasing lists.
 --
 -- Main results: an increasing list with the last element is one without it, and that element behind it (last_split); the map of the signs is the extension and meets the
--- axioms (lexicographic_axioms, is_extension); extensions by one list are the same (same_extensions); steps of the calls (next_listed, narrow_code).
+-- axioms (lexicographic_axioms, is_extension); extensions by one list are the same (same_extensions); steps of the calls (found_entry, passed_entry, without_size, sign_with_last, sign_without_last).
 -- Reference: Björner, Las Vergnas, Sturmfels, White and Ziegler, Oriented Matroids, chapter 7.
 use Rattle.std.proofs.Common.{ℕ, zero, suc, ◌≡◌, ◌≢◌, ◌+◌, ◌-◌, ◌*◌, ◌<◌, ◌≤◌, ◌^◌, ◌⊎◌, List, [], ◌∷◌, ◌++◌, length, map, drop, take, cond, Bool, true, false, refl, sym, ap, subst, ◌∙◌, inl, inr, ⊎_elim, arith, get_or, append-nil}
 use Rattle.std.proofs.lemmas.Bool.{cases_eq, eq-eqb, ne_eqb, false≢true}
@@ -10,9 +10,7 @@ use Rattle.om_signs.specs.declared.sign.Sign.{Sign}
 use Rattle.om_signs.specs.declared.sign.Sign.TheVariants.{Zero}
 use Rattle.om_signs.specs.Sign.{product, first_nonzero}
 use Rattle.om_subsets.specs.Subsets.{IsSubsetFrom, IsMember, choose, without_element, all_subsets, subset_at}
-use Rattle.om_subsets.specs.Members.{members, mask_of}
 use Rattle.om_subsets.proofs.Order.{length-subsets_from}
-use Rattle.om_subsets.proofs.Masks.{members-mask_of, mask_of-lt}
 use Rattle.om_laws.specs.Members as lists
 use Rattle.om_laws.specs.Chirotope.{elements_to}
 use Rattle.om_laws.specs.Relations.{along}
@@ -304,24 +302,6 @@ pub drop_entry : (list : List Signed) (i : ℕ) (d : Signed) → i < length list
 drop_entry [] i d l = absurd (omega (arith, l))
 drop_entry (x ∷ xs) zero d l = refl
 drop_entry (x ∷ xs) (suc i) d l = drop_entry xs i d (omega (arith, l)) ∙ ap (λ k. get_or xs i d ∷ drop k (x ∷ xs)) (let e : suc (i + 1) ≡ suc i + 1 = omega arith in e)
-
-mask_shrunk : (e m : ℕ) (xs : List ℕ) → IsSubsetFrom e m xs → mask_of e xs (suc m) ≡ mask_of e xs m
-mask_shrunk e zero [] h = refl
-mask_shrunk e zero (x ∷ xs) h = absurd h
-mask_shrunk e (suc m) [] h = ap (λ k. 2 * k) (mask_shrunk (e + 1) m [] tt)
-mask_shrunk e (suc m) (x ∷ xs) (inl (q, h)) = rw (eq-eqb x e q) (ap (λ k. 1 + 2 * k) (mask_shrunk (e + 1) m xs h))
-mask_shrunk e (suc m) (x ∷ xs) (inr (n, h)) = rw (ne_eqb x e n) (ap (λ k. 2 * k) (mask_shrunk (e + 1) m (x ∷ xs) h))
-
-pub narrow_code : (n : ℕ) (xs : List ℕ) → 1 ≤ n → IsSubsetFrom 1 n xs → (IsMember n xs → ⊥) → (mask_of 1 xs n < 2 ^ (n - 1)) × (members (mask_of 1 xs n) 1 (n - 1) ≡ xs)
-narrow_code zero xs l h off = absurd (omega (arith, l))
-narrow_code (suc n) xs l h off =
-    let e : 1 + n ≡ suc n = omega arith in
-    let s = shrunk 1 n xs h (λ k. off (subst (λ g. IsMember g xs) e k)) in
-    let q : suc n - 1 ≡ n = omega arith in
-    let c = mask_shrunk 1 n xs s in (
-      subst (λ k. mask_of 1 xs (suc n) < 2 ^ k) (sym q) (subst (λ k. k < 2 ^ n) (sym c) (mask_of-lt 1 n xs)),
-      ap (λ k. members (mask_of 1 xs (suc n)) 1 k) q ∙ ap (λ k. members k 1 n) c ∙ members-mask_of 1 n xs s,
-    )
 
 pub without_off : (n : ℕ) (xs : List ℕ) → IsMember n (without_element n xs) → ⊥
 without_off n [] k = k
