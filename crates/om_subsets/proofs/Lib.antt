@@ -12,3 +12,4 @@ pub mod Firsts
 pub mod Shorter
 pub mod Skips
 pub mod Complements
+pub mod Walks

@@ -1,7 +1,7 @@
 //! What two sets have in common, and sets that are made of others.
 
 ghost use Rattle.std.specs.Prelude.{◌≡◌, ◌↔◌, ◌≤◌, ◌<◌, ◌+◌, ℕ, [], ◌∷◌, length, map, cond, nat_lt, IsTrue};
-ghost use Rattle.om_subsets.specs.Subsets.{IsSubsetFrom, IsMember, IsPartOf, AreApart, with_element, without_element};
+ghost use Rattle.om_subsets.specs.Subsets.{choose, rank_of, IsSubsetFrom, IsMember, IsPartOf, AreApart, with_element, without_element};
 
 use super::subset::Subset;
 use om_signs::MAX_PLACES;
@@ -111,5 +111,20 @@ impl Subset {
     {
         self.is_lawful();
         Subset::from_mask(self.mask(), self.n() - 1)
+    }
+
+    /// The next set of this size in lexicographic order, or this one where it is the last: the step of a walk over all sets of a
+    /// size.
+    pub fn following(self) -> Subset
+        ensures n { result.n ≡ self.n }
+        ensures size { length result.elements ≡ length self.elements }
+        ensures place { rank_of self.n self.elements + 1 < choose self.n (length self.elements) → rank_of result.n result.elements ≡ rank_of self.n self.elements + 1 }
+        ensures lawful { IsSubsetFrom 1 result.n result.elements }
+    {
+        self.is_lawful();
+        match self.next() {
+            None => self,
+            Some(next) => next,
+        }
     }
 }

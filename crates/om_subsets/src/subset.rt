@@ -305,8 +305,9 @@ mod tests {
         let mut pair = Subset::first(2, 4);
         for (place, mask) in PAIRS {
             assert!(rt; stands_at(pair, place, mask));
-            pair = pair.next().unwrap_or(pair);
+            pair = pair.following();
         }
+        assert!(rt; pair.next().is_none());
     }
 
     // The pairs of four elements in reverse lexicographic order, as they are ordered by hand: 12, 13, 23, 14, 24, 34.

@@ -1,9 +1,9 @@
-use Rattle.std.proofs.Common.{◌≡◌, ◌∙◌, ap, ◌*◌, ◌%◌, ◌^◌, length, subst, sym, ◌↔◌, ◌≤◌}
+use Rattle.std.proofs.Common.{◌≡◌, ◌∙◌, ap, ◌*◌, ◌%◌, ◌^◌, subst, sym, ◌↔◌, ◌≤◌}
 use Rattle.om_signs.proofs.Bits.{one_shl_32}
 use Rattle.om_subsets.specs.Members.{members, mask_of}
 use Rattle.om_subsets.specs.Subsets.{IsMember}
 use Rattle.om_subsets.proofs.Places.{bits_fit}
-use Rattle.om_subsets.proofs.Complements.{others, complement_within, complement_member, complement_size}
+use Rattle.om_subsets.proofs.Complements.{others, complement_member, complement_size}
 use Rattle.om_subsets.proofs.subset.Subset.complement.Goals as goal
 
 pub returns-clause-members : goal.returns-clause-members

@@ -1,5 +1,5 @@
-use Rattle.std.proofs.Common.{◌∙◌, ap, subst}
-use Rattle.om_subsets.specs.Subsets.{with_element, IsSubsetFrom}
+use Rattle.std.proofs.Common.{◌∙◌, ap}
+use Rattle.om_subsets.specs.Subsets.{with_element}
 use Rattle.om_subsets.proofs.subset.Subset.triple.Goals as goal
 
 pub returns-clause-elements : goal.returns-clause-elements
