@@ -5,11 +5,10 @@
 use Rattle.std.specs.Prelude.{ℕ, ◌≡◌, ◌≢◌, ◌+◌, ◌-◌, ◌*◌, ◌/◌, ◌%◌, ◌<◌, ◌≤◌, ◌^◌, ◌⊎◌, ◌↔◌, List, [], ◌∷◌, ◌++◌, length, refl, bit_and}
 use Rattle.std.specs.Int.{bit_at}
 use Rattle.std.proofs.Common.{sym, ◌∙◌, ap, arith, inl, inr, subst, get_or}
-use Rattle.std.proofs.Common.{zero, suc}
 use Rattle.std.proofs.lemmas.Bool.{cases_eq, cases_lt}
 use Rattle.std.proofs.lemmas.Nat.{and_le_l}
 use Rattle.std.proofs.Math.Pow.{pow_mono, pow_pos}
-use Rattle.std.proofs.lemmas.Nat.Bits.{bit_at-lt, bit_at_above, bit_at-zero, bit_at_ones, same_from_bits_below}
+use Rattle.std.proofs.lemmas.Nat.Bits.{bit_at_above, bit_at-zero, bit_at_ones, same_from_bits_below}
 use Rattle.om_signs.proofs.Bits.{bit_at_and_not, one_shl_32, some_bit}
 use Rattle.om_signs.specs.declared.limits.TheConstants.{MAX_PLACES}
 use Rattle.om_signs.specs.declared.sign.Sign.{Sign}
@@ -28,7 +27,7 @@ use Rattle.om_chirotope.specs.Marks.{mark_at, IsMarked, IsSpread, IsSpreadFrom}
 use Rattle.om_chirotope.specs.Pictures.{AreMarked, AreMarkedAbove, HasBasisIn, IsInMask, IsMet}
 use Rattle.om_chirotope.proofs.Places.{cocircuit_place, length-vector}
 use Rattle.om_chirotope.proofs.Tables.{vector_of_place, length-table, table_at}
-use Rattle.om_chirotope.proofs.Words.{add_bit_same, add_bit_other, one_or_zero, take_bit}
+use Rattle.om_chirotope.proofs.Words.{add_bit_other, one_or_zero, take_bit}
 
 -- a mark at each basis among the first k sets of its size
 pub record AreBasesMarkedBelow (m : SignMap) (words : List ℕ) (k : ℕ) : Type 0 where

@@ -17,7 +17,7 @@ use std::thread::Threads;
 /// all values are 0, and otherwise `Relation` with the first violated pair.
 ///
 /// The elements are from 1 to [`MAX_ELEMENTS`], the rank is at most their number, and there is one sign for each
-/// increasing list of that many elements. It takes no memory.
+/// increasing list of that many elements. It takes no memory: its tables need about 460 KB of stack at most.
 ///
 /// Source: Björner, Las Vergnas, Sturmfels, White and Ziegler, *Oriented Matroids*, chapter 3.
 pub fn check<R: Threads + Sync>(rt: &R, raw: RawMap) -> Result<Chirotope, BadMap>
@@ -180,12 +180,14 @@ mod tests {
         })
     }
 
-    // The place of the minus, and the first violated pair. In the last row it is found while the vectors are made, and in
+    // The place of the minus, and the first violated pair. In the last two rows it is found while the vectors are made, and in
     // the others the first set S has none, and the three-term test fails.
-    const TURNED: [(u8, u8, u32, (u32, u32)); 4] = [
+    const TURNED: [(u8, u8, u32, (u32, u32)); 6] = [
         (3, 7, 20, (0b0001111, 0b0101000)),
         (2, 6, 10, (0b001101, 0b010000)),
         (4, 8, 49, (0b00101111, 0b10101000)),
+        (4, 20, 200, (0b0100_1111, 0b10_0100_0001)),
+        (4, 20, 1, (0b01_1111, 0b10_0011)),
         (8, 16, 1, (0b01_1111_1111, 0b10_0011_1111)),
     ];
 
@@ -195,6 +197,18 @@ mod tests {
             assert!(rt; 1 <= elements && elements <= MAX_ELEMENTS && rank <= elements);
             let raw = map_with_a_minus(&rt, rt.alloc(), rank, elements, place)?;
             assert!(rt; refusal(&rt, raw) == refusal_of(wanted, elements));
+        }
+        Ok(())
+    }
+
+    // Maps all of whose values are plus, with few sets A and with many.
+    #[test]
+    fn all_plus(rt: HostRuntime) -> Result<(), NoMemory> {
+        for (rank, elements) in [(1, 20), (4, 20), (17, 20), (8, 16)] {
+            assert!(rt; 1 <= elements && elements <= MAX_ELEMENTS && rank <= elements);
+            let none = Subset::choose(elements, rank);
+            let raw = map_with_a_minus(&rt, rt.alloc(), rank, elements, none)?;
+            assert!(rt; refusal(&rt, raw).is_none());
         }
         Ok(())
     }

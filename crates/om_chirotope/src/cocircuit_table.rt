@@ -15,6 +15,9 @@ use om_subsets::Subset;
 /// those of rank 14 on 19 elements have the most sets of one element less than the rank.
 pub const ROOM: usize = 27_132;
 
+/// The room of the table that serves for small maps: 1,140, the number of sets of three of 20 elements.
+pub const FEW: usize = 1_140;
+
 /// Writes the vectors U of all sets of one element less than the rank, in lexicographic order, up to the first that isn't
 /// orthogonal to a vector; the answer is its place, or None where each is orthogonal.
 pub fn fill_while_orthogonal(raw: &RawMap, vector: SignVec, table: &mut [SignVec]) -> Option<u32>

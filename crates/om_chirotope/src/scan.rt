@@ -8,7 +8,8 @@ ghost use Rattle.om_chirotope.specs.Map.{map_of, cocircuit_vectors};
 ghost use Rattle.om_chirotope.specs.Chirotope.{HasOrthogonalPairs, IsFirstViolated};
 ghost use Rattle.om_chirotope.specs.Settlement.{IsSettled};
 
-use super::cocircuit_table::{ROOM, fill_while_orthogonal, first_not_orthogonal_to};
+use super::cocircuit_table::{FEW, ROOM, fill_while_orthogonal, first_not_orthogonal_to};
+use super::marking::WORDS;
 use super::threaded_scan::scan_on_threads;
 use super::three_terms::meets_test;
 use super::vectors::circuit_of;
@@ -40,8 +41,28 @@ pub fn violated(raw: &RawMap) -> Option<(Subset, Subset)>
     if count > ROOM {
         return scan_each(raw);
     }
-    let mut table = [SignVec::zero(raw.elements); ROOM];
-    let cocircuits = &mut table[..count];
+    if count > FEW {
+        let mut table = [SignVec::zero(raw.elements); ROOM];
+        let cocircuits = &mut table[..count];
+        return violated_by(raw, cocircuits);
+    }
+    let mut few = [SignVec::zero(raw.elements); FEW];
+    let cocircuits = &mut few[..count];
+    violated_by(raw, cocircuits)
+}
+
+/// The same, by a table for the vectors U.
+fn violated_by(raw: &RawMap, cocircuits: &mut [SignVec]) -> Option<(Subset, Subset)>
+    requires low { 1 ≤ raw.now.elements }
+    requires high { raw.now.elements ≤ MAX_PLACES }
+    requires rank_low { 1 ≤ raw.now.rank }
+    requires rank_high { raw.now.rank < raw.now.elements }
+    requires whole { length raw.now.signs ≡ choose raw.now.elements raw.now.rank }
+    requires few { length cocircuits.old ≤ ROOM }
+    requires room { length cocircuits.old ≡ choose raw.now.elements (raw.now.rank - 1) }
+    ensures none { IsNone result ↔ HasOrthogonalPairs (map_of raw.now) }
+    ensures first { IfSome result (λ p. IsFirstViolated (map_of raw.now) p.0 p.1) }
+{
     match settle(raw, cocircuits) {
         Settled::Orthogonal => None,
         Settled::Violated { s, a } => Some((s, a)),
@@ -68,8 +89,32 @@ pub fn violated_on_threads<R: Threads + Sync>(rt: &R, raw: &RawMap) -> Option<(S
     if count > ROOM {
         return scan_each(raw);
     }
-    let mut table = [SignVec::zero(raw.elements); ROOM];
-    let cocircuits = &mut table[..count];
+    if count > FEW {
+        let mut table = [SignVec::zero(raw.elements); ROOM];
+        let cocircuits = &mut table[..count];
+        return violated_by_threads(rt, raw, cocircuits);
+    }
+    let mut few = [SignVec::zero(raw.elements); FEW];
+    let cocircuits = &mut few[..count];
+    violated_by_threads(rt, raw, cocircuits)
+}
+
+/// The same, by a table for the vectors U.
+fn violated_by_threads<R: Threads + Sync>(
+    rt: &R,
+    raw: &RawMap,
+    cocircuits: &mut [SignVec],
+) -> Option<(Subset, Subset)>
+    requires low { 1 ≤ raw.now.elements }
+    requires high { raw.now.elements ≤ MAX_PLACES }
+    requires rank_low { 1 ≤ raw.now.rank }
+    requires rank_high { raw.now.rank < raw.now.elements }
+    requires whole { length raw.now.signs ≡ choose raw.now.elements raw.now.rank }
+    requires few { length cocircuits.old ≤ ROOM }
+    requires room { length cocircuits.old ≡ choose raw.now.elements (raw.now.rank - 1) }
+    ensures none { IsNone result ↔ HasOrthogonalPairs (map_of raw.now) }
+    ensures first { IfSome result (λ p. IsFirstViolated (map_of raw.now) p.0 p.1) }
+{
     match settle(raw, cocircuits) {
         Settled::Orthogonal => None,
         Settled::Violated { s, a } => Some((s, a)),
@@ -88,8 +133,8 @@ enum Settled {
 }
 
 /// What the pairs of the first set S, and then the three-term test, say of a map. It fills the table with the vectors U of all
-/// sets of one element less than the rank, unless the first set S has a violated pair. The test is asked where there are more
-/// pairs than sets of elements, of maps on at most [`MAX_ELEMENTS`] elements.
+/// sets of one element less than the rank, unless the first set S has a violated pair. The test is asked where there are many
+/// pairs, of maps on at most [`MAX_ELEMENTS`] elements.
 fn settle(raw: &RawMap, cocircuits: &mut [SignVec]) -> Settled
     requires low { 1 ≤ raw.now.elements }
     requires high { raw.now.elements ≤ MAX_PLACES }
@@ -110,7 +155,7 @@ fn settle(raw: &RawMap, cocircuits: &mut [SignVec]) -> Settled
     Settled::Open
 }
 
-/// Whether there are more pairs of a set S and a set A than sets of elements.
+/// Whether there are more pairs of a set S and a set A than sets of elements, or than words for the marks of these sets.
 fn has_many_pairs(raw: &RawMap) -> bool
     requires high { raw.now.elements ≤ MAX_PLACES }
     requires rank_low { 1 ≤ raw.now.rank }
@@ -118,7 +163,7 @@ fn has_many_pairs(raw: &RawMap) -> bool
 {
     let sets = u64::from(Subset::choose(raw.elements, raw.rank + 1));
     let cosets = u64::from(Subset::choose(raw.elements, raw.rank - 1));
-    sets * cosets > 1u64 << raw.elements
+    sets * cosets > (1u64 << raw.elements).min(WORDS as u64)
 }
 
 /// The first violated pair, from the vectors U of all sets of one element less than the rank.

@@ -1,4 +1,4 @@
-use Rattle.std.proofs.Common.{arith, ap, sym, subst, ◌∙◌, ◌<◌, ◌≡◌, inl, inr, get_or, length, set}
+use Rattle.std.proofs.Common.{arith, sym, subst, ◌∙◌, ◌<◌, inl, inr, get_or, length, set}
 use Rattle.std.proofs.lemmas.Bool.{cases_eq}
 use Rattle.std.proofs.lemmas.List.{length-set, get_or-set_same, get_or-set_other}
 use Rattle.om_chirotope.specs.Marks.{IsWordSpread}

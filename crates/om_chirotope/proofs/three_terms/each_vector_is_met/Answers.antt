@@ -1,4 +1,4 @@
-use Rattle.std.proofs.Common.{arith, refl, sym, ap, subst, below_more, ◌∙◌, ◌≡◌, ◌-◌, ◌+◌, ◌<◌, ◌≤◌, length}
+use Rattle.std.proofs.Common.{arith, refl, sym, ap, subst, below_more, ◌∙◌, ◌≡◌, ◌-◌, ◌<◌, ◌≤◌, length}
 use Rattle.std.proofs.lemmas.Bool.{false≢true}
 use Rattle.om_subsets.specs.Subsets.{choose, subset_at}
 use Rattle.om_laws.specs.Relations.{along}
