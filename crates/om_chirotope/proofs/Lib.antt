@@ -2,7 +2,6 @@ pub mod InOrder
 pub mod Circuits
 pub mod Cocircuits
 pub mod WithPlaces
-pub mod Walks
 pub mod Places
 pub mod Tables
 pub mod Axioms

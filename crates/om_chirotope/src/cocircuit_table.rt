@@ -7,7 +7,6 @@ ghost use Rattle.om_subsets.specs.Subsets.{choose};
 ghost use Rattle.om_chirotope.specs.Map.{map_of, cocircuit_vectors};
 
 use super::vectors::cocircuit_of;
-use super::walking::following;
 use om_signs::{MAX_PLACES, RawMap, SignVec};
 use om_subsets::Subset;
 
@@ -40,7 +39,7 @@ pub fn fill_while_orthogonal(raw: &RawMap, vector: SignVec, table: &mut [SignVec
             return Some(place);
         }
         table[place as usize] = other;
-        a = following(a);
+        a = a.following();
     }
     None
 }
@@ -64,7 +63,7 @@ pub fn first_not_orthogonal_to(raw: &RawMap, vector: SignVec) -> Option<u32>
         if !vector.orthogonal(cocircuit_of(raw, a)) {
             return Some(place);
         }
-        a = following(a);
+        a = a.following();
     }
     None
 }

@@ -8,7 +8,6 @@ ghost use Rattle.om_chirotope.specs.Marks.{mark_at, IsMarked, IsSpread, IsWordSp
 ghost use Rattle.om_chirotope.specs.Pictures.{AreMarked, AreMarkedAbove};
 
 use super::vectors::sign_of;
-use super::walking::following;
 use om_signs::{MAX_ELEMENTS, MAX_PLACES, RawMap, Sign};
 use om_subsets::Subset;
 
@@ -83,7 +82,7 @@ fn mark_bases(raw: &RawMap, words: &mut [u64])
         if is_nonzero(sign_of(raw, b, k)) {
             mark(words, b.mask());
         }
-        b = following(b);
+        b = b.following();
     }
 }
 

@@ -14,7 +14,7 @@ ghost use Rattle.om_chirotope.specs.Pictures.{AreLong, AreMarkedAbove, AreRowsBe
 
 use super::marking::{MOST_WORDS, WORDS, is_marked, mark_sets, number_of_words};
 use super::vectors::cocircuit_of;
-use super::walking::{following, places_with};
+use super::walking::places_with;
 use om_signs::{MAX_ELEMENTS, MAX_PLACES, RawMap, Sign, SignVec};
 use om_subsets::Subset;
 
@@ -75,7 +75,7 @@ fn each_vector_is_met(raw: &RawMap, marks: &[u64]) -> bool
         if !is_met(raw, marks, cocircuit_of(raw, a)) {
             return false;
         }
-        a = following(a);
+        a = a.following();
     }
     true
 }
@@ -147,7 +147,7 @@ fn has_relations(raw: &RawMap, cocircuits: &[SignVec]) -> bool
         if !has_relations_at(raw, cocircuits, p) {
             return false;
         }
-        p = following(p);
+        p = p.following();
     }
     true
 }
@@ -269,8 +269,11 @@ fn are_balanced_with(rows: &[SignVec; ROWS], elements: u8, x: u32, y: u32, later
     true
 }
 
-/// Whether the relations of three rows with all elements hold: those of the elements x, y and z.
-fn are_balanced(first: SignVec, second: SignVec, third: SignVec, y: u8, z: u8) -> bool
+/// Whether the three-term relations of three rows with all elements hold: the rows are those of elements x, y and z below a list P, so
+/// the row of x has at each element w the value of P with x and w behind it. The three have one length, and y and z are places of them.
+///
+/// Source: Björner, Las Vergnas, Sturmfels, White and Ziegler, *Oriented Matroids*, chapter 3.
+pub fn are_balanced(first: SignVec, second: SignVec, third: SignVec, y: u8, z: u8) -> bool
     requires second { length second ≡ length first }
     requires third { length third ≡ length first }
     requires y_low { 1 ≤ y }

@@ -1,4 +1,4 @@
-//! Sets of one size in their order, and the places of the sets with one element more.
+//! The places of the sets with one element more than a set.
 
 ghost use Rattle.std.specs.Prelude.{ℕ, ◌≡◌, ◌+◌, ◌-◌, ◌<◌, ◌≤◌, length};
 ghost use Rattle.std.proofs.Math.ListN.{get_or};
@@ -9,20 +9,6 @@ use om_subsets::Subset;
 
 /// The number of places of a set with one element more: one for each element.
 pub const PLACES: usize = MAX_PLACES as usize;
-
-/// The next set of this size in lexicographic order, or this one where it is the last.
-pub fn following(set: Subset) -> Subset
-    ensures n { result.n ≡ set.n }
-    ensures size { length result.elements ≡ length set.elements }
-    ensures place { rank_of set.n set.elements + 1 < choose set.n (length set.elements) → rank_of result.n result.elements ≡ rank_of set.n set.elements + 1 }
-    ensures lawful { IsSubsetFrom 1 result.n result.elements }
-{
-    let _size = set.size();
-    match set.next() {
-        None => set,
-        Some(next) => next,
-    }
-}
 
 /// The places of the sets with one element more: at e - 1, for each element e that isn't in the set, the place of the set
 /// with e in the lexicographic order of those of its size.

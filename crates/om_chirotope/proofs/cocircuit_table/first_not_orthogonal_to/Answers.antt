@@ -6,7 +6,7 @@ use Rattle.om_laws.specs.Relations.{along}
 use Rattle.om_chirotope.specs.Map.{map_of, cocircuit_vector, value_of}
 use Rattle.om_chirotope.proofs.Places.{length-vector}
 use Rattle.om_chirotope.proofs.Tables.{table_at}
-use Rattle.om_chirotope.proofs.Walks.{at_next, list_at}
+use Rattle.om_subsets.proofs.Walks.{at_next, list_at}
 use Rattle.om_chirotope.proofs.cocircuit_table.first_not_orthogonal_to.Goals as goal
 
 pub orthogonal-requires : goal.orthogonal-requires

@@ -2,7 +2,7 @@ use Rattle.std.proofs.Common.{ℕ, ◌-◌, ◌<◌, []}
 use Rattle.std.proofs.Math.ListN.{get_or}
 use Rattle.om_signs.specs.SignVec.{IsOrthogonal}
 use Rattle.om_chirotope.specs.Map.{map_of, cocircuit_vectors}
-use Rattle.om_chirotope.proofs.Walks.{IsAt}
+use Rattle.om_subsets.proofs.Walks.{IsAt}
 use Rattle.om_chirotope.proofs.cocircuit_table.first_not_orthogonal_to.Given as goal
 
 abbrev pub invariant-loop-place : goal.invariant-loop-place

@@ -5,7 +5,7 @@ use Rattle.om_chirotope.specs.Marks.{IsMarked}
 use Rattle.om_subsets.specs.Members.{mask_of}
 use Rattle.om_chirotope.proofs.Marks.{AreBasesMarkedBelow, all_marked, basis_in_itself, basis_marked, mark_kept, mark_only, none_marked}
 use Rattle.om_subsets.specs.Subsets.{choose}
-use Rattle.om_chirotope.proofs.Walks.{IsAt, at_first, at_next}
+use Rattle.om_subsets.proofs.Walks.{IsAt, at_first, at_next}
 use Rattle.om_chirotope.proofs.marking.mark_bases.Goals as goal
 use Rattle.om_chirotope.proofs.marking.mark_bases.Goals.{then-is_nonzero, else-is_nonzero}
 

@@ -1,5 +1,5 @@
 use Rattle.om_chirotope.specs.Map.{map_of}
-use Rattle.om_chirotope.proofs.Walks.{IsAt}
+use Rattle.om_subsets.proofs.Walks.{IsAt}
 use Rattle.om_chirotope.proofs.Marks.{AreBasesMarkedBelow}
 use Rattle.om_chirotope.proofs.marking.mark_bases.Given as goal
 

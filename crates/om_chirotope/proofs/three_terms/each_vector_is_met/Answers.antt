@@ -7,7 +7,7 @@ use Rattle.om_chirotope.specs.Pictures.{IsMet}
 use Rattle.om_chirotope.proofs.Marks.{exchange_of_met, met_of_exchange}
 use Rattle.om_chirotope.proofs.Places.{length-vector}
 use Rattle.om_chirotope.proofs.Tables.{length-table, table_at}
-use Rattle.om_chirotope.proofs.Walks.{at_next, list_at}
+use Rattle.om_subsets.proofs.Walks.{at_next, list_at}
 use Rattle.om_chirotope.proofs.three_terms.each_vector_is_met.Goals as goal
 
 pub is_met-requires-clause-length : goal.is_met-requires-clause-length

@@ -1,7 +1,7 @@
 use Rattle.std.proofs.Common.{ℕ, ◌-◌, ◌<◌, get_or, []}
 use Rattle.om_chirotope.specs.Map.{map_of, cocircuit_vectors}
 use Rattle.om_chirotope.specs.Pictures.{IsMet}
-use Rattle.om_chirotope.proofs.Walks.{IsAt}
+use Rattle.om_subsets.proofs.Walks.{IsAt}
 use Rattle.om_chirotope.proofs.three_terms.each_vector_is_met.Given as goal
 
 abbrev pub invariant-loop-k : goal.invariant-loop-k

@@ -1,6 +1,6 @@
 use Rattle.std.proofs.Common.{arith, refl, ◌-◌, ◌<◌}
 use Rattle.om_subsets.specs.Subsets.{choose}
-use Rattle.om_chirotope.proofs.Walks.{at_first, at_next}
+use Rattle.om_subsets.proofs.Walks.{at_first, at_next}
 use Rattle.std.proofs.lemmas.Bool.{false≢true}
 use Rattle.om_chirotope.specs.Map.{map_of}
 use Rattle.om_chirotope.proofs.Rows.{pictures_more, relations_of_pictures}

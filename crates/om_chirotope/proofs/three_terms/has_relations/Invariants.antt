@@ -1,6 +1,6 @@
 use Rattle.om_chirotope.specs.Map.{map_of}
 use Rattle.std.proofs.Common.{◌-◌}
-use Rattle.om_chirotope.proofs.Walks.{IsAt}
+use Rattle.om_subsets.proofs.Walks.{IsAt}
 use Rattle.om_chirotope.proofs.Rows.{AreBalancedBelow}
 use Rattle.om_chirotope.proofs.three_terms.has_relations.Given as goal
 
