@@ -1,11 +1,11 @@
 -- The table of all sets of one size, which of them are bases, and the least element of a set.
 --
--- Main results: set_at, table_more and table_done for the table; basis_of_sign; split, what taking out the least element gives.
-use Rattle.std.specs.Prelude.{ℕ, ◌≡◌, ◌+◌, ◌-◌, ◌<◌, ◌≤◌, ◌^◌, ◌↔◌, ◌⊎◌, List, [], ◌∷◌, length, slice_get, Some, bit_and}
+-- Main results: set_at, table_more, table_done and of_part for the table; basis_of_sign; split, what taking out the least element gives.
+use Rattle.std.specs.Prelude.{ℕ, ◌≡◌, ◌+◌, ◌-◌, ◌<◌, ◌≤◌, ◌^◌, ◌↔◌, ◌⊎◌, List, [], ◌∷◌, length, take, slice_get, Some, bit_and}
 use Rattle.std.specs.Int.{trailing_zeros}
-use Rattle.std.proofs.Common.{refl, sym, ◌∙◌, ap, arith, inl, inr, subst, get_or, set, w32}
+use Rattle.std.proofs.Common.{refl, sym, ◌∙◌, ap, arith, inl, inr, subst, get_or, set, w32, zero, suc}
 use Rattle.std.proofs.lemmas.Bool.{cases_eq}
-use Rattle.std.proofs.lemmas.List.{ext_get_or, length-map, get_or-map, get_or-set_same, get_or-set_other}
+use Rattle.std.proofs.lemmas.List.{ext_get_or, length-map, get_or-map, get_or-set_same, get_or-set_other, get_or-take, length-take-le, take_all}
 use Rattle.std.proofs.lemmas.Option.{get_or_from_slice_get}
 use Rattle.om_signs.specs.declared.limits.TheConstants.{MAX_PLACES}
 use Rattle.om_signs.specs.declared.sign.Sign.{Sign}
@@ -53,13 +53,32 @@ table_more n r table k s lt sn se h j l = elim (cases_eq j k) [
     both : (s : Chosen) (n : ℕ) (xs : List ℕ) → s.n ≡ n → s.elements ≡ xs → s ≡ chosen n xs
     both s n xs p q = ap (λ i. chosen i s.elements) p ∙ ap (chosen n) q
 
-pub table_done : (n r : ℕ) (table : List Chosen) (k : ℕ) → length table ≡ choose n r → choose n r ≤ k → IsFilledBelow n r table k → table ≡ all_chosen n r
-table_done n r table k l done h = ext_get_or nothing table (all_chosen n r) (l ∙ sym (length-all n r)) (λ j lt.
-    let few : j < choose n r = omega arith in
-    h j (omega arith) ∙ sym (set_at n r j few))
+-- the first sets, as many as the table has
+pub table_done : (n r : ℕ) (table : List Chosen) (count k : ℕ) → length table ≡ count → count ≤ choose n r → count ≤ k → IsFilledBelow n r table k → table ≡ take count (all_chosen n r)
+table_done n r table count k l room done h =
+    let size : count ≤ length (all_chosen n r) = let e = length-all n r in omega (arith, e, room) in
+    ext_get_or nothing table (take count (all_chosen n r)) (l ∙ sym (length-take-le count (all_chosen n r) size)) (λ j lt.
+    let below : j < count = omega (arith, lt, l) in
+    h j (omega (arith, below, done)) ∙ sym (set_at n r j (omega (arith, below, room))) ∙ sym (get_or-take count (all_chosen n r) j nothing below))
 
-pub table_empty : (n r : ℕ) (table : List Chosen) → length table ≡ choose n r → n < r → table ≡ all_chosen n r
-table_empty n r table l above = let none = choose_above n r above in table_done n r table 0 l (omega arith) (λ j lt. absurd (omega arith))
+pub table_empty : (n r : ℕ) (table : List Chosen) → length table ≤ choose n r → n < r → table ≡ take (length table) (all_chosen n r)
+table_empty n r table l above = let none = choose_above n r above in table_done n r table (length table) 0 refl l (omega arith) (λ j lt. absurd (omega arith))
+
+-- there are at most 5,985 sets of four
+pub few_fours : (n : ℕ) → n ≤ MAX_PLACES → choose n 4 ≤ 5985
+few_fours n l = up_to (21 - n) n (omega arith)
+  where
+    up_to : (d n : ℕ) → n + d ≡ 21 → choose n 4 ≤ 5985
+    up_to zero n q =
+        let last : n ≡ 21 = omega arith in
+        let most : choose 21 4 ≡ 5985 = refl in
+        let here : choose n 4 ≡ choose 21 4 = ap (λ k. choose k 4) last in
+        omega (arith, here, most)
+    up_to (suc d) n q = let more : choose n 3 + choose n 4 ≤ 5985 = up_to d (suc n) (omega arith) in omega (arith, more)
+
+-- a whole table
+pub whole_table : (n r count : ℕ) (table : List Chosen) → count ≡ choose n r → table ≡ take count (all_chosen n r) → table ≡ all_chosen n r
+whole_table n r count table whole is = is ∙ take_all count (all_chosen n r) (let e = length-all n r in omega (arith, e, whole))
 
 -- a set of the table
 pub record IsSetAt (n r k : ℕ) (s : Chosen) : Type 0 where
@@ -70,6 +89,11 @@ pub of_table : (n r k : ℕ) (table : List Chosen) (s : Chosen) → table ≡ al
 of_table n r k table s filled l is =
     let e = is ∙ ap (λ t. get_or t k nothing) filled ∙ set_at n r k l in
     record { n_is = ap (λ v. v.n) e; elements_are = ap (λ v. v.elements) e }
+
+-- a set of a table of the first ones
+pub of_part : (n r k : ℕ) (table : List Chosen) (s : Chosen) → table ≡ take (length table) (all_chosen n r) → k < length table → k < choose n r → s ≡ get_or table k nothing → IsSetAt n r k s
+of_part n r k table s filled inside l is =
+    of_table n r k (all_chosen n r) s refl l (is ∙ ap (λ t. get_or t k nothing) filled ∙ get_or-take (length table) (all_chosen n r) k nothing inside)
 
 -- ---- bases
 

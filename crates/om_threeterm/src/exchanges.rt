@@ -1,17 +1,15 @@
 //! The scan for exchanges of bases that are violated.
 
-ghost use Rattle.std.specs.Prelude.{ℕ, List, ◌≡◌, ◌+◌, ◌<◌, ◌≤◌, ◌↔◌, length, IsTrue, IsNone, IfNone, IfSome};
+ghost use Rattle.std.specs.Prelude.{ℕ, List, ◌≡◌, ◌+◌, ◌<◌, ◌≤◌, ◌↔◌, length, take, IsTrue, IsNone, IfNone, IfSome};
 ghost use Rattle.om_signs.specs.declared.limits.TheConstants.{MAX_PLACES};
-ghost use Rattle.om_subsets.specs.Subsets.{choose, subset_at, IsMember, with_element};
-ghost use Rattle.om_matroid.specs.Search.{AreApart};
+ghost use Rattle.om_subsets.specs.Subsets.{choose, subset_at, AreApart, IsMember, with_element};
 ghost use Rattle.om_chirotope.specs.Map.{map_of};
 ghost use Rattle.om_chirotope.specs.ThreeTerm.{IsBasis, HasExchange};
 ghost use Rattle.om_threeterm.specs.Violations.{IsUnexchanged, IsFirstUnexchanged, IsFirstUnexchangedOf};
 ghost use Rattle.om_threeterm.specs.Sets.{all_chosen, IsInPlace, IsUnexchangedAt};
 
-use super::sets::{ROOM, fill, is_basis, is_basis_at};
+use super::sets::{ROOM, fill, is_basis, is_basis_at, set_at};
 use om_chirotope::has_exchange;
-use om_matroid::are_apart;
 use om_parallel::{Probe, first_bad};
 use om_signs::{MAX_PLACES, RawMap};
 use om_subsets::Subset;
@@ -46,7 +44,8 @@ fn has_exchange_apart(raw: &RawMap) -> bool
     has_exchange(raw)
 }
 
-/// The same, by a scan of all bases.
+/// The same, by a scan of all bases. Their table holds the first [`ROOM`] sets, which are all sets where the map has no more
+/// values than a chirotope that is read.
 #[inline(never)]
 fn first_unexchanged_by_scan<R: Threads + Sync>(
     rt: &R,
@@ -60,7 +59,7 @@ fn first_unexchanged_by_scan<R: Threads + Sync>(
     ensures first { IfSome result (λ x. IsFirstUnexchanged (map_of raw.now) x.0 x.1 x.2) }
 {
     let mut room = [Subset::from_mask(0, raw.elements); ROOM];
-    let count = Subset::choose(raw.elements, raw.rank) as usize;
+    let count = (Subset::choose(raw.elements, raw.rank) as usize).min(ROOM);
     let sets = &mut room[..count];
     fill(raw.elements, raw.rank, sets);
     first_unexchanged_among(rt, raw, sets)
@@ -76,7 +75,7 @@ struct Bases<'a> {
     ghost high: { raw.now.elements ≤ MAX_PLACES },
     ghost rank: { raw.now.rank ≤ raw.now.elements },
     ghost whole: { length raw.now.signs ≡ choose raw.now.elements raw.now.rank },
-    ghost filled: { sets.now ≡ all_chosen raw.now.elements raw.now.rank },
+    ghost filled: { sets.now ≡ take (length sets.now) (all_chosen raw.now.elements raw.now.rank) },
 }
 
 impl Probe for Bases<'_> {
@@ -94,14 +93,15 @@ impl Probe for Bases<'_> {
 fn is_unexchanged_at(raw: &RawMap, sets: &[Subset], k: u64) -> bool
     requires low { 1 ≤ raw.now.elements }
     requires high { raw.now.elements ≤ MAX_PLACES }
+    requires rank { raw.now.rank ≤ raw.now.elements }
     requires whole { length raw.now.signs ≡ choose raw.now.elements raw.now.rank }
-    requires filled { sets.now ≡ all_chosen raw.now.elements raw.now.rank }
+    requires filled { sets.now ≡ take (length sets.now) (all_chosen raw.now.elements raw.now.rank) }
     ensures { IsTrue result ↔ IsUnexchangedAt (map_of raw.now) k }
 {
-    if k >= sets.len() as u64 {
+    if k >= Subset::choose(raw.elements, raw.rank) as u64 {
         return false;
     }
-    match first_unexchanged_of(raw, sets, sets[k as usize]) {
+    match first_unexchanged_of(raw, sets, set_at(raw, sets, k as usize)) {
         None => false,
         Some(_) => true,
     }
@@ -117,15 +117,16 @@ fn first_unexchanged_among<R: Threads + Sync>(
     requires high { raw.now.elements ≤ MAX_PLACES }
     requires rank { raw.now.rank ≤ raw.now.elements }
     requires whole { length raw.now.signs ≡ choose raw.now.elements raw.now.rank }
-    requires filled { sets.now ≡ all_chosen raw.now.elements raw.now.rank }
+    requires filled { sets.now ≡ take (length sets.now) (all_chosen raw.now.elements raw.now.rank) }
     ensures none { IfNone result (HasExchange (map_of raw.now)) }
     ensures first { IfSome result (λ x. IsFirstUnexchanged (map_of raw.now) x.0 x.1 x.2) }
 {
     let bases = Bases { raw, sets };
-    match first_bad(rt, &bases, sets.len() as u64) {
+    let count = Subset::choose(raw.elements, raw.rank) as u64;
+    match first_bad(rt, &bases, count) {
         None => None,
         Some(k) => {
-            let b = sets[k as usize];
+            let b = set_at(raw, sets, k as usize);
             let (c, e) = first_unexchanged_of(raw, sets, b)?;
             Some((b, c, e))
         }
@@ -137,8 +138,9 @@ fn first_unexchanged_among<R: Threads + Sync>(
 fn first_unexchanged_of(raw: &RawMap, sets: &[Subset], b: Subset) -> Option<(Subset, u8)>
     requires low { 1 ≤ raw.now.elements }
     requires high { raw.now.elements ≤ MAX_PLACES }
+    requires rank { raw.now.rank ≤ raw.now.elements }
     requires whole { length raw.now.signs ≡ choose raw.now.elements raw.now.rank }
-    requires filled { sets.now ≡ all_chosen raw.now.elements raw.now.rank }
+    requires filled { sets.now ≡ take (length sets.now) (all_chosen raw.now.elements raw.now.rank) }
     requires n { b.n ≡ raw.now.elements }
     requires size { length b.elements ≡ raw.now.rank }
     ensures none { IfNone result ((c : List ℕ) (e : ℕ) → IsUnexchanged (map_of raw.now) b.elements c e → ⊥) }
@@ -147,7 +149,7 @@ fn first_unexchanged_of(raw: &RawMap, sets: &[Subset], b: Subset) -> Option<(Sub
     if !is_basis(raw, b) {
         return None;
     }
-    let mut limit = sets.len();
+    let mut limit = Subset::choose(raw.elements, raw.rank) as usize;
     let mut found = None;
     for e in 1..raw.elements + 1 {
         if let Some(k) = first_unexchanged_by(raw, sets, b, e, limit) {
@@ -157,7 +159,7 @@ fn first_unexchanged_of(raw: &RawMap, sets: &[Subset], b: Subset) -> Option<(Sub
     }
     match found {
         None => None,
-        Some(e) => Some((sets[limit], e)),
+        Some(e) => Some((set_at(raw, sets, limit), e)),
     }
 }
 
@@ -172,13 +174,14 @@ fn first_unexchanged_by(
 ) -> Option<usize>
     requires low { 1 ≤ raw.now.elements }
     requires high { raw.now.elements ≤ MAX_PLACES }
+    requires rank { raw.now.rank ≤ raw.now.elements }
     requires whole { length raw.now.signs ≡ choose raw.now.elements raw.now.rank }
-    requires filled { sets.now ≡ all_chosen raw.now.elements raw.now.rank }
+    requires filled { sets.now ≡ take (length sets.now) (all_chosen raw.now.elements raw.now.rank) }
     requires n { b.n ≡ raw.now.elements }
     requires basis { IsBasis (map_of raw.now) b.elements }
     requires e_low { 1 ≤ e }
     requires e_high { e ≤ raw.now.elements }
-    requires limit { limit ≤ length sets.now }
+    requires limit { limit ≤ choose raw.now.elements raw.now.rank }
     ensures none { IfNone result ((j : ℕ) → j < limit → IsUnexchanged (map_of raw.now) b.elements (subset_at raw.now.elements raw.now.rank j) e → ⊥) }
     ensures within { IfSome result (λ k. k < limit) }
     ensures here { IfSome result (λ k. IsUnexchanged (map_of raw.now) b.elements (subset_at raw.now.elements raw.now.rank k) e) }
@@ -215,10 +218,12 @@ fn in_place_of(raw: &RawMap, b: Subset, e: u8) -> Subset
 
 /// The first place below a limit of a basis that has no element in common with a set.
 fn first_basis_apart(raw: &RawMap, sets: &[Subset], set: Subset, limit: usize) -> Option<usize>
+    requires high { raw.now.elements ≤ MAX_PLACES }
+    requires rank { raw.now.rank ≤ raw.now.elements }
     requires whole { length raw.now.signs ≡ choose raw.now.elements raw.now.rank }
-    requires filled { sets.now ≡ all_chosen raw.now.elements raw.now.rank }
+    requires filled { sets.now ≡ take (length sets.now) (all_chosen raw.now.elements raw.now.rank) }
     requires n { set.n ≡ raw.now.elements }
-    requires limit { limit ≤ length sets.now }
+    requires limit { limit ≤ choose raw.now.elements raw.now.rank }
     ensures none { IfNone result ((j : ℕ) → j < limit → IsBasis (map_of raw.now) (subset_at raw.now.elements raw.now.rank j) → AreApart (subset_at raw.now.elements raw.now.rank j) set.elements → ⊥) }
     ensures within { IfSome result (λ k. k < limit) }
     ensures basis { IfSome result (λ k. IsBasis (map_of raw.now) (subset_at raw.now.elements raw.now.rank k)) }
@@ -226,7 +231,7 @@ fn first_basis_apart(raw: &RawMap, sets: &[Subset], set: Subset, limit: usize) -
     ensures earlier { IfSome result (λ k. (j : ℕ) → j < k → IsBasis (map_of raw.now) (subset_at raw.now.elements raw.now.rank j) → AreApart (subset_at raw.now.elements raw.now.rank j) set.elements → ⊥) }
 {
     for k in 0..limit {
-        if is_basis_at(raw, k) && are_apart(sets[k], set) {
+        if is_basis_at(raw, k) && set_at(raw, sets, k).is_apart_from(set) {
             return Some(k);
         }
     }

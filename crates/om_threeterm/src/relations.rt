@@ -10,8 +10,7 @@ ghost use Rattle.om_chirotope.specs.ThreeTerm.{HasThreeTermRelations, IsFrame};
 ghost use Rattle.om_threeterm.specs.Violations.{HasRelation, IsUnbalancedList, IsFirstUnbalanced, IsFirstUnbalancedOf};
 ghost use Rattle.om_threeterm.specs.Sets.{all_chosen};
 
-use super::sets::{ROOM, fill, four_of};
-use om_matroid::are_apart;
+use super::sets::{fill, four_of};
 use om_parallel::{Probe, first_bad};
 use om_signs::{MAX_PLACES, RawMap, Sign};
 use om_subsets::Subset;
@@ -19,6 +18,9 @@ use std::thread::Threads;
 
 /// The number of elements of a relation besides those of P.
 const FOUR: u8 = 4;
+
+/// The number of sets of so many of [`MAX_PLACES`] elements.
+const FOURS: usize = 5_985;
 
 /// The first violated three-term relation: the set p of two elements less than the rank, and the set q of four elements off
 /// it; or None where the relations hold. It takes no memory.
@@ -34,11 +36,30 @@ pub fn first_unbalanced<R: Threads + Sync>(rt: &R, raw: &RawMap) -> Option<(Subs
     if raw.rank < 2 {
         return None;
     }
-    let mut room = [Subset::from_mask(0, raw.elements); ROOM];
-    let count = Subset::choose(raw.elements, FOUR) as usize;
+    let mut room = [Subset::from_mask(0, raw.elements); FOURS];
+    let count = number_of_fours(raw.elements);
     let fours = &mut room[..count];
-    fill(raw.elements, FOUR, fours);
+    fill_fours(raw.elements, fours);
     first_unbalanced_among(rt, raw, fours)
+}
+
+/// The number of sets of four of some elements.
+fn number_of_fours(elements: u8) -> usize
+    requires { elements ≤ MAX_PLACES }
+    ensures value { result ≡ choose elements FOUR }
+    ensures few { result ≤ FOURS }
+{
+    Subset::choose(elements, FOUR) as usize
+}
+
+/// Writes all sets of four of some elements.
+fn fill_fours(elements: u8, table: &mut [Subset])
+    requires high { elements ≤ MAX_PLACES }
+    requires few { length table.old ≤ FOURS }
+    requires room { length table.old ≡ choose elements FOUR }
+    ensures { table.new ≡ all_chosen elements FOUR }
+{
+    fill(elements, FOUR, table);
 }
 
 /// A map, and the sets of four elements. The number of a set of two elements less than the rank is its place; it is bad where
@@ -129,7 +150,7 @@ fn is_unbalanced(raw: &RawMap, p: Subset, q: Subset) -> bool
     ensures { IsTrue result ↔ IsUnbalancedList (map_of raw.now) p.elements q.elements }
 {
     let _sizes = (p.size(), q.size());
-    if !are_apart(p, q) {
+    if !p.is_apart_from(q) {
         return false;
     }
     let (a, b, c, d) = four_of(q);

@@ -1,29 +1,47 @@
 //! Sets of elements: all sets of one size, which of them are bases, and the elements of a set of four.
 
-ghost use Rattle.std.specs.Prelude.{ℕ, ◌≡◌, ◌+◌, ◌<◌, ◌≤◌, ◌↔◌, ◌∷◌, [], length, IsTrue};
+ghost use Rattle.std.specs.Prelude.{ℕ, ◌≡◌, ◌+◌, ◌<◌, ◌≤◌, ◌↔◌, ◌∷◌, [], length, take, IsTrue};
 ghost use Rattle.om_subsets.specs.Subsets.{choose, subset_at};
 ghost use Rattle.om_chirotope.specs.Map.{map_of};
 ghost use Rattle.om_chirotope.specs.ThreeTerm.{IsBasis};
 ghost use Rattle.om_threeterm.specs.Sets.{all_chosen};
 
-use om_signs::{MAX_PLACES, RawMap, Sign};
-use om_subsets::{MOST_SUBSETS, Subset};
+use om_signs::{MAX_PLACES, MAX_VALUES, RawMap, Sign};
+use om_subsets::Subset;
 
-/// The room of a table of all sets of one size.
-pub const ROOM: usize = MOST_SUBSETS as usize;
+/// The room of a table of sets of one size: one for each value of a chirotope that is read.
+pub const ROOM: usize = MAX_VALUES as usize;
 
-/// Writes all sets of `size` of the elements 1 to `elements`, in lexicographic order.
+/// Writes the first sets of `size` of the elements 1 to `elements`, in lexicographic order, as many as there is room for.
 pub fn fill(elements: u8, size: u8, table: &mut [Subset])
     requires high { elements ≤ MAX_PLACES }
-    requires room { length table.old ≡ choose elements size }
-    ensures { table.new ≡ all_chosen elements size }
+    requires few { length table.old ≤ ROOM }
+    requires room { length table.old ≤ choose elements size }
+    ensures { table.new ≡ take (length table.old) (all_chosen elements size) }
 {
     if size > elements {
         return;
     }
-    for place in 0..Subset::choose(elements, size) {
-        table[place as usize] = Subset::unrank(place, size, elements);
+    for place in 0..table.len() {
+        table[place] = Subset::unrank(place as u32, size, elements);
     }
+}
+
+/// The set at place k of those of as many elements as the rank: from a table of the first of them, or by its place alone.
+pub fn set_at(raw: &RawMap, sets: &[Subset], k: usize) -> Subset
+    requires high { raw.now.elements ≤ MAX_PLACES }
+    requires rank { raw.now.rank ≤ raw.now.elements }
+    requires filled { sets.now ≡ take (length sets.now) (all_chosen raw.now.elements raw.now.rank) }
+    requires within { k < choose raw.now.elements raw.now.rank }
+    ensures n { result.n ≡ raw.now.elements }
+    ensures elements { result.elements ≡ subset_at raw.now.elements raw.now.rank k }
+    ensures size { length result.elements ≡ raw.now.rank }
+{
+    if k < sets.len() {
+        return sets[k];
+    }
+    let _count = Subset::choose(raw.elements, raw.rank);
+    Subset::unrank(k as u32, raw.rank, raw.elements)
 }
 
 /// Whether a set of as many elements as the rank is a basis.

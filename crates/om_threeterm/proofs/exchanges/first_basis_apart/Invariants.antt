@@ -1,8 +1,7 @@
 use Rattle.std.proofs.Common.{ℕ, ◌<◌}
-use Rattle.om_subsets.specs.Subsets.{subset_at}
+use Rattle.om_subsets.specs.Subsets.{subset_at, AreApart}
 use Rattle.om_chirotope.specs.Map.{map_of}
 use Rattle.om_chirotope.specs.ThreeTerm.{IsBasis}
-use Rattle.om_matroid.specs.Search.{AreApart}
 use Rattle.om_threeterm.proofs.exchanges.first_basis_apart.Given as goal
 
 abbrev pub invariant-loop-k : goal.invariant-loop-k

@@ -1,8 +1,6 @@
 use Rattle.std.proofs.Common.{ap, sym, subst, ◌∙◌, ◌≡◌, ◌<◌, ◌+◌, length, arith, None}
-use Rattle.std.proofs.lemmas.List.{get_or_default}
 use Rattle.om_subsets.specs.Subsets.{choose}
 use Rattle.om_chirotope.specs.Map.{map_of}
-use Rattle.om_threeterm.proofs.SetLaws.{length-all, nothing, of_table}
 use Rattle.om_threeterm.proofs.ExchangeLaws.{IsBestBefore, place_pair, best_start, best_same, best_new, no_element_zero, none_of_best, first_of_best}
 use Rattle.om_threeterm.proofs.exchanges.first_unexchanged_of.Goals as goal
 use Rattle.om_threeterm.proofs.exchanges.first_unexchanged_of.Goals.{in-Some, in_default}
@@ -11,16 +9,7 @@ pub loop-e-init : goal.loop-e-init
 loop-e-init c =
     let raw = c.args.raw.now in
     let pair = place_pair (map_of raw) c.args.b.elements in
-    let count = choose raw.elements raw.rank in
-    let size : length c.args.sets.now ≡ count = ap length c.requires.filled ∙ length-all raw.elements raw.rank in
-    subst (λ k. IsBestBefore pair count k 1 None) (sym size) (best_start pair count (no_element_zero (map_of raw) c.args.b.elements))
-
-pub first_unexchanged_by-requires-clause-limit : goal.first_unexchanged_by-requires-clause-limit
-first_unexchanged_by-requires-clause-limit c =
-    let raw = c.args.raw.now in
-    let size : length c.args.sets.now ≡ choose raw.elements raw.rank = ap length c.requires.filled ∙ length-all raw.elements raw.rank in
-    let room = c.loop-e.invariant.room in
-    omega arith
+    subst (λ k. IsBestBefore pair (choose raw.elements raw.rank) k 1 None) (sym c.choose-limit.ensures.value) (best_start pair (choose raw.elements raw.rank) (no_element_zero (map_of raw) c.args.b.elements))
 
 pub loop-e-preserved : goal.loop-e-preserved
 loop-e-preserved c =
@@ -45,15 +34,14 @@ returns-in-None-clause-none c =
     none_of_best (map_of raw) c.args.b.elements c.loop-e.limit c.loop-e.e c.loop-e-test.false
     (subst (λ o. IsBestBefore pair (choose raw.elements raw.rank) c.loop-e.limit c.loop-e.e o) c.in-None.is c.loop-e.invariant)
 
+pub set_at-requires-clause-within : goal.set_at-requires-clause-within
+set_at-requires-clause-within c =
+    let raw = c.args.raw.now in
+    let best = subst (λ o. IsBestBefore (place_pair (map_of raw) c.args.b.elements) (choose raw.elements raw.rank) c.loop-e.limit c.loop-e.e o) c.in-Some-found.is c.loop-e.invariant in
+    best.found_is.within
+
 pub returns-in-Some-found-clause-first : goal.returns-in-Some-found-clause-first
 returns-in-Some-found-clause-first c =
     let raw = c.args.raw.now in
-    let pair = place_pair (map_of raw) c.args.b.elements in
-    let count = choose raw.elements raw.rank in
-    let best = subst (λ o. IsBestBefore pair count c.loop-e.limit c.loop-e.e o) c.in-Some-found.is c.loop-e.invariant in
-    let size : length c.args.sets.now ≡ count = ap length c.requires.filled ∙ length-all raw.elements raw.rank in
-    let found = best.found_is in
-    let few : c.loop-e.limit < count = found.within in
-    let inside : c.loop-e.limit < length c.args.sets.now = omega arith in
-    let here = of_table raw.elements raw.rank c.loop-e.limit c.args.sets.now c.index-sets-limit.result c.requires.filled few (c.index-sets-limit.is ∙ get_or_default c.args.sets.now c.loop-e.limit _ nothing inside) in
-    first_of_best (map_of raw) c.args.b.elements c.loop-e.limit c.loop-e.e c.in-Some-found.e c.index-sets-limit.result c.loop-e-test.false here.n_is here.elements_are best
+    let best = subst (λ o. IsBestBefore (place_pair (map_of raw) c.args.b.elements) (choose raw.elements raw.rank) c.loop-e.limit c.loop-e.e o) c.in-Some-found.is c.loop-e.invariant in
+    first_of_best (map_of raw) c.args.b.elements c.loop-e.limit c.loop-e.e c.in-Some-found.e c.set_at.result c.loop-e-test.false c.set_at.ensures.n c.set_at.ensures.elements best

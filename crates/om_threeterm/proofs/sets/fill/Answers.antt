@@ -7,6 +7,6 @@ returns-then-size-elements c = table_empty c.args.elements c.args.size c.args.ta
 
 pub returns : goal.returns
 returns c =
-    let end = c.choose-place-end.ensures.value in
+    let size = c.loop-place.auto.table in
     let over = c.loop-place-test.false in
-    table_done c.args.elements c.args.size c.loop-place.table c.loop-place.place (c.loop-place.auto.table ∙ c.requires.room) (omega arith) c.loop-place.invariant
+    table_done c.args.elements c.args.size c.loop-place.table _ c.loop-place.place c.loop-place.auto.table c.requires.room (omega (arith, size, over)) c.loop-place.invariant
