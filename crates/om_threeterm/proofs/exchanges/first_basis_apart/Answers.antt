@@ -1,6 +1,6 @@
-use Rattle.std.proofs.Common.{refl, sym, subst, ◌<◌, arith, inl, inr}
+use Rattle.std.proofs.Common.{refl, sym, subst, arith, inl, inr}
 use Rattle.std.proofs.lemmas.Bool.{false≢true, cases_eq}
-use Rattle.om_subsets.specs.Subsets.{choose, subset_at, AreApart}
+use Rattle.om_subsets.specs.Subsets.{subset_at, AreApart}
 use Rattle.om_chirotope.specs.Map.{map_of}
 use Rattle.om_chirotope.specs.ThreeTerm.{IsBasis}
 use Rattle.om_threeterm.proofs.exchanges.first_basis_apart.Goals as goal

@@ -1,4 +1,3 @@
-use Rattle.std.proofs.Common.{◌<◌, arith}
 use Rattle.om_chirotope.specs.Map.{map_of}
 use Rattle.om_threeterm.proofs.ExchangeLaws.{exchange_of_none, first_of_least}
 use Rattle.om_threeterm.proofs.exchanges.first_unexchanged_among.Goals as goal

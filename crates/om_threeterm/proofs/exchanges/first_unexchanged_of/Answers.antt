@@ -1,4 +1,4 @@
-use Rattle.std.proofs.Common.{ap, sym, subst, ◌∙◌, ◌≡◌, ◌<◌, ◌+◌, length, arith, None}
+use Rattle.std.proofs.Common.{sym, subst, ◌+◌, None}
 use Rattle.om_subsets.specs.Subsets.{choose}
 use Rattle.om_chirotope.specs.Map.{map_of}
 use Rattle.om_threeterm.proofs.ExchangeLaws.{IsBestBefore, place_pair, best_start, best_same, best_new, no_element_zero, none_of_best, first_of_best}

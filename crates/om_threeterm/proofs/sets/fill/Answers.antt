@@ -1,4 +1,4 @@
-use Rattle.std.proofs.Common.{arith, ◌∙◌}
+use Rattle.std.proofs.Common.{arith}
 use Rattle.om_threeterm.proofs.SetLaws.{table_done, table_empty}
 use Rattle.om_threeterm.proofs.sets.fill.Goals as goal
 

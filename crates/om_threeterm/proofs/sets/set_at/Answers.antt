@@ -1,4 +1,4 @@
-use Rattle.std.proofs.Common.{arith, ap, ◌∙◌, length}
+use Rattle.std.proofs.Common.{ap, ◌∙◌, length}
 use Rattle.std.proofs.lemmas.List.{get_or_default}
 use Rattle.om_subsets.proofs.Order.{listed}
 use Rattle.om_threeterm.proofs.SetLaws.{nothing, of_part}
