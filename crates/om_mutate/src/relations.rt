@@ -1,15 +1,15 @@
 //! The test of one triple by the three-term relations that hold it.
 
-ghost use Rattle.std.specs.Prelude.{ℕ, ◌≡◌, ◌-◌, ◌<◌, ◌≤◌, ◌↔◌, ◌∷◌, [], length, IsTrue, slice_set};
-ghost use Rattle.om_signs.specs.Sign.{opposite, product};
-ghost use Rattle.om_signs.specs.SignVec.{at, place};
+ghost use Rattle.std.specs.Prelude.{ℕ, ◌≡◌, ◌-◌, ◌≤◌, ◌↔◌, ◌∷◌, [], length, IsTrue, slice_set};
+ghost use Rattle.om_signs.specs.Sign.{opposite};
+ghost use Rattle.om_signs.specs.SignVec.{place};
 ghost use Rattle.om_subsets.specs.Subsets.{without_element};
 ghost use Rattle.om_laws.specs.Sorting.{IsElement};
-ghost use Rattle.om_laws.specs.ThreeTerm.{AreBalanced};
 ghost use Rattle.om_chirotope.specs.Map.{cocircuit_vector};
 ghost use Rattle.om_mutate.specs.Mutations.{IsMutation};
 ghost use Rattle.om_mutate.specs.Turns.{StaysBalancedAround, StaysBalancedAt, StaysBalancedWith, turned_row};
 
+use om_chirotope::are_balanced;
 use om_signs::{Sign, SignVec};
 use om_subsets::Subset;
 use om_wiring::Values;
@@ -108,34 +108,4 @@ fn stays_balanced_with(
         return true;
     }
     are_balanced(first, second, chi.row(p, z), y, z)
-}
-
-/// Whether the relations of three rows with all elements hold: those of the elements x, y and z.
-fn are_balanced(first: SignVec, second: SignVec, third: SignVec, y: u8, z: u8) -> bool
-    requires second { length second ≡ length first }
-    requires third { length third ≡ length first }
-    requires y_low { 1 ≤ y }
-    requires y_high { y ≤ length first }
-    requires z_low { 1 ≤ z }
-    requires z_high { z ≤ length first }
-    ensures { IsTrue result ↔ ((i : ℕ) → i < length first → AreBalanced (product (place first y) (at third i)) (opposite (product (place first z) (at second i))) (product (at first i) (place second z))) }
-{
-    let u = scaled(first.get(y), third);
-    let v = scaled(first.get(z).neg(), second);
-    let w = scaled(second.get(z), first);
-    let plus = u.plus() | v.plus() | w.plus();
-    let minus = u.minus() | v.minus() | w.minus();
-    plus == minus
-}
-
-/// The vector with each sign multiplied by s.
-fn scaled(s: Sign, vector: SignVec) -> SignVec
-    ensures len { length result ≡ length vector }
-    ensures signs { (i : ℕ) → i < length vector → at result i ≡ product s (at vector i) }
-{
-    match s {
-        Sign::Plus => vector,
-        Sign::Zero => SignVec::zero(vector.len()),
-        Sign::Minus => vector.neg(),
-    }
 }
