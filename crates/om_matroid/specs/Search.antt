@@ -1,10 +1,9 @@
 -- The first basis that contains one set and has no element of another.
 use Rattle.std.specs.Prelude.{ℕ, List}
-use Rattle.om_subsets.specs.Subsets.{IsPartOf}
+use Rattle.om_subsets.specs.Subsets.{AreApart, IsPartOf}
 use Rattle.om_subsets.specs.Lists.{IsBefore}
 use Rattle.om_chirotope.specs.Map.{SignMap}
 use Rattle.om_matroid.specs.Bases.{IsBasis}
-pub use Rattle.om_subsets.specs.Subsets.{AreApart}
 
 -- a basis that contains the one set and has no element of the other
 pub record IsBasisBetween (m : SignMap) (inside outside b : List ℕ) : Type 0 where

@@ -18,4 +18,3 @@ pub use exchanges::exchange;
 pub use laws::exchange_of_bases;
 pub use om_chirotope::three_term_test;
 pub use ranks::rank_of;
-pub use search::are_apart;

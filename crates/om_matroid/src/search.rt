@@ -1,7 +1,6 @@
 //! The walk over the sets of as many elements as the rank, in lexicographic order.
 
 ghost use Rattle.std.specs.Prelude.{◌≡◌, ◌↔◌, ℕ, List, IsTrue, IsNone, IfSome};
-ghost use Rattle.om_subsets.specs.Subsets.{AreApart};
 ghost use Rattle.om_matroid.specs.Bases.{IsBasis};
 ghost use Rattle.om_matroid.specs.Search.{IsBasisBetween, IsFirstBetween};
 
@@ -15,14 +14,6 @@ pub fn is_basis(chi: &Chirotope, b: Subset) -> bool
     ensures { IsTrue result ↔ IsBasis chi.now b.elements }
 {
     b.size() == chi.rank() && chi.at(b) != Sign::Zero
-}
-
-/// Whether two sets of some of the elements 1 to n have no common element. Both have the same n.
-pub fn are_apart(s: Subset, b: Subset) -> bool
-    requires { s.n ≡ b.n }
-    ensures { IsTrue result ↔ AreApart s.elements b.elements }
-{
-    s.is_apart_from(b)
 }
 
 /// Whether a set is a basis that contains one set and has no element of another.

@@ -5,7 +5,7 @@
 use Rattle.std.specs.Prelude.{ℕ, ◌≡◌, ◌+◌, ◌<◌, ◌≤◌, ◌↔◌, ◌⊎◌, List, [], ◌∷◌, length, Option, Some, None, MatchOption, IfNone, IfSome}
 use Rattle.std.proofs.Common.{refl, sym, ◌∙◌, ap, arith, inl, inr, subst, ⊎_elim}
 use Rattle.std.proofs.lemmas.Bool.{cases_eq}
-use Rattle.om_subsets.specs.Subsets.{choose, subset_at, rank_of, IsSubsetFrom, IsMember, with_element, without_element}
+use Rattle.om_subsets.specs.Subsets.{AreApart, choose, subset_at, rank_of, IsSubsetFrom, IsMember, with_element, without_element}
 use Rattle.om_subsets.specs.Members.{Chosen}
 use Rattle.om_subsets.proofs.Order.{members_from, listed}
 use Rattle.om_subsets.proofs.Statements.{members_with, members_without}
@@ -16,7 +16,6 @@ use Rattle.om_chirotope.specs.ThreeTerm.{IsBasis, HasExchange}
 use Rattle.om_chirotope.proofs.Circuits.{length-without}
 use Rattle.om_chirotope.proofs.Cocircuits.{length-with}
 use Rattle.om_chirotope.proofs.Theory.{lawful_with}
-use Rattle.om_matroid.specs.Search.{AreApart}
 use Rattle.om_matroid.proofs.ListLaws.{subset_without}
 use Rattle.om_matroid.proofs.WalkLaws.{HasNoneBefore, place_of, none_at_all, none_earlier}
 use Rattle.om_parallel.specs.FirstBad.{IsNoneBad, IsLeastBad}

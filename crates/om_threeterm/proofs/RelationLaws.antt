@@ -11,7 +11,7 @@ use Rattle.om_signs.specs.declared.sign.Sign.{Sign}
 use Rattle.om_signs.specs.declared.sign.Sign.TheVariants.{Minus, Zero, Plus}
 use Rattle.om_signs.specs.Sign.{opposite}
 use Rattle.om_signs.specs.SignVec.{place}
-use Rattle.om_subsets.specs.Subsets.{choose, subset_at, rank_of, IsSubsetFrom, IsMember, with_element, count_above}
+use Rattle.om_subsets.specs.Subsets.{AreApart, choose, subset_at, rank_of, IsSubsetFrom, IsMember, with_element, count_above}
 use Rattle.om_subsets.specs.Members.{Chosen}
 use Rattle.om_subsets.proofs.Order.{listed}
 use Rattle.om_subsets.proofs.Statements.{members_with, subset_is_increasing}
@@ -22,7 +22,6 @@ use Rattle.om_chirotope.proofs.Cocircuits.{along_even, along_odd, length-with}
 use Rattle.om_chirotope.proofs.Places.{cocircuit_place, length-vector}
 use Rattle.om_chirotope.proofs.Rows.{row_even, row_odd}
 use Rattle.om_laws.specs.Relations.{along}
-use Rattle.om_matroid.specs.Search.{AreApart}
 use Rattle.om_matroid.proofs.WalkLaws.{HasNoneBefore, none_at_all, none_earlier}
 use Rattle.om_parallel.specs.FirstBad.{IsNoneBad, IsLeastBad}
 use Rattle.om_threeterm.specs.Violations.{HasRelation, IsUnbalancedList, IsFirstUnbalanced, IsFirstUnbalancedOf}
