@@ -17,7 +17,7 @@ const CHIROTOPES: [(u8, u8, &str, &str); 8] = [
     (2, 3, "000", "refused"),
     (4, 3, "", "refused"),
     (0, 0, "+", "refused"),
-    (0, 17, "+", "refused"),
+    (0, 21, "+", "refused"),
 ];
 
 /// What the vectors are: `c` circuits, `d` cocircuits, `v` covectors; the elements, the vectors, and the text of the set.
@@ -27,7 +27,7 @@ const SETS: [(char, u8, &[&str], &str); 6] = [
     ('v', 2, &["00", "++", "--"], "00 ++ --"),
     ('v', 2, &["++", "--"], "refused"),
     ('c', 2, &["++"], "refused"),
-    ('d', 17, &[], "refused"),
+    ('d', 21, &[], "refused"),
 ];
 
 /// A text, or `refused` where it was refused.
