@@ -17,7 +17,7 @@ use std::thread::Threads;
 /// all values are 0, and otherwise `Relation` with the first violated pair.
 ///
 /// The elements are from 1 to [`MAX_ELEMENTS`], the rank is at most their number, and there is one sign for each
-/// increasing list of that many elements. It takes no memory: its tables need about 460 KB of stack at most.
+/// increasing list of that many elements. It takes no memory: its tables need up to 470 KB of stack.
 ///
 /// Source: Björner, Las Vergnas, Sturmfels, White and Ziegler, *Oriented Matroids*, chapter 3.
 pub fn check<R: Threads + Sync>(rt: &R, raw: RawMap) -> Result<Chirotope, BadMap>

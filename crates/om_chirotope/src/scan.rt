@@ -22,7 +22,7 @@ use std::thread::Threads;
 /// and in the rank of all elements no S, so every pair is orthogonal there.
 ///
 /// The elements are from 1 to [`MAX_PLACES`], the rank is at most their number, and there is one sign for each
-/// increasing list. Whether some value isn't 0 is not looked at. It takes no memory.
+/// increasing list. Whether some value isn't 0 is not looked at. It takes no memory: its tables need up to 470 KB of stack.
 pub fn violated(raw: &RawMap) -> Option<(Subset, Subset)>
     requires low { 1 ≤ raw.now.elements }
     requires high { raw.now.elements ≤ MAX_PLACES }

@@ -40,7 +40,7 @@ pub fn meets_test(raw: &RawMap, cocircuits: &[SignVec]) -> bool
 /// basis has exchange.
 ///
 /// The elements are from 1 to [`MAX_PLACES`], the rank is at most their number, and there is one sign for each
-/// increasing list. It takes no memory.
+/// increasing list. It takes no memory: its table needs 256 KB of stack.
 ///
 /// Source: Björner, Las Vergnas, Sturmfels, White and Ziegler, *Oriented Matroids*, chapter 3.
 pub fn has_exchange(raw: &RawMap) -> bool
