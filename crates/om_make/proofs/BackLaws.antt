@@ -1,10 +1,12 @@
 -- The way back from what a chirotope denotes to its normal form.
 --
--- Main results: comes_back, every normal chirotope that denotes the same is the normal form; back_from_cocircuits, back_from_covectors.
-use Rattle.std.specs.Prelude.{ℕ, ◌≡◌, ◌↔◌, ◌⊎◌, List, length, refl}
+-- Main results: comes_back, every normal chirotope that denotes the same is the normal form; back_from_cocircuits, back_from_covectors; the
+-- lists of a map of rank 3 are not too wide (narrow_cocircuits, narrow_covectors).
+use Rattle.std.specs.Prelude.{ℕ, ◌≡◌, ◌≤◌, ◌↔◌, ◌⊎◌, List, length, refl}
 use Rattle.std.specs.Bool.{Decides}
 use Rattle.std.specs.List.{Contains}
 use Rattle.std.proofs.Common.{sym, subst, ◌∙◌}
+use Rattle.om_signs.specs.declared.limits.TheConstants.{MAX_ELEMENTS}
 use Rattle.om_signs.specs.declared.sign.Sign.{Sign}
 use Rattle.om_signs.specs.declared.sign.Sign.TheVariants.{Minus, Zero, Plus}
 use Rattle.om_signs.specs.contracts.sign.SignPartialEq.TheImpl as equality
@@ -15,6 +17,8 @@ use Rattle.om_denotation.specs.Covectors.{IsCovectorOfChirotope, IsCovectorOfCoc
 use Rattle.om_denotation.specs.Denotation.{DenoteTheSame}
 use Rattle.om_denotation.specs.Maps.{IsNormalFormOf}
 use Rattle.om_denotation.proofs.Uniqueness.{same_by_covectors, one_normal_form}
+use Rattle.om_convert.specs.Limits.{IsNarrow}
+use Rattle.om_convert.proofs.WidthLaws.{narrow_of_rank_3}
 use Rattle.om_make.specs.Lists.{ListsCocircuits, ListsCovectors}
 use Rattle.om_make.specs.Tallies.{ComesBack}
 
@@ -48,6 +52,28 @@ back_from_covectors m k c lists ok elements same led =
       λ x. (same X (size ∙ sym lists.elements)).0 ((lists.same X size).0 x).member,
       λ x. (lists.same X size).1 (record { size = size ∙ sym lists.elements; member = (same X (size ∙ sym lists.elements)).1 x }),
     )) led
+
+-- ---- widths
+
+-- the chirotope of the cocircuits of a map of rank 3 has no more values than a chirotope keeps
+pub narrow_cocircuits : (m : SignMap) (c : Listing) → ListsCocircuits m c → m.rank ≡ 3 → m.elements ≤ MAX_ELEMENTS → IsNarrow c.elements (IsCovectorOfCocircuits c)
+narrow_cocircuits m c lists three high =
+    let few = subst (λ k. k ≤ MAX_ELEMENTS) (sym lists.elements) high in
+    narrow_of_rank_3 c.elements (IsCovectorOfCocircuits c) m few lists.axioms (sym lists.elements) (λ X size. (
+      λ x. (lists.same X (size ∙ lists.elements)).1 x,
+      λ x. (lists.same X (size ∙ lists.elements)).0 x,
+    )) three
+
+-- and so has that of its covectors
+pub narrow_covectors : (m : SignMap) (c : Listing) → ListsCovectors m c → m.rank ≡ 3 → m.elements ≤ MAX_ELEMENTS → IsNarrow c.elements (Contains c.members)
+narrow_covectors m c lists three high =
+    let few = subst (λ k. k ≤ MAX_ELEMENTS) (sym lists.elements) high in
+    narrow_of_rank_3 c.elements (Contains c.members) m few lists.axioms (sym lists.elements) (λ X size. (
+      λ x. (lists.same X (size ∙ lists.elements)).1 (record { size = size; member = x }),
+      λ x. ((lists.same X (size ∙ lists.elements)).0 x).member,
+    )) three
+
+-- ---- equal maps
 
 -- a map that is the normal form is the same as what a copy's normal form is
 pub same_backs : (m copied n k a b : SignMap) → copied ≡ m → (n ≡ copied) ⊎ (n ≡ negated copied) → IsLedBy Plus n.signs → IsNormalFormOf m k → a ≡ k → b ≡ n → a ≡ b

@@ -23,7 +23,8 @@ pub fn list_cocircuits(alloc: Global, chi: &Chirotope) -> Result<Cocircuits, NoM
     let (_rank, _elements) = (chi.rank(), chi.elements());
     match chirotope_to_cocircuits(alloc, chi) {
         Ok(cocircuits) => Ok(cocircuits),
-        Err(ConvertError::TooWide { .. } | ConvertError::TooMany { .. }) => unreachable!(),
+        Err(ConvertError::TooWide { .. }) => unreachable!(),
+        Err(ConvertError::TooMany { .. }) => unreachable!(),
         Err(ConvertError::Memory) => Err(NoMemory),
     }
 }

@@ -54,7 +54,8 @@ fn back_from_cocircuits(
             Ok(back)
         }
         // a chirotope of rank 3 on 20 elements has 1,140 values
-        Err(ConvertError::TooWide { .. } | ConvertError::TooMany { .. }) => unreachable!(),
+        Err(ConvertError::TooWide { .. }) => unreachable!(),
+        Err(ConvertError::TooMany { .. }) => unreachable!(),
         Err(ConvertError::Memory) => Err(NoMemory),
     }
 }
@@ -78,7 +79,8 @@ fn back_from_covectors(
             Ok(back)
         }
         // a chirotope of rank 3 on 20 elements has 1,140 values
-        Err(ConvertError::TooWide { .. } | ConvertError::TooMany { .. }) => unreachable!(),
+        Err(ConvertError::TooWide { .. }) => unreachable!(),
+        Err(ConvertError::TooMany { .. }) => unreachable!(),
         Err(ConvertError::Memory) => Err(NoMemory),
     }
 }

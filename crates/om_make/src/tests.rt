@@ -3,7 +3,7 @@
 use super::{Tally, summary, vectors};
 use om_convert::chirotope_to_cocircuits;
 use om_samples::{text_of_map, text_of_vectors};
-use om_signs::MAX_ELEMENTS;
+use om_signs::MAX_DRAWN;
 use om_vectors::{Word, signs_of};
 use std::alloc::Global;
 use std::test::Fail;
@@ -52,7 +52,7 @@ fn summaries(rt: HostRuntime) -> Result<(), Fail> {
         (7, 4, [2, 1, 1, 8, 39, 3]),
         (0, 5, [3, 0, 7, 20, 83, 5]),
         (7, 6, [6, 1, 13, 26, 111, 4]),
-        (7, MAX_ELEMENTS, [268, 5, 287, 220, 903, 34]),
+        (7, MAX_DRAWN, [268, 5, 287, 220, 903, 34]),
     ];
     for (seed, count, wanted) in rows {
         let tally = summary(&rt, rt.alloc(), &vectors(seed, count))?;

@@ -5,8 +5,8 @@ use Rattle.om_denotation.specs.Circuits.{IsCocircuitOfChirotope}
 use Rattle.om_make.proofs.CountLaws.{few_cocircuits}
 use Rattle.om_make.proofs.listing.list_cocircuits.Goals as goal
 
-pub unreachable-requires : goal.unreachable-requires
-unreachable-requires c =
+pub unreachable-requires-in-Err-TooMany : goal.unreachable-requires-in-Err-TooMany
+unreachable-requires-in-Err-TooMany c =
     let cause = subst (IsCause (IsCocircuitOfChirotope c.args.chi.now)) c.in-Err-TooMany.field-0-is c.in-Err-TooMany.ensures.many in
     few_cocircuits c.args.chi.now c.requires (subst (λ k. k ≤ MAX_ELEMENTS) c.elements-elements.ensures.value c.elements-elements.ensures.high) cause.1
 
