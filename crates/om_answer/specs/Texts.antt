@@ -40,6 +40,7 @@ code_text code.Kind = codes "kind"
 code_text code.Header = codes "header"
 code_text (code.Elements n) = codes "elements" ++ spaced (decimal n)
 code_text (code.Rank r) = codes "rank" ++ spaced (decimal r)
+code_text (code.Size v) = codes "size" ++ spaced (decimal v)
 code_text code.Setting = codes "setting"
 code_text code.Sign = codes "sign"
 code_text code.Length = codes "length"

@@ -23,8 +23,8 @@ const EIGHT_ENTRIES: &str =
 const BLOCKS: &str = "realizable/vector 1 0 0/vector 0 1 0/vector 0 0 1/vector 1 -1 1/end/
 realizable/vector 1099511627776 -1099511627776 0/end/
 nonrealizable/end/
-nonrealizable/lt 5 4 3 2 1 1 1 1/eq 16 16 16 16 16 3 3 7/end/
-undecided/weight 1 2 3 1/weight 1 2 4 -1267650600228229401496703205376/weight 1 3 4 1267650600228229401496703205376/weight 2 3 16 0/frontier/vector 1 -1 0/end/
+nonrealizable/lt 5 4 3 2 1 1 1 1/eq 20 20 20 20 20 3 3 7/end/
+undecided/weight 1 2 3 1/weight 1 2 4 -1267650600228229401496703205376/weight 1 3 4 1267650600228229401496703205376/weight 2 3 20 0/frontier/vector 1 -1 0/end/
 undecided/exhausted/end/
 undecided/frontier/end/
 limit/pivots 1000000/basis 0/exhausted/end/
@@ -64,6 +64,8 @@ om 2/chirotope 3 4/names a b c/++++/end/ = 3 setting
 om 2/chirotope 3 4/names a b c d/names a b c d/ = 4 setting
 om 2/chirotope 3 4/++++/end/names a b c d/ = 5 claim
 om 1/chirotope 3 4/realizable/ = 3 sign
+om 1/chirotope 3 21/ = 2 elements 21
+om 1/chirotope 7 17/end/realizable/ = 2 size 19448
 om 1/chirotope 3 4/+++/end/ = 4 few
 om 1/wiring 3/1-2 realizable/ = 3 block
 om 1/points 1/1 0/end/ = 3 number
@@ -124,8 +126,8 @@ nonrealizable/exhausted/
 nonrealizable/lt 01 2 3 4 5 1 2 1/
 nonrealizable/lt -0 2 3 4 5 1 2 1/
 nonrealizable/lt 0 2 3 4 5 1 2 1/
-nonrealizable/lt 17 2 3 4 5 1 2 1/
-nonrealizable/lt 1 2 3 4 17 1 2 1/
+nonrealizable/lt 21 2 3 4 5 1 2 1/
+nonrealizable/lt 1 2 3 4 21 1 2 1/
 nonrealizable/eq 1 2 3 4 5 0 2 1/
 nonrealizable/eq 1 2 3 4 5 1 4 1/
 nonrealizable/eq 1 2 3 4 5 1 2 01/
@@ -139,7 +141,7 @@ undecided/weight 2 1 3 0/
 undecided/weight 1 1 2 0/
 undecided/weight 1 2 2 0/
 undecided/weight 0 1 2 0/
-undecided/weight 1 2 17 0/
+undecided/weight 1 2 21 0/
 undecided/weight 1 2 3 -0/
 undecided/weight 1 2 3 00/
 undecided/weight 1 2 3/
@@ -304,17 +306,17 @@ fn lines_past_the_greatest_numbers(rt: HostRuntime) -> Result<(), Fail> {
     let vector = "vector 0 0 0/";
     let weight = "weight 1 2 3 0/";
     for (word, line, times, last, fault) in [
-        ("realizable/", vector, 16, vector, "22 many"),
-        ("realizable/", vector, 16, "vector 0 0/", "22 entry"),
+        ("realizable/", vector, 20, vector, "26 many"),
+        ("realizable/", vector, 20, "vector 0 0/", "26 entry"),
         (
             "realizable/",
             vector,
-            16,
+            20,
             "vector 0 0 1099511627777/",
-            "22 entry",
+            "26 entry",
         ),
-        ("undecided/", weight, 560, "", "566 missing"),
-        ("undecided/", weight, 560, weight, "566 many"),
+        ("undecided/", weight, 1_140, "", "1146 missing"),
+        ("undecided/", weight, 1_140, weight, "1146 many"),
     ] {
         let lines = repeated(rt.alloc(), line, times)?;
         fails_behind(&rt, rt.alloc(), word, lines, last, fault)?;

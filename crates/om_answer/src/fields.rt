@@ -46,6 +46,10 @@ fn push_code(text: &mut Vec<u8>, code: Code) -> Result<(), NoMemory>
             push(text, b"rank")?;
             push_number(text, u128::from(r))
         }
+        Code::Size { values } => {
+            push(text, b"size")?;
+            push_number(text, u128::from(values))
+        }
         Code::Setting => push(text, b"setting"),
         Code::Sign => push(text, b"sign"),
         Code::Length => push(text, b"length"),

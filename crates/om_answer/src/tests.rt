@@ -57,7 +57,7 @@ fn lines_without_fields(rt: HostRuntime) -> Result<(), Fail> {
 fn lines_with_numbers(rt: HostRuntime) -> Result<(), Fail> {
     for (line, text) in [
         (Line::Usage { word: 1 }, "usage 1\n"),
-        (Line::LimitMembers { limit: 1024 }, "limit members 1024\n"),
+        (Line::LimitMembers { limit: 4096 }, "limit members 4096\n"),
         (
             Line::LimitValues { values: 184_756 },
             "limit values 184756\n",
@@ -81,7 +81,7 @@ fn lines_with_numbers(rt: HostRuntime) -> Result<(), Fail> {
         (Line::RefusedLength { given: 3 }, "refused length 3\n"),
         (Line::RefusedPlace { e: 5 }, "refused place 5\n"),
         (Line::RefusedNotrank3 { r: 2 }, "refused notrank3 2\n"),
-        (Line::RefusedFull { n: 16 }, "refused full 16\n"),
+        (Line::RefusedFull { n: 20 }, "refused full 20\n"),
         (Line::RefusedColour { e: 1 }, "refused colour 1\n"),
         (
             Line::RefusedNumber {
@@ -99,13 +99,13 @@ fn lines_with_numbers(rt: HostRuntime) -> Result<(), Fail> {
                     b: 2,
                     c: 3,
                     d: 4,
-                    e: 15,
+                    e: 19,
                     small: 2,
                     big: 3,
                     strict: true,
                 },
             },
-            "refused weightfails 1 2 3 4 15 2 3\n",
+            "refused weightfails 1 2 3 4 19 2 3\n",
         ),
     ] {
         prints(&rt, rt.alloc(), line, text)?;
@@ -183,9 +183,9 @@ fn lines_with_sets_and_codes(rt: HostRuntime) -> Result<(), Fail> {
         (
             Line::RefusedLine {
                 line: 2,
-                code: Code::Elements { n: 17 },
+                code: Code::Elements { n: 21 },
             },
-            "refused line 2 elements 17\n",
+            "refused line 2 elements 21\n",
         ),
         (
             Line::RefusedLine {
@@ -193,6 +193,13 @@ fn lines_with_sets_and_codes(rt: HostRuntime) -> Result<(), Fail> {
                 code: Code::Rank { r: 5 },
             },
             "refused line 2 rank 5\n",
+        ),
+        (
+            Line::RefusedLine {
+                line: 2,
+                code: Code::Size { values: 19_448 },
+            },
+            "refused line 2 size 19448\n",
         ),
         (
             Line::RefusedLine {
