@@ -15,15 +15,23 @@ const PAPPUS: &str =
 const NON_PAPPUS: &str =
     "0++++++++++++--------0-0++++++++++----0---+0+++++---0+-0++++++++0------------------+";
 
-/// The 560 signs of the alternating chirotope of rank 3 on 16 elements.
-const SIXTEEN: &str = "\
+/// The 1,140 signs of the alternating chirotope of rank 3 on 20 elements.
+const TWENTY: &str = "\
     ++++++++++++++++++++++++++++++++++++++++++++++++++++++++++++++++++++++++++++++++\
     ++++++++++++++++++++++++++++++++++++++++++++++++++++++++++++++++++++++++++++++++\
     ++++++++++++++++++++++++++++++++++++++++++++++++++++++++++++++++++++++++++++++++\
     ++++++++++++++++++++++++++++++++++++++++++++++++++++++++++++++++++++++++++++++++\
     ++++++++++++++++++++++++++++++++++++++++++++++++++++++++++++++++++++++++++++++++\
     ++++++++++++++++++++++++++++++++++++++++++++++++++++++++++++++++++++++++++++++++\
-    ++++++++++++++++++++++++++++++++++++++++++++++++++++++++++++++++++++++++++++++++";
+    ++++++++++++++++++++++++++++++++++++++++++++++++++++++++++++++++++++++++++++++++\
+    ++++++++++++++++++++++++++++++++++++++++++++++++++++++++++++++++++++++++++++++++\
+    ++++++++++++++++++++++++++++++++++++++++++++++++++++++++++++++++++++++++++++++++\
+    ++++++++++++++++++++++++++++++++++++++++++++++++++++++++++++++++++++++++++++++++\
+    ++++++++++++++++++++++++++++++++++++++++++++++++++++++++++++++++++++++++++++++++\
+    ++++++++++++++++++++++++++++++++++++++++++++++++++++++++++++++++++++++++++++++++\
+    ++++++++++++++++++++++++++++++++++++++++++++++++++++++++++++++++++++++++++++++++\
+    ++++++++++++++++++++++++++++++++++++++++++++++++++++++++++++++++++++++++++++++++\
+    ++++++++++++++++++++";
 
 /// The elements and the sides of all lawful statements of the alternating chirotope on five elements, in order.
 const FIVE: [(u32, u8); 10] = [
@@ -175,15 +183,15 @@ fn few_elements(rt: HostRuntime) -> Result<(), Fail> {
     Ok(())
 }
 
-// each of 16 elements with each 4 of the other 15 gives two strict statements
+// each of 20 elements with each 4 of the other 19 gives two strict statements
 #[test]
 fn many_elements(rt: HostRuntime) -> Result<(), Fail> {
     let alloc = rt.alloc();
     assert!(rt; are_entries(&chirotope_of(&rt, alloc, 3, 9, NON_PAPPUS)?, 6));
     assert!(rt; are_entries(&chirotope_of(&rt, alloc, 3, 9, PAPPUS)?, 9));
-    let sixteen = chirotope_of(&rt, alloc, 3, 16, SIXTEEN)?;
-    assert_eq!(rt; count(&sixteen, 43_681), 43_680);
-    assert!(rt; nth_statement(&sixteen, 43_679).is_some());
-    assert!(rt; nth_statement(&sixteen, 43_680).is_none());
+    let twenty = chirotope_of(&rt, alloc, 3, 20, TWENTY)?;
+    assert_eq!(rt; count(&twenty, 155_041), 155_040);
+    assert!(rt; nth_statement(&twenty, 155_039).is_some());
+    assert!(rt; nth_statement(&twenty, 155_040).is_none());
     Ok(())
 }
