@@ -1,6 +1,7 @@
 -- Documents that denote the same.
 --
--- Main results: the chirotope of a representation denotes the same (elements_of, same_of); a document as itself (own_converted); a document as a
+-- Main results: the chirotope of a representation denotes the same (elements_of, same_of); a document as itself (own_converted); a list whose chirotope is
+-- too wide (wide_answered, wide_chirotope); a document as a
 -- chirotope (chirotope_made); lists that are made by way of a chirotope (circuits_made, cocircuits_made, covectors_made), and those with too many
 -- members (many_circuits, many_cocircuits, many_covectors); covectors as cocircuits (minimal_made); a representation of one of some kinds (one_of_two,
 -- one_of_three).
@@ -36,12 +37,15 @@ use Rattle.om_answer.specs.declared.line.Line.TheVariants as line
 use Rattle.om_program.specs.declared.answer.Answer.{Answer}
 use Rattle.om_program.specs.declared.representation.Representation.{Representation}
 use Rattle.om_program.specs.declared.representation.Representation.TheVariants as representation
+use Rattle.om_program.specs.declared.unchosen.Unchosen.{Unchosen}
+use Rattle.om_program.specs.declared.unchosen.Unchosen.TheVariants as unchosen
 use Rattle.om_program.specs.Axioms.{MeetsAxioms}
 use Rattle.om_program.specs.Chirotopes.{IsChirotopeOf, IsNormalChirotopeOf}
 use Rattle.om_program.specs.Covectors.{IsCovectorIn}
 use Rattle.om_program.specs.Documents.{document_of, map_document, circuits_document, cocircuits_document, covectors_document}
 use Rattle.om_program.specs.Answers.{says, shows}
-use Rattle.om_program.specs.Conversions.{has_kind, IsMemberOf, HasExactly, IsConversion, IsConversionFrom, itself, limited, converted, IsTooMany}
+use Rattle.om_program.specs.Widths.{IsList, IsKept, IsUnchosen, IsWidthAnswer}
+use Rattle.om_program.specs.Conversions.{has_kind, IsMemberOf, HasExactly, IsConversion, IsConversionFrom, itself, wide, limited, converted, is_direct, IsKeptAs, IsUnlisted}
 
 -- ---- the chirotope of a representation
 
@@ -68,14 +72,35 @@ same_of (representation.Covectors s) c is = is.same
 pub own_converted : (k : Kind) (d e : Document) → has_kind k d.body ≡ true → e ≡ d → IsInForm e → IsConversion k d (shows e)
 own_converted k d e own same form = subst (λ u. IsConversion k d (shows u)) (sym same) (itself own (subst IsInForm same form))
 
+-- ---- a list whose chirotope is too wide, and one that is kept
+
+kept_as : (k : Kind) (d : Document) → IsKept d → IsKeptAs k d
+kept_as k d narrow values (way, is) = narrow values is
+
+pub wide_answered : (k : Kind) (d : Document) (why : Unchosen) (a : Answer) → has_kind k d.body ≡ false → is_direct k d.body ≡ false → IsUnchosen d why → IsWidthAnswer why a → IsConversion k d a
+wide_answered k d (unchosen.TooWide rank values) a other way is same = subst (IsConversion k d) (sym same) (wide values other (way, is.width))
+wide_answered k d unchosen.Memory a other way is none = absurd none
+
+list_is_no_map : (b : Body) → IsList b → has_kind kind.Chirotope b ≡ false
+list_is_no_map (body.Chirotope m) list = absurd list
+list_is_no_map (body.Circuits members) list = refl
+list_is_no_map (body.Cocircuits members) list = refl
+list_is_no_map (body.Covectors members) list = refl
+list_is_no_map (body.Wiring blocks) list = absurd list
+list_is_no_map (body.Points points) list = absurd list
+
+pub wide_chirotope : (d : Document) (why : Unchosen) (a : Answer) → IsUnchosen d why → IsWidthAnswer why a → IsConversion kind.Chirotope d a
+wide_chirotope d (unchosen.TooWide rank values) a is same = wide_answered kind.Chirotope d (unchosen.TooWide rank values) a (list_is_no_map d.body is.width.list) refl is same
+wide_chirotope d unchosen.Memory a is none = absurd none
+
 -- ---- a document as a chirotope
 
 nobody : {k : ℕ} → HasMoreThan k (λ (x : List Sign). ⊥) → ⊥
 nobody more = more.each 0 [] (let many = more.many in omega (arith, many))
 
-normal_made : (d : Document) (c : SignMap) (e : Document) → has_kind kind.Chirotope d.body ≡ false → ((X : List Sign) → IsCovectorIn d X → length X ≡ d.elements) → IsNormalChirotopeOf d c → e ≡ map_document c → IsInForm e → MeetsAxioms e → IsConversion kind.Chirotope d (shows e)
-normal_made d c e other size of made form axioms =
-    subst (λ u. IsConversion kind.Chirotope d (shows u)) (sym made) (converted (map_document c) other nobody (record {
+normal_made : (d : Document) (c : SignMap) (e : Document) → has_kind kind.Chirotope d.body ≡ false → IsKept d → ((X : List Sign) → IsCovectorIn d X → length X ≡ d.elements) → IsNormalChirotopeOf d c → e ≡ map_document c → IsInForm e → MeetsAxioms e → IsConversion kind.Chirotope d (shows e)
+normal_made d c e other narrow size of made form axioms =
+    subst (λ u. IsConversion kind.Chirotope d (shows u)) (sym made) (converted (map_document c) other (kept_as kind.Chirotope d narrow) nobody (record {
       form = subst IsInForm made form;
       kind = refl;
       elements = of.elements;
@@ -84,11 +109,11 @@ normal_made d c e other size of made form axioms =
       members = of.normal;
     }))
 
-pub chirotope_made : (r : Representation) (c : SignMap) (e : Document) → IsChirotopeOf (document_of r) c → e ≡ map_document c → IsInForm e → MeetsAxioms e → IsConversion kind.Chirotope (document_of r) (shows e)
-chirotope_made (representation.Chirotope m) c e of made form axioms = own_converted kind.Chirotope (map_document m) e refl (made ∙ ap map_document of) form
-chirotope_made (representation.Circuits s) c e of made form axioms = normal_made (circuits_document s.0) c e refl (size_in (representation.Circuits s)) of made form axioms
-chirotope_made (representation.Cocircuits s) c e of made form axioms = normal_made (cocircuits_document s.0) c e refl (size_in (representation.Cocircuits s)) of made form axioms
-chirotope_made (representation.Covectors s) c e of made form axioms = normal_made (covectors_document s) c e refl (size_in (representation.Covectors s)) of made form axioms
+pub chirotope_made : (r : Representation) (c : SignMap) (e : Document) → IsKept (document_of r) → IsChirotopeOf (document_of r) c → e ≡ map_document c → IsInForm e → MeetsAxioms e → IsConversion kind.Chirotope (document_of r) (shows e)
+chirotope_made (representation.Chirotope m) c e narrow of made form axioms = own_converted kind.Chirotope (map_document m) e refl (made ∙ ap map_document of) form
+chirotope_made (representation.Circuits s) c e narrow of made form axioms = normal_made (circuits_document s.0) c e refl narrow (size_in (representation.Circuits s)) of made form axioms
+chirotope_made (representation.Cocircuits s) c e narrow of made form axioms = normal_made (cocircuits_document s.0) c e refl narrow (size_in (representation.Cocircuits s)) of made form axioms
+chirotope_made (representation.Covectors s) c e narrow of made form axioms = normal_made (covectors_document s) c e refl narrow (size_in (representation.Covectors s)) of made form axioms
 
 -- ---- lists, by way of a chirotope
 
@@ -112,16 +137,17 @@ module _ (r : Representation) (c : SignMap) (om : IsChirotope c) (of : IsChiroto
 
   -- a list of a kind, whose members of the chirotope are P
   module _ (k : Kind) (P : List Sign → Type 0) (both : (X : List Sign) → P X ↔ IsMemberOf k (document_of r) X) where
-    many_made : (why : ConvertError) (a : Answer) → has_kind k (document_of r).body ≡ false → IsCause P why → IsTooMany why a → IsConversion k (document_of r) a
-    many_made (convert.TooMany limit) a other cause same =
+    many_made : (why : ConvertError) (a : Answer) → has_kind k (document_of r).body ≡ false → IsKept (document_of r) → IsCause P why → IsUnlisted why a → IsConversion k (document_of r) a
+    many_made (convert.TooWide values) a other narrow cause same = absurd cause
+    many_made (convert.TooMany limit) a other narrow cause same =
         let most = families.cause_same P (IsMemberOf k (document_of r)) both (convert.TooMany limit) cause in
         let all : a ≡ says (line.LimitMembers MAX_MEMBERS) = same ∙ ap (λ n. says (line.LimitMembers n)) most.0 in
-        subst (IsConversion k (document_of r)) (sym all) (limited other most.1)
-    many_made convert.Memory a other cause same = absurd same
+        subst (IsConversion k (document_of r)) (sym all) (limited other (kept_as k (document_of r) narrow) most.1)
+    many_made convert.Memory a other narrow cause same = absurd same
 
-    list_made : (e u : Document) → has_kind k (document_of r).body ≡ false → e ≡ u → IsInForm e → MeetsAxioms e → has_kind k u.body ≡ true → u.elements ≡ c.elements → ((X : List Sign) → IsCovectorIn u X → length X ≡ u.elements) → HasExactly P u.body → DenoteTheSame c.elements (IsCovectorOfChirotope c) (IsCovectorIn u) → IsWithinLimit P → IsConversion k (document_of r) (shows e)
-    list_made e u other made form axioms own count size members same few =
-        subst (λ v. IsConversion k (document_of r) (shows v)) (sym made) (converted u other (families.within_same P (IsMemberOf k (document_of r)) both few) (record {
+    list_made : (e u : Document) → has_kind k (document_of r).body ≡ false → IsKept (document_of r) → e ≡ u → IsInForm e → MeetsAxioms e → has_kind k u.body ≡ true → u.elements ≡ c.elements → ((X : List Sign) → IsCovectorIn u X → length X ≡ u.elements) → HasExactly P u.body → DenoteTheSame c.elements (IsCovectorOfChirotope c) (IsCovectorIn u) → IsWithinLimit P → IsConversion k (document_of r) (shows e)
+    list_made e u other narrow made form axioms own count size members same few =
+        subst (λ v. IsConversion k (document_of r) (shows v)) (sym made) (converted u other (kept_as k (document_of r) narrow) (families.within_same P (IsMemberOf k (document_of r)) both few) (record {
           form = subst IsInForm made form;
           kind = own;
           elements = count ∙ elements_of r c of;
@@ -130,46 +156,46 @@ module _ (r : Representation) (c : SignMap) (om : IsChirotope c) (of : IsChiroto
           members = exactly_same P (IsMemberOf k (document_of r)) both u.body members;
         }))
 
-  many_circuits_of : (why : ConvertError) (a : Answer) → has_kind kind.Circuits (document_of r).body ≡ false → IsCause (IsCircuitOfChirotope c) why → IsTooMany why a → IsConversion kind.Circuits (document_of r) a
+  many_circuits_of : (why : ConvertError) (a : Answer) → has_kind kind.Circuits (document_of r).body ≡ false → IsKept (document_of r) → IsCause (IsCircuitOfChirotope c) why → IsUnlisted why a → IsConversion kind.Circuits (document_of r) a
   many_circuits_of = many_made kind.Circuits (IsCircuitOfChirotope c) circuit_in
 
-  many_cocircuits_of : (why : ConvertError) (a : Answer) → has_kind kind.Cocircuits (document_of r).body ≡ false → IsCause (IsCocircuitOfChirotope c) why → IsTooMany why a → IsConversion kind.Cocircuits (document_of r) a
+  many_cocircuits_of : (why : ConvertError) (a : Answer) → has_kind kind.Cocircuits (document_of r).body ≡ false → IsKept (document_of r) → IsCause (IsCocircuitOfChirotope c) why → IsUnlisted why a → IsConversion kind.Cocircuits (document_of r) a
   many_cocircuits_of = many_made kind.Cocircuits (IsCocircuitOfChirotope c) cocircuit_in
 
-  many_covectors_of : (why : ConvertError) (a : Answer) → has_kind kind.Covectors (document_of r).body ≡ false → IsCause (IsCovectorOfChirotope c) why → IsTooMany why a → IsConversion kind.Covectors (document_of r) a
+  many_covectors_of : (why : ConvertError) (a : Answer) → has_kind kind.Covectors (document_of r).body ≡ false → IsKept (document_of r) → IsCause (IsCovectorOfChirotope c) why → IsUnlisted why a → IsConversion kind.Covectors (document_of r) a
   many_covectors_of = many_made kind.Covectors (IsCovectorOfChirotope c) covector_in
 
-  pub circuits_made : (s : Listing) (e : Document) → has_kind kind.Circuits (document_of r).body ≡ false → e ≡ circuits_document s → IsInForm e → MeetsAxioms e → s.elements ≡ c.elements → AreAllOf (IsCircuitOfChirotope c) s.members → DenoteTheSame c.elements (IsCovectorOfChirotope c) (IsCovectorOfCircuits s) → IsWithinLimit (IsCircuitOfChirotope c) → IsConversion kind.Circuits (document_of r) (shows e)
-  circuits_made s e other made form axioms count members same few =
-      list_made kind.Circuits (IsCircuitOfChirotope c) circuit_in e (circuits_document s) other made form axioms refl count (λ X x. x.size) members same few
+  pub circuits_made : (s : Listing) (e : Document) → has_kind kind.Circuits (document_of r).body ≡ false → IsKept (document_of r) → e ≡ circuits_document s → IsInForm e → MeetsAxioms e → s.elements ≡ c.elements → AreAllOf (IsCircuitOfChirotope c) s.members → DenoteTheSame c.elements (IsCovectorOfChirotope c) (IsCovectorOfCircuits s) → IsWithinLimit (IsCircuitOfChirotope c) → IsConversion kind.Circuits (document_of r) (shows e)
+  circuits_made s e other narrow made form axioms count members same few =
+      list_made kind.Circuits (IsCircuitOfChirotope c) circuit_in e (circuits_document s) other narrow made form axioms refl count (λ X x. x.size) members same few
 
-  pub cocircuits_made : (s : Listing) (e : Document) → has_kind kind.Cocircuits (document_of r).body ≡ false → e ≡ cocircuits_document s → IsInForm e → MeetsAxioms e → s.elements ≡ c.elements → AreAllOf (IsCocircuitOfChirotope c) s.members → DenoteTheSame c.elements (IsCovectorOfChirotope c) (IsCovectorOfCocircuits s) → IsWithinLimit (IsCocircuitOfChirotope c) → IsConversion kind.Cocircuits (document_of r) (shows e)
-  cocircuits_made s e other made form axioms count members same few =
-      list_made kind.Cocircuits (IsCocircuitOfChirotope c) cocircuit_in e (cocircuits_document s) other made form axioms refl count (λ X x. x.size) members same few
+  pub cocircuits_made : (s : Listing) (e : Document) → has_kind kind.Cocircuits (document_of r).body ≡ false → IsKept (document_of r) → e ≡ cocircuits_document s → IsInForm e → MeetsAxioms e → s.elements ≡ c.elements → AreAllOf (IsCocircuitOfChirotope c) s.members → DenoteTheSame c.elements (IsCovectorOfChirotope c) (IsCovectorOfCocircuits s) → IsWithinLimit (IsCocircuitOfChirotope c) → IsConversion kind.Cocircuits (document_of r) (shows e)
+  cocircuits_made s e other narrow made form axioms count members same few =
+      list_made kind.Cocircuits (IsCocircuitOfChirotope c) cocircuit_in e (cocircuits_document s) other narrow made form axioms refl count (λ X x. x.size) members same few
 
-  pub covectors_made : (s : Listing) (e : Document) → has_kind kind.Covectors (document_of r).body ≡ false → e ≡ covectors_document s → IsInForm e → MeetsAxioms e → s.elements ≡ c.elements → AreAllOf (IsCovectorOfChirotope c) s.members → DenoteTheSame c.elements (IsCovectorOfChirotope c) (IsCovectorOfCovectors s) → IsWithinLimit (IsCovectorOfChirotope c) → IsConversion kind.Covectors (document_of r) (shows e)
-  covectors_made s e other made form axioms count members same few =
-      list_made kind.Covectors (IsCovectorOfChirotope c) covector_in e (covectors_document s) other made form axioms refl count (λ X x. x.size) members same few
+  pub covectors_made : (s : Listing) (e : Document) → has_kind kind.Covectors (document_of r).body ≡ false → IsKept (document_of r) → e ≡ covectors_document s → IsInForm e → MeetsAxioms e → s.elements ≡ c.elements → AreAllOf (IsCovectorOfChirotope c) s.members → DenoteTheSame c.elements (IsCovectorOfChirotope c) (IsCovectorOfCovectors s) → IsWithinLimit (IsCovectorOfChirotope c) → IsConversion kind.Covectors (document_of r) (shows e)
+  covectors_made s e other narrow made form axioms count members same few =
+      list_made kind.Covectors (IsCovectorOfChirotope c) covector_in e (covectors_document s) other narrow made form axioms refl count (λ X x. x.size) members same few
 
 -- too many members
 
-pub many_circuits : (c : SignMap) → IsChirotope c → (why : ConvertError) (a : Answer) → IsCause (IsCircuitOfChirotope c) why → IsTooMany why a → IsConversionFrom kind.Circuits c a
-many_circuits c om why a cause many = λ r of other. many_circuits_of r c om of why a other cause many
+pub many_circuits : (c : SignMap) → IsChirotope c → (why : ConvertError) (a : Answer) → IsCause (IsCircuitOfChirotope c) why → IsUnlisted why a → IsConversionFrom kind.Circuits c a
+many_circuits c om why a cause many = λ r of other narrow. many_circuits_of r c om of why a other narrow cause many
 
-pub many_cocircuits : (c : SignMap) → IsChirotope c → (why : ConvertError) (a : Answer) → IsCause (IsCocircuitOfChirotope c) why → IsTooMany why a → IsConversionFrom kind.Cocircuits c a
-many_cocircuits c om why a cause many = λ r of other. many_cocircuits_of r c om of why a other cause many
+pub many_cocircuits : (c : SignMap) → IsChirotope c → (why : ConvertError) (a : Answer) → IsCause (IsCocircuitOfChirotope c) why → IsUnlisted why a → IsConversionFrom kind.Cocircuits c a
+many_cocircuits c om why a cause many = λ r of other narrow. many_cocircuits_of r c om of why a other narrow cause many
 
-pub many_covectors : (c : SignMap) → IsChirotope c → (why : ConvertError) (a : Answer) → IsCause (IsCovectorOfChirotope c) why → IsTooMany why a → IsConversionFrom kind.Covectors c a
-many_covectors c om why a cause many = λ r of other. many_covectors_of r c om of why a other cause many
+pub many_covectors : (c : SignMap) → IsChirotope c → (why : ConvertError) (a : Answer) → IsCause (IsCovectorOfChirotope c) why → IsUnlisted why a → IsConversionFrom kind.Covectors c a
+many_covectors c om why a cause many = λ r of other narrow. many_covectors_of r c om of why a other narrow cause many
 
-pub from_chirotope : (k : Kind) (r : Representation) (c : SignMap) → IsChirotopeOf (document_of r) c → has_kind k (document_of r).body ≡ false → (a : Answer) → IsConversionFrom k c a → IsConversion k (document_of r) a
-from_chirotope k r c of other a from = from r of other
+pub from_chirotope : (k : Kind) (r : Representation) (c : SignMap) → IsChirotopeOf (document_of r) c → has_kind k (document_of r).body ≡ false → IsKept (document_of r) → (a : Answer) → IsConversionFrom k c a → IsConversion k (document_of r) a
+from_chirotope k r c of other narrow a from = from r of other narrow
 
 -- ---- covectors as cocircuits
 
 pub minimal_made : (c s : Listing) (e : Document) → e ≡ cocircuits_document s → IsInForm e → MeetsAxioms e → s.elements ≡ c.elements → HaveLength c.elements c.members → AreThose (IsMinimal c.members) c.members s.members → DenoteTheSame c.elements (Contains c.members) (IsCovectorOfCocircuits s) → IsConversion kind.Cocircuits (covectors_document c) (shows e)
 minimal_made c s e made form axioms count lengths those same =
-    subst (λ u. IsConversion kind.Cocircuits (covectors_document c) (shows u)) (sym made) (converted (cocircuits_document s) refl (listed_within (IsMemberOf kind.Cocircuits (covectors_document c)) s.members members whole.body.few) (record {
+    subst (λ u. IsConversion kind.Cocircuits (covectors_document c) (shows u)) (sym made) (converted (cocircuits_document s) refl direct_kept (listed_within (IsMemberOf kind.Cocircuits (covectors_document c)) s.members members whole.body.few) (record {
       form = whole;
       kind = refl;
       elements = count;
@@ -178,6 +204,9 @@ minimal_made c s e made form axioms count lengths those same =
       members = members;
     }))
   where
+    direct_kept : IsKeptAs kind.Cocircuits (covectors_document c)
+    direct_kept values (way, is) = let no : true ≡ false = way in cc
+
     whole : IsInForm (cocircuits_document s)
     whole = subst IsInForm made form
 

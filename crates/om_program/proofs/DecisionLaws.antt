@@ -1,7 +1,7 @@
 -- Decisions as answers.
 --
 -- Main results: the budgets that words name are in their ranges (lawful_budgets); what a call says of a verdict (verdict_decided), and of the answer
--- to a document (decision_meant); a verdict is written with a status other than that of usage (verdict_status), and a decision is an answer that can
+-- to a document (decision_meant, decision_refused); a verdict is written with a status other than that of usage (verdict_status), and a decision is an answer that can
 -- be written (decision_replies).
 use Rattle.std.specs.Prelude.{ℕ, ◌≡◌, ◌≤◌, List, Result, Ok, Err, IfOk}
 use Rattle.std.proofs.Common.{arith, sym, subst}
@@ -16,17 +16,22 @@ use Rattle.om_decide.specs.declared.budgets.Budgets.{Budgets}
 use Rattle.om_decide.specs.Verdicts as decide
 use Rattle.om_decide.proofs.VerdictLaws.{verdict_shown}
 use Rattle.om_text.specs.declared.document.Document.{Document}
+use Rattle.om_answer.specs.declared.line.Line.{Line}
 use Rattle.om_program.specs.declared.answer.Answer.{Answer}
 use Rattle.om_program.specs.declared.representation.Representation.{Representation}
 use Rattle.om_program.specs.declared.setting.Setting.TheVariants.{BoxSize, Steps, Pivots}
-use Rattle.om_program.specs.Answers.{IsReply, status_of_verdict}
+use Rattle.om_program.specs.declared.unchosen.Unchosen.{Unchosen}
+use Rattle.om_program.specs.Answers.{says, IsReply, status_of_verdict}
 use Rattle.om_program.specs.Statuses.{IsReplied}
 use Rattle.om_program.specs.Options.{AreBudgets, budgets_of}
 use Rattle.om_program.specs.Chirotopes.{IsChirotopeOf}
 use Rattle.om_program.specs.Documents.{document_of}
 use Rattle.om_program.specs.Represented.{IsMeantFor}
+use Rattle.om_program.specs.RankThree.{IsForChirotope, for_chirotope}
+use Rattle.om_program.specs.Widths.{IsUnchosen, IsRankLine}
 use Rattle.om_program.specs.Decisions.{IsDecided, DecisionMeans, other_rank, decided, IsDecision, of_chirotope}
 use Rattle.om_program.proofs.OptionLaws.{number_of_within}
+use Rattle.om_program.proofs.WidthLaws.{few_of_rank3, rank_refused}
 
 amount_lawful : (words : List (List ℕ)) → decide.AreBudgets (budgets_of words)
 amount_lawful words =
@@ -62,6 +67,13 @@ pub decision_meant : (b : Budgets) (c : SignMap) (r : Representation) → IsChir
 decision_meant b c r chosen (Ok answer) means = of_chirotope c answer chosen means
 decision_meant b c r chosen (Err e) means = tt
 
+-- it is of another rank than 3 where the chirotope of a list is too wide
+pub decision_refused : (b : Budgets) (r : Representation) (why : Unchosen) → IsUnchosen (document_of r) why → (l : Line) → IsRankLine why l → IsMeantFor (IsDecision b) r (says l)
+decision_refused b r why is l same = decision_of (rank_refused (λ m a. DecisionMeans m b a) (document_of r) (λ m of other. other_rank other) why is l same)
+  where
+    decision_of : IsForChirotope (λ m a. DecisionMeans m b a) (document_of r) (says l) → IsDecision b (document_of r) (says l)
+    decision_of (for_chirotope m a of means) = of_chirotope m a of means
+
 pub verdict_status : (v : Verdict) → IsReplied (status_of_verdict v)
 verdict_status (Realizable vs) = tt
 verdict_status (Nonrealizable es) = tt
@@ -70,7 +82,7 @@ verdict_status (Limit end u) = tt
 
 means_replies : (m : SignMap) (b : Budgets) (a : Answer) → DecisionMeans m b a → IsReply a
 means_replies m b a (other_rank other) = tt
-means_replies m b a (decided v is) = is.form
+means_replies m b a (decided v is) = (is.form, few_of_rank3 m is.rank is.sound.limits.high)
 
 pub decision_replies : (b : Budgets) (d : Document) (a : Answer) → IsDecision b d a → IsReply a
 decision_replies b d a (of_chirotope m answer of means) = means_replies m b a means

@@ -1,8 +1,9 @@
 -- The set of three elements, and why its triple isn't flipped.
 --
--- Main results: no element is above n (within_of_none); the elements of the set (three_elements); a refusal (refused_flip).
-use Rattle.std.specs.Prelude.{ℕ, ◌≡◌, ◌+◌, ◌<◌, ◌≤◌, [], Some, None, refl}
-use Rattle.std.proofs.Common.{zero, suc, arith, sym, ◌∙◌, inl, inr}
+-- Main results: no element is above n (within_of_none); the elements of the set (three_elements); a refusal (refused_flip); those of a
+-- list whose chirotope is too wide (wide_outside, wide_other_rank).
+use Rattle.std.specs.Prelude.{ℕ, ◌≡◌, ◌+◌, ◌<◌, ◌≤◌, List, [], Some, None, refl}
+use Rattle.std.proofs.Common.{zero, suc, arith, sym, subst, ◌∙◌, inl, inr}
 use Rattle.std.proofs.lemmas.Bool.{cases_lt, lt-ltb, le-ltb, ne_eqb}
 use Rattle.om_subsets.specs.Subsets.{with_element}
 use Rattle.om_subsets.specs.Members.{Chosen, members}
@@ -10,9 +11,19 @@ use Rattle.om_chirotope.specs.Map.{SignMap}
 use Rattle.om_mutate.specs.declared.flip_refused.FlipRefused.{FlipRefused}
 use Rattle.om_mutate.specs.declared.flip_refused.FlipRefused.TheVariants as why
 use Rattle.om_mutate.specs.Refusals.{IsRefusal}
+use Rattle.om_answer.specs.declared.line.Line.{Line}
+use Rattle.om_answer.specs.declared.line.Line.TheVariants as line
+use Rattle.om_program.specs.declared.representation.Representation.{Representation}
+use Rattle.om_program.specs.declared.unchosen.Unchosen.{Unchosen}
+use Rattle.om_program.specs.declared.unchosen.Unchosen.TheVariants as unchosen
 use Rattle.om_program.specs.Answers.{says}
+use Rattle.om_program.specs.Documents.{document_of}
 use Rattle.om_program.specs.Operations.{first_above}
-use Rattle.om_program.specs.Flips.{triple_of, flip_refusal, IsFlipOfMap, other_rank, no_basis, no_mutation}
+use Rattle.om_program.specs.Flips.{triple_of, flip_refusal, IsFlipOfMap, outside, other_rank, no_basis, no_mutation}
+use Rattle.om_program.specs.RankThree.{IsForChirotope, for_chirotope}
+use Rattle.om_program.specs.Widths.{IsUnchosen, IsRankLine}
+use Rattle.om_program.proofs.ConversionLaws.{elements_of}
+use Rattle.om_program.proofs.WidthLaws.{rank_refused}
 
 pub no_members : (e m : ℕ) → members 0 e m ≡ []
 no_members e zero = refl
@@ -47,3 +58,14 @@ pub refused_flip : (m : SignMap) (t : Chosen) (why : FlipRefused) → first_abov
 refused_flip m t (why.NotRank3 r) none (is, other) = rw is (other_rank none other)
 refused_flip m t why.NotBasis none (three, null) = no_basis none three null
 refused_flip m t (why.NotMutation s a) none is = no_mutation s a none is.0 is.1 is.2
+
+-- ---- a list whose chirotope is too wide
+
+pub wide_outside : (t : List ℕ) (r : Representation) (why : Unchosen) → IsUnchosen (document_of r) why → (l : Line) → IsRankLine why l → (e : ℕ) → first_above (document_of r).elements t ≡ Some e → IsForChirotope (IsFlipOfMap t) (document_of r) (says (line.RefusedPlace e))
+wide_outside t r (unchosen.TooWide rank values) is l same e above =
+    let elements = elements_of r is.width.map is.width.of in
+    for_chirotope is.width.map _ is.width.of (outside e (subst (λ n. first_above n t ≡ Some e) (sym elements) above))
+wide_outside t r unchosen.Memory is l none e above = absurd none
+
+pub wide_other_rank : (t : List ℕ) (r : Representation) (why : Unchosen) → IsUnchosen (document_of r) why → (l : Line) → IsRankLine why l → first_above (document_of r).elements t ≡ None → IsForChirotope (IsFlipOfMap t) (document_of r) (says l)
+wide_other_rank t r why is l same none = rank_refused (IsFlipOfMap t) (document_of r) (λ m of other. other_rank (subst (λ n. first_above n t ≡ None) (sym (elements_of r m of)) none) other) why is l same

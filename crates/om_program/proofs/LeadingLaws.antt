@@ -1,7 +1,7 @@
 -- The elements with signs that words list.
 --
 -- Main results: they are different elements within the limit, and no sign is zero (lawful_leading); none above n, they are a list for n elements
--- (listed_within); the first listed element above n (element_found, none_found); why there is no extension (refused_full, refused_values).
+-- (listed_within); the first listed element above n (element_found, none_found); why there is no extension (refused_values).
 use Rattle.std.specs.Prelude.{ℕ, ◌≡◌, ◌≢◌, ◌<◌, ◌≤◌, ◌+◌, ◌||◌, ◌↔◌, Bool, true, false, cond, nat_eq, nat_lt, not, List, [], ◌∷◌, ◌++◌, length, take, Option, Some, None, refl}
 use Rattle.std.specs.List.{list_any, filter_map, IsDistinct, AllByRecursion}
 use Rattle.std.proofs.Common.{get_or, eqb, zero, suc, arith, ap, subst, sym, ◌∙◌, inl, inr, append_assoc, append-nil}
@@ -178,13 +178,17 @@ lawful_leading words leading read =
     let same : given_list leading ≡ values = ap (take leading.count) read.list ∙ take_at values _ leading.count size in
     let some = read.some in
     let count = listed.count in
-    subst (IsLexicographicList MAX_ELEMENTS) (sym same) (record {
-      some = omega (arith, some, count);
-      few = few_entries MAX_ELEMENTS values listed.entries listed.different;
-      entries = listed.entries;
-      different = listed.different;
-      signed = listed.signed;
-    })
+    let few : length values ≤ MAX_ELEMENTS = few_entries MAX_ELEMENTS values listed.entries listed.different in
+    record {
+      few = omega (arith, size, few);
+      listed = subst (IsLexicographicList MAX_ELEMENTS) (sym same) (record {
+        some = omega (arith, some, count);
+        few = few;
+        entries = listed.entries;
+        different = listed.different;
+        signed = listed.signed;
+      });
+    }
 
 -- ---- the first listed element above n
 
@@ -212,20 +216,13 @@ none_found n (suc k) (x ∷ xs) l before =
 
 -- ---- why there is no extension, and where there is one
 
-pub refused_full : (list : List Signed) (m : SignMap) (n : ℕ) (why : LexError) → why ≡ why_of.Full n → IsFull why ↔ (m.elements ≡ MAX_ELEMENTS) → NamesNumber m why → first_above m.elements (elements_of list) ≡ None → IsExtensionOfMap list m (says (line.RefusedFull n))
-refused_full list m n (why_of.Full k) is full number none =
-    let same : m.elements ≡ n = cc in
-    subst (λ j. IsExtensionOfMap list m (says (line.RefusedFull j))) same (extension.full none (full.0 tt))
-refused_full list m n (why_of.Values count) is full number none = cc
-refused_full list m n why_of.Memory is full number none = cc
-
-pub refused_values : (list : List Signed) (m : SignMap) (count : ℕ) (why : LexError) → why ≡ why_of.Values count → IsOverValues why ↔ ((m.elements < MAX_ELEMENTS) × (MAX_VALUES < choose (m.elements + 1) m.rank)) → NamesNumber m why → first_above m.elements (elements_of list) ≡ None → IsExtensionOfMap list m (says (line.LimitValues count))
-refused_values list m count (why_of.Full k) is values number none = cc
-refused_values list m count (why_of.Values k) is values number none =
+pub refused_values : (list : List Signed) (m : SignMap) (count : ℕ) (why : LexError) → why ≡ why_of.Values count → IsOverValues why ↔ ((m.elements < MAX_ELEMENTS) × (MAX_VALUES < choose (m.elements + 1) m.rank)) → NamesNumber m why → IsExtensionOfMap list m (says (line.LimitValues count))
+refused_values list m count (why_of.Full k) is values number = cc
+refused_values list m count (why_of.Values k) is values number =
     let same : choose (m.elements + 1) m.rank ≡ count = cc in
     let over = values.0 tt in
-    subst (λ j. IsExtensionOfMap list m (says (line.LimitValues j))) same (extension.limited none over.0 over.1)
-refused_values list m count why_of.Memory is values number none = cc
+    subst (λ j. IsExtensionOfMap list m (says (line.LimitValues j))) same (extension.limited over.1)
+refused_values list m count why_of.Memory is values number = cc
 
 pub fewer_elements : (n : ℕ) → n ≤ MAX_ELEMENTS → (n ≡ MAX_ELEMENTS → ⊥) → n < MAX_ELEMENTS
 fewer_elements n high other = omega (arith, high, other)

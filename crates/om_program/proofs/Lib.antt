@@ -26,4 +26,5 @@ mod TripleLaws
 mod UpgradeLaws
 mod ValidClaimLaws
 mod VerbLaws
+mod WidthLaws
 mod WordLaws

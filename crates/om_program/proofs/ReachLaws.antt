@@ -14,33 +14,33 @@ use Rattle.om_program.specs.Answers.{IsReply, says}
 use Rattle.om_program.specs.Paintings as paintings
 use Rattle.om_program.specs.Hulls as hulls
 use Rattle.om_program.specs.LexicalExtensions as extensions
-use Rattle.om_program.proofs.RankThreeLaws.{chirotope_replies}
+use Rattle.om_program.proofs.WidthLaws.{kept_replies}
 
 painted_replies : (item : Painted) → IsReply (says (paintings.painted_line item))
 painted_replies (Circuit X) = tt
 painted_replies (Cocircuit Y) = tt
 
 painting_of_map_replies : (c : Colouring) (m : SignMap) (a : Answer) → paintings.IsPaintingOfMap c m a → IsReply a
-painting_of_map_replies c m a (paintings.other_length other) = tt
-painting_of_map_replies c m a (paintings.outside count above) = tt
-painting_of_map_replies c m a (paintings.uncoloured count within not) = tt
-painting_of_map_replies c m a (paintings.painted item count within coloured is) = painted_replies item
+painting_of_map_replies c m a (paintings.painted item is) = painted_replies item
 
 pub painting_replies : (c : Colouring) (d : Document) (a : Answer) → paintings.IsPainting c d a → IsReply a
-painting_replies c d a is = chirotope_replies (paintings.IsPaintingOfMap c) d a (painting_of_map_replies c) is
+painting_replies c d a (paintings.other_length other) = tt
+painting_replies c d a (paintings.outside count above) = tt
+painting_replies c d a (paintings.uncoloured count within not) = tt
+painting_replies c d a (paintings.coloured b count within coloured is) = kept_replies (paintings.IsPaintingOfMap c) d a (painting_of_map_replies c) is
 
 hull_of_map_replies : (m : SignMap) (a : Answer) → hulls.IsHullOfMap m a → IsReply a
 hull_of_map_replies m a (hulls.cyclic X not first) = tt
 hull_of_map_replies m a (hulls.acyclic items is size each extreme) = tt
 
 pub hull_replies : (d : Document) (a : Answer) → hulls.IsHull d a → IsReply a
-hull_replies d a is = chirotope_replies hulls.IsHullOfMap d a hull_of_map_replies is
+hull_replies d a is = kept_replies hulls.IsHullOfMap d a hull_of_map_replies is
 
 extension_of_map_replies : (list : List Signed) (m : SignMap) (a : Answer) → extensions.IsExtensionOfMap list m a → IsReply a
-extension_of_map_replies list m a (extensions.outside e above) = tt
-extension_of_map_replies list m a (extensions.full none most) = tt
-extension_of_map_replies list m a (extensions.limited none few many) = tt
-extension_of_map_replies list m a (extensions.extended x e none few fits is same form axioms) = form
+extension_of_map_replies list m a (extensions.limited many) = tt
+extension_of_map_replies list m a (extensions.extended x e fits is same form axioms) = form
 
 pub extension_replies : (l : Leading) (d : Document) (a : Answer) → extensions.IsLexicalExtension l d a → IsReply a
-extension_replies l d a is = chirotope_replies (extensions.IsExtensionOfMap (extensions.given_list l)) d a (extension_of_map_replies (extensions.given_list l)) is
+extension_replies l d a (extensions.outside e above) = tt
+extension_replies l d a (extensions.full none most) = tt
+extension_replies l d a (extensions.fewer b none few is) = kept_replies (extensions.IsExtensionOfMap (extensions.given_list l)) d a (extension_of_map_replies (extensions.given_list l)) is

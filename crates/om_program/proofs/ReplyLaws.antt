@@ -41,7 +41,7 @@ use Rattle.om_program.specs.Statuses.{IsAnswered, IsReplied}
 use Rattle.om_program.specs.Answers.{IsReply, status_of, status_of_line}
 use Rattle.om_program.specs.Axioms.{MeetsAxiomsOn, IsRefusedOn, set_line, map_line, cov_line, wiring_line}
 use Rattle.om_program.specs.Memberships.{IsMembership, wrong_length, covector, not_covector}
-use Rattle.om_program.specs.Conversions.{IsConversion, itself, limited, converted}
+use Rattle.om_program.specs.Conversions.{IsConversion, itself, wide, limited, converted}
 use Rattle.om_program.specs.Operations.{IsOperation, outside, last, made}
 use Rattle.om_program.proofs.RankThreeLaws.{mutations_replies, extensions_reply, flip_replies, wiring_replies}
 use Rattle.om_program.proofs.MadeLaws.{made_replies}
@@ -123,14 +123,16 @@ membership_replies n P x a (not_covector size is) = tt
 
 conversion_replies : (k : Kind) (d : Document) (a : Answer) → IsConversion k d a → IsReply a
 conversion_replies k d a (itself own form) = form
-conversion_replies k d a (limited other many) = tt
-conversion_replies k d a (converted e other few is) = is.form
+conversion_replies k d a (wide values other is) = tt
+conversion_replies k d a (limited other narrow many) = tt
+conversion_replies k d a (converted e other narrow few is) = is.form
 
 operation_replies : (o : Operation) (d : Document) (a : Answer) → IsOperation o d a → IsReply a
 operation_replies o d a (outside e above) = tt
 operation_replies o d a (last within takes) = tt
-operation_replies o d a (operations.limited within many) = tt
-operation_replies o d a (made e within left few is) = is.form
+operation_replies o d a (operations.wide values within is) = tt
+operation_replies o d a (operations.limited within narrow many) = tt
+operation_replies o d a (made e within left narrow few is) = is.form
 
 certificate_replies : (why : CertRefused) → IsReplied (status_of_line (claims.refusal_line why))
 certificate_replies (cert.NotRank3 r) = tt

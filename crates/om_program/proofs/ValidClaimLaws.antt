@@ -32,6 +32,7 @@ use Rattle.om_program.specs.ValidClaims.{IsLimit, IsFoundValid, VerdictsAreFound
 use Rattle.om_program.specs.Words.{Names, verb_of}
 use Rattle.om_program.proofs.VerbLaws.{same_verb}
 use Rattle.om_program.proofs.WordLaws.{first_of, decide_shape}
+use Rattle.om_program.proofs.WidthLaws.{few_of_rank3}
 
 -- ---- where a verdict comes from
 
@@ -87,11 +88,11 @@ words_judged options bytes a (named task answer names means) =
 
 -- ---- what the check of its text answers
 
-document_form : (m : SignMap) → IsSound m → IsInForm (chirotope_document m)
-document_form m sound = record {
+document_form : (m : SignMap) → m.rank ≡ 3 → IsSound m → IsInForm (chirotope_document m)
+document_form m three sound = record {
   low = sound.limits.low;
   high = sound.limits.high;
-  body = record { elements = refl; rank = sound.axioms.whole.part; signs = sound.axioms.whole.whole };
+  body = record { elements = refl; rank = sound.axioms.whole.part; signs = sound.axioms.whole.whole; few = few_of_rank3 m three sound.limits.high };
   names = inl refl;
 }
 
@@ -103,7 +104,7 @@ evidence_shown m (Weights ws) weights = weights_exclude m ws weights
 evidence_checked : (m : SignMap) (b : Budgets) (v : Verdict) (e : Evidence) → IsDecided m b v → certificate_of v ≡ Ok e → IsValid m e → length (verdict_text m v) ≤ MAX_INPUT → Means (codes "check" ∷ []) (verdict_text m v) (says (valid_line e))
 evidence_checked m b v e is same holds short =
     named Check _ (record { arguments = []; first = refl; behind = refl })
-    (claimed (claim_of m v) (valid_line e) refl short (claim_read m v (document_form m is.sound) is.form)
+    (claimed (claim_of m v) (valid_line e) refl short (claim_read m v (document_form m is.rank is.sound) is.form)
     (verified m (valid_line e) is.sound.axioms (λ bent. bent) refl (judged e (valid_line e) is.rank same (valid holds (evidence_shown m e holds)))))
 
 verdict_checked : (m : SignMap) (b : Budgets) (v : Verdict) → IsDecided m b v → (IsLimit v → ⊥) → length (verdict_text m v) ≤ MAX_INPUT → IsFoundValid (verdict_text m v) v

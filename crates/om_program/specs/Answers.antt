@@ -1,5 +1,7 @@
 -- Answers: how a run ends that has written one whole, and its text.
 use Rattle.std.specs.Prelude.{ℕ, ◌≤◌, List, length}
+use Rattle.om_signs.specs.declared.limits.TheConstants.{MAX_VALUES}
+use Rattle.om_subsets.specs.Subsets.{choose}
 use Rattle.om_chirotope.specs.Map.{SignMap}
 use Rattle.om_certificate.specs.declared.verdict.Verdict.{Verdict}
 use Rattle.om_certificate.specs.declared.verdict.Verdict.TheVariants as verdict
@@ -110,5 +112,5 @@ IsReply (answer.Upgraded d) = IsInForm d × IsClosedUnderNegation d.body
 IsReply (answer.Mutations sets) = Unit {0}
 IsReply (answer.Extensions n l) = Unit {0}
 IsReply (answer.Hull items) = Unit {0}
-IsReply (answer.Verdict m v) = IsVerdictInForm v
+IsReply (answer.Verdict m v) = IsVerdictInForm v × (choose m.elements m.rank ≤ MAX_VALUES)
 IsReply (answer.Made vs t) = 1 ≤ length vs

@@ -1,4 +1,4 @@
--- The chirotope on which the commands of rank 3 work.
+-- The chirotope of a document, of any number of values.
 use Rattle.std.specs.Prelude.{◌≡◌}
 use Rattle.om_signs.specs.declared.sign.Sign.TheVariants.{Plus}
 use Rattle.om_chirotope.specs.Chirotope.{IsChirotope}

@@ -20,7 +20,7 @@ use Rattle.om_program.specs.Run.{IsAnswer}
 use Rattle.om_program.specs.Tasks.{reads}
 use Rattle.om_program.specs.Words.{Names}
 
--- no answer of a meaning is a refusal, a limit on members or a verdict `limit`
+-- no answer of a meaning is a refusal, a limit on values or on members, or a verdict `limit`
 abbrev pub IsFulfilled : (Answer → Type 0) → Type 0
 IsFulfilled Meaning = (answer : Answer) → Meaning answer → status_of answer ≡ Done
 

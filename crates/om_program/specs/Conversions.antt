@@ -24,6 +24,7 @@ use Rattle.om_program.specs.Chirotopes.{IsChirotopeOf}
 use Rattle.om_program.specs.Covectors.{IsCovectorIn}
 use Rattle.om_program.specs.Documents.{document_of}
 use Rattle.om_program.specs.Represented.{IsMeantFor}
+use Rattle.om_program.specs.Widths.{IsTooWide, IsKept}
 
 -- whether a body is of a kind
 abbrev pub has_kind : Kind → Body → Bool
@@ -44,6 +45,19 @@ IsMemberAs kind.Chirotope n P = λ x. ⊥
 -- the members of a list of a kind that a document gives
 abbrev pub IsMemberOf : Kind → Document → List Sign → Type 0
 IsMemberOf k d = IsMemberAs k d.elements (IsCovectorIn d)
+
+-- covectors as cocircuits, which need no chirotope
+abbrev pub is_direct : Kind → Body → Bool
+is_direct kind.Cocircuits (body.Covectors members) = true
+is_direct _ _ = false
+
+-- it is a list that takes its chirotope to become one of the kind, and this would have so many values, more than a chirotope keeps
+abbrev pub IsTooWideAs : Kind → Document → ℕ → Type 0
+IsTooWideAs k d values = (is_direct k d.body ≡ false) × IsTooWide d values
+
+-- it isn't such a list
+abbrev pub IsKeptAs : Kind → Document → Type 0
+IsKeptAs k d = (values : ℕ) → IsTooWideAs k d values → ⊥
 
 -- it gives more of them than a list may have
 abbrev pub HasTooMany : Kind → Document → Type 0
@@ -71,16 +85,19 @@ pub record IsConverted (k : Kind) (d e : Document) : Type 0 where
 pub data IsConversion (k : Kind) (d : Document) : Answer → Type 0 where
   -- a document of the kind is itself
   itself : has_kind k d.body ≡ true → IsInForm d → IsConversion k d (shows d)
+  -- its chirotope would have more values than a chirotope keeps
+  wide : (values : ℕ) → has_kind k d.body ≡ false → IsTooWideAs k d values → IsConversion k d (says (line.LimitValues values))
   -- the list would have more members than it may have
-  limited : has_kind k d.body ≡ false → HasTooMany k d → IsConversion k d (says (line.LimitMembers MAX_MEMBERS))
+  limited : has_kind k d.body ≡ false → IsKeptAs k d → HasTooMany k d → IsConversion k d (says (line.LimitMembers MAX_MEMBERS))
   -- the converted document
-  converted : (e : Document) → has_kind k d.body ≡ false → (HasTooMany k d → ⊥) → IsConverted k d e → IsConversion k d (shows e)
+  converted : (e : Document) → has_kind k d.body ≡ false → IsKeptAs k d → (HasTooMany k d → ⊥) → IsConverted k d e → IsConversion k d (shows e)
 
--- the answer converts whatever has this chirotope and isn't of the kind
+-- the answer converts whatever has this chirotope, isn't of the kind, and isn't too wide
 abbrev pub IsConversionFrom : Kind → SignMap → Answer → Type 0
-IsConversionFrom k c answer = (r : Representation) → IsChirotopeOf (document_of r) c → has_kind k (document_of r).body ≡ false → IsMeantFor (IsConversion k) r answer
+IsConversionFrom k c answer = (r : Representation) → IsChirotopeOf (document_of r) c → has_kind k (document_of r).body ≡ false → IsKept (document_of r) → IsMeantFor (IsConversion k) r answer
 
--- the answer where a list isn't made for having too many members; want of memory has none
-abbrev pub IsTooMany : ConvertError → Answer → Type 0
-IsTooMany (convert.TooMany limit) a = a ≡ says (line.LimitMembers limit)
-IsTooMany convert.Memory a = ⊥
+-- the answer where a list isn't made, by the number in the error; want of memory has none
+abbrev pub IsUnlisted : ConvertError → Answer → Type 0
+IsUnlisted (convert.TooWide values) a = a ≡ says (line.LimitValues values)
+IsUnlisted (convert.TooMany limit) a = a ≡ says (line.LimitMembers limit)
+IsUnlisted convert.Memory a = ⊥

@@ -12,7 +12,7 @@ use Rattle.om_text.specs.declared.document.Document.{Document}
 use Rattle.om_answer.specs.declared.line.Line.TheVariants as line
 use Rattle.om_program.specs.declared.answer.Answer.{Answer}
 use Rattle.om_program.specs.Answers.{says, tells}
-use Rattle.om_program.specs.RankThree.{IsForChirotope}
+use Rattle.om_program.specs.Widths.{IsForKeptChirotope}
 
 -- the hull of a map
 pub data IsHullOfMap (m : SignMap) : Answer → Type 0 where
@@ -28,4 +28,4 @@ IsCyclicAnswer Memory a = ⊥
 
 -- the hull of the chirotope of a document
 abbrev pub IsHull : Document → Answer → Type 0
-IsHull d answer = IsForChirotope IsHullOfMap d answer
+IsHull d answer = IsForKeptChirotope IsHullOfMap d answer

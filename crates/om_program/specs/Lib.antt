@@ -20,6 +20,7 @@ pub mod Documents
 pub mod Represented
 pub mod Chirotopes
 pub mod RankThree
+pub mod Widths
 pub mod Memberships
 pub mod Conversions
 pub mod Operations

@@ -32,6 +32,7 @@ use Rattle.om_program.specs.Axioms.{MeetsAxioms}
 use Rattle.om_program.specs.Conversions.{has_kind}
 use Rattle.om_program.specs.Covectors.{IsCovectorIn}
 use Rattle.om_program.specs.Documents.{document_of}
+use Rattle.om_program.specs.Widths.{IsTooWide, HasFewValues}
 
 -- the elements that an operation names, in increasing order
 abbrev pub named_elements : Operation → List ℕ
@@ -98,6 +99,19 @@ pub record IsImage (o : Operation) (d e : Document) : Type 0 where
   pub normal : IsNormalBody e.body
   pub covectors : AreMade o d.elements (IsCovectorIn d) (IsCovectorIn e)
 
+-- covectors are made by way of their chirotope: it is so with their dual alone
+abbrev pub TakesChirotope : Body → Operation → Type 0
+TakesChirotope (body.Covectors members) Dual = Unit {0}
+TakesChirotope _ _ = ⊥
+
+-- the operation is made by way of the chirotope of d, which would have so many values, more than a chirotope keeps
+abbrev pub IsTooWideToMake : Operation → Document → ℕ → Type 0
+IsTooWideToMake o d values = TakesChirotope d.body o × IsTooWide d values
+
+-- it isn't so
+abbrev pub IsKeptToMake : Operation → Document → Type 0
+IsKeptToMake o d = (values : ℕ) → IsTooWideToMake o d values → ⊥
+
 -- the dual of covectors has more covectors than a list may have; the other lists have no more members than the one of which they are made
 abbrev pub HasTooManyOn : Body → Operation → ℕ → (List Sign → Type 0) → Type 0
 HasTooManyOn (body.Covectors members) Dual n P = HasMoreThan MAX_MEMBERS (IsVectorOf n P)
@@ -106,11 +120,13 @@ HasTooManyOn _ _ _ _ = ⊥
 abbrev pub HasTooManyMade : Operation → Document → Type 0
 HasTooManyMade o d = HasTooManyOn d.body o d.elements (IsCovectorIn d)
 
--- the outcome of an operation on d: what it makes, where it wouldn't take the only element away and the members aren't too many, or why it makes nothing
+-- the outcome of an operation on d: what it makes, which a document may hold, where it wouldn't take the only element away, its chirotope isn't too wide and the members aren't too many,
+-- or why it makes nothing
 abbrev pub IsOutcome : Operation → Document → Result Representation Unmade → Type 0
-IsOutcome o d (Ok r) = (TakesOnly o d.elements → ⊥) × ((HasTooManyMade o d → ⊥) × IsImage o d (document_of r))
+IsOutcome o d (Ok r) = (TakesOnly o d.elements → ⊥) × (IsKeptToMake o d × ((HasTooManyMade o d → ⊥) × (HasFewValues (document_of r) × IsImage o d (document_of r))))
 IsOutcome o d (Err unmade.LastElement) = TakesOnly o d.elements
-IsOutcome o d (Err (unmade.TooMany limit)) = (limit ≡ MAX_MEMBERS) × HasTooManyMade o d
+IsOutcome o d (Err (unmade.TooWide values)) = IsTooWideToMake o d values
+IsOutcome o d (Err (unmade.TooMany limit)) = (limit ≡ MAX_MEMBERS) × (IsKeptToMake o d × HasTooManyMade o d)
 IsOutcome o d (Err unmade.Memory) = Unit {0}
 
 -- the errors of the calls below
@@ -119,6 +135,7 @@ of_minor minor.LastElement = unmade.LastElement
 of_minor minor.Memory = unmade.Memory
 
 abbrev pub of_conversion : ConvertError → Unmade
+of_conversion (convert.TooWide values) = unmade.TooWide values
 of_conversion (convert.TooMany limit) = unmade.TooMany limit
 of_conversion convert.Memory = unmade.Memory
 
@@ -134,7 +151,9 @@ pub data IsOperation (o : Operation) (d : Document) : Answer → Type 0 where
   outside : (e : ℕ) → first_above d.elements (named_elements o) ≡ Some e → IsOperation o d (says (line.RefusedPlace e))
   -- it would take the only element away
   last : first_above d.elements (named_elements o) ≡ None → TakesOnly o d.elements → IsOperation o d (says line.RefusedLastelement)
+  -- its chirotope would have more values than a chirotope keeps
+  wide : (values : ℕ) → first_above d.elements (named_elements o) ≡ None → IsTooWideToMake o d values → IsOperation o d (says (line.LimitValues values))
   -- the list would have more members than it may have
-  limited : first_above d.elements (named_elements o) ≡ None → HasTooManyMade o d → IsOperation o d (says (line.LimitMembers MAX_MEMBERS))
+  limited : first_above d.elements (named_elements o) ≡ None → IsKeptToMake o d → HasTooManyMade o d → IsOperation o d (says (line.LimitMembers MAX_MEMBERS))
   -- the document that it makes
-  made : (e : Document) → first_above d.elements (named_elements o) ≡ None → (TakesOnly o d.elements → ⊥) → (HasTooManyMade o d → ⊥) → IsMade o d e → IsOperation o d (shows e)
+  made : (e : Document) → first_above d.elements (named_elements o) ≡ None → (TakesOnly o d.elements → ⊥) → IsKeptToMake o d → (HasTooManyMade o d → ⊥) → IsMade o d e → IsOperation o d (shows e)

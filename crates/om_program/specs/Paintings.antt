@@ -12,7 +12,7 @@ use Rattle.om_answer.specs.declared.line.Line.TheVariants as line
 use Rattle.om_program.specs.declared.answer.Answer.{Answer}
 use Rattle.om_program.specs.declared.colouring.Colouring.{Colouring}
 use Rattle.om_program.specs.Answers.{says}
-use Rattle.om_program.specs.RankThree.{IsForChirotope}
+use Rattle.om_program.specs.Widths.{IsForKeptChirotope}
 
 -- the element counts from 1
 abbrev pub HasElement : Colouring → Type 0
@@ -29,15 +29,16 @@ painted_line (Cocircuit Y) = line.Cocircuit Y
 
 -- what fits colours at an element of a map
 pub data IsPaintingOfMap (c : Colouring) (m : SignMap) : Answer → Type 0 where
-  -- there aren't as many colours as elements
-  other_length : c.count ≢ m.elements → IsPaintingOfMap c m (says (line.RefusedLength c.count))
-  -- the element is above the number of elements
-  outside : c.count ≡ m.elements → m.elements < c.e → IsPaintingOfMap c m (says (line.RefusedPlace c.e))
-  -- it is neither red nor green
-  uncoloured : c.count ≡ m.elements → c.e ≤ m.elements → (IsColoured (colouring (given_colours c) c.e) → ⊥) → IsPaintingOfMap c m (says (line.RefusedColour c.e))
   -- the first circuit that fits, and where none does, the first cocircuit that does
-  painted : (item : Painted) → c.count ≡ m.elements → c.e ≤ m.elements → IsColoured (colouring (given_colours c) c.e) → IsPaintingOf m (colouring (given_colours c)) c.e item → IsPaintingOfMap c m (says (painted_line item))
+  painted : (item : Painted) → IsPaintingOf m (colouring (given_colours c)) c.e item → IsPaintingOfMap c m (says (painted_line item))
 
--- what fits colours at an element of the chirotope of a document
-abbrev pub IsPainting : Colouring → Document → Answer → Type 0
-IsPainting c d answer = IsForChirotope (IsPaintingOfMap c) d answer
+-- what fits colours at an element of a document
+pub data IsPainting (c : Colouring) (d : Document) : Answer → Type 0 where
+  -- there aren't as many colours as elements
+  other_length : c.count ≢ d.elements → IsPainting c d (says (line.RefusedLength c.count))
+  -- the element is above the number of elements
+  outside : c.count ≡ d.elements → d.elements < c.e → IsPainting c d (says (line.RefusedPlace c.e))
+  -- it is neither red nor green
+  uncoloured : c.count ≡ d.elements → c.e ≤ d.elements → (IsColoured (colouring (given_colours c) c.e) → ⊥) → IsPainting c d (says (line.RefusedColour c.e))
+  -- what fits in the chirotope of the document
+  coloured : (answer : Answer) → c.count ≡ d.elements → c.e ≤ d.elements → IsColoured (colouring (given_colours c) c.e) → IsForKeptChirotope (IsPaintingOfMap c) d answer → IsPainting c d answer

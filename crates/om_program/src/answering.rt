@@ -3,7 +3,9 @@
 ghost use Rattle.std.specs.Prelude.{◌≡◌, ◌≢◌, ◌≤◌, IfOk, List, length, ℕ};
 ghost use Rattle.om_text.specs.Form.{IsInForm};
 ghost use Rattle.om_program.specs.Meaning.{TaskMeans, DocumentMeans, IsAnswerOf, flat_line};
+ghost use Rattle.om_program.specs.Documents.{document_of};
 ghost use Rattle.om_program.specs.Represented.{IsMeantFor};
+ghost use Rattle.om_program.specs.Widths.{HasFewValues};
 ghost use Rattle.om_program.specs.Tasks.{HasLawfulArguments, reads};
 
 use crate::answer::Answer;
@@ -161,6 +163,7 @@ fn answer_task<R: Threads + Sync>(
     requires document { reads task ≡ Reads.Document }
     requires other { task ≢ Task.Threeterm }
     requires kept { task ≢ Task.Upgrade }
+    requires few { HasFewValues (document_of representation) }
     ensures { IfOk result (IsMeantFor (IsAnswerOf task) representation) }
 {
     match task {

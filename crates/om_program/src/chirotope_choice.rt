@@ -1,23 +1,30 @@
-//! The chirotope on which the commands of rank 3 work.
+//! The chirotope on which commands work.
 
-ghost use Rattle.std.specs.Prelude.{IfOk};
+ghost use Rattle.std.specs.Prelude.{IfOk, IfErr, OnOk};
 ghost use Rattle.om_program.specs.Chirotopes.{IsChirotopeOf, IsNormalChirotopeOf};
 ghost use Rattle.om_program.specs.Documents.{document_of, circuits_document, cocircuits_document, covectors_document};
+ghost use Rattle.om_program.specs.Widths.{IsKept, IsUnchosen};
 
 use crate::representation::Representation;
+use crate::unchosen::Unchosen;
 use om_chirotope::Chirotope;
 use om_circuits::{Circuits, Cocircuits};
-use om_convert::{circuits_to_chirotope, cocircuits_to_chirotope, covectors_to_chirotope};
+use om_convert::{
+    ConvertError, circuits_to_chirotope, cocircuits_to_chirotope, covectors_to_chirotope,
+    rank_circuits, rank_cocircuits, rank_covectors,
+};
 use om_covectors::Covectors;
-use om_signs::NoMemory;
 use std::alloc::Global;
 
-/// The chirotope on which the commands of rank 3 work: the given one, or the normal chirotope of a list.
+/// The chirotope on which commands work: the given one, or the normal chirotope of a list, where this has no more values than
+/// a chirotope keeps.
 pub fn choose_chirotope(
     alloc: Global,
     representation: Representation,
-) -> Result<Chirotope, NoMemory>
-    ensures { IfOk result (IsChirotopeOf (document_of representation)) }
+) -> Result<Chirotope, Unchosen>
+    ensures chosen { IfOk result (IsChirotopeOf (document_of representation)) }
+    ensures kept { OnOk result (IsKept (document_of representation)) }
+    ensures refused { IfErr result (IsUnchosen (document_of representation)) }
 {
     match representation {
         Representation::Chirotope(chirotope) => Ok(chirotope),
@@ -28,29 +35,69 @@ pub fn choose_chirotope(
 }
 
 /// The normal chirotope of circuits.
-fn of_circuits(alloc: Global, circuits: &Circuits) -> Result<Chirotope, NoMemory>
-    ensures { IfOk result (IsNormalChirotopeOf (circuits_document circuits.now.0)) }
+fn of_circuits(alloc: Global, circuits: &Circuits) -> Result<Chirotope, Unchosen>
+    ensures chosen { IfOk result (IsNormalChirotopeOf (circuits_document circuits.now.0)) }
+    ensures kept { OnOk result (IsKept (circuits_document circuits.now.0)) }
+    ensures refused { IfErr result (IsUnchosen (circuits_document circuits.now.0)) }
 {
-    let chirotope = circuits_to_chirotope(alloc, circuits)?;
-    // this call tells that the axioms hold, as in the functions below
-    let _rank = chirotope.rank();
-    Ok(chirotope)
+    // this call tells how many elements there are at most, as in the functions below
+    let _elements = circuits.0.elements();
+    match circuits_to_chirotope(alloc, circuits) {
+        Ok(chirotope) => {
+            // this call tells that the axioms hold, as in the functions below
+            let _rank = chirotope.rank();
+            Ok(chirotope)
+        }
+        Err(ConvertError::TooWide { values }) => Err(Unchosen::TooWide {
+            rank: rank_circuits(circuits),
+            values,
+        }),
+        // a chirotope has no members
+        Err(ConvertError::TooMany { .. }) => unreachable!(),
+        Err(ConvertError::Memory) => Err(Unchosen::Memory),
+    }
 }
 
 /// The normal chirotope of cocircuits.
-fn of_cocircuits(alloc: Global, cocircuits: &Cocircuits) -> Result<Chirotope, NoMemory>
-    ensures { IfOk result (IsNormalChirotopeOf (cocircuits_document cocircuits.now.0)) }
+fn of_cocircuits(alloc: Global, cocircuits: &Cocircuits) -> Result<Chirotope, Unchosen>
+    ensures chosen { IfOk result (IsNormalChirotopeOf (cocircuits_document cocircuits.now.0)) }
+    ensures kept { OnOk result (IsKept (cocircuits_document cocircuits.now.0)) }
+    ensures refused { IfErr result (IsUnchosen (cocircuits_document cocircuits.now.0)) }
 {
-    let chirotope = cocircuits_to_chirotope(alloc, cocircuits)?;
-    let _rank = chirotope.rank();
-    Ok(chirotope)
+    let _elements = cocircuits.0.elements();
+    match cocircuits_to_chirotope(alloc, cocircuits) {
+        Ok(chirotope) => {
+            let _rank = chirotope.rank();
+            Ok(chirotope)
+        }
+        Err(ConvertError::TooWide { values }) => Err(Unchosen::TooWide {
+            rank: rank_cocircuits(cocircuits),
+            values,
+        }),
+        // a chirotope has no members
+        Err(ConvertError::TooMany { .. }) => unreachable!(),
+        Err(ConvertError::Memory) => Err(Unchosen::Memory),
+    }
 }
 
 /// The normal chirotope of covectors.
-fn of_covectors(alloc: Global, covectors: &Covectors) -> Result<Chirotope, NoMemory>
-    ensures { IfOk result (IsNormalChirotopeOf (covectors_document covectors.now)) }
+fn of_covectors(alloc: Global, covectors: &Covectors) -> Result<Chirotope, Unchosen>
+    ensures chosen { IfOk result (IsNormalChirotopeOf (covectors_document covectors.now)) }
+    ensures kept { OnOk result (IsKept (covectors_document covectors.now)) }
+    ensures refused { IfErr result (IsUnchosen (covectors_document covectors.now)) }
 {
-    let chirotope = covectors_to_chirotope(alloc, covectors)?;
-    let _rank = chirotope.rank();
-    Ok(chirotope)
+    let _elements = covectors.elements();
+    match covectors_to_chirotope(alloc, covectors) {
+        Ok(chirotope) => {
+            let _rank = chirotope.rank();
+            Ok(chirotope)
+        }
+        Err(ConvertError::TooWide { values }) => Err(Unchosen::TooWide {
+            rank: rank_covectors(covectors),
+            values,
+        }),
+        // a chirotope has no members
+        Err(ConvertError::TooMany { .. }) => unreachable!(),
+        Err(ConvertError::Memory) => Err(Unchosen::Memory),
+    }
 }

@@ -251,15 +251,22 @@ fn a_multiplicity_at_the_limit(rt: HostRuntime) -> Result<(), Fail> {
 
 #[test]
 fn claims_that_are_not_looked_at(rt: HostRuntime) -> Result<(), Fail> {
-    let eight =
-        "vector 0 0 0\nvector 0 0 0\nvector 0 0 0\nvector 0 0 0\nvector 0 0 0\nvector 0 0 0\nvector 0 0 0\nvector 0 0 0\n";
+    let five = "vector 0 0 0\nvector 0 0 0\nvector 0 0 0\nvector 0 0 0\nvector 0 0 0\n";
     for (texts, line) in [
         (&[UNIFORM][..], "refused line 5 missing\n"),
         (&[UNIFORM, "perhaps\n"], "refused line 5 claim\n"),
         (&[UNIFORM, VECTORS], "refused line 9 missing\n"),
         (
-            &[UNIFORM, "realizable\n", eight, eight, "vector 0 0 0\nend\n"],
-            "refused line 22 many\n",
+            &[
+                UNIFORM,
+                "realizable\n",
+                five,
+                five,
+                five,
+                five,
+                "vector 0 0 0\nend\n",
+            ],
+            "refused line 26 many\n",
         ),
         (
             &[

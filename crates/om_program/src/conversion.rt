@@ -1,8 +1,10 @@
 //! Documents of one kind as documents of another.
 
 ghost use Rattle.std.specs.Prelude.{◌≡◌, IfOk};
+ghost use Rattle.om_program.specs.Documents.{document_of};
 ghost use Rattle.om_program.specs.Represented.{IsMeantFor};
-ghost use Rattle.om_program.specs.Conversions.{IsConversion, IsConversionFrom, IsTooMany};
+ghost use Rattle.om_program.specs.Widths.{HasFewValues};
+ghost use Rattle.om_program.specs.Conversions.{IsConversion, IsConversionFrom, IsUnlisted};
 
 use crate::answer::Answer;
 use crate::chirotope_choice::choose_chirotope;
@@ -18,13 +20,15 @@ use om_covectors::Covectors;
 use om_signs::NoMemory;
 use std::alloc::Global;
 
-/// The document of a kind that denotes the same oriented matroid, or the line that says that the list would have too many
-/// members. A document of the kind is itself, and a list as a chirotope is the normal one.
+/// The document of a kind that denotes the same oriented matroid, or the line that says that the chirotope of a list would
+/// have too many values, or the list too many members. A document of the kind is itself, and a list as a chirotope is the
+/// normal one.
 pub fn convert(
     alloc: Global,
     representation: Representation,
     kind: Kind,
 ) -> Result<Answer, NoMemory>
+    requires { HasFewValues (document_of representation) }
     ensures { IfOk result (IsMeantFor (IsConversion kind) representation) }
 {
     match kind {
@@ -37,10 +41,13 @@ pub fn convert(
 
 /// The document of the chirotope of an oriented matroid.
 fn to_chirotope(alloc: Global, representation: Representation) -> Result<Answer, NoMemory>
+    requires { HasFewValues (document_of representation) }
     ensures { IfOk result (IsMeantFor (IsConversion Kind.Chirotope) representation) }
 {
-    let chirotope = choose_chirotope(alloc, representation)?;
-    Ok(Answer::Document(map_document(alloc, chirotope)))
+    match choose_chirotope(alloc, representation) {
+        Ok(chirotope) => Ok(Answer::Document(map_document(alloc, chirotope))),
+        Err(why) => why.width_answer(),
+    }
 }
 
 /// The document of the circuits of an oriented matroid.
@@ -54,8 +61,10 @@ fn to_circuits(alloc: Global, representation: Representation) -> Result<Answer, 
         Representation::Chirotope(_)
         | Representation::Cocircuits(_)
         | Representation::Covectors(_) => {
-            let chirotope = choose_chirotope(alloc, representation)?;
-            list_circuits(alloc, &chirotope)
+            match choose_chirotope(alloc, representation) {
+                Ok(chirotope) => list_circuits(alloc, &chirotope),
+                Err(why) => why.width_answer(),
+            }
         }
     }
 }
@@ -82,8 +91,10 @@ fn to_cocircuits(alloc: Global, representation: Representation) -> Result<Answer
         }
         Representation::Covectors(covectors) => list_minimal(alloc, &covectors),
         Representation::Chirotope(_) | Representation::Circuits(_) => {
-            let chirotope = choose_chirotope(alloc, representation)?;
-            list_cocircuits(alloc, &chirotope)
+            match choose_chirotope(alloc, representation) {
+                Ok(chirotope) => list_cocircuits(alloc, &chirotope),
+                Err(why) => why.width_answer(),
+            }
         }
     }
 }
@@ -111,8 +122,10 @@ fn to_covectors(alloc: Global, representation: Representation) -> Result<Answer,
         Representation::Chirotope(_)
         | Representation::Circuits(_)
         | Representation::Cocircuits(_) => {
-            let chirotope = choose_chirotope(alloc, representation)?;
-            list_covectors(alloc, &chirotope)
+            match choose_chirotope(alloc, representation) {
+                Ok(chirotope) => list_covectors(alloc, &chirotope),
+                Err(why) => why.width_answer(),
+            }
         }
     }
 }
@@ -141,11 +154,12 @@ fn list_minimal(alloc: Global, covectors: &Covectors) -> Result<Answer, NoMemory
     }
 }
 
-/// The answer where a list isn't made: it would have too many members, or memory was wanting.
+/// The answer where a list isn't made. Want of memory has none.
 fn refuse_list(why: ConvertError) -> Result<Answer, NoMemory>
-    ensures { IfOk result (IsTooMany why) }
+    ensures { IfOk result (IsUnlisted why) }
 {
     match why {
+        ConvertError::TooWide { values } => Ok(Answer::Line(Line::LimitValues { values })),
         ConvertError::TooMany { limit } => Ok(Answer::Line(Line::LimitMembers { limit })),
         ConvertError::Memory => Err(NoMemory),
     }

@@ -17,8 +17,10 @@ use std::alloc::Global;
 pub fn find_hull(alloc: Global, representation: Representation) -> Result<Answer, NoMemory>
     ensures { IfOk result (IsMeantFor IsHull representation) }
 {
-    let chirotope = choose_chirotope(alloc, representation)?;
-    find_hull_of(alloc, &chirotope)
+    match choose_chirotope(alloc, representation) {
+        Ok(chirotope) => find_hull_of(alloc, &chirotope),
+        Err(why) => why.width_answer(),
+    }
 }
 
 /// The hull of a chirotope.

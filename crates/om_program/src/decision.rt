@@ -23,8 +23,10 @@ pub fn judge(
     requires { AreBudgets budgets }
     ensures { IfOk result (IsMeantFor (IsDecision budgets) representation) }
 {
-    let chirotope = choose_chirotope(alloc, representation)?;
-    judge_chirotope(alloc, chirotope, budgets)
+    match choose_chirotope(alloc, representation) {
+        Ok(chirotope) => judge_chirotope(alloc, chirotope, budgets),
+        Err(why) => Ok(Answer::Line(why.rank_line()?)),
+    }
 }
 
 /// The verdict on a chirotope, within budgets.

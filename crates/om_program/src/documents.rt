@@ -1,9 +1,12 @@
 //! The documents of values, without names.
 
-ghost use Rattle.std.specs.Prelude.{◌≡◌};
+ghost use Rattle.std.specs.Prelude.{◌≡◌, ◌≤◌};
+ghost use Rattle.om_signs.specs.declared.limits.TheConstants.{MAX_VALUES};
+ghost use Rattle.om_subsets.specs.Subsets.{choose};
 ghost use Rattle.om_text.specs.Form.{IsInForm};
 ghost use Rattle.om_program.specs.Axioms.{MeetsAxioms};
 ghost use Rattle.om_program.specs.Documents.{document_of, map_document, circuits_document, cocircuits_document, covectors_document};
+ghost use Rattle.om_program.specs.Widths.{HasFewValues};
 
 use crate::representation::Representation;
 use om_chirotope::Chirotope;
@@ -13,8 +16,9 @@ use om_signs::List;
 use om_text::{Body, Document};
 use std::alloc::Global;
 
-/// The document of an oriented matroid.
+/// The document of an oriented matroid. A chirotope has no more values than a document may hold.
 pub fn document_of(alloc: Global, representation: Representation) -> Document
+    requires { HasFewValues (document_of representation) }
     ensures form { IsInForm result }
     ensures axioms { MeetsAxioms result }
     ensures value { result ≡ document_of representation }
@@ -27,8 +31,9 @@ pub fn document_of(alloc: Global, representation: Representation) -> Document
     }
 }
 
-/// The document of a chirotope.
+/// The document of a chirotope with no more values than a document may hold.
 pub fn map_document(alloc: Global, chirotope: Chirotope) -> Document
+    requires { choose chirotope.elements chirotope.rank ≤ MAX_VALUES }
     ensures form { IsInForm result }
     ensures axioms { MeetsAxioms result }
     ensures value { result ≡ map_document chirotope }

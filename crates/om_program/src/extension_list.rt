@@ -24,8 +24,10 @@ pub fn list_extensions<R: Threads + Sync>(
     requires { IsNumberOfLines first }
     ensures { IfOk result (IsMeantFor (AreExtensions first) representation) }
 {
-    let chirotope = choose_chirotope(alloc, representation)?;
-    list_extensions_of(rt, alloc, &chirotope, first)
+    match choose_chirotope(alloc, representation) {
+        Ok(chirotope) => list_extensions_of(rt, alloc, &chirotope, first),
+        Err(why) => Ok(Answer::Line(why.rank_line()?)),
+    }
 }
 
 /// The first extensions of a chirotope.

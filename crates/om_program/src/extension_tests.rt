@@ -77,11 +77,11 @@ fn a_listing_that_ends_and_one_that_goes_on(rt: HostRuntime) -> Result<(), Fail>
 #[test]
 fn as_many_elements_as_may_be(rt: HostRuntime) -> Result<(), Fail> {
     for (rank, values, answer) in [
-        ("3", 560, "refused full 16\n"),
-        ("2", 120, "refused notrank3 2\n"),
+        ("3", 1_140, "refused full 20\n"),
+        ("2", 190, "refused notrank3 2\n"),
     ] {
         let signs = "+".repeat(rt.alloc(), values)?;
-        let input = format!(in rt.alloc(); "om 1\nchirotope {rank} 16\n{signs}\nend\n")?;
+        let input = format!(in rt.alloc(); "om 1\nchirotope {rank} 20\n{signs}\nend\n")?;
         ends(
             &rt,
             rt.alloc(),

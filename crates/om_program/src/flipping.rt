@@ -28,8 +28,17 @@ pub fn flip_triple(
     requires { AreIncreasing a b c }
     ensures { IfOk result (IsMeantFor (IsFlip a b c) representation) }
 {
-    let chirotope = choose_chirotope(alloc, representation)?;
-    Ok(flip_triple_of(alloc, chirotope, a, b, c))
+    let n = representation.elements();
+    match choose_chirotope(alloc, representation) {
+        Ok(chirotope) => Ok(flip_triple_of(alloc, chirotope, a, b, c)),
+        Err(why) => {
+            let line = why.rank_line()?;
+            match place_above(n, a, b, c) {
+                Some(e) => Ok(Answer::Line(Line::RefusedPlace { e })),
+                None => Ok(Answer::Line(line)),
+            }
+        }
+    }
 }
 
 /// The chirotope with the sign of three elements turned.

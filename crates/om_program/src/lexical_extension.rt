@@ -1,7 +1,6 @@
 //! Lexicographic extensions of an oriented matroid.
 
-ghost use Rattle.std.specs.Prelude.{◌≡◌, IfOk};
-ghost use Rattle.om_signs.specs.declared.limits.TheConstants.{MAX_ELEMENTS};
+ghost use Rattle.std.specs.Prelude.{◌≡◌, ◌<◌, IfOk};
 ghost use Rattle.om_lexext.specs.Lexicographic.{IsLexicographicList};
 ghost use Rattle.om_program.specs.LexicalExtensions.{AreLawful, IsLexicalExtension, IsExtensionOfMap, elements_of};
 ghost use Rattle.om_program.specs.Operations.{first_above};
@@ -15,7 +14,7 @@ use crate::representation::Representation;
 use om_answer::Line;
 use om_chirotope::Chirotope;
 use om_lexext::{LexError, Signed, lexical};
-use om_signs::NoMemory;
+use om_signs::{MAX_ELEMENTS, NoMemory};
 use std::alloc::Global;
 
 /// The lexicographic extension of the chirotope of an oriented matroid by different elements with signs that aren't zero.
@@ -27,21 +26,30 @@ pub fn extend_lexically(
     requires { AreLawful leading }
     ensures { IfOk result (IsMeantFor (IsLexicalExtension leading) representation) }
 {
-    let chirotope = choose_chirotope(alloc, representation)?;
-    extend_by(alloc, &chirotope, &leading.list[..leading.count as usize])
-}
-
-/// The lexicographic extension of a chirotope by different elements with signs that aren't zero.
-fn extend_by(alloc: Global, chirotope: &Chirotope, list: &[Signed]) -> Result<Answer, NoMemory>
-    requires { IsLexicographicList MAX_ELEMENTS list.now }
-    ensures { IfOk result (IsExtensionOfMap list.now chirotope.now) }
-{
-    if let Some(e) = place_above(chirotope.elements(), list) {
+    let list = &leading.list[..leading.count as usize];
+    let n = representation.elements();
+    if let Some(e) = place_above(n, list) {
         return Ok(Answer::Line(Line::RefusedPlace { e }));
     }
+    if n == MAX_ELEMENTS {
+        return Ok(Answer::Line(Line::RefusedFull { n }));
+    }
+    match choose_chirotope(alloc, representation) {
+        Ok(chirotope) => extend_by(alloc, &chirotope, list),
+        Err(why) => why.width_answer(),
+    }
+}
+
+/// The lexicographic extension of a chirotope, which isn't full, by different elements of it with signs that aren't zero.
+fn extend_by(alloc: Global, chirotope: &Chirotope, list: &[Signed]) -> Result<Answer, NoMemory>
+    requires few { chirotope.now.elements < MAX_ELEMENTS }
+    requires list { IsLexicographicList chirotope.now.elements list.now }
+    ensures { IfOk result (IsExtensionOfMap list.now chirotope.now) }
+{
     match lexical(alloc, chirotope, list) {
         Ok(extension) => Ok(Answer::Document(map_document(alloc, extension))),
-        Err(LexError::Full { n }) => Ok(Answer::Line(Line::RefusedFull { n })),
+        // there are fewer elements than may be
+        Err(LexError::Full { .. }) => unreachable!(),
         Err(LexError::Values { count }) => Ok(Answer::Line(Line::LimitValues { values: count })),
         Err(LexError::Memory) => Err(NoMemory),
     }

@@ -59,6 +59,7 @@ mod task;
 mod tests;
 mod three_terms;
 mod triple;
+mod unchosen;
 mod unmade;
 mod unrepresented;
 mod upgrading;
@@ -67,6 +68,8 @@ mod verb;
 mod verification;
 #[cfg(test)]
 mod version_tests;
+#[cfg(test)]
+mod width_tests;
 mod wiring_maps;
 #[cfg(test)]
 mod word_tests;

@@ -1,9 +1,12 @@
 //! What operations make of oriented matroids.
 
-ghost use Rattle.std.specs.Prelude.{◌≡◌, IfOk, OnOk, IsErrOf};
+ghost use Rattle.std.specs.Prelude.{◌≡◌, ◌≤◌, IfOk, OnOk, IsErrOf};
+ghost use Rattle.om_signs.specs.declared.limits.TheConstants.{MAX_VALUES};
+ghost use Rattle.om_subsets.specs.Subsets.{choose};
 ghost use Rattle.om_denotation.specs.Covectors.{IsCovectorOfChirotope};
 ghost use Rattle.om_program.specs.Documents.{document_of, circuits_document, cocircuits_document, covectors_document};
 ghost use Rattle.om_program.specs.Operations.{IsLawful, IsMapMade, IsOutcome, TakesOnly, named_elements, first_above};
+ghost use Rattle.om_program.specs.Widths.{HasFewValues};
 
 use crate::operation::Operation;
 use crate::representation::Representation;
@@ -29,6 +32,7 @@ pub fn make(
 ) -> Result<Representation, Unmade>
     requires lawful { IsLawful operation }
     requires within { first_above (document_of representation).elements (named_elements operation) ≡ None }
+    requires few { HasFewValues (document_of representation) }
     ensures { IsOutcome operation (document_of representation) result }
 {
     match representation {
@@ -51,6 +55,8 @@ fn make_chirotope(
 ) -> Result<Chirotope, MinorError>
     requires lawful { IsLawful operation }
     requires within { first_above chirotope.elements (named_elements operation) ≡ None }
+    requires few { choose chirotope.elements chirotope.rank ≤ MAX_VALUES }
+    ensures few { IfOk result (λ m. choose m.elements m.rank ≤ MAX_VALUES) }
     ensures made { IfOk result (IsMapMade operation chirotope.elements (IsCovectorOfChirotope chirotope)) }
     ensures left { OnOk result (TakesOnly operation chirotope.elements → ⊥) }
     ensures last { IsErrOf result MinorError.LastElement → TakesOnly operation chirotope.elements }
@@ -115,7 +121,8 @@ fn make_cocircuits(
     }
 }
 
-/// What an operation makes of covectors: covectors. Of the dual there may be too many.
+/// What an operation makes of covectors: covectors. The dual is made by way of the chirotope, which may be too wide, and of
+/// it there may be too many.
 fn make_covectors(
     alloc: Global,
     covectors: Covectors,

@@ -74,7 +74,7 @@ fn more_members_than_a_list_may_have(rt: HostRuntime) -> Result<(), Fail> {
         rt.alloc(),
         Case::new(&["convert", "covectors"], "om 1\nchirotope 16 16\n+\nend\n"),
         Status::Limit,
-        "limit members 1024\n",
+        "limit members 4096\n",
     )
 }
 
@@ -125,8 +125,8 @@ fn operations_on_chirotopes(rt: HostRuntime) -> Result<(), Fail> {
 fn operations_that_are_refused(rt: HostRuntime) -> Result<(), Fail> {
     for (words, input, text) in [
         (&["delete", "5"][..], UNIFORM, "refused place 5\n"),
-        (&["contract", "16"], UNIFORM, "refused place 16\n"),
-        (&["reorient", "16"], UNIFORM, "refused place 16\n"),
+        (&["contract", "20"], UNIFORM, "refused place 20\n"),
+        (&["reorient", "20"], UNIFORM, "refused place 20\n"),
         (&["reorient", "2", "6", "9"], UNIFORM, "refused place 6\n"),
         (&["delete", "1"], POINT, "refused lastelement\n"),
         (&["contract", "1"], POINT, "refused lastelement\n"),
@@ -255,15 +255,15 @@ fn words_of_operations(rt: HostRuntime) -> Result<(), Fail> {
         (&["delete"][..], "usage 2\n"),
         (&["delete", "01"], "usage 2\n"),
         (&["delete", "0"], "usage 2\n"),
-        (&["delete", "17"], "usage 2\n"),
+        (&["delete", "21"], "usage 2\n"),
         (&["contract", "+1"], "usage 2\n"),
         (&["contract", "1", "2"], "usage 3\n"),
         (&["dual", "1"], "usage 2\n"),
         (&["reorient"], "usage 2\n"),
         (&["reorient", "x"], "usage 2\n"),
         (&["reorient", "3", "3"], "usage 3\n"),
-        (&["reorient", "16", "1"], "usage 3\n"),
-        (&["reorient", "1", "2", "17"], "usage 4\n"),
+        (&["reorient", "20", "1"], "usage 3\n"),
+        (&["reorient", "1", "2", "21"], "usage 4\n"),
     ] {
         ends(
             &rt,

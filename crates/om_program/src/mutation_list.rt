@@ -17,8 +17,10 @@ use std::alloc::Global;
 pub fn list_mutations(alloc: Global, representation: Representation) -> Result<Answer, NoMemory>
     ensures { IfOk result (IsMeantFor AreMutations representation) }
 {
-    let chirotope = choose_chirotope(alloc, representation)?;
-    list_mutations_of(alloc, &chirotope)
+    match choose_chirotope(alloc, representation) {
+        Ok(chirotope) => list_mutations_of(alloc, &chirotope),
+        Err(why) => Ok(Answer::Line(why.rank_line()?)),
+    }
 }
 
 /// The mutations of a chirotope.

@@ -2,7 +2,9 @@
 
 ghost use Rattle.std.specs.Prelude.{◌≡◌, ◌<◌, ◌≤◌, ◌^◌, ◌∷◌, [], IfOk};
 ghost use Rattle.om_subsets.specs.Members.{members};
+ghost use Rattle.om_program.specs.Documents.{document_of};
 ghost use Rattle.om_program.specs.Represented.{IsMeantFor};
+ghost use Rattle.om_program.specs.Widths.{HasFewValues};
 ghost use Rattle.om_program.specs.Operations.{IsLawful, IsOperation, named_elements, first_above};
 
 use crate::answer::Answer;
@@ -34,7 +36,8 @@ pub fn operate(
     representation: Representation,
     operation: Operation,
 ) -> Result<Answer, NoMemory>
-    requires { IsLawful operation }
+    requires lawful { IsLawful operation }
+    requires few { HasFewValues (document_of representation) }
     ensures { IfOk result (IsMeantFor (IsOperation operation) representation) }
 {
     if let Some(e) = place_above(representation.elements(), operation) {
@@ -43,6 +46,7 @@ pub fn operate(
     match make(alloc, representation, operation) {
         Ok(made) => Ok(Answer::Document(document_of(alloc, made))),
         Err(Unmade::LastElement) => Ok(Answer::Line(Line::RefusedLastelement)),
+        Err(Unmade::TooWide { values }) => Ok(Answer::Line(Line::LimitValues { values })),
         Err(Unmade::TooMany { limit }) => Ok(Answer::Line(Line::LimitMembers { limit })),
         Err(Unmade::Memory) => Err(NoMemory),
     }

@@ -3,7 +3,7 @@
 ghost use Rattle.std.specs.Prelude.{◌≡◌, ◌≤◌, ◌↔◌, IfOk, IsTrue, length};
 ghost use Rattle.om_laws.specs.Colours.{IsColoured};
 ghost use Rattle.om_paint.specs.Paintings.{colouring};
-ghost use Rattle.om_program.specs.Paintings.{HasElement, IsPainting, IsPaintingOfMap, painted_line};
+ghost use Rattle.om_program.specs.Paintings.{HasElement, IsPainting, painted_line};
 ghost use Rattle.om_program.specs.Represented.{IsMeantFor};
 
 use crate::answer::Answer;
@@ -11,7 +11,6 @@ use crate::chirotope_choice::choose_chirotope;
 use crate::colouring::Colouring;
 use crate::representation::Representation;
 use om_answer::Line;
-use om_chirotope::Chirotope;
 use om_paint::{Colour, Painted, paint};
 use om_signs::NoMemory;
 use std::alloc::Global;
@@ -26,29 +25,23 @@ pub fn find_painting(
     requires { HasElement given }
     ensures { IfOk result (IsMeantFor (IsPainting given) representation) }
 {
-    let chirotope = choose_chirotope(alloc, representation)?;
-    Ok(find_painting_of(&chirotope, given))
-}
-
-/// The circuit or the cocircuit of a chirotope that fits colours at an element.
-fn find_painting_of(chirotope: &Chirotope, given: Colouring) -> Answer
-    requires { HasElement given }
-    ensures { IsPaintingOfMap given chirotope.now result }
-{
-    let n = chirotope.elements();
+    let n = representation.elements();
     if given.count != n {
-        return Answer::Line(Line::RefusedLength {
+        return Ok(Answer::Line(Line::RefusedLength {
             given: u32::from(given.count),
-        });
+        }));
     }
     if n < given.e {
-        return Answer::Line(Line::RefusedPlace { e: given.e });
+        return Ok(Answer::Line(Line::RefusedPlace { e: given.e }));
     }
     let colours = &given.colours[..given.count as usize];
     if !is_coloured(colours, given.e) {
-        return Answer::Line(Line::RefusedColour { e: given.e });
+        return Ok(Answer::Line(Line::RefusedColour { e: given.e }));
     }
-    Answer::Line(painted_line(paint(chirotope, colours, given.e)))
+    match choose_chirotope(alloc, representation) {
+        Ok(chirotope) => Ok(Answer::Line(painted_line(paint(&chirotope, colours, given.e)))),
+        Err(why) => why.width_answer(),
+    }
 }
 
 /// Whether an element is red or green. The colours are those of the elements from 1 on.

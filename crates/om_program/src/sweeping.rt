@@ -20,8 +20,10 @@ use std::alloc::Global;
 pub fn find_wiring(alloc: Global, representation: Representation) -> Result<Answer, NoMemory>
     ensures { IfOk result (IsMeantFor IsWiringOf representation) }
 {
-    let chirotope = choose_chirotope(alloc, representation)?;
-    find_wiring_of(alloc, &chirotope)
+    match choose_chirotope(alloc, representation) {
+        Ok(chirotope) => find_wiring_of(alloc, &chirotope),
+        Err(why) => Ok(Answer::Line(why.rank_line()?)),
+    }
 }
 
 /// The least wiring of a chirotope.

@@ -177,19 +177,19 @@ fn words_of_member(rt: HostRuntime) -> Result<(), Fail> {
         Status::Usage,
         "usage 3\n",
     )?;
-    let sixteen = "+-0+-0+-0+-0+-0+";
+    let twenty = "+-0+-0+-0+-0+-0+-0+-";
     ends(
         &rt,
         alloc,
-        Case::new(&["member", sixteen], UNIFORM),
+        Case::new(&["member", twenty], UNIFORM),
         Status::Refused,
-        "refused length 16\n",
+        "refused length 20\n",
     )?;
-    let seventeen = "+-0+-0+-0+-0+-0+-";
+    let more = "+-0+-0+-0+-0+-0+-0+-0";
     ends(
         &rt,
         alloc,
-        Case::new(&["member", seventeen], UNIFORM),
+        Case::new(&["member", more], UNIFORM),
         Status::Usage,
         "usage 2\n",
     )
@@ -436,9 +436,10 @@ fn documents_with_a_line_at_fault(rt: HostRuntime) -> Result<(), Fail> {
         ("om 1\nchirotope 3 4\n+++++\nend\n", "refused line 3 many\n"),
         ("om 1\nchirotope 3 4\n+++\nend\n", "refused line 4 few\n"),
         (
-            "om 1\nchirotope 3 17\nend\n",
-            "refused line 2 elements 17\n",
+            "om 1\nchirotope 3 21\nend\n",
+            "refused line 2 elements 21\n",
         ),
+        ("om 1\nchirotope 7 17\nend\n", "refused line 2 size 19448\n"),
         ("om 1\nchirotope 5 4\nend\n", "refused line 2 rank 5\n"),
         ("om 1\nchirotope 03 4\nend\n", "refused line 2 header\n"),
         ("om 1\nspheres 4\nend\n", "refused line 2 kind\n"),

@@ -6,6 +6,8 @@ use om_minors::MinorError;
 pub enum Unmade {
     /// It would take the only element away.
     LastElement,
+    /// The chirotope by way of which it is made would have `values` values, more than a chirotope keeps.
+    TooWide { values: u32 },
     /// A list would have more than `limit` members.
     TooMany { limit: u32 },
     /// Want of memory.
@@ -34,6 +36,7 @@ impl From<ConvertError> for Unmade {
 
     fn from(why: ConvertError) -> Self {
         match why {
+            ConvertError::TooWide { values } => Unmade::TooWide { values },
             ConvertError::TooMany { limit } => Unmade::TooMany { limit },
             ConvertError::Memory => Unmade::Memory,
         }

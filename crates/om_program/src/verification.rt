@@ -24,10 +24,10 @@ pub fn verify<R: Threads + Sync>(rt: &R, alloc: Global, claim: Claim) -> Result<
 {
     let Claim { document, verdict } = claim;
     match represent(rt, alloc, document) {
-        Ok(representation) => {
-            let chirotope = choose_chirotope(alloc, representation)?;
-            Ok(verify_verdict(&chirotope, verdict))
-        }
+        Ok(representation) => match choose_chirotope(alloc, representation) {
+            Ok(chirotope) => Ok(verify_verdict(&chirotope, verdict)),
+            Err(why) => why.rank_line(),
+        },
         Err(Unrepresented::Refused(why)) => Ok(why),
         Err(Unrepresented::Flat) => Ok(Line::RefusedFlatrank),
         Err(Unrepresented::Memory) => Err(NoMemory),

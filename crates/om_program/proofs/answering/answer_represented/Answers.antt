@@ -1,9 +1,16 @@
-use Rattle.std.proofs.Common.{subst}
+use Rattle.std.proofs.Common.{sym, subst}
 use Rattle.std.proofs.lemmas.Result.{IfOk-weaker}
 use Rattle.om_text.specs.declared.document.Document.{Document}
 use Rattle.om_program.specs.Axioms.{IsRefusal}
+use Rattle.om_program.specs.Widths.{HasFewValues}
+use Rattle.om_program.proofs.WidthLaws.{few_worked_on}
 use Rattle.om_program.specs.Meaning.{IsAnswerOf, refused, flat, answered}
 use Rattle.om_program.proofs.answering.answer_represented.Goals as goal
+
+pub answer_task-requires-clause-few : goal.answer_task-requires-clause-few
+answer_task-requires-clause-few g c = λ κs out.
+    let P : Document → Type 0 = HasFewValues in
+    subst P (sym c.in-Ok.ensures.value) (few_worked_on c.args.document c.requires.form)
 
 pub returns-in-Ok : goal.returns-in-Ok
 returns-in-Ok g c = IfOk-weaker _ _ _ (λ answer meant.

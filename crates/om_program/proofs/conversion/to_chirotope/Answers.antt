@@ -1,7 +1,16 @@
-use Rattle.om_program.proofs.ConversionLaws.{chirotope_made}
+use Rattle.std.proofs.lemmas.Result.{IfOk-weaker}
+use Rattle.om_program.specs.Documents.{document_of}
+use Rattle.om_program.proofs.WidthLaws.{few_chosen}
+use Rattle.om_program.proofs.ConversionLaws.{chirotope_made, wide_chirotope}
 use Rattle.om_program.proofs.conversion.to_chirotope.Goals as goal
 
-pub returns : goal.returns
-returns c =
+pub map_document-requires : goal.map_document-requires
+map_document-requires c = few_chosen c.args.representation c.in-Ok.chirotope c.requires c.in-Ok.ensures.kept c.in-Ok.ensures.chosen
+
+pub returns-in-Ok : goal.returns-in-Ok
+returns-in-Ok c =
     let d = c.map_document.ensures in
-    chirotope_made c.args.representation c.in_ok-chirotope.chirotope c.map_document.result c.in_ok-chirotope.ensures d.value d.form d.axioms
+    chirotope_made c.args.representation c.in-Ok.chirotope c.map_document.result c.in-Ok.ensures.kept c.in-Ok.ensures.chosen d.value d.form d.axioms
+
+pub returns-in-Err : goal.returns-in-Err
+returns-in-Err c = IfOk-weaker _ _ _ (λ a same. wide_chirotope (document_of c.args.representation) c.in-Err.why a c.in-Err.ensures.refused same) c.width_answer.ensures

@@ -1,10 +1,14 @@
-use Rattle.std.specs.Prelude.{ℕ, ◌≡◌, List, length, None}
+use Rattle.std.specs.Prelude.{ℕ, ◌≡◌, ◌≤◌, List, length, None}
 use Rattle.std.proofs.Common.{refl, sym, ap, subst, ◌∙◌}
+use Rattle.om_signs.specs.declared.limits.TheConstants.{MAX_ELEMENTS, MAX_VALUES}
+use Rattle.om_subsets.specs.Subsets.{choose}
+use Rattle.om_chirotope.specs.Map.{SignMap}
 use Rattle.om_mutate.specs.Mutations.{flipped, IsMutation}
 use Rattle.om_program.specs.Answers.{says}
 use Rattle.om_program.specs.Documents.{map_document}
 use Rattle.om_program.specs.Operations.{first_above}
 use Rattle.om_program.specs.Flips.{triple_of, flip_refusal, IsFlipOfMap, outside, turned}
+use Rattle.om_program.proofs.WidthLaws.{few_of_rank3}
 use Rattle.om_program.proofs.FlipLaws.{within_of_none, refused_flip}
 use Rattle.om_program.proofs.flipping.flip_triple_of.Goals as goal
 
@@ -17,6 +21,13 @@ subset_of-requires c = record {
 
 pub flip-requires : goal.flip-requires
 flip-requires c = record { n = c.subset_of.ensures.n ∙ c.elements-n.ensures.value; size = ap length c.subset_of.ensures.elements }
+
+pub map_document-requires : goal.map_document-requires
+map_document-requires c =
+    let is = c.in-Ok.ensures.accepted.0 refl in
+    let P : SignMap → Type 0 = λ m. choose m.elements m.rank ≤ MAX_VALUES in
+    let high = subst (λ n. n ≤ MAX_ELEMENTS) c.elements-n.ensures.value c.elements-n.ensures.high in
+    subst P (sym c.in-Ok.ensures.value) (few_of_rank3 (flipped c.args.chirotope c.subset_of.result.elements) is.0 high)
 
 pub returns-in-Some : goal.returns-in-Some
 returns-in-Some c = outside c.in-Some.e (ap (λ k. first_above k (triple_of c.args.a c.args.b c.args.c)) (sym c.elements-n.ensures.value) ∙ sym c.place_above.ensures ∙ c.in-Some.is)

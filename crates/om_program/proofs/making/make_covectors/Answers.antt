@@ -11,7 +11,7 @@ reorient_covectors-requires c = mask_below c.args.covectors.elements c.in-Reorie
 pub returns-in_ok-made-in-Dual : goal.returns-in_ok-made-in-Dual
 returns-in_ok-made-in-Dual c =
     let d = c.in_ok-made-in-Dual.ensures in
-    rw c.in-Dual.is (dual_outcome c.args.covectors c.in_ok-made-in-Dual.made d.elements d.dual d.few)
+    rw c.in-Dual.is (dual_outcome c.args.covectors c.in_ok-made-in-Dual.made d.elements d.dual d.narrow d.few)
 
 pub returns-in_err-made-in-Dual : goal.returns-in_err-made-in-Dual
-returns-in_err-made-in-Dual c = rw c.in-Dual.is (dual_unmade c.args.covectors c.from_residual.result _ c.from_residual.ensures.1 c.in_err-made-in-Dual.ensures.many)
+returns-in_err-made-in-Dual c = rw c.in-Dual.is (dual_unmade c.args.covectors c.from_residual.result _ c.from_residual.ensures.1 c.in_err-made-in-Dual.ensures.refused)

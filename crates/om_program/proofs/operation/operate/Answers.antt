@@ -3,11 +3,14 @@ use Rattle.std.proofs.Common.{sym, ap, subst, ◌∙◌}
 use Rattle.om_program.specs.declared.unmade.Unmade.{Unmade}
 use Rattle.om_program.specs.Operations.{IsOutcome, first_above, named_elements, outside, last}
 use Rattle.om_program.specs.Documents.{document_of}
-use Rattle.om_program.proofs.OperationLaws.{made_meant, limit_meant}
+use Rattle.om_program.proofs.OperationLaws.{made_meant, limit_meant, width_meant}
 use Rattle.om_program.proofs.operation.operate.Goals as goal
 
 pub returns-in-Some : goal.returns-in-Some
 returns-in-Some c = outside c.in-Some.e (sym (sym c.in-Some.is ∙ c.place_above.ensures ∙ ap (λ k. first_above k (named_elements c.args.operation)) c.elements.ensures.value))
+
+pub document_of-requires : goal.document_of-requires
+document_of-requires c = c.in-Ok.ensures.1.1.1.0
 
 pub returns-in-Ok : goal.returns-in-Ok
 returns-in-Ok c =
@@ -26,3 +29,9 @@ returns-in-Err-TooMany c =
     let none = sym c.in_default.is ∙ c.place_above.ensures ∙ ap (λ k. first_above k (named_elements c.args.operation)) c.elements.ensures.value in
     let P : Unmade → Type 0 = λ e. IsOutcome c.args.operation (document_of c.args.representation) (Err e) in
     rw c.in-Err-TooMany.limit-is (limit_meant c.args.operation (document_of c.args.representation) c.in-Err-TooMany.limit none (subst P c.in-Err-TooMany.field-0-is c.in-Err-TooMany.ensures))
+
+pub returns-in-Err-TooWide : goal.returns-in-Err-TooWide
+returns-in-Err-TooWide c =
+    let none = sym c.in_default.is ∙ c.place_above.ensures ∙ ap (λ k. first_above k (named_elements c.args.operation)) c.elements.ensures.value in
+    let P : Unmade → Type 0 = λ e. IsOutcome c.args.operation (document_of c.args.representation) (Err e) in
+    rw c.in-Err-TooWide.values-is (width_meant c.args.operation (document_of c.args.representation) c.in-Err-TooWide.values none (subst P c.in-Err-TooWide.field-0-is c.in-Err-TooWide.ensures))

@@ -1,0 +1,38 @@
+ghost use Rattle.std.specs.Prelude.{IfOk};
+ghost use Rattle.om_program.specs.Widths.{IsRankLine, IsWidthAnswer};
+
+use crate::answer::Answer;
+use om_answer::Line;
+use om_signs::NoMemory;
+
+/// Why there is no chirotope to work on.
+#[derive(Clone, Copy, Debug, PartialEq, Eq)]
+pub enum Unchosen {
+    /// The document is a list, and its chirotope, which is of this rank, would have `values` values, more than a chirotope
+    /// keeps.
+    TooWide { rank: u8, values: u32 },
+    /// Want of memory.
+    Memory,
+}
+
+impl Unchosen {
+    /// The line of a command of rank 3: a chirotope with too many values is of another rank. Want of memory has none.
+    pub fn rank_line(self) -> Result<Line, NoMemory>
+        ensures { IfOk result (IsRankLine self) }
+    {
+        match self {
+            Unchosen::TooWide { rank, .. } => Ok(Line::RefusedNotrank3 { r: rank }),
+            Unchosen::Memory => Err(NoMemory),
+        }
+    }
+
+    /// The answer of a command of any rank: the number of values. Want of memory has none.
+    pub fn width_answer(self) -> Result<Answer, NoMemory>
+        ensures { IfOk result (IsWidthAnswer self) }
+    {
+        match self {
+            Unchosen::TooWide { values, .. } => Ok(Answer::Line(Line::LimitValues { values })),
+            Unchosen::Memory => Err(NoMemory),
+        }
+    }
+}
