@@ -185,14 +185,6 @@ om 2/covectors 2/names b B/+-/end = b B
 om 2/covectors 2/half/+-/end = 
 om 1/wiring 3/end = ";
 
-/// How many lines fewer than half of the greatest number of members a list of halves has, no two of them equal or opposite,
-/// which lines come behind them, and the line at fault, less the number of those lines, with its code.
-const ENDS_OF_HALVES: [(usize, &str, usize, &str); 3] = [
-    (0, "-+++++++++++++++++++/", 5, "Missing"),
-    (0, "+0000000000000000000/", 4, "Many"),
-    (1, "00000000000000000000/+0000000000000000000/", 5, "Many"),
-];
-
 /// The bytes of a text.
 pub fn bytes_of(alloc: Global, text: &str) -> Result<Vec<u8>, Fail> {
     let mut bytes = Vec::new(alloc);
@@ -312,16 +304,31 @@ fn halves(alloc: Global, count: usize, last: &str) -> Result<Vec<u8>, Fail> {
     Ok(bytes)
 }
 
+/// Asks that a list of halves with this many lines, and with the lines behind them, has this fault.
+fn halves_fail<R: Abort>(
+    rt: &R,
+    alloc: Global,
+    count: usize,
+    last: &str,
+    fault: &str,
+) -> Result<(), Fail> {
+    let bytes = halves(alloc, count, last)?;
+    let found = reading(alloc, bytes.as_slice())?;
+    assert!(rt; found.as_slice() == fault.as_bytes(), "{fault}");
+    Ok(())
+}
+
 #[test]
 fn halves_past_the_greatest_number_of_members(rt: HostRuntime) -> Result<(), Fail> {
-    for (fewer, last, line, code) in ENDS_OF_HALVES {
-        let count = MAX_MEMBERS / 2 - fewer;
-        let bytes = halves(rt.alloc(), count, last)?;
-        let found = reading(rt.alloc(), bytes.as_slice())?;
-        let fault = format!(in rt.alloc(); "{} {code}", count + line)?;
-        assert!(rt; found.as_slice() == fault.as_bytes(), "{fault}");
-    }
-    Ok(())
+    // the first line behind them is one of them
+    let last = "-+++++++++++++++++++/+0000000000000000000/";
+    halves_fail(&rt, rt.alloc(), MAX_MEMBERS / 2, last, "2053 Many")
+}
+
+#[test]
+fn halves_that_have_room_for_the_zero_vector_alone(rt: HostRuntime) -> Result<(), Fail> {
+    let last = "00000000000000000000/+0000000000000000000/";
+    halves_fail(&rt, rt.alloc(), MAX_MEMBERS / 2 - 1, last, "2052 Many")
 }
 
 #[test]
