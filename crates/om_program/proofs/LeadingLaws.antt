@@ -18,7 +18,7 @@ use Rattle.om_chirotope.specs.Map.{SignMap}
 use Rattle.om_lexext.specs.declared.lex_error.LexError.{LexError}
 use Rattle.om_lexext.specs.declared.lex_error.LexError.TheVariants as why_of
 use Rattle.om_lexext.specs.declared.signed.Signed.{Signed}
-use Rattle.om_lexext.specs.Lexicographic.{AreEntries, IsUnlisted, AreDifferent, AreNonzero, IsLexicographicList, IsFull, IsOverValues, NamesNumber}
+use Rattle.om_lexext.specs.Lexicographic.{AreEntries, IsUnlisted, AreDifferent, AreNonzero, IsLexicographicList, IsOverValues, NamesNumber}
 use Rattle.om_answer.specs.declared.line.Line.TheVariants as line
 use Rattle.om_program.specs.declared.limits.TheConstants.{MAX_LISTED}
 use Rattle.om_program.specs.declared.leading.Leading.{Leading}

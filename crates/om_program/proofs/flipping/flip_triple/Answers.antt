@@ -1,6 +1,5 @@
 use Rattle.std.proofs.Common.{ap, sym, ◌∙◌}
-use Rattle.om_program.specs.Documents.{document_of}
-use Rattle.om_program.specs.Flips.{IsFlipOfMap, triple_of}
+use Rattle.om_program.specs.Flips.{triple_of}
 use Rattle.om_program.specs.Operations.{first_above}
 use Rattle.om_program.specs.RankThree.{for_chirotope}
 use Rattle.om_program.proofs.FlipLaws.{wide_outside, wide_other_rank}

@@ -1,4 +1,4 @@
-use Rattle.std.proofs.Common.{◌≡◌, ◌≤◌, sym, ap, ◌∙◌, subst}
+use Rattle.std.proofs.Common.{◌≤◌, sym, ap, ◌∙◌, subst}
 use Rattle.std.proofs.lemmas.Result.{IfOk-weaker}
 use Rattle.om_signs.specs.declared.limits.TheConstants.{MAX_ELEMENTS}
 use Rattle.om_program.specs.Documents.{document_of}
