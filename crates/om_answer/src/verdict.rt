@@ -1,6 +1,8 @@
 //! Printing a verdict on a chirotope.
 
-ghost use Rattle.std.specs.Prelude.{◌≡◌, IfOk};
+ghost use Rattle.std.specs.Prelude.{◌≡◌, ◌≤◌, IfOk};
+ghost use Rattle.om_signs.specs.declared.limits.TheConstants.{MAX_VALUES};
+ghost use Rattle.om_subsets.specs.Subsets.{choose};
 ghost use Rattle.om_certificate.specs.Forms.{IsVerdictInForm};
 ghost use Rattle.om_text.specs.Form.{IsInForm};
 ghost use Rattle.om_text.specs.Lines.{lines};
@@ -14,8 +16,9 @@ use om_signs::{List, NoMemory};
 use om_text::{Body, Document, print};
 use std::alloc::Global;
 
-/// The document of a chirotope, without names.
+/// The document of a chirotope with no more values than a document may hold, without names.
 fn document_of(alloc: Global, chi: &Chirotope) -> Result<Document, NoMemory>
+    requires { choose chi.now.elements chi.now.rank ≤ MAX_VALUES }
     ensures value { IfOk result (λ d. d ≡ chirotope_document chi.now) }
     ensures form { IfOk result IsInForm }
 {
@@ -35,11 +38,12 @@ fn document_of(alloc: Global, chi: &Chirotope) -> Result<Document, NoMemory>
 /// The verdict has the forms and is within the limits of a claim: its vectors are no more than elements may be, the numbers
 /// of its entries and its weights are in their ranges, the elements of a weight increase, there are at most as many weights
 /// as sets of three elements, and the end of a tableau has its numbers in their ranges, with a basis number or more behind a
-/// budget of pivots. What is printed is then a claim, and [`crate::read_claim`] reads this document and this verdict from it.
+/// budget of pivots. The chirotope has at most [`om_signs::MAX_VALUES`] values, as many as a document may hold. What is printed is then a claim, and [`crate::read_claim`] reads this document and this verdict from it.
 ///
 /// [`NoMemory`] comes only for want of memory.
 pub fn print_verdict(alloc: Global, chi: &Chirotope, verdict: &Verdict) -> Result<Vec<u8>, NoMemory>
     requires form { IsVerdictInForm verdict.now }
+    requires few { choose chi.now.elements chi.now.rank ≤ MAX_VALUES }
     ensures text { IfOk result (λ text. text.items ≡ verdict_text chi.now verdict.now) }
     // What is printed is a claim: the chirotope's document and this verdict.
     ensures claim { IfOk result (λ text. IsClaim (lines text.items) (claim_of chi.now verdict.now)) }

@@ -8,7 +8,7 @@ use super::{print_verdict, read_claim};
 use om_certificate::{Entry, LpEnd, Stage, Verdict, Weight};
 use om_chirotope::{Chirotope, check};
 use om_grassmann::Statement;
-use om_signs::{List, MAX_INPUT, NoMemory, RawMap, Sign};
+use om_signs::{List, MAX_INPUT, MAX_VALUES, NoMemory, RawMap, Sign};
 use om_subsets::Subset;
 use om_vectors::Unfound;
 use std::alloc::Global;
@@ -51,6 +51,9 @@ fn is_printed(
 ) -> Result<bool, NoMemory>
     requires { IsVerdictInForm verdict.now }
 {
+    if Subset::choose(chi.elements(), chi.rank()) > MAX_VALUES {
+        return Ok(false);
+    }
     let text = print_verdict(alloc, chi, verdict)?;
     let read = text.len() <= MAX_INPUT && read_claim(alloc, text.as_slice()).is_ok();
     Ok(read && text.as_slice() == expected.as_bytes())
