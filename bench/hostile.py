@@ -130,22 +130,22 @@ def changed_examples(tally, random_):
 
 def little_stack(tally):
     def small():
-        resource.setrlimit(resource.RLIMIT_STACK, (512 * 1024, 512 * 1024))
+        resource.setrlimit(resource.RLIMIT_STACK, (600 * 1024, 600 * 1024))
     for words, data, code in [
         (["accept"], LARGE, 0), (["threeterm"], LARGE, 0), (["dual"], LARGE, 0), (["hull"], LARGE, 0), (["upgrade"], LARGE, 0),
         (["convert", "covectors"], RANK_3, 0), (["wiring"], RANK_3, 0), (["mutations"], RANK_3, 0), (["accept"], NO_EXCHANGE, 1),
         (["threeterm"], NO_EXCHANGE, 1), (["accept"], NO_RELATION, 1), (["threeterm"], NO_RELATION, 1),
     ]:
-        tally.expect("%s with a stack of 512 KB" % words, run(words, data, before=small), exactly(code))
+        tally.expect("%s with a stack of 600 KB" % words, run(words, data, before=small), exactly(code))
     for data in MOST:
         for words, code in (["accept"], 0), (["threeterm"], 0), (["dual"], 0), (["lexext", "+1"], None), (["hull"], 0):
-            tally.expect("%s of a large document with a stack of 512 KB" % words, run(words, data, before=small), documented if code is None else exactly(code))
+            tally.expect("%s of a large document with a stack of 600 KB" % words, run(words, data, before=small), documented if code is None else exactly(code))
     for words, code in (["accept"], 0), (["dual"], 0), (["convert", "chirotope"], 3), (["decide"], 1), (["hull"], 3):
-        tally.expect("%s of a wide list with a stack of 512 KB" % words, run(words, WIDE, before=small), exactly(code))
+        tally.expect("%s of a wide list with a stack of 600 KB" % words, run(words, WIDE, before=small), exactly(code))
     for words, code in (["wiring"], 0), (["mutations"], 0), (["convert", "covectors"], 0), (["extend"], 1):
-        tally.expect("%s of rank 3 on 20 elements with a stack of 512 KB" % words, run(words, MOST[0], before=small), exactly(code))
+        tally.expect("%s of rank 3 on 20 elements with a stack of 600 KB" % words, run(words, MOST[0], before=small), exactly(code))
     with open(os.path.join(TOP, "examples", "non-pappus.om"), "rb") as file:
-        tally.expect("decide with a stack of 512 KB", run(["decide"], file.read(), before=small), exactly(0))
+        tally.expect("decide with a stack of 600 KB", run(["decide"], file.read(), before=small), exactly(0))
 
 
 def little_memory(tally):
