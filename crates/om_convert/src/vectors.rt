@@ -25,10 +25,11 @@ pub fn all_circuits(alloc: Global, chi: &Chirotope) -> Result<MemberSet, Convert
     let mut circuits = MemberSet::new(alloc);
     if rank < elements {
         let size = rank + 1;
+        let mut s = Subset::first(size, elements);
         for k in 0..Subset::choose(elements, size) {
-            let s = Subset::unrank(k, size, elements);
             let v = chi.circuit_of(s);
             circuits.insert_signed(v)?;
+            s = s.following();
         }
     }
     Ok(circuits)
@@ -45,10 +46,11 @@ pub fn all_cocircuits(alloc: Global, chi: &Chirotope) -> Result<MemberSet, Conve
     let mut cocircuits = MemberSet::new(alloc);
     if 0 < rank {
         let size = rank - 1;
+        let mut a = Subset::first(size, elements);
         for k in 0..Subset::choose(elements, size) {
-            let a = Subset::unrank(k, size, elements);
             let u = chi.cocircuit_of(a);
             cocircuits.insert_signed(u)?;
+            a = a.following();
         }
     }
     Ok(cocircuits)

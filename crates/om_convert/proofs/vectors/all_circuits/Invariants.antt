@@ -1,8 +1,12 @@
 use Rattle.std.proofs.Common.{◌+◌}
 use Rattle.om_chirotope.specs.Map.{circuit_vector}
+use Rattle.om_subsets.proofs.Walks.{IsAt}
 use Rattle.om_denotation.specs.Listings.{AreAllOf}
 use Rattle.om_convert.proofs.PlaceLaws.{IsOfPlace}
 use Rattle.om_convert.proofs.vectors.all_circuits.Given as goal
 
 abbrev pub invariant-loop-k : goal.invariant-loop-k
-invariant-loop-k l = AreAllOf (IsOfPlace (circuit_vector l.chi) l.chi.elements (l.chi.rank + 1) l.k) l.circuits
+invariant-loop-k l = record {
+  gathered : AreAllOf (IsOfPlace (circuit_vector l.chi) l.chi.elements (l.chi.rank + 1) l.k) l.circuits;
+  at : IsAt l.chi.elements (l.chi.rank + 1) l.k l.s;
+}
