@@ -51,8 +51,10 @@ pub fn normal_by<T: SignRule>(
     ensures { IfOk result (IsNormalFormOf (map_by rank elements (T.rule rule.now))) }
 {
     let mut signs = om_signs::List::new(alloc);
+    let mut s = Subset::first(rank, elements);
     for place in 0..Subset::choose(elements, rank) {
-        signs.push(rule.sign(Subset::unrank(place, rank, elements)))?;
+        signs.push(rule.sign(s))?;
+        s = s.following();
     }
     Ok(Chirotope::lawful(RawMap {
         rank,
