@@ -19,12 +19,13 @@ pub fn rank_of(chi: &Chirotope, s: Subset) -> u8
     let rank = chi.rank();
     let elements = chi.elements();
     let mut most = 0;
+    let mut b = Subset::first(rank, elements);
     for k in 0..Subset::choose(elements, rank) {
-        let b = Subset::unrank(k, rank, elements);
         let size = s.intersection(b).size();
         if most < size && is_basis(chi, b) {
             most = size;
         }
+        b = b.following();
     }
     most
 }

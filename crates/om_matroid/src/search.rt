@@ -37,11 +37,12 @@ pub fn first_between(chi: &Chirotope, inside: Subset, outside: Subset) -> Option
 {
     let rank = chi.rank();
     let elements = chi.elements();
+    let mut b = Subset::first(rank, elements);
     for k in 0..Subset::choose(elements, rank) {
-        let b = Subset::unrank(k, rank, elements);
         if is_between(chi, inside, outside, b) {
             return Some(b);
         }
+        b = b.following();
     }
     None
 }

@@ -1,5 +1,9 @@
+use Rattle.om_subsets.proofs.Walks.{IsAt}
 use Rattle.om_matroid.proofs.RankLaws.{IsRankBefore}
 use Rattle.om_matroid.proofs.ranks.rank_of.Given as goal
 
 abbrev pub invariant-loop-k : goal.invariant-loop-k
-invariant-loop-k l = IsRankBefore l.chi l.s.elements l.k l.most
+invariant-loop-k l = record {
+  best : IsRankBefore l.chi l.s.elements l.k l.most;
+  at : IsAt l.chi.elements l.chi.rank l.k l.b;
+}
