@@ -1,6 +1,11 @@
+use Rattle.std.proofs.Common.{◌+◌}
+use Rattle.om_subsets.proofs.Walks.{IsAt}
 use Rattle.om_chirotope.specs.Map.{map_of}
 use Rattle.om_chirotope.proofs.Tables.{AllBelow}
 use Rattle.om_chirotope.proofs.scan.scan_each.Given as goal
 
 abbrev pub invariant-loop-place : goal.invariant-loop-place
-invariant-loop-place l = AllBelow (map_of l.raw) l.place
+invariant-loop-place l = record {
+  all : AllBelow (map_of l.raw) l.place;
+  at : IsAt l.raw.elements (l.raw.rank + 1) l.place l.s;
+}
