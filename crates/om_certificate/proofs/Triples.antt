@@ -1,13 +1,14 @@
 -- Increasing triples and their places in lexicographic order.
 --
--- Main results: place_below, triple_at_place, triple_of_place, place_of_place, same_triple, same-place, triples_room, triple_elements
+-- Main results: place_below, triple_at_place, triple_of_place, place_of_place, same_triple, same-place, triples_room, triple_elements, increasing_triple
 use Rattle.std.specs.Prelude.{ℕ, ◌+◌, ◌-◌, ◌≡◌, ◌<◌, ◌≤◌, List, [], ◌∷◌, nat_eq}
 use Rattle.std.proofs.Common.{refl, sym, ◌∙◌, ap, arith, inl, inr, subst, zero, suc}
 use Rattle.std.proofs.lemmas.Slice.Eq.{bytes_eq-Decides}
+use Rattle.std.proofs.lemmas.Bool.{ne_eqb, lt-ltb}
 use Rattle.std.proofs.lemmas.Bool.Decides.{Decides-eqb, same_from_decides, Decides-like}
 use Rattle.om_signs.specs.declared.limits.TheConstants.{MAX_ELEMENTS}
 use Rattle.om_subsets.proofs.Statements.{subset_is_increasing}
-use Rattle.om_subsets.specs.Subsets.{choose, rank_of, subset_at}
+use Rattle.om_subsets.specs.Subsets.{choose, rank_of, subset_at, with_element}
 use Rattle.om_subsets.proofs.Order.{rank_from-lt, get_or-rank_from, same_place, listed}
 use Rattle.om_vectors.specs.Realizations.{IsTriple}
 use Rattle.om_certificate.specs.declared.room.TheConstants.{ROOM}
@@ -51,3 +52,10 @@ pub triple_elements : (n a b c : ℕ) → IsTriple n (a ∷ b ∷ c ∷ []) → 
 triple_elements n a b c t =
     let h = (subset_is_increasing n (a ∷ b ∷ c ∷ [])).0 t.list in
     ((h.1 a (inl refl)).0, h.0.0, h.0.1.0, (h.1 c (inr (inr (inl refl)))).1)
+
+-- three increasing elements are the elements of their set
+pub increasing_triple : (a b c : ℕ) → a < b → b < c → with_element a (with_element b (c ∷ [])) ≡ a ∷ b ∷ c ∷ []
+increasing_triple a b c l h = ap (with_element a) (in_front b c [] h) ∙ in_front a b (c ∷ []) l
+  where
+    in_front : (x y : ℕ) (ys : List ℕ) → x < y → with_element x (y ∷ ys) ≡ x ∷ y ∷ ys
+    in_front x y ys k = rw (ne_eqb x y (omega arith), lt-ltb x y k) refl

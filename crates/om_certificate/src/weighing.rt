@@ -16,7 +16,7 @@ use super::room::ROOM;
 use super::weight::Weight;
 use om_chirotope::Chirotope;
 use om_grassmann::{Statement, following, nth_statement, sides};
-use om_signs::{MAX_ELEMENTS, MAX_ENTRIES, MAX_PLACES, Sign};
+use om_signs::{MAX_ELEMENTS, MAX_ENTRIES, Sign};
 use om_subsets::Subset;
 
 /// Whether weights are those of the nonzero brackets, and every lawful statement is met.
@@ -51,10 +51,12 @@ fn count_nonzero(chi: &Chirotope) -> u32
 {
     let n = chi.elements();
     let mut count = 0;
+    let mut bracket = Subset::first(3, n);
     for place in 0..Subset::choose(n, 3) {
-        if is_nonzero(chi, Subset::unrank(place, 3, n)) {
+        if is_nonzero(chi, bracket) {
             count += 1;
         }
+        bracket = bracket.following();
     }
     count
 }
@@ -83,14 +85,15 @@ fn first_other_bracket(chi: &Chirotope, weights: &[Weight]) -> Option<u32>
 {
     let n = chi.elements();
     let mut next = 0usize;
+    let mut bracket = Subset::first(3, n);
     for place in 0..Subset::choose(n, 3) {
-        let bracket = Subset::unrank(place, 3, n);
         if is_nonzero(chi, bracket) {
             if !is_weight_of(weights[next], bracket) {
                 return Some(next as u32 + 1);
             }
             next += 1;
         }
+        bracket = bracket.following();
     }
     None
 }
@@ -105,7 +108,7 @@ fn is_weight_of(weight: Weight, bracket: Subset) -> bool
     if !is_of_triple(weight, n) {
         return false;
     }
-    bracket_set(weight, n) == bracket
+    Subset::triple(weight.a, weight.b, weight.c, n) == bracket
 }
 
 /// Whether a weight is given to three increasing elements of 1 to n.
@@ -113,18 +116,6 @@ fn is_of_triple(weight: Weight, n: u8) -> bool
     ensures { IsTrue result ↔ IsOfTriple n weight }
 {
     1 <= weight.a && weight.a < weight.b && weight.b < weight.c && weight.c <= n
-}
-
-/// The bracket of a weight, as a set.
-fn bracket_set(weight: Weight, n: u8) -> Subset
-    requires small { n ≤ MAX_PLACES }
-    requires increasing { IsOfTriple n weight }
-    ensures { sides.IsTriple n (bracket_of weight) result }
-{
-    Subset::first(0, n)
-        .with(weight.c)
-        .with(weight.b)
-        .with(weight.a)
 }
 
 /// Writes the weights into a table of zeros, each at the place of its bracket.
@@ -139,7 +130,8 @@ fn fill(chi: &Chirotope, weights: &[Weight], table: &mut [i128])
 {
     for i in 0..weights.len() {
         let weight = weights[weights.len() - 1 - i];
-        table[bracket_set(weight, chi.elements()).rank() as usize] = weight.value;
+        let bracket = Subset::triple(weight.a, weight.b, weight.c, chi.elements());
+        table[bracket.rank() as usize] = weight.value;
     }
 }
 
