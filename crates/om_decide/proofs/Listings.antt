@@ -1,7 +1,7 @@
 -- The lawful statements of a map, their columns and the end of the run over them are determined.
 --
 -- Main results: one_listing, same_columns and one_end.
-use Rattle.std.specs.Prelude.{ℕ, ◌≡◌, ◌+◌, ◌-◌, ◌<◌, ◌⊎◌, List, [], ◌∷◌, length}
+use Rattle.std.specs.Prelude.{ℕ, ◌≡◌, ◌+◌, ◌-◌, ◌⊎◌, List, [], ◌∷◌}
 use Rattle.std.specs.List.{Contains}
 use Rattle.std.proofs.Common.{arith, sym, ◌∙◌, ap, subst, zero, suc, refl, inl, inr, get_or}
 use Rattle.std.proofs.lemmas.List.{ext_get_or}

@@ -10,7 +10,6 @@ use Rattle.om_grassmann.specs.declared.statement.Statement.{Statement}
 use Rattle.om_grassmann.specs.Order.{AreAll}
 use Rattle.om_rows.specs.Rows.{IsPlace}
 use Rattle.om_simplex.specs.declared.count.Count.{Count}
-use Rattle.om_simplex.specs.declared.stage.Stage.{Stage}
 use Rattle.om_simplex.specs.declared.outcome.Outcome.{Outcome}
 use Rattle.om_simplex.specs.declared.outcome.Outcome.TheVariants as outcome
 use Rattle.om_certificate.specs.declared.entry.Entry.{Entry}

@@ -48,11 +48,12 @@ pub fn bracket_weights(
 {
     let n = chi.elements();
     let mut weights = List::new(alloc);
+    let mut bracket = Subset::first(3, n);
     for place in 0..Subset::choose(n, 3) {
-        let bracket = Subset::unrank(place, 3, n);
         if is_nonzero(chi, bracket) {
             weights.push(bracket_weight(bracket, values.at(weights.len())))?;
         }
+        bracket = bracket.following();
     }
     Ok(weights)
 }
@@ -62,7 +63,7 @@ fn bracket_weight(bracket: Subset, value: i128) -> Weight
     requires { length bracket.elements ≡ 3 }
     ensures { result ≡ weight_on bracket.elements value }
 {
-    let _size = bracket.size();
+    bracket.is_lawful();
     let a = least_from(bracket, 1);
     let b = least_from(bracket, a + 1);
     let c = least_from(bracket, b + 1);

@@ -1,4 +1,4 @@
-use Rattle.std.proofs.Common.{◌≡◌, ◌∙◌, All, length, ap, sym, subst}
+use Rattle.std.proofs.Common.{◌∙◌, All, length, ap, sym, subst}
 use Rattle.om_grassmann.specs.Order.{AreAll}
 use Rattle.om_rows.specs.Rows.{IsPlace}
 use Rattle.om_decide.specs.Answers.{IsEndOf}

@@ -1,5 +1,9 @@
+use Rattle.om_subsets.proofs.Walks.{IsAt}
 use Rattle.om_decide.proofs.WeightLists.{AreWeightsTo}
 use Rattle.om_decide.proofs.evidence.bracket_weights.Given as goal
 
 abbrev pub invariant-loop-place : goal.invariant-loop-place
-invariant-loop-place l = AreWeightsTo l.chi l.values l.place l.weights
+invariant-loop-place l = record {
+  weights : AreWeightsTo l.chi l.values l.place l.weights;
+  at : IsAt l.chi.elements 3 l.place l.bracket;
+}
