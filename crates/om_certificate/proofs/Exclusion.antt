@@ -20,7 +20,7 @@ use Rattle.om_grassmann.proofs.BracketLaws.{nonzero_sides}
 use Rattle.om_certificate.specs.declared.entry.Entry.{Entry}
 use Rattle.om_certificate.specs.declared.weight.Weight.{Weight}
 use Rattle.om_certificate.specs.Certificates.{IsCertificate, times_in, is_same}
-use Rattle.om_certificate.specs.Weights.{AreWeights, IsMet, Compares, weight_of, term_weight}
+use Rattle.om_certificate.specs.Weights.{AreWeights, IsMetBy, Compares, weight_of, term_weight}
 use Rattle.om_certificate.proofs.Combinations.{Combination, here}
 use Rattle.om_certificate.proofs.Orders.{products, sums}
 use Rattle.om_certificate.proofs.Sizes.{size_at, ordered_sizes}
@@ -188,7 +188,7 @@ weights_exclude m ws w = excluded sums m (weight_of ws) (λ st h. ordered st (w.
     compared true small big h = (omega (arith, ints), λ t. h)
     compared false small big h = (omega (arith, ints), λ t. absurd (let f : false ≡ true = t in cc))
 
-    ordered : (st : Statement) → IsMet ws st → AreOrdered sums (weight_of ws) st
+    ordered : (st : Statement) → IsMetBy ws st → AreOrdered sums (weight_of ws) st
     ordered st h =
         let c = compared st.strict (term_weight ws st st.small) (term_weight ws st st.big) h in
         record { positive = tt; at_most = c.0; less = c.1 }

@@ -16,15 +16,15 @@ use Rattle.om_certificate.specs.declared.weight.Weight.{Weight}
 use Rattle.om_subsets.specs.Subsets.{rank_of}
 use Rattle.om_vectors.specs.Realizations.{IsTriple}
 use Rattle.om_grassmann.specs.Sides.{first_bracket, second_bracket}
-use Rattle.om_certificate.specs.Weights.{IsMet, Compares, weight_of, term_weight}
+use Rattle.om_certificate.specs.Weights.{IsMetBy, Compares, weight_of, term_weight}
 use Rattle.om_certificate.specs.Tables.{IsWeightTable, sum_at}
 use Rattle.om_certificate.proofs.Exclusion.{lawful_triples}
 use Rattle.om_certificate.specs.Refusals.{IsFirstUnmet}
 
 -- every lawful statement before the current one is met, and all where there is no current one
 abbrev pub IsWalk : SignMap → List Weight → Option Statement → Type 0
-IsWalk m ws None = (s : Statement) → IsLawful m s → IsMet ws s
-IsWalk m ws (Some t) = IsLawful m t × ((s : Statement) → IsLawful m s → IsBefore s t → IsMet ws s)
+IsWalk m ws None = (s : Statement) → IsLawful m s → IsMetBy ws s
+IsWalk m ws (Some t) = IsLawful m t × ((s : Statement) → IsLawful m s → IsBefore s t → IsMetBy ws s)
 
 -- the places: five elements as digits to the base 256, and the nine pairs of sides
 abbrev places : ℕ
@@ -58,26 +58,26 @@ at_end m s few h = let p = place_small m s few h in omega arith
 pub none_lawful : (m : SignMap) (ws : List Weight) → HasAtMost m 0 → IsWalk m ws None
 none_lawful m ws h s l = go ((h.are_all.members s).1 l)
   where
-    go : Contains h.all s → IsMet ws s
+    go : Contains h.all s → IsMetBy ws s
     go (k, b, e) = let c = h.count in absurd (omega arith)
 
 pub first_lawful : (m : SignMap) (ws : List Weight) (t : Statement) → IsNumber m 0 t → IsWalk m ws (Some t)
 first_lawful m ws t h = (h.lawful, λ s l b. go s ((h.are_before.members s).1 (l, b)))
   where
-    go : (s : Statement) → Contains h.before s → IsMet ws s
+    go : (s : Statement) → Contains h.before s → IsMetBy ws s
     go s (k, b, e) = let c = h.count in absurd (omega arith)
 
-met_before : (m : SignMap) (ws : List Weight) (s u : Statement) → IsMet ws s → IsWalk m ws (Some s) → IsLawful m u → (u ≡ s) ⊎ IsBefore u s → IsMet ws u
-met_before m ws s u k w l (inl e) = subst (IsMet ws) (sym e) k
+met_before : (m : SignMap) (ws : List Weight) (s u : Statement) → IsMetBy ws s → IsWalk m ws (Some s) → IsLawful m u → (u ≡ s) ⊎ IsBefore u s → IsMetBy ws u
+met_before m ws s u k w l (inl e) = subst (IsMetBy ws) (sym e) k
 met_before m ws s u k w l (inr b) = w.1 u l b
 
-walk_ends : (m : SignMap) (ws : List Weight) (s : Statement) → IsMet ws s → IsWalk m ws (Some s) → IsLast m s → IsWalk m ws None
+walk_ends : (m : SignMap) (ws : List Weight) (s : Statement) → IsMetBy ws s → IsWalk m ws (Some s) → IsLast m s → IsWalk m ws None
 walk_ends m ws s k w h u l = met_before m ws s u k w l (h u l)
 
-walk_goes : (m : SignMap) (ws : List Weight) (s t : Statement) → IsMet ws s → IsWalk m ws (Some s) → IsNext m s t → IsWalk m ws (Some t)
+walk_goes : (m : SignMap) (ws : List Weight) (s t : Statement) → IsMetBy ws s → IsWalk m ws (Some s) → IsNext m s t → IsWalk m ws (Some t)
 walk_goes m ws s t k w n = (n.lawful, λ u l b. met_before m ws s u k w l (n.next u l b))
 
-pub first_unmet_here : (m : SignMap) (ws : List Weight) (t : Statement) → IsWalk m ws (Some t) → (IsMet ws t → ⊥) → IsFirstUnmet m ws t
+pub first_unmet_here : (m : SignMap) (ws : List Weight) (t : Statement) → IsWalk m ws (Some t) → (IsMetBy ws t → ⊥) → IsFirstUnmet m ws t
 first_unmet_here m ws t w n = record { lawful = w.0; unmet = n; earlier = w.1 }
 
 -- ---- sums by the table
@@ -88,7 +88,7 @@ sum_same m ws table st i h f s =
     ∙ ap (λ z. weight_of ws (first_bracket st i) +ℤ z) (h.weights (second_bracket st i) s)
 
 -- the test by the table tells whether the statement is met
-pub met_by_table : (m : SignMap) (n : ℕ) (ws : List Weight) (table : List ℤ) (st : Statement) (b : Bool) → n ≡ m.elements → IsWeightTable m.elements ws table → IsLawful m st → IsTrue b ↔ Compares st.strict (sum_at n table st st.small) (sum_at n table st st.big) → IsTrue b ↔ IsMet ws st
+pub met_by_table : (m : SignMap) (n : ℕ) (ws : List Weight) (table : List ℤ) (st : Statement) (b : Bool) → n ≡ m.elements → IsWeightTable m.elements ws table → IsLawful m st → IsTrue b ↔ Compares st.strict (sum_at n table st st.small) (sum_at n table st st.big) → IsTrue b ↔ IsMetBy ws st
 met_by_table m n ws table st b e h l t =
     let a = lawful_triples m st l in
     let s = sum_same m ws table st st.small h a.small_first a.small_second in
@@ -101,6 +101,6 @@ pub nearer_following : (m : SignMap) (s : Statement) (r : Option Statement) → 
 nearer_following m s None few h n = at_end m s few h
 nearer_following m s (Some t) few h n = nearer m s t few h n
 
-pub walk_following : (m : SignMap) (ws : List Weight) (s : Statement) (r : Option Statement) → IsMet ws s → IsWalk m ws (Some s) → IsNone r ↔ IsLast m s → IfSome r (λ t. IsNext m s t) → IsWalk m ws r
+pub walk_following : (m : SignMap) (ws : List Weight) (s : Statement) (r : Option Statement) → IsMetBy ws s → IsWalk m ws (Some s) → IsNone r ↔ IsLast m s → IfSome r (λ t. IsNext m s t) → IsWalk m ws r
 walk_following m ws s None k w h n = walk_ends m ws s k w (h.0 refl)
 walk_following m ws s (Some t) k w h n = walk_goes m ws s t k w n

@@ -15,7 +15,7 @@ use Rattle.om_certificate.specs.declared.evidence.Evidence.TheVariants.{Vectors,
 use Rattle.om_certificate.specs.declared.cert_refused.CertRefused.{CertRefused}
 use Rattle.om_certificate.specs.declared.cert_refused.CertRefused.TheVariants.{NotRank3, Number, WrongSign, Unlawful, Unbalanced, NoStrict, Bracket, WeightFails}
 use Rattle.om_certificate.specs.Certificates.{AreLawful, AreBalanced, HasStrict, small_times, big_times}
-use Rattle.om_certificate.specs.Weights.{bracket_of, nonzero_brackets, AreOfBrackets, IsMet}
+use Rattle.om_certificate.specs.Weights.{bracket_of, nonzero_brackets, AreOfBrackets, IsMetBy}
 
 -- the entry with this number, counted from 1, isn't lawful, and those before it are
 pub record IsFirstUnlawful (m : SignMap) (es : List Entry) (number : ℕ) : Type 0 where
@@ -45,8 +45,8 @@ pub record IsFirstOtherBracket (m : SignMap) (ws : List Weight) (number : ℕ) :
 -- the lawful statement isn't met, and those before it are
 pub record IsFirstUnmet (m : SignMap) (ws : List Weight) (st : Statement) : Type 0 where
   pub lawful : IsLawful m st
-  pub unmet : IsMet ws st → ⊥
-  pub earlier : (s : Statement) → IsLawful m s → IsBefore s st → IsMet ws s
+  pub unmet : IsMetBy ws st → ⊥
+  pub earlier : (s : Statement) → IsLawful m s → IsBefore s st → IsMetBy ws s
 
 -- why vectors are refused, on a map of rank 3
 pub data IsVectorRefusal (m : SignMap) (vs : List WholeVector) : CertRefused → Type 0 where

@@ -41,8 +41,8 @@ Compares true small big = small <ℤ big
 Compares false small big = small ≡ big
 
 -- the sum over the small side is less than the sum over the big side where the statement is strict, and else the two are equal
-abbrev pub IsMet : List Weight → Statement → Type 0
-IsMet ws st = Compares st.strict (term_weight ws st st.small) (term_weight ws st st.big)
+abbrev pub IsMetBy : List Weight → Statement → Type 0
+IsMetBy ws st = Compares st.strict (term_weight ws st st.small) (term_weight ws st st.big)
 
 -- the weights are those of the nonzero brackets, in lexicographic order and each once
 abbrev pub AreOfBrackets : SignMap → List Weight → Type 0
@@ -52,4 +52,4 @@ AreOfBrackets m ws = map bracket_of ws ≡ nonzero_brackets m
 pub record AreWeights (m : SignMap) (ws : List Weight) : Type 0 where
   pub rank : m.rank ≡ 3
   pub brackets : AreOfBrackets m ws
-  pub met : (st : Statement) → IsLawful m st → IsMet ws st
+  pub met : (st : Statement) → IsLawful m st → IsMetBy ws st

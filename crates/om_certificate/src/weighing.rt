@@ -6,7 +6,7 @@ ghost use Rattle.om_chirotope.specs.Map.{chi_of};
 ghost use Rattle.om_grassmann.specs.declared.statement.Statement.{Statement};
 ghost use Rattle.om_grassmann.specs.Statements.{IsLawful, AreTwo};
 ghost use Rattle.om_grassmann.specs.Sides as sides;
-ghost use Rattle.om_certificate.specs.Weights.{AreWeights, AreOfBrackets, IsMet, Compares, bracket_of, nonzero_brackets, is_nonzero};
+ghost use Rattle.om_certificate.specs.Weights.{AreWeights, AreOfBrackets, IsMetBy, Compares, bracket_of, nonzero_brackets, is_nonzero};
 ghost use Rattle.om_certificate.specs.Validity.{AreWeightsWithinLimits};
 ghost use Rattle.om_certificate.specs.Refusals.{IsFirstOtherBracket, IsFirstUnmet, IsWeightRefusal};
 ghost use Rattle.om_certificate.specs.Tables.{IsWeightTable, IsOfTriple, AreSmall, sum_at};
@@ -141,7 +141,7 @@ fn first_unmet(chi: &Chirotope, weights: &[Weight]) -> Option<Statement>
     requires part { 3 ≤ chi.now.elements }
     requires limits { AreWeightsWithinLimits weights.now }
     requires brackets { AreOfBrackets chi.now weights.now }
-    ensures none { IfNone result ((st : Statement) → IsLawful chi.now st → IsMet weights.now st) }
+    ensures none { IfNone result ((st : Statement) → IsLawful chi.now st → IsMetBy weights.now st) }
     ensures first { IfSome result (λ st. IsFirstUnmet chi.now weights.now st) }
 {
     let n = chi.elements();
