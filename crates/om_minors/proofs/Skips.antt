@@ -1,20 +1,10 @@
 -- Sets with their elements from e on moved up by one.
 --
 -- Main results: they avoid e (skip_avoids); the value of such a set with e behind it (behind_even, behind_odd).
-use Rattle.std.specs.Prelude.{ℕ, ◌≡◌, ◌≢◌, ◌+◌, ◌-◌, ◌*◌, ◌/◌, ◌%◌, ◌<◌, ◌≤◌, ◌^◌, List, [], ◌∷◌, ◌++◌, length, map, refl, bit_and}
-use Rattle.std.specs.Int.{bit_at}
-use Rattle.std.proofs.Common.{zero, suc, sym, ◌∙◌, ap, subst, inl, inr, arith, min, max, pow-suc, bit_or}
-use Rattle.std.proofs.lemmas.Bool.{cases_eq, cases_lt, eq-eqb, ne_eqb, lt-ltb, le-ltb}
-use Rattle.std.proofs.lemmas.Nat.{or_lt, and_le_l, pow-add, pow_pos}
-use Rattle.std.proofs.lemmas.Nat.Bits.{bit_at_lowest, bit_at-suc, bit_at-zero, bit_at-lt, bit_at_and, bit_at_or, bit_at_ones, bit_at_ones_above, bit_at_cat_low, bit_at_cat_high}
-use Rattle.std.proofs.Math.Nat.{div-mul-le_self, div-div-eq-div-mul, mod-eq_of_lt}
-use Rattle.std.proofs.Math.Pow.{pow_mono}
-use Rattle.om_signs.specs.declared.limits.TheConstants.{MAX_PLACES}
-use Rattle.om_signs.proofs.Bits.{one_shl_32}
-use Rattle.om_subsets.specs.Members.{members, mask_of}
+use Rattle.std.specs.Prelude.{ℕ, ◌≡◌, ◌+◌, ◌-◌, ◌%◌, ◌<◌, ◌≤◌, List, [], ◌∷◌, ◌++◌, length, map, refl}
+use Rattle.std.proofs.Common.{◌∙◌, ap, subst, inl, inr, arith}
+use Rattle.std.proofs.lemmas.Bool.{cases_lt, lt-ltb, le-ltb}
 use Rattle.om_subsets.specs.Subsets.{IsSubsetFrom, IsMember, with_element, count_above}
-use Rattle.om_subsets.proofs.Edits.{members_same}
-use Rattle.om_subsets.proofs.Masks.{members-mask_of}
 use Rattle.om_laws.specs.Minors.{skip, contraction}
 use Rattle.om_signs.specs.declared.sign.Sign.{Sign}
 use Rattle.om_signs.specs.Sign.{opposite}

@@ -40,12 +40,13 @@ fn turned(raw: RawMap, mask: u32) -> RawMap
     ensures { map_of result ≡ reoriented_on mask (map_of raw) }
 {
     let mut turned = raw;
+    let mut s = Subset::first(turned.rank, turned.elements);
     for place in 0..Subset::choose(turned.elements, turned.rank) {
-        let s = Subset::unrank(place, turned.rank, turned.elements);
         let sign = turned.signs.at(place as usize);
         turned
             .signs
             .set(place as usize, turning_sign(s, mask).times(sign));
+        s = s.following();
     }
     turned
 }

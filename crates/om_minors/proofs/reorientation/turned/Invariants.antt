@@ -1,5 +1,6 @@
 use Rattle.std.proofs.Common.{◌≡◌, ◌≤◌, ℕ, length}
 use Rattle.om_signs.specs.SignVec.{at}
+use Rattle.om_subsets.proofs.Walks.{IsAt}
 use Rattle.om_chirotope.specs.Map.{map_of}
 use Rattle.om_minors.proofs.Turning.{AreTurnedBelow}
 use Rattle.om_minors.proofs.reorientation.turned.Given as goal
@@ -11,4 +12,5 @@ invariant-loop-place l = record {
   size : length l.turned.signs ≡ length l.fn.raw.signs;
   done : AreTurnedBelow (map_of l.fn.raw) l.fn.mask l.turned.signs l.place;
   rest : (k : ℕ) → l.place ≤ k → at l.turned.signs k ≡ at l.fn.raw.signs k;
+  walk : IsAt l.fn.raw.elements l.fn.raw.rank l.place l.s;
 }
