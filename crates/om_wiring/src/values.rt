@@ -109,15 +109,18 @@ fn table_of(chi: &Chirotope) -> [[SignVec; ROOM]; ROOM]
     let elements = chi.elements();
     let mut table = [[SignVec::zero(elements); ROOM]; ROOM];
     for p in 1..elements + 1 {
-        table[p as usize - 1] = rows_of(chi, p);
+        let rows = rows_of(chi, p, &table);
+        table[p as usize - 1] = rows;
     }
     table
 }
 
-/// The rows of one element with each.
-fn rows_of(chi: &Chirotope, p: u8) -> [SignVec; ROOM]
+/// The rows of one element with each, by the rows of the elements before it.
+fn rows_of(chi: &Chirotope, p: u8, table: &[[SignVec; ROOM]]) -> [SignVec; ROOM]
     requires rank { chi.now.rank ≡ 3 }
     requires p { IsElement chi.now.elements p }
+    requires table_room { length table.now ≡ MAX_PLACES }
+    requires before { HasRowsBelow chi.now table.now p }
     ensures room { length result ≡ MAX_PLACES }
     ensures rows { AreRowsBelow chi.now (p ∷ []) result (chi.now.elements + 1) }
 {
@@ -125,26 +128,26 @@ fn rows_of(chi: &Chirotope, p: u8) -> [SignVec; ROOM]
     let mut rows = [SignVec::zero(elements); ROOM];
     for x in 1..elements + 1 {
         if x != p {
-            rows[x as usize - 1] = row_of(chi, p, x);
+            rows[x as usize - 1] = row_of(chi, p, x, table);
         }
     }
     rows
 }
 
-/// The row of two elements that differ.
-fn row_of(chi: &Chirotope, p: u8, x: u8) -> SignVec
+/// The row of two elements that differ: where x comes before p, the negative of its row with p.
+fn row_of(chi: &Chirotope, p: u8, x: u8, table: &[[SignVec; ROOM]]) -> SignVec
     requires rank { chi.now.rank ≡ 3 }
     requires p { IsElement chi.now.elements p }
     requires x { IsElement chi.now.elements x }
     requires apart { x ≢ p }
+    requires table_room { length table.now ≡ MAX_PLACES }
+    requires before { HasRowsBelow chi.now table.now p }
     ensures { result ≡ cocircuit_vector chi.now (p ∷ x ∷ []) }
 {
     let elements = chi.elements();
-    let single = Subset::first(0, elements).with(p);
-    let vector = chi.cocircuit_of(single.with(x));
-    if single.odd_after(x) {
-        vector.neg()
-    } else {
-        vector
+    if x < p {
+        let rows = &table[x as usize - 1];
+        return rows[p as usize - 1].neg();
     }
+    chi.cocircuit_of(Subset::first(0, elements).with(p).with(x))
 }

@@ -1,22 +1,25 @@
-use Rattle.std.proofs.Common.{◌∙◌, refl, ap}
-use Rattle.std.proofs.lemmas.Bool.{false≢true}
-use Rattle.om_subsets.specs.Subsets.{with_element}
-use Rattle.om_wiring.proofs.TableLaws.{pair_size, row_after, row_before}
+use Rattle.std.proofs.Common.{◌≡◌, ◌+◌, ◌-◌, ◌<◌, ◌∙◌, [], ◌∷◌, length, map, sym, ap, subst, arith, get_or}
+use Rattle.std.proofs.lemmas.List.{get_or_default}
+use Rattle.om_signs.specs.declared.limits.TheConstants.{MAX_PLACES}
+use Rattle.om_signs.specs.Sign.{opposite}
+use Rattle.om_chirotope.specs.Pictures.{AreRowsBelow}
+use Rattle.om_wiring.proofs.TableLaws.{row_before}
 use Rattle.om_wiring.proofs.values.row_of.Goals as goal
 
-pub cocircuit_of-vector-requires-clause-size : goal.cocircuit_of-vector-requires-clause-size
-cocircuit_of-vector-requires-clause-size c =
-    pair_size c.args.chi.now c.args.p c.args.x c.with-single.result.elements c.with.result.elements c.requires.p c.requires.apart
-    (c.with-single.ensures.elements ∙ ap (with_element c.args.p) c.first.ensures.elements) c.with.ensures.elements c.requires.rank
-
-pub returns-then-odd_after : goal.returns-then-odd_after
-returns-then-odd_after c =
-    row_before c.args.chi.now c.args.p c.args.x c.with-single.result.elements c.with.result.elements c.requires.p c.requires.apart
-    (c.with-single.ensures.elements ∙ ap (with_element c.args.p) c.first.ensures.elements) c.with.ensures.elements
-    c.cocircuit_of-vector.result c.neg.result c.cocircuit_of-vector.ensures c.neg.ensures (c.if-odd_after.ensures.0 refl)
-
-pub returns-else-odd_after : goal.returns-else-odd_after
-returns-else-odd_after c =
-    row_after c.args.chi.now c.args.p c.args.x c.with-single.result.elements c.with.result.elements c.requires.p c.requires.apart
-    (c.with-single.ensures.elements ∙ ap (with_element c.args.p) c.first.ensures.elements) c.with.ensures.elements
-    c.cocircuit_of-vector.result c.cocircuit_of-vector.ensures (λ o. false≢true (c.if-odd_after.ensures.1 o))
+pub returns-then-x-p : goal.returns-then-x-p
+returns-then-x-p c =
+    let m = c.args.chi.now in
+    let e = c.elements-elements.ensures.value in
+    let few = c.elements-elements.ensures.high in
+    let size = c.requires.table_room in
+    let low = c.requires.x.0 in
+    let before = c.if-x-p.true in
+    let high = c.requires.p.1 in
+    let inside : c.args.x - 1 < length c.args.table.now = omega (arith, e, few, size, low, before, high) in
+    let there : c.index-table-x.result ≡ get_or c.args.table.now (c.args.x - 1) [] = c.index-table-x.is ∙ get_or_default c.args.table.now (c.args.x - 1) c.index-table-x.result [] inside in
+    let rows = subst (λ rs. (length rs ≡ MAX_PLACES) × AreRowsBelow m (c.args.x ∷ []) rs (m.elements + 1)) (sym there) (c.requires.before c.args.x low before) in
+    let long = rows.0 in
+    let within : c.args.p - 1 < length c.index-table-x.result = omega (arith, e, few, long, low, before, high) in
+    c.neg.ensures
+    ∙ ap (map opposite) (get_or_default c.index-table-x.result (c.args.p - 1) c.index-rows-p.result [] within ∙ rows.1.row c.args.p c.requires.p.0 (omega (arith, high)))
+    ∙ row_before m c.args.x c.args.p c.requires.p before
