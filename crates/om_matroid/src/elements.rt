@@ -67,14 +67,15 @@ pub fn parallel(chi: &Chirotope, e: u8, f: u8) -> bool
     let elements = chi.elements();
     let mut first = false;
     let mut second = false;
+    let mut b = Subset::first(rank, elements);
     for k in 0..Subset::choose(elements, rank) {
-        let b = Subset::unrank(k, rank, elements);
         let (with_e, with_f) = in_basis(chi, b, e, f);
         if with_e && with_f && e != f {
             return false;
         }
         first = first || with_e;
         second = second || with_f;
+        b = b.following();
     }
     first && second
 }

@@ -1,4 +1,5 @@
 use Rattle.std.proofs.Common.{◌≢◌, ◌↔◌, IsTrue}
+use Rattle.om_subsets.proofs.Walks.{IsAt}
 use Rattle.om_matroid.proofs.ParallelLaws.{IsSeenBefore, HasBoth}
 use Rattle.om_matroid.proofs.WalkLaws.{HasNoneBefore}
 use Rattle.om_matroid.proofs.elements.parallel.Given as goal
@@ -8,4 +9,5 @@ invariant-loop-k l = record {
   first : IsTrue l.first ↔ IsSeenBefore l.chi l.e l.k;
   second : IsTrue l.second ↔ IsSeenBefore l.chi l.f l.k;
   apart : l.e ≢ l.f → HasNoneBefore (HasBoth l.chi l.e l.f) l.chi.elements l.chi.rank l.k;
+  at : IsAt l.chi.elements l.chi.rank l.k l.b;
 }
