@@ -3,16 +3,14 @@
 -- Main definitions: HoldsBelow, what holds of the triples of the first places.
 -- Main results: held_all and held_before, from the places to the triples;
 -- realized_triple and realizes_from, what it is to realize a map.
-use Rattle.std.proofs.Common.{ℕ, zero, suc, ◌≡◌, ◌≢◌, ◌+◌, ◌<◌, ◌≤◌, List, [], ◌∷◌, length, map, take, refl, sym, ◌∙◌, ap, inl, inr, arith, subst}
-use Rattle.std.proofs.lemmas.Bool.{cases_eq, cases_lt, eq-eqb, ne_eqb}
+use Rattle.std.proofs.Common.{ℕ, ◌≡◌, ◌≢◌, ◌<◌, ◌≤◌, List, [], ◌∷◌, length, map, take, refl, sym, ◌∙◌, ap, inl, inr, arith, subst}
 use Rattle.std.proofs.lemmas.List.{take_all}
 use Rattle.om_signs.specs.declared.sign.Sign.{Sign}
 use Rattle.om_signs.specs.declared.sign.Sign.TheVariants.{Zero}
-use Rattle.om_subsets.specs.Subsets.{choose, all_subsets, subset_at, rank_of, IsSubsetFrom, IsMember, without_element}
+use Rattle.om_subsets.specs.Subsets.{choose, all_subsets, subset_at, rank_of}
 use Rattle.om_subsets.specs.Lists.{IsBefore}
-use Rattle.om_subsets.proofs.Order.{members_from, length-subsets_from, rank_from-lt, get_or-rank_from, lexicographic}
+use Rattle.om_subsets.proofs.Order.{length-subsets_from, rank_from-lt, get_or-rank_from, lexicographic}
 use Rattle.om_subsets.proofs.Statements.{subset_is_increasing}
-use Rattle.om_subsets.proofs.Table.{choose_above}
 use Rattle.om_subsets.specs.Members.{Chosen}
 use Rattle.om_chirotope.specs.Map.{SignMap, chi_of}
 use Rattle.om_chirotope.specs.Chirotope.{IsChirotope}
@@ -63,13 +61,6 @@ pub held_before : (P : List ℕ → Type 0) (n k : ℕ) → HoldsBelow P n k →
 held_before P n k h s i e t j b =
     let before = (lexicographic 1 n t s j.list i.list (j.size ∙ sym i.size)).0 b in
     held P n k h t j (omega arith)
-
--- there are three elements where there is a place
-pub three_elements : (n k : ℕ) → k < choose n 3 → 3 ≤ n
-three_elements n k l = elim (cases_lt n 3) [
-  | inl few ↦ let none = choose_above n 3 few in omega arith
-  | inr ge ↦ ge
-]
 
 -- ---- realizing
 

@@ -42,11 +42,15 @@ fn some_nonzero(vectors: &[Vector]) -> Option<Subset>
     ensures nonzero { IfSome result (λ s. triple_sign vectors.now s.elements ≢ Sign.Zero) }
 {
     let n = vectors.len() as u8;
+    if n < 3 {
+        return None;
+    }
+    let mut s = Subset::first(3, n);
     for place in 0..Subset::choose(n, 3) {
-        let s = Subset::unrank(place, 3, n);
         if sign_of_triple(vectors, s) != Sign::Zero {
             return Some(s);
         }
+        s = s.following();
     }
     None
 }
@@ -58,9 +62,13 @@ fn signs_in_order(alloc: Global, vectors: &[Vector]) -> Result<List<Sign>, NoMem
 {
     let n = vectors.len() as u8;
     let mut signs = List::new(alloc);
+    if n < 3 {
+        return Ok(signs);
+    }
+    let mut s = Subset::first(3, n);
     for place in 0..Subset::choose(n, 3) {
-        let s = Subset::unrank(place, 3, n);
         signs.push(sign_of_triple(vectors, s))?;
+        s = s.following();
     }
     Ok(signs)
 }

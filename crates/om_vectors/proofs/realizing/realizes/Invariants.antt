@@ -1,5 +1,9 @@
+use Rattle.om_subsets.proofs.Walks.{IsAt}
 use Rattle.om_vectors.proofs.Triples.{HoldsBelow, HasItsSign}
 use Rattle.om_vectors.proofs.realizing.realizes.Given as goal
 
 abbrev pub invariant-loop-place : goal.invariant-loop-place
-invariant-loop-place l = HoldsBelow (HasItsSign l.vectors l.chi) l.chi.elements l.place
+invariant-loop-place l = record {
+  held : HoldsBelow (HasItsSign l.vectors l.chi) l.chi.elements l.place;
+  at : IsAt l.chi.elements 3 l.place l.s;
+}

@@ -1,14 +1,38 @@
-use Rattle.std.proofs.Common.{◌≤◌, length}
-use Rattle.om_subsets.specs.Subsets.{choose}
-use Rattle.om_vectors.proofs.Triples.{three_elements, signs_done}
+use Rattle.std.proofs.Common.{◌≤◌, ◌<◌, [], ◌∷◌, ◌++◌, ap, arith, length, map, take, sym, ◌∙◌}
+use Rattle.std.proofs.lemmas.List.{map_more}
+use Rattle.om_subsets.specs.Subsets.{choose, all_subsets}
+use Rattle.om_subsets.proofs.Order.{length-subsets_from}
+use Rattle.om_subsets.proofs.Table.{choose_above}
+use Rattle.om_subsets.proofs.Walks.{at_next, list_at}
+use Rattle.om_vectors.specs.Realizations.{triple_sign}
+use Rattle.om_vectors.proofs.Triples.{signs_done}
 use Rattle.om_vectors.proofs.signs.signs_in_order.Goals as goal
 
-pub unrank-s-requires-clause-part : goal.unrank-s-requires-clause-part
-unrank-s-requires-clause-part c = three_elements (length c.args.vectors.now) c.loop-place.place (rw (← c.choose-place-end.ensures.value) c.loop-place-test.true)
+pub returns-then-n-lt3 : goal.returns-then-n-lt3
+returns-then-n-lt3 c =
+    let none = choose_above (length c.args.vectors.now) 3 c.if-n-lt3.true in
+    signs_done c.args.vectors.now 0 c.new-signs.result (omega (arith, none)) c.new-signs.ensures
+
+pub loop-place-preserved : goal.loop-place-preserved
+loop-place-preserved c =
+    let n = length c.args.vectors.now in
+    let f = triple_sign c.args.vectors.now in
+    let k = c.loop-place.place in
+    let s = c.loop-place.s in
+    let at = c.loop-place.invariant.at in
+    let inside : k < choose n 3 = rw (← c.choose-place-end.ensures.value) c.loop-place-test.true in
+    let few : k < length (all_subsets n 3) = rw (length-subsets_from 1 n 3) inside in
+    record {
+      signs = c.in_ok-push.ensures.ok
+          ∙ ap (λ xs. xs ++ c.sign_of_triple.result ∷ []) c.loop-place.invariant.signs
+          ∙ ap (λ x. map f (take k (all_subsets n 3)) ++ x ∷ []) (c.sign_of_triple.ensures ∙ ap f (list_at n 3 k s inside at))
+          ∙ sym (map_more f (all_subsets n 3) k [] few);
+      at = at_next n 3 k s c.following-s.result c.following-s.ensures.n c.following-s.ensures.size c.following-s.ensures.lawful c.following-s.ensures.place inside at;
+    }
 
 pub returns : goal.returns
 returns c =
     let end = c.choose-place-end.ensures.value in
     let over = c.loop-place-test.false in
     let all : choose (length c.args.vectors.now) 3 ≤ c.loop-place.place = rw (← end) over in
-    signs_done c.args.vectors.now c.loop-place.place c.loop-place.signs all c.loop-place.invariant
+    signs_done c.args.vectors.now c.loop-place.place c.loop-place.signs all c.loop-place.invariant.signs

@@ -1,6 +1,10 @@
 use Rattle.std.proofs.Common.{length}
+use Rattle.om_subsets.proofs.Walks.{IsAt}
 use Rattle.om_vectors.proofs.Triples.{HoldsBelow, HasSignZero}
 use Rattle.om_vectors.proofs.signs.some_nonzero.Given as goal
 
 abbrev pub invariant-loop-place : goal.invariant-loop-place
-invariant-loop-place l = HoldsBelow (HasSignZero l.vectors) (length l.vectors) l.place
+invariant-loop-place l = record {
+  held : HoldsBelow (HasSignZero l.vectors) (length l.vectors) l.place;
+  at : IsAt (length l.vectors) 3 l.place l.s;
+}
