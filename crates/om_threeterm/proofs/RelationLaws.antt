@@ -171,17 +171,6 @@ frame_of m p q a b c d list size four is apart = record {
     off : (e : ℕ) → IsMember e (a ∷ b ∷ c ∷ d ∷ []) → IsMember e p → ⊥
     off e k j = apart e j (subst (IsMember e) (sym is) k)
 
--- no relation of a list that isn't off P
-pub apart_of_unbalanced : (m : SignMap) (p q : List ℕ) → IsUnbalancedList m p q → AreApart p q
-apart_of_unbalanced m p q (a, b, c, d, is, u) e j k = go (subst (IsMember e) is k)
-  where
-    go : IsMember e (a ∷ b ∷ c ∷ d ∷ []) → ⊥
-    go (inl r) = u.frame.a_off (subst (λ x. IsMember x p) r j)
-    go (inr (inl r)) = u.frame.b_off (subst (λ x. IsMember x p) r j)
-    go (inr (inr (inl r))) = u.frame.c_off (subst (λ x. IsMember x p) r j)
-    go (inr (inr (inr (inl r)))) = u.frame.d_off (subst (λ x. IsMember x p) r j)
-    go (inr (inr (inr (inr r)))) = absurd r
-
 -- the order of the four elements of a list
 pub record AreInOrder (n a b c d : ℕ) : Type 0 where
   pub low : 1 ≤ a

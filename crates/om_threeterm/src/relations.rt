@@ -187,7 +187,7 @@ fn value_with(raw: &RawMap, p: Subset, x: u8, y: u8) -> Sign
     requires y_off { IsMember y p.elements → ⊥ }
     ensures { result ≡ value_of (map_of raw.now) (p.elements ++ x ∷ y ∷ []) }
 {
-    let _size = p.size();
+    p.is_lawful();
     let sign = raw.signs.at(p.with(x).with(y).rank() as usize);
     if p.odd_after(x) == p.odd_after(y) {
         sign

@@ -22,8 +22,10 @@ pub fn fill(elements: u8, size: u8, table: &mut [Subset])
     if size > elements {
         return;
     }
+    let mut s = Subset::first(size, elements);
     for place in 0..table.len() {
-        table[place] = Subset::unrank(place as u32, size, elements);
+        table[place] = s;
+        s = s.following();
     }
 }
 
@@ -87,7 +89,7 @@ fn split_least(s: Subset) -> (u8, Subset)
     requires { 1 ≤ length s.elements }
     ensures { s.elements ≡ result.0 ∷ result.1.elements }
 {
-    let _size = s.size();
+    s.is_lawful();
     let mask = s.mask();
     let least = mask.trailing_zeros() as u8 + 1;
     (least, Subset::from_mask(mask & (mask - 1), s.n()))
