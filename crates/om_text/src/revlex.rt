@@ -16,9 +16,10 @@ pub fn values_from_revlex(map: &RawMap) -> Result<List<Sign>, NoMemory>
     ensures { IfOk result (λ signs. signs ≡ values_from_revlex map.now) }
 {
     let mut signs = map.signs.empty_like();
+    let mut subset = Subset::first(map.rank, map.elements);
     for place in 0..Subset::choose(map.elements, map.rank) {
-        let subset = Subset::unrank(place, map.rank, map.elements);
         signs.push(map.signs.at(subset.rank_revlex() as usize))?;
+        subset = subset.following();
     }
     Ok(signs)
 }
