@@ -28,18 +28,18 @@ use Rattle.om_answer.specs.VerdictText.{named, vector_numbers, vector_words, ent
 
 -- ---- numbers
 
--- a range whose numbers are printed and read back
-IsNarrow : Range → Type 0
-IsNarrow (Between low high) = high < 2 ^ 120
-IsNarrow (UpToSize size) = size < 2 ^ 120
+-- the numbers of a range are of a size below 2 ^ 120, so that their decimal digits are read back
+IsRangeIn120Bits : Range → Type 0
+IsRangeIn120Bits (Between low high) = high < 2 ^ 120
+IsRangeIn120Bits (UpToSize size) = size < 2 ^ 120
 
 -- a number is printed as a word, and this is read as the number
 record IsRead (r : Range) (z : ℤ) : Type 0 where
   value : number_within r (signed_decimal z) ≡ Some z
   word : is_word (signed_decimal z) ≡ true
 
-number_read : (r : Range) (z : ℤ) → IsNarrow r → IsIn r z → IsRead r z
-unfolding IsNarrow
+number_read : (r : Range) (z : ℤ) → IsRangeIn120Bits r → IsIn r z → IsRead r z
+unfolding IsRangeIn120Bits
 number_read (Between low high) (pos k) n i =
     let above : low ≤ k = omega (arith, ints, i.0) in
     let below : k ≤ high = omega (arith, ints, i.1) in
@@ -57,17 +57,17 @@ number_read (UpToSize size) z n i =
 between : {low high k : ℕ} → low ≤ k → k ≤ high → IsIn (Between low high) (pos k)
 between l h = (omega (arith, ints), omega (arith, ints))
 
--- ranges of this form
-AreNarrow : List Range → Type 0
-AreNarrow [] = Unit {0}
-AreNarrow (r ∷ rs) = IsNarrow r × AreNarrow rs
+-- each of these ranges is such a one
+AreRangesIn120Bits : List Range → Type 0
+AreRangesIn120Bits [] = Unit {0}
+AreRangesIn120Bits (r ∷ rs) = IsRangeIn120Bits r × AreRangesIn120Bits rs
 
 record AreRead (rs : List Range) (zs : List ℤ) : Type 0 where
   values : numbers_within rs (map signed_decimal zs) ≡ Some zs
   words : list_all is_word (map signed_decimal zs) ≡ true
 
-numbers_read : (rs : List Range) (zs : List ℤ) → AreNarrow rs → AreIn rs zs → AreRead rs zs
-unfolding AreNarrow
+numbers_read : (rs : List Range) (zs : List ℤ) → AreRangesIn120Bits rs → AreIn rs zs → AreRead rs zs
+unfolding AreRangesIn120Bits
 numbers_read [] [] n i = record { values = refl; words = refl }
 numbers_read [] (z ∷ zs) n i = absurd i
 numbers_read (r ∷ rs) [] n i = absurd i
@@ -103,18 +103,18 @@ pub record IsLine {A : Type 0} (line_of : List (List ℕ) → Option A) (ws : Li
   pub value : line_of ws ≡ Some x
   pub words : is_word_line ws ≡ true
 
-vectors_narrow : AreNarrow vector_ranges
-unfolding AreNarrow IsNarrow
-vectors_narrow = (omega arith, (omega arith, (omega arith, tt)))
+vector_ranges_fit : AreRangesIn120Bits vector_ranges
+unfolding AreRangesIn120Bits IsRangeIn120Bits
+vector_ranges_fit = (omega arith, (omega arith, (omega arith, tt)))
 
 pub vector_line : (v : WholeVector) → IsWithinLimit v → IsLine vector_of (vector_words v) v
 vector_line v h =
-    let r = numbers_read vector_ranges (vector_numbers v) vectors_narrow (h.x, (h.y, (h.z, tt))) in
+    let r = numbers_read vector_ranges (vector_numbers v) vector_ranges_fit (h.x, (h.y, (h.z, tt))) in
     record { value = ap (option_and_then vector_from) r.values; words = r.words }
 
-entries_narrow : AreNarrow entry_ranges
-unfolding AreNarrow IsNarrow
-entries_narrow = (omega arith, (omega arith, (omega arith, (omega arith, (omega arith, (omega arith, (omega arith, (omega arith, tt))))))))
+entry_ranges_fit : AreRangesIn120Bits entry_ranges
+unfolding AreRangesIn120Bits IsRangeIn120Bits
+entry_ranges_fit = (omega arith, (omega arith, (omega arith, (omega arith, (omega arith, (omega arith, (omega arith, (omega arith, tt))))))))
 
 relation_read : (strict : Bool) → strictness (relation_name strict) ≡ Some strict
 relation_read true = refl
@@ -130,7 +130,7 @@ entry_in e h = (between h.a.low h.a.high, (between h.b.low h.b.high, (between h.
 
 pub entry_line : (e : Entry) → IsEntryInForm e → IsLine entry_of (entry_words e) e
 entry_line e h =
-    let r = numbers_read entry_ranges (entry_numbers e) entries_narrow (entry_in e h) in
+    let r = numbers_read entry_ranges (entry_numbers e) entry_ranges_fit (entry_in e h) in
     let s = e.statement.strict in
     let ws = map signed_decimal (entry_numbers e) in
     record {
@@ -139,9 +139,9 @@ entry_line e h =
       words = ap (λ b. b && list_all is_word ws) (relation_word s) ∙ r.words;
     }
 
-weights_narrow : AreNarrow weight_ranges
-unfolding AreNarrow IsNarrow
-weights_narrow = (omega arith, (omega arith, (omega arith, (omega arith, tt))))
+weight_ranges_fit : AreRangesIn120Bits weight_ranges
+unfolding AreRangesIn120Bits IsRangeIn120Bits
+weight_ranges_fit = (omega arith, (omega arith, (omega arith, (omega arith, tt))))
 
 weight_in : (w : Weight) → IsWeightInForm w → AreIn weight_ranges (weight_numbers w)
 weight_in w h =
@@ -153,19 +153,19 @@ weight_in w h =
 
 pub weight_line : (w : Weight) → IsWeightInForm w → IsLine weight_of (weight_words w) w
 weight_line w h =
-    let r = numbers_read weight_ranges (weight_numbers w) weights_narrow (weight_in w h) in
+    let r = numbers_read weight_ranges (weight_numbers w) weight_ranges_fit (weight_in w h) in
     record {
       value = ap (option_and_then weight_from) r.values ∙ rw (lt-ltb w.a w.b h.a_b, lt-ltb w.b w.c h.b_c) refl;
       words = r.words;
     }
 
-pivots_narrow : AreNarrow pivots_ranges
-unfolding AreNarrow IsNarrow
-pivots_narrow = (omega arith, tt)
+pivots_ranges_fit : AreRangesIn120Bits pivots_ranges
+unfolding AreRangesIn120Bits IsRangeIn120Bits
+pivots_ranges_fit = (omega arith, tt)
 
 pub pivots_line : (count : ℕ) → count ≤ MAX_PIVOTS → IsLine pivots_of (named (codes "pivots") (pos count ∷ [])) count
 pivots_line count h =
-    let r = numbers_read pivots_ranges (pos count ∷ []) pivots_narrow (between (omega arith) h, tt) in
+    let r = numbers_read pivots_ranges (pos count ∷ []) pivots_ranges_fit (between (omega arith) h, tt) in
     record { value = ap (option_and_then count_from) r.values; words = r.words }
 
 some_numbers : (ns : List ℕ) → 1 ≤ length ns → some_of ns ≡ Some ns
@@ -177,9 +177,9 @@ basis_line basis some plain =
     let r = plain_read basis plain in
     record { value = ap (option_and_then some_of) r.values ∙ some_numbers basis some; words = r.words }
 
-widths_narrow : AreNarrow width_ranges
-unfolding AreNarrow IsNarrow
-widths_narrow = (omega arith, (omega arith, (omega arith, tt)))
+width_ranges_fit : AreRangesIn120Bits width_ranges
+unfolding AreRangesIn120Bits IsRangeIn120Bits
+width_ranges_fit = (omega arith, (omega arith, (omega arith, tt)))
 
 stage_read : (s : Stage) → stage_of (stage_name s) ≡ Some s
 stage_read stage.Price = refl
@@ -195,7 +195,7 @@ stage_word stage.Scale = refl
 
 pub width_line : (s : Stage) (p r c : ℕ) → IsWidthInForm p r c → IsLine width_of (codes "width" ∷ named (stage_name s) (width_numbers p r c)) (lp_end.Width s p r c)
 width_line s p r c h =
-    let k = numbers_read width_ranges (width_numbers p r c) widths_narrow (between (omega arith) h.pivot_most, (between (omega arith) h.row_most, (between (omega arith) h.place_most, tt))) in
+    let k = numbers_read width_ranges (width_numbers p r c) width_ranges_fit (between (omega arith) h.pivot_most, (between (omega arith) h.row_most, (between (omega arith) h.place_most, tt))) in
     let ws = map signed_decimal (width_numbers p r c) in
     record {
       value = ap (option_and_then (λ s. option_and_then (width_from s) (numbers_within width_ranges ws))) (stage_read s)

@@ -49,7 +49,7 @@ fn push_elements(text: &mut Vec<u8>, subset: Subset) -> Result<(), NoMemory>
     ensures { OnOk result (text.new.items ≡ text.old.items ++ join_with_byte 44 (map decimal subset.elements)) }
 {
     let mut before = 0u8;
-    let _size = subset.size();
+    subset.is_lawful();
     for e in 1..subset.n() + 1 {
         if subset.has(e) {
             push_element(text, before, e)?;
