@@ -1,10 +1,14 @@
 //! Inputs with the answers that the format asks for. In the texts a `/` stands for the end of a line.
 
+ghost use Rattle.std.specs.Prelude.{◌≤◌, length};
+ghost use Rattle.om_signs.specs.declared.limits.TheConstants.{MAX_INPUT};
+
 use super::lines::{before_comment, first_line, first_word, has_no_words, same};
+use super::tests_two::upgrade;
 use super::words::{plain_number, signed_number, unsigned_number};
 use super::*;
 use om_signs::{MAX_BLOCKS, MAX_INPUT, MAX_MEMBERS, MAX_MULTIPLICITY, MAX_WEIGHT};
-use std::alloc::Global;
+use std::alloc::{AllocError, Global};
 use std::process::Abort;
 use std::test::Fail;
 
@@ -177,21 +181,113 @@ om 2/circuits 2/names a b/half/ = 5 Missing
 om 2 2 = 1 Version
 om 02 = 1 Version";
 
-/// Inputs and the names that they give.
-const NAMES: &str = "om 2/wiring 3/names a half end/end = a half end
-om 2/chirotope 0 1/names names/order lex/+/end = names
-om 2/circuits 2/names Abcdefghij_01234 _/half/end = Abcdefghij_01234 _
-om 2/covectors 2/names b B/+-/end = b B
+/// Inputs and the names that they give, each as a line.
+const NAMES: &str = "om 2/wiring 3/names a half end/end = a/half/end/
+om 2/chirotope 0 1/names names/order lex/+/end = names/
+om 2/circuits 2/names Abcdefghij_01234 _/half/end = Abcdefghij_01234/_/
+om 2/covectors 2/names b B/+-/end = b/B/
 om 2/covectors 2/half/+-/end = 
 om 1/wiring 3/end = ";
 
-/// The bytes of a text.
-pub fn bytes_of(alloc: Global, text: &str) -> Result<Vec<u8>, Fail> {
-    let mut bytes = Vec::new(alloc);
-    for byte in text.as_bytes() {
-        bytes.push(if *byte == b'/' { b'\n' } else { *byte })?;
+/// Words, and the plain number, the number up to the greatest multiplicity and the signed number up to the greatest weight
+/// that each of them is.
+const NUMBERS: &str =
+    "9223372036854775808 = None Some(9223372036854775808) Some(9223372036854775808)
+9223372036854775809 = None None Some(9223372036854775809)
+0 = Some(0) Some(0) Some(0)
+00 = None None None
+ = None None None
+-1 = None None Some(-1)
+-1267650600228229401496703205376 = None None Some(-1267650600228229401496703205376)
+1267650600228229401496703205377 = None None None
+-0 = None None None
+7 = Some(7) Some(7) Some(7)
+1000000 = None Some(1000000) Some(1000000)
+16 = Some(16) Some(16) Some(16)";
+
+/// Lines behind as many blocks as a wiring may have.
+const BEHIND_BLOCKS: &str = "/ = 4 Missing
+1-2/ = 3 Many
+1-2 1_2/ = 3 Block";
+
+/// What is asked of an input.
+#[derive(Clone, Copy)]
+pub enum Question {
+    /// The canonical form of its document.
+    Canonical,
+    /// How many bytes this form has.
+    Size,
+    /// The canonical form of the document at its front, and then the number of bytes and of lines that were read.
+    Front,
+    /// The names of its document, each as a line.
+    Names,
+    /// The form of its document in version 2.
+    Upgrade,
+    /// The numbers that the word is.
+    Numbers,
+}
+
+/// What is answered. Any error other than the one of a line is want of memory.
+pub fn or_memory<T, E: Drop>(found: Result<T, E>) -> Result<T, ParseError> {
+    match found {
+        Ok(value) => Ok(value),
+        Err(_) => Err(ParseError::Memory),
     }
-    Ok(bytes)
+}
+
+fn canonical(alloc: Global, bytes: &[u8]) -> Result<Vec<u8>, ParseError>
+    requires { length bytes.now ≤ MAX_INPUT }
+{
+    let document = parse(alloc, bytes)?;
+    or_memory(print(alloc, &document))
+}
+
+fn size(alloc: Global, bytes: &[u8]) -> Result<Vec<u8>, ParseError>
+    requires { length bytes.now ≤ MAX_INPUT }
+{
+    let size = canonical(alloc, bytes)?.len();
+    let text = or_memory(format!(in alloc; "{size}"))?;
+    Ok(text.into_bytes())
+}
+
+/// A text with the number of bytes and of lines that were read behind it.
+fn with_sizes(alloc: Global, text: Vec<u8>, len: usize, lines: u32) -> Result<Vec<u8>, ParseError> {
+    let mut out = text;
+    let sizes = or_memory(format!(in alloc; "{len} {lines}"))?;
+    or_memory(out.extend_from_slice(sizes.as_bytes()))?;
+    Ok(out)
+}
+
+fn front(alloc: Global, bytes: &[u8]) -> Result<Vec<u8>, ParseError>
+    requires { length bytes.now ≤ MAX_INPUT }
+{
+    let part = parse_part(alloc, bytes)?;
+    let text = or_memory(print(alloc, &part.0))?;
+    with_sizes(alloc, text, part.1, part.2)
+}
+
+fn push_name(lines: &mut Vec<u8>, name: &Name) -> Result<(), AllocError> {
+    lines.extend_from_slice(name.as_bytes())?;
+    lines.extend_from_slice(b"\n")
+}
+
+fn names(alloc: Global, bytes: &[u8]) -> Result<Vec<u8>, ParseError>
+    requires { length bytes.now ≤ MAX_INPUT }
+{
+    let document = parse(alloc, bytes)?;
+    let mut lines = Vec::new(alloc);
+    for name in document.names.as_slice() {
+        or_memory(push_name(&mut lines, name))?;
+    }
+    Ok(lines)
+}
+
+fn numbers(alloc: Global, word: &[u8]) -> Result<Vec<u8>, ParseError> {
+    let plain = plain_number(word);
+    let unsigned = unsigned_number(word, MAX_MULTIPLICITY);
+    let signed = signed_number(word, MAX_WEIGHT.unsigned_abs());
+    let text = or_memory(format!(in alloc; "{plain:?} {unsigned:?} {signed:?}"))?;
+    Ok(text.into_bytes())
 }
 
 /// The line and the code of a fault.
@@ -205,200 +301,128 @@ fn fault_of(alloc: Global, error: ParseError) -> Result<Vec<u8>, Fail> {
     }
 }
 
-/// What an input is read as: the canonical form of a document, or a fault.
-fn reading(alloc: Global, bytes: &[u8]) -> Result<Vec<u8>, Fail> {
+/// The answer of the reader.
+fn read(alloc: Global, question: Question, bytes: &[u8]) -> Result<Vec<u8>, ParseError>
+    requires { length bytes.now ≤ MAX_INPUT }
+{
+    match question {
+        Question::Canonical => canonical(alloc, bytes),
+        Question::Size => size(alloc, bytes),
+        Question::Front => front(alloc, bytes),
+        Question::Names => names(alloc, bytes),
+        Question::Upgrade => upgrade(alloc, bytes),
+        Question::Numbers => numbers(alloc, bytes),
+    }
+}
+
+/// The answer to a question, or the fault in its place.
+fn answer(alloc: Global, question: Question, bytes: &[u8]) -> Result<Vec<u8>, Fail> {
     if MAX_INPUT < bytes.len() {
         return Err(Fail::new("too long"));
     }
-    match parse(alloc, bytes) {
-        Ok(document) => Ok(print(alloc, &document)?),
+    match read(alloc, question, bytes) {
+        Ok(text) => Ok(text),
         Err(error) => fault_of(alloc, error),
     }
 }
 
-/// What stands at the front of an input: the canonical form of a document with its bytes and lines, or a fault.
-fn front(alloc: Global, bytes: &[u8]) -> Result<Vec<u8>, Fail> {
-    if MAX_INPUT < bytes.len() {
-        return Err(Fail::new("too long"));
-    }
-    match parse_part(alloc, bytes) {
-        Ok((document, len, lines)) => {
-            let mut out = print(alloc, &document)?;
-            let size = format!(in alloc; "{len} {lines}")?;
-            out.extend_from_slice(size.as_bytes())?;
-            Ok(out)
-        }
-        Err(error) => fault_of(alloc, error),
-    }
+/// Whether a text with another behind it is answered by a third one.
+pub fn is_answered(
+    alloc: Global,
+    question: Question,
+    front: &str,
+    text: &str,
+    expected: &str,
+) -> Result<bool, Fail> {
+    let whole = format!(in alloc; "{front}{text}")?;
+    let input = whole.replace(alloc, "/", "\n")?;
+    let found = answer(alloc, question, input.as_bytes())?;
+    let expected = expected.replace(alloc, "/", "\n")?;
+    Ok(found.as_slice() == expected.as_bytes())
 }
 
-/// Asks that each input of a table is read as the answer behind it.
-fn are_read<R: Abort>(rt: &R, alloc: Global, table: &str) -> Result<(), Fail> {
+/// Asks that a text with the one of each row behind it is answered by the text behind the row's ` = `.
+fn are_answered<R: Abort>(
+    rt: &R,
+    alloc: Global,
+    question: Question,
+    front: &str,
+    table: &str,
+) -> Result<(), Fail> {
     for row in table.split('\n') {
-        let (text, answer) = row.split_once(" = ").ok_or("no answer")?;
-        let bytes = bytes_of(alloc, text)?;
-        let found = reading(alloc, bytes.as_slice())?;
-        let expected = bytes_of(alloc, answer)?;
-        assert!(rt; found.as_slice() == expected.as_slice(), "{row}");
+        let (text, expected) = row.split_once(" = ").ok_or("no answer")?;
+        assert!(rt;
+            is_answered(alloc, question, front, text, expected)?,
+            "{row}"
+        );
     }
     Ok(())
 }
 
 #[test]
 fn inputs(rt: HostRuntime) -> Result<(), Fail> {
-    are_read(&rt, rt.alloc(), FAULTS_OF_HEADINGS)?;
-    are_read(&rt, rt.alloc(), FAULTS_OF_BODIES)?;
-    are_read(&rt, rt.alloc(), FAULTS_OF_POINTS)?;
-    are_read(&rt, rt.alloc(), CANONICAL_FORMS)
+    let alloc = rt.alloc();
+    are_answered(&rt, alloc, Question::Canonical, "", FAULTS_OF_HEADINGS)?;
+    are_answered(&rt, alloc, Question::Canonical, "", FAULTS_OF_BODIES)?;
+    are_answered(&rt, alloc, Question::Canonical, "", FAULTS_OF_POINTS)?;
+    are_answered(&rt, alloc, Question::Canonical, "", CANONICAL_FORMS)?;
+    are_answered(&rt, alloc, Question::Front, "", FRONTS)
 }
 
 #[test]
 fn inputs_in_version_two(rt: HostRuntime) -> Result<(), Fail> {
-    are_read(&rt, rt.alloc(), FORMS_IN_TWO)?;
-    are_read(&rt, rt.alloc(), FAULTS_OF_SETTINGS)?;
-    are_read(&rt, rt.alloc(), OTHER_FAULTS_IN_TWO)
+    let alloc = rt.alloc();
+    are_answered(&rt, alloc, Question::Canonical, "", FORMS_IN_TWO)?;
+    are_answered(&rt, alloc, Question::Canonical, "", FAULTS_OF_SETTINGS)?;
+    are_answered(&rt, alloc, Question::Canonical, "", OTHER_FAULTS_IN_TWO)?;
+    are_answered(&rt, alloc, Question::Names, "", NAMES)
 }
 
-/// The names of a document, with single spaces.
-fn joined_names(alloc: Global, bytes: &[u8]) -> Result<Vec<u8>, Fail> {
-    if MAX_INPUT < bytes.len() {
-        return Err(Fail::new("too long"));
-    }
-    let document = match parse(alloc, bytes) {
-        Ok(document) => document,
-        Err(error) => return fault_of(alloc, error),
-    };
-    let mut joined = Vec::new(alloc);
-    for name in document.names.as_slice() {
-        if !joined.is_empty() {
-            joined.push(b' ')?;
-        }
-        joined.extend_from_slice(name.as_bytes())?;
-    }
-    Ok(joined)
-}
-
-#[test]
-fn names_of_elements(rt: HostRuntime) -> Result<(), Fail> {
-    for row in NAMES.split('\n') {
-        let (text, answer) = row.split_once(" = ").ok_or("no answer")?;
-        let bytes = bytes_of(rt.alloc(), text)?;
-        let found = joined_names(rt.alloc(), bytes.as_slice())?;
-        assert!(rt; found.as_slice() == answer.as_bytes(), "{row}");
-    }
-    Ok(())
-}
-
-/// A list of halves on 20 elements with this many lines, no two of them equal or opposite, and the lines behind them.
-fn halves(alloc: Global, count: usize, last: &str) -> Result<Vec<u8>, Fail> {
-    let mut bytes = bytes_of(alloc, "om 2/cocircuits 20/half/")?;
+/// A list of halves on 20 elements with this many lines, no two of them equal or opposite.
+fn halves(alloc: Global, count: usize) -> Result<String, Fail> {
+    let mut lines = String::new(alloc);
     for number in 0..count {
-        bytes.push(b'+')?;
-        for bit in 0..19u32 {
-            bytes.push(if number >> bit & 1 == 1 { b'+' } else { b'-' })?;
-        }
-        bytes.push(b'\n')?;
+        let line = format!(in alloc; "1{number:019b}/")?;
+        lines.push_str(line.as_str())?;
     }
-    let behind = bytes_of(alloc, last)?;
-    bytes.extend_from_slice(behind.as_slice())?;
-    Ok(bytes)
-}
-
-/// Asks that a list of halves with this many lines, and with the lines behind them, has this fault.
-fn halves_fail<R: Abort>(
-    rt: &R,
-    alloc: Global,
-    count: usize,
-    last: &str,
-    fault: &str,
-) -> Result<(), Fail> {
-    let bytes = halves(alloc, count, last)?;
-    let found = reading(alloc, bytes.as_slice())?;
-    assert!(rt; found.as_slice() == fault.as_bytes(), "{fault}");
-    Ok(())
-}
-
-#[test]
-fn halves_past_the_greatest_number_of_members(rt: HostRuntime) -> Result<(), Fail> {
-    // the first line behind them is one of them
-    let last = "-+++++++++++++++++++/+0000000000000000000/";
-    halves_fail(&rt, rt.alloc(), MAX_MEMBERS / 2, last, "2053 Many")
-}
-
-#[test]
-fn halves_that_have_room_for_the_zero_vector_alone(rt: HostRuntime) -> Result<(), Fail> {
-    let last = "00000000000000000000/+0000000000000000000/";
-    halves_fail(&rt, rt.alloc(), MAX_MEMBERS / 2 - 1, last, "2052 Many")
+    let signs = lines.replace(alloc, "0", "-")?.replace(alloc, "1", "+")?;
+    Ok(format!(in alloc; "om 2/cocircuits 20/half/{signs}")?)
 }
 
 #[test]
 fn halves_up_to_the_greatest_number_of_members(rt: HostRuntime) -> Result<(), Fail> {
-    let bytes = halves(rt.alloc(), MAX_MEMBERS / 2, "end")?;
-    let found = reading(rt.alloc(), bytes.as_slice())?;
-    // two lines, a line for each member, and the line `end`
-    assert!(rt; found.len() == 5 + 14 + 21 * MAX_MEMBERS + 4);
-    Ok(())
+    let alloc = rt.alloc();
+    let most = halves(alloc, MAX_MEMBERS / 2)?;
+    // two lines, a line for each member, and the line `end`: 5 + 14 + 21 * 4096 + 4 bytes
+    are_answered(&rt, alloc, Question::Size, most.as_str(), "end = 86039")?;
+    // the first line behind them is one of them
+    let behind = "-+++++++++++++++++++/+0000000000000000000/ = 2053 Many";
+    are_answered(&rt, alloc, Question::Canonical, most.as_str(), behind)
 }
 
 #[test]
-fn documents_at_the_front(rt: HostRuntime) -> Result<(), Fail> {
-    for row in FRONTS.split('\n') {
-        let (text, answer) = row.split_once(" = ").ok_or("no answer")?;
-        let bytes = bytes_of(rt.alloc(), text)?;
-        let found = front(rt.alloc(), bytes.as_slice())?;
-        let expected = bytes_of(rt.alloc(), answer)?;
-        assert!(rt; found.as_slice() == expected.as_slice(), "{row}");
-    }
-    Ok(())
+fn halves_that_have_room_for_the_zero_vector_alone(rt: HostRuntime) -> Result<(), Fail> {
+    let less = halves(rt.alloc(), MAX_MEMBERS / 2 - 1)?;
+    let behind = "00000000000000000000/+0000000000000000000/ = 2052 Many";
+    are_answered(&rt, rt.alloc(), Question::Canonical, less.as_str(), behind)
 }
 
 #[test]
 fn lines_past_the_greatest_number_of_blocks(rt: HostRuntime) -> Result<(), Fail> {
-    let alloc = rt.alloc();
-    for (last, fault) in [
-        ("\n", "4 Missing"),
-        ("1-2\n", "3 Many"),
-        ("1-2 1_2\n", "3 Block"),
-    ] {
-        let mut bytes = bytes_of(alloc, "om 1/wiring 2/")?;
-        for _ in 0..MAX_BLOCKS {
-            bytes.extend_from_slice(b"1-2 ")?;
-        }
-        bytes.extend_from_slice(last.as_bytes())?;
-        let found = reading(alloc, bytes.as_slice())?;
-        assert!(rt; found.as_slice() == fault.as_bytes(), "{fault}");
-    }
-    Ok(())
+    let blocks = "1-2 ".repeat(rt.alloc(), MAX_BLOCKS)?;
+    let front = format!(in rt.alloc(); "om 1/wiring 2/{blocks}")?;
+    are_answered(
+        &rt,
+        rt.alloc(),
+        Question::Canonical,
+        front.as_str(),
+        BEHIND_BLOCKS,
+    )
 }
 
 #[test]
-fn numbers_up_to_a_limit(rt: HostRuntime) {
-    for (word, number) in [
-        ("9223372036854775808", Some(9_223_372_036_854_775_808)),
-        ("9223372036854775809", None),
-        ("0", Some(0)),
-        ("00", None),
-        ("", None),
-        ("-1", None),
-    ] {
-        assert_eq!(rt; unsigned_number(word.as_bytes(), MAX_MULTIPLICITY), number);
-    }
-    for (word, number) in [
-        (
-            "-1267650600228229401496703205376",
-            Some(-1_267_650_600_228_229_401_496_703_205_376),
-        ),
-        ("1267650600228229401496703205377", None),
-        ("-0", None),
-        ("7", Some(7)),
-    ] {
-        assert_eq!(rt;
-            signed_number(word.as_bytes(), MAX_WEIGHT.unsigned_abs()),
-            number
-        );
-    }
-    assert_eq!(rt; plain_number(b"1000000"), None);
-    assert_eq!(rt; plain_number(b"16"), Some(16));
+fn numbers_up_to_a_limit(rt: HostRuntime) -> Result<(), Fail> {
+    are_answered(&rt, rt.alloc(), Question::Numbers, "", NUMBERS)
 }
 
 #[test]

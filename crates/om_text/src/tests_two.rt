@@ -1,13 +1,14 @@
 //! Documents and their forms in version 2.
 
-ghost use Rattle.std.specs.Prelude.{◌≡◌, IsTrue, map};
+ghost use Rattle.std.specs.Prelude.{◌≡◌, ◌≤◌, IsTrue, length, map};
 ghost use Rattle.std.specs.List.{list_all, list_any};
 ghost use Rattle.om_signs.specs.Sign.{opposite};
+ghost use Rattle.om_signs.specs.declared.limits.TheConstants.{MAX_INPUT};
 ghost use Rattle.om_text.specs.Rows.{same_row};
 ghost use Rattle.om_text.specs.PrintTwo.{IsClosedUnderNegation};
 
 use super::body_lines::has_member;
-use super::tests::bytes_of;
+use super::tests::{Question, is_answered, or_memory};
 use super::*;
 use om_signs::{List, MAX_INPUT, SignVec};
 use std::alloc::Global;
@@ -41,35 +42,39 @@ fn is_closed(body: &Body) -> bool
     ensures { IsTrue result → IsClosedUnderNegation body.now }
 {
     match body {
-        Body::Circuits(members) | Body::Cocircuits(members) | Body::Covectors(members) => {
-            are_closed(members)
-        }
-        Body::Chirotope(_) | Body::Wiring(_) | Body::Points(_) => true,
+        Body::Circuits(members) => are_closed(members),
+        Body::Cocircuits(members) => are_closed(members),
+        Body::Covectors(members) => are_closed(members),
+        Body::Chirotope(_) => true,
+        Body::Wiring(_) => true,
+        Body::Points(_) => true,
     }
 }
 
-/// The form in version 2 of the document that bytes are.
-fn upgrade(alloc: Global, bytes: &[u8]) -> Result<Vec<u8>, Fail> {
-    if MAX_INPUT < bytes.len() {
-        return Err(Fail::new("too long"));
-    }
+/// The form in version 2 of the document that bytes are, and nothing where its members aren't closed under negation.
+pub fn upgrade(alloc: Global, bytes: &[u8]) -> Result<Vec<u8>, ParseError>
+    requires { length bytes.now ≤ MAX_INPUT }
+{
     let document = parse(alloc, bytes)?;
     if !is_closed(&document.body) {
-        return Err(Fail::new("not closed under negation"));
+        return Ok(Vec::new(alloc));
     }
-    Ok(print_two(alloc, &document)?)
+    or_memory(print_two(alloc, &document))
 }
 
 #[test]
 fn documents_in_version_two(rt: HostRuntime) -> Result<(), Fail> {
+    let alloc = rt.alloc();
     for row in UPGRADES.split('\n') {
-        let (text, answer) = row.split_once(" = ").ok_or("no answer")?;
-        let bytes = bytes_of(rt.alloc(), text)?;
-        let once = upgrade(rt.alloc(), bytes.as_slice())?;
-        let twice = upgrade(rt.alloc(), once.as_slice())?;
-        let expected = bytes_of(rt.alloc(), answer)?;
-        assert!(rt; once.as_slice() == expected.as_slice(), "{row}");
-        assert!(rt; twice.as_slice() == expected.as_slice(), "{row}");
+        let (text, form) = row.split_once(" = ").ok_or("no form")?;
+        assert!(rt;
+            is_answered(alloc, Question::Upgrade, "", text, form)?,
+            "{row}"
+        );
+        assert!(rt;
+            is_answered(alloc, Question::Upgrade, "", form, form)?,
+            "{row}"
+        );
     }
     Ok(())
 }
