@@ -1,5 +1,8 @@
 //! Claims with what the format says that they are. In the texts a `/` stands for the end of a line.
 
+ghost use Rattle.std.specs.Prelude.{◌≤◌, length};
+ghost use Rattle.om_signs.specs.declared.limits.TheConstants.{MAX_INPUT};
+
 use super::verdict_lines::push_block;
 use super::{Line, print_line, read_claim};
 use om_signs::MAX_INPUT;
@@ -44,13 +47,38 @@ om 1/cocircuits 2/end/realizable/vector 1 0 0/end/
 om 1/covectors 1/0/end/realizable/vector 1 0 0/end/
 om 1/wiring 3/1-2/2-3/1-2/end/realizable/vector 1 0 0/end/";
 
-/// Claims in version 2, and behind the ` = ` the document in version 1 without names; the block is the same.
-const CLAIMS_OF_VERSION_2: &str =
+/// Documents in version 2, and behind the ` = ` the document in version 1 without names; the block behind both is the same.
+const DOCUMENTS_OF_VERSION_2: &str =
     "om 2/chirotope 3 4/names a b c d/order revlex/+++-/end/ = om 1/chirotope 3 4/+++-/end/
 om 2/chirotope 2 4/order revlex/0++000/end/ = om 1/chirotope 2 4/0+0+00/end/
 om 2/points 1/names end/-2 0 5/end/ = om 1/points 1/-2 0 5/end/
 om 2/circuits 2/names half end/half/+-/end/ = om 1/circuits 2/-+/+-/end/
 om 2/covectors 1/half/0/+/end/ = om 1/covectors 1/-/0/+/end/";
+
+/// The block of a claim in version 2.
+const BLOCK: &str = "realizable/vector 1 0 0/end/";
+
+/// Blocks in other layouts, and behind the ` = ` their canonical form.
+const LAYOUTS: &str =
+    "/# a block/realizable # of vectors// \t\r/vector\t1  0 0\r/#/end//# the end/ = realizable/vector 1 0 0/end/
+realizable/end = realizable/end/";
+
+/// First entries of the certificate, before the eight others.
+const FIRST_ENTRIES: &str = "nonrealizable/eq 1 2 3 4 7 3 2 1/
+nonrealizable/eq 1 2 3 4 7 3 2 9223372036854775808/";
+
+/// First entries that have no form, and the line and the code of the fault.
+const FIRST_ENTRIES_OF_NO_FORM: &str = "nonrealizable/eq 1 2 3 4 7 3 2 0/ = 7 entry
+nonrealizable/eq 1 2 3 4 7 3 2 9223372036854775809/ = 7 entry";
+
+/// Lines behind as many vectors as there may be.
+const BEHIND_VECTORS: &str = "vector 0 0 0/ = 26 many
+vector 0 0/ = 26 entry
+vector 0 0 1099511627777/ = 26 entry";
+
+/// Lines behind as many weights as there may be.
+const BEHIND_WEIGHTS: &str = " = 1146 missing
+weight 1 2 3 0/ = 1146 many";
 
 /// Inputs whose first fault lies in the document or behind it: its line and its code.
 const FAULTS_OF_DOCUMENTS: &str = " = 1 missing
@@ -107,219 +135,185 @@ undecided/exhausted/vector 1 0 0/ = 7 entry
 undecided/frontier/exhausted/ = 7 entry";
 
 /// Blocks behind this document whose second line has no form that may stand there.
-const LINES_OF_NO_FORM: &str = "realizable/vector 1 0/
-realizable/vector 1 0 0 0/
-realizable/vector 1 0 -0/
-realizable/vector 01 0 0/
-realizable/vector +1 0 0/
-realizable/vector 1099511627777 0 0/
-realizable/vector 0 0 -1099511627777/
-realizable/vectors 1 0 0/
-realizable/realizable/
-realizable/exhausted/
-realizable/end x/
-undecided/vector 1 0 0/
-undecided/end/
-undecided/frontier x/
-nonrealizable/vector 1 0 0/
-nonrealizable/exhausted/
-nonrealizable/lt 01 2 3 4 5 1 2 1/
-nonrealizable/lt -0 2 3 4 5 1 2 1/
-nonrealizable/lt 0 2 3 4 5 1 2 1/
-nonrealizable/lt 21 2 3 4 5 1 2 1/
-nonrealizable/lt 1 2 3 4 21 1 2 1/
-nonrealizable/eq 1 2 3 4 5 0 2 1/
-nonrealizable/eq 1 2 3 4 5 1 4 1/
-nonrealizable/eq 1 2 3 4 5 1 2 01/
-nonrealizable/eq 1 2 3 4 5 1 2/
-nonrealizable/eq 1 2 3 4 5 1 2 1 1/
-nonrealizable/le 1 2 3 4 5 1 2 1/
-undecided/weight 1 2 3 1267650600228229401496703205377/
-undecided/weight 1 2 3 -1267650600228229401496703205377/
-undecided/weight 1 3 2 0/
-undecided/weight 2 1 3 0/
-undecided/weight 1 1 2 0/
-undecided/weight 1 2 2 0/
-undecided/weight 0 1 2 0/
-undecided/weight 1 2 21 0/
-undecided/weight 1 2 3 -0/
-undecided/weight 1 2 3 00/
-undecided/weight 1 2 3/
-undecided/weight 1 2 3 4 5/
-limit/pivots 1000001/
-limit/pivots 01/
-limit/pivots/
-limit/exhausted/
-limit/end/
-limit/basis 1/
-limit/width prices 1 0 1/
-limit/width price 1000002 0 1/
-limit/width price 1 65536 1/
-limit/width price 1 0 1000000/
-limit/width price 1 0/
-limit/width 1 0 1/";
+const LINES_OF_NO_FORM: &str = "realizable/vector 1 0/ = 6 entry
+realizable/vector 1 0 0 0/ = 6 entry
+realizable/vector 1 0 -0/ = 6 entry
+realizable/vector 01 0 0/ = 6 entry
+realizable/vector +1 0 0/ = 6 entry
+realizable/vector 1099511627777 0 0/ = 6 entry
+realizable/vector 0 0 -1099511627777/ = 6 entry
+realizable/vectors 1 0 0/ = 6 entry
+realizable/realizable/ = 6 entry
+realizable/exhausted/ = 6 entry
+realizable/end x/ = 6 entry
+undecided/vector 1 0 0/ = 6 entry
+undecided/end/ = 6 entry
+undecided/frontier x/ = 6 entry
+nonrealizable/vector 1 0 0/ = 6 entry
+nonrealizable/exhausted/ = 6 entry
+nonrealizable/lt 01 2 3 4 5 1 2 1/ = 6 entry
+nonrealizable/lt -0 2 3 4 5 1 2 1/ = 6 entry
+nonrealizable/lt 0 2 3 4 5 1 2 1/ = 6 entry
+nonrealizable/lt 21 2 3 4 5 1 2 1/ = 6 entry
+nonrealizable/lt 1 2 3 4 21 1 2 1/ = 6 entry
+nonrealizable/eq 1 2 3 4 5 0 2 1/ = 6 entry
+nonrealizable/eq 1 2 3 4 5 1 4 1/ = 6 entry
+nonrealizable/eq 1 2 3 4 5 1 2 01/ = 6 entry
+nonrealizable/eq 1 2 3 4 5 1 2/ = 6 entry
+nonrealizable/eq 1 2 3 4 5 1 2 1 1/ = 6 entry
+nonrealizable/le 1 2 3 4 5 1 2 1/ = 6 entry
+undecided/weight 1 2 3 1267650600228229401496703205377/ = 6 entry
+undecided/weight 1 2 3 -1267650600228229401496703205377/ = 6 entry
+undecided/weight 1 3 2 0/ = 6 entry
+undecided/weight 2 1 3 0/ = 6 entry
+undecided/weight 1 1 2 0/ = 6 entry
+undecided/weight 1 2 2 0/ = 6 entry
+undecided/weight 0 1 2 0/ = 6 entry
+undecided/weight 1 2 21 0/ = 6 entry
+undecided/weight 1 2 3 -0/ = 6 entry
+undecided/weight 1 2 3 00/ = 6 entry
+undecided/weight 1 2 3/ = 6 entry
+undecided/weight 1 2 3 4 5/ = 6 entry
+limit/pivots 1000001/ = 6 entry
+limit/pivots 01/ = 6 entry
+limit/pivots/ = 6 entry
+limit/exhausted/ = 6 entry
+limit/end/ = 6 entry
+limit/basis 1/ = 6 entry
+limit/width prices 1 0 1/ = 6 entry
+limit/width price 1000002 0 1/ = 6 entry
+limit/width price 1 65536 1/ = 6 entry
+limit/width price 1 0 1000000/ = 6 entry
+limit/width price 1 0/ = 6 entry
+limit/width 1 0 1/ = 6 entry";
 
-/// Texts one behind another.
-fn joined(alloc: Global, texts: &[&str]) -> Result<Vec<u8>, Fail> {
-    let mut bytes = Vec::new(alloc);
-    for text in texts {
-        for byte in text.as_bytes() {
-            bytes.push(if *byte == b'/' { b'\n' } else { *byte })?;
-        }
-    }
-    Ok(bytes)
+/// A text with what stands before and behind it.
+fn joined(alloc: Global, around: (&str, &str), text: &str) -> Result<String, Fail> {
+    let (before, behind) = around;
+    let whole = format!(in alloc; "{before}{text}{behind}")?;
+    Ok(whole.replace(alloc, "/", "\n")?)
 }
 
-/// What an input is read as: its document and its block in canonical form, or the line of its first fault.
+/// What is answered. Any error other than the one of a line is want of memory.
+fn or_memory<T, E: Drop>(found: Result<T, E>) -> Result<T, ParseError> {
+    match found {
+        Ok(value) => Ok(value),
+        Err(_) => Err(ParseError::Memory),
+    }
+}
+
+/// The document and the block of a claim in canonical form.
+fn canonical(alloc: Global, bytes: &[u8]) -> Result<Vec<u8>, ParseError>
+    requires { length bytes.now ≤ MAX_INPUT }
+{
+    let claim = read_claim(alloc, bytes)?;
+    let mut text = or_memory(print(alloc, &claim.document))?;
+    or_memory(push_block(&mut text, &claim.verdict))?;
+    Ok(text)
+}
+
+/// The line of a fault.
+fn fault_of(alloc: Global, error: ParseError) -> Result<Vec<u8>, Fail> {
+    match error {
+        ParseError::Line { line, code } => Ok(print_line(
+            alloc,
+            &Line::RefusedLine { line, code },
+        )?),
+        ParseError::Memory => Err(Fail::new("out of memory")),
+    }
+}
+
+/// What an input is read as: a claim in canonical form, or the line of its first fault.
 fn reading(alloc: Global, bytes: &[u8]) -> Result<Vec<u8>, Fail> {
     if MAX_INPUT < bytes.len() {
         return Err(Fail::new("too long"));
     }
-    match read_claim(alloc, bytes) {
-        Ok(claim) => {
-            let mut text = print(alloc, &claim.document)?;
-            push_block(&mut text, &claim.verdict)?;
-            Ok(text)
-        }
-        Err(ParseError::Line { line, code }) => {
-            Ok(print_line(alloc, &Line::RefusedLine { line, code })?)
-        }
-        Err(ParseError::Memory) => Err(Fail::new("out of memory")),
+    match canonical(alloc, bytes) {
+        Ok(text) => Ok(text),
+        Err(error) => fault_of(alloc, error),
     }
 }
 
-/// Asks that texts one behind another are read as others.
-fn read_as<R: Abort>(rt: &R, alloc: Global, texts: &[&str], others: &[&str]) -> Result<(), Fail> {
-    let bytes = joined(alloc, texts)?;
-    let found = reading(alloc, bytes.as_slice())?;
-    let expected = joined(alloc, others)?;
-    assert!(rt; found.as_slice() == expected.as_slice(), "{texts:?}");
-    Ok(())
+/// Whether a text is read as another.
+fn is_read(alloc: Global, text: String, expected: String) -> Result<bool, Fail> {
+    let found = reading(alloc, text.as_bytes())?;
+    Ok(found.as_slice() == expected.as_bytes())
 }
 
-/// Asks that each row of a table, behind a document, has the first fault that the row names.
-fn have_faults<R: Abort>(rt: &R, alloc: Global, document: &str, table: &str) -> Result<(), Fail> {
-    for row in table.split('\n') {
-        let (block, fault) = row.split_once(" = ").ok_or("no fault")?;
-        read_as(
-            rt,
-            alloc,
-            &[document, block],
-            &["refused line ", fault, "/"],
-        )?;
-    }
-    Ok(())
-}
-
-/// A line so many times.
-fn repeated(alloc: Global, line: &str, times: u32) -> Result<String, Fail> {
-    let mut text = String::new(alloc);
-    for _ in 0..times {
-        text.push_str(line)?;
-    }
-    Ok(text)
-}
-
-/// Asks that lines behind a verdict word, and then a last line, have this first fault.
-fn fails_behind<R: Abort>(
+/// Asks that the text of each row of a table is read as the one behind its ` = `, or as itself where there is none. The
+/// pairs are what stands before and behind the text and the answer.
+fn are_read<R: Abort>(
     rt: &R,
     alloc: Global,
-    word: &str,
-    lines: String,
-    last: &str,
-    fault: &str,
+    table: &str,
+    input: (&str, &str),
+    answer: (&str, &str),
 ) -> Result<(), Fail> {
-    let texts = [UNIFORM, word, lines.as_str(), last];
-    read_as(rt, alloc, &texts, &["refused line ", fault, "/"])
+    for row in table.split('\n') {
+        let (text, expected) = row.split_once(" = ").unwrap_or((row, row));
+        assert!(rt;
+            is_read(
+                alloc,
+                joined(alloc, input, text)?,
+                joined(alloc, answer, expected)?
+            )?,
+            "{row}"
+        );
+    }
+    Ok(())
 }
 
 #[test]
 fn claims_in_canonical_form(rt: HostRuntime) -> Result<(), Fail> {
-    for block in BLOCKS.split('\n') {
-        read_as(&rt, rt.alloc(), &[UNIFORM, block], &[UNIFORM, block])?;
-    }
-    for claim in CLAIMS.split('\n') {
-        read_as(&rt, rt.alloc(), &[claim], &[claim])?;
-    }
-    Ok(())
+    let alloc = rt.alloc();
+    are_read(&rt, alloc, BLOCKS, (UNIFORM, ""), (UNIFORM, ""))?;
+    are_read(&rt, alloc, CLAIMS, ("", ""), ("", ""))?;
+    let around = (NON_PAPPUS, EIGHT_ENTRIES);
+    are_read(&rt, alloc, FIRST_ENTRIES, around, around)
 }
 
 #[test]
-fn claims_in_version_2(rt: HostRuntime) -> Result<(), Fail> {
-    let block = "realizable/vector 1 0 0/end/";
-    for row in CLAIMS_OF_VERSION_2.split('\n') {
-        let (claim, document) = row.split_once(" = ").ok_or("no document")?;
-        read_as(&rt, rt.alloc(), &[claim, block], &[document, block])?;
-    }
-    Ok(())
+fn claims_in_other_forms(rt: HostRuntime) -> Result<(), Fail> {
+    let alloc = rt.alloc();
+    are_read(&rt, alloc, LAYOUTS, (UNIFORM, ""), (UNIFORM, ""))?;
+    are_read(&rt, alloc, DOCUMENTS_OF_VERSION_2, ("", BLOCK), ("", BLOCK))
+}
+
+/// What stands before and behind the line and the code of a fault.
+const REFUSED: (&str, &str) = ("refused line ", "/");
+
+#[test]
+fn faults(rt: HostRuntime) -> Result<(), Fail> {
+    let alloc = rt.alloc();
+    are_read(&rt, alloc, FAULTS_OF_DOCUMENTS, ("", ""), REFUSED)?;
+    are_read(&rt, alloc, FAULTS_OF_BLOCKS, (UNIFORM, ""), REFUSED)?;
+    are_read(&rt, alloc, LINES_OF_NO_FORM, (UNIFORM, ""), REFUSED)?;
+    let around = (NON_PAPPUS, EIGHT_ENTRIES);
+    are_read(&rt, alloc, FIRST_ENTRIES_OF_NO_FORM, around, REFUSED)
 }
 
 #[test]
-fn claims_in_other_layouts(rt: HostRuntime) -> Result<(), Fail> {
-    let block = "/# a block/realizable # of vectors// \t\r/vector\t1  0 0\r/#/end//# the end/";
-    let canonical = "realizable/vector 1 0 0/end/";
-    read_as(&rt, rt.alloc(), &[UNIFORM, block], &[UNIFORM, canonical])?;
-    read_as(
+fn lines_past_the_greatest_number_of_vectors(rt: HostRuntime) -> Result<(), Fail> {
+    let vectors = "vector 0 0 0/".repeat(rt.alloc(), 20)?;
+    let front = format!(in rt.alloc(); "{UNIFORM}realizable/{vectors}")?;
+    are_read(
         &rt,
         rt.alloc(),
-        &[UNIFORM, "realizable/end"],
-        &[UNIFORM, "realizable/end/"],
+        BEHIND_VECTORS,
+        (front.as_str(), ""),
+        REFUSED,
     )
 }
 
 #[test]
-fn certificates(rt: HostRuntime) -> Result<(), Fail> {
-    for first in [
-        "nonrealizable/eq 1 2 3 4 7 3 2 1/",
-        "nonrealizable/eq 1 2 3 4 7 3 2 9223372036854775808/",
-    ] {
-        let texts = [NON_PAPPUS, first, EIGHT_ENTRIES];
-        read_as(&rt, rt.alloc(), &texts, &texts)?;
-    }
-    for first in [
-        "nonrealizable/eq 1 2 3 4 7 3 2 0/",
-        "nonrealizable/eq 1 2 3 4 7 3 2 9223372036854775809/",
-    ] {
-        let texts = [NON_PAPPUS, first, EIGHT_ENTRIES];
-        read_as(&rt, rt.alloc(), &texts, &["refused line 7 entry/"])?;
-    }
-    Ok(())
-}
-
-#[test]
-fn faults(rt: HostRuntime) -> Result<(), Fail> {
-    have_faults(&rt, rt.alloc(), "", FAULTS_OF_DOCUMENTS)?;
-    have_faults(&rt, rt.alloc(), UNIFORM, FAULTS_OF_BLOCKS)?;
-    for block in LINES_OF_NO_FORM.split('\n') {
-        read_as(
-            &rt,
-            rt.alloc(),
-            &[UNIFORM, block],
-            &["refused line 6 entry/"],
-        )?;
-    }
-    Ok(())
-}
-
-#[test]
-fn lines_past_the_greatest_numbers(rt: HostRuntime) -> Result<(), Fail> {
-    let vector = "vector 0 0 0/";
-    let weight = "weight 1 2 3 0/";
-    for (word, line, times, last, fault) in [
-        ("realizable/", vector, 20, vector, "26 many"),
-        ("realizable/", vector, 20, "vector 0 0/", "26 entry"),
-        (
-            "realizable/",
-            vector,
-            20,
-            "vector 0 0 1099511627777/",
-            "26 entry",
-        ),
-        ("undecided/", weight, 1_140, "", "1146 missing"),
-        ("undecided/", weight, 1_140, weight, "1146 many"),
-    ] {
-        let lines = repeated(rt.alloc(), line, times)?;
-        fails_behind(&rt, rt.alloc(), word, lines, last, fault)?;
-    }
-    Ok(())
+fn lines_past_the_greatest_number_of_weights(rt: HostRuntime) -> Result<(), Fail> {
+    let weights = "weight 1 2 3 0/".repeat(rt.alloc(), 1_140)?;
+    let front = format!(in rt.alloc(); "{UNIFORM}undecided/{weights}")?;
+    are_read(
+        &rt,
+        rt.alloc(),
+        BEHIND_WEIGHTS,
+        (front.as_str(), ""),
+        REFUSED,
+    )
 }

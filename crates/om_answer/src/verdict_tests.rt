@@ -1,46 +1,21 @@
 //! Texts of verdicts that are written out; those with vectors are tested through the whole program.
 
 ghost use Rattle.std.specs.Prelude.{◌≤◌, All, IfOk};
-ghost use Rattle.om_signs.specs.declared.limits.TheConstants.{MAX_ELEMENTS, MAX_PLAIN, MAX_PIVOTS};
+ghost use Rattle.om_signs.specs.declared.limits.TheConstants.{MAX_PLAIN};
 ghost use Rattle.om_certificate.specs.Forms.{IsEntryInForm, AreWeightsInForm, ArePivotsInForm, IsVerdictInForm};
 
 use super::{print_verdict, read_claim};
 use om_certificate::{Entry, LpEnd, Stage, Verdict, Weight};
-use om_chirotope::{Chirotope, check};
+use om_chirotope::Chirotope;
 use om_grassmann::Statement;
-use om_signs::{List, MAX_INPUT, MAX_VALUES, NoMemory, RawMap, Sign};
+use om_samples::chirotope_of;
+use om_signs::{List, MAX_INPUT, MAX_VALUES, NoMemory};
 use om_subsets::Subset;
 use om_vectors::Unfound;
 use std::alloc::Global;
 use std::process::Abort;
 use std::test::Fail;
 use std::thread::Threads;
-
-/// The chirotope of rank 3 with all values plus.
-fn uniform<R: Threads + Sync + Abort>(
-    rt: &R,
-    alloc: Global,
-    elements: u8,
-) -> Result<Chirotope, Fail>
-    requires low { 3 ≤ elements }
-    requires high { elements ≤ MAX_ELEMENTS }
-{
-    let count = Subset::choose(elements, 3) as usize;
-    let mut signs = List::new(alloc);
-    for _ in 0..count {
-        signs.push(Sign::Plus)?;
-    }
-    assert_eq!(rt; signs.len(), Subset::choose(elements, 3) as usize);
-    let raw = RawMap {
-        rank: 3,
-        elements,
-        signs,
-    };
-    match check(rt, raw) {
-        Ok(chi) => Ok(chi),
-        Err(_) => Err(Fail::new("no chirotope")),
-    }
-}
 
 /// Whether a verdict on this chirotope is printed as this text, and the text is read.
 fn is_printed(
@@ -149,47 +124,52 @@ fn first_basis(alloc: Global) -> Result<List<u32>, NoMemory>
     Ok(basis)
 }
 
+/// Asks that a verdict on the chirotope of rank 3 with these signs has this text.
+fn prints<R: Threads + Sync + Abort>(
+    rt: &R,
+    alloc: Global,
+    elements: u8,
+    signs: &str,
+    verdict: Verdict,
+    expected: &str,
+) -> Result<(), Fail>
+    requires { IsVerdictInForm verdict }
+{
+    let chi = chirotope_of(rt, alloc, 3, elements, signs)?;
+    assert!(rt; is_printed(alloc, &chi, &verdict, expected)?, "{expected}");
+    Ok(())
+}
+
 #[test]
 fn nonrealizable(rt: HostRuntime) -> Result<(), Fail> {
-    let alloc = rt.alloc();
-    let chi = uniform(&rt, alloc, 5)?;
-    let verdict = Verdict::Nonrealizable(two_entries(alloc)?);
+    let verdict = Verdict::Nonrealizable(two_entries(rt.alloc())?);
     let expected =
         "om 1\nchirotope 3 5\n++++++++++\nend\nnonrealizable\nlt 1 2 3 4 5 1 2 9223372036854775808\neq 5 4 3 2 1 3 1 7\nend\n";
-    assert!(rt; is_printed(alloc, &chi, &verdict, expected)?);
-    Ok(())
+    prints(&rt, rt.alloc(), 5, "++++++++++", verdict, expected)
 }
 
 #[test]
 fn undecided(rt: HostRuntime) -> Result<(), Fail> {
-    let alloc = rt.alloc();
-    let chi = uniform(&rt, alloc, 4)?;
-    let verdict = Verdict::Undecided(four_weights(alloc)?, Unfound::Exhausted);
+    let verdict = Verdict::Undecided(four_weights(rt.alloc())?, Unfound::Exhausted);
     let expected =
         "om 1\nchirotope 3 4\n++++\nend\nundecided\nweight 1 2 3 1\nweight 1 2 4 1\nweight 1 3 4 1\nweight 2 3 4 1\nexhausted\nend\n";
-    assert!(rt; is_printed(alloc, &chi, &verdict, expected)?);
-    Ok(())
+    prints(&rt, rt.alloc(), 4, "++++", verdict, expected)
 }
 
 #[test]
 fn limit_when_exhausted(rt: HostRuntime) -> Result<(), Fail> {
-    let alloc = rt.alloc();
-    let chi = uniform(&rt, alloc, 5)?;
     let end = LpEnd::Pivots {
         count: 1,
-        basis: first_basis(alloc)?,
+        basis: first_basis(rt.alloc())?,
     };
     let verdict = Verdict::Limit(end, Unfound::Exhausted);
     let expected =
         "om 1\nchirotope 3 5\n++++++++++\nend\nlimit\npivots 1\nbasis 12 2 3 4 5 6 7 8 9 10 11\nexhausted\nend\n";
-    assert!(rt; is_printed(alloc, &chi, &verdict, expected)?);
-    Ok(())
+    prints(&rt, rt.alloc(), 5, "++++++++++", verdict, expected)
 }
 
 #[test]
 fn limit_at_a_width(rt: HostRuntime) -> Result<(), Fail> {
-    let alloc = rt.alloc();
-    let chi = uniform(&rt, alloc, 4)?;
     let end = LpEnd::Width {
         stage: Stage::Update,
         pivot: 1_000_001,
@@ -199,6 +179,5 @@ fn limit_at_a_width(rt: HostRuntime) -> Result<(), Fail> {
     let verdict = Verdict::Limit(end, Unfound::Exhausted);
     let expected =
         "om 1\nchirotope 3 4\n++++\nend\nlimit\nwidth update 1000001 65535 0\nexhausted\nend\n";
-    assert!(rt; is_printed(alloc, &chi, &verdict, expected)?);
-    Ok(())
+    prints(&rt, rt.alloc(), 4, "++++", verdict, expected)
 }
