@@ -17,12 +17,12 @@ use Rattle.om_propagation.proofs.RankLaws.{rank_for}
 use Rattle.om_convert.specs.declared.convert_error.ConvertError.{ConvertError}
 use Rattle.om_convert.specs.declared.convert_error.ConvertError.TheVariants.{TooWide, TooMany, Memory}
 use Rattle.om_convert.proofs.SameFamilies.{joined}
-use Rattle.om_convert.specs.Limits.{IsCause, IsWidth, IsWidthCause, IsListCause, IsTooWideFor, IsNarrow}
+use Rattle.om_convert.specs.Limits.{IsCause, IsWidth, IsWidthCause, IsListCause, IsTooWideFor, HasFewValuesFor}
 
 -- ---- by the rank
 
 module _ (n : ℕ) (P : List Sign → Type 0) (rank : ℕ) (r : IsRankFor n P rank) where
-  pub narrow_by_rank : choose n rank ≤ MAX_VALUES → IsNarrow n P
+  pub narrow_by_rank : choose n rank ≤ MAX_VALUES → HasFewValuesFor n P
   narrow_by_rank few values w =
       let same : choose n w.map.rank ≡ choose n rank = ap (choose n) (sym (r.each w.map w.axioms w.elements w.same)) in
       let number = w.number in
@@ -87,7 +87,7 @@ choose_three (suc n) l =
 pub few_triples : (n : ℕ) → n ≤ MAX_ELEMENTS → choose n 3 ≤ MAX_VALUES
 few_triples n l = let a = choose_three n l in omega (arith, a, l)
 
-pub narrow_of_rank_3 : (n : ℕ) (P : List Sign → Type 0) (m : SignMap) → n ≤ MAX_ELEMENTS → IsChirotope m → m.elements ≡ n → DenoteTheSame n P (IsCovectorOfChirotope m) → m.rank ≡ 3 → IsNarrow n P
+pub narrow_of_rank_3 : (n : ℕ) (P : List Sign → Type 0) (m : SignMap) → n ≤ MAX_ELEMENTS → IsChirotope m → m.elements ≡ n → DenoteTheSame n P (IsCovectorOfChirotope m) → m.rank ≡ 3 → HasFewValuesFor n P
 narrow_of_rank_3 n P m high om q same three = narrow_by_rank n P 3 (rank_for n P m om q same 3 (sym three)) (few_triples n high)
 
 -- ---- causes
@@ -98,7 +98,7 @@ module _ (n : ℕ) (P Q : List Sign → Type 0) where
   list_of_width (TooMany limit) h = absurd h
   list_of_width Memory h = tt
 
-  pub list_of_cause : IsNarrow n P → (e : ConvertError) → IsCause Q e → IsListCause n P Q e
+  pub list_of_cause : HasFewValuesFor n P → (e : ConvertError) → IsCause Q e → IsListCause n P Q e
   list_of_cause narrow (TooWide values) h = absurd h
   list_of_cause narrow (TooMany limit) h = (h.0, h.1, narrow)
   list_of_cause narrow Memory h = tt

@@ -27,8 +27,8 @@ pub record IsTooWideFor (n : ℕ) (P : List Sign → Type 0) (values : ℕ) : Ty
   pub wide : MAX_VALUES < values
 
 -- its chirotope has no more values than a chirotope keeps
-abbrev pub IsNarrow : ℕ → (List Sign → Type 0) → Type 0
-IsNarrow n P = (values : ℕ) → IsTooWideFor n P values → ⊥
+abbrev pub HasFewValuesFor : ℕ → (List Sign → Type 0) → Type 0
+HasFewValuesFor n P = (values : ℕ) → IsTooWideFor n P values → ⊥
 
 -- why the members of a chirotope are not listed: there are more than a list may have, and the answer names this number; or want of memory
 abbrev pub IsCause : (List Sign → Type 0) → ConvertError → Type 0
@@ -51,5 +51,5 @@ IsWidthCause n P Memory = Unit {0}
 -- why a list with the covectors P is not made the list of the family Q: its chirotope is too wide; or it isn't, and there are more members than a list may have; or want of memory
 abbrev pub IsListCause : ℕ → (List Sign → Type 0) → (List Sign → Type 0) → ConvertError → Type 0
 IsListCause n P Q (TooWide values) = IsTooWideFor n P values
-IsListCause n P Q (TooMany limit) = (limit ≡ MAX_MEMBERS) × HasMoreThan MAX_MEMBERS Q × IsNarrow n P
+IsListCause n P Q (TooMany limit) = (limit ≡ MAX_MEMBERS) × HasMoreThan MAX_MEMBERS Q × HasFewValuesFor n P
 IsListCause n P Q Memory = Unit {0}

@@ -10,7 +10,7 @@ ghost use Rattle.om_denotation.specs.Denotation.{DenoteTheSame};
 ghost use Rattle.om_denotation.specs.Listings.{AreAllOf};
 ghost use Rattle.om_denotation.specs.Only.{IsOnlyChirotope};
 ghost use Rattle.om_subsets.specs.Subsets.{choose};
-ghost use Rattle.om_convert.specs.Limits.{IsNarrow, IsWidth, IsWidthCause};
+ghost use Rattle.om_convert.specs.Limits.{HasFewValuesFor, IsWidth, IsWidthCause};
 
 use super::convert_error::ConvertError;
 use super::covectors::covectors_to_cocircuits;
@@ -38,7 +38,7 @@ pub fn circuits_to_chirotope(alloc: Global, c: &Circuits) -> Result<Chirotope, C
         DenoteTheSame c.now.0.elements (IsCovectorOfCircuits c.now.0) (IsCovectorOfChirotope m)) }
     ensures normal { IfOk result (λ m. IsLedBy Plus m.signs) }
     ensures unique { IfOk result IsOnlyChirotope }
-    ensures narrow { OnOk result (IsNarrow c.now.0.elements (IsCovectorOfCircuits c.now.0)) }
+    ensures narrow { OnOk result (HasFewValuesFor c.now.0.elements (IsCovectorOfCircuits c.now.0)) }
     ensures refused { IfErr result (IsWidthCause c.now.0.elements (IsCovectorOfCircuits c.now.0)) }
 {
     let rank = rank_circuits(c);
@@ -61,7 +61,7 @@ pub fn cocircuits_to_chirotope(alloc: Global, c: &Cocircuits) -> Result<Chirotop
         DenoteTheSame c.now.0.elements (IsCovectorOfCocircuits c.now.0) (IsCovectorOfChirotope m)) }
     ensures normal { IfOk result (λ m. IsLedBy Plus m.signs) }
     ensures unique { IfOk result IsOnlyChirotope }
-    ensures narrow { OnOk result (IsNarrow c.now.0.elements (IsCovectorOfCocircuits c.now.0)) }
+    ensures narrow { OnOk result (HasFewValuesFor c.now.0.elements (IsCovectorOfCocircuits c.now.0)) }
     ensures refused { IfErr result (IsWidthCause c.now.0.elements (IsCovectorOfCocircuits c.now.0)) }
 {
     let rank = rank_cocircuits(c);
@@ -84,7 +84,7 @@ pub fn covectors_to_chirotope(alloc: Global, c: &Covectors) -> Result<Chirotope,
         DenoteTheSame c.now.elements (Contains c.now.members) (IsCovectorOfChirotope m)) }
     ensures normal { IfOk result (λ m. IsLedBy Plus m.signs) }
     ensures unique { IfOk result IsOnlyChirotope }
-    ensures narrow { OnOk result (IsNarrow c.now.elements (Contains c.now.members)) }
+    ensures narrow { OnOk result (HasFewValuesFor c.now.elements (Contains c.now.members)) }
     ensures refused { IfErr result (IsWidthCause c.now.elements (Contains c.now.members)) }
 {
     let rank = rank_covectors(c);

@@ -8,7 +8,7 @@ ghost use Rattle.om_denotation.specs.Denotation.{DenoteTheSame};
 ghost use Rattle.om_denotation.specs.Listings.{AreAllOf};
 ghost use Rattle.om_denotation.specs.Only.{AreOnlyCircuits, AreOnlyCocircuits, AreOnlyCovectors};
 ghost use Rattle.om_denotation.specs.Vectors.{IsVectorOf};
-ghost use Rattle.om_convert.specs.Limits.{IsListCause, IsNarrow, IsWithinLimit};
+ghost use Rattle.om_convert.specs.Limits.{IsListCause, HasFewValuesFor, IsWithinLimit};
 
 use super::chirotopes::{chirotope_to_circuits, chirotope_to_cocircuits, chirotope_to_covectors};
 use super::convert_error::ConvertError;
@@ -36,7 +36,7 @@ pub fn circuits_to_cocircuits(alloc: Global, c: &Circuits) -> Result<Cocircuits,
         DenoteTheSame c.now.0.elements (IsCovectorOfCircuits c.now.0) (IsCovectorOfCocircuits d.0)) }
     ensures unique { IfOk result (λ d. AreOnlyCocircuits d.0) }
     ensures few { OnOk result (IsWithinLimit (IsOfLeastSupport (IsCovectorOfCircuits c.now.0))) }
-    ensures narrow { OnOk result (IsNarrow c.now.0.elements (IsCovectorOfCircuits c.now.0)) }
+    ensures narrow { OnOk result (HasFewValuesFor c.now.0.elements (IsCovectorOfCircuits c.now.0)) }
     ensures refused { IfErr result (IsListCause c.now.0.elements (IsCovectorOfCircuits c.now.0) (IsOfLeastSupport (IsCovectorOfCircuits c.now.0))) }
 {
     let chi = circuits_to_chirotope(alloc, c)?;
@@ -62,7 +62,7 @@ pub fn circuits_to_covectors(alloc: Global, c: &Circuits) -> Result<Covectors, C
         DenoteTheSame c.now.0.elements (IsCovectorOfCircuits c.now.0) (IsCovectorOfCovectors d)) }
     ensures unique { IfOk result AreOnlyCovectors }
     ensures few { OnOk result (IsWithinLimit (IsCovectorOfCircuits c.now.0)) }
-    ensures narrow { OnOk result (IsNarrow c.now.0.elements (IsCovectorOfCircuits c.now.0)) }
+    ensures narrow { OnOk result (HasFewValuesFor c.now.0.elements (IsCovectorOfCircuits c.now.0)) }
     ensures refused { IfErr result (IsListCause c.now.0.elements (IsCovectorOfCircuits c.now.0) (IsCovectorOfCircuits c.now.0)) }
 {
     let chi = circuits_to_chirotope(alloc, c)?;
@@ -88,7 +88,7 @@ pub fn cocircuits_to_covectors(alloc: Global, c: &Cocircuits) -> Result<Covector
         DenoteTheSame c.now.0.elements (IsCovectorOfCocircuits c.now.0) (IsCovectorOfCovectors d)) }
     ensures unique { IfOk result AreOnlyCovectors }
     ensures few { OnOk result (IsWithinLimit (IsCovectorOfCocircuits c.now.0)) }
-    ensures narrow { OnOk result (IsNarrow c.now.0.elements (IsCovectorOfCocircuits c.now.0)) }
+    ensures narrow { OnOk result (HasFewValuesFor c.now.0.elements (IsCovectorOfCocircuits c.now.0)) }
     ensures refused { IfErr result (IsListCause c.now.0.elements (IsCovectorOfCocircuits c.now.0) (IsCovectorOfCocircuits c.now.0)) }
 {
     let chi = cocircuits_to_chirotope(alloc, c)?;
@@ -115,7 +115,7 @@ pub fn cocircuits_to_circuits(alloc: Global, c: &Cocircuits) -> Result<Circuits,
         DenoteTheSame c.now.0.elements (IsCovectorOfCocircuits c.now.0) (IsCovectorOfCircuits d.0)) }
     ensures unique { IfOk result (λ d. AreOnlyCircuits d.0) }
     ensures few { OnOk result (IsWithinLimit (IsOfLeastSupport (IsVectorOf c.now.0.elements (IsCovectorOfCocircuits c.now.0)))) }
-    ensures narrow { OnOk result (IsNarrow c.now.0.elements (IsCovectorOfCocircuits c.now.0)) }
+    ensures narrow { OnOk result (HasFewValuesFor c.now.0.elements (IsCovectorOfCocircuits c.now.0)) }
     ensures refused { IfErr result (IsListCause c.now.0.elements (IsCovectorOfCocircuits c.now.0) (IsOfLeastSupport (IsVectorOf c.now.0.elements (IsCovectorOfCocircuits c.now.0)))) }
 {
     let chi = cocircuits_to_chirotope(alloc, c)?;
@@ -142,7 +142,7 @@ pub fn covectors_to_circuits(alloc: Global, c: &Covectors) -> Result<Circuits, C
         DenoteTheSame c.now.elements (Contains c.now.members) (IsCovectorOfCircuits d.0)) }
     ensures unique { IfOk result (λ d. AreOnlyCircuits d.0) }
     ensures few { OnOk result (IsWithinLimit (IsOfLeastSupport (IsVectorOf c.now.elements (Contains c.now.members)))) }
-    ensures narrow { OnOk result (IsNarrow c.now.elements (Contains c.now.members)) }
+    ensures narrow { OnOk result (HasFewValuesFor c.now.elements (Contains c.now.members)) }
     ensures refused { IfErr result (IsListCause c.now.elements (Contains c.now.members) (IsOfLeastSupport (IsVectorOf c.now.elements (Contains c.now.members)))) }
 {
     let chi = covectors_to_chirotope(alloc, c)?;

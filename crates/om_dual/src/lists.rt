@@ -2,7 +2,7 @@
 
 ghost use Rattle.std.specs.Prelude.{◌≡◌, IfOk, IfErr, OnOk};
 ghost use Rattle.std.specs.List.{Contains};
-ghost use Rattle.om_convert.specs.Limits.{IsListCause, IsNarrow, IsWithinLimit};
+ghost use Rattle.om_convert.specs.Limits.{IsListCause, HasFewValuesFor, IsWithinLimit};
 ghost use Rattle.om_denotation.specs.Covectors.{IsCovectorOfCircuits, IsCovectorOfCocircuits, IsCovectorOfCovectors};
 ghost use Rattle.om_denotation.specs.Listings.{AreAllOf};
 ghost use Rattle.om_denotation.specs.Only.{AreOnlyCircuits, AreOnlyCocircuits, AreOnlyCovectors};
@@ -57,7 +57,7 @@ pub fn dual_covectors(alloc: Global, c: &Covectors) -> Result<Covectors, Convert
     ensures dual { IfOk result (λ d. IsDual c.now.elements (Contains c.now.members) (IsCovectorOfCovectors d)) }
     ensures unique { IfOk result AreOnlyCovectors }
     ensures few { OnOk result (IsWithinLimit (IsVectorOf c.now.elements (Contains c.now.members))) }
-    ensures narrow { OnOk result (IsNarrow c.now.elements (Contains c.now.members)) }
+    ensures narrow { OnOk result (HasFewValuesFor c.now.elements (Contains c.now.members)) }
     ensures refused { IfErr result (IsListCause c.now.elements (Contains c.now.members) (IsVectorOf c.now.elements (Contains c.now.members))) }
 {
     let chi = covectors_to_chirotope(alloc, c)?;

@@ -17,7 +17,7 @@ use Rattle.om_denotation.specs.Covectors.{IsCovectorOfChirotope, IsCovectorOfCoc
 use Rattle.om_denotation.specs.Denotation.{DenoteTheSame}
 use Rattle.om_denotation.specs.Maps.{IsNormalFormOf}
 use Rattle.om_denotation.proofs.Uniqueness.{same_by_covectors, one_normal_form}
-use Rattle.om_convert.specs.Limits.{IsNarrow}
+use Rattle.om_convert.specs.Limits.{HasFewValuesFor}
 use Rattle.om_convert.proofs.WidthLaws.{narrow_of_rank_3}
 use Rattle.om_make.specs.Lists.{ListsCocircuits, ListsCovectors}
 use Rattle.om_make.specs.Tallies.{ComesBack}
@@ -56,7 +56,7 @@ back_from_covectors m k c lists ok elements same led =
 -- ---- widths
 
 -- the chirotope of the cocircuits of a map of rank 3 has no more values than a chirotope keeps
-pub narrow_cocircuits : (m : SignMap) (c : Listing) → ListsCocircuits m c → m.rank ≡ 3 → m.elements ≤ MAX_ELEMENTS → IsNarrow c.elements (IsCovectorOfCocircuits c)
+pub narrow_cocircuits : (m : SignMap) (c : Listing) → ListsCocircuits m c → m.rank ≡ 3 → m.elements ≤ MAX_ELEMENTS → HasFewValuesFor c.elements (IsCovectorOfCocircuits c)
 narrow_cocircuits m c lists three high =
     let few = subst (λ k. k ≤ MAX_ELEMENTS) (sym lists.elements) high in
     narrow_of_rank_3 c.elements (IsCovectorOfCocircuits c) m few lists.axioms (sym lists.elements) (λ X size. (
@@ -65,7 +65,7 @@ narrow_cocircuits m c lists three high =
     )) three
 
 -- and so has that of its covectors
-pub narrow_covectors : (m : SignMap) (c : Listing) → ListsCovectors m c → m.rank ≡ 3 → m.elements ≤ MAX_ELEMENTS → IsNarrow c.elements (Contains c.members)
+pub narrow_covectors : (m : SignMap) (c : Listing) → ListsCovectors m c → m.rank ≡ 3 → m.elements ≤ MAX_ELEMENTS → HasFewValuesFor c.elements (Contains c.members)
 narrow_covectors m c lists three high =
     let few = subst (λ k. k ≤ MAX_ELEMENTS) (sym lists.elements) high in
     narrow_of_rank_3 c.elements (Contains c.members) m few lists.axioms (sym lists.elements) (λ X size. (

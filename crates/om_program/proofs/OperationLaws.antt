@@ -14,7 +14,7 @@ use Rattle.om_chirotope.specs.Map.{SignMap}
 use Rattle.om_members.specs.Listings.{Listing}
 use Rattle.om_convert.specs.declared.convert_error.ConvertError.{ConvertError}
 use Rattle.om_convert.specs.declared.convert_error.ConvertError.TheVariants as convert
-use Rattle.om_convert.specs.Limits.{IsListCause, IsNarrow, IsWithinLimit}
+use Rattle.om_convert.specs.Limits.{IsListCause, HasFewValuesFor, IsWithinLimit}
 use Rattle.om_convert.proofs.SameFamilies as families
 use Rattle.om_denotation.specs.Covectors.{IsCovectorOfChirotope, IsCovectorOfCovectors}
 use Rattle.om_denotation.specs.Operations.{IsDual}
@@ -55,10 +55,10 @@ module _ (c : Listing) where
     λ v. (v.0, λ Y size y. v.1 Y size (record { size = size; member = y })),
   )
 
-  narrow_kept : IsNarrow c.elements (Contains c.members) → IsKeptToMake operation.Dual (covectors_document c)
+  narrow_kept : HasFewValuesFor c.elements (Contains c.members) → IsKeptToMake operation.Dual (covectors_document c)
   narrow_kept narrow values (way, is) = kept_covectors c narrow values is
 
-  pub dual_outcome : (d : Listing) → d.elements ≡ c.elements → IsDual c.elements (Contains c.members) (IsCovectorOfCovectors d) → IsNarrow c.elements (Contains c.members) → IsWithinLimit (IsVectorOf c.elements (Contains c.members)) → IsOutcome operation.Dual (covectors_document c) (Ok (representation.Covectors d))
+  pub dual_outcome : (d : Listing) → d.elements ≡ c.elements → IsDual c.elements (Contains c.members) (IsCovectorOfCovectors d) → HasFewValuesFor c.elements (Contains c.members) → IsWithinLimit (IsVectorOf c.elements (Contains c.members)) → IsOutcome operation.Dual (covectors_document c) (Ok (representation.Covectors d))
   dual_outcome d count dual narrow few = (
     λ none. none,
     (

@@ -14,7 +14,7 @@ use Rattle.om_subsets.specs.Subsets.{choose}
 use Rattle.om_subsets.proofs.Places.{choose_all}
 use Rattle.om_chirotope.specs.Chirotope.{IsChirotope}
 use Rattle.om_chirotope.specs.Map.{SignMap}
-use Rattle.om_convert.specs.Limits.{IsTooWideFor, IsNarrow}
+use Rattle.om_convert.specs.Limits.{IsTooWideFor, HasFewValuesFor}
 use Rattle.om_denotation.specs.Covectors.{IsCovectorOfChirotope, IsCovectorOfCircuits, IsCovectorOfCocircuits, IsCovectorOfCovectors}
 use Rattle.om_denotation.specs.Denotation.{DenoteTheSame}
 use Rattle.om_members.specs.Listings.{Listing}
@@ -181,7 +181,7 @@ module _ (d : Document) (P : List Sign → Type 0) where
       let number : values ≡ choose d.elements w.map.rank = w.number ∙ ap (λ n. choose n w.map.rank) (elements w.map w.of) in
       record { width = w; value = value; other = λ three. not_rank3 d.elements w.map.rank values high number w.wide (sym value ∙ three) }
 
-  kept_list : ((m : SignMap) → IsChirotopeOf d m → IsNormalChirotopeOf d m) → ((Q : List Sign → Type 0) → DenoteTheSame d.elements (IsCovectorIn d) Q → DenoteTheSame d.elements P Q) → IsNarrow d.elements P → IsKept d
+  kept_list : ((m : SignMap) → IsChirotopeOf d m → IsNormalChirotopeOf d m) → ((Q : List Sign → Type 0) → DenoteTheSame d.elements (IsCovectorIn d) Q → DenoteTheSame d.elements P Q) → HasFewValuesFor d.elements P → IsKept d
   kept_list normal covectors narrow values w =
       let of = normal w.map w.of in
       narrow values (record {
@@ -194,13 +194,13 @@ module _ (d : Document) (P : List Sign → Type 0) where
         wide = w.wide;
       })
 
-pub kept_circuits : (s : Listing) → IsNarrow s.elements (IsCovectorOfCircuits s) → IsKept (circuits_document s)
+pub kept_circuits : (s : Listing) → HasFewValuesFor s.elements (IsCovectorOfCircuits s) → IsKept (circuits_document s)
 kept_circuits s = kept_list (circuits_document s) (IsCovectorOfCircuits s) (λ m is. is) (λ Q same. same)
 
 pub wide_circuits : (s : Listing) (rank values : ℕ) → s.elements ≤ MAX_ELEMENTS → IsTooWideFor s.elements (IsCovectorOfCircuits s) values → IsEachOfRank s.elements (IsCovectorOfCircuits s) rank → IsTooWideOfRank (circuits_document s) rank values
 wide_circuits s rank values high w = too_wide_of_rank (circuits_document s) (IsCovectorOfCircuits s) rank values high (too_wide (circuits_document s) (IsCovectorOfCircuits s) values tt (λ m is. is) (λ Q same. same) w) (λ m is. is.elements)
 
-pub kept_cocircuits : (s : Listing) → IsNarrow s.elements (IsCovectorOfCocircuits s) → IsKept (cocircuits_document s)
+pub kept_cocircuits : (s : Listing) → HasFewValuesFor s.elements (IsCovectorOfCocircuits s) → IsKept (cocircuits_document s)
 kept_cocircuits s = kept_list (cocircuits_document s) (IsCovectorOfCocircuits s) (λ m is. is) (λ Q same. same)
 
 pub wide_cocircuits : (s : Listing) (rank values : ℕ) → s.elements ≤ MAX_ELEMENTS → IsTooWideFor s.elements (IsCovectorOfCocircuits s) values → IsEachOfRank s.elements (IsCovectorOfCocircuits s) rank → IsTooWideOfRank (cocircuits_document s) rank values
@@ -213,7 +213,7 @@ same_covectors s Q same x size = (λ h. (same x size).0 h.member, λ q. record {
 same_members : (s : Listing) (Q : List Sign → Type 0) → DenoteTheSame s.elements (IsCovectorOfCovectors s) Q → DenoteTheSame s.elements (Contains s.members) Q
 same_members s Q same x size = (λ h. (same x size).0 (record { size = size; member = h }), λ q. ((same x size).1 q).member)
 
-pub kept_covectors : (s : Listing) → IsNarrow s.elements (Contains s.members) → IsKept (covectors_document s)
+pub kept_covectors : (s : Listing) → HasFewValuesFor s.elements (Contains s.members) → IsKept (covectors_document s)
 kept_covectors s = kept_list (covectors_document s) (Contains s.members) (λ m is. is) (same_members s)
 
 too_wide_list : (s : Listing) (values : ℕ) → IsTooWideFor s.elements (Contains s.members) values → (w : IsTooWide (covectors_document s) values) × ((r : ℕ) → IsEachOfRank s.elements (Contains s.members) r → r ≡ w.map.rank)

@@ -43,7 +43,7 @@ use Rattle.om_matroid.proofs.ListLaws.{subset_without}
 use Rattle.om_denotation.proofs.ChirotopeBridge.{tuples_of, cocircuit_function, cocircuit_supported, cocircuit_list, increasing_subset}
 use Rattle.om_denotation.proofs.ListFunctions.{at_place, place_function}
 use Rattle.om_denotation.proofs.Uniqueness.{tuples_at}
-use Rattle.om_propagation.specs.Hitting.{IsMet, MeetsEach, MissesSome, IsNormalOf, carried_sign, IsCarried, HasNoneCarried, AreFirstSigns}
+use Rattle.om_propagation.specs.Hitting.{IsNonzeroOn, MeetsEach, MissesSome, IsNormalOf, carried_sign, IsCarried, HasNoneCarried, AreFirstSigns}
 use Rattle.om_propagation.proofs.HittingLaws.{Meets, base_hits, hitting_base, vanishing_same}
 use Rattle.om_propagation.proofs.SetLaws.{with_without, exchanged_before, first_new, IsFirstNew}
 
@@ -94,10 +94,10 @@ carry p q s t y z n k j e =
 
 -- ---- sets and vectors
 
-pub met_function : (n : ℕ) (s : List ℕ) (Y : List Sign) → IsSubsetFrom 1 n s → IsMet s Y → Meets s (as_function Y)
+pub met_function : (n : ℕ) (s : List ℕ) (Y : List Sign) → IsSubsetFrom 1 n s → IsNonzeroOn s Y → Meets s (as_function Y)
 met_function n s Y list (e, m, k) = let low = (members_from 1 n e s list m).0 in (e, m, λ z. k (place_function Y e low ∙ z))
 
-pub met_list : (s : List ℕ) (Y : List Sign) → Meets s (as_function Y) → IsMet s Y
+pub met_list : (s : List ℕ) (Y : List Sign) → Meets s (as_function Y) → IsNonzeroOn s Y
 met_list s Y (zero, m, k) = absurd (k refl)
 met_list s Y (suc i, m, k) = (suc i, m, λ z. k (sym (at_place Y i) ∙ z))
 
@@ -190,7 +190,7 @@ module _ (n : ℕ) (members : List (List Sign)) (m : SignMap) (h : IsNormalOf n 
           let k = meets_all rest rest_list each (along chi rest) f in
           k.2 (along_member_zero E chi om rest k.0 k.1)
 
-      module _ (Y : List Sign) (y : Contains members Y) (missed : IsMet rest Y → ⊥) where
+      module _ (Y : List Sign) (y : Contains members Y) (missed : IsNonzeroOn rest Y → ⊥) where
         same : AreEqualUpToSign (as_function Y) (along chi rest)
         same = vanishing_same E chi om rest e own_nonzero (as_function Y) (of_member Y y)
             (λ g k. ⊎_elim (λ z. z) (λ nz. absurd (missed (met_list rest Y (g, k, nz)))) (zero_or_nonzero (as_function Y g)))

@@ -52,7 +52,7 @@ use Rattle.om_denotation.proofs.Rules.{same_maps}
 use Rattle.om_denotation.proofs.NormalForms.{normal_elements}
 use Rattle.om_denotation.proofs.Uniqueness.{normal_axioms}
 use Rattle.om_denotation.proofs.DualMaps.{dual_tuples, dual_axioms}
-use Rattle.om_propagation.specs.Hitting.{IsMet, MeetsFamily, MissesOne, IsNonzeroMember, IsNarrowed, IsLeastMeeting, IsNormalOf, IsRankOfNormal, IsEachNormalOf, AreFirstSigns}
+use Rattle.om_propagation.specs.Hitting.{IsNonzeroOn, MeetsFamily, MissesOne, IsNonzeroMember, IsNarrowed, IsLeastMeeting, IsNormalOf, IsRankOfNormal, IsEachNormalOf, AreFirstSigns}
 use Rattle.om_propagation.proofs.HittingLaws.{meets_or_zero}
 use Rattle.om_propagation.proofs.CarryLaws.{met_list}
 
@@ -67,13 +67,13 @@ member_bit n s b list mask e m =
     (mask.holds (e - 1) (omega (arith, low, high))).1 (subst (λ j. IsMember j s) (sym q) m)
 
 pub meets_test : (n : ℕ) (Y : List Sign) (s : List ℕ) (a b : ℕ) → length Y ≡ n → IsSubsetFrom 1 n s → IsMaskOf (length Y) (IsNonzero Y) a → IsMaskOf n (λ i. IsMember (i + 1) s) b
-    → IsTrue (not (nat_eq (bit_and a b) 0)) ↔ IsMet s Y
+    → IsTrue (not (nat_eq (bit_and a b) 0)) ↔ IsNonzeroOn s Y
 meets_test n Y s a b l list ha hb = elim (meets_or_zero s (as_function Y)) [
   | inl met ↦ ((λ t. met_list s Y met), (λ k. common k))
   | inr zeros ↦ ((λ t. absurd (apart zeros t)), (λ k. common k))
 ]
   where
-    common : IsMet s Y → IsTrue (not (nat_eq (bit_and a b) 0))
+    common : IsNonzeroOn s Y → IsTrue (not (nat_eq (bit_and a b) 0))
     common (e, m, k) =
         let one : bit_at (bit_and a b) (e - 1) ≡ 1 = bit_at_and a b (e - 1) ∙ rw ((support_bit Y a ha (e - 1)).1 k, member_bit n s b list hb e m) refl in
         let ne : bit_and a b ≢ 0 = (λ z. (zero_mask (bit_and a b)).0 z (e - 1) one) in
@@ -100,7 +100,7 @@ meets_test n Y s a b l list ha hb = elim (meets_or_zero s (as_function Y)) [
         not_both q = cc
 
 -- what is zero or met is met where it isn't zero
-pub passed : (Y : List Sign) (s : List ℕ) → IsZero Y ⊎ IsMet s Y → (IsZero Y → ⊥) → IsMet s Y
+pub passed : (Y : List Sign) (s : List ℕ) → IsZero Y ⊎ IsNonzeroOn s Y → (IsZero Y → ⊥) → IsNonzeroOn s Y
 passed Y s h nonzero = ⊎_elim (λ z. absurd (nonzero z)) (λ m. m) h
 
 -- ---- the members of a list

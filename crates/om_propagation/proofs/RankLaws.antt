@@ -48,7 +48,7 @@ use Rattle.om_denotation.proofs.FunctionLaws.{nonzero_element}
 use Rattle.om_denotation.proofs.ListExistence.{of_covectors}
 use Rattle.om_denotation.proofs.NormalForms.{normal_covectors, normal_rank, normal_elements}
 use Rattle.om_denotation.proofs.Uniqueness.{same_by_covectors, normal_axioms}
-use Rattle.om_propagation.specs.Hitting.{IsMet, MeetsFamily, IsNonzeroMember, IsLeastMeeting, IsNormalOf, IsRankOfNormal}
+use Rattle.om_propagation.specs.Hitting.{IsNonzeroOn, MeetsFamily, IsNonzeroMember, IsLeastMeeting, IsNormalOf, IsRankOfNormal}
 use Rattle.om_propagation.specs.Ranks.{IsRankFor}
 use Rattle.om_propagation.proofs.HittingLaws.{Meets, sharp_base}
 use Rattle.om_propagation.proofs.CarryLaws.{met_function, met_list}
@@ -84,7 +84,7 @@ module _ (m : SignMap) (om : IsChirotope m) where
         sharp e k =
             let y = l.least e k in
             let c = part y.0 y.1 in
-            let missed : IsMet (without_element e s) c.0 → ⊥ = (λ met. y.2 (met.0, met.1, c.2 met.0 met.2)) in
+            let missed : IsNonzeroOn (without_element e s) c.0 → ⊥ = (λ met. y.2 (met.0, met.1, c.2 met.0 met.2)) in
             (as_function c.0, cocircuit_function m c.0 c.1, λ g j ne. ⊎_elim (λ z. z) (λ nz. absurd (missed (met_list (without_element e s) c.0 (g, (members_without e g s).1 (ne, j), nz)))) (zero_or_nonzero (as_function c.0 g)))
 
 not_zero : (X : List Sign) → HasNonzero X → IsZero X → ⊥

@@ -15,16 +15,16 @@ use Rattle.om_denotation.specs.Circuits.{IsCocircuitOfChirotope}
 use Rattle.om_denotation.specs.Listings.{AreAllOf}
 
 -- not zero at some element of a set
-abbrev pub IsMet : List ℕ → List Sign → Type 0
-IsMet s Y = (e : ℕ) × IsMember e s × (place Y e ≢ Zero)
+abbrev pub IsNonzeroOn : List ℕ → List Sign → Type 0
+IsNonzeroOn s Y = (e : ℕ) × IsMember e s × (place Y e ≢ Zero)
 
 -- each vector of a family is nonzero at some element of the set
 abbrev pub MeetsFamily : (List Sign → Type 0) → List ℕ → Type 0
-MeetsFamily P s = (Y : List Sign) → P Y → IsMet s Y
+MeetsFamily P s = (Y : List Sign) → P Y → IsNonzeroOn s Y
 
 -- some vector of a family is zero on the set
 abbrev pub MissesOne : (List Sign → Type 0) → List ℕ → Type 0
-MissesOne P s = (Y : List Sign) × P Y × (IsMet s Y → ⊥)
+MissesOne P s = (Y : List Sign) × P Y × (IsNonzeroOn s Y → ⊥)
 
 -- each vector of a list is nonzero at some element of the set
 abbrev pub MeetsEach : List (List Sign) → List ℕ → Type 0
@@ -75,7 +75,7 @@ pub record IsCarried (n : ℕ) (members : List (List Sign)) (before : List Sign)
   pub inside : IsMember e t
   pub vector : List Sign
   pub member : Contains members vector
-  pub missed : IsMet (without_element e t) vector → ⊥
+  pub missed : IsNonzeroOn (without_element e t) vector → ⊥
   pub other : ℕ
   pub low : 1 ≤ other
   pub below : other < e
@@ -86,7 +86,7 @@ pub record IsCarried (n : ℕ) (members : List (List Sign)) (before : List Sign)
 pub record IsLeastAt (members : List (List Sign)) (t : List ℕ) (e : ℕ) : Type 0 where
   pub vector : List Sign
   pub member : Contains members vector
-  pub missed : IsMet (without_element e t) vector → ⊥
+  pub missed : IsNonzeroOn (without_element e t) vector → ⊥
   pub zero : (h : ℕ) → 1 ≤ h → h < e → place vector h ≡ Zero
 
 -- no sign is carried to t over its element e: t without e meets each vector, or no smaller element takes the place of e

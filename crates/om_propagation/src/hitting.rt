@@ -5,7 +5,7 @@ ghost use Rattle.std.specs.List.{Contains};
 ghost use Rattle.om_members.specs.Listings.{HaveLength};
 ghost use Rattle.om_members.specs.Vectors.{IsZero};
 ghost use Rattle.om_subsets.specs.Subsets.{IsSubsetFrom};
-ghost use Rattle.om_propagation.specs.Hitting.{IsMet, MeetsEach, MeetsFamily, IsNonzeroMember, IsNarrowed, IsLeastMeeting};
+ghost use Rattle.om_propagation.specs.Hitting.{IsNonzeroOn, MeetsEach, MeetsFamily, IsNonzeroMember, IsNarrowed, IsLeastMeeting};
 
 use om_members::is_zero;
 use om_signs::{MAX_ELEMENTS, SignVec};
@@ -14,7 +14,7 @@ use om_subsets::Subset;
 /// Whether a vector is nonzero at some element of a set.
 pub fn meets(y: SignVec, s: Subset) -> bool
     requires { length y ≡ s.n }
-    ensures { IsTrue result ↔ IsMet s.elements y }
+    ensures { IsTrue result ↔ IsNonzeroOn s.elements y }
 {
     s.is_lawful();
     y.support() & s.mask() != 0
@@ -25,7 +25,7 @@ pub fn first_missed(vectors: &[SignVec], s: Subset) -> Option<SignVec>
     requires { HaveLength s.n vectors.now }
     ensures none { IfNone result (MeetsEach vectors.now s.elements) }
     ensures contained { IfSome result (Contains vectors.now) }
-    ensures missed { IfSome result (λ y. IsMet s.elements y → ⊥) }
+    ensures missed { IfSome result (λ y. IsNonzeroOn s.elements y → ⊥) }
 {
     for y in vectors {
         if !meets(*y, s) {
@@ -38,7 +38,7 @@ pub fn first_missed(vectors: &[SignVec], s: Subset) -> Option<SignVec>
 /// Whether a vector is zero, or nonzero at some element of a set.
 fn passes(y: SignVec, s: Subset) -> bool
     requires { length y ≡ s.n }
-    ensures { IsTrue result ↔ (IsZero y ⊎ IsMet s.elements y) }
+    ensures { IsTrue result ↔ (IsZero y ⊎ IsNonzeroOn s.elements y) }
 {
     is_zero(y) || meets(y, s)
 }
@@ -49,7 +49,7 @@ fn first_nonzero_missed(vectors: &[SignVec], s: Subset) -> Option<SignVec>
     ensures none { IfNone result (MeetsFamily (IsNonzeroMember vectors.now) s.elements) }
     ensures contained { IfSome result (Contains vectors.now) }
     ensures nonzero { IfSome result (λ y. IsZero y → ⊥) }
-    ensures missed { IfSome result (λ y. IsMet s.elements y → ⊥) }
+    ensures missed { IfSome result (λ y. IsNonzeroOn s.elements y → ⊥) }
 {
     for y in vectors {
         if !passes(*y, s) {

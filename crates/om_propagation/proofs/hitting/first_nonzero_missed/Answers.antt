@@ -1,13 +1,13 @@
 use Rattle.std.proofs.Common.{ℕ, List, arith}
 use Rattle.om_signs.specs.declared.sign.Sign.{Sign}
 use Rattle.om_members.specs.Vectors.{IsZero}
-use Rattle.om_propagation.specs.Hitting.{IsMet}
+use Rattle.om_propagation.specs.Hitting.{IsNonzeroOn}
 use Rattle.om_propagation.proofs.MeetingLaws.{met_more, met_all, passed}
 use Rattle.om_propagation.proofs.hitting.first_nonzero_missed.Goals as goal
 
 -- met where it isn't zero
 abbrev IsMetUnlessZero : List ℕ → List Sign → Type 0
-IsMetUnlessZero s Y = (IsZero Y → ⊥) → IsMet s Y
+IsMetUnlessZero s Y = (IsZero Y → ⊥) → IsNonzeroOn s Y
 
 pub loop-y-init : goal.loop-y-init
 loop-y-init c = λ k l. absurd (omega arith)

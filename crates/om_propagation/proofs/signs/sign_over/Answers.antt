@@ -3,7 +3,7 @@ use Rattle.std.proofs.lemmas.List.{get_or_default}
 use Rattle.om_signs.specs.declared.sign.Sign.TheVariants.{Minus, Zero}
 use Rattle.om_signs.specs.SignVec.{at}
 use Rattle.om_subsets.specs.Subsets.{rank_of, with_element, without_element}
-use Rattle.om_propagation.specs.Hitting.{IsMet, MeetsEach, carried_sign}
+use Rattle.om_propagation.specs.Hitting.{IsNonzeroOn, MeetsEach, carried_sign}
 use Rattle.om_propagation.proofs.CarryLaws.{earlier_place}
 use Rattle.om_propagation.proofs.signs.sign_over.Goals as goal
 
@@ -15,7 +15,7 @@ pub bounds-before-rank : goal.bounds-before-rank
 bounds-before-rank c =
     let q = place_of c.args.t.n c.without-a.result.n c.with-other.result.n c.args.e c.in-Some-first_below.h c.rank.result c.args.t.elements c.without-a.result.elements c.with-other.result.elements
     c.without-a.ensures.n c.without-a.ensures.elements c.with-other.ensures.n c.with-other.ensures.elements c.rank.ensures.value in
-    let missed = subst (λ a. IsMet a c.in-Some.y → ⊥) c.without-a.ensures.elements c.in-Some.ensures.missed in
+    let missed = subst (λ a. IsNonzeroOn a c.in-Some.y → ⊥) c.without-a.ensures.elements c.in-Some.ensures.missed in
     subst (λ k. k < length c.args.before.now) (sym q) (subst (λ k. rank_of c.args.t.n (with_element c.in-Some-first_below.h (without_element c.args.e c.args.t.elements)) < k) c.requires.place
     (earlier_place c.args.t.n c.args.t.elements c.args.e c.in-Some-first_below.h c.requires.lawful (c.has.ensures.0 c.if-not-has.false) c.in-Some-first_below.ensures.low c.in-Some-first_below.ensures.high
     (λ m. missed (c.in-Some-first_below.h, m, c.in-Some-first_below.ensures.nonzero))))
@@ -27,7 +27,7 @@ pub returns-in-Some-first_below-clause-some : goal.returns-in-Some-first_below-c
 returns-in-Some-first_below-clause-some c =
     let q = place_of c.args.t.n c.without-a.result.n c.with-other.result.n c.args.e c.in-Some-first_below.h c.rank.result c.args.t.elements c.without-a.result.elements c.with-other.result.elements
     c.without-a.ensures.n c.without-a.ensures.elements c.with-other.ensures.n c.with-other.ensures.elements c.rank.ensures.value in
-    let missed = subst (λ a. IsMet a c.in-Some.y → ⊥) c.without-a.ensures.elements c.in-Some.ensures.missed in
+    let missed = subst (λ a. IsNonzeroOn a c.in-Some.y → ⊥) c.without-a.ensures.elements c.in-Some.ensures.missed in
     let few : c.rank.result < length c.args.before.now = subst (λ k. k < length c.args.before.now) (sym q) (subst (λ k. rank_of c.args.t.n (with_element c.in-Some-first_below.h (without_element c.args.e c.args.t.elements)) < k) c.requires.place
     (earlier_place c.args.t.n c.args.t.elements c.args.e c.in-Some-first_below.h c.requires.lawful (c.has.ensures.0 c.if-not-has.false) c.in-Some-first_below.ensures.low c.in-Some-first_below.ensures.high
     (λ m. missed (c.in-Some-first_below.h, m, c.in-Some-first_below.ensures.nonzero)))) in
@@ -35,7 +35,7 @@ returns-in-Some-first_below-clause-some c =
       inside = c.has.ensures.0 c.if-not-has.false;
       vector = c.in-Some.y;
       member = c.in-Some.ensures.contained;
-      missed = subst (λ a. IsMet a c.in-Some.y → ⊥) c.without-a.ensures.elements c.in-Some.ensures.missed;
+      missed = subst (λ a. IsNonzeroOn a c.in-Some.y → ⊥) c.without-a.ensures.elements c.in-Some.ensures.missed;
       other = c.in-Some-first_below.h;
       low = c.in-Some-first_below.ensures.low;
       below = c.in-Some-first_below.ensures.high;
