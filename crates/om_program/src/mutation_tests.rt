@@ -1,71 +1,20 @@
 //! Runs of the commands on wirings and mutations.
 
-use crate::status::Status;
-use crate::tests::{Case, UNIFORM, ends};
+use crate::tests::runs;
 use std::test::Fail;
 
-/// The all-plus chirotope of five elements.
-const FIVE: &str = "om 1\nchirotope 3 5\n++++++++++\nend\n";
-
-/// The chirotope of Pappus' theorem, with its last triple on a line.
-const NINE: &str =
-    "om 1\nchirotope 3 9\n0++++++++++++--------0-0++++++++++----0---+0+++++---0+-0++++++++\n0------------------0\nend\n";
-
-const PAIR: &str = "om 1\nchirotope 2 3\n+++\nend\n";
+/// Mutations and flips.
+const MUTATIONS: &str =
+    "mutations | om 1/chirotope 3 4/++++/end/ | 0 | mutations 4/1,2,3/1,2,4/1,3,4/2,3,4/end/
+mutations | om 1/chirotope 3 5/++++++++++/end/ | 0 | mutations 5/1,2,3/1,2,5/1,4,5/2,3,4/3,4,5/end/
+mutations | om 1/chirotope 2 3/+++/end/ | 1 | refused notrank3 2/
+flip 1 2 3 | om 1/chirotope 3 4/++++/end/ | 0 | om 1/chirotope 3 4/-+++/end/
+flip 1 2 4 | om 1/chirotope 3 5/++++++++++/end/ | 1 | refused notmutation 1,2,3,4 1,5/
+flip 1 2 3 | om 1/chirotope 3 9/0++++++++++++--------0-0++++++++++----0---+0+++++---0+-0++++++++/0------------------0/end/ | 1 | refused notbasis/
+flip 1 2 4 | om 1/chirotope 2 3/+++/end/ | 1 | refused place 4/
+flip 1 2 3 | om 1/chirotope 2 3/+++/end/ | 1 | refused notrank3 2/";
 
 #[test]
 fn wirings_mutations_and_flips(rt: HostRuntime) -> Result<(), Fail> {
-    for (words, input, status, text) in [
-        (
-            &["mutations"][..],
-            UNIFORM,
-            Status::Done,
-            "mutations 4\n1,2,3\n1,2,4\n1,3,4\n2,3,4\nend\n",
-        ),
-        (
-            &["mutations"],
-            FIVE,
-            Status::Done,
-            "mutations 5\n1,2,3\n1,2,5\n1,4,5\n2,3,4\n3,4,5\nend\n",
-        ),
-        (
-            &["mutations"],
-            PAIR,
-            Status::Refused,
-            "refused notrank3 2\n",
-        ),
-        (
-            &["flip", "1", "2", "3"],
-            UNIFORM,
-            Status::Done,
-            "om 1\nchirotope 3 4\n-+++\nend\n",
-        ),
-        (
-            &["flip", "1", "2", "4"],
-            FIVE,
-            Status::Refused,
-            "refused notmutation 1,2,3,4 1,5\n",
-        ),
-        (
-            &["flip", "1", "2", "3"],
-            NINE,
-            Status::Refused,
-            "refused notbasis\n",
-        ),
-        (
-            &["flip", "1", "2", "4"],
-            PAIR,
-            Status::Refused,
-            "refused place 4\n",
-        ),
-        (
-            &["flip", "1", "2", "3"],
-            PAIR,
-            Status::Refused,
-            "refused notrank3 2\n",
-        ),
-    ] {
-        ends(&rt, rt.alloc(), Case::new(words, input), status, text)?;
-    }
-    Ok(())
+    runs(&rt, rt.alloc(), "", MUTATIONS)
 }

@@ -1,128 +1,34 @@
 //! Runs of the commands on paintings, hulls, lexicographic extensions and the three-term test.
 
-use crate::status::Status;
-use crate::tests::{Case, FLAT, UNIFORM, ends};
+use crate::tests::{UNIFORM, runs};
 use std::test::Fail;
 
-const INNER: &str = "om 1\nchirotope 3 4\n--+-\nend\n";
-
-const ROUND: &str = "om 1\nchirotope 3 4\n+-+-\nend\n";
-
-const PAIR: &str = "om 1\nchirotope 2 3\n+++\nend\n";
+/// Answers and refusals; the `@` is the all-plus chirotope of four elements.
+const RUNS: &str = "paint RRRR 1 | @ | 0 | cocircuit +00+/
+paint RGRG 1 | @ | 0 | circuit +-+-/
+paint BRRR 1 | @ | 1 | refused colour 1/
+paint RRR 1 | @ | 1 | refused length 3/
+paint RRRR 5 | @ | 1 | refused place 5/
+hull | @ | 0 | acyclic/extreme 1 -0+0/extreme 2 0-0+/extreme 3 +0-0/extreme 4 0+0-/end/
+hull | om 1/chirotope 3 4/--+-/end/ | 0 | acyclic/extreme 1 -0+0/extreme 2 0-+0/extreme 3 0+-0/inside 4 +++-/end/
+hull | om 1/chirotope 3 4/+-+-/end/ | 0 | cyclic ++++/
+lexext +4 | @ | 0 | om 1/chirotope 3 5/+++++0++00/end/
+lexext +4 -3 | @ | 0 | om 1/chirotope 3 5/+++++++++0/end/
+lexext +4 -3 +2 | @ | 0 | om 1/chirotope 3 5/++++++++++/end/
+lexext -2 | om 1/chirotope 2 3/+++/end/ | 0 | om 1/chirotope 2 4/++-+0+/end/
+lexext +5 | @ | 1 | refused place 5/
+lexext 4 | unread | 2 | usage 2/
+lexext +4 -4 | unread | 2 | usage 3/
+threeterm | @ | 0 | accepted/
+threeterm | om 1/chirotope 2 4/+-++++/end/ | 1 | refused threeterm none 1,2,3,4/
+threeterm | om 1/chirotope 2 4/+0000+/end/ | 1 | refused noexchange 1,2 3,4 1/
+threeterm | om 1/chirotope 1 2/00/end/ | 1 | refused allzero/
+threeterm | om 1/circuits 2/+-/end/ | 1 | refused nonegative 1/
+threeterm | om 1/circuits 3/end/ | 1 | refused notmap/
+threeterm | om 1/wiring 3/1-3/end/ | 1 | refused notmap/
+threeterm x | unread | 2 | usage 2/";
 
 #[test]
 fn paintings_hulls_extensions_and_tests(rt: HostRuntime) -> Result<(), Fail> {
-    for (words, input, status, text) in [
-        (
-            &["paint", "RRRR", "1"][..],
-            UNIFORM,
-            Status::Done,
-            "cocircuit +00+\n",
-        ),
-        (
-            &["paint", "RGRG", "1"],
-            UNIFORM,
-            Status::Done,
-            "circuit +-+-\n",
-        ),
-        (
-            &["paint", "BRRR", "1"],
-            UNIFORM,
-            Status::Refused,
-            "refused colour 1\n",
-        ),
-        (
-            &["paint", "RRR", "1"],
-            UNIFORM,
-            Status::Refused,
-            "refused length 3\n",
-        ),
-        (
-            &["paint", "RRRR", "5"],
-            UNIFORM,
-            Status::Refused,
-            "refused place 5\n",
-        ),
-        (
-            &["hull"],
-            UNIFORM,
-            Status::Done,
-            "acyclic\nextreme 1 -0+0\nextreme 2 0-0+\nextreme 3 +0-0\nextreme 4 0+0-\nend\n",
-        ),
-        (
-            &["hull"],
-            INNER,
-            Status::Done,
-            "acyclic\nextreme 1 -0+0\nextreme 2 0-+0\nextreme 3 0+-0\ninside 4 +++-\nend\n",
-        ),
-        (&["hull"], ROUND, Status::Done, "cyclic ++++\n"),
-        (
-            &["lexext", "+4"],
-            UNIFORM,
-            Status::Done,
-            "om 1\nchirotope 3 5\n+++++0++00\nend\n",
-        ),
-        (
-            &["lexext", "+4", "-3"],
-            UNIFORM,
-            Status::Done,
-            "om 1\nchirotope 3 5\n+++++++++0\nend\n",
-        ),
-        (
-            &["lexext", "+4", "-3", "+2"],
-            UNIFORM,
-            Status::Done,
-            "om 1\nchirotope 3 5\n++++++++++\nend\n",
-        ),
-        (
-            &["lexext", "-2"],
-            PAIR,
-            Status::Done,
-            "om 1\nchirotope 2 4\n++-+0+\nend\n",
-        ),
-        (
-            &["lexext", "+5"],
-            UNIFORM,
-            Status::Refused,
-            "refused place 5\n",
-        ),
-        (&["lexext", "4"], "", Status::Usage, "usage 2\n"),
-        (&["lexext", "+4", "-4"], "", Status::Usage, "usage 3\n"),
-        (&["threeterm"], UNIFORM, Status::Done, "accepted\n"),
-        (
-            &["threeterm"],
-            "om 1\nchirotope 2 4\n+-++++\nend\n",
-            Status::Refused,
-            "refused threeterm none 1,2,3,4\n",
-        ),
-        (
-            &["threeterm"],
-            "om 1\nchirotope 2 4\n+0000+\nend\n",
-            Status::Refused,
-            "refused noexchange 1,2 3,4 1\n",
-        ),
-        (
-            &["threeterm"],
-            "om 1\nchirotope 1 2\n00\nend\n",
-            Status::Refused,
-            "refused allzero\n",
-        ),
-        (
-            &["threeterm"],
-            "om 1\ncircuits 2\n+-\nend\n",
-            Status::Refused,
-            "refused nonegative 1\n",
-        ),
-        (
-            &["threeterm"],
-            "om 1\ncircuits 3\nend\n",
-            Status::Refused,
-            "refused notmap\n",
-        ),
-        (&["threeterm"], FLAT, Status::Refused, "refused notmap\n"),
-        (&["threeterm", "x"], "", Status::Usage, "usage 2\n"),
-    ] {
-        ends(&rt, rt.alloc(), Case::new(words, input), status, text)?;
-    }
-    Ok(())
+    runs(&rt, rt.alloc(), UNIFORM, RUNS)
 }

@@ -1,9 +1,12 @@
 //! Runs over sources and sinks in memory.
+//!
+//! A table has a run a line: its words, its input, the code of its status, and what it writes. In the last three a `/` stands for
+//! the end of a line, and an `@` for a text that is given with the table, as does the word `@`. Where the input is `unread`, the
+//! first read fails.
 
 use crate::run::run;
-use crate::status::Status;
 use om_port::{MemSink, MemSource};
-use om_signs::{List, MAX_INPUT};
+use om_signs::{List, MAX_INPUT, NoMemory};
 use std::alloc::Global;
 use std::process::Abort;
 use std::test::Fail;
@@ -11,10 +14,11 @@ use std::thread::Threads;
 
 pub const UNIFORM: &str = "om 1\nchirotope 3 4\n++++\nend\n";
 
-/// Words, input, source and sink of a run.
+/// Words, what stands for `@` in them, input, source and sink of a run.
 #[derive(Clone, Copy)]
 pub struct Case<'a> {
-    pub words: &'a [&'a str],
+    pub words: &'a str,
+    pub at: &'a str,
     pub input: &'a [u8],
     pub piece: usize,
     pub failing_read: u32,
@@ -24,20 +28,46 @@ pub struct Case<'a> {
 
 impl<'a> Case<'a> {
     /// A run in which nothing fails.
-    pub fn new(words: &'a [&'a str], input: &'a str) -> Case<'a> {
+    pub fn new(words: &'a str, input: &'a [u8]) -> Case<'a> {
         Case {
             words,
-            input: input.as_bytes(),
+            at: "",
+            input,
             piece: 7,
             failing_read: 0,
-            room: 1_000,
+            room: 40_000,
             failing_write: 0,
         }
     }
 }
 
+/// The words of a line, with one space between any two, each word `@` replaced. An empty line has no words.
+pub fn words_of(alloc: Global, line: &str, at: &str) -> Result<Vec<String>, NoMemory> {
+    let mut words = Vec::new(alloc);
+    if line.is_empty() {
+        return Ok(words);
+    }
+    for word in line.split(' ') {
+        words.push(String::from_str(alloc, if word == "@" { at } else { word })?)?;
+    }
+    Ok(words)
+}
+
+/// The bytes of a text, with its ends of lines, each `@` replaced.
+pub fn bytes_of(alloc: Global, text: &str, at: &str) -> Result<Vec<u8>, NoMemory> {
+    let mut bytes = Vec::new(alloc);
+    for byte in text.as_bytes() {
+        match *byte {
+            b'/' => bytes.push(b'\n')?,
+            b'@' => bytes.extend_from_slice(at.as_bytes())?,
+            byte => bytes.push(byte)?,
+        }
+    }
+    Ok(bytes)
+}
+
 /// A list of one call, or of none where the number is 0.
-fn only(alloc: Global, call: u32) -> Result<List<u32>, Fail> {
+fn only(alloc: Global, call: u32) -> Result<List<u32>, NoMemory> {
     let mut calls = List::new(alloc);
     if call > 0 {
         calls.push(call)?;
@@ -45,30 +75,13 @@ fn only(alloc: Global, call: u32) -> Result<List<u32>, Fail> {
     Ok(calls)
 }
 
-/// Asks that a run ends with a status and has written a text.
-pub fn ends<R: Threads + Sync + Abort>(
+/// What a run comes to: the code of its status, ` | `, and the bytes that it has written.
+pub fn outcome<R: Threads + Sync>(
     rt: &R,
     alloc: Global,
     case: Case<'_>,
-    status: Status,
-    text: &str,
-) -> Result<(), Fail> {
-    let written = written(rt, alloc, case, status)?;
-    assert_eq!(rt; written.as_slice(), text.as_bytes());
-    Ok(())
-}
-
-/// Asks that a run ends with a status, and answers the bytes that it has written.
-pub fn written<R: Threads + Sync + Abort>(
-    rt: &R,
-    alloc: Global,
-    case: Case<'_>,
-    status: Status,
-) -> Result<Vec<u8>, Fail> {
-    let mut words = Vec::new(alloc);
-    for word in case.words {
-        words.push(String::from_str(alloc, word)?)?;
-    }
+) -> Result<Vec<u8>, NoMemory> {
+    let words = words_of(alloc, case.words, case.at)?;
     let piece = case.piece.max(1);
     let mut source = MemSource::new(
         case.input.to_vec(alloc)?,
@@ -76,440 +89,249 @@ pub fn written<R: Threads + Sync + Abort>(
         only(alloc, case.failing_read)?,
     );
     let mut sink = MemSink::new(alloc, case.room, piece, only(alloc, case.failing_write)?)?;
-    let ended = run(rt, alloc, words.as_slice(), &mut source, &mut sink);
-    assert_eq!(rt; ended, status);
-    Ok(sink.bytes().to_vec(alloc)?)
+    let status = run(rt, alloc, words.as_slice(), &mut source, &mut sink);
+    let mut found = Vec::new(alloc);
+    found.push(b'0' | status.code())?;
+    found.extend_from_slice(b" | ")?;
+    found.extend_from_slice(sink.bytes())?;
+    Ok(found)
 }
+
+/// Asks that a run comes to this.
+pub fn comes_to<R: Threads + Sync + Abort>(
+    rt: &R,
+    alloc: Global,
+    case: Case<'_>,
+    expected: &str,
+) -> Result<(), Fail> {
+    let found = outcome(rt, alloc, case)?;
+    assert!(rt;
+        found.as_slice() == expected.as_bytes(),
+        "{expected} at read {} and write {}",
+        case.failing_read,
+        case.failing_write
+    );
+    Ok(())
+}
+
+/// The number of ends of lines.
+pub fn lines(bytes: &[u8]) -> usize {
+    bytes.iter().filter(|b| **b == b'\n').count()
+}
+
+/// Asks that each run of a table ends with its status and has written its text.
+pub fn runs<R: Threads + Sync + Abort>(
+    rt: &R,
+    alloc: Global,
+    at: &str,
+    table: &str,
+) -> Result<(), Fail> {
+    for row in table.split('\n') {
+        let (words, rest) = row.split_once(" | ").ok_or("no input")?;
+        let (input, answer) = rest.split_once(" | ").ok_or("no answer")?;
+        let bytes = bytes_of(alloc, input, at)?;
+        let case = Case {
+            at,
+            failing_read: u32::from(input == "unread"),
+            ..Case::new(words, bytes.as_slice())
+        };
+        let found = outcome(rt, alloc, case)?;
+        let expected = bytes_of(alloc, answer, at)?;
+        assert_eq!(rt; found.as_slice(), expected.as_slice(), "{row}");
+    }
+    Ok(())
+}
+
+/// Words that are no command, and words at the limit.
+const WORDS: &str = " | unread | 2 | usage 1/
+accepted | unread | 2 | usage 1/
+accept x |  | 2 | usage 2/
+accept x | unread | 2 | usage 2/
+accept  | unread | 2 | usage 2/
+ accept | unread | 2 | usage 1/
+member | unread | 2 | usage 2/
+member +x | unread | 2 | usage 2/
+member  | unread | 2 | usage 2/
+member + + | unread | 2 | usage 3/
+member +-0+-0+-0+-0+-0+-0+- | om 1/chirotope 3 4/++++/end/ | 1 | refused length 20/
+member +-0+-0+-0+-0+-0+-0+-0 | unread | 2 | usage 2/
+convert | unread | 2 | usage 2/
+convert pictures | unread | 2 | usage 2/
+convert circuits x | unread | 2 | usage 3/";
 
 #[test]
-fn words_that_are_no_command(rt: HostRuntime) -> Result<(), Fail> {
-    let alloc = rt.alloc();
-    ends(&rt, alloc, Case::new(&[], ""), Status::Usage, "usage 1\n")?;
-    ends(
-        &rt,
-        alloc,
-        Case::new(&["accepted"], ""),
-        Status::Usage,
-        "usage 1\n",
-    )?;
-    ends(
-        &rt,
-        alloc,
-        Case::new(&["accept", "x"], ""),
-        Status::Usage,
-        "usage 2\n",
-    )?;
-    ends(
-        &rt,
-        alloc,
-        Case::new(&["accept", ""], ""),
-        Status::Usage,
-        "usage 2\n",
-    )?;
-    ends(
-        &rt,
-        alloc,
-        Case::new(&["", "accept"], ""),
-        Status::Usage,
-        "usage 1\n",
-    )
+fn words_of_commands(rt: HostRuntime) -> Result<(), Fail> {
+    runs(&rt, rt.alloc(), "", WORDS)
 }
-
-/// A wiring whose map is zero.
-pub const FLAT: &str = "om 1\nwiring 3\n1-3\nend\n";
 
 pub const CIRCUITS: &str = "om 1\ncircuits 4\n-+-+\n+-+-\nend\n";
 
 pub const COCIRCUITS: &str =
     "om 1\ncocircuits 4\n--00\n-00-\n-0+0\n0--0\n0-0+\n00--\n00++\n0+0-\n0++0\n+0-0\n+00+\n++00\nend\n";
 
-#[test]
-fn members_of_one_oriented_matroid(rt: HostRuntime) -> Result<(), Fail> {
-    for input in [UNIFORM, CIRCUITS, COCIRCUITS] {
-        for (word, status, text) in [
-            ("++-+", Status::Done, "covector\n"),
-            ("+-+-", Status::Done, "not covector\n"),
-            ("0000", Status::Done, "covector\n"),
-            ("00++", Status::Done, "covector\n"),
-            ("000+", Status::Done, "not covector\n"),
-            ("+++", Status::Refused, "refused length 3\n"),
-        ] {
-            ends(
-                &rt,
-                rt.alloc(),
-                Case::new(&["member", word], input),
-                status,
-                text,
-            )?;
-        }
-    }
-    Ok(())
-}
+/// Sign vectors, and whether they are covectors of one oriented matroid, which is given in three ways; the `@` is its list of
+/// cocircuits.
+const MEMBERS: &str = "member ++-+ | om 1/chirotope 3 4/++++/end/ | 0 | covector/
+member +-+- | om 1/chirotope 3 4/++++/end/ | 0 | not covector/
+member 0000 | om 1/chirotope 3 4/++++/end/ | 0 | covector/
+member 00++ | om 1/chirotope 3 4/++++/end/ | 0 | covector/
+member 000+ | om 1/chirotope 3 4/++++/end/ | 0 | not covector/
+member +++ | om 1/chirotope 3 4/++++/end/ | 1 | refused length 3/
+member ++-+ | om 1/circuits 4/-+-+/+-+-/end/ | 0 | covector/
+member +-+- | om 1/circuits 4/-+-+/+-+-/end/ | 0 | not covector/
+member 0000 | om 1/circuits 4/-+-+/+-+-/end/ | 0 | covector/
+member 00++ | om 1/circuits 4/-+-+/+-+-/end/ | 0 | covector/
+member 000+ | om 1/circuits 4/-+-+/+-+-/end/ | 0 | not covector/
+member +++ | om 1/circuits 4/-+-+/+-+-/end/ | 1 | refused length 3/
+member ++-+ | @ | 0 | covector/
+member +-+- | @ | 0 | not covector/
+member 0000 | @ | 0 | covector/
+member 00++ | @ | 0 | covector/
+member 000+ | @ | 0 | not covector/
+member +++ | @ | 1 | refused length 3/";
 
 #[test]
-fn words_of_member(rt: HostRuntime) -> Result<(), Fail> {
-    let alloc = rt.alloc();
-    ends(
-        &rt,
-        alloc,
-        Case::new(&["member"], ""),
-        Status::Usage,
-        "usage 2\n",
-    )?;
-    ends(
-        &rt,
-        alloc,
-        Case::new(&["member", "+x"], ""),
-        Status::Usage,
-        "usage 2\n",
-    )?;
-    ends(
-        &rt,
-        alloc,
-        Case::new(&["member", ""], ""),
-        Status::Usage,
-        "usage 2\n",
-    )?;
-    ends(
-        &rt,
-        alloc,
-        Case::new(&["member", "+", "+"], ""),
-        Status::Usage,
-        "usage 3\n",
-    )?;
-    let twenty = "+-0+-0+-0+-0+-0+-0+-";
-    ends(
-        &rt,
-        alloc,
-        Case::new(&["member", twenty], UNIFORM),
-        Status::Refused,
-        "refused length 20\n",
-    )?;
-    let more = "+-0+-0+-0+-0+-0+-0+-0";
-    ends(
-        &rt,
-        alloc,
-        Case::new(&["member", more], UNIFORM),
-        Status::Usage,
-        "usage 2\n",
-    )
+fn members_of_one_oriented_matroid(rt: HostRuntime) -> Result<(), Fail> {
+    runs(&rt, rt.alloc(), COCIRCUITS, MEMBERS)
 }
+
+/// Documents that are accepted.
+const ACCEPTED: &str = "accept | om 1/chirotope 3 4/++++/end/ | 0 | accepted/
+accept | om 1/chirotope 0 1/-/end/ | 0 | accepted/
+accept | om 1/chirotope 2 2/-/end | 0 | accepted/
+accept | # my map\r/\r/om 1\r/chirotope 3 4\r/+ +\r/++ # all plus\r/end\r/ | 0 | accepted/
+accept | om 1/circuits 4/-+-+/+-+-/end/ | 0 | accepted/
+accept | om 1/circuits 4/-+-+/+-+-/-+-+/end/ | 0 | accepted/
+accept | om 1/cocircuits 4/--00/-00-/-0+0/0--0/0-0+/00--/00++/0+0-/0++0/+0-0/+00+/++00/end/ | 0 | accepted/
+accept | om 1/cocircuits 3/end/ | 0 | accepted/
+accept | om 1/wiring 3/1-2 2-3 1-2/end/ | 0 | accepted/
+accept | om 1/wiring 3/1-3/end/ | 0 | accepted/";
 
 #[test]
 fn documents_that_are_accepted(rt: HostRuntime) -> Result<(), Fail> {
-    for input in [
-        UNIFORM,
-        "om 1\nchirotope 0 1\n-\nend\n",
-        "om 1\nchirotope 2 2\n-\nend",
-        "# my map\r\n\r\nom 1\r\nchirotope 3 4\r\n+ +\r\n++ # all plus\r\nend\r\n",
-        CIRCUITS,
-        "om 1\ncircuits 4\n-+-+\n+-+-\n-+-+\nend\n",
-        COCIRCUITS,
-        "om 1\ncocircuits 3\nend\n",
-        "om 1\nwiring 3\n1-2 2-3 1-2\nend\n",
-        FLAT,
-    ] {
-        ends(
-            &rt,
-            rt.alloc(),
-            Case::new(&["accept"], input),
-            Status::Done,
-            "accepted\n",
-        )?;
-    }
-    Ok(())
+    runs(&rt, rt.alloc(), "", ACCEPTED)
 }
+
+/// Documents that fail their axioms.
+const REFUSED: &str = "accept | om 1/chirotope 2 4/+-++++/end/ | 1 | refused relation 1,2,3 4/
+accept | om 1/chirotope 3 4/0000/end/ | 1 | refused allzero/
+accept | om 1/chirotope 1 1/0/end/ | 1 | refused allzero/
+accept | om 1/chirotope 2 4/+0000+/end/ | 1 | refused relation 1,2,3 4/
+accept | om 1/circuits 2/+-/end/ | 1 | refused nonegative 1/
+accept | om 1/circuits 2/+0/-0/++/--/end/ | 1 | refused nested 1 3/
+accept | om 1/cocircuits 2/+-/00/-+/end/ | 1 | refused zero 2/
+accept | om 1/circuits 3/+-0/0+-/-+0/0-+/end/ | 1 | refused noelimination 2 1 2/
+accept | om 1/wiring 4/end/ | 1 | refused notreversed/
+accept | om 1/wiring 3/1-2/end/ | 1 | refused notreversed/
+accept | om 1/wiring 3/1-2 3-4/end/ | 1 | refused range 2/
+accept | om 1/wiring 3/1-2 1-2/end/ | 1 | refused notincreasing 2/";
 
 #[test]
 fn documents_that_fail_their_axioms(rt: HostRuntime) -> Result<(), Fail> {
-    for (input, text) in [
-        (
-            "om 1\nchirotope 2 4\n+-++++\nend\n",
-            "refused relation 1,2,3 4\n",
-        ),
-        ("om 1\nchirotope 3 4\n0000\nend\n", "refused allzero\n"),
-        ("om 1\nchirotope 1 1\n0\nend\n", "refused allzero\n"),
-        (
-            "om 1\nchirotope 2 4\n+0000+\nend\n",
-            "refused relation 1,2,3 4\n",
-        ),
-        ("om 1\ncircuits 2\n+-\nend\n", "refused nonegative 1\n"),
-        (
-            "om 1\ncircuits 2\n+0\n-0\n++\n--\nend\n",
-            "refused nested 1 3\n",
-        ),
-        ("om 1\ncocircuits 2\n+-\n00\n-+\nend\n", "refused zero 2\n"),
-        (
-            "om 1\ncircuits 3\n+-0\n0+-\n-+0\n0-+\nend\n",
-            "refused noelimination 2 1 2\n",
-        ),
-        ("om 1\nwiring 4\nend\n", "refused notreversed\n"),
-        ("om 1\nwiring 3\n1-2\nend\n", "refused notreversed\n"),
-        ("om 1\nwiring 3\n1-2 3-4\nend\n", "refused range 2\n"),
-        (
-            "om 1\nwiring 3\n1-2 1-2\nend\n",
-            "refused notincreasing 2\n",
-        ),
-    ] {
-        ends(
-            &rt,
-            rt.alloc(),
-            Case::new(&["accept"], input),
-            Status::Refused,
-            text,
-        )?;
-    }
-    Ok(())
+    runs(&rt, rt.alloc(), "", REFUSED)
 }
+
+/// Lists of covectors.
+const COVECTORS: &str = "accept | om 1/covectors 1/+/-/end/ | 1 | refused nozero/
+accept | om 1/covectors 1/0/+/end/ | 1 | refused nonegative 2/
+accept | om 1/covectors 2/00/+0/-0/0+/0-/end/ | 1 | refused nocomposition 2 4/
+accept | om 1/covectors 2/00/++/--/+-/-+/end/ | 1 | refused noelimination 2 4 2/
+accept | om 1/covectors 1/0/+/-/+/end/ | 0 | accepted/
+member -00 | om 1/covectors 3/000/+00/-00/end/ | 0 | covector/
+member 0+0 | om 1/covectors 3/000/+00/-00/end/ | 0 | not covector/";
 
 #[test]
 fn covectors_accepted_and_refused(rt: HostRuntime) -> Result<(), Fail> {
-    for (input, status, text) in [
-        (
-            "om 1\ncovectors 1\n+\n-\nend\n",
-            Status::Refused,
-            "refused nozero\n",
-        ),
-        (
-            "om 1\ncovectors 1\n0\n+\nend\n",
-            Status::Refused,
-            "refused nonegative 2\n",
-        ),
-        (
-            "om 1\ncovectors 2\n00\n+0\n-0\n0+\n0-\nend\n",
-            Status::Refused,
-            "refused nocomposition 2 4\n",
-        ),
-        (
-            "om 1\ncovectors 2\n00\n++\n--\n+-\n-+\nend\n",
-            Status::Refused,
-            "refused noelimination 2 4 2\n",
-        ),
-        (
-            "om 1\ncovectors 1\n0\n+\n-\n+\nend\n",
-            Status::Done,
-            "accepted\n",
-        ),
-    ] {
-        ends(&rt, rt.alloc(), Case::new(&["accept"], input), status, text)?;
-    }
-    let three = "om 1\ncovectors 3\n000\n+00\n-00\nend\n";
-    ends(
-        &rt,
-        rt.alloc(),
-        Case::new(&["member", "-00"], three),
-        Status::Done,
-        "covector\n",
-    )?;
-    ends(
-        &rt,
-        rt.alloc(),
-        Case::new(&["member", "0+0"], three),
-        Status::Done,
-        "not covector\n",
-    )
+    runs(&rt, rt.alloc(), "", COVECTORS)
 }
 
-#[test]
-fn conversions(rt: HostRuntime) -> Result<(), Fail> {
-    let three = "om 1\ncovectors 3\n000\n+00\n-00\nend\n";
-    for (kind, input, status, text) in [
-        (
-            "cocircuits",
-            three,
-            Status::Done,
-            "om 1\ncocircuits 3\n-00\n+00\nend\n",
-        ),
-        (
-            "covectors",
-            three,
-            Status::Done,
-            "om 1\ncovectors 3\n-00\n000\n+00\nend\n",
-        ),
-        (
-            "circuits",
-            three,
-            Status::Done,
-            "om 1\ncircuits 3\n0-0\n00-\n00+\n0+0\nend\n",
-        ),
-        (
-            "chirotope",
-            three,
-            Status::Done,
-            "om 1\nchirotope 1 3\n+00\nend\n",
-        ),
-        (
-            "chirotope",
-            "om 1\ncircuits 3\nend\n",
-            Status::Done,
-            "om 1\nchirotope 3 3\n+\nend\n",
-        ),
-        (
-            "chirotope",
-            "om 1\ncocircuits 3\nend\n",
-            Status::Done,
-            "om 1\nchirotope 0 3\n+\nend\n",
-        ),
-        (
-            "chirotope",
-            "om 1\nchirotope 2 2\n - \nend",
-            Status::Done,
-            "om 1\nchirotope 2 2\n-\nend\n",
-        ),
-        (
-            "chirotope",
-            "om 1\nwiring 3\n1-2 2-3 1-2\nend\n",
-            Status::Done,
-            "om 1\nchirotope 3 3\n+\nend\n",
-        ),
-        (
-            "chirotope",
-            "om 1\nwiring 3\n2-3 1-2 2-3\nend\n",
-            Status::Done,
-            "om 1\nchirotope 3 3\n-\nend\n",
-        ),
-        ("chirotope", FLAT, Status::Refused, "refused flatrank\n"),
-        ("circuits", UNIFORM, Status::Done, CIRCUITS),
-        ("cocircuits", UNIFORM, Status::Done, COCIRCUITS),
-        ("chirotope", CIRCUITS, Status::Done, UNIFORM),
-        ("cocircuits", CIRCUITS, Status::Done, COCIRCUITS),
-        ("chirotope", COCIRCUITS, Status::Done, UNIFORM),
-        ("circuits", COCIRCUITS, Status::Done, CIRCUITS),
-        (
-            "circuits",
-            "om 1\ncircuits 4\n+-+-\n-+-+\nend\n",
-            Status::Done,
-            CIRCUITS,
-        ),
-        ("cocircuits", COCIRCUITS, Status::Done, COCIRCUITS),
-        (
-            "circuits",
-            "om 1\ncircuits 2\n+-\nend\n",
-            Status::Refused,
-            "refused nonegative 1\n",
-        ),
-    ] {
-        ends(
-            &rt,
-            rt.alloc(),
-            Case::new(&["convert", kind], input),
-            status,
-            text,
-        )?;
-    }
-    Ok(())
-}
-
-#[test]
-fn words_of_convert(rt: HostRuntime) -> Result<(), Fail> {
-    let alloc = rt.alloc();
-    ends(
-        &rt,
-        alloc,
-        Case::new(&["convert"], ""),
-        Status::Usage,
-        "usage 2\n",
-    )?;
-    ends(
-        &rt,
-        alloc,
-        Case::new(&["convert", "pictures"], ""),
-        Status::Usage,
-        "usage 2\n",
-    )?;
-    ends(
-        &rt,
-        alloc,
-        Case::new(&["convert", "circuits", "x"], ""),
-        Status::Usage,
-        "usage 3\n",
-    )
-}
+/// Documents with a line at fault.
+const FAULTS: &str = "accept |  | 1 | refused line 1 missing/
+accept | om 1/ | 1 | refused line 2 missing/
+accept | om 1/chirotope 3 4/ | 1 | refused line 3 missing/
+accept | om 1/chirotope 3 4/++++/ | 1 | refused line 4 missing/
+accept | om 1/chirotope 3 4/+++++/end/ | 1 | refused line 3 many/
+accept | om 1/chirotope 3 4/+++/end/ | 1 | refused line 4 few/
+accept | om 1/chirotope 3 21/end/ | 1 | refused line 2 elements 21/
+accept | om 1/chirotope 7 17/end/ | 1 | refused line 2 size 19448/
+accept | om 1/chirotope 5 4/end/ | 1 | refused line 2 rank 5/
+accept | om 1/chirotope 03 4/end/ | 1 | refused line 2 header/
+accept | om 1/spheres 4/end/ | 1 | refused line 2 kind/
+accept | om 3/chirotope 3 4/++++/end/ | 1 | refused line 1 version/
+accept | om 1/chirotope 3 4/++x+/end/ | 1 | refused line 3 sign/
+accept | om 1/circuits 4/+-/end/ | 1 | refused line 3 length/
+accept | om 1/chirotope 3 4/++++/end/end/ | 1 | refused line 5 after/";
 
 #[test]
 fn documents_with_a_line_at_fault(rt: HostRuntime) -> Result<(), Fail> {
-    for (input, text) in [
-        ("", "refused line 1 missing\n"),
-        ("om 1\n", "refused line 2 missing\n"),
-        ("om 1\nchirotope 3 4\n", "refused line 3 missing\n"),
-        ("om 1\nchirotope 3 4\n++++\n", "refused line 4 missing\n"),
-        ("om 1\nchirotope 3 4\n+++++\nend\n", "refused line 3 many\n"),
-        ("om 1\nchirotope 3 4\n+++\nend\n", "refused line 4 few\n"),
-        (
-            "om 1\nchirotope 3 21\nend\n",
-            "refused line 2 elements 21\n",
-        ),
-        ("om 1\nchirotope 7 17\nend\n", "refused line 2 size 19448\n"),
-        ("om 1\nchirotope 5 4\nend\n", "refused line 2 rank 5\n"),
-        ("om 1\nchirotope 03 4\nend\n", "refused line 2 header\n"),
-        ("om 1\nspheres 4\nend\n", "refused line 2 kind\n"),
-        (
-            "om 3\nchirotope 3 4\n++++\nend\n",
-            "refused line 1 version\n",
-        ),
-        ("om 1\nchirotope 3 4\n++x+\nend\n", "refused line 3 sign\n"),
-        ("om 1\ncircuits 4\n+-\nend\n", "refused line 3 length\n"),
-        (
-            "om 1\nchirotope 3 4\n++++\nend\nend\n",
-            "refused line 5 after\n",
-        ),
-    ] {
-        ends(
-            &rt,
-            rt.alloc(),
-            Case::new(&["accept"], input),
-            Status::Refused,
-            text,
-        )?;
-    }
-    Ok(())
+    runs(&rt, rt.alloc(), "", FAULTS)
 }
+
+/// Conversions; the `@` is a list of cocircuits.
+const CONVERSIONS: &str =
+    "convert cocircuits | om 1/covectors 3/000/+00/-00/end/ | 0 | om 1/cocircuits 3/-00/+00/end/
+convert covectors | om 1/covectors 3/000/+00/-00/end/ | 0 | om 1/covectors 3/-00/000/+00/end/
+convert circuits | om 1/covectors 3/000/+00/-00/end/ | 0 | om 1/circuits 3/0-0/00-/00+/0+0/end/
+convert chirotope | om 1/covectors 3/000/+00/-00/end/ | 0 | om 1/chirotope 1 3/+00/end/
+convert chirotope | om 1/circuits 3/end/ | 0 | om 1/chirotope 3 3/+/end/
+convert chirotope | om 1/cocircuits 3/end/ | 0 | om 1/chirotope 0 3/+/end/
+convert chirotope | om 1/chirotope 2 2/ - /end | 0 | om 1/chirotope 2 2/-/end/
+convert chirotope | om 1/wiring 3/1-2 2-3 1-2/end/ | 0 | om 1/chirotope 3 3/+/end/
+convert chirotope | om 1/wiring 3/2-3 1-2 2-3/end/ | 0 | om 1/chirotope 3 3/-/end/
+convert chirotope | om 1/wiring 3/1-3/end/ | 1 | refused flatrank/
+convert circuits | om 1/chirotope 3 4/++++/end/ | 0 | om 1/circuits 4/-+-+/+-+-/end/
+convert cocircuits | om 1/chirotope 3 4/++++/end/ | 0 | @
+convert chirotope | om 1/circuits 4/-+-+/+-+-/end/ | 0 | om 1/chirotope 3 4/++++/end/
+convert cocircuits | om 1/circuits 4/-+-+/+-+-/end/ | 0 | @
+convert chirotope | @ | 0 | om 1/chirotope 3 4/++++/end/
+convert circuits | @ | 0 | om 1/circuits 4/-+-+/+-+-/end/
+convert circuits | om 1/circuits 4/+-+-/-+-+/end/ | 0 | om 1/circuits 4/-+-+/+-+-/end/
+convert cocircuits | @ | 0 | @
+convert circuits | om 1/circuits 2/+-/end/ | 1 | refused nonegative 1/";
+
+#[test]
+fn conversions(rt: HostRuntime) -> Result<(), Fail> {
+    runs(&rt, rt.alloc(), COCIRCUITS, CONVERSIONS)
+}
+
+/// Inputs at the limit; the `@` is as long as an input may be.
+const LONG: &str = "accept | #@ | 1 | refused long/
+accept | @ | 1 | refused line 2 missing/
+check | #@ | 1 | refused long/";
 
 #[test]
 fn inputs_at_the_limit(rt: HostRuntime) -> Result<(), Fail> {
-    let alloc = rt.alloc();
-    let long = vec![in alloc; b'#'; MAX_INPUT + 1]?;
-    let whole = Case {
-        input: long.as_slice(),
-        piece: 5_000,
-        ..Case::new(&["accept"], "")
-    };
-    ends(&rt, alloc, whole, Status::Refused, "refused long\n")?;
-    let cut = Case {
-        input: &long.as_slice()[1..],
-        ..whole
-    };
-    ends(&rt, alloc, cut, Status::Refused, "refused line 2 missing\n")
+    let comment = "#".repeat(rt.alloc(), MAX_INPUT)?;
+    runs(&rt, rt.alloc(), comment.as_str(), LONG)
 }
 
 #[test]
 fn a_read_that_fails(rt: HostRuntime) -> Result<(), Fail> {
-    let alloc = rt.alloc();
-    let eight = Case {
-        piece: 8,
-        failing_read: 2,
-        ..Case::new(&["accept"], UNIFORM)
-    };
-    ends(&rt, alloc, eight, Status::ReadFault, "")?;
     for failing_read in 1..30 {
         let one = Case {
             piece: 1,
             failing_read,
-            ..eight
+            ..Case::new("accept", UNIFORM.as_bytes())
         };
-        ends(&rt, alloc, one, Status::ReadFault, "")?;
+        comes_to(&rt, rt.alloc(), one, "4 | ")?;
     }
+    // the text has 28 bytes, and the read behind them finds the end
     let past = Case {
         piece: 1,
         failing_read: 30,
-        ..eight
+        ..Case::new("accept", UNIFORM.as_bytes())
     };
-    ends(&rt, alloc, past, Status::Done, "accepted\n")?;
-    let unread = Case {
-        failing_read: 1,
-        ..Case::new(&["accept", "x"], UNIFORM)
+    comes_to(&rt, rt.alloc(), past, "0 | accepted\n")
+}
+
+#[test]
+fn the_second_read_of_eight_bytes_fails(rt: HostRuntime) -> Result<(), Fail> {
+    let eight = Case {
+        piece: 8,
+        failing_read: 2,
+        ..Case::new("accept", UNIFORM.as_bytes())
     };
-    ends(&rt, alloc, unread, Status::Usage, "usage 2\n")
+    comes_to(&rt, rt.alloc(), eight, "4 | ")
 }
 
 #[test]
@@ -517,27 +339,29 @@ fn a_write_that_fails(rt: HostRuntime) -> Result<(), Fail> {
     let alloc = rt.alloc();
     let fine = Case {
         piece: 1,
-        ..Case::new(&["accept"], UNIFORM)
+        ..Case::new("accept", UNIFORM.as_bytes())
     };
-    for (k, text) in [
-        "", "a", "ac", "acc", "acce", "accep", "accept", "accepte", "accepted",
-    ]
-    .iter()
-    .enumerate()
-    {
-        let failing = Case {
-            failing_write: k as u32 + 1,
-            ..fine
-        };
-        ends(&rt, alloc, failing, Status::WriteFault, text)?;
-        let full = Case { room: k, ..fine };
-        ends(&rt, alloc, full, Status::WriteFault, text)?;
+    for (room, failing_write, expected) in [
+        (0, 1, "5 | "),
+        (1, 2, "5 | a"),
+        (2, 3, "5 | ac"),
+        (3, 4, "5 | acc"),
+        (4, 5, "5 | acce"),
+        (5, 6, "5 | accep"),
+        (6, 7, "5 | accept"),
+        (7, 8, "5 | accepte"),
+        (8, 9, "5 | accepted"),
+    ] {
+        comes_to(
+            &rt,
+            alloc,
+            Case {
+                failing_write,
+                ..fine
+            },
+            expected,
+        )?;
+        comes_to(&rt, alloc, Case { room, ..fine }, expected)?;
     }
-    ends(
-        &rt,
-        alloc,
-        Case { room: 9, ..fine },
-        Status::Done,
-        "accepted\n",
-    )
+    comes_to(&rt, alloc, Case { room: 9, ..fine }, "0 | accepted\n")
 }

@@ -1,174 +1,73 @@
 //! Runs over documents in version 2 of the format, and the command that writes them.
 
-use crate::status::Status;
-use crate::tests::{CIRCUITS, Case, UNIFORM, ends};
+use crate::tests::runs;
 use std::test::Fail;
 
-const MAP: &str = "om 1\nchirotope 2 4\n0+0+00\nend\n";
-
-const MAP_TWO: &str = "om 2\nchirotope 2 4\nnames e1 e2 e3 e4\norder revlex\n0++000\nend\n";
-
-const CIRCUITS_TWO: &str = "om 2\ncircuits 4\nnames e1 e2 e3 e4\nhalf\n+-+-\nend\n";
-
-const LINE: &str = "om 1\ncovectors 1\n+\n-\n0\nend\n";
-
-const LINE_TWO: &str = "om 2\ncovectors 1\nnames e1\nhalf\n0\n+\nend\n";
-
-/// A map with names, whose values stand in lexicographic order.
-const NAMED: &str = "om 2\nchirotope 2 3\nnames a B_2 33\norder lex\n+-+\nend\n";
-
-const FLAT_TWO: &str = "om 2\nwiring 3\nnames x y z\n1-3\nend\n";
-
 /// Documents, and their upgrades.
-const UPGRADES: [(&str, &str); 12] = [
-    (MAP, MAP_TWO),
-    (MAP_TWO, MAP_TWO),
-    (CIRCUITS, CIRCUITS_TWO),
-    (CIRCUITS_TWO, CIRCUITS_TWO),
-    (LINE, LINE_TWO),
-    (LINE_TWO, LINE_TWO),
-    (
-        NAMED,
-        "om 2\nchirotope 2 3\nnames a B_2 33\norder revlex\n+-+\nend\n",
-    ),
-    (
-        "om 1\nwiring 3\n1-3\nend\n",
-        "om 2\nwiring 3\nnames e1 e2 e3\n1-3\nend\n",
-    ),
-    (FLAT_TWO, FLAT_TWO),
-    (
-        "om 2\npoints 3\nnames half end _\n1 0 0\n0 -1 0\n0 0 1\nend\n",
-        "om 2\npoints 3\nnames half end _\n1 0 0\n0 -1 0\n0 0 1\nend\n",
-    ),
-    (
-        "om 2\ncocircuits 2 # a half of it\nhalf\n0-\n-0\n+0\nend\n",
-        "om 2\ncocircuits 2\nnames e1 e2\nhalf\n0+\n+0\nend\n",
-    ),
-    (
-        "om 2\ncircuits 1\nnames abcdefghijklmnop\nend\n",
-        "om 2\ncircuits 1\nnames abcdefghijklmnop\nhalf\nend\n",
-    ),
-];
+const UPGRADES: &str =
+    "upgrade | om 1/chirotope 2 4/0+0+00/end/ | 0 | om 2/chirotope 2 4/names e1 e2 e3 e4/order revlex/0++000/end/
+upgrade | om 2/chirotope 2 4/names e1 e2 e3 e4/order revlex/0++000/end/ | 0 | om 2/chirotope 2 4/names e1 e2 e3 e4/order revlex/0++000/end/
+upgrade | om 1/circuits 4/-+-+/+-+-/end/ | 0 | om 2/circuits 4/names e1 e2 e3 e4/half/+-+-/end/
+upgrade | om 2/circuits 4/names e1 e2 e3 e4/half/+-+-/end/ | 0 | om 2/circuits 4/names e1 e2 e3 e4/half/+-+-/end/
+upgrade | om 1/covectors 1/+/-/0/end/ | 0 | om 2/covectors 1/names e1/half/0/+/end/
+upgrade | om 2/covectors 1/names e1/half/0/+/end/ | 0 | om 2/covectors 1/names e1/half/0/+/end/
+upgrade | om 2/chirotope 2 3/names a B_2 33/order lex/+-+/end/ | 0 | om 2/chirotope 2 3/names a B_2 33/order revlex/+-+/end/
+upgrade | om 1/wiring 3/1-3/end/ | 0 | om 2/wiring 3/names e1 e2 e3/1-3/end/
+upgrade | om 2/wiring 3/names x y z/1-3/end/ | 0 | om 2/wiring 3/names x y z/1-3/end/
+upgrade | om 2/points 3/names half end _/1 0 0/0 -1 0/0 0 1/end/ | 0 | om 2/points 3/names half end _/1 0 0/0 -1 0/0 0 1/end/
+upgrade | om 2/cocircuits 2 # a half of it/half/0-/-0/+0/end/ | 0 | om 2/cocircuits 2/names e1 e2/half/0+/+0/end/
+upgrade | om 2/circuits 1/names abcdefghijklmnop/end/ | 0 | om 2/circuits 1/names abcdefghijklmnop/half/end/
+upgrade 2 | unread | 2 | usage 2/";
 
 /// Commands on documents in version 2, and their answers, which are in version 1.
-const ANSWERS: [(&[&str], &str, &str); 8] = [
-    (&["convert", "chirotope"], MAP_TWO, MAP),
-    (&["accept"], CIRCUITS_TWO, "accepted\n"),
-    (&["convert", "circuits"], CIRCUITS_TWO, CIRCUITS),
-    (
-        &["convert", "covectors"],
-        LINE_TWO,
-        "om 1\ncovectors 1\n-\n0\n+\nend\n",
-    ),
-    (&["member", "-"], LINE_TWO, "covector\n"),
-    (&["reorient", "2"], NAMED, "om 1\nchirotope 2 3\n+++\nend\n"),
-    (&["delete", "3"], NAMED, "om 1\nchirotope 2 2\n+\nend\n"),
-    (&["accept"], FLAT_TWO, "accepted\n"),
-];
+const ANSWERS: &str =
+    "convert chirotope | om 2/chirotope 2 4/names e1 e2 e3 e4/order revlex/0++000/end/ | 0 | om 1/chirotope 2 4/0+0+00/end/
+accept | om 2/circuits 4/names e1 e2 e3 e4/half/+-+-/end/ | 0 | accepted/
+convert circuits | om 2/circuits 4/names e1 e2 e3 e4/half/+-+-/end/ | 0 | om 1/circuits 4/-+-+/+-+-/end/
+convert covectors | om 2/covectors 1/names e1/half/0/+/end/ | 0 | om 1/covectors 1/-/0/+/end/
+member - | om 2/covectors 1/names e1/half/0/+/end/ | 0 | covector/
+reorient 2 | om 2/chirotope 2 3/names a B_2 33/order lex/+-+/end/ | 0 | om 1/chirotope 2 3/+++/end/
+delete 3 | om 2/chirotope 2 3/names a B_2 33/order lex/+-+/end/ | 0 | om 1/chirotope 2 2/+/end/
+accept | om 2/wiring 3/names x y z/1-3/end/ | 0 | accepted/";
 
 /// Documents that are refused, by `upgrade` as by `accept`.
-const REFUSED: [(&str, &str); 20] = [
-    (
-        "om 2\ncircuits 3\nhalf\n+-0\n0+-\nend\n",
-        "refused noelimination 2 4 2\n",
-    ),
-    ("om 1\nchirotope 3 4\n0000\nend\n", "refused allzero\n"),
-    ("om 2\ncircuits 2\n+-\nend\n", "refused nonegative 1\n"),
-    ("om 1\nwiring 3\n1-2\nend\n", "refused notreversed\n"),
-    (
-        "om 1\npoints 3\n1 0 0\n2 0 0\n0 1 0\nend\n",
-        "refused ranklow\n",
-    ),
-    (
-        "om 2\nchirotope 3 4\nnames a b c\n++++\nend\n",
-        "refused line 3 setting\n",
-    ),
-    (
-        "om 2\nchirotope 2 2\nnames a a\n+\nend\n",
-        "refused line 3 setting\n",
-    ),
-    (
-        "om 2\nchirotope 1 1\nnames abcdefghijklmnopq\n+\nend\n",
-        "refused line 3 setting\n",
-    ),
-    (
-        "om 2\nchirotope 1 1\nnames a-b\n+\nend\n",
-        "refused line 3 setting\n",
-    ),
-    (
-        "om 2\nchirotope 1 1\nnames a\nnames a\n+\nend\n",
-        "refused line 4 setting\n",
-    ),
-    (
-        "om 2\nchirotope 1 1\norder lex\nnames a\n+\nend\n",
-        "refused line 4 setting\n",
-    ),
-    (
-        "om 2\nchirotope 1 1\norder\n+\nend\n",
-        "refused line 3 setting\n",
-    ),
-    (
-        "om 2\nchirotope 1 1\nhalf\n+\nend\n",
-        "refused line 3 setting\n",
-    ),
-    (
-        "om 2\ncircuits 2\norder lex\nend\n",
-        "refused line 3 setting\n",
-    ),
-    ("om 2\npoints 1\nhalf\nend\n", "refused line 3 setting\n"),
-    ("om 2\ncircuits 2\n+-\nhalf\nend\n", "refused line 4 sign\n"),
-    (
-        "om 2\nwiring 2\n1-2\nnames a b\nend\n",
-        "refused line 4 block\n",
-    ),
-    ("om 1\ncircuits 2\nhalf\nend\n", "refused line 3 sign\n"),
-    ("om 3\nend\n", "refused line 1 version\n"),
-    (
-        "om 2\nchirotope 2 2\nnames a b\n",
-        "refused line 4 missing\n",
-    ),
-];
+const REFUSED: &str = "@ | om 2/circuits 3/half/+-0/0+-/end/ | 1 | refused noelimination 2 4 2/
+@ | om 1/chirotope 3 4/0000/end/ | 1 | refused allzero/
+@ | om 2/circuits 2/+-/end/ | 1 | refused nonegative 1/
+@ | om 1/wiring 3/1-2/end/ | 1 | refused notreversed/
+@ | om 1/points 3/1 0 0/2 0 0/0 1 0/end/ | 1 | refused ranklow/
+@ | om 2/chirotope 3 4/names a b c/++++/end/ | 1 | refused line 3 setting/
+@ | om 2/chirotope 2 2/names a a/+/end/ | 1 | refused line 3 setting/
+@ | om 2/chirotope 1 1/names abcdefghijklmnopq/+/end/ | 1 | refused line 3 setting/
+@ | om 2/chirotope 1 1/names a-b/+/end/ | 1 | refused line 3 setting/
+@ | om 2/chirotope 1 1/names a/names a/+/end/ | 1 | refused line 4 setting/
+@ | om 2/chirotope 1 1/order lex/names a/+/end/ | 1 | refused line 4 setting/
+@ | om 2/chirotope 1 1/order/+/end/ | 1 | refused line 3 setting/
+@ | om 2/chirotope 1 1/half/+/end/ | 1 | refused line 3 setting/
+@ | om 2/circuits 2/order lex/end/ | 1 | refused line 3 setting/
+@ | om 2/points 1/half/end/ | 1 | refused line 3 setting/
+@ | om 2/circuits 2/+-/half/end/ | 1 | refused line 4 sign/
+@ | om 2/wiring 2/1-2/names a b/end/ | 1 | refused line 4 block/
+@ | om 1/circuits 2/half/end/ | 1 | refused line 3 sign/
+@ | om 3/end/ | 1 | refused line 1 version/
+@ | om 2/chirotope 2 2/names a b/ | 1 | refused line 4 missing/";
 
 #[test]
 fn upgrades(rt: HostRuntime) -> Result<(), Fail> {
-    for (input, text) in UPGRADES {
-        ends(
-            &rt,
-            rt.alloc(),
-            Case::new(&["upgrade"], input),
-            Status::Done,
-            text,
-        )?;
-    }
-    ends(
-        &rt,
-        rt.alloc(),
-        Case::new(&["upgrade", "2"], UNIFORM),
-        Status::Usage,
-        "usage 2\n",
-    )
+    runs(&rt, rt.alloc(), "", UPGRADES)
 }
 
 #[test]
 fn answers_in_version_one(rt: HostRuntime) -> Result<(), Fail> {
-    for (words, input, text) in ANSWERS {
-        ends(&rt, rt.alloc(), Case::new(words, input), Status::Done, text)?;
-    }
-    Ok(())
+    runs(&rt, rt.alloc(), "", ANSWERS)
+}
+
+#[test]
+fn documents_that_are_not_accepted(rt: HostRuntime) -> Result<(), Fail> {
+    runs(&rt, rt.alloc(), "accept", REFUSED)
 }
 
 #[test]
 fn documents_that_are_not_upgraded(rt: HostRuntime) -> Result<(), Fail> {
-    for (input, line) in REFUSED {
-        for word in ["accept", "upgrade"] {
-            ends(
-                &rt,
-                rt.alloc(),
-                Case::new(&[word], input),
-                Status::Refused,
-                line,
-            )?;
-        }
-    }
-    Ok(())
+    runs(&rt, rt.alloc(), "upgrade", REFUSED)
 }
