@@ -12,8 +12,8 @@ use Rattle.om_text.specs.declared.parse_error.ParseError.TheVariants as error
 use Rattle.om_text.specs.declared.state.State.TheVariants.{Start}
 use Rattle.om_text.specs.Lines.{lines, with_first}
 use Rattle.om_text.specs.Fault.{IsFault}
-use Rattle.om_text.specs.Parsed.{ComesTo, IfLine}
-use Rattle.om_text.specs.Part.{IsPart}
+use Rattle.om_text.specs.Parsed.{IsAnswerUnlessMemory, IfLine}
+use Rattle.om_text.specs.Part.{IsDocumentAtFront}
 use Rattle.om_text.specs.Print.{text_of}
 use Rattle.om_text.proofs.Distinct.{either}
 use Rattle.om_text.proofs.Outcome.{outcome_from}
@@ -27,22 +27,22 @@ use Rattle.om_answer.proofs.ClaimCourse.{in_document, claim_outcome, claim_comes
 
 -- what the reading of lines answers
 abbrev pub Reads : Result Claim ParseError → List (List ℕ) → Type 0
-Reads r ls = ComesTo r (claim_outcome (in_document Start) 0 ls)
+Reads r ls = IsAnswerUnlessMemory r (claim_outcome (in_document Start) 0 ls)
 
 pub reads_claim : (r : Result Claim ParseError) (ls : List (List ℕ)) → Reads r ls → IfOk r (λ c. IsClaim ls c)
 reads_claim (Ok c) ls h = claim_from ls c h
 reads_claim (Err e) ls h = tt
 
-pub reads_every : (r : Result Claim ParseError) (ls : List (List ℕ)) → Reads r ls → (c : Claim) → IsClaim ls c → ComesTo r (Ok c)
-reads_every r ls h c o = subst (ComesTo r) (claim_comes ls c o) h
+pub reads_every : (r : Result Claim ParseError) (ls : List (List ℕ)) → Reads r ls → (c : Claim) → IsClaim ls c → IsAnswerUnlessMemory r (Ok c)
+reads_every r ls h c o = subst (IsAnswerUnlessMemory r) (claim_comes ls c o) h
 
 pub reads_fault : (r : Result Claim ParseError) (ls : List (List ℕ)) → Reads r ls → IfLine r (IsClaimFault ls)
 reads_fault (Ok c) ls h = tt
 reads_fault (Err error.Memory) ls h = tt
 reads_fault (Err (error.Line l c)) ls h = claim_fault_from ls l c h
 
-pub reads_first : (r : Result Claim ParseError) (ls : List (List ℕ)) → Reads r ls → (l : ℕ) (c : Code) → IsClaimFault ls l c → ComesTo r (Err (l, c))
-reads_first r ls h l c f = subst (ComesTo r) (claim_fault_comes ls l c f) h
+pub reads_first : (r : Result Claim ParseError) (ls : List (List ℕ)) → Reads r ls → (l : ℕ) (c : Code) → IsClaimFault ls l c → IsAnswerUnlessMemory r (Err (l, c))
+reads_first r ls h l c f = subst (IsAnswerUnlessMemory r) (claim_fault_comes ls l c f) h
 
 -- a document that is refused
 pub document_refused : (A : Type 0) (e : ParseError) (ls : List (List ℕ)) → IfLine {A = A} (Err e) (λ l c. IsFault ls l c × (c ≢ code.After)) → Reads (Err e) ls
@@ -50,7 +50,7 @@ document_refused A error.Memory ls h = tt
 document_refused A (error.Line l c) ls h = document_fault_comes ls Start 0 l c h.1 (outcome_from ls l c h.0)
 
 -- the lines of a part and those behind it
-part_comes : (bytes : List ℕ) (d : Document) (len count : ℕ) → IsPart bytes d len count → claim_outcome (in_document Start) 0 (lines bytes) ≡ joined d (block_outcome block.Empty count (lines (drop len bytes)))
+part_comes : (bytes : List ℕ) (d : Document) (len count : ℕ) → IsDocumentAtFront bytes d len count → claim_outcome (in_document Start) 0 (lines bytes) ≡ joined d (block_outcome block.Empty count (lines (drop len bytes)))
 part_comes bytes d len count p =
     let n : length (take count (lines bytes)) ≡ count = length-take-le count (lines bytes) p.within in
     ap (claim_outcome (in_document Start) 0) (sym (take-append-drop count (lines bytes)))
@@ -66,11 +66,11 @@ pub rest_is : (bytes : List ℕ) (len : ℕ) → rest_of bytes len ≡ drop len 
 rest_is bytes len = let e = length-drop len bytes in take_all (length bytes - len) (drop len bytes) (omega (arith, e))
 
 -- a block that is refused, and one that is read
-pub block_refused : (e : ParseError) (bytes : List ℕ) (d : Document) (len count : ℕ) → IsPart bytes d len count → ComesTo {A = Verdict} (Err e) (block_outcome block.Empty count (lines (rest_of bytes len))) → Reads (Err e) (lines bytes)
+pub block_refused : (e : ParseError) (bytes : List ℕ) (d : Document) (len count : ℕ) → IsDocumentAtFront bytes d len count → IsAnswerUnlessMemory {A = Verdict} (Err e) (block_outcome block.Empty count (lines (rest_of bytes len))) → Reads (Err e) (lines bytes)
 block_refused error.Memory bytes d len count p h = tt
 block_refused (error.Line l c) bytes d len count p h = part_comes bytes d len count p ∙ ap (λ x. joined d (block_outcome block.Empty count (lines x))) (sym (rest_is bytes len)) ∙ ap (joined d) h
 
-pub block_read : (v : Verdict) (bytes : List ℕ) (d : Document) (len count : ℕ) → IsPart bytes d len count → ComesTo (Ok v) (block_outcome block.Empty count (lines (rest_of bytes len))) → Reads (Ok (record { document = d; verdict = v })) (lines bytes)
+pub block_read : (v : Verdict) (bytes : List ℕ) (d : Document) (len count : ℕ) → IsDocumentAtFront bytes d len count → IsAnswerUnlessMemory (Ok v) (block_outcome block.Empty count (lines (rest_of bytes len))) → Reads (Ok (record { document = d; verdict = v })) (lines bytes)
 block_read v bytes d len count p h = part_comes bytes d len count p ∙ ap (λ x. joined d (block_outcome block.Empty count (lines x))) (sym (rest_is bytes len)) ∙ ap (joined d) h
 
 -- there are no more lines than bytes
@@ -90,7 +90,7 @@ text_long [] = omega arith
 text_long (l ∷ ls) = let h = text_long ls in let n = length-append l (10 ∷ text_of ls) in omega (arith, h, n)
 
 -- the lines of a part and the bytes behind it are no more than the bytes
-pub part_few : (bytes : List ℕ) (d : Document) (len count : ℕ) → IsPart bytes d len count → count + length (rest_of bytes len) ≤ length bytes
+pub part_few : (bytes : List ℕ) (d : Document) (len count : ℕ) → IsDocumentAtFront bytes d len count → count + length (rest_of bytes len) ≤ length bytes
 part_few bytes d len count p =
     let n : length (take count (lines bytes)) ≡ count = length-take-le count (lines bytes) p.within in
     let a = lines_few bytes in

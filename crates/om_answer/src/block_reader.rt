@@ -4,8 +4,8 @@ ghost use Rattle.std.specs.Prelude.{◌≡◌, ◌+◌, ◌-◌, ◌≤◌, ◌^
 ghost use Rattle.om_text.specs.Lines.{runs, lines};
 ghost use Rattle.om_text.specs.Settings.{is_line};
 ghost use Rattle.om_text.specs.Document.{end_line};
-ghost use Rattle.om_text.specs.Added.{Gives};
-ghost use Rattle.om_text.specs.Parsed.{ComesTo};
+ghost use Rattle.om_text.specs.ReaderParts.{IsStepUnlessMemory};
+ghost use Rattle.om_text.specs.Parsed.{IsAnswerUnlessMemory};
 ghost use Rattle.om_answer.specs.BlockLines.{plain_numbers, vector_of, entry_of, weight_of, pivots_of, basis_of, some_of};
 ghost use Rattle.om_signs.specs.declared.limits.TheConstants.{MAX_READ};
 ghost use Rattle.om_answer.specs.Block.{MOST_VECTORS, MOST_WEIGHTS};
@@ -60,7 +60,7 @@ fn next_vector(alloc: Global, mut word: Word, line: &[u8]) -> Result<Word, Code>
 
 /// The entries with that of one more line.
 fn next_entry(alloc: Global, mut entries: List<Entry>, line: &[u8]) -> Result<List<Entry>, Refusal>
-    ensures { Gives result (another entries (entry_of (runs line.now))) }
+    ensures { IsStepUnlessMemory result (another entries (entry_of (runs line.now))) }
 {
     match entry_line(alloc, line) {
         None => Err(Refusal::Line(Code::Entry)),
@@ -77,7 +77,7 @@ fn next_weight(
     mut weights: List<Weight>,
     line: &[u8],
 ) -> Result<List<Weight>, Refusal>
-    ensures { Gives result (next_item MOST_WEIGHTS weights (weight_of (runs line.now))) }
+    ensures { IsStepUnlessMemory result (next_item MOST_WEIGHTS weights (weight_of (runs line.now))) }
 {
     match weight_line(alloc, line) {
         None => Err(Refusal::Line(Code::Entry)),
@@ -144,7 +144,7 @@ fn tableau_step(alloc: Global, line: &[u8]) -> Result<Block, Code>
 
 /// The state after a line that has the numbers of a basis.
 fn pivots_step(alloc: Global, count: u32, line: &[u8]) -> Result<Block, Refusal>
-    ensures { Gives result (with_basis count (basis_of (runs line.now))) }
+    ensures { IsStepUnlessMemory result (with_basis count (basis_of (runs line.now))) }
 {
     match basis_line(alloc, line)? {
         Some(basis) => Ok(Block::Tested(LpEnd::Pivots { count, basis })),
@@ -178,7 +178,7 @@ fn vectors_step(alloc: Global, word: Word, line: &[u8]) -> Result<Block, Code>
 }
 
 fn entries_step(alloc: Global, entries: List<Entry>, line: &[u8]) -> Result<Block, Refusal>
-    ensures { Gives result (block_step (Block.Entries entries) (runs line.now)) }
+    ensures { IsStepUnlessMemory result (block_step (Block.Entries entries) (runs line.now)) }
 {
     if is_end(line) {
         return Ok(Block::Closed(Verdict::Nonrealizable(entries)));
@@ -187,7 +187,7 @@ fn entries_step(alloc: Global, entries: List<Entry>, line: &[u8]) -> Result<Bloc
 }
 
 fn weights_step(alloc: Global, weights: List<Weight>, line: &[u8]) -> Result<Block, Refusal>
-    ensures { Gives result (block_step (Block.Weights weights) (runs line.now)) }
+    ensures { IsStepUnlessMemory result (block_step (Block.Weights weights) (runs line.now)) }
 {
     if is_only_word(line, b"exhausted") {
         return Ok(Block::Exhausted(Front::Weights(weights)));
@@ -231,7 +231,7 @@ fn frontier_step(alloc: Global, front: Front, word: Word, line: &[u8]) -> Result
 
 /// A code as a refusal.
 fn at_fault(read: Result<Block, Code>) -> Result<Block, Refusal>
-    ensures { Gives result read }
+    ensures { IsStepUnlessMemory result read }
 {
     match read {
         Ok(block) => Ok(block),
@@ -241,7 +241,7 @@ fn at_fault(read: Result<Block, Code>) -> Result<Block, Refusal>
 
 /// The state after one more line with words.
 fn step(alloc: Global, block: Block, line: &[u8]) -> Result<Block, Refusal>
-    ensures { Gives result (block_step block (runs line.now)) }
+    ensures { IsStepUnlessMemory result (block_step block (runs line.now)) }
 {
     match block {
         Block::Empty => at_fault(opened_block(alloc, line)),
@@ -259,7 +259,7 @@ fn step(alloc: Global, block: Block, line: &[u8]) -> Result<Block, Refusal>
 
 /// The state after one more line.
 fn advance(alloc: Global, block: Block, line: &[u8]) -> Result<Block, Refusal>
-    ensures { Gives result (block_advance block line.now) }
+    ensures { IsStepUnlessMemory result (block_advance block line.now) }
 {
     let line = before_comment(line);
     if has_no_words(line) {
@@ -272,7 +272,7 @@ fn advance(alloc: Global, block: Block, line: &[u8]) -> Result<Block, Refusal>
 /// What the bytes of a block come to, after `line` lines before them: a verdict, or the first line at fault.
 pub fn read_block(alloc: Global, bytes: &[u8], line: u32) -> Result<Verdict, ParseError>
     requires { line + length bytes.now ≤ MAX_READ }
-    ensures { ComesTo result (block_outcome Block.Empty line (lines bytes.now)) }
+    ensures { IsAnswerUnlessMemory result (block_outcome Block.Empty line (lines bytes.now)) }
 {
     let mut rest = bytes;
     let mut count = line;

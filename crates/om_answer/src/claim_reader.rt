@@ -4,7 +4,7 @@ ghost use Rattle.std.specs.Prelude.{◌≡◌, ℕ, ◌*◌, ◌+◌, ◌-◌, �
 ghost use Rattle.om_signs.specs.declared.limits.TheConstants.{MAX_INPUT, MAX_READ};
 ghost use Rattle.om_text.specs.declared.code.Code.{Code};
 ghost use Rattle.om_text.specs.Lines.{lines};
-ghost use Rattle.om_text.specs.Parsed.{ComesTo, IfLine};
+ghost use Rattle.om_text.specs.Parsed.{IsAnswerUnlessMemory, IfLine};
 ghost use Rattle.om_text.specs.Form.{IsInForm};
 ghost use Rattle.om_answer.specs.declared.claim.Claim.{Claim};
 ghost use Rattle.om_answer.specs.Claim.{IsClaim, HasEvidenceWithinLimits};
@@ -34,11 +34,11 @@ pub fn read_claim(alloc: Global, bytes: &[u8]) -> Result<Claim, ParseError>
     // Of an input that isn't too long, its evidence is within the limits of the checker.
     ensures evidence { length bytes.now ≤ MAX_INPUT → IfOk result (λ c. HasEvidenceWithinLimits c.verdict) }
     // A claim is read, unless memory runs out.
-    ensures every { (c : Claim) → IsClaim (lines bytes.now) c → ComesTo result (Ok c) }
+    ensures every { (c : Claim) → IsClaim (lines bytes.now) c → IsAnswerUnlessMemory result (Ok c) }
     // The line that is named is the first at fault, with its code.
     ensures fault { IfLine result (IsClaimFault (lines bytes.now)) }
     // A fault is named, unless memory runs out.
-    ensures first { (line : ℕ) (code : Code) → IsClaimFault (lines bytes.now) line code → ComesTo result (Err (line, code)) }
+    ensures first { (line : ℕ) (code : Code) → IsClaimFault (lines bytes.now) line code → IsAnswerUnlessMemory result (Err (line, code)) }
 {
     match parse_part(alloc, bytes) {
         Ok((document, len, line)) => match read_block(alloc, &bytes[len..], line) {

@@ -17,7 +17,7 @@ use Rattle.om_text.specs.Words.{is_digit, number_from, is_decimal, begins_with, 
 use Rattle.om_text.specs.Blocks.{position_of, is_dash, with_positions, block_of, block_on, are_blocks, blocks_on}
 use Rattle.om_text.specs.Form.{IsShort}
 use Rattle.om_text.specs.Print.{text_of, block_text, block_lines}
-use Rattle.om_text.specs.Added.{more_blocks}
+use Rattle.om_text.specs.ReaderParts.{blocks_with_line}
 use Rattle.om_text.proofs.Distinct.{either, both}
 use Rattle.om_text.proofs.Digits.{digit_at}
 use Rattle.om_text.proofs.Numerals.{decimal_word, number_word}
@@ -75,13 +75,13 @@ no_last None b h = refl
 no_last (Some i) b h = rw (← h) refl
 
 -- one more word of a line
-pub more_block : (bs : List Block) (w : List ℕ) (ws : List (List ℕ)) (b : Block) → Some b ≡ block_of w → more_blocks (bs ++ b ∷ []) ws ≡ more_blocks bs (w ∷ ws)
+pub more_block : (bs : List Block) (w : List ℕ) (ws : List (List ℕ)) (b : Block) → Some b ≡ block_of w → blocks_with_line (bs ++ b ∷ []) ws ≡ blocks_with_line bs (w ∷ ws)
 more_block bs w ws b h =
     let s : is_some (block_of w) ≡ true = rw (← h) refl in
     let o : block_on w ≡ b = rw (← h) refl in
     rw (s, o) (ap (λ xs. cond (are_blocks ws) (Ok xs) (Err code.Block)) (append_assoc bs (b ∷ []) (blocks_on ws)))
 
-pub no_block : (bs : List Block) (w : List ℕ) (ws : List (List ℕ)) → None ≡ block_of w → more_blocks bs (w ∷ ws) ≡ Err code.Block
+pub no_block : (bs : List Block) (w : List ℕ) (ws : List (List ℕ)) → None ≡ block_of w → blocks_with_line bs (w ∷ ws) ≡ Err code.Block
 no_block bs w ws h = let s : is_some (block_of w) ≡ false = rw (← h) refl in rw s refl
 
 -- ---- blocks as they are printed

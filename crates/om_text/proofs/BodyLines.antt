@@ -14,14 +14,14 @@ use Rattle.om_text.specs.declared.state.State.{State}
 use Rattle.om_text.specs.declared.state.State.TheVariants.{Open}
 use Rattle.om_text.specs.Document.{has_signs, has_length, has_blocks, has_numbers, has_room}
 use Rattle.om_text.specs.Reading.{after_body, added, added_body}
-use Rattle.om_text.specs.Added.{Gives, filled_line}
+use Rattle.om_text.specs.ReaderParts.{IsStepUnlessMemory, body_with_line}
 
 -- a draft with this body
 abbrev pub with_body : Draft → Body → Draft
 with_body d b = record { document = record { elements = d.document.elements; body = b; names = d.document.names }; setting = d.setting; stage = InBody }
 
 -- the draft goes on with the body that the line makes
-pub open_line : (d : Draft) (w : List (List ℕ)) (b : Body) → has_signs d.document w ≡ true → has_length d.document w ≡ true → filled_line d.setting d.document.elements d.document.body w ≡ Ok b → after_body d w ≡ Ok (Open (with_body d b))
+pub open_line : (d : Draft) (w : List (List ℕ)) (b : Body) → has_signs d.document w ≡ true → has_length d.document w ≡ true → body_with_line d.setting d.document.elements d.document.body w ≡ Ok b → after_body d w ≡ Ok (Open (with_body d b))
 open_line d w b s l h = at (has_signs d.document w) (has_length d.document w) (has_blocks d.document w) (has_numbers d.document w) (has_room (added d w).document) (added_body d.setting d.document.body w) b s l h
   where
     at : (s l f c e : Bool) (x b : Body) → s ≡ true → l ≡ true → cond f (cond c (cond e (Ok x) (Err code.Many)) (Err code.Number)) (Err code.Block) ≡ Ok b → cond s (cond l (cond f (cond c (cond e (Ok (Open (with_body d x))) (Err code.Many)) (Err code.Number)) (Err code.Block)) (Err code.Length)) (Err code.Sign) ≡ Ok (Open (with_body d b))
@@ -33,7 +33,7 @@ open_line d w b s l h = at (has_signs d.document w) (has_length d.document w) (h
     at false l f c e x b s m h = cc
 
 -- a line that the body refuses is refused
-pub open_refused : (d : Draft) (w : List (List ℕ)) (r : Refusal) → has_signs d.document w ≡ true → has_length d.document w ≡ true → Gives {A = Body} (Err r) (filled_line d.setting d.document.elements d.document.body w) → Gives {A = State} (Err r) (after_body d w)
+pub open_refused : (d : Draft) (w : List (List ℕ)) (r : Refusal) → has_signs d.document w ≡ true → has_length d.document w ≡ true → IsStepUnlessMemory {A = Body} (Err r) (body_with_line d.setting d.document.elements d.document.body w) → IsStepUnlessMemory {A = State} (Err r) (after_body d w)
 open_refused d w refusal.Memory s l h = tt
 open_refused d w (refusal.Line c) s l h = at (has_signs d.document w) (has_length d.document w) (has_blocks d.document w) (has_numbers d.document w) (has_room (added d w).document) (added_body d.setting d.document.body w) (Open (added d w)) c s l h
   where

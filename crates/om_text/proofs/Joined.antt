@@ -1,6 +1,6 @@
 -- The words of a line in one are its bytes other than blanks.
 --
--- Main definitions: IsPart
+-- Main definitions: IsDocumentAtFront
 -- Main results: concat-runs, are_signs-runs, count-runs, signs-runs, part_more, part_end
 use Rattle.std.proofs.Common.{◌≡◌, ℕ, suc, ◌+◌, ◌<◌, List, [], ◌∷◌, ◌++◌, true, false, not, ◌&&◌, ◌||◌, length, take, drop, set, replicate, get_or, ◌-◌, ◌≤◌, append_assoc, append-nil, length-append, refl, sym, ap, ◌∙◌, arith, inl, inr, map}
 use Rattle.std.specs.Prelude.{filter, count_by}
@@ -14,7 +14,7 @@ use Rattle.om_signs.specs.declared.sign.Sign.{Sign}
 use Rattle.om_text.specs.Lines.{with_first, is_blank, pieces, has_any, runs}
 use Rattle.om_text.specs.Words.{is_sign, sign_of_byte}
 use Rattle.om_text.specs.Document.{are_signs, signs_of_line}
-use Rattle.om_text.specs.Added.{full_bytes, signs_of_bytes}
+use Rattle.om_text.specs.ReaderParts.{full_bytes, signs_of_bytes}
 use Rattle.om_text.proofs.Distinct.{either}
 
 concat_full : (ps : List (List ℕ)) → concat (filter has_any ps) ≡ concat ps
@@ -53,7 +53,7 @@ pub signs-runs : (bs : List ℕ) → signs_of_line (runs bs) ≡ signs_of_bytes 
 signs-runs bs = ap (map sign_of_byte) (concat-runs bs)
 
 -- the first e signs of the line stand in the vector
-pub record IsPart (n : ℕ) (line : List ℕ) (i e : ℕ) (vector : List Sign) : Type 0 where
+pub record IsDocumentAtFront (n : ℕ) (line : List ℕ) (i e : ℕ) (vector : List Sign) : Type 0 where
   pub count : e ≡ length (full_bytes (take i line))
   pub value : vector ≡ signs_of_bytes (take i line) ++ replicate (n - e) Zero
 
@@ -68,21 +68,21 @@ full_within line i =
     let e : full_bytes (take i line) ++ full_bytes (drop i line) ≡ full_bytes line = sym (filter-append (λ b. not (is_blank b)) (take i line) (drop i line)) ∙ ap full_bytes (take-append-drop i line) in
     omega (arith, length-append (full_bytes (take i line)) (full_bytes (drop i line)), ap length e)
 
-pub part_start : (n : ℕ) (line : List ℕ) → IsPart n line 0 0 (replicate n Zero)
+pub part_start : (n : ℕ) (line : List ℕ) → IsDocumentAtFront n line 0 0 (replicate n Zero)
 part_start n line = record { count = refl; value = (let z : n - 0 ≡ n = omega arith in rw z refl) }
 
-pub part_room : (n : ℕ) (line : List ℕ) (i e : ℕ) (v : List Sign) → IsPart n line i e v → i < length line → is_blank (get_or line i 0) ≡ false → length (concat (runs line)) ≡ n → e < n
+pub part_room : (n : ℕ) (line : List ℕ) (i e : ℕ) (v : List Sign) → IsDocumentAtFront n line i e v → i < length line → is_blank (get_or line i 0) ≡ false → length (concat (runs line)) ≡ n → e < n
 part_room n line i e v p l b h =
     let m = ap length (full_more line i l b) in
     let k = full_within line (i + 1) in
     let q : length (full_bytes line) ≡ n = sym (ap length (concat-runs line)) ∙ h in
     omega (arith, length-append (full_bytes (take i line)) (get_or line i 0 ∷ []), p.count)
 
-pub part_length : (n : ℕ) (line : List ℕ) (i e : ℕ) (v : List Sign) → IsPart n line i e v → e ≤ n → length v ≡ n
+pub part_length : (n : ℕ) (line : List ℕ) (i e : ℕ) (v : List Sign) → IsDocumentAtFront n line i e v → e ≤ n → length v ≡ n
 part_length n line i e v p h =
     ap length p.value ∙ length-append (signs_of_bytes (take i line)) (replicate (n - e) Zero) ∙ rw (length-replicate (n - e) Zero, length-map (full_bytes (take i line)) sign_of_byte, ← p.count) (omega arith)
 
-pub part_same : (n : ℕ) (line : List ℕ) (i e : ℕ) (v : List Sign) → IsPart n line i e v → i < length line → is_blank (get_or line i 0) ≡ true → IsPart n line (i + 1) e v
+pub part_same : (n : ℕ) (line : List ℕ) (i e : ℕ) (v : List Sign) → IsDocumentAtFront n line i e v → i < length line → is_blank (get_or line i 0) ≡ true → IsDocumentAtFront n line (i + 1) e v
 part_same n line i e v p l b = record {
   count = p.count ∙ ap length (sym (full_same line i l b));
   value = p.value ∙ ap (λ r. map sign_of_byte r ++ replicate (n - e) Zero) (sym (full_same line i l b));
@@ -93,7 +93,7 @@ set_next xs n e s q l =
     let z : n - e ≡ suc (n - (e + 1)) = omega arith in
     rw (z, q) (set-append_seam xs Zero (replicate (n - (length xs + 1)) Zero) s ∙ sym (append_assoc xs (s ∷ []) (replicate (n - (length xs + 1)) Zero)))
 
-pub part_more : (n : ℕ) (line : List ℕ) (i e : ℕ) (v : List Sign) → IsPart n line i e v → i < length line → is_blank (get_or line i 0) ≡ false → length (concat (runs line)) ≡ n → IsPart n line (i + 1) (e + 1) (set v (e + 1 - 1) (sign_of_byte (get_or line i 0)))
+pub part_more : (n : ℕ) (line : List ℕ) (i e : ℕ) (v : List Sign) → IsDocumentAtFront n line i e v → i < length line → is_blank (get_or line i 0) ≡ false → length (concat (runs line)) ≡ n → IsDocumentAtFront n line (i + 1) (e + 1) (set v (e + 1 - 1) (sign_of_byte (get_or line i 0)))
 part_more n line i e v p l b h =
     let r = part_room n line i e v p l b h in
     let f = full_more line i l b in
@@ -105,7 +105,7 @@ part_more n line i e v p l b h =
       value = ap (λ k. set v k (sign_of_byte (get_or line i 0))) d ∙ ap (λ v. set v e (sign_of_byte (get_or line i 0))) p.value ∙ set_next (signs_of_bytes (take i line)) n e (sign_of_byte (get_or line i 0)) c r ∙ ap (λ r. r ++ replicate (n - (e + 1)) Zero) (sym s);
     }
 
-pub part_end : (n : ℕ) (line : List ℕ) (i e : ℕ) (v : List Sign) → IsPart n line i e v → length line ≤ i → length (concat (runs line)) ≡ n → v ≡ signs_of_line (runs line)
+pub part_end : (n : ℕ) (line : List ℕ) (i e : ℕ) (v : List Sign) → IsDocumentAtFront n line i e v → length line ≤ i → length (concat (runs line)) ≡ n → v ≡ signs_of_line (runs line)
 part_end n line i e v p l h =
     let t = take_all i line l in
     let q : length (full_bytes line) ≡ n = sym (ap length (concat-runs line)) ∙ h in

@@ -11,15 +11,15 @@ use Rattle.std.proofs.lemmas.List.Folds.{list_all-append, list_any-append}
 use Rattle.std.proofs.Math.Seq.{take-append_seam}
 use Rattle.om_signs.specs.declared.limits.TheConstants.{MAX_NAME}
 use Rattle.om_text.specs.Names.{is_name_byte, is_name, are_different, are_names}
-use Rattle.om_text.specs.NameBytes.{IsKept}
+use Rattle.om_text.specs.NameBytes.{IsPaddedName}
 use Rattle.om_text.proofs.Distinct.{either, both}
 
 is_name_by : (w : List ℕ) → 1 ≤ length w → length w ≤ MAX_NAME → list_all is_name_byte w ≡ true → is_name w ≡ true
 is_name_by w l h a = rw (le-leb 1 (length w) l, le-leb (length w) MAX_NAME h, a) refl
 
 -- a name with zeros behind it
-pub kept_new : (w xs : List ℕ) → xs ≡ w → 1 ≤ length w → length w ≤ MAX_NAME → list_all is_name_byte w ≡ true → IsKept (xs ++ drop (length w) (replicate MAX_NAME 0)) (length w)
-kept_new w xs e l h a = subst (λ xs. IsKept (xs ++ drop (length w) (replicate MAX_NAME 0)) (length w)) (sym e) (
+pub kept_new : (w xs : List ℕ) → xs ≡ w → 1 ≤ length w → length w ≤ MAX_NAME → list_all is_name_byte w ≡ true → IsPaddedName (xs ++ drop (length w) (replicate MAX_NAME 0)) (length w)
+kept_new w xs e l h a = subst (λ xs. IsPaddedName (xs ++ drop (length w) (replicate MAX_NAME 0)) (length w)) (sym e) (
     let t : take (length w) (w ++ drop (length w) (replicate MAX_NAME 0)) ≡ w = take-append_seam w (drop (length w) (replicate MAX_NAME 0)) in
     record {
       within = h;

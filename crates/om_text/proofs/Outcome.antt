@@ -15,7 +15,7 @@ use Rattle.om_text.specs.Lines.{lines, wordful}
 use Rattle.om_text.specs.Document.{IsSpelled, IsDocument}
 use Rattle.om_text.specs.Fault.{AreDocument, Begins, IsFault, place, table, first_of}
 use Rattle.om_text.specs.Print.{text_of}
-use Rattle.om_text.specs.Parsed.{ComesTo, IfLine}
+use Rattle.om_text.specs.Parsed.{IsAnswerUnlessMemory, IfLine}
 use Rattle.om_text.specs.Reading.{step, advance, value_of, outcome}
 use Rattle.om_text.specs.Form.{IsInForm}
 use Rattle.om_text.proofs.Forms.{document_form}
@@ -76,24 +76,24 @@ pub outcome_run : (xs ys : List (List ℕ)) (s : State) → run_words Start (wor
 outcome_run xs ys s h = outcome_passes State Document step value_of Start IsSpelled code_at Shows refl step_shows step_error ends runs completes xs ys Start s 0 h ∙ ap (λ k. outcome s k ys) (let z : 0 + length xs ≡ length xs = omega arith in z)
 
 -- what a reading that comes to the outcome says
-pub comes_document : (r : Result Document ParseError) (ls : List (List ℕ)) → ComesTo r (outcome Start 0 ls) → IfOk r (λ d. IsDocument ls d)
+pub comes_document : (r : Result Document ParseError) (ls : List (List ℕ)) → IsAnswerUnlessMemory r (outcome Start 0 ls) → IfOk r (λ d. IsDocument ls d)
 comes_document (Ok d) ls h = document_from ls d h
 comes_document (Err e) ls h = tt
 
-pub comes_form : (r : Result Document ParseError) (ls : List (List ℕ)) → ComesTo r (outcome Start 0 ls) → IfOk r IsInForm
+pub comes_form : (r : Result Document ParseError) (ls : List (List ℕ)) → IsAnswerUnlessMemory r (outcome Start 0 ls) → IfOk r IsInForm
 comes_form (Ok d) ls h = document_form (wordful ls) d (document_from ls d h)
 comes_form (Err e) ls h = tt
 
-pub comes_fault : (r : Result Document ParseError) (ls : List (List ℕ)) → ComesTo r (outcome Start 0 ls) → IfLine r (IsFault ls)
+pub comes_fault : (r : Result Document ParseError) (ls : List (List ℕ)) → IsAnswerUnlessMemory r (outcome Start 0 ls) → IfLine r (IsFault ls)
 comes_fault (Ok d) ls h = tt
 comes_fault (Err error.Memory) ls h = tt
 comes_fault (Err (error.Line l c)) ls h = fault_from ls l c h
 
-pub comes_every : (r : Result Document ParseError) (ls : List (List ℕ)) (d : Document) → ComesTo r (outcome Start 0 ls) → IsDocument ls d → ComesTo r (Ok d)
-comes_every r ls d h o = subst (ComesTo r) (document_outcome ls d o) h
+pub comes_every : (r : Result Document ParseError) (ls : List (List ℕ)) (d : Document) → IsAnswerUnlessMemory r (outcome Start 0 ls) → IsDocument ls d → IsAnswerUnlessMemory r (Ok d)
+comes_every r ls d h o = subst (IsAnswerUnlessMemory r) (document_outcome ls d o) h
 
-pub comes_first : (r : Result Document ParseError) (ls : List (List ℕ)) (l : ℕ) (c : Code) → ComesTo r (outcome Start 0 ls) → IsFault ls l c → ComesTo r (Err (l, c))
-comes_first r ls l c h f = subst (ComesTo r) (outcome_from ls l c f) h
+pub comes_first : (r : Result Document ParseError) (ls : List (List ℕ)) (l : ℕ) (c : Code) → IsAnswerUnlessMemory r (outcome Start 0 ls) → IsFault ls l c → IsAnswerUnlessMemory r (Err (l, c))
+comes_first r ls l c h f = subst (IsAnswerUnlessMemory r) (outcome_from ls l c f) h
 
 -- lines that complete what was read
 run_completes : (ls : List (List ℕ)) (s : State) → run_words Start (wordful ls) ≡ Ok s → (more : List (List ℕ)) × (list_all is_one_line more ≡ true) × AreDocument (ls ++ more)

@@ -24,14 +24,14 @@ use Rattle.om_text.specs.Document.{IsDocument, end_line, has_signs, has_length, 
 use Rattle.om_text.specs.Heading.{first_word, kind_of, heading, has_elements, has_rank, has_size, rank_of_body, values_of_body}
 use Rattle.om_text.specs.Fault.{IsFault}
 use Rattle.om_text.specs.Form.{IsInForm}
-use Rattle.om_text.specs.Parsed.{ComesTo, IfLine}
+use Rattle.om_text.specs.Parsed.{IsAnswerUnlessMemory, IfLine}
 use Rattle.om_text.specs.declared.parse_error.ParseError.{ParseError}
 use Rattle.om_text.specs.declared.parse_error.ParseError.TheVariants as error
-use Rattle.om_text.specs.Part.{EndsWithEnd, IsPart}
+use Rattle.om_text.specs.Part.{EndsWithEnd, IsDocumentAtFront}
 use Rattle.om_text.specs.Print.{text_of}
 use Rattle.om_text.specs.Reading.{step, advance, with_version, first_draft, in_size, with_heading, takes_settings, with_names, with_setting, after_choice, after_setting, after_body, finished_draft, after_end, added, is_closed, outcome}
 use Rattle.om_text.specs.Steps.{step_if}
-use Rattle.om_text.specs.Added.{Gives, fault_at, IsWhole, IsFront}
+use Rattle.om_text.specs.ReaderParts.{IsStepUnlessMemory, fault_at, IsOutcomeOfAllLines, IsDocumentAtFrontOrFault}
 use Rattle.om_text.specs.declared.refusal.Refusal.{Refusal}
 use Rattle.om_text.specs.declared.refusal.Refusal.TheVariants as refusal
 use Rattle.om_text.proofs.Distinct.{either, both}
@@ -259,7 +259,7 @@ cut bytes rest front k o l h (inr z) =
       bytes_after = drop_all k bytes n ∙ sym z;
     }
 
-pub read_part : (bytes rest : List ℕ) (d : Document) (n : ℕ) (stops : Bool) → stops ≡ true → IsRead bytes rest (Closed d) n stops → IsPart bytes d (length bytes - length rest) n
+pub read_part : (bytes rest : List ℕ) (d : Document) (n : ℕ) (stops : Bool) → stops ≡ true → IsRead bytes rest (Closed d) n stops → IsDocumentAtFront bytes d (length bytes - length rest) n
 read_part bytes rest d n stops y r =
     let k : ℕ = length bytes - length rest in
     let f : take n (lines bytes) ≡ r.front = ap (take n) r.left ∙ ap (λ j. take j (r.front ++ lines rest)) (sym r.count) ∙ take_front r.front (lines rest) in
@@ -299,7 +299,7 @@ open_before before line d o e =
     at (Closed x) a = let b = rw e at a in cc
 
 -- a shorter part leaves no longer one
-no_longer : (bytes : List ℕ) (d e : Document) (j k n m : ℕ) → IsPart bytes d j n → IsPart bytes e k m → n < m → ⊥
+no_longer : (bytes : List ℕ) (d e : Document) (j k n m : ℕ) → IsDocumentAtFront bytes d j n → IsDocumentAtFront bytes e k m → n < m → ⊥
 no_longer bytes d e j k n m p q l =
     let u = q.last in
     let o = open_before u.before u.line e (subst (λ ls. IsDocument ls e) u.lines q.document) u.words in
@@ -314,7 +314,7 @@ no_longer bytes d e j k n m p q l =
     differ : (s : State) → is_closed s ≡ false → is_closed s ≡ true → ⊥
     differ s a b = let c = sym a ∙ b in cc
 
-same_count : (bytes : List ℕ) (d e : Document) (j k n m : ℕ) → IsPart bytes d j n → IsPart bytes e k m → n ≡ m
+same_count : (bytes : List ℕ) (d e : Document) (j k n m : ℕ) → IsDocumentAtFront bytes d j n → IsDocumentAtFront bytes e k m → n ≡ m
 same_count bytes d e j k n m p q = elim (cases_lt n m) [
   | inl l ↦ absurd (no_longer bytes d e j k n m p q l)
   | inr g ↦ elim (cases_lt m n) [
@@ -323,7 +323,7 @@ same_count bytes d e j k n m p q = elim (cases_lt n m) [
   ]
 ]
 
-pub same_part : (bytes : List ℕ) (d e : Document) (j k n m : ℕ) → IsPart bytes d j n → IsPart bytes e k m → (d ≡ e) × (j ≡ k) × (n ≡ m)
+pub same_part : (bytes : List ℕ) (d e : Document) (j k n m : ℕ) → IsDocumentAtFront bytes d j n → IsDocumentAtFront bytes e k m → (d ≡ e) × (j ≡ k) × (n ≡ m)
 same_part bytes d e j k n m p q =
     let c = same_count bytes d e j k n m p q in (
       same_value (take n (lines bytes)) d e p.document (subst (λ n. IsDocument (take n (lines bytes)) e) (sym c) q.document),
@@ -343,7 +343,7 @@ closed_after (l ∷ ls) d k m c h = at (words l) refl (closed_after ls d (k + 1)
     at (x ∷ xs) e f = let g = rw e at h in same g
 
 -- a document at the front rules out other faults
-pub part_no_fault : (bytes : List ℕ) (d : Document) (k n m : ℕ) (c : Code) → IsPart bytes d k n → IsFault (lines bytes) m c → c ≡ code.After
+pub part_no_fault : (bytes : List ℕ) (d : Document) (k n m : ℕ) (c : Code) → IsDocumentAtFront bytes d k n → IsFault (lines bytes) m c → c ≡ code.After
 part_no_fault bytes d k n m c p f =
     let w : take n (lines bytes) ++ drop n (lines bytes) ≡ lines bytes = take-append-drop n (lines bytes) in
     let r = spelled_run (wordful (take n (lines bytes))) d p.document in
@@ -370,13 +370,13 @@ unfinished s n rest c z = ap (λ r. outcome s n (lines r)) (empty rest z) ∙ at
     at (Open d) c = refl
     at (Closed d) c = cc
 
-pub whole_refused : (bytes rest line after : List ℕ) (s : State) (n : ℕ) (stops : Bool) (x : Refusal) (e : ParseError) → IsRead bytes rest s n stops → lines rest ≡ line ∷ lines after → e ≡ fault_at (n + 1) x → Gives (Err x) (advance s line) → IsWhole bytes (Err e)
-whole_refused bytes rest line after s n stops refusal.Memory e r l q h = subst (λ e. IsWhole bytes (Err e)) (sym q) tt
-whole_refused bytes rest line after s n stops (refusal.Line c) e r l q h = subst (λ e. IsWhole bytes (Err e)) (sym q) (read_outcome bytes rest s n stops r ∙ refused s n rest line after c l h)
+pub whole_refused : (bytes rest line after : List ℕ) (s : State) (n : ℕ) (stops : Bool) (x : Refusal) (e : ParseError) → IsRead bytes rest s n stops → lines rest ≡ line ∷ lines after → e ≡ fault_at (n + 1) x → IsStepUnlessMemory (Err x) (advance s line) → IsOutcomeOfAllLines bytes (Err e)
+whole_refused bytes rest line after s n stops refusal.Memory e r l q h = subst (λ e. IsOutcomeOfAllLines bytes (Err e)) (sym q) tt
+whole_refused bytes rest line after s n stops (refusal.Line c) e r l q h = subst (λ e. IsOutcomeOfAllLines bytes (Err e)) (sym q) (read_outcome bytes rest s n stops r ∙ refused s n rest line after c l h)
 
-pub front_refused : (bytes rest line after : List ℕ) (s : State) (n : ℕ) (stops : Bool) (x : Refusal) (e : ParseError) → IsRead bytes rest s n stops → is_closed s ≡ false → lines rest ≡ line ∷ lines after → e ≡ fault_at (n + 1) x → Gives (Err x) (advance s line) → IsFront bytes (Err e)
-front_refused bytes rest line after s n stops refusal.Memory e r o l q h = subst (λ e. IsFront bytes (Err e)) (sym q) tt
-front_refused bytes rest line after s n stops (refusal.Line c) e r o l q h = subst (λ e. IsFront bytes (Err e)) (sym q) (read_fault bytes rest s n (n + 1) c stops r (refused s n rest line after c l h), line_not_after s line c o h)
+pub front_refused : (bytes rest line after : List ℕ) (s : State) (n : ℕ) (stops : Bool) (x : Refusal) (e : ParseError) → IsRead bytes rest s n stops → is_closed s ≡ false → lines rest ≡ line ∷ lines after → e ≡ fault_at (n + 1) x → IsStepUnlessMemory (Err x) (advance s line) → IsDocumentAtFrontOrFault bytes (Err e)
+front_refused bytes rest line after s n stops refusal.Memory e r o l q h = subst (λ e. IsDocumentAtFrontOrFault bytes (Err e)) (sym q) tt
+front_refused bytes rest line after s n stops (refusal.Line c) e r o l q h = subst (λ e. IsDocumentAtFrontOrFault bytes (Err e)) (sym q) (read_fault bytes rest s n (n + 1) c stops r (refused s n rest line after c l h), line_not_after s line c o h)
 
 -- a state other than a closed one
 pub other_state : (s : State) → ((d : Document) → s ≡ Closed d → ⊥) → is_closed s ≡ false
@@ -385,34 +385,34 @@ other_state (Versioned v) h = refl
 other_state (Open d) h = refl
 other_state (Closed d) h = absurd (h d refl)
 
-pub whole_unfinished : (bytes rest : List ℕ) (s : State) (n : ℕ) (stops : Bool) → IsRead bytes rest s n stops → is_closed s ≡ false → length rest ≡ 0 → IsWhole bytes (Err (error.Line (n + 1) code.Missing))
+pub whole_unfinished : (bytes rest : List ℕ) (s : State) (n : ℕ) (stops : Bool) → IsRead bytes rest s n stops → is_closed s ≡ false → length rest ≡ 0 → IsOutcomeOfAllLines bytes (Err (error.Line (n + 1) code.Missing))
 whole_unfinished bytes rest s n stops r c z = read_outcome bytes rest s n stops r ∙ unfinished s n rest c z
 
-pub front_unfinished : (bytes rest : List ℕ) (s : State) (n : ℕ) (stops : Bool) → IsRead bytes rest s n stops → is_closed s ≡ false → length rest ≡ 0 → IsFront bytes (Err (error.Line (n + 1) code.Missing))
+pub front_unfinished : (bytes rest : List ℕ) (s : State) (n : ℕ) (stops : Bool) → IsRead bytes rest s n stops → is_closed s ≡ false → length rest ≡ 0 → IsDocumentAtFrontOrFault bytes (Err (error.Line (n + 1) code.Missing))
 front_unfinished bytes rest s n stops r c z = (read_fault bytes rest s n (n + 1) code.Missing stops r (unfinished s n rest c z), λ e. cc)
 
-pub whole_document : (bytes rest : List ℕ) (d : Document) (n k : ℕ) (stops : Bool) → IsRead bytes rest (Closed d) n stops → length rest ≡ 0 → IsWhole bytes (Ok (d, k, n))
+pub whole_document : (bytes rest : List ℕ) (d : Document) (n k : ℕ) (stops : Bool) → IsRead bytes rest (Closed d) n stops → length rest ≡ 0 → IsOutcomeOfAllLines bytes (Ok (d, k, n))
 whole_document bytes rest d n k stops r z = read_outcome bytes rest (Closed d) n stops r ∙ ap (λ x. outcome (Closed d) n (lines x)) (empty rest z)
 
-pub front_part : (bytes : List ℕ) (r : Result (Document × ℕ × ℕ) ParseError) → IsFront bytes r → IfOk r (λ p. IsPart bytes p.0 p.1 p.2)
+pub front_part : (bytes : List ℕ) (r : Result (Document × ℕ × ℕ) ParseError) → IsDocumentAtFrontOrFault bytes r → IfOk r (λ p. IsDocumentAtFront bytes p.0 p.1 p.2)
 front_part bytes (Ok r) h = h
 front_part bytes (Err e) h = tt
 
-pub front_form : (bytes : List ℕ) (r : Result (Document × ℕ × ℕ) ParseError) → IsFront bytes r → IfOk r (λ p. IsInForm p.0)
+pub front_form : (bytes : List ℕ) (r : Result (Document × ℕ × ℕ) ParseError) → IsDocumentAtFrontOrFault bytes r → IfOk r (λ p. IsInForm p.0)
 front_form bytes (Ok r) h = document_form (wordful (take r.2 (lines bytes))) r.0 h.document
 front_form bytes (Err e) h = tt
 
-pub front_fault : (bytes : List ℕ) (r : Result (Document × ℕ × ℕ) ParseError) → IsFront bytes r → IfLine r (λ l c. IsFault (lines bytes) l c × (c ≢ code.After))
+pub front_fault : (bytes : List ℕ) (r : Result (Document × ℕ × ℕ) ParseError) → IsDocumentAtFrontOrFault bytes r → IfLine r (λ l c. IsFault (lines bytes) l c × (c ≢ code.After))
 front_fault bytes (Ok r) h = tt
 front_fault bytes (Err error.Memory) h = tt
 front_fault bytes (Err (error.Line l c)) h = h
 
-pub front_every : (bytes : List ℕ) (r : Result (Document × ℕ × ℕ) ParseError) → IsFront bytes r → (d : Document) (k n : ℕ) → IsPart bytes d k n → ComesTo r (Ok (d, k, n))
+pub front_every : (bytes : List ℕ) (r : Result (Document × ℕ × ℕ) ParseError) → IsDocumentAtFrontOrFault bytes r → (d : Document) (k n : ℕ) → IsDocumentAtFront bytes d k n → IsAnswerUnlessMemory r (Ok (d, k, n))
 front_every bytes (Ok (x, j, m)) h d k n p = let e = same_part bytes d x k j n m p h in rw (e.0, e.1, e.2) refl
 front_every bytes (Err error.Memory) h d k n p = tt
 front_every bytes (Err (error.Line l c)) h d k n p = absurd (h.1 (part_no_fault bytes d k n l c p h.0))
 
-pub front_first : (bytes : List ℕ) (r : Result (Document × ℕ × ℕ) ParseError) → IsFront bytes r → (l : ℕ) (c : Code) → IsFault (lines bytes) l c → c ≢ code.After → ComesTo r (Err (l, c))
+pub front_first : (bytes : List ℕ) (r : Result (Document × ℕ × ℕ) ParseError) → IsDocumentAtFrontOrFault bytes r → (l : ℕ) (c : Code) → IsFault (lines bytes) l c → c ≢ code.After → IsAnswerUnlessMemory r (Err (l, c))
 front_first bytes (Ok r) h l c f n = absurd (n (part_no_fault bytes r.0 r.1 r.2 l c h f))
 front_first bytes (Err error.Memory) h l c f n = tt
 front_first bytes (Err (error.Line m x)) h l c f n = let e = same_fault (lines bytes) l m c x f h.0 in cc

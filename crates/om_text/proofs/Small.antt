@@ -26,7 +26,7 @@ use Rattle.om_text.specs.Document.{end_line, filled_body, is_complete}
 use Rattle.om_text.specs.Heading.{first_word, kind_of, heading, opened, headed, empty_body, numbers, has_elements, has_rank, rank_of_body}
 use Rattle.om_text.specs.Reading.{step, advance, with_version, first_draft, with_heading, takes_settings, with_names, with_setting, after_choice, after_setting, after_body, finished_draft, after_end, added, added_body, outcome}
 use Rattle.om_text.specs.Steps.{step_if}
-use Rattle.om_text.specs.Added.{IsSmall, IsSmallBody, IsSmallState}
+use Rattle.om_text.specs.ReaderParts.{IsDocumentInRange, IsBodyInRange, IsStateInRange}
 use Rattle.om_text.proofs.Distinct.{either, both}
 use Rattle.om_text.proofs.Course.{cond_ok, cond_err, ok_same, heading_ok, named, taken}
 
@@ -34,11 +34,11 @@ pub mapped : (o : Option (ℕ × ℕ)) (f : ℕ × ℕ → Document) (d : Docume
 mapped None f d h = cc
 mapped (Some p) f d h = (p, cc)
 
-empty_small : (k : Kind) (p : ℕ × ℕ) → p.1 ≤ MAX_ELEMENTS → rank_of_body (empty_body k p.0 p.1) ≤ p.1 → IsSmallBody (filled_body Plain (empty_body k p.0 p.1) [])
+empty_small : (k : Kind) (p : ℕ × ℕ) → p.1 ≤ MAX_ELEMENTS → rank_of_body (empty_body k p.0 p.1) ≤ p.1 → IsBodyInRange (filled_body Plain (empty_body k p.0 p.1) [])
 empty_small kinds.Chirotope p h r = record { elements = h; rank = r }
 empty_small _ p h r = tt
 
-heading_small : (v : Version) (w : List (List ℕ)) (d : Document) → heading w ≡ Some d → has_elements d ≡ true → has_rank d ≡ true → IsSmall (first_draft v d).document
+heading_small : (v : Version) (w : List (List ℕ)) (d : Document) → heading w ≡ Some d → has_elements d ≡ true → has_rank d ≡ true → IsDocumentInRange (first_draft v d).document
 heading_small v [] d h e r = cc
 heading_small v (w ∷ ws) d h e r =
     let n = named (kind_of w) (λ k. opened k ws) d h in
@@ -51,40 +51,40 @@ heading_small v (w ∷ ws) d h e r =
     record {
       low = leb-true 1 d.elements b.0;
       high = l;
-      body = subst (λ x. IsSmallBody (filled_body Plain x.body [])) m.1 (empty_small n.0 m.0 k f);
+      body = subst (λ x. IsBodyInRange (filled_body Plain x.body [])) m.1 (empty_small n.0 m.0 k f);
     }
 
-kind_small : (v : Version) (o : Option Document) (w : List (List ℕ)) (t : State) → heading w ≡ o → with_heading v o ≡ Ok t → IsSmallState t
+kind_small : (v : Version) (o : Option Document) (w : List (List ℕ)) (t : State) → heading w ≡ o → with_heading v o ≡ Ok t → IsStateInRange t
 kind_small v None w t e h = cc
 kind_small v (Some d) w t e h =
     let a = heading_ok v d t h in
-    subst IsSmallState a.state (heading_small v w d e a.elements a.rank)
+    subst IsStateInRange a.state (heading_small v w d e a.elements a.rank)
 
-version_small : (o : Option Version) (t : State) → with_version o ≡ Ok t → IsSmallState t
+version_small : (o : Option Version) (t : State) → with_version o ≡ Ok t → IsStateInRange t
 version_small None t h = cc
-version_small (Some v) t h = subst IsSmallState (ok_same (Versioned v) t h) tt
+version_small (Some v) t h = subst IsStateInRange (ok_same (Versioned v) t h) tt
 
-added_small : (s : Setting) (b : Body) (w : List (List ℕ)) → IsSmallBody b → IsSmallBody (added_body s b w)
+added_small : (s : Setting) (b : Body) (w : List (List ℕ)) → IsBodyInRange b → IsBodyInRange (added_body s b w)
 added_small s (Chirotope m) w h = record { elements = h.elements; rank = h.rank }
 added_small s (Points ps) w h = tt
 added_small s _ w h = tt
 
-setting_small : (d : Draft) (o : Option Setting) (t : State) → IsSmall d.document → with_setting d o ≡ Ok t → IsSmallState t
+setting_small : (d : Draft) (o : Option Setting) (t : State) → IsDocumentInRange d.document → with_setting d o ≡ Ok t → IsStateInRange t
 setting_small d None t i h = cc
-setting_small d (Some s) t i h = subst IsSmallState (ok_same (Open (record { document = d.document; setting = s; stage = Full })) t h) i
+setting_small d (Some s) t i h = subst IsStateInRange (ok_same (Open (record { document = d.document; setting = s; stage = Full })) t h) i
 
-settings_small : (g : Stage) (d : Draft) (w : List (List ℕ)) (t : State) → IsSmall d.document → after_setting g d w ≡ Ok t → IsSmallState t
+settings_small : (g : Stage) (d : Draft) (w : List (List ℕ)) (t : State) → IsDocumentInRange d.document → after_setting g d w ≡ Ok t → IsStateInRange t
 settings_small Names d w t i h = elim (either (is_names_line d.document.elements w)) [
   | inl y ↦ let g : ◌≡◌ {A = Result State Code} (Ok (Open (with_names d (other_words w)))) (Ok t) = rw y at h in
-      let m : IsSmall (with_names d (other_words w)).document = record { low = i.low; high = i.high; body = i.body } in
-      subst IsSmallState (ok_same _ _ g) m
+      let m : IsDocumentInRange (with_names d (other_words w)).document = record { low = i.low; high = i.high; body = i.body } in
+      subst IsStateInRange (ok_same _ _ g) m
   | inr n ↦ let g : after_choice d w ≡ Ok t = rw n at h in setting_small d (setting_in d.document.body w) t i g
 ]
 settings_small Choice d w t i h = setting_small d (setting_in d.document.body w) t i h
 settings_small Full d w t i h = cc
 settings_small InBody d w t i h = cc
 
-pub step_small : (s : State) (w : List (List ℕ)) (t : State) → IsSmallState s → step s w ≡ Ok t → IsSmallState t
+pub step_small : (s : State) (w : List (List ℕ)) (t : State) → IsStateInRange s → step s w ≡ Ok t → IsStateInRange t
 step_small Start w t o h = version_small (version_of w) t h
 step_small (Versioned v) w t o h =
     let b = cond_err (is_none (kind_of (first_word w))) (with_heading v (heading w)) code.Kind t h in
@@ -95,19 +95,19 @@ step_small (Open d) w t o h = elim (either (takes_settings d.stage && begins_as_
       elim (either (is_line w end_line)) [
         | inl e ↦ let g : after_end d ≡ Ok t = rw e at k in
             let a = cond_ok (is_complete d.document) (Ok (Closed (finished_draft d))) code.Few t g in
-            subst IsSmallState (ok_same _ _ a.1) tt
+            subst IsStateInRange (ok_same _ _ a.1) tt
         | inr n ↦ let g : after_body d w ≡ Ok t = rw n at k in
-            let m : IsSmall (added d w).document = record { low = o.low; high = o.high; body = added_small d.setting d.document.body w o.body } in
-            subst IsSmallState (taken d w t g).state m
+            let m : IsDocumentInRange (added d w).document = record { low = o.low; high = o.high; body = added_small d.setting d.document.body w o.body } in
+            subst IsStateInRange (taken d w t g).state m
       ]
 ]
 step_small (Closed d) w t o h = cc
 
-pub advance_small : (s : State) (line : List ℕ) (t : State) → IsSmallState s → advance s line ≡ Ok t → IsSmallState t
+pub advance_small : (s : State) (line : List ℕ) (t : State) → IsStateInRange s → advance s line ≡ Ok t → IsStateInRange t
 advance_small s line t o h = at (words line) h
   where
-    at : (w : List (List ℕ)) → step_if step (has_any w) s w ≡ Ok t → IsSmallState t
-    at [] g = subst IsSmallState (ok_same s t g) o
+    at : (w : List (List ℕ)) → step_if step (has_any w) s w ≡ Ok t → IsStateInRange t
+    at [] g = subst IsStateInRange (ok_same s t g) o
     at (x ∷ xs) g = step_small s (x ∷ xs) t o g
 
 pub outcome_step : (s t : State) (n : ℕ) (bytes l r : List ℕ) → lines bytes ≡ l ∷ lines r → advance s l ≡ Ok t → outcome t (n + 1) (lines r) ≡ outcome s n (lines bytes)

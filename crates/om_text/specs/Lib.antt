@@ -17,4 +17,4 @@ pub mod Parsed
 pub mod Part
 pub mod Steps
 pub mod Reading
-pub mod Added
+pub mod ReaderParts

@@ -7,10 +7,10 @@ use Rattle.om_text.specs.declared.parse_error.ParseError.{ParseError}
 use Rattle.om_text.specs.declared.parse_error.ParseError.TheVariants as error
 
 -- the answer is this value, or this line with this code, unless memory ran out
-abbrev pub ComesTo : {A : Type 0} → Result A ParseError → Result A (ℕ × Code) → Type 0
-ComesTo (Ok x) read = read ≡ Ok x
-ComesTo (Err error.Memory) read = Unit {0}
-ComesTo (Err (error.Line l c)) read = read ≡ Err (l, c)
+abbrev pub IsAnswerUnlessMemory : {A : Type 0} → Result A ParseError → Result A (ℕ × Code) → Type 0
+IsAnswerUnlessMemory (Ok x) read = read ≡ Ok x
+IsAnswerUnlessMemory (Err error.Memory) read = Unit {0}
+IsAnswerUnlessMemory (Err (error.Line l c)) read = read ≡ Err (l, c)
 
 -- where a line is named, P holds of the line and its code
 abbrev pub IfLine : {A : Type 0} → Result A ParseError → (ℕ → Code → Type 0) → Type 0

@@ -16,7 +16,7 @@ pub record EndsWithEnd (ls : List (List ℕ)) : Type 0 where
 
 -- The first `count` lines of the bytes are a document with the value d, and the last of them is its end line. The first
 -- `len` bytes are these lines with their line feeds, where the last one may have none, and the other bytes are the other lines.
-pub record IsPart (bytes : List ℕ) (d : Document) (len count : ℕ) : Type 0 where
+pub record IsDocumentAtFront (bytes : List ℕ) (d : Document) (len count : ℕ) : Type 0 where
   pub within : count ≤ length (lines bytes)
   pub document : IsDocument (take count (lines bytes)) d
   pub last : EndsWithEnd (take count (lines bytes))

@@ -7,7 +7,7 @@ ghost use Rattle.om_text.specs.Words.{is_sign};
 ghost use Rattle.om_text.specs.Document.{are_signs, signs_of_line, members_of_line, has_signs_in, has_length_in};
 ghost use Rattle.om_text.specs.Rows.{same_row};
 ghost use Rattle.om_text.specs.Reading.{with_member, with_each, members_on, with_line_members, added_body};
-ghost use Rattle.om_text.specs.Added.{Gives, IsSmallMap, IsSmallBody, roomy, few_members, more_blocks, filled_line};
+ghost use Rattle.om_text.specs.ReaderParts.{IsStepUnlessMemory, IsMapInRange, IsBodyInRange, body_within_limit, members_within_limit, blocks_with_line, body_with_line};
 
 use super::blocks::block_of;
 use super::body::Body;
@@ -62,8 +62,8 @@ pub fn push_signs(signs: &mut List<Sign>, line: &[u8]) -> Result<(), NoMemory>
 
 /// A map with the values of one more line.
 fn with_values(mut map: RawMap, line: &[u8]) -> Result<Body, Refusal>
-    requires { IsSmallMap map }
-    ensures { (n : ℕ) (s : Setting) → Gives result (roomy n (added_body s (Body.Chirotope map) (runs line.now))) }
+    requires { IsMapInRange map }
+    ensures { (n : ℕ) (s : Setting) → IsStepUnlessMemory result (body_within_limit n (added_body s (Body.Chirotope map) (runs line.now))) }
 {
     let room = Subset::choose(map.elements, map.rank) as usize;
     let size = map.signs.len().saturating_add(sign_count(line));
@@ -112,7 +112,7 @@ fn sign_vector(elements: u8, line: &[u8]) -> SignVec
 
 /// The members with one more, if it isn't there.
 fn with_row(mut members: List<SignVec>, member: SignVec) -> Result<List<SignVec>, Refusal>
-    ensures { Gives result (few_members (with_member members member)) }
+    ensures { IsStepUnlessMemory result (members_within_limit (with_member members member)) }
 {
     if has_member(&members, member) {
         if MAX_MEMBERS < members.len() {
@@ -133,7 +133,7 @@ fn with_row_members(
     members: List<SignVec>,
     member: SignVec,
 ) -> Result<List<SignVec>, Refusal>
-    ensures { Gives result (few_members (with_each members (members_on setting member))) }
+    ensures { IsStepUnlessMemory result (members_within_limit (with_each members (members_on setting member))) }
 {
     match setting {
         Setting::Half => with_row(with_row(members, member)?, member.neg()),
@@ -151,14 +151,14 @@ fn with_list_line(
     requires low { 1 ≤ elements }
     requires high { elements ≤ MAX_ELEMENTS }
     requires len { length (concat (runs line.now)) ≡ elements }
-    ensures { Gives result (few_members (with_line_members setting members (runs line.now))) }
+    ensures { IsStepUnlessMemory result (members_within_limit (with_line_members setting members (runs line.now))) }
 {
     with_row_members(setting, members, sign_vector(elements, line))
 }
 
 /// The blocks with those of one more line.
 fn with_words(mut blocks: List<Block>, line: &[u8]) -> Result<List<Block>, Refusal>
-    ensures { Gives result (more_blocks blocks (runs line.now)) }
+    ensures { IsStepUnlessMemory result (blocks_with_line blocks (runs line.now)) }
 {
     let mut rest = line;
     while let Some((word, after)) = first_word(rest) {
@@ -174,7 +174,7 @@ fn with_words(mut blocks: List<Block>, line: &[u8]) -> Result<List<Block>, Refus
 
 /// A wiring with one more line.
 fn with_blocks(blocks: List<Block>, line: &[u8]) -> Result<Body, Refusal>
-    ensures { (n : ℕ) (s : Setting) → Gives result (filled_line s n (Body.Wiring blocks) (runs line.now)) }
+    ensures { (n : ℕ) (s : Setting) → IsStepUnlessMemory result (body_with_line s n (Body.Wiring blocks) (runs line.now)) }
 {
     let blocks = with_words(blocks, line)?;
     if MAX_BLOCKS < blocks.len() {
@@ -185,7 +185,7 @@ fn with_blocks(blocks: List<Block>, line: &[u8]) -> Result<Body, Refusal>
 
 /// The points with one more line.
 fn with_point(mut points: List<[i64; 3]>, elements: u8, line: &[u8]) -> Result<Body, Refusal>
-    ensures { (s : Setting) → Gives result (filled_line s elements (Body.Points points) (runs line.now)) }
+    ensures { (s : Setting) → IsStepUnlessMemory result (body_with_line s elements (Body.Points points) (runs line.now)) }
 {
     let found = match point(line) {
         Some(found) => found,
@@ -226,9 +226,9 @@ pub fn has_length_line(body: &Body, elements: u8, line: &[u8]) -> bool
 pub fn with_line(setting: Setting, body: Body, elements: u8, line: &[u8]) -> Result<Body, Refusal>
     requires low { 1 ≤ elements }
     requires high { elements ≤ MAX_ELEMENTS }
-    requires small { IsSmallBody body }
+    requires small { IsBodyInRange body }
     requires len { has_length_in body elements (runs line.now) ≡ true }
-    ensures { Gives result (filled_line setting elements body (runs line.now)) }
+    ensures { IsStepUnlessMemory result (body_with_line setting elements body (runs line.now)) }
 {
     match body {
         Body::Chirotope(map) => with_values(map, line),

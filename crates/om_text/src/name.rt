@@ -16,13 +16,13 @@ pub struct Name {
 
 impl Model for Name {
     ghost use Rattle.std.specs.Prelude.{ℕ, List, take, length};
-    ghost use Rattle.om_text.specs.NameBytes.{IsKept, padded, padded_back, count_back};
+    ghost use Rattle.om_text.specs.NameBytes.{IsPaddedName, padded, padded_back, count_back};
 
     ghost Value = { List ℕ };
 
     ghost view = { λ n. take n.len n.bytes };
 
-    ghost invariant = { λ n. IsKept n.bytes n.len };
+    ghost invariant = { λ n. IsPaddedName n.bytes n.len };
 
     ghost inverse = { λ w. record { bytes = padded w; len = length w } };
 

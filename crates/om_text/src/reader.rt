@@ -10,9 +10,9 @@ ghost use Rattle.om_text.specs.Document.{IsDocument, end_line, is_complete, is_c
 ghost use Rattle.om_text.specs.Form.{IsInForm};
 ghost use Rattle.om_text.specs.Fault.{IsFault};
 ghost use Rattle.om_text.specs.Reading.{step, advance, takes_settings, finished_draft, open_step, after_body, after_end, is_closed, outcome};
-ghost use Rattle.om_text.specs.Added.{Gives, IsSmall, IsSmallBody, IsSmallState, has_all_values, fault_at, IsWhole, IsFront};
-ghost use Rattle.om_text.specs.Part.{IsPart};
-ghost use Rattle.om_text.specs.Parsed.{ComesTo, IfLine};
+ghost use Rattle.om_text.specs.ReaderParts.{IsStepUnlessMemory, IsDocumentInRange, IsBodyInRange, IsStateInRange, has_all_values, fault_at, IsOutcomeOfAllLines, IsDocumentAtFrontOrFault};
+ghost use Rattle.om_text.specs.Part.{IsDocumentAtFront};
+ghost use Rattle.om_text.specs.Parsed.{IsAnswerUnlessMemory, IfLine};
 
 use super::body::Body;
 use super::body_lines::{has_length_line, has_signs_line, with_line};
@@ -56,7 +56,7 @@ fn version_of(line: &[u8]) -> Option<Version>
 }
 
 fn is_full(body: &Body, elements: u8) -> bool
-    requires { IsSmallBody body.now }
+    requires { IsBodyInRange body.now }
     ensures { result ≡ is_complete_body body.now elements }
 {
     match body {
@@ -68,7 +68,7 @@ fn is_full(body: &Body, elements: u8) -> bool
 
 /// A body with its values in lexicographic order.
 fn in_lexicographic_order(setting: Setting, body: Body) -> Result<Body, NoMemory>
-    requires small { IsSmallBody body }
+    requires small { IsBodyInRange body }
     requires full { has_all_values body ≡ true }
     ensures { IfOk result (λ b. b ≡ in_lexicographic_order setting body) }
 {
@@ -87,7 +87,7 @@ fn in_lexicographic_order(setting: Setting, body: Body) -> Result<Body, NoMemory
 
 /// The document of a draft that has all its lines.
 fn finished(draft: Draft) -> Result<Document, NoMemory>
-    requires small { IsSmall draft.document }
+    requires small { IsDocumentInRange draft.document }
     requires full { is_complete draft.document ≡ true }
     ensures { IfOk result (λ d. d ≡ finished_draft draft) }
 {
@@ -105,8 +105,8 @@ fn finished(draft: Draft) -> Result<Document, NoMemory>
 }
 
 fn close(draft: Draft) -> Result<State, Refusal>
-    requires { IsSmall draft.document }
-    ensures { Gives result (after_end draft) }
+    requires { IsDocumentInRange draft.document }
+    ensures { IsStepUnlessMemory result (after_end draft) }
 {
     if is_full(&draft.document.body, draft.document.elements) {
         Ok(State::Closed(finished(draft)?))
@@ -116,8 +116,8 @@ fn close(draft: Draft) -> Result<State, Refusal>
 }
 
 fn body_line(draft: Draft, line: &[u8]) -> Result<State, Refusal>
-    requires { IsSmall draft.document }
-    ensures { Gives result (after_body draft (runs line.now)) }
+    requires { IsDocumentInRange draft.document }
+    ensures { IsStepUnlessMemory result (after_body draft (runs line.now)) }
 {
     let Draft {
         document,
@@ -159,8 +159,8 @@ fn takes_settings(stage: Stage) -> bool
 
 /// The state after one more line with words of a document that is still open.
 fn open_line(alloc: Global, draft: Draft, line: &[u8]) -> Result<State, Refusal>
-    requires { IsSmall draft.document }
-    ensures { Gives result (open_step draft (runs line.now)) }
+    requires { IsDocumentInRange draft.document }
+    ensures { IsStepUnlessMemory result (open_step draft (runs line.now)) }
 {
     if takes_settings(draft.stage) && begins_as_setting(line) {
         setting_line(alloc, draft, line)
@@ -173,8 +173,8 @@ fn open_line(alloc: Global, draft: Draft, line: &[u8]) -> Result<State, Refusal>
 
 /// The state after one more line with words.
 fn step(alloc: Global, state: State, line: &[u8]) -> Result<State, Refusal>
-    requires { IsSmallState state }
-    ensures { Gives result (step state (runs line.now)) }
+    requires { IsStateInRange state }
+    ensures { IsStepUnlessMemory result (step state (runs line.now)) }
 {
     match state {
         State::Start => match version_of(line) {
@@ -192,8 +192,8 @@ fn step(alloc: Global, state: State, line: &[u8]) -> Result<State, Refusal>
 
 /// The state after one more line.
 fn advance(alloc: Global, state: State, line: &[u8]) -> Result<State, Refusal>
-    requires { IsSmallState state }
-    ensures { Gives result (advance state line.now) }
+    requires { IsStateInRange state }
+    ensures { IsStepUnlessMemory result (advance state line.now) }
 {
     let line = before_comment(line);
     if has_no_words(line) {
@@ -233,8 +233,8 @@ fn unless_over(state: State, stops: bool) -> Result<State, Document>
 /// Reading goes on to the end of the bytes, or stops behind the line `end`.
 fn course(alloc: Global, bytes: &[u8], stops: bool) -> Result<(Document, usize, u32), ParseError>
     requires { length bytes.now ≤ MAX_READ }
-    ensures whole { stops ≡ false → IsWhole bytes.now result }
-    ensures front { stops ≡ true → IsFront bytes.now result }
+    ensures whole { stops ≡ false → IsOutcomeOfAllLines bytes.now result }
+    ensures front { stops ≡ true → IsDocumentAtFrontOrFault bytes.now result }
 {
     let mut rest = bytes;
     let mut line = 0u32;
@@ -264,7 +264,7 @@ fn course(alloc: Global, bytes: &[u8], stops: bool) -> Result<(Document, usize, 
 /// The document that all the bytes are.
 fn whole(alloc: Global, bytes: &[u8]) -> Result<Document, ParseError>
     requires { length bytes.now ≤ MAX_READ }
-    ensures { ComesTo result (outcome State.Start 0 (lines bytes.now)) }
+    ensures { IsAnswerUnlessMemory result (outcome State.Start 0 (lines bytes.now)) }
 {
     let (document, _len, _lines) = course(alloc, bytes, false)?;
     Ok(document)
@@ -300,11 +300,11 @@ pub fn parse(alloc: Global, bytes: &[u8]) -> Result<Document, ParseError>
     // It has the forms of documents, within the limits.
     ensures form { IfOk result IsInForm }
     // A document is read, unless memory runs out.
-    ensures every { (d : Document) → IsDocument (lines bytes.now) d → ComesTo result (Ok d) }
+    ensures every { (d : Document) → IsDocument (lines bytes.now) d → IsAnswerUnlessMemory result (Ok d) }
     // The line that is named is the first at fault, with its code.
     ensures fault { IfLine result (IsFault (lines bytes.now)) }
     // A fault is named, unless memory runs out.
-    ensures first { (line : ℕ) (code : Code) → IsFault (lines bytes.now) line code → ComesTo result (Err (line, code)) }
+    ensures first { (line : ℕ) (code : Code) → IsFault (lines bytes.now) line code → IsAnswerUnlessMemory result (Err (line, code)) }
 {
     whole(alloc, bytes)
 }
@@ -322,15 +322,15 @@ pub fn parse(alloc: Global, bytes: &[u8]) -> Result<Document, ParseError>
 pub fn parse_part(alloc: Global, bytes: &[u8]) -> Result<(Document, usize, u32), ParseError>
     requires { length bytes.now ≤ MAX_READ }
     // The lines read are a document with this value, and the last of them is its end line.
-    ensures part { IfOk result (λ r. IsPart bytes.now r.0 r.1 r.2) }
+    ensures part { IfOk result (λ r. IsDocumentAtFront bytes.now r.0 r.1 r.2) }
     // It has the forms of documents, within the limits.
     ensures form { IfOk result (λ r. IsInForm r.0) }
     // Where there is such a document it is read, unless memory runs out.
-    ensures every { (d : Document) (len count : ℕ) → IsPart bytes.now d len count → ComesTo result (Ok (d, len, count)) }
+    ensures every { (d : Document) (len count : ℕ) → IsDocumentAtFront bytes.now d len count → IsAnswerUnlessMemory result (Ok (d, len, count)) }
     // The line that is named is the first at fault of all the bytes, with its code, and this isn't `after`.
     ensures fault { IfLine result (λ line code. IsFault (lines bytes.now) line code × (code ≢ Code.After)) }
     // Another fault than `after` is named, unless memory runs out.
-    ensures first { (line : ℕ) (code : Code) → IsFault (lines bytes.now) line code → code ≢ Code.After → ComesTo result (Err (line, code)) }
+    ensures first { (line : ℕ) (code : Code) → IsFault (lines bytes.now) line code → code ≢ Code.After → IsAnswerUnlessMemory result (Err (line, code)) }
 {
     course(alloc, bytes, true)
 }

@@ -7,7 +7,7 @@ ghost use Rattle.om_text.specs.Lines.{runs};
 ghost use Rattle.om_text.specs.Names.{are_names};
 ghost use Rattle.om_text.specs.Settings.{is_line, begins_as_setting, other_words, is_names_line, setting_in};
 ghost use Rattle.om_text.specs.Reading.{after_choice, after_names, after_setting};
-ghost use Rattle.om_text.specs.Added.{Gives};
+ghost use Rattle.om_text.specs.ReaderParts.{IsStepUnlessMemory};
 
 use super::body::Body;
 use super::code::Code;
@@ -103,7 +103,7 @@ fn setting_of(body: &Body, line: &[u8]) -> Option<Setting>
 
 /// A draft with the setting of one more line.
 fn choice(draft: Draft, line: &[u8]) -> Result<State, Refusal>
-    ensures { Gives result (after_choice draft (runs line.now)) }
+    ensures { IsStepUnlessMemory result (after_choice draft (runs line.now)) }
 {
     match setting_of(&draft.document.body, line) {
         Some(setting) => Ok(State::Open(Draft {
@@ -128,7 +128,7 @@ fn names_line(alloc: Global, elements: u8, line: &[u8]) -> Result<Option<List<Na
 
 /// A draft after the kind line with one more line.
 fn names_or_choice(alloc: Global, draft: Draft, line: &[u8]) -> Result<State, Refusal>
-    ensures { Gives result (after_names draft (runs line.now)) }
+    ensures { IsStepUnlessMemory result (after_names draft (runs line.now)) }
 {
     match names_line(alloc, draft.document.elements, line)? {
         Some(names) => {
@@ -153,7 +153,7 @@ fn names_or_choice(alloc: Global, draft: Draft, line: &[u8]) -> Result<State, Re
 
 /// The state after a line that begins as a setting line does, where setting lines may come.
 pub fn setting_line(alloc: Global, draft: Draft, line: &[u8]) -> Result<State, Refusal>
-    ensures { Gives result (after_setting draft.stage draft (runs line.now)) }
+    ensures { IsStepUnlessMemory result (after_setting draft.stage draft (runs line.now)) }
 {
     match draft.stage {
         Stage::Names => names_or_choice(alloc, draft, line),

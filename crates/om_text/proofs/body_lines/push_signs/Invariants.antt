@@ -1,5 +1,5 @@
 use Rattle.std.proofs.Common.{◌≡◌, ◌++◌, take}
-use Rattle.om_text.specs.Added.{signs_of_bytes}
+use Rattle.om_text.specs.ReaderParts.{signs_of_bytes}
 use Rattle.om_text.proofs.body_lines.push_signs.Given as goal
 
 abbrev pub invariant-loop-b : goal.invariant-loop-b

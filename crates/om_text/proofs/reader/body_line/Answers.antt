@@ -2,13 +2,13 @@ use Rattle.std.proofs.Common.{rules, sym, ◌∙◌, Err}
 use Rattle.om_text.specs.declared.state.State.{State}
 use Rattle.om_text.specs.Lines.{runs}
 use Rattle.om_text.specs.Reading.{after_body}
-use Rattle.om_text.specs.Added.{Gives}
+use Rattle.om_text.specs.ReaderParts.{IsStepUnlessMemory}
 use Rattle.om_text.proofs.BodyLines.{open_line, open_refused}
 use Rattle.om_text.proofs.reader.body_line.Goals as goal
 
 pub returns-in_err-body : goal.returns-in_err-body
 returns-in_err-body c =
-    let g : Gives {A = State} (Err c.in_err-body.field-0.0) (after_body c.args.draft (runs c.args.line.now))
+    let g : IsStepUnlessMemory {A = State} (Err c.in_err-body.field-0.0) (after_body c.args.draft (runs c.args.line.now))
     = open_refused c.args.draft (runs c.args.line.now) _ (sym c.has_signs_line.ensures ∙ c.if-not-has_signs_line.false) (sym c.has_length_line.ensures ∙ c.if-not-has_length_line.false) c.in_err-body.ensures in
     search rules
 

@@ -1,5 +1,5 @@
 use Rattle.std.proofs.Common.{refl, sym, subst, ◌+◌, arith}
-use Rattle.om_text.specs.Added.{IsSmallState}
+use Rattle.om_text.specs.ReaderParts.{IsStateInRange}
 use Rattle.om_text.proofs.Printing.{not_empty, no_bytes}
 use Rattle.om_text.proofs.Small.{advance_small}
 use Rattle.om_text.proofs.Part.{IsRead, read_start, read_more, read_part, whole_refused, front_refused, whole_document, other_state, whole_unfinished, front_unfinished}
@@ -27,7 +27,7 @@ loop-rest-preserved c =
       read = subst (λ s. IsRead c.args.bytes.now c.first_line.result.1.now s (c.loop-rest.line + 1) c.args.stops) same r;
       unclosed = c.in-Ok-unless_over.ensures.unclosed;
       count = omega arith;
-      small = subst IsSmallState same (advance_small c.loop-rest.state c.first_line.result.0.now c.in-Ok.next c.loop-rest.invariant.small c.in-Ok.ensures);
+      small = subst IsStateInRange same (advance_small c.loop-rest.state c.first_line.result.0.now c.in-Ok.next c.loop-rest.invariant.small c.in-Ok.ensures);
     }
 
 pub returns-in-Closed-clause-whole : goal.returns-in-Closed-clause-whole

@@ -1,6 +1,6 @@
 use Rattle.std.proofs.Common.{◌≡◌, ◌≤◌, ◌+◌, true, false, length}
 use Rattle.om_text.specs.Reading.{is_closed}
-use Rattle.om_text.specs.Added.{IsSmallState}
+use Rattle.om_text.specs.ReaderParts.{IsStateInRange}
 use Rattle.om_text.proofs.Part.{IsRead}
 use Rattle.om_text.proofs.reader.course.Given as goal
 
@@ -9,7 +9,7 @@ invariant-loop-rest l = record {
   read : IsRead l.fn.bytes l.rest l.state l.line l.stops;
   unclosed : l.stops ≡ true → is_closed l.state ≡ false;
   count : l.line + length l.rest ≤ length l.fn.bytes;
-  small : IsSmallState l.state;
+  small : IsStateInRange l.state;
 }
 
 abbrev pub decreases-loop-rest : goal.decreases-loop-rest

@@ -18,18 +18,18 @@ use Rattle.om_text.specs.declared.parse_error.ParseError.{ParseError}
 use Rattle.om_text.specs.declared.parse_error.ParseError.TheVariants as error
 use Rattle.om_text.specs.declared.setting.Setting.{Setting}
 use Rattle.om_text.specs.Fault.{IsFault}
-use Rattle.om_text.specs.Part.{IsPart}
+use Rattle.om_text.specs.Part.{IsDocumentAtFront}
 use Rattle.om_text.specs.Reading.{added_body, outcome}
 use Rattle.om_text.specs.Lines.{is_blank, lines}
 use Rattle.om_text.specs.Words.{sign_of_byte}
 use Rattle.om_text.specs.Blocks.{are_blocks, blocks_on}
 use Rattle.om_text.specs.Document.{has_blocks_in, has_numbers_in, size_of, room_of}
 
--- a part of the reader answers what reading gives, unless memory ran out
-abbrev pub Gives : {A : Type 0} → Result A Refusal → Result A Code → Type 0
-Gives (Ok x) read = read ≡ Ok x
-Gives (Err refusal.Memory) read = Unit {0}
-Gives (Err (refusal.Line c)) read = read ≡ Err c
+-- a part of the reader answers this value, or refuses with this code, unless memory ran out
+abbrev pub IsStepUnlessMemory : {A : Type 0} → Result A Refusal → Result A Code → Type 0
+IsStepUnlessMemory (Ok x) read = read ≡ Ok x
+IsStepUnlessMemory (Err refusal.Memory) read = Unit {0}
+IsStepUnlessMemory (Err (refusal.Line c)) read = read ≡ Err c
 
 -- the bytes of a line other than blanks
 abbrev pub full_bytes : List ℕ → List ℕ
@@ -40,39 +40,41 @@ abbrev pub signs_of_bytes : List ℕ → List Sign
 signs_of_bytes line = map sign_of_byte (full_bytes line)
 
 -- a body on n elements that isn't larger than it may be
-abbrev pub roomy : ℕ → Body → Result Body Code
-roomy n b = cond (nat_le (size_of b) (room_of b n)) (Ok b) (Err code.Many)
+abbrev pub body_within_limit : ℕ → Body → Result Body Code
+body_within_limit n b = cond (nat_le (size_of b) (room_of b n)) (Ok b) (Err code.Many)
 
--- the same of the members of a list
-abbrev pub few_members : List (List Sign) → Result (List (List Sign)) Code
-few_members ms = cond (nat_le (length ms) MAX_MEMBERS) (Ok ms) (Err code.Many)
+-- the members of a list, where there aren't more than there may be
+abbrev pub members_within_limit : List (List Sign) → Result (List (List Sign)) Code
+members_within_limit ms = cond (nat_le (length ms) MAX_MEMBERS) (Ok ms) (Err code.Many)
 
 -- blocks with those of a line
-abbrev pub more_blocks : List Block → List (List ℕ) → Result (List Block) Code
-more_blocks bs w = cond (are_blocks w) (Ok (bs ++ blocks_on w)) (Err code.Block)
+abbrev pub blocks_with_line : List Block → List (List ℕ) → Result (List Block) Code
+blocks_with_line bs w = cond (are_blocks w) (Ok (bs ++ blocks_on w)) (Err code.Block)
 
 -- a body on n elements with one more line, whose signs and length are those of the kind
-abbrev pub filled_line : Setting → ℕ → Body → List (List ℕ) → Result Body Code
-filled_line s n b w = cond (has_blocks_in b w) (cond (has_numbers_in b w) (roomy n (added_body s b w)) (Err code.Number)) (Err code.Block)
+abbrev pub body_with_line : Setting → ℕ → Body → List (List ℕ) → Result Body Code
+body_with_line s n b w = cond (has_blocks_in b w) (cond (has_numbers_in b w) (body_within_limit n (added_body s b w)) (Err code.Number)) (Err code.Block)
 
 -- the numbers of a map are in range
-pub record IsSmallMap (m : RawMap) : Type 0 where
+pub record IsMapInRange (m : RawMap) : Type 0 where
   pub elements : m.elements ≤ MAX_ELEMENTS
   pub rank : m.rank ≤ m.elements
 
-abbrev pub IsSmallBody : Body → Type 0
-IsSmallBody (Chirotope m) = IsSmallMap m
-IsSmallBody _ = Unit {0}
+-- the numbers of the map that a body is are in range; nothing is asked of another body
+abbrev pub IsBodyInRange : Body → Type 0
+IsBodyInRange (Chirotope m) = IsMapInRange m
+IsBodyInRange _ = Unit {0}
 
 -- the numbers of the heading are in range
-pub record IsSmall (d : Document) : Type 0 where
+pub record IsDocumentInRange (d : Document) : Type 0 where
   pub low : 1 ≤ d.elements
   pub high : d.elements ≤ MAX_ELEMENTS
-  pub body : IsSmallBody d.body
+  pub body : IsBodyInRange d.body
 
-abbrev pub IsSmallState : State → Type 0
-IsSmallState (Open d) = IsSmall d.document
-IsSmallState _ = Unit {0}
+-- the numbers of the heading that is read so far are in range
+abbrev pub IsStateInRange : State → Type 0
+IsStateInRange (Open d) = IsDocumentInRange d.document
+IsStateInRange _ = Unit {0}
 
 -- whether a map has a value for each set of its rank; nothing is asked of another body
 abbrev pub has_all_values : Body → Bool
@@ -84,14 +86,15 @@ abbrev pub fault_at : ℕ → Refusal → ParseError
 fault_at n refusal.Memory = error.Memory
 fault_at n (refusal.Line c) = error.Line n c
 
--- what the reader's loop answers, where it goes on to the end of the bytes
-abbrev pub IsWhole : List ℕ → Result (Document × ℕ × ℕ) ParseError → Type 0
-IsWhole bytes (Ok r) = outcome Start 0 (lines bytes) ≡ Ok r.0
-IsWhole bytes (Err error.Memory) = Unit {0}
-IsWhole bytes (Err (error.Line l c)) = outcome Start 0 (lines bytes) ≡ Err (l, c)
+-- what the reader's loop answers, where it goes on to the end of the bytes: the outcome of all their lines, unless memory ran out
+abbrev pub IsOutcomeOfAllLines : List ℕ → Result (Document × ℕ × ℕ) ParseError → Type 0
+IsOutcomeOfAllLines bytes (Ok r) = outcome Start 0 (lines bytes) ≡ Ok r.0
+IsOutcomeOfAllLines bytes (Err error.Memory) = Unit {0}
+IsOutcomeOfAllLines bytes (Err (error.Line l c)) = outcome Start 0 (lines bytes) ≡ Err (l, c)
 
--- what it answers, where it stops behind the end line
-abbrev pub IsFront : List ℕ → Result (Document × ℕ × ℕ) ParseError → Type 0
-IsFront bytes (Ok r) = IsPart bytes r.0 r.1 r.2
-IsFront bytes (Err error.Memory) = Unit {0}
-IsFront bytes (Err (error.Line l c)) = IsFault (lines bytes) l c × (c ≢ code.After)
+-- what it answers, where it stops behind the end line: the document at the front of the bytes, or their first fault other than
+-- `After`, unless memory ran out
+abbrev pub IsDocumentAtFrontOrFault : List ℕ → Result (Document × ℕ × ℕ) ParseError → Type 0
+IsDocumentAtFrontOrFault bytes (Ok r) = IsDocumentAtFront bytes r.0 r.1 r.2
+IsDocumentAtFrontOrFault bytes (Err error.Memory) = Unit {0}
+IsDocumentAtFrontOrFault bytes (Err (error.Line l c)) = IsFault (lines bytes) l c × (c ≢ code.After)
