@@ -40,6 +40,17 @@ impl Chirotope {
         Chirotope { raw }
     }
 
+    /// The signs meet the axioms, the elements are from 1 to [`MAX_ELEMENTS`], and the rank is at most their number. It does
+    /// nothing: its contract is the fact.
+    pub fn is_lawful(&self)
+        ensures lawful { IsChirotope self.now }
+        ensures part { self.now.rank ≤ self.now.elements }
+        ensures low { 1 ≤ self.now.elements }
+        ensures high { self.now.elements ≤ MAX_ELEMENTS }
+    {
+        let _rank = self.raw.rank;
+    }
+
     /// The rank: the number of elements in each list that has a sign.
     pub fn rank(&self) -> u8
         ensures value { result ≡ self.now.rank }

@@ -207,7 +207,7 @@ fn row_of(raw: &RawMap, cocircuits: &[SignVec], p: Subset, x: u8, place: u32) ->
     requires place { place ≡ rank_of p.n (with_element x p.elements) }
     ensures { result ≡ cocircuit_vector (map_of raw.now) (p.elements ++ x ∷ []) }
 {
-    let _size = p.size();
+    p.is_lawful();
     let _with = p.with(x);
     let vector = cocircuits[place as usize];
     if p.odd_after(x) { vector.neg() } else { vector }

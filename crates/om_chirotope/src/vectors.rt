@@ -31,7 +31,7 @@ pub fn sign_of(raw: &RawMap, s: Subset, place: u32) -> Sign
     ensures place { result ≡ chi_of (map_of raw.now) s.elements }
     ensures value { result ≡ value_of (map_of raw.now) s.elements }
 {
-    let _size = s.size();
+    s.is_lawful();
     raw.signs.at(place as usize)
 }
 
@@ -82,7 +82,7 @@ fn cocircuit_sign(raw: &RawMap, a: Subset, e: u8, place: u32) -> Sign
     requires place { (IsMember e a.elements → ⊥) → place ≡ rank_of a.n (with_element e a.elements) }
     ensures { result ≡ along (value_of (map_of raw.now)) a.elements e }
 {
-    let _size = a.size();
+    a.is_lawful();
     if a.has(e) {
         return Sign::Zero;
     }

@@ -42,6 +42,14 @@ impl SignedSet {
         SignedSet { elements, list }
     }
 
+    /// The members meet the axioms of circuits, and the elements are from 1 to the greatest number. It does nothing: its
+    /// contract is the fact.
+    pub fn is_lawful(&self)
+        ensures { IsSignedSet self.now.elements self.now.members }
+    {
+        let _elements = self.elements;
+    }
+
     /// The number of elements; each member has as many places.
     pub fn elements(&self) -> u8
         ensures value { result ≡ self.now.elements }
