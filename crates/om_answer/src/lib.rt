@@ -9,8 +9,6 @@ mod block_lines;
 mod block_reader;
 mod claim;
 mod claim_reader;
-#[cfg(test)]
-mod claim_tests;
 mod field;
 mod fields;
 mod kind;
@@ -19,13 +17,9 @@ mod line;
 mod numbers;
 pub mod pieces;
 mod range;
-#[cfg(test)]
-mod tests;
 mod texts;
 mod verdict;
 mod verdict_lines;
-#[cfg(test)]
-mod verdict_tests;
 
 pub use claim::Claim;
 pub use claim_reader::read_claim;

@@ -23,7 +23,7 @@ fn document_of(alloc: Global, chi: &Chirotope) -> Result<Document, NoMemory>
     ensures form { IfOk result IsInForm }
 {
     let elements = chi.elements();
-    let _rank = chi.rank();
+    chi.is_lawful();
     let copy = chi.copy()?;
     Ok(Document {
         elements,

@@ -5,8 +5,6 @@
 
 mod not_read;
 mod reading;
-#[cfg(test)]
-mod tests;
 mod triples;
 
 pub use not_read::NotRead;

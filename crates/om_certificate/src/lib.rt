@@ -15,8 +15,6 @@ mod evidence;
 mod laws;
 mod lp_end;
 mod room;
-#[cfg(test)]
-mod tests;
 mod verdict;
 mod weighing;
 mod weight;

@@ -14,8 +14,6 @@ mod laws;
 mod set_refused;
 mod signed_set;
 mod supports;
-#[cfg(test)]
-mod tests;
 mod threads;
 
 pub use acceptance::check;

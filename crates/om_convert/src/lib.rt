@@ -19,10 +19,6 @@ mod lists;
 mod member_set;
 mod read_error;
 mod reading;
-#[cfg(test)]
-mod reading_tests;
-#[cfg(test)]
-mod tests;
 mod vectors;
 
 pub use chirotopes::{chirotope_to_circuits, chirotope_to_cocircuits, chirotope_to_covectors};

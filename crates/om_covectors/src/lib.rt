@@ -13,8 +13,6 @@ mod covectors;
 mod elimination;
 mod laws;
 mod minimality;
-#[cfg(test)]
-mod tests;
 mod threads;
 
 pub use acceptance::check;

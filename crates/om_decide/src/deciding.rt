@@ -47,7 +47,7 @@ pub fn decide(alloc: Global, chi: &Chirotope, budgets: Budgets) -> Result<Verdic
     ensures form { IfOk result IsVerdictInForm }
     ensures refused { IfErr result (IsRefusal chi.now) }
 {
-    let _elements = chi.elements();
+    chi.is_lawful();
     if chi.rank() != 3 {
         return Err(DecideError::NotRank3 { r: chi.rank() });
     }

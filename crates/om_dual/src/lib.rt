@@ -8,8 +8,6 @@
 
 mod laws;
 mod lists;
-#[cfg(test)]
-mod tests;
 
 pub use laws::{dual_of_the_dual, normal_forms};
 pub use lists::{dual_circuits, dual_cocircuits, dual_covectors};

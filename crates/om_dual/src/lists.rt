@@ -24,8 +24,7 @@ pub fn dual_circuits(c: Circuits) -> Cocircuits
     ensures dual { IsDual c.0.elements (IsCovectorOfCircuits c.0) (IsCovectorOfCocircuits result.0) }
     ensures unique { AreOnlyCocircuits result.0 }
 {
-    // this call tells that the axioms hold, as in the function below
-    let _elements = c.0.elements();
+    c.0.is_lawful();
     Cocircuits(c.0)
 }
 
@@ -38,7 +37,7 @@ pub fn dual_cocircuits(c: Cocircuits) -> Circuits
     ensures dual { IsDual c.0.elements (IsCovectorOfCocircuits c.0) (IsCovectorOfCircuits result.0) }
     ensures unique { AreOnlyCircuits result.0 }
 {
-    let _elements = c.0.elements();
+    c.0.is_lawful();
     Circuits(c.0)
 }
 

@@ -12,8 +12,6 @@ mod laws;
 mod numbering;
 mod statement;
 mod terms;
-#[cfg(test)]
-mod tests;
 mod walk;
 
 pub use brackets::sides;

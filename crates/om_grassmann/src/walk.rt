@@ -26,8 +26,7 @@ pub fn following(chi: &Chirotope, st: Statement) -> Option<Statement>
     ensures none { IsNone result ↔ IsLast chi.now st }
     ensures next { IfSome result (λ t. IsNext chi.now st t) }
 {
-    // this call tells that there are few elements
-    let _n = chi.elements();
+    chi.is_lawful();
     let frame = Frame::of(st);
     if let Some(next) = first_in_frame(frame, Terms::told_by(st), 3 * (st.small - 1) + st.big) {
         return Some(next);
@@ -43,8 +42,7 @@ pub fn first_from(chi: &Chirotope, start: Frame) -> Option<Statement>
     ensures none { IfNone result (HasNoneFrom chi.now (frame_place start * 9)) }
     ensures first { IfSome result (λ t. IsFirstFrom chi.now (frame_place start * 9) t) }
 {
-    // this call tells that there are few elements
-    let _n = chi.elements();
+    chi.is_lawful();
     if let Some(st) = first_of_frame(chi, start) {
         return Some(st);
     }

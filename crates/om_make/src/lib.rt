@@ -13,8 +13,6 @@ mod listing;
 mod return_trip;
 mod summarizing;
 mod tally;
-#[cfg(test)]
-mod tests;
 
 pub use drawing::vectors;
 pub use summarizing::summary;

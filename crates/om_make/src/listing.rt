@@ -34,8 +34,7 @@ pub fn list_covectors(alloc: Global, chi: &Chirotope) -> Result<Covectors, NoMem
     requires { chi.now.rank ≡ 3 }
     ensures { IfOk result (λ c. ListsCovectors chi.now c) }
 {
-    // this call tells that the axioms hold
-    let _rank = chi.rank();
+    chi.is_lawful();
     match chirotope_to_covectors(alloc, chi) {
         Ok(covectors) => Ok(covectors),
         // in rank 3 there are at most 1,523 on 20 elements, which isn't proved here: the case of too many never comes
@@ -63,8 +62,7 @@ pub fn count_mutations(alloc: Global, chi: &Chirotope) -> Result<u32, NoMemory>
     requires { chi.now.rank ≡ 3 }
     ensures { IfOk result (λ k. HasMutations k chi.now) }
 {
-    // this call tells how many elements there are at most
-    let _elements = chi.elements();
+    chi.is_lawful();
     match mutations(alloc, chi) {
         Ok(sets) => Ok(sets.len() as u32),
         Err(MutationError::NotRank3 { .. }) => unreachable!(),

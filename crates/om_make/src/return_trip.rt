@@ -45,12 +45,10 @@ fn back_from_cocircuits(
     requires cocircuits { ListsCocircuits chi.now cocircuits.now.0 }
     ensures { IfOk result (IsNormalFormOf chi.now) }
 {
-    // this call tells how many elements there are at most
-    let _elements = chi.elements();
+    chi.is_lawful();
     match cocircuits_to_chirotope(alloc, cocircuits) {
         Ok(back) => {
-            // this call tells that the axioms hold
-            let _rank = back.rank();
+            back.is_lawful();
             Ok(back)
         }
         // a chirotope of rank 3 on 20 elements has 1,140 values
@@ -70,12 +68,10 @@ fn back_from_covectors(
     requires covectors { ListsCovectors chi.now covectors.now }
     ensures { IfOk result (IsNormalFormOf chi.now) }
 {
-    // this call tells how many elements there are at most
-    let _elements = chi.elements();
+    chi.is_lawful();
     match covectors_to_chirotope(alloc, covectors) {
         Ok(back) => {
-            // this call tells that the axioms hold
-            let _rank = back.rank();
+            back.is_lawful();
             Ok(back)
         }
         // a chirotope of rank 3 on 20 elements has 1,140 values

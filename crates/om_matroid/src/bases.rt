@@ -16,7 +16,7 @@ pub fn first_basis(chi: &Chirotope) -> Subset
     ensures first { IsFirstBasis chi.now result.elements }
 {
     let nothing = Subset::first(0, chi.elements());
-    let _rank = chi.rank();
+    chi.is_lawful();
     match first_between(chi, nothing, nothing) {
         Some(first) => first,
         None => unreachable!(),

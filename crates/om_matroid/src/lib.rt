@@ -9,8 +9,6 @@ mod exchanges;
 mod laws;
 mod ranks;
 mod search;
-#[cfg(test)]
-mod tests;
 
 pub use bases::{extend_to_basis, first_basis};
 pub use elements::{is_coloop, is_loop, parallel};

@@ -5,7 +5,5 @@
 #![tactic(auto)]
 
 mod members;
-#[cfg(test)]
-mod tests;
 
 pub use members::{are_same, first_without_negative, is_member, is_zero};

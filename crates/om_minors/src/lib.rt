@@ -18,8 +18,6 @@ mod minor_error;
 mod minors;
 mod reorientation;
 mod signed_sets;
-#[cfg(test)]
-mod tests;
 
 pub use circuits::{contract_circuits, delete_circuits, reorient_circuits};
 pub use cocircuits::{contract_cocircuits, delete_cocircuits, reorient_cocircuits};

@@ -26,9 +26,7 @@ pub fn reorient_chirotope(chi: Chirotope, mask: u32) -> Chirotope
     ensures normal { IsLedBy Plus result.signs }
     ensures value { IsNormalFormOf (reoriented_on mask chi) result }
 {
-    // these calls tell that the axioms and the limits hold
-    let _rank = chi.rank();
-    let _elements = chi.elements();
+    chi.is_lawful();
     Chirotope::lawful(turned(chi.into_raw(), mask)).normal()
 }
 

@@ -22,7 +22,7 @@ pub fn is_mutation(chi: &Values, triple: Subset) -> bool
     requires size { length triple.elements ≡ 3 }
     ensures { IsTrue result ↔ IsMutation chi.now triple.elements }
 {
-    let _rank = chi.rank();
+    chi.is_lawful();
     triple.is_lawful();
     if chi.at(triple) == Sign::Zero {
         return false;

@@ -50,8 +50,7 @@ impl Oriented for Chirotope {
     ghost elimination = { elimination_of_chirotope };
 
     fn elements(&self) -> u8 {
-        // this call tells that the axioms hold
-        let _rank = self.rank();
+        self.is_lawful();
         Chirotope::elements(self)
     }
 

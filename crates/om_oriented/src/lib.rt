@@ -12,8 +12,6 @@ mod covector_sets;
 mod differ;
 pub mod laws;
 mod oriented;
-#[cfg(test)]
-mod tests;
 mod walk;
 
 pub use comparison::same;

@@ -115,8 +115,8 @@ alone_both n e X size low high = (
     ]
 
 -- each element has a class
-pub has_class : (n k e : ℕ) → e ≤ n → k ≡ n → k ≤ MAX_ELEMENTS → e < CLASSES
-has_class n k e high same few = omega arith
+pub has_class : (n e : ℕ) → e ≤ n → n ≤ MAX_ELEMENTS → e < CLASSES
+has_class n e high few = omega arith
 
 module _ (m : SignMap) (chirotope : IsChirotope m) where
   size_of : (X : List Sign) → IsCircuitOfChirotope m X → length X ≡ m.elements

@@ -55,8 +55,7 @@ pub fn hull(alloc: Global, chi: &Chirotope) -> Result<List<Painted>, HullError>
     ensures items { IfOk result (EachItem (λ e. IsPaintingOf chi.now (green_alone e) e) 1) }
     ensures extreme { IfOk result (EachItem (λ e item. IsCocircuitItem item ↔ IsExtreme chi.now e) 1) }
 {
-    // this call tells that the axioms hold
-    let _rank = chi.rank();
+    chi.is_lawful();
     let elements = chi.elements();
     let circuits = first_circuits(chi, &Minuses { elements });
     if let Some(x) = circuits[0] {
@@ -80,9 +79,7 @@ fn evidence(chi: &Chirotope, circuits: &Firsts, cocircuits: &Firsts, e: u8) -> P
     ensures painting { IsPaintingOf chi.now (green_alone e) e result }
     ensures extreme { IsCocircuitItem result ↔ IsExtreme chi.now e }
 {
-    // these calls tell that the axioms hold, and how many elements there are
-    let _rank = chi.rank();
-    let _elements = chi.elements();
+    chi.is_lawful();
     if let Some(x) = circuits[e as usize] {
         return Painted::Circuit(x);
     }

@@ -15,8 +15,6 @@ mod source;
 mod std_sink;
 mod std_source;
 mod sure_source;
-#[cfg(test)]
-mod tests;
 mod whole;
 mod write_fault;
 

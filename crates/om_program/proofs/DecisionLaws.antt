@@ -52,10 +52,10 @@ verdict_rank m b v (decide.undecided zs u end unfound) = end.rank
 verdict_rank m b v (decide.pivot_limit basis u end unfound) = end.rank
 verdict_rank m b v (decide.width stage pivot row place u end unfound) = end.rank
 
-pub verdict_decided : (m : SignMap) (b : Budgets) (v : Verdict) (n : ℕ) → n ≡ m.elements → 1 ≤ n → n ≤ MAX_ELEMENTS → IsChirotope m → decide.IsVerdictOf m b v → IsVerdictInForm v → IsDecided m b v
-verdict_decided m b v n size low high axioms verdict form = record {
+pub verdict_decided : (m : SignMap) (b : Budgets) (v : Verdict) → 1 ≤ m.elements → m.elements ≤ MAX_ELEMENTS → IsChirotope m → decide.IsVerdictOf m b v → IsVerdictInForm v → IsDecided m b v
+verdict_decided m b v low high axioms verdict form = record {
   rank = verdict_rank m b v verdict;
-  sound = record { axioms = axioms; limits = record { low = omega (arith, size, low); high = omega (arith, size, high) } };
+  sound = record { axioms = axioms; limits = record { low = low; high = high } };
   verdict = verdict;
   form = form;
 }

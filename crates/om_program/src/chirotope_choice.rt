@@ -40,12 +40,10 @@ fn of_circuits(alloc: Global, circuits: &Circuits) -> Result<Chirotope, Unchosen
     ensures kept { OnOk result (IsKept (circuits_document circuits.now.0)) }
     ensures refused { IfErr result (IsUnchosen (circuits_document circuits.now.0)) }
 {
-    // this call tells how many elements there are at most, as in the functions below
-    let _elements = circuits.0.elements();
+    circuits.0.is_lawful();
     match circuits_to_chirotope(alloc, circuits) {
         Ok(chirotope) => {
-            // this call tells that the axioms hold, as in the functions below
-            let _rank = chirotope.rank();
+            chirotope.is_lawful();
             Ok(chirotope)
         }
         Err(ConvertError::TooWide { values }) => Err(Unchosen::TooWide {
@@ -64,10 +62,10 @@ fn of_cocircuits(alloc: Global, cocircuits: &Cocircuits) -> Result<Chirotope, Un
     ensures kept { OnOk result (IsKept (cocircuits_document cocircuits.now.0)) }
     ensures refused { IfErr result (IsUnchosen (cocircuits_document cocircuits.now.0)) }
 {
-    let _elements = cocircuits.0.elements();
+    cocircuits.0.is_lawful();
     match cocircuits_to_chirotope(alloc, cocircuits) {
         Ok(chirotope) => {
-            let _rank = chirotope.rank();
+            chirotope.is_lawful();
             Ok(chirotope)
         }
         Err(ConvertError::TooWide { values }) => Err(Unchosen::TooWide {
@@ -86,10 +84,10 @@ fn of_covectors(alloc: Global, covectors: &Covectors) -> Result<Chirotope, Uncho
     ensures kept { OnOk result (IsKept (covectors_document covectors.now)) }
     ensures refused { IfErr result (IsUnchosen (covectors_document covectors.now)) }
 {
-    let _elements = covectors.elements();
+    covectors.is_lawful();
     match covectors_to_chirotope(alloc, covectors) {
         Ok(chirotope) => {
-            let _rank = chirotope.rank();
+            chirotope.is_lawful();
             Ok(chirotope)
         }
         Err(ConvertError::TooWide { values }) => Err(Unchosen::TooWide {

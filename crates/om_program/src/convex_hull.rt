@@ -27,8 +27,8 @@ pub fn find_hull(alloc: Global, representation: Representation) -> Result<Answer
 fn find_hull_of(alloc: Global, chirotope: &Chirotope) -> Result<Answer, NoMemory>
     ensures { IfOk result (IsHullOfMap chirotope.now) }
 {
-    // this call tells that the axioms hold, and this one which chirotopes are acyclic
-    let _rank = chirotope.rank();
+    chirotope.is_lawful();
+    // this law tells which chirotopes are acyclic
     acyclic_chirotopes();
     match hull(alloc, chirotope) {
         Ok(items) => Ok(Answer::Hull(items)),

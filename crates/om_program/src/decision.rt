@@ -38,7 +38,7 @@ fn judge_chirotope(
     requires { AreBudgets budgets }
     ensures { IfOk result (DecisionMeans chirotope budgets) }
 {
-    let _elements = chirotope.elements();
+    chirotope.is_lawful();
     let r = chirotope.rank();
     match decide(alloc, &chirotope, budgets) {
         Ok(verdict) => Ok(Answer::Verdict { chirotope, verdict }),

@@ -39,7 +39,7 @@ pub fn map_document(alloc: Global, chirotope: Chirotope) -> Document
     ensures value { result ≡ map_document chirotope }
 {
     let elements = chirotope.elements();
-    let _rank = chirotope.rank();
+    chirotope.is_lawful();
     Document {
         elements,
         body: Body::Chirotope(chirotope.into_raw()),

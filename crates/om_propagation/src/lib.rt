@@ -8,8 +8,6 @@ mod hitting;
 mod propagation;
 mod ranks;
 mod signs;
-#[cfg(test)]
-mod tests;
 
 pub use hitting::{first_missed, least_meeting};
 pub use propagation::{

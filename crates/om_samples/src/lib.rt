@@ -6,8 +6,6 @@
 mod letters;
 mod sample_error;
 mod samples;
-#[cfg(test)]
-mod tests;
 
 pub use letters::{sign_of, signs_of, text_of_map, text_of_vectors, vector_of, vectors_of};
 pub use sample_error::SampleError;

@@ -22,10 +22,6 @@ mod setting;
 mod setting_lines;
 mod stage;
 mod state;
-#[cfg(test)]
-mod tests;
-#[cfg(test)]
-mod tests_two;
 mod version;
 pub mod words;
 

@@ -11,8 +11,6 @@ mod checking;
 mod exchanges;
 mod relations;
 mod sets;
-#[cfg(test)]
-mod tests;
 mod three_refused;
 
 pub use bad_three::BadThree;

@@ -7,8 +7,6 @@ pub mod laws;
 mod realizing;
 mod signs;
 mod signs_error;
-#[cfg(test)]
-mod tests;
 mod triple_products;
 mod triple_signs;
 mod unfound;

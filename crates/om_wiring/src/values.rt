@@ -41,7 +41,7 @@ impl<'a> Values<'a> {
         requires { chi.now.rank ≡ 3 }
         ensures { result ≡ chi.now }
     {
-        let _elements = chi.elements();
+        chi.is_lawful();
         Values {
             chi,
             rows: table_of(chi),

@@ -1,7 +1,7 @@
 use Rattle.std.proofs.Common.{◌-◌, ◌<◌, ◌≡◌, sym, ◌∙◌, ap, subst, arith}
 use Rattle.std.proofs.lemmas.Result.{err_from_is_err_and}
-use Rattle.om_subsets.specs.Subsets.{choose, rank_of, IsSubsetFrom}
-use Rattle.om_subsets.proofs.Walks.{at_first, at_next, list_at}
+use Rattle.om_subsets.specs.Subsets.{choose}
+use Rattle.om_subsets.proofs.Walks.{at_first_of, at_next, list_at}
 use Rattle.om_chirotope.specs.Map.{cocircuit_vector}
 use Rattle.om_denotation.specs.Circuits.{IsCocircuitOfChirotope}
 use Rattle.om_denotation.specs.Listings.{AreAllOf}
@@ -13,7 +13,7 @@ pub loop-k-init : goal.loop-k-init
 loop-k-init c = record {
   gathered = subst (AreAllOf (IsOfPlace (cocircuit_vector c.args.chi.now) c.args.chi.now.elements (c.args.chi.now.rank - 1) 0)) (sym c.new-cocircuits.ensures)
       (none_at_places (cocircuit_vector c.args.chi.now) c.args.chi.now.elements (c.args.chi.now.rank - 1));
-  at = at_first c.args.chi.now.elements (c.args.chi.now.rank - 1) c.first-a.result (c.first-a.ensures.n ∙ c.elements-elements.ensures.value) (c.first-a.ensures.size ∙ ap (λ r. r - 1) c.rank-rank.ensures.value) (subst (λ n. IsSubsetFrom 1 n c.first-a.result.elements) c.elements-elements.ensures.value c.first-a.ensures.lawful) (subst (λ n. rank_of n c.first-a.result.elements ≡ 0) c.elements-elements.ensures.value c.first-a.ensures.place);
+  at = at_first_of c.args.chi.now.elements (c.args.chi.now.rank - 1) _ _ c.first-a.result c.elements-elements.ensures.value (ap (λ r. r - 1) c.rank-rank.ensures.value) c.first-a.ensures.n c.first-a.ensures.size c.first-a.ensures.lawful c.first-a.ensures.place;
 }
 
 pub loop-k-preserved : goal.loop-k-preserved

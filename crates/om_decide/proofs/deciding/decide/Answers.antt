@@ -10,7 +10,7 @@ returns-in-Ok-clause-verdict c = realizable c.in-Ok.word c.in-Ok.ensures.found
 
 pub returns-in-Ok-clause-form : goal.returns-in-Ok-clause-form
 returns-in-Ok-clause-form c =
-    let small : c.args.chi.now.elements ≤ MAX_ELEMENTS = (let e = c.elements-elements.ensures.value in let h = c.elements-elements.ensures.high in omega arith) in
+    let small : c.args.chi.now.elements ≤ MAX_ELEMENTS = c.is_lawful.ensures.high in
     verdict_form c.args.chi.now small c.args.budgets c.requires _ (realizable c.in-Ok.word c.in-Ok.ensures.found)
 
 pub returns-in-Ok-by_tableau-clause-shown : goal.returns-in-Ok-by_tableau-clause-shown
@@ -18,5 +18,5 @@ returns-in-Ok-by_tableau-clause-shown c = verdict_shown c.args.chi.now c.args.bu
 
 pub returns-in-Ok-by_tableau-clause-form : goal.returns-in-Ok-by_tableau-clause-form
 returns-in-Ok-by_tableau-clause-form c =
-    let small : c.args.chi.now.elements ≤ MAX_ELEMENTS = (let e = c.elements-elements.ensures.value in let h = c.elements-elements.ensures.high in omega arith) in
+    let small : c.args.chi.now.elements ≤ MAX_ELEMENTS = c.is_lawful.ensures.high in
     verdict_form c.args.chi.now small c.args.budgets c.requires c.in-Ok-by_tableau.verdict c.in-Ok-by_tableau.ensures

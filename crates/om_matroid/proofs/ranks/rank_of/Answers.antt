@@ -1,6 +1,6 @@
 use Rattle.std.proofs.Common.{◌≡◌, ◌+◌, ◌<◌, length, sym, ap, subst, ◌∙◌, arith}
-use Rattle.om_subsets.specs.Subsets.{IsSubsetFrom, choose, rank_of, subset_at}
-use Rattle.om_subsets.proofs.Walks.{at_first, at_next, list_at}
+use Rattle.om_subsets.specs.Subsets.{IsSubsetFrom, choose, subset_at}
+use Rattle.om_subsets.proofs.Walks.{at_first_of, at_next, list_at}
 use Rattle.om_matroid.proofs.ElementLaws.{refuted}
 use Rattle.om_matroid.proofs.RankLaws.{IsRankBefore, rank_at_first, rank_raised, rank_kept_small, rank_kept_other, rank_at_last}
 use Rattle.om_matroid.proofs.ranks.rank_of.Goals as goal
@@ -9,7 +9,7 @@ use Rattle.om_matroid.proofs.ranks.rank_of.Goals.{then-most-size+then-is_basis, 
 pub loop-k-init : goal.loop-k-init
 loop-k-init c = record {
   best = rank_at_first c.args.chi.now c.args.s.elements c.rank-rank.ensures.lawful;
-  at = at_first c.args.chi.now.elements c.args.chi.now.rank c.first-b.result (c.first-b.ensures.n ∙ c.elements-elements.ensures.value) (c.first-b.ensures.size ∙ c.rank-rank.ensures.value) (subst (λ n. IsSubsetFrom 1 n c.first-b.result.elements) c.elements-elements.ensures.value c.first-b.ensures.lawful) (subst (λ n. rank_of n c.first-b.result.elements ≡ 0) c.elements-elements.ensures.value c.first-b.ensures.place);
+  at = at_first_of c.args.chi.now.elements c.args.chi.now.rank _ _ c.first-b.result c.elements-elements.ensures.value c.rank-rank.ensures.value c.first-b.ensures.n c.first-b.ensures.size c.first-b.ensures.lawful c.first-b.ensures.place;
 }
 
 pub loop-k-preserved : goal.loop-k-preserved

@@ -1,7 +1,7 @@
 use Rattle.std.proofs.Common.{◌≡◌, ◌<◌, refl, sym, ap, subst, below_more, ◌∙◌, arith}
 use Rattle.std.proofs.lemmas.Bool.{false≢true}
-use Rattle.om_subsets.specs.Subsets.{choose, rank_of, IsSubsetFrom}
-use Rattle.om_subsets.proofs.Walks.{at_first, at_next, list_at}
+use Rattle.om_subsets.specs.Subsets.{choose, rank_of}
+use Rattle.om_subsets.proofs.Walks.{at_first_of, at_next, list_at}
 use Rattle.om_matroid.specs.Search.{IsBasisBetween}
 use Rattle.om_matroid.proofs.WalkLaws.{HasNoneBefore, first_between, no_basis_between}
 use Rattle.om_matroid.proofs.search.first_between.Goals as goal
@@ -9,7 +9,7 @@ use Rattle.om_matroid.proofs.search.first_between.Goals as goal
 pub loop-k-init : goal.loop-k-init
 loop-k-init c = record {
   none = λ j l. absurd (omega (arith, l));
-  at = at_first c.args.chi.now.elements c.args.chi.now.rank c.first-b.result (c.first-b.ensures.n ∙ c.elements-elements.ensures.value) (c.first-b.ensures.size ∙ c.rank-rank.ensures.value) (subst (λ n. IsSubsetFrom 1 n c.first-b.result.elements) c.elements-elements.ensures.value c.first-b.ensures.lawful) (subst (λ n. rank_of n c.first-b.result.elements ≡ 0) c.elements-elements.ensures.value c.first-b.ensures.place);
+  at = at_first_of c.args.chi.now.elements c.args.chi.now.rank _ _ c.first-b.result c.elements-elements.ensures.value c.rank-rank.ensures.value c.first-b.ensures.n c.first-b.ensures.size c.first-b.ensures.lawful c.first-b.ensures.place;
 }
 
 pub loop-k-preserved : goal.loop-k-preserved

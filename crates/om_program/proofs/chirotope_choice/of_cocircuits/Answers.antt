@@ -7,7 +7,7 @@ use Rattle.om_program.proofs.chirotope_choice.of_cocircuits.Goals as goal
 
 pub returns-in-Ok-clause-chosen : goal.returns-in-Ok-clause-chosen
 returns-in-Ok-clause-chosen c = record {
-  axioms = c.rank-rank.ensures.lawful;
+  axioms = c.is_lawful-2.ensures.lawful;
   elements = c.in-Ok.ensures.elements;
   same = c.in-Ok.ensures.same;
   normal = c.in-Ok.ensures.normal;
@@ -20,4 +20,4 @@ pub returns-in-Err-TooWide-clause-refused : goal.returns-in-Err-TooWide-clause-r
 returns-in-Err-TooWide-clause-refused c =
     let P : ConvertError → Type 0 = IsWidthCause c.args.cocircuits.now.0.elements (IsCovectorOfCocircuits c.args.cocircuits.now.0) in
     let cause = subst P c.in-Err-TooWide.field-0-is c.in-Err-TooWide.ensures.refused in
-    rw c.in-Err-TooWide.values-is (wide_cocircuits c.args.cocircuits.now.0 c.rank_cocircuits.result c.in-Err-TooWide.values c.elements-elements.ensures.lawful.high cause c.rank_cocircuits.ensures.rank.each)
+    rw c.in-Err-TooWide.values-is (wide_cocircuits c.args.cocircuits.now.0 c.rank_cocircuits.result c.in-Err-TooWide.values c.is_lawful.ensures.high cause c.rank_cocircuits.ensures.rank.each)

@@ -5,7 +5,7 @@ use Rattle.om_program.proofs.DecisionLaws.{verdict_decided}
 use Rattle.om_program.proofs.decision.judge_chirotope.Goals as goal
 
 pub returns-in-Ok : goal.returns-in-Ok
-returns-in-Ok c = decided c.in-Ok.verdict (verdict_decided c.args.chirotope c.args.budgets c.in-Ok.verdict _ c.elements-elements.ensures.value c.elements-elements.ensures.low c.elements-elements.ensures.high c.rank-r.ensures.lawful c.in-Ok.ensures.verdict c.in-Ok.ensures.form)
+returns-in-Ok c = decided c.in-Ok.verdict (verdict_decided c.args.chirotope c.args.budgets c.in-Ok.verdict c.is_lawful.ensures.low c.is_lawful.ensures.high c.rank-r.ensures.lawful c.in-Ok.ensures.verdict c.in-Ok.ensures.form)
 
 pub returns-in-Err-NotRank3 : goal.returns-in-Err-NotRank3
 returns-in-Err-NotRank3 c =

@@ -1,18 +1,16 @@
 use Rattle.std.proofs.Common.{◌≡◌, ◌≤◌, ◌<◌, arith, below_more, refl, rules, subst, sym, ◌∙◌}
-use Rattle.om_subsets.specs.Subsets.{choose, rank_of, IsSubsetFrom}
-use Rattle.om_subsets.proofs.Walks.{at_first, at_next, list_at}
+use Rattle.om_subsets.specs.Subsets.{choose}
+use Rattle.om_subsets.proofs.Walks.{at_first_of, at_next, list_at}
 use Rattle.om_vectors.specs.Realizations.{IsTriple, IsFirstOther}
 use Rattle.om_vectors.proofs.Triples.{HasItsSign, held_all, other_found, realized_triple, realizes_from}
 use Rattle.om_vectors.proofs.realizing.realizes.Goals as goal
 
 pub loop-place-init : goal.loop-place-init
 loop-place-init c =
-    let n = c.elements-n.ensures.value in
-    let r = c.rank-rank.ensures.value ∙ c.requires.rank in
     record {
       held = λ j l. absurd (omega arith);
-      at = at_first c.args.chi.now.elements 3 c.first-s.result (c.first-s.ensures.n ∙ n) (c.first-s.ensures.size ∙ r) (subst (λ m. IsSubsetFrom 1 m c.first-s.result.elements) n c.first-s.ensures.lawful)
-          (subst (λ m. rank_of m c.first-s.result.elements ≡ 0) n c.first-s.ensures.place);
+      at = at_first_of c.args.chi.now.elements 3 _ _ c.first-s.result c.elements-n.ensures.value (c.rank-rank.ensures.value ∙ c.requires.rank) c.first-s.ensures.n c.first-s.ensures.size
+          c.first-s.ensures.lawful c.first-s.ensures.place;
     }
 
 pub at-requires-clause-size : goal.at-requires-clause-size

@@ -1,0 +1,118 @@
+ghost use Rattle.std.specs.Prelude.{◌≡◌, ◌⊎◌, ◌/◌};
+
+use om_parallel::*;
+use om_signs::NoMemory;
+use std::sync::atomic::{AtomicBool, Ordering};
+
+/// Numbers of which 5 and 900 are bad.
+#[derive(Drop)]
+struct FiveAndNineHundred;
+
+impl Probe for FiveAndNineHundred {
+    ghost is_bad = { λ _ k. (k ≡ 5) ⊎ (k ≡ 900) };
+
+    fn bad(&self, k: u64) -> bool {
+        k == 5 || k == 900
+    }
+}
+
+/// How often the call for 0 looks whether the call for 1 has come.
+const MOST_TURNS: u64 = 2_000_000_000;
+
+/// Two calls that are made at the same time: that for 0 waits until that for 1 has come.
+#[derive(Drop)]
+struct Held {
+    come: AtomicBool,
+    late: AtomicBool,
+}
+
+impl Held {
+    fn new() -> Held {
+        Held {
+            come: AtomicBool::new(false),
+            late: AtomicBool::new(false),
+        }
+    }
+
+    fn meet(&self, k: u64) {
+        if k == 1 {
+            self.come.store(true, Ordering::SeqCst);
+            return;
+        }
+        for _ in 0..MOST_TURNS {
+            if self.come.load(Ordering::SeqCst) {
+                return;
+            }
+        }
+        self.late.store(true, Ordering::SeqCst);
+    }
+}
+
+impl Probe for Held {
+    ghost is_bad = { λ _ _. ⊥ };
+
+    fn bad(&self, k: u64) -> bool {
+        self.meet(k);
+        false
+    }
+}
+
+impl Part for Held {
+    type Out = u64;
+
+    ghost gives = { λ _ k x. x ≡ k };
+
+    fn part(&self, k: u64) -> u64 {
+        self.meet(k);
+        k
+    }
+}
+
+/// Each number twice.
+#[derive(Drop)]
+struct Halves;
+
+impl Part for Halves {
+    type Out = u64;
+
+    ghost gives = { λ _ k x. x ≡ k / 2 };
+
+    fn part(&self, k: u64) -> u64 {
+        k / 2
+    }
+}
+
+#[test]
+fn least_bad_number(rt: HostRuntime) {
+    assert_eq!(rt; first_bad(&rt, &FiveAndNineHundred, 1000), Some(5));
+    assert_eq!(rt; first_bad(&rt, &FiveAndNineHundred, 5), None);
+    assert_eq!(rt; first_bad(&rt, &FiveAndNineHundred, 0), None);
+    assert_eq!(rt; first_bad(&rt, &FiveAndNineHundred, 1_000_000), Some(5));
+}
+
+#[test]
+fn probes_meet(rt: HostRuntime) {
+    let held = Held::new();
+    assert_eq!(rt; first_bad(&rt, &held, 2), None);
+    assert!(rt; !held.late.load(Ordering::SeqCst));
+}
+
+#[test]
+fn parts_meet(rt: HostRuntime) -> Result<(), NoMemory> {
+    let held = Held::new();
+    let answers = map_parts(&rt, rt.alloc(), &held, 2)?;
+    assert_eq!(rt; answers.as_slice(), [0, 1].as_slice());
+    assert!(rt; !held.late.load(Ordering::SeqCst));
+    Ok(())
+}
+
+#[test]
+fn parts_in_order(rt: HostRuntime) -> Result<(), NoMemory> {
+    let few = map_parts(&rt, rt.alloc(), &Halves, 5)?;
+    assert_eq!(rt; few.as_slice(), [0, 0, 1, 1, 2].as_slice());
+    let none = map_parts(&rt, rt.alloc(), &Halves, 0)?;
+    assert_eq!(rt; none.len(), 0);
+    let many = map_parts(&rt, rt.alloc(), &Halves, 20_000)?;
+    assert_eq!(rt; many.len(), 20_000);
+    Ok(())
+}
