@@ -5,7 +5,7 @@ use Rattle.std.proofs.Common.{◌≡◌, ℕ, suc, ◌+◌, List, [], ◌∷◌,
 use Rattle.std.specs.Prelude.{Option, Some, None, codes, bytes_eq, option_and_then, is_some}
 use Rattle.std.proofs.lemmas.Slice.Eq.{bytes_eq-Decides}
 use Rattle.std.specs.List.{list_any}
-use Rattle.std.proofs.lemmas.List.{map-append, length-map}
+use Rattle.std.proofs.lemmas.List.{map-append}
 use Rattle.om_text.specs.Settings.{is_line}
 use Rattle.om_text.proofs.Distinct.{either}
 use Rattle.om_text.proofs.Filling.{is_line-Decides}
@@ -128,9 +128,6 @@ lines_tail {A = A} f l ls x xs h = tail (f l) (Some x) (map f ls) (map Some xs) 
   where
     tail : (a b : Option A) (as' bs : List (Option A)) → ◌≡◌ {A = List (Option A)} (a ∷ as') (b ∷ bs) → as' ≡ bs
     tail a b as' bs h = cc
-
-pub lines_length : {A : Type 0} (f : List (List ℕ) → Option A) (ls : List (List (List ℕ))) (xs : List A) → AreLinesOf f ls xs → length ls ≡ length xs
-lines_length {A = A} f ls xs h = sym (length-map ls f) ∙ ap length h ∙ length-map xs Some
 
 -- one more line with its item
 pub lines_more : {A : Type 0} (f : List (List ℕ) → Option A) (ls : List (List (List ℕ))) (xs : List A) (l : List (List ℕ)) (x : A) → AreLinesOf f ls xs → f l ≡ Some x → AreLinesOf f (ls ++ l ∷ []) (xs ++ x ∷ [])

@@ -8,7 +8,7 @@ use Rattle.om_text.specs.declared.code.Code.TheVariants as code
 use Rattle.om_text.specs.Lines.{words, wordful}
 use Rattle.om_text.specs.Settings.{is_line}
 use Rattle.om_text.specs.Document.{end_line}
-use Rattle.om_text.specs.Fault.{IsFaultIn, place, table, first_of}
+use Rattle.om_text.specs.Fault.{IsFaultIn, role, table, first_of}
 use Rattle.om_answer.specs.declared.claim.Claim.{Claim}
 use Rattle.om_answer.specs.BlockLines.{vector_of, weight_of}
 use Rattle.om_answer.specs.Block.{MOST_VECTORS, MOST_WEIGHTS}
@@ -44,7 +44,7 @@ code_after_document (v ∷ ls) w = code_in_block ls w
 
 -- the code of the line w after the lines with words ls: that of the document's table up to its end
 abbrev pub code_by_end : Option (List (List (List ℕ))) → List (List (List ℕ)) → List (List ℕ) → Option Code
-code_by_end None ls w = first_of (table (place ls w) w)
+code_by_end None ls w = first_of (table (role ls w) w)
 code_by_end (Some block) ls w = Some (code_after_document block w)
 
 abbrev pub claim_code : List (List (List ℕ)) → List (List ℕ) → Option Code

@@ -1,7 +1,7 @@
 -- The walk over the lawful statements in order.
 --
 -- Main definitions: IsWalk
--- Main results: none_lawful, first_lawful, first_unmet_here, met_by_table, nearer_following, walk_following
+-- Main results: none_lawful, first_unmet_here, met_by_table, nearer_following, walk_following
 use Rattle.std.specs.Prelude.{ℕ, ◌≡◌, ◌-◌, ◌*◌, ◌^◌, ◌<◌, ℤ, pos, ◌+ℤ◌, Bool, IsTrue, ◌↔◌, List, Option, Some, None, IsNone, IfSome}
 use Rattle.std.specs.List.{Contains}
 use Rattle.std.proofs.Math.ListN.{get_or}
@@ -9,7 +9,7 @@ use Rattle.std.proofs.Common.{refl, sym, ◌∙◌, ap, subst, arith, inl, inr, 
 use Rattle.om_chirotope.specs.Map.{SignMap}
 use Rattle.om_grassmann.specs.declared.statement.Statement.{Statement}
 use Rattle.om_grassmann.specs.Statements.{IsLawful}
-use Rattle.om_grassmann.specs.Order.{IsBefore, IsNext, IsLast, IsNumber, HasAtMost}
+use Rattle.om_grassmann.specs.Order.{IsBefore, IsNext, IsLast, HasAtMost}
 use Rattle.om_grassmann.specs.Walk.{place, frame_place}
 use Rattle.om_grassmann.proofs.Places.{lawful_places}
 use Rattle.om_certificate.specs.declared.weight.Weight.{Weight}
@@ -60,12 +60,6 @@ none_lawful m ws h s l = go ((h.are_all.members s).1 l)
   where
     go : Contains h.all s → IsMetBy ws s
     go (k, b, e) = let c = h.count in absurd (omega arith)
-
-pub first_lawful : (m : SignMap) (ws : List Weight) (t : Statement) → IsNumber m 0 t → IsWalk m ws (Some t)
-first_lawful m ws t h = (h.lawful, λ s l b. go s ((h.are_before.members s).1 (l, b)))
-  where
-    go : (s : Statement) → Contains h.before s → IsMetBy ws s
-    go s (k, b, e) = let c = h.count in absurd (omega arith)
 
 met_before : (m : SignMap) (ws : List Weight) (s u : Statement) → IsMetBy ws s → IsWalk m ws (Some s) → IsLawful m u → (u ≡ s) ⊎ IsBefore u s → IsMetBy ws u
 met_before m ws s u k w l (inl e) = subst (IsMetBy ws) (sym e) k

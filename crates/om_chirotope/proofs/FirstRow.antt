@@ -9,7 +9,7 @@ use Rattle.std.proofs.lemmas.List.{get_or_past}
 use Rattle.om_signs.specs.declared.sign.Sign.{Sign}
 use Rattle.om_signs.specs.declared.sign.Sign.TheVariants.{Zero}
 use Rattle.om_signs.specs.Sign.{opposite, product}
-use Rattle.om_signs.specs.SignVec.{at, place}
+use Rattle.om_signs.specs.SignVec.{at, at_element}
 use Rattle.om_laws.specs.Relations.{along}
 use Rattle.om_laws.specs.Sorting.{IsElement}
 use Rattle.om_laws.specs.ThreeTerm.{AreBalanced}
@@ -141,7 +141,7 @@ module _ (m : SignMap) (p : List ℕ) where
     at_row : (a b : ℕ) → IsElement n a → IsElement n b → at (get_or rows (a - 1) []) (b - 1) ≡ pair a b
     at_row a b ia ib =
         let high = ia.1 in
-        ap (λ r. place r b) (are.row a ia.0 (omega (arith, high))) ∙ cocircuit_place m (p ++ a ∷ []) b ib.0 ib.1 ∙ ap (value_of m) (append_assoc p (a ∷ []) (b ∷ []))
+        ap (λ r. at_element r b) (are.row a ia.0 (omega (arith, high))) ∙ cocircuit_place m (p ++ a ∷ []) b ib.0 ib.1 ∙ ap (value_of m) (append_assoc p (a ∷ []) (b ∷ []))
 
     row_length : (a : ℕ) → IsElement n a → length (get_or rows (a - 1) []) ≡ n
     row_length a ia = let high = ia.1 in ap length (are.row a ia.0 (omega (arith, high))) ∙ length-vector n (along (value_of m) (p ++ a ∷ []))

@@ -13,7 +13,7 @@ use Rattle.om_signs.proofs.Bits.{bit_at_and_not, one_shl_32, some_bit}
 use Rattle.om_signs.specs.declared.limits.TheConstants.{MAX_PLACES}
 use Rattle.om_signs.specs.declared.sign.Sign.{Sign}
 use Rattle.om_signs.specs.declared.sign.Sign.TheVariants.{Zero}
-use Rattle.om_signs.specs.SignVec.{at, place, IsMaskOf, IsNonzero}
+use Rattle.om_signs.specs.SignVec.{at, at_element, IsMaskOf, IsInSupport}
 use Rattle.om_subsets.specs.Subsets.{choose, rank_of, subset_at, IsSubsetFrom, IsMember}
 use Rattle.om_subsets.specs.Members.{mask_of}
 use Rattle.om_subsets.proofs.Masks.{mask_of-lt, members-mask_of, bits_are_members}
@@ -200,14 +200,14 @@ off_support_bit n support j few jn small on =
     let shifted : 1 * 2 ^ n % 4294967296 ≡ 2 ^ n = one_shl_32 n (omega (arith, few)) in
     rw shifted (bit_at_and_not (2 ^ n - 1) support j (omega (arith, room, p)) (omega (arith, room, small)) ∙ rw (bit_at_ones n j jn, on) refl)
 
-pub met_of_mark : (m : SignMap) (words : List ℕ) (u : List Sign) (support : ℕ) → m.elements ≤ MAX_PLACES → length u ≡ m.elements → IsMaskOf (length u) (IsNonzero u) support → AreMarkedAbove m words → (IsMarked words (off_support m.elements support) → ⊥) → IsMet m u
-met_of_mark m words u support few len is all none i l nz b basis = elim (search_members (λ f. place u f ≢ Zero) (λ f. place u f ≡ Zero) decided b) [
+pub met_of_mark : (m : SignMap) (words : List ℕ) (u : List Sign) (support : ℕ) → m.elements ≤ MAX_PLACES → length u ≡ m.elements → IsMaskOf (length u) (IsInSupport u) support → AreMarkedAbove m words → (IsMarked words (off_support m.elements support) → ⊥) → IsMet m u
+met_of_mark m words u support few len is all none i l nz b basis = elim (search_members (λ f. at_element u f ≢ Zero) (λ f. at_element u f ≡ Zero) decided b) [
   | inl found ↦ found
   | inr zeros ↦ absurd (none (all.above (off_support m.elements support) b inside_limit basis (λ j k. inside zeros j k)))
 ]
   where
-    decided : (f : ℕ) → (place u f ≢ Zero) ⊎ (place u f ≡ Zero)
-    decided f = elim (zero_or_nonzero (place u f)) [ inl z ↦ inr z | inr k ↦ inl k ]
+    decided : (f : ℕ) → (at_element u f ≢ Zero) ⊎ (at_element u f ≡ Zero)
+    decided f = elim (zero_or_nonzero (at_element u f)) [ inl z ↦ inr z | inr k ↦ inl k ]
 
     room : 2 ^ m.elements ≤ 2 ^ MAX_PLACES
     room = pow_mono {j = MAX_PLACES} few
@@ -221,7 +221,7 @@ met_of_mark m words u support few len is all none i l nz b basis = elim (search_
     inside_limit : off_support m.elements support < 2 ^ m.elements
     inside_limit = let a = and_le_l (1 * 2 ^ m.elements % 4294967296 - 1) (4294967295 - support) in let s = shifted in let p = pos in omega arith
 
-    inside : ((f : ℕ) → IsMember f b → place u f ≡ Zero) → (j : ℕ) → IsMember (j + 1) b → bit_at (off_support m.elements support) j ≡ 1
+    inside : ((f : ℕ) → IsMember f b → at_element u f ≡ Zero) → (j : ℕ) → IsMember (j + 1) b → bit_at (off_support m.elements support) j ≡ 1
     inside zeros j k =
         let bound = (members_from 1 m.elements (j + 1) b basis.list k).1 in
         let jn : j < m.elements = omega (arith, bound) in
@@ -235,7 +235,7 @@ met_of_mark m words u support few len is all none i l nz b basis = elim (search_
         let small : support < 2 ^ m.elements = subst (λ y. support < 2 ^ y) len within in
         rw shifted (bit_at_and_not (2 ^ m.elements - 1) support j (omega (arith, r, p)) (omega (arith, r, small)) ∙ rw (bit_at_ones m.elements j jn, bit) refl)
 
-pub met_of_zero : (m : SignMap) (u : List Sign) (support : ℕ) → length u ≡ m.elements → IsMaskOf (length u) (IsNonzero u) support → support ≡ 0 → IsMet m u
+pub met_of_zero : (m : SignMap) (u : List Sign) (support : ℕ) → length u ≡ m.elements → IsMaskOf (length u) (IsInSupport u) support → support ≡ 0 → IsMet m u
 met_of_zero m u support len is z i l nz b basis =
     let il : i < length u = omega (arith, l, len) in
     absurd (none i (sym (ap (λ k. bit_at k i) z) ∙ (is.holds i il).1 nz))
@@ -244,7 +244,7 @@ met_of_zero m u support len is z i l nz b basis =
     none i q = let e = bit_at-zero i in omega (arith, e, q)
 
 -- where some set off the support of a vector that isn't zero has a basis in it, that basis has no element of the support
-pub not_met : (m : SignMap) (u : List Sign) (support : ℕ) → m.elements ≤ MAX_PLACES → length u ≡ m.elements → IsMaskOf (length u) (IsNonzero u) support → support ≢ 0 → HasBasisIn m (off_support m.elements support) → IsMet m u → ⊥
+pub not_met : (m : SignMap) (u : List Sign) (support : ℕ) → m.elements ≤ MAX_PLACES → length u ≡ m.elements → IsMaskOf (length u) (IsInSupport u) support → support ≢ 0 → HasBasisIn m (off_support m.elements support) → IsMet m u → ⊥
 not_met m u support few len is some (b, basis, inside) met = go (some_bit support some (let w = within_32 in omega (arith, w)))
   where
     within_32 : support < 4294967296
@@ -253,7 +253,7 @@ not_met m u support few len is some (b, basis, inside) met = go (some_bit suppor
         let room : 2 ^ length u ≤ 2 ^ MAX_PLACES = pow_mono {j = MAX_PLACES} (omega (arith, few, len)) in
         omega (arith, w, room)
 
-    apart : (f : ℕ) → IsMember f b → place u f ≢ Zero → ⊥
+    apart : (f : ℕ) → IsMember f b → at_element u f ≢ Zero → ⊥
     apart f k nz =
         let bound = members_from 1 m.elements f b basis.list k in
         let fl = bound.0 in

@@ -10,7 +10,7 @@ use Rattle.std.proofs.lemmas.List.FromFn.{length-map-range_with_len, get_or-map-
 use Rattle.om_signs.specs.declared.sign.Sign.{Sign}
 use Rattle.om_signs.specs.declared.sign.Sign.TheVariants.{Zero}
 use Rattle.om_signs.specs.Sign.{opposite, product}
-use Rattle.om_signs.specs.SignVec.{at, place}
+use Rattle.om_signs.specs.SignVec.{at, at_element}
 use Rattle.om_subsets.specs.Subsets.{IsSubsetFrom, IsMember}
 use Rattle.om_subsets.proofs.Order.{members_from}
 use Rattle.om_laws.specs.Relations.{around, along}
@@ -35,7 +35,7 @@ vector_more e f xs s low high is done k l = elim (cases_eq k (e - 1)) [
 pub length-vector : (n : ℕ) (f : ℕ → Sign) → length (as_list n f) ≡ n
 length-vector n f = length-map-range_with_len f 1 n
 
-pub place-vector : (n : ℕ) (f : ℕ → Sign) (e : ℕ) → 1 ≤ e → e ≤ n → place (as_list n f) e ≡ f e
+pub place-vector : (n : ℕ) (f : ℕ → Sign) (e : ℕ) → 1 ≤ e → e ≤ n → at_element (as_list n f) e ≡ f e
 place-vector n f e low high =
     let back : 1 + (e - 1) ≡ e = omega arith in
     get_or-map-range_with_len f 1 n (e - 1) e Zero (omega arith) back
@@ -70,14 +70,14 @@ around_place low (suc m) (suc i) chi (x ∷ xs) (inl (q, h)) l =
     lemma a b = grind arith
 around_place low (suc m) i chi (x ∷ xs) (inr (n, h)) l = around_place (low + 1) m i chi (x ∷ xs) h l
 
-pub circuit_place : (m : SignMap) (s : List ℕ) (i : ℕ) → IsSubsetFrom 1 m.elements s → i < length s → place (circuit_vector m s) (get_or s i 0) ≡ product (parity_sign (i + 1)) (value_of m (remove s i))
+pub circuit_place : (m : SignMap) (s : List ℕ) (i : ℕ) → IsSubsetFrom 1 m.elements s → i < length s → at_element (circuit_vector m s) (get_or s i 0) ≡ product (parity_sign (i + 1)) (value_of m (remove s i))
 circuit_place m s i h l =
     let bound = members_from 1 m.elements (get_or s i 0) s h (at_member 1 m.elements i s h l) in
     place-vector m.elements (around (value_of m) s) (get_or s i 0) (omega arith) (omega arith)
     ∙ around_place 1 m.elements i (value_of m) s h l
 
-pub circuit_off : (m : SignMap) (s : List ℕ) (e : ℕ) → 1 ≤ e → e ≤ m.elements → (IsMember e s → ⊥) → place (circuit_vector m s) e ≡ Zero
+pub circuit_off : (m : SignMap) (s : List ℕ) (e : ℕ) → 1 ≤ e → e ≤ m.elements → (IsMember e s → ⊥) → at_element (circuit_vector m s) e ≡ Zero
 circuit_off m s e low high n = place-vector m.elements (around (value_of m) s) e low high ∙ around_other (value_of m) s e n
 
-pub cocircuit_place : (m : SignMap) (a : List ℕ) (e : ℕ) → 1 ≤ e → e ≤ m.elements → place (cocircuit_vector m a) e ≡ value_of m (a ++ e ∷ [])
+pub cocircuit_place : (m : SignMap) (a : List ℕ) (e : ℕ) → 1 ≤ e → e ≤ m.elements → at_element (cocircuit_vector m a) e ≡ value_of m (a ++ e ∷ [])
 cocircuit_place m a e low high = place-vector m.elements (along (value_of m) a) e low high

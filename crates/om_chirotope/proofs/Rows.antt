@@ -17,7 +17,7 @@ use Rattle.om_signs.specs.declared.limits.TheConstants.{MAX_PLACES}
 use Rattle.om_signs.specs.declared.sign.Sign.{Sign}
 use Rattle.om_signs.specs.declared.sign.Sign.TheVariants.{Minus, Zero, Plus}
 use Rattle.om_signs.specs.Sign.{opposite, product}
-use Rattle.om_signs.specs.SignVec.{at, place, IsMaskOf, IsNonzero, IsPlus, IsMinus}
+use Rattle.om_signs.specs.SignVec.{at, at_element, IsMaskOf, IsInSupport, IsPlus, IsMinus}
 use Rattle.om_subsets.specs.Subsets.{choose, rank_of, IsSubsetFrom, IsMember, with_element, count_above}
 use Rattle.om_subsets.proofs.Order.{same_place, rank_from-lt}
 use Rattle.om_laws.specs.Bridge.{as_list}
@@ -465,11 +465,11 @@ all_cleared later rest n Done z h k o = ⊎_elim (λ b. absurd (none (sym (ap (�
 two : {a b c d : Sign} → a ≡ c → b ≡ d → product a b ≡ product c d
 two {a} {b} {c} {d} s t = ap (λ k. product k b) s ∙ ap (product c) t
 
-at_place : (y : ℕ) (first row : List Sign) → first ≡ row → at row y ≡ place first (y + 1)
+at_place : (y : ℕ) (first row : List Sign) → first ≡ row → at row y ≡ at_element first (y + 1)
 at_place y first row e = let back : y ≡ y + 1 - 1 = omega arith in ap (λ r. at r y) (sym e) ∙ ap (at first) back
 
 pub triple_of_rows : (rows : List (List Sign)) (x y z : ℕ) (first second third : List Sign) → first ≡ get_or rows x [] → second ≡ get_or rows y [] → third ≡ get_or rows z []
-    → ((i : ℕ) → i < length first → AreBalanced (product (place first (y + 1)) (at third i)) (opposite (product (place first (z + 1)) (at second i))) (product (at first i) (place second (z + 1))))
+    → ((i : ℕ) → i < length first → AreBalanced (product (at_element first (y + 1)) (at third i)) (opposite (product (at_element first (z + 1)) (at second i))) (product (at first i) (at_element second (z + 1))))
     → IsTriple rows x y z
 triple_of_rows rows x y z first second third e1 e2 e3 h = record {
   each = λ l lt.
@@ -482,7 +482,7 @@ triple_of_rows rows x y z first second third e1 e2 e3 h = record {
 
 pub triple_to_rows : (rows : List (List Sign)) (x y z : ℕ) (first second third : List Sign) → first ≡ get_or rows x [] → second ≡ get_or rows y [] → third ≡ get_or rows z []
     → IsTriple rows x y z
-    → (i : ℕ) → i < length first → AreBalanced (product (place first (y + 1)) (at third i)) (opposite (product (place first (z + 1)) (at second i))) (product (at first i) (place second (z + 1)))
+    → (i : ℕ) → i < length first → AreBalanced (product (at_element first (y + 1)) (at third i)) (opposite (product (at_element first (z + 1)) (at second i))) (product (at first i) (at_element second (z + 1)))
 triple_to_rows rows x y z first second third e1 e2 e3 t l lt =
     balanced_same _ _ _ _ _ _
     (sym (two (at_place y first _ e1) (ap (λ r. at r l) (sym e3))))
@@ -492,7 +492,7 @@ triple_to_rows rows x y z first second third e1 e2 e3 t l lt =
 
 -- ---- the mask of the rows that aren't zero
 
-pub live_of_support : (rows : List (List Sign)) (i n support : ℕ) (u : List Sign) → n ≤ MAX_PLACES → length u ≡ n → u ≡ get_or rows i [] → IsMaskOf (length u) (IsNonzero u) support → support ≢ 0 → IsLive rows i
+pub live_of_support : (rows : List (List Sign)) (i n support : ℕ) (u : List Sign) → n ≤ MAX_PLACES → length u ≡ n → u ≡ get_or rows i [] → IsMaskOf (length u) (IsInSupport u) support → support ≢ 0 → IsLive rows i
 live_of_support rows i n support u few len e is some = go (some_bit support some (let w = is.within in let r = room in omega (arith, w, r)))
   where
     room : 2 ^ length u ≤ 2 ^ MAX_PLACES
@@ -504,7 +504,7 @@ live_of_support rows i n support u few len e is some = go (some_bit support some
         inside : l < length u
         inside = elim (cases_lt l (length u)) [ inl lt ↦ lt | inr g ↦ let none = bit_at_above support (length u) l is.within g in absurd (omega (arith, o, none)) ]
 
-pub dead_of_support : (rows : List (List Sign)) (i support : ℕ) (u : List Sign) → u ≡ get_or rows i [] → IsMaskOf (length u) (IsNonzero u) support → support ≡ 0 → IsLive rows i → ⊥
+pub dead_of_support : (rows : List (List Sign)) (i support : ℕ) (u : List Sign) → u ≡ get_or rows i [] → IsMaskOf (length u) (IsInSupport u) support → support ≡ 0 → IsLive rows i → ⊥
 dead_of_support rows i support u e is z (l, nz) = elim (cases_lt l (length u)) [
   | inl lt ↦
       let o = (is.holds l lt).1 (λ q. nz (ap (λ v. at v l) (sym e) ∙ q)) in

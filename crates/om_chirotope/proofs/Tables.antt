@@ -111,9 +111,6 @@ table_lengths m s u table eu et k l =
 
 -- ---- no pairs
 
-pub no_pairs_below : (m : SignMap) → m.rank ≡ 0 → HasOrthogonalPairs m
-no_pairs_below m e s a p = let size = p.a_size in absurd (omega arith)
-
 pub no_pairs_above : (m : SignMap) → m.rank ≡ m.elements → HasOrthogonalPairs m
 no_pairs_above m e s a p =
     let few : rank_of m.elements s < choose m.elements (m.rank + 1) = subst (λ i. rank_of m.elements s < choose m.elements i) p.s_size (rank_from-lt 1 m.elements s p.s_list) in

@@ -269,9 +269,6 @@ pub record IsSpreadBelow (words words' : List ℕ) (d k : ℕ) : Type 0 where
   pub off : (i : ℕ) → i < k → bit_at i d ≡ 0 → get_or words' i 0 ≡ get_or words i 0
   pub rest : (i : ℕ) → k ≤ i → get_or words' i 0 ≡ get_or words i 0
 
-pub nothing_spread : (words : List ℕ) (d : ℕ) → IsSpreadBelow words words d 0
-nothing_spread words d = record { size = refl; on = λ i l. absurd (omega arith); off = λ i l. absurd (omega arith); rest = λ i l. refl }
-
 pub spread_on : (words words' : List ℕ) (d k : ℕ) → k < length words' → bit_at k d ≡ 1 → IsSpreadBelow words words' d k
     → IsSpreadBelow words (set words' k (bit_or (get_or words' k 0) (get_or words' (k - 2 ^ d) 0))) d (k + 1)
 spread_on words words' d k l one h = record { size = length-set _ _ _ ∙ h.size; on = on; off = off; rest = λ i g. get_or-set_other words' k i _ 0 (omega arith) ∙ h.rest i (omega arith) }

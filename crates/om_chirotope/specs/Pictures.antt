@@ -5,7 +5,7 @@ use Rattle.std.proofs.Math.ListN.{get_or}
 use Rattle.om_signs.specs.declared.sign.Sign.{Sign}
 use Rattle.om_signs.specs.declared.sign.Sign.TheVariants.{Zero}
 use Rattle.om_signs.specs.Sign.{opposite, product}
-use Rattle.om_signs.specs.SignVec.{at, place}
+use Rattle.om_signs.specs.SignVec.{at, at_element}
 use Rattle.om_subsets.specs.Subsets.{IsMember}
 use Rattle.om_subsets.specs.Members.{mask_of}
 use Rattle.om_laws.specs.Sorting.{IsElement}
@@ -36,7 +36,7 @@ pub record AreMarkedAbove (m : SignMap) (words : List ℕ) : Type 0 where
 
 -- the vector is zero, or each basis has an element at which it isn't
 abbrev pub IsMet : SignMap → List Sign → Type 0
-IsMet m u = (i : ℕ) → i < m.elements → at u i ≢ Zero → (b : List ℕ) → IsBasis m b → (f : ℕ) × IsMember f b × (place u f ≢ Zero)
+IsMet m u = (i : ℕ) → i < m.elements → at u i ≢ Zero → (b : List ℕ) → IsBasis m b → (f : ℕ) × IsMember f b × (at_element u f ≢ Zero)
 
 -- at x - 1, for each element x below a limit, the row of x: at each y the value of P with x and y behind it
 pub record AreRowsBelow (m : SignMap) (p : List ℕ) (rows : List (List Sign)) (limit : ℕ) : Type 0 where

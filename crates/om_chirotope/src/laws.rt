@@ -3,7 +3,7 @@
 ghost use Rattle.std.specs.Prelude.{ℕ, ◌≡◌, ◌+◌, ◌<◌, ◌≤◌, ◌↔◌, List, [], ◌∷◌, ◌++◌, length, slice_index};
 ghost use Rattle.std.specs.List.{remove};
 ghost use Rattle.om_signs.specs.Sign.{product};
-ghost use Rattle.om_signs.specs.SignVec.{place};
+ghost use Rattle.om_signs.specs.SignVec.{at_element};
 ghost use Rattle.om_subsets.specs.Subsets.{IsSubsetFrom, IsMember};
 ghost use Rattle.om_chirotope.specs.Map.{SignMap, IsMap, chi_of, value_of, circuit_vector, cocircuit_vector, parity_sign};
 ghost use Rattle.om_chirotope.specs.Chirotope.{IsChirotope};
@@ -18,9 +18,9 @@ use om_signs::Sign;
 /// times (-1) to the power i, and 0 off S. The vector U of an increasing list A has at e the value of A with e behind it.
 /// On increasing lists the value is the given sign.
 pub fn vectors_of_a_map()
-    ensures circuit { (m : SignMap) (s : List ℕ) (i : ℕ) → IsSubsetFrom 1 m.elements s → i < length s → place (circuit_vector m s) (slice_index s i) ≡ product (parity_sign (i + 1)) (value_of m (remove s i)) }
-    ensures off { (m : SignMap) (s : List ℕ) (e : ℕ) → 1 ≤ e → e ≤ m.elements → (IsMember e s → ⊥) → place (circuit_vector m s) e ≡ Sign.Zero }
-    ensures cocircuit { (m : SignMap) (a : List ℕ) (e : ℕ) → 1 ≤ e → e ≤ m.elements → place (cocircuit_vector m a) e ≡ value_of m (a ++ e ∷ []) }
+    ensures circuit { (m : SignMap) (s : List ℕ) (i : ℕ) → IsSubsetFrom 1 m.elements s → i < length s → at_element (circuit_vector m s) (slice_index s i) ≡ product (parity_sign (i + 1)) (value_of m (remove s i)) }
+    ensures off { (m : SignMap) (s : List ℕ) (e : ℕ) → 1 ≤ e → e ≤ m.elements → (IsMember e s → ⊥) → at_element (circuit_vector m s) e ≡ Sign.Zero }
+    ensures cocircuit { (m : SignMap) (a : List ℕ) (e : ℕ) → 1 ≤ e → e ≤ m.elements → at_element (cocircuit_vector m a) e ≡ value_of m (a ++ e ∷ []) }
     ensures lengths { (m : SignMap) (xs : List ℕ) → (length (circuit_vector m xs) ≡ m.elements) × (length (cocircuit_vector m xs) ≡ m.elements) }
     ensures value { (m : SignMap) (xs : List ℕ) → IsSubsetFrom 1 m.elements xs → value_of m xs ≡ chi_of m xs }
 {}

@@ -4,7 +4,7 @@ ghost use Rattle.std.specs.Prelude.{ℕ, List, ◌≡◌, ◌≢◌, ◌+◌, �
 ghost use Rattle.std.specs.Int.{bit_at};
 ghost use Rattle.std.proofs.Math.ListN.{get_or};
 ghost use Rattle.om_signs.specs.Sign.{opposite, product};
-ghost use Rattle.om_signs.specs.SignVec.{at, place, IsMaskOf};
+ghost use Rattle.om_signs.specs.SignVec.{at, at_element, IsMaskOf};
 ghost use Rattle.om_subsets.specs.Subsets.{choose, rank_of, IsMember, IsSubsetFrom, with_element};
 ghost use Rattle.om_laws.specs.ThreeTerm.{AreBalanced};
 ghost use Rattle.om_chirotope.specs.Map.{map_of, cocircuit_vector, cocircuit_vectors};
@@ -208,6 +208,7 @@ fn row_of(raw: &RawMap, cocircuits: &[SignVec], p: Subset, x: u8, place: u32) ->
     ensures { result ≡ cocircuit_vector (map_of raw.now) (p.elements ++ x ∷ []) }
 {
     p.is_lawful();
+    // this call tells that p with x is a set, whose place is given
     let _with = p.with(x);
     let vector = cocircuits[place as usize];
     if p.odd_after(x) { vector.neg() } else { vector }
@@ -280,7 +281,7 @@ pub fn are_balanced(first: SignVec, second: SignVec, third: SignVec, y: u8, z: u
     requires y_high { y ≤ length first }
     requires z_low { 1 ≤ z }
     requires z_high { z ≤ length first }
-    ensures { IsTrue result ↔ ((i : ℕ) → i < length first → AreBalanced (product (place first y) (at third i)) (opposite (product (place first z) (at second i))) (product (at first i) (place second z))) }
+    ensures { IsTrue result ↔ ((i : ℕ) → i < length first → AreBalanced (product (at_element first y) (at third i)) (opposite (product (at_element first z) (at second i))) (product (at first i) (at_element second z))) }
 {
     let u = scaled(first.get(y), third);
     let v = scaled(first.get(z).neg(), second);

@@ -9,7 +9,7 @@ use Rattle.std.proofs.Math.Pow.{pow-lt}
 use Rattle.std.proofs.lemmas.Nat.{or_lt}
 use Rattle.om_signs.specs.declared.sign.Sign.{Sign}
 use Rattle.om_signs.specs.declared.sign.Sign.TheVariants.{Minus, Zero, Plus}
-use Rattle.om_signs.specs.SignVec.{at, place, IsMaskOf, IsPlus, IsMinus}
+use Rattle.om_signs.specs.SignVec.{at, at_element, IsMaskOf, IsPlus, IsMinus}
 use Rattle.om_signs.proofs.Bits.{bit_at_and_not, one_shl_32, bit_from_test, no_bit_from_test}
 use Rattle.om_circuits.specs.Vectors.{IsOpposedAt, Eliminates}
 use Rattle.om_circuits.specs.Axioms.{HasEliminator}
@@ -51,7 +51,7 @@ open_bit a b k i la lb lk = (λ one. (some one, other one), λ h. all h.0 h.1)
     all (inr y) n = let none = bit_at-pow_other k i n in let l = bit_at-lt a i in whole ∙ omega arith
 
 -- what holds of the sign at each element holds at each place
-from_places : (xs ys zs : List Sign) (s : Sign) → ((f : ℕ) → place zs f ≡ s → (place xs f ≡ s) ⊎ (place ys f ≡ s)) → (i : ℕ) → at zs i ≡ s → (at xs i ≡ s) ⊎ (at ys i ≡ s)
+from_places : (xs ys zs : List Sign) (s : Sign) → ((f : ℕ) → at_element zs f ≡ s → (at_element xs f ≡ s) ⊎ (at_element ys f ≡ s)) → (i : ℕ) → at zs i ≡ s → (at xs i ≡ s) ⊎ (at ys i ≡ s)
 from_places xs ys zs s h i q =
     let e : i + 1 - 1 ≡ i = omega arith in
     subst (λ k. (at xs k ≡ s) ⊎ (at ys k ≡ s)) e (h (i + 1) (subst (λ k. at zs k ≡ s) (sym e) q))
@@ -62,7 +62,7 @@ pub eliminates_within : (xs ys zs : List Sign) (xp xm yp ym e : ℕ) → xp < 2 
     → IsWithin (bit_and (bit_or xp yp) (4294967295 - 2 ^ (e - 1))) (bit_and (bit_or xm ym) (4294967295 - 2 ^ (e - 1))) zs ↔ Eliminates xs ys e zs
 eliminates_within xs ys zs xp xm yp ym e lxp lxm lyp lym le hxp hxm hyp hym = (
   λ w. record {
-    zero = neither (place zs e) (λ q. ((open_bit xp yp (e - 1) (e - 1) lxp lyp le).0 (w.pluses (e - 1) q)).1 refl) (λ q. ((open_bit xm ym (e - 1) (e - 1) lxm lym le).0 (w.minuses (e - 1) q)).1 refl);
+    zero = neither (at_element zs e) (λ q. ((open_bit xp yp (e - 1) (e - 1) lxp lyp le).0 (w.pluses (e - 1) q)).1 refl) (λ q. ((open_bit xm ym (e - 1) (e - 1) lxm lym le).0 (w.minuses (e - 1) q)).1 refl);
     plus = λ f q. either (plus_bit xs xp hxp (f - 1)).0 (plus_bit ys yp hyp (f - 1)).0 ((open_bit xp yp (e - 1) (f - 1) lxp lyp le).0 (w.pluses (f - 1) q)).0;
     minus = λ f q. either (minus_bit xs xm hxm (f - 1)).0 (minus_bit ys ym hym (f - 1)).0 ((open_bit xm ym (e - 1) (f - 1) lxm lym le).0 (w.minuses (f - 1) q)).0;
   },

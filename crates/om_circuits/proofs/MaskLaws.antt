@@ -8,12 +8,12 @@ use Rattle.std.proofs.lemmas.Nat.Bits.{bit_at-zero, bit_at-lt, bit_at_or}
 use Rattle.std.proofs.lemmas.List.{get_or_past}
 use Rattle.om_signs.specs.declared.sign.Sign.{Sign}
 use Rattle.om_signs.specs.declared.sign.Sign.TheVariants.{Zero, Plus}
-use Rattle.om_signs.specs.SignVec.{place, IsMaskOf, IsPlus, IsMinus}
+use Rattle.om_signs.specs.SignVec.{at_element, IsMaskOf, IsPlus, IsMinus}
 use Rattle.om_members.proofs.MaskLaws.{zero_mask, plus_bit, minus_bit, part_test}
 use Rattle.om_circuits.specs.Scans.{IsWithin}
 
 -- an element with a plus is one of the vector
-pub element_within : (xs : List Sign) (e n : ℕ) → length xs ≡ n → place xs e ≡ Plus → e < n + 1
+pub element_within : (xs : List Sign) (e n : ℕ) → length xs ≡ n → at_element xs e ≡ Plus → e < n + 1
 element_within xs e n l p = elim (cases_lt (e - 1) (length xs)) [
   | inl lt ↦ omega arith
   | inr ge ↦ absurd (let q : Plus ≡ Zero = sym p ∙ get_or_past xs (e - 1) Zero ge in cc)

@@ -4,15 +4,15 @@
 use Rattle.std.specs.Prelude.{ℕ, ◌≡◌, ◌⊎◌, List}
 use Rattle.om_signs.specs.declared.sign.Sign.{Sign}
 use Rattle.om_signs.specs.declared.sign.Sign.TheVariants.{Minus, Zero, Plus}
-use Rattle.om_signs.specs.SignVec.{place}
+use Rattle.om_signs.specs.SignVec.{at_element}
 
 -- X is plus and Y is minus at e
 pub record IsOpposedAt (X Y : List Sign) (e : ℕ) : Type 0 where
-  pub plus : place X e ≡ Plus
-  pub minus : place Y e ≡ Minus
+  pub plus : at_element X e ≡ Plus
+  pub minus : at_element Y e ≡ Minus
 
 -- Z eliminates e from X and Y: it is zero there, a plus only where one of them is, and a minus only where one of them is
 pub record Eliminates (X Y : List Sign) (e : ℕ) (Z : List Sign) : Type 0 where
-  pub zero : place Z e ≡ Zero
-  pub plus : (f : ℕ) → place Z f ≡ Plus → (place X f ≡ Plus) ⊎ (place Y f ≡ Plus)
-  pub minus : (f : ℕ) → place Z f ≡ Minus → (place X f ≡ Minus) ⊎ (place Y f ≡ Minus)
+  pub zero : at_element Z e ≡ Zero
+  pub plus : (f : ℕ) → at_element Z f ≡ Plus → (at_element X f ≡ Plus) ⊎ (at_element Y f ≡ Plus)
+  pub minus : (f : ℕ) → at_element Z f ≡ Minus → (at_element X f ≡ Minus) ⊎ (at_element Y f ≡ Minus)

@@ -14,7 +14,7 @@ use Rattle.om_signs.specs.declared.sign.Sign.{Sign}
 use Rattle.om_signs.specs.declared.sign.Sign.TheVariants.{Zero}
 use Rattle.om_signs.specs.declared.limits.TheConstants.{MAX_MEMBERS}
 use Rattle.om_signs.specs.Sign.{opposite}
-use Rattle.om_signs.specs.SignVec.{at, compose, IsNonzero, IsMaskOf}
+use Rattle.om_signs.specs.SignVec.{at, compose, IsInSupport, IsMaskOf}
 use Rattle.om_signs.proofs.Bits.{some_bit}
 use Rattle.om_signs.proofs.Vectors.{at-map-opposite}
 use Rattle.om_laws.proofs.SignLaws.{opposite_nonzero}
@@ -111,7 +111,7 @@ negative_cause V n old mid e h c = cause_later (λ X. X ≡ V) (λ X. X ≡ map 
 
 -- ---- the support
 
-pub nonzero_from_support : (V : List Sign) (mask : ℕ) → IsMaskOf (length V) (IsNonzero V) mask → mask < 2 ^ 32 → mask ≢ 0 → HasNonzero V
+pub nonzero_from_support : (V : List Sign) (mask : ℕ) → IsMaskOf (length V) (IsInSupport V) mask → mask < 2 ^ 32 → mask ≢ 0 → HasNonzero V
 nonzero_from_support V mask m small n = by (some_bit mask n small)
   where
     by : (i : ℕ) × (bit_at mask i ≡ 1) → HasNonzero V
@@ -120,7 +120,7 @@ nonzero_from_support V mask m small n = by (some_bit mask n small)
       | inr ge ↦ let z = bit_at_above mask (length V) i m.within ge in absurd (omega (arith, b, z))
     ]
 
-pub zero_from_support : (V : List Sign) (mask : ℕ) → IsMaskOf (length V) (IsNonzero V) mask → mask ≡ 0 → HasNonzero V → ⊥
+pub zero_from_support : (V : List Sign) (mask : ℕ) → IsMaskOf (length V) (IsInSupport V) mask → mask ≡ 0 → HasNonzero V → ⊥
 zero_from_support V mask m z (i, n) = elim (cases_lt i (length V)) [
   | inl lt ↦ let b : bit_at mask i ≡ 0 = ap (λ k. bit_at k i) z ∙ bit_at-zero i in let h = (m.holds i lt).1 n in omega (arith, b, h)
   | inr ge ↦ n (get_or_past V i Zero ge)

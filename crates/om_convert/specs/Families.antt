@@ -4,7 +4,7 @@
 use Rattle.std.specs.Prelude.{ℕ, ◌≡◌, List}
 use Rattle.std.specs.List.{Contains}
 use Rattle.om_signs.specs.declared.sign.Sign.{Sign}
-use Rattle.om_signs.specs.SignVec.{at, IsNonzero, IsConformal}
+use Rattle.om_signs.specs.SignVec.{at, IsInSupport, IsConformal}
 use Rattle.om_covectors.specs.Minimality.{IsMinimal}
 use Rattle.om_denotation.specs.Covectors.{HasConformingMember}
 
@@ -14,4 +14,4 @@ HasMinimalPart members X i = (Y : List Sign) × Contains members Y × IsMinimal 
 
 -- at each place of its support some member conforms to X and has its sign there
 abbrev pub IsComposedOf : List (List Sign) → List Sign → Type 0
-IsComposedOf members X = (i : ℕ) → IsNonzero X i → HasConformingMember members X i
+IsComposedOf members X = (i : ℕ) → IsInSupport X i → HasConformingMember members X i

@@ -4,7 +4,7 @@
 ghost use Rattle.std.specs.Prelude.{ℕ, ◌↔◌, List};
 ghost use Rattle.std.specs.List.{Contains};
 ghost use Rattle.om_signs.specs.declared.sign.Sign.{Sign};
-ghost use Rattle.om_signs.specs.SignVec.{IsNonzero};
+ghost use Rattle.om_signs.specs.SignVec.{IsInSupport};
 ghost use Rattle.om_laws.specs.Axioms.{CovectorAxioms};
 ghost use Rattle.om_laws.specs.Chirotope.{elements_to};
 ghost use Rattle.om_laws.specs.Families.{IsListed, AreSupportedOn};
@@ -33,7 +33,7 @@ pub fn axioms_of_functions()
 /// Source: Björner, Las Vergnas, Sturmfels, White and Ziegler, *Oriented Matroids*, chapters 3 and 4.
 pub fn conformal_decomposition()
     ensures { (n : ℕ) (members : List (List Sign)) → HaveLength n members → MeetsCovectorAxioms members
-        → (X : List Sign) → Contains members X → (i : ℕ) → IsNonzero X i → HasMinimalPart members X i }
+        → (X : List Sign) → Contains members X → (i : ℕ) → IsInSupport X i → HasMinimalPart members X i }
 {}
 
 /// The nonzero covectors of minimal support meet the axioms of circuits.

@@ -7,7 +7,7 @@ use Rattle.std.proofs.lemmas.List.{get_or_past}
 use Rattle.om_signs.specs.declared.sign.Sign.{Sign}
 use Rattle.om_signs.specs.declared.sign.Sign.TheVariants.{Minus, Zero}
 use Rattle.om_signs.specs.Sign.{product}
-use Rattle.om_signs.specs.SignVec.{place, compose}
+use Rattle.om_signs.specs.SignVec.{at_element, compose}
 use Rattle.om_members.specs.Scans.{nth, AllBelow, IsBadBelow, IsFirstBad, IsFirstBadPair}
 use Rattle.om_members.proofs.DecisionLaws.{IsDecided, not_false, decided_if, decided_both, decided_not, decided_same, same_sign, each_place, some_member, is_contained, all_good}
 use Rattle.om_members.proofs.ScanLaws.{nth_read}
@@ -16,18 +16,18 @@ use Rattle.om_covectors.proofs.InstanceLaws.{not_both_blocked}
 use Rattle.om_covectors.specs.Vectors.{IsSeparatedAt, EliminatesFromComposition}
 use Rattle.om_covectors.specs.Scans.{HasCompositionWith, HasNoCompositionWith, HasCompositionAt, HasNoCompositionAt, IsUnblocked, IsUnblockedAt, IsFirstBlockedWith, IsFirstBlocked}
 
-past : (Z : List Sign) (f : ℕ) → length Z + 1 ≤ f → place Z f ≡ Zero
+past : (Z : List Sign) (f : ℕ) → length Z + 1 ≤ f → at_element Z f ≡ Zero
 past Z f ge = get_or_past Z (f - 1) Zero (omega arith)
 
 eliminates : (X Y : List Sign) (e : ℕ) (Z : List Sign) → IsDecided (EliminatesFromComposition X Y e Z)
 eliminates X Y e Z = decided_same _ _
     (λ h. record { zero = h.0; outside = h.1 })
     (λ h. (h.zero, h.outside))
-    (decided_both _ _ (same_sign (place Z e) Zero) outside)
+    (decided_both _ _ (same_sign (at_element Z e) Zero) outside)
   where
-    outside : IsDecided ((f : ℕ) → (IsSeparatedAt X Y f → ⊥) → place Z f ≡ place (compose X Y) f)
-    outside = each_place (length Z + length (compose X Y) + 1) (λ f. (IsSeparatedAt X Y f → ⊥) → place Z f ≡ place (compose X Y) f)
-        (λ f. decided_if _ _ (decided_not _ (same_sign (product (place X f) (place Y f)) Minus)) (same_sign (place Z f) (place (compose X Y) f)))
+    outside : IsDecided ((f : ℕ) → (IsSeparatedAt X Y f → ⊥) → at_element Z f ≡ at_element (compose X Y) f)
+    outside = each_place (length Z + length (compose X Y) + 1) (λ f. (IsSeparatedAt X Y f → ⊥) → at_element Z f ≡ at_element (compose X Y) f)
+        (λ f. decided_if _ _ (decided_not _ (same_sign (product (at_element X f) (at_element Y f)) Minus)) (same_sign (at_element Z f) (at_element (compose X Y) f)))
         (λ f ge _. past Z f (omega arith) ∙ sym (past (compose X Y) f (omega arith)))
 
 module _ (members : List (List Sign)) where

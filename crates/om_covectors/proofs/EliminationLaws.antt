@@ -9,7 +9,7 @@ use Rattle.std.proofs.lemmas.Nat.Bits.{bit_at-lt, bit_at-pow_same, bit_at-pow_ot
 use Rattle.std.proofs.Math.Pow.{pow-lt}
 use Rattle.om_signs.specs.declared.sign.Sign.{Sign}
 use Rattle.om_signs.specs.declared.sign.Sign.TheVariants.{Minus, Zero, Plus}
-use Rattle.om_signs.specs.SignVec.{at, place, compose, IsMaskOf, IsPlus, IsMinus, IsSeparated}
+use Rattle.om_signs.specs.SignVec.{at, at_element, compose, IsMaskOf, IsPlus, IsMinus, IsSeparated}
 use Rattle.om_signs.proofs.Bits.{bit_at_and_not, one_shl_32, bit_from_test, no_bit_from_test}
 use Rattle.om_covectors.specs.Vectors.{IsSeparatedAt, EliminatesFromComposition}
 use Rattle.om_covectors.specs.Axioms.{HasCovectorEliminator}
@@ -115,8 +115,8 @@ module _ (xs ys zs : List Sign) (separation plus minus e : ℕ) (ls : separation
   pub fixed_eliminates : IsFixedOutside (bit_and separation (4294967295 - 2 ^ (e - 1))) (bit_and plus (4294967295 - separation)) (bit_and minus (4294967295 - separation)) zs ↔ EliminatesFromComposition xs ys e zs
   fixed_eliminates = (
     λ h. record {
-      zero = neither (place zs e) (not_at_element Plus plus lp hp h.pluses) (not_at_element Minus minus lm hm h.minuses);
-      outside = λ f n. let z = outside_separation (f - 1) n in same_signs (place zs f) (place (compose xs ys) f)
+      zero = neither (at_element zs e) (not_at_element Plus plus lp hp h.pluses) (not_at_element Minus minus lm hm h.minuses);
+      outside = λ f n. let z = outside_separation (f - 1) n in same_signs (at_element zs f) (at_element (compose xs ys) f)
           (to_composition Plus plus lp hp h.pluses (f - 1) z) (from_composition Plus plus lp hp h.pluses (f - 1) z)
           (to_composition Minus minus lm hm h.minuses (f - 1) z) (from_composition Minus minus lm hm h.minuses (f - 1) z);
     },

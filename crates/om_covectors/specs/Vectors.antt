@@ -4,7 +4,7 @@
 use Rattle.std.specs.Prelude.{ℕ, ◌≡◌, ◌-◌, List}
 use Rattle.om_signs.specs.declared.sign.Sign.{Sign}
 use Rattle.om_signs.specs.declared.sign.Sign.TheVariants.{Zero}
-use Rattle.om_signs.specs.SignVec.{place, compose, IsSeparated}
+use Rattle.om_signs.specs.SignVec.{at_element, compose, IsSeparated}
 
 -- e is in the separation of X and Y: the signs there are opposite, and neither is zero
 abbrev pub IsSeparatedAt : List Sign → List Sign → ℕ → Type 0
@@ -12,5 +12,5 @@ IsSeparatedAt X Y e = IsSeparated X Y (e - 1)
 
 -- Z eliminates e from the composition of X and Y: it is zero there, and equal to the composition outside the separation
 pub record EliminatesFromComposition (X Y : List Sign) (e : ℕ) (Z : List Sign) : Type 0 where
-  pub zero : place Z e ≡ Zero
-  pub outside : (f : ℕ) → (IsSeparatedAt X Y f → ⊥) → place Z f ≡ place (compose X Y) f
+  pub zero : at_element Z e ≡ Zero
+  pub outside : (f : ℕ) → (IsSeparatedAt X Y f → ⊥) → at_element Z f ≡ at_element (compose X Y) f

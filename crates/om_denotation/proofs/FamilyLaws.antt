@@ -11,13 +11,13 @@ use Rattle.std.proofs.lemmas.List.{length-map, length-replicate}
 use Rattle.om_signs.specs.declared.sign.Sign.{Sign}
 use Rattle.om_signs.specs.declared.sign.Sign.TheVariants.{Zero}
 use Rattle.om_signs.specs.Sign.{opposite, first_nonzero}
-use Rattle.om_signs.specs.SignVec.{at, place, compose, IsOrthogonal}
+use Rattle.om_signs.specs.SignVec.{at, at_element, compose, IsOrthogonal}
 use Rattle.om_signs.specs.SignVec as lists
 use Rattle.om_signs.proofs.Vectors.{length-compose}
 use Rattle.om_members.specs.Vectors.{negated}
 use Rattle.om_laws.specs.Signs.{IsNonzero}
 use Rattle.om_laws.specs.Members.{IsMember}
-use Rattle.om_laws.specs.Vectors.{SignVector, zero_vector, composition, IsSupportedOn, AreEqualUpToSign, Orthogonal}
+use Rattle.om_laws.specs.Vectors.{SignVector, zero_vector, composition, IsSupportedOn, Orthogonal}
 use Rattle.om_laws.specs.Vectors as vectors
 use Rattle.om_laws.specs.Axioms.{CircuitAxioms, CovectorAxioms}
 use Rattle.om_laws.specs.Chirotope.{elements_to}
@@ -32,7 +32,6 @@ use Rattle.om_laws.proofs.SignLaws.{zero_or_nonzero}
 use Rattle.om_laws.proofs.VectorLaws.{orthogonal_same}
 use Rattle.om_laws.proofs.DualPairs.{dual_pair, swapped_pair}
 use Rattle.om_laws.proofs.PairLaws as pairs
-use Rattle.om_laws.proofs.PairLaws.{covector_same}
 use Rattle.om_laws.proofs.PaintingLaws as paintings
 use Rattle.om_laws.proofs.BaseLaws.{circuit_orthogonal}
 use Rattle.om_laws.proofs.CovectorLaws as covectors
@@ -270,7 +269,7 @@ module _ (m : SignMap) (chirotope : IsChirotope m) where
     on_elements : (f : ℕ) → IsColoured (painted colour f) → IsMember f elements
     on_elements f k = ⊎_elim (λ i. member_from_element m.elements f i) (λ n. absurd (subst IsColoured n.1 k)) (painted_cases colour f)
 
-    listed_sign : (F : SignVector) → IsSupportedOn elements F → (f : ℕ) → 1 ≤ f → place (as_list m.elements F) f ≡ F f
+    listed_sign : (F : SignVector) → IsSupportedOn elements F → (f : ℕ) → 1 ≤ f → at_element (as_list m.elements F) f ≡ F f
     listed_sign F sup f low = place_function (as_list m.elements F) f low ∙ as_function-as_list m.elements F sup f
 
     pub painting_one : ((X : List Sign) × IsFittingCircuit m colour e X) ⊎ ((Y : List Sign) × IsFittingCocircuit m colour e Y)

@@ -9,7 +9,7 @@ use Rattle.std.proofs.lemmas.List.{length-map}
 use Rattle.om_signs.specs.declared.sign.Sign.{Sign}
 use Rattle.om_signs.specs.declared.sign.Sign.TheVariants.{Minus, Zero, Plus}
 use Rattle.om_signs.specs.Sign.{opposite, product}
-use Rattle.om_signs.specs.SignVec.{at, place}
+use Rattle.om_signs.specs.SignVec.{at, at_element}
 use Rattle.om_members.specs.Vectors.{negated, HasSupportIn}
 use Rattle.om_circuits.specs.Vectors.{IsOpposedAt, Eliminates}
 use Rattle.om_covectors.specs.Vectors.{IsSeparatedAt, EliminatesFromComposition}
@@ -32,10 +32,10 @@ pub record AreFunctionsOf (n : ℕ) (P : List Sign → Type 0) (D : SignVector �
 
 -- ---- signs at elements
 
-pub at_place : (X : List Sign) (i : ℕ) → place X (suc i) ≡ at X i
+pub at_place : (X : List Sign) (i : ℕ) → at_element X (suc i) ≡ at X i
 at_place X i = let e : suc i - 1 ≡ i = omega arith in ap (at X) e
 
-pub place_function : (X : List Sign) (e : ℕ) → 1 ≤ e → place X e ≡ as_function X e
+pub place_function : (X : List Sign) (e : ℕ) → 1 ≤ e → at_element X e ≡ as_function X e
 place_function X zero low = absurd (omega arith)
 place_function X (suc i) low = at_place X i
 
@@ -50,7 +50,7 @@ support_function X Y h zero n = n
 support_function X Y h (suc i) n = λ z. n (sym (at_place X i) ∙ h (suc i) (at_place Y i ∙ z))
 
 pub support_list : (X Y : List Sign) → vectors.HasSupportIn (as_function X) (as_function Y) → HasSupportIn X Y
-support_list X Y s e z = ⊎_elim (λ q. q) (λ n. absurd (s (suc (e - 1)) n z)) (zero_or_nonzero (place X e))
+support_list X Y s e z = ⊎_elim (λ q. q) (λ n. absurd (s (suc (e - 1)) n z)) (zero_or_nonzero (at_element X e))
 
 -- ---- up to sign
 
@@ -76,7 +76,7 @@ pub opposed : (X Y : List Sign) (e : ℕ) → IsOpposedAt X Y e → AreSeparated
 opposed X Y e o = (λ z. plus_nonzero (sym o.plus ∙ z), o.plus ∙ sym (ap opposite o.minus))
 
 pub separated : (X Y : List Sign) (e : ℕ) → IsSeparatedAt X Y e → AreSeparatedAt (as_function X) (as_function Y) (suc (e - 1))
-separated X Y e s = (nonzero_of_minus (place X e) (place Y e) s, opposite_of_minus (place X e) (place Y e) s)
+separated X Y e s = (nonzero_of_minus (at_element X e) (at_element Y e) s, opposite_of_minus (at_element X e) (at_element Y e) s)
 
 -- ---- elimination
 
@@ -88,7 +88,7 @@ eliminates X Y e Z W gone either q = record {
   minus = λ f p. from f Minus minus_nonzero p;
 }
   where
-    from : (f : ℕ) (s : Sign) → IsNonzero s → place W f ≡ s → (place X f ≡ s) ⊎ (place Y f ≡ s)
+    from : (f : ℕ) (s : Sign) → IsNonzero s → at_element W f ≡ s → (at_element X f ≡ s) ⊎ (at_element Y f ≡ s)
     from f s n p =
         let v : Z (suc (f - 1)) ≡ s = q (suc (f - 1)) ∙ p in
         ⊎_elim (λ r. inl (sym r ∙ v)) (λ r. inr (sym r ∙ v)) (either (suc (f - 1)) (λ z. n (sym v ∙ z)))
@@ -98,5 +98,5 @@ pub eliminates_from_composition : (X Y : List Sign) (e : ℕ) (Z : SignVector) (
     → ((g : ℕ) → (AreSeparatedAt (as_function X) (as_function Y) g → ⊥) → Z g ≡ composition (as_function X) (as_function Y) g) → ((g : ℕ) → Z g ≡ as_function W g) → EliminatesFromComposition X Y e W
 eliminates_from_composition X Y e Z W gone outside q = record {
   zero = sym (q (suc (e - 1))) ∙ gone;
-  outside = λ f apart. sym (q (suc (f - 1))) ∙ outside (suc (f - 1)) (λ s. apart (minus_of_opposite (place X f) (place Y f) s.0 s.1)) ∙ sym (as_function-compose X Y (suc (f - 1)));
+  outside = λ f apart. sym (q (suc (f - 1))) ∙ outside (suc (f - 1)) (λ s. apart (minus_of_opposite (at_element X f) (at_element Y f) s.0 s.1)) ∙ sym (as_function-compose X Y (suc (f - 1)));
 }

@@ -4,13 +4,13 @@
 use Rattle.std.specs.Prelude.{ℕ, ◌≡◌, ◌+◌, ◌⊎◌, List, length, map}
 use Rattle.om_signs.specs.declared.sign.Sign.{Sign}
 use Rattle.om_signs.specs.Sign.{opposite}
-use Rattle.om_signs.specs.SignVec.{IsNonzero}
+use Rattle.om_signs.specs.SignVec.{IsInSupport}
 use Rattle.om_subsets.specs.Subsets.{IsSubsetFrom}
 use Rattle.om_chirotope.specs.Map.{SignMap, circuit_vector, cocircuit_vector}
 
 -- some sign isn't zero
 abbrev pub HasNonzero : List Sign → Type 0
-HasNonzero X = (i : ℕ) × IsNonzero X i
+HasNonzero X = (i : ℕ) × IsInSupport X i
 
 -- the first is the second or its negative
 abbrev pub IsUpToSign : List Sign → List Sign → Type 0

@@ -4,7 +4,7 @@
 use Rattle.std.specs.Prelude.{ℕ, ◌≡◌, List, replicate}
 use Rattle.om_signs.specs.declared.sign.Sign.{Sign}
 use Rattle.om_signs.specs.declared.sign.Sign.TheVariants.{Zero}
-use Rattle.om_signs.specs.SignVec.{at, compose, IsNonzero, IsConformal, IsOrthogonal}
+use Rattle.om_signs.specs.SignVec.{at, compose, IsInSupport, IsConformal, IsOrthogonal}
 use Rattle.om_members.specs.Vectors.{HasSupportIn}
 use Rattle.om_denotation.specs.Circuits.{HasNonzero}
 
@@ -19,7 +19,7 @@ IsConforming P X Y = P Y × IsConformal Y X
 
 -- at each place of the support some member conforms to X and has its sign
 abbrev pub HasConformingParts : (List Sign → Type 0) → List Sign → Type 0
-HasConformingParts P X = (i : ℕ) → IsNonzero X i → (Y : List Sign) × P Y × IsConformal Y X × (at Y i ≡ at X i)
+HasConformingParts P X = (i : ℕ) → IsInSupport X i → (Y : List Sign) × P Y × IsConformal Y X × (at Y i ≡ at X i)
 
 -- orthogonal to each member
 abbrev pub IsOrthogonalToEach : (List Sign → Type 0) → List Sign → Type 0

@@ -12,7 +12,7 @@ use Rattle.std.proofs.Common.{inl, inr}
 use Rattle.om_signs.specs.declared.sign.Sign.{Sign}
 use Rattle.om_signs.specs.declared.sign.Sign.TheVariants.{Minus, Zero, Plus}
 use Rattle.om_signs.specs.Sign.{opposite, product}
-use Rattle.om_signs.specs.SignVec.{at, IsNonzero, HasProduct, IsOrthogonal, IsConformal}
+use Rattle.om_signs.specs.SignVec.{at, IsInSupport, HasProduct, IsOrthogonal, IsConformal}
 use Rattle.om_chirotope.specs.Map.{SignMap}
 use Rattle.om_chirotope.specs.Chirotope.{IsSound}
 use Rattle.om_members.specs.Vectors.{IsZero}
@@ -87,7 +87,7 @@ negative_of_chirotope m X v l c = record { size = length-map X opposite ∙ l; o
 pub negative_of_circuits : (c : Listing) (X : List Sign) → IsSignedSet c.elements c.members → length X ≡ c.elements → IsCovectorOfCircuits c X → IsCovectorOfCircuits c (map opposite X)
 negative_of_circuits c X v l h = record { size = length-map X opposite ∙ l; orthogonal = λ Y in_members. negative_orthogonal X Y (h.orthogonal Y in_members) }
 
-nonzero_back : (X : List Sign) (i : ℕ) → IsNonzero (map opposite X) i → IsNonzero X i
+nonzero_back : (X : List Sign) (i : ℕ) → IsInSupport (map opposite X) i → IsInSupport X i
 nonzero_back X i nonzero e = nonzero (at_negative X i ∙ ap opposite e)
 
 same_negative : (X Y : List Sign) (i : ℕ) → at Y i ≡ at X i → at (map opposite Y) i ≡ at (map opposite X) i

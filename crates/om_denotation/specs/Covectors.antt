@@ -4,7 +4,7 @@
 use Rattle.std.specs.Prelude.{ℕ, ◌≡◌, ◌+◌, List, length}
 use Rattle.std.specs.List.{Contains}
 use Rattle.om_signs.specs.declared.sign.Sign.{Sign}
-use Rattle.om_signs.specs.SignVec.{at, IsNonzero, IsOrthogonal, IsConformal}
+use Rattle.om_signs.specs.SignVec.{at, IsInSupport, IsOrthogonal, IsConformal}
 use Rattle.om_subsets.specs.Subsets.{IsSubsetFrom}
 use Rattle.om_chirotope.specs.Map.{SignMap, circuit_vector}
 use Rattle.om_members.specs.Listings.{Listing}
@@ -26,7 +26,7 @@ HasConformingMember members X i = (Y : List Sign) × Contains members Y × IsCon
 -- a sign for each element, and at each place of the support some cocircuit conforms to it and has its sign
 pub record IsCovectorOfCocircuits (cocircuits : Listing) (X : List Sign) : Type 0 where
   pub size : length X ≡ cocircuits.elements
-  pub composed : (i : ℕ) → IsNonzero X i → HasConformingMember cocircuits.members X i
+  pub composed : (i : ℕ) → IsInSupport X i → HasConformingMember cocircuits.members X i
 
 -- a sign for each element, and a member
 pub record IsCovectorOfCovectors (covectors : Listing) (X : List Sign) : Type 0 where

@@ -6,7 +6,7 @@ use Rattle.std.specs.Prelude.{ℕ, ◌≡◌, ◌+◌, ◌-◌, ◌↔◌, List,
 use Rattle.std.specs.List.{remove}
 use Rattle.om_signs.specs.declared.sign.Sign.{Sign}
 use Rattle.om_signs.specs.declared.sign.Sign.TheVariants.{Zero}
-use Rattle.om_signs.specs.SignVec.{place, flip, IsOrthogonal}
+use Rattle.om_signs.specs.SignVec.{at_element, flip, IsOrthogonal}
 
 -- the dual: what is orthogonal to every covector
 abbrev pub IsDual : ℕ → (List Sign → Type 0) → (List Sign → Type 0) → Type 0
@@ -18,7 +18,7 @@ IsWithout n e P X = (W : List Sign) × (length W ≡ n) × P W × (remove W (e -
 
 -- some covector that is zero at e is X with the place of e dropped
 abbrev pub IsZeroWithout : ℕ → ℕ → (List Sign → Type 0) → List Sign → Type 0
-IsZeroWithout n e P X = (W : List Sign) × (length W ≡ n) × P W × (place W e ≡ Zero) × (remove W (e - 1) ≡ X)
+IsZeroWithout n e P X = (W : List Sign) × (length W ≡ n) × P W × (at_element W e ≡ Zero) × (remove W (e - 1) ≡ X)
 
 -- the deletion of e: the covectors with the place of e dropped
 abbrev pub IsDeletion : ℕ → ℕ → (List Sign → Type 0) → (List Sign → Type 0) → Type 0

@@ -73,9 +73,6 @@ three_one ab ac bd cd h n1 n2 n3 = grind arith
 three_two : (ab ac ad bc cd oa oc : Sign) → product oa oc ≡ product (opposite ab) bc → oc ≡ opposite ac → product oa ad ≡ product (opposite ac) cd → IsNonzero ab → IsNonzero cd → IsNonzero ac → IsNonzero bc → product ad bc ≡ opposite (product ab cd)
 three_two ab ac ad bc cd oa oc h k l n1 n2 n3 n4 = grind arith
 
-scale_plus : (s t : Sign) → s ≡ Plus → product s t ≡ t
-scale_plus s t e = grind (arith, e)
-
 pivot_sign : (fe fh ye yh : Sign) → product fe yh ≡ product fh ye → IsNonzero yh → fe ≡ product (product fh yh) ye
 pivot_sign fe fh ye yh e n = grind arith
 

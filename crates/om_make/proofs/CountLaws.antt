@@ -1,16 +1,13 @@
 -- How many cocircuits and mutations a chirotope of rank 3 may have, and counted signs.
 --
 -- Main results: few_cocircuits (no more than a list may have), few_mutations (no more than triples), count_more (one more sign).
-use Rattle.std.specs.Prelude.{ℕ, ◌≡◌, ◌≢◌, ◌<◌, ◌≤◌, ◌+◌, ◌*◌, ◌-◌, List, [], ◌∷◌, ◌++◌, length, map, take, true, false, refl}
-use Rattle.std.specs.List.{Contains, count_by}
+use Rattle.std.specs.Prelude.{ℕ, ◌≡◌, ◌<◌, ◌≤◌, ◌+◌, ◌*◌, ◌-◌, List, [], ◌∷◌, ◌++◌, length, map, refl}
+use Rattle.std.specs.List.{Contains}
 use Rattle.std.proofs.Common.{zero, suc, get_or, sym, ◌∙◌, ap, subst, inl, inr, arith}
 use Rattle.std.proofs.lemmas.List.{length-append, length-map}
 use Rattle.std.proofs.lemmas.List.Elements.{All-contains, Contains-append_left, Contains-append_right}
-use Rattle.std.proofs.lemmas.List.Sums.{count_by_more_yes, count_by_more_no}
-use Rattle.std.proofs.Math.ListN.{get_or-map}
-use Rattle.om_signs.specs.declared.limits.TheConstants.{MAX_ELEMENTS, MAX_MEMBERS, MAX_PLACES}
+use Rattle.om_signs.specs.declared.limits.TheConstants.{MAX_ELEMENTS, MAX_MEMBERS}
 use Rattle.om_signs.specs.declared.sign.Sign.{Sign}
-use Rattle.om_signs.specs.declared.sign.Sign.TheVariants.{Minus, Zero, Plus}
 use Rattle.om_signs.specs.Sign.{opposite}
 use Rattle.om_subsets.specs.Subsets.{IsSubsetFrom, choose, rank_of, all_subsets}
 use Rattle.om_subsets.proofs.Order.{length-subsets_from, rank_from-lt, get_or-rank_from, lexicographic}
@@ -23,7 +20,6 @@ use Rattle.om_denotation.specs.Circuits.{IsCocircuitOfChirotope, IsUpToSign}
 use Rattle.om_denotation.specs.Listings.{HasMoreThan}
 use Rattle.om_convert.proofs.CountingLaws.{distinct_few}
 use Rattle.om_mutate.specs.Mutations.{ListsMutations, nth}
-use Rattle.om_make.specs.Tallies.{are_same, count_of}
 
 -- ---- cocircuits
 
@@ -120,28 +116,6 @@ module _ (m : SignMap) (sets : List Chosen) (h : ListsMutations m sets) where
           omega arith
 
 -- ---- signs
-
-same_is : (s : Sign) → are_same s s ≡ true
-same_is Minus = refl
-same_is Zero = refl
-same_is Plus = refl
-
-other_is : (s t : Sign) → (t ≡ s → ⊥) → are_same s t ≡ false
-other_is Minus Minus n = absurd (n refl)
-other_is Minus Zero n = refl
-other_is Minus Plus n = refl
-other_is Zero Minus n = refl
-other_is Zero Zero n = absurd (n refl)
-other_is Zero Plus n = refl
-other_is Plus Minus n = refl
-other_is Plus Zero n = refl
-other_is Plus Plus n = absurd (n refl)
-
-pub count_same : (s : Sign) (xs : List Sign) (i : ℕ) (d : Sign) → i < length xs → get_or xs i d ≡ s → count_of s (take (i + 1) xs) ≡ count_of s (take i xs) + 1
-count_same s xs i d l e = count_by_more_yes (are_same s) xs i d l (ap (are_same s) e ∙ same_is s)
-
-pub count_other : (s : Sign) (xs : List Sign) (i : ℕ) (d : Sign) → i < length xs → (get_or xs i d ≡ s → ⊥) → count_of s (take (i + 1) xs) ≡ count_of s (take i xs)
-count_other s xs i d l n = count_by_more_no (are_same s) xs i d l (other_is s (get_or xs i d) n)
 
 -- ---- how many signs a map has
 

@@ -19,8 +19,7 @@ pub fn list_cocircuits(alloc: Global, chi: &Chirotope) -> Result<Cocircuits, NoM
     requires { chi.now.rank ≡ 3 }
     ensures { IfOk result (λ c. ListsCocircuits chi.now c.0) }
 {
-    // these calls tell that the axioms and the limits hold
-    let (_rank, _elements) = (chi.rank(), chi.elements());
+    chi.is_lawful();
     match chirotope_to_cocircuits(alloc, chi) {
         Ok(cocircuits) => Ok(cocircuits),
         Err(ConvertError::TooWide { .. }) => unreachable!(),

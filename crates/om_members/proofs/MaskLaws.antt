@@ -9,7 +9,7 @@ use Rattle.std.proofs.lemmas.Nat.Bits.{bit_at-zero, bit_at-lt, bit_at_above, sam
 use Rattle.std.proofs.lemmas.List.{get_or_past}
 use Rattle.om_signs.specs.declared.sign.Sign.{Sign}
 use Rattle.om_signs.specs.declared.sign.Sign.TheVariants.{Minus, Zero, Plus}
-use Rattle.om_signs.specs.SignVec.{at, place, IsMaskOf, IsNonzero, IsPlus, IsMinus}
+use Rattle.om_signs.specs.SignVec.{at, at_element, IsMaskOf, IsInSupport, IsPlus, IsMinus}
 use Rattle.om_signs.proofs.Bits.{bit_at_and_not}
 use Rattle.om_members.specs.Vectors.{IsZero, HasSupportIn}
 
@@ -19,7 +19,7 @@ zero_or_not Zero = inl refl
 zero_or_not Plus = inr (λ e. cc)
 
 -- what holds of the sign at each element holds at each place
-pub at_from_place : (P : Sign → Type 0) (xs : List Sign) → ((e : ℕ) → P (place xs e)) → (i : ℕ) → P (at xs i)
+pub at_from_place : (P : Sign → Type 0) (xs : List Sign) → ((e : ℕ) → P (at_element xs e)) → (i : ℕ) → P (at xs i)
 at_from_place P xs h i = let e : i + 1 - 1 ≡ i = omega arith in subst (λ k. P (at xs k)) e (h (i + 1))
 
 -- ---- one bit
@@ -44,8 +44,8 @@ bit_of_mask xs P m h off i = elim (cases_lt i (length xs)) [
   | inr ge ↦ (λ one. absurd (let z = bit_at_above m (length xs) i h.within ge in omega arith), λ p. absurd (off i ge p))
 ]
 
-pub support_bit : (xs : List Sign) (m : ℕ) → IsMaskOf (length xs) (IsNonzero xs) m → (i : ℕ) → (bit_at m i ≡ 1) ↔ IsNonzero xs i
-support_bit xs m h = bit_of_mask xs (IsNonzero xs) m h (λ i ge n. n (get_or_past xs i Zero ge))
+pub support_bit : (xs : List Sign) (m : ℕ) → IsMaskOf (length xs) (IsInSupport xs) m → (i : ℕ) → (bit_at m i ≡ 1) ↔ IsInSupport xs i
+support_bit xs m h = bit_of_mask xs (IsInSupport xs) m h (λ i ge n. n (get_or_past xs i Zero ge))
 
 pub plus_bit : (xs : List Sign) (m : ℕ) → IsMaskOf (length xs) (IsPlus xs) m → (i : ℕ) → (bit_at m i ≡ 1) ↔ IsPlus xs i
 plus_bit xs m h = bit_of_mask xs (IsPlus xs) m h (λ i ge p. let e = sym (get_or_past xs i Zero ge) ∙ p in cc)
@@ -56,9 +56,9 @@ minus_bit xs m h = bit_of_mask xs (IsMinus xs) m h (λ i ge p. let e = sym (get_
 -- ---- tests
 
 -- the support is the zero mask
-pub zero_support : (xs : List Sign) (m : ℕ) → IsMaskOf (length xs) (IsNonzero xs) m → (m ≡ 0) ↔ IsZero xs
+pub zero_support : (xs : List Sign) (m : ℕ) → IsMaskOf (length xs) (IsInSupport xs) m → (m ≡ 0) ↔ IsZero xs
 zero_support xs m h = (
-  λ t e. elim (zero_or_not (place xs e)) [
+  λ t e. elim (zero_or_not (at_element xs e)) [
     | inl z ↦ z
     | inr n ↦ absurd ((zero_mask m).0 t (e - 1) ((support_bit xs m h (e - 1)).1 n))
   ],
@@ -66,7 +66,7 @@ zero_support xs m h = (
 )
 
 -- `x.support() == 0`
-pub zero_test : (xs : List Sign) (m : ℕ) → IsMaskOf (length xs) (IsNonzero xs) m → IsTrue (nat_eq m 0) ↔ IsZero xs
+pub zero_test : (xs : List Sign) (m : ℕ) → IsMaskOf (length xs) (IsInSupport xs) m → IsTrue (nat_eq m 0) ↔ IsZero xs
 zero_test xs m h = (λ t. (zero_support xs m h).0 (eqb-true m 0 t), λ z. eq-eqb m 0 ((zero_support xs m h).1 z))
 
 -- `a & !b == 0`: the bits of a are bits of b
@@ -85,9 +85,9 @@ part_test a b la lb = (
 )
 
 -- `x.support() & !y.support() == 0`
-pub support_test : (xs ys : List Sign) (m n : ℕ) → m < 2 ^ 32 → n < 2 ^ 32 → IsMaskOf (length xs) (IsNonzero xs) m → IsMaskOf (length ys) (IsNonzero ys) n → (bit_and m (4294967295 - n) ≡ 0) ↔ HasSupportIn xs ys
+pub support_test : (xs ys : List Sign) (m n : ℕ) → m < 2 ^ 32 → n < 2 ^ 32 → IsMaskOf (length xs) (IsInSupport xs) m → IsMaskOf (length ys) (IsInSupport ys) n → (bit_and m (4294967295 - n) ≡ 0) ↔ HasSupportIn xs ys
 support_test xs ys m n lm ln hm hn = (
-  λ t e z. elim (zero_or_not (place xs e)) [
+  λ t e z. elim (zero_or_not (at_element xs e)) [
     | inl q ↦ q
     | inr k ↦ absurd ((support_bit ys n hn (e - 1)).0 ((part_test m n lm ln).0 t (e - 1) ((support_bit xs m hm (e - 1)).1 k)) z)
   ],

@@ -14,7 +14,7 @@ use Rattle.std.proofs.lemmas.List.{ext_get_or}
 use Rattle.std.proofs.lemmas.List.Edits.{length-remove, get_or-remove_below, get_or-remove_above}
 use Rattle.om_signs.specs.declared.sign.Sign.{Sign}
 use Rattle.om_signs.specs.declared.sign.Sign.TheVariants.{Zero}
-use Rattle.om_signs.specs.SignVec.{at, place, IsNonzero, IsConformal}
+use Rattle.om_signs.specs.SignVec.{at, at_element, IsInSupport, IsConformal}
 use Rattle.om_laws.proofs.SignLaws.{zero_or_nonzero}
 use Rattle.om_members.specs.Vectors.{HasSupportIn}
 use Rattle.om_denotation.specs.Circuits.{HasNonzero}
@@ -50,7 +50,7 @@ pub support_through : (X Y Z : List Sign) → HasSupportIn X Y → HasSupportIn 
 support_through X Y Z h k e z = h e (k e z)
 
 conformal_support : (Y X : List Sign) → IsConformal Y X → HasSupportIn Y X
-conformal_support Y X h e z = ⊎_elim (λ q. q) (λ n. absurd (n (h (e - 1) n ∙ z))) (zero_or_nonzero (place Y e))
+conformal_support Y X h e z = ⊎_elim (λ q. q) (λ n. absurd (n (h (e - 1) n ∙ z))) (zero_or_nonzero (at_element Y e))
 
 -- a list that conforms to one with no more support is the same
 conformal_same : (Y X : List Sign) → length X ≡ length Y → IsConformal Y X → HasSupportIn X Y → X ≡ Y
@@ -72,7 +72,7 @@ module _ (n e : ℕ) (low : 1 ≤ e) (high : e ≤ n) where
   support_removed X Y lx ly h f z =
       at-remove X (e - 1) (f - 1) (inside X lx) ∙ support_places X Y h (raised (e - 1) (f - 1)) (sym (at-remove Y (e - 1) (f - 1) (inside Y ly)) ∙ z)
 
-  support_restored : (X Y : List Sign) → length X ≡ n → length Y ≡ n → place X e ≡ Zero → HasSupportIn (remove X (e - 1)) (remove Y (e - 1)) → HasSupportIn X Y
+  support_restored : (X Y : List Sign) → length X ≡ n → length Y ≡ n → at_element X e ≡ Zero → HasSupportIn (remove X (e - 1)) (remove Y (e - 1)) → HasSupportIn X Y
   support_restored X Y lx ly gone h f z = elim (cases_eq (f - 1) (e - 1)) [
     | inl q ↦ ap (at X) q ∙ gone
     | inr other ↦
@@ -81,7 +81,7 @@ module _ (n e : ℕ) (low : 1 ≤ e) (high : e ≤ n) where
         ∙ support_places (remove X (e - 1)) (remove Y (e - 1)) h i.0 (at-remove Y (e - 1) i.0 (inside Y ly) ∙ ap (at Y) i.1 ∙ z)
   ]
 
-  nonzero_removed : (X : List Sign) → length X ≡ n → place X e ≡ Zero → HasNonzero X → HasNonzero (remove X (e - 1))
+  nonzero_removed : (X : List Sign) → length X ≡ n → at_element X e ≡ Zero → HasNonzero X → HasNonzero (remove X (e - 1))
   nonzero_removed X l gone (j, k) =
       let i = lowered (e - 1) j (λ q. k (ap (at X) q ∙ gone)) in
       (i.0, λ z. k (ap (at X) (sym i.1) ∙ sym (at-remove X (e - 1) i.0 (inside X l)) ∙ z))
@@ -104,7 +104,7 @@ module _ (n e : ℕ) (low : 1 ≤ e) (high : e ≤ n) where
   module _ (P Q : List Sign → Type 0) (size : (X : List Sign) → P X → length X ≡ n) (sizes : (X : List Sign) → Q X → length X + 1 ≡ n) where
     module _ (contraction : IsContraction n e P Q) where
       -- a member of least support of the contraction comes from one of the whole
-      from_least : (X W : List Sign) → IsOfLeastSupport Q X → length W ≡ n → P W → place W e ≡ Zero → remove W (e - 1) ≡ X → IsOfLeastSupport P W
+      from_least : (X W : List Sign) → IsOfLeastSupport Q X → length W ≡ n → P W → at_element W e ≡ Zero → remove W (e - 1) ≡ X → IsOfLeastSupport P W
       from_least X W x lw w z r = record {
         member = w;
         nonzero = nonzero_restored W lw (subst HasNonzero (sym r) x.nonzero);
@@ -116,7 +116,7 @@ module _ (n e : ℕ) (low : 1 ≤ e) (high : e ≤ n) where
             support_restored W Y lw ly z (subst (λ V. HasSupportIn V (remove Y (e - 1))) (sym r) back);
       }
 
-      to_least : (X W : List Sign) → IsOfLeastSupport P W → length W ≡ n → place W e ≡ Zero → remove W (e - 1) ≡ X → IsOfLeastSupport Q X
+      to_least : (X W : List Sign) → IsOfLeastSupport P W → length W ≡ n → at_element W e ≡ Zero → remove W (e - 1) ≡ X → IsOfLeastSupport Q X
       to_least X W w lw z r = record {
         member = (contraction X (shorter_of X W lw r)).1 (W, lw, w.member, z, r);
         nonzero = subst HasNonzero r (nonzero_removed W lw z w.nonzero);
@@ -140,10 +140,10 @@ module _ (n e : ℕ) (low : 1 ≤ e) (high : e ≤ n) where
       member_of X (W, l, w, r) = (deletion X (shorter_of X W l r)).1 (W, l, within W w, r)
 
       -- a member of the deletion, at a place where it isn't zero, has the sign of a conforming part
-      part_at : (X : List Sign) → Q X → (i : ℕ) → IsNonzero X i → (Y : List Sign) × IsWithout n e K Y × IsConformal Y X × IsNonzero Y i
+      part_at : (X : List Sign) → Q X → (i : ℕ) → IsInSupport X i → (Y : List Sign) × IsWithout n e K Y × IsConformal Y X × IsInSupport Y i
       part_at X x i k = of_whole ((deletion X (sizes X x)).0 x)
         where
-          of_whole : IsWithout n e P X → (Y : List Sign) × IsWithout n e K Y × IsConformal Y X × IsNonzero Y i
+          of_whole : IsWithout n e P X → (Y : List Sign) × IsWithout n e K Y × IsConformal Y X × IsInSupport Y i
           of_whole (W, lw, w, r) =
               let sign : at X i ≡ at W (raised (e - 1) i) = ap (λ V. at V i) (sym r) ∙ at-remove W (e - 1) i (inside W lw) in
               let p = parts W w (raised (e - 1) i) (λ z. k (sign ∙ z)) in
@@ -157,7 +157,7 @@ module _ (n e : ℕ) (low : 1 ≤ e) (high : e ≤ n) where
       of_parts : (X : List Sign) → IsOfLeastSupport Q X → IsOfLeastSupport (IsWithout n e K) X
       of_parts X x = by_part (part_at X x.member x.nonzero.0 x.nonzero.1)
         where
-          by_part : (Y : List Sign) × IsWithout n e K Y × IsConformal Y X × IsNonzero Y x.nonzero.0 → IsOfLeastSupport (IsWithout n e K) X
+          by_part : (Y : List Sign) × IsWithout n e K Y × IsConformal Y X × IsInSupport Y x.nonzero.0 → IsOfLeastSupport (IsWithout n e K) X
           by_part (Y, y, conformal, k) =
               let back = x.least Y (member_of Y y) (x.nonzero.0, k) (conformal_support Y X conformal) in
               let lx = sizes X x.member in
@@ -172,7 +172,7 @@ module _ (n e : ℕ) (low : 1 ≤ e) (high : e ≤ n) where
         least = λ Z z k sub. by_part Z sub k.0 (part_at Z z k.0 k.1);
       }
         where
-          by_part : (Z : List Sign) → HasSupportIn Z X → (i : ℕ) → (Y : List Sign) × IsWithout n e K Y × IsConformal Y Z × IsNonzero Y i → HasSupportIn X Z
+          by_part : (Z : List Sign) → HasSupportIn Z X → (i : ℕ) → (Y : List Sign) × IsWithout n e K Y × IsConformal Y Z × IsInSupport Y i → HasSupportIn X Z
           by_part Z sub i (Y, y, conformal, k) =
               let part = conformal_support Y Z conformal in
               support_through X Y Z (x.least Y y (i, k) (support_through Y Z X part sub)) part

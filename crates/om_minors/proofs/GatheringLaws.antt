@@ -14,7 +14,7 @@ use Rattle.std.proofs.lemmas.List.Elements.{All-contains, Contains-append_left, 
 use Rattle.om_signs.specs.declared.sign.Sign.{Sign}
 use Rattle.om_signs.specs.declared.sign.Sign.TheVariants.{Zero}
 use Rattle.om_signs.specs.OrderLaws.{same_masks}
-use Rattle.om_signs.specs.SignVec.{at, place}
+use Rattle.om_signs.specs.SignVec.{at, at_element}
 use Rattle.om_members.specs.Listings.{AreDistinct}
 use Rattle.om_denotation.specs.Listings.{AreAllOf}
 use Rattle.om_denotation.proofs.SelectionLaws.{none_contained}
@@ -111,7 +111,7 @@ not_before vectors k x lt is distinct (j, l, q) =
 
 -- of distinct vectors that are zero at e none gives the same as one before it
 pub not_twice : (e : ℕ) (vectors : List (List Sign)) (k : ℕ) (x : List Sign) → k < length vectors → x ≡ get_or vectors k x → AreDistinct vectors → 1 ≤ e → HavePlace e vectors
-    → place x e ≡ Zero → (list : List (List Sign)) (y : List Sign) → y ≡ remove x (e - 1) → AreAllOf (IsMade (λ W X. (place W e ≡ Zero) × (remove W (e - 1) ≡ X)) (take k vectors)) list → Contains list y → ⊥
+    → at_element x e ≡ Zero → (list : List (List Sign)) (y : List Sign) → y ≡ remove x (e - 1) → AreAllOf (IsMade (λ W X. (at_element W e ≡ Zero) × (remove W (e - 1) ≡ X)) (take k vectors)) list → Contains list y → ⊥
 not_twice e vectors k x lt is distinct low places zero list y made all c = by_vector (all.sound y c)
   where
     long : (W : List Sign) → Contains vectors W → e - 1 < length W
@@ -120,7 +120,7 @@ not_twice e vectors k x lt is distinct low places zero list y made all c = by_ve
     whole : (W : List Sign) → Contains (take k vectors) W → Contains vectors W
     whole W w = subst (λ l. Contains l W) (take-append-drop k vectors) (Contains-append_left (take k vectors) (drop k vectors) W w)
 
-    by_vector : IsMade (λ W X. (place W e ≡ Zero) × (remove W (e - 1) ≡ X)) (take k vectors) y → ⊥
+    by_vector : IsMade (λ W X. (at_element W e ≡ Zero) × (remove W (e - 1) ≡ X)) (take k vectors) y → ⊥
     by_vector (W, w, zr) =
         let same : W ≡ x = same_restored W x (e - 1) (long W (whole W w)) (long x (k, lt, sym is)) (zr.0 ∙ sym zero) (zr.1 ∙ made) in
         not_before vectors k x lt is distinct (subst (Contains (take k vectors)) same w)

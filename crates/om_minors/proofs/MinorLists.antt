@@ -8,7 +8,7 @@ use Rattle.std.proofs.lemmas.Bool.{cases_lt, lt-ltb}
 use Rattle.std.proofs.lemmas.List.Edits.{length-remove, get_or-remove_below, get_or-remove_above}
 use Rattle.om_signs.specs.declared.sign.Sign.{Sign}
 use Rattle.om_signs.specs.declared.sign.Sign.TheVariants.{Zero}
-use Rattle.om_signs.specs.SignVec.{at, place}
+use Rattle.om_signs.specs.SignVec.{at, at_element}
 use Rattle.om_laws.specs.Bridge.{as_function, as_list}
 use Rattle.om_laws.specs.Chirotope.{elements_to}
 use Rattle.om_laws.specs.Covectors.{IsCovector}
@@ -41,7 +41,7 @@ removed_function W e (suc i) low high = elim (cases_lt (suc i) e) [
       get_or-remove_above W (e - 1) Zero i (omega arith) (omega arith) ∙ ap (as_function W) (up ∙ sym (skip_above e (suc i) g))
 ]
 
-place_function : (W : List Sign) (e : ℕ) → 1 ≤ e → as_function W e ≡ place W e
+place_function : (W : List Sign) (e : ℕ) → 1 ≤ e → as_function W e ≡ at_element W e
 place_function W zero low = absurd (omega arith)
 place_function W (suc i) low = let q : i ≡ suc i - 1 = omega arith in ap (at W) q
 

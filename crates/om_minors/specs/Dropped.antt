@@ -5,7 +5,7 @@ use Rattle.std.specs.Prelude.{ℕ, ◌≡◌, ◌≤◌, ◌-◌, List, length}
 use Rattle.std.specs.List.{All, Contains, remove}
 use Rattle.om_signs.specs.declared.sign.Sign.{Sign}
 use Rattle.om_signs.specs.declared.sign.Sign.TheVariants.{Zero}
-use Rattle.om_signs.specs.SignVec.{place}
+use Rattle.om_signs.specs.SignVec.{at_element}
 
 -- each vector has the place of e, and another one
 abbrev pub HavePlace : ℕ → List (List Sign) → Type 0
@@ -17,4 +17,4 @@ IsDropped e vectors X = (W : List Sign) × Contains vectors W × (remove W (e - 
 
 -- some vector of the list that is zero at e is X with the place of e dropped
 abbrev pub IsZeroDropped : ℕ → List (List Sign) → List Sign → Type 0
-IsZeroDropped e vectors X = (W : List Sign) × Contains vectors W × ((place W e ≡ Zero) × (remove W (e - 1) ≡ X))
+IsZeroDropped e vectors X = (W : List Sign) × Contains vectors W × ((at_element W e ≡ Zero) × (remove W (e - 1) ≡ X))

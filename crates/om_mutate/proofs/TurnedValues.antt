@@ -68,9 +68,6 @@ module _ (m : SignMap) (t : List ℕ) (w : IsMap m) (r : m.rank ≡ 3) (h : IsTr
 
 -- ---- two elements of the triple a, b, c, and a third one
 
-abbrev pub the_list : ℕ → ℕ → ℕ → List ℕ
-the_list a b c = a ∷ b ∷ c ∷ []
-
 -- one of three rising numbers, and the other two in order
 abbrev pub IsCorner : ℕ → ℕ → ℕ → ℕ → ℕ → ℕ → Type 0
 IsCorner a b c p x y = ((p ≡ a) × (x ≡ b) × (y ≡ c)) ⊎ (((p ≡ b) × (x ≡ a) × (y ≡ c)) ⊎ ((p ≡ c) × (x ≡ a) × (y ≡ b)))

@@ -4,7 +4,7 @@
 use Rattle.std.specs.Prelude.{ℕ, ◌≢◌, ◌-◌, List, [], ◌∷◌, slice_set}
 use Rattle.om_signs.specs.declared.sign.Sign.{Sign}
 use Rattle.om_signs.specs.Sign.{opposite, product}
-use Rattle.om_signs.specs.SignVec.{place}
+use Rattle.om_signs.specs.SignVec.{at_element}
 use Rattle.om_laws.specs.Sorting.{IsElement}
 use Rattle.om_laws.specs.ThreeTerm.{AreBalanced}
 use Rattle.om_chirotope.specs.Map.{SignMap, value_of}
@@ -33,4 +33,4 @@ pub record StaysBalancedAround (m : SignMap) (a b c : ℕ) : Type 0 where
 
 -- the vector with the sign at an element turned
 abbrev pub turned_row : List Sign → ℕ → List Sign
-turned_row row e = slice_set row (e - 1) (opposite (place row e))
+turned_row row e = slice_set row (e - 1) (opposite (at_element row e))

@@ -2,7 +2,7 @@
 
 ghost use Rattle.std.specs.Prelude.{ℕ, ◌≡◌, ◌-◌, ◌≤◌, ◌↔◌, ◌∷◌, [], length, IsTrue, slice_set};
 ghost use Rattle.om_signs.specs.Sign.{opposite};
-ghost use Rattle.om_signs.specs.SignVec.{place};
+ghost use Rattle.om_signs.specs.SignVec.{at_element};
 ghost use Rattle.om_subsets.specs.Subsets.{without_element};
 ghost use Rattle.om_laws.specs.Sorting.{IsElement};
 ghost use Rattle.om_chirotope.specs.Map.{cocircuit_vector};

@@ -11,7 +11,7 @@ use Rattle.std.proofs.lemmas.List.{ext_get_or, length-replicate}
 use Rattle.om_signs.specs.declared.sign.Sign.{Sign}
 use Rattle.om_signs.specs.declared.sign.Sign.TheVariants.{Zero}
 use Rattle.om_signs.specs.Sign.{first_nonzero}
-use Rattle.om_signs.specs.SignVec.{at, compose, IsNonzero, IsConformal}
+use Rattle.om_signs.specs.SignVec.{at, compose, IsInSupport, IsConformal}
 use Rattle.om_signs.proofs.Vectors.{at-compose, length-compose}
 use Rattle.std.specs.Cmp.{tied_itself, Equal-is}
 use Rattle.std.specs.Ordering.{is_eq}
@@ -27,8 +27,8 @@ use Rattle.om_denotation.specs.CovectorLaws.{at_zero}
 pub record IsComposition (members : List (List Sign)) (X : List Sign) (k : ℕ) (Z : List Sign) : Type 0 where
   pub size : length Z ≡ length X
   pub conformal : IsConformal Z X
-  pub member : (i : ℕ) → IsNonzero Z i → HasConformingMember members X i
-  pub all : (j i : ℕ) → j < k → IsConformal (nth members j) X → IsNonzero (nth members j) i → IsNonzero Z i
+  pub member : (i : ℕ) → IsInSupport Z i → HasConformingMember members X i
+  pub all : (j i : ℕ) → j < k → IsConformal (nth members j) X → IsInSupport (nth members j) i → IsInSupport Z i
 
 -- the zero vector is the composition of no members
 pub none_composed : (members : List (List Sign)) (X Z : List Sign) (n : ℕ) → Z ≡ replicate n Zero → n ≡ length X → IsComposition members X 0 Z
@@ -63,24 +63,24 @@ module _ (members : List (List Sign)) (X : List Sign) (k : ℕ) (Z : List Sign) 
     from_zero : (i : ℕ) → at Z i ≡ Zero → at (compose Z Y) i ≡ at Y i
     from_zero i z = sign_at i ∙ ap (λ s. first_nonzero s (at Y i)) z
 
-    from_nonzero : (i : ℕ) → IsNonzero Z i → at (compose Z Y) i ≡ at Z i
+    from_nonzero : (i : ℕ) → IsInSupport Z i → at (compose Z Y) i ≡ at Z i
     from_nonzero i nonzero = sign_at i ∙ first_nonzero_left (at Z i) (at Y i) nonzero
 
-    nonzero_of_member : (i : ℕ) → at Z i ≡ Zero → IsNonzero (compose Z Y) i → IsNonzero Y i
+    nonzero_of_member : (i : ℕ) → at Z i ≡ Zero → IsInSupport (compose Z Y) i → IsInSupport Y i
     nonzero_of_member i z nonzero y = nonzero (from_zero i z ∙ y)
 
-    same_sign : (i : ℕ) → (at Z i ≡ Zero) ⊎ IsNonzero Z i → IsNonzero (compose Z Y) i → at (compose Z Y) i ≡ at X i
+    same_sign : (i : ℕ) → (at Z i ≡ Zero) ⊎ IsInSupport Z i → IsInSupport (compose Z Y) i → at (compose Z Y) i ≡ at X i
     same_sign i (inl z) nonzero = from_zero i z ∙ conformal i (nonzero_of_member i z nonzero)
     same_sign i (inr n) nonzero = from_nonzero i n ∙ h.conformal i n
 
-    with_member : (i : ℕ) → (at Z i ≡ Zero) ⊎ IsNonzero Z i → IsNonzero (compose Z Y) i → HasConformingMember members X i
+    with_member : (i : ℕ) → (at Z i ≡ Zero) ⊎ IsInSupport Z i → IsInSupport (compose Z Y) i → HasConformingMember members X i
     with_member i (inl z) nonzero = (Y, in_members, conformal, conformal i (nonzero_of_member i z nonzero))
     with_member i (inr n) nonzero = h.member i n
 
-    still_nonzero : (i : ℕ) → IsNonzero Z i → IsNonzero (compose Z Y) i
+    still_nonzero : (i : ℕ) → IsInSupport Z i → IsInSupport (compose Z Y) i
     still_nonzero i nonzero z = nonzero (sym (from_nonzero i nonzero) ∙ z)
 
-    now_nonzero : (i : ℕ) → (at Z i ≡ Zero) ⊎ IsNonzero Z i → IsNonzero Y i → IsNonzero (compose Z Y) i
+    now_nonzero : (i : ℕ) → (at Z i ≡ Zero) ⊎ IsInSupport Z i → IsInSupport Y i → IsInSupport (compose Z Y) i
     now_nonzero i (inl z) nonzero q = nonzero (sym (from_zero i z) ∙ q)
     now_nonzero i (inr n) nonzero z = still_nonzero i n z
 
@@ -90,7 +90,7 @@ module _ (members : List (List Sign)) (X : List Sign) (k : ℕ) (Z : List Sign) 
       conformal = λ i nonzero. same_sign i (zero_or_nonzero (at Z i)) nonzero;
       member = λ i nonzero. with_member i (zero_or_nonzero (at Z i)) nonzero;
       all = λ j i lt conformal nonzero. elim (cases_eq j k) [
-        | inl q ↦ now_nonzero i (zero_or_nonzero (at Z i)) (subst (λ V. IsNonzero V i) (sym e) (subst (λ a. IsNonzero (nth members a) i) q nonzero))
+        | inl q ↦ now_nonzero i (zero_or_nonzero (at Z i)) (subst (λ V. IsInSupport V i) (sym e) (subst (λ a. IsInSupport (nth members a) i) q nonzero))
         | inr n ↦ still_nonzero i (h.all j i (omega arith) conformal nonzero)
       ];
     })
@@ -103,20 +103,20 @@ same_vectors xs ys r e = (
 )
 
 -- all members are composed
-pub composed_is : (members : List (List Sign)) (X Z : List Sign) (k : ℕ) (r : Bool) → length members ≤ k → IsComposition members X k Z → (IsTrue r ↔ (Z ≡ X)) → IsTrue r ↔ ((i : ℕ) → IsNonzero X i → HasConformingMember members X i)
+pub composed_is : (members : List (List Sign)) (X Z : List Sign) (k : ℕ) (r : Bool) → length members ≤ k → IsComposition members X k Z → (IsTrue r ↔ (Z ≡ X)) → IsTrue r ↔ ((i : ℕ) → IsInSupport X i → HasConformingMember members X i)
 composed_is members X Z k r few h f = (
   λ t i nonzero. h.member i (λ z. nonzero (sym (ap (λ W. at W i) (f.0 t)) ∙ z)),
   λ g. f.1 (ext_get_or Zero Z X h.size (λ i lt. same_at i (zero_or_nonzero (at Z i)) (zero_or_nonzero (at X i)) g)),
 )
   where
-    found : (i : ℕ) → IsNonzero X i → HasConformingMember members X i → IsNonzero Z i
+    found : (i : ℕ) → IsInSupport X i → HasConformingMember members X i → IsInSupport Z i
     found i nonzero (Y, in_members, conformal, same) =
         let lt = in_members.1 in
         let here : Y ≡ nth members in_members.0 = sym (nth_contained members Y in_members) in
         h.all in_members.0 i (omega arith) (subst (λ W. IsConformal W X) here conformal)
-        (subst (λ W. IsNonzero W i) here (λ z. nonzero (sym same ∙ z)))
+        (subst (λ W. IsInSupport W i) here (λ z. nonzero (sym same ∙ z)))
 
-    same_at : (i : ℕ) → (at Z i ≡ Zero) ⊎ IsNonzero Z i → (at X i ≡ Zero) ⊎ IsNonzero X i → ((a : ℕ) → IsNonzero X a → HasConformingMember members X a) → at Z i ≡ at X i
+    same_at : (i : ℕ) → (at Z i ≡ Zero) ⊎ IsInSupport Z i → (at X i ≡ Zero) ⊎ IsInSupport X i → ((a : ℕ) → IsInSupport X a → HasConformingMember members X a) → at Z i ≡ at X i
     same_at i (inr n) x g = h.conformal i n
     same_at i (inl z) (inl x) g = z ∙ sym x
     same_at i (inl z) (inr n) g = absurd (found i n (g i n) z)

@@ -23,17 +23,6 @@ pub record IsOrthogonalBefore (m : SignMap) (X : List Sign) (s : Chosen) : Type 
   pub list : IsSubsetFrom 1 m.elements s.elements
   pub before : (T : List ℕ) → IsSubsetFrom 1 m.elements T → length T ≡ m.rank + 1 → rank_of m.elements T < rank_of m.elements s.elements → IsOrthogonal X (circuit_vector m T)
 
--- no set comes before the first one
-pub orthogonal_at_first : (m : SignMap) (X : List Sign) (s : Chosen) (n r : ℕ) → n ≡ m.elements → r ≡ m.rank → s.n ≡ n → length s.elements ≡ r + 1 → rank_of n s.elements ≡ 0 → IsSubsetFrom 1 n s.elements → IsOrthogonalBefore m X s
-orthogonal_at_first m X s n r en er sn size place list = record {
-  n = sn ∙ en;
-  size = size ∙ ap (λ k. k + 1) er;
-  list = subst (λ k. IsSubsetFrom 1 k s.elements) en list;
-  before = λ T ht lt below.
-      let z : rank_of m.elements s.elements ≡ 0 = subst (λ k. rank_of k s.elements ≡ 0) en place in
-      absurd (omega arith);
-}
-
 module _ (m : SignMap) (X : List Sign) (s : Chosen) (h : IsOrthogonalBefore m X s) where
   orthogonal_up_to : IsOrthogonal X (circuit_vector m s.elements) → (T : List ℕ) → IsSubsetFrom 1 m.elements T → length T ≡ m.rank + 1 → rank_of m.elements T < rank_of m.elements s.elements + 1 → IsOrthogonal X (circuit_vector m T)
   orthogonal_up_to here T list size below = elim (cases_eq (rank_of m.elements T) (rank_of m.elements s.elements)) [

@@ -1,7 +1,7 @@
 //! The covectors of cocircuits.
 
 ghost use Rattle.std.specs.Prelude.{ℕ, ◌≡◌, ◌↔◌, List, IsTrue, length};
-ghost use Rattle.om_signs.specs.SignVec.{IsNonzero};
+ghost use Rattle.om_signs.specs.SignVec.{IsInSupport};
 ghost use Rattle.om_members.specs.Listings.{HaveLength};
 ghost use Rattle.om_circuits.specs.SignedSets.{IsSignedSet};
 ghost use Rattle.om_denotation.specs.Covectors.{IsCovectorOfCocircuits, HasConformingMember};
@@ -16,7 +16,7 @@ use om_signs::SignVec;
 /// of all members that conform to it.
 fn is_composed(members: &[SignVec], x: SignVec) -> bool
     requires { HaveLength (length x) members.now }
-    ensures { IsTrue result ↔ ((i : ℕ) → IsNonzero x i → HasConformingMember members.now x i) }
+    ensures { IsTrue result ↔ ((i : ℕ) → IsInSupport x i → HasConformingMember members.now x i) }
 {
     let mut composed = SignVec::zero(x.len());
     for y in members {

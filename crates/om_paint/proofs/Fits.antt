@@ -10,7 +10,7 @@ use Rattle.std.proofs.lemmas.Bool.{cases_lt}
 use Rattle.std.proofs.lemmas.List.{get_or_past}
 use Rattle.om_signs.specs.declared.sign.Sign.{Sign}
 use Rattle.om_signs.specs.declared.sign.Sign.TheVariants.{Minus, Zero, Plus}
-use Rattle.om_signs.specs.SignVec.{at, place, IsMaskOf, IsNonzero}
+use Rattle.om_signs.specs.SignVec.{at, at_element, IsMaskOf, IsInSupport}
 use Rattle.om_signs.proofs.Bits.{some_bit}
 use Rattle.om_laws.specs.Colours.{red, green, black, white, IsColoured}
 use Rattle.om_laws.specs.Colours as laws
@@ -29,7 +29,7 @@ use Rattle.om_paint.proofs.Masks.{inside, plus_not_zero, minus_not_zero}
 
 -- ---- masks
 
-pub nonzero_from_support : (V : List Sign) (mask : ℕ) → IsMaskOf (length V) (IsNonzero V) mask → mask < 2 ^ 32 → mask ≢ 0 → HasNonzero V
+pub nonzero_from_support : (V : List Sign) (mask : ℕ) → IsMaskOf (length V) (IsInSupport V) mask → mask < 2 ^ 32 → mask ≢ 0 → HasNonzero V
 nonzero_from_support V mask m small n = by (some_bit mask n small)
   where
     by : (i : ℕ) × (bit_at mask i ≡ 1) → HasNonzero V
@@ -38,7 +38,7 @@ nonzero_from_support V mask m small n = by (some_bit mask n small)
       | inr ge ↦ let z = bit_at_above mask (length V) i m.within ge in absurd (omega (arith, b, z))
     ]
 
-pub zero_from_support : (V : List Sign) (mask : ℕ) → IsMaskOf (length V) (IsNonzero V) mask → mask ≡ 0 → HasNonzero V → ⊥
+pub zero_from_support : (V : List Sign) (mask : ℕ) → IsMaskOf (length V) (IsInSupport V) mask → mask ≡ 0 → HasNonzero V → ⊥
 zero_from_support V mask m z (i, n) = elim (cases_lt i (length V)) [
   | inl lt ↦ let b : bit_at mask i ≡ 0 = ap (λ k. bit_at k i) z ∙ bit_at-zero i in let h = (m.holds i lt).1 n in omega (arith, b, h)
   | inr ge ↦ n (get_or_past V i Zero ge)
@@ -66,15 +66,15 @@ module _ (may : laws.Colour → Sign → Type 0) (zero_may : (c : laws.Colour) �
   allowed_sign a b i lt Zero q = zero_may (shade (get_or colours i Black))
   allowed_sign a b i lt Plus q = (p.holds i lt).0 (a i q)
 
-  sign_allowed : ((f : ℕ) → 1 ≤ f → f ≤ length colours → may (colouring colours f) (place X f)) → (s : Sign) → s ≢ Zero → (i : ℕ) → at X i ≡ s → (i < length colours) × may (shade (get_or colours i Black)) s
+  sign_allowed : ((f : ℕ) → 1 ≤ f → f ≤ length colours → may (colouring colours f) (at_element X f)) → (s : Sign) → s ≢ Zero → (i : ℕ) → at X i ≡ s → (i < length colours) × may (shade (get_or colours i Black)) s
   sign_allowed h s n i q =
       let lt : i < length colours = subst (λ k. i < k) size (inside X i s n q) in
       let back : i + 1 - 1 ≡ i = omega arith in
       (lt, subst (may (shade (get_or colours i Black))) q (subst (λ j. may (shade (get_or colours j Black)) (at X j)) back (h (i + 1) (omega arith) (omega (arith, lt)))))
 
-  pub allowed_both : (e : ℕ) → IsAllowed plus minus e X ↔ ((place X e ≢ Zero) × ((f : ℕ) → 1 ≤ f → f ≤ length colours → may (colouring colours f) (place X f)))
+  pub allowed_both : (e : ℕ) → IsAllowed plus minus e X ↔ ((at_element X e ≢ Zero) × ((f : ℕ) → 1 ≤ f → f ≤ length colours → may (colouring colours f) (at_element X f)))
   allowed_both e = (
-    λ h. (h.0, λ f low high. allowed_sign h.1 h.2 (f - 1) (omega (arith, low, high)) (place X f) refl),
+    λ h. (h.0, λ f low high. allowed_sign h.1 h.2 (f - 1) (omega (arith, low, high)) (at_element X f) refl),
     λ h. (h.0, λ i q. let a = sign_allowed h.1 Plus plus_not_zero i q in (p.holds i a.0).1 a.1, λ i q. let a = sign_allowed h.1 Minus minus_not_zero i q in (m.holds i a.0).1 a.1),
   )
 

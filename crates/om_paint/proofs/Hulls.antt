@@ -10,7 +10,7 @@ use Rattle.std.proofs.lemmas.List.{length-replicate, get_or-replicate, get_or_pa
 use Rattle.om_signs.specs.declared.sign.Sign.{Sign}
 use Rattle.om_signs.specs.declared.sign.Sign.TheVariants.{Minus, Zero, Plus}
 use Rattle.om_signs.specs.Sign.{opposite, product}
-use Rattle.om_signs.specs.SignVec.{at, place, HasProduct}
+use Rattle.om_signs.specs.SignVec.{at, at_element, HasProduct}
 use Rattle.om_signs.proofs.Vectors.{at-map-opposite}
 use Rattle.om_members.specs.Vectors.{negated}
 use Rattle.om_laws.specs.Colours.{red, green, IsColoured}
@@ -151,8 +151,8 @@ module _ (m : SignMap) (chirotope : IsChirotope m) where
 
   only_minus : (e : ℕ) → 1 ≤ e → e ≤ m.elements → (X : List Sign) → IsFittingCircuit m (green_alone e) e X → IsOnlyMinus m.elements e X
   only_minus e low high X h = (
-    ⊎_elim (λ p. absurd ((subst (λ k. laws.CircuitMay k (place X e)) (green_at e e refl) (h.fits e low high)) p)) (λ q. q) (sign_cases (place X e) h.through),
-    λ f a b n. subst (λ k. laws.CircuitMay k (place X f)) (red_at e f n) (h.fits f a b),
+    ⊎_elim (λ p. absurd ((subst (λ k. laws.CircuitMay k (at_element X e)) (green_at e e refl) (h.fits e low high)) p)) (λ q. q) (sign_cases (at_element X e) h.through),
+    λ f a b n. subst (λ k. laws.CircuitMay k (at_element X f)) (red_at e f n) (h.fits f a b),
   )
 
   from_only_minus : (e : ℕ) → (X : List Sign) → IsCircuitOfChirotope m X → IsOnlyMinus m.elements e X → IsFittingCircuit m (green_alone e) e X
@@ -160,8 +160,8 @@ module _ (m : SignMap) (chirotope : IsChirotope m) where
     circuit = c;
     through = λ z. let s = sym q ∙ z in cc;
     fits = λ f a b. ⊎_elim
-        (λ s. subst (λ k. laws.CircuitMay k (place X f)) (sym (green_at e f s)) (subst (λ g. place X g ≢ Plus) (sym s) (λ p. let t = sym q ∙ p in cc)))
-        (λ n. subst (λ k. laws.CircuitMay k (place X f)) (sym (red_at e f n)) (others f a b n))
+        (λ s. subst (λ k. laws.CircuitMay k (at_element X f)) (sym (green_at e f s)) (subst (λ g. at_element X g ≢ Plus) (sym s) (λ p. let t = sym q ∙ p in cc)))
+        (λ n. subst (λ k. laws.CircuitMay k (at_element X f)) (sym (red_at e f n)) (others f a b n))
         (cases_eq f e);
   }
 
@@ -171,8 +171,8 @@ module _ (m : SignMap) (chirotope : IsChirotope m) where
 
   only_minus_of_cocircuit : (e : ℕ) → 1 ≤ e → e ≤ m.elements → (Y : List Sign) → IsFittingCocircuit m (green_alone e) e Y → IsOnlyMinus m.elements e Y
   only_minus_of_cocircuit e low high Y h = (
-    ⊎_elim (λ p. absurd ((subst (λ k. laws.CocircuitMay k (place Y e)) (green_at e e refl) (h.fits e low high)) p)) (λ q. q) (sign_cases (place Y e) h.through),
-    λ f a b n. subst (λ k. laws.CocircuitMay k (place Y f)) (red_at e f n) (h.fits f a b),
+    ⊎_elim (λ p. absurd ((subst (λ k. laws.CocircuitMay k (at_element Y e)) (green_at e e refl) (h.fits e low high)) p)) (λ q. q) (sign_cases (at_element Y e) h.through),
+    λ f a b n. subst (λ k. laws.CocircuitMay k (at_element Y f)) (red_at e f n) (h.fits f a b),
   )
 
   cocircuit_from_only_minus : (e : ℕ) → (Y : List Sign) → IsCocircuitOfChirotope m Y → IsOnlyMinus m.elements e Y → IsFittingCocircuit m (green_alone e) e Y
@@ -180,8 +180,8 @@ module _ (m : SignMap) (chirotope : IsChirotope m) where
     cocircuit = c;
     through = λ z. let s = sym q ∙ z in cc;
     fits = λ f a b. ⊎_elim
-        (λ s. subst (λ k. laws.CocircuitMay k (place Y f)) (sym (green_at e f s)) (subst (λ g. place Y g ≢ Plus) (sym s) (λ p. let t = sym q ∙ p in cc)))
-        (λ n. subst (λ k. laws.CocircuitMay k (place Y f)) (sym (red_at e f n)) (others f a b n))
+        (λ s. subst (λ k. laws.CocircuitMay k (at_element Y f)) (sym (green_at e f s)) (subst (λ g. at_element Y g ≢ Plus) (sym s) (λ p. let t = sym q ∙ p in cc)))
+        (λ n. subst (λ k. laws.CocircuitMay k (at_element Y f)) (sym (red_at e f n)) (others f a b n))
         (cases_eq f e);
   }
 

@@ -1,6 +1,6 @@
 -- Classes of sign vectors by masks.
 --
--- Main results: a mask that grows by a bit (mask_empty, mask_with, mask_without); the elements of a sign lie in a mask (within_both); the class of a vector by its
+-- Main results: a mask that grows by a bit (mask_with, mask_without); the elements of a sign lie in a mask (within_both); the class of a vector by its
 -- minuses (no_minus_class, one_minus_class, no_class).
 use Rattle.std.proofs.Common.{ℕ, ◌≡◌, ◌≢◌, ◌+◌, ◌-◌, ◌*◌, ◌%◌, ◌<◌, ◌^◌, ◌↔◌, List, length, min, sym, ap, subst, ◌∙◌, inl, inr, arith, bit_and, bit_or, w32}
 use Rattle.std.specs.Prelude.{Option, None, Some}
@@ -24,9 +24,6 @@ not_both : (b : ℕ) → b ≡ 0 → b ≡ 1 → ⊥
 not_both b z o = omega arith
 
 -- ---- one bit more
-
-pub mask_empty : (P : ℕ → Type 0) → IsMaskOf 0 P 0
-mask_empty P = record { within = omega arith; holds = λ i lt. absurd (omega arith) }
 
 module _ (P : ℕ → Type 0) (k mask : ℕ) (m : IsMaskOf k P mask) where
   pub mask_with : k < 32 → P k → IsMaskOf (k + 1) P (bit_or mask (1 * 2 ^ k % 2 ^ 32))

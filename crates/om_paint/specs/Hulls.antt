@@ -4,7 +4,7 @@
 use Rattle.std.specs.Prelude.{ℕ, ◌≡◌, ◌≢◌, ◌+◌, ◌≤◌, List, [], ◌∷◌, cond, nat_eq, replicate}
 use Rattle.om_signs.specs.declared.sign.Sign.{Sign}
 use Rattle.om_signs.specs.declared.sign.Sign.TheVariants.{Minus, Plus}
-use Rattle.om_signs.specs.SignVec.{place}
+use Rattle.om_signs.specs.SignVec.{at_element}
 use Rattle.om_laws.specs.Colours.{red, green, Colour}
 use Rattle.om_chirotope.specs.Map.{SignMap}
 use Rattle.om_denotation.specs.Circuits.{IsCircuitOfChirotope}
@@ -24,7 +24,7 @@ IsPositiveCircuit m X = IsCircuitOfChirotope m X × HasNoMinus X
 
 -- e is the only element where the vector is minus
 abbrev pub IsOnlyMinus : ℕ → ℕ → List Sign → Type 0
-IsOnlyMinus n e X = (place X e ≡ Minus) × ((f : ℕ) → 1 ≤ f → f ≤ n → f ≢ e → place X f ≢ Minus)
+IsOnlyMinus n e X = (at_element X e ≡ Minus) × ((f : ℕ) → 1 ≤ f → f ≤ n → f ≢ e → at_element X f ≢ Minus)
 
 -- no circuit has e as its only minus place
 abbrev pub IsExtreme : SignMap → ℕ → Type 0

@@ -5,7 +5,7 @@ use Rattle.std.specs.Prelude.{ℕ, ◌≡◌, ◌≢◌, ◌-◌, ◌≤◌, ◌
 use Rattle.std.specs.declared.cmp.Ordering.TheVariants.{Less}
 use Rattle.om_signs.specs.declared.sign.Sign.{Sign}
 use Rattle.om_signs.specs.declared.sign.Sign.TheVariants.{Minus, Zero}
-use Rattle.om_signs.specs.SignVec.{at, place}
+use Rattle.om_signs.specs.SignVec.{at, at_element}
 use Rattle.om_signs.specs.Order.{lexicographic}
 use Rattle.om_laws.specs.Colours.{red, green, black, white, CircuitMay, CocircuitMay}
 use Rattle.om_laws.specs.Colours as laws
@@ -30,11 +30,11 @@ colouring colours e = shade (get_or colours (e - 1) Black)
 
 -- not zero at e, and everywhere a sign that the colours allow a circuit
 abbrev pub FitsCircuit : List Colour → ℕ → List Sign → Type 0
-FitsCircuit colours e X = (place X e ≢ Zero) × ((f : ℕ) → 1 ≤ f → f ≤ length colours → CircuitMay (colouring colours f) (place X f))
+FitsCircuit colours e X = (at_element X e ≢ Zero) × ((f : ℕ) → 1 ≤ f → f ≤ length colours → CircuitMay (colouring colours f) (at_element X f))
 
 -- not zero at e, and everywhere a sign that the colours allow a cocircuit
 abbrev pub FitsCocircuit : List Colour → ℕ → List Sign → Type 0
-FitsCocircuit colours e X = (place X e ≢ Zero) × ((f : ℕ) → 1 ≤ f → f ≤ length colours → CocircuitMay (colouring colours f) (place X f))
+FitsCocircuit colours e X = (at_element X e ≢ Zero) × ((f : ℕ) → 1 ≤ f → f ≤ length colours → CocircuitMay (colouring colours f) (at_element X f))
 
 -- no sign is minus
 abbrev pub HasNoMinus : List Sign → Type 0

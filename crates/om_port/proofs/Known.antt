@@ -3,26 +3,16 @@
 -- Main results: Consumes-then, Appends-then, taken_exactly, taken_at_most, write_step, read_step
 use Rattle.std.proofs.Common.{ℕ, ◌≡◌, ◌+◌, ◌-◌, ◌<◌, ◌≤◌, List, [], ◌++◌, length, take, drop, refl, sym, ◌∙◌, ap, arith, append_assoc}
 use Rattle.std.specs.Prelude.{None, Some, Option}
-use Rattle.std.specs.Io.KnownBytes.{Consumes, Appends, Keeps}
-use Rattle.std.proofs.lemmas.List.{append-nil, drop_all, length-take, take-append-drop, length-drop, length-append, take_rest, take_at, drop-drop}
+use Rattle.std.specs.Io.KnownBytes.{Consumes, Appends}
+use Rattle.std.proofs.lemmas.List.{drop_all, length-take, take-append-drop, length-drop, length-append, take_rest, take_at, drop-drop}
 use Rattle.std.proofs.Math.Seq.{take-add}
 use Rattle.om_port.specs.Causes.{TakesExactly, TakesAtMost}
-
-pub Consumes-keeps : (old new : Option (List ℕ)) → Keeps old new → Consumes old new []
-Consumes-keeps None new h = h
-Consumes-keeps (Some xs) None h = h
-Consumes-keeps (Some xs) (Some ys) h = sym h
 
 pub Consumes-then : (a b c : Option (List ℕ)) (xs ys : List ℕ) → Consumes a b xs → Consumes b c ys → Consumes a c (xs ++ ys)
 Consumes-then None b c xs ys h k = h
 Consumes-then (Some a) None c xs ys h k = absurd h
 Consumes-then (Some a) (Some b) None xs ys h k = absurd k
 Consumes-then (Some a) (Some b) (Some c) xs ys h k = h ∙ rw (k, append_assoc) refl
-
-pub Appends-keeps : (old new : Option (List ℕ)) → Keeps old new → Appends old new []
-Appends-keeps None new h = h
-Appends-keeps (Some xs) None h = h
-Appends-keeps (Some xs) (Some ys) h = h ∙ sym (append-nil xs)
 
 pub Appends-then : (a b c : Option (List ℕ)) (xs ys : List ℕ) → Appends a b xs → Appends b c ys → Appends a c (xs ++ ys)
 Appends-then None b c xs ys h k = h

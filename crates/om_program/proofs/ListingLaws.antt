@@ -1,12 +1,12 @@
 -- Lists that words fill: colours of letters, and elements with signs.
 --
--- Main results: a list that is filled in order (filled_none, filled_more, filled_all); the colours of a word (colours_read,
--- colours_within); what colours and an element are read as (colouring_read, ..); what elements with signs are read as (leading_read, ..).
-use Rattle.std.specs.Prelude.{ℕ, ◌≡◌, ◌<◌, ◌≤◌, ◌+◌, ◌-◌, ◌↔◌, ◌==◌, ◌&&◌, Bool, true, false, cond, nat_le, List, [], ◌∷◌, ◌++◌, length, map, replicate, Option, Some, None, is_some, Result, Ok, Err, IfErr, IsErrAnd, codes, refl}
+-- Main results: a list that is filled in order (filled_none, filled_more, filled_all); the colours of a word
+-- (colours_read); what colours and an element are read as (colouring_read, ..).
+use Rattle.std.specs.Prelude.{ℕ, ◌≡◌, ◌<◌, ◌≤◌, ◌+◌, ◌-◌, ◌↔◌, ◌==◌, Bool, true, false, List, [], ◌∷◌, ◌++◌, length, map, replicate, Option, Some, None, is_some, Result, Ok, Err, IfErr, IsErrAnd, codes, refl}
 use Rattle.std.specs.List.{list_all, filter_map}
 use Rattle.std.specs.Fmt.{decimal}
 use Rattle.std.proofs.Common.{get_or, take, set, zero, suc, arith, ap, subst, sym, ◌∙◌, append_assoc, append-nil, lit≤, below_more}
-use Rattle.std.proofs.lemmas.Bool.{false≢true, eqb-true, le-leb, leb-true, and_from, and_parts}
+use Rattle.std.proofs.lemmas.Bool.{false≢true, eqb-true, le-leb, and_from}
 use Rattle.std.proofs.lemmas.List.{take_more, take_all, set_at, length_push}
 use Rattle.std.proofs.lemmas.List.Elements.{filter_map-append}
 use Rattle.om_signs.specs.declared.limits.TheConstants.{MAX_ELEMENTS}
@@ -21,11 +21,11 @@ use Rattle.om_program.specs.declared.leading.Leading.{Leading}
 use Rattle.om_program.specs.Words.{IsElement, Begins, IsFault, at_word, at_end, HasValue, IsRead}
 use Rattle.om_program.specs.Readings.{EachFits}
 use Rattle.om_program.specs.Triples.{IsElementAt}
-use Rattle.om_program.specs.Listings.{padded, colour_of, are_colours, colours_of, AreColouring, signed_of, is_leading, AreLeading}
+use Rattle.om_program.specs.Listings.{padded, colour_of, colours_of, AreColouring, signed_of, is_leading, AreLeading}
 use Rattle.om_program.proofs.WordLaws.{first_of, tail_of}
 use Rattle.om_program.proofs.ArgumentLaws.{no_value, none_some, one_some}
 use Rattle.om_program.proofs.Numerals.{one_element}
-use Rattle.om_program.proofs.FitLaws.{FitBelow, fits_all, none_fits, first_unfit}
+use Rattle.om_program.proofs.FitLaws.{FitBelow, none_fits, first_unfit}
 use Rattle.om_program.proofs.TripleLaws.{same_there, none_at, word_of}
 
 -- ---- a list that is filled in order
@@ -86,16 +86,6 @@ colours_read word k colours passed l some few =
     let all : list_all (λ b. is_some (colour_of b)) word ≡ true = all_letters (λ b. is_some (colour_of b)) word (λ j h. passed.letters j (omega (arith, h, l))) in
     let list = filled_all colour_of White word k colours passed.filled l in
     rw (le-leb 1 (length word) some, le-leb (length word) MAX_LISTED few, all) (ap Some list)
-
-some_colours : (word : List ℕ) (b : Bool) (colours : List Colour) → cond b (Some (padded White (filter_map colour_of word))) None ≡ Some colours → b ≡ true
-some_colours word true colours is = refl
-some_colours word false colours is = cc
-
-pub colours_within : (word : List ℕ) (colours : List Colour) → colours_of word ≡ Some colours → length word ≤ MAX_LISTED
-colours_within word colours is =
-    let test = some_colours word (are_colours word) colours is in
-    let parts = and_parts (nat_le 1 (length word) && nat_le (length word) MAX_LISTED) (list_all (λ b. is_some (colour_of b)) word) test in
-    leb-true (length word) MAX_LISTED (and_parts (nat_le 1 (length word)) (nat_le (length word) MAX_LISTED) parts.0).1
 
 -- ---- whether a list is empty
 
@@ -246,19 +236,3 @@ leading_missing f [] few = record {
     none : HasValue AreLeading [] → ⊥
     none h = let some = h.1.some in omega (arith, some)
 leading_missing f (x ∷ xs) few = absurd (omega arith)
-
-pub leading_read : (words : List (List ℕ)) (k n : ℕ) (list : List Signed) → AreSigned words k list → length words ≤ k → 1 ≤ length words → n ≡ length words → IsRead AreLeading words (Ok (record { list = list; count = n }))
-leading_read words k n list passed l some count =
-    let filled = filled_all signed_of unlisted words k list passed.filled l in
-    record {
-      value = λ a. (
-        λ made.
-            let same : record { list = list; count = n } ≡ a = cc in
-            subst (AreLeading words) same (record { some = some; each = fits_all is_leading words k l passed.fit; list = filled; count = count }),
-        λ h. ap Ok (same_leading list n a (filled ∙ sym h.list) (count ∙ sym h.count)),
-      );
-      fault = tt;
-    }
-  where
-    same_leading : (list : List Signed) (n : ℕ) (a : Leading) → list ≡ a.list → n ≡ a.count → record { list = list; count = n } ≡ a
-    same_leading list n a p q = rw (p, q) refl

@@ -13,7 +13,7 @@ use Rattle.om_make.specs.Generator.{unit_vectors, vectors_drawn, made_vectors}
 use Rattle.om_make.specs.Tallies.{BeginsWithUnits, IsTally, ComesBack}
 use Rattle.om_text.specs.Form.{IsPoint, IsInForm}
 use Rattle.om_text.specs.Print.{text_of}
-use Rattle.om_vectors.specs.WholeVectors.{WholeVector, IsCoordinate}
+use Rattle.om_vectors.specs.WholeVectors.{WholeVector}
 use Rattle.om_vectors.specs.Realizations.{signs_map}
 use Rattle.om_program.specs.declared.answer.Answer.{Answer}
 use Rattle.om_program.specs.declared.setting.Setting.TheVariants.{Count}
@@ -48,12 +48,6 @@ made_meant seed count vs t e tally back =
 
 pub points_form : (vs : List WholeVector) → 1 ≤ length vs → length vs ≤ MAX_ELEMENTS → All IsPoint (map coordinates vs) → IsInForm (points_document vs)
 points_form vs low high each = record { low = low; high = high; body = record { count = length-map vs coordinates; each = each }; names = inl refl }
-
-pub coordinates_point : (v : WholeVector) → IsCoordinate v.x → IsCoordinate v.y → IsCoordinate v.z → IsPoint (coordinates v)
-coordinates_point v x y z = record { three = refl; small = small }
-  where
-    small : All (λ c. IsCoordinate c) (coordinates v)
-    small = All-push (λ c. IsCoordinate c) (v.x ∷ v.y ∷ []) v.z (All-push (λ c. IsCoordinate c) (v.x ∷ []) v.y (All-push (λ c. IsCoordinate c) [] v.x (λ k d l. absurd (omega arith)) x) y) z
 
 pub points_more : (vs : List WholeVector) (k : ℕ) (d v : WholeVector) (old new : List (List ℤ)) → k < length vs → v ≡ get_or vs k d → old ≡ map coordinates (take k vs) → new ≡ old ++ coordinates v ∷ [] → new ≡ map coordinates (take (k + 1) vs)
 points_more vs k d v old new l is before pushed = pushed ∙ rw (before, is) (sym (ap (map coordinates) (take_more vs k d l) ∙ map_push (take k vs) (get_or vs k d)))

@@ -1,11 +1,11 @@
 -- From what the calls on the way say to what the words and the bytes mean.
 --
--- Main results: the meaning of what was read (meant_of_read, meant_of_long); the answer and the cut-off answer, from what was read and written (whole,
+-- Main results: the meaning of what was read (meant_of_long); the answer and the cut-off answer, from what was read and written (whole,
 -- cut_off); from those of a task to those of the words that name it (named_answer, named_cut_off); words that aren't a command (usage_meant).
-use Rattle.std.specs.Prelude.{ℕ, ◌≡◌, ◌<◌, ◌+◌, List, ◌++◌, length, Option, Some, None, IfSome}
-use Rattle.std.proofs.Common.{sym, ◌∙◌, ap, subst, arith}
-use Rattle.std.specs.Io.KnownBytes.{Appends, Consumes, IsAtEnd}
-use Rattle.std.proofs.lemmas.List.{length-append, append-nil}
+use Rattle.std.specs.Prelude.{ℕ, ◌≡◌, ◌<◌, ◌+◌, List, length, Option, Some, None, IfSome}
+use Rattle.std.proofs.Common.{◌∙◌, ap, arith}
+use Rattle.std.specs.Io.KnownBytes.{Appends}
+use Rattle.std.proofs.lemmas.List.{length-append}
 use Rattle.om_signs.specs.declared.limits.TheConstants.{MAX_INPUT}
 use Rattle.om_port.specs.Causes.{TakesExactly}
 use Rattle.om_program.specs.declared.task.Task.{Task}
@@ -16,14 +16,6 @@ use Rattle.om_program.specs.Answers.{says, status_of, text_of}
 use Rattle.om_program.specs.Words.{Names, IsUsage}
 use Rattle.om_program.specs.Meaning.{Means, usage, named}
 use Rattle.om_program.specs.Run.{IsMeantBy, IsWhole, IsFront, IsCutOff, IsAnswer, IsCutOffAnswer, IsTaskAnswer, IsCutOffTask}
-
--- of bytes that were read to the end, the meaning is that of all bytes that were left
-pub meant_of_read : (Meaning : List ℕ → Answer → Type 0) (left rest : Option (List ℕ)) (bytes : List ℕ) (answer : Answer) → Consumes left rest bytes → IsAtEnd rest → Meaning bytes answer → IsMeantBy Meaning left answer
-meant_of_read Meaning None rest bytes answer c e m = tt
-meant_of_read Meaning (Some xs) None bytes answer c e m = absurd c
-meant_of_read Meaning (Some xs) (Some ys) bytes answer c e m =
-    let same : bytes ≡ xs = sym (append-nil bytes) ∙ ap (λ k. bytes ++ k) (sym e) ∙ sym c in
-    subst (λ k. Meaning k answer) same m
 
 pub meant_of_long : (Meaning : List ℕ → Answer → Type 0) (left rest : Option (List ℕ)) (answer : Answer) → TakesExactly (MAX_INPUT + 1) left rest → ((bytes : List ℕ) → MAX_INPUT < length bytes → Meaning bytes answer) → IsMeantBy Meaning left answer
 meant_of_long Meaning None rest answer t m = tt

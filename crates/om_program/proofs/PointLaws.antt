@@ -1,20 +1,12 @@
 -- Points as vectors within the limit.
 --
--- Main results: the coordinates of a point (point_within); a list of vectors that is filled point by point (filled_none, filled_more, filled_all).
-use Rattle.std.specs.Prelude.{ℕ, ℤ, ◌≡◌, ◌+◌, ◌<◌, ◌≤◌, pos, List, [], ◌∷◌, ◌++◌, length, map, take, refl}
-use Rattle.std.proofs.Common.{arith, get_or, ap, sym, ◌∙◌}
-use Rattle.std.proofs.lemmas.List.{map-append, length-map}
-use Rattle.om_vectors.specs.WholeVectors.{WholeVector, IsWithinLimit}
-use Rattle.om_text.specs.Form.{IsPoint}
+-- Main results: a list of vectors that is filled point by point (filled_none, filled_more, filled_all).
+use Rattle.std.specs.Prelude.{ℕ, ℤ, ◌≡◌, ◌+◌, ◌<◌, ◌≤◌, List, [], ◌∷◌, ◌++◌, length, map, take, refl}
+use Rattle.std.proofs.Common.{get_or, ap, sym, ◌∙◌}
+use Rattle.std.proofs.lemmas.List.{map-append}
+use Rattle.om_vectors.specs.WholeVectors.{WholeVector}
 use Rattle.om_program.specs.Points.{vector_of_point, vectors_of}
-use Rattle.om_program.proofs.Numerals.{take_next, length_taken, all_taken}
-
-pub point_within : (p : List ℤ) → IsPoint p → IsWithinLimit (vector_of_point p)
-point_within p point = let three = point.three in record {
-  x = point.small 0 (pos 0) (omega (arith, three));
-  y = point.small 1 (pos 0) (omega (arith, three));
-  z = point.small 2 (pos 0) (omega (arith, three));
-}
+use Rattle.om_program.proofs.Numerals.{take_next, all_taken}
 
 -- the first k points stand as vectors
 pub record AreFilled (word : List WholeVector) (points : List (List ℤ)) (k : ℕ) : Type 0 where
@@ -30,6 +22,3 @@ filled_more word next points k p v filled l same is pushed = record {
 
 pub filled_all : (word : List WholeVector) (points : List (List ℤ)) (k : ℕ) → AreFilled word points k → length points ≤ k → word ≡ vectors_of points
 filled_all word points k filled l = filled.vectors ∙ ap (map vector_of_point) (all_taken points k l)
-
-pub filled_size : (word : List WholeVector) (points : List (List ℤ)) (k : ℕ) → AreFilled word points k → k ≤ length points → length word ≡ k
-filled_size word points k filled l = ap length filled.vectors ∙ length-map (take k points) vector_of_point ∙ length_taken points k l

@@ -1,6 +1,6 @@
 -- What a task means is an answer to a command: never a usage, and of a form that can be written.
 --
--- Main results: task_replies; such an answer is written with a status other than that of usage (reply_status, replied_answered, replied_no_usage).
+-- Main results: task_replies, each answer of a task can be written.
 use Rattle.std.specs.Prelude.{ℕ, ◌≡◌, List}
 use Rattle.std.proofs.Common.{sym, subst}
 use Rattle.om_signs.specs.declared.sign.Sign.{Sign}
@@ -27,18 +27,17 @@ use Rattle.om_certificate.specs.declared.evidence.Evidence.{Evidence}
 use Rattle.om_certificate.specs.declared.evidence.Evidence.TheVariants as evidence
 use Rattle.om_certificate.specs.declared.verdict.Verdict.{Verdict}
 use Rattle.om_answer.specs.declared.claim.Claim.{Claim}
-use Rattle.om_answer.specs.declared.kind.Kind.{Kind}
+use Rattle.om_answer.specs.declared.axiom_system.AxiomSystem.{AxiomSystem}
 use Rattle.om_answer.specs.declared.line.Line.{Line}
 use Rattle.om_program.specs.declared.answer.Answer.{Answer}
 use Rattle.om_program.specs.declared.answer.Answer.TheVariants as answer
 use Rattle.om_program.specs.declared.operation.Operation.{Operation}
 use Rattle.om_program.specs.declared.operation.Operation.TheVariants as operation
-use Rattle.om_program.specs.declared.status.Status.{Status}
 use Rattle.om_program.specs.declared.status.Status.TheVariants as status
 use Rattle.om_program.specs.declared.task.Task.{Task}
 use Rattle.om_program.specs.declared.task.Task.TheVariants.{Accept, Member, Convert, Dual, Delete, Contract, Reorient, Wiring, Mutations, Flip, Extend, Decide, Paint, Hull, Lexext, Threeterm, Upgrade, Check, Make}
-use Rattle.om_program.specs.Statuses.{IsAnswered, IsReplied}
-use Rattle.om_program.specs.Answers.{IsReply, status_of, status_of_line}
+use Rattle.om_program.specs.Statuses.{IsReplied}
+use Rattle.om_program.specs.Answers.{IsReply, status_of_line}
 use Rattle.om_program.specs.Axioms.{MeetsAxiomsOn, IsRefusedOn, set_line, map_line, cov_line, wiring_line}
 use Rattle.om_program.specs.Memberships.{IsMembership, wrong_length, covector, not_covector}
 use Rattle.om_program.specs.Conversions.{IsConversion, itself, wide, limited, converted}
@@ -53,32 +52,10 @@ use Rattle.om_signs.specs.declared.raw_map.RawMap.{RawMap}
 use Rattle.om_threeterm.specs.declared.three_refused.ThreeRefused.{ThreeRefused}
 use Rattle.om_threeterm.specs.declared.three_refused.ThreeRefused.TheVariants as three
 use Rattle.om_program.specs.Claims as claims
-use Rattle.om_program.proofs.DecisionLaws.{verdict_status, decision_replies}
+use Rattle.om_program.proofs.DecisionLaws.{decision_replies}
 use Rattle.om_program.specs.Meaning.{IsAnswerOf, DocumentMeans, flat_line, tested, upgraded, refused, flat, answered, TaskMeans, long, faulty, read, faulty_claim, claimed, alone}
 
 -- ---- statuses
-
-pub reply_status : (a : Answer) → IsReply a → IsReplied (status_of a)
-reply_status (answer.Line l) reply = reply
-reply_status (answer.Document d) reply = tt
-reply_status (answer.Upgraded d) reply = tt
-reply_status (answer.Mutations sets) reply = tt
-reply_status (answer.Extensions n l) reply = tt
-reply_status (answer.Hull items) reply = tt
-reply_status (answer.Verdict m v) reply = verdict_status v
-reply_status (answer.Made vs t) reply = tt
-
-pub replied_answered : (s : Status) → IsReplied s → IsAnswered s
-replied_answered status.Done replied = tt
-replied_answered status.Refused replied = tt
-replied_answered status.Usage replied = tt
-replied_answered status.Limit replied = tt
-replied_answered status.ReadFault replied = replied
-replied_answered status.WriteFault replied = replied
-replied_answered status.NoMemory replied = replied
-
-pub replied_no_usage : (s : Status) → IsReplied s → s ≡ status.Usage → ⊥
-replied_no_usage s replied same = subst IsReplied same replied
 
 -- ---- the lines of the axioms
 
@@ -121,7 +98,7 @@ membership_replies n P x a (wrong_length other) = tt
 membership_replies n P x a (covector size is) = tt
 membership_replies n P x a (not_covector size is) = tt
 
-conversion_replies : (k : Kind) (d : Document) (a : Answer) → IsConversion k d a → IsReply a
+conversion_replies : (k : AxiomSystem) (d : Document) (a : Answer) → IsConversion k d a → IsReply a
 conversion_replies k d a (itself own form) = form
 conversion_replies k d a (wide values other is) = tt
 conversion_replies k d a (limited other narrow many) = tt

@@ -1,12 +1,11 @@
 -- Verbs are told apart by their words: a line for each verb in each of these.
 --
--- Main results: verbs with one word are one (same_verb); each verb stands in the list of all (verb_at).
-use Rattle.std.specs.Prelude.{ℕ, ◌≡◌, ◌<◌, List, codes, cond, refl, length}
+-- Main results: verbs with one word are one (same_verb).
+use Rattle.std.specs.Prelude.{ℕ, ◌≡◌, List, codes, cond, refl}
 use Rattle.std.specs.Str.{bytes_eq}
-use Rattle.std.proofs.Common.{get_or, ap, sym, ◌∙◌, lit≤}
+use Rattle.std.proofs.Common.{ap, sym, ◌∙◌}
 use Rattle.om_program.specs.declared.verb.Verb.{Verb}
 use Rattle.om_program.specs.declared.verb.Verb.TheVariants as verb
-use Rattle.om_program.specs.declared.verb.TheConstants.{VERBS}
 use Rattle.om_program.specs.Words.{verb_word}
 
 -- the verb that a word is
@@ -77,45 +76,3 @@ place_of verb.Upgrade = 15
 place_of verb.Decide = 16
 place_of verb.Check = 17
 place_of verb.Make = 18
-
-pub verb_at : (u v : Verb) → get_or VERBS (place_of v) u ≡ v
-verb_at u verb.Accept = refl
-verb_at u verb.Member = refl
-verb_at u verb.Convert = refl
-verb_at u verb.Dual = refl
-verb_at u verb.Delete = refl
-verb_at u verb.Contract = refl
-verb_at u verb.Reorient = refl
-verb_at u verb.Wiring = refl
-verb_at u verb.Mutations = refl
-verb_at u verb.Flip = refl
-verb_at u verb.Extend = refl
-verb_at u verb.Paint = refl
-verb_at u verb.Hull = refl
-verb_at u verb.Lexext = refl
-verb_at u verb.Threeterm = refl
-verb_at u verb.Upgrade = refl
-verb_at u verb.Decide = refl
-verb_at u verb.Check = refl
-verb_at u verb.Make = refl
-
-pub place_within : (v : Verb) → place_of v < length VERBS
-place_within verb.Accept = lit≤ tt
-place_within verb.Member = lit≤ tt
-place_within verb.Convert = lit≤ tt
-place_within verb.Dual = lit≤ tt
-place_within verb.Delete = lit≤ tt
-place_within verb.Contract = lit≤ tt
-place_within verb.Reorient = lit≤ tt
-place_within verb.Wiring = lit≤ tt
-place_within verb.Mutations = lit≤ tt
-place_within verb.Flip = lit≤ tt
-place_within verb.Extend = lit≤ tt
-place_within verb.Paint = lit≤ tt
-place_within verb.Hull = lit≤ tt
-place_within verb.Lexext = lit≤ tt
-place_within verb.Threeterm = lit≤ tt
-place_within verb.Upgrade = lit≤ tt
-place_within verb.Decide = lit≤ tt
-place_within verb.Check = lit≤ tt
-place_within verb.Make = lit≤ tt

@@ -125,9 +125,6 @@ few_contracted C n r (Err e) few size less same = tt
 pub few_dual : (m d : SignMap) → d.rank + m.rank ≡ m.elements → d.elements ≡ m.elements → choose m.elements m.rank ≤ MAX_VALUES → choose d.elements d.rank ≤ MAX_VALUES
 few_dual m d size same few = subst (λ n. choose n d.rank ≤ MAX_VALUES) (sym same) (few_of_dual m.elements m.rank d.rank size few)
 
-pub few_alike : (m d : SignMap) → d.rank ≡ m.rank → d.elements ≡ m.elements → choose m.elements m.rank ≤ MAX_VALUES → choose d.elements d.rank ≤ MAX_VALUES
-few_alike m d rank elements few = subst (λ n. choose n d.rank ≤ MAX_VALUES) (sym elements) (subst (λ r. choose m.elements r ≤ MAX_VALUES) (sym rank) few)
-
 few_of_kept : (d : Document) (c : SignMap) → IsList d.body → IsKept d → IsChirotopeOf d c → choose c.elements c.rank ≤ MAX_VALUES
 few_of_kept d c list narrow is = elim (cases_lt MAX_VALUES (choose c.elements c.rank)) [
   | inl over ↦ absurd (narrow (choose c.elements c.rank) (record { list = list; map = c; of = is; number = refl; wide = over }))

@@ -6,8 +6,8 @@ use Rattle.std.specs.Prelude.{ℕ, ◌≡◌, ◌<◌, ◌≤◌, ◌+◌, lengt
 use Rattle.std.proofs.Common.{get_or, drop, take, ◌-◌, arith, ap, subst, sym, ◌∙◌}
 use Rattle.std.proofs.Math.Seq.{take-length}
 use Rattle.om_signs.specs.declared.sign.Sign.{Sign}
-use Rattle.om_answer.specs.declared.kind.Kind.{Kind}
-use Rattle.om_answer.specs.declared.kind.Kind.TheVariants as kind
+use Rattle.om_answer.specs.declared.axiom_system.AxiomSystem.{AxiomSystem}
+use Rattle.om_answer.specs.declared.axiom_system.AxiomSystem.TheVariants as kind
 use Rattle.om_decide.specs.declared.budgets.Budgets.{Budgets}
 use Rattle.om_program.specs.Options.{AreBudgets, AreSeedAndCount, AreLines}
 use Rattle.om_program.specs.declared.task.Task.{Task}
@@ -20,7 +20,7 @@ use Rattle.om_program.specs.declared.verb.Verb.TheVariants as verb
 use Rattle.om_program.proofs.VerbLaws.{same_verb}
 use Rattle.om_program.specs.Listings.{AreColouring, AreLeading}
 use Rattle.om_program.specs.Triples.{AreTriple}
-use Rattle.om_program.specs.Words.{Names, AreNamed, Spells, NamesKind, IsElement, AreElements, AreNone, IsAlone, AreArguments, kind_word, verb_word, verb_of, AreCommand, Begins, IsFault, IsUsage, at_word, at_end, HasValue, IsRead}
+use Rattle.om_program.specs.Words.{Names, AreNamed, Spells, NamesSystem, IsElement, AreElements, AreNone, IsAlone, AreArguments, kind_word, verb_word, verb_of, AreCommand, Begins, IsFault, IsUsage, at_word, at_end, HasValue, IsRead}
 
 abbrev pub tail_of : List (List ℕ) → List (List ℕ)
 tail_of [] = []
@@ -32,16 +32,16 @@ first_of (word ∷ words) = word
 
 -- ---- kinds are told by their words
 
-abbrev read_kind : List ℕ → Kind
+abbrev read_kind : List ℕ → AxiomSystem
 read_kind word = let b : ℕ = get_or word 2 0 in cond (nat_eq b 105) kind.Chirotope (cond (nat_eq b 114) kind.Circuits (cond (nat_eq b 99) kind.Cocircuits kind.Covectors))
 
-kind_back : (k : Kind) → read_kind (kind_word k) ≡ k
+kind_back : (k : AxiomSystem) → read_kind (kind_word k) ≡ k
 kind_back kind.Chirotope = refl
 kind_back kind.Circuits = refl
 kind_back kind.Cocircuits = refl
 kind_back kind.Covectors = refl
 
-pub same_kind : (j k : Kind) → kind_word j ≡ kind_word k → j ≡ k
+pub same_kind : (j k : AxiomSystem) → kind_word j ≡ kind_word k → j ≡ k
 same_kind j k same = sym (kind_back j) ∙ ap read_kind same ∙ kind_back k
 
 -- ---- a word at fault behind a first word
@@ -124,10 +124,6 @@ shape_commands v Reading make shape words = (
   λ h. let valued = named_valued v Reading make words h.0 shape h.1 in (valued.value, valued.reading),
 )
 
-ok_in : {A : Type 0} {E : Type 0} → A → Result A E → A
-ok_in other (Ok a) = a
-ok_in other (Err e) = other
-
 pub ok_named : {A : Type 0} (v : Verb) (Reading : List (List ℕ) → A → Type 0) (make : A → Task) (words : List (List ℕ)) (result : Result A Usage) (a : A) → IsShape v Reading make → IsRead Reading words result → result ≡ Ok a → AreNamed v words (Ok (make a))
 ok_named v Reading make words result a shape read is = record {
   task = λ task. (
@@ -170,7 +166,7 @@ err_passed v Reading make words result u (Err e) shape read is err = rw err (err
 abbrev Value : Verb → Type 0
 Value verb.Accept = Unit {0}
 Value verb.Member = List Sign
-Value verb.Convert = Kind
+Value verb.Convert = AxiomSystem
 Value verb.Dual = Unit {0}
 Value verb.Delete = ℕ
 Value verb.Contract = ℕ
@@ -260,7 +256,7 @@ accept_shape = record { verb = λ a. refl; arguments = λ a words. (λ h. h, λ 
 pub member_shape : IsShape verb.Member (IsAlone Spells) Member
 member_shape = record { verb = λ a. refl; arguments = λ a words. (λ h. h, λ h. h); only = only verb.Member }
 
-pub convert_shape : IsShape verb.Convert (IsAlone NamesKind) Convert
+pub convert_shape : IsShape verb.Convert (IsAlone NamesSystem) Convert
 convert_shape = record { verb = λ a. refl; arguments = λ a words. (λ h. h, λ h. h); only = only verb.Convert }
 
 pub dual_shape : IsShape verb.Dual AreNone (λ _. Dual)

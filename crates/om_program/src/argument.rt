@@ -3,9 +3,9 @@
 ghost use Rattle.std.specs.Prelude.{ℕ, ◌≡◌, ◌↔◌, ◌∷◌, List, map, string_bytes};
 ghost use Rattle.om_program.specs.Words.{IsAlone, IsRead};
 
-use crate::spelling::{element, named_kind, spelled};
+use crate::spelling::{element, named_system, spelled};
 use crate::usage::Usage;
-use om_answer::Kind;
+use om_answer::AxiomSystem;
 use om_signs::SignVec;
 
 /// A value that one word spells.
@@ -36,17 +36,17 @@ impl Argument for SignVec {
     }
 }
 
-impl Argument for Kind {
+impl Argument for AxiomSystem {
     ghost use Rattle.std.specs.Prelude.{codes, refl};
-    ghost use Rattle.om_answer.specs.declared.kind.Kind.TheVariants.{Circuits};
-    ghost use Rattle.om_program.specs.Words.{NamesKind};
+    ghost use Rattle.om_answer.specs.declared.axiom_system.AxiomSystem.TheVariants.{Circuits};
+    ghost use Rattle.om_program.specs.Words.{NamesSystem};
 
-    ghost spells = { NamesKind };
+    ghost spells = { NamesSystem };
 
     ghost some = { (codes "circuits", (Circuits, refl)) };
 
-    fn read(word: &String) -> Option<Kind> {
-        named_kind(word)
+    fn read(word: &String) -> Option<AxiomSystem> {
+        named_system(word)
     }
 }
 

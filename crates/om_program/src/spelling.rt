@@ -5,10 +5,10 @@ ghost use Rattle.std.specs.List.{list_all};
 ghost use Rattle.std.specs.Fmt.{decimal};
 ghost use Rattle.om_signs.specs.declared.sign.Sign.{Sign};
 ghost use Rattle.om_text.specs.Words.{is_sign, sign_of_byte};
-ghost use Rattle.om_program.specs.Words.{Spells, NamesKind, IsElement};
+ghost use Rattle.om_program.specs.Words.{Spells, NamesSystem, IsElement};
 
 use itoa::Buffer;
-use om_answer::Kind;
+use om_answer::AxiomSystem;
 use om_signs::{MAX_ELEMENTS, Sign, SignVec};
 
 /// Whether a word is this one.
@@ -80,17 +80,17 @@ fn sign_of(b: u8) -> Sign
 }
 
 /// The kind that a word names.
-pub fn named_kind(word: &String) -> Option<Kind>
-    ensures { (kind : Kind) → (result ≡ Some kind) ↔ NamesKind (string_bytes word.now) kind }
+pub fn named_system(word: &String) -> Option<AxiomSystem>
+    ensures { (kind : AxiomSystem) → (result ≡ Some kind) ↔ NamesSystem (string_bytes word.now) kind }
 {
     if is_word(word, "chirotope") {
-        Some(Kind::Chirotope)
+        Some(AxiomSystem::Chirotope)
     } else if is_word(word, "circuits") {
-        Some(Kind::Circuits)
+        Some(AxiomSystem::Circuits)
     } else if is_word(word, "cocircuits") {
-        Some(Kind::Cocircuits)
+        Some(AxiomSystem::Cocircuits)
     } else if is_word(word, "covectors") {
-        Some(Kind::Covectors)
+        Some(AxiomSystem::Covectors)
     } else {
         None
     }

@@ -11,7 +11,7 @@ use Rattle.std.proofs.lemmas.List.{length-append}
 use Rattle.om_signs.specs.declared.sign.Sign.{Sign}
 use Rattle.om_signs.specs.declared.sign.Sign.TheVariants.{Minus, Zero, Plus}
 use Rattle.om_signs.specs.Sign.{product}
-use Rattle.om_signs.specs.SignVec.{at, place}
+use Rattle.om_signs.specs.SignVec.{at, at_element}
 use Rattle.om_subsets.specs.Subsets.{IsSubsetFrom, IsMember, with_element, without_element, count_above, rank_of, choose, subset_at}
 use Rattle.om_subsets.specs.Lists.{IsBefore}
 use Rattle.om_subsets.proofs.Order.{members_from, lexicographic, listed, rank_from-lt}
@@ -196,24 +196,24 @@ module _ (n : ℕ) (members : List (List Sign)) (m : SignMap) (h : IsNormalOf n 
             (λ g k. ⊎_elim (λ z. z) (λ nz. absurd (missed (met_list rest Y (g, k, nz)))) (zero_or_nonzero (as_function Y g)))
 
         -- nonzero exactly where the rest with the element is a basis
-        pub other_nonzero : (g : ℕ) → 1 ≤ g → g ≤ m.elements → (IsMember g rest → ⊥) → chi_of m (with_element g rest) ≢ Zero → place Y g ≢ Zero
+        pub other_nonzero : (g : ℕ) → 1 ≤ g → g ≤ m.elements → (IsMember g rest → ⊥) → chi_of m (with_element g rest) ≢ Zero → at_element Y g ≢ Zero
         other_nonzero g low high fresh k z =
             let behind : IsNonzero (chi (rest ++ g ∷ [])) = subst IsNonzero (sym (value_behind g low high fresh)) (product_nonzero (parity_sign (count_above g rest)) (chi_of m (with_element g rest)) (parity_nonzero (count_above g rest)) k) in
             behind (same_zero (along chi rest) (as_function Y) (same_sym (as_function Y) (along chi rest) same) g (sym (place_function Y g low) ∙ z))
 
-        pub other_fresh : (g : ℕ) → place Y g ≢ Zero → IsMember g rest → ⊥
+        pub other_fresh : (g : ℕ) → at_element Y g ≢ Zero → IsMember g rest → ⊥
         other_fresh g k j = missed (g, j, k)
 
-        pub carried_is : (g : ℕ) → 1 ≤ g → g ≤ m.elements → place Y g ≢ Zero → carried_sign rest e g Y (chi_of m (with_element g rest)) ≡ chi_of m t
+        pub carried_is : (g : ℕ) → 1 ≤ g → g ≤ m.elements → at_element Y g ≢ Zero → carried_sign rest e g Y (chi_of m (with_element g rest)) ≡ chi_of m t
         carried_is g low high k =
             let fresh = other_fresh g k in
             let behind : IsNonzero (chi (rest ++ g ∷ [])) = (λ z. k (place_function Y g low ∙ same_zero (as_function Y) (along chi rest) same g z)) in
             let other : IsNonzero (chi_of m (with_element g rest)) = right_factor_nonzero (parity_sign (count_above g rest)) (chi_of m (with_element g rest)) (subst IsNonzero (value_behind g low high fresh) behind) in
-            let products : product (place Y e) (place Y g) ≡ product (chi (rest ++ e ∷ [])) (chi (rest ++ g ∷ [])) =
-            ap (λ x. product x (place Y g)) (place_function Y e bounds.0)
+            let products : product (at_element Y e) (at_element Y g) ≡ product (chi (rest ++ e ∷ [])) (chi (rest ++ g ∷ [])) =
+            ap (λ x. product x (at_element Y g)) (place_function Y e bounds.0)
             ∙ ap (product (as_function Y e)) (place_function Y g low)
             ∙ same_products (as_function Y) (along chi rest) same e g in
-            carry (parity_sign (count_above e rest)) (parity_sign (count_above g rest)) (chi_of m (with_element g rest)) (chi_of m t) (place Y e) (place Y g)
+            carry (parity_sign (count_above e rest)) (parity_sign (count_above g rest)) (chi_of m (with_element g rest)) (chi_of m t) (at_element Y e) (at_element Y g)
             (parity_nonzero (count_above e rest)) (parity_nonzero (count_above g rest)) other
             (products ∙ ap (λ x. product x (chi (rest ++ g ∷ []))) own_value ∙ ap (product (product (parity_sign (count_above e rest)) (chi_of m t))) (value_behind g low high fresh))
 
@@ -277,16 +277,16 @@ earlier_place n t e h list inside low below fresh =
 
 pub zero_sign : (n : ℕ) (members : List (List Sign)) (t : List ℕ) (k : ℕ) → IsSubsetFrom 1 n t → rank_of n t ≡ k → MissesSome members t → (m : SignMap) → IsNormalOf n members m → m.rank ≡ length t
     → Zero ≡ at m.signs k
-zero_sign n members t k list place misses m h r =
+zero_sign n members t k list at_element misses m h r =
     subst (λ i. IsSubsetFrom 1 i t → rank_of i t ≡ k → IsNormalOf i members m → Zero ≡ at m.signs k) h.elements
     (λ l p g. sym (⊎_elim (λ z. z) (λ nz. absurd (misses.2 (basis_meets m.elements members m g t l (sym r) nz misses.0 misses.1))) (zero_or_nonzero (chi_of m t))) ∙ ap (at m.signs) p)
-    list place h
+    list at_element h
 
 pub carried_value : (n : ℕ) (members : List (List Sign)) (before : List Sign) (t : List ℕ) (e : ℕ) (s : Sign) → IsSubsetFrom 1 n t → MeetsEach members t → rank_of n t ≡ length before
     → AreFirstSigns n (length t) members before → IsCarried n members before t e s → (m : SignMap) → IsNormalOf n members m → m.rank ≡ length t → s ≡ at m.signs (length before)
-carried_value n members before t e s list each place first carried m h r =
+carried_value n members before t e s list each at_element first carried m h r =
     subst (λ i. IsSubsetFrom 1 i t → rank_of i t ≡ length before → AreFirstSigns i (length t) members before → IsCarried i members before t e s → IsNormalOf i members m → s ≡ at m.signs (length before)) h.elements
-    inner list place first carried h
+    inner list at_element first carried h
   where
     inner : IsSubsetFrom 1 m.elements t → rank_of m.elements t ≡ length before → AreFirstSigns m.elements (length t) members before → IsCarried m.elements members before t e s → IsNormalOf m.elements members m
         → s ≡ at m.signs (length before)
@@ -305,10 +305,10 @@ carried_value n members before t e s list each place first carried m h r =
 
 pub plus_sign : (n : ℕ) (members : List (List Sign)) (t : List ℕ) (k : ℕ) → IsSubsetFrom 1 n t → MeetsEach members t → rank_of n t ≡ k → ((e : ℕ) → IsMember e t → HasNoneCarried members t e)
     → (m : SignMap) → IsNormalOf n members m → m.rank ≡ length t → Plus ≡ at m.signs k
-plus_sign n members t k list each place none m h r =
+plus_sign n members t k list each at_element none m h r =
     subst (λ i. IsSubsetFrom 1 i t → rank_of i t ≡ k → IsNormalOf i members m → Plus ≡ at m.signs k) h.elements
     (λ l p g. sym (first_is_plus m.elements members m g t l (sym r) (meeting_basis m.elements members m g t l (sym r) each) none) ∙ ap (at m.signs) p)
-    list place h
+    list at_element h
 
 pub none_more : (members : List (List Sign)) (t : List ℕ) (e : ℕ) → ((f : ℕ) → 1 ≤ f → f < e → HasNoneCarried members t f) → HasNoneCarried members t e → (f : ℕ) → 1 ≤ f → f < e + 1 → HasNoneCarried members t f
 none_more members t e old new f low lt = elim (cases_eq f e) [

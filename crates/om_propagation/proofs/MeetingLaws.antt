@@ -13,7 +13,7 @@ use Rattle.std.proofs.lemmas.List.{ext_get_or, get_or_append_left, get_or_push, 
 use Rattle.std.proofs.lemmas.List.Elements.{All-contains}
 use Rattle.om_signs.specs.declared.sign.Sign.{Sign}
 use Rattle.om_signs.specs.declared.sign.Sign.TheVariants.{Minus, Zero, Plus}
-use Rattle.om_signs.specs.SignVec.{at, IsMaskOf, IsNonzero}
+use Rattle.om_signs.specs.SignVec.{at, IsMaskOf, IsInSupport}
 use Rattle.om_subsets.specs.Subsets.{IsSubsetFrom, IsMember, without_element, first_of, choose, rank_of}
 use Rattle.om_subsets.proofs.Order.{members_from}
 use Rattle.om_subsets.proofs.Statements.{members_without}
@@ -66,7 +66,7 @@ member_bit n s b list mask e m =
     let q : e - 1 + 1 ≡ e = omega arith in
     (mask.holds (e - 1) (omega (arith, low, high))).1 (subst (λ j. IsMember j s) (sym q) m)
 
-pub meets_test : (n : ℕ) (Y : List Sign) (s : List ℕ) (a b : ℕ) → length Y ≡ n → IsSubsetFrom 1 n s → IsMaskOf (length Y) (IsNonzero Y) a → IsMaskOf n (λ i. IsMember (i + 1) s) b
+pub meets_test : (n : ℕ) (Y : List Sign) (s : List ℕ) (a b : ℕ) → length Y ≡ n → IsSubsetFrom 1 n s → IsMaskOf (length Y) (IsInSupport Y) a → IsMaskOf n (λ i. IsMember (i + 1) s) b
     → IsTrue (not (nat_eq (bit_and a b) 0)) ↔ IsNonzeroOn s Y
 meets_test n Y s a b l list ha hb = elim (meets_or_zero s (as_function Y)) [
   | inl met ↦ ((λ t. met_list s Y met), (λ k. common k))

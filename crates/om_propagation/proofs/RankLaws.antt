@@ -10,7 +10,7 @@ use Rattle.std.specs.List.{Contains}
 use Rattle.std.proofs.Common.{zero, suc, sym, ap, subst, ◌∙◌, ⊎_elim, inl, inr, arith}
 use Rattle.om_signs.specs.declared.sign.Sign.{Sign}
 use Rattle.om_signs.specs.declared.sign.Sign.TheVariants.{Plus, Minus, Zero}
-use Rattle.om_signs.specs.SignVec.{place}
+use Rattle.om_signs.specs.SignVec.{at_element}
 use Rattle.om_subsets.specs.Subsets.{IsSubsetFrom, IsMember, without_element, choose}
 use Rattle.om_subsets.proofs.Places.{choose_all}
 use Rattle.om_subsets.proofs.Statements.{members_without}
@@ -67,7 +67,7 @@ module _ (m : SignMap) (om : IsChirotope m) where
   chirotope = theory_chirotope m om
 
   abbrev pub HasCocircuitIn : List Sign → Type 0
-  HasCocircuitIn X = (Y : List Sign) × IsCocircuitOfChirotope m Y × ((e : ℕ) → place Y e ≢ Zero → place X e ≢ Zero)
+  HasCocircuitIn X = (Y : List Sign) × IsCocircuitOfChirotope m Y × ((e : ℕ) → at_element Y e ≢ Zero → at_element X e ≢ Zero)
 
   meets_functions : (s : List ℕ) → IsSubsetFrom 1 m.elements s → MeetsFamily (IsCocircuitOfChirotope m) s → (F : SignVector) → IsCocircuit chi F → Meets s F
   meets_functions s list each F f =

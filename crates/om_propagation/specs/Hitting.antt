@@ -6,7 +6,7 @@ use Rattle.std.specs.List.{Contains}
 use Rattle.om_signs.specs.declared.sign.Sign.{Sign}
 use Rattle.om_signs.specs.declared.sign.Sign.TheVariants.{Zero, Plus}
 use Rattle.om_signs.specs.Sign.{product}
-use Rattle.om_signs.specs.SignVec.{at, place}
+use Rattle.om_signs.specs.SignVec.{at, at_element}
 use Rattle.om_members.specs.Vectors.{IsZero}
 use Rattle.om_subsets.specs.Subsets.{IsMember, with_element, without_element, count_above, rank_of}
 use Rattle.om_chirotope.specs.Map.{SignMap, IsLedBy, parity_sign}
@@ -16,7 +16,7 @@ use Rattle.om_denotation.specs.Listings.{AreAllOf}
 
 -- not zero at some element of a set
 abbrev pub IsNonzeroOn : List ℕ → List Sign → Type 0
-IsNonzeroOn s Y = (e : ℕ) × IsMember e s × (place Y e ≢ Zero)
+IsNonzeroOn s Y = (e : ℕ) × IsMember e s × (at_element Y e ≢ Zero)
 
 -- each vector of a family is nonzero at some element of the set
 abbrev pub MeetsFamily : (List Sign → Type 0) → List ℕ → Type 0
@@ -68,7 +68,7 @@ IsNextSign n rank members k s = (m : SignMap) → IsNormalOf n members m → m.r
 
 -- the sign of the set a with e, by a vector y that is zero on a, from the sign s of the set a with h
 abbrev pub carried_sign : List ℕ → ℕ → ℕ → List Sign → Sign → Sign
-carried_sign a e h y s = product (product (product (product (parity_sign (count_above e a)) (parity_sign (count_above h a))) (place y e)) (place y h)) s
+carried_sign a e h y s = product (product (product (product (parity_sign (count_above e a)) (parity_sign (count_above h a))) (at_element y e)) (at_element y h)) s
 
 -- the sign s of a set t, from that of a set before it which has a smaller element h in the place of e
 pub record IsCarried (n : ℕ) (members : List (List Sign)) (before : List Sign) (t : List ℕ) (e : ℕ) (s : Sign) : Type 0 where
@@ -79,7 +79,7 @@ pub record IsCarried (n : ℕ) (members : List (List Sign)) (before : List Sign)
   pub other : ℕ
   pub low : 1 ≤ other
   pub below : other < e
-  pub nonzero : place vector other ≢ Zero
+  pub nonzero : at_element vector other ≢ Zero
   pub value : s ≡ carried_sign (without_element e t) e other vector (at before (rank_of n (with_element other (without_element e t))))
 
 -- some vector is zero on t without e, and on all elements below e
@@ -87,7 +87,7 @@ pub record IsLeastAt (members : List (List Sign)) (t : List ℕ) (e : ℕ) : Typ
   pub vector : List Sign
   pub member : Contains members vector
   pub missed : IsNonzeroOn (without_element e t) vector → ⊥
-  pub zero : (h : ℕ) → 1 ≤ h → h < e → place vector h ≡ Zero
+  pub zero : (h : ℕ) → 1 ≤ h → h < e → at_element vector h ≡ Zero
 
 -- no sign is carried to t over its element e: t without e meets each vector, or no smaller element takes the place of e
 abbrev pub HasNoneCarried : List (List Sign) → List ℕ → ℕ → Type 0

@@ -1,7 +1,7 @@
 //! The sign of a set from those of the sets before it.
 
 ghost use Rattle.std.specs.Prelude.{ℕ, ◌≡◌, ◌≢◌, ◌≤◌, ◌<◌, IfSome, IfNone, length};
-ghost use Rattle.om_signs.specs.SignVec.{at, place};
+ghost use Rattle.om_signs.specs.SignVec.{at, at_element};
 ghost use Rattle.om_subsets.specs.Subsets.{IsSubsetFrom, count_above, rank_of};
 ghost use Rattle.om_chirotope.specs.Map.{parity_sign};
 ghost use Rattle.om_members.specs.Listings.{HaveLength};

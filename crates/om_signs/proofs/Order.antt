@@ -12,7 +12,7 @@ use Rattle.std.proofs.lemmas.Nat.{or_lt, xor_lt}
 use Rattle.std.proofs.lemmas.Nat.Bits.{bit_at-zero, bit_at-lt, bit_at_or, bit_at_xor, bit_at-trailing_zeros}
 use Rattle.om_signs.specs.declared.sign.Sign.{Sign}
 use Rattle.om_signs.specs.Sign.{is_plus, is_minus}
-use Rattle.om_signs.specs.SignVec.{at, place}
+use Rattle.om_signs.specs.SignVec.{at, at_element}
 use Rattle.om_signs.specs.Masks.{signs_of, IsSound}
 use Rattle.om_signs.specs.Order.{sign_order, lexicographic}
 use Rattle.om_signs.specs.OrderLaws.{sign_order-total, same_sign, sign_from_bits}
@@ -132,7 +132,7 @@ order_of_lengths p m n p' m' n' xs ys h v h' v' ge =
     ∙ rw (l, l') refl
 
 -- an element's place, one lower
-pub at_place : (xs ys : List Sign) (k : ℕ) → xs ≡ ys → place xs (k + 1) ≡ at ys k
+pub at_place : (xs ys : List Sign) (k : ℕ) → xs ≡ ys → at_element xs (k + 1) ≡ at ys k
 at_place xs ys k e =
     let back : k + 1 - 1 ≡ k = omega arith in
     λ i. at (e i) (back i)

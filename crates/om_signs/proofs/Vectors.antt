@@ -22,7 +22,7 @@ use Rattle.om_signs.specs.declared.sign.Sign.{Sign}
 use Rattle.om_signs.specs.declared.sign.Sign.TheVariants.{Minus, Zero, Plus}
 use Rattle.om_signs.specs.Sign.{opposite, product, first_nonzero, is_plus, is_minus}
 use Rattle.om_signs.specs.declared.limits.TheConstants.{MAX_PLACES}
-use Rattle.om_signs.specs.SignVec.{at, compose, HasProduct, IsOrthogonal, IsConformal, IsNonzero, IsSeparated, IsMaskOf, flip, flip_from}
+use Rattle.om_signs.specs.SignVec.{at, compose, HasProduct, IsOrthogonal, IsConformal, IsInSupport, IsSeparated, IsMaskOf, flip, flip_from}
 use Rattle.om_signs.specs.Masks.{sign_of, sign_at, signs_of, IsSound, get_or-signs_of, length-signs_of, is_plus-sign_of, is_minus-sign_of, bit_at-apart}
 use Rattle.om_signs.proofs.Bits.{lt_from_bits, bit_at_and_not, one_shl_32, bit_from_test, no_bit_from_test, some_bit, nonzero_from_bit}
 use Rattle.std.proofs.lemmas.Nat.{or_lt}
@@ -296,7 +296,7 @@ support_bit Minus = (λ _ e. cc, λ _. refl)
 support_bit Zero = (λ e. cc, λ n. absurd (n refl))
 support_bit Plus = (λ _ e. cc, λ _. refl)
 
-pub support_made : (p m n : ℕ) (xs : List Sign) → IsSound p m n → signs_of p m n ≡ xs → IsMaskOf (length xs) (IsNonzero xs) (bit_or p m)
+pub support_made : (p m n : ℕ) (xs : List Sign) → IsSound p m n → signs_of p m n ≡ xs → IsMaskOf (length xs) (IsInSupport xs) (bit_or p m)
 support_made p m n xs h v =
     let f = shows p m n xs h v in
     record {

@@ -10,8 +10,8 @@ abbrev pub at : List Sign → ℕ → Sign
 at xs i = get_or xs i Zero
 
 -- the sign at element e, counted from 1
-abbrev pub place : List Sign → ℕ → Sign
-place xs e = at xs (e - 1)
+abbrev pub at_element : List Sign → ℕ → Sign
+at_element xs e = at xs (e - 1)
 
 -- the composition: the sign of the first vector, and that of the second where the first is zero
 abbrev pub compose : List Sign → List Sign → List Sign
@@ -32,8 +32,8 @@ abbrev pub IsConformal : List Sign → List Sign → Type 0
 IsConformal xs ys = (i : ℕ) → at xs i ≢ Zero → at xs i ≡ at ys i
 
 -- a place of the support
-abbrev pub IsNonzero : List Sign → ℕ → Type 0
-IsNonzero xs i = at xs i ≢ Zero
+abbrev pub IsInSupport : List Sign → ℕ → Type 0
+IsInSupport xs i = at xs i ≢ Zero
 
 -- a place of the separation: the signs are opposite, and neither is zero
 abbrev pub IsSeparated : List Sign → List Sign → ℕ → Type 0
@@ -41,7 +41,7 @@ IsSeparated xs ys i = product (at xs i) (at ys i) ≡ Minus
 
 -- the supports have no place in common
 abbrev pub HasDisjointSupport : List Sign → List Sign → Type 0
-HasDisjointSupport xs ys = (i : ℕ) → IsNonzero xs i → IsNonzero ys i → ⊥
+HasDisjointSupport xs ys = (i : ℕ) → IsInSupport xs i → IsInSupport ys i → ⊥
 
 -- a mask of n bits whose bit i tells whether P holds at i
 pub record IsMaskOf (n : ℕ) (P : ℕ → Type 0) (mask : ℕ) : Type 0 where

@@ -1,6 +1,6 @@
 ghost use Rattle.std.specs.Prelude.{◌≡◌, ℕ, ◌+◌, ◌-◌, ◌<◌, ◌≤◌, ◌^◌, ◌↔◌, IsTrue, length, map, replicate, remove, slice_set};
 ghost use Rattle.om_signs.specs.Sign.{opposite};
-ghost use Rattle.om_signs.specs.SignVec.{place, compose, flip, IsMaskOf, IsSeparated, IsOrthogonal, IsConformal, IsNonzero, IsPlus, IsMinus};
+ghost use Rattle.om_signs.specs.SignVec.{at_element, compose, flip, IsMaskOf, IsSeparated, IsOrthogonal, IsConformal, IsInSupport, IsPlus, IsMinus};
 
 use super::limits::MAX_PLACES;
 use super::sign::Sign;
@@ -80,7 +80,7 @@ impl SignVec {
     pub fn get(self, e: u8) -> Sign
         requires low { 1 ≤ e }
         requires high { e ≤ length self }
-        ensures { result ≡ place self e }
+        ensures { result ≡ at_element self e }
     {
         let bit = 1u32 << (e - 1);
         if self.plus & bit != 0 {
@@ -128,7 +128,7 @@ impl SignVec {
 
     /// The support as a mask: the elements whose sign is not zero.
     pub fn support(self) -> u32
-        ensures { IsMaskOf (length self) (IsNonzero self) result }
+        ensures { IsMaskOf (length self) (IsInSupport self) result }
     {
         self.plus | self.minus
     }

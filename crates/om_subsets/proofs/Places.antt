@@ -1,7 +1,7 @@
 -- How loops over the bits of a mask go through its members.
 --
 -- Main definitions: from_place, rank_from_place, IsLast, IsMoved, IsNext, IsTail
--- Main results: bits_fit, double, members-zero, members-ones, first_mask, first_members, ones-members, from_start, member_here, none_here, rank_member, rank_skipped, rank_none, choose_all, length-members, last_end, last_none, last_member, moved, moved_below, moved_members, length-first_of, rank-first_of, moved_rank, same_low, from_low, tail_more, tail_same, tail_small, next_made, not_last
+-- Main results: bits_fit, double, members-zero, members-ones, first_mask, first_members, ones-members, from_start, member_here, none_here, rank_member, rank_skipped, rank_none, choose_all, length-members, last_none, last_member, moved, moved_below, moved_members, length-first_of, rank-first_of, moved_rank, same_low, from_low, tail_more, tail_same, tail_small, next_made, not_last
 use Rattle.std.proofs.Common.{ℕ, ◌≡◌, ◌≢◌, ◌+◌, ◌-◌, ◌*◌, ◌/◌, ◌%◌, ◌<◌, ◌≤◌, ◌^◌, List, [], ◌∷◌, length, zero, suc, refl, sym, ◌∙◌, ap, arith, false, inl, inr, pow-suc, bit_and, add-one}
 use Rattle.std.proofs.Math.Pow.{pow_pos, pow_mono}
 use Rattle.std.proofs.Math.Nat.{div-div-eq-div-mul, div-one}
@@ -153,9 +153,6 @@ length-members mask e (suc m) =
       | inl o ↦ rw o (omega arith)
       | inr z ↦ rw (ne_eqb (mask % 2) 1 z) (omega arith)
     ]
-
-pub last_end : (mask n : ℕ) → IsLast mask n n × (length (from_place mask n n) ≡ 0)
-last_end mask n = let z : n - n ≡ 0 = omega arith in rw z (refl, refl)
 
 pub last_none : (mask i n : ℕ) → i < n → bit_and (mask / 2 ^ i) 1 ≢ 1 → IsLast mask (i + 1) n → IsLast mask i n
 last_none mask i n l t h = elim (cases_eq (length (from_place mask (i + 1) n)) 0) [

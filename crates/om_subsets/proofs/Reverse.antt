@@ -1,11 +1,11 @@
 -- The reverse lexicographic order of the increasing lists.
 --
 -- Main results: each list stands at its place and at no other (`reverse_small`, `at_reverse_rank`, `reverse_listed`), the places follow the
--- order (`reverse_order`); `begun_reverse`, `reverse_skip`, `reverse_take`, `reverse_end`: the set at a place, chosen from the greatest number on.
+-- order (`reverse_order`); `reverse_skip`, `reverse_take`, `reverse_end`: the set at a place, chosen from the greatest number on.
 use Rattle.std.proofs.Common.{ℕ, zero, suc, ◌≡◌, ◌+◌, ◌-◌, ◌*◌, ◌/◌, ◌%◌, ◌<◌, ◌≤◌, ◌^◌, ◌↔◌, ◌⊎◌, List, [], ◌∷◌, ◌++◌, length, map, bit_and, bit_or, w32, refl, sym, ◌∙◌, ap, subst, arith, inl, inr}
 use Rattle.std.specs.Int.{trailing_zeros}
 use Rattle.std.proofs.lemmas.Bool.{cases_lt}
-use Rattle.std.proofs.lemmas.List.{append-nil, length-append, length-map, length_push, get_or_append_left, get_or-append-add, get_or-map, append_assoc, ext_get_or}
+use Rattle.std.proofs.lemmas.List.{length-append, length-map, length_push, get_or_append_left, get_or-append-add, get_or-map, append_assoc, ext_get_or}
 use Rattle.std.proofs.lemmas.Nat.{one_shl, or_lt, or_shifted}
 use Rattle.std.proofs.Math.Pow.{pow-lt, pow_pos}
 use Rattle.om_signs.specs.declared.limits.TheConstants.{MAX_PLACES}
@@ -324,15 +324,6 @@ pub record IsReverseBegun (mask m left rest r k n : ℕ) : Type 0 where
   pub within : mask < 2 ^ n
   pub place : rest < choose m left
   pub listed : revlex_subset_at n r k ≡ revlex_subset_at m left rest ++ members high (m + 1) (n - m)
-
-pub begun_reverse : (r k n : ℕ) → k < choose n r → IsReverseBegun 0 n r k r k n
-begun_reverse r k n l = record {
-  high = 0;
-  mask_is = omega arith;
-  within = pow_pos n;
-  place = l;
-  listed = (let z : n - n ≡ 0 = omega arith in rw z (sym (append-nil (revlex_subset_at n r k))));
-}
 
 times_double : (h p : ℕ) → h * (2 * p) ≡ 2 * h * p
 times_double h p = omega arith

@@ -45,6 +45,3 @@ at_next n r k a b bn size list next l w = record {
 
 pub list_at : (n r k : ℕ) (a : Chosen) → k < choose n r → IsAt n r k a → a.elements ≡ subset_at n r k
 list_at n r k a l w = sym (get_or-rank_from 1 n a.elements w.list) ∙ ap (λ i. subset_at n i (rank_of n a.elements)) w.size ∙ ap (subset_at n r) (w.place l)
-
-pub rank_at : (n r k : ℕ) (a : Chosen) → k < choose n r → IsAt n r k a → k ≡ rank_of a.n a.elements
-rank_at n r k a l w = sym (w.place l) ∙ ap (λ i. rank_of i a.elements) (sym w.n_is)

@@ -2,14 +2,14 @@
 
 ghost use Rattle.std.specs.Prelude.{◌≡◌};
 
+use om_chirotope::Chirotope;
+use om_circuits::{Circuits, Cocircuits};
 use om_convert::{
     ConvertError, chirotope_to_circuits, chirotope_to_cocircuits, chirotope_to_covectors,
     circuits_to_chirotope, circuits_to_cocircuits, circuits_to_covectors, cocircuits_to_chirotope,
     cocircuits_to_circuits, cocircuits_to_covectors, covectors_to_chirotope, covectors_to_circuits,
     covectors_to_cocircuits, rank_circuits, rank_cocircuits, rank_covectors,
 };
-use om_chirotope::Chirotope;
-use om_circuits::{Circuits, Cocircuits};
 use om_covectors::Covectors;
 use om_members::is_member;
 use om_oriented::same;

@@ -2,10 +2,10 @@
 
 ghost use Rattle.std.specs.Prelude.{◌≡◌, IfOk};
 
-use om_dual::{dual, dual_circuits, dual_cocircuits, dual_covectors};
 use om_chirotope::Chirotope;
 use om_convert::{ConvertError, chirotope_to_covectors};
 use om_covectors::Covectors;
+use om_dual::{dual, dual_circuits, dual_cocircuits, dual_covectors};
 use om_oriented::{Oriented, same};
 use om_samples::{
     SampleError, chirotope_of, circuits_of, covectors_of, text_of_map, text_of_vectors, vector_of,

@@ -2,15 +2,15 @@
 
 ghost use Rattle.std.specs.Prelude.{◌≤◌, ◌<◌, ◌^◌};
 
+use Way::{Contract, Delete};
+use om_chirotope::Chirotope;
+use om_circuits::{Circuits, Cocircuits};
+use om_covectors::Covectors;
 use om_minors::{
     MinorError, contract_chirotope, contract_circuits, contract_cocircuits, contract_covectors,
     delete_chirotope, delete_circuits, delete_cocircuits, delete_covectors, reorient_chirotope,
     reorient_circuits, reorient_cocircuits, reorient_covectors,
 };
-use Way::{Contract, Delete};
-use om_chirotope::Chirotope;
-use om_circuits::{Circuits, Cocircuits};
-use om_covectors::Covectors;
 use om_samples::{
     SampleError, chirotope_of, circuits_of, cocircuits_of, covectors_of, text_of_map,
     text_of_vectors,

@@ -1,6 +1,8 @@
 //! Chirotopes of cocircuits and of circuits that were worked out by hand.
 
-use om_propagation::{chirotope_of_circuits, chirotope_of_cocircuits, rank_circuits, rank_cocircuits};
+use om_propagation::{
+    chirotope_of_circuits, chirotope_of_cocircuits, rank_circuits, rank_cocircuits,
+};
 use om_samples::{SampleError, circuits_of, cocircuits_of, text_of_map};
 use om_signs::MAX_VALUES;
 use om_subsets::Subset;

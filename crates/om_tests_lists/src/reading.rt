@@ -1,11 +1,11 @@
 //! Lists that are read: those of small oriented matroids, and lists that fail an axiom.
 
 use super::convert::{ROWS, all_plus};
+use om_circuits::{Circuits, Cocircuits};
 use om_convert::{
     ConvertError, ReadCovError, ReadSetError, chirotope_to_circuits, chirotope_to_cocircuits,
     chirotope_to_covectors, read_circuits, read_cocircuits, read_covectors,
 };
-use om_circuits::{Circuits, Cocircuits};
 use om_covectors::Covectors;
 use om_samples::{SampleError, text_of_vectors, vectors_of};
 use std::alloc::Global;
@@ -14,41 +14,46 @@ use std::thread::Threads;
 
 /// A kind of list.
 #[derive(Clone, Copy)]
-enum Kind {
+enum Listing {
     Circuits,
     Cocircuits,
     Covectors,
 }
 
 /// Lists that fail an axiom, and the first violated instance.
-const REFUSED: [(Kind, u8, &[&str], &str); 6] = [
+const REFUSED: [(Listing, u8, &[&str], &str); 6] = [
     (
-        Kind::Circuits,
+        Listing::Circuits,
         2,
         &["+-"],
         "the negative of member 1 is missing",
     ),
     (
-        Kind::Circuits,
+        Listing::Circuits,
         2,
         &["+0", "-0", "++", "--"],
         "the support of member 1 lies in that of member 3",
     ),
-    (Kind::Cocircuits, 2, &["+-", "00", "-+"], "member 2 is zero"),
     (
-        Kind::Circuits,
+        Listing::Cocircuits,
+        2,
+        &["+-", "00", "-+"],
+        "member 2 is zero",
+    ),
+    (
+        Listing::Circuits,
         3,
         &["+-0", "0+-", "-+0", "0-+"],
         "no member eliminates 2 from members 2 and 1",
     ),
     (
-        Kind::Covectors,
+        Listing::Covectors,
         1,
         &["+", "-"],
         "the zero vector is missing",
     ),
     (
-        Kind::Covectors,
+        Listing::Covectors,
         2,
         &["00", "+0", "-0", "0+", "0-"],
         "the composition of members 2 and 4 is missing",
@@ -75,21 +80,21 @@ fn cov_refusal(alloc: Global, error: ReadCovError) -> Result<String, SampleError
 fn answer<R: Threads + Sync>(
     rt: &R,
     alloc: Global,
-    kind: Kind,
+    kind: Listing,
     elements: u8,
     texts: &[&str],
 ) -> Result<String, SampleError> {
     let list = vectors_of(alloc, elements, texts)?;
     match kind {
-        Kind::Circuits => match read_circuits(rt, alloc, elements, list) {
+        Listing::Circuits => match read_circuits(rt, alloc, elements, list) {
             Ok(circuits) => text_of_vectors(alloc, circuits.0.members()),
             Err(error) => set_refusal(alloc, error),
         },
-        Kind::Cocircuits => match read_cocircuits(rt, alloc, elements, list) {
+        Listing::Cocircuits => match read_cocircuits(rt, alloc, elements, list) {
             Ok(cocircuits) => text_of_vectors(alloc, cocircuits.0.members()),
             Err(error) => set_refusal(alloc, error),
         },
-        Kind::Covectors => match read_covectors(rt, alloc, elements, list) {
+        Listing::Covectors => match read_covectors(rt, alloc, elements, list) {
             Ok(covectors) => text_of_vectors(alloc, covectors.members()),
             Err(error) => cov_refusal(alloc, error),
         },
@@ -100,7 +105,7 @@ fn answer<R: Threads + Sync>(
 fn keeps<R: Threads + Sync>(
     rt: &R,
     alloc: Global,
-    kind: Kind,
+    kind: Listing,
     elements: u8,
     texts: &[&str],
 ) -> Result<bool, SampleError> {
@@ -113,11 +118,17 @@ fn keeps<R: Threads + Sync>(
 #[test]
 fn lists_are_read_in_their_order(rt: HostRuntime) -> Result<(), Fail> {
     for row in ROWS {
-        let circuits = keeps(&rt, rt.alloc(), Kind::Circuits, row.elements, row.circuits)?;
+        let circuits = keeps(
+            &rt,
+            rt.alloc(),
+            Listing::Circuits,
+            row.elements,
+            row.circuits,
+        )?;
         let cocircuits = keeps(
             &rt,
             rt.alloc(),
-            Kind::Cocircuits,
+            Listing::Cocircuits,
             row.elements,
             row.cocircuits,
         )?;
@@ -126,7 +137,7 @@ fn lists_are_read_in_their_order(rt: HostRuntime) -> Result<(), Fail> {
             let covectors = keeps(
                 &rt,
                 rt.alloc(),
-                Kind::Covectors,
+                Listing::Covectors,
                 row.elements,
                 row.covectors,
             )?;

@@ -5,18 +5,17 @@ ghost use Rattle.om_subsets.specs.Subsets.{choose};
 ghost use Rattle.om_subsets.specs.Members.{Chosen};
 ghost use Rattle.om_chirotope.specs.Map.{map_of};
 ghost use Rattle.om_chirotope.specs.Chirotope.{IsChirotope, IsAllZero, IsFirstViolated};
+
 use om_chirotope::bad_map::BadMap;
 use om_chirotope::chirotope::Chirotope;
 use om_chirotope::map_refused::MapRefused;
 use om_chirotope::scan::violated_on_threads;
-use om_signs::{MAX_ELEMENTS, RawMap, Sign};
-use std::thread::Threads;
-use om_chirotope::*;
-use om_chirotope::has_exchange;
-use om_signs::{List, NoMemory};
+use om_chirotope::{has_exchange, *};
+use om_signs::{List, MAX_ELEMENTS, NoMemory, RawMap, Sign};
 use om_subsets::Subset;
 use std::alloc::Global;
 use std::process::Abort;
+use std::thread::Threads;
 
 /// The map with the signs of a text: a byte `+` or `-` is a sign, and any other is 0.
 fn map_of_text<R: Abort>(

@@ -4,22 +4,17 @@ ghost use Rattle.std.specs.Prelude.{◌≡◌, ◌≤◌, ◌+◌, ◌⊎◌, �
 ghost use Rattle.om_subsets.specs.Lists.{IsWithin};
 ghost use Rattle.om_chirotope.specs.Map.{map_of, chi_of, value_of, circuit_vector, cocircuit_vector, negated, IsLedBy};
 ghost use Rattle.om_chirotope.specs.Chirotope.{IsChirotope, IsWithinLimits};
-use om_chirotope::vectors;
-use om_signs::{MAX_ELEMENTS, NoMemory, RawMap, Sign, SignVec};
+
+use om_chirotope::{check, vectors, *};
+use om_signs::{List, MAX_ELEMENTS, NoMemory, RawMap, Sign, SignVec};
 use om_subsets::Subset;
-use std::marker::Model;
-use om_chirotope::*;
-use om_chirotope::check;
-use om_signs::List;
 use std::alloc::Global;
+use std::marker::Model;
 use std::process::Abort;
 use std::thread::Threads;
 
 /// The chirotope of rank 2 on 3 elements with the signs `+-+` of 12, 13 and 23.
-fn triangle<R: Threads + Sync + Abort>(
-    rt: &R,
-    alloc: Global,
-) -> Result<Option<Chirotope>, NoMemory>
+fn triangle<R: Threads + Sync + Abort>(rt: &R, alloc: Global) -> Result<Option<Chirotope>, NoMemory>
     ensures rank { IfOk result (λ o. IfSome o (λ c. c.rank ≡ 2)) }
     ensures elements { IfOk result (λ o. IfSome o (λ c. c.elements ≡ 3)) }
 {

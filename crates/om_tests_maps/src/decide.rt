@@ -2,9 +2,9 @@
 
 ghost use Rattle.std.specs.Prelude.{◌≤◌};
 
-use om_decide::{Budgets, DecideError, decide};
 use om_certificate::{LpEnd, Verdict};
 use om_chirotope::Chirotope;
+use om_decide::{Budgets, DecideError, decide};
 use om_signs::{List, MAX_ELEMENTS, MAX_PIVOTS, MAX_STEPS, NoMemory, RawMap, Sign};
 use om_subsets::Subset;
 use om_vectors::Unfound;

@@ -1,8 +1,10 @@
 //! Statements worked out by hand: on the alternating chirotopes, whose signs are all plus, and on the Pappus and the
 //! non-Pappus chirotope.
 
-use om_grassmann::{Statement, brackets_of_lawful_statements, following, lawful, nth_statement, sides};
 use om_chirotope::Chirotope;
+use om_grassmann::{
+    Statement, brackets_of_lawful_statements, following, lawful, nth_statement, sides,
+};
 use om_samples::chirotope_of;
 use om_subsets::Subset;
 use std::test::Fail;

@@ -2,9 +2,9 @@
 
 ghost use Rattle.std.specs.Prelude.{◌≡◌, ◌≤◌, IfSome};
 
+use om_chirotope::Chirotope;
 use om_matroid::search::is_basis;
 use om_matroid::{exchange, extend_to_basis, first_basis, is_coloop, is_loop, parallel, rank_of};
-use om_chirotope::Chirotope;
 use om_signs::{List, MAX_ELEMENTS, RawMap, Sign};
 use om_subsets::Subset;
 use std::alloc::Global;

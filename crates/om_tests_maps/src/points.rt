@@ -2,8 +2,8 @@
 
 ghost use Rattle.std.specs.Prelude.{◌≡◌, ◌≤◌, IfOk};
 
-use om_points::search;
 use om_chirotope::{Chirotope, check};
+use om_points::search;
 use om_signs::{List, MAX_ELEMENTS, NoMemory, RawMap, Sign};
 use om_subsets::Subset;
 use om_vectors::{Unfound, Vector, Word};

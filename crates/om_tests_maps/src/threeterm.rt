@@ -1,9 +1,9 @@
 //! Maps that are accepted, and maps that are refused, with refusals worked out by hand.
 
-use om_threeterm::{ThreeRefused, check};
 use om_samples::signs_of;
 use om_signs::{MAX_ELEMENTS, RawMap};
 use om_subsets::Subset;
+use om_threeterm::{ThreeRefused, check};
 use std::alloc::Global;
 use std::process::Abort;
 use std::test::Fail;

@@ -1,8 +1,8 @@
 //! The points of the Pappus configuration, vectors at the limit, and lists of vectors.
 
-use om_vectors::{SignsError, Unfound, Vector, Word, realizes, signs_of, triple};
 use om_samples::{SampleError, chirotope_of, text_of_map};
 use om_signs::{MAX_COORDINATE, MAX_ELEMENTS};
+use om_vectors::{SignsError, Unfound, Vector, Word, realizes, signs_of, triple};
 use std::alloc::Global;
 use std::test::Fail;
 use std::thread::Threads;

@@ -1,7 +1,7 @@
 //! Vectors that are drawn from numbers, and their summaries, worked out by a program of a few lines from the definitions.
 
-use om_make::{Tally, summary, vectors};
 use om_convert::chirotope_to_cocircuits;
+use om_make::{Tally, summary, vectors};
 use om_samples::{text_of_map, text_of_vectors};
 use om_signs::MAX_DRAWN;
 use om_vectors::{Word, signs_of};

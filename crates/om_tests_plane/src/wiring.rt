@@ -2,10 +2,10 @@
 
 ghost use Rattle.std.specs.Prelude.{◌≡◌, IfOk, length};
 
-use om_wiring::{Values, check, chirotope, sweep};
 use om_samples::{chirotope_of, text_of_map};
 use om_signs::{Block, List, MAX_BLOCKS, MAX_ELEMENTS, NoMemory, Sign, SignVec};
 use om_subsets::Subset;
+use om_wiring::{Values, check, chirotope, sweep};
 use std::alloc::{AllocError, Global};
 use std::test::Fail;
 use std::thread::Threads;

@@ -1,10 +1,11 @@
 //! Tests of `om_signs`.
 
 ghost use Rattle.std.specs.Prelude.{◌≡◌, ◌+◌, ◌<◌, ◌∷◌, [], ◌++◌, length, IfOk, OnOk, OnErr, slice_set, slice_get, Some};
+
 use om_signs::no_memory::NoMemory;
+use om_signs::*;
 use std::alloc::Global;
 use std::marker::Model;
-use om_signs::*;
 
 fn two(alloc: Global) -> Result<List<u8>, NoMemory>
     ensures { IfOk result (λ l. length l ≡ 2) }

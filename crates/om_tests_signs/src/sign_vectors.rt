@@ -2,12 +2,13 @@
 
 ghost use Rattle.std.specs.Prelude.{◌≡◌, ℕ, ◌+◌, ◌-◌, ◌<◌, ◌≤◌, ◌^◌, ◌↔◌, IsTrue, length, map, replicate, remove, slice_set};
 ghost use Rattle.om_signs.specs.Sign.{opposite};
-ghost use Rattle.om_signs.specs.SignVec.{place, compose, flip, IsMaskOf, IsSeparated, IsOrthogonal, IsConformal, IsNonzero, IsPlus, IsMinus};
+ghost use Rattle.om_signs.specs.SignVec.{at_element, compose, flip, IsMaskOf, IsSeparated, IsOrthogonal, IsConformal, IsInSupport, IsPlus, IsMinus};
+
 use om_signs::limits::MAX_PLACES;
 use om_signs::sign::Sign;
+use om_signs::*;
 use std::cmp::Ordering;
 use std::marker::Model;
-use om_signs::*;
 
 // Vectors of two places are orthogonal where the products of their signs are both zero, or one plus and one minus.
 const ROWS: [([u8; 2], [u8; 2], bool); 6] = [

@@ -3,9 +3,9 @@
 ghost use Rattle.std.specs.Prelude.{◌≡◌, ◌<◌, ◌↔◌, length, All, IsTrue};
 ghost use Rattle.om_simplex.specs.States.{IsColumn};
 
-use om_simplex::{Outcome, Stage, solve};
 use om_rows::Column;
 use om_signs::{MAX_COLUMNS, MAX_ROWS};
+use om_simplex::{Outcome, Stage, solve};
 use std::alloc::{AllocError, Global};
 
 /// A column with these places.

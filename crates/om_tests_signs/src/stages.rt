@@ -1,6 +1,5 @@
 //! Tests of `om_simplex`.
 
-
 use om_simplex::*;
 
 #[test]

@@ -5,10 +5,11 @@ ghost use Rattle.om_signs.specs.SignVec.{IsMaskOf};
 ghost use Rattle.om_subsets.specs.Subsets.{choose, rank_of, subset_at, first_of, IsSubsetFrom, IsMember, with_element, without_element, count_above};
 ghost use Rattle.om_subsets.specs.Members.{members, mask_of};
 ghost use Rattle.om_subsets.specs.Reverse.{revlex_rank_of, revlex_subset_at};
-use om_subsets::binomials::{BINOMIALS, MOST_SUBSETS};
+
 use om_signs::MAX_PLACES;
-use std::marker::Model;
+use om_subsets::binomials::{BINOMIALS, MOST_SUBSETS};
 use om_subsets::*;
+use std::marker::Model;
 
 // The pairs of four elements at their places, as they are ordered by hand.
 const PAIRS: [(u32, u32); 6] = [

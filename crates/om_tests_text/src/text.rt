@@ -3,11 +3,11 @@
 ghost use Rattle.std.specs.Prelude.{◌≤◌, length};
 ghost use Rattle.om_signs.specs.declared.limits.TheConstants.{MAX_INPUT};
 
-use om_text::lines::{before_comment, first_line, first_word, has_no_words, same};
 use super::text_two::upgrade;
+use om_signs::{MAX_BLOCKS, MAX_INPUT, MAX_MEMBERS, MAX_MULTIPLICITY, MAX_WEIGHT};
+use om_text::lines::{before_comment, first_line, first_word, has_no_words, same};
 use om_text::words::{plain_number, signed_number, unsigned_number};
 use om_text::*;
-use om_signs::{MAX_BLOCKS, MAX_INPUT, MAX_MEMBERS, MAX_MULTIPLICITY, MAX_WEIGHT};
 use std::alloc::{AllocError, Global};
 use std::process::Abort;
 use std::test::Fail;

@@ -7,10 +7,10 @@ ghost use Rattle.om_signs.specs.declared.limits.TheConstants.{MAX_INPUT};
 ghost use Rattle.om_text.specs.Rows.{same_row};
 ghost use Rattle.om_text.specs.PrintTwo.{IsClosedUnderNegation};
 
-use om_text::body_lines::has_member;
 use super::text::{Question, is_answered, or_memory};
-use om_text::*;
 use om_signs::{List, MAX_INPUT, SignVec};
+use om_text::body_lines::has_member;
+use om_text::*;
 use std::alloc::Global;
 use std::test::Fail;
 

@@ -1,22 +1,21 @@
 -- The words of wirings as the code has them, and the text of a block.
 --
 -- Main definitions: IsBlockWord
--- Main results: plain_within, position_within, after_without, no_last, more_block, no_block, block_word, block_bytes
-use Rattle.std.proofs.Common.{◌≡◌, ℕ, suc, ◌+◌, ◌-◌, ◌<◌, ◌≤◌, ◌^◌, List, [], ◌∷◌, ◌++◌, true, false, not, cond, ◌&&◌, ◌||◌, length, take, drop, nat_eq, nat_le, refl, sym, ap, ◌∙◌, arith, append_assoc, inl, inr}
-use Rattle.std.specs.Prelude.{Option, Some, None, IfSome, Ok, Err, decimal, is_some}
+-- Main results: plain_within, position_within, no_last, no_block, block_word
+use Rattle.std.proofs.Common.{◌≡◌, ℕ, suc, ◌+◌, ◌-◌, ◌<◌, ◌≤◌, ◌^◌, List, [], ◌∷◌, ◌++◌, true, false, not, ◌&&◌, ◌||◌, length, drop, nat_eq, nat_le, refl, ap, ◌∙◌, arith, inl, inr}
+use Rattle.std.specs.Prelude.{Option, Some, None, IfSome, Err, decimal, is_some}
 use Rattle.std.specs.List.{list_all, position_or_len, before_first, after_first}
 use Rattle.std.proofs.lemmas.Bool.{le-leb}
 use Rattle.std.proofs.lemmas.Fmt.{length-decimal-le}
 use Rattle.std.proofs.lemmas.List.Folds.{list_all-append}
-use Rattle.std.proofs.Math.ListN.{drop_of_length-le}
 use Rattle.std.proofs.Math.Seq.{take-append_seam}
 use Rattle.om_signs.specs.declared.block.Block.{Block}
 use Rattle.om_text.specs.declared.code.Code.TheVariants as code
 use Rattle.om_text.specs.Lines.{has_any}
 use Rattle.om_text.specs.Words.{is_digit, number_from, is_decimal, begins_with, is_plain, plain}
-use Rattle.om_text.specs.Blocks.{position_of, is_dash, with_positions, block_of, block_on, are_blocks, blocks_on}
+use Rattle.om_text.specs.Blocks.{position_of, is_dash, with_positions, block_of}
 use Rattle.om_text.specs.Form.{IsShort}
-use Rattle.om_text.specs.Print.{text_of, block_text, block_lines}
+use Rattle.om_text.specs.Print.{block_text}
 use Rattle.om_text.specs.ReaderParts.{blocks_with_line}
 use Rattle.om_text.proofs.Distinct.{either, both}
 use Rattle.om_text.proofs.Digits.{digit_at}
@@ -63,23 +62,9 @@ position_within w = elim (either (nat_le (length w) 3)) [
     at : (k : ℕ) → nat_le k 3 ≡ true → k ≤ 3
     at k h = grind arith
 
--- behind the first dash of a word without one stands nothing
-pub after_without : (w : List ℕ) (k : ℕ) → k ≡ position_or_len is_dash w → length w ≤ k → take (length w - k) (drop k w) ≡ after_first is_dash w
-after_without w k e l =
-    let z : length w - k ≡ 0 = omega arith in
-    let n : drop (k + 1) w ≡ [] = drop_of_length-le w (omega arith) in
-    rw (z, ← e, n) refl
-
 pub no_last : (a b : Option ℕ) → None ≡ b → with_positions a b ≡ None
 no_last None b h = refl
 no_last (Some i) b h = rw (← h) refl
-
--- one more word of a line
-pub more_block : (bs : List Block) (w : List ℕ) (ws : List (List ℕ)) (b : Block) → Some b ≡ block_of w → blocks_with_line (bs ++ b ∷ []) ws ≡ blocks_with_line bs (w ∷ ws)
-more_block bs w ws b h =
-    let s : is_some (block_of w) ≡ true = rw (← h) refl in
-    let o : block_on w ≡ b = rw (← h) refl in
-    rw (s, o) (ap (λ xs. cond (are_blocks ws) (Ok xs) (Err code.Block)) (append_assoc bs (b ∷ []) (blocks_on ws)))
 
 pub no_block : (bs : List Block) (w : List ℕ) (ws : List (List ℕ)) → None ≡ block_of w → blocks_with_line bs (w ∷ ws) ≡ Err code.Block
 no_block bs w ws h = let s : is_some (block_of w) ≡ false = rw (← h) refl in rw s refl
@@ -146,7 +131,3 @@ block_word b s =
           ∙ ap (λ w. with_positions (position_of (decimal b.first)) (position_of w)) (after_dash (decimal b.first) (decimal b.last) i.digits)
           ∙ rw (i.value, j.value) refl;
     }
-
--- what is printed of a block is its line
-pub block_bytes : (b : Block) → decimal b.first ++ 45 ∷ (decimal b.last ++ 10 ∷ []) ≡ text_of (block_lines (b ∷ []))
-block_bytes b = sym (append_assoc (decimal b.first) (45 ∷ decimal b.last) (10 ∷ []))

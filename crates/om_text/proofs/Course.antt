@@ -23,7 +23,7 @@ use Rattle.om_text.specs.Lines.{has_any}
 use Rattle.om_text.specs.Settings.{is_line, version_of, begins_as_setting, other_words, is_names_line, setting_in, settings_of, settings_in, finished}
 use Rattle.om_text.specs.Document.{IsSpelled, end_line, is_body_line, has_signs, has_length, has_blocks, has_numbers, filled_body, filled, has_room, is_complete}
 use Rattle.om_text.specs.Heading.{first_word, kind_of, heading, opened, has_elements, has_rank, has_size, rank_of_body, values_of_body}
-use Rattle.om_text.specs.Fault.{kind, setting, body, «end», after, place_in_body, place_after_kind, place, when, first_of, table}
+use Rattle.om_text.specs.Fault.{kind, setting, body, «end», after, role_in_body, role_after_kind, role, when, first_of, table}
 use Rattle.om_text.specs.Reading.{step, with_version, after_kind, first_stage, draft_of, first_draft, in_size, with_heading, takes_settings, with_setting, after_setting, after_body, finished_draft, after_end, added}
 use Rattle.om_text.proofs.Language as any
 use Rattle.om_text.proofs.Language.{bind}
@@ -378,17 +378,17 @@ past_settings v d ss ls Choice w i n h t = ap (λ b. list_all begins_as_setting 
 past_settings v d ss ls Full w i n h t = ap (λ b. list_all begins_as_setting (ss ++ ls) && b) h ∙ and_no (list_all begins_as_setting (ss ++ ls))
 
 -- a line after the setting lines ss and the lines ls that begin otherwise
-behind_place : (v : Version) (d : Document) (ss ls : List (List (List ℕ))) (p : List (List ℕ) × Setting) (w : List (List ℕ)) → settings_in v d ss ≡ Some p → list_any begins_as_setting ls ≡ false → (v ≡ Two → (list_all begins_as_setting (ss ++ ls) && begins_as_setting w) ≡ false) → place_after_kind (Some v) (Some d) (ss ++ ls) w ≡ place_in_body (Some p) d ls w
-behind_place One d [] ls p w h n f = ap (λ o. place_in_body o d ls w) h
-behind_place One d (s ∷ ss) ls p w h n f = cc
-behind_place Two d ss ls p w h n f =
+behind_role : (v : Version) (d : Document) (ss ls : List (List (List ℕ))) (p : List (List ℕ) × Setting) (w : List (List ℕ)) → settings_in v d ss ≡ Some p → list_any begins_as_setting ls ≡ false → (v ≡ Two → (list_all begins_as_setting (ss ++ ls) && begins_as_setting w) ≡ false) → role_after_kind (Some v) (Some d) (ss ++ ls) w ≡ role_in_body (Some p) d ls w
+behind_role One d [] ls p w h n f = ap (λ o. role_in_body o d ls w) h
+behind_role One d (s ∷ ss) ls p w h n f = cc
+behind_role Two d ss ls p w h n f =
     let b = settings_begin Two d ss p h in
     let g = front_of ss ls b n in
     let k = behind_of ss ls b n in
-    rw (f refl, g, k) (ap (λ o. place_in_body o d ls w) h)
+    rw (f refl, g, k) (ap (λ o. role_in_body o d ls w) h)
 
-place_after : (f k : List (List ℕ)) (v : Version) (d : Document) (ls : List (List (List ℕ))) (w : List (List ℕ)) → version_of f ≡ Some v → heading k ≡ Some d → place (f ∷ k ∷ ls) w ≡ place_after_kind (Some v) (Some d) ls w
-place_after f k v d ls w n h = ap (λ o. place_after_kind o (heading k) ls w) n ∙ ap (λ o. place_after_kind (Some v) o ls w) h
+role_after : (f k : List (List ℕ)) (v : Version) (d : Document) (ls : List (List (List ℕ))) (w : List (List ℕ)) → version_of f ≡ Some v → heading k ≡ Some d → role (f ∷ k ∷ ls) w ≡ role_after_kind (Some v) (Some d) ls w
+role_after f k v d ls w n h = ap (λ o. role_after_kind o (heading k) ls w) n ∙ ap (λ o. role_after_kind (Some v) o ls w) h
 
 -- no line of a body is the end line
 pub no_end : (head : Document) (ls : List (List (List ℕ))) → list_all (is_body_line head) ls ≡ true → list_any (λ l. is_line l end_line) ls ≡ false
@@ -397,19 +397,19 @@ no_end head (l ∷ ls) h =
     let a = both (is_body_line head l) (list_all (is_body_line head) ls) h in
     rw (line_not_end head.body head.elements l a.0) (no_end head ls a.1)
 
-open_place : (ls : List (List (List ℕ))) (d : Draft) (w : List (List ℕ)) → (o : IsOpen ls d) → (takes_settings d.stage && begins_as_setting w) ≡ false → place ls w ≡ cond (is_line w end_line) («end» o.setting o.head o.body) (body o.setting o.head o.body)
-open_place ls d w o h =
+open_role : (ls : List (List (List ℕ))) (d : Draft) (w : List (List ℕ)) → (o : IsOpen ls d) → (takes_settings d.stage && begins_as_setting w) ≡ false → role ls w ≡ cond (is_line w end_line) («end» o.setting o.head o.body) (body o.setting o.head o.body)
+open_role ls d w o h =
     let n = lines_not_settings o.head o.body o.each in
     let p : List (List ℕ) × Setting = (o.names, o.setting) in
-    ap (λ x. place x w) o.lines
-    ∙ place_after o.first_line o.kind_line o.version o.head (o.settings ++ o.body) w o.numbered o.heading
-    ∙ behind_place o.version o.head o.settings o.body p w o.set n (past_settings o.version o.head o.settings o.body d.stage w o.stage n h)
+    ap (λ x. role x w) o.lines
+    ∙ role_after o.first_line o.kind_line o.version o.head (o.settings ++ o.body) w o.numbered o.heading
+    ∙ behind_role o.version o.head o.settings o.body p w o.set n (past_settings o.version o.head o.settings o.body d.stage w o.stage n h)
     ∙ ap (λ b. cond b after (cond (is_line w end_line) («end» o.setting o.head o.body) (body o.setting o.head o.body))) (no_end o.head o.body o.each)
 
-setting_place : (ls : List (List (List ℕ))) (d : Draft) (w : List (List ℕ)) → (b : IsBefore ls d w) → place ls w ≡ setting b.draft.head b.draft.settings
-setting_place ls d w b =
+setting_role : (ls : List (List (List ℕ))) (d : Draft) (w : List (List ℕ)) → (b : IsBefore ls d w) → role ls w ≡ setting b.draft.head b.draft.settings
+setting_role ls d w b =
     let a = settings_begin Two b.draft.head b.draft.settings (b.draft.names, b.draft.setting) b.set in
-    ap (λ x. place x w) b.lines ∙ place_after b.draft.first_line b.draft.kind_line Two b.draft.head b.draft.settings w b.version b.draft.heading ∙ rw (a, b.begins) refl
+    ap (λ x. role x w) b.lines ∙ role_after b.draft.first_line b.draft.kind_line Two b.draft.head b.draft.settings w b.version b.draft.heading ∙ rw (a, b.begins) refl
 
 any_end : (ls : List (List (List ℕ))) → list_any (λ l. is_line l end_line) (ls ++ end_line ∷ []) ≡ true
 any_end ls = list_any-append (λ l. is_line l end_line) ls (end_line ∷ []) ∙ or_true (list_any (λ l. is_line l end_line) ls)
@@ -418,14 +418,14 @@ any_end ls = list_any-append (λ l. is_line l end_line) ls (end_line ∷ []) ∙
     or_true true = refl
     or_true false = refl
 
-closed_place : (ls : List (List (List ℕ))) (d : Document) (w : List (List ℕ)) → IsSpelled ls d → place ls w ≡ after
-closed_place ls d w o =
+closed_role : (ls : List (List (List ℕ))) (d : Document) (w : List (List ℕ)) → IsSpelled ls d → role ls w ≡ after
+closed_role ls d w o =
     let n : list_any begins_as_setting (o.body ++ end_line ∷ []) ≡ false = list_any-append begins_as_setting o.body (end_line ∷ []) ∙ rw (lines_not_settings o.head o.body o.each) refl in
     let f : (list_all begins_as_setting (o.settings ++ (o.body ++ end_line ∷ [])) && begins_as_setting w) ≡ false = rw (not_all_begin o.settings (o.body ++ end_line ∷ []) n (any_last o.body end_line)) refl in
     let p : List (List ℕ) × Setting = (o.names, o.setting) in
-    ap (λ x. place x w) o.lines ∙ ap (λ x. place (o.first_line ∷ o.kind_line ∷ x) w) (append_assoc o.settings o.body (end_line ∷ []))
-    ∙ place_after o.first_line o.kind_line o.version o.head (o.settings ++ (o.body ++ end_line ∷ [])) w o.numbered o.heading
-    ∙ behind_place o.version o.head o.settings (o.body ++ end_line ∷ []) p w o.set n (λ e. f)
+    ap (λ x. role x w) o.lines ∙ ap (λ x. role (o.first_line ∷ o.kind_line ∷ x) w) (append_assoc o.settings o.body (end_line ∷ []))
+    ∙ role_after o.first_line o.kind_line o.version o.head (o.settings ++ (o.body ++ end_line ∷ [])) w o.numbered o.heading
+    ∙ behind_role o.version o.head o.settings (o.body ++ end_line ∷ []) p w o.set n (λ e. f)
     ∙ ap (λ b. cond b after (cond (is_line w end_line) («end» o.setting o.head (o.body ++ end_line ∷ [])) (body o.setting o.head (o.body ++ end_line ∷ [])))) (any_end o.body)
 
 -- ---- the rows of the table
@@ -474,24 +474,24 @@ end_rows : (s : Setting) (head : Document) (d : Draft) (ls : List (List (List �
 end_rows s head d ls w c e h = rw (← e) (rows_not (is_complete d.document) code.Few c (Ok (Closed (finished_draft d))) (None ∷ []) (no_error _ c (None ∷ [])) h)
 
 -- the code of a step that fails is that of the table's first row that holds
-pub step_error : (s : State) (ls : List (List (List ℕ))) (w : List (List ℕ)) (c : Code) → Shows s ls → step s w ≡ Err c → first_of (table (place ls w) w) ≡ Some c
-step_error Start ls w c o h = subst (λ x. first_of (table (place x w) w) ≡ Some c) (sym o) (version_rows (version_of w) c later h)
+pub step_error : (s : State) (ls : List (List (List ℕ))) (w : List (List ℕ)) (c : Code) → Shows s ls → step s w ≡ Err c → first_of (table (role ls w) w) ≡ Some c
+step_error Start ls w c o h = subst (λ x. first_of (table (role x w) w) ≡ Some c) (sym o) (version_rows (version_of w) c later h)
   where
     later : List (Option Code)
     later = None ∷ None ∷ None ∷ None ∷ None ∷ None ∷ None ∷ None ∷ None ∷ None ∷ None ∷ None ∷ None ∷ []
-step_error (Versioned v) ls w c o h = subst (λ x. first_of (table (place x w) w) ≡ Some c) (sym o.1) (kind_rows v w c h)
+step_error (Versioned v) ls w c o h = subst (λ x. first_of (table (role x w) w) ≡ Some c) (sym o.1) (kind_rows v w c h)
 step_error (Open d) ls w c o h = elim (either (takes_settings d.stage && begins_as_setting w)) [
   | inl y ↦ let a : after_setting d.stage d w ≡ Err c = rw y at h in
       let b = before ls d w o y in
-      subst (λ p. first_of (table p w) ≡ Some c) (sym (setting_place ls d w b)) (setting_rows ls d w c b a)
+      subst (λ p. first_of (table p w) ≡ Some c) (sym (setting_role ls d w b)) (setting_rows ls d w c b a)
   | inr f ↦ let g : cond (is_line w end_line) (after_end d) (after_body d w) ≡ Err c = rw f at h in
-      let at = open_place ls d w o f in
+      let at = open_role ls d w o f in
       elim (either (is_line w end_line)) [
         | inl e ↦ let a : after_end d ≡ Err c = rw e at g in
-            let q : place ls w ≡ «end» o.setting o.head o.body = at ∙ rw e refl in
+            let q : role ls w ≡ «end» o.setting o.head o.body = at ∙ rw e refl in
             subst (λ p. first_of (table p w) ≡ Some c) (sym q) (end_rows o.setting o.head d o.body w c (ap (λ e. is_complete e.document) o.value) a)
         | inr n ↦ let a : after_body d w ≡ Err c = rw n at g in
-            let q : place ls w ≡ body o.setting o.head o.body = at ∙ rw n refl in
+            let q : role ls w ≡ body o.setting o.head o.body = at ∙ rw n refl in
             let s : has_signs d.document w ≡ has_signs o.head w = ap (λ e. has_signs e.document w) o.value ∙ has_signs_filled o.setting o.head.body o.body w in
             let l : has_length d.document w ≡ has_length o.head w = ap (λ e. has_length e.document w) o.value ∙ has_length_filled o.setting o.head.body o.body o.head.elements w in
             let k : has_blocks d.document w ≡ has_blocks o.head w = ap (λ e. has_blocks e.document w) o.value ∙ has_blocks_filled o.setting o.head.body o.body w in
@@ -500,7 +500,7 @@ step_error (Open d) ls w c o h = elim (either (takes_settings d.stage && begins_
             subst (λ p. first_of (table p w) ≡ Some c) (sym q) (body_rows o.setting o.head d o.body w c s l k m (ap (λ e. has_room e.document) v) a)
       ]
 ]
-step_error (Closed d) ls w c o h = subst (λ p. first_of (table p w) ≡ Some c) (sym (closed_place ls d w o)) (code_same h)
+step_error (Closed d) ls w c o h = subst (λ p. first_of (table p w) ≡ Some c) (sym (closed_role ls d w o)) (code_same h)
   where
     code_same : ◌≡◌ {A = Result State Code} (Err code.After) (Err c) → ◌≡◌ {A = Option Code} (Some code.After) (Some c)
     code_same g = cc

@@ -68,9 +68,6 @@ full_within line i =
     let e : full_bytes (take i line) ++ full_bytes (drop i line) ≡ full_bytes line = sym (filter-append (λ b. not (is_blank b)) (take i line) (drop i line)) ∙ ap full_bytes (take-append-drop i line) in
     omega (arith, length-append (full_bytes (take i line)) (full_bytes (drop i line)), ap length e)
 
-pub part_start : (n : ℕ) (line : List ℕ) → IsDocumentAtFront n line 0 0 (replicate n Zero)
-part_start n line = record { count = refl; value = (let z : n - 0 ≡ n = omega arith in rw z refl) }
-
 pub part_room : (n : ℕ) (line : List ℕ) (i e : ℕ) (v : List Sign) → IsDocumentAtFront n line i e v → i < length line → is_blank (get_or line i 0) ≡ false → length (concat (runs line)) ≡ n → e < n
 part_room n line i e v p l b h =
     let m = ap length (full_more line i l b) in

@@ -1,8 +1,8 @@
 -- How the bytes of a name are kept, and the words of a `names` line, one after the other.
 --
 -- Main definitions: AreKept
--- Main results: kept_new, kept_none, kept_more, one_too_many, no_name, name_again, all_kept, too_few
-use Rattle.std.proofs.Common.{◌≡◌, ℕ, ◌-◌, ◌≤◌, List, [], ◌∷◌, ◌++◌, Bool, true, false, cond, not, ◌&&◌, ◌||◌, inl, inr, length, take, drop, replicate, refl, sym, ap, subst, ◌∙◌, arith, append_assoc, append-nil, length-append, nat_eq, eq-eqb}
+-- Main results: kept_new, kept_more, one_too_many, name_again
+use Rattle.std.proofs.Common.{◌≡◌, ℕ, ◌-◌, ◌≤◌, List, [], ◌∷◌, ◌++◌, Bool, true, false, cond, not, ◌&&◌, ◌||◌, inl, inr, length, take, drop, replicate, refl, sym, ap, subst, ◌∙◌, arith, append_assoc, length-append, nat_eq}
 use Rattle.std.specs.Prelude.{Option, Some, None, bytes_eq}
 use Rattle.std.specs.List.{list_all, list_any}
 use Rattle.std.proofs.lemmas.Bool.{le-leb, eqb-true}
@@ -44,22 +44,12 @@ pub record AreKept (ws ns rest : List (List ℕ)) : Type 0 where
   pub names : list_all is_name ns ≡ true
   pub different : are_different ns ≡ true
 
-pub kept_none : (ws : List (List ℕ)) → AreKept ws [] ws
-kept_none ws = record { same = refl; names = refl; different = refl }
-
 -- one more than there are elements
 pub one_too_many : (n : ℕ) (ws ns : List (List ℕ)) (w : List ℕ) (more rest : List (List ℕ)) → AreKept ws ns rest → rest ≡ w ∷ more → length ns ≡ n → names_in n ws ≡ None
 one_too_many n ws ns w more rest k r e = elim (either (nat_eq (length ws) n)) [
   | inl y ↦ absurd (let a = eqb-true (length ws) n y in let b = ap length (k.same ∙ ap (λ x. ns ++ x) r) in let c = length-append ns (w ∷ more) in omega arith)
   | inr f ↦ rw f refl
 ]
-
--- a word that is no name
-pub no_name : (n : ℕ) (ws ns : List (List ℕ)) (w : List ℕ) (more rest : List (List ℕ)) → AreKept ws ns rest → rest ≡ w ∷ more → is_name w ≡ false → names_in n ws ≡ None
-no_name n ws ns w more rest k r f =
-    let e : list_all is_name ws ≡ false = ap (list_all is_name) (k.same ∙ ap (λ x. ns ++ x) r) ∙ list_all-append is_name ns (w ∷ more) ∙ rw f (and_no (list_all is_name ns)) in
-    let a : are_names n ws ≡ false = ap (λ b. nat_eq (length ws) n && b && are_different ws) e ∙ ap (λ b. b && are_different ws) (and_no (nat_eq (length ws) n)) in
-    rw a refl
 
 equal_names : (ns : List (List ℕ)) (w : List ℕ) (more : List (List ℕ)) → list_any (λ v. bytes_eq v w) ns ≡ true → are_different (ns ++ w ∷ more) ≡ false
 equal_names [] w more h = cc
@@ -103,12 +93,6 @@ name_is w x h = elim (either (is_name w)) [
   | inr f ↦ let g : ◌≡◌ {A = Option (List ℕ)} None (Some x) = rw f at h in cc
 ]
 
-pub name_is_not : (w : List ℕ) → cond (is_name w) (Some w) None ≡ None → is_name w ≡ false
-name_is_not w h = elim (either (is_name w)) [
-  | inl y ↦ let g : ◌≡◌ {A = Option (List ℕ)} (Some w) None = rw y at h in cc
-  | inr f ↦ f
-]
-
 -- a name more
 pub kept_more : (ws ns : List (List ℕ)) (w x : List ℕ) (more rest : List (List ℕ)) → AreKept ws ns rest → rest ≡ w ∷ more → cond (is_name w) (Some w) None ≡ Some x → list_any (λ v. bytes_eq v w) ns ≡ false → AreKept ws (ns ++ x ∷ []) more
 kept_more ws ns w x more rest k r i f =
@@ -118,18 +102,3 @@ kept_more ws ns w x more rest k r i f =
       names = list_all-append is_name ns (w ∷ []) ∙ rw (k.names, e.0) refl;
       different = other_names ns w k.different f;
     })
-
--- no word is left
-pub all_kept : (n : ℕ) (ws ns rest : List (List ℕ)) → AreKept ws ns rest → rest ≡ [] → length ns ≡ n → names_in n ws ≡ Some ns
-all_kept n ws ns rest k r e =
-    let q : ws ≡ ns = k.same ∙ ap (λ x. ns ++ x) r ∙ append-nil ns in
-    let a : are_names n ns ≡ true = rw (eq-eqb (length ns) n e, k.names, k.different) refl in
-    ap (names_in n) q ∙ rw a refl
-
-pub too_few : (n : ℕ) (ws ns rest : List (List ℕ)) → AreKept ws ns rest → rest ≡ [] → (length ns ≡ n → ⊥) → names_in n ws ≡ None
-too_few n ws ns rest k r e =
-    let q : ws ≡ ns = k.same ∙ ap (λ x. ns ++ x) r ∙ append-nil ns in
-    elim (either (nat_eq (length ws) n)) [
-      | inl y ↦ absurd (e (ap length (sym q) ∙ eqb-true (length ws) n y))
-      | inr f ↦ rw f refl
-    ]

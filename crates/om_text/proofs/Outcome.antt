@@ -13,7 +13,7 @@ use Rattle.om_text.specs.declared.state.State.{State}
 use Rattle.om_text.specs.declared.state.State.TheVariants.{Start, Versioned, Open, Closed}
 use Rattle.om_text.specs.Lines.{lines, wordful}
 use Rattle.om_text.specs.Document.{IsSpelled, IsDocument}
-use Rattle.om_text.specs.Fault.{AreDocument, Begins, IsFault, place, table, first_of}
+use Rattle.om_text.specs.Fault.{AreDocument, Begins, IsFault, role, table, first_of}
 use Rattle.om_text.specs.Print.{text_of}
 use Rattle.om_text.specs.Parsed.{IsAnswerUnlessMemory, IfLine}
 use Rattle.om_text.specs.Reading.{step, advance, value_of, outcome}
@@ -25,7 +25,7 @@ use Rattle.om_text.proofs.Completion as completions
 use Rattle.om_text.proofs.Language.{IsCompletion, run_shows, run-append, run_line, run_value, begins_run, outcome_passes, value_outcome, outcome_value, outcome_fault, fault_outcome}
 
 abbrev code_at : List (List (List ℕ)) → List (List ℕ) → Option Code
-code_at ls w = first_of (table (place ls w) w)
+code_at ls w = first_of (table (role ls w) w)
 
 ends : (s : State) (ls : List (List (List ℕ))) (d : Document) → Shows s ls → value_of s ≡ Some d → IsSpelled ls d
 ends Start ls d o h = cc

@@ -1,6 +1,6 @@
 -- The text of a document in version 2, put together piece by piece.
 --
--- Main results: numbers_more, names_more, names_line_end, value_read, values_more, value_rows_more, begun_at, begun_line, begun_more, printed_two_bytes
+-- Main results: numbers_more, names_more, names_line_end, value_read, values_more, value_rows_more, begun_at, begun_more, printed_two_bytes
 use Rattle.std.proofs.Common.{◌≡◌, ℕ, zero, suc, ◌+◌, ◌-◌, ◌<◌, ◌≤◌, min, List, [], ◌∷◌, ◌++◌, true, false, length, take, drop, get_or, map, refl, sym, ap, ◌∙◌, append_assoc, append-nil, arith, get_or-drop, length-drop}
 use Rattle.std.specs.Prelude.{codes, decimal, filter, Some, Result, Ok, Err, OnOk, slice_get}
 use Rattle.std.specs.List.{flat_map}
@@ -58,14 +58,6 @@ pub names_line_end : {E : Type 0} (r : Result Unit E) (base first most new : Lis
 names_line_end (Ok x) base first most new ws f m n = names_line_bytes base first most new ws f m n
 names_line_end (Err x) base first most new ws f m n = tt
 
-pub none_printed : (n : ℕ) (ws : List (List ℕ)) → length ws ≡ 0 → printed_names n ws ≡ numbered_names n
-none_printed n [] h = refl
-none_printed n (w ∷ ws) h = absurd (omega arith)
-
-pub some_printed : (n : ℕ) (ws : List (List ℕ)) → 0 < length ws → printed_names n ws ≡ ws
-some_printed n [] h = absurd (omega arith)
-some_printed n (w ∷ ws) h = refl
-
 -- ---- values
 
 -- the value at the set of a place
@@ -114,9 +106,6 @@ begun_at (x ∷ xs) (suc i) s l e = let n : suc i + 1 ≡ suc (i + 1) = omega ar
 
 pub begun_end : (xs : List Sign) (i : ℕ) → length xs ≤ i → begins_with_plus (drop i xs) ≡ true
 begun_end xs i l = ap begins_with_plus (drop_of_length-le xs l)
-
-pub begun_line : (x : List Sign) → begins_with_plus x ≡ true → text_of (member_lines (filter begins_with_plus (x ∷ []))) ≡ map byte_of x ++ 10 ∷ []
-begun_line x h = rw h refl
 
 pub no_line : (x : List Sign) → begins_with_plus x ≡ false → text_of (member_lines (filter begins_with_plus (x ∷ []))) ≡ []
 no_line x h = rw h refl

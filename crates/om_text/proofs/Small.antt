@@ -1,7 +1,7 @@
 -- The numbers of a heading stay in range.
 --
--- Main results: advance_small, outcome_step
-use Rattle.std.proofs.Common.{◌≡◌, ℕ, ◌+◌, ◌≤◌, List, [], ◌∷◌, true, cond, ◌&&◌, refl, sym, subst, inl, inr}
+-- Main results: advance_small
+use Rattle.std.proofs.Common.{◌≡◌, ℕ, ◌≤◌, List, [], ◌∷◌, true, cond, ◌&&◌, refl, sym, subst, inl, inr}
 use Rattle.std.specs.Prelude.{Option, Some, None, Result, Ok, is_none, option_map, nat_le}
 use Rattle.std.proofs.lemmas.Bool.{leb-true}
 use Rattle.om_signs.specs.declared.limits.TheConstants.{MAX_ELEMENTS}
@@ -14,7 +14,7 @@ use Rattle.om_text.specs.declared.kind.Kind.{Kind}
 use Rattle.om_text.specs.declared.kind.Kind.TheVariants as kinds
 use Rattle.om_text.specs.declared.state.State.{State}
 use Rattle.om_text.specs.declared.state.State.TheVariants.{Start, Versioned, Open, Closed}
-use Rattle.om_text.specs.Lines.{lines, words, has_any}
+use Rattle.om_text.specs.Lines.{words, has_any}
 use Rattle.om_text.specs.declared.draft.Draft.{Draft}
 use Rattle.om_text.specs.declared.stage.Stage.{Stage}
 use Rattle.om_text.specs.declared.stage.Stage.TheVariants.{Names, Choice, Full, Body as InBody}
@@ -24,7 +24,7 @@ use Rattle.om_text.specs.declared.version.Version.{Version}
 use Rattle.om_text.specs.Settings.{is_line, version_of, begins_as_setting, other_words, is_names_line, setting_in}
 use Rattle.om_text.specs.Document.{end_line, filled_body, is_complete}
 use Rattle.om_text.specs.Heading.{first_word, kind_of, heading, opened, headed, empty_body, numbers, has_elements, has_rank, rank_of_body}
-use Rattle.om_text.specs.Reading.{step, advance, with_version, first_draft, with_heading, takes_settings, with_names, with_setting, after_choice, after_setting, after_body, finished_draft, after_end, added, added_body, outcome}
+use Rattle.om_text.specs.Reading.{step, advance, with_version, first_draft, with_heading, takes_settings, with_names, with_setting, after_choice, after_setting, after_body, finished_draft, after_end, added, added_body}
 use Rattle.om_text.specs.Steps.{step_if}
 use Rattle.om_text.specs.ReaderParts.{IsDocumentInRange, IsBodyInRange, IsStateInRange}
 use Rattle.om_text.proofs.Distinct.{either, both}
@@ -109,6 +109,3 @@ advance_small s line t o h = at (words line) h
     at : (w : List (List ℕ)) → step_if step (has_any w) s w ≡ Ok t → IsStateInRange t
     at [] g = subst IsStateInRange (ok_same s t g) o
     at (x ∷ xs) g = step_small s (x ∷ xs) t o g
-
-pub outcome_step : (s t : State) (n : ℕ) (bytes l r : List ℕ) → lines bytes ≡ l ∷ lines r → advance s l ≡ Ok t → outcome t (n + 1) (lines r) ≡ outcome s n (lines bytes)
-outcome_step s t n bytes l r e h = rw e (rw h refl)

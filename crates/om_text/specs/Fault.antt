@@ -17,37 +17,37 @@ use Rattle.om_text.specs.Heading.{first_word, kind_of, heading, has_elements, ha
 -- What a line with words is, by the lines with words before it: the first line, the kind line, a line that begins as a setting
 -- line does, directly after the kind line of version 2 and the setting lines so far, a line in the body of a document after its
 -- earlier body lines, its end line, or a line after that.
-pub data Place : Type 0 where
-  first : Place
-  kind : Place
-  setting : Document → List (List (List ℕ)) → Place
-  body : Setting → Document → List (List (List ℕ)) → Place
-  «end» : Setting → Document → List (List (List ℕ)) → Place
-  after : Place
+pub data Role : Type 0 where
+  first : Role
+  kind : Role
+  setting : Document → List (List (List ℕ)) → Role
+  body : Setting → Document → List (List (List ℕ)) → Role
+  «end» : Setting → Document → List (List (List ℕ)) → Role
+  after : Role
 
--- a place after a kind line that opens d and setting lines, by the body's lines ls after them
-abbrev pub place_in_body : Option (List (List ℕ) × Setting) → Document → List (List (List ℕ)) → List (List ℕ) → Place
-place_in_body None d ls w = after
-place_in_body (Some s) d ls w = cond (list_any (λ l. is_line l end_line) ls) after (cond (is_line w end_line) («end» s.1 d ls) (body s.1 d ls))
+-- the role of a line after a kind line that opens d and setting lines, by the body's lines ls after them
+abbrev pub role_in_body : Option (List (List ℕ) × Setting) → Document → List (List (List ℕ)) → List (List ℕ) → Role
+role_in_body None d ls w = after
+role_in_body (Some s) d ls w = cond (list_any (λ l. is_line l end_line) ls) after (cond (is_line w end_line) («end» s.1 d ls) (body s.1 d ls))
 
--- a place after a kind line of version 2 that opens d, by the lines ls after it
-abbrev pub place_in_two : Document → List (List (List ℕ)) → List (List ℕ) → Place
-place_in_two d ls w =
+-- the role of a line after a kind line of version 2 that opens d, by the lines ls after it
+abbrev pub role_in_two : Document → List (List (List ℕ)) → List (List ℕ) → Role
+role_in_two d ls w =
     cond (list_all begins_as_setting ls && begins_as_setting w)
     (setting d ls)
-    (place_in_body (settings_of d (front_settings ls)) d (behind_settings ls) w)
+    (role_in_body (settings_of d (front_settings ls)) d (behind_settings ls) w)
 
 -- the same in each version
-abbrev pub place_after_kind : Option Version → Option Document → List (List (List ℕ)) → List (List ℕ) → Place
-place_after_kind (Some One) (Some d) ls w = place_in_body (settings_in One d []) d ls w
-place_after_kind (Some Two) (Some d) ls w = place_in_two d ls w
-place_after_kind _ _ ls w = after
+abbrev pub role_after_kind : Option Version → Option Document → List (List (List ℕ)) → List (List ℕ) → Role
+role_after_kind (Some One) (Some d) ls w = role_in_body (settings_in One d []) d ls w
+role_after_kind (Some Two) (Some d) ls w = role_in_two d ls w
+role_after_kind _ _ ls w = after
 
--- the place of the line w after the lines with words ls
-abbrev pub place : List (List (List ℕ)) → List (List ℕ) → Place
-place [] w = first
-place (v ∷ []) w = kind
-place (v ∷ k ∷ ls) w = place_after_kind (version_of v) (heading k) ls w
+-- the role of the line w after the lines with words ls
+abbrev pub role : List (List (List ℕ)) → List (List ℕ) → Role
+role [] w = first
+role (v ∷ []) w = kind
+role (v ∷ k ∷ ls) w = role_after_kind (version_of v) (heading k) ls w
 
 -- The rows of the table of codes. Each gives its code where it holds.
 abbrev pub when : Bool → Code → Option Code
@@ -55,77 +55,77 @@ when true c = Some c
 when false c = None
 
 -- the first line names no version
-abbrev pub version : Place → List (List ℕ) → Option Code
+abbrev pub version : Role → List (List ℕ) → Option Code
 version first w = when (is_none (version_of w)) code.Version
 version _ w = None
 
 -- the kind line names no kind
-abbrev pub kind_row : Place → List (List ℕ) → Option Code
+abbrev pub kind_row : Role → List (List ℕ) → Option Code
 kind_row kind w = when (is_none (kind_of (first_word w))) code.Kind
 kind_row _ w = None
 
 -- the kind line has another number of words than its kind asks for, or a word that is no plain number
-abbrev pub header : Place → List (List ℕ) → Option Code
+abbrev pub header : Role → List (List ℕ) → Option Code
 header kind w = when (is_none (heading w)) code.Header
 header _ w = None
 
 -- the number of elements is out of range
-abbrev pub elements : Place → List (List ℕ) → Option Code
+abbrev pub elements : Role → List (List ℕ) → Option Code
 elements kind w = option_and_then (λ d. when (not (has_elements d)) (code.Elements d.elements)) (heading w)
 elements _ w = None
 
 -- the rank is above the number of elements
-abbrev pub rank : Place → List (List ℕ) → Option Code
+abbrev pub rank : Role → List (List ℕ) → Option Code
 rank kind w = option_and_then (λ d. when (not (has_rank d)) (code.Rank (rank_of_body d.body))) (heading w)
 rank _ w = None
 
 -- a map has more values than it may have
-abbrev pub size : Place → List (List ℕ) → Option Code
+abbrev pub size : Role → List (List ℕ) → Option Code
 size kind w = option_and_then (λ d. when (not (has_size d)) (code.Size (values_of_body d.body))) (heading w)
 size _ w = None
 
 -- a line that begins as a setting line does isn't one that may stand there
-abbrev pub setting_row : Place → List (List ℕ) → Option Code
+abbrev pub setting_row : Role → List (List ℕ) → Option Code
 setting_row (setting d ls) w = when (is_none (settings_of d (ls ++ w ∷ []))) code.Setting
 setting_row _ w = None
 
 -- a line of a map or a list has a byte that is no sign
-abbrev pub sign : Place → List (List ℕ) → Option Code
+abbrev pub sign : Role → List (List ℕ) → Option Code
 sign (body s d ls) w = when (not (has_signs d w)) code.Sign
 sign _ w = None
 
 -- a member has another number of signs than there are elements
-abbrev pub length_row : Place → List (List ℕ) → Option Code
+abbrev pub length_row : Role → List (List ℕ) → Option Code
 length_row (body s d ls) w = when (not (has_length d w)) code.Length
 length_row _ w = None
 
 -- a word of a line of a wiring is no block
-abbrev pub block : Place → List (List ℕ) → Option Code
+abbrev pub block : Role → List (List ℕ) → Option Code
 block (body s d ls) w = when (not (has_blocks d w)) code.Block
 block _ w = None
 
 -- a line of points hasn't exactly three coordinates
-abbrev pub number : Place → List (List ℕ) → Option Code
+abbrev pub number : Role → List (List ℕ) → Option Code
 number (body s d ls) w = when (not (has_numbers d w)) code.Number
 number _ w = None
 
 -- the line goes past the greatest size of the body
-abbrev pub many : Place → List (List ℕ) → Option Code
+abbrev pub many : Role → List (List ℕ) → Option Code
 many (body s d ls) w = when (not (has_room (filled s d (ls ++ w ∷ [])))) code.Many
 many _ w = None
 
 -- the body is not complete at the end line
-abbrev pub few : Place → List (List ℕ) → Option Code
+abbrev pub few : Role → List (List ℕ) → Option Code
 few («end» s d ls) w = when (not (is_complete (filled s d ls))) code.Few
 few _ w = None
 
 -- a line follows the end line
-abbrev pub after_row : Place → List (List ℕ) → Option Code
+abbrev pub after_row : Role → List (List ℕ) → Option Code
 after_row after w = Some code.After
 after_row _ w = None
 
 -- the rows in the order of the table
-abbrev pub table : Place → List (List ℕ) → List (Option Code)
+abbrev pub table : Role → List (List ℕ) → List (Option Code)
 table p w =
     version p w
     ∷ kind_row p w
@@ -165,7 +165,7 @@ AreDocument ls = (d : Document) × IsDocument ls d
 
 -- the code of a line at fault after the lines ls
 abbrev pub code_after : List (List ℕ) → List ℕ → Option Code
-code_after ls line = first_of (table (place (wordful ls) (words line)) (words line))
+code_after ls line = first_of (table (role (wordful ls) (words line)) (words line))
 
 -- line L is the first at fault in a document, with the code c
 abbrev pub IsFault : List (List ℕ) → ℕ → Code → Type 0

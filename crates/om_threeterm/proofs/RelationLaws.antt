@@ -10,7 +10,7 @@ use Rattle.std.proofs.lemmas.List.{get_or-map}
 use Rattle.om_signs.specs.declared.sign.Sign.{Sign}
 use Rattle.om_signs.specs.declared.sign.Sign.TheVariants.{Minus, Zero, Plus}
 use Rattle.om_signs.specs.Sign.{opposite}
-use Rattle.om_signs.specs.SignVec.{place}
+use Rattle.om_signs.specs.SignVec.{at_element}
 use Rattle.om_subsets.specs.Subsets.{AreApart, choose, subset_at, rank_of, IsSubsetFrom, IsMember, with_element, count_above}
 use Rattle.om_subsets.specs.Members.{Chosen}
 use Rattle.om_subsets.proofs.Order.{listed}
@@ -59,20 +59,20 @@ module _ (m : SignMap) (p : List ℕ) (x y : ℕ) (list : IsSubsetFrom 1 m.eleme
   abbrev whole : Sign
   whole = value_of m (with_element y (with_element x p))
 
-  in_row : value_of m (p ++ x ∷ y ∷ []) ≡ place (cocircuit_vector m (p ++ x ∷ [])) y
+  in_row : value_of m (p ++ x ∷ y ∷ []) ≡ at_element (cocircuit_vector m (p ++ x ∷ [])) y
   in_row = sym (cocircuit_place m (p ++ x ∷ []) y low high ∙ ap (value_of m) (append_assoc p (x ∷ []) (y ∷ [])))
 
-  row_half : place (cocircuit_vector m (with_element x p)) y ≡ half
+  row_half : at_element (cocircuit_vector m (with_element x p)) y ≡ half
   row_half = cocircuit_place m (with_element x p) y low high
 
   first_even : (count_above x p % 2 ≡ 1 → ⊥) → value_of m (p ++ x ∷ y ∷ []) ≡ half
-  first_even n = in_row ∙ ap (λ v. place v y) (sym (row_even m p x list x_off n)) ∙ row_half
+  first_even n = in_row ∙ ap (λ v. at_element v y) (sym (row_even m p x list x_off n)) ∙ row_half
 
   first_odd : count_above x p % 2 ≡ 1 → value_of m (p ++ x ∷ y ∷ []) ≡ opposite half
   first_odd o =
       let len = length-vector m.elements (along (value_of m) (with_element x p)) in
       let inside : y - 1 < length (cocircuit_vector m (with_element x p)) = omega arith in
-      in_row ∙ ap (λ v. place v y) (sym (row_odd m p x list x_off o))
+      in_row ∙ ap (λ v. at_element v y) (sym (row_odd m p x list x_off o))
       ∙ get_or-map opposite (cocircuit_vector m (with_element x p)) (y - 1) Zero Zero inside ∙ ap opposite row_half
 
   second_even : (count_above y p % 2 ≡ 1 → ⊥) → half ≡ whole

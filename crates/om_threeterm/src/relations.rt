@@ -149,7 +149,8 @@ fn is_unbalanced(raw: &RawMap, p: Subset, q: Subset) -> bool
     requires q_size { length q.elements ≡ 4 }
     ensures { IsTrue result ↔ IsUnbalancedList (map_of raw.now) p.elements q.elements }
 {
-    let _sizes = (p.size(), q.size());
+    p.is_lawful();
+    q.is_lawful();
     if !p.is_apart_from(q) {
         return false;
     }

@@ -1,33 +1,20 @@
 -- The table of the rows of a map, as it is filled.
 --
--- Main results: no_rows and rows_of_one_more, the rows of all elements below a limit; row_before, a row by that of the two elements exchanged.
-use Rattle.std.specs.Prelude.{ℕ, ◌≡◌, ◌≢◌, ◌+◌, ◌-◌, ◌<◌, ◌≤◌, List, [], ◌∷◌, length, map}
-use Rattle.std.proofs.Common.{refl, sym, ap, ◌∙◌, subst, inl, inr, arith, get_or, set}
-use Rattle.std.proofs.lemmas.Bool.{cases_eq, ne_eqb, lt-ltb}
-use Rattle.std.proofs.lemmas.List.{get_or-set_same, get_or-set_other}
-use Rattle.om_signs.specs.declared.limits.TheConstants.{MAX_PLACES}
+-- Main results: no_rows, the rows of no elements; row_before, a row by that of the two elements exchanged.
+use Rattle.std.specs.Prelude.{ℕ, ◌≡◌, ◌≢◌, ◌-◌, ◌<◌, List, [], ◌∷◌, map}
+use Rattle.std.proofs.Common.{refl, sym, ap, ◌∙◌, subst, inl, inr, arith}
+use Rattle.std.proofs.lemmas.Bool.{ne_eqb, lt-ltb}
 use Rattle.om_signs.specs.declared.sign.Sign.{Sign}
 use Rattle.om_signs.specs.Sign.{opposite}
 use Rattle.om_subsets.specs.Subsets.{IsSubsetFrom, IsMember, with_element}
 use Rattle.om_subsets.proofs.Statements.{subset_is_increasing}
 use Rattle.om_laws.specs.Sorting.{IsElement}
 use Rattle.om_chirotope.specs.Map.{SignMap, cocircuit_vector}
-use Rattle.om_chirotope.specs.Pictures.{AreRowsBelow}
 use Rattle.om_chirotope.proofs.Rows.{row_odd}
 use Rattle.om_wiring.specs.Tables.{HasRowsBelow}
 
 pub no_rows : (m : SignMap) (table : List (List (List Sign))) → HasRowsBelow m table 1
 no_rows m table p low high = absurd (omega (arith, low, high))
-
-pub rows_of_one_more : (m : SignMap) (table : List (List (List Sign))) (p : ℕ) (rows : List (List Sign)) → 1 ≤ p → p - 1 < length table → length rows ≡ MAX_PLACES → AreRowsBelow m (p ∷ []) rows (m.elements + 1) → HasRowsBelow m table p → HasRowsBelow m (set table (p - 1) rows) (p + 1)
-rows_of_one_more m table p rows low l size r h q ql qh = elim (cases_eq q p) [
-  | inl e ↦
-      let same : get_or (set table (p - 1) rows) (q - 1) [] ≡ rows = ap (λ j. get_or (set table (p - 1) rows) (j - 1) []) e ∙ get_or-set_same table (p - 1) rows [] l in
-      subst (λ rs. (length rs ≡ MAX_PLACES) × AreRowsBelow m (q ∷ []) rs (m.elements + 1)) (sym same) (size, subst (λ j. AreRowsBelow m (j ∷ []) rows (m.elements + 1)) (sym e) r)
-  | inr ne ↦
-      let other : q - 1 ≢ p - 1 = omega (arith, ne, low, ql) in
-      subst (λ rs. (length rs ≡ MAX_PLACES) × AreRowsBelow m (q ∷ []) rs (m.elements + 1)) (sym (get_or-set_other table (p - 1) (q - 1) rows [] other)) (h q ql (omega (arith, ne, qh)))
-]
 
 -- ---- the row of two elements that differ
 

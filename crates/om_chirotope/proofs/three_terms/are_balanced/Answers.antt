@@ -4,7 +4,7 @@ use Rattle.om_signs.specs.declared.sign.Sign.{Sign}
 use Rattle.om_chirotope.proofs.Rows.{balanced_of_masks, masks_of_balanced}
 use Rattle.om_chirotope.proofs.ThreeTerms.{balanced_same}
 use Rattle.om_signs.specs.Sign.{opposite, product}
-use Rattle.om_signs.specs.SignVec.{at, place}
+use Rattle.om_signs.specs.SignVec.{at, at_element}
 use Rattle.om_chirotope.proofs.three_terms.are_balanced.Goals as goal
 
 pub returns : goal.returns
@@ -17,9 +17,9 @@ returns c =
     let wl = w.ensures.len in
     let s2 = c.requires.second in
     let s3 = c.requires.third in
-    let first : (i : ℕ) → i < length c.args.third → product (place c.args.first c.args.y) (at c.args.third i) ≡ at u.result i = λ i il3. first_term (place c.args.first c.args.y) c.get.result (at c.args.third i) (at u.result i) c.get.ensures (u.ensures.signs i il3) in
-    let second : (i : ℕ) → i < length c.args.second → opposite (product (place c.args.first c.args.z) (at c.args.second i)) ≡ at v.result i = λ i il2. second_term (place c.args.first c.args.z) c.get-2.result c.neg.result (at c.args.second i) (at v.result i) c.get-2.ensures c.neg.ensures (v.ensures.signs i il2) in
-    let third : (i : ℕ) → i < length c.args.first → product (at c.args.first i) (place c.args.second c.args.z) ≡ at w.result i = λ i l. third_term (place c.args.second c.args.z) c.get-3.result (at c.args.first i) (at w.result i) c.get-3.ensures (w.ensures.signs i l) in (
+    let first : (i : ℕ) → i < length c.args.third → product (at_element c.args.first c.args.y) (at c.args.third i) ≡ at u.result i = λ i il3. first_term (at_element c.args.first c.args.y) c.get.result (at c.args.third i) (at u.result i) c.get.ensures (u.ensures.signs i il3) in
+    let second : (i : ℕ) → i < length c.args.second → opposite (product (at_element c.args.first c.args.z) (at c.args.second i)) ≡ at v.result i = λ i il2. second_term (at_element c.args.first c.args.z) c.get-2.result c.neg.result (at c.args.second i) (at v.result i) c.get-2.ensures c.neg.ensures (v.ensures.signs i il2) in
+    let third : (i : ℕ) → i < length c.args.first → product (at c.args.first i) (at_element c.args.second c.args.z) ≡ at w.result i = λ i l. third_term (at_element c.args.second c.args.z) c.get-3.result (at c.args.first i) (at w.result i) c.get-3.ensures (w.ensures.signs i l) in (
       λ t i l.
           let il3 : i < length c.args.third = omega (arith, l, s3) in
           let il2 : i < length c.args.second = omega (arith, l, s2) in

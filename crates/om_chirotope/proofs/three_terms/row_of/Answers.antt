@@ -15,7 +15,7 @@ pub returns-then-odd_after : goal.returns-then-odd_after
 returns-then-odd_after c =
     let m = map_of c.args.raw.now in
     let t = row_in_table m c.args.p.elements c.args.x c.args.place c.with-with.result c.args.cocircuits.now (c.with-with.ensures.n ∙ c.requires.n) c.with-with.ensures.elements c.with-with.ensures.lawful c.requires.off c.requires.rank (c.requires.place ∙ ap (λ n. rank_of n (with_element c.args.x c.args.p.elements)) (sym c.with-with.ensures.n) ∙ ap (rank_of c.with-with.result.n) (sym c.with-with.ensures.elements)) c.requires.filled in
-    let list = subst (λ n. IsSubsetFrom 1 n c.args.p.elements) c.requires.n c.size-size.ensures.lawful in
+    let list = subst (λ n. IsSubsetFrom 1 n c.args.p.elements) c.requires.n c.is_lawful.ensures.lawful in
     c.neg.ensures ∙ ap (map opposite) (c.index-cocircuits-place.is ∙ get_or_default c.args.cocircuits.now c.args.place _ [] t.0 ∙ t.1)
     ∙ row_odd m c.args.p.elements c.args.x list c.requires.off (c.if-odd_after.ensures.0 refl)
 
@@ -23,6 +23,6 @@ pub returns-else-odd_after : goal.returns-else-odd_after
 returns-else-odd_after c =
     let m = map_of c.args.raw.now in
     let t = row_in_table m c.args.p.elements c.args.x c.args.place c.with-with.result c.args.cocircuits.now (c.with-with.ensures.n ∙ c.requires.n) c.with-with.ensures.elements c.with-with.ensures.lawful c.requires.off c.requires.rank (c.requires.place ∙ ap (λ n. rank_of n (with_element c.args.x c.args.p.elements)) (sym c.with-with.ensures.n) ∙ ap (rank_of c.with-with.result.n) (sym c.with-with.ensures.elements)) c.requires.filled in
-    let list = subst (λ n. IsSubsetFrom 1 n c.args.p.elements) c.requires.n c.size-size.ensures.lawful in
+    let list = subst (λ n. IsSubsetFrom 1 n c.args.p.elements) c.requires.n c.is_lawful.ensures.lawful in
     c.index-cocircuits-place.is ∙ get_or_default c.args.cocircuits.now c.args.place _ [] t.0 ∙ t.1
     ∙ row_even m c.args.p.elements c.args.x list c.requires.off (λ o. false≢true (c.if-odd_after.ensures.1 o))

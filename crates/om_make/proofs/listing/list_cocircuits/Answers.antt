@@ -1,5 +1,4 @@
-use Rattle.std.proofs.Common.{subst, ◌≤◌}
-use Rattle.om_signs.specs.declared.limits.TheConstants.{MAX_ELEMENTS}
+use Rattle.std.proofs.Common.{subst}
 use Rattle.om_convert.specs.Limits.{IsCause}
 use Rattle.om_denotation.specs.Circuits.{IsCocircuitOfChirotope}
 use Rattle.om_make.proofs.CountLaws.{few_cocircuits}
@@ -8,7 +7,7 @@ use Rattle.om_make.proofs.listing.list_cocircuits.Goals as goal
 pub unreachable-requires-in-Err-TooMany : goal.unreachable-requires-in-Err-TooMany
 unreachable-requires-in-Err-TooMany c =
     let cause = subst (IsCause (IsCocircuitOfChirotope c.args.chi.now)) c.in-Err-TooMany.field-0-is c.in-Err-TooMany.ensures.many in
-    few_cocircuits c.args.chi.now c.requires (subst (λ k. k ≤ MAX_ELEMENTS) c.elements-elements.ensures.value c.elements-elements.ensures.high) cause.1
+    few_cocircuits c.args.chi.now c.requires c.is_lawful.ensures.high cause.1
 
 pub returns-in-Ok : goal.returns-in-Ok
-returns-in-Ok c = record { axioms = c.rank-rank.ensures.lawful; elements = c.in-Ok.ensures.elements; members = c.in-Ok.ensures.members; same = c.in-Ok.ensures.same }
+returns-in-Ok c = record { axioms = c.is_lawful.ensures.lawful; elements = c.in-Ok.ensures.elements; members = c.in-Ok.ensures.members; same = c.in-Ok.ensures.same }

@@ -1,6 +1,5 @@
-use Rattle.std.proofs.Common.{◌≤◌, subst}
+use Rattle.std.proofs.Common.{subst}
 use Rattle.om_denotation.specs.Covectors.{IsCovectorOfCocircuits}
-use Rattle.om_signs.specs.declared.limits.TheConstants.{MAX_ELEMENTS}
 use Rattle.om_convert.specs.Limits.{IsWidthCause}
 use Rattle.om_make.proofs.BackLaws.{back_from_cocircuits, narrow_cocircuits}
 use Rattle.om_make.proofs.return_trip.back_from_cocircuits.Goals as goal

@@ -1,6 +1,5 @@
-use Rattle.std.proofs.Common.{◌≤◌, subst}
+use Rattle.std.proofs.Common.{subst}
 use Rattle.std.specs.List.{Contains}
-use Rattle.om_signs.specs.declared.limits.TheConstants.{MAX_ELEMENTS}
 use Rattle.om_convert.specs.Limits.{IsWidthCause}
 use Rattle.om_make.proofs.BackLaws.{back_from_covectors, narrow_covectors}
 use Rattle.om_make.proofs.return_trip.back_from_covectors.Goals as goal

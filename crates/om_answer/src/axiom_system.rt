@@ -1,6 +1,6 @@
-/// A kind of document that an oriented matroid can be converted to.
+/// An axiom system that an oriented matroid can be converted to, each with its kind of document.
 #[derive(Clone, Copy, Debug, PartialEq, Eq)]
-pub enum Kind {
+pub enum AxiomSystem {
     /// The signs of its bases.
     Chirotope,
     /// Its signed circuits.
