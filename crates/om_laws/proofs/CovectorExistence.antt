@@ -1,3 +1,7 @@
+-- A finite list of sign vectors that meets the axioms of covectors has exactly the covectors of a chirotope.
+--
+-- Main results: least_axioms, the nonzero members of least support meet the axioms of circuits; covectors_chirotope, the map that they give is a
+-- chirotope; member_covector and covector_member, its covectors are the members.
 use Rattle.std.specs.Prelude.{ℕ, ◌≡◌, ◌⊎◌, refl, List, [], ◌∷◌}
 use Rattle.std.proofs.Common.{sym, subst, ⊎_elim, inl, inr}
 use Rattle.om_signs.specs.declared.sign.Sign.{Sign}

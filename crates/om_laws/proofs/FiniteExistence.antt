@@ -1,3 +1,6 @@
+-- A finite list of sign vectors that meets the axioms of circuits has exactly the cocircuits of a chirotope.
+--
+-- Main results: list_chirotope, the map of the list is a chirotope; list_member_cocircuit and list_cocircuit_member, its cocircuits are the members.
 use Rattle.std.specs.Prelude.{◌≡◌, ◌≢◌, ◌⊎◌, ℕ, ◌≤◌, List, [], ◌∷◌, ◌++◌, refl}
 use Rattle.std.proofs.Common.{zero, suc, sym, ap, ◌∙◌, subst, ⊎_elim, inl, inr, arith}
 use Rattle.std.proofs.lemmas.Bool.{cases_eq}

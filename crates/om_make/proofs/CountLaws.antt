@@ -1,6 +1,6 @@
--- How many cocircuits and mutations a chirotope of rank 3 may have, and counted signs.
+-- How many cocircuits and mutations a chirotope of rank 3 may have.
 --
--- Main results: few_cocircuits (no more than a list may have), few_mutations (no more than triples), count_more (one more sign).
+-- Main results: few_cocircuits (no more than a list may have), few_mutations (no more than triples), few_signs.
 use Rattle.std.specs.Prelude.{ℕ, ◌≡◌, ◌<◌, ◌≤◌, ◌+◌, ◌*◌, ◌-◌, List, [], ◌∷◌, ◌++◌, length, map, refl}
 use Rattle.std.specs.List.{Contains}
 use Rattle.std.proofs.Common.{zero, suc, get_or, sym, ◌∙◌, ap, subst, inl, inr, arith}

@@ -37,8 +37,7 @@ fn chirotope_of(alloc: Global, vectors: &Word) -> Result<Chirotope, NoMemory>
     requires { BeginsWithUnits vectors.now }
     ensures { IfOk result (λ c. c ≡ signs_map vectors.now) }
 {
-    // this call tells that there are no more vectors than elements may be
-    let _count = vectors.len();
+    vectors.is_lawful();
     match signs_of(alloc, vectors.as_slice()) {
         Ok(chi) => Ok(chi),
         Err(SignsError::RankLow) => unreachable!(),

@@ -42,6 +42,13 @@ impl Word {
         }
     }
 
+    /// There are at most [`MAX_ELEMENTS`] vectors. It does nothing: its contract is the fact.
+    pub fn is_lawful(&self)
+        ensures { length self.now ≤ MAX_ELEMENTS }
+    {
+        let _len = self.len;
+    }
+
     /// The number of vectors, at most [`MAX_ELEMENTS`].
     pub fn len(&self) -> u8
         ensures value { result ≡ length self.now }

@@ -48,6 +48,16 @@ impl<'a> Values<'a> {
         }
     }
 
+    /// The map meets the axioms, and its elements are from 1 to the greatest number. It does nothing: its contract is the
+    /// fact.
+    pub fn is_lawful(&self)
+        ensures lawful { IsChirotope self.now }
+        ensures low { 1 ≤ self.now.elements }
+        ensures high { self.now.elements ≤ MAX_ELEMENTS }
+    {
+        self.chi.is_lawful();
+    }
+
     /// The rank, which is 3.
     pub fn rank(&self) -> u8
         ensures value { result ≡ self.now.rank }
