@@ -40,10 +40,10 @@ fn carried(a: Subset, e: u8, h: u8, y: SignVec, sign: Sign) -> Sign
 /// The first element below e at which a vector is nonzero.
 fn first_below(y: SignVec, e: u8) -> Option<u8>
     requires { e ≤ length y }
-    ensures none { IfNone result ((h : ℕ) → 1 ≤ h → h < e → place y h ≡ Sign.Zero) }
+    ensures none { IfNone result ((h : ℕ) → 1 ≤ h → h < e → at_element y h ≡ Sign.Zero) }
     ensures low { IfSome result (λ h. 1 ≤ h) }
     ensures high { IfSome result (λ h. h < e) }
-    ensures nonzero { IfSome result (λ h. place y h ≢ Sign.Zero) }
+    ensures nonzero { IfSome result (λ h. at_element y h ≢ Sign.Zero) }
 {
     for h in 1..e {
         if y.get(h) != Sign::Zero {
