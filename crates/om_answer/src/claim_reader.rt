@@ -40,11 +40,7 @@ pub fn read_claim(alloc: Global, bytes: &[u8]) -> Result<Claim, ParseError>
     // A fault is named, unless memory runs out.
     ensures first { (line : ℕ) (code : Code) → IsClaimFault (lines bytes.now) line code → IsAnswerUnlessMemory result (Err (line, code)) }
 {
-    match parse_part(alloc, bytes) {
-        Ok((document, len, line)) => match read_block(alloc, &bytes[len..], line) {
-            Ok(verdict) => Ok(Claim { document, verdict }),
-            Err(error) => Err(error),
-        },
-        Err(error) => Err(error),
-    }
+    let (document, len, line) = parse_part(alloc, bytes)?;
+    let verdict = read_block(alloc, &bytes[len..], line)?;
+    Ok(Claim { document, verdict })
 }

@@ -40,10 +40,8 @@ pub fn circuits_to_cocircuits(alloc: Global, c: &Circuits) -> Result<Cocircuits,
     ensures refused { IfErr result (IsListCause c.now.0.elements (IsCovectorOfCircuits c.now.0) (IsOfLeastSupport (IsCovectorOfCircuits c.now.0))) }
 {
     let chi = circuits_to_chirotope(alloc, c)?;
-    match chirotope_to_cocircuits(alloc, &chi) {
-        Ok(cocircuits) => Ok(cocircuits),
-        Err(error) => Err(error),
-    }
+    let cocircuits = chirotope_to_cocircuits(alloc, &chi)?;
+    Ok(cocircuits)
 }
 
 /// The covectors of the oriented matroid with these circuits. Both have the same elements and denote the same oriented
@@ -66,10 +64,8 @@ pub fn circuits_to_covectors(alloc: Global, c: &Circuits) -> Result<Covectors, C
     ensures refused { IfErr result (IsListCause c.now.0.elements (IsCovectorOfCircuits c.now.0) (IsCovectorOfCircuits c.now.0)) }
 {
     let chi = circuits_to_chirotope(alloc, c)?;
-    match chirotope_to_covectors(alloc, &chi) {
-        Ok(covectors) => Ok(covectors),
-        Err(error) => Err(error),
-    }
+    let covectors = chirotope_to_covectors(alloc, &chi)?;
+    Ok(covectors)
 }
 
 /// The covectors of the oriented matroid with these cocircuits. Both have the same elements and denote the same
@@ -92,10 +88,8 @@ pub fn cocircuits_to_covectors(alloc: Global, c: &Cocircuits) -> Result<Covector
     ensures refused { IfErr result (IsListCause c.now.0.elements (IsCovectorOfCocircuits c.now.0) (IsCovectorOfCocircuits c.now.0)) }
 {
     let chi = cocircuits_to_chirotope(alloc, c)?;
-    match chirotope_to_covectors(alloc, &chi) {
-        Ok(covectors) => Ok(covectors),
-        Err(error) => Err(error),
-    }
+    let covectors = chirotope_to_covectors(alloc, &chi)?;
+    Ok(covectors)
 }
 
 /// The circuits of the oriented matroid with these cocircuits: its nonzero vectors of minimal support. Both have the
@@ -119,10 +113,8 @@ pub fn cocircuits_to_circuits(alloc: Global, c: &Cocircuits) -> Result<Circuits,
     ensures refused { IfErr result (IsListCause c.now.0.elements (IsCovectorOfCocircuits c.now.0) (IsOfLeastSupport (IsVectorOf c.now.0.elements (IsCovectorOfCocircuits c.now.0)))) }
 {
     let chi = cocircuits_to_chirotope(alloc, c)?;
-    match chirotope_to_circuits(alloc, &chi) {
-        Ok(circuits) => Ok(circuits),
-        Err(error) => Err(error),
-    }
+    let circuits = chirotope_to_circuits(alloc, &chi)?;
+    Ok(circuits)
 }
 
 /// The circuits of the oriented matroid with these covectors: its nonzero vectors of minimal support. Both have the
@@ -146,8 +138,6 @@ pub fn covectors_to_circuits(alloc: Global, c: &Covectors) -> Result<Circuits, C
     ensures refused { IfErr result (IsListCause c.now.elements (Contains c.now.members) (IsOfLeastSupport (IsVectorOf c.now.elements (Contains c.now.members)))) }
 {
     let chi = covectors_to_chirotope(alloc, c)?;
-    match chirotope_to_circuits(alloc, &chi) {
-        Ok(circuits) => Ok(circuits),
-        Err(error) => Err(error),
-    }
+    let circuits = chirotope_to_circuits(alloc, &chi)?;
+    Ok(circuits)
 }

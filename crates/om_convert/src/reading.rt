@@ -45,10 +45,8 @@ pub fn read_circuits<R: Threads + Sync>(
     ensures members { IfOk result (λ c. c.0.members ≡ list) }
     ensures refused { IfErr result (IsSetReadError list) }
 {
-    match read_set(rt, alloc, elements, list) {
-        Ok(set) => Ok(Circuits(set)),
-        Err(error) => Err(error),
-    }
+    let set = read_set(rt, alloc, elements, list)?;
+    Ok(Circuits(set))
 }
 
 /// The cocircuits of this list, whose members are distinct and have `elements` signs each, if they meet the axioms of circuits,
@@ -74,10 +72,8 @@ pub fn read_cocircuits<R: Threads + Sync>(
     ensures members { IfOk result (λ c. c.0.members ≡ list) }
     ensures refused { IfErr result (IsSetReadError list) }
 {
-    match read_set(rt, alloc, elements, list) {
-        Ok(set) => Ok(Cocircuits(set)),
-        Err(error) => Err(error),
-    }
+    let set = read_set(rt, alloc, elements, list)?;
+    Ok(Cocircuits(set))
 }
 
 /// The covectors of this list, whose members are distinct and have `elements` signs each, if they meet the axioms of

@@ -61,8 +61,6 @@ pub fn dual_covectors(alloc: Global, c: &Covectors) -> Result<Covectors, Convert
 {
     let chi = covectors_to_chirotope(alloc, c)?;
     let turned = dual(alloc, &chi)?;
-    match chirotope_to_covectors(alloc, &turned) {
-        Ok(covectors) => Ok(covectors),
-        Err(error) => Err(error),
-    }
+    let covectors = chirotope_to_covectors(alloc, &turned)?;
+    Ok(covectors)
 }

@@ -1,4 +1,5 @@
 use Rattle.std.proofs.Common.{ℕ, arith}
+use Rattle.std.proofs.lemmas.Result.{err_from_is_err_and}
 use Rattle.std.specs.Prelude.{Ok, Err}
 use Rattle.om_text.specs.Lines.{lines}
 use Rattle.om_text.specs.declared.document.Document.{Document}
@@ -6,35 +7,47 @@ use Rattle.om_answer.proofs.ClaimReading.{reads_claim, reads_every, reads_fault,
 use Rattle.om_answer.proofs.ClaimSizes.{evidence_within}
 use Rattle.om_answer.proofs.claim_reader.read_claim.Goals as goal
 
-pub returns-in-Ok-read_block-clause-claim : goal.returns-in-Ok-read_block-clause-claim
-returns-in-Ok-read_block-clause-claim c = reads_claim (Ok (record { document = c.in-Ok.document; verdict = c.in-Ok-read_block.verdict })) (lines c.args.bytes.now) (block_read c.in-Ok-read_block.verdict c.args.bytes.now c.in-Ok.document c.in-Ok.len c.in-Ok.line c.in-Ok.ensures.part c.in-Ok-read_block.ensures)
+pub returns-clause-claim : goal.returns-clause-claim
+returns-clause-claim c = reads_claim (Ok (record { document = c.in_ok-document.document; verdict = c.in_ok-verdict.verdict })) (lines c.args.bytes.now) (block_read c.in_ok-verdict.verdict c.args.bytes.now c.in_ok-document.document c.in_ok-document.len c.in_ok-document.line c.in_ok-document.ensures.part c.in_ok-verdict.ensures)
 
-pub returns-in-Ok-read_block-clause-evidence : goal.returns-in-Ok-read_block-clause-evidence
-returns-in-Ok-read_block-clause-evidence c few = evidence_within c.args.bytes.now (record { document = c.in-Ok.document; verdict = c.in-Ok-read_block.verdict }) (returns-in-Ok-read_block-clause-claim c) few
+pub returns-clause-evidence : goal.returns-clause-evidence
+returns-clause-evidence c few = evidence_within c.args.bytes.now (record { document = c.in_ok-document.document; verdict = c.in_ok-verdict.verdict }) (returns-clause-claim c) few
 
-pub returns-in-Ok-read_block-clause-every : goal.returns-in-Ok-read_block-clause-every
-returns-in-Ok-read_block-clause-every c = reads_every (Ok (record { document = c.in-Ok.document; verdict = c.in-Ok-read_block.verdict })) (lines c.args.bytes.now) (block_read c.in-Ok-read_block.verdict c.args.bytes.now c.in-Ok.document c.in-Ok.len c.in-Ok.line c.in-Ok.ensures.part c.in-Ok-read_block.ensures)
+pub returns-clause-every : goal.returns-clause-every
+returns-clause-every c = reads_every (Ok (record { document = c.in_ok-document.document; verdict = c.in_ok-verdict.verdict })) (lines c.args.bytes.now) (block_read c.in_ok-verdict.verdict c.args.bytes.now c.in_ok-document.document c.in_ok-document.len c.in_ok-document.line c.in_ok-document.ensures.part c.in_ok-verdict.ensures)
 
-pub returns-in-Ok-read_block-clause-first : goal.returns-in-Ok-read_block-clause-first
-returns-in-Ok-read_block-clause-first c = reads_first (Ok (record { document = c.in-Ok.document; verdict = c.in-Ok-read_block.verdict })) (lines c.args.bytes.now) (block_read c.in-Ok-read_block.verdict c.args.bytes.now c.in-Ok.document c.in-Ok.len c.in-Ok.line c.in-Ok.ensures.part c.in-Ok-read_block.ensures)
+pub returns-clause-first : goal.returns-clause-first
+returns-clause-first c = reads_first (Ok (record { document = c.in_ok-document.document; verdict = c.in_ok-verdict.verdict })) (lines c.args.bytes.now) (block_read c.in_ok-verdict.verdict c.args.bytes.now c.in_ok-document.document c.in_ok-document.len c.in_ok-document.line c.in_ok-document.ensures.part c.in_ok-verdict.ensures)
 
-pub returns-in-Err-read_block-clause-every : goal.returns-in-Err-read_block-clause-every
-returns-in-Err-read_block-clause-every c = reads_every (Err c.in-Err-read_block.error) (lines c.args.bytes.now) (block_refused c.in-Err-read_block.error c.args.bytes.now c.in-Ok.document c.in-Ok.len c.in-Ok.line c.in-Ok.ensures.part c.in-Err-read_block.ensures)
+pub returns-in_err-verdict-clause-every : goal.returns-in_err-verdict-clause-every
+returns-in_err-verdict-clause-every c =
+    let p = err_from_is_err_and c.from_residual-in_err-verdict.result c.from_residual-in_err-verdict.ensures.1 in
+    rw (p.1, p.2) (reads_every (Err c.in_err-verdict.field-0.0) (lines c.args.bytes.now) (block_refused c.in_err-verdict.field-0.0 c.args.bytes.now c.in_ok-document.document c.in_ok-document.len c.in_ok-document.line c.in_ok-document.ensures.part c.in_err-verdict.ensures))
 
-pub returns-in-Err-read_block-clause-fault : goal.returns-in-Err-read_block-clause-fault
-returns-in-Err-read_block-clause-fault c = reads_fault (Err c.in-Err-read_block.error) (lines c.args.bytes.now) (block_refused c.in-Err-read_block.error c.args.bytes.now c.in-Ok.document c.in-Ok.len c.in-Ok.line c.in-Ok.ensures.part c.in-Err-read_block.ensures)
+pub returns-in_err-verdict-clause-fault : goal.returns-in_err-verdict-clause-fault
+returns-in_err-verdict-clause-fault c =
+    let p = err_from_is_err_and c.from_residual-in_err-verdict.result c.from_residual-in_err-verdict.ensures.1 in
+    rw (p.1, p.2) (reads_fault (Err c.in_err-verdict.field-0.0) (lines c.args.bytes.now) (block_refused c.in_err-verdict.field-0.0 c.args.bytes.now c.in_ok-document.document c.in_ok-document.len c.in_ok-document.line c.in_ok-document.ensures.part c.in_err-verdict.ensures))
 
-pub returns-in-Err-read_block-clause-first : goal.returns-in-Err-read_block-clause-first
-returns-in-Err-read_block-clause-first c = reads_first (Err c.in-Err-read_block.error) (lines c.args.bytes.now) (block_refused c.in-Err-read_block.error c.args.bytes.now c.in-Ok.document c.in-Ok.len c.in-Ok.line c.in-Ok.ensures.part c.in-Err-read_block.ensures)
+pub returns-in_err-verdict-clause-first : goal.returns-in_err-verdict-clause-first
+returns-in_err-verdict-clause-first c =
+    let p = err_from_is_err_and c.from_residual-in_err-verdict.result c.from_residual-in_err-verdict.ensures.1 in
+    rw (p.1, p.2) (reads_first (Err c.in_err-verdict.field-0.0) (lines c.args.bytes.now) (block_refused c.in_err-verdict.field-0.0 c.args.bytes.now c.in_ok-document.document c.in_ok-document.len c.in_ok-document.line c.in_ok-document.ensures.part c.in_err-verdict.ensures))
 
-pub returns-in-Err-clause-every : goal.returns-in-Err-clause-every
-returns-in-Err-clause-every c = reads_every (Err c.in-Err.error) (lines c.args.bytes.now) (document_refused (Document × ℕ × ℕ) c.in-Err.error (lines c.args.bytes.now) c.in-Err.ensures.fault)
+pub returns-in_err-document-clause-every : goal.returns-in_err-document-clause-every
+returns-in_err-document-clause-every c =
+    let p = err_from_is_err_and c.from_residual.result c.from_residual.ensures.1 in
+    rw (p.1, p.2) (reads_every (Err c.in_err-document.field-0.0) (lines c.args.bytes.now) (document_refused (Document × ℕ × ℕ) c.in_err-document.field-0.0 (lines c.args.bytes.now) c.in_err-document.ensures.fault))
 
-pub returns-in-Err-clause-fault : goal.returns-in-Err-clause-fault
-returns-in-Err-clause-fault c = reads_fault (Err c.in-Err.error) (lines c.args.bytes.now) (document_refused (Document × ℕ × ℕ) c.in-Err.error (lines c.args.bytes.now) c.in-Err.ensures.fault)
+pub returns-in_err-document-clause-fault : goal.returns-in_err-document-clause-fault
+returns-in_err-document-clause-fault c =
+    let p = err_from_is_err_and c.from_residual.result c.from_residual.ensures.1 in
+    rw (p.1, p.2) (reads_fault (Err c.in_err-document.field-0.0) (lines c.args.bytes.now) (document_refused (Document × ℕ × ℕ) c.in_err-document.field-0.0 (lines c.args.bytes.now) c.in_err-document.ensures.fault))
 
-pub returns-in-Err-clause-first : goal.returns-in-Err-clause-first
-returns-in-Err-clause-first c = reads_first (Err c.in-Err.error) (lines c.args.bytes.now) (document_refused (Document × ℕ × ℕ) c.in-Err.error (lines c.args.bytes.now) c.in-Err.ensures.fault)
+pub returns-in_err-document-clause-first : goal.returns-in_err-document-clause-first
+returns-in_err-document-clause-first c =
+    let p = err_from_is_err_and c.from_residual.result c.from_residual.ensures.1 in
+    rw (p.1, p.2) (reads_first (Err c.in_err-document.field-0.0) (lines c.args.bytes.now) (document_refused (Document × ℕ × ℕ) c.in_err-document.field-0.0 (lines c.args.bytes.now) c.in_err-document.ensures.fault))
 
 pub read_block-requires : goal.read_block-requires
-read_block-requires c = let h = part_few c.args.bytes.now c.in-Ok.document c.in-Ok.len c.in-Ok.line c.in-Ok.ensures.part in omega (arith, h, c.requires)
+read_block-requires c = let h = part_few c.args.bytes.now c.in_ok-document.document c.in_ok-document.len c.in_ok-document.line c.in_ok-document.ensures.part in omega (arith, h, c.requires)

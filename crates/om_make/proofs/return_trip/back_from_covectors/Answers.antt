@@ -10,4 +10,4 @@ unreachable-requires c =
     narrow_covectors c.args.chi.now c.args.covectors.now c.requires.covectors c.requires.rank c.is_lawful.ensures.high c.in-Err-TooWide.field-0-0 cause
 
 pub returns-in-Ok : goal.returns-in-Ok
-returns-in-Ok c = back_from_covectors _ _ _ c.requires.covectors c.is_lawful-2.ensures.lawful c.in-Ok.ensures.elements c.in-Ok.ensures.same c.in-Ok.ensures.normal
+returns-in-Ok c = back_from_covectors _ _ _ c.requires.covectors c.is_lawful-in-Ok.ensures.lawful c.in-Ok.ensures.elements c.in-Ok.ensures.same c.in-Ok.ensures.normal

@@ -7,7 +7,7 @@ use Rattle.om_program.proofs.chirotope_choice.of_circuits.Goals as goal
 
 pub returns-in-Ok-clause-chosen : goal.returns-in-Ok-clause-chosen
 returns-in-Ok-clause-chosen c = record {
-  axioms = c.is_lawful-2.ensures.lawful;
+  axioms = c.is_lawful-in-Ok.ensures.lawful;
   elements = c.in-Ok.ensures.elements;
   same = c.in-Ok.ensures.same;
   normal = c.in-Ok.ensures.normal;
