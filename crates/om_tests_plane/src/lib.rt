@@ -2,6 +2,8 @@
 #![tactic(auto)]
 
 #[cfg(test)]
+mod helpers;
+#[cfg(test)]
 mod lexext;
 #[cfg(test)]
 mod localize;

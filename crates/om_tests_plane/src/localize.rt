@@ -1,5 +1,6 @@
 //! Numbers of extensions that are known, and listings compared with the axioms.
 
+use super::helpers::{Question, are_answered, chirotope_of_words};
 use om_localize::extensions;
 use om_samples::chirotope_of;
 use om_signs::{MAX_LINES, Sign};
@@ -7,84 +8,79 @@ use std::alloc::Global;
 use std::test::Fail;
 use std::thread::Threads;
 
-/// Chirotopes all of whose signs are plus, by their rank and their numbers of elements and of signs, how many lines are asked
-/// for, and how many are listed and whether there is a further one, or why there are none.
-const COUNTS: [(u8, u8, u32, u64, &str); 9] = [
-    (3, 3, 1, 1000, "27 false"),
-    (3, 4, 4, 1000, "75 false"),
-    (3, 4, 4, 75, "75 false"),
-    (3, 4, 4, 74, "74 true"),
-    (3, 9, 84, 2000, "2000 true"),
-    (3, 9, 84, 100_000, "10131 false"),
-    (2, 2, 1, 1, "NotRank3 { r: 2 }"),
-    (3, 19, 969, 1000, "1000 true"),
-    (3, 20, 1140, 1, "Full { n: 20 }"),
-];
-
-/// The letters of the signs.
-const LETTERS: [&str; 3] = ["-", "0", "+"];
+/// How many lines are asked for and chirotopes all of whose signs are plus, and how many lines are listed and whether there
+/// is a further one, or why there are none.
+const COUNTS: &str = "1000 3 3 all 1 | (27, false)
+1000 3 4 all 4 | (75, false)
+75 3 4 all 4 | (75, false)
+74 3 4 all 4 | (74, true)
+2000 3 9 all 84 | (2000, true)
+100000 3 9 all 84 | (10131, false)
+1 2 2 all 1 | NotRank3 { r: 2 }
+1000 3 19 all 969 | (1000, true)
+1 3 20 all 1140 | Full { n: 20 }";
 
 /// What the sign of each pair counts in the number of a signature of six signs.
 const POWERS: [u32; 6] = [243, 81, 27, 9, 3, 1];
 
-/// The triples of five elements in their order: for one of the first four elements its place among these, and for a pair
-/// with the fifth what its sign counts.
+/// The triples of five elements in their order: for one of the first four elements what its sign counts in a mask of pluses
+/// and minuses, and for a pair with the fifth what it counts in the number of a signature, and 0 for the other.
 const TRIPLES: [(u32, u32); 10] = [
-    (0, 0),
     (1, 0),
-    (0, 243),
     (2, 0),
+    (0, 243),
+    (4, 0),
     (0, 81),
     (0, 27),
-    (3, 0),
+    (8, 0),
     (0, 9),
     (0, 3),
     (0, 1),
 ];
 
-/// The answer for the chirotope of a rank with this many elements and signs, which are all plus.
-fn counted<R: Threads + Sync>(
-    rt: &R,
-    alloc: Global,
-    rank: u8,
-    elements: u8,
-    size: u32,
-    first: u64,
-) -> Result<String, Fail> {
-    let mut signs = String::new(alloc);
-    for _ in 0..size {
-        signs.push_str("+")?;
+/// How many extensions of a chirotope are listed and whether there is a further one, or why there are none.
+pub fn counted<R: Threads + Sync>(rt: &R, alloc: Global, words: &str) -> Result<String, Fail> {
+    let (first, map) = words.split_once(' ').ok_or("no number of lines")?;
+    let first: u64 = first.parse()?;
+    let chi = chirotope_of_words(rt, alloc, map)?;
+    if first < 1 || MAX_LINES < first {
+        return Err(Fail::new("out of range"));
     }
-    let chi = chirotope_of(rt, alloc, rank, elements, signs.as_str())?;
-    match extensions(rt, alloc, &chi, first.clamp(1, MAX_LINES)) {
+    match extensions(rt, alloc, &chi, first) {
         Ok(listing) => {
-            let (size, more) = (listing.lines.len(), listing.more);
-            Ok(format!(in alloc; "{size} {more}")?)
+            let found = (listing.lines.len(), listing.more);
+            Ok(format!(in alloc; "{found:?}")?)
         }
         Err(why) => Ok(format!(in alloc; "{why:?}")?),
     }
 }
 
-/// The letter of the sign with a place in a number of base 3.
+/// The letter of the sign that counts this in a number of base 3.
 fn digit(number: u32, power: u32) -> &'static str {
-    LETTERS[(number / power.max(1) % 3) as usize]
+    match number / power.max(1) % 3 {
+        0 => "-",
+        1 => "0",
+        _ => "+",
+    }
 }
 
-/// The letter of the sign with a place in a mask of pluses and minuses.
-fn bit(mask: u32, place: u32) -> &'static str {
-    LETTERS[(2 * (mask >> (place % 32) & 1)) as usize]
+/// The letter of the sign that counts this in a mask of pluses and minuses.
+fn bit(mask: u32, power: u32) -> &'static str {
+    match mask / power.max(1) % 2 {
+        0 => "-",
+        _ => "+",
+    }
 }
 
 /// The signs of the map on five elements with the signs of a mask on four, and the signature with a number.
 fn extended(alloc: Global, mask: u32, number: u32) -> Result<String, Fail> {
     let mut text = String::new(alloc);
-    for (place, power) in TRIPLES {
-        let letter = if power == 0 {
-            bit(mask, place)
+    for (old, new) in TRIPLES {
+        text.push_str(if new == 0 {
+            bit(mask, old)
         } else {
-            digit(number, power)
-        };
-        text.push_str(letter)?;
+            digit(number, new)
+        })?;
     }
     Ok(text)
 }
@@ -106,8 +102,8 @@ fn by_axioms<R: Threads + Sync>(rt: &R, alloc: Global, mask: u32) -> Result<Stri
 /// The signatures that are listed for the chirotope with the signs of a mask.
 fn by_listing<R: Threads + Sync>(rt: &R, alloc: Global, mask: u32) -> Result<String, Fail> {
     let mut signs = String::new(alloc);
-    for place in 0..4 {
-        signs.push_str(bit(mask, place))?;
+    for power in [1, 2, 4, 8] {
+        signs.push_str(bit(mask, power))?;
     }
     let chi = chirotope_of(rt, alloc, 3, 4, signs.as_str())?;
     let mut text = String::new(alloc);
@@ -133,11 +129,7 @@ fn letter_of(sign: Sign) -> &'static str {
 
 #[test]
 fn numbers_of_extensions(rt: HostRuntime) -> Result<(), Fail> {
-    for (rank, elements, size, first, wanted) in COUNTS {
-        let answer = counted(&rt, rt.alloc(), rank, elements, size, first)?;
-        assert_eq!(rt; answer.as_str(), wanted);
-    }
-    Ok(())
+    are_answered(&rt, rt.alloc(), Question::Extensions, COUNTS)
 }
 
 #[test]
@@ -145,8 +137,7 @@ fn all_chirotopes_on_four_elements(rt: HostRuntime) -> Result<(), Fail> {
     for mask in 0..16 {
         let found = by_listing(&rt, rt.alloc(), mask)?;
         let wanted = by_axioms(&rt, rt.alloc(), mask)?;
-        assert_eq!(rt; found.as_str(), wanted.as_str());
-        assert_eq!(rt; found.len(), 75 * 7);
+        assert!(rt; found.as_str() == wanted.as_str() && found.len() == 75 * 7);
     }
     Ok(())
 }

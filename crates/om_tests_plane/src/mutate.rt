@@ -1,165 +1,118 @@
 //! Mutations and flips worked out by hand.
 
-ghost use Rattle.std.specs.Prelude.{◌≡◌, IfOk, length};
-
-use om_mutate::{flip, flip_wiring, mutations};
-use om_samples::{chirotope_of, text_of_map};
-use om_signs::{Block, List, MAX_BLOCKS, NoMemory};
+use super::helpers::{Question, are_answered, chirotope_of_words, text_of_blocks, wiring_of_words};
+use om_mutate::{BadFlip, flip, flip_wiring, mutations};
+use om_samples::text_of_map;
 use om_subsets::Subset;
-use om_wiring::{Wiring, check, chirotope};
+use om_wiring::{Wiring, chirotope};
 use std::alloc::Global;
 use std::test::Fail;
 use std::thread::Threads;
 
-/// The masks of the mutations of a chirotope, or why there are none.
-fn listed<R: Threads + Sync>(
-    rt: &R,
-    alloc: Global,
-    rank: u8,
-    elements: u8,
-    signs: &str,
-) -> Result<String, Fail> {
-    let chi = chirotope_of(rt, alloc, rank, elements, signs)?;
+/// Chirotopes and their mutations, or why there are none. In the third 1, 2 and 3 are on a line, and each other triple is a
+/// mutation.
+const MUTATIONS: &str =
+    "3 4 ++++ | [Subset { mask: 7, n: 4 }, Subset { mask: 11, n: 4 }, Subset { mask: 13, n: 4 }, Subset { mask: 14, n: 4 }]
+3 5 ++++++++++ | [Subset { mask: 7, n: 5 }, Subset { mask: 19, n: 5 }, Subset { mask: 25, n: 5 }, Subset { mask: 14, n: 5 }, Subset { mask: 28, n: 5 }]
+3 4 0+++ | [Subset { mask: 11, n: 4 }, Subset { mask: 13, n: 4 }, Subset { mask: 14, n: 4 }]
+1 1 + | NotRank3 { r: 1 }";
+
+/// Places of triples among all in lexicographic order, counted from 0, with chirotopes, and the maps with the triples
+/// flipped, or why there is none; then the map came back as it was.
+const FLIPS: &str = "0 3 4 ++++ | 3 4 -+++
+1 3 5 ++++++++++ | NotMutation { s: Subset { mask: 15, n: 5 }, a: Subset { mask: 17, n: 5 } }
+0 3 4 0+++ | NotBasis";
+
+/// Steps with a wiring diagram, and the wiring diagram and its map when the triangle at the step is flipped, or those that
+/// came back where there is none.
+const TRIANGLES: &str = "1 4 1-2 2-3 1-2 3-4 2-3 1-2 | flipped 2-3 1-2 2-3 3-4 2-3 1-2 3 4 -+++
+4 4 1-2 2-3 1-2 3-4 2-3 1-2 | none 1-2 2-3 1-2 3-4 2-3 1-2 3 4 ++++
+5 4 1-2 2-3 1-2 3-4 2-3 1-2 | none 1-2 2-3 1-2 3-4 2-3 1-2 3 4 ++++";
+
+/// The mutations of a chirotope, or why there are none.
+pub fn listed<R: Threads + Sync>(rt: &R, alloc: Global, words: &str) -> Result<String, Fail> {
+    let chi = chirotope_of_words(rt, alloc, words)?;
     match mutations(alloc, &chi) {
+        Ok(found) => Ok(format!(in alloc; "{:?}", found.as_slice())?),
         Err(why) => Ok(format!(in alloc; "{why:?}")?),
-        Ok(found) => {
-            let mut text = String::new(alloc);
-            for set in found.as_slice() {
-                let mask = set.mask();
-                text.push_str(format!(in alloc; "{mask:b} ")?.as_str())?;
-            }
-            Ok(text)
-        }
     }
 }
 
-/// The map of a chirotope with one triple flipped, or why there is none and the map that came back.
-fn flipped<R: Threads + Sync>(
+/// How many mutations a chirotope has.
+pub fn mutation_count<R: Threads + Sync>(
     rt: &R,
     alloc: Global,
-    elements: u8,
-    signs: &str,
-    mask: u32,
+    words: &str,
 ) -> Result<String, Fail> {
-    let chi = chirotope_of(rt, alloc, 3, elements, signs)?;
+    let chi = chirotope_of_words(rt, alloc, words)?;
+    let size = mutations(alloc, &chi)?.len();
+    Ok(format!(in alloc; "{size}")?)
+}
+
+/// Why a triple can't be flipped, where the map that came back is the one of some words.
+fn text_of_bad(alloc: Global, bad: BadFlip, words: &str) -> Result<String, Fail> {
+    let kept = text_of_map(alloc, &bad.kept.into_raw())?;
+    if kept.as_str() != words {
+        return Err(Fail::new("not the map that was given"));
+    }
+    Ok(format!(in alloc; "{:?}", bad.why)?)
+}
+
+/// The map of a chirotope with one triple flipped, or why there is none.
+pub fn flipped<R: Threads + Sync>(rt: &R, alloc: Global, words: &str) -> Result<String, Fail> {
+    let (place, map) = words.split_once(' ').ok_or("no triple")?;
+    let place: u32 = place.parse()?;
+    let chi = chirotope_of_words(rt, alloc, map)?;
     let n = chi.elements();
-    let triple = Subset::from_mask(mask & ((1u32 << n) - 1), n);
-    if triple.size() != 3 {
-        return Ok(String::new(alloc));
+    if n < 3 || Subset::choose(n, 3) <= place {
+        return Err(Fail::new("no triple"));
     }
-    match flip(chi, triple) {
-        Ok(c) => Ok(text_of_map(alloc, &c.into_raw())?),
-        Err(bad) => {
-            let kept = text_of_map(alloc, &bad.kept.into_raw())?;
-            Ok(format!(in alloc; "{:?}, {}", bad.why, kept.as_str())?)
-        }
+    match flip(chi, Subset::unrank(place, 3, n)) {
+        Ok(turned) => Ok(text_of_map(alloc, &turned.into_raw())?),
+        Err(bad) => text_of_bad(alloc, bad, map),
     }
 }
 
-/// The blocks with these first and last positions.
-fn blocks_of(alloc: Global, pairs: &[(u16, u16)]) -> Result<List<Block>, NoMemory>
-    ensures { IfOk result (λ l. length l ≡ length pairs.now) }
-{
-    let mut blocks = List::new(alloc);
-    for pair in pairs {
-        blocks.push(Block {
-            first: pair.0,
-            last: pair.1,
-        })?;
-    }
-    Ok(blocks)
-}
-
-/// The blocks of a wiring diagram of four wires and its map, as `1-2 2-3 3 4 ++++`.
-fn text_of(alloc: Global, w: &Wiring) -> Result<String, Fail> {
-    let mut text = String::new(alloc);
-    for block in w.blocks() {
-        let (first, last) = (block.first, block.last);
-        text.push_str(format!(in alloc; "{first}-{last} ")?.as_str())?;
-    }
+/// A text, the blocks of a wiring diagram and its map.
+fn with_map(alloc: Global, front: &str, w: &Wiring) -> Result<String, Fail> {
+    let mut text = text_of_blocks(alloc, front, w.blocks())?;
     let map = text_of_map(alloc, &chirotope(alloc, w)?.into_raw())?;
     text.push_str(map.as_str())?;
     Ok(text)
 }
 
-/// The wiring diagram of four wires with the triangle at a step flipped, and whether there was one.
-fn turned(alloc: Global, pairs: &[(u16, u16)], step: u32) -> Result<String, Fail> {
-    if pairs.len() > MAX_BLOCKS {
-        return Ok(String::new(alloc));
-    }
-    match check(4, blocks_of(alloc, pairs)?) {
-        Err(bad) => Ok(format!(in alloc; "{:?}", bad.why)?),
-        Ok(w) => match flip_wiring(w, step) {
-            Ok(other) => text_of(alloc, &other),
-            Err(none) => {
-                let kept = text_of(alloc, &none.kept)?;
-                Ok(format!(in alloc; "none, {}", kept.as_str())?)
-            }
-        },
+/// The wiring diagram with the triangle at a step flipped, and whether there was one.
+pub fn turned(alloc: Global, words: &str) -> Result<String, Fail> {
+    let (step, diagram) = words.split_once(' ').ok_or("no step")?;
+    let w = wiring_of_words(alloc, diagram)?.ok().ok_or("refused")?;
+    match flip_wiring(w, step.parse()?) {
+        Ok(other) => with_map(alloc, "flipped ", &other),
+        Err(none) => with_map(alloc, "none ", &none.kept),
     }
 }
 
 #[test]
 fn mutations_listed(rt: HostRuntime) -> Result<(), Fail> {
-    let rows = [
-        (3, 4, "++++", "111 1011 1101 1110 "),
-        (3, 5, "++++++++++", "111 10011 11001 1110 11100 "),
-        // 1, 2 and 3 on a line: each other triple
-        (3, 4, "0+++", "1011 1101 1110 "),
-        (1, 1, "+", "NotRank3 { r: 1 }"),
-    ];
-    for (rank, elements, signs, wanted) in rows {
-        let text = listed(&rt, rt.alloc(), rank, elements, signs)?;
-        assert_eq!(rt; text.as_str(), wanted);
-    }
-    Ok(())
+    are_answered(&rt, rt.alloc(), Question::Mutations, MUTATIONS)
 }
 
 // A chirotope of rank 3 on n elements with all signs plus has n mutations, for 4 elements or more.
 #[test]
 fn mutations_of_twenty(rt: HostRuntime) -> Result<(), Fail> {
-    let mut signs = String::new(rt.alloc());
-    for _k in 0..1140 {
-        signs.push_str("+")?;
-    }
-    let chi = chirotope_of(&rt, rt.alloc(), 3, 20, signs.as_str())?;
-    match mutations(rt.alloc(), &chi) {
-        Ok(found) => assert_eq!(rt; found.as_slice().len(), 20),
-        Err(_) => panic!(rt; "refused"),
-    }
-    Ok(())
+    are_answered(
+        &rt,
+        rt.alloc(),
+        Question::MutationCount,
+        "3 20 all 1140 | 20",
+    )
 }
 
 #[test]
 fn flips(rt: HostRuntime) -> Result<(), Fail> {
-    let rows = [
-        (4, "++++", 0b0111, "3 4 -+++"),
-        (
-            5,
-            "++++++++++",
-            0b01011,
-            "NotMutation { s: Subset { mask: 15, n: 5 }, a: Subset { mask: 17, n: 5 } }, 3 5 ++++++++++",
-        ),
-        (4, "0+++", 0b0111, "NotBasis, 3 4 0+++"),
-    ];
-    for (elements, signs, mask, wanted) in rows {
-        let text = flipped(&rt, rt.alloc(), elements, signs, mask)?;
-        assert_eq!(rt; text.as_str(), wanted);
-    }
-    Ok(())
+    are_answered(&rt, rt.alloc(), Question::Flip, FLIPS)
 }
 
 #[test]
 fn triangles(rt: HostRuntime) -> Result<(), Fail> {
-    let pairs = [(1, 2), (2, 3), (1, 2), (3, 4), (2, 3), (1, 2)];
-    let rows = [
-        (1, "2-3 1-2 2-3 3-4 2-3 1-2 3 4 -+++"),
-        (4, "none, 1-2 2-3 1-2 3-4 2-3 1-2 3 4 ++++"),
-        (5, "none, 1-2 2-3 1-2 3-4 2-3 1-2 3 4 ++++"),
-    ];
-    for (step, wanted) in rows {
-        let text = turned(rt.alloc(), &pairs, step)?;
-        assert_eq!(rt; text.as_str(), wanted);
-    }
-    Ok(())
+    are_answered(&rt, rt.alloc(), Question::Triangle, TRIANGLES)
 }
