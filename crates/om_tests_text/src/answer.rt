@@ -19,223 +19,222 @@ fn subset(mask: u32) -> Subset
     Subset::from_mask(mask, 9)
 }
 
-/// Whether a line has this text.
-fn is_printed(alloc: Global, line: Line, text: &str) -> Result<bool, NoMemory> {
-    let printed = print_line(alloc, &line)?;
-    Ok(printed.as_slice() == text.as_bytes())
+/// The texts of lines, one behind another.
+fn texts_of(alloc: Global, lines: &[Line]) -> Result<Vec<u8>, NoMemory> {
+    let mut texts = Vec::new(alloc);
+    for line in lines {
+        texts.extend_from_slice(print_line(alloc, line)?.as_slice())?;
+    }
+    Ok(texts)
 }
+
+/// Whether lines have these texts.
+fn are_printed(alloc: Global, lines: &[Line], texts: &str) -> Result<bool, NoMemory> {
+    let printed = texts_of(alloc, lines)?;
+    Ok(printed.as_slice() == texts.as_bytes())
+}
+
+/// The texts of the lines without fields.
+const WITHOUT_FIELDS: &str = "accepted
+covector
+not covector
+valid realizable
+valid nonrealizable
+valid undecided
+refused long
+refused allzero
+refused nozero
+refused notreversed
+refused ranklow
+refused flatrank
+refused lastelement
+refused notbasis
+refused notmap
+refused nocertificate
+refused nostrict
+";
 
 #[test]
 fn lines_without_fields(rt: HostRuntime) -> Result<(), Fail> {
-    for (line, text) in [
-        (Line::Accepted, "accepted\n"),
-        (Line::Covector, "covector\n"),
-        (Line::NotCovector, "not covector\n"),
-        (Line::ValidRealizable, "valid realizable\n"),
-        (Line::ValidNonrealizable, "valid nonrealizable\n"),
-        (Line::ValidUndecided, "valid undecided\n"),
-        (Line::RefusedLong, "refused long\n"),
-        (Line::RefusedAllzero, "refused allzero\n"),
-        (Line::RefusedNozero, "refused nozero\n"),
-        (Line::RefusedNotreversed, "refused notreversed\n"),
-        (Line::RefusedRanklow, "refused ranklow\n"),
-        (Line::RefusedFlatrank, "refused flatrank\n"),
-        (Line::RefusedLastelement, "refused lastelement\n"),
-        (Line::RefusedNotbasis, "refused notbasis\n"),
-        (Line::RefusedNotmap, "refused notmap\n"),
-        (Line::RefusedNocertificate, "refused nocertificate\n"),
-        (Line::RefusedNostrict, "refused nostrict\n"),
-    ] {
-        assert!(rt; is_printed(rt.alloc(), line, text)?, "{text}");
-    }
+    let lines = [
+        Line::Accepted,
+        Line::Covector,
+        Line::NotCovector,
+        Line::ValidRealizable,
+        Line::ValidNonrealizable,
+        Line::ValidUndecided,
+        Line::RefusedLong,
+        Line::RefusedAllzero,
+        Line::RefusedNozero,
+        Line::RefusedNotreversed,
+        Line::RefusedRanklow,
+        Line::RefusedFlatrank,
+        Line::RefusedLastelement,
+        Line::RefusedNotbasis,
+        Line::RefusedNotmap,
+        Line::RefusedNocertificate,
+        Line::RefusedNostrict,
+    ];
+    assert!(rt; are_printed(rt.alloc(), &lines, WITHOUT_FIELDS)?);
     Ok(())
 }
+
+/// The texts of the lines with numbers.
+const WITH_NUMBERS: &str = "usage 1
+limit members 4096
+limit values 184756
+refused zero 2
+refused nonegative 1
+refused nested 1 3
+refused noelimination 2 1 2
+refused nocomposition 2 4
+refused range 2
+refused notincreasing 2
+refused length 3
+refused place 5
+refused notrank3 2
+refused full 20
+refused colour 1
+refused number 4 0
+refused unlawful 7
+refused bracket 10
+refused weightfails 1 2 3 4 19 2 3
+";
 
 #[test]
 fn lines_with_numbers(rt: HostRuntime) -> Result<(), Fail> {
-    for (line, text) in [
-        (Line::Usage { word: 1 }, "usage 1\n"),
-        (Line::LimitMembers { limit: 4096 }, "limit members 4096\n"),
-        (
-            Line::LimitValues { values: 184_756 },
-            "limit values 184756\n",
-        ),
-        (Line::RefusedZero { i: 2 }, "refused zero 2\n"),
-        (Line::RefusedNonegative { i: 1 }, "refused nonegative 1\n"),
-        (Line::RefusedNested { i: 1, j: 3 }, "refused nested 1 3\n"),
-        (
-            Line::RefusedNoelimination { i: 2, j: 1, e: 2 },
-            "refused noelimination 2 1 2\n",
-        ),
-        (
-            Line::RefusedNocomposition { i: 2, j: 4 },
-            "refused nocomposition 2 4\n",
-        ),
-        (Line::RefusedRange { step: 2 }, "refused range 2\n"),
-        (
-            Line::RefusedNotincreasing { step: 2 },
-            "refused notincreasing 2\n",
-        ),
-        (Line::RefusedLength { given: 3 }, "refused length 3\n"),
-        (Line::RefusedPlace { e: 5 }, "refused place 5\n"),
-        (Line::RefusedNotrank3 { r: 2 }, "refused notrank3 2\n"),
-        (Line::RefusedFull { n: 20 }, "refused full 20\n"),
-        (Line::RefusedColour { e: 1 }, "refused colour 1\n"),
-        (
-            Line::RefusedNumber {
-                wanted: 4,
-                given: 0,
-            },
-            "refused number 4 0\n",
-        ),
-        (Line::RefusedUnlawful { entry: 7 }, "refused unlawful 7\n"),
-        (Line::RefusedBracket { entry: 10 }, "refused bracket 10\n"),
-        (
-            Line::RefusedWeightfails {
-                statement: Statement {
-                    a: 1,
-                    b: 2,
-                    c: 3,
-                    d: 4,
-                    e: 19,
-                    small: 2,
-                    big: 3,
-                    strict: true,
-                },
-            },
-            "refused weightfails 1 2 3 4 19 2 3\n",
-        ),
-    ] {
-        assert!(rt; is_printed(rt.alloc(), line, text)?, "{text}");
-    }
+    let statement = Statement {
+        a: 1,
+        b: 2,
+        c: 3,
+        d: 4,
+        e: 19,
+        small: 2,
+        big: 3,
+        strict: true,
+    };
+    let lines = [
+        Line::Usage { word: 1 },
+        Line::LimitMembers { limit: 4096 },
+        Line::LimitValues { values: 184_756 },
+        Line::RefusedZero { i: 2 },
+        Line::RefusedNonegative { i: 1 },
+        Line::RefusedNested { i: 1, j: 3 },
+        Line::RefusedNoelimination { i: 2, j: 1, e: 2 },
+        Line::RefusedNocomposition { i: 2, j: 4 },
+        Line::RefusedRange { step: 2 },
+        Line::RefusedNotincreasing { step: 2 },
+        Line::RefusedLength { given: 3 },
+        Line::RefusedPlace { e: 5 },
+        Line::RefusedNotrank3 { r: 2 },
+        Line::RefusedFull { n: 20 },
+        Line::RefusedColour { e: 1 },
+        Line::RefusedNumber {
+            wanted: 4,
+            given: 0,
+        },
+        Line::RefusedUnlawful { entry: 7 },
+        Line::RefusedBracket { entry: 10 },
+        Line::RefusedWeightfails { statement },
+    ];
+    assert!(rt; are_printed(rt.alloc(), &lines, WITH_NUMBERS)?);
     Ok(())
 }
 
+/// The texts of the lines with codes.
+const WITH_CODES: &str = "refused line 3 many
+refused line 2 elements 21
+refused line 2 rank 5
+refused line 2 size 19448
+refused line 4 setting
+";
+
 #[test]
-fn lines_with_sets_and_codes(rt: HostRuntime) -> Result<(), Fail> {
-    for (line, text) in [
-        (
-            Line::RefusedRelation {
-                s: subset(0b111),
-                a: subset(0b1000),
-            },
-            "refused relation 1,2,3 4\n",
-        ),
-        (
-            Line::RefusedRelation {
-                s: subset(0b1),
-                a: subset(0),
-            },
-            "refused relation 1 none\n",
-        ),
-        (
-            Line::RefusedNotsweepable {
-                s: subset(0b1111),
-                a: subset(0b1_0001),
-            },
-            "refused notsweepable 1,2,3,4 1,5\n",
-        ),
-        (
-            Line::RefusedNotmutation {
-                s: subset(0b1111),
-                a: subset(0b1_0001),
-            },
-            "refused notmutation 1,2,3,4 1,5\n",
-        ),
-        (
-            Line::RefusedNoexchange {
-                b: subset(0b11),
-                c: subset(0b1100),
-                e: 1,
-            },
-            "refused noexchange 1,2 3,4 1\n",
-        ),
-        (
-            Line::RefusedThreeterm {
-                p: subset(0),
-                q: subset(0b1111),
-            },
-            "refused threeterm none 1,2,3,4\n",
-        ),
-        (
-            Line::RefusedWrongsign {
-                triple: subset(0b1101),
-            },
-            "refused wrongsign 1,3,4\n",
-        ),
-        (
-            Line::RefusedUnbalanced {
-                bracket: subset(0b1100_0001),
-                small: 1,
-                big: u128::MAX,
-            },
-            "refused unbalanced 1,7,8 1 340282366920938463463374607431768211455\n",
-        ),
-        (
-            Line::RefusedLine {
-                line: 3,
-                code: Code::Many,
-            },
-            "refused line 3 many\n",
-        ),
-        (
-            Line::RefusedLine {
-                line: 2,
-                code: Code::Elements { n: 21 },
-            },
-            "refused line 2 elements 21\n",
-        ),
-        (
-            Line::RefusedLine {
-                line: 2,
-                code: Code::Rank { r: 5 },
-            },
-            "refused line 2 rank 5\n",
-        ),
-        (
-            Line::RefusedLine {
-                line: 2,
-                code: Code::Size { values: 19_448 },
-            },
-            "refused line 2 size 19448\n",
-        ),
-        (
-            Line::RefusedLine {
-                line: 4,
-                code: Code::Setting,
-            },
-            "refused line 4 setting\n",
-        ),
-    ] {
-        assert!(rt; is_printed(rt.alloc(), line, text)?, "{text}");
-    }
+fn lines_with_codes(rt: HostRuntime) -> Result<(), Fail> {
+    let lines = [
+        (3, Code::Many),
+        (2, Code::Elements { n: 21 }),
+        (2, Code::Rank { r: 5 }),
+        (2, Code::Size { values: 19_448 }),
+        (4, Code::Setting),
+    ]
+    .map(|(line, code)| Line::RefusedLine { line, code });
+    assert!(rt; are_printed(rt.alloc(), &lines, WITH_CODES)?);
+    Ok(())
+}
+
+/// The texts of the lines with sets.
+const WITH_SETS: &str = "refused relation 1,2,3 4
+refused relation 1 none
+refused notsweepable 1,2,3,4 1,5
+refused notmutation 1,2,3,4 1,5
+refused noexchange 1,2 3,4 1
+refused threeterm none 1,2,3,4
+refused wrongsign 1,3,4
+refused unbalanced 1,7,8 1 340282366920938463463374607431768211455
+";
+
+#[test]
+fn lines_with_sets(rt: HostRuntime) -> Result<(), Fail> {
+    let none = subset(0);
+    let one = subset(0b1);
+    let four = subset(0b1000);
+    let one_two = subset(0b11);
+    let one_five = subset(0b1_0001);
+    let three_four = subset(0b1100);
+    let first_three = subset(0b111);
+    let first_four = subset(0b1111);
+    let lines = [
+        Line::RefusedRelation {
+            s: first_three,
+            a: four,
+        },
+        Line::RefusedRelation { s: one, a: none },
+        Line::RefusedNotsweepable {
+            s: first_four,
+            a: one_five,
+        },
+        Line::RefusedNotmutation {
+            s: first_four,
+            a: one_five,
+        },
+        Line::RefusedNoexchange {
+            b: one_two,
+            c: three_four,
+            e: 1,
+        },
+        Line::RefusedThreeterm {
+            p: none,
+            q: first_four,
+        },
+        Line::RefusedWrongsign {
+            triple: subset(0b1101),
+        },
+        Line::RefusedUnbalanced {
+            bracket: subset(0b1100_0001),
+            small: 1,
+            big: u128::MAX,
+        },
+    ];
+    assert!(rt; are_printed(rt.alloc(), &lines, WITH_SETS)?);
     Ok(())
 }
 
 #[test]
 fn lines_with_sign_vectors(rt: HostRuntime) -> Result<(), Fail> {
-    for (line, text) in [
-        (
-            Line::Circuit {
-                x: vector_of(4, "+-+-"),
-            },
-            "circuit +-+-\n",
-        ),
-        (
-            Line::Cocircuit {
-                x: vector_of(4, "+00+"),
-            },
-            "cocircuit +00+\n",
-        ),
-        (
-            Line::Cyclic {
-                x: vector_of(4, "++++"),
-            },
-            "cyclic ++++\n",
-        ),
-    ] {
-        assert!(rt; is_printed(rt.alloc(), line, text)?, "{text}");
-    }
+    let lines = [
+        Line::Circuit {
+            x: vector_of(4, "+-+-"),
+        },
+        Line::Cocircuit {
+            x: vector_of(4, "+00+"),
+        },
+        Line::Cyclic {
+            x: vector_of(4, "++++"),
+        },
+    ];
+    let texts = "circuit +-+-\ncocircuit +00+\ncyclic ++++\n";
+    assert!(rt; are_printed(rt.alloc(), &lines, texts)?);
     Ok(())
 }
 

@@ -3,12 +3,14 @@
 ghost use Rattle.std.specs.Prelude.{◌≤◌, length};
 ghost use Rattle.om_signs.specs.declared.limits.TheConstants.{MAX_INPUT};
 
-use om_answer::verdict_lines::push_block;
+use super::helpers::{ALONE, Around, Question, are_answered, or_memory, with_copies};
 use om_answer::{Line, print_line, read_claim};
-use om_signs::MAX_INPUT;
+use om_certificate::{Entry, LpEnd, Verdict, Weight};
+use om_signs::NoMemory;
+use om_simplex::Stage;
 use om_text::{ParseError, print};
+use om_vectors::{Unfound, Vector};
 use std::alloc::Global;
-use std::process::Abort;
 use std::test::Fail;
 
 /// The chirotope of rank 3 on four elements with all values plus.
@@ -187,18 +189,113 @@ limit/width price 1 0 1000000/ = 6 entry
 limit/width price 1 0/ = 6 entry
 limit/width 1 0 1/ = 6 entry";
 
-/// A text with what stands before and behind it.
-fn joined(alloc: Global, around: (&str, &str), text: &str) -> Result<String, Fail> {
-    let (before, behind) = around;
-    let whole = format!(in alloc; "{before}{text}{behind}")?;
-    Ok(whole.replace(alloc, "/", "\n")?)
+/// What stands before and behind the line and the code of a fault.
+const REFUSED: Around<'static> = ("refused line ", "/");
+
+/// The lines of vectors.
+fn vector_lines(alloc: Global, vectors: &[Vector]) -> Result<String, NoMemory> {
+    let mut text = String::new(alloc);
+    for vector in vectors {
+        let (x, y, z) = (vector.x(), vector.y(), vector.z());
+        text.push_str(format!(in alloc; "vector {x} {y} {z}\n")?.as_str())?;
+    }
+    Ok(text)
 }
 
-/// What is answered. Any error other than the one of a line is want of memory.
-fn or_memory<T, E: Drop>(found: Result<T, E>) -> Result<T, ParseError> {
-    match found {
-        Ok(value) => Ok(value),
-        Err(_) => Err(ParseError::Memory),
+/// The lines of the entries of a certificate.
+fn entry_lines(alloc: Global, entries: &[Entry]) -> Result<String, NoMemory> {
+    let mut text = String::new(alloc);
+    for Entry {
+        statement: s,
+        times,
+    } in entries {
+        let name = if s.strict { "lt" } else { "eq" };
+        let elements = format!(in alloc; "{} {} {} {} {}", s.a, s.b, s.c, s.d, s.e)?;
+        let line = format!(in alloc; "{name} {elements} {} {} {times}\n", s.small, s.big)?;
+        text.push_str(line.as_str())?;
+    }
+    Ok(text)
+}
+
+/// The lines of weights.
+fn weight_lines(alloc: Global, weights: &[Weight]) -> Result<String, NoMemory> {
+    let mut text = String::new(alloc);
+    for Weight { a, b, c, value } in weights {
+        text.push_str(format!(in alloc; "weight {a} {b} {c} {value}\n")?.as_str())?;
+    }
+    Ok(text)
+}
+
+/// Numbers, each behind a space.
+fn words_of(alloc: Global, numbers: &[u32]) -> Result<String, NoMemory> {
+    let mut text = String::new(alloc);
+    for number in numbers {
+        text.push_str(format!(in alloc; " {number}")?.as_str())?;
+    }
+    Ok(text)
+}
+
+/// The lines of the end of a search.
+fn search_lines(alloc: Global, unfound: &Unfound) -> Result<String, NoMemory> {
+    match unfound {
+        Unfound::Exhausted => Ok(String::from_str(alloc, "exhausted\n")?),
+        Unfound::Frontier(word) => {
+            let vectors = vector_lines(alloc, word.as_slice())?;
+            Ok(format!(in alloc; "frontier\n{vectors}")?)
+        }
+    }
+}
+
+/// The name of a stage.
+fn stage_name(stage: Stage) -> &'static str {
+    match stage {
+        Stage::Price => "price",
+        Stage::Column => "column",
+        Stage::Update => "update",
+        Stage::Scale => "scale",
+    }
+}
+
+/// The lines of the end of a tableau.
+fn tableau_lines(alloc: Global, end: &LpEnd) -> Result<String, NoMemory> {
+    match end {
+        LpEnd::Pivots { count, basis } => {
+            let basis = words_of(alloc, basis.as_slice())?;
+            Ok(format!(in alloc; "pivots {count}\nbasis{basis}\n")?)
+        }
+        LpEnd::Width {
+            stage,
+            pivot,
+            row,
+            place,
+        } => {
+            let stage = stage_name(*stage);
+            Ok(format!(in alloc; "width {stage} {pivot} {row} {place}\n")?)
+        }
+    }
+}
+
+/// The lines of a verdict.
+fn verdict_lines(alloc: Global, verdict: &Verdict) -> Result<String, NoMemory> {
+    match verdict {
+        Verdict::Realizable(word) => {
+            let vectors = vector_lines(alloc, word.as_slice())?;
+            Ok(format!(in alloc; "realizable\n{vectors}end\n")?)
+        }
+        Verdict::Nonrealizable(entries) => {
+            let entries = entry_lines(alloc, entries.as_slice())?;
+            Ok(format!(in alloc; "nonrealizable\n{entries}end\n")?)
+        }
+        Verdict::Undecided(weights, unfound) => {
+            let weights = weight_lines(alloc, weights.as_slice())?;
+            let search = search_lines(alloc, unfound)?;
+            Ok(format!(in alloc; "undecided\n{weights}{search}end\n")?)
+        }
+        Verdict::Limit(end, unfound) => {
+            let tableau = tableau_lines(alloc, end)?;
+            let search = search_lines(alloc, unfound)?;
+            Ok(format!(in alloc; "limit\n{tableau}{search}end\n")?)
+        }
     }
 }
 
@@ -208,112 +305,125 @@ fn canonical(alloc: Global, bytes: &[u8]) -> Result<Vec<u8>, ParseError>
 {
     let claim = read_claim(alloc, bytes)?;
     let mut text = or_memory(print(alloc, &claim.document))?;
-    or_memory(push_block(&mut text, &claim.verdict))?;
+    let block = or_memory(verdict_lines(alloc, &claim.verdict))?;
+    or_memory(text.extend_from_slice(block.as_bytes()))?;
     Ok(text)
 }
 
-/// The line of a fault.
-fn fault_of(alloc: Global, error: ParseError) -> Result<Vec<u8>, Fail> {
-    match error {
-        ParseError::Line { line, code } => Ok(print_line(
+/// The claim that bytes are in canonical form, or the line of its first fault.
+pub fn claim(alloc: Global, bytes: &[u8]) -> Result<Vec<u8>, ParseError>
+    requires { length bytes.now ≤ MAX_INPUT }
+{
+    match canonical(alloc, bytes) {
+        Err(ParseError::Line { line, code }) => or_memory(print_line(
             alloc,
             &Line::RefusedLine { line, code },
-        )?),
-        ParseError::Memory => Err(Fail::new("out of memory")),
+        )),
+        found => found,
     }
-}
-
-/// What an input is read as: a claim in canonical form, or the line of its first fault.
-fn reading(alloc: Global, bytes: &[u8]) -> Result<Vec<u8>, Fail> {
-    if MAX_INPUT < bytes.len() {
-        return Err(Fail::new("too long"));
-    }
-    match canonical(alloc, bytes) {
-        Ok(text) => Ok(text),
-        Err(error) => fault_of(alloc, error),
-    }
-}
-
-/// Whether a text is read as another.
-fn is_read(alloc: Global, text: String, expected: String) -> Result<bool, Fail> {
-    let found = reading(alloc, text.as_bytes())?;
-    Ok(found.as_slice() == expected.as_bytes())
-}
-
-/// Asks that the text of each row of a table is read as the one behind its ` = `, or as itself where there is none. The
-/// pairs are what stands before and behind the text and the answer.
-fn are_read<R: Abort>(
-    rt: &R,
-    alloc: Global,
-    table: &str,
-    input: (&str, &str),
-    answer: (&str, &str),
-) -> Result<(), Fail> {
-    for row in table.split('\n') {
-        let (text, expected) = row.split_once(" = ").unwrap_or((row, row));
-        assert!(rt;
-            is_read(
-                alloc,
-                joined(alloc, input, text)?,
-                joined(alloc, answer, expected)?
-            )?,
-            "{row}"
-        );
-    }
-    Ok(())
 }
 
 #[test]
 fn claims_in_canonical_form(rt: HostRuntime) -> Result<(), Fail> {
     let alloc = rt.alloc();
-    are_read(&rt, alloc, BLOCKS, (UNIFORM, ""), (UNIFORM, ""))?;
-    are_read(&rt, alloc, CLAIMS, ("", ""), ("", ""))?;
+    are_answered(
+        &rt,
+        alloc,
+        Question::Claim,
+        (UNIFORM, ""),
+        (UNIFORM, ""),
+        BLOCKS,
+    )?;
+    are_answered(&rt, alloc, Question::Claim, ALONE, ALONE, CLAIMS)?;
     let around = (NON_PAPPUS, EIGHT_ENTRIES);
-    are_read(&rt, alloc, FIRST_ENTRIES, around, around)
+    are_answered(&rt, alloc, Question::Claim, around, around, FIRST_ENTRIES)
 }
 
 #[test]
 fn claims_in_other_forms(rt: HostRuntime) -> Result<(), Fail> {
     let alloc = rt.alloc();
-    are_read(&rt, alloc, LAYOUTS, (UNIFORM, ""), (UNIFORM, ""))?;
-    are_read(&rt, alloc, DOCUMENTS_OF_VERSION_2, ("", BLOCK), ("", BLOCK))
+    are_answered(
+        &rt,
+        alloc,
+        Question::Claim,
+        (UNIFORM, ""),
+        (UNIFORM, ""),
+        LAYOUTS,
+    )?;
+    are_answered(
+        &rt,
+        alloc,
+        Question::Claim,
+        ("", BLOCK),
+        ("", BLOCK),
+        DOCUMENTS_OF_VERSION_2,
+    )
 }
-
-/// What stands before and behind the line and the code of a fault.
-const REFUSED: (&str, &str) = ("refused line ", "/");
 
 #[test]
 fn faults(rt: HostRuntime) -> Result<(), Fail> {
     let alloc = rt.alloc();
-    are_read(&rt, alloc, FAULTS_OF_DOCUMENTS, ("", ""), REFUSED)?;
-    are_read(&rt, alloc, FAULTS_OF_BLOCKS, (UNIFORM, ""), REFUSED)?;
-    are_read(&rt, alloc, LINES_OF_NO_FORM, (UNIFORM, ""), REFUSED)?;
+    are_answered(
+        &rt,
+        alloc,
+        Question::Claim,
+        ALONE,
+        REFUSED,
+        FAULTS_OF_DOCUMENTS,
+    )?;
+    are_answered(
+        &rt,
+        alloc,
+        Question::Claim,
+        (UNIFORM, ""),
+        REFUSED,
+        FAULTS_OF_BLOCKS,
+    )?;
+    are_answered(
+        &rt,
+        alloc,
+        Question::Claim,
+        (UNIFORM, ""),
+        REFUSED,
+        LINES_OF_NO_FORM,
+    )?;
     let around = (NON_PAPPUS, EIGHT_ENTRIES);
-    are_read(&rt, alloc, FIRST_ENTRIES_OF_NO_FORM, around, REFUSED)
+    are_answered(
+        &rt,
+        alloc,
+        Question::Claim,
+        around,
+        REFUSED,
+        FIRST_ENTRIES_OF_NO_FORM,
+    )
 }
 
 #[test]
 fn lines_past_the_greatest_number_of_vectors(rt: HostRuntime) -> Result<(), Fail> {
-    let vectors = "vector 0 0 0/".repeat(rt.alloc(), 20)?;
-    let front = format!(in rt.alloc(); "{UNIFORM}realizable/{vectors}")?;
-    are_read(
+    let front = "om 1/chirotope 3 4/++++/end/realizable/";
+    let front = with_copies(rt.alloc(), front, "vector 0 0 0/", 20)?;
+    let around = (front.as_str(), "");
+    are_answered(
         &rt,
         rt.alloc(),
-        BEHIND_VECTORS,
-        (front.as_str(), ""),
+        Question::Claim,
+        around,
         REFUSED,
+        BEHIND_VECTORS,
     )
 }
 
 #[test]
 fn lines_past_the_greatest_number_of_weights(rt: HostRuntime) -> Result<(), Fail> {
-    let weights = "weight 1 2 3 0/".repeat(rt.alloc(), 1_140)?;
-    let front = format!(in rt.alloc(); "{UNIFORM}undecided/{weights}")?;
-    are_read(
+    let front = "om 1/chirotope 3 4/++++/end/undecided/";
+    let front = with_copies(rt.alloc(), front, "weight 1 2 3 0/", 1_140)?;
+    let around = (front.as_str(), "");
+    are_answered(
         &rt,
         rt.alloc(),
-        BEHIND_WEIGHTS,
-        (front.as_str(), ""),
+        Question::Claim,
+        around,
         REFUSED,
+        BEHIND_WEIGHTS,
     )
 }

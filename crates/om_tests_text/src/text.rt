@@ -3,11 +3,11 @@
 ghost use Rattle.std.specs.Prelude.{◌≤◌, length};
 ghost use Rattle.om_signs.specs.declared.limits.TheConstants.{MAX_INPUT};
 
-use super::text_two::upgrade;
-use om_signs::{MAX_BLOCKS, MAX_INPUT, MAX_MEMBERS, MAX_MULTIPLICITY, MAX_WEIGHT};
+use super::helpers::{ALONE, Question, are_answered, or_memory, with_copies};
+use om_signs::{MAX_BLOCKS, MAX_MEMBERS, MAX_MULTIPLICITY, MAX_WEIGHT};
 use om_text::lines::{before_comment, first_line, first_word, has_no_words, same};
 use om_text::words::{plain_number, signed_number, unsigned_number};
-use om_text::*;
+use om_text::{Name, ParseError, parse, parse_part, print};
 use std::alloc::{AllocError, Global};
 use std::process::Abort;
 use std::test::Fail;
@@ -210,39 +210,16 @@ const BEHIND_BLOCKS: &str = "/ = 4 Missing
 1-2/ = 3 Many
 1-2 1_2/ = 3 Block";
 
-/// What is asked of an input.
-#[derive(Clone, Copy)]
-pub enum Question {
-    /// The canonical form of its document.
-    Canonical,
-    /// How many bytes this form has.
-    Size,
-    /// The canonical form of the document at its front, and then the number of bytes and of lines that were read.
-    Front,
-    /// The names of its document, each as a line.
-    Names,
-    /// The form of its document in version 2.
-    Upgrade,
-    /// The numbers that the word is.
-    Numbers,
-}
-
-/// What is answered. Any error other than the one of a line is want of memory.
-pub fn or_memory<T, E: Drop>(found: Result<T, E>) -> Result<T, ParseError> {
-    match found {
-        Ok(value) => Ok(value),
-        Err(_) => Err(ParseError::Memory),
-    }
-}
-
-fn canonical(alloc: Global, bytes: &[u8]) -> Result<Vec<u8>, ParseError>
+/// The canonical form of the document that bytes are.
+pub fn canonical(alloc: Global, bytes: &[u8]) -> Result<Vec<u8>, ParseError>
     requires { length bytes.now ≤ MAX_INPUT }
 {
     let document = parse(alloc, bytes)?;
     or_memory(print(alloc, &document))
 }
 
-fn size(alloc: Global, bytes: &[u8]) -> Result<Vec<u8>, ParseError>
+/// How many bytes the canonical form has, in decimal.
+pub fn size(alloc: Global, bytes: &[u8]) -> Result<Vec<u8>, ParseError>
     requires { length bytes.now ≤ MAX_INPUT }
 {
     let size = canonical(alloc, bytes)?.len();
@@ -251,38 +228,43 @@ fn size(alloc: Global, bytes: &[u8]) -> Result<Vec<u8>, ParseError>
 }
 
 /// A text with the number of bytes and of lines that were read behind it.
-fn with_sizes(alloc: Global, text: Vec<u8>, len: usize, lines: u32) -> Result<Vec<u8>, ParseError> {
+fn with_sizes(alloc: Global, text: Vec<u8>, len: usize, lines: u32) -> Result<Vec<u8>, AllocError> {
     let mut out = text;
-    let sizes = or_memory(format!(in alloc; "{len} {lines}"))?;
-    or_memory(out.extend_from_slice(sizes.as_bytes()))?;
+    let sizes = format!(in alloc; "{len} {lines}")?;
+    out.extend_from_slice(sizes.as_bytes())?;
     Ok(out)
 }
 
-fn front(alloc: Global, bytes: &[u8]) -> Result<Vec<u8>, ParseError>
+/// The canonical form of the document at the front of bytes, with the number of bytes and of lines that were read.
+pub fn front(alloc: Global, bytes: &[u8]) -> Result<Vec<u8>, ParseError>
     requires { length bytes.now ≤ MAX_INPUT }
 {
     let part = parse_part(alloc, bytes)?;
     let text = or_memory(print(alloc, &part.0))?;
-    with_sizes(alloc, text, part.1, part.2)
+    or_memory(with_sizes(alloc, text, part.1, part.2))
 }
 
-fn push_name(lines: &mut Vec<u8>, name: &Name) -> Result<(), AllocError> {
-    lines.extend_from_slice(name.as_bytes())?;
-    lines.extend_from_slice(b"\n")
-}
-
-fn names(alloc: Global, bytes: &[u8]) -> Result<Vec<u8>, ParseError>
-    requires { length bytes.now ≤ MAX_INPUT }
-{
-    let document = parse(alloc, bytes)?;
+/// The names, each as a line.
+fn lines_of(alloc: Global, names: &[Name]) -> Result<Vec<u8>, AllocError> {
     let mut lines = Vec::new(alloc);
-    for name in document.names.as_slice() {
-        or_memory(push_name(&mut lines, name))?;
+    for name in names {
+        lines.extend_from_slice(name.as_bytes())?;
+        lines.push(b'\n')?;
     }
     Ok(lines)
 }
 
-fn numbers(alloc: Global, word: &[u8]) -> Result<Vec<u8>, ParseError> {
+/// The names of the document that bytes are, each as a line.
+pub fn names(alloc: Global, bytes: &[u8]) -> Result<Vec<u8>, ParseError>
+    requires { length bytes.now ≤ MAX_INPUT }
+{
+    let document = parse(alloc, bytes)?;
+    or_memory(lines_of(alloc, document.names.as_slice()))
+}
+
+/// The plain number, the number up to the greatest multiplicity and the signed number up to the greatest weight that a
+/// word is.
+pub fn numbers(alloc: Global, word: &[u8]) -> Result<Vec<u8>, ParseError> {
     let plain = plain_number(word);
     let unsigned = unsigned_number(word, MAX_MULTIPLICITY);
     let signed = signed_number(word, MAX_WEIGHT.unsigned_abs());
@@ -290,128 +272,102 @@ fn numbers(alloc: Global, word: &[u8]) -> Result<Vec<u8>, ParseError> {
     Ok(text.into_bytes())
 }
 
-/// The line and the code of a fault.
-fn fault_of(alloc: Global, error: ParseError) -> Result<Vec<u8>, Fail> {
-    match error {
-        ParseError::Line { line, code } => {
-            let text = format!(in alloc; "{line} {code:?}")?;
-            Ok(text.into_bytes())
-        }
-        ParseError::Memory => Err(Fail::new("out of memory")),
-    }
-}
-
-/// The answer of the reader.
-fn read(alloc: Global, question: Question, bytes: &[u8]) -> Result<Vec<u8>, ParseError>
-    requires { length bytes.now ≤ MAX_INPUT }
-{
-    match question {
-        Question::Canonical => canonical(alloc, bytes),
-        Question::Size => size(alloc, bytes),
-        Question::Front => front(alloc, bytes),
-        Question::Names => names(alloc, bytes),
-        Question::Upgrade => upgrade(alloc, bytes),
-        Question::Numbers => numbers(alloc, bytes),
-    }
-}
-
-/// The answer to a question, or the fault in its place.
-fn answer(alloc: Global, question: Question, bytes: &[u8]) -> Result<Vec<u8>, Fail> {
-    if MAX_INPUT < bytes.len() {
-        return Err(Fail::new("too long"));
-    }
-    match read(alloc, question, bytes) {
-        Ok(text) => Ok(text),
-        Err(error) => fault_of(alloc, error),
-    }
-}
-
-/// Whether a text with another behind it is answered by a third one.
-pub fn is_answered(
-    alloc: Global,
-    question: Question,
-    front: &str,
-    text: &str,
-    expected: &str,
-) -> Result<bool, Fail> {
-    let whole = format!(in alloc; "{front}{text}")?;
-    let input = whole.replace(alloc, "/", "\n")?;
-    let found = answer(alloc, question, input.as_bytes())?;
-    let expected = expected.replace(alloc, "/", "\n")?;
-    Ok(found.as_slice() == expected.as_bytes())
-}
-
-/// Asks that a text with the one of each row behind it is answered by the text behind the row's ` = `.
-fn are_answered<R: Abort>(
-    rt: &R,
-    alloc: Global,
-    question: Question,
-    front: &str,
-    table: &str,
-) -> Result<(), Fail> {
-    for row in table.split('\n') {
-        let (text, expected) = row.split_once(" = ").ok_or("no answer")?;
-        assert!(rt;
-            is_answered(alloc, question, front, text, expected)?,
-            "{row}"
-        );
-    }
-    Ok(())
+/// Asks that the text of each row is answered by the one behind its ` = `.
+fn answers<R: Abort>(rt: &R, alloc: Global, question: Question, table: &str) -> Result<(), Fail> {
+    are_answered(rt, alloc, question, ALONE, ALONE, table)
 }
 
 #[test]
-fn inputs(rt: HostRuntime) -> Result<(), Fail> {
-    let alloc = rt.alloc();
-    are_answered(&rt, alloc, Question::Canonical, "", FAULTS_OF_HEADINGS)?;
-    are_answered(&rt, alloc, Question::Canonical, "", FAULTS_OF_BODIES)?;
-    are_answered(&rt, alloc, Question::Canonical, "", FAULTS_OF_POINTS)?;
-    are_answered(&rt, alloc, Question::Canonical, "", CANONICAL_FORMS)?;
-    are_answered(&rt, alloc, Question::Front, "", FRONTS)
+fn faults_of_headings(rt: HostRuntime) -> Result<(), Fail> {
+    answers(&rt, rt.alloc(), Question::Canonical, FAULTS_OF_HEADINGS)
 }
 
 #[test]
-fn inputs_in_version_two(rt: HostRuntime) -> Result<(), Fail> {
-    let alloc = rt.alloc();
-    are_answered(&rt, alloc, Question::Canonical, "", FORMS_IN_TWO)?;
-    are_answered(&rt, alloc, Question::Canonical, "", FAULTS_OF_SETTINGS)?;
-    are_answered(&rt, alloc, Question::Canonical, "", OTHER_FAULTS_IN_TWO)?;
-    are_answered(&rt, alloc, Question::Names, "", NAMES)
+fn faults_of_bodies(rt: HostRuntime) -> Result<(), Fail> {
+    answers(&rt, rt.alloc(), Question::Canonical, FAULTS_OF_BODIES)?;
+    answers(&rt, rt.alloc(), Question::Canonical, FAULTS_OF_POINTS)
+}
+
+#[test]
+fn canonical_forms(rt: HostRuntime) -> Result<(), Fail> {
+    answers(&rt, rt.alloc(), Question::Canonical, CANONICAL_FORMS)?;
+    answers(&rt, rt.alloc(), Question::Front, FRONTS)
+}
+
+#[test]
+fn forms_in_version_two(rt: HostRuntime) -> Result<(), Fail> {
+    answers(&rt, rt.alloc(), Question::Canonical, FORMS_IN_TWO)?;
+    answers(&rt, rt.alloc(), Question::Names, NAMES)
+}
+
+#[test]
+fn faults_in_version_two(rt: HostRuntime) -> Result<(), Fail> {
+    answers(&rt, rt.alloc(), Question::Canonical, FAULTS_OF_SETTINGS)?;
+    answers(&rt, rt.alloc(), Question::Canonical, OTHER_FAULTS_IN_TWO)
+}
+
+#[test]
+fn numbers_up_to_a_limit(rt: HostRuntime) -> Result<(), Fail> {
+    answers(&rt, rt.alloc(), Question::Numbers, NUMBERS)
 }
 
 /// A list of halves on 20 elements with this many lines, no two of them equal or opposite.
-fn halves(alloc: Global, count: usize) -> Result<String, Fail> {
-    let mut lines = String::new(alloc);
+fn halves(alloc: Global, count: usize) -> Result<String, AllocError> {
+    let mut lines = String::from_str(alloc, "om 2/cocircuits 20/half/")?;
     for number in 0..count {
-        let line = format!(in alloc; "1{number:019b}/")?;
-        lines.push_str(line.as_str())?;
+        push_half(&mut lines, number)?;
     }
-    let signs = lines.replace(alloc, "0", "-")?.replace(alloc, "1", "+")?;
-    Ok(format!(in alloc; "om 2/cocircuits 20/half/{signs}")?)
+    Ok(lines)
+}
+
+/// Puts a line at the end that begins with plus, and then has plus at each one of the 19 binary digits of a number.
+fn push_half(lines: &mut String, number: usize) -> Result<(), AllocError> {
+    lines.push_str("+")?;
+    for place in 0..19u32 {
+        let digit = number >> (18 - place) & 1;
+        lines.push_str(if digit == 1 { "+" } else { "-" })?;
+    }
+    lines.push_str("/")
+}
+
+/// Asks for the answers where a text stands before that of each row.
+fn answers_behind<R: Abort>(
+    rt: &R,
+    alloc: Global,
+    question: Question,
+    before: &str,
+    table: &str,
+) -> Result<(), Fail> {
+    are_answered(rt, alloc, question, (before, ""), ALONE, table)
 }
 
 #[test]
 fn halves_up_to_the_greatest_number_of_members(rt: HostRuntime) -> Result<(), Fail> {
-    let alloc = rt.alloc();
-    let most = halves(alloc, MAX_MEMBERS / 2)?;
+    let most = halves(rt.alloc(), MAX_MEMBERS / 2)?;
     // two lines, a line for each member, and the line `end`: 5 + 14 + 21 * 4096 + 4 bytes
-    are_answered(&rt, alloc, Question::Size, most.as_str(), "end = 86039")?;
+    answers_behind(
+        &rt,
+        rt.alloc(),
+        Question::Size,
+        most.as_str(),
+        "end = 86039",
+    )?;
     // the first line behind them is one of them
     let behind = "-+++++++++++++++++++/+0000000000000000000/ = 2053 Many";
-    are_answered(&rt, alloc, Question::Canonical, most.as_str(), behind)
+    answers_behind(&rt, rt.alloc(), Question::Canonical, most.as_str(), behind)
 }
 
 #[test]
 fn halves_that_have_room_for_the_zero_vector_alone(rt: HostRuntime) -> Result<(), Fail> {
     let less = halves(rt.alloc(), MAX_MEMBERS / 2 - 1)?;
     let behind = "00000000000000000000/+0000000000000000000/ = 2052 Many";
-    are_answered(&rt, rt.alloc(), Question::Canonical, less.as_str(), behind)
+    answers_behind(&rt, rt.alloc(), Question::Canonical, less.as_str(), behind)
 }
 
 #[test]
 fn lines_past_the_greatest_number_of_blocks(rt: HostRuntime) -> Result<(), Fail> {
-    let blocks = "1-2 ".repeat(rt.alloc(), MAX_BLOCKS)?;
-    let front = format!(in rt.alloc(); "om 1/wiring 2/{blocks}")?;
-    are_answered(
+    let front = with_copies(rt.alloc(), "om 1/wiring 2/", "1-2 ", MAX_BLOCKS)?;
+    answers_behind(
         &rt,
         rt.alloc(),
         Question::Canonical,
@@ -421,18 +377,32 @@ fn lines_past_the_greatest_number_of_blocks(rt: HostRuntime) -> Result<(), Fail>
 }
 
 #[test]
-fn numbers_up_to_a_limit(rt: HostRuntime) -> Result<(), Fail> {
-    are_answered(&rt, rt.alloc(), Question::Numbers, "", NUMBERS)
+fn lines(rt: HostRuntime) {
+    let (line, rest) = first_line(b"a bc#d\nend");
+    assert!(rt; same(line, b"a bc#d"));
+    assert!(rt; same(rest, b"end"));
+    assert!(rt; same(before_comment(line), b"a bc"));
+}
+
+/// Whether a line has this word and no other.
+fn has_word(line: &[u8], text: &[u8]) -> bool {
+    match first_word(line) {
+        Some((word, rest)) => {
+            same(word, text) && has_no_words(rest) && first_word(rest).is_none()
+        }
+        None => false,
+    }
+}
+
+/// Whether a line has these two words and no other.
+fn has_words(line: &[u8], first: &[u8], second: &[u8]) -> bool {
+    match first_word(line) {
+        Some((word, rest)) => same(word, first) && has_word(rest, second),
+        None => false,
+    }
 }
 
 #[test]
-fn lines_and_words(rt: HostRuntime) -> Result<(), Fail> {
-    let (line, rest) = first_line(b"a bc#d\nend");
-    assert!(rt; same(line, b"a bc#d") && same(rest, b"end"));
-    let line = before_comment(line);
-    let (word, rest) = first_word(line).ok_or("no word")?;
-    assert!(rt; same(word, b"a"));
-    let (word, rest) = first_word(rest).ok_or("no word")?;
-    assert!(rt; same(word, b"bc") && has_no_words(rest) && first_word(rest).is_none());
-    Ok(())
+fn words(rt: HostRuntime) {
+    assert!(rt; has_words(b"a bc", b"a", b"bc"));
 }

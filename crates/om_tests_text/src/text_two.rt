@@ -1,16 +1,13 @@
 //! Documents and their forms in version 2.
 
-ghost use Rattle.std.specs.Prelude.{◌≡◌, ◌≤◌, IsTrue, length, map};
-ghost use Rattle.std.specs.List.{list_all, list_any};
-ghost use Rattle.om_signs.specs.Sign.{opposite};
+ghost use Rattle.std.specs.Prelude.{◌≡◌, ◌≤◌, length};
 ghost use Rattle.om_signs.specs.declared.limits.TheConstants.{MAX_INPUT};
-ghost use Rattle.om_text.specs.Rows.{same_row};
-ghost use Rattle.om_text.specs.PrintTwo.{IsClosedUnderNegation};
+ghost use Rattle.om_text.specs.Members.{members_of};
 
-use super::text::{Question, is_answered, or_memory};
-use om_signs::{List, MAX_INPUT, SignVec};
-use om_text::body_lines::has_member;
-use om_text::*;
+use super::helpers::{ALONE, Question, are_answered, or_memory};
+use om_members::first_without_negative;
+use om_signs::{MAX_INPUT, SignVec};
+use om_text::{Body, ParseError, parse, print_two};
 use std::alloc::Global;
 use std::test::Fail;
 
@@ -28,26 +25,15 @@ om 1/covectors 2/++/--/0-/0+/00/+-/-+/+0/-0/end = om 2/covectors 2/names e1 e2/h
 om 1/wiring 3/1-2 2-3 1-2/end = om 2/wiring 3/names e1 e2 e3/1-2/2-3/1-2/end/
 om 2/points 2/names _ abcdefghijklmnop/1 0 0/0 -1 0/end = om 2/points 2/names _ abcdefghijklmnop/1 0 0/0 -1 0/end/";
 
-/// Whether the negative of each member is a member.
-fn are_closed(members: &List<SignVec>) -> bool
-    ensures { result ≡ list_all (λ x. list_any (λ y. same_row y (map opposite x)) members.now) members.now }
-{
-    members
-        .as_slice()
-        .iter()
-        .all(|x| has_member(members, x.neg()))
-}
-
-fn is_closed(body: &Body) -> bool
-    ensures { IsTrue result → IsClosedUnderNegation body.now }
+/// The members of a body that is a list; other bodies have none.
+fn members_of(body: &Body) -> &[SignVec]
+    ensures { result.now ≡ members_of body.now }
 {
     match body {
-        Body::Circuits(members) => are_closed(members),
-        Body::Cocircuits(members) => are_closed(members),
-        Body::Covectors(members) => are_closed(members),
-        Body::Chirotope(_) => true,
-        Body::Wiring(_) => true,
-        Body::Points(_) => true,
+        Body::Circuits(members) | Body::Cocircuits(members) | Body::Covectors(members) => {
+            members.as_slice()
+        }
+        _ => &[],
     }
 }
 
@@ -56,25 +42,27 @@ pub fn upgrade(alloc: Global, bytes: &[u8]) -> Result<Vec<u8>, ParseError>
     requires { length bytes.now ≤ MAX_INPUT }
 {
     let document = parse(alloc, bytes)?;
-    if !is_closed(&document.body) {
-        return Ok(Vec::new(alloc));
+    match first_without_negative(members_of(&document.body)) {
+        None => or_memory(print_two(alloc, &document)),
+        Some(_) => Ok(Vec::new(alloc)),
     }
-    or_memory(print_two(alloc, &document))
+}
+
+/// The form in version 2 of this form.
+pub fn upgrade_again(alloc: Global, bytes: &[u8]) -> Result<Vec<u8>, ParseError>
+    requires { length bytes.now ≤ MAX_INPUT }
+{
+    let form = upgrade(alloc, bytes)?;
+    if MAX_INPUT < form.len() {
+        return Ok(form);
+    }
+    upgrade(alloc, form.as_slice())
 }
 
 #[test]
 fn documents_in_version_two(rt: HostRuntime) -> Result<(), Fail> {
     let alloc = rt.alloc();
-    for row in UPGRADES.split('\n') {
-        let (text, form) = row.split_once(" = ").ok_or("no form")?;
-        assert!(rt;
-            is_answered(alloc, Question::Upgrade, "", text, form)?,
-            "{row}"
-        );
-        assert!(rt;
-            is_answered(alloc, Question::Upgrade, "", form, form)?,
-            "{row}"
-        );
-    }
-    Ok(())
+    are_answered(&rt, alloc, Question::Upgrade, ALONE, ALONE, UPGRADES)?;
+    // each of these forms is its own
+    are_answered(&rt, alloc, Question::UpgradeAgain, ALONE, ALONE, UPGRADES)
 }
