@@ -1,7 +1,9 @@
 //! Representations of small oriented matroids, worked out by hand, and what they convert to.
 
-ghost use Rattle.std.specs.Prelude.{◌≡◌};
-
+use super::helpers::{
+    chirotope, chirotope_text, circuits, circuits_text, cocircuits, cocircuits_text, covectors,
+    covectors_text, differ, parts_of,
+};
 use om_chirotope::Chirotope;
 use om_circuits::{Circuits, Cocircuits};
 use om_convert::{
@@ -11,409 +13,305 @@ use om_convert::{
     covectors_to_cocircuits, rank_circuits, rank_cocircuits, rank_covectors,
 };
 use om_covectors::Covectors;
-use om_members::is_member;
-use om_oriented::same;
-use om_samples::{
-    SampleError, chirotope_of, circuits_of, cocircuits_of, covectors_of, text_of_map,
-    text_of_vectors, vector_of,
-};
-use om_signs::{MAX_MEMBERS, NoMemory, SignVec};
+use om_signs::NoMemory;
 use std::alloc::Global;
 use std::test::Fail;
 use std::thread::Threads;
 
-/// One oriented matroid in its representations. The covectors are as many as `count`, with some among them.
-#[derive(Clone, Copy)]
-pub struct Row<'a> {
-    pub rank: u8,
-    pub elements: u8,
-    pub signs: &'a str,
-    pub text: &'a str,
-    pub circuits: &'a [&'a str],
-    pub cocircuits: &'a [&'a str],
-    pub count: usize,
-    pub covectors: &'a [&'a str],
-}
+/// One oriented matroid a row: its chirotope, its circuits, its cocircuits, the number of its covectors, and some of these.
+///
+/// 1. The signs without 1, 2, 3 and 4 in turn are all plus, so the one vector V has the signs -+-+. Of the 81 vectors of four
+///    signs 51 are orthogonal to it: 15 nonzero ones have products with it that are plus or zero, and 15 have such that are minus
+///    or zero.
+/// 2. 1 and 2 are parallel, 3 is a coloop and 4 a loop.
+/// 3. In rank 0 each element is a loop, and a circuit of its own; so in the next row.
+/// 5. In the rank of all elements each is a coloop, and a cocircuit of its own. Every vector is a covector: also +++, which is no
+///    composition of two cocircuits.
+/// 6. The first and the second element are parallel, and the third is a loop.
+/// 7. Three lines through a point of the plane, given by normal vectors of which the second is the sum of the first and the
+///    third. The 13 covectors are the point, six rays and six sectors: where signs 1 and 3 are plus, so is sign 2.
+pub const ROWS: &str =
+    "3 4 ++++ | 4 -+-+ +-+- | 4 --00 -00- -0+0 0--0 0-0+ 00-- 00++ 0+0- 0++0 +0-0 +00+ ++00 | 51 | 4 0000 ---- ++++
+2 4 0+0+00 | 4 +-00 -+00 000+ 000- | 4 ++00 --00 00+0 00-0 | 9 | 4 0000 ++00 --00 00+0 00-0 +++0 ++-0 --+0 ---0
+0 2 + | 2 -0 0- 0+ +0 | 2 | 1 | 2 00
+0 3 + | 3 +00 -00 0+0 0-0 00+ 00- | 3 | 1 | 3 000
+3 3 + | 3 | 3 -00 0-0 00- 00+ 0+0 +00 | 27 | 3 +++
+1 3 +-0 | 3 ++0 --0 00+ 00- | 3 +-0 -+0 | 3 | 3 000 +-0 -+0
+2 3 +++ | 3 -+- +-+ | 3 0++ 0-- --0 ++0 -0+ +0- | 13 | 3 +++ 0++ --- 0-- 000 --0 ++0 -++ -0+ +-- +0- --+ ++-";
 
-pub const ROWS: [Row; 7] = [
-    // The signs without 1, 2, 3 and 4 in turn are all plus, so the one vector V has the signs -+-+. Of the 81 vectors of four
-    // signs 51 are orthogonal to it: 15 nonzero ones have products with it that are plus or zero, and 15 have such that are
-    // minus or zero.
-    Row {
-        rank: 3,
-        elements: 4,
-        signs: "++++",
-        text: "3 4 ++++",
-        circuits: &["-+-+", "+-+-"],
-        cocircuits: &[
-            "--00", "-00-", "-0+0", "0--0", "0-0+", "00--", "00++", "0+0-", "0++0", "+0-0", "+00+",
-            "++00",
-        ],
-        count: 51,
-        covectors: &["0000", "----", "++++"],
-    },
-    // 1 and 2 are parallel, 3 is a coloop and 4 a loop.
-    Row {
-        rank: 2,
-        elements: 4,
-        signs: "0+0+00",
-        text: "2 4 0+0+00",
-        circuits: &["+-00", "-+00", "000+", "000-"],
-        cocircuits: &["++00", "--00", "00+0", "00-0"],
-        count: 9,
-        covectors: &[
-            "0000", "++00", "--00", "00+0", "00-0", "+++0", "++-0", "--+0", "---0",
-        ],
-    },
-    // In rank 0 each element is a loop, and a circuit of its own.
-    Row {
-        rank: 0,
-        elements: 2,
-        signs: "+",
-        text: "0 2 +",
-        circuits: &["-0", "0-", "0+", "+0"],
-        cocircuits: &[],
-        count: 1,
-        covectors: &["00"],
-    },
-    Row {
-        rank: 0,
-        elements: 3,
-        signs: "+",
-        text: "0 3 +",
-        circuits: &["+00", "-00", "0+0", "0-0", "00+", "00-"],
-        cocircuits: &[],
-        count: 1,
-        covectors: &["000"],
-    },
-    // In the rank of all elements each is a coloop, and a cocircuit of its own. Every vector is a covector: also +++, which is
-    // no composition of two cocircuits.
-    Row {
-        rank: 3,
-        elements: 3,
-        signs: "+",
-        text: "3 3 +",
-        circuits: &[],
-        cocircuits: &["-00", "0-0", "00-", "00+", "0+0", "+00"],
-        count: 27,
-        covectors: &["+++"],
-    },
-    // The first and the second element are parallel, and the third is a loop.
-    Row {
-        rank: 1,
-        elements: 3,
-        signs: "+-0",
-        text: "1 3 +-0",
-        circuits: &["++0", "--0", "00+", "00-"],
-        cocircuits: &["+-0", "-+0"],
-        count: 3,
-        covectors: &["000", "+-0", "-+0"],
-    },
-    // Three lines through a point of the plane, given by normal vectors of which the second is the sum of the first and the
-    // third.
-    Row {
-        rank: 2,
-        elements: 3,
-        signs: "+++",
-        text: "2 3 +++",
-        circuits: &["-+-", "+-+"],
-        cocircuits: &["0++", "0--", "--0", "++0", "-0+", "+0-"],
-        count: 13,
-        covectors: PLANE,
-    },
-];
-
-/// The 13 covectors of three lines through a point of the plane, given by normal vectors of which the second is the sum of
-/// the first and the third: the point, six rays and six sectors. Where signs 1 and 3 are plus, so is sign 2.
-const PLANE: &[&str] = &[
-    "+++", "0++", "---", "0--", "000", "--0", "++0", "-++", "-0+", "+--", "+0-", "--+", "++-",
-];
-
-/// Lists of covectors of three elements, and their cocircuits in the order in which the covectors stand.
-const LEAST: [(&[&str], &str); 3] = [
-    (&["000"], ""),
-    (&["000", "+00", "-00"], "+00 -00"),
-    (PLANE, "0++ 0-- --0 ++0 -0+ +0-"),
-];
-
-/// Whether two lists have the same vectors, in any order.
-fn have_same(xs: &[SignVec], ys: &[SignVec]) -> bool {
-    xs.len() == ys.len() && xs.iter().all(|x| is_member(ys, *x))
-}
-
-/// Whether a chirotope was found, with this text.
-fn is_chirotope(alloc: Global, found: Result<Chirotope, ConvertError>, wanted: &str) -> bool {
-    match found {
-        Ok(chi) => match text_of_map(alloc, &chi.into_raw()) {
-            Ok(text) => text.as_str() == wanted,
-            Err(_) => false,
-        },
-        Err(_) => false,
+/// What a chirotope converts to.
+fn from_chirotope(alloc: Global, chi: &Chirotope, kind: &str) -> Result<String, Fail> {
+    match kind {
+        "circuits" => circuits_text(alloc, chirotope_to_circuits(alloc, chi)),
+        "cocircuits" => cocircuits_text(alloc, chirotope_to_cocircuits(alloc, chi)),
+        _ => covectors_text(alloc, chirotope_to_covectors(alloc, chi)),
     }
 }
 
-/// Whether circuits were found, and are these in any order.
-fn are_circuits(found: Result<Circuits, ConvertError>, wanted: &Circuits) -> bool {
-    match found {
-        Ok(circuits) => have_same(circuits.0.members(), wanted.0.members()),
-        Err(_) => false,
+/// What circuits convert to.
+fn from_circuits(alloc: Global, circuits: &Circuits, kind: &str) -> Result<String, Fail> {
+    match kind {
+        "chirotope" => chirotope_text(alloc, circuits_to_chirotope(alloc, circuits)),
+        "cocircuits" => cocircuits_text(alloc, circuits_to_cocircuits(alloc, circuits)),
+        _ => covectors_text(alloc, circuits_to_covectors(alloc, circuits)),
     }
 }
 
-/// Whether cocircuits were found, and are these in any order.
-fn are_cocircuits(found: Result<Cocircuits, ConvertError>, wanted: &Cocircuits) -> bool {
-    match found {
-        Ok(cocircuits) => have_same(cocircuits.0.members(), wanted.0.members()),
-        Err(_) => false,
+/// What cocircuits convert to.
+fn from_cocircuits(alloc: Global, cocircuits: &Cocircuits, kind: &str) -> Result<String, Fail> {
+    match kind {
+        "chirotope" => chirotope_text(alloc, cocircuits_to_chirotope(alloc, cocircuits)),
+        "circuits" => circuits_text(alloc, cocircuits_to_circuits(alloc, cocircuits)),
+        _ => covectors_text(alloc, cocircuits_to_covectors(alloc, cocircuits)),
     }
 }
 
-/// Whether covectors were found, and are these in any order.
-fn are_covectors(found: Result<Covectors, ConvertError>, wanted: &Covectors) -> bool {
-    match found {
-        Ok(covectors) => have_same(covectors.members(), wanted.members()),
-        Err(_) => false,
+/// What covectors convert to.
+fn from_covectors(alloc: Global, covectors: &Covectors, kind: &str) -> Result<String, Fail> {
+    match kind {
+        "chirotope" => chirotope_text(alloc, covectors_to_chirotope(alloc, covectors)),
+        "circuits" => circuits_text(alloc, covectors_to_circuits(alloc, covectors)),
+        _ => cocircuits_text(alloc, covectors_to_cocircuits(alloc, covectors)),
     }
 }
 
-/// Whether the lists have this rank.
-fn have_rank(
-    rank: u8,
-    circuits: &Circuits,
-    cocircuits: &Cocircuits,
-    covectors: &Covectors,
-) -> bool {
-    rank_circuits(circuits) == rank
-        && rank_cocircuits(cocircuits) == rank
-        && rank_covectors(covectors) == rank
-}
-
-/// Whether each of the four kinds converts to the three others.
-fn give_each_other(
+/// The text of what a text of one kind converts to, which is of another kind.
+pub fn converted<R: Threads + Sync>(
+    rt: &R,
     alloc: Global,
-    chi: &Chirotope,
+    from: &str,
     text: &str,
-    circuits: &Circuits,
-    cocircuits: &Cocircuits,
-    covectors: &Covectors,
-) -> bool {
-    is_chirotope(alloc, circuits_to_chirotope(alloc, circuits), text)
-        && is_chirotope(alloc, cocircuits_to_chirotope(alloc, cocircuits), text)
-        && is_chirotope(alloc, covectors_to_chirotope(alloc, covectors), text)
-        && are_circuits(chirotope_to_circuits(alloc, chi), circuits)
-        && are_circuits(cocircuits_to_circuits(alloc, cocircuits), circuits)
-        && are_circuits(covectors_to_circuits(alloc, covectors), circuits)
-        && are_cocircuits(chirotope_to_cocircuits(alloc, chi), cocircuits)
-        && are_cocircuits(circuits_to_cocircuits(alloc, circuits), cocircuits)
-        && are_cocircuits(covectors_to_cocircuits(alloc, covectors), cocircuits)
-        && are_covectors(circuits_to_covectors(alloc, circuits), covectors)
-        && are_covectors(cocircuits_to_covectors(alloc, cocircuits), covectors)
-}
-
-/// Whether there are so many covectors, with those of some texts among them.
-fn have_some(covectors: &Covectors, count: usize, texts: &[&str]) -> bool {
-    let n = covectors.elements();
-    let members = covectors.members();
-    members.len() == count
-        && texts
-            .iter()
-            .all(|text| is_member(members, vector_of(n, text)))
-}
-
-/// Whether the kinds of a row denote the same and convert to each other, and the covectors are those of the row.
-fn convert(
-    alloc: Global,
-    row: Row,
-    chi: &Chirotope,
-    circuits: &Circuits,
-    cocircuits: &Cocircuits,
-) -> bool
-    requires circuits { chi.now.elements ≡ circuits.now.0.elements }
-    requires cocircuits { chi.now.elements ≡ cocircuits.now.0.elements }
-{
-    match chirotope_to_covectors(alloc, chi) {
-        Ok(covectors) => {
-            same(chi, circuits).is_ok()
-                && same(chi, cocircuits).is_ok()
-                && same(chi, &covectors).is_ok()
-                && have_some(&covectors, row.count, row.covectors)
-                && have_rank(row.rank, circuits, cocircuits, &covectors)
-                && give_each_other(alloc, chi, row.text, circuits, cocircuits, &covectors)
-        }
-        Err(_) => false,
+    kind: &str,
+) -> Result<String, Fail> {
+    match from {
+        "chirotope" => from_chirotope(alloc, &chirotope(rt, alloc, text)?, kind),
+        "circuits" => from_circuits(alloc, &circuits(rt, alloc, text)?, kind),
+        "cocircuits" => from_cocircuits(alloc, &cocircuits(rt, alloc, text)?, kind),
+        _ => from_covectors(alloc, &covectors(rt, alloc, text)?, kind),
     }
+}
+
+/// Whether each word of a text is one of another text.
+fn has_words(text: &str, words: &str) -> bool {
+    words
+        .split(' ')
+        .all(|word| text.split(' ').any(|other| other == word))
+}
+
+/// The number of vectors of a list, each of which stands behind a space.
+pub fn vectors_in(text: &str) -> usize {
+    text.as_bytes().iter().filter(|byte| **byte == b' ').count()
+}
+
+/// Whether a text is that of a value: of a list, with its vectors in any order.
+fn is_of(kind: &str, text: &str, wanted: &str) -> bool {
+    text == wanted || (kind != "chirotope" && text.len() == wanted.len() && has_words(wanted, text))
+}
+
+/// Whether the text of one kind converts to that of another kind. Each text is that of its own kind.
+fn converts<R: Threads + Sync>(
+    rt: &R,
+    alloc: Global,
+    from: &str,
+    text: &str,
+    kind: &str,
+    wanted: &str,
+) -> Result<bool, Fail> {
+    if from == kind {
+        return Ok(true);
+    }
+    let found = converted(rt, alloc, from, text, kind)?;
+    Ok(is_of(kind, found.as_str(), wanted))
+}
+
+/// Whether the text of one kind converts to those of the others, given in the order chirotope, circuits, cocircuits and covectors.
+fn gives_others<R: Threads + Sync>(
+    rt: &R,
+    alloc: Global,
+    kind: &str,
+    text: &str,
+    texts: &[&str],
+) -> Result<bool, Fail> {
+    let [chi, circuits, cocircuits, covectors] = texts else {
+        return Err(Fail::new("not four kinds"));
+    };
+    let to_chirotope = converts(rt, alloc, kind, text, "chirotope", chi)?;
+    let to_circuits = converts(rt, alloc, kind, text, "circuits", circuits)?;
+    let to_cocircuits = converts(rt, alloc, kind, text, "cocircuits", cocircuits)?;
+    let to_covectors = converts(rt, alloc, kind, text, "covectors", covectors)?;
+    Ok(to_chirotope & to_circuits & to_cocircuits & to_covectors)
+}
+
+/// Whether the texts of the four kinds convert to each other.
+fn give_each_other<R: Threads + Sync>(rt: &R, alloc: Global, texts: &[&str]) -> Result<bool, Fail> {
+    let kinds = ["chirotope", "circuits", "cocircuits", "covectors"];
+    for (kind, text) in kinds.iter().zip(texts) {
+        if !gives_others(rt, alloc, kind, text, texts)? {
+            return Ok(false);
+        }
+    }
+    Ok(true)
+}
+
+/// Whether the texts of the four kinds denote the same.
+fn denote_the_same<R: Threads + Sync>(rt: &R, alloc: Global, texts: &[&str]) -> Result<bool, Fail> {
+    let [chi, circuits, cocircuits, covectors] = texts else {
+        return Err(Fail::new("not four kinds"));
+    };
+    let circuits = differ(rt, alloc, "chirotope, circuits", chi, circuits, "same")?;
+    let cocircuits = differ(rt, alloc, "chirotope, cocircuits", chi, cocircuits, "same")?;
+    let covectors = differ(rt, alloc, "chirotope, covectors", chi, covectors, "same")?;
+    Ok(circuits & cocircuits & covectors)
+}
+
+/// Whether the lists of three kinds have a rank.
+fn have_rank<R: Threads + Sync>(
+    rt: &R,
+    alloc: Global,
+    rank: u8,
+    texts: &[&str],
+) -> Result<bool, Fail> {
+    let [_, circuit_texts, cocircuit_texts, covector_texts] = texts else {
+        return Err(Fail::new("not four kinds"));
+    };
+    let circuits = rank_circuits(&circuits(rt, alloc, circuit_texts)?);
+    let cocircuits = rank_cocircuits(&cocircuits(rt, alloc, cocircuit_texts)?);
+    let covectors = rank_covectors(&covectors(rt, alloc, covector_texts)?);
+    Ok([circuits, cocircuits, covectors] == [rank; 3])
 }
 
 /// Whether a row holds.
-fn holds<R: Threads + Sync>(rt: &R, alloc: Global, row: Row) -> Result<bool, SampleError> {
-    let chi = chirotope_of(rt, alloc, row.rank, row.elements, row.signs)?;
-    let circuits = circuits_of(rt, alloc, row.elements, row.circuits)?;
-    let cocircuits = cocircuits_of(rt, alloc, row.elements, row.cocircuits)?;
-    Ok(convert(alloc, row, &chi, &circuits, &cocircuits))
-}
-
-/// The text of cocircuits that were found.
-fn text_of(alloc: Global, found: Result<Cocircuits, ConvertError>) -> Result<String, SampleError> {
-    match found {
-        Ok(cocircuits) => text_of_vectors(alloc, cocircuits.0.members()),
-        Err(_) => Err(SampleError::Memory),
-    }
-}
-
-/// The text of the cocircuits of some covectors of three elements.
-fn least<R: Threads + Sync>(rt: &R, alloc: Global, texts: &[&str]) -> Result<String, SampleError> {
-    let covectors = covectors_of(rt, alloc, 3, texts)?;
-    text_of(alloc, covectors_to_cocircuits(alloc, &covectors))
+fn holds<R: Threads + Sync>(rt: &R, alloc: Global, row: &str) -> Result<bool, Fail> {
+    let parts = parts_of(alloc, row, " | ")?;
+    let [chi, circuits, cocircuits, count, some] = parts.as_slice() else {
+        return Err(Fail::new("no row"));
+    };
+    let (rank, _) = chi.split_once(' ').ok_or("no rank")?;
+    let all = converted(rt, alloc, "chirotope", chi, "covectors")?;
+    let four = format!(in alloc; "{chi} | {circuits} | {cocircuits} | {all}")?;
+    let texts = parts_of(alloc, four.as_str(), " | ")?;
+    Ok(
+        give_each_other(rt, alloc, texts.as_slice())?
+            && denote_the_same(rt, alloc, texts.as_slice())?
+            && have_rank(rt, alloc, rank.parse()?, texts.as_slice())?
+            && vectors_in(all.as_str()) == count.parse()?
+            && has_words(all.as_str(), some),
+    )
 }
 
 #[test]
 fn twelve_conversions(rt: HostRuntime) -> Result<(), Fail> {
-    for row in ROWS {
-        let row_holds = holds(&rt, rt.alloc(), row)?;
-        assert!(rt; row_holds);
+    for row in ROWS.split('\n') {
+        assert!(rt; holds(&rt, rt.alloc(), row)?, "{row}");
     }
     Ok(())
 }
+
+/// Values, and what they convert to, lists in the order in which they are found.
+const FOUND: &str = "covectors | 3 000 | cocircuits | 3
+covectors | 3 000 +00 -00 | cocircuits | 3 +00 -00
+covectors | 3 +++ 0++ --- 0-- 000 --0 ++0 -++ -0+ +-- +0- --+ ++- | cocircuits | 3 0++ 0-- --0 ++0 -0+ +0-
+circuits | 16 | covectors | more than 4096 members";
 
 #[test]
-fn covectors_give_their_cocircuits(rt: HostRuntime) -> Result<(), Fail> {
-    for (covectors, wanted) in LEAST {
-        let text = least(&rt, rt.alloc(), covectors)?;
-        assert_eq!(rt; text.as_str(), wanted);
+fn values_and_what_they_convert_to(rt: HostRuntime) -> Result<(), Fail> {
+    for row in FOUND.split('\n') {
+        assert!(rt; is_found(&rt, rt.alloc(), row)?, "{row}");
     }
     Ok(())
 }
 
-/// Whether there are too many members, and the answer names the limit.
-fn is_many<T: Drop>(found: Result<T, ConvertError>) -> bool {
-    match found {
-        Ok(_) => false,
-        Err(error) => {
-            error
-                == ConvertError::TooMany {
-                    limit: MAX_MEMBERS as u32,
-                }
-        }
-    }
+/// Whether a value of a row converts to what the row says.
+fn is_found<R: Threads + Sync>(rt: &R, alloc: Global, row: &str) -> Result<bool, Fail> {
+    let parts = parts_of(alloc, row, " | ")?;
+    let [from, text, kind, wanted] = parts.as_slice() else {
+        return Err(Fail::new("no row"));
+    };
+    Ok(converted(rt, alloc, from, text, kind)?.as_str() == *wanted)
 }
 
-/// Ranks, numbers of elements and of signs, and of what there is too much: circuits, cocircuits and covectors.
+/// Ranks and numbers of elements, what there is too much of where all signs are plus, and the number of signs.
 ///
 /// There are 680 sets of 3, and of 14, of 17 elements, and 2,380 of 4, and of 13. Where all signs are plus, the vectors V of the
 /// sets of 4 have these supports; and the vectors U of the sets of 13 have the other elements as supports. In rank 16 on 16
 /// elements there are 32 cocircuits, and 3 to the power 16 covectors.
-const TOO_MANY: [(u8, u8, usize, bool, bool, bool); 3] = [
-    (3, 17, 680, true, false, false),
-    (14, 17, 680, false, true, true),
-    (16, 16, 1, false, false, true),
+const TOO_MANY: [(&str, &str, usize); 4] = [
+    ("3 17", "circuits", 680),
+    ("14 17", "cocircuits", 680),
+    ("14 17", "covectors", 680),
+    ("16 16", "covectors", 1),
 ];
 
-/// Whether a chirotope has too much of what is named.
-fn has_too_many(
-    alloc: Global,
-    chi: &Chirotope,
-    circuits: bool,
-    cocircuits: bool,
-    covectors: bool,
-) -> bool {
-    (!circuits || is_many(chirotope_to_circuits(alloc, chi)))
-        && (!cocircuits || is_many(chirotope_to_cocircuits(alloc, chi)))
-        && (!covectors || is_many(chirotope_to_covectors(alloc, chi)))
-}
-
-/// The chirotope whose signs are all plus.
-pub fn all_plus<R: Threads + Sync>(
+/// What a chirotope whose signs are all plus converts to: its rank and its number of elements are given, and how many signs it
+/// has.
+pub fn from_all_plus<R: Threads + Sync>(
     rt: &R,
     alloc: Global,
-    rank: u8,
-    elements: u8,
+    numbers: &str,
     count: usize,
-) -> Result<Chirotope, SampleError> {
-    let mut signs = String::new(alloc);
-    for _k in 0..count {
-        signs.push_str("+")?;
-    }
-    chirotope_of(rt, alloc, rank, elements, signs.as_str())
+    kind: &str,
+) -> Result<String, Fail> {
+    let signs = "+".repeat(alloc, count)?;
+    let text = format!(in alloc; "{numbers} {signs}")?;
+    converted(rt, alloc, "chirotope", text.as_str(), kind)
 }
 
 #[test]
 fn too_many(rt: HostRuntime) -> Result<(), Fail> {
-    for (rank, elements, count, circuits, cocircuits, covectors) in TOO_MANY {
-        let chi = all_plus(&rt, rt.alloc(), rank, elements, count)?;
-        assert!(rt; has_too_many(rt.alloc(), &chi, circuits, cocircuits, covectors));
+    for (numbers, kind, count) in TOO_MANY {
+        let found = from_all_plus(&rt, rt.alloc(), numbers, count, kind)?;
+        assert!(rt;
+            found.as_str() == "more than 4096 members",
+            "{numbers} {kind}"
+        );
     }
-    // the one of rank 16 once more, which has no circuits
-    let free = circuits_of(&rt, rt.alloc(), 16, &[])?;
-    assert!(rt; is_many(circuits_to_covectors(rt.alloc(), &free)));
     Ok(())
 }
 
 /// Ten pairs of elements. Where these are the circuits, the elements of a pair are parallel, and a basis has one of each; where
 /// they are the cocircuits, the same holds for the dual. So the rank is 10, and there are 184,756 sets of 10 of 20 elements.
-const PAIRS: [&str; 20] = [
-    "+-000000000000000000",
-    "-+000000000000000000",
-    "00+-0000000000000000",
-    "00-+0000000000000000",
-    "0000+-00000000000000",
-    "0000-+00000000000000",
-    "000000+-000000000000",
-    "000000-+000000000000",
-    "00000000+-0000000000",
-    "00000000-+0000000000",
-    "0000000000+-00000000",
-    "0000000000-+00000000",
-    "000000000000+-000000",
-    "000000000000-+000000",
-    "00000000000000+-0000",
-    "00000000000000-+0000",
-    "0000000000000000+-00",
-    "0000000000000000-+00",
-    "000000000000000000+-",
-    "000000000000000000-+",
+const PAIRS: &str = "20 \
+    +-000000000000000000 -+000000000000000000 \
+    00+-0000000000000000 00-+0000000000000000 \
+    0000+-00000000000000 0000-+00000000000000 \
+    000000+-000000000000 000000-+000000000000 \
+    00000000+-0000000000 00000000-+0000000000 \
+    0000000000+-00000000 0000000000-+00000000 \
+    000000000000+-000000 000000000000-+000000 \
+    00000000000000+-0000 00000000000000-+0000 \
+    0000000000000000+-00 0000000000000000-+00 \
+    000000000000000000+- 000000000000000000-+";
+
+/// Kinds of which the pairs are, and kinds that these would convert to.
+const TOO_WIDE: [(&str, &str); 6] = [
+    ("circuits", "chirotope"),
+    ("circuits", "cocircuits"),
+    ("circuits", "covectors"),
+    ("cocircuits", "chirotope"),
+    ("cocircuits", "circuits"),
+    ("cocircuits", "covectors"),
 ];
-
-/// Whether the chirotope is too wide, and the answer names this number of values.
-fn is_wide<T: Drop>(found: Result<T, ConvertError>, values: u32) -> bool {
-    match found {
-        Ok(_) => false,
-        Err(error) => error == ConvertError::TooWide { values },
-    }
-}
-
-/// Whether circuits have this rank, and their chirotope too many values.
-fn are_wide_circuits(alloc: Global, circuits: &Circuits, rank: u8, values: u32) -> bool {
-    rank_circuits(circuits) == rank
-        && is_wide(circuits_to_chirotope(alloc, circuits), values)
-        && is_wide(circuits_to_cocircuits(alloc, circuits), values)
-        && is_wide(circuits_to_covectors(alloc, circuits), values)
-}
-
-/// Whether cocircuits have this rank, and their chirotope too many values.
-fn are_wide_cocircuits(alloc: Global, cocircuits: &Cocircuits, rank: u8, values: u32) -> bool {
-    rank_cocircuits(cocircuits) == rank
-        && is_wide(cocircuits_to_chirotope(alloc, cocircuits), values)
-        && is_wide(cocircuits_to_circuits(alloc, cocircuits), values)
-        && is_wide(cocircuits_to_covectors(alloc, cocircuits), values)
-}
 
 #[test]
 fn too_wide(rt: HostRuntime) -> Result<(), Fail> {
-    let alloc = rt.alloc();
-    let circuits = circuits_of(&rt, alloc, 20, &PAIRS)?;
-    let cocircuits = cocircuits_of(&rt, alloc, 20, &PAIRS)?;
-    assert!(rt; are_wide_circuits(alloc, &circuits, 10, 184_756));
-    assert!(rt; are_wide_cocircuits(alloc, &cocircuits, 10, 184_756));
+    for (from, kind) in TOO_WIDE {
+        let found = converted(&rt, rt.alloc(), from, PAIRS, kind)?;
+        assert!(rt;
+            found.as_str() == "the chirotope has 184756 values",
+            "{from} {kind}"
+        );
+    }
+    assert!(rt; rank_circuits(&circuits(&rt, rt.alloc(), PAIRS)?) == 10);
+    assert!(rt; rank_cocircuits(&cocircuits(&rt, rt.alloc(), PAIRS)?) == 10);
     Ok(())
 }
 
 #[test]
 fn errors_are_printed(rt: HostRuntime) -> Result<(), Fail> {
-    let wide = format!(in rt.alloc(); "{}", ConvertError::TooWide { values: 5 })?;
-    let many = format!(in rt.alloc(); "{}", ConvertError::TooMany { limit: 5 })?;
-    let memory = format!(in rt.alloc(); "{}", ConvertError::from(NoMemory))?;
-    assert_eq!(rt; wide.as_str(), "the chirotope has 5 values");
-    assert_eq!(rt; many.as_str(), "more than 5 members");
-    assert_eq!(rt; memory.as_str(), "out of memory");
+    let wide = ConvertError::TooWide { values: 5 };
+    let many = ConvertError::TooMany { limit: 5 };
+    let memory = ConvertError::from(NoMemory);
+    let text = format!(in rt.alloc(); "{wide}, {many}, {memory}")?;
+    assert!(rt; text.as_str() == "the chirotope has 5 values, more than 5 members, out of memory");
     Ok(())
 }

@@ -10,6 +10,8 @@ mod covectors;
 #[cfg(test)]
 mod dual;
 #[cfg(test)]
+mod helpers;
+#[cfg(test)]
 mod minors;
 #[cfg(test)]
 mod oriented;

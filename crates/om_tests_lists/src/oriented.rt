@@ -1,118 +1,95 @@
 //! One oriented matroid in its representations, and pairs that differ.
 
-ghost use Rattle.std.specs.Prelude.{◌≡◌};
-
-use om_oriented::{Oriented, same};
-use om_samples::{SampleError, chirotope_of, circuits_of, cocircuits_of, covectors_of, vector_of};
+use super::helpers::{differ, has_one_of, parts_of};
 use std::alloc::Global;
 use std::test::Fail;
 use std::thread::Threads;
 
-/// The circuits of the uniform rank 3 oriented matroid on 4 elements whose chirotope is `++++`.
-const CIRCUITS: &[&str] = &["-+-+", "+-+-"];
-
-/// Its cocircuits.
-const COCIRCUITS: &[&str] = &[
-    "--00", "-00-", "-0+0", "0--0", "0-0+", "00--", "00++", "0+0-", "0++0", "+0-0", "+00+", "++00",
-];
-
-/// The unit vectors of two elements and their negatives: in rank 0 all of them are circuits, and there is no cocircuit; in
-/// rank 2 it is the other way round.
-const UNITS: &[&str] = &["-0", "0-", "0+", "+0"];
-
-/// Chirotopes by rank, number of elements and signs; circuits and cocircuits, which denote the same as each other; and the
-/// first difference of the chirotope and these, if there is one.
+/// A chirotope; circuits and cocircuits, which denote the same as each other; and the first difference of the chirotope and
+/// these, or `same`.
 ///
 /// The circuits of `+++-` are `++-+` and its negative. The vectors `----`, `---0` and `---+` are orthogonal to them and to
-/// those of `++++`; `--0-` is orthogonal to `-+-+`, and its products with `++-+` are all minus or zero.
-const OF_THREE_KINDS: [(u8, u8, &str, &[&str], &[&str], &str); 4] = [
-    (3, 4, "++++", CIRCUITS, COCIRCUITS, ""),
-    (3, 4, "+++-", CIRCUITS, COCIRCUITS, "--0-"),
-    (0, 2, "+", UNITS, &[], ""),
-    (2, 2, "+", &[], UNITS, ""),
-];
+/// those of `++++`; `--0-` is orthogonal to `-+-+`, and its products with `++-+` are all minus or zero. In rank 0 all unit vectors
+/// and their negatives are circuits, and there is no cocircuit; in the rank of all elements it is the other way round.
+const THREE_KINDS: &str =
+    "3 4 ++++ | 4 -+-+ +-+- | 4 --00 -00- -0+0 0--0 0-0+ 00-- 00++ 0+0- 0++0 +0-0 +00+ ++00 | same
+3 4 +++- | 4 -+-+ +-+- | 4 --00 -00- -0+0 0--0 0-0+ 00-- 00++ 0+0- 0++0 +0-0 +00+ ++00 | --0-
+0 2 + | 2 -0 0- 0+ +0 | 2 | same
+2 2 + | 2 | 2 -0 0- 0+ +0 | same";
 
-/// Chirotopes on two elements, by rank and signs, and their first difference. Of two elements that are both loops, only `00`
-/// is a covector; where the second is none, `0-` and `0+` are too.
-const OF_TWO_ELEMENTS: [(u8, &str, u8, &str, &str); 2] = [
-    (0, "+", 1, "0+", "0-"),
-    (0, "+", 2, "+", "--"),
-];
-
-/// Whether `++-+` is a covector of a value with four elements, and `+-+-` is none.
-fn is_as_expected<M: Oriented>(value: &M) -> bool {
-    let n = value.elements();
-    n == 4 && value.is_covector(vector_of(n, "++-+")) && !value.is_covector(vector_of(n, "+-+-"))
-}
-
-/// Whether two values have a text as their first difference, each way round; with an empty text, whether they have none.
-fn differ_at<A: Oriented, B: Oriented>(a: &A, b: &B, wanted: &str) -> bool
-    requires { A.elements a.now ≡ B.elements b.now }
-{
-    let n = a.elements();
-    match (same(a, b), same(b, a)) {
-        (Ok(()), Ok(())) => wanted.is_empty(),
-        (Err(one), Err(other)) => {
-            !wanted.is_empty() && one.x == vector_of(n, wanted) && other.x == one.x
-        }
-        _ => false,
-    }
-}
-
-/// Whether a row of chirotopes, circuits and cocircuits holds.
-fn agree<R: Threads + Sync>(
-    rt: &R,
-    alloc: Global,
-    row: (u8, u8, &str, &[&str], &[&str], &str),
-) -> Result<bool, SampleError> {
-    let (rank, elements, signs, circuits, cocircuits, wanted) = row;
-    let chi = chirotope_of(rt, alloc, rank, elements, signs)?;
-    let circuits = circuits_of(rt, alloc, elements, circuits)?;
-    let cocircuits = cocircuits_of(rt, alloc, elements, cocircuits)?;
-    let each = differ_at(&chi, &chi, "")
-        && differ_at(&circuits, &circuits, "")
-        && differ_at(&cocircuits, &cocircuits, "")
-        && differ_at(&circuits, &cocircuits, "");
-    Ok(each && differ_at(&chi, &circuits, wanted) && differ_at(&chi, &cocircuits, wanted))
+/// Whether a row of three kinds holds.
+fn agree<R: Threads + Sync>(rt: &R, alloc: Global, row: &str) -> Result<bool, Fail> {
+    let parts = parts_of(alloc, row, " | ")?;
+    let [chi, circuits, cocircuits, wanted] = parts.as_slice() else {
+        return Err(Fail::new("no row"));
+    };
+    let one = differ(rt, alloc, "chirotopes", chi, chi, "same")?
+        & differ(rt, alloc, "circuits", circuits, circuits, "same")?
+        & differ(rt, alloc, "cocircuits", cocircuits, cocircuits, "same")?;
+    let lists = differ(
+        rt,
+        alloc,
+        "circuits, cocircuits",
+        circuits,
+        cocircuits,
+        "same",
+    )?;
+    let with_circuits = differ(rt, alloc, "chirotope, circuits", chi, circuits, wanted)?;
+    let with_cocircuits = differ(rt, alloc, "chirotope, cocircuits", chi, cocircuits, wanted)?;
+    Ok(one & lists & with_circuits & with_cocircuits)
 }
 
 #[test]
 fn three_kinds(rt: HostRuntime) -> Result<(), Fail> {
-    for row in OF_THREE_KINDS {
-        let holds = agree(&rt, rt.alloc(), row)?;
-        assert!(rt; holds);
+    for row in THREE_KINDS.split('\n') {
+        assert!(rt; agree(&rt, rt.alloc(), row)?, "{row}");
     }
     Ok(())
 }
+
+/// The kinds of two values, the values, and their first difference or `same`.
+///
+/// Of two elements that are both loops, only `00` is a covector; where the second is none, `0-` and `0+` are too. Where the
+/// first of three elements is in every basis and the others are loops, the covectors are those that are zero at the loops.
+const PAIRS: &str = "chirotopes | 0 2 + | 1 2 0+ | 0-
+chirotopes | 0 2 + | 2 2 + | --
+chirotope, covectors | 1 3 +00 | 3 000 +00 -00 | same
+covectors | 3 000 +00 -00 | 3 000 | -00";
+
+/// Whether a row of two values holds.
+fn pair_holds<R: Threads + Sync>(rt: &R, alloc: Global, row: &str) -> Result<bool, Fail> {
+    let parts = parts_of(alloc, row, " | ")?;
+    let [kinds, one, other, wanted] = parts.as_slice() else {
+        return Err(Fail::new("no row"));
+    };
+    differ(rt, alloc, kinds, one, other, wanted)
+}
+
+#[test]
+fn pairs(rt: HostRuntime) -> Result<(), Fail> {
+    for row in PAIRS.split('\n') {
+        assert!(rt; pair_holds(&rt, rt.alloc(), row)?, "{row}");
+    }
+    Ok(())
+}
+
+/// One oriented matroid, of which `++-+` is a covector and `+-+-` is none.
+const KINDS: [(&str, &str); 3] = [
+    ("chirotope", "3 4 ++++"),
+    ("circuits", "4 -+-+ +-+-"),
+    (
+        "cocircuits",
+        "4 --00 -00- -0+0 0--0 0-0+ 00-- 00++ 0+0- 0++0 +0-0 +00+ ++00",
+    ),
+];
 
 #[test]
 fn covectors_of_each_kind(rt: HostRuntime) -> Result<(), Fail> {
-    let alloc = rt.alloc();
-    let chi = chirotope_of(&rt, alloc, 3, 4, "++++")?;
-    let circuits = circuits_of(&rt, alloc, 4, CIRCUITS)?;
-    let cocircuits = cocircuits_of(&rt, alloc, 4, COCIRCUITS)?;
-    assert!(rt; is_as_expected(&chi) && is_as_expected(&circuits) && is_as_expected(&cocircuits));
-    Ok(())
-}
-
-#[test]
-fn two_elements(rt: HostRuntime) -> Result<(), Fail> {
-    for (rank, signs, other_rank, other_signs, wanted) in OF_TWO_ELEMENTS {
-        let chi = chirotope_of(&rt, rt.alloc(), rank, 2, signs)?;
-        let other = chirotope_of(&rt, rt.alloc(), other_rank, 2, other_signs)?;
-        assert!(rt; differ_at(&chi, &other, wanted));
+    for (kind, value) in KINDS {
+        assert!(rt;
+            has_one_of(&rt, rt.alloc(), kind, value, "++-+", "+-+-")?,
+            "{kind}"
+        );
     }
-    Ok(())
-}
-
-// Where the first of three elements is in every basis and the others are loops, the covectors are those that are zero at the
-// loops.
-#[test]
-fn covectors_as_members(rt: HostRuntime) -> Result<(), Fail> {
-    let alloc = rt.alloc();
-    let chi = chirotope_of(&rt, alloc, 1, 3, "+00")?;
-    let covectors = covectors_of(&rt, alloc, 3, &["000", "+00", "-00"])?;
-    let zero = covectors_of(&rt, alloc, 3, &["000"])?;
-    assert!(rt; differ_at(&chi, &covectors, "") && differ_at(&covectors, &zero, "-00"));
     Ok(())
 }
