@@ -8,9 +8,16 @@ fn vectors_and_members(rt: HostRuntime) {
     let zero = SignVec::zero(2);
     let plus = zero.set(1, Sign::Plus);
     let minus = plus.neg();
-    assert!(rt; is_zero(zero) && !is_zero(plus));
-    assert!(rt; !are_same(plus, minus) && !are_same(zero, SignVec::zero(3)));
-    assert!(rt; is_member(&[zero, plus], plus) && !is_member(&[zero, plus], minus));
+    let list = [zero, plus];
+    let answers = [
+        is_zero(zero),
+        is_zero(plus),
+        are_same(plus, minus),
+        are_same(zero, SignVec::zero(3)),
+        is_member(&list, plus),
+        is_member(&list, minus),
+    ];
+    assert!(rt; answers == [true, false, false, false, true, false]);
 }
 
 #[test]
@@ -19,8 +26,11 @@ fn negatives(rt: HostRuntime) {
     let plus = zero.set(1, Sign::Plus);
     let minus = plus.neg();
     let both = plus.set(2, Sign::Minus);
-    assert!(rt; first_without_negative(&[]).is_none());
-    assert!(rt; first_without_negative(&[plus, zero, minus]).is_none());
-    assert!(rt; first_without_negative(&[plus, zero, minus, both]) == Some(3));
-    assert!(rt; first_without_negative(&[zero, plus, both]) == Some(1));
+    let firsts = [
+        first_without_negative(&[]),
+        first_without_negative(&[plus, zero, minus]),
+        first_without_negative(&[plus, zero, minus, both]),
+        first_without_negative(&[zero, plus, both]),
+    ];
+    assert!(rt; firsts == [None, None, Some(3), Some(1)]);
 }

@@ -1,6 +1,8 @@
+//! The least bad numbers and the answers of parts, and calls that are made at the same time.
+
 ghost use Rattle.std.specs.Prelude.{◌≡◌, ◌⊎◌, ◌/◌};
 
-use om_parallel::*;
+use om_parallel::{Part, Probe, first_bad, map_parts};
 use om_signs::NoMemory;
 use std::sync::atomic::{AtomicBool, Ordering};
 
@@ -27,6 +29,7 @@ struct Held {
 }
 
 impl Held {
+    /// No call has come.
     fn new() -> Held {
         Held {
             come: AtomicBool::new(false),
@@ -34,6 +37,7 @@ impl Held {
         }
     }
 
+    /// The call for a number.
     fn meet(&self, k: u64) {
         if k == 1 {
             self.come.store(true, Ordering::SeqCst);
@@ -68,7 +72,7 @@ impl Part for Held {
     }
 }
 
-/// Each number twice.
+/// The half of each number, rounded down.
 #[derive(Drop)]
 struct Halves;
 
@@ -84,35 +88,28 @@ impl Part for Halves {
 
 #[test]
 fn least_bad_number(rt: HostRuntime) {
-    assert_eq!(rt; first_bad(&rt, &FiveAndNineHundred, 1000), Some(5));
-    assert_eq!(rt; first_bad(&rt, &FiveAndNineHundred, 5), None);
-    assert_eq!(rt; first_bad(&rt, &FiveAndNineHundred, 0), None);
-    assert_eq!(rt; first_bad(&rt, &FiveAndNineHundred, 1_000_000), Some(5));
+    for (count, least) in [(1000, Some(5)), (5, None), (0, None), (1_000_000, Some(5))] {
+        assert!(rt; first_bad(&rt, &FiveAndNineHundred, count) == least);
+    }
 }
 
 #[test]
-fn probes_meet(rt: HostRuntime) {
-    let held = Held::new();
-    assert_eq!(rt; first_bad(&rt, &held, 2), None);
-    assert!(rt; !held.late.load(Ordering::SeqCst));
-}
-
-#[test]
-fn parts_meet(rt: HostRuntime) -> Result<(), NoMemory> {
-    let held = Held::new();
-    let answers = map_parts(&rt, rt.alloc(), &held, 2)?;
-    assert_eq!(rt; answers.as_slice(), [0, 1].as_slice());
-    assert!(rt; !held.late.load(Ordering::SeqCst));
+fn calls_meet(rt: HostRuntime) -> Result<(), NoMemory> {
+    let probes = Held::new();
+    assert!(rt; first_bad(&rt, &probes, 2).is_none());
+    let parts = Held::new();
+    let answers = map_parts(&rt, rt.alloc(), &parts, 2)?;
+    assert!(rt; answers.as_slice() == [0, 1].as_slice());
+    assert!(rt; !probes.late.load(Ordering::SeqCst) && !parts.late.load(Ordering::SeqCst));
     Ok(())
 }
 
 #[test]
 fn parts_in_order(rt: HostRuntime) -> Result<(), NoMemory> {
     let few = map_parts(&rt, rt.alloc(), &Halves, 5)?;
-    assert_eq!(rt; few.as_slice(), [0, 0, 1, 1, 2].as_slice());
+    assert!(rt; few.as_slice() == [0, 0, 1, 1, 2].as_slice());
     let none = map_parts(&rt, rt.alloc(), &Halves, 0)?;
-    assert_eq!(rt; none.len(), 0);
     let many = map_parts(&rt, rt.alloc(), &Halves, 20_000)?;
-    assert_eq!(rt; many.len(), 20_000);
+    assert!(rt; none.len() == 0 && many.len() == 20_000);
     Ok(())
 }

@@ -2,21 +2,20 @@
 
 use om_port::{
     CountSink, MemSink, MemSource, ReadError, Sink, Source, StdSink, StdSource, SureSource,
-    WriteFault, read_all, write_all,
+    read_all, write_all,
 };
 use om_signs::{List, MAX_INPUT, NoMemory};
 use std::alloc::Global;
 
-// Five bytes.
+/// Five bytes.
 const TEXT: &[u8] = b"om 1\n";
 
-type Read = Result<Vec<u8>, ReadError>;
+/// What a reading gives.
+type Read = Result<&'static [u8], ReadError>;
 
-type Want = Result<&'static [u8], ReadError>;
-
-// The text in pieces of two with a limit, where one call fails: what the first and the second reading give. The first six
-// fail at each call in turn, the others end around the length of the text.
-const READINGS: [(u32, usize, Want, Want); 10] = [
+/// The text in pieces of two with a limit, where one call fails: what the first and the second reading give. The first six
+/// fail at each call in turn, the others end around the length of the text.
+const READINGS: [(u32, usize, Read, Read); 10] = [
     (1, 10, Err(ReadError::ReadFault), Ok(b"om 1\n")),
     (2, 10, Err(ReadError::ReadFault), Ok(b" 1\n")),
     (3, 10, Err(ReadError::ReadFault), Ok(b"\n")),
@@ -29,8 +28,8 @@ const READINGS: [(u32, usize, Want, Want); 10] = [
     (100, 0, Err(ReadError::TooLong), Err(ReadError::TooLong)),
 ];
 
-// The text written to a room in pieces, where one call fails: how many of its bytes are taken. The first four fail at each
-// call in turn, the others have a room that ends at each byte.
+/// The text written to a room in pieces, where one call fails: how many of its bytes are taken. The first four fail at each
+/// call in turn, the others have a room that ends at each byte.
 const WRITINGS: [(usize, usize, u32, usize); 10] = [
     (10, 2, 1, 0),
     (10, 2, 2, 2),
@@ -44,34 +43,38 @@ const WRITINGS: [(usize, usize, u32, usize); 10] = [
     (5, 10, 100, 5),
 ];
 
-// The list of one number.
+/// The list of one number.
 fn only(alloc: Global, call: u32) -> Result<List<u32>, NoMemory> {
     let mut failing = List::new(alloc);
     failing.push(call)?;
     Ok(failing)
 }
 
-fn is_read(read: Read, want: Want) -> bool {
-    match (read, want) {
+/// Whether a source gives this up to its end or the limit.
+fn gives<S: Source>(alloc: Global, source: &mut S, limit: usize, expected: Read) -> bool {
+    match (read_all(alloc, source, limit.min(MAX_INPUT)), expected) {
         (Ok(bytes), Ok(text)) => bytes.as_slice() == text,
         (Err(error), Err(wanted)) => error == wanted,
         _ => false,
     }
 }
 
-// Whether a source gives this up to its end or the limit.
-fn gives<S: Source>(alloc: Global, source: &mut S, limit: usize, want: Want) -> bool {
-    is_read(read_all(alloc, source, limit.min(MAX_INPUT)), want)
+/// Whether a sink takes this many bytes of the text, and says so.
+fn takes<K: Sink>(sink: &mut K, count: usize) -> bool {
+    match write_all(sink, TEXT) {
+        Ok(()) => count == TEXT.len(),
+        Err(fault) => fault.written == count && count < TEXT.len(),
+    }
 }
 
-// The text in pieces of two, where one call fails.
+/// The text in pieces of two, where one call fails.
 fn source(alloc: Global, failing: u32) -> Result<MemSource, NoMemory> {
     let bytes = Vec::from_slice(alloc, TEXT)?;
     Ok(MemSource::new(bytes, 2, only(alloc, failing)?))
 }
 
-// Whether the first and the second reading give this.
-fn reads(alloc: Global, failing: u32, limit: usize, first: Want, rest: Want) -> bool {
+/// Whether the first and the second reading give this.
+fn reads(alloc: Global, failing: u32, limit: usize, first: Read, rest: Read) -> bool {
     match source(alloc, failing) {
         Ok(mut source) => {
             gives(alloc, &mut source, limit, first) && gives(alloc, &mut source, limit, rest)
@@ -80,25 +83,15 @@ fn reads(alloc: Global, failing: u32, limit: usize, first: Want, rest: Want) -> 
     }
 }
 
-// Whether a sink takes this many bytes of the text, and says so.
-fn takes<K: Sink>(sink: &mut K, count: usize) -> bool {
-    match write_all(sink, TEXT) {
-        Ok(()) => count == TEXT.len(),
-        Err(WriteFault { written }) => written == count && count < TEXT.len(),
-    }
-}
-
-// A room in memory, which takes pieces of at most `piece`, where one call fails.
+/// A room in memory, which takes pieces of at most `piece`, where one call fails.
 fn sink(alloc: Global, room: usize, piece: usize, failing: u32) -> Result<MemSink, NoMemory> {
     MemSink::new(alloc, room, piece.max(1), only(alloc, failing)?)
 }
 
-// Whether this many bytes are taken, and are the first ones of the text.
+/// Whether this many bytes are taken, and are the first ones of the text.
 fn writes(alloc: Global, room: usize, piece: usize, failing: u32, count: usize) -> bool {
     match sink(alloc, room, piece, failing) {
-        Ok(mut sink) => {
-            takes(&mut sink, count) && sink.bytes() == &TEXT[..count.min(TEXT.len())]
-        }
+        Ok(mut sink) => takes(&mut sink, count) && sink.bytes() == &TEXT[..count.min(TEXT.len())],
         Err(_) => false,
     }
 }
@@ -118,21 +111,15 @@ fn writings_fail_or_end(rt: HostRuntime) {
 }
 
 #[test]
-fn a_sure_source_never_fails(rt: HostRuntime) {
-    let bytes = Vec::from_slice(rt.alloc(), TEXT).expect(&rt, "memory");
-    assert!(rt; gives(rt.alloc(), &mut SureSource::new(bytes), 5, Ok(TEXT)));
-}
-
-#[test]
-fn a_sink_counts(rt: HostRuntime) {
-    let mut sink = CountSink::new();
-    assert!(rt; takes(&mut sink, 5) && takes(&mut sink, 5) && sink.taken() == 10);
-}
-
-#[test]
-fn readers_and_writers_of_std(rt: HostRuntime) {
-    assert!(rt; gives(rt.alloc(), &mut StdSource::new(TEXT), 5, Ok(TEXT)));
-    assert!(rt; takes(&mut StdSink::new(Vec::new(rt.alloc())), 5));
+fn other_sources_and_sinks(rt: HostRuntime) -> Result<(), NoMemory> {
+    let alloc = rt.alloc();
+    let bytes = Vec::from_slice(alloc, TEXT)?;
+    assert!(rt; gives(alloc, &mut SureSource::new(bytes), 5, Ok(TEXT)));
+    assert!(rt; gives(alloc, &mut StdSource::new(TEXT), 5, Ok(TEXT)));
+    let mut counting = CountSink::new();
+    assert!(rt; takes(&mut counting, 5) && takes(&mut counting, 5) && counting.taken() == 10);
+    assert!(rt; takes(&mut StdSink::new(Vec::new(alloc)), 5));
     let mut room = [0u8; 3];
     assert!(rt; takes(&mut StdSink::new(room.as_mut_slice()), 3));
+    Ok(())
 }
