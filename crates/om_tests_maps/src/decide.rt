@@ -1,79 +1,32 @@
 //! The verdicts on small chirotopes, and on those of the Pappus configuration with and without its ninth line.
 
-ghost use Rattle.std.specs.Prelude.{◌≤◌};
-
+use super::helpers::chirotope_of;
+use super::questions::{Question, are_answered};
 use om_certificate::{LpEnd, Verdict};
-use om_chirotope::Chirotope;
-use om_decide::{Budgets, DecideError, decide};
-use om_signs::{List, MAX_ELEMENTS, MAX_PIVOTS, MAX_STEPS, NoMemory, RawMap, Sign};
-use om_subsets::Subset;
+use om_decide::{Budgets, decide};
+use om_signs::{MAX_PIVOTS, MAX_STEPS};
 use om_vectors::Unfound;
 use std::alloc::Global;
-use std::process::Abort;
+use std::test::Fail;
 use std::thread::Threads;
 
-/// The chirotope of nine points of which all triples but 789 are collinear as in Pappus's theorem.
-const NON_PAPPUS: &[u8] =
-    b"0++++++++++++--------0-0++++++++++----0---+0+++++---0+-0++++++++0------------------+";
+/// Chirotopes, steps and pivots, and the verdict in short: how many vectors, entries, weights or basis numbers it has, and how
+/// many vectors the search had in hand at its end, if it wasn't exhausted.
+const VERDICTS: &str = "2 3 +++: 1 1 = NotRank3 { r: 2 }
+3 4 ++++: 20 1000000 = 4 vectors
+3 4 ++++: 19 1000000 = 4 weights, Some(1)
+3 5 ++++++++++: 1 1 = 1 pivots 11 rows, Some(1)
+3 5 ++++++++++: 52 1 = 1 pivots 11 rows, None
+3 5 ++++++++++: 51 1 = 1 pivots 11 rows, Some(1)
+3 5 ++++++++++: 52 1000000 = 10 weights, None
+3 9 pappus: 1 1000000 = 75 weights, Some(1)
+3 9 non-pappus: 100000 136 = 22 entries
+3 9 non-pappus: 1 135 = 135 pivots 77 rows, Some(1)";
 
-/// The chirotope of the Pappus configuration, in which 789 is collinear too.
-const PAPPUS: &[u8] =
-    b"0++++++++++++--------0-0++++++++++----0---+0+++++---0+-0++++++++0------------------0";
-
-/// Four points with all signs plus.
-const FOUR: &[u8] = b"++++";
-
-/// Five points with all signs plus.
-const FIVE: &[u8] = b"++++++++++";
-
-/// A verdict in short: how many vectors, entries, weights or basis numbers it has, and how many vectors the search had in hand
-/// at its end.
-#[derive(Clone, Copy, Debug, PartialEq, Eq)]
-enum Short {
-    Vectors(u8),
-    Entries(usize),
-    Weights(usize, Option<u8>),
-    Basis(u32, usize, Option<u8>),
-    Width,
-    Rank(u8),
-    Memory,
-}
-
-/// The sign of a byte; any other byte than `+` and `-` is zero.
-fn sign_of(byte: u8) -> Sign {
-    match byte {
-        b'+' => Sign::Plus,
-        b'-' => Sign::Minus,
-        _ => Sign::Zero,
-    }
-}
-
-/// The chirotope with these signs.
-fn chirotope_of<R: Threads + Sync + Abort>(
-    rt: &R,
-    alloc: Global,
-    rank: u8,
-    elements: u8,
-    bytes: &[u8],
-) -> Result<Chirotope, NoMemory>
-    requires low { 1 ≤ elements }
-    requires high { elements ≤ MAX_ELEMENTS }
-    requires rank { rank ≤ elements }
-{
-    let mut signs = List::new(alloc);
-    for byte in bytes {
-        signs.push(sign_of(*byte))?;
-    }
-    assert_eq!(rt; signs.len(), Subset::choose(elements, rank) as usize);
-    let raw = RawMap {
-        rank,
-        elements,
-        signs,
-    };
-    match om_chirotope::check(rt, raw) {
-        Ok(chi) => Ok(chi),
-        Err(bad) => panic!(rt; "refused for {:?}", bad.why),
-    }
+/// The budgets of a text, in a box of 1.
+fn budgets_of(text: &str) -> Result<(u64, u32), Fail> {
+    let (steps, pivots) = text.split_once(' ').ok_or("no pivots")?;
+    Ok((steps.parse::<u64>()?, pivots.parse::<u32>()?))
 }
 
 /// The number of vectors that a search had in hand at its end, and None where it was exhausted.
@@ -85,66 +38,41 @@ fn in_hand(unfound: &Unfound) -> Option<u8> {
 }
 
 /// A verdict in short.
-fn in_short(verdict: &Verdict) -> Short {
+fn in_short(alloc: Global, verdict: &Verdict) -> Result<String, Fail> {
     match verdict {
-        Verdict::Realizable(word) => Short::Vectors(word.len()),
-        Verdict::Nonrealizable(entries) => Short::Entries(entries.len()),
-        Verdict::Undecided(weights, unfound) => Short::Weights(weights.len(), in_hand(unfound)),
-        Verdict::Limit(end, unfound) => match end {
-            LpEnd::Pivots { count, basis } => Short::Basis(*count, basis.len(), in_hand(unfound)),
-            LpEnd::Width { .. } => Short::Width,
-        },
+        Verdict::Realizable(word) => Ok(format!(in alloc; "{} vectors", word.len())?),
+        Verdict::Nonrealizable(entries) => Ok(format!(in alloc; "{} entries", entries.len())?),
+        Verdict::Undecided(weights, unfound) => {
+            Ok(format!(in alloc; "{} weights, {:?}", weights.len(), in_hand(unfound))?)
+        }
+        Verdict::Limit(LpEnd::Pivots { count, basis }, unfound) => {
+            let rows = basis.len();
+            Ok(format!(in alloc; "{count} pivots {rows} rows, {:?}", in_hand(unfound))?)
+        }
+        Verdict::Limit(LpEnd::Width { .. }, _) => Ok(String::from_str(alloc, "width")?),
     }
 }
 
-/// The verdict in short, in a box of 1.
-fn decided<R: Abort>(rt: &R, alloc: Global, chi: &Chirotope, steps: u64, pivots: u32) -> Short {
+/// The verdict on a chirotope in short, in a box of 1 with some steps and pivots.
+pub fn answer<R: Threads + Sync>(rt: &R, alloc: Global, asked: &str) -> Result<String, Fail> {
+    let (map, budgets) = asked.split_once(": ").ok_or("no budgets")?;
+    let chi = chirotope_of(rt, alloc, map)?;
+    let (steps, pivots) = budgets_of(budgets)?;
     if steps < 1 || steps > MAX_STEPS || pivots < 1 || pivots > MAX_PIVOTS {
-        panic!(rt; "a budget out of range");
+        return Err(Fail::new("out of range"));
     }
     let budgets = Budgets {
         box_size: 1,
         steps,
         pivots,
     };
-    match decide(alloc, chi, budgets) {
-        Ok(verdict) => in_short(&verdict),
-        Err(DecideError::NotRank3 { r }) => Short::Rank(r),
-        Err(DecideError::Memory) => Short::Memory,
+    match decide(alloc, &chi, budgets) {
+        Ok(verdict) => in_short(alloc, &verdict),
+        Err(error) => Ok(format!(in alloc; "{error:?}")?),
     }
 }
 
 #[test]
-fn small_chirotopes(rt: HostRuntime) -> Result<(), NoMemory> {
-    let alloc = rt.alloc();
-    let two = chirotope_of(&rt, alloc, 2, 3, b"+++")?;
-    let four = chirotope_of(&rt, alloc, 3, 4, FOUR)?;
-    let five = chirotope_of(&rt, alloc, 3, 5, FIVE)?;
-    for (chi, steps, pivots, expected) in [
-        (&two, 1, 1, Short::Rank(2)),
-        (&four, 20, 1_000_000, Short::Vectors(4)),
-        (&four, 19, 1_000_000, Short::Weights(4, Some(1))),
-        (&five, 1, 1, Short::Basis(1, 11, Some(1))),
-        (&five, 52, 1, Short::Basis(1, 11, None)),
-        (&five, 51, 1, Short::Basis(1, 11, Some(1))),
-        (&five, 52, 1_000_000, Short::Weights(10, None)),
-    ] {
-        assert_eq!(rt; decided(&rt, alloc, chi, steps, pivots), expected);
-    }
-    Ok(())
-}
-
-#[test]
-fn pappus(rt: HostRuntime) -> Result<(), NoMemory> {
-    let alloc = rt.alloc();
-    let with = chirotope_of(&rt, alloc, 3, 9, PAPPUS)?;
-    let without = chirotope_of(&rt, alloc, 3, 9, NON_PAPPUS)?;
-    for (chi, steps, pivots, expected) in [
-        (&with, 1, 1_000_000, Short::Weights(75, Some(1))),
-        (&without, 100_000, 136, Short::Entries(22)),
-        (&without, 1, 135, Short::Basis(135, 77, Some(1))),
-    ] {
-        assert_eq!(rt; decided(&rt, alloc, chi, steps, pivots), expected);
-    }
-    Ok(())
+fn verdicts(rt: HostRuntime) -> Result<(), Fail> {
+    are_answered(&rt, rt.alloc(), Question::Decision, "", VERDICTS)
 }

@@ -1,113 +1,109 @@
 //! Statements worked out by hand: on the alternating chirotopes, whose signs are all plus, and on the Pappus and the
 //! non-Pappus chirotope.
 
+use super::helpers::{chirotope_of, statement_of};
+use super::questions::{Question, are_answered};
 use om_chirotope::Chirotope;
 use om_grassmann::{
     Statement, brackets_of_lawful_statements, following, lawful, nth_statement, sides,
 };
-use om_samples::chirotope_of;
-use om_subsets::Subset;
+use std::alloc::Global;
 use std::test::Fail;
+use std::thread::Threads;
 
-/// The signs of the Pappus chirotope on nine elements. That of the last triple, 7 8 9, is 0.
-const PAPPUS: &str =
-    "0++++++++++++--------0-0++++++++++----0---+0+++++---0+-0++++++++0------------------0";
-
-/// The same with the last sign plus.
-const NON_PAPPUS: &str =
-    "0++++++++++++--------0-0++++++++++----0---+0+++++---0+-0++++++++0------------------+";
-
-/// The 1,140 signs of the alternating chirotope of rank 3 on 20 elements.
-const TWENTY: &str = "\
-    ++++++++++++++++++++++++++++++++++++++++++++++++++++++++++++++++++++++++++++++++\
-    ++++++++++++++++++++++++++++++++++++++++++++++++++++++++++++++++++++++++++++++++\
-    ++++++++++++++++++++++++++++++++++++++++++++++++++++++++++++++++++++++++++++++++\
-    ++++++++++++++++++++++++++++++++++++++++++++++++++++++++++++++++++++++++++++++++\
-    ++++++++++++++++++++++++++++++++++++++++++++++++++++++++++++++++++++++++++++++++\
-    ++++++++++++++++++++++++++++++++++++++++++++++++++++++++++++++++++++++++++++++++\
-    ++++++++++++++++++++++++++++++++++++++++++++++++++++++++++++++++++++++++++++++++\
-    ++++++++++++++++++++++++++++++++++++++++++++++++++++++++++++++++++++++++++++++++\
-    ++++++++++++++++++++++++++++++++++++++++++++++++++++++++++++++++++++++++++++++++\
-    ++++++++++++++++++++++++++++++++++++++++++++++++++++++++++++++++++++++++++++++++\
-    ++++++++++++++++++++++++++++++++++++++++++++++++++++++++++++++++++++++++++++++++\
-    ++++++++++++++++++++++++++++++++++++++++++++++++++++++++++++++++++++++++++++++++\
-    ++++++++++++++++++++++++++++++++++++++++++++++++++++++++++++++++++++++++++++++++\
-    ++++++++++++++++++++++++++++++++++++++++++++++++++++++++++++++++++++++++++++++++\
-    ++++++++++++++++++++";
-
-/// The elements and the sides of all lawful statements of the alternating chirotope on five elements, in order.
-const FIVE: [(u32, u8); 10] = [
-    (12345, 12),
-    (12345, 32),
-    (21345, 12),
-    (21345, 32),
-    (31245, 12),
-    (31245, 32),
-    (41235, 12),
-    (41235, 32),
-    (51234, 12),
-    (51234, 32),
-];
+/// All lawful statements of the alternating chirotope on five elements, each by its number and with the one that follows.
+const FIVE: &str = "at 0 12345<12 12345<32 = true
+at 1 12345<32 21345<12 = true
+at 2 21345<12 21345<32 = true
+at 3 21345<32 31245<12 = true
+at 4 31245<12 31245<32 = true
+at 5 31245<32 41235<12 = true
+at 6 41235<12 41235<32 = true
+at 7 41235<32 51234<12 = true
+at 8 51234<12 51234<32 = true
+at 9 51234<32 none = true
+at 10 none none = true
+at 4294967295 none none = true";
 
 /// Statements that aren't lawful there: the other direction, an equation, elements out of order, out of range or repeated,
 /// and sides that aren't two of three.
-const UNLAWFUL: [(u32, u8, bool); 10] = [
-    (12345, 21, true),
-    (12345, 13, true),
-    (12345, 12, false),
-    (13245, 12, true),
-    (12346, 12, true),
-    (2345, 12, true),
-    (22345, 12, true),
-    (12345, 2, true),
-    (12345, 22, true),
-    (12345, 24, true),
-];
+const UNLAWFUL: &str = "brackets 12345<21 = unlawful
+brackets 12345<13 = unlawful
+brackets 12345=12 = unlawful
+brackets 13245<12 = unlawful
+brackets 12346<12 = unlawful
+brackets 02345<12 = unlawful
+brackets 22345<12 = unlawful
+brackets 12345<02 = unlawful
+brackets 12345<22 = unlawful
+brackets 12345<24 = unlawful";
 
-/// The elements and sides of the nine entries of a certificate that the non-Pappus chirotope isn't realizable, and the
-/// brackets of their small sides and of their big sides. The elements are digits. Only the seventh is strict.
-const ENTRIES: [(u32, u8, [u32; 4]); 9] = [
-    (12347, 32, [127, 134, 124, 137]),
-    (14579, 31, [149, 157, 145, 179]),
-    (14678, 13, [146, 178, 148, 167]),
-    (41567, 12, [145, 467, 146, 457]),
-    (41279, 13, [124, 479, 149, 247]),
-    (41378, 31, [148, 347, 134, 478]),
-    (71489, 32, [179, 478, 178, 479]),
-    (71246, 31, [167, 247, 127, 467]),
-    (71345, 13, [137, 457, 157, 347]),
-];
+/// Chirotopes that are too small, and one with many statements: each of 20 elements with each 4 of the other 19 gives two
+/// strict ones. The last of them is on 20 and the four elements before it.
+const OTHERS: &str = "3 4 ++++: at 0 none none = true
+2 5 ++++++++++: at 0 none none = true
+2 5 ++++++++++: brackets 12345<12 = unlawful
+3 20 plus but 1140: count 155041 = 155040
+3 20 plus but 1140: at 155039 last none = true
+3 20 plus but 1140: at 155040 none none = true";
 
-/// A statement on the elements a to e, which are the digits of a number, and with two sides, which are as well.
-fn statement(digits: u32, sides: u8, strict: bool) -> Statement {
-    Statement {
-        a: (digits / 10_000 % 10) as u8,
-        b: (digits / 1_000 % 10) as u8,
-        c: (digits / 100 % 10) as u8,
-        d: (digits / 10 % 10) as u8,
-        e: (digits % 10) as u8,
-        small: sides / 10,
-        big: sides % 10,
-        strict,
+/// The brackets, as masks, of the small sides and of the big sides of eight of the nine entries of a certificate that the
+/// non-Pappus chirotope isn't realizable. They are equations, and not strict.
+const EQUATIONS: &str = "brackets 12347=32 = 1000011 1101 1011 1000101
+brackets 12347<32 = unlawful
+brackets 14579=31 = 100001001 1010001 11001 101000001
+brackets 14579<31 = unlawful
+brackets 14678=13 = 101001 11000001 10001001 1100001
+brackets 14678<13 = unlawful
+brackets 41567=12 = 11001 1101000 101001 1011000
+brackets 41567<12 = unlawful
+brackets 41279=13 = 1011 101001000 100001001 1001010
+brackets 41279<13 = unlawful
+brackets 41378=31 = 10001001 1001100 1101 11001000
+brackets 41378<31 = unlawful
+brackets 71246=31 = 1100001 1001010 1000011 1101000
+brackets 71246<31 = unlawful
+brackets 71345=13 = 1000101 1011000 1010001 1001100
+brackets 71345<13 = unlawful";
+
+/// The same of the other entry, which is strict on the non-Pappus chirotope alone.
+const SEVENTH: &str = "non-pappus: brackets 71489<32 = 101000001 11001000 11000001 101001000
+non-pappus: brackets 71489=32 = unlawful
+pappus: brackets 71489=32 = 101000001 11001000 11000001 101001000
+pappus: brackets 71489<32 = unlawful";
+
+/// The last strict statement on 20 elements.
+const LAST: Statement = Statement {
+    a: 20,
+    b: 16,
+    c: 17,
+    d: 18,
+    e: 19,
+    small: 3,
+    big: 2,
+    strict: true,
+};
+
+/// The statement of a text, or None for the word `none`.
+fn some_statement(text: &str) -> Result<Option<Statement>, Fail> {
+    if text == "none" {
+        return Ok(None);
     }
+    if text == "last" {
+        return Ok(Some(LAST));
+    }
+    Ok(Some(statement_of(text)?))
 }
 
-/// Whether some strict statements are the lawful ones, in order, each found by its number and as the next one.
-fn are_all(chi: &Chirotope, rows: &[(u32, u8)]) -> bool {
-    let mut next = nth_statement(chi, 0);
-    let mut k = 0u32;
-    for (digits, pair) in rows {
-        let wanted = statement(*digits, *pair, true);
-        if next != Some(wanted) || nth_statement(chi, k) != Some(wanted) {
-            return false;
-        }
-        if !lawful(chi, wanted) {
-            return false;
-        }
-        next = following(chi, wanted);
-        k = k.wrapping_add(1);
-    }
-    next.is_none() && nth_statement(chi, k).is_none()
+/// Whether a statement, or none, is the one with the number `k`, and is lawful with another one, or none, behind it.
+fn is_at(chi: &Chirotope, words: &str) -> Result<bool, Fail> {
+    let (k, rest) = words.split_once(' ').ok_or("no statement")?;
+    let (this, next) = rest.split_once(' ').ok_or("no next statement")?;
+    let (this, next) = (some_statement(this)?, some_statement(next)?);
+    let Some(found) = nth_statement(chi, k.parse::<u32>()?) else {
+        return Ok(this.is_none());
+    };
+    Ok(Some(found) == this && lawful(chi, found) && following(chi, found) == next)
 }
 
 /// The number of statements from the first one on, each lawful, that follow one another; no more than `most` are looked at.
@@ -122,78 +118,65 @@ fn count(chi: &Chirotope, most: u32) -> u32 {
     most
 }
 
-/// Whether one of some statements is lawful.
-fn is_any_lawful(chi: &Chirotope, rows: &[(u32, u8, bool)]) -> bool {
-    for (digits, pair, strict) in rows {
-        if lawful(chi, statement(*digits, *pair, *strict)) {
-            return true;
-        }
-    }
-    false
-}
-
-/// The elements of a set of elements up to 9, as digits.
-fn digits_of(s: Subset) -> u32 {
-    let mut number = 0u32;
-    for e in 1..10u8 {
-        if e <= s.n() && s.has(e) {
-            number = number % 1_000 * 10 + u32::from(e);
-        }
-    }
-    number
-}
-
-/// The brackets of the sides of a statement, where it is lawful; else zeros.
-fn brackets(chi: &Chirotope, st: Statement) -> [u32; 4] {
+/// The masks of the brackets of the sides of a statement, where it is lawful.
+fn brackets(alloc: Global, chi: &Chirotope, st: Statement) -> Result<String, Fail> {
     if !lawful(chi, st) {
-        return [0; 4];
+        return Ok(String::from_str(alloc, "unlawful")?);
     }
     brackets_of_lawful_statements();
     let (first, second, third, fourth) = sides(st, chi.elements());
-    [
-        digits_of(first),
-        digits_of(second),
-        digits_of(third),
-        digits_of(fourth),
-    ]
+    let (first, second) = (first.mask(), second.mask());
+    let (third, fourth) = (third.mask(), fourth.mask());
+    Ok(format!(in alloc; "{first:b} {second:b} {third:b} {fourth:b}")?)
 }
 
-/// Whether each entry is lawful with its brackets, and not lawful of the other kind, where only that with the number
-/// `strict`, from 0, is strict.
-fn are_entries(chi: &Chirotope, strict: usize) -> bool {
-    for (i, (digits, pair, wanted)) in ENTRIES.iter().enumerate() {
-        if lawful(chi, statement(*digits, *pair, i != strict)) {
-            return false;
-        }
-        if brackets(chi, statement(*digits, *pair, i == strict)) != *wanted {
-            return false;
-        }
+/// What is asked of the statements of a chirotope.
+pub fn answer<R: Threads + Sync>(rt: &R, alloc: Global, asked: &str) -> Result<String, Fail> {
+    let (map, question) = asked.split_once(": ").ok_or("no question")?;
+    let chi = chirotope_of(rt, alloc, map)?;
+    let (kind, rest) = question.split_once(' ').ok_or("no words")?;
+    match kind {
+        "at" => Ok(format!(in alloc; "{}", is_at(&chi, rest)?)?),
+        "count" => Ok(format!(in alloc; "{}", count(&chi, rest.parse::<u32>()?))?),
+        "brackets" => brackets(alloc, &chi, statement_of(rest)?),
+        _ => Err(Fail::new("another question")),
     }
-    true
 }
 
 #[test]
-fn few_elements(rt: HostRuntime) -> Result<(), Fail> {
-    let alloc = rt.alloc();
-    let five = chirotope_of(&rt, alloc, 3, 5, "++++++++++")?;
-    assert!(rt; are_all(&five, &FIVE) && nth_statement(&five, u32::MAX).is_none());
-    assert!(rt; !is_any_lawful(&five, &UNLAWFUL));
-    let four = chirotope_of(&rt, alloc, 3, 4, "++++")?;
-    assert!(rt; are_all(&four, &[]));
-    let pairs = chirotope_of(&rt, alloc, 2, 5, "++++++++++")?;
-    assert!(rt; are_all(&pairs, &[]) && !lawful(&pairs, statement(12345, 12, true)));
-    Ok(())
+fn alternating(rt: HostRuntime) -> Result<(), Fail> {
+    are_answered(
+        &rt,
+        rt.alloc(),
+        Question::Statements,
+        "3 5 ++++++++++: ",
+        FIVE,
+    )?;
+    are_answered(
+        &rt,
+        rt.alloc(),
+        Question::Statements,
+        "3 5 ++++++++++: ",
+        UNLAWFUL,
+    )?;
+    are_answered(&rt, rt.alloc(), Question::Statements, "", OTHERS)
 }
 
-// each of 20 elements with each 4 of the other 19 gives two strict statements
 #[test]
-fn many_elements(rt: HostRuntime) -> Result<(), Fail> {
-    let alloc = rt.alloc();
-    assert!(rt; are_entries(&chirotope_of(&rt, alloc, 3, 9, NON_PAPPUS)?, 6));
-    assert!(rt; are_entries(&chirotope_of(&rt, alloc, 3, 9, PAPPUS)?, 9));
-    let twenty = chirotope_of(&rt, alloc, 3, 20, TWENTY)?;
-    assert_eq!(rt; count(&twenty, 155_041), 155_040);
-    assert!(rt; nth_statement(&twenty, 155_039).is_some());
-    assert!(rt; nth_statement(&twenty, 155_040).is_none());
-    Ok(())
+fn pappus(rt: HostRuntime) -> Result<(), Fail> {
+    are_answered(
+        &rt,
+        rt.alloc(),
+        Question::Statements,
+        "3 9 pappus: ",
+        EQUATIONS,
+    )?;
+    are_answered(
+        &rt,
+        rt.alloc(),
+        Question::Statements,
+        "3 9 non-pappus: ",
+        EQUATIONS,
+    )?;
+    are_answered(&rt, rt.alloc(), Question::Statements, "3 9 ", SEVENTH)
 }

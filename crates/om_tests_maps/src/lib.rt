@@ -12,9 +12,13 @@ mod decide;
 #[cfg(test)]
 mod grassmann;
 #[cfg(test)]
+mod helpers;
+#[cfg(test)]
 mod matroid;
 #[cfg(test)]
 mod points;
+#[cfg(test)]
+mod questions;
 #[cfg(test)]
 mod threeterm;
 #[cfg(test)]

@@ -1,312 +1,231 @@
-//! Chirotopes with loops, coloops and parallel elements, worked out by hand.
+//! Chirotopes with loops, coloops and parallel elements, worked out by hand. Sets are masks.
 
-ghost use Rattle.std.specs.Prelude.{◌≡◌, ◌≤◌, IfSome};
+ghost use Rattle.std.specs.Prelude.{◌≡◌, ◌≤◌, ◌↔◌, IsTrue};
+ghost use Rattle.om_matroid.specs.Bases.{IsBasis};
 
+use super::helpers::{chirotope_of, element_of, set_of};
+use super::questions::{Question, are_answered};
 use om_chirotope::Chirotope;
-use om_matroid::search::is_basis;
 use om_matroid::{exchange, extend_to_basis, first_basis, is_coloop, is_loop, parallel, rank_of};
-use om_signs::{List, MAX_ELEMENTS, RawMap, Sign};
+use om_signs::Sign;
 use om_subsets::Subset;
 use std::alloc::Global;
-use std::process::Abort;
 use std::test::Fail;
 use std::thread::Threads;
 
-/// The signs of the Pappus configuration: nine points in the plane, in which 123, 456, 789, 159, 168, 249, 267, 348 and 357 are
-/// the triples on a line.
-const PAPPUS: &str =
-    "0++++++++++++--------0-0++++++++++----0---+0+++++---0+-0++++++++0------------------0";
+/// What is known of small chirotopes: of each element whether it is a loop and whether it is a coloop, the first basis, which
+/// elements are parallel, ranks of sets, the first basis that has a part of a basis, and what takes the place of an element of
+/// one basis by another.
+///
+/// The bases of the first chirotope are 13 and 23: 1 and 2 are parallel, 3 is a coloop, and 4 is a loop. Those of the second are
+/// 123, 124 and 234: 2 is a coloop, and the others have rank 2. In the lowest rank the empty set is the only basis, and each
+/// element is a loop; in the rank of all elements all are coloops.
+const SMALL: &str = "2 4 0+0+00: loop 1 = false
+2 4 0+0+00: coloop 1 = false
+2 4 0+0+00: loop 2 = false
+2 4 0+0+00: coloop 2 = false
+2 4 0+0+00: loop 3 = false
+2 4 0+0+00: coloop 3 = true
+2 4 0+0+00: loop 4 = true
+2 4 0+0+00: coloop 4 = false
+2 4 0+0+00: first = 101
+2 4 0+0+00: parallel 1 2 = true
+2 4 0+0+00: parallel 2 1 = true
+2 4 0+0+00: parallel 3 3 = true
+2 4 0+0+00: parallel 1 3 = false
+2 4 0+0+00: parallel 1 4 = false
+2 4 0+0+00: parallel 4 4 = false
+2 4 0+0+00: rank 0 = 0
+2 4 0+0+00: rank 1 = 1
+2 4 0+0+00: rank 1000 = 0
+2 4 0+0+00: rank 11 = 1
+2 4 0+0+00: rank 1011 = 1
+2 4 0+0+00: rank 101 = 2
+2 4 0+0+00: rank 1100 = 1
+2 4 0+0+00: rank 1111 = 2
+2 4 0+0+00: extend 10 110 = 110
+2 4 0+0+00: extend 100 110 = 101
+2 4 0+0+00: exchange 101 110 1 = 2
+3 4 ++0-: loop 1 = false
+3 4 ++0-: coloop 1 = false
+3 4 ++0-: loop 2 = false
+3 4 ++0-: coloop 2 = true
+3 4 ++0-: loop 3 = false
+3 4 ++0-: coloop 3 = false
+3 4 ++0-: loop 4 = false
+3 4 ++0-: coloop 4 = false
+3 4 ++0-: first = 111
+3 4 ++0-: parallel 1 3 = false
+3 4 ++0-: parallel 3 4 = false
+3 4 ++0-: parallel 4 4 = true
+3 4 ++0-: rank 1101 = 2
+3 4 ++0-: rank 1001 = 2
+3 4 ++0-: rank 111 = 3
+3 4 ++0-: rank 1111 = 3
+3 4 ++0-: extend 1000 1110 = 1011
+3 4 ++0-: extend 1100 1110 = 1110
+3 4 ++0-: exchange 111 1110 1 = 4
+0 2 +: loop 1 = true
+0 2 +: coloop 1 = false
+0 2 +: loop 2 = true
+0 2 +: coloop 2 = false
+0 2 +: first = 0
+0 2 +: parallel 1 1 = false
+0 2 +: rank 0 = 0
+0 2 +: rank 11 = 0
+0 2 +: extend 0 0 = 0
+2 2 +: loop 1 = false
+2 2 +: coloop 1 = true
+2 2 +: loop 2 = false
+2 2 +: coloop 2 = true
+2 2 +: first = 11
+2 2 +: parallel 1 2 = false
+2 2 +: rank 1 = 1
+2 2 +: rank 11 = 2
+2 2 +: extend 1 11 = 11";
 
-/// In the Pappus configuration each element is parallel to itself alone.
-const PAPPUS_PAIRS: [(u8, u8, bool); 17] = [
-    (1, 1, true),
-    (2, 2, true),
-    (3, 3, true),
-    (4, 4, true),
-    (5, 5, true),
-    (6, 6, true),
-    (7, 7, true),
-    (8, 8, true),
-    (9, 9, true),
-    (1, 9, false),
-    (2, 9, false),
-    (3, 9, false),
-    (4, 9, false),
-    (5, 9, false),
-    (6, 9, false),
-    (7, 9, false),
-    (8, 9, false),
-];
+/// The same of the Pappus configuration, in which each element is parallel to itself alone. 124 is the first triple that is on
+/// no line; of 3, 5 and 6 the first is on the line of 1 and 2.
+const PAPPUS: &str = "loop 1 = false
+coloop 1 = false
+loop 2 = false
+coloop 2 = false
+loop 3 = false
+coloop 3 = false
+loop 4 = false
+coloop 4 = false
+loop 5 = false
+coloop 5 = false
+loop 6 = false
+coloop 6 = false
+loop 7 = false
+coloop 7 = false
+loop 8 = false
+coloop 8 = false
+loop 9 = false
+coloop 9 = false
+first = 1011
+parallel 1 1 = true
+parallel 2 2 = true
+parallel 3 3 = true
+parallel 4 4 = true
+parallel 5 5 = true
+parallel 6 6 = true
+parallel 7 7 = true
+parallel 8 8 = true
+parallel 9 9 = true
+parallel 1 9 = false
+parallel 2 9 = false
+parallel 3 9 = false
+parallel 4 9 = false
+parallel 5 9 = false
+parallel 6 9 = false
+parallel 7 9 = false
+parallel 8 9 = false
+rank 111 = 2
+rank 1011 = 3
+rank 100010001 = 2
+rank 111111111 = 3
+rank 0 = 0
+rank 10 = 1
+rank 11 = 2
+extend 110 1110 = 1110
+extend 1000 1110 = 1011
+exchange 1011 110100 1 = 3
+exchange 1011 110100 4 = 5";
 
-/// What is known of the matroid of a chirotope. Sets are masks.
-#[derive(Clone, Copy)]
-struct Row<'a> {
-    loops: u32,
-    coloops: u32,
-    first: u32,
-    /// Elements e and f, and whether they are parallel.
-    pairs: &'a [(u8, u8, bool)],
-    /// Sets, and their ranks.
-    ranks: &'a [(u32, u8)],
-    /// Parts of bases, a basis that has the part, and the first that has it.
-    extended: &'a [(u32, u32, u32)],
-    /// Bases b and c, an element e of b alone, and what takes its place.
-    exchanged: &'a [(u32, u32, u8, u8)],
+/// Whether two elements are parallel.
+fn are_parallel(chi: &Chirotope, pair: &str) -> Result<bool, Fail> {
+    let (e, f) = pair.split_once(' ').ok_or("no pair")?;
+    Ok(parallel(chi, element_of(chi, e)?, element_of(chi, f)?))
 }
 
-/// The signs of a text; any other byte than `+` and `-` is zero.
-fn signs_of(alloc: Global, text: &str) -> Result<List<Sign>, Fail> {
-    let mut signs = List::new(alloc);
-    for byte in text.as_bytes() {
-        signs.push(match *byte {
-            b'+' => Sign::Plus,
-            b'-' => Sign::Minus,
-            _ => Sign::Zero,
-        })?;
-    }
-    Ok(signs)
-}
-
-/// The chirotope of a text of signs, which meets the axioms.
-fn chirotope_of<R: Threads + Sync + Abort>(
-    rt: &R,
-    alloc: Global,
-    rank: u8,
-    elements: u8,
-    text: &str,
-) -> Result<Chirotope, Fail> {
-    assert!(rt; 1 <= elements && elements <= MAX_ELEMENTS && rank <= elements);
-    let signs = signs_of(alloc, text)?;
-    assert_eq!(rt; signs.len(), Subset::choose(elements, rank) as usize);
-    let raw = RawMap {
-        rank,
-        elements,
-        signs,
-    };
-    match om_chirotope::check(rt, raw) {
-        Ok(chi) => Ok(chi),
-        Err(_) => panic!(rt; "refused: {text}"),
-    }
-}
-
-/// The set with this mask, where it is one of elements of the chirotope.
-fn set_of(chi: &Chirotope, mask: u32) -> Option<Subset>
-    ensures { IfSome result (λ s. s.n ≡ chi.now.elements) }
+/// Whether a set is a basis.
+fn is_basis(chi: &Chirotope, b: Subset) -> bool
+    requires { b.n ≡ chi.now.elements }
+    ensures { IsTrue result ↔ IsBasis chi.now b.elements }
 {
-    let n = chi.elements();
-    if mask < 1 << n {
-        Some(Subset::from_mask(mask, n))
-    } else {
-        None
-    }
-}
-
-/// Whether these are the loops and the coloops.
-fn are_loops_and_coloops(chi: &Chirotope, loops: u32, coloops: u32) -> bool {
-    for e in 1..chi.elements() + 1 {
-        if is_loop(chi, e) != (loops >> (e - 1) & 1 == 1) {
-            return false;
-        }
-        if is_coloop(chi, e) != (coloops >> (e - 1) & 1 == 1) {
-            return false;
-        }
-    }
-    true
-}
-
-/// Whether the pairs are parallel that are said to be, and no others.
-fn are_parallel(chi: &Chirotope, pairs: &[(u8, u8, bool)]) -> bool {
-    let n = chi.elements();
-    for (e, f, wanted) in pairs {
-        if *e < 1 || *e > n || *f < 1 || *f > n || parallel(chi, *e, *f) != *wanted {
-            return false;
-        }
-    }
-    true
-}
-
-/// Whether the sets have these ranks.
-fn have_ranks(chi: &Chirotope, ranks: &[(u32, u8)]) -> bool {
-    for (mask, rank) in ranks {
-        match set_of(chi, *mask) {
-            Some(set) if rank_of(chi, set) == *rank => {}
-            _ => return false,
-        }
-    }
-    true
+    b.size() == chi.rank() && chi.at(b) != Sign::Zero
 }
 
 /// The first basis that contains a set, where another given basis contains it.
-fn extended(chi: &Chirotope, inside: Subset, basis: Subset) -> Option<Subset>
+fn extended(chi: &Chirotope, inside: Subset, basis: Subset) -> Result<Subset, Fail>
     requires inside { inside.n ≡ chi.now.elements }
     requires basis { basis.n ≡ chi.now.elements }
 {
     if is_basis(chi, basis) && inside.is_part_of(basis) {
-        Some(extend_to_basis(chi, inside))
+        Ok(extend_to_basis(chi, inside))
     } else {
-        None
+        Err(Fail::new("not independent"))
     }
 }
 
-/// Whether the first bases that contain some sets are these, where other given bases contain them.
-fn are_extended(chi: &Chirotope, extensions: &[(u32, u32, u32)]) -> bool {
-    for (inside, basis, wanted) in extensions {
-        match (set_of(chi, *inside), set_of(chi, *basis)) {
-            (Some(inside), Some(basis)) => match extended(chi, inside, basis) {
-                Some(found) if found.mask() == *wanted => {}
-                _ => return false,
-            },
-            _ => return false,
-        }
-    }
-    true
+/// The mask of the first basis that contains the first of two sets, where the second is a basis that contains it.
+fn extension(chi: &Chirotope, sets: &str) -> Result<u32, Fail> {
+    let (inside, basis) = sets.split_once(' ').ok_or("no basis")?;
+    Ok(extended(chi, set_of(chi, inside)?, set_of(chi, basis)?)?.mask())
 }
 
 /// What takes the place of e in b, where b and c are bases and e is in b alone.
-fn exchanged(chi: &Chirotope, b: Subset, c: Subset, e: u8) -> Option<u8>
-    requires b { b.n ≡ chi.now.elements }
-    requires c { c.n ≡ chi.now.elements }
-    requires low { 1 ≤ e }
-    requires high { e ≤ chi.now.elements }
-{
+fn exchanged(chi: &Chirotope, words: &str) -> Result<u8, Fail> {
+    let (b, rest) = words.split_once(' ').ok_or("no basis")?;
+    let (c, e) = rest.split_once(' ').ok_or("no element")?;
+    let (b, c, e) = (set_of(chi, b)?, set_of(chi, c)?, element_of(chi, e)?);
     if is_basis(chi, b) && is_basis(chi, c) && b.has(e) && !c.has(e) {
-        Some(exchange(chi, b, c, e))
+        Ok(exchange(chi, b, c, e))
     } else {
-        None
+        Err(Fail::new("no exchange"))
     }
 }
 
-/// Whether these take the places of elements of one basis, by others.
-fn are_exchanged(chi: &Chirotope, exchanges: &[(u32, u32, u8, u8)]) -> bool {
-    for (b, c, e, wanted) in exchanges {
-        if *e < 1 || *e > chi.elements() {
-            return false;
-        }
-        match (set_of(chi, *b), set_of(chi, *c)) {
-            (Some(b), Some(c)) => match exchanged(chi, b, c, *e) {
-                Some(found) if found == *wanted => {}
-                _ => return false,
-            },
-            _ => return false,
-        }
+/// Whether an element is a loop, is a coloop, or two elements are parallel; None for another question.
+fn is_so(chi: &Chirotope, kind: &str, rest: &str) -> Result<Option<bool>, Fail> {
+    if kind == "loop" {
+        Ok(Some(is_loop(chi, element_of(chi, rest)?)))
+    } else if kind == "coloop" {
+        Ok(Some(is_coloop(chi, element_of(chi, rest)?)))
+    } else if kind == "parallel" {
+        Ok(Some(are_parallel(chi, rest)?))
+    } else {
+        Ok(None)
     }
-    true
 }
 
-/// Asserts what is known of the matroid of the chirotope of a text.
-fn assert_row<R: Threads + Sync + Abort>(
-    rt: &R,
-    alloc: Global,
-    rank: u8,
-    elements: u8,
-    text: &str,
-    row: &Row,
-) -> Result<(), Fail> {
-    let chi = chirotope_of(rt, alloc, rank, elements, text)?;
-    assert!(rt; are_loops_and_coloops(&chi, row.loops, row.coloops));
-    assert_eq!(rt; first_basis(&chi).mask(), row.first);
-    assert!(rt; are_parallel(&chi, row.pairs));
-    assert!(rt; have_ranks(&chi, row.ranks));
-    assert!(rt; are_extended(&chi, row.extended));
-    assert!(rt; are_exchanged(&chi, row.exchanged));
-    Ok(())
+/// The mask of the first basis that has a part of a basis, the rank of a set, or what takes the place of an element.
+fn number_for(chi: &Chirotope, kind: &str, rest: &str) -> Result<u32, Fail> {
+    if kind == "extend" {
+        extension(chi, rest)
+    } else if kind == "rank" {
+        Ok(u32::from(rank_of(chi, set_of(chi, rest)?)))
+    } else {
+        Ok(u32::from(exchanged(chi, rest)?))
+    }
 }
 
-// The bases are 13 and 23: 1 and 2 are parallel, 3 is a coloop, and 4 is a loop.
+/// What is asked of the matroid of a chirotope.
+pub fn answer<R: Threads + Sync>(rt: &R, alloc: Global, asked: &str) -> Result<String, Fail> {
+    let (map, question) = asked.split_once(": ").ok_or("no question")?;
+    let chi = chirotope_of(rt, alloc, map)?;
+    if question == "first" {
+        return Ok(format!(in alloc; "{:b}", first_basis(&chi).mask())?);
+    }
+    let (kind, rest) = question.split_once(' ').ok_or("no words")?;
+    if let Some(found) = is_so(&chi, kind, rest)? {
+        return Ok(format!(in alloc; "{found}")?);
+    }
+    let found = number_for(&chi, kind, rest)?;
+    if kind == "extend" {
+        return Ok(format!(in alloc; "{found:b}")?);
+    }
+    Ok(format!(in alloc; "{found}")?)
+}
+
 #[test]
-fn parallel_elements_a_coloop_and_a_loop(rt: HostRuntime) -> Result<(), Fail> {
-    let row = Row {
-        loops: 0b1000,
-        coloops: 0b0100,
-        first: 0b0101,
-        pairs: &[
-            (1, 2, true),
-            (2, 1, true),
-            (3, 3, true),
-            (1, 3, false),
-            (1, 4, false),
-            (4, 4, false),
-        ],
-        ranks: &[
-            (0b0000, 0),
-            (0b0001, 1),
-            (0b1000, 0),
-            (0b0011, 1),
-            (0b1011, 1),
-            (0b0101, 2),
-            (0b1100, 1),
-            (0b1111, 2),
-        ],
-        extended: &[(0b0010, 0b0110, 0b0110), (0b0100, 0b0110, 0b0101)],
-        exchanged: &[(0b0101, 0b0110, 1, 2)],
-    };
-    assert_row(&rt, rt.alloc(), 2, 4, "0+0+00", &row)
+fn loops_coloops_and_parallel_elements(rt: HostRuntime) -> Result<(), Fail> {
+    are_answered(&rt, rt.alloc(), Question::Matroid, "", SMALL)
 }
 
-// The bases are 123, 124 and 234: 2 is a coloop, and the others have rank 2.
-#[test]
-fn coloop_of_rank_three(rt: HostRuntime) -> Result<(), Fail> {
-    let row = Row {
-        loops: 0,
-        coloops: 0b0010,
-        first: 0b0111,
-        pairs: &[(1, 3, false), (3, 4, false), (4, 4, true)],
-        ranks: &[(0b1101, 2), (0b1001, 2), (0b0111, 3), (0b1111, 3)],
-        extended: &[(0b1000, 0b1110, 0b1011), (0b1100, 0b1110, 0b1110)],
-        exchanged: &[(0b0111, 0b1110, 1, 4)],
-    };
-    assert_row(&rt, rt.alloc(), 3, 4, "++0-", &row)
-}
-
-// 124 is the first triple that is on no line; of 3, 5 and 6 the first is on the line of 1 and 2.
 #[test]
 fn pappus(rt: HostRuntime) -> Result<(), Fail> {
-    let row = Row {
-        loops: 0,
-        coloops: 0,
-        first: 0b1011,
-        pairs: &PAPPUS_PAIRS,
-        ranks: &[
-            (0b111, 2),
-            (0b1011, 3),
-            (0b1_0001_0001, 2),
-            (0b1_1111_1111, 3),
-            (0, 0),
-            (0b10, 1),
-            (0b11, 2),
-        ],
-        extended: &[(0b110, 0b1110, 0b1110), (0b1000, 0b1110, 0b1011)],
-        exchanged: &[(0b1011, 0b11_0100, 1, 3), (0b1011, 0b11_0100, 4, 5)],
-    };
-    assert_row(&rt, rt.alloc(), 3, 9, PAPPUS, &row)
-}
-
-// The empty set is the only basis, and each element is a loop.
-#[test]
-fn lowest_rank(rt: HostRuntime) -> Result<(), Fail> {
-    let row = Row {
-        loops: 0b11,
-        coloops: 0,
-        first: 0,
-        pairs: &[(1, 1, false)],
-        ranks: &[(0b00, 0), (0b11, 0)],
-        extended: &[(0, 0, 0)],
-        exchanged: &[],
-    };
-    assert_row(&rt, rt.alloc(), 0, 2, "+", &row)
-}
-
-// In the rank of all elements all are coloops.
-#[test]
-fn highest_rank(rt: HostRuntime) -> Result<(), Fail> {
-    let row = Row {
-        loops: 0,
-        coloops: 0b11,
-        first: 0b11,
-        pairs: &[(1, 2, false)],
-        ranks: &[(0b01, 1), (0b11, 2)],
-        extended: &[(0b01, 0b11, 0b11)],
-        exchanged: &[],
-    };
-    assert_row(&rt, rt.alloc(), 2, 2, "+", &row)
+    are_answered(&rt, rt.alloc(), Question::Matroid, "3 9 pappus: ", PAPPUS)
 }

@@ -1,182 +1,129 @@
 //! The points of the Pappus configuration, vectors at the limit, and lists of vectors.
 
-use om_samples::{SampleError, chirotope_of, text_of_map};
-use om_signs::{MAX_COORDINATE, MAX_ELEMENTS};
-use om_vectors::{SignsError, Unfound, Vector, Word, realizes, signs_of, triple};
+use super::helpers::{
+    chirotope_of, text_of_vector, text_of_word, vector_of, with_vectors, word_of,
+};
+use super::questions::{Question, are_answered};
+use om_samples::text_of_map;
+use om_vectors::{Unfound, realizes, signs_of, triple};
 use std::alloc::Global;
 use std::test::Fail;
 use std::thread::Threads;
 
-/// The nine points of the Pappus configuration, with first coordinate 1 or at infinity.
-const PAPPUS: [[i64; 3]; 9] = [
-    [1, 0, 0],
-    [1, 2, 0],
-    [1, 6, 0],
-    [1, 0, 2],
-    [1, 2, 2],
-    [1, 6, 2],
-    [1, 4, 1],
-    [1, 3, 1],
-    [1, 1, 1],
-];
+/// Vectors, and the map of their chirotope, or `RankLow` where every triple product is 0.
+///
+/// The first are the nine points of the Pappus configuration, with first coordinate 1 or at infinity. The next are the unit
+/// vectors and the vector of three ones, where the triple products of 123, 124, 134 and 234 are 1, 1, -1 and 1; then three
+/// vectors in a plane, and two vectors.
+const SIGNS: &str =
+    "1 0 0,1 2 0,1 6 0,1 0 2,1 2 2,1 6 2,1 4 1,1 3 1,1 1 1 = 3 9 0++++++++++++--------0-0++++++++++----0---+0+++++---0+-0++++++++0------------------0
+1 0 0,0 1 0,0 0 1,1 1 1 = 3 4 ++-+
+1 0 0,2 0 0,0 1 0 = RankLow
+1 0 0,0 1 0 = RankLow";
 
-/// The signs of their triples, in lexicographic order.
-const PAPPUS_SIGNS: &str =
-    "0++++++++++++--------0-0++++++++++----0---+0+++++---0+-0++++++++0------------------0";
+/// Chirotopes and vectors, and the mask of the first triple whose product has another sign.
+const REALIZATIONS: &str =
+    "3 9 pappus: 1 0 0,1 2 0,1 6 0,1 0 2,1 2 2,1 6 2,1 4 1,1 3 1,1 1 1 = realized
+3 4 ++++: 1 0 0,0 1 0,0 0 1,1 1 1 = 1101";
 
-/// The text of their chirotope.
-const PAPPUS_TEXT: &str =
-    "3 9 0++++++++++++--------0-0++++++++++----0---+0+++++---0+-0++++++++0------------------0";
+/// Three numbers, and the coordinates of the vector that has them, if there is one.
+const COORDINATES: &str = "1099511627776 -1099511627776 0 = 1099511627776 -1099511627776 0
+-1099511627776 1099511627776 1099511627776 = -1099511627776 1099511627776 1099511627776
+1099511627777 0 0 = none
+0 -1099511627777 0 = none
+0 0 1099511627777 = none
+0 0 -9223372036854775808 = none
+9223372036854775807 0 0 = none";
 
-/// The unit vectors and the vector of three ones. The triple products of 123, 124, 134 and 234 are 1, 1, -1 and 1.
-const FRAME: [[i64; 3]; 4] = [[1, 0, 0], [0, 1, 0], [0, 0, 1], [1, 1, 1]];
+/// Three vectors and their triple product. In the first row it is the greatest: the determinant of three vectors with
+/// coordinates 1 and -1 is at most 4, and is 4 for these.
+const PRODUCTS: &str =
+    "-1099511627776 1099511627776 1099511627776,1099511627776 -1099511627776 1099511627776,1099511627776 1099511627776 -1099511627776 = 5316911983139663491615228241121378304
+1099511627776 -1099511627776 1099511627776,-1099511627776 1099511627776 1099511627776,1099511627776 1099511627776 -1099511627776 = -5316911983139663491615228241121378304
+-1099511627776 1099511627776 1099511627776,1099511627776 -1099511627776 1099511627776,-1099511627776 1099511627776 1099511627776 = 0";
 
-/// Three vectors in a plane; the first and the last of them are two vectors.
-const PLANE: [[i64; 3]; 3] = [[1, 0, 0], [2, 0, 0], [0, 1, 0]];
+/// Vectors, how many of them are kept, and vectors that are added then; and the list after that.
+const CUTS: &str = "1 2 3,-4 5 6,1 2 3|3| = 1 2 3,-4 5 6,1 2 3
+1 2 3,-4 5 6,1 2 3|1| = 1 2 3
+1 2 3,-4 5 6,1 2 3|1|-4 5 6 = 1 2 3,-4 5 6
+1 2 3,-4 5 6,1 2 3|0| = ";
 
-/// The greatest coordinate.
-const MOST: i64 = MAX_COORDINATE;
-
-/// Three numbers, and whether there is a vector with these coordinates.
-const COORDINATES: [([i64; 3], bool); 7] = [
-    ([MOST, -MOST, 0], true),
-    ([-MOST, MOST, MOST], true),
-    ([MOST + 1, 0, 0], false),
-    ([0, -MOST - 1, 0], false),
-    ([0, 0, MOST + 1], false),
-    ([0, 0, i64::MIN], false),
-    ([i64::MAX, 0, 0], false),
-];
-
-/// Three vectors whose triple product is the greatest: the determinant of three vectors with coordinates 1 and -1 is at
-/// most 4, and is 4 for these.
-const GREATEST: [[i64; 3]; 3] = [
-    [-MOST, MOST, MOST],
-    [MOST, -MOST, MOST],
-    [MOST, MOST, -MOST],
-];
-
-/// A list with the vector with these coordinates behind it; the list itself where there is none or the list is full.
-fn with(list: Word, point: [i64; 3]) -> Word {
-    let mut word = list;
-    if let Some(vector) = Vector::new(point[0], point[1], point[2])
-        && word.len() < MAX_ELEMENTS
-    {
-        word.push(vector);
-    }
-    word
-}
-
-/// The first vectors of a list, `len` of them; the list itself where it has no more.
-fn cut(list: Word, len: u8) -> Word {
-    let mut word = list;
-    if len < word.len() {
-        word.cut(len);
-    }
-    word
-}
-
-/// The list of the vectors with some coordinates.
-fn word_of(points: &[[i64; 3]]) -> Word {
-    let mut word = Word::new();
-    for point in points {
-        word = with(word, *point);
-    }
-    word
-}
-
-/// The text of the chirotope of some vectors, or `low` where every triple product is 0.
-fn signs_text(alloc: Global, points: &[[i64; 3]]) -> Result<String, SampleError> {
-    let word = word_of(points);
+/// The map of the chirotope of some vectors, or why it has none.
+pub fn signs(alloc: Global, asked: &str) -> Result<String, Fail> {
+    let word = word_of(asked)?;
     if word.len() < 1 {
-        return Err(SampleError::Refused);
+        return Err(Fail::new("no vectors"));
     }
     match signs_of(alloc, word.as_slice()) {
-        Ok(chi) => text_of_map(alloc, &chi.into_raw()),
-        Err(SignsError::RankLow) => Ok(String::from_str(alloc, "low")?),
-        Err(SignsError::Memory) => Err(SampleError::Memory),
+        Ok(chi) => Ok(text_of_map(alloc, &chi.into_raw())?),
+        Err(error) => Ok(format!(in alloc; "{error:?}")?),
     }
 }
 
-/// The mask of the first triple of vectors whose triple product has another sign than in a text, or 0 where none has.
-fn first_other<R: Threads + Sync>(
-    rt: &R,
-    alloc: Global,
-    signs: &str,
-    points: &[[i64; 3]],
-) -> Result<u32, SampleError> {
-    let word = word_of(points);
-    let chi = chirotope_of(rt, alloc, 3, word.len(), signs)?;
-    match realizes(word.as_slice(), &chi) {
-        Ok(()) => Ok(0),
-        Err(other) => Ok(other.mask()),
+/// Whether some vectors realize a chirotope, or the first triple for which they don't.
+pub fn realization<R: Threads + Sync>(rt: &R, alloc: Global, asked: &str) -> Result<String, Fail> {
+    let (map, points) = asked.split_once(": ").ok_or("no vectors")?;
+    let (chi, word) = (chirotope_of(rt, alloc, map)?, word_of(points)?);
+    if chi.rank() != 3 || word.len() != chi.elements() {
+        return Err(Fail::new("another number of vectors"));
     }
+    match realizes(word.as_slice(), &chi) {
+        Ok(()) => Ok(String::from_str(alloc, "realized")?),
+        Err(other) => Ok(format!(in alloc; "{:b}", other.mask())?),
+    }
+}
+
+/// The coordinates of the vector with three coordinates, where there is one.
+pub fn coordinates(alloc: Global, asked: &str) -> Result<String, Fail> {
+    match vector_of(asked) {
+        Some(vector) => text_of_vector(alloc, vector),
+        None => Ok(String::from_str(alloc, "none")?),
+    }
+}
+
+/// The triple product of three vectors.
+pub fn product(alloc: Global, asked: &str) -> Result<String, Fail> {
+    let word = word_of(asked)?;
+    if word.len() != 3 {
+        return Err(Fail::new("not three vectors"));
+    }
+    let product = triple(word.at(0), word.at(1), word.at(2));
+    Ok(format!(in alloc; "{product}")?)
+}
+
+/// The list of the first of some vectors and of others behind them.
+pub fn after_cut(alloc: Global, asked: &str) -> Result<String, Fail> {
+    let (points, rest) = asked.split_once('|').ok_or("no number")?;
+    let (kept, added) = rest.split_once('|').ok_or("no addition")?;
+    let (mut word, kept) = (word_of(points)?, kept.parse::<u8>()?);
+    if kept > word.len() {
+        return Err(Fail::new("fewer vectors"));
+    }
+    word.cut(kept);
+    let word = with_vectors(word, added)?;
+    let text = text_of_word(alloc, &word)?;
+    if word != word_of(text.as_str())? {
+        return Err(Fail::new("another list"));
+    }
+    Ok(text)
 }
 
 #[test]
 fn points(rt: HostRuntime) -> Result<(), Fail> {
-    let alloc = rt.alloc();
-    assert_eq!(rt; signs_text(alloc, &PAPPUS)?.as_str(), PAPPUS_TEXT);
-    assert_eq!(rt; signs_text(alloc, &FRAME)?.as_str(), "3 4 ++-+");
-    assert_eq!(rt; signs_text(alloc, &PLANE)?.as_str(), "low");
-    assert_eq!(rt; signs_text(alloc, &FRAME[..2])?.as_str(), "low");
-    assert_eq!(rt; first_other(&rt, alloc, PAPPUS_SIGNS, &PAPPUS)?, 0);
-    assert_eq!(rt; first_other(&rt, alloc, "++++", &FRAME)?, 0b1101);
-    Ok(())
-}
-
-/// Whether there is a vector with three coordinates, which are then its own.
-fn is_vector(point: [i64; 3]) -> Option<bool> {
-    match Vector::new(point[0], point[1], point[2]) {
-        Some(v) if v.x() != point[0] || v.y() != point[1] || v.z() != point[2] => None,
-        Some(_) => Some(true),
-        None => Some(false),
-    }
-}
-
-/// The triple product of the vectors with the numbers `i`, `j` and `k`, from 0, of a list; None where it is shorter.
-fn product_of(word: &Word, i: u8, j: u8, k: u8) -> Option<i128> {
-    if i < word.len() && j < word.len() && k < word.len() {
-        Some(triple(word.at(i), word.at(j), word.at(k)))
-    } else {
-        None
-    }
+    are_answered(&rt, rt.alloc(), Question::Signs, "", SIGNS)?;
+    are_answered(&rt, rt.alloc(), Question::Realization, "", REALIZATIONS)
 }
 
 #[test]
-fn vectors_at_the_limit(rt: HostRuntime) {
-    for (point, wanted) in COORDINATES {
-        assert_eq!(rt; is_vector(point), Some(wanted));
-    }
-    let word = word_of(&GREATEST);
-    let four = 5_316_911_983_139_663_491_615_228_241_121_378_304;
-    assert_eq!(rt; product_of(&word, 0, 1, 2), Some(four));
-    assert_eq!(rt; product_of(&word, 1, 0, 2), Some(-four));
-    assert_eq!(rt; product_of(&word, 0, 1, 0), Some(0));
-}
-
-/// Whether a list has the vectors with these coordinates, each at its place.
-fn is_list(word: &Word, points: &[[i64; 3]]) -> bool {
-    if *word != word_of(points) || word.as_slice().len() != points.len() {
-        return false;
-    }
-    for i in 0..word.len() {
-        let v = word.at(i);
-        if v != word.as_slice()[i as usize] || [v.x(), v.y(), v.z()] != points[i as usize] {
-            return false;
-        }
-    }
-    true
+fn vectors_at_the_limit(rt: HostRuntime) -> Result<(), Fail> {
+    are_answered(&rt, rt.alloc(), Question::Coordinates, "", COORDINATES)?;
+    are_answered(&rt, rt.alloc(), Question::Product, "", PRODUCTS)
 }
 
 #[test]
-fn words(rt: HostRuntime) {
-    let (first, second) = ([1, 2, 3], [-4, 5, 6]);
-    let word = word_of(&[first, second, first]);
-    assert!(rt; is_list(&word, &[first, second, first]));
-    assert!(rt; is_list(&cut(word, 1), &[first]));
-    assert!(rt; is_list(&with(cut(word, 1), second), &[first, second]));
-    assert!(rt; is_list(&cut(word, 0), &[]));
-    assert!(rt; cut(word, 0) == Word::new());
+fn words(rt: HostRuntime) -> Result<(), Fail> {
+    are_answered(&rt, rt.alloc(), Question::Cut, "", CUTS)?;
+    let word = word_of("1 2 3")?;
     assert!(rt; Unfound::Frontier(word) != Unfound::Exhausted);
+    Ok(())
 }
