@@ -6,19 +6,13 @@ mod answering;
 mod argument;
 mod arguments;
 mod chirotope_choice;
-#[cfg(test)]
-mod claim_tests;
 mod colouring;
 mod command;
 mod conversion;
 mod convex_hull;
 mod decision;
-#[cfg(test)]
-mod decision_tests;
 mod documents;
 mod extension_list;
-#[cfg(test)]
-mod extension_tests;
 mod extension_text;
 mod flipping;
 mod hull_text;
@@ -27,26 +21,16 @@ mod lexical_extension;
 mod limits;
 mod made_input;
 mod made_text;
-#[cfg(test)]
-mod make_tests;
 mod making;
-#[cfg(test)]
-mod map_tests;
 mod membership;
 mod mutation_list;
-#[cfg(test)]
-mod mutation_tests;
 mod mutation_text;
 mod numbered;
 mod operation;
 mod options;
 mod painting;
-#[cfg(test)]
-mod point_tests;
 mod point_vectors;
 mod print_answer;
-#[cfg(test)]
-mod reach_tests;
 mod reads;
 mod representation;
 mod run;
@@ -55,8 +39,6 @@ mod spelling;
 mod status;
 mod sweeping;
 mod task;
-#[cfg(test)]
-mod tests;
 mod three_terms;
 mod triple;
 mod unchosen;
@@ -66,13 +48,7 @@ mod upgrading;
 mod usage;
 mod verb;
 mod verification;
-#[cfg(test)]
-mod version_tests;
-#[cfg(test)]
-mod width_tests;
 mod wiring_maps;
-#[cfg(test)]
-mod word_tests;
 mod write_usage;
 mod written;
 

@@ -1,0 +1,151 @@
+#!/usr/bin/env python3
+"""rows/check.py [PROGRAM ..]
+
+Runs the rows of the tables that lie beside it: a row is a run of the program, and has its words, its input, its exit code and
+its output, with ` | ` between two. In the input and the output a `/` stands for the end of a line and an `@` for a text that a
+line `@ = TEXT` before the row gives, as does the word `@`; `@ = # * N` is N times `#`. `\\r` is a carriage return. Where the
+input is `unread`, each read would fail. A line with `# ` in front is a remark.
+
+Behind the tables come runs that read a text which breaks off, runs whose output has too little room, and a few answers that are
+looked at in parts. All are run on each program that is named; where none is, on the program as it is built, and, where it is
+there, as the second compiler builds it. The last line is 'rows: N passed, M failed', and the exit code is 1 where one failed.
+"""
+import glob
+import os
+import re
+import resource
+import signal
+import subprocess
+import sys
+import tempfile
+
+HERE = os.path.dirname(os.path.abspath(__file__))
+BUILT = os.path.join(os.path.dirname(HERE), "crates", "om_program", "out", "om_program")
+UNIFORM = b"om 1\nchirotope 3 4\n++++\nend\n"
+# the chirotope of the theorem of Pappus, but that its last triple isn't on a line
+NON_PAPPUS = b"om 1\nchirotope 3 9\n0++++++++++++--------0-0++++++++++----0---+0+++++---0+-0++++++++\n0------------------+\nend\n"
+
+
+class Row:
+    """A run, and what it comes to."""
+
+    def __init__(self, line, at):
+        words, given, code, output = line.split(" | ", 3)
+        self.line = line
+        self.words = [at.decode() if word == "@" else word for word in words.split(" ")] if words else []
+        self.input = None if given == "unread" else bytes_of(given, at)
+        self.code, self.output = int(code), bytes_of(output, at)
+
+
+def bytes_of(text, at):
+    """The bytes of a text of a row."""
+    return text.replace("\\r", "\r").replace("/", "\n").encode().replace(b"@", at)
+
+
+def rows_of(path):
+    """The rows of a table."""
+    at = b""
+    with open(path) as file:
+        for line in file.read().split("\n"):
+            many = re.fullmatch(r"@ = (.) \* (\d+)", line)
+            if many:
+                at = many.group(1).encode() * int(many.group(2))
+            elif line.startswith("@ = "):
+                at = line[4:].replace("/", "\n").encode()
+            elif line and not line.startswith("# "):
+                yield Row(line, at)
+
+
+def run(program, words, given, **more):
+    """The exit code and the output of a run whose input are some bytes and then their end."""
+    ended = subprocess.run([program] + words, input=given, stdout=subprocess.PIPE, stderr=subprocess.STDOUT, timeout=60, **more)
+    return ended.returncode, ended.stdout
+
+
+def run_cut_off(program, words, given):
+    """The exit code and the output of a run whose input are some bytes, behind which each read fails."""
+    reader, writer = os.pipe()
+    os.set_blocking(reader, False)
+    os.write(writer, given)
+    try:
+        ended = subprocess.run([program] + words, stdin=reader, stdout=subprocess.PIPE, stderr=subprocess.STDOUT, timeout=60)
+    finally:
+        os.close(reader)
+        os.close(writer)
+    return ended.returncode, ended.stdout
+
+
+def run_in_room(program, words, given, room):
+    """The exit code and the output of a run whose output may have no more bytes than `room`."""
+    def little_room():
+        signal.signal(signal.SIGXFSZ, signal.SIG_IGN)
+        resource.setrlimit(resource.RLIMIT_FSIZE, (room, room))
+
+    with tempfile.TemporaryFile() as output:
+        ended = subprocess.run([program] + words, input=given, stdout=output, stderr=subprocess.DEVNULL, timeout=60, preexec_fn=little_room)
+        output.seek(0)
+        return ended.returncode, output.read()
+
+
+class Tally:
+    """The runs that passed, and those that failed."""
+
+    def __init__(self):
+        self.passed = self.failed = 0
+
+    def expect(self, what, found, wanted):
+        """Counts a run, which has to come to what is wanted."""
+        if found == wanted:
+            self.passed += 1
+        else:
+            self.failed += 1
+            print("failed: %s\n--- wanted %r\n--- found  %r" % (what, wanted, found))
+
+
+def run_tables(tally, program):
+    """The runs of the tables."""
+    for path in sorted(glob.glob(os.path.join(HERE, "*.txt"))):
+        for row in rows_of(path):
+            found = run_cut_off(program, row.words, b"") if row.input is None else run(program, row.words, row.input)
+            tally.expect("%s: %s" % (os.path.basename(path), row.line[:200]), found, (row.code, row.output))
+
+
+def run_faults(tally, program):
+    """A read that fails behind each byte of a document, and a room that ends behind each byte of an answer."""
+    for read in range(len(UNIFORM) + 1):
+        tally.expect("a read that fails behind %d bytes" % read, run_cut_off(program, ["accept"], UNIFORM[:read]), (4, b""))
+    for room in range(9):
+        tally.expect("a room of %d bytes" % room, run_in_room(program, ["accept"], UNIFORM, room), (5, b"accepted\n"[:room]))
+    tally.expect("a room of 9 bytes", run_in_room(program, ["accept"], UNIFORM, 9), (0, b"accepted\n"))
+    tally.expect("a list that is cut off", run_in_room(program, ["convert", "circuits"], UNIFORM, 10), (5, b"om 1\ncircu"))
+
+
+def run_parts(tally, program):
+    """Answers that are looked at in parts."""
+    code, claim = run(program, ["decide", "--steps=100000", "--pivots=5000"], NON_PAPPUS)
+    # the document's five lines, the word, an entry a line, and the end
+    tally.expect("a certificate", (code, claim.startswith(NON_PAPPUS), claim.count(b"\n")), (0, True, 5 + 1 + 22 + 1))
+    tally.expect("a certificate that is checked", run(program, ["check"], claim), (0, b"valid nonrealizable\n"))
+    first, second = run_cut_off(program, ["make", "7"], b""), run_cut_off(program, ["make", "7"], b"")
+    tally.expect("the same number twice", first, second)
+    front = b"om 1\npoints 16\n1 0 0\n0 1 0\n0 0 1\n-2 0 1\n"
+    back = b"\n5 1 -4\nend\nplus 268\nzero 5\nminus 287\ncocircuits 220\ncovectors 903\nmutations 34\nback equal\n"
+    tally.expect("make 7", (first[0], first[1].startswith(front), first[1].endswith(back)), (0, True, True))
+    code, covectors = run(program, ["convert", "covectors"], b"om 1\nchirotope 3 20\n" + b"+" * 1140 + b"\nend\n")
+    # 1,523 members, the two lines before them, and the end
+    tally.expect("covectors of twenty elements", (code, covectors.count(b"\n")), (0, 1523 + 2 + 1))
+
+
+def main():
+    programs = [os.path.abspath(it) for it in sys.argv[1:]] or [it for it in (BUILT, BUILT + ".by-rattle") if os.path.exists(it)]
+    tally = Tally()
+    for program in programs:
+        run_tables(tally, program)
+        run_faults(tally, program)
+        run_parts(tally, program)
+    print("rows: %d passed, %d failed" % (tally.passed, tally.failed))
+    return 1 if tally.failed or not tally.passed else 0
+
+
+if __name__ == "__main__":
+    sys.exit(main())
