@@ -20,7 +20,8 @@ import sys
 import tempfile
 
 HERE = os.path.dirname(os.path.abspath(__file__))
-BUILT = os.path.join(os.path.dirname(HERE), "crates", "om_program", "out", "om_program")
+TOP = os.path.dirname(HERE)
+BUILT = os.path.join(TOP, "crates", "om_program", "out", "om_program")
 UNIFORM = b"om 1\nchirotope 3 4\n++++\nend\n"
 # the chirotope of the theorem of Pappus, but that its last triple isn't on a line
 NON_PAPPUS = b"om 1\nchirotope 3 9\n0++++++++++++--------0-0++++++++++----0---+0+++++---0+-0++++++++\n0------------------+\nend\n"
@@ -137,7 +138,11 @@ def run_parts(tally, program):
 
 
 def main():
-    programs = [os.path.abspath(it) for it in sys.argv[1:]] or [it for it in (BUILT, BUILT + ".by-rattle") if os.path.exists(it)]
+    programs = [os.path.abspath(it) for it in sys.argv[1:]]
+    if not programs:
+        # the launcher builds what isn't built
+        subprocess.run([os.path.join(TOP, "om"), "accept"], stdin=subprocess.DEVNULL, stdout=subprocess.DEVNULL)
+        programs = [it for it in (BUILT, BUILT + ".by-rattle") if os.path.exists(it)]
     tally = Tally()
     for program in programs:
         run_tables(tally, program)
