@@ -9,7 +9,7 @@ use std::alloc::Global;
 use std::test::Fail;
 use std::thread::Threads;
 
-/// Chirotopes and their duals. In the fourth row 1 and 2 are parallel, 3 is a coloop and 4 a loop, and the last two change
+/// Chirotopes and their duals. In the fourth row the elements 1 and 2 are parallel, 3 is a coloop and 4 a loop, and the last two change
 /// places.
 const CHIROTOPES: &str = "3 4 ++++ | 1 4 +-+-
 1 4 +-+- | 3 4 ++++

@@ -11,7 +11,7 @@ use std::alloc::Global;
 use std::test::Fail;
 use std::thread::Threads;
 
-/// Cocircuits or circuits, and their normal chirotope. In the third row 1 and 2 are parallel, 3 is a coloop and 4 a loop.
+/// Cocircuits or circuits, and their normal chirotope. In the third row the elements 1 and 2 are parallel, 3 is a coloop and 4 a loop.
 const ROWS: &str =
     "cocircuits 4 --00 -00- -0+0 0--0 0-0+ 00-- 00++ 0+0- 0++0 +0-0 +00+ ++00 | 3 4 ++++
 cocircuits 3 | 0 3 +

@@ -10,7 +10,7 @@ use std::thread::Threads;
 /// Small maps. Those on six elements have more pairs than there are sets of elements.
 ///
 /// In the last row but one there are two bases without an element in common, and no other: the first set S with the last set A.
-/// In the last row 1, 3 and 5 are turned: with 1, 2, 3 and 4 the signs of 1 and 5 have no plus.
+/// In the last row the set of 1, 3 and 5 is turned: with 1, 2, 3 and 4 the signs of 1 and 5 have no plus.
 const MAPS: &str = "3 4 ++++ = accepted
 2 4 ++++++ = accepted
 0 3 - = accepted
