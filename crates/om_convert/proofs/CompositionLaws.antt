@@ -12,7 +12,7 @@ use Rattle.om_signs.specs.declared.sign.Sign.{Sign}
 use Rattle.om_signs.specs.declared.sign.Sign.TheVariants.{Minus, Zero, Plus}
 use Rattle.om_signs.specs.Sign.{first_nonzero}
 use Rattle.om_signs.specs.SignVec.{compose}
-use Rattle.om_signs.proofs.Vectors.{length-compose, first_nonzero-zero}
+use Rattle.om_signs.proofs.ListPlaces.{length-compose, first_nonzero-zero}
 use Rattle.om_members.specs.Listings.{HaveLength}
 use Rattle.om_denotation.specs.Listings.{AreAllOf}
 use Rattle.om_convert.specs.declared.convert_error.ConvertError.{ConvertError}

@@ -16,7 +16,7 @@ use Rattle.om_signs.specs.declared.limits.TheConstants.{MAX_MEMBERS}
 use Rattle.om_signs.specs.Sign.{opposite}
 use Rattle.om_signs.specs.SignVec.{at, compose, IsInSupport, IsMaskOf}
 use Rattle.om_signs.proofs.Bits.{some_bit}
-use Rattle.om_signs.proofs.Vectors.{at-map-opposite}
+use Rattle.om_signs.proofs.ListPlaces.{at-map-opposite}
 use Rattle.om_laws.proofs.SignLaws.{opposite_nonzero}
 use Rattle.om_members.specs.Listings.{AreDistinct}
 use Rattle.om_denotation.specs.Circuits.{HasNonzero}

@@ -30,7 +30,7 @@ use Rattle.om_laws.proofs.TupleSizes.{each_member, each_from, on_tuples_at, on_t
 use Rattle.om_laws.proofs.ChirotopeLaws.{member_from_element}
 use Rattle.om_laws.proofs.RankLaws.{circuit_in_rank, cocircuit_in_rank, orthogonal_in_rank}
 use Rattle.om_laws.proofs.CovectorLaws.{circuit_same, cocircuit_same}
-use Rattle.om_laws.proofs.PairLaws.{covector_same}
+use Rattle.om_laws.proofs.PairCovectors.{covector_same}
 use Rattle.om_laws.proofs.BridgeLaws.{as_function-as_list, as_list-as_function, as_function-negated, orthogonal_functions, orthogonal_lists, length-as_list}
 use Rattle.om_chirotope.specs.Map.{SignMap, chi_of, value_of, circuit_vector, cocircuit_vector}
 use Rattle.om_denotation.specs.Circuits.{HasNonzero, IsUpToSign, IsCircuitOfChirotope, IsCocircuitOfChirotope}

@@ -15,7 +15,7 @@ use Rattle.om_laws.proofs.BridgeLaws.{as_function-as_list, length-as_list, ortho
 use Rattle.om_laws.proofs.ChirotopeLaws.{elements_distinct}
 use Rattle.om_laws.proofs.DualLaws.{dual_chirotope, dual_covector_vector, vector_dual_covector}
 use Rattle.om_laws.proofs.DualPairs.{dual_pair}
-use Rattle.om_laws.proofs.PairLaws.{orthogonal_to_covectors, orthogonal_to_cocircuits}
+use Rattle.om_laws.proofs.PairCovectors.{orthogonal_to_covectors, orthogonal_to_cocircuits}
 use Rattle.om_laws.proofs.DualSizes.{dual_of_on_tuples, dual_dual_up_to_sign}
 use Rattle.om_laws.proofs.Complements.{are_members_cases}
 use Rattle.om_laws.proofs.SignLaws.{product-opposite_right, opposite-opposite}

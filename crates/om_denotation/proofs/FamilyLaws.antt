@@ -13,7 +13,7 @@ use Rattle.om_signs.specs.declared.sign.Sign.TheVariants.{Zero}
 use Rattle.om_signs.specs.Sign.{opposite, first_nonzero}
 use Rattle.om_signs.specs.SignVec.{at, at_element, compose, IsOrthogonal}
 use Rattle.om_signs.specs.SignVec as lists
-use Rattle.om_signs.proofs.Vectors.{length-compose}
+use Rattle.om_signs.proofs.ListPlaces.{length-compose}
 use Rattle.om_members.specs.Vectors.{negated}
 use Rattle.om_laws.specs.Signs.{IsNonzero}
 use Rattle.om_laws.specs.Members.{IsMember}
@@ -31,7 +31,7 @@ use Rattle.om_laws.specs.Bridge.{as_function, as_list}
 use Rattle.om_laws.proofs.SignLaws.{zero_or_nonzero}
 use Rattle.om_laws.proofs.VectorLaws.{orthogonal_same}
 use Rattle.om_laws.proofs.DualPairs.{dual_pair, swapped_pair}
-use Rattle.om_laws.proofs.PairLaws as pairs
+use Rattle.om_laws.proofs.PairAxioms as pairs
 use Rattle.om_laws.proofs.PaintingLaws as paintings
 use Rattle.om_laws.proofs.BaseLaws.{circuit_orthogonal}
 use Rattle.om_laws.proofs.CovectorLaws as covectors

@@ -8,7 +8,7 @@ use Rattle.std.proofs.lemmas.List.Elements.{All-contains}
 use Rattle.std.proofs.Common.{ℕ, ◌≡◌, ◌≤◌, List, length, sym, ◌∙◌}
 use Rattle.om_signs.specs.declared.sign.Sign.{Sign}
 use Rattle.om_signs.specs.SignVec.{compose}
-use Rattle.om_signs.proofs.Vectors.{length-compose}
+use Rattle.om_signs.proofs.ListPlaces.{length-compose}
 use Rattle.om_chirotope.specs.Map.{SignMap}
 use Rattle.om_chirotope.specs.Chirotope.{IsChirotope, IsSound}
 use Rattle.om_members.specs.Listings.{Listing}

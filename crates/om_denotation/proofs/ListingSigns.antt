@@ -2,28 +2,24 @@
 --
 -- Main results: complement_is, the set of the elements off another; sort_append, the sign of two lists one after the other; listing_more, one
 -- more element of the whole set; listing_first, that element alone.
-use Rattle.std.specs.Prelude.{ℕ, ◌≡◌, ◌≢◌, ◌+◌, ◌-◌, ◌*◌, ◌/◌, ◌%◌, ◌<◌, ◌≤◌, ◌^◌, ◌↔◌, List, [], ◌∷◌, ◌++◌, length, refl}
+use Rattle.std.specs.Prelude.{ℕ, ◌≡◌, ◌≢◌, ◌+◌, ◌-◌, ◌*◌, ◌/◌, ◌%◌, ◌<◌, ◌≤◌, ◌^◌, ◌↔◌, List, [], ◌∷◌, ◌++◌, refl}
 use Rattle.std.specs.List.{range_with_len}
 use Rattle.std.proofs.Common.{zero, suc, sym, ◌∙◌, ap, inl, inr, arith, append-nil}
-use Rattle.std.proofs.lemmas.Bool.{cases_eq, eq-eqb, ne_eqb}
-use Rattle.std.proofs.lemmas.List.FromFn.{length-range_with_len}
+use Rattle.std.proofs.lemmas.Bool.{eq-eqb, ne_eqb}
 use Rattle.om_signs.specs.declared.sign.Sign.{Sign}
 use Rattle.om_signs.specs.declared.sign.Sign.TheVariants.{Minus, Plus}
 use Rattle.om_signs.specs.Sign.{product}
-use Rattle.om_subsets.proofs.Places.{double}
-use Rattle.om_subsets.specs.Members.{members, mask_of, members-subset}
+use Rattle.om_subsets.specs.Members.{members}
 use Rattle.om_subsets.specs.Subsets.{IsSubsetFrom, IsMember, count_above}
-use Rattle.om_subsets.proofs.Masks.{mask_of-lt, members-mask_of}
 use Rattle.om_subsets.proofs.Firsts.{same_members}
-use Rattle.om_subsets.proofs.Order.{members_from}
 use Rattle.om_laws.specs.Chirotope.{elements_to}
 use Rattle.om_laws.specs.Dual.{complement}
 use Rattle.om_laws.specs.Sorting.{IsIncreasing}
 use Rattle.om_laws.specs.Tuples.{sort_sign, before_sign, order_sign}
 use Rattle.om_laws.proofs.Complements.{is_member_cases, complement_is_complement}
-use Rattle.om_laws.proofs.DualSizes.{length_complement, complement_increasing}
+use Rattle.om_laws.proofs.DualSizes.{complement_increasing}
 use Rattle.om_laws.proofs.SignLaws.{product-plus}
-use Rattle.om_laws.proofs.SortingLaws.{value_increasing, increasing_distinct}
+use Rattle.om_laws.proofs.SortingLaws.{value_increasing}
 use Rattle.om_laws.proofs.ChirotopeLaws.{elements_distinct, member_from_element, element_from_member}
 use Rattle.om_chirotope.specs.Map.{parity_sign}
 use Rattle.om_chirotope.proofs.Cocircuits.{sign_end}

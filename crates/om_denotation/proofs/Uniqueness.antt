@@ -20,7 +20,7 @@ use Rattle.om_laws.specs.Reorientation.{negative}
 use Rattle.om_laws.specs.Signs.{IsNonzero}
 use Rattle.om_laws.specs.Vectors.{SignVector, IsSupportedOn}
 use Rattle.om_laws.proofs.BridgeLaws.{as_function-as_list, length-as_list}
-use Rattle.om_laws.proofs.PairLaws.{covector_same}
+use Rattle.om_laws.proofs.PairCovectors.{covector_same}
 use Rattle.om_laws.proofs.SignLaws.{opposite-opposite, opposite_nonzero}
 use Rattle.om_laws.proofs.SortingLaws.{value_increasing}
 use Rattle.om_laws.proofs.TupleSizes.{on_tuples_at, on_tuples_tuple}

@@ -18,10 +18,10 @@ use Rattle.om_laws.proofs.DualPairs.{dual_pair}
 use Rattle.om_laws.specs.Axioms.{CircuitAxioms, CovectorAxioms}
 use Rattle.om_laws.specs.Compositions.{EachVector, composition_of}
 use Rattle.om_laws.specs.Covectors.{HasLeastSupport}
-use Rattle.om_laws.proofs.PairLaws.{not_opposite_at, nonzero_composition}
+use Rattle.om_laws.proofs.PairAxioms.{not_opposite_at, nonzero_composition}
 use Rattle.om_laws.specs.Covectors.{IsCovector}
 use Rattle.om_laws.specs.Compositions.{IsConforming}
-use Rattle.om_laws.proofs.PairLaws.{covector_from_parts}
+use Rattle.om_laws.proofs.PairCovectors.{covector_from_parts}
 use Rattle.om_laws.proofs.ChirotopeCovectors.{covector_composition}
 use Rattle.om_laws.proofs.FiniteExistence.{is_in_same, list_map, list_chirotope, list_member_cocircuit, list_cocircuit_member}
 use Rattle.om_laws.proofs.FamilyLaws.{Found, NotFound, found_or_not, not_found_same, minimal_of, decompose, least_incomparable, least_elimination}

@@ -16,7 +16,8 @@ use Rattle.om_laws.specs.Covectors.{IsCovectorOf, IsMinimal}
 use Rattle.om_laws.specs.Compositions.{IsComposition, IsConformalComposition, HasConformingParts, composition_of}
 use Rattle.om_laws.proofs.VectorLaws.{same_trans}
 use Rattle.om_laws.proofs.DualPairs.{IsDualPair}
-use Rattle.om_laws.proofs.PairLaws.{covector_same, composition_is_covector, covector_is_composition, covector_from_parts, parts_of_covector, cocircuit_is_covector, cocircuit_minimal, minimal_is_cocircuit}
+use Rattle.om_laws.proofs.PairCovectors.{covector_same, composition_is_covector, covector_is_composition, covector_from_parts, parts_of_covector, cocircuit_minimal, minimal_is_cocircuit}
+use Rattle.om_laws.proofs.PairAxioms.{cocircuit_is_covector}
 use Rattle.om_laws.proofs.PartLaws.{composition_from_conformal}
 
 module _ (E : List ℕ) (C D : SignVector → Type 0) (pair : IsDualPair E C D) where

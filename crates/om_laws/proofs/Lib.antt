@@ -11,7 +11,10 @@ pub mod BaseLaws
 pub mod DualPairs
 pub mod PaintingLaws
 pub mod PartLaws
-pub mod PairLaws
+pub mod PairColours
+pub mod PairElimination
+pub mod PairAxioms
+pub mod PairCovectors
 pub mod CovectorLaws
 pub mod IncreasingLaws
 pub mod RankLaws

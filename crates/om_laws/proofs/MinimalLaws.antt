@@ -14,7 +14,7 @@ use Rattle.om_laws.specs.Covectors.{IsMinimal}
 use Rattle.om_laws.specs.Compositions.{EachVector, IsComposition, HasConformingParts, composition_of}
 use Rattle.om_laws.specs.Families.{IsListed, AreSupportedOn}
 use Rattle.om_laws.proofs.SignLaws.{nonzero_from_opposite, opposite_nonzero, opposite_swap}
-use Rattle.om_laws.proofs.PairLaws.{nonzero_composition, not_opposite_at}
+use Rattle.om_laws.proofs.PairAxioms.{nonzero_composition, not_opposite_at}
 use Rattle.om_laws.proofs.FamilyLaws as family
 use Rattle.om_laws.proofs.PartLaws.{composition_from_conformal, conformal_from_parts}
 

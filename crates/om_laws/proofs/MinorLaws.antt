@@ -23,7 +23,7 @@ use Rattle.om_laws.proofs.ParallelLaws.{loop_covector}
 use Rattle.om_laws.proofs.PullbackLaws.{pullback_chirotope, covector_lifted, covector_pullback, map_image, renamed_distinct}
 use Rattle.om_laws.proofs.RelationLaws.{around_member, nonzero_from_around}
 use Rattle.om_laws.proofs.TupleLaws.{nonzero_distinct, nonzero_to_end}
-use Rattle.om_laws.proofs.PairLaws.{covector_same}
+use Rattle.om_laws.proofs.PairCovectors.{covector_same}
 use Rattle.om_laws.specs.Minors.{skip, deletion, contraction, IsAvoided, IsCovectorWithout, IsZeroCovectorWithout}
 use Rattle.om_laws.specs.Parallel.{IsLoop, IsColoop, IsInBase}
 use Rattle.om_laws.specs.Circuits.{IsCircuit}

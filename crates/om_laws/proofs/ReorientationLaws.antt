@@ -21,7 +21,7 @@ use Rattle.om_laws.specs.Vectors.{SignVector, Orthogonal, AreEqualUpToSign}
 use Rattle.om_laws.proofs.RelationLaws.{IsBalanced_same}
 use Rattle.om_laws.proofs.SignLaws.{plus_nonzero, minus_nonzero, plus_or_minus, product_nonzero, right_factor_nonzero, product-opposite_right, opposite-opposite, opposite_nonzero, nonzero_from_opposite, product_opposites, products}
 use Rattle.om_laws.proofs.VectorLaws.{opposite_product, orthogonal_from}
-use Rattle.om_laws.proofs.PairLaws.{covector_same}
+use Rattle.om_laws.proofs.PairCovectors.{covector_same}
 use Rattle.om_laws.proofs.CovectorLaws.{circuit_same, cocircuit_same}
 
 turning_nonzero : (set : ℕ → Bool) (e : ℕ) → IsNonzero (turning set e)

@@ -2,7 +2,7 @@
 --
 -- Main results: comes_back, every normal chirotope that denotes the same is the normal form; back_from_cocircuits, back_from_covectors; the
 -- lists of a map of rank 3 are not too wide (narrow_cocircuits, narrow_covectors).
-use Rattle.std.specs.Prelude.{ℕ, ◌≡◌, ◌≤◌, ◌↔◌, ◌⊎◌, List, length, refl}
+use Rattle.std.specs.Prelude.{◌≡◌, ◌≤◌, ◌↔◌, ◌⊎◌, refl}
 use Rattle.std.specs.Bool.{Decides}
 use Rattle.std.specs.List.{Contains}
 use Rattle.std.proofs.Common.{sym, subst, ◌∙◌}
@@ -13,7 +13,7 @@ use Rattle.om_signs.specs.contracts.sign.SignPartialEq.TheImpl as equality
 use Rattle.om_chirotope.specs.Map.{SignMap, negated, IsLedBy}
 use Rattle.om_chirotope.specs.Chirotope.{IsChirotope}
 use Rattle.om_members.specs.Listings.{Listing}
-use Rattle.om_denotation.specs.Covectors.{IsCovectorOfChirotope, IsCovectorOfCocircuits, IsCovectorOfCovectors}
+use Rattle.om_denotation.specs.Covectors.{IsCovectorOfChirotope, IsCovectorOfCocircuits}
 use Rattle.om_denotation.specs.Denotation.{DenoteTheSame}
 use Rattle.om_denotation.specs.Maps.{IsNormalFormOf}
 use Rattle.om_denotation.proofs.Uniqueness.{same_by_covectors, one_normal_form}

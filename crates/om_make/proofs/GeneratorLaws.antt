@@ -3,7 +3,7 @@
 -- Main results: state_on (three draws more), made_more (one vector more), made_length (as many as are asked for).
 use Rattle.std.specs.Prelude.{ℕ, ◌≡◌, ◌≤◌, ◌+◌, ◌-◌, ◌*◌, List, [], ◌∷◌, ◌++◌, length, refl, ℤ, pos, unsigned_abs, Option, Some, None, IsSome}
 use Rattle.std.specs.Option.{SomeIff}
-use Rattle.std.proofs.Common.{zero, suc, ap, sym, ◌∙◌, arith, append_assoc, lit≤, to_z, of_z, w64}
+use Rattle.std.proofs.Common.{zero, suc, ap, sym, ◌∙◌, arith, lit≤, to_z, of_z, w64}
 use Rattle.std.proofs.lemmas.Int.{to_z-of_z, fits_signed_from_abs}
 use Rattle.std.proofs.lemmas.List.{length-append}
 use Rattle.om_vectors.specs.WholeVectors.{WholeVector, vector_of, triple_product, IsCoordinate, IsWithinLimit}

@@ -13,7 +13,7 @@ use Rattle.om_signs.specs.declared.sign.Sign.{Sign}
 use Rattle.om_signs.specs.declared.sign.Sign.TheVariants.{Zero}
 use Rattle.om_signs.specs.Sign.{opposite, product}
 use Rattle.om_signs.specs.SignVec.{at, flip, HasProduct, IsOrthogonal}
-use Rattle.om_signs.proofs.Vectors.{at-flip_from, length-flip_from}
+use Rattle.om_signs.proofs.ListPlaces.{at-flip_from, length-flip_from}
 use Rattle.om_members.specs.Listings.{AreDistinct}
 use Rattle.om_members.specs.Vectors.{HasSupportIn}
 use Rattle.om_denotation.specs.Circuits.{HasNonzero}

@@ -11,7 +11,7 @@ use Rattle.om_signs.specs.declared.sign.Sign.{Sign}
 use Rattle.om_signs.specs.declared.sign.Sign.TheVariants.{Minus, Zero, Plus}
 use Rattle.om_signs.specs.Sign.{opposite, product}
 use Rattle.om_signs.specs.SignVec.{at, flip}
-use Rattle.om_signs.proofs.Vectors.{at-flip_from, length-flip_from}
+use Rattle.om_signs.proofs.ListPlaces.{at-flip_from, length-flip_from}
 use Rattle.om_subsets.specs.Members.{members, mask_of}
 use Rattle.om_subsets.specs.Subsets.{IsSubsetFrom, choose, all_subsets, subset_at}
 use Rattle.om_subsets.proofs.Masks.{members-mask_of}
@@ -21,7 +21,7 @@ use Rattle.om_laws.specs.Chirotope.{elements_to}
 use Rattle.om_laws.specs.Circuits.{IsCircuit}
 use Rattle.om_laws.specs.Reorientation.{turning, signs_product, reoriented, turned, negative}
 use Rattle.om_laws.specs.Sorting.{IsIncreasing, on_tuples}
-use Rattle.om_laws.proofs.PairLaws.{covector_same}
+use Rattle.om_laws.proofs.PairCovectors.{covector_same}
 use Rattle.om_laws.proofs.ReorientationLaws.{reoriented_chirotope, covector_turned}
 use Rattle.om_laws.specs.Signs.{IsNonzero}
 use Rattle.om_laws.proofs.SignLaws.{plus_nonzero, minus_nonzero, product_nonzero, product-zero, product-opposite_right}

@@ -12,7 +12,7 @@ use Rattle.om_signs.specs.declared.sign.Sign.{Sign}
 use Rattle.om_signs.specs.declared.sign.Sign.TheVariants.{Zero}
 use Rattle.om_signs.specs.Sign.{first_nonzero}
 use Rattle.om_signs.specs.SignVec.{at, compose, IsInSupport, IsConformal}
-use Rattle.om_signs.proofs.Vectors.{at-compose, length-compose}
+use Rattle.om_signs.proofs.ListPlaces.{at-compose, length-compose}
 use Rattle.std.specs.Cmp.{tied_itself, Equal-is}
 use Rattle.std.specs.Ordering.{is_eq}
 use Rattle.om_signs.specs.Order.{lexicographic}

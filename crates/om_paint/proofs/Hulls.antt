@@ -11,7 +11,7 @@ use Rattle.om_signs.specs.declared.sign.Sign.{Sign}
 use Rattle.om_signs.specs.declared.sign.Sign.TheVariants.{Minus, Zero, Plus}
 use Rattle.om_signs.specs.Sign.{opposite, product}
 use Rattle.om_signs.specs.SignVec.{at, at_element, HasProduct}
-use Rattle.om_signs.proofs.Vectors.{at-map-opposite}
+use Rattle.om_signs.proofs.ListPlaces.{at-map-opposite}
 use Rattle.om_members.specs.Vectors.{negated}
 use Rattle.om_laws.specs.Colours.{red, green, IsColoured}
 use Rattle.om_laws.specs.Colours as laws

@@ -1,8 +1,7 @@
 -- Decisions as answers.
 --
 -- Main results: the budgets that words name are in their ranges (lawful_budgets); what a call says of a verdict (verdict_decided), and of the answer
--- to a document (decision_meant, decision_refused); a verdict is written with a status other than that of usage (verdict_status), and a decision is an answer that can
--- be written (decision_replies).
+-- to a document (decision_meant, decision_refused); a decision is an answer that can be written (decision_replies).
 use Rattle.std.specs.Prelude.{ℕ, ◌≡◌, ◌≤◌, List, Result, Ok, Err, IfOk}
 use Rattle.std.proofs.Common.{arith, sym, subst}
 use Rattle.om_signs.specs.declared.limits.TheConstants.{MAX_ELEMENTS}
@@ -10,7 +9,6 @@ use Rattle.om_chirotope.specs.Map.{SignMap}
 use Rattle.om_chirotope.specs.Chirotope.{IsChirotope}
 use Rattle.om_vectors.specs.Realizations.{Realizes}
 use Rattle.om_certificate.specs.declared.verdict.Verdict.{Verdict}
-use Rattle.om_certificate.specs.declared.verdict.Verdict.TheVariants.{Realizable, Nonrealizable, Undecided, Limit}
 use Rattle.om_certificate.specs.Forms.{IsVerdictInForm}
 use Rattle.om_decide.specs.declared.budgets.Budgets.{Budgets}
 use Rattle.om_decide.specs.Verdicts as decide
@@ -21,8 +19,7 @@ use Rattle.om_program.specs.declared.answer.Answer.{Answer}
 use Rattle.om_program.specs.declared.representation.Representation.{Representation}
 use Rattle.om_program.specs.declared.setting.Setting.TheVariants.{BoxSize, Steps, Pivots}
 use Rattle.om_program.specs.declared.unchosen.Unchosen.{Unchosen}
-use Rattle.om_program.specs.Answers.{says, IsReply, status_of_verdict}
-use Rattle.om_program.specs.Statuses.{IsReplied}
+use Rattle.om_program.specs.Answers.{says, IsReply}
 use Rattle.om_program.specs.Options.{AreBudgets, budgets_of}
 use Rattle.om_program.specs.Chirotopes.{IsChirotopeOf}
 use Rattle.om_program.specs.Documents.{document_of}
@@ -73,12 +70,6 @@ decision_refused b r why is l same = decision_of (rank_refused (λ m a. Decision
   where
     decision_of : IsForChirotope (λ m a. DecisionMeans m b a) (document_of r) (says l) → IsDecision b (document_of r) (says l)
     decision_of (for_chirotope m a of means) = of_chirotope m a of means
-
-pub verdict_status : (v : Verdict) → IsReplied (status_of_verdict v)
-verdict_status (Realizable vs) = tt
-verdict_status (Nonrealizable es) = tt
-verdict_status (Undecided ws u) = tt
-verdict_status (Limit end u) = tt
 
 means_replies : (m : SignMap) (b : Budgets) (a : Answer) → DecisionMeans m b a → IsReply a
 means_replies m b a (other_rank other) = tt

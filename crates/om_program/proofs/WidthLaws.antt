@@ -11,7 +11,7 @@ use Rattle.std.proofs.lemmas.Bool.{cases_lt}
 use Rattle.om_signs.specs.declared.limits.TheConstants.{MAX_ELEMENTS, MAX_VALUES}
 use Rattle.om_signs.specs.declared.sign.Sign.{Sign}
 use Rattle.om_subsets.specs.Subsets.{choose}
-use Rattle.om_subsets.proofs.Places.{choose_all}
+use Rattle.om_subsets.proofs.LastSets.{choose_all}
 use Rattle.om_chirotope.specs.Chirotope.{IsChirotope}
 use Rattle.om_chirotope.specs.Map.{SignMap}
 use Rattle.om_convert.specs.Limits.{IsTooWideFor, HasFewValuesFor}

@@ -22,7 +22,7 @@ use Rattle.om_laws.proofs.BlockLaws.{same_members}
 use Rattle.om_laws.proofs.BaseLaws.{fundamental_circuit, fundamental_cocircuit, other_common, cocircuit_supported}
 use Rattle.om_laws.proofs.VectorLaws.{same_zero, same_sym}
 use Rattle.om_laws.proofs.DualPairs.{dual_pair}
-use Rattle.om_laws.proofs.PairLaws as pairs
+use Rattle.om_laws.proofs.PairAxioms as pairs
 use Rattle.om_laws.proofs.SizeLaws.{one_size}
 use Rattle.om_laws.proofs.Missing.{missing, missing_middle_member, missing_middle_other}
 use Rattle.om_laws.proofs.Complements.{complement_is_complement}

@@ -12,7 +12,7 @@ use Rattle.om_signs.specs.declared.sign.Sign.{Sign}
 use Rattle.om_signs.specs.declared.sign.Sign.TheVariants.{Plus, Minus, Zero}
 use Rattle.om_signs.specs.SignVec.{at_element}
 use Rattle.om_subsets.specs.Subsets.{IsSubsetFrom, IsMember, without_element, choose}
-use Rattle.om_subsets.proofs.Places.{choose_all}
+use Rattle.om_subsets.proofs.LastSets.{choose_all}
 use Rattle.om_subsets.proofs.Statements.{members_without}
 use Rattle.om_laws.specs.Signs.{IsNonzero}
 use Rattle.om_laws.specs.Vectors.{SignVector}

@@ -16,7 +16,7 @@ use Rattle.om_signs.specs.SignVec.{at, at_element}
 use Rattle.om_signs.specs.Masks.{signs_of, IsSound}
 use Rattle.om_signs.specs.Order.{sign_order, lexicographic}
 use Rattle.om_signs.specs.OrderLaws.{sign_order-total, same_sign, sign_from_bits}
-use Rattle.om_signs.proofs.Vectors.{Shows, shows, length_is, fits_32}
+use Rattle.om_signs.proofs.Views.{Shows, shows, length_is, fits_32}
 
 -- ---- the lists
 

@@ -1,6 +1,8 @@
 pub mod Order
 pub mod Table
 pub mod Places
+pub mod LastSets
+pub mod NextSets
 pub mod Edits
 pub mod Unrank
 pub mod Lowest

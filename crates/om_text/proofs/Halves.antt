@@ -1,13 +1,13 @@
 -- Half of the members of a list that is closed under negation, and the members that it stands for.
 --
 -- Main definitions: has, pairs
--- Main results: doubled_permutes, members_permute, closed_where, half_long, half_read
+-- Main results: doubled_permutes, members_permute, half_long, half_read
 use Rattle.std.proofs.Common.{◌≡◌, ◌≢◌, ℕ, suc, List, [], ◌∷◌, ◌++◌, Bool, true, false, not, ◌&&◌, ◌||◌, inl, inr, length, map, refl, sym, ap, subst, ◌∙◌, append-nil, arith}
-use Rattle.std.specs.Prelude.{All, AllPairs, Contains, IsTrue, filter}
-use Rattle.std.specs.List.{list_all, list_any, flat_map}
+use Rattle.std.specs.Prelude.{All, AllPairs, Contains, filter}
+use Rattle.std.specs.List.{list_any, flat_map}
 use Rattle.std.specs.List.Sorted.{IsPermutation}
 use Rattle.std.proofs.lemmas.List.Elements.{All-filter}
-use Rattle.std.proofs.lemmas.List.Folds.{list_all_at, list_any_at}
+use Rattle.std.proofs.lemmas.List.Folds.{list_any_at}
 use Rattle.std.proofs.lemmas.List.Sorted.{list_any-IsPermutation, IsPermutation-refl}
 use Rattle.std.proofs.lemmas.Map.Views.{Contains-from_any}
 use Rattle.om_signs.specs.declared.sign.Sign.{Sign}
@@ -159,21 +159,6 @@ found z (y ∷ ys) h = elim (either (same_row y z)) [
   | inl e ↦ (0, omega arith, (same_row-Decides y z).0 e)
   | inr n ↦ let g : (same_row y z || list_any (λ y. same_row y z) ys) ≡ true = h in let c = found z ys (rw n at g) in (suc c.0, omega (arith, c.1), c.2)
 ]
-
--- whether the negative of x is a member
-negative_in : List (List Sign) → List Sign → Bool
-negative_in ms x = list_any (λ y. same_row y (map opposite x)) ms
-
-pub closed_where : (b : Body) (ms : List (List Sign)) (r : Bool) → members_of b ≡ ms → r ≡ list_all (λ x. list_any (λ y. same_row y (map opposite x)) ms) ms → IsTrue r → IsClosedUnderNegation b
-unfolding negative_in
-closed_where b ms r m t h x c =
-    let n : Contains ms x = subst (λ l. Contains l x) m c in
-    let whole : list_all (negative_in ms) ms ≡ true = sym t ∙ h in
-    let here : negative_in ms x ≡ true = elim (either (negative_in ms x)) [
-      | inl e ↦ e
-      | inr e ↦ absurd (let q : list_all (negative_in ms) ms ≡ false = list_all_at (negative_in ms) ms n.0 x n.1 (ap (negative_in ms) n.2 ∙ e) in cc)
-    ] in
-    subst (λ l. Contains l (map opposite x)) (sym m) (found (map opposite x) ms here)
 
 -- ---- what is printed and read
 

@@ -1,4 +1,4 @@
-use Rattle.std.proofs.Common.{ℕ, List, ◌≡◌, ◌<◌, [], ◌∷◌, ◌++◌, ◌∙◌, sym, ap, subst, length, take, map, arith}
+use Rattle.std.proofs.Common.{ℕ, List, ◌≡◌, ◌<◌, [], ◌∷◌, ◌++◌, ◌∙◌, sym, ap, subst, take, map, arith}
 use Rattle.std.proofs.lemmas.List.{take_more, map-append}
 use Rattle.om_signs.specs.declared.sign.Sign.{Sign}
 use Rattle.om_subsets.specs.Subsets.{choose, all_subsets, subset_at}

@@ -1,6 +1,6 @@
 use Rattle.om_laws.specs.Circuits.{IsCircuit, IsCocircuit}
 use Rattle.om_laws.proofs.DualPairs.{dual_pair, swapped_pair}
-use Rattle.om_laws.proofs.PairLaws as laws
+use Rattle.om_laws.proofs.PairAxioms as laws
 use Rattle.om_laws.proofs.covectors.axioms.Goals as goal
 
 pub returns-clause-circuits : goal.returns-clause-circuits

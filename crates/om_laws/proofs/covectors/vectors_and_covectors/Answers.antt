@@ -1,6 +1,6 @@
 use Rattle.om_laws.specs.Circuits.{IsCircuit, IsCocircuit}
 use Rattle.om_laws.proofs.DualPairs.{dual_pair, swapped_pair}
-use Rattle.om_laws.proofs.PairLaws as laws
+use Rattle.om_laws.proofs.PairCovectors as laws
 use Rattle.om_laws.proofs.covectors.vectors_and_covectors.Goals as goal
 
 pub returns-clause-covectors : goal.returns-clause-covectors

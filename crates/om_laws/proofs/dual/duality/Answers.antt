@@ -1,7 +1,7 @@
 use Rattle.om_laws.specs.Circuits.{IsCircuit, IsCocircuit}
 use Rattle.om_laws.proofs.DualLaws as laws
 use Rattle.om_laws.proofs.DualPairs.{dual_pair}
-use Rattle.om_laws.proofs.PairLaws.{orthogonal_to_covectors, orthogonal_to_cocircuits}
+use Rattle.om_laws.proofs.PairCovectors.{orthogonal_to_covectors, orthogonal_to_cocircuits}
 use Rattle.om_laws.proofs.dual.duality.Goals as goal
 
 pub returns-clause-chirotope : goal.returns-clause-chirotope

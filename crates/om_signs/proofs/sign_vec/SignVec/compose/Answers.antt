@@ -1,4 +1,4 @@
-use Rattle.om_signs.proofs.Vectors.{compose_made}
+use Rattle.om_signs.proofs.MadeVectors.{compose_made}
 use Rattle.om_signs.proofs.sign_vec.SignVec.compose.Goals as goal
 
 pub invariant_of-result : goal.invariant_of-result

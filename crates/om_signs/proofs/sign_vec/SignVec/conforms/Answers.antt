@@ -1,4 +1,4 @@
-use Rattle.om_signs.proofs.Vectors.{conforms_test}
+use Rattle.om_signs.proofs.PairTests.{conforms_test}
 use Rattle.om_signs.proofs.sign_vec.SignVec.conforms.Goals as goal
 
 pub returns : goal.returns

@@ -1,4 +1,4 @@
-use Rattle.om_signs.proofs.Vectors.{flip_made}
+use Rattle.om_signs.proofs.MadeVectors.{flip_made}
 use Rattle.om_signs.proofs.sign_vec.SignVec.flip.Goals as goal
 
 pub invariant_of-result : goal.invariant_of-result

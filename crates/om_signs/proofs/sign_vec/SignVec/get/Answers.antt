@@ -1,4 +1,4 @@
-use Rattle.om_signs.proofs.Vectors.{get_plus, get_minus, get_zero}
+use Rattle.om_signs.proofs.OnePlace.{get_plus, get_minus, get_zero}
 use Rattle.om_signs.proofs.sign_vec.SignVec.get.Goals as goal
 
 pub returns-then-self-bit-ne0 : goal.returns-then-self-bit-ne0

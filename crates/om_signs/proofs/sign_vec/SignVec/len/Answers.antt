@@ -1,6 +1,6 @@
 use Rattle.std.proofs.Common.{sym, subst, ◌≤◌}
 use Rattle.om_signs.specs.declared.limits.TheConstants.{MAX_PLACES}
-use Rattle.om_signs.proofs.Vectors.{length_is}
+use Rattle.om_signs.proofs.Views.{length_is}
 use Rattle.om_signs.proofs.sign_vec.SignVec.len.Goals as goal
 
 pub returns-clause-value : goal.returns-clause-value

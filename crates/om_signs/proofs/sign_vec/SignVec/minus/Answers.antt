@@ -3,7 +3,7 @@ use Rattle.om_signs.specs.declared.sign.Sign.{Sign}
 use Rattle.om_signs.specs.declared.sign.Sign.TheVariants.{Minus, Zero, Plus}
 use Rattle.om_signs.specs.Sign.{is_minus}
 use Rattle.om_signs.specs.SignVec.{at}
-use Rattle.om_signs.proofs.Vectors.{shows, length_is}
+use Rattle.om_signs.proofs.Views.{shows, length_is}
 use Rattle.om_signs.proofs.sign_vec.SignVec.minus.Goals as goal
 
 minus_bit : (s : Sign) → (is_minus s ≡ 1) ↔ (s ≡ Minus)

@@ -1,4 +1,4 @@
-use Rattle.om_signs.proofs.Vectors.{neg_made}
+use Rattle.om_signs.proofs.MadeVectors.{neg_made}
 use Rattle.om_signs.proofs.sign_vec.SignVec.neg.Goals as goal
 
 pub invariant_of-result : goal.invariant_of-result

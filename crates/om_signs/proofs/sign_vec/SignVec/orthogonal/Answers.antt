@@ -1,4 +1,4 @@
-use Rattle.om_signs.proofs.Vectors.{orthogonal_test}
+use Rattle.om_signs.proofs.PairTests.{orthogonal_test}
 use Rattle.om_signs.proofs.sign_vec.SignVec.orthogonal.Goals as goal
 
 pub returns : goal.returns

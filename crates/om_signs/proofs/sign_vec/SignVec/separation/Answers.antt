@@ -1,4 +1,4 @@
-use Rattle.om_signs.proofs.Vectors.{separation_made}
+use Rattle.om_signs.proofs.PairTests.{separation_made}
 use Rattle.om_signs.proofs.sign_vec.SignVec.separation.Goals as goal
 
 pub returns : goal.returns

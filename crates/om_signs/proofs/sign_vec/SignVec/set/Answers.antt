@@ -1,5 +1,5 @@
 use Rattle.std.proofs.Common.{◌-◌, arith}
-use Rattle.om_signs.proofs.Vectors.{set_made}
+use Rattle.om_signs.proofs.OnePlace.{set_made}
 use Rattle.om_signs.proofs.sign_vec.SignVec.set.Goals as goal
 
 pub invariant_of-result : goal.invariant_of-result

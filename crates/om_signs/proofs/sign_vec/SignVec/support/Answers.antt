@@ -1,4 +1,4 @@
-use Rattle.om_signs.proofs.Vectors.{support_made}
+use Rattle.om_signs.proofs.PairTests.{support_made}
 use Rattle.om_signs.proofs.sign_vec.SignVec.support.Goals as goal
 
 pub returns : goal.returns

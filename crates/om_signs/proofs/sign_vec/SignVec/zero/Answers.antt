@@ -1,4 +1,4 @@
-use Rattle.om_signs.proofs.Vectors.{zero_made}
+use Rattle.om_signs.proofs.MadeVectors.{zero_made}
 use Rattle.om_signs.proofs.sign_vec.SignVec.zero.Goals as goal
 
 pub invariant_of-result : goal.invariant_of-result

@@ -1,5 +1,5 @@
 use Rattle.std.proofs.Common.{refl}
-use Rattle.om_signs.proofs.Vectors.{masks_back}
+use Rattle.om_signs.proofs.Views.{masks_back}
 use Rattle.om_signs.proofs.sign_vec.SignVecHash.hash.Goals as goal
 
 pub returns : goal.returns

@@ -1,5 +1,5 @@
 use Rattle.std.proofs.Common.{ap, ◌∙◌, ◌&&◌, nat_eq}
-use Rattle.om_signs.proofs.Vectors.{masks_back, and_regroup}
+use Rattle.om_signs.proofs.Views.{masks_back, and_regroup}
 use Rattle.om_signs.proofs.sign_vec.SignVecPartialEq.eq.Goals as goal
 
 pub returns : goal.returns

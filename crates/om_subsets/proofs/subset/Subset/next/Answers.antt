@@ -1,7 +1,9 @@
 use Rattle.std.proofs.Common.{◌+◌, ◌∙◌, sym, ap, length, arith}
 use Rattle.om_subsets.specs.Subsets.{rank_of, choose}
 use Rattle.om_subsets.specs.Members.{members-subset}
-use Rattle.om_subsets.proofs.Places.{bits_fit, next_made, not_last, tail_more, tail_same, tail_small}
+use Rattle.om_subsets.proofs.Places.{bits_fit}
+use Rattle.om_subsets.proofs.NextSets.{next_made, not_last}
+use Rattle.om_subsets.proofs.LastSets.{tail_more, tail_same, tail_small}
 use Rattle.om_subsets.proofs.subset.Subset.next.Goals as goal
 use Rattle.om_subsets.proofs.subset.Subset.next.Goals.{then-self-i-eq1+else-tail-k, else-self-i-eq1}
 

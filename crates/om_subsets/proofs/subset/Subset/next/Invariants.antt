@@ -1,5 +1,6 @@
 use Rattle.std.proofs.Common.{◌≡◌, ◌-◌, length}
-use Rattle.om_subsets.proofs.Places.{from_place, IsLast}
+use Rattle.om_subsets.proofs.Places.{from_place}
+use Rattle.om_subsets.proofs.LastSets.{IsLast}
 use Rattle.om_subsets.proofs.subset.Subset.next.Given as goal
 
 abbrev pub invariant-loop-k : goal.invariant-loop-k

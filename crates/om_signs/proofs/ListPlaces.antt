@@ -1,0 +1,47 @@
+-- The sign at a place of a list that is made of others: a composition, a negative, zeros, a list with flipped signs.
+--
+-- Main results: at-compose, length-compose, at-map-opposite, at-replicate, at-flip_from, length-flip_from
+use Rattle.std.proofs.Common.{ℕ, ◌≡◌, ◌+◌, zero, suc, refl, sym, ◌∙◌, ap, arith, List, [], ◌∷◌, length, map, replicate, true, false, cond, nat_eq}
+use Rattle.std.specs.Int.{bit_at}
+use Rattle.std.proofs.Common.{add-zero}
+use Rattle.om_signs.specs.declared.sign.Sign.{Sign}
+use Rattle.om_signs.specs.declared.sign.Sign.TheVariants.{Minus, Zero, Plus}
+use Rattle.om_signs.specs.Sign.{opposite, first_nonzero}
+use Rattle.om_signs.specs.SignVec.{at, compose, flip_from}
+
+pub first_nonzero-zero : (s : Sign) → first_nonzero s Zero ≡ s
+first_nonzero-zero Minus = refl
+first_nonzero-zero Zero = refl
+first_nonzero-zero Plus = refl
+
+pub at-compose : (xs ys : List Sign) (i : ℕ) → at (compose xs ys) i ≡ first_nonzero (at xs i) (at ys i)
+at-compose [] ys i = refl
+at-compose (x ∷ xs) [] i = sym (first_nonzero-zero (at (x ∷ xs) i))
+at-compose (x ∷ xs) (y ∷ ys) zero = refl
+at-compose (x ∷ xs) (y ∷ ys) (suc i) = at-compose xs ys i
+
+pub length-compose : (xs ys : List Sign) → length xs ≡ length ys → length (compose xs ys) ≡ length xs
+length-compose [] ys e = sym e
+length-compose (x ∷ xs) [] e = refl
+length-compose (x ∷ xs) (y ∷ ys) e = ap suc (length-compose xs ys (omega arith))
+
+pub at-map-opposite : (xs : List Sign) (i : ℕ) → at (map opposite xs) i ≡ opposite (at xs i)
+at-map-opposite [] i = refl
+at-map-opposite (x ∷ xs) zero = refl
+at-map-opposite (x ∷ xs) (suc i) = at-map-opposite xs i
+
+pub at-replicate : (n i : ℕ) → at (replicate n Zero) i ≡ Zero
+at-replicate zero i = refl
+at-replicate (suc n) zero = refl
+at-replicate (suc n) (suc i) = at-replicate n i
+
+pub at-flip_from : (j mask : ℕ) (xs : List Sign) (i : ℕ) → at (flip_from j mask xs) i ≡ cond (nat_eq (bit_at mask (j + i)) 1) (opposite (at xs i)) (at xs i)
+at-flip_from j mask [] i = elim (nat_eq (bit_at mask (j + i)) 1) as (λ b. Zero ≡ cond b Zero Zero) [ true ↦ refl | false ↦ refl ]
+at-flip_from j mask (x ∷ xs) zero = rw add-zero refl
+at-flip_from j mask (x ∷ xs) (suc i) =
+    let e : j + 1 + i ≡ j + suc i = omega arith in
+    at-flip_from (j + 1) mask xs i ∙ ap (λ k. cond (nat_eq (bit_at mask k) 1) (opposite (at xs i)) (at xs i)) e
+
+pub length-flip_from : (j mask : ℕ) (xs : List Sign) → length (flip_from j mask xs) ≡ length xs
+length-flip_from j mask [] = refl
+length-flip_from j mask (x ∷ xs) = ap suc (length-flip_from (j + 1) mask xs)
