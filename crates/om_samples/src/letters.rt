@@ -109,3 +109,27 @@ pub fn text_of_vectors(alloc: Global, vectors: &[SignVec]) -> Result<String, Sam
     }
     Ok(text)
 }
+
+/// Whether some sign vectors are those of a text, in any order, as many of them as words; with a space between two words, as
+/// `0++ -0+`.
+pub fn are_vectors(vectors: &[SignVec], text: &str) -> bool {
+    text.split_whitespace().count() == vectors.len()
+        && text.split_whitespace().all(|word| vectors.iter().any(|vector| is_vector(*vector, word)))
+}
+
+/// Whether a sign vector has the signs of a text, one for each byte.
+fn is_vector(vector: SignVec, text: &str) -> bool {
+    text.len() == vector.len() as usize && vector_of(vector.len(), text) == vector
+}
+
+/// Whether a map has this rank, so many elements and the signs of a text, one for each byte.
+pub fn is_map(raw: &RawMap, rank: u8, elements: u8, text: &str) -> bool {
+    let signs = raw.signs.as_slice();
+    raw.rank == rank
+        && raw.elements == elements
+        && signs.len() == text.len()
+        && signs
+            .iter()
+            .zip(text.as_bytes())
+            .all(|(sign, byte)| *sign == sign_of(*byte))
+}

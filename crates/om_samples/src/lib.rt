@@ -7,6 +7,8 @@ mod letters;
 mod sample_error;
 mod samples;
 
-pub use letters::{sign_of, signs_of, text_of_map, text_of_vectors, vector_of, vectors_of};
+pub use letters::{
+    are_vectors, is_map, sign_of, signs_of, text_of_map, text_of_vectors, vector_of, vectors_of,
+};
 pub use sample_error::SampleError;
 pub use samples::{chirotope_of, circuits_of, cocircuits_of, covectors_of};

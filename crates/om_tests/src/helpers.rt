@@ -1,0 +1,43 @@
+//! Answers that are compared with texts.
+
+use om_chirotope::Chirotope;
+use om_circuits::{Circuits, Cocircuits};
+use om_covectors::Covectors;
+use om_samples::{are_vectors, is_map};
+
+/// Whether a chirotope was found, and has this rank, so many elements and the signs of a text.
+pub fn is_chirotope<E: Drop>(
+    found: Result<Chirotope, E>,
+    rank: u8,
+    elements: u8,
+    text: &str,
+) -> bool {
+    match found {
+        Ok(chi) => is_map(&chi.into_raw(), rank, elements, text),
+        Err(_) => false,
+    }
+}
+
+/// Whether circuits were found, and are the sign vectors of a text.
+pub fn are_circuits<E: Drop>(found: Result<Circuits, E>, text: &str) -> bool {
+    match found {
+        Ok(circuits) => are_vectors(circuits.0.members(), text),
+        Err(_) => false,
+    }
+}
+
+/// Whether cocircuits were found, and are the sign vectors of a text.
+pub fn are_cocircuits<E: Drop>(found: Result<Cocircuits, E>, text: &str) -> bool {
+    match found {
+        Ok(cocircuits) => are_vectors(cocircuits.0.members(), text),
+        Err(_) => false,
+    }
+}
+
+/// Whether covectors were found, and are the sign vectors of a text.
+pub fn are_covectors<E: Drop>(found: Result<Covectors, E>, text: &str) -> bool {
+    match found {
+        Ok(covectors) => are_vectors(covectors.members(), text),
+        Err(_) => false,
+    }
+}
