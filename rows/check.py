@@ -137,6 +137,17 @@ def run_parts(tally, program):
     tally.expect("covectors of twenty elements", (code, covectors.count(b"\n")), (0, 1523 + 2 + 1))
 
 
+def run_long_lists(tally, program):
+    """Lists so long that a map is proposed for them, as the program writes them; the conversion keeps their members in order."""
+    uniform = b"om 1\nchirotope 3 8\n" + b"+" * 56 + b"\nend\n"
+    # eight lines of the plane in general position have 28 points, 56 segments and 29 regions, each with two signs, and the zero vector
+    for kind, count in ("circuits", 140), ("cocircuits", 56), ("covectors", 227):
+        code, listing = run(program, ["convert", kind], uniform)
+        tally.expect("%s of eight elements" % kind, (code, listing.count(b"\n")), (0, count + 2 + 1))
+        tally.expect("%s that are accepted" % kind, run(program, ["accept"], listing), (0, b"accepted\n"))
+        tally.expect("%s and back" % kind, run(program, ["convert", "chirotope"], listing), (0, uniform))
+
+
 def main():
     programs = [os.path.abspath(it) for it in sys.argv[1:]]
     if not programs:
@@ -148,6 +159,7 @@ def main():
         run_tables(tally, program)
         run_faults(tally, program)
         run_parts(tally, program)
+        run_long_lists(tally, program)
     print("rows: %d passed, %d failed" % (tally.passed, tally.failed))
     return 1 if tally.failed or not tally.passed else 0
 
