@@ -6,11 +6,13 @@ its output, with ` | ` between two. In the input and the output a `/` stands for
 line `@ = TEXT` before the row gives, as does the word `@`; `@ = # * N` is N times `#`. `\\r` is a carriage return. Where the
 input is `unread`, each read would fail. A line with `# ` in front is a remark.
 
-Behind the tables come runs that read a text which breaks off, runs whose output has too little room, and a few answers that are
-looked at in parts. All are run on each program that is named; where none is, on the program as it is built, and, where it is
-there, as the second compiler builds it. The last line is 'rows: N passed, M failed', and the exit code is 1 where one failed.
+Behind the tables come runs that read a text which breaks off, runs whose output has too little room, a few answers that are looked
+at in parts, and lists that are compared with what the axioms give. All are run on each program that is named; where none is, on the
+program as it is built, and, where it is there, as the second compiler builds it. The last line is 'rows: N passed, M failed', and
+the exit code is 1 where one failed.
 """
 import glob
+import itertools
 import os
 import re
 import resource
@@ -137,9 +139,59 @@ def run_parts(tally, program):
     tally.expect("covectors of twenty elements", (code, covectors.count(b"\n")), (0, 1523 + 2 + 1))
 
 
+def all_plus(elements, number):
+    """The document of the chirotope of rank 3 on some elements whose signs, of which this is the number, are all plus."""
+    return b"om 1\nchirotope 3 %d\n%s\nend\n" % (elements, b"+" * number)
+
+
+def is_chirotope(signs):
+    """Whether the map of rank 3 on five elements with these signs is a chirotope: it isn't all zero, and from each two bases x and y
+    some element of y can be exchanged with the first of x so that the product of their values is kept. Where two elements of y, or
+    the last two of x, change places, all the products change their signs, so one order of them will do."""
+    value = dict.fromkeys(itertools.product(range(5), repeat=3), 0)
+    for (a, b, c), sign in zip(itertools.combinations(range(5), 3), signs):
+        value[a, b, c] = value[b, c, a] = value[c, a, b] = "-0+".index(sign) - 1
+        value[a, c, b] = value[c, b, a] = value[b, a, c] = 1 - "-0+".index(sign)
+    bases = [x for x in value if value[x]]
+    return bool(bases) and all(
+        any(value[(e,) + x[1:]] * value[y[:i] + x[:1] + y[i + 1:]] == value[x] * value[y] for i, e in enumerate(y))
+        for x in bases if x[1] < x[2] for y in bases if y[0] < y[1] < y[2])
+
+
+def extensions(old):
+    """The signatures of the extensions of the map of rank 3 on four elements with these signs, from minus to plus."""
+    for new in itertools.product("-0+", repeat=6):
+        # of five elements the triples 1 2 3, 1 2 4, 1 3 4 and 2 3 4 are the old ones, and each other one is a pair with the fifth
+        signs = old[0] + old[1] + new[0] + old[2] + new[1] + new[2] + old[3] + new[3] + new[4] + new[5]
+        if is_chirotope(signs):
+            yield "".join(new)
+
+
+def run_extensions(tally, program, listed):
+    """The extensions of each map of rank 3 on four elements that has no zero, and the numbers of those of larger ones."""
+    for old, lines in listed:
+        wanted = "om 1\nextensions 4\n%s\nend\n" % "\n".join(lines)
+        found = run(program, ["extend"], b"om 1\nchirotope 3 4\n%s\nend\n" % old.encode())
+        tally.expect("extensions of %s, of which there are 75" % old, (found, len(lines)), ((0, wanted.encode()), 75))
+    larger = (9, 84, 2000, 2000, b"more"), (9, 84, 100000, 10131, b"end"), (19, 969, 1000, 1000, b"more")
+    for elements, number, first, lines, last in larger:
+        code, listing = run(program, ["extend", "--first=%d" % first], all_plus(elements, number))
+        # the two lines before them, and the last one
+        found = code, listing.count(b"\n"), listing.endswith(b"\n%s\n" % last)
+        tally.expect("the first %d extensions of %d elements" % (first, elements), found, (0, lines + 2 + 1, True))
+
+
+def run_twenty_wires(tally, program):
+    """The least wiring diagram where all signs are plus: each wire crosses all lesser ones, from its position down to the first."""
+    blocks = ["%d-%d\n" % (k, k + 1) for wire in range(2, 21) for k in range(wire - 1, 0, -1)]
+    wanted = "om 1\nwiring 20\n%send\n" % "".join(blocks)
+    found = run(program, ["wiring"], all_plus(20, 1140))
+    tally.expect("twenty wires, which have 190 crossings", (found, len(blocks)), ((0, wanted.encode()), 190))
+
+
 def run_long_lists(tally, program):
     """Lists so long that a map is proposed for them, as the program writes them; the conversion keeps their members in order."""
-    uniform = b"om 1\nchirotope 3 8\n" + b"+" * 56 + b"\nend\n"
+    uniform = all_plus(8, 56)
     # eight lines of the plane in general position have 28 points, 56 segments and 29 regions, each with two signs, and the zero vector
     for kind, count in ("circuits", 140), ("cocircuits", 56), ("covectors", 227):
         code, listing = run(program, ["convert", kind], uniform)
@@ -155,11 +207,14 @@ def main():
         subprocess.run([os.path.join(TOP, "om"), "accept"], stdin=subprocess.DEVNULL, stdout=subprocess.DEVNULL)
         programs = [it for it in (BUILT, BUILT + ".by-rattle") if os.path.exists(it)]
     tally = Tally()
+    listed = [(old, list(extensions(old))) for old in map("".join, itertools.product("-+", repeat=4))]
     for program in programs:
         run_tables(tally, program)
         run_faults(tally, program)
         run_parts(tally, program)
         run_long_lists(tally, program)
+        run_extensions(tally, program, listed)
+        run_twenty_wires(tally, program)
     print("rows: %d passed, %d failed" % (tally.passed, tally.failed))
     return 1 if tally.failed or not tally.passed else 0
 

@@ -12,10 +12,22 @@ mod dual;
 #[cfg(test)]
 mod helpers;
 #[cfg(test)]
+mod lexext;
+#[cfg(test)]
+mod localize;
+#[cfg(test)]
+mod make;
+#[cfg(test)]
 mod minors;
 #[cfg(test)]
+mod mutate;
+#[cfg(test)]
 mod oriented;
+#[cfg(test)]
+mod paint;
 #[cfg(test)]
 mod propagation;
 #[cfg(test)]
 mod samples;
+#[cfg(test)]
+mod wiring;
