@@ -18,6 +18,8 @@ mod localize;
 #[cfg(test)]
 mod make;
 #[cfg(test)]
+mod members;
+#[cfg(test)]
 mod minors;
 #[cfg(test)]
 mod mutate;
@@ -26,8 +28,20 @@ mod oriented;
 #[cfg(test)]
 mod paint;
 #[cfg(test)]
+mod parallel;
+#[cfg(test)]
+mod port;
+#[cfg(test)]
 mod propagation;
 #[cfg(test)]
+mod rows;
+#[cfg(test)]
 mod samples;
+#[cfg(test)]
+mod signs;
+#[cfg(test)]
+mod simplex;
+#[cfg(test)]
+mod subsets;
 #[cfg(test)]
 mod wiring;

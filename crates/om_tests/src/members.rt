@@ -1,0 +1,32 @@
+//! Vectors of two places, and lists of them, worked out by hand.
+
+use om_members::{are_same, first_without_negative, is_member, is_zero};
+use om_samples::vector_of;
+
+#[test]
+fn vectors_and_members(rt: HostRuntime) {
+    let (zero, plus, minus) = (vector_of(2, "00"), vector_of(2, "+0"), vector_of(2, "-0"));
+    let list = [zero, plus];
+    let answers = [
+        is_zero(zero),
+        is_zero(plus),
+        are_same(plus, minus),
+        are_same(zero, vector_of(3, "000")),
+        is_member(&list, plus),
+        is_member(&list, minus),
+    ];
+    assert!(rt; answers == [true, false, false, false, true, false]);
+}
+
+#[test]
+fn negatives(rt: HostRuntime) {
+    let (zero, plus, minus) = (vector_of(2, "00"), vector_of(2, "+0"), vector_of(2, "-0"));
+    let both = vector_of(2, "+-");
+    let firsts = [
+        first_without_negative(&[]),
+        first_without_negative(&[plus, zero, minus]),
+        first_without_negative(&[plus, zero, minus, both]),
+        first_without_negative(&[zero, plus, both]),
+    ];
+    assert!(rt; firsts == [None, None, Some(3), Some(1)]);
+}

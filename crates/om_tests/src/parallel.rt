@@ -1,0 +1,128 @@
+//! The least bad numbers and the answers of parts, and calls that are made at the same time.
+
+ghost use Rattle.std.specs.Prelude.{◌≡◌, ◌⊎◌, ◌/◌};
+
+use om_parallel::{Part, Probe, first_bad, map_parts};
+use om_signs::NoMemory;
+use std::sync::atomic::{AtomicBool, Ordering};
+
+/// Numbers of which 5 and 900 are bad.
+#[derive(Drop)]
+struct FiveAndNineHundred;
+
+impl Probe for FiveAndNineHundred {
+    ghost is_bad = { λ _ k. (k ≡ 5) ⊎ (k ≡ 900) };
+
+    fn bad(&self, k: u64) -> bool {
+        k == 5 || k == 900
+    }
+}
+
+/// How often the call for 0 looks whether the call for 1 has come.
+const MOST_TURNS: u64 = 2_000_000_000;
+
+/// Two calls that are made at the same time: that for 0 waits until that for 1 has come.
+#[derive(Drop)]
+struct Held {
+    come: AtomicBool,
+    late: AtomicBool,
+}
+
+impl Held {
+    /// No call has come.
+    fn new() -> Held {
+        Held {
+            come: AtomicBool::new(false),
+            late: AtomicBool::new(false),
+        }
+    }
+
+    /// The call for a number.
+    fn meet(&self, k: u64) {
+        if k == 1 {
+            self.come.store(true, Ordering::SeqCst);
+            return;
+        }
+        for _ in 0..MOST_TURNS {
+            if self.come.load(Ordering::SeqCst) {
+                return;
+            }
+        }
+        self.late.store(true, Ordering::SeqCst);
+    }
+}
+
+impl Probe for Held {
+    ghost is_bad = { λ _ _. ⊥ };
+
+    fn bad(&self, k: u64) -> bool {
+        self.meet(k);
+        false
+    }
+}
+
+impl Part for Held {
+    type Out = u64;
+
+    ghost gives = { λ _ k x. x ≡ k };
+
+    fn part(&self, k: u64) -> u64 {
+        self.meet(k);
+        k
+    }
+}
+
+/// The half of each number, rounded down.
+#[derive(Drop)]
+struct Halves;
+
+impl Part for Halves {
+    type Out = u64;
+
+    ghost gives = { λ _ k x. x ≡ k / 2 };
+
+    fn part(&self, k: u64) -> u64 {
+        k / 2
+    }
+}
+
+/// Whether the answers were found, and are these.
+fn are_answers(found: Result<Vec<u64>, NoMemory>, expected: &[u64]) -> bool {
+    match found {
+        Ok(answers) => answers.as_slice() == expected,
+        Err(_) => false,
+    }
+}
+
+#[test]
+fn least_bad_number(rt: HostRuntime) {
+    for (count, least) in [(1000, Some(5)), (5, None), (0, None), (1_000_000, Some(5))] {
+        assert!(rt; first_bad(&rt, &FiveAndNineHundred, count) == least);
+    }
+}
+
+#[test]
+fn probes_meet(rt: HostRuntime) {
+    let probes = Held::new();
+    assert!(rt; first_bad(&rt, &probes, 2).is_none() && !probes.late.load(Ordering::SeqCst));
+}
+
+#[test]
+fn parts_meet(rt: HostRuntime) {
+    let parts = Held::new();
+    assert!(rt; are_answers(map_parts(&rt, rt.alloc(), &parts, 2), &[0, 1]));
+    assert!(rt; !parts.late.load(Ordering::SeqCst));
+}
+
+#[test]
+fn parts_in_order(rt: HostRuntime) {
+    assert!(rt; are_answers(map_parts(&rt, rt.alloc(), &Halves, 5), &[0, 0, 1, 1, 2]));
+    assert!(rt; are_answers(map_parts(&rt, rt.alloc(), &Halves, 0), &[]));
+}
+
+#[test]
+fn many_parts(rt: HostRuntime) -> Result<(), NoMemory> {
+    let many = map_parts(&rt, rt.alloc(), &Halves, 20_000)?;
+    assert!(rt; many.len() == 20_000 && many[0] == 0 && many[19_999] == 9_999);
+    Ok(())
+}

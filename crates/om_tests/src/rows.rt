@@ -1,0 +1,82 @@
+//! Rows worked out by hand, and numbers at the limit.
+
+use om_rows::{Column, Wide, combine, compare_ratios, dot, primitive};
+use std::cmp::Ordering;
+
+const MAX: i128 = i128::MAX;
+
+const MIN: i128 = i128::MIN;
+
+/// The first two numbers of a row, less the third and the fourth, and the last.
+const STRICT: Column = Column {
+    small0: 1,
+    small1: 2,
+    big0: 3,
+    big1: 4,
+    strict: true,
+};
+
+/// The same without the last number.
+const NOT_STRICT: Column = Column {
+    small0: 1,
+    small1: 2,
+    big0: 3,
+    big1: 4,
+    strict: false,
+};
+
+#[test]
+fn products(rt: HostRuntime) {
+    let row = [10, 20, 3, 4, 100];
+    assert!(rt; [dot(&row, STRICT), dot(&row, NOT_STRICT)] == [Ok(123), Ok(23)]);
+}
+
+#[test]
+fn products_at_the_limit(rt: HostRuntime) {
+    let found = [
+        dot(&[MAX, MAX, MAX, MAX, 5], STRICT),
+        dot(&[MAX, MAX, MIN, MIN, 0], STRICT),
+        dot(&[MIN, -1, MIN, -1, MIN], STRICT),
+        dot(&[MAX, 2, 1, 1, 1], STRICT),
+    ];
+    let wide = Err(Wide { place: 0 });
+    assert!(rt; found == [Ok(5), wide, Ok(MIN), wide]);
+}
+
+#[test]
+fn combinations(rt: HostRuntime) {
+    let mut row = [6, 4, 9];
+    assert!(rt; combine(2, &mut row, 3, &[1, 2, 3]).is_ok() && row == [9, 2, 9]);
+}
+
+#[test]
+fn combinations_too_wide(rt: HostRuntime) {
+    let mut wide = [1 << 126];
+    assert!(rt; combine(2, &mut wide, 0, &[0]) == Err(Wide { place: 1 }) && wide == [1 << 126]);
+    let mut later = [0, MAX, MAX];
+    assert!(rt; combine(1, &mut later, -1, &[MAX, 1, 1]) == Err(Wide { place: 2 }));
+}
+
+#[test]
+fn divisors(rt: HostRuntime) {
+    let mut row = [12, -18, 0, 30];
+    primitive(&mut row);
+    let mut zeros = [0, 0];
+    primitive(&mut zeros);
+    let mut least = [MIN, 0, MIN];
+    primitive(&mut least);
+    assert!(rt; row == [2, -3, 0, 5] && zeros == [0, 0] && least == [-1, 0, -1]);
+}
+
+#[test]
+fn fractions(rt: HostRuntime) {
+    let found = [
+        compare_ratios(1, 2, 2, 4),
+        compare_ratios(1, 3, 1, 2),
+        compare_ratios(0, 1, 0, 5),
+        compare_ratios(MAX, MAX - 1, MAX - 1, MAX - 2),
+        compare_ratios(MAX, 1, MAX, 2),
+    ];
+    let (less, equal) = (Ordering::Less, Ordering::Equal);
+    assert!(rt; found == [equal, less, equal, less, Ordering::Greater]);
+}
