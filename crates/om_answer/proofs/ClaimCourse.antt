@@ -1,7 +1,7 @@
 -- Claims read line by line, first the document and then the block: what that comes to is the claim or the first fault.
 --
 -- Main definitions: ClaimState, claim_step, claim_value, ShowsClaim
--- Main results: claim_from, claim_outcome, claim_fault_from, fault_claim_outcome, document_passes, document_fault, begins_bytes, bytes_begin
+-- Main results: claim_from and claim_comes, claim_fault_from and claim_fault_comes, document_passes, document_fault_comes, begins_bytes, bytes_begin
 use Rattle.std.proofs.Common.{◌≡◌, ℕ, ◌+◌, List, [], ◌∷◌, ◌++◌, Bool, true, false, length, refl, sym, ap, subst, ◌∙◌, arith, inl, inr, append_assoc, append-nil, ◌≤◌, take, drop}
 use Rattle.std.specs.Prelude.{Option, Some, None, Result, Ok, Err, codes}
 use Rattle.std.specs.List.{list_all, list_any}

@@ -1,6 +1,6 @@
 -- What a reading of a claim says, from what it comes to.
 --
--- Main results: says_claim, document_refused, block_read, few_lines
+-- Main results: reads_claim, document_refused, block_refused, block_read, part_few
 use Rattle.std.proofs.Common.{◌≡◌, ◌≢◌, ℕ, suc, ◌+◌, ◌-◌, ◌≤◌, List, [], ◌∷◌, length, take, drop, sym, ap, subst, ◌∙◌, arith, inl, inr, length-append, length-drop}
 use Rattle.std.specs.Prelude.{Result, Ok, Err, IfOk, nat_eq}
 use Rattle.std.proofs.lemmas.List.{length-take-le, take-append-drop, take_all}

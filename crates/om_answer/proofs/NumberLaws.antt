@@ -1,7 +1,7 @@
 -- Numbers of a line that are read one by one.
 --
 -- Main definitions: continued
--- Main results: no_word, other_number, next_number, last_number
+-- Main results: no_word, other_number, next_number, all_numbers
 use Rattle.std.proofs.Common.{◌≡◌, ℕ, suc, ◌+◌, ◌<◌, ◌≤◌, List, true, false, not, [], ◌∷◌, ◌++◌, length, refl, ap, drop, take, take-suc, take_all, get_or, append_assoc, append-nil, drop-cons, arith}
 use Rattle.std.specs.Prelude.{ℤ, Option, Some, None}
 use Rattle.std.proofs.lemmas.List.{drop_all}

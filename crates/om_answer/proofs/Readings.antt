@@ -1,6 +1,6 @@
 -- What is read from numbers that are in their ranges.
 --
--- Main results: entry_read, vector_read
+-- Main results: entry_read, vector_made
 use Rattle.std.proofs.Common.{◌≡◌, ℕ, ◌≤◌, ◌<◌, ◌^◌, List, [], ◌∷◌, Bool, get_or, refl, ap, ◌∙◌, arith}
 use Rattle.std.specs.Prelude.{ℤ, pos, negsuc, unsigned_abs, Option, Some, None, FitsSigned}
 use Rattle.std.specs.Int.{w64, w128, cast_signed, cast_unsigned}

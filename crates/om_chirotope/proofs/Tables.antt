@@ -1,6 +1,6 @@
 -- What the table of the vectors U says of the pairs with a set S.
 --
--- Main results: table_done, table_held, table_violated; all_more, none_violated and first_violated for the scan over the sets S.
+-- Main results: table_done, table_held; all_more and all_held for the scan over the sets S.
 use Rattle.std.specs.Prelude.{ℕ, ◌≡◌, ◌+◌, ◌-◌, ◌<◌, ◌≤◌, List, [], length}
 use Rattle.std.proofs.Common.{sym, ◌∙◌, ap, arith, inl, inr, subst, get_or, set}
 use Rattle.std.proofs.lemmas.Bool.{cases_eq}

@@ -1,6 +1,6 @@
 -- The places of the sets with one element more, by one walk over the elements.
 --
--- Main results: walk_start, walk_in and walk_off, the steps of the walk; place_here, the place of the set with the element that is looked at.
+-- Main results: walk_start, walk_in and walk_off, the steps of the walk.
 use Rattle.std.specs.Prelude.{ℕ, ◌≡◌, ◌≢◌, ◌+◌, ◌-◌, ◌<◌, ◌≤◌, ◌↔◌, ◌⊎◌, List, [], ◌∷◌, length, refl}
 use Rattle.std.proofs.Common.{zero, suc, sym, ◌∙◌, ap, arith, inl, inr, subst}
 use Rattle.std.proofs.lemmas.Bool.{cases_order, eq-eqb, ne_eqb, lt-ltb, le-ltb}

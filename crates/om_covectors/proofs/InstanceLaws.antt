@@ -1,7 +1,7 @@
 -- From the scans to the axioms and to the first violated instance.
 --
--- Main results: axioms_met: where no scan finds an instance, the axioms hold; zero_violated, first_unnegated_violated, first_uncomposed_violated,
--- first_blocked_violated: what a scan finds is the first violated instance; violated_breaks: a violated instance breaks the axioms.
+-- Main results: axioms_met: where no scan finds an instance, the axioms hold; first_uncomposed_violated, first_blocked_violated:
+-- what a scan finds is the first violated instance; violated_breaks: a violated instance breaks the axioms.
 use Rattle.std.proofs.Common.{ℕ, ◌≡◌, ◌+◌, ◌-◌, ◌<◌, ◌≤◌, List, [], ◌∷◌, length, subst, arith, inl, inr}
 use Rattle.std.specs.List.{Contains}
 use Rattle.om_signs.specs.declared.sign.Sign.{Sign}
@@ -14,7 +14,7 @@ use Rattle.om_covectors.specs.Axioms.{HasZero, HasCovectorEliminator, MeetsCovec
 use Rattle.om_members.specs.Listings.{HaveLength}
 use Rattle.om_members.specs.Positions.{IsPosition, IsBefore}
 use Rattle.om_covectors.specs.Instances.{HasNoCovectorEliminator, IsViolatedCovectorAxiom, covector_key, IsFirstViolatedCovectorAxiom}
-use Rattle.om_members.specs.Scans.{nth, AllBelow, IsFirstBad, IsFirstBadPair, HasNegativeAt, HasNoNegativeAt}
+use Rattle.om_members.specs.Scans.{nth, AllBelow, IsFirstBadPair, HasNegativeAt}
 use Rattle.om_covectors.specs.Scans.{HasCompositionAt, HasNoCompositionAt, HasCovectorEliminatorIfAsked, IsUnblockedAt, IsFirstBlocked}
 use Rattle.om_covectors.proofs.MaskLaws.{element_within}
 use Rattle.om_members.proofs.OrderLaws.{same_number, greater_number, last_number}
@@ -35,33 +35,6 @@ module _ (members : List (List Sign)) where
       v.2 (h (i - 1) (omega arith) (j - 1) (omega arith))
 
   -- ---- the first violated instance
-
-  pub zero_violated : (HasZero members → ⊥) → IsFirstViolatedCovectorAxiom members NoZero
-  zero_violated none = record { violated = none; first = before }
-    where
-      before : (other : CovRefused) → IsBefore (covector_key other) (covector_key NoZero) → IsViolatedCovectorAxiom members other → ⊥
-      before NoZero o v = same_number 0 [] [] o
-      before (NoNegative a) o v = greater_number 1 0 (a ∷ []) [] (omega arith) o
-      before (NoComposition a b) o v = greater_number 2 0 (a ∷ b ∷ []) [] (omega arith) o
-      before (NoElimination a b d) o v = greater_number 3 0 (a ∷ b ∷ d ∷ []) [] (omega arith) o
-
-  pub first_unnegated_violated : (i : ℕ) → HasZero members → IsFirstBad (length members) (HasNoNegativeAt members) (HasNegativeAt members) i → IsFirstViolatedCovectorAxiom members (NoNegative (i + 1))
-  first_unnegated_violated i hz f = record { violated = ((omega arith, here), bad); first = before }
-    where
-      here : i + 1 ≤ length members
-      here = let l = f.within in omega arith
-
-      bad : HasNoNegativeAt members (i + 1 - 1)
-      bad = let a : i ≡ i + 1 - 1 = omega arith in subst (HasNoNegativeAt members) a f.bad
-
-      before : (other : CovRefused) → IsBefore (covector_key other) (covector_key (NoNegative (i + 1))) → IsViolatedCovectorAxiom members other → ⊥
-      before NoZero o v = v hz
-      before (NoNegative a) o v =
-          let lt = last_number a (i + 1) (same_number 1 (a ∷ []) ((i + 1) ∷ []) o) in
-          let p = v.0.0 in
-          v.1 (f.before (a - 1) (omega arith))
-      before (NoComposition a b) o v = greater_number 2 1 (a ∷ b ∷ []) ((i + 1) ∷ []) (omega arith) o
-      before (NoElimination a b d) o v = greater_number 3 1 (a ∷ b ∷ d ∷ []) ((i + 1) ∷ []) (omega arith) o
 
   pub first_uncomposed_violated : (i j : ℕ) → HasZero members → AllBelow (length members) (HasNegativeAt members)
       → IsFirstBadPair (length members) (length members) (HasNoCompositionAt members) (HasCompositionAt members) i j → IsFirstViolatedCovectorAxiom members (NoComposition (i + 1) (j + 1))

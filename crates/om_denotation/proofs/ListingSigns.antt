@@ -1,7 +1,7 @@
 -- The complement of a set, and the sign of the permutation that lists a set and then the elements off it.
 --
 -- Main results: complement_is, the set of the elements off another; sort_append, the sign of two lists one after the other; listing_more, one
--- more element of the whole set; listing_first, that element alone.
+-- more element of the whole set.
 use Rattle.std.specs.Prelude.{ℕ, ◌≡◌, ◌≢◌, ◌+◌, ◌-◌, ◌*◌, ◌/◌, ◌%◌, ◌<◌, ◌≤◌, ◌^◌, ◌↔◌, List, [], ◌∷◌, ◌++◌, refl}
 use Rattle.std.specs.List.{range_with_len}
 use Rattle.std.proofs.Common.{zero, suc, sym, ◌∙◌, ap, inl, inr, arith, append-nil}

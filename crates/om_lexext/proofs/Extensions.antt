@@ -100,11 +100,6 @@ member_of g [] k = absurd k
 member_of g (x ∷ xs) (inl e) = inl e
 member_of g (x ∷ xs) (inr k) = inr (member_of g xs k)
 
-member_to : (g : ℕ) (xs : List ℕ) → IsMember g xs → lists.IsMember g xs
-member_to g [] k = absurd k
-member_to g (x ∷ xs) (inl e) = inl e
-member_to g (x ∷ xs) (inr k) = inr (member_to g xs k)
-
 off_last : (n : ℕ) (A : List ℕ) → IsSubsetFrom 1 n A → IsMember (n + 1) A → ⊥
 off_last n A h k = let b = within_bounds 1 n A h (n + 1) k in let c = b.1 in omega (arith, c)
 

@@ -1,6 +1,6 @@
 -- The members of a list with n signs each, without the place of an element.
 --
--- Main results: each member has the place (have_place); what the members are without it, as a family (dropped_all, zero_dropped_all, least_all), and
+-- Main results: what the members are without it, as a family (dropped_all, zero_dropped_all, least_all), and
 -- that these have one sign less (without_lengths, zero_without_lengths, least_lengths).
 use Rattle.std.specs.Prelude.{ℕ, ◌≡◌, ◌+◌, ◌-◌, ◌≤◌, List, length, slice_index_or}
 use Rattle.std.specs.List.{Contains, remove}
@@ -20,7 +20,7 @@ use Rattle.om_denotation.proofs.ChirotopeBridge.{nonzero_list}
 use Rattle.om_denotation.proofs.FunctionLaws.{nonzero_element}
 use Rattle.om_denotation.proofs.ListFunctions.{at_place}
 use Rattle.om_denotation.proofs.SelectionLaws.{those_contained, contained_those}
-use Rattle.om_minors.specs.Dropped.{HavePlace, IsDropped, IsZeroDropped}
+use Rattle.om_minors.specs.Dropped.{IsDropped, IsZeroDropped}
 use Rattle.om_minors.proofs.DroppedPlaces.{shorter_of}
 
 -- ---- nonzero lists
@@ -62,8 +62,6 @@ module _ (P : List Sign → Type 0) (vectors : List (List Sign)) (all : AreAllOf
 -- ---- the members without the place of e
 
 module _ (n e : ℕ) (several : 2 ≤ n) (low : 1 ≤ e) (high : e ≤ n) (members : List (List Sign)) (lengths : HaveLength n members) where
-  pub have_place : HavePlace e members
-  have_place k d l = let size = lengths k d l in (omega (arith, size, high), omega (arith, size, several))
 
   length_of : (W : List Sign) → Contains members W → length W ≡ n
   length_of W w = All-contains (λ X. length X ≡ n) members W lengths w

@@ -1,8 +1,7 @@
 -- Lists of signs without the place of an element.
 --
 -- Main results: what supports, conforming signs and nonzero places of lists say of the lists without the place, and back where the place is zero
--- (support_removed, support_restored, nonzero_removed, nonzero_restored, conformal_removed); two lists that are equal at the place and without it
--- are the same (same_restored); of the families of minors, the members of least support: those of a contraction are the members of least support
+-- (support_removed, support_restored, nonzero_removed, nonzero_restored, conformal_removed); of the families of minors, the members of least support: those of a contraction are the members of least support
 -- that are zero at the element (least_contracted), and those of a deletion are the members of least support of any family that the others are made
 -- of, without the place (least_deleted).
 -- Reference: Björner, Las Vergnas, Sturmfels, White and Ziegler, Oriented Matroids, chapters 3 and 4.

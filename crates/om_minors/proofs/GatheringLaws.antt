@@ -17,7 +17,6 @@ use Rattle.om_signs.specs.OrderLaws.{same_masks}
 use Rattle.om_signs.specs.SignVec.{at, at_element}
 use Rattle.om_members.specs.Listings.{AreDistinct}
 use Rattle.om_denotation.specs.Listings.{AreAllOf}
-use Rattle.om_denotation.proofs.SelectionLaws.{none_contained}
 use Rattle.om_convert.proofs.GatheringLaws.{pushed_distinct}
 use Rattle.indexmap.specs.IndexSet.{insert_key}
 use Rattle.om_minors.specs.Dropped.{HavePlace}
@@ -33,12 +32,6 @@ pub record AreGathered (R : List Sign → List Sign → Type 0) (vectors list : 
   pub few : length list ≤ k
 
 module _ (R : List Sign → List Sign → Type 0) (vectors : List (List Sign)) where
-  pub gathered_none : AreGathered R vectors [] 0
-  gathered_none = record {
-    members = record { sound = λ X x. absurd (none_contained X x); complete = λ X x. absurd (none_contained x.0 x.1) };
-    distinct = λ i j d before l. absurd (omega arith);
-    few = omega arith;
-  }
 
   module _ (k : ℕ) (x : List Sign) (lt : k < length vectors) (is : x ≡ get_or vectors k x) where
     one_more : take (k + 1) vectors ≡ take k vectors ++ x ∷ []

@@ -1,7 +1,7 @@
 -- Tuples that every cocircuit meets.
 --
 -- Main results: each cocircuit meets each base (base_hits); a tuple that each cocircuit meets contains a base (base_within), and is one where it has
--- as many elements and no repeat (hitting_base) or where no element can be left out (sharp_size); a cocircuit that is zero on a base without one
+-- as many elements and no repeat (hitting_base) or where no element can be left out (sharp_base); a cocircuit that is zero on a base without one
 -- element is the vector along the others, up to sign (vanishing_same).
 -- Reference: Björner, Las Vergnas, Sturmfels, White and Ziegler, Oriented Matroids, chapter 3.
 use Rattle.std.specs.Prelude.{ℕ, ◌≡◌, ◌≢◌, ◌≤◌, ◌⊎◌, List, [], ◌∷◌, ◌++◌, length, refl}

@@ -50,18 +50,12 @@ others_bit mask (suc m) (suc i) l k =
     let rest = others_bit (mask / 2) m i (omega arith) (omega arith) in
     omega arith
 
-others_within : (mask m : ℕ) → mask < 2 ^ m → others mask m < 2 ^ m
-others_within mask m l = omega arith
-
 module _ (n : ℕ) (xs : List ℕ) (h : IsSubsetFrom 1 n xs) where
   same : members (mask_of 1 xs n) 1 n ≡ xs
   same = members-mask_of 1 n xs h
 
   small : mask_of 1 xs n < 2 ^ n
   small = mask_of-lt 1 n xs
-
-  pub complement_within : others (mask_of 1 xs n) n < 2 ^ n
-  complement_within = others_within (mask_of 1 xs n) n small
 
   pub complement_size : length (members (others (mask_of 1 xs n) n) 1 n) + length xs ≡ n
   complement_size = ap (λ ys. length (members (others (mask_of 1 xs n) n) 1 n) + length ys) (sym same) ∙ others_length (mask_of 1 xs n) 1 n small

@@ -10,7 +10,7 @@ use Rattle.std.proofs.lemmas.Nat.Bits.{bit_at_or, bit_at_above, bit_at-pow_same,
 use Rattle.om_subsets.specs.Subsets.{choose, rank_from, subset_at}
 use Rattle.om_subsets.specs.Members.{members, members-subset}
 use Rattle.om_subsets.proofs.Order.{get_or-rank_from}
-use Rattle.om_subsets.proofs.Places.{from_place, rank_from_place, member_here, none_here, rank_member, rank_skipped, rank_none, from_start, double}
+use Rattle.om_subsets.proofs.Places.{from_place, rank_from_place, member_here, none_here, rank_member, rank_skipped, rank_none, double}
 
 -- a mask that begins as this one, and goes on with a set of this size and place, has size r and place k
 abbrev pub Completes : ℕ → ℕ → ℕ → ℕ → ℕ → ℕ → ℕ → Type 0
@@ -20,16 +20,6 @@ pub record IsBegun (mask i left rest r k n : ℕ) : Type 0 where
   pub small : mask < 2 ^ i
   pub place : rest < choose (n - i) left
   pub completes : Completes mask i left rest r k n
-
-pub begun : (r k n : ℕ) → k < choose n r → IsBegun 0 0 r k r k n
-begun r k n l = record {
-  small = omega arith;
-  place = let z : n - 0 ≡ n = omega arith in rw z l;
-  completes = λ m same len rank. (sym (ap length (from_start m n)) ∙ len, sym (at_start m) ∙ rank);
-}
-  where
-    at_start : (m : ℕ) → rank_from_place 0 n (from_place m 0 n) ≡ rank_from 1 n (members m 1 n)
-    at_start m = let z : n - 0 ≡ n = omega arith in let o : 0 + 1 ≡ 1 = omega arith in ap (rank_from_place 0 n) (from_start m n) ∙ rw (z, o) refl
 
 differ : (b : ℕ) → b ≡ 0 → b ≡ 1 → ⊥
 differ b z o = absurd (omega arith)

@@ -1,9 +1,9 @@
 -- The words of wirings as the code has them, and the text of a block.
 --
 -- Main definitions: IsBlockWord
--- Main results: plain_within, position_within, no_last, no_block, block_word
+-- Main results: plain_within, position_within, block_word
 use Rattle.std.proofs.Common.{◌≡◌, ℕ, suc, ◌+◌, ◌-◌, ◌<◌, ◌≤◌, ◌^◌, List, [], ◌∷◌, ◌++◌, true, false, not, ◌&&◌, ◌||◌, length, drop, nat_eq, nat_le, refl, ap, ◌∙◌, arith, inl, inr}
-use Rattle.std.specs.Prelude.{Option, Some, None, IfSome, Err, decimal, is_some}
+use Rattle.std.specs.Prelude.{Some, IfSome, decimal}
 use Rattle.std.specs.List.{list_all, position_or_len, before_first, after_first}
 use Rattle.std.proofs.lemmas.Bool.{le-leb}
 use Rattle.std.proofs.lemmas.Fmt.{length-decimal-le}
@@ -16,7 +16,6 @@ use Rattle.om_text.specs.Words.{is_digit, number_from, is_decimal, begins_with, 
 use Rattle.om_text.specs.Blocks.{position_of, is_dash, with_positions, block_of}
 use Rattle.om_text.specs.Form.{IsShort}
 use Rattle.om_text.specs.Print.{block_text}
-use Rattle.om_text.specs.ReaderParts.{blocks_with_line}
 use Rattle.om_text.proofs.Distinct.{either, both}
 use Rattle.om_text.proofs.Digits.{digit_at}
 use Rattle.om_text.proofs.Numerals.{decimal_word, number_word}
@@ -61,13 +60,6 @@ position_within w = elim (either (nat_le (length w) 3)) [
   where
     at : (k : ℕ) → nat_le k 3 ≡ true → k ≤ 3
     at k h = grind arith
-
-pub no_last : (a b : Option ℕ) → None ≡ b → with_positions a b ≡ None
-no_last None b h = refl
-no_last (Some i) b h = rw (← h) refl
-
-pub no_block : (bs : List Block) (w : List ℕ) (ws : List (List ℕ)) → None ≡ block_of w → blocks_with_line bs (w ∷ ws) ≡ Err code.Block
-no_block bs w ws h = let s : is_some (block_of w) ≡ false = rw (← h) refl in rw s refl
 
 -- ---- blocks as they are printed
 

@@ -1,6 +1,6 @@
 -- The words of a line of points as the code has them, and the text of a point.
 --
--- Main results: short_point, no_first, no_second, no_third, point_read, point_bytes
+-- Main results: long_point, three_point, no_first, no_second, no_third, point_read, point_bytes
 use Rattle.std.proofs.Common.{◌≡◌, ℕ, List, [], ◌∷◌, ◌++◌, true, false, get_or, refl, sym, ap, subst, ◌∙◌, arith, append_assoc}
 use Rattle.std.specs.Prelude.{ℤ, pos, unsigned_abs, Option, Some, None, IfSome, not}
 use Rattle.std.specs.Fmt.{signed_decimal}

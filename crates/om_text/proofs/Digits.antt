@@ -1,10 +1,9 @@
 -- Numbers of at most six digits, and of any number of digits up to a limit.
 --
--- Main results: ten_small, digit_at, number_step, number_end, number_grows, unsigned_within, signed_within
+-- Main results: ten_small, digit_at, number_step, number_grows, unsigned_within, signed_within
 use Rattle.std.proofs.Common.{◌≡◌, ℕ, zero, suc, ◌+◌, ◌-◌, ◌*◌, ◌<◌, ◌≤◌, List, [], ◌∷◌, true, length, drop, get_or, refl, arith, nat_le, inl, inr}
 use Rattle.std.specs.List.{list_all}
 use Rattle.std.proofs.lemmas.Bool.{leb-true, lt-leb}
-use Rattle.std.proofs.Math.ListN.{drop_of_length-le}
 use Rattle.std.specs.Prelude.{Option, Some, None, IfSome, option_map, pos, unsigned_abs}
 use Rattle.om_text.specs.Words.{is_digit, number_from, begins_with, is_decimal, up_to, unsigned, negative, signed}
 use Rattle.om_text.proofs.Distinct.{both, either}
@@ -35,9 +34,6 @@ pub number_step : (w : List ℕ) (i n : ℕ) → i < length w → number_from n 
 number_step [] i n l = absurd (omega arith)
 number_step (b ∷ bs) zero n l = refl
 number_step (b ∷ bs) (suc i) n l = let e : suc i + 1 ≡ suc (i + 1) = omega arith in rw e (number_step bs i n (omega arith))
-
-pub number_end : (w : List ℕ) (i n : ℕ) → length w ≤ i → number_from n (drop i w) ≡ n
-number_end w i n h = rw (drop_of_length-le w h) refl
 
 -- a number goes on to no smaller one
 pub number_grows : (n : ℕ) (w : List ℕ) → n ≤ number_from n w

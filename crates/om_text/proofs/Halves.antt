@@ -2,7 +2,7 @@
 --
 -- Main definitions: has, pairs
 -- Main results: doubled_permutes, members_permute, half_long, half_read
-use Rattle.std.proofs.Common.{◌≡◌, ◌≢◌, ℕ, suc, List, [], ◌∷◌, ◌++◌, Bool, true, false, not, ◌&&◌, ◌||◌, inl, inr, length, map, refl, sym, ap, subst, ◌∙◌, append-nil, arith}
+use Rattle.std.proofs.Common.{◌≡◌, ◌≢◌, ℕ, List, [], ◌∷◌, ◌++◌, Bool, true, false, not, ◌&&◌, ◌||◌, inl, inr, length, map, refl, sym, ap, subst, ◌∙◌, append-nil, arith}
 use Rattle.std.specs.Prelude.{All, AllPairs, Contains, filter}
 use Rattle.std.specs.List.{list_any, flat_map}
 use Rattle.std.specs.List.Sorted.{IsPermutation}
@@ -152,13 +152,6 @@ has-doubled z ms c =
     ∙ either_way (begins_with_plus z) (begins_with_plus (map opposite z)) (has z ms) (other_begins z)
 
 -- ---- a test of closure
-
-found : (z : List Sign) (xs : List (List Sign)) → list_any (λ y. same_row y z) xs ≡ true → Contains xs z
-found z [] h = absurd (let e : false ≡ true = h in cc)
-found z (y ∷ ys) h = elim (either (same_row y z)) [
-  | inl e ↦ (0, omega arith, (same_row-Decides y z).0 e)
-  | inr n ↦ let g : (same_row y z || list_any (λ y. same_row y z) ys) ≡ true = h in let c = found z ys (rw n at g) in (suc c.0, omega (arith, c.1), c.2)
-]
 
 -- ---- what is printed and read
 

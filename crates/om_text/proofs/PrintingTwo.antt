@@ -1,7 +1,7 @@
 -- The text of a document in version 2, put together piece by piece.
 --
--- Main results: numbers_more, names_more, names_line_end, value_read, values_more, value_rows_more, begun_at, begun_more, printed_two_bytes
-use Rattle.std.proofs.Common.{◌≡◌, ℕ, zero, suc, ◌+◌, ◌-◌, ◌<◌, ◌≤◌, min, List, [], ◌∷◌, ◌++◌, true, false, length, take, drop, get_or, map, refl, sym, ap, ◌∙◌, append_assoc, append-nil, arith, get_or-drop, length-drop}
+-- Main results: numbers_more, names_more, names_line_end, value_read, values_more, value_rows_more, begun_more, printed_two_bytes
+use Rattle.std.proofs.Common.{◌≡◌, ℕ, ◌+◌, ◌-◌, ◌<◌, ◌≤◌, min, List, [], ◌∷◌, ◌++◌, length, take, drop, get_or, map, sym, ap, ◌∙◌, append_assoc, append-nil, arith, get_or-drop, length-drop}
 use Rattle.std.specs.Prelude.{codes, decimal, filter, Some, Result, Ok, Err, OnOk, slice_get}
 use Rattle.std.specs.List.{flat_map}
 use Rattle.std.proofs.Math.ListN.{drop_of_length-le}
@@ -97,18 +97,6 @@ pub value_rows_end : (out t : List ℕ) (xs : List Sign) (first : ℕ) → lengt
 value_rows_end out t xs first l i = sym (append-nil out) ∙ ap (λ ys. out ++ text_of (sign_lines ys)) (sym (drop_of_length-le xs l)) ∙ i
 
 -- ---- members that begin with plus
-
--- the sign at a place decides, unless it is zero
-pub begun_at : (xs : List Sign) (i : ℕ) (s : Sign) → i < length xs → s ≡ get_or xs i Zero → begins_with_plus (drop i xs) ≡ begins_with_plus (s ∷ drop (i + 1) xs)
-begun_at [] i s l e = absurd (omega arith)
-begun_at (x ∷ xs) zero s l e = ap (λ y. begins_with_plus (y ∷ xs)) (sym e)
-begun_at (x ∷ xs) (suc i) s l e = let n : suc i + 1 ≡ suc (i + 1) = omega arith in rw n (begun_at xs i s (omega arith) e)
-
-pub begun_end : (xs : List Sign) (i : ℕ) → length xs ≤ i → begins_with_plus (drop i xs) ≡ true
-begun_end xs i l = ap begins_with_plus (drop_of_length-le xs l)
-
-pub no_line : (x : List Sign) → begins_with_plus x ≡ false → text_of (member_lines (filter begins_with_plus (x ∷ []))) ≡ []
-no_line x h = rw h refl
 
 -- one more member
 pub begun_more : (base out new : List ℕ) (ms : List (List Sign)) (i : ℕ) (x : List Sign) → i < length ms → x ≡ get_or ms i x → out ≡ base ++ text_of (member_lines (filter begins_with_plus (take i ms))) → new ≡ out ++ text_of (member_lines (filter begins_with_plus (x ∷ []))) → new ≡ base ++ text_of (member_lines (filter begins_with_plus (take (i + 1) ms)))

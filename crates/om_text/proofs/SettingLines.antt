@@ -1,6 +1,6 @@
 -- The setting lines of a document, one after the other.
 --
--- Main results: settings_begin, settings_names, line_not_setting, lines_not_settings, settings_not_end, front_of, behind_of, setting_same, names_more, choice_more, full_more
+-- Main results: settings_begin, settings_names, names_begin, line_not_setting, lines_not_settings, settings_not_end, front_of, behind_of, setting_same
 use Rattle.std.proofs.Common.{◌≡◌, ℕ, List, [], ◌∷◌, ◌++◌, Bool, true, false, ◌&&◌, ◌||◌, inl, inr, ◌⊎◌, refl, sym, ap, subst, ◌∙◌}
 use Rattle.std.specs.Prelude.{Option, Some, None, codes, bytes_eq, option_map, is_some}
 use Rattle.std.specs.List.{list_all, list_any}

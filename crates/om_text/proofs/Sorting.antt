@@ -172,9 +172,6 @@ length-sorted (x ∷ xs) = length-placed x (sorted xs) ∙ ap suc (length-sorted
 
 -- different members
 
-turned : (x : List Sign) (ys : List (List Sign)) → All (λ y. x ≢ y) ys → All (λ y. y ≢ x) ys
-turned x ys a k d l e = a k d l (sym e)
-
 placed_differ : (x : List Sign) (ys : List (List Sign)) → All (λ y. x ≢ y) ys → AllPairs (λ x y. x ≢ y) ys → AllPairs (λ x y. x ≢ y) (placed x ys)
 placed_differ x [] a p = AllPairs-cons (λ x y. x ≢ y) x [] a p
 placed_differ x (y ∷ ys) a p = elim (either (is_before y x)) [

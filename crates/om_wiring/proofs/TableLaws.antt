@@ -1,20 +1,15 @@
 -- The table of the rows of a map, as it is filled.
 --
--- Main results: no_rows, the rows of no elements; row_before, a row by that of the two elements exchanged.
-use Rattle.std.specs.Prelude.{ℕ, ◌≡◌, ◌≢◌, ◌-◌, ◌<◌, List, [], ◌∷◌, map}
+-- Main results: row_before, a row by that of the two elements exchanged.
+use Rattle.std.specs.Prelude.{ℕ, ◌≡◌, ◌≢◌, ◌-◌, ◌<◌, [], ◌∷◌, map}
 use Rattle.std.proofs.Common.{refl, sym, ap, ◌∙◌, subst, inl, inr, arith}
 use Rattle.std.proofs.lemmas.Bool.{ne_eqb, lt-ltb}
-use Rattle.om_signs.specs.declared.sign.Sign.{Sign}
 use Rattle.om_signs.specs.Sign.{opposite}
 use Rattle.om_subsets.specs.Subsets.{IsSubsetFrom, IsMember, with_element}
 use Rattle.om_subsets.proofs.Statements.{subset_is_increasing}
 use Rattle.om_laws.specs.Sorting.{IsElement}
 use Rattle.om_chirotope.specs.Map.{SignMap, cocircuit_vector}
 use Rattle.om_chirotope.proofs.Rows.{row_odd}
-use Rattle.om_wiring.specs.Tables.{HasRowsBelow}
-
-pub no_rows : (m : SignMap) (table : List (List (List Sign))) → HasRowsBelow m table 1
-no_rows m table p low high = absurd (omega (arith, low, high))
 
 -- ---- the row of two elements that differ
 
