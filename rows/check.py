@@ -3,8 +3,9 @@
 
 Runs the rows of the tables that lie beside it: a row is a run of the program, and has its words, its input, its exit code and
 its output, with ` | ` between two. In the input and the output a `/` stands for the end of a line and an `@` for a text that a
-line `@ = TEXT` before the row gives, as does the word `@`; `@ = # * N` is N times `#`. `\\r` is a carriage return. Where the
-input is `unread`, each read would fail. A line with `# ` in front is a remark.
+line `@ = TEXT` before the row gives, as does the word `@`; `@ = TEXT * N` is N times this text, and `@ = halves N` is what
+`halves` gives for N. `\\t` is a tab, `\\r` a carriage return, `\\x0b` the byte of this number, and `\\u{feff}` this code point in
+UTF-8. Where the input is `unread`, each read would fail. A line with `# ` in front is a remark.
 
 Behind the tables come runs that read a text which breaks off, runs whose output has too little room, a few answers that are looked
 at in parts, and lists that are compared with what the axioms give. All are run on each program that is named; where none is, on the
@@ -40,9 +41,21 @@ class Row:
         self.code, self.output = int(code), bytes_of(output, at)
 
 
+def plain_bytes(text):
+    """The bytes of a text of a table, in which an `@` is an `@`."""
+    text = text.replace("/", "\n").replace("\\t", "\t").replace("\\r", "\r")
+    # a byte is below 0x80, and has the form of its code point
+    return re.sub(r"\\x([0-7][0-9a-f])|\\u\{([0-9a-f]+)\}", lambda it: chr(int(it[1] or it[2], 16)), text).encode()
+
+
 def bytes_of(text, at):
     """The bytes of a text of a row."""
-    return text.replace("\\r", "\r").replace("/", "\n").encode().replace(b"@", at)
+    return plain_bytes(text).replace(b"@", at)
+
+
+def halves(count):
+    """Lines of 20 signs, no two of them equal or opposite: plus, and then plus at each one of the 19 binary digits of a number."""
+    return b"".join(b"+%s\n" % format(number, "019b").replace("0", "-").replace("1", "+").encode() for number in range(count))
 
 
 def rows_of(path):
@@ -50,11 +63,14 @@ def rows_of(path):
     at = b""
     with open(path) as file:
         for line in file.read().split("\n"):
-            many = re.fullmatch(r"@ = (.) \* (\d+)", line)
+            many = re.fullmatch(r"@ = (.+) \* (\d+)", line)
+            lines = re.fullmatch(r"@ = halves (\d+)", line)
             if many:
-                at = many.group(1).encode() * int(many.group(2))
+                at = plain_bytes(many.group(1)) * int(many.group(2))
+            elif lines:
+                at = halves(int(lines.group(1)))
             elif line.startswith("@ = "):
-                at = line[4:].replace("/", "\n").encode()
+                at = plain_bytes(line[4:])
             elif line and not line.startswith("# "):
                 yield Row(line, at)
 

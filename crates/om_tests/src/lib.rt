@@ -2,7 +2,13 @@
 #![tactic(auto)]
 
 #[cfg(test)]
+mod answer;
+#[cfg(test)]
+mod callers;
+#[cfg(test)]
 mod circuits;
+#[cfg(test)]
+mod claims;
 #[cfg(test)]
 mod convert;
 #[cfg(test)]
@@ -43,5 +49,7 @@ mod signs;
 mod simplex;
 #[cfg(test)]
 mod subsets;
+#[cfg(test)]
+mod text;
 #[cfg(test)]
 mod wiring;

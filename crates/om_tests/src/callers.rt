@@ -1,11 +1,9 @@
 //! The callers on small inputs.
 
-ghost use Rattle.std.specs.Prelude.{◌≡◌};
-
 use om_callers::{NotRead, covectors_of_text, first_triple};
-use om_chirotope::Chirotope;
 use om_samples::chirotope_of;
 use om_signs::Sign;
+use om_subsets::Subset;
 use om_text::Code;
 use std::test::Fail;
 
@@ -30,21 +28,22 @@ fn bytes_without_an_end(rt: HostRuntime) {
     );
 }
 
-/// The mask of the first triple with a sign, and 0 where there is none.
-fn first_mask(chi: &Chirotope, sign: Sign) -> u32
-    requires { chi.now.rank ≡ 3 }
-{
-    match first_triple(chi, sign) {
-        Some(triple) => triple.mask(),
-        None => 0,
-    }
+#[test]
+fn bytes_of_another_kind(rt: HostRuntime) {
+    let found = covectors_of_text(&rt, rt.alloc(), b"om 1\ncircuits 2\nend\n");
+    assert!(rt; matches!(found, Err(NotRead::Kind)));
+}
+
+/// Whether the first of the triples has this mask.
+fn is_mask(found: Option<Subset>, mask: u32) -> bool {
+    matches!(found, Some(triple) if triple.mask() == mask)
 }
 
 #[test]
 fn triples_with_a_sign(rt: HostRuntime) -> Result<(), Fail> {
     let chi = chirotope_of(&rt, rt.alloc(), 3, 4, "++0-")?;
-    assert!(rt; first_mask(&chi, Sign::Plus) == 0b0111);
-    assert!(rt; first_mask(&chi, Sign::Zero) == 0b1101);
-    assert!(rt; first_mask(&chi, Sign::Minus) == 0b1110);
+    assert!(rt; is_mask(first_triple(&chi, Sign::Plus), 0b0111));
+    assert!(rt; is_mask(first_triple(&chi, Sign::Zero), 0b1101));
+    assert!(rt; is_mask(first_triple(&chi, Sign::Minus), 0b1110));
     Ok(())
 }

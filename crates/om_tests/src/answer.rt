@@ -1,0 +1,126 @@
+//! The text of each line.
+
+ghost use Rattle.std.specs.Prelude.{◌<◌};
+
+use om_answer::pieces::{push, push_decimal, push_line_feed, push_signs, push_subset, push_vector};
+use om_answer::{Line, print_line};
+use om_grassmann::Statement;
+use om_samples::vector_of;
+use om_signs::{NoMemory, Sign};
+use om_subsets::Subset;
+use om_text::Code;
+use std::alloc::Global;
+use std::test::Fail;
+
+/// Whether a line has this text.
+fn is_text(alloc: Global, line: &Line, text: &str) -> bool {
+    matches!(print_line(alloc, line), Ok(found) if found.as_slice() == text.as_bytes())
+}
+
+#[test]
+fn lines_with_numbers(rt: HostRuntime) {
+    let alloc = rt.alloc();
+    let code = Code::Size { values: 19_448 };
+    let statement = Statement {
+        a: 1,
+        b: 2,
+        c: 3,
+        d: 4,
+        e: 19,
+        small: 2,
+        big: 3,
+        strict: true,
+    };
+    assert!(rt; is_text(alloc, &Line::NotCovector, "not covector\n"));
+    assert!(rt;
+        is_text(
+            alloc,
+            &Line::RefusedLine { line: 2, code },
+            "refused line 2 size 19448\n"
+        )
+    );
+    assert!(rt;
+        is_text(
+            alloc,
+            &Line::RefusedWeightfails { statement },
+            "refused weightfails 1 2 3 4 19 2 3\n"
+        )
+    );
+}
+
+/// The subset of 1 to 9 of a mask.
+fn subset(mask: u32) -> Subset
+    requires { mask < 512 }
+{
+    Subset::from_mask(mask, 9)
+}
+
+#[test]
+fn lines_with_sets(rt: HostRuntime) {
+    let none = subset(0);
+    let one_five = subset(0b1_0001);
+    let first_four = subset(0b1111);
+    let lines = [
+        (
+            Line::RefusedRelation {
+                s: one_five,
+                a: none,
+            },
+            "refused relation 1,5 none\n",
+        ),
+        (
+            Line::RefusedThreeterm {
+                p: none,
+                q: first_four,
+            },
+            "refused threeterm none 1,2,3,4\n",
+        ),
+        (
+            Line::RefusedNoexchange {
+                b: one_five,
+                c: first_four,
+                e: 5,
+            },
+            "refused noexchange 1,5 1,2,3,4 5\n",
+        ),
+        (
+            Line::RefusedUnbalanced {
+                bracket: subset(0b1100_0001),
+                small: 1,
+                big: u128::MAX,
+            },
+            "refused unbalanced 1,7,8 1 340282366920938463463374607431768211455\n",
+        ),
+    ];
+    for (line, text) in &lines {
+        assert!(rt; is_text(rt.alloc(), line, text), "{text}");
+    }
+}
+
+#[test]
+fn lines_with_sign_vectors(rt: HostRuntime) {
+    let x = vector_of(4, "+-0-");
+    assert!(rt; is_text(rt.alloc(), &Line::Circuit { x }, "circuit +-0-\n"));
+}
+
+/// Puts a number, a space and a set at the end.
+fn push_numbers(text: &mut Vec<u8>) -> Result<(), NoMemory> {
+    push_decimal(text, 4)?;
+    push(text, b" ")?;
+    push_subset(text, subset(0b1101))
+}
+
+/// Puts the signs of a list and of a vector at the end, and the end of the line.
+fn push_both_signs(text: &mut Vec<u8>) -> Result<(), NoMemory> {
+    push_signs(text, &[Sign::Minus, Sign::Zero, Sign::Plus])?;
+    push_vector(text, vector_of(2, "+-"))?;
+    push_line_feed(text)
+}
+
+#[test]
+fn pieces_of_a_text(rt: HostRuntime) {
+    let mut text = Vec::new(rt.alloc());
+    assert!(rt; push_numbers(&mut text).is_ok());
+    assert!(rt; push_both_signs(&mut text).is_ok());
+    assert!(rt; text.as_slice() == b"4 1,3,4-0++-\n".as_slice());
+}

@@ -1,0 +1,84 @@
+//! Claims: the verdicts that are read, and those that are printed.
+
+use om_answer::{print_verdict, read_claim};
+use om_certificate::{LpEnd, Verdict};
+use om_chirotope::Chirotope;
+use om_samples::chirotope_of;
+use om_signs::MAX_VALUES;
+use om_simplex::Stage;
+use om_subsets::Subset;
+use om_text::Body;
+use om_vectors::Unfound;
+use std::alloc::Global;
+use std::test::Fail;
+
+/// How the tableau ended.
+fn end_of(verdict: &Verdict) -> Option<&LpEnd> {
+    match verdict {
+        Verdict::Limit(end, _) => Some(end),
+        _ => None,
+    }
+}
+
+/// Whether a tableau ended at this many pivots with this basis.
+fn has_basis(end: Option<&LpEnd>, pivots: u32, wanted: &[u32]) -> bool {
+    match end {
+        Some(LpEnd::Pivots { count, basis }) => *count == pivots && basis.as_slice() == wanted,
+        _ => false,
+    }
+}
+
+/// Whether a search ended at one vector with these coordinates.
+fn is_end_of_search(verdict: &Verdict, x: i64, y: i64, z: i64) -> bool {
+    match verdict {
+        Verdict::Limit(_, Unfound::Frontier(word)) => {
+            matches!(word.as_slice(), [v] if v.x() == x && v.y() == y && v.z() == z)
+        }
+        _ => false,
+    }
+}
+
+#[test]
+fn claim_with_a_basis(rt: HostRuntime) -> Result<(), Fail> {
+    let text =
+        b"om 1\nwiring 2\n1-2\nend\nlimit\npivots 1000000\nbasis 0 999999\nfrontier\nvector -1 0 7\nend\n";
+    let claim = read_claim(rt.alloc(), text)?;
+    assert!(rt; matches!(claim.document.body, Body::Wiring(_)));
+    assert!(rt; has_basis(end_of(&claim.verdict), 1_000_000, &[0, 999_999]));
+    assert!(rt; is_end_of_search(&claim.verdict, -1, 0, 7));
+    Ok(())
+}
+
+/// Whether the verdict on a chirotope that a tableau ended at a width of this stage is printed as this text.
+fn is_printed(alloc: Global, chi: &Chirotope, stage: Stage, text: &[u8]) -> bool {
+    if Subset::choose(chi.elements(), chi.rank()) > MAX_VALUES {
+        return false;
+    }
+    let end = LpEnd::Width {
+        stage,
+        pivot: 1_000_001,
+        row: 65_535,
+        place: 0,
+    };
+    let verdict = Verdict::Limit(end, Unfound::Exhausted);
+    matches!(print_verdict(alloc, chi, &verdict), Ok(found) if found.as_slice() == text)
+}
+
+#[test]
+fn printed_widths(rt: HostRuntime) -> Result<(), Fail> {
+    let alloc = rt.alloc();
+    let chi = chirotope_of(&rt, alloc, 1, 1, "+")?;
+    let price =
+        b"om 1\nchirotope 1 1\n+\nend\nlimit\nwidth price 1000001 65535 0\nexhausted\nend\n".as_slice();
+    assert!(rt; is_printed(alloc, &chi, Stage::Price, price));
+    let column =
+        b"om 1\nchirotope 1 1\n+\nend\nlimit\nwidth column 1000001 65535 0\nexhausted\nend\n".as_slice();
+    assert!(rt; is_printed(alloc, &chi, Stage::Column, column));
+    let update =
+        b"om 1\nchirotope 1 1\n+\nend\nlimit\nwidth update 1000001 65535 0\nexhausted\nend\n".as_slice();
+    assert!(rt; is_printed(alloc, &chi, Stage::Update, update));
+    let scale =
+        b"om 1\nchirotope 1 1\n+\nend\nlimit\nwidth scale 1000001 65535 0\nexhausted\nend\n".as_slice();
+    assert!(rt; is_printed(alloc, &chi, Stage::Scale, scale));
+    Ok(())
+}

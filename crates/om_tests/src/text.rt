@@ -1,0 +1,203 @@
+//! Documents: their canonical forms, the form in version 2, and the lines, words and numbers that they are read by.
+
+ghost use Rattle.std.specs.Prelude.{◌≤◌, length};
+ghost use Rattle.om_signs.specs.declared.limits.TheConstants.{MAX_READ};
+
+use om_signs::{List, MAX_INPUT, MAX_MULTIPLICITY, MAX_WEIGHT};
+use om_text::lines::{before_comment, first_line, first_word, has_no_words, is_only_word, same};
+use om_text::words::{plain_number, signed_number, unsigned_number};
+use om_text::{Body, Document, Name, parse, parse_part, print, print_two};
+use std::alloc::Global;
+use std::test::Fail;
+
+/// Documents that fail the axioms of their kinds, or are printed by no command in version 1: their canonical forms, and the
+/// numbers of bytes and of lines up to the line `end`.
+const FORMS: [(&str, &str, usize, u32); 16] = [
+    // a line has at most 64 of the 66 values
+    (
+        "om 1\nchirotope 2 12\n+ - 0 +++++++ ++++++++++ ++++++++++ ++++++++++ ++++++++++ ++++++++++ +++++-\n\nend",
+        "om 1\nchirotope 2 12\n+-0+++++++++++++++++++++++++++++++++++++++++++++++++++++++++++++\n+-\nend\n",
+        100,
+        5,
+    ),
+    (
+        "om 1\ncocircuits 2\n+-\n00\n0+\n+0\n-+\nend",
+        "om 1\ncocircuits 2\n-+\n00\n0+\n+-\n+0\nend\n",
+        36,
+        8,
+    ),
+    (
+        "om 1\nwiring 3\n1-2 2-3 1-2\nend",
+        "om 1\nwiring 3\n1-2\n2-3\n1-2\nend\n",
+        29,
+        4,
+    ),
+    (
+        "om 1\nwiring 1\n\n7-999\t0-0 # any\nend\n",
+        "om 1\nwiring 1\n7-999\n0-0\nend\n",
+        35,
+        5,
+    ),
+    (
+        "om 1\npoints 3 # greatest\n 1099511627776\t0 0\r\n0 -1099511627776 0\n\n0 0 -10\nend",
+        "om 1\npoints 3\n1099511627776 0 0\n0 -1099511627776 0\n0 0 -10\nend\n",
+        76,
+        7,
+    ),
+    // the values of 123, 124, 134, 234, 125 and so on
+    (
+        "om 2\nchirotope 3 5\norder revlex\n000+- 00000\nend",
+        "om 1\nchirotope 3 5\n00-000+000\nend\n",
+        47,
+        5,
+    ),
+    (
+        "om 2\ncircuits 3\nhalf\n+-0\n0+-\nend",
+        "om 1\ncircuits 3\n-+0\n0-+\n0+-\n+-0\nend\n",
+        32,
+        6,
+    ),
+    (
+        "om 2\ncocircuits 2\nhalf\n+-\n00\n-+\n0 +\n+-\n00\nend",
+        "om 1\ncocircuits 2\n-+\n0-\n00\n0+\n+-\nend\n",
+        45,
+        10,
+    ),
+    (
+        "om 2\ncovectors 2\nnames a b\n+-\nend",
+        "om 1\ncovectors 2\n+-\nend\n",
+        33,
+        5,
+    ),
+    (
+        "om 2\nwiring 3\nnames names half end\n1-2 2-3\nend",
+        "om 1\nwiring 3\n1-2\n2-3\nend\n",
+        46,
+        5,
+    ),
+    (
+        "om 2\npoints 1\nnames _\n1 0 0\nend",
+        "om 1\npoints 1\n1 0 0\nend\n",
+        31,
+        5,
+    ),
+    // what stands behind the line `end` is not read
+    (
+        "om 1\npoints 1\n1 0 0\nend\n",
+        "om 1\npoints 1\n1 0 0\nend\n",
+        24,
+        4,
+    ),
+    (
+        "om 1\npoints 1\n1 0 0\nend",
+        "om 1\npoints 1\n1 0 0\nend\n",
+        23,
+        4,
+    ),
+    (
+        "om 1\npoints 1\n1 0 0\nend\nrealizable\n",
+        "om 1\npoints 1\n1 0 0\nend\n",
+        24,
+        4,
+    ),
+    (
+        "om 1\npoints 1\n1 0 0\nend\n# end\n\nend\n",
+        "om 1\npoints 1\n1 0 0\nend\n",
+        24,
+        4,
+    ),
+    (
+        "\nom 1\npoints 1\n1 0 0\nend # of it\r\n\n",
+        "om 1\npoints 1\n1 0 0\nend\n",
+        34,
+        5,
+    ),
+];
+
+/// Whether the document at the front has this canonical form, so many bytes and so many lines.
+fn is_read(alloc: Global, bytes: &[u8], form: &str, len: usize, lines: u32) -> bool
+    requires { length bytes.now ≤ MAX_READ }
+{
+    match parse_part(alloc, bytes) {
+        Ok((document, found, count)) => {
+            found == len
+                && count == lines
+                && matches!(print(alloc, &document), Ok(text) if text.as_slice() == form.as_bytes())
+        }
+        Err(_) => false,
+    }
+}
+
+#[test]
+fn canonical_forms(rt: HostRuntime) {
+    for (text, form, len, lines) in &FORMS {
+        let bytes = text.as_bytes();
+        assert!(rt;
+            bytes.len() <= MAX_INPUT && is_read(rt.alloc(), bytes, form, *len, *lines),
+            "{text}"
+        );
+    }
+}
+
+/// Whether these are two names of a document.
+fn are_names(names: &[Name], first: &[u8], second: &[u8]) -> bool {
+    match names {
+        [a, b] => same(a.as_bytes(), first) && same(b.as_bytes(), second),
+        _ => false,
+    }
+}
+
+#[test]
+fn names(rt: HostRuntime) -> Result<(), Fail> {
+    // a name has at most 16 bytes
+    let document = parse(
+        rt.alloc(),
+        b"om 2\ncircuits 2\nnames Abcdefghij_01234 _\nhalf\nend",
+    )?;
+    assert!(rt; are_names(document.names.as_slice(), b"Abcdefghij_01234", b"_"));
+    Ok(())
+}
+
+#[test]
+fn bytes_that_are_no_name(rt: HostRuntime) {
+    assert!(rt; Name::new(b"Abcdefghij_012345").is_none());
+}
+
+#[test]
+fn form_in_version_two(rt: HostRuntime) {
+    let document = Document {
+        elements: 2,
+        body: Body::Wiring(List::new(rt.alloc())),
+        names: List::new(rt.alloc()),
+    };
+    let form = b"om 2\nwiring 2\nnames e1 e2\nend\n".as_slice();
+    assert!(rt; matches!(print_two(rt.alloc(), &document), Ok(text) if text.as_slice() == form));
+}
+
+#[test]
+fn numbers_up_to_a_limit(rt: HostRuntime) {
+    assert!(rt; plain_number(b"999999") == Some(999_999));
+    assert!(rt;
+        unsigned_number(b"9223372036854775808", MAX_MULTIPLICITY) == Some(MAX_MULTIPLICITY)
+    );
+    assert!(rt; unsigned_number(b"9223372036854775809", MAX_MULTIPLICITY).is_none());
+    let most = MAX_WEIGHT.unsigned_abs();
+    assert!(rt; signed_number(b"-1267650600228229401496703205376", most) == Some(-MAX_WEIGHT));
+    assert!(rt; signed_number(b"1267650600228229401496703205377", most).is_none());
+}
+
+#[test]
+fn lines(rt: HostRuntime) {
+    let (line, rest) = first_line(b"a bc#d\nend");
+    assert!(rt; same(line, b"a bc#d"));
+    assert!(rt; same(rest, b"end"));
+    assert!(rt; same(before_comment(line), b"a bc"));
+}
+
+#[test]
+fn words(rt: HostRuntime) {
+    assert!(rt;
+        matches!(first_word(b"\ta bc\r"), Some((word, rest)) if same(word, b"a") && is_only_word(rest, b"bc"))
+    );
+    assert!(rt; has_no_words(b" \t\r"));
+}
