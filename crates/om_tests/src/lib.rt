@@ -6,6 +6,10 @@ mod answer;
 #[cfg(test)]
 mod callers;
 #[cfg(test)]
+mod certificate;
+#[cfg(test)]
+mod chirotope;
+#[cfg(test)]
 mod circuits;
 #[cfg(test)]
 mod claims;
@@ -14,7 +18,11 @@ mod convert;
 #[cfg(test)]
 mod covectors;
 #[cfg(test)]
+mod decide;
+#[cfg(test)]
 mod dual;
+#[cfg(test)]
+mod grassmann;
 #[cfg(test)]
 mod helpers;
 #[cfg(test)]
@@ -23,6 +31,10 @@ mod lexext;
 mod localize;
 #[cfg(test)]
 mod make;
+#[cfg(test)]
+mod maps;
+#[cfg(test)]
+mod matroid;
 #[cfg(test)]
 mod members;
 #[cfg(test)]
@@ -35,6 +47,8 @@ mod oriented;
 mod paint;
 #[cfg(test)]
 mod parallel;
+#[cfg(test)]
+mod points;
 #[cfg(test)]
 mod port;
 #[cfg(test)]
@@ -51,5 +65,9 @@ mod simplex;
 mod subsets;
 #[cfg(test)]
 mod text;
+#[cfg(test)]
+mod threeterm;
+#[cfg(test)]
+mod vectors;
 #[cfg(test)]
 mod wiring;

@@ -1,0 +1,100 @@
+//! Verdicts of each kind, in a box of 1.
+
+ghost use Rattle.om_decide.specs.Verdicts.{AreBudgets};
+ghost use Rattle.std.specs.Prelude.{◌≡◌};
+
+use super::maps::PAPPUS;
+use om_certificate::{LpEnd, Verdict};
+use om_chirotope::Chirotope;
+use om_decide::{Budgets, DecideError, decide};
+use om_samples::{SampleError, chirotope_of};
+use std::alloc::Global;
+use std::test::Fail;
+
+/// The signs of nine points of which all triples but 789 are on lines as in the theorem of Pappus.
+const NON_PAPPUS: &str =
+    "0++++++++++++--------0-0++++++++++----0---+0+++++---0+-0++++++++0------------------+";
+
+/// A verdict in short: its kind, counted from 1, and how many vectors, entries, weights or rows it has.
+fn in_short(verdict: &Verdict) -> (u8, usize) {
+    match verdict {
+        Verdict::Realizable(word) => (1, word.len() as usize),
+        Verdict::Nonrealizable(entries) => (2, entries.len()),
+        Verdict::Undecided(weights, _) => (3, weights.len()),
+        Verdict::Limit(LpEnd::Pivots { basis, .. }, _) => (4, basis.len()),
+        Verdict::Limit(LpEnd::Width { .. }, _) => (5, 0),
+    }
+}
+
+/// A verdict on a chirotope in short; or 0 and the rank, where it isn't 3.
+fn answer(
+    alloc: Global,
+    chi: Result<Chirotope, SampleError>,
+    budgets: Budgets,
+) -> Option<(u8, usize)>
+    requires { AreBudgets budgets }
+{
+    match decide(alloc, &chi.ok()?, budgets) {
+        Ok(verdict) => Some(in_short(&verdict)),
+        Err(DecideError::NotRank3 { r }) => Some((0, r as usize)),
+        Err(DecideError::Memory) => None,
+    }
+}
+
+/// Some steps and pivots, in a box of 1.
+fn budgets(steps: u64, pivots: u32) -> Budgets
+    ensures { result ≡ record { box_size = 1; steps = steps; pivots = pivots } }
+{
+    Budgets {
+        box_size: 1,
+        steps,
+        pivots,
+    }
+}
+
+// the vectors are found at the twentieth step; on five elements the search is exhausted at the step 52, and there is a weight for
+// each of ten brackets
+#[test]
+fn small(rt: HostRuntime) -> Result<(), Fail> {
+    let alloc = rt.alloc();
+    let found = [
+        answer(alloc, chirotope_of(&rt, alloc, 2, 3, "+++"), budgets(1, 1)),
+        answer(
+            alloc,
+            chirotope_of(&rt, alloc, 3, 4, "++++"),
+            budgets(20, 1_000_000),
+        ),
+        answer(
+            alloc,
+            chirotope_of(&rt, alloc, 3, 5, "++++++++++"),
+            budgets(52, 1_000_000),
+        ),
+    ];
+    assert!(rt; found == [Some((0, 2)), Some((1, 4)), Some((3, 10))]);
+    Ok(())
+}
+
+// nine of 84 triples are on lines, and eight; the program ends at its pivot 136, and has a row for each of the 76 brackets and one more
+#[test]
+fn pappus(rt: HostRuntime) -> Result<(), Fail> {
+    let alloc = rt.alloc();
+    let found = [
+        answer(
+            alloc,
+            chirotope_of(&rt, alloc, 3, 9, PAPPUS),
+            budgets(1, 1_000_000),
+        ),
+        answer(
+            alloc,
+            chirotope_of(&rt, alloc, 3, 9, NON_PAPPUS),
+            budgets(100_000, 136),
+        ),
+        answer(
+            alloc,
+            chirotope_of(&rt, alloc, 3, 9, NON_PAPPUS),
+            budgets(1, 135),
+        ),
+    ];
+    assert!(rt; found == [Some((3, 75)), Some((2, 22)), Some((4, 77))]);
+    Ok(())
+}

@@ -1,0 +1,124 @@
+//! Statements on chirotopes whose signs are all plus, and an equation on the Pappus configuration.
+
+use super::maps::PAPPUS;
+use om_chirotope::Chirotope;
+use om_grassmann::{
+    Statement, brackets_of_lawful_statements, following, lawful, nth_statement, sides,
+};
+use om_samples::chirotope_of;
+use std::test::Fail;
+
+/// All lawful statements on five elements, in order: five elements and the numbers of a small and a big term. Each of them is
+/// strict.
+const TEN: [[u8; 7]; 10] = [
+    [1, 2, 3, 4, 5, 1, 2],
+    [1, 2, 3, 4, 5, 3, 2],
+    [2, 1, 3, 4, 5, 1, 2],
+    [2, 1, 3, 4, 5, 3, 2],
+    [3, 1, 2, 4, 5, 1, 2],
+    [3, 1, 2, 4, 5, 3, 2],
+    [4, 1, 2, 3, 5, 1, 2],
+    [4, 1, 2, 3, 5, 3, 2],
+    [5, 1, 2, 3, 4, 1, 2],
+    [5, 1, 2, 3, 4, 3, 2],
+];
+
+/// The statement with these numbers.
+fn statement(numbers: [u8; 7], strict: bool) -> Statement {
+    let [a, b, c, d, e, small, big] = numbers;
+    Statement {
+        a,
+        b,
+        c,
+        d,
+        e,
+        small,
+        big,
+        strict,
+    }
+}
+
+/// Whether the strict statement with a number is this one, and is lawful, and the next number has the statement behind it.
+fn is_at(chi: &Chirotope, k: u32, numbers: [u8; 7]) -> bool {
+    match nth_statement(chi, k) {
+        Some(found) => {
+            found == statement(numbers, true)
+                && lawful(chi, found)
+                && following(chi, found) == nth_statement(chi, k.saturating_add(1))
+        }
+        None => false,
+    }
+}
+
+/// Whether the statements with the numbers from 0 on are these, and no other follows.
+fn are_all(chi: &Chirotope, list: &[[u8; 7]]) -> bool {
+    let mut k: u32 = 0;
+    for numbers in list {
+        if !is_at(chi, k, *numbers) {
+            return false;
+        }
+        k = k.saturating_add(1);
+    }
+    nth_statement(chi, k).is_none() && nth_statement(chi, u32::MAX).is_none()
+}
+
+// an equation, an element that is none of the five, and terms that are none of the three
+#[test]
+fn five_elements(rt: HostRuntime) -> Result<(), Fail> {
+    let found = {
+        let chi = chirotope_of(&rt, rt.alloc(), 3, 5, "++++++++++")?;
+        [
+            are_all(&chi, &TEN),
+            lawful(&chi, statement(TEN[0], false)),
+            lawful(&chi, statement([0, 2, 3, 4, 5, 1, 2], true)),
+            lawful(&chi, statement([1, 2, 3, 4, 5, 0, 2], true)),
+            lawful(&chi, statement([1, 2, 3, 4, 5, 2, 4], true)),
+        ]
+    };
+    assert!(rt; found == [true, false, false, false, false]);
+    Ok(())
+}
+
+// each of 6 elements with each four of the other five has two, of which the last are of 6 with 2, 3, 4 and 5
+#[test]
+fn six_elements(rt: HostRuntime) -> Result<(), Fail> {
+    let found = {
+        let chi = chirotope_of(&rt, rt.alloc(), 3, 6, "++++++++++++++++++++")?;
+        [nth_statement(&chi, 59), nth_statement(&chi, 60)]
+    };
+    assert!(rt; found == [Some(statement([6, 2, 3, 4, 5, 3, 2], true)), None]);
+    Ok(())
+}
+
+#[test]
+fn another_rank(rt: HostRuntime) -> Result<(), Fail> {
+    let found = {
+        let chi = chirotope_of(&rt, rt.alloc(), 2, 5, "++++++++++")?;
+        [are_all(&chi, &[]), lawful(&chi, statement(TEN[0], true))]
+    };
+    assert!(rt; found == [true, false]);
+    Ok(())
+}
+
+/// Whether a statement is lawful and its sides have the brackets with these masks: two on the small side, two on the big one.
+fn has_sides(chi: &Chirotope, st: Statement, masks: [u32; 4]) -> bool {
+    if !lawful(chi, st) {
+        return false;
+    }
+    brackets_of_lawful_statements();
+    let (first, second, third, fourth) = sides(st, chi.elements());
+    first.mask() == masks[0]
+        && second.mask() == masks[1]
+        && third.mask() == masks[2]
+        && fourth.mask() == masks[3]
+}
+
+// since 123 is on a line, 127 with 134 are as large as 124 with 137
+#[test]
+fn sides_of_an_equation(rt: HostRuntime) -> Result<(), Fail> {
+    let st = statement([1, 2, 3, 4, 7, 3, 2], false);
+    let masks = [0b1000011, 0b1101, 0b1011, 0b1000101];
+    let found = has_sides(&chirotope_of(&rt, rt.alloc(), 3, 9, PAPPUS)?, st, masks);
+    assert!(rt; found);
+    Ok(())
+}

@@ -1,0 +1,113 @@
+//! Vectors at the limit, lists of vectors, and the signs of vectors.
+
+ghost use Rattle.std.specs.Prelude.{◌≡◌, IfOk};
+
+use super::helpers::is_chirotope;
+use super::maps::word_of;
+use om_chirotope::Chirotope;
+use om_samples::{SampleError, chirotope_of};
+use om_signs::MAX_COORDINATE;
+use om_subsets::Subset;
+use om_vectors::{SignsError, Unfound, Vector, Word, realizes, signs_of, triple};
+use std::alloc::Global;
+use std::test::Fail;
+
+/// Whether there is a vector of three numbers, and has them as its coordinates.
+fn is_vector(x: i64, y: i64, z: i64) -> bool {
+    match Vector::new(x, y, z) {
+        Some(vector) => vector.x() == x && vector.y() == y && vector.z() == z,
+        None => false,
+    }
+}
+
+#[test]
+fn coordinates(rt: HostRuntime) -> Result<(), Fail> {
+    assert!(rt; is_vector(MAX_COORDINATE, -MAX_COORDINATE, 0));
+    assert!(rt; is_vector(-MAX_COORDINATE, MAX_COORDINATE, MAX_COORDINATE));
+    assert!(rt; Vector::new(1_099_511_627_777, 0, 0).is_none());
+    assert!(rt; Vector::new(0, -1_099_511_627_777, 0).is_none());
+    assert!(rt; Vector::new(0, 0, 1_099_511_627_777).is_none());
+    assert!(rt; Vector::new(0, 0, i64::MIN).is_none());
+    assert!(rt; Vector::new(i64::MAX, 0, 0).is_none());
+    Ok(())
+}
+
+/// Whether three vectors have this triple product.
+fn is_product(rows: &[[i64; 3]], product: i128) -> bool {
+    let word = word_of(rows);
+    word.len() == 3 && triple(word.at(0), word.at(1), word.at(2)) == product
+}
+
+// the determinant of three vectors with coordinates 1 and -1 is at most 4, and is 4 for the first three
+#[test]
+fn greatest_triple_products(rt: HostRuntime) -> Result<(), Fail> {
+    let m = MAX_COORDINATE;
+    let four = 5_316_911_983_139_663_491_615_228_241_121_378_304;
+    assert!(rt; is_product(&[[-m, m, m], [m, -m, m], [m, m, -m]], four));
+    assert!(rt; is_product(&[[m, -m, m], [-m, m, m], [m, m, -m]], -four));
+    assert!(rt; is_product(&[[-m, m, m], [m, -m, m], [-m, m, m]], 0));
+    Ok(())
+}
+
+/// The first vectors of three, with one behind them.
+fn after_cut(len: u8, x: i64, y: i64, z: i64) -> Word {
+    let mut word = word_of(&[[1, 2, 3], [-4, 5, 6], [1, 2, 3]]);
+    if len < word.len()
+        && let Some(vector) = Vector::new(x, y, z)
+    {
+        word.cut(len);
+        word.push(vector);
+    }
+    word
+}
+
+#[test]
+fn words(rt: HostRuntime) -> Result<(), Fail> {
+    assert!(rt; after_cut(1, -4, 5, 6) == word_of(&[[1, 2, 3], [-4, 5, 6]]));
+    assert!(rt; after_cut(2, 1, 2, 3) == word_of(&[[1, 2, 3], [-4, 5, 6], [1, 2, 3]]));
+    assert!(rt; after_cut(0, 7, 8, 9).as_slice() == word_of(&[[7, 8, 9]]).as_slice());
+    assert!(rt; Unfound::Frontier(Word::new()) != Unfound::Exhausted);
+    Ok(())
+}
+
+/// The chirotope of some vectors.
+fn signs(alloc: Global, rows: &[[i64; 3]]) -> Result<Chirotope, SignsError> {
+    let word = word_of(rows);
+    if word.len() < 1 {
+        return Err(SignsError::Memory);
+    }
+    signs_of(alloc, word.as_slice())
+}
+
+// the triple products of 123, 124, 134 and 234 are 1, 1, -1 and 1; two vectors are too few
+#[test]
+fn signs_of_vectors(rt: HostRuntime) -> Result<(), Fail> {
+    let alloc = rt.alloc();
+    let found = signs(alloc, &[[1, 0, 0], [0, 1, 0], [0, 0, 1], [1, 1, 1]]);
+    assert!(rt; is_chirotope(found, 3, 4, "++-+"));
+    let found = signs(alloc, &[[1, 0, 0], [0, 1, 0]]);
+    assert!(rt; matches!(found, Err(SignsError::RankLow)));
+    Ok(())
+}
+
+/// Whether some vectors realize a chirotope, or the first triple with another sign.
+fn realization(chi: Result<Chirotope, SampleError>, rows: &[[i64; 3]]) -> Option<Result<(), Subset>>
+    requires { IfOk chi (λ c. c.rank ≡ 3) }
+{
+    let (chi, word) = (chi.ok()?, word_of(rows));
+    if word.len() != chi.elements() {
+        return None;
+    }
+    Some(realizes(word.as_slice(), &chi))
+}
+
+#[test]
+fn realizations(rt: HostRuntime) -> Result<(), Fail> {
+    let alloc = rt.alloc();
+    let rows = [[1, 0, 0], [0, 1, 0], [0, 0, 1], [1, 1, 1]];
+    let chi = chirotope_of(&rt, alloc, 3, 4, "++-+");
+    assert!(rt; realization(chi, &rows) == Some(Ok(())));
+    let chi = chirotope_of(&rt, alloc, 3, 4, "++++");
+    assert!(rt; realization(chi, &rows) == Some(Err(Subset::from_mask(0b1101, 4))));
+    Ok(())
+}
