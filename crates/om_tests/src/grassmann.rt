@@ -62,20 +62,27 @@ fn are_all(chi: &Chirotope, list: &[[u8; 7]]) -> bool {
     nth_statement(chi, k).is_none() && nth_statement(chi, u32::MAX).is_none()
 }
 
-// an equation, an element that is none of the five, and terms that are none of the three
+/// Whether these are lawful: an equation, a statement with an element that is none, and two with terms that are none of the three.
+fn others(chi: &Chirotope) -> [bool; 4] {
+    [
+        lawful(chi, statement(TEN[0], false)),
+        lawful(chi, statement([0, 2, 3, 4, 5, 1, 2], true)),
+        lawful(chi, statement([1, 2, 3, 4, 5, 0, 2], true)),
+        lawful(chi, statement([1, 2, 3, 4, 5, 2, 4], true)),
+    ]
+}
+
 #[test]
 fn five_elements(rt: HostRuntime) -> Result<(), Fail> {
-    let found = {
-        let chi = chirotope_of(&rt, rt.alloc(), 3, 5, "++++++++++")?;
-        [
-            are_all(&chi, &TEN),
-            lawful(&chi, statement(TEN[0], false)),
-            lawful(&chi, statement([0, 2, 3, 4, 5, 1, 2], true)),
-            lawful(&chi, statement([1, 2, 3, 4, 5, 0, 2], true)),
-            lawful(&chi, statement([1, 2, 3, 4, 5, 2, 4], true)),
-        ]
-    };
-    assert!(rt; found == [true, false, false, false, false]);
+    let found = are_all(&chirotope_of(&rt, rt.alloc(), 3, 5, "++++++++++")?, &TEN);
+    assert!(rt; found);
+    Ok(())
+}
+
+#[test]
+fn unlawful(rt: HostRuntime) -> Result<(), Fail> {
+    let found = others(&chirotope_of(&rt, rt.alloc(), 3, 5, "++++++++++")?);
+    assert!(rt; found == [false; 4]);
     Ok(())
 }
 
