@@ -1,2 +1,0 @@
-//! The tests of what is read and printed.
-#![tactic(auto)]
