@@ -21,8 +21,7 @@ use Rattle.om_denotation.specs.Listings.{AreAllOf}
 use Rattle.om_denotation.proofs.ChirotopeBridge.{circuit_length, cocircuit_length}
 use Rattle.om_denotation.proofs.FamilyLaws as chirotopes
 use Rattle.om_convert.specs.Compositions.{composition_of, AreFrom, IsCompositionOf}
-use Rattle.om_convert.specs.Families.{IsComposedOf}
-use Rattle.om_convert.proofs.FamilyLaws.{lengths, circuit_axioms, covector_axioms, composed_both}
+use Rattle.om_oriented.proofs.ListedFamilies.{lengths, circuit_axioms, covector_axioms, composed_both}
 
 module _ (m : SignMap) where
   -- ---- circuits
@@ -54,8 +53,8 @@ module _ (m : SignMap) where
     same_as_cocircuits d e q X l =
         let p = chirotopes.parts_both m c X l in
         let b = composed_both (IsCocircuitOfChirotope m) cocircuits all X in (
-          λ x. record { size = l ∙ sym e; composed = subst (λ k. IsComposedOf k X) (sym q) (b.0 (p.0 x)) },
-          λ x. p.1 (b.1 (subst (λ k. IsComposedOf k X) q x.composed)),
+          λ x. record { size = l ∙ sym e; composed = subst (λ k. families.HasConformingParts (Contains k) X) (sym q) (b.0 (p.0 x)) },
+          λ x. p.1 (b.1 (subst (λ k. families.HasConformingParts (Contains k) X) q x.composed)),
         )
 
     -- ---- compositions of cocircuits

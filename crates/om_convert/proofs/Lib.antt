@@ -1,5 +1,3 @@
-pub mod FamilyLaws
-pub mod CocircuitLaws
 pub mod CountingLaws
 pub mod GatheringLaws
 pub mod CompositionLaws

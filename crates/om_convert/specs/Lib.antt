@@ -1,4 +1,3 @@
-pub mod Families
 pub mod Limits
 pub mod Gathering
 pub mod Compositions

@@ -13,7 +13,6 @@ mod chirotopes;
 mod closure;
 mod convert_error;
 mod covectors;
-mod laws;
 mod list_chirotopes;
 mod lists;
 mod member_set;
@@ -24,10 +23,6 @@ mod vectors;
 pub use chirotopes::{chirotope_to_circuits, chirotope_to_cocircuits, chirotope_to_covectors};
 pub use convert_error::ConvertError;
 pub use covectors::covectors_to_cocircuits;
-pub use laws::{
-    axioms_of_functions, cocircuits_of_covectors, conformal_decomposition,
-    covectors_of_minimal_members,
-};
 pub use list_chirotopes::{circuits_to_chirotope, cocircuits_to_chirotope, covectors_to_chirotope};
 pub use lists::{
     circuits_to_cocircuits, circuits_to_covectors, cocircuits_to_circuits, cocircuits_to_covectors,

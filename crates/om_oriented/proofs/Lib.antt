@@ -3,3 +3,5 @@ mod Members
 mod Walks
 mod Sets
 pub mod Compositions
+pub mod ListedFamilies
+pub mod CocircuitLaws

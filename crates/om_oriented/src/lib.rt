@@ -11,6 +11,7 @@ mod comparison;
 mod covector_sets;
 mod differ;
 pub mod laws;
+pub mod list_laws;
 mod oriented;
 mod walk;
 

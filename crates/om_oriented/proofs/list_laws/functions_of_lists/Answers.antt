@@ -1,5 +1,5 @@
 use Rattle.om_denotation.proofs.AxiomLaws.{supported, covector_axioms}
-use Rattle.om_convert.proofs.laws.axioms_of_functions.Goals as goal
+use Rattle.om_oriented.proofs.list_laws.functions_of_lists.Goals as goal
 
 pub returns-clause-support : goal.returns-clause-support
 returns-clause-support c = λ n members lengths. supported n members lengths

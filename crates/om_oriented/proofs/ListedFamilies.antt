@@ -3,6 +3,7 @@
 -- Main results: where the family meets the axioms of circuits or of covectors, the list meets them (circuit_axioms, covector_axioms); what conforming
 -- members of the family say of a vector, those of the list say (composed_both).
 -- Reference: Björner, Las Vergnas, Sturmfels, White and Ziegler, Oriented Matroids, chapters 3 and 4.
+use Rattle.std.specs.List.{Contains}
 use Rattle.std.proofs.lemmas.List.Elements.{All-contains_itself}
 use Rattle.std.proofs.Common.{ℕ, suc, ◌≡◌, ◌-◌, ◌↔◌, List, length, replicate, sym, ◌∙◌}
 use Rattle.om_signs.specs.declared.sign.Sign.{Sign}
@@ -17,13 +18,12 @@ use Rattle.om_denotation.specs.CovectorLaws.{at_zero}
 use Rattle.om_denotation.specs.FamilyAxioms.{HasCircuitAxioms, HasCovectorAxioms}
 use Rattle.om_denotation.specs.Listings.{AreAllOf}
 use Rattle.om_denotation.proofs.ListFunctions.{at_place}
-use Rattle.om_convert.specs.Families.{IsComposedOf}
 
 module _ (P : List Sign → Type 0) (members : List (List Sign)) (all : AreAllOf P members) where
   pub lengths : (n : ℕ) → ((X : List Sign) → P X → length X ≡ n) → HaveLength n members
   lengths n size = λ k d l. size _ (all.sound _ (All-contains_itself members k d l))
 
-  pub composed_both : (X : List Sign) → HasConformingParts P X ↔ IsComposedOf members X
+  pub composed_both : (X : List Sign) → HasConformingParts P X ↔ HasConformingParts (Contains members) X
   composed_both X = (
     λ h i k. let y = h i k in (y.0, all.complete y.0 y.1, y.2, y.3),
     λ h i k. let y = h i k in (y.0, all.sound y.0 y.1, y.2, y.3),

@@ -1,7 +1,7 @@
-//! Laws of the covectors and cocircuits that the calls hand out. Each function is one theorem: it has an empty body, and
-//! its contract is the statement.
+//! Laws of finite lists of sign vectors that meet the axioms of covectors, and of their members of minimal support. A law is a
+//! function that does nothing: its contract is the law.
 
-ghost use Rattle.std.specs.Prelude.{ℕ, ◌↔◌, List};
+ghost use Rattle.std.specs.Prelude.{ℕ, List};
 ghost use Rattle.std.specs.List.{Contains};
 ghost use Rattle.om_signs.specs.declared.sign.Sign.{Sign};
 ghost use Rattle.om_signs.specs.SignVec.{IsInSupport};
@@ -12,15 +12,15 @@ ghost use Rattle.om_covectors.specs.Axioms.{MeetsCovectorAxioms};
 ghost use Rattle.om_members.specs.Listings.{HaveLength};
 ghost use Rattle.om_covectors.specs.Minimality.{IsMinimal, AreThose};
 ghost use Rattle.om_circuits.specs.Axioms.{MeetsCircuitAxioms};
-ghost use Rattle.om_denotation.specs.Covectors.{HasConformingMember};
+ghost use Rattle.om_denotation.specs.Compositions.{HasConformingParts};
 ghost use Rattle.om_denotation.specs.Denotation.{DenoteTheSame};
 ghost use Rattle.om_denotation.specs.Families.{as_functions};
-ghost use Rattle.om_convert.specs.Families.{HasMinimalPart, IsComposedOf};
+ghost use Rattle.om_oriented.specs.Families.{HasMinimalPart};
 
 /// Lists of n signs that meet the axioms of covectors are functions that meet them, zero off the elements 1 to n.
 ///
 /// Source: Björner, Las Vergnas, Sturmfels, White and Ziegler, *Oriented Matroids*, chapter 4.
-pub fn axioms_of_functions()
+pub fn functions_of_lists()
     ensures support { (n : ℕ) (members : List (List Sign)) → HaveLength n members
         → AreSupportedOn (elements_to n) (as_functions members) }
     ensures axioms { (members : List (List Sign)) → MeetsCovectorAxioms members
@@ -31,7 +31,7 @@ pub fn axioms_of_functions()
 /// support that conforms to it.
 ///
 /// Source: Björner, Las Vergnas, Sturmfels, White and Ziegler, *Oriented Matroids*, chapters 3 and 4.
-pub fn conformal_decomposition()
+pub fn conformal_parts_of_lists()
     ensures { (n : ℕ) (members : List (List Sign)) → HaveLength n members → MeetsCovectorAxioms members
         → (X : List Sign) → Contains members X → (i : ℕ) → IsInSupport X i → HasMinimalPart members X i }
 {}
@@ -52,5 +52,5 @@ pub fn cocircuits_of_covectors()
 pub fn covectors_of_minimal_members()
     ensures { (n : ℕ) (members : List (List Sign)) → HaveLength n members → MeetsCovectorAxioms members
         → (cocircuits : List (List Sign)) → AreThose (IsMinimal members) members cocircuits
-        → DenoteTheSame n (Contains members) (IsComposedOf cocircuits) }
+        → DenoteTheSame n (Contains members) (HasConformingParts (Contains cocircuits)) }
 {}

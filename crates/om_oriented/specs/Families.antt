@@ -4,14 +4,9 @@
 use Rattle.std.specs.Prelude.{ℕ, ◌≡◌, List}
 use Rattle.std.specs.List.{Contains}
 use Rattle.om_signs.specs.declared.sign.Sign.{Sign}
-use Rattle.om_signs.specs.SignVec.{at, IsInSupport, IsConformal}
+use Rattle.om_signs.specs.SignVec.{at, IsConformal}
 use Rattle.om_covectors.specs.Minimality.{IsMinimal}
-use Rattle.om_denotation.specs.Covectors.{HasConformingMember}
 
 -- some member of minimal support conforms to X and has its sign at a place, counted from 0
 abbrev pub HasMinimalPart : List (List Sign) → List Sign → ℕ → Type 0
 HasMinimalPart members X i = (Y : List Sign) × Contains members Y × IsMinimal members Y × IsConformal Y X × (at Y i ≡ at X i)
-
--- at each place of its support some member conforms to X and has its sign there
-abbrev pub IsComposedOf : List (List Sign) → List Sign → Type 0
-IsComposedOf members X = (i : ℕ) → IsInSupport X i → HasConformingMember members X i

@@ -30,11 +30,11 @@ use Rattle.om_denotation.proofs.ChirotopeBridge.{same_lists}
 use Rattle.om_denotation.proofs.ListFunctions.{AreFunctionsOf}
 use Rattle.om_denotation.proofs.FamilyLaws.{family_axioms, family_parts}
 use Rattle.om_denotation.specs.Families.{as_functions}
-use Rattle.om_convert.specs.Families.{HasMinimalPart, IsComposedOf}
+use Rattle.om_oriented.specs.Families.{HasMinimalPart}
 use Rattle.om_denotation.proofs.SelectionLaws.{those_contained, contained_those}
 use Rattle.om_denotation.proofs.FunctionLaws.{unlisted}
 use Rattle.om_denotation.proofs.AxiomLaws.{supported, own, covector_axioms, minimal_function, minimal_list}
-use Rattle.om_convert.proofs.FamilyLaws.{circuit_axioms, composed_both}
+use Rattle.om_oriented.proofs.ListedFamilies.{circuit_axioms, composed_both}
 
 -- a member of minimal support
 abbrev pub IsLeast : List (List Sign) → List Sign → Type 0
@@ -83,7 +83,7 @@ module _ (n : ℕ) (members : List (List Sign)) (lengths : HaveLength n members)
     minimal_axioms = circuit_axioms (IsLeast members) cocircuits all_least
         (family_axioms n (IsLeast members) (families.IsMinimal (IsListed (as_functions members))) least_functions axioms_of_functions)
 
-    pub composed : (X : List Sign) → length X ≡ n → Contains members X ↔ IsComposedOf cocircuits X
+    pub composed : (X : List Sign) → length X ≡ n → Contains members X ↔ lists.HasConformingParts (Contains cocircuits) X
     composed X l =
         let b = composed_both (IsLeast members) cocircuits all_least X in (
           λ m. b.0 ((least_parts X).0 ((parts_of_functions (as_function X)).0 (own members axioms X m))),
@@ -92,6 +92,6 @@ module _ (n : ℕ) (members : List (List Sign)) (lengths : HaveLength n members)
 
     pub same_covectors : (d : Listing) → d.elements ≡ n → d.members ≡ cocircuits → DenoteTheSame n (Contains members) (IsCovectorOfCocircuits d)
     same_covectors d e q X l = (
-      λ m. record { size = l ∙ sym e; composed = subst (λ k. IsComposedOf k X) (sym q) ((composed X l).0 m) },
-      λ c. (composed X l).1 (subst (λ k. IsComposedOf k X) q c.composed),
+      λ m. record { size = l ∙ sym e; composed = subst (λ k. lists.HasConformingParts (Contains k) X) (sym q) ((composed X l).0 m) },
+      λ c. (composed X l).1 (subst (λ k. lists.HasConformingParts (Contains k) X) q c.composed),
     )
