@@ -3,11 +3,11 @@
 -- Main definitions: IsComposition
 -- Main results: a conforming member may be composed (one_more), and another left out (passed); the composition of all conforming members is the
 -- vector exactly where each sign of its support is that of a conforming member (composed_is).
-use Rattle.std.specs.Prelude.{ℕ, ◌≡◌, ◌+◌, ◌<◌, ◌≤◌, ◌↔◌, ◌⊎◌, List, length, replicate, Bool, IsTrue}
+use Rattle.std.specs.Prelude.{ℕ, ◌≡◌, ◌+◌, ◌<◌, ◌≤◌, ◌↔◌, ◌⊎◌, List, length, Bool, IsTrue}
 use Rattle.std.specs.List.{Contains}
 use Rattle.std.proofs.Common.{sym, ◌∙◌, ap, subst, arith, inl, inr}
 use Rattle.std.proofs.lemmas.Bool.{cases_eq}
-use Rattle.std.proofs.lemmas.List.{ext_get_or, length-replicate}
+use Rattle.std.proofs.lemmas.List.{ext_get_or}
 use Rattle.om_signs.specs.declared.sign.Sign.{Sign}
 use Rattle.om_signs.specs.declared.sign.Sign.TheVariants.{Zero}
 use Rattle.om_signs.specs.Sign.{first_nonzero}
@@ -21,7 +21,6 @@ use Rattle.om_laws.proofs.SignLaws.{zero_or_nonzero, first_nonzero_left}
 use Rattle.om_members.specs.Scans.{nth}
 use Rattle.om_members.proofs.ScanLaws.{nth_contained}
 use Rattle.om_denotation.specs.Covectors.{HasConformingMember}
-use Rattle.om_denotation.specs.CovectorLaws.{at_zero}
 
 -- Z is the composition of those of the first k members that conform to X
 pub record IsComposition (members : List (List Sign)) (X : List Sign) (k : ℕ) (Z : List Sign) : Type 0 where
@@ -29,18 +28,6 @@ pub record IsComposition (members : List (List Sign)) (X : List Sign) (k : ℕ) 
   pub conformal : IsConformal Z X
   pub member : (i : ℕ) → IsInSupport Z i → HasConformingMember members X i
   pub all : (j i : ℕ) → j < k → IsConformal (nth members j) X → IsInSupport (nth members j) i → IsInSupport Z i
-
--- the zero vector is the composition of no members
-pub none_composed : (members : List (List Sign)) (X Z : List Sign) (n : ℕ) → Z ≡ replicate n Zero → n ≡ length X → IsComposition members X 0 Z
-none_composed members X Z n e l = record {
-  size = ap length e ∙ length-replicate n Zero ∙ l;
-  conformal = λ i nonzero. absurd (nonzero (zero_at i));
-  member = λ i nonzero. absurd (nonzero (zero_at i));
-  all = λ j i lt. absurd (omega arith);
-}
-  where
-    zero_at : (i : ℕ) → at Z i ≡ Zero
-    zero_at i = ap (λ W. at W i) e ∙ at_zero n i
 
 module _ (members : List (List Sign)) (X : List Sign) (k : ℕ) (Z : List Sign) (h : IsComposition members X k Z) where
   -- a member that doesn't conform
