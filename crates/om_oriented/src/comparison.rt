@@ -1,3 +1,5 @@
+//! Whether two values denote the same oriented matroid.
+
 ghost use Rattle.std.specs.Prelude.{◌≡◌, ◌↔◌, IsOk, IsErr, IfErr};
 ghost use Rattle.om_denotation.specs.Denotation.{DenoteTheSame, HaveDifference, IsFirstDifference};
 
