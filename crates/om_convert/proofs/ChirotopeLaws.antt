@@ -4,24 +4,26 @@
 -- same_as_cocircuits, same_as_covectors); the covectors are the compositions of cocircuits (covector_of_composition, composition_of_covector).
 -- Reference: Björner, Las Vergnas, Sturmfels, White and Ziegler, Oriented Matroids, chapters 3 and 4.
 use Rattle.std.specs.List.{Contains}
-use Rattle.std.proofs.Common.{◌≡◌, List, [], ◌∷◌, refl, sym, ap, subst, ◌∙◌}
+use Rattle.std.proofs.Common.{ℕ, ◌≡◌, List, sym, subst, ◌∙◌}
 use Rattle.om_signs.specs.declared.sign.Sign.{Sign}
-use Rattle.om_signs.specs.SignVec.{compose}
 use Rattle.om_chirotope.specs.Map.{SignMap}
 use Rattle.om_chirotope.specs.Chirotope.{IsChirotope}
 use Rattle.om_circuits.specs.Axioms.{MeetsCircuitAxioms}
 use Rattle.om_members.specs.Listings.{Listing, HaveLength}
 use Rattle.om_covectors.specs.Axioms.{MeetsCovectorAxioms}
 use Rattle.om_denotation.specs.Circuits.{IsCircuitOfChirotope, IsCocircuitOfChirotope}
-use Rattle.om_denotation.specs.Compositions as families
-use Rattle.om_denotation.specs.Compositions.{none, front}
+use Rattle.om_denotation.specs.Compositions.{IsCompositionOf, none, front, HasConformingParts}
 use Rattle.om_denotation.specs.Covectors.{IsCovectorOfChirotope, IsCovectorOfCircuits, IsCovectorOfCocircuits, IsCovectorOfCovectors}
 use Rattle.om_denotation.specs.Denotation.{DenoteTheSame}
 use Rattle.om_denotation.specs.Listings.{AreAllOf}
 use Rattle.om_denotation.proofs.ChirotopeBridge.{circuit_length, cocircuit_length}
 use Rattle.om_denotation.proofs.FamilyLaws as chirotopes
-use Rattle.om_convert.specs.Compositions.{composition_of, AreFrom, IsCompositionOf}
 use Rattle.om_oriented.proofs.ListedFamilies.{lengths, circuit_axioms, covector_axioms, composed_both}
+
+-- compositions of members of a family are compositions of members of a larger one
+compositions_of : (P Q : List Sign → Type 0) → ((Y : List Sign) → P Y → Q Y) → (n : ℕ) (X : List Sign) → IsCompositionOf n P X → IsCompositionOf n Q X
+compositions_of P Q each n X none = none
+compositions_of P Q each n X (front Y Z y z) = front Y Z (each Y y) (compositions_of P Q each n Z z)
 
 module _ (m : SignMap) where
   -- ---- circuits
@@ -53,28 +55,19 @@ module _ (m : SignMap) where
     same_as_cocircuits d e q X l =
         let p = chirotopes.parts_both m c X l in
         let b = composed_both (IsCocircuitOfChirotope m) cocircuits all X in (
-          λ x. record { size = l ∙ sym e; composed = subst (λ k. families.HasConformingParts (Contains k) X) (sym q) (b.0 (p.0 x)) },
-          λ x. p.1 (b.1 (subst (λ k. families.HasConformingParts (Contains k) X) q x.composed)),
+          λ x. record { size = l ∙ sym e; composed = subst (λ k. HasConformingParts (Contains k) X) (sym q) (b.0 (p.0 x)) },
+          λ x. p.1 (b.1 (subst (λ k. HasConformingParts (Contains k) X) q x.composed)),
         )
 
     -- ---- compositions of cocircuits
 
-    composition_of_parts : (parts : List (List Sign)) → AreFrom cocircuits parts → families.IsCompositionOf m.elements (IsCocircuitOfChirotope m) (composition_of m.elements parts)
-    composition_of_parts [] h = none
-    composition_of_parts (Y ∷ parts) h = front Y (composition_of m.elements parts) (all.sound Y h.0) (composition_of_parts parts h.1)
+    pub covector_of_composition : (X : List Sign) → IsCompositionOf m.elements (Contains cocircuits) X → IsCovectorOfChirotope m X
+    covector_of_composition X h = (chirotopes.composition_both m c X).1 (compositions_of (Contains cocircuits) (IsCocircuitOfChirotope m) all.sound m.elements X h)
 
-    parts_of_composition : (X : List Sign) → families.IsCompositionOf m.elements (IsCocircuitOfChirotope m) X → IsCompositionOf m.elements cocircuits X
-    parts_of_composition X none = ([], tt, refl)
-    parts_of_composition X (front Y Z y z) = let r = parts_of_composition Z z in (Y ∷ r.0, (all.complete Y y, r.1), ap (compose Y) r.2)
+    pub composition_of_covector : (X : List Sign) → IsCovectorOfChirotope m X → IsCompositionOf m.elements (Contains cocircuits) X
+    composition_of_covector X x = compositions_of (IsCocircuitOfChirotope m) (Contains cocircuits) all.complete m.elements X ((chirotopes.composition_both m c X).0 x)
 
-    pub covector_of_composition : (X : List Sign) → IsCompositionOf m.elements cocircuits X → IsCovectorOfChirotope m X
-    covector_of_composition X (parts, from, same) =
-        (chirotopes.composition_both m c X).1 (subst (families.IsCompositionOf m.elements (IsCocircuitOfChirotope m)) (sym same) (composition_of_parts parts from))
-
-    pub composition_of_covector : (X : List Sign) → IsCovectorOfChirotope m X → IsCompositionOf m.elements cocircuits X
-    composition_of_covector X x = parts_of_composition X ((chirotopes.composition_both m c X).0 x)
-
-    pub covectors_of_compositions : (members : List (List Sign)) → AreAllOf (IsCompositionOf m.elements cocircuits) members → AreAllOf (IsCovectorOfChirotope m) members
+    pub covectors_of_compositions : (members : List (List Sign)) → AreAllOf (IsCompositionOf m.elements (Contains cocircuits)) members → AreAllOf (IsCovectorOfChirotope m) members
     covectors_of_compositions members a = record { sound = λ X k. covector_of_composition X (a.sound X k); complete = λ X x. a.complete X (composition_of_covector X x) }
 
   -- ---- covectors

@@ -7,16 +7,16 @@ use Rattle.std.specs.List.{Contains}
 use Rattle.std.proofs.lemmas.List.{length-replicate, length-append, get_or_append_left, get_or_default}
 use Rattle.std.proofs.lemmas.Bool.{cases_lt}
 use Rattle.std.proofs.lemmas.List.Elements.{All-contains, Contains-append_left}
-use Rattle.std.proofs.Common.{ℕ, zero, suc, ◌≡◌, ◌+◌, ◌<◌, ◌≤◌, ◌⊎◌, List, [], ◌∷◌, ◌++◌, length, replicate, get_or, refl, sym, ap, subst, ◌∙◌, inl, inr, ⊎_elim, arith}
+use Rattle.std.proofs.Common.{ℕ, zero, suc, ◌≡◌, ◌+◌, ◌<◌, ◌≤◌, ◌⊎◌, List, [], ◌∷◌, length, replicate, get_or, refl, sym, ap, subst, ◌∙◌, inl, inr, ⊎_elim, arith}
 use Rattle.om_signs.specs.declared.sign.Sign.{Sign}
 use Rattle.om_signs.specs.declared.sign.Sign.TheVariants.{Minus, Zero, Plus}
 use Rattle.om_signs.specs.Sign.{first_nonzero}
 use Rattle.om_signs.specs.SignVec.{compose}
 use Rattle.om_signs.proofs.ListPlaces.{length-compose, first_nonzero-zero}
 use Rattle.om_members.specs.Listings.{HaveLength}
+use Rattle.om_denotation.specs.Compositions.{IsCompositionOf, none, front}
 use Rattle.om_denotation.specs.Listings.{AreAllOf}
 use Rattle.om_convert.specs.declared.convert_error.ConvertError.{ConvertError}
-use Rattle.om_convert.specs.Compositions.{composition_of, AreFrom, IsCompositionOf}
 use Rattle.om_convert.specs.Gathering.{IsOldOrAdded, IsExtendedBy, IsComposedWith}
 use Rattle.om_convert.specs.Limits.{IsCause}
 use Rattle.om_denotation.proofs.SelectionLaws.{none_contained}
@@ -50,7 +50,7 @@ zero_compose (x ∷ xs) (suc n) l = ap (λ ys. x ∷ ys) (zero_compose xs n (ome
 -- zero is a member, all members are compositions, and those below a place are done: their compositions with each vector are members
 pub record IsClosedBelow (n : ℕ) (Ys : List (List Sign)) (done : ℕ) (members : List (List Sign)) : Type 0 where
   pub within : done ≤ length members
-  pub sound : (X : List Sign) → Contains members X → IsCompositionOf n Ys X
+  pub sound : (X : List Sign) → Contains members X → IsCompositionOf n (Contains Ys) X
   pub zero_member : Contains members (replicate n Zero)
   pub closed : (i : ℕ) → i < done → (Y : List Sign) → Contains Ys Y → Contains members (compose (get_or members i []) Y)
 
@@ -58,42 +58,25 @@ module _ (n : ℕ) (Ys : List (List Sign)) (lengths : HaveLength n Ys) where
   length_from : (Y : List Sign) → Contains Ys Y → length Y ≡ n
   length_from Y c = All-contains (λ Z. length Z ≡ n) Ys Y lengths c
 
-  length_composition : (parts : List (List Sign)) → AreFrom Ys parts → length (composition_of n parts) ≡ n
-  length_composition [] h = length-replicate n Zero
-  length_composition (Y ∷ parts) h =
-      let l = length_from Y h.0 in
-      length-compose Y (composition_of n parts) (l ∙ sym (length_composition parts h.1)) ∙ l
+  pub composition_length : (X : List Sign) → IsCompositionOf n (Contains Ys) X → length X ≡ n
+  composition_length X none = length-replicate n Zero
+  composition_length X (front Y Z y z) = let l = length_from Y y in length-compose Y Z (l ∙ sym (composition_length Z z)) ∙ l
 
-  pub composition_length : (X : List Sign) → IsCompositionOf n Ys X → length X ≡ n
-  composition_length X h = ap length h.2 ∙ length_composition h.0 h.1
+  pub composed_more : (X Y : List Sign) → IsCompositionOf n (Contains Ys) X → Contains Ys Y → IsCompositionOf n (Contains Ys) (compose X Y)
+  composed_more X Y none c =
+      let l = length_from Y c in
+      subst (IsCompositionOf n (Contains Ys)) (compose_zero Y n l ∙ sym (zero_compose Y n l)) (front Y (replicate n Zero) c none)
+  composed_more X Y (front Z W z w) c = subst (IsCompositionOf n (Contains Ys)) (compose_assoc Z W Y) (front Z (compose W Y) z (composed_more W Y w c))
 
-  pub none_composed : IsCompositionOf n Ys (replicate n Zero)
-  none_composed = ([], tt, refl)
-
-  from_more : (parts : List (List Sign)) (Y : List Sign) → AreFrom Ys parts → Contains Ys Y → AreFrom Ys (parts ++ Y ∷ [])
-  from_more [] Y h c = (c, tt)
-  from_more (X ∷ parts) Y h c = (h.0, from_more parts Y h.1 c)
-
-  composition_more : (parts : List (List Sign)) (Y : List Sign) → length Y ≡ n → composition_of n (parts ++ Y ∷ []) ≡ compose (composition_of n parts) Y
-  composition_more [] Y l = compose_zero Y n l ∙ sym (zero_compose Y n l)
-  composition_more (X ∷ parts) Y l = ap (compose X) (composition_more parts Y l) ∙ compose_assoc X (composition_of n parts) Y
-
-  pub composed_more : (X Y : List Sign) → IsCompositionOf n Ys X → Contains Ys Y → IsCompositionOf n Ys (compose X Y)
-  composed_more X Y h c = (
-    h.0 ++ Y ∷ [],
-    from_more h.0 Y h.1 c,
-    ap (λ Z. compose Z Y) h.2 ∙ sym (composition_more h.0 Y (length_from Y c)),
-  )
-
-  pub composed_with : (X Z : List Sign) → IsCompositionOf n Ys X → IsComposedWith X Ys Z → IsCompositionOf n Ys Z
-  composed_with X Z h c = subst (IsCompositionOf n Ys) (sym c.2) (composed_more X c.0 h c.1)
+  pub composed_with : (X Z : List Sign) → IsCompositionOf n (Contains Ys) X → IsComposedWith X Ys Z → IsCompositionOf n (Contains Ys) Z
+  composed_with X Z h c = subst (IsCompositionOf n (Contains Ys)) (sym c.2) (composed_more X c.0 h c.1)
 
   -- ---- lists that are closed under composition
 
   pub closed_start : (members : List (List Sign)) → IsExtendedBy (λ X. X ≡ replicate n Zero) [] members → IsClosedBelow n Ys 0 members
   closed_start members h = record {
     within = omega arith;
-    sound = λ X c. ⊎_elim (λ k. let l = k.1 in absurd (omega (arith, l))) (λ q. subst (IsCompositionOf n Ys) (sym q) none_composed) (h.sound X c);
+    sound = λ X c. ⊎_elim (λ k. let l = k.1 in absurd (omega (arith, l))) (λ q. subst (IsCompositionOf n (Contains Ys)) (sym q) none) (h.sound X c);
     zero_member = h.complete (replicate n Zero) refl;
     closed = λ i l. absurd (omega arith);
   }
@@ -131,25 +114,25 @@ module _ (n : ℕ) (Ys : List (List Sign)) (lengths : HaveLength n Ys) where
     closed_member : (X Y : List Sign) → Contains members X → Contains Ys Y → Contains members (compose X Y)
     closed_member X Y x y = subst (λ Z. Contains members (compose Z Y)) (get_or_default members x.0 [] X x.1 ∙ x.2) (h.closed x.0 x.1 Y y)
 
-    closed_parts : (parts : List (List Sign)) → AreFrom Ys parts → (X : List Sign) → Contains members X → length X ≡ n → Contains members (compose X (composition_of n parts))
-    closed_parts [] f X x l = subst (Contains members) (sym (compose_zero X n l)) x
-    closed_parts (Y ∷ parts) f X x l =
-        subst (Contains members) (sym (compose_assoc X Y (composition_of n parts)))
-        (closed_parts parts f.1 (compose X Y) (closed_member X Y x f.0) (length-compose X Y (l ∙ sym (length_from Y f.0)) ∙ l))
+    closed_parts : (X Z : List Sign) → IsCompositionOf n (Contains Ys) Z → Contains members X → length X ≡ n → Contains members (compose X Z)
+    closed_parts X Z none x l = subst (Contains members) (sym (compose_zero X n l)) x
+    closed_parts X Z (front Y W y w) x l =
+        subst (Contains members) (sym (compose_assoc X Y W))
+        (closed_parts (compose X Y) W w (closed_member X Y x y) (length-compose X Y (l ∙ sym (length_from Y y)) ∙ l))
 
-    pub closed_all : AreAllOf (IsCompositionOf n Ys) members
+    pub closed_all : AreAllOf (IsCompositionOf n (Contains Ys)) members
     closed_all = record {
       sound = h.sound;
-      complete = λ X c. subst (Contains members) (zero_compose (composition_of n c.0) n (length_composition c.0 c.1) ∙ sym c.2)
-          (closed_parts c.0 c.1 (replicate n Zero) h.zero_member (length-replicate n Zero));
+      complete = λ X c. subst (Contains members) (zero_compose X n (composition_length X c))
+          (closed_parts (replicate n Zero) X c h.zero_member (length-replicate n Zero));
     }
 
   -- ---- why the compositions are not listed
 
-  pub start_cause : (e : ConvertError) → IsCause (IsOldOrAdded [] (λ X. X ≡ replicate n Zero)) e → IsCause (IsCompositionOf n Ys) e
-  start_cause e c = cause_of_cause (IsOldOrAdded [] (λ X. X ≡ replicate n Zero)) (IsCompositionOf n Ys)
-      (λ X a. ⊎_elim (λ k. absurd (none_contained X k)) (λ q. subst (IsCompositionOf n Ys) (sym q) none_composed) a) e c
+  pub start_cause : (e : ConvertError) → IsCause (IsOldOrAdded [] (λ X. X ≡ replicate n Zero)) e → IsCause (IsCompositionOf n (Contains Ys)) e
+  start_cause e c = cause_of_cause (IsOldOrAdded [] (λ X. X ≡ replicate n Zero)) (IsCompositionOf n (Contains Ys))
+      (λ X a. ⊎_elim (λ k. absurd (none_contained X k)) (λ q. subst (IsCompositionOf n (Contains Ys)) (sym q) none) a) e c
 
-  pub composed_cause : (done : ℕ) (old : List (List Sign)) (X : List Sign) → Contains old X → IsClosedBelow n Ys done old → (e : ConvertError) → IsCause (IsOldOrAdded old (IsComposedWith X Ys)) e → IsCause (IsCompositionOf n Ys) e
-  composed_cause done old X x h e c = cause_of_cause (IsOldOrAdded old (IsComposedWith X Ys)) (IsCompositionOf n Ys)
+  pub composed_cause : (done : ℕ) (old : List (List Sign)) (X : List Sign) → Contains old X → IsClosedBelow n Ys done old → (e : ConvertError) → IsCause (IsOldOrAdded old (IsComposedWith X Ys)) e → IsCause (IsCompositionOf n (Contains Ys)) e
+  composed_cause done old X x h e c = cause_of_cause (IsOldOrAdded old (IsComposedWith X Ys)) (IsCompositionOf n (Contains Ys))
       (λ Z a. ⊎_elim (λ o. h.sound Z o) (λ b. composed_with X Z (h.sound X x) b) a) e c

@@ -1,4 +1,3 @@
 pub mod Limits
 pub mod Gathering
-pub mod Compositions
 pub mod Reading

@@ -1,9 +1,10 @@
 //! Closing a set of sign vectors under composition.
 
 ghost use Rattle.std.specs.Prelude.{◌≤◌, IfOk, IfErr};
+ghost use Rattle.std.specs.List.{Contains};
 ghost use Rattle.om_members.specs.Listings.{HaveLength};
+ghost use Rattle.om_denotation.specs.Compositions.{IsCompositionOf};
 ghost use Rattle.om_denotation.specs.Listings.{AreAllOf};
-ghost use Rattle.om_convert.specs.Compositions.{IsCompositionOf};
 ghost use Rattle.om_convert.specs.Limits.{IsCause};
 
 use super::convert_error::ConvertError;
@@ -24,8 +25,8 @@ pub fn all_compositions(
     requires low { 1 ≤ elements }
     requires high { elements ≤ MAX_PLACES }
     requires lengths { HaveLength elements vectors.now }
-    ensures members { IfOk result (AreAllOf (IsCompositionOf elements vectors.now)) }
-    ensures many { IfErr result (IsCause (IsCompositionOf elements vectors.now)) }
+    ensures members { IfOk result (AreAllOf (IsCompositionOf elements (Contains vectors.now))) }
+    ensures many { IfErr result (IsCause (IsCompositionOf elements (Contains vectors.now))) }
 {
     let mut members = MemberSet::new(alloc);
     members.insert(SignVec::zero(elements))?;

@@ -1,9 +1,10 @@
+use Rattle.std.specs.List.{Contains}
 use Rattle.std.proofs.Common.{sym, ◌∙◌, subst}
 use Rattle.std.proofs.lemmas.Result.{err_from_is_err_and}
 use Rattle.om_denotation.specs.Circuits.{IsCocircuitOfChirotope}
+use Rattle.om_denotation.specs.Compositions.{IsCompositionOf}
 use Rattle.om_denotation.specs.Covectors.{IsCovectorOfChirotope}
 use Rattle.om_denotation.specs.Listings.{AreAllOf}
-use Rattle.om_convert.specs.Compositions.{IsCompositionOf}
 use Rattle.om_convert.specs.Limits.{IsCause}
 use Rattle.om_convert.proofs.CountingLaws.{cause_of_cause}
 use Rattle.om_denotation.proofs.FamilyLaws.{cocircuit_covector}
@@ -24,12 +25,12 @@ pub returns-in_err-covectors-clause-many : goal.returns-in_err-covectors-clause-
 returns-in_err-covectors-clause-many c =
     let p = err_from_is_err_and c.from_residual-in_err-covectors.result c.from_residual-in_err-covectors.ensures.1 in
     let all = subst (AreAllOf (IsCocircuitOfChirotope c.args.chi.now)) (sym c.as_slice.ensures) c.in_ok-cocircuits.ensures.members in
-    rw (p.1, p.2) (cause_of_cause (IsCompositionOf c.args.chi.now.elements c.as_slice.result.now) (IsCovectorOfChirotope c.args.chi.now)
+    rw (p.1, p.2) (cause_of_cause (IsCompositionOf c.args.chi.now.elements (Contains c.as_slice.result.now)) (IsCovectorOfChirotope c.args.chi.now)
     (covector_of_composition c.args.chi.now c.all_cocircuits.ensures.lawful c.as_slice.result.now all) c.in_err-covectors.field-0.0
-    (subst (λ n. IsCause (IsCompositionOf n c.as_slice.result.now) c.in_err-covectors.field-0.0) c.elements.ensures.value c.in_err-covectors.ensures.many))
+    (subst (λ n. IsCause (IsCompositionOf n (Contains c.as_slice.result.now)) c.in_err-covectors.field-0.0) c.elements.ensures.value c.in_err-covectors.ensures.many))
 
 pub returns-clause-members : goal.returns-clause-members
 returns-clause-members c =
     let all = subst (AreAllOf (IsCocircuitOfChirotope c.args.chi.now)) (sym c.as_slice.ensures) c.in_ok-cocircuits.ensures.members in
     covectors_of_compositions c.args.chi.now c.all_cocircuits.ensures.lawful c.as_slice.result.now all c.in_ok-covectors.covectors
-    (subst (λ n. AreAllOf (IsCompositionOf n c.as_slice.result.now) c.in_ok-covectors.covectors) c.elements.ensures.value c.in_ok-covectors.ensures.members)
+    (subst (λ n. AreAllOf (IsCompositionOf n (Contains c.as_slice.result.now)) c.in_ok-covectors.covectors) c.elements.ensures.value c.in_ok-covectors.ensures.members)
