@@ -43,8 +43,7 @@ pub fn circuits_to_chirotope(alloc: Global, c: &Circuits) -> Result<Chirotope, C
 {
     let rank = rank_circuits(c);
     test_width(c.0.elements(), rank)?;
-    let chi = chirotope_of_circuits(alloc, c, rank)?;
-    Ok(chi)
+    Ok(chirotope_of_circuits(alloc, c, rank)?)
 }
 
 /// The normal chirotope with these cocircuits. Both have the same elements and denote the same oriented matroid, and no other
@@ -66,8 +65,7 @@ pub fn cocircuits_to_chirotope(alloc: Global, c: &Cocircuits) -> Result<Chirotop
 {
     let rank = rank_cocircuits(c);
     test_width(c.0.elements(), rank)?;
-    let chi = chirotope_of_cocircuits(alloc, c, rank)?;
-    Ok(chi)
+    Ok(chirotope_of_cocircuits(alloc, c, rank)?)
 }
 
 /// The normal chirotope with these covectors. Both have the same elements and denote the same oriented matroid, and no
