@@ -154,6 +154,7 @@ fn are_cocircuits_of_proposal<R: Threads + Sync>(
         Some(chi) => match all_cocircuits(alloc, &chi) {
             Ok(cocircuits) => Ok(cocircuits.is_set_of(vectors)),
             Err(ConvertError::TooMany { .. }) => Ok(false),
+            // The chirotope is at hand, so it is not too wide.
             Err(ConvertError::TooWide { .. }) => unreachable!(),
             Err(ConvertError::Memory) => Err(NoMemory),
         },
@@ -179,6 +180,7 @@ fn are_covectors_of_proposal<R: Threads + Sync>(
         Some(chi) => match all_covectors(alloc, &chi) {
             Ok(covectors) => Ok(covectors.is_set_of(vectors)),
             Err(ConvertError::TooMany { .. }) => Ok(false),
+            // The chirotope is at hand, so it is not too wide.
             Err(ConvertError::TooWide { .. }) => unreachable!(),
             Err(ConvertError::Memory) => Err(NoMemory),
         },
