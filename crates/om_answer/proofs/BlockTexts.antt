@@ -3,7 +3,7 @@
 -- Main results: on_ok, tail_more, lines_more, line_whole, tail_next, lines_after, coordinate_next, width_named
 use Rattle.std.proofs.Common.{◌≡◌, ℕ, ◌+◌, ◌<◌, List, [], ◌∷◌, ◌++◌, length, take, get_or, map, refl, sym, ap, ◌∙◌, append_assoc, append-nil, arith}
 use Rattle.std.proofs.lemmas.Int.{to_z-of_z, fits_signed_from_abs}
-use Rattle.om_vectors.specs.WholeVectors.{IsCoordinate}
+use Rattle.om_signs.specs.Coordinates.{IsCoordinate}
 use mir.Syntax.{w64, w128}
 use mir.Val.{to_z, of_z}
 use Rattle.std.proofs.lemmas.List.{take_more, map-append}

@@ -8,7 +8,8 @@ use Rattle.std.specs.Option.{SomeIff}
 use Rattle.std.proofs.Math.Dec.{leb→le}
 use Rattle.std.proofs.lemmas.Int.{to_z-of_z}
 use Rattle.om_signs.specs.declared.limits.TheConstants.{MAX_ELEMENTS, MAX_MULTIPLICITY}
-use Rattle.om_vectors.specs.WholeVectors.{WholeVector, vector_of, IsWithinLimit, IsCoordinate}
+use Rattle.om_vectors.specs.WholeVectors.{WholeVector, vector_of, IsWithinLimit}
+use Rattle.om_signs.specs.Coordinates.{IsCoordinate}
 use Rattle.om_certificate.specs.declared.entry.Entry.{Entry}
 use Rattle.om_answer.specs.declared.range.Range.TheVariants.{Between}
 use Rattle.om_answer.specs.Numbers.{IsIn, AreIn}

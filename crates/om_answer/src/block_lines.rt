@@ -2,7 +2,8 @@
 
 ghost use Rattle.std.specs.Prelude.{◌≡◌, ◌≤◌, ◌++◌, MatchOption, IfSome, IfOk, Some, None, All, length};
 ghost use Rattle.om_text.specs.Lines.{runs};
-ghost use Rattle.om_vectors.specs.WholeVectors.{IsCoordinate, vector_of as vector};
+ghost use Rattle.om_vectors.specs.WholeVectors.{vector_of as vector};
+ghost use Rattle.om_signs.specs.Coordinates.{IsCoordinate};
 ghost use Rattle.om_answer.specs.Numbers.{numbers_within, IsReadable, AreIn};
 ghost use Rattle.om_answer.specs.BlockLines.{after_name, named_numbers, vector_ranges, vector_from, vector_of, entry_ranges, entry_from, entry_of, strictness, increasing, weight_ranges, weight_from, weight_of, pivots_ranges, count_from, pivots_of, stage_of, width_ranges, width_from, width_after, width_of};
 

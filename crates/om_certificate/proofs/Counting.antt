@@ -8,10 +8,9 @@ use Rattle.std.proofs.lemmas.Bool.{cases_eq, eq-eqb, ne_eqb, cases_lt}
 use Rattle.std.proofs.lemmas.List.{get_or-set_same, get_or-set_other, length-set, get_or_past}
 use Rattle.std.proofs.lemmas.List.Sums.{sum_by_more}
 use Rattle.om_signs.specs.declared.limits.TheConstants.{MAX_MULTIPLICITY, MAX_ENTRIES}
-use Rattle.om_subsets.specs.Subsets.{choose, rank_of}
+use Rattle.om_subsets.specs.Subsets.{choose, rank_of, IsTriple}
 use Rattle.om_subsets.specs.Members.{Chosen}
 use Rattle.om_grassmann.specs.Sides as sides
-use Rattle.om_vectors.specs.Realizations.{IsTriple}
 use Rattle.om_certificate.specs.declared.entry.Entry.{Entry}
 use Rattle.om_certificate.specs.Certificates.{times_among, times_in, is_same}
 use Rattle.om_certificate.specs.Tables.{AreCounts, IsRaised}

@@ -9,10 +9,10 @@ use Rattle.std.proofs.Math.ListN.{get_or}
 use Rattle.std.proofs.lemmas.List.Elements.{recursion_from_All}
 use Rattle.std.proofs.lemmas.List.Sums.{sum_by-cons}
 use Rattle.std.proofs.lemmas.Int.{ints}
-use Rattle.om_subsets.specs.Subsets.{choose, rank_of, subset_at}
+use Rattle.om_subsets.specs.Subsets.{choose, rank_of, subset_at, IsTriple}
 use Rattle.om_chirotope.specs.Map.{SignMap}
 use Rattle.om_vectors.specs.WholeVectors.{WholeVector}
-use Rattle.om_vectors.specs.Realizations.{Realizes, IsTriple}
+use Rattle.om_vectors.specs.Realizations.{Realizes}
 use Rattle.om_grassmann.specs.declared.statement.Statement.{Statement}
 use Rattle.om_grassmann.specs.Statements.{IsLawful}
 use Rattle.om_grassmann.specs.Sides.{first_bracket, second_bracket}

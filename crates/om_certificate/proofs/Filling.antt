@@ -11,9 +11,8 @@ use Rattle.std.proofs.lemmas.Int.{to_z-of_z, fits_signed_from_abs}
 use mir.Syntax.{w128}
 use mir.Val.{to_z, of_z}
 use Rattle.om_signs.specs.declared.limits.TheConstants.{MAX_WEIGHT}
-use Rattle.om_subsets.specs.Subsets.{choose, rank_of}
+use Rattle.om_subsets.specs.Subsets.{choose, rank_of, IsTriple}
 use Rattle.om_chirotope.specs.Map.{SignMap}
-use Rattle.om_vectors.specs.Realizations.{IsTriple}
 use Rattle.om_certificate.specs.declared.weight.Weight.{Weight}
 use Rattle.om_certificate.specs.Weights.{bracket_of, weight_of, AreOfBrackets}
 use Rattle.om_certificate.specs.Tables.{IsWeightTable, AreSmall, IsOfTriple}

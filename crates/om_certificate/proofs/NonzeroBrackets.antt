@@ -8,10 +8,9 @@ use Rattle.std.proofs.Math.ListN.{get_or}
 use Rattle.std.proofs.lemmas.List.{take_all, length-append, take-append-drop, take_more, map-append}
 use Rattle.std.proofs.lemmas.Option.{slice_get-get_or}
 use Rattle.std.proofs.lemmas.List.Elements.{filter_more, filter-append, All-filter, All-from_get_or}
-use Rattle.om_subsets.specs.Subsets.{all_subsets, choose, subset_at}
+use Rattle.om_subsets.specs.Subsets.{all_subsets, choose, subset_at, IsTriple}
 use Rattle.om_subsets.proofs.Order.{length-subsets_from}
 use Rattle.om_chirotope.specs.Map.{SignMap, chi_of}
-use Rattle.om_vectors.specs.Realizations.{IsTriple}
 use Rattle.om_certificate.specs.declared.weight.Weight.{Weight}
 use Rattle.om_certificate.specs.Weights.{is_nonzero, nonzero_brackets, bracket_of, AreOfBrackets}
 use Rattle.om_certificate.specs.Refusals.{IsFirstOtherBracket}

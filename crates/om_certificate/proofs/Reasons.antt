@@ -3,7 +3,7 @@
 -- Main results: vectors_refused, weights_refused, weight_of_triple, all_balanced, unbalanced_refused
 use Rattle.std.specs.Prelude.{ℕ, ◌≡◌, ◌≢◌, ◌<◌, List, length}
 use Rattle.std.proofs.Math.ListN.{get_or}
-use Rattle.om_subsets.specs.Subsets.{choose, rank_of}
+use Rattle.om_subsets.specs.Subsets.{choose, rank_of, IsTriple}
 use Rattle.om_subsets.proofs.Order.{lexicographic}
 use Rattle.om_certificate.specs.declared.entry.Entry.{Entry}
 use Rattle.om_certificate.specs.Certificates.{AreBalanced, AreLawful, small_times, big_times}
@@ -17,7 +17,6 @@ use Rattle.om_certificate.specs.declared.cert_refused.CertRefused.TheVariants.{N
 use Rattle.om_certificate.specs.Refusals.{IsVectorRefusal, number_of_vectors, IsWeightRefusal, number_of_weights}
 use Rattle.om_certificate.specs.declared.weight.Weight.{Weight}
 use Rattle.om_subsets.specs.Subsets.{IsSubsetFrom}
-use Rattle.om_vectors.specs.Realizations.{IsTriple}
 use Rattle.om_certificate.specs.Weights.{nonzero_brackets, bracket_of}
 use Rattle.om_certificate.specs.Tables.{IsOfTriple, AreCounts}
 use Rattle.om_certificate.proofs.Triples.{triple_elements}

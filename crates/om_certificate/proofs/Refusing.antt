@@ -8,12 +8,12 @@ use Rattle.std.proofs.lemmas.List.{length-map, get_or-take, length-take}
 use Rattle.std.specs.Option.{option_map}
 use Rattle.std.proofs.lemmas.Option.{slice_get_within, get_or_from_slice_get, slice_get-map}
 use Rattle.om_subsets.specs.Members.{Chosen}
-use Rattle.om_subsets.specs.Subsets.{rank_of}
+use Rattle.om_subsets.specs.Subsets.{rank_of, IsTriple}
 use Rattle.om_subsets.specs.Lists as lists
 use Rattle.om_subsets.proofs.Order.{lexicographic}
 use Rattle.om_chirotope.specs.Map.{SignMap, chi_of}
 use Rattle.om_vectors.specs.WholeVectors.{WholeVector}
-use Rattle.om_vectors.specs.Realizations.{IsTriple, Realizes, triple_sign}
+use Rattle.om_vectors.specs.Realizations.{Realizes, triple_sign}
 use Rattle.om_grassmann.specs.Statements.{IsLawful}
 use Rattle.om_grassmann.proofs.OrderLaws.{before_total}
 use Rattle.om_certificate.specs.declared.entry.Entry.{Entry}

@@ -8,9 +8,8 @@ use Rattle.std.proofs.lemmas.Bool.{ne_eqb, lt-ltb}
 use Rattle.std.proofs.lemmas.Bool.Decides.{Decides-eqb, same_from_decides, Decides-like}
 use Rattle.om_signs.specs.declared.limits.TheConstants.{MAX_ELEMENTS}
 use Rattle.om_subsets.proofs.Statements.{subset_is_increasing}
-use Rattle.om_subsets.specs.Subsets.{choose, rank_of, subset_at, with_element}
+use Rattle.om_subsets.specs.Subsets.{choose, rank_of, subset_at, with_element, IsTriple}
 use Rattle.om_subsets.proofs.Order.{rank_from-lt, get_or-rank_from, same_place, listed}
-use Rattle.om_vectors.specs.Realizations.{IsTriple}
 use Rattle.om_certificate.specs.declared.room.TheConstants.{ROOM}
 use Rattle.om_certificate.specs.Certificates.{is_same}
 

@@ -13,8 +13,7 @@ use Rattle.om_grassmann.specs.Order.{IsBefore, IsNext, IsLast, HasAtMost}
 use Rattle.om_grassmann.specs.Walk.{place, frame_place}
 use Rattle.om_grassmann.proofs.Places.{lawful_places}
 use Rattle.om_certificate.specs.declared.weight.Weight.{Weight}
-use Rattle.om_subsets.specs.Subsets.{rank_of}
-use Rattle.om_vectors.specs.Realizations.{IsTriple}
+use Rattle.om_subsets.specs.Subsets.{rank_of, IsTriple}
 use Rattle.om_grassmann.specs.Sides.{first_bracket, second_bracket}
 use Rattle.om_certificate.specs.Weights.{IsMetBy, Compares, weight_of, term_weight}
 use Rattle.om_certificate.specs.Tables.{IsWeightTable, sum_at}

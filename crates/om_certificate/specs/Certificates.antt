@@ -5,7 +5,7 @@
 use Rattle.std.specs.Prelude.{ℕ, ◌≡◌, ◌+◌, ◌*◌, ◌≤◌, Bool, List, cond, sum_by, All, Any, IsTrue}
 use Rattle.std.specs.Str.{bytes_eq}
 use Rattle.om_chirotope.specs.Map.{SignMap}
-use Rattle.om_vectors.specs.Realizations.{IsTriple}
+use Rattle.om_subsets.specs.Subsets.{IsTriple}
 use Rattle.om_grassmann.specs.declared.statement.Statement.{Statement}
 use Rattle.om_grassmann.specs.Statements.{IsLawful}
 use Rattle.om_grassmann.specs.Sides.{first_bracket, second_bracket}

@@ -4,7 +4,8 @@ use Rattle.om_subsets.specs.Members.{Chosen}
 use Rattle.om_subsets.specs.Lists as lists
 use Rattle.om_chirotope.specs.Map.{SignMap}
 use Rattle.om_vectors.specs.WholeVectors.{WholeVector}
-use Rattle.om_vectors.specs.Realizations.{IsTriple, IsFirstOther}
+use Rattle.om_vectors.specs.Realizations.{IsFirstOther}
+use Rattle.om_subsets.specs.Subsets.{IsTriple}
 use Rattle.om_grassmann.specs.declared.statement.Statement.{Statement}
 use Rattle.om_grassmann.specs.Statements.{IsLawful}
 use Rattle.om_grassmann.specs.Order.{IsBefore}

@@ -1,8 +1,7 @@
 -- Tables with a place for each increasing triple of elements, in lexicographic order. No public clause speaks of these.
 use Rattle.std.specs.Prelude.{ℕ, ◌≡◌, ◌+◌, ◌*◌, ◌<◌, ◌≤◌, ℤ, pos, ◌+ℤ◌, List, slice_index, slice_index_or, length, unsigned_abs}
 use Rattle.om_signs.specs.declared.limits.TheConstants.{MAX_WEIGHT}
-use Rattle.om_subsets.specs.Subsets.{rank_of, choose}
-use Rattle.om_vectors.specs.Realizations.{IsTriple}
+use Rattle.om_subsets.specs.Subsets.{rank_of, choose, IsTriple}
 use Rattle.om_grassmann.specs.declared.statement.Statement.{Statement}
 use Rattle.om_grassmann.specs.Sides.{first_bracket, second_bracket}
 use Rattle.om_certificate.specs.declared.entry.Entry.{Entry}

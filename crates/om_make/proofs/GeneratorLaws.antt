@@ -6,7 +6,8 @@ use Rattle.std.specs.Option.{SomeIff}
 use Rattle.std.proofs.Common.{zero, suc, ap, sym, ◌∙◌, arith, lit≤, to_z, of_z, w64}
 use Rattle.std.proofs.lemmas.Int.{to_z-of_z, fits_signed_from_abs}
 use Rattle.std.proofs.lemmas.List.{length-append}
-use Rattle.om_vectors.specs.WholeVectors.{WholeVector, vector_of, triple_product, IsCoordinate, IsWithinLimit}
+use Rattle.om_vectors.specs.WholeVectors.{WholeVector, vector_of, triple_product, IsWithinLimit}
+use Rattle.om_signs.specs.Coordinates.{IsCoordinate}
 use Rattle.om_signs.specs.declared.limits.TheConstants.{MAX_COORDINATE}
 use Rattle.om_vectors.specs.Realizations.{IsRankLow}
 use Rattle.om_make.specs.Generator.{following, draw_of, nth_state, vector_drawn_from, vectors_drawn, unit_vectors, made_vectors}

@@ -1,10 +1,11 @@
 -- What a summary counts.
 --
 -- Reference: Björner, Las Vergnas, Sturmfels, White and Ziegler, Oriented Matroids, chapters 1, 3, 6 and 8.
-use Rattle.std.specs.Prelude.{ℕ, ◌≡◌, List, Bool, true, false, length, take}
+use Rattle.std.specs.Prelude.{ℕ, ◌≡◌, List, length, take}
 use Rattle.std.specs.List.{count_by}
 use Rattle.om_signs.specs.declared.sign.Sign.{Sign}
 use Rattle.om_signs.specs.declared.sign.Sign.TheVariants.{Minus, Zero, Plus}
+use Rattle.om_signs.specs.Sign.{equal_signs}
 use Rattle.om_subsets.specs.Members.{Chosen}
 use Rattle.om_chirotope.specs.Map.{SignMap, IsLedBy}
 use Rattle.om_chirotope.specs.Chirotope.{IsChirotope}
@@ -24,15 +25,9 @@ use Rattle.om_make.specs.Generator.{unit_vectors}
 abbrev pub BeginsWithUnits : List WholeVector → Type 0
 BeginsWithUnits vs = take 3 vs ≡ unit_vectors
 
-abbrev pub are_same : Sign → Sign → Bool
-are_same Minus Minus = true
-are_same Zero Zero = true
-are_same Plus Plus = true
-are_same _ _ = false
-
 -- how often a sign stands in a list
 abbrev pub count_of : Sign → List Sign → ℕ
-count_of s signs = count_by (are_same s) signs
+count_of s signs = count_by (equal_signs s) signs
 
 -- the family has exactly k members: some list of k different sign vectors holds them all, and no others
 pub record HasExactly (k : ℕ) (P : List Sign → Type 0) : Type 0 where

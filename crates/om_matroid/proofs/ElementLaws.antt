@@ -5,7 +5,8 @@ use Rattle.std.proofs.Common.{ℕ, ◌≡◌, ◌↔◌, List, [], ◌∷◌, re
 use Rattle.om_subsets.specs.Subsets.{IsMember}
 use Rattle.om_laws.proofs.MemberLaws.{member_or_not}
 use Rattle.om_chirotope.specs.Map.{SignMap}
-use Rattle.om_matroid.specs.Bases.{IsBasis, IsLoop, IsColoop}
+use Rattle.om_matroid.specs.Bases.{IsLoop, IsColoop}
+use Rattle.om_chirotope.specs.ThreeTerm.{IsBasis}
 use Rattle.om_matroid.specs.Search.{IsBasisBetween}
 
 -- a test that negates another

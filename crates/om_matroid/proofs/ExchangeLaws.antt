@@ -22,7 +22,8 @@ use Rattle.om_chirotope.specs.Chirotope.{IsChirotope}
 use Rattle.om_chirotope.proofs.Circuits.{length-without}
 use Rattle.om_chirotope.proofs.Cocircuits.{along_even, along_odd, length-with}
 use Rattle.om_chirotope.proofs.Theory.{theory_chirotope, lawful_with}
-use Rattle.om_matroid.specs.Bases.{IsBasis, IsExchange}
+use Rattle.om_matroid.specs.Bases.{IsExchange}
+use Rattle.om_chirotope.specs.ThreeTerm.{IsBasis}
 use Rattle.om_matroid.proofs.ListLaws.{subset_without, without_middle}
 
 -- the value with an element in its place, from that with the element behind

@@ -12,7 +12,8 @@ use Rattle.om_laws.proofs.SortingLaws.{increasing_distinct}
 use Rattle.om_chirotope.specs.Map.{SignMap}
 use Rattle.om_chirotope.proofs.Cocircuits.{length-with}
 use Rattle.om_chirotope.proofs.Theory.{lawful_with}
-use Rattle.om_matroid.specs.Bases.{IsBasis, IsRankOf, IsLoop, AreParallel}
+use Rattle.om_matroid.specs.Bases.{IsRankOf, IsLoop, AreParallel}
+use Rattle.om_chirotope.specs.ThreeTerm.{IsBasis}
 use Rattle.om_matroid.proofs.WalkLaws.{HasNoneBefore, none_at_all, place_of}
 
 -- the basis at some place below k has e

@@ -8,7 +8,8 @@ use Rattle.std.proofs.lemmas.Bool.{cases_eq}
 use Rattle.om_subsets.specs.Subsets.{IsSubsetFrom, IsMember, choose, subset_at, IsPartOf}
 use Rattle.om_chirotope.specs.Map.{SignMap}
 use Rattle.om_chirotope.specs.Chirotope.{IsChirotope}
-use Rattle.om_matroid.specs.Bases.{IsBasis, IsIndependentPart, IsRankOf}
+use Rattle.om_matroid.specs.Bases.{IsIndependentPart, IsRankOf}
+use Rattle.om_chirotope.specs.ThreeTerm.{IsBasis}
 use Rattle.om_matroid.proofs.ListLaws.{length_of_part}
 use Rattle.om_matroid.proofs.WalkLaws.{each_set}
 

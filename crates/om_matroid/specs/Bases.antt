@@ -2,16 +2,10 @@
 --
 -- Reference: Björner, Las Vergnas, Sturmfels, White and Ziegler, Oriented Matroids, chapter 3.
 use Rattle.std.specs.Prelude.{ℕ, ◌≡◌, ◌≢◌, ◌≤◌, List, [], ◌∷◌, length}
-use Rattle.om_signs.specs.declared.sign.Sign.TheVariants.{Zero}
+use Rattle.om_chirotope.specs.ThreeTerm.{IsBasis}
 use Rattle.om_subsets.specs.Subsets.{IsSubsetFrom, IsMember, IsPartOf, with_element, without_element}
 use Rattle.om_subsets.specs.Lists.{IsBefore}
-use Rattle.om_chirotope.specs.Map.{SignMap, value_of}
-
--- a basis: an increasing list of as many elements as the rank, with a nonzero value
-pub record IsBasis (m : SignMap) (b : List ℕ) : Type 0 where
-  pub list : IsSubsetFrom 1 m.elements b
-  pub size : length b ≡ m.rank
-  pub nonzero : value_of m b ≢ Zero
+use Rattle.om_chirotope.specs.Map.{SignMap}
 
 -- contained in some basis
 abbrev pub IsIndependent : SignMap → List ℕ → Type 0

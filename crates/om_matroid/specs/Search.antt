@@ -3,7 +3,7 @@ use Rattle.std.specs.Prelude.{ℕ, List}
 use Rattle.om_subsets.specs.Subsets.{AreApart, IsPartOf}
 use Rattle.om_subsets.specs.Lists.{IsBefore}
 use Rattle.om_chirotope.specs.Map.{SignMap}
-use Rattle.om_matroid.specs.Bases.{IsBasis}
+use Rattle.om_chirotope.specs.ThreeTerm.{IsBasis}
 
 -- a basis that contains the one set and has no element of the other
 pub record IsBasisBetween (m : SignMap) (inside outside b : List ℕ) : Type 0 where

@@ -2,7 +2,8 @@
 
 ghost use Rattle.std.specs.Prelude.{◌≡◌, ◌≤◌, ◌↔◌, IsTrue};
 ghost use Rattle.om_subsets.specs.Subsets.{IsMember};
-ghost use Rattle.om_matroid.specs.Bases.{IsBasis, IsExchange, IsLeastExchange};
+ghost use Rattle.om_matroid.specs.Bases.{IsExchange, IsLeastExchange};
+ghost use Rattle.om_chirotope.specs.ThreeTerm.{IsBasis};
 
 use super::search::is_basis;
 use om_chirotope::Chirotope;

@@ -4,7 +4,8 @@ ghost use Rattle.std.specs.Prelude.{ℕ, List};
 ghost use Rattle.om_subsets.specs.Subsets.{IsMember, with_element, without_element};
 ghost use Rattle.om_chirotope.specs.Map.{SignMap};
 ghost use Rattle.om_chirotope.specs.Chirotope.{IsChirotope};
-ghost use Rattle.om_matroid.specs.Bases.{IsBasis, IsExchange};
+ghost use Rattle.om_matroid.specs.Bases.{IsExchange};
+ghost use Rattle.om_chirotope.specs.ThreeTerm.{IsBasis};
 
 /// Exchange of bases: for bases b and c of a chirotope, and an element e of b that is not in c, some element f of c that is
 /// not in b takes the place of e in b. Symmetric exchange: some such f does, while e takes the place of f in c.

@@ -1,7 +1,7 @@
 //! The walk over the sets of as many elements as the rank, in lexicographic order.
 
 ghost use Rattle.std.specs.Prelude.{◌≡◌, ◌↔◌, ℕ, List, IsTrue, IsNone, IfSome};
-ghost use Rattle.om_matroid.specs.Bases.{IsBasis};
+ghost use Rattle.om_chirotope.specs.ThreeTerm.{IsBasis};
 ghost use Rattle.om_matroid.specs.Search.{IsBasisBetween, IsFirstBetween};
 
 use om_chirotope::Chirotope;

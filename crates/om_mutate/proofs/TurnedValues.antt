@@ -8,7 +8,7 @@ use Rattle.std.proofs.lemmas.Bool.{cases_eq}
 use Rattle.std.proofs.lemmas.List.{get_or-set_other}
 use Rattle.om_signs.specs.declared.sign.Sign.TheVariants.{Zero}
 use Rattle.om_signs.specs.Sign.{opposite}
-use Rattle.om_subsets.specs.Subsets.{IsSubsetFrom, rank_of}
+use Rattle.om_subsets.specs.Subsets.{IsSubsetFrom, rank_of, IsTriple}
 use Rattle.om_subsets.proofs.Order.{same_place}
 use Rattle.om_laws.specs.Members.{IsMember}
 use Rattle.om_laws.specs.Sorting.{IsElement, IsIncreasing, IsTuple}
@@ -20,7 +20,7 @@ use Rattle.om_chirotope.specs.Map.{SignMap, IsMap, chi_of, value_of}
 use Rattle.om_chirotope.proofs.Theory.{from_tuple}
 use Rattle.om_wiring.proofs.SweepEnds.{IsRising}
 use Rattle.om_wiring.proofs.WiringMaps.{triple_subset, three, swap_first, swap_last, rotated, first_equal}
-use Rattle.om_mutate.specs.Mutations.{flipped, IsTriple}
+use Rattle.om_mutate.specs.Mutations.{flipped}
 use Rattle.om_mutate.proofs.FlipLaws.{flipped_sign}
 
 swap_member : (z x y : ℕ) (cs bs : List ℕ) → IsMember z (cs ++ y ∷ x ∷ bs) → IsMember z (cs ++ x ∷ y ∷ bs)

@@ -37,7 +37,8 @@ use Rattle.om_chirotope.proofs.Circuits.{length-without, parity_sign-suc}
 use Rattle.om_chirotope.proofs.Cocircuits.{sorted_end, insert_with, sign_end, length-with}
 use Rattle.om_chirotope.proofs.InOrder.{value_in_order}
 use Rattle.om_chirotope.proofs.Theory.{theory_chirotope, lawful_with}
-use Rattle.om_matroid.specs.Bases.{IsBasis, IsExchange}
+use Rattle.om_matroid.specs.Bases.{IsExchange}
+use Rattle.om_chirotope.specs.ThreeTerm.{IsBasis}
 use Rattle.om_matroid.proofs.ExchangeLaws.{symmetric_exchange}
 use Rattle.om_matroid.proofs.ListLaws.{subset_without}
 use Rattle.om_denotation.proofs.ChirotopeBridge.{tuples_of, cocircuit_function, cocircuit_supported, cocircuit_list, increasing_subset}

@@ -1,3 +1,4 @@
+pub mod Coordinates
 pub mod Masks
 pub mod Order
 pub mod OrderLaws

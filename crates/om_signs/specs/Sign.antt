@@ -1,4 +1,4 @@
-use Rattle.std.specs.Prelude.{ℕ}
+use Rattle.std.specs.Prelude.{ℕ, Bool, true, false}
 use Rattle.om_signs.specs.declared.sign.Sign.{Sign}
 use Rattle.om_signs.specs.declared.sign.Sign.TheVariants.{Minus, Zero, Plus}
 
@@ -31,3 +31,10 @@ abbrev pub is_minus : Sign → ℕ
 is_minus Minus = 1
 is_minus Zero = 0
 is_minus Plus = 0
+
+-- whether two signs are equal
+abbrev pub equal_signs : Sign → Sign → Bool
+equal_signs Minus Minus = true
+equal_signs Zero Zero = true
+equal_signs Plus Plus = true
+equal_signs _ _ = false

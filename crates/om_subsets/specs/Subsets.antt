@@ -38,6 +38,11 @@ IsSubsetFrom low m [] = Unit {0}
 IsSubsetFrom low zero (x ∷ xs) = ⊥
 IsSubsetFrom low (suc m) (x ∷ xs) = ((x ≡ low) × IsSubsetFrom (low + 1) m xs) ⊎ ((x ≡ low → ⊥) × IsSubsetFrom (low + 1) m (x ∷ xs))
 
+-- an increasing list of three of the elements 1 to n
+pub record IsTriple (n : ℕ) (t : List ℕ) : Type 0 where
+  pub list : IsSubsetFrom 1 n t
+  pub size : length t ≡ 3
+
 -- r numbers in a row
 abbrev pub first_of : ℕ → ℕ → List ℕ
 first_of low zero = []

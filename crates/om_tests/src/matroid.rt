@@ -1,7 +1,7 @@
 //! Chirotopes with a loop, a coloop and parallel elements, and the lowest and the highest rank.
 
 ghost use Rattle.std.specs.Prelude.{◌≡◌, ◌≤◌, ◌↔◌, IsTrue, IfOk};
-ghost use Rattle.om_matroid.specs.Bases.{IsBasis};
+ghost use Rattle.om_chirotope.specs.ThreeTerm.{IsBasis};
 
 use super::maps::PAPPUS;
 use om_chirotope::Chirotope;

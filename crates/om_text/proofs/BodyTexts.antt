@@ -19,7 +19,8 @@ use Rattle.om_text.specs.Words.{is_sign, byte_of}
 use Rattle.om_text.specs.Blocks.{block_of, block_on, are_blocks, blocks_on}
 use Rattle.om_text.specs.Points.{point_of, point_on}
 use Rattle.om_text.specs.Document.{are_signs, is_body_line}
-use Rattle.om_text.specs.Form.{IsShort, IsCoordinate, IsPoint}
+use Rattle.om_text.specs.Form.{IsShort, IsPoint}
+use Rattle.om_signs.specs.Coordinates.{IsCoordinate}
 use Rattle.om_text.specs.Print.{cut, member_lines, block_text, block_lines, spaced, point_lines}
 use Rattle.om_text.proofs.BlockWords.{block_word}
 use Rattle.om_text.proofs.Feeds.{is_one_line}

@@ -9,7 +9,8 @@ use Rattle.std.proofs.lemmas.List.Elements.{All-head, All-tail}
 use Rattle.om_signs.specs.declared.limits.TheConstants.{MAX_COORDINATE}
 use Rattle.om_text.specs.Lines.{has_any}
 use Rattle.om_text.specs.Points.{coordinate, with_three, point_of}
-use Rattle.om_text.specs.Form.{IsCoordinate, IsPoint}
+use Rattle.om_text.specs.Form.{IsPoint}
+use Rattle.om_signs.specs.Coordinates.{IsCoordinate}
 use Rattle.om_text.specs.Print.{text_of, point_lines}
 use Rattle.om_text.proofs.Digits.{signed_within}
 use mir.Syntax.{w64}

@@ -7,7 +7,8 @@ use Rattle.std.specs.List.{list_any}
 use Rattle.std.proofs.lemmas.Slice.Eq.{slice_eq-Decides}
 use Rattle.om_signs.specs.declared.sign.Sign.{Sign}
 use Rattle.om_signs.specs.declared.sign.Sign.TheVariants.{Minus, Zero, Plus}
-use Rattle.om_text.specs.Rows.{same_sign, same_row, distinct}
+use Rattle.om_text.specs.Rows.{same_row, distinct}
+use Rattle.om_signs.specs.Sign.{equal_signs}
 use Rattle.om_text.specs.Reading.{with_member, with_each}
 
 pub either : (b : Bool) → (b ≡ true) ⊎ (b ≡ false)
@@ -19,19 +20,19 @@ both true true h = (refl, refl)
 both true false h = cc
 both false b h = cc
 
-pub same_sign-Decides : (s t : Sign) → Decides (same_sign s t) (s ≡ t)
-same_sign-Decides Minus Minus = (λ _. refl, λ _. refl)
-same_sign-Decides Minus Zero = (λ h. cc, λ h. cc)
-same_sign-Decides Minus Plus = (λ h. cc, λ h. cc)
-same_sign-Decides Zero Minus = (λ h. cc, λ h. cc)
-same_sign-Decides Zero Zero = (λ _. refl, λ _. refl)
-same_sign-Decides Zero Plus = (λ h. cc, λ h. cc)
-same_sign-Decides Plus Minus = (λ h. cc, λ h. cc)
-same_sign-Decides Plus Zero = (λ h. cc, λ h. cc)
-same_sign-Decides Plus Plus = (λ _. refl, λ _. refl)
+pub equal_signs-Decides : (s t : Sign) → Decides (equal_signs s t) (s ≡ t)
+equal_signs-Decides Minus Minus = (λ _. refl, λ _. refl)
+equal_signs-Decides Minus Zero = (λ h. cc, λ h. cc)
+equal_signs-Decides Minus Plus = (λ h. cc, λ h. cc)
+equal_signs-Decides Zero Minus = (λ h. cc, λ h. cc)
+equal_signs-Decides Zero Zero = (λ _. refl, λ _. refl)
+equal_signs-Decides Zero Plus = (λ h. cc, λ h. cc)
+equal_signs-Decides Plus Minus = (λ h. cc, λ h. cc)
+equal_signs-Decides Plus Zero = (λ h. cc, λ h. cc)
+equal_signs-Decides Plus Plus = (λ _. refl, λ _. refl)
 
 pub same_row-Decides : (x y : List Sign) → Decides (same_row x y) (x ≡ y)
-same_row-Decides x y = slice_eq-Decides same_sign-Decides x y (same_row x y) refl
+same_row-Decides x y = slice_eq-Decides equal_signs-Decides x y (same_row x y) refl
 
 -- the members other than y
 abbrev others : List Sign → List (List Sign) → List (List Sign)

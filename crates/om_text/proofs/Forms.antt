@@ -27,7 +27,8 @@ use Rattle.om_text.specs.Heading.{kind_of, numbers, opened, headed, heading, emp
 use Rattle.om_text.specs.Rows.{same_row, distinct}
 use Rattle.om_text.specs.Settings.{in_lexicographic_order, finished}
 use Rattle.om_text.specs.Document.{IsSpelled, are_signs, signs_of_line, members_of_line, all_signs, is_body_line, has_room, is_complete, filled, filled_body}
-use Rattle.om_text.specs.Form.{IsInForm, AreMembersOn, IsShort, AreBlocks, IsCoordinate, IsPoint, ArePointsOn, IsBodyOn, IsMapOn, AreNamesOn}
+use Rattle.om_text.specs.Form.{IsInForm, AreMembersOn, IsShort, AreBlocks, IsPoint, ArePointsOn, IsBodyOn, IsMapOn, AreNamesOn}
+use Rattle.om_signs.specs.Coordinates.{IsCoordinate}
 use Rattle.om_text.specs.Blocks.{position_of, is_dash, with_positions, block_of, block_on, are_blocks, blocks_on}
 use Rattle.om_text.specs.Points.{coordinate, with_three, point_of, point_on}
 use Rattle.om_text.proofs.Distinct.{both}

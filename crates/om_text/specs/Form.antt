@@ -1,11 +1,12 @@
 -- The forms and the limits of a document's value.
 --
 -- Trusted: `parse` promises them, and `print` asks for them.
-use Rattle.std.specs.Prelude.{ℕ, ◌≡◌, ◌≢◌, ◌<◌, ◌≤◌, ◌⊎◌, ℤ, unsigned_abs, List, [], true, length, All, AllPairs}
-use Rattle.om_signs.specs.declared.limits.TheConstants.{MAX_ELEMENTS, MAX_MEMBERS, MAX_VALUES, MAX_BLOCKS, MAX_COORDINATE}
+use Rattle.std.specs.Prelude.{ℕ, ◌≡◌, ◌≢◌, ◌<◌, ◌≤◌, ◌⊎◌, ℤ, List, [], true, length, All, AllPairs}
+use Rattle.om_signs.specs.declared.limits.TheConstants.{MAX_ELEMENTS, MAX_MEMBERS, MAX_VALUES, MAX_BLOCKS}
 use Rattle.om_signs.specs.declared.block.Block.{Block}
 use Rattle.om_signs.specs.declared.sign.Sign.{Sign}
 use Rattle.om_signs.specs.declared.raw_map.RawMap.{RawMap}
+use Rattle.om_signs.specs.Coordinates.{IsCoordinate}
 use Rattle.om_subsets.specs.Subsets.{choose}
 use Rattle.om_text.specs.declared.document.Document.{Document}
 use Rattle.om_text.specs.declared.body.Body.{Body}
@@ -35,10 +36,6 @@ pub record IsShort (b : Block) : Type 0 where
 pub record AreBlocks (bs : List Block) : Type 0 where
   pub few : length bs ≤ MAX_BLOCKS
   pub short : All IsShort bs
-
--- a whole number within the limit
-abbrev pub IsCoordinate : ℤ → Type 0
-IsCoordinate x = unsigned_abs x ≤ unsigned_abs MAX_COORDINATE
 
 -- three of them
 pub record IsPoint (p : List ℤ) : Type 0 where

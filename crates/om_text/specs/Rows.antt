@@ -1,23 +1,16 @@
 -- Lists of sign vectors: the distinct members, and the sorted ones.
 --
 -- Trusted: a document's members are the distinct ones of its lines, and the canonical form has them sorted.
-use Rattle.std.specs.Prelude.{List, [], ◌∷◌, Bool, true, false, cond, not, filter}
+use Rattle.std.specs.Prelude.{List, [], ◌∷◌, Bool, cond, not, filter}
 use Rattle.std.specs.Cmp.Lexicographic.{pointwise}
 use Rattle.std.specs.Ordering.{is_lt}
 use Rattle.om_signs.specs.declared.sign.Sign.{Sign}
-use Rattle.om_signs.specs.declared.sign.Sign.TheVariants.{Minus, Zero, Plus}
 use Rattle.om_signs.specs.Order.{lexicographic}
-
--- whether two signs are equal
-abbrev pub same_sign : Sign → Sign → Bool
-same_sign Minus Minus = true
-same_sign Zero Zero = true
-same_sign Plus Plus = true
-same_sign _ _ = false
+use Rattle.om_signs.specs.Sign.{equal_signs}
 
 -- whether two sign vectors are equal
 abbrev pub same_row : List Sign → List Sign → Bool
-same_row = pointwise same_sign
+same_row = pointwise equal_signs
 
 -- each member once, in the order of their first places
 abbrev pub distinct : List (List Sign) → List (List Sign)

@@ -8,7 +8,7 @@ use mir.Syntax.{w64, w128}
 use mir.Val.{to_z, of_z}
 use Rattle.std.proofs.lemmas.Int.{ints, to_z-of_z, unsigned_abs-mul, fits_signed_mul, fits_signed_from_abs}
 use Rattle.std.proofs.lemmas.Nat.{mul-le}
-use Rattle.om_vectors.specs.WholeVectors.{IsCoordinate}
+use Rattle.om_signs.specs.Coordinates.{IsCoordinate}
 
 -- a number as it is read back from 128 bits
 abbrev pub wide : ℤ → ℤ

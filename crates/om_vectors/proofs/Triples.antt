@@ -7,7 +7,7 @@ use Rattle.std.proofs.Common.{ℕ, ◌≡◌, ◌≢◌, ◌<◌, ◌≤◌, Lis
 use Rattle.std.proofs.lemmas.List.{take_all}
 use Rattle.om_signs.specs.declared.sign.Sign.{Sign}
 use Rattle.om_signs.specs.declared.sign.Sign.TheVariants.{Zero}
-use Rattle.om_subsets.specs.Subsets.{choose, all_subsets, subset_at, rank_of}
+use Rattle.om_subsets.specs.Subsets.{choose, all_subsets, subset_at, rank_of, IsTriple}
 use Rattle.om_subsets.specs.Lists.{IsBefore}
 use Rattle.om_subsets.proofs.Order.{length-subsets_from, rank_from-lt, get_or-rank_from, lexicographic}
 use Rattle.om_subsets.proofs.Statements.{subset_is_increasing}
@@ -15,7 +15,7 @@ use Rattle.om_subsets.specs.Members.{Chosen}
 use Rattle.om_chirotope.specs.Map.{SignMap, chi_of}
 use Rattle.om_chirotope.specs.Chirotope.{IsChirotope}
 use Rattle.om_vectors.specs.WholeVectors.{WholeVector, sign_of}
-use Rattle.om_vectors.specs.Realizations.{triple_sign, signs_map, IsTriple, Realizes, IsFirstOther, IsRankLow}
+use Rattle.om_vectors.specs.Realizations.{triple_sign, signs_map, Realizes, IsFirstOther, IsRankLow}
 use Rattle.om_vectors.proofs.TripleSigns.{bracket, triple_subset, chirotope_of}
 use Rattle.om_vectors.proofs.NumberSigns.{sign_zero}
 

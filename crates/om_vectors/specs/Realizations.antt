@@ -5,7 +5,7 @@ use Rattle.std.specs.Prelude.{ℕ, ◌≡◌, ◌≢◌, ◌-◌, ◌<◌, ◌�
 use Rattle.std.proofs.Math.ListN.{get_or}
 use Rattle.om_signs.specs.declared.sign.Sign.{Sign}
 use Rattle.om_signs.specs.declared.sign.Sign.TheVariants.{Zero}
-use Rattle.om_subsets.specs.Subsets.{IsSubsetFrom, all_subsets}
+use Rattle.om_subsets.specs.Subsets.{all_subsets, IsTriple}
 use Rattle.om_subsets.specs.Lists.{IsBefore}
 use Rattle.om_subsets.specs.Members.{Chosen}
 use Rattle.om_chirotope.specs.Map.{SignMap, chi_of}
@@ -23,11 +23,6 @@ triple_sign vs t = Zero
 -- the map of rank 3 with the signs of the triple products
 abbrev pub signs_map : List WholeVector → SignMap
 signs_map vs = record { rank = 3; elements = length vs; signs = map (triple_sign vs) (all_subsets (length vs) 3) }
-
--- an increasing list of three of the elements 1 to n
-pub record IsTriple (n : ℕ) (t : List ℕ) : Type 0 where
-  pub list : IsSubsetFrom 1 n t
-  pub size : length t ≡ 3
 
 -- the vectors realize the map: there is one for each element, and the triple product of each increasing triple has the sign of the map
 pub record Realizes (vs : List WholeVector) (m : SignMap) : Type 0 where

@@ -1,10 +1,10 @@
 -- Vectors of three whole numbers of any size, the triple product of three of them, and the sign of a whole number.
 --
 -- Reference: Björner, Las Vergnas, Sturmfels, White and Ziegler, Oriented Matroids, chapter 1.
-use Rattle.std.specs.Prelude.{zero, suc, ◌≤◌, ℤ, pos, negsuc, ◌+ℤ◌, ◌-ℤ◌, ◌*ℤ◌, unsigned_abs}
+use Rattle.std.specs.Prelude.{zero, suc, ◌≤◌, ℤ, pos, negsuc, ◌+ℤ◌, ◌-ℤ◌, ◌*ℤ◌}
 use Rattle.om_signs.specs.declared.sign.Sign.{Sign}
 use Rattle.om_signs.specs.declared.sign.Sign.TheVariants.{Minus, Zero, Plus}
-use Rattle.om_signs.specs.declared.limits.TheConstants.{MAX_COORDINATE}
+use Rattle.om_signs.specs.Coordinates.{IsCoordinate}
 
 -- three whole numbers
 pub record WholeVector : Type 0 where
@@ -29,10 +29,6 @@ abbrev pub sign_of : ℤ → Sign
 sign_of (pos zero) = Zero
 sign_of (pos (suc n)) = Plus
 sign_of (negsuc n) = Minus
-
--- a whole number that a vector of the program may have as a coordinate
-abbrev pub IsCoordinate : ℤ → Type 0
-IsCoordinate x = unsigned_abs x ≤ unsigned_abs MAX_COORDINATE
 
 -- a vector of the program
 pub record IsWithinLimit (v : WholeVector) : Type 0 where

@@ -1,6 +1,6 @@
 ghost use Rattle.std.specs.Prelude.{◌≡◌, ◌≢◌, ◌≤◌, ◌↔◌, length, map, IfOk, IfSome, IsNone, IsErrOf};
-ghost use Rattle.om_subsets.specs.Subsets.{all_subsets};
-ghost use Rattle.om_vectors.specs.Realizations.{triple_sign, signs_map, IsTriple, IsRankLow};
+ghost use Rattle.om_subsets.specs.Subsets.{all_subsets, IsTriple};
+ghost use Rattle.om_vectors.specs.Realizations.{triple_sign, signs_map, IsRankLow};
 
 use super::signs_error::SignsError;
 use super::triple_signs::sign_of_triple;

@@ -1,5 +1,6 @@
 ghost use Rattle.std.specs.Prelude.{◌≡◌, ◌≤◌, ◌*ℤ◌, ◌^◌, unsigned_abs};
-ghost use Rattle.om_vectors.specs.WholeVectors.{triple_product, IsCoordinate};
+ghost use Rattle.om_vectors.specs.WholeVectors.{triple_product};
+ghost use Rattle.om_signs.specs.Coordinates.{IsCoordinate};
 
 use super::vector::Vector;
 

@@ -1,6 +1,7 @@
 ghost use Rattle.std.specs.Prelude.{◌≡◌, ◌↔◌, IsTrue};
 ghost use Rattle.std.specs.Option.{SomeIff};
-ghost use Rattle.om_vectors.specs.WholeVectors.{vector_of, zero_vector, IsCoordinate, IsWithinLimit};
+ghost use Rattle.om_vectors.specs.WholeVectors.{vector_of, zero_vector, IsWithinLimit};
+ghost use Rattle.om_signs.specs.Coordinates.{IsCoordinate};
 
 use om_signs::MAX_COORDINATE;
 use std::marker::Model;

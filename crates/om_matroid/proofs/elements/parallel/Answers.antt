@@ -2,7 +2,7 @@ use Rattle.std.proofs.Common.{◌≡◌, ◌≢◌, ◌<◌, ◌↔◌, IsTrue, 
 use Rattle.std.proofs.lemmas.Bool.{false≢true}
 use Rattle.om_subsets.specs.Subsets.{IsMember, choose, subset_at}
 use Rattle.om_subsets.proofs.Walks.{at_next, list_at}
-use Rattle.om_matroid.specs.Bases.{IsBasis}
+use Rattle.om_chirotope.specs.ThreeTerm.{IsBasis}
 use Rattle.om_matroid.proofs.ParallelLaws.{IsSeenBefore, HasBoth, seen_more, not_parallel, parallel_at_last, loop_not_parallel}
 use Rattle.om_matroid.proofs.WalkLaws.{HasNoneBefore}
 use Rattle.om_matroid.proofs.elements.parallel.Goals as goal

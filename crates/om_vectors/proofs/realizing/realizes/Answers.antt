@@ -1,7 +1,7 @@
 use Rattle.std.proofs.Common.{◌≡◌, ◌≤◌, ◌<◌, arith, below_more, refl, rules, subst, sym, ◌∙◌}
-use Rattle.om_subsets.specs.Subsets.{choose}
+use Rattle.om_subsets.specs.Subsets.{choose, IsTriple}
 use Rattle.om_subsets.proofs.Walks.{at_first_of, at_next, list_at}
-use Rattle.om_vectors.specs.Realizations.{IsTriple, IsFirstOther}
+use Rattle.om_vectors.specs.Realizations.{IsFirstOther}
 use Rattle.om_vectors.proofs.Triples.{HasItsSign, held_all, other_found, realized_triple, realizes_from}
 use Rattle.om_vectors.proofs.realizing.realizes.Goals as goal
 

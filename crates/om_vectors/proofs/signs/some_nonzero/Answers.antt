@@ -1,8 +1,7 @@
 use Rattle.std.proofs.Common.{◌≡◌, ◌≢◌, ◌≤◌, ◌<◌, arith, below_more, length, refl, rules, subst, sym, ◌∙◌}
 use Rattle.om_signs.specs.declared.sign.Sign.TheVariants.{Zero}
-use Rattle.om_subsets.specs.Subsets.{choose}
+use Rattle.om_subsets.specs.Subsets.{choose, IsTriple}
 use Rattle.om_subsets.proofs.Walks.{at_next, list_at}
-use Rattle.om_vectors.specs.Realizations.{IsTriple}
 use Rattle.om_vectors.proofs.Triples.{HasSignZero, held_all, low_rank_from, rank_not_low}
 use Rattle.om_vectors.proofs.signs.some_nonzero.Goals as goal
 
