@@ -3,8 +3,7 @@
 -- Main results: the chirotope of a representation denotes the same (elements_of, same_of); a document as itself (own_converted); a list whose chirotope is
 -- too wide (wide_answered, wide_chirotope); a document as a
 -- chirotope (chirotope_made); lists that are made by way of a chirotope (circuits_made, cocircuits_made, covectors_made), and those with too many
--- members (many_circuits, many_cocircuits, many_covectors); covectors as cocircuits (minimal_made); a representation of one of some kinds (one_of_two,
--- one_of_three).
+-- members (many_circuits, many_cocircuits, many_covectors); covectors as cocircuits (minimal_made); a representation of one of two kinds (one_of_two).
 use Rattle.std.specs.Prelude.{ℕ, ◌≡◌, ◌↔◌, ◌⊎◌, true, false, List, [], length, refl}
 use Rattle.std.specs.List.{Contains}
 use Rattle.std.proofs.Common.{sym, ◌∙◌, ap, subst, arith, inl, inr}
@@ -219,14 +218,9 @@ minimal_made c s e made form axioms count lengths those same =
     members : AreAllOf (IsOfLeastSupport (IsCovectorOfCovectors c)) s.members
     members = least_all (IsCovectorOfCovectors c) c.members given s.members those
 
--- ---- a representation of one of some kinds
+-- ---- a representation of one of two kinds
 
 module _ (Q : Representation → Type 0) (r : Representation) where
   pub one_of_two : {A B : Type 0} (f : A → Representation) (g : B → Representation) → ((a : A) → Q (f a)) → ((b : B) → Q (g b)) → ((a : A) × (r ≡ f a)) ⊎ ((b : B) × (r ≡ g b)) → Q r
   one_of_two f g p q (inl (a, is)) = subst Q (sym is) (p a)
   one_of_two f g p q (inr (b, is)) = subst Q (sym is) (q b)
-
-  pub one_of_three : {A B C : Type 0} (f : A → Representation) (g : B → Representation) (h : C → Representation) → ((a : A) → Q (f a)) → ((b : B) → Q (g b)) → ((c : C) → Q (h c)) → ((a : A) × (r ≡ f a)) ⊎ (((b : B) × (r ≡ g b)) ⊎ ((c : C) × (r ≡ h c))) → Q r
-  one_of_three f g h p q s (inl (a, is)) = subst Q (sym is) (p a)
-  one_of_three f g h p q s (inr (inl (b, is))) = subst Q (sym is) (q b)
-  one_of_three f g h p q s (inr (inr (c, is))) = subst Q (sym is) (s c)

@@ -58,9 +58,8 @@ fn to_circuits(alloc: Global, representation: Representation) -> Result<Answer, 
         Representation::Circuits(circuits) => Ok(Answer::Document(circuits_document(
             alloc, circuits,
         ))),
-        Representation::Chirotope(_)
-        | Representation::Cocircuits(_)
-        | Representation::Covectors(_) => {
+        Representation::Chirotope(chirotope) => list_circuits(alloc, &chirotope),
+        Representation::Cocircuits(_) | Representation::Covectors(_) => {
             match choose_chirotope(alloc, representation) {
                 Ok(chirotope) => list_circuits(alloc, &chirotope),
                 Err(why) => why.width_answer(),
@@ -89,12 +88,11 @@ fn to_cocircuits(alloc: Global, representation: Representation) -> Result<Answer
             Ok(Answer::Document(cocircuits_document(alloc, cocircuits)))
         }
         Representation::Covectors(covectors) => list_minimal(alloc, &covectors),
-        Representation::Chirotope(_) | Representation::Circuits(_) => {
-            match choose_chirotope(alloc, representation) {
-                Ok(chirotope) => list_cocircuits(alloc, &chirotope),
-                Err(why) => why.width_answer(),
-            }
-        }
+        Representation::Chirotope(chirotope) => list_cocircuits(alloc, &chirotope),
+        Representation::Circuits(_) => match choose_chirotope(alloc, representation) {
+            Ok(chirotope) => list_cocircuits(alloc, &chirotope),
+            Err(why) => why.width_answer(),
+        },
     }
 }
 
@@ -117,9 +115,8 @@ fn to_covectors(alloc: Global, representation: Representation) -> Result<Answer,
         Representation::Covectors(covectors) => Ok(Answer::Document(covectors_document(
             alloc, covectors,
         ))),
-        Representation::Chirotope(_)
-        | Representation::Circuits(_)
-        | Representation::Cocircuits(_) => {
+        Representation::Chirotope(chirotope) => list_covectors(alloc, &chirotope),
+        Representation::Circuits(_) | Representation::Cocircuits(_) => {
             match choose_chirotope(alloc, representation) {
                 Ok(chirotope) => list_covectors(alloc, &chirotope),
                 Err(why) => why.width_answer(),

@@ -1,10 +1,8 @@
-use Rattle.std.specs.Prelude.{◌≡◌, false, refl}
+use Rattle.std.specs.Prelude.{refl}
 use Rattle.std.proofs.lemmas.Result.{IfOk-weaker}
 use Rattle.om_answer.specs.declared.axiom_system.AxiomSystem.TheVariants as kind
-use Rattle.om_program.specs.declared.representation.Representation.TheVariants as representation
-use Rattle.om_program.specs.Conversions.{has_kind, is_direct}
 use Rattle.om_program.specs.Documents.{document_of, cocircuits_document}
-use Rattle.om_program.proofs.ConversionLaws.{own_converted, from_chirotope, wide_answered, one_of_two}
+use Rattle.om_program.proofs.ConversionLaws.{own_converted, from_chirotope, wide_answered}
 use Rattle.om_program.proofs.conversion.to_cocircuits.Goals as goal
 
 pub returns-in-Cocircuits : goal.returns-in-Cocircuits
@@ -17,12 +15,8 @@ returns-in-Covectors c = rw c.in-Covectors.is c.list_minimal.ensures
 
 pub returns-in-Ok : goal.returns-in-Ok
 returns-in-Ok c =
-    let other = one_of_two (λ r. has_kind kind.Cocircuits (document_of r).body ≡ false) c.args.representation (λ s. representation.Chirotope s) (λ s. representation.Circuits s) (λ s. refl) (λ s. refl) c.in-Chirotope.is in
     let e = c.in-Ok.ensures in
-    IfOk-weaker _ _ _ (λ a from. from_chirotope kind.Cocircuits c.args.representation c.in-Ok.chirotope e.chosen other e.kept a from) c.list_cocircuits.ensures
+    IfOk-weaker _ _ _ (λ a from. from_chirotope kind.Cocircuits c.args.representation c.in-Ok.chirotope e.chosen (rw c.in-Circuits.is refl) e.kept a from) c.list_cocircuits-in-Ok.ensures
 
 pub returns-in-Err : goal.returns-in-Err
-returns-in-Err c =
-    let other = one_of_two (λ r. has_kind kind.Cocircuits (document_of r).body ≡ false) c.args.representation (λ s. representation.Chirotope s) (λ s. representation.Circuits s) (λ s. refl) (λ s. refl) c.in-Chirotope.is in
-    let way = one_of_two (λ r. is_direct kind.Cocircuits (document_of r).body ≡ false) c.args.representation (λ s. representation.Chirotope s) (λ s. representation.Circuits s) (λ s. refl) (λ s. refl) c.in-Chirotope.is in
-    IfOk-weaker _ _ _ (λ a same. wide_answered kind.Cocircuits (document_of c.args.representation) c.in-Err.why a other way c.in-Err.ensures.refused same) c.width_answer.ensures
+returns-in-Err c = IfOk-weaker _ _ _ (λ a same. wide_answered kind.Cocircuits (document_of c.args.representation) c.in-Err.why a (rw c.in-Circuits.is refl) (rw c.in-Circuits.is refl) c.in-Err.ensures.refused same) c.width_answer.ensures
