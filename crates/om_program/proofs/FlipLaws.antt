@@ -1,12 +1,11 @@
--- The set of three elements, and why its triple isn't flipped.
+-- Why the triple of three elements isn't flipped.
 --
--- Main results: no element is above n (within_of_none); the elements of the set (three_elements); a refusal (refused_flip); those of a
--- list whose chirotope is too wide (wide_outside, wide_other_rank).
-use Rattle.std.specs.Prelude.{ℕ, ◌≡◌, ◌+◌, ◌<◌, ◌≤◌, List, [], Some, None, refl}
-use Rattle.std.proofs.Common.{zero, suc, arith, sym, subst, ◌∙◌, inl, inr}
-use Rattle.std.proofs.lemmas.Bool.{cases_lt, lt-ltb, le-ltb, ne_eqb}
-use Rattle.om_subsets.specs.Subsets.{with_element}
-use Rattle.om_subsets.specs.Members.{Chosen, members}
+-- Main results: no element is above n (within_of_none); a refusal (refused_flip); those of a list whose chirotope is too wide (wide_outside,
+-- wide_other_rank).
+use Rattle.std.specs.Prelude.{ℕ, ◌≡◌, ◌≤◌, List, Some, None, refl}
+use Rattle.std.proofs.Common.{sym, subst, ◌∙◌, inl, inr}
+use Rattle.std.proofs.lemmas.Bool.{cases_lt, lt-ltb, le-ltb}
+use Rattle.om_subsets.specs.Members.{Chosen}
 use Rattle.om_chirotope.specs.Map.{SignMap}
 use Rattle.om_mutate.specs.declared.flip_refused.FlipRefused.{FlipRefused}
 use Rattle.om_mutate.specs.declared.flip_refused.FlipRefused.TheVariants as why
@@ -24,20 +23,6 @@ use Rattle.om_program.specs.RankThree.{IsForChirotope, for_chirotope}
 use Rattle.om_program.specs.Widths.{IsUnchosen, IsRankLine}
 use Rattle.om_program.proofs.ConversionLaws.{elements_of}
 use Rattle.om_program.proofs.WidthLaws.{rank_refused}
-
-pub no_members : (e m : ℕ) → members 0 e m ≡ []
-no_members e zero = refl
-no_members e (suc m) = no_members (e + 1) m
-
-pub three_elements : (a b c : ℕ) → a < b → b < c → with_element c (with_element b (with_element a [])) ≡ triple_of a b c
-three_elements a b c l k =
-    let ba : b ≡ a → ⊥ = omega arith in
-    let ca : c ≡ a → ⊥ = omega arith in
-    let cb : c ≡ b → ⊥ = omega arith in
-    let ab : a ≤ b = omega arith in
-    let ac : a ≤ c = omega arith in
-    let bc : b ≤ c = omega arith in
-    rw (ne_eqb b a ba, le-ltb b a ab) (rw (ne_eqb c a ca, le-ltb c a ac) (rw (ne_eqb c b cb, le-ltb c b bc) refl))
 
 pub within_of_none : (n a b c : ℕ) → first_above n (triple_of a b c) ≡ None → c ≤ n
 within_of_none n a b c none = elim (cases_lt n c) [

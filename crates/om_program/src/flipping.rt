@@ -1,6 +1,6 @@
 //! The flip of three elements of a chirotope.
 
-ghost use Rattle.std.specs.Prelude.{◌≡◌, ◌≤◌, IfOk, None};
+ghost use Rattle.std.specs.Prelude.{◌≡◌, IfOk};
 ghost use Rattle.om_program.specs.Flips.{AreIncreasing, IsFlip, IsFlipOfMap, flip_refusal, triple_of};
 ghost use Rattle.om_program.specs.Operations.{first_above};
 ghost use Rattle.om_program.specs.Represented.{IsMeantFor};
@@ -12,7 +12,7 @@ use crate::representation::Representation;
 use om_answer::Line;
 use om_chirotope::Chirotope;
 use om_mutate::{FlipRefused, flip};
-use om_signs::{MAX_ELEMENTS, NoMemory};
+use om_signs::NoMemory;
 use om_subsets::Subset;
 use std::alloc::Global;
 
@@ -50,7 +50,7 @@ fn flip_triple_of(alloc: Global, chirotope: Chirotope, a: u8, b: u8, c: u8) -> A
     if let Some(e) = place_above(n, a, b, c) {
         return Answer::Line(Line::RefusedPlace { e });
     }
-    match flip(chirotope, subset_of(n, a, b, c)) {
+    match flip(chirotope, Subset::triple(a, b, c, n)) {
         Ok(turned) => Answer::Document(map_document(alloc, turned)),
         Err(bad) => Answer::Line(flip_refusal(bad.why)),
     }
@@ -69,17 +69,6 @@ fn place_above(n: u8, a: u8, b: u8, c: u8) -> Option<u8>
     } else {
         None
     }
-}
-
-/// The set of three elements of 1 to n, which are strictly increasing.
-fn subset_of(n: u8, a: u8, b: u8, c: u8) -> Subset
-    requires increasing { AreIncreasing a b c }
-    requires within { c ≤ n }
-    requires few { n ≤ MAX_ELEMENTS }
-    ensures n { result.n ≡ n }
-    ensures elements { result.elements ≡ triple_of a b c }
-{
-    Subset::from_mask(0, n).with(a).with(b).with(c)
 }
 
 /// The line that says why a triple can't be flipped.

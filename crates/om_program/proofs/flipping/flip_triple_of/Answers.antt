@@ -1,8 +1,9 @@
 use Rattle.std.specs.Prelude.{ℕ, ◌≡◌, ◌≤◌, List, length, None}
-use Rattle.std.proofs.Common.{refl, sym, ap, subst, ◌∙◌}
+use Rattle.std.proofs.Common.{refl, sym, ap, subst, ◌∙◌, arith, rules}
 use Rattle.om_signs.specs.declared.limits.TheConstants.{MAX_ELEMENTS, MAX_VALUES}
 use Rattle.om_subsets.specs.Subsets.{choose}
 use Rattle.om_chirotope.specs.Map.{SignMap}
+use Rattle.om_certificate.proofs.Triples.{increasing_triple}
 use Rattle.om_mutate.specs.Mutations.{flipped, IsMutation}
 use Rattle.om_program.specs.Answers.{says}
 use Rattle.om_program.specs.Documents.{map_document}
@@ -12,22 +13,24 @@ use Rattle.om_program.proofs.WidthLaws.{few_of_rank3}
 use Rattle.om_program.proofs.FlipLaws.{within_of_none, refused_flip}
 use Rattle.om_program.proofs.flipping.flip_triple_of.Goals as goal
 
-pub subset_of-requires : goal.subset_of-requires
-subset_of-requires c = record {
-  increasing = c.requires;
-  within = within_of_none c.elements-n.result c.args.a c.args.b c.args.c (sym c.place_above.ensures ∙ c.in_default.is);
-  few = c.elements-n.ensures.high;
-}
+pub triple-requires : goal.triple-requires
+triple-requires c =
+    let within = within_of_none c.elements-n.result c.args.a c.args.b c.args.c (sym c.place_above.ensures ∙ c.in_default.is) in
+    let low = c.requires.low in
+    let first = c.requires.first in
+    let second = c.requires.second in
+    let few = c.elements-n.ensures.high in
+    record { small = search rules; x_low = omega arith; x_high = omega arith; y_low = omega arith; y_high = omega arith; z_low = omega arith; z_high = omega arith }
 
 pub flip-requires : goal.flip-requires
-flip-requires c = record { n = c.subset_of.ensures.n ∙ c.elements-n.ensures.value; size = ap length c.subset_of.ensures.elements }
+flip-requires c = record { n = c.triple.ensures.n ∙ c.elements-n.ensures.value; size = ap length (c.triple.ensures.elements ∙ increasing_triple c.args.a c.args.b c.args.c c.requires.first c.requires.second) }
 
 pub map_document-requires : goal.map_document-requires
 map_document-requires c =
     let is = c.in-Ok.ensures.accepted.0 refl in
     let P : SignMap → Type 0 = λ m. choose m.elements m.rank ≤ MAX_VALUES in
     let high = subst (λ n. n ≤ MAX_ELEMENTS) c.elements-n.ensures.value c.elements-n.ensures.high in
-    subst P (sym c.in-Ok.ensures.value) (few_of_rank3 (flipped c.args.chirotope c.subset_of.result.elements) is.0 high)
+    subst P (sym c.in-Ok.ensures.value) (few_of_rank3 (flipped c.args.chirotope c.triple.result.elements) is.0 high)
 
 pub returns-in-Some : goal.returns-in-Some
 returns-in-Some c = outside c.in-Some.e (ap (λ k. first_above k (triple_of c.args.a c.args.b c.args.c)) (sym c.elements-n.ensures.value) ∙ sym c.place_above.ensures ∙ c.in-Some.is)
@@ -35,14 +38,16 @@ returns-in-Some c = outside c.in-Some.e (ap (λ k. first_above k (triple_of c.ar
 pub returns-in-Ok : goal.returns-in-Ok
 returns-in-Ok c =
     let none = ap (λ k. first_above k (triple_of c.args.a c.args.b c.args.c)) (sym c.elements-n.ensures.value) ∙ sym c.place_above.ensures ∙ c.in_default.is in
+    let made = c.triple.ensures.elements ∙ increasing_triple c.args.a c.args.b c.args.c c.requires.first c.requires.second in
     let is = c.in-Ok.ensures.accepted.0 refl in
-    let same = c.in-Ok.ensures.value ∙ ap (flipped c.args.chirotope) c.subset_of.ensures.elements in
-    turned c.map_document.result none is.0 (subst (IsMutation c.args.chirotope) c.subset_of.ensures.elements is.1) (c.map_document.ensures.value ∙ ap map_document same) c.map_document.ensures.form
+    let same = c.in-Ok.ensures.value ∙ ap (flipped c.args.chirotope) made in
+    turned c.map_document.result none is.0 (subst (IsMutation c.args.chirotope) made is.1) (c.map_document.ensures.value ∙ ap map_document same) c.map_document.ensures.form
 
 pub returns-in-Err : goal.returns-in-Err
 returns-in-Err c =
     let none = ap (λ k. first_above k (triple_of c.args.a c.args.b c.args.c)) (sym c.elements-n.ensures.value) ∙ sym c.place_above.ensures ∙ c.in_default.is in
+    let made = c.triple.ensures.elements ∙ increasing_triple c.args.a c.args.b c.args.c c.requires.first c.requires.second in
     let P : List ℕ → Type 0 = λ t. first_above c.args.chirotope.elements t ≡ None in
     let Q : List ℕ → Type 0 = λ t. IsFlipOfMap t c.args.chirotope (says (flip_refusal c.in-Err.bad.why)) in
-    let refused = refused_flip c.args.chirotope c.subset_of.result c.in-Err.bad.why (subst P (sym c.subset_of.ensures.elements) none) c.in-Err.ensures.refused in
-    rw c.flip_refusal.ensures (subst Q c.subset_of.ensures.elements refused)
+    let refused = refused_flip c.args.chirotope c.triple.result c.in-Err.bad.why (subst P (sym made) none) c.in-Err.ensures.refused in
+    rw c.flip_refusal.ensures (subst Q made refused)
