@@ -8,7 +8,8 @@ use Rattle.std.proofs.Common.{get_or, take, drop, zero, suc, arith, ap, subst, s
 use Rattle.std.proofs.lemmas.Bool.{both_ways}
 use Rattle.std.proofs.lemmas.List.{length-take-le, take-take, get_or-take, take_at, get_or_at, take-append-drop, drop_more, get_or_default}
 use Rattle.std.proofs.lemmas.List.Folds.{list_any_at, list_any_none}
-use Rattle.om_program.specs.Words.{Begins, IsFault, at_word}
+use Rattle.om_text.specs.Fault.{Begins}
+use Rattle.om_program.specs.Words.{IsFault, at_word}
 use Rattle.om_program.specs.Readings.{EachFits}
 
 -- the first words fit

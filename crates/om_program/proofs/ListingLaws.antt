@@ -11,6 +11,7 @@ use Rattle.std.proofs.lemmas.List.{take_more, take_all, set_at, length_push}
 use Rattle.std.proofs.lemmas.List.Elements.{filter_map-append}
 use Rattle.om_signs.specs.declared.limits.TheConstants.{MAX_ELEMENTS}
 use Rattle.om_signs.specs.declared.sign.Sign.TheVariants.{Plus}
+use Rattle.om_text.specs.Fault.{Begins}
 use Rattle.om_paint.specs.declared.colour.Colour.{Colour}
 use Rattle.om_paint.specs.declared.colour.Colour.TheVariants.{White}
 use Rattle.om_lexext.specs.declared.signed.Signed.{Signed}
@@ -18,7 +19,7 @@ use Rattle.om_program.specs.declared.limits.TheConstants.{MAX_LISTED}
 use Rattle.om_program.specs.declared.usage.Usage.{Usage}
 use Rattle.om_program.specs.declared.colouring.Colouring.{Colouring}
 use Rattle.om_program.specs.declared.leading.Leading.{Leading}
-use Rattle.om_program.specs.Words.{IsElement, Begins, IsFault, at_word, at_end, HasValue, IsRead}
+use Rattle.om_program.specs.Words.{IsElement, IsFault, at_word, at_end, HasValue, IsRead}
 use Rattle.om_program.specs.Readings.{EachFits}
 use Rattle.om_program.specs.Triples.{IsElementAt}
 use Rattle.om_program.specs.Listings.{padded, colour_of, colours_of, AreColouring, signed_of, is_leading, AreLeading}

@@ -15,10 +15,11 @@ use Rattle.om_text.specs.Form.{IsPoint, IsInForm}
 use Rattle.om_text.specs.Print.{text_of}
 use Rattle.om_vectors.specs.WholeVectors.{WholeVector}
 use Rattle.om_vectors.specs.Realizations.{signs_map}
+use Rattle.om_answer.specs.VerdictText.{vector_numbers}
 use Rattle.om_program.specs.declared.answer.Answer.{Answer}
 use Rattle.om_program.specs.declared.setting.Setting.TheVariants.{Count}
 use Rattle.om_program.specs.Answers.{IsReply, makes}
-use Rattle.om_program.specs.MadeTexts.{coordinates, points_document, tally_lines}
+use Rattle.om_program.specs.MadeTexts.{points_document, tally_lines}
 use Rattle.om_program.specs.MadeInputs.{IsMade, made}
 use Rattle.om_program.specs.Options.{AreSeedAndCount}
 use Rattle.om_program.specs.Tasks.{IsCount}
@@ -46,19 +47,19 @@ made_meant seed count vs t e tally back =
 
 -- ---- the document of the points
 
-pub points_form : (vs : List WholeVector) → 1 ≤ length vs → length vs ≤ MAX_ELEMENTS → All IsPoint (map coordinates vs) → IsInForm (points_document vs)
-points_form vs low high each = record { low = low; high = high; body = record { count = length-map vs coordinates; each = each }; names = inl refl }
+pub points_form : (vs : List WholeVector) → 1 ≤ length vs → length vs ≤ MAX_ELEMENTS → All IsPoint (map vector_numbers vs) → IsInForm (points_document vs)
+points_form vs low high each = record { low = low; high = high; body = record { count = length-map vs vector_numbers; each = each }; names = inl refl }
 
-pub points_more : (vs : List WholeVector) (k : ℕ) (d v : WholeVector) (old new : List (List ℤ)) → k < length vs → v ≡ get_or vs k d → old ≡ map coordinates (take k vs) → new ≡ old ++ coordinates v ∷ [] → new ≡ map coordinates (take (k + 1) vs)
-points_more vs k d v old new l is before pushed = pushed ∙ rw (before, is) (sym (ap (map coordinates) (take_more vs k d l) ∙ map_push (take k vs) (get_or vs k d)))
+pub points_more : (vs : List WholeVector) (k : ℕ) (d v : WholeVector) (old new : List (List ℤ)) → k < length vs → v ≡ get_or vs k d → old ≡ map vector_numbers (take k vs) → new ≡ old ++ vector_numbers v ∷ [] → new ≡ map vector_numbers (take (k + 1) vs)
+points_more vs k d v old new l is before pushed = pushed ∙ rw (before, is) (sym (ap (map vector_numbers) (take_more vs k d l) ∙ map_push (take k vs) (get_or vs k d)))
   where
-    map_push : (ws : List WholeVector) (w : WholeVector) → map coordinates (ws ++ w ∷ []) ≡ map coordinates ws ++ coordinates w ∷ []
+    map_push : (ws : List WholeVector) (w : WholeVector) → map vector_numbers (ws ++ w ∷ []) ≡ map vector_numbers ws ++ vector_numbers w ∷ []
     map_push [] w = refl
-    map_push (u ∷ us) w = ap (λ l. coordinates u ∷ l) (map_push us w)
+    map_push (u ∷ us) w = ap (λ l. vector_numbers u ∷ l) (map_push us w)
 
 -- the same, of a list that is equal to the vectors
-pub points_more_of : (ws vs : List WholeVector) → ws ≡ vs → (k : ℕ) (d v : WholeVector) (old new : List (List ℤ)) → k < length ws → v ≡ get_or ws k d → old ≡ map coordinates (take k vs) → new ≡ old ++ coordinates v ∷ [] → new ≡ map coordinates (take (k + 1) vs)
-points_more_of ws vs e k d v old new l is before pushed = subst (λ us. old ≡ map coordinates (take k us) → new ≡ map coordinates (take (k + 1) us)) e (λ b. points_more ws k d v old new l is b pushed) before
+pub points_more_of : (ws vs : List WholeVector) → ws ≡ vs → (k : ℕ) (d v : WholeVector) (old new : List (List ℤ)) → k < length ws → v ≡ get_or ws k d → old ≡ map vector_numbers (take k vs) → new ≡ old ++ vector_numbers v ∷ [] → new ≡ map vector_numbers (take (k + 1) vs)
+points_more_of ws vs e k d v old new l is before pushed = subst (λ us. old ≡ map vector_numbers (take k us) → new ≡ map vector_numbers (take (k + 1) us)) e (λ b. points_more ws k d v old new l is b pushed) before
 
 pub each_more : (old new : List (List ℤ)) (p : List ℤ) → new ≡ old ++ p ∷ [] → IsPoint p → All IsPoint old → All IsPoint new
 each_more old new p pushed is each = subst (All IsPoint) (sym pushed) (All-push IsPoint old p each is)

@@ -15,7 +15,8 @@ use Rattle.om_subsets.specs.Lists.{IsIncreasing}
 use Rattle.om_subsets.specs.Members.{members, mask_of}
 use Rattle.om_subsets.proofs.Places.{members-zero}
 use Rattle.om_subsets.proofs.Statements.{subset_is_increasing}
-use Rattle.om_program.specs.Words.{IsElement, AreElements, Begins, IsFault, at_word, at_end, HasValue, IsRead}
+use Rattle.om_text.specs.Fault.{Begins}
+use Rattle.om_program.specs.Words.{IsElement, AreElements, IsFault, at_word, at_end, HasValue, IsRead}
 use Rattle.om_program.proofs.WordLaws.{first_of, tail_of}
 use Rattle.om_program.proofs.ArgumentLaws.{no_value, one_some}
 

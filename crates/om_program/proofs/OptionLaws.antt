@@ -10,10 +10,11 @@ use Rattle.std.proofs.lemmas.Bool.{false≢true, leb-true}
 use Rattle.std.proofs.lemmas.List.{take_more, drop_more, drop_all}
 use Rattle.std.proofs.lemmas.List.Folds.{list_any-append}
 use Rattle.om_text.specs.Words.{is_decimal, number_from, up_to}
+use Rattle.om_text.specs.Fault.{Begins}
 use Rattle.om_program.specs.declared.usage.Usage.{Usage}
 use Rattle.om_program.specs.declared.setting.Setting.{Setting}
 use Rattle.om_program.specs.declared.setting.Setting.TheVariants.{First, BoxSize, Steps, Pivots, Count}
-use Rattle.om_program.specs.Words.{Begins, IsFault, at_word, at_end, HasValue, IsRead}
+use Rattle.om_program.specs.Words.{IsFault, at_word, at_end, HasValue, IsRead}
 use Rattle.om_program.specs.Readings.{EachFits, IsReadBehind}
 use Rattle.om_program.specs.Options.{from_least, option_text, least_number, greatest_number, given_number, is_given, is_option, AreOptions, number_of, default_number, number_within, AreSet, AreSeedAndCount, budgets_of}
 use Rattle.om_program.proofs.ArgumentLaws.{no_value, none_some, one_some}

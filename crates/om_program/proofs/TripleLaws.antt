@@ -6,8 +6,9 @@ use Rattle.std.specs.Prelude.{ℕ, ◌≡◌, ◌<◌, ◌≤◌, ◌+◌, ◌-�
 use Rattle.std.specs.Fmt.{decimal}
 use Rattle.std.proofs.Common.{get_or, zero, suc, arith, ap, subst, sym, ◌∙◌, lit≤}
 use Rattle.om_signs.specs.declared.limits.TheConstants.{MAX_ELEMENTS}
+use Rattle.om_text.specs.Fault.{Begins}
 use Rattle.om_program.specs.declared.usage.Usage.{Usage}
-use Rattle.om_program.specs.Words.{IsElement, Begins, IsFault, at_word, at_end, HasValue, IsRead}
+use Rattle.om_program.specs.Words.{IsElement, IsFault, at_word, at_end, HasValue, IsRead}
 use Rattle.om_program.specs.Triples.{AreTriple, IsElementWithin, IsElementAt}
 use Rattle.om_program.proofs.WordLaws.{tail_of}
 use Rattle.om_program.proofs.ArgumentLaws.{no_value, none_some, one_some}

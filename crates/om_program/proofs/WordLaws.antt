@@ -6,6 +6,7 @@ use Rattle.std.specs.Prelude.{ℕ, ◌≡◌, ◌<◌, ◌≤◌, ◌+◌, lengt
 use Rattle.std.proofs.Common.{get_or, drop, take, ◌-◌, arith, ap, subst, sym, ◌∙◌}
 use Rattle.std.proofs.Math.Seq.{take-length}
 use Rattle.om_signs.specs.declared.sign.Sign.{Sign}
+use Rattle.om_text.specs.Fault.{Begins}
 use Rattle.om_answer.specs.declared.axiom_system.AxiomSystem.{AxiomSystem}
 use Rattle.om_answer.specs.declared.axiom_system.AxiomSystem.TheVariants as kind
 use Rattle.om_decide.specs.declared.budgets.Budgets.{Budgets}
@@ -20,7 +21,7 @@ use Rattle.om_program.specs.declared.verb.Verb.TheVariants as verb
 use Rattle.om_program.proofs.VerbLaws.{same_verb}
 use Rattle.om_program.specs.Listings.{AreColouring, AreLeading}
 use Rattle.om_program.specs.Triples.{AreTriple}
-use Rattle.om_program.specs.Words.{Names, AreNamed, Spells, NamesSystem, IsElement, AreElements, AreNone, IsAlone, AreArguments, kind_word, verb_word, verb_of, AreCommand, Begins, IsFault, IsUsage, at_word, at_end, HasValue, IsRead}
+use Rattle.om_program.specs.Words.{Names, AreNamed, Spells, NamesSystem, IsElement, AreElements, AreNone, IsAlone, AreArguments, kind_word, verb_word, verb_of, AreCommand, IsFault, IsUsage, at_word, at_end, HasValue, IsRead}
 
 abbrev pub tail_of : List (List ℕ) → List (List ℕ)
 tail_of [] = []

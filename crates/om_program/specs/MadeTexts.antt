@@ -1,19 +1,16 @@
 -- The text of vectors that a number gives, and of their summary.
-use Rattle.std.specs.Prelude.{ℕ, ℤ, List, [], ◌∷◌, ◌++◌, codes, length, map}
+use Rattle.std.specs.Prelude.{ℕ, List, [], ◌∷◌, ◌++◌, codes, length, map}
 use Rattle.std.specs.Fmt.{decimal}
 use Rattle.om_text.specs.declared.document.Document.{Document}
 use Rattle.om_text.specs.declared.body.Body.TheVariants.{Points}
 use Rattle.om_text.specs.Print.{printed, text_of}
 use Rattle.om_vectors.specs.WholeVectors.{WholeVector}
 use Rattle.om_make.specs.declared.tally.Tally.{Tally}
-
--- the point of a vector
-abbrev pub coordinates : WholeVector → List ℤ
-coordinates v = v.x ∷ v.y ∷ v.z ∷ []
+use Rattle.om_answer.specs.VerdictText.{vector_numbers}
 
 -- the document of points with the coordinates of vectors
 abbrev pub points_document : List WholeVector → Document
-points_document vs = record { elements = length vs; body = Points (map coordinates vs); names = [] }
+points_document vs = record { elements = length vs; body = Points (map vector_numbers vs); names = [] }
 
 -- a line for each count, and that both lists are, converted back, equal to the normal chirotope
 abbrev pub tally_lines : Tally → List (List ℕ)

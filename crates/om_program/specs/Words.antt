@@ -7,6 +7,7 @@ use Rattle.om_signs.specs.declared.sign.Sign.{Sign}
 use Rattle.om_subsets.specs.Subsets.{IsSubsetFrom}
 use Rattle.om_subsets.specs.Members.{mask_of}
 use Rattle.om_text.specs.Words.{is_sign, sign_of_byte}
+use Rattle.om_text.specs.Fault.{Begins}
 use Rattle.om_answer.specs.declared.axiom_system.AxiomSystem.{AxiomSystem}
 use Rattle.om_answer.specs.declared.axiom_system.AxiomSystem.TheVariants as kind
 use Rattle.om_program.specs.Options.{AreBudgets, AreSeedAndCount, AreLines}
@@ -127,10 +128,6 @@ pub record Names (words : List (List ℕ)) (task : Task) : Type 0 where
 -- the words are a command
 abbrev pub AreCommand : List (List ℕ) → Type 0
 AreCommand words = (task : Task) × Names words task
-
--- in a language of lists of words: some list of it, of any length, begins with these words
-abbrev pub Begins : (List (List ℕ) → Type 0) → List (List ℕ) → Type 0
-Begins Language words = (more : List (List ℕ)) × Language (words ++ more)
 
 -- In a language of lists of words, word K, counted from 1, is the one at fault: with the words before it some list begins, and together
 -- with it none does. Where some list begins with all words together, and they are none themselves, it is the word after the last.

@@ -3,7 +3,8 @@
 ghost use Rattle.std.specs.Prelude.{◌≡◌, ◌≤◌, ◌++◌, ◌∷◌, [], All, IfOk, OnOk, length, decimal, map};
 ghost use Rattle.om_text.specs.Form.{IsPoint};
 ghost use Rattle.om_text.specs.Print.{text_of};
-ghost use Rattle.om_program.specs.MadeTexts.{made_text, points_document, coordinates, tally_lines};
+ghost use Rattle.om_answer.specs.VerdictText.{vector_numbers};
+ghost use Rattle.om_program.specs.MadeTexts.{made_text, points_document, tally_lines};
 
 use om_answer::pieces::{push, push_decimal, push_line_feed};
 use om_make::Tally;
@@ -27,7 +28,7 @@ pub fn print_made(alloc: Global, vectors: &Word, tally: &Tally) -> Result<Vec<u8
 /// The document of points with the coordinates of vectors.
 fn points_document(alloc: Global, vectors: &Word) -> Result<Document, NoMemory>
     ensures value { IfOk result (λ d. d ≡ points_document vectors.now) }
-    ensures each { OnOk result (All IsPoint (map coordinates vectors.now)) }
+    ensures each { OnOk result (All IsPoint (map vector_numbers vectors.now)) }
     ensures few { OnOk result (length vectors.now ≤ MAX_ELEMENTS) }
 {
     let mut points = List::new(alloc);
@@ -43,8 +44,8 @@ fn points_document(alloc: Global, vectors: &Word) -> Result<Document, NoMemory>
 
 /// Adds the point with the coordinates of a vector.
 fn push_point(points: &mut List<[i64; 3]>, v: &Vector) -> Result<(), NoMemory>
-    ensures pushed { OnOk result (points.new ≡ points.old ++ coordinates v.now ∷ []) }
-    ensures point { OnOk result (IsPoint (coordinates v.now)) }
+    ensures pushed { OnOk result (points.new ≡ points.old ++ vector_numbers v.now ∷ []) }
+    ensures point { OnOk result (IsPoint (vector_numbers v.now)) }
 {
     points.push([v.x(), v.y(), v.z()])
 }
