@@ -46,10 +46,10 @@ pub fn answer_input<R: Threads + Sync>(
     requires reading { reads task ≡ Reads.Nothing → ⊥ }
     ensures { IfOk result (TaskMeans task bytes.now) }
 {
-    match task.reads() {
-        Reads::Document => answer_text(rt, alloc, task, bytes),
-        Reads::Claim => answer_claim(rt, alloc, bytes),
-        Reads::Nothing => unreachable!(),
+    match task {
+        Task::Check => answer_claim(rt, alloc, bytes),
+        // each other one that reads an input reads a document
+        _ => answer_text(rt, alloc, task, bytes),
     }
 }
 
