@@ -1,7 +1,9 @@
+//! What the program answers, and how a run ends with it.
+
 ghost use Rattle.std.specs.Prelude.{◌≡◌};
 ghost use Rattle.om_program.specs.Answers.{status_of, status_of_line, status_of_verdict};
 
-use crate::status::Status;
+use super::status::Status;
 use om_answer::Line;
 use om_certificate::Verdict;
 use om_chirotope::Chirotope;

@@ -3,8 +3,8 @@
 ghost use Rattle.std.specs.Prelude.{ℕ, ◌≡◌, ◌↔◌, ◌∷◌, List, map, string_bytes};
 ghost use Rattle.om_program.specs.Words.{IsAlone, IsRead};
 
-use crate::spelling::{element, named_system, spelled};
-use crate::usage::Usage;
+use super::spelling::{element, named_system, spelled};
+use super::usage::Usage;
 use om_answer::AxiomSystem;
 use om_signs::SignVec;
 

@@ -3,8 +3,8 @@
 ghost use Rattle.std.specs.Prelude.{ℕ, ◌≡◌, ◌↔◌, ◌<◌, map, string_bytes};
 ghost use Rattle.om_program.specs.Words.{AreNone, AreElements, IsElement, IsRead};
 
-use crate::spelling::element;
-use crate::usage::Usage;
+use super::spelling::element;
+use super::usage::Usage;
 use om_signs::MAX_ELEMENTS;
 use om_subsets::Subset;
 

@@ -5,8 +5,8 @@ ghost use Rattle.om_program.specs.Chirotopes.{IsChirotopeOf, IsNormalChirotopeOf
 ghost use Rattle.om_program.specs.Documents.{document_of, circuits_document, cocircuits_document, covectors_document};
 ghost use Rattle.om_program.specs.Widths.{IsKept, IsUnchosen};
 
-use crate::representation::Representation;
-use crate::unchosen::Unchosen;
+use super::representation::Representation;
+use super::unchosen::Unchosen;
 use om_chirotope::Chirotope;
 use om_circuits::{Circuits, Cocircuits};
 use om_convert::{

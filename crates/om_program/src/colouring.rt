@@ -4,9 +4,9 @@ ghost use Rattle.std.specs.Prelude.{◌≡◌, map, string_bytes};
 ghost use Rattle.om_program.specs.Words.{IsRead};
 ghost use Rattle.om_program.specs.Listings.{colour_of, colours_of, AreColouring};
 
-use crate::limits::MAX_LISTED;
-use crate::triple::element_at;
-use crate::usage::Usage;
+use super::limits::MAX_LISTED;
+use super::triple::element_at;
+use super::usage::Usage;
 use om_paint::Colour;
 use om_signs::MAX_ELEMENTS;
 

@@ -1,15 +1,17 @@
+//! The words of a command, and the task that they name.
+
 ghost use Rattle.std.specs.Prelude.{◌≡◌, ◌↔◌, ◌∷◌, IfErr, map, string_bytes};
 ghost use Rattle.om_program.specs.Words.{Names, AreNamed, IsUsage};
 
-use crate::argument::only;
-use crate::arguments::{elements, none};
-use crate::colouring::colours_and_element;
-use crate::leading::signed_elements;
-use crate::numbered::{budgets, lines, seed_and_count};
-use crate::task::Task;
-use crate::triple::triple;
-use crate::usage::Usage;
-use crate::verb::{Verb, named_verb};
+use super::argument::only;
+use super::arguments::{elements, none};
+use super::colouring::colours_and_element;
+use super::leading::signed_elements;
+use super::numbered::{budgets, lines, seed_and_count};
+use super::task::Task;
+use super::triple::triple;
+use super::usage::Usage;
+use super::verb::{Verb, named_verb};
 
 /// The task that the words name. `Usage` comes exactly where they name none. It takes no memory.
 pub fn command(words: &[String]) -> Result<Task, Usage>

@@ -6,10 +6,10 @@ ghost use Rattle.om_program.specs.Represented.{IsMeantFor};
 ghost use Rattle.om_program.specs.Widths.{HasFewValues};
 ghost use Rattle.om_program.specs.Conversions.{IsConversion, IsConversionFrom, IsUnlisted};
 
-use crate::answer::Answer;
-use crate::chirotope_choice::choose_chirotope;
-use crate::documents::{circuits_document, cocircuits_document, covectors_document, map_document};
-use crate::representation::Representation;
+use super::answer::Answer;
+use super::chirotope_choice::choose_chirotope;
+use super::documents::{circuits_document, cocircuits_document, covectors_document, map_document};
+use super::representation::Representation;
 use om_answer::{AxiomSystem, Line};
 use om_chirotope::Chirotope;
 use om_convert::{

@@ -5,9 +5,9 @@ ghost use Rattle.om_decide.specs.Verdicts.{AreBudgets};
 ghost use Rattle.om_program.specs.Represented.{IsMeantFor};
 ghost use Rattle.om_program.specs.Decisions.{IsDecision, DecisionMeans};
 
-use crate::answer::Answer;
-use crate::chirotope_choice::choose_chirotope;
-use crate::representation::Representation;
+use super::answer::Answer;
+use super::chirotope_choice::choose_chirotope;
+use super::representation::Representation;
 use om_answer::Line;
 use om_chirotope::Chirotope;
 use om_decide::{Budgets, DecideError, decide};

@@ -8,7 +8,7 @@ ghost use Rattle.om_program.specs.Axioms.{MeetsAxioms};
 ghost use Rattle.om_program.specs.Documents.{document_of, map_document, circuits_document, cocircuits_document, covectors_document};
 ghost use Rattle.om_program.specs.Widths.{HasFewValues};
 
-use crate::representation::Representation;
+use super::representation::Representation;
 use om_chirotope::Chirotope;
 use om_circuits::{Circuits, Cocircuits};
 use om_covectors::Covectors;

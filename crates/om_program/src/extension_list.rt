@@ -4,9 +4,9 @@ ghost use Rattle.std.specs.Prelude.{◌≤◌, IfOk};
 ghost use Rattle.om_program.specs.ExtensionLists.{AreExtensions, AreExtensionsOfMap, IsNumberOfLines};
 ghost use Rattle.om_program.specs.Represented.{IsMeantFor};
 
-use crate::answer::Answer;
-use crate::chirotope_choice::choose_chirotope;
-use crate::representation::Representation;
+use super::answer::Answer;
+use super::chirotope_choice::choose_chirotope;
+use super::representation::Representation;
 use om_answer::Line;
 use om_chirotope::Chirotope;
 use om_localize::{ExtendError, extensions};

@@ -5,10 +5,10 @@ ghost use Rattle.om_program.specs.Flips.{AreIncreasing, IsFlip, IsFlipOfMap, fli
 ghost use Rattle.om_program.specs.Operations.{first_above};
 ghost use Rattle.om_program.specs.Represented.{IsMeantFor};
 
-use crate::answer::Answer;
-use crate::chirotope_choice::choose_chirotope;
-use crate::documents::map_document;
-use crate::representation::Representation;
+use super::answer::Answer;
+use super::chirotope_choice::choose_chirotope;
+use super::documents::map_document;
+use super::representation::Representation;
 use om_answer::Line;
 use om_chirotope::Chirotope;
 use om_mutate::{FlipRefused, flip};

@@ -4,9 +4,9 @@ ghost use Rattle.std.specs.Prelude.{◌≡◌, ◌<◌, map, length, string_byte
 ghost use Rattle.om_program.specs.Words.{IsRead};
 ghost use Rattle.om_program.specs.Listings.{signed_of, has_element, is_among, is_leading, AreLeading};
 
-use crate::limits::MAX_LISTED;
-use crate::options::number_within;
-use crate::usage::Usage;
+use super::limits::MAX_LISTED;
+use super::options::number_within;
+use super::usage::Usage;
 use om_lexext::Signed;
 use om_signs::{MAX_ELEMENTS, Sign};
 

@@ -6,11 +6,11 @@ ghost use Rattle.om_program.specs.LexicalExtensions.{AreLawful, IsLexicalExtensi
 ghost use Rattle.om_program.specs.Operations.{first_above};
 ghost use Rattle.om_program.specs.Represented.{IsMeantFor};
 
-use crate::answer::Answer;
-use crate::chirotope_choice::choose_chirotope;
-use crate::documents::map_document;
-use crate::leading::Leading;
-use crate::representation::Representation;
+use super::answer::Answer;
+use super::chirotope_choice::choose_chirotope;
+use super::documents::map_document;
+use super::leading::Leading;
+use super::representation::Representation;
 use om_answer::Line;
 use om_chirotope::Chirotope;
 use om_lexext::{LexError, Signed, lexical};

@@ -3,7 +3,7 @@
 ghost use Rattle.std.specs.Prelude.{◌≤◌, IfOk};
 ghost use Rattle.om_program.specs.MadeInputs.{IsMade};
 
-use crate::answer::Answer;
+use super::answer::Answer;
 use om_make::{summary, vectors};
 use om_signs::{MAX_DRAWN, NoMemory};
 use std::alloc::Global;

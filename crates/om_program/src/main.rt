@@ -49,12 +49,12 @@ mod usage;
 mod verb;
 mod verification;
 mod wiring_maps;
+mod write_text;
 mod write_usage;
-mod written;
 
-use crate::run::run;
-use crate::status::Status;
 use om_port::{StdSink, StdSource};
+use run::run;
+use status::Status;
 use std::process::ExitCode;
 use std::{env, io};
 

@@ -8,9 +8,9 @@ ghost use Rattle.om_program.specs.Documents.{document_of, circuits_document, coc
 ghost use Rattle.om_program.specs.Operations.{IsLawful, IsMapMade, IsOutcome, TakesOnly, named_elements, first_above};
 ghost use Rattle.om_program.specs.Widths.{HasFewValues};
 
-use crate::operation::Operation;
-use crate::representation::Representation;
-use crate::unmade::Unmade;
+use super::operation::Operation;
+use super::representation::Representation;
+use super::unmade::Unmade;
 use om_chirotope::Chirotope;
 use om_circuits::{Circuits, Cocircuits};
 use om_covectors::Covectors;

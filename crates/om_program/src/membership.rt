@@ -4,8 +4,8 @@ ghost use Rattle.om_program.specs.Covectors.{IsCovectorIn};
 ghost use Rattle.om_program.specs.Represented.{IsMeantFor};
 ghost use Rattle.om_program.specs.Memberships.{IsMembership};
 
-use crate::answer::Answer;
-use crate::representation::Representation;
+use super::answer::Answer;
+use super::representation::Representation;
 use om_answer::Line;
 use om_oriented::Oriented;
 use om_signs::SignVec;

@@ -4,9 +4,9 @@ ghost use Rattle.std.specs.Prelude.{◌∷◌, map, string_bytes};
 ghost use Rattle.om_program.specs.Words.{IsRead};
 ghost use Rattle.om_program.specs.Options.{AreLines, AreBudgets, AreSeedAndCount};
 
-use crate::options::{number_of, number_within, options};
-use crate::setting::Setting;
-use crate::usage::Usage;
+use super::options::{number_of, number_within, options};
+use super::setting::Setting;
+use super::usage::Usage;
 use om_decide::Budgets;
 
 /// The most lines of a listing, from 1 to [`om_signs::MAX_LINES`].

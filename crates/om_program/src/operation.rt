@@ -7,11 +7,11 @@ ghost use Rattle.om_program.specs.Represented.{IsMeantFor};
 ghost use Rattle.om_program.specs.Widths.{HasFewValues};
 ghost use Rattle.om_program.specs.Operations.{IsLawful, IsOperation, named_elements, first_above};
 
-use crate::answer::Answer;
-use crate::documents::document_of;
-use crate::making::make;
-use crate::representation::Representation;
-use crate::unmade::Unmade;
+use super::answer::Answer;
+use super::documents::document_of;
+use super::making::make;
+use super::representation::Representation;
+use super::unmade::Unmade;
 use om_answer::Line;
 use om_signs::{MAX_ELEMENTS, NoMemory};
 use om_subsets::Subset;

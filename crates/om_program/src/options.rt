@@ -4,8 +4,8 @@ ghost use Rattle.std.specs.Prelude.{◌≡◌, ◌≤◌, ◌<◌, ◌+◌, ◌^
 ghost use Rattle.om_program.specs.Readings.{IsReadBehind};
 ghost use Rattle.om_program.specs.Options.{number_within, given_number, is_given, is_option, AreOptions, number_of, greatest_number};
 
-use crate::setting::{Setting, default_number, greatest_number, least_number, option_text};
-use crate::usage::Usage;
+use super::setting::{Setting, default_number, greatest_number, least_number, option_text};
+use super::usage::Usage;
 use om_text::words::unsigned_number;
 
 /// The number from `least` to `greatest` that a word is: decimal digits without a leading zero, save `0` itself.

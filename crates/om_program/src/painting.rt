@@ -6,10 +6,10 @@ ghost use Rattle.om_paint.specs.Paintings.{colouring};
 ghost use Rattle.om_program.specs.Paintings.{HasElement, IsPainting, painted_line};
 ghost use Rattle.om_program.specs.Represented.{IsMeantFor};
 
-use crate::answer::Answer;
-use crate::chirotope_choice::choose_chirotope;
-use crate::colouring::Colouring;
-use crate::representation::Representation;
+use super::answer::Answer;
+use super::chirotope_choice::choose_chirotope;
+use super::colouring::Colouring;
+use super::representation::Representation;
 use om_answer::Line;
 use om_paint::{Colour, Painted, paint};
 use om_signs::NoMemory;

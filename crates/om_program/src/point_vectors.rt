@@ -7,7 +7,7 @@ ghost use Rattle.om_vectors.specs.Realizations.{IsRankLow};
 ghost use Rattle.om_program.specs.Points.{vector_of_point, vectors_of, points_map};
 ghost use Rattle.om_program.specs.Axioms.{IsRefusal};
 
-use crate::unrepresented::Unrepresented;
+use super::unrepresented::Unrepresented;
 use om_answer::Line;
 use om_chirotope::Chirotope;
 use om_signs::MAX_ELEMENTS;

@@ -3,11 +3,11 @@
 ghost use Rattle.std.specs.Prelude.{◌≡◌, IfOk};
 ghost use Rattle.om_program.specs.Answers.{IsReply, text_of};
 
-use crate::answer::Answer;
-use crate::extension_text::print_extensions;
-use crate::hull_text::print_hull;
-use crate::made_text::print_made;
-use crate::mutation_text::print_mutations;
+use super::answer::Answer;
+use super::extension_text::print_extensions;
+use super::hull_text::print_hull;
+use super::made_text::print_made;
+use super::mutation_text::print_mutations;
 use om_answer::{print_line, print_verdict};
 use om_signs::NoMemory;
 use om_text::{print, print_two};

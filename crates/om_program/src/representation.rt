@@ -1,3 +1,5 @@
+//! From a document to the oriented matroid that it gives.
+
 ghost use Rattle.std.specs.Prelude.{ℕ, ◌≡◌, ◌↔◌, ◌≤◌, List, length, IsOk, OnOk, IfOk, IfErr};
 ghost use Rattle.om_signs.specs.declared.sign.Sign.{Sign};
 ghost use Rattle.om_convert.specs.Reading.{IsSetReadError, IsCovReadError};
@@ -10,9 +12,9 @@ ghost use Rattle.om_chirotope.specs.Chirotope.{IsChirotope};
 ghost use Rattle.om_text.specs.Form.{IsMapOn};
 ghost use Rattle.om_program.specs.Documents.{document_of, worked_on};
 
-use crate::point_vectors::chirotope_of_points;
-use crate::unrepresented::Unrepresented;
-use crate::wiring_maps::chirotope_of_wiring;
+use super::point_vectors::chirotope_of_points;
+use super::unrepresented::Unrepresented;
+use super::wiring_maps::chirotope_of_wiring;
 use om_answer::Line;
 use om_chirotope::{Chirotope, MapRefused};
 use om_circuits::{Circuits, Cocircuits, SetRefused};

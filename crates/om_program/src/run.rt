@@ -1,3 +1,5 @@
+//! A whole run: from the words and the source to what the sink takes.
+
 ghost use Rattle.std.specs.Prelude.{◌≡◌, ◌≢◌, ◌⊎◌, ◌≤◌, IfOk, map, string_bytes};
 ghost use Rattle.std.specs.Io.KnownBytes.{Appends, Keeps};
 ghost use Rattle.om_port.specs.Causes.{Rose, TakesSome};
@@ -10,15 +12,15 @@ ghost use Rattle.om_program.specs.Meaning.{TaskMeans};
 ghost use Rattle.om_program.specs.Tasks.{HasLawfulArguments, reads};
 ghost use Rattle.om_program.specs.ValidClaims.{VerdictsAreFoundValid};
 
-use crate::answer::Answer;
-use crate::answering::{answer_alone, answer_input};
-use crate::command::command;
-use crate::print_answer::print_answer;
-use crate::reads::Reads;
-use crate::status::Status;
-use crate::task::Task;
-use crate::write_usage::write_usage;
-use crate::written::written;
+use super::answer::Answer;
+use super::answering::{answer_alone, answer_input};
+use super::command::command;
+use super::print_answer::print_answer;
+use super::reads::Reads;
+use super::status::Status;
+use super::task::Task;
+use super::write_text::write_text;
+use super::write_usage::write_usage;
 use om_answer::Line;
 use om_port::{ReadError, Sink, Source, read_all};
 use om_signs::{MAX_INPUT, NoMemory};
@@ -176,7 +178,7 @@ fn write_answer<K: Sink>(alloc: Global, answer: &Answer, sink: &mut K) -> Status
     ensures later { K.faults sink.old ≤ K.faults sink.new }
 {
     match print_answer(alloc, answer) {
-        Ok(text) => written(sink, text.as_slice(), answer.status()),
+        Ok(text) => write_text(sink, text.as_slice(), answer.status()),
         Err(_) => Status::NoMemory,
     }
 }

@@ -1,3 +1,5 @@
+//! What options give numbers, and the ranges of these.
+
 ghost use Rattle.std.specs.Prelude.{◌≡◌, ◌≤◌};
 ghost use Rattle.om_program.specs.Options.{option_text, least_number, greatest_number, default_number};
 

@@ -5,9 +5,9 @@ ghost use Rattle.om_text.specs.Form.{IsInForm};
 ghost use Rattle.om_program.specs.Represented.{IsMeantFor};
 ghost use Rattle.om_program.specs.Sweeps.{IsSweepRefusal, IsWiringOf, IsWiringOfMap, wiring_document};
 
-use crate::answer::Answer;
-use crate::chirotope_choice::choose_chirotope;
-use crate::representation::Representation;
+use super::answer::Answer;
+use super::chirotope_choice::choose_chirotope;
+use super::representation::Representation;
 use om_answer::Line;
 use om_chirotope::Chirotope;
 use om_signs::{List, NoMemory};

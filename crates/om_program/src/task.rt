@@ -1,9 +1,9 @@
 ghost use Rattle.std.specs.Prelude.{◌≡◌};
 ghost use Rattle.om_program.specs.Tasks.{reads};
 
-use crate::colouring::Colouring;
-use crate::leading::Leading;
-use crate::reads::Reads;
+use super::colouring::Colouring;
+use super::leading::Leading;
+use super::reads::Reads;
 use om_answer::AxiomSystem;
 use om_decide::Budgets;
 use om_signs::SignVec;

@@ -5,9 +5,9 @@ ghost use Rattle.om_text.specs.Form.{IsInForm, IsMapOn};
 ghost use Rattle.om_program.specs.Answers.{says};
 ghost use Rattle.om_program.specs.ThreeTermTests.{IsThreeTermTest, IsTestOfMap, IsNoMap, failure_line};
 
-use crate::answer::Answer;
-use crate::representation::{Representation, represent};
-use crate::unrepresented::Unrepresented;
+use super::answer::Answer;
+use super::representation::{Representation, represent};
+use super::unrepresented::Unrepresented;
 use om_answer::Line;
 use om_signs::{MAX_ELEMENTS, NoMemory, RawMap};
 use om_text::{Body, Document};

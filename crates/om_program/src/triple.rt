@@ -4,8 +4,8 @@ ghost use Rattle.std.specs.Prelude.{ℕ, ◌≡◌, ◌↔◌, ◌<◌, ◌≤�
 ghost use Rattle.om_program.specs.Words.{IsRead};
 ghost use Rattle.om_program.specs.Triples.{AreTriple, IsElementAt, IsElementWithin};
 
-use crate::spelling::element;
-use crate::usage::Usage;
+use super::spelling::element;
+use super::usage::Usage;
 use om_signs::MAX_ELEMENTS;
 
 /// The element from `low` to `high` whose number a word is.

@@ -1,7 +1,7 @@
 ghost use Rattle.std.specs.Prelude.{IfOk};
 ghost use Rattle.om_program.specs.Widths.{IsRankLine, IsWidthAnswer};
 
-use crate::answer::Answer;
+use super::answer::Answer;
 use om_answer::Line;
 use om_signs::NoMemory;
 

@@ -5,12 +5,12 @@ ghost use Rattle.om_signs.specs.declared.limits.TheConstants.{MAX_ELEMENTS};
 ghost use Rattle.om_text.specs.Form.{IsInForm, AreBlocks};
 ghost use Rattle.om_program.specs.Upgrades.{IsUpgrade, IsGiven};
 
-use crate::answer::Answer;
-use crate::documents::document_of;
-use crate::point_vectors::chirotope_of_points;
-use crate::representation::represent;
-use crate::unrepresented::Unrepresented;
-use crate::wiring_maps::wiring_of_blocks;
+use super::answer::Answer;
+use super::documents::document_of;
+use super::point_vectors::chirotope_of_points;
+use super::representation::represent;
+use super::unrepresented::Unrepresented;
+use super::wiring_maps::wiring_of_blocks;
 use om_answer::Line;
 use om_signs::{Block, List, NoMemory};
 use om_text::{Body, Document, Name};

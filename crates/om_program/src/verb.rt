@@ -1,7 +1,9 @@
+//! The first words of commands.
+
 ghost use Rattle.std.specs.Prelude.{◌≡◌, ◌↔◌, string_bytes};
 ghost use Rattle.om_program.specs.Words.{verb_word};
 
-use crate::spelling::is_word;
+use super::spelling::is_word;
 
 /// The first word of a command.
 #[derive(Clone, Copy, Debug, PartialEq, Eq)]

@@ -6,9 +6,9 @@ ghost use Rattle.om_certificate.specs.Validity.{IsWithinLimits};
 ghost use Rattle.om_answer.specs.Claim.{HasEvidenceWithinLimits};
 ghost use Rattle.om_program.specs.Claims.{ClaimMeans, VerdictMeans, EvidenceMeans, valid_line, refusal_line};
 
-use crate::chirotope_choice::choose_chirotope;
-use crate::representation::represent;
-use crate::unrepresented::Unrepresented;
+use super::chirotope_choice::choose_chirotope;
+use super::representation::represent;
+use super::unrepresented::Unrepresented;
 use om_answer::{Claim, Line};
 use om_certificate::{CertRefused, Evidence, Verdict, certificate, check};
 use om_chirotope::Chirotope;

@@ -7,7 +7,7 @@ ghost use Rattle.om_wiring.specs.Maps.{IsFlat, wiring_map};
 ghost use Rattle.om_wiring.specs.Wirings.{IsWiring};
 ghost use Rattle.om_program.specs.Axioms.{IsRefusal, IsRefusedOn, wiring_line};
 
-use crate::unrepresented::Unrepresented;
+use super::unrepresented::Unrepresented;
 use om_answer::Line;
 use om_chirotope::Chirotope;
 use om_signs::{Block, List, MAX_ELEMENTS};

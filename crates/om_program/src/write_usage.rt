@@ -1,3 +1,5 @@
+//! The line for words that aren't a command.
+
 ghost use Rattle.std.specs.Prelude.{◌≡◌, ◌≤◌, ◌⊎◌, ◌+◌, ◌++◌, take, length};
 ghost use Rattle.std.specs.Io.KnownBytes.{Appends};
 ghost use Rattle.om_port.specs.Causes.{Rose};
@@ -5,9 +7,9 @@ ghost use Rattle.om_program.specs.Statuses.{IsAnswered};
 ghost use Rattle.om_program.specs.Run.{IsFront};
 ghost use Rattle.om_answer.specs.Texts.{line_text};
 
-use crate::status::Status;
-use crate::usage::Usage;
-use crate::written::written;
+use super::status::Status;
+use super::usage::Usage;
+use super::write_text::write_text;
 use itoa::Buffer;
 use om_answer::Line;
 use om_port::Sink;
@@ -25,7 +27,7 @@ pub fn write_usage<K: Sink>(sink: &mut K, usage: Usage) -> Status
 {
     let mut text = [0u8; ROOM];
     let len = put_usage(&mut text, usage);
-    written(sink, &text[..len], Status::Usage)
+    write_text(sink, &text[..len], Status::Usage)
 }
 
 /// Puts the line at the front, and answers its length.

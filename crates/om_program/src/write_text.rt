@@ -1,14 +1,16 @@
+//! Writing a text whole.
+
 ghost use Rattle.std.specs.Prelude.{◌≡◌, ◌⊎◌, ◌≤◌};
 ghost use Rattle.std.specs.Io.KnownBytes.{Appends};
 ghost use Rattle.om_port.specs.Causes.{Rose};
 ghost use Rattle.om_program.specs.Statuses.{IsAnswered};
 ghost use Rattle.om_program.specs.Run.{IsFront};
 
-use crate::status::Status;
+use super::status::Status;
 use om_port::{Sink, write_all};
 
-/// Writes an answer whole, and ends with its status, or with a write fault where only a part was taken.
-pub fn written<K: Sink>(sink: &mut K, text: &[u8], status: Status) -> Status
+/// Writes a text whole, and ends with this status, or with a write fault where only a part was taken.
+pub fn write_text<K: Sink>(sink: &mut K, text: &[u8], status: Status) -> Status
     requires { IsAnswered status }
     ensures whole { IsAnswered result → (result ≡ status) × Appends (K.taken sink.old) (K.taken sink.new) text.now }
     ensures cut { result ≡ Status.WriteFault → IsFront (K.taken sink.old) (K.taken sink.new) text.now }
