@@ -168,7 +168,7 @@ taken_none words xs none = rw none (record {
   high = omega arith;
 })
 
-pub take_next : {X : Type 0} (words : List X) (k : ℕ) (word : X) → k < length words → get_or words k word ≡ word → take (k + 1) words ≡ take k words ++ word ∷ []
+take_next : {X : Type 0} (words : List X) (k : ℕ) (word : X) → k < length words → get_or words k word ≡ word → take (k + 1) words ≡ take k words ++ word ∷ []
 take_next [] k word l same = absurd (omega arith)
 take_next (w ∷ ws) zero word l same = ap (λ u. u ∷ []) same
 take_next (w ∷ ws) (suc k) word l same = simp unary_clauses (ap (λ u. w ∷ u) (simp unary_clauses at (take_next ws k word (omega arith) same)))
@@ -184,7 +184,7 @@ length_taken [] (suc k) l = absurd (omega (arith, l))
 length_taken (w ∷ ws) zero l = refl
 length_taken (w ∷ ws) (suc k) l = ap suc (length_taken ws k (omega arith))
 
-pub all_taken : {X : Type 0} (words : List X) (k : ℕ) → length words ≤ k → take k words ≡ words
+all_taken : {X : Type 0} (words : List X) (k : ℕ) → length words ≤ k → take k words ≡ words
 all_taken {X = X} [] k l = none k
   where
     none : (k : ℕ) → take {A = X} k [] ≡ []

@@ -1,13 +1,13 @@
 -- Options, each at most once.
 --
 -- Main results: how many settings have no number (unset_falls); what options are read as (options_read, options_fault), and what commands with
--- options are (set_read, set_fault, seed_read, ..); the number of a setting (number_found, number_more, number_end), which is
--- within its limits (number_of_within).
+-- options are (set_read, set_fault, seed_read, ..); the number of a setting (number_found, number_more), which is within
+-- its limits (number_of_within).
 use Rattle.std.specs.Prelude.{ℕ, ◌≡◌, ◌↔◌, ◌<◌, ◌≤◌, ◌+◌, Bool, true, false, cond, not, nat_eq, nat_le, ◌&&◌, ◌||◌, List, [], ◌∷◌, ◌++◌, length, map, Option, Some, None, is_some, unwrap_or, Result, Ok, Err, IfErr, IsErrAnd, codes, refl}
 use Rattle.std.specs.List.{starts_with}
 use Rattle.std.proofs.Common.{get_or, take, drop, suc, arith, ap, subst, sym, ◌∙◌, append-nil, below_more, lit≤}
 use Rattle.std.proofs.lemmas.Bool.{false≢true, leb-true}
-use Rattle.std.proofs.lemmas.List.{take_more, drop_more, drop_all}
+use Rattle.std.proofs.lemmas.List.{take_more, drop_more}
 use Rattle.std.proofs.lemmas.List.Folds.{list_any-append}
 use Rattle.om_text.specs.Words.{is_decimal, number_from, up_to}
 use Rattle.om_text.specs.Fault.{Begins}
@@ -104,9 +104,6 @@ number_found words i n s word l is given = rw (drop_more words i [] l, is, given
 
 pub number_more : (words : List (List ℕ)) (i : ℕ) (s : Setting) (word : List ℕ) → i < length words → get_or words i [] ≡ word → given_number s word ≡ None → number_of (drop i words) s ≡ number_of (drop (i + 1) words) s
 number_more words i s word l is none = rw (drop_more words i [] l, is, none) refl
-
-pub number_end : (words : List (List ℕ)) (i : ℕ) (s : Setting) → length words ≤ i → number_of (drop i words) s ≡ default_number s
-number_end words i s l = rw (drop_all i words l) refl
 
 -- a number is within the limits of its setting
 pub record IsWithin (s : Setting) (n : ℕ) : Type 0 where

@@ -1,10 +1,9 @@
 -- The sign vector that a word spells.
 --
--- Main results: a vector that is filled sign by sign (filled_more, filled_all).
-use Rattle.std.specs.Prelude.{ℕ, ◌≡◌, ◌+◌, ◌<◌, ◌≤◌, List, length, map}
-use Rattle.std.proofs.Common.{arith, sym, ◌∙◌, inl, inr, set, get_or}
-use Rattle.std.proofs.lemmas.Bool.{cases_eq}
-use Rattle.std.proofs.lemmas.List.{ext_get_or, get_or-set_same, get_or-set_other, get_or-map, length-map, length-set}
+-- Main results: a vector that is filled sign by sign (filled_all).
+use Rattle.std.specs.Prelude.{ℕ, ◌≡◌, ◌<◌, ◌≤◌, List, length, map}
+use Rattle.std.proofs.Common.{arith, sym, ◌∙◌, get_or}
+use Rattle.std.proofs.lemmas.List.{ext_get_or, get_or-map, length-map}
 use Rattle.om_signs.specs.declared.sign.Sign.{Sign}
 use Rattle.om_signs.specs.declared.sign.Sign.TheVariants.{Zero}
 use Rattle.om_signs.specs.SignVec.{at}
@@ -14,18 +13,6 @@ use Rattle.om_text.specs.Words.{sign_of_byte}
 pub record IsFilled (x : List Sign) (word : List ℕ) (k : ℕ) : Type 0 where
   pub size : length x ≡ length word
   pub signs : (i : ℕ) → i < k → at x i ≡ sign_of_byte (get_or word i 0)
-
-pub filled_none : (x : List Sign) (word : List ℕ) → length x ≡ length word → IsFilled x word 0
-filled_none x word size = record { size = size; signs = λ i l. absurd (omega (arith, l)) }
-
-pub filled_more : (x : List Sign) (word : List ℕ) (k : ℕ) (s : Sign) → k < length word → s ≡ sign_of_byte (get_or word k 0) → IsFilled x word k → IsFilled (set x k s) word (k + 1)
-filled_more x word k s l e f = record {
-  size = length-set x k s ∙ f.size;
-  signs = λ i li. elim (cases_eq i k) [
-    | inl q ↦ rw q (get_or-set_same x k s Zero (let z = f.size in omega (arith, z, l)) ∙ e)
-    | inr n ↦ get_or-set_other x k i s Zero n ∙ f.signs i (omega (arith, li, n))
-  ];
-}
 
 pub filled_all : (x : List Sign) (word : List ℕ) (k : ℕ) → length word ≤ k → IsFilled x word k → x ≡ map sign_of_byte word
 filled_all x word k l f = ext_get_or Zero x (map sign_of_byte word) (f.size ∙ sym (length-map word sign_of_byte)) (λ i li.

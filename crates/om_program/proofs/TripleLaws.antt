@@ -1,7 +1,7 @@
 -- Words that are three increasing elements.
 --
 -- Main results: the word at fault where one of them isn't such an element (first_bad, second_bad, third_bad) or a fourth word follows
--- (triple_long), and what the three are read as (triple_read); the word at a place (at_place_read, at_place_bad, no_word).
+-- (triple_long), and what the three are read as (triple_read); the word at a place (at_place_read, at_place_bad).
 use Rattle.std.specs.Prelude.{ℕ, ◌≡◌, ◌<◌, ◌≤◌, ◌+◌, ◌-◌, ◌↔◌, List, [], ◌∷◌, length, map, Option, Some, None, Result, Ok, Err, IfErr, IsErrAnd, slice_get, refl}
 use Rattle.std.specs.Fmt.{decimal}
 use Rattle.std.proofs.Common.{get_or, zero, suc, arith, ap, subst, sym, ◌∙◌, lit≤}
@@ -20,11 +20,6 @@ pub there : {X : Type 0} (f : X → List ℕ) (xs : List X) (k : ℕ) (x : X) �
 there f [] k x l is = absurd (omega arith)
 there f (y ∷ ys) zero x l is = ap (λ z. Some (f z)) (sym is)
 there f (y ∷ ys) (suc k) x l is = there f ys k x (omega arith) is
-
-pub not_there : {X : Type 0} (f : X → List ℕ) (xs : List X) (k : ℕ) → length xs ≤ k → slice_get (map f xs) k ≡ None
-not_there f [] k l = refl
-not_there f (y ∷ ys) zero l = absurd (omega arith)
-not_there f (y ∷ ys) (suc k) l = not_there f ys k (omega arith)
 
 pub this_within : (word : List ℕ) (low high e : ℕ) → IsElement word e → low ≤ e → e ≤ high → (d : ℕ) → (Some e ≡ Some d) ↔ IsElementWithin word low high d
 this_within word low high e element above below d = (
@@ -52,9 +47,6 @@ at_place_read f xs k low high e x o l is within some d = (
 
 pub at_place_bad : {X : Type 0} (f : X → List ℕ) (xs : List X) (k low high : ℕ) (x : X) (o : Option ℕ) (u : Usage) → k < length xs → x ≡ get_or xs k x → ((d : ℕ) → (o ≡ Some d) ↔ IsElementWithin (f x) low high d) → o ≡ None → (d : ℕ) → IsOkAt (map f xs) k low high (Err u) d
 at_place_bad f xs k low high x o u l is within none d = (λ made. absurd (no_value _ d made), λ other. absurd (none_some d none ((at_place f xs k low high x o l is within d).1 other)))
-
-pub no_word : {X : Type 0} (f : X → List ℕ) (xs : List X) (k low high : ℕ) → length xs ≤ k → (e : ℕ) → IsElementAt (map f xs) k low high e → ⊥
-no_word f xs k low high l e other = none_some other.word (not_there f xs k l) other.there
 
 -- ---- the words of three elements
 

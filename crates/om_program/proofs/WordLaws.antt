@@ -2,13 +2,12 @@
 --
 -- Main results: no words (no_words_at_fault); a first word that no command has (first_at_fault); of words behind a verb, from what they are read as
 -- to the task that is named (ok_named, err_named), for each verb (accept_shape, member_shape, ..).
-use Rattle.std.specs.Prelude.{ℕ, ◌≡◌, ◌<◌, ◌≤◌, ◌+◌, length, map, List, [], ◌∷◌, ◌++◌, codes, refl, cond, nat_eq, ◌↔◌, Result, Ok, Err, IfErr, IsErrAnd}
+use Rattle.std.specs.Prelude.{ℕ, ◌≡◌, ◌<◌, ◌≤◌, ◌+◌, length, map, List, [], ◌∷◌, ◌++◌, codes, refl, ◌↔◌, Result, Ok, Err, IfErr, IsErrAnd}
 use Rattle.std.proofs.Common.{get_or, drop, take, ◌-◌, arith, ap, subst, sym, ◌∙◌}
 use Rattle.std.proofs.Math.Seq.{take-length}
 use Rattle.om_signs.specs.declared.sign.Sign.{Sign}
 use Rattle.om_text.specs.Fault.{Begins}
 use Rattle.om_answer.specs.declared.axiom_system.AxiomSystem.{AxiomSystem}
-use Rattle.om_answer.specs.declared.axiom_system.AxiomSystem.TheVariants as kind
 use Rattle.om_decide.specs.declared.budgets.Budgets.{Budgets}
 use Rattle.om_program.specs.Options.{AreBudgets, AreSeedAndCount, AreLines}
 use Rattle.om_program.specs.declared.task.Task.{Task}
@@ -21,7 +20,7 @@ use Rattle.om_program.specs.declared.verb.Verb.TheVariants as verb
 use Rattle.om_program.proofs.VerbLaws.{same_verb}
 use Rattle.om_program.specs.Listings.{AreColouring, AreLeading}
 use Rattle.om_program.specs.Triples.{AreTriple}
-use Rattle.om_program.specs.Words.{Names, AreNamed, Spells, NamesSystem, IsElement, AreElements, AreNone, IsAlone, AreArguments, kind_word, verb_word, verb_of, AreCommand, IsFault, IsUsage, at_word, at_end, HasValue, IsRead}
+use Rattle.om_program.specs.Words.{Names, AreNamed, Spells, NamesSystem, IsElement, AreElements, AreNone, IsAlone, AreArguments, verb_word, verb_of, AreCommand, IsFault, IsUsage, at_word, at_end, HasValue, IsRead}
 
 abbrev pub tail_of : List (List ℕ) → List (List ℕ)
 tail_of [] = []
@@ -30,20 +29,6 @@ tail_of (word ∷ words) = words
 abbrev pub first_of : List (List ℕ) → List ℕ
 first_of [] = []
 first_of (word ∷ words) = word
-
--- ---- kinds are told by their words
-
-abbrev read_kind : List ℕ → AxiomSystem
-read_kind word = let b : ℕ = get_or word 2 0 in cond (nat_eq b 105) kind.Chirotope (cond (nat_eq b 114) kind.Circuits (cond (nat_eq b 99) kind.Cocircuits kind.Covectors))
-
-kind_back : (k : AxiomSystem) → read_kind (kind_word k) ≡ k
-kind_back kind.Chirotope = refl
-kind_back kind.Circuits = refl
-kind_back kind.Cocircuits = refl
-kind_back kind.Covectors = refl
-
-pub same_kind : (j k : AxiomSystem) → kind_word j ≡ kind_word k → j ≡ k
-same_kind j k same = sym (kind_back j) ∙ ap read_kind same ∙ kind_back k
 
 -- ---- a word at fault behind a first word
 
