@@ -18,11 +18,12 @@ pub fn first_triple(chi: &Chirotope, sign: Sign) -> Option<Subset>
 {
     let n = chi.elements();
     let rank = chi.rank();
-    for k in 0..Subset::choose(n, rank) {
-        let triple = Subset::unrank(k, rank, n);
+    let mut triple = Subset::first(rank, n);
+    for place in 0..Subset::choose(n, rank) {
         if chi.at(triple) == sign {
             return Some(triple);
         }
+        triple = triple.following();
     }
     None
 }
