@@ -42,8 +42,6 @@ pub fn set_at(raw: &RawMap, sets: &[Subset], k: usize) -> Subset
     if k < sets.len() {
         return sets[k];
     }
-    // this call tells that the number of sets is small
-    let _count = Subset::choose(raw.elements, raw.rank);
     Subset::unrank(k as u32, raw.rank, raw.elements)
 }
 
