@@ -7,6 +7,7 @@ use Rattle.std.proofs.lemmas.Slice.Eq.{bytes_eq-Decides}
 use Rattle.std.specs.List.{list_any}
 use Rattle.std.proofs.lemmas.List.{map-append}
 use Rattle.om_text.specs.Settings.{is_line}
+use Rattle.om_text.specs.Heading.{plain_numbers}
 use Rattle.om_text.proofs.Distinct.{either}
 use Rattle.om_text.proofs.Filling.{is_line-Decides}
 use Rattle.om_vectors.specs.WholeVectors.{WholeVector}
@@ -14,7 +15,7 @@ use Rattle.om_certificate.specs.declared.entry.Entry.{Entry}
 use Rattle.om_certificate.specs.declared.weight.Weight.{Weight}
 use Rattle.om_certificate.specs.declared.lp_end.LpEnd.{LpEnd}
 use Rattle.om_answer.specs.Numbers.{numbers_within}
-use Rattle.om_answer.specs.BlockLines.{after_name, strictness, vector_of, vector_from, entry_of, entry_from, entry_ranges, weight_of, weight_from, vector_ranges, weight_ranges, pivots_ranges, pivots_of, count_from, basis_of, some_of, plain_numbers, width_of, width_after}
+use Rattle.om_answer.specs.BlockLines.{after_name, strictness, vector_of, vector_from, entry_of, entry_from, entry_ranges, weight_of, weight_from, vector_ranges, weight_ranges, pivots_ranges, pivots_of, count_from, basis_of, some_of, width_of, width_after}
 use Rattle.om_answer.specs.Block.{AreLinesOf}
 use Rattle.om_answer.specs.ClaimFault.{last_passing}
 

@@ -12,6 +12,7 @@ use Rattle.om_signs.specs.declared.limits.TheConstants.{MAX_INPUT, MAX_MULTIPLIC
 use Rattle.om_text.specs.Lines.{lines, with_first, uncommented, is_blank, pieces, has_any, words, wordful}
 use Rattle.om_text.specs.Words.{unsigned}
 use Rattle.om_text.specs.Document.{end_line}
+use Rattle.om_text.specs.Heading.{with_item}
 use Rattle.om_text.proofs.Digits.{unsigned_within, signed_within}
 use Rattle.om_text.proofs.Distinct.{either}
 use Rattle.om_certificate.specs.declared.entry.Entry.{Entry}
@@ -21,7 +22,7 @@ use Rattle.om_certificate.specs.Validity.{IsMultiplicity}
 use Rattle.om_answer.specs.declared.range.Range.{Range}
 use Rattle.om_answer.specs.declared.range.Range.TheVariants.{Between, UpToSize}
 use Rattle.om_answer.specs.declared.claim.Claim.{Claim}
-use Rattle.om_answer.specs.Numbers.{at_least, number_within, with_item, numbers_within, IsIn, AreIn}
+use Rattle.om_answer.specs.Numbers.{at_least, number_within, numbers_within, IsIn, AreIn}
 use Rattle.om_answer.specs.BlockLines.{after_name, entry_ranges, entry_from, strictness, entry_of, weight_ranges, weight_from, weight_of}
 use Rattle.om_answer.specs.Block.{AreLinesOf, IsBlock, realizable, nonrealizable, undecided, limit}
 use Rattle.om_answer.specs.Claim.{IsClaim, HasEvidenceWithinLimits}

@@ -16,14 +16,14 @@ use Rattle.om_certificate.specs.declared.entry.Entry.{Entry}
 use Rattle.om_certificate.specs.declared.weight.Weight.{Weight}
 use Rattle.om_certificate.specs.declared.lp_end.LpEnd.TheVariants as lp_end
 use Rattle.om_certificate.specs.Forms.{IsEntryInForm, IsWeightInForm, IsWidthInForm}
-use Rattle.om_text.specs.Words.{plain}
+use Rattle.om_text.specs.Heading.{with_item, plain_numbers}
 use Rattle.om_text.proofs.Texts.{is_word, is_word_line}
 use Rattle.om_text.proofs.Numerals.{decimal_word, number_word, unsigned_word, signed_word}
 use Rattle.om_signs.specs.declared.limits.TheConstants.{MAX_PIVOTS, MAX_PLAIN}
 use Rattle.om_answer.specs.declared.range.Range.{Range}
 use Rattle.om_answer.specs.declared.range.Range.TheVariants.{Between, UpToSize}
-use Rattle.om_answer.specs.Numbers.{at_least, number_within, with_item, numbers_within, IsIn, AreIn}
-use Rattle.om_answer.specs.BlockLines.{vector_ranges, vector_from, vector_of, entry_ranges, entry_from, strictness, entry_of, weight_ranges, weight_from, weight_of, count_from, pivots_ranges, pivots_of, plain_numbers, some_of, basis_of, stage_of, width_from, width_ranges, width_of}
+use Rattle.om_answer.specs.Numbers.{at_least, number_within, numbers_within, IsIn, AreIn}
+use Rattle.om_answer.specs.BlockLines.{vector_ranges, vector_from, vector_of, entry_ranges, entry_from, strictness, entry_of, weight_ranges, weight_from, weight_of, count_from, pivots_ranges, pivots_of, some_of, basis_of, stage_of, width_from, width_ranges, width_of}
 use Rattle.om_answer.specs.VerdictText.{named, vector_numbers, vector_words, entry_numbers, relation_name, entry_words, weight_numbers, weight_words, stage_name, width_numbers}
 
 -- ---- numbers

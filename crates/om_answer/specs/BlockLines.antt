@@ -10,11 +10,11 @@ use Rattle.om_certificate.specs.declared.entry.Entry.{Entry}
 use Rattle.om_certificate.specs.declared.weight.Weight.{Weight}
 use Rattle.om_certificate.specs.declared.lp_end.LpEnd.{LpEnd}
 use Rattle.om_certificate.specs.declared.lp_end.LpEnd.TheVariants as lp_end
-use Rattle.om_text.specs.Words.{plain}
+use Rattle.om_text.specs.Heading.{plain_numbers}
 use Rattle.om_answer.specs.declared.block_lines.TheConstants.{TERMS}
 use Rattle.om_answer.specs.declared.range.Range.{Range}
 use Rattle.om_answer.specs.declared.range.Range.TheVariants.{Between, UpToSize}
-use Rattle.om_answer.specs.Numbers.{numbers_within, with_item}
+use Rattle.om_answer.specs.Numbers.{numbers_within}
 
 -- a line of one word
 abbrev pub word_line : List ℕ → List (List ℕ)
@@ -98,11 +98,6 @@ pivots_ranges = Between 0 MAX_PIVOTS ∷ []
 -- `pivots P`
 abbrev pub pivots_of : List (List ℕ) → Option ℕ
 pivots_of w = option_and_then count_from (named_numbers (codes "pivots") pivots_ranges w)
-
--- the numbers of words, each a plain one
-abbrev pub plain_numbers : List (List ℕ) → Option (List ℕ)
-plain_numbers [] = Some []
-plain_numbers (w ∷ ws) = with_item (plain w) (plain_numbers ws)
 
 -- where there are some
 abbrev pub some_of : List ℕ → Option (List ℕ)

@@ -4,6 +4,7 @@
 use Rattle.std.specs.Prelude.{ℕ, ℤ, pos, ◌<◌, ◌≤◌, ◌≤ℤ◌, ◌^◌, unsigned_abs, List, [], ◌∷◌, cond, nat_le, Option, Some, None, option_and_then, option_map}
 use Rattle.om_answer.specs.declared.range.Range.{Range}
 use Rattle.om_answer.specs.declared.range.Range.TheVariants.{Between, UpToSize}
+use Rattle.om_text.specs.Heading.{with_item}
 use Rattle.om_text.specs.Words.{unsigned, signed}
 
 -- a number that isn't below the least one
@@ -14,11 +15,6 @@ at_least low n = cond (nat_le low n) (Some n) None
 abbrev pub number_within : Range → List ℕ → Option ℤ
 number_within (Between low high) w = option_map pos (option_and_then (at_least low) (unsigned high w))
 number_within (UpToSize size) w = signed size w
-
--- an item in front of others, where both are there
-abbrev pub with_item : {A : Type 0} → Option A → Option (List A) → Option (List A)
-with_item (Some x) (Some xs) = Some (x ∷ xs)
-with_item _ _ = None
 
 -- the numbers that the words of a line spell, where there are as many as ranges and each is in its own
 abbrev pub numbers_within : List Range → List (List ℕ) → Option (List ℤ)

@@ -2,11 +2,12 @@
 
 ghost use Rattle.std.specs.Prelude.{◌≡◌, ◌+◌, ◌-◌, ◌≤◌, ◌^◌, length, IfOk};
 ghost use Rattle.om_text.specs.Lines.{runs, lines};
+ghost use Rattle.om_text.specs.Heading.{plain_numbers};
 ghost use Rattle.om_text.specs.Settings.{is_line};
 ghost use Rattle.om_text.specs.Document.{end_line};
 ghost use Rattle.om_text.specs.ReaderParts.{IsStepUnlessMemory};
 ghost use Rattle.om_text.specs.Parsed.{IsAnswerUnlessMemory};
-ghost use Rattle.om_answer.specs.BlockLines.{plain_numbers, vector_of, entry_of, weight_of, pivots_of, basis_of, some_of};
+ghost use Rattle.om_answer.specs.BlockLines.{vector_of, entry_of, weight_of, pivots_of, basis_of, some_of};
 ghost use Rattle.om_signs.specs.declared.limits.TheConstants.{MAX_READ};
 ghost use Rattle.om_answer.specs.Block.{MOST_VECTORS, MOST_WEIGHTS};
 ghost use Rattle.om_answer.specs.BlockReading.{opened, next_item, another, with_tableau, with_basis, ended, block_step, block_advance, block_outcome};

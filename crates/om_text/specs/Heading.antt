@@ -21,15 +21,15 @@ kind_of w =
     (cond (bytes_eq w (codes "wiring")) (Some kinds.Wiring)
     (cond (bytes_eq w (codes "points")) (Some kinds.Points) None)))))
 
--- a number in front of others, where both are there
-abbrev pub with_number : Option ℕ → Option (List ℕ) → Option (List ℕ)
-with_number (Some k) (Some ks) = Some (k ∷ ks)
-with_number _ _ = None
+-- an item in front of others, where both are there
+abbrev pub with_item : {A : Type 0} → Option A → Option (List A) → Option (List A)
+with_item (Some x) (Some xs) = Some (x ∷ xs)
+with_item _ _ = None
 
 -- the plain numbers that words are, where each word is one
 abbrev pub plain_numbers : List (List ℕ) → Option (List ℕ)
 plain_numbers [] = Some []
-plain_numbers (w ∷ ws) = with_number (plain w) (plain_numbers ws)
+plain_numbers (w ∷ ws) = with_item (plain w) (plain_numbers ws)
 
 -- the rank and the number of elements, where a kind line of this kind has these numbers; other kinds have no rank, and 0 stands for it
 abbrev pub sizes : Kind → List ℕ → Option (ℕ × ℕ)
