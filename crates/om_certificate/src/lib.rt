@@ -27,4 +27,5 @@ pub use laws::{certificates_exclude_vectors, one_refusal, weights_exclude_certif
 pub use lp_end::LpEnd;
 pub use om_simplex::Stage;
 pub use verdict::{Verdict, certificate};
+pub use weighing::is_nonzero;
 pub use weight::Weight;

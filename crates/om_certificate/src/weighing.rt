@@ -61,8 +61,8 @@ fn count_nonzero(chi: &Chirotope) -> u32
     count
 }
 
-/// Whether a bracket isn't 0.
-fn is_nonzero(chi: &Chirotope, bracket: Subset) -> bool
+/// Whether a bracket of a chirotope of rank 3 isn't 0: a set of three of the elements 1 to n. It takes no memory.
+pub fn is_nonzero(chi: &Chirotope, bracket: Subset) -> bool
     requires rank { chi.now.rank ≡ 3 }
     requires n { bracket.n ≡ chi.now.elements }
     requires size { length bracket.elements ≡ 3 }

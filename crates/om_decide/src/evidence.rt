@@ -7,8 +7,7 @@ ghost use Rattle.om_certificate.specs.Weights.{nonzero_brackets};
 ghost use Rattle.om_decide.specs.Columns.{entries_of, weight_on, weights_on};
 ghost use Rattle.om_decide.specs.Making.{IsLeastFrom};
 
-use super::making::is_nonzero;
-use om_certificate::{Entry, Weight};
+use om_certificate::{Entry, Weight, is_nonzero};
 use om_chirotope::Chirotope;
 use om_grassmann::Statement;
 use om_signs::{List, NoMemory};
