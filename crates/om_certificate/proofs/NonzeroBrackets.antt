@@ -1,7 +1,7 @@
 -- The nonzero brackets among the first triples in lexicographic order.
 --
 -- Main definitions: nonzero_below, IsMatching
--- Main results: below_none, below_all, below_more, more_nonzero, more_zero, below_length, below_take, next_nonzero, more_length, bracket_triples, next_within, one_matched, none_matched, first_other, all_matched
+-- Main results: below_all, below_more, more_nonzero, more_zero, below_length, below_take, next_nonzero, more_length, bracket_triples, next_within, one_matched, none_matched, first_other, all_matched
 use Rattle.std.specs.Prelude.{ℕ, ◌≡◌, ◌+◌, ◌<◌, ◌≤◌, true, false, List, [], ◌∷◌, ◌++◌, length, map, filter, cond, take, drop, slice_get, Some, All}
 use Rattle.std.proofs.Common.{refl, sym, ◌∙◌, ap, arith}
 use Rattle.std.proofs.Math.ListN.{get_or}
@@ -19,9 +19,6 @@ use Rattle.om_certificate.proofs.Triples.{triple_of_place}
 -- the nonzero brackets among the first k triples
 abbrev pub nonzero_below : SignMap → ℕ → List (List ℕ)
 nonzero_below m k = filter (λ b. is_nonzero (chi_of m b)) (take k (all_subsets m.elements 3))
-
-pub below_none : (m : SignMap) → nonzero_below m 0 ≡ []
-below_none m = refl
 
 pub below_all : (m : SignMap) (k : ℕ) → choose m.elements 3 ≤ k → nonzero_below m k ≡ nonzero_brackets m
 below_all m k l = ap (filter (λ b. is_nonzero (chi_of m b))) (take_all k (all_subsets m.elements 3) (let e = length-subsets_from 1 m.elements 3 in omega (arith, e)))

@@ -1,15 +1,14 @@
 -- The walk over the lawful statements in order.
 --
 -- Main definitions: IsWalk
--- Main results: none_lawful, first_unmet_here, met_by_table, nearer_following, walk_following
+-- Main results: first_unmet_here, met_by_table, nearer_following, walk_following
 use Rattle.std.specs.Prelude.{ℕ, ◌≡◌, ◌-◌, ◌*◌, ◌^◌, ◌<◌, ℤ, pos, ◌+ℤ◌, Bool, IsTrue, ◌↔◌, List, Option, Some, None, IsNone, IfSome}
-use Rattle.std.specs.List.{Contains}
 use Rattle.std.proofs.Math.ListN.{get_or}
 use Rattle.std.proofs.Common.{refl, sym, ◌∙◌, ap, subst, arith, inl, inr, ◌⊎◌}
 use Rattle.om_chirotope.specs.Map.{SignMap}
 use Rattle.om_grassmann.specs.declared.statement.Statement.{Statement}
 use Rattle.om_grassmann.specs.Statements.{IsLawful}
-use Rattle.om_grassmann.specs.Order.{IsBefore, IsNext, IsLast, HasAtMost}
+use Rattle.om_grassmann.specs.Order.{IsBefore, IsNext, IsLast}
 use Rattle.om_grassmann.specs.Walk.{place, frame_place}
 use Rattle.om_grassmann.proofs.Places.{lawful_places}
 use Rattle.om_certificate.specs.declared.weight.Weight.{Weight}
@@ -53,12 +52,6 @@ nearer m s t few h n = let l = lawful_places m s t few h n.lawful n.later in let
 at_end : (m : SignMap) (s : Statement) → m.elements < 256 → IsLawful m s → left None < left (Some s)
 unfolding left
 at_end m s few h = let p = place_small m s few h in omega arith
-
-pub none_lawful : (m : SignMap) (ws : List Weight) → HasAtMost m 0 → IsWalk m ws None
-none_lawful m ws h s l = go ((h.are_all.members s).1 l)
-  where
-    go : Contains h.all s → IsMetBy ws s
-    go (k, b, e) = let c = h.count in absurd (omega arith)
 
 met_before : (m : SignMap) (ws : List Weight) (s u : Statement) → IsMetBy ws s → IsWalk m ws (Some s) → IsLawful m u → (u ≡ s) ⊎ IsBefore u s → IsMetBy ws u
 met_before m ws s u k w l (inl e) = subst (IsMetBy ws) (sym e) k

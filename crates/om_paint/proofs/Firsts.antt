@@ -1,8 +1,8 @@
 -- The lexicographically first member of a family of sign vectors, as the family grows, and the families of the vectors of increasing lists.
 --
 -- Main definitions: IsFilledBefore
--- Main results: one vector more (one_more), also with a place for each class (kept_zero, put), and what stands there (placed), both signs of the vector at one place more (place_more), no places (no_places); the walk over the sets of a size begins
--- (filled_at_first), goes on (filled_on) and ends (filled_at_last); all places are all circuits (first_of_circuits, no_circuits) and all cocircuits
+-- Main results: one vector more (one_more), also with a place for each class (kept_zero, put), and what stands there (placed), both signs of the vector at one place more (place_more); the walk over the sets of a size goes on
+-- (filled_on) and ends (filled_at_last); all places are all circuits (first_of_circuits, no_circuits) and all cocircuits
 -- (first_of_cocircuits, no_cocircuits).
 use Rattle.std.proofs.Common.{ℕ, ◌≡◌, ◌+◌, ◌-◌, ◌<◌, ◌⊎◌, ◌↔◌, List, length, map, get_or, replicate, set, refl, sym, ap, subst, ◌∙◌, inl, inr, ⊎_elim, arith}
 use Rattle.std.specs.Prelude.{Option, None, Some}
@@ -74,9 +74,6 @@ pub record IsOfList (V : List ℕ → List Sign) (Q : List Sign → Type 0) (n s
   pub allowed : Q X
 
 module _ (V : List ℕ → List Sign) (Q : List Sign → Type 0) (n size : ℕ) where
-  pub no_places : IsFirstIfAny (IsPassing V Q n size 0) None
-  no_places = λ X h. let l = h.1 in omega (arith, l)
-
   abbrev Twice : ℕ → List Sign → List Sign → Type 0
   Twice k v X = IsOldOrNew (IsOldOrNew (IsPassing V Q n size k) Q v) Q (map opposite v) X
 
@@ -155,17 +152,6 @@ pub record IsFilledBefore (V : List ℕ → List Sign) (H : ℕ → List Sign �
   pub met : AreFirsts V H n size (rank_of n s.elements) firsts
 
 module _ (V : List ℕ → List Sign) (H : ℕ → List Sign → Type 0) (n size : ℕ) where
-  pub filled_at_first : (s : Chosen) (n' size' : ℕ) → n' ≡ n → size' ≡ size → s.n ≡ n' → length s.elements ≡ size' → rank_of n' s.elements ≡ 0 → IsSubsetFrom 1 n' s.elements → IsFilledBefore V H n size s (replicate CLASSES None)
-  filled_at_first s n' size' en es sn few place list = record {
-    within = sn ∙ en;
-    sized = few ∙ es;
-    list = subst (λ k. IsSubsetFrom 1 k s.elements) en list;
-    met = λ i lt. subst (λ k. IsFirstIfAny (IsPassing V (H i) n size k) (get_or (replicate CLASSES None) i None)) (sym (subst (λ k. rank_of k s.elements ≡ 0) en place)) (none_yet i lt);
-  }
-    where
-      none_yet : (i : ℕ) → i < CLASSES → IsFirstIfAny (IsPassing V (H i) n size 0) (get_or (replicate CLASSES None) i None)
-      none_yet i lt = subst (IsFirstIfAny (IsPassing V (H i) n size 0)) (sym (get_or-replicate CLASSES i None None lt)) (no_places V (H i) n size)
-
   module _ (s : Chosen) (old mid new : List (Option (List Sign))) (v w : List Sign) (h : IsFilledBefore V H n size s old) (e : v ≡ V s.elements) (d : w ≡ map opposite v)
       (a : (i : ℕ) → i < CLASSES → IsEarlierOf (H i) (get_or old i None) v (get_or mid i None))
       (b : (i : ℕ) → i < CLASSES → IsEarlierOf (H i) (get_or mid i None) w (get_or new i None)) where

@@ -254,9 +254,6 @@ module _ (m : SignMap) where
   pub exchange_of_no_violated : ((b c : List ℕ) (e : ℕ) → IsUnexchanged m b c e → ⊥) → HasExchange m
   exchange_of_no_violated none b c e first second inside outside = ⊎_elim (λ x. x) (λ n. absurd (none b c e (record { first = first; second = second; inside = inside; outside = outside; violated = n }))) (exchanged_or_not b c e first second inside)
 
-  pub violated_not_exchange : (b c : List ℕ) (e : ℕ) → IsUnexchanged m b c e → HasExchange m → ⊥
-  violated_not_exchange b c e u ex = u.violated (ex b c e u.first u.second u.inside u.outside)
-
   -- some exchange of a set is violated
   abbrev IsBad : List ℕ → Type 0
   IsBad b = (c : List ℕ) × (e : ℕ) × IsUnexchanged m b c e

@@ -241,12 +241,6 @@ module _ (m : SignMap) where
   relations_of_no_violated : ((p q : List ℕ) → IsUnbalancedList m p q → ⊥) → HasThreeTermRelations m
   relations_of_no_violated none p a b c d frame = ⊎_elim (λ h. h) (λ n. absurd (none p (a ∷ b ∷ c ∷ d ∷ []) (a, b, c, d, refl, record { frame = frame; violated = n }))) (balanced_or_not _ _ _)
 
-  pub relations_below_two : m.rank < 2 → HasThreeTermRelations m
-  relations_below_two l p a b c d frame = let size = frame.size in absurd (omega arith)
-
-  pub violated_not_relations : (p q : List ℕ) → IsUnbalancedList m p q → HasThreeTermRelations m → ⊥
-  violated_not_relations p q (a, b, c, d, is, u) rel = u.violated (rel p a b c d u.frame)
-
   pub relations_of_none : (count : ℕ) → 2 ≤ m.rank → count ≡ choose m.elements (m.rank - 2) → IsNoneBad (IsUnbalancedAt m) 0 count → HasThreeTermRelations m
   relations_of_none count low is none = relations_of_no_violated (λ p q u.
       let list = list_of p q low u in

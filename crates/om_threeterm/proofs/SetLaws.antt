@@ -137,7 +137,3 @@ split s mask many list few is =
         let none : length s.elements ≡ 0 = ap length (sym back ∙ ap (λ k. members k 1 s.n) z ∙ members-zero 1 s.n) in
         absurd (omega arith)
     nonzero (inr n) back = omega arith
-
-pub nothing_left : (xs : List ℕ) → length xs ≡ 0 → xs ≡ []
-nothing_left [] l = refl
-nothing_left (x ∷ xs) l = absurd (omega arith)
