@@ -1,3 +1,5 @@
+//! The texts of answers of one line.
+
 ghost use Rattle.std.specs.Prelude.{◌≡◌, ◌++◌, IfOk};
 ghost use Rattle.om_answer.specs.Texts.{ended, line_text};
 

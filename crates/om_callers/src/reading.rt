@@ -57,6 +57,7 @@ fn covectors_of_map<R: Threads + Sync>(
         Ok(chirotope) => match chirotope_to_covectors(alloc, &chirotope) {
             Ok(covectors) => Ok(covectors),
             Err(ConvertError::TooMany { limit }) => Err(NotRead::TooMany { limit }),
+            // a list of covectors has no values
             Err(ConvertError::TooWide { .. }) => unreachable!(),
             Err(ConvertError::Memory) => Err(NotRead::Memory),
         },

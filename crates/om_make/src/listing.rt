@@ -22,7 +22,9 @@ pub fn list_cocircuits(alloc: Global, chi: &Chirotope) -> Result<Cocircuits, NoM
     chi.is_lawful();
     match chirotope_to_cocircuits(alloc, chi) {
         Ok(cocircuits) => Ok(cocircuits),
+        // a list of cocircuits has no values
         Err(ConvertError::TooWide { .. }) => unreachable!(),
+        // in rank 3 there are at most 380 on 20 elements
         Err(ConvertError::TooMany { .. }) => unreachable!(),
         Err(ConvertError::Memory) => Err(NoMemory),
     }
@@ -38,6 +40,7 @@ pub fn list_covectors(alloc: Global, chi: &Chirotope) -> Result<Covectors, NoMem
         Ok(covectors) => Ok(covectors),
         // in rank 3 there are at most 1,523 on 20 elements, which isn't proved here: the case of too many never comes
         Err(ConvertError::TooMany { .. } | ConvertError::Memory) => Err(NoMemory),
+        // a list of covectors has no values
         Err(ConvertError::TooWide { .. }) => unreachable!(),
     }
 }
@@ -64,6 +67,7 @@ pub fn count_mutations(alloc: Global, chi: &Chirotope) -> Result<u32, NoMemory>
     chi.is_lawful();
     match mutations(alloc, chi) {
         Ok(sets) => Ok(sets.len() as u32),
+        // the rank is 3
         Err(MutationError::NotRank3 { .. }) => unreachable!(),
         Err(MutationError::Memory) => Err(NoMemory),
     }

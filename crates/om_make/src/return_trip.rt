@@ -30,6 +30,7 @@ pub fn convert_back(
     let first = back_from_cocircuits(alloc, chi, cocircuits)?;
     let second = back_from_covectors(alloc, chi, covectors)?;
     if !are_equal(&first.into_raw(), &normal) || !are_equal(&second.into_raw(), &normal) {
+        // each list gives back the normal form of the chirotope
         unreachable!()
     }
     Ok(())
@@ -53,6 +54,7 @@ fn back_from_cocircuits(
         }
         // a chirotope of rank 3 on 20 elements has 1,140 values
         Err(ConvertError::TooWide { .. }) => unreachable!(),
+        // a chirotope has no members
         Err(ConvertError::TooMany { .. }) => unreachable!(),
         Err(ConvertError::Memory) => Err(NoMemory),
     }
@@ -76,6 +78,7 @@ fn back_from_covectors(
         }
         // a chirotope of rank 3 on 20 elements has 1,140 values
         Err(ConvertError::TooWide { .. }) => unreachable!(),
+        // a chirotope has no members
         Err(ConvertError::TooMany { .. }) => unreachable!(),
         Err(ConvertError::Memory) => Err(NoMemory),
     }

@@ -1,3 +1,5 @@
+//! What there is to count of vectors.
+
 ghost use Rattle.std.specs.Prelude.{◌≡◌, IfOk, OnOk};
 ghost use Rattle.om_vectors.specs.Realizations.{signs_map};
 ghost use Rattle.om_make.specs.Tallies.{BeginsWithUnits, ComesBack, IsTally, IsTallyOfMap};
@@ -40,6 +42,7 @@ fn chirotope_of(alloc: Global, vectors: &Word) -> Result<Chirotope, NoMemory>
     vectors.is_lawful();
     match signs_of(alloc, vectors.as_slice()) {
         Ok(chi) => Ok(chi),
+        // the triple product of the unit vectors is 1
         Err(SignsError::RankLow) => unreachable!(),
         Err(SignsError::Memory) => Err(NoMemory),
     }

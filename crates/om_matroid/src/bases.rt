@@ -19,6 +19,7 @@ pub fn first_basis(chi: &Chirotope) -> Subset
     chi.is_lawful();
     match first_between(chi, nothing, nothing) {
         Some(first) => first,
+        // some value of a chirotope isn't 0
         None => unreachable!(),
     }
 }
@@ -36,6 +37,7 @@ pub fn extend_to_basis(chi: &Chirotope, independent: Subset) -> Subset
     let nothing = Subset::first(0, chi.elements());
     match first_between(chi, independent, nothing) {
         Some(basis) => basis,
+        // an independent set is contained in some basis
         None => unreachable!(),
     }
 }

@@ -41,5 +41,6 @@ pub fn exchange(chi: &Chirotope, b: Subset, c: Subset, e: u8) -> u8
             return f;
         }
     }
+    // some element of c takes the place of e, by the exchange of bases
     unreachable!()
 }

@@ -85,6 +85,7 @@ fn evidence(chi: &Chirotope, circuits: &Firsts, cocircuits: &Firsts, e: u8) -> P
     }
     match cocircuits[e as usize] {
         Some(y) => Painted::Cocircuit(y),
+        // by the painting lemma a cocircuit fits where no circuit does
         None => unreachable!(),
     }
 }

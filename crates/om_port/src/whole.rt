@@ -1,3 +1,5 @@
+//! Reading a source to its end, and writing all of some bytes.
+
 ghost use Rattle.std.specs.Prelude.{◌≡◌, ◌≢◌, ◌≤◌, ◌<◌, ◌+◌, IfOk, IfErr, OnOk, OnErr, vec_len, length, take};
 ghost use Rattle.std.specs.Io.KnownBytes.{Consumes, Appends, IsAtEnd};
 ghost use Rattle.om_port.specs.Causes.{Rose, TakesExactly, TakesAtMost, TakesSome};

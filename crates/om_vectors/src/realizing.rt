@@ -1,3 +1,5 @@
+//! Whether vectors realize a chirotope.
+
 ghost use Rattle.std.specs.Prelude.{◌≡◌, ◌↔◌, length, IsOk, IfErr};
 ghost use Rattle.om_vectors.specs.Realizations.{Realizes, IsFirstOther};
 

@@ -1,3 +1,5 @@
+//! The chirotope of vectors.
+
 ghost use Rattle.std.specs.Prelude.{◌≡◌, ◌≢◌, ◌≤◌, ◌↔◌, length, map, IfOk, IfSome, IsNone, IsErrOf};
 ghost use Rattle.om_subsets.specs.Subsets.{all_subsets, IsTriple};
 ghost use Rattle.om_vectors.specs.Realizations.{triple_sign, signs_map, IsRankLow};

@@ -1,3 +1,5 @@
+//! The triple product of three vectors.
+
 ghost use Rattle.std.specs.Prelude.{◌≡◌, ◌≤◌, ◌*ℤ◌, ◌^◌, unsigned_abs};
 ghost use Rattle.om_vectors.specs.WholeVectors.{triple_product};
 ghost use Rattle.om_signs.specs.Coordinates.{IsCoordinate};
