@@ -208,8 +208,6 @@ fn row_of(raw: &RawMap, cocircuits: &[SignVec], p: Subset, x: u8, place: u32) ->
     ensures { result ≡ cocircuit_vector (map_of raw.now) (p.elements ++ x ∷ []) }
 {
     p.is_lawful();
-    // this call tells that p with x is a set, whose place is given
-    let _with = p.with(x);
     let vector = cocircuits[place as usize];
     if p.odd_after(x) { vector.neg() } else { vector }
 }
