@@ -1,7 +1,7 @@
 -- Products and sums over places, in one form: an operation with a unit and an order, powers of a value, and the total over the places
 -- below a number, each taken as often as a count says.
 --
--- Main result: total-side, that the values of the sides of a list of entries combine to the total over all places.
+-- Main results: total-add and total-place, the total of a sum and of one place; power_less, more of a greater value is greater.
 --
 -- Main definitions: Combination, power, total, here
 use Rattle.std.specs.Prelude.{ℕ, ◌≡◌, ◌+◌, ◌*◌, ◌<◌, ◌≤◌, cond, nat_eq, refl}

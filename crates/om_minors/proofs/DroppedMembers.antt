@@ -62,7 +62,6 @@ module _ (P : List Sign → Type 0) (vectors : List (List Sign)) (all : AreAllOf
 -- ---- the members without the place of e
 
 module _ (n e : ℕ) (several : 2 ≤ n) (low : 1 ≤ e) (high : e ≤ n) (members : List (List Sign)) (lengths : HaveLength n members) where
-
   length_of : (W : List Sign) → Contains members W → length W ≡ n
   length_of W w = All-contains (λ X. length X ≡ n) members W lengths w
 

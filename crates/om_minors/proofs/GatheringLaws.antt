@@ -32,7 +32,6 @@ pub record AreGathered (R : List Sign → List Sign → Type 0) (vectors list : 
   pub few : length list ≤ k
 
 module _ (R : List Sign → List Sign → Type 0) (vectors : List (List Sign)) where
-
   module _ (k : ℕ) (x : List Sign) (lt : k < length vectors) (is : x ≡ get_or vectors k x) where
     one_more : take (k + 1) vectors ≡ take k vectors ++ x ∷ []
     one_more = take_more vectors k x lt ∙ ap (λ y. take k vectors ++ y ∷ []) (sym is)

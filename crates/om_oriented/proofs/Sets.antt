@@ -58,10 +58,6 @@ module _ (m : SignMap) (X : List Sign) (s : Chosen) (h : IsOrthogonalBefore m X 
         orthogonal_up_to (subst (IsOrthogonal X) e o) T ht few (omega arith);
   }
 
-  -- a set whose vector isn't orthogonal
-  pub not_covector : (v : List Sign) → v ≡ circuit_vector m s.elements → (IsOrthogonal X v → ⊥) → IsCovectorOfChirotope m X → ⊥
-  not_covector v e apart c = apart (subst (IsOrthogonal X) (sym e) (c.orthogonal s.elements h.list h.size))
-
 -- in the rank of all elements there is no set
 pub no_sets : (m : SignMap) (X : List Sign) → length X ≡ m.elements → m.rank ≡ m.elements → IsCovectorOfChirotope m X
 no_sets m X l e = record {

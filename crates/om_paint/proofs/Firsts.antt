@@ -3,7 +3,7 @@
 -- Main definitions: IsFilledBefore
 -- Main results: one vector more (one_more), also with a place for each class (kept_zero, put), and what stands there (placed), both signs of the vector at one place more (place_more); the walk over the sets of a size goes on
 -- (filled_on) and ends (filled_at_last); all places are all circuits (first_of_circuits, no_circuits) and all cocircuits
--- (first_of_cocircuits, no_cocircuits).
+-- (first_of_cocircuits).
 use Rattle.std.proofs.Common.{ℕ, ◌≡◌, ◌+◌, ◌-◌, ◌<◌, ◌⊎◌, ◌↔◌, List, length, map, get_or, replicate, set, refl, sym, ap, subst, ◌∙◌, inl, inr, ⊎_elim, arith}
 use Rattle.std.specs.Prelude.{Option, None, Some}
 use Rattle.std.specs.Cmp.{tied_itself}
@@ -220,6 +220,3 @@ module _ (m : SignMap) (Q : List Sign → Type 0) where
 
   pub first_of_cocircuits : 0 < m.rank → (o : Option (List Sign)) → IsFirstIfAny (IsPassing (cocircuit_vector m) Q m.elements (m.rank - 1) (choose m.elements (m.rank - 1))) o → IsFirstIfAny IsCocircuitIn o
   first_of_cocircuits r o h = first_same (IsOfList (cocircuit_vector m) Q m.elements (m.rank - 1)) IsCocircuitIn (to_cocircuit r) from_cocircuit o (all_places (cocircuit_vector m) Q m.elements (m.rank - 1) o h)
-
-  pub no_cocircuits : m.rank ≡ 0 → (i : ℕ) → i < CLASSES → IsFirstIfAny IsCocircuitIn (get_or (replicate CLASSES None) i None)
-  no_cocircuits z i lt = subst (IsFirstIfAny IsCocircuitIn) (sym (get_or-replicate CLASSES i None None lt)) (λ X h. let c = h.0 in let s = c.size in absurd (omega (arith, z, s)))

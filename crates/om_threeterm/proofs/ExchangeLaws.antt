@@ -1,6 +1,6 @@
 -- Violated exchanges: from the elements that may stand in the place of another, the first of a set, and the first of all.
 --
--- Main results: unexchanged_of_apart and apart_of_unexchanged; best_start, best_same and best_new for the loop over e, and of_best, what it
+-- Main results: unexchanged_of_apart and apart_of_unexchanged; best_start, best_same and best_new for the loop over e, first_of_best and none_of_best, what it
 -- finds; exchange_of_none and first_of_least, what the scan over all bases finds.
 use Rattle.std.specs.Prelude.{ℕ, ◌≡◌, ◌+◌, ◌<◌, ◌≤◌, ◌↔◌, ◌⊎◌, List, [], ◌∷◌, length, Option, Some, None, MatchOption, IfNone, IfSome}
 use Rattle.std.proofs.Common.{refl, sym, ◌∙◌, ap, arith, inl, inr, subst, ⊎_elim}

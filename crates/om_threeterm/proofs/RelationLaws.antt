@@ -1,6 +1,6 @@
 -- Violated three-term relations: the value of a list with two elements behind it, a list's frame, and the first violated relation.
 --
--- Main results: value_even and value_odd; frame_of, the frame that a list of four elements makes; relations_of_none and first_of_least, what
+-- Main results: value_same and value_turned; frame_of, the frame that a list of four elements makes; relations_of_none and first_of_least, what
 -- the scan over all lists P finds.
 use Rattle.std.specs.Prelude.{ℕ, ◌≡◌, ◌+◌, ◌-◌, ◌%◌, ◌<◌, ◌≤◌, ◌↔◌, ◌⊎◌, List, [], ◌∷◌, ◌++◌, length, Bool, true, false, IsTrue}
 use Rattle.std.specs.Bool.{beq}
