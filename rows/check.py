@@ -130,13 +130,17 @@ def run_tables(tally, program):
 
 
 def run_faults(tally, program):
-    """A read that fails behind each byte of a document, and a room that ends behind each byte of an answer."""
+    """A read that fails behind each byte of a document, and rooms that end behind each byte of two answers."""
     for read in range(len(UNIFORM) + 1):
         tally.expect("a read that fails behind %d bytes" % read, run_cut_off(program, ["accept"], UNIFORM[:read]), (4, b""))
     for room in range(9):
         tally.expect("a room of %d bytes" % room, run_in_room(program, ["accept"], UNIFORM, room), (5, b"accepted\n"[:room]))
     tally.expect("a room of 9 bytes", run_in_room(program, ["accept"], UNIFORM, 9), (0, b"accepted\n"))
-    tally.expect("a list that is cut off", run_in_room(program, ["convert", "circuits"], UNIFORM, 10), (5, b"om 1\ncircu"))
+    circuits = b"om 1\ncircuits 4\n-+-+\n+-+-\nend\n"
+    for room in range(len(circuits)):
+        found = run_in_room(program, ["convert", "circuits"], UNIFORM, room)
+        tally.expect("a list in a room of %d bytes" % room, found, (5, circuits[:room]))
+    tally.expect("a list in a room of its size", run_in_room(program, ["convert", "circuits"], UNIFORM, len(circuits)), (0, circuits))
 
 
 def run_parts(tally, program):
