@@ -1,4 +1,4 @@
-//! Signs and sign vectors of texts, and texts of them.
+//! Signs and sign vectors of texts, and whether signs are those of a text.
 
 ghost use Rattle.std.specs.Prelude.{◌≡◌, ◌≤◌, length, IfOk};
 ghost use Rattle.om_members.specs.Listings.{HaveLength, AreDistinct};
@@ -70,44 +70,6 @@ pub fn vectors_of(alloc: Global, elements: u8, texts: &[&str]) -> Result<List<Si
         }
     }
     Ok(list)
-}
-
-/// The letter of a sign: `-`, `0` or `+`.
-fn letter_of(sign: Sign) -> &'static str {
-    match sign {
-        Sign::Minus => "-",
-        Sign::Zero => "0",
-        Sign::Plus => "+",
-    }
-}
-
-/// The text of a map: its rank, its number of elements and its signs, as `2 3 +-+`. It takes its memory from `alloc`.
-///
-/// [`SampleError::Memory`] comes for want of memory, and no other error does.
-pub fn text_of_map(alloc: Global, raw: &RawMap) -> Result<String, SampleError> {
-    let (rank, elements) = (raw.rank, raw.elements);
-    let mut text = format!(in alloc; "{rank} {elements} ")?;
-    for sign in raw.signs.as_slice() {
-        text.push_str(letter_of(*sign))?;
-    }
-    Ok(text)
-}
-
-/// The text of some sign vectors, in their order, with a space between two, as `0++ -0+`. It takes its memory from
-/// `alloc`.
-///
-/// [`SampleError::Memory`] comes for want of memory, and no other error does.
-pub fn text_of_vectors(alloc: Global, vectors: &[SignVec]) -> Result<String, SampleError> {
-    let mut text = String::new(alloc);
-    for vector in vectors {
-        if !text.is_empty() {
-            text.push_str(" ")?;
-        }
-        for e in 1..vector.len() + 1 {
-            text.push_str(letter_of(vector.get(e)))?;
-        }
-    }
-    Ok(text)
 }
 
 /// Whether some sign vectors are those of a text, in any order, as many of them as words; with a space between two words, as

@@ -1,4 +1,4 @@
-//! Small oriented matroids written as texts, and the texts of what is made of them: for tests alone.
+//! Small oriented matroids written as texts, and whether what is made of them is what a text writes: for tests alone.
 //!
 //! A text has one character for each sign: `+`, `-`, and any other for zero.
 #![tactic(auto)]
@@ -7,8 +7,6 @@ mod letters;
 mod sample_error;
 mod samples;
 
-pub use letters::{
-    are_vectors, is_map, sign_of, signs_of, text_of_map, text_of_vectors, vector_of, vectors_of,
-};
+pub use letters::{are_vectors, is_map, sign_of, signs_of, vector_of, vectors_of};
 pub use sample_error::SampleError;
 pub use samples::{chirotope_of, circuits_of, cocircuits_of, covectors_of};
