@@ -33,25 +33,36 @@ subset_text (x ∷ xs) = join_with_byte 44 (map decimal (x ∷ xs))
 abbrev pub signs_text : List Sign → List ℕ
 signs_text xs = map byte_of xs
 
--- a code of a line at fault, with its number where it has one
+-- the word of a code of a line at fault
+abbrev pub code_name : Code → List ℕ
+code_name code.Version = codes "version"
+code_name code.Kind = codes "kind"
+code_name code.Header = codes "header"
+code_name (code.Elements _) = codes "elements"
+code_name (code.Rank _) = codes "rank"
+code_name (code.Size _) = codes "size"
+code_name code.Setting = codes "setting"
+code_name code.Sign = codes "sign"
+code_name code.Length = codes "length"
+code_name code.Block = codes "block"
+code_name code.Number = codes "number"
+code_name code.Many = codes "many"
+code_name code.Few = codes "few"
+code_name code.After = codes "after"
+code_name code.Claim = codes "claim"
+code_name code.Entry = codes "entry"
+code_name code.Missing = codes "missing"
+
+-- the number of a code behind a space, where it has one
+abbrev pub code_number : Code → List ℕ
+code_number (code.Elements n) = spaced (decimal n)
+code_number (code.Rank r) = spaced (decimal r)
+code_number (code.Size v) = spaced (decimal v)
+code_number _ = []
+
+-- a code, with its number where it has one
 abbrev pub code_text : Code → List ℕ
-code_text code.Version = codes "version"
-code_text code.Kind = codes "kind"
-code_text code.Header = codes "header"
-code_text (code.Elements n) = codes "elements" ++ spaced (decimal n)
-code_text (code.Rank r) = codes "rank" ++ spaced (decimal r)
-code_text (code.Size v) = codes "size" ++ spaced (decimal v)
-code_text code.Setting = codes "setting"
-code_text code.Sign = codes "sign"
-code_text code.Length = codes "length"
-code_text code.Block = codes "block"
-code_text code.Number = codes "number"
-code_text code.Many = codes "many"
-code_text code.Few = codes "few"
-code_text code.After = codes "after"
-code_text code.Claim = codes "claim"
-code_text code.Entry = codes "entry"
-code_text code.Missing = codes "missing"
+code_text c = code_name c ++ code_number c
 
 -- a number behind a space
 abbrev pub number : ℕ → List ℕ
@@ -76,52 +87,90 @@ abbrev pub ended : List Field → List ℕ
 ended [] = 10 ∷ []
 ended (f ∷ fs) = field_text f ++ ended fs
 
+-- the words of a line's name
+abbrev pub line_name : Line → List ℕ
+line_name line.Accepted = codes "accepted"
+line_name line.Covector = codes "covector"
+line_name line.NotCovector = codes "not covector"
+line_name line.ValidRealizable = codes "valid realizable"
+line_name line.ValidNonrealizable = codes "valid nonrealizable"
+line_name line.ValidUndecided = codes "valid undecided"
+line_name (line.Circuit _) = codes "circuit"
+line_name (line.Cocircuit _) = codes "cocircuit"
+line_name (line.Cyclic _) = codes "cyclic"
+line_name (line.Usage _) = codes "usage"
+line_name (line.LimitMembers _) = codes "limit members"
+line_name (line.LimitValues _) = codes "limit values"
+line_name line.RefusedLong = codes "refused long"
+line_name (line.RefusedLine _ _) = codes "refused line"
+line_name line.RefusedAllzero = codes "refused allzero"
+line_name (line.RefusedRelation _ _) = codes "refused relation"
+line_name (line.RefusedZero _) = codes "refused zero"
+line_name (line.RefusedNonegative _) = codes "refused nonegative"
+line_name (line.RefusedNested _ _) = codes "refused nested"
+line_name (line.RefusedNoelimination _ _ _) = codes "refused noelimination"
+line_name line.RefusedNozero = codes "refused nozero"
+line_name (line.RefusedNocomposition _ _) = codes "refused nocomposition"
+line_name (line.RefusedRange _) = codes "refused range"
+line_name (line.RefusedNotincreasing _) = codes "refused notincreasing"
+line_name line.RefusedNotreversed = codes "refused notreversed"
+line_name line.RefusedRanklow = codes "refused ranklow"
+line_name line.RefusedFlatrank = codes "refused flatrank"
+line_name (line.RefusedLength _) = codes "refused length"
+line_name (line.RefusedPlace _) = codes "refused place"
+line_name line.RefusedLastelement = codes "refused lastelement"
+line_name (line.RefusedNotrank3 _) = codes "refused notrank3"
+line_name (line.RefusedFull _) = codes "refused full"
+line_name line.RefusedNotbasis = codes "refused notbasis"
+line_name (line.RefusedNotsweepable _ _) = codes "refused notsweepable"
+line_name (line.RefusedNotmutation _ _) = codes "refused notmutation"
+line_name (line.RefusedColour _) = codes "refused colour"
+line_name line.RefusedNotmap = codes "refused notmap"
+line_name (line.RefusedNoexchange _ _ _) = codes "refused noexchange"
+line_name (line.RefusedThreeterm _ _) = codes "refused threeterm"
+line_name line.RefusedNocertificate = codes "refused nocertificate"
+line_name (line.RefusedNumber _ _) = codes "refused number"
+line_name (line.RefusedWrongsign _) = codes "refused wrongsign"
+line_name (line.RefusedUnlawful _) = codes "refused unlawful"
+line_name (line.RefusedUnbalanced _ _ _) = codes "refused unbalanced"
+line_name line.RefusedNostrict = codes "refused nostrict"
+line_name (line.RefusedBracket _) = codes "refused bracket"
+line_name (line.RefusedWeightfails _) = codes "refused weightfails"
+
+-- the fields of a line in their order
+abbrev pub line_fields : Line → List Field
+line_fields (line.Circuit x) = field.Signs x ∷ []
+line_fields (line.Cocircuit x) = field.Signs x ∷ []
+line_fields (line.Cyclic x) = field.Signs x ∷ []
+line_fields (line.Usage word) = field.Number word ∷ []
+line_fields (line.LimitMembers limit) = field.Number limit ∷ []
+line_fields (line.LimitValues values) = field.Number values ∷ []
+line_fields (line.RefusedLine n c) = field.Number n ∷ field.Code c ∷ []
+line_fields (line.RefusedRelation s a) = field.Set s ∷ field.Set a ∷ []
+line_fields (line.RefusedZero i) = field.Number i ∷ []
+line_fields (line.RefusedNonegative i) = field.Number i ∷ []
+line_fields (line.RefusedNested i j) = field.Number i ∷ field.Number j ∷ []
+line_fields (line.RefusedNoelimination i j e) = field.Number i ∷ field.Number j ∷ field.Small e ∷ []
+line_fields (line.RefusedNocomposition i j) = field.Number i ∷ field.Number j ∷ []
+line_fields (line.RefusedRange step) = field.Number step ∷ []
+line_fields (line.RefusedNotincreasing step) = field.Number step ∷ []
+line_fields (line.RefusedLength given) = field.Number given ∷ []
+line_fields (line.RefusedPlace e) = field.Small e ∷ []
+line_fields (line.RefusedNotrank3 r) = field.Small r ∷ []
+line_fields (line.RefusedFull n) = field.Small n ∷ []
+line_fields (line.RefusedNotsweepable s a) = field.Set s ∷ field.Set a ∷ []
+line_fields (line.RefusedNotmutation s a) = field.Set s ∷ field.Set a ∷ []
+line_fields (line.RefusedColour e) = field.Small e ∷ []
+line_fields (line.RefusedNoexchange b c e) = field.Set b ∷ field.Set c ∷ field.Small e ∷ []
+line_fields (line.RefusedThreeterm p q) = field.Set p ∷ field.Set q ∷ []
+line_fields (line.RefusedNumber wanted given) = field.Number wanted ∷ field.Number given ∷ []
+line_fields (line.RefusedWrongsign triple) = field.Set triple ∷ []
+line_fields (line.RefusedUnlawful entry) = field.Number entry ∷ []
+line_fields (line.RefusedUnbalanced bracket small big) = field.Set bracket ∷ field.Large small ∷ field.Large big ∷ []
+line_fields (line.RefusedBracket entry) = field.Number entry ∷ []
+line_fields (line.RefusedWeightfails statement) = field.Statement statement ∷ []
+line_fields _ = []
+
 -- a line: the words of its name in lower case, and then its fields in their order
 abbrev pub line_text : Line → List ℕ
-line_text line.Accepted = codes "accepted" ++ ended []
-line_text line.Covector = codes "covector" ++ ended []
-line_text line.NotCovector = codes "not covector" ++ ended []
-line_text line.ValidRealizable = codes "valid realizable" ++ ended []
-line_text line.ValidNonrealizable = codes "valid nonrealizable" ++ ended []
-line_text line.ValidUndecided = codes "valid undecided" ++ ended []
-line_text (line.Circuit x) = codes "circuit" ++ ended (field.Signs x ∷ [])
-line_text (line.Cocircuit x) = codes "cocircuit" ++ ended (field.Signs x ∷ [])
-line_text (line.Cyclic x) = codes "cyclic" ++ ended (field.Signs x ∷ [])
-line_text (line.Usage word) = codes "usage" ++ ended (field.Number word ∷ [])
-line_text (line.LimitMembers limit) = codes "limit members" ++ ended (field.Number limit ∷ [])
-line_text (line.LimitValues values) = codes "limit values" ++ ended (field.Number values ∷ [])
-line_text line.RefusedLong = codes "refused long" ++ ended []
-line_text (line.RefusedLine n c) = codes "refused line" ++ ended (field.Number n ∷ field.Code c ∷ [])
-line_text line.RefusedAllzero = codes "refused allzero" ++ ended []
-line_text (line.RefusedRelation s a) = codes "refused relation" ++ ended (field.Set s ∷ field.Set a ∷ [])
-line_text (line.RefusedZero i) = codes "refused zero" ++ ended (field.Number i ∷ [])
-line_text (line.RefusedNonegative i) = codes "refused nonegative" ++ ended (field.Number i ∷ [])
-line_text (line.RefusedNested i j) = codes "refused nested" ++ ended (field.Number i ∷ field.Number j ∷ [])
-line_text (line.RefusedNoelimination i j e) = codes "refused noelimination" ++ ended (field.Number i ∷ field.Number j ∷ field.Small e ∷ [])
-line_text line.RefusedNozero = codes "refused nozero" ++ ended []
-line_text (line.RefusedNocomposition i j) = codes "refused nocomposition" ++ ended (field.Number i ∷ field.Number j ∷ [])
-line_text (line.RefusedRange step) = codes "refused range" ++ ended (field.Number step ∷ [])
-line_text (line.RefusedNotincreasing step) = codes "refused notincreasing" ++ ended (field.Number step ∷ [])
-line_text line.RefusedNotreversed = codes "refused notreversed" ++ ended []
-line_text line.RefusedRanklow = codes "refused ranklow" ++ ended []
-line_text line.RefusedFlatrank = codes "refused flatrank" ++ ended []
-line_text (line.RefusedLength given) = codes "refused length" ++ ended (field.Number given ∷ [])
-line_text (line.RefusedPlace e) = codes "refused place" ++ ended (field.Small e ∷ [])
-line_text line.RefusedLastelement = codes "refused lastelement" ++ ended []
-line_text (line.RefusedNotrank3 r) = codes "refused notrank3" ++ ended (field.Small r ∷ [])
-line_text (line.RefusedFull n) = codes "refused full" ++ ended (field.Small n ∷ [])
-line_text line.RefusedNotbasis = codes "refused notbasis" ++ ended []
-line_text (line.RefusedNotsweepable s a) = codes "refused notsweepable" ++ ended (field.Set s ∷ field.Set a ∷ [])
-line_text (line.RefusedNotmutation s a) = codes "refused notmutation" ++ ended (field.Set s ∷ field.Set a ∷ [])
-line_text (line.RefusedColour e) = codes "refused colour" ++ ended (field.Small e ∷ [])
-line_text line.RefusedNotmap = codes "refused notmap" ++ ended []
-line_text (line.RefusedNoexchange b c e) = codes "refused noexchange" ++ ended (field.Set b ∷ field.Set c ∷ field.Small e ∷ [])
-line_text (line.RefusedThreeterm p q) = codes "refused threeterm" ++ ended (field.Set p ∷ field.Set q ∷ [])
-line_text line.RefusedNocertificate = codes "refused nocertificate" ++ ended []
-line_text (line.RefusedNumber wanted given) = codes "refused number" ++ ended (field.Number wanted ∷ field.Number given ∷ [])
-line_text (line.RefusedWrongsign triple) = codes "refused wrongsign" ++ ended (field.Set triple ∷ [])
-line_text (line.RefusedUnlawful entry) = codes "refused unlawful" ++ ended (field.Number entry ∷ [])
-line_text (line.RefusedUnbalanced bracket small big) = codes "refused unbalanced" ++ ended (field.Set bracket ∷ field.Large small ∷ field.Large big ∷ [])
-line_text line.RefusedNostrict = codes "refused nostrict" ++ ended []
-line_text (line.RefusedBracket entry) = codes "refused bracket" ++ ended (field.Number entry ∷ [])
-line_text (line.RefusedWeightfails statement) = codes "refused weightfails" ++ ended (field.Statement statement ∷ [])
+line_text l = line_name l ++ ended (line_fields l)

@@ -2,7 +2,7 @@
 
 ghost use Rattle.std.specs.Prelude.{◌≡◌, ◌++◌, OnOk};
 ghost use Rattle.std.specs.Fmt.{decimal, signed_decimal};
-ghost use Rattle.om_answer.specs.Texts.{code_text, field_text, spaced, stated};
+ghost use Rattle.om_answer.specs.Texts.{code_name, code_text, field_text, spaced, stated};
 
 use super::field::Field;
 pub use super::pieces::push;
@@ -29,38 +29,56 @@ pub fn push_signed(text: &mut Vec<u8>, n: i128) -> Result<(), NoMemory>
     push(text, buffer.format(n).as_bytes())
 }
 
+/// The word of a code.
+fn name_of(code: Code) -> &'static [u8]
+    ensures { result.now ≡ code_name code }
+{
+    match code {
+        Code::Version => b"version",
+        Code::Kind => b"kind",
+        Code::Header => b"header",
+        Code::Elements { .. } => b"elements",
+        Code::Rank { .. } => b"rank",
+        Code::Size { .. } => b"size",
+        Code::Setting => b"setting",
+        Code::Sign => b"sign",
+        Code::Length => b"length",
+        Code::Block => b"block",
+        Code::Number => b"number",
+        Code::Many => b"many",
+        Code::Few => b"few",
+        Code::After => b"after",
+        Code::Claim => b"claim",
+        Code::Entry => b"entry",
+        Code::Missing => b"missing",
+    }
+}
+
 /// Puts a space and a code, with its number where it has one, at the end.
 fn push_code(text: &mut Vec<u8>, code: Code) -> Result<(), NoMemory>
     ensures { OnOk result (text.new.items ≡ text.old.items ++ spaced (code_text code)) }
 {
     push(text, b" ")?;
+    push(text, name_of(code))?;
     match code {
-        Code::Version => push(text, b"version"),
-        Code::Kind => push(text, b"kind"),
-        Code::Header => push(text, b"header"),
-        Code::Elements { n } => {
-            push(text, b"elements")?;
-            push_number(text, u128::from(n))
-        }
-        Code::Rank { r } => {
-            push(text, b"rank")?;
-            push_number(text, u128::from(r))
-        }
-        Code::Size { values } => {
-            push(text, b"size")?;
-            push_number(text, u128::from(values))
-        }
-        Code::Setting => push(text, b"setting"),
-        Code::Sign => push(text, b"sign"),
-        Code::Length => push(text, b"length"),
-        Code::Block => push(text, b"block"),
-        Code::Number => push(text, b"number"),
-        Code::Many => push(text, b"many"),
-        Code::Few => push(text, b"few"),
-        Code::After => push(text, b"after"),
-        Code::Claim => push(text, b"claim"),
-        Code::Entry => push(text, b"entry"),
-        Code::Missing => push(text, b"missing"),
+        Code::Elements { n } | Code::Rank { r: n } | Code::Size { values: n } => push_number(
+            text,
+            u128::from(n),
+        ),
+        Code::Version
+        | Code::Kind
+        | Code::Header
+        | Code::Setting
+        | Code::Sign
+        | Code::Length
+        | Code::Block
+        | Code::Number
+        | Code::Many
+        | Code::Few
+        | Code::After
+        | Code::Claim
+        | Code::Entry
+        | Code::Missing => Ok(()),
     }
 }
 

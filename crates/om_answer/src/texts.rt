@@ -1,7 +1,7 @@
 //! The texts of answers of one line.
 
 ghost use Rattle.std.specs.Prelude.{◌≡◌, ◌++◌, IfOk};
-ghost use Rattle.om_answer.specs.Texts.{ended, line_text};
+ghost use Rattle.om_answer.specs.Texts.{ended, line_name, line_text};
 
 use super::field::Field::{self, Code, Large, Number, Set, Signs, Small, Statement};
 use super::fields::push_field;
@@ -23,6 +23,61 @@ fn text_of(alloc: Global, name: &str, fields: &[Field]) -> Result<Vec<u8>, NoMem
     Ok(text)
 }
 
+/// The words of a line's name in lower case.
+fn name_of(line: &Line) -> &'static str
+    ensures { result.now ≡ line_name line.now }
+{
+    match line {
+        Line::Accepted => "accepted",
+        Line::Covector => "covector",
+        Line::NotCovector => "not covector",
+        Line::ValidRealizable => "valid realizable",
+        Line::ValidNonrealizable => "valid nonrealizable",
+        Line::ValidUndecided => "valid undecided",
+        Line::Circuit { .. } => "circuit",
+        Line::Cocircuit { .. } => "cocircuit",
+        Line::Cyclic { .. } => "cyclic",
+        Line::Usage { .. } => "usage",
+        Line::LimitMembers { .. } => "limit members",
+        Line::LimitValues { .. } => "limit values",
+        Line::RefusedLong => "refused long",
+        Line::RefusedLine { .. } => "refused line",
+        Line::RefusedAllzero => "refused allzero",
+        Line::RefusedRelation { .. } => "refused relation",
+        Line::RefusedZero { .. } => "refused zero",
+        Line::RefusedNonegative { .. } => "refused nonegative",
+        Line::RefusedNested { .. } => "refused nested",
+        Line::RefusedNoelimination { .. } => "refused noelimination",
+        Line::RefusedNozero => "refused nozero",
+        Line::RefusedNocomposition { .. } => "refused nocomposition",
+        Line::RefusedRange { .. } => "refused range",
+        Line::RefusedNotincreasing { .. } => "refused notincreasing",
+        Line::RefusedNotreversed => "refused notreversed",
+        Line::RefusedRanklow => "refused ranklow",
+        Line::RefusedFlatrank => "refused flatrank",
+        Line::RefusedLength { .. } => "refused length",
+        Line::RefusedPlace { .. } => "refused place",
+        Line::RefusedLastelement => "refused lastelement",
+        Line::RefusedNotrank3 { .. } => "refused notrank3",
+        Line::RefusedFull { .. } => "refused full",
+        Line::RefusedNotbasis => "refused notbasis",
+        Line::RefusedNotsweepable { .. } => "refused notsweepable",
+        Line::RefusedNotmutation { .. } => "refused notmutation",
+        Line::RefusedColour { .. } => "refused colour",
+        Line::RefusedNotmap => "refused notmap",
+        Line::RefusedNoexchange { .. } => "refused noexchange",
+        Line::RefusedThreeterm { .. } => "refused threeterm",
+        Line::RefusedNocertificate => "refused nocertificate",
+        Line::RefusedNumber { .. } => "refused number",
+        Line::RefusedWrongsign { .. } => "refused wrongsign",
+        Line::RefusedUnlawful { .. } => "refused unlawful",
+        Line::RefusedUnbalanced { .. } => "refused unbalanced",
+        Line::RefusedNostrict => "refused nostrict",
+        Line::RefusedBracket { .. } => "refused bracket",
+        Line::RefusedWeightfails { .. } => "refused weightfails",
+    }
+}
+
 /// The text of a line: the words of its name in lower case and then its fields, with single spaces, and a line feed. The
 /// text takes its memory from `alloc`.
 ///
@@ -30,97 +85,67 @@ fn text_of(alloc: Global, name: &str, fields: &[Field]) -> Result<Vec<u8>, NoMem
 pub fn print_line(alloc: Global, line: &Line) -> Result<Vec<u8>, NoMemory>
     ensures { IfOk result (λ text. text.items ≡ line_text line.now) }
 {
+    let name = name_of(line);
     match line {
-        Line::Accepted => text_of(alloc, "accepted", &[]),
-        Line::Covector => text_of(alloc, "covector", &[]),
-        Line::NotCovector => text_of(alloc, "not covector", &[]),
-        Line::ValidRealizable => text_of(alloc, "valid realizable", &[]),
-        Line::ValidNonrealizable => text_of(alloc, "valid nonrealizable", &[]),
-        Line::ValidUndecided => text_of(alloc, "valid undecided", &[]),
-        Line::Circuit { x } => text_of(alloc, "circuit", &[Signs(*x)]),
-        Line::Cocircuit { x } => text_of(alloc, "cocircuit", &[Signs(*x)]),
-        Line::Cyclic { x } => text_of(alloc, "cyclic", &[Signs(*x)]),
-        Line::Usage { word } => text_of(alloc, "usage", &[Number(*word)]),
-        Line::LimitMembers { limit } => text_of(alloc, "limit members", &[Number(*limit)]),
-        Line::LimitValues { values } => text_of(alloc, "limit values", &[Number(*values)]),
-        Line::RefusedLong => text_of(alloc, "refused long", &[]),
-        Line::RefusedLine { line, code } => text_of(
+        Line::Circuit { x } | Line::Cocircuit { x } | Line::Cyclic { x } => text_of(
             alloc,
-            "refused line",
-            &[Number(*line), Code(*code)],
+            name,
+            &[Signs(*x)],
         ),
-        Line::RefusedAllzero => text_of(alloc, "refused allzero", &[]),
-        Line::RefusedRelation { s, a } => text_of(alloc, "refused relation", &[Set(*s), Set(*a)]),
-        Line::RefusedZero { i } => text_of(alloc, "refused zero", &[Number(*i)]),
-        Line::RefusedNonegative { i } => text_of(alloc, "refused nonegative", &[Number(*i)]),
-        Line::RefusedNested { i, j } => text_of(alloc, "refused nested", &[Number(*i), Number(*j)]),
+        Line::Usage { word: n }
+        | Line::LimitMembers { limit: n }
+        | Line::LimitValues { values: n }
+        | Line::RefusedZero { i: n }
+        | Line::RefusedNonegative { i: n }
+        | Line::RefusedRange { step: n }
+        | Line::RefusedNotincreasing { step: n }
+        | Line::RefusedLength { given: n }
+        | Line::RefusedUnlawful { entry: n }
+        | Line::RefusedBracket { entry: n } => text_of(alloc, name, &[Number(*n)]),
+        Line::RefusedLine { line, code } => text_of(alloc, name, &[Number(*line), Code(*code)]),
+        Line::RefusedNested { i, j }
+        | Line::RefusedNocomposition { i, j }
+        | Line::RefusedNumber {
+            wanted: i,
+            given: j,
+        } => text_of(alloc, name, &[Number(*i), Number(*j)]),
         Line::RefusedNoelimination { i, j, e } => text_of(
             alloc,
-            "refused noelimination",
+            name,
             &[Number(*i), Number(*j), Small(*e)],
         ),
-        Line::RefusedNozero => text_of(alloc, "refused nozero", &[]),
-        Line::RefusedNocomposition { i, j } => text_of(
-            alloc,
-            "refused nocomposition",
-            &[Number(*i), Number(*j)],
-        ),
-        Line::RefusedRange { step } => text_of(alloc, "refused range", &[Number(*step)]),
-        Line::RefusedNotincreasing { step } => text_of(
-            alloc,
-            "refused notincreasing",
-            &[Number(*step)],
-        ),
-        Line::RefusedNotreversed => text_of(alloc, "refused notreversed", &[]),
-        Line::RefusedRanklow => text_of(alloc, "refused ranklow", &[]),
-        Line::RefusedFlatrank => text_of(alloc, "refused flatrank", &[]),
-        Line::RefusedLength { given } => text_of(alloc, "refused length", &[Number(*given)]),
-        Line::RefusedPlace { e } => text_of(alloc, "refused place", &[Small(*e)]),
-        Line::RefusedLastelement => text_of(alloc, "refused lastelement", &[]),
-        Line::RefusedNotrank3 { r } => text_of(alloc, "refused notrank3", &[Small(*r)]),
-        Line::RefusedFull { n } => text_of(alloc, "refused full", &[Small(*n)]),
-        Line::RefusedNotbasis => text_of(alloc, "refused notbasis", &[]),
-        Line::RefusedNotsweepable { s, a } => text_of(
-            alloc,
-            "refused notsweepable",
-            &[Set(*s), Set(*a)],
-        ),
-        Line::RefusedNotmutation { s, a } => text_of(
-            alloc,
-            "refused notmutation",
-            &[Set(*s), Set(*a)],
-        ),
-        Line::RefusedColour { e } => text_of(alloc, "refused colour", &[Small(*e)]),
-        Line::RefusedNotmap => text_of(alloc, "refused notmap", &[]),
-        Line::RefusedNoexchange { b, c, e } => text_of(
-            alloc,
-            "refused noexchange",
-            &[Set(*b), Set(*c), Small(*e)],
-        ),
-        Line::RefusedThreeterm { p, q } => text_of(alloc, "refused threeterm", &[Set(*p), Set(*q)]),
-        Line::RefusedNocertificate => text_of(alloc, "refused nocertificate", &[]),
-        Line::RefusedNumber { wanted, given } => text_of(
-            alloc,
-            "refused number",
-            &[Number(*wanted), Number(*given)],
-        ),
-        Line::RefusedWrongsign { triple } => text_of(alloc, "refused wrongsign", &[Set(*triple)]),
-        Line::RefusedUnlawful { entry } => text_of(alloc, "refused unlawful", &[Number(*entry)]),
+        Line::RefusedPlace { e: n }
+        | Line::RefusedNotrank3 { r: n }
+        | Line::RefusedFull { n }
+        | Line::RefusedColour { e: n } => text_of(alloc, name, &[Small(*n)]),
+        Line::RefusedRelation { s, a }
+        | Line::RefusedNotsweepable { s, a }
+        | Line::RefusedNotmutation { s, a }
+        | Line::RefusedThreeterm { p: s, q: a } => text_of(alloc, name, &[Set(*s), Set(*a)]),
+        Line::RefusedNoexchange { b, c, e } => text_of(alloc, name, &[Set(*b), Set(*c), Small(*e)]),
+        Line::RefusedWrongsign { triple } => text_of(alloc, name, &[Set(*triple)]),
         Line::RefusedUnbalanced {
             bracket,
             small,
             big,
-        } => text_of(
-            alloc,
-            "refused unbalanced",
-            &[Set(*bracket), Large(*small), Large(*big)],
-        ),
-        Line::RefusedNostrict => text_of(alloc, "refused nostrict", &[]),
-        Line::RefusedBracket { entry } => text_of(alloc, "refused bracket", &[Number(*entry)]),
-        Line::RefusedWeightfails { statement } => text_of(
-            alloc,
-            "refused weightfails",
-            &[Statement(*statement)],
-        ),
+        } => text_of(alloc, name, &[Set(*bracket), Large(*small), Large(*big)]),
+        Line::RefusedWeightfails { statement } => text_of(alloc, name, &[Statement(*statement)]),
+        Line::Accepted
+        | Line::Covector
+        | Line::NotCovector
+        | Line::ValidRealizable
+        | Line::ValidNonrealizable
+        | Line::ValidUndecided
+        | Line::RefusedLong
+        | Line::RefusedAllzero
+        | Line::RefusedNozero
+        | Line::RefusedNotreversed
+        | Line::RefusedRanklow
+        | Line::RefusedFlatrank
+        | Line::RefusedLastelement
+        | Line::RefusedNotbasis
+        | Line::RefusedNotmap
+        | Line::RefusedNocertificate
+        | Line::RefusedNostrict => text_of(alloc, name, &[]),
     }
 }

@@ -10,7 +10,7 @@ ghost use Rattle.om_program.specs.Axioms.{MeetsAxioms, IsFlatDocument, IsRefusal
 ghost use Rattle.om_chirotope.specs.Map.{map_of};
 ghost use Rattle.om_chirotope.specs.Chirotope.{IsChirotope};
 ghost use Rattle.om_text.specs.Form.{IsMapOn};
-ghost use Rattle.om_program.specs.Documents.{document_of, worked_on};
+ghost use Rattle.om_program.specs.Documents.{document_of, map_document, with_map, worked_on};
 
 use super::point_vectors::chirotope_of_points;
 use super::unrepresented::Unrepresented;
@@ -64,19 +64,10 @@ pub fn represent<R: Threads + Sync>(
 {
     let Document { elements, body, .. } = document;
     match body {
-        Body::Chirotope(raw) => Ok(Representation::Chirotope(check_map(rt, raw)?)),
-        Body::Circuits(list) => {
-            let circuits = check_circuits(rt, alloc, elements, list)?;
-            Ok(Representation::Circuits(circuits))
-        }
-        Body::Cocircuits(list) => {
-            let cocircuits = check_cocircuits(rt, alloc, elements, list)?;
-            Ok(Representation::Cocircuits(cocircuits))
-        }
-        Body::Covectors(list) => {
-            let covectors = check_covectors(rt, alloc, elements, list)?;
-            Ok(Representation::Covectors(covectors))
-        }
+        Body::Chirotope(raw) => represent_map(rt, raw),
+        Body::Circuits(list) => represent_circuits(rt, alloc, elements, list),
+        Body::Cocircuits(list) => represent_cocircuits(rt, alloc, elements, list),
+        Body::Covectors(list) => represent_covectors(rt, alloc, elements, list),
         Body::Wiring(blocks) => Ok(Representation::Chirotope(chirotope_of_wiring(
             alloc, elements, blocks,
         )?)),
@@ -89,16 +80,16 @@ pub fn represent<R: Threads + Sync>(
 
 /// The chirotope of a map, or the line that refuses the map.
 #[inline(never)]
-fn check_map<R: Threads + Sync>(rt: &R, raw: RawMap) -> Result<Chirotope, Unrepresented>
+fn represent_map<R: Threads + Sync>(rt: &R, raw: RawMap) -> Result<Representation, Unrepresented>
     requires low { 1 ≤ raw.elements }
     requires high { raw.elements ≤ MAX_ELEMENTS }
     requires whole { IsMapOn raw.elements raw }
     ensures accepted { IsOk result ↔ IsChirotope (map_of raw) }
-    ensures value { IfOk result (λ c. c ≡ map_of raw) }
+    ensures value { IfOk result (λ representation. document_of representation ≡ map_document (map_of raw)) }
     ensures refused { IfErr result (IsRefusal raw.elements (Body.Chirotope raw)) }
 {
     match om_chirotope::check(rt, raw) {
-        Ok(chirotope) => Ok(chirotope),
+        Ok(chirotope) => Ok(Representation::Chirotope(chirotope)),
         Err(bad) => Err(Unrepresented::Refused(map_refusal(bad.why))),
     }
 }
@@ -115,42 +106,42 @@ fn map_refusal(why: MapRefused) -> Line
 
 /// The circuits of a list, or why they are none: the line that refuses the list, or want of memory.
 #[inline(never)]
-fn check_circuits<R: Threads + Sync>(
+fn represent_circuits<R: Threads + Sync>(
     rt: &R,
     alloc: Global,
     elements: u8,
     list: List<SignVec>,
-) -> Result<Circuits, Unrepresented>
+) -> Result<Representation, Unrepresented>
     requires low { 1 ≤ elements }
     requires high { elements ≤ MAX_ELEMENTS }
     requires members { AreMembersOn elements list }
     ensures accepted { OnOk result (MeetsCircuitAxioms list) }
-    ensures value { IfOk result (λ c. c.0 ≡ record { elements = elements; members = list }) }
+    ensures value { IfOk result (λ representation. document_of representation ≡ with_map elements (Body.Circuits list)) }
     ensures refused { IfErr result (IsRefusal elements (Body.Circuits list)) }
 {
     match read_circuits(rt, alloc, elements, list) {
-        Ok(set) => Ok(set),
+        Ok(circuits) => Ok(Representation::Circuits(circuits)),
         Err(error) => Err(unread_set(error)),
     }
 }
 
 /// The cocircuits of a list, or why they are none: the line that refuses the list, or want of memory.
 #[inline(never)]
-fn check_cocircuits<R: Threads + Sync>(
+fn represent_cocircuits<R: Threads + Sync>(
     rt: &R,
     alloc: Global,
     elements: u8,
     list: List<SignVec>,
-) -> Result<Cocircuits, Unrepresented>
+) -> Result<Representation, Unrepresented>
     requires low { 1 ≤ elements }
     requires high { elements ≤ MAX_ELEMENTS }
     requires members { AreMembersOn elements list }
     ensures accepted { OnOk result (MeetsCircuitAxioms list) }
-    ensures value { IfOk result (λ c. c.0 ≡ record { elements = elements; members = list }) }
+    ensures value { IfOk result (λ representation. document_of representation ≡ with_map elements (Body.Cocircuits list)) }
     ensures refused { IfErr result (IsRefusal elements (Body.Cocircuits list)) }
 {
     match read_cocircuits(rt, alloc, elements, list) {
-        Ok(set) => Ok(set),
+        Ok(cocircuits) => Ok(Representation::Cocircuits(cocircuits)),
         Err(error) => Err(unread_set(error)),
     }
 }
@@ -179,21 +170,21 @@ fn set_refusal(why: SetRefused) -> Line
 
 /// The covectors of a list, or why they are none: the line that refuses the list, or want of memory.
 #[inline(never)]
-fn check_covectors<R: Threads + Sync>(
+fn represent_covectors<R: Threads + Sync>(
     rt: &R,
     alloc: Global,
     elements: u8,
     list: List<SignVec>,
-) -> Result<Covectors, Unrepresented>
+) -> Result<Representation, Unrepresented>
     requires low { 1 ≤ elements }
     requires high { elements ≤ MAX_ELEMENTS }
     requires members { AreMembersOn elements list }
     ensures accepted { OnOk result (MeetsCovectorAxioms list) }
-    ensures value { IfOk result (λ set. set ≡ record { elements = elements; members = list }) }
+    ensures value { IfOk result (λ representation. document_of representation ≡ with_map elements (Body.Covectors list)) }
     ensures refused { IfErr result (IsRefusal elements (Body.Covectors list)) }
 {
     match read_covectors(rt, alloc, elements, list) {
-        Ok(covectors) => Ok(covectors),
+        Ok(covectors) => Ok(Representation::Covectors(covectors)),
         Err(error) => Err(unread_covectors(error)),
     }
 }

@@ -4,7 +4,7 @@ use Rattle.om_text.specs.declared.body.Body.TheVariants.{Circuits, Cocircuits}
 use Rattle.om_program.specs.declared.unrepresented.Unrepresented.{Unrepresented}
 use Rattle.om_program.specs.declared.unrepresented.Unrepresented.TheVariants.{Refused, Flat, Memory}
 use Rattle.om_program.specs.Axioms.{IsRefusal}
-use Rattle.om_program.proofs.representation.check_cocircuits.Goals as goal
+use Rattle.om_program.proofs.representation.represent_cocircuits.Goals as goal
 
 -- the axioms of cocircuits are those of circuits
 of_cocircuits : (n : ℕ) (list : List (List Sign)) (why : Unrepresented) → IsRefusal n (Circuits list) why → IsRefusal n (Cocircuits list) why

@@ -6,7 +6,7 @@ use Rattle.om_chirotope.specs.Chirotope as maps
 use Rattle.om_chirotope.specs.declared.map_refused.MapRefused.{MapRefused}
 use Rattle.om_chirotope.specs.declared.map_refused.MapRefused.TheVariants.{AllZero, Relation}
 use Rattle.om_program.specs.Axioms.{IsViolatedMap}
-use Rattle.om_program.proofs.representation.check_map.Goals as goal
+use Rattle.om_program.proofs.representation.represent_map.Goals as goal
 
 violated : (m : RawMap) (why : MapRefused) → ((why ≡ AllZero) ↔ maps.IsAllZero m.signs) → ((s a : Chosen) → why ≡ Relation s a → maps.IsFirstViolated (map_of m) s a) → IsViolatedMap m why
 violated m AllZero all_zero relation = all_zero.0 refl
