@@ -1,5 +1,5 @@
 /// Which numbers may stand at a place of a line.
-#[derive(Clone, Copy, Debug, PartialEq, Eq)]
+#[derive(Clone, Copy)]
 pub enum Range {
     /// Decimal digits, for a number from the first to the second one.
     Between(u64, u64),

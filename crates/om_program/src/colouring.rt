@@ -11,7 +11,7 @@ use om_paint::Colour;
 use om_signs::MAX_ELEMENTS;
 
 /// Colours and an element.
-#[derive(Clone, Copy, Debug, PartialEq, Eq)]
+#[derive(Clone, Copy)]
 pub struct Colouring {
     /// The colours, and white from `count` on.
     pub colours: [Colour; MAX_LISTED],

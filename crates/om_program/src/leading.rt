@@ -17,7 +17,7 @@ const UNLISTED: Signed = Signed {
 };
 
 /// Different elements with signs.
-#[derive(Clone, Copy, Debug, PartialEq, Eq)]
+#[derive(Clone, Copy)]
 pub struct Leading {
     /// The elements with their signs, and element 1 with `+` from `count` on.
     pub list: [Signed; MAX_LISTED],

@@ -18,7 +18,7 @@ use om_subsets::Subset;
 use std::alloc::Global;
 
 /// An operation on an oriented matroid.
-#[derive(Clone, Copy, Debug, PartialEq, Eq)]
+#[derive(Clone, Copy)]
 pub enum Operation {
     /// The dual.
     Dual,

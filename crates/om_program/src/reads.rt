@@ -1,5 +1,5 @@
 /// What a task reads from the source.
-#[derive(Clone, Copy, Debug, PartialEq, Eq)]
+#[derive(Clone, Copy)]
 pub enum Reads {
     /// A document.
     Document,

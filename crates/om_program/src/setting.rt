@@ -6,7 +6,7 @@ ghost use Rattle.om_program.specs.Options.{option_text, least_number, greatest_n
 use om_signs::{MAX_BOX, MAX_DRAWN, MAX_LINES, MAX_PIVOTS, MAX_STEPS};
 
 /// What an option gives a number.
-#[derive(Clone, Copy, Debug, PartialEq, Eq)]
+#[derive(Clone, Copy)]
 pub enum Setting {
     /// The most lines of a listing.
     First,

@@ -9,7 +9,7 @@ use om_decide::Budgets;
 use om_signs::SignVec;
 
 /// What the words after the program's name ask for.
-#[derive(Clone, Copy, Debug, PartialEq, Eq)]
+#[derive(Clone, Copy)]
 pub enum Task {
     /// `accept`: whether the document meets the axioms of its kind.
     Accept,

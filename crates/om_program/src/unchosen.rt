@@ -6,7 +6,7 @@ use om_answer::Line;
 use om_signs::NoMemory;
 
 /// Why there is no chirotope to work on.
-#[derive(Clone, Copy, Debug, PartialEq, Eq)]
+#[derive(Clone, Copy)]
 pub enum Unchosen {
     /// The document is a list, and its chirotope, which is of this rank, would have `values` values, more than a chirotope
     /// keeps.

@@ -2,7 +2,7 @@ use om_convert::ConvertError;
 use om_minors::MinorError;
 
 /// Why an operation makes nothing.
-#[derive(Clone, Copy, Debug, PartialEq, Eq)]
+#[derive(Clone, Copy)]
 pub enum Unmade {
     /// It would take the only element away.
     LastElement,

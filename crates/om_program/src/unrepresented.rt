@@ -1,7 +1,7 @@
 use om_answer::Line;
 
 /// Why a document gives no oriented matroid.
-#[derive(Clone, Copy, Debug, PartialEq, Eq)]
+#[derive(Clone, Copy)]
 pub enum Unrepresented {
     /// It fails the axioms of its kind, and this line names the first violated instance.
     Refused(Line),

@@ -1,6 +1,6 @@
 /// The words aren't a command. `word` counts from 1: the least number such that the words up to it begin no command,
 /// or, where all words begin a command but aren't one, one more than there are.
-#[derive(Clone, Copy, Debug, PartialEq, Eq)]
+#[derive(Clone, Copy)]
 pub struct Usage {
     pub word: u32,
 }

@@ -6,7 +6,7 @@ ghost use Rattle.om_program.specs.Words.{verb_word};
 use super::spelling::is_word;
 
 /// The first word of a command.
-#[derive(Clone, Copy, Debug, PartialEq, Eq)]
+#[derive(Clone, Copy)]
 pub enum Verb {
     Accept,
     Member,
