@@ -78,7 +78,7 @@ pub fn represent<R: Threads + Sync>(
     }
 }
 
-/// The chirotope of a map, or the line that refuses the map.
+/// The oriented matroid of a map, by its chirotope, or the line that refuses the map.
 #[inline(never)]
 fn represent_map<R: Threads + Sync>(rt: &R, raw: RawMap) -> Result<Representation, Unrepresented>
     requires low { 1 ≤ raw.elements }
@@ -104,7 +104,7 @@ fn map_refusal(why: MapRefused) -> Line
     }
 }
 
-/// The circuits of a list, or why they are none: the line that refuses the list, or want of memory.
+/// The oriented matroid of a list of circuits, or why there is none: the line that refuses the list, or want of memory.
 #[inline(never)]
 fn represent_circuits<R: Threads + Sync>(
     rt: &R,
@@ -125,7 +125,7 @@ fn represent_circuits<R: Threads + Sync>(
     }
 }
 
-/// The cocircuits of a list, or why they are none: the line that refuses the list, or want of memory.
+/// The oriented matroid of a list of cocircuits, or why there is none: the line that refuses the list, or want of memory.
 #[inline(never)]
 fn represent_cocircuits<R: Threads + Sync>(
     rt: &R,
@@ -168,7 +168,7 @@ fn set_refusal(why: SetRefused) -> Line
     }
 }
 
-/// The covectors of a list, or why they are none: the line that refuses the list, or want of memory.
+/// The oriented matroid of a list of covectors, or why there is none: the line that refuses the list, or want of memory.
 #[inline(never)]
 fn represent_covectors<R: Threads + Sync>(
     rt: &R,
