@@ -7,10 +7,10 @@ use Rattle.om_text.specs.Lines.{lines}
 use Rattle.om_answer.proofs.OneReading as claims
 use Rattle.om_text.proofs.Outcome.{same_value, no_fault}
 use Rattle.om_program.specs.declared.answer.Answer.{Answer}
-use Rattle.om_program.specs.declared.reads.Reads.TheVariants as source
+use Rattle.om_words.specs.declared.reads.Reads.TheVariants as source
 use Rattle.om_program.specs.declared.status.Status.{Status}
 use Rattle.om_program.specs.declared.status.Status.TheVariants.{Done, Refused, Usage, Limit, ReadFault, WriteFault, NoMemory}
-use Rattle.om_program.specs.declared.task.Task.{Task}
+use Rattle.om_words.specs.declared.task.Task.{Task}
 use Rattle.om_program.specs.Answers.{status_of}
 use Rattle.om_program.specs.Claims.{ClaimMeans}
 use Rattle.om_program.specs.Completeness.{HasInput, none, document, claim, IsAnswerable, IsDoneOrNoMemory}
@@ -18,8 +18,8 @@ use Rattle.om_program.specs.MadeInputs.{IsMade, made}
 use Rattle.om_program.specs.Meaning.{DocumentMeans, TaskMeans, long, faulty, read, faulty_claim, claimed, alone}
 use Rattle.om_program.specs.Run.{IsTaskAnswer, IsWhole}
 use Rattle.om_program.specs.Statuses.{IsAnswered}
-use Rattle.om_program.specs.Tasks.{reads}
-use Rattle.om_program.specs.Words.{Names}
+use Rattle.om_words.specs.Tasks.{reads}
+use Rattle.om_words.specs.Words.{Names}
 use Rattle.om_program.proofs.MeaningLaws.{named_answer}
 
 -- tasks that read other things are other tasks

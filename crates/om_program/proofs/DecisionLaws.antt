@@ -1,9 +1,8 @@
 -- Decisions as answers.
 --
--- Main results: the budgets that words name are in their ranges (lawful_budgets); what a call says of a verdict (verdict_decided), and of the answer
--- to a document (decision_meant, decision_refused); a decision is an answer that can be written (decision_replies).
-use Rattle.std.specs.Prelude.{ℕ, ◌≡◌, ◌≤◌, List, Result, Ok, Err, IfOk}
-use Rattle.std.proofs.Common.{arith, sym, subst}
+-- Main results: what a call says of a verdict (verdict_decided), and of the answer to a document (decision_meant, decision_refused); a decision is an
+-- answer that can be written (decision_replies).
+use Rattle.std.specs.Prelude.{◌≡◌, ◌≤◌, Result, Ok, Err, IfOk}
 use Rattle.om_signs.specs.declared.limits.TheConstants.{MAX_ELEMENTS}
 use Rattle.om_chirotope.specs.Map.{SignMap}
 use Rattle.om_chirotope.specs.Chirotope.{IsChirotope}
@@ -17,28 +16,15 @@ use Rattle.om_text.specs.declared.document.Document.{Document}
 use Rattle.om_answer.specs.declared.line.Line.{Line}
 use Rattle.om_program.specs.declared.answer.Answer.{Answer}
 use Rattle.om_program.specs.declared.representation.Representation.{Representation}
-use Rattle.om_program.specs.declared.setting.Setting.TheVariants.{BoxSize, Steps, Pivots}
 use Rattle.om_program.specs.declared.unchosen.Unchosen.{Unchosen}
 use Rattle.om_program.specs.Answers.{says, IsReply}
-use Rattle.om_program.specs.Options.{AreBudgets, budgets_of}
 use Rattle.om_program.specs.Chirotopes.{IsChirotopeOf}
 use Rattle.om_program.specs.Documents.{document_of}
 use Rattle.om_program.specs.Represented.{IsMeantFor}
 use Rattle.om_program.specs.RankThree.{IsForChirotope, for_chirotope}
 use Rattle.om_program.specs.Widths.{IsUnchosen, IsRankLine}
 use Rattle.om_program.specs.Decisions.{IsDecided, DecisionMeans, other_rank, decided, IsDecision, of_chirotope}
-use Rattle.om_program.proofs.OptionLaws.{number_of_within}
 use Rattle.om_program.proofs.WidthLaws.{few_of_rank3, rank_refused}
-
-amount_lawful : (words : List (List ℕ)) → decide.AreBudgets (budgets_of words)
-amount_lawful words =
-    let box = number_of_within words BoxSize in
-    let steps = number_of_within words Steps in
-    let pivots = number_of_within words Pivots in
-    record { box_low = box.low; box_high = box.high; steps_low = steps.low; steps_high = steps.high; pivots_low = pivots.low; pivots_high = pivots.high }
-
-pub lawful_budgets : (words : List (List ℕ)) (b : Budgets) → AreBudgets words b → decide.AreBudgets b
-lawful_budgets words b set = subst decide.AreBudgets (sym set.1) (amount_lawful words)
 
 -- ---- a verdict on a chirotope
 

@@ -1,7 +1,7 @@
 -- Extensions as answers, and the text of their list.
 --
--- Main results: the number of lines that words name may be asked for (lawful_lines); a listing and the two errors as answers (listing_meant,
--- rank_meant, full_meant); one more signature (signatures_more); the whole text (extensions_made).
+-- Main results: a listing and the two errors as answers (listing_meant, rank_meant, full_meant); one more signature (signatures_more); the whole text
+-- (extensions_made).
 use Rattle.std.specs.Prelude.{ℕ, ◌≡◌, ◌≢◌, ◌↔◌, ◌+◌, ◌<◌, ◌≤◌, Result, Ok, IsErrOf, refl, List, [], ◌∷◌, ◌++◌, codes, length, take}
 use Rattle.std.specs.Fmt.{decimal}
 use Rattle.std.proofs.Common.{inl, inr, arith, get_or, sym, ap, subst, ◌∙◌, append_assoc}
@@ -19,19 +19,10 @@ use Rattle.om_text.specs.Print.{text_of}
 use Rattle.om_text.proofs.Printing.{text_of-append}
 use Rattle.om_answer.specs.declared.line.Line.TheVariants as line
 use Rattle.om_answer.specs.Texts.{signs_text}
-use Rattle.om_program.specs.declared.setting.Setting.TheVariants.{First}
 use Rattle.om_program.specs.Answers.{says, lists_extensions}
-use Rattle.om_program.specs.ExtensionLists.{IsNumberOfLines, AreExtensionsOfMap, other_rank, full, listed}
+use Rattle.om_program.specs.ExtensionLists.{AreExtensionsOfMap, other_rank, full, listed}
 use Rattle.om_program.specs.ExtensionTexts.{signature_lines, last_word, extensions_text}
-use Rattle.om_program.specs.Options.{AreLines, number_of}
-use Rattle.om_program.proofs.OptionLaws.{number_of_within}
 use Rattle.om_program.proofs.RankThreeLaws.{no_error}
-
-amount_lawful : (words : List (List ℕ)) → IsNumberOfLines (number_of words First)
-amount_lawful words = let within = number_of_within words First in (within.low, within.high)
-
-pub lawful_lines : (words : List (List ℕ)) (first : ℕ) → AreLines words first → IsNumberOfLines first
-lawful_lines words first set = subst IsNumberOfLines (sym set.1) (amount_lawful words)
 
 -- ---- the answer for a map
 

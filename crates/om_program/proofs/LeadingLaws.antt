@@ -1,69 +1,24 @@
--- The elements with signs that words list.
+-- The elements with signs of a lexicographic extension.
 --
--- Main results: they are different elements within the limit, and no sign is zero (lawful_leading); none above n, they are a list for n elements
--- (listed_within); the first listed element above n (element_found, none_found); why there is no extension (refused_values).
-use Rattle.std.specs.Prelude.{ℕ, ◌≡◌, ◌≢◌, ◌<◌, ◌≤◌, ◌+◌, ◌||◌, ◌↔◌, Bool, true, false, cond, nat_eq, nat_lt, not, List, [], ◌∷◌, ◌++◌, length, take, Option, Some, None, refl}
-use Rattle.std.specs.List.{list_any, filter_map, IsDistinct, AllByRecursion}
-use Rattle.std.proofs.Common.{get_or, eqb, zero, suc, arith, ap, subst, sym, ◌∙◌, inl, inr, append_assoc, append-nil}
-use Rattle.std.proofs.lemmas.Bool.{false≢true, both_ways, and_parts, cases_eq, cases_lt, eq-eqb, ne_eqb, lt-ltb, le-ltb}
-use Rattle.std.proofs.lemmas.List.{take_at, length-map}
-use Rattle.std.proofs.lemmas.List.Folds.{list_any-append}
-use Rattle.std.proofs.lemmas.Map.Keys.{IsDistinct-cons}
-use Rattle.std.proofs.lemmas.Map.Steps.{length-le_from_distinct_below}
+-- Main results: none above n, they are a list for n elements (listed_within); the first listed element above n (element_found, none_found); why there
+-- is no extension (refused_values).
+use Rattle.std.specs.Prelude.{ℕ, ◌≡◌, ◌<◌, ◌≤◌, ◌+◌, ◌↔◌, not, List, [], ◌∷◌, length, Some, None, refl}
+use Rattle.std.proofs.Common.{get_or, zero, suc, arith, subst, sym, inl, inr}
+use Rattle.std.proofs.lemmas.Bool.{cases_lt, lt-ltb, le-ltb}
 use Rattle.om_signs.specs.declared.limits.TheConstants.{MAX_ELEMENTS, MAX_VALUES}
-use Rattle.om_signs.specs.declared.sign.Sign.{Sign}
-use Rattle.om_signs.specs.declared.sign.Sign.TheVariants.{Plus, Minus, Zero}
 use Rattle.om_subsets.specs.Subsets.{choose}
 use Rattle.om_chirotope.specs.Map.{SignMap}
 use Rattle.om_lexext.specs.declared.lex_error.LexError.{LexError}
 use Rattle.om_lexext.specs.declared.lex_error.LexError.TheVariants as why_of
 use Rattle.om_lexext.specs.declared.signed.Signed.{Signed}
-use Rattle.om_lexext.specs.Lexicographic.{AreEntries, IsUnlisted, AreDifferent, AreNonzero, IsLexicographicList, IsOverValues, NamesNumber}
+use Rattle.om_lexext.specs.Lexicographic.{AreEntries, IsLexicographicList, IsOverValues, NamesNumber}
 use Rattle.om_answer.specs.declared.line.Line.TheVariants as line
-use Rattle.om_program.specs.declared.limits.TheConstants.{MAX_LISTED}
-use Rattle.om_program.specs.declared.leading.Leading.{Leading}
 use Rattle.om_program.specs.Answers.{says}
 use Rattle.om_program.specs.Operations.{first_above}
-use Rattle.om_program.specs.Options.{number_within}
-use Rattle.om_program.specs.Listings.{with_sign, signed_of, has_element, is_among, is_new, is_leading, AreLeading}
-use Rattle.om_program.specs.LexicalExtensions.{given_list, elements_of, AreLawful, IsExtensionOfMap}
+use Rattle.om_program.specs.LexicalExtensions.{IsExtensionOfMap}
 use Rattle.om_program.specs.LexicalExtensions as extension
-use Rattle.om_program.proofs.ArgumentLaws.{one_some}
-use Rattle.om_program.proofs.OptionLaws.{number_limits}
-
--- ---- different elements are no more than there are elements
-
-apart_from : (e : ℕ) (list : List Signed) → IsUnlisted e list → AllByRecursion (λ y. eqb e y ≡ false) (elements_of list)
-apart_from e [] apart = tt
-apart_from e (x ∷ xs) apart = (ne_eqb e x.element (λ same. apart.0 (sym same)), apart_from e xs apart.1)
-
-apart_from_zero : (n : ℕ) (list : List Signed) → AreEntries n list → AllByRecursion (λ y. eqb 0 y ≡ false) (elements_of list)
-apart_from_zero n [] entries = tt
-apart_from_zero n (x ∷ xs) entries = let low = entries.0 in (ne_eqb 0 x.element (λ same. omega (arith, low, same)), apart_from_zero n xs entries.2)
-
-distinct_elements : (list : List Signed) → AreDifferent list → IsDistinct eqb (elements_of list)
-unfolding IsDistinct
-distinct_elements [] different = tt
-distinct_elements (x ∷ xs) different = IsDistinct-cons eqb x.element (elements_of xs) (apart_from x.element xs different.0) (distinct_elements xs different.1)
-
-entries_below : (n : ℕ) (list : List Signed) → AreEntries n list → (q : ℕ) → list_any (eqb q) (elements_of list) ≡ true → q < n + 1
-entries_below n [] entries q among = absurd (false≢true among)
-entries_below n (x ∷ xs) entries q among = elim (cases_eq q x.element) [
-  | inl same ↦ let high = entries.1 in omega (arith, high, same)
-  | inr other ↦ entries_below n xs entries.2 q (rw (ne_eqb q x.element other) at among)
-]
-
-zero_below : (n : ℕ) (list : List Signed) → AreEntries n list → (q : ℕ) → list_any (eqb q) (0 ∷ elements_of list) ≡ true → q < n + 1
-zero_below n list entries q among = elim (cases_eq q 0) [
-  | inl same ↦ omega (arith, same)
-  | inr other ↦ entries_below n list entries q (rw (ne_eqb q 0 other) at among)
-]
-
-few_entries : (n : ℕ) (list : List Signed) → AreEntries n list → AreDifferent list → length list ≤ n
-few_entries n list entries different =
-    let all : length (0 ∷ elements_of list) ≤ n + 1 = length-le_from_distinct_below (0 ∷ elements_of list) (n + 1) (IsDistinct-cons eqb 0 (elements_of list) (apart_from_zero n list entries) (distinct_elements list different)) (zero_below n list entries) in
-    let size : length (elements_of list) ≡ length list = length-map list (λ (x : Signed). x.element) in
-    omega (arith, all, size)
+use Rattle.om_words.specs.Tasks.{elements_of}
+use Rattle.om_words.proofs.LeadingLaws.{few_entries}
 
 -- ---- no element is above n
 
@@ -81,114 +36,6 @@ pub listed_within : (k n : ℕ) (list : List Signed) → IsLexicographicList k l
 listed_within k n list listed none =
     let entries = entries_within k n list listed.entries none in
     record { some = listed.some; few = few_entries n list entries listed.different; entries = entries; different = listed.different; signed = listed.signed }
-
--- ---- a word that is an element with a sign
-
--- an element within the limit, and a sign that isn't zero
-record IsListed (x : Signed) : Type 0 where
-  low : 1 ≤ x.element
-  high : x.element ≤ MAX_ELEMENTS
-  signed : x.sign ≢ Zero
-
-listed_by : (s : Sign) (digits : List ℕ) (x : Signed) → s ≢ Zero → with_sign s (number_within 1 MAX_ELEMENTS digits) ≡ Some x → IsListed x
-listed_by s digits x nonzero is = by_number (number_within 1 MAX_ELEMENTS digits) refl is
-  where
-    by_number : (o : Option ℕ) → number_within 1 MAX_ELEMENTS digits ≡ o → with_sign s o ≡ Some x → IsListed x
-    by_number None number made = cc
-    by_number (Some e) number made =
-        let limits = number_limits 1 MAX_ELEMENTS e digits number in
-        subst IsListed (one_some made) (record { low = limits.0; high = limits.1; signed = nonzero })
-
-plus_nonzero : Plus ≢ Zero
-plus_nonzero same = cc
-
-minus_nonzero : Minus ≢ Zero
-minus_nonzero same = cc
-
-listed_of : (word : List ℕ) (x : Signed) → signed_of word ≡ Some x → IsListed x
-listed_of [] x is = cc
-listed_of (b ∷ digits) x is = by_sign (nat_eq b 43) (nat_eq b 45) is
-  where
-    by_sign : (p m : Bool) → cond p (with_sign Plus (number_within 1 MAX_ELEMENTS digits)) (cond m (with_sign Minus (number_within 1 MAX_ELEMENTS digits)) None) ≡ Some x → IsListed x
-    by_sign true m made = listed_by Plus digits x plus_nonzero made
-    by_sign false true made = listed_by Minus digits x minus_nonzero made
-    by_sign false false made = cc
-
--- a word that may stand behind others: its element with a sign, which none of them has
-record IsNext (before : List (List ℕ)) (word : List ℕ) : Type 0 where
-  value : Signed
-  is : signed_of word ≡ Some value
-  new : is_among value.element before ≡ false
-
-next_of : (before : List (List ℕ)) (word : List ℕ) → is_leading before word ≡ true → IsNext before word
-next_of before word leads = by_value (signed_of word) refl (and_parts (nat_lt (length before) MAX_LISTED) (is_new before (signed_of word)) leads).1
-  where
-    turned : (b : Bool) → not b ≡ true → b ≡ false
-    turned true h = absurd (false≢true h)
-    turned false h = refl
-
-    by_value : (o : Option Signed) → signed_of word ≡ o → is_new before o ≡ true → IsNext before word
-    by_value None is new = absurd (false≢true new)
-    by_value (Some x) is new = record { value = x; is = is; new = turned (is_among x.element before) new }
-
--- ---- the elements with signs of words that may stand behind others
-
-record AreListed (before words : List (List ℕ)) : Type 0 where
-  count : length (filter_map signed_of words) ≡ length words
-  entries : AreEntries MAX_ELEMENTS (filter_map signed_of words)
-  different : AreDifferent (filter_map signed_of words)
-  signed : AreNonzero (filter_map signed_of words)
-  apart : (e : ℕ) → is_among e before ≡ true → IsUnlisted e (filter_map signed_of words)
-
-among_front : (e : ℕ) (before after : List (List ℕ)) → is_among e before ≡ true → is_among e (before ++ after) ≡ true
-among_front e before after among = rw (list_any-append (λ w. has_element e (signed_of w)) before after, among) refl
-
-or_true : (b : Bool) → (b || true) ≡ true
-or_true true = refl
-or_true false = refl
-
-among_last : (before : List (List ℕ)) (word : List ℕ) (x : Signed) → signed_of word ≡ Some x → is_among x.element (before ++ word ∷ []) ≡ true
-among_last before word x is = rw (list_any-append (λ w. has_element x.element (signed_of w)) before (word ∷ []), is, eq-eqb x.element x.element refl) (or_true (is_among x.element before))
-
-listed_words : (before words : List (List ℕ)) → ((i : ℕ) → i < length words → is_leading (before ++ take i words) (get_or words i []) ≡ true) → AreListed before words
-listed_words before [] each = record { count = refl; entries = tt; different = tt; signed = tt; apart = λ e among. tt }
-listed_words before (w ∷ ws) each =
-    let first : is_leading before w ≡ true = rw (append-nil before) at (each 0 (omega arith)) in
-    let next = next_of before w first in
-    let rest = listed_words (before ++ w ∷ []) ws (λ i l. rw (append_assoc before (w ∷ []) (take i ws)) (each (suc i) (omega (arith, l)))) in
-    let head = listed_of w next.value next.is in
-    more next.value next.is next.new head rest
-  where
-    more : (x : Signed) → signed_of w ≡ Some x → is_among x.element before ≡ false → IsListed x → AreListed (before ++ w ∷ []) ws → AreListed before (w ∷ ws)
-    more x is new head rest =
-        let same : filter_map signed_of (w ∷ ws) ≡ x ∷ filter_map signed_of ws = rw is refl in
-        record {
-          count = let c = rest.count in rw same (omega (arith, c));
-          entries = rw same (head.low, head.high, rest.entries);
-          different = rw same (rest.apart x.element (among_last before w x is), rest.different);
-          signed = rw same (head.signed, rest.signed);
-          apart = λ e among. rw same ((λ one. both_ways (is_among x.element before) new (subst (λ k. is_among k before ≡ true) (sym one) among)), rest.apart e (among_front e before (w ∷ []) among));
-        }
-
-pub lawful_leading : (words : List (List ℕ)) (leading : Leading) → AreLeading words leading → AreLawful leading
-lawful_leading words leading read =
-    let values : List Signed = filter_map signed_of words in
-    let listed = listed_words [] words read.each in
-    let size : length values ≡ leading.count = listed.count ∙ sym read.count in
-    let same : given_list leading ≡ values = ap (take leading.count) read.list ∙ take_at values _ leading.count size in
-    let some = read.some in
-    let count = listed.count in
-    let few : length values ≤ MAX_ELEMENTS = few_entries MAX_ELEMENTS values listed.entries listed.different in
-    record {
-      few = omega (arith, size, few);
-      listed = subst (IsLexicographicList MAX_ELEMENTS) (sym same) (record {
-        some = omega (arith, some, count);
-        few = few;
-        entries = listed.entries;
-        different = listed.different;
-        signed = listed.signed;
-      });
-    }
 
 -- ---- the first listed element above n
 

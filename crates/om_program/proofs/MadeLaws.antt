@@ -1,7 +1,7 @@
 -- Vectors that a number gives, as an answer.
 --
--- Main results: the count that words name is in its range (lawful_count); the vectors that are made begin with the unit vectors (made_units), and
--- are an answer that can be written (made_replies), by what the call says (made_meant); the document of the points (points_form, points_more) and the lines of the summary (tally_pushed).
+-- Main results: the vectors that are made begin with the unit vectors (made_units), and are an answer that can be written (made_replies), by what the
+-- call says (made_meant); the document of the points (points_form, points_more) and the lines of the summary (tally_pushed).
 use Rattle.std.specs.Prelude.{ℕ, ℤ, ◌≡◌, ◌≤◌, ◌<◌, ◌+◌, ◌-◌, List, [], ◌∷◌, ◌++◌, length, map, take, codes, refl, All}
 use Rattle.std.proofs.Common.{arith, inl, sym, subst, ap, ◌∙◌, get_or, append_assoc}
 use Rattle.std.proofs.lemmas.List.{length-append, length-map, take_more}
@@ -17,18 +17,9 @@ use Rattle.om_vectors.specs.WholeVectors.{WholeVector}
 use Rattle.om_vectors.specs.Realizations.{signs_map}
 use Rattle.om_answer.specs.VerdictText.{vector_numbers}
 use Rattle.om_program.specs.declared.answer.Answer.{Answer}
-use Rattle.om_program.specs.declared.setting.Setting.TheVariants.{Count}
 use Rattle.om_program.specs.Answers.{IsReply, makes}
 use Rattle.om_program.specs.MadeTexts.{points_document, tally_lines}
 use Rattle.om_program.specs.MadeInputs.{IsMade, made}
-use Rattle.om_program.specs.Options.{AreSeedAndCount}
-use Rattle.om_program.specs.Tasks.{IsCount}
-use Rattle.om_program.proofs.OptionLaws.{number_of_within}
-
-pub lawful_count : (words : List (List ℕ)) (a : ℕ × ℕ) → AreSeedAndCount words a → IsCount a.1
-lawful_count words a read =
-    let within = number_of_within read.1.0 Count in
-    subst IsCount (sym read.1.1.2.1) (record { low = within.low; high = within.high })
 
 pub made_some : (seed count : ℕ) → 1 ≤ length (made_vectors seed count)
 made_some seed count = let e = length-append unit_vectors (vectors_drawn seed (count - 3)) in omega arith

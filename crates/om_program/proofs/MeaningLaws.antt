@@ -8,12 +8,12 @@ use Rattle.std.specs.Io.KnownBytes.{Appends}
 use Rattle.std.proofs.lemmas.List.{length-append}
 use Rattle.om_signs.specs.declared.limits.TheConstants.{MAX_INPUT}
 use Rattle.om_port.specs.Causes.{TakesExactly}
-use Rattle.om_program.specs.declared.task.Task.{Task}
+use Rattle.om_words.specs.declared.task.Task.{Task}
 use Rattle.om_answer.specs.declared.line.Line.TheVariants as line
 use Rattle.om_program.specs.declared.status.Status.{Status}
 use Rattle.om_program.specs.declared.answer.Answer.{Answer}
 use Rattle.om_program.specs.Answers.{says, status_of, text_of}
-use Rattle.om_program.specs.Words.{Names, IsUsage}
+use Rattle.om_words.specs.Words.{Names, IsUsage}
 use Rattle.om_program.specs.Meaning.{Means, usage, named}
 use Rattle.om_program.specs.Run.{IsMeantBy, IsWhole, IsFront, IsCutOff, IsAnswer, IsCutOffAnswer, IsTaskAnswer, IsCutOffTask}
 

@@ -1,15 +1,15 @@
 -- What an operation makes of an oriented matroid, as an answer.
 --
 -- Main results: what is made of a chirotope (chirotope_outcome); the dual of covectors (dual_outcome,
--- dual_unmade); what is made, as an answer (made_meant), too many members (limit_meant) and too many values (width_meant); the arguments that words name (lawful_arguments).
-use Rattle.std.specs.Prelude.{ℕ, ◌≡◌, ◌↔◌, ◌<◌, ◌≤◌, ◌^◌, List, None, Result, Ok, Err, refl}
+-- dual_unmade); what is made, as an answer (made_meant), too many members (limit_meant) and too many values
+-- (width_meant).
+use Rattle.std.specs.Prelude.{ℕ, ◌≡◌, ◌↔◌, ◌≤◌, List, None, Result, Ok, Err, refl}
 use Rattle.std.specs.Result.{IsErrAnd}
 use Rattle.std.specs.List.{Contains}
 use Rattle.std.proofs.Common.{sym, subst}
-use Rattle.om_signs.specs.declared.limits.TheConstants.{MAX_ELEMENTS, MAX_MEMBERS, MAX_VALUES}
+use Rattle.om_signs.specs.declared.limits.TheConstants.{MAX_MEMBERS, MAX_VALUES}
 use Rattle.om_signs.specs.declared.sign.Sign.{Sign}
 use Rattle.om_subsets.specs.Subsets.{choose}
-use Rattle.om_subsets.proofs.Masks.{mask_of-lt}
 use Rattle.om_chirotope.specs.Map.{SignMap}
 use Rattle.om_members.specs.Listings.{Listing}
 use Rattle.om_convert.specs.declared.convert_error.ConvertError.{ConvertError}
@@ -26,20 +26,12 @@ use Rattle.om_program.specs.declared.operation.Operation.{Operation}
 use Rattle.om_program.specs.declared.operation.Operation.TheVariants as operation
 use Rattle.om_program.specs.declared.representation.Representation.{Representation}
 use Rattle.om_program.specs.declared.representation.Representation.TheVariants as representation
-use Rattle.om_program.specs.declared.task.Task.{Task}
 use Rattle.om_program.specs.declared.unmade.Unmade.{Unmade}
-use Rattle.om_program.specs.declared.task.Task.TheVariants as task
 use Rattle.om_program.specs.Axioms.{MeetsAxioms}
 use Rattle.om_program.specs.Documents.{map_document, covectors_document, document_of}
 use Rattle.om_program.specs.Operations.{IsOperation, IsMapMade, IsOutcome, HasTooManyMade, IsTooWideToMake, IsKeptToMake, TakesOnly, named_elements, first_above, of_conversion, wide, limited, made}
-use Rattle.om_program.specs.Words.{Names, AreArguments}
-use Rattle.om_program.proofs.DecisionLaws.{lawful_budgets}
 use Rattle.om_program.specs.Answers.{says, shows}
-use Rattle.om_program.specs.Tasks.{HasLawfulArguments}
 use Rattle.om_program.proofs.WidthLaws.{kept_covectors, too_wide_covectors}
-use Rattle.om_program.proofs.LeadingLaws.{lawful_leading}
-use Rattle.om_program.proofs.ExtensionLaws.{lawful_lines}
-use Rattle.om_program.proofs.MadeLaws.{lawful_count}
 
 -- ---- a chirotope
 
@@ -104,27 +96,3 @@ limit_meant o d limit none (is, (narrow, many)) = subst (λ k. IsOperation o d (
 
 pub width_meant : (o : Operation) (d : Document) (values : ℕ) → None ≡ first_above d.elements (named_elements o) → IsTooWideToMake o d values → IsOperation o d (says (line.LimitValues values))
 width_meant o d values none is = wide values (sym none) is
-
-pub lawful_arguments : (words : List (List ℕ)) (t : Task) → Names words t → HasLawfulArguments t
-lawful_arguments words t named = lawful t named.arguments named.behind
-  where
-    lawful : (t : Task) (rest : List (List ℕ)) → AreArguments t rest → HasLawfulArguments t
-    lawful task.Accept rest behind = tt
-    lawful (task.Member x) rest behind = tt
-    lawful (task.Convert k) rest behind = tt
-    lawful task.Dual rest behind = tt
-    lawful (task.Delete e) rest (word, (is, element)) = (element.low, element.high)
-    lawful (task.Contract e) rest (word, (is, element)) = (element.low, element.high)
-    lawful (task.Reorient mask) rest all = subst (λ u. u < 2 ^ MAX_ELEMENTS) (sym all.value) (mask_of-lt 1 MAX_ELEMENTS all.elements)
-    lawful task.Wiring rest behind = tt
-    lawful task.Mutations rest behind = tt
-    lawful (task.Flip a b c) rest t = record { low = t.low; first = t.first; second = t.second; high = t.high }
-    lawful (task.Extend first) rest set = lawful_lines rest first set
-    lawful (task.Paint colouring) rest read = read.element.low
-    lawful task.Hull rest behind = tt
-    lawful (task.Lexext leading) rest read = lawful_leading rest leading read
-    lawful task.Threeterm rest behind = tt
-    lawful task.Upgrade rest behind = tt
-    lawful (task.Decide b) rest behind = lawful_budgets rest b behind
-    lawful task.Check rest behind = tt
-    lawful (task.Make seed count) rest behind = lawful_count rest (seed, count) behind

@@ -8,11 +8,12 @@ use Rattle.om_paint.specs.declared.painted.Painted.{Painted}
 use Rattle.om_paint.specs.declared.painted.Painted.TheVariants.{Circuit, Cocircuit}
 use Rattle.om_text.specs.declared.document.Document.{Document}
 use Rattle.om_program.specs.declared.answer.Answer.{Answer}
-use Rattle.om_program.specs.declared.colouring.Colouring.{Colouring}
-use Rattle.om_program.specs.declared.leading.Leading.{Leading}
+use Rattle.om_words.specs.declared.colouring.Colouring.{Colouring}
+use Rattle.om_words.specs.declared.leading.Leading.{Leading}
 use Rattle.om_program.specs.Answers.{IsReply, says}
 use Rattle.om_program.specs.Paintings as paintings
 use Rattle.om_program.specs.Hulls as hulls
+use Rattle.om_words.specs.Tasks.{given_list}
 use Rattle.om_program.specs.LexicalExtensions as extensions
 use Rattle.om_program.proofs.WidthLaws.{kept_replies}
 
@@ -43,4 +44,4 @@ extension_of_map_replies list m a (extensions.extended x e fits is same form axi
 pub extension_replies : (l : Leading) (d : Document) (a : Answer) → extensions.IsLexicalExtension l d a → IsReply a
 extension_replies l d a (extensions.outside e above) = tt
 extension_replies l d a (extensions.full none most) = tt
-extension_replies l d a (extensions.fewer b none few is) = kept_replies (extensions.IsExtensionOfMap (extensions.given_list l)) d a (extension_of_map_replies (extensions.given_list l)) is
+extension_replies l d a (extensions.fewer b none few is) = kept_replies (extensions.IsExtensionOfMap (given_list l)) d a (extension_of_map_replies (given_list l)) is

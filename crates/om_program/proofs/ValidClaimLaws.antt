@@ -2,7 +2,7 @@
 --
 -- Main results: verdicts_found_valid.
 use Rattle.std.specs.Prelude.{ℕ, ◌≡◌, ◌≤◌, List, [], ◌∷◌, codes, length, refl, Ok}
-use Rattle.std.proofs.Common.{sym, ap, subst, inl}
+use Rattle.std.proofs.Common.{subst, inl}
 use Rattle.om_signs.specs.declared.limits.TheConstants.{MAX_INPUT}
 use Rattle.om_chirotope.specs.Map.{SignMap}
 use Rattle.om_chirotope.specs.Chirotope.{IsSound}
@@ -21,17 +21,13 @@ use Rattle.om_answer.specs.VerdictText.{chirotope_document, claim_of, verdict_te
 use Rattle.om_answer.proofs.VerdictReading.{claim_read}
 use Rattle.om_program.specs.declared.answer.Answer.{Answer}
 use Rattle.om_program.specs.declared.answer.Answer.TheVariants as answer
-use Rattle.om_program.specs.declared.task.Task.{Task}
-use Rattle.om_program.specs.declared.task.Task.TheVariants.{Decide, Check}
-use Rattle.om_program.specs.declared.verb.Verb.TheVariants as verb
+use Rattle.om_words.specs.declared.task.Task.TheVariants.{Decide, Check}
 use Rattle.om_program.specs.Answers.{says, judges}
 use Rattle.om_program.specs.Claims.{valid, judged, verified, valid_line}
 use Rattle.om_program.specs.Decisions.{IsDecided, DecisionMeans, other_rank, decided, IsDecision, of_chirotope}
 use Rattle.om_program.specs.Meaning.{Means, usage, named, TaskMeans, long, faulty, read, faulty_claim, claimed, alone, DocumentMeans, tested, upgraded, refused, flat, answered}
 use Rattle.om_program.specs.ValidClaims.{IsLimit, IsFoundValid, VerdictsAreFoundValid}
-use Rattle.om_program.specs.Words.{Names, verb_of}
-use Rattle.om_program.proofs.VerbLaws.{same_verb}
-use Rattle.om_program.proofs.WordLaws.{first_of, decide_shape}
+use Rattle.om_words.proofs.TaskLaws.{named_decide}
 use Rattle.om_program.proofs.WidthLaws.{few_of_rank3}
 
 -- ---- where a verdict comes from
@@ -72,10 +68,6 @@ task_judged b bytes a (alone seed count answer same is) = cc
 -- some budgets are those of the verdict that an answer has
 abbrev IsSomeJudged : Answer → Type 0
 IsSomeJudged a = (b : Budgets) × IsJudged b a
-
--- words that begin with `decide` name a decision
-named_decide : (options : List (List ℕ)) (task : Task) → Names (codes "decide" ∷ options) task → (b : Budgets) × (task ≡ Decide b)
-named_decide options task names = decide_shape.only task (sym (same_verb verb.Decide (verb_of task) (ap first_of names.first)))
 
 no_budgets : Budgets
 no_budgets = record { box_size = 1; steps = 1; pivots = 1 }

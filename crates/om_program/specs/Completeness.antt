@@ -8,17 +8,17 @@ use Rattle.om_answer.specs.declared.claim.Claim.{Claim}
 use Rattle.om_answer.specs.declared.line.Line.{Line}
 use Rattle.om_answer.specs.Claim.{IsClaim}
 use Rattle.om_program.specs.declared.answer.Answer.{Answer}
-use Rattle.om_program.specs.declared.reads.Reads.TheVariants as source
+use Rattle.om_words.specs.declared.reads.Reads.TheVariants as source
 use Rattle.om_program.specs.declared.status.Status.{Status}
 use Rattle.om_program.specs.declared.status.Status.TheVariants.{Done, NoMemory}
-use Rattle.om_program.specs.declared.task.Task.{Task}
+use Rattle.om_words.specs.declared.task.Task.{Task}
 use Rattle.om_program.specs.Answers.{says, status_of}
 use Rattle.om_program.specs.Axioms.{MeetsAxioms}
 use Rattle.om_program.specs.Claims.{ClaimMeans}
 use Rattle.om_program.specs.Meaning.{DocumentMeans}
 use Rattle.om_program.specs.Run.{IsAnswer}
-use Rattle.om_program.specs.Tasks.{reads}
-use Rattle.om_program.specs.Words.{Names}
+use Rattle.om_words.specs.Tasks.{reads}
+use Rattle.om_words.specs.Words.{Names}
 
 -- no answer of a meaning is a refusal, a limit on values or on members, or a verdict `limit`
 abbrev pub IsFulfilled : (Answer → Type 0) → Type 0

@@ -1,6 +1,6 @@
 -- What the list of the extensions of a chirotope by one element is.
-use Rattle.std.specs.Prelude.{ℕ, ◌≡◌, ◌≢◌, ◌≤◌, ◌<◌}
-use Rattle.om_signs.specs.declared.limits.TheConstants.{MAX_ELEMENTS, MAX_LINES}
+use Rattle.std.specs.Prelude.{ℕ, ◌≡◌, ◌≢◌, ◌<◌}
+use Rattle.om_signs.specs.declared.limits.TheConstants.{MAX_ELEMENTS}
 use Rattle.om_chirotope.specs.Map.{SignMap}
 use Rattle.om_localize.specs.declared.listing.Listing.{Listing}
 use Rattle.om_localize.specs.Extensions.{IsSignature}
@@ -10,10 +10,6 @@ use Rattle.om_answer.specs.declared.line.Line.TheVariants as line
 use Rattle.om_program.specs.declared.answer.Answer.{Answer}
 use Rattle.om_program.specs.Answers.{says, lists_extensions}
 use Rattle.om_program.specs.RankThree.{IsForChirotope}
-
--- a number of lines that may be asked for
-abbrev pub IsNumberOfLines : ℕ → Type 0
-IsNumberOfLines first = (1 ≤ first) × (first ≤ MAX_LINES)
 
 -- the first extensions of a map
 pub data AreExtensionsOfMap (first : ℕ) (m : SignMap) : Answer → Type 0 where

@@ -1,6 +1,5 @@
 -- What the flip of a triple is: the chirotope with the sign of three elements turned.
-use Rattle.std.specs.Prelude.{ℕ, ◌≡◌, ◌≢◌, ◌<◌, ◌≤◌, List, [], ◌∷◌, Some, None}
-use Rattle.om_signs.specs.declared.limits.TheConstants.{MAX_ELEMENTS}
+use Rattle.std.specs.Prelude.{ℕ, ◌≡◌, ◌≢◌, List, [], ◌∷◌, Some, None}
 use Rattle.om_signs.specs.declared.sign.Sign.TheVariants.{Zero}
 use Rattle.om_subsets.specs.Members.{Chosen}
 use Rattle.om_chirotope.specs.Map.{SignMap, chi_of}
@@ -17,13 +16,6 @@ use Rattle.om_program.specs.Answers.{says, shows}
 use Rattle.om_program.specs.Operations.{first_above}
 use Rattle.om_program.specs.Documents.{map_document}
 use Rattle.om_program.specs.RankThree.{IsForChirotope}
-
--- three elements, strictly increasing, within the limit
-pub record AreIncreasing (a b c : ℕ) : Type 0 where
-  pub low : 1 ≤ a
-  pub first : a < b
-  pub second : b < c
-  pub high : c ≤ MAX_ELEMENTS
 
 -- the list of three elements
 abbrev pub triple_of : ℕ → ℕ → ℕ → List ℕ

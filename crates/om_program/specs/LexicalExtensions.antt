@@ -1,34 +1,21 @@
 -- What the lexicographic extension of the chirotope of a document is.
-use Rattle.std.specs.Prelude.{ℕ, ◌≡◌, ◌<◌, ◌≤◌, ◌+◌, List, take, map, Some, None}
+use Rattle.std.specs.Prelude.{ℕ, ◌≡◌, ◌<◌, ◌≤◌, ◌+◌, List, Some, None}
 use Rattle.om_signs.specs.declared.limits.TheConstants.{MAX_ELEMENTS, MAX_VALUES}
 use Rattle.om_subsets.specs.Subsets.{choose}
 use Rattle.om_chirotope.specs.Map.{SignMap}
 use Rattle.om_lexext.specs.declared.signed.Signed.{Signed}
-use Rattle.om_lexext.specs.Lexicographic.{IsLexicographicList, IsLexicographicExtension}
+use Rattle.om_lexext.specs.Lexicographic.{IsLexicographicExtension}
 use Rattle.om_text.specs.declared.document.Document.{Document}
 use Rattle.om_text.specs.Form.{IsInForm}
 use Rattle.om_answer.specs.declared.line.Line.TheVariants as line
 use Rattle.om_program.specs.declared.answer.Answer.{Answer}
-use Rattle.om_program.specs.declared.limits.TheConstants.{MAX_LISTED}
-use Rattle.om_program.specs.declared.leading.Leading.{Leading}
+use Rattle.om_words.specs.Tasks.{given_list, elements_of}
+use Rattle.om_words.specs.declared.leading.Leading.{Leading}
 use Rattle.om_program.specs.Answers.{says, shows}
 use Rattle.om_program.specs.Axioms.{MeetsAxioms}
 use Rattle.om_program.specs.Documents.{map_document}
 use Rattle.om_program.specs.Operations.{first_above}
 use Rattle.om_program.specs.Widths.{IsForKeptChirotope}
-
--- the given elements with signs
-abbrev pub given_list : Leading → List Signed
-given_list l = take l.count l.list
-
--- they are different elements within the limit, at least one and no more than there are places for, and no sign is zero
-pub record AreLawful (l : Leading) : Type 0 where
-  pub few : l.count ≤ MAX_LISTED
-  pub listed : IsLexicographicList MAX_ELEMENTS (given_list l)
-
--- the elements without their signs
-abbrev pub elements_of : List Signed → List ℕ
-elements_of list = map (λ x. x.element) list
 
 -- the lexicographic extension of a map by elements with signs
 pub data IsExtensionOfMap (list : List Signed) (m : SignMap) : Answer → Type 0 where

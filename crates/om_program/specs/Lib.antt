@@ -1,12 +1,4 @@
-pub mod Fits
-pub mod Options
-pub mod Elements
-pub mod Triples
 pub mod Upgrades
-pub mod Listings
-pub mod Words
-pub mod Samples
-pub mod Readings
 pub mod Statuses
 pub mod MutationTexts
 pub mod ExtensionTexts
@@ -33,7 +25,6 @@ pub mod Hulls
 pub mod LexicalExtensions
 pub mod MadeInputs
 pub mod Decisions
-pub mod Tasks
 pub mod ThreeTermTests
 pub mod Claims
 pub mod Meaning

@@ -15,9 +15,9 @@ use Rattle.om_answer.specs.Claim.{IsClaim}
 use Rattle.om_answer.specs.ClaimFault.{IsClaimFault}
 use Rattle.om_program.specs.declared.answer.Answer.{Answer}
 use Rattle.om_program.specs.declared.operation.Operation.TheVariants as operation
-use Rattle.om_program.specs.declared.reads.Reads.TheVariants as source
-use Rattle.om_program.specs.declared.task.Task.{Task}
-use Rattle.om_program.specs.declared.task.Task.TheVariants.{Accept, Member, Convert, Dual, Delete, Contract, Reorient, Wiring, Mutations, Flip, Extend, Decide, Paint, Hull, Lexext, Threeterm, Upgrade, Check, Make}
+use Rattle.om_words.specs.declared.reads.Reads.TheVariants as source
+use Rattle.om_words.specs.declared.task.Task.{Task}
+use Rattle.om_words.specs.declared.task.Task.TheVariants.{Accept, Member, Convert, Dual, Delete, Contract, Reorient, Wiring, Mutations, Flip, Extend, Decide, Paint, Hull, Lexext, Threeterm, Upgrade, Check, Make}
 use Rattle.om_program.specs.Answers.{says}
 use Rattle.om_program.specs.Axioms.{MeetsAxioms, IsRefused, IsFlatDocument}
 use Rattle.om_program.specs.Claims.{ClaimMeans}
@@ -35,10 +35,10 @@ use Rattle.om_program.specs.MutationLists.{AreMutations}
 use Rattle.om_program.specs.Operations.{IsOperation}
 use Rattle.om_program.specs.Paintings.{IsPainting}
 use Rattle.om_program.specs.Sweeps.{IsWiringOf}
-use Rattle.om_program.specs.Tasks.{reads}
+use Rattle.om_words.specs.Tasks.{reads}
 use Rattle.om_program.specs.ThreeTermTests.{IsThreeTermTest}
 use Rattle.om_program.specs.Upgrades.{IsUpgrade}
-use Rattle.om_program.specs.Words.{Names, IsUsage}
+use Rattle.om_words.specs.Words.{Names, IsUsage}
 
 -- the answer to a task on the document of a chirotope or of a list that meets its axioms; the three-term test and the upgrade are of the document
 -- as it stands, a check reads a claim, and `make` nothing

@@ -1,5 +1,5 @@
 -- The operations on oriented matroids: duals, minors and reorientations.
-use Rattle.std.specs.Prelude.{ℕ, ◌≡◌, ◌<◌, ◌≤◌, ◌^◌, ◌-◌, List, [], ◌∷◌, true, Option, Some, None, nat_lt, Result, Ok, Err}
+use Rattle.std.specs.Prelude.{ℕ, ◌≡◌, ◌<◌, ◌^◌, ◌-◌, List, [], ◌∷◌, true, Option, Some, None, nat_lt, Result, Ok, Err}
 use Rattle.std.specs.List.{find}
 use Rattle.om_signs.specs.declared.limits.TheConstants.{MAX_ELEMENTS, MAX_MEMBERS}
 use Rattle.om_signs.specs.declared.sign.Sign.{Sign}
@@ -18,6 +18,7 @@ use Rattle.om_text.specs.declared.document.Document.{Document}
 use Rattle.om_text.specs.declared.body.Body.{Body}
 use Rattle.om_text.specs.declared.body.Body.TheVariants as body
 use Rattle.om_text.specs.Form.{IsInForm}
+use Rattle.om_words.specs.Tasks.{IsWithin}
 use Rattle.om_answer.specs.declared.axiom_system.AxiomSystem.{AxiomSystem}
 use Rattle.om_answer.specs.declared.axiom_system.AxiomSystem.TheVariants as kind
 use Rattle.om_answer.specs.declared.line.Line.TheVariants as line
@@ -44,8 +45,8 @@ named_elements (Reorient mask) = members mask 1 MAX_ELEMENTS
 -- the elements that an operation names lie within the limit
 abbrev pub IsLawful : Operation → Type 0
 IsLawful Dual = Unit {0}
-IsLawful (Delete e) = (1 ≤ e) × (e ≤ MAX_ELEMENTS)
-IsLawful (Contract e) = (1 ≤ e) × (e ≤ MAX_ELEMENTS)
+IsLawful (Delete e) = IsWithin e
+IsLawful (Contract e) = IsWithin e
 IsLawful (Reorient mask) = mask < 2 ^ MAX_ELEMENTS
 
 -- the first of the elements that is above n

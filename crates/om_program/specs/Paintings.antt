@@ -10,13 +10,9 @@ use Rattle.om_text.specs.declared.document.Document.{Document}
 use Rattle.om_answer.specs.declared.line.Line.{Line}
 use Rattle.om_answer.specs.declared.line.Line.TheVariants as line
 use Rattle.om_program.specs.declared.answer.Answer.{Answer}
-use Rattle.om_program.specs.declared.colouring.Colouring.{Colouring}
+use Rattle.om_words.specs.declared.colouring.Colouring.{Colouring}
 use Rattle.om_program.specs.Answers.{says}
 use Rattle.om_program.specs.Widths.{IsForKeptChirotope}
-
--- the element counts from 1
-abbrev pub HasElement : Colouring → Type 0
-HasElement c = 1 ≤ c.e
 
 -- the given colours
 abbrev pub given_colours : Colouring → List Colour

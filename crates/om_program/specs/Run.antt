@@ -1,7 +1,7 @@
 -- What a run has written, beside what its words and its input mean.
 use Rattle.std.specs.Prelude.{ℕ, ◌≡◌, ◌<◌, List, length, take, IfSome, Option}
 use Rattle.std.specs.Io.KnownBytes.{Appends}
-use Rattle.om_program.specs.declared.task.Task.{Task}
+use Rattle.om_words.specs.declared.task.Task.{Task}
 use Rattle.om_program.specs.declared.status.Status.{Status}
 use Rattle.om_program.specs.declared.answer.Answer.{Answer}
 use Rattle.om_program.specs.Answers.{status_of, text_of}

@@ -6,7 +6,7 @@ ghost use Rattle.om_program.specs.Meaning.{TaskMeans, DocumentMeans, IsAnswerOf,
 ghost use Rattle.om_program.specs.Documents.{document_of};
 ghost use Rattle.om_program.specs.Represented.{IsMeantFor};
 ghost use Rattle.om_program.specs.Widths.{HasFewValues};
-ghost use Rattle.om_program.specs.Tasks.{HasLawfulArguments, reads};
+ghost use Rattle.om_words.specs.Tasks.{HasLawfulArguments, reads};
 
 use super::answer::Answer;
 use super::conversion::convert;
@@ -20,10 +20,8 @@ use super::membership::find_membership;
 use super::mutation_list::list_mutations;
 use super::operation::{Operation, operate};
 use super::painting::find_painting;
-use super::reads::Reads;
 use super::representation::{Representation, represent};
 use super::sweeping::find_wiring;
-use super::task::Task;
 use super::three_terms::test_three_terms;
 use super::unrepresented::Unrepresented;
 use super::upgrading::upgrade;
@@ -31,6 +29,7 @@ use super::verification::verify;
 use om_answer::{Line, read_claim};
 use om_signs::{MAX_INPUT, NoMemory};
 use om_text::{Document, ParseError, parse};
+use om_words::{Reads, Task};
 use std::alloc::Global;
 use std::thread::Threads;
 

@@ -1,8 +1,9 @@
 //! The extensions of a chirotope by one element.
 
 ghost use Rattle.std.specs.Prelude.{◌≤◌, IfOk};
-ghost use Rattle.om_program.specs.ExtensionLists.{AreExtensions, AreExtensionsOfMap, IsNumberOfLines};
+ghost use Rattle.om_program.specs.ExtensionLists.{AreExtensions, AreExtensionsOfMap};
 ghost use Rattle.om_program.specs.Represented.{IsMeantFor};
+ghost use Rattle.om_words.specs.Tasks.{IsNumberOfLines};
 
 use super::answer::Answer;
 use super::chirotope_choice::choose_chirotope;

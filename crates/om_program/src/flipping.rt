@@ -1,9 +1,10 @@
 //! The flip of three elements of a chirotope.
 
 ghost use Rattle.std.specs.Prelude.{◌≡◌, IfOk};
-ghost use Rattle.om_program.specs.Flips.{AreIncreasing, IsFlip, IsFlipOfMap, flip_refusal, triple_of};
+ghost use Rattle.om_program.specs.Flips.{IsFlip, IsFlipOfMap, flip_refusal, triple_of};
 ghost use Rattle.om_program.specs.Operations.{first_above};
 ghost use Rattle.om_program.specs.Represented.{IsMeantFor};
+ghost use Rattle.om_words.specs.Tasks.{AreIncreasing};
 
 use super::answer::Answer;
 use super::chirotope_choice::choose_chirotope;

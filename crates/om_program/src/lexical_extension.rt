@@ -2,19 +2,20 @@
 
 ghost use Rattle.std.specs.Prelude.{◌≡◌, ◌<◌, IfOk};
 ghost use Rattle.om_lexext.specs.Lexicographic.{IsLexicographicList};
-ghost use Rattle.om_program.specs.LexicalExtensions.{AreLawful, IsLexicalExtension, IsExtensionOfMap, elements_of};
+ghost use Rattle.om_program.specs.LexicalExtensions.{IsLexicalExtension, IsExtensionOfMap};
 ghost use Rattle.om_program.specs.Operations.{first_above};
 ghost use Rattle.om_program.specs.Represented.{IsMeantFor};
+ghost use Rattle.om_words.specs.Tasks.{AreLawful, elements_of};
 
 use super::answer::Answer;
 use super::chirotope_choice::choose_chirotope;
 use super::documents::map_document;
-use super::leading::Leading;
 use super::representation::Representation;
 use om_answer::Line;
 use om_chirotope::Chirotope;
 use om_lexext::{LexError, Signed, lexical};
 use om_signs::{MAX_ELEMENTS, NoMemory};
+use om_words::Leading;
 use std::alloc::Global;
 
 /// The lexicographic extension of the chirotope of an oriented matroid by different elements with signs that aren't zero.

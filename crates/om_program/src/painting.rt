@@ -3,16 +3,17 @@
 ghost use Rattle.std.specs.Prelude.{◌≡◌, ◌≤◌, ◌↔◌, IfOk, IsTrue, length};
 ghost use Rattle.om_laws.specs.Colours.{IsColoured};
 ghost use Rattle.om_paint.specs.Paintings.{colouring};
-ghost use Rattle.om_program.specs.Paintings.{HasElement, IsPainting, painted_line};
+ghost use Rattle.om_program.specs.Paintings.{IsPainting, painted_line};
 ghost use Rattle.om_program.specs.Represented.{IsMeantFor};
+ghost use Rattle.om_words.specs.Tasks.{HasElement};
 
 use super::answer::Answer;
 use super::chirotope_choice::choose_chirotope;
-use super::colouring::Colouring;
 use super::representation::Representation;
 use om_answer::Line;
 use om_paint::{Colour, Painted, paint};
 use om_signs::NoMemory;
+use om_words::Colouring;
 use std::alloc::Global;
 
 /// The circuit or the cocircuit of the chirotope of an oriented matroid that fits colours at an element. The element

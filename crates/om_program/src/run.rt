@@ -3,27 +3,25 @@
 ghost use Rattle.std.specs.Prelude.{◌≡◌, ◌≢◌, ◌⊎◌, ◌≤◌, IfOk, map, string_bytes};
 ghost use Rattle.std.specs.Io.KnownBytes.{Appends, Keeps};
 ghost use Rattle.om_port.specs.Causes.{Rose, TakesSome};
-ghost use Rattle.om_program.specs.Words.{AreCommand, Names};
+ghost use Rattle.om_words.specs.Words.{AreCommand, Names};
 ghost use Rattle.om_program.specs.Answers.{IsReply, status_of, text_of};
 ghost use Rattle.om_program.specs.Statuses.{IsAnswered};
 ghost use Rattle.om_program.specs.Run.{IsFront, IsAnswer, IsCutOffAnswer, IsTaskAnswer, IsCutOffTask, IsMeantBy};
 ghost use Rattle.om_program.specs.Completeness.{IsAnswerable, IsDoneOrNoMemory};
 ghost use Rattle.om_program.specs.Meaning.{TaskMeans};
-ghost use Rattle.om_program.specs.Tasks.{HasLawfulArguments, reads};
+ghost use Rattle.om_words.specs.Tasks.{HasLawfulArguments, reads};
 ghost use Rattle.om_program.specs.ValidClaims.{VerdictsAreFoundValid};
 
 use super::answer::Answer;
 use super::answering::{answer_alone, answer_input};
-use super::command::command;
 use super::print_answer::print_answer;
-use super::reads::Reads;
 use super::status::Status;
-use super::task::Task;
 use super::write_text::write_text;
 use super::write_usage::write_usage;
 use om_answer::Line;
 use om_port::{ReadError, Sink, Source, read_all};
 use om_signs::{MAX_INPUT, NoMemory};
+use om_words::{Reads, Task, command};
 use std::alloc::Global;
 use std::thread::Threads;
 

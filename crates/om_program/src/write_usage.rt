@@ -8,11 +8,11 @@ ghost use Rattle.om_program.specs.Run.{IsFront};
 ghost use Rattle.om_answer.specs.Texts.{line_text};
 
 use super::status::Status;
-use super::usage::Usage;
 use super::write_text::write_text;
 use itoa::Buffer;
 use om_answer::Line;
 use om_port::Sink;
+use om_words::Usage;
 
 /// The room for the longest number of 32 bits, with the head and the line feed.
 const ROOM: usize = 17;

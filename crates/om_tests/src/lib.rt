@@ -71,3 +71,5 @@ mod threeterm;
 mod vectors;
 #[cfg(test)]
 mod wiring;
+#[cfg(test)]
+mod words;

@@ -2,7 +2,8 @@ use Rattle.std.proofs.Common.{◌≤◌, sym, ap, ◌∙◌, subst}
 use Rattle.std.proofs.lemmas.Result.{IfOk-weaker}
 use Rattle.om_signs.specs.declared.limits.TheConstants.{MAX_ELEMENTS}
 use Rattle.om_program.specs.Documents.{document_of}
-use Rattle.om_program.specs.LexicalExtensions.{IsExtensionOfMap, given_list, elements_of, outside, full, fewer}
+use Rattle.om_words.specs.Tasks.{given_list, elements_of}
+use Rattle.om_program.specs.LexicalExtensions.{IsExtensionOfMap, outside, full, fewer}
 use Rattle.om_program.specs.Operations.{first_above}
 use Rattle.om_program.specs.Widths.{kept}
 use Rattle.om_program.proofs.ConversionLaws as conversions

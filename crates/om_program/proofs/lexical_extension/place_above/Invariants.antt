@@ -1,5 +1,5 @@
 use Rattle.std.proofs.Common.{ℕ, ◌<◌, ◌≤◌, get_or}
-use Rattle.om_program.specs.LexicalExtensions.{elements_of}
+use Rattle.om_words.specs.Tasks.{elements_of}
 use Rattle.om_program.proofs.lexical_extension.place_above.Given as goal
 
 abbrev pub invariant-loop-x : goal.invariant-loop-x

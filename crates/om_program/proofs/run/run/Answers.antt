@@ -1,16 +1,15 @@
 use Rattle.std.specs.Prelude.{◌≡◌, Result, Ok, Err}
 use Rattle.std.proofs.Common.{refl, rules, sym, subst}
-use Rattle.om_program.specs.declared.reads.Reads.TheVariants as source
-use Rattle.om_program.specs.Tasks.{reads}
+use Rattle.om_words.specs.declared.reads.Reads.TheVariants as source
+use Rattle.om_words.specs.Tasks.{reads}
 use Rattle.om_program.proofs.CompletenessLaws.{always_answered}
 use Rattle.om_program.specs.Meaning.{Means}
 use Rattle.om_program.proofs.MeaningLaws.{whole, cut_off, named_answer, named_cut_off, usage_meant}
-use Rattle.om_program.proofs.OperationLaws.{lawful_arguments}
 use Rattle.om_program.proofs.ValidClaimLaws.{verdicts_found_valid}
 use Rattle.om_program.proofs.run.run.Goals as goal
 
 pub carry_out-requires : goal.carry_out-requires
-carry_out-requires g c = (search rules, lawful_arguments _ _ ((c.in-Ok.ensures.task c.in-Ok.task).0 refl))
+carry_out-requires g c = (search rules, c.in-Ok.ensures.lawful)
 
 pub returns-in-Ok-clause-answer : goal.returns-in-Ok-clause-answer
 returns-in-Ok-clause-answer g c = λ answered. named_answer _ _ _ _ _ _ ((c.in-Ok.ensures.task c.in-Ok.task).0 refl) (c.carry_out.ensures.answer answered)

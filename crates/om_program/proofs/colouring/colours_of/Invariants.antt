@@ -1,5 +1,0 @@
-use Rattle.om_program.proofs.ListingLaws.{AreLetters}
-use Rattle.om_program.proofs.colouring.colours_of.Given as goal
-
-abbrev pub invariant-loop-i : goal.invariant-loop-i
-invariant-loop-i l = AreLetters l.word l.i l.colours

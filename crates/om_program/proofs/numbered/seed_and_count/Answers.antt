@@ -1,5 +1,0 @@
-use Rattle.om_program.proofs.OptionLaws.{seed_missing}
-use Rattle.om_program.proofs.numbered.seed_and_count.Goals as goal
-
-pub returns-in-empty : goal.returns-in-empty
-returns-in-empty c = seed_missing _ _ c.in-empty.len_below

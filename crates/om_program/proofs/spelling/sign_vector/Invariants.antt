@@ -1,5 +1,0 @@
-use Rattle.om_program.proofs.SignWords.{IsFilled}
-use Rattle.om_program.proofs.spelling.sign_vector.Given as goal
-
-abbrev pub invariant-loop-place : goal.invariant-loop-place
-invariant-loop-place l = IsFilled l.x l.word l.place

@@ -1,0 +1,182 @@
+//! The words of commands: the tasks that they name, and the words at fault.
+
+use om_answer::AxiomSystem;
+use om_paint::Colour;
+use om_signs::{MAX_DRAWN, Sign};
+use om_words::{Reads, Task, Usage, command};
+use std::alloc::Global;
+use std::test::Fail;
+
+/// Words that aren't a command, and the one at fault.
+const FAULTS: [(&str, u32); 20] = [
+    ("", 1),
+    ("Accept", 1),
+    ("accept more", 2),
+    ("member", 2),
+    ("member +x", 2),
+    ("member + +", 3),
+    ("convert wiring", 2),
+    ("delete 0", 2),
+    ("contract 21", 2),
+    ("reorient 2 1", 3),
+    ("flip 1 2", 4),
+    ("flip 1 3 2", 4),
+    ("extend --first=0", 2),
+    ("decide --box=1 --box=2", 3),
+    ("paint RGBX 1", 2),
+    ("paint RG 1 1", 4),
+    ("lexext +1 -1", 3),
+    ("make", 2),
+    ("make 4294967296", 2),
+    ("make 1 --count=2", 3),
+];
+
+/// Words of commands, and what these read.
+const TASKS: [(&str, Reads); 19] = [
+    ("accept", Reads::Document),
+    ("member +-0", Reads::Document),
+    ("convert circuits", Reads::Document),
+    ("dual", Reads::Document),
+    ("delete 20", Reads::Document),
+    ("contract 1", Reads::Document),
+    ("reorient 1 2 20", Reads::Document),
+    ("wiring", Reads::Document),
+    ("mutations", Reads::Document),
+    ("flip 1 2 3", Reads::Document),
+    ("extend", Reads::Document),
+    ("paint RGBW 4", Reads::Document),
+    ("hull", Reads::Document),
+    ("lexext +3 -1", Reads::Document),
+    ("threeterm", Reads::Document),
+    ("upgrade", Reads::Document),
+    ("decide", Reads::Document),
+    ("check", Reads::Claim),
+    ("make 7", Reads::Nothing),
+];
+
+/// The words of a line, with a space between two.
+fn words_of(alloc: Global, line: &str) -> Option<Vec<String>> {
+    let mut words = Vec::new(alloc);
+    for part in line.split(' ') {
+        let mut word = String::new(alloc);
+        word.push_str(part).ok()?;
+        words.push(word).ok()?;
+    }
+    Some(words)
+}
+
+/// What the words of a line are read as, if memory lasts.
+fn read(alloc: Global, line: &str) -> Option<Result<Task, Usage>> {
+    let words = words_of(alloc, line)?;
+    Some(command(words.as_slice()))
+}
+
+/// The task that the words of a line name.
+fn task(alloc: Global, line: &str) -> Option<Task> {
+    read(alloc, line)?.ok()
+}
+
+/// Whether this word of a line is at fault.
+fn is_at_fault(alloc: Global, line: &str, word: u32) -> bool {
+    match read(alloc, line) {
+        Some(Err(usage)) => usage.word == word,
+        _ => false,
+    }
+}
+
+/// Whether the words of a line name a task that reads this.
+fn reads(alloc: Global, line: &str, what: Reads) -> bool {
+    match task(alloc, line) {
+        Some(task) => matches!(
+            (task.reads(), what),
+            (Reads::Document, Reads::Document)
+                | (Reads::Claim, Reads::Claim)
+                | (Reads::Nothing, Reads::Nothing)
+        ),
+        None => false,
+    }
+}
+
+#[test]
+fn words_at_fault(rt: HostRuntime) -> Result<(), Fail> {
+    for (line, word) in FAULTS.iter() {
+        assert!(rt; is_at_fault(rt.alloc(), line, *word));
+    }
+    Ok(())
+}
+
+#[test]
+fn what_tasks_read(rt: HostRuntime) -> Result<(), Fail> {
+    for (line, what) in TASKS.iter() {
+        assert!(rt; reads(rt.alloc(), line, *what));
+    }
+    Ok(())
+}
+
+#[test]
+fn no_words(rt: HostRuntime) -> Result<(), Fail> {
+    assert!(rt; matches!(command(&[]), Err(Usage { word: 1 })));
+    Ok(())
+}
+
+#[test]
+fn arguments(rt: HostRuntime) -> Result<(), Fail> {
+    assert!(rt; matches!(task(rt.alloc(), "delete 20"), Some(Task::Delete(20))));
+    assert!(rt;
+        matches!(
+            task(rt.alloc(), "convert cocircuits"),
+            Some(Task::Convert(AxiomSystem::Cocircuits))
+        )
+    );
+    assert!(rt; matches!(task(rt.alloc(), "reorient 1 3"), Some(Task::Reorient(5))));
+    assert!(rt; matches!(task(rt.alloc(), "flip 1 2 20"), Some(Task::Flip(1, 2, 20))));
+    assert!(rt;
+        matches!(
+            task(rt.alloc(), "extend"),
+            Some(Task::Extend { first: 100_000 })
+        )
+    );
+    assert!(rt;
+        matches!(
+            task(rt.alloc(), "make 7"),
+            Some(Task::Make {
+                seed: 7,
+                count: MAX_DRAWN
+            })
+        )
+    );
+    Ok(())
+}
+
+#[test]
+fn budgets_in_any_order(rt: HostRuntime) -> Result<(), Fail> {
+    match task(rt.alloc(), "decide --pivots=9 --box=2") {
+        Some(Task::Decide(budgets)) => {
+            assert!(rt; budgets.box_size == 2 && budgets.steps == 2_000_000 && budgets.pivots == 9);
+        }
+        _ => assert!(rt; false),
+    }
+    Ok(())
+}
+
+#[test]
+fn colours_and_signed_elements(rt: HostRuntime) -> Result<(), Fail> {
+    match task(rt.alloc(), "paint RGB 2") {
+        Some(Task::Paint(given)) => {
+            assert!(rt; given.count == 3 && given.e == 2);
+            assert!(rt;
+                matches!(given.colours[2], Colour::Black)
+                    && matches!(given.colours[3], Colour::White)
+            );
+        }
+        _ => assert!(rt; false),
+    }
+    match task(rt.alloc(), "lexext +3 -1") {
+        Some(Task::Lexext(leading)) => {
+            assert!(rt; leading.count == 2 && leading.list[1].element == 1);
+            assert_eq!(rt; leading.list[1].sign, Sign::Minus);
+        }
+        _ => assert!(rt; false),
+    }
+    Ok(())
+}

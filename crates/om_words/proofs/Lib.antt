@@ -1,0 +1,11 @@
+mod ArgumentLaws
+mod FitLaws
+pub mod LeadingLaws
+mod ListingLaws
+mod Numerals
+mod OptionLaws
+mod SignWords
+pub mod TaskLaws
+mod TripleLaws
+mod VerbLaws
+mod WordLaws

@@ -1,0 +1,334 @@
+-- Words that are the numbers of increasing elements.
+--
+-- Main results: the words that a loop has taken (taken_none, taken_more); a word at fault behind them (taken_fault), and their end (taken_end,
+-- taken_empty).
+use Rattle.std.specs.Prelude.{ℕ, ◌≡◌, ◌<◌, ◌≤◌, ◌+◌, ◌^◌, ◌↔◌, ◌⊎◌, length, map, List, [], ◌∷◌, ◌++◌, refl, suc, Ok, Err, Some}
+use native.Mathlib.Numerals.{unary_clauses}
+use Rattle.std.specs.Fmt.{decimal}
+use Rattle.std.proofs.Common.{zero, get_or, drop, take, arith, ap, subst, sym, ◌∙◌, inl, inr, append-nil, lit≤}
+use Rattle.std.proofs.lemmas.Bool.{ne_eqb, le-ltb}
+use Rattle.std.proofs.lemmas.List.{map-append, length-map}
+use Rattle.std.proofs.lemmas.Fmt.{decimal_injective}
+use Rattle.om_signs.specs.declared.limits.TheConstants.{MAX_ELEMENTS}
+use Rattle.om_subsets.specs.Subsets.{IsSubsetFrom, IsMember, with_element}
+use Rattle.om_subsets.specs.Lists.{IsIncreasing}
+use Rattle.om_subsets.specs.Members.{members, mask_of}
+use Rattle.om_subsets.proofs.Places.{members-zero}
+use Rattle.om_subsets.proofs.Statements.{subset_is_increasing}
+use Rattle.om_text.specs.Fault.{Begins}
+use Rattle.om_words.specs.Words.{IsElement, AreElements, IsFault, at_word, at_end, HasValue, IsRead}
+use Rattle.om_words.proofs.WordLaws.{first_of, tail_of}
+use Rattle.om_words.proofs.ArgumentLaws.{no_value, one_some}
+
+-- ---- numbers
+
+pub same_number : (e f : ℕ) → e ≤ MAX_ELEMENTS → f ≤ MAX_ELEMENTS → decimal e ≡ decimal f → e ≡ f
+same_number e f le lf same = decimal_injective e f (small e le) (small f lf) same
+  where
+    small : (k : ℕ) → k ≤ MAX_ELEMENTS → k < 2 ^ 64
+    small k l = let big : MAX_ELEMENTS < 2 ^ 64 = lit≤ tt in omega (arith, big, l)
+
+pub one_element : (word : List ℕ) (e f : ℕ) → IsElement word e → IsElement word f → e ≡ f
+one_element word e f a b = same_number e f a.high b.high (sym a.digits ∙ b.digits)
+
+-- a word that is the number of an element is that of no other
+pub this_element : (word : List ℕ) (e : ℕ) → 1 ≤ e → e ≤ MAX_ELEMENTS → word ≡ decimal e → (f : ℕ) → (Some e ≡ Some f) ↔ IsElement word f
+this_element word e low high is f = (
+  λ same. let one : e ≡ f = one_some same in subst (IsElement word) one (record { low = low; high = high; digits = is }),
+  λ element. ap Some (same_number e f high element.high (sym is ∙ element.digits)),
+)
+
+pub this_above : (word : List ℕ) (last e : ℕ) → IsElement word e → last < e → (f : ℕ) → (Some e ≡ Some f) ↔ (IsElement word f × (last < f))
+this_above word last e element above f = (
+  λ same. let one : e ≡ f = one_some same in subst (λ g. IsElement word g × (last < g)) one (element, above),
+  λ both. ap Some (one_element word e f element both.0),
+)
+
+-- ---- increasing lists and their last number
+
+-- the last number, and d where there is none
+pub last_of : ℕ → List ℕ → ℕ
+last_of d [] = d
+last_of d (x ∷ xs) = last_of x xs
+
+from_last : (d : ℕ) (xs : List ℕ) → IsIncreasing (d ∷ xs) → d ≤ last_of d xs
+unfolding last_of
+from_last d [] h = omega arith
+from_last d (x ∷ xs) h = let i = from_last x xs h.1 in let l = h.0 in omega (arith, i, l)
+
+appended : (d e : ℕ) (xs : List ℕ) → IsIncreasing (d ∷ xs) → last_of d xs < e → with_element e xs ≡ xs ++ e ∷ []
+unfolding last_of
+appended d e [] h l = refl
+appended d e (x ∷ xs) h l =
+    let low : x ≤ last_of x xs = from_last x xs h.1 in
+    let apart : e ≡ x → ⊥ = λ same. omega (arith, low, l, same) in
+    let above : x ≤ e = omega (arith, low, l) in
+    rw (ne_eqb e x apart, le-ltb e x above) (ap (λ k. x ∷ k) (appended x e xs h.1 l))
+
+increasing_more : (d e : ℕ) (xs : List ℕ) → IsIncreasing (d ∷ xs) → last_of d xs < e → IsIncreasing (d ∷ xs ++ e ∷ [])
+unfolding last_of
+increasing_more d e [] h l = (l, tt)
+increasing_more d e (x ∷ xs) h l = (h.0, increasing_more x e xs h.1 l)
+
+last_more : (d e : ℕ) (xs : List ℕ) → last_of d (xs ++ e ∷ []) ≡ e
+unfolding last_of
+last_more d e [] = refl
+last_more d e (x ∷ xs) = last_more x e xs
+
+below_next : (d f : ℕ) (xs more : List ℕ) → IsIncreasing (d ∷ xs ++ f ∷ more) → last_of d xs < f
+unfolding last_of
+below_next d f [] more h = h.0
+below_next d f (x ∷ xs) more h = below_next x f xs more h.1
+
+is_empty : (xs : List ℕ) → IsIncreasing (0 ∷ xs) → last_of 0 xs ≡ 0 → xs ≡ []
+unfolding last_of
+is_empty [] h l = refl
+is_empty (x ∷ xs) h l = let i = from_last x xs h.1 in let p = h.0 in absurd (omega (arith, i, p, l))
+
+has_some : (xs : List ℕ) → (last_of 0 xs ≡ 0 → ⊥) → 1 ≤ length xs
+unfolding last_of
+has_some [] h = absurd (h refl)
+has_some (x ∷ xs) h = omega arith
+
+-- ---- lists of elements
+
+-- the numbers increase and are elements
+pub record AreIncreasing (xs : List ℕ) : Type 0 where
+  pub increasing : IsIncreasing (0 ∷ xs)
+  pub within : (e : ℕ) → IsMember e xs → e ≤ MAX_ELEMENTS
+
+from_zero : (xs : List ℕ) → IsIncreasing xs → ((e : ℕ) → IsMember e xs → 1 ≤ e) → IsIncreasing (0 ∷ xs)
+from_zero [] h low = tt
+from_zero (x ∷ xs) h low = (low x (inl refl), h)
+
+subset_increasing : (xs : List ℕ) → IsSubsetFrom 1 MAX_ELEMENTS xs → AreIncreasing xs
+subset_increasing xs subset =
+    let h = (subset_is_increasing MAX_ELEMENTS xs).0 subset in
+    record { increasing = from_zero xs h.0 (λ e m. (h.1 e m).0); within = λ e m. (h.1 e m).1 }
+
+increasing_low : (d : ℕ) (xs : List ℕ) → IsIncreasing (d ∷ xs) → (e : ℕ) → IsMember e xs → d < e
+increasing_low d [] h e m = absurd m
+increasing_low d (x ∷ xs) h e (inl same) = let l = h.0 in omega (arith, l, same)
+increasing_low d (x ∷ xs) h e (inr m) = let i = increasing_low x xs h.1 e m in let l = h.0 in omega (arith, i, l)
+
+without_first : (d : ℕ) (xs : List ℕ) → IsIncreasing (d ∷ xs) → IsIncreasing xs
+without_first d [] h = tt
+without_first d (x ∷ xs) h = h.1
+
+increasing_subset : (xs : List ℕ) → AreIncreasing xs → IsSubsetFrom 1 MAX_ELEMENTS xs
+increasing_subset xs h = (subset_is_increasing MAX_ELEMENTS xs).1 (without_first 0 xs h.increasing, λ e m. (let l = increasing_low 0 xs h.increasing e m in omega (arith, l), h.within e m))
+
+-- ---- numbers of elements
+
+same_numbers : (xs ys : List ℕ) → ((e : ℕ) → IsMember e xs → e ≤ MAX_ELEMENTS) → ((e : ℕ) → IsMember e ys → e ≤ MAX_ELEMENTS) → map decimal xs ≡ map decimal ys → xs ≡ ys
+same_numbers [] [] a b same = refl
+same_numbers [] (y ∷ ys) a b same = cc
+same_numbers (x ∷ xs) [] a b same = cc
+same_numbers (x ∷ xs) (y ∷ ys) a b same =
+    let first : x ≡ y = same_number x y (a x (inl refl)) (b y (inl refl)) (ap first_of same) in
+    let rest : xs ≡ ys = same_numbers xs ys (λ e m. a e (inr m)) (λ e m. b e (inr m)) (ap tail_of same) in
+    cc
+
+-- the list goes on with the number of a word
+pub record GoesOn (xs ys : List ℕ) (word : List ℕ) : Type 0 where
+  pub next : ℕ
+  pub more : List ℕ
+  pub list : ys ≡ xs ++ next ∷ more
+  pub digits : word ≡ decimal next
+  pub high : next ≤ MAX_ELEMENTS
+
+goes_on : (xs ys : List ℕ) (word : List ℕ) (rest : List (List ℕ)) → ((e : ℕ) → IsMember e xs → e ≤ MAX_ELEMENTS) → ((e : ℕ) → IsMember e ys → e ≤ MAX_ELEMENTS) → map decimal xs ++ word ∷ rest ≡ map decimal ys → GoesOn xs ys word
+goes_on [] [] word rest a b same = cc
+goes_on [] (y ∷ ys) word rest a b same = record { next = y; more = ys; list = refl; digits = ap first_of same; high = b y (inl refl) }
+goes_on (x ∷ xs) [] word rest a b same = cc
+goes_on (x ∷ xs) (y ∷ ys) word rest a b same =
+    let first : x ≡ y = same_number x y (a x (inl refl)) (b y (inl refl)) (ap first_of same) in
+    let i = goes_on xs ys word rest (λ e m. a e (inr m)) (λ e m. b e (inr m)) (ap tail_of same) in
+    let list = i.list in
+    record { next = i.next; more = i.more; list = cc; digits = i.digits; high = i.high }
+
+-- ---- the words that a loop has taken
+
+pub record AreTaken (words : List (List ℕ)) (k greatest place : ℕ) (xs : List ℕ) : Type 0 where
+  pub digits : take k words ≡ map decimal xs
+  pub elements : AreIncreasing xs
+  pub last : greatest ≡ last_of 0 xs
+  pub count : place ≡ k + 1
+  pub few : k ≤ greatest
+  pub high : greatest ≤ MAX_ELEMENTS
+
+pub taken_none : (words : List (List ℕ)) (xs : List ℕ) → xs ≡ [] → AreTaken words 0 0 1 xs
+unfolding last_of
+taken_none words xs none = rw none (record {
+  digits = refl;
+  elements = record { increasing = tt; within = λ e m. absurd m };
+  last = refl;
+  count = refl;
+  few = omega arith;
+  high = omega arith;
+})
+
+take_next : {X : Type 0} (words : List X) (k : ℕ) (word : X) → k < length words → get_or words k word ≡ word → take (k + 1) words ≡ take k words ++ word ∷ []
+take_next [] k word l same = absurd (omega arith)
+take_next (w ∷ ws) zero word l same = ap (λ u. u ∷ []) same
+take_next (w ∷ ws) (suc k) word l same = simp unary_clauses (ap (λ u. w ∷ u) (simp unary_clauses at (take_next ws k word (omega arith) same)))
+
+around_next : (words : List (List ℕ)) (k : ℕ) (word : List ℕ) → k < length words → get_or words k word ≡ word → take k words ++ word ∷ drop (k + 1) words ≡ words
+around_next [] k word l same = absurd (omega arith)
+around_next (w ∷ ws) zero word l same = ap (λ u. u ∷ ws) (sym same)
+around_next (w ∷ ws) (suc k) word l same = simp unary_clauses (ap (λ u. w ∷ u) (simp unary_clauses at (around_next ws k word (omega arith) same)))
+
+pub length_taken : {X : Type 0} (words : List X) (k : ℕ) → k ≤ length words → length (take k words) ≡ k
+length_taken [] zero l = refl
+length_taken [] (suc k) l = absurd (omega (arith, l))
+length_taken (w ∷ ws) zero l = refl
+length_taken (w ∷ ws) (suc k) l = ap suc (length_taken ws k (omega arith))
+
+all_taken : {X : Type 0} (words : List X) (k : ℕ) → length words ≤ k → take k words ≡ words
+all_taken {X = X} [] k l = none k
+  where
+    none : (k : ℕ) → take {A = X} k [] ≡ []
+    none zero = refl
+    none (suc k) = refl
+all_taken (w ∷ ws) zero l = absurd (omega arith)
+all_taken (w ∷ ws) (suc k) l = ap (λ u. w ∷ u) (all_taken ws k (omega arith))
+
+member_more : (e f : ℕ) (xs : List ℕ) → IsMember f (xs ++ e ∷ []) → (f ≡ e) ⊎ IsMember f xs
+member_more e f [] (inl same) = inl same
+member_more e f [] (inr m) = absurd m
+member_more e f (x ∷ xs) (inl same) = inr (inl same)
+member_more e f (x ∷ xs) (inr m) = elim (member_more e f xs m) [
+  | inl same ↦ inl same
+  | inr n ↦ inr (inr n)
+]
+
+pub taken_more : (words : List (List ℕ)) (k last place e : ℕ) (word : List ℕ) (xs : List ℕ) → AreTaken words k last place xs → k < length words → get_or words k word ≡ word → IsElement word e → last < e → AreTaken words (k + 1) e (place + 1) (with_element e xs)
+taken_more words k last place e word xs taken l same element above =
+    let bound : last_of 0 xs < e = subst (λ d. d < e) taken.last above in
+    rw (appended 0 e xs taken.elements.increasing bound) (record {
+      digits = take_next words k word l same ∙ ap (λ u. u ++ word ∷ []) taken.digits ∙ ap (λ u. map decimal xs ++ u ∷ []) element.digits ∙ sym (map-append decimal xs (e ∷ []));
+      elements = record {
+        increasing = increasing_more 0 e xs taken.elements.increasing bound;
+        within = λ f m. elim (member_more e f xs m) [
+          | inl q ↦ let h = element.high in omega (arith, q, h)
+          | inr n ↦ taken.elements.within f n
+        ];
+      };
+      last = sym (last_more 0 e xs);
+      count = let p = taken.count in omega (arith, p);
+      few = let f = taken.few in omega (arith, f, above);
+      high = element.high;
+    })
+
+-- ---- words at fault
+
+one_begins : HasValue AreElements (decimal 1 ∷ [])
+one_begins = (
+  mask_of 1 (1 ∷ []) MAX_ELEMENTS,
+  record {
+    elements = 1 ∷ [];
+    some = omega arith;
+    increasing = increasing_subset (1 ∷ []) (record { increasing = (lit≤ tt, tt); within = λ e m. one_high e m });
+    digits = refl;
+    value = refl;
+  },
+)
+  where
+    one_high : (e : ℕ) → IsMember e (1 ∷ []) → e ≤ MAX_ELEMENTS
+    one_high e (inl same) = rw same (lit≤ tt)
+    one_high e (inr m) = absurd m
+
+taken_begin : (xs : List ℕ) → AreIncreasing xs → Begins (HasValue AreElements) (map decimal xs)
+taken_begin [] h = (decimal 1 ∷ [], one_begins)
+taken_begin (x ∷ xs) h = (
+  [],
+  (
+    mask_of 1 (x ∷ xs) MAX_ELEMENTS,
+    record {
+      elements = x ∷ xs;
+      some = omega arith;
+      increasing = increasing_subset (x ∷ xs) h;
+      digits = append-nil (map decimal (x ∷ xs));
+      value = refl;
+    },
+  ),
+)
+
+stops_at : (xs : List ℕ) (word : List ℕ) → AreIncreasing xs → ((e : ℕ) → IsElement word e → last_of 0 xs < e → ⊥) → Begins (HasValue AreElements) (map decimal xs ++ word ∷ []) → ⊥
+stops_at xs word h none (more, (mask, all)) =
+    let ys = subset_increasing all.elements all.increasing in
+    let on : GoesOn xs all.elements word = goes_on xs all.elements word more h.within ys.within (sym (append_one (map decimal xs) word more) ∙ all.digits) in
+    let above : last_of 0 xs < on.next = below_next 0 on.next xs on.more (subst (λ u. IsIncreasing (0 ∷ u)) on.list ys.increasing) in
+    none on.next (record { low = omega (arith, above); high = on.high; digits = on.digits }) above
+  where
+    append_one : (us : List (List ℕ)) (w : List ℕ) (vs : List (List ℕ)) → us ++ w ∷ [] ++ vs ≡ us ++ w ∷ vs
+    append_one [] w vs = refl
+    append_one (u ∷ us) w vs = ap (λ k. u ∷ k) (append_one us w vs)
+
+pub taken_fault : (words : List (List ℕ)) (k last place : ℕ) (word : List ℕ) (xs : List ℕ) → AreTaken words k last place xs → k < length words → get_or words k word ≡ word → ((e : ℕ) → IsElement word e → last < e → ⊥) → IsRead AreElements words (Err (record { word = place + 1 }))
+taken_fault words k last place word xs taken l same none =
+    let stop : (e : ℕ) → IsElement word e → last_of 0 xs < e → ⊥ = λ e element above. none e element (subst (λ d. d < e) (sym taken.last) above) in
+    let refused : Begins (HasValue AreElements) (take k words ++ word ∷ []) → ⊥ = subst (λ u. Begins (HasValue AreElements) (u ++ word ∷ []) → ⊥) (sym taken.digits) (stops_at xs word taken.elements stop) in
+    let begins : Begins (HasValue AreElements) (take k words) = subst (Begins (HasValue AreElements)) (sym taken.digits) (taken_begin xs taken.elements) in
+    let whole = around_next words k word l same in
+    record {
+      value = λ m. (
+        λ made. absurd (no_value _ m made),
+        λ all. absurd (refused (drop (k + 1) words, (m, subst (λ u. AreElements u m) (sym whole ∙ sym (regroup (take k words) word (drop (k + 1) words))) all))),
+      );
+      fault = (k + 1, (ap (λ p. p + 1) taken.count, subst (λ u. IsFault (HasValue AreElements) u (k + 1)) whole (subst (λ j. IsFault (HasValue AreElements) (take k words ++ word ∷ drop (k + 1) words) (j + 1)) (length_taken words k (omega arith)) (at_word (take k words) word (drop (k + 1) words) begins refused))));
+    }
+  where
+    regroup : (us : List (List ℕ)) (w : List ℕ) (vs : List (List ℕ)) → us ++ w ∷ [] ++ vs ≡ us ++ w ∷ vs
+    regroup [] w vs = refl
+    regroup (u ∷ us) w vs = ap (λ k. u ∷ k) (regroup us w vs)
+
+pub taken_empty : (words : List (List ℕ)) (k last place : ℕ) (xs : List ℕ) → AreTaken words k last place xs → length words ≤ k → last ≡ 0 → IsRead AreElements words (Err (record { word = 2 }))
+taken_empty words k last place xs taken l at_zero =
+    let none : xs ≡ [] = is_empty xs taken.elements.increasing (sym taken.last ∙ at_zero) in
+    let empty : words ≡ [] = sym (all_taken words k l) ∙ taken.digits ∙ ap (map decimal) none in
+    subst (λ u. IsRead AreElements u (Err (record { word = 2 }))) (sym empty) (record {
+      value = λ m. (λ made. absurd (no_value _ m made), λ all. absurd (no_elements (m, all)));
+      fault = (1, (refl, at_end [] (decimal 1 ∷ [], one_begins) no_elements));
+    })
+  where
+    no_digits : (ys : List ℕ) → 1 ≤ length ys → [] ≡ map decimal ys → ⊥
+    no_digits [] some same = omega (arith, some)
+    no_digits (y ∷ ys) some same = cc
+
+    no_elements : HasValue AreElements [] → ⊥
+    no_elements (m, all) = no_digits all.elements all.some all.digits
+
+pub taken_end : (words : List (List ℕ)) (k last place mask : ℕ) (xs : List ℕ) → AreTaken words k last place xs → length words ≤ k → (last ≡ 0 → ⊥) → mask ≡ mask_of 1 xs MAX_ELEMENTS → IsRead AreElements words (Ok mask)
+taken_end words k last place mask xs taken l some is =
+    let all : words ≡ map decimal xs = sym (all_taken words k l) ∙ taken.digits in
+    record {
+      value = λ m. (
+        λ made. let same : mask ≡ m = cc in record {
+          elements = xs;
+          some = has_some xs (λ none. some (taken.last ∙ none));
+          increasing = increasing_subset xs taken.elements;
+          digits = all;
+          value = sym same ∙ is;
+        },
+        λ other.
+            let ys = subset_increasing other.elements other.increasing in
+            let same : xs ≡ other.elements = same_numbers xs other.elements taken.elements.within ys.within (sym all ∙ other.digits) in
+            ap Ok (is ∙ ap (λ u. mask_of 1 u MAX_ELEMENTS) same ∙ sym other.value),
+      );
+      fault = tt;
+    }
+
+pub item_at : {X : Type 0} (f : X → List ℕ) (xs : List X) (k : ℕ) (x : X) → k < length xs → x ≡ get_or xs k x → get_or (map f xs) k (f x) ≡ f x
+item_at f [] k x l is = absurd (omega arith)
+item_at f (y ∷ ys) zero x l is = ap f (sym is)
+item_at f (y ∷ ys) (suc k) x l is = item_at f ys k x (omega arith) is
+
+pub length-words : {X : Type 0} (f : X → List ℕ) (xs : List X) (k : ℕ) → k < length xs → k < length (map f xs)
+length-words f xs k l = rw (length-map xs f) l
+
+pub length-words_end : {X : Type 0} (f : X → List ℕ) (xs : List X) (k : ℕ) → length xs ≤ k → length (map f xs) ≤ k
+length-words_end f xs k l = rw (length-map xs f) l
+
+pub no_members : (m : ℕ) → members 0 1 m ≡ []
+no_members m = members-zero 1 m

@@ -1,0 +1,9 @@
+pub mod Fits
+pub mod Options
+pub mod Elements
+pub mod Triples
+pub mod Listings
+pub mod Words
+pub mod Tasks
+pub mod Samples
+pub mod Readings

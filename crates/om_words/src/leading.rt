@@ -1,0 +1,102 @@
+//! Different elements with signs.
+
+ghost use Rattle.std.specs.Prelude.{◌≡◌, ◌<◌, map, length, string_bytes, IfSome, IfNone, Some, true, false};
+ghost use Rattle.om_words.specs.Words.{IsRead};
+ghost use Rattle.om_words.specs.Listings.{signed_of, has_element, is_among, is_leading, AreLeading};
+
+use super::limits::MAX_LISTED;
+use super::options::number_within;
+use super::usage::Usage;
+use om_lexext::Signed;
+use om_signs::{MAX_ELEMENTS, Sign};
+
+/// What stands at the places that no word fills.
+const UNLISTED: Signed = Signed {
+    element: 1,
+    sign: Sign::Plus,
+};
+
+/// Different elements with signs.
+#[derive(Clone, Copy)]
+pub struct Leading {
+    /// The elements with their signs, and element 1 with `+` from `count` on.
+    pub list: [Signed; MAX_LISTED],
+    /// How many there are, at least one.
+    pub count: u8,
+}
+
+/// The element with a sign that a word is.
+fn signed_of(word: &[u8]) -> Option<Signed>
+    ensures { result ≡ signed_of word.now }
+{
+    let (sign, digits) = match word {
+        [b'+', digits @ ..] => (Sign::Plus, digits),
+        [b'-', digits @ ..] => (Sign::Minus, digits),
+        _ => return None,
+    };
+    let element = number_within(digits, 1, u32::from(MAX_ELEMENTS))?;
+    Some(Signed {
+        element: element as u8,
+        sign,
+    })
+}
+
+/// Whether a word is this element with a sign.
+fn has_element(word: &String, e: u8) -> bool
+    ensures { result ≡ has_element e (signed_of (string_bytes word.now)) }
+{
+    match signed_of(word.as_bytes()) {
+        Some(x) => x.element == e,
+        None => false,
+    }
+}
+
+/// Whether some word is this element with a sign.
+fn is_among(e: u8, words: &[String]) -> bool
+    ensures { result ≡ is_among e (map string_bytes words.now) }
+{
+    for word in words {
+        if has_element(word, e) {
+            return true;
+        }
+    }
+    false
+}
+
+/// The element with a sign that a word is, where there is room for it and no word before it has this element.
+fn leading_of(before: &[String], word: &String) -> Option<Signed>
+    ensures none { IfNone result (is_leading (map string_bytes before.now) (string_bytes word.now) ≡ false) }
+    ensures leading { IfSome result (λ x. is_leading (map string_bytes before.now) (string_bytes word.now) ≡ true) }
+    ensures value { IfSome result (λ x. signed_of (string_bytes word.now) ≡ Some x) }
+    ensures room { IfSome result (λ x. length before.now < MAX_LISTED) }
+{
+    if before.len() >= MAX_LISTED {
+        return None;
+    }
+    let x = signed_of(word.as_bytes())?;
+    if is_among(x.element, before) {
+        None
+    } else {
+        Some(x)
+    }
+}
+
+/// Different elements with signs, at least one.
+pub fn signed_elements(rest: &[String]) -> Result<Leading, Usage>
+    ensures { IsRead AreLeading (map string_bytes rest.now) result }
+{
+    let mut list = [UNLISTED; MAX_LISTED];
+    for (i, word) in rest.iter().enumerate() {
+        let Some(x) = leading_of(&rest[..i], word) else {
+            return Err(Usage { word: i as u32 + 2 });
+        };
+        list[i] = x;
+    }
+    if rest.is_empty() {
+        return Err(Usage { word: 2 });
+    }
+    Ok(Leading {
+        list,
+        count: rest.len() as u8,
+    })
+}

@@ -1,0 +1,28 @@
+//! The words of a command, and the task that they name.
+//!
+//! [`command`] reads the words behind the program's name as a [`Task`], or tells by [`Usage`] which word is at fault. It takes no memory.
+#![tactic(auto)]
+
+mod argument;
+mod arguments;
+mod colouring;
+mod leading;
+mod limits;
+mod numbered;
+mod options;
+mod reads;
+mod setting;
+mod spelling;
+mod task;
+mod triple;
+mod usage;
+mod verb;
+mod words;
+
+pub use colouring::Colouring;
+pub use leading::Leading;
+pub use limits::MAX_LISTED;
+pub use reads::Reads;
+pub use task::Task;
+pub use usage::Usage;
+pub use words::command;

@@ -1,0 +1,92 @@
+//! Numbers within a range, and options `--name=K` in any order, each at most once.
+
+ghost use Rattle.std.specs.Prelude.{◌≡◌, ◌≤◌, ◌<◌, ◌+◌, ◌^◌, map, length, string_bytes, is_some, IfSome};
+ghost use Rattle.om_words.specs.Readings.{IsReadBehind};
+ghost use Rattle.om_words.specs.Options.{number_within, given_number, is_given, is_option, AreOptions, number_of, greatest_number};
+
+use super::setting::{Setting, default_number, greatest_number, least_number, option_text};
+use super::usage::Usage;
+use om_text::words::unsigned_number;
+
+/// The number from `least` to `greatest` that a word is: decimal digits without a leading zero, save `0` itself.
+pub fn number_within(word: &[u8], least: u32, greatest: u32) -> Option<u32>
+    ensures value { result ≡ number_within least greatest word.now }
+    ensures within { IfSome result (λ n. n ≤ greatest) }
+{
+    match unsigned_number(word, u64::from(greatest)) {
+        Some(number) if u64::from(least) <= number => Some(number as u32),
+        _ => None,
+    }
+}
+
+/// The number that a word gives a setting.
+fn given_number(setting: Setting, word: &[u8]) -> Option<u32>
+    ensures value { result ≡ given_number setting word.now }
+    ensures within { IfSome result (λ n. n ≤ greatest_number setting) }
+{
+    let text = option_text(setting).as_bytes();
+    if word.starts_with(text) {
+        number_within(
+            &word[text.len()..],
+            least_number(setting),
+            greatest_number(setting),
+        )
+    } else {
+        None
+    }
+}
+
+/// Whether a word gives the setting a number.
+fn gives(word: &String, setting: Setting) -> bool
+    ensures { result ≡ is_some (given_number setting (string_bytes word.now)) }
+{
+    given_number(setting, word.as_bytes()).is_some()
+}
+
+/// Whether some word gives the setting a number.
+fn is_given(setting: Setting, words: &[String]) -> bool
+    ensures { result ≡ is_given setting (map string_bytes words.now) }
+{
+    for word in words {
+        if gives(word, setting) {
+            return true;
+        }
+    }
+    false
+}
+
+/// Whether a word gives a number to one of the settings to which no word before it gives one.
+fn is_option(settings: &[Setting], before: &[String], word: &String) -> bool
+    ensures { result ≡ is_option settings.now (map string_bytes before.now) (string_bytes word.now) }
+{
+    settings.iter().any(|setting| gives(word, *setting) && !is_given(*setting, before))
+}
+
+/// That the words are options of these settings, in any order, each at most once. They stand behind the first `passed`
+/// words of a command.
+pub fn options(settings: &[Setting], words: &[String], passed: u32) -> Result<(), Usage>
+    requires { passed + length settings.now + 1 < 2 ^ 32 }
+    ensures { IsReadBehind passed (AreOptions settings.now) (map string_bytes words.now) result }
+{
+    for (i, word) in words.iter().enumerate() {
+        if !is_option(settings, &words[..i], word) {
+            return Err(Usage {
+                word: passed + i as u32 + 1,
+            });
+        }
+    }
+    Ok(())
+}
+
+/// The number of a setting behind these words: what the first word that gives it one says, and its default where none does.
+pub fn number_of(words: &[String], setting: Setting) -> u32
+    ensures value { result ≡ number_of (map string_bytes words.now) setting }
+    ensures within { result ≤ greatest_number setting }
+{
+    for word in words {
+        if let Some(number) = given_number(setting, word.as_bytes()) {
+            return number;
+        }
+    }
+    default_number(setting)
+}

@@ -1,0 +1,70 @@
+//! What options give numbers, and the ranges of these.
+
+ghost use Rattle.std.specs.Prelude.{◌≡◌, ◌≤◌};
+ghost use Rattle.om_words.specs.Options.{option_text, least_number, greatest_number, default_number};
+
+use om_signs::{MAX_BOX, MAX_DRAWN, MAX_LINES, MAX_PIVOTS, MAX_STEPS};
+
+/// What an option gives a number.
+#[derive(Clone, Copy)]
+pub enum Setting {
+    /// The most lines of a listing.
+    First,
+    /// The greatest size of a coordinate in a search for vectors.
+    BoxSize,
+    /// The most steps of that search.
+    Steps,
+    /// The most pivots of a tableau run.
+    Pivots,
+    /// The number of vectors that are made.
+    Count,
+}
+
+/// The text of an option in front of its number.
+pub fn option_text(setting: Setting) -> &'static str
+    ensures { result.now ≡ option_text setting }
+{
+    match setting {
+        Setting::First => "--first=",
+        Setting::BoxSize => "--box=",
+        Setting::Steps => "--steps=",
+        Setting::Pivots => "--pivots=",
+        Setting::Count => "--count=",
+    }
+}
+
+/// The least number that an option may have.
+pub fn least_number(setting: Setting) -> u32
+    ensures { result ≡ least_number setting }
+{
+    match setting {
+        Setting::Count => 3,
+        _ => 1,
+    }
+}
+
+/// The greatest number that an option may have.
+pub fn greatest_number(setting: Setting) -> u32
+    ensures { result ≡ greatest_number setting }
+{
+    match setting {
+        Setting::First => MAX_LINES as u32,
+        Setting::BoxSize => u32::from(MAX_BOX),
+        Setting::Steps => MAX_STEPS as u32,
+        Setting::Pivots => MAX_PIVOTS,
+        Setting::Count => u32::from(MAX_DRAWN),
+    }
+}
+
+/// The number of a setting to which no option gives one.
+pub fn default_number(setting: Setting) -> u32
+    ensures { result ≡ default_number setting }
+{
+    match setting {
+        Setting::First => 100_000,
+        Setting::BoxSize => 6,
+        Setting::Steps => 2_000_000,
+        Setting::Pivots => 20_000,
+        Setting::Count => u32::from(MAX_DRAWN),
+    }
+}

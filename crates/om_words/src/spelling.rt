@@ -1,0 +1,97 @@
+//! What single words spell.
+
+ghost use Rattle.std.specs.Prelude.{ℕ, ◌≡◌, ◌↔◌, ◌≤◌, List, IsTrue, map, length, string_bytes};
+ghost use Rattle.std.specs.List.{list_all};
+ghost use Rattle.std.specs.Fmt.{decimal};
+ghost use Rattle.om_signs.specs.declared.sign.Sign.{Sign};
+ghost use Rattle.om_text.specs.Words.{is_sign, sign_of_byte};
+ghost use Rattle.om_words.specs.Words.{Spells, NamesSystem, IsElement};
+
+use itoa::Buffer;
+use om_answer::AxiomSystem;
+use om_signs::{MAX_ELEMENTS, Sign, SignVec};
+
+/// Whether a word is this one.
+pub fn is_word(word: &String, text: &str) -> bool
+    ensures { IsTrue result ↔ (string_bytes word.now ≡ text.now) }
+{
+    word.as_str() == text
+}
+
+/// Whether a word is the digits of a number.
+fn is_number(word: &String, n: u8) -> bool
+    ensures { IsTrue result ↔ (string_bytes word.now ≡ decimal n) }
+{
+    let mut buffer = Buffer::new();
+    is_word(word, buffer.format(n))
+}
+
+/// The element whose number a word is.
+pub fn element(word: &String) -> Option<u8>
+    ensures { (e : ℕ) → (result ≡ Some e) ↔ IsElement (string_bytes word.now) e }
+{
+    for e in 1..MAX_ELEMENTS + 1 {
+        if is_number(word, e) {
+            return Some(e);
+        }
+    }
+    None
+}
+
+/// The sign vector that a word spells.
+pub fn spelled(word: &[u8]) -> Option<SignVec>
+    ensures { (x : List Sign) → (result ≡ Some x) ↔ Spells word.now x }
+{
+    if word.is_empty() || word.len() > MAX_ELEMENTS as usize || !are_signs(word) {
+        return None;
+    }
+    Some(sign_vector(word))
+}
+
+/// Whether each byte is that of a sign.
+fn are_signs(word: &[u8]) -> bool
+    ensures { result ≡ list_all is_sign word.now }
+{
+    word.iter().all(|b| matches!(*b, b'+' | b'-' | b'0'))
+}
+
+/// The signs of the bytes.
+fn sign_vector(word: &[u8]) -> SignVec
+    requires low { 1 ≤ length word.now }
+    requires high { length word.now ≤ MAX_ELEMENTS }
+    ensures { result ≡ map sign_of_byte word.now }
+{
+    let mut x = SignVec::zero(word.len() as u8);
+    for place in 0..word.len() {
+        x = x.set(place as u8 + 1, sign_of(word[place]));
+    }
+    x
+}
+
+/// The sign of a byte; zero for every byte other than `+` and `-`.
+fn sign_of(b: u8) -> Sign
+    ensures { result ≡ sign_of_byte b }
+{
+    match b {
+        b'+' => Sign::Plus,
+        b'-' => Sign::Minus,
+        _ => Sign::Zero,
+    }
+}
+
+/// The kind that a word names.
+pub fn named_system(word: &String) -> Option<AxiomSystem>
+    ensures { (kind : AxiomSystem) → (result ≡ Some kind) ↔ NamesSystem (string_bytes word.now) kind }
+{
+    if is_word(word, "chirotope") {
+        Some(AxiomSystem::Chirotope)
+    } else if is_word(word, "circuits") {
+        Some(AxiomSystem::Circuits)
+    } else if is_word(word, "cocircuits") {
+        Some(AxiomSystem::Cocircuits)
+    } else if is_word(word, "covectors") {
+        Some(AxiomSystem::Covectors)
+    } else {
+        None
+    }
+}

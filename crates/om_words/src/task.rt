@@ -1,0 +1,65 @@
+ghost use Rattle.std.specs.Prelude.{◌≡◌};
+ghost use Rattle.om_words.specs.Tasks.{reads};
+
+use super::colouring::Colouring;
+use super::leading::Leading;
+use super::reads::Reads;
+use om_answer::AxiomSystem;
+use om_decide::Budgets;
+use om_signs::SignVec;
+
+/// What the words after the program's name ask for.
+#[derive(Clone, Copy)]
+pub enum Task {
+    /// `accept`: whether the document meets the axioms of its kind.
+    Accept,
+    /// `member SIGNS`: whether the sign vector is a covector.
+    Member(SignVec),
+    /// `convert KIND`: the same oriented matroid as a document of this kind.
+    Convert(AxiomSystem),
+    /// `dual`: the dual.
+    Dual,
+    /// `delete E`: the deletion of this element.
+    Delete(u8),
+    /// `contract E`: the contraction of this element.
+    Contract(u8),
+    /// `reorient E..`: the reorientation on the elements of this mask, in which bit e - 1 stands for e.
+    Reorient(u32),
+    /// `wiring`: the least wiring of the chirotope.
+    Wiring,
+    /// `mutations`: the mutations of the chirotope.
+    Mutations,
+    /// `flip A B C`: the chirotope with the sign of these three elements turned.
+    Flip(u8, u8, u8),
+    /// `extend --first=K`: the first K extensions of the chirotope by one element.
+    Extend { first: u64 },
+    /// `paint COLOURS E`: the circuit or the cocircuit that fits these colours at this element.
+    Paint(Colouring),
+    /// `hull`: whether the oriented matroid is acyclic, and its extreme elements.
+    Hull,
+    /// `lexext W..`: the lexicographic extension by these elements with signs.
+    Lexext(Leading),
+    /// `threeterm`: whether the map of the document meets the three-term test.
+    Threeterm,
+    /// `upgrade`: the document in version 2 of the format.
+    Upgrade,
+    /// `decide --box=K --steps=T --pivots=P`: whether vectors realize it, within these budgets.
+    Decide(Budgets),
+    /// `check`: whether the verdict of a claim has proof.
+    Check,
+    /// `make N --count=K`: so many vectors that the number gives, and their summary.
+    Make { seed: u32, count: u8 },
+}
+
+impl Task {
+    /// What the task reads.
+    pub fn reads(&self) -> Reads
+        ensures { result ≡ reads self.now }
+    {
+        match self {
+            Task::Check => Reads::Claim,
+            Task::Make { .. } => Reads::Nothing,
+            _ => Reads::Document,
+        }
+    }
+}
