@@ -1,18 +1,12 @@
-//! The tests of the public calls of the libraries, a module for each library.
+//! The tests of the public calls of the libraries that don't read or write texts, a module for each library.
 #![tactic(auto)]
 
-#[cfg(test)]
-mod answer;
-#[cfg(test)]
-mod callers;
 #[cfg(test)]
 mod certificate;
 #[cfg(test)]
 mod chirotope;
 #[cfg(test)]
 mod circuits;
-#[cfg(test)]
-mod claims;
 #[cfg(test)]
 mod convert;
 #[cfg(test)]
@@ -50,8 +44,6 @@ mod parallel;
 #[cfg(test)]
 mod points;
 #[cfg(test)]
-mod port;
-#[cfg(test)]
 mod propagation;
 #[cfg(test)]
 mod rows;
@@ -64,12 +56,8 @@ mod simplex;
 #[cfg(test)]
 mod subsets;
 #[cfg(test)]
-mod text;
-#[cfg(test)]
 mod threeterm;
 #[cfg(test)]
 mod vectors;
 #[cfg(test)]
 mod wiring;
-#[cfg(test)]
-mod words;

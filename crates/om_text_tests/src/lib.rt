@@ -1,0 +1,15 @@
+//! The tests of the public calls of the libraries that read and write texts.
+#![tactic(auto)]
+
+#[cfg(test)]
+mod answer;
+#[cfg(test)]
+mod callers;
+#[cfg(test)]
+mod claims;
+#[cfg(test)]
+mod port;
+#[cfg(test)]
+mod text;
+#[cfg(test)]
+mod words;
