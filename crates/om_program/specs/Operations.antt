@@ -18,7 +18,7 @@ use Rattle.om_text.specs.declared.document.Document.{Document}
 use Rattle.om_text.specs.declared.body.Body.{Body}
 use Rattle.om_text.specs.declared.body.Body.TheVariants as body
 use Rattle.om_text.specs.Form.{IsInForm}
-use Rattle.om_words.specs.Tasks.{IsWithin}
+use Rattle.om_words.specs.Tasks.{IsElementNumber}
 use Rattle.om_answer.specs.declared.axiom_system.AxiomSystem.{AxiomSystem}
 use Rattle.om_answer.specs.declared.axiom_system.AxiomSystem.TheVariants as kind
 use Rattle.om_answer.specs.declared.line.Line.TheVariants as line
@@ -45,8 +45,8 @@ named_elements (Reorient mask) = members mask 1 MAX_ELEMENTS
 -- the elements that an operation names lie within the limit
 abbrev pub IsLawful : Operation → Type 0
 IsLawful Dual = Unit {0}
-IsLawful (Delete e) = IsWithin e
-IsLawful (Contract e) = IsWithin e
+IsLawful (Delete e) = IsElementNumber e
+IsLawful (Contract e) = IsElementNumber e
 IsLawful (Reorient mask) = mask < 2 ^ MAX_ELEMENTS
 
 -- the first of the elements that is above n

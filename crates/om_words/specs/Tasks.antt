@@ -19,8 +19,8 @@ reads (Make seed count) = kind.Nothing
 reads _ = kind.Document
 
 -- the number of an element
-abbrev pub IsWithin : ℕ → Type 0
-IsWithin e = (1 ≤ e) × (e ≤ MAX_ELEMENTS)
+abbrev pub IsElementNumber : ℕ → Type 0
+IsElementNumber e = (1 ≤ e) × (e ≤ MAX_ELEMENTS)
 
 -- three elements, strictly increasing
 pub record AreIncreasing (a b c : ℕ) : Type 0 where
@@ -57,8 +57,8 @@ pub record IsCount (count : ℕ) : Type 0 where
 
 -- the arguments of a task lie within the limits
 abbrev pub HasLawfulArguments : Task → Type 0
-HasLawfulArguments (Delete e) = IsWithin e
-HasLawfulArguments (Contract e) = IsWithin e
+HasLawfulArguments (Delete e) = IsElementNumber e
+HasLawfulArguments (Contract e) = IsElementNumber e
 HasLawfulArguments (Reorient mask) = mask < 2 ^ MAX_ELEMENTS
 HasLawfulArguments (Flip a b c) = AreIncreasing a b c
 HasLawfulArguments (Extend first) = IsNumberOfLines first
