@@ -6,7 +6,6 @@
 ghost use Rattle.std.specs.Prelude.{◌≡◌, ◌≤◌, length, IsTrue, IfOk, IfErr, IfSome, OnOk};
 ghost use Rattle.om_circuits.specs.Axioms.{MeetsCircuitAxioms};
 ghost use Rattle.om_covectors.specs.Axioms.{MeetsCovectorAxioms};
-ghost use Rattle.om_covectors.specs.Minimality.{IsMinimal, AreThose};
 ghost use Rattle.om_members.specs.Listings.{HaveLength, AreDistinct};
 ghost use Rattle.om_propagation.specs.Hitting.{IsEachNormalOf};
 ghost use Rattle.om_convert.specs.Reading.{IsSetReadError, IsCovReadError};
@@ -16,7 +15,7 @@ use super::read_error::{ReadCovError, ReadSetError};
 use super::vectors::{all_cocircuits, all_covectors};
 use om_chirotope::Chirotope;
 use om_circuits::{Circuits, Cocircuits, SignedSet};
-use om_covectors::{Covectors, is_minimal};
+use om_covectors::{Covectors, minimal_vectors};
 use om_propagation::{first_missed, least_meeting, propagated_map};
 use om_signs::{List, MAX_ELEMENTS, MAX_MEMBERS, MAX_VALUES, NoMemory, SignVec};
 use om_subsets::Subset;
@@ -151,13 +150,21 @@ fn are_cocircuits_of_proposal<R: Threads + Sync>(
 {
     match proposed_chirotope(rt, alloc, elements, vectors, vectors.len())? {
         None => Ok(false),
-        Some(chi) => match all_cocircuits(alloc, &chi) {
-            Ok(cocircuits) => Ok(cocircuits.is_set_of(vectors)),
-            Err(ConvertError::TooMany { .. }) => Ok(false),
-            // The chirotope is at hand, so it is not too wide.
-            Err(ConvertError::TooWide { .. }) => unreachable!(),
-            Err(ConvertError::Memory) => Err(NoMemory),
-        },
+        Some(chi) => are_cocircuits_of(alloc, &chi, vectors),
+    }
+}
+
+/// Whether vectors are seen to be the cocircuits of a chirotope.
+fn are_cocircuits_of(alloc: Global, chi: &Chirotope, vectors: &[SignVec]) -> Result<bool, NoMemory>
+    requires { AreDistinct vectors.now }
+    ensures { IfOk result (λ seen. IsTrue seen → MeetsCircuitAxioms vectors.now) }
+{
+    match all_cocircuits(alloc, chi) {
+        Ok(cocircuits) => Ok(cocircuits.is_set_of(vectors)),
+        Err(ConvertError::TooMany { .. }) => Ok(false),
+        // The chirotope is at hand, so it is not too wide.
+        Err(ConvertError::TooWide { .. }) => unreachable!(),
+        Err(ConvertError::Memory) => Err(NoMemory),
     }
 }
 
@@ -177,13 +184,21 @@ fn are_covectors_of_proposal<R: Threads + Sync>(
     let minimal = minimal_vectors(alloc, vectors)?;
     match proposed_chirotope(rt, alloc, elements, minimal.as_slice(), vectors.len())? {
         None => Ok(false),
-        Some(chi) => match all_covectors(alloc, &chi) {
-            Ok(covectors) => Ok(covectors.is_set_of(vectors)),
-            Err(ConvertError::TooMany { .. }) => Ok(false),
-            // The chirotope is at hand, so it is not too wide.
-            Err(ConvertError::TooWide { .. }) => unreachable!(),
-            Err(ConvertError::Memory) => Err(NoMemory),
-        },
+        Some(chi) => are_covectors_of(alloc, &chi, vectors),
+    }
+}
+
+/// Whether vectors are seen to be the covectors of a chirotope.
+fn are_covectors_of(alloc: Global, chi: &Chirotope, vectors: &[SignVec]) -> Result<bool, NoMemory>
+    requires { AreDistinct vectors.now }
+    ensures { IfOk result (λ seen. IsTrue seen → MeetsCovectorAxioms vectors.now) }
+{
+    match all_covectors(alloc, chi) {
+        Ok(covectors) => Ok(covectors.is_set_of(vectors)),
+        Err(ConvertError::TooMany { .. }) => Ok(false),
+        // The chirotope is at hand, so it is not too wide.
+        Err(ConvertError::TooWide { .. }) => unreachable!(),
+        Err(ConvertError::Memory) => Err(NoMemory),
     }
 }
 
@@ -226,17 +241,4 @@ fn proposed_chirotope<R: Threads + Sync>(
         Ok(chi) => Ok(Some(chi)),
         Err(_) => Ok(None),
     }
-}
-
-/// The nonzero vectors of minimal support, in their order.
-fn minimal_vectors(alloc: Global, vectors: &[SignVec]) -> Result<List<SignVec>, NoMemory>
-    ensures { IfOk result (AreThose (IsMinimal vectors.now) vectors.now) }
-{
-    let mut minimal = List::new(alloc);
-    for x in vectors {
-        if is_minimal(vectors, *x) {
-            minimal.push(*x)?;
-        }
-    }
-    Ok(minimal)
 }

@@ -5,7 +5,7 @@ ghost use Rattle.om_members.specs.Listings.{HaveLength, AreDistinct};
 ghost use Rattle.om_covectors.specs.CovectorSets.{IsCovectorSet};
 ghost use Rattle.om_covectors.specs.Minimality.{IsMinimal, AreThose};
 
-use super::minimality::is_minimal;
+use super::minimality::with_minimal;
 use om_members::is_member;
 use om_signs::{List, MAX_ELEMENTS, MAX_MEMBERS, NoMemory, SignVec};
 use std::marker::Model;
@@ -94,13 +94,6 @@ impl Covectors {
     pub fn minimal(&self) -> Result<List<SignVec>, NoMemory>
         ensures { IfOk result (AreThose (IsMinimal self.now.members) self.now.members) }
     {
-        let members = self.list.as_slice();
-        let mut least = self.list.empty_like();
-        for x in members {
-            if is_minimal(members, *x) {
-                least.push(*x)?;
-            }
-        }
-        Ok(least)
+        with_minimal(self.list.empty_like(), self.list.as_slice())
     }
 }

@@ -20,4 +20,4 @@ pub use bad_cov::BadCov;
 pub use cov_refused::CovRefused;
 pub use covectors::Covectors;
 pub use laws::one_first_instance;
-pub use minimality::is_minimal;
+pub use minimality::{is_minimal, minimal_vectors};

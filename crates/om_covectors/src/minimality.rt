@@ -1,10 +1,11 @@
-//! Members of minimal support.
+//! Vectors of minimal support.
 
-ghost use Rattle.std.specs.Prelude.{◌↔◌, IsTrue, MatchBool};
-ghost use Rattle.om_covectors.specs.Minimality.{HasSmallerSupport, HasNoSmallerSupport, IsMinimal};
+ghost use Rattle.std.specs.Prelude.{◌≡◌, ◌↔◌, [], IsTrue, IfOk, MatchBool};
+ghost use Rattle.om_covectors.specs.Minimality.{HasSmallerSupport, HasNoSmallerSupport, IsMinimal, AreThose};
 
 use om_members::is_zero;
-use om_signs::SignVec;
+use om_signs::{List, NoMemory, SignVec};
+use std::alloc::Global;
 
 /// Whether y is not zero and its support lies strictly in that of x.
 fn has_smaller_support(y: SignVec, x: SignVec) -> bool
@@ -30,4 +31,29 @@ pub fn is_minimal(members: &[SignVec], x: SignVec) -> bool
         }
     }
     true
+}
+
+/// The nonzero vectors of minimal support among these, in their order. The list takes its memory from `alloc`.
+///
+/// [`NoMemory`] comes only for want of memory.
+///
+/// Source: Björner, Las Vergnas, Sturmfels, White and Ziegler, *Oriented Matroids*, chapter 3.
+pub fn minimal_vectors(alloc: Global, vectors: &[SignVec]) -> Result<List<SignVec>, NoMemory>
+    ensures { IfOk result (AreThose (IsMinimal vectors.now) vectors.now) }
+{
+    with_minimal(List::new(alloc), vectors)
+}
+
+/// The nonzero vectors of minimal support among these, in their order, in a list that was empty.
+pub fn with_minimal(empty: List<SignVec>, vectors: &[SignVec]) -> Result<List<SignVec>, NoMemory>
+    requires { empty ≡ [] }
+    ensures { IfOk result (AreThose (IsMinimal vectors.now) vectors.now) }
+{
+    let mut minimal = empty;
+    for x in vectors {
+        if is_minimal(vectors, *x) {
+            minimal.push(*x)?;
+        }
+    }
+    Ok(minimal)
 }

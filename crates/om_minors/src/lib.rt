@@ -13,7 +13,6 @@ mod covectors;
 mod dropping;
 mod flipping;
 mod laws;
-mod least;
 mod minor_error;
 mod minors;
 mod reorientation;

@@ -9,8 +9,8 @@ ghost use Rattle.om_denotation.specs.Operations.{IsWithout, IsZeroWithout};
 
 use super::dropping::{without_place, zero_without_place};
 use super::flipping::flipped;
-use super::least::least;
 use om_circuits::SignedSet;
+use om_covectors::minimal_vectors;
 use om_signs::NoMemory;
 use std::alloc::Global;
 
@@ -40,7 +40,7 @@ pub fn least_part(alloc: Global, set: &SignedSet, e: u8) -> Result<SignedSet, No
 {
     let elements = set.elements();
     let without = without_place(alloc, set.members(), e)?;
-    let list = least(alloc, without.as_slice())?;
+    let list = minimal_vectors(alloc, without.as_slice())?;
     Ok(SignedSet::lawful(elements - 1, list))
 }
 

@@ -1,7 +1,7 @@
 -- The ranges of the numbers that the ends of a run have.
 --
 -- Main results: balanced_small, weights_small, limit_basis and width_numbers.
-use Rattle.std.specs.Prelude.{ℕ, ◌≡◌, ◌+◌, ◌-◌, ◌<◌, ◌≤◌, ℤ, pos, negsuc, neg_ℤ, unsigned_abs, List, length, All}
+use Rattle.std.specs.Prelude.{ℕ, ◌≡◌, ◌+◌, ◌-◌, ◌≤◌, ℤ, pos, negsuc, neg_ℤ, unsigned_abs, List, length, All}
 use Rattle.std.proofs.Common.{arith, sym, ◌∙◌, ap, subst, zero, suc, refl, get_or}
 use Rattle.std.proofs.lemmas.List.Elements.{Contains-get_or, All-from_get_or}
 use Rattle.om_signs.specs.declared.limits.TheConstants.{MAX_MULTIPLICITY, MAX_WEIGHT}

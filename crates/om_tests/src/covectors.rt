@@ -1,6 +1,6 @@
 //! Lists that meet the axioms of covectors, their members of minimal support, and one list for each axiom that breaks it.
 
-use om_covectors::{BadCov, CovRefused, Covectors, check};
+use om_covectors::{BadCov, CovRefused, Covectors, check, minimal_vectors};
 use om_samples::{are_vectors, covectors_of, vector_of, vectors_of};
 use std::alloc::Global;
 use std::test::Fail;
@@ -41,6 +41,14 @@ fn accepted(rt: HostRuntime) -> Result<(), Fail> {
     assert!(rt; are_vectors(minimal.as_slice(), "0++ 0-- +0- -0+ ++0 --0"));
     let list = covectors.into_list();
     assert!(rt; list.len() == 13);
+    Ok(())
+}
+
+#[test]
+fn vectors_of_minimal_support(rt: HostRuntime) -> Result<(), Fail> {
+    let vectors = vectors_of(rt.alloc(), 3, &["++0", "000", "-00", "0-+", "+00", "-++"])?;
+    let minimal = minimal_vectors(rt.alloc(), vectors.as_slice())?;
+    assert!(rt; are_vectors(minimal.as_slice(), "-00 0-+ +00"));
     Ok(())
 }
 

@@ -1,6 +1,6 @@
 //! Rows worked out by hand, and numbers at the limit.
 
-use om_rows::{Column, Wide, combine, compare_ratios, dot, primitive};
+use om_rows::{Column, Wide, combine, compare_ratios, dot, gcd, primitive};
 use std::cmp::Ordering;
 
 const MAX: i128 = i128::MAX;
@@ -66,6 +66,12 @@ fn divisors(rt: HostRuntime) {
     let mut least = [MIN, 0, MIN];
     primitive(&mut least);
     assert!(rt; row == [2, -3, 0, 5] && zeros == [0, 0] && least == [-1, 0, -1]);
+}
+
+#[test]
+fn greatest_common_divisors(rt: HostRuntime) {
+    assert!(rt; [gcd(12, 18), gcd(18, 12), gcd(7, 5)] == [6, 6, 1]);
+    assert!(rt; [gcd(0, 4), gcd(4, 0), gcd(0, 0)] == [4, 4, 0]);
 }
 
 #[test]

@@ -3,8 +3,8 @@ use Rattle.std.proofs.lemmas.List.{take_more}
 use Rattle.om_signs.specs.declared.sign.Sign.{Sign}
 use Rattle.om_covectors.specs.Minimality.{IsMinimal, AreThose}
 use Rattle.om_covectors.proofs.MinimalityLaws.{those_taken, those_left}
-use Rattle.om_convert.proofs.reading.minimal_vectors.Goals as goal
-use Rattle.om_convert.proofs.reading.minimal_vectors.Goals.{then-is_minimal+in_ok-push, else-is_minimal}
+use Rattle.om_covectors.proofs.minimality.with_minimal.Goals as goal
+use Rattle.om_covectors.proofs.minimality.with_minimal.Goals.{then-is_minimal+in_ok-push, else-is_minimal}
 
 module _ (P : List Sign → Type 0) (xs ys zs : List (List Sign)) (k : ℕ) (x : List Sign) (lt : k < length xs) (is : x ≡ get_or xs k x) (h : AreThose P (take k xs) ys) where
   one_more : take k xs ++ x ∷ [] ≡ take (k + 1) xs

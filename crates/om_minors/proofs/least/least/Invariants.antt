@@ -1,6 +1,0 @@
-use Rattle.std.proofs.Common.{take}
-use Rattle.om_covectors.specs.Minimality.{IsMinimal, AreThose}
-use Rattle.om_minors.proofs.least.least.Given as goal
-
-abbrev pub invariant-loop-x : goal.invariant-loop-x
-invariant-loop-x l = AreThose (IsMinimal l.vectors) (take l.x-index l.vectors) l.least
