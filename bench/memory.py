@@ -2,10 +2,10 @@
 """bench/memory.py [PROGRAM]
 
 Refuses each request for memory of the built program in turn, one in a run, by a library that is loaded before the C
-library's. Each run has to end with exit code 6 and nothing written, or as it ends with all memory; and with 7 and nothing
-written where the request comes from the runtime, which hands the words over before the command begins. Prints a line for
-each command with the number of requests that were refused, and last 'memory: N runs, M failed'; the exit code is 1 where
-one failed. It needs a C compiler, $CC or cc.
+library's. Each run has to end with exit code 6 and nothing written, or as it ends with all memory; so too where the
+request comes from the runtime, which hands the words over before the command begins. Prints a line for each command with
+the number of requests that were refused, and last 'memory: N runs, M failed'; the exit code is 1 where one failed. It
+needs a C compiler, $CC or cc.
 """
 import os
 import subprocess
@@ -110,18 +110,16 @@ def main():
             whole = run(library, words, data, requests=requests)
             with open(requests, "rb") as file:
                 count = int.from_bytes(file.read(), sys.byteorder)
-            wanting = early = 0
+            wanting = 0
             for refused in range(1, count + 1):
                 runs += 1
                 ended = run(library, words, data, refused)
                 if ended == (6, b"", b""):
                     wanting += 1
-                elif ended == (7, b"", b"") and wanting == 0:
-                    early += 1
                 elif ended != whole:
                     failed += 1
                     print("failed: %s with request %d refused: exit code %s, output %r, errors %r" % (words, refused, ended[0], ended[1][:80], ended[2][:200]))
-            print("%-28s %5d requests refused: %d end with 6, %d with 7 before the command begins" % (" ".join(words), count, wanting, early))
+            print("%-28s %5d requests refused: %d end with 6" % (" ".join(words), count, wanting))
     print("memory: %d runs, %d failed" % (runs, failed))
     return 1 if failed or not runs else 0
 

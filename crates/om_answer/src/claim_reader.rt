@@ -15,7 +15,8 @@ use super::claim::Claim;
 use om_text::{ParseError, parse_part};
 use std::alloc::Global;
 
-/// Reads a claim: a document, and then the verdict block of what is claimed of its chirotope.
+/// Reads a claim: a document, and then the verdict block of what is claimed of its chirotope. There are at most
+/// [`MAX_READ`](om_signs::MAX_READ) bytes.
 ///
 /// After the document's line `end` comes a line with one of the words `realizable`, `nonrealizable`, `undecided` and
 /// `limit`, then the lines of this verdict, and `end`. Only lines without words may follow.

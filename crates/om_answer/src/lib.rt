@@ -4,7 +4,6 @@
 //! chirotope, and [`read_claim`] reads one.
 #![tactic(auto)]
 
-mod axiom_system;
 mod block;
 mod block_lines;
 mod block_reader;
@@ -12,6 +11,7 @@ mod claim;
 mod claim_reader;
 mod field;
 mod fields;
+mod kind;
 mod laws;
 mod line;
 mod numbers;
@@ -21,9 +21,9 @@ mod texts;
 mod verdict;
 mod verdict_lines;
 
-pub use axiom_system::AxiomSystem;
 pub use claim::Claim;
 pub use claim_reader::read_claim;
+pub use kind::Kind;
 pub use laws::{bytes_have_one_reading, claims_begin_as_bytes};
 pub use line::Line;
 pub use texts::print_line;

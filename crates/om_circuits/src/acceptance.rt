@@ -46,9 +46,10 @@ fn first_violated<R: Threads + Sync>(
     })
 }
 
-/// The set of these members, which are distinct and have `elements` signs each, if they meet the axioms of circuits; else
-/// the list, unchanged, and the first violated instance: by the axiom (no zero vector, negatives, supports, elimination),
-/// then by positions in the list, then by element. It takes no memory.
+/// The set of these members, at most [`MAX_MEMBERS`], which are distinct and have `elements` signs each, from 1 to
+/// [`MAX_ELEMENTS`], if they meet the axioms of circuits; else the list, unchanged, and the first violated instance: by the
+/// axiom (no zero vector, negatives, supports, elimination), then by positions in the list, then by element. It takes no
+/// memory.
 ///
 /// Source: Björner, Las Vergnas, Sturmfels, White and Ziegler, *Oriented Matroids*, chapter 3.
 pub fn check<R: Threads + Sync>(

@@ -28,7 +28,8 @@ impl Model for SignedSet {
 }
 
 impl SignedSet {
-    /// The set of these members, which meet the axioms. It takes no memory.
+    /// The set of these members, at most [`MAX_MEMBERS`], which are distinct, have `elements` signs each, from 1 to
+    /// [`MAX_ELEMENTS`], and meet the axioms. It takes no memory.
     pub fn lawful(elements: u8, list: List<SignVec>) -> SignedSet
         requires low { 1 ≤ elements }
         requires high { elements ≤ MAX_ELEMENTS }

@@ -6,7 +6,8 @@ use thiserror::Error;
 /// Why a conversion has no result.
 #[derive(Clone, Copy, Debug, PartialEq, Eq, Error)]
 pub enum ConvertError {
-    /// The chirotope that denotes the same has `values` values, more than a [`Chirotope`](om_chirotope::Chirotope) keeps.
+    /// A list is converted by way of the chirotope that denotes the same, and this has `values` values, more than
+    /// [`MAX_VALUES`](om_signs::MAX_VALUES).
     #[error("the chirotope has {values} values")]
     TooWide { values: u32 },
     /// The result would have more than `limit` members.

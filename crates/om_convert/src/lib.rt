@@ -3,7 +3,7 @@
 //! Each of chirotope, circuits, cocircuits and covectors converts to each of the three others, as [`chirotope_to_circuits`]
 //! and [`circuits_to_chirotope`]. The answer denotes the same oriented matroid, and is the only one of its kind that does: a
 //! chirotope up to sign, a list up to the order of its members. A list may denote an oriented matroid whose chirotope has more
-//! values than a [`Chirotope`](om_chirotope::Chirotope) keeps: then it converts to no other kind, but for covectors to their
+//! than [`MAX_VALUES`](om_signs::MAX_VALUES) values: then it converts to no other kind, but for covectors to their
 //! cocircuits, and [`rank_circuits`], [`rank_cocircuits`] and [`rank_covectors`] still give its rank.
 //!
 //! Source of the notions: Björner, Las Vergnas, Sturmfels, White and Ziegler, *Oriented Matroids*, chapters 3 and 4.

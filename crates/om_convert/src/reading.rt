@@ -22,8 +22,9 @@ use om_subsets::Subset;
 use std::alloc::Global;
 use std::thread::Threads;
 
-/// The circuits of this list, whose members are distinct and have `elements` signs each, if they meet the axioms of circuits;
-/// else the list, unchanged, and the first violated instance, as [`om_circuits::check`] gives it. Members stay in their order.
+/// The circuits of this list, whose members, at most [`MAX_MEMBERS`], are distinct and have `elements` signs each, from 1 to
+/// [`MAX_ELEMENTS`], if they meet the axioms of circuits; else the list, unchanged, and the first violated instance, as
+/// [`om_circuits::check`] gives it. Members stay in their order.
 ///
 /// [`ReadSetError::Memory`] comes only for want of memory, and hands the list back.
 ///
@@ -48,9 +49,9 @@ pub fn read_circuits<R: Threads + Sync>(
     Ok(Circuits(set))
 }
 
-/// The cocircuits of this list, whose members are distinct and have `elements` signs each, if they meet the axioms of circuits,
-/// which are those of cocircuits; else the list, unchanged, and the first violated instance, as [`om_circuits::check`] gives it.
-/// Members stay in their order.
+/// The cocircuits of this list, whose members, at most [`MAX_MEMBERS`], are distinct and have `elements` signs each, from 1
+/// to [`MAX_ELEMENTS`], if they meet the axioms of circuits, which are those of cocircuits; else the list, unchanged, and
+/// the first violated instance, as [`om_circuits::check`] gives it. Members stay in their order.
 ///
 /// [`ReadSetError::Memory`] comes only for want of memory, and hands the list back.
 ///
@@ -75,9 +76,9 @@ pub fn read_cocircuits<R: Threads + Sync>(
     Ok(Cocircuits(set))
 }
 
-/// The covectors of this list, whose members are distinct and have `elements` signs each, if they meet the axioms of
-/// covectors; else the list, unchanged, and the first violated instance, as [`om_covectors::check`] gives it. Members stay in
-/// their order.
+/// The covectors of this list, whose members, at most [`MAX_MEMBERS`], are distinct and have `elements` signs each, from 1
+/// to [`MAX_ELEMENTS`], if they meet the axioms of covectors; else the list, unchanged, and the first violated instance, as
+/// [`om_covectors::check`] gives it. Members stay in their order.
 ///
 /// [`ReadCovError::Memory`] comes only for want of memory, and hands the list back.
 ///

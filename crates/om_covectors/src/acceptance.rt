@@ -46,9 +46,10 @@ fn first_violated<R: Threads + Sync>(
     })
 }
 
-/// The covectors of this list, whose members are distinct and have `elements` signs each, if they meet the axioms of
-/// covectors; else the list, unchanged, and the first violated instance: by the axiom (the zero vector, negatives,
-/// compositions, elimination), then by positions in the list, then by element. It takes no memory.
+/// The covectors of this list, whose members, at most [`MAX_MEMBERS`], are distinct and have `elements` signs each, from 1
+/// to [`MAX_ELEMENTS`], if they meet the axioms of covectors; else the list, unchanged, and the first violated instance: by
+/// the axiom (the zero vector, negatives, compositions, elimination), then by positions in the list, then by element. It
+/// takes no memory.
 ///
 /// Source: Björner, Las Vergnas, Sturmfels, White and Ziegler, *Oriented Matroids*, chapter 4.
 pub fn check<R: Threads + Sync>(

@@ -32,7 +32,8 @@ impl Model for Covectors {
 }
 
 impl Covectors {
-    /// The covectors of this list, which meet the axioms. It takes no memory.
+    /// The covectors of this list, whose members, at most [`MAX_MEMBERS`], are distinct, have `elements` signs each, from 1 to
+    /// [`MAX_ELEMENTS`], and meet the axioms. It takes no memory.
     pub fn lawful(elements: u8, list: List<SignVec>) -> Covectors
         requires low { 1 ≤ elements }
         requires high { elements ≤ MAX_ELEMENTS }

@@ -30,8 +30,8 @@ use Rattle.om_text.specs.declared.document.Document.{Document}
 use Rattle.om_text.specs.declared.body.Body.{Body}
 use Rattle.om_text.specs.declared.body.Body.TheVariants as body
 use Rattle.om_text.specs.Form.{IsInForm}
-use Rattle.om_answer.specs.declared.axiom_system.AxiomSystem.{AxiomSystem}
-use Rattle.om_answer.specs.declared.axiom_system.AxiomSystem.TheVariants as kind
+use Rattle.om_answer.specs.declared.kind.Kind.{Kind}
+use Rattle.om_answer.specs.declared.kind.Kind.TheVariants as kind
 use Rattle.om_answer.specs.declared.line.Line.TheVariants as line
 use Rattle.om_program.specs.declared.answer.Answer.{Answer}
 use Rattle.om_program.specs.declared.representation.Representation.{Representation}
@@ -68,15 +68,15 @@ same_of (representation.Covectors s) c is = is.same
 
 -- ---- a document as itself
 
-pub own_converted : (k : AxiomSystem) (d e : Document) → has_kind k d.body ≡ true → e ≡ d → IsInForm e → IsConversion k d (shows e)
+pub own_converted : (k : Kind) (d e : Document) → has_kind k d.body ≡ true → e ≡ d → IsInForm e → IsConversion k d (shows e)
 own_converted k d e own same form = subst (λ u. IsConversion k d (shows u)) (sym same) (itself own (subst IsInForm same form))
 
 -- ---- a list whose chirotope is too wide, and one that is kept
 
-kept_as : (k : AxiomSystem) (d : Document) → IsKept d → IsKeptAs k d
+kept_as : (k : Kind) (d : Document) → IsKept d → IsKeptAs k d
 kept_as k d narrow values (way, is) = narrow values is
 
-pub wide_answered : (k : AxiomSystem) (d : Document) (why : Unchosen) (a : Answer) → has_kind k d.body ≡ false → is_direct k d.body ≡ false → IsUnchosen d why → IsWidthAnswer why a → IsConversion k d a
+pub wide_answered : (k : Kind) (d : Document) (why : Unchosen) (a : Answer) → has_kind k d.body ≡ false → is_direct k d.body ≡ false → IsUnchosen d why → IsWidthAnswer why a → IsConversion k d a
 wide_answered k d (unchosen.TooWide rank values) a other way is same = subst (IsConversion k d) (sym same) (wide values other (way, is.width))
 wide_answered k d unchosen.Memory a other way is none = absurd none
 
@@ -135,7 +135,7 @@ module _ (r : Representation) (c : SignMap) (om : IsChirotope c) (of : IsChiroto
   covector_in X = families.equal_families (document_of r).elements (IsCovectorIn (document_of r)) (IsCovectorOfChirotope c) (size_in r) (λ Y y. y.size ∙ elements_of r c of) (same_of r c of) X
 
   -- a list of a kind, whose members of the chirotope are P
-  module _ (k : AxiomSystem) (P : List Sign → Type 0) (both : (X : List Sign) → P X ↔ IsMemberOf k (document_of r) X) where
+  module _ (k : Kind) (P : List Sign → Type 0) (both : (X : List Sign) → P X ↔ IsMemberOf k (document_of r) X) where
     many_made : (why : ConvertError) (a : Answer) → has_kind k (document_of r).body ≡ false → IsKept (document_of r) → IsCause P why → IsUnlisted why a → IsConversion k (document_of r) a
     many_made (convert.TooWide values) a other narrow cause same = absurd cause
     many_made (convert.TooMany limit) a other narrow cause same =
@@ -187,7 +187,7 @@ many_cocircuits c om why a cause many = λ r of other narrow. many_cocircuits_of
 pub many_covectors : (c : SignMap) → IsChirotope c → (why : ConvertError) (a : Answer) → IsCause (IsCovectorOfChirotope c) why → IsUnlisted why a → IsConversionFrom kind.Covectors c a
 many_covectors c om why a cause many = λ r of other narrow. many_covectors_of r c om of why a other narrow cause many
 
-pub from_chirotope : (k : AxiomSystem) (r : Representation) (c : SignMap) → IsChirotopeOf (document_of r) c → has_kind k (document_of r).body ≡ false → IsKept (document_of r) → (a : Answer) → IsConversionFrom k c a → IsConversion k (document_of r) a
+pub from_chirotope : (k : Kind) (r : Representation) (c : SignMap) → IsChirotopeOf (document_of r) c → has_kind k (document_of r).body ≡ false → IsKept (document_of r) → (a : Answer) → IsConversionFrom k c a → IsConversion k (document_of r) a
 from_chirotope k r c of other narrow a from = from r of other narrow
 
 -- ---- covectors as cocircuits

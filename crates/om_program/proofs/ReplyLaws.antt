@@ -27,7 +27,7 @@ use Rattle.om_certificate.specs.declared.evidence.Evidence.{Evidence}
 use Rattle.om_certificate.specs.declared.evidence.Evidence.TheVariants as evidence
 use Rattle.om_certificate.specs.declared.verdict.Verdict.{Verdict}
 use Rattle.om_answer.specs.declared.claim.Claim.{Claim}
-use Rattle.om_answer.specs.declared.axiom_system.AxiomSystem.{AxiomSystem}
+use Rattle.om_answer.specs.declared.kind.Kind.{Kind}
 use Rattle.om_answer.specs.declared.line.Line.{Line}
 use Rattle.om_program.specs.declared.answer.Answer.{Answer}
 use Rattle.om_program.specs.declared.operation.Operation.{Operation}
@@ -96,7 +96,7 @@ membership_replies n P x a (wrong_length other) = tt
 membership_replies n P x a (covector size is) = tt
 membership_replies n P x a (not_covector size is) = tt
 
-conversion_replies : (k : AxiomSystem) (d : Document) (a : Answer) → IsConversion k d a → IsReply a
+conversion_replies : (k : Kind) (d : Document) (a : Answer) → IsConversion k d a → IsReply a
 conversion_replies k d a (itself own form) = form
 conversion_replies k d a (wide values other is) = tt
 conversion_replies k d a (limited other narrow many) = tt

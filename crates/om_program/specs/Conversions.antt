@@ -13,8 +13,8 @@ use Rattle.om_text.specs.declared.document.Document.{Document}
 use Rattle.om_text.specs.declared.body.Body.{Body}
 use Rattle.om_text.specs.declared.body.Body.TheVariants as body
 use Rattle.om_text.specs.Form.{IsInForm}
-use Rattle.om_answer.specs.declared.axiom_system.AxiomSystem.{AxiomSystem}
-use Rattle.om_answer.specs.declared.axiom_system.AxiomSystem.TheVariants as kind
+use Rattle.om_answer.specs.declared.kind.Kind.{Kind}
+use Rattle.om_answer.specs.declared.kind.Kind.TheVariants as kind
 use Rattle.om_answer.specs.declared.line.Line.TheVariants as line
 use Rattle.om_program.specs.declared.answer.Answer.{Answer}
 use Rattle.om_program.specs.declared.representation.Representation.{Representation}
@@ -27,7 +27,7 @@ use Rattle.om_program.specs.Represented.{IsMeantFor}
 use Rattle.om_program.specs.Widths.{IsTooWide, IsKept}
 
 -- whether a body is of a kind
-abbrev pub has_kind : AxiomSystem → Body → Bool
+abbrev pub has_kind : Kind → Body → Bool
 has_kind kind.Chirotope (body.Chirotope m) = true
 has_kind kind.Circuits (body.Circuits members) = true
 has_kind kind.Cocircuits (body.Cocircuits members) = true
@@ -36,31 +36,31 @@ has_kind _ _ = false
 
 -- the members of a list of a kind that covectors P on n elements give: circuits are the vectors of least support, and cocircuits the covectors of
 -- least support
-abbrev pub IsMemberAs : AxiomSystem → ℕ → (List Sign → Type 0) → List Sign → Type 0
+abbrev pub IsMemberAs : Kind → ℕ → (List Sign → Type 0) → List Sign → Type 0
 IsMemberAs kind.Circuits n P = IsOfLeastSupport (IsVectorOf n P)
 IsMemberAs kind.Cocircuits n P = IsOfLeastSupport P
 IsMemberAs kind.Covectors n P = P
 IsMemberAs kind.Chirotope n P = λ x. ⊥
 
 -- the members of a list of a kind that a document gives
-abbrev pub IsMemberOf : AxiomSystem → Document → List Sign → Type 0
+abbrev pub IsMemberOf : Kind → Document → List Sign → Type 0
 IsMemberOf k d = IsMemberAs k d.elements (IsCovectorIn d)
 
 -- covectors as cocircuits, which need no chirotope
-abbrev pub is_direct : AxiomSystem → Body → Bool
+abbrev pub is_direct : Kind → Body → Bool
 is_direct kind.Cocircuits (body.Covectors members) = true
 is_direct _ _ = false
 
 -- it is a list that takes its chirotope to become one of the kind, and this would have so many values, more than a chirotope keeps
-abbrev pub IsTooWideAs : AxiomSystem → Document → ℕ → Type 0
+abbrev pub IsTooWideAs : Kind → Document → ℕ → Type 0
 IsTooWideAs k d values = (is_direct k d.body ≡ false) × IsTooWide d values
 
 -- it isn't such a list
-abbrev pub IsKeptAs : AxiomSystem → Document → Type 0
+abbrev pub IsKeptAs : Kind → Document → Type 0
 IsKeptAs k d = (values : ℕ) → IsTooWideAs k d values → ⊥
 
 -- it gives more of them than a list may have
-abbrev pub HasTooMany : AxiomSystem → Document → Type 0
+abbrev pub HasTooMany : Kind → Document → Type 0
 HasTooMany k d = HasMoreThan MAX_MEMBERS (IsMemberOf k d)
 
 -- a list has exactly these members; of a map, the first sign that isn't zero is plus
@@ -73,7 +73,7 @@ HasExactly P _ = Unit {0}
 
 -- e is d as a document of another kind: it meets the axioms of this kind and denotes the same. A list has exactly the members that d gives, and a
 -- chirotope is the normal one
-pub record IsConverted (k : AxiomSystem) (d e : Document) : Type 0 where
+pub record IsConverted (k : Kind) (d e : Document) : Type 0 where
   pub form : IsInForm e
   pub kind : has_kind k e.body ≡ true
   pub elements : e.elements ≡ d.elements
@@ -82,7 +82,7 @@ pub record IsConverted (k : AxiomSystem) (d e : Document) : Type 0 where
   pub members : HasExactly (IsMemberOf k d) e.body
 
 -- a document as one of a kind
-pub data IsConversion (k : AxiomSystem) (d : Document) : Answer → Type 0 where
+pub data IsConversion (k : Kind) (d : Document) : Answer → Type 0 where
   -- a document of the kind is itself
   itself : has_kind k d.body ≡ true → IsInForm d → IsConversion k d (shows d)
   -- its chirotope would have more values than a chirotope keeps
@@ -93,7 +93,7 @@ pub data IsConversion (k : AxiomSystem) (d : Document) : Answer → Type 0 where
   converted : (e : Document) → has_kind k d.body ≡ false → IsKeptAs k d → (HasTooMany k d → ⊥) → IsConverted k d e → IsConversion k d (shows e)
 
 -- the answer converts whatever has this chirotope, isn't of the kind, and isn't too wide
-abbrev pub IsConversionFrom : AxiomSystem → SignMap → Answer → Type 0
+abbrev pub IsConversionFrom : Kind → SignMap → Answer → Type 0
 IsConversionFrom k c answer = (r : Representation) → IsChirotopeOf (document_of r) c → has_kind k (document_of r).body ≡ false → IsKept (document_of r) → IsMeantFor (IsConversion k) r answer
 
 -- the answer where a list isn't made, by the number in the error; want of memory has none

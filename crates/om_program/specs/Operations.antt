@@ -19,8 +19,8 @@ use Rattle.om_text.specs.declared.body.Body.{Body}
 use Rattle.om_text.specs.declared.body.Body.TheVariants as body
 use Rattle.om_text.specs.Form.{IsInForm}
 use Rattle.om_words.specs.Tasks.{IsElementNumber}
-use Rattle.om_answer.specs.declared.axiom_system.AxiomSystem.{AxiomSystem}
-use Rattle.om_answer.specs.declared.axiom_system.AxiomSystem.TheVariants as kind
+use Rattle.om_answer.specs.declared.kind.Kind.{Kind}
+use Rattle.om_answer.specs.declared.kind.Kind.TheVariants as kind
 use Rattle.om_answer.specs.declared.line.Line.TheVariants as line
 use Rattle.om_program.specs.declared.answer.Answer.{Answer}
 use Rattle.om_program.specs.declared.operation.Operation.{Operation}
@@ -80,7 +80,7 @@ pub record IsMapMade (o : Operation) (n : ℕ) (P : List Sign → Type 0) (m : S
 
 -- the kind of what an operation makes of a body: the dual of circuits is a list of cocircuits, and that of cocircuits one of circuits; else the kind
 -- stays
-abbrev pub kind_made : Body → Operation → AxiomSystem
+abbrev pub kind_made : Body → Operation → Kind
 kind_made (body.Circuits members) Dual = kind.Cocircuits
 kind_made (body.Circuits members) _ = kind.Circuits
 kind_made (body.Cocircuits members) Dual = kind.Circuits

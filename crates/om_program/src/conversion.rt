@@ -10,7 +10,7 @@ use super::answer::Answer;
 use super::chirotope_choice::choose_chirotope;
 use super::documents::{circuits_document, cocircuits_document, covectors_document, map_document};
 use super::representation::Representation;
-use om_answer::{AxiomSystem, Line};
+use om_answer::{Kind, Line};
 use om_chirotope::Chirotope;
 use om_convert::{
     ConvertError, chirotope_to_circuits, chirotope_to_cocircuits, chirotope_to_covectors,
@@ -26,23 +26,23 @@ use std::alloc::Global;
 pub fn convert(
     alloc: Global,
     representation: Representation,
-    kind: AxiomSystem,
+    kind: Kind,
 ) -> Result<Answer, NoMemory>
     requires { HasFewValues (document_of representation) }
     ensures { IfOk result (IsMeantFor (IsConversion kind) representation) }
 {
     match kind {
-        AxiomSystem::Chirotope => to_chirotope(alloc, representation),
-        AxiomSystem::Circuits => to_circuits(alloc, representation),
-        AxiomSystem::Cocircuits => to_cocircuits(alloc, representation),
-        AxiomSystem::Covectors => to_covectors(alloc, representation),
+        Kind::Chirotope => to_chirotope(alloc, representation),
+        Kind::Circuits => to_circuits(alloc, representation),
+        Kind::Cocircuits => to_cocircuits(alloc, representation),
+        Kind::Covectors => to_covectors(alloc, representation),
     }
 }
 
 /// The document of the chirotope of an oriented matroid.
 fn to_chirotope(alloc: Global, representation: Representation) -> Result<Answer, NoMemory>
     requires { HasFewValues (document_of representation) }
-    ensures { IfOk result (IsMeantFor (IsConversion AxiomSystem.Chirotope) representation) }
+    ensures { IfOk result (IsMeantFor (IsConversion Kind.Chirotope) representation) }
 {
     match choose_chirotope(alloc, representation) {
         Ok(chirotope) => Ok(Answer::Document(map_document(alloc, chirotope))),
@@ -52,7 +52,7 @@ fn to_chirotope(alloc: Global, representation: Representation) -> Result<Answer,
 
 /// The document of the circuits of an oriented matroid.
 fn to_circuits(alloc: Global, representation: Representation) -> Result<Answer, NoMemory>
-    ensures { IfOk result (IsMeantFor (IsConversion AxiomSystem.Circuits) representation) }
+    ensures { IfOk result (IsMeantFor (IsConversion Kind.Circuits) representation) }
 {
     match representation {
         Representation::Circuits(circuits) => Ok(Answer::Document(circuits_document(
@@ -70,7 +70,7 @@ fn to_circuits(alloc: Global, representation: Representation) -> Result<Answer, 
 
 /// The document of the circuits of a chirotope.
 fn list_circuits(alloc: Global, chirotope: &Chirotope) -> Result<Answer, NoMemory>
-    ensures { IfOk result (IsConversionFrom AxiomSystem.Circuits chirotope.now) }
+    ensures { IfOk result (IsConversionFrom Kind.Circuits chirotope.now) }
 {
     chirotope.is_lawful();
     match chirotope_to_circuits(alloc, chirotope) {
@@ -81,7 +81,7 @@ fn list_circuits(alloc: Global, chirotope: &Chirotope) -> Result<Answer, NoMemor
 
 /// The document of the cocircuits of an oriented matroid.
 fn to_cocircuits(alloc: Global, representation: Representation) -> Result<Answer, NoMemory>
-    ensures { IfOk result (IsMeantFor (IsConversion AxiomSystem.Cocircuits) representation) }
+    ensures { IfOk result (IsMeantFor (IsConversion Kind.Cocircuits) representation) }
 {
     match representation {
         Representation::Cocircuits(cocircuits) => {
@@ -98,7 +98,7 @@ fn to_cocircuits(alloc: Global, representation: Representation) -> Result<Answer
 
 /// The document of the cocircuits of a chirotope.
 fn list_cocircuits(alloc: Global, chirotope: &Chirotope) -> Result<Answer, NoMemory>
-    ensures { IfOk result (IsConversionFrom AxiomSystem.Cocircuits chirotope.now) }
+    ensures { IfOk result (IsConversionFrom Kind.Cocircuits chirotope.now) }
 {
     chirotope.is_lawful();
     match chirotope_to_cocircuits(alloc, chirotope) {
@@ -109,7 +109,7 @@ fn list_cocircuits(alloc: Global, chirotope: &Chirotope) -> Result<Answer, NoMem
 
 /// The document of the covectors of an oriented matroid.
 fn to_covectors(alloc: Global, representation: Representation) -> Result<Answer, NoMemory>
-    ensures { IfOk result (IsMeantFor (IsConversion AxiomSystem.Covectors) representation) }
+    ensures { IfOk result (IsMeantFor (IsConversion Kind.Covectors) representation) }
 {
     match representation {
         Representation::Covectors(covectors) => Ok(Answer::Document(covectors_document(
@@ -127,7 +127,7 @@ fn to_covectors(alloc: Global, representation: Representation) -> Result<Answer,
 
 /// The document of the covectors of a chirotope.
 fn list_covectors(alloc: Global, chirotope: &Chirotope) -> Result<Answer, NoMemory>
-    ensures { IfOk result (IsConversionFrom AxiomSystem.Covectors chirotope.now) }
+    ensures { IfOk result (IsConversionFrom Kind.Covectors chirotope.now) }
 {
     chirotope.is_lawful();
     match chirotope_to_covectors(alloc, chirotope) {
@@ -138,7 +138,7 @@ fn list_covectors(alloc: Global, chirotope: &Chirotope) -> Result<Answer, NoMemo
 
 /// The document of the cocircuits of an oriented matroid with these covectors.
 fn list_minimal(alloc: Global, covectors: &Covectors) -> Result<Answer, NoMemory>
-    ensures { IfOk result (IsMeantFor (IsConversion AxiomSystem.Cocircuits) (Representation.Covectors covectors.now)) }
+    ensures { IfOk result (IsMeantFor (IsConversion Kind.Cocircuits) (Representation.Covectors covectors.now)) }
 {
     covectors.is_lawful();
     match covectors_to_cocircuits(alloc, covectors) {

@@ -43,12 +43,21 @@ use status::Status;
 use std::process::ExitCode;
 use std::{env, io};
 
-/// The exit code where the runtime doesn't hand the words over.
+/// The exit code where the runtime doesn't hand the words over for another cause than want of memory.
 const NO_WORDS: u8 = 7;
 
+/// The exit code where the runtime doesn't hand the words over.
+fn code_without_words(cause: io::ErrorKind) -> u8 {
+    match cause {
+        io::ErrorKind::OutOfMemory => Status::NoMemory.code(),
+        _ => NO_WORDS,
+    }
+}
+
 fn main(rt: HostRuntime) -> ExitCode {
-    let Ok(mut arguments) = env::args(&rt) else {
-        return ExitCode::from(NO_WORDS);
+    let mut arguments = match env::args(&rt) {
+        Ok(arguments) => arguments,
+        Err(error) => return ExitCode::from(code_without_words(error.kind())),
     };
     let mut words = Vec::new(rt.alloc());
     let _program = arguments.next();

@@ -33,7 +33,8 @@ pub const MAX_WEIGHT: i128 = 1_267_650_600_228_229_401_496_703_205_376;
 /// The most entries of a certificate.
 pub const MAX_ENTRIES: usize = 100_000;
 
-/// The most values that a chirotope keeps: as many as one of rank 8 on 16 elements has.
+/// The most values of the map of a document, and of a chirotope that a list is converted to or by: as many as there are for
+/// rank 8 on 16 elements.
 pub const MAX_VALUES: u32 = 12_870;
 
 /// The most vectors that are drawn from a number; the least is 3.

@@ -12,7 +12,7 @@ use Rattle.std.proofs.lemmas.List.Folds.{list_all-append}
 use Rattle.om_signs.specs.declared.limits.TheConstants.{MAX_COORDINATE}
 use Rattle.om_signs.specs.declared.block.Block.{Block}
 use Rattle.om_signs.specs.declared.sign.Sign.{Sign}
-use Rattle.om_text.specs.declared.kind.Kind.TheVariants as kinds
+use Rattle.om_text.specs.declared.kind.DocumentKind.TheVariants as kinds
 use Rattle.om_text.specs.Heading.{headed}
 use Rattle.om_text.specs.Lines.{has_any, words, wordful}
 use Rattle.om_text.specs.Words.{is_sign, byte_of}

@@ -18,7 +18,7 @@ use Rattle.om_text.specs.declared.setting.Setting.{Setting}
 use Rattle.om_text.specs.declared.setting.Setting.TheVariants.{Plain}
 use Rattle.om_text.specs.declared.version.Version.{Version}
 use Rattle.om_text.specs.declared.version.Version.TheVariants.{One, Two}
-use Rattle.om_text.specs.declared.kind.Kind.{Kind}
+use Rattle.om_text.specs.declared.kind.DocumentKind.{DocumentKind}
 use Rattle.om_text.specs.Lines.{has_any}
 use Rattle.om_text.specs.Settings.{is_line, version_of, begins_as_setting, other_words, is_names_line, setting_in, settings_of, settings_in, finished}
 use Rattle.om_text.specs.Document.{IsSpelled, end_line, is_body_line, has_signs, has_length, has_blocks, has_numbers, filled_body, filled, has_room, is_complete}
@@ -507,7 +507,7 @@ step_error (Closed d) ls w c o h = subst (λ p. first_of (table p w) ≡ Some c)
 
 -- ---- a document's lines are read to its end
 
-pub named : (o : Option Kind) (f : Kind → Option Document) (d : Document) → option_and_then f o ≡ Some d → (k : Kind) × (o ≡ Some k)
+pub named : (o : Option DocumentKind) (f : DocumentKind → Option Document) (d : Document) → option_and_then f o ≡ Some d → (k : DocumentKind) × (o ≡ Some k)
 named None f d h = cc
 named (Some k) f d h = (k, refl)
 
@@ -518,7 +518,7 @@ kind_ok v (w ∷ ws) d h e r z =
     let g : with_heading v (heading (w ∷ ws)) ≡ Ok (Open (first_draft v d)) = ap (with_heading v) h ∙ rw (e, r, z) refl in
     passed (kind_of w) n.0 (with_heading v (heading (w ∷ ws))) n.1 ∙ g
   where
-    passed : (o : Option Kind) (k : Kind) (x : Result State Code) → o ≡ Some k → cond (is_none o) (Err code.Kind) x ≡ x
+    passed : (o : Option DocumentKind) (k : DocumentKind) (x : Result State Code) → o ≡ Some k → cond (is_none o) (Err code.Kind) x ≡ x
     passed o k x s = rw s refl
 
 -- the lines with words in turn

@@ -20,8 +20,8 @@ use Rattle.om_text.specs.declared.document.Document.{Document}
 use Rattle.om_text.specs.declared.body.Body.TheVariants.{Chirotope}
 use Rattle.om_text.specs.declared.setting.Setting.{Setting}
 use Rattle.om_text.specs.declared.setting.Setting.TheVariants.{Plain, Revlex, Half}
-use Rattle.om_text.specs.declared.kind.Kind.{Kind}
-use Rattle.om_text.specs.declared.kind.Kind.TheVariants as kinds
+use Rattle.om_text.specs.declared.kind.DocumentKind.{DocumentKind}
+use Rattle.om_text.specs.declared.kind.DocumentKind.TheVariants as kinds
 use Rattle.om_text.specs.Words.{sign_of_byte}
 use Rattle.om_text.specs.Heading.{kind_of, numbers, opened, headed, heading, empty_body, has_elements, has_rank, has_size}
 use Rattle.om_text.specs.Rows.{same_row, distinct}
@@ -134,7 +134,7 @@ map_form Revlex n m f = record {
   few = f.few;
 }
 
-body_form : (s : Setting) (k : Kind) (r n : ℕ) (ls : List (List (List ℕ))) → has_rank (headed k (r, n)) ≡ true → has_size (headed k (r, n)) ≡ true → list_all (is_body_line (headed k (r, n))) ls ≡ true → has_room (filled s (headed k (r, n)) ls) ≡ true → is_complete (filled s (headed k (r, n)) ls) ≡ true → IsBodyOn n (in_lexicographic_order s (filled_body s (empty_body k r n) ls))
+body_form : (s : Setting) (k : DocumentKind) (r n : ℕ) (ls : List (List (List ℕ))) → has_rank (headed k (r, n)) ≡ true → has_size (headed k (r, n)) ≡ true → list_all (is_body_line (headed k (r, n))) ls ≡ true → has_room (filled s (headed k (r, n)) ls) ≡ true → is_complete (filled s (headed k (r, n)) ls) ≡ true → IsBodyOn n (in_lexicographic_order s (filled_body s (empty_body k r n) ls))
 body_form s kinds.Chirotope r n ls l z a m c = map_form s n (record { rank = r; elements = n; signs = all_signs ls }) (record { elements = refl; rank = leb-true r n l; signs = eqb-true _ _ c; few = leb-true (choose n r) MAX_VALUES z })
 body_form Plain kinds.Wiring r n ls l z a m c = blocks_form ls a m
 body_form Revlex kinds.Wiring r n ls l z a m c = blocks_form ls a m
@@ -146,7 +146,7 @@ body_form Plain _ r n ls l z a m c = members_form Plain n ls (lines_of_signs n l
 body_form Revlex _ r n ls l z a m c = members_form Revlex n ls (lines_of_signs n ls a) m
 body_form Half _ r n ls l z a m c = members_form Half n ls (lines_of_signs n ls a) m
 
-head_form : (names : List (List ℕ)) (s : Setting) (k : Kind) (p : ℕ × ℕ) (ls : List (List (List ℕ))) → has_elements (headed k p) ≡ true → has_rank (headed k p) ≡ true → has_size (headed k p) ≡ true → list_all (is_body_line (headed k p)) ls ≡ true → has_room (filled s (headed k p) ls) ≡ true → is_complete (filled s (headed k p) ls) ≡ true → AreNamesOn p.1 names → IsInForm (finished names s (filled s (headed k p) ls))
+head_form : (names : List (List ℕ)) (s : Setting) (k : DocumentKind) (p : ℕ × ℕ) (ls : List (List (List ℕ))) → has_elements (headed k p) ≡ true → has_rank (headed k p) ≡ true → has_size (headed k p) ≡ true → list_all (is_body_line (headed k p)) ls ≡ true → has_room (filled s (headed k p) ls) ≡ true → is_complete (filled s (headed k p) ls) ≡ true → AreNamesOn p.1 names → IsInForm (finished names s (filled s (headed k p) ls))
 head_form names s k p ls e l z a m c w =
     let b = both (nat_le 1 p.1) (nat_le p.1 MAX_ELEMENTS) e in
     record {

@@ -10,8 +10,8 @@ use Rattle.om_subsets.specs.Subsets.{choose}
 use Rattle.om_text.specs.declared.document.Document.{Document}
 use Rattle.om_text.specs.declared.body.Body.{Body}
 use Rattle.om_text.specs.declared.body.Body.TheVariants.{Chirotope, Circuits, Cocircuits, Covectors, Wiring, Points}
-use Rattle.om_text.specs.declared.kind.Kind.{Kind}
-use Rattle.om_text.specs.declared.kind.Kind.TheVariants as kinds
+use Rattle.om_text.specs.declared.kind.DocumentKind.{DocumentKind}
+use Rattle.om_text.specs.declared.kind.DocumentKind.TheVariants as kinds
 use Rattle.om_text.specs.Lines.{has_any, words}
 use Rattle.om_text.specs.Heading.{kind_name, kind_of, heading, headed, opened, rank_of_body, has_elements, has_rank, has_size}
 use Rattle.om_text.specs.Form.{IsInForm, IsBodyOn}
@@ -21,7 +21,7 @@ use Rattle.om_text.proofs.Numerals.{IsNumber, number_word}
 use Rattle.om_text.proofs.Texts.{words_two, words_three, two_one_line, three_one_line}
 
 -- the kind of a body
-abbrev pub kind_of_body : Body → Kind
+abbrev pub kind_of_body : Body → DocumentKind
 kind_of_body (Chirotope m) = kinds.Chirotope
 kind_of_body (Circuits ms) = kinds.Circuits
 kind_of_body (Cocircuits ms) = kinds.Cocircuits
@@ -44,7 +44,7 @@ pub record IsKindLine (d head : Document) : Type 0 where
   pub rank : has_rank head ≡ true
   pub size : has_size head ≡ true
 
-opens_list : (w : List ℕ) (k : Kind) (n : ℕ) → IsNumber n → kind_of w ≡ Some k → opened k (decimal n ∷ []) ≡ Some (headed k (0, n)) → heading (w ∷ decimal n ∷ []) ≡ Some (headed k (0, n))
+opens_list : (w : List ℕ) (k : DocumentKind) (n : ℕ) → IsNumber n → kind_of w ≡ Some k → opened k (decimal n ∷ []) ≡ Some (headed k (0, n)) → heading (w ∷ decimal n ∷ []) ≡ Some (headed k (0, n))
 opens_list w k n h m o = ap (option_and_then (λ k. opened k (decimal n ∷ []))) m ∙ o
 
 numbers_small : (n r : ℕ) → n ≤ MAX_ELEMENTS → r ≤ n → r < 10 ^ 6

@@ -10,8 +10,8 @@ use Rattle.om_text.specs.declared.body.Body.{Body}
 use Rattle.om_text.specs.declared.body.Body.TheVariants.{Chirotope, Points}
 use Rattle.om_text.specs.declared.code.Code.{Code}
 use Rattle.om_text.specs.declared.code.Code.TheVariants as code
-use Rattle.om_text.specs.declared.kind.Kind.{Kind}
-use Rattle.om_text.specs.declared.kind.Kind.TheVariants as kinds
+use Rattle.om_text.specs.declared.kind.DocumentKind.{DocumentKind}
+use Rattle.om_text.specs.declared.kind.DocumentKind.TheVariants as kinds
 use Rattle.om_text.specs.declared.state.State.{State}
 use Rattle.om_text.specs.declared.state.State.TheVariants.{Start, Versioned, Open, Closed}
 use Rattle.om_text.specs.Lines.{words, has_any}
@@ -34,7 +34,7 @@ pub mapped : (o : Option (ℕ × ℕ)) (f : ℕ × ℕ → Document) (d : Docume
 mapped None f d h = cc
 mapped (Some p) f d h = (p, cc)
 
-empty_small : (k : Kind) (p : ℕ × ℕ) → p.1 ≤ MAX_ELEMENTS → rank_of_body (empty_body k p.0 p.1) ≤ p.1 → IsBodyInRange (filled_body Plain (empty_body k p.0 p.1) [])
+empty_small : (k : DocumentKind) (p : ℕ × ℕ) → p.1 ≤ MAX_ELEMENTS → rank_of_body (empty_body k p.0 p.1) ≤ p.1 → IsBodyInRange (filled_body Plain (empty_body k p.0 p.1) [])
 empty_small kinds.Chirotope p h r = record { elements = h; rank = r }
 empty_small _ p h r = tt
 

@@ -7,12 +7,12 @@ use Rattle.om_subsets.specs.Subsets.{choose}
 use Rattle.om_text.specs.declared.document.Document.{Document}
 use Rattle.om_text.specs.declared.body.Body.{Body}
 use Rattle.om_text.specs.declared.body.Body.TheVariants.{Chirotope, Circuits, Cocircuits, Covectors, Wiring, Points}
-use Rattle.om_text.specs.declared.kind.Kind.{Kind}
-use Rattle.om_text.specs.declared.kind.Kind.TheVariants as kinds
+use Rattle.om_text.specs.declared.kind.DocumentKind.{DocumentKind}
+use Rattle.om_text.specs.declared.kind.DocumentKind.TheVariants as kinds
 use Rattle.om_text.specs.Words.{plain}
 
 -- the kind that a name stands for
-abbrev pub kind_of : List ℕ → Option Kind
+abbrev pub kind_of : List ℕ → Option DocumentKind
 kind_of w =
     cond (bytes_eq w (codes "chirotope")) (Some kinds.Chirotope)
     (cond (bytes_eq w (codes "circuits")) (Some kinds.Circuits)
@@ -32,18 +32,18 @@ plain_numbers [] = Some []
 plain_numbers (w ∷ ws) = with_item (plain w) (plain_numbers ws)
 
 -- the rank and the number of elements, where a kind line of this kind has these numbers; other kinds have no rank, and 0 stands for it
-abbrev pub sizes : Kind → List ℕ → Option (ℕ × ℕ)
+abbrev pub sizes : DocumentKind → List ℕ → Option (ℕ × ℕ)
 sizes kinds.Chirotope (r ∷ n ∷ []) = Some (r, n)
 sizes kinds.Chirotope _ = None
 sizes _ (n ∷ []) = Some (0, n)
 sizes _ _ = None
 
 -- the same of the words after the kind's name
-abbrev pub numbers : Kind → List (List ℕ) → Option (ℕ × ℕ)
+abbrev pub numbers : DocumentKind → List (List ℕ) → Option (ℕ × ℕ)
 numbers k ws = option_and_then (sizes k) (plain_numbers ws)
 
 -- a body with nothing in it
-abbrev pub empty_body : Kind → ℕ → ℕ → Body
+abbrev pub empty_body : DocumentKind → ℕ → ℕ → Body
 empty_body kinds.Chirotope r n = Chirotope (record { rank = r; elements = n; signs = [] })
 empty_body kinds.Circuits r n = Circuits []
 empty_body kinds.Cocircuits r n = Cocircuits []
@@ -52,11 +52,11 @@ empty_body kinds.Wiring r n = Wiring []
 empty_body kinds.Points r n = Points []
 
 -- an empty document with these numbers, and without names
-abbrev pub headed : Kind → ℕ × ℕ → Document
+abbrev pub headed : DocumentKind → ℕ × ℕ → Document
 headed k p = record { elements = p.1; body = empty_body k p.0 p.1; names = [] }
 
 -- the empty document that the words after a kind name open
-abbrev pub opened : Kind → List (List ℕ) → Option Document
+abbrev pub opened : DocumentKind → List (List ℕ) → Option Document
 opened k ws = option_map (headed k) (numbers k ws)
 
 -- the empty document that a kind line opens

@@ -2,7 +2,8 @@ use om_signs::{Block, List, RawMap, SignVec};
 
 /// What a document says after its kind line.
 ///
-/// The members of a list are distinct, and stand in the order of their first lines.
+/// The members of a list are distinct, and stand in the order of their first places: after `half` a line has a place for its
+/// member and then one for the negative.
 #[derive(Drop)]
 pub enum Body {
     /// The values of a map on the sets of its rank, in lexicographic order of the sets: at most [`om_signs::MAX_VALUES`].

@@ -38,7 +38,8 @@ pub enum Code {
     #[error("a line of points has not exactly three numbers in range")]
     Number,
     /// The line goes past the number of values of the map, past one point for each element, past [`om_signs::MAX_BLOCKS`]
-    /// blocks, or past [`om_signs::MAX_MEMBERS`] distinct members.
+    /// blocks, or past [`om_signs::MAX_MEMBERS`] distinct members. In a verdict, it goes past [`om_signs::MAX_ELEMENTS`]
+    /// vectors in one place, or past one weight for each triple of so many elements.
     #[error("the line goes past the greatest size of the body")]
     Many,
     /// The line `end` comes before the map has all its values, or before there is a point for each element.

@@ -25,7 +25,7 @@ use std::alloc::Global;
 
 /// What the first word of a kind line names.
 #[derive(Clone, Copy)]
-pub enum Kind {
+pub enum DocumentKind {
     Chirotope,
     Circuits,
     Cocircuits,
@@ -34,21 +34,21 @@ pub enum Kind {
     Points,
 }
 
-fn kind_of_name(word: &[u8]) -> Option<Kind>
+fn kind_of_name(word: &[u8]) -> Option<DocumentKind>
     ensures { result ≡ kind_of word.now }
 {
     if same(word, b"chirotope") {
-        Some(Kind::Chirotope)
+        Some(DocumentKind::Chirotope)
     } else if same(word, b"circuits") {
-        Some(Kind::Circuits)
+        Some(DocumentKind::Circuits)
     } else if same(word, b"cocircuits") {
-        Some(Kind::Cocircuits)
+        Some(DocumentKind::Cocircuits)
     } else if same(word, b"covectors") {
-        Some(Kind::Covectors)
+        Some(DocumentKind::Covectors)
     } else if same(word, b"wiring") {
-        Some(Kind::Wiring)
+        Some(DocumentKind::Wiring)
     } else if same(word, b"points") {
-        Some(Kind::Points)
+        Some(DocumentKind::Points)
     } else {
         None
     }
@@ -60,7 +60,7 @@ const MOST_NUMBERS: usize = 16;
 /// The plain numbers that the words of a line are. A line with more than `MOST_NUMBERS` words is no kind line.
 fn numbers_of(alloc: Global, line: &[u8]) -> Option<SmallVec<u32, MOST_NUMBERS>>
     ensures some { IfSome result (λ v. plain_numbers (runs line.now) ≡ Some v.items) }
-    ensures none { IfNone result ((kind : Kind) → numbers kind (runs line.now) ≡ None) }
+    ensures none { IfNone result ((kind : DocumentKind) → numbers kind (runs line.now) ≡ None) }
 {
     let mut numbers = SmallVec::new(alloc);
     let mut rest = line;
@@ -75,13 +75,17 @@ fn numbers_of(alloc: Global, line: &[u8]) -> Option<SmallVec<u32, MOST_NUMBERS>>
 }
 
 /// The rank and the number of elements, where a kind line of this kind has these numbers.
-fn sizes_of(kind: Kind, numbers: &[u32]) -> Option<(u32, u32)>
+fn sizes_of(kind: DocumentKind, numbers: &[u32]) -> Option<(u32, u32)>
     ensures { result ≡ sizes kind numbers.now }
 {
     match (kind, numbers) {
-        (Kind::Chirotope, [rank, elements]) => Some((*rank, *elements)),
+        (DocumentKind::Chirotope, [rank, elements]) => Some((*rank, *elements)),
         (
-            Kind::Circuits | Kind::Cocircuits | Kind::Covectors | Kind::Wiring | Kind::Points,
+            DocumentKind::Circuits
+            | DocumentKind::Cocircuits
+            | DocumentKind::Covectors
+            | DocumentKind::Wiring
+            | DocumentKind::Points,
             [elements],
         ) => Some((0, *elements)),
         _ => None,
@@ -89,48 +93,56 @@ fn sizes_of(kind: Kind, numbers: &[u32]) -> Option<(u32, u32)>
 }
 
 /// The same of the words after the kind's name.
-fn sizes_in(alloc: Global, kind: Kind, line: &[u8]) -> Option<(u32, u32)>
+fn sizes_in(alloc: Global, kind: DocumentKind, line: &[u8]) -> Option<(u32, u32)>
     ensures { result ≡ numbers kind (runs line.now) }
 {
     let numbers = numbers_of(alloc, line)?;
     sizes_of(kind, numbers.as_slice())
 }
 
-fn empty_body(alloc: Global, kind: Kind, rank: u8, elements: u8) -> Body
+fn empty_body(alloc: Global, kind: DocumentKind, rank: u8, elements: u8) -> Body
     ensures { result ≡ filled_body Plain (empty_body kind rank elements) [] }
 {
     match kind {
-        Kind::Chirotope => Body::Chirotope(RawMap {
+        DocumentKind::Chirotope => Body::Chirotope(RawMap {
             rank,
             elements,
             signs: List::new(alloc),
         }),
-        Kind::Circuits => Body::Circuits(List::new(alloc)),
-        Kind::Cocircuits => Body::Cocircuits(List::new(alloc)),
-        Kind::Covectors => Body::Covectors(List::new(alloc)),
-        Kind::Wiring => Body::Wiring(List::new(alloc)),
-        Kind::Points => Body::Points(List::new(alloc)),
+        DocumentKind::Circuits => Body::Circuits(List::new(alloc)),
+        DocumentKind::Cocircuits => Body::Cocircuits(List::new(alloc)),
+        DocumentKind::Covectors => Body::Covectors(List::new(alloc)),
+        DocumentKind::Wiring => Body::Wiring(List::new(alloc)),
+        DocumentKind::Points => Body::Points(List::new(alloc)),
     }
 }
 
 /// The rank that a kind line gives: only a map has one.
-fn rank_given(kind: Kind, rank: u32) -> u32
+fn rank_given(kind: DocumentKind, rank: u32) -> u32
     ensures { (n : ℕ) → result ≡ rank_of_body (empty_body kind rank n) }
 {
     match kind {
-        Kind::Chirotope => rank,
-        Kind::Circuits | Kind::Cocircuits | Kind::Covectors | Kind::Wiring | Kind::Points => 0,
+        DocumentKind::Chirotope => rank,
+        DocumentKind::Circuits
+        | DocumentKind::Cocircuits
+        | DocumentKind::Covectors
+        | DocumentKind::Wiring
+        | DocumentKind::Points => 0,
     }
 }
 
 /// How many values a kind line gives: only a map has them.
-fn values_given(kind: Kind, rank: u8, elements: u8) -> u32
+fn values_given(kind: DocumentKind, rank: u8, elements: u8) -> u32
     requires { elements ≤ MAX_ELEMENTS }
     ensures { result ≡ values_of_body (empty_body kind rank elements) }
 {
     match kind {
-        Kind::Chirotope => Subset::choose(elements, rank),
-        Kind::Circuits | Kind::Cocircuits | Kind::Covectors | Kind::Wiring | Kind::Points => 0,
+        DocumentKind::Chirotope => Subset::choose(elements, rank),
+        DocumentKind::Circuits
+        | DocumentKind::Cocircuits
+        | DocumentKind::Covectors
+        | DocumentKind::Wiring
+        | DocumentKind::Points => 0,
     }
 }
 
@@ -147,7 +159,7 @@ fn first_stage(version: Version) -> Stage
 fn open(
     alloc: Global,
     version: Version,
-    kind: Kind,
+    kind: DocumentKind,
     given: u32,
     elements: u32,
 ) -> Result<State, Code>

@@ -270,7 +270,7 @@ fn whole(alloc: Global, bytes: &[u8]) -> Result<Document, ParseError>
     Ok(document)
 }
 
-/// Reads a document.
+/// Reads a document. There are at most [`om_signs::MAX_READ`] bytes.
 ///
 /// The bytes are split into lines at line feeds. In a line, everything from the first `#` on is a comment, and the words
 /// are the longest runs of bytes other than space, tab and carriage return; a line without words is passed over. The lines
@@ -310,7 +310,7 @@ pub fn parse(alloc: Global, bytes: &[u8]) -> Result<Document, ParseError>
 }
 
 /// Reads a document at the front of the bytes, up to and with its line `end`: the document, the number of bytes and the
-/// number of lines that were read. Nothing is asked of the bytes after that line.
+/// number of lines that were read. Nothing is asked of the bytes after that line. There are at most [`om_signs::MAX_READ`] bytes.
 ///
 /// The bytes that were read are the first lines with their line feeds (the line `end` may have none, at the end of the
 /// bytes). They are a document by themselves, in the forms of [`parse`], and the other bytes are the other lines.

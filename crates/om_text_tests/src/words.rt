@@ -1,6 +1,6 @@
 //! The words of commands: the tasks that they name, and the words at fault.
 
-use om_answer::AxiomSystem;
+use om_answer::Kind;
 use om_paint::Colour;
 use om_signs::{MAX_DRAWN, Sign};
 use om_words::{Reads, Task, Usage, command};
@@ -125,7 +125,7 @@ fn arguments(rt: HostRuntime) -> Result<(), Fail> {
     assert!(rt;
         matches!(
             task(rt.alloc(), "convert cocircuits"),
-            Some(Task::Convert(AxiomSystem::Cocircuits))
+            Some(Task::Convert(Kind::Cocircuits))
         )
     );
     assert!(rt; matches!(task(rt.alloc(), "reorient 1 3"), Some(Task::Reorient(5))));

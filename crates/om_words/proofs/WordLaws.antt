@@ -7,7 +7,7 @@ use Rattle.std.proofs.Common.{get_or, drop, take, ◌-◌, arith, ap, subst, sym
 use Rattle.std.proofs.Math.Seq.{take-length}
 use Rattle.om_signs.specs.declared.sign.Sign.{Sign}
 use Rattle.om_text.specs.Fault.{Begins}
-use Rattle.om_answer.specs.declared.axiom_system.AxiomSystem.{AxiomSystem}
+use Rattle.om_answer.specs.declared.kind.Kind.{Kind}
 use Rattle.om_decide.specs.declared.budgets.Budgets.{Budgets}
 use Rattle.om_words.specs.Options.{AreBudgets, AreSeedAndCount, AreLines}
 use Rattle.om_words.specs.declared.task.Task.{Task}
@@ -20,7 +20,7 @@ use Rattle.om_words.specs.declared.verb.Verb.TheVariants as verb
 use Rattle.om_words.proofs.VerbLaws.{same_verb}
 use Rattle.om_words.specs.Listings.{AreColouring, AreLeading}
 use Rattle.om_words.specs.Triples.{AreTriple}
-use Rattle.om_words.specs.Words.{Names, AreNamed, Spells, NamesSystem, IsElement, AreElements, AreNone, IsAlone, AreArguments, verb_word, verb_of, AreCommand, IsFault, IsUsage, at_word, at_end, HasValue, IsRead}
+use Rattle.om_words.specs.Words.{Names, AreNamed, Spells, NamesKind, IsElement, AreElements, AreNone, IsAlone, AreArguments, verb_word, verb_of, AreCommand, IsFault, IsUsage, at_word, at_end, HasValue, IsRead}
 
 abbrev pub tail_of : List (List ℕ) → List (List ℕ)
 tail_of [] = []
@@ -152,7 +152,7 @@ err_passed v Reading make words result u (Err e) shape read is err = rw err (err
 abbrev Value : Verb → Type 0
 Value verb.Accept = Unit {0}
 Value verb.Member = List Sign
-Value verb.Convert = AxiomSystem
+Value verb.Convert = Kind
 Value verb.Dual = Unit {0}
 Value verb.Delete = ℕ
 Value verb.Contract = ℕ
@@ -242,7 +242,7 @@ accept_shape = record { verb = λ a. refl; arguments = λ a words. (λ h. h, λ 
 pub member_shape : IsShape verb.Member (IsAlone Spells) Member
 member_shape = record { verb = λ a. refl; arguments = λ a words. (λ h. h, λ h. h); only = only verb.Member }
 
-pub convert_shape : IsShape verb.Convert (IsAlone NamesSystem) Convert
+pub convert_shape : IsShape verb.Convert (IsAlone NamesKind) Convert
 convert_shape = record { verb = λ a. refl; arguments = λ a words. (λ h. h, λ h. h); only = only verb.Convert }
 
 pub dual_shape : IsShape verb.Dual AreNone (λ _. Dual)

@@ -8,8 +8,8 @@ use Rattle.om_subsets.specs.Subsets.{IsSubsetFrom}
 use Rattle.om_subsets.specs.Members.{mask_of}
 use Rattle.om_text.specs.Words.{is_sign, sign_of_byte}
 use Rattle.om_text.specs.Fault.{Begins}
-use Rattle.om_answer.specs.declared.axiom_system.AxiomSystem.{AxiomSystem}
-use Rattle.om_answer.specs.declared.axiom_system.AxiomSystem.TheVariants as kind
+use Rattle.om_answer.specs.declared.kind.Kind.{Kind}
+use Rattle.om_answer.specs.declared.kind.Kind.TheVariants as kind
 use Rattle.om_words.specs.Options.{AreBudgets, AreSeedAndCount, AreLines}
 use Rattle.om_words.specs.declared.task.Task.{Task}
 use Rattle.om_words.specs.declared.task.Task.TheVariants.{Accept, Member, Convert, Dual, Delete, Contract, Reorient, Wiring, Mutations, Flip, Extend, Decide, Paint, Hull, Lexext, Threeterm, Upgrade, Check, Make}
@@ -28,15 +28,15 @@ pub record Spells (word : List ℕ) (x : List Sign) : Type 0 where
   pub value : x ≡ map sign_of_byte word
 
 -- the word of a kind
-abbrev pub kind_word : AxiomSystem → List ℕ
+abbrev pub kind_word : Kind → List ℕ
 kind_word kind.Chirotope = codes "chirotope"
 kind_word kind.Circuits = codes "circuits"
 kind_word kind.Cocircuits = codes "cocircuits"
 kind_word kind.Covectors = codes "covectors"
 
 -- the word names the kind
-abbrev pub NamesSystem : List ℕ → AxiomSystem → Type 0
-NamesSystem word k = word ≡ kind_word k
+abbrev pub NamesKind : List ℕ → Kind → Type 0
+NamesKind word k = word ≡ kind_word k
 
 -- the words are the numbers of at least one element, strictly increasing, and the mask is that of these elements
 pub record AreElements (words : List (List ℕ)) (mask : ℕ) : Type 0 where
@@ -101,7 +101,7 @@ verb_word verb.Make = codes "make"
 abbrev pub AreArguments : Task → List (List ℕ) → Type 0
 AreArguments Accept words = AreNone words tt
 AreArguments (Member x) words = IsAlone Spells words x
-AreArguments (Convert k) words = IsAlone NamesSystem words k
+AreArguments (Convert k) words = IsAlone NamesKind words k
 AreArguments Dual words = AreNone words tt
 AreArguments (Delete e) words = IsAlone IsElement words e
 AreArguments (Contract e) words = IsAlone IsElement words e

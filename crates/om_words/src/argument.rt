@@ -3,9 +3,9 @@
 ghost use Rattle.std.specs.Prelude.{ℕ, ◌≡◌, ◌↔◌, ◌∷◌, List, map, string_bytes};
 ghost use Rattle.om_words.specs.Words.{IsAlone, IsRead};
 
-use super::spelling::{element, named_system, spelled};
+use super::spelling::{element, named_kind, spelled};
 use super::usage::Usage;
-use om_answer::AxiomSystem;
+use om_answer::Kind;
 use om_signs::SignVec;
 
 /// A value that one word spells.
@@ -36,17 +36,17 @@ impl Argument for SignVec {
     }
 }
 
-impl Argument for AxiomSystem {
+impl Argument for Kind {
     ghost use Rattle.std.specs.Prelude.{codes, refl};
-    ghost use Rattle.om_answer.specs.declared.axiom_system.AxiomSystem.TheVariants.{Circuits};
-    ghost use Rattle.om_words.specs.Words.{NamesSystem};
+    ghost use Rattle.om_answer.specs.declared.kind.Kind.TheVariants.{Circuits};
+    ghost use Rattle.om_words.specs.Words.{NamesKind};
 
-    ghost spells = { NamesSystem };
+    ghost spells = { NamesKind };
 
     ghost some = { (codes "circuits", (Circuits, refl)) };
 
-    fn read(word: &String) -> Option<AxiomSystem> {
-        named_system(word)
+    fn read(word: &String) -> Option<Kind> {
+        named_kind(word)
     }
 }
 

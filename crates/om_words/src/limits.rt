@@ -1,4 +1,6 @@
 //! Limits of the words of commands.
 
-/// The most letters of a colouring, and the most words of a lexicographic extension.
-pub const MAX_LISTED: usize = 20;
+use om_signs::MAX_ELEMENTS;
+
+/// The most letters of a colouring, and the most words of a lexicographic extension: one for each element.
+pub const MAX_LISTED: usize = MAX_ELEMENTS as usize;

@@ -5,10 +5,10 @@ ghost use Rattle.std.specs.List.{list_all};
 ghost use Rattle.std.specs.Fmt.{decimal};
 ghost use Rattle.om_signs.specs.declared.sign.Sign.{Sign};
 ghost use Rattle.om_text.specs.Words.{is_sign, sign_of_byte};
-ghost use Rattle.om_words.specs.Words.{Spells, NamesSystem, IsElement};
+ghost use Rattle.om_words.specs.Words.{Spells, NamesKind, IsElement};
 
 use itoa::Buffer;
-use om_answer::AxiomSystem;
+use om_answer::Kind;
 use om_signs::{MAX_ELEMENTS, Sign, SignVec};
 
 /// Whether a word is this one.
@@ -80,17 +80,17 @@ fn sign_of(b: u8) -> Sign
 }
 
 /// The kind that a word names.
-pub fn named_system(word: &String) -> Option<AxiomSystem>
-    ensures { (kind : AxiomSystem) → (result ≡ Some kind) ↔ NamesSystem (string_bytes word.now) kind }
+pub fn named_kind(word: &String) -> Option<Kind>
+    ensures { (kind : Kind) → (result ≡ Some kind) ↔ NamesKind (string_bytes word.now) kind }
 {
     if is_word(word, "chirotope") {
-        Some(AxiomSystem::Chirotope)
+        Some(Kind::Chirotope)
     } else if is_word(word, "circuits") {
-        Some(AxiomSystem::Circuits)
+        Some(Kind::Circuits)
     } else if is_word(word, "cocircuits") {
-        Some(AxiomSystem::Cocircuits)
+        Some(Kind::Cocircuits)
     } else if is_word(word, "covectors") {
-        Some(AxiomSystem::Covectors)
+        Some(Kind::Covectors)
     } else {
         None
     }

@@ -4,7 +4,7 @@ ghost use Rattle.om_words.specs.Tasks.{reads};
 use super::colouring::Colouring;
 use super::leading::Leading;
 use super::reads::Reads;
-use om_answer::AxiomSystem;
+use om_answer::Kind;
 use om_decide::Budgets;
 use om_signs::SignVec;
 
@@ -16,7 +16,7 @@ pub enum Task {
     /// `member SIGNS`: whether the sign vector is a covector.
     Member(SignVec),
     /// `convert KIND`: the same oriented matroid as a document of this kind.
-    Convert(AxiomSystem),
+    Convert(Kind),
     /// `dual`: the dual.
     Dual,
     /// `delete E`: the deletion of this element.

@@ -1,6 +1,6 @@
 use Rattle.std.specs.Prelude.{refl}
 use Rattle.std.proofs.lemmas.Result.{IfOk-weaker}
-use Rattle.om_answer.specs.declared.axiom_system.AxiomSystem.TheVariants as kind
+use Rattle.om_answer.specs.declared.kind.Kind.TheVariants as kind
 use Rattle.om_program.specs.Documents.{document_of, cocircuits_document}
 use Rattle.om_program.proofs.ConversionLaws.{own_converted, from_chirotope, wide_answered}
 use Rattle.om_program.proofs.conversion.to_cocircuits.Goals as goal

@@ -1,6 +1,6 @@
 use Rattle.std.specs.Prelude.{◌≡◌, false, refl}
 use Rattle.std.proofs.lemmas.Result.{IfOk-weaker}
-use Rattle.om_answer.specs.declared.axiom_system.AxiomSystem.TheVariants as kind
+use Rattle.om_answer.specs.declared.kind.Kind.TheVariants as kind
 use Rattle.om_program.specs.declared.representation.Representation.TheVariants as representation
 use Rattle.om_program.specs.Conversions.{has_kind, is_direct}
 use Rattle.om_program.specs.Documents.{document_of, covectors_document}
