@@ -9,7 +9,7 @@ import re
 import sys
 
 TOP = os.path.dirname(os.path.dirname(os.path.abspath(__file__)))
-HEAD = re.compile(r"^(?:abbrev |unfoldable )?pub (?:data |record )?(?:abbrev )?([^\s:({]+)|^(?:data|record) pub ([^\s:({]+)")
+HEAD = re.compile(r"^\s*(?:abbrev |unfoldable )?pub (?:data |record )([^\s:({]+)|^(?:abbrev |unfoldable )?pub (?:data |record )?(?:abbrev )?([^\s:({]+)|^(?:data|record) pub ([^\s:({]+)")
 
 
 def definitions(path):
@@ -17,11 +17,11 @@ def definitions(path):
     comment = []
     with open(path) as file:
         for line in file:
-            if line.startswith("-- "):
-                comment.append(line[3:].strip())
+            if line.lstrip().startswith("-- "):
+                comment.append(line.strip()[3:])
                 continue
             found = HEAD.match(line)
-            name = found and (found.group(1) or found.group(2))
+            name = found and next(filter(None, found.groups()))
             if name and name not in ("mod", "use"):
                 yield name, " ".join(comment)
             comment = []

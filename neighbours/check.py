@@ -33,6 +33,13 @@ def compare(what, ours, theirs):
         print("%s\n--- ours\n%s--- theirs\n%s" % (what, ours.decode(), theirs.decode()))
 
 
+def is_refused(words, data):
+    """Whether a filter ends with a message and writes nothing."""
+    path = os.path.join(TOP, "neighbours", words[0])
+    ended = subprocess.run([path] + words[1:], input=data, capture_output=True, cwd=TOP)
+    return ended.returncode != 0 and not ended.stdout and words[0].encode() in ended.stderr
+
+
 def shape(chirotope):
     """The rank and the number of elements of a document of a chirotope."""
     return chirotope.split(b"\n")[1].decode().split()[1:]
@@ -81,6 +88,10 @@ def main():
     with open(os.path.join(TOP, "examples", "pappus-points.om"), "rb") as file:
         back = run(["topcom-points-to-om"], run(["om-points-to-topcom"], file.read()))
     compare("points by TOPCOM's form", points, om("convert", "chirotope", data=back))
+    with open(os.path.join(TOP, "examples", "uniform-3-4-named.om"), "rb") as file:
+        named = file.read()
+    for words in (["om-to-topcom"], ["om-to-lists"], ["reverse-order", "3", "4", "--back"], ["extensions-to-om"], ["om-points-to-topcom"], ["om-to-order-types", "8"]):
+        compare("%s at version 2" % words[0], b"refused\n", b"refused\n" if is_refused(words, named) else b"taken\n")
     print("neighbours: %d passed, %d failed" % (TALLY[True], TALLY[False]))
     return 1 if TALLY[False] or not TALLY[True] else 0
 
