@@ -16,7 +16,7 @@ use super::lines::{first_word, is_blank_byte};
 use super::points::point;
 use super::refusal::Refusal;
 use super::setting::Setting;
-use super::words::{is_sign_byte, sign_of};
+use super::words::{is_sign_byte, sign_of_byte};
 use om_signs::{
     Block, List, MAX_BLOCKS, MAX_ELEMENTS, MAX_MEMBERS, NoMemory, RawMap, Sign, SignVec,
 };
@@ -54,7 +54,7 @@ pub fn push_signs(signs: &mut List<Sign>, line: &[u8]) -> Result<(), NoMemory>
 {
     for b in line {
         if !is_blank_byte(*b) {
-            signs.push(sign_of(*b))?;
+            signs.push(sign_of_byte(*b))?;
         }
     }
     Ok(())
@@ -104,7 +104,7 @@ fn sign_vector(elements: u8, line: &[u8]) -> SignVec
     for b in line {
         if !is_blank_byte(*b) {
             e += 1;
-            vector = vector.set(e, sign_of(*b));
+            vector = vector.set(e, sign_of_byte(*b));
         }
     }
     vector

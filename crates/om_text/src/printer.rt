@@ -12,21 +12,12 @@ ghost use Rattle.om_text.specs.Print.{text_of, sign_lines, member_lines, block_l
 
 use super::body::Body;
 use super::document::Document;
+use super::words::byte_of_sign;
 use om_signs::{Block, List, NoMemory, Sign, SignVec};
 use std::alloc::Global;
 
 /// How many signs of a map stand in a line.
 pub const LINE_SIGNS: usize = 64;
-
-pub fn byte_of_sign(sign: Sign) -> u8
-    ensures { result ≡ byte_of sign }
-{
-    match sign {
-        Sign::Minus => b'-',
-        Sign::Zero => b'0',
-        Sign::Plus => b'+',
-    }
-}
 
 /// Puts a line of signs at the end.
 fn push_row(out: &mut Vec<u8>, signs: &[Sign]) -> Result<(), NoMemory>

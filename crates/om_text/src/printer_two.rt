@@ -18,9 +18,9 @@ use super::body::Body;
 use super::document::Document;
 use super::name::Name;
 use super::printer::{
-    LINE_SIGNS, byte_of_sign, heading, push_blocks, push_bytes, push_member, push_points,
-    sorted_members,
+    LINE_SIGNS, heading, push_blocks, push_bytes, push_member, push_points, sorted_members,
 };
+use super::words::byte_of_sign;
 use om_signs::{List, NoMemory, RawMap, Sign, SignVec};
 use om_subsets::Subset;
 use std::alloc::Global;

@@ -2,7 +2,7 @@
 
 ghost use Rattle.std.specs.Prelude.{◌≡◌, ◌+◌, ◌-◌, ◌*◌, ◌^◌, ◌<◌, ◌≤◌, [], length, true, IfSome, unsigned_abs};
 ghost use Rattle.std.specs.List.{list_all};
-ghost use Rattle.om_text.specs.Words.{is_digit, is_decimal, is_plain, plain, number_from, up_to, unsigned, signed, is_sign, sign_of_byte, begins_with};
+ghost use Rattle.om_text.specs.Words.{is_digit, is_decimal, is_plain, plain, number_from, up_to, unsigned, signed, is_sign, sign_of_byte, byte_of, begins_with};
 
 use om_signs::Sign;
 
@@ -126,20 +126,31 @@ pub fn signed_number(word: &[u8], limit: u128) -> Option<i128>
     }
 }
 
-pub(crate) fn is_sign_byte(byte: u8) -> bool
+/// Whether a byte is that of a sign: `+`, `-` or `0`.
+pub fn is_sign_byte(byte: u8) -> bool
     ensures { result ≡ is_sign byte }
 {
-    byte == b'+' || byte == b'-' || byte == b'0'
+    matches!(byte, b'+' | b'-' | b'0')
 }
 
-pub(crate) fn sign_of(byte: u8) -> Sign
+/// The sign of a byte; zero for every byte other than `+` and `-`.
+pub fn sign_of_byte(byte: u8) -> Sign
     ensures { result ≡ sign_of_byte byte }
 {
-    if byte == b'+' {
-        Sign::Plus
-    } else if byte == b'-' {
-        Sign::Minus
-    } else {
-        Sign::Zero
+    match byte {
+        b'+' => Sign::Plus,
+        b'-' => Sign::Minus,
+        _ => Sign::Zero,
+    }
+}
+
+/// The byte of a sign: `-`, `0` or `+`.
+pub fn byte_of_sign(sign: Sign) -> u8
+    ensures { result ≡ byte_of sign }
+{
+    match sign {
+        Sign::Minus => b'-',
+        Sign::Zero => b'0',
+        Sign::Plus => b'+',
     }
 }

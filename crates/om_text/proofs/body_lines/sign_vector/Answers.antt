@@ -17,7 +17,7 @@ set-vector-requires-clause-high c =
 pub loop-b-preserved : goal.loop-b-preserved
 loop-b-preserved c =
     elim c.if-not-is_blank_byte.branch [
-      | then-not-is_blank_byte w ↦ rw (w.e-is, w.vector-is, w.set-vector.ensures, w.sign_of.ensures) (part_more c.args.elements c.args.line.now c.loop-b.b-index c.loop-b.e c.loop-b.vector c.loop-b.invariant c.loop-b-test.true (sym c.is_blank_byte.ensures ∙ w.if-not-is_blank_byte.true) c.requires.len)
+      | then-not-is_blank_byte w ↦ rw (w.e-is, w.vector-is, w.set-vector.ensures, w.sign_of_byte.ensures) (part_more c.args.elements c.args.line.now c.loop-b.b-index c.loop-b.e c.loop-b.vector c.loop-b.invariant c.loop-b-test.true (sym c.is_blank_byte.ensures ∙ w.if-not-is_blank_byte.true) c.requires.len)
       | else-not-is_blank_byte w ↦ rw (w.e-is, w.vector-is) (part_same c.args.elements c.args.line.now c.loop-b.b-index c.loop-b.e c.loop-b.vector c.loop-b.invariant c.loop-b-test.true (sym c.is_blank_byte.ensures ∙ w.if-not-is_blank_byte.false))
     ]
 
