@@ -7,6 +7,7 @@ ghost use Rattle.std.specs.Prelude.{◌≡◌, ◌+◌, ◌<◌, ◌≤◌, ◌�
 ghost use Rattle.std.specs.List.{position, position_or_len, list_all};
 ghost use Rattle.om_text.specs.Lines.{lines, IsSplit, uncommented, runs, is_blank, has_any};
 ghost use Rattle.om_text.specs.Settings.{is_line};
+ghost use Rattle.om_text.specs.Document.{end_line};
 
 /// Whether a word has these bytes.
 pub fn same(word: &[u8], text: &[u8]) -> bool
@@ -122,4 +123,11 @@ pub fn is_only_word(line: &[u8], word: &[u8]) -> bool
         Some((first, rest)) => same(first, word) && has_no_words(rest),
         None => false,
     }
+}
+
+/// Whether a line without a comment has the word `end` and no other.
+pub fn is_end(line: &[u8]) -> bool
+    ensures { result ≡ is_line (runs line.now) end_line }
+{
+    is_only_word(line, b"end")
 }

@@ -5,8 +5,8 @@ ghost use Rattle.om_signs.specs.declared.limits.TheConstants.{MAX_READ};
 ghost use Rattle.om_text.specs.declared.document.Document.{Document};
 ghost use Rattle.om_text.specs.declared.code.Code.{Code};
 ghost use Rattle.om_text.specs.Lines.{runs, lines};
-ghost use Rattle.om_text.specs.Settings.{is_line, version_of, in_lexicographic_order};
-ghost use Rattle.om_text.specs.Document.{IsDocument, end_line, is_complete, is_complete_body};
+ghost use Rattle.om_text.specs.Settings.{version_of, in_lexicographic_order};
+ghost use Rattle.om_text.specs.Document.{IsDocument, is_complete, is_complete_body};
 ghost use Rattle.om_text.specs.Form.{IsInForm};
 ghost use Rattle.om_text.specs.Fault.{IsFault};
 ghost use Rattle.om_text.specs.Reading.{step, advance, takes_settings, finished_draft, open_step, after_body, after_end, is_closed, outcome};
@@ -20,7 +20,9 @@ use super::code::Code;
 use super::document::Document;
 use super::draft::Draft;
 use super::kind::kind_line;
-use super::lines::{before_comment, first_line, first_word, has_no_words, is_only_word, same};
+use super::lines::{
+    before_comment, first_line, first_word, has_no_words, is_end, is_only_word, same,
+};
 use super::parse_error::ParseError;
 use super::refusal::Refusal;
 use super::revlex::values_from_revlex;
@@ -32,12 +34,6 @@ use super::version::Version;
 use om_signs::{NoMemory, RawMap};
 use om_subsets::Subset;
 use std::alloc::Global;
-
-fn is_end(line: &[u8]) -> bool
-    ensures { result ≡ is_line (runs line.now) end_line }
-{
-    is_only_word(line, b"end")
-}
 
 /// The version that a first line names.
 fn version_of(line: &[u8]) -> Option<Version>
