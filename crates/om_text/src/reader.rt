@@ -177,10 +177,7 @@ fn step(alloc: Global, state: State, line: &[u8]) -> Result<State, Refusal>
             Some(version) => Ok(State::Versioned(version)),
             None => Err(Refusal::Line(Code::Version)),
         },
-        State::Versioned(version) => match kind_line(alloc, version, line) {
-            Ok(state) => Ok(state),
-            Err(code) => Err(Refusal::Line(code)),
-        },
+        State::Versioned(version) => kind_line(alloc, version, line).map_err(Refusal::Line),
         State::Open(draft) => open_line(alloc, draft, line),
         State::Closed(_) => Err(Refusal::Line(Code::After)),
     }

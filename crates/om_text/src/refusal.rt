@@ -4,9 +4,11 @@ use super::code::Code;
 use om_signs::NoMemory;
 
 /// Why a line is not read.
-#[derive(Drop)]
+#[derive(Clone, Copy)]
 pub enum Refusal {
+    /// Memory ran out.
     Memory,
+    /// The line is at fault, with this code.
     Line(Code),
 }
 
