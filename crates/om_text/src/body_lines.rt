@@ -86,10 +86,11 @@ fn same_signs(a: SignVec, b: SignVec) -> bool
     are_equal(a, b)
 }
 
-pub fn has_member(members: &List<SignVec>, member: SignVec) -> bool
+/// Whether a sign vector is one of these members.
+fn has_member(members: &[SignVec], member: SignVec) -> bool
     ensures { result ≡ list_any (λ y. same_row y member) members.now }
 {
-    members.as_slice().iter().any(|m| same_signs(*m, member))
+    members.iter().any(|m| same_signs(*m, member))
 }
 
 /// The sign vector that a line of `elements` signs stands for.
@@ -114,16 +115,12 @@ fn sign_vector(elements: u8, line: &[u8]) -> SignVec
 fn with_row(mut members: List<SignVec>, member: SignVec) -> Result<List<SignVec>, Refusal>
     ensures { IsStepUnlessMemory result (members_within_limit (with_member members member)) }
 {
-    if has_member(&members, member) {
-        if MAX_MEMBERS < members.len() {
-            return Err(Refusal::Line(Code::Many));
-        }
-        return Ok(members);
+    if !has_member(members.as_slice(), member) {
+        members.push(member)?;
     }
-    if MAX_MEMBERS <= members.len() {
+    if MAX_MEMBERS < members.len() {
         return Err(Refusal::Line(Code::Many));
     }
-    members.push(member)?;
     Ok(members)
 }
 
