@@ -10,7 +10,7 @@ ghost use Rattle.om_text.specs.Document.{IsDocument, is_complete, is_complete_bo
 ghost use Rattle.om_text.specs.Form.{IsInForm};
 ghost use Rattle.om_text.specs.Fault.{IsFault};
 ghost use Rattle.om_text.specs.Reading.{step, advance, takes_settings, finished_draft, open_step, after_body, after_end, is_closed, outcome};
-ghost use Rattle.om_text.specs.ReaderParts.{IsStepUnlessMemory, IsDocumentInRange, IsBodyInRange, IsStateInRange, has_all_values, fault_at, IsOutcomeOfAllLines, IsDocumentAtFrontOrFault};
+ghost use Rattle.om_text.specs.ReaderParts.{IsStepUnlessMemory, IsDocumentInRange, IsBodyInRange, IsStateInRange, line_fault, has_all_values, fault_at, IsOutcomeOfAllLines, IsDocumentAtFrontOrFault};
 ghost use Rattle.om_text.specs.Part.{IsDocumentAtFront};
 ghost use Rattle.om_text.specs.Parsed.{IsAnswerUnlessMemory, IfLine};
 
@@ -111,34 +111,41 @@ fn close(draft: Draft) -> Result<State, Refusal>
     }
 }
 
+/// What is wrong with a body line before its words are read: a byte that is no sign, or another number of signs than a
+/// member has.
+fn line_fault(document: &Document, line: &[u8]) -> Option<Code>
+    ensures { result ≡ line_fault document.now (runs line.now) }
+{
+    if !has_signs_line(&document.body, line) {
+        return Some(Code::Sign);
+    }
+    if !has_length_line(&document.body, document.elements, line) {
+        return Some(Code::Length);
+    }
+    None
+}
+
+/// The state after a body line.
 fn body_line(draft: Draft, line: &[u8]) -> Result<State, Refusal>
     requires { IsDocumentInRange draft.document }
     ensures { IsStepUnlessMemory result (after_body draft (runs line.now)) }
 {
-    let Draft {
-        document,
-        setting,
-        ..
-    } = draft;
-    if !has_signs_line(&document.body, line) {
-        return Err(Refusal::Line(Code::Sign));
-    }
-    if !has_length_line(&document.body, document.elements, line) {
-        return Err(Refusal::Line(Code::Length));
+    if let Some(code) = line_fault(&draft.document, line) {
+        return Err(Refusal::Line(code));
     }
     let Document {
         elements,
         body,
         names,
-    } = document;
-    let body = with_line(setting, body, elements, line)?;
+    } = draft.document;
+    let body = with_line(draft.setting, body, elements, line)?;
     Ok(State::Open(Draft {
         document: Document {
             elements,
             body,
             names,
         },
-        setting,
+        setting: draft.setting,
         stage: Stage::Body,
     }))
 }
