@@ -1,6 +1,6 @@
 -- The text of lines, put together piece by piece.
 --
--- Main results: sign_lines_step, rows_more, members_more, blocks_more, points_more, pushed, printed_bytes
+-- Main results: sign_lines_step, lines_more, rows_more, members_more, blocks_more, points_more, pushed, printed_bytes
 use Rattle.std.proofs.Common.{◌≡◌, ℕ, suc, ◌+◌, ◌-◌, ◌/◌, ◌<◌, min, List, [], ◌∷◌, ◌++◌, length, take, drop, get_or, map, refl, sym, ap, ◌∙◌, arith, append_assoc, length-drop, inl, inr, Bool, true, false, nat_eq}
 use Rattle.std.proofs.lemmas.List.{take_rest, take_min, take-map, drop-map, take_more, map-append}
 use Rattle.std.proofs.Math.ListN.{drop_of_length-le}
@@ -42,13 +42,20 @@ rows_more out new t rest k h e n i =
     let s = ap text_of (sign_lines_step rest k h e) in
     rw (n, take_rest rest k) (append_assoc (out ++ map byte_of (take k rest)) (10 ∷ []) (text_of (sign_lines (drop k rest))) ∙ append_assoc out (map byte_of (take k rest)) (10 ∷ text_of (sign_lines (drop k rest))) ∙ ap (λ r. out ++ r) (sym s) ∙ i)
 
+-- lines behind others
+pub lines_more : (base : List ℕ) (xs ys : List (List ℕ)) → (base ++ text_of xs) ++ text_of ys ≡ base ++ text_of (xs ++ ys)
+lines_more base xs ys = append_assoc base (text_of xs) (text_of ys) ∙ ap (λ t. base ++ t) (sym (text_of-append xs ys))
+
 -- the canonical form, from its heading, its body and its end
-pub printed_bytes : (d : Document) (out head body : List ℕ) → head ≡ text_of (codes "om 1" ∷ kind_text d ∷ []) → body ≡ head ++ text_of (body_lines d.body) → out ≡ body ++ (101 ∷ 110 ∷ 100 ∷ 10 ∷ []) → out ≡ printed d
-printed_bytes d out head body h b o =
-    let top : List (List ℕ) = codes "om 1" ∷ kind_text d ∷ [] in
+pub printed_bytes : {E : Type 0} (r : Result Unit E) (d : Document) (base head body out : List ℕ) → head ≡ (base ++ text_of (codes "om 1" ∷ [])) ++ text_of (kind_text d ∷ []) → body ≡ head ++ text_of (body_lines d.body) → OnOk r (out ≡ body ++ (101 ∷ 110 ∷ 100 ∷ 10 ∷ [])) → OnOk r (out ≡ base ++ printed d)
+printed_bytes (Ok x) d base head body out h b o =
+    let first : List (List ℕ) = codes "om 1" ∷ [] in
+    let kind : List (List ℕ) = kind_text d ∷ [] in
     let last : List (List ℕ) = codes "end" ∷ [] in
-    o ∙ ap (λ x. x ++ text_of last) (b ∙ ap (λ x. x ++ text_of (body_lines d.body)) h) ∙ append_assoc (text_of top) (text_of (body_lines d.body)) (text_of last)
-    ∙ ap (λ x. text_of top ++ x) (sym (text_of-append (body_lines d.body) last)) ∙ sym (text_of-append top (body_lines d.body ++ last))
+    let top : head ≡ base ++ text_of (first ++ kind) = h ∙ lines_more base first kind in
+    let most : body ≡ base ++ text_of ((first ++ kind) ++ body_lines d.body) = b ∙ ap (λ x. x ++ text_of (body_lines d.body)) top ∙ lines_more base (first ++ kind) (body_lines d.body) in
+    o ∙ ap (λ x. x ++ text_of last) most ∙ lines_more base ((first ++ kind) ++ body_lines d.body) last
+printed_bytes (Err x) d base head body out h b o = tt
 
 -- one more member
 pub members_more : (base out new : List ℕ) (ms : List (List Sign)) (i : ℕ) (x : List Sign) → i < length ms → x ≡ get_or ms i x → out ≡ base ++ text_of (member_lines (take i ms)) → new ≡ (out ++ map byte_of x) ++ 10 ∷ [] → new ≡ base ++ text_of (member_lines (take (i + 1) ms))

@@ -20,7 +20,7 @@ use Rattle.om_text.specs.declared.document.Document.{Document}
 use Rattle.om_text.specs.Words.{byte_of}
 use Rattle.om_text.specs.Print.{text_of, sign_lines, member_lines, spaced, kind_text}
 use Rattle.om_text.specs.PrintTwo.{numbered_names, printed_names, values_in_revlex, begins_with_plus, setting_lines, body_lines_two, printed_two}
-use Rattle.om_text.proofs.Printing.{text_of-append, sign_lines_step}
+use Rattle.om_text.proofs.Printing.{text_of-append, lines_more, sign_lines_step}
 
 -- ---- names
 
@@ -110,13 +110,16 @@ begun_more base out new ms i x l e o n =
 -- ---- the whole
 
 -- the text, from its heading, its names, its body and its end
-pub printed_two_bytes : (d : Document) (out head names body : List ℕ) → head ≡ text_of (codes "om 2" ∷ kind_text d ∷ []) → names ≡ head ++ text_of (spaced (codes "names" ∷ printed_names d.elements d.names) ∷ []) → body ≡ names ++ text_of (setting_lines d.body ++ body_lines_two d.body) → out ≡ body ++ (101 ∷ 110 ∷ 100 ∷ 10 ∷ []) → out ≡ printed_two d
-printed_two_bytes d out head names body h n b o =
-    let top : List (List ℕ) = codes "om 2" ∷ kind_text d ∷ [] in
+pub printed_two_bytes : {E : Type 0} (r : Result Unit E) (d : Document) (base head names body out : List ℕ) → head ≡ (base ++ text_of (codes "om 2" ∷ [])) ++ text_of (kind_text d ∷ []) → names ≡ head ++ text_of (spaced (codes "names" ∷ printed_names d.elements d.names) ∷ []) → body ≡ names ++ text_of (setting_lines d.body ++ body_lines_two d.body) → OnOk r (out ≡ body ++ (101 ∷ 110 ∷ 100 ∷ 10 ∷ [])) → OnOk r (out ≡ base ++ printed_two d)
+printed_two_bytes (Ok x) d base head names body out h n b o =
+    let first : List (List ℕ) = codes "om 2" ∷ [] in
+    let kind : List (List ℕ) = kind_text d ∷ [] in
     let line : List (List ℕ) = spaced (codes "names" ∷ printed_names d.elements d.names) ∷ [] in
     let rest : List (List ℕ) = setting_lines d.body ++ body_lines_two d.body in
     let last : List (List ℕ) = codes "end" ∷ [] in
-    let front : names ≡ text_of (top ++ line) = n ∙ ap (λ x. x ++ text_of line) h ∙ sym (text_of-append top line) in
-    let most : body ≡ text_of ((top ++ line) ++ rest) = b ∙ ap (λ x. x ++ text_of rest) front ∙ sym (text_of-append (top ++ line) rest) in
-    let whole : out ≡ text_of (((top ++ line) ++ rest) ++ last) = o ∙ ap (λ x. x ++ text_of last) most ∙ sym (text_of-append ((top ++ line) ++ rest) last) in
+    let top : head ≡ base ++ text_of (first ++ kind) = h ∙ lines_more base first kind in
+    let front : names ≡ base ++ text_of ((first ++ kind) ++ line) = n ∙ ap (λ x. x ++ text_of line) top ∙ lines_more base (first ++ kind) line in
+    let most : body ≡ base ++ text_of (((first ++ kind) ++ line) ++ rest) = b ∙ ap (λ x. x ++ text_of rest) front ∙ lines_more base ((first ++ kind) ++ line) rest in
+    let whole : out ≡ base ++ text_of ((((first ++ kind) ++ line) ++ rest) ++ last) = o ∙ ap (λ x. x ++ text_of last) most ∙ lines_more base (((first ++ kind) ++ line) ++ rest) last in
     whole
+printed_two_bytes (Err x) d base head names body out h n b o = tt

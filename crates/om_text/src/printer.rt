@@ -13,7 +13,7 @@ ghost use Rattle.om_text.specs.Print.{text_of, sign_lines, member_lines, block_l
 use super::body::Body;
 use super::document::Document;
 use super::words::byte_of_sign;
-use om_signs::{Block, List, NoMemory, Sign, SignVec};
+use om_signs::{Block, NoMemory, Sign, SignVec};
 use std::alloc::Global;
 
 /// How many signs of a map stand in a line.
@@ -74,10 +74,10 @@ fn push_member_lines(out: &mut Vec<u8>, members: &[SignVec]) -> Result<(), NoMem
 }
 
 /// Puts the members at the end, sorted, one a line.
-fn push_members(out: &mut Vec<u8>, members: &List<SignVec>) -> Result<(), NoMemory>
+fn push_members(out: &mut Vec<u8>, members: &[SignVec]) -> Result<(), NoMemory>
     ensures { OnOk result (out.new.items ≡ out.old.items ++ text_of (member_lines (sorted members.now))) }
 {
-    let rows = sorted_members(*out.allocator(), members.as_slice())?;
+    let rows = sorted_members(*out.allocator(), members)?;
     push_member_lines(out, rows.as_slice())
 }
 
@@ -137,6 +137,7 @@ pub fn push_points(out: &mut Vec<u8>, points: &[[i64; 3]]) -> Result<(), NoMemor
     Ok(())
 }
 
+/// Puts bytes at the end.
 pub fn push_bytes(out: &mut Vec<u8>, bytes: &[u8]) -> Result<(), NoMemory>
     ensures { OnOk result (out.new.items ≡ out.old.items ++ bytes.now) }
 {
@@ -175,14 +176,14 @@ fn kind_line(alloc: Global, document: &Document) -> Result<Vec<u8>, NoMemory>
     }
 }
 
-/// The first two lines: the one that is given, and the kind line.
-pub fn heading(alloc: Global, version: &[u8], document: &Document) -> Result<Vec<u8>, NoMemory>
-    ensures { IfOk result (λ bytes. bytes.items ≡ version.now ++ text_of (kind_text document.now ∷ [])) }
+/// Puts the first two lines at the end: the one that is given, and the kind line.
+pub fn push_heading(out: &mut Vec<u8>, version: &[u8], document: &Document) -> Result<(), NoMemory>
+    ensures { OnOk result (out.new.items
+        ≡ (out.old.items ++ version.now) ++ text_of (kind_text document.now ∷ [])) }
 {
-    let mut out = Vec::from_slice(alloc, version)?;
-    let line = kind_line(alloc, document)?;
-    push_bytes(&mut out, line.as_slice())?;
-    Ok(out)
+    push_bytes(out, version)?;
+    let line = kind_line(*out.allocator(), document)?;
+    push_bytes(out, line.as_slice())
 }
 
 fn push_body(out: &mut Vec<u8>, body: &Body, elements: u8) -> Result<(), NoMemory>
@@ -192,11 +193,21 @@ fn push_body(out: &mut Vec<u8>, body: &Body, elements: u8) -> Result<(), NoMemor
     match body {
         Body::Chirotope(map) => push_rows(out, map.signs.as_slice()),
         Body::Circuits(members) | Body::Cocircuits(members) | Body::Covectors(members) => {
-            push_members(out, members)
+            push_members(out, members.as_slice())
         }
         Body::Wiring(blocks) => push_blocks(out, blocks.as_slice()),
         Body::Points(points) => push_points(out, points.as_slice()),
     }
+}
+
+/// Puts the canonical form of a document at the end.
+fn push_document(out: &mut Vec<u8>, document: &Document) -> Result<(), NoMemory>
+    requires { IsInForm document.now }
+    ensures { OnOk result (out.new.items ≡ out.old.items ++ printed document.now) }
+{
+    push_heading(out, b"om 1\n", document)?;
+    push_body(out, &document.body, document.elements)?;
+    push_bytes(out, b"end\n")
 }
 
 /// The canonical form of a document: the line `om 1`, the kind line with single spaces, the body and the line `end`. The
@@ -207,15 +218,14 @@ fn push_body(out: &mut Vec<u8>, body: &Body, elements: u8) -> Result<(), NoMemor
 /// The document has the forms and is within the limits that [`crate::parse`] promises: its numbers are in range, a map has
 /// a value for each set of its rank and no more than [`om_signs::MAX_VALUES`], the members of a list are different and have a
 /// sign for each element, the positions of blocks are at most 999, and there is a point for each element. Reading the
-/// canonical form gives it back with its members sorted.
+/// canonical form gives it back with its members sorted. The one error is want of memory.
 pub fn print(alloc: Global, document: &Document) -> Result<Vec<u8>, NoMemory>
     requires form { IsInForm document.now }
     ensures bytes { IfOk result (λ bytes. bytes.items ≡ printed document.now) }
     // What is printed is a document, and reads as this one with its members sorted.
     ensures again { IfOk result (λ bytes. IsDocument (lines bytes.items) (sorted_document document.now)) }
 {
-    let mut out = heading(alloc, b"om 1\n", document)?;
-    push_body(&mut out, &document.body, document.elements)?;
-    push_bytes(&mut out, b"end\n")?;
+    let mut out = Vec::new(alloc);
+    push_document(&mut out, document)?;
     Ok(out)
 }

@@ -18,10 +18,10 @@ use super::body::Body;
 use super::document::Document;
 use super::name::Name;
 use super::printer::{
-    LINE_SIGNS, heading, push_blocks, push_bytes, push_member, push_points, sorted_members,
+    LINE_SIGNS, push_blocks, push_bytes, push_heading, push_member, push_points, sorted_members,
 };
 use super::words::byte_of_sign;
-use om_signs::{List, NoMemory, RawMap, Sign, SignVec};
+use om_signs::{NoMemory, RawMap, Sign, SignVec};
 use om_subsets::Subset;
 use std::alloc::Global;
 
@@ -75,12 +75,12 @@ fn push_printed_names(out: &mut Vec<u8>, elements: u8, names: &[Name]) -> Result
 }
 
 /// Puts the line of names at the end.
-fn push_names_line(out: &mut Vec<u8>, elements: u8, names: &List<Name>) -> Result<(), NoMemory>
+fn push_names_line(out: &mut Vec<u8>, elements: u8, names: &[Name]) -> Result<(), NoMemory>
     ensures { OnOk result (out.new.items
         ≡ out.old.items ++ text_of (spaced (codes "names" ∷ printed_names elements names.now) ∷ [])) }
 {
     push_bytes(out, b"names")?;
-    push_printed_names(out, elements, names.as_slice())?;
+    push_printed_names(out, elements, names)?;
     push_bytes(out, b"\n")
 }
 
@@ -168,15 +168,15 @@ fn push_begun(out: &mut Vec<u8>, members: &[SignVec]) -> Result<(), NoMemory>
 }
 
 /// Puts one of each pair of opposite members at the end, sorted, one a line.
-fn push_half(out: &mut Vec<u8>, members: &List<SignVec>) -> Result<(), NoMemory>
+fn push_half(out: &mut Vec<u8>, members: &[SignVec]) -> Result<(), NoMemory>
     ensures { OnOk result (out.new.items ≡ out.old.items ++ text_of (member_lines (half_of members.now))) }
 {
-    let rows = sorted_members(*out.allocator(), members.as_slice())?;
+    let rows = sorted_members(*out.allocator(), members)?;
     push_begun(out, rows.as_slice())
 }
 
 /// Puts a list at the end: its setting line, and half of its members.
-fn push_list(out: &mut Vec<u8>, members: &List<SignVec>) -> Result<(), NoMemory>
+fn push_list(out: &mut Vec<u8>, members: &[SignVec]) -> Result<(), NoMemory>
     ensures { OnOk result (out.new.items
         ≡ out.old.items ++ text_of (codes "half" ∷ member_lines (half_of members.now))) }
 {
@@ -206,11 +206,22 @@ fn push_body(out: &mut Vec<u8>, body: &Body, elements: u8) -> Result<(), NoMemor
     match body {
         Body::Chirotope(map) => push_map(out, map),
         Body::Circuits(members) | Body::Cocircuits(members) | Body::Covectors(members) => {
-            push_list(out, members)
+            push_list(out, members.as_slice())
         }
         Body::Wiring(blocks) => push_blocks(out, blocks.as_slice()),
         Body::Points(points) => push_points(out, points.as_slice()),
     }
+}
+
+/// Puts the form of a document in version 2 at the end.
+fn push_document(out: &mut Vec<u8>, document: &Document) -> Result<(), NoMemory>
+    requires { IsInForm document.now }
+    ensures { OnOk result (out.new.items ≡ out.old.items ++ printed_two document.now) }
+{
+    push_heading(out, b"om 2\n", document)?;
+    push_names_line(out, document.elements, document.names.as_slice())?;
+    push_body(out, &document.body, document.elements)?;
+    push_bytes(out, b"end\n")
 }
 
 /// The form of a document in version 2: the line `om 2`, the kind line with single spaces, the line `names` with the names
@@ -233,9 +244,7 @@ pub fn print_two(alloc: Global, document: &Document) -> Result<Vec<u8>, NoMemory
     // The members are the same.
     ensures members { IsPermutation (members_of document.now.body) (members_of (doubled_body document.now.body)) }
 {
-    let mut out = heading(alloc, b"om 2\n", document)?;
-    push_names_line(&mut out, document.elements, &document.names)?;
-    push_body(&mut out, &document.body, document.elements)?;
-    push_bytes(&mut out, b"end\n")?;
+    let mut out = Vec::new(alloc);
+    push_document(&mut out, document)?;
     Ok(out)
 }
