@@ -38,10 +38,8 @@ fn position_of(word: &[u8]) -> Option<u16>
     if MOST_DIGITS < word.len() {
         return None;
     }
-    match plain_number(word) {
-        Some(number) => Some(number as u16),
-        None => None,
-    }
+    let number = plain_number(word)?;
+    Some(number as u16)
 }
 
 /// The block that a word is: two plain numbers of at most three digits with a `-` between them.

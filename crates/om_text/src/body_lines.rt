@@ -159,9 +159,8 @@ fn with_words(mut blocks: List<Block>, line: &[u8]) -> Result<List<Block>, Refus
 {
     let mut rest = line;
     while let Some((word, after)) = first_word(rest) {
-        let block = match block_of(word) {
-            Some(block) => block,
-            None => return Err(Refusal::Line(Code::Block)),
+        let Some(block) = block_of(word) else {
+            return Err(Refusal::Line(Code::Block));
         };
         blocks.push(block)?;
         rest = after;
@@ -184,9 +183,8 @@ fn with_blocks(blocks: List<Block>, line: &[u8]) -> Result<Body, Refusal>
 fn with_point(mut points: List<[i64; 3]>, elements: u8, line: &[u8]) -> Result<Body, Refusal>
     ensures { (s : Setting) → IsStepUnlessMemory result (body_with_line s elements (Body.Points points) (runs line.now)) }
 {
-    let found = match point(line) {
-        Some(found) => found,
-        None => return Err(Refusal::Line(Code::Number)),
+    let Some(found) = point(line) else {
+        return Err(Refusal::Line(Code::Number));
     };
     if elements as usize <= points.len() {
         return Err(Refusal::Line(Code::Many));

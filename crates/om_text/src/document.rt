@@ -7,6 +7,7 @@ use om_signs::List;
 pub struct Document {
     /// How many elements there are, from 1 to [`om_signs::MAX_ELEMENTS`].
     pub elements: u8,
+    /// What stands behind the kind line and the setting lines.
     pub body: Body,
     /// The names of the elements 1, 2, and so on, no two of them equal, or none at all.
     pub names: List<Name>,

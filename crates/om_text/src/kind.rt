@@ -191,16 +191,14 @@ fn open(
 pub fn kind_line(alloc: Global, version: Version, line: &[u8]) -> Result<State, Code>
     ensures { result ≡ after_kind version (runs line.now) }
 {
-    let (name, rest) = match first_word(line) {
-        Some(found) => found,
-        None => return Err(Code::Kind),
+    let Some((name, rest)) = first_word(line) else {
+        return Err(Code::Kind);
     };
-    let kind = match kind_of_name(name) {
-        Some(kind) => kind,
-        None => return Err(Code::Kind),
+    let Some(kind) = kind_of_name(name) else {
+        return Err(Code::Kind);
     };
-    match sizes_in(alloc, kind, rest) {
-        Some((rank, elements)) => open(alloc, version, kind, rank, elements),
-        None => Err(Code::Header),
-    }
+    let Some((rank, elements)) = sizes_in(alloc, kind, rest) else {
+        return Err(Code::Header);
+    };
+    open(alloc, version, kind, rank, elements)
 }

@@ -11,10 +11,8 @@ use om_signs::MAX_COORDINATE;
 fn coordinate_of(word: &[u8]) -> Option<i64>
     ensures { result ≡ coordinate word.now }
 {
-    match signed_number(word, u128::from(MAX_COORDINATE.unsigned_abs())) {
-        Some(number) => Some(number as i64),
-        None => None,
-    }
+    let number = signed_number(word, u128::from(MAX_COORDINATE.unsigned_abs()))?;
+    Some(number as i64)
 }
 
 /// The point that the words of a line are.

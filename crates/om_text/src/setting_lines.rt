@@ -50,9 +50,8 @@ fn names_on(alloc: Global, elements: u8, words: &[u8]) -> Result<Option<List<Nam
         if names.len() == elements as usize || has_name(names.as_slice(), word) {
             return Ok(None);
         }
-        let name = match Name::new(word) {
-            Some(name) => name,
-            None => return Ok(None),
+        let Some(name) = Name::new(word) else {
+            return Ok(None);
         };
         names.push(name)?;
         rest = after;

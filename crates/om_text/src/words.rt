@@ -6,16 +6,13 @@ ghost use Rattle.om_text.specs.Words.{is_digit, is_decimal, is_plain, plain, num
 
 use om_signs::Sign;
 
-fn is_digit_byte(byte: u8) -> bool
-    ensures { result ≡ is_digit byte }
-{
-    b'0' <= byte && byte <= b'9'
-}
+/// The most digits of a plain number.
+const MOST_PLAIN_DIGITS: usize = 6;
 
-/// The number that a word of at most six digits spells.
+/// The number that a word of at most `MOST_PLAIN_DIGITS` digits spells.
 fn spelled(word: &[u8]) -> u32
     requires digits { list_all is_digit word.now ≡ true }
-    requires short { length word.now ≤ 6 }
+    requires short { length word.now ≤ MOST_PLAIN_DIGITS }
     ensures { result ≡ number_from 0 word.now }
 {
     let mut number = 0u32;
@@ -28,7 +25,7 @@ fn spelled(word: &[u8]) -> u32
 fn are_digits(word: &[u8]) -> bool
     ensures { result ≡ list_all is_digit word.now }
 {
-    word.iter().all(|b| is_digit_byte(*b))
+    word.iter().all(|b| b.is_ascii_digit())
 }
 
 fn begins_with_zero(word: &[u8]) -> bool
@@ -52,7 +49,7 @@ fn is_decimal_word(word: &[u8]) -> bool
 fn is_plain_word(word: &[u8]) -> bool
     ensures { result ≡ is_plain word.now }
 {
-    is_decimal_word(word) && word.len() <= 6
+    is_decimal_word(word) && word.len() <= MOST_PLAIN_DIGITS
 }
 
 /// The plain number that a word is: 1 to 6 decimal digits without a leading zero, save `0` itself.
@@ -100,10 +97,8 @@ pub fn unsigned_number(word: &[u8], limit: u64) -> Option<u64>
     ensures value { result ≡ unsigned limit word.now }
     ensures within { IfSome result (λ n. n ≤ limit) }
 {
-    match decimal_number(word, u128::from(limit)) {
-        Some(number) => Some(number as u64),
-        None => None,
-    }
+    let number = decimal_number(word, u128::from(limit))?;
+    Some(number as u64)
 }
 
 /// The number of a size of at most `limit` that a word is: decimal digits, as many as there may be, without a leading zero,

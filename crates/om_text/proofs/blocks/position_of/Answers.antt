@@ -3,4 +3,4 @@ use Rattle.om_text.proofs.BlockWords.{plain_small}
 use Rattle.om_text.proofs.blocks.position_of.Goals as goal
 
 pub overflow_cast-result : goal.overflow_cast-result
-overflow_cast-result c = let s : c.in-Some.number < 1000 = plain_small c.args.word.now _ c.if-word-gt-MOST_DIGITS.false c.in-Some.ensures in omega arith
+overflow_cast-result c = let s : c.in_ok-number.number < 1000 = plain_small c.args.word.now _ c.if-word-gt-MOST_DIGITS.false c.in_ok-number.ensures in omega arith
