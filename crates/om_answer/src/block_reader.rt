@@ -3,8 +3,6 @@
 ghost use Rattle.std.specs.Prelude.{◌≡◌, ◌+◌, ◌-◌, ◌≤◌, ◌^◌, length, IfOk};
 ghost use Rattle.om_text.specs.Lines.{runs, lines};
 ghost use Rattle.om_text.specs.Heading.{plain_numbers};
-ghost use Rattle.om_text.specs.Settings.{is_line};
-ghost use Rattle.om_text.specs.Document.{end_line};
 ghost use Rattle.om_text.specs.ReaderParts.{IsStepUnlessMemory};
 ghost use Rattle.om_text.specs.Parsed.{IsAnswerUnlessMemory};
 ghost use Rattle.om_answer.specs.BlockLines.{vector_of, entry_of, weight_of, pivots_of, basis_of, some_of};
@@ -19,7 +17,7 @@ use super::block_lines::{
 use om_certificate::{Entry, LpEnd, Verdict, Weight};
 use om_signs::{List, MAX_ELEMENTS, NoMemory};
 use om_subsets::Subset;
-use om_text::lines::{before_comment, first_line, first_word, has_no_words, is_only_word};
+use om_text::lines::{before_comment, first_line, first_word, has_no_words, is_end, is_only_word};
 use om_text::words::plain_number;
 use om_text::{Code, ParseError, Refusal};
 use om_vectors::{Unfound, Word};
@@ -151,12 +149,6 @@ fn pivots_step(alloc: Global, count: u32, line: &[u8]) -> Result<Block, Refusal>
         Some(basis) => Ok(Block::Tested(LpEnd::Pivots { count, basis })),
         None => Err(Refusal::Line(Code::Entry)),
     }
-}
-
-fn is_end(line: &[u8]) -> bool
-    ensures { result ≡ is_line (runs line.now) end_line }
-{
-    is_only_word(line, b"end")
 }
 
 /// The verdict of what stands before the end of a search, and of this end.

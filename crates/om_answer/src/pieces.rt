@@ -4,12 +4,12 @@
 ghost use Rattle.std.specs.Prelude.{◌≡◌, ◌++◌, ◌∷◌, [], OnOk, map};
 ghost use Rattle.std.specs.List.{join_with_byte};
 ghost use Rattle.std.specs.Fmt.{decimal};
-ghost use Rattle.om_text.specs.Words.{byte_of};
 ghost use Rattle.om_answer.specs.Texts.{after_comma, signs_text, subset_text};
 
 use itoa::Buffer;
 use om_signs::{NoMemory, Sign, SignVec};
 use om_subsets::Subset;
+use om_text::words::byte_of_sign;
 
 /// Puts a word, or any other bytes, at the end.
 pub fn push(text: &mut Vec<u8>, word: &[u8]) -> Result<(), NoMemory>
@@ -74,7 +74,7 @@ pub fn push_signs(text: &mut Vec<u8>, signs: &[Sign]) -> Result<(), NoMemory>
     ensures { OnOk result (text.new.items ≡ text.old.items ++ signs_text signs.now) }
 {
     for sign in signs {
-        push_sign(text, *sign)?;
+        text.push(byte_of_sign(*sign))?;
     }
     Ok(())
 }
@@ -84,18 +84,7 @@ pub fn push_vector(text: &mut Vec<u8>, vector: SignVec) -> Result<(), NoMemory>
     ensures { OnOk result (text.new.items ≡ text.old.items ++ signs_text vector) }
 {
     for place in 0..vector.len() {
-        push_sign(text, vector.get(place + 1))?;
+        text.push(byte_of_sign(vector.get(place + 1)))?;
     }
     Ok(())
-}
-
-/// Puts a sign at the end: `-`, `0` or `+`.
-fn push_sign(text: &mut Vec<u8>, sign: Sign) -> Result<(), NoMemory>
-    ensures { OnOk result (text.new.items ≡ text.old.items ++ byte_of sign ∷ []) }
-{
-    match sign {
-        Sign::Minus => push(text, b"-"),
-        Sign::Zero => push(text, b"0"),
-        Sign::Plus => push(text, b"+"),
-    }
 }
