@@ -7,7 +7,7 @@ ghost use Rattle.std.specs.Fmt.{decimal};
 ghost use Rattle.om_answer.specs.Texts.{after_comma, signs_text, subset_text};
 
 use itoa::Buffer;
-use om_signs::{NoMemory, Sign, SignVec};
+use om_signs::{NoMemory, SignVec};
 use om_subsets::Subset;
 use om_text::words::byte_of_sign;
 
@@ -67,16 +67,6 @@ fn push_element(text: &mut Vec<u8>, before: u8, e: u8) -> Result<(), NoMemory>
         push(text, b",")?;
     }
     push_decimal(text, u128::from(e))
-}
-
-/// Puts signs at the end: `-`, `0` or `+` for each.
-pub fn push_signs(text: &mut Vec<u8>, signs: &[Sign]) -> Result<(), NoMemory>
-    ensures { OnOk result (text.new.items ≡ text.old.items ++ signs_text signs.now) }
-{
-    for sign in signs {
-        text.push(byte_of_sign(*sign))?;
-    }
-    Ok(())
 }
 
 /// Puts the signs of a sign vector at the end, in the order of the elements: `-`, `0` or `+` for each.

@@ -2,11 +2,11 @@
 
 ghost use Rattle.std.specs.Prelude.{◌<◌};
 
-use om_answer::pieces::{push, push_decimal, push_line_feed, push_signs, push_subset, push_vector};
+use om_answer::pieces::{push, push_decimal, push_line_feed, push_subset, push_vector};
 use om_answer::{Line, print_line};
 use om_grassmann::Statement;
 use om_samples::vector_of;
-use om_signs::{NoMemory, Sign};
+use om_signs::NoMemory;
 use om_subsets::Subset;
 use om_text::Code;
 use std::alloc::Global;
@@ -110,10 +110,9 @@ fn push_numbers(text: &mut Vec<u8>) -> Result<(), NoMemory> {
     push_subset(text, subset(0b1101))
 }
 
-/// Puts the signs of a list and of a vector at the end, and the end of the line.
-fn push_both_signs(text: &mut Vec<u8>) -> Result<(), NoMemory> {
-    push_signs(text, &[Sign::Minus, Sign::Zero, Sign::Plus])?;
-    push_vector(text, vector_of(2, "+-"))?;
+/// Puts the signs of a vector at the end, and the end of the line.
+fn push_sign_line(text: &mut Vec<u8>) -> Result<(), NoMemory> {
+    push_vector(text, vector_of(5, "-0++-"))?;
     push_line_feed(text)
 }
 
@@ -121,6 +120,6 @@ fn push_both_signs(text: &mut Vec<u8>) -> Result<(), NoMemory> {
 fn pieces_of_a_text(rt: HostRuntime) {
     let mut text = Vec::new(rt.alloc());
     assert!(rt; push_numbers(&mut text).is_ok());
-    assert!(rt; push_both_signs(&mut text).is_ok());
+    assert!(rt; push_sign_line(&mut text).is_ok());
     assert!(rt; text.as_slice() == b"4 1,3,4-0++-\n".as_slice());
 }
