@@ -226,10 +226,7 @@ fn frontier_step(alloc: Global, front: Front, word: Word, line: &[u8]) -> Result
 fn at_fault(read: Result<Block, Code>) -> Result<Block, Refusal>
     ensures { IsStepUnlessMemory result read }
 {
-    match read {
-        Ok(block) => Ok(block),
-        Err(code) => Err(Refusal::Line(code)),
-    }
+    read.map_err(Refusal::Line)
 }
 
 /// The state after one more line with words.
