@@ -9,7 +9,8 @@ ghost use Rattle.om_words.specs.Words.{Spells, NamesKind, IsElement};
 
 use itoa::Buffer;
 use om_answer::Kind;
-use om_signs::{MAX_ELEMENTS, Sign, SignVec};
+use om_signs::{MAX_ELEMENTS, SignVec};
+use om_text::words::{is_sign_byte, sign_of_byte};
 
 /// Whether a word is this one.
 pub fn is_word(word: &String, text: &str) -> bool
@@ -52,7 +53,7 @@ pub fn spelled(word: &[u8]) -> Option<SignVec>
 fn are_signs(word: &[u8]) -> bool
     ensures { result ≡ list_all is_sign word.now }
 {
-    word.iter().all(|b| matches!(*b, b'+' | b'-' | b'0'))
+    word.iter().all(|b| is_sign_byte(*b))
 }
 
 /// The signs of the bytes.
@@ -63,20 +64,9 @@ fn sign_vector(word: &[u8]) -> SignVec
 {
     let mut x = SignVec::zero(word.len() as u8);
     for place in 0..word.len() {
-        x = x.set(place as u8 + 1, sign_of(word[place]));
+        x = x.set(place as u8 + 1, sign_of_byte(word[place]));
     }
     x
-}
-
-/// The sign of a byte; zero for every byte other than `+` and `-`.
-fn sign_of(b: u8) -> Sign
-    ensures { result ≡ sign_of_byte b }
-{
-    match b {
-        b'+' => Sign::Plus,
-        b'-' => Sign::Minus,
-        _ => Sign::Zero,
-    }
 }
 
 /// The kind that a word names.
