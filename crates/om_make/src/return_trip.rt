@@ -13,24 +13,45 @@ use om_covectors::Covectors;
 use om_signs::{NoMemory, RawMap};
 use std::alloc::Global;
 
-/// Converts the cocircuits and the covectors of a chirotope back. Both give its normal form, which is proved, so that no
-/// answer is needed for other maps.
-pub fn convert_back(
+/// Converts the cocircuits of a chirotope back. They give its normal form, which is proved, so that no answer is needed
+/// for other maps.
+pub fn convert_cocircuits_back(
     alloc: Global,
     chi: &Chirotope,
     cocircuits: &Cocircuits,
-    covectors: &Covectors,
 ) -> Result<(), NoMemory>
     requires rank { chi.now.rank ≡ 3 }
     requires cocircuits { ListsCocircuits chi.now cocircuits.now.0 }
+    ensures { OnOk result (ComesBack chi.now) }
+{
+    let back = back_from_cocircuits(alloc, chi, cocircuits)?;
+    compare(chi, back)
+}
+
+/// Converts the covectors of a chirotope back. They give its normal form, which is proved, so that no answer is needed for
+/// other maps.
+pub fn convert_covectors_back(
+    alloc: Global,
+    chi: &Chirotope,
+    covectors: &Covectors,
+) -> Result<(), NoMemory>
+    requires rank { chi.now.rank ≡ 3 }
     requires covectors { ListsCovectors chi.now covectors.now }
     ensures { OnOk result (ComesBack chi.now) }
 {
-    let normal = chi.copy()?.normal().into_raw();
-    let first = back_from_cocircuits(alloc, chi, cocircuits)?;
-    let second = back_from_covectors(alloc, chi, covectors)?;
-    if !are_equal(&first.into_raw(), &normal) || !are_equal(&second.into_raw(), &normal) {
-        // each list gives back the normal form of the chirotope
+    let back = back_from_covectors(alloc, chi, covectors)?;
+    compare(chi, back)
+}
+
+/// Compares what a list was converted back to with the normal form of the chirotope, which it is.
+fn compare(chi: &Chirotope, back: Chirotope) -> Result<(), NoMemory>
+    requires { IsNormalFormOf chi.now back }
+    ensures { OnOk result (ComesBack chi.now) }
+{
+    chi.is_lawful();
+    let normal = chi.copy()?.normal();
+    if !are_equal(&back.into_raw(), &normal.into_raw()) {
+        // both are the normal form
         unreachable!()
     }
     Ok(())

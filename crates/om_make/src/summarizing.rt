@@ -2,13 +2,15 @@
 
 ghost use Rattle.std.specs.Prelude.{◌≡◌, IfOk, OnOk};
 ghost use Rattle.om_vectors.specs.Realizations.{signs_map};
-ghost use Rattle.om_make.specs.Tallies.{BeginsWithUnits, ComesBack, IsTally, IsTallyOfMap};
+ghost use Rattle.om_denotation.specs.Circuits.{IsCocircuitOfChirotope};
+ghost use Rattle.om_denotation.specs.Covectors.{IsCovectorOfChirotope};
+ghost use Rattle.om_make.specs.Tallies.{BeginsWithUnits, ComesBack, HasExactly, HasMutations, IsTally, IsTallyOfMap};
 
 use super::counting::count;
 use super::listing::{
     count_cocircuits, count_covectors, count_mutations, list_cocircuits, list_covectors,
 };
-use super::return_trip::convert_back;
+use super::return_trip::{convert_cocircuits_back, convert_covectors_back};
 use super::tally::Tally;
 use om_chirotope::Chirotope;
 use om_signs::{NoMemory, Sign};
@@ -54,17 +56,59 @@ fn summarize(alloc: Global, chi: Chirotope) -> Result<Tally, NoMemory>
     ensures tally { IfOk result (IsTallyOfMap chi) }
     ensures back { OnOk result (ComesBack chi) }
 {
-    let cocircuits = list_cocircuits(alloc, &chi)?;
-    let covectors = list_covectors(alloc, &chi)?;
-    convert_back(alloc, &chi, &cocircuits, &covectors)?;
-    let mutations = count_mutations(alloc, &chi)?;
+    let sizes = sizes_of(alloc, &chi)?;
     let signs = chi.into_raw().signs;
     Ok(Tally {
         plus: count(signs.as_slice(), Sign::Plus),
         zero: count(signs.as_slice(), Sign::Zero),
         minus: count(signs.as_slice(), Sign::Minus),
-        cocircuits: count_cocircuits(&cocircuits),
-        covectors: count_covectors(&covectors),
-        mutations,
+        cocircuits: sizes.cocircuits,
+        covectors: sizes.covectors,
+        mutations: sizes.mutations,
     })
+}
+
+/// How many cocircuits, covectors and mutations a chirotope has.
+#[derive(Clone, Copy)]
+struct Sizes {
+    cocircuits: u32,
+    covectors: u32,
+    mutations: u32,
+}
+
+/// How many cocircuits, covectors and mutations a chirotope of rank 3 has.
+fn sizes_of(alloc: Global, chi: &Chirotope) -> Result<Sizes, NoMemory>
+    requires { chi.now.rank ≡ 3 }
+    ensures cocircuits { IfOk result (λ s. HasExactly s.cocircuits (IsCocircuitOfChirotope chi.now)) }
+    ensures covectors { IfOk result (λ s. HasExactly s.covectors (IsCovectorOfChirotope chi.now)) }
+    ensures mutations { IfOk result (λ s. HasMutations s.mutations chi.now) }
+    ensures back { OnOk result (ComesBack chi.now) }
+{
+    Ok(Sizes {
+        cocircuits: number_of_cocircuits(alloc, chi)?,
+        covectors: number_of_covectors(alloc, chi)?,
+        mutations: count_mutations(alloc, chi)?,
+    })
+}
+
+/// How many cocircuits a chirotope of rank 3 has. Their list is converted back.
+fn number_of_cocircuits(alloc: Global, chi: &Chirotope) -> Result<u32, NoMemory>
+    requires { chi.now.rank ≡ 3 }
+    ensures number { IfOk result (λ k. HasExactly k (IsCocircuitOfChirotope chi.now)) }
+    ensures back { OnOk result (ComesBack chi.now) }
+{
+    let cocircuits = list_cocircuits(alloc, chi)?;
+    convert_cocircuits_back(alloc, chi, &cocircuits)?;
+    Ok(count_cocircuits(&cocircuits))
+}
+
+/// How many covectors a chirotope of rank 3 has. Their list is converted back.
+fn number_of_covectors(alloc: Global, chi: &Chirotope) -> Result<u32, NoMemory>
+    requires { chi.now.rank ≡ 3 }
+    ensures number { IfOk result (λ k. HasExactly k (IsCovectorOfChirotope chi.now)) }
+    ensures back { OnOk result (ComesBack chi.now) }
+{
+    let covectors = list_covectors(alloc, chi)?;
+    convert_covectors_back(alloc, chi, &covectors)?;
+    Ok(count_covectors(&covectors))
 }
