@@ -12,8 +12,6 @@ use Rattle.om_rows.specs.Rows.{IsPlace}
 use Rattle.om_simplex.specs.declared.count.Count.{Count}
 use Rattle.om_simplex.specs.declared.outcome.Outcome.{Outcome}
 use Rattle.om_simplex.specs.declared.outcome.Outcome.TheVariants as outcome
-use Rattle.om_certificate.specs.declared.entry.Entry.{Entry}
-use Rattle.om_certificate.specs.declared.weight.Weight.{Weight}
 use Rattle.om_certificate.specs.declared.lp_end.LpEnd.TheVariants as lp_end
 use Rattle.om_certificate.specs.declared.verdict.Verdict.{Verdict}
 use Rattle.om_certificate.specs.declared.verdict.Verdict.TheVariants.{Realizable, Nonrealizable, Undecided, Limit}
@@ -123,9 +121,9 @@ counted_places m pivots ss counts all h =
 pub weights_size : (m : SignMap) (pivots : ℕ) (zs : List ℤ) → IsEndOf m pivots (outcome.Weights zs) → length zs ≡ length (nonzero_brackets m)
 weights_size m pivots zs h = let e = (weights_columns m h.statements h.columns pivots zs h.are h.end).size in omega arith
 
-pub nonrealizable_by : (m : SignMap) (b : Budgets) (ss : List Statement) (counts : List Count) (es : List Entry) → AreAll m ss → IsEndOf m b.pivots (outcome.Balanced counts) → es ≡ entries_of ss counts → IsVerdictOf m b (Nonrealizable es)
-nonrealizable_by m b ss counts es all h e =
-    subst (λ x. IsVerdictOf m b (Nonrealizable x)) (ap (λ x. entries_of x counts) (one_listing m h.statements ss h.are.all all) ∙ sym e) (nonrealizable counts h)
+pub nonrealizable_by : (m : SignMap) (b : Budgets) (ss : List Statement) (counts : List Count) (v : Verdict) → AreAll m ss → IsEndOf m b.pivots (outcome.Balanced counts) → v ≡ Nonrealizable (entries_of ss counts) → IsVerdictOf m b v
+nonrealizable_by m b ss counts v all h e =
+    subst (IsVerdictOf m b) (ap (λ x. Nonrealizable (entries_of x counts)) (one_listing m h.statements ss h.are.all all) ∙ sym e) (nonrealizable counts h)
 
-pub undecided_by : (m : SignMap) (b : Budgets) (zs : List ℤ) (ws : List Weight) (u : Unfound) → IsEndOf m b.pivots (outcome.Weights zs) → IsUnfound b.box_size m b.steps u → ws ≡ weights_on (nonzero_brackets m) zs → IsVerdictOf m b (Undecided ws u)
-undecided_by m b zs ws u h n e = subst (λ x. IsVerdictOf m b (Undecided x u)) (sym e) (undecided zs u h n)
+pub undecided_by : (m : SignMap) (b : Budgets) (zs : List ℤ) (v : Verdict) (u : Unfound) → IsEndOf m b.pivots (outcome.Weights zs) → IsUnfound b.box_size m b.steps u → v ≡ Undecided (weights_on (nonzero_brackets m) zs) u → IsVerdictOf m b v
+undecided_by m b zs v u h n e = subst (IsVerdictOf m b) (sym e) (undecided zs u h n)

@@ -1,13 +1,17 @@
 //! The decision whether vectors realize a chirotope.
 
-ghost use Rattle.std.specs.Prelude.{◌≡◌, ◌≤◌, IfOk, IfErr};
+ghost use Rattle.std.specs.Prelude.{◌≡◌, ◌≤◌, length, All, IfOk, IfErr};
 ghost use Rattle.om_chirotope.specs.Chirotope.{IsChirotope};
 ghost use Rattle.om_signs.specs.declared.limits.TheConstants.{MAX_ELEMENTS};
+ghost use Rattle.om_grassmann.specs.Order.{AreAll};
+ghost use Rattle.om_rows.specs.Rows.{IsPlace};
 ghost use Rattle.om_points.specs.Searches.{IsUnfound};
 ghost use Rattle.om_certificate.specs.Forms.{IsVerdictInForm};
 ghost use Rattle.om_certificate.specs.Validity.{IsValid};
 ghost use Rattle.om_certificate.specs.Verdicts.{certificate_of};
+ghost use Rattle.om_certificate.specs.Weights.{nonzero_brackets};
 ghost use Rattle.om_decide.specs.Answers.{IsRefusal};
+ghost use Rattle.om_decide.specs.Columns.{entries_of, weights_on};
 ghost use Rattle.om_decide.specs.Verdicts.{AreBudgets, IsVerdictOf};
 
 use super::budgets::Budgets;
@@ -17,9 +21,10 @@ use super::making::lawful_statements;
 use super::program::run;
 use om_certificate::{LpEnd, Verdict};
 use om_chirotope::Chirotope;
+use om_grassmann::Statement;
 use om_points::search;
-use om_signs::NoMemory;
-use om_simplex::Outcome;
+use om_signs::{List, NoMemory};
+use om_simplex::{Count, Outcome};
 use om_vectors::Unfound;
 use std::alloc::Global;
 
@@ -75,15 +80,28 @@ fn by_tableau(
     ensures { IfOk result (IsVerdictOf chi.now budgets) }
 {
     let statements = lawful_statements(alloc, chi)?;
-    match run(alloc, chi, statements.as_slice(), budgets.pivots)? {
-        Outcome::Balanced(counts) => {
-            let entries = entries(alloc, statements.as_slice(), counts.as_slice())?;
-            Ok(Verdict::Nonrealizable(entries))
-        }
-        Outcome::Weights(values) => {
-            let weights = bracket_weights(alloc, chi, &values)?;
-            Ok(Verdict::Undecided(weights, unfound))
-        }
+    by_statements(alloc, chi, statements.as_slice(), budgets, unfound)
+}
+
+/// The verdict on a chirotope of rank 3 by all its lawful statements, where the search ended without vectors.
+fn by_statements(
+    alloc: Global,
+    chi: &Chirotope,
+    statements: &[Statement],
+    budgets: Budgets,
+    unfound: Unfound,
+) -> Result<Verdict, NoMemory>
+    requires rank { chi.now.rank ≡ 3 }
+    requires lawful { IsChirotope chi.now }
+    requires small { chi.now.elements ≤ MAX_ELEMENTS }
+    requires all { AreAll chi.now statements.now }
+    requires budgets { AreBudgets budgets }
+    requires unfound { IsUnfound budgets.box_size chi.now budgets.steps unfound }
+    ensures { IfOk result (IsVerdictOf chi.now budgets) }
+{
+    match run(alloc, chi, statements, budgets.pivots)? {
+        Outcome::Balanced(counts) => balanced(alloc, statements, counts.as_slice()),
+        Outcome::Weights(values) => weighed(alloc, chi, &values, unfound),
         Outcome::PivotLimit { basis } => {
             let count = budgets.pivots;
             Ok(Verdict::Limit(LpEnd::Pivots { count, basis }, unfound))
@@ -103,4 +121,28 @@ fn by_tableau(
             Ok(Verdict::Limit(end, unfound))
         }
     }
+}
+
+/// The verdict by the counted statements of a balanced end.
+fn balanced(alloc: Global, statements: &[Statement], counts: &[Count]) -> Result<Verdict, NoMemory>
+    requires { All (λ c. IsPlace (length statements.now) c.column) counts.now }
+    ensures { IfOk result (λ verdict. verdict ≡ Verdict.Nonrealizable (entries_of statements.now counts.now)) }
+{
+    Ok(Verdict::Nonrealizable(entries(alloc, statements, counts)?))
+}
+
+/// The verdict by the weights of the nonzero brackets, where the search ended without vectors.
+fn weighed(
+    alloc: Global,
+    chi: &Chirotope,
+    values: &List<i128>,
+    unfound: Unfound,
+) -> Result<Verdict, NoMemory>
+    requires rank { chi.now.rank ≡ 3 }
+    requires part { 3 ≤ chi.now.elements }
+    requires size { length values.now ≡ length (nonzero_brackets chi.now) }
+    ensures { IfOk result (λ verdict. verdict ≡ Verdict.Undecided (weights_on (nonzero_brackets chi.now) values.now) unfound) }
+{
+    let weights = bracket_weights(alloc, chi, values)?;
+    Ok(Verdict::Undecided(weights, unfound))
 }
