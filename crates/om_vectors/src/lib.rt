@@ -17,6 +17,7 @@ pub use realizing::realizes;
 pub use signs::signs_of;
 pub use signs_error::SignsError;
 pub use triple_products::triple;
+pub use triple_signs::sign_of;
 pub use unfound::Unfound;
 pub use vector::Vector;
 pub use word::Word;

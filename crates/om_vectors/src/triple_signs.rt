@@ -21,15 +21,17 @@ pub(crate) fn sign_of_triple(vectors: &[Vector], s: Subset) -> Sign
     let later = s.without(a);
     let b = later.least();
     let c = later.without(b).least();
-    sign(triple(
+    sign_of(triple(
         vectors[a as usize - 1],
         vectors[b as usize - 1],
         vectors[c as usize - 1],
     ))
 }
 
-/// The sign of a number.
-fn sign(z: i128) -> Sign
+/// The sign of a whole number: plus above 0, minus below 0, and zero at 0.
+///
+/// Source: Björner, Las Vergnas, Sturmfels, White and Ziegler, *Oriented Matroids*, chapter 1.
+pub fn sign_of(z: i128) -> Sign
     ensures { result ≡ sign_of z }
 {
     if z > 0 {
