@@ -1,10 +1,11 @@
 -- Violated exchanges: from the elements that may stand in the place of another, the first of a set, and the first of all.
 --
 -- Main results: unexchanged_of_apart and apart_of_unexchanged; best_start, best_same and best_new for the loop over e, first_of_best and none_of_best, what it
--- finds; exchange_of_none and first_of_least, what the scan over all bases finds.
-use Rattle.std.specs.Prelude.{ℕ, ◌≡◌, ◌+◌, ◌<◌, ◌≤◌, ◌↔◌, ◌⊎◌, List, [], ◌∷◌, length, Option, Some, None, MatchOption, IfNone, IfSome}
+-- finds; exchange_of_none and first_of_least, what the scan over all bases finds; some_unexchanged, whether a set has a violated
+-- exchange.
+use Rattle.std.specs.Prelude.{ℕ, ◌≡◌, ◌+◌, ◌<◌, ◌≤◌, ◌↔◌, ◌⊎◌, List, [], ◌∷◌, length, false, true, IsTrue, Option, Some, None, is_some, MatchOption, IfNone, IfSome}
 use Rattle.std.proofs.Common.{refl, sym, ◌∙◌, ap, arith, inl, inr, subst, ⊎_elim}
-use Rattle.std.proofs.lemmas.Bool.{cases_eq}
+use Rattle.std.proofs.lemmas.Bool.{false≢true, cases_eq}
 use Rattle.om_subsets.specs.Subsets.{AreApart, choose, subset_at, rank_of, IsSubsetFrom, IsMember, with_element, without_element}
 use Rattle.om_subsets.specs.Members.{Chosen}
 use Rattle.om_subsets.proofs.Order.{members_from, listed}
@@ -281,3 +282,15 @@ module _ (m : SignMap) where
 
       before_b : HasNoneBefore IsBad m.elements m.rank (rank_of m.elements b.elements)
       before_b = subst (HasNoneBefore IsBad m.elements m.rank) (sym place) (none_below k least.earlier (omega (arith, below)))
+
+  -- whether some exchange of the set at place k is violated, by the first one
+  pub some_unexchanged : (k : ℕ) (b : List ℕ) (r : Option (Chosen × ℕ)) → k < choose m.elements m.rank → b ≡ subset_at m.elements m.rank k → IfNone r ((c : List ℕ) (e : ℕ) → IsUnexchanged m b c e → ⊥) → IfSome r (λ x. IsFirstUnexchangedOf m b x.0 x.1)
+      → IsTrue (is_some r) ↔ IsUnexchangedAt m k
+  some_unexchanged k b None few is none first = (
+    λ t. absurd (false≢true t),
+    λ bad. absurd (none bad.1.0 bad.1.1 (subst (λ x. IsUnexchanged m x bad.1.0 bad.1.1) (sym is) bad.1.2)),
+  )
+  some_unexchanged k b (Some (c, e)) few is none first = (
+    λ t. (few, (c.elements, e, subst (λ x. IsUnexchanged m x c.elements e) is first.violated)),
+    λ y. refl,
+  )

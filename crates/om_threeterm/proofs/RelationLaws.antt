@@ -1,8 +1,8 @@
 -- Violated three-term relations: the value of a list with two elements behind it, a list's frame, and the first violated relation.
 --
 -- Main results: value_same and value_turned; frame_of, the frame that a list of four elements makes; relations_of_none and first_of_least, what
--- the scan over all lists P finds.
-use Rattle.std.specs.Prelude.{ℕ, ◌≡◌, ◌+◌, ◌-◌, ◌%◌, ◌<◌, ◌≤◌, ◌↔◌, ◌⊎◌, List, [], ◌∷◌, ◌++◌, length, Bool, true, false, IsTrue}
+-- the scan over all lists P finds; some_unbalanced, whether a list P has a violated relation.
+use Rattle.std.specs.Prelude.{ℕ, ◌≡◌, ◌+◌, ◌-◌, ◌%◌, ◌<◌, ◌≤◌, ◌↔◌, ◌⊎◌, List, [], ◌∷◌, ◌++◌, length, Bool, true, false, IsTrue, Option, Some, None, is_some, IfNone, IfSome}
 use Rattle.std.specs.Bool.{beq}
 use Rattle.std.proofs.Common.{refl, sym, ◌∙◌, ap, arith, inl, inr, subst, ⊎_elim, append_assoc, zero-add, not}
 use Rattle.std.proofs.lemmas.Bool.{false≢true, cases_eq, cases_lt, eq-eqb, ne_eqb, lt-ltb, le-ltb}
@@ -264,3 +264,15 @@ module _ (m : SignMap) where
 
       before_p : HasNoneBefore IsBad m.elements (m.rank - 2) (rank_of m.elements p.elements)
       before_p = subst (HasNoneBefore IsBad m.elements (m.rank - 2)) (sym place) (none_below k least.earlier (omega (arith, below)))
+
+  -- whether some relation of the list P at place k is violated, by the first one
+  pub some_unbalanced : (k : ℕ) (p : List ℕ) (r : Option Chosen) → k < choose m.elements (m.rank - 2) → p ≡ subset_at m.elements (m.rank - 2) k → IfNone r ((q : List ℕ) → IsUnbalancedList m p q → ⊥) → IfSome r (λ q. IsFirstUnbalancedOf m p q)
+      → IsTrue (is_some r) ↔ IsUnbalancedAt m k
+  some_unbalanced k p None few is none first = (
+    λ t. absurd (false≢true t),
+    λ bad. absurd (none bad.1.0 (subst (λ x. IsUnbalancedList m x bad.1.0) (sym is) bad.1.1)),
+  )
+  some_unbalanced k p (Some q) few is none first = (
+    λ t. (few, (q.elements, subst (λ x. IsUnbalancedList m x q.elements) is first.violated)),
+    λ b. refl,
+  )

@@ -101,10 +101,7 @@ fn is_unexchanged_at(raw: &RawMap, sets: &[Subset], k: u64) -> bool
     if k >= Subset::choose(raw.elements, raw.rank) as u64 {
         return false;
     }
-    match first_unexchanged_of(raw, sets, set_at(raw, sets, k as usize)) {
-        None => false,
-        Some(_) => true,
-    }
+    first_unexchanged_of(raw, sets, set_at(raw, sets, k as usize)).is_some()
 }
 
 /// The first violated exchange, from the sets of as many elements as the rank.

@@ -19,8 +19,11 @@ use std::thread::Threads;
 /// The number of elements of a relation besides those of P.
 const FOUR: u8 = 4;
 
-/// The number of sets of so many of [`MAX_PLACES`] elements.
-const FOURS: usize = 5_985;
+/// The most elements of a map, as a number of sets.
+const PLACES: usize = MAX_PLACES as usize;
+
+/// The number of sets of [`FOUR`] of [`MAX_PLACES`] elements.
+const FOURS: usize = PLACES * (PLACES - 1) * (PLACES - 2) * (PLACES - 3) / 24;
 
 /// The first violated three-term relation: the set p of two elements less than the rank, and the set q of four elements off
 /// it; or None where the relations hold. It takes no memory.
@@ -87,10 +90,7 @@ impl Probe for Frames<'_> {
             return false;
         }
         let p = Subset::unrank(k as u32, size, self.raw.elements);
-        match first_unbalanced_of(self.raw, self.fours, p) {
-            None => false,
-            Some(_) => true,
-        }
+        first_unbalanced_of(self.raw, self.fours, p).is_some()
     }
 }
 
@@ -114,10 +114,8 @@ fn first_unbalanced_among<R: Threads + Sync>(
         None => None,
         Some(k) => {
             let p = Subset::unrank(k as u32, raw.rank - 2, raw.elements);
-            match first_unbalanced_of(raw, fours, p) {
-                None => None,
-                Some(q) => Some((p, q)),
-            }
+            let q = first_unbalanced_of(raw, fours, p)?;
+            Some((p, q))
         }
     }
 }
@@ -132,9 +130,9 @@ fn first_unbalanced_of(raw: &RawMap, fours: &[Subset], p: Subset) -> Option<Subs
     ensures none { IfNone result ((q : List ℕ) → IsUnbalancedList (map_of raw.now) p.elements q → ⊥) }
     ensures first { IfSome result (λ q. IsFirstUnbalancedOf (map_of raw.now) p.elements q) }
 {
-    for (k, q) in fours.iter().enumerate() {
+    for q in fours {
         if is_unbalanced(raw, p, *q) {
-            return Some(fours[k]);
+            return Some(*q);
         }
     }
     None

@@ -1,16 +1,16 @@
-use Rattle.std.proofs.Common.{refl, subst, ◌<◌, arith}
+use Rattle.std.proofs.Common.{sym, subst, ◌<◌, ◌↔◌, arith}
+use Rattle.std.specs.Prelude.{IsTrue}
 use Rattle.om_subsets.specs.Subsets.{choose}
 use Rattle.om_chirotope.specs.Map.{map_of}
-use Rattle.om_threeterm.specs.Violations.{IsUnexchanged}
+use Rattle.om_threeterm.specs.Sets.{IsUnexchangedAt}
+use Rattle.om_threeterm.proofs.ExchangeLaws.{some_unexchanged}
 use Rattle.om_threeterm.proofs.exchanges.is_unexchanged_at.Goals as goal
 
-pub returns-in-Some : goal.returns-in-Some
-returns-in-Some c =
-    let raw = c.args.raw.now in
+pub returns : goal.returns
+returns c =
+    let m = map_of c.args.raw.now in
     let end = c.choose.ensures.value in
     let lt = c.if-k-choose.false in
-    let few : c.args.k < choose raw.elements raw.rank = omega (arith, end, lt) in
-    let first = c.in-Some.ensures.first in (
-      λ t. (few, (c.in-Some.field-0.0.elements, c.in-Some.field-0.1, subst (λ b. IsUnexchanged (map_of raw) b c.in-Some.field-0.0.elements c.in-Some.field-0.1) c.set_at.ensures.elements first.violated)),
-      λ b. refl,
-    )
+    let few : c.args.k < choose m.elements m.rank = omega (arith, end, lt) in
+    subst (λ b. IsTrue b ↔ IsUnexchangedAt m c.args.k) (sym c.is_some.ensures)
+    (some_unexchanged m c.args.k c.set_at.result.elements c.first_unexchanged_of.result few c.set_at.ensures.elements c.first_unexchanged_of.ensures.none c.first_unexchanged_of.ensures.first)

@@ -13,46 +13,46 @@ pub is_unbalanced-requires-clause-q_n : goal.is_unbalanced-requires-clause-q_n
 is_unbalanced-requires-clause-q_n c =
     let n = c.args.raw.now.elements in
     let size : length c.args.fours.now ≡ choose n 4 = ap length c.requires.filled ∙ length-all n 4 in
-    let lt = c.loop-k-test.true in
-    (of_table n 4 c.loop-k.k c.args.fours.now c.index-fours-k.result c.requires.filled (omega arith) (c.index-fours-k.is ∙ get_or_default c.args.fours.now c.loop-k.k _ nothing lt)).n_is
+    let lt = c.loop-q-test.true in
+    (of_table n 4 c.loop-q.q-index c.args.fours.now c.q-item.result c.requires.filled (omega arith) (c.q-item.is ∙ get_or_default c.args.fours.now c.loop-q.q-index _ nothing lt)).n_is
 
 pub is_unbalanced-requires-clause-q_size : goal.is_unbalanced-requires-clause-q_size
 is_unbalanced-requires-clause-q_size c =
     let n = c.args.raw.now.elements in
     let size : length c.args.fours.now ≡ choose n 4 = ap length c.requires.filled ∙ length-all n 4 in
-    let lt = c.loop-k-test.true in
-    let few : c.loop-k.k < choose n 4 = omega arith in
-    ap length (of_table n 4 c.loop-k.k c.args.fours.now c.index-fours-k.result c.requires.filled few (c.index-fours-k.is ∙ get_or_default c.args.fours.now c.loop-k.k _ nothing lt)).elements_are ∙ (listed 1 n 4 c.loop-k.k few).size
+    let lt = c.loop-q-test.true in
+    let few : c.loop-q.q-index < choose n 4 = omega arith in
+    ap length (of_table n 4 c.loop-q.q-index c.args.fours.now c.q-item.result c.requires.filled few (c.q-item.is ∙ get_or_default c.args.fours.now c.loop-q.q-index _ nothing lt)).elements_are ∙ (listed 1 n 4 c.loop-q.q-index few).size
 
 pub returns-then-is_unbalanced-clause-first : goal.returns-then-is_unbalanced-clause-first
 returns-then-is_unbalanced-clause-first c =
     let m = map_of c.args.raw.now in
     let n = c.args.raw.now.elements in
     let size : length c.args.fours.now ≡ choose n 4 = ap length c.requires.filled ∙ length-all n 4 in
-    let lt = c.loop-k-test.true in
-    let few : c.loop-k.k < choose n 4 = omega arith in
-    let here = of_table n 4 c.loop-k.k c.args.fours.now c.index-fours-k.result c.requires.filled few (c.index-fours-k.is ∙ get_or_default c.args.fours.now c.loop-k.k _ nothing lt) in
-    let named = of_table n 4 c.loop-k.k c.args.fours.now c.index-fours-k-then-is_unbalanced.result c.requires.filled few (c.index-fours-k-then-is_unbalanced.is ∙ get_or_default c.args.fours.now c.loop-k.k _ nothing lt) in
-    first_of_p m c.args.p.elements c.index-fours-k-then-is_unbalanced.result c.loop-k.k few named.n_is named.elements_are
+    let lt = c.loop-q-test.true in
+    let few : c.loop-q.q-index < choose n 4 = omega arith in
+    let here = of_table n 4 c.loop-q.q-index c.args.fours.now c.q-item.result c.requires.filled few (c.q-item.is ∙ get_or_default c.args.fours.now c.loop-q.q-index _ nothing lt) in
+    let named = of_table n 4 c.loop-q.q-index c.args.fours.now c.q-item.result c.requires.filled few (c.q-item.is ∙ get_or_default c.args.fours.now c.loop-q.q-index _ nothing lt) in
+    first_of_p m c.args.p.elements c.q-item.result c.loop-q.q-index few named.n_is named.elements_are
     (subst (IsUnbalancedList m c.args.p.elements) (here.elements_are ∙ sym named.elements_are) (c.if-is_unbalanced.ensures.0 refl))
-    c.loop-k.invariant
+    c.loop-q.invariant
 
-pub loop-k-preserved : goal.loop-k-preserved
-loop-k-preserved c = λ j l u. elim (cases_eq j c.loop-k.k) [
+pub loop-q-preserved : goal.loop-q-preserved
+loop-q-preserved c = λ j l u. elim (cases_eq j c.loop-q.q-index) [
   | inl q ↦
       let m = map_of c.args.raw.now in
       let n = c.args.raw.now.elements in
       let size : length c.args.fours.now ≡ choose n 4 = ap length c.requires.filled ∙ length-all n 4 in
-      let lt = c.loop-k-test.true in
-      let few : c.loop-k.k < choose n 4 = omega arith in
-      let here = of_table n 4 c.loop-k.k c.args.fours.now c.index-fours-k.result c.requires.filled few (c.index-fours-k.is ∙ get_or_default c.args.fours.now c.loop-k.k _ nothing lt) in
+      let lt = c.loop-q-test.true in
+      let few : c.loop-q.q-index < choose n 4 = omega arith in
+      let here = of_table n 4 c.loop-q.q-index c.args.fours.now c.q-item.result c.requires.filled few (c.q-item.is ∙ get_or_default c.args.fours.now c.loop-q.q-index _ nothing lt) in
       false≢true (c.if-is_unbalanced.ensures.1 (subst (IsUnbalancedList m c.args.p.elements) (ap (subset_at n 4) q ∙ sym here.elements_are) u))
-  | inr ne ↦ c.loop-k.invariant j (omega arith) u
+  | inr ne ↦ c.loop-q.invariant j (omega arith) u
 ]
 
 pub returns-clause-none : goal.returns-clause-none
 returns-clause-none c =
     let n = c.args.raw.now.elements in
     let size : length c.args.fours.now ≡ choose n 4 = ap length c.requires.filled ∙ length-all n 4 in
-    let over = c.loop-k-test.false in
-    none_of_p (map_of c.args.raw.now) c.args.p.elements c.loop-k.k (omega arith) c.loop-k.invariant
+    let over = c.loop-q-test.false in
+    none_of_p (map_of c.args.raw.now) c.args.p.elements c.loop-q.q-index (omega arith) c.loop-q.invariant
