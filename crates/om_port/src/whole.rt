@@ -11,7 +11,7 @@ use super::write_fault::WriteFault;
 use om_signs::MAX_INPUT;
 use std::alloc::Global;
 
-// The most bytes that are asked for at once.
+/// The most bytes that are asked for at once.
 const PIECE: usize = 4_096;
 
 /// All bytes of a source up to its end, of which there are at most `limit`. The limit is at most [`MAX_INPUT`].
