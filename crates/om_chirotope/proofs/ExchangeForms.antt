@@ -1,39 +1,26 @@
 -- Two forms of the exchange of bases: of an element of a basis B off a basis C, and of the list that is left of B.
 --
--- Main results: exchange_from_lists and back, exchange_of_lists; exchange_of_rank_zero.
-use Rattle.std.specs.Prelude.{ℕ, ◌≡◌, ◌≢◌, ◌+◌, ◌%◌, ◌<◌, ◌≤◌, ◌⊎◌, List, [], ◌∷◌, ◌++◌, length, refl}
-use Rattle.std.proofs.Common.{zero, suc, sym, ap, subst, ◌∙◌, ⊎_elim, inl, inr, arith}
+-- Main results: exchange_from_lists and back, exchange_of_lists; exchange_of_rank_zero; a value that isn't zero with an element behind isn't with it
+-- in its place (nonzero_in_place).
+use Rattle.std.specs.Prelude.{ℕ, ◌≡◌, ◌≢◌, ◌+◌, ◌%◌, ◌⊎◌, List, [], ◌∷◌, ◌++◌, length, refl}
+use Rattle.std.proofs.Common.{sym, ap, subst, ◌∙◌, ⊎_elim, inl, inr, arith}
 use Rattle.std.proofs.lemmas.Bool.{cases_eq, cases_lt, eq-eqb, ne_eqb, lt-ltb, le-ltb}
 use Rattle.om_signs.specs.declared.sign.Sign.{Sign}
 use Rattle.om_signs.specs.declared.sign.Sign.TheVariants.{Zero}
 use Rattle.om_signs.specs.Sign.{opposite}
 use Rattle.om_subsets.specs.Subsets.{IsSubsetFrom, IsMember, with_element, without_element, count_above}
+use Rattle.om_subsets.proofs.OneElement.{without_other, subset_without, with_without}
 use Rattle.om_subsets.proofs.Order.{members_from}
 use Rattle.om_subsets.proofs.Statements.{members_with, members_without}
 use Rattle.om_laws.specs.Tuples.{value}
 use Rattle.om_laws.proofs.MemberLaws.{member_or_not}
 use Rattle.om_chirotope.specs.Map.{SignMap, chi_of, value_of}
 use Rattle.om_chirotope.specs.ThreeTerm.{IsBasis, IsBasisWith, HasExchange, HasListExchange}
-use Rattle.om_chirotope.proofs.Circuits.{length-without, without_below}
+use Rattle.om_chirotope.proofs.Circuits.{length-without}
 use Rattle.om_chirotope.proofs.Cocircuits.{along_even, along_member, along_odd, length-with}
-use Rattle.om_chirotope.proofs.Theory.{later_list, lawful_with}
+use Rattle.om_chirotope.proofs.Theory.{lawful_with}
 
--- ---- increasing lists with an element, and without it
-
-subset_without : (low m e : ℕ) (ys : List ℕ) → IsSubsetFrom low m ys → IsSubsetFrom low m (without_element e ys)
-subset_without low m e [] h = tt
-subset_without low zero e (x ∷ xs) h = absurd h
-subset_without low (suc m) e (x ∷ xs) (inl (q, h)) = elim (cases_eq e x) [
-  | inl p ↦ rw (eq-eqb e x p) (later_list low m (without_element e xs) (subset_without (low + 1) m e xs h))
-  | inr n ↦ rw (ne_eqb e x n) (inl (q, subset_without (low + 1) m e xs h))
-]
-subset_without low (suc m) e (x ∷ xs) (inr (g, h)) = later_list low m (without_element e (x ∷ xs)) (subset_without (low + 1) m e (x ∷ xs) h)
-
-without_other : (e : ℕ) (xs : List ℕ) → (IsMember e xs → ⊥) → without_element e xs ≡ xs
-without_other e [] n = refl
-without_other e (x ∷ xs) n =
-    let ne : e ≢ x = (λ q. n (inl q)) in
-    rw (ne_eqb e x ne) (ap (λ l. x ∷ l) (without_other e xs (λ k. n (inr k))))
+-- ---- a list with an element, and without it again
 
 without_with : (e : ℕ) (xs : List ℕ) → (IsMember e xs → ⊥) → without_element e (with_element e xs) ≡ xs
 without_with e [] n = rw (eq-eqb e e refl) refl
@@ -45,37 +32,10 @@ without_with e (x ∷ xs) n =
       | inr ge ↦ rw (le-ltb e x ge) (rw (ne_eqb e x ne) (ap (λ l. x ∷ l) rest))
     ])
 
-with_below : (low m e : ℕ) (xs : List ℕ) → IsSubsetFrom low m xs → e < low → with_element e xs ≡ e ∷ xs
-with_below low m e [] h l = refl
-with_below low m e (x ∷ xs) h l =
-    let bound = (members_from low m x (x ∷ xs) h (inl refl)).0 in
-    let lt : e < x = omega (arith, bound, l) in
-    let ne : e ≢ x = omega (arith, lt) in
-    rw (ne_eqb e x ne, lt-ltb e x lt) refl
-
-with_without : (low m e : ℕ) (xs : List ℕ) → IsSubsetFrom low m xs → IsMember e xs → with_element e (without_element e xs) ≡ xs
-with_without low m e [] h k = absurd k
-with_without low zero e (x ∷ xs) h k = absurd h
-with_without low (suc m) e (x ∷ xs) (inl (q, h)) k = go (cases_eq e x) (λ j. with_without (low + 1) m e xs h j)
-  where
-    go : (e ≡ x) ⊎ (e ≢ x) → (IsMember e xs → with_element e (without_element e xs) ≡ xs) → with_element e (without_element e (x ∷ xs)) ≡ x ∷ xs
-    go (inl r) rest =
-        let below : e < low + 1 = omega (arith, q, r) in
-        rw (eq-eqb e x r) (ap (with_element e) (without_below (low + 1) m e xs h below) ∙ with_below (low + 1) m e xs h below ∙ ap (λ y. y ∷ xs) r)
-    go (inr ne) rest =
-        let j : IsMember e xs = later k ne in
-        let bound = (members_from (low + 1) m e xs h j).0 in
-        let ge : x ≤ e = omega (arith, bound, q) in
-        rw (ne_eqb e x ne) (rw (ne_eqb e x ne, le-ltb e x ge) (ap (λ l. x ∷ l) (rest j)))
-      where
-        later : IsMember e (x ∷ xs) → e ≢ x → IsMember e xs
-        later (inl r) ne = absurd (ne r)
-        later (inr r) ne = r
-with_without low (suc m) e (x ∷ xs) (inr (g, h)) k = with_without (low + 1) m e (x ∷ xs) h k
-
 -- ---- the value with an element in its place, and behind
 
-nonzero_in_place : (n e : ℕ) (f : List ℕ → Sign) (xs : List ℕ) → IsSubsetFrom 1 n xs → IsSubsetFrom 1 n (with_element e xs) → (IsMember e xs → ⊥) → value f (xs ++ e ∷ []) ≢ Zero → value f (with_element e xs) ≢ Zero
+-- the value with an element in its place, from that with the element behind
+pub nonzero_in_place : (n e : ℕ) (f : List ℕ → Sign) (xs : List ℕ) → IsSubsetFrom 1 n xs → IsSubsetFrom 1 n (with_element e xs) → (IsMember e xs → ⊥) → value f (xs ++ e ∷ []) ≢ Zero → value f (with_element e xs) ≢ Zero
 nonzero_in_place n e f xs list lawful fresh nonzero z = elim (cases_eq (count_above e xs % 2) 1) [
   | inl odd ↦ nonzero (sym (along_odd 1 n e f xs list lawful fresh odd) ∙ ap opposite z)
   | inr even ↦ nonzero (sym (along_even 1 n e f xs list lawful fresh even) ∙ z)

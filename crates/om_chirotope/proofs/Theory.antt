@@ -9,6 +9,7 @@ use Rattle.om_signs.specs.declared.sign.Sign.TheVariants.{Minus, Zero, Plus}
 use Rattle.om_signs.specs.Sign.{product}
 use Rattle.om_subsets.specs.Subsets.{IsSubsetFrom, IsMember, with_element}
 use Rattle.om_subsets.specs.Lists.{IsWithin}
+use Rattle.om_subsets.proofs.OneElement.{later_list}
 use Rattle.om_subsets.proofs.Order.{head_low}
 use Rattle.om_subsets.proofs.Statements.{subset_is_increasing}
 use Rattle.om_laws.specs.Tuples.{value, sorted, sort_sign, before_sign}
@@ -57,10 +58,6 @@ theory_chirotope m c = base c.nonzero
         (λ z. n (value_in_order 1 m.elements (chi_of m) xs h ∙ z))
 
 -- ---- and back: a nonzero tuple gives a nonzero increasing list
-
-pub later_list : (low m : ℕ) (ys : List ℕ) → IsSubsetFrom (low + 1) m ys → IsSubsetFrom low (suc m) ys
-later_list low m [] h = tt
-later_list low m (y ∷ ys) h = let above = head_low (low + 1) m y ys h in let ne : y ≢ low = omega arith in inr (ne, h)
 
 pub lawful_with : (low m e : ℕ) (ys : List ℕ) → IsSubsetFrom low m ys → low ≤ e → e < low + m → IsSubsetFrom low m (with_element e ys)
 lawful_with low zero e ys h a b = absurd (omega arith)

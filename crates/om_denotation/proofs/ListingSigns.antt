@@ -2,7 +2,7 @@
 --
 -- Main results: complement_is, the set of the elements off another; sort_append, the sign of two lists one after the other; listing_more, one
 -- more element of the whole set.
-use Rattle.std.specs.Prelude.{ℕ, ◌≡◌, ◌≢◌, ◌+◌, ◌-◌, ◌*◌, ◌/◌, ◌%◌, ◌<◌, ◌≤◌, ◌^◌, ◌↔◌, List, [], ◌∷◌, ◌++◌, refl}
+use Rattle.std.specs.Prelude.{ℕ, ◌≡◌, ◌≢◌, ◌+◌, ◌-◌, ◌%◌, ◌≤◌, ◌↔◌, List, [], ◌∷◌, ◌++◌, refl}
 use Rattle.std.specs.List.{range_with_len}
 use Rattle.std.proofs.Common.{zero, suc, sym, ◌∙◌, ap, inl, inr, arith, append-nil}
 use Rattle.std.proofs.lemmas.Bool.{eq-eqb, ne_eqb}
@@ -12,6 +12,7 @@ use Rattle.om_signs.specs.Sign.{product}
 use Rattle.om_subsets.specs.Members.{members}
 use Rattle.om_subsets.specs.Subsets.{IsSubsetFrom, IsMember, count_above}
 use Rattle.om_subsets.proofs.Firsts.{same_members}
+use Rattle.om_subsets.proofs.OneElement.{later_list}
 use Rattle.om_laws.specs.Chirotope.{elements_to}
 use Rattle.om_laws.specs.Dual.{complement}
 use Rattle.om_laws.specs.Sorting.{IsIncreasing}
@@ -23,7 +24,6 @@ use Rattle.om_laws.proofs.SortingLaws.{value_increasing}
 use Rattle.om_laws.proofs.ChirotopeLaws.{elements_distinct, member_from_element, element_from_member}
 use Rattle.om_chirotope.specs.Map.{parity_sign}
 use Rattle.om_chirotope.proofs.Cocircuits.{sign_end}
-use Rattle.om_chirotope.proofs.Theory.{later_list}
 use Rattle.om_denotation.proofs.ChirotopeBridge.{increasing_subset}
 
 -- ---- the complement of a set

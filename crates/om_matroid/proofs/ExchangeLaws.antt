@@ -2,14 +2,12 @@
 --
 -- Main results: an element of a basis that is not in another changes places with one of the other (symmetric_exchange).
 -- Reference: Björner, Las Vergnas, Sturmfels, White and Ziegler, Oriented Matroids, chapter 3.
-use Rattle.std.proofs.Common.{ℕ, ◌≡◌, ◌≢◌, ◌%◌, List, [], ◌∷◌, ◌++◌, sym, ap, subst, ◌∙◌, inl, inr, arith}
-use Rattle.std.proofs.lemmas.Bool.{cases_eq}
+use Rattle.std.proofs.Common.{ℕ, ◌≡◌, ◌≢◌, List, [], ◌∷◌, ◌++◌, sym, subst, ◌∙◌, arith}
 use Rattle.om_signs.specs.declared.sign.Sign.{Sign}
 use Rattle.om_signs.specs.declared.sign.Sign.TheVariants.{Zero}
-use Rattle.om_signs.specs.Sign.{opposite}
-use Rattle.om_subsets.specs.Subsets.{IsSubsetFrom, IsMember, with_element, without_element, count_above}
+use Rattle.om_subsets.specs.Subsets.{IsMember, with_element, without_element}
+use Rattle.om_subsets.proofs.OneElement.{subset_without}
 use Rattle.om_subsets.proofs.Statements.{subset_is_increasing, members_without}
-use Rattle.om_laws.specs.Tuples.{value}
 use Rattle.om_laws.specs.Sorting.{IsElement, IsTuple, on_tuples}
 use Rattle.om_laws.specs.Chirotope.{elements_to}
 use Rattle.om_laws.specs.Bases.{IsBase, SymmetricExchange}
@@ -20,18 +18,12 @@ use Rattle.om_laws.proofs.BaseLaws as bases
 use Rattle.om_chirotope.specs.Map.{SignMap, chi_of, value_of}
 use Rattle.om_chirotope.specs.Chirotope.{IsChirotope}
 use Rattle.om_chirotope.proofs.Circuits.{length-without}
-use Rattle.om_chirotope.proofs.Cocircuits.{along_even, along_odd, length-with}
+use Rattle.om_chirotope.proofs.Cocircuits.{length-with}
+use Rattle.om_chirotope.proofs.ExchangeForms.{nonzero_in_place}
 use Rattle.om_chirotope.proofs.Theory.{theory_chirotope, lawful_with}
 use Rattle.om_matroid.specs.Bases.{IsExchange}
 use Rattle.om_chirotope.specs.ThreeTerm.{IsBasis}
-use Rattle.om_matroid.proofs.ListLaws.{subset_without, without_middle}
-
--- the value with an element in its place, from that with the element behind
-nonzero_in_place : (n e : ℕ) (f : List ℕ → Sign) (xs : List ℕ) → IsSubsetFrom 1 n xs → IsSubsetFrom 1 n (with_element e xs) → (IsMember e xs → ⊥) → value f (xs ++ e ∷ []) ≢ Zero → value f (with_element e xs) ≢ Zero
-nonzero_in_place n e f xs list lawful fresh nonzero z = elim (cases_eq (count_above e xs % 2) 1) [
-  | inl odd ↦ nonzero (sym (along_odd 1 n e f xs list lawful fresh odd) ∙ ap opposite z)
-  | inr even ↦ nonzero (sym (along_even 1 n e f xs list lawful fresh even) ∙ z)
-]
+use Rattle.om_matroid.proofs.ListLaws.{without_middle}
 
 module _ (m : SignMap) (axioms : IsChirotope m) where
   abbrev chi : List ℕ → Sign

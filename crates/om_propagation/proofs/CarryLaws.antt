@@ -14,6 +14,7 @@ use Rattle.om_signs.specs.Sign.{product}
 use Rattle.om_signs.specs.SignVec.{at, at_element}
 use Rattle.om_subsets.specs.Subsets.{IsSubsetFrom, IsMember, with_element, without_element, count_above, rank_of, choose, subset_at}
 use Rattle.om_subsets.specs.Lists.{IsBefore}
+use Rattle.om_subsets.proofs.OneElement.{subset_without, with_without}
 use Rattle.om_subsets.proofs.Order.{members_from, lexicographic, listed, rank_from-lt}
 use Rattle.om_subsets.proofs.Statements.{members_without}
 use Rattle.om_laws.specs.Signs.{IsNonzero}
@@ -40,13 +41,12 @@ use Rattle.om_chirotope.proofs.Theory.{theory_chirotope, lawful_with}
 use Rattle.om_matroid.specs.Bases.{IsExchange}
 use Rattle.om_chirotope.specs.ThreeTerm.{IsBasis}
 use Rattle.om_matroid.proofs.ExchangeLaws.{symmetric_exchange}
-use Rattle.om_matroid.proofs.ListLaws.{subset_without}
 use Rattle.om_denotation.proofs.ChirotopeBridge.{tuples_of, cocircuit_function, cocircuit_supported, cocircuit_list, increasing_subset}
 use Rattle.om_denotation.proofs.ListFunctions.{at_place, place_function}
 use Rattle.om_denotation.proofs.Uniqueness.{tuples_at}
 use Rattle.om_propagation.specs.Hitting.{IsNonzeroOn, MeetsEach, MissesSome, IsNormalOf, carried_sign, IsCarried, HasNoneCarried, AreFirstSigns}
 use Rattle.om_propagation.proofs.HittingLaws.{Meets, base_hits, hitting_base, vanishing_same}
-use Rattle.om_propagation.proofs.SetLaws.{with_without, exchanged_before, first_new, IsFirstNew}
+use Rattle.om_propagation.proofs.SetLaws.{exchanged_before, first_new, IsFirstNew}
 
 -- ---- signs
 

@@ -1,48 +1,14 @@
 -- Increasing lists with an element in the place of another, and their order.
 --
--- Main results: an element left out and put back (with_without); a smaller element in the place of another gives an earlier list
--- (exchanged_before); of two lists the earlier one has an element that is not in the other, and is less than all that only the other has (first_new).
-use Rattle.std.specs.Prelude.{ℕ, ◌≡◌, ◌≢◌, ◌+◌, ◌<◌, ◌≤◌, List, [], ◌∷◌, length, refl}
-use Rattle.std.proofs.Common.{zero, suc, sym, ap, subst, ◌∙◌, ⊎_elim, inl, inr, arith}
+-- Main results: a smaller element in the place of another gives an earlier list (exchanged_before); of two lists the earlier one has an element
+-- that is not in the other, and is less than all that only the other has (first_new).
+use Rattle.std.specs.Prelude.{ℕ, ◌≡◌, ◌≢◌, ◌+◌, ◌<◌, List, [], ◌∷◌, length, refl}
+use Rattle.std.proofs.Common.{zero, suc, sym, subst, ◌∙◌, ⊎_elim, inl, inr, arith}
 use Rattle.std.proofs.lemmas.Bool.{cases_eq, cases_lt, eq-eqb, ne_eqb, lt-ltb, le-ltb}
 use Rattle.om_subsets.specs.Subsets.{IsSubsetFrom, IsMember, with_element, without_element}
 use Rattle.om_subsets.specs.Lists.{IsBefore}
+use Rattle.om_subsets.proofs.OneElement.{not_later, without_other, with_below}
 use Rattle.om_subsets.proofs.Order.{members_from}
-
--- a number below all of a list is put at its front
-with_front : (low m e : ℕ) (xs : List ℕ) → IsSubsetFrom low m xs → e < low → with_element e xs ≡ e ∷ xs
-with_front low m e [] h l = refl
-with_front low m e (x ∷ xs) h l =
-    let b = (members_from low m x (x ∷ xs) h (inl refl)).0 in
-    let ne : e ≢ x = omega arith in
-    let lt : e < x = omega arith in
-    rw (ne_eqb e x ne, lt-ltb e x lt) refl
-
-without_other : (e : ℕ) (xs : List ℕ) → (IsMember e xs → ⊥) → without_element e xs ≡ xs
-without_other e [] n = refl
-without_other e (x ∷ xs) n =
-    let ne : e ≢ x = (λ q. n (inl q)) in
-    rw (ne_eqb e x ne) (ap (λ l. x ∷ l) (without_other e xs (λ k. n (inr k))))
-
--- the first number isn't among the later ones
-not_later : (low m e : ℕ) (xs : List ℕ) → IsSubsetFrom (low + 1) m xs → e ≡ low → IsMember e xs → ⊥
-not_later low m e xs h q k = let b = (members_from (low + 1) m e xs h k).0 in omega (arith, b, q)
-
-pub with_without : (low m e : ℕ) (xs : List ℕ) → IsSubsetFrom low m xs → IsMember e xs → with_element e (without_element e xs) ≡ xs
-with_without low m e [] h k = absurd k
-with_without low zero e (x ∷ xs) h k = absurd h
-with_without low (suc m) e (x ∷ xs) (inr (q, h)) k = with_without (low + 1) m e (x ∷ xs) h k
-with_without low (suc m) e (x ∷ xs) (inl (q, h)) k = elim (cases_eq e x) [
-  | inl p ↦
-      let other = without_other e xs (not_later low m e xs h (p ∙ q)) in
-      let below : e < low + 1 = omega arith in
-      rw (eq-eqb e x p, other) (with_front (low + 1) m e xs h below ∙ ap (λ z. z ∷ xs) p)
-  | inr n ↦
-      let k' : IsMember e xs = ⊎_elim (λ p. absurd (n p)) (λ j. j) k in
-      let b = (members_from (low + 1) m e xs h k').0 in
-      let ge : x ≤ e = omega arith in
-      rw (ne_eqb e x n) (rw (ne_eqb e x n, le-ltb e x ge) (ap (λ l. x ∷ l) (with_without (low + 1) m e xs h k')))
-]
 
 pub exchanged_before : (low m e h : ℕ) (xs : List ℕ) → IsSubsetFrom low m xs → IsMember e xs → h < e → (IsMember h (without_element e xs) → ⊥)
     → IsBefore (with_element h (without_element e xs)) xs
@@ -52,7 +18,7 @@ exchanged_before low (suc m) e h (x ∷ xs) (inr (q, s)) k l out = exchanged_bef
 exchanged_before low (suc m) e h (x ∷ xs) (inl (q, s)) k l out = elim (cases_eq e x) [
   | inl p ↦
       let other = without_other e xs (not_later low m e xs s (p ∙ q)) in
-      let front : with_element h xs ≡ h ∷ xs = with_front (low + 1) m h xs s (omega arith) in
+      let front : with_element h xs ≡ h ∷ xs = with_below (low + 1) m h xs s (omega arith) in
       rw (eq-eqb e x p, other, front) (inl (omega arith))
   | inr n ↦
       let k' : IsMember e xs = ⊎_elim (λ p. absurd (n p)) (λ j. j) k in

@@ -3,19 +3,16 @@
 -- Main results: least_first and last_first, the first number of a list; without_first, the list behind it; same_members, lists with the same
 -- numbers are the same.
 use Rattle.std.proofs.Common.{ℕ, zero, suc, ◌≡◌, ◌+◌, ◌<◌, List, [], ◌∷◌, length, refl, sym, ◌∙◌, ap, inl, inr, arith}
-use Rattle.std.proofs.lemmas.Bool.{cases_eq, eq-eqb, ne_eqb}
+use Rattle.std.proofs.lemmas.Bool.{cases_eq, eq-eqb}
 use Rattle.om_subsets.specs.Subsets.{IsSubsetFrom, IsMember, without_element}
 use Rattle.om_subsets.proofs.Order.{members_from}
+use Rattle.om_subsets.proofs.OneElement.{without_other}
 
 -- what comes behind the first element is greater
 above_head : (low m x : ℕ) (ys : List ℕ) → IsSubsetFrom low m (x ∷ ys) → (e : ℕ) → IsMember e ys → x < e
 above_head low zero x ys h e q = absurd h
 above_head low (suc m) x ys (inl (p, h)) e q = let b = members_from (low + 1) m e ys h q in omega arith
 above_head low (suc m) x ys (inr (p, h)) e q = above_head (low + 1) m x ys h e q
-
-without_other : (e : ℕ) (ys : List ℕ) → (IsMember e ys → ⊥) → without_element e ys ≡ ys
-without_other e [] n = refl
-without_other e (y ∷ ys) n = rw (ne_eqb e y (λ q. n (inl q))) (ap (λ zs. y ∷ zs) (without_other e ys (λ q. n (inr q))))
 
 without_first : (n x : ℕ) (ys : List ℕ) → IsSubsetFrom 1 n (x ∷ ys) → without_element x (x ∷ ys) ≡ ys
 without_first n x ys h = rw (eq-eqb x x refl) (without_other x ys (λ q. let l = above_head 1 n x ys h x q in omega arith))

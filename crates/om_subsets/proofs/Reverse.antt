@@ -18,6 +18,7 @@ use Rattle.om_subsets.proofs.Order.{head_low, increasing}
 use Rattle.om_subsets.proofs.Places.{bits_fit, double, members-zero}
 use Rattle.om_subsets.proofs.Lowest.{lowest, turn}
 use Rattle.om_subsets.proofs.Table.{choose_most}
+use Rattle.om_subsets.proofs.OneElement.{later_list}
 
 choose_none : (n : ℕ) → choose n zero ≡ 1
 choose_none zero = refl
@@ -36,10 +37,6 @@ choose_grows m (suc n) r l = elim (cases_lt m (suc n)) [
 
 -- ---- lists with and without their last number
 
-later_from : (low m : ℕ) (ys : List ℕ) → IsSubsetFrom (low + 1) m ys → IsSubsetFrom low (suc m) ys
-later_from low m [] h = tt
-later_from low m (y ∷ ys) h = let l = head_low (low + 1) m y ys h in inr (omega arith, h)
-
 wider : (low m : ℕ) (xs : List ℕ) → IsSubsetFrom low m xs → IsSubsetFrom low (suc m) xs
 wider low m [] h = tt
 wider low zero (x ∷ xs) h = absurd h
@@ -49,7 +46,7 @@ wider low (suc m) (x ∷ xs) (inr (n, h)) = inr (n, wider (low + 1) m (x ∷ xs)
 pushed : (low m z : ℕ) (ys : List ℕ) → z ≡ low + m → IsSubsetFrom low m ys → IsSubsetFrom low (suc m) (ys ++ z ∷ [])
 pushed low zero z [] q h = inl (omega arith, tt)
 pushed low zero z (y ∷ ys) q h = absurd h
-pushed low (suc m) z [] q h = later_from low (suc m) (z ∷ []) (pushed (low + 1) m z [] (omega arith) tt)
+pushed low (suc m) z [] q h = later_list low (suc m) (z ∷ []) (pushed (low + 1) m z [] (omega arith) tt)
 pushed low (suc m) z (y ∷ ys) q (inl (e, h)) = inl (e, pushed (low + 1) m z ys (omega arith) h)
 pushed low (suc m) z (y ∷ ys) q (inr (n, h)) = inr (n, pushed (low + 1) m z (y ∷ ys) (omega arith) h)
 
@@ -60,7 +57,7 @@ record EndsWith (low m z : ℕ) (xs : List ℕ) : Type 0 where
   lawful : IsSubsetFrom low m front
 
 ended_later : (low m z : ℕ) (xs : List ℕ) → EndsWith (low + 1) m z xs → EndsWith low (suc m) z xs
-ended_later low m z xs h = record { front = h.front; whole = h.whole; lawful = later_from low m h.front h.lawful }
+ended_later low m z xs h = record { front = h.front; whole = h.whole; lawful = later_list low m h.front h.lawful }
 
 split_last : (low m z : ℕ) (xs : List ℕ) → z ≡ low + m → IsSubsetFrom low (suc m) xs → IsSubsetFrom low m xs ⊎ EndsWith low m z xs
 split_last low m z [] q h = inl tt

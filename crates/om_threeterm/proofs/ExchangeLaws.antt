@@ -8,6 +8,7 @@ use Rattle.std.proofs.Common.{refl, sym, ◌∙◌, ap, arith, inl, inr, subst, 
 use Rattle.std.proofs.lemmas.Bool.{false≢true, cases_eq}
 use Rattle.om_subsets.specs.Subsets.{AreApart, choose, subset_at, rank_of, IsSubsetFrom, IsMember, with_element, without_element}
 use Rattle.om_subsets.specs.Members.{Chosen}
+use Rattle.om_subsets.proofs.OneElement.{subset_without}
 use Rattle.om_subsets.proofs.Order.{members_from, listed}
 use Rattle.om_subsets.proofs.Statements.{members_with, members_without}
 use Rattle.om_laws.proofs.MemberLaws.{member_or_not, search_members}
@@ -17,7 +18,6 @@ use Rattle.om_chirotope.specs.ThreeTerm.{IsBasis, HasExchange}
 use Rattle.om_chirotope.proofs.Circuits.{length-without}
 use Rattle.om_chirotope.proofs.Cocircuits.{length-with}
 use Rattle.om_chirotope.proofs.Theory.{lawful_with}
-use Rattle.om_matroid.proofs.ListLaws.{subset_without}
 use Rattle.om_matroid.proofs.WalkLaws.{HasNoneBefore, place_of, none_at_all, none_earlier}
 use Rattle.om_parallel.specs.FirstBad.{IsNoneBad, IsLeastBad}
 use Rattle.om_threeterm.specs.Violations.{IsExchanged, IsUnexchanged, IsFirstUnexchanged, IsFirstUnexchangedOf}
