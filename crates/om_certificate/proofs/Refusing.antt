@@ -10,7 +10,7 @@ use Rattle.std.proofs.lemmas.Option.{slice_get_within, get_or_from_slice_get, sl
 use Rattle.om_subsets.specs.Members.{Chosen}
 use Rattle.om_subsets.specs.Subsets.{rank_of, IsTriple}
 use Rattle.om_subsets.specs.Lists as lists
-use Rattle.om_subsets.proofs.Order.{lexicographic}
+use Rattle.om_subsets.proofs.Order.{lexicographic, same_triple}
 use Rattle.om_chirotope.specs.Map.{SignMap, chi_of}
 use Rattle.om_vectors.specs.WholeVectors.{WholeVector}
 use Rattle.om_vectors.specs.Realizations.{Realizes, triple_sign}
@@ -27,7 +27,7 @@ use Rattle.om_certificate.specs.Weights.{bracket_of, nonzero_brackets, AreOfBrac
 use Rattle.om_certificate.specs.Validity.{IsValid, Shows}
 use Rattle.om_certificate.specs.Refusals.{IsFirstUnlawful, IsFirstOtherBracket, IsVectorRefusal, number_of_vectors, wrong_sign, IsEntryRefusal, unlawful, unbalanced, no_strict, IsWeightRefusal, number_of_weights, bracket, weight_fails, IsRefusalOf, IsRefusal, not_rank_3, of_rank_3}
 use Rattle.om_certificate.proofs.Exclusion.{certificate_excludes, weights_exclude}
-use Rattle.om_certificate.proofs.Triples.{same_triple, triple_elements}
+use Rattle.om_certificate.proofs.Triples.{triple_elements}
 
 -- ---- the first of its kind
 

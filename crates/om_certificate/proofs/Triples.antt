@@ -1,15 +1,16 @@
 -- Increasing triples and their places in lexicographic order.
 --
--- Main results: place_below, triple_at_place, triple_of_place, place_of_place, same_triple, same-place, triples_room, triple_elements, increasing_triple
-use Rattle.std.specs.Prelude.{ℕ, ◌+◌, ◌-◌, ◌≡◌, ◌<◌, ◌≤◌, List, [], ◌∷◌, nat_eq}
-use Rattle.std.proofs.Common.{refl, sym, ◌∙◌, ap, arith, inl, inr, subst, zero, suc}
+-- Main results: place_below, triple_at_place, triple_of_place, place_of_place, same-place, triples_room, triple_elements, increasing_triple
+use Rattle.std.specs.Prelude.{ℕ, ◌≡◌, ◌<◌, ◌≤◌, List, [], ◌∷◌, nat_eq}
+use Rattle.std.proofs.Common.{refl, sym, ◌∙◌, ap, arith, inl, inr, subst}
 use Rattle.std.proofs.lemmas.Slice.Eq.{bytes_eq-Decides}
 use Rattle.std.proofs.lemmas.Bool.{ne_eqb, lt-ltb}
 use Rattle.std.proofs.lemmas.Bool.Decides.{Decides-eqb, same_from_decides, Decides-like}
 use Rattle.om_signs.specs.declared.limits.TheConstants.{MAX_ELEMENTS}
 use Rattle.om_subsets.proofs.Statements.{subset_is_increasing}
 use Rattle.om_subsets.specs.Subsets.{choose, rank_of, subset_at, with_element, IsTriple}
-use Rattle.om_subsets.proofs.Order.{rank_from-lt, get_or-rank_from, same_place, listed}
+use Rattle.om_subsets.proofs.Counts.{choose_grows}
+use Rattle.om_subsets.proofs.Order.{rank_from-lt, get_or-rank_from, same_triple, listed}
 use Rattle.om_certificate.specs.declared.room.TheConstants.{ROOM}
 use Rattle.om_certificate.specs.Certificates.{is_same}
 
@@ -25,26 +26,15 @@ triple_of_place n k l = let h = listed 1 n 3 k l in record { list = h.lawful; si
 pub place_of_place : (n k : ℕ) → k < choose n 3 → rank_of n (subset_at n 3 k) ≡ k
 place_of_place n k l = (listed 1 n 3 k l).place
 
-pub same_triple : (n : ℕ) (b c : List ℕ) → IsTriple n b → IsTriple n c → rank_of n b ≡ rank_of n c → b ≡ c
-same_triple n b c hb hc e = same_place n b c hb.list hc.list (hb.size ∙ sym hc.size) e
-
 -- two triples are the same exactly where their places are
 pub same-place : (n : ℕ) (b c : List ℕ) → IsTriple n b → IsTriple n c → is_same b c ≡ nat_eq (rank_of n b) (rank_of n c)
 same-place n b c hb hc =
     same_from_decides (is_same b c) (nat_eq (rank_of n b) (rank_of n c)) (bytes_eq-Decides b c)
     (Decides-like (nat_eq (rank_of n b) (rank_of n c)) (same_triple n b c hb hc) (ap (rank_of n)) (Decides-eqb (rank_of n b) (rank_of n c)))
 
-choose_grows : (n r : ℕ) → choose n r ≤ choose (suc n) r
-choose_grows n zero = omega arith
-choose_grows n (suc r) = omega arith
-
 -- a table for all elements has room for the triples of fewer
 pub triples_room : (n : ℕ) → n ≤ MAX_ELEMENTS → choose n 3 ≤ ROOM
-triples_room n h = go (MAX_ELEMENTS - n) n (omega arith)
-  where
-    go : (d n : ℕ) → n + d ≡ MAX_ELEMENTS → choose n 3 ≤ ROOM
-    go zero n e = let f : n ≡ MAX_ELEMENTS = omega arith in rw f (omega arith)
-    go (suc d) n e = let g = choose_grows n 3 in let i = go d (suc n) (omega arith) in omega arith
+triples_room n h = let g = choose_grows n MAX_ELEMENTS 3 h in omega arith
 
 -- three increasing elements of 1 to n, from a triple
 pub triple_elements : (n a b c : ℕ) → IsTriple n (a ∷ b ∷ c ∷ []) → (1 ≤ a) × (a < b) × (b < c) × (c ≤ n)

@@ -7,7 +7,7 @@ use Rattle.std.proofs.lemmas.Bool.{cases_lt}
 use Rattle.om_signs.specs.declared.sign.Sign.{Sign}
 use Rattle.om_subsets.specs.Subsets.{choose, rank_of, subset_at, IsSubsetFrom}
 use Rattle.om_subsets.proofs.Order.{listed, rank_from-lt, get_or-rank_from}
-use Rattle.om_subsets.proofs.Table.{choose_above}
+use Rattle.om_subsets.proofs.Counts.{too_long}
 use Rattle.om_chirotope.specs.Map.{SignMap, circuit_vector, cocircuit_vector}
 use Rattle.om_denotation.specs.Circuits.{IsCircuitOfChirotope, IsCocircuitOfChirotope}
 use Rattle.om_denotation.specs.Listings.{AreAllOf}
@@ -71,13 +71,6 @@ module _ (V : List ℕ → List Sign) (n size : ℕ) where
       (λ X a. at_place k l X (subst (λ u. IsNonzeroUpToSign u X) q a)) old e h c
 
 -- ---- circuits and cocircuits
-
--- no increasing list is longer than the elements are many
-too_long : (n : ℕ) (xs : List ℕ) → IsSubsetFrom 1 n xs → n < length xs → ⊥
-too_long n xs h l =
-    let b = rank_from-lt 1 n xs h in
-    let z = choose_above n (length xs) l in
-    omega (arith, b, z)
 
 module _ (m : SignMap) where
   circuit_of_increasing : (X : List Sign) → IsOfIncreasing (circuit_vector m) m.elements (m.rank + 1) X → IsCircuitOfChirotope m X

@@ -12,6 +12,7 @@ use Rattle.om_signs.specs.Sign.{opposite}
 use Rattle.om_subsets.specs.Subsets.{IsSubsetFrom, choose, rank_of, all_subsets}
 use Rattle.om_subsets.proofs.Order.{length-subsets_from, rank_from-lt, get_or-rank_from, lexicographic}
 use Rattle.om_subsets.specs.Members.{Chosen}
+use Rattle.om_subsets.proofs.Counts.{choose_none}
 use Rattle.om_subsets.proofs.Table.{choose_most}
 use Rattle.om_signs.specs.declared.raw_map.RawMap.{RawMap}
 use Rattle.om_chirotope.specs.Chirotope.{IsSound}
@@ -22,10 +23,6 @@ use Rattle.om_convert.proofs.CountingLaws.{distinct_few}
 use Rattle.om_mutate.specs.Mutations.{ListsMutations, nth}
 
 -- ---- cocircuits
-
-choose_none : (n : ℕ) → choose n 0 ≡ 1
-choose_none zero = refl
-choose_none (suc n) = refl
 
 choose_one : (n : ℕ) → choose n 1 ≡ n
 choose_one zero = refl

@@ -17,7 +17,7 @@ use Rattle.om_signs.specs.OrderLaws.{lexicographic-total}
 use Rattle.om_subsets.specs.Subsets.{choose, rank_of, subset_at, IsSubsetFrom}
 use Rattle.om_subsets.specs.Members.{Chosen}
 use Rattle.om_subsets.proofs.Order.{listed, rank_from-lt, get_or-rank_from}
-use Rattle.om_subsets.proofs.Table.{choose_above}
+use Rattle.om_subsets.proofs.Counts.{too_long}
 use Rattle.om_chirotope.specs.Map.{SignMap, circuit_vector, cocircuit_vector}
 use Rattle.om_denotation.specs.Circuits.{HasNonzero, IsUpToSign, IsCircuitOfChirotope, IsCocircuitOfChirotope}
 use Rattle.om_paint.specs.declared.classes.TheConstants.{CLASSES}
@@ -185,13 +185,6 @@ fewer s t n size place list =
     omega arith
 
 -- ---- circuits and cocircuits
-
--- no increasing list is longer than the elements are many
-too_long : (n : ℕ) (xs : List ℕ) → IsSubsetFrom 1 n xs → n < length xs → ⊥
-too_long n xs h l =
-    let b = rank_from-lt 1 n xs h in
-    let z = choose_above n (length xs) l in
-    omega (arith, b, z)
 
 module _ (m : SignMap) (Q : List Sign → Type 0) where
   abbrev pub IsCircuitIn : List Sign → Type 0

@@ -12,6 +12,7 @@ use Rattle.om_signs.specs.declared.sign.Sign.{Sign}
 use Rattle.om_signs.specs.declared.sign.Sign.TheVariants.{Plus, Minus, Zero}
 use Rattle.om_signs.specs.SignVec.{at_element}
 use Rattle.om_subsets.specs.Subsets.{IsSubsetFrom, IsMember, without_element, choose}
+use Rattle.om_subsets.proofs.Counts.{choose_none}
 use Rattle.om_subsets.proofs.LastSets.{choose_all}
 use Rattle.om_subsets.proofs.Statements.{members_without}
 use Rattle.om_laws.specs.Signs.{IsNonzero}
@@ -174,10 +175,6 @@ rank_of_dual c rank part r n q m h =
     let within = h.axioms.whole.part in
     let elements = h.elements in
     omega (arith, part, q, known, dual_rank, within, elements)
-
-choose_none : (n : ℕ) → choose n zero ≡ 1
-choose_none zero = refl
-choose_none (suc n) = refl
 
 choose_parts : (n a b : ℕ) → a + b ≡ n → choose n a ≡ choose n b
 choose_parts n zero b q = choose_none n ∙ sym (choose_all n) ∙ ap (choose n) (let e : n ≡ b = omega arith in e)

@@ -1,5 +1,6 @@
 pub mod Order
 pub mod Table
+pub mod Counts
 pub mod OneElement
 pub mod Places
 pub mod LastSets

@@ -12,6 +12,7 @@ use Rattle.om_subsets.specs.Subsets.{choose, rank_from, rank_of, IsSubsetFrom}
 use Rattle.om_signs.specs.declared.limits.TheConstants.{MAX_PLACES}
 use Rattle.om_subsets.specs.Members.{members, members-subset}
 use Rattle.om_subsets.proofs.Order.{members_from}
+use Rattle.om_subsets.proofs.Counts.{choose_none}
 use Rattle.std.proofs.lemmas.Nat.{and_le_l}
 use Rattle.om_subsets.proofs.Places.{bits_fit, double, members-zero}
 
@@ -20,10 +21,6 @@ use Rattle.om_subsets.proofs.Places.{bits_fit, double, members-zero}
 abbrev pub later : ℕ → List ℕ → ℕ
 later n [] = 0
 later n (x ∷ xs) = choose (n - x) (suc (length xs)) + later n xs
-
-choose_none : (n : ℕ) → choose n zero ≡ 1
-choose_none zero = refl
-choose_none (suc n) = refl
 
 pub rank_and_later : (low m n : ℕ) (xs : List ℕ) → low + m ≡ n + 1 → IsSubsetFrom low m xs → rank_from low m xs + 1 + later n xs ≡ choose m (length xs)
 rank_and_later low m n [] e h = let c = choose_none m in omega arith

@@ -6,7 +6,7 @@ use Rattle.std.specs.Prelude.{ℕ, ◌≡◌, ◌≢◌, ◌+◌, ◌-◌, ◌<�
 use Rattle.std.proofs.Common.{zero, suc, get_or, arith, sym, ◌∙◌, ap, inl, inr}
 use Rattle.std.proofs.lemmas.List.{length-append, length-map, get_or_append_left, get_or-append-add, get_or-map}
 use Rattle.std.proofs.lemmas.Bool.{cases_eq, cases_lt, eq-eqb, ne_eqb}
-use Rattle.om_subsets.specs.Subsets.{choose, subsets_from, rank_from, rank_of, IsSubsetFrom, IsMember}
+use Rattle.om_subsets.specs.Subsets.{choose, subsets_from, rank_from, rank_of, IsSubsetFrom, IsMember, IsTriple}
 use Rattle.om_subsets.specs.Lists.{IsIncreasing, IsBefore}
 
 pub length-subsets_from : (low m r : ℕ) → length (subsets_from low m r) ≡ choose m r
@@ -55,6 +55,9 @@ get_or-rank_from low (suc m) (x ∷ xs) (inr (n, h)) =
 -- two lists of one size at one place are the same
 pub same_place : (n : ℕ) (xs ys : List ℕ) → IsSubsetFrom 1 n xs → IsSubsetFrom 1 n ys → length xs ≡ length ys → rank_of n xs ≡ rank_of n ys → xs ≡ ys
 same_place n xs ys hx hy l r = sym (get_or-rank_from 1 n xs hx) ∙ rw (l, r) (get_or-rank_from 1 n ys hy)
+
+pub same_triple : (n : ℕ) (t u : List ℕ) → IsTriple n t → IsTriple n u → rank_of n t ≡ rank_of n u → t ≡ u
+same_triple n t u h k e = same_place n t u h.list k.list (h.size ∙ sym k.size) e
 
 -- every number is at least low
 pub head_low : (low m x : ℕ) (xs : List ℕ) → IsSubsetFrom low m (x ∷ xs) → low ≤ x

@@ -18,22 +18,8 @@ use Rattle.om_subsets.proofs.Order.{head_low, increasing}
 use Rattle.om_subsets.proofs.Places.{bits_fit, double, members-zero}
 use Rattle.om_subsets.proofs.Lowest.{lowest, turn}
 use Rattle.om_subsets.proofs.Table.{choose_most}
+use Rattle.om_subsets.proofs.Counts.{choose_none, choose_more, choose_grows}
 use Rattle.om_subsets.proofs.OneElement.{later_list}
-
-choose_none : (n : ℕ) → choose n zero ≡ 1
-choose_none zero = refl
-choose_none (suc n) = refl
-
-choose_more : (n r : ℕ) → choose n r ≤ choose (suc n) r
-choose_more n zero = let a = choose_none n in omega arith
-choose_more n (suc r) = omega arith
-
-choose_grows : (m n r : ℕ) → m ≤ n → choose m r ≤ choose n r
-choose_grows m zero r l = let e : m ≡ 0 = omega arith in rw e (omega arith)
-choose_grows m (suc n) r l = elim (cases_lt m (suc n)) [
-  | inl lt ↦ let i = choose_grows m n r (omega arith) in let s = choose_more n r in omega arith
-  | inr ge ↦ let e : m ≡ suc n = omega arith in rw e (omega arith)
-]
 
 -- ---- lists with and without their last number
 

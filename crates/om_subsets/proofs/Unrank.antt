@@ -10,6 +10,7 @@ use Rattle.std.proofs.lemmas.Nat.Bits.{bit_at_or, bit_at_above, bit_at-pow_same,
 use Rattle.om_subsets.specs.Subsets.{choose, rank_from, subset_at}
 use Rattle.om_subsets.specs.Members.{members, members-subset}
 use Rattle.om_subsets.proofs.Order.{get_or-rank_from}
+use Rattle.om_subsets.proofs.Counts.{choose_none}
 use Rattle.om_subsets.proofs.Places.{from_place, rank_from_place, member_here, none_here, rank_member, rank_skipped, rank_none, double}
 
 -- a mask that begins as this one, and goes on with a set of this size and place, has size r and place k
@@ -27,14 +28,10 @@ differ b z o = absurd (omega arith)
 grow : (mask i : ℕ) → mask < 2 ^ i → mask < 2 ^ (i + 1)
 grow mask i l = let d = double i in rw add-one (omega arith)
 
-choose_none : (n r : ℕ) → choose n zero ≡ 1
-choose_none zero r = refl
-choose_none (suc n) r = refl
-
 pub begun_done : (mask i rest r k n : ℕ) → i < n → IsBegun mask i 0 rest r k n → IsBegun mask (i + 1) 0 rest r k n
 begun_done mask i rest r k n l b = record {
   small = grow mask i b.small;
-  place = rw (choose_none (n - (i + 1)) 0) (let p : rest < choose (n - i) 0 = b.place in let q = choose_none (n - i) 0 in omega arith);
+  place = rw (choose_none (n - (i + 1))) (let p : rest < choose (n - i) 0 = b.place in let q = choose_none (n - i) in omega arith);
   completes = λ m same len rank.
       let bit : bit_at m i ≡ 0 = same i (omega arith) ∙ bit_at_above mask i i b.small (omega arith) in
       let none : bit_and (m / 2 ^ i) 1 ≢ 1 = (λ e. differ (bit_at m i) bit (sym (shr_and_one m i) ∙ e)) in

@@ -1,0 +1,31 @@
+-- How many increasing lists there are, and how long they are.
+--
+-- Main results: among more numbers there are no fewer lists (choose_more, choose_grows); one list is empty (choose_none); no list is longer than
+-- the numbers are many (too_long).
+use Rattle.std.proofs.Common.{ℕ, zero, suc, ◌≡◌, ◌<◌, ◌≤◌, List, length, refl, arith, inl, inr}
+use Rattle.std.proofs.lemmas.Bool.{cases_lt}
+use Rattle.om_subsets.specs.Subsets.{choose, IsSubsetFrom}
+use Rattle.om_subsets.proofs.Order.{rank_from-lt}
+use Rattle.om_subsets.proofs.Table.{choose_above}
+
+pub choose_none : (n : ℕ) → choose n zero ≡ 1
+choose_none zero = refl
+choose_none (suc n) = refl
+
+pub choose_more : (n r : ℕ) → choose n r ≤ choose (suc n) r
+choose_more n zero = let a = choose_none n in omega arith
+choose_more n (suc r) = omega arith
+
+pub choose_grows : (m n r : ℕ) → m ≤ n → choose m r ≤ choose n r
+choose_grows m zero r l = let e : m ≡ 0 = omega arith in rw e (omega arith)
+choose_grows m (suc n) r l = elim (cases_lt m (suc n)) [
+  | inl lt ↦ let i = choose_grows m n r (omega arith) in let s = choose_more n r in omega arith
+  | inr ge ↦ let e : m ≡ suc n = omega arith in rw e (omega arith)
+]
+
+-- no increasing list is longer than the elements are many
+pub too_long : (n : ℕ) (xs : List ℕ) → IsSubsetFrom 1 n xs → n < length xs → ⊥
+too_long n xs h l =
+    let b = rank_from-lt 1 n xs h in
+    let z = choose_above n (length xs) l in
+    omega (arith, b, z)
