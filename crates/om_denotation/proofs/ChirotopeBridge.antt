@@ -26,13 +26,14 @@ use Rattle.om_laws.specs.Denotations.{IsAroundTuple, IsAlongTuple, IsOrthogonalI
 use Rattle.om_laws.specs.Bridge.{as_function, as_list}
 use Rattle.om_laws.proofs.VectorLaws.{orthogonal_sym, orthogonal_same}
 use Rattle.om_laws.proofs.RelationLaws.{around_member}
-use Rattle.om_laws.proofs.TupleSizes.{each_member, each_from, on_tuples_at, on_tuples_tuple, tuple_with, tuple_without, tuple_last, tuple_rank}
+use Rattle.om_laws.proofs.TupleSizes.{each_member, on_tuples_at, on_tuples_tuple, tuple_with, tuple_without, tuple_last, tuple_rank}
 use Rattle.om_laws.proofs.ChirotopeLaws.{member_from_element}
 use Rattle.om_laws.proofs.RankLaws.{circuit_in_rank, cocircuit_in_rank, orthogonal_in_rank}
 use Rattle.om_laws.proofs.CovectorLaws.{circuit_same, cocircuit_same}
 use Rattle.om_laws.proofs.PairCovectors.{covector_same}
 use Rattle.om_laws.proofs.BridgeLaws.{as_function-as_list, as_list-as_function, as_function-negated, orthogonal_functions, orthogonal_lists, length-as_list}
 use Rattle.om_chirotope.specs.Map.{SignMap, chi_of, value_of, circuit_vector, cocircuit_vector}
+use Rattle.om_chirotope.proofs.Theory.{from_tuple, to_tuple}
 use Rattle.om_denotation.specs.Circuits.{HasNonzero, IsUpToSign, IsCircuitOfChirotope, IsCocircuitOfChirotope}
 use Rattle.om_denotation.specs.Covectors.{IsCovectorOfChirotope}
 
@@ -41,12 +42,6 @@ abbrev pub tuples_of : SignMap → List ℕ → Sign
 tuples_of m = on_tuples m.elements m.rank (chi_of m)
 
 -- ---- increasing lists
-
-pub from_tuple : (n k : ℕ) (xs : List ℕ) → IsTuple n k xs → IsIncreasing xs → IsSubsetFrom 1 n xs
-from_tuple n k xs t i = (subset_is_increasing n xs).1 (i, λ e q. each_member (IsElement n) xs t.within e q)
-
-pub to_tuple : (n k : ℕ) (xs : List ℕ) → IsSubsetFrom 1 n xs → length xs ≡ k → IsTuple n k xs
-to_tuple n k xs h l = record { size = l; within = each_from (IsElement n) xs ((subset_is_increasing n xs).0 h).1 }
 
 pub increasing_subset : (n : ℕ) (xs : List ℕ) → IsSubsetFrom 1 n xs → IsIncreasing xs
 increasing_subset n xs h = ((subset_is_increasing n xs).0 h).0

@@ -16,8 +16,8 @@ use Rattle.om_laws.proofs.SortingLaws.{value_increasing, alternating_equal}
 use Rattle.om_laws.proofs.TupleSizes.{is_tuple_cases, on_tuples_at, on_tuples_off, on_tuples_alternating}
 use Rattle.om_chirotope.specs.Map.{SignMap, IsMap, chi_of}
 use Rattle.om_chirotope.specs.Chirotope.{IsChirotope}
-use Rattle.om_chirotope.proofs.Theory.{map_chirotope}
-use Rattle.om_denotation.proofs.ChirotopeBridge.{tuples_of, from_tuple}
+use Rattle.om_chirotope.proofs.Theory.{from_tuple, map_chirotope}
+use Rattle.om_denotation.proofs.ChirotopeBridge.{tuples_of}
 use Rattle.om_denotation.specs.Maps.{map_by}
 
 pub same_maps : (f g : List ℕ → Sign) → ((t : List ℕ) → f t ≡ g t) → f ≡ g

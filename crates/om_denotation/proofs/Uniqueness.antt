@@ -28,10 +28,10 @@ use Rattle.om_laws.proofs.UniquenessLaws.{unique}
 use Rattle.om_chirotope.specs.Map.{SignMap, IsMap, chi_of, negated, IsLedBy}
 use Rattle.om_chirotope.specs.Chirotope.{IsChirotope}
 use Rattle.om_chirotope.proofs.Negation.{at-opposite, negated_chirotope}
-use Rattle.om_chirotope.proofs.Theory.{theory_chirotope}
+use Rattle.om_chirotope.proofs.Theory.{theory_chirotope, to_tuple}
 use Rattle.om_denotation.specs.Covectors.{IsCovectorOfChirotope}
 use Rattle.om_denotation.specs.Denotation.{DenoteTheSame}
-use Rattle.om_denotation.proofs.ChirotopeBridge.{tuples_of, to_tuple, increasing_subset, covector_list, covector_function}
+use Rattle.om_denotation.proofs.ChirotopeBridge.{tuples_of, increasing_subset, covector_list, covector_function}
 use Rattle.om_denotation.specs.Maps.{IsNormalFormOf}
 use Rattle.om_denotation.proofs.NormalForms.{tuples_negated}
 

@@ -3,7 +3,7 @@
 -- Main results: an increasing list with the last element is one without it, and that element behind it (last_split); the map of the signs is the extension and meets the
 -- axioms (lexicographic_axioms, is_extension); extensions by one list are the same (same_extensions); steps of the calls (found_entry, passed_entry, without_size, sign_with_last, sign_without_last).
 -- Reference: Björner, Las Vergnas, Sturmfels, White and Ziegler, Oriented Matroids, chapter 7.
-use Rattle.std.proofs.Common.{ℕ, zero, suc, ◌≡◌, ◌≢◌, ◌+◌, ◌-◌, ◌<◌, ◌≤◌, ◌⊎◌, List, [], ◌∷◌, ◌++◌, length, map, drop, take, cond, Bool, true, false, refl, sym, ap, subst, ◌∙◌, inl, inr, ⊎_elim, arith, get_or, append-nil}
+use Rattle.std.proofs.Common.{ℕ, zero, suc, ◌≡◌, ◌≢◌, ◌+◌, ◌<◌, ◌≤◌, ◌⊎◌, List, [], ◌∷◌, ◌++◌, length, map, drop, take, cond, Bool, true, false, refl, sym, ap, subst, ◌∙◌, inl, inr, ⊎_elim, arith, get_or, append-nil}
 use Rattle.std.proofs.lemmas.Bool.{cases_eq, eq-eqb, ne_eqb, false≢true}
 use Rattle.std.proofs.lemmas.List.{length-append, take_all}
 use Rattle.om_signs.specs.declared.sign.Sign.{Sign}
@@ -23,8 +23,8 @@ use Rattle.om_laws.proofs.SignLaws.{zero_or_nonzero, first_nonzero_left, first_n
 use Rattle.om_laws.proofs.TupleSizes.{is_tuple_cases, on_tuples_at, on_tuples_off, on_tuples_tuple, on_tuples_alternating, tuple_with, each_from}
 use Rattle.om_chirotope.specs.Map.{SignMap, IsMap, chi_of, value_of}
 use Rattle.om_chirotope.specs.Chirotope.{IsChirotope}
-use Rattle.om_chirotope.proofs.Theory.{theory_chirotope}
-use Rattle.om_denotation.proofs.ChirotopeBridge.{tuples_of, to_tuple}
+use Rattle.om_chirotope.proofs.Theory.{theory_chirotope, to_tuple}
+use Rattle.om_denotation.proofs.ChirotopeBridge.{tuples_of}
 use Rattle.om_denotation.specs.Maps.{map_by}
 use Rattle.om_denotation.proofs.Rules.{rule_at, whole_by, tuples_by, chirotope_by, same_on_tuples}
 use Rattle.om_denotation.proofs.Uniqueness.{tuples_at, same_map}

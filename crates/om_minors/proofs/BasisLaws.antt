@@ -21,11 +21,11 @@ use Rattle.om_laws.proofs.TupleLaws.{nonzero_distinct}
 use Rattle.om_laws.proofs.TupleSizes.{on_tuples_at, on_tuples_alternating, on_tuples_tuple}
 use Rattle.om_chirotope.specs.Map.{SignMap, chi_of, value_of}
 use Rattle.om_chirotope.specs.Chirotope.{IsChirotope}
-use Rattle.om_chirotope.proofs.Theory.{theory_chirotope}
+use Rattle.om_chirotope.proofs.Theory.{from_tuple, theory_chirotope, to_tuple}
 use Rattle.om_matroid.specs.Bases.{IsColoop, IsLoop}
 use Rattle.om_chirotope.specs.ThreeTerm.{IsBasis}
 use Rattle.om_matroid.proofs.WalkLaws.{HasNoneBefore, none_at_all}
-use Rattle.om_denotation.proofs.ChirotopeBridge.{tuples_of, to_tuple, from_tuple}
+use Rattle.om_denotation.proofs.ChirotopeBridge.{tuples_of}
 
 -- some basis has e, where `inside` is true, and else some basis avoids e
 abbrev pub HasBasis : SignMap → ℕ → Bool → Type 0
