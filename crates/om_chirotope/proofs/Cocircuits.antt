@@ -11,9 +11,10 @@ use Rattle.om_subsets.specs.Subsets.{IsSubsetFrom, IsMember, with_element, count
 use Rattle.om_subsets.specs.Members.{Chosen}
 use Rattle.om_laws.specs.Tuples.{value, sorted, insert, sort_sign, before_sign, order_sign}
 use Rattle.om_laws.specs.Relations.{along}
+use Rattle.om_laws.proofs.TupleLaws.{insert_comm}
 use Rattle.om_chirotope.specs.Map.{parity_sign}
 use Rattle.om_chirotope.proofs.Circuits.{parity_sign-suc}
-use Rattle.om_chirotope.proofs.InOrder.{insert_comm, value_in_order}
+use Rattle.om_chirotope.proofs.InOrder.{value_in_order}
 
 -- a number below all of a set is put at its front, and before them all in order
 insert_below : (low m x : ℕ) (xs : List ℕ) → IsSubsetFrom low m xs → x < low → insert x xs ≡ x ∷ xs

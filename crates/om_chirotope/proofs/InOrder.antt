@@ -1,23 +1,13 @@
 -- The value of a map on an increasing list.
 --
--- Main results: insert_comm, value_in_order
-use Rattle.std.specs.Prelude.{ℕ, ◌≡◌, ◌≢◌, ◌+◌, ◌<◌, List, [], ◌∷◌, refl}
+-- Main results: value_in_order
+use Rattle.std.specs.Prelude.{ℕ, ◌≡◌, ◌+◌, ◌<◌, List, [], ◌∷◌, refl}
 use Rattle.std.proofs.Common.{zero, suc, ◌∙◌, ap, arith, inl, inr}
 use Rattle.std.proofs.lemmas.Bool.{lt-ltb}
 use Rattle.om_signs.specs.declared.sign.Sign.{Sign}
 use Rattle.om_signs.specs.declared.sign.Sign.TheVariants.{Plus}
 use Rattle.om_subsets.specs.Subsets.{IsSubsetFrom}
 use Rattle.om_laws.specs.Tuples.{value, sorted, insert, sort_sign, before_sign}
-
-insert_step : (x y z : ℕ) (zs : List ℕ) → x ≢ y → insert x (insert y zs) ≡ insert y (insert x zs) → insert x (insert y (z ∷ zs)) ≡ insert y (insert x (z ∷ zs))
-insert_step x y z zs n e = grind arith
-
-insert_none : (x y : ℕ) → x ≢ y → insert x (insert y []) ≡ insert y (insert x [])
-insert_none x y n = grind arith
-
-pub insert_comm : (x y : ℕ) (zs : List ℕ) → x ≢ y → insert x (insert y zs) ≡ insert y (insert x zs)
-insert_comm x y [] n = insert_none x y n
-insert_comm x y (z ∷ zs) n = insert_step x y z zs n (insert_comm x y zs n)
 
 insert_front : (low m x : ℕ) (xs : List ℕ) → IsSubsetFrom low m xs → x < low → (insert x xs ≡ x ∷ xs) × (before_sign x xs ≡ Plus)
 insert_front low m x [] h l = (refl, refl)
