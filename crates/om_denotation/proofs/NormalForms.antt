@@ -1,9 +1,10 @@
 -- The normal form of a map has the covectors of the map.
 --
--- Main results: tuples_negated; covector_both; normal_covectors, which_covectors.
-use Rattle.std.specs.Prelude.{ℕ, ◌≡◌, ◌↔◌, ◌⊎◌, List, length}
+-- Main results: each chirotope has a normal form (normal_exists); tuples_negated; covector_both; normal_covectors, which_covectors.
+use Rattle.std.specs.Prelude.{ℕ, ◌≡◌, ◌↔◌, ◌⊎◌, List, length, refl}
 use Rattle.std.proofs.Common.{sym, ◌∙◌, ap, subst, inl, inr}
 use Rattle.om_signs.specs.declared.sign.Sign.{Sign}
+use Rattle.om_signs.specs.declared.sign.Sign.TheVariants.{Minus, Plus}
 use Rattle.om_signs.specs.Sign.{opposite, product}
 use Rattle.om_subsets.specs.Subsets.{rank_of}
 use Rattle.om_laws.specs.Bridge.{as_function}
@@ -14,12 +15,22 @@ use Rattle.om_laws.specs.Tuples.{sorted, sort_sign}
 use Rattle.om_laws.proofs.SignLaws.{product-opposite_right}
 use Rattle.om_laws.proofs.ReorientationLaws.{negative_covector, covector_negative}
 use Rattle.om_laws.proofs.TupleSizes.{is_tuple_cases, on_tuples_at, on_tuples_off}
-use Rattle.om_chirotope.specs.Map.{SignMap, chi_of, negated}
-use Rattle.om_chirotope.proofs.Negation.{at-opposite}
+use Rattle.om_chirotope.specs.Map.{SignMap, chi_of, negated, IsLedBy}
+use Rattle.om_chirotope.specs.Chirotope.{IsChirotope, IsAllZero}
+use Rattle.om_chirotope.proofs.Axioms.{not_all_zero}
+use Rattle.om_chirotope.proofs.Negation.{at-opposite, leader, led_negated}
 use Rattle.om_denotation.specs.Covectors.{IsCovectorOfChirotope}
 use Rattle.om_denotation.proofs.ChirotopeBridge.{tuples_of, covector_function, covector_of_function}
 use Rattle.om_denotation.specs.Maps.{IsNormalFormOf}
 use Rattle.om_denotation.proofs.Rules.{same_maps}
+
+pub normal_exists : (m : SignMap) → IsChirotope m → (d : SignMap) × IsNormalFormOf m d
+normal_exists m om = by_leader (leader m.signs)
+  where
+    by_leader : IsLedBy Plus m.signs ⊎ IsLedBy Minus m.signs ⊎ IsAllZero m.signs → (d : SignMap) × IsNormalFormOf m d
+    by_leader (inl p) = (m, record { same = inl refl; normal = p })
+    by_leader (inr (inl p)) = (negated m, record { same = inr refl; normal = led_negated m.signs p })
+    by_leader (inr (inr z)) = absurd (not_all_zero m om.whole z om.nonzero)
 
 pub tuples_negated : (m : SignMap) (t : List ℕ) → tuples_of (negated m) t ≡ negative (tuples_of m) t
 tuples_negated m t = elim (is_tuple_cases m.elements m.rank t) [

@@ -13,16 +13,13 @@ use Rattle.om_signs.specs.Sign.{product}
 use Rattle.om_signs.specs.SignVec.{at, HasProduct, IsOrthogonal}
 use Rattle.om_laws.specs.Signs.{IsNonzero}
 use Rattle.om_laws.proofs.SignLaws.{product_comm, product_zero_right, plus_nonzero, minus_nonzero}
-use Rattle.om_chirotope.specs.Map.{SignMap, negated, IsLedBy}
-use Rattle.om_chirotope.specs.Chirotope.{IsChirotope, IsAllZero}
-use Rattle.om_chirotope.proofs.Negation.{leader, led_negated}
-use Rattle.om_chirotope.proofs.Axioms.{not_all_zero}
+use Rattle.om_chirotope.specs.Map.{SignMap}
+use Rattle.om_chirotope.specs.Chirotope.{IsChirotope}
 use Rattle.om_denotation.specs.Covectors.{IsCovectorOfChirotope}
 use Rattle.om_denotation.specs.Operations.{IsDual, IsDeletion, IsContraction, IsWithout}
-use Rattle.om_denotation.specs.Maps.{IsNormalFormOf}
 use Rattle.om_denotation.specs.Dual.{dual_of}
 use Rattle.om_denotation.proofs.DualMaps.{dual_axioms, is_dual, dual_normal}
-use Rattle.om_denotation.proofs.NormalForms.{normal_covectors, normal_elements}
+use Rattle.om_denotation.proofs.NormalForms.{normal_covectors, normal_elements, normal_exists}
 use Rattle.om_denotation.proofs.Uniqueness.{normal_axioms}
 use Rattle.om_minors.specs.Minors.{deleted, contracted}
 use Rattle.om_minors.proofs.BasisLaws.{basis_with, decide_basis}
@@ -85,14 +82,6 @@ orthogonal_turned X Y o = ((λ h. turned Y X Minus (o.0 (turned X Y Plus h))), (
     turned X Y s (i, p) = (i, product_comm (at X i) (at Y i) ∙ p)
 
 -- ---- covectors of a chirotope
-
-pub normal_exists : (m : SignMap) → IsChirotope m → (d : SignMap) × IsNormalFormOf m d
-normal_exists m om = by_case (leader m.signs)
-  where
-    by_case : IsLedBy Plus m.signs ⊎ IsLedBy Minus m.signs ⊎ IsAllZero m.signs → (d : SignMap) × IsNormalFormOf m d
-    by_case (inl p) = (m, record { same = inl refl; normal = p })
-    by_case (inr (inl p)) = (negated m, record { same = inr refl; normal = led_negated m.signs p })
-    by_case (inr (inr z)) = absurd (not_all_zero m om.whole z om.nonzero)
 
 -- a chirotope whose covectors are those of the dual, and back
 pub record HasDual (m : SignMap) (d : SignMap) : Type 0 where

@@ -17,13 +17,13 @@ use Rattle.om_chirotope.specs.Chirotope.{IsChirotope}
 use Rattle.om_denotation.specs.Covectors.{IsCovectorOfChirotope}
 use Rattle.om_denotation.specs.Denotation.{DenoteTheSame}
 use Rattle.om_denotation.specs.Operations.{IsDual, IsWithout, IsZeroWithout, IsDeletion, IsContraction, IsReorientation}
-use Rattle.om_denotation.proofs.NormalForms.{normal_elements}
+use Rattle.om_denotation.proofs.NormalForms.{normal_elements, normal_exists}
 use Rattle.om_denotation.proofs.Uniqueness.{normal_axioms}
 use Rattle.om_minors.specs.Minors.{deleted, contracted, reoriented_on}
 use Rattle.om_minors.proofs.BasisLaws.{basis_without, decide_basis}
 use Rattle.om_minors.proofs.MinorLists.{contraction_at, loop_contraction}
 use Rattle.om_minors.proofs.MinorMaps.{deleted_axioms, contracted_axioms}
-use Rattle.om_minors.proofs.DualMinors.{normal_exists, orthogonal_removed, orthogonal_restored, orthogonal_turned, removed_insert}
+use Rattle.om_minors.proofs.DualMinors.{orthogonal_removed, orthogonal_restored, orthogonal_turned, removed_insert}
 use Rattle.om_minors.proofs.FlippedLists.{length-flip}
 use Rattle.om_minors.proofs.Turning.{reoriented_axioms, is_reorientation}
 

@@ -7,9 +7,9 @@
 -- Reference: Björner, Las Vergnas, Sturmfels, White and Ziegler, Oriented Matroids, chapter 3.
 use Rattle.std.specs.Prelude.{ℕ, ◌≡◌, ◌≢◌, ◌+◌, ◌-◌, ◌≤◌, ◌⊎◌, List, length, refl}
 use Rattle.std.specs.List.{Contains}
-use Rattle.std.proofs.Common.{zero, suc, sym, ap, subst, ◌∙◌, ⊎_elim, inl, inr, arith}
+use Rattle.std.proofs.Common.{zero, suc, sym, ap, subst, ◌∙◌, ⊎_elim, arith}
 use Rattle.om_signs.specs.declared.sign.Sign.{Sign}
-use Rattle.om_signs.specs.declared.sign.Sign.TheVariants.{Plus, Minus, Zero}
+use Rattle.om_signs.specs.declared.sign.Sign.TheVariants.{Zero}
 use Rattle.om_signs.specs.SignVec.{at_element}
 use Rattle.om_subsets.specs.Subsets.{IsSubsetFrom, IsMember, without_element, choose}
 use Rattle.om_subsets.proofs.Counts.{choose_none}
@@ -29,10 +29,8 @@ use Rattle.om_laws.proofs.TupleSizes.{on_tuples_tuple}
 use Rattle.om_members.specs.Listings.{Listing}
 use Rattle.om_members.specs.Vectors.{IsZero}
 use Rattle.om_members.proofs.MaskLaws.{at_from_place}
-use Rattle.om_chirotope.specs.Map.{SignMap, chi_of, negated, IsLedBy}
-use Rattle.om_chirotope.specs.Chirotope.{IsChirotope, IsAllZero}
-use Rattle.om_chirotope.proofs.Axioms.{not_all_zero}
-use Rattle.om_chirotope.proofs.Negation.{leader, led_negated}
+use Rattle.om_chirotope.specs.Map.{SignMap, chi_of, negated}
+use Rattle.om_chirotope.specs.Chirotope.{IsChirotope}
 use Rattle.om_chirotope.proofs.Theory.{theory_chirotope}
 use Rattle.om_circuits.specs.SignedSets.{IsSignedSet}
 use Rattle.om_covectors.specs.CovectorSets.{IsCovectorSet}
@@ -41,13 +39,12 @@ use Rattle.om_denotation.specs.Covectors.{IsCovectorOfChirotope, IsCovectorOfCir
 use Rattle.om_denotation.specs.Denotation.{DenoteTheSame}
 use Rattle.om_denotation.specs.Dual.{dual_of}
 use Rattle.om_denotation.specs.Existence.{HasCovectors}
-use Rattle.om_denotation.specs.Maps.{IsNormalFormOf}
 use Rattle.om_denotation.proofs.ChirotopeBridge.{tuples_of, cocircuit_function, cocircuit_supported, cocircuit_list, increasing_subset}
 use Rattle.om_denotation.proofs.DualMaps.{dual_axioms}
 use Rattle.om_denotation.proofs.FamilyLaws.{cocircuit_covector, parts_both}
 use Rattle.om_denotation.proofs.FunctionLaws.{nonzero_element}
 use Rattle.om_denotation.proofs.ListExistence.{of_covectors}
-use Rattle.om_denotation.proofs.NormalForms.{normal_covectors, normal_rank, normal_elements}
+use Rattle.om_denotation.proofs.NormalForms.{normal_exists, normal_covectors, normal_rank, normal_elements}
 use Rattle.om_denotation.proofs.Uniqueness.{same_by_covectors, normal_axioms}
 use Rattle.om_propagation.specs.Hitting.{IsNonzeroOn, MeetsFamily, IsNonzeroMember, IsLeastMeeting, IsNormalOf, IsRankOfNormal}
 use Rattle.om_propagation.specs.Ranks.{IsRankFor}
@@ -112,20 +109,12 @@ covectors_rank c m h s list least =
 
 -- ---- the rank of what a list denotes
 
-normal_form : (m : SignMap) → IsChirotope m → (d : SignMap) × IsNormalFormOf m d
-normal_form m om = by_leader (leader m.signs)
-  where
-    by_leader : IsLedBy Plus m.signs ⊎ IsLedBy Minus m.signs ⊎ IsAllZero m.signs → (d : SignMap) × IsNormalFormOf m d
-    by_leader (inl p) = (m, record { same = inl refl; normal = p })
-    by_leader (inr (inl p)) = (negated m, record { same = inr refl; normal = led_negated m.signs p })
-    by_leader (inr (inr z)) = absurd (not_all_zero m om.whole z om.nonzero)
-
 same_rank : (m k : SignMap) → (k ≡ m) ⊎ (k ≡ negated m) → m.rank ≡ k.rank
 same_rank m k h = ⊎_elim (λ q. sym (ap (λ j. j.rank) q)) (λ q. sym (ap (λ j. j.rank) q)) h
 
 pub rank_for : (n : ℕ) (P : List Sign → Type 0) (m : SignMap) → IsChirotope m → m.elements ≡ n → DenoteTheSame n P (IsCovectorOfChirotope m) → (r : ℕ) → r ≡ m.rank → IsRankFor n P r
 rank_for n P m om q same r e =
-    let d = normal_form m om in
+    let d = normal_exists m om in
     record {
       each = λ k ok p other. e ∙ same_rank m k (same_by_covectors m k om ok (p ∙ sym q) (λ X l. (λ x. (other X (l ∙ q)).0 ((same X (l ∙ q)).1 x), λ x. (same X (l ∙ q)).0 ((other X (l ∙ q)).1 x))));
       map = d.0;
@@ -151,7 +140,7 @@ module _ (c : Listing) (n : ℕ) (vectors : List (List Sign)) (s : List ℕ) (q 
   pub rank_of_circuits : IsSignedSet c.elements c.members → IsRankFor c.elements (IsCovectorOfCircuits c) (n - size)
   rank_of_circuits v =
       let of = normal_of c v.lengths v.axioms in
-      let d = normal_form (dual_of of.0) (dual_axioms of.0 of.1.axioms) in
+      let d = normal_exists (dual_of of.0) (dual_axioms of.0 of.1.axioms) in
       let h = has_circuits c of.0 d.0 of.1 d.1 in
       let rank = normal_rank (dual_of of.0) d.0 d.1 in
       let known = e ∙ cocircuits_rank c.elements c.members of.0 of.1 s here_list here_least in
@@ -168,7 +157,7 @@ module _ (c : Listing) (n : ℕ) (vectors : List (List Sign)) (s : List ℕ) (q 
 
 pub rank_of_dual : (c : Listing) (rank : ℕ) → rank ≤ c.elements → IsRankFor c.elements (IsCovectorOfCircuits c) rank → (n : ℕ) → n ≡ c.elements → IsRankOfNormal c.elements c.members (n - rank)
 rank_of_dual c rank part r n q m h =
-    let d = normal_form (dual_of m) (dual_axioms m h.axioms) in
+    let d = normal_exists (dual_of m) (dual_axioms m h.axioms) in
     let k = has_circuits c m d.0 h d.1 in
     let known = r.each d.0 k.axioms k.elements k.same in
     let dual_rank = normal_rank (dual_of m) d.0 d.1 in
