@@ -3,19 +3,15 @@
 -- Main results: what was added in two steps was added in one (extended_twice, cause_later); a vector more at the end (pushed, full);
 -- when all of a family were added (gathered).
 use Rattle.std.specs.List.{Contains}
-use Rattle.std.proofs.lemmas.List.{append-nil, append_assoc, length-append, get_or_default, get_or_past}
-use Rattle.std.proofs.lemmas.Nat.Bits.{bit_at-zero, bit_at_above}
-use Rattle.std.specs.Int.{bit_at}
+use Rattle.std.proofs.lemmas.List.{append-nil, append_assoc, length-append, get_or_default}
 use Rattle.std.proofs.lemmas.Bool.{cases_lt}
 use Rattle.std.proofs.lemmas.List.Elements.{All-contains_itself, Contains-append_left, Contains-push, Contains-push_cases, Contains-get_or}
 use Rattle.std.proofs.lemmas.List.Quantifiers.{all_pairs_push}
-use Rattle.std.proofs.Common.{ℕ, ◌≡◌, ◌≢◌, ◌+◌, ◌<◌, ◌≤◌, ◌^◌, ◌⊎◌, get_or, map, List, [], ◌∷◌, ◌++◌, length, refl, sym, ap, subst, ◌∙◌, inl, inr, ⊎_elim, arith}
+use Rattle.std.proofs.Common.{ℕ, ◌≡◌, ◌≢◌, ◌+◌, ◌<◌, ◌≤◌, ◌⊎◌, get_or, map, List, [], ◌∷◌, ◌++◌, length, refl, sym, ap, subst, ◌∙◌, inl, inr, ⊎_elim, arith}
 use Rattle.om_signs.specs.declared.sign.Sign.{Sign}
-use Rattle.om_signs.specs.declared.sign.Sign.TheVariants.{Zero}
 use Rattle.om_signs.specs.declared.limits.TheConstants.{MAX_MEMBERS}
 use Rattle.om_signs.specs.Sign.{opposite}
-use Rattle.om_signs.specs.SignVec.{at, compose, IsInSupport, IsMaskOf}
-use Rattle.om_signs.proofs.Bits.{some_bit}
+use Rattle.om_signs.specs.SignVec.{at, compose}
 use Rattle.om_signs.proofs.ListPlaces.{at-map-opposite}
 use Rattle.om_laws.proofs.SignLaws.{opposite_nonzero}
 use Rattle.om_members.specs.Listings.{AreDistinct}
@@ -108,23 +104,6 @@ signed_cause V n old e c = cause_first (λ X. X ≡ V) (IsNonzeroUpToSign V) (it
 
 pub negative_cause : (V : List Sign) → HasNonzero V → (old mid : List (List Sign)) (e : ConvertError) → IsExtendedBy (λ X. X ≡ V) old mid → IsCause (IsOldOrAdded mid (λ X. X ≡ map opposite V)) e → IsCause (IsOldOrAdded old (IsNonzeroUpToSign V)) e
 negative_cause V n old mid e h c = cause_later (λ X. X ≡ V) (λ X. X ≡ map opposite V) (IsNonzeroUpToSign V) (itself V n) (negative V n) old mid e h c
-
--- ---- the support
-
-pub nonzero_from_support : (V : List Sign) (mask : ℕ) → IsMaskOf (length V) (IsInSupport V) mask → mask < 2 ^ 32 → mask ≢ 0 → HasNonzero V
-nonzero_from_support V mask m small n = by (some_bit mask n small)
-  where
-    by : (i : ℕ) × (bit_at mask i ≡ 1) → HasNonzero V
-    by (i, b) = elim (cases_lt i (length V)) [
-      | inl lt ↦ (i, (m.holds i lt).0 b)
-      | inr ge ↦ let z = bit_at_above mask (length V) i m.within ge in absurd (omega (arith, b, z))
-    ]
-
-pub zero_from_support : (V : List Sign) (mask : ℕ) → IsMaskOf (length V) (IsInSupport V) mask → mask ≡ 0 → HasNonzero V → ⊥
-zero_from_support V mask m z (i, n) = elim (cases_lt i (length V)) [
-  | inl lt ↦ let b : bit_at mask i ≡ 0 = ap (λ k. bit_at k i) z ∙ bit_at-zero i in let h = (m.holds i lt).1 n in omega (arith, b, h)
-  | inr ge ↦ n (get_or_past V i Zero ge)
-]
 
 -- ---- all of a family
 

@@ -6,6 +6,7 @@ pub mod FunctionLaws
 pub mod AxiomLaws
 pub mod Rules
 pub mod NormalForms
+pub mod Supports
 pub mod Uniqueness
 pub mod DualMaps
 pub mod ListingSigns

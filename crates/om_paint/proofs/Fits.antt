@@ -2,21 +2,17 @@
 --
 -- Main results: what the masks of a colouring allow is what fits it (allowed_both); the families that the searches go over are those of the painting lemma
 -- (fitting_circuits, fitting_cocircuits, first_fitting, none_fitting, first_cofitting, not_unpainted).
-use Rattle.std.proofs.Common.{ℕ, ◌≡◌, ◌≢◌, ◌+◌, ◌-◌, ◌<◌, ◌≤◌, ◌^◌, ◌↔◌, List, length, get_or, refl, sym, ap, subst, ◌∙◌, inl, inr, ⊎_elim, arith}
+use Rattle.std.proofs.Common.{ℕ, ◌≡◌, ◌≢◌, ◌+◌, ◌-◌, ◌<◌, ◌≤◌, ◌↔◌, List, length, get_or, refl, sym, subst, ◌∙◌, ⊎_elim, arith}
 use Rattle.std.specs.Prelude.{Option}
 use Rattle.std.specs.Int.{bit_at}
-use Rattle.std.proofs.lemmas.Nat.Bits.{bit_at-zero, bit_at_above}
-use Rattle.std.proofs.lemmas.Bool.{cases_lt}
-use Rattle.std.proofs.lemmas.List.{get_or_past}
 use Rattle.om_signs.specs.declared.sign.Sign.{Sign}
 use Rattle.om_signs.specs.declared.sign.Sign.TheVariants.{Minus, Zero, Plus}
-use Rattle.om_signs.specs.SignVec.{at, at_element, IsMaskOf, IsInSupport}
-use Rattle.om_signs.proofs.Bits.{some_bit}
+use Rattle.om_signs.specs.SignVec.{at, at_element, IsMaskOf}
 use Rattle.om_laws.specs.Colours.{red, green, black, white, IsColoured}
 use Rattle.om_laws.specs.Colours as laws
 use Rattle.om_chirotope.specs.Map.{SignMap}
 use Rattle.om_chirotope.specs.Chirotope.{IsChirotope}
-use Rattle.om_denotation.specs.Circuits.{HasNonzero, IsCircuitOfChirotope, IsCocircuitOfChirotope}
+use Rattle.om_denotation.specs.Circuits.{IsCircuitOfChirotope, IsCocircuitOfChirotope}
 use Rattle.om_denotation.specs.Painting.{IsFittingCircuit, IsFittingCocircuit}
 use Rattle.om_denotation.proofs.ChirotopeBridge.{circuit_length, cocircuit_length}
 use Rattle.om_denotation.proofs.FamilyLaws.{painting_one}
@@ -26,23 +22,6 @@ use Rattle.om_paint.specs.Paintings.{shade, colouring, FitsCircuit, FitsCocircui
 use Rattle.om_paint.specs.Classes.{IsAllowed}
 use Rattle.om_paint.proofs.Firsts.{first_same}
 use Rattle.om_paint.proofs.Masks.{inside, plus_not_zero, minus_not_zero}
-
--- ---- masks
-
-pub nonzero_from_support : (V : List Sign) (mask : ℕ) → IsMaskOf (length V) (IsInSupport V) mask → mask < 2 ^ 32 → mask ≢ 0 → HasNonzero V
-nonzero_from_support V mask m small n = by (some_bit mask n small)
-  where
-    by : (i : ℕ) × (bit_at mask i ≡ 1) → HasNonzero V
-    by (i, b) = elim (cases_lt i (length V)) [
-      | inl lt ↦ (i, (m.holds i lt).0 b)
-      | inr ge ↦ let z = bit_at_above mask (length V) i m.within ge in absurd (omega (arith, b, z))
-    ]
-
-pub zero_from_support : (V : List Sign) (mask : ℕ) → IsMaskOf (length V) (IsInSupport V) mask → mask ≡ 0 → HasNonzero V → ⊥
-zero_from_support V mask m z (i, n) = elim (cases_lt i (length V)) [
-  | inl lt ↦ let b : bit_at mask i ≡ 0 = ap (λ k. bit_at k i) z ∙ bit_at-zero i in let h = (m.holds i lt).1 n in omega (arith, b, h)
-  | inr ge ↦ n (get_or_past V i Zero ge)
-]
 
 -- ---- the masks of a colouring
 

@@ -2,7 +2,7 @@ use Rattle.std.proofs.Common.{◌<◌, length, subst, arith}
 use Rattle.std.specs.Prelude.{None}
 use Rattle.std.proofs.lemmas.List.{get_or_default}
 use Rattle.om_paint.specs.Paintings.{ComesBefore}
-use Rattle.om_paint.proofs.Fits.{nonzero_from_support, zero_from_support}
+use Rattle.om_denotation.proofs.Supports.{nonzero_from_support, zero_from_support}
 use Rattle.om_paint.proofs.Firsts.{kept_zero, put}
 use Rattle.om_paint.proofs.search.meet.Goals as goal
 

@@ -2,7 +2,8 @@ use Rattle.std.proofs.Common.{subst, ◌≡◌}
 use Rattle.std.proofs.lemmas.Result.{err_from_is_err_and}
 use Rattle.om_convert.specs.Gathering.{IsExtendedBy, IsOldOrAdded}
 use Rattle.om_convert.specs.Limits.{IsCause}
-use Rattle.om_convert.proofs.GatheringLaws.{zero_added, signed_added, signed_cause, negative_cause, nonzero_from_support, zero_from_support}
+use Rattle.om_denotation.proofs.Supports.{nonzero_from_support, zero_from_support}
+use Rattle.om_convert.proofs.GatheringLaws.{zero_added, signed_added, signed_cause, negative_cause}
 use Rattle.om_convert.proofs.member_set.MemberSet.insert_signed.Goals as goal
 
 pub returns-in_err-insert-clause-many : goal.returns-in_err-insert-clause-many
