@@ -2,7 +2,7 @@
 --
 -- Main results: following_none and following_next, for one step of the walk; number_first, number_next and number_last, for
 -- the count; number_exceeds, that no statement has the number k where there are at most k; same_number, that a number belongs
--- to one statement; before_first and none_lawful, for the number 0.
+-- to one statement; before_first and none_lawful, for the number 0; increasing_push, that a list with a later statement at its end increases.
 use Rattle.std.specs.Prelude.{ℕ, ◌≡◌, ◌+◌, ◌*◌, ◌<◌, ◌≤◌, ◌⊎◌, ◌↔◌, List, [], ◌∷◌, ◌++◌, length, Option, Some, None, IsNone, IfNone, IfSome}
 use Rattle.std.specs.List.{Contains}
 use Rattle.std.proofs.Common.{refl, sym, ◌∙◌, ap, subst, arith, inl, inr, length-append}
@@ -49,7 +49,7 @@ head_member x xs = Contains-append_left (x ∷ []) xs x (Contains-push [] x)
 tail_member : (x : Statement) (xs : List Statement) (u : Statement) → Contains xs u → Contains (x ∷ xs) u
 tail_member x xs u c = Contains-append_right (x ∷ []) xs u c
 
-increasing_push : (xs : List Statement) (t : Statement) → IsIncreasing xs → ((u : Statement) → Contains xs u → IsBefore u t) → IsIncreasing (xs ++ t ∷ [])
+pub increasing_push : (xs : List Statement) (t : Statement) → IsIncreasing xs → ((u : Statement) → Contains xs u → IsBefore u t) → IsIncreasing (xs ++ t ∷ [])
 increasing_push [] t h before = tt
 increasing_push (x ∷ []) t h before = (before x (head_member x []), tt)
 increasing_push (x ∷ y ∷ ys) t h before = (h.0, increasing_push (y ∷ ys) t h.1 (λ u c. before u (tail_member x (y ∷ ys) u c)))
