@@ -96,71 +96,71 @@ fn carry_out<R: Threads + Sync, S: Source, K: Sink>(
     ensures source_later { S.faults source.old ≤ S.faults source.new }
     ensures sink_later { K.faults sink.old ≤ K.faults sink.new }
 {
-    match decide(rt, alloc, task, source) {
+    match find_answer(rt, alloc, task, source) {
         Ok(answer) => write_answer(alloc, &answer, sink),
-        Err(Undecided::ReadFault) => Status::ReadFault,
-        Err(Undecided::NoMemory) => Status::NoMemory,
+        Err(Unanswered::ReadFault) => Status::ReadFault,
+        Err(Unanswered::NoMemory) => Status::NoMemory,
     }
 }
 
 /// Why there is no answer to be written.
 #[derive(Clone, Copy)]
-enum Undecided {
+enum Unanswered {
     ReadFault,
     NoMemory,
 }
 
-impl From<NoMemory> for Undecided {
-    ghost use Rattle.om_program.specs.declared.run.Undecided.TheVariants as undecided;
+impl From<NoMemory> for Unanswered {
+    ghost use Rattle.om_program.specs.declared.run.Unanswered.TheVariants as unanswered;
 
-    ghost from_gives = { λ _ e. e ≡ undecided.NoMemory };
+    ghost from_gives = { λ _ e. e ≡ unanswered.NoMemory };
 
     fn from(_: NoMemory) -> Self {
-        Undecided::NoMemory
+        Unanswered::NoMemory
     }
 }
 
-/// Decides the answer to a task, and reads what it needs.
-fn decide<R: Threads + Sync, S: Source>(
+/// The answer to a task. An input is read only where the task reads one.
+fn find_answer<R: Threads + Sync, S: Source>(
     rt: &R,
     alloc: Global,
     task: Task,
     source: &mut S,
-) -> Result<Answer, Undecided>
+) -> Result<Answer, Unanswered>
     requires { HasLawfulArguments task }
     ensures meant { IfOk result (IsMeantBy (TaskMeans task) (S.left source.old)) }
     ensures reply { IfOk result IsReply }
-    ensures read { result ≡ Err Undecided.ReadFault → Rose (S.faults source.old) (S.faults source.new) }
+    ensures read { result ≡ Err Unanswered.ReadFault → Rose (S.faults source.old) (S.faults source.new) }
     ensures unread { reads task ≡ Reads.Nothing → source.new ≡ source.old }
     ensures prefix { TakesSome (S.left source.old) (S.left source.new) }
     ensures later { S.faults source.old ≤ S.faults source.new }
 {
     match task.reads() {
-        Reads::Document | Reads::Claim => decide_input(rt, alloc, task, source),
+        Reads::Document | Reads::Claim => read_and_answer(rt, alloc, task, source),
         Reads::Nothing => Ok(answer_alone(rt, alloc, task)?),
     }
 }
 
-/// Reads the input, and decides the answer to a task on it.
-fn decide_input<R: Threads + Sync, S: Source>(
+/// Reads the input, and answers the task on it.
+fn read_and_answer<R: Threads + Sync, S: Source>(
     rt: &R,
     alloc: Global,
     task: Task,
     source: &mut S,
-) -> Result<Answer, Undecided>
+) -> Result<Answer, Unanswered>
     requires lawful { HasLawfulArguments task }
     requires reading { reads task ≡ Reads.Nothing → ⊥ }
     ensures meant { IfOk result (IsMeantBy (TaskMeans task) (S.left source.old)) }
     ensures reply { IfOk result IsReply }
-    ensures read { result ≡ Err Undecided.ReadFault → Rose (S.faults source.old) (S.faults source.new) }
+    ensures read { result ≡ Err Unanswered.ReadFault → Rose (S.faults source.old) (S.faults source.new) }
     ensures prefix { TakesSome (S.left source.old) (S.left source.new) }
     ensures later { S.faults source.old ≤ S.faults source.new }
 {
     match read_all(alloc, source, MAX_INPUT) {
         Ok(bytes) => Ok(answer_input(rt, alloc, task, bytes.as_slice())?),
         Err(ReadError::TooLong) => Ok(Answer::Line(Line::RefusedLong)),
-        Err(ReadError::ReadFault) => Err(Undecided::ReadFault),
-        Err(ReadError::Memory) => Err(Undecided::NoMemory),
+        Err(ReadError::ReadFault) => Err(Unanswered::ReadFault),
+        Err(ReadError::Memory) => Err(Unanswered::NoMemory),
     }
 }
 

@@ -3,7 +3,7 @@ use Rattle.std.proofs.Common.{ap}
 use Rattle.om_program.specs.Meaning.{TaskMeans, long}
 use Rattle.om_program.proofs.MeaningLaws.{meant_of_long}
 use Rattle.om_program.proofs.ReplyLaws.{task_replies}
-use Rattle.om_program.proofs.run.decide_input.Goals as goal
+use Rattle.om_program.proofs.run.read_and_answer.Goals as goal
 
 pub returns-in_ok-answer_input-in-Ok-clause-reply : goal.returns-in_ok-answer_input-in-Ok-clause-reply
 returns-in_ok-answer_input-in-Ok-clause-reply g c = task_replies _ _ _ c.in_ok-answer_input-in-Ok.ensures
