@@ -1,7 +1,7 @@
 -- Extensions as answers, and the text of their list.
 --
--- Main results: a listing and the two errors as answers (listing_meant, rank_meant, full_meant); one more signature (signatures_more); the whole text
--- (extensions_made).
+-- Main results: a listing and the two errors as answers (listing_meant, rank_meant, full_meant); one more signature (signatures_more); the whole text,
+-- behind what was there (extensions_pushed).
 use Rattle.std.specs.Prelude.{ℕ, ◌≡◌, ◌≢◌, ◌↔◌, ◌+◌, ◌<◌, ◌≤◌, Result, Ok, IsErrOf, refl, List, [], ◌∷◌, ◌++◌, codes, length, take}
 use Rattle.std.specs.Fmt.{decimal}
 use Rattle.std.proofs.Common.{inl, inr, arith, get_or, sym, ap, subst, ◌∙◌, append_assoc}
@@ -22,6 +22,7 @@ use Rattle.om_answer.specs.Texts.{signs_text}
 use Rattle.om_program.specs.Answers.{says, lists_extensions}
 use Rattle.om_program.specs.ExtensionLists.{AreExtensionsOfMap, other_rank, full, listed}
 use Rattle.om_program.specs.ExtensionTexts.{signature_lines, last_word, extensions_text}
+use Rattle.om_program.proofs.BehindLaws.{put_behind}
 use Rattle.om_program.proofs.RankThreeLaws.{no_error}
 
 -- ---- the answer for a map
@@ -81,9 +82,12 @@ extensions_bytes n lines word =
     ∙ append_assoc (codes "om 1\nextensions " ++ decimal n) (10 ∷ []) (body ++ (word ++ 10 ∷ []))
     ∙ ap (λ r. codes "om 1\nextensions " ++ decimal n ++ 10 ∷ r) (sym (text_of-append (signature_lines lines) (word ∷ [])))
 
-pub extensions_made : (n : ℕ) (l : Listing) (k : ℕ) (slice : List (List Sign)) (empty name count head body word last whole : List ℕ) → k ≡ n → slice ≡ l.lines → word ≡ last_word l.more → empty ≡ [] → name ≡ empty ++ codes "om 1\nextensions " → count ≡ name ++ decimal k → head ≡ count ++ 10 ∷ [] → body ≡ head ++ text_of (signature_lines slice) → last ≡ body ++ word → whole ≡ last ++ 10 ∷ [] → whole ≡ extensions_text n l
-extensions_made n l k slice empty name count head body word last whole number same behind e a b c d f g =
-    let t : body ≡ head ++ text_of (signature_lines l.lines) = d ∙ ap (λ s. head ++ text_of (signature_lines s)) same in
-    let start : head ≡ (codes "om 1\nextensions " ++ decimal n) ++ 10 ∷ [] = c ∙ ap (λ x. x ++ 10 ∷ []) (b ∙ ap (λ j. name ++ decimal j) number ∙ ap (λ x. x ++ decimal n) (a ∙ ap (λ x. x ++ codes "om 1\nextensions ") e)) in
-    g ∙ ap (λ x. x ++ 10 ∷ []) (f ∙ ap (λ w. body ++ w) behind ∙ ap (λ x. x ++ last_word l.more) (t ∙ ap (λ x. x ++ text_of (signature_lines l.lines)) start))
-    ∙ extensions_bytes n l.lines (last_word l.more)
+pub extensions_pushed : (base : List ℕ) (n : ℕ) (l : Listing) (k : ℕ) (slice : List (List Sign)) (name count head body word last whole : List ℕ) → k ≡ n → slice ≡ l.lines → word ≡ last_word l.more → name ≡ base ++ codes "om 1\nextensions " → count ≡ name ++ decimal k → head ≡ count ++ 10 ∷ [] → body ≡ head ++ text_of (signature_lines slice) → last ≡ body ++ word → whole ≡ last ++ 10 ∷ [] → whole ≡ base ++ extensions_text n l
+extensions_pushed base n l k slice name count head body word last whole number same behind a b c d f g =
+    let words : List ℕ = codes "om 1\nextensions " in
+    let size : count ≡ base ++ (words ++ decimal n) = put_behind base name words (decimal n) count a (b ∙ ap (λ j. name ++ decimal j) number) in
+    let start : head ≡ base ++ ((words ++ decimal n) ++ 10 ∷ []) = put_behind base count (words ++ decimal n) (10 ∷ []) head size c in
+    let lines = put_behind base head ((words ++ decimal n) ++ 10 ∷ []) (text_of (signature_lines l.lines)) body start (d ∙ ap (λ s. head ++ text_of (signature_lines s)) same) in
+    let named = put_behind base body (((words ++ decimal n) ++ 10 ∷ []) ++ text_of (signature_lines l.lines)) (last_word l.more) last lines (f ∙ ap (λ w. body ++ w) behind) in
+    let all = put_behind base last ((((words ++ decimal n) ++ 10 ∷ []) ++ text_of (signature_lines l.lines)) ++ last_word l.more) (10 ∷ []) whole named g in
+    all ∙ ap (λ x. base ++ x) (extensions_bytes n l.lines (last_word l.more))

@@ -1,6 +1,6 @@
 -- The text of a hull, and acyclic chirotopes.
 --
--- Main results: a line (element_pushed); one more item (items_more); the whole text (hull_bytes); a hull without an error is acyclic
+-- Main results: a line (element_pushed); one more item (items_more); the whole text, behind what was there (hull_pushed); a hull without an error is acyclic
 -- (acyclic_of_hull); a circuit without a minus as the answer (cyclic_meant).
 use Rattle.std.specs.Prelude.{ℕ, ◌≡◌, ◌↔◌, ◌+◌, ◌<◌, List, [], ◌∷◌, ◌++◌, codes, length, take, Result, Ok, IsErrAnd}
 use Rattle.std.proofs.Common.{get_or, arith, sym, ap, subst, ◌∙◌, append_assoc}
@@ -18,6 +18,7 @@ use Rattle.om_text.proofs.Printing.{text_of-append}
 use Rattle.om_program.specs.declared.answer.Answer.{Answer}
 use Rattle.om_program.specs.Hulls.{IsHullOfMap, IsCyclicAnswer, cyclic}
 use Rattle.om_program.specs.HullTexts.{item_text, item_lines, hull_text}
+use Rattle.om_program.proofs.BehindLaws.{put_behind}
 
 -- ---- texts
 
@@ -40,11 +41,17 @@ items_more base out new items i x l e o n =
     n ∙ ap (λ y. y ++ (item_text (i + 1) x ++ 10 ∷ [])) o
     ∙ append_assoc base (text_of (item_lines 1 (take i items))) (item_text (i + 1) x ++ 10 ∷ []) ∙ ap (λ y. base ++ y) (sym a)
 
-pub hull_bytes : (items : List Painted) → (codes "acyclic\n" ++ text_of (item_lines 1 items)) ++ codes "end\n" ≡ hull_text items
+hull_bytes : (items : List Painted) → (codes "acyclic\n" ++ text_of (item_lines 1 items)) ++ codes "end\n" ≡ hull_text items
 hull_bytes items =
     let last : List (List ℕ) = codes "end" ∷ [] in
     append_assoc (codes "acyclic\n") (text_of (item_lines 1 items)) (text_of last)
     ∙ ap (λ r. codes "acyclic" ++ 10 ∷ r) (sym (text_of-append (item_lines 1 items) last))
+
+pub hull_pushed : (base : List ℕ) (items : List Painted) (head body whole : List ℕ) → head ≡ base ++ codes "acyclic\n" → body ≡ head ++ text_of (item_lines 1 items) → whole ≡ body ++ codes "end\n" → whole ≡ base ++ hull_text items
+hull_pushed base items head body whole a b c =
+    let lines = put_behind base head (codes "acyclic\n") (text_of (item_lines 1 items)) body a b in
+    let all = put_behind base body (codes "acyclic\n" ++ text_of (item_lines 1 items)) (codes "end\n") whole lines c in
+    all ∙ ap (λ x. base ++ x) (hull_bytes items)
 
 -- ---- acyclic chirotopes
 

@@ -1,4 +1,5 @@
 mod AboveLaws
+mod BehindLaws
 mod ClaimLaws
 mod CompletenessLaws
 mod ConversionLaws

@@ -1,6 +1,6 @@
 -- The text of a list of mutations.
 --
--- Main results: one more set (sets_more); the whole text (mutations_made).
+-- Main results: one more set (sets_more); the whole text, behind what was there (mutations_pushed).
 use Rattle.std.specs.Prelude.{ℕ, ◌≡◌, ◌+◌, ◌<◌, List, [], ◌∷◌, ◌++◌, codes, length, take}
 use Rattle.std.specs.Fmt.{decimal}
 use Rattle.std.proofs.Common.{get_or, sym, ap, ◌∙◌, append_assoc}
@@ -10,6 +10,7 @@ use Rattle.om_text.specs.Print.{text_of}
 use Rattle.om_text.proofs.Printing.{text_of-append}
 use Rattle.om_answer.specs.Texts.{subset_text}
 use Rattle.om_program.specs.MutationTexts.{set_lines, mutations_text}
+use Rattle.om_program.proofs.BehindLaws.{put_behind}
 
 pub sets_more : (base out new : List ℕ) (sets : List Chosen) (i : ℕ) (s : Chosen) → i < length sets → s ≡ get_or sets i s → out ≡ base ++ text_of (set_lines (take i sets)) → new ≡ (out ++ subset_text s.elements) ++ 10 ∷ [] → new ≡ base ++ text_of (set_lines (take (i + 1) sets))
 sets_more base out new sets i s l e o n =
@@ -27,7 +28,10 @@ mutations_bytes sets =
     ∙ append_assoc (codes "mutations " ++ size) (10 ∷ []) (text_of (set_lines sets) ++ text_of last)
     ∙ ap (λ r. codes "mutations " ++ size ++ 10 ∷ r) (sym (text_of-append (set_lines sets) last))
 
-pub mutations_made : (sets slice : List Chosen) (n : ℕ) (empty name count head body whole : List ℕ) → n ≡ length sets → slice ≡ sets → empty ≡ [] → name ≡ empty ++ codes "mutations " → count ≡ name ++ decimal n → head ≡ count ++ 10 ∷ [] → body ≡ head ++ text_of (set_lines slice) → whole ≡ body ++ codes "end\n" → whole ≡ mutations_text sets
-mutations_made sets slice n empty name count head body whole size same e a b c d f =
-    f ∙ ap (λ x. x ++ codes "end\n") (d ∙ ap (λ s. head ++ text_of (set_lines s)) same ∙ ap (λ x. x ++ text_of (set_lines sets)) (c ∙ ap (λ x. x ++ 10 ∷ []) (b ∙ ap (λ x. x ++ decimal n) (a ∙ ap (λ x. x ++ codes "mutations ") e) ∙ ap (λ k. codes "mutations " ++ decimal k) size)))
-    ∙ mutations_bytes sets
+pub mutations_pushed : (base : List ℕ) (sets : List Chosen) (name count head body whole : List ℕ) → name ≡ base ++ codes "mutations " → count ≡ name ++ decimal (length sets) → head ≡ count ++ 10 ∷ [] → body ≡ head ++ text_of (set_lines sets) → whole ≡ body ++ codes "end\n" → whole ≡ base ++ mutations_text sets
+mutations_pushed base sets name count head body whole a b c d f =
+    let e : count ≡ base ++ (codes "mutations " ++ decimal (length sets)) = put_behind base name (codes "mutations ") (decimal (length sets)) count a b in
+    let g : head ≡ base ++ ((codes "mutations " ++ decimal (length sets)) ++ 10 ∷ []) = put_behind base count (codes "mutations " ++ decimal (length sets)) (10 ∷ []) head e c in
+    let h = put_behind base head ((codes "mutations " ++ decimal (length sets)) ++ 10 ∷ []) (text_of (set_lines sets)) body g d in
+    let i = put_behind base body (((codes "mutations " ++ decimal (length sets)) ++ 10 ∷ []) ++ text_of (set_lines sets)) (codes "end\n") whole h f in
+    i ∙ ap (λ x. base ++ x) (mutations_bytes sets)

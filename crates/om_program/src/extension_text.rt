@@ -17,13 +17,20 @@ pub fn print_extensions(alloc: Global, elements: u8, listing: &Listing) -> Resul
     ensures { IfOk result (λ text. text.items ≡ extensions_text elements listing.now) }
 {
     let mut text = Vec::new(alloc);
-    push(&mut text, b"om 1\nextensions ")?;
-    push_decimal(&mut text, u128::from(elements))?;
-    push_line_feed(&mut text)?;
-    push_signatures(&mut text, listing.lines.as_slice())?;
-    push(&mut text, last_word(listing.more))?;
-    push_line_feed(&mut text)?;
+    push_extensions(&mut text, elements, listing)?;
     Ok(text)
+}
+
+/// Puts the text of a list of extensions at the end.
+fn push_extensions(text: &mut Vec<u8>, elements: u8, listing: &Listing) -> Result<(), NoMemory>
+    ensures { OnOk result (text.new.items ≡ text.old.items ++ extensions_text elements listing.now) }
+{
+    push(text, b"om 1\nextensions ")?;
+    push_decimal(text, u128::from(elements))?;
+    push_line_feed(text)?;
+    push_signatures(text, listing.lines.as_slice())?;
+    push(text, last_word(listing.more))?;
+    push_line_feed(text)
 }
 
 /// The last word of a list: whether it goes on behind its last line.

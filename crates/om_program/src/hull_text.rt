@@ -6,18 +6,25 @@ ghost use Rattle.om_program.specs.HullTexts.{element_text, item_text, item_lines
 
 use om_answer::pieces::{push, push_decimal, push_line_feed, push_vector};
 use om_paint::Painted;
-use om_signs::{List, NoMemory, SignVec};
+use om_signs::{NoMemory, SignVec};
 use std::alloc::Global;
 
 /// The text of a hull: `acyclic`, a line for each element, and `end`.
-pub fn print_hull(alloc: Global, items: &List<Painted>) -> Result<Vec<u8>, NoMemory>
+pub fn print_hull(alloc: Global, items: &[Painted]) -> Result<Vec<u8>, NoMemory>
     ensures { IfOk result (λ text. text.items ≡ hull_text items.now) }
 {
     let mut text = Vec::new(alloc);
-    push(&mut text, b"acyclic\n")?;
-    push_items(&mut text, items.as_slice())?;
-    push(&mut text, b"end\n")?;
+    push_hull(&mut text, items)?;
     Ok(text)
+}
+
+/// Puts the text of a hull at the end.
+fn push_hull(text: &mut Vec<u8>, items: &[Painted]) -> Result<(), NoMemory>
+    ensures { OnOk result (text.new.items ≡ text.old.items ++ hull_text items.now) }
+{
+    push(text, b"acyclic\n")?;
+    push_items(text, items)?;
+    push(text, b"end\n")
 }
 
 /// Puts the lines of the elements from 1 on at the end.

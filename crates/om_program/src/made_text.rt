@@ -2,7 +2,7 @@
 
 ghost use Rattle.std.specs.Prelude.{◌≡◌, ◌≤◌, ◌++◌, ◌∷◌, [], All, IfOk, OnOk, length, decimal, map};
 ghost use Rattle.om_text.specs.Form.{IsPoint};
-ghost use Rattle.om_text.specs.Print.{text_of};
+ghost use Rattle.om_text.specs.Print.{printed, text_of};
 ghost use Rattle.om_answer.specs.VerdictText.{vector_numbers};
 ghost use Rattle.om_program.specs.MadeTexts.{made_text, points_document, tally_lines};
 
@@ -19,10 +19,18 @@ pub fn print_made(alloc: Global, vectors: &Word, tally: &Tally) -> Result<Vec<u8
     requires { 1 ≤ length vectors.now }
     ensures { IfOk result (λ text. text.items ≡ made_text vectors.now tally.now) }
 {
-    let document = points_document(alloc, vectors)?;
-    let mut text = print(alloc, &document)?;
+    let mut text = print_points(alloc, vectors)?;
     push_tally(&mut text, tally)?;
     Ok(text)
+}
+
+/// The text of the document of points with the coordinates of vectors.
+fn print_points(alloc: Global, vectors: &Word) -> Result<Vec<u8>, NoMemory>
+    requires { 1 ≤ length vectors.now }
+    ensures { IfOk result (λ text. text.items ≡ printed (points_document vectors.now)) }
+{
+    let document = points_document(alloc, vectors)?;
+    print(alloc, &document)
 }
 
 /// The document of points with the coordinates of vectors.

@@ -5,21 +5,28 @@ ghost use Rattle.om_text.specs.Print.{text_of};
 ghost use Rattle.om_program.specs.MutationTexts.{set_lines, mutations_text};
 
 use om_answer::pieces::{push, push_decimal, push_line_feed, push_subset};
-use om_signs::{List, NoMemory};
+use om_signs::NoMemory;
 use om_subsets::Subset;
 use std::alloc::Global;
 
 /// The text of a list of mutations: a line that says how many there are, a line for each, and `end`.
-pub fn print_mutations(alloc: Global, sets: &List<Subset>) -> Result<Vec<u8>, NoMemory>
+pub fn print_mutations(alloc: Global, sets: &[Subset]) -> Result<Vec<u8>, NoMemory>
     ensures { IfOk result (λ text. text.items ≡ mutations_text sets.now) }
 {
     let mut text = Vec::new(alloc);
-    push(&mut text, b"mutations ")?;
-    push_decimal(&mut text, sets.len() as u128)?;
-    push_line_feed(&mut text)?;
-    push_sets(&mut text, sets.as_slice())?;
-    push(&mut text, b"end\n")?;
+    push_mutations(&mut text, sets)?;
     Ok(text)
+}
+
+/// Puts the text of a list of mutations at the end.
+fn push_mutations(text: &mut Vec<u8>, sets: &[Subset]) -> Result<(), NoMemory>
+    ensures { OnOk result (text.new.items ≡ text.old.items ++ mutations_text sets.now) }
+{
+    push(text, b"mutations ")?;
+    push_decimal(text, sets.len() as u128)?;
+    push_line_feed(text)?;
+    push_sets(text, sets)?;
+    push(text, b"end\n")
 }
 
 /// Puts sets at the end, one a line.

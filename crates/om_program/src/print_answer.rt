@@ -22,9 +22,9 @@ pub fn print_answer(alloc: Global, answer: &Answer) -> Result<Vec<u8>, NoMemory>
         Answer::Line(line) => print_line(alloc, line),
         Answer::Document(document) => print(alloc, document),
         Answer::Upgraded(document) => print_two(alloc, document),
-        Answer::Mutations(sets) => print_mutations(alloc, sets),
+        Answer::Mutations(sets) => print_mutations(alloc, sets.as_slice()),
         Answer::Extensions { elements, listing } => print_extensions(alloc, *elements, listing),
-        Answer::Hull(items) => print_hull(alloc, items),
+        Answer::Hull(items) => print_hull(alloc, items.as_slice()),
         Answer::Verdict { chirotope, verdict } => print_verdict(alloc, chirotope, verdict),
         Answer::Made { vectors, tally } => print_made(alloc, vectors, tally),
     }
