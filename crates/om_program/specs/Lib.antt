@@ -21,6 +21,7 @@ pub mod MutationLists
 pub mod ExtensionLists
 pub mod Flips
 pub mod Paintings
+pub mod Paintable
 pub mod Hulls
 pub mod LexicalExtensions
 pub mod MadeInputs

@@ -1,9 +1,12 @@
 //! What fits colours of the elements of an oriented matroid.
 
-ghost use Rattle.std.specs.Prelude.{◌≡◌, ◌≤◌, ◌↔◌, IfOk, IsTrue, length};
+ghost use Rattle.std.specs.Prelude.{◌≡◌, ◌≤◌, ◌↔◌, IfOk, IsTrue, MatchOption, length};
 ghost use Rattle.om_laws.specs.Colours.{IsColoured};
 ghost use Rattle.om_paint.specs.Paintings.{colouring};
-ghost use Rattle.om_program.specs.Paintings.{IsPainting, painted_line};
+ghost use Rattle.om_text.specs.declared.document.Document.{Document};
+ghost use Rattle.om_program.specs.Answers.{says};
+ghost use Rattle.om_program.specs.Paintings.{IsPainting, IsPaintingOfMap, painted_line};
+ghost use Rattle.om_program.specs.Paintable.{IsPaintable};
 ghost use Rattle.om_program.specs.Represented.{IsMeantFor};
 ghost use Rattle.om_words.specs.Tasks.{HasElement};
 
@@ -11,8 +14,9 @@ use super::answer::Answer;
 use super::chirotope_choice::choose_chirotope;
 use super::representation::Representation;
 use om_answer::Line;
+use om_chirotope::Chirotope;
 use om_paint::{Colour, Painted, paint};
-use om_signs::NoMemory;
+use om_signs::{MAX_ELEMENTS, NoMemory};
 use om_words::Colouring;
 use std::alloc::Global;
 
@@ -26,23 +30,44 @@ pub fn find_painting(
     requires { HasElement given }
     ensures { IfOk result (IsMeantFor (IsPainting given) representation) }
 {
-    let n = representation.elements();
-    if given.count != n {
-        return Ok(Answer::Line(Line::RefusedLength {
-            given: u32::from(given.count),
-        }));
-    }
-    if n < given.e {
-        return Ok(Answer::Line(Line::RefusedPlace { e: given.e }));
-    }
-    let colours = &given.colours[..given.count as usize];
-    if !is_coloured(colours, given.e) {
-        return Ok(Answer::Line(Line::RefusedColour { e: given.e }));
+    if let Some(why) = painting_refusal(representation.elements(), &given) {
+        return Ok(Answer::Line(why));
     }
     match choose_chirotope(alloc, representation) {
-        Ok(chirotope) => Ok(Answer::Line(painted_line(paint(&chirotope, colours, given.e)))),
+        Ok(chirotope) => Ok(Answer::Line(find_painting_of(&chirotope, &given))),
         Err(why) => why.width_answer(),
     }
+}
+
+/// The line that refuses colours of the elements from 1 to n, where there is one.
+fn painting_refusal(n: u8, given: &Colouring) -> Option<Line>
+    requires high { n ≤ MAX_ELEMENTS }
+    requires element { HasElement given.now }
+    ensures { MatchOption result (IsPaintable given.now n) (λ why. (d : Document) → d.elements ≡ n → IsPainting given.now d (says why)) }
+{
+    if given.count != n {
+        return Some(Line::RefusedLength {
+            given: u32::from(given.count),
+        });
+    }
+    if n < given.e {
+        return Some(Line::RefusedPlace { e: given.e });
+    }
+    if !is_coloured(&given.colours[..given.count as usize], given.e) {
+        return Some(Line::RefusedColour { e: given.e });
+    }
+    None
+}
+
+/// The line that names what fits colours in a chirotope.
+fn find_painting_of(chirotope: &Chirotope, given: &Colouring) -> Line
+    requires element { HasElement given.now }
+    requires lawful { IsPaintable given.now chirotope.now.elements }
+    ensures { IsPaintingOfMap given.now chirotope.now (says result) }
+{
+    chirotope.is_lawful();
+    let colours = &given.colours[..given.count as usize];
+    painted_line(paint(chirotope, colours, given.e))
 }
 
 /// Whether an element is red or green. The colours are those of the elements from 1 on.
