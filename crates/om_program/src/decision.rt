@@ -39,10 +39,9 @@ fn judge_chirotope(
     ensures { IfOk result (DecisionMeans chirotope budgets) }
 {
     chirotope.is_lawful();
-    let r = chirotope.rank();
     match decide(alloc, &chirotope, budgets) {
         Ok(verdict) => Ok(Answer::Verdict { chirotope, verdict }),
-        Err(DecideError::NotRank3 { .. }) => Ok(Answer::Line(Line::RefusedNotrank3 { r })),
+        Err(DecideError::NotRank3 { r }) => Ok(Answer::Line(Line::RefusedNotrank3 { r })),
         Err(DecideError::Memory) => Err(NoMemory),
     }
 }

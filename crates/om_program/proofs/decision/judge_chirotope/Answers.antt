@@ -1,13 +1,15 @@
 use Rattle.std.proofs.Common.{subst}
 use Rattle.om_decide.specs.Answers.{IsRefusal}
-use Rattle.om_program.specs.Decisions.{other_rank, decided}
+use Rattle.om_answer.specs.declared.line.Line.TheVariants as line
+use Rattle.om_program.specs.Answers.{says}
+use Rattle.om_program.specs.Decisions.{DecisionMeans, other_rank, decided}
 use Rattle.om_program.proofs.DecisionLaws.{verdict_decided}
 use Rattle.om_program.proofs.decision.judge_chirotope.Goals as goal
 
 pub returns-in-Ok : goal.returns-in-Ok
-returns-in-Ok c = decided c.in-Ok.verdict (verdict_decided c.args.chirotope c.args.budgets c.in-Ok.verdict c.is_lawful.ensures.low c.is_lawful.ensures.high c.rank-r.ensures.lawful c.in-Ok.ensures.verdict c.in-Ok.ensures.form)
+returns-in-Ok c = decided c.in-Ok.verdict (verdict_decided c.args.chirotope c.args.budgets c.in-Ok.verdict c.is_lawful.ensures.low c.is_lawful.ensures.high c.is_lawful.ensures.lawful c.in-Ok.ensures.verdict c.in-Ok.ensures.form)
 
 pub returns-in-Err-NotRank3 : goal.returns-in-Err-NotRank3
 returns-in-Err-NotRank3 c =
     let refused = subst (IsRefusal c.args.chirotope) c.in-Err-NotRank3.field-0-is c.in-Err-NotRank3.ensures.refused in
-    rw c.rank-r.ensures.value (other_rank refused.1)
+    rw c.in-Err-NotRank3.r-is (subst (λ r. DecisionMeans c.args.chirotope c.args.budgets (says (line.RefusedNotrank3 r))) refused.0 (other_rank refused.1))
