@@ -1,11 +1,15 @@
 //! From a document to the oriented matroid that it gives.
 
-ghost use Rattle.std.specs.Prelude.{ℕ, ◌≡◌, ◌↔◌, ◌≤◌, List, length, IsOk, OnOk, IfOk, IfErr};
+ghost use Rattle.std.specs.Prelude.{ℕ, ◌≡◌, ◌↔◌, ◌≤◌, All, List, length, IsOk, OnOk, IfOk, IfErr};
 ghost use Rattle.om_signs.specs.declared.sign.Sign.{Sign};
 ghost use Rattle.om_convert.specs.Reading.{IsSetReadError, IsCovReadError};
-ghost use Rattle.om_text.specs.Form.{IsInForm, AreMembersOn};
+ghost use Rattle.om_text.specs.Form.{IsInForm, AreMembersOn, AreBlocks, IsPoint};
 ghost use Rattle.om_circuits.specs.Axioms.{MeetsCircuitAxioms};
 ghost use Rattle.om_covectors.specs.Axioms.{MeetsCovectorAxioms};
+ghost use Rattle.om_vectors.specs.Realizations.{IsRankLow};
+ghost use Rattle.om_wiring.specs.Maps.{IsFlat, wiring_map};
+ghost use Rattle.om_wiring.specs.Wirings.{IsWiring};
+ghost use Rattle.om_program.specs.Points.{vectors_of, points_map};
 ghost use Rattle.om_program.specs.Axioms.{MeetsAxioms, IsFlatDocument, IsRefusal, map_line, set_line, cov_line};
 ghost use Rattle.om_chirotope.specs.Map.{map_of};
 ghost use Rattle.om_chirotope.specs.Chirotope.{IsChirotope};
@@ -20,7 +24,7 @@ use om_chirotope::{Chirotope, MapRefused};
 use om_circuits::{Circuits, Cocircuits, SetRefused};
 use om_convert::{ReadCovError, ReadSetError, read_circuits, read_cocircuits, read_covectors};
 use om_covectors::{CovRefused, Covectors};
-use om_signs::{List, MAX_ELEMENTS, RawMap, SignVec};
+use om_signs::{Block, List, MAX_ELEMENTS, RawMap, SignVec};
 use om_text::{Body, Document};
 use std::alloc::Global;
 use std::thread::Threads;
@@ -68,14 +72,40 @@ pub fn represent<R: Threads + Sync>(
         Body::Circuits(list) => represent_circuits(rt, alloc, elements, list),
         Body::Cocircuits(list) => represent_cocircuits(rt, alloc, elements, list),
         Body::Covectors(list) => represent_covectors(rt, alloc, elements, list),
-        Body::Wiring(blocks) => Ok(Representation::Chirotope(chirotope_of_wiring(
-            alloc, elements, blocks,
-        )?)),
-        Body::Points(points) => Ok(Representation::Chirotope(chirotope_of_points(
-            alloc,
-            points.as_slice(),
-        )?)),
+        Body::Wiring(blocks) => represent_wiring(alloc, elements, blocks),
+        Body::Points(points) => represent_points(alloc, points.as_slice()),
     }
+}
+
+/// The oriented matroid of a wiring, by its chirotope, or why there is none.
+fn represent_wiring(
+    alloc: Global,
+    elements: u8,
+    blocks: List<Block>,
+) -> Result<Representation, Unrepresented>
+    requires low { 1 ≤ elements }
+    requires high { elements ≤ MAX_ELEMENTS }
+    requires blocks { AreBlocks blocks }
+    ensures accepted { OnOk result (IsWiring elements blocks) }
+    ensures bent { OnOk result (IsFlat elements blocks → ⊥) }
+    ensures value { IfOk result (λ representation. document_of representation ≡ map_document (wiring_map elements blocks)) }
+    ensures refused { IfErr result (IsRefusal elements (Body.Wiring blocks)) }
+{
+    let chirotope = chirotope_of_wiring(alloc, elements, blocks)?;
+    Ok(Representation::Chirotope(chirotope))
+}
+
+/// The oriented matroid of points, by the chirotope of the signs of their triple products, or why there is none.
+fn represent_points(alloc: Global, points: &[[i64; 3]]) -> Result<Representation, Unrepresented>
+    requires low { 1 ≤ length points.now }
+    requires high { length points.now ≤ MAX_ELEMENTS }
+    requires each { All IsPoint points.now }
+    ensures accepted { OnOk result (IsRankLow (vectors_of points.now) → ⊥) }
+    ensures value { IfOk result (λ representation. document_of representation ≡ map_document (points_map points.now)) }
+    ensures refused { IfErr result (IsRefusal (length points.now) (Body.Points points.now)) }
+{
+    let chirotope = chirotope_of_points(alloc, points)?;
+    Ok(Representation::Chirotope(chirotope))
 }
 
 /// The oriented matroid of a map, by its chirotope, or the line that refuses the map.

@@ -28,11 +28,20 @@ pub fn chirotope_of_wiring(
     ensures bent { OnOk result (IsFlat elements blocks → ⊥) }
     ensures refused { IfErr result (IsRefusal elements (body.Wiring blocks)) }
 {
-    let wiring = match wiring_of_blocks(elements, blocks) {
-        Ok(wiring) => wiring,
-        Err(why) => return Err(Unrepresented::Refused(why)),
-    };
-    match chirotope(alloc, &wiring) {
+    match wiring_of_blocks(elements, blocks) {
+        Ok(wiring) => bent_chirotope(alloc, &wiring),
+        Err(why) => Err(Unrepresented::Refused(why)),
+    }
+}
+
+/// The chirotope of a wiring, where it isn't flat.
+fn bent_chirotope(alloc: Global, wiring: &Wiring) -> Result<Chirotope, Unrepresented>
+    requires { IsWiring wiring.now.elements wiring.now.blocks }
+    ensures value { IfOk result (λ c. c ≡ wiring_map wiring.now.elements wiring.now.blocks) }
+    ensures bent { OnOk result (IsFlat wiring.now.elements wiring.now.blocks → ⊥) }
+    ensures refused { IfErr result (IsRefusal wiring.now.elements (body.Wiring wiring.now.blocks)) }
+{
+    match chirotope(alloc, wiring) {
         Ok(chirotope) => Ok(chirotope),
         Err(FlatError::FlatRank) => Err(Unrepresented::Flat),
         Err(FlatError::Memory) => Err(Unrepresented::Memory),
