@@ -2,13 +2,13 @@
 
 ghost use Rattle.std.specs.Prelude.{◌≡◌, ◌++◌, ◌∷◌, [], IfOk, OnOk};
 ghost use Rattle.om_text.specs.Print.{text_of};
-ghost use Rattle.om_text.specs.Words.{byte_of};
 ghost use Rattle.om_answer.specs.Texts.{signs_text};
 ghost use Rattle.om_program.specs.ExtensionTexts.{signature_lines, last_word, extensions_text};
 
 use om_answer::pieces::{push, push_decimal, push_line_feed};
 use om_localize::{Listing, Signature};
-use om_signs::{NoMemory, Sign};
+use om_signs::NoMemory;
+use om_text::words::byte_of_sign;
 use std::alloc::Global;
 
 /// The text of a list of extensions of a map on this many elements: two lines that say what it is, a line for each
@@ -55,18 +55,7 @@ fn push_signature(text: &mut Vec<u8>, signature: &Signature) -> Result<(), NoMem
     ensures { OnOk result (text.new.items ≡ text.old.items ++ (signs_text signature.now ++ 10 ∷ [])) }
 {
     for k in 0..signature.len() {
-        text.push(byte_of(signature.at(k)))?;
+        text.push(byte_of_sign(signature.at(k)))?;
     }
     push_line_feed(text)
-}
-
-/// The byte of a sign.
-fn byte_of(sign: Sign) -> u8
-    ensures { result ≡ byte_of sign }
-{
-    match sign {
-        Sign::Minus => b'-',
-        Sign::Zero => b'0',
-        Sign::Plus => b'+',
-    }
 }
