@@ -53,7 +53,10 @@ fn answer(
 ) -> Option<Result<(), CertRefused>>
     requires { IfOk evidence IsWithinLimits }
 {
-    Some(check(&chi.ok()?, &evidence.ok()?))
+    match (&chi, &evidence) {
+        (Ok(chi), Ok(evidence)) => Some(check(chi, evidence)),
+        _ => None,
+    }
 }
 
 /// Vectors as evidence.
@@ -90,7 +93,7 @@ fn ones(alloc: Global, triples: &[[u8; 3]]) -> Result<Evidence, NoMemory>
 }
 
 #[test]
-fn vectors_as_evidence(rt: HostRuntime) -> Result<(), Fail> {
+fn vectors_as_evidence(rt: HostRuntime) {
     let alloc = rt.alloc();
     let found = [
         answer(chirotope_of(&rt, alloc, 3, 4, "++++"), vectors(&FOUR)),
@@ -115,13 +118,12 @@ fn vectors_as_evidence(rt: HostRuntime) -> Result<(), Fail> {
                 Some(Err(sign))
             ]
     );
-    Ok(())
 }
 
 // no entries at all are balanced; four elements are too few for a statement; 123 is on the small side of the first one, and nowhere
 // else
 #[test]
-fn entries_as_evidence(rt: HostRuntime) -> Result<(), Fail> {
+fn entries_as_evidence(rt: HostRuntime) {
     let alloc = rt.alloc();
     let none = Ok(Evidence::Balanced(List::new(alloc)));
     let found = [
@@ -147,12 +149,11 @@ fn entries_as_evidence(rt: HostRuntime) -> Result<(), Fail> {
                 Some(Err(unbalanced))
             ]
     );
-    Ok(())
 }
 
 // on three elements the only bracket is 123, and there is no statement; on five 1 with 1 isn't less than 1 with 1
 #[test]
-fn weights_as_evidence(rt: HostRuntime) -> Result<(), Fail> {
+fn weights_as_evidence(rt: HostRuntime) {
     let alloc = rt.alloc();
     let found = [
         answer(
@@ -171,12 +172,11 @@ fn weights_as_evidence(rt: HostRuntime) -> Result<(), Fail> {
     let bracket = CertRefused::Bracket { entry: 1 };
     let fails = CertRefused::WeightFails { statement: FIRST };
     assert!(rt; found == [Some(Ok(())), Some(Err(bracket)), Some(Err(fails))]);
-    Ok(())
 }
 
 /// The kind of the evidence of a verdict: 1 for vectors, 2 for entries, 3 for weights, and 4 where the verdict comes back.
 fn kind_of(verdict: Verdict) -> u8 {
-    match certificate(verdict) {
+    match &certificate(verdict) {
         Ok(Evidence::Vectors(_)) => 1,
         Ok(Evidence::Balanced(_)) => 2,
         Ok(Evidence::Weights(_)) => 3,
@@ -185,7 +185,7 @@ fn kind_of(verdict: Verdict) -> u8 {
 }
 
 #[test]
-fn verdicts(rt: HostRuntime) -> Result<(), Fail> {
+fn verdicts(rt: HostRuntime) {
     let alloc = rt.alloc();
     let end = LpEnd::Pivots {
         count: 1,
@@ -198,5 +198,4 @@ fn verdicts(rt: HostRuntime) -> Result<(), Fail> {
         kind_of(Verdict::Limit(end, Unfound::Exhausted)),
     ];
     assert!(rt; found == [1, 2, 3, 4]);
-    Ok(())
 }

@@ -53,9 +53,8 @@ fn has_negative(found: Result<Chirotope, SampleError>, negative: &str, normal: &
 }
 
 #[test]
-fn negatives(rt: HostRuntime) -> Result<(), Fail> {
+fn negatives(rt: HostRuntime) {
     assert!(rt; has_negative(chirotope_of(&rt, rt.alloc(), 2, 3, "+-+"), "-+-", "+-+"));
-    Ok(())
 }
 
 /// What the check says of a map.
@@ -104,7 +103,7 @@ fn exchange(map: Result<RawMap, SampleError>) -> Option<bool>
 // no element of 456 takes the place of one of 123; then each set of three is a basis, though the signs are those of no chirotope;
 // and then there is no basis
 #[test]
-fn exchanges(rt: HostRuntime) -> Result<(), Fail> {
+fn exchanges(rt: HostRuntime) {
     let alloc = rt.alloc();
     let found = [
         exchange(map_of(alloc, 3, 6, "+000000000000000000+")),
@@ -112,5 +111,4 @@ fn exchanges(rt: HostRuntime) -> Result<(), Fail> {
         exchange(map_of(alloc, 3, 3, "0")),
     ];
     assert!(rt; found == [Some(false), Some(true), Some(true)]);
-    Ok(())
 }

@@ -79,7 +79,7 @@ fn errors_are_printed(rt: HostRuntime) -> Result<(), Fail> {
 
 /// Whether a list was refused since the negative of its first member is missing.
 fn lacks_a_negative<T: Drop>(found: Result<T, ReadSetError>) -> bool {
-    match found {
+    match &found {
         Err(ReadSetError::Bad(bad)) => bad.why == SetRefused::NoNegative { i: 1 },
         _ => false,
     }
@@ -87,7 +87,7 @@ fn lacks_a_negative<T: Drop>(found: Result<T, ReadSetError>) -> bool {
 
 /// Whether a list was refused since the zero vector is missing.
 fn lacks_zero<T: Drop>(found: Result<T, ReadCovError>) -> bool {
-    match found {
+    match &found {
         Err(ReadCovError::Bad(bad)) => bad.why == CovRefused::NoZero,
         _ => false,
     }

@@ -9,24 +9,26 @@ use om_chirotope::Chirotope;
 use om_decide::{Budgets, DecideError, decide};
 use om_samples::{SampleError, chirotope_of};
 use std::alloc::Global;
-use std::test::Fail;
 
 /// The signs of nine points of which all triples but 789 are on lines as in the theorem of Pappus.
 const NON_PAPPUS: &str =
     "0++++++++++++--------0-0++++++++++----0---+0+++++---0+-0++++++++0------------------+";
 
-/// A verdict in short: its kind, counted from 1, and how many vectors, entries, weights or rows it has.
-fn in_short(verdict: &Verdict) -> (u8, usize) {
-    match verdict {
-        Verdict::Realizable(word) => (1, word.len() as usize),
-        Verdict::Nonrealizable(entries) => (2, entries.len()),
-        Verdict::Undecided(weights, _) => (3, weights.len()),
-        Verdict::Limit(LpEnd::Pivots { basis, .. }, _) => (4, basis.len()),
-        Verdict::Limit(LpEnd::Width { .. }, _) => (5, 0),
+/// A verdict in short: its kind, counted from 1, and how many vectors, entries, weights or rows it has; or 0 and the rank, where
+/// it isn't 3.
+fn in_short(decided: &Result<Verdict, DecideError>) -> Option<(u8, usize)> {
+    match decided {
+        Ok(Verdict::Realizable(word)) => Some((1, word.len() as usize)),
+        Ok(Verdict::Nonrealizable(entries)) => Some((2, entries.len())),
+        Ok(Verdict::Undecided(weights, _)) => Some((3, weights.len())),
+        Ok(Verdict::Limit(LpEnd::Pivots { basis, .. }, _)) => Some((4, basis.len())),
+        Ok(Verdict::Limit(LpEnd::Width { .. }, _)) => Some((5, 0)),
+        Err(DecideError::NotRank3 { r }) => Some((0, *r as usize)),
+        Err(DecideError::Memory) => None,
     }
 }
 
-/// A verdict on a chirotope in short; or 0 and the rank, where it isn't 3.
+/// The verdict on a chirotope in short.
 fn answer(
     alloc: Global,
     chi: Result<Chirotope, SampleError>,
@@ -34,10 +36,9 @@ fn answer(
 ) -> Option<(u8, usize)>
     requires { AreBudgets budgets }
 {
-    match decide(alloc, &chi.ok()?, budgets) {
-        Ok(verdict) => Some(in_short(&verdict)),
-        Err(DecideError::NotRank3 { r }) => Some((0, r as usize)),
-        Err(DecideError::Memory) => None,
+    match &chi {
+        Ok(chi) => in_short(&decide(alloc, chi, budgets)),
+        Err(_) => None,
     }
 }
 
@@ -55,7 +56,7 @@ fn budgets(steps: u64, pivots: u32) -> Budgets
 // the vectors are found at the twentieth step; on five elements the search is exhausted at the step 52, and there is a weight for
 // each of ten brackets
 #[test]
-fn small(rt: HostRuntime) -> Result<(), Fail> {
+fn small(rt: HostRuntime) {
     let alloc = rt.alloc();
     let found = [
         answer(alloc, chirotope_of(&rt, alloc, 2, 3, "+++"), budgets(1, 1)),
@@ -71,12 +72,11 @@ fn small(rt: HostRuntime) -> Result<(), Fail> {
         ),
     ];
     assert!(rt; found == [Some((0, 2)), Some((1, 4)), Some((3, 10))]);
-    Ok(())
 }
 
 // nine of 84 triples are on lines, and eight; the program ends at its pivot 136, and has a row for each of the 76 brackets and one more
 #[test]
-fn pappus(rt: HostRuntime) -> Result<(), Fail> {
+fn pappus(rt: HostRuntime) {
     let alloc = rt.alloc();
     let found = [
         answer(
@@ -96,5 +96,4 @@ fn pappus(rt: HostRuntime) -> Result<(), Fail> {
         ),
     ];
     assert!(rt; found == [Some((3, 75)), Some((2, 22)), Some((4, 77))]);
-    Ok(())
 }

@@ -1,7 +1,6 @@
 //! Duals worked out by hand.
 
 use super::helpers::{are_covectors, is_chirotope};
-use om_convert::chirotope_to_covectors;
 use om_dual::{dual, dual_circuits, dual_cocircuits, dual_covectors};
 use om_samples::{are_vectors, chirotope_of, circuits_of, covectors_of};
 use std::test::Fail;
@@ -27,9 +26,8 @@ fn of_lists(rt: HostRuntime) -> Result<(), Fail> {
 // the covectors of the dual are what is orthogonal to all covectors
 #[test]
 fn of_covectors(rt: HostRuntime) -> Result<(), Fail> {
-    let chi = chirotope_of(&rt, rt.alloc(), 3, 4, "++++")?;
-    let covectors = chirotope_to_covectors(rt.alloc(), &chi)?;
-    assert!(rt; are_covectors(dual_covectors(rt.alloc(), &covectors), "0000 -+-+ +-+-"));
+    let covectors = covectors_of(&rt, rt.alloc(), 2, &["--", "00", "++"])?;
+    assert!(rt; are_covectors(dual_covectors(rt.alloc(), &covectors), "00 -+ +-"));
     Ok(())
 }
 

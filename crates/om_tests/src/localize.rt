@@ -23,9 +23,8 @@ fn extensions_of_three(rt: HostRuntime) -> Result<(), Fail> {
 }
 
 #[test]
-fn signs_in_a_row(rt: HostRuntime) -> Result<(), Fail> {
+fn signs_in_a_row(rt: HostRuntime) {
     let signature = Signature::empty().with(Sign::Plus).with(Sign::Zero);
     assert!(rt; signature.len() == 2);
     assert!(rt; signature.at(0) == Sign::Plus && signature.at(1) == Sign::Zero);
-    Ok(())
 }

@@ -75,14 +75,13 @@ fn second_of_two(chi: Result<Chirotope, SampleError>) -> Option<[bool; 4]>
 
 // the empty set is the only basis, and then the set of all elements
 #[test]
-fn lowest_and_highest_rank(rt: HostRuntime) -> Result<(), Fail> {
+fn lowest_and_highest_rank(rt: HostRuntime) {
     let found = [
         second_of_two(chirotope_of(&rt, rt.alloc(), 0, 2, "+")),
         second_of_two(chirotope_of(&rt, rt.alloc(), 2, 2, "+")),
     ];
     let (lowest, highest) = ([true, false, false, false], [false, true, true, false]);
     assert!(rt; found == [Some(lowest), Some(highest)]);
-    Ok(())
 }
 
 /// Whether a set is a basis.

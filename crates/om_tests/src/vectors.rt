@@ -21,7 +21,7 @@ fn is_vector(x: i64, y: i64, z: i64) -> bool {
 }
 
 #[test]
-fn coordinates(rt: HostRuntime) -> Result<(), Fail> {
+fn coordinates(rt: HostRuntime) {
     assert!(rt; is_vector(MAX_COORDINATE, -MAX_COORDINATE, 0));
     assert!(rt; is_vector(-MAX_COORDINATE, MAX_COORDINATE, MAX_COORDINATE));
     assert!(rt; Vector::new(1_099_511_627_777, 0, 0).is_none());
@@ -29,7 +29,6 @@ fn coordinates(rt: HostRuntime) -> Result<(), Fail> {
     assert!(rt; Vector::new(0, 0, 1_099_511_627_777).is_none());
     assert!(rt; Vector::new(0, 0, i64::MIN).is_none());
     assert!(rt; Vector::new(i64::MAX, 0, 0).is_none());
-    Ok(())
 }
 
 /// Whether three vectors have this triple product.
@@ -40,13 +39,12 @@ fn is_product(rows: &[[i64; 3]], product: i128) -> bool {
 
 // the determinant of three vectors with coordinates 1 and -1 is at most 4, and is 4 for the first three
 #[test]
-fn greatest_triple_products(rt: HostRuntime) -> Result<(), Fail> {
+fn greatest_triple_products(rt: HostRuntime) {
     let m = MAX_COORDINATE;
     let four = 5_316_911_983_139_663_491_615_228_241_121_378_304;
     assert!(rt; is_product(&[[-m, m, m], [m, -m, m], [m, m, -m]], four));
     assert!(rt; is_product(&[[m, -m, m], [-m, m, m], [m, m, -m]], -four));
     assert!(rt; is_product(&[[-m, m, m], [m, -m, m], [-m, m, m]], 0));
-    Ok(())
 }
 
 /// The first vectors of three, with one behind them.
@@ -62,12 +60,11 @@ fn after_cut(len: u8, x: i64, y: i64, z: i64) -> Word {
 }
 
 #[test]
-fn words(rt: HostRuntime) -> Result<(), Fail> {
+fn words(rt: HostRuntime) {
     assert!(rt; after_cut(1, -4, 5, 6) == word_of(&[[1, 2, 3], [-4, 5, 6]]));
     assert!(rt; after_cut(2, 1, 2, 3) == word_of(&[[1, 2, 3], [-4, 5, 6], [1, 2, 3]]));
     assert!(rt; after_cut(0, 7, 8, 9).as_slice() == word_of(&[[7, 8, 9]]).as_slice());
     assert!(rt; Unfound::Frontier(Word::new()) != Unfound::Exhausted);
-    Ok(())
 }
 
 /// The chirotope of some vectors.

@@ -5,7 +5,6 @@ use om_paint::Colour;
 use om_signs::{MAX_DRAWN, Sign};
 use om_words::{Reads, Task, Usage, command};
 use std::alloc::Global;
-use std::test::Fail;
 
 /// Words that aren't a command, and the one at fault.
 const FAULTS: [(&str, u32); 20] = [
@@ -98,29 +97,26 @@ fn reads(alloc: Global, line: &str, what: Reads) -> bool {
 }
 
 #[test]
-fn words_at_fault(rt: HostRuntime) -> Result<(), Fail> {
+fn words_at_fault(rt: HostRuntime) {
     for (line, word) in FAULTS.iter() {
         assert!(rt; is_at_fault(rt.alloc(), line, *word));
     }
-    Ok(())
 }
 
 #[test]
-fn what_tasks_read(rt: HostRuntime) -> Result<(), Fail> {
+fn what_tasks_read(rt: HostRuntime) {
     for (line, what) in TASKS.iter() {
         assert!(rt; reads(rt.alloc(), line, *what));
     }
-    Ok(())
 }
 
 #[test]
-fn no_words(rt: HostRuntime) -> Result<(), Fail> {
+fn no_words(rt: HostRuntime) {
     assert!(rt; matches!(command(&[]), Err(Usage { word: 1 })));
-    Ok(())
 }
 
 #[test]
-fn arguments(rt: HostRuntime) -> Result<(), Fail> {
+fn arguments(rt: HostRuntime) {
     assert!(rt; matches!(task(rt.alloc(), "delete 20"), Some(Task::Delete(20))));
     assert!(rt;
         matches!(
@@ -145,22 +141,20 @@ fn arguments(rt: HostRuntime) -> Result<(), Fail> {
             })
         )
     );
-    Ok(())
 }
 
 #[test]
-fn budgets_in_any_order(rt: HostRuntime) -> Result<(), Fail> {
+fn budgets_in_any_order(rt: HostRuntime) {
     match task(rt.alloc(), "decide --pivots=9 --box=2") {
         Some(Task::Decide(budgets)) => {
             assert!(rt; budgets.box_size == 2 && budgets.steps == 2_000_000 && budgets.pivots == 9);
         }
         _ => assert!(rt; false),
     }
-    Ok(())
 }
 
 #[test]
-fn colours_and_signed_elements(rt: HostRuntime) -> Result<(), Fail> {
+fn colours_and_signed_elements(rt: HostRuntime) {
     match task(rt.alloc(), "paint RGB 2") {
         Some(Task::Paint(given)) => {
             assert!(rt; given.count == 3 && given.e == 2);
@@ -178,5 +172,4 @@ fn colours_and_signed_elements(rt: HostRuntime) -> Result<(), Fail> {
         }
         _ => assert!(rt; false),
     }
-    Ok(())
 }
