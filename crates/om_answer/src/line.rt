@@ -5,7 +5,7 @@ use om_text::Code;
 
 /// An answer of one line. Its text is the words of its name in lower case and then its fields in their order, with single
 /// spaces.
-#[derive(Clone, Copy, Debug, PartialEq, Eq)]
+#[derive(Clone, Copy)]
 pub enum Line {
     /// The document meets the axioms of its kind.
     Accepted,
