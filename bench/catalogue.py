@@ -2,8 +2,8 @@
 """bench/catalogue.py [--documents N]
 
 Makes a catalogue of N chirotopes of rank 3 on ten elements (10,000; the extensions of the chirotope on nine that is all plus)
-and runs `accept` over it by each recipe of docs/CATALOGUES.md. Prints a table of documents a second, and asks each recipe for
-the same answers in the same order. GNU parallel's recipe is left out where it isn't installed.
+and runs `accept` over it by each of the first three recipes of docs/CATALOGUES.md. Prints a table of documents a second, and
+asks each recipe for the same answers in the same order. GNU parallel's recipe is left out where it isn't installed.
 """
 import argparse
 import os
