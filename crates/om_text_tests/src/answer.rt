@@ -2,6 +2,7 @@
 
 ghost use Rattle.std.specs.Prelude.{◌<◌};
 
+use super::helpers::is_made;
 use om_answer::pieces::{push, push_decimal, push_line_feed, push_subset, push_vector};
 use om_answer::{Line, print_line};
 use om_grassmann::Statement;
@@ -14,7 +15,7 @@ use std::test::Fail;
 
 /// Whether a line has this text.
 fn is_text(alloc: Global, line: &Line, text: &str) -> bool {
-    matches!(print_line(alloc, line), Ok(found) if found.as_slice() == text.as_bytes())
+    is_made(print_line(alloc, line), text.as_bytes())
 }
 
 #[test]

@@ -1,5 +1,6 @@
 //! Claims: the verdicts that are read, and those that are printed.
 
+use super::helpers::is_made;
 use om_answer::{Claim, print_verdict, read_claim};
 use om_certificate::{LpEnd, Verdict};
 use om_chirotope::Chirotope;
@@ -69,24 +70,34 @@ fn is_printed(alloc: Global, chi: &Chirotope, stage: Stage, text: &[u8]) -> bool
         place: 0,
     };
     let verdict = Verdict::Limit(end, Unfound::Exhausted);
-    matches!(print_verdict(alloc, chi, &verdict), Ok(found) if found.as_slice() == text)
+    is_made(print_verdict(alloc, chi, &verdict), text)
 }
+
+/// The text of the verdict on one element that a tableau ended at a width of each stage.
+const WIDTHS: [(Stage, &str); 4] = [
+    (
+        Stage::Price,
+        "om 1\nchirotope 1 1\n+\nend\nlimit\nwidth price 1000001 65535 0\nexhausted\nend\n",
+    ),
+    (
+        Stage::Column,
+        "om 1\nchirotope 1 1\n+\nend\nlimit\nwidth column 1000001 65535 0\nexhausted\nend\n",
+    ),
+    (
+        Stage::Update,
+        "om 1\nchirotope 1 1\n+\nend\nlimit\nwidth update 1000001 65535 0\nexhausted\nend\n",
+    ),
+    (
+        Stage::Scale,
+        "om 1\nchirotope 1 1\n+\nend\nlimit\nwidth scale 1000001 65535 0\nexhausted\nend\n",
+    ),
+];
 
 #[test]
 fn printed_widths(rt: HostRuntime) -> Result<(), Fail> {
-    let alloc = rt.alloc();
-    let chi = chirotope_of(&rt, alloc, 1, 1, "+")?;
-    let price =
-        b"om 1\nchirotope 1 1\n+\nend\nlimit\nwidth price 1000001 65535 0\nexhausted\nend\n".as_slice();
-    assert!(rt; is_printed(alloc, &chi, Stage::Price, price));
-    let column =
-        b"om 1\nchirotope 1 1\n+\nend\nlimit\nwidth column 1000001 65535 0\nexhausted\nend\n".as_slice();
-    assert!(rt; is_printed(alloc, &chi, Stage::Column, column));
-    let update =
-        b"om 1\nchirotope 1 1\n+\nend\nlimit\nwidth update 1000001 65535 0\nexhausted\nend\n".as_slice();
-    assert!(rt; is_printed(alloc, &chi, Stage::Update, update));
-    let scale =
-        b"om 1\nchirotope 1 1\n+\nend\nlimit\nwidth scale 1000001 65535 0\nexhausted\nend\n".as_slice();
-    assert!(rt; is_printed(alloc, &chi, Stage::Scale, scale));
+    let chi = chirotope_of(&rt, rt.alloc(), 1, 1, "+")?;
+    for (stage, text) in WIDTHS.iter() {
+        assert!(rt; is_printed(rt.alloc(), &chi, *stage, text.as_bytes()));
+    }
     Ok(())
 }

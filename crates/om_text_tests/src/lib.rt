@@ -8,6 +8,8 @@ mod callers;
 #[cfg(test)]
 mod claims;
 #[cfg(test)]
+mod helpers;
+#[cfg(test)]
 mod port;
 #[cfg(test)]
 mod text;

@@ -3,6 +3,7 @@
 ghost use Rattle.std.specs.Prelude.{◌≤◌, length};
 ghost use Rattle.om_signs.specs.declared.limits.TheConstants.{MAX_READ};
 
+use super::helpers::is_made;
 use om_signs::{List, MAX_INPUT, MAX_MULTIPLICITY, MAX_WEIGHT};
 use om_text::lines::{before_comment, first_line, first_word, has_no_words, is_only_word, same};
 use om_text::words::{plain_number, signed_number, unsigned_number};
@@ -120,9 +121,8 @@ fn is_read(alloc: Global, bytes: &[u8], form: &str, len: usize, lines: u32) -> b
 {
     match parse_part(alloc, bytes) {
         Ok((document, found, count)) => {
-            found == len
-                && count == lines
-                && matches!(print(alloc, &document), Ok(text) if text.as_slice() == form.as_bytes())
+            let made = print(alloc, &document);
+            found == len && count == lines && is_made(made, form.as_bytes())
         }
         Err(_) => false,
     }
@@ -170,8 +170,12 @@ fn form_in_version_two(rt: HostRuntime) {
         body: Body::Wiring(List::new(rt.alloc())),
         names: List::new(rt.alloc()),
     };
-    let form = b"om 2\nwiring 2\nnames e1 e2\nend\n".as_slice();
-    assert!(rt; matches!(print_two(rt.alloc(), &document), Ok(text) if text.as_slice() == form));
+    assert!(rt;
+        is_made(
+            print_two(rt.alloc(), &document),
+            b"om 2\nwiring 2\nnames e1 e2\nend\n"
+        )
+    );
 }
 
 #[test]

@@ -117,59 +117,69 @@ fn no_words(rt: HostRuntime) {
 
 #[test]
 fn arguments(rt: HostRuntime) {
-    assert!(rt; matches!(task(rt.alloc(), "delete 20"), Some(Task::Delete(20))));
-    assert!(rt;
+    let alloc = rt.alloc();
+    let found = [
+        matches!(task(alloc, "delete 20"), Some(Task::Delete(20))),
         matches!(
-            task(rt.alloc(), "convert cocircuits"),
+            task(alloc, "convert cocircuits"),
             Some(Task::Convert(Kind::Cocircuits))
-        )
-    );
-    assert!(rt; matches!(task(rt.alloc(), "reorient 1 3"), Some(Task::Reorient(5))));
-    assert!(rt; matches!(task(rt.alloc(), "flip 1 2 20"), Some(Task::Flip(1, 2, 20))));
-    assert!(rt;
+        ),
+        matches!(task(alloc, "reorient 1 3"), Some(Task::Reorient(5))),
+        matches!(task(alloc, "flip 1 2 20"), Some(Task::Flip(1, 2, 20))),
+        matches!(task(alloc, "extend"), Some(Task::Extend { first: 100_000 })),
         matches!(
-            task(rt.alloc(), "extend"),
-            Some(Task::Extend { first: 100_000 })
-        )
-    );
-    assert!(rt;
-        matches!(
-            task(rt.alloc(), "make 7"),
+            task(alloc, "make 7"),
             Some(Task::Make {
                 seed: 7,
                 count: MAX_DRAWN
             })
-        )
-    );
+        ),
+    ];
+    assert!(rt; found == [true; 6]);
 }
 
-#[test]
-fn budgets_in_any_order(rt: HostRuntime) {
-    match task(rt.alloc(), "decide --pivots=9 --box=2") {
-        Some(Task::Decide(budgets)) => {
-            assert!(rt; budgets.box_size == 2 && budgets.steps == 2_000_000 && budgets.pivots == 9);
-        }
-        _ => assert!(rt; false),
-    }
-}
-
-#[test]
-fn colours_and_signed_elements(rt: HostRuntime) {
-    match task(rt.alloc(), "paint RGB 2") {
+/// Whether a task paints by three colours, the last of them black, at the element 2; the places behind the last colour are white.
+fn paints(found: Option<Task>) -> bool {
+    match found {
         Some(Task::Paint(given)) => {
-            assert!(rt; given.count == 3 && given.e == 2);
-            assert!(rt;
-                matches!(given.colours[2], Colour::Black)
-                    && matches!(given.colours[3], Colour::White)
-            );
+            given.count == 3
+                && given.e == 2
+                && matches!(given.colours[2], Colour::Black)
+                && matches!(given.colours[3], Colour::White)
         }
-        _ => assert!(rt; false),
+        _ => false,
     }
-    match task(rt.alloc(), "lexext +3 -1") {
+}
+
+/// Whether a task extends by two signed elements, the second of them -1.
+fn extends(found: Option<Task>) -> bool {
+    match found {
         Some(Task::Lexext(leading)) => {
-            assert!(rt; leading.count == 2 && leading.list[1].element == 1);
-            assert_eq!(rt; leading.list[1].sign, Sign::Minus);
+            leading.count == 2
+                && leading.list[1].element == 1
+                && leading.list[1].sign == Sign::Minus
         }
-        _ => assert!(rt; false),
+        _ => false,
     }
+}
+
+/// Whether a task decides with a box of 2, 9 pivots, and the steps that there are without an option.
+fn decides(found: Option<Task>) -> bool {
+    match found {
+        Some(Task::Decide(budgets)) => {
+            budgets.box_size == 2 && budgets.steps == 2_000_000 && budgets.pivots == 9
+        }
+        _ => false,
+    }
+}
+
+#[test]
+fn arguments_of_several_parts(rt: HostRuntime) {
+    let alloc = rt.alloc();
+    let found = [
+        paints(task(alloc, "paint RGB 2")),
+        extends(task(alloc, "lexext +3 -1")),
+        decides(task(alloc, "decide --pivots=9 --box=2")),
+    ];
+    assert!(rt; found == [true; 3]);
 }
