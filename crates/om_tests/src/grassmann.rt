@@ -5,8 +5,7 @@ use om_chirotope::Chirotope;
 use om_grassmann::{
     Statement, brackets_of_lawful_statements, following, lawful, nth_statement, sides,
 };
-use om_samples::chirotope_of;
-use std::test::Fail;
+use om_samples::{SampleError, chirotope_of};
 
 /// All lawful statements on five elements, in order: five elements and the numbers of a small and a big term. Each of them is
 /// strict.
@@ -62,70 +61,87 @@ fn are_all(chi: &Chirotope, list: &[[u8; 7]]) -> bool {
     nth_statement(chi, k).is_none() && nth_statement(chi, u32::MAX).is_none()
 }
 
-/// Whether these are lawful: an equation, a statement with an element that is none, and two with terms that are none of the three.
-fn others(chi: &Chirotope) -> [bool; 4] {
-    [
-        lawful(chi, statement(TEN[0], false)),
-        lawful(chi, statement([0, 2, 3, 4, 5, 1, 2], true)),
-        lawful(chi, statement([1, 2, 3, 4, 5, 0, 2], true)),
-        lawful(chi, statement([1, 2, 3, 4, 5, 2, 4], true)),
-    ]
+/// Whether there is a chirotope, and the statements on it with the numbers from 0 on are these, and no other follows.
+fn has_all(chi: Result<Chirotope, SampleError>, list: &[[u8; 7]]) -> bool {
+    match &chi {
+        Ok(chi) => are_all(chi, list),
+        Err(_) => false,
+    }
 }
 
+// in another rank than 3 there are none
 #[test]
-fn five_elements(rt: HostRuntime) -> Result<(), Fail> {
-    let found = are_all(&chirotope_of(&rt, rt.alloc(), 3, 5, "++++++++++")?, &TEN);
-    assert!(rt; found);
-    Ok(())
+fn all_statements(rt: HostRuntime) {
+    let alloc = rt.alloc();
+    let found = [
+        has_all(chirotope_of(&rt, alloc, 3, 5, "++++++++++"), &TEN),
+        has_all(chirotope_of(&rt, alloc, 2, 5, "++++++++++"), &[]),
+    ];
+    assert!(rt; found == [true; 2]);
 }
 
-#[test]
-fn unlawful(rt: HostRuntime) -> Result<(), Fail> {
-    let found = others(&chirotope_of(&rt, rt.alloc(), 3, 5, "++++++++++")?);
-    assert!(rt; found == [false; 4]);
-    Ok(())
+/// Whether there is a chirotope, and the statement with a number is this one, and the last.
+fn has_last(chi: Result<Chirotope, SampleError>, k: u32, numbers: [u8; 7]) -> bool {
+    match &chi {
+        Ok(chi) => {
+            nth_statement(chi, k) == Some(statement(numbers, true))
+                && nth_statement(chi, k.saturating_add(1)).is_none()
+        }
+        Err(_) => false,
+    }
 }
 
 // each of 6 elements with each four of the other five has two, of which the last are of 6 with 2, 3, 4 and 5
 #[test]
-fn six_elements(rt: HostRuntime) -> Result<(), Fail> {
-    let found = {
-        let chi = chirotope_of(&rt, rt.alloc(), 3, 6, "++++++++++++++++++++")?;
-        [nth_statement(&chi, 59), nth_statement(&chi, 60)]
-    };
-    assert!(rt; found == [Some(statement([6, 2, 3, 4, 5, 3, 2], true)), None]);
-    Ok(())
+fn six_elements(rt: HostRuntime) {
+    let chi = chirotope_of(&rt, rt.alloc(), 3, 6, "++++++++++++++++++++");
+    assert!(rt; has_last(chi, 59, [6, 2, 3, 4, 5, 3, 2]));
 }
 
-#[test]
-fn another_rank(rt: HostRuntime) -> Result<(), Fail> {
-    let found = {
-        let chi = chirotope_of(&rt, rt.alloc(), 2, 5, "++++++++++")?;
-        [are_all(&chi, &[]), lawful(&chi, statement(TEN[0], true))]
-    };
-    assert!(rt; found == [true, false]);
-    Ok(())
-}
-
-/// Whether a statement is lawful and its sides have the brackets with these masks: two on the small side, two on the big one.
-fn has_sides(chi: &Chirotope, st: Statement, masks: [u32; 4]) -> bool {
-    if !lawful(chi, st) {
-        return false;
+/// Whether these are lawful: a strict statement, an equation, a statement with an element that is none, and two with terms that are
+/// none of the three.
+fn lawfulness(chi: Result<Chirotope, SampleError>) -> Option<[bool; 5]> {
+    match &chi {
+        Ok(chi) => Some([
+            lawful(chi, statement(TEN[0], true)),
+            lawful(chi, statement(TEN[0], false)),
+            lawful(chi, statement([0, 2, 3, 4, 5, 1, 2], true)),
+            lawful(chi, statement([1, 2, 3, 4, 5, 0, 2], true)),
+            lawful(chi, statement([1, 2, 3, 4, 5, 2, 4], true)),
+        ]),
+        Err(_) => None,
     }
-    brackets_of_lawful_statements();
-    let (first, second, third, fourth) = sides(st, chi.elements());
-    first.mask() == masks[0]
-        && second.mask() == masks[1]
-        && third.mask() == masks[2]
-        && fourth.mask() == masks[3]
+}
+
+// only the first is lawful, and in another rank than 3 not even that one
+#[test]
+fn lawful_and_unlawful(rt: HostRuntime) {
+    let alloc = rt.alloc();
+    let found = [
+        lawfulness(chirotope_of(&rt, alloc, 3, 5, "++++++++++")),
+        lawfulness(chirotope_of(&rt, alloc, 2, 5, "++++++++++")),
+    ];
+    let first = [true, false, false, false, false];
+    assert!(rt; found == [Some(first), Some([false; 5])]);
+}
+
+/// Whether there is a chirotope, and a statement is lawful on it and its sides have the brackets with these masks: two on the small
+/// side, two on the big one.
+fn has_sides(chi: Result<Chirotope, SampleError>, st: Statement, masks: [u32; 4]) -> bool {
+    match &chi {
+        Ok(chi) if lawful(chi, st) => {
+            brackets_of_lawful_statements();
+            let (first, second, third, fourth) = sides(st, chi.elements());
+            [first.mask(), second.mask(), third.mask(), fourth.mask()] == masks
+        }
+        _ => false,
+    }
 }
 
 // since 123 is on a line, 127 with 134 are as large as 124 with 137
 #[test]
-fn sides_of_an_equation(rt: HostRuntime) -> Result<(), Fail> {
+fn sides_of_an_equation(rt: HostRuntime) {
     let st = statement([1, 2, 3, 4, 7, 3, 2], false);
     let masks = [0b1000011, 0b1101, 0b1011, 0b1000101];
-    let found = has_sides(&chirotope_of(&rt, rt.alloc(), 3, 9, PAPPUS)?, st, masks);
-    assert!(rt; found);
-    Ok(())
+    assert!(rt; has_sides(chirotope_of(&rt, rt.alloc(), 3, 9, PAPPUS), st, masks));
 }

@@ -4,10 +4,9 @@ ghost use Rattle.std.specs.Prelude.{◌↔◌, All, IsTrue};
 ghost use Rattle.om_simplex.specs.States.{IsColumn};
 
 use om_rows::Column;
-use om_signs::{MAX_COLUMNS, MAX_ROWS};
+use om_signs::{MAX_COLUMNS, MAX_ROWS, NoMemory};
 use om_simplex::{Count, Outcome, Stage, solve};
-use std::alloc::{AllocError, Global};
-use std::test::Fail;
+use std::alloc::Global;
 
 /// A column with these places.
 fn column(small0: u16, small1: u16, big0: u16, big1: u16, strict: bool) -> Column {
@@ -47,69 +46,74 @@ fn end_of(alloc: Global, columns: &[Column], rows: u16) -> Option<Outcome> {
 }
 
 /// Whether a run ends with a combination that takes these columns as often.
-fn is_balanced(found: &Option<Outcome>, expected: &[Count]) -> bool {
-    match found {
-        Some(Outcome::Balanced(counts)) => counts.as_slice() == expected,
+fn is_balanced(found: Result<Outcome, NoMemory>, expected: &[Count]) -> bool {
+    match &found {
+        Ok(Outcome::Balanced(counts)) => counts.as_slice() == expected,
         _ => false,
     }
 }
 
 /// Whether a run ends with these weights of the rows.
-fn is_weighed(found: &Option<Outcome>, expected: &[i128]) -> bool {
-    match found {
-        Some(Outcome::Weights(weights)) => weights.as_slice() == expected,
+fn is_weighed(found: Result<Outcome, NoMemory>, expected: &[i128]) -> bool {
+    match &found {
+        Ok(Outcome::Weights(weights)) => weights.as_slice() == expected,
         _ => false,
     }
 }
 
 /// Whether a run ends for want of pivots, with these basis numbers.
-fn is_cut_off(found: &Option<Outcome>, expected: &[u32]) -> bool {
-    match found {
-        Some(Outcome::PivotLimit { basis }) => basis.as_slice() == expected,
+fn is_cut_off(found: Result<Outcome, NoMemory>, expected: &[u32]) -> bool {
+    match &found {
+        Ok(Outcome::PivotLimit { basis }) => basis.as_slice() == expected,
         _ => false,
     }
 }
 
+/// A column whose sides have the same places.
+const AROUND: Column = Column {
+    small0: 1,
+    small1: 2,
+    big0: 2,
+    big1: 1,
+    strict: true,
+};
+
+/// A column of four places.
+const APART: Column = Column {
+    small0: 1,
+    small1: 2,
+    big0: 3,
+    big1: 4,
+    strict: true,
+};
+
+/// A column of two places, twice each.
+const BACK: Column = Column {
+    small0: 2,
+    small1: 2,
+    big0: 1,
+    big1: 1,
+    strict: true,
+};
+
+/// One time the first column.
+const ONCE: Count = Count {
+    column: 1,
+    times: 1,
+};
+
+// without columns all weights are 1; a column whose sides are the same is balanced alone; one pivot, which is all that these runs may
+// take, is enough for the column of four places, and not for it with a second one
 #[test]
 fn ends(rt: HostRuntime) {
-    let around = Column {
-        small0: 1,
-        small1: 2,
-        big0: 2,
-        big1: 1,
-        strict: true,
-    };
-    let once = Count {
-        column: 1,
-        times: 1,
-    };
-    assert!(rt; is_weighed(&solve(rt.alloc(), &[], 3, 1).ok(), &[1, 1]));
-    assert!(rt; is_balanced(&solve(rt.alloc(), &[around], 3, 1).ok(), &[once]));
-}
-
-#[test]
-fn ends_in_five_rows(rt: HostRuntime) {
-    let apart = Column {
-        small0: 1,
-        small1: 2,
-        big0: 3,
-        big1: 4,
-        strict: true,
-    };
-    let back = Column {
-        small0: 2,
-        small1: 2,
-        big0: 1,
-        big1: 1,
-        strict: true,
-    };
-    assert!(rt; is_weighed(&solve(rt.alloc(), &[apart], 5, 1).ok(), &[0, 1, 1, 1]));
-    assert!(rt;
-        is_cut_off(
-            &solve(rt.alloc(), &[apart, back], 5, 1).ok(),
-            &[6, 2, 3, 4, 5]
-        )
-    );
+    let alloc = rt.alloc();
+    let found = [
+        is_weighed(solve(alloc, &[], 3, 1), &[1, 1]),
+        is_balanced(solve(alloc, &[AROUND], 3, 1), &[ONCE]),
+        is_weighed(solve(alloc, &[APART], 5, 1), &[0, 1, 1, 1]),
+        is_cut_off(solve(alloc, &[APART, BACK], 5, 1), &[6, 2, 3, 4, 5]),
+    ];
+    assert!(rt; found == [true; 4]);
 }
 
 /// How a column of a chain ties the place j to the place behind it and to the last place but one, which is called z.
@@ -145,41 +149,47 @@ fn link_column(link: Link, j: u16, z: u16, strict: bool) -> Column {
 }
 
 /// The columns of a chain, in their order.
-fn columns_of(alloc: Global, chain: &Chain) -> Result<Vec<Column>, AllocError> {
+fn columns_of(alloc: Global, chain: &Chain) -> Option<Vec<Column>> {
     let last = chain.n.saturating_add(1);
     let mut columns = Vec::new(alloc);
+    let mut whole = true;
     for (small, big, strict) in chain.before {
-        columns.push(column(*small, *small, *big, *big, *strict))?;
+        whole &= columns
+            .push(column(*small, *small, *big, *big, *strict))
+            .is_ok();
     }
     for j in 1..chain.n {
-        columns.push(link_column(chain.link, j, last, chain.strict))?;
+        whole &= columns
+            .push(link_column(chain.link, j, last, chain.strict))
+            .is_ok();
     }
     for (small, big, strict) in chain.behind {
-        columns.push(column(*small, *small, *big, *big, *strict))?;
+        whole &= columns
+            .push(column(*small, *small, *big, *big, *strict))
+            .is_ok();
     }
-    Ok(columns)
+    if whole { Some(columns) } else { None }
 }
 
 /// The end of the run over a chain.
 fn end_of_chain(alloc: Global, chain: &Chain) -> Option<Outcome> {
-    let columns = columns_of(alloc, chain).ok()?;
+    let columns = columns_of(alloc, chain)?;
     end_of(alloc, columns.as_slice(), chain.n.saturating_add(2))
 }
 
 /// Whether the run over a chain ends by a width: the stage, the number of the pivot, the row and the place.
 fn is_too_wide(alloc: Global, chain: Chain, expected: (Stage, u32, u16, u32)) -> bool {
-    let Some(
-        Outcome::Width {
-            stage,
-            pivot,
-            row,
-            place,
-        },
-    ) = end_of_chain(alloc, &chain)
-    else {
-        return false;
-    };
-    (stage, pivot, row, place) == expected
+    match &end_of_chain(alloc, &chain) {
+        Some(
+            Outcome::Width {
+                stage,
+                pivot,
+                row,
+                place,
+            },
+        ) => (*stage, *pivot, *row, *place) == expected,
+        _ => false,
+    }
 }
 
 #[test]
@@ -259,9 +269,19 @@ fn numbers_too_wide(rt: HostRuntime) {
     assert!(rt; found == [true; 6]);
 }
 
+/// Whether a run ends with a combination that takes 65 columns: the first 2^63 times, and the 64th once.
+fn is_doubled(found: Option<Outcome>) -> bool {
+    match &found {
+        Some(Outcome::Balanced(counts)) => {
+            counts.len() == 65 && counts.at(0).times == 1u64 << 63 && counts.at(63).times == 1
+        }
+        _ => false,
+    }
+}
+
 /// One link less than in the chain whose values are too great: the greatest is 2^63.
 #[test]
-fn a_value_at_the_limit(rt: HostRuntime) -> Result<(), Fail> {
+fn a_value_at_the_limit(rt: HostRuntime) {
     let chain = Chain {
         link: Link::Doubled,
         n: 64,
@@ -269,12 +289,7 @@ fn a_value_at_the_limit(rt: HostRuntime) -> Result<(), Fail> {
         before: &[],
         behind: &[(64, 65, true), (65, 1, false)],
     };
-    let Some(Outcome::Balanced(counts)) = end_of_chain(rt.alloc(), &chain) else {
-        return Err(Fail::new("another end"));
-    };
-    assert!(rt; counts.len() == 65);
-    assert!(rt; counts.at(0).times == 1u64 << 63 && counts.at(63).times == 1);
-    Ok(())
+    assert!(rt; is_doubled(end_of_chain(rt.alloc(), &chain)));
 }
 
 #[test]

@@ -8,43 +8,33 @@ use om_samples::SampleError;
 use om_signs::{MAX_ELEMENTS, RawMap};
 use om_subsets::Subset;
 use om_threeterm::{ThreeRefused, check};
-use std::test::Fail;
 use std::thread::Threads;
 
-/// What the test says of a map.
-fn answer<R: Threads + Sync>(
+/// Whether there is a map, and the test says this of it.
+fn is_checked<R: Threads + Sync>(
     rt: &R,
     map: Result<RawMap, SampleError>,
-) -> Option<Result<(), ThreeRefused>>
+    expected: Result<(), ThreeRefused>,
+) -> bool
     requires low { IfOk map (λ raw. 1 ≤ raw.elements) }
     requires high { IfOk map (λ raw. raw.elements ≤ MAX_ELEMENTS) }
     requires part { IfOk map (λ raw. raw.rank ≤ raw.elements) }
     requires whole { IfOk map (λ raw. length raw.signs ≡ choose raw.elements raw.rank) }
 {
-    match check(rt, map.ok()?) {
-        Ok(_) => Some(Ok(())),
-        Err(bad) => Some(Err(bad.why)),
+    match map {
+        Ok(map) => match &check(rt, map) {
+            Ok(_) => expected.is_ok(),
+            Err(bad) => expected == Err(bad.why),
+        },
+        Err(_) => false,
     }
 }
 
+// the second has no basis; the bases of the third are 12, 13 and 34, and neither 23 nor 24 is one; in the last 135 is turned: with 1
+// as the list, the relation of 2, 3, 4 and 5 is the first that fails
 #[test]
-fn accepted_and_all_zero(rt: HostRuntime) -> Result<(), Fail> {
-    let found = [
-        answer(&rt, map_of(rt.alloc(), 3, 4, "++++")),
-        answer(&rt, map_of(rt.alloc(), 1, 3, "000")),
-    ];
-    assert!(rt; found == [Some(Ok(())), Some(Err(ThreeRefused::AllZero))]);
-    Ok(())
-}
-
-// the bases of the first are 12, 13 and 34, and neither 23 nor 24 is one; in the second 135 is turned: with 1 as the list, the
-// relation of 2, 3, 4 and 5 is the first that fails
-#[test]
-fn refused(rt: HostRuntime) -> Result<(), Fail> {
-    let found = [
-        answer(&rt, map_of(rt.alloc(), 2, 4, "++000+")),
-        answer(&rt, map_of(rt.alloc(), 3, 6, "+++++-++++++++++++++")),
-    ];
+fn accepted_and_refused(rt: HostRuntime) {
+    let alloc = rt.alloc();
     let exchange = ThreeRefused::NoExchange {
         b: Subset::from_mask(0b11, 4),
         c: Subset::from_mask(0b1100, 4),
@@ -54,6 +44,12 @@ fn refused(rt: HostRuntime) -> Result<(), Fail> {
         p: Subset::from_mask(0b1, 6),
         q: Subset::from_mask(0b11110, 6),
     };
-    assert!(rt; found == [Some(Err(exchange)), Some(Err(relation))]);
-    Ok(())
+    let turned = map_of(alloc, 3, 6, "+++++-++++++++++++++");
+    let found = [
+        is_checked(&rt, map_of(alloc, 3, 4, "++++"), Ok(())),
+        is_checked(&rt, map_of(alloc, 1, 3, "000"), Err(ThreeRefused::AllZero)),
+        is_checked(&rt, map_of(alloc, 2, 4, "++000+"), Err(exchange)),
+        is_checked(&rt, turned, Err(relation)),
+    ];
+    assert!(rt; found == [true; 4]);
 }

@@ -10,7 +10,6 @@ use om_signs::MAX_COORDINATE;
 use om_subsets::Subset;
 use om_vectors::{SignsError, Unfound, Vector, Word, realizes, signs_of, triple};
 use std::alloc::Global;
-use std::test::Fail;
 
 /// Whether there is a vector of three numbers, and has them as its coordinates.
 fn is_vector(x: i64, y: i64, z: i64) -> bool {
@@ -22,13 +21,16 @@ fn is_vector(x: i64, y: i64, z: i64) -> bool {
 
 #[test]
 fn coordinates(rt: HostRuntime) {
-    assert!(rt; is_vector(MAX_COORDINATE, -MAX_COORDINATE, 0));
-    assert!(rt; is_vector(-MAX_COORDINATE, MAX_COORDINATE, MAX_COORDINATE));
-    assert!(rt; Vector::new(1_099_511_627_777, 0, 0).is_none());
-    assert!(rt; Vector::new(0, -1_099_511_627_777, 0).is_none());
-    assert!(rt; Vector::new(0, 0, 1_099_511_627_777).is_none());
-    assert!(rt; Vector::new(0, 0, i64::MIN).is_none());
-    assert!(rt; Vector::new(i64::MAX, 0, 0).is_none());
+    let found = [
+        is_vector(MAX_COORDINATE, -MAX_COORDINATE, 0),
+        is_vector(-MAX_COORDINATE, MAX_COORDINATE, MAX_COORDINATE),
+        Vector::new(1_099_511_627_777, 0, 0).is_none(),
+        Vector::new(0, -1_099_511_627_777, 0).is_none(),
+        Vector::new(0, 0, 1_099_511_627_777).is_none(),
+        Vector::new(0, 0, i64::MIN).is_none(),
+        Vector::new(i64::MAX, 0, 0).is_none(),
+    ];
+    assert!(rt; found == [true; 7]);
 }
 
 /// Whether three vectors have this triple product.
@@ -78,33 +80,39 @@ fn signs(alloc: Global, rows: &[[i64; 3]]) -> Result<Chirotope, SignsError> {
 
 // the triple products of 123, 124, 134 and 234 are 1, 1, -1 and 1; two vectors are too few
 #[test]
-fn signs_of_vectors(rt: HostRuntime) -> Result<(), Fail> {
+fn signs_of_vectors(rt: HostRuntime) {
     let alloc = rt.alloc();
     let found = signs(alloc, &[[1, 0, 0], [0, 1, 0], [0, 0, 1], [1, 1, 1]]);
     assert!(rt; is_chirotope(found, 3, 4, "++-+"));
     let found = signs(alloc, &[[1, 0, 0], [0, 1, 0]]);
     assert!(rt; matches!(found, Err(SignsError::RankLow)));
-    Ok(())
 }
 
-/// Whether some vectors realize a chirotope, or the first triple with another sign.
-fn realization(chi: Result<Chirotope, SampleError>, rows: &[[i64; 3]]) -> Option<Result<(), Subset>>
+/// Whether there is a chirotope of as many elements as there are vectors, and they realize it, or the first triple with another sign
+/// is the expected one.
+fn is_realization(
+    chi: Result<Chirotope, SampleError>,
+    rows: &[[i64; 3]],
+    expected: Result<(), Subset>,
+) -> bool
     requires { IfOk chi (λ c. c.rank ≡ 3) }
 {
-    let (chi, word) = (chi.ok()?, word_of(rows));
-    if word.len() != chi.elements() {
-        return None;
+    let word = word_of(rows);
+    match &chi {
+        Ok(chi) => word.len() == chi.elements() && realizes(word.as_slice(), chi) == expected,
+        Err(_) => false,
     }
-    Some(realizes(word.as_slice(), &chi))
 }
 
+// of these vectors the triple 134 alone has the sign minus
 #[test]
-fn realizations(rt: HostRuntime) -> Result<(), Fail> {
+fn realizations(rt: HostRuntime) {
     let alloc = rt.alloc();
     let rows = [[1, 0, 0], [0, 1, 0], [0, 0, 1], [1, 1, 1]];
-    let chi = chirotope_of(&rt, alloc, 3, 4, "++-+");
-    assert!(rt; realization(chi, &rows) == Some(Ok(())));
-    let chi = chirotope_of(&rt, alloc, 3, 4, "++++");
-    assert!(rt; realization(chi, &rows) == Some(Err(Subset::from_mask(0b1101, 4))));
-    Ok(())
+    let other = Subset::from_mask(0b1101, 4);
+    let found = [
+        is_realization(chirotope_of(&rt, alloc, 3, 4, "++-+"), &rows, Ok(())),
+        is_realization(chirotope_of(&rt, alloc, 3, 4, "++++"), &rows, Err(other)),
+    ];
+    assert!(rt; found == [true; 2]);
 }

@@ -1,14 +1,14 @@
 //! Wiring diagrams worked out by hand.
 
-ghost use Rattle.std.specs.Prelude.{◌≡◌};
+ghost use Rattle.std.specs.Prelude.{◌≡◌, IfOk};
 
 use super::helpers::is_chirotope;
 use om_chirotope::Chirotope;
-use om_samples::{chirotope_of, vector_of};
+use om_samples::{SampleError, chirotope_of, vector_of};
 use om_signs::{Block, List, Sign};
 use om_subsets::Subset;
 use om_wiring::{BadWiring, Values, Wiring, WiringRefused, check, chirotope, sweep};
-use std::test::Fail;
+use std::alloc::Global;
 
 /// Whether a wiring diagram was accepted, and has these blocks.
 fn is_wiring(found: Result<Wiring, BadWiring>, blocks: &[Block]) -> bool {
@@ -26,18 +26,43 @@ fn is_refused(found: Result<Wiring, BadWiring>) -> bool {
     }
 }
 
-/// Whether the values of a chirotope with the signs `+-++` are right: of the triples with 1 and 2, that with 3 has the sign plus and
-/// that with 4 minus.
-fn has_rows(chi: &Chirotope) -> bool
-    requires rank { chi.now.rank ≡ 3 }
-    requires elements { chi.now.elements ≡ 4 }
+/// Whether there is a chirotope, and the values of one with the signs `+-++` are right: of the triples with 1 and 2, that with 3 has
+/// the sign plus and that with 4 minus.
+fn has_rows(chi: Result<Chirotope, SampleError>) -> bool
+    requires rank { IfOk chi (λ c. c.rank ≡ 3) }
+    requires elements { IfOk chi (λ c. c.elements ≡ 4) }
 {
-    let values = Values::of(chi);
-    values.rank() == 3
-        && values.elements() == 4
-        && values.row(2, 1) == vector_of(4, "00-+")
-        && values.value(3, 1, 2) == Sign::Plus
-        && values.at(Subset::unrank(1, 3, 4)) == Sign::Minus
+    match &chi {
+        Ok(chi) => {
+            let values = Values::of(chi);
+            let signs = [values.value(3, 1, 2), values.at(Subset::unrank(1, 3, 4))];
+            [values.rank(), values.elements()] == [3, 4]
+                && values.row(2, 1) == vector_of(4, "00-+")
+                && signs == [Sign::Plus, Sign::Minus]
+        }
+        Err(_) => false,
+    }
+}
+
+/// The least wiring diagram of a chirotope, where there is one.
+pub fn sweep_of(alloc: Global, chi: Result<Chirotope, SampleError>) -> Option<Wiring> {
+    match &chi {
+        Ok(chi) => sweep(alloc, chi).ok(),
+        Err(_) => None,
+    }
+}
+
+/// Whether there is a wiring diagram of four wires, whose chirotope has the signs of a text, and whose blocks are these and are
+/// accepted.
+fn is_of_four(alloc: Global, found: Option<Wiring>, text: &str, blocks: &[Block]) -> bool {
+    match found {
+        Some(w) => {
+            w.elements() == 4
+                && is_chirotope(chirotope(alloc, &w), 3, 4, text)
+                && is_wiring(check(4, w.into_blocks()), blocks)
+        }
+        None => false,
+    }
 }
 
 /// The wires 1, 2 and 3 cross at once, before each of them crosses 4.
@@ -49,13 +74,10 @@ const CROSSED_AT_ONCE: [Block; 4] = [
 ];
 
 #[test]
-fn four_wires(rt: HostRuntime) -> Result<(), Fail> {
-    let chi = chirotope_of(&rt, rt.alloc(), 3, 4, "0+++")?;
-    let w = sweep(rt.alloc(), &chi)?;
-    assert!(rt; w.elements() == 4);
-    assert!(rt; is_chirotope(chirotope(rt.alloc(), &w), 3, 4, "0+++"));
-    assert!(rt; is_wiring(check(4, w.into_blocks()), &CROSSED_AT_ONCE));
-    Ok(())
+fn four_wires(rt: HostRuntime) {
+    let alloc = rt.alloc();
+    let found = sweep_of(alloc, chirotope_of(&rt, alloc, 3, 4, "0+++"));
+    assert!(rt; is_of_four(alloc, found, "0+++", &CROSSED_AT_ONCE));
 }
 
 #[test]
@@ -64,8 +86,6 @@ fn no_blocks(rt: HostRuntime) {
 }
 
 #[test]
-fn values_in_rows(rt: HostRuntime) -> Result<(), Fail> {
-    let chi = chirotope_of(&rt, rt.alloc(), 3, 4, "+-++")?;
-    assert!(rt; has_rows(&chi));
-    Ok(())
+fn values_in_rows(rt: HostRuntime) {
+    assert!(rt; has_rows(chirotope_of(&rt, rt.alloc(), 3, 4, "+-++")));
 }
