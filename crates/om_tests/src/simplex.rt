@@ -6,7 +6,7 @@ ghost use Rattle.om_simplex.specs.States.{IsColumn};
 use om_rows::Column;
 use om_signs::{MAX_COLUMNS, MAX_ROWS, NoMemory};
 use om_simplex::{Count, Outcome, Stage, solve};
-use std::alloc::Global;
+use std::alloc::{AllocError, Global};
 
 /// A column with these places.
 fn column(small0: u16, small1: u16, big0: u16, big1: u16, strict: bool) -> Column {
@@ -149,31 +149,24 @@ fn link_column(link: Link, j: u16, z: u16, strict: bool) -> Column {
 }
 
 /// The columns of a chain, in their order.
-fn columns_of(alloc: Global, chain: &Chain) -> Option<Vec<Column>> {
+fn columns_of(alloc: Global, chain: &Chain) -> Result<Vec<Column>, AllocError> {
     let last = chain.n.saturating_add(1);
     let mut columns = Vec::new(alloc);
-    let mut whole = true;
     for (small, big, strict) in chain.before {
-        whole &= columns
-            .push(column(*small, *small, *big, *big, *strict))
-            .is_ok();
+        columns.push(column(*small, *small, *big, *big, *strict))?;
     }
     for j in 1..chain.n {
-        whole &= columns
-            .push(link_column(chain.link, j, last, chain.strict))
-            .is_ok();
+        columns.push(link_column(chain.link, j, last, chain.strict))?;
     }
     for (small, big, strict) in chain.behind {
-        whole &= columns
-            .push(column(*small, *small, *big, *big, *strict))
-            .is_ok();
+        columns.push(column(*small, *small, *big, *big, *strict))?;
     }
-    if whole { Some(columns) } else { None }
+    Ok(columns)
 }
 
 /// The end of the run over a chain.
 fn end_of_chain(alloc: Global, chain: &Chain) -> Option<Outcome> {
-    let columns = columns_of(alloc, chain)?;
+    let columns = columns_of(alloc, chain).ok()?;
     end_of(alloc, columns.as_slice(), chain.n.saturating_add(2))
 }
 
