@@ -25,6 +25,6 @@ fn extensions_of_three(rt: HostRuntime) -> Result<(), Fail> {
 #[test]
 fn signs_in_a_row(rt: HostRuntime) {
     let signature = Signature::empty().with(Sign::Plus).with(Sign::Zero);
-    assert!(rt; signature.len() == 2);
-    assert!(rt; signature.at(0) == Sign::Plus && signature.at(1) == Sign::Zero);
+    let signs = [signature.at(0), signature.at(1)];
+    assert!(rt; (signature.len(), signs) == (2, [Sign::Plus, Sign::Zero]));
 }

@@ -19,5 +19,5 @@ const TALLY: Tally = Tally {
 fn four_vectors(rt: HostRuntime) {
     let word = vectors(7, 4);
     assert!(rt; word.len() == 4 && word.at(3).x() == -2 && word.at(3).z() == 1);
-    assert!(rt; summary(&rt, rt.alloc(), &word).is_ok_and(|tally| tally == TALLY));
+    assert!(rt; summary(&rt, rt.alloc(), &word) == Ok(TALLY));
 }

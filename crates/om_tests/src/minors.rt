@@ -1,13 +1,20 @@
 //! Minors and reorientations worked out by hand: 1 and 2 are parallel, 3 is a coloop and 4 a loop.
 
+ghost use Rattle.std.specs.Prelude.{◌≡◌, IfOk};
+
 use super::helpers::{are_circuits, are_cocircuits, are_covectors, is_chirotope};
+use om_chirotope::Chirotope;
+use om_circuits::{Circuits, Cocircuits};
+use om_covectors::Covectors;
 use om_minors::{
     MinorError, contract_chirotope, contract_circuits, contract_cocircuits, contract_covectors,
     delete_chirotope, delete_circuits, delete_cocircuits, delete_covectors, reorient_chirotope,
     reorient_circuits, reorient_cocircuits, reorient_covectors,
 };
-use om_samples::{are_vectors, chirotope_of, circuits_of, cocircuits_of, covectors_of, is_map};
-use std::test::Fail;
+use om_samples::{
+    SampleError, are_vectors, chirotope_of, circuits_of, cocircuits_of, covectors_of, is_map,
+};
+use std::alloc::Global;
 
 const CIRCUITS: [&str; 4] = ["+-00", "-+00", "000+", "000-"];
 
@@ -17,78 +24,102 @@ const COVECTORS: [&str; 9] = [
     "0000", "++00", "--00", "00+0", "00-0", "+++0", "++-0", "--+0", "---0",
 ];
 
-#[test]
-fn of_a_chirotope(rt: HostRuntime) -> Result<(), Fail> {
-    let chi = chirotope_of(&rt, rt.alloc(), 2, 4, "0+0+00")?;
-    assert!(rt; is_chirotope(delete_chirotope(rt.alloc(), &chi, 1), 2, 3, "+00"));
-    assert!(rt; is_chirotope(delete_chirotope(rt.alloc(), &chi, 3), 1, 3, "++0"));
-    assert!(rt; is_chirotope(contract_chirotope(rt.alloc(), &chi, 1), 1, 3, "0+0"));
-    assert!(rt; is_chirotope(contract_chirotope(rt.alloc(), &chi, 4), 2, 3, "0++"));
-    // the value of 13 becomes minus, and that of 23 stays
-    let turned = reorient_chirotope(chi, 0b1);
-    assert!(rt; is_map(&turned.into_raw(), 2, 4, "0+0-00"));
-    Ok(())
+/// Whether the deletions of 1 and 3, the contractions of 1 and 4 and the reorientation on 1 have the signs worked out by hand: in
+/// the last the value of 13 becomes minus, and that of 23 stays.
+fn of_chirotope(alloc: Global, found: Result<Chirotope, SampleError>) -> [bool; 5]
+    requires { IfOk found (λ c. c.elements ≡ 4) }
+{
+    match found {
+        Ok(chi) => [
+            is_chirotope(delete_chirotope(alloc, &chi, 1), 2, 3, "+00"),
+            is_chirotope(delete_chirotope(alloc, &chi, 3), 1, 3, "++0"),
+            is_chirotope(contract_chirotope(alloc, &chi, 1), 1, 3, "0+0"),
+            is_chirotope(contract_chirotope(alloc, &chi, 4), 2, 3, "0++"),
+            is_map(&reorient_chirotope(chi, 0b1).into_raw(), 2, 4, "0+0-00"),
+        ],
+        Err(_) => [false; 5],
+    }
+}
+
+/// Why there is no deletion and no contraction of 1.
+fn refusals(alloc: Global, found: Result<Chirotope, SampleError>) -> Option<[Option<MinorError>; 2]>
+    requires { IfOk found (λ c. c.elements ≡ 1) }
+{
+    match &found {
+        Ok(chi) => Some([
+            delete_chirotope(alloc, chi, 1).err(),
+            contract_chirotope(alloc, chi, 1).err(),
+        ]),
+        Err(_) => None,
+    }
 }
 
 #[test]
-fn of_one_element(rt: HostRuntime) -> Result<(), Fail> {
-    let chi = chirotope_of(&rt, rt.alloc(), 1, 1, "+")?;
-    assert!(rt;
-        matches!(
-            delete_chirotope(rt.alloc(), &chi, 1),
-            Err(MinorError::LastElement)
-        )
-    );
-    assert!(rt;
-        matches!(
-            contract_chirotope(rt.alloc(), &chi, 1),
-            Err(MinorError::LastElement)
-        )
-    );
-    Ok(())
+fn of_chirotopes(rt: HostRuntime) {
+    let alloc = rt.alloc();
+    let minors = of_chirotope(alloc, chirotope_of(&rt, alloc, 2, 4, "0+0+00"));
+    let none = refusals(alloc, chirotope_of(&rt, alloc, 1, 1, "+"));
+    assert!(rt; (minors, none) == ([true; 5], Some([Some(MinorError::LastElement); 2])));
+}
+
+/// Whether the deletion and the contraction of 1 and the reorientation on 1 and 4 have the circuits worked out by hand.
+fn of_circuits(alloc: Global, found: Result<Circuits, SampleError>) -> [bool; 3]
+    requires { IfOk found (λ c. c.0.elements ≡ 4) }
+{
+    match found {
+        Ok(circuits) => [
+            are_circuits(delete_circuits(alloc, &circuits, 1), "00+ 00-"),
+            are_circuits(contract_circuits(alloc, &circuits, 1), "-00 +00 00+ 00-"),
+            are_vectors(
+                reorient_circuits(circuits, 0b1001).0.members(),
+                "--00 ++00 000+ 000-",
+            ),
+        ],
+        Err(_) => [false; 3],
+    }
+}
+
+/// The same of cocircuits, with the reorientation on 2.
+fn of_cocircuits(alloc: Global, found: Result<Cocircuits, SampleError>) -> [bool; 3]
+    requires { IfOk found (λ c. c.0.elements ≡ 4) }
+{
+    match found {
+        Ok(cocircuits) => [
+            are_cocircuits(delete_cocircuits(alloc, &cocircuits, 1), "+00 -00 0+0 0-0"),
+            are_cocircuits(contract_cocircuits(alloc, &cocircuits, 1), "0+0 0-0"),
+            are_vectors(
+                reorient_cocircuits(cocircuits, 0b10).0.members(),
+                "+-00 -+00 00+0 00-0",
+            ),
+        ],
+        Err(_) => [false; 3],
+    }
+}
+
+/// The same of covectors, with the deletion of 3 and the reorientation on 2 and 3.
+fn of_covectors(alloc: Global, found: Result<Covectors, SampleError>) -> [bool; 3]
+    requires { IfOk found (λ c. c.elements ≡ 4) }
+{
+    match found {
+        Ok(covectors) => [
+            are_covectors(delete_covectors(alloc, &covectors, 3), "000 ++0 --0"),
+            are_covectors(contract_covectors(alloc, &covectors, 1), "000 0+0 0-0"),
+            are_vectors(
+                reorient_covectors(covectors, 0b110).members(),
+                "0000 +-00 -+00 00+0 00-0 +-+0 +--0 -++0 -+-0",
+            ),
+        ],
+        Err(_) => [false; 3],
+    }
 }
 
 #[test]
-fn of_circuits(rt: HostRuntime) -> Result<(), Fail> {
-    let circuits = circuits_of(&rt, rt.alloc(), 4, &CIRCUITS)?;
-    assert!(rt; are_circuits(delete_circuits(rt.alloc(), &circuits, 1), "00+ 00-"));
-    assert!(rt;
-        are_circuits(
-            contract_circuits(rt.alloc(), &circuits, 1),
-            "-00 +00 00+ 00-"
-        )
-    );
-    let turned = reorient_circuits(circuits, 0b1001);
-    assert!(rt; are_vectors(turned.0.members(), "--00 ++00 000+ 000-"));
-    Ok(())
-}
-
-#[test]
-fn of_cocircuits(rt: HostRuntime) -> Result<(), Fail> {
-    let cocircuits = cocircuits_of(&rt, rt.alloc(), 4, &COCIRCUITS)?;
-    assert!(rt;
-        are_cocircuits(
-            delete_cocircuits(rt.alloc(), &cocircuits, 1),
-            "+00 -00 0+0 0-0"
-        )
-    );
-    assert!(rt; are_cocircuits(contract_cocircuits(rt.alloc(), &cocircuits, 1), "0+0 0-0"));
-    let turned = reorient_cocircuits(cocircuits, 0b10);
-    assert!(rt; are_vectors(turned.0.members(), "+-00 -+00 00+0 00-0"));
-    Ok(())
-}
-
-#[test]
-fn of_covectors(rt: HostRuntime) -> Result<(), Fail> {
-    let covectors = covectors_of(&rt, rt.alloc(), 4, &COVECTORS)?;
-    assert!(rt; are_covectors(delete_covectors(rt.alloc(), &covectors, 3), "000 ++0 --0"));
-    assert!(rt; are_covectors(contract_covectors(rt.alloc(), &covectors, 1), "000 0+0 0-0"));
-    let turned = reorient_covectors(covectors, 0b110);
-    assert!(rt;
-        are_vectors(
-            turned.members(),
-            "0000 +-00 -+00 00+0 00-0 +-+0 +--0 -++0 -+-0"
-        )
-    );
-    Ok(())
+fn of_lists(rt: HostRuntime) {
+    let alloc = rt.alloc();
+    let found = [
+        of_circuits(alloc, circuits_of(&rt, alloc, 4, &CIRCUITS)),
+        of_cocircuits(alloc, cocircuits_of(&rt, alloc, 4, &COCIRCUITS)),
+        of_covectors(alloc, covectors_of(&rt, alloc, 4, &COVECTORS)),
+    ];
+    assert!(rt; found == [[true; 3]; 3]);
 }
