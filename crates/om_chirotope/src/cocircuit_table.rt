@@ -7,15 +7,18 @@ ghost use Rattle.om_subsets.specs.Subsets.{choose};
 ghost use Rattle.om_chirotope.specs.Map.{map_of, cocircuit_vectors};
 
 use super::vectors::cocircuit_of;
-use om_signs::{MAX_PLACES, RawMap, SignVec};
+use om_signs::{MAX_ELEMENTS, MAX_PLACES, RawMap, SignVec};
 use om_subsets::Subset;
 
 /// The room of the table: 27,132, which is choose(19, 13). Of all maps on at most 20 elements with at most 12,870 values,
 /// those of rank 14 on 19 elements have the most sets of one element less than the rank.
 pub const ROOM: usize = 27_132;
 
-/// The room of the table that serves for small maps: 1,140, the number of sets of three of 20 elements.
-pub const FEW: usize = 1_140;
+/// The room of the table that serves for small maps: the number of sets of three of all elements.
+pub const FEW: usize = MAX_ELEMENTS as usize
+    * (MAX_ELEMENTS as usize - 1)
+    * (MAX_ELEMENTS as usize - 2)
+    / 6;
 
 /// Writes the vectors U of all sets of one element less than the rank, in lexicographic order, up to the first that isn't
 /// orthogonal to a vector; the answer is its place, or None where each is orthogonal.

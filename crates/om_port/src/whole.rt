@@ -52,6 +52,7 @@ pub fn read_all<S: Source>(
             }
         }
     }
+    // Not reached: each turn but the last took a byte or ended, and the one that takes the last of `limit + 1` bytes ends too.
     Err(ReadError::TooLong)
 }
 

@@ -9,4 +9,4 @@ mod samples;
 
 pub use letters::{are_vectors, is_map, sign_of, signs_of, vector_of, vectors_of};
 pub use sample_error::SampleError;
-pub use samples::{chirotope_of, circuits_of, cocircuits_of, covectors_of};
+pub use samples::{chirotope_of, circuits_of, cocircuits_of, covectors_of, map_of};

@@ -1,6 +1,7 @@
 //! Chirotopes, circuits, cocircuits and covectors of texts.
 
-ghost use Rattle.std.specs.Prelude.{◌≡◌, IfOk};
+ghost use Rattle.std.specs.Prelude.{◌≡◌, ◌≤◌, length, IfOk};
+ghost use Rattle.om_subsets.specs.Subsets.{choose};
 
 use super::letters::{signs_of, vectors_of};
 use super::sample_error::SampleError;
@@ -11,6 +12,27 @@ use om_signs::{MAX_ELEMENTS, RawMap};
 use om_subsets::Subset;
 use std::alloc::Global;
 use std::thread::Threads;
+
+/// The map of a rank and a number of elements whose signs, in lexicographic order of the sets, are those of a text: whether it
+/// meets the axioms isn't looked at. The elements are at most [`MAX_ELEMENTS`]. It takes its memory from `alloc`.
+///
+/// [`SampleError::Refused`] comes where the text has not one byte for each set; [`SampleError::Memory`] for want of memory.
+pub fn map_of(alloc: Global, rank: u8, elements: u8, text: &str) -> Result<RawMap, SampleError>
+    requires { elements ≤ MAX_ELEMENTS }
+    ensures rank { IfOk result (λ raw. raw.rank ≡ rank) }
+    ensures elements { IfOk result (λ raw. raw.elements ≡ elements) }
+    ensures whole { IfOk result (λ raw. length raw.signs ≡ choose elements rank) }
+{
+    let signs = signs_of(alloc, text)?;
+    if signs.len() != Subset::choose(elements, rank) as usize {
+        return Err(SampleError::Refused);
+    }
+    Ok(RawMap {
+        rank,
+        elements,
+        signs,
+    })
+}
 
 /// The chirotope of a rank and a number of elements whose signs, in lexicographic order of the sets, are those of a text.
 /// It takes its memory from `alloc`.
@@ -30,16 +52,7 @@ pub fn chirotope_of<R: Threads + Sync>(
     if elements < 1 || elements > MAX_ELEMENTS || rank > elements {
         return Err(SampleError::Refused);
     }
-    let signs = signs_of(alloc, text)?;
-    if signs.len() != Subset::choose(elements, rank) as usize {
-        return Err(SampleError::Refused);
-    }
-    let raw = RawMap {
-        rank,
-        elements,
-        signs,
-    };
-    match om_chirotope::check(rt, raw) {
+    match om_chirotope::check(rt, map_of(alloc, rank, elements, text)?) {
         Ok(chi) => Ok(chi),
         Err(_) => Err(SampleError::Refused),
     }

@@ -40,8 +40,17 @@ pub const MAX_VALUES: u32 = 12_870;
 /// The most vectors that are drawn from a number; the least is 3.
 pub const MAX_DRAWN: u8 = 16;
 
-/// The greatest number that is written with at most six digits.
+/// The most digits of a plain number.
+pub const MAX_PLAIN_DIGITS: usize = 6;
+
+/// The greatest plain number, of [`MAX_PLAIN_DIGITS`] digits.
 pub const MAX_PLAIN: u32 = 999_999;
+
+/// The most digits of a position in the text of a block.
+pub const MAX_POSITION_DIGITS: usize = 3;
+
+/// The greatest position in the text of a block, of [`MAX_POSITION_DIGITS`] digits.
+pub const MAX_POSITION: u16 = 999;
 
 /// The most bytes that a reader of documents or claims takes, so that it can number their lines.
 pub const MAX_READ: usize = 4_294_967_294;

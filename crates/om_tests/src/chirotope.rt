@@ -3,9 +3,8 @@
 ghost use Rattle.std.specs.Prelude.{◌≡◌, ◌≤◌, length, IfOk};
 ghost use Rattle.om_subsets.specs.Subsets.{choose};
 
-use super::maps::map_of;
 use om_chirotope::{Chirotope, MapRefused, check, has_exchange};
-use om_samples::{SampleError, chirotope_of, is_map, vector_of};
+use om_samples::{SampleError, chirotope_of, is_map, map_of, vector_of};
 use om_signs::{MAX_ELEMENTS, RawMap, Sign, SignVec};
 use om_subsets::Subset;
 use std::thread::Threads;

@@ -3,8 +3,7 @@
 ghost use Rattle.std.specs.Prelude.{◌≡◌, ◌≤◌, length, IfOk};
 ghost use Rattle.om_subsets.specs.Subsets.{choose};
 
-use super::maps::map_of;
-use om_samples::SampleError;
+use om_samples::{SampleError, map_of};
 use om_signs::{MAX_ELEMENTS, RawMap};
 use om_subsets::Subset;
 use om_threeterm::{ThreeRefused, check};

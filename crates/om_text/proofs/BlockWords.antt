@@ -10,6 +10,7 @@ use Rattle.std.proofs.lemmas.Fmt.{length-decimal-le}
 use Rattle.std.proofs.lemmas.List.Folds.{list_all-append}
 use Rattle.std.proofs.Math.Seq.{take-append_seam}
 use Rattle.om_signs.specs.declared.block.Block.{Block}
+use Rattle.om_signs.specs.declared.limits.TheConstants.{MAX_PLAIN_DIGITS, MAX_POSITION, MAX_POSITION_DIGITS}
 use Rattle.om_text.specs.declared.code.Code.TheVariants as code
 use Rattle.om_text.specs.Lines.{has_any}
 use Rattle.om_text.specs.Words.{is_digit, number_from, is_decimal, begins_with, is_plain, plain}
@@ -22,7 +23,7 @@ use Rattle.om_text.proofs.Numerals.{decimal_word, number_word}
 use Rattle.om_text.proofs.Texts.{is_word_byte}
 
 -- a number of at most three digits
-three_digits : (w : List ℕ) → list_all is_digit w ≡ true → length w ≤ 3 → number_from 0 w < 1000
+three_digits : (w : List ℕ) → list_all is_digit w ≡ true → length w ≤ MAX_POSITION_DIGITS → number_from 0 w ≤ MAX_POSITION
 three_digits [] h l = omega arith
 three_digits (x ∷ []) h l =
     let a = digit_at (x ∷ []) 0 h (omega arith) in
@@ -38,27 +39,27 @@ three_digits (x ∷ y ∷ z ∷ []) h l =
     omega arith
 three_digits (x ∷ y ∷ z ∷ u ∷ w) h l = absurd (omega arith)
 
--- a plain word of at most three digits is below 1000
-pub plain_within : (w : List ℕ) → length w ≤ 3 → IfSome (plain w) (λ k. k < 1000)
+-- a plain word of at most three digits is a position
+pub plain_within : (w : List ℕ) → length w ≤ MAX_POSITION_DIGITS → IfSome (plain w) (λ k. k ≤ MAX_POSITION)
 plain_within w l = elim (either (is_plain w)) [
   | inl e ↦
-      let p = both (is_decimal w) (nat_le (length w) 6) e in
+      let p = both (is_decimal w) (nat_le (length w) MAX_PLAIN_DIGITS) e in
       let q = both (list_all is_digit w && nat_le 1 (length w)) (nat_eq (length w) 1 || not (begins_with 48 w)) p.0 in
       let d = both (list_all is_digit w) (nat_le 1 (length w)) q.0 in
       rw e (three_digits w d.0 l)
   | inr n ↦ rw n tt
 ]
 
-pub plain_small : (w : List ℕ) (k : ℕ) → length w ≤ 3 → Some k ≡ plain w → k < 1000
-plain_small w k l h = let i : IfSome (plain w) (λ k. k < 1000) = plain_within w l in let j = rw (← h) at i in j
+pub plain_small : (w : List ℕ) (k : ℕ) → length w ≤ MAX_POSITION_DIGITS → Some k ≡ plain w → k ≤ MAX_POSITION
+plain_small w k l h = let i : IfSome (plain w) (λ k. k ≤ MAX_POSITION) = plain_within w l in let j = rw (← h) at i in j
 
-pub position_within : (w : List ℕ) → IfSome (position_of w) (λ k. k < 1000)
-position_within w = elim (either (nat_le (length w) 3)) [
+pub position_within : (w : List ℕ) → IfSome (position_of w) (λ k. k ≤ MAX_POSITION)
+position_within w = elim (either (nat_le (length w) MAX_POSITION_DIGITS)) [
   | inl e ↦ rw e (plain_within w (at (length w) e))
   | inr n ↦ rw n tt
 ]
   where
-    at : (k : ℕ) → nat_le k 3 ≡ true → k ≤ 3
+    at : (k : ℕ) → nat_le k MAX_POSITION_DIGITS ≡ true → k ≤ MAX_POSITION_DIGITS
     at k h = grind arith
 
 -- ---- blocks as they are printed
@@ -89,17 +90,18 @@ record IsPositionWord (k : ℕ) : Type 0 where
   any : has_any (decimal k) ≡ true
   value : position_of (decimal k) ≡ Some k
 
-position_word : (k : ℕ) → k < 1000 → IsPositionWord k
+position_word : (k : ℕ) → k ≤ MAX_POSITION → IsPositionWord k
 position_word k h =
     let small : k < 2 ^ 64 = omega arith in
+    let short : k < 10 ^ MAX_POSITION_DIGITS = omega arith in
     let d = decimal_word k (omega arith) in
     let n = number_word k (omega arith) in
-    let few = length-decimal-le 3 k (omega arith) h small in
+    let few = length-decimal-le MAX_POSITION_DIGITS k (omega arith) short small in
     record {
       digits = d.digits;
       bytes = d.bytes;
       any = d.any;
-      value = rw (le-leb (length (decimal k)) 3 few) n.value;
+      value = rw (le-leb (length (decimal k)) MAX_POSITION_DIGITS few) n.value;
     }
 
 any_append : (xs ys : List ℕ) → has_any xs ≡ true → has_any (xs ++ ys) ≡ true

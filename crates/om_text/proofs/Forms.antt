@@ -1,13 +1,13 @@
 -- A document's value has the forms of documents, within the limits.
 --
 -- Main results: document_form
-use Rattle.std.proofs.Common.{◌≡◌, ℕ, ◌<◌, List, [], ◌∷◌, true, not, ◌&&◌, length, map, refl, sym, ap, subst, ◌∙◌}
+use Rattle.std.proofs.Common.{◌≡◌, ℕ, ◌≤◌, List, [], ◌∷◌, true, not, ◌&&◌, length, map, refl, sym, ap, subst, ◌∙◌}
 use Rattle.std.specs.Prelude.{ℤ, Option, Some, None, is_some, unwrap_or, IfSome, All, nat_eq, nat_le, slice_index_or}
 use Rattle.std.specs.List.{list_all, concat, flat_map, before_first, after_first}
 use Rattle.std.proofs.lemmas.Bool.{leb-true, eqb-true}
 use Rattle.std.proofs.lemmas.List.{length-map}
 use Rattle.std.proofs.lemmas.List.Elements.{All-nil, All-cons, All-head, All-tail, All-append, All-filter}
-use Rattle.om_signs.specs.declared.limits.TheConstants.{MAX_ELEMENTS, MAX_MEMBERS, MAX_VALUES, MAX_BLOCKS}
+use Rattle.om_signs.specs.declared.limits.TheConstants.{MAX_ELEMENTS, MAX_MEMBERS, MAX_VALUES, MAX_BLOCKS, MAX_POSITION}
 use Rattle.om_signs.specs.declared.block.Block.{Block}
 use Rattle.om_signs.specs.declared.raw_map.RawMap.{RawMap}
 use Rattle.om_signs.specs.declared.sign.Sign.{Sign}
@@ -75,7 +75,7 @@ lines_of_signs n (l ∷ ls) h =
 
 -- the blocks of lines
 
-short_form : (a b : Option ℕ) (d : Block) → IfSome a (λ k. k < 1000) → IfSome b (λ k. k < 1000) → is_some (with_positions a b) ≡ true → IsShort (unwrap_or (with_positions a b) d)
+short_form : (a b : Option ℕ) (d : Block) → IfSome a (λ k. k ≤ MAX_POSITION) → IfSome b (λ k. k ≤ MAX_POSITION) → is_some (with_positions a b) ≡ true → IsShort (unwrap_or (with_positions a b) d)
 short_form None b d h g e = cc
 short_form (Some i) None d h g e = cc
 short_form (Some i) (Some j) d h g e = record { first = h; last = g }

@@ -4,11 +4,12 @@
 use Rattle.std.specs.Prelude.{ℕ, List, Bool, cond, nat_eq, nat_le, length, map, Option, Some, None, is_some, unwrap_or}
 use Rattle.std.specs.List.{list_all, before_first, after_first}
 use Rattle.om_signs.specs.declared.block.Block.{Block}
+use Rattle.om_signs.specs.declared.limits.TheConstants.{MAX_POSITION_DIGITS}
 use Rattle.om_text.specs.Words.{plain}
 
--- the position that a word is: a plain number of at most 3 digits
+-- the position that a word is: a plain number of few digits
 abbrev pub position_of : List ℕ → Option ℕ
-position_of w = cond (nat_le (length w) 3) (plain w) None
+position_of w = cond (nat_le (length w) MAX_POSITION_DIGITS) (plain w) None
 
 -- `-`
 abbrev pub is_dash : ℕ → Bool

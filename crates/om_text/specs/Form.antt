@@ -1,8 +1,8 @@
 -- The forms and the limits of a document's value.
 --
 -- Trusted: `parse` promises them, and `print` asks for them.
-use Rattle.std.specs.Prelude.{ℕ, ◌≡◌, ◌≢◌, ◌<◌, ◌≤◌, ◌⊎◌, ℤ, List, [], true, length, All, AllPairs}
-use Rattle.om_signs.specs.declared.limits.TheConstants.{MAX_ELEMENTS, MAX_MEMBERS, MAX_VALUES, MAX_BLOCKS}
+use Rattle.std.specs.Prelude.{ℕ, ◌≡◌, ◌≢◌, ◌≤◌, ◌⊎◌, ℤ, List, [], true, length, All, AllPairs}
+use Rattle.om_signs.specs.declared.limits.TheConstants.{MAX_ELEMENTS, MAX_MEMBERS, MAX_VALUES, MAX_BLOCKS, MAX_POSITION}
 use Rattle.om_signs.specs.declared.block.Block.{Block}
 use Rattle.om_signs.specs.declared.sign.Sign.{Sign}
 use Rattle.om_signs.specs.declared.raw_map.RawMap.{RawMap}
@@ -27,10 +27,10 @@ pub record AreMembersOn (n : ℕ) (ms : List (List Sign)) : Type 0 where
   pub long : All (λ x. length x ≡ n) ms
   pub distinct : AllPairs (λ x y. x ≢ y) ms
 
--- a block whose positions are written with at most three digits
+-- a block whose positions are short enough to be written
 pub record IsShort (b : Block) : Type 0 where
-  pub first : b.first < 1000
-  pub last : b.last < 1000
+  pub first : b.first ≤ MAX_POSITION
+  pub last : b.last ≤ MAX_POSITION
 
 -- such blocks, no more than a wiring may have
 pub record AreBlocks (bs : List Block) : Type 0 where

@@ -3,6 +3,7 @@
 -- Trusted: what a document is rests on these definitions.
 use Rattle.std.specs.Prelude.{ℕ, suc, ◌+◌, ◌-◌, ◌*◌, ℤ, pos, negsuc, List, [], ◌∷◌, Bool, false, cond, not, nat_eq, nat_le, ◌&&◌, ◌||◌, length, drop, Option, Some, None, option_map}
 use Rattle.std.specs.List.{list_all}
+use Rattle.om_signs.specs.declared.limits.TheConstants.{MAX_PLAIN_DIGITS}
 use Rattle.om_signs.specs.declared.sign.Sign.{Sign}
 use Rattle.om_signs.specs.declared.sign.Sign.TheVariants.{Minus, Zero, Plus}
 
@@ -24,9 +25,9 @@ begins_with b (x ∷ xs) = nat_eq x b
 abbrev pub is_decimal : List ℕ → Bool
 is_decimal w = list_all is_digit w && nat_le 1 (length w) && (nat_eq (length w) 1 || not (begins_with 48 w))
 
--- the same, of at most 6 digits
+-- the same, of few digits
 abbrev pub is_plain : List ℕ → Bool
-is_plain w = is_decimal w && nat_le (length w) 6
+is_plain w = is_decimal w && nat_le (length w) MAX_PLAIN_DIGITS
 
 -- the plain number that a word is
 abbrev pub plain : List ℕ → Option ℕ

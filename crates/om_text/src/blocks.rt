@@ -6,10 +6,7 @@ ghost use Rattle.om_text.specs.Blocks.{position_of, is_dash, block_of};
 
 use super::lines::len_before;
 use super::words::plain_number;
-use om_signs::Block;
-
-/// The most digits of a position.
-const MOST_DIGITS: usize = 3;
+use om_signs::{Block, MAX_POSITION_DIGITS};
 
 /// The part of a word before its first `-`.
 fn before_dash(word: &[u8]) -> &[u8]
@@ -31,11 +28,11 @@ fn after_dash(word: &[u8]) -> &[u8]
     }
 }
 
-/// The position that a word is: a plain number of at most `MOST_DIGITS` digits.
+/// The position that a word is: a plain number of at most [`MAX_POSITION_DIGITS`] digits.
 fn position_of(word: &[u8]) -> Option<u16>
     ensures { result ≡ position_of word.now }
 {
-    if MOST_DIGITS < word.len() {
+    if MAX_POSITION_DIGITS < word.len() {
         return None;
     }
     let number = plain_number(word)?;

@@ -4,15 +4,12 @@ ghost use Rattle.std.specs.Prelude.{◌≡◌, ◌+◌, ◌-◌, ◌*◌, ◌^�
 ghost use Rattle.std.specs.List.{list_all};
 ghost use Rattle.om_text.specs.Words.{is_digit, is_decimal, is_plain, plain, number_from, up_to, unsigned, signed, is_sign, sign_of_byte, byte_of, begins_with};
 
-use om_signs::Sign;
+use om_signs::{MAX_PLAIN_DIGITS, Sign};
 
-/// The most digits of a plain number.
-const MOST_PLAIN_DIGITS: usize = 6;
-
-/// The number that a word of at most `MOST_PLAIN_DIGITS` digits spells.
+/// The number that a word of at most [`MAX_PLAIN_DIGITS`] digits spells.
 fn spelled(word: &[u8]) -> u32
     requires digits { list_all is_digit word.now ≡ true }
-    requires short { length word.now ≤ MOST_PLAIN_DIGITS }
+    requires short { length word.now ≤ MAX_PLAIN_DIGITS }
     ensures { result ≡ number_from 0 word.now }
 {
     let mut number = 0u32;
@@ -49,7 +46,7 @@ fn is_decimal_word(word: &[u8]) -> bool
 fn is_plain_word(word: &[u8]) -> bool
     ensures { result ≡ is_plain word.now }
 {
-    is_decimal_word(word) && word.len() <= MOST_PLAIN_DIGITS
+    is_decimal_word(word) && word.len() <= MAX_PLAIN_DIGITS
 }
 
 /// The plain number that a word is: 1 to 6 decimal digits without a leading zero, save `0` itself.

@@ -66,13 +66,13 @@ table_empty n r table l above = let none = choose_above n r above in table_done 
 
 -- there are at most 5,985 sets of four
 pub few_fours : (n : ℕ) → n ≤ MAX_PLACES → choose n 4 ≤ 5985
-few_fours n l = up_to (21 - n) n (omega arith)
+few_fours n l = up_to (MAX_PLACES - n) n (omega arith)
   where
-    up_to : (d n : ℕ) → n + d ≡ 21 → choose n 4 ≤ 5985
+    up_to : (d n : ℕ) → n + d ≡ MAX_PLACES → choose n 4 ≤ 5985
     up_to zero n q =
-        let last : n ≡ 21 = omega arith in
-        let most : choose 21 4 ≡ 5985 = refl in
-        let here : choose n 4 ≡ choose 21 4 = ap (λ k. choose k 4) last in
+        let last : n ≡ MAX_PLACES = omega arith in
+        let most : choose MAX_PLACES 4 ≡ 5985 = refl in
+        let here : choose n 4 ≡ choose MAX_PLACES 4 = ap (λ k. choose k 4) last in
         omega (arith, here, most)
     up_to (suc d) n q = let more : choose n 3 + choose n 4 ≤ 5985 = up_to d (suc n) (omega arith) in omega (arith, more)
 

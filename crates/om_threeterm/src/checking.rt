@@ -22,7 +22,8 @@ use std::thread::Threads;
 /// the first violated relation, where bases have exchange.
 ///
 /// The elements are from 1 to [`MAX_ELEMENTS`], the rank is at most their number, and there is one sign for each increasing
-/// list of that many elements. It takes no memory, and scans on several threads.
+/// list of that many elements. It takes no memory, needs up to 470 KB of stack, and scans on
+/// several threads.
 ///
 /// Source: Björner, Las Vergnas, Sturmfels, White and Ziegler, *Oriented Matroids*, chapter 3.
 pub fn check<R: Threads + Sync>(rt: &R, raw: RawMap) -> Result<Chirotope, BadThree>
