@@ -12,7 +12,6 @@ use om_signs::{List, MAX_ENTRIES, NoMemory};
 use om_subsets::Subset;
 use om_vectors::Unfound;
 use std::alloc::Global;
-use std::test::Fail;
 
 /// Three unit vectors and a fourth, with which they have the signs `++++`.
 const FOUR: [[i64; 3]; 4] = [[1, 0, 0], [0, 1, 0], [0, 0, 1], [1, -1, 1]];
@@ -46,16 +45,31 @@ const FIRST: Statement = Statement {
     strict: true,
 };
 
-/// What the check says of evidence on a chirotope.
-fn answer(
+/// Whether there is evidence, and the check says this of it.
+fn is_answer(
+    chi: &Chirotope,
+    evidence: &Result<Evidence, NoMemory>,
+    expected: Result<(), CertRefused>,
+) -> bool
+    requires { IfOk evidence.now IsWithinLimits }
+{
+    match evidence {
+        Ok(evidence) => check(chi, evidence) == expected,
+        Err(_) => false,
+    }
+}
+
+/// Whether there are a chirotope and evidence, and the check says this of them.
+fn is_checked(
     chi: Result<Chirotope, SampleError>,
     evidence: Result<Evidence, NoMemory>,
-) -> Option<Result<(), CertRefused>>
+    expected: Result<(), CertRefused>,
+) -> bool
     requires { IfOk evidence IsWithinLimits }
 {
-    match (&chi, &evidence) {
-        (Ok(chi), Ok(evidence)) => Some(check(chi, evidence)),
-        _ => None,
+    match &chi {
+        Ok(chi) => is_answer(chi, &evidence, expected),
+        Err(_) => false,
     }
 }
 
@@ -95,12 +109,6 @@ fn ones(alloc: Global, triples: &[[u8; 3]]) -> Result<Evidence, NoMemory>
 #[test]
 fn vectors_as_evidence(rt: HostRuntime) {
     let alloc = rt.alloc();
-    let found = [
-        answer(chirotope_of(&rt, alloc, 3, 4, "++++"), vectors(&FOUR)),
-        answer(chirotope_of(&rt, alloc, 2, 4, "++++++"), vectors(&FOUR)),
-        answer(chirotope_of(&rt, alloc, 3, 5, "++++++++++"), vectors(&FOUR)),
-        answer(chirotope_of(&rt, alloc, 3, 4, "++++"), vectors(&OTHER_FOUR)),
-    ];
     let rank = CertRefused::NotRank3 { r: 2 };
     let number = CertRefused::Number {
         wanted: 5,
@@ -109,15 +117,29 @@ fn vectors_as_evidence(rt: HostRuntime) {
     let sign = CertRefused::WrongSign {
         triple: Subset::from_mask(0b1101, 4),
     };
-    assert!(rt;
-        found
-            == [
-                Some(Ok(())),
-                Some(Err(rank)),
-                Some(Err(number)),
-                Some(Err(sign))
-            ]
-    );
+    let found = [
+        is_checked(
+            chirotope_of(&rt, alloc, 3, 4, "++++"),
+            vectors(&FOUR),
+            Ok(()),
+        ),
+        is_checked(
+            chirotope_of(&rt, alloc, 2, 4, "++++++"),
+            vectors(&FOUR),
+            Err(rank),
+        ),
+        is_checked(
+            chirotope_of(&rt, alloc, 3, 5, "++++++++++"),
+            vectors(&FOUR),
+            Err(number),
+        ),
+        is_checked(
+            chirotope_of(&rt, alloc, 3, 4, "++++"),
+            vectors(&OTHER_FOUR),
+            Err(sign),
+        ),
+    ];
+    assert!(rt; found == [true; 4]);
 }
 
 // no entries at all are balanced; four elements are too few for a statement; 123 is on the small side of the first one, and nowhere
@@ -125,30 +147,29 @@ fn vectors_as_evidence(rt: HostRuntime) {
 #[test]
 fn entries_as_evidence(rt: HostRuntime) {
     let alloc = rt.alloc();
-    let none = Ok(Evidence::Balanced(List::new(alloc)));
-    let found = [
-        answer(chirotope_of(&rt, alloc, 3, 4, "++++"), none),
-        answer(chirotope_of(&rt, alloc, 3, 4, "++++"), one_entry(alloc)),
-        answer(
-            chirotope_of(&rt, alloc, 3, 5, "++++++++++"),
-            one_entry(alloc),
-        ),
-    ];
-    let unlawful = CertRefused::Unlawful { entry: 1 };
     let unbalanced = CertRefused::Unbalanced {
         bracket: Subset::from_mask(0b111, 5),
         small: 1,
         big: 0,
     };
-    let strict = CertRefused::NoStrict;
-    assert!(rt;
-        found
-            == [
-                Some(Err(strict)),
-                Some(Err(unlawful)),
-                Some(Err(unbalanced))
-            ]
-    );
+    let found = [
+        is_checked(
+            chirotope_of(&rt, alloc, 3, 4, "++++"),
+            Ok(Evidence::Balanced(List::new(alloc))),
+            Err(CertRefused::NoStrict),
+        ),
+        is_checked(
+            chirotope_of(&rt, alloc, 3, 4, "++++"),
+            one_entry(alloc),
+            Err(CertRefused::Unlawful { entry: 1 }),
+        ),
+        is_checked(
+            chirotope_of(&rt, alloc, 3, 5, "++++++++++"),
+            one_entry(alloc),
+            Err(unbalanced),
+        ),
+    ];
+    assert!(rt; found == [true; 3]);
 }
 
 // on three elements the only bracket is 123, and there is no statement; on five 1 with 1 isn't less than 1 with 1
@@ -156,32 +177,38 @@ fn entries_as_evidence(rt: HostRuntime) {
 fn weights_as_evidence(rt: HostRuntime) {
     let alloc = rt.alloc();
     let found = [
-        answer(
+        is_checked(
             chirotope_of(&rt, alloc, 3, 3, "+"),
             ones(alloc, &[[1, 2, 3]]),
+            Ok(()),
         ),
-        answer(
+        is_checked(
             chirotope_of(&rt, alloc, 3, 3, "+"),
             ones(alloc, &[[1, 3, 2]]),
+            Err(CertRefused::Bracket { entry: 1 }),
         ),
-        answer(
+        is_checked(
             chirotope_of(&rt, alloc, 3, 5, "++++++++++"),
             ones(alloc, &TEN),
+            Err(CertRefused::WeightFails { statement: FIRST }),
         ),
     ];
-    let bracket = CertRefused::Bracket { entry: 1 };
-    let fails = CertRefused::WeightFails { statement: FIRST };
-    assert!(rt; found == [Some(Ok(())), Some(Err(bracket)), Some(Err(fails))]);
+    assert!(rt; found == [true; 3]);
 }
 
-/// The kind of the evidence of a verdict: 1 for vectors, 2 for entries, 3 for weights, and 4 where the verdict comes back.
-fn kind_of(verdict: Verdict) -> u8 {
-    match &certificate(verdict) {
+/// The kind of some evidence: 1 for vectors, 2 for entries, 3 for weights, and 4 for a verdict that came back.
+fn kind(evidence: &Result<Evidence, Verdict>) -> u8 {
+    match evidence {
         Ok(Evidence::Vectors(_)) => 1,
         Ok(Evidence::Balanced(_)) => 2,
         Ok(Evidence::Weights(_)) => 3,
         Err(_) => 4,
     }
+}
+
+/// The kind of the evidence of a verdict.
+fn kind_of(verdict: Verdict) -> u8 {
+    kind(&certificate(verdict))
 }
 
 #[test]

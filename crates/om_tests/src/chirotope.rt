@@ -1,16 +1,17 @@
 //! The values and vectors of a small chirotope, and maps that are accepted or refused.
 
-ghost use Rattle.std.specs.Prelude.{◌≡◌, ◌≤◌, length, IfOk};
-ghost use Rattle.om_subsets.specs.Subsets.{choose};
+ghost use Rattle.std.specs.Prelude.{◌≡◌, ◌≤◌, IfOk};
 
-use om_chirotope::{Chirotope, MapRefused, check, has_exchange};
+use om_chirotope::{BadMap, Chirotope, MapRefused, check, has_exchange};
 use om_samples::{SampleError, chirotope_of, is_map, map_of, vector_of};
-use om_signs::{MAX_ELEMENTS, RawMap, Sign, SignVec};
+use om_signs::{MAX_ELEMENTS, Sign};
 use om_subsets::Subset;
+use std::alloc::Global;
 use std::thread::Threads;
 
-/// The signs of 13, of (3, 1), of (2, 2), and the vectors of 123 and of 3.
-fn values(chi: Result<Chirotope, SampleError>) -> Option<([Sign; 3], [SignVec; 2])>
+/// Whether there is a chirotope, and it has the signs and vectors worked out by hand: those of 13, of (3, 1) and of (2, 2), and
+/// those of 123 and of 3.
+fn has_values(chi: Result<Chirotope, SampleError>) -> bool
     requires rank { IfOk chi (λ c. c.rank ≡ 2) }
     requires elements { IfOk chi (λ c. c.elements ≡ 3) }
 {
@@ -25,77 +26,68 @@ fn values(chi: Result<Chirotope, SampleError>) -> Option<([Sign; 3], [SignVec; 2
                 chi.circuit_of(Subset::from_mask(0b111, 3)),
                 chi.cocircuit_of(Subset::from_mask(0b100, 3)),
             ];
-            Some((signs, vectors))
-        }
-        Err(_) => None,
-    }
-}
-
-// the signs of 12, 13 and 23 are plus, minus and plus
-#[test]
-fn values_and_vectors(rt: HostRuntime) {
-    let found = values(chirotope_of(&rt, rt.alloc(), 2, 3, "+-+"));
-    let vectors = [vector_of(3, "---"), vector_of(3, "+-0")];
-    assert!(rt; found == Some(([Sign::Minus, Sign::Plus, Sign::Zero], vectors)));
-}
-
-/// Whether a chirotope was found, and its negative has the signs of a text.
-fn has_negative(found: Result<Chirotope, SampleError>, text: &str) -> bool {
-    match found {
-        Ok(chi) => {
-            let (rank, elements) = (chi.rank(), chi.elements());
-            is_map(&chi.negate().into_raw(), rank, elements, text)
+            let expected = [vector_of(3, "---"), vector_of(3, "+-0")];
+            (signs, vectors) == ([Sign::Minus, Sign::Plus, Sign::Zero], expected)
         }
         Err(_) => false,
     }
 }
 
-/// The copy of a chirotope, where there is one.
-fn copy_of(found: Result<Chirotope, SampleError>) -> Option<Chirotope> {
-    match &found {
-        Ok(chi) => chi.copy().ok(),
-        Err(_) => None,
-    }
-}
-
-/// Whether there is a chirotope, and the normal one of its negative has the signs of a text.
-fn has_normal(found: Option<Chirotope>, text: &str) -> bool {
+/// Whether there is a chirotope of rank 2 with three elements, and the normal one of its negative has the signs of a text.
+fn has_normal<E: Drop>(found: Result<Chirotope, E>, text: &str) -> bool {
     match found {
-        Some(chi) => {
-            let (rank, elements) = (chi.rank(), chi.elements());
-            is_map(&chi.negate().normal().into_raw(), rank, elements, text)
-        }
-        None => false,
+        Ok(chi) => is_map(&chi.negate().normal().into_raw(), 2, 3, text),
+        Err(_) => false,
     }
 }
 
-// the negative begins with minus, so that the normal one of it has the first signs again
+/// Whether there is a chirotope of rank 2 with three elements, and its negative has the signs of a text, and the normal one of the
+/// negative of its copy those of another.
+fn has_negative(found: Result<Chirotope, SampleError>, text: &str, normal: &str) -> bool {
+    match found {
+        Ok(chi) => {
+            let copy = chi.copy();
+            is_map(&chi.negate().into_raw(), 2, 3, text) & has_normal(copy, normal)
+        }
+        Err(_) => false,
+    }
+}
+
+// the signs of 12, 13 and 23 are plus, minus and plus; the negative begins with minus, so that the normal one of it has the first
+// signs again
 #[test]
-fn negatives(rt: HostRuntime) {
+fn values_and_negatives(rt: HostRuntime) {
     let alloc = rt.alloc();
     let found = [
-        has_negative(chirotope_of(&rt, alloc, 2, 3, "+-+"), "-+-"),
-        has_normal(copy_of(chirotope_of(&rt, alloc, 2, 3, "+-+")), "+-+"),
+        has_values(chirotope_of(&rt, alloc, 2, 3, "+-+")),
+        has_negative(chirotope_of(&rt, alloc, 2, 3, "+-+"), "-+-", "+-+"),
     ];
     assert!(rt; found == [true; 2]);
 }
 
-/// Whether there is a map, and the check says this of it.
+/// Whether the check of a map says this.
+fn is_answer(found: Result<Chirotope, BadMap>, expected: Result<(), MapRefused>) -> bool {
+    match &found {
+        Ok(_) => expected.is_ok(),
+        Err(bad) => expected == Err(bad.why),
+    }
+}
+
+/// Whether the text writes a map, and the check says this of it.
 fn is_checked<R: Threads + Sync>(
     rt: &R,
-    map: Result<RawMap, SampleError>,
+    alloc: Global,
+    rank: u8,
+    elements: u8,
+    text: &str,
     expected: Result<(), MapRefused>,
 ) -> bool
-    requires low { IfOk map (λ raw. 1 ≤ raw.elements) }
-    requires high { IfOk map (λ raw. raw.elements ≤ MAX_ELEMENTS) }
-    requires part { IfOk map (λ raw. raw.rank ≤ raw.elements) }
-    requires whole { IfOk map (λ raw. length raw.signs ≡ choose raw.elements raw.rank) }
+    requires low { 1 ≤ elements }
+    requires high { elements ≤ MAX_ELEMENTS }
+    requires part { rank ≤ elements }
 {
-    match map {
-        Ok(map) => match &check(rt, map) {
-            Ok(_) => expected.is_ok(),
-            Err(bad) => expected == Err(bad.why),
-        },
+    match map_of(alloc, rank, elements, text) {
+        Ok(map) => is_answer(check(rt, map), expected),
         Err(_) => false,
     }
 }
@@ -109,23 +101,22 @@ fn checks(rt: HostRuntime) {
         a: Subset::from_mask(0b110000, 6),
     };
     let found = [
-        is_checked(&rt, map_of(alloc, 3, 4, "++++"), Ok(())),
-        is_checked(&rt, map_of(alloc, 3, 4, "0000"), Err(MapRefused::AllZero)),
-        is_checked(&rt, map_of(alloc, 3, 6, "+000000000000000000+"), Err(why)),
+        is_checked(&rt, alloc, 3, 4, "++++", Ok(())),
+        is_checked(&rt, alloc, 3, 4, "0000", Err(MapRefused::AllZero)),
+        is_checked(&rt, alloc, 3, 6, "+000000000000000000+", Err(why)),
     ];
     assert!(rt; found == [true; 3]);
 }
 
-/// Whether the bases of a map have exchange.
-fn exchange(map: Result<RawMap, SampleError>) -> Option<bool>
-    requires low { IfOk map (λ raw. 1 ≤ raw.elements) }
-    requires high { IfOk map (λ raw. raw.elements ≤ MAX_ELEMENTS) }
-    requires part { IfOk map (λ raw. raw.rank ≤ raw.elements) }
-    requires whole { IfOk map (λ raw. length raw.signs ≡ choose raw.elements raw.rank) }
+/// Whether the text writes a map, and its bases have exchange or haven't.
+fn is_exchange(alloc: Global, rank: u8, elements: u8, text: &str, expected: bool) -> bool
+    requires low { 1 ≤ elements }
+    requires high { elements ≤ MAX_ELEMENTS }
+    requires part { rank ≤ elements }
 {
-    match &map {
-        Ok(map) => Some(has_exchange(map)),
-        Err(_) => None,
+    match &map_of(alloc, rank, elements, text) {
+        Ok(map) => has_exchange(map) == expected,
+        Err(_) => false,
     }
 }
 
@@ -135,9 +126,9 @@ fn exchange(map: Result<RawMap, SampleError>) -> Option<bool>
 fn exchanges(rt: HostRuntime) {
     let alloc = rt.alloc();
     let found = [
-        exchange(map_of(alloc, 3, 6, "+000000000000000000+")),
-        exchange(map_of(alloc, 3, 6, "+++++-++++++++++++++")),
-        exchange(map_of(alloc, 3, 3, "0")),
+        is_exchange(alloc, 3, 6, "+000000000000000000+", false),
+        is_exchange(alloc, 3, 6, "+++++-++++++++++++++", true),
+        is_exchange(alloc, 3, 3, "0", true),
     ];
-    assert!(rt; found == [Some(false), Some(true), Some(true)]);
+    assert!(rt; found == [true; 3]);
 }

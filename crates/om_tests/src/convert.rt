@@ -12,8 +12,8 @@ use om_convert::{
 };
 use om_covectors::{CovRefused, Covectors};
 use om_samples::{SampleError, chirotope_of, circuits_of, cocircuits_of, covectors_of, vectors_of};
-use std::alloc::Global;
-use std::test::Fail;
+use om_signs::List;
+use std::alloc::{AllocError, Global};
 use std::thread::Threads;
 
 const SIGNS: &str = "0+0+00";
@@ -24,60 +24,65 @@ const COCIRCUITS: &str = "++00 --00 00+0 00-0";
 
 const COVECTORS: &str = "0000 ++00 --00 00+0 00-0 +++0 ++-0 --+0 ---0";
 
-/// Whether the circuits, cocircuits and covectors of a chirotope are those written above.
-fn of_chirotope(alloc: Global, found: Result<Chirotope, SampleError>) -> Option<[bool; 3]> {
+/// The words of [`CIRCUITS`].
+const CIRCUIT_LIST: [&str; 4] = ["+-00", "-+00", "000+", "000-"];
+
+/// The words of [`COCIRCUITS`].
+const COCIRCUIT_LIST: [&str; 4] = ["++00", "--00", "00+0", "00-0"];
+
+/// The words of [`COVECTORS`].
+const COVECTOR_LIST: [&str; 9] = [
+    "0000", "++00", "--00", "00+0", "00-0", "+++0", "++-0", "--+0", "---0",
+];
+
+/// Whether there is a chirotope, and its circuits, cocircuits and covectors are those written above.
+fn of_chirotope(alloc: Global, found: Result<Chirotope, SampleError>) -> bool {
     match &found {
-        Ok(chi) => Some([
+        Ok(chi) => [
             are_circuits(chirotope_to_circuits(alloc, chi), CIRCUITS),
             are_cocircuits(chirotope_to_cocircuits(alloc, chi), COCIRCUITS),
             are_covectors(chirotope_to_covectors(alloc, chi), COVECTORS),
-        ]),
-        Err(_) => None,
+        ] == [true; 3],
+        Err(_) => false,
     }
 }
 
-/// The rank of circuits, and whether their chirotope, cocircuits and covectors are those written above.
-fn of_circuits(alloc: Global, found: Result<Circuits, SampleError>) -> Option<(u8, [bool; 3])> {
+/// Whether there are circuits of rank 2, and their chirotope, cocircuits and covectors are those written above.
+fn of_circuits(alloc: Global, found: Result<Circuits, SampleError>) -> bool {
     match &found {
-        Ok(circuits) => {
-            let answers = [
-                is_chirotope(circuits_to_chirotope(alloc, circuits), 2, 4, SIGNS),
-                are_cocircuits(circuits_to_cocircuits(alloc, circuits), COCIRCUITS),
-                are_covectors(circuits_to_covectors(alloc, circuits), COVECTORS),
-            ];
-            Some((rank_circuits(circuits), answers))
-        }
-        Err(_) => None,
+        Ok(circuits) => [
+            rank_circuits(circuits) == 2,
+            is_chirotope(circuits_to_chirotope(alloc, circuits), 2, 4, SIGNS),
+            are_cocircuits(circuits_to_cocircuits(alloc, circuits), COCIRCUITS),
+            are_covectors(circuits_to_covectors(alloc, circuits), COVECTORS),
+        ] == [true; 4],
+        Err(_) => false,
     }
 }
 
 /// The same of cocircuits, with their circuits.
-fn of_cocircuits(alloc: Global, found: Result<Cocircuits, SampleError>) -> Option<(u8, [bool; 3])> {
+fn of_cocircuits(alloc: Global, found: Result<Cocircuits, SampleError>) -> bool {
     match &found {
-        Ok(cocircuits) => {
-            let answers = [
-                is_chirotope(cocircuits_to_chirotope(alloc, cocircuits), 2, 4, SIGNS),
-                are_circuits(cocircuits_to_circuits(alloc, cocircuits), CIRCUITS),
-                are_covectors(cocircuits_to_covectors(alloc, cocircuits), COVECTORS),
-            ];
-            Some((rank_cocircuits(cocircuits), answers))
-        }
-        Err(_) => None,
+        Ok(cocircuits) => [
+            rank_cocircuits(cocircuits) == 2,
+            is_chirotope(cocircuits_to_chirotope(alloc, cocircuits), 2, 4, SIGNS),
+            are_circuits(cocircuits_to_circuits(alloc, cocircuits), CIRCUITS),
+            are_covectors(cocircuits_to_covectors(alloc, cocircuits), COVECTORS),
+        ] == [true; 4],
+        Err(_) => false,
     }
 }
 
 /// The same of covectors, with their circuits and cocircuits.
-fn of_covectors(alloc: Global, found: Result<Covectors, SampleError>) -> Option<(u8, [bool; 3])> {
+fn of_covectors(alloc: Global, found: Result<Covectors, SampleError>) -> bool {
     match &found {
-        Ok(covectors) => {
-            let answers = [
-                is_chirotope(covectors_to_chirotope(alloc, covectors), 2, 4, SIGNS),
-                are_circuits(covectors_to_circuits(alloc, covectors), CIRCUITS),
-                are_cocircuits(covectors_to_cocircuits(alloc, covectors), COCIRCUITS),
-            ];
-            Some((rank_covectors(covectors), answers))
-        }
-        Err(_) => None,
+        Ok(covectors) => [
+            rank_covectors(covectors) == 2,
+            is_chirotope(covectors_to_chirotope(alloc, covectors), 2, 4, SIGNS),
+            are_circuits(covectors_to_circuits(alloc, covectors), CIRCUITS),
+            are_cocircuits(covectors_to_cocircuits(alloc, covectors), COCIRCUITS),
+        ] == [true; 4],
+        Err(_) => false,
     }
 }
 
@@ -85,29 +90,27 @@ fn of_covectors(alloc: Global, found: Result<Covectors, SampleError>) -> Option<
 #[test]
 fn each_of_each_other(rt: HostRuntime) {
     let alloc = rt.alloc();
-    let texts = [
-        "0000", "++00", "--00", "00+0", "00-0", "+++0", "++-0", "--+0", "---0",
+    let found = [
+        of_chirotope(alloc, chirotope_of(&rt, alloc, 2, 4, SIGNS)),
+        of_circuits(alloc, circuits_of(&rt, alloc, 4, &CIRCUIT_LIST)),
+        of_cocircuits(alloc, cocircuits_of(&rt, alloc, 4, &COCIRCUIT_LIST)),
+        of_covectors(alloc, covectors_of(&rt, alloc, 4, &COVECTOR_LIST)),
     ];
-    let first = of_chirotope(alloc, chirotope_of(&rt, alloc, 2, 4, SIGNS));
-    let others = [
-        of_circuits(
-            alloc,
-            circuits_of(&rt, alloc, 4, &["+-00", "-+00", "000+", "000-"]),
-        ),
-        of_cocircuits(
-            alloc,
-            cocircuits_of(&rt, alloc, 4, &["++00", "--00", "00+0", "00-0"]),
-        ),
-        of_covectors(alloc, covectors_of(&rt, alloc, 4, &texts)),
-    ];
-    assert!(rt; first == Some([true; 3]) && others == [Some((2, [true; 3])); 3]);
+    assert!(rt; found == [true; 4]);
+}
+
+/// Whether a text was made, and is this one.
+fn is_printed(made: Result<String, AllocError>, text: &str) -> bool {
+    match &made {
+        Ok(made) => made.as_str() == text,
+        Err(_) => false,
+    }
 }
 
 #[test]
-fn errors_are_printed(rt: HostRuntime) -> Result<(), Fail> {
-    let text = format!(in rt.alloc(); "{}", ConvertError::TooMany { limit: 5 })?;
-    assert!(rt; text.as_str() == "more than 5 members");
-    Ok(())
+fn errors_are_printed(rt: HostRuntime) {
+    let made = ConvertError::TooMany { limit: 5 }.to_string(rt.alloc());
+    assert!(rt; is_printed(made, "more than 5 members"));
 }
 
 /// Whether a list was refused since the negative of its first member is missing.
@@ -126,37 +129,59 @@ fn lacks_zero<T: Drop>(found: Result<T, ReadCovError>) -> bool {
     }
 }
 
-/// Whether circuits are read, and a list without the negative of its first member isn't.
-fn circuits_read<R: Threads + Sync>(rt: &R, alloc: Global) -> Result<[bool; 2], SampleError> {
-    let list = vectors_of(alloc, 3, &["++0", "--0"])?;
-    let read = are_circuits(read_circuits(rt, alloc, 3, list), "++0 --0");
-    let other = vectors_of(alloc, 2, &["+-"])?;
-    Ok([read, lacks_a_negative(read_circuits(rt, alloc, 2, other))])
+/// What the list of some texts is read as. Want of memory also stands for texts that write no list.
+fn circuits_read<R: Threads + Sync>(
+    rt: &R,
+    alloc: Global,
+    elements: u8,
+    texts: &[&str],
+) -> Result<Circuits, ReadSetError> {
+    match vectors_of(alloc, elements, texts) {
+        Ok(list) => read_circuits(rt, alloc, elements, list),
+        Err(_) => Err(ReadSetError::Memory(List::new(alloc))),
+    }
 }
 
 /// The same of cocircuits.
-fn cocircuits_read<R: Threads + Sync>(rt: &R, alloc: Global) -> Result<[bool; 2], SampleError> {
-    let list = vectors_of(alloc, 3, &["++0", "--0"])?;
-    let read = are_cocircuits(read_cocircuits(rt, alloc, 3, list), "++0 --0");
-    let other = vectors_of(alloc, 2, &["+-"])?;
-    Ok([read, lacks_a_negative(read_cocircuits(rt, alloc, 2, other))])
+fn cocircuits_read<R: Threads + Sync>(
+    rt: &R,
+    alloc: Global,
+    elements: u8,
+    texts: &[&str],
+) -> Result<Cocircuits, ReadSetError> {
+    match vectors_of(alloc, elements, texts) {
+        Ok(list) => read_cocircuits(rt, alloc, elements, list),
+        Err(_) => Err(ReadSetError::Memory(List::new(alloc))),
+    }
 }
 
-/// Whether covectors are read, and a list without the zero vector isn't.
-fn covectors_read<R: Threads + Sync>(rt: &R, alloc: Global) -> Result<[bool; 2], SampleError> {
-    let list = vectors_of(alloc, 2, &["00", "++", "--"])?;
-    let read = are_covectors(read_covectors(rt, alloc, 2, list), "00 ++ --");
-    let other = vectors_of(alloc, 1, &["+", "-"])?;
-    Ok([read, lacks_zero(read_covectors(rt, alloc, 1, other))])
+/// The same of covectors.
+fn covectors_read<R: Threads + Sync>(
+    rt: &R,
+    alloc: Global,
+    elements: u8,
+    texts: &[&str],
+) -> Result<Covectors, ReadCovError> {
+    match vectors_of(alloc, elements, texts) {
+        Ok(list) => read_covectors(rt, alloc, elements, list),
+        Err(_) => Err(ReadCovError::Memory(List::new(alloc))),
+    }
 }
 
 // each list has what it is read for, or lacks it, as its texts show
 #[test]
 fn lists_are_read(rt: HostRuntime) {
+    let alloc = rt.alloc();
     let found = [
-        circuits_read(&rt, rt.alloc()),
-        cocircuits_read(&rt, rt.alloc()),
-        covectors_read(&rt, rt.alloc()),
+        are_circuits(circuits_read(&rt, alloc, 3, &["++0", "--0"]), "++0 --0"),
+        lacks_a_negative(circuits_read(&rt, alloc, 2, &["+-"])),
+        are_cocircuits(cocircuits_read(&rt, alloc, 3, &["++0", "--0"]), "++0 --0"),
+        lacks_a_negative(cocircuits_read(&rt, alloc, 2, &["+-"])),
+        are_covectors(
+            covectors_read(&rt, alloc, 2, &["00", "++", "--"]),
+            "00 ++ --",
+        ),
+        lacks_zero(covectors_read(&rt, alloc, 1, &["+", "-"])),
     ];
-    assert!(rt; found == [Ok([true; 2]); 3]);
+    assert!(rt; found == [true; 6]);
 }

@@ -2,9 +2,10 @@
 
 ghost use Rattle.std.specs.Prelude.{◌≡◌, IfOk};
 
-use om_covectors::{CovRefused, Covectors, check, minimal_vectors};
-use om_samples::{SampleError, are_vectors, covectors_of, vector_of, vectors_of};
-use om_signs::{List, NoMemory, SignVec};
+use super::helpers::are_found;
+use om_covectors::{BadCov, CovRefused, Covectors, check, minimal_vectors};
+use om_samples::{SampleError, covectors_of, vector_of, vectors_of};
+use om_signs::{List, SignVec};
 use std::alloc::Global;
 use std::thread::Threads;
 
@@ -13,54 +14,47 @@ const PLANE: [&str; 13] = [
     "000", "+++", "0++", "---", "0--", "++-", "+0-", "--+", "-0+", "+--", "++0", "-++", "--0",
 ];
 
-/// Why the list of some texts is refused.
-fn refusal<R: Threads + Sync>(
+/// Whether covectors were refused for this reason.
+fn is_bad(found: Result<Covectors, BadCov>, why: CovRefused) -> bool {
+    match &found {
+        Ok(_) => false,
+        Err(bad) => bad.why == why,
+    }
+}
+
+/// Whether some texts write a list, and it is refused for this reason.
+fn is_refused<R: Threads + Sync>(
     rt: &R,
     alloc: Global,
     elements: u8,
     texts: &[&str],
-) -> Result<Option<CovRefused>, SampleError> {
-    let list = vectors_of(alloc, elements, texts)?;
-    match &check(rt, elements, list) {
-        Ok(_) => Ok(None),
-        Err(bad) => Ok(Some(bad.why)),
-    }
-}
-
-/// Whether some sign vectors were found, and are those of a text.
-fn are_found(found: Result<List<SignVec>, NoMemory>, text: &str) -> bool {
-    match &found {
-        Ok(list) => are_vectors(list.as_slice(), text),
+    why: CovRefused,
+) -> bool {
+    match vectors_of(alloc, elements, texts) {
+        Ok(list) => is_bad(check(rt, elements, list), why),
         Err(_) => false,
     }
 }
 
-/// The number of elements of some covectors, and of their members; whether `+0-` and `+0+` are among them; whether their members of
-/// minimal support are those of a text; and the number of members once more, by their list.
-fn looks(found: Result<Covectors, SampleError>, text: &str) -> Option<(u8, usize, [bool; 3], usize)>
+/// Whether there are covectors of three elements, so many of them, and of `+0-` and `+0+` the first alone is among them, and their
+/// members of minimal support are those of a text.
+fn are_seen(found: Result<Covectors, SampleError>, size: usize, text: &str) -> bool
     requires { IfOk found (λ c. c.elements ≡ 3) }
 {
     match found {
         Ok(covectors) => {
-            let (elements, size) = (covectors.elements(), covectors.members().len());
             let answers = [
+                covectors.elements() == 3,
+                covectors.members().len() == size,
                 covectors.contains(vector_of(3, "+0-")),
-                covectors.contains(vector_of(3, "+0+")),
+                !covectors.contains(vector_of(3, "+0+")),
                 are_found(covectors.minimal(), text),
+                covectors.into_list().len() == size,
             ];
-            Some((elements, size, answers, covectors.into_list().len()))
+            answers == [true; 6]
         }
-        Err(_) => None,
+        Err(_) => false,
     }
-}
-
-#[test]
-fn accepted(rt: HostRuntime) {
-    let found = looks(
-        covectors_of(&rt, rt.alloc(), 3, &PLANE),
-        "0++ 0-- +0- -0+ ++0 --0",
-    );
-    assert!(rt; found == Some((3, 13, [true, false, true], 13)));
 }
 
 /// Whether the vectors of minimal support among some vectors are those of a text.
@@ -72,29 +66,46 @@ fn are_minimal(alloc: Global, vectors: Result<List<SignVec>, SampleError>, text:
 }
 
 #[test]
-fn vectors_of_minimal_support(rt: HostRuntime) {
+fn accepted_and_minimal(rt: HostRuntime) {
     let alloc = rt.alloc();
-    let vectors = vectors_of(alloc, 3, &["++0", "000", "-00", "0-+", "+00", "-++"]);
-    assert!(rt; are_minimal(alloc, vectors, "-00 0-+ +00"));
+    let found = [
+        are_seen(
+            covectors_of(&rt, alloc, 3, &PLANE),
+            13,
+            "0++ 0-- +0- -0+ ++0 --0",
+        ),
+        are_minimal(
+            alloc,
+            vectors_of(alloc, 3, &["++0", "000", "-00", "0-+", "+00", "-++"]),
+            "-00 0-+ +00",
+        ),
+    ];
+    assert!(rt; found == [true; 2]);
 }
 
 // without zero, without a negative, without a composition and without elimination
 #[test]
 fn refused(rt: HostRuntime) {
     let alloc = rt.alloc();
+    let no_composition = CovRefused::NoComposition { i: 2, j: 4 };
+    let no_elimination = CovRefused::NoElimination { i: 2, j: 4, e: 2 };
     let found = [
-        refusal(&rt, alloc, 1, &["+", "-"]),
-        refusal(&rt, alloc, 1, &["0", "+"]),
-        refusal(&rt, alloc, 2, &["00", "+0", "-0", "0+", "0-"]),
-        refusal(&rt, alloc, 2, &["00", "++", "--", "+-", "-+"]),
+        is_refused(&rt, alloc, 1, &["+", "-"], CovRefused::NoZero),
+        is_refused(&rt, alloc, 1, &["0", "+"], CovRefused::NoNegative { i: 2 }),
+        is_refused(
+            &rt,
+            alloc,
+            2,
+            &["00", "+0", "-0", "0+", "0-"],
+            no_composition,
+        ),
+        is_refused(
+            &rt,
+            alloc,
+            2,
+            &["00", "++", "--", "+-", "-+"],
+            no_elimination,
+        ),
     ];
-    assert!(rt;
-        found
-            == [
-                Ok(Some(CovRefused::NoZero)),
-                Ok(Some(CovRefused::NoNegative { i: 2 })),
-                Ok(Some(CovRefused::NoComposition { i: 2, j: 4 })),
-                Ok(Some(CovRefused::NoElimination { i: 2, j: 4, e: 2 }))
-            ]
-    );
+    assert!(rt; found == [true; 4]);
 }

@@ -28,18 +28,24 @@ fn in_short(decided: &Result<Verdict, DecideError>) -> Option<(u8, usize)> {
     }
 }
 
-/// The verdict on a chirotope in short.
-fn answer(
+/// Whether there is a chirotope, and the verdict on it is this in short.
+fn is_decided(
     alloc: Global,
     chi: Result<Chirotope, SampleError>,
     budgets: Budgets,
-) -> Option<(u8, usize)>
+    expected: (u8, usize),
+) -> bool
     requires { AreBudgets budgets }
 {
     match &chi {
-        Ok(chi) => in_short(&decide(alloc, chi, budgets)),
-        Err(_) => None,
+        Ok(chi) => is_verdict(decide(alloc, chi, budgets), expected),
+        Err(_) => false,
     }
+}
+
+/// Whether this is a verdict in short.
+fn is_verdict(decided: Result<Verdict, DecideError>, expected: (u8, usize)) -> bool {
+    in_short(&decided) == Some(expected)
 }
 
 /// Some steps and pivots, in a box of 1.
@@ -58,20 +64,30 @@ fn budgets(steps: u64, pivots: u32) -> Budgets
 #[test]
 fn small(rt: HostRuntime) {
     let alloc = rt.alloc();
+    let (rank_2, four) = ("+++", "++++");
+    let five = "++++++++++";
+    let most = 1_000_000;
     let found = [
-        answer(alloc, chirotope_of(&rt, alloc, 2, 3, "+++"), budgets(1, 1)),
-        answer(
+        is_decided(
             alloc,
-            chirotope_of(&rt, alloc, 3, 4, "++++"),
-            budgets(20, 1_000_000),
+            chirotope_of(&rt, alloc, 2, 3, rank_2),
+            budgets(1, 1),
+            (0, 2),
         ),
-        answer(
+        is_decided(
             alloc,
-            chirotope_of(&rt, alloc, 3, 5, "++++++++++"),
-            budgets(52, 1_000_000),
+            chirotope_of(&rt, alloc, 3, 4, four),
+            budgets(20, most),
+            (1, 4),
+        ),
+        is_decided(
+            alloc,
+            chirotope_of(&rt, alloc, 3, 5, five),
+            budgets(52, most),
+            (3, 10),
         ),
     ];
-    assert!(rt; found == [Some((0, 2)), Some((1, 4)), Some((3, 10))]);
+    assert!(rt; found == [true; 3]);
 }
 
 // nine of 84 triples are on lines, and eight; the program ends at its pivot 136, and has a row for each of the 76 brackets and one more
@@ -79,21 +95,24 @@ fn small(rt: HostRuntime) {
 fn pappus(rt: HostRuntime) {
     let alloc = rt.alloc();
     let found = [
-        answer(
+        is_decided(
             alloc,
             chirotope_of(&rt, alloc, 3, 9, PAPPUS),
             budgets(1, 1_000_000),
+            (3, 75),
         ),
-        answer(
+        is_decided(
             alloc,
             chirotope_of(&rt, alloc, 3, 9, NON_PAPPUS),
             budgets(100_000, 136),
+            (2, 22),
         ),
-        answer(
+        is_decided(
             alloc,
             chirotope_of(&rt, alloc, 3, 9, NON_PAPPUS),
             budgets(1, 135),
+            (4, 77),
         ),
     ];
-    assert!(rt; found == [Some((3, 75)), Some((2, 22)), Some((4, 77))]);
+    assert!(rt; found == [true; 3]);
 }

@@ -69,73 +69,87 @@ fn has_all(chi: Result<Chirotope, SampleError>, list: &[[u8; 7]]) -> bool {
     }
 }
 
-// in another rank than 3 there are none
-#[test]
-fn all_statements(rt: HostRuntime) {
-    let alloc = rt.alloc();
-    let found = [
-        has_all(chirotope_of(&rt, alloc, 3, 5, "++++++++++"), &TEN),
-        has_all(chirotope_of(&rt, alloc, 2, 5, "++++++++++"), &[]),
-    ];
-    assert!(rt; found == [true; 2]);
-}
-
 /// Whether there is a chirotope, and the statement with a number is this one, and the last.
 fn has_last(chi: Result<Chirotope, SampleError>, k: u32, numbers: [u8; 7]) -> bool {
     match &chi {
         Ok(chi) => {
-            nth_statement(chi, k) == Some(statement(numbers, true))
-                && nth_statement(chi, k.saturating_add(1)).is_none()
+            let last = [
+                nth_statement(chi, k),
+                nth_statement(chi, k.saturating_add(1)),
+            ];
+            last == [Some(statement(numbers, true)), None]
         }
         Err(_) => false,
     }
 }
 
-// each of 6 elements with each four of the other five has two, of which the last are of 6 with 2, 3, 4 and 5
-#[test]
-fn six_elements(rt: HostRuntime) {
-    let chi = chirotope_of(&rt, rt.alloc(), 3, 6, "++++++++++++++++++++");
-    assert!(rt; has_last(chi, 59, [6, 2, 3, 4, 5, 3, 2]));
+/// A strict statement, an equation, a statement with an element that is none, and two with terms that are none of the three: their
+/// numbers, and whether they are strict.
+const STATEMENTS: [([u8; 7], bool); 5] = [
+    ([1, 2, 3, 4, 5, 1, 2], true),
+    ([1, 2, 3, 4, 5, 1, 2], false),
+    ([0, 2, 3, 4, 5, 1, 2], true),
+    ([1, 2, 3, 4, 5, 0, 2], true),
+    ([1, 2, 3, 4, 5, 2, 4], true),
+];
+
+/// How many of the statements are lawful, and whether the first is.
+fn lawfulness(chi: &Chirotope) -> (usize, bool) {
+    let (numbers, strict) = STATEMENTS[0];
+    let mut count: usize = 0;
+    for (numbers, strict) in STATEMENTS.iter() {
+        if lawful(chi, statement(*numbers, *strict)) {
+            count = count.saturating_add(1);
+        }
+    }
+    (count, lawful(chi, statement(numbers, strict)))
 }
 
-/// Whether these are lawful: a strict statement, an equation, a statement with an element that is none, and two with terms that are
-/// none of the three.
-fn lawfulness(chi: Result<Chirotope, SampleError>) -> Option<[bool; 5]> {
+/// Whether there is a chirotope, and so many of the statements are lawful on it, and the first is or isn't.
+fn is_lawful(chi: Result<Chirotope, SampleError>, count: usize, first: bool) -> bool {
     match &chi {
-        Ok(chi) => Some([
-            lawful(chi, statement(TEN[0], true)),
-            lawful(chi, statement(TEN[0], false)),
-            lawful(chi, statement([0, 2, 3, 4, 5, 1, 2], true)),
-            lawful(chi, statement([1, 2, 3, 4, 5, 0, 2], true)),
-            lawful(chi, statement([1, 2, 3, 4, 5, 2, 4], true)),
-        ]),
-        Err(_) => None,
+        Ok(chi) => lawfulness(chi) == (count, first),
+        Err(_) => false,
     }
 }
 
-// only the first is lawful, and in another rank than 3 not even that one
-#[test]
-fn lawful_and_unlawful(rt: HostRuntime) {
-    let alloc = rt.alloc();
-    let found = [
-        lawfulness(chirotope_of(&rt, alloc, 3, 5, "++++++++++")),
-        lawfulness(chirotope_of(&rt, alloc, 2, 5, "++++++++++")),
-    ];
-    let first = [true, false, false, false, false];
-    assert!(rt; found == [Some(first), Some([false; 5])]);
+/// Whether a statement is lawful, and its sides have the brackets with these masks: two on the small side, two on the big one.
+fn are_sides(chi: &Chirotope, st: Statement, masks: [u32; 4]) -> bool {
+    if !lawful(chi, st) {
+        return false;
+    }
+    brackets_of_lawful_statements();
+    let (first, second, third, fourth) = sides(st, chi.elements());
+    [first.mask(), second.mask(), third.mask(), fourth.mask()] == masks
 }
 
-/// Whether there is a chirotope, and a statement is lawful on it and its sides have the brackets with these masks: two on the small
-/// side, two on the big one.
+/// Whether there is a chirotope, and these are the sides of a statement on it.
 fn has_sides(chi: Result<Chirotope, SampleError>, st: Statement, masks: [u32; 4]) -> bool {
     match &chi {
-        Ok(chi) if lawful(chi, st) => {
-            brackets_of_lawful_statements();
-            let (first, second, third, fourth) = sides(st, chi.elements());
-            [first.mask(), second.mask(), third.mask(), fourth.mask()] == masks
-        }
-        _ => false,
+        Ok(chi) => are_sides(chi, st, masks),
+        Err(_) => false,
     }
+}
+
+#[test]
+fn statements(rt: HostRuntime) {
+    let alloc = rt.alloc();
+    let five = "++++++++++";
+    let found = [
+        // in another rank than 3 there are none
+        has_all(chirotope_of(&rt, alloc, 3, 5, five), &TEN),
+        has_all(chirotope_of(&rt, alloc, 2, 5, five), &[]),
+        // each of 6 elements with each four of the other five has two, of which the last are of 6 with 2, 3, 4 and 5
+        has_last(
+            chirotope_of(&rt, alloc, 3, 6, "++++++++++++++++++++"),
+            59,
+            [6, 2, 3, 4, 5, 3, 2],
+        ),
+        // only the first is lawful, and in another rank than 3 not even that one
+        is_lawful(chirotope_of(&rt, alloc, 3, 5, five), 1, true),
+        is_lawful(chirotope_of(&rt, alloc, 2, 5, five), 0, false),
+    ];
+    assert!(rt; found == [true; 5]);
 }
 
 // since 123 is on a line, 127 with 134 are as large as 124 with 137

@@ -4,6 +4,7 @@ use om_chirotope::Chirotope;
 use om_circuits::{Circuits, Cocircuits};
 use om_covectors::Covectors;
 use om_samples::{are_vectors, is_map};
+use om_signs::{List, SignVec};
 
 /// Whether a chirotope was found, and has this rank, so many elements and the signs of a text.
 pub fn is_chirotope<E: Drop>(
@@ -14,6 +15,14 @@ pub fn is_chirotope<E: Drop>(
 ) -> bool {
     match found {
         Ok(chi) => is_map(&chi.into_raw(), rank, elements, text),
+        Err(_) => false,
+    }
+}
+
+/// Whether sign vectors were found, and are those of a text.
+pub fn are_found<E: Drop>(found: Result<List<SignVec>, E>, text: &str) -> bool {
+    match &found {
+        Ok(list) => are_vectors(list.as_slice(), text),
         Err(_) => false,
     }
 }

@@ -1,25 +1,63 @@
 //! Extensions, whose number is known.
 
+ghost use Rattle.std.specs.Prelude.{◌≤◌};
+
+use om_chirotope::Chirotope;
 use om_localize::{ExtendError, Listing, Signature, extensions};
-use om_samples::chirotope_of;
-use om_signs::Sign;
-use std::test::Fail;
+use om_samples::{SampleError, chirotope_of};
+use om_signs::{MAX_LINES, Sign};
+use std::alloc::Global;
+use std::thread::Threads;
 
 /// Whether so many extensions were listed, and whether there is a further one.
 fn are_listed(found: Result<Listing, ExtendError>, size: usize, more: bool) -> bool {
-    match found {
-        Ok(listing) => listing.lines.len() == size && listing.more == more,
+    match &found {
+        Ok(listing) => (listing.lines.len(), listing.more) == (size, more),
+        Err(_) => false,
+    }
+}
+
+/// Whether there is a chirotope, and of its extensions the first are listed, which are so many, and whether there is a further one.
+fn lists<R: Threads + Sync>(
+    rt: &R,
+    alloc: Global,
+    chi: Result<Chirotope, SampleError>,
+    first: u64,
+    size: usize,
+    more: bool,
+) -> bool
+    requires low { 1 ≤ first }
+    requires high { first ≤ MAX_LINES }
+{
+    match &chi {
+        Ok(chi) => are_listed(extensions(rt, alloc, chi, first), size, more),
         Err(_) => false,
     }
 }
 
 // A chirotope whose only value is plus has an extension for each signature of three signs.
 #[test]
-fn extensions_of_three(rt: HostRuntime) -> Result<(), Fail> {
-    let chi = chirotope_of(&rt, rt.alloc(), 3, 3, "+")?;
-    assert!(rt; are_listed(extensions(&rt, rt.alloc(), &chi, 27), 27, false));
-    assert!(rt; are_listed(extensions(&rt, rt.alloc(), &chi, 26), 26, true));
-    Ok(())
+fn extensions_of_three(rt: HostRuntime) {
+    let alloc = rt.alloc();
+    let found = [
+        lists(
+            &rt,
+            alloc,
+            chirotope_of(&rt, alloc, 3, 3, "+"),
+            27,
+            27,
+            false,
+        ),
+        lists(
+            &rt,
+            alloc,
+            chirotope_of(&rt, alloc, 3, 3, "+"),
+            26,
+            26,
+            true,
+        ),
+    ];
+    assert!(rt; found == [true; 2]);
 }
 
 #[test]

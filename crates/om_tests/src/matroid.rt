@@ -9,7 +9,6 @@ use om_matroid::{exchange, extend_to_basis, first_basis, is_coloop, is_loop, par
 use om_samples::{SampleError, chirotope_of};
 use om_signs::Sign;
 use om_subsets::Subset;
-use std::test::Fail;
 
 /// Of four elements: which are loops and which coloops; whether 1 and 2 are parallel, 1 and 3, 1 and 4, 3 and 3, and 4 and 4; and
 /// the ranks of the empty set, 4, 13, 124, 134 and 1234.
@@ -46,53 +45,59 @@ fn facts(chi: &Chirotope) -> ([bool; 4], [bool; 4], [bool; 5], [u8; 6])
     (loops, coloops, parallels, ranks)
 }
 
-/// The facts on a chirotope of four elements, where there is one.
-fn facts_of(
+/// Whether there is a chirotope of four elements, and these are the facts on it.
+fn has_facts(
     chi: Result<Chirotope, SampleError>,
-) -> Option<([bool; 4], [bool; 4], [bool; 5], [u8; 6])>
+    expected: ([bool; 4], [bool; 4], [bool; 5], [u8; 6]),
+) -> bool
     requires { IfOk chi (λ c. c.elements ≡ 4) }
 {
     match &chi {
-        Ok(chi) => Some(facts(chi)),
-        Err(_) => None,
+        Ok(chi) => facts(chi) == expected,
+        Err(_) => false,
     }
 }
 
 // the bases are 13 and 23: 1 and 2 are parallel, 3 is a coloop, and 4 a loop, which is parallel to nothing, not even to itself
 #[test]
 fn four_elements(rt: HostRuntime) {
-    let found = facts_of(chirotope_of(&rt, rt.alloc(), 2, 4, "0+0+00"));
-    let wanted = (
+    let expected = (
         [false, false, false, true],
         [false, false, true, false],
         [true, false, false, true, false],
         [0, 0, 2, 1, 2, 2],
     );
-    assert!(rt; found == Some(wanted));
+    assert!(rt; has_facts(chirotope_of(&rt, rt.alloc(), 2, 4, "0+0+00"), expected));
 }
 
-/// Whether 2 is a loop, is a coloop, is parallel to itself, and to 1.
-fn second_of_two(chi: Result<Chirotope, SampleError>) -> Option<[bool; 4]>
+/// Whether there is a chirotope of two elements, and these tell whether 2 is a loop, is a coloop, is parallel to itself, and to 1.
+fn is_second_of_two(chi: Result<Chirotope, SampleError>, expected: [bool; 4]) -> bool
     requires { IfOk chi (λ c. c.elements ≡ 2) }
 {
-    let chi = chi.ok()?;
-    Some([
-        is_loop(&chi, 2),
-        is_coloop(&chi, 2),
-        parallel(&chi, 2, 2),
-        parallel(&chi, 1, 2),
-    ])
+    match &chi {
+        Ok(chi) => {
+            let found = [
+                is_loop(chi, 2),
+                is_coloop(chi, 2),
+                parallel(chi, 2, 2),
+                parallel(chi, 1, 2),
+            ];
+            found == expected
+        }
+        Err(_) => false,
+    }
 }
 
 // the empty set is the only basis, and then the set of all elements
 #[test]
 fn lowest_and_highest_rank(rt: HostRuntime) {
-    let found = [
-        second_of_two(chirotope_of(&rt, rt.alloc(), 0, 2, "+")),
-        second_of_two(chirotope_of(&rt, rt.alloc(), 2, 2, "+")),
-    ];
+    let alloc = rt.alloc();
     let (lowest, highest) = ([true, false, false, false], [false, true, true, false]);
-    assert!(rt; found == [Some(lowest), Some(highest)]);
+    let found = [
+        is_second_of_two(chirotope_of(&rt, alloc, 0, 2, "+"), lowest),
+        is_second_of_two(chirotope_of(&rt, alloc, 2, 2, "+"), highest),
+    ];
+    assert!(rt; found == [true; 2]);
 }
 
 /// Whether a set is a basis.
@@ -143,11 +148,24 @@ fn bases(chi: &Chirotope) -> (Subset, Option<Subset>, Option<u8>, Option<u8>)
     )
 }
 
+/// Whether there is a chirotope of nine elements, and these are its first basis, the first one with 2 and 3, and what takes the
+/// places of 1 and 4 in 124.
+fn has_bases(
+    chi: Result<Chirotope, SampleError>,
+    expected: (Subset, Option<Subset>, Option<u8>, Option<u8>),
+) -> bool
+    requires { IfOk chi (λ c. c.elements ≡ 9) }
+{
+    match &chi {
+        Ok(chi) => bases(chi) == expected,
+        Err(_) => false,
+    }
+}
+
 // 123 is on a line, so that the first are 124 and 234; of 3, 5 and 6 the first one makes a basis with 2 and 4, and not with 1 and 2
 #[test]
-fn pappus(rt: HostRuntime) -> Result<(), Fail> {
-    let found = bases(&chirotope_of(&rt, rt.alloc(), 3, 9, PAPPUS)?);
+fn pappus(rt: HostRuntime) {
     let (first, extended) = (Subset::from_mask(0b1011, 9), Subset::from_mask(0b1110, 9));
-    assert!(rt; found == (first, Some(extended), Some(3), Some(5)));
-    Ok(())
+    let expected = (first, Some(extended), Some(3), Some(5));
+    assert!(rt; has_bases(chirotope_of(&rt, rt.alloc(), 3, 9, PAPPUS), expected));
 }

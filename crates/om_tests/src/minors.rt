@@ -26,7 +26,7 @@ const COVECTORS: [&str; 9] = [
 
 /// Whether the deletions of 1 and 3, the contractions of 1 and 4 and the reorientation on 1 have the signs worked out by hand: in
 /// the last the value of 13 becomes minus, and that of 23 stays.
-fn of_chirotope(alloc: Global, found: Result<Chirotope, SampleError>) -> [bool; 5]
+fn of_chirotope(alloc: Global, found: Result<Chirotope, SampleError>) -> bool
     requires { IfOk found (λ c. c.elements ≡ 4) }
 {
     match found {
@@ -36,34 +36,29 @@ fn of_chirotope(alloc: Global, found: Result<Chirotope, SampleError>) -> [bool; 
             is_chirotope(contract_chirotope(alloc, &chi, 1), 1, 3, "0+0"),
             is_chirotope(contract_chirotope(alloc, &chi, 4), 2, 3, "0++"),
             is_map(&reorient_chirotope(chi, 0b1).into_raw(), 2, 4, "0+0-00"),
-        ],
-        Err(_) => [false; 5],
+        ] == [true; 5],
+        Err(_) => false,
     }
 }
 
-/// Why there is no deletion and no contraction of 1.
-fn refusals(alloc: Global, found: Result<Chirotope, SampleError>) -> Option<[Option<MinorError>; 2]>
+/// Whether there is a chirotope of one element, and this is why there is no deletion and no contraction of 1.
+fn is_last(alloc: Global, found: Result<Chirotope, SampleError>, why: MinorError) -> bool
     requires { IfOk found (λ c. c.elements ≡ 1) }
 {
     match &found {
-        Ok(chi) => Some([
-            delete_chirotope(alloc, chi, 1).err(),
-            contract_chirotope(alloc, chi, 1).err(),
-        ]),
-        Err(_) => None,
+        Ok(chi) => {
+            let refused = [
+                delete_chirotope(alloc, chi, 1).err(),
+                contract_chirotope(alloc, chi, 1).err(),
+            ];
+            refused == [Some(why); 2]
+        }
+        Err(_) => false,
     }
 }
 
-#[test]
-fn of_chirotopes(rt: HostRuntime) {
-    let alloc = rt.alloc();
-    let minors = of_chirotope(alloc, chirotope_of(&rt, alloc, 2, 4, "0+0+00"));
-    let none = refusals(alloc, chirotope_of(&rt, alloc, 1, 1, "+"));
-    assert!(rt; (minors, none) == ([true; 5], Some([Some(MinorError::LastElement); 2])));
-}
-
 /// Whether the deletion and the contraction of 1 and the reorientation on 1 and 4 have the circuits worked out by hand.
-fn of_circuits(alloc: Global, found: Result<Circuits, SampleError>) -> [bool; 3]
+fn of_circuits(alloc: Global, found: Result<Circuits, SampleError>) -> bool
     requires { IfOk found (λ c. c.0.elements ≡ 4) }
 {
     match found {
@@ -74,13 +69,13 @@ fn of_circuits(alloc: Global, found: Result<Circuits, SampleError>) -> [bool; 3]
                 reorient_circuits(circuits, 0b1001).0.members(),
                 "--00 ++00 000+ 000-",
             ),
-        ],
-        Err(_) => [false; 3],
+        ] == [true; 3],
+        Err(_) => false,
     }
 }
 
 /// The same of cocircuits, with the reorientation on 2.
-fn of_cocircuits(alloc: Global, found: Result<Cocircuits, SampleError>) -> [bool; 3]
+fn of_cocircuits(alloc: Global, found: Result<Cocircuits, SampleError>) -> bool
     requires { IfOk found (λ c. c.0.elements ≡ 4) }
 {
     match found {
@@ -91,13 +86,13 @@ fn of_cocircuits(alloc: Global, found: Result<Cocircuits, SampleError>) -> [bool
                 reorient_cocircuits(cocircuits, 0b10).0.members(),
                 "+-00 -+00 00+0 00-0",
             ),
-        ],
-        Err(_) => [false; 3],
+        ] == [true; 3],
+        Err(_) => false,
     }
 }
 
 /// The same of covectors, with the deletion of 3 and the reorientation on 2 and 3.
-fn of_covectors(alloc: Global, found: Result<Covectors, SampleError>) -> [bool; 3]
+fn of_covectors(alloc: Global, found: Result<Covectors, SampleError>) -> bool
     requires { IfOk found (λ c. c.elements ≡ 4) }
 {
     match found {
@@ -108,18 +103,24 @@ fn of_covectors(alloc: Global, found: Result<Covectors, SampleError>) -> [bool; 
                 reorient_covectors(covectors, 0b110).members(),
                 "0000 +-00 -+00 00+0 00-0 +-+0 +--0 -++0 -+-0",
             ),
-        ],
-        Err(_) => [false; 3],
+        ] == [true; 3],
+        Err(_) => false,
     }
 }
 
 #[test]
-fn of_lists(rt: HostRuntime) {
+fn of_each_kind(rt: HostRuntime) {
     let alloc = rt.alloc();
     let found = [
+        of_chirotope(alloc, chirotope_of(&rt, alloc, 2, 4, "0+0+00")),
+        is_last(
+            alloc,
+            chirotope_of(&rt, alloc, 1, 1, "+"),
+            MinorError::LastElement,
+        ),
         of_circuits(alloc, circuits_of(&rt, alloc, 4, &CIRCUITS)),
         of_cocircuits(alloc, cocircuits_of(&rt, alloc, 4, &COCIRCUITS)),
         of_covectors(alloc, covectors_of(&rt, alloc, 4, &COVECTORS)),
     ];
-    assert!(rt; found == [[true; 3]; 3]);
+    assert!(rt; found == [true; 5]);
 }

@@ -2,10 +2,9 @@
 
 ghost use Rattle.std.specs.Prelude.{◌≡◌, IfOk};
 
-use super::helpers::is_chirotope;
 use super::wiring::sweep_of;
 use om_chirotope::Chirotope;
-use om_mutate::{BadFlip, FlipRefused, MutationError, flip, flip_wiring, mutations};
+use om_mutate::{BadFlip, FlipRefused, MutationError, NotTriangle, flip, flip_wiring, mutations};
 use om_samples::{SampleError, chirotope_of, is_map};
 use om_signs::{Block, List};
 use om_subsets::Subset;
@@ -30,31 +29,35 @@ fn have_masks(found: Result<List<Subset>, MutationError>, masks: [u32; 3]) -> bo
     }
 }
 
-/// Whether there is a chirotope with four elements, and the flip of its first triple has the signs of a text.
-fn has_flip(chi: Result<Chirotope, SampleError>, signs: &str) -> bool
-    requires { IfOk chi (λ c. c.elements ≡ 4) }
-{
-    match chi {
-        Ok(chi) => is_chirotope(flip(chi, Subset::unrank(0, 3, 4)), 3, 4, signs),
-        Err(_) => false,
-    }
-}
-
-/// Whether there is a chirotope with four elements, whose first triple is no basis, so that it comes back with the signs of a text.
-fn has_no_flip(chi: Result<Chirotope, SampleError>, signs: &str) -> bool
-    requires { IfOk chi (λ c. c.elements ≡ 4) }
-{
-    match chi {
-        Ok(chi) => is_refused(flip(chi, Subset::unrank(0, 3, 4)), signs),
-        Err(_) => false,
-    }
-}
-
-/// Whether a flip was refused since the triple is no basis, and the map with four elements and these signs was handed back.
-fn is_refused(found: Result<Chirotope, BadFlip>, signs: &str) -> bool {
+/// Whether a flip gave the map of four elements with the signs of a text; or it was refused for a reason, and this map was handed
+/// back.
+fn is_flip(found: Result<Chirotope, BadFlip>, refused: Option<FlipRefused>, signs: &str) -> bool {
     match found {
-        Ok(_) => false,
-        Err(bad) => bad.why == FlipRefused::NotBasis && is_map(&bad.kept.into_raw(), 3, 4, signs),
+        Ok(chi) => [refused.is_none(), is_map(&chi.into_raw(), 3, 4, signs)] == [true; 2],
+        Err(bad) => {
+            [
+                refused == Some(bad.why),
+                is_map(&bad.kept.into_raw(), 3, 4, signs),
+            ] == [true; 2]
+        }
+    }
+}
+
+/// Whether there is a chirotope with four elements, and the flip of its first triple is as said.
+fn has_flip(chi: Result<Chirotope, SampleError>, refused: Option<FlipRefused>, signs: &str) -> bool
+    requires { IfOk chi (λ c. c.elements ≡ 4) }
+{
+    match chi {
+        Ok(chi) => is_flip(flip(chi, Subset::unrank(0, 3, 4)), refused, signs),
+        Err(_) => false,
+    }
+}
+
+/// Whether a wiring diagram was flipped at a triangle, and these are its blocks; or there was none, and these came back.
+fn has_blocks(found: Result<Wiring, NotTriangle>, has_triangle: bool, blocks: &[Block]) -> bool {
+    match &found {
+        Ok(other) => [has_triangle, other.blocks() == blocks] == [true; 2],
+        Err(none) => [has_triangle, none.kept.blocks() == blocks] == [false, true],
     }
 }
 
@@ -62,10 +65,7 @@ fn is_refused(found: Result<Chirotope, BadFlip>, signs: &str) -> bool {
 /// that come back.
 fn is_flipped(found: Option<Wiring>, step: u32, has_triangle: bool, blocks: &[Block]) -> bool {
     match found {
-        Some(w) => match &flip_wiring(w, step) {
-            Ok(other) => has_triangle && other.blocks() == blocks,
-            Err(none) => !has_triangle && none.kept.blocks() == blocks,
-        },
+        Some(w) => has_blocks(flip_wiring(w, step), has_triangle, blocks),
         None => false,
     }
 }
@@ -79,50 +79,53 @@ const SECOND: Block = Block { first: 2, last: 3 };
 /// The block of the third position and the fourth.
 const THIRD: Block = Block { first: 3, last: 4 };
 
-// 1, 2 and 3 are on a line, and each other triple is a mutation.
 #[test]
-fn mutations_of_four(rt: HostRuntime) {
+fn chirotopes_of_four(rt: HostRuntime) {
     let alloc = rt.alloc();
-    let chi = chirotope_of(&rt, alloc, 3, 4, "0+++");
-    assert!(rt; has_mutations(alloc, chi, [0b1011, 0b1101, 0b1110]));
+    let refused = Some(FlipRefused::NotBasis);
+    let found = [
+        // 1, 2 and 3 are on a line, and each other triple is a mutation
+        has_mutations(
+            alloc,
+            chirotope_of(&rt, alloc, 3, 4, "0+++"),
+            [0b1011, 0b1101, 0b1110],
+        ),
+        // 123 is turned where it is a basis, and else the map comes back
+        has_flip(chirotope_of(&rt, alloc, 3, 4, "++++"), None, "-+++"),
+        has_flip(chirotope_of(&rt, alloc, 3, 4, "0+++"), refused, "0+++"),
+    ];
+    assert!(rt; found == [true; 3]);
 }
 
-// 123 is turned where it is a basis.
-#[test]
-fn flips_of_four(rt: HostRuntime) {
-    let alloc = rt.alloc();
-    let found = [
-        has_flip(chirotope_of(&rt, alloc, 3, 4, "++++"), "-+++"),
-        has_no_flip(chirotope_of(&rt, alloc, 3, 4, "0+++"), "0+++"),
-    ];
-    assert!(rt; found == [true; 2]);
-}
+/// The blocks of four wires.
+const KEPT: [Block; 6] = [FIRST, SECOND, FIRST, THIRD, SECOND, FIRST];
+
+/// The same behind the flip at the first step.
+const TURNED: [Block; 6] = [SECOND, FIRST, SECOND, THIRD, SECOND, FIRST];
 
 // The wires 1, 2 and 3 cross by pairs in the first three steps, and behind the flip they do so in the other order. The steps 4 to 6
 // are three different blocks, and behind step 5 there is one more alone.
 #[test]
 fn triangles(rt: HostRuntime) {
     let alloc = rt.alloc();
-    let turned = [SECOND, FIRST, SECOND, THIRD, SECOND, FIRST];
-    let kept = [FIRST, SECOND, FIRST, THIRD, SECOND, FIRST];
     let found = [
         is_flipped(
             sweep_of(alloc, chirotope_of(&rt, alloc, 3, 4, "++++")),
             1,
             true,
-            &turned,
+            &TURNED,
         ),
         is_flipped(
             sweep_of(alloc, chirotope_of(&rt, alloc, 3, 4, "++++")),
             4,
             false,
-            &kept,
+            &KEPT,
         ),
         is_flipped(
             sweep_of(alloc, chirotope_of(&rt, alloc, 3, 4, "++++")),
             5,
             false,
-            &kept,
+            &KEPT,
         ),
     ];
     assert!(rt; found == [true; 3]);

@@ -1,10 +1,5 @@
 //! One oriented matroid in three representations, and two that differ.
 
-ghost use Rattle.std.specs.Prelude.{◌≡◌, IfOk};
-
-use om_chirotope::Chirotope;
-use om_circuits::{Circuits, Cocircuits};
-use om_covectors::Covectors;
 use om_oriented::{Differ, Oriented, same};
 use om_samples::{SampleError, chirotope_of, circuits_of, cocircuits_of, covectors_of, vector_of};
 
@@ -18,28 +13,11 @@ fn tells_apart<M: Oriented>(value: &M) -> bool {
         && !value.is_covector(vector_of(4, "+-+-"))
 }
 
-/// Whether a chirotope and circuits are told apart so.
-fn are_told_apart(
-    chi: Result<Chirotope, SampleError>,
-    circuits: Result<Circuits, SampleError>,
-) -> Option<[bool; 2]> {
-    match (&chi, &circuits) {
-        (Ok(chi), Ok(circuits)) => Some([tells_apart(chi), tells_apart(circuits)]),
-        _ => None,
-    }
-}
-
-/// How a chirotope compares with circuits, and these with it.
-fn comparisons(
-    chi: Result<Chirotope, SampleError>,
-    circuits: Result<Circuits, SampleError>,
-) -> Option<[Result<(), Differ>; 2]>
-    requires chi { IfOk chi (λ c. c.elements ≡ 4) }
-    requires circuits { IfOk circuits (λ c. c.0.elements ≡ 4) }
-{
-    match (&chi, &circuits) {
-        (Ok(chi), Ok(circuits)) => Some([same(chi, circuits), same(circuits, chi)]),
-        _ => None,
+/// Whether there is an oriented matroid that tells the two apart so.
+fn is_told_apart<M: Oriented + Drop>(found: Result<M, SampleError>) -> bool {
+    match &found {
+        Ok(value) => tells_apart(value),
+        Err(_) => false,
     }
 }
 
@@ -47,60 +25,67 @@ fn comparisons(
 #[test]
 fn covectors_of_each_kind(rt: HostRuntime) {
     let alloc = rt.alloc();
-    let found = are_told_apart(
-        chirotope_of(&rt, alloc, 3, 4, "++++"),
-        circuits_of(&rt, alloc, 4, &CIRCUITS),
-    );
-    assert!(rt; found == Some([true; 2]));
+    let found = [
+        is_told_apart(chirotope_of(&rt, alloc, 3, 4, "++++")),
+        is_told_apart(circuits_of(&rt, alloc, 4, &CIRCUITS)),
+    ];
+    assert!(rt; found == [true; 2]);
 }
 
-// the circuits are those of the first chirotope; the vectors `----`, `---0` and `---+` are orthogonal to those of the second too,
-// and `--0-` to `-+-+` alone
+/// Whether there are two oriented matroids with as many elements, and they compare so, and also the other way round.
+fn are_compared<A: Oriented, B: Oriented>(
+    a: &Result<A, SampleError>,
+    b: &Result<B, SampleError>,
+    expected: Result<(), Differ>,
+) -> bool {
+    match (a, b) {
+        (Ok(a), Ok(b)) if a.elements() == b.elements() => {
+            [same(a, b), same(b, a)] == [expected; 2]
+        }
+        _ => false,
+    }
+}
+
+/// The same of two that are let go.
+fn compare<A: Oriented + Drop, B: Oriented + Drop>(
+    a: Result<A, SampleError>,
+    b: Result<B, SampleError>,
+    expected: Result<(), Differ>,
+) -> bool {
+    are_compared(&a, &b, expected)
+}
+
 #[test]
 fn sameness_and_first_difference(rt: HostRuntime) {
     let alloc = rt.alloc();
     let found = [
-        comparisons(
+        // the circuits are those of the first chirotope
+        compare(
             chirotope_of(&rt, alloc, 3, 4, "++++"),
             circuits_of(&rt, alloc, 4, &CIRCUITS),
+            Ok(()),
         ),
-        comparisons(
+        // the vectors `----`, `---0` and `---+` are orthogonal to those of the second too, and `--0-` to `-+-+` alone
+        compare(
             chirotope_of(&rt, alloc, 3, 4, "+++-"),
             circuits_of(&rt, alloc, 4, &CIRCUITS),
+            Err(Differ {
+                x: vector_of(4, "--0-"),
+            }),
+        ),
+        // of two elements that are both loops only `00` is a covector; where none is, each vector is one
+        compare(
+            cocircuits_of(&rt, alloc, 2, &["-0", "0-", "0+", "+0"]),
+            covectors_of(&rt, alloc, 2, &["00"]),
+            Err(Differ {
+                x: vector_of(2, "--"),
+            }),
+        ),
+        compare(
+            covectors_of(&rt, alloc, 2, &["00"]),
+            covectors_of(&rt, alloc, 2, &["00"]),
+            Ok(()),
         ),
     ];
-    let wanted = Err(Differ {
-        x: vector_of(4, "--0-"),
-    });
-    assert!(rt; found == [Some([Ok(()); 2]), Some([wanted; 2])]);
-}
-
-/// How cocircuits compare with covectors, and these with themselves.
-fn comparisons_of_lists(
-    cocircuits: Result<Cocircuits, SampleError>,
-    covectors: Result<Covectors, SampleError>,
-) -> Option<[Result<(), Differ>; 2]>
-    requires cocircuits { IfOk cocircuits (λ c. c.0.elements ≡ 2) }
-    requires covectors { IfOk covectors (λ c. c.elements ≡ 2) }
-{
-    match (&cocircuits, &covectors) {
-        (Ok(cocircuits), Ok(covectors)) => {
-            Some([same(cocircuits, covectors), same(covectors, covectors)])
-        }
-        _ => None,
-    }
-}
-
-// of two elements that are both loops only `00` is a covector; where none is, each vector is one
-#[test]
-fn first_difference_of_lists(rt: HostRuntime) {
-    let alloc = rt.alloc();
-    let found = comparisons_of_lists(
-        cocircuits_of(&rt, alloc, 2, &["-0", "0-", "0+", "+0"]),
-        covectors_of(&rt, alloc, 2, &["00"]),
-    );
-    let wanted = Err(Differ {
-        x: vector_of(2, "--"),
-    });
-    assert!(rt; found == Some([wanted, Ok(())]));
+    assert!(rt; found == [true; 4]);
 }

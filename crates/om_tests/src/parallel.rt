@@ -88,7 +88,7 @@ impl Part for Halves {
 
 /// Whether the answers were found, and are these.
 fn are_answers(found: Result<Vec<u64>, NoMemory>, expected: &[u64]) -> bool {
-    match found {
+    match &found {
         Ok(answers) => answers.as_slice() == expected,
         Err(_) => false,
     }
@@ -96,42 +96,45 @@ fn are_answers(found: Result<Vec<u64>, NoMemory>, expected: &[u64]) -> bool {
 
 #[test]
 fn least_bad_number(rt: HostRuntime) {
-    for (count, least) in [(1000, Some(5)), (5, None), (0, None), (1_000_000, Some(5))] {
-        assert!(rt; first_bad(&rt, &FiveAndNineHundred, count) == least);
-    }
-}
-
-#[test]
-fn probes_meet(rt: HostRuntime) {
-    let probes = Held::new();
-    assert!(rt; first_bad(&rt, &probes, 2).is_none() && !probes.late.load(Ordering::SeqCst));
-}
-
-#[test]
-fn parts_meet(rt: HostRuntime) {
-    let parts = Held::new();
-    assert!(rt; are_answers(map_parts(&rt, rt.alloc(), &parts, 2), &[0, 1]));
-    assert!(rt; !parts.late.load(Ordering::SeqCst));
-}
-
-#[test]
-fn parts_in_order(rt: HostRuntime) {
     let found = [
-        are_answers(map_parts(&rt, rt.alloc(), &Halves, 5), &[0, 0, 1, 1, 2]),
-        are_answers(map_parts(&rt, rt.alloc(), &Halves, 0), &[]),
+        first_bad(&rt, &FiveAndNineHundred, 1000),
+        first_bad(&rt, &FiveAndNineHundred, 5),
+        first_bad(&rt, &FiveAndNineHundred, 0),
+        first_bad(&rt, &FiveAndNineHundred, 1_000_000),
     ];
-    assert!(rt; found == [true; 2]);
+    assert!(rt; found == [Some(5), None, None, Some(5)]);
+}
+
+#[test]
+fn calls_meet(rt: HostRuntime) {
+    let (probes, parts) = (Held::new(), Held::new());
+    let found = [
+        first_bad(&rt, &probes, 2).is_none(),
+        probes.late.load(Ordering::SeqCst),
+        are_answers(map_parts(&rt, rt.alloc(), &parts, 2), &[0, 1]),
+        parts.late.load(Ordering::SeqCst),
+    ];
+    assert!(rt; found == [true, false, true, false]);
 }
 
 /// Whether 20 000 answers were found, and the first and the last are these.
 fn are_many(found: Result<Vec<u64>, NoMemory>, first: u64, last: u64) -> bool {
     match &found {
-        Ok(many) if many.len() == 20_000 => many[0] == first && many[19_999] == last,
-        _ => false,
+        Ok(many) => {
+            let ends = (many.first().copied(), many.last().copied());
+            (many.len(), ends) == (20_000, (Some(first), Some(last)))
+        }
+        Err(_) => false,
     }
 }
 
 #[test]
-fn many_parts(rt: HostRuntime) {
-    assert!(rt; are_many(map_parts(&rt, rt.alloc(), &Halves, 20_000), 0, 9_999));
+fn parts_in_order(rt: HostRuntime) {
+    let alloc = rt.alloc();
+    let found = [
+        are_answers(map_parts(&rt, alloc, &Halves, 5), &[0, 0, 1, 1, 2]),
+        are_answers(map_parts(&rt, alloc, &Halves, 0), &[]),
+        are_many(map_parts(&rt, alloc, &Halves, 20_000), 0, 9_999),
+    ];
+    assert!(rt; found == [true; 3]);
 }

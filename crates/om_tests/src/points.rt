@@ -8,41 +8,38 @@ use om_points::search;
 use om_samples::{SampleError, chirotope_of};
 use om_vectors::{Unfound, Word};
 
-/// What the search finds in some steps.
-fn answer(chi: Result<Chirotope, SampleError>, steps: u64) -> Option<Result<Word, Unfound>>
+/// Whether there is a chirotope, and the search in some steps finds this.
+fn finds(chi: Result<Chirotope, SampleError>, steps: u64, expected: Result<Word, Unfound>) -> bool
     requires rank { IfOk chi (λ c. c.rank ≡ 3) }
     requires steps { 1 ≤ steps }
 {
     match &chi {
-        Ok(chi) => Some(search(chi, 1, steps)),
-        Err(_) => None,
+        Ok(chi) => search(chi, 1, steps) == expected,
+        Err(_) => false,
     }
 }
 
 // a basis alone is found at the first step; with a fourth vector the twentieth list is the first that has all signs, and one step
-// earlier the fourth vector is (1, -1, 0)
+// earlier the fourth vector is (1, -1, 0); five such vectors need a greater coordinate, and in the last list that is visited (1, 1, 0)
+// is behind the basis
 #[test]
-fn found(rt: HostRuntime) {
+fn found_and_not(rt: HostRuntime) {
     let alloc = rt.alloc();
-    let found = [
-        answer(chirotope_of(&rt, alloc, 3, 3, "+"), 1),
-        answer(chirotope_of(&rt, alloc, 3, 4, "++++"), 20),
-        answer(chirotope_of(&rt, alloc, 3, 4, "++++"), 19),
-    ];
     let three = word_of(&[[1, 0, 0], [0, 1, 0], [0, 0, 1]]);
     let four = word_of(&[[1, 0, 0], [0, 1, 0], [0, 0, 1], [1, -1, 1]]);
-    let unfound = Unfound::Frontier(word_of(&[[1, -1, 0]]));
-    assert!(rt; found == [Some(Ok(three)), Some(Ok(four)), Some(Err(unfound))]);
-}
-
-// five such vectors need a greater coordinate; in the last list that is visited (1, 1, 0) is behind the basis
-#[test]
-fn exhausted(rt: HostRuntime) {
-    let alloc = rt.alloc();
+    let before = Unfound::Frontier(word_of(&[[1, -1, 0]]));
+    let last = Unfound::Frontier(word_of(&[[1, 1, 0]]));
+    let five = "++++++++++";
     let found = [
-        answer(chirotope_of(&rt, alloc, 3, 5, "++++++++++"), 52),
-        answer(chirotope_of(&rt, alloc, 3, 5, "++++++++++"), 51),
+        finds(chirotope_of(&rt, alloc, 3, 3, "+"), 1, Ok(three)),
+        finds(chirotope_of(&rt, alloc, 3, 4, "++++"), 20, Ok(four)),
+        finds(chirotope_of(&rt, alloc, 3, 4, "++++"), 19, Err(before)),
+        finds(
+            chirotope_of(&rt, alloc, 3, 5, five),
+            52,
+            Err(Unfound::Exhausted),
+        ),
+        finds(chirotope_of(&rt, alloc, 3, 5, five), 51, Err(last)),
     ];
-    let unfound = Unfound::Frontier(word_of(&[[1, 1, 0]]));
-    assert!(rt; found == [Some(Err(Unfound::Exhausted)), Some(Err(unfound))]);
+    assert!(rt; found == [true; 5]);
 }

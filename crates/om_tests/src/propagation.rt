@@ -1,47 +1,66 @@
 //! Chirotopes of circuits and of cocircuits, and their ranks: 1 and 2 are parallel, 3 is a coloop and 4 a loop.
 
+ghost use Rattle.std.specs.Prelude.{◌≡◌, IfOk};
+
 use super::helpers::is_chirotope;
+use om_circuits::{Circuits, Cocircuits};
+use om_covectors::Covectors;
 use om_propagation::{
     chirotope_of_circuits, chirotope_of_cocircuits, rank_circuits, rank_cocircuits, rank_covectors,
 };
-use om_samples::{circuits_of, cocircuits_of, covectors_of};
-use std::test::Fail;
+use om_samples::{SampleError, circuits_of, cocircuits_of, covectors_of};
+use std::alloc::Global;
 
-#[test]
-fn of_circuits(rt: HostRuntime) -> Result<(), Fail> {
-    let circuits = circuits_of(&rt, rt.alloc(), 4, &["+-00", "-+00", "000+", "000-"])?;
-    let rank = rank_circuits(&circuits);
-    assert!(rt; rank == 2);
-    assert!(rt;
-        is_chirotope(
-            chirotope_of_circuits(rt.alloc(), &circuits, rank),
-            2,
-            4,
-            "0+0+00"
-        )
-    );
-    Ok(())
+/// Whether there are circuits with four elements, and they have rank 2, and their chirotope has the signs of a text.
+fn of_circuits(alloc: Global, found: Result<Circuits, SampleError>, text: &str) -> bool
+    requires { IfOk found (λ c. c.0.elements ≡ 4) }
+{
+    match &found {
+        Ok(circuits) => {
+            rank_circuits(circuits) == 2
+                && is_chirotope(chirotope_of_circuits(alloc, circuits, 2), 2, 4, text)
+        }
+        Err(_) => false,
+    }
+}
+
+/// The same of cocircuits.
+fn of_cocircuits(alloc: Global, found: Result<Cocircuits, SampleError>, text: &str) -> bool
+    requires { IfOk found (λ c. c.0.elements ≡ 4) }
+{
+    match &found {
+        Ok(cocircuits) => {
+            rank_cocircuits(cocircuits) == 2
+                && is_chirotope(chirotope_of_cocircuits(alloc, cocircuits, 2), 2, 4, text)
+        }
+        Err(_) => false,
+    }
+}
+
+/// Whether there are covectors, and they have this rank.
+fn of_covectors(found: Result<Covectors, SampleError>, rank: u8) -> bool {
+    match &found {
+        Ok(covectors) => rank_covectors(covectors) == rank,
+        Err(_) => false,
+    }
 }
 
 #[test]
-fn of_cocircuits(rt: HostRuntime) -> Result<(), Fail> {
-    let cocircuits = cocircuits_of(&rt, rt.alloc(), 4, &["++00", "--00", "00+0", "00-0"])?;
-    let rank = rank_cocircuits(&cocircuits);
-    assert!(rt; rank == 2);
-    assert!(rt;
-        is_chirotope(
-            chirotope_of_cocircuits(rt.alloc(), &cocircuits, rank),
-            2,
-            4,
-            "0+0+00"
-        )
-    );
-    Ok(())
-}
-
-#[test]
-fn of_covectors(rt: HostRuntime) -> Result<(), Fail> {
-    let covectors = covectors_of(&rt, rt.alloc(), 3, &["000", "+-0", "-+0"])?;
-    assert!(rt; rank_covectors(&covectors) == 1);
-    Ok(())
+fn of_each_kind(rt: HostRuntime) {
+    let alloc = rt.alloc();
+    let found = [
+        of_circuits(
+            alloc,
+            circuits_of(&rt, alloc, 4, &["+-00", "-+00", "000+", "000-"]),
+            "0+0+00",
+        ),
+        of_cocircuits(
+            alloc,
+            cocircuits_of(&rt, alloc, 4, &["++00", "--00", "00+0", "00-0"]),
+            "0+0+00",
+        ),
+        // the only pair of opposite covectors
+        of_covectors(covectors_of(&rt, alloc, 3, &["000", "+-0", "-+0"]), 1),
+    ];
+    assert!(rt; found == [true; 3]);
 }

@@ -25,22 +25,21 @@ const NOT_STRICT: Column = Column {
     strict: false,
 };
 
-#[test]
-fn products(rt: HostRuntime) {
-    let row = [10, 20, 3, 4, 100];
-    assert!(rt; [dot(&row, STRICT), dot(&row, NOT_STRICT)] == [Ok(123), Ok(23)]);
-}
+/// Rows, columns, and their products.
+const PRODUCTS: [([i128; 5], Column, Result<i128, Wide>); 6] = [
+    ([10, 20, 3, 4, 100], STRICT, Ok(123)),
+    ([10, 20, 3, 4, 100], NOT_STRICT, Ok(23)),
+    ([MAX, MAX, MAX, MAX, 5], STRICT, Ok(5)),
+    ([MAX, MAX, MIN, MIN, 0], STRICT, Err(Wide { place: 0 })),
+    ([MIN, -1, MIN, -1, MIN], STRICT, Ok(MIN)),
+    ([MAX, 2, 1, 1, 1], STRICT, Err(Wide { place: 0 })),
+];
 
 #[test]
-fn products_at_the_limit(rt: HostRuntime) {
-    let found = [
-        dot(&[MAX, MAX, MAX, MAX, 5], STRICT),
-        dot(&[MAX, MAX, MIN, MIN, 0], STRICT),
-        dot(&[MIN, -1, MIN, -1, MIN], STRICT),
-        dot(&[MAX, 2, 1, 1, 1], STRICT),
-    ];
-    let wide = Err(Wide { place: 0 });
-    assert!(rt; found == [Ok(5), wide, Ok(MIN), wide]);
+fn products(rt: HostRuntime) {
+    for (row, column, product) in PRODUCTS.iter() {
+        assert!(rt; dot(row, *column) == *product);
+    }
 }
 
 #[test]
@@ -61,21 +60,33 @@ fn combinations_too_wide(rt: HostRuntime) {
     assert!(rt; found == places && wide == [1 << 126]);
 }
 
+/// Whether a row divided by the greatest common divisor of its numbers is this one.
+fn is_primitive(row: &mut [i128], expected: &[i128]) -> bool {
+    primitive(row);
+    &*row == expected
+}
+
 #[test]
 fn divisors(rt: HostRuntime) {
-    let mut row = [12, -18, 0, 30];
-    primitive(&mut row);
-    let mut zeros = [0, 0];
-    primitive(&mut zeros);
-    let mut least = [MIN, 0, MIN];
-    primitive(&mut least);
-    assert!(rt; row == [2, -3, 0, 5] && zeros == [0, 0] && least == [-1, 0, -1]);
+    let found = [
+        is_primitive(&mut [12, -18, 0, 30], &[2, -3, 0, 5]),
+        is_primitive(&mut [0, 0], &[0, 0]),
+        is_primitive(&mut [MIN, 0, MIN], &[-1, 0, -1]),
+    ];
+    assert!(rt; found == [true; 3]);
 }
 
 #[test]
 fn greatest_common_divisors(rt: HostRuntime) {
-    assert!(rt; [gcd(12, 18), gcd(18, 12), gcd(7, 5)] == [6, 6, 1]);
-    assert!(rt; [gcd(0, 4), gcd(4, 0), gcd(0, 0)] == [4, 4, 0]);
+    let found = [
+        gcd(12, 18),
+        gcd(18, 12),
+        gcd(7, 5),
+        gcd(0, 4),
+        gcd(4, 0),
+        gcd(0, 0),
+    ];
+    assert!(rt; found == [6, 6, 1, 4, 4, 0]);
 }
 
 #[test]

@@ -2,17 +2,7 @@
 
 use om_samples::vector_of;
 use om_signs::{List, NoMemory, Sign};
-
-/// Whether a vector of two places comes before another.
-fn is_before(x: &str, y: &str) -> bool {
-    vector_of(2, x) < vector_of(2, y)
-}
-
-/// Whether two vectors of two places are orthogonal, and the same the other way round.
-fn orthogonality(x: &str, y: &str) -> [bool; 2] {
-    let (x, y) = (vector_of(2, x), vector_of(2, y));
-    [x.orthogonal(y), y.orthogonal(x)]
-}
+use std::alloc::Global;
 
 #[test]
 fn signs(rt: HostRuntime) {
@@ -29,38 +19,49 @@ fn signs(rt: HostRuntime) {
     );
 }
 
-/// The nine vectors of two places, as they are ordered by hand; a vector comes before each longer one that begins with it.
+/// The nine vectors of two places, as they are ordered by hand, each with the next one.
+const ORDER: [(&str, &str); 8] = [
+    ("--", "-0"),
+    ("-0", "-+"),
+    ("-+", "0-"),
+    ("0-", "00"),
+    ("00", "0+"),
+    ("0+", "+-"),
+    ("+-", "+0"),
+    ("+0", "++"),
+];
+
 #[test]
 fn order(rt: HostRuntime) {
-    let short = vector_of(1, "0");
-    let steps = [
-        is_before("--", "-0"),
-        is_before("-0", "-+"),
-        is_before("-+", "0-"),
-        is_before("0-", "00"),
-        is_before("00", "0+"),
-        is_before("0+", "+-"),
-        is_before("+-", "+0"),
-        is_before("+0", "++"),
-        short < vector_of(2, "0-"),
-        vector_of(2, "-+") < short,
-    ];
-    assert!(rt; steps == [true; 10]);
+    for (x, y) in ORDER.iter() {
+        assert!(rt; vector_of(2, x) < vector_of(2, y));
+    }
 }
 
-/// Two vectors are orthogonal where the products of their signs are all zero, or one is plus and one minus.
+// it comes before each longer one that begins with it
+#[test]
+fn order_of_a_shorter_vector(rt: HostRuntime) {
+    let short = vector_of(1, "0");
+    let steps = [short < vector_of(2, "0-"), vector_of(2, "-+") < short];
+    assert!(rt; steps == [true; 2]);
+}
+
+/// Pairs of vectors, and whether they are orthogonal: where the products of their signs are all zero, or one is plus and one minus.
+const PAIRS: [(&str, &str, bool); 6] = [
+    ("++", "+-", true),
+    ("++", "++", false),
+    ("+-", "-+", false),
+    ("+0", "0+", true),
+    ("+0", "++", false),
+    ("00", "--", true),
+];
+
 #[test]
 fn orthogonal_pairs(rt: HostRuntime) {
-    let pairs = [
-        orthogonality("++", "+-"),
-        orthogonality("++", "++"),
-        orthogonality("+-", "-+"),
-        orthogonality("+0", "0+"),
-        orthogonality("+0", "++"),
-        orthogonality("00", "--"),
-    ];
-    let (yes, no) = ([true; 2], [false; 2]);
-    assert!(rt; pairs == [yes, no, no, yes, no, yes]);
+    for (x, y, expected) in PAIRS.iter() {
+        let (x, y) = (vector_of(2, x), vector_of(2, y));
+        assert!(rt; [x.orthogonal(y), y.orthogonal(x)] == [*expected; 2]);
+    }
 }
 
 #[test]
@@ -100,22 +101,32 @@ fn is_one(bytes: Result<List<u8>, NoMemory>) -> bool {
     }
 }
 
+/// Puts a byte in the place of the first, where there is one.
+fn set_first(bytes: &mut List<u8>, byte: u8) {
+    if bytes.len() > 0 {
+        bytes.set(0, byte);
+    }
+}
+
+/// Whether 1 was put into a list, was turned into 3 and 2 put behind it; a copy made before has 1 alone; and an empty list is made.
+fn are_kept(alloc: Global) -> [bool; 5] {
+    let mut bytes: List<u8> = List::new(alloc);
+    let first = bytes.push(1).is_ok();
+    let copied = is_one(bytes.copy());
+    set_first(&mut bytes, 3);
+    let second = bytes.push(2).is_ok();
+    let numbers: List<u32> = bytes.empty_like();
+    [
+        first,
+        copied,
+        second,
+        bytes.as_slice() == [3, 2].as_slice(),
+        numbers.len() == 0,
+    ]
+}
+
 // the copy keeps what the list had
 #[test]
 fn lists(rt: HostRuntime) {
-    let mut bytes: List<u8> = List::new(rt.alloc());
-    let first = bytes.push(1).is_ok();
-    let copied = bytes.copy();
-    if bytes.len() == 1 {
-        bytes.set(0, 3);
-    }
-    let second = bytes.push(2).is_ok();
-    let numbers: List<u32> = bytes.empty_like();
-    let found = [
-        first && second,
-        bytes.as_slice() == [3, 2].as_slice(),
-        is_one(copied),
-        numbers.len() == 0,
-    ];
-    assert!(rt; found == [true; 4]);
+    assert!(rt; are_kept(rt.alloc()) == [true; 5]);
 }

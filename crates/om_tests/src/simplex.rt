@@ -1,10 +1,10 @@
 //! Runs worked out by hand, one for each kind of end; those that end by a width by an exact run of their own.
 
-ghost use Rattle.std.specs.Prelude.{◌↔◌, All, IsTrue};
+ghost use Rattle.std.specs.Prelude.{◌↔◌, ◌≤◌, All, IsTrue};
 ghost use Rattle.om_simplex.specs.States.{IsColumn};
 
 use om_rows::Column;
-use om_signs::{MAX_COLUMNS, MAX_ROWS, NoMemory};
+use om_signs::{MAX_COLUMNS, MAX_PIVOTS, MAX_ROWS};
 use om_simplex::{Count, Outcome, Stage, solve};
 use std::alloc::{AllocError, Global};
 
@@ -36,37 +36,64 @@ fn fits(column: &Column, rows: u16) -> bool
     1 <= least && greatest < rows
 }
 
-/// The end of the run over some columns, where they are columns of as many rows.
-fn end_of(alloc: Global, columns: &[Column], rows: u16) -> Option<Outcome> {
+/// The end of the run over some columns with so many pivots, where they are columns of as many rows.
+fn end_of(alloc: Global, columns: &[Column], rows: u16, pivots: u32) -> Option<Outcome>
+    requires some { 1 ≤ pivots }
+    requires few { pivots ≤ MAX_PIVOTS }
+{
     let is_small = 2 <= rows && rows <= MAX_ROWS && columns.len() <= MAX_COLUMNS;
     if !is_small || !columns.iter().all(|column| fits(column, rows)) {
         return None;
     }
-    solve(alloc, columns, rows, 1_000).ok()
+    solve(alloc, columns, rows, pivots).ok()
 }
 
-/// Whether a run ends with a combination that takes these columns as often.
-fn is_balanced(found: Result<Outcome, NoMemory>, expected: &[Count]) -> bool {
-    match &found {
-        Ok(Outcome::Balanced(counts)) => counts.as_slice() == expected,
+/// How a run is to end.
+#[derive(Clone, Copy)]
+enum End {
+    /// By a combination that takes these columns as often.
+    Balanced(&'static [Count]),
+    /// By a combination that takes 65 columns: the first 2^63 times, and the 64th once.
+    Doubled,
+    /// By these weights of the rows.
+    Weights(&'static [i128]),
+    /// For want of pivots, with these basis numbers.
+    PivotLimit(&'static [u32]),
+    /// By a width: the stage, the number of the pivot, the row and the place.
+    Width(Stage, u32, u16, u32),
+}
+
+/// Whether a run ended so.
+fn has_ended(found: &Option<Outcome>, end: &End) -> bool {
+    match (found, end) {
+        (Some(Outcome::Balanced(counts)), End::Balanced(expected)) => counts.as_slice()
+            == *expected,
+        (Some(Outcome::Balanced(counts)), End::Doubled) => {
+            counts.len() == 65 && counts.at(0).times == 1u64 << 63 && counts.at(63).times == 1
+        }
+        (Some(Outcome::Weights(weights)), End::Weights(expected)) => weights.as_slice()
+            == *expected,
+        (Some(Outcome::PivotLimit { basis }), End::PivotLimit(expected)) => {
+            basis.as_slice() == *expected
+        }
+        (
+            Some(
+                Outcome::Width {
+                    stage,
+                    pivot,
+                    row,
+                    place,
+                },
+            ),
+            End::Width(at, number, of, beside),
+        ) => (stage, pivot, row, place) == (at, number, of, beside),
         _ => false,
     }
 }
 
-/// Whether a run ends with these weights of the rows.
-fn is_weighed(found: Result<Outcome, NoMemory>, expected: &[i128]) -> bool {
-    match &found {
-        Ok(Outcome::Weights(weights)) => weights.as_slice() == expected,
-        _ => false,
-    }
-}
-
-/// Whether a run ends for want of pivots, with these basis numbers.
-fn is_cut_off(found: Result<Outcome, NoMemory>, expected: &[u32]) -> bool {
-    match &found {
-        Ok(Outcome::PivotLimit { basis }) => basis.as_slice() == expected,
-        _ => false,
-    }
+/// The same of a run that is let go.
+fn is_end(found: Option<Outcome>, end: &End) -> bool {
+    has_ended(&found, end)
 }
 
 /// A column whose sides have the same places.
@@ -102,18 +129,22 @@ const ONCE: Count = Count {
     times: 1,
 };
 
-// without columns all weights are 1; a column whose sides are the same is balanced alone; one pivot, which is all that these runs may
-// take, is enough for the column of four places, and not for it with a second one
+/// Columns, the number of rows, and how the run over them ends that may take one pivot.
+const ENDS: [(&[Column], u16, End); 4] = [
+    // without columns all weights are 1
+    (&[], 3, End::Weights(&[1, 1])),
+    // a column whose sides are the same is balanced alone
+    (&[AROUND], 3, End::Balanced(&[ONCE])),
+    // one pivot is enough for the column of four places, and not for it with a second one
+    (&[APART], 5, End::Weights(&[0, 1, 1, 1])),
+    (&[APART, BACK], 5, End::PivotLimit(&[6, 2, 3, 4, 5])),
+];
+
 #[test]
 fn ends(rt: HostRuntime) {
-    let alloc = rt.alloc();
-    let found = [
-        is_weighed(solve(alloc, &[], 3, 1), &[1, 1]),
-        is_balanced(solve(alloc, &[AROUND], 3, 1), &[ONCE]),
-        is_weighed(solve(alloc, &[APART], 5, 1), &[0, 1, 1, 1]),
-        is_cut_off(solve(alloc, &[APART, BACK], 5, 1), &[6, 2, 3, 4, 5]),
-    ];
-    assert!(rt; found == [true; 4]);
+    for (columns, rows, end) in ENDS.iter() {
+        assert!(rt; is_end(end_of(rt.alloc(), columns, *rows, 1), end));
+    }
 }
 
 /// How a column of a chain ties the place j to the place behind it and to the last place but one, which is called z.
@@ -148,141 +179,116 @@ fn link_column(link: Link, j: u16, z: u16, strict: bool) -> Column {
     }
 }
 
-/// The columns of a chain, in their order.
-fn columns_of(alloc: Global, chain: &Chain) -> Result<Vec<Column>, AllocError> {
-    let last = chain.n.saturating_add(1);
-    let mut columns = Vec::new(alloc);
-    for (small, big, strict) in chain.before {
+/// Puts columns that are 2 at one place and -2 at another behind some columns.
+fn push_steps(columns: &mut Vec<Column>, steps: &[(u16, u16, bool)]) -> Result<(), AllocError> {
+    for (small, big, strict) in steps {
         columns.push(column(*small, *small, *big, *big, *strict))?;
     }
+    Ok(())
+}
+
+/// Puts the columns of a chain behind some columns, in their order.
+fn push_chain(columns: &mut Vec<Column>, chain: &Chain) -> Result<(), AllocError> {
+    push_steps(columns, chain.before)?;
+    let last = chain.n.saturating_add(1);
     for j in 1..chain.n {
         columns.push(link_column(chain.link, j, last, chain.strict))?;
     }
-    for (small, big, strict) in chain.behind {
-        columns.push(column(*small, *small, *big, *big, *strict))?;
-    }
-    Ok(columns)
+    push_steps(columns, chain.behind)
 }
 
 /// The end of the run over a chain.
 fn end_of_chain(alloc: Global, chain: &Chain) -> Option<Outcome> {
-    let columns = columns_of(alloc, chain).ok()?;
-    end_of(alloc, columns.as_slice(), chain.n.saturating_add(2))
-}
-
-/// Whether the run over a chain ends by a width: the stage, the number of the pivot, the row and the place.
-fn is_too_wide(alloc: Global, chain: Chain, expected: (Stage, u32, u16, u32)) -> bool {
-    match &end_of_chain(alloc, &chain) {
-        Some(
-            Outcome::Width {
-                stage,
-                pivot,
-                row,
-                place,
-            },
-        ) => (*stage, *pivot, *row, *place) == expected,
-        _ => false,
+    let mut columns = Vec::new(alloc);
+    match push_chain(&mut columns, chain) {
+        Ok(()) => end_of(alloc, columns.as_slice(), chain.n.saturating_add(2), 1_000),
+        Err(_) => None,
     }
 }
 
-#[test]
-fn numbers_too_wide(rt: HostRuntime) {
-    let alloc = rt.alloc();
-    let found = [
-        is_too_wide(
-            alloc,
-            Chain {
-                link: Link::Turned,
-                n: 127,
-                strict: true,
-                before: &[(1, 128, true)],
-                behind: &[],
-            },
-            (Stage::Price, 127, 0, 127),
-        ),
-        is_too_wide(
-            alloc,
-            Chain {
-                link: Link::Turned,
-                n: 128,
-                strict: false,
-                before: &[],
-                behind: &[(1, 129, true)],
-            },
-            (Stage::Column, 128, 130, 127),
-        ),
-        is_too_wide(
-            alloc,
-            Chain {
-                link: Link::Doubled,
-                n: 66,
-                strict: false,
-                before: &[],
-                behind: &[(66, 1, true)],
-            },
-            (Stage::Update, 66, 0, 1),
-        ),
-        // the common multiple of the denominators
-        is_too_wide(
-            alloc,
-            Chain {
-                link: Link::Backward,
-                n: 65,
-                strict: false,
-                before: &[(1, 66, false), (66, 65, true)],
-                behind: &[],
-            },
-            (Stage::Scale, 66, 0, 0),
-        ),
-        // a value made whole by it
-        is_too_wide(
-            alloc,
-            Chain {
-                link: Link::Doubled,
-                n: 65,
-                strict: false,
-                before: &[],
-                behind: &[(65, 66, true), (66, 1, false)],
-            },
-            (Stage::Scale, 66, 1, 0),
-        ),
-        // a weight
-        is_too_wide(
-            alloc,
-            Chain {
-                link: Link::Turned,
-                n: 100,
-                strict: true,
-                before: &[],
-                behind: &[(1, 101, true)],
-            },
-            (Stage::Scale, 100, 0, 100),
-        ),
-    ];
-    assert!(rt; found == [true; 6]);
-}
+/// Chains, and how the runs over them end.
+const CHAINS: [(Chain, End); 7] = [
+    (
+        Chain {
+            link: Link::Turned,
+            n: 127,
+            strict: true,
+            before: &[(1, 128, true)],
+            behind: &[],
+        },
+        End::Width(Stage::Price, 127, 0, 127),
+    ),
+    (
+        Chain {
+            link: Link::Turned,
+            n: 128,
+            strict: false,
+            before: &[],
+            behind: &[(1, 129, true)],
+        },
+        End::Width(Stage::Column, 128, 130, 127),
+    ),
+    (
+        Chain {
+            link: Link::Doubled,
+            n: 66,
+            strict: false,
+            before: &[],
+            behind: &[(66, 1, true)],
+        },
+        End::Width(Stage::Update, 66, 0, 1),
+    ),
+    // the common multiple of the denominators
+    (
+        Chain {
+            link: Link::Backward,
+            n: 65,
+            strict: false,
+            before: &[(1, 66, false), (66, 65, true)],
+            behind: &[],
+        },
+        End::Width(Stage::Scale, 66, 0, 0),
+    ),
+    // a value made whole by it
+    (
+        Chain {
+            link: Link::Doubled,
+            n: 65,
+            strict: false,
+            before: &[],
+            behind: &[(65, 66, true), (66, 1, false)],
+        },
+        End::Width(Stage::Scale, 66, 1, 0),
+    ),
+    // a weight
+    (
+        Chain {
+            link: Link::Turned,
+            n: 100,
+            strict: true,
+            before: &[],
+            behind: &[(1, 101, true)],
+        },
+        End::Width(Stage::Scale, 100, 0, 100),
+    ),
+    // one link less than in the chain whose values are too great: the greatest is 2^63
+    (
+        Chain {
+            link: Link::Doubled,
+            n: 64,
+            strict: false,
+            before: &[],
+            behind: &[(64, 65, true), (65, 1, false)],
+        },
+        End::Doubled,
+    ),
+];
 
-/// Whether a run ends with a combination that takes 65 columns: the first 2^63 times, and the 64th once.
-fn is_doubled(found: Option<Outcome>) -> bool {
-    match &found {
-        Some(Outcome::Balanced(counts)) => {
-            counts.len() == 65 && counts.at(0).times == 1u64 << 63 && counts.at(63).times == 1
-        }
-        _ => false,
+#[test]
+fn ends_of_chains(rt: HostRuntime) {
+    for (chain, end) in CHAINS.iter() {
+        assert!(rt; is_end(end_of_chain(rt.alloc(), chain), end));
     }
-}
-
-/// One link less than in the chain whose values are too great: the greatest is 2^63.
-#[test]
-fn a_value_at_the_limit(rt: HostRuntime) {
-    let chain = Chain {
-        link: Link::Doubled,
-        n: 64,
-        strict: false,
-        before: &[],
-        behind: &[(64, 65, true), (65, 1, false)],
-    };
-    assert!(rt; is_doubled(end_of_chain(rt.alloc(), &chain)));
 }
 
 #[test]

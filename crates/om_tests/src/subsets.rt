@@ -24,8 +24,8 @@ const REVERSE_TRIPLES: [(u32, u32); 6] = [
 fn pairs_of_four(rt: HostRuntime) {
     let mut pair = Subset::first(2, 4);
     for (place, mask) in PAIRS.iter().enumerate() {
-        assert!(rt; pair.rank() as usize == place && pair.mask() == *mask);
-        assert!(rt; pair.next().is_none() == (place == 5));
+        let found = (pair.rank() as usize, pair.mask(), pair.next().is_none());
+        assert!(rt; found == (place, *mask, place == 5));
         pair = pair.following();
     }
     assert!(rt; pair.next().is_none());
@@ -46,17 +46,24 @@ fn sets_in_reverse(rt: HostRuntime) {
         let expected = (REVERSE_PAIRS[place as usize], place);
         assert!(rt; in_reverse(place, 2, 4) == Some(expected));
     }
-    for (place, mask) in REVERSE_TRIPLES {
-        assert!(rt; in_reverse(place, 3, 6) == Some((mask, place)));
+    for (place, mask) in REVERSE_TRIPLES.iter() {
+        assert!(rt; in_reverse(*place, 3, 6) == Some((*mask, *place)));
     }
 }
 
 #[test]
 fn the_last_pair(rt: HostRuntime) {
     let pair = Subset::from_mask(0b1100, 4);
-    assert!(rt; pair == Subset::unrank(5, 2, 4) && Subset::choose(4, 2) == 6);
-    assert!(rt; pair.without(4).with(1) == Subset::from_mask(0b0101, 4));
-    assert!(rt; pair.has(3) && pair.odd_after(3) && !pair.odd_after(2));
+    let facts = [pair.has(3), pair.odd_after(3), pair.odd_after(2)];
+    assert!(rt; facts == [true, true, false]);
+    let sets = [pair, pair.without(4).with(1), pair.skipping(4)];
+    let expected = [
+        Subset::unrank(5, 2, 4),
+        Subset::from_mask(0b0101, 4),
+        Subset::from_mask(0b10100, 5),
+    ];
+    assert!(rt; sets == expected);
+    assert!(rt; (Subset::choose(4, 2), pair.least(), pair.size()) == (6, 3, 2));
 }
 
 #[test]
@@ -73,11 +80,4 @@ fn sets_of_others(rt: HostRuntime) {
     assert!(rt;
         [both.mask(), rest.mask()] == [0b01100, 0b10010] && found == [true, false, true, false]
     );
-}
-
-#[test]
-fn sets_with_a_gap(rt: HostRuntime) {
-    let pair = Subset::unrank(5, 2, 4);
-    assert!(rt; pair.skipping(4) == Subset::from_mask(0b10100, 5));
-    assert!(rt; [pair.least(), pair.size()] == [3, 2]);
 }

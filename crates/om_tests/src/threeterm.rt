@@ -1,30 +1,38 @@
 //! Maps that meet the three-term test, and maps that fail it.
 
-ghost use Rattle.std.specs.Prelude.{◌≡◌, ◌≤◌, length, IfOk};
-ghost use Rattle.om_subsets.specs.Subsets.{choose};
+ghost use Rattle.std.specs.Prelude.{◌≤◌};
 
-use om_samples::{SampleError, map_of};
-use om_signs::{MAX_ELEMENTS, RawMap};
+use om_chirotope::Chirotope;
+use om_samples::map_of;
+use om_signs::MAX_ELEMENTS;
 use om_subsets::Subset;
-use om_threeterm::{ThreeRefused, check};
+use om_threeterm::{BadThree, ThreeRefused, check};
+use std::alloc::Global;
 use std::thread::Threads;
 
-/// Whether there is a map, and the test says this of it.
+/// Whether the test of a map says this.
+fn is_answer(found: Result<Chirotope, BadThree>, expected: Result<(), ThreeRefused>) -> bool {
+    match &found {
+        Ok(_) => expected.is_ok(),
+        Err(bad) => expected == Err(bad.why),
+    }
+}
+
+/// Whether the text writes a map, and the test says this of it.
 fn is_checked<R: Threads + Sync>(
     rt: &R,
-    map: Result<RawMap, SampleError>,
+    alloc: Global,
+    rank: u8,
+    elements: u8,
+    text: &str,
     expected: Result<(), ThreeRefused>,
 ) -> bool
-    requires low { IfOk map (λ raw. 1 ≤ raw.elements) }
-    requires high { IfOk map (λ raw. raw.elements ≤ MAX_ELEMENTS) }
-    requires part { IfOk map (λ raw. raw.rank ≤ raw.elements) }
-    requires whole { IfOk map (λ raw. length raw.signs ≡ choose raw.elements raw.rank) }
+    requires low { 1 ≤ elements }
+    requires high { elements ≤ MAX_ELEMENTS }
+    requires part { rank ≤ elements }
 {
-    match map {
-        Ok(map) => match &check(rt, map) {
-            Ok(_) => expected.is_ok(),
-            Err(bad) => expected == Err(bad.why),
-        },
+    match map_of(alloc, rank, elements, text) {
+        Ok(map) => is_answer(check(rt, map), expected),
         Err(_) => false,
     }
 }
@@ -43,12 +51,11 @@ fn accepted_and_refused(rt: HostRuntime) {
         p: Subset::from_mask(0b1, 6),
         q: Subset::from_mask(0b11110, 6),
     };
-    let turned = map_of(alloc, 3, 6, "+++++-++++++++++++++");
     let found = [
-        is_checked(&rt, map_of(alloc, 3, 4, "++++"), Ok(())),
-        is_checked(&rt, map_of(alloc, 1, 3, "000"), Err(ThreeRefused::AllZero)),
-        is_checked(&rt, map_of(alloc, 2, 4, "++000+"), Err(exchange)),
-        is_checked(&rt, turned, Err(relation)),
+        is_checked(&rt, alloc, 3, 4, "++++", Ok(())),
+        is_checked(&rt, alloc, 1, 3, "000", Err(ThreeRefused::AllZero)),
+        is_checked(&rt, alloc, 2, 4, "++000+", Err(exchange)),
+        is_checked(&rt, alloc, 3, 6, "+++++-++++++++++++++", Err(relation)),
     ];
     assert!(rt; found == [true; 4]);
 }

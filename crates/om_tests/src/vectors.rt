@@ -44,9 +44,12 @@ fn is_product(rows: &[[i64; 3]], product: i128) -> bool {
 fn greatest_triple_products(rt: HostRuntime) {
     let m = MAX_COORDINATE;
     let four = 5_316_911_983_139_663_491_615_228_241_121_378_304;
-    assert!(rt; is_product(&[[-m, m, m], [m, -m, m], [m, m, -m]], four));
-    assert!(rt; is_product(&[[m, -m, m], [-m, m, m], [m, m, -m]], -four));
-    assert!(rt; is_product(&[[-m, m, m], [m, -m, m], [-m, m, m]], 0));
+    let found = [
+        is_product(&[[-m, m, m], [m, -m, m], [m, m, -m]], four),
+        is_product(&[[m, -m, m], [-m, m, m], [m, m, -m]], -four),
+        is_product(&[[-m, m, m], [m, -m, m], [-m, m, m]], 0),
+    ];
+    assert!(rt; found == [true; 3]);
 }
 
 /// The first vectors of three, with one behind them.
@@ -63,10 +66,13 @@ fn after_cut(len: u8, x: i64, y: i64, z: i64) -> Word {
 
 #[test]
 fn words(rt: HostRuntime) {
-    assert!(rt; after_cut(1, -4, 5, 6) == word_of(&[[1, 2, 3], [-4, 5, 6]]));
-    assert!(rt; after_cut(2, 1, 2, 3) == word_of(&[[1, 2, 3], [-4, 5, 6], [1, 2, 3]]));
-    assert!(rt; after_cut(0, 7, 8, 9).as_slice() == word_of(&[[7, 8, 9]]).as_slice());
-    assert!(rt; Unfound::Frontier(Word::new()) != Unfound::Exhausted);
+    let found = [
+        after_cut(1, -4, 5, 6) == word_of(&[[1, 2, 3], [-4, 5, 6]]),
+        after_cut(2, 1, 2, 3) == word_of(&[[1, 2, 3], [-4, 5, 6], [1, 2, 3]]),
+        after_cut(0, 7, 8, 9).as_slice() == word_of(&[[7, 8, 9]]).as_slice(),
+        Unfound::Frontier(Word::new()) != Unfound::Exhausted,
+    ];
+    assert!(rt; found == [true; 4]);
 }
 
 /// The chirotope of some vectors.

@@ -10,19 +10,15 @@ use om_subsets::Subset;
 use om_wiring::{BadWiring, Values, Wiring, WiringRefused, check, chirotope, sweep};
 use std::alloc::Global;
 
-/// Whether a wiring diagram was accepted, and has these blocks.
-fn is_wiring(found: Result<Wiring, BadWiring>, blocks: &[Block]) -> bool {
-    match found {
-        Ok(w) => w.blocks() == blocks,
-        Err(_) => false,
-    }
-}
-
-/// Whether no blocks at all were refused and handed back, since the last order isn't the reverse of the first.
-fn is_refused(found: Result<Wiring, BadWiring>) -> bool {
-    match found {
-        Ok(_) => false,
-        Err(bad) => bad.why == WiringRefused::NotReversed && bad.blocks.len() == 0,
+/// Whether a wiring diagram with these blocks was accepted; or these were refused for a reason, and handed back.
+fn is_checked(
+    found: Result<Wiring, BadWiring>,
+    refused: Option<WiringRefused>,
+    blocks: &[Block],
+) -> bool {
+    match &found {
+        Ok(w) => [refused.is_none(), w.blocks() == blocks] == [true; 2],
+        Err(bad) => [refused == Some(bad.why), bad.blocks.as_slice() == blocks] == [true; 2],
     }
 }
 
@@ -57,9 +53,12 @@ pub fn sweep_of(alloc: Global, chi: Result<Chirotope, SampleError>) -> Option<Wi
 fn is_of_four(alloc: Global, found: Option<Wiring>, text: &str, blocks: &[Block]) -> bool {
     match found {
         Some(w) => {
-            w.elements() == 4
-                && is_chirotope(chirotope(alloc, &w), 3, 4, text)
-                && is_wiring(check(4, w.into_blocks()), blocks)
+            let answers = [
+                w.elements() == 4,
+                is_chirotope(chirotope(alloc, &w), 3, 4, text),
+                is_checked(check(4, w.into_blocks()), None, blocks),
+            ];
+            answers == [true; 3]
         }
         None => false,
     }
@@ -76,16 +75,20 @@ const CROSSED_AT_ONCE: [Block; 4] = [
 #[test]
 fn four_wires(rt: HostRuntime) {
     let alloc = rt.alloc();
-    let found = sweep_of(alloc, chirotope_of(&rt, alloc, 3, 4, "0+++"));
-    assert!(rt; is_of_four(alloc, found, "0+++", &CROSSED_AT_ONCE));
-}
-
-#[test]
-fn no_blocks(rt: HostRuntime) {
-    assert!(rt; is_refused(check(4, List::new(rt.alloc()))));
-}
-
-#[test]
-fn values_in_rows(rt: HostRuntime) {
-    assert!(rt; has_rows(chirotope_of(&rt, rt.alloc(), 3, 4, "+-++")));
+    let found = [
+        is_of_four(
+            alloc,
+            sweep_of(alloc, chirotope_of(&rt, alloc, 3, 4, "0+++")),
+            "0+++",
+            &CROSSED_AT_ONCE,
+        ),
+        // the last order of no blocks at all isn't the reverse of the first
+        is_checked(
+            check(4, List::new(alloc)),
+            Some(WiringRefused::NotReversed),
+            &[],
+        ),
+        has_rows(chirotope_of(&rt, alloc, 3, 4, "+-++")),
+    ];
+    assert!(rt; found == [true; 3]);
 }

@@ -11,42 +11,10 @@ use om_signs::NoMemory;
 use om_subsets::Subset;
 use om_text::Code;
 use std::alloc::Global;
-use std::test::Fail;
 
 /// Whether a line has this text.
 fn is_text(alloc: Global, line: &Line, text: &str) -> bool {
     is_made(print_line(alloc, line), text.as_bytes())
-}
-
-#[test]
-fn lines_with_numbers(rt: HostRuntime) {
-    let alloc = rt.alloc();
-    let code = Code::Size { values: 19_448 };
-    let statement = Statement {
-        a: 1,
-        b: 2,
-        c: 3,
-        d: 4,
-        e: 19,
-        small: 2,
-        big: 3,
-        strict: true,
-    };
-    assert!(rt; is_text(alloc, &Line::NotCovector, "not covector\n"));
-    assert!(rt;
-        is_text(
-            alloc,
-            &Line::RefusedLine { line: 2, code },
-            "refused line 2 size 19448\n"
-        )
-    );
-    assert!(rt;
-        is_text(
-            alloc,
-            &Line::RefusedWeightfails { statement },
-            "refused weightfails 1 2 3 4 19 2 3\n"
-        )
-    );
 }
 
 /// The subset of 1 to 9 of a mask.
@@ -56,12 +24,37 @@ fn subset(mask: u32) -> Subset
     Subset::from_mask(mask, 9)
 }
 
+/// The strict statement that 1, 2, 3, 4 and 19 are the five elements, with the second term below the third.
+const STATEMENT: Statement = Statement {
+    a: 1,
+    b: 2,
+    c: 3,
+    d: 4,
+    e: 19,
+    small: 2,
+    big: 3,
+    strict: true,
+};
+
+// a line of words alone, and lines with numbers, sets and signs
 #[test]
-fn lines_with_sets(rt: HostRuntime) {
-    let none = subset(0);
-    let one_five = subset(0b1_0001);
-    let first_four = subset(0b1111);
+fn lines(rt: HostRuntime) {
+    let (none, one_five, first_four) = (subset(0), subset(0b1_0001), subset(0b1111));
     let lines = [
+        (Line::NotCovector, "not covector\n"),
+        (
+            Line::RefusedLine {
+                line: 2,
+                code: Code::Size { values: 19_448 },
+            },
+            "refused line 2 size 19448\n",
+        ),
+        (
+            Line::RefusedWeightfails {
+                statement: STATEMENT,
+            },
+            "refused weightfails 1 2 3 4 19 2 3\n",
+        ),
         (
             Line::RefusedRelation {
                 s: one_five,
@@ -92,27 +85,23 @@ fn lines_with_sets(rt: HostRuntime) {
             },
             "refused unbalanced 1,7,8 1 340282366920938463463374607431768211455\n",
         ),
+        (
+            Line::Circuit {
+                x: vector_of(4, "+-0-"),
+            },
+            "circuit +-0-\n",
+        ),
     ];
     for (line, text) in &lines {
-        assert!(rt; is_text(rt.alloc(), line, text), "{text}");
+        assert!(rt; is_text(rt.alloc(), line, text));
     }
 }
 
-#[test]
-fn lines_with_sign_vectors(rt: HostRuntime) {
-    let x = vector_of(4, "+-0-");
-    assert!(rt; is_text(rt.alloc(), &Line::Circuit { x }, "circuit +-0-\n"));
-}
-
-/// Puts a number, a space and a set at the end.
-fn push_numbers(text: &mut Vec<u8>) -> Result<(), NoMemory> {
+/// Puts a number, a space, a set, the signs of a vector and the end of the line at the end.
+fn push_pieces(text: &mut Vec<u8>) -> Result<(), NoMemory> {
     push_decimal(text, 4)?;
     push(text, b" ")?;
-    push_subset(text, subset(0b1101))
-}
-
-/// Puts the signs of a vector at the end, and the end of the line.
-fn push_sign_line(text: &mut Vec<u8>) -> Result<(), NoMemory> {
+    push_subset(text, subset(0b1101))?;
     push_vector(text, vector_of(5, "-0++-"))?;
     push_line_feed(text)
 }
@@ -120,7 +109,6 @@ fn push_sign_line(text: &mut Vec<u8>) -> Result<(), NoMemory> {
 #[test]
 fn pieces_of_a_text(rt: HostRuntime) {
     let mut text = Vec::new(rt.alloc());
-    assert!(rt; push_numbers(&mut text).is_ok());
-    assert!(rt; push_sign_line(&mut text).is_ok());
-    assert!(rt; text.as_slice() == b"4 1,3,4-0++-\n".as_slice());
+    let pushed = push_pieces(&mut text);
+    assert!(rt; is_made(pushed.and(Ok(text)), b"4 1,3,4-0++-\n"));
 }

@@ -5,7 +5,7 @@ use om_port::{
     read_all, write_all,
 };
 use om_signs::{List, MAX_INPUT, NoMemory};
-use std::alloc::Global;
+use std::alloc::{AllocError, Global};
 
 /// Five bytes.
 const TEXT: &[u8] = b"om 1\n";
@@ -16,10 +16,21 @@ type Read = Result<&'static [u8], ReadError>;
 /// What a writing gives.
 type Written = Result<(), WriteFault>;
 
-/// A writing that ends after so many bytes.
-fn fails(written: usize) -> Written {
-    Err(WriteFault { written })
-}
+/// Writings of the text: the room, the greatest piece, the call that fails, what the writing gives, and the bytes that it takes.
+const WRITINGS: [(usize, usize, u32, Written, &[u8]); 10] = [
+    // they fail at each call in turn
+    (10, 2, 1, Err(WriteFault { written: 0 }), b""),
+    (10, 2, 2, Err(WriteFault { written: 2 }), b"om"),
+    (10, 2, 3, Err(WriteFault { written: 4 }), b"om 1"),
+    (10, 2, 4, Ok(()), TEXT),
+    // the room ends at each byte
+    (0, 10, 100, Err(WriteFault { written: 0 }), b""),
+    (1, 10, 100, Err(WriteFault { written: 1 }), b"o"),
+    (2, 10, 100, Err(WriteFault { written: 2 }), b"om"),
+    (3, 10, 100, Err(WriteFault { written: 3 }), b"om "),
+    (4, 10, 100, Err(WriteFault { written: 4 }), b"om 1"),
+    (5, 10, 100, Ok(()), TEXT),
+];
 
 /// The list of one number.
 fn only(alloc: Global, call: u32) -> Result<List<u32>, NoMemory> {
@@ -54,17 +65,13 @@ fn sink(alloc: Global, room: usize, piece: usize, failing: u32) -> Result<MemSin
     MemSink::new(alloc, room, piece.max(1), only(alloc, failing)?)
 }
 
-/// Whether a writing gives this, and takes these bytes.
-fn writes(
-    alloc: Global,
-    room: usize,
-    piece: usize,
-    failing: u32,
-    expected: Written,
-    taken: &[u8],
-) -> bool {
-    match sink(alloc, room, piece, failing) {
-        Ok(mut sink) => write_all(&mut sink, TEXT) == expected && sink.bytes() == taken,
+/// Whether there is a sink, the writing of the text gives this, and the sink takes these bytes.
+fn takes(sink: Result<MemSink, NoMemory>, expected: Written, taken: &[u8]) -> bool {
+    match sink {
+        Ok(mut sink) => {
+            let given = write_all(&mut sink, TEXT) == expected;
+            [given, sink.bytes() == taken] == [true; 2]
+        }
         Err(_) => false,
     }
 }
@@ -99,40 +106,30 @@ fn readings_end(rt: HostRuntime) {
     assert!(rt; found == [true; 4]);
 }
 
-/// They fail at each call in turn.
 #[test]
-fn writings_fail(rt: HostRuntime) {
+fn writings(rt: HostRuntime) {
     let alloc = rt.alloc();
-    let found = [
-        writes(alloc, 10, 2, 1, fails(0), b""),
-        writes(alloc, 10, 2, 2, fails(2), b"om"),
-        writes(alloc, 10, 2, 3, fails(4), b"om 1"),
-        writes(alloc, 10, 2, 4, Ok(()), TEXT),
-    ];
-    assert!(rt; found == [true; 4]);
+    for (room, piece, failing, expected, taken) in WRITINGS.iter() {
+        assert!(rt; takes(sink(alloc, *room, *piece, *failing), *expected, taken));
+    }
 }
 
-/// The room ends at each byte.
-#[test]
-fn writings_end(rt: HostRuntime) {
-    let alloc = rt.alloc();
-    let found = [
-        writes(alloc, 0, 10, 100, fails(0), b""),
-        writes(alloc, 1, 10, 100, fails(1), b"o"),
-        writes(alloc, 2, 10, 100, fails(2), b"om"),
-        writes(alloc, 3, 10, 100, fails(3), b"om "),
-        writes(alloc, 4, 10, 100, fails(4), b"om 1"),
-        writes(alloc, 5, 10, 100, Ok(()), TEXT),
-    ];
-    assert!(rt; found == [true; 6]);
+/// Whether a source that never fails gives the text.
+fn sure_gives(alloc: Global, bytes: Result<Vec<u8>, AllocError>) -> bool {
+    match bytes {
+        Ok(bytes) => gives(alloc, &mut SureSource::new(bytes), 5, Ok(TEXT)),
+        Err(_) => false,
+    }
 }
 
 #[test]
-fn other_sources(rt: HostRuntime) -> Result<(), NoMemory> {
-    let bytes = Vec::from_slice(rt.alloc(), TEXT)?;
-    assert!(rt; gives(rt.alloc(), &mut SureSource::new(bytes), 5, Ok(TEXT)));
-    assert!(rt; gives(rt.alloc(), &mut StdSource::new(TEXT), 5, Ok(TEXT)));
-    Ok(())
+fn other_sources(rt: HostRuntime) {
+    let alloc = rt.alloc();
+    let found = [
+        sure_gives(alloc, Vec::from_slice(alloc, TEXT)),
+        gives(alloc, &mut StdSource::new(TEXT), 5, Ok(TEXT)),
+    ];
+    assert!(rt; found == [true; 2]);
 }
 
 #[test]
@@ -147,5 +144,5 @@ fn writers(rt: HostRuntime) {
     let mut room = [0u8; 3];
     let short = write_all(&mut StdSink::new(room.as_mut_slice()), TEXT);
     let long = write_all(&mut StdSink::new(Vec::new(rt.alloc())), TEXT);
-    assert!(rt; [short, long] == [fails(3), Ok(())]);
+    assert!(rt; [short, long] == [Err(WriteFault { written: 3 }), Ok(())]);
 }

@@ -7,9 +7,8 @@ use super::helpers::is_made;
 use om_signs::{List, MAX_INPUT, MAX_MULTIPLICITY, MAX_WEIGHT};
 use om_text::lines::{before_comment, first_line, first_word, has_no_words, is_only_word, same};
 use om_text::words::{plain_number, signed_number, unsigned_number};
-use om_text::{Body, Document, Name, parse, parse_part, print, print_two};
+use om_text::{Body, Document, Name, ParseError, parse, parse_part, print, print_two};
 use std::alloc::Global;
-use std::test::Fail;
 
 /// Documents that fail the axioms of their kinds, or are printed by no command in version 1: their canonical forms, and the
 /// numbers of bytes and of lines up to the line `end`.
@@ -121,8 +120,8 @@ fn is_read(alloc: Global, bytes: &[u8], form: &str, len: usize, lines: u32) -> b
 {
     match parse_part(alloc, bytes) {
         Ok((document, found, count)) => {
-            let made = print(alloc, &document);
-            found == len && count == lines && is_made(made, form.as_bytes())
+            let made = is_made(print(alloc, &document), form.as_bytes());
+            [found == len, count == lines, made] == [true; 3]
         }
         Err(_) => false,
     }
@@ -132,14 +131,11 @@ fn is_read(alloc: Global, bytes: &[u8], form: &str, len: usize, lines: u32) -> b
 fn canonical_forms(rt: HostRuntime) {
     for (text, form, len, lines) in &FORMS {
         let bytes = text.as_bytes();
-        assert!(rt;
-            bytes.len() <= MAX_INPUT && is_read(rt.alloc(), bytes, form, *len, *lines),
-            "{text}"
-        );
+        assert!(rt; bytes.len() <= MAX_INPUT && is_read(rt.alloc(), bytes, form, *len, *lines));
     }
 }
 
-/// Whether these are two names of a document.
+/// Whether these are two names.
 fn are_names(names: &[Name], first: &[u8], second: &[u8]) -> bool {
     match names {
         [a, b] => same(a.as_bytes(), first) && same(b.as_bytes(), second),
@@ -147,15 +143,19 @@ fn are_names(names: &[Name], first: &[u8], second: &[u8]) -> bool {
     }
 }
 
+/// Whether a document was read, and these are its two names.
+fn has_names(found: &Result<Document, ParseError>, first: &[u8], second: &[u8]) -> bool {
+    match found {
+        Ok(document) => are_names(document.names.as_slice(), first, second),
+        Err(_) => false,
+    }
+}
+
+// a name has at most 16 bytes
 #[test]
-fn names(rt: HostRuntime) -> Result<(), Fail> {
-    // a name has at most 16 bytes
-    let document = parse(
-        rt.alloc(),
-        b"om 2\ncircuits 2\nnames Abcdefghij_01234 _\nhalf\nend",
-    )?;
-    assert!(rt; are_names(document.names.as_slice(), b"Abcdefghij_01234", b"_"));
-    Ok(())
+fn names(rt: HostRuntime) {
+    let text = b"om 2\ncircuits 2\nnames Abcdefghij_01234 _\nhalf\nend";
+    assert!(rt; has_names(&parse(rt.alloc(), text), b"Abcdefghij_01234", b"_"));
 }
 
 #[test]
@@ -163,45 +163,53 @@ fn bytes_that_are_no_name(rt: HostRuntime) {
     assert!(rt; Name::new(b"Abcdefghij_012345").is_none());
 }
 
-#[test]
-fn form_in_version_two(rt: HostRuntime) {
+/// Whether the wiring of two wires without blocks has this form in version 2.
+fn is_form_of_two_wires(alloc: Global, form: &[u8]) -> bool {
     let document = Document {
         elements: 2,
-        body: Body::Wiring(List::new(rt.alloc())),
-        names: List::new(rt.alloc()),
+        body: Body::Wiring(List::new(alloc)),
+        names: List::new(alloc),
     };
-    assert!(rt;
-        is_made(
-            print_two(rt.alloc(), &document),
-            b"om 2\nwiring 2\nnames e1 e2\nend\n"
-        )
-    );
+    is_made(print_two(alloc, &document), form)
+}
+
+#[test]
+fn form_in_version_two(rt: HostRuntime) {
+    assert!(rt; is_form_of_two_wires(rt.alloc(), b"om 2\nwiring 2\nnames e1 e2\nend\n"));
 }
 
 #[test]
 fn numbers_up_to_a_limit(rt: HostRuntime) {
-    assert!(rt; plain_number(b"999999") == Some(999_999));
-    assert!(rt;
-        unsigned_number(b"9223372036854775808", MAX_MULTIPLICITY) == Some(MAX_MULTIPLICITY)
-    );
-    assert!(rt; unsigned_number(b"9223372036854775809", MAX_MULTIPLICITY).is_none());
     let most = MAX_WEIGHT.unsigned_abs();
-    assert!(rt; signed_number(b"-1267650600228229401496703205376", most) == Some(-MAX_WEIGHT));
-    assert!(rt; signed_number(b"1267650600228229401496703205377", most).is_none());
+    let unsigned = [
+        unsigned_number(b"9223372036854775808", MAX_MULTIPLICITY),
+        unsigned_number(b"9223372036854775809", MAX_MULTIPLICITY),
+    ];
+    let signed = [
+        signed_number(b"-1267650600228229401496703205376", most),
+        signed_number(b"1267650600228229401496703205377", most),
+    ];
+    assert!(rt; plain_number(b"999999") == Some(999_999));
+    assert!(rt; unsigned == [Some(MAX_MULTIPLICITY), None] && signed == [Some(-MAX_WEIGHT), None]);
+}
+
+/// Whether there are two words, and these are they.
+fn has_words(text: &[u8], first: &[u8], second: &[u8]) -> bool {
+    match first_word(text) {
+        Some((word, rest)) => same(word, first) && is_only_word(rest, second),
+        None => false,
+    }
 }
 
 #[test]
-fn lines(rt: HostRuntime) {
+fn lines_and_words(rt: HostRuntime) {
     let (line, rest) = first_line(b"a bc#d\nend");
-    assert!(rt; same(line, b"a bc#d"));
-    assert!(rt; same(rest, b"end"));
-    assert!(rt; same(before_comment(line), b"a bc"));
-}
-
-#[test]
-fn words(rt: HostRuntime) {
-    assert!(rt;
-        matches!(first_word(b"\ta bc\r"), Some((word, rest)) if same(word, b"a") && is_only_word(rest, b"bc"))
-    );
-    assert!(rt; has_no_words(b" \t\r"));
+    let found = [
+        same(line, b"a bc#d"),
+        same(rest, b"end"),
+        same(before_comment(line), b"a bc"),
+        has_words(b"\ta bc\r", b"a", b"bc"),
+        has_no_words(b" \t\r"),
+    ];
+    assert!(rt; found == [true; 5]);
 }

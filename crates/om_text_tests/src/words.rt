@@ -3,8 +3,8 @@
 use om_answer::Kind;
 use om_paint::Colour;
 use om_signs::{MAX_DRAWN, Sign};
-use om_words::{Reads, Task, Usage, command};
-use std::alloc::Global;
+use om_words::{Colouring, Leading, Reads, Task, Usage, command};
+use std::alloc::{AllocError, Global};
 
 /// Words that aren't a command, and the one at fault.
 const FAULTS: [(&str, u32); 20] = [
@@ -53,53 +53,41 @@ const TASKS: [(&str, Reads); 19] = [
     ("make 7", Reads::Nothing),
 ];
 
-/// The words of a line, with a space between two.
-fn words_of(alloc: Global, line: &str) -> Option<Vec<String>> {
-    let mut words = Vec::new(alloc);
-    for part in line.split(' ') {
-        let mut word = String::new(alloc);
-        word.push_str(part).ok()?;
-        words.push(word).ok()?;
+/// Puts the words of a line, which has a space between two, behind some words.
+fn push_words(alloc: Global, words: &mut Vec<String>, line: &str) -> Result<(), AllocError> {
+    for word in line.split(' ') {
+        words.push(String::from_str(alloc, word)?)?;
     }
-    Some(words)
+    Ok(())
 }
 
-/// What the words of a line are read as, if memory lasts.
-fn read(alloc: Global, line: &str) -> Option<Result<Task, Usage>> {
-    let words = words_of(alloc, line)?;
-    Some(command(words.as_slice()))
-}
-
-/// The task that the words of a line name.
-fn task(alloc: Global, line: &str) -> Option<Task> {
-    read(alloc, line)?.ok()
-}
-
-/// Whether this word of a line is at fault.
-fn is_at_fault(alloc: Global, line: &str, word: u32) -> bool {
-    match read(alloc, line) {
-        Some(Err(usage)) => usage.word == word,
-        _ => false,
+/// The task that the words of a line name, or the word at fault, which is 0 for want of memory.
+fn read(alloc: Global, line: &str) -> Result<Task, Usage> {
+    let mut words = Vec::new(alloc);
+    match push_words(alloc, &mut words, line) {
+        Ok(()) => command(words.as_slice()),
+        Err(_) => Err(Usage { word: 0 }),
     }
 }
 
 /// Whether the words of a line name a task that reads this.
 fn reads(alloc: Global, line: &str, what: Reads) -> bool {
-    match task(alloc, line) {
-        Some(task) => matches!(
+    match read(alloc, line) {
+        Ok(task) => matches!(
             (task.reads(), what),
             (Reads::Document, Reads::Document)
                 | (Reads::Claim, Reads::Claim)
                 | (Reads::Nothing, Reads::Nothing)
         ),
-        None => false,
+        Err(_) => false,
     }
 }
 
 #[test]
 fn words_at_fault(rt: HostRuntime) {
+    assert!(rt; command(&[]).err() == Some(Usage { word: 1 }));
     for (line, word) in FAULTS.iter() {
-        assert!(rt; is_at_fault(rt.alloc(), line, *word));
+        assert!(rt; read(rt.alloc(), line).err() == Some(Usage { word: *word }));
     }
 }
 
@@ -110,76 +98,55 @@ fn what_tasks_read(rt: HostRuntime) {
     }
 }
 
-#[test]
-fn no_words(rt: HostRuntime) {
-    assert!(rt; matches!(command(&[]), Err(Usage { word: 1 })));
+/// Whether there are three colours, the last of them black, and the element 2; the places behind the last colour are white.
+fn is_painted(given: Colouring) -> bool {
+    given.count == 3
+        && given.e == 2
+        && given.colours[2] == Colour::Black
+        && given.colours[3] == Colour::White
 }
+
+/// Whether there are two signed elements, the second of them -1.
+fn is_extended(leading: Leading) -> bool {
+    leading.count == 2 && leading.list[1].element == 1 && leading.list[1].sign == Sign::Minus
+}
+
+/// The line of [`ARGUMENTS`] that names a task, if one does.
+fn line_of(task: Task) -> &'static str {
+    match task {
+        Task::Delete(20) => "delete 20",
+        Task::Convert(Kind::Cocircuits) => "convert cocircuits",
+        Task::Reorient(5) => "reorient 1 3",
+        Task::Flip(1, 2, 20) => "flip 1 2 20",
+        Task::Extend { first: 100_000 } => "extend",
+        Task::Make { seed: 7, count } if count == MAX_DRAWN => "make 7",
+        Task::Paint(given) if is_painted(given) => "paint RGB 2",
+        Task::Lexext(leading) if is_extended(leading) => "lexext +3 -1",
+        // the steps are those without an option
+        Task::Decide(budgets)
+            if budgets.box_size == 2 && budgets.steps == 2_000_000 && budgets.pivots == 9 => {
+            "decide --pivots=9 --box=2"
+        }
+        _ => "",
+    }
+}
+
+/// Words of commands with arguments, or with what there is without them.
+const ARGUMENTS: [&str; 9] = [
+    "delete 20",
+    "convert cocircuits",
+    "reorient 1 3",
+    "flip 1 2 20",
+    "extend",
+    "make 7",
+    "paint RGB 2",
+    "lexext +3 -1",
+    "decide --pivots=9 --box=2",
+];
 
 #[test]
 fn arguments(rt: HostRuntime) {
-    let alloc = rt.alloc();
-    let found = [
-        matches!(task(alloc, "delete 20"), Some(Task::Delete(20))),
-        matches!(
-            task(alloc, "convert cocircuits"),
-            Some(Task::Convert(Kind::Cocircuits))
-        ),
-        matches!(task(alloc, "reorient 1 3"), Some(Task::Reorient(5))),
-        matches!(task(alloc, "flip 1 2 20"), Some(Task::Flip(1, 2, 20))),
-        matches!(task(alloc, "extend"), Some(Task::Extend { first: 100_000 })),
-        matches!(
-            task(alloc, "make 7"),
-            Some(Task::Make {
-                seed: 7,
-                count: MAX_DRAWN
-            })
-        ),
-    ];
-    assert!(rt; found == [true; 6]);
-}
-
-/// Whether a task paints by three colours, the last of them black, at the element 2; the places behind the last colour are white.
-fn paints(found: Option<Task>) -> bool {
-    match found {
-        Some(Task::Paint(given)) => {
-            given.count == 3
-                && given.e == 2
-                && matches!(given.colours[2], Colour::Black)
-                && matches!(given.colours[3], Colour::White)
-        }
-        _ => false,
+    for line in ARGUMENTS.iter() {
+        assert!(rt; read(rt.alloc(), line).map(line_of) == Ok(*line));
     }
-}
-
-/// Whether a task extends by two signed elements, the second of them -1.
-fn extends(found: Option<Task>) -> bool {
-    match found {
-        Some(Task::Lexext(leading)) => {
-            leading.count == 2
-                && leading.list[1].element == 1
-                && leading.list[1].sign == Sign::Minus
-        }
-        _ => false,
-    }
-}
-
-/// Whether a task decides with a box of 2, 9 pivots, and the steps that there are without an option.
-fn decides(found: Option<Task>) -> bool {
-    match found {
-        Some(Task::Decide(budgets)) => {
-            budgets.box_size == 2 && budgets.steps == 2_000_000 && budgets.pivots == 9
-        }
-        _ => false,
-    }
-}
-
-#[test]
-fn arguments_of_several_parts(rt: HostRuntime) {
-    let alloc = rt.alloc();
-    let found = [
-        paints(task(alloc, "paint RGB 2")),
-        extends(task(alloc, "lexext +3 -1")),
-        decides(task(alloc, "decide --pivots=9 --box=2")),
-    ];
-    assert!(rt; found == [true; 3]);
 }
