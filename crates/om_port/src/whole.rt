@@ -52,7 +52,7 @@ pub fn read_all<S: Source>(
             }
         }
     }
-    // Not reached: each turn but the last took a byte or ended, and the one that takes the last of `limit + 1` bytes ends too.
+    // Not reached: each turn takes a byte or ends, and the turn that takes the last of `limit + 1` bytes ends.
     Err(ReadError::TooLong)
 }
 

@@ -7,7 +7,7 @@ use Rattle.om_signs.specs.declared.block.Block.{Block}
 use Rattle.om_signs.specs.declared.limits.TheConstants.{MAX_POSITION_DIGITS}
 use Rattle.om_text.specs.Words.{plain}
 
--- the position that a word is: a plain number of few digits
+-- the position that a word is: a plain number of at most MAX_POSITION_DIGITS digits
 abbrev pub position_of : List ℕ → Option ℕ
 position_of w = cond (nat_le (length w) MAX_POSITION_DIGITS) (plain w) None
 

@@ -27,7 +27,7 @@ pub record AreMembersOn (n : ℕ) (ms : List (List Sign)) : Type 0 where
   pub long : All (λ x. length x ≡ n) ms
   pub distinct : AllPairs (λ x y. x ≢ y) ms
 
--- a block whose positions are short enough to be written
+-- a block whose positions are written with at most MAX_POSITION_DIGITS digits
 pub record IsShort (b : Block) : Type 0 where
   pub first : b.first ≤ MAX_POSITION
   pub last : b.last ≤ MAX_POSITION

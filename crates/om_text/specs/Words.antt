@@ -25,7 +25,7 @@ begins_with b (x ∷ xs) = nat_eq x b
 abbrev pub is_decimal : List ℕ → Bool
 is_decimal w = list_all is_digit w && nat_le 1 (length w) && (nat_eq (length w) 1 || not (begins_with 48 w))
 
--- the same, of few digits
+-- the same, of at most MAX_PLAIN_DIGITS digits
 abbrev pub is_plain : List ℕ → Bool
 is_plain w = is_decimal w && nat_le (length w) MAX_PLAIN_DIGITS
 
