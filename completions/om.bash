@@ -10,7 +10,7 @@ _om() {
     delete:2 | contract:2 | paint:3) COMPREPLY=($(compgen -W "$(seq 20)" -- "$word")) ;;
     flip:[234] | reorient:*) COMPREPLY=($(compgen -W "$(seq $((${before//[!0-9]/} + 1)) 20)" -- "$word")) ;;
     extend:2) COMPREPLY=($(compgen -W "--first=" -- "$word")) && compopt -o nospace ;;
-    decide:[234]) COMPREPLY=($(compgen -W "--box= --steps= --pivots=" -- "$word")) && compopt -o nospace ;;
+    decide:*) COMPREPLY=($(compgen -W "--box= --steps= --pivots=" -- "$word")) && compopt -o nospace ;;
     make:3) COMPREPLY=($(compgen -W "--count=" -- "$word")) && compopt -o nospace ;;
     lexext:*) COMPREPLY=($(compgen -W "$(seq -f '+%g' 20) $(seq -f '-%g' 20)" -- "$word")) ;;
   esac

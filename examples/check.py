@@ -1,8 +1,8 @@
 #!/usr/bin/env python3
 """examples/check.py
 
-Runs every command that the pages show, and compares what it prints with what they say. In a fenced block of a page a
-line `$ COMMAND` is a command, run at the top of the repository, and the lines up to the next one are its output. Commands
+Runs every command behind a `$` in the fenced blocks of the pages, and compares what it prints with what they say: a line
+`$ COMMAND` is a command, run at the top of the repository, and the lines up to the next one are its output. Commands
 of TOPCOM are left out where it isn't installed, and those after them on the same page that read what they wrote.
 The last line is 'examples: N passed, M failed', and the exit code is 1 where one failed.
 """

@@ -2,7 +2,7 @@ use om_grassmann::Statement;
 use om_subsets::Subset;
 use thiserror::Error;
 
-/// Why evidence proves nothing on a chirotope. Entries count from 1.
+/// Why evidence proves nothing on a chirotope. Entries and weights count from 1.
 ///
 /// Source: Bokowski and Richter-Gebert, *On the finding of final polynomials*, 1990.
 #[derive(Clone, Copy, Debug, PartialEq, Eq, Error)]
@@ -38,8 +38,8 @@ pub enum CertRefused {
     /// No entry is strict.
     #[error("no entry is strict")]
     NoStrict,
-    /// The first entry that isn't the nonzero bracket of its place in order.
-    #[error("entry {entry} is not the next nonzero bracket")]
+    /// The first weight, with its number, that isn't that of the nonzero bracket of its place in order.
+    #[error("weight {entry} is not that of the next nonzero bracket")]
     Bracket {
         entry: u32,
     },

@@ -6,6 +6,8 @@ use om_grassmann::Statement;
 /// Source: Bokowski and Richter-Gebert, *On the finding of final polynomials*, 1990.
 #[derive(Clone, Copy, Debug, PartialEq, Eq)]
 pub struct Entry {
+    /// The statement.
     pub statement: Statement,
+    /// Its multiplicity.
     pub times: u64,
 }

@@ -1,7 +1,8 @@
 use om_signs::List;
 use om_simplex::Stage;
 
-/// How a run of the linear program ended that found neither a certificate nor weights.
+/// How a run of the linear program ended that found neither a certificate nor weights. The numbers are those of
+/// [`Outcome`](om_simplex::Outcome).
 #[derive(Drop)]
 pub enum LpEnd {
     /// All pivots of the budget were made. `count` is the budget, and `basis` has the basis number of each row.
@@ -9,7 +10,8 @@ pub enum LpEnd {
         count: u32,
         basis: List<u32>,
     },
-    /// A number was too wide for the machine: the stage, the number of the pivot from 1, and the row and the place.
+    /// A number was too wide, or past the greatest multiplicity or weight: the stage, the number of the pivot, and the row and
+    /// the place.
     Width {
         stage: Stage,
         pivot: u32,

@@ -52,7 +52,7 @@ fn count_nonzero(chi: &Chirotope) -> u32
     let n = chi.elements();
     let mut count = 0;
     let mut bracket = Subset::first(3, n);
-    for place in 0..Subset::choose(n, 3) {
+    for _place in 0..Subset::choose(n, 3) {
         if is_nonzero(chi, bracket) {
             count += 1;
         }
@@ -86,7 +86,7 @@ fn first_other_bracket(chi: &Chirotope, weights: &[Weight]) -> Option<u32>
     let n = chi.elements();
     let mut next = 0usize;
     let mut bracket = Subset::first(3, n);
-    for place in 0..Subset::choose(n, 3) {
+    for _place in 0..Subset::choose(n, 3) {
         if is_nonzero(chi, bracket) {
             if !is_weight_of(weights[next], bracket) {
                 return Some(next as u32 + 1);
@@ -118,7 +118,8 @@ fn is_of_triple(weight: Weight, n: u8) -> bool
     1 <= weight.a && weight.a < weight.b && weight.b < weight.c && weight.c <= n
 }
 
-/// Writes the weights into a table of zeros, each at the place of its bracket.
+/// Writes the weights into a table of zeros, each at the place of its bracket: from the last one to the first, so that of two on
+/// one bracket the first one stays, which is the one that counts.
 fn fill(chi: &Chirotope, weights: &[Weight], table: &mut [i128])
     requires rank { chi.now.rank ≡ 3 }
     requires part { 3 ≤ chi.now.elements }

@@ -5,7 +5,10 @@
 /// [`MAX_PIVOTS`](om_signs::MAX_PIVOTS).
 #[derive(Clone, Copy, Debug, PartialEq, Eq)]
 pub struct Budgets {
+    /// The greatest size of a coordinate.
     pub box_size: u16,
+    /// The words that the search visits.
     pub steps: u64,
+    /// The pivots of the tableau.
     pub pivots: u32,
 }

@@ -58,10 +58,7 @@ pub fn decide(alloc: Global, chi: &Chirotope, budgets: Budgets) -> Result<Verdic
     }
     match search(chi, budgets.box_size, budgets.steps) {
         Ok(word) => Ok(Verdict::Realizable(word)),
-        Err(unfound) => match by_tableau(alloc, chi, budgets, unfound) {
-            Ok(verdict) => Ok(verdict),
-            Err(_) => Err(DecideError::Memory),
-        },
+        Err(unfound) => Ok(by_tableau(alloc, chi, budgets, unfound)?),
     }
 }
 

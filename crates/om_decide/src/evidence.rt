@@ -48,7 +48,7 @@ pub fn bracket_weights(
     let n = chi.elements();
     let mut weights = List::new(alloc);
     let mut bracket = Subset::first(3, n);
-    for place in 0..Subset::choose(n, 3) {
+    for _place in 0..Subset::choose(n, 3) {
         if is_nonzero(chi, bracket) {
             weights.push(bracket_weight(bracket, values.at(weights.len())))?;
         }

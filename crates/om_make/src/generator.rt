@@ -9,12 +9,13 @@ const MULTIPLIER: u64 = 69_069;
 /// How many states there are.
 const STATES: u64 = 1 << 32;
 
-/// The low bits of a state, which no draw takes: they repeat after few steps.
-const LOW_BITS: u32 = 65_536;
+/// What a draw divides a state by, so that it doesn't take the low 16 bits, which repeat after few steps.
+const DROPPED: u32 = 1 << 16;
 
-/// How many numbers a draw may give, and the greatest of them.
+/// How many numbers a draw may give.
 const CHOICES: u32 = 19;
 
+/// The greatest number that a draw may give; the least is its negative.
 const GREATEST: i64 = 9;
 
 /// A generator of numbers, by its state: the next state is 69,069 times the state, plus 1, modulo 2^32.
@@ -31,7 +32,7 @@ impl Generator {
         ensures size { unsigned_abs result ≤ unsigned_abs GREATEST }
     {
         self.state = ((MULTIPLIER * u64::from(self.state) + 1) % STATES) as u32;
-        i64::from(self.state / LOW_BITS % CHOICES) - GREATEST
+        i64::from(self.state / DROPPED % CHOICES) - GREATEST
     }
 
     /// The vector of the next three draws.

@@ -40,7 +40,7 @@ pub fn list_covectors(alloc: Global, chi: &Chirotope) -> Result<Covectors, NoMem
         Ok(covectors) => Ok(covectors),
         // in rank 3 there are at most 1,523 on 20 elements, which isn't proved here: the case of too many never comes
         Err(ConvertError::TooMany { .. } | ConvertError::Memory) => Err(NoMemory),
-        // a list of covectors has no values
+        // only a list can be too wide, and this is a chirotope
         Err(ConvertError::TooWide { .. }) => unreachable!(),
     }
 }

@@ -75,7 +75,7 @@ fn back_from_cocircuits(
         }
         // a chirotope of rank 3 on 20 elements has 1,140 values
         Err(ConvertError::TooWide { .. }) => unreachable!(),
-        // a chirotope has no members
+        // the answer is a chirotope and no list, so no limit on members is met
         Err(ConvertError::TooMany { .. }) => unreachable!(),
         Err(ConvertError::Memory) => Err(NoMemory),
     }
@@ -99,7 +99,7 @@ fn back_from_covectors(
         }
         // a chirotope of rank 3 on 20 elements has 1,140 values
         Err(ConvertError::TooWide { .. }) => unreachable!(),
-        // a chirotope has no members
+        // the answer is a chirotope and no list, so no limit on members is met
         Err(ConvertError::TooMany { .. }) => unreachable!(),
         Err(ConvertError::Memory) => Err(NoMemory),
     }

@@ -16,8 +16,8 @@ pub fn acyclic_chirotopes()
         → IsCovectorOfChirotope m (all_plus m.elements) ↔ ((X : List Sign) → IsPositiveCircuit m X → ⊥) }
 {}
 
-/// An element is extreme exactly where some cocircuit is minus at it and nowhere else plus: it is the cocircuit that fits
-/// where the element is green and all others are red.
+/// An element is extreme exactly where some cocircuit is minus at it and nowhere else: it is a cocircuit that fits where
+/// the element is green and all others are red.
 ///
 /// Source: Björner, Las Vergnas, Sturmfels, White and Ziegler, *Oriented Matroids*, chapter 3.
 pub fn extreme_elements()

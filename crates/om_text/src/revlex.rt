@@ -17,7 +17,7 @@ pub fn values_from_revlex(map: &RawMap) -> Result<List<Sign>, NoMemory>
 {
     let mut signs = map.signs.empty_like();
     let mut subset = Subset::first(map.rank, map.elements);
-    for place in 0..Subset::choose(map.elements, map.rank) {
+    for _place in 0..Subset::choose(map.elements, map.rank) {
         signs.push(map.signs.at(subset.rank_revlex() as usize))?;
         subset = subset.following();
     }

@@ -23,7 +23,7 @@ pub fn realizes(vectors: &[Vector], chi: &Chirotope) -> Result<(), Subset>
     let n = chi.elements();
     let rank = chi.rank();
     let mut s = Subset::first(rank, n);
-    for place in 0..Subset::choose(n, rank) {
+    for _place in 0..Subset::choose(n, rank) {
         if chi.at(s) != sign_of_triple(vectors, s) {
             return Err(s);
         }

@@ -48,7 +48,7 @@ fn some_nonzero(vectors: &[Vector]) -> Option<Subset>
         return None;
     }
     let mut s = Subset::first(3, n);
-    for place in 0..Subset::choose(n, 3) {
+    for _place in 0..Subset::choose(n, 3) {
         if sign_of_triple(vectors, s) != Sign::Zero {
             return Some(s);
         }
@@ -68,7 +68,7 @@ fn signs_in_order(alloc: Global, vectors: &[Vector]) -> Result<List<Sign>, NoMem
         return Ok(signs);
     }
     let mut s = Subset::first(3, n);
-    for place in 0..Subset::choose(n, 3) {
+    for _place in 0..Subset::choose(n, 3) {
         signs.push(sign_of_triple(vectors, s))?;
         s = s.following();
     }

@@ -48,8 +48,8 @@ impl<'a> Values<'a> {
         }
     }
 
-    /// The map meets the axioms, and its elements are from 1 to the greatest number. It does nothing: its contract is the
-    /// fact.
+    /// The map meets the axioms, and the number of its elements is from 1 to [`MAX_ELEMENTS`]. It does nothing: its contract
+    /// is the fact.
     pub fn is_lawful(&self)
         ensures lawful { IsChirotope self.now }
         ensures low { 1 ≤ self.now.elements }
@@ -67,7 +67,7 @@ impl<'a> Values<'a> {
         chi.rank()
     }
 
-    /// The number of elements.
+    /// The number of elements, from 1 to [`MAX_ELEMENTS`].
     pub fn elements(&self) -> u8
         ensures value { result ≡ self.now.elements }
         ensures low { 1 ≤ result }
@@ -77,7 +77,7 @@ impl<'a> Values<'a> {
         chi.elements()
     }
 
-    /// The sign of a set of three elements.
+    /// The sign of a set of three of the elements 1 to n, where n is their number.
     pub fn at(&self, s: Subset) -> Sign
         requires n { s.n ≡ self.now.elements }
         requires size { length s.elements ≡ self.now.rank }
@@ -88,7 +88,7 @@ impl<'a> Values<'a> {
         chi.at(s)
     }
 
-    /// The row of two elements: at each element y the value of p, x and y.
+    /// The row of two elements, each from 1 to n: at each element y the value of p, x and y.
     pub fn row(&self, p: u8, x: u8) -> SignVec
         requires p { IsElement self.now.elements p }
         requires x { IsElement self.now.elements x }
@@ -99,7 +99,7 @@ impl<'a> Values<'a> {
         rows[x as usize - 1]
     }
 
-    /// The value of three elements.
+    /// The value of three elements, each from 1 to n.
     pub fn value(&self, p: u8, x: u8, y: u8) -> Sign
         requires p { IsElement self.now.elements p }
         requires x { IsElement self.now.elements x }

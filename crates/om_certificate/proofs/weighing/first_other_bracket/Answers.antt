@@ -17,9 +17,9 @@ loop-place-init c = record {
 pub bounds-weights-next : goal.bounds-weights-next
 bounds-weights-next c =
     let end : c.choose-place-end.result ≡ choose c.args.chi.now.elements 3 = c.choose-place-end.ensures.value ∙ ap (λ n. choose n 3) c.elements-n.ensures.value in
-    let below : c.loop-place.place < choose c.args.chi.now.elements 3 = omega arith in
-    next_within c.args.chi.now c.args.weights.now c.loop-place.next c.loop-place.place c.loop-place.bracket.elements below
-    (list_at c.args.chi.now.elements 3 c.loop-place.place c.loop-place.bracket below c.loop-place.invariant.at) (sym c.is_nonzero.ensures ∙ c.if-is_nonzero.true) c.requires.number c.loop-place.invariant.matching
+    let below : c.loop-place._place < choose c.args.chi.now.elements 3 = omega arith in
+    next_within c.args.chi.now c.args.weights.now c.loop-place.next c.loop-place._place c.loop-place.bracket.elements below
+    (list_at c.args.chi.now.elements 3 c.loop-place._place c.loop-place.bracket below c.loop-place.invariant.at) (sym c.is_nonzero.ensures ∙ c.if-is_nonzero.true) c.requires.number c.loop-place.invariant.matching
 
 abbrev no_weight : Weight
 no_weight = record { a = 0; b = 0; c = 0; value = pos 0 }
@@ -27,36 +27,36 @@ no_weight = record { a = 0; b = 0; c = 0; value = pos 0 }
 pub returns-then-not-is_weight_of-clause-first : goal.returns-then-not-is_weight_of-clause-first
 returns-then-not-is_weight_of-clause-first c =
     let end : c.choose-place-end.result ≡ choose c.args.chi.now.elements 3 = c.choose-place-end.ensures.value ∙ ap (λ n. choose n 3) c.elements-n.ensures.value in
-    let below : c.loop-place.place < choose c.args.chi.now.elements 3 = omega arith in
-    let here = list_at c.args.chi.now.elements 3 c.loop-place.place c.loop-place.bracket below c.loop-place.invariant.at in
+    let below : c.loop-place._place < choose c.args.chi.now.elements 3 = omega arith in
+    let here = list_at c.args.chi.now.elements 3 c.loop-place._place c.loop-place.bracket below c.loop-place.invariant.at in
     let nonzero = sym c.is_nonzero.ensures ∙ c.if-is_nonzero.true in
-    first_other c.args.chi.now c.args.weights.now c.loop-place.next c.loop-place.place no_weight c.loop-place.bracket.elements below here nonzero
-    (next_within c.args.chi.now c.args.weights.now c.loop-place.next c.loop-place.place c.loop-place.bracket.elements below here nonzero c.requires.number c.loop-place.invariant.matching)
+    first_other c.args.chi.now c.args.weights.now c.loop-place.next c.loop-place._place no_weight c.loop-place.bracket.elements below here nonzero
+    (next_within c.args.chi.now c.args.weights.now c.loop-place.next c.loop-place._place c.loop-place.bracket.elements below here nonzero c.requires.number c.loop-place.invariant.matching)
     (λ e. false≢true (sym c.if-not-is_weight_of.true ∙ c.is_weight_of.ensures.1 e)) c.loop-place.invariant.matching
 
 pub loop-place-preserved : goal.loop-place-preserved
 loop-place-preserved c =
     let end : c.choose-place-end.result ≡ choose c.args.chi.now.elements 3 = c.choose-place-end.ensures.value ∙ ap (λ n. choose n 3) c.elements-n.ensures.value in
-    let below : c.loop-place.place < choose c.args.chi.now.elements 3 = omega arith in
-    let here = list_at c.args.chi.now.elements 3 c.loop-place.place c.loop-place.bracket below c.loop-place.invariant.at in
-    let matching : IsMatching c.args.chi.now c.args.weights.now c.if-is_nonzero.next (c.loop-place.place + 1) =
+    let below : c.loop-place._place < choose c.args.chi.now.elements 3 = omega arith in
+    let here = list_at c.args.chi.now.elements 3 c.loop-place._place c.loop-place.bracket below c.loop-place.invariant.at in
+    let matching : IsMatching c.args.chi.now c.args.weights.now c.if-is_nonzero.next (c.loop-place._place + 1) =
     elim c.if-is_nonzero.branch [
       | then-is_nonzero+else-not-is_weight_of w ↦
           let nonzero = sym c.is_nonzero.ensures ∙ w.if-is_nonzero.true in
-          subst (λ k. IsMatching c.args.chi.now c.args.weights.now k (c.loop-place.place + 1)) (sym w.next-is)
-          (one_matched c.args.chi.now c.args.weights.now c.loop-place.next c.loop-place.place no_weight c.loop-place.bracket.elements below here nonzero
-          (next_within c.args.chi.now c.args.weights.now c.loop-place.next c.loop-place.place c.loop-place.bracket.elements below here nonzero c.requires.number c.loop-place.invariant.matching)
+          subst (λ k. IsMatching c.args.chi.now c.args.weights.now k (c.loop-place._place + 1)) (sym w.next-is)
+          (one_matched c.args.chi.now c.args.weights.now c.loop-place.next c.loop-place._place no_weight c.loop-place.bracket.elements below here nonzero
+          (next_within c.args.chi.now c.args.weights.now c.loop-place.next c.loop-place._place c.loop-place.bracket.elements below here nonzero c.requires.number c.loop-place.invariant.matching)
           (w.is_weight_of.ensures.0 w.if-not-is_weight_of.false) c.loop-place.invariant.matching)
       | else-is_nonzero w ↦
-          subst (λ k. IsMatching c.args.chi.now c.args.weights.now k (c.loop-place.place + 1)) (sym w.next-is)
-          (none_matched c.args.chi.now c.args.weights.now c.loop-place.next c.loop-place.place c.loop-place.bracket.elements below here (sym c.is_nonzero.ensures ∙ w.if-is_nonzero.false) c.loop-place.invariant.matching)
+          subst (λ k. IsMatching c.args.chi.now c.args.weights.now k (c.loop-place._place + 1)) (sym w.next-is)
+          (none_matched c.args.chi.now c.args.weights.now c.loop-place.next c.loop-place._place c.loop-place.bracket.elements below here (sym c.is_nonzero.ensures ∙ w.if-is_nonzero.false) c.loop-place.invariant.matching)
     ] in record {
       matching = matching;
-      at = at_next c.args.chi.now.elements 3 c.loop-place.place c.loop-place.bracket c.following-bracket.result
+      at = at_next c.args.chi.now.elements 3 c.loop-place._place c.loop-place.bracket c.following-bracket.result
           c.following-bracket.ensures.n c.following-bracket.ensures.size c.following-bracket.ensures.lawful c.following-bracket.ensures.place below c.loop-place.invariant.at;
     }
 
 pub returns-clause-none : goal.returns-clause-none
 returns-clause-none c =
     let end : c.choose-place-end.result ≡ choose c.args.chi.now.elements 3 = c.choose-place-end.ensures.value ∙ ap (λ n. choose n 3) c.elements-n.ensures.value in
-    all_matched c.args.chi.now c.args.weights.now c.loop-place.next c.loop-place.place (omega arith) c.requires.number c.loop-place.invariant.matching
+    all_matched c.args.chi.now c.args.weights.now c.loop-place.next c.loop-place._place (omega arith) c.requires.number c.loop-place.invariant.matching

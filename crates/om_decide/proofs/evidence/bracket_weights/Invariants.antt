@@ -4,6 +4,6 @@ use Rattle.om_decide.proofs.evidence.bracket_weights.Given as goal
 
 abbrev pub invariant-loop-place : goal.invariant-loop-place
 invariant-loop-place l = record {
-  weights : AreWeightsTo l.chi l.values l.place l.weights;
-  at : IsAt l.chi.elements 3 l.place l.bracket;
+  weights : AreWeightsTo l.chi l.values l._place l.weights;
+  at : IsAt l.chi.elements 3 l._place l.bracket;
 }

@@ -14,7 +14,7 @@ loop-place-init c = record {
 pub loop-place-preserved : goal.loop-place-preserved
 loop-place-preserved c =
     let m = c.args.map.now in
-    let k = c.loop-place.place in
+    let k = c.loop-place._place in
     let s = c.loop-place.subset in
     let at = c.loop-place.invariant.at in
     let end = c.choose-place-end.ensures.value in
@@ -31,4 +31,4 @@ pub returns : goal.returns
 returns c =
     let v = c.choose-place-end.ensures.value in
     let over = c.loop-place-test.false in
-    c.loop-place.invariant.signs ∙ all_values c.args.map.now c.loop-place.place (omega arith)
+    c.loop-place.invariant.signs ∙ all_values c.args.map.now c.loop-place._place (omega arith)

@@ -5,6 +5,6 @@ use Rattle.om_text.proofs.revlex.values_from_revlex.Given as goal
 
 abbrev pub invariant-loop-place : goal.invariant-loop-place
 invariant-loop-place l = record {
-  signs : l.signs ≡ first_values l.map l.place;
-  at : IsAt l.map.elements l.map.rank l.place l.subset;
+  signs : l.signs ≡ first_values l.map l._place;
+  at : IsAt l.map.elements l.map.rank l._place l.subset;
 }

@@ -22,10 +22,10 @@ sign_of_triple-requires-clause-n c = c.loop-place.invariant.at.n_is ∙ sym c.re
 first : (c : goal.Then-ne) → IsFirstOther c.args.vectors.now c.args.chi.now c.loop-place.s
 first c =
     let at = c.loop-place.invariant.at in
-    let inside : c.loop-place.place < choose c.args.chi.now.elements 3 = rw (← c.requires.rank, ← c.rank-rank.ensures.value, ← c.elements-n.ensures.value, ← c.choose-place-end.ensures.value) c.loop-place-test.true in
+    let inside : c.loop-place._place < choose c.args.chi.now.elements 3 = rw (← c.requires.rank, ← c.rank-rank.ensures.value, ← c.elements-n.ensures.value, ← c.choose-place-end.ensures.value) c.loop-place-test.true in
     let triple : IsTriple c.args.chi.now.elements c.loop-place.s.elements = record { list = at.list; size = at.size } in
     let other : c.at.result ≡ c.sign_of_triple.result → ⊥ = search rules in
-    other_found c.args.vectors.now c.args.chi.now c.loop-place.place c.loop-place.s at.n_is triple (at.place inside) (λ e. other (c.at.ensures.place ∙ sym e ∙ sym c.sign_of_triple.ensures)) c.loop-place.invariant.held
+    other_found c.args.vectors.now c.args.chi.now c.loop-place._place c.loop-place.s at.n_is triple (at.place inside) (λ e. other (c.at.ensures.place ∙ sym e ∙ sym c.sign_of_triple.ensures)) c.loop-place.invariant.held
 
 pub returns-then-ne-clause-realized : goal.returns-then-ne-clause-realized
 returns-then-ne-clause-realized c =
@@ -38,7 +38,7 @@ returns-then-ne-clause-first c = first c
 pub loop-place-preserved : goal.loop-place-preserved
 loop-place-preserved c =
     let n = c.args.chi.now.elements in
-    let k = c.loop-place.place in
+    let k = c.loop-place._place in
     let s = c.loop-place.s in
     let at = c.loop-place.invariant.at in
     let inside : k < choose n 3 = rw (← c.requires.rank, ← c.rank-rank.ensures.value, ← c.elements-n.ensures.value, ← c.choose-place-end.ensures.value) c.loop-place-test.true in
@@ -53,5 +53,5 @@ pub returns-clause-realized : goal.returns-clause-realized
 returns-clause-realized c =
     let end = c.choose-place-end.ensures.value in
     let over = c.loop-place-test.false in
-    let all : choose c.args.chi.now.elements 3 ≤ c.loop-place.place = rw (← c.requires.rank, ← c.rank-rank.ensures.value, ← c.elements-n.ensures.value, ← end) over in
-    (λ e. realizes_from c.args.vectors.now c.args.chi.now c.requires.rank (sym c.requires.elements) (held_all (HasItsSign c.args.vectors.now c.args.chi.now) c.args.chi.now.elements c.loop-place.place all c.loop-place.invariant.held), λ h. refl)
+    let all : choose c.args.chi.now.elements 3 ≤ c.loop-place._place = rw (← c.requires.rank, ← c.rank-rank.ensures.value, ← c.elements-n.ensures.value, ← end) over in
+    (λ e. realizes_from c.args.vectors.now c.args.chi.now c.requires.rank (sym c.requires.elements) (held_all (HasItsSign c.args.vectors.now c.args.chi.now) c.args.chi.now.elements c.loop-place._place all c.loop-place.invariant.held), λ h. refl)

@@ -4,6 +4,6 @@ use Rattle.om_vectors.proofs.realizing.realizes.Given as goal
 
 abbrev pub invariant-loop-place : goal.invariant-loop-place
 invariant-loop-place l = record {
-  held : HoldsBelow (HasItsSign l.vectors l.chi) l.chi.elements l.place;
-  at : IsAt l.chi.elements 3 l.place l.s;
+  held : HoldsBelow (HasItsSign l.vectors l.chi) l.chi.elements l._place;
+  at : IsAt l.chi.elements 3 l._place l.s;
 }

@@ -17,7 +17,7 @@ pub loop-place-preserved : goal.loop-place-preserved
 loop-place-preserved c =
     let n = length c.args.vectors.now in
     let f = triple_sign c.args.vectors.now in
-    let k = c.loop-place.place in
+    let k = c.loop-place._place in
     let s = c.loop-place.s in
     let at = c.loop-place.invariant.at in
     let inside : k < choose n 3 = rw (← c.choose-place-end.ensures.value) c.loop-place-test.true in
@@ -34,5 +34,5 @@ pub returns : goal.returns
 returns c =
     let end = c.choose-place-end.ensures.value in
     let over = c.loop-place-test.false in
-    let all : choose (length c.args.vectors.now) 3 ≤ c.loop-place.place = rw (← end) over in
-    signs_done c.args.vectors.now c.loop-place.place c.loop-place.signs all c.loop-place.invariant.signs
+    let all : choose (length c.args.vectors.now) 3 ≤ c.loop-place._place = rw (← end) over in
+    signs_done c.args.vectors.now c.loop-place._place c.loop-place.signs all c.loop-place.invariant.signs

@@ -6,6 +6,6 @@ use Rattle.om_vectors.proofs.signs.signs_in_order.Given as goal
 
 abbrev pub invariant-loop-place : goal.invariant-loop-place
 invariant-loop-place l = record {
-  signs : l.signs ≡ map (triple_sign l.vectors) (take l.place (all_subsets (length l.vectors) 3));
-  at : IsAt (length l.vectors) 3 l.place l.s;
+  signs : l.signs ≡ map (triple_sign l.vectors) (take l._place (all_subsets (length l.vectors) 3));
+  at : IsAt (length l.vectors) 3 l._place l.s;
 }

@@ -18,7 +18,7 @@ returns-then-ne-clause-none c =
 pub loop-place-preserved : goal.loop-place-preserved
 loop-place-preserved c =
     let n = length c.args.vectors.now in
-    let k = c.loop-place.place in
+    let k = c.loop-place._place in
     let s = c.loop-place.s in
     let at = c.loop-place.invariant.at in
     let inside : k < choose n 3 = rw (← c.choose-place-end.ensures.value) c.loop-place-test.true in
@@ -33,5 +33,5 @@ pub returns-clause-none : goal.returns-clause-none
 returns-clause-none c =
     let end = c.choose-place-end.ensures.value in
     let over = c.loop-place-test.false in
-    let all : choose (length c.args.vectors.now) 3 ≤ c.loop-place.place = rw (← end) over in
-    (λ e. low_rank_from c.args.vectors.now (held_all (HasSignZero c.args.vectors.now) (length c.args.vectors.now) c.loop-place.place all c.loop-place.invariant.held), λ h. refl)
+    let all : choose (length c.args.vectors.now) 3 ≤ c.loop-place._place = rw (← end) over in
+    (λ e. low_rank_from c.args.vectors.now (held_all (HasSignZero c.args.vectors.now) (length c.args.vectors.now) c.loop-place._place all c.loop-place.invariant.held), λ h. refl)

@@ -5,6 +5,6 @@ use Rattle.om_vectors.proofs.signs.some_nonzero.Given as goal
 
 abbrev pub invariant-loop-place : goal.invariant-loop-place
 invariant-loop-place l = record {
-  held : HoldsBelow (HasSignZero l.vectors) (length l.vectors) l.place;
-  at : IsAt (length l.vectors) 3 l.place l.s;
+  held : HoldsBelow (HasSignZero l.vectors) (length l.vectors) l._place;
+  at : IsAt (length l.vectors) 3 l._place l.s;
 }
