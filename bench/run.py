@@ -368,6 +368,8 @@ def main():
             pairs(rank, elements) / 1e6, "M pairs/s", target_time=target)
     took = least_time(["threeterm"], alternating(8, 16), runs, accepted)
     row("the three-term test of chirotope 8 16, all plus", took, 1, "", target_time=0.015)
+    took, _ = times(["threeterm"], chirotope(8, 16, "+" * (math.comb(16, 8) - 2) + "-+"), runs)
+    row("the same, refused at its last but one sign", took, 1, "")
     two = alternating(8, 16).replace(b"om 1\nchirotope 8 16\n", b"om 2\nchirotope 8 16\norder revlex\n")
     row("chirotope 8 16 in reverse lexicographic order", least_time(["accept"], two, runs, accepted), 1, "", target_time=0.018)
     took, text = times(["upgrade"], alternating(8, 16), runs)

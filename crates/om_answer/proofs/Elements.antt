@@ -1,13 +1,15 @@
 -- The elements of an increasing list below a number, as a loop over the numbers meets them.
 --
 -- Main results: none are below the first number (none_below), all are below the last (all_below); one step on (below_member, below_other);
--- an element joined to the others (joined_more).
-use Rattle.std.specs.Prelude.{ℕ, ◌≡◌, ◌≢◌, ◌+◌, ◌<◌, ◌≤◌, List, [], ◌∷◌, ◌++◌, length, map, filter, nat_lt, refl, ◌⊎◌}
+-- an element joined to the others (joined_more); what stood before stays in front (joined_kept, kept_on).
+use Rattle.std.specs.Prelude.{ℕ, ◌≡◌, ◌≢◌, ◌+◌, ◌<◌, ◌≤◌, List, [], ◌∷◌, ◌++◌, length, take, drop, map, filter, nat_lt, refl, ◌⊎◌}
+use Rattle.std.specs.Io.{StartsWith}
 use Rattle.std.specs.List.{join_with_byte}
 use Rattle.std.specs.Fmt.{decimal}
 use Rattle.std.proofs.Common.{zero, suc, arith, sym, ◌∙◌, ap, inl, inr, append_assoc, append-nil}
 use Rattle.std.proofs.lemmas.Bool.{cases_lt, lt-ltb, le-ltb}
-use Rattle.std.proofs.lemmas.List.{length-append, length-map, map-append}
+use Rattle.std.proofs.Math.Seq.{take-append_seam}
+use Rattle.std.proofs.lemmas.List.{length-append, length-map, map-append, take-append-drop}
 use Rattle.om_subsets.specs.Subsets.{IsSubsetFrom, IsMember}
 use Rattle.om_answer.specs.Texts.{after_comma}
 
@@ -114,3 +116,16 @@ joined_other e before old new elements other joined =
 
 pub joined_all : (n e before : ℕ) (old new elements : List ℕ) → IsSubsetFrom 1 n elements → n < e → IsJoined old new e before elements → new ≡ old ++ join_with_byte 44 (map decimal elements)
 joined_all n e before old new elements lawful past joined = rw (← all_below 1 n e elements lawful (omega arith)) joined.text
+
+pub joined_kept : (e before : ℕ) (old new elements : List ℕ) → IsJoined old new e before elements → StartsWith new old
+joined_kept e before old new elements joined = rw (joined.text) (take-append_seam old _)
+
+begun : (text front : List ℕ) → StartsWith text front → front ++ drop (length front) text ≡ text
+begun text front starts = ap (λ l. l ++ drop (length front) text) (sym starts) ∙ take-append-drop (length front) text
+
+pub kept_on : (first second third : List ℕ) → StartsWith second first → StartsWith third second → StartsWith third first
+kept_on first second third one two =
+    let more = drop (length first) second in
+    let rest = drop (length second) third in
+    let whole : third ≡ first ++ (more ++ rest) = sym (begun third second two) ∙ ap (λ l. l ++ rest) (sym (begun second first one)) ∙ append_assoc first more rest in
+    ap (take (length first)) whole ∙ take-append_seam first (more ++ rest)

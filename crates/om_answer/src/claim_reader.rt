@@ -19,7 +19,9 @@ use std::alloc::Global;
 /// [`MAX_READ`](om_signs::MAX_READ) bytes.
 ///
 /// After the document's line `end` comes a line with one of the words `realizable`, `nonrealizable`, `undecided` and
-/// `limit`, then the lines of this verdict, and `end`. Only lines without words may follow.
+/// `limit`, then the lines of this verdict, and `end`. Only lines without words may follow. The forms of these lines and
+/// the ranges of their numbers stand in `docs/FORMATS.md`, "Claims", and in `specs/BlockLines.antt`; which lines a verdict
+/// has, in `specs/Block.antt`.
 ///
 /// # Errors
 ///

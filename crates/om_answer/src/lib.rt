@@ -1,7 +1,7 @@
 //! The texts that the program prints, and the claims that it reads back.
 //!
-//! A [`Line`] is an answer of one line, and [`print_line`] gives its text; [`pieces`] puts together longer texts. A [`Claim`] is a document with a verdict on its
-//! chirotope, and [`read_claim`] reads one.
+//! A [`Line`] is an answer of one line, and [`print_line`] gives its text; [`pieces`] puts together longer texts. A
+//! [`Claim`] is a document with a verdict on its chirotope, and [`read_claim`] reads one.
 #![tactic(auto)]
 
 mod block;

@@ -4,7 +4,7 @@ use om_subsets::Subset;
 use om_text::Code;
 
 /// An answer of one line. Its text is the words of its name in lower case and then its fields in their order, with single
-/// spaces.
+/// spaces. Members of a list count from 1, in the order of the distinct ones.
 #[derive(Clone, Copy)]
 pub enum Line {
     /// The document meets the axioms of its kind.
@@ -39,7 +39,8 @@ pub enum Line {
     LimitMembers {
         limit: u32,
     },
-    /// The chirotope of the oriented matroid has `values` values, and this is above the limit.
+    /// A chirotope would have `values` values, more than a document may hold: that of the oriented matroid, or, for
+    /// `lexext`, that of its extension.
     LimitValues {
         values: u32,
     },
@@ -57,20 +58,21 @@ pub enum Line {
         s: Subset,
         a: Subset,
     },
-    /// Member `i` is the zero vector.
+    /// Member `i` is the first that is the zero vector.
     RefusedZero {
         i: u32,
     },
-    /// The negative of member `i` is no member.
+    /// Member `i` is the first whose negative is no member.
     RefusedNonegative {
         i: u32,
     },
-    /// The support of member `i` lies in that of member `j`, and the two are neither equal nor negatives.
+    /// Members `i` and `j` are the first of which the support of `i` lies in that of `j`, and which are neither equal nor
+    /// negatives.
     RefusedNested {
         i: u32,
         j: u32,
     },
-    /// No member eliminates the element `e` from members `i` and `j`.
+    /// Members `i` and `j` and the element `e` are the first where no member eliminates `e` from the two.
     RefusedNoelimination {
         i: u32,
         j: u32,
@@ -78,7 +80,7 @@ pub enum Line {
     },
     /// The zero vector is no member.
     RefusedNozero,
-    /// The composition of members `i` and `j` is no member.
+    /// Members `i` and `j` are the first whose composition is no member.
     RefusedNocomposition {
         i: u32,
         j: u32,
@@ -97,7 +99,7 @@ pub enum Line {
     RefusedRanklow,
     /// The rank of the wiring isn't 3: all values of its map are zero.
     RefusedFlatrank,
-    /// The sign vector has `given` signs, and this isn't the number of elements.
+    /// `member` was given `given` signs, or `paint` as many letters, and this isn't the number of elements.
     RefusedLength {
         given: u32,
     },
@@ -133,13 +135,13 @@ pub enum Line {
     },
     /// The three-term test is asked of a document that isn't a map.
     RefusedNotmap,
-    /// The element `e` of the basis `b` can't be exchanged for one of the basis `c`.
+    /// The bases `b` and `c` and the element `e` of `b` are the first where `e` can't be exchanged for an element of `c`.
     RefusedNoexchange {
         b: Subset,
         c: Subset,
         e: u8,
     },
-    /// The three-term relation of the set `p` with the four elements of `q` fails.
+    /// The set `p` and the four elements of `q` are the first whose three-term relation fails.
     RefusedThreeterm {
         p: Subset,
         q: Subset,

@@ -1,7 +1,8 @@
 //! Pieces of texts. Each call puts one at the end of a text; the other answer is want of memory, which is all that
-//! [`NoMemory`] ever says here.
+//! [`NoMemory`] ever says here, and then the text is as it was.
 
-ghost use Rattle.std.specs.Prelude.{◌≡◌, ◌++◌, ◌∷◌, [], OnOk, map};
+ghost use Rattle.std.specs.Prelude.{◌≡◌, ◌++◌, ◌∷◌, [], OnOk, OnErr, map};
+ghost use Rattle.std.specs.Io.{StartsWith};
 ghost use Rattle.std.specs.List.{join_with_byte};
 ghost use Rattle.std.specs.Fmt.{decimal};
 ghost use Rattle.om_answer.specs.Texts.{after_comma, signs_text, subset_text};
@@ -13,7 +14,8 @@ use om_text::words::byte_of_sign;
 
 /// Puts a word, or any other bytes, at the end.
 pub fn push(text: &mut Vec<u8>, word: &[u8]) -> Result<(), NoMemory>
-    ensures { OnOk result (text.new.items ≡ text.old.items ++ word.now) }
+    ensures ok { OnOk result (text.new.items ≡ text.old.items ++ word.now) }
+    ensures err { OnErr result (text.new.items ≡ text.old.items) }
 {
     text.extend_from_slice(word)?;
     Ok(())
@@ -21,14 +23,16 @@ pub fn push(text: &mut Vec<u8>, word: &[u8]) -> Result<(), NoMemory>
 
 /// Puts a line feed at the end.
 pub fn push_line_feed(text: &mut Vec<u8>) -> Result<(), NoMemory>
-    ensures { OnOk result (text.new.items ≡ text.old.items ++ 10 ∷ []) }
+    ensures ok { OnOk result (text.new.items ≡ text.old.items ++ 10 ∷ []) }
+    ensures err { OnErr result (text.new.items ≡ text.old.items) }
 {
     push(text, b"\n")
 }
 
 /// Puts the decimal digits of a number at the end.
 pub fn push_decimal(text: &mut Vec<u8>, n: u128) -> Result<(), NoMemory>
-    ensures { OnOk result (text.new.items ≡ text.old.items ++ decimal n) }
+    ensures ok { OnOk result (text.new.items ≡ text.old.items ++ decimal n) }
+    ensures err { OnErr result (text.new.items ≡ text.old.items) }
 {
     let mut buffer = Buffer::new();
     push(text, buffer.format(n).as_bytes())
@@ -36,17 +40,24 @@ pub fn push_decimal(text: &mut Vec<u8>, n: u128) -> Result<(), NoMemory>
 
 /// Puts the elements of a subset, joined by commas, at the end, and `none` for the empty one.
 pub fn push_subset(text: &mut Vec<u8>, subset: Subset) -> Result<(), NoMemory>
-    ensures { OnOk result (text.new.items ≡ text.old.items ++ subset_text subset.elements) }
+    ensures ok { OnOk result (text.new.items ≡ text.old.items ++ subset_text subset.elements) }
+    ensures err { OnErr result (text.new.items ≡ text.old.items) }
 {
     if subset.size() == 0 {
         return push(text, b"none");
     }
-    push_elements(text, subset)
+    let before = text.len();
+    let pushed = push_elements(text, subset);
+    if pushed.is_err() {
+        text.truncate(before);
+    }
+    pushed
 }
 
-/// Puts the elements of a subset, joined by commas, at the end.
+/// Puts the elements of a subset, joined by commas, at the end. Where memory is wanting, some may stand there.
 fn push_elements(text: &mut Vec<u8>, subset: Subset) -> Result<(), NoMemory>
-    ensures { OnOk result (text.new.items ≡ text.old.items ++ join_with_byte 44 (map decimal subset.elements)) }
+    ensures ok { OnOk result (text.new.items ≡ text.old.items ++ join_with_byte 44 (map decimal subset.elements)) }
+    ensures kept { StartsWith text.new.items text.old.items }
 {
     let mut before = 0u8;
     subset.is_lawful();
@@ -59,9 +70,11 @@ fn push_elements(text: &mut Vec<u8>, subset: Subset) -> Result<(), NoMemory>
     Ok(())
 }
 
-/// Puts an element at the end, behind a comma where others stand before it.
+/// Puts an element at the end, behind a comma where others stand before it. Where memory is wanting, the comma may stand
+/// there.
 fn push_element(text: &mut Vec<u8>, before: u8, e: u8) -> Result<(), NoMemory>
-    ensures { OnOk result (text.new.items ≡ text.old.items ++ after_comma before (decimal e)) }
+    ensures ok { OnOk result (text.new.items ≡ text.old.items ++ after_comma before (decimal e)) }
+    ensures kept { StartsWith text.new.items text.old.items }
 {
     if before > 0 {
         push(text, b",")?;
@@ -71,7 +84,21 @@ fn push_element(text: &mut Vec<u8>, before: u8, e: u8) -> Result<(), NoMemory>
 
 /// Puts the signs of a sign vector at the end, in the order of the elements: `-`, `0` or `+` for each.
 pub fn push_vector(text: &mut Vec<u8>, vector: SignVec) -> Result<(), NoMemory>
-    ensures { OnOk result (text.new.items ≡ text.old.items ++ signs_text vector) }
+    ensures ok { OnOk result (text.new.items ≡ text.old.items ++ signs_text vector) }
+    ensures err { OnErr result (text.new.items ≡ text.old.items) }
+{
+    let before = text.len();
+    let pushed = push_signs(text, vector);
+    if pushed.is_err() {
+        text.truncate(before);
+    }
+    pushed
+}
+
+/// Puts the signs of a sign vector at the end. Where memory is wanting, some may stand there.
+fn push_signs(text: &mut Vec<u8>, vector: SignVec) -> Result<(), NoMemory>
+    ensures ok { OnOk result (text.new.items ≡ text.old.items ++ signs_text vector) }
+    ensures kept { StartsWith text.new.items text.old.items }
 {
     for place in 0..vector.len() {
         text.push(byte_of_sign(vector.get(place + 1)))?;

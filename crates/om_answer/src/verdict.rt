@@ -38,7 +38,8 @@ fn document_of(alloc: Global, chi: &Chirotope) -> Result<Document, NoMemory>
 /// The verdict has the forms and is within the limits of a claim: its vectors are no more than elements may be, the numbers
 /// of its entries and its weights are in their ranges, the elements of a weight increase, there are at most as many weights
 /// as sets of three elements, and the end of a tableau has its numbers in their ranges, with a basis number or more behind a
-/// budget of pivots. The chirotope has at most [`om_signs::MAX_VALUES`] values, as many as a document may hold. What is printed is then a claim, and [`crate::read_claim`] reads this document and this verdict from it.
+/// budget of pivots. The chirotope has at most [`om_signs::MAX_VALUES`] values, as many as a document may hold. What is
+/// printed is then a claim, and [`crate::read_claim`] reads this document and this verdict from it.
 ///
 /// [`NoMemory`] comes only for want of memory.
 pub fn print_verdict(alloc: Global, chi: &Chirotope, verdict: &Verdict) -> Result<Vec<u8>, NoMemory>

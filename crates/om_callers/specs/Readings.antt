@@ -1,5 +1,6 @@
 -- What bytes say of an oriented matroid, and why they don't.
 use Rattle.std.specs.Prelude.{ℕ, ◌≡◌, List}
+use Rattle.om_signs.specs.declared.limits.TheConstants.{MAX_MEMBERS}
 use Rattle.om_signs.specs.declared.raw_map.RawMap.{RawMap}
 use Rattle.om_members.specs.Listings.{Listing}
 use Rattle.om_chirotope.specs.Chirotope.{IsChirotope, IsAllZero, IsFirstViolated}
@@ -40,10 +41,16 @@ abbrev pub IsViolated : RawMap → MapRefused → Type 0
 IsViolated m AllZero = IsAllZero m.signs
 IsViolated m (Relation s a) = IsFirstViolated (map_of m) s a
 
+-- the map is a chirotope with more covectors than a list may have, and the answer names this number
+pub record HasTooManyCovectors (m : SignMap) (limit : ℕ) : Type 0 where
+  pub axioms : IsChirotope m
+  pub named : limit ≡ MAX_MEMBERS
+  pub more : HasMoreThan MAX_MEMBERS (IsCovectorOfChirotope m)
+
 -- why a map gives no covectors
 abbrev pub IsCauseOfMap : RawMap → NotRead → Type 0
 IsCauseOfMap m (Axioms why) = IsViolated m why
-IsCauseOfMap m (TooMany limit) = HasMoreThan limit (IsCovectorOfChirotope (map_of m))
+IsCauseOfMap m (TooMany limit) = HasTooManyCovectors (map_of m) limit
 IsCauseOfMap m Memory = Unit {0}
 IsCauseOfMap m _ = ⊥
 

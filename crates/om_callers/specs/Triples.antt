@@ -2,7 +2,7 @@
 use Rattle.std.specs.Prelude.{ℕ, ◌≡◌, ◌<◌}
 use Rattle.om_signs.specs.declared.sign.Sign.{Sign}
 use Rattle.om_subsets.specs.Members.{Chosen}
-use Rattle.om_subsets.specs.Subsets.{choose, rank_of, subset_at}
+use Rattle.om_subsets.specs.Subsets.{choose, rank_of, subset_at, IsTriple}
 use Rattle.om_chirotope.specs.Map.{SignMap, chi_of}
 
 -- the set at a place of the lexicographic order has this sign
@@ -17,8 +17,9 @@ HasNoneBefore m s end = (k : ℕ) → k < end → HasSignAt m s k → ⊥
 abbrev pub HasNoneWithSign : SignMap → Sign → Type 0
 HasNoneWithSign m s = HasNoneBefore m s (choose m.elements m.rank)
 
--- this set has it, and none before it
+-- this set is a triple of the elements and has it, and none before it has
 pub record IsFirstWithSign (m : SignMap) (s : Sign) (t : Chosen) : Type 0 where
   pub n : t.n ≡ m.elements
+  pub triple : IsTriple m.elements t.elements
   pub sign : chi_of m t.elements ≡ s
   pub first : HasNoneBefore m s (rank_of t.n t.elements)

@@ -15,7 +15,8 @@ pub enum NotRead {
     /// The map is no chirotope.
     #[error("{0}")]
     Axioms(MapRefused),
-    /// There are more covectors than `limit`.
+    /// The map is a chirotope, and there are more covectors than a list may have: more than `limit`, which is
+    /// [`MAX_MEMBERS`](om_signs::MAX_MEMBERS).
     #[error("more than {limit} covectors")]
     TooMany { limit: u32 },
     /// Want of memory.

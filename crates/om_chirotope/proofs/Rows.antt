@@ -29,14 +29,11 @@ use Rattle.om_laws.proofs.MemberLaws.{member_left}
 use Rattle.om_laws.proofs.ThreeTermSigns.{IsOneOf, balanced_from}
 use Rattle.om_laws.proofs.TupleLaws.{last_repeat_zero, moved_over, value_alternating}
 use Rattle.om_subsets.proofs.Statements.{subset_is_increasing}
-use Rattle.om_chirotope.specs.Map.{SignMap, chi_of, value_of, cocircuit_vector, cocircuit_vectors, parity_sign}
+use Rattle.om_chirotope.specs.Map.{SignMap, chi_of, value_of, cocircuit_vector, parity_sign}
 use Rattle.om_chirotope.specs.ThreeTerm.{HasThreeTermRelations}
 use Rattle.om_chirotope.specs.Pictures.{AreRowsBelow, HasRelationsAt, IsBalancedTriple, IsLive, IsTriple}
 use Rattle.om_chirotope.proofs.Circuits.{parity_sign-suc, count_below}
-use Rattle.om_chirotope.proofs.Cocircuits.{length-with}
-use Rattle.om_chirotope.proofs.Tables.{length-table, vector_of_place}
 use Rattle.om_chirotope.proofs.Places.{vector_is, length-vector}
-use Rattle.om_chirotope.proofs.Theory.{lawful_with}
 use Rattle.om_chirotope.proofs.ThreeTerms.{balanced_same}
 
 -- the relations of the first k lists P hold
@@ -324,18 +321,6 @@ pictures_more m p k hp lp rp here all q hq lq rq = elim (cases_eq (rank_of m.ele
 ]
 
 -- ---- what the loops keep
-
--- the vector of P with x in the table
-pub row_in_table : (m : SignMap) (p : List ℕ) (n x k : ℕ) (table : List (List Sign)) → n ≡ m.elements → IsSubsetFrom 1 n p → 1 ≤ x → x ≤ m.elements → (IsMember x p → ⊥) → length p + 2 ≡ m.rank → k ≡ rank_of n (with_element x p) → table ≡ cocircuit_vectors m
-    → (k < length table) × (get_or table k [] ≡ cocircuit_vector m (with_element x p))
-row_in_table m p n x k table en hp low high off lp kr et =
-    let list = lawful_with 1 m.elements x p (subst (λ i. IsSubsetFrom 1 i p) en hp) low (omega arith) in
-    let size = length-with x p off in
-    let v = vector_of_place m (with_element x p) list (omega (arith, size, lp)) in
-    let same : k ≡ rank_of m.elements (with_element x p) = kr ∙ ap (λ i. rank_of i (with_element x p)) en in
-    let len = ap length et ∙ length-table m in
-    let few = v.0 in
-    (omega (arith, few, same, len), ap (λ t. get_or t k []) et ∙ ap (λ j. get_or (cocircuit_vectors m) j []) same ∙ v.1)
 
 -- the rows of the elements below x are written, and the others are zero
 pub record AreWritten (m : SignMap) (p : List ℕ) (rows : List (List Sign)) (x : ℕ) : Type 0 where

@@ -1,10 +1,10 @@
 -- What the table of the vectors U says of the pairs with a set S.
 --
 -- Main results: table_done, table_held; all_more and all_held for the scan over the sets S.
-use Rattle.std.specs.Prelude.{ℕ, ◌≡◌, ◌+◌, ◌-◌, ◌<◌, ◌≤◌, List, [], length}
+use Rattle.std.specs.Prelude.{ℕ, ◌≡◌, ◌+◌, ◌-◌, ◌<◌, ◌≤◌, List, [], length, take}
 use Rattle.std.proofs.Common.{sym, ◌∙◌, ap, arith, inl, inr, subst, get_or, set}
 use Rattle.std.proofs.lemmas.Bool.{cases_eq}
-use Rattle.std.proofs.lemmas.List.{ext_get_or, length-map, get_or-map, get_or-set_same, get_or-set_other}
+use Rattle.std.proofs.lemmas.List.{ext_get_or, length-map, get_or-map, get_or-set_same, get_or-set_other, get_or-take, take_all}
 use Rattle.om_signs.specs.declared.sign.Sign.{Sign}
 use Rattle.om_signs.specs.SignVec.{IsOrthogonal}
 use Rattle.om_subsets.specs.Subsets.{choose, all_subsets, subset_at, rank_of, IsSubsetFrom}
@@ -47,6 +47,17 @@ vector_of_place m b h l =
     let few : rank_of m.elements b < choose m.elements (m.rank - 1) = subst (λ k. rank_of m.elements b < choose m.elements k) size (rank_from-lt 1 m.elements b h) in
     let back : subset_at m.elements (m.rank - 1) (rank_of m.elements b) ≡ b = subst (λ k. subset_at m.elements k (rank_of m.elements b) ≡ b) size (get_or-rank_from 1 m.elements b h) in
     (few, table_at m (rank_of m.elements b) few ∙ ap (cocircuit_vector m) back)
+
+-- a table of the first vectors has at a place the vector of its set
+pub vector_in_part : (m : SignMap) (b : List ℕ) (n k : ℕ) (table : List (List Sign)) → n ≡ m.elements → IsSubsetFrom 1 n b → length b + 1 ≡ m.rank → k ≡ rank_of n b → k < length table → table ≡ take (length table) (cocircuit_vectors m) → get_or table k [] ≡ cocircuit_vector m b
+vector_in_part m b n k table en hb lb kr lt e =
+    let same : k ≡ rank_of m.elements b = kr ∙ ap (λ i. rank_of i b) en in
+    ap (λ t. get_or t k []) e ∙ get_or-take (length table) (cocircuit_vectors m) k [] lt ∙ ap (λ j. get_or (cocircuit_vectors m) j []) same
+    ∙ (vector_of_place m b (subst (λ i. IsSubsetFrom 1 i b) en hb) lb).1
+
+-- a whole table is one of the first vectors
+pub table_whole : (m : SignMap) (table : List (List Sign)) → table ≡ cocircuit_vectors m → table ≡ take (length table) (cocircuit_vectors m)
+table_whole m table e = let size = ap length e in e ∙ sym (take_all (length table) (cocircuit_vectors m) (omega (arith, size)))
 
 -- the vector is orthogonal to those of the first k sets
 pub table_held : (m : SignMap) (s b : List ℕ) (k : ℕ) → ((j : ℕ) → j < k → IsOrthogonal (circuit_vector m s) (get_or (cocircuit_vectors m) j [])) → IsSubsetFrom 1 m.elements b → length b + 1 ≡ m.rank → rank_of m.elements b < k → IsOrthogonalPair m s b

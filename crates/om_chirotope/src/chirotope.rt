@@ -131,7 +131,9 @@ impl Chirotope {
         }
     }
 
-    /// A copy, which keeps its own signs on the heap.
+    /// A copy, which keeps its own signs on the heap, with the same allocator.
+    ///
+    /// [`NoMemory`] comes only for want of memory.
     pub fn copy(&self) -> Result<Chirotope, NoMemory>
         ensures { IfOk result (λ c. c ≡ self.now) }
     {

@@ -1,10 +1,10 @@
 //! The table of the vectors U of a map.
 
-ghost use Rattle.std.specs.Prelude.{ℕ, ◌≡◌, ◌-◌, ◌<◌, ◌≤◌, [], length, IfNone, IfSome};
+ghost use Rattle.std.specs.Prelude.{ℕ, ◌≡◌, ◌+◌, ◌-◌, ◌<◌, ◌≤◌, [], length, take, IfNone, IfSome};
 ghost use Rattle.std.proofs.Math.ListN.{get_or};
 ghost use Rattle.om_signs.specs.SignVec.{IsOrthogonal};
-ghost use Rattle.om_subsets.specs.Subsets.{choose};
-ghost use Rattle.om_chirotope.specs.Map.{map_of, cocircuit_vectors};
+ghost use Rattle.om_subsets.specs.Subsets.{choose, rank_of};
+ghost use Rattle.om_chirotope.specs.Map.{map_of, cocircuit_vector, cocircuit_vectors};
 
 use super::vectors::cocircuit_of;
 use om_signs::{MAX_ELEMENTS, MAX_PLACES, RawMap, SignVec};
@@ -19,6 +19,42 @@ pub const FEW: usize = MAX_ELEMENTS as usize
     * (MAX_ELEMENTS as usize - 1)
     * (MAX_ELEMENTS as usize - 2)
     / 6;
+
+/// Writes the vectors U of all sets of one element less than the rank, in lexicographic order.
+pub fn fill(raw: &RawMap, table: &mut [SignVec])
+    requires low { 1 ≤ raw.now.elements }
+    requires high { raw.now.elements ≤ MAX_PLACES }
+    requires rank_low { 1 ≤ raw.now.rank }
+    requires rank_high { raw.now.rank ≤ raw.now.elements }
+    requires whole { length raw.now.signs ≡ choose raw.now.elements raw.now.rank }
+    requires room { length table.old ≡ choose raw.now.elements (raw.now.rank - 1) }
+    ensures { table.new ≡ cocircuit_vectors (map_of raw.now) }
+{
+    let mut a = Subset::first(raw.rank - 1, raw.elements);
+    for place in 0..Subset::choose(raw.elements, raw.rank - 1) {
+        table[place as usize] = cocircuit_of(raw, a);
+        a = a.following();
+    }
+}
+
+/// The vector U of a set of one element less than the rank: from a table of the first of them, by the place of the set, or
+/// made anew where the table ends before this place.
+pub fn cocircuit_at(raw: &RawMap, table: &[SignVec], a: Subset, place: u32) -> SignVec
+    requires low { 1 ≤ raw.now.elements }
+    requires high { raw.now.elements ≤ MAX_PLACES }
+    requires n { a.n ≡ raw.now.elements }
+    requires size { length a.elements + 1 ≡ raw.now.rank }
+    requires whole { length raw.now.signs ≡ choose raw.now.elements raw.now.rank }
+    requires filled { table.now ≡ take (length table.now) (cocircuit_vectors (map_of raw.now)) }
+    requires place { place ≡ rank_of a.n a.elements }
+    ensures { result ≡ cocircuit_vector (map_of raw.now) a.elements }
+{
+    a.is_lawful();
+    if (place as usize) < table.len() {
+        return table[place as usize];
+    }
+    cocircuit_of(raw, a)
+}
 
 /// Writes the vectors U of all sets of one element less than the rank, in lexicographic order, up to the first that isn't
 /// orthogonal to a vector; the answer is its place, or None where each is orthogonal.

@@ -3,6 +3,7 @@
 ghost use Rattle.std.specs.Prelude.{ℕ, ◌≡◌, ◌≢◌, ◌+◌, ◌*◌, ◌/◌, ◌<◌, ◌≤◌, ◌^◌, ◌↔◌, length, IsTrue};
 ghost use Rattle.std.proofs.Math.ListN.{get_or};
 ghost use Rattle.om_subsets.specs.Subsets.{choose};
+ghost use Rattle.om_chirotope.specs.declared.marking.TheConstants.{PLACE_BITS, WORD_BITS};
 ghost use Rattle.om_chirotope.specs.Map.{map_of};
 ghost use Rattle.om_chirotope.specs.Marks.{mark_at, IsMarked, IsSpread, IsWordSpread};
 ghost use Rattle.om_chirotope.specs.Pictures.{AreMarked, AreMarkedAbove};
@@ -11,14 +12,20 @@ use super::vectors::sign_of;
 use om_signs::{MAX_ELEMENTS, MAX_PLACES, RawMap, Sign};
 use om_subsets::Subset;
 
+/// The number of bits of a word: one for each set that has its mark in the word.
+const WORD_BITS: usize = 64;
+
+/// The logarithm of [`WORD_BITS`] to base 2: the number of bits of a place in a word.
+const PLACE_BITS: u8 = 6;
+
 /// The words for the sets of [`MAX_ELEMENTS`] elements.
-pub const WORDS: usize = 1 << (MAX_ELEMENTS - 6);
+pub const WORDS: usize = 1 << (MAX_ELEMENTS - PLACE_BITS);
 
 /// The words for the sets of [`MAX_PLACES`] elements.
-pub const MOST_WORDS: usize = 1 << (MAX_PLACES - 6);
+pub const MOST_WORDS: usize = 1 << (MAX_PLACES - PLACE_BITS);
 
 /// At place e, the bits of a word whose numbers haven't bit e.
-const LOW: [u64; 6] = [
+const LOW: [u64; PLACE_BITS as usize] = [
     0x5555_5555_5555_5555,
     0x3333_3333_3333_3333,
     0x0f0f_0f0f_0f0f_0f0f,
@@ -30,11 +37,11 @@ const LOW: [u64; 6] = [
 /// The number of words for the sets of some elements.
 pub fn number_of_words(elements: u8) -> usize
     requires { elements ≤ MAX_PLACES }
-    ensures room { 2 ^ elements ≤ 64 * result }
+    ensures room { 2 ^ elements ≤ WORD_BITS * result }
     ensures few { elements ≤ MAX_ELEMENTS → result ≤ WORDS }
     ensures most { result ≤ MOST_WORDS }
 {
-    ((1usize << elements) + 63) / 64
+    ((1usize << elements) + WORD_BITS - 1) / WORD_BITS
 }
 
 /// Marks the sets that contain a basis, and takes away all other marks.
@@ -42,7 +49,7 @@ pub fn mark_sets(raw: &RawMap, words: &mut [u64])
     requires high { raw.now.elements ≤ MAX_PLACES }
     requires rank { raw.now.rank ≤ raw.now.elements }
     requires whole { length raw.now.signs ≡ choose raw.now.elements raw.now.rank }
-    requires room { 2 ^ raw.now.elements ≤ 64 * length words.old }
+    requires room { 2 ^ raw.now.elements ≤ WORD_BITS * length words.old }
     ensures { AreMarkedAbove (map_of raw.now) words.new }
 {
     clear(words);
@@ -52,10 +59,10 @@ pub fn mark_sets(raw: &RawMap, words: &mut [u64])
 
 /// Whether the set of a mask is marked.
 pub fn is_marked(words: &[u64], set: u32) -> bool
-    requires { set / 64 < length words.now }
+    requires { set / WORD_BITS < length words.now }
     ensures { IsTrue result ↔ IsMarked words.now set }
 {
-    words[set as usize / 64] >> (set % 64) & 1 == 1
+    words[set as usize / WORD_BITS] >> (set as usize % WORD_BITS) & 1 == 1
 }
 
 /// Takes away all marks.
@@ -73,7 +80,7 @@ fn mark_bases(raw: &RawMap, words: &mut [u64])
     requires high { raw.now.elements ≤ MAX_PLACES }
     requires rank { raw.now.rank ≤ raw.now.elements }
     requires whole { length raw.now.signs ≡ choose raw.now.elements raw.now.rank }
-    requires room { 2 ^ raw.now.elements ≤ 64 * length words.old }
+    requires room { 2 ^ raw.now.elements ≤ WORD_BITS * length words.old }
     requires clear { (i : ℕ) → get_or words.old i 0 ≡ 0 }
     ensures { AreMarked (map_of raw.now) words.new }
 {
@@ -95,12 +102,12 @@ fn is_nonzero(sign: Sign) -> bool
 
 /// Marks the set of a mask.
 fn mark(words: &mut [u64], set: u32)
-    requires { set / 64 < length words.old }
+    requires { set / WORD_BITS < length words.old }
     ensures here { IsMarked words.new set }
     ensures others { (j : ℕ) → j ≢ set → mark_at words.new j ≡ mark_at words.old j }
 {
-    let i = set as usize / 64;
-    words[i] |= 1u64 << (set % 64);
+    let i = set as usize / WORD_BITS;
+    words[i] |= 1u64 << (set as usize % WORD_BITS);
 }
 
 /// Marks each set that has one element or more beside those of a marked one: for each element, the set with it has the mark
@@ -120,16 +127,16 @@ fn spread(words: &mut [u64], e: u8)
     requires { e < MAX_PLACES }
     ensures { IsSpread words.old words.new e }
 {
-    if e < 6 {
+    if e < PLACE_BITS {
         spread_within(words, e);
     } else {
-        spread_over(words, e - 6);
+        spread_over(words, e - PLACE_BITS);
     }
 }
 
 /// The same, for a bit of the place in a word.
 fn spread_within(words: &mut [u64], e: u8)
-    requires { e < 6 }
+    requires { e < PLACE_BITS }
     ensures { IsSpread words.old words.new e }
 {
     for i in 0..words.len() {
@@ -139,7 +146,7 @@ fn spread_within(words: &mut [u64], e: u8)
 
 /// The word with each bit whose number hasn't bit e also at the number with it.
 fn spread_in(word: u64, e: u8) -> u64
-    requires { e < 6 }
+    requires { e < PLACE_BITS }
     ensures { IsWordSpread word result e }
 {
     word | (word & LOW[e as usize]) << (1u32 << e)
@@ -147,8 +154,8 @@ fn spread_in(word: u64, e: u8) -> u64
 
 /// The same, for bit d of the number of a word.
 fn spread_over(words: &mut [u64], d: u8)
-    requires { d + 6 < MAX_PLACES }
-    ensures { IsSpread words.old words.new (d + 6) }
+    requires { d + PLACE_BITS < MAX_PLACES }
+    ensures { IsSpread words.old words.new (d + PLACE_BITS) }
 {
     for i in 0..words.len() {
         if i >> d & 1 == 1 {

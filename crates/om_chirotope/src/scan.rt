@@ -179,7 +179,7 @@ fn scan(raw: &RawMap, cocircuits: &[SignVec]) -> Option<(Subset, Subset)>
     ensures first { IfSome result (λ p. IsFirstViolated (map_of raw.now) p.0 p.1) }
 {
     let mut s = Subset::first(raw.rank + 1, raw.elements);
-    for place in 0..Subset::choose(raw.elements, raw.rank + 1) {
+    for _place in 0..Subset::choose(raw.elements, raw.rank + 1) {
         if let Some(k) = first_not_orthogonal(circuit_of(raw, s), cocircuits, 0, cocircuits.len()) {
             let a = Subset::unrank(k as u32, raw.rank - 1, raw.elements);
             return Some((s, a));
@@ -201,7 +201,7 @@ fn scan_each(raw: &RawMap) -> Option<(Subset, Subset)>
     ensures first { IfSome result (λ p. IsFirstViolated (map_of raw.now) p.0 p.1) }
 {
     let mut s = Subset::first(raw.rank + 1, raw.elements);
-    for place in 0..Subset::choose(raw.elements, raw.rank + 1) {
+    for _place in 0..Subset::choose(raw.elements, raw.rank + 1) {
         if let Some(k) = first_not_orthogonal_to(raw, circuit_of(raw, s)) {
             let a = Subset::unrank(k, raw.rank - 1, raw.elements);
             return Some((s, a));

@@ -1,6 +1,6 @@
 //! The three-term test: a quick way to see that all pairs of sign vectors are orthogonal.
 
-ghost use Rattle.std.specs.Prelude.{ℕ, List, ◌≡◌, ◌≢◌, ◌+◌, ◌-◌, ◌<◌, ◌≤◌, ◌^◌, ◌↔◌, ◌∷◌, ◌++◌, length, replicate, IsTrue, []};
+ghost use Rattle.std.specs.Prelude.{ℕ, List, ◌≡◌, ◌≢◌, ◌+◌, ◌-◌, ◌<◌, ◌≤◌, ◌^◌, ◌↔◌, ◌∷◌, ◌++◌, length, replicate, take, IsTrue, []};
 ghost use Rattle.std.specs.Int.{bit_at};
 ghost use Rattle.std.proofs.Math.ListN.{get_or};
 ghost use Rattle.om_signs.specs.Sign.{opposite, product};
@@ -12,6 +12,7 @@ ghost use Rattle.om_chirotope.specs.Chirotope.{HasOrthogonalPairs};
 ghost use Rattle.om_chirotope.specs.ThreeTerm.{HasExchange, HasListExchange, HasThreeTermRelations};
 ghost use Rattle.om_chirotope.specs.Pictures.{AreLong, AreMarkedAbove, AreRowsBelow, HasRelationsAt, IsLive, IsMet, IsTriple};
 
+use super::cocircuit_table::{FEW, ROOM, cocircuit_at, fill};
 use super::marking::{MOST_WORDS, WORDS, is_marked, mark_sets, number_of_words};
 use super::vectors::cocircuit_of;
 use super::walking::places_with;
@@ -71,7 +72,7 @@ fn each_vector_is_met(raw: &RawMap, marks: &[u64]) -> bool
     ensures { IsTrue result ↔ HasListExchange (map_of raw.now) }
 {
     let mut a = Subset::first(raw.rank - 1, raw.elements);
-    for k in 0..Subset::choose(raw.elements, raw.rank - 1) {
+    for _k in 0..Subset::choose(raw.elements, raw.rank - 1) {
         if !is_met(raw, marks, cocircuit_of(raw, a)) {
             return false;
         }
@@ -130,13 +131,60 @@ fn is_met(raw: &RawMap, marks: &[u64], u: SignVec) -> bool
     true
 }
 
-/// Whether the three-term relations hold.
-fn has_relations(raw: &RawMap, cocircuits: &[SignVec]) -> bool
+/// Whether the three-term relations of a map hold: for each increasing list P of two elements less than the rank, and four
+/// increasing elements a, b, c and d off it, the value of P with a and b times that with c and d, the value with a and c times
+/// that with b and d, negated, and the value with a and d times that with b and c are all 0, or include a plus and a minus. In
+/// ranks 0 and 1 there is no P, so the relations hold there.
+///
+/// The elements are from 1 to [`MAX_PLACES`], the rank is at most their number, and there is one sign for each
+/// increasing list. It takes no memory: its tables need up to 345 KB of stack.
+///
+/// Source: Björner, Las Vergnas, Sturmfels, White and Ziegler, *Oriented Matroids*, chapter 3.
+pub fn has_three_term_relations(raw: &RawMap) -> bool
+    requires low { 1 ≤ raw.now.elements }
+    requires high { raw.now.elements ≤ MAX_PLACES }
+    requires rank { raw.now.rank ≤ raw.now.elements }
+    requires whole { length raw.now.signs ≡ choose raw.now.elements raw.now.rank }
+    ensures { IsTrue result ↔ HasThreeTermRelations (map_of raw.now) }
+{
+    if raw.rank == 0 {
+        return true;
+    }
+    let count = Subset::choose(raw.elements, raw.rank - 1) as usize;
+    if count > ROOM {
+        return has_relations(raw, &[]);
+    }
+    if count > FEW {
+        let mut table = [SignVec::zero(raw.elements); ROOM];
+        let cocircuits = &mut table[..count];
+        return has_relations_by(raw, cocircuits);
+    }
+    let mut few = [SignVec::zero(raw.elements); FEW];
+    let cocircuits = &mut few[..count];
+    has_relations_by(raw, cocircuits)
+}
+
+/// The same, by a table for the vectors U.
+fn has_relations_by(raw: &RawMap, cocircuits: &mut [SignVec]) -> bool
     requires low { 1 ≤ raw.now.elements }
     requires high { raw.now.elements ≤ MAX_PLACES }
     requires rank_low { 1 ≤ raw.now.rank }
-    requires rank_high { raw.now.rank < raw.now.elements }
-    requires filled { cocircuits.now ≡ cocircuit_vectors (map_of raw.now) }
+    requires rank_high { raw.now.rank ≤ raw.now.elements }
+    requires whole { length raw.now.signs ≡ choose raw.now.elements raw.now.rank }
+    requires room { length cocircuits.old ≡ choose raw.now.elements (raw.now.rank - 1) }
+    ensures { IsTrue result ↔ HasThreeTermRelations (map_of raw.now) }
+{
+    fill(raw, cocircuits);
+    has_relations(raw, cocircuits)
+}
+
+/// The same, from a table of the first vectors U; those past its end are made anew.
+fn has_relations(raw: &RawMap, cocircuits: &[SignVec]) -> bool
+    requires low { 1 ≤ raw.now.elements }
+    requires high { raw.now.elements ≤ MAX_PLACES }
+    requires rank { raw.now.rank ≤ raw.now.elements }
+    requires whole { length raw.now.signs ≡ choose raw.now.elements raw.now.rank }
+    requires filled { cocircuits.now ≡ take (length cocircuits.now) (cocircuit_vectors (map_of raw.now)) }
     ensures { IsTrue result ↔ HasThreeTermRelations (map_of raw.now) }
 {
     if raw.rank < 2 {
@@ -158,10 +206,11 @@ fn has_relations_at(raw: &RawMap, cocircuits: &[SignVec], p: Subset) -> bool
     requires low { 1 ≤ raw.now.elements }
     requires high { raw.now.elements ≤ MAX_PLACES }
     requires rank { length p.elements + 2 ≡ raw.now.rank }
-    requires rank_high { raw.now.rank < raw.now.elements }
+    requires rank_high { raw.now.rank ≤ raw.now.elements }
+    requires whole { length raw.now.signs ≡ choose raw.now.elements raw.now.rank }
     requires n { p.n ≡ raw.now.elements }
     requires list { IsSubsetFrom 1 raw.now.elements p.elements }
-    requires filled { cocircuits.now ≡ cocircuit_vectors (map_of raw.now) }
+    requires filled { cocircuits.now ≡ take (length cocircuits.now) (cocircuit_vectors (map_of raw.now)) }
     ensures { IsTrue result ↔ HasRelationsAt (map_of raw.now) p.elements }
 {
     let mut rows = [SignVec::zero(raw.elements); ROWS];
@@ -176,11 +225,13 @@ fn has_relations_at(raw: &RawMap, cocircuits: &[SignVec], p: Subset) -> bool
 
 /// Writes the row of each element.
 fn fill_rows(raw: &RawMap, cocircuits: &[SignVec], p: Subset, rows: &mut [SignVec; ROWS])
+    requires low { 1 ≤ raw.now.elements }
     requires high { raw.now.elements ≤ MAX_PLACES }
     requires rank { length p.elements + 2 ≡ raw.now.rank }
-    requires rank_high { raw.now.rank < raw.now.elements }
+    requires rank_high { raw.now.rank ≤ raw.now.elements }
+    requires whole { length raw.now.signs ≡ choose raw.now.elements raw.now.rank }
     requires n { p.n ≡ raw.now.elements }
-    requires filled { cocircuits.now ≡ cocircuit_vectors (map_of raw.now) }
+    requires filled { cocircuits.now ≡ take (length cocircuits.now) (cocircuit_vectors (map_of raw.now)) }
     requires list { IsSubsetFrom 1 raw.now.elements p.elements }
     requires room { MAX_PLACES ≤ length rows.old }
     requires zero { (i : ℕ) → i < length rows.old → get_or rows.old i [] ≡ replicate raw.now.elements Sign.Zero }
@@ -196,11 +247,13 @@ fn fill_rows(raw: &RawMap, cocircuits: &[SignVec], p: Subset, rows: &mut [SignVe
 
 /// The row of an element x off P, by the place of P with x.
 fn row_of(raw: &RawMap, cocircuits: &[SignVec], p: Subset, x: u8, place: u32) -> SignVec
+    requires low { 1 ≤ raw.now.elements }
     requires high { raw.now.elements ≤ MAX_PLACES }
     requires rank { length p.elements + 2 ≡ raw.now.rank }
-    requires rank_high { raw.now.rank < raw.now.elements }
+    requires rank_high { raw.now.rank ≤ raw.now.elements }
+    requires whole { length raw.now.signs ≡ choose raw.now.elements raw.now.rank }
     requires n { p.n ≡ raw.now.elements }
-    requires filled { cocircuits.now ≡ cocircuit_vectors (map_of raw.now) }
+    requires filled { cocircuits.now ≡ take (length cocircuits.now) (cocircuit_vectors (map_of raw.now)) }
     requires x_low { 1 ≤ x }
     requires x_high { x ≤ raw.now.elements }
     requires off { IsMember x p.elements → ⊥ }
@@ -208,7 +261,7 @@ fn row_of(raw: &RawMap, cocircuits: &[SignVec], p: Subset, x: u8, place: u32) ->
     ensures { result ≡ cocircuit_vector (map_of raw.now) (p.elements ++ x ∷ []) }
 {
     p.is_lawful();
-    let vector = cocircuits[place as usize];
+    let vector = cocircuit_at(raw, cocircuits, p.with(x), place);
     if p.odd_after(x) { vector.neg() } else { vector }
 }
 

@@ -43,8 +43,8 @@ impl SignedSet {
         SignedSet { elements, list }
     }
 
-    /// The members meet the axioms of circuits, and the elements are from 1 to the greatest number. It does nothing: its
-    /// contract is the fact.
+    /// The members, at most [`MAX_MEMBERS`], are distinct, have as many signs as there are elements, from 1 to
+    /// [`MAX_ELEMENTS`], and meet the axioms of circuits. It does nothing: its contract is the fact.
     pub fn is_lawful(&self)
         ensures { IsSignedSet self.now.elements self.now.members }
     {

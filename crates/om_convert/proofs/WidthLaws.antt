@@ -1,4 +1,4 @@
--- Whether the chirotope of what a list denotes has more values than a chirotope keeps.
+-- Whether the chirotope of what a list denotes has more than MAX_VALUES values.
 --
 -- Main results: by the rank it is no more (narrow_by_rank) or more (wide_by_rank, width_cause); a chirotope of rank 3 has few values (few_triples,
 -- narrow_of_rank_3); the rank of what denotes the same (rank_of_same); the cause of a width, and of a list, as that of a list (list_of_width,

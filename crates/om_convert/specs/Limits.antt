@@ -16,7 +16,7 @@ use Rattle.om_convert.specs.declared.convert_error.ConvertError.TheVariants.{Too
 abbrev pub IsWithinLimit : (List Sign → Type 0) → Type 0
 IsWithinLimit P = HasMoreThan MAX_MEMBERS P → ⊥
 
--- a chirotope on n elements with these covectors, whose first sign that isn't zero is plus, and which has this many values, more than a chirotope keeps
+-- a chirotope on n elements with these covectors, whose first sign that isn't zero is plus, and which has this many values, more than MAX_VALUES
 pub record IsTooWideFor (n : ℕ) (P : List Sign → Type 0) (values : ℕ) : Type 0 where
   pub map : SignMap
   pub axioms : IsChirotope map
@@ -26,7 +26,7 @@ pub record IsTooWideFor (n : ℕ) (P : List Sign → Type 0) (values : ℕ) : Ty
   pub number : values ≡ choose n map.rank
   pub wide : MAX_VALUES < values
 
--- its chirotope has no more values than a chirotope keeps
+-- its chirotope has no more than MAX_VALUES values
 abbrev pub HasFewValuesFor : ℕ → (List Sign → Type 0) → Type 0
 HasFewValuesFor n P = (values : ℕ) → IsTooWideFor n P values → ⊥
 
@@ -36,13 +36,13 @@ IsCause P (TooWide values) = ⊥
 IsCause P (TooMany limit) = (limit ≡ MAX_MEMBERS) × HasMoreThan MAX_MEMBERS P
 IsCause P Memory = Unit {0}
 
--- the answer names this number of values, more than a chirotope keeps
+-- the answer names this number of values, more than MAX_VALUES
 abbrev pub IsWidth : ℕ → ConvertError → Type 0
 IsWidth k (TooWide values) = (values ≡ k) × (MAX_VALUES < k)
 IsWidth k (TooMany limit) = ⊥
 IsWidth k Memory = ⊥
 
--- why a list is not made a chirotope: that would have more values than a chirotope keeps, and the answer names their number; or want of memory
+-- why a list is not made a chirotope: that would have more than MAX_VALUES values, and the answer names their number; or want of memory
 abbrev pub IsWidthCause : ℕ → (List Sign → Type 0) → ConvertError → Type 0
 IsWidthCause n P (TooWide values) = IsTooWideFor n P values
 IsWidthCause n P (TooMany limit) = ⊥

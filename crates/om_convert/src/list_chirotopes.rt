@@ -1,4 +1,4 @@
-//! The chirotopes of lists, where they have no more values than a chirotope keeps.
+//! The chirotopes of lists, where they have no more than [`MAX_VALUES`] values.
 
 ghost use Rattle.std.specs.Prelude.{◌≡◌, ◌≤◌, IfOk, IfErr, OnOk};
 ghost use Rattle.std.specs.List.{Contains};

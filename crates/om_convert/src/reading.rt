@@ -16,7 +16,7 @@ use super::vectors::{all_cocircuits, all_covectors};
 use om_chirotope::Chirotope;
 use om_circuits::{Circuits, Cocircuits, SignedSet};
 use om_covectors::{Covectors, minimal_vectors};
-use om_propagation::{first_missed, least_meeting, propagated_map};
+use om_propagation::{least_meeting, missed_vector, propagated_map};
 use om_signs::{List, MAX_ELEMENTS, MAX_MEMBERS, MAX_VALUES, NoMemory, SignVec};
 use om_subsets::Subset;
 use std::alloc::Global;
@@ -163,7 +163,7 @@ fn are_cocircuits_of(alloc: Global, chi: &Chirotope, vectors: &[SignVec]) -> Res
     match all_cocircuits(alloc, chi) {
         Ok(cocircuits) => Ok(cocircuits.is_set_of(vectors)),
         Err(ConvertError::TooMany { .. }) => Ok(false),
-        // The chirotope is at hand, so it is not too wide.
+        // Making all cocircuits of a chirotope, of however many values, never answers this.
         Err(ConvertError::TooWide { .. }) => unreachable!(),
         Err(ConvertError::Memory) => Err(NoMemory),
     }
@@ -197,7 +197,7 @@ fn are_covectors_of(alloc: Global, chi: &Chirotope, vectors: &[SignVec]) -> Resu
     match all_covectors(alloc, chi) {
         Ok(covectors) => Ok(covectors.is_set_of(vectors)),
         Err(ConvertError::TooMany { .. }) => Ok(false),
-        // The chirotope is at hand, so it is not too wide.
+        // Making all covectors of a chirotope, of however many values, never answers this.
         Err(ConvertError::TooWide { .. }) => unreachable!(),
         Err(ConvertError::Memory) => Err(NoMemory),
     }
@@ -230,7 +230,7 @@ fn proposed_chirotope<R: Threads + Sync>(
     ensures elements { IfOk result (λ found. IfSome found (λ m. m.elements ≡ elements)) }
     ensures normal { IfOk result (λ found. IfSome found (IsEachNormalOf elements vectors.now)) }
 {
-    if first_missed(vectors, Subset::first(elements, elements)).is_some() {
+    if missed_vector(vectors, Subset::first(elements, elements)).is_some() {
         return Ok(None);
     }
     let rank = least_meeting(elements, vectors).size();

@@ -26,7 +26,7 @@ pub fn all_circuits(alloc: Global, chi: &Chirotope) -> Result<MemberSet, Convert
     if rank < elements {
         let size = rank + 1;
         let mut s = Subset::first(size, elements);
-        for k in 0..Subset::choose(elements, size) {
+        for _k in 0..Subset::choose(elements, size) {
             let v = chi.circuit_of(s);
             circuits.insert_signed(v)?;
             s = s.following();
@@ -47,7 +47,7 @@ pub fn all_cocircuits(alloc: Global, chi: &Chirotope) -> Result<MemberSet, Conve
     if 0 < rank {
         let size = rank - 1;
         let mut a = Subset::first(size, elements);
-        for k in 0..Subset::choose(elements, size) {
+        for _k in 0..Subset::choose(elements, size) {
             let u = chi.cocircuit_of(a);
             cocircuits.insert_signed(u)?;
             a = a.following();

@@ -47,8 +47,8 @@ impl Covectors {
         Covectors { elements, list }
     }
 
-    /// The members meet the axioms of covectors, and the elements are from 1 to the greatest number. It does nothing: its
-    /// contract is the fact.
+    /// The members, at most [`MAX_MEMBERS`], are distinct, have as many signs as there are elements, from 1 to
+    /// [`MAX_ELEMENTS`], and meet the axioms of covectors. It does nothing: its contract is the fact.
     pub fn is_lawful(&self)
         ensures { IsCovectorSet self.now.elements self.now.members }
     {

@@ -34,9 +34,13 @@ pub trait SignRule {
 }
 
 /// The normal one of the chirotope with the signs of a rule and its negative: the first sign that isn't 0 is plus. The
-/// signs make a chirotope, which isn't tested. They take their memory from `alloc`.
+/// rank and the elements are those of the rule, and what it has to meet (`valid`) holds; the elements are from 1 to
+/// [`MAX_ELEMENTS`](om_signs::MAX_ELEMENTS). The signs make a chirotope, which isn't tested. They take their memory from
+/// `alloc`.
 ///
 /// [`NoMemory`] comes only for want of memory.
+///
+/// Source: Björner, Las Vergnas, Sturmfels, White and Ziegler, *Oriented Matroids*, chapter 3.
 pub fn normal_by<T: SignRule>(
     alloc: Global,
     rank: u8,
@@ -52,7 +56,7 @@ pub fn normal_by<T: SignRule>(
 {
     let mut signs = om_signs::List::new(alloc);
     let mut s = Subset::first(rank, elements);
-    for place in 0..Subset::choose(elements, rank) {
+    for _place in 0..Subset::choose(elements, rank) {
         signs.push(rule.sign(s))?;
         s = s.following();
     }

@@ -55,7 +55,7 @@ back_from_covectors m k c lists ok elements same led =
 
 -- ---- widths
 
--- the chirotope of the cocircuits of a map of rank 3 has no more values than a chirotope keeps
+-- the chirotope of the cocircuits of a map of rank 3 has no more than MAX_VALUES values
 pub narrow_cocircuits : (m : SignMap) (c : Listing) → ListsCocircuits m c → m.rank ≡ 3 → m.elements ≤ MAX_ELEMENTS → HasFewValuesFor c.elements (IsCovectorOfCocircuits c)
 narrow_cocircuits m c lists three high =
     let few = subst (λ k. k ≤ MAX_ELEMENTS) (sym lists.elements) high in

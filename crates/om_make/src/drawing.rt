@@ -5,19 +5,19 @@ ghost use Rattle.om_vectors.specs.WholeVectors.{vector_of, IsWithinLimit};
 ghost use Rattle.om_make.specs.Generator.{unit_vectors, made_vectors};
 
 use super::generator::Generator;
-use om_signs::MAX_DRAWN;
+use om_signs::{MAX_DRAWN, MIN_DRAWN};
 use om_vectors::{Vector, Word};
 
 /// How many unit vectors there are.
 const UNITS: u8 = 3;
 
-/// `count` vectors, from 3 to [`MAX_DRAWN`], that a number gives: the three unit vectors, and behind them vectors of
-/// three draws each. The same number gives the same vectors, and a longer list begins with the shorter one.
+/// `count` vectors, from [`MIN_DRAWN`] to [`MAX_DRAWN`], that a number gives: the three unit vectors, and behind them
+/// vectors of three draws each. The same number gives the same vectors, and a longer list begins with the shorter one.
 ///
 /// The state of the generator is the number at first, and then 69,069 times the state before it, plus 1, modulo 2^32. A
 /// draw is the state without its low 16 bits, modulo 19, less 9. It takes no memory.
 pub fn vectors(seed: u32, count: u8) -> Word
-    requires low { 3 ≤ count }
+    requires low { MIN_DRAWN ≤ count }
     requires high { count ≤ MAX_DRAWN }
     ensures { result ≡ made_vectors seed count }
 {

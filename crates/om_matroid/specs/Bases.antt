@@ -1,7 +1,7 @@
 -- The matroid of a map: its bases, and what they say of sets and of elements. A set stands as a list of its elements.
 --
 -- Reference: Björner, Las Vergnas, Sturmfels, White and Ziegler, Oriented Matroids, chapter 3.
-use Rattle.std.specs.Prelude.{ℕ, ◌≡◌, ◌≢◌, ◌≤◌, List, [], ◌∷◌, length}
+use Rattle.std.specs.Prelude.{ℕ, ◌≡◌, ◌≤◌, List, [], ◌∷◌, length}
 use Rattle.om_chirotope.specs.ThreeTerm.{IsBasis}
 use Rattle.om_subsets.specs.Subsets.{IsSubsetFrom, IsMember, IsPartOf, with_element, without_element}
 use Rattle.om_subsets.specs.Lists.{IsBefore}

@@ -69,7 +69,7 @@ pub fn parallel(chi: &Chirotope, e: u8, f: u8) -> bool
     let mut first = false;
     let mut second = false;
     let mut b = Subset::first(rank, elements);
-    for k in 0..Subset::choose(elements, rank) {
+    for _k in 0..Subset::choose(elements, rank) {
         let (with_e, with_f) = in_basis(chi, b, e, f);
         if with_e && with_f && e != f {
             return false;

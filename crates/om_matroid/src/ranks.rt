@@ -20,7 +20,7 @@ pub fn rank_of(chi: &Chirotope, s: Subset) -> u8
     let elements = chi.elements();
     let mut most = 0;
     let mut b = Subset::first(rank, elements);
-    for k in 0..Subset::choose(elements, rank) {
+    for _k in 0..Subset::choose(elements, rank) {
         let size = s.intersection(b).size();
         if most < size && is_basis(chi, b) {
             most = size;

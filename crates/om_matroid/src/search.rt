@@ -38,7 +38,7 @@ pub fn first_between(chi: &Chirotope, inside: Subset, outside: Subset) -> Option
     let rank = chi.rank();
     let elements = chi.elements();
     let mut b = Subset::first(rank, elements);
-    for k in 0..Subset::choose(elements, rank) {
+    for _k in 0..Subset::choose(elements, rank) {
         if is_between(chi, inside, outside, b) {
             return Some(b);
         }

@@ -13,9 +13,9 @@ use super::signed_sets::{least_part, reoriented, zero_part};
 use om_circuits::Cocircuits;
 use std::alloc::Global;
 
-/// The cocircuits of the deletion of e, from 1 to n: those of least support among the cocircuits
-/// without their sign at e that are not zero, each once. The elements after e are moved down by one. The list takes its
-/// memory from `alloc`.
+/// The cocircuits of the deletion of e, from 1 to n, for the number n of elements: those of minimal support among the
+/// cocircuits without their sign at e that are not zero, each once. The elements after e are moved down by one. The list
+/// takes its memory from `alloc`.
 ///
 /// [`MinorError::LastElement`] comes exactly where n is 1, and [`MinorError::Memory`] only for want of memory.
 ///
@@ -36,8 +36,8 @@ pub fn delete_cocircuits(alloc: Global, c: &Cocircuits, e: u8) -> Result<Cocircu
     Ok(Cocircuits(least_part(alloc, &c.0, e)?))
 }
 
-/// The cocircuits of the contraction of e, from 1 to n: the cocircuits that are 0 at e, without their
-/// sign there. The elements after e are moved down by one. The list takes its memory from `alloc`.
+/// The cocircuits of the contraction of e, from 1 to n, for the number n of elements: the cocircuits that are 0 at e,
+/// without their sign there. The elements after e are moved down by one. The list takes its memory from `alloc`.
 ///
 /// [`MinorError::LastElement`] comes exactly where n is 1, and [`MinorError::Memory`] only for want of memory.
 ///
@@ -59,7 +59,8 @@ pub fn contract_cocircuits(alloc: Global, c: &Cocircuits, e: u8) -> Result<Cocir
 }
 
 /// The cocircuits of the reorientation on the elements of a mask, whose bit e - 1 stands for e: the cocircuits with their
-/// signs at these elements negated, in their order. The mask names elements from 1 to n. It takes no memory.
+/// signs at these elements negated, in their order. The mask names elements from 1 to n, for the number n of elements. It
+/// takes no memory.
 ///
 /// Source: Björner, Las Vergnas, Sturmfels, White and Ziegler, *Oriented Matroids*, chapter 3.
 pub fn reorient_cocircuits(c: Cocircuits, mask: u32) -> Cocircuits

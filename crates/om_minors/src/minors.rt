@@ -17,9 +17,9 @@ use om_signs::{NoMemory, Sign};
 use om_subsets::Subset;
 use std::alloc::Global;
 
-/// The normal chirotope of the deletion of e, from 1 to n: its covectors are the covectors without their sign at e. The
-/// elements after e are moved down by one. The rank stays, but at a coloop it is one less: the deletion of a coloop is its
-/// contraction. The signs take their memory from `alloc`.
+/// The normal chirotope of the deletion of e, from 1 to n, for the number n of elements: its covectors are the covectors
+/// without their sign at e. The elements after e are moved down by one. The rank stays, but at a coloop it is one less: the
+/// deletion of a coloop is its contraction. The signs take their memory from `alloc`.
 ///
 /// [`MinorError::LastElement`] comes exactly where n is 1, and [`MinorError::Memory`] only for want of memory.
 ///
@@ -48,9 +48,9 @@ pub fn delete_chirotope(alloc: Global, chi: &Chirotope, e: u8) -> Result<Chiroto
     }
 }
 
-/// The normal chirotope of the contraction of e, from 1 to n: its covectors are the covectors that are 0 at e, without
-/// their sign there. The elements after e are moved down by one. The rank is one less, but at a loop it stays: the
-/// contraction of a loop is its deletion. The signs take their memory from `alloc`.
+/// The normal chirotope of the contraction of e, from 1 to n, for the number n of elements: its covectors are the covectors
+/// that are 0 at e, without their sign there. The elements after e are moved down by one. The rank is one less, but at a
+/// loop it stays: the contraction of a loop is its deletion. The signs take their memory from `alloc`.
 ///
 /// [`MinorError::LastElement`] comes exactly where n is 1, and [`MinorError::Memory`] only for want of memory.
 ///

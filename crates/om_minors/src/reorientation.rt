@@ -15,7 +15,8 @@ use om_signs::{MAX_PLACES, RawMap, Sign};
 use om_subsets::Subset;
 
 /// The normal chirotope of the reorientation on the elements of a mask, whose bit e - 1 stands for e: its covectors are the
-/// covectors with their signs at these elements negated. The mask names elements from 1 to n. It takes no memory.
+/// covectors with their signs at these elements negated. The mask names elements from 1 to n, for the number n of elements.
+/// It takes no memory.
 ///
 /// Source: Björner, Las Vergnas, Sturmfels, White and Ziegler, *Oriented Matroids*, chapter 3.
 pub fn reorient_chirotope(chi: Chirotope, mask: u32) -> Chirotope

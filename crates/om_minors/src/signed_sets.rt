@@ -28,7 +28,7 @@ pub fn zero_part(alloc: Global, set: &SignedSet, e: u8) -> Result<SignedSet, NoM
     Ok(SignedSet::lawful(elements - 1, list))
 }
 
-/// The members without their sign at e, each once, as far as they are not zero and of least support: the cocircuits of the
+/// The members without their sign at e, each once, as far as they are not zero and of minimal support: the cocircuits of the
 /// deletion, and the circuits of the contraction.
 pub fn least_part(alloc: Global, set: &SignedSet, e: u8) -> Result<SignedSet, NoMemory>
     requires low { 1 ≤ e }

@@ -12,6 +12,8 @@ use super::walk::{following, least};
 /// minus before zero before plus, that is a covector of one and not of the other.
 ///
 /// For n elements the walk takes up to 3 to the power n sign vectors. It takes no memory.
+///
+/// Source: Björner, Las Vergnas, Sturmfels, White and Ziegler, *Oriented Matroids*, chapters 3 and 4.
 pub fn same<A: Oriented, B: Oriented>(a: &A, b: &B) -> Result<(), Differ>
     requires { A.elements a.now ≡ B.elements b.now }
     ensures same { IsOk result ↔ DenoteTheSame (A.elements a.now) (A.is_covector a.now) (B.is_covector b.now) }

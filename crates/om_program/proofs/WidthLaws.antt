@@ -1,4 +1,4 @@
--- Lists whose chirotope has more values than a chirotope keeps.
+-- Lists whose chirotope has more values than a document may hold.
 --
 -- Main results: a map of rank 3, of a dual and of a minor has few values (few_triples, few_of_rank3, few_dual, few_deleted, few_contracted), as the chirotope of a document
 -- that is kept has (few_chosen), and a map that is worked on (few_worked_on); a document is kept where a call says so (kept_circuits, kept_cocircuits, kept_covectors), and it is too wide, of a rank other than 3, where

@@ -51,7 +51,7 @@ abbrev pub is_direct : Kind → Body → Bool
 is_direct kind.Cocircuits (body.Covectors members) = true
 is_direct _ _ = false
 
--- it is a list that takes its chirotope to become one of the kind, and this would have so many values, more than a chirotope keeps
+-- it is a list that takes its chirotope to become one of the kind, and this would have so many values, more than a document may hold
 abbrev pub IsTooWideAs : Kind → Document → ℕ → Type 0
 IsTooWideAs k d values = (is_direct k d.body ≡ false) × IsTooWide d values
 
@@ -85,7 +85,7 @@ pub record IsConverted (k : Kind) (d e : Document) : Type 0 where
 pub data IsConversion (k : Kind) (d : Document) : Answer → Type 0 where
   -- a document of the kind is itself
   itself : has_kind k d.body ≡ true → IsInForm d → IsConversion k d (shows d)
-  -- its chirotope would have more values than a chirotope keeps
+  -- its chirotope would have more values than a document may hold
   wide : (values : ℕ) → has_kind k d.body ≡ false → IsTooWideAs k d values → IsConversion k d (says (line.LimitValues values))
   -- the list would have more members than it may have
   limited : has_kind k d.body ≡ false → IsKeptAs k d → HasTooMany k d → IsConversion k d (says (line.LimitMembers MAX_MEMBERS))

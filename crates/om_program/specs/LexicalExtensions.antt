@@ -19,7 +19,7 @@ use Rattle.om_program.specs.Widths.{IsForKeptChirotope}
 
 -- the lexicographic extension of a map by elements with signs
 pub data IsExtensionOfMap (list : List Signed) (m : SignMap) : Answer → Type 0 where
-  -- it would have more values than a chirotope keeps
+  -- it would have more values than a document may hold
   limited : MAX_VALUES < choose (m.elements + 1) m.rank → IsExtensionOfMap list m (says (line.LimitValues (choose (m.elements + 1) m.rank)))
   -- the document of the extension as it is
   extended : (x : SignMap) (e : Document) → choose (m.elements + 1) m.rank ≤ MAX_VALUES → IsLexicographicExtension m list x → e ≡ map_document x → IsInForm e → MeetsAxioms e → IsExtensionOfMap list m (shows e)

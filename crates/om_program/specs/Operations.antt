@@ -105,7 +105,7 @@ abbrev pub TakesChirotope : Body → Operation → Type 0
 TakesChirotope (body.Covectors members) Dual = Unit {0}
 TakesChirotope _ _ = ⊥
 
--- the operation is made by way of the chirotope of d, which would have so many values, more than a chirotope keeps
+-- the operation is made by way of the chirotope of d, which would have so many values, more than a document may hold
 abbrev pub IsTooWideToMake : Operation → Document → ℕ → Type 0
 IsTooWideToMake o d values = TakesChirotope d.body o × IsTooWide d values
 
@@ -152,7 +152,7 @@ pub data IsOperation (o : Operation) (d : Document) : Answer → Type 0 where
   outside : (e : ℕ) → first_above d.elements (named_elements o) ≡ Some e → IsOperation o d (says (line.RefusedPlace e))
   -- it would take the only element away
   last : first_above d.elements (named_elements o) ≡ None → TakesOnly o d.elements → IsOperation o d (says line.RefusedLastelement)
-  -- its chirotope would have more values than a chirotope keeps
+  -- its chirotope would have more values than a document may hold
   wide : (values : ℕ) → first_above d.elements (named_elements o) ≡ None → IsTooWideToMake o d values → IsOperation o d (says (line.LimitValues values))
   -- the list would have more members than it may have
   limited : first_above d.elements (named_elements o) ≡ None → IsKeptToMake o d → HasTooManyMade o d → IsOperation o d (says (line.LimitMembers MAX_MEMBERS))

@@ -1,5 +1,5 @@
--- What the commands of rank 3 answer: they work on the chirotope of the document, whatever the number of its values. One with more values than a chirotope
--- keeps is of another rank.
+-- What the commands of rank 3 answer: they work on the chirotope of the document, whatever the number of its values. One with more values than a document
+-- may hold is of another rank.
 use Rattle.om_chirotope.specs.Map.{SignMap}
 use Rattle.om_text.specs.declared.document.Document.{Document}
 use Rattle.om_program.specs.declared.answer.Answer.{Answer}

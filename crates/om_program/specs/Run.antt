@@ -1,11 +1,18 @@
 -- What a run has written, beside what its words and its input mean.
-use Rattle.std.specs.Prelude.{ℕ, ◌≡◌, ◌<◌, List, length, take, IfSome, Option}
+use Rattle.std.specs.Prelude.{ℕ, ◌≡◌, ◌≢◌, ◌<◌, List, length, take, IfSome, Option}
 use Rattle.std.specs.Io.KnownBytes.{Appends}
+use Rattle.om_words.specs.declared.reads.Reads.TheVariants as kind
 use Rattle.om_words.specs.declared.task.Task.{Task}
+use Rattle.om_words.specs.Tasks.{reads}
+use Rattle.om_words.specs.Words.{Names}
 use Rattle.om_program.specs.declared.status.Status.{Status}
 use Rattle.om_program.specs.declared.answer.Answer.{Answer}
 use Rattle.om_program.specs.Answers.{status_of, text_of}
 use Rattle.om_program.specs.Meaning.{Means, TaskMeans}
+
+-- the words are a command that reads
+abbrev pub AreReadingCommand : List (List ℕ) → Type 0
+AreReadingCommand words = (task : Task) × (Names words task × (reads task ≢ kind.Nothing))
 
 -- where the source tells the bytes that it had left, the answer is what they mean
 abbrev pub IsMeantBy : (List ℕ → Answer → Type 0) → Option (List ℕ) → Answer → Type 0

@@ -1,4 +1,4 @@
--- Lists whose chirotope has more values than a chirotope keeps, and why there is no chirotope to work on.
+-- Lists whose chirotope has more values than a document may hold, and why there is no chirotope to work on.
 use Rattle.std.specs.Prelude.{ℕ, ◌≡◌, ◌≢◌, ◌<◌, ◌≤◌}
 use Rattle.om_signs.specs.declared.limits.TheConstants.{MAX_VALUES}
 use Rattle.om_subsets.specs.Subsets.{choose}
@@ -21,7 +21,7 @@ IsList (body.Cocircuits members) = Unit {0}
 IsList (body.Covectors members) = Unit {0}
 IsList _ = ⊥
 
--- the document is a list, and its chirotope has this many values, more than a chirotope keeps
+-- the document is a list, and its chirotope has this many values, more than a document may hold
 pub record IsTooWide (d : Document) (values : ℕ) : Type 0 where
   pub list : IsList d.body
   pub map : SignMap
@@ -29,20 +29,20 @@ pub record IsTooWide (d : Document) (values : ℕ) : Type 0 where
   pub number : values ≡ choose map.elements map.rank
   pub wide : MAX_VALUES < values
 
--- it isn't a list whose chirotope has more values than a chirotope keeps
+-- it isn't a list whose chirotope has more values than a document may hold
 abbrev pub IsKept : Document → Type 0
 IsKept d = (values : ℕ) → IsTooWide d values → ⊥
 
 -- the answer has this meaning for the chirotope of the document, if this isn't too wide
 pub data IsForKeptChirotope (Meaning : SignMap → Answer → Type 0) (d : Document) : Answer → Type 0 where
-  -- the document is a list, and its chirotope would have more values than a chirotope keeps
+  -- the document is a list, and its chirotope would have more values than a document may hold
   wide : (values : ℕ) → IsTooWide d values → IsForKeptChirotope Meaning d (says (line.LimitValues values))
   -- the chirotope, and what it means
   kept : (m : SignMap) (answer : Answer) → IsKept d → IsChirotopeOf d m → Meaning m answer → IsForKeptChirotope Meaning d answer
 
 -- ---- no part of the meaning
 
--- a map has no more values than a chirotope keeps, so that a document may hold it
+-- a map has no more values than a document may hold
 abbrev pub HasFewValuesIn : Body → Type 0
 HasFewValuesIn (body.Chirotope m) = choose m.elements m.rank ≤ MAX_VALUES
 HasFewValuesIn _ = Unit {0}

@@ -18,6 +18,7 @@ use om_subsets::Subset;
 use std::alloc::Global;
 
 /// The chirotope of an oriented matroid with the sign of three elements turned. The elements are strictly increasing.
+// no part of its caller, so that the tables of its callees aren't on the stack while others run
 #[inline(never)]
 pub fn flip_triple(
     alloc: Global,

@@ -5,18 +5,18 @@ ghost use Rattle.om_program.specs.MadeInputs.{IsMade};
 
 use super::answer::Answer;
 use om_make::{summary, vectors};
-use om_signs::{MAX_DRAWN, NoMemory};
+use om_signs::{MAX_DRAWN, MIN_DRAWN, NoMemory};
 use std::alloc::Global;
 use std::thread::Threads;
 
-/// `count` vectors that a number gives, from 3 to [`MAX_DRAWN`], and what there is to count of them.
+/// `count` vectors that a number gives, from [`MIN_DRAWN`] to [`MAX_DRAWN`], and what there is to count of them.
 pub fn make_input<R: Threads + Sync>(
     rt: &R,
     alloc: Global,
     seed: u32,
     count: u8,
 ) -> Result<Answer, NoMemory>
-    requires low { 3 ≤ count }
+    requires low { MIN_DRAWN ≤ count }
     requires high { count ≤ MAX_DRAWN }
     ensures { IfOk result (IsMade seed count) }
 {

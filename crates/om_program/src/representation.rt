@@ -109,6 +109,7 @@ fn represent_points(alloc: Global, points: &[[i64; 3]]) -> Result<Representation
 }
 
 /// The oriented matroid of a map, by its chirotope, or the line that refuses the map.
+// no part of its caller, so that the tables of its callees aren't on the stack while others run
 #[inline(never)]
 fn represent_map<R: Threads + Sync>(rt: &R, raw: RawMap) -> Result<Representation, Unrepresented>
     requires low { 1 ≤ raw.elements }
@@ -135,6 +136,7 @@ fn map_refusal(why: MapRefused) -> Line
 }
 
 /// The oriented matroid of a list of circuits, or why there is none: the line that refuses the list, or want of memory.
+// no part of its caller, so that the tables of its callees aren't on the stack while others run
 #[inline(never)]
 fn represent_circuits<R: Threads + Sync>(
     rt: &R,
@@ -156,6 +158,7 @@ fn represent_circuits<R: Threads + Sync>(
 }
 
 /// The oriented matroid of a list of cocircuits, or why there is none: the line that refuses the list, or want of memory.
+// no part of its caller, so that the tables of its callees aren't on the stack while others run
 #[inline(never)]
 fn represent_cocircuits<R: Threads + Sync>(
     rt: &R,
@@ -199,6 +202,7 @@ fn set_refusal(why: SetRefused) -> Line
 }
 
 /// The oriented matroid of a list of covectors, or why there is none: the line that refuses the list, or want of memory.
+// no part of its caller, so that the tables of its callees aren't on the stack while others run
 #[inline(never)]
 fn represent_covectors<R: Threads + Sync>(
     rt: &R,

@@ -6,7 +6,7 @@ ghost use Rattle.om_port.specs.Causes.{Rose, TakesSome};
 ghost use Rattle.om_words.specs.Words.{AreCommand, Names};
 ghost use Rattle.om_program.specs.Answers.{IsReply, status_of, text_of};
 ghost use Rattle.om_program.specs.Statuses.{IsAnswered};
-ghost use Rattle.om_program.specs.Run.{IsFront, IsAnswer, IsCutOffAnswer, IsTaskAnswer, IsCutOffTask, IsMeantBy};
+ghost use Rattle.om_program.specs.Run.{AreReadingCommand, IsFront, IsAnswer, IsCutOffAnswer, IsTaskAnswer, IsCutOffTask, IsMeantBy};
 ghost use Rattle.om_program.specs.Completeness.{IsAnswerable, IsDoneOrNoMemory};
 ghost use Rattle.om_program.specs.Meaning.{TaskMeans};
 ghost use Rattle.om_words.specs.Tasks.{HasLawfulArguments, reads};
@@ -41,6 +41,9 @@ pub fn run<R: Threads + Sync, S: Source, K: Sink>(
     ensures silent_fault { result ≡ Status.ReadFault → Keeps (K.taken sink.old) (K.taken sink.new) }
     ensures silent_memory { result ≡ Status.NoMemory → Keeps (K.taken sink.old) (K.taken sink.new) }
     ensures cut { result ≡ Status.WriteFault → IsCutOffAnswer (map string_bytes words.now) (S.left source.old) (K.taken sink.old) (K.taken sink.new) }
+
+    // A read fault comes only where the words are a command that reads.
+    ensures reading { result ≡ Status.ReadFault → AreReadingCommand (map string_bytes words.now) }
 
     // Each fault was counted in this run.
     ensures read { result ≡ Status.ReadFault → Rose (S.faults source.old) (S.faults source.new) }
@@ -89,6 +92,7 @@ fn carry_out<R: Threads + Sync, S: Source, K: Sink>(
     ensures silent_fault { result ≡ Status.ReadFault → Keeps (K.taken sink.old) (K.taken sink.new) }
     ensures silent_memory { result ≡ Status.NoMemory → Keeps (K.taken sink.old) (K.taken sink.new) }
     ensures cut { result ≡ Status.WriteFault → IsCutOffTask task (S.left source.old) (K.taken sink.old) (K.taken sink.new) }
+    ensures reading { result ≡ Status.ReadFault → reads task ≢ Reads.Nothing }
     ensures read { result ≡ Status.ReadFault → Rose (S.faults source.old) (S.faults source.new) }
     ensures write { result ≡ Status.WriteFault → Rose (K.faults sink.old) (K.faults sink.new) }
     ensures unread { reads task ≡ Reads.Nothing → source.new ≡ source.old }
@@ -130,6 +134,7 @@ fn find_answer<R: Threads + Sync, S: Source>(
     requires { HasLawfulArguments task }
     ensures meant { IfOk result (IsMeantBy (TaskMeans task) (S.left source.old)) }
     ensures reply { IfOk result IsReply }
+    ensures reading { result ≡ Err Unanswered.ReadFault → reads task ≢ Reads.Nothing }
     ensures read { result ≡ Err Unanswered.ReadFault → Rose (S.faults source.old) (S.faults source.new) }
     ensures unread { reads task ≡ Reads.Nothing → source.new ≡ source.old }
     ensures prefix { TakesSome (S.left source.old) (S.left source.new) }

@@ -10,7 +10,8 @@ pub enum Status {
     Refused,
     /// The words aren't a command, and `usage K` was written.
     Usage,
-    /// The answer would pass a limit, and the whole line that says so was written.
+    /// The answer would pass a limit, and the whole line that says so was written; or `decide` came to its budget of pivots or
+    /// to a number that is too wide, and the whole claim with the verdict `limit` was written.
     Limit,
     /// Reading failed, and nothing was written.
     ReadFault,

@@ -16,6 +16,7 @@ use om_wiring::{SweepError, Wiring, sweep};
 use std::alloc::Global;
 
 /// The least wiring of the chirotope of an oriented matroid.
+// no part of its caller, so that the tables of its callees aren't on the stack while others run
 #[inline(never)]
 pub fn find_wiring(alloc: Global, representation: Representation) -> Result<Answer, NoMemory>
     ensures { IfOk result (IsMeantFor IsWiringOf representation) }

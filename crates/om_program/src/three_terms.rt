@@ -6,7 +6,7 @@ ghost use Rattle.om_program.specs.Answers.{says};
 ghost use Rattle.om_program.specs.ThreeTermTests.{IsThreeTermTest, IsTestOfMap, IsNoMap, failure_line};
 
 use super::answer::Answer;
-use super::representation::{Representation, represent};
+use super::representation::represent;
 use super::unrepresented::Unrepresented;
 use om_answer::Line;
 use om_signs::{MAX_ELEMENTS, NoMemory, RawMap};
@@ -43,6 +43,7 @@ pub fn test_three_terms<R: Threads + Sync>(
 }
 
 /// The line that says what the test of a map comes to.
+// no part of its caller, so that the tables of its callees aren't on the stack while others run
 #[inline(never)]
 fn test_map<R: Threads + Sync>(rt: &R, raw: RawMap) -> Line
     requires low { 1 ≤ raw.elements }
@@ -78,16 +79,9 @@ fn test_other<R: Threads + Sync>(
     ensures { IfOk result (IsThreeTermTest document) }
 {
     match represent(rt, alloc, document) {
-        Ok(representation) => Ok(Answer::Line(no_map_line(representation))),
+        Ok(_representation) => Ok(Answer::Line(Line::RefusedNotmap)),
         Err(Unrepresented::Refused(why)) => Ok(Answer::Line(why)),
         Err(Unrepresented::Flat) => Ok(Answer::Line(Line::RefusedNotmap)),
         Err(Unrepresented::Memory) => Err(NoMemory),
     }
-}
-
-/// The line that answers a document of another kind that gives an oriented matroid.
-fn no_map_line(_representation: Representation) -> Line
-    ensures { result ≡ Line.RefusedNotmap }
-{
-    Line::RefusedNotmap
 }

@@ -8,8 +8,8 @@ use om_signs::NoMemory;
 /// Why there is no chirotope to work on.
 #[derive(Clone, Copy)]
 pub enum Unchosen {
-    /// The document is a list, and its chirotope, which is of this rank, would have `values` values, more than a chirotope
-    /// keeps.
+    /// The document is a list, and its chirotope, which is of this rank, would have `values` values, more than a document
+    /// may hold.
     TooWide { rank: u8, values: u32 },
     /// Want of memory.
     Memory,

@@ -6,7 +6,7 @@ use om_minors::MinorError;
 pub enum Unmade {
     /// It would take the only element away.
     LastElement,
-    /// The chirotope by way of which it is made would have `values` values, more than a chirotope keeps.
+    /// The chirotope by way of which it is made would have `values` values, more than a document may hold.
     TooWide { values: u32 },
     /// A list would have more than `limit` members.
     TooMany { limit: u32 },

@@ -3,17 +3,15 @@
 -- Main definitions: HasCocircuitIn, the support of some cocircuit stands in that of a vector.
 -- Main results: a least set that meets each vector of a family has as many elements as the rank, where the cocircuits are of the family and each vector
 -- of it has one in its support (least_rank); the rank of what some cocircuits (rank_of_cocircuits), circuits (rank_of_circuits) and covectors
--- (rank_of_covectors) denote; the rank of the dual of some circuits (rank_of_dual), and as many values as the dual has (choose_dual).
+-- (rank_of_covectors) denote; the rank of the dual of some circuits (rank_of_dual).
 -- Reference: Björner, Las Vergnas, Sturmfels, White and Ziegler, Oriented Matroids, chapter 3.
-use Rattle.std.specs.Prelude.{ℕ, ◌≡◌, ◌≢◌, ◌+◌, ◌-◌, ◌≤◌, ◌⊎◌, List, length, refl}
+use Rattle.std.specs.Prelude.{ℕ, ◌≡◌, ◌≢◌, ◌-◌, ◌≤◌, ◌⊎◌, List, length, refl}
 use Rattle.std.specs.List.{Contains}
 use Rattle.std.proofs.Common.{zero, suc, sym, ap, subst, ◌∙◌, ⊎_elim, arith}
 use Rattle.om_signs.specs.declared.sign.Sign.{Sign}
 use Rattle.om_signs.specs.declared.sign.Sign.TheVariants.{Zero}
 use Rattle.om_signs.specs.SignVec.{at_element}
-use Rattle.om_subsets.specs.Subsets.{IsSubsetFrom, IsMember, without_element, choose}
-use Rattle.om_subsets.proofs.Counts.{choose_none}
-use Rattle.om_subsets.proofs.LastSets.{choose_all}
+use Rattle.om_subsets.specs.Subsets.{IsSubsetFrom, IsMember, without_element}
 use Rattle.om_subsets.proofs.Statements.{members_without}
 use Rattle.om_laws.specs.Signs.{IsNonzero}
 use Rattle.om_laws.specs.Vectors.{SignVector}
@@ -164,15 +162,3 @@ rank_of_dual c rank part r n q m h =
     let within = h.axioms.whole.part in
     let elements = h.elements in
     omega (arith, part, q, known, dual_rank, within, elements)
-
-choose_parts : (n a b : ℕ) → a + b ≡ n → choose n a ≡ choose n b
-choose_parts n zero b q = choose_none n ∙ sym (choose_all n) ∙ ap (choose n) (let e : n ≡ b = omega arith in e)
-choose_parts n (suc a) zero q = ap (choose n) (let e : suc a ≡ n = omega arith in e) ∙ choose_all n ∙ sym (choose_none n)
-choose_parts zero (suc a) (suc b) q = absurd (omega arith)
-choose_parts (suc n) (suc a) (suc b) q =
-    let x = choose_parts n a (suc b) (omega arith) in
-    let y = choose_parts n (suc a) b (omega arith) in
-    omega (arith, x, y)
-
-pub choose_dual : (n r : ℕ) → r ≤ n → choose n (n - r) ≡ choose n r
-choose_dual n r l = choose_parts n (n - r) r (omega arith)

@@ -20,8 +20,9 @@ pub fn meets(y: SignVec, s: Subset) -> bool
     y.support() & s.mask() != 0
 }
 
-/// The first vector that is zero on a set.
-pub fn first_missed(vectors: &[SignVec], s: Subset) -> Option<SignVec>
+/// A vector of the list that is zero on a set, or None where the set meets each. Each vector has a sign for each of the
+/// elements 1 to n that the set is taken from.
+pub fn missed_vector(vectors: &[SignVec], s: Subset) -> Option<SignVec>
     requires { HaveLength s.n vectors.now }
     ensures none { IfNone result (MeetsEach vectors.now s.elements) }
     ensures contained { IfSome result (Contains vectors.now) }
@@ -43,8 +44,8 @@ fn passes(y: SignVec, s: Subset) -> bool
     is_zero(y) || meets(y, s)
 }
 
-/// The first vector that is zero on a set and isn't zero.
-fn first_nonzero_missed(vectors: &[SignVec], s: Subset) -> Option<SignVec>
+/// A vector of the list that is zero on a set and isn't zero, or None where the set meets each one that isn't zero.
+fn missed_nonzero_vector(vectors: &[SignVec], s: Subset) -> Option<SignVec>
     requires { HaveLength s.n vectors.now }
     ensures none { IfNone result (MeetsFamily (IsNonzeroMember vectors.now) s.elements) }
     ensures contained { IfSome result (Contains vectors.now) }
@@ -70,14 +71,17 @@ fn narrowed(vectors: &[SignVec], set: Subset, e: u8) -> Subset
     ensures narrowed { IsNarrowed (IsNonzeroMember vectors.now) set.elements e result.elements }
 {
     let rest = set.without(e);
-    if first_nonzero_missed(vectors, rest).is_some() {
+    if missed_nonzero_vector(vectors, rest).is_some() {
         set
     } else {
         rest
     }
 }
 
-/// A set that meets each vector that isn't zero, and of which no element can be left out. It takes no memory.
+/// A set that meets each vector that isn't zero, and of which no element can be left out. Each vector has `elements` signs, of
+/// which there are at most [`MAX_ELEMENTS`]. It takes no memory.
+///
+/// Source: Björner, Las Vergnas, Sturmfels, White and Ziegler, *Oriented Matroids*, chapter 3.
 pub fn least_meeting(elements: u8, vectors: &[SignVec]) -> Subset
     requires high { elements ≤ MAX_ELEMENTS }
     requires lengths { HaveLength elements vectors.now }

@@ -9,7 +9,7 @@ mod propagation;
 mod ranks;
 mod signs;
 
-pub use hitting::{first_missed, least_meeting};
+pub use hitting::{least_meeting, missed_vector};
 pub use propagation::{
     chirotope_of, chirotope_of_circuits, chirotope_of_cocircuits, propagated_map,
 };

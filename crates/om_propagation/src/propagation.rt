@@ -17,7 +17,7 @@ use super::signs::sign_of;
 use om_chirotope::Chirotope;
 use om_circuits::{Circuits, Cocircuits, SignedSet};
 use om_denotation::dual;
-use om_signs::{List, MAX_ELEMENTS, MAX_VALUES, NoMemory, RawMap, SignVec};
+use om_signs::{List, MAX_ELEMENTS, NoMemory, RawMap, SignVec};
 use om_subsets::Subset;
 use std::alloc::Global;
 
@@ -44,7 +44,7 @@ pub fn propagated_map(
 {
     let mut signs = List::new(alloc);
     let mut t = Subset::first(rank, elements);
-    for k in 0..Subset::choose(elements, rank) {
+    for _k in 0..Subset::choose(elements, rank) {
         let sign = sign_of(vectors, signs.as_slice(), t);
         signs.push(sign)?;
         t = t.following();
@@ -56,17 +56,18 @@ pub fn propagated_map(
     })
 }
 
-/// The normal chirotope whose cocircuits are the members of a set, and whose rank this is. It has at most [`MAX_VALUES`]
-/// values. Its signs take their memory from `alloc`.
+/// The normal chirotope whose cocircuits are the members of a set, and whose rank this is. Its signs take their memory from
+/// `alloc`.
 ///
 /// The bases are the sets of as many elements as the rank that meet each member. The first one has the sign plus, and each
 /// other one has its sign from that of a basis before it with one other element, by a member that is zero on what both have
 /// in common.
 ///
 /// [`NoMemory`] comes only for want of memory.
+///
+/// Source: Björner, Las Vergnas, Sturmfels, White and Ziegler, *Oriented Matroids*, chapter 3.
 pub fn chirotope_of(alloc: Global, set: &SignedSet, rank: u8) -> Result<Chirotope, NoMemory>
-    requires rank { IsRankOfNormal set.now.elements set.now.members rank }
-    requires narrow { choose set.now.elements rank ≤ MAX_VALUES }
+    requires { IsRankOfNormal set.now.elements set.now.members rank }
     ensures { IfOk result (IsNormalOf set.now.elements set.now.members) }
 {
     let elements = set.elements();
@@ -76,8 +77,7 @@ pub fn chirotope_of(alloc: Global, set: &SignedSet, rank: u8) -> Result<Chirotop
 }
 
 /// The normal chirotope with these cocircuits, whose rank this is. Both have the same elements and denote the same oriented
-/// matroid, and it is the only chirotope that does, up to sign. It has at most [`MAX_VALUES`] values. Its signs take their
-/// memory from `alloc`.
+/// matroid, and it is the only chirotope that does, up to sign. Its signs take their memory from `alloc`.
 ///
 /// [`NoMemory`] comes only for want of memory.
 ///
@@ -87,8 +87,7 @@ pub fn chirotope_of_cocircuits(
     c: &Cocircuits,
     rank: u8,
 ) -> Result<Chirotope, NoMemory>
-    requires rank { IsRankFor c.now.0.elements (IsCovectorOfCocircuits c.now.0) rank }
-    requires narrow { choose c.now.0.elements rank ≤ MAX_VALUES }
+    requires { IsRankFor c.now.0.elements (IsCovectorOfCocircuits c.now.0) rank }
     ensures elements { IfOk result (λ m. m.elements ≡ c.now.0.elements) }
     ensures cocircuits { IfOk result (λ m. AreAllOf (IsCocircuitOfChirotope m) c.now.0.members) }
     ensures same { IfOk result (λ m.
@@ -100,8 +99,8 @@ pub fn chirotope_of_cocircuits(
 }
 
 /// The normal chirotope with these circuits, whose rank this is: the dual of that whose cocircuits they are. Both have the
-/// same elements and denote the same oriented matroid, and it is the only chirotope that does, up to sign. It has at most
-/// [`MAX_VALUES`] values. Its signs take their memory from `alloc`.
+/// same elements and denote the same oriented matroid, and it is the only chirotope that does, up to sign. Its signs take
+/// their memory from `alloc`.
 ///
 /// [`NoMemory`] comes only for want of memory.
 ///
@@ -109,7 +108,6 @@ pub fn chirotope_of_cocircuits(
 pub fn chirotope_of_circuits(alloc: Global, c: &Circuits, rank: u8) -> Result<Chirotope, NoMemory>
     requires part { rank ≤ c.now.0.elements }
     requires rank { IsRankFor c.now.0.elements (IsCovectorOfCircuits c.now.0) rank }
-    requires narrow { choose c.now.0.elements rank ≤ MAX_VALUES }
     ensures elements { IfOk result (λ m. m.elements ≡ c.now.0.elements) }
     ensures circuits { IfOk result (λ m. AreAllOf (IsCircuitOfChirotope m) c.now.0.members) }
     ensures same { IfOk result (λ m.

@@ -7,7 +7,7 @@ ghost use Rattle.om_chirotope.specs.Map.{parity_sign};
 ghost use Rattle.om_members.specs.Listings.{HaveLength};
 ghost use Rattle.om_propagation.specs.Hitting.{MeetsEach, AreFirstSigns, IsNextSign, carried_sign, IsCarried, HasNoneCarried};
 
-use super::hitting::first_missed;
+use super::hitting::missed_vector;
 use om_signs::{Sign, SignVec};
 use om_subsets::Subset;
 
@@ -37,8 +37,8 @@ fn carried(a: Subset, e: u8, h: u8, y: SignVec, sign: Sign) -> Sign
     parity.times(y.get(e)).times(y.get(h)).times(sign)
 }
 
-/// The first element below e at which a vector is nonzero.
-fn first_below(y: SignVec, e: u8) -> Option<u8>
+/// An element below e at which a vector is nonzero, or None where there is none.
+fn nonzero_below(y: SignVec, e: u8) -> Option<u8>
     requires { e ≤ length y }
     ensures none { IfNone result ((h : ℕ) → 1 ≤ h → h < e → at_element y h ≡ Sign.Zero) }
     ensures low { IfSome result (λ h. 1 ≤ h) }
@@ -68,9 +68,9 @@ fn sign_over(vectors: &[SignVec], before: &[Sign], t: Subset, e: u8) -> Option<S
         return None;
     }
     let a = t.without(e);
-    match first_missed(vectors, a) {
+    match missed_vector(vectors, a) {
         None => None,
-        Some(y) => match first_below(y, e) {
+        Some(y) => match nonzero_below(y, e) {
             None => None,
             Some(h) => {
                 let other = a.with(h);
@@ -105,7 +105,7 @@ pub fn sign_of(vectors: &[SignVec], before: &[Sign], t: Subset) -> Sign
     ensures { AreFirstSigns t.n (length t.elements) vectors.now before.now → IsNextSign t.n (length t.elements) vectors.now (length before.now) result }
 {
     t.is_lawful();
-    match first_missed(vectors, t) {
+    match missed_vector(vectors, t) {
         Some(_) => Sign::Zero,
         None => sign_of_basis(vectors, before, t),
     }

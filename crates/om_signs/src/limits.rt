@@ -37,7 +37,10 @@ pub const MAX_ENTRIES: usize = 100_000;
 /// rank 8 on 16 elements.
 pub const MAX_VALUES: u32 = 12_870;
 
-/// The most vectors that are drawn from a number; the least is 3.
+/// The fewest vectors that are drawn from a number.
+pub const MIN_DRAWN: u8 = 3;
+
+/// The most vectors that are drawn from a number; the least is [`MIN_DRAWN`].
 pub const MAX_DRAWN: u8 = 16;
 
 /// The most digits of a plain number.

@@ -9,7 +9,8 @@ use super::sign::Sign;
 pub struct RawMap {
     /// The rank, from 0 to `elements`.
     pub rank: u8,
-    /// The number of elements, from 1 to [`MAX_ELEMENTS`](crate::MAX_ELEMENTS).
+    /// The number of elements, from 1 to [`MAX_PLACES`](crate::MAX_PLACES); a chirotope has at most
+    /// [`MAX_ELEMENTS`](crate::MAX_ELEMENTS).
     pub elements: u8,
     /// The signs of the increasing lists, in lexicographic order of the lists.
     pub signs: List<Sign>,

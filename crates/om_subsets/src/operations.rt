@@ -119,6 +119,7 @@ impl Subset {
         ensures n { result.n ≡ self.n }
         ensures size { length result.elements ≡ length self.elements }
         ensures place { rank_of self.n self.elements + 1 < choose self.n (length self.elements) → rank_of result.n result.elements ≡ rank_of self.n self.elements + 1 }
+        ensures last { rank_of self.n self.elements + 1 ≡ choose self.n (length self.elements) → result ≡ self }
         ensures lawful { IsSubsetFrom 1 result.n result.elements }
     {
         self.is_lawful();

@@ -49,7 +49,17 @@ fn is_at(chi: &Chirotope, k: u32, numbers: [u8; 7]) -> bool {
     }
 }
 
-/// Whether the statements with the numbers from 0 on are these, and no other follows.
+/// An equation, a statement with an element that is none, and two with terms that are none of the three: their numbers, and whether
+/// they are strict. None of them is lawful.
+const UNLAWFUL: [([u8; 7], bool); 4] = [
+    ([1, 2, 3, 4, 5, 1, 2], false),
+    ([0, 2, 3, 4, 5, 1, 2], true),
+    ([1, 2, 3, 4, 5, 0, 2], true),
+    ([1, 2, 3, 4, 5, 2, 4], true),
+];
+
+/// Whether the statements with the numbers from 0 on are these, no other follows, and no unlawful one is lawful, nor the first of five
+/// elements where there are none.
 fn are_all(chi: &Chirotope, list: &[[u8; 7]]) -> bool {
     let mut k: u32 = 0;
     for numbers in list {
@@ -58,59 +68,13 @@ fn are_all(chi: &Chirotope, list: &[[u8; 7]]) -> bool {
         }
         k = k.saturating_add(1);
     }
-    nth_statement(chi, k).is_none() && nth_statement(chi, u32::MAX).is_none()
-}
-
-/// Whether there is a chirotope, and the statements on it with the numbers from 0 on are these, and no other follows.
-fn has_all(chi: Result<Chirotope, SampleError>, list: &[[u8; 7]]) -> bool {
-    match &chi {
-        Ok(chi) => are_all(chi, list),
-        Err(_) => false,
-    }
-}
-
-/// Whether there is a chirotope, and the statement with a number is this one, and the last.
-fn has_last(chi: Result<Chirotope, SampleError>, k: u32, numbers: [u8; 7]) -> bool {
-    match &chi {
-        Ok(chi) => {
-            let last = [
-                nth_statement(chi, k),
-                nth_statement(chi, k.saturating_add(1)),
-            ];
-            last == [Some(statement(numbers, true)), None]
-        }
-        Err(_) => false,
-    }
-}
-
-/// A strict statement, an equation, a statement with an element that is none, and two with terms that are none of the three: their
-/// numbers, and whether they are strict.
-const STATEMENTS: [([u8; 7], bool); 5] = [
-    ([1, 2, 3, 4, 5, 1, 2], true),
-    ([1, 2, 3, 4, 5, 1, 2], false),
-    ([0, 2, 3, 4, 5, 1, 2], true),
-    ([1, 2, 3, 4, 5, 0, 2], true),
-    ([1, 2, 3, 4, 5, 2, 4], true),
-];
-
-/// How many of the statements are lawful, and whether the first is.
-fn lawfulness(chi: &Chirotope) -> (usize, bool) {
-    let (numbers, strict) = STATEMENTS[0];
-    let mut count: usize = 0;
-    for (numbers, strict) in STATEMENTS.iter() {
+    for (numbers, strict) in UNLAWFUL.iter() {
         if lawful(chi, statement(*numbers, *strict)) {
-            count = count.saturating_add(1);
+            return false;
         }
     }
-    (count, lawful(chi, statement(numbers, strict)))
-}
-
-/// Whether there is a chirotope, and so many of the statements are lawful on it, and the first is or isn't.
-fn is_lawful(chi: Result<Chirotope, SampleError>, count: usize, first: bool) -> bool {
-    match &chi {
-        Ok(chi) => lawfulness(chi) == (count, first),
-        Err(_) => false,
-    }
+    [nth_statement(chi, k), nth_statement(chi, u32::MAX)] == [None; 2]
+        && lawful(chi, statement(TEN[0], true)) != list.is_empty()
 }
 
 /// Whether a statement is lawful, and its sides have the brackets with these masks: two on the small side, two on the big one.
@@ -121,6 +85,22 @@ fn are_sides(chi: &Chirotope, st: Statement, masks: [u32; 4]) -> bool {
     brackets_of_lawful_statements();
     let (first, second, third, fourth) = sides(st, chi.elements());
     [first.mask(), second.mask(), third.mask(), fourth.mask()] == masks
+}
+
+/// Whether there is a chirotope, and the statements on it with the numbers from 0 on are these, and no other is lawful.
+fn has_all(chi: Result<Chirotope, SampleError>, list: &[[u8; 7]]) -> bool {
+    match &chi {
+        Ok(chi) => are_all(chi, list),
+        Err(_) => false,
+    }
+}
+
+/// Whether there is a chirotope, and the statement with a number is this one, and the last.
+fn has_last(chi: Result<Chirotope, SampleError>, k: u32, numbers: [u8; 7]) -> bool {
+    match &chi {
+        Ok(chi) => is_at(chi, k, numbers) && nth_statement(chi, k.saturating_add(1)).is_none(),
+        Err(_) => false,
+    }
 }
 
 /// Whether there is a chirotope, and these are the sides of a statement on it.
@@ -135,6 +115,7 @@ fn has_sides(chi: Result<Chirotope, SampleError>, st: Statement, masks: [u32; 4]
 fn statements(rt: HostRuntime) {
     let alloc = rt.alloc();
     let five = "++++++++++";
+    let equation = statement([1, 2, 3, 4, 7, 3, 2], false);
     let found = [
         // in another rank than 3 there are none
         has_all(chirotope_of(&rt, alloc, 3, 5, five), &TEN),
@@ -145,17 +126,12 @@ fn statements(rt: HostRuntime) {
             59,
             [6, 2, 3, 4, 5, 3, 2],
         ),
-        // only the first is lawful, and in another rank than 3 not even that one
-        is_lawful(chirotope_of(&rt, alloc, 3, 5, five), 1, true),
-        is_lawful(chirotope_of(&rt, alloc, 2, 5, five), 0, false),
+        // since 123 is on a line, 127 with 134 are as large as 124 with 137
+        has_sides(
+            chirotope_of(&rt, alloc, 3, 9, PAPPUS),
+            equation,
+            [0b1000011, 0b1101, 0b1011, 0b1000101],
+        ),
     ];
-    assert!(rt; found == [true; 5]);
-}
-
-// since 123 is on a line, 127 with 134 are as large as 124 with 137
-#[test]
-fn sides_of_an_equation(rt: HostRuntime) {
-    let st = statement([1, 2, 3, 4, 7, 3, 2], false);
-    let masks = [0b1000011, 0b1101, 0b1011, 0b1000101];
-    assert!(rt; has_sides(chirotope_of(&rt, rt.alloc(), 3, 9, PAPPUS), st, masks));
+    assert!(rt; found == [true; 4]);
 }

@@ -10,46 +10,37 @@ use om_samples::{SampleError, chirotope_of};
 use om_signs::Sign;
 use om_subsets::Subset;
 
-/// Of four elements: which are loops and which coloops; whether 1 and 2 are parallel, 1 and 3, 1 and 4, 3 and 3, and 4 and 4; and
-/// the ranks of the empty set, 4, 13, 124, 134 and 1234.
-fn facts(chi: &Chirotope) -> ([bool; 4], [bool; 4], [bool; 5], [u8; 6])
+/// What there is to say of four elements: the masks of the loops, of the coloops, and of those that each element is parallel to; and the
+/// rank of each set, by its mask.
+type Facts = (u32, u32, [u32; 4], [u8; 16]);
+
+/// The facts on a chirotope of four elements.
+fn facts(chi: &Chirotope) -> Facts
     requires { chi.now.elements ≡ 4 }
 {
-    let loops = [
-        is_loop(chi, 1),
-        is_loop(chi, 2),
-        is_loop(chi, 3),
-        is_loop(chi, 4),
-    ];
-    let coloops = [
-        is_coloop(chi, 1),
-        is_coloop(chi, 2),
-        is_coloop(chi, 3),
-        is_coloop(chi, 4),
-    ];
-    let parallels = [
-        parallel(chi, 1, 2),
-        parallel(chi, 1, 3),
-        parallel(chi, 1, 4),
-        parallel(chi, 3, 3),
-        parallel(chi, 4, 4),
-    ];
-    let ranks = [
-        rank_of(chi, Subset::from_mask(0, 4)),
-        rank_of(chi, Subset::from_mask(0b1000, 4)),
-        rank_of(chi, Subset::from_mask(0b101, 4)),
-        rank_of(chi, Subset::from_mask(0b1011, 4)),
-        rank_of(chi, Subset::from_mask(0b1101, 4)),
-        rank_of(chi, Subset::from_mask(0b1111, 4)),
-    ];
+    let (mut loops, mut coloops) = (0, 0);
+    let (mut parallels, mut ranks) = ([0; 4], [0; 16]);
+    for e in 1..5u8 {
+        if is_loop(chi, e) {
+            loops |= 1u32 << (e - 1);
+        }
+        if is_coloop(chi, e) {
+            coloops |= 1u32 << (e - 1);
+        }
+        for f in 1..5u8 {
+            if parallel(chi, e, f) {
+                parallels[e as usize - 1] |= 1u32 << (f - 1);
+            }
+        }
+    }
+    for mask in 0..16u32 {
+        ranks[mask as usize] = rank_of(chi, Subset::from_mask(mask, 4));
+    }
     (loops, coloops, parallels, ranks)
 }
 
 /// Whether there is a chirotope of four elements, and these are the facts on it.
-fn has_facts(
-    chi: Result<Chirotope, SampleError>,
-    expected: ([bool; 4], [bool; 4], [bool; 5], [u8; 6]),
-) -> bool
+fn has_facts(chi: Result<Chirotope, SampleError>, expected: Facts) -> bool
     requires { IfOk chi (λ c. c.elements ≡ 4) }
 {
     match &chi {
@@ -58,46 +49,34 @@ fn has_facts(
     }
 }
 
-// the bases are 13 and 23: 1 and 2 are parallel, 3 is a coloop, and 4 a loop, which is parallel to nothing, not even to itself
+/// The bases are 13 and 23: 1 and 2 are parallel, 3 is a coloop, and 4 a loop, which is parallel to nothing, not even to itself.
+const PARALLEL: Facts = (
+    0b1000,
+    0b0100,
+    [0b0011, 0b0011, 0b0100, 0],
+    [0, 1, 1, 1, 1, 2, 2, 2, 0, 1, 1, 1, 1, 2, 2, 2],
+);
+
+/// The empty set is the only basis.
+const LOOPS: Facts = (0b1111, 0, [0; 4], [0; 16]);
+
+/// The set of all elements is the only basis.
+const COLOOPS: Facts = (
+    0,
+    0b1111,
+    [0b0001, 0b0010, 0b0100, 0b1000],
+    [0, 1, 1, 2, 1, 2, 2, 3, 1, 2, 2, 3, 2, 3, 3, 4],
+);
+
 #[test]
 fn four_elements(rt: HostRuntime) {
-    let expected = (
-        [false, false, false, true],
-        [false, false, true, false],
-        [true, false, false, true, false],
-        [0, 0, 2, 1, 2, 2],
-    );
-    assert!(rt; has_facts(chirotope_of(&rt, rt.alloc(), 2, 4, "0+0+00"), expected));
-}
-
-/// Whether there is a chirotope of two elements, and these tell whether 2 is a loop, is a coloop, is parallel to itself, and to 1.
-fn is_second_of_two(chi: Result<Chirotope, SampleError>, expected: [bool; 4]) -> bool
-    requires { IfOk chi (λ c. c.elements ≡ 2) }
-{
-    match &chi {
-        Ok(chi) => {
-            let found = [
-                is_loop(chi, 2),
-                is_coloop(chi, 2),
-                parallel(chi, 2, 2),
-                parallel(chi, 1, 2),
-            ];
-            found == expected
-        }
-        Err(_) => false,
-    }
-}
-
-// the empty set is the only basis, and then the set of all elements
-#[test]
-fn lowest_and_highest_rank(rt: HostRuntime) {
     let alloc = rt.alloc();
-    let (lowest, highest) = ([true, false, false, false], [false, true, true, false]);
     let found = [
-        is_second_of_two(chirotope_of(&rt, alloc, 0, 2, "+"), lowest),
-        is_second_of_two(chirotope_of(&rt, alloc, 2, 2, "+"), highest),
+        has_facts(chirotope_of(&rt, alloc, 2, 4, "0+0+00"), PARALLEL),
+        has_facts(chirotope_of(&rt, alloc, 0, 4, "+"), LOOPS),
+        has_facts(chirotope_of(&rt, alloc, 4, 4, "+"), COLOOPS),
     ];
-    assert!(rt; found == [true; 2]);
+    assert!(rt; found == [true; 3]);
 }
 
 /// Whether a set is a basis.

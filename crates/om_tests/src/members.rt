@@ -6,22 +6,16 @@ use om_samples::vector_of;
 #[test]
 fn vectors_and_members(rt: HostRuntime) {
     let (zero, plus, minus) = (vector_of(2, "00"), vector_of(2, "+0"), vector_of(2, "-0"));
-    let list = [zero, plus];
+    let (both, longer) = (vector_of(2, "+-"), vector_of(3, "000"));
     let answers = [
         is_zero(zero),
         is_zero(plus),
         are_same(plus, minus),
-        are_same(zero, vector_of(3, "000")),
-        is_member(&list, plus),
-        is_member(&list, minus),
+        are_same(zero, longer),
+        is_member(&[zero, plus], plus),
+        is_member(&[zero, plus], minus),
     ];
     assert!(rt; answers == [true, false, false, false, true, false]);
-}
-
-#[test]
-fn negatives(rt: HostRuntime) {
-    let (zero, plus, minus) = (vector_of(2, "00"), vector_of(2, "+0"), vector_of(2, "-0"));
-    let both = vector_of(2, "+-");
     let firsts = [
         first_without_negative(&[]),
         first_without_negative(&[plus, zero, minus]),

@@ -1,33 +1,14 @@
-//! Mutations and flips worked out by hand.
+//! Flips worked out by hand. The mutations of a chirotope are rows of `mutations`.
 
 ghost use Rattle.std.specs.Prelude.{◌≡◌, IfOk};
 
 use super::wiring::sweep_of;
 use om_chirotope::Chirotope;
-use om_mutate::{BadFlip, FlipRefused, MutationError, NotTriangle, flip, flip_wiring, mutations};
+use om_mutate::{BadFlip, FlipRefused, NotTriangle, flip, flip_wiring};
 use om_samples::{SampleError, chirotope_of, is_map};
-use om_signs::{Block, List};
+use om_signs::Block;
 use om_subsets::Subset;
 use om_wiring::Wiring;
-use std::alloc::Global;
-
-/// Whether there is a chirotope, and its mutations are three sets with these masks.
-fn has_mutations(alloc: Global, chi: Result<Chirotope, SampleError>, masks: [u32; 3]) -> bool {
-    match &chi {
-        Ok(chi) => have_masks(mutations(alloc, chi), masks),
-        Err(_) => false,
-    }
-}
-
-/// Whether three sets were found, and have these masks.
-fn have_masks(found: Result<List<Subset>, MutationError>, masks: [u32; 3]) -> bool {
-    match &found {
-        Ok(sets) if sets.len() == 3 => {
-            [sets.at(0).mask(), sets.at(1).mask(), sets.at(2).mask()] == masks
-        }
-        _ => false,
-    }
-}
 
 /// Whether a flip gave the map of four elements with the signs of a text; or it was refused for a reason, and this map was handed
 /// back.
@@ -84,17 +65,11 @@ fn chirotopes_of_four(rt: HostRuntime) {
     let alloc = rt.alloc();
     let refused = Some(FlipRefused::NotBasis);
     let found = [
-        // 1, 2 and 3 are on a line, and each other triple is a mutation
-        has_mutations(
-            alloc,
-            chirotope_of(&rt, alloc, 3, 4, "0+++"),
-            [0b1011, 0b1101, 0b1110],
-        ),
         // 123 is turned where it is a basis, and else the map comes back
         has_flip(chirotope_of(&rt, alloc, 3, 4, "++++"), None, "-+++"),
         has_flip(chirotope_of(&rt, alloc, 3, 4, "0+++"), refused, "0+++"),
     ];
-    assert!(rt; found == [true; 3]);
+    assert!(rt; found == [true; 2]);
 }
 
 /// The blocks of four wires.

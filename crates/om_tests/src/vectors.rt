@@ -1,15 +1,9 @@
-//! Vectors at the limit, lists of vectors, and the signs of vectors.
+//! Vectors at the limit and lists of vectors. The signs of vectors are rows of `convert`, and whether they realize a chirotope rows of
+//! `check`.
 
-ghost use Rattle.std.specs.Prelude.{◌≡◌, IfOk};
-
-use super::helpers::is_chirotope;
 use super::maps::word_of;
-use om_chirotope::Chirotope;
-use om_samples::{SampleError, chirotope_of};
 use om_signs::MAX_COORDINATE;
-use om_subsets::Subset;
-use om_vectors::{SignsError, Unfound, Vector, Word, realizes, signs_of, triple};
-use std::alloc::Global;
+use om_vectors::{Unfound, Vector, Word, triple};
 
 /// Whether there is a vector of three numbers, and has them as its coordinates.
 fn is_vector(x: i64, y: i64, z: i64) -> bool {
@@ -73,52 +67,4 @@ fn words(rt: HostRuntime) {
         Unfound::Frontier(Word::new()) != Unfound::Exhausted,
     ];
     assert!(rt; found == [true; 4]);
-}
-
-/// The chirotope of some vectors.
-fn signs(alloc: Global, rows: &[[i64; 3]]) -> Result<Chirotope, SignsError> {
-    let word = word_of(rows);
-    if word.len() < 1 {
-        return Err(SignsError::Memory);
-    }
-    signs_of(alloc, word.as_slice())
-}
-
-// the triple products of 123, 124, 134 and 234 are 1, 1, -1 and 1; two vectors are too few
-#[test]
-fn signs_of_vectors(rt: HostRuntime) {
-    let alloc = rt.alloc();
-    let found = signs(alloc, &[[1, 0, 0], [0, 1, 0], [0, 0, 1], [1, 1, 1]]);
-    assert!(rt; is_chirotope(found, 3, 4, "++-+"));
-    let found = signs(alloc, &[[1, 0, 0], [0, 1, 0]]);
-    assert!(rt; matches!(found, Err(SignsError::RankLow)));
-}
-
-/// Whether there is a chirotope of as many elements as there are vectors, and they realize it, or the first triple with another sign
-/// is the expected one.
-fn is_realization(
-    chi: Result<Chirotope, SampleError>,
-    rows: &[[i64; 3]],
-    expected: Result<(), Subset>,
-) -> bool
-    requires { IfOk chi (λ c. c.rank ≡ 3) }
-{
-    let word = word_of(rows);
-    match &chi {
-        Ok(chi) => word.len() == chi.elements() && realizes(word.as_slice(), chi) == expected,
-        Err(_) => false,
-    }
-}
-
-// of these vectors the triple 134 alone has the sign minus
-#[test]
-fn realizations(rt: HostRuntime) {
-    let alloc = rt.alloc();
-    let rows = [[1, 0, 0], [0, 1, 0], [0, 0, 1], [1, 1, 1]];
-    let other = Subset::from_mask(0b1101, 4);
-    let found = [
-        is_realization(chirotope_of(&rt, alloc, 3, 4, "++-+"), &rows, Ok(())),
-        is_realization(chirotope_of(&rt, alloc, 3, 4, "++++"), &rows, Err(other)),
-    ];
-    assert!(rt; found == [true; 2]);
 }

@@ -277,9 +277,10 @@ fn whole(alloc: Global, bytes: &[u8]) -> Result<Document, ParseError>
 /// with words are `om 1` or `om 2`, a kind line (`chirotope r n`, `circuits n`, `cocircuits n`, `covectors n`, `wiring n` or
 /// `points n`), after `om 2` setting lines, body lines, and `end`. The body of a map or a list has the signs `+`, `-` and
 /// `0`: a map exactly one for each set of `r` elements, at most [`om_signs::MAX_VALUES`], joined over all body lines; a list
-/// one member of `n` signs a line, and a repeated line adds nothing. A wiring has words `i-j`, two numbers of at most three digits without a leading zero,
-/// one block each. Points have exactly `n` lines of three numbers of a size of at most [`om_signs::MAX_COORDINATE`]: decimal
-/// digits without a leading zero, with or without a `-` before them, and `0` without one.
+/// one member of `n` signs a line, and a repeated line adds nothing. A wiring has words `i-j`, two numbers of at most three
+/// digits without a leading zero, one block each. Points have exactly `n` lines of three numbers of a size of at most
+/// [`om_signs::MAX_COORDINATE`]: decimal digits without a leading zero, with or without a `-` before them, and `0` without
+/// one.
 ///
 /// The setting lines are `names` with a [`Name`](crate::Name) for each element, no two of them equal; and then, for a map,
 /// `order lex` or `order revlex`, and for a list `half`. Each may be left out. After `order revlex` the values of a map stand

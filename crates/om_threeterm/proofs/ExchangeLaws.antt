@@ -3,7 +3,7 @@
 -- Main results: unexchanged_of_apart and apart_of_unexchanged; best_start, best_same and best_new for the loop over e, first_of_best and none_of_best, what it
 -- finds; exchange_of_none and first_of_least, what the scan over all bases finds; some_unexchanged, whether a set has a violated
 -- exchange.
-use Rattle.std.specs.Prelude.{ℕ, ◌≡◌, ◌+◌, ◌<◌, ◌≤◌, ◌↔◌, ◌⊎◌, List, [], ◌∷◌, length, false, true, IsTrue, Option, Some, None, is_some, MatchOption, IfNone, IfSome}
+use Rattle.std.specs.Prelude.{ℕ, ◌≡◌, ◌+◌, ◌<◌, ◌≤◌, ◌↔◌, ◌⊎◌, List, [], ◌∷◌, length, IsTrue, Option, Some, None, is_some, MatchOption, IfNone, IfSome}
 use Rattle.std.proofs.Common.{refl, sym, ◌∙◌, ap, arith, inl, inr, subst, ⊎_elim}
 use Rattle.std.proofs.lemmas.Bool.{false≢true, cases_eq}
 use Rattle.om_subsets.specs.Subsets.{AreApart, choose, subset_at, rank_of, IsSubsetFrom, IsMember, with_element, without_element}

@@ -12,7 +12,7 @@ use super::bad_three::BadThree;
 use super::exchanges::first_unexchanged;
 use super::relations::first_unbalanced;
 use super::three_refused::ThreeRefused;
-use om_chirotope::{Chirotope, violated};
+use om_chirotope::Chirotope;
 use om_signs::{MAX_ELEMENTS, RawMap, Sign};
 use std::thread::Threads;
 
@@ -22,8 +22,9 @@ use std::thread::Threads;
 /// the first violated relation, where bases have exchange.
 ///
 /// The elements are from 1 to [`MAX_ELEMENTS`], the rank is at most their number, and there is one sign for each increasing
-/// list of that many elements. It takes no memory, needs up to 470 KB of stack, and scans on
-/// several threads.
+/// list of that many elements. It takes no memory, and needs up to 350 KB of stack. Whether bases have exchange, and whether the
+/// relations hold, is found by quick tests on the calling thread; the first exchange or relation that is violated is then
+/// looked for on several threads.
 ///
 /// Source: Björner, Las Vergnas, Sturmfels, White and Ziegler, *Oriented Matroids*, chapter 3.
 pub fn check<R: Threads + Sync>(rt: &R, raw: RawMap) -> Result<Chirotope, BadThree>
@@ -39,30 +40,9 @@ pub fn check<R: Threads + Sync>(rt: &R, raw: RawMap) -> Result<Chirotope, BadThr
     ensures exchange { IfErr result (λ bad. (b c : Chosen) (e : ℕ) → bad.why ≡ ThreeRefused.NoExchange b c e → IsFirstUnexchanged (map_of raw) b c e) }
     ensures relation { IfErr result (λ bad. (p q : Chosen) → bad.why ≡ ThreeRefused.ThreeTerm p q → HasExchange (map_of raw) × IsFirstUnbalanced (map_of raw) p q) }
 {
-    if meets_axioms(&raw) {
-        return Ok(Chirotope::lawful(raw));
-    }
     match first_failure(rt, &raw) {
         None => Ok(Chirotope::lawful(raw)),
         Some(why) => Err(BadThree { raw, why }),
-    }
-}
-
-/// Whether the map meets the axioms, by the quick test of om_chirotope.
-#[inline(never)]
-fn meets_axioms(raw: &RawMap) -> bool
-    requires low { 1 ≤ raw.now.elements }
-    requires high { raw.now.elements ≤ MAX_ELEMENTS }
-    requires rank { raw.now.rank ≤ raw.now.elements }
-    requires whole { length raw.now.signs ≡ choose raw.now.elements raw.now.rank }
-    ensures { IsTrue result ↔ IsChirotope (map_of raw.now) }
-{
-    if is_all_zero(raw.signs.as_slice()) {
-        return false;
-    }
-    match violated(raw) {
-        None => true,
-        Some(_) => false,
     }
 }
 

@@ -11,6 +11,7 @@ ghost use Rattle.om_threeterm.specs.Violations.{HasRelation, IsUnbalancedList, I
 ghost use Rattle.om_threeterm.specs.Sets.{all_chosen};
 
 use super::sets::{fill, four_of};
+use om_chirotope::has_three_term_relations;
 use om_parallel::{Probe, first_bad};
 use om_signs::{MAX_PLACES, RawMap, Sign};
 use om_subsets::Subset;
@@ -27,8 +28,36 @@ const FOURS: usize = PLACES * (PLACES - 1) * (PLACES - 2) * (PLACES - 3) / 24;
 
 /// The first violated three-term relation: the set p of two elements less than the rank, and the set q of four elements off
 /// it; or None where the relations hold. It takes no memory.
-#[inline(never)]
 pub fn first_unbalanced<R: Threads + Sync>(rt: &R, raw: &RawMap) -> Option<(Subset, Subset)>
+    requires low { 1 ≤ raw.now.elements }
+    requires high { raw.now.elements ≤ MAX_PLACES }
+    requires rank { raw.now.rank ≤ raw.now.elements }
+    requires whole { length raw.now.signs ≡ choose raw.now.elements raw.now.rank }
+    ensures none { IfNone result (HasThreeTermRelations (map_of raw.now)) }
+    ensures first { IfSome result (λ x. IsFirstUnbalanced (map_of raw.now) x.0 x.1) }
+{
+    if has_relations_apart(raw) {
+        return None;
+    }
+    first_unbalanced_by_scan(rt, raw)
+}
+
+/// Whether the relations hold, by the quick test. It is no part of its caller, so that its tables aren't on the stack while the
+/// scan runs.
+#[inline(never)]
+fn has_relations_apart(raw: &RawMap) -> bool
+    requires low { 1 ≤ raw.now.elements }
+    requires high { raw.now.elements ≤ MAX_PLACES }
+    requires rank { raw.now.rank ≤ raw.now.elements }
+    requires whole { length raw.now.signs ≡ choose raw.now.elements raw.now.rank }
+    ensures { IsTrue result ↔ HasThreeTermRelations (map_of raw.now) }
+{
+    has_three_term_relations(raw)
+}
+
+/// The first violated relation, by a scan of all sets p.
+#[inline(never)]
+fn first_unbalanced_by_scan<R: Threads + Sync>(rt: &R, raw: &RawMap) -> Option<(Subset, Subset)>
     requires low { 1 ≤ raw.now.elements }
     requires high { raw.now.elements ≤ MAX_PLACES }
     requires rank { raw.now.rank ≤ raw.now.elements }

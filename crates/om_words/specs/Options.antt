@@ -1,7 +1,7 @@
 -- Numbers, options `--name=K`, and the commands that have them.
 use Rattle.std.specs.Prelude.{ℕ, ◌≡◌, ◌∷◌, List, [], Bool, cond, not, nat_eq, nat_le, ◌&&◌, codes, length, drop, Option, Some, None, is_some, unwrap_or}
 use Rattle.std.specs.List.{list_any, starts_with}
-use Rattle.om_signs.specs.declared.limits.TheConstants.{MAX_DRAWN, MAX_LINES, MAX_BOX, MAX_STEPS, MAX_PIVOTS}
+use Rattle.om_signs.specs.declared.limits.TheConstants.{MIN_DRAWN, MAX_DRAWN, MAX_LINES, MAX_BOX, MAX_STEPS, MAX_PIVOTS}
 use Rattle.om_text.specs.Words.{unsigned}
 use Rattle.om_decide.specs.declared.budgets.Budgets.{Budgets}
 use Rattle.om_words.specs.declared.setting.Setting.{Setting}
@@ -30,7 +30,7 @@ least_number First = 1
 least_number BoxSize = 1
 least_number Steps = 1
 least_number Pivots = 1
-least_number Count = 3
+least_number Count = MIN_DRAWN
 
 abbrev pub greatest_number : Setting → ℕ
 greatest_number First = MAX_LINES

@@ -1,6 +1,6 @@
 -- What tasks read, and the limits of their arguments.
 use Rattle.std.specs.Prelude.{ℕ, ◌<◌, ◌≤◌, ◌^◌, List, map, take}
-use Rattle.om_signs.specs.declared.limits.TheConstants.{MAX_DRAWN, MAX_ELEMENTS, MAX_LINES}
+use Rattle.om_signs.specs.declared.limits.TheConstants.{MIN_DRAWN, MAX_DRAWN, MAX_ELEMENTS, MAX_LINES}
 use Rattle.om_decide.specs.Verdicts.{AreBudgets}
 use Rattle.om_lexext.specs.declared.signed.Signed.{Signed}
 use Rattle.om_lexext.specs.Lexicographic.{IsLexicographicList}
@@ -52,7 +52,7 @@ pub record AreLawful (l : Leading) : Type 0 where
 
 -- as many vectors as may be made
 pub record IsCount (count : ℕ) : Type 0 where
-  pub low : 3 ≤ count
+  pub low : MIN_DRAWN ≤ count
   pub high : count ≤ MAX_DRAWN
 
 -- the arguments of a task lie within the limits

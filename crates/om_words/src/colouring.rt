@@ -17,7 +17,7 @@ pub struct Colouring {
     pub colours: [Colour; MAX_LISTED],
     /// How many colours there are, at least one.
     pub count: u8,
-    /// The element.
+    /// The element, from 1 to [`MAX_ELEMENTS`].
     pub e: u8,
 }
 

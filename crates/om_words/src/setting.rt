@@ -3,7 +3,7 @@
 ghost use Rattle.std.specs.Prelude.{◌≡◌, ◌≤◌};
 ghost use Rattle.om_words.specs.Options.{option_text, least_number, greatest_number, default_number};
 
-use om_signs::{MAX_BOX, MAX_DRAWN, MAX_LINES, MAX_PIVOTS, MAX_STEPS};
+use om_signs::{MAX_BOX, MAX_DRAWN, MAX_LINES, MAX_PIVOTS, MAX_STEPS, MIN_DRAWN};
 
 /// What an option gives a number.
 #[derive(Clone, Copy)]
@@ -38,7 +38,7 @@ pub fn least_number(setting: Setting) -> u32
     ensures { result ≡ least_number setting }
 {
     match setting {
-        Setting::Count => 3,
+        Setting::Count => u32::from(MIN_DRAWN),
         _ => 1,
     }
 }

@@ -19,9 +19,9 @@ pub enum Task {
     Convert(Kind),
     /// `dual`: the dual.
     Dual,
-    /// `delete E`: the deletion of this element.
+    /// `delete E`: the deletion of this element, from 1 to [`MAX_ELEMENTS`](om_signs::MAX_ELEMENTS).
     Delete(u8),
-    /// `contract E`: the contraction of this element.
+    /// `contract E`: the contraction of this element, from 1 to [`MAX_ELEMENTS`](om_signs::MAX_ELEMENTS).
     Contract(u8),
     /// `reorient E..`: the reorientation on the elements of this mask, in which bit e - 1 stands for e.
     Reorient(u32),
@@ -29,9 +29,11 @@ pub enum Task {
     Wiring,
     /// `mutations`: the mutations of the chirotope.
     Mutations,
-    /// `flip A B C`: the chirotope with the sign of these three elements turned.
+    /// `flip A B C`: the chirotope with the sign of these three elements turned. They increase, and are from 1 to
+    /// [`MAX_ELEMENTS`](om_signs::MAX_ELEMENTS).
     Flip(u8, u8, u8),
-    /// `extend --first=K`: the first K extensions of the chirotope by one element.
+    /// `extend --first=K`: the first K extensions of the chirotope by one element. K is from 1 to
+    /// [`MAX_LINES`](om_signs::MAX_LINES).
     Extend { first: u64 },
     /// `paint COLOURS E`: the circuit or the cocircuit that fits these colours at this element.
     Paint(Colouring),
@@ -47,7 +49,8 @@ pub enum Task {
     Decide(Budgets),
     /// `check`: whether the verdict of a claim has proof.
     Check,
-    /// `make N --count=K`: so many vectors that the number gives, and their summary.
+    /// `make N --count=K`: the K vectors that the number N gives, and their summary. K is from
+    /// [`MIN_DRAWN`](om_signs::MIN_DRAWN) to [`MAX_DRAWN`](om_signs::MAX_DRAWN).
     Make { seed: u32, count: u8 },
 }
 

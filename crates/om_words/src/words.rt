@@ -14,7 +14,8 @@ use super::triple::triple;
 use super::usage::Usage;
 use super::verb::{Verb, named_verb};
 
-/// The task that the words name. `Usage` comes exactly where they name none. It takes no memory.
+/// The task that the words name. `Usage` comes exactly where they name none. It takes no memory. Which words name which
+/// task stands in `docs/FORMATS.md`, "Words and texts", and in `specs/Words.antt` (`Names`).
 pub fn command(words: &[String]) -> Result<Task, Usage>
     ensures task { (task : Task) → (result ≡ Ok task) ↔ Names (map string_bytes words.now) task }
 

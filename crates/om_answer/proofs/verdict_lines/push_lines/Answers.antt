@@ -14,7 +14,7 @@ returns-in_ok-push-in-Nonrealizable c =
     on_ok c.push_entries.result (λ e.
     subst (λ v. new ≡ old ++ lines_text (word_line (verdict_name v) ∷ verdict_lines v)) (sym c.in-Nonrealizable.is)
     (subst (λ es. new ≡ old ++ lines_text (word_line (codes "nonrealizable") ∷ map entry_words es)) entries
-    (lines_after (word_line (codes "nonrealizable") ∷ []) (map entry_words c.as_slice-in-Nonrealizable.result.now) old mid new c.in_ok-push-in-Nonrealizable.ensures e))) c.push_entries.ensures
+    (lines_after (word_line (codes "nonrealizable") ∷ []) (map entry_words c.as_slice-in-Nonrealizable.result.now) old mid new c.in_ok-push-in-Nonrealizable.ensures.ok e))) c.push_entries.ensures
 
 pub returns-in_ok-push_weights-in-Undecided : goal.returns-in_ok-push_weights-in-Undecided
 returns-in_ok-push_weights-in-Undecided c =
@@ -27,5 +27,5 @@ returns-in_ok-push_weights-in-Undecided c =
     on_ok c.push_search.result (λ e.
     subst (λ v. new ≡ old ++ lines_text (word_line (verdict_name v) ∷ verdict_lines v)) (sym c.in-Undecided.is)
     (subst (λ ws. new ≡ old ++ lines_text (word_line (codes "undecided") ∷ map weight_words ws ++ search_lines u)) weights
-    (lines_after (word_line (codes "undecided") ∷ []) (map weight_words c.as_slice-in-Undecided.result.now ++ search_lines u) old mid new c.in_ok-push-in-Undecided.ensures
+    (lines_after (word_line (codes "undecided") ∷ []) (map weight_words c.as_slice-in-Undecided.result.now ++ search_lines u) old mid new c.in_ok-push-in-Undecided.ensures.ok
     (lines_after (map weight_words c.as_slice-in-Undecided.result.now) (search_lines u) mid last new c.in_ok-push_weights-in-Undecided.ensures e)))) c.push_search.ensures

@@ -25,35 +25,35 @@ pub returns-in-Some-clause-none : goal.returns-in-Some-clause-none
 returns-in-Some-clause-none c =
     let end = c.choose-place-end.ensures.value in
     let test = c.loop-place-test.true in
-    let l : c.loop-place.place < choose c.args.raw.now.elements (c.args.raw.now.rank + 1) = omega (arith, end, test) in
+    let l : c.loop-place._place < choose c.args.raw.now.elements (c.args.raw.now.rank + 1) = omega (arith, end, test) in
     let low = c.requires.rank_low in
     let size = c.unrank-a.ensures.size in
     let pair : IsPair (map_of c.args.raw.now) c.loop-place.s.elements c.unrank-a.result.elements = record { s_list = c.loop-place.invariant.at.list; s_size = c.loop-place.invariant.at.size; a_list = c.unrank-a.ensures.lawful; a_size = omega arith } in
-    let first : IsFirstViolated (map_of c.args.raw.now) c.loop-place.s c.unrank-a.result = found (map_of c.args.raw.now) c.loop-place.s c.unrank-a.result c.loop-place.place c.in-Some.k c.circuit_of.result c.args.cocircuits.now c.loop-place.invariant.at.n_is c.unrank-a.ensures.n pair (c.loop-place.invariant.at.place l) c.unrank-a.ensures.place c.circuit_of.ensures c.requires.filled c.in-Some.ensures.here (λ j l. c.in-Some.ensures.before j (omega arith) l) c.loop-place.invariant.all in
+    let first : IsFirstViolated (map_of c.args.raw.now) c.loop-place.s c.unrank-a.result = found (map_of c.args.raw.now) c.loop-place.s c.unrank-a.result c.loop-place._place c.in-Some.k c.circuit_of.result c.args.cocircuits.now c.loop-place.invariant.at.n_is c.unrank-a.ensures.n pair (c.loop-place.invariant.at.place l) c.unrank-a.ensures.place c.circuit_of.ensures c.requires.filled c.in-Some.ensures.here (λ j l. c.in-Some.ensures.before j (omega arith) l) c.loop-place.invariant.all in
     (λ e. cc, λ h. absurd (first.violated (h c.loop-place.s.elements c.unrank-a.result.elements pair)))
 
 pub returns-in-Some-clause-first : goal.returns-in-Some-clause-first
 returns-in-Some-clause-first c =
     let end = c.choose-place-end.ensures.value in
     let test = c.loop-place-test.true in
-    let l : c.loop-place.place < choose c.args.raw.now.elements (c.args.raw.now.rank + 1) = omega (arith, end, test) in
+    let l : c.loop-place._place < choose c.args.raw.now.elements (c.args.raw.now.rank + 1) = omega (arith, end, test) in
     let low = c.requires.rank_low in
     let size = c.unrank-a.ensures.size in
     let pair : IsPair (map_of c.args.raw.now) c.loop-place.s.elements c.unrank-a.result.elements = record { s_list = c.loop-place.invariant.at.list; s_size = c.loop-place.invariant.at.size; a_list = c.unrank-a.ensures.lawful; a_size = omega arith } in
-    found (map_of c.args.raw.now) c.loop-place.s c.unrank-a.result c.loop-place.place c.in-Some.k c.circuit_of.result c.args.cocircuits.now c.loop-place.invariant.at.n_is c.unrank-a.ensures.n pair (c.loop-place.invariant.at.place l) c.unrank-a.ensures.place c.circuit_of.ensures c.requires.filled c.in-Some.ensures.here (λ j l. c.in-Some.ensures.before j (omega arith) l) c.loop-place.invariant.all
+    found (map_of c.args.raw.now) c.loop-place.s c.unrank-a.result c.loop-place._place c.in-Some.k c.circuit_of.result c.args.cocircuits.now c.loop-place.invariant.at.n_is c.unrank-a.ensures.n pair (c.loop-place.invariant.at.place l) c.unrank-a.ensures.place c.circuit_of.ensures c.requires.filled c.in-Some.ensures.here (λ j l. c.in-Some.ensures.before j (omega arith) l) c.loop-place.invariant.all
 
 pub loop-place-preserved : goal.loop-place-preserved
 loop-place-preserved c =
     let end = c.choose-place-end.ensures.value in
     let test = c.loop-place-test.true in
-    let l : c.loop-place.place < choose c.args.raw.now.elements (c.args.raw.now.rank + 1) = omega (arith, end, test) in
+    let l : c.loop-place._place < choose c.args.raw.now.elements (c.args.raw.now.rank + 1) = omega (arith, end, test) in
     record {
-      all = all_held (map_of c.args.raw.now) c.loop-place.s.elements c.loop-place.place c.circuit_of.result c.args.cocircuits.now c.loop-place.invariant.at.list c.loop-place.invariant.at.size (c.loop-place.invariant.at.place l) c.circuit_of.ensures c.requires.filled (λ j l. c.in_default.ensures.none j (omega arith) l) c.loop-place.invariant.all;
-      at = at_next c.args.raw.now.elements (c.args.raw.now.rank + 1) c.loop-place.place c.loop-place.s c.following-s.result c.following-s.ensures.n c.following-s.ensures.size c.following-s.ensures.lawful c.following-s.ensures.place l c.loop-place.invariant.at;
+      all = all_held (map_of c.args.raw.now) c.loop-place.s.elements c.loop-place._place c.circuit_of.result c.args.cocircuits.now c.loop-place.invariant.at.list c.loop-place.invariant.at.size (c.loop-place.invariant.at.place l) c.circuit_of.ensures c.requires.filled (λ j l. c.in_default.ensures.none j (omega arith) l) c.loop-place.invariant.all;
+      at = at_next c.args.raw.now.elements (c.args.raw.now.rank + 1) c.loop-place._place c.loop-place.s c.following-s.result c.following-s.ensures.n c.following-s.ensures.size c.following-s.ensures.lawful c.following-s.ensures.place l c.loop-place.invariant.at;
     }
 
 pub returns-clause-none : goal.returns-clause-none
 returns-clause-none c =
     let end = c.choose-place-end.ensures.value in
     let over = c.loop-place-test.false in
-    (λ e. all_done (map_of c.args.raw.now) c.loop-place.place (omega arith) c.loop-place.invariant.all, λ h. refl)
+    (λ e. all_done (map_of c.args.raw.now) c.loop-place._place (omega arith) c.loop-place.invariant.all, λ h. refl)

@@ -6,6 +6,6 @@ use Rattle.om_chirotope.proofs.scan.scan_each.Given as goal
 
 abbrev pub invariant-loop-place : goal.invariant-loop-place
 invariant-loop-place l = record {
-  all : AllBelow (map_of l.raw) l.place;
-  at : IsAt l.raw.elements (l.raw.rank + 1) l.place l.s;
+  all : AllBelow (map_of l.raw) l._place;
+  at : IsAt l.raw.elements (l.raw.rank + 1) l._place l.s;
 }

@@ -18,11 +18,11 @@ loop-k-preserved c =
     let m = map_of c.args.raw.now in
     let end = c.choose-k-end.ensures.value in
     let test = c.loop-k-test.true in
-    let l : c.loop-k.k < choose m.elements (m.rank - 1) = omega (arith, end, test) in
-    let e : c.cocircuit_of.result ≡ cocircuit_vector m (subset_at m.elements (m.rank - 1) c.loop-k.k) = c.cocircuit_of.ensures ∙ ap (cocircuit_vector m) (list_at m.elements (m.rank - 1) c.loop-k.k c.loop-k.a l c.loop-k.invariant.at) in
+    let l : c.loop-k._k < choose m.elements (m.rank - 1) = omega (arith, end, test) in
+    let e : c.cocircuit_of.result ≡ cocircuit_vector m (subset_at m.elements (m.rank - 1) c.loop-k._k) = c.cocircuit_of.ensures ∙ ap (cocircuit_vector m) (list_at m.elements (m.rank - 1) c.loop-k._k c.loop-k.a l c.loop-k.invariant.at) in
     record {
-      met = below_more _ _ c.loop-k.invariant.met (subst (IsMet m) (e ∙ sym (table_at m c.loop-k.k l)) (c.if-not-is_met.ensures.0 refl));
-      at = at_next m.elements (m.rank - 1) c.loop-k.k c.loop-k.a c.following-a.result c.following-a.ensures.n c.following-a.ensures.size c.following-a.ensures.lawful c.following-a.ensures.place l c.loop-k.invariant.at;
+      met = below_more _ _ c.loop-k.invariant.met (subst (IsMet m) (e ∙ sym (table_at m c.loop-k._k l)) (c.if-not-is_met.ensures.0 refl));
+      at = at_next m.elements (m.rank - 1) c.loop-k._k c.loop-k.a c.following-a.result c.following-a.ensures.n c.following-a.ensures.size c.following-a.ensures.lawful c.following-a.ensures.place l c.loop-k.invariant.at;
     }
 
 pub returns-then-not-is_met : goal.returns-then-not-is_met
@@ -41,5 +41,5 @@ returns c =
     let end = c.choose-k-end.ensures.value in
     let over = c.loop-k-test.false in
     let size = length-table m in
-    let done : length (cocircuit_vectors m) ≤ c.loop-k.k = omega (arith, end, over, size) in
-    (λ t. exchange_of_met m (cocircuit_vectors m) c.loop-k.k refl done c.loop-k.invariant.met, λ ex. refl)
+    let done : length (cocircuit_vectors m) ≤ c.loop-k._k = omega (arith, end, over, size) in
+    (λ t. exchange_of_met m (cocircuit_vectors m) c.loop-k._k refl done c.loop-k.invariant.met, λ ex. refl)

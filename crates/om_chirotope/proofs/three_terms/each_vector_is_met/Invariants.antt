@@ -6,6 +6,6 @@ use Rattle.om_chirotope.proofs.three_terms.each_vector_is_met.Given as goal
 
 abbrev pub invariant-loop-k : goal.invariant-loop-k
 invariant-loop-k l = record {
-  met : (j : ℕ) → j < l.k → IsMet (map_of l.raw) (get_or (cocircuit_vectors (map_of l.raw)) j []);
-  at : IsAt l.raw.elements (l.raw.rank - 1) l.k l.a;
+  met : (j : ℕ) → j < l._k → IsMet (map_of l.raw) (get_or (cocircuit_vectors (map_of l.raw)) j []);
+  at : IsAt l.raw.elements (l.raw.rank - 1) l._k l.a;
 }

@@ -1,9 +1,13 @@
 use Rattle.std.proofs.Common.{refl, arith, sym, ◌∙◌}
 use Rattle.std.proofs.lemmas.Bool.{false≢true}
 use Rattle.om_chirotope.specs.Map.{IsMap, map_of}
+use Rattle.om_chirotope.proofs.Tables.{table_whole}
 use Rattle.om_chirotope.proofs.Theory.{orthogonal_of_relations}
 use Rattle.om_chirotope.proofs.ThreeTerms.{relations_of_test, test_of_orthogonal}
 use Rattle.om_chirotope.proofs.three_terms.meets_test.Goals as goal
+
+pub has_relations-requires-clause-filled : goal.has_relations-requires-clause-filled
+has_relations-requires-clause-filled c = table_whole (map_of c.args.raw.now) c.args.cocircuits.now c.requires.filled
 
 pub returns-then-has_list_exchange : goal.returns-then-has_list_exchange
 returns-then-has_list_exchange c =

@@ -13,8 +13,8 @@ returns-in_err-test_width-clause-refused c =
     let p = err_from_is_err_and c.from_residual.result c.from_residual.ensures.1 in
     rw (p.1, p.2) (width_cause c.args.c.now.elements (Contains c.args.c.now.members) c.rank_covectors-rank.result c.rank_covectors-rank.ensures.rank c.elements.result c.elements.ensures.value c.in_err-test_width.field-0.0 c.in_err-test_width.ensures.wide)
 
-pub chirotope_of_cocircuits-requires-clause-rank : goal.chirotope_of_cocircuits-requires-clause-rank
-chirotope_of_cocircuits-requires-clause-rank c = rank_of_same c.args.c.now.elements c.in_ok-cocircuits.cocircuits.0.elements (Contains c.args.c.now.members) (IsCovectorOfCocircuits c.in_ok-cocircuits.cocircuits.0) c.rank_covectors-rank.result
+pub chirotope_of_cocircuits-requires : goal.chirotope_of_cocircuits-requires
+chirotope_of_cocircuits-requires c = rank_of_same c.args.c.now.elements c.in_ok-cocircuits.cocircuits.0.elements (Contains c.args.c.now.members) (IsCovectorOfCocircuits c.in_ok-cocircuits.cocircuits.0) c.rank_covectors-rank.result
     c.in_ok-cocircuits.ensures.elements c.in_ok-cocircuits.ensures.same c.rank_covectors-rank.ensures.rank
 
 pub returns-clause-covectors : goal.returns-clause-covectors

@@ -7,6 +7,6 @@ use Rattle.om_convert.proofs.vectors.all_circuits.Given as goal
 
 abbrev pub invariant-loop-k : goal.invariant-loop-k
 invariant-loop-k l = record {
-  gathered : AreAllOf (IsOfPlace (circuit_vector l.chi) l.chi.elements (l.chi.rank + 1) l.k) l.circuits;
-  at : IsAt l.chi.elements (l.chi.rank + 1) l.k l.s;
+  gathered : AreAllOf (IsOfPlace (circuit_vector l.chi) l.chi.elements (l.chi.rank + 1) l._k) l.circuits;
+  at : IsAt l.chi.elements (l.chi.rank + 1) l._k l.s;
 }

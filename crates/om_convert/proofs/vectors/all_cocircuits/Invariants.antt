@@ -7,6 +7,6 @@ use Rattle.om_convert.proofs.vectors.all_cocircuits.Given as goal
 
 abbrev pub invariant-loop-k : goal.invariant-loop-k
 invariant-loop-k l = record {
-  gathered : AreAllOf (IsOfPlace (cocircuit_vector l.chi) l.chi.elements (l.chi.rank - 1) l.k) l.cocircuits;
-  at : IsAt l.chi.elements (l.chi.rank - 1) l.k l.a;
+  gathered : AreAllOf (IsOfPlace (cocircuit_vector l.chi) l.chi.elements (l.chi.rank - 1) l._k) l.cocircuits;
+  at : IsAt l.chi.elements (l.chi.rank - 1) l._k l.a;
 }

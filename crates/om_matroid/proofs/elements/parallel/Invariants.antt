@@ -6,8 +6,8 @@ use Rattle.om_matroid.proofs.elements.parallel.Given as goal
 
 abbrev pub invariant-loop-k : goal.invariant-loop-k
 invariant-loop-k l = record {
-  first : IsTrue l.first ↔ IsSeenBefore l.chi l.e l.k;
-  second : IsTrue l.second ↔ IsSeenBefore l.chi l.f l.k;
-  apart : l.e ≢ l.f → HasNoneBefore (HasBoth l.chi l.e l.f) l.chi.elements l.chi.rank l.k;
-  at : IsAt l.chi.elements l.chi.rank l.k l.b;
+  first : IsTrue l.first ↔ IsSeenBefore l.chi l.e l._k;
+  second : IsTrue l.second ↔ IsSeenBefore l.chi l.f l._k;
+  apart : l.e ≢ l.f → HasNoneBefore (HasBoth l.chi l.e l.f) l.chi.elements l.chi.rank l._k;
+  at : IsAt l.chi.elements l.chi.rank l._k l.b;
 }

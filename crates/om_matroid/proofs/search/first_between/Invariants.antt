@@ -5,6 +5,6 @@ use Rattle.om_matroid.proofs.search.first_between.Given as goal
 
 abbrev pub invariant-loop-k : goal.invariant-loop-k
 invariant-loop-k l = record {
-  none : HasNoneBefore (IsBasisBetween l.chi l.inside.elements l.outside.elements) l.chi.elements l.chi.rank l.k;
-  at : IsAt l.chi.elements l.chi.rank l.k l.b;
+  none : HasNoneBefore (IsBasisBetween l.chi l.inside.elements l.outside.elements) l.chi.elements l.chi.rank l._k;
+  at : IsAt l.chi.elements l.chi.rank l._k l.b;
 }

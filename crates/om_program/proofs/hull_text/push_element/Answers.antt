@@ -8,9 +8,9 @@ use Rattle.om_program.proofs.hull_text.push_element.Goals as goal
 pub returns : goal.returns
 returns c = on_ok_weaker c.push_line_feed.result (λ last.
     last
-    ∙ ap (λ y. y ++ 10 ∷ []) (c.in_ok-push_vector.ensures
-    ∙ ap (λ y. y ++ signs_text c.args.x) (c.in_ok-push-3.ensures
-    ∙ ap (λ y. y ++ 32 ∷ []) (c.in_ok-push_decimal.ensures
-    ∙ ap (λ y. y ++ decimal c.args.e) (c.in_ok-push-2.ensures
-    ∙ ap (λ y. y ++ 32 ∷ []) c.in_ok-push.ensures))))
-    ∙ element_pushed c.args.text.now.items c.args.word.now (decimal c.args.e) (signs_text c.args.x)) c.push_line_feed.ensures
+    ∙ ap (λ y. y ++ 10 ∷ []) (c.in_ok-push_vector.ensures.ok
+    ∙ ap (λ y. y ++ signs_text c.args.x) (c.in_ok-push-3.ensures.ok
+    ∙ ap (λ y. y ++ 32 ∷ []) (c.in_ok-push_decimal.ensures.ok
+    ∙ ap (λ y. y ++ decimal c.args.e) (c.in_ok-push-2.ensures.ok
+    ∙ ap (λ y. y ++ 32 ∷ []) c.in_ok-push.ensures.ok))))
+    ∙ element_pushed c.args.text.now.items c.args.word.now (decimal c.args.e) (signs_text c.args.x)) c.push_line_feed.ensures.ok

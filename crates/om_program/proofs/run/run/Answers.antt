@@ -32,6 +32,9 @@ returns-in-Err-clause-cut g c = λ cut. cut_off (Means _) _ _ _ _ (usage_meant _
 no_value : {A E : Type 0} (e : E) (a : A) → ◌≡◌ {A = Result A E} (Err e) (Ok a) → ⊥
 no_value e a same = cc
 
+pub returns-in-Ok-clause-reading : goal.returns-in-Ok-clause-reading
+returns-in-Ok-clause-reading g c = λ fault. (c.in-Ok.task, ((c.in-Ok.ensures.task c.in-Ok.task).0 refl, c.carry_out.ensures.reading fault))
+
 pub returns-in-Err-clause-only : goal.returns-in-Err-clause-only
 returns-in-Err-clause-only g c = λ is command. no_value _ _ ((c.in-Err.ensures.task command.0).1 command.1)
 

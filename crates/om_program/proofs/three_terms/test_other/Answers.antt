@@ -4,7 +4,7 @@ use Rattle.om_program.specs.ThreeTermTests.{refused, no_map}
 use Rattle.om_program.proofs.three_terms.test_other.Goals as goal
 
 pub returns-in-Ok : goal.returns-in-Ok
-returns-in-Ok g c = rw c.no_map_line.ensures (no_map c.requires.no_map c.in-Ok.ensures.accepted)
+returns-in-Ok g c = no_map c.requires.no_map c.in-Ok.ensures.accepted
 
 pub returns-in-Err-Refused : goal.returns-in-Err-Refused
 returns-in-Err-Refused g c = rw c.in-Err-Refused.why-is (refused _ c.requires.no_map (subst (IsRefusal c.args.document.elements c.args.document.body) c.in-Err-Refused.field-0-is c.in-Err-Refused.ensures.refused))

@@ -1,4 +1,3 @@
-use Rattle.std.proofs.Common.{◌≡◌, ◌-◌, ◌≤◌, ◌∙◌, ap, sym, subst}
 use Rattle.std.proofs.lemmas.Result.{IfOk-weaker}
 use Rattle.om_chirotope.specs.Map.{SignMap}
 use Rattle.om_denotation.specs.Circuits.{IsCircuitOfChirotope}
@@ -7,20 +6,12 @@ use Rattle.om_denotation.specs.Denotation.{DenoteTheSame}
 use Rattle.om_denotation.specs.Listings.{AreAllOf}
 use Rattle.om_denotation.specs.Maps.{IsNormalFormOf}
 use Rattle.om_denotation.specs.Dual.{dual_of}
-use Rattle.om_signs.specs.declared.limits.TheConstants.{MAX_VALUES}
-use Rattle.om_subsets.specs.Subsets.{choose}
 use Rattle.om_propagation.proofs.MeetingLaws.{has_circuits}
-use Rattle.om_propagation.proofs.RankLaws.{rank_of_dual, choose_dual}
+use Rattle.om_propagation.proofs.RankLaws.{rank_of_dual}
 use Rattle.om_propagation.proofs.propagation.chirotope_of_circuits.Goals as goal
 
-pub chirotope_of-requires-clause-rank : goal.chirotope_of-requires-clause-rank
-chirotope_of-requires-clause-rank c = rank_of_dual c.args.c.now.0 c.args.rank c.requires.part c.requires.rank c.elements.result c.elements.ensures.value
-
-pub chirotope_of-requires-clause-narrow : goal.chirotope_of-requires-clause-narrow
-chirotope_of-requires-clause-narrow c =
-    let same : choose c.args.c.now.0.elements (c.elements.result - c.args.rank) ≡ choose c.args.c.now.0.elements c.args.rank =
-    ap (λ n. choose c.args.c.now.0.elements (n - c.args.rank)) c.elements.ensures.value ∙ choose_dual c.args.c.now.0.elements c.args.rank c.requires.part in
-    subst (λ k. k ≤ MAX_VALUES) (sym same) c.requires.narrow
+pub chirotope_of-requires : goal.chirotope_of-requires
+chirotope_of-requires c = rank_of_dual c.args.c.now.0 c.args.rank c.requires.part c.requires.rank c.elements.result c.elements.ensures.value
 
 pub returns-clause-circuits : goal.returns-clause-circuits
 returns-clause-circuits c =

@@ -9,8 +9,8 @@ use Rattle.om_propagation.specs.Hitting.{IsNormalOf}
 use Rattle.om_propagation.proofs.MeetingLaws.{denotes}
 use Rattle.om_propagation.proofs.propagation.chirotope_of_cocircuits.Goals as goal
 
-pub chirotope_of-requires-clause-rank : goal.chirotope_of-requires-clause-rank
-chirotope_of-requires-clause-rank c = λ m h. sym (c.requires.rank.each m h.axioms h.elements (denotes c.args.c.now.0 m h))
+pub chirotope_of-requires : goal.chirotope_of-requires
+chirotope_of-requires c = λ m h. sym (c.requires.each m h.axioms h.elements (denotes c.args.c.now.0 m h))
 
 pub returns-clause-same : goal.returns-clause-same
 returns-clause-same c =

@@ -4,6 +4,6 @@ use Rattle.om_propagation.proofs.propagation.propagated_map.Given as goal
 
 abbrev pub invariant-loop-k : goal.invariant-loop-k
 invariant-loop-k l = record {
-  made : AreSigns l.elements l.rank l.vectors l.k l.signs;
-  at : IsAt l.elements l.rank l.k l.t;
+  made : AreSigns l.elements l.rank l.vectors l._k l.signs;
+  at : IsAt l.elements l.rank l._k l.t;
 }

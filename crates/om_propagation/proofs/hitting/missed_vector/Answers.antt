@@ -1,7 +1,7 @@
 use Rattle.std.proofs.Common.{arith}
 use Rattle.om_propagation.specs.Hitting.{IsNonzeroOn}
 use Rattle.om_propagation.proofs.MeetingLaws.{met_more, met_all}
-use Rattle.om_propagation.proofs.hitting.first_missed.Goals as goal
+use Rattle.om_propagation.proofs.hitting.missed_vector.Goals as goal
 
 pub loop-y-init : goal.loop-y-init
 loop-y-init c = λ k l. absurd (omega arith)

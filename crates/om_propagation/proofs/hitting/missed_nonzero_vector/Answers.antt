@@ -3,7 +3,7 @@ use Rattle.om_signs.specs.declared.sign.Sign.{Sign}
 use Rattle.om_members.specs.Vectors.{IsZero}
 use Rattle.om_propagation.specs.Hitting.{IsNonzeroOn}
 use Rattle.om_propagation.proofs.MeetingLaws.{met_more, met_all, passed}
-use Rattle.om_propagation.proofs.hitting.first_nonzero_missed.Goals as goal
+use Rattle.om_propagation.proofs.hitting.missed_nonzero_vector.Goals as goal
 
 -- met where it isn't zero
 abbrev IsMetUnlessZero : List ℕ → List Sign → Type 0
