@@ -1,8 +1,8 @@
-//! Signs and sign vectors of two places, worked out by hand. The order of vectors of one length is a row of `dual`; lists are used in
-//! every row.
+//! Signs, sign vectors of two places, and lists, worked out by hand. The order of vectors of one length is a row of `dual`.
 
 use om_samples::vector_of;
-use om_signs::Sign;
+use om_signs::{List, NoMemory, Sign};
+use std::alloc::Global;
 
 #[test]
 fn signs(rt: HostRuntime) {
@@ -82,4 +82,42 @@ fn pairs(rt: HostRuntime) {
 fn order_of_a_shorter_vector(rt: HostRuntime) {
     let short = vector_of(1, "0");
     assert!(rt; [short < vector_of(2, "0-"), vector_of(2, "-+") < short] == [true; 2]);
+}
+
+/// Whether there is a list, which has the byte 1 alone.
+fn is_one(bytes: Result<List<u8>, NoMemory>) -> bool {
+    match &bytes {
+        Ok(bytes) => bytes.as_slice() == [1].as_slice(),
+        Err(_) => false,
+    }
+}
+
+/// Puts a byte in the place of the first, where there is one.
+fn set_first(bytes: &mut List<u8>, byte: u8) {
+    if bytes.len() > 0 {
+        bytes.set(0, byte);
+    }
+}
+
+/// Whether 1 was put into a list, was turned into 3 and 2 put behind it; a copy made before has 1 alone; and an empty list is made.
+fn are_kept(alloc: Global) -> [bool; 5] {
+    let mut bytes: List<u8> = List::new(alloc);
+    let first = bytes.push(1).is_ok();
+    let copied = is_one(bytes.copy());
+    set_first(&mut bytes, 3);
+    let second = bytes.push(2).is_ok();
+    let numbers: List<u32> = bytes.empty_like();
+    [
+        first,
+        copied,
+        second,
+        bytes.as_slice() == [3, 2].as_slice(),
+        numbers.len() == 0,
+    ]
+}
+
+// the copy keeps what the list had
+#[test]
+fn lists(rt: HostRuntime) {
+    assert!(rt; are_kept(rt.alloc()) == [true; 5]);
 }
