@@ -11,7 +11,6 @@ mod claim;
 mod claim_reader;
 mod field;
 mod fields;
-mod kind;
 mod laws;
 mod line;
 mod numbers;
@@ -23,8 +22,8 @@ mod verdict_lines;
 
 pub use claim::Claim;
 pub use claim_reader::read_claim;
-pub use kind::Kind;
 pub use laws::{bytes_have_one_reading, claims_begin_as_bytes};
 pub use line::Line;
+pub use om_text::Kind;
 pub use texts::print_line;
 pub use verdict::print_verdict;

@@ -12,13 +12,13 @@ use Rattle.om_text.specs.declared.document.Document.{Document}
 use Rattle.om_answer.specs.declared.claim.Claim.{Claim}
 use Rattle.om_answer.specs.declared.line.Line.{Line}
 use Rattle.om_answer.specs.declared.line.Line.TheVariants as line
-use Rattle.om_program.specs.declared.unchosen.Unchosen.{Unchosen}
-use Rattle.om_program.specs.declared.unchosen.Unchosen.TheVariants as unchosen
-use Rattle.om_program.specs.Axioms.{MeetsAxioms, IsFlatDocument}
-use Rattle.om_program.specs.Chirotopes.{IsChirotopeOf}
+use Rattle.om_representation.specs.declared.unchosen.Unchosen.{Unchosen}
+use Rattle.om_representation.specs.declared.unchosen.Unchosen.TheVariants as unchosen
+use Rattle.om_representation.specs.Axioms.{MeetsAxioms, IsFlatDocument}
+use Rattle.om_representation.specs.Chirotopes.{IsChirotopeOf}
 use Rattle.om_program.specs.Claims.{VerdictMeans, other_rank, limited, ClaimMeans, verified}
-use Rattle.om_program.specs.Documents.{worked_on}
-use Rattle.om_program.specs.Widths.{IsUnchosen, IsRankLine}
+use Rattle.om_representation.specs.Documents.{worked_on}
+use Rattle.om_representation.specs.Widths.{IsUnchosen, IsRankLine}
 
 no_err : (e : Evidence) (w : Verdict) → Ok e ≡ Err w → ⊥
 no_err e w same = cc

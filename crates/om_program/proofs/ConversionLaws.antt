@@ -30,20 +30,21 @@ use Rattle.om_text.specs.declared.document.Document.{Document}
 use Rattle.om_text.specs.declared.body.Body.{Body}
 use Rattle.om_text.specs.declared.body.Body.TheVariants as body
 use Rattle.om_text.specs.Form.{IsInForm}
-use Rattle.om_answer.specs.declared.kind.Kind.{Kind}
-use Rattle.om_answer.specs.declared.kind.Kind.TheVariants as kind
+use Rattle.om_text.specs.declared.kinds.Kind.{Kind}
+use Rattle.om_text.specs.declared.kinds.Kind.TheVariants as kind
+use Rattle.om_answer.specs.declared.line.Line.{Line}
 use Rattle.om_answer.specs.declared.line.Line.TheVariants as line
 use Rattle.om_program.specs.declared.answer.Answer.{Answer}
-use Rattle.om_program.specs.declared.representation.Representation.{Representation}
-use Rattle.om_program.specs.declared.representation.Representation.TheVariants as representation
-use Rattle.om_program.specs.declared.unchosen.Unchosen.{Unchosen}
-use Rattle.om_program.specs.declared.unchosen.Unchosen.TheVariants as unchosen
-use Rattle.om_program.specs.Axioms.{MeetsAxioms}
-use Rattle.om_program.specs.Chirotopes.{IsChirotopeOf, IsNormalChirotopeOf}
-use Rattle.om_program.specs.Covectors.{IsCovectorIn}
-use Rattle.om_program.specs.Documents.{document_of, map_document, circuits_document, cocircuits_document, covectors_document}
+use Rattle.om_representation.specs.declared.representation.Representation.{Representation}
+use Rattle.om_representation.specs.declared.representation.Representation.TheVariants as representation
+use Rattle.om_representation.specs.declared.unchosen.Unchosen.{Unchosen}
+use Rattle.om_representation.specs.declared.unchosen.Unchosen.TheVariants as unchosen
+use Rattle.om_representation.specs.Axioms.{MeetsAxioms}
+use Rattle.om_representation.specs.Chirotopes.{IsChirotopeOf, IsNormalChirotopeOf}
+use Rattle.om_representation.specs.Covectors.{IsCovectorIn}
+use Rattle.om_representation.specs.Documents.{document_of, map_document, circuits_document, cocircuits_document, covectors_document}
 use Rattle.om_program.specs.Answers.{says, shows}
-use Rattle.om_program.specs.Widths.{IsList, IsKept, IsUnchosen, IsWidthAnswer}
+use Rattle.om_representation.specs.Widths.{IsList, IsKept, IsUnchosen, IsWidthLine}
 use Rattle.om_program.specs.Conversions.{has_kind, IsMemberOf, HasExactly, IsConversion, IsConversionFrom, itself, wide, limited, converted, is_direct, IsKeptAs, IsUnlisted}
 
 -- ---- the chirotope of a representation
@@ -76,9 +77,9 @@ own_converted k d e own same form = subst (λ u. IsConversion k d (shows u)) (sy
 kept_as : (k : Kind) (d : Document) → IsKept d → IsKeptAs k d
 kept_as k d narrow values (way, is) = narrow values is
 
-pub wide_answered : (k : Kind) (d : Document) (why : Unchosen) (a : Answer) → has_kind k d.body ≡ false → is_direct k d.body ≡ false → IsUnchosen d why → IsWidthAnswer why a → IsConversion k d a
-wide_answered k d (unchosen.TooWide rank values) a other way is same = subst (IsConversion k d) (sym same) (wide values other (way, is.width))
-wide_answered k d unchosen.Memory a other way is none = absurd none
+pub wide_answered : (k : Kind) (d : Document) (why : Unchosen) (l : Line) → has_kind k d.body ≡ false → is_direct k d.body ≡ false → IsUnchosen d why → IsWidthLine why l → IsConversion k d (says l)
+wide_answered k d (unchosen.TooWide rank values) l other way is same = subst (λ x. IsConversion k d (says x)) (sym same) (wide values other (way, is.width))
+wide_answered k d unchosen.Memory l other way is none = absurd none
 
 list_is_no_map : (b : Body) → IsList b → has_kind kind.Chirotope b ≡ false
 list_is_no_map (body.Chirotope m) list = absurd list
@@ -88,9 +89,9 @@ list_is_no_map (body.Covectors members) list = refl
 list_is_no_map (body.Wiring blocks) list = absurd list
 list_is_no_map (body.Points points) list = absurd list
 
-pub wide_chirotope : (d : Document) (why : Unchosen) (a : Answer) → IsUnchosen d why → IsWidthAnswer why a → IsConversion kind.Chirotope d a
-wide_chirotope d (unchosen.TooWide rank values) a is same = wide_answered kind.Chirotope d (unchosen.TooWide rank values) a (list_is_no_map d.body is.width.list) refl is same
-wide_chirotope d unchosen.Memory a is none = absurd none
+pub wide_chirotope : (d : Document) (why : Unchosen) (l : Line) → IsUnchosen d why → IsWidthLine why l → IsConversion kind.Chirotope d (says l)
+wide_chirotope d (unchosen.TooWide rank values) l is same = wide_answered kind.Chirotope d (unchosen.TooWide rank values) l (list_is_no_map d.body is.width.list) refl is same
+wide_chirotope d unchosen.Memory l is none = absurd none
 
 -- ---- a document as a chirotope
 

@@ -15,16 +15,17 @@ use Rattle.om_decide.proofs.VerdictLaws.{verdict_shown}
 use Rattle.om_text.specs.declared.document.Document.{Document}
 use Rattle.om_answer.specs.declared.line.Line.{Line}
 use Rattle.om_program.specs.declared.answer.Answer.{Answer}
-use Rattle.om_program.specs.declared.representation.Representation.{Representation}
-use Rattle.om_program.specs.declared.unchosen.Unchosen.{Unchosen}
+use Rattle.om_representation.specs.declared.representation.Representation.{Representation}
+use Rattle.om_representation.specs.declared.unchosen.Unchosen.{Unchosen}
 use Rattle.om_program.specs.Answers.{says, IsReply}
-use Rattle.om_program.specs.Chirotopes.{IsChirotopeOf}
-use Rattle.om_program.specs.Documents.{document_of}
+use Rattle.om_representation.specs.Chirotopes.{IsChirotopeOf}
+use Rattle.om_representation.specs.Documents.{document_of}
 use Rattle.om_program.specs.Represented.{IsMeantFor}
 use Rattle.om_program.specs.RankThree.{IsForChirotope, for_chirotope}
-use Rattle.om_program.specs.Widths.{IsUnchosen, IsRankLine}
+use Rattle.om_representation.specs.Widths.{IsUnchosen, IsRankLine}
 use Rattle.om_program.specs.Decisions.{IsDecided, DecisionMeans, other_rank, decided, IsDecision, of_chirotope}
-use Rattle.om_program.proofs.WidthLaws.{few_of_rank3, rank_refused}
+use Rattle.om_representation.proofs.WidthLaws.{few_of_rank3}
+use Rattle.om_program.proofs.ChoiceLaws.{rank_refused}
 
 -- ---- a verdict on a chirotope
 

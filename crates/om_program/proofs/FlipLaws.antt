@@ -12,17 +12,17 @@ use Rattle.om_mutate.specs.declared.flip_refused.FlipRefused.TheVariants as why
 use Rattle.om_mutate.specs.Refusals.{IsRefusal}
 use Rattle.om_answer.specs.declared.line.Line.{Line}
 use Rattle.om_answer.specs.declared.line.Line.TheVariants as line
-use Rattle.om_program.specs.declared.representation.Representation.{Representation}
-use Rattle.om_program.specs.declared.unchosen.Unchosen.{Unchosen}
-use Rattle.om_program.specs.declared.unchosen.Unchosen.TheVariants as unchosen
+use Rattle.om_representation.specs.declared.representation.Representation.{Representation}
+use Rattle.om_representation.specs.declared.unchosen.Unchosen.{Unchosen}
+use Rattle.om_representation.specs.declared.unchosen.Unchosen.TheVariants as unchosen
 use Rattle.om_program.specs.Answers.{says}
-use Rattle.om_program.specs.Documents.{document_of}
+use Rattle.om_representation.specs.Documents.{document_of}
 use Rattle.om_program.specs.Operations.{first_above}
 use Rattle.om_program.specs.Flips.{triple_of, flip_refusal, IsFlipOfMap, outside, other_rank, no_basis, no_mutation}
 use Rattle.om_program.specs.RankThree.{IsForChirotope, for_chirotope}
-use Rattle.om_program.specs.Widths.{IsUnchosen, IsRankLine}
+use Rattle.om_representation.specs.Widths.{IsUnchosen, IsRankLine}
 use Rattle.om_program.proofs.ConversionLaws.{elements_of}
-use Rattle.om_program.proofs.WidthLaws.{rank_refused}
+use Rattle.om_program.proofs.ChoiceLaws.{rank_refused}
 
 pub within_of_none : (n a b c : ℕ) → first_above n (triple_of a b c) ≡ None → c ≤ n
 within_of_none n a b c none = elim (cases_lt n c) [

@@ -1,5 +1,6 @@
 mod AboveLaws
 mod BehindLaws
+mod ChoiceLaws
 mod ClaimLaws
 mod CompletenessLaws
 mod ConversionLaws
@@ -12,11 +13,9 @@ mod MadeLaws
 mod MeaningLaws
 mod MutationLaws
 mod OperationLaws
-mod PointLaws
 mod RankThreeLaws
 mod ReachLaws
 mod ReplyLaws
 mod SweepLaws
 mod UpgradeLaws
 mod ValidClaimLaws
-mod WidthLaws

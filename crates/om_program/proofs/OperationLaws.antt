@@ -24,14 +24,14 @@ use Rattle.om_text.specs.Form.{IsInForm}
 use Rattle.om_answer.specs.declared.line.Line.TheVariants as line
 use Rattle.om_program.specs.declared.operation.Operation.{Operation}
 use Rattle.om_program.specs.declared.operation.Operation.TheVariants as operation
-use Rattle.om_program.specs.declared.representation.Representation.{Representation}
-use Rattle.om_program.specs.declared.representation.Representation.TheVariants as representation
+use Rattle.om_representation.specs.declared.representation.Representation.{Representation}
+use Rattle.om_representation.specs.declared.representation.Representation.TheVariants as representation
 use Rattle.om_program.specs.declared.unmade.Unmade.{Unmade}
-use Rattle.om_program.specs.Axioms.{MeetsAxioms}
-use Rattle.om_program.specs.Documents.{map_document, covectors_document, document_of}
+use Rattle.om_representation.specs.Axioms.{MeetsAxioms}
+use Rattle.om_representation.specs.Documents.{map_document, covectors_document, document_of}
 use Rattle.om_program.specs.Operations.{IsOperation, IsMapMade, IsOutcome, HasTooManyMade, IsTooWideToMake, IsKeptToMake, TakesOnly, named_elements, first_above, of_conversion, wide, limited, made}
 use Rattle.om_program.specs.Answers.{says, shows}
-use Rattle.om_program.proofs.WidthLaws.{kept_covectors, too_wide_covectors}
+use Rattle.om_representation.proofs.WidthLaws.{kept_covectors, too_wide_covectors}
 
 -- ---- a chirotope
 

@@ -9,7 +9,7 @@ use Rattle.om_chirotope.specs.Map.{SignMap}
 use Rattle.om_text.specs.declared.document.Document.{Document}
 use Rattle.om_program.specs.declared.answer.Answer.{Answer}
 use Rattle.om_program.specs.Answers.{IsReply}
-use Rattle.om_program.specs.Chirotopes.{IsChirotopeOf}
+use Rattle.om_representation.specs.Chirotopes.{IsChirotopeOf}
 use Rattle.om_program.specs.RankThree.{IsForChirotope, for_chirotope}
 use Rattle.om_program.specs.Sweeps as sweeps
 use Rattle.om_program.specs.MutationLists as mutations

@@ -15,7 +15,7 @@ use Rattle.om_program.specs.Paintings as paintings
 use Rattle.om_program.specs.Hulls as hulls
 use Rattle.om_words.specs.Tasks.{given_list}
 use Rattle.om_program.specs.LexicalExtensions as extensions
-use Rattle.om_program.proofs.WidthLaws.{kept_replies}
+use Rattle.om_program.proofs.ChoiceLaws.{kept_replies}
 
 painted_replies : (item : Painted) → IsReply (says (paintings.painted_line item))
 painted_replies (Circuit X) = tt

@@ -27,7 +27,7 @@ use Rattle.om_certificate.specs.declared.evidence.Evidence.{Evidence}
 use Rattle.om_certificate.specs.declared.evidence.Evidence.TheVariants as evidence
 use Rattle.om_certificate.specs.declared.verdict.Verdict.{Verdict}
 use Rattle.om_answer.specs.declared.claim.Claim.{Claim}
-use Rattle.om_answer.specs.declared.kind.Kind.{Kind}
+use Rattle.om_text.specs.declared.kinds.Kind.{Kind}
 use Rattle.om_answer.specs.declared.line.Line.{Line}
 use Rattle.om_program.specs.declared.answer.Answer.{Answer}
 use Rattle.om_program.specs.declared.operation.Operation.{Operation}
@@ -36,7 +36,7 @@ use Rattle.om_words.specs.declared.task.Task.{Task}
 use Rattle.om_words.specs.declared.task.Task.TheVariants.{Accept, Member, Convert, Dual, Delete, Contract, Reorient, Wiring, Mutations, Flip, Extend, Decide, Paint, Hull, Lexext, Threeterm, Upgrade, Check, Make}
 use Rattle.om_program.specs.Statuses.{IsReplied}
 use Rattle.om_program.specs.Answers.{IsReply, status_of_line}
-use Rattle.om_program.specs.Axioms.{MeetsAxiomsOn, IsRefusedOn, set_line, map_line, cov_line, wiring_line}
+use Rattle.om_representation.specs.Axioms.{MeetsAxiomsOn, IsRefusedOn, set_line, map_line, cov_line, wiring_line}
 use Rattle.om_program.specs.Memberships.{IsMembership, wrong_length, covector, not_covector}
 use Rattle.om_program.specs.Conversions.{IsConversion, itself, wide, limited, converted}
 use Rattle.om_program.specs.Operations.{IsOperation, outside, last, made}

@@ -8,8 +8,8 @@ use Rattle.om_text.specs.declared.body.Body.{Body}
 use Rattle.om_text.specs.declared.body.Body.TheVariants as body
 use Rattle.om_text.specs.declared.document.Document.{Document}
 use Rattle.om_program.specs.Answers.{upgrades}
-use Rattle.om_program.specs.Axioms.{MeetsAxiomsOn}
-use Rattle.om_program.specs.Documents.{with_map}
+use Rattle.om_representation.specs.Axioms.{MeetsAxiomsOn}
+use Rattle.om_representation.specs.Documents.{with_map}
 use Rattle.om_program.specs.Upgrades.{IsUpgrade, IsGiven, kept}
 
 -- the document with these parts

@@ -28,7 +28,7 @@ use Rattle.om_program.specs.Decisions.{IsDecided, DecisionMeans, other_rank, dec
 use Rattle.om_program.specs.Meaning.{Means, usage, named, TaskMeans, long, faulty, read, faulty_claim, claimed, alone, DocumentMeans, tested, upgraded, refused, flat, answered}
 use Rattle.om_program.specs.ValidClaims.{IsLimit, IsFoundValid, VerdictsAreFoundValid}
 use Rattle.om_words.proofs.TaskLaws.{named_decide}
-use Rattle.om_program.proofs.WidthLaws.{few_of_rank3}
+use Rattle.om_representation.proofs.WidthLaws.{few_of_rank3}
 
 -- ---- where a verdict comes from
 

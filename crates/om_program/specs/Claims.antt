@@ -15,9 +15,9 @@ use Rattle.om_vectors.specs.declared.unfound.Unfound.{Unfound}
 use Rattle.om_answer.specs.declared.claim.Claim.{Claim}
 use Rattle.om_answer.specs.declared.line.Line.{Line}
 use Rattle.om_answer.specs.declared.line.Line.TheVariants as line
-use Rattle.om_program.specs.Chirotopes.{IsChirotopeOf}
-use Rattle.om_program.specs.Axioms.{MeetsAxioms, IsRefused, IsFlatDocument}
-use Rattle.om_program.specs.Documents.{worked_on}
+use Rattle.om_representation.specs.Chirotopes.{IsChirotopeOf}
+use Rattle.om_representation.specs.Axioms.{MeetsAxioms, IsRefused, IsFlatDocument}
+use Rattle.om_representation.specs.Documents.{worked_on}
 
 -- the line that says what valid evidence proves
 abbrev pub valid_line : Evidence → Line

@@ -13,7 +13,7 @@ use Rattle.om_program.specs.declared.status.Status.{Status}
 use Rattle.om_program.specs.declared.status.Status.TheVariants.{Done, NoMemory}
 use Rattle.om_words.specs.declared.task.Task.{Task}
 use Rattle.om_program.specs.Answers.{says, status_of}
-use Rattle.om_program.specs.Axioms.{MeetsAxioms}
+use Rattle.om_representation.specs.Axioms.{MeetsAxioms}
 use Rattle.om_program.specs.Claims.{ClaimMeans}
 use Rattle.om_program.specs.Meaning.{DocumentMeans}
 use Rattle.om_program.specs.Run.{IsAnswer}

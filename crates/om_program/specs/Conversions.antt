@@ -13,18 +13,18 @@ use Rattle.om_text.specs.declared.document.Document.{Document}
 use Rattle.om_text.specs.declared.body.Body.{Body}
 use Rattle.om_text.specs.declared.body.Body.TheVariants as body
 use Rattle.om_text.specs.Form.{IsInForm}
-use Rattle.om_answer.specs.declared.kind.Kind.{Kind}
-use Rattle.om_answer.specs.declared.kind.Kind.TheVariants as kind
+use Rattle.om_text.specs.declared.kinds.Kind.{Kind}
+use Rattle.om_text.specs.declared.kinds.Kind.TheVariants as kind
 use Rattle.om_answer.specs.declared.line.Line.TheVariants as line
 use Rattle.om_program.specs.declared.answer.Answer.{Answer}
-use Rattle.om_program.specs.declared.representation.Representation.{Representation}
+use Rattle.om_representation.specs.declared.representation.Representation.{Representation}
 use Rattle.om_program.specs.Answers.{says, shows}
-use Rattle.om_program.specs.Axioms.{MeetsAxioms}
-use Rattle.om_program.specs.Chirotopes.{IsChirotopeOf}
-use Rattle.om_program.specs.Covectors.{IsCovectorIn}
-use Rattle.om_program.specs.Documents.{document_of}
+use Rattle.om_representation.specs.Axioms.{MeetsAxioms}
+use Rattle.om_representation.specs.Chirotopes.{IsChirotopeOf}
+use Rattle.om_representation.specs.Covectors.{IsCovectorIn}
+use Rattle.om_representation.specs.Documents.{document_of}
 use Rattle.om_program.specs.Represented.{IsMeantFor}
-use Rattle.om_program.specs.Widths.{IsTooWide, IsKept}
+use Rattle.om_representation.specs.Widths.{IsTooWide, IsKept}
 
 -- whether a body is of a kind
 abbrev pub has_kind : Kind → Body → Bool

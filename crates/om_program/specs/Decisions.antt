@@ -10,7 +10,7 @@ use Rattle.om_text.specs.declared.document.Document.{Document}
 use Rattle.om_answer.specs.declared.line.Line.TheVariants as line
 use Rattle.om_program.specs.declared.answer.Answer.{Answer}
 use Rattle.om_program.specs.Answers.{says, judges}
-use Rattle.om_program.specs.Chirotopes.{IsChirotopeOf}
+use Rattle.om_representation.specs.Chirotopes.{IsChirotopeOf}
 
 -- the verdict on a map of rank 3 by these budgets; the map is a chirotope, and the verdict has the forms and the limits of a claim
 pub record IsDecided (m : SignMap) (b : Budgets) (v : Verdict) : Type 0 where

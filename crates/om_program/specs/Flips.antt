@@ -14,7 +14,7 @@ use Rattle.om_answer.specs.declared.line.Line.TheVariants as line
 use Rattle.om_program.specs.declared.answer.Answer.{Answer}
 use Rattle.om_program.specs.Answers.{says, shows}
 use Rattle.om_program.specs.Operations.{first_above}
-use Rattle.om_program.specs.Documents.{map_document}
+use Rattle.om_representation.specs.Documents.{map_document}
 use Rattle.om_program.specs.RankThree.{IsForChirotope}
 
 -- the list of three elements

@@ -12,7 +12,7 @@ use Rattle.om_text.specs.declared.document.Document.{Document}
 use Rattle.om_answer.specs.declared.line.Line.TheVariants as line
 use Rattle.om_program.specs.declared.answer.Answer.{Answer}
 use Rattle.om_program.specs.Answers.{says, tells}
-use Rattle.om_program.specs.Widths.{IsForKeptChirotope}
+use Rattle.om_program.specs.AnyRank.{IsForKeptChirotope}
 
 -- the hull of a map
 pub data IsHullOfMap (m : SignMap) : Answer → Type 0 where

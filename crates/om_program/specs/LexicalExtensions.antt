@@ -12,10 +12,10 @@ use Rattle.om_program.specs.declared.answer.Answer.{Answer}
 use Rattle.om_words.specs.Tasks.{given_list, elements_of}
 use Rattle.om_words.specs.declared.leading.Leading.{Leading}
 use Rattle.om_program.specs.Answers.{says, shows}
-use Rattle.om_program.specs.Axioms.{MeetsAxioms}
-use Rattle.om_program.specs.Documents.{map_document}
+use Rattle.om_representation.specs.Axioms.{MeetsAxioms}
+use Rattle.om_representation.specs.Documents.{map_document}
 use Rattle.om_program.specs.Operations.{first_above}
-use Rattle.om_program.specs.Widths.{IsForKeptChirotope}
+use Rattle.om_program.specs.AnyRank.{IsForKeptChirotope}
 
 -- the lexicographic extension of a map by elements with signs
 pub data IsExtensionOfMap (list : List Signed) (m : SignMap) : Answer → Type 0 where

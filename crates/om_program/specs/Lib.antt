@@ -5,14 +5,9 @@ pub mod ExtensionTexts
 pub mod HullTexts
 pub mod MadeTexts
 pub mod Answers
-pub mod Points
-pub mod Axioms
-pub mod Covectors
-pub mod Documents
 pub mod Represented
-pub mod Chirotopes
 pub mod RankThree
-pub mod Widths
+pub mod AnyRank
 pub mod Memberships
 pub mod Conversions
 pub mod Operations

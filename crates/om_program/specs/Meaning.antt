@@ -19,12 +19,12 @@ use Rattle.om_words.specs.declared.reads.Reads.TheVariants as source
 use Rattle.om_words.specs.declared.task.Task.{Task}
 use Rattle.om_words.specs.declared.task.Task.TheVariants.{Accept, Member, Convert, Dual, Delete, Contract, Reorient, Wiring, Mutations, Flip, Extend, Decide, Paint, Hull, Lexext, Threeterm, Upgrade, Check, Make}
 use Rattle.om_program.specs.Answers.{says}
-use Rattle.om_program.specs.Axioms.{MeetsAxioms, IsRefused, IsFlatDocument}
+use Rattle.om_representation.specs.Axioms.{MeetsAxioms, IsRefused, IsFlatDocument}
 use Rattle.om_program.specs.Claims.{ClaimMeans}
 use Rattle.om_program.specs.Conversions.{IsConversion}
-use Rattle.om_program.specs.Covectors.{IsCovectorIn}
+use Rattle.om_representation.specs.Covectors.{IsCovectorIn}
 use Rattle.om_program.specs.Decisions.{IsDecision}
-use Rattle.om_program.specs.Documents.{worked_on}
+use Rattle.om_representation.specs.Documents.{worked_on}
 use Rattle.om_program.specs.ExtensionLists.{AreExtensions}
 use Rattle.om_program.specs.Flips.{IsFlip}
 use Rattle.om_program.specs.Hulls.{IsHull}

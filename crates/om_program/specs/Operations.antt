@@ -19,21 +19,21 @@ use Rattle.om_text.specs.declared.body.Body.{Body}
 use Rattle.om_text.specs.declared.body.Body.TheVariants as body
 use Rattle.om_text.specs.Form.{IsInForm}
 use Rattle.om_words.specs.Tasks.{IsElementNumber}
-use Rattle.om_answer.specs.declared.kind.Kind.{Kind}
-use Rattle.om_answer.specs.declared.kind.Kind.TheVariants as kind
+use Rattle.om_text.specs.declared.kinds.Kind.{Kind}
+use Rattle.om_text.specs.declared.kinds.Kind.TheVariants as kind
 use Rattle.om_answer.specs.declared.line.Line.TheVariants as line
 use Rattle.om_program.specs.declared.answer.Answer.{Answer}
 use Rattle.om_program.specs.declared.operation.Operation.{Operation}
 use Rattle.om_program.specs.declared.operation.Operation.TheVariants.{Dual, Delete, Contract, Reorient}
-use Rattle.om_program.specs.declared.representation.Representation.{Representation}
+use Rattle.om_representation.specs.declared.representation.Representation.{Representation}
 use Rattle.om_program.specs.declared.unmade.Unmade.{Unmade}
 use Rattle.om_program.specs.declared.unmade.Unmade.TheVariants as unmade
 use Rattle.om_program.specs.Answers.{says, shows}
-use Rattle.om_program.specs.Axioms.{MeetsAxioms}
+use Rattle.om_representation.specs.Axioms.{MeetsAxioms}
 use Rattle.om_program.specs.Conversions.{has_kind}
-use Rattle.om_program.specs.Covectors.{IsCovectorIn}
-use Rattle.om_program.specs.Documents.{document_of}
-use Rattle.om_program.specs.Widths.{IsTooWide, HasFewValues}
+use Rattle.om_representation.specs.Covectors.{IsCovectorIn}
+use Rattle.om_representation.specs.Documents.{document_of}
+use Rattle.om_representation.specs.Widths.{IsTooWide, HasFewValues}
 
 -- the elements that an operation names, in increasing order
 abbrev pub named_elements : Operation → List ℕ

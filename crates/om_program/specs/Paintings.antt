@@ -12,7 +12,7 @@ use Rattle.om_answer.specs.declared.line.Line.TheVariants as line
 use Rattle.om_program.specs.declared.answer.Answer.{Answer}
 use Rattle.om_words.specs.declared.colouring.Colouring.{Colouring}
 use Rattle.om_program.specs.Answers.{says}
-use Rattle.om_program.specs.Widths.{IsForKeptChirotope}
+use Rattle.om_program.specs.AnyRank.{IsForKeptChirotope}
 
 -- the given colours
 abbrev pub given_colours : Colouring → List Colour

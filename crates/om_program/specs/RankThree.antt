@@ -3,7 +3,7 @@
 use Rattle.om_chirotope.specs.Map.{SignMap}
 use Rattle.om_text.specs.declared.document.Document.{Document}
 use Rattle.om_program.specs.declared.answer.Answer.{Answer}
-use Rattle.om_program.specs.Chirotopes.{IsChirotopeOf}
+use Rattle.om_representation.specs.Chirotopes.{IsChirotopeOf}
 
 -- the answer has this meaning for the chirotope of the document
 pub data IsForChirotope (Meaning : SignMap → Answer → Type 0) (d : Document) : Answer → Type 0 where

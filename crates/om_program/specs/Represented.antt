@@ -1,8 +1,8 @@
 -- What is said of an oriented matroid that a document gives.
 use Rattle.om_text.specs.declared.document.Document.{Document}
 use Rattle.om_program.specs.declared.answer.Answer.{Answer}
-use Rattle.om_program.specs.declared.representation.Representation.{Representation}
-use Rattle.om_program.specs.Documents.{document_of}
+use Rattle.om_representation.specs.declared.representation.Representation.{Representation}
+use Rattle.om_representation.specs.Documents.{document_of}
 
 -- the answer has this meaning for the document of the representation
 abbrev pub IsMeantFor : (Document → Answer → Type 0) → Representation → Answer → Type 0

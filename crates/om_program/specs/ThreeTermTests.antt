@@ -15,7 +15,7 @@ use Rattle.om_answer.specs.declared.line.Line.{Line}
 use Rattle.om_answer.specs.declared.line.Line.TheVariants as line
 use Rattle.om_program.specs.declared.answer.Answer.{Answer}
 use Rattle.om_program.specs.Answers.{says}
-use Rattle.om_program.specs.Axioms.{MeetsAxioms, IsRefused}
+use Rattle.om_representation.specs.Axioms.{MeetsAxioms, IsRefused}
 
 -- the line that names the first part of the test that fails
 abbrev pub failure_line : ThreeRefused → Line

@@ -6,7 +6,7 @@ use Rattle.om_text.specs.declared.document.Document.{Document}
 use Rattle.om_answer.specs.declared.line.Line.{Line}
 use Rattle.om_program.specs.declared.answer.Answer.{Answer}
 use Rattle.om_program.specs.Answers.{says, upgrades}
-use Rattle.om_program.specs.Axioms.{MeetsAxioms, IsRefused}
+use Rattle.om_representation.specs.Axioms.{MeetsAxioms, IsRefused}
 
 -- what the upgrade of a document is
 pub data IsUpgrade (d : Document) : Answer → Type 0 where

@@ -3,9 +3,9 @@
 ghost use Rattle.std.specs.Prelude.{◌≡◌, ◌≢◌, ◌≤◌, IfOk, List, length, ℕ};
 ghost use Rattle.om_text.specs.Form.{IsInForm};
 ghost use Rattle.om_program.specs.Meaning.{TaskMeans, DocumentMeans, IsAnswerOf, flat_line};
-ghost use Rattle.om_program.specs.Documents.{document_of};
+ghost use Rattle.om_representation.specs.Documents.{document_of};
 ghost use Rattle.om_program.specs.Represented.{IsMeantFor};
-ghost use Rattle.om_program.specs.Widths.{HasFewValues};
+ghost use Rattle.om_representation.specs.Widths.{HasFewValues};
 ghost use Rattle.om_words.specs.Tasks.{HasLawfulArguments, reads};
 
 use super::answer::Answer;
@@ -20,13 +20,12 @@ use super::membership::find_membership;
 use super::mutation_list::list_mutations;
 use super::operation::{Operation, operate};
 use super::painting::find_painting;
-use super::representation::{Representation, represent};
 use super::sweeping::find_wiring;
 use super::three_terms::test_three_terms;
-use super::unrepresented::Unrepresented;
 use super::upgrading::upgrade;
 use super::verification::verify;
 use om_answer::{Line, read_claim};
+use om_representation::{Representation, Unrepresented, represent};
 use om_signs::{MAX_INPUT, NoMemory};
 use om_text::{Document, ParseError, parse};
 use om_words::{Reads, Task};

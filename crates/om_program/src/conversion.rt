@@ -1,15 +1,12 @@
 //! Documents of one kind as documents of another.
 
 ghost use Rattle.std.specs.Prelude.{◌≡◌, IfOk};
-ghost use Rattle.om_program.specs.Documents.{document_of};
+ghost use Rattle.om_representation.specs.Documents.{document_of};
 ghost use Rattle.om_program.specs.Represented.{IsMeantFor};
-ghost use Rattle.om_program.specs.Widths.{HasFewValues};
+ghost use Rattle.om_representation.specs.Widths.{HasFewValues};
 ghost use Rattle.om_program.specs.Conversions.{IsConversion, IsConversionFrom, IsUnlisted};
 
 use super::answer::Answer;
-use super::chirotope_choice::choose_chirotope;
-use super::documents::{circuits_document, cocircuits_document, covectors_document, map_document};
-use super::representation::Representation;
 use om_answer::{Kind, Line};
 use om_chirotope::Chirotope;
 use om_convert::{
@@ -17,6 +14,10 @@ use om_convert::{
     covectors_to_cocircuits,
 };
 use om_covectors::Covectors;
+use om_representation::{
+    Representation, choose_chirotope, circuits_document, cocircuits_document, covectors_document,
+    map_document,
+};
 use om_signs::NoMemory;
 use std::alloc::Global;
 
@@ -46,7 +47,7 @@ fn to_chirotope(alloc: Global, representation: Representation) -> Result<Answer,
 {
     match choose_chirotope(alloc, representation) {
         Ok(chirotope) => Ok(Answer::Document(map_document(alloc, chirotope))),
-        Err(why) => why.width_answer(),
+        Err(why) => Ok(Answer::Line(why.width_line()?)),
     }
 }
 
@@ -62,7 +63,7 @@ fn to_circuits(alloc: Global, representation: Representation) -> Result<Answer, 
         Representation::Cocircuits(_) | Representation::Covectors(_) => {
             match choose_chirotope(alloc, representation) {
                 Ok(chirotope) => list_circuits(alloc, &chirotope),
-                Err(why) => why.width_answer(),
+                Err(why) => Ok(Answer::Line(why.width_line()?)),
             }
         }
     }
@@ -91,7 +92,7 @@ fn to_cocircuits(alloc: Global, representation: Representation) -> Result<Answer
         Representation::Chirotope(chirotope) => list_cocircuits(alloc, &chirotope),
         Representation::Circuits(_) => match choose_chirotope(alloc, representation) {
             Ok(chirotope) => list_cocircuits(alloc, &chirotope),
-            Err(why) => why.width_answer(),
+            Err(why) => Ok(Answer::Line(why.width_line()?)),
         },
     }
 }
@@ -119,7 +120,7 @@ fn to_covectors(alloc: Global, representation: Representation) -> Result<Answer,
         Representation::Circuits(_) | Representation::Cocircuits(_) => {
             match choose_chirotope(alloc, representation) {
                 Ok(chirotope) => list_covectors(alloc, &chirotope),
-                Err(why) => why.width_answer(),
+                Err(why) => Ok(Answer::Line(why.width_line()?)),
             }
         }
     }

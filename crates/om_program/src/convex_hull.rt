@@ -5,11 +5,10 @@ ghost use Rattle.om_program.specs.Hulls.{IsCyclicAnswer, IsHull, IsHullOfMap};
 ghost use Rattle.om_program.specs.Represented.{IsMeantFor};
 
 use super::answer::Answer;
-use super::chirotope_choice::choose_chirotope;
-use super::representation::Representation;
 use om_answer::Line;
 use om_chirotope::Chirotope;
 use om_paint::{HullError, acyclic_chirotopes, hull};
+use om_representation::{Representation, choose_chirotope};
 use om_signs::NoMemory;
 use std::alloc::Global;
 
@@ -19,7 +18,7 @@ pub fn find_hull(alloc: Global, representation: Representation) -> Result<Answer
 {
     match choose_chirotope(alloc, representation) {
         Ok(chirotope) => find_hull_of(alloc, &chirotope),
-        Err(why) => why.width_answer(),
+        Err(why) => Ok(Answer::Line(why.width_line()?)),
     }
 }
 

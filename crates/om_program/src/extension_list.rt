@@ -6,11 +6,10 @@ ghost use Rattle.om_program.specs.Represented.{IsMeantFor};
 ghost use Rattle.om_words.specs.Tasks.{IsNumberOfLines};
 
 use super::answer::Answer;
-use super::chirotope_choice::choose_chirotope;
-use super::representation::Representation;
 use om_answer::Line;
 use om_chirotope::Chirotope;
 use om_localize::{ExtendError, extensions};
+use om_representation::{Representation, choose_chirotope};
 use om_signs::NoMemory;
 use std::alloc::Global;
 use std::thread::Threads;

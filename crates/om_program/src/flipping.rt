@@ -7,12 +7,10 @@ ghost use Rattle.om_program.specs.Represented.{IsMeantFor};
 ghost use Rattle.om_words.specs.Tasks.{AreIncreasing};
 
 use super::answer::Answer;
-use super::chirotope_choice::choose_chirotope;
-use super::documents::map_document;
-use super::representation::Representation;
 use om_answer::Line;
 use om_chirotope::Chirotope;
 use om_mutate::{FlipRefused, flip};
+use om_representation::{Representation, choose_chirotope, map_document};
 use om_signs::NoMemory;
 use om_subsets::Subset;
 use std::alloc::Global;

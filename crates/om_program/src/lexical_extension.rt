@@ -8,12 +8,10 @@ ghost use Rattle.om_program.specs.Represented.{IsMeantFor};
 ghost use Rattle.om_words.specs.Tasks.{AreLawful, elements_of};
 
 use super::answer::Answer;
-use super::chirotope_choice::choose_chirotope;
-use super::documents::map_document;
-use super::representation::Representation;
 use om_answer::Line;
 use om_chirotope::Chirotope;
 use om_lexext::{LexError, Signed, lexical};
+use om_representation::{Representation, choose_chirotope, map_document};
 use om_signs::{MAX_ELEMENTS, NoMemory};
 use om_words::Leading;
 use std::alloc::Global;
@@ -37,7 +35,7 @@ pub fn extend_lexically(
     }
     match choose_chirotope(alloc, representation) {
         Ok(chirotope) => extend_by(alloc, &chirotope, list),
-        Err(why) => why.width_answer(),
+        Err(why) => Ok(Answer::Line(why.width_line()?)),
     }
 }
 

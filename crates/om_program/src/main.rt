@@ -3,11 +3,9 @@
 
 mod answer;
 mod answering;
-mod chirotope_choice;
 mod conversion;
 mod convex_hull;
 mod decision;
-mod documents;
 mod extension_list;
 mod extension_text;
 mod flipping;
@@ -21,19 +19,14 @@ mod mutation_list;
 mod mutation_text;
 mod operation;
 mod painting;
-mod point_vectors;
 mod print_answer;
-mod representation;
 mod run;
 mod status;
 mod sweeping;
 mod three_terms;
-mod unchosen;
 mod unmade;
-mod unrepresented;
 mod upgrading;
 mod verification;
-mod wiring_maps;
 mod write_text;
 mod write_usage;
 

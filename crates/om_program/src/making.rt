@@ -4,12 +4,11 @@ ghost use Rattle.std.specs.Prelude.{◌≡◌, ◌≤◌, IfOk, OnOk, IsErrOf};
 ghost use Rattle.om_signs.specs.declared.limits.TheConstants.{MAX_VALUES};
 ghost use Rattle.om_subsets.specs.Subsets.{choose};
 ghost use Rattle.om_denotation.specs.Covectors.{IsCovectorOfChirotope};
-ghost use Rattle.om_program.specs.Documents.{document_of, circuits_document, cocircuits_document, covectors_document};
+ghost use Rattle.om_representation.specs.Documents.{document_of, circuits_document, cocircuits_document, covectors_document};
 ghost use Rattle.om_program.specs.Operations.{IsLawful, IsMapMade, IsOutcome, TakesOnly, named_elements, first_above};
-ghost use Rattle.om_program.specs.Widths.{HasFewValues};
+ghost use Rattle.om_representation.specs.Widths.{HasFewValues};
 
 use super::operation::Operation;
-use super::representation::Representation;
 use super::unmade::Unmade;
 use om_chirotope::Chirotope;
 use om_circuits::{Circuits, Cocircuits};
@@ -20,6 +19,7 @@ use om_minors::{
     delete_chirotope, delete_circuits, delete_cocircuits, delete_covectors, reorient_chirotope,
     reorient_circuits, reorient_cocircuits, reorient_covectors,
 };
+use om_representation::Representation;
 use std::alloc::Global;
 
 /// What an operation makes of an oriented matroid: one of the same kind, but the dual of circuits is one of cocircuits, and

@@ -1,13 +1,13 @@
 //! Whether a sign vector is a covector.
 
-ghost use Rattle.om_program.specs.Covectors.{IsCovectorIn};
+ghost use Rattle.om_representation.specs.Covectors.{IsCovectorIn};
 ghost use Rattle.om_program.specs.Represented.{IsMeantFor};
 ghost use Rattle.om_program.specs.Memberships.{IsMembership};
 
 use super::answer::Answer;
-use super::representation::Representation;
 use om_answer::Line;
 use om_oriented::Oriented;
+use om_representation::Representation;
 use om_signs::SignVec;
 
 /// Whether a sign vector is a covector of an oriented matroid. It takes no memory.

@@ -5,11 +5,10 @@ ghost use Rattle.om_program.specs.MutationLists.{AreMutations, AreMutationsOfMap
 ghost use Rattle.om_program.specs.Represented.{IsMeantFor};
 
 use super::answer::Answer;
-use super::chirotope_choice::choose_chirotope;
-use super::representation::Representation;
 use om_answer::Line;
 use om_chirotope::Chirotope;
 use om_mutate::{MutationError, mutations};
+use om_representation::{Representation, choose_chirotope};
 use om_signs::NoMemory;
 use std::alloc::Global;
 

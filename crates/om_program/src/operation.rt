@@ -2,17 +2,16 @@
 
 ghost use Rattle.std.specs.Prelude.{◌≡◌, ◌<◌, ◌≤◌, ◌^◌, ◌∷◌, [], IfOk};
 ghost use Rattle.om_subsets.specs.Members.{members};
-ghost use Rattle.om_program.specs.Documents.{document_of};
+ghost use Rattle.om_representation.specs.Documents.{document_of};
 ghost use Rattle.om_program.specs.Represented.{IsMeantFor};
-ghost use Rattle.om_program.specs.Widths.{HasFewValues};
+ghost use Rattle.om_representation.specs.Widths.{HasFewValues};
 ghost use Rattle.om_program.specs.Operations.{IsLawful, IsOperation, named_elements, first_above};
 
 use super::answer::Answer;
-use super::documents::document_of;
 use super::making::make;
-use super::representation::Representation;
 use super::unmade::Unmade;
 use om_answer::Line;
+use om_representation::{Representation, document_of};
 use om_signs::{MAX_ELEMENTS, NoMemory};
 use om_subsets::Subset;
 use std::alloc::Global;

@@ -11,11 +11,10 @@ ghost use Rattle.om_program.specs.Represented.{IsMeantFor};
 ghost use Rattle.om_words.specs.Tasks.{HasElement};
 
 use super::answer::Answer;
-use super::chirotope_choice::choose_chirotope;
-use super::representation::Representation;
 use om_answer::Line;
 use om_chirotope::Chirotope;
 use om_paint::{Colour, Painted, paint};
+use om_representation::{Representation, choose_chirotope};
 use om_signs::{MAX_ELEMENTS, NoMemory};
 use om_words::Colouring;
 use std::alloc::Global;
@@ -35,7 +34,7 @@ pub fn find_painting(
     }
     match choose_chirotope(alloc, representation) {
         Ok(chirotope) => Ok(Answer::Line(find_painting_of(&chirotope, &given))),
-        Err(why) => why.width_answer(),
+        Err(why) => Ok(Answer::Line(why.width_line()?)),
     }
 }
 

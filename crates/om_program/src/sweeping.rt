@@ -6,10 +6,9 @@ ghost use Rattle.om_program.specs.Represented.{IsMeantFor};
 ghost use Rattle.om_program.specs.Sweeps.{IsSweepRefusal, IsWiringOf, IsWiringOfMap, wiring_document};
 
 use super::answer::Answer;
-use super::chirotope_choice::choose_chirotope;
-use super::representation::Representation;
 use om_answer::Line;
 use om_chirotope::Chirotope;
+use om_representation::{Representation, choose_chirotope};
 use om_signs::{List, NoMemory};
 use om_text::{Body, Document};
 use om_wiring::{SweepError, Wiring, sweep};

@@ -6,9 +6,8 @@ ghost use Rattle.om_program.specs.Answers.{says};
 ghost use Rattle.om_program.specs.ThreeTermTests.{IsThreeTermTest, IsTestOfMap, IsNoMap, failure_line};
 
 use super::answer::Answer;
-use super::representation::represent;
-use super::unrepresented::Unrepresented;
 use om_answer::Line;
+use om_representation::{Unrepresented, represent};
 use om_signs::{MAX_ELEMENTS, NoMemory, RawMap};
 use om_text::{Body, Document};
 use om_threeterm::{ThreeRefused, check};

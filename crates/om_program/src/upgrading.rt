@@ -6,12 +6,10 @@ ghost use Rattle.om_text.specs.Form.{IsInForm, AreBlocks};
 ghost use Rattle.om_program.specs.Upgrades.{IsUpgrade, IsGiven};
 
 use super::answer::Answer;
-use super::documents::document_of;
-use super::point_vectors::chirotope_of_points;
-use super::representation::represent;
-use super::unrepresented::Unrepresented;
-use super::wiring_maps::wiring_of_blocks;
 use om_answer::Line;
+use om_representation::{
+    Unrepresented, chirotope_of_points, document_of, represent, wiring_of_blocks,
+};
 use om_signs::{Block, List, NoMemory};
 use om_text::{Body, Document, Name};
 use std::alloc::Global;

@@ -6,12 +6,10 @@ ghost use Rattle.om_certificate.specs.Validity.{IsWithinLimits};
 ghost use Rattle.om_answer.specs.Claim.{HasEvidenceWithinLimits};
 ghost use Rattle.om_program.specs.Claims.{ClaimMeans, VerdictMeans, EvidenceMeans, valid_line, refusal_line};
 
-use super::chirotope_choice::choose_chirotope;
-use super::representation::represent;
-use super::unrepresented::Unrepresented;
 use om_answer::{Claim, Line};
 use om_certificate::{CertRefused, Evidence, Verdict, certificate, check};
 use om_chirotope::Chirotope;
+use om_representation::{Unrepresented, choose_chirotope, represent};
 use om_signs::NoMemory;
 use std::alloc::Global;
 use std::thread::Threads;

@@ -8,6 +8,7 @@ mod code;
 mod document;
 mod draft;
 mod kind;
+mod kinds;
 mod laws;
 pub mod lines;
 mod name;
@@ -28,6 +29,7 @@ pub mod words;
 pub use body::Body;
 pub use code::Code;
 pub use document::Document;
+pub use kinds::Kind;
 pub use laws::{
     documents_begin_as_bytes, documents_have_no_fault, faults_are_unique,
     inputs_are_documents_or_have_faults, sorting_keeps_members, values_are_unique,

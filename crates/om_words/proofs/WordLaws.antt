@@ -7,7 +7,7 @@ use Rattle.std.proofs.Common.{get_or, drop, take, ◌-◌, arith, ap, subst, sym
 use Rattle.std.proofs.Math.Seq.{take-length}
 use Rattle.om_signs.specs.declared.sign.Sign.{Sign}
 use Rattle.om_text.specs.Fault.{Begins}
-use Rattle.om_answer.specs.declared.kind.Kind.{Kind}
+use Rattle.om_text.specs.declared.kinds.Kind.{Kind}
 use Rattle.om_decide.specs.declared.budgets.Budgets.{Budgets}
 use Rattle.om_words.specs.Options.{AreBudgets, AreSeedAndCount, AreLines}
 use Rattle.om_words.specs.declared.task.Task.{Task}

@@ -8,8 +8,8 @@ use Rattle.om_subsets.specs.Subsets.{IsSubsetFrom}
 use Rattle.om_subsets.specs.Members.{mask_of}
 use Rattle.om_text.specs.Words.{is_sign, sign_of_byte}
 use Rattle.om_text.specs.Fault.{Begins}
-use Rattle.om_answer.specs.declared.kind.Kind.{Kind}
-use Rattle.om_answer.specs.declared.kind.Kind.TheVariants as kind
+use Rattle.om_text.specs.declared.kinds.Kind.{Kind}
+use Rattle.om_text.specs.declared.kinds.Kind.TheVariants as kind
 use Rattle.om_words.specs.Options.{AreBudgets, AreSeedAndCount, AreLines}
 use Rattle.om_words.specs.declared.task.Task.{Task}
 use Rattle.om_words.specs.declared.task.Task.TheVariants.{Accept, Member, Convert, Dual, Delete, Contract, Reorient, Wiring, Mutations, Flip, Extend, Decide, Paint, Hull, Lexext, Threeterm, Upgrade, Check, Make}

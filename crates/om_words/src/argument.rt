@@ -5,8 +5,8 @@ ghost use Rattle.om_words.specs.Words.{IsAlone, IsRead};
 
 use super::spelling::{element, named_kind, spelled};
 use super::usage::Usage;
-use om_answer::Kind;
 use om_signs::SignVec;
+use om_text::Kind;
 
 /// A value that one word spells.
 pub trait Argument: Copy {
@@ -38,7 +38,7 @@ impl Argument for SignVec {
 
 impl Argument for Kind {
     ghost use Rattle.std.specs.Prelude.{codes, refl};
-    ghost use Rattle.om_answer.specs.declared.kind.Kind.TheVariants.{Circuits};
+    ghost use Rattle.om_text.specs.declared.kinds.Kind.TheVariants.{Circuits};
     ghost use Rattle.om_words.specs.Words.{NamesKind};
 
     ghost spells = { NamesKind };

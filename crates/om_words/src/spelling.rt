@@ -8,8 +8,8 @@ ghost use Rattle.om_text.specs.Words.{is_sign, sign_of_byte};
 ghost use Rattle.om_words.specs.Words.{Spells, NamesKind, IsElement};
 
 use itoa::Buffer;
-use om_answer::Kind;
 use om_signs::{MAX_ELEMENTS, SignVec};
+use om_text::Kind;
 use om_text::words::{is_sign_byte, sign_of_byte};
 
 /// Whether a word is this one.

@@ -4,9 +4,9 @@ ghost use Rattle.om_words.specs.Tasks.{reads};
 use super::colouring::Colouring;
 use super::leading::Leading;
 use super::reads::Reads;
-use om_answer::Kind;
 use om_decide::Budgets;
 use om_signs::SignVec;
+use om_text::Kind;
 
 /// What the words after the program's name ask for.
 #[derive(Clone, Copy)]

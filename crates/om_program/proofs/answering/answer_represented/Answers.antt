@@ -1,9 +1,9 @@
 use Rattle.std.proofs.Common.{sym, subst}
 use Rattle.std.proofs.lemmas.Result.{IfOk-weaker}
 use Rattle.om_text.specs.declared.document.Document.{Document}
-use Rattle.om_program.specs.Axioms.{IsRefusal}
-use Rattle.om_program.specs.Widths.{HasFewValues}
-use Rattle.om_program.proofs.WidthLaws.{few_worked_on}
+use Rattle.om_representation.specs.Axioms.{IsRefusal}
+use Rattle.om_representation.specs.Widths.{HasFewValues}
+use Rattle.om_representation.proofs.WidthLaws.{few_worked_on}
 use Rattle.om_program.specs.Meaning.{IsAnswerOf, refused, flat, answered}
 use Rattle.om_program.proofs.answering.answer_represented.Goals as goal
 

@@ -1,6 +1,5 @@
-use Rattle.std.proofs.lemmas.Result.{IfOk-weaker}
-use Rattle.om_program.specs.Documents.{document_of}
-use Rattle.om_program.proofs.WidthLaws.{few_chosen}
+use Rattle.om_representation.specs.Documents.{document_of}
+use Rattle.om_representation.proofs.WidthLaws.{few_chosen}
 use Rattle.om_program.proofs.ConversionLaws.{chirotope_made, wide_chirotope}
 use Rattle.om_program.proofs.conversion.to_chirotope.Goals as goal
 
@@ -12,5 +11,5 @@ returns-in-Ok c =
     let d = c.map_document.ensures in
     chirotope_made c.args.representation c.in-Ok.chirotope c.map_document.result c.in-Ok.ensures.kept c.in-Ok.ensures.chosen d.value d.form d.axioms
 
-pub returns-in-Err : goal.returns-in-Err
-returns-in-Err c = IfOk-weaker _ _ _ (λ a same. wide_chirotope (document_of c.args.representation) c.in-Err.why a c.in-Err.ensures.refused same) c.width_answer.ensures
+pub returns-in_ok-width_line-in-Err : goal.returns-in_ok-width_line-in-Err
+returns-in_ok-width_line-in-Err c = wide_chirotope (document_of c.args.representation) c.in-Err.why _ c.in-Err.ensures.refused c.in_ok-width_line-in-Err.ensures

@@ -1,7 +1,7 @@
 use Rattle.std.specs.Prelude.{refl}
 use Rattle.std.proofs.lemmas.Result.{IfOk-weaker}
-use Rattle.om_answer.specs.declared.kind.Kind.TheVariants as kind
-use Rattle.om_program.specs.Documents.{document_of, cocircuits_document}
+use Rattle.om_text.specs.declared.kinds.Kind.TheVariants as kind
+use Rattle.om_representation.specs.Documents.{document_of, cocircuits_document}
 use Rattle.om_program.proofs.ConversionLaws.{own_converted, from_chirotope, wide_answered}
 use Rattle.om_program.proofs.conversion.to_cocircuits.Goals as goal
 
@@ -18,5 +18,5 @@ returns-in-Ok c =
     let e = c.in-Ok.ensures in
     IfOk-weaker _ _ _ (λ a from. from_chirotope kind.Cocircuits c.args.representation c.in-Ok.chirotope e.chosen (rw c.in-Circuits.is refl) e.kept a from) c.list_cocircuits-in-Ok.ensures
 
-pub returns-in-Err : goal.returns-in-Err
-returns-in-Err c = IfOk-weaker _ _ _ (λ a same. wide_answered kind.Cocircuits (document_of c.args.representation) c.in-Err.why a (rw c.in-Circuits.is refl) (rw c.in-Circuits.is refl) c.in-Err.ensures.refused same) c.width_answer.ensures
+pub returns-in_ok-width_line-in-Err : goal.returns-in_ok-width_line-in-Err
+returns-in_ok-width_line-in-Err c = wide_answered kind.Cocircuits (document_of c.args.representation) c.in-Err.why _ (rw c.in-Circuits.is refl) (rw c.in-Circuits.is refl) c.in-Err.ensures.refused c.in_ok-width_line-in-Err.ensures

@@ -6,10 +6,10 @@ use Rattle.om_chirotope.specs.Map.{SignMap}
 use Rattle.om_certificate.proofs.Triples.{increasing_triple}
 use Rattle.om_mutate.specs.Mutations.{flipped, IsMutation}
 use Rattle.om_program.specs.Answers.{says}
-use Rattle.om_program.specs.Documents.{map_document}
+use Rattle.om_representation.specs.Documents.{map_document}
 use Rattle.om_program.specs.Operations.{first_above}
 use Rattle.om_program.specs.Flips.{triple_of, flip_refusal, IsFlipOfMap, outside, turned}
-use Rattle.om_program.proofs.WidthLaws.{few_of_rank3}
+use Rattle.om_representation.proofs.WidthLaws.{few_of_rank3}
 use Rattle.om_program.proofs.FlipLaws.{within_of_none, refused_flip}
 use Rattle.om_program.proofs.flipping.flip_triple_of.Goals as goal
 

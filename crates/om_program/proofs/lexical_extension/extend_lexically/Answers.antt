@@ -1,14 +1,14 @@
 use Rattle.std.proofs.Common.{◌≤◌, sym, ap, ◌∙◌, subst}
 use Rattle.std.proofs.lemmas.Result.{IfOk-weaker}
 use Rattle.om_signs.specs.declared.limits.TheConstants.{MAX_ELEMENTS}
-use Rattle.om_program.specs.Documents.{document_of}
+use Rattle.om_representation.specs.Documents.{document_of}
 use Rattle.om_words.specs.Tasks.{given_list, elements_of}
 use Rattle.om_program.specs.LexicalExtensions.{IsExtensionOfMap, outside, full, fewer}
 use Rattle.om_program.specs.Operations.{first_above}
-use Rattle.om_program.specs.Widths.{kept}
+use Rattle.om_program.specs.AnyRank.{kept}
 use Rattle.om_program.proofs.ConversionLaws as conversions
 use Rattle.om_program.proofs.LeadingLaws.{listed_within, fewer_elements}
-use Rattle.om_program.proofs.WidthLaws.{width_answered}
+use Rattle.om_program.proofs.ChoiceLaws.{width_answered}
 use Rattle.om_program.proofs.lexical_extension.extend_lexically.Goals as goal
 
 pub returns-in-Some : goal.returns-in-Some
@@ -38,9 +38,9 @@ returns-in-Ok c =
     let few = fewer_elements _ high (λ is. c.if-n-eq-MAX_ELEMENTS.false (c.elements-n.ensures.value ∙ is)) in
     IfOk-weaker _ _ _ (λ answer means. fewer answer (sym none) few (kept c.in-Ok.chirotope answer c.in-Ok.ensures.kept c.in-Ok.ensures.chosen means)) c.extend_by.ensures
 
-pub returns-in-Err : goal.returns-in-Err
-returns-in-Err c =
+pub returns-in_ok-width_line-in-Err : goal.returns-in_ok-width_line-in-Err
+returns-in_ok-width_line-in-Err c =
     let none = sym c.in_default.is ∙ c.place_above.ensures ∙ ap (λ k. first_above k (elements_of (given_list c.args.leading))) c.elements-n.ensures.value in
     let high = subst (λ k. k ≤ MAX_ELEMENTS) c.elements-n.ensures.value c.elements-n.ensures.high in
     let few = fewer_elements _ high (λ is. c.if-n-eq-MAX_ELEMENTS.false (c.elements-n.ensures.value ∙ is)) in
-    IfOk-weaker _ _ _ (λ a same. fewer a (sym none) few (width_answered (IsExtensionOfMap (given_list c.args.leading)) (document_of c.args.representation) c.in-Err.why c.in-Err.ensures.refused a same)) c.width_answer.ensures
+    fewer _ (sym none) few (width_answered (IsExtensionOfMap (given_list c.args.leading)) (document_of c.args.representation) c.in-Err.why c.in-Err.ensures.refused _ c.in_ok-width_line-in-Err.ensures)

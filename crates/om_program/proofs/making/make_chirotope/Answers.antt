@@ -2,7 +2,7 @@ use Rattle.std.specs.Prelude.{◌≡◌, None}
 use Rattle.std.proofs.Common.{subst}
 use Rattle.om_program.specs.Operations.{IsLawful, first_above, named_elements}
 use Rattle.om_program.proofs.AboveLaws.{mask_below}
-use Rattle.om_program.proofs.WidthLaws.{few_dual, few_deleted, few_contracted}
+use Rattle.om_representation.proofs.WidthLaws.{few_dual, few_deleted, few_contracted}
 use Rattle.om_program.proofs.making.make_chirotope.Goals as goal
 
 pub reorient_chirotope-requires : goal.reorient_chirotope-requires

@@ -1,7 +1,7 @@
-use Rattle.om_program.specs.Documents.{document_of}
+use Rattle.om_representation.specs.Documents.{document_of}
 use Rattle.om_program.specs.MutationLists.{AreMutationsOfMap, other_rank}
 use Rattle.om_program.proofs.RankThreeLaws.{result_for_chirotope}
-use Rattle.om_program.proofs.WidthLaws.{rank_refused}
+use Rattle.om_program.proofs.ChoiceLaws.{rank_refused}
 use Rattle.om_program.proofs.mutation_list.list_mutations.Goals as goal
 
 pub returns-in-Ok : goal.returns-in-Ok

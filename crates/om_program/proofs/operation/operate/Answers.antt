@@ -2,7 +2,7 @@ use Rattle.std.specs.Prelude.{Err}
 use Rattle.std.proofs.Common.{sym, ap, subst, ◌∙◌}
 use Rattle.om_program.specs.declared.unmade.Unmade.{Unmade}
 use Rattle.om_program.specs.Operations.{IsOutcome, first_above, named_elements, outside, last}
-use Rattle.om_program.specs.Documents.{document_of}
+use Rattle.om_representation.specs.Documents.{document_of}
 use Rattle.om_program.proofs.OperationLaws.{made_meant, limit_meant, width_meant}
 use Rattle.om_program.proofs.operation.operate.Goals as goal
 

@@ -1,11 +1,10 @@
 use Rattle.std.proofs.Common.{◌∙◌, sym, subst}
-use Rattle.std.proofs.lemmas.Result.{IfOk-weaker}
-use Rattle.om_program.specs.Documents.{document_of}
+use Rattle.om_representation.specs.Documents.{document_of}
 use Rattle.om_program.specs.Paintings.{IsPaintingOfMap, coloured}
 use Rattle.om_program.specs.Paintable.{IsPaintable}
-use Rattle.om_program.specs.Widths.{kept}
+use Rattle.om_program.specs.AnyRank.{kept}
 use Rattle.om_program.proofs.ConversionLaws.{elements_of}
-use Rattle.om_program.proofs.WidthLaws.{width_answered}
+use Rattle.om_program.proofs.ChoiceLaws.{width_answered}
 use Rattle.om_program.proofs.painting.find_painting.Goals as goal
 
 pub returns-in-Some : goal.returns-in-Some
@@ -21,7 +20,7 @@ returns-in-Ok c =
     let fit = subst (IsPaintable c.args.given) c.elements.ensures.value c.in_default.ensures in
     coloured _ fit.count fit.within fit.coloured (kept c.in-Ok.chirotope _ c.in-Ok.ensures.kept c.in-Ok.ensures.chosen c.find_painting_of.ensures)
 
-pub returns-in-Err : goal.returns-in-Err
-returns-in-Err c =
+pub returns-in_ok-width_line-in-Err : goal.returns-in_ok-width_line-in-Err
+returns-in_ok-width_line-in-Err c =
     let fit = subst (IsPaintable c.args.given) c.elements.ensures.value c.in_default.ensures in
-    IfOk-weaker _ _ _ (λ a same. coloured a fit.count fit.within fit.coloured (width_answered (IsPaintingOfMap c.args.given) (document_of c.args.representation) c.in-Err.why c.in-Err.ensures.refused a same)) c.width_answer.ensures
+    coloured _ fit.count fit.within fit.coloured (width_answered (IsPaintingOfMap c.args.given) (document_of c.args.representation) c.in-Err.why c.in-Err.ensures.refused _ c.in_ok-width_line-in-Err.ensures)

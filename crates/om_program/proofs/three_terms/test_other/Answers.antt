@@ -1,5 +1,5 @@
 use Rattle.std.proofs.Common.{subst}
-use Rattle.om_program.specs.Axioms.{IsRefusal}
+use Rattle.om_representation.specs.Axioms.{IsRefusal}
 use Rattle.om_program.specs.ThreeTermTests.{refused, no_map}
 use Rattle.om_program.proofs.three_terms.test_other.Goals as goal
 

@@ -1,9 +1,9 @@
 use Rattle.std.proofs.Common.{sym, subst, ◌∙◌}
 use Rattle.om_text.specs.declared.document.Document.{Document}
-use Rattle.om_program.specs.Axioms.{IsRefusal}
+use Rattle.om_representation.specs.Axioms.{IsRefusal}
 use Rattle.om_program.specs.Upgrades.{refused}
-use Rattle.om_program.specs.Widths.{HasFewValues}
-use Rattle.om_program.proofs.WidthLaws.{few_worked_on}
+use Rattle.om_representation.specs.Widths.{HasFewValues}
+use Rattle.om_representation.proofs.WidthLaws.{few_worked_on}
 use Rattle.om_program.proofs.UpgradeLaws.{given_upgraded}
 use Rattle.om_program.proofs.upgrading.upgrade_given.Goals as goal
 

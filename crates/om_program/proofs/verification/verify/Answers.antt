@@ -1,8 +1,8 @@
 use Rattle.std.proofs.Common.{subst}
 use Rattle.std.proofs.lemmas.Result.{IfOk-weaker}
 use Rattle.om_text.specs.declared.document.Document.{Document}
-use Rattle.om_program.specs.Axioms.{IsRefusal}
-use Rattle.om_program.specs.Chirotopes.{IsChirotopeOf}
+use Rattle.om_representation.specs.Axioms.{IsRefusal}
+use Rattle.om_representation.specs.Chirotopes.{IsChirotopeOf}
 use Rattle.om_program.specs.Claims.{fails_axioms, flat, verified}
 use Rattle.om_program.proofs.ClaimLaws.{claim_refused}
 use Rattle.om_program.proofs.verification.verify.Goals as goal

@@ -1,5 +1,0 @@
-use Rattle.om_program.proofs.PointLaws.{AreFilled}
-use Rattle.om_program.proofs.point_vectors.word_of.Given as goal
-
-abbrev pub invariant-loop-place : goal.invariant-loop-place
-invariant-loop-place l = AreFilled l.word l.points l.place

@@ -1,0 +1,2 @@
+mod PointLaws
+pub mod WidthLaws

@@ -1,0 +1,23 @@
+use Rattle.std.proofs.Common.{subst}
+use Rattle.om_denotation.specs.Covectors.{IsCovectorOfCocircuits}
+use Rattle.om_convert.specs.declared.convert_error.ConvertError.{ConvertError}
+use Rattle.om_convert.specs.Limits.{IsWidthCause}
+use Rattle.om_representation.proofs.WidthLaws.{kept_cocircuits, wide_cocircuits}
+use Rattle.om_representation.proofs.chirotope_choice.of_cocircuits.Goals as goal
+
+pub returns-in-Ok-clause-chosen : goal.returns-in-Ok-clause-chosen
+returns-in-Ok-clause-chosen c = record {
+  axioms = c.is_lawful-in-Ok.ensures.lawful;
+  elements = c.in-Ok.ensures.elements;
+  same = c.in-Ok.ensures.same;
+  normal = c.in-Ok.ensures.normal;
+}
+
+pub returns-in-Ok-clause-kept : goal.returns-in-Ok-clause-kept
+returns-in-Ok-clause-kept c = kept_cocircuits c.args.cocircuits.now.0 c.in-Ok.ensures.narrow
+
+pub returns-in-Err-TooWide-clause-refused : goal.returns-in-Err-TooWide-clause-refused
+returns-in-Err-TooWide-clause-refused c =
+    let P : ConvertError → Type 0 = IsWidthCause c.args.cocircuits.now.0.elements (IsCovectorOfCocircuits c.args.cocircuits.now.0) in
+    let cause = subst P c.in-Err-TooWide.field-0-is c.in-Err-TooWide.ensures.refused in
+    rw c.in-Err-TooWide.values-is (wide_cocircuits c.args.cocircuits.now.0 c.rank_cocircuits.result c.in-Err-TooWide.values c.is_lawful.ensures.high cause c.rank_cocircuits.ensures.rank.each)

@@ -1,0 +1,25 @@
+//! From a document to the oriented matroid that it gives, and back to a document.
+//!
+//! [`represent`] asks a document for the axioms of its kind and gives its [`Representation`], points and wirings by their
+//! chirotope; [`choose_chirotope`] gives the chirotope of one, and [`document_of`] its document.
+//!
+//! Source of the notions: Björner, Las Vergnas, Sturmfels, White and Ziegler, *Oriented Matroids*, chapters 3, 4 and 6.
+#![tactic(auto)]
+
+mod chirotope_choice;
+mod documents;
+mod point_vectors;
+mod representation;
+mod unchosen;
+mod unrepresented;
+mod wiring_maps;
+
+pub use chirotope_choice::choose_chirotope;
+pub use documents::{
+    circuits_document, cocircuits_document, covectors_document, document_of, map_document,
+};
+pub use point_vectors::chirotope_of_points;
+pub use representation::{Representation, represent};
+pub use unchosen::Unchosen;
+pub use unrepresented::Unrepresented;
+pub use wiring_maps::wiring_of_blocks;
