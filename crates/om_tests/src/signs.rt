@@ -2,7 +2,6 @@
 
 use om_samples::vector_of;
 use om_signs::{List, NoMemory, Sign};
-use std::alloc::Global;
 
 #[test]
 fn signs(rt: HostRuntime) {
@@ -52,7 +51,10 @@ fn vectors(rt: HostRuntime) {
         y.minus(),
         y.len() as u32,
     ];
-    assert!(rt; masks == [0b01, 0b01, 0b10, 0b01, 2]);
+    // a vector comes before each longer one that begins with it
+    let short = vector_of(1, "0");
+    let orders = [short < vector_of(2, "0-"), y < short];
+    assert!(rt; masks == [0b01, 0b01, 0b10, 0b01, 2] && orders == [true; 2]);
 }
 
 /// Pairs of vectors; whether they are orthogonal: where the products of their signs are all zero, or one is plus and one minus; and
@@ -77,13 +79,6 @@ fn pairs(rt: HostRuntime) {
     }
 }
 
-// it comes before each longer one that begins with it
-#[test]
-fn order_of_a_shorter_vector(rt: HostRuntime) {
-    let short = vector_of(1, "0");
-    assert!(rt; [short < vector_of(2, "0-"), vector_of(2, "-+") < short] == [true; 2]);
-}
-
 /// Whether there is a list, which has the byte 1 alone.
 fn is_one(bytes: Result<List<u8>, NoMemory>) -> bool {
     match &bytes {
@@ -99,25 +94,21 @@ fn set_first(bytes: &mut List<u8>, byte: u8) {
     }
 }
 
-/// Whether 1 was put into a list, was turned into 3 and 2 put behind it; a copy made before has 1 alone; and an empty list is made.
-fn are_kept(alloc: Global) -> [bool; 5] {
-    let mut bytes: List<u8> = List::new(alloc);
+// 1 is put into a list, turned into 3, and 2 put behind it; a copy made before keeps 1 alone
+#[test]
+fn lists(rt: HostRuntime) {
+    let mut bytes: List<u8> = List::new(rt.alloc());
     let first = bytes.push(1).is_ok();
     let copied = is_one(bytes.copy());
     set_first(&mut bytes, 3);
     let second = bytes.push(2).is_ok();
     let numbers: List<u32> = bytes.empty_like();
-    [
+    let found = [
         first,
         copied,
         second,
         bytes.as_slice() == [3, 2].as_slice(),
         numbers.len() == 0,
-    ]
-}
-
-// the copy keeps what the list had
-#[test]
-fn lists(rt: HostRuntime) {
-    assert!(rt; are_kept(rt.alloc()) == [true; 5]);
+    ];
+    assert!(rt; found == [true; 5]);
 }

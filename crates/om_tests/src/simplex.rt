@@ -1,6 +1,6 @@
 //! Runs worked out by hand, one for each kind of end; those that end by a width by an exact run of their own.
 
-ghost use Rattle.std.specs.Prelude.{◌↔◌, ◌≤◌, ◌-◌, IsTrue};
+ghost use Rattle.std.specs.Prelude.{◌≤◌, ◌-◌, IsTrue};
 ghost use Rattle.om_rows.specs.Rows.{IsPlace};
 ghost use Rattle.om_simplex.specs.States.{IsColumn};
 
@@ -22,14 +22,14 @@ fn column(small0: u16, small1: u16, big0: u16, big1: u16, strict: bool) -> Colum
 
 /// Whether a place is a row but the last of some.
 fn is_place(place: u16, rows: u16) -> bool
-    ensures { IsTrue result ↔ IsPlace (rows - 1) place }
+    ensures { IsTrue result → IsPlace (rows - 1) place }
 {
     1 <= place && place < rows
 }
 
 /// Whether the places of a column are rows but the last of some.
 fn fits(column: &Column, rows: u16) -> bool
-    ensures { IsTrue result ↔ IsColumn rows column.now }
+    ensures { IsTrue result → IsColumn rows column.now }
 {
     is_place(column.small0, rows)
         && is_place(column.small1, rows)
@@ -51,18 +51,28 @@ fn end_of(alloc: Global, columns: &[Column], rows: u16, pivots: u32) -> Result<O
 
 /// Whether a run ended by a combination that takes the columns so often, by these weights of the rows, or for want of pivots, with these
 /// basis numbers. No list that ends a run is empty.
-fn has_ended(
-    found: Result<Outcome, NoMemory>,
+fn is_end(
+    end: &Result<Outcome, NoMemory>,
     counts: &[Count],
     weights: &[i128],
     numbers: &[u32],
 ) -> bool {
-    match &found {
+    match end {
         Ok(Outcome::Balanced(found)) => found.as_slice() == counts,
         Ok(Outcome::Weights(found)) => found.as_slice() == weights,
         Ok(Outcome::PivotLimit { basis }) => basis.as_slice() == numbers,
         _ => false,
     }
+}
+
+/// The same of an owned end, which is dropped.
+fn has_ended(
+    end: Result<Outcome, NoMemory>,
+    counts: &[Count],
+    weights: &[i128],
+    numbers: &[u32],
+) -> bool {
+    is_end(&end, counts, weights, numbers)
 }
 
 // without columns all weights are 1; a column whose sides are the same is balanced alone; one pivot is enough for a column of four

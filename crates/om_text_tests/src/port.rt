@@ -95,20 +95,23 @@ fn readings(rt: HostRuntime) {
     }
 }
 
-/// How many bytes of the text a sink takes, which it has then, and tells where these aren't all.
+/// How many bytes of the text a sink takes, and tells where these aren't all, if it has these alone then.
+fn written_to(sink: &mut MemSink) -> Option<usize> {
+    let written = match write_all(sink, TEXT) {
+        Ok(()) => TEXT.len(),
+        Err(fault) => fault.written,
+    };
+    if TEXT.starts_with(sink.bytes()) && sink.bytes().len() == written {
+        Some(written)
+    } else {
+        None
+    }
+}
+
+/// The same of an owned sink, where there is one.
 fn taken(sink: Result<MemSink, NoMemory>) -> Option<usize> {
     match sink {
-        Ok(mut sink) => {
-            let written = match write_all(&mut sink, TEXT) {
-                Ok(()) => TEXT.len(),
-                Err(fault) => fault.written,
-            };
-            if TEXT.starts_with(sink.bytes()) && sink.bytes().len() == written {
-                Some(written)
-            } else {
-                None
-            }
-        }
+        Ok(mut sink) => written_to(&mut sink),
         Err(_) => None,
     }
 }
