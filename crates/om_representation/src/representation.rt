@@ -29,7 +29,8 @@ use om_text::{Body, Document};
 use std::alloc::Global;
 use std::thread::Threads;
 
-/// An oriented matroid, in the way in which a document gives it: points and wirings give their chirotope.
+/// An oriented matroid, in the way in which a document gives it: points and wirings give their chirotope. The four ways are
+/// those of Björner, Las Vergnas, Sturmfels, White and Ziegler, *Oriented Matroids*, chapters 3 and 4.
 #[derive(Drop)]
 pub enum Representation {
     Chirotope(Chirotope),
@@ -53,8 +54,10 @@ impl Representation {
     }
 }
 
-/// The oriented matroid that a document gives, where it meets the axioms of its kind and isn't a flat wiring; and where it fails
-/// the axioms, the line that names the first violated instance.
+/// The oriented matroid that a document in form gives, where it meets the axioms of its kind and isn't a flat wiring.
+///
+/// Else [`Unrepresented::Refused`] where it fails the axioms, with the line that names the first violated instance, and
+/// [`Unrepresented::Flat`] where it is a flat wiring; or want of memory.
 pub fn represent<R: Threads + Sync>(
     rt: &R,
     alloc: Global,

@@ -48,7 +48,8 @@ fn bent_chirotope(alloc: Global, wiring: &Wiring) -> Result<Chirotope, Unreprese
     }
 }
 
-/// The wiring with these blocks, or the line that refuses them.
+/// The wiring with these blocks on this many elements, from one to [`MAX_ELEMENTS`], or the line that names the first step
+/// that breaks a rule, or says that the last order isn't the reverse of the first.
 pub fn wiring_of_blocks(elements: u8, blocks: List<Block>) -> Result<Wiring, Line>
     requires low { 1 ≤ elements }
     requires high { elements ≤ MAX_ELEMENTS }

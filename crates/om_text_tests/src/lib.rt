@@ -12,6 +12,8 @@ mod helpers;
 #[cfg(test)]
 mod port;
 #[cfg(test)]
+mod representation;
+#[cfg(test)]
 mod text;
 #[cfg(test)]
 mod words;
