@@ -2,7 +2,7 @@
 --
 -- Main results: the answer where there is no chirotope (rank_refused, width_answered); what is said of the chirotope that was chosen is said of the document (kept_result); such
 -- answers are answers to a command (kept_replies).
-use Rattle.std.specs.Prelude.{ℕ, ◌≡◌, ◌≢◌, Result, Ok, Err, IfOk}
+use Rattle.std.specs.Prelude.{◌≡◌, ◌≢◌, Result, Ok, Err, IfOk}
 use Rattle.std.proofs.Common.{sym, ap, subst, ◌∙◌}
 use Rattle.om_chirotope.specs.Map.{SignMap}
 use Rattle.om_text.specs.declared.document.Document.{Document}

@@ -1,4 +1,4 @@
-ghost use Rattle.std.specs.Prelude.{IfOk};
+ghost use Rattle.std.specs.Prelude.{◌≡◌, IfOk, IsErr};
 ghost use Rattle.om_representation.specs.Widths.{IsRankLine, IsWidthLine};
 
 use om_answer::Line;
@@ -17,7 +17,8 @@ pub enum Unchosen {
 impl Unchosen {
     /// The line of a command of rank 3: a chirotope with too many values is of another rank. Want of memory has none.
     pub fn rank_line(self) -> Result<Line, NoMemory>
-        ensures { IfOk result (IsRankLine self) }
+        ensures line { IfOk result (IsRankLine self) }
+        ensures memory { IsErr result → self ≡ Unchosen.Memory }
     {
         match self {
             Unchosen::TooWide { rank, .. } => Ok(Line::RefusedNotrank3 { r: rank }),
@@ -27,7 +28,8 @@ impl Unchosen {
 
     /// The line of a command of any rank: the number of values. Want of memory has none.
     pub fn width_line(self) -> Result<Line, NoMemory>
-        ensures { IfOk result (IsWidthLine self) }
+        ensures line { IfOk result (IsWidthLine self) }
+        ensures memory { IsErr result → self ≡ Unchosen.Memory }
     {
         match self {
             Unchosen::TooWide { values, .. } => Ok(Line::LimitValues { values }),

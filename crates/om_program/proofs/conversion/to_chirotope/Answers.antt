@@ -12,4 +12,4 @@ returns-in-Ok c =
     chirotope_made c.args.representation c.in-Ok.chirotope c.map_document.result c.in-Ok.ensures.kept c.in-Ok.ensures.chosen d.value d.form d.axioms
 
 pub returns-in_ok-width_line-in-Err : goal.returns-in_ok-width_line-in-Err
-returns-in_ok-width_line-in-Err c = wide_chirotope (document_of c.args.representation) c.in-Err.why _ c.in-Err.ensures.refused c.in_ok-width_line-in-Err.ensures
+returns-in_ok-width_line-in-Err c = wide_chirotope (document_of c.args.representation) c.in-Err.why _ c.in-Err.ensures.refused c.in_ok-width_line-in-Err.ensures.line

@@ -22,4 +22,4 @@ pub returns-in_ok-width_line-in-Err : goal.returns-in_ok-width_line-in-Err
 returns-in_ok-width_line-in-Err c =
     let other = one_of_two (λ r. has_kind kind.Circuits (document_of r).body ≡ false) c.args.representation (λ s. representation.Cocircuits s) (λ s. representation.Covectors s) (λ s. refl) (λ s. refl) c.in-Cocircuits.is in
     let way = one_of_two (λ r. is_direct kind.Circuits (document_of r).body ≡ false) c.args.representation (λ s. representation.Cocircuits s) (λ s. representation.Covectors s) (λ s. refl) (λ s. refl) c.in-Cocircuits.is in
-    wide_answered kind.Circuits (document_of c.args.representation) c.in-Err.why _ other way c.in-Err.ensures.refused c.in_ok-width_line-in-Err.ensures
+    wide_answered kind.Circuits (document_of c.args.representation) c.in-Err.why _ other way c.in-Err.ensures.refused c.in_ok-width_line-in-Err.ensures.line

@@ -19,4 +19,4 @@ returns-in-Ok c =
     IfOk-weaker _ _ _ (λ a from. from_chirotope kind.Cocircuits c.args.representation c.in-Ok.chirotope e.chosen (rw c.in-Circuits.is refl) e.kept a from) c.list_cocircuits-in-Ok.ensures
 
 pub returns-in_ok-width_line-in-Err : goal.returns-in_ok-width_line-in-Err
-returns-in_ok-width_line-in-Err c = wide_answered kind.Cocircuits (document_of c.args.representation) c.in-Err.why _ (rw c.in-Circuits.is refl) (rw c.in-Circuits.is refl) c.in-Err.ensures.refused c.in_ok-width_line-in-Err.ensures
+returns-in_ok-width_line-in-Err c = wide_answered kind.Cocircuits (document_of c.args.representation) c.in-Err.why _ (rw c.in-Circuits.is refl) (rw c.in-Circuits.is refl) c.in-Err.ensures.refused c.in_ok-width_line-in-Err.ensures.line

@@ -7,4 +7,4 @@ pub returns-in-Ok : goal.returns-in-Ok
 returns-in-Ok c = kept_result IsHullOfMap (document_of c.args.representation) c.in-Ok.chirotope _ c.in-Ok.ensures.kept c.in-Ok.ensures.chosen c.find_hull_of.ensures
 
 pub returns-in_ok-width_line-in-Err : goal.returns-in_ok-width_line-in-Err
-returns-in_ok-width_line-in-Err c = width_answered IsHullOfMap (document_of c.args.representation) c.in-Err.why c.in-Err.ensures.refused _ c.in_ok-width_line-in-Err.ensures
+returns-in_ok-width_line-in-Err c = width_answered IsHullOfMap (document_of c.args.representation) c.in-Err.why c.in-Err.ensures.refused _ c.in_ok-width_line-in-Err.ensures.line

@@ -11,9 +11,9 @@ returns-in-Ok c = for_chirotope c.in-Ok.chirotope _ c.in-Ok.ensures.chosen c.fli
 pub returns-in-Some : goal.returns-in-Some
 returns-in-Some c =
     let above = sym c.in-Some.is ∙ c.place_above.ensures ∙ ap (λ k. first_above k (triple_of c.args.a c.args.b c.args.c)) c.elements-n.ensures.value in
-    wide_outside (triple_of c.args.a c.args.b c.args.c) c.args.representation c.in-Err.why c.in-Err.ensures.refused _ c.in_ok-line-in-Err.ensures c.in-Some.e (sym above)
+    wide_outside (triple_of c.args.a c.args.b c.args.c) c.args.representation c.in-Err.why c.in-Err.ensures.refused _ c.in_ok-line-in-Err.ensures.line c.in-Some.e (sym above)
 
 pub returns-in-None : goal.returns-in-None
 returns-in-None c =
     let none = sym c.in-None.is ∙ c.place_above.ensures ∙ ap (λ k. first_above k (triple_of c.args.a c.args.b c.args.c)) c.elements-n.ensures.value in
-    wide_other_rank (triple_of c.args.a c.args.b c.args.c) c.args.representation c.in-Err.why c.in-Err.ensures.refused _ c.in_ok-line-in-Err.ensures (sym none)
+    wide_other_rank (triple_of c.args.a c.args.b c.args.c) c.args.representation c.in-Err.why c.in-Err.ensures.refused _ c.in_ok-line-in-Err.ensures.line (sym none)

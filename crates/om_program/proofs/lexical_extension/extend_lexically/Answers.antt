@@ -43,4 +43,4 @@ returns-in_ok-width_line-in-Err c =
     let none = sym c.in_default.is ∙ c.place_above.ensures ∙ ap (λ k. first_above k (elements_of (given_list c.args.leading))) c.elements-n.ensures.value in
     let high = subst (λ k. k ≤ MAX_ELEMENTS) c.elements-n.ensures.value c.elements-n.ensures.high in
     let few = fewer_elements _ high (λ is. c.if-n-eq-MAX_ELEMENTS.false (c.elements-n.ensures.value ∙ is)) in
-    fewer _ (sym none) few (width_answered (IsExtensionOfMap (given_list c.args.leading)) (document_of c.args.representation) c.in-Err.why c.in-Err.ensures.refused _ c.in_ok-width_line-in-Err.ensures)
+    fewer _ (sym none) few (width_answered (IsExtensionOfMap (given_list c.args.leading)) (document_of c.args.representation) c.in-Err.why c.in-Err.ensures.refused _ c.in_ok-width_line-in-Err.ensures.line)

@@ -8,4 +8,4 @@ pub returns-in-Ok : goal.returns-in-Ok
 returns-in-Ok c = result_for_chirotope AreMutationsOfMap _ c.in-Ok.chirotope _ c.in-Ok.ensures.chosen c.list_mutations_of.ensures
 
 pub returns-in_ok-rank_line-in-Err : goal.returns-in_ok-rank_line-in-Err
-returns-in_ok-rank_line-in-Err c = rank_refused AreMutationsOfMap (document_of c.args.representation) (λ m of other. other_rank other) c.in-Err.why c.in-Err.ensures.refused _ c.in_ok-rank_line-in-Err.ensures
+returns-in_ok-rank_line-in-Err c = rank_refused AreMutationsOfMap (document_of c.args.representation) (λ m of other. other_rank other) c.in-Err.why c.in-Err.ensures.refused _ c.in_ok-rank_line-in-Err.ensures.line

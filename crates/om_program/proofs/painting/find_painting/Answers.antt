@@ -23,4 +23,4 @@ returns-in-Ok c =
 pub returns-in_ok-width_line-in-Err : goal.returns-in_ok-width_line-in-Err
 returns-in_ok-width_line-in-Err c =
     let fit = subst (IsPaintable c.args.given) c.elements.ensures.value c.in_default.ensures in
-    coloured _ fit.count fit.within fit.coloured (width_answered (IsPaintingOfMap c.args.given) (document_of c.args.representation) c.in-Err.why c.in-Err.ensures.refused _ c.in_ok-width_line-in-Err.ensures)
+    coloured _ fit.count fit.within fit.coloured (width_answered (IsPaintingOfMap c.args.given) (document_of c.args.representation) c.in-Err.why c.in-Err.ensures.refused _ c.in_ok-width_line-in-Err.ensures.line)

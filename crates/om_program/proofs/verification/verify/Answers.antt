@@ -13,7 +13,7 @@ returns-in-Ok-choose_chirotope g c =
     verified _ _ c.in-Ok.ensures.accepted c.in-Ok.ensures.bent (subst P c.in-Ok.ensures.value c.in-Ok-choose_chirotope.ensures.chosen) c.verify_verdict.ensures
 
 pub returns-in-Ok : goal.returns-in-Ok
-returns-in-Ok g c = IfOk-weaker _ _ _ (λ l named. claim_refused c.args.claim _ c.in-Err.why l c.in-Ok.ensures.accepted c.in-Ok.ensures.bent c.in-Ok.ensures.value c.in-Err.ensures.refused named) c.rank_line.ensures
+returns-in-Ok g c = IfOk-weaker _ _ _ (λ l named. claim_refused c.args.claim _ c.in-Err.why l c.in-Ok.ensures.accepted c.in-Ok.ensures.bent c.in-Ok.ensures.value c.in-Err.ensures.refused named) c.rank_line.ensures.line
 
 pub returns-in-Err-Refused : goal.returns-in-Err-Refused
 returns-in-Err-Refused g c = rw c.in-Err-Refused.why-is (fails_axioms _ (subst (IsRefusal c.args.claim.document.elements c.args.claim.document.body) c.in-Err-Refused.field-0-is c.in-Err-Refused.ensures.refused))
