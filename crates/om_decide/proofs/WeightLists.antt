@@ -1,17 +1,14 @@
--- Weights on the first nonzero brackets, and the elements of a bracket.
+-- Weights on the first nonzero brackets.
 --
 -- Main results: weights_none, weights_more, weights_all and weight_made.
-use Rattle.std.specs.Prelude.{ℕ, ◌≡◌, ◌+◌, ◌<◌, ◌≤◌, Bool, true, false, ℤ, List, [], ◌∷◌, ◌++◌, length, slice_get, Some, None}
-use Rattle.std.proofs.Common.{arith, sym, ◌∙◌, ap, subst, refl, inl, inr}
-use Rattle.std.proofs.lemmas.Bool.{cases_eq, false≢true}
-use Rattle.om_subsets.specs.Subsets.{choose, subset_at, IsSubsetFrom, IsMember}
-use Rattle.om_subsets.proofs.Statements.{subset_is_increasing}
+use Rattle.std.specs.Prelude.{ℕ, ◌≡◌, ◌+◌, ◌<◌, ◌≤◌, true, false, ℤ, List, [], ◌∷◌, ◌++◌, length, slice_get, Some, None}
+use Rattle.std.proofs.Common.{arith, sym, ◌∙◌, ap, refl}
+use Rattle.om_subsets.specs.Subsets.{choose, subset_at}
 use Rattle.om_chirotope.specs.Map.{SignMap, chi_of}
 use Rattle.om_certificate.specs.declared.weight.Weight.{Weight}
 use Rattle.om_certificate.specs.Weights.{is_nonzero, nonzero_brackets}
 use Rattle.om_certificate.proofs.NonzeroBrackets.{nonzero_below, more_nonzero, more_zero, more_length, below_length, below_all}
 use Rattle.om_decide.specs.Columns.{weight_on, weights_on}
-use Rattle.om_decide.specs.Making.{IsLeastFrom}
 
 pub length-weights_on : (bs : List (List ℕ)) (zs : List ℤ) → length bs ≤ length zs → length (weights_on bs zs) ≡ length bs
 length-weights_on [] zs l = refl
@@ -55,55 +52,7 @@ module _ (m : SignMap) (zs : List ℤ) (k : ℕ) (ws : List Weight) (b : List �
 pub weights_all : (m : SignMap) (zs : List ℤ) (k : ℕ) (ws : List Weight) → choose m.elements 3 ≤ k → AreWeightsTo m zs k ws → ws ≡ weights_on (nonzero_brackets m) zs
 weights_all m zs k ws l h = h.same ∙ ap (λ bs. weights_on bs zs) (below_all m k l)
 
--- ---- the elements of a bracket
-
-is_first : (e x y z : ℕ) → x < y → y < z → e ≤ x → IsMember e (x ∷ y ∷ z ∷ []) → e ≡ x
-is_first e x y z l g h (inl q) = q
-is_first e x y z l g h (inr (inl q)) = absurd (omega arith)
-is_first e x y z l g h (inr (inr (inl q))) = absurd (omega arith)
-is_first e x y z l g h (inr (inr (inr q))) = absurd q
-
-is_second : (e x y z : ℕ) → x < e → y < z → e ≤ y → IsMember e (x ∷ y ∷ z ∷ []) → e ≡ y
-is_second e x y z l g h (inl q) = absurd (omega arith)
-is_second e x y z l g h (inr (inl q)) = q
-is_second e x y z l g h (inr (inr (inl q))) = absurd (omega arith)
-is_second e x y z l g h (inr (inr (inr q))) = absurd q
-
-is_third : (e x y z : ℕ) → x < e → y < e → IsMember e (x ∷ y ∷ z ∷ []) → e ≡ z
-is_third e x y z l g (inl q) = absurd (omega arith)
-is_third e x y z l g (inr (inl q)) = absurd (omega arith)
-is_third e x y z l g (inr (inr (inl q))) = q
-is_third e x y z l g (inr (inr (inr q))) = absurd q
-
--- three elements, each the least one after the one before
-pub least_three : (n : ℕ) (xs : List ℕ) (a b c : ℕ) → length xs ≡ 3 → IsSubsetFrom 1 n xs → IsLeastFrom (record { n = n; elements = xs }) 1 a → IsLeastFrom (record { n = n; elements = xs }) (a + 1) b → IsLeastFrom (record { n = n; elements = xs }) (b + 1) c → xs ≡ a ∷ b ∷ c ∷ []
-least_three n [] a b c l h p q r = absurd (omega arith)
-least_three n (x ∷ []) a b c l h p q r = absurd (omega arith)
-least_three n (x ∷ y ∷ []) a b c l h p q r = absurd (omega arith)
-least_three n (x ∷ y ∷ z ∷ w ∷ xs) a b c l h p q r = absurd (omega arith)
-least_three n (x ∷ y ∷ z ∷ []) a b c l h p q r =
-    let o = (subset_is_increasing n (x ∷ y ∷ z ∷ [])).0 h in
-    let xy = o.0.0 in
-    let yz = o.0.1.0 in
-    let wx = o.1 x (inl refl) in
-    let wy = o.1 y (inr (inl refl)) in
-    let wz = o.1 z (inr (inr (inl refl))) in
-    let first = p.least x (inl refl) wx.0 wx.1 in
-    let ea : a ≡ x = is_first a x y z xy yz first.2 first.0 in
-    let second = q.least y (inr (inl refl)) (omega arith) wy.1 in
-    let from = second.1 in
-    let eb : b ≡ y = is_second b x y z (omega arith) yz second.2 second.0 in
-    let third = r.least z (inr (inr (inl refl))) (omega arith) wz.1 in
-    let past = third.1 in
-    let ec : c ≡ z = is_third c x y z (omega arith) (omega arith) third.0 in
-    rw (ea, eb, ec) refl
+-- ---- one weight
 
 pub weight_made : (xs : List ℕ) (a b c : ℕ) (z v : ℤ) → xs ≡ a ∷ b ∷ c ∷ [] → v ≡ z → (let w : Weight = record { a = a; b = b; c = c; value = v } in w) ≡ weight_on xs z
 weight_made xs a b c z v e q = ap (λ x. let w : Weight = record { a = a; b = b; c = c; value = x } in w) q ∙ ap (λ ys. weight_on ys z) (sym e)
-
--- a number that isn't an element, and an element from it on
-pub not_here : (xs : List ℕ) (e f : ℕ) (r : Bool) → r ≡ false → (IsMember e xs → r ≡ true) → IsMember f xs → e ≤ f → e + 1 ≤ f
-not_here xs e f r p h i l = elim (cases_eq e f) [
-  | inl q ↦ absurd (false≢true (sym p ∙ h (subst (λ x. IsMember x xs) (sym q) i)))
-  | inr n ↦ omega arith
-]

@@ -1,11 +1,9 @@
 //! What the ends of the linear program stand for: entries of a certificate, and weights of brackets.
 
 ghost use Rattle.std.specs.Prelude.{◌≡◌, ◌≤◌, ◌<◌, ◌+◌, ℕ, length, All, IfOk};
-ghost use Rattle.om_subsets.specs.Subsets.{IsMember};
 ghost use Rattle.om_rows.specs.Rows.{IsPlace};
 ghost use Rattle.om_certificate.specs.Weights.{nonzero_brackets};
 ghost use Rattle.om_decide.specs.Columns.{entries_of, weight_on, weights_on};
-ghost use Rattle.om_decide.specs.Making.{IsLeastFrom};
 
 use om_certificate::{Entry, Weight, is_nonzero};
 use om_chirotope::Chirotope;
@@ -62,23 +60,6 @@ fn bracket_weight(bracket: Subset, value: i128) -> Weight
     requires { length bracket.elements ≡ 3 }
     ensures { result ≡ weight_on bracket.elements value }
 {
-    bracket.is_lawful();
-    let a = least_from(bracket, 1);
-    let b = least_from(bracket, a + 1);
-    let c = least_from(bracket, b + 1);
+    let (a, b, c) = bracket.three_elements();
     Weight { a, b, c, value }
-}
-
-/// The least element of a subset from a number on, and one more than the greatest possible element where there is none.
-fn least_from(subset: Subset, low: u8) -> u8
-    requires { 1 ≤ low }
-    ensures { IsLeastFrom subset low result }
-{
-    let n = subset.n();
-    for e in low..n + 1 {
-        if subset.has(e) {
-            return e;
-        }
-    }
-    n + 1
 }

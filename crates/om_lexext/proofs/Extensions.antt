@@ -29,9 +29,8 @@ use Rattle.om_denotation.specs.Maps.{map_by}
 use Rattle.om_denotation.proofs.Rules.{rule_at, whole_by, tuples_by, chirotope_by, same_on_tuples}
 use Rattle.om_denotation.proofs.Uniqueness.{tuples_at, same_map}
 use Rattle.om_lexext.specs.declared.signed.Signed.{Signed}
-use Rattle.om_lexext.specs.Leads.{lead}
 use Rattle.om_lexext.specs.Lexicographic.{AreEntries, first_listed, has, lexicographic_sign, IsLexicographicExtension}
-use Rattle.om_lexext.proofs.Leads.{lead_same}
+use Rattle.om_lexext.proofs.Leads.{lead, lead_same}
 use Rattle.om_lexext.proofs.Theory.{instead, swap_at, instead_off, instead_append, count_none, count_last, extension, extension_none, extension_once, extension_alternating, extension_within, extension_size, extension_chirotope, value_at}
 
 -- ---- increasing lists with their last element

@@ -1,8 +1,8 @@
 -- A triple of a chirotope of rank 3 is a mutation exactly where the three-term relations that hold it stay balanced.
 --
--- Main results: stays_balanced, from a mutation; mutation_if_balanced, and back; mutation_by_relations, both, as the code takes the triple apart.
+-- Main results: stays_balanced, from a mutation; mutation_if_balanced, and back; mutation_by_relations, both.
 -- Reference: Björner, Las Vergnas, Sturmfels, White and Ziegler, Oriented Matroids, chapter 3.
-use Rattle.std.specs.Prelude.{ℕ, ◌≡◌, ◌≢◌, ◌<◌, List, [], ◌∷◌, length}
+use Rattle.std.specs.Prelude.{ℕ, ◌≡◌, ◌≢◌, ◌<◌, ◌≤◌, List, [], ◌∷◌, length}
 use Rattle.std.proofs.Common.{refl, sym, ap, ◌∙◌, subst, inl, inr, arith}
 use Rattle.om_signs.specs.declared.sign.Sign.{Sign}
 use Rattle.om_signs.specs.declared.sign.Sign.TheVariants.{Zero}
@@ -173,26 +173,14 @@ module _ (m : SignMap) (a b c : ℕ) (w : IsMap m) (r : m.rank ≡ 3) (i : IsRis
 
 -- ---- a triple by its elements
 
-three_by_least : (n : ℕ) (t u v x : List ℕ) (a b c : ℕ) → IsSubsetFrom 1 n t → length t ≡ 3 → t ≡ a ∷ u → u ≡ b ∷ v → v ≡ c ∷ x → (t ≡ a ∷ b ∷ c ∷ []) × IsRising n a b c
-three_by_least n t u v [] a b c h l e f g =
-    let k : t ≡ a ∷ b ∷ c ∷ [] = cc in
-    let i = (subset_is_increasing n (a ∷ b ∷ c ∷ [])).0 (subst (IsSubsetFrom 1 n) k h) in (
-      k,
-      record { first_within = i.1 a (inl refl); second_within = i.1 b (inr (inl refl)); third_within = i.1 c (inr (inr (inl refl))); first = i.0.0; second = i.0.1.0 },
-    )
-three_by_least n t u v (y ∷ ys) a b c h l e f g =
-    let k : t ≡ a ∷ b ∷ c ∷ y ∷ ys = cc in
-    let q : length t ≡ length (a ∷ b ∷ c ∷ y ∷ ys) = ap length k in absurd (omega (arith, q, l))
-
-pub mutation_by_relations : (m : SignMap) (n : ℕ) (t u v x : List ℕ) (a b c : ℕ) → IsChirotope m → m.rank ≡ 3 → n ≡ m.elements → IsSubsetFrom 1 n t → length t ≡ 3 → t ≡ a ∷ u → u ≡ b ∷ v → v ≡ c ∷ x
+pub mutation_by_relations : (m : SignMap) (t : List ℕ) (a b c : ℕ) → IsChirotope m → m.rank ≡ 3 → t ≡ a ∷ b ∷ c ∷ [] → 1 ≤ a → a < b → b < c → c ≤ m.elements
     → (StaysBalancedAround m a b c → chi_of m t ≢ Zero → IsMutation m t) × (IsMutation m t → StaysBalancedAround m a b c)
-mutation_by_relations m n t u v x a b c h r en list size e f g =
-    let k = three_by_least m.elements t u v x a b c (subst (λ z. IsSubsetFrom 1 z t) en list) size e f g in
-    let i = k.1 in (
-      λ s nonzero. subst (IsMutation m) (sym k.0)
-          (mutation_if_balanced m a b c h.whole r i h (λ z. nonzero (ap (chi_of m) k.0 ∙ z)) (at_corner a b c s)),
+mutation_by_relations m t a b c h r e low ab bc high =
+    let i : IsRising m.elements a b c = record { first_within = (low, omega arith); second_within = (omega arith, omega arith); third_within = (omega arith, high); first = ab; second = bc } in (
+      λ s nonzero. subst (IsMutation m) (sym e)
+          (mutation_if_balanced m a b c h.whole r i h (λ z. nonzero (ap (chi_of m) e ∙ z)) (at_corner a b c s)),
       λ w.
-          let l = stays_balanced m a b c h.whole r i (subst (IsMutation m) k.0 w) in
+          let l = stays_balanced m a b c h.whole r i (subst (IsMutation m) e w) in
           record {
             first = l a b c (inl (refl, refl, refl)) i.first_within i.second_within i.third_within;
             second = l b a c (inr (inl (refl, refl, refl))) i.second_within i.first_within i.third_within;

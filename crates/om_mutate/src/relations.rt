@@ -23,15 +23,10 @@ pub fn is_mutation(chi: &Values, triple: Subset) -> bool
     ensures { IsTrue result ↔ IsMutation chi.now triple.elements }
 {
     chi.is_lawful();
-    triple.is_lawful();
     if chi.at(triple) == Sign::Zero {
         return false;
     }
-    let a = triple.least();
-    let later = triple.without(a);
-    let b = later.least();
-    let last = later.without(b);
-    let c = last.least();
+    let (a, b, c) = triple.three_elements();
     stays_balanced_around(chi, a, b, c)
 }
 

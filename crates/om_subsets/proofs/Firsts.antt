@@ -1,8 +1,8 @@
 -- How an increasing list begins.
 --
--- Main results: least_first and last_first, the first number of a list; without_first, the list behind it; same_members, lists with the same
--- numbers are the same.
-use Rattle.std.proofs.Common.{ℕ, zero, suc, ◌≡◌, ◌+◌, ◌<◌, List, [], ◌∷◌, length, refl, sym, ◌∙◌, ap, inl, inr, arith}
+-- Main results: least_first and last_first, the first number of a list; without_first, the list behind it; first_below_second, its first two
+-- numbers; same_members, lists with the same numbers are the same.
+use Rattle.std.proofs.Common.{ℕ, zero, suc, ◌≡◌, ◌+◌, ◌<◌, List, [], ◌∷◌, length, refl, sym, ◌∙◌, ap, subst, inl, inr, arith}
 use Rattle.std.proofs.lemmas.Bool.{cases_eq, eq-eqb}
 use Rattle.om_subsets.specs.Subsets.{IsSubsetFrom, IsMember, without_element}
 use Rattle.om_subsets.proofs.Order.{members_from}
@@ -32,6 +32,9 @@ last_first n (x ∷ xs) h l none =
       | inl q ↦ least_first n n (x ∷ xs) h (inl (sym q)) none
       | inr ne ↦ absurd (none x (omega arith) (inl refl))
     ]
+
+pub first_below_second : (n a b : ℕ) (xs ys zs : List ℕ) → IsSubsetFrom 1 n xs → xs ≡ a ∷ without_element a xs → ys ≡ without_element a xs → ys ≡ b ∷ zs → a < b
+first_below_second n a b xs ys zs h e f g = above_head 1 n a (without_element a xs) (subst (IsSubsetFrom 1 n) e h) b (subst (IsMember b) (sym g ∙ f) (inl refl))
 
 pub none_at_zero : (n k : ℕ) (xs : List ℕ) → IsSubsetFrom 1 n xs → k < 1 → IsMember k xs → ⊥
 none_at_zero n k xs h l q = let b = members_from 1 n k xs h q in omega arith

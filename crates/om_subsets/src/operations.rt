@@ -40,6 +40,23 @@ impl Subset {
         last
     }
 
+    /// The three elements of a set of three, in increasing order.
+    pub fn three_elements(self) -> (u8, u8, u8)
+        requires { length self.elements ≡ 3 }
+        ensures elements { self.elements ≡ result.0 ∷ result.1 ∷ result.2 ∷ [] }
+        ensures low { 1 ≤ result.0 }
+        ensures second { result.0 < result.1 }
+        ensures third { result.1 < result.2 }
+        ensures high { result.2 ≤ self.n }
+    {
+        self.is_lawful();
+        let a = self.least();
+        let later = self.without(a);
+        let b = later.least();
+        let c = later.without(b).least();
+        (a, b, c)
+    }
+
     /// Whether each element of this set is one of the other. Both have the same n.
     pub fn is_part_of(self, other: Subset) -> bool
         requires { other.n ≡ self.n }

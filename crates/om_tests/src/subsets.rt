@@ -70,6 +70,7 @@ fn the_last_pair(rt: HostRuntime) {
 fn sets_of_others(rt: HostRuntime) {
     // 134 and 345 of the elements 1 to 5
     let (set, other) = (Subset::triple(4, 1, 3, 5), Subset::from_mask(0b11100, 5));
+    assert!(rt; set.three_elements() == (1, 3, 4));
     let (both, rest) = (set.intersection(other), set.complement());
     let found = [
         both.is_part_of(set),

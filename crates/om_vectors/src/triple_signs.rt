@@ -17,10 +17,7 @@ pub(crate) fn sign_of_triple(vectors: &[Vector], s: Subset) -> Sign
     requires size { length s.elements ≡ 3 }
     ensures { result ≡ triple_sign vectors.now s.elements }
 {
-    let a = s.least();
-    let later = s.without(a);
-    let b = later.least();
-    let c = later.without(b).least();
+    let (a, b, c) = s.three_elements();
     sign_of(triple(
         vectors[a as usize - 1],
         vectors[b as usize - 1],
