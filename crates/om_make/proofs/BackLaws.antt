@@ -2,7 +2,7 @@
 --
 -- Main results: comes_back, every normal chirotope that denotes the same is the normal form; back_from_cocircuits, back_from_covectors; the
 -- lists of a map of rank 3 are not too wide (narrow_cocircuits, narrow_covectors).
-use Rattle.std.specs.Prelude.{◌≡◌, ◌≤◌, ◌↔◌, ◌⊎◌, refl}
+use Rattle.std.specs.Prelude.{◌≡◌, ◌≤◌, ◌⊎◌, refl}
 use Rattle.std.specs.Bool.{Decides}
 use Rattle.std.specs.List.{Contains}
 use Rattle.std.proofs.Common.{sym, subst, ◌∙◌}

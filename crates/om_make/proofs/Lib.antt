@@ -1,3 +1,6 @@
 mod BackLaws
 mod CountLaws
+mod CovectorCounts
+mod FirstSigns
+mod RankBounds
 mod GeneratorLaws

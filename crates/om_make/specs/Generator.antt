@@ -1,5 +1,5 @@
 -- The generator: its states, its draws, and the vectors that are made of them.
-use Rattle.std.specs.Prelude.{ℕ, zero, suc, ◌+◌, ◌-◌, ◌*◌, ◌/◌, ◌%◌, ◌^◌, ℤ, pos, ◌-ℤ◌, List, [], ◌∷◌, ◌++◌}
+use Rattle.std.specs.Prelude.{ℕ, zero, suc, ◌+◌, ◌-◌, ◌*◌, ◌/◌, ◌%◌, ℤ, pos, ◌-ℤ◌, List, [], ◌∷◌, ◌++◌}
 use Rattle.om_vectors.specs.WholeVectors.{WholeVector, vector_of}
 
 -- the state behind x: 69069 x + 1 modulo 2^32

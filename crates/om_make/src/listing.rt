@@ -38,10 +38,11 @@ pub fn list_covectors(alloc: Global, chi: &Chirotope) -> Result<Covectors, NoMem
     chi.is_lawful();
     match chirotope_to_covectors(alloc, chi) {
         Ok(covectors) => Ok(covectors),
-        // in rank 3 there are at most 1,523 on 20 elements, which isn't proved here: the case of too many never comes
-        Err(ConvertError::TooMany { .. } | ConvertError::Memory) => Err(NoMemory),
-        // only a list can be too wide, and this is a chirotope
+        // a list of covectors has no values
         Err(ConvertError::TooWide { .. }) => unreachable!(),
+        // in rank 3 there are at most 1,523 on 20 elements
+        Err(ConvertError::TooMany { .. }) => unreachable!(),
+        Err(ConvertError::Memory) => Err(NoMemory),
     }
 }
 

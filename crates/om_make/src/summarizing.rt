@@ -24,7 +24,8 @@ use std::thread::Threads;
 ///
 /// All of it is counted on the calling thread: `_rt` is there so that the call can go on to more without another signature.
 ///
-/// [`NoMemory`] comes only for want of memory.
+/// [`NoMemory`] comes only for want of memory: a chirotope of rank 3 has no more cocircuits or covectors than a list may
+/// have.
 ///
 /// Source of the notions: Björner, Las Vergnas, Sturmfels, White and Ziegler, *Oriented Matroids*, chapters 1, 3, 6 and 8.
 pub fn summary<R: Threads + Sync>(_rt: &R, alloc: Global, vectors: &Word) -> Result<Tally, NoMemory>

@@ -1,5 +1,4 @@
-use Rattle.std.specs.Prelude.{refl}
-use Rattle.std.proofs.Common.{sym, ap, ◌∙◌}
+use Rattle.std.proofs.Common.{◌∙◌}
 use Rattle.om_make.proofs.GeneratorLaws.{small_vector, made_some, made_value, drawn_vector}
 use Rattle.om_make.proofs.generator.Generator.vector.Goals as goal
 
