@@ -3,3 +3,4 @@ pub mod EliminationLaws
 pub mod InstanceLaws
 pub mod MinimalityLaws
 pub mod DecisionLaws
+pub mod FirstInstance

@@ -1,9 +1,9 @@
 -- The order of lists of positions.
 --
 -- Main results: same_number, greater_number, last_number: what the order says of the first numbers; ordered: of two lists of one length one is
--- before the other, or they are equal.
-use Rattle.std.proofs.Common.{ℕ, ◌≡◌, ◌<◌, ◌⊎◌, List, [], ◌∷◌, length, suc, refl, sym, arith, inl, inr}
-use Rattle.std.proofs.lemmas.Bool.{cases_lt}
+-- before the other, or they are equal; ordered_keys: so it is with two lists that say themselves how long they are.
+use Rattle.std.proofs.Common.{ℕ, ◌≡◌, ◌<◌, ◌⊎◌, List, [], ◌∷◌, length, suc, refl, sym, ◌∙◌, ap, arith, inl, inr}
+use Rattle.std.proofs.lemmas.Bool.{cases_lt, cases_order}
 use Rattle.om_members.specs.Positions.{IsBefore}
 
 pub same_number : (a : ℕ) (xs ys : List ℕ) → IsBefore (a ∷ xs) (a ∷ ys) → IsBefore xs ys
@@ -36,4 +36,19 @@ ordered (x ∷ xs) (y ∷ ys) l = elim (cases_lt x y) [
           | inr (inr q) ↦ inr (inr (cc (e, q)))
         ]
   ]
+]
+
+-- a list of positions whose first number tells how many numbers follow
+abbrev pub IsKey : (ℕ → ℕ) → List ℕ → Type 0
+IsKey size [] = ⊥
+IsKey size (x ∷ xs) = length xs ≡ size x
+
+-- of two such lists one is before the other, or they are equal
+pub ordered_keys : (size : ℕ → ℕ) (xs ys : List ℕ) → IsKey size xs → IsKey size ys → IsBefore xs ys ⊎ (IsBefore ys xs ⊎ (xs ≡ ys))
+ordered_keys size [] ys h k = absurd h
+ordered_keys size (x ∷ xs) [] h k = absurd k
+ordered_keys size (x ∷ xs) (y ∷ ys) h k = elim (cases_order x y) [
+  | inl e ↦ ordered (x ∷ xs) (y ∷ ys) (ap suc (h ∙ ap size e ∙ sym k))
+  | inr (inl l) ↦ inl (inl l)
+  | inr (inr l) ↦ inr (inl (inl l))
 ]
