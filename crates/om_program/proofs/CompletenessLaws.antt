@@ -1,6 +1,6 @@
 -- A command that may be answered is answered, or memory is wanting.
 --
--- Main results: always_answered.
+-- Main results: always_answered; tasks that read other things are other tasks (apart_document_claim, apart_nothing_document, apart_nothing_claim).
 use Rattle.std.specs.Prelude.{ℕ, ◌≡◌, List, Option, refl}
 use Rattle.std.proofs.Common.{sym, ◌∙◌, subst, inl, inr, arith}
 use Rattle.om_text.specs.Lines.{lines}
@@ -23,13 +23,13 @@ use Rattle.om_words.specs.Words.{Names}
 use Rattle.om_program.proofs.MeaningLaws.{named_answer}
 
 -- tasks that read other things are other tasks
-apart_document_claim : (t : Task) → reads t ≡ source.Document → reads t ≡ source.Claim → ⊥
+pub apart_document_claim : (t : Task) → reads t ≡ source.Document → reads t ≡ source.Claim → ⊥
 apart_document_claim t p q = let e = sym p ∙ q in cc
 
-apart_nothing_document : (t : Task) → reads t ≡ source.Nothing → reads t ≡ source.Document → ⊥
+pub apart_nothing_document : (t : Task) → reads t ≡ source.Nothing → reads t ≡ source.Document → ⊥
 apart_nothing_document t p q = let e = sym p ∙ q in cc
 
-apart_nothing_claim : (t : Task) → reads t ≡ source.Nothing → reads t ≡ source.Claim → ⊥
+pub apart_nothing_claim : (t : Task) → reads t ≡ source.Nothing → reads t ≡ source.Claim → ⊥
 apart_nothing_claim t p q = let e = sym p ∙ q in cc
 
 made_done : (seed count : ℕ) (a : Answer) → IsMade seed count a → status_of a ≡ Done

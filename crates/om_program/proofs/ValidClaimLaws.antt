@@ -1,9 +1,8 @@
 -- The text of a verdict, given to `check`.
 --
 -- Main results: verdicts_found_valid.
-use Rattle.std.specs.Prelude.{ℕ, ◌≡◌, ◌≤◌, List, [], ◌∷◌, codes, length, refl, Ok}
+use Rattle.std.specs.Prelude.{ℕ, ◌≡◌, List, [], ◌∷◌, codes, refl, Ok}
 use Rattle.std.proofs.Common.{subst, inl}
-use Rattle.om_signs.specs.declared.limits.TheConstants.{MAX_INPUT}
 use Rattle.om_chirotope.specs.Map.{SignMap}
 use Rattle.om_chirotope.specs.Chirotope.{IsSound}
 use Rattle.om_certificate.specs.declared.evidence.Evidence.{Evidence}
@@ -24,9 +23,11 @@ use Rattle.om_program.specs.declared.answer.Answer.TheVariants as answer
 use Rattle.om_words.specs.declared.task.Task.TheVariants.{Decide, Check}
 use Rattle.om_program.specs.Answers.{says, judges}
 use Rattle.om_program.specs.Claims.{valid, judged, verified, valid_line}
-use Rattle.om_program.specs.Decisions.{IsDecided, DecisionMeans, other_rank, decided, IsDecision, of_chirotope}
+use Rattle.om_program.specs.Decisions.{IsDecided, DecisionMeans, other_rank, decided, IsDecision}
+use Rattle.om_program.specs.RankThree.{for_chirotope}
 use Rattle.om_program.specs.Meaning.{Means, usage, named, TaskMeans, long, faulty, read, faulty_claim, claimed, alone, DocumentMeans, tested, upgraded, refused, flat, answered}
 use Rattle.om_program.specs.ValidClaims.{IsLimit, IsFoundValid, VerdictsAreFoundValid}
+use Rattle.om_program.proofs.VerdictSizes.{verdict_short}
 use Rattle.om_words.proofs.TaskLaws.{named_decide}
 use Rattle.om_representation.proofs.WidthLaws.{few_of_rank3}
 
@@ -43,12 +44,12 @@ IsJudged b (answer.Hull items) = Unit {0}
 IsJudged b (answer.Verdict m v) = IsDecided m b v
 IsJudged b (answer.Made vs t) = Unit {0}
 
-map_judged : (m : SignMap) (b : Budgets) (a : Answer) → DecisionMeans m b a → IsJudged b a
-map_judged m b a (other_rank other) = tt
-map_judged m b a (decided v is) = is
+map_judged : (b : Budgets) (m : SignMap) (a : Answer) → DecisionMeans b m a → IsJudged b a
+map_judged b m a (other_rank other) = tt
+map_judged b m a (decided v is) = is
 
 decision_judged : (b : Budgets) (d : Document) (a : Answer) → IsDecision b d a → IsJudged b a
-decision_judged b d a (of_chirotope m answer of means) = map_judged m b a means
+decision_judged b d a (for_chirotope m answer of means) = map_judged b m a means
 
 document_judged : (b : Budgets) (d : Document) (a : Answer) → DocumentMeans (Decide b) d a → IsJudged b a
 document_judged b d a (tested answer same is) = cc
@@ -93,19 +94,19 @@ evidence_shown m (Vectors vs) realizes = realizes
 evidence_shown m (Balanced es) certificate = certificate_excludes m es certificate
 evidence_shown m (Weights ws) weights = weights_exclude m ws weights
 
-evidence_checked : (m : SignMap) (b : Budgets) (v : Verdict) (e : Evidence) → IsDecided m b v → certificate_of v ≡ Ok e → IsValid m e → length (verdict_text m v) ≤ MAX_INPUT → Means (codes "check" ∷ []) (verdict_text m v) (says (valid_line e))
-evidence_checked m b v e is same holds short =
+evidence_checked : (m : SignMap) (b : Budgets) (v : Verdict) (e : Evidence) → IsDecided m b v → (IsLimit v → ⊥) → certificate_of v ≡ Ok e → IsValid m e → Means (codes "check" ∷ []) (verdict_text m v) (says (valid_line e))
+evidence_checked m b v e is no_limit same holds =
     named Check _ (record { arguments = []; first = refl; behind = refl })
-    (claimed (claim_of m v) (valid_line e) refl short (claim_read m v (document_form m is.rank is.sound) is.form)
+    (claimed (claim_of m v) (valid_line e) refl (verdict_short m b v is no_limit) (claim_read m v (document_form m is.rank is.sound) is.form)
     (verified m (valid_line e) is.sound.axioms (λ bent. bent) refl (judged e (valid_line e) is.rank same (valid holds (evidence_shown m e holds)))))
 
-verdict_checked : (m : SignMap) (b : Budgets) (v : Verdict) → IsDecided m b v → (IsLimit v → ⊥) → length (verdict_text m v) ≤ MAX_INPUT → IsFoundValid (verdict_text m v) v
-verdict_checked m b (Realizable vs) is no_limit short = record { line = _; word = refl; means = evidence_checked m b (Realizable vs) (Vectors vs) is refl (verdict_shown m b (Realizable vs) is.verdict) short }
-verdict_checked m b (Nonrealizable es) is no_limit short = record { line = _; word = refl; means = evidence_checked m b (Nonrealizable es) (Balanced es) is refl (verdict_shown m b (Nonrealizable es) is.verdict) short }
-verdict_checked m b (Undecided ws u) is no_limit short = record { line = _; word = refl; means = evidence_checked m b (Undecided ws u) (Weights ws) is refl (verdict_shown m b (Undecided ws u) is.verdict) short }
-verdict_checked m b (Limit end u) is no_limit short = absurd (no_limit tt)
+verdict_checked : (m : SignMap) (b : Budgets) (v : Verdict) → IsDecided m b v → (IsLimit v → ⊥) → IsFoundValid (verdict_text m v) v
+verdict_checked m b (Realizable vs) is no_limit = record { line = _; word = refl; means = evidence_checked m b (Realizable vs) (Vectors vs) is no_limit refl (verdict_shown m b (Realizable vs) is.verdict) }
+verdict_checked m b (Nonrealizable es) is no_limit = record { line = _; word = refl; means = evidence_checked m b (Nonrealizable es) (Balanced es) is no_limit refl (verdict_shown m b (Nonrealizable es) is.verdict) }
+verdict_checked m b (Undecided ws u) is no_limit = record { line = _; word = refl; means = evidence_checked m b (Undecided ws u) (Weights ws) is no_limit refl (verdict_shown m b (Undecided ws u) is.verdict) }
+verdict_checked m b (Limit end u) is no_limit = absurd (no_limit tt)
 
 pub verdicts_found_valid : VerdictsAreFoundValid
-verdicts_found_valid options bytes m v means no_limit short =
+verdicts_found_valid options bytes m v means no_limit =
     let found = words_judged options bytes (judges m v) means in
-    verdict_checked m found.0 v found.1 no_limit short
+    verdict_checked m found.0 v found.1 no_limit

@@ -10,7 +10,7 @@ use Rattle.om_text.specs.declared.document.Document.{Document}
 use Rattle.om_answer.specs.declared.line.Line.TheVariants as line
 use Rattle.om_program.specs.declared.answer.Answer.{Answer}
 use Rattle.om_program.specs.Answers.{says, judges}
-use Rattle.om_representation.specs.Chirotopes.{IsChirotopeOf}
+use Rattle.om_program.specs.RankThree.{IsForChirotope}
 
 -- the verdict on a map of rank 3 by these budgets; the map is a chirotope, and the verdict has the forms and the limits of a claim
 pub record IsDecided (m : SignMap) (b : Budgets) (v : Verdict) : Type 0 where
@@ -20,13 +20,12 @@ pub record IsDecided (m : SignMap) (b : Budgets) (v : Verdict) : Type 0 where
   pub form : IsVerdictInForm v
 
 -- what the decision of a map comes to
-pub data DecisionMeans (m : SignMap) (b : Budgets) : Answer → Type 0 where
+pub data DecisionMeans (b : Budgets) (m : SignMap) : Answer → Type 0 where
   -- verdicts are of rank 3
-  other_rank : m.rank ≢ 3 → DecisionMeans m b (says (line.RefusedNotrank3 m.rank))
+  other_rank : m.rank ≢ 3 → DecisionMeans b m (says (line.RefusedNotrank3 m.rank))
   -- the map with the verdict on it
-  decided : (v : Verdict) → IsDecided m b v → DecisionMeans m b (judges m v)
+  decided : (v : Verdict) → IsDecided m b v → DecisionMeans b m (judges m v)
 
--- what the decision of a document comes to
-pub data IsDecision (b : Budgets) (d : Document) : Answer → Type 0 where
-  -- that of its chirotope
-  of_chirotope : (m : SignMap) (answer : Answer) → IsChirotopeOf d m → DecisionMeans m b answer → IsDecision b d answer
+-- what the decision of a document comes to: that of its chirotope
+abbrev pub IsDecision : Budgets → Document → Answer → Type 0
+IsDecision b d answer = IsForChirotope (DecisionMeans b) d answer

@@ -5,6 +5,7 @@ pub mod ExtensionTexts
 pub mod HullTexts
 pub mod MadeTexts
 pub mod Answers
+pub mod Determined
 pub mod Represented
 pub mod RankThree
 pub mod AnyRank

@@ -1,6 +1,5 @@
 -- What `decide` answers is a claim that `check` finds valid.
-use Rattle.std.specs.Prelude.{ℕ, ◌≡◌, ◌≤◌, List, [], ◌∷◌, ◌++◌, codes, length}
-use Rattle.om_signs.specs.declared.limits.TheConstants.{MAX_INPUT}
+use Rattle.std.specs.Prelude.{ℕ, ◌≡◌, List, [], ◌∷◌, ◌++◌, codes}
 use Rattle.om_chirotope.specs.Map.{SignMap}
 use Rattle.om_certificate.specs.declared.verdict.Verdict.{Verdict}
 use Rattle.om_certificate.specs.declared.verdict.Verdict.TheVariants as verdict
@@ -21,6 +20,6 @@ pub record IsFoundValid (bytes : List ℕ) (v : Verdict) : Type 0 where
   pub word : line_text line ≡ codes "valid " ++ verdict_name v ++ 10 ∷ []
   pub means : Means (codes "check" ∷ []) bytes (says line)
 
--- the text of each verdict of `decide` other than a limit, where it is no longer than an input may be, is found valid
+-- the text of each verdict of `decide` other than a limit is found valid
 abbrev pub VerdictsAreFoundValid : Type 0
-VerdictsAreFoundValid = (options : List (List ℕ)) (bytes : List ℕ) (m : SignMap) (v : Verdict) → Means (codes "decide" ∷ options) bytes (judges m v) → (IsLimit v → ⊥) → length (verdict_text m v) ≤ MAX_INPUT → IsFoundValid (verdict_text m v) v
+VerdictsAreFoundValid = (options : List (List ℕ)) (bytes : List ℕ) (m : SignMap) (v : Verdict) → Means (codes "decide" ∷ options) bytes (judges m v) → (IsLimit v → ⊥) → IsFoundValid (verdict_text m v) v

@@ -35,7 +35,7 @@ fn judge_chirotope(
     budgets: Budgets,
 ) -> Result<Answer, NoMemory>
     requires { AreBudgets budgets }
-    ensures { IfOk result (DecisionMeans chirotope budgets) }
+    ensures { IfOk result (DecisionMeans budgets chirotope) }
 {
     chirotope.is_lawful();
     match decide(alloc, &chirotope, budgets) {

@@ -1,6 +1,6 @@
 //! A whole run: from the words and the source to what the sink takes.
 
-ghost use Rattle.std.specs.Prelude.{◌≡◌, ◌≢◌, ◌⊎◌, ◌≤◌, IfOk, map, string_bytes};
+ghost use Rattle.std.specs.Prelude.{ℕ, ◌≡◌, ◌≢◌, ◌⊎◌, ◌≤◌, IfOk, List, map, string_bytes};
 ghost use Rattle.std.specs.Io.KnownBytes.{Appends, Keeps};
 ghost use Rattle.om_port.specs.Causes.{Rose, TakesSome};
 ghost use Rattle.om_words.specs.Words.{AreCommand, Names};
@@ -8,7 +8,8 @@ ghost use Rattle.om_program.specs.Answers.{IsReply, status_of, text_of};
 ghost use Rattle.om_program.specs.Statuses.{IsAnswered};
 ghost use Rattle.om_program.specs.Run.{AreReadingCommand, IsFront, IsAnswer, IsCutOffAnswer, IsTaskAnswer, IsCutOffTask, IsMeantBy};
 ghost use Rattle.om_program.specs.Completeness.{IsAnswerable, IsDoneOrNoMemory};
-ghost use Rattle.om_program.specs.Meaning.{TaskMeans};
+ghost use Rattle.om_program.specs.Determined.{IsDetermined};
+ghost use Rattle.om_program.specs.Meaning.{Means, TaskMeans};
 ghost use Rattle.om_words.specs.Tasks.{HasLawfulArguments, reads};
 ghost use Rattle.om_program.specs.ValidClaims.{VerdictsAreFoundValid};
 
@@ -36,6 +37,9 @@ pub fn run<R: Threads + Sync, S: Source, K: Sink>(
 ) -> Status
     // With the statuses 0 to 3 the status, and the bytes taken by the sink, are what the words and the input mean.
     ensures answer { IsAnswered result → IsAnswer (map string_bytes words.now) (S.left source.old) result (K.taken sink.old) (K.taken sink.new) }
+
+    // Words and bytes have one answer: all that they mean has one status and one text.
+    ensures determined { (bytes : List ℕ) → IsDetermined (Means (map string_bytes words.now) bytes) }
 
     // A read fault and want of memory write nothing; after a write fault a proper prefix of the meaning's text was taken.
     ensures silent_fault { result ≡ Status.ReadFault → Keeps (K.taken sink.old) (K.taken sink.new) }

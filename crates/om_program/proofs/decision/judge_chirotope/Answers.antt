@@ -12,4 +12,4 @@ returns-in-Ok c = decided c.in-Ok.verdict (verdict_decided c.args.chirotope c.ar
 pub returns-in-Err-NotRank3 : goal.returns-in-Err-NotRank3
 returns-in-Err-NotRank3 c =
     let refused = subst (IsRefusal c.args.chirotope) c.in-Err-NotRank3.field-0-is c.in-Err-NotRank3.ensures.refused in
-    rw c.in-Err-NotRank3.r-is (subst (λ r. DecisionMeans c.args.chirotope c.args.budgets (says (line.RefusedNotrank3 r))) refused.0 (other_rank refused.1))
+    rw c.in-Err-NotRank3.r-is (subst (λ r. DecisionMeans c.args.budgets c.args.chirotope (says (line.RefusedNotrank3 r))) refused.0 (other_rank refused.1))

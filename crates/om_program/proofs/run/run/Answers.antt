@@ -5,6 +5,7 @@ use Rattle.om_words.specs.Tasks.{reads}
 use Rattle.om_program.proofs.CompletenessLaws.{always_answered}
 use Rattle.om_program.specs.Meaning.{Means}
 use Rattle.om_program.proofs.MeaningLaws.{whole, cut_off, named_answer, named_cut_off, usage_meant}
+use Rattle.om_program.proofs.OneAnswer.{words_determined}
 use Rattle.om_program.proofs.ValidClaimLaws.{verdicts_found_valid}
 use Rattle.om_program.proofs.run.run.Goals as goal
 
@@ -22,6 +23,12 @@ returns-in-Ok-clause-decided g c = verdicts_found_valid
 
 pub returns-in-Err-clause-decided : goal.returns-in-Err-clause-decided
 returns-in-Err-clause-decided g c = verdicts_found_valid
+
+pub returns-in-Ok-clause-determined : goal.returns-in-Ok-clause-determined
+returns-in-Ok-clause-determined g c = words_determined _ _ c.in-Ok.ensures.task
+
+pub returns-in-Err-clause-determined : goal.returns-in-Err-clause-determined
+returns-in-Err-clause-determined g c = words_determined _ _ c.in-Err.ensures.task
 
 pub returns-in-Err-clause-answer : goal.returns-in-Err-clause-answer
 returns-in-Err-clause-answer g c = λ answered. whole (Means _) _ _ _ _ _ (usage_meant _ _ _ c.in-Err.ensures.usage) (c.write_usage.ensures.whole answered)
