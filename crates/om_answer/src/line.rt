@@ -13,11 +13,12 @@ pub enum Line {
     Covector,
     /// The sign vector isn't a covector.
     NotCovector,
-    /// The claim's vectors realize its oriented matroid.
+    /// The claim's vectors realize the chirotope of its document.
     ValidRealizable,
-    /// The claim's entries are a final polynomial of its oriented matroid.
+    /// The claim's entries are a biquadratic final polynomial of the chirotope of its document: no vectors of whole numbers
+    /// realize it.
     ValidNonrealizable,
-    /// The claim's weights show that there is no final polynomial of this form.
+    /// The claim's weights show that the chirotope of its document has no biquadratic final polynomial.
     ValidUndecided,
     /// The circuit `x` fits the colours.
     Circuit {
@@ -146,9 +147,10 @@ pub enum Line {
         p: Subset,
         q: Subset,
     },
-    /// The claim has no certificate.
+    /// The claim's verdict is a limit, which has no certificate.
     RefusedNocertificate,
-    /// The certificate has `given` vectors or weights in place of `wanted`.
+    /// The claim has `given` vectors or weights, and a certificate has `wanted`: a vector for each element, or a weight for
+    /// each triple on which the chirotope isn't 0.
     RefusedNumber {
         wanted: u32,
         given: u32,
@@ -157,7 +159,7 @@ pub enum Line {
     RefusedWrongsign {
         triple: Subset,
     },
-    /// Entry `entry`, counted from 1, is no statement that the signs give.
+    /// Entry `entry`, counted from 1, is the first that is no lawful statement of the chirotope.
     RefusedUnlawful {
         entry: u32,
     },
@@ -169,7 +171,7 @@ pub enum Line {
     },
     /// No entry is strict.
     RefusedNostrict,
-    /// Weight `entry`, counted from 1, isn't that of the bracket whose turn it is.
+    /// Weight `entry`, counted from 1, is the first that isn't that of the bracket whose turn it is.
     RefusedBracket {
         entry: u32,
     },
