@@ -149,8 +149,8 @@ pub enum Line {
     },
     /// The claim's verdict is a limit, which has no certificate.
     RefusedNocertificate,
-    /// The claim has `given` vectors or weights, and a certificate has `wanted`: a vector for each element, or a weight for
-    /// each triple on which the chirotope isn't 0.
+    /// The claim has `given` vectors or weights in place of `wanted`: a vector for each element, or a weight for each triple
+    /// on which the chirotope isn't 0.
     RefusedNumber {
         wanted: u32,
         given: u32,

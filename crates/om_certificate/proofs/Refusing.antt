@@ -10,6 +10,7 @@ use Rattle.std.proofs.lemmas.Option.{slice_get_within, get_or_from_slice_get, sl
 use Rattle.om_subsets.specs.Members.{Chosen}
 use Rattle.om_subsets.specs.Subsets.{rank_of, IsTriple}
 use Rattle.om_subsets.specs.Lists as lists
+use Rattle.om_subsets.proofs.Firsts.{same_chosen}
 use Rattle.om_subsets.proofs.Order.{lexicographic, same_triple}
 use Rattle.om_chirotope.specs.Map.{SignMap, chi_of}
 use Rattle.om_vectors.specs.WholeVectors.{WholeVector}
@@ -31,9 +32,6 @@ use Rattle.om_certificate.proofs.Triples.{triple_elements}
 
 -- ---- the first of its kind
 
-chosen_same : (s t : Chosen) → s.n ≡ t.n → s.elements ≡ t.elements → s ≡ t
-chosen_same s t e f = ap (λ k. record { n = k; elements = s.elements }) e ∙ ap (λ xs. record { n = t.n; elements = xs }) f
-
 first_triple :
     (n : ℕ) (P : List ℕ → Type 0) (s t : Chosen)
     → s.n ≡ n
@@ -46,7 +44,7 @@ first_triple :
     → ((b : List ℕ) → IsTriple n b → lists.IsBefore b t.elements → P b)
     → s ≡ t
 first_triple n P s t e f hs ht ns nt fs ft = elim (cases_order (rank_of n s.elements) (rank_of n t.elements)) [
-  | inl q ↦ chosen_same s t (e ∙ sym f) (same_triple n s.elements t.elements hs ht q)
+  | inl q ↦ same_chosen s t (e ∙ sym f) (same_triple n s.elements t.elements hs ht q)
   | inr (inl l) ↦ absurd (ns (ft s.elements hs ((lexicographic 1 n s.elements t.elements hs.list ht.list (hs.size ∙ sym ht.size)).1 l)))
   | inr (inr l) ↦ absurd (nt (fs t.elements ht ((lexicographic 1 n t.elements s.elements ht.list hs.list (ht.size ∙ sym hs.size)).1 l)))
 ]

@@ -3,11 +3,13 @@
 -- Main results: by the rank it is no more (narrow_by_rank) or more (wide_by_rank, width_cause); a chirotope of rank 3 has few values (few_triples,
 -- narrow_of_rank_3); the rank of what denotes the same (rank_of_same); the cause of a width, and of a list, as that of a list (list_of_width,
 -- list_of_cause).
-use Rattle.std.specs.Prelude.{ℕ, ◌≡◌, ◌≤◌, ◌<◌, ◌*◌, List, refl}
+use Rattle.std.specs.Prelude.{ℕ, ◌≡◌, ◌≤◌, ◌<◌, ◌*◌, List}
 use Rattle.std.proofs.Common.{zero, suc, sym, ap, ◌∙◌, arith}
+use Rattle.std.proofs.lemmas.Nat.{mul-le}
 use Rattle.om_signs.specs.declared.sign.Sign.{Sign}
 use Rattle.om_signs.specs.declared.limits.TheConstants.{MAX_ELEMENTS, MAX_VALUES}
 use Rattle.om_subsets.specs.Subsets.{choose}
+use Rattle.om_subsets.proofs.Counts.{choose_two}
 use Rattle.om_chirotope.specs.Map.{SignMap}
 use Rattle.om_chirotope.specs.Chirotope.{IsChirotope}
 use Rattle.om_denotation.specs.Covectors.{IsCovectorOfChirotope}
@@ -58,23 +60,8 @@ rank_of_same n k P Q rank e both r = record {
 
 -- ---- rank 3
 
-choose_none : (n : ℕ) → choose n 0 ≡ 1
-choose_none zero = refl
-choose_none (suc n) = refl
-
-choose_one : (n : ℕ) → choose n 1 ≡ n
-choose_one zero = refl
-choose_one (suc n) = let a = choose_none n in let b = choose_one n in omega arith
-
-choose_two : (n : ℕ) → choose n 2 ≤ n * n
-choose_two zero = omega arith
-choose_two (suc n) = let a = choose_one n in let b = choose_two n in grind arith
-
 choose_two_more : (n : ℕ) → n ≤ MAX_ELEMENTS → choose n 2 ≤ 400
-choose_two_more n l = let a = choose_two n in let s = squares n MAX_ELEMENTS l in omega (arith, a, s)
-  where
-    squares : (a b : ℕ) → a ≤ b → a * a ≤ b * b
-    squares a b l = grind arith
+choose_two_more n l = let a = choose_two n in let s = mul-le n n MAX_ELEMENTS MAX_ELEMENTS l l in omega (arith, a, s)
 
 -- each element more has at most 400 triples with it as the greatest
 choose_three : (n : ℕ) → n ≤ MAX_ELEMENTS → choose n 3 ≤ 400 * n

@@ -6,13 +6,14 @@ use Rattle.std.specs.List.{Contains}
 use Rattle.std.proofs.Common.{zero, suc, get_or, sym, ◌∙◌, ap, subst, inl, inr, arith}
 use Rattle.std.proofs.lemmas.List.{length-append, length-map}
 use Rattle.std.proofs.lemmas.List.Elements.{All-contains, Contains-append_left, Contains-append_right}
+use Rattle.std.proofs.lemmas.Nat.{mul-le}
 use Rattle.om_signs.specs.declared.limits.TheConstants.{MAX_ELEMENTS, MAX_MEMBERS}
 use Rattle.om_signs.specs.declared.sign.Sign.{Sign}
 use Rattle.om_signs.specs.Sign.{opposite}
 use Rattle.om_subsets.specs.Subsets.{IsSubsetFrom, choose, rank_of, all_subsets}
 use Rattle.om_subsets.proofs.Order.{length-subsets_from, rank_from-lt, get_or-rank_from, lexicographic}
 use Rattle.om_subsets.specs.Members.{Chosen}
-use Rattle.om_subsets.proofs.Counts.{choose_none}
+use Rattle.om_subsets.proofs.Counts.{choose_two}
 use Rattle.om_subsets.proofs.Table.{choose_most}
 use Rattle.om_signs.specs.declared.raw_map.RawMap.{RawMap}
 use Rattle.om_chirotope.specs.Chirotope.{IsSound}
@@ -23,14 +24,6 @@ use Rattle.om_convert.proofs.CountingLaws.{distinct_few}
 use Rattle.om_mutate.specs.Mutations.{ListsMutations, nth}
 
 -- ---- cocircuits
-
-choose_one : (n : ℕ) → choose n 1 ≡ n
-choose_one zero = refl
-choose_one (suc n) = let a = choose_none n in let b = choose_one n in omega arith
-
-pub choose_two : (n : ℕ) → choose n 2 ≤ n * n
-choose_two zero = omega arith
-choose_two (suc n) = let a = choose_one n in let b = choose_two n in grind arith
 
 module _ (m : SignMap) (three : m.rank ≡ 3) where
   -- the vectors of all pairs, and their negatives
@@ -78,13 +71,10 @@ module _ (m : SignMap) (three : m.rank ≡ 3) where
   pub few_cocircuits : m.elements ≤ MAX_ELEMENTS → HasMoreThan MAX_MEMBERS (IsCocircuitOfChirotope m) → ⊥
   few_cocircuits high more =
       let l = distinct_few more.members candidates more.distinct (λ X c. candidate X (All-contains (IsCocircuitOfChirotope m) more.members X more.each c)) in
-      let s = squares m.elements MAX_ELEMENTS high in
+      let s = mul-le m.elements m.elements MAX_ELEMENTS MAX_ELEMENTS high high in
       let c = candidate_count in
       let k = more.many in
       omega arith
-    where
-      squares : (a b : ℕ) → a ≤ b → a * a ≤ b * b
-      squares a b l = grind arith
 
 -- ---- mutations
 

@@ -1,10 +1,10 @@
 -- How many covectors a chirotope of rank 3 may have.
 --
 -- Main results: base_swapped (an element where a covector isn't zero goes into a base, whose elements where the covector vanishes stay);
--- rank_by_base (covectors that vanish on some elements of a base have as much rank as there are others); few_covectors (no more than a list
--- may have).
+-- rank_by_base (covectors that vanish on some elements of a base have no more rank than there are others); most_covectors (in rank 3 at most
+-- 6 n^2 + 1 on n elements); few_covectors (no more than a list may have).
 -- Reference: Björner, Las Vergnas, Sturmfels, White and Ziegler, Oriented Matroids, chapters 3 and 4.
-use Rattle.std.proofs.Common.{ℕ, zero, suc, ◌≡◌, ◌≢◌, ◌-◌, ◌≤◌, List, [], ◌∷◌, ◌++◌, length, refl, sym, ap, subst, ◌∙◌, ⊎_elim, arith, append_assoc, append-nil}
+use Rattle.std.proofs.Common.{ℕ, zero, suc, ◌≡◌, ◌≢◌, ◌+◌, ◌*◌, ◌-◌, ◌≤◌, List, [], ◌∷◌, ◌++◌, length, refl, sym, ap, subst, ◌∙◌, ⊎_elim, arith, append_assoc, append-nil}
 use Rattle.std.proofs.lemmas.List.{length-append}
 use Rattle.std.proofs.lemmas.Nat.{mul-le}
 use Rattle.om_signs.specs.declared.limits.TheConstants.{MAX_ELEMENTS, MAX_MEMBERS}
@@ -52,7 +52,7 @@ other_place X C o f nx nc =
     )
 
 module _ (E : List ℕ) (chi : List ℕ → Sign) (om : theory.IsChirotope E chi) where
-  -- with f at the end, and without some element of q, it is a base
+  -- some list with one element fewer than q, then p, then f, is a base
   abbrev IsSwapped : List ℕ → List ℕ → ℕ → Type 0
   IsSwapped q p f = (u : List ℕ) × (length q ≡ suc (length u)) × IsBase chi (u ++ (p ++ f ∷ []))
 
@@ -88,6 +88,7 @@ module _ (E : List ℕ) (chi : List ℕ → Sign) (om : theory.IsChirotope E chi
 -- ---- the rank of a chirotope
 
 module _ (m : SignMap) (chirotope : IsChirotope m) where
+  -- the elements 1 to n of the map
   abbrev elements : List ℕ
   elements = elements_to m.elements
 
@@ -135,6 +136,10 @@ module _ (m : SignMap) (chirotope : IsChirotope m) where
             );
       }
 
+  most_covectors : m.rank ≡ 3 → HasMoreThan (6 * (m.elements * m.elements) + 1) (IsCovectorOfChirotope m) → ⊥
+  most_covectors three more = few_by_rank 2 m.elements (IsCovectorOfChirotope m) covectors_closed (subst (λ r. HasRankAtMost r (IsCovectorOfChirotope m)) three rank_of_covectors)
+      (record { members = more.members; many = (let k = more.many in let b = most_in_rank_three m.elements in omega arith); distinct = more.distinct; each = more.each })
+
   pub few_covectors : m.rank ≡ 3 → m.elements ≤ MAX_ELEMENTS → HasMoreThan MAX_MEMBERS (IsCovectorOfChirotope m) → ⊥
-  few_covectors three high more = few_by_rank 2 m.elements (IsCovectorOfChirotope m) covectors_closed (subst (λ r. HasRankAtMost r (IsCovectorOfChirotope m)) three rank_of_covectors)
-      (record { members = more.members; many = (let k = more.many in let b = most_in_rank_three m.elements in let s = mul-le m.elements m.elements MAX_ELEMENTS MAX_ELEMENTS high high in omega arith); distinct = more.distinct; each = more.each })
+  few_covectors three high more = most_covectors three
+      (record { members = more.members; many = (let k = more.many in let s = mul-le m.elements m.elements MAX_ELEMENTS MAX_ELEMENTS high high in omega arith); distinct = more.distinct; each = more.each })

@@ -1,6 +1,6 @@
 -- The number of things with a property: how two numbers compare, and what it is for a property that is made of others.
 --
--- Main results: fewer, number_less; number_same, number_none, number_one, number_either, number_without, number_pairs.
+-- Main results: number_less; number_same, number_none, number_one, number_either, number_without, number_pairs.
 use Rattle.std.proofs.Common.{ℕ, ◌≡◌, ◌+◌, ◌-◌, ◌*◌, ◌<◌, ◌≤◌, ◌⊎◌, ◌↔◌, List, [], ◌∷◌, ◌++◌, length, map, inl, inr, arith, sym, ◌∙◌, refl, ap, subst}
 use Rattle.std.proofs.lemmas.List.{length-append, length-map}
 use Rattle.std.proofs.Math.Nat.{suc-mul}
@@ -25,7 +25,7 @@ without y x [] b (inr h) n = h
 without y x (z ∷ a) b (inl e) n = inl e
 without y x (z ∷ a) b (inr h) n = inr (without y x a b h n)
 
-pub fewer : {A : Type 0} (xs ys : List A) → AreDifferent xs → ((x : A) → IsAmong x xs → IsAmong x ys) → length xs ≤ length ys
+fewer : {A : Type 0} (xs ys : List A) → AreDifferent xs → ((x : A) → IsAmong x xs → IsAmong x ys) → length xs ≤ length ys
 fewer [] ys d h = omega arith
 fewer (x ∷ xs) ys d h =
     let s = split_at x ys (h x (inl refl)) in

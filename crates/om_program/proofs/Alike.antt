@@ -1,6 +1,6 @@
 -- Equal answers end a run alike.
 --
--- Main results: alike, both_say; the first element above a number is one (one_place) or none (found_or_none).
+-- Main results: alike, both_say; one element at most is found (one_place), and not both an element and none (found_or_none).
 use Rattle.std.specs.Prelude.{ℕ, ◌≡◌, Option, Some, None}
 use Rattle.std.proofs.Common.{sym, ◌∙◌, ap}
 use Rattle.om_answer.specs.declared.line.Line.{Line}

@@ -14,15 +14,15 @@ mod MadeLaws
 mod MeaningLaws
 mod MutationLaws
 mod OneAnswer
+mod OneAnyRank
 mod OneChirotope
 mod OneClaim
 mod OneConversion
 mod OneDocument
-mod OneFit
 mod OneMade
 mod OneOperation
+mod OneRankThree
 mod OneRefusal
-mod OneSweep
 mod OneTest
 mod OneText
 mod OneUsage

@@ -1,6 +1,6 @@
 -- Words and bytes have one answer: one status and one text.
 --
--- Main results: task_determined, words_determined.
+-- Main results: words_determined.
 use Rattle.std.specs.Prelude.{ℕ, ◌≡◌, ◌↔◌, List, Result, Ok, refl}
 use Rattle.std.proofs.Common.{sym, ◌∙◌, ap, subst, arith}
 use Rattle.om_text.specs.declared.code.Code.{Code}
@@ -34,11 +34,11 @@ use Rattle.om_program.proofs.OneChirotope.{for_chirotope_determined, for_kept_ch
 use Rattle.om_program.proofs.OneClaim.{one_claim_line}
 use Rattle.om_program.proofs.OneConversion.{conversions_determined}
 use Rattle.om_program.proofs.OneDocument.{lexical_extensions_determined, paintings_determined}
-use Rattle.om_program.proofs.OneFit.{paintings_determined_of_map, hulls_determined, lexical_extensions_determined_of_map}
+use Rattle.om_program.proofs.OneAnyRank.{paintings_determined_of_map, hulls_determined, lexical_extensions_determined_of_map}
 use Rattle.om_program.proofs.OneMade.{made_determined}
 use Rattle.om_program.proofs.OneOperation.{operations_determined}
 use Rattle.om_program.proofs.OneRefusal.{not_refused, refusals_determined}
-use Rattle.om_program.proofs.OneSweep.{memberships_determined, wirings_determined, mutations_determined, flips_determined, extension_lists_determined, decisions_determined}
+use Rattle.om_program.proofs.OneRankThree.{memberships_determined, wirings_determined, mutations_determined, flips_determined, extension_lists_determined, decisions_determined}
 use Rattle.om_program.proofs.OneTest.{tests_determined, upgrades_determined}
 use Rattle.om_program.proofs.OneUsage.{one_usage, no_usage}
 
@@ -105,7 +105,7 @@ one_fault l m c e (p, q) = both_say (line.RefusedLine l c) (line.RefusedLine m e
 one_made : (t : Task) (seed count seed' count' : ℕ) → t ≡ Make seed count → t ≡ Make seed' count' → (seed ≡ seed') × (count ≡ count')
 one_made t seed count seed' count' p q = let same : Make seed count ≡ Make seed' count' = sym p ∙ q in (cc, cc)
 
-pub task_determined : (t : Task) (bytes : List ℕ) → IsDetermined (TaskMeans t bytes)
+task_determined : (t : Task) (bytes : List ℕ) → IsDetermined (TaskMeans t bytes)
 task_determined t bytes a b (long reading past) (long reading' past') = both_say line.RefusedLong line.RefusedLong refl
 task_determined t bytes a b (long reading past) (faulty n' c' reading' short' at') = absurd (omega arith)
 task_determined t bytes a b (long reading past) (read d' b' reading' short' is' means') = absurd (omega arith)

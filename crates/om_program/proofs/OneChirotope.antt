@@ -48,7 +48,7 @@ one_chirotope d c k p q = by_body d.body p q
 pub one_width : (d : Document) (v w : ℕ) → IsTooWide d v → IsTooWide d w → v ≡ w
 one_width d v w p q = p.number ∙ ap (λ m. choose m.elements m.rank) (one_chirotope d p.map q.map p.of q.of) ∙ sym q.number
 
--- what means something for one chirotope of a document means it for the other
+-- an answer that is meant for one chirotope of a document is meant for the other
 meant_for_one : (Meaning : SignMap → Answer → Type 0) (d : Document) (m k : SignMap) → IsChirotopeOf d m → IsChirotopeOf d k → (b : Answer) → Meaning k b → Meaning m b
 meant_for_one Meaning d m k p q b = subst (λ u. Meaning u b) (one_chirotope d k m q p)
 

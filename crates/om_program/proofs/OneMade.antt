@@ -14,7 +14,7 @@ use Rattle.om_program.specs.Answers.{makes}
 use Rattle.om_program.specs.Determined.{IsDetermined}
 use Rattle.om_program.specs.MadeInputs.{IsMade, made}
 use Rattle.om_program.proofs.Alike.{alike}
-use Rattle.om_program.proofs.OneSweep.{one_mutation_list}
+use Rattle.om_program.proofs.OneRankThree.{one_mutation_list}
 
 -- ---- what is counted
 

@@ -41,7 +41,7 @@ made_alike o d e f p q =
 
 -- ---- the cases exclude each other
 
--- what takes an element away is made without a chirotope, and of no more members
+-- what would take the only element away is made without a chirotope, and has no more members
 direct : (b : Body) (o : Operation) (n : ℕ) → TakesOnly o n → TakesChirotope b o → ⊥
 direct (body.Covectors members) Dual n only takes = only
 direct (body.Covectors members) _ n only takes = takes

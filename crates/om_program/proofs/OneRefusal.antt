@@ -8,6 +8,7 @@ use Rattle.std.proofs.Common.{sym, ◌∙◌, ap, subst, inl, inr, arith}
 use Rattle.om_signs.specs.declared.raw_map.RawMap.{RawMap}
 use Rattle.om_subsets.specs.Lists.{IsBefore}
 use Rattle.om_subsets.specs.Members.{Chosen}
+use Rattle.om_subsets.proofs.Firsts.{same_chosen}
 use Rattle.om_chirotope.specs.Map.{SignMap, map_of}
 use Rattle.om_chirotope.specs.Chirotope.{IsPair, IsOrthogonalPair, IsChirotope, IsFirstViolated}
 use Rattle.om_chirotope.specs.declared.map_refused.MapRefused.{MapRefused}
@@ -47,9 +48,6 @@ one_first P s t l p q f g = elim (ordered s t l) [
   | inr (inl b) ↦ absurd (f t (before_in_order t s b) q)
   | inr (inr e) ↦ e
 ]
-
-pub same_chosen : (s t : Chosen) → s.n ≡ t.n → s.elements ≡ t.elements → s ≡ t
-same_chosen s t n e = ap (λ k. record { n = k; elements = s.elements }) n ∙ ap (λ xs. record { n = t.n; elements = xs }) e
 
 -- ---- maps
 

@@ -8,6 +8,7 @@ use Rattle.std.proofs.Common.{sym, ◌∙◌, ap, subst, inl, inr, arith}
 use Rattle.std.proofs.lemmas.Bool.{cases_order}
 use Rattle.om_signs.specs.declared.raw_map.RawMap.{RawMap}
 use Rattle.om_subsets.specs.Members.{Chosen}
+use Rattle.om_subsets.proofs.Firsts.{same_chosen}
 use Rattle.om_chirotope.specs.Map.{SignMap, map_of}
 use Rattle.om_chirotope.specs.ThreeTerm.{MeetsThreeTermTest, HasExchange}
 use Rattle.om_chirotope.proofs.Axioms.{not_all_zero}
@@ -19,14 +20,14 @@ use Rattle.om_program.specs.Determined.{IsDetermined}
 use Rattle.om_program.specs.ThreeTermTests.{failure_line, IsFirstFailure, IsTestOfMap, fails, meets, IsThreeTermTest, of_map, refused, no_map}
 use Rattle.om_program.specs.Upgrades as upgrade
 use Rattle.om_program.proofs.Alike.{both_say}
-use Rattle.om_program.proofs.OneRefusal.{one_first, same_chosen, not_refused, refusals_determined}
+use Rattle.om_program.proofs.OneRefusal.{one_first, not_refused, refusals_determined}
 
 -- ---- the first violated exchange
 
 exchange_broken : (m : SignMap) (b c : Chosen) (e : ℕ) → HasExchange m → IsFirstUnexchanged m b c e → ⊥
 exchange_broken m b c e h f = let v = f.first.violated in v.violated (h b.elements c.elements e v.first v.second v.inside v.outside)
 
--- the least number with a property is one
+-- a property has one least number at most
 one_element : (P : ℕ → Type 0) (e f : ℕ) → P e → P f → ((x : ℕ) → x < e → P x → ⊥) → ((x : ℕ) → x < f → P x → ⊥) → e ≡ f
 one_element P e f p q g h = elim (cases_order e f) [
   | inl s ↦ s

@@ -1,14 +1,13 @@
 -- Documents that are printed alike.
 --
+-- Main definitions: IsNormalAs, a body of a kind that meets its axioms and is normal.
 -- Main results: denoted_alike.
 -- Reference: Björner, Las Vergnas, Sturmfels, White and Ziegler, Oriented Matroids, chapter 3.
 use Rattle.std.specs.Prelude.{ℕ, ◌≡◌, ◌↔◌, ◌∷◌, ◌++◌, List, [], true, codes, decimal, refl}
 use Rattle.std.specs.Cmp.{both_ways}
 use Rattle.std.specs.List.{Contains, list_any}
-use Rattle.std.specs.List.Sorted.{IsPermutation}
 use Rattle.std.proofs.Common.{sym, ◌∙◌, ap, subst}
 use Rattle.std.proofs.lemmas.List.Folds.{list_any_at}
-use Rattle.std.proofs.lemmas.List.Sorted.{IsPermutation-trans}
 use Rattle.std.proofs.lemmas.Map.Views.{Contains-from_any}
 use Rattle.om_signs.specs.declared.raw_map.RawMap.{RawMap}
 use Rattle.om_signs.specs.declared.sign.Sign.{Sign}
@@ -26,7 +25,7 @@ use Rattle.om_text.specs.Form.{IsBodyOn}
 use Rattle.om_text.specs.Print.{text_of, member_lines, printed}
 use Rattle.om_text.specs.Rows.{same_row, sorted}
 use Rattle.om_text.proofs.Distinct.{same_row-Decides}
-use Rattle.om_text.proofs.Sorting.{sorted_is, sorted_permutes, sorted_rises, same_members}
+use Rattle.om_text.proofs.Sorting.{same_sorted}
 use Rattle.om_representation.specs.Axioms.{MeetsAxiomsOn}
 use Rattle.om_representation.specs.Covectors.{IsCovectorIn, IsCovectorOfBody}
 use Rattle.om_representation.specs.Documents.{raw_of}
@@ -51,9 +50,7 @@ found_too xs ys z both found =
     list_any_at (same_row z) ys c.0 z c.1 ((same_row-Decides z _).1 (sym c.2))
 
 sorted_alike : (xs ys : List (List Sign)) → AreDistinct xs → AreDistinct ys → ((X : List Sign) → Contains xs X ↔ Contains ys X) → sorted xs ≡ sorted ys
-sorted_alike xs ys d e same =
-    let moves : IsPermutation xs ys = same_members xs ys d e (λ z. both_ways _ _ (found_too xs ys z (same z).0) (found_too ys xs z (same z).1)) in
-    sym (sorted_is xs (sorted ys) (IsPermutation-trans xs ys (sorted ys) moves (sorted_permutes ys)) (sorted_rises ys))
+sorted_alike xs ys d e same = same_sorted xs ys d e (λ z. both_ways _ _ (found_too xs ys z (same z).0) (found_too ys xs z (same z).1))
 
 -- the text of sorted members, under the name of their kind
 abbrev members_text : List ℕ → ℕ → List (List Sign) → List ℕ

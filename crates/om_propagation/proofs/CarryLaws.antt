@@ -44,7 +44,7 @@ use Rattle.om_matroid.proofs.ExchangeLaws.{symmetric_exchange}
 use Rattle.om_denotation.proofs.ChirotopeBridge.{tuples_of, cocircuit_function, cocircuit_supported, cocircuit_list, increasing_subset}
 use Rattle.om_denotation.proofs.ListFunctions.{at_place, place_function}
 use Rattle.om_denotation.proofs.Uniqueness.{tuples_at}
-use Rattle.om_propagation.specs.Hitting.{IsNonzeroOn, MeetsEach, MissesSome, IsNormalOf, carried_sign, IsCarried, HasNoneCarried, AreFirstSigns}
+use Rattle.om_propagation.specs.Hitting.{IsNonzeroOn, MeetsEach, MissesOne, IsNormalOf, carried_sign, IsCarried, HasNoneCarried, AreFirstSigns}
 use Rattle.om_propagation.proofs.HittingLaws.{Meets, base_hits, hitting_base, vanishing_same}
 use Rattle.om_propagation.proofs.SetLaws.{exchanged_before, first_new, IsFirstNew}
 
@@ -276,7 +276,7 @@ earlier_place n t e h list inside low below fresh =
     let size = length-with h (without_element e t) fresh ∙ length-without 1 n e t list inside in
     (lexicographic 1 n (with_element h (without_element e t)) t lawful list size).0 (exchanged_before 1 n e h t list inside below fresh)
 
-pub zero_sign : (n : ℕ) (members : List (List Sign)) (t : List ℕ) (k : ℕ) → IsSubsetFrom 1 n t → rank_of n t ≡ k → MissesSome members t → (m : SignMap) → IsNormalOf n members m → m.rank ≡ length t
+pub zero_sign : (n : ℕ) (members : List (List Sign)) (t : List ℕ) (k : ℕ) → IsSubsetFrom 1 n t → rank_of n t ≡ k → MissesOne (Contains members) t → (m : SignMap) → IsNormalOf n members m → m.rank ≡ length t
     → Zero ≡ at m.signs k
 zero_sign n members t k list at_element misses m h r =
     subst (λ i. IsSubsetFrom 1 i t → rank_of i t ≡ k → IsNormalOf i members m → Zero ≡ at m.signs k) h.elements

@@ -30,10 +30,6 @@ MissesOne P s = (Y : List Sign) × P Y × (IsNonzeroOn s Y → ⊥)
 abbrev pub MeetsEach : List (List Sign) → List ℕ → Type 0
 MeetsEach members s = MeetsFamily (Contains members) s
 
--- some vector of a list is zero on the set
-abbrev pub MissesSome : List (List Sign) → List ℕ → Type 0
-MissesSome members s = MissesOne (Contains members) s
-
 -- a vector of a list that isn't zero
 abbrev pub IsNonzeroMember : List (List Sign) → List Sign → Type 0
 IsNonzeroMember members Y = Contains members Y × (IsZero Y → ⊥)

@@ -1,8 +1,8 @@
 -- How many increasing lists there are, and how long they are.
 --
--- Main results: among more numbers there are no fewer lists (choose_more, choose_grows); one list is empty (choose_none); no list is longer than
--- the numbers are many (too_long).
-use Rattle.std.proofs.Common.{ℕ, zero, suc, ◌≡◌, ◌<◌, ◌≤◌, List, length, refl, arith, inl, inr}
+-- Main results: among more numbers there are no fewer lists (choose_more, choose_grows); one list is empty (choose_none), as many as
+-- numbers have one (choose_one), and few have two (choose_two); no list is longer than the numbers are many (too_long).
+use Rattle.std.proofs.Common.{ℕ, zero, suc, ◌≡◌, ◌*◌, ◌<◌, ◌≤◌, List, length, refl, arith, inl, inr}
 use Rattle.std.proofs.lemmas.Bool.{cases_lt}
 use Rattle.om_subsets.specs.Subsets.{choose, IsSubsetFrom}
 use Rattle.om_subsets.proofs.Order.{rank_from-lt}
@@ -11,6 +11,14 @@ use Rattle.om_subsets.proofs.Table.{choose_above}
 pub choose_none : (n : ℕ) → choose n zero ≡ 1
 choose_none zero = refl
 choose_none (suc n) = refl
+
+pub choose_one : (n : ℕ) → choose n 1 ≡ n
+choose_one zero = refl
+choose_one (suc n) = let a = choose_none n in let b = choose_one n in omega arith
+
+pub choose_two : (n : ℕ) → choose n 2 ≤ n * n
+choose_two zero = omega arith
+choose_two (suc n) = let a = choose_one n in let b = choose_two n in grind arith
 
 pub choose_more : (n r : ℕ) → choose n r ≤ choose (suc n) r
 choose_more n zero = let a = choose_none n in omega arith

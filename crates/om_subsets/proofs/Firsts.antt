@@ -1,9 +1,10 @@
 -- How an increasing list begins.
 --
 -- Main results: least_first and last_first, the first number of a list; without_first, the list behind it; first_below_second, its first two
--- numbers; same_members, lists with the same numbers are the same.
+-- numbers; same_members, lists with the same numbers are the same; same_chosen, sets with the same n and the same list are the same.
 use Rattle.std.proofs.Common.{ℕ, zero, suc, ◌≡◌, ◌+◌, ◌<◌, List, [], ◌∷◌, length, refl, sym, ◌∙◌, ap, subst, inl, inr, arith}
 use Rattle.std.proofs.lemmas.Bool.{cases_eq, eq-eqb}
+use Rattle.om_subsets.specs.Members.{Chosen}
 use Rattle.om_subsets.specs.Subsets.{IsSubsetFrom, IsMember, without_element}
 use Rattle.om_subsets.proofs.Order.{members_from}
 use Rattle.om_subsets.proofs.OneElement.{without_other}
@@ -53,3 +54,6 @@ same_members low (suc m) (x ∷ xs) (y ∷ ys) (inl a) (inl b) h k =
 same_members low (suc m) (x ∷ xs) (y ∷ ys) (inl a) (inr b) h k = let l = members_from (low + 1) m x (y ∷ ys) b.1 (h x (inl refl)) in let z = a.0 in absurd (omega arith)
 same_members low (suc m) (x ∷ xs) (y ∷ ys) (inr a) (inl b) h k = let l = members_from (low + 1) m y (x ∷ xs) a.1 (k y (inl refl)) in let z = b.0 in absurd (omega arith)
 same_members low (suc m) (x ∷ xs) (y ∷ ys) (inr a) (inr b) h k = same_members (low + 1) m (x ∷ xs) (y ∷ ys) a.1 b.1 h k
+
+pub same_chosen : (s t : Chosen) → s.n ≡ t.n → s.elements ≡ t.elements → s ≡ t
+same_chosen s t n e = ap (λ k. record { n = k; elements = s.elements }) n ∙ ap (λ xs. record { n = t.n; elements = xs }) e

@@ -1,6 +1,6 @@
 -- The words of a line in one are its bytes other than blanks.
 --
--- Main definitions: IsDocumentAtFront
+-- Main definitions: full_bytes and signs_of_bytes, the bytes of a line other than blanks, and their signs; IsDocumentAtFront
 -- Main results: concat-runs, are_signs-runs, count-runs, signs-runs, part_more, part_end
 use Rattle.std.proofs.Common.{◌≡◌, ℕ, suc, ◌+◌, ◌<◌, List, [], ◌∷◌, ◌++◌, true, false, not, ◌&&◌, ◌||◌, length, take, drop, set, replicate, get_or, ◌-◌, ◌≤◌, append_assoc, append-nil, length-append, refl, sym, ap, ◌∙◌, arith, inl, inr, map}
 use Rattle.std.specs.Prelude.{filter, count_by}
@@ -14,8 +14,15 @@ use Rattle.om_signs.specs.declared.sign.Sign.{Sign}
 use Rattle.om_text.specs.Lines.{with_first, is_blank, pieces, has_any, runs}
 use Rattle.om_text.specs.Words.{is_sign, sign_of_byte}
 use Rattle.om_text.specs.Document.{are_signs, signs_of_line}
-use Rattle.om_text.specs.ReaderParts.{full_bytes, signs_of_bytes}
 use Rattle.om_text.proofs.Distinct.{either}
+
+-- the bytes of a line other than blanks
+abbrev pub full_bytes : List ℕ → List ℕ
+full_bytes line = filter (λ b. not (is_blank b)) line
+
+-- the signs that these are
+abbrev pub signs_of_bytes : List ℕ → List Sign
+signs_of_bytes line = map sign_of_byte (full_bytes line)
 
 concat_full : (ps : List (List ℕ)) → concat (filter has_any ps) ≡ concat ps
 concat_full [] = refl

@@ -1,6 +1,6 @@
 -- Sorted members.
 --
--- Main results: sorted_is, sorted_permutes, sorted_rises, All-sorted, sorted_differ, length-sorted, distinct_differ, distinct_itself, same_members
+-- Main results: sorted_is, sorted_permutes, sorted_rises, All-sorted, sorted_differ, length-sorted, distinct_differ, distinct_itself, same_sorted, same_members
 use Rattle.std.proofs.Common.{◌≡◌, ◌≢◌, ◌≤◌, ◌+◌, ℕ, zero, suc, arith, List, [], ◌∷◌, false, cond, not, inl, inr, length, refl, sym, ap, subst, ◌∙◌}
 use Rattle.std.specs.Prelude.{All, AllPairs, filter, sum_by}
 use Rattle.std.specs.List.{list_any}
@@ -229,7 +229,9 @@ count-different z (x ∷ xs) p = elim (either (same_row z x)) [
   | inr n ↦ let i = count-different z xs (pairs_tail (λ x y. x ≢ y) x xs p) in rw n (omega arith)
 ]
 
+-- different members that are the same ones are the same where they are sorted
+pub same_sorted : (xs ys : List (List Sign)) → AllPairs (λ x y. x ≢ y) xs → AllPairs (λ x y. x ≢ y) ys → ((z : List Sign) → list_any (same_row z) xs ≡ list_any (same_row z) ys) → sorted xs ≡ sorted ys
+same_sorted xs ys p q h = unique (sorted xs) (sorted ys) (sorted_up xs) (sorted_up ys) (λ z. count-sorted z xs ∙ count-different z xs p ∙ ap (λ b. cond b 1 0) (h z) ∙ sym (count-different z ys q) ∙ sym (count-sorted z ys))
+
 pub same_members : (xs ys : List (List Sign)) → AllPairs (λ x y. x ≢ y) xs → AllPairs (λ x y. x ≢ y) ys → ((z : List Sign) → list_any (same_row z) xs ≡ list_any (same_row z) ys) → IsPermutation xs ys
-same_members xs ys p q h =
-    let e : sorted xs ≡ sorted ys = unique (sorted xs) (sorted ys) (sorted_up xs) (sorted_up ys) (λ z. count-sorted z xs ∙ count-different z xs p ∙ ap (λ b. cond b 1 0) (h z) ∙ sym (count-different z ys q) ∙ sym (count-sorted z ys)) in
-    IsPermutation-trans xs (sorted xs) ys (sorted_permutes xs) (subst (λ zs. IsPermutation zs ys) (sym e) (IsPermutation-sym ys (sorted ys) (sorted_permutes ys)))
+same_members xs ys p q h = IsPermutation-trans xs (sorted xs) ys (sorted_permutes xs) (subst (λ zs. IsPermutation zs ys) (sym (same_sorted xs ys p q h)) (IsPermutation-sym ys (sorted ys) (sorted_permutes ys)))

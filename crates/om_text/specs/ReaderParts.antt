@@ -1,5 +1,5 @@
 -- What the parts of the reader's code say of one more line. Not part of the definition of documents.
-use Rattle.std.specs.Prelude.{ℕ, ◌≡◌, ◌≢◌, ◌≤◌, List, ◌++◌, not, filter, map, cond, nat_eq, nat_le, Bool, true, Option, Some, None, Result, Ok, Err, length}
+use Rattle.std.specs.Prelude.{ℕ, ◌≡◌, ◌≢◌, ◌≤◌, List, ◌++◌, not, map, cond, nat_eq, nat_le, Bool, true, Option, Some, None, Result, Ok, Err, length}
 use Rattle.om_signs.specs.declared.limits.TheConstants.{MAX_ELEMENTS, MAX_MEMBERS}
 use Rattle.om_signs.specs.declared.block.Block.{Block}
 use Rattle.om_signs.specs.declared.raw_map.RawMap.{RawMap}
@@ -20,8 +20,7 @@ use Rattle.om_text.specs.declared.setting.Setting.{Setting}
 use Rattle.om_text.specs.Fault.{IsFault}
 use Rattle.om_text.specs.Part.{IsDocumentAtFront}
 use Rattle.om_text.specs.Reading.{added_body, outcome}
-use Rattle.om_text.specs.Lines.{is_blank, lines}
-use Rattle.om_text.specs.Words.{sign_of_byte}
+use Rattle.om_text.specs.Lines.{lines}
 use Rattle.om_text.specs.Blocks.{are_blocks, blocks_on}
 use Rattle.om_text.specs.Document.{has_signs, has_length, has_blocks_in, has_numbers_in, size_of, room_of}
 
@@ -30,14 +29,6 @@ abbrev pub IsStepUnlessMemory : {A : Type 0} → Result A Refusal → Result A C
 IsStepUnlessMemory (Ok x) read = read ≡ Ok x
 IsStepUnlessMemory (Err refusal.Memory) read = Unit {0}
 IsStepUnlessMemory (Err (refusal.Line c)) read = read ≡ Err c
-
--- the bytes of a line other than blanks
-abbrev pub full_bytes : List ℕ → List ℕ
-full_bytes line = filter (λ b. not (is_blank b)) line
-
--- the signs that these are
-abbrev pub signs_of_bytes : List ℕ → List Sign
-signs_of_bytes line = map sign_of_byte (full_bytes line)
 
 -- what is wrong with a body line before its words are read
 abbrev pub line_fault : Document → List (List ℕ) → Option Code

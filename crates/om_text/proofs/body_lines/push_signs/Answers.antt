@@ -1,7 +1,6 @@
 use Rattle.std.proofs.Common.{◌++◌, ap, sym, ◌∙◌, arith}
 use Rattle.std.proofs.lemmas.List.{take_all}
-use Rattle.om_text.specs.ReaderParts.{signs_of_bytes}
-use Rattle.om_text.proofs.Joined.{signs-runs}
+use Rattle.om_text.proofs.Joined.{signs_of_bytes, signs-runs}
 use Rattle.om_text.proofs.body_lines.push_signs.Goals as goal
 
 pub returns : goal.returns

@@ -9,6 +9,7 @@ use Rattle.std.proofs.lemmas.List.{ext_get_or}
 use Rattle.om_signs.specs.declared.sign.Sign.{Sign}
 use Rattle.om_subsets.specs.Members.{Chosen}
 use Rattle.om_subsets.specs.Subsets.{choose, rank_of}
+use Rattle.om_subsets.proofs.Firsts.{same_chosen}
 use Rattle.om_subsets.proofs.Order.{lexicographic, same_triple}
 use Rattle.om_chirotope.specs.Map.{SignMap}
 use Rattle.om_wiring.specs.Maps.{extended}
@@ -34,7 +35,7 @@ use Rattle.om_program.specs.MutationLists.{AreMutationsOfMap}
 use Rattle.om_program.specs.Sweeps as sweeps
 use Rattle.om_program.specs.Sweeps.{IsWiringOfMap, wiring_document}
 use Rattle.om_program.proofs.Alike.{alike, both_say, one_place, found_or_none}
-use Rattle.om_program.proofs.OneRefusal.{same_chosen, one_violated, not_violated}
+use Rattle.om_program.proofs.OneRefusal.{one_violated, not_violated}
 
 -- ---- memberships
 
@@ -75,6 +76,7 @@ module _ (l p : ℕ) (f g : ℕ → ℕ) (rises : (i j : ℕ) → i < j → j < 
       from_place (suc i) q.0 (behind i q.0 before.0 before.1 (omega arith)) q.1 q.2
 
 module _ (m : SignMap) where
+  -- the place of the i-th set among the sets of its size
   abbrev place : List Chosen → ℕ → ℕ
   place sets i = rank_of m.elements (nth sets i).elements
 
