@@ -1,8 +1,9 @@
 -- What holds of every verdict.
 --
--- Main results: never_both, verdict_shown and one_verdict; the cases nonrealizable_by and undecided_by.
+-- Main results: never_both, verdict_shown and one_verdict; limit_count and limit_rows, what a limit names; the cases nonrealizable_by and
+-- undecided_by.
 use Rattle.std.specs.Prelude.{ℕ, ◌≡◌, ℤ, List, [], length, All, IfOk}
-use Rattle.std.proofs.Common.{arith, sym, ◌∙◌, ap, subst}
+use Rattle.std.proofs.Common.{arith, refl, sym, ◌∙◌, ap, subst}
 use Rattle.om_chirotope.specs.Map.{SignMap}
 use Rattle.om_vectors.specs.WholeVectors.{WholeVector}
 use Rattle.om_vectors.specs.declared.unfound.Unfound.{Unfound}
@@ -12,6 +13,7 @@ use Rattle.om_rows.specs.Rows.{IsPlace}
 use Rattle.om_simplex.specs.declared.count.Count.{Count}
 use Rattle.om_simplex.specs.declared.outcome.Outcome.{Outcome}
 use Rattle.om_simplex.specs.declared.outcome.Outcome.TheVariants as outcome
+use Rattle.om_simplex.proofs.Ranges.{limit_basis}
 use Rattle.om_certificate.specs.declared.lp_end.LpEnd.TheVariants as lp_end
 use Rattle.om_certificate.specs.declared.verdict.Verdict.{Verdict}
 use Rattle.om_certificate.specs.declared.verdict.Verdict.TheVariants.{Realizable, Nonrealizable, Undecided, Limit}
@@ -24,7 +26,7 @@ use Rattle.om_points.specs.Searches.{IsFound, IsUnfound}
 use Rattle.om_points.proofs.Realizing.{found_realizes}
 use Rattle.om_points.proofs.Uniqueness.{found_unique, found_or_unfound, unfound_unique}
 use Rattle.om_decide.specs.declared.budgets.Budgets.{Budgets}
-use Rattle.om_decide.specs.Columns.{entries_of, weights_on}
+use Rattle.om_decide.specs.Columns.{row_count, entries_of, weights_on}
 use Rattle.om_decide.specs.Answers.{IsEndOf}
 use Rattle.om_decide.specs.Verdicts.{IsVerdictOf, realizable, nonrealizable, undecided, pivot_limit, width}
 use Rattle.om_decide.proofs.Outcomes.{balanced_columns, weights_columns}
@@ -49,6 +51,16 @@ verdict_shown m b v (nonrealizable counts h) = balanced_valid m b.pivots counts 
 verdict_shown m b v (undecided zs u h n) = weights_valid m b.pivots zs h
 verdict_shown m b v (pivot_limit basis u h n) = tt
 verdict_shown m b v (width stage pivot row place u h n) = tt
+
+-- ---- limits
+
+-- the pivots of a limit are those of the budget
+pub limit_count : (m : SignMap) (b : Budgets) (count : ℕ) (basis : List ℕ) (u : Unfound) → IsVerdictOf m b (Limit (lp_end.Pivots count basis) u) → count ≡ b.pivots
+limit_count m b count basis u (pivot_limit numbers t h n) = refl
+
+-- it has a basis number for each row
+pub limit_rows : (m : SignMap) (b : Budgets) (count : ℕ) (basis : List ℕ) (u : Unfound) → IsVerdictOf m b (Limit (lp_end.Pivots count basis) u) → length basis ≡ row_count m
+limit_rows m b count basis u (pivot_limit numbers t h n) = (limit_basis h.columns (row_count m) b.pivots numbers (omega arith) h.end).size
 
 -- ---- one verdict
 
