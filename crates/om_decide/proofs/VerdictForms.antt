@@ -1,7 +1,7 @@
--- Every verdict has the form of a claim.
+-- Every verdict has the form of a claim, and its evidence is within the limits of the checker.
 --
--- Main result: verdict_form.
-use Rattle.std.specs.Prelude.{ℕ, ◌≡◌, ◌+◌, ◌≤◌, ℤ, unsigned_abs, List, [], ◌∷◌, length, All}
+-- Main results: verdict_form, verdict_within.
+use Rattle.std.specs.Prelude.{ℕ, ◌≡◌, ◌+◌, ◌≤◌, ℤ, unsigned_abs, List, [], ◌∷◌, length, All, IfOk}
 use Rattle.std.proofs.Common.{arith, get_or}
 use Rattle.std.proofs.lemmas.List.Elements.{All-nil, All-cons, All-head, All-tail, All-map, All-weaker}
 use Rattle.om_signs.specs.declared.limits.TheConstants.{MAX_ELEMENTS, MAX_MULTIPLICITY, MAX_WEIGHT, MAX_PLAIN}
@@ -18,6 +18,8 @@ use Rattle.om_simplex.specs.declared.outcome.Outcome.TheVariants as outcome
 use Rattle.om_simplex.proofs.Ranges.{balanced_small, weights_small, limit_basis, width_numbers}
 use Rattle.om_certificate.specs.declared.entry.Entry.{Entry}
 use Rattle.om_certificate.specs.declared.verdict.Verdict.{Verdict}
+use Rattle.om_certificate.specs.Validity.{IsMultiplicity, IsWithinLimits}
+use Rattle.om_certificate.specs.Verdicts.{certificate_of}
 use Rattle.om_certificate.specs.Weights.{nonzero_brackets}
 use Rattle.om_certificate.specs.Forms.{AreVectorsInForm, IsEntryInForm, IsWeightInForm, AreWeightsInForm, ArePivotsInForm, IsWidthInForm, IsSearchInForm, IsVerdictInForm}
 use Rattle.om_certificate.proofs.NonzeroBrackets.{bracket_triples}
@@ -32,6 +34,7 @@ use Rattle.om_decide.proofs.Outcomes.{balanced_columns, weights_columns}
 use Rattle.om_decide.proofs.Certifying.{lawful_at}
 use Rattle.om_decide.proofs.WeightLists.{length-weights_on}
 use Rattle.om_decide.proofs.Few.{few_statements, few_rows}
+use Rattle.om_decide.proofs.FewEntries.{few_entries}
 
 -- ---- weights
 
@@ -55,14 +58,7 @@ weights_form n (b ∷ bs) (z ∷ zs) l t h =
 
 -- ---- the parts of a verdict
 
-module _ (m : SignMap) (small : m.elements ≤ MAX_ELEMENTS) (b : Budgets) (budgets : AreBudgets b) where
-  vectors_form : (vs : List WholeVector) → IsFound b.box_size m b.steps vs → AreVectorsInForm vs
-  vectors_form vs f = let n = found_few b.box_size m b.steps vs f in record { few = omega arith; each = found_within b.box_size m b.steps vs budgets.box_high f }
-
-  search_form : (u : Unfound) → IsUnfound b.box_size m b.steps u → IsSearchInForm u
-  search_form Exhausted h = tt
-  search_form (Frontier w) h = let n = frontier_few b.box_size m b.steps w h in record { few = omega arith; each = frontier_within b.box_size m b.steps w budgets.box_high h }
-
+module _ (m : SignMap) (small : m.elements ≤ MAX_ELEMENTS) (b : Budgets) where
   entry_form : (st : Statement) (times : ℕ) → IsLawful m st → 1 ≤ times → times ≤ MAX_MULTIPLICITY → IsEntryInForm (record { statement = st; times = times })
   entry_form st times h low high =
       let p = h.placed in
@@ -102,6 +98,34 @@ module _ (m : SignMap) (small : m.elements ≤ MAX_ELEMENTS) (b : Budgets) (budg
         each = weights_form m.elements (nonzero_brackets m) zs small (bracket_triples m) (weights_small h.columns (row_count m) b.pivots zs (omega arith) h.end);
       }
 
+  -- the entries and the weights are within the limits of the checker of evidence
+  pub verdict_within : (v : Verdict) → IsVerdictOf m b v → IfOk (certificate_of v) IsWithinLimits
+  verdict_within v (realizable vs f) = tt
+  verdict_within v (nonrealizable counts h) =
+      let n = few_entries m b (entries_of h.statements counts) (nonrealizable counts h) in
+      let r = few_rows m small in
+      record {
+        few = omega (arith, n, r);
+        counted = All-weaker IsEntryInForm (λ e. IsMultiplicity e.times) (λ e f. f.times) (entries_of h.statements counts) (entries_form counts h);
+      }
+  verdict_within v (undecided zs u h n) =
+      let f = weight_list_form zs h in
+      let few = f.few in
+      record {
+        few = omega arith;
+        small = All-weaker IsWeightInForm (λ w. unsigned_abs w.value ≤ unsigned_abs MAX_WEIGHT) (λ w g. g.size) (weights_on (nonzero_brackets m) zs) f.each;
+      }
+  verdict_within v (pivot_limit basis u h n) = tt
+  verdict_within v (width stage pivot row place u h n) = tt
+
+module _ (m : SignMap) (small : m.elements ≤ MAX_ELEMENTS) (b : Budgets) (budgets : AreBudgets b) where
+  vectors_form : (vs : List WholeVector) → IsFound b.box_size m b.steps vs → AreVectorsInForm vs
+  vectors_form vs f = let n = found_few b.box_size m b.steps vs f in record { few = omega arith; each = found_within b.box_size m b.steps vs budgets.box_high f }
+
+  search_form : (u : Unfound) → IsUnfound b.box_size m b.steps u → IsSearchInForm u
+  search_form Exhausted h = tt
+  search_form (Frontier w) h = let n = frontier_few b.box_size m b.steps w h in record { few = omega arith; each = frontier_within b.box_size m b.steps w budgets.box_high h }
+
   pivots_form : (basis : List ℕ) → IsEndOf m b.pivots (outcome.PivotLimit basis) → ArePivotsInForm b.pivots basis
   pivots_form basis h =
       let n = limit_basis h.columns (row_count m) b.pivots basis (omega arith) h.end in
@@ -129,7 +153,7 @@ module _ (m : SignMap) (small : m.elements ≤ MAX_ELEMENTS) (b : Budgets) (budg
 
   pub verdict_form : (v : Verdict) → IsVerdictOf m b v → IsVerdictInForm v
   verdict_form v (realizable vs f) = vectors_form vs f
-  verdict_form v (nonrealizable counts h) = entries_form counts h
-  verdict_form v (undecided zs u h n) = (weight_list_form zs h, search_form u n)
+  verdict_form v (nonrealizable counts h) = entries_form m small b counts h
+  verdict_form v (undecided zs u h n) = (weight_list_form m small b zs h, search_form u n)
   verdict_form v (pivot_limit basis u h n) = (pivots_form basis h, search_form u n)
   verdict_form v (width stage pivot row place u h n) = (width_form stage pivot row place h, search_form u n)

@@ -7,7 +7,7 @@ ghost use Rattle.om_grassmann.specs.Order.{AreAll};
 ghost use Rattle.om_rows.specs.Rows.{IsPlace};
 ghost use Rattle.om_points.specs.Searches.{IsUnfound};
 ghost use Rattle.om_certificate.specs.Forms.{IsVerdictInForm};
-ghost use Rattle.om_certificate.specs.Validity.{IsValid};
+ghost use Rattle.om_certificate.specs.Validity.{IsValid, IsWithinLimits};
 ghost use Rattle.om_certificate.specs.Verdicts.{certificate_of};
 ghost use Rattle.om_certificate.specs.Weights.{nonzero_brackets};
 ghost use Rattle.om_decide.specs.Answers.{IsRefusal};
@@ -39,7 +39,8 @@ use std::alloc::Global;
 ///   where the search ended, without vectors. `Pivots` has the budget and a basis number for each row.
 ///
 /// The verdict is a function of the chirotope and the budgets. Its vectors, entries or weights are valid evidence, as
-/// [`check`](om_certificate::check) says it, and it has the forms and limits that a claim can carry.
+/// [`check`](om_certificate::check) says it, and within the limits of `check`, which may be called with them. The verdict has
+/// the forms and limits that a claim can carry.
 ///
 /// Each budget is in the range that [`Budgets`] names. `NotRank3` comes exactly where the rank isn't 3, and `Memory` only
 /// for want of memory, in rank 3.
@@ -49,6 +50,7 @@ pub fn decide(alloc: Global, chi: &Chirotope, budgets: Budgets) -> Result<Verdic
     requires { AreBudgets budgets }
     ensures verdict { IfOk result (IsVerdictOf chi.now budgets) }
     ensures shown { IfOk result (λ verdict. IfOk (certificate_of verdict) (IsValid chi.now)) }
+    ensures limits { IfOk result (λ verdict. IfOk (certificate_of verdict) IsWithinLimits) }
     ensures form { IfOk result IsVerdictInForm }
     ensures refused { IfErr result (IsRefusal chi.now) }
 {

@@ -2,7 +2,7 @@ use Rattle.std.proofs.Common.{◌≤◌}
 use Rattle.om_signs.specs.declared.limits.TheConstants.{MAX_ELEMENTS}
 use Rattle.om_decide.specs.Verdicts.{realizable}
 use Rattle.om_decide.proofs.VerdictLaws.{verdict_shown}
-use Rattle.om_decide.proofs.VerdictForms.{verdict_form}
+use Rattle.om_decide.proofs.VerdictForms.{verdict_form, verdict_within}
 use Rattle.om_decide.proofs.deciding.decide.Goals as goal
 
 pub returns-in-Ok-clause-verdict : goal.returns-in-Ok-clause-verdict
@@ -15,6 +15,11 @@ returns-in-Ok-clause-form c =
 
 pub returns-in_ok-by_tableau-in-Err-clause-shown : goal.returns-in_ok-by_tableau-in-Err-clause-shown
 returns-in_ok-by_tableau-in-Err-clause-shown c = verdict_shown c.args.chi.now c.args.budgets c.in_ok-by_tableau-in-Err.field-0 c.in_ok-by_tableau-in-Err.ensures
+
+pub returns-in_ok-by_tableau-in-Err-clause-limits : goal.returns-in_ok-by_tableau-in-Err-clause-limits
+returns-in_ok-by_tableau-in-Err-clause-limits c =
+    let small : c.args.chi.now.elements ≤ MAX_ELEMENTS = c.is_lawful.ensures.high in
+    verdict_within c.args.chi.now small c.args.budgets c.in_ok-by_tableau-in-Err.field-0 c.in_ok-by_tableau-in-Err.ensures
 
 pub returns-in_ok-by_tableau-in-Err-clause-form : goal.returns-in_ok-by_tableau-in-Err-clause-form
 returns-in_ok-by_tableau-in-Err-clause-form c =
