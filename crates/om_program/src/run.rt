@@ -1,7 +1,7 @@
 //! A whole run: from the words and the source to what the sink takes.
 
 ghost use Rattle.std.specs.Prelude.{ℕ, ◌≡◌, ◌≢◌, ◌⊎◌, ◌≤◌, IfOk, List, map, string_bytes};
-ghost use Rattle.std.specs.Io.KnownBytes.{Appends, Keeps};
+ghost use Rattle.std.specs.Io.KnownBytes.{Appends};
 ghost use Rattle.om_port.specs.Causes.{Rose, TakesSome};
 ghost use Rattle.om_words.specs.Words.{AreCommand, Names};
 ghost use Rattle.om_program.specs.Answers.{IsReply, status_of, text_of};
@@ -41,9 +41,9 @@ pub fn run<R: Threads + Sync, S: Source, K: Sink>(
     // Words and bytes have one answer: all that they mean has one status and one text.
     ensures determined { (bytes : List ℕ) → IsDetermined (Means (map string_bytes words.now) bytes) }
 
-    // A read fault and want of memory write nothing; after a write fault a proper prefix of the meaning's text was taken.
-    ensures silent_fault { result ≡ Status.ReadFault → Keeps (K.taken sink.old) (K.taken sink.new) }
-    ensures silent_memory { result ≡ Status.NoMemory → Keeps (K.taken sink.old) (K.taken sink.new) }
+    // A read fault and want of memory leave the sink as it was; after a write fault a proper prefix of the meaning's text was taken.
+    ensures untouched_fault { result ≡ Status.ReadFault → sink.new ≡ sink.old }
+    ensures untouched_memory { result ≡ Status.NoMemory → sink.new ≡ sink.old }
     ensures cut { result ≡ Status.WriteFault → IsCutOffAnswer (map string_bytes words.now) (S.left source.old) (K.taken sink.old) (K.taken sink.new) }
 
     // A read fault comes only where the words are a command that reads.
@@ -93,8 +93,8 @@ fn carry_out<R: Threads + Sync, S: Source, K: Sink>(
     requires { HasLawfulArguments task }
     ensures no_usage { result ≢ Status.Usage }
     ensures answer { IsAnswered result → IsTaskAnswer task (S.left source.old) result (K.taken sink.old) (K.taken sink.new) }
-    ensures silent_fault { result ≡ Status.ReadFault → Keeps (K.taken sink.old) (K.taken sink.new) }
-    ensures silent_memory { result ≡ Status.NoMemory → Keeps (K.taken sink.old) (K.taken sink.new) }
+    ensures untouched_fault { result ≡ Status.ReadFault → sink.new ≡ sink.old }
+    ensures untouched_memory { result ≡ Status.NoMemory → sink.new ≡ sink.old }
     ensures cut { result ≡ Status.WriteFault → IsCutOffTask task (S.left source.old) (K.taken sink.old) (K.taken sink.new) }
     ensures reading { result ≡ Status.ReadFault → reads task ≢ Reads.Nothing }
     ensures read { result ≡ Status.ReadFault → Rose (S.faults source.old) (S.faults source.new) }
@@ -178,7 +178,7 @@ fn write_answer<K: Sink>(alloc: Global, answer: &Answer, sink: &mut K) -> Status
     requires { IsReply answer.now }
     ensures whole { IsAnswered result → (result ≡ status_of answer.now) × Appends (K.taken sink.old) (K.taken sink.new) (text_of answer.now) }
     ensures cut { result ≡ Status.WriteFault → IsFront (K.taken sink.old) (K.taken sink.new) (text_of answer.now) }
-    ensures silent { result ≡ Status.NoMemory → Keeps (K.taken sink.old) (K.taken sink.new) }
+    ensures untouched { result ≡ Status.NoMemory → sink.new ≡ sink.old }
     ensures fault { result ≡ Status.WriteFault → Rose (K.faults sink.old) (K.faults sink.new) }
     ensures no_read { result ≢ Status.ReadFault }
     ensures no_usage { result ≢ Status.Usage }
