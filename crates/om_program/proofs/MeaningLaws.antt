@@ -1,10 +1,10 @@
 -- From what the calls on the way say to what the words and the bytes mean.
 --
--- Main results: the meaning of what was read (meant_of_long); the answer and the cut-off answer, from what was read and written (whole,
+-- Main results: the meaning of what was read (meant_of_long); how much was taken of the source (taken_whole, taken_long); the answer and the cut-off answer, from what was read and written (whole,
 -- cut_off); from those of a task to those of the words that name it (named_answer, named_cut_off); words that aren't a command (usage_meant).
-use Rattle.std.specs.Prelude.{ℕ, ◌≡◌, ◌<◌, ◌+◌, List, length, Option, Some, None, IfSome}
+use Rattle.std.specs.Prelude.{ℕ, ◌≡◌, ◌<◌, ◌≤◌, ◌+◌, List, length, min, Option, Some, None, IfSome}
 use Rattle.std.proofs.Common.{◌∙◌, ap, arith}
-use Rattle.std.specs.Io.KnownBytes.{Appends}
+use Rattle.std.specs.Io.KnownBytes.{Appends, Consumes, IsAtEnd}
 use Rattle.std.proofs.lemmas.List.{length-append}
 use Rattle.om_signs.specs.declared.limits.TheConstants.{MAX_INPUT}
 use Rattle.om_port.specs.Causes.{TakesExactly}
@@ -15,12 +15,30 @@ use Rattle.om_program.specs.declared.answer.Answer.{Answer}
 use Rattle.om_program.specs.Answers.{says, status_of, text_of}
 use Rattle.om_words.specs.Words.{Names, IsUsage}
 use Rattle.om_program.specs.Meaning.{Means, usage, named}
-use Rattle.om_program.specs.Run.{IsMeantBy, IsWhole, IsFront, IsCutOff, IsAnswer, IsCutOffAnswer, IsTaskAnswer, IsCutOffTask}
+use Rattle.om_program.specs.Run.{IsMeantBy, IsWhole, IsFront, IsCutOff, IsAnswer, IsCutOffAnswer, IsTaskAnswer, IsCutOffTask, TakesInput}
 
 pub meant_of_long : (Meaning : List ℕ → Answer → Type 0) (left rest : Option (List ℕ)) (answer : Answer) → TakesExactly (MAX_INPUT + 1) left rest → ((bytes : List ℕ) → MAX_INPUT < length bytes → Meaning bytes answer) → IsMeantBy Meaning left answer
 meant_of_long Meaning None rest answer t m = tt
 meant_of_long Meaning (Some xs) None answer (bs, h, l) m = absurd h
 meant_of_long Meaning (Some xs) (Some ys) answer (bs, h, l) m = m xs (let e = ap length h ∙ length-append bs ys in omega (arith, e, l))
+
+-- an input within the limit is taken to its end
+pub taken_whole : (left rest : Option (List ℕ)) (bytes : List ℕ) → Consumes left rest bytes → IsAtEnd rest → length bytes ≤ MAX_INPUT → TakesInput left rest
+taken_whole None rest bytes t e short = tt
+taken_whole (Some xs) None bytes t e short = absurd t
+taken_whole (Some xs) (Some ys) bytes t e short = (bytes, t, all)
+  where
+    all : length bytes ≡ min (length xs) (MAX_INPUT + 1)
+    all = let sizes = ap length t ∙ length-append bytes ys in let none = ap length e in omega (arith, sizes, none)
+
+-- of a longer one, one byte more than the limit
+pub taken_long : (left rest : Option (List ℕ)) → TakesExactly (MAX_INPUT + 1) left rest → TakesInput left rest
+taken_long None rest t = tt
+taken_long (Some xs) None (bytes, t, size) = absurd t
+taken_long (Some xs) (Some ys) (bytes, t, size) = (bytes, t, most)
+  where
+    most : length bytes ≡ min (length xs) (MAX_INPUT + 1)
+    most = let sizes = ap length t ∙ length-append bytes ys in omega (arith, sizes, size)
 
 pub whole : (Meaning : List ℕ → Answer → Type 0) (left old new : Option (List ℕ)) (result : Status) (answer : Answer) → IsMeantBy Meaning left answer → (result ≡ status_of answer) × Appends old new (text_of answer) → IfSome left (λ bytes. IsWhole (Meaning bytes) result old new)
 whole Meaning None old new result answer m w = tt

@@ -1,12 +1,12 @@
 //! A whole run: from the words and the source to what the sink takes.
 
-ghost use Rattle.std.specs.Prelude.{ℕ, ◌≡◌, ◌≢◌, ◌⊎◌, ◌≤◌, IfOk, List, map, string_bytes};
+ghost use Rattle.std.specs.Prelude.{ℕ, ◌≡◌, ◌≢◌, ◌⊎◌, ◌≤◌, IfOk, OnOk, List, map, string_bytes};
 ghost use Rattle.std.specs.Io.KnownBytes.{Appends};
 ghost use Rattle.om_port.specs.Causes.{Rose, TakesSome};
 ghost use Rattle.om_words.specs.Words.{AreCommand, Names};
 ghost use Rattle.om_program.specs.Answers.{IsReply, status_of, text_of};
 ghost use Rattle.om_program.specs.Statuses.{IsAnswered};
-ghost use Rattle.om_program.specs.Run.{AreReadingCommand, IsFront, IsAnswer, IsCutOffAnswer, IsTaskAnswer, IsCutOffTask, IsMeantBy};
+ghost use Rattle.om_program.specs.Run.{AreReadingCommand, IsFront, IsAnswer, IsCutOffAnswer, IsTaskAnswer, IsCutOffTask, IsMeantBy, TakesInput};
 ghost use Rattle.om_program.specs.Completeness.{IsAnswerable, IsDoneOrNoMemory};
 ghost use Rattle.om_program.specs.Determined.{IsDetermined};
 ghost use Rattle.om_program.specs.Meaning.{Means, TaskMeans};
@@ -71,6 +71,10 @@ pub fn run<R: Threads + Sync, S: Source, K: Sink>(
     // What `decide` answers, other than a limit, is a claim that `check` finds valid, with the word of the verdict.
     ensures decided { VerdictsAreFoundValid }
 
+    // Where the source tells its bytes, an answered command that reads has taken all that it had left, up to one more than the limit on inputs.
+    // So `refused long` comes exactly where more bytes were taken than the limit.
+    ensures taken { IsAnswered result → AreReadingCommand (map string_bytes words.now) → TakesInput (S.left source.old) (S.left source.new) }
+
     // The source has given a prefix of what it had left, and no count falls.
     ensures prefix { TakesSome (S.left source.old) (S.left source.new) }
     ensures source_later { S.faults source.old ≤ S.faults source.new }
@@ -100,6 +104,7 @@ fn carry_out<R: Threads + Sync, S: Source, K: Sink>(
     ensures read { result ≡ Status.ReadFault → Rose (S.faults source.old) (S.faults source.new) }
     ensures write { result ≡ Status.WriteFault → Rose (K.faults sink.old) (K.faults sink.new) }
     ensures unread { reads task ≡ Reads.Nothing → source.new ≡ source.old }
+    ensures taken { IsAnswered result → reads task ≢ Reads.Nothing → TakesInput (S.left source.old) (S.left source.new) }
     ensures prefix { TakesSome (S.left source.old) (S.left source.new) }
     ensures source_later { S.faults source.old ≤ S.faults source.new }
     ensures sink_later { K.faults sink.old ≤ K.faults sink.new }
@@ -141,6 +146,7 @@ fn find_answer<R: Threads + Sync, S: Source>(
     ensures reading { result ≡ Err Unanswered.ReadFault → reads task ≢ Reads.Nothing }
     ensures read { result ≡ Err Unanswered.ReadFault → Rose (S.faults source.old) (S.faults source.new) }
     ensures unread { reads task ≡ Reads.Nothing → source.new ≡ source.old }
+    ensures taken { OnOk result (reads task ≢ Reads.Nothing → TakesInput (S.left source.old) (S.left source.new)) }
     ensures prefix { TakesSome (S.left source.old) (S.left source.new) }
     ensures later { S.faults source.old ≤ S.faults source.new }
 {
@@ -162,6 +168,7 @@ fn read_and_answer<R: Threads + Sync, S: Source>(
     ensures meant { IfOk result (IsMeantBy (TaskMeans task) (S.left source.old)) }
     ensures reply { IfOk result IsReply }
     ensures read { result ≡ Err Unanswered.ReadFault → Rose (S.faults source.old) (S.faults source.new) }
+    ensures taken { OnOk result (TakesInput (S.left source.old) (S.left source.new)) }
     ensures prefix { TakesSome (S.left source.old) (S.left source.new) }
     ensures later { S.faults source.old ≤ S.faults source.new }
 {

@@ -1,4 +1,4 @@
-use Rattle.std.specs.Prelude.{◌≡◌, Result, Ok, Err}
+use Rattle.std.specs.Prelude.{◌≡◌, ◌≢◌, Result, Ok, Err}
 use Rattle.std.proofs.Common.{refl, rules, sym, subst}
 use Rattle.om_words.specs.declared.reads.Reads.TheVariants as source
 use Rattle.om_words.specs.Tasks.{reads}
@@ -53,6 +53,13 @@ returns-in-Ok-clause-alone g c = λ task named nothing. c.carry_out.ensures.unre
 
 pub returns-in-Err-clause-alone : goal.returns-in-Err-clause-alone
 returns-in-Err-clause-alone g c = λ task named nothing. absurd (no_value _ _ ((c.in-Err.ensures.task task).1 named))
+
+pub returns-in-Ok-clause-taken : goal.returns-in-Ok-clause-taken
+returns-in-Ok-clause-taken g c = λ answered command.
+    c.carry_out.ensures.taken answered (subst (λ t. reads t ≢ source.Nothing) (sym (same_value _ _ ((c.in-Ok.ensures.task command.0).1 command.1.0))) command.1.1)
+
+pub returns-in-Err-clause-taken : goal.returns-in-Err-clause-taken
+returns-in-Err-clause-taken g c = λ answered command. absurd (no_value _ _ ((c.in-Err.ensures.task command.0).1 command.1.0))
 
 pub returns-in-Ok-clause-complete : goal.returns-in-Ok-clause-complete
 returns-in-Ok-clause-complete g c = λ given no_read no_write.
