@@ -1,7 +1,7 @@
 -- Deletion in the dual is the dual of contraction, as sets of lists of signs.
 --
 -- Main results: dual_exists, deletion_exists, chirotopes with these covectors; dual_deletion.
-use Rattle.std.specs.Prelude.{ℕ, ◌≡◌, ◌⊎◌, ◌+◌, ◌-◌, ◌<◌, ◌≤◌, List, length, refl, false}
+use Rattle.std.specs.Prelude.{ℕ, ◌≡◌, ◌+◌, ◌-◌, ◌<◌, ◌≤◌, List, length, refl, false}
 use Rattle.std.specs.List.{insert, remove}
 use Rattle.std.proofs.Common.{sym, ◌∙◌, ap, subst, inl, inr, ⊎_elim, arith}
 use Rattle.std.proofs.lemmas.Bool.{cases_lt, cases_eq}

@@ -1,6 +1,6 @@
 //! Deletion, contraction and reorientation of cocircuits.
 
-ghost use Rattle.std.specs.Prelude.{◌≡◌, ◌≤◌, ◌<◌, ◌+◌, ◌^◌, ◌↔◌, IfOk, IsErrOf, map};
+ghost use Rattle.std.specs.Prelude.{◌≡◌, ◌≤◌, ◌<◌, ◌+◌, ◌^◌, ◌↔◌, length, IfOk, IsErrOf, map};
 ghost use Rattle.std.specs.List.{Contains};
 ghost use Rattle.om_signs.specs.SignVec.{flip};
 ghost use Rattle.om_denotation.specs.Compositions.{IsOfLeastSupport};
@@ -27,6 +27,7 @@ pub fn delete_cocircuits(alloc: Global, c: &Cocircuits, e: u8) -> Result<Cocircu
     ensures elements { IfOk result (λ d. d.0.elements + 1 ≡ c.now.0.elements) }
     ensures members { IfOk result (λ d.
         AreAllOf (IsOfLeastSupport (IsWithout c.now.0.elements e (Contains c.now.0.members))) d.0.members) }
+    ensures no_more { IfOk result (λ d. length d.0.members ≤ length c.now.0.members) }
     ensures deletion { IfOk result (λ d.
         IsDeletion c.now.0.elements e (IsCovectorOfCocircuits c.now.0) (IsCovectorOfCocircuits d.0)) }
 {
@@ -49,6 +50,7 @@ pub fn contract_cocircuits(alloc: Global, c: &Cocircuits, e: u8) -> Result<Cocir
     ensures elements { IfOk result (λ d. d.0.elements + 1 ≡ c.now.0.elements) }
     ensures members { IfOk result (λ d.
         AreAllOf (IsZeroWithout c.now.0.elements e (Contains c.now.0.members)) d.0.members) }
+    ensures no_more { IfOk result (λ d. length d.0.members ≤ length c.now.0.members) }
     ensures contraction { IfOk result (λ d.
         IsContraction c.now.0.elements e (IsCovectorOfCocircuits c.now.0) (IsCovectorOfCocircuits d.0)) }
 {

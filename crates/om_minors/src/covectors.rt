@@ -1,6 +1,6 @@
 //! Deletion, contraction and reorientation of covectors.
 
-ghost use Rattle.std.specs.Prelude.{◌≡◌, ◌≤◌, ◌<◌, ◌+◌, ◌^◌, ◌↔◌, IfOk, IsErrOf, map};
+ghost use Rattle.std.specs.Prelude.{◌≡◌, ◌≤◌, ◌<◌, ◌+◌, ◌^◌, ◌↔◌, length, IfOk, IsErrOf, map};
 ghost use Rattle.std.specs.List.{Contains};
 ghost use Rattle.om_signs.specs.SignVec.{flip};
 ghost use Rattle.om_denotation.specs.Covectors.{IsCovectorOfCovectors};
@@ -25,6 +25,7 @@ pub fn delete_covectors(alloc: Global, c: &Covectors, e: u8) -> Result<Covectors
     ensures last_element { IsErrOf result MinorError.LastElement ↔ (c.now.elements ≡ 1) }
     ensures elements { IfOk result (λ d. d.elements + 1 ≡ c.now.elements) }
     ensures members { IfOk result (λ d. AreAllOf (IsWithout c.now.elements e (Contains c.now.members)) d.members) }
+    ensures no_more { IfOk result (λ d. length d.members ≤ length c.now.members) }
     ensures deletion { IfOk result (λ d.
         IsDeletion c.now.elements e (IsCovectorOfCovectors c.now) (IsCovectorOfCovectors d)) }
 {
@@ -48,6 +49,7 @@ pub fn contract_covectors(alloc: Global, c: &Covectors, e: u8) -> Result<Covecto
     ensures last_element { IsErrOf result MinorError.LastElement ↔ (c.now.elements ≡ 1) }
     ensures elements { IfOk result (λ d. d.elements + 1 ≡ c.now.elements) }
     ensures members { IfOk result (λ d. AreAllOf (IsZeroWithout c.now.elements e (Contains c.now.members)) d.members) }
+    ensures no_more { IfOk result (λ d. length d.members ≤ length c.now.members) }
     ensures contraction { IfOk result (λ d.
         IsContraction c.now.elements e (IsCovectorOfCovectors c.now) (IsCovectorOfCovectors d)) }
 {

@@ -1,6 +1,6 @@
 //! Minors and reorientations of the members of a list of circuits or of cocircuits.
 
-ghost use Rattle.std.specs.Prelude.{◌≡◌, ◌≤◌, ◌<◌, ◌+◌, ◌^◌, IfOk, map};
+ghost use Rattle.std.specs.Prelude.{◌≡◌, ◌≤◌, ◌<◌, ◌+◌, ◌^◌, length, IfOk, map};
 ghost use Rattle.std.specs.List.{Contains};
 ghost use Rattle.om_signs.specs.SignVec.{flip};
 ghost use Rattle.om_denotation.specs.Compositions.{IsOfLeastSupport};
@@ -22,6 +22,7 @@ pub fn zero_part(alloc: Global, set: &SignedSet, e: u8) -> Result<SignedSet, NoM
     requires several { 2 ≤ set.now.elements }
     ensures elements { IfOk result (λ d. d.elements + 1 ≡ set.now.elements) }
     ensures members { IfOk result (λ d. AreAllOf (IsZeroWithout set.now.elements e (Contains set.now.members)) d.members) }
+    ensures no_more { IfOk result (λ d. length d.members ≤ length set.now.members) }
 {
     let elements = set.elements();
     let list = zero_without_place(alloc, set.members(), e)?;
@@ -37,6 +38,7 @@ pub fn least_part(alloc: Global, set: &SignedSet, e: u8) -> Result<SignedSet, No
     ensures elements { IfOk result (λ d. d.elements + 1 ≡ set.now.elements) }
     ensures members { IfOk result (λ d.
         AreAllOf (IsOfLeastSupport (IsWithout set.now.elements e (Contains set.now.members))) d.members) }
+    ensures no_more { IfOk result (λ d. length d.members ≤ length set.now.members) }
 {
     let elements = set.elements();
     let without = without_place(alloc, set.members(), e)?;

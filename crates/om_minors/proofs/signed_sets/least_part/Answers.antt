@@ -31,3 +31,13 @@ lawful-requires-clause-axioms c = least_axioms c.args.set.now c.elements-element
 pub returns-clause-members : goal.returns-clause-members
 returns-clause-members c = subst (AreAllOf (IsOfLeastSupport (IsWithout c.args.set.now.elements c.args.e (Contains c.args.set.now.members)))) (sym c.lawful.ensures.members)
     (least_members c.args.set.now c.elements-elements.ensures.lawful c.args.e c.elements-elements.result c.requires.several c.requires.low c.requires.high c.elements-elements.ensures.value c.members.result.now c.members.ensures.value c.as_slice.result.now c.in_ok-list.list (subst (AreAllOf (IsDropped c.args.e c.members.result.now)) (sym c.as_slice.ensures) c.in_ok-without.ensures.members) c.in_ok-list.ensures)
+
+pub returns-clause-no_more : goal.returns-clause-no_more
+returns-clause-no_more c =
+    let few = c.in_ok-without.ensures.few in
+    let same = ap length c.as_slice.ensures in
+    let all = ap length c.members.ensures.value in
+    let made = ap length c.lawful.ensures.members in
+    let fewer = least_few c.args.set.now c.elements-elements.ensures.lawful c.args.e c.elements-elements.result c.requires.several c.requires.low c.requires.high c.elements-elements.ensures.value c.members.result.now c.members.ensures.value c.as_slice.result.now c.in_ok-list.list (subst (AreAllOf (IsDropped c.args.e c.members.result.now)) (sym c.as_slice.ensures) c.in_ok-without.ensures.members) c.in_ok-list.ensures
+    (length c.args.set.now.members) (omega (arith, few, same, all)) in
+    omega (arith, made, fewer)
