@@ -34,19 +34,19 @@ following_next m low s r l e hs h = IfSome_then r h (λ t f. next_from m low s t
 
 -- ---- lists of statements
 
-none_in_empty : (s : Statement) → Contains [] s → ⊥
+pub none_in_empty : (s : Statement) → Contains [] s → ⊥
 none_in_empty s c = let h = c.1 in omega arith
 
 only_member : (x u : Statement) → Contains (x ∷ []) u → x ≡ u
 only_member x u c = elim (Contains-push_cases [] x u c) [ inl h ↦ absurd (none_in_empty u h) | inr q ↦ q ]
 
-member_cases : (x : Statement) (xs : List Statement) (u : Statement) → Contains (x ∷ xs) u → (x ≡ u) ⊎ Contains xs u
+pub member_cases : (x : Statement) (xs : List Statement) (u : Statement) → Contains (x ∷ xs) u → (x ≡ u) ⊎ Contains xs u
 member_cases x xs u c = elim (Contains-append_cases (x ∷ []) xs u c) [ inl h ↦ inl (only_member x u h) | inr h ↦ inr h ]
 
-head_member : (x : Statement) (xs : List Statement) → Contains (x ∷ xs) x
+pub head_member : (x : Statement) (xs : List Statement) → Contains (x ∷ xs) x
 head_member x xs = Contains-append_left (x ∷ []) xs x (Contains-push [] x)
 
-tail_member : (x : Statement) (xs : List Statement) (u : Statement) → Contains xs u → Contains (x ∷ xs) u
+pub tail_member : (x : Statement) (xs : List Statement) (u : Statement) → Contains xs u → Contains (x ∷ xs) u
 tail_member x xs u c = Contains-append_right (x ∷ []) xs u c
 
 pub increasing_push : (xs : List Statement) (t : Statement) → IsIncreasing xs → ((u : Statement) → Contains xs u → IsBefore u t) → IsIncreasing (xs ++ t ∷ [])
@@ -54,11 +54,11 @@ increasing_push [] t h before = tt
 increasing_push (x ∷ []) t h before = (before x (head_member x []), tt)
 increasing_push (x ∷ y ∷ ys) t h before = (h.0, increasing_push (y ∷ ys) t h.1 (λ u c. before u (tail_member x (y ∷ ys) u c)))
 
-increasing_tail : (x : Statement) (xs : List Statement) → IsIncreasing (x ∷ xs) → IsIncreasing xs
+pub increasing_tail : (x : Statement) (xs : List Statement) → IsIncreasing (x ∷ xs) → IsIncreasing xs
 increasing_tail x [] h = tt
 increasing_tail x (y ∷ ys) h = h.1
 
-head_before : (x : Statement) (xs : List Statement) (u : Statement) → IsIncreasing (x ∷ xs) → Contains xs u → IsBefore x u
+pub head_before : (x : Statement) (xs : List Statement) (u : Statement) → IsIncreasing (x ∷ xs) → Contains xs u → IsBefore x u
 head_before x [] u h c = absurd (none_in_empty u c)
 head_before x (y ∷ ys) u h c = elim (member_cases y ys u c) [
   | inl q ↦ subst (IsBefore x) q h.0

@@ -51,3 +51,7 @@ pub record IsLawful (m : SignMap) (st : Statement) : Type 0 where
   pub placed : IsPlaced m.elements st
   pub two : AreTwo st.small st.big
   pub signs : HasSigns st.strict (term m st st.small) (term m st (third st.small st.big)) (term m st st.big)
+
+-- the statement with its two sides exchanged
+abbrev pub exchanged : Statement → Statement
+exchanged st = record st { small = st.big; big = st.small }

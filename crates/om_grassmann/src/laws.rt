@@ -1,11 +1,11 @@
 //! What the words of the crate's contracts come to. A law is a function that does nothing: its contract is the law.
 
-ghost use Rattle.std.specs.Prelude.{ℕ, ◌≡◌, ◌+◌, ◌⊎◌};
+ghost use Rattle.std.specs.Prelude.{ℕ, ◌≡◌, ◌+◌, ◌⊎◌, ◌↔◌, true, false, List, Some, slice_get};
 ghost use Rattle.om_chirotope.specs.Map.{SignMap};
 ghost use Rattle.om_grassmann.specs.declared.statement.Statement.{Statement};
-ghost use Rattle.om_grassmann.specs.Statements.{IsLawful};
+ghost use Rattle.om_grassmann.specs.Statements.{IsLawful, exchanged};
 ghost use Rattle.om_grassmann.specs.Sides.{AreDistinct, HasNonzeroBrackets, HasFourBrackets};
-ghost use Rattle.om_grassmann.specs.Order.{IsBefore, IsNext, IsNumber, HasAtMost};
+ghost use Rattle.om_grassmann.specs.Order.{IsBefore, IsNext, IsLast, AreAll, IsNumber, HasAtMost};
 
 /// The four brackets of the sides of a lawful statement are increasing lists of three elements, their values aren't 0, and
 /// they are four different lists. The elements are distinct.
@@ -28,12 +28,26 @@ pub fn strict_or_equations()
     ensures { (m : SignMap) (s t : Statement) → IsLawful m s → IsLawful m t → s.a ≡ t.a → s.b ≡ t.b → s.c ≡ t.c → s.d ≡ t.d → s.e ≡ t.e → s.strict ≡ t.strict }
 {}
 
+/// A lawful equation is lawful with its two sides exchanged too, and a strict statement isn't.
+///
+/// Source: Bokowski and Richter-Gebert, *On the finding of final polynomials*, 1990.
+pub fn directions_of_equations()
+    ensures equation { (m : SignMap) (st : Statement) → IsLawful m st → st.strict ≡ false → IsLawful m (exchanged st) }
+    ensures strict { (m : SignMap) (st : Statement) → IsLawful m st → st.strict ≡ true → IsLawful m (exchanged st) → ⊥ }
+{}
+
 /// A number belongs to one lawful statement. No lawful statement comes before that with the number 0, and the next one
-/// after that with the number k has the number k + 1. Where there are at most k lawful statements, none has the number k.
+/// after that with the number k has the number k + 1; where it is the last one, there are at most k + 1 lawful statements.
+/// Where there are at most k, none has the number k.
+///
+/// In the list of all lawful statements the one with the number k stands at place k, counted from 0. So one walk by
+/// [`following`](super::following), from the number 0 to the last, gives this list.
 pub fn numbers_of_lawful_statements()
     ensures unique { (m : SignMap) (k : ℕ) (s t : Statement) → IsNumber m k s → IsNumber m k t → s ≡ t }
     ensures first { (m : SignMap) (s u : Statement) → IsNumber m 0 s → IsLawful m u → (u ≡ s) ⊎ IsBefore s u }
     ensures next { (m : SignMap) (k : ℕ) (s t : Statement) → IsNumber m k s → IsNext m s t → IsNumber m (k + 1) t }
+    ensures last { (m : SignMap) (k : ℕ) (s : Statement) → IsNumber m k s → IsLast m s → HasAtMost m (k + 1) }
     ensures none { (m : SignMap) (u : Statement) → HasAtMost m 0 → IsLawful m u → ⊥ }
     ensures past { (m : SignMap) (k : ℕ) (s : Statement) → HasAtMost m k → IsNumber m k s → ⊥ }
+    ensures listed { (m : SignMap) (ss : List Statement) (k : ℕ) (t : Statement) → AreAll m ss → (slice_get ss k ≡ Some t) ↔ IsNumber m k t }
 {}

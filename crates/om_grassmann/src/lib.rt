@@ -17,8 +17,8 @@ mod walk;
 pub use brackets::sides;
 pub use lawfulness::lawful;
 pub use laws::{
-    brackets_of_lawful_statements, numbers_of_lawful_statements, order_of_lawful_statements,
-    strict_or_equations,
+    brackets_of_lawful_statements, directions_of_equations, numbers_of_lawful_statements,
+    order_of_lawful_statements, strict_or_equations,
 };
 pub use numbering::nth_statement;
 pub use statement::Statement;
