@@ -19,11 +19,12 @@ use Rattle.om_grassmann.specs.Sides.{first_bracket, second_bracket}
 use Rattle.om_grassmann.proofs.BracketLaws.{nonzero_sides}
 use Rattle.om_certificate.specs.declared.entry.Entry.{Entry}
 use Rattle.om_certificate.specs.declared.weight.Weight.{Weight}
+use Rattle.om_certificate.specs.BracketSizes.{bracket_size}
 use Rattle.om_certificate.specs.Certificates.{IsCertificate, times_in, is_same}
 use Rattle.om_certificate.specs.Weights.{AreWeights, IsMetBy, Compares, weight_of, term_weight}
 use Rattle.om_certificate.proofs.Combinations.{Combination, here}
 use Rattle.om_certificate.proofs.Orders.{products, sums}
-use Rattle.om_certificate.proofs.Sizes.{size_at, ordered_sizes}
+use Rattle.om_certificate.proofs.Sizes.{ordered_sizes}
 use Rattle.om_certificate.proofs.Tallies.{AnyByRecursion, tally, IsBelow, IsOrdered, IsStrict, unbalanced}
 use Rattle.om_certificate.proofs.Triples.{place_below, triple_at_place, triple_of_place, place_of_place, same-place}
 
@@ -179,7 +180,7 @@ module _ (C : Combination) (m : SignMap) (f : List ℕ → C.Value) (ordered : (
 -- ---- the two theorems
 
 pub certificate_excludes : (m : SignMap) (es : List Entry) → IsCertificate m es → (vs : List WholeVector) → Realizes vs m → ⊥
-certificate_excludes m es c vs r = excluded products m (size_at vs) (λ st h. let o = ordered_sizes vs m r st h in record { positive = o.positive; at_most = o.at_most; less = o.less }) es c
+certificate_excludes m es c vs r = excluded products m (bracket_size vs) (λ st h. let o = ordered_sizes vs m r st h in record { positive = o.positive; at_most = o.at_most; less = o.less }) es c
 
 pub weights_exclude : (m : SignMap) (ws : List Weight) → AreWeights m ws → (es : List Entry) → IsCertificate m es → ⊥
 weights_exclude m ws w = excluded sums m (weight_of ws) (λ st h. ordered st (w.met st h))

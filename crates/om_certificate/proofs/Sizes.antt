@@ -1,6 +1,6 @@
 -- What a lawful statement says of the sizes of triple products, where vectors realize the map.
 --
--- Main definitions: product_at, size_at, first_number, second_number, third_number, number, IsCompared
+-- Main definitions: product_at, first_number, second_number, third_number, number, IsCompared
 -- Main results: size-number, ordered_sizes
 use Rattle.std.specs.Prelude.{ℕ, zero, suc, ◌≡◌, ◌≢◌, ◌*◌, ◌<◌, ◌≤◌, ℤ, pos, negsuc, ◌+ℤ◌, ◌-ℤ◌, ◌*ℤ◌, neg_ℤ, unsigned_abs, Bool, true, false, List, [], ◌∷◌, cond, nat_eq, nat_lt, refl, ◌⊎◌}
 use Rattle.std.proofs.Common.{sym, ◌∙◌, ap, arith, inl, inr, subst}
@@ -18,7 +18,8 @@ use Rattle.om_vectors.proofs.TripleSigns.{realized_value}
 use Rattle.om_grassmann.specs.declared.statement.Statement.{Statement}
 use Rattle.om_grassmann.specs.Terms.{bracket, pick, term, third, first_term, second_term, third_term}
 use Rattle.om_grassmann.specs.Statements.{IsElement, IsPlaced, AreTwo, HasSigns, IsLawful}
-use Rattle.om_grassmann.specs.Sides.{triple, first_bracket, second_bracket}
+use Rattle.om_grassmann.specs.Sides.{triple}
+use Rattle.om_certificate.specs.BracketSizes.{bracket_size, term_size}
 
 size-neg : (z : ℤ) → unsigned_abs (neg_ℤ z) ≡ unsigned_abs z
 size-neg (pos zero) = refl
@@ -29,31 +30,26 @@ size-neg (negsuc n) = refl
 abbrev pub product_at : List WholeVector → ℕ → ℕ → ℕ → ℤ
 product_at vs x y z = triple_product (vector_at vs x) (vector_at vs y) (vector_at vs z)
 
--- the size of the triple product of a list of three elements
-abbrev pub size_at : List WholeVector → List ℕ → ℕ
-size_at vs (x ∷ y ∷ z ∷ []) = unsigned_abs (product_at vs x y z)
-size_at vs t = 0
-
 swapped_first : (vs : List WholeVector) (x y z : ℕ) → unsigned_abs (product_at vs y x z) ≡ unsigned_abs (product_at vs x y z)
 swapped_first vs x y z = ap unsigned_abs (swap_first (vector_at vs x) (vector_at vs y) (vector_at vs z)) ∙ size-neg (product_at vs x y z)
 
 swapped_last : (vs : List WholeVector) (x y z : ℕ) → unsigned_abs (product_at vs x z y) ≡ unsigned_abs (product_at vs x y z)
 swapped_last vs x y z = ap unsigned_abs (swap_last (vector_at vs x) (vector_at vs y) (vector_at vs z)) ∙ size-neg (product_at vs x y z)
 
-size-insert : (vs : List WholeVector) (x y z : ℕ) → size_at vs (insert x (y ∷ z ∷ [])) ≡ unsigned_abs (product_at vs x y z)
+size-insert : (vs : List WholeVector) (x y z : ℕ) → bracket_size vs (insert x (y ∷ z ∷ [])) ≡ unsigned_abs (product_at vs x y z)
 size-insert vs x y z = first (nat_lt x y) (nat_lt x z)
   where
-    first : (b c : Bool) → size_at vs (cond b (x ∷ y ∷ z ∷ []) (y ∷ cond c (x ∷ z ∷ []) (z ∷ x ∷ []))) ≡ unsigned_abs (product_at vs x y z)
+    first : (b c : Bool) → bracket_size vs (cond b (x ∷ y ∷ z ∷ []) (y ∷ cond c (x ∷ z ∷ []) (z ∷ x ∷ []))) ≡ unsigned_abs (product_at vs x y z)
     first true c = refl
     first false true = swapped_first vs x y z
     first false false = swapped_last vs y x z ∙ swapped_first vs x y z
 
 -- sorting three elements keeps the size of their triple product
-size-triple : (vs : List WholeVector) (x y z : ℕ) → size_at vs (triple x y z) ≡ unsigned_abs (product_at vs x y z)
+size-triple : (vs : List WholeVector) (x y z : ℕ) → bracket_size vs (triple x y z) ≡ unsigned_abs (product_at vs x y z)
 unfolding triple
 size-triple vs x y z = rest (nat_lt y z)
   where
-    rest : (b : Bool) → size_at vs (insert x (cond b (y ∷ z ∷ []) (z ∷ y ∷ []))) ≡ unsigned_abs (product_at vs x y z)
+    rest : (b : Bool) → bracket_size vs (insert x (cond b (y ∷ z ∷ []) (z ∷ y ∷ []))) ≡ unsigned_abs (product_at vs x y z)
     rest true = size-insert vs x y z
     rest false = size-insert vs x z y ∙ swapped_last vs x y z
 
@@ -133,48 +129,49 @@ module _ (vs : List WholeVector) (m : SignMap) (realizes : Realizes vs m) (st : 
 
 -- ---- sizes
 
-size-product : (vs : List WholeVector) (x y z u v : ℕ) → unsigned_abs (product_at vs x y z *ℤ product_at vs x u v) ≡ size_at vs (triple x y z) * size_at vs (triple x u v)
+size-product : (vs : List WholeVector) (x y z u v : ℕ) → unsigned_abs (product_at vs x y z *ℤ product_at vs x u v) ≡ bracket_size vs (triple x y z) * bracket_size vs (triple x u v)
 size-product vs x y z u v =
     unsigned_abs-mul (product_at vs x y z) (product_at vs x u v)
     ∙ ap (λ k. k * unsigned_abs (product_at vs x u v)) (sym (size-triple vs x y z))
-    ∙ ap (λ k. size_at vs (triple x y z) * k) (sym (size-triple vs x u v))
+    ∙ ap (λ k. bracket_size vs (triple x y z) * k) (sym (size-triple vs x u v))
 
-pub size-number : (vs : List WholeVector) (st : Statement) (i : ℕ) → unsigned_abs (number vs st i) ≡ size_at vs (first_bracket st i) * size_at vs (second_bracket st i)
+pub size-number : (vs : List WholeVector) (st : Statement) (i : ℕ) → unsigned_abs (number vs st i) ≡ term_size vs st i
 size-number vs st i = go (nat_eq i 1) (nat_eq i 2)
   where
     go :
         (b c : Bool)
         → unsigned_abs (cond b (first_number vs st) (cond c (second_number vs st) (third_number vs st)))
-        ≡ size_at vs (cond b (triple st.a st.b st.c) (cond c (triple st.a st.b st.d) (triple st.a st.b st.e)))
-        * size_at vs (cond b (triple st.a st.d st.e) (cond c (triple st.a st.c st.e) (triple st.a st.c st.d)))
+        ≡ bracket_size vs (cond b (triple st.a st.b st.c) (cond c (triple st.a st.b st.d) (triple st.a st.b st.e)))
+        * bracket_size vs (cond b (triple st.a st.d st.e) (cond c (triple st.a st.c st.e) (triple st.a st.c st.d)))
     go true c = size-product vs st.a st.b st.c st.d st.e
     go false true = size-neg (product_at vs st.a st.b st.d *ℤ product_at vs st.a st.c st.e) ∙ size-product vs st.a st.b st.d st.c st.e
     go false false = size-product vs st.a st.b st.e st.c st.d
 
 -- ---- the order of the sizes
 
--- the one size is positive and at most the other, and less where the statement is strict
+-- the one size is positive and at most the other, and less where the statement is strict, and equal where it isn't
 pub record IsCompared (strict : Bool) (small big : ℕ) : Type 0 where
   pub positive : 0 < small
   pub at_most : small ≤ big
   pub less : strict ≡ true → small < big
+  pub equal : strict ≡ false → small ≡ big
 
 compared : (strict : Bool) (u w v : ℤ) → u +ℤ w +ℤ v ≡ pos 0 → HasSigns strict (sign_of u) (sign_of w) (sign_of v) → IsCompared strict (unsigned_abs u) (unsigned_abs v)
 compared strict (pos zero) w v e h = absurd (h.nonzero refl)
 compared strict (pos (suc k)) w (pos zero) e h = absurd (let o : Zero ≡ Minus = h.opposed in cc)
 compared strict (pos (suc k)) w (pos (suc n)) e h = absurd (let o : Plus ≡ Minus = h.opposed in cc)
 compared true (pos (suc k)) (pos zero) (negsuc n) e h = absurd (let o : Zero ≡ Plus = h.rest in cc)
-compared true (pos (suc k)) (pos (suc j)) (negsuc n) e h = record { positive = omega arith; at_most = omega (arith, ints); less = λ s. omega (arith, ints) }
+compared true (pos (suc k)) (pos (suc j)) (negsuc n) e h = record { positive = omega arith; at_most = omega (arith, ints); less = λ s. omega (arith, ints); equal = λ s. absurd (cc) }
 compared true (pos (suc k)) (negsuc j) (negsuc n) e h = absurd (let o : Minus ≡ Plus = h.rest in cc)
-compared false (pos (suc k)) (pos zero) (negsuc n) e h = record { positive = omega arith; at_most = omega (arith, ints); less = λ s. absurd (cc) }
+compared false (pos (suc k)) (pos zero) (negsuc n) e h = record { positive = omega arith; at_most = omega (arith, ints); less = λ s. absurd (cc); equal = λ s. omega (arith, ints) }
 compared false (pos (suc k)) (pos (suc j)) (negsuc n) e h = absurd (let o : Plus ≡ Zero = h.rest in cc)
 compared false (pos (suc k)) (negsuc j) (negsuc n) e h = absurd (let o : Minus ≡ Zero = h.rest in cc)
 compared strict (negsuc k) w (pos zero) e h = absurd (let o : Zero ≡ Plus = h.opposed in cc)
 compared strict (negsuc k) w (negsuc n) e h = absurd (let o : Minus ≡ Plus = h.opposed in cc)
 compared true (negsuc k) (pos zero) (pos (suc n)) e h = absurd (let o : Zero ≡ Minus = h.rest in cc)
 compared true (negsuc k) (pos (suc j)) (pos (suc n)) e h = absurd (let o : Plus ≡ Minus = h.rest in cc)
-compared true (negsuc k) (negsuc j) (pos (suc n)) e h = record { positive = omega arith; at_most = omega (arith, ints); less = λ s. omega (arith, ints) }
-compared false (negsuc k) (pos zero) (pos (suc n)) e h = record { positive = omega arith; at_most = omega (arith, ints); less = λ s. absurd (cc) }
+compared true (negsuc k) (negsuc j) (pos (suc n)) e h = record { positive = omega arith; at_most = omega (arith, ints); less = λ s. omega (arith, ints); equal = λ s. absurd (cc) }
+compared false (negsuc k) (pos zero) (pos (suc n)) e h = record { positive = omega arith; at_most = omega (arith, ints); less = λ s. absurd (cc); equal = λ s. omega (arith, ints) }
 compared false (negsuc k) (pos (suc j)) (pos (suc n)) e h = absurd (let o : Plus ≡ Zero = h.rest in cc)
 compared false (negsuc k) (negsuc j) (pos (suc n)) e h = absurd (let o : Minus ≡ Zero = h.rest in cc)
 
@@ -200,15 +197,15 @@ terms_sum x y z e i j t = go i j (one_of_three i t.first) (one_of_three j t.seco
     go i j (inr (inr p)) (inr (inl q)) n = rw (p, q) (let f : z +ℤ x +ℤ y ≡ pos 0 = omega sums in f)
     go i j (inr (inr p)) (inr (inr q)) n = absurd (n (p ∙ sym q))
 
--- the product of the sizes on the small side of a lawful statement is positive and at most that on the big side, and less where it is strict
+-- the product of the sizes on the small side of a lawful statement is positive and at most that on the big side, less where it is strict, and else equal
 pub ordered_sizes :
     (vs : List WholeVector) (m : SignMap)
     → Realizes vs m
     → (st : Statement)
     → IsLawful m st
-    → IsCompared st.strict (size_at vs (first_bracket st st.small) * size_at vs (second_bracket st st.small)) (size_at vs (first_bracket st st.big) * size_at vs (second_bracket st st.big))
+    → IsCompared st.strict (term_size vs st st.small) (term_size vs st st.big)
 ordered_sizes vs m r st h =
-    subst (λ k. IsCompared st.strict k (size_at vs (first_bracket st st.big) * size_at vs (second_bracket st st.big))) (size-number vs st st.small)
+    subst (λ k. IsCompared st.strict k (term_size vs st st.big)) (size-number vs st st.small)
     (subst (λ k. IsCompared st.strict (unsigned_abs (number vs st st.small)) k) (size-number vs st st.big)
     (compared st.strict (number vs st st.small) (number vs st (third st.small st.big)) (number vs st st.big)
     (terms_sum (first_number vs st) (second_number vs st) (third_number vs st) (numbers_sum vs st) st.small st.big h.two)

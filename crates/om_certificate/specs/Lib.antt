@@ -1,3 +1,4 @@
+pub mod BracketSizes
 pub mod Certificates
 pub mod Weights
 pub mod Validity

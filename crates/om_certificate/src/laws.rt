@@ -1,15 +1,31 @@
 //! What the words of the crate's contracts come to. A law is a function that does nothing: its contract is the law.
 
-ghost use Rattle.std.specs.Prelude.{◌≡◌, List};
+ghost use Rattle.std.specs.Prelude.{◌≡◌, ◌<◌, true, false, List};
 ghost use Rattle.om_chirotope.specs.Map.{SignMap};
+ghost use Rattle.om_vectors.specs.WholeVectors.{WholeVector};
+ghost use Rattle.om_vectors.specs.Realizations.{Realizes};
+ghost use Rattle.om_grassmann.specs.declared.statement.Statement.{Statement};
+ghost use Rattle.om_grassmann.specs.Statements.{IsLawful};
 ghost use Rattle.om_certificate.specs.declared.entry.Entry.{Entry};
 ghost use Rattle.om_certificate.specs.declared.weight.Weight.{Weight};
 ghost use Rattle.om_certificate.specs.declared.evidence.Evidence.{Evidence};
 ghost use Rattle.om_certificate.specs.declared.cert_refused.CertRefused.{CertRefused};
+ghost use Rattle.om_certificate.specs.BracketSizes.{term_size};
 ghost use Rattle.om_certificate.specs.Certificates.{IsCertificate};
 ghost use Rattle.om_certificate.specs.Weights.{AreWeights};
 ghost use Rattle.om_certificate.specs.Validity.{IsValid, IsUnrealizable, HasNoCertificate};
 ghost use Rattle.om_certificate.specs.Refusals.{IsRefusal};
+
+/// What a lawful statement says of vectors that realize the map: the product of the sizes of the two brackets of the small
+/// side is less than that of the big side where the statement is strict, and equal to it where it is an equation. Neither
+/// is 0.
+///
+/// Source: Bokowski and Richter-Gebert, *On the finding of final polynomials*, 1990.
+pub fn statements_hold_of_vectors()
+    ensures strict { (m : SignMap) (vs : List WholeVector) (st : Statement) → Realizes vs m → IsLawful m st → st.strict ≡ true → term_size vs st st.small < term_size vs st st.big }
+    ensures equation { (m : SignMap) (vs : List WholeVector) (st : Statement) → Realizes vs m → IsLawful m st → st.strict ≡ false → term_size vs st st.small ≡ term_size vs st st.big }
+    ensures nonzero { (m : SignMap) (vs : List WholeVector) (st : Statement) → Realizes vs m → IsLawful m st → 0 < term_size vs st st.small }
+{}
 
 /// No list of vectors of whole numbers, of any size, realizes a map that has a certificate: with such vectors the product
 /// of the sizes of the brackets on the small sides would be less than that on the big sides, and both are products of the

@@ -23,7 +23,10 @@ pub use cert_refused::CertRefused;
 pub use checking::check;
 pub use entry::Entry;
 pub use evidence::Evidence;
-pub use laws::{certificates_exclude_vectors, one_refusal, weights_exclude_certificates};
+pub use laws::{
+    certificates_exclude_vectors, one_refusal, statements_hold_of_vectors,
+    weights_exclude_certificates,
+};
 pub use lp_end::LpEnd;
 pub use om_simplex::Stage;
 pub use verdict::{Verdict, certificate};
