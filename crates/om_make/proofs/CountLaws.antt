@@ -1,19 +1,21 @@
 -- How many cocircuits and mutations a chirotope of rank 3 may have.
 --
--- Main results: few_cocircuits (no more than a list may have), few_mutations (no more than triples), few_signs.
+-- Main results: most_cocircuits (in rank 3 at most n (n - 1) on n elements); few_cocircuits (no more than a list may have), few_mutations (no more
+-- than triples), few_signs.
 use Rattle.std.specs.Prelude.{ℕ, ◌≡◌, ◌<◌, ◌≤◌, ◌+◌, ◌*◌, ◌-◌, List, [], ◌∷◌, ◌++◌, length, map, refl}
 use Rattle.std.specs.List.{Contains}
 use Rattle.std.proofs.Common.{zero, suc, get_or, sym, ◌∙◌, ap, subst, inl, inr, arith}
 use Rattle.std.proofs.lemmas.List.{length-append, length-map}
 use Rattle.std.proofs.lemmas.List.Elements.{All-contains, Contains-append_left, Contains-append_right}
 use Rattle.std.proofs.lemmas.Nat.{mul-le}
+use Rattle.std.proofs.Math.Nat.{mul-sub}
 use Rattle.om_signs.specs.declared.limits.TheConstants.{MAX_ELEMENTS, MAX_MEMBERS}
 use Rattle.om_signs.specs.declared.sign.Sign.{Sign}
 use Rattle.om_signs.specs.Sign.{opposite}
 use Rattle.om_subsets.specs.Subsets.{IsSubsetFrom, choose, rank_of, all_subsets}
 use Rattle.om_subsets.proofs.Order.{length-subsets_from, rank_from-lt, get_or-rank_from, lexicographic}
 use Rattle.om_subsets.specs.Members.{Chosen}
-use Rattle.om_subsets.proofs.Counts.{choose_two}
+use Rattle.om_subsets.proofs.Counts.{choose_one}
 use Rattle.om_subsets.proofs.Table.{choose_most}
 use Rattle.om_signs.specs.declared.raw_map.RawMap.{RawMap}
 use Rattle.om_chirotope.specs.Chirotope.{IsSound}
@@ -22,8 +24,13 @@ use Rattle.om_denotation.specs.Circuits.{IsCocircuitOfChirotope, IsUpToSign}
 use Rattle.om_denotation.specs.Listings.{HasMoreThan}
 use Rattle.om_convert.proofs.CountingLaws.{distinct_few}
 use Rattle.om_mutate.specs.Mutations.{ListsMutations, nth}
+use Rattle.om_make.proofs.FirstSigns.{fewer}
 
 -- ---- cocircuits
+
+twice_pairs : (n : ℕ) → 2 * choose n 2 + n ≡ n * n
+twice_pairs zero = refl
+twice_pairs (suc n) = let a = choose_one n in let b = twice_pairs n in grind arith
 
 module _ (m : SignMap) (three : m.rank ≡ 3) where
   -- the vectors of all pairs, and their negatives
@@ -33,12 +40,13 @@ module _ (m : SignMap) (three : m.rank ≡ 3) where
   pairs : length (cocircuit_vectors m) ≡ choose m.elements 2
   pairs = length-map (all_subsets m.elements (m.rank - 1)) (cocircuit_vector m) ∙ length-subsets_from 1 m.elements (m.rank - 1) ∙ ap (λ r. choose m.elements (r - 1)) three
 
-  candidate_count : length candidates ≤ 2 * (m.elements * m.elements)
+  candidate_count : length candidates ≡ m.elements * (m.elements - 1)
   candidate_count =
       let a = length-append (cocircuit_vectors m) (map (map opposite) (cocircuit_vectors m)) in
       let b = length-map (cocircuit_vectors m) (map opposite) in
       let p = pairs in
-      let q = choose_two m.elements in
+      let q = twice_pairs m.elements in
+      let e = mul-sub m.elements m.elements 1 in
       omega arith
 
   vector_listed : (t : List ℕ) → IsSubsetFrom 1 m.elements t → length t + 1 ≡ m.rank → Contains (cocircuit_vectors m) (cocircuit_vector m t)
@@ -68,13 +76,17 @@ module _ (m : SignMap) (three : m.rank ≡ 3) where
       by_case (inl q) = subst (Contains candidates) (sym q) (Contains-append_left (cocircuit_vectors m) (map (map opposite) (cocircuit_vectors m)) (cocircuit_vector m h.tuple) listed)
       by_case (inr q) = subst (Contains candidates) (sym q) (Contains-append_right (cocircuit_vectors m) (map (map opposite) (cocircuit_vectors m)) (map opposite (cocircuit_vector m h.tuple)) (negated (map opposite) (cocircuit_vectors m) (cocircuit_vector m h.tuple) listed))
 
-  pub few_cocircuits : m.elements ≤ MAX_ELEMENTS → HasMoreThan MAX_MEMBERS (IsCocircuitOfChirotope m) → ⊥
-  few_cocircuits high more =
+  pub most_cocircuits : HasMoreThan (m.elements * (m.elements - 1)) (IsCocircuitOfChirotope m) → ⊥
+  most_cocircuits more =
       let l = distinct_few more.members candidates more.distinct (λ X c. candidate X (All-contains (IsCocircuitOfChirotope m) more.members X more.each c)) in
-      let s = mul-le m.elements m.elements MAX_ELEMENTS MAX_ELEMENTS high high in
       let c = candidate_count in
       let k = more.many in
       omega arith
+
+  pub few_cocircuits : m.elements ≤ MAX_ELEMENTS → HasMoreThan MAX_MEMBERS (IsCocircuitOfChirotope m) → ⊥
+  few_cocircuits high =
+      let s = mul-le m.elements (m.elements - 1) MAX_ELEMENTS MAX_ELEMENTS high (omega arith) in
+      fewer (m.elements * (m.elements - 1)) MAX_MEMBERS (IsCocircuitOfChirotope m) (omega arith) most_cocircuits
 
 -- ---- mutations
 

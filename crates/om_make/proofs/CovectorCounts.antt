@@ -2,7 +2,7 @@
 --
 -- Main results: base_swapped (an element where a covector isn't zero goes into a base, whose elements where the covector vanishes stay);
 -- rank_by_base (covectors that vanish on some elements of a base have no more rank than there are others); most_covectors (in rank 3 at most
--- 6 n^2 + 1 on n elements); few_covectors (no more than a list may have).
+-- 4 n (n - 1) + 3 on n elements); few_covectors (no more than a list may have).
 -- Reference: Björner, Las Vergnas, Sturmfels, White and Ziegler, Oriented Matroids, chapters 3 and 4.
 use Rattle.std.proofs.Common.{ℕ, zero, suc, ◌≡◌, ◌≢◌, ◌+◌, ◌*◌, ◌-◌, ◌≤◌, List, [], ◌∷◌, ◌++◌, length, refl, sym, ap, subst, ◌∙◌, ⊎_elim, arith, append_assoc, append-nil}
 use Rattle.std.proofs.lemmas.List.{length-append}
@@ -35,7 +35,8 @@ use Rattle.om_denotation.specs.Listings.{HasMoreThan}
 use Rattle.om_denotation.proofs.ChirotopeBridge.{tuples_of, covector_function}
 use Rattle.om_denotation.proofs.FamilyLaws.{covector_axioms}
 use Rattle.om_denotation.proofs.ListFunctions.{at_place}
-use Rattle.om_make.proofs.RankBounds.{IsClosed, IsZeroAt, HasRankAtMost, rank_moved, most_in_rank_three, few_by_rank}
+use Rattle.om_make.proofs.FirstSigns.{fewer}
+use Rattle.om_make.proofs.RankBounds.{IsClosed, IsZeroAt, HasRankAtMost, rank_moved, bound_in_rank_three}
 
 -- ---- bases
 
@@ -124,6 +125,7 @@ module _ (m : SignMap) (chirotope : IsChirotope m) where
       let laws = covector_axioms m chirotope in
       record {
         size = λ X x. x.size;
+        zero = laws.zero;
         symmetric = laws.symmetric;
         elimination = λ X Y x y i apart.
             let z = laws.elimination X Y x y (suc i) (omega arith) (let e : suc i - 1 ≡ i = omega arith in rw e apart) in (
@@ -136,10 +138,10 @@ module _ (m : SignMap) (chirotope : IsChirotope m) where
             );
       }
 
-  most_covectors : m.rank ≡ 3 → HasMoreThan (6 * (m.elements * m.elements) + 1) (IsCovectorOfChirotope m) → ⊥
-  most_covectors three more = few_by_rank 2 m.elements (IsCovectorOfChirotope m) covectors_closed (subst (λ r. HasRankAtMost r (IsCovectorOfChirotope m)) three rank_of_covectors)
-      (record { members = more.members; many = (let k = more.many in let b = most_in_rank_three m.elements in omega arith); distinct = more.distinct; each = more.each })
+  pub most_covectors : m.rank ≡ 3 → HasMoreThan (4 * (m.elements * (m.elements - 1)) + 3) (IsCovectorOfChirotope m) → ⊥
+  most_covectors three = bound_in_rank_three m.elements (IsCovectorOfChirotope m) covectors_closed (subst (λ r. HasRankAtMost r (IsCovectorOfChirotope m)) three rank_of_covectors)
 
   pub few_covectors : m.rank ≡ 3 → m.elements ≤ MAX_ELEMENTS → HasMoreThan MAX_MEMBERS (IsCovectorOfChirotope m) → ⊥
-  few_covectors three high more = most_covectors three
-      (record { members = more.members; many = (let k = more.many in let s = mul-le m.elements m.elements MAX_ELEMENTS MAX_ELEMENTS high high in omega arith); distinct = more.distinct; each = more.each })
+  few_covectors three high =
+      let s = mul-le m.elements (m.elements - 1) MAX_ELEMENTS MAX_ELEMENTS high (omega arith) in
+      fewer (4 * (m.elements * (m.elements - 1)) + 3) MAX_MEMBERS (IsCovectorOfChirotope m) (omega arith) (most_covectors three)

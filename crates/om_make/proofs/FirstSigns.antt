@@ -1,11 +1,12 @@
 -- Distinct sign vectors by their first signs, and how many members a family has by its deletion and its contraction of the first element.
 --
 -- Main definitions: IsDeleted, IsContracted, the deletion and the contraction of the first element of a family.
--- Main results: split (a list of distinct vectors, by their first signs); few_by_minors (a family has no more members than its deletion and twice
--- its contraction, if the first element can be eliminated between members that differ there alone).
+-- Main results: fewer (a family without more than a number of members has none with more than a greater one); split (a list of distinct vectors, by
+-- their first signs); few_by_minors (a family has no more members than its deletion and twice its contraction without the zero vector, or than three
+-- times its contraction where the vector that is nonzero at the first element alone is a member).
 -- Reference: Björner, Las Vergnas, Sturmfels, White and Ziegler, Oriented Matroids, chapter 4.
 use Rattle.std.specs.List.{Contains, list_any}
-use Rattle.std.proofs.Common.{ℕ, suc, ◌≡◌, ◌≢◌, ◌+◌, ◌*◌, ◌<◌, List, [], ◌∷◌, length, refl, sym, subst, ◌∙◌, ⊎_elim, arith}
+use Rattle.std.proofs.Common.{ℕ, suc, ◌≡◌, ◌≢◌, ◌+◌, ◌*◌, ◌≤◌, ◌⊎◌, List, [], ◌∷◌, length, refl, sym, subst, ◌∙◌, inl, inr, ⊎_elim, arith}
 use Rattle.std.proofs.lemmas.Bool.{cases_lt, cases_Bool}
 use Rattle.std.proofs.lemmas.List.Elements.{All-contains, All-contains_itself}
 use Rattle.std.proofs.lemmas.List.Kept.{AllPairs-cons}
@@ -38,8 +39,18 @@ some_more P Q X xs f q new s = record {
 some_weaker : (P Q : List Sign → Type 0) (xs : List (List Sign)) → ((Y : List Sign) → P Y → Q Y) → AreSome P xs → AreSome Q xs
 some_weaker P Q xs f s = record { distinct = s.distinct; each = λ X c. f X (s.each X c) }
 
-some_many : (P : List Sign → Type 0) (xs : List (List Sign)) (k : ℕ) → AreSome P xs → k < length xs → HasMoreThan k P
-some_many P xs k s many = record { members = xs; many = many; distinct = s.distinct; each = λ i d l. s.each _ (All-contains_itself xs i d l) }
+some_few : (P : List Sign → Type 0) (xs : List (List Sign)) (k : ℕ) → AreSome P xs → (HasMoreThan k P → ⊥) → length xs ≤ k
+some_few P xs k s few = ⊎_elim
+    (λ l. absurd (few (record { members = xs; many = l; distinct = s.distinct; each = λ i d m. s.each _ (All-contains_itself xs i d m) })))
+    (λ l. l)
+    (cases_lt k (length xs))
+
+some_or_none : (P : List Sign → Type 0) (xs : List (List Sign)) → AreSome P xs → ((Y : List Sign) × P Y) ⊎ (length xs ≡ 0)
+some_or_none P [] s = inr refl
+some_or_none P (Y ∷ xs) s = inl (Y, s.each Y (contains_first Y xs))
+
+pub fewer : (j k : ℕ) (P : List Sign → Type 0) → j ≤ k → (HasMoreThan j P → ⊥) → HasMoreThan k P → ⊥
+fewer j k P l few more = few (record { members = more.members; many = (let m = more.many in omega arith); distinct = more.distinct; each = more.each })
 
 -- ---- the first signs
 
@@ -152,34 +163,73 @@ IsDeleted P Y = (s : Sign) × P (s ∷ Y)
 abbrev pub IsContracted : (List Sign → Type 0) → List Sign → Type 0
 IsContracted P Y = P (Zero ∷ Y)
 
-module _ (n b z : ℕ) (P : List Sign → Type 0) (size : (X : List Sign) → P X → length X ≡ suc n)
+-- O is the zero vector of the rest; where a nonzero sign stands before it, the first element is a coloop, and each rest behind a nonzero sign is a
+-- member of the contraction
+module _ (n b z k : ℕ) (P : List Sign → Type 0) (size : (X : List Sign) → P X → length X ≡ suc n)
     (eliminated : (Y : List Sign) → P (Plus ∷ Y) → P (Minus ∷ Y) → IsContracted P Y)
+    (O : List Sign) (origin : IsContracted P O)
+    (dropped : (s t : Sign) (Y : List Sign) → IsNonzero s → IsNonzero t → P (s ∷ O) → P (t ∷ Y) → IsContracted P Y)
     (deleted : HasMoreThan b (IsDeleted P) → ⊥)
     (contracted : (s : Sign) (Y : List Sign) → IsNonzero s → P (s ∷ Y) → HasMoreThan z (IsContracted P) → ⊥)
+    (loop : b ≤ k) (coloop : 3 * z ≤ k) (neither : b + 2 * z ≤ k + 2)
   where
     module _ (xs : List (List Sign)) (each : (X : List Sign) → Contains xs X → P X) (r : IsSplit xs) where
-      once_few : b < length r.once → ⊥
-      once_few l = deleted (some_many (IsDeleted P) r.once b (some_weaker (HasNonzeroFirst xs) (IsDeleted P) r.once (λ Y h. (h.0, each (h.0 ∷ Y) h.2)) r.nonzero_first) l)
+      of_nonzero : (Y : List Sign) → HasNonzeroFirst xs Y → IsDeleted P Y
+      of_nonzero Y h = (h.0, each (h.0 ∷ Y) h.2)
 
-      twice_few : (ys : List (List Sign)) → AreSome (HasBothFirst xs) ys → z < length ys → ⊥
-      twice_few [] s l = absurd (omega arith)
-      twice_few (Y ∷ ys) s l =
-          contracted Plus Y plus_nonzero (each (Plus ∷ Y) (s.each Y (contains_first Y ys) Plus plus_nonzero))
-          (some_many (IsContracted P) (Y ∷ ys) z (some_weaker (HasBothFirst xs) (IsContracted P) (Y ∷ ys) (λ Z h. eliminated Z (each (Plus ∷ Z) (h Plus plus_nonzero)) (each (Minus ∷ Z) (h Minus minus_nonzero))) s) l)
+      of_both : (Y : List Sign) → HasBothFirst xs Y → IsContracted P Y
+      of_both Y h = eliminated Y (each (Plus ∷ Y) (h Plus plus_nonzero)) (each (Minus ∷ Y) (h Minus minus_nonzero))
 
       -- where no first sign is nonzero, the deletion has as many members
-      zero_few : (ys : List (List Sign)) → AreSome (HasNonzeroFirst xs) ys → b + z < length ys + length r.zero → z < length r.zero → ⊥
-      zero_few [] s many l = deleted (some_many (IsDeleted P) r.zero b (some_weaker (HasZeroFirst xs) (IsDeleted P) r.zero (λ Y c. (Zero, each (Zero ∷ Y) c)) r.zero_first) (omega arith))
-      zero_few (Y ∷ ys) s many l =
-          let h = s.each Y (contains_first Y ys) in
-          contracted h.0 Y h.1 (each (h.0 ∷ Y) h.2) (some_many (IsContracted P) r.zero z (some_weaker (HasZeroFirst xs) (IsContracted P) r.zero (λ Z c. each (Zero ∷ Z) c) r.zero_first) l)
+      by_loop : length r.once ≡ 0 → length r.twice ≡ 0 → length xs ≤ k
+      by_loop once twice =
+          let d = some_few (IsDeleted P) r.zero b (some_weaker (HasZeroFirst xs) (IsDeleted P) r.zero (λ Y c. (Zero, each (Zero ∷ Y) c)) r.zero_first) deleted in
+          let q = r.size in
+          omega arith
 
-      split_few : b + 2 * z < length xs → ⊥
-      split_few many = ⊎_elim once_few
-          (λ k. ⊎_elim (twice_few r.twice r.both_first) (λ l. let q = r.size in zero_few r.once r.nonzero_first (omega arith) (omega arith)) (cases_lt z (length r.twice)))
-          (cases_lt b (length r.once))
+      module _ (few : HasMoreThan z (IsContracted P) → ⊥) where
+        few_zero : length r.zero ≤ z
+        few_zero = some_few (IsContracted P) r.zero z (some_weaker (HasZeroFirst xs) (IsContracted P) r.zero (λ Y c. each (Zero ∷ Y) c) r.zero_first) few
 
-    pub few_by_minors : HasMoreThan (b + 2 * z) P → ⊥
+        -- where a nonzero sign stands before O, each rest is a member of the contraction
+        by_coloop : (s : Sign) → IsNonzero s → P (s ∷ O) → length xs ≤ k
+        by_coloop s n o =
+            let a = some_few (IsContracted P) r.once z (some_weaker (HasNonzeroFirst xs) (IsContracted P) r.once (λ Y h. dropped s h.0 Y n h.1 o (each (h.0 ∷ Y) h.2)) r.nonzero_first) few in
+            let t = some_few (IsContracted P) r.twice z (some_weaker (HasBothFirst xs) (IsContracted P) r.twice of_both r.both_first) few in
+            let l = few_zero in
+            let q = r.size in
+            omega arith
+
+        -- where none does, O is one more member of the deletion and of the contraction
+        by_neither : (Contains r.once O → ⊥) → (Contains r.twice O → ⊥) → length xs ≤ k
+        by_neither not_once not_twice =
+            let a = some_few (IsDeleted P) (O ∷ r.once) b (some_more (HasNonzeroFirst xs) (IsDeleted P) O r.once of_nonzero (Zero, origin) not_once r.nonzero_first) deleted in
+            let t = some_few (IsContracted P) (O ∷ r.twice) z (some_more (HasBothFirst xs) (IsContracted P) O r.twice of_both origin not_twice r.both_first) few in
+            let l = few_zero in
+            let q = r.size in
+            omega arith
+
+        by_nonzero : length xs ≤ k
+        by_nonzero = ⊎_elim
+            (λ q. let h = r.nonzero_first.each O (contained r.once O q) in by_coloop h.0 h.1 (each (h.0 ∷ O) h.2))
+            (λ q. ⊎_elim
+            (λ p. by_coloop Plus plus_nonzero (each (Plus ∷ O) (r.both_first.each O (contained r.twice O p) Plus plus_nonzero)))
+            (λ p. by_neither (not_contained r.once O q) (not_contained r.twice O p))
+            (cases_Bool (list_any (same_masks O) r.twice)))
+            (cases_Bool (list_any (same_masks O) r.once))
+
+      split_few : length xs ≤ k
+      split_few = ⊎_elim
+          (λ y. by_nonzero (contracted y.1.0 y.0 y.1.1 (each (y.1.0 ∷ y.0) y.1.2)))
+          (λ once. ⊎_elim
+          (λ y. by_nonzero (contracted Plus y.0 plus_nonzero (each (Plus ∷ y.0) (y.1 Plus plus_nonzero))))
+          (λ twice. by_loop once twice)
+          (some_or_none (HasBothFirst xs) r.twice r.both_first))
+          (some_or_none (HasNonzeroFirst xs) r.once r.nonzero_first)
+
+    pub few_by_minors : HasMoreThan k P → ⊥
     few_by_minors more =
         let each : (X : List Sign) → Contains more.members X → P X = λ X c. All-contains P more.members X more.each c in
-        split_few more.members each (split n more.members more.distinct (λ X c. size X (each X c))) more.many
+        let l = split_few more.members each (split n more.members more.distinct (λ X c. size X (each X c))) in
+        let m = more.many in
+        omega arith

@@ -1,11 +1,11 @@
 -- How many members a family of sign vectors has, by its rank.
 --
--- Main definitions: IsClosed, the symmetry and the elimination of covectors; HasRankAtMost, a bound of the rank; most, a bound of the number of
--- members.
--- Main results: rank_moved (a family that is read off another has no larger rank); few_in_rank_one (rank 1 has three members at most);
--- few_by_rank (a closed family has no more members than its rank allows); most_in_rank_three.
+-- Main definitions: IsClosed, the zero, the symmetry and the elimination of covectors; HasRankAtMost, a bound of the rank; IsBound, a bound of the
+-- number of members by the rank.
+-- Main results: rank_moved (a family that is read off another has no larger rank); bound_in_rank_one (3), bound_in_rank_two (4 n + 1) and
+-- bound_in_rank_three (4 n (n - 1) + 3) on n elements.
 -- Reference: Björner, Las Vergnas, Sturmfels, White and Ziegler, Oriented Matroids, chapter 4.
-use Rattle.std.proofs.Common.{ℕ, zero, suc, ◌≡◌, ◌≢◌, ◌+◌, ◌*◌, ◌<◌, ◌≤◌, List, [], ◌∷◌, length, get_or, map, refl, sym, subst, ◌∙◌, ⊎_elim, arith}
+use Rattle.std.proofs.Common.{ℕ, zero, suc, ◌≡◌, ◌≢◌, ◌+◌, ◌-◌, ◌*◌, ◌<◌, ◌≤◌, List, [], ◌∷◌, length, get_or, map, replicate, refl, sym, ap, subst, ◌∙◌, ⊎_elim, arith}
 use Rattle.std.specs.List.{Contains}
 use Rattle.std.proofs.lemmas.List.{ext_get_or}
 use Rattle.std.proofs.lemmas.List.Elements.{All-contains, Contains-get_or}
@@ -13,20 +13,22 @@ use Rattle.om_signs.specs.declared.sign.Sign.{Sign}
 use Rattle.om_signs.specs.declared.sign.Sign.TheVariants.{Minus, Zero, Plus}
 use Rattle.om_signs.specs.Sign.{opposite, product, first_nonzero}
 use Rattle.om_signs.specs.SignVec.{at, IsSeparated}
-use Rattle.om_signs.proofs.ListPlaces.{at-map-opposite}
-use Rattle.om_laws.proofs.SignLaws.{zero_or_nonzero, same_or_different}
+use Rattle.om_signs.proofs.ListPlaces.{first_nonzero-zero, at-map-opposite, at-replicate}
+use Rattle.om_laws.specs.Signs.{IsNonzero}
+use Rattle.om_laws.proofs.SignLaws.{zero_or_nonzero, same_or_different, equal_or_opposite, product_zero_right}
 use Rattle.om_members.specs.Listings.{AreDistinct}
 use Rattle.om_denotation.specs.Listings.{HasMoreThan}
-use Rattle.om_make.proofs.FirstSigns.{IsDeleted, IsContracted, few_by_minors}
+use Rattle.om_make.proofs.FirstSigns.{IsDeleted, IsContracted, fewer, few_by_minors}
 
 -- Z is zero at the place, and where X and Y are not separated it is their composition
 pub record IsEliminator (X Y : List Sign) (i : ℕ) (Z : List Sign) : Type 0 where
   pub zero : at Z i ≡ Zero
   pub outside : (j : ℕ) → (IsSeparated X Y j → ⊥) → at Z j ≡ first_nonzero (at X j) (at Y j)
 
--- members with n signs, and with negatives and elimination
+-- members with n signs, with zero among them, and with negatives and elimination
 pub record IsClosed (n : ℕ) (P : List Sign → Type 0) : Type 0 where
   pub size : (X : List Sign) → P X → length X ≡ n
+  pub zero : P (replicate n Zero)
   pub symmetric : (X : List Sign) → P X → P (map opposite X)
   pub elimination : (X Y : List Sign) → P X → P Y → (i : ℕ) → IsSeparated X Y i → (Z : List Sign) × P Z × IsEliminator X Y i Z
 
@@ -50,11 +52,23 @@ rank_moved (suc r) P Q f from h = λ Y y i n.
 
 -- ---- the deletion and the contraction of the first element
 
-same_not_separated : (s : Sign) → product s s ≢ Minus
-same_not_separated s = grind arith
+-- the second sign isn't against the first, and adds nothing to it
+abbrev AddsNothing : Sign → Sign → Type 0
+AddsNothing s t = (product s t ≢ Minus) × (first_nonzero s t ≡ s)
 
-first_of_same : (s : Sign) → first_nonzero s s ≡ s
-first_of_same s = grind arith
+same_adds_nothing : (s : Sign) → AddsNothing s s
+same_adds_nothing Minus = (λ e. cc, refl)
+same_adds_nothing Zero = (λ e. cc, refl)
+same_adds_nothing Plus = (λ e. cc, refl)
+
+zero_adds_nothing : (s t : Sign) → t ≡ Zero → AddsNothing s t
+zero_adds_nothing s t e = (λ q. let z = product_zero_right s t e in cc, ap (first_nonzero s) e ∙ first_nonzero-zero s)
+
+apart_from_negative : (s t : Sign) → s ≡ t → s ≢ Zero → product s (opposite t) ≡ Minus
+apart_from_negative s t e n = grind arith
+
+apart_from_opposite : (s t : Sign) → s ≡ opposite t → s ≢ Zero → product s t ≡ Minus
+apart_from_opposite s t e n = grind arith
 
 module _ (n : ℕ) (P : List Sign → Type 0) (closed : IsClosed (suc n) P) where
   -- a member by its first sign and the rest
@@ -77,6 +91,7 @@ module _ (n : ℕ) (P : List Sign → Type 0) (closed : IsClosed (suc n) P) wher
   deleted_closed : IsClosed n (IsDeleted P)
   deleted_closed = record {
     size = λ Y y. rest_size y.0 Y y.1;
+    zero = (Zero, closed.zero);
     symmetric = λ Y y. (opposite y.0, closed.symmetric (y.0 ∷ Y) y.1);
     elimination = λ X Y x y i apart.
         let z = eliminated x.0 y.0 X Y x.1 y.1 (suc i) apart in
@@ -86,18 +101,31 @@ module _ (n : ℕ) (P : List Sign → Type 0) (closed : IsClosed (suc n) P) wher
   contracted_closed : IsClosed n (IsContracted P)
   contracted_closed = record {
     size = rest_size Zero;
+    zero = closed.zero;
     symmetric = λ Y y. closed.symmetric (Zero ∷ Y) y;
     elimination = λ X Y x y i apart.
         let z = eliminated Zero Zero X Y x y (suc i) apart in
         (z.1, subst (λ s. P (s ∷ z.1)) (z.3.outside 0 (λ e. cc)) z.2, rest_eliminator Zero Zero z.0 X Y z.1 i z.3);
   }
 
+  -- opposite first signs, where the rest of the second member adds nothing to that of the first
+  dropped : (s t : Sign) (Y Z : List Sign) → product s t ≡ Minus → ((i : ℕ) → AddsNothing (at Y i) (at Z i)) → P (s ∷ Y) → P (t ∷ Z) → IsContracted P Y
+  dropped s t Y Z apart none y z =
+      let w = eliminated s t Y Z y z 0 apart in
+      let same : w.1 ≡ Y = ext_get_or Zero w.1 Y (rest_size w.0 w.1 w.2 ∙ sym (rest_size s Y y)) (λ i l. w.3.outside (suc i) (none i).0 ∙ (none i).1) in
+      subst (λ V. P (Zero ∷ V)) same (subst (λ u. P (u ∷ w.1)) w.3.zero w.2)
+
   first_eliminated : (Y : List Sign) → P (Plus ∷ Y) → P (Minus ∷ Y) → IsContracted P Y
-  first_eliminated Y x y =
-      let z = eliminated Plus Minus Y Y x y 0 refl in
-      let same : z.1 ≡ Y = ext_get_or Zero z.1 Y (rest_size z.0 z.1 z.2 ∙ sym (rest_size Plus Y x))
-      (λ i l. z.3.outside (suc i) (same_not_separated (at Y i)) ∙ first_of_same (at Y i)) in
-      subst (λ Z. P (Zero ∷ Z)) same (subst (λ s. P (s ∷ z.1)) z.3.zero z.2)
+  first_eliminated Y = dropped Plus Minus Y Y refl (λ i. same_adds_nothing (at Y i))
+
+  -- if the vector that is nonzero at the first element alone is a member, each member of the deletion is one of the contraction
+  first_dropped : (s t : Sign) (Y : List Sign) → IsNonzero s → IsNonzero t → P (s ∷ replicate n Zero) → P (t ∷ Y) → IsContracted P Y
+  first_dropped s t Y ns nt o y = ⊎_elim
+      (λ e. dropped t (opposite s) Y (map opposite (replicate n Zero)) (apart_from_negative t s e nt)
+      (λ i. zero_adds_nothing (at Y i) (at (map opposite (replicate n Zero)) i) (at-map-opposite (replicate n Zero) i ∙ ap opposite (at-replicate n i)))
+      y (closed.symmetric (s ∷ replicate n Zero) o))
+      (λ e. dropped t s Y (replicate n Zero) (apart_from_opposite t s e nt) (λ i. zero_adds_nothing (at Y i) (at (replicate n Zero) i) (at-replicate n i)) y o)
+      (equal_or_opposite t s nt ns)
 
   deleted_rank : (r : ℕ) → HasRankAtMost r P → HasRankAtMost r (IsDeleted P)
   deleted_rank r h = rank_moved r P (IsDeleted P) suc (λ Y y. (y.0 ∷ Y, y.1, λ i. refl)) h
@@ -119,9 +147,6 @@ place_of_difference (s ∷ X) (t ∷ Y) l n = ⊎_elim
     (λ q. let d = place_of_difference X Y (omega arith) (λ e. n cc) in (suc d.0, d.1))
     (λ d. (0, d))
     (same_or_different s t)
-
-apart_from_negative : (s t : Sign) → s ≡ t → s ≢ Zero → product s (opposite t) ≡ Minus
-apart_from_negative s t e n = grind arith
 
 -- the same, if one and the opposite of the other are separated or have the composition zero
 same_signs : (s t : Sign) → ((product s (opposite t) ≡ Minus → ⊥) → first_nonzero s (opposite t) ≡ Zero) → s ≡ t
@@ -170,13 +195,7 @@ module _ (n : ℕ) (P : List Sign → Type 0) (closed : IsClosed n P) (rank : Ha
               (signs 1 2 (omega arith) (omega arith)) (signs 1 3 (omega arith) (omega arith)) (signs 2 3 (omega arith) (omega arith))
       four xs l d each = absurd (omega arith)
 
--- ---- all ranks
-
--- a bound of the number of members on n elements in rank r + 1
-abbrev pub most : ℕ → ℕ → ℕ
-most zero n = 3
-most (suc r) zero = 1
-most (suc r) (suc n) = most (suc r) n + 2 * most r n
+-- ---- few elements
 
 few_on_none : (P : List Sign → Type 0) → IsClosed 0 P → HasMoreThan 1 P → ⊥
 few_on_none P closed more = more.distinct 0 1 [] (omega arith) more.many (empty 0 (let l = more.many in omega arith) ∙ sym (empty 1 more.many))
@@ -188,17 +207,60 @@ few_on_none P closed more = more.distinct 0 1 [] (omega arith) more.many (empty 
     empty : (k : ℕ) → k < length more.members → get_or more.members k [] ≡ []
     empty k l = is_nil _ (closed.size _ (more.each k [] l))
 
-pub few_by_rank : (r n : ℕ) (P : List Sign → Type 0) → IsClosed n P → HasRankAtMost (suc r) P → HasMoreThan (most r n) P → ⊥
-few_by_rank zero n P closed rank = few_in_rank_one n P closed rank
-few_by_rank (suc r) zero P closed rank = few_on_none P closed
-few_by_rank (suc r) (suc n) P closed rank = few_by_minors n (most (suc r) n) (most r n) P closed.size (first_eliminated n P closed)
-    (few_by_rank (suc r) n (IsDeleted P) (deleted_closed n P closed) (deleted_rank n P closed (suc (suc r)) rank))
-    (λ s Y a y. few_by_rank r n (IsContracted P) (contracted_closed n P closed) (contracted_rank n P closed (suc r) rank s Y a y))
+-- one element has rank 1 at most
+rank_of_one : (P : List Sign → Type 0) → IsClosed 1 P → HasRankAtMost 1 P
+rank_of_one P closed = λ X x i n Y y. on_one X Y (closed.size X x) (closed.size Y y.0) i n y.1
+  where
+    behind : (X : List Sign) → length X ≡ 1 → (i : ℕ) → at X (suc i) ≡ Zero
+    behind [] l i = refl
+    behind (s ∷ []) l i = refl
+    behind (s ∷ t ∷ X) l i = absurd (omega arith)
 
-most_in_rank_two : (n : ℕ) → most 1 n ≡ 6 * n + 1
-most_in_rank_two zero = refl
-most_in_rank_two (suc n) = let q = most_in_rank_two n in omega arith
+    on_one : (X Y : List Sign) → length X ≡ 1 → length Y ≡ 1 → (i : ℕ) → at X i ≢ Zero → at Y i ≡ Zero → (j : ℕ) → at Y j ≡ Zero
+    on_one X Y l m (suc i) n z j = absurd (n (behind X l i))
+    on_one X Y l m zero n z zero = z
+    on_one X Y l m zero n z (suc j) = behind Y m j
 
-pub most_in_rank_three : (n : ℕ) → most 2 n ≤ 6 * (n * n) + 1
-most_in_rank_three zero = omega arith
-most_in_rank_three (suc n) = let q = most_in_rank_three n in let t = most_in_rank_two n in grind arith
+few_on_one : (P : List Sign → Type 0) → IsClosed 1 P → HasMoreThan 3 P → ⊥
+few_on_one P closed = few_in_rank_one 1 P closed (rank_of_one P closed)
+
+-- ---- bounds by the rank
+
+-- no closed family of rank r at most has more than k members on n elements
+abbrev pub IsBound : ℕ → ℕ → ℕ → Type 1
+IsBound r n k = (P : List Sign → Type 0) → IsClosed n P → HasRankAtMost r P → HasMoreThan k P → ⊥
+
+-- from bounds of the deletion and of the contraction
+bound_on_one_more : (r n b z k : ℕ) → b ≤ k → 3 * z ≤ k → b + 2 * z ≤ k + 2 → IsBound (suc r) n b → IsBound r n z → IsBound (suc r) (suc n) k
+bound_on_one_more r n b z k loop coloop neither deleted contracted = λ P closed rank. few_by_minors n b z k P closed.size (first_eliminated n P closed)
+    (replicate n Zero) closed.zero (first_dropped n P closed)
+    (deleted (IsDeleted P) (deleted_closed n P closed) (deleted_rank n P closed (suc r) rank))
+    (λ s Y a y. contracted (IsContracted P) (contracted_closed n P closed) (contracted_rank n P closed r rank s Y a y))
+    loop coloop neither
+
+bound_in_rank_one : (n : ℕ) → IsBound 1 n 3
+bound_in_rank_one n = λ P closed rank. few_in_rank_one n P closed rank
+
+-- on one element there are 3, and not 5
+bound_in_rank_two : (n : ℕ) → IsBound 2 n (4 * n + 1)
+bound_in_rank_two zero = λ P closed rank. few_on_none P closed
+bound_in_rank_two (suc zero) = λ P closed rank. fewer 3 5 P (omega arith) (few_on_one P closed)
+bound_in_rank_two (suc (suc n)) = bound_on_one_more 1 (suc n) (4 * suc n + 1) 3 (4 * suc (suc n) + 1) (omega arith) (omega arith) (omega arith) (bound_in_rank_two (suc n)) (bound_in_rank_one (suc n))
+
+-- n elements in rank 3
+abbrev most : ℕ → ℕ
+most n = 4 * (n * (n - 1)) + 3
+
+most_of_more : (n : ℕ) → most (suc n) ≡ 4 * (n * n + n) + 3
+most_of_more n = let e : suc n - 1 ≡ n = omega arith in rw e (grind arith)
+
+-- on none there is 1, and on two there are 9
+pub bound_in_rank_three : (n : ℕ) → IsBound 3 n (4 * (n * (n - 1)) + 3)
+bound_in_rank_three zero = λ P closed rank. fewer 1 3 P (omega arith) (few_on_none P closed)
+bound_in_rank_three (suc zero) = λ P closed rank. few_on_one P closed
+bound_in_rank_three (suc (suc zero)) = bound_on_one_more 2 1 3 3 11 (omega arith) (omega arith) (omega arith) (bound_in_rank_three (suc zero)) (λ P closed rank. few_on_one P closed)
+bound_in_rank_three (suc (suc (suc n))) =
+    let p = most_of_more (suc n) in
+    let q = most_of_more (suc (suc n)) in
+    bound_on_one_more 2 (suc (suc n)) (most (suc (suc n))) (4 * suc (suc n) + 1) (most (suc (suc (suc n)))) (grind arith) (grind arith) (grind arith)
+    (bound_in_rank_three (suc (suc n))) (bound_in_rank_two (suc (suc n)))

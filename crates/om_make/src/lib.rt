@@ -9,11 +9,13 @@
 mod counting;
 mod drawing;
 mod generator;
+mod laws;
 mod listing;
 mod return_trip;
 mod summarizing;
 mod tally;
 
 pub use drawing::vectors;
+pub use laws::members_in_rank_three;
 pub use summarizing::summary;
 pub use tally::Tally;

@@ -24,7 +24,7 @@ pub fn list_cocircuits(alloc: Global, chi: &Chirotope) -> Result<Cocircuits, NoM
         Ok(cocircuits) => Ok(cocircuits),
         // a list of cocircuits has no values
         Err(ConvertError::TooWide { .. }) => unreachable!(),
-        // in rank 3 there are at most 2 n^2 on n elements, which is 800 on 20
+        // in rank 3 there are at most n (n - 1) on n elements, which is 380 on 20
         Err(ConvertError::TooMany { .. }) => unreachable!(),
         Err(ConvertError::Memory) => Err(NoMemory),
     }
@@ -40,7 +40,7 @@ pub fn list_covectors(alloc: Global, chi: &Chirotope) -> Result<Covectors, NoMem
         Ok(covectors) => Ok(covectors),
         // a list of covectors has no values
         Err(ConvertError::TooWide { .. }) => unreachable!(),
-        // in rank 3 there are at most 6 n^2 + 1 on n elements, which is 2,401 on 20
+        // in rank 3 there are at most 4 n (n - 1) + 3 on n elements, which is 1,523 on 20
         Err(ConvertError::TooMany { .. }) => unreachable!(),
         Err(ConvertError::Memory) => Err(NoMemory),
     }
