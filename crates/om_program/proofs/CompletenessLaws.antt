@@ -1,12 +1,13 @@
 -- A command that may be answered is answered, or memory is wanting.
 --
--- Main results: always_answered; tasks that read other things are other tasks (apart_document_claim, apart_nothing_document, apart_nothing_claim).
-use Rattle.std.specs.Prelude.{ℕ, ◌≡◌, List, Option, refl}
+-- Main results: always_answered; how a task that reads nothing ends (alone_ends); tasks that read other things are other tasks (apart_document_claim, apart_nothing_document, apart_nothing_claim).
+use Rattle.std.specs.Prelude.{ℕ, ◌≡◌, ◌≢◌, ◌⊎◌, List, [], Option, Some, refl}
 use Rattle.std.proofs.Common.{sym, ◌∙◌, subst, inl, inr, arith}
 use Rattle.om_text.specs.Lines.{lines}
 use Rattle.om_answer.proofs.OneReading as claims
 use Rattle.om_text.proofs.Outcome.{same_value, no_fault}
 use Rattle.om_program.specs.declared.answer.Answer.{Answer}
+use Rattle.om_words.specs.declared.reads.Reads.{Reads}
 use Rattle.om_words.specs.declared.reads.Reads.TheVariants as source
 use Rattle.om_program.specs.declared.status.Status.{Status}
 use Rattle.om_program.specs.declared.status.Status.TheVariants.{Done, Refused, Usage, Limit, ReadFault, WriteFault, NoMemory}
@@ -60,16 +61,37 @@ fulfilled t bytes (claim c reads_claim short is axioms done) a (alone seed count
 status_done : (t : Task) (bytes : List ℕ) (status : Status) (old new : Option (List ℕ)) → HasInput t bytes → IsWhole (TaskMeans t bytes) status old new → status ≡ Done
 status_done t bytes status old new input (a, (means, (is, appends))) = is ∙ fulfilled t bytes input a means
 
+-- a run of a task that reads nothing
+pub alone_ends : (t : Task) (old new : Option (List ℕ)) (status : Status) → reads t ≡ source.Nothing → (IsAnswered status → (bytes : List ℕ) → IsWhole (TaskMeans t bytes) status old new) → (status ≡ ReadFault → ⊥)
+    → (status ≡ Done) ⊎ ((status ≡ WriteFault) ⊎ (status ≡ NoMemory))
+alone_ends t old new Done nothing answer no_read = inl refl
+alone_ends t old new Refused nothing answer no_read = inl (status_done t [] Refused old new (none nothing) (answer tt []))
+alone_ends t old new Usage nothing answer no_read = inl (status_done t [] Usage old new (none nothing) (answer tt []))
+alone_ends t old new Limit nothing answer no_read = inl (status_done t [] Limit old new (none nothing) (answer tt []))
+alone_ends t old new ReadFault nothing answer no_read = absurd (no_read refl)
+alone_ends t old new WriteFault nothing answer no_read = inr (inl refl)
+alone_ends t old new NoMemory nothing answer no_read = inr (inr refl)
+
 -- a run of a task that ends without a fault
 pub always_answered : (words : List (List ℕ)) (t : Task) (left old new : Option (List ℕ)) (status : Status) (u : IsAnswerable words left) → u.task ≡ t → Names words t
-    → (IsAnswered status → IsTaskAnswer t left status old new) → (status ≡ Usage → ⊥) → (status ≡ ReadFault → ⊥) → (status ≡ WriteFault → ⊥) → IsDoneOrNoMemory words left status old new
-always_answered words t left old new status u same names answer no_usage no_read no_write = by_status status answer no_usage no_read no_write
+    → (IsAnswered status → IsTaskAnswer t left status old new) → (reads t ≡ source.Nothing → IsAnswered status → (bytes : List ℕ) → IsWhole (TaskMeans t bytes) status old new)
+    → (status ≡ Usage → ⊥) → (status ≡ ReadFault → ⊥) → (status ≡ WriteFault → ⊥) → IsDoneOrNoMemory words u.bytes status old new
+always_answered words t left old new status u same names answer alone_answer no_usage no_read no_write = by_status status (λ ended. whole (reads t) refl ended) no_usage no_read no_write
   where
+    told : reads t ≢ source.Nothing → left ≡ Some u.bytes
+    told = subst (λ k. reads k ≢ source.Nothing → left ≡ Some u.bytes) same u.told
+
+    -- the answer is that of the bytes, where they are read and where nothing is
+    whole : (k : Reads) → reads t ≡ k → IsAnswered status → IsWhole (TaskMeans t u.bytes) status old new
+    whole source.Nothing is ended = alone_answer is ended u.bytes
+    whole source.Document is ended = subst (λ l. IsTaskAnswer t l status old new) (told (λ nothing. apart_nothing_document t nothing is)) (answer ended)
+    whole source.Claim is ended = subst (λ l. IsTaskAnswer t l status old new) (told (λ nothing. apart_nothing_claim t nothing is)) (answer ended)
+
     input : HasInput t u.bytes
     input = subst (λ k. HasInput k u.bytes) same u.input
 
-    done : (s : Status) → IsTaskAnswer t left s old new → s ≡ Done
-    done s is = status_done t u.bytes s old new input (subst (λ l. IsTaskAnswer t l s old new) u.told is)
+    done : (s : Status) → IsWhole (TaskMeans t u.bytes) s old new → s ≡ Done
+    done s is = status_done t u.bytes s old new input is
 
     no_refusal : Refused ≡ Done → ⊥
     no_refusal e = cc
@@ -77,8 +99,8 @@ always_answered words t left old new status u same names answer no_usage no_read
     no_limit : Limit ≡ Done → ⊥
     no_limit e = cc
 
-    by_status : (s : Status) → (IsAnswered s → IsTaskAnswer t left s old new) → (s ≡ Usage → ⊥) → (s ≡ ReadFault → ⊥) → (s ≡ WriteFault → ⊥) → IsDoneOrNoMemory words left s old new
-    by_status Done answer no_usage no_read no_write = inl (refl, named_answer words t left old new Done names (answer tt))
+    by_status : (s : Status) → (IsAnswered s → IsWhole (TaskMeans t u.bytes) s old new) → (s ≡ Usage → ⊥) → (s ≡ ReadFault → ⊥) → (s ≡ WriteFault → ⊥) → IsDoneOrNoMemory words u.bytes s old new
+    by_status Done answer no_usage no_read no_write = inl (refl, named_answer words t (Some u.bytes) old new Done names (answer tt))
     by_status Refused answer no_usage no_read no_write = absurd (no_refusal (done Refused (answer tt)))
     by_status Usage answer no_usage no_read no_write = absurd (no_usage refl)
     by_status Limit answer no_usage no_read no_write = absurd (no_limit (done Limit (answer tt)))

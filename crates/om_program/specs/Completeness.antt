@@ -1,5 +1,5 @@
 -- Where a run ends with its answer for certain, if memory lasts and no fault comes.
-use Rattle.std.specs.Prelude.{ℕ, ◌≡◌, ◌≤◌, ◌⊎◌, List, length, Option, Some}
+use Rattle.std.specs.Prelude.{ℕ, ◌≡◌, ◌≢◌, ◌≤◌, ◌⊎◌, List, length, Option, Some}
 use Rattle.om_signs.specs.declared.limits.TheConstants.{MAX_INPUT}
 use Rattle.om_text.specs.declared.document.Document.{Document}
 use Rattle.om_text.specs.Lines.{lines}
@@ -15,8 +15,8 @@ use Rattle.om_words.specs.declared.task.Task.{Task}
 use Rattle.om_program.specs.Answers.{says, status_of}
 use Rattle.om_representation.specs.Axioms.{MeetsAxioms}
 use Rattle.om_program.specs.Claims.{ClaimMeans}
-use Rattle.om_program.specs.Meaning.{DocumentMeans}
-use Rattle.om_program.specs.Run.{IsAnswer}
+use Rattle.om_program.specs.Meaning.{DocumentMeans, Means}
+use Rattle.om_program.specs.Run.{IsWhole}
 use Rattle.om_words.specs.Tasks.{reads}
 use Rattle.om_words.specs.Words.{Names}
 
@@ -33,14 +33,15 @@ pub data HasInput (task : Task) (bytes : List ℕ) : Type 0 where
   -- the input is a claim within the limit whose document meets its axioms, and what it means is no refusal
   claim : (c : Claim) → reads task ≡ source.Claim → length bytes ≤ MAX_INPUT → IsClaim (lines bytes) c → MeetsAxioms c.document → ((l : Line) → ClaimMeans c l → status_of (says l) ≡ Done) → HasInput task bytes
 
--- the words are a command, the source tells the bytes that it has left, and they let the command answer
+-- the words are a command, and these bytes let it answer; where it reads, the source tells that it has them left, and where it reads nothing they are
+-- any bytes
 pub record IsAnswerable (words : List (List ℕ)) (left : Option (List ℕ)) : Type 0 where
   pub task : Task
   pub bytes : List ℕ
   pub names : Names words task
-  pub told : left ≡ Some bytes
+  pub told : reads task ≢ source.Nothing → left ≡ Some bytes
   pub input : HasInput task bytes
 
--- the run ended with status 0 and has written the text that the words and the input mean, or memory was wanting
-abbrev pub IsDoneOrNoMemory : List (List ℕ) → Option (List ℕ) → Status → Option (List ℕ) → Option (List ℕ) → Type 0
-IsDoneOrNoMemory words left status old new = ((status ≡ Done) × IsAnswer words left Done old new) ⊎ (status ≡ NoMemory)
+-- the run ended with status 0 and has written the text that the words and these bytes mean, or memory was wanting
+abbrev pub IsDoneOrNoMemory : List (List ℕ) → List ℕ → Status → Option (List ℕ) → Option (List ℕ) → Type 0
+IsDoneOrNoMemory words bytes status old new = ((status ≡ Done) × IsWhole (Means words bytes) Done old new) ⊎ (status ≡ NoMemory)

@@ -1,12 +1,12 @@
 -- What a run has written, beside what its words and its input mean.
-use Rattle.std.specs.Prelude.{ℕ, ◌≡◌, ◌≢◌, ◌+◌, ◌<◌, List, length, min, take, IfSome, Option}
+use Rattle.std.specs.Prelude.{ℕ, ◌≡◌, ◌≢◌, ◌+◌, ◌<◌, ◌⊎◌, List, length, min, take, IfSome, Option}
 use Rattle.std.specs.Io.KnownBytes.{Appends}
 use Rattle.om_signs.specs.declared.limits.TheConstants.{MAX_INPUT}
 use Rattle.om_port.specs.Causes.{TakesExactly}
 use Rattle.om_words.specs.declared.reads.Reads.TheVariants as kind
 use Rattle.om_words.specs.declared.task.Task.{Task}
 use Rattle.om_words.specs.Tasks.{reads}
-use Rattle.om_words.specs.Words.{Names}
+use Rattle.om_words.specs.Words.{AreCommand, Names}
 use Rattle.om_program.specs.declared.status.Status.{Status}
 use Rattle.om_program.specs.declared.answer.Answer.{Answer}
 use Rattle.om_program.specs.Answers.{status_of, text_of}
@@ -15,6 +15,10 @@ use Rattle.om_program.specs.Meaning.{Means, TaskMeans}
 -- the words are a command that reads
 abbrev pub AreReadingCommand : List (List ℕ) → Type 0
 AreReadingCommand words = (task : Task) × (Names words task × (reads task ≢ kind.Nothing))
+
+-- the words aren't a command, or are one that reads nothing
+abbrev pub ReadNothing : List (List ℕ) → Type 0
+ReadNothing words = (AreCommand words → ⊥) ⊎ ((task : Task) × (Names words task × (reads task ≡ kind.Nothing)))
 
 -- where the source tells the bytes that it had left: exactly these were taken, up to one more than the limit on inputs
 abbrev pub TakesInput : Option (List ℕ) → Option (List ℕ) → Type 0

@@ -6,7 +6,7 @@ ghost use Rattle.om_port.specs.Causes.{Rose, TakesSome};
 ghost use Rattle.om_words.specs.Words.{AreCommand, Names};
 ghost use Rattle.om_program.specs.Answers.{IsReply, status_of, text_of};
 ghost use Rattle.om_program.specs.Statuses.{IsAnswered};
-ghost use Rattle.om_program.specs.Run.{AreReadingCommand, IsFront, IsAnswer, IsCutOffAnswer, IsTaskAnswer, IsCutOffTask, IsMeantBy, TakesInput};
+ghost use Rattle.om_program.specs.Run.{AreReadingCommand, ReadNothing, IsFront, IsWhole, IsCutOff, IsAnswer, IsCutOffAnswer, IsTaskAnswer, IsCutOffTask, IsMeantBy, TakesInput};
 ghost use Rattle.om_program.specs.Completeness.{IsAnswerable, IsDoneOrNoMemory};
 ghost use Rattle.om_program.specs.Determined.{IsDetermined};
 ghost use Rattle.om_program.specs.Meaning.{Means, TaskMeans};
@@ -62,11 +62,19 @@ pub fn run<R: Threads + Sync, S: Source, K: Sink>(
     // A command that reads nothing leaves the source as it was.
     ensures alone { (task : Task) → Names (map string_bytes words.now) task → reads task ≡ Reads.Nothing → source.new ≡ source.old }
 
+    // Where nothing is read, the answer is what the words and any bytes mean, whatever the source tells.
+    ensures alone_answer { ReadNothing (map string_bytes words.now) → IsAnswered result → (bytes : List ℕ) → IsWhole (Means (map string_bytes words.now) bytes) result (K.taken sink.old) (K.taken sink.new) }
+    ensures alone_cut { ReadNothing (map string_bytes words.now) → result ≡ Status.WriteFault → (bytes : List ℕ) → IsCutOff (Means (map string_bytes words.now) bytes) (K.taken sink.old) (K.taken sink.new) }
+
+    // A command that reads nothing ends with status 0, with a write fault, or for want of memory.
+    ensures alone_ends { (task : Task) → Names (map string_bytes words.now) task → reads task ≡ Reads.Nothing → (result ≡ Status.Done) ⊎ ((result ≡ Status.WriteFault) ⊎ (result ≡ Status.NoMemory)) }
+
     // Completeness: where the words are a command, what it reads is there and meets its axioms, its answer is no refusal and no limit,
-    // and no fault is counted in this run, the run ends with status 0 and has written the answer, or memory was wanting.
-    ensures complete { IsAnswerable (map string_bytes words.now) (S.left source.old)
+    // and no fault is counted in this run, the run ends with status 0 and has written the answer, or memory was wanting. Where it reads
+    // nothing, this holds of every source.
+    ensures complete { (given : IsAnswerable (map string_bytes words.now) (S.left source.old))
         → (Rose (S.faults source.old) (S.faults source.new) → ⊥) → (Rose (K.faults sink.old) (K.faults sink.new) → ⊥)
-        → IsDoneOrNoMemory (map string_bytes words.now) (S.left source.old) result (K.taken sink.old) (K.taken sink.new) }
+        → IsDoneOrNoMemory (map string_bytes words.now) given.bytes result (K.taken sink.old) (K.taken sink.new) }
 
     // What `decide` answers, other than a limit, is a claim that `check` finds valid, with the word of the verdict.
     ensures decided { VerdictsAreFoundValid }
@@ -104,6 +112,8 @@ fn carry_out<R: Threads + Sync, S: Source, K: Sink>(
     ensures read { result ≡ Status.ReadFault → Rose (S.faults source.old) (S.faults source.new) }
     ensures write { result ≡ Status.WriteFault → Rose (K.faults sink.old) (K.faults sink.new) }
     ensures unread { reads task ≡ Reads.Nothing → source.new ≡ source.old }
+    ensures alone_answer { reads task ≡ Reads.Nothing → IsAnswered result → (bytes : List ℕ) → IsWhole (TaskMeans task bytes) result (K.taken sink.old) (K.taken sink.new) }
+    ensures alone_cut { reads task ≡ Reads.Nothing → result ≡ Status.WriteFault → (bytes : List ℕ) → IsCutOff (TaskMeans task bytes) (K.taken sink.old) (K.taken sink.new) }
     ensures taken { IsAnswered result → reads task ≢ Reads.Nothing → TakesInput (S.left source.old) (S.left source.new) }
     ensures prefix { TakesSome (S.left source.old) (S.left source.new) }
     ensures source_later { S.faults source.old ≤ S.faults source.new }
@@ -142,6 +152,7 @@ fn find_answer<R: Threads + Sync, S: Source>(
 ) -> Result<Answer, Unanswered>
     requires { HasLawfulArguments task }
     ensures meant { IfOk result (IsMeantBy (TaskMeans task) (S.left source.old)) }
+    ensures alone { reads task ≡ Reads.Nothing → IfOk result (λ answer. (bytes : List ℕ) → TaskMeans task bytes answer) }
     ensures reply { IfOk result IsReply }
     ensures reading { result ≡ Err Unanswered.ReadFault → reads task ≢ Reads.Nothing }
     ensures read { result ≡ Err Unanswered.ReadFault → Rose (S.faults source.old) (S.faults source.new) }

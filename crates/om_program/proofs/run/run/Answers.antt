@@ -1,9 +1,12 @@
-use Rattle.std.specs.Prelude.{◌≡◌, ◌≢◌, Result, Ok, Err}
-use Rattle.std.proofs.Common.{refl, rules, sym, subst}
+use Rattle.std.specs.Prelude.{ℕ, ◌≡◌, ◌≢◌, List, Result, Ok, Err, Some}
+use Rattle.std.proofs.Common.{refl, rules, sym, subst, inl, inr}
 use Rattle.om_words.specs.declared.reads.Reads.TheVariants as source
+use Rattle.om_words.specs.declared.task.Task.{Task}
 use Rattle.om_words.specs.Tasks.{reads}
-use Rattle.om_program.proofs.CompletenessLaws.{always_answered}
+use Rattle.om_words.specs.Words.{Names}
+use Rattle.om_program.proofs.CompletenessLaws.{alone_ends, always_answered}
 use Rattle.om_program.specs.Meaning.{Means}
+use Rattle.om_program.specs.Run.{ReadNothing}
 use Rattle.om_program.proofs.MeaningLaws.{whole, cut_off, named_answer, named_cut_off, usage_meant}
 use Rattle.om_program.proofs.OneAnswer.{words_determined}
 use Rattle.om_program.proofs.ValidClaimLaws.{verdicts_found_valid}
@@ -61,10 +64,41 @@ returns-in-Ok-clause-taken g c = λ answered command.
 pub returns-in-Err-clause-taken : goal.returns-in-Err-clause-taken
 returns-in-Err-clause-taken g c = λ answered command. absurd (no_value _ _ ((c.in-Err.ensures.task command.0).1 command.1.0))
 
+-- the one task of words that read nothing reads nothing
+nothing_read : (words : List (List ℕ)) (t : Task) → Names words t → ((s : Task) → Names words s → s ≡ t) → ReadNothing words → reads t ≡ source.Nothing
+nothing_read words t names one (inl none) = absurd (none (t, names))
+nothing_read words t names one (inr (s, (named, nothing))) = subst (λ k. reads k ≡ source.Nothing) (one s named) nothing
+
+pub returns-in-Ok-clause-alone_answer : goal.returns-in-Ok-clause-alone_answer
+returns-in-Ok-clause-alone_answer g c = λ lone answered bytes.
+    let own = (c.in-Ok.ensures.task c.in-Ok.task).0 refl in
+    let nothing : reads c.in-Ok.task ≡ source.Nothing = nothing_read _ c.in-Ok.task own (λ s named. sym (same_value _ _ ((c.in-Ok.ensures.task s).1 named))) lone in
+    named_answer _ c.in-Ok.task (Some bytes) _ _ _ own (c.carry_out.ensures.alone_answer nothing answered bytes)
+
+pub returns-in-Ok-clause-alone_cut : goal.returns-in-Ok-clause-alone_cut
+returns-in-Ok-clause-alone_cut g c = λ lone cut bytes.
+    let own = (c.in-Ok.ensures.task c.in-Ok.task).0 refl in
+    let nothing : reads c.in-Ok.task ≡ source.Nothing = nothing_read _ c.in-Ok.task own (λ s named. sym (same_value _ _ ((c.in-Ok.ensures.task s).1 named))) lone in
+    named_cut_off _ c.in-Ok.task (Some bytes) _ _ own (c.carry_out.ensures.alone_cut nothing cut bytes)
+
+pub returns-in-Err-clause-alone_answer : goal.returns-in-Err-clause-alone_answer
+returns-in-Err-clause-alone_answer g c = λ lone answered bytes. whole (Means _) (Some bytes) _ _ _ _ (usage_meant _ _ (Some bytes) c.in-Err.ensures.usage) (c.write_usage.ensures.whole answered)
+
+pub returns-in-Err-clause-alone_cut : goal.returns-in-Err-clause-alone_cut
+returns-in-Err-clause-alone_cut g c = λ lone cut bytes. cut_off (Means _) (Some bytes) _ _ _ (usage_meant _ _ (Some bytes) c.in-Err.ensures.usage) (c.write_usage.ensures.cut cut)
+
+pub returns-in-Ok-clause-alone_ends : goal.returns-in-Ok-clause-alone_ends
+returns-in-Ok-clause-alone_ends g c = λ task named nothing.
+    let own : reads c.in-Ok.task ≡ source.Nothing = subst (λ t. reads t ≡ source.Nothing) (sym (same_value _ _ ((c.in-Ok.ensures.task task).1 named))) nothing in
+    alone_ends c.in-Ok.task _ _ _ own (c.carry_out.ensures.alone_answer own) (λ fault. c.carry_out.ensures.reading fault own)
+
+pub returns-in-Err-clause-alone_ends : goal.returns-in-Err-clause-alone_ends
+returns-in-Err-clause-alone_ends g c = λ task named nothing. absurd (no_value _ _ ((c.in-Err.ensures.task task).1 named))
+
 pub returns-in-Ok-clause-complete : goal.returns-in-Ok-clause-complete
 returns-in-Ok-clause-complete g c = λ given no_read no_write.
     always_answered _ c.in-Ok.task _ _ _ _ given (sym (same_value _ _ ((c.in-Ok.ensures.task given.task).1 given.names))) ((c.in-Ok.ensures.task c.in-Ok.task).0 refl)
-    c.carry_out.ensures.answer c.carry_out.ensures.no_usage (λ e. no_read (c.carry_out.ensures.read e)) (λ e. no_write (c.carry_out.ensures.write e))
+    c.carry_out.ensures.answer c.carry_out.ensures.alone_answer c.carry_out.ensures.no_usage (λ e. no_read (c.carry_out.ensures.read e)) (λ e. no_write (c.carry_out.ensures.write e))
 
 pub returns-in-Err-clause-complete : goal.returns-in-Err-clause-complete
 returns-in-Err-clause-complete g c = λ given no_read no_write. absurd (no_value _ _ ((c.in-Err.ensures.task given.task).1 given.names))
