@@ -10,8 +10,7 @@ use Rattle.om_signs.specs.declared.raw_map.RawMap.{RawMap}
 use Rattle.om_subsets.specs.Members.{Chosen}
 use Rattle.om_subsets.proofs.Firsts.{same_chosen}
 use Rattle.om_chirotope.specs.Map.{SignMap, map_of}
-use Rattle.om_chirotope.specs.ThreeTerm.{MeetsThreeTermTest, HasExchange}
-use Rattle.om_chirotope.proofs.Axioms.{not_all_zero}
+use Rattle.om_chirotope.specs.ThreeTerm.{HasExchange}
 use Rattle.om_threeterm.specs.declared.three_refused.ThreeRefused.{ThreeRefused}
 use Rattle.om_threeterm.specs.declared.three_refused.ThreeRefused.TheVariants.{AllZero, NoExchange, ThreeTerm}
 use Rattle.om_threeterm.specs.Violations.{IsUnexchanged, IsFirstUnexchangedOf, IsFirstUnexchanged, IsUnbalancedList, IsFirstUnbalancedOf, IsFirstUnbalanced}
@@ -84,9 +83,6 @@ one_relation m p q r s f g = let rest = one_relation_of m p.elements r s f.first
     h : IsFirstUnbalanced m p s
     h = subst (λ u. IsFirstUnbalanced m u s) (sym first) g
 
-relations_broken : (m : SignMap) (p q : List ℕ) → MeetsThreeTermTest m → IsUnbalancedList m p q → ⊥
-relations_broken m p q h (a, b, c, d, e, u) = u.violated (h.relations p a b c d u.frame)
-
 -- ---- the test of a map
 
 one_failure : (m : RawMap) (v w : ThreeRefused) → IsFirstFailure m v → IsFirstFailure m w → v ≡ w
@@ -100,16 +96,11 @@ one_failure m (ThreeTerm p q) AllZero f g = absurd (f.0 g)
 one_failure m (ThreeTerm p q) (NoExchange b c e) f g = absurd (exchange_broken (map_of m) b c e f.1.0 g.1)
 one_failure m (ThreeTerm p q) (ThreeTerm p' q') f g = one_relation (map_of m) p p' q q' f.1.1 g.1.1
 
-no_failure : (m : RawMap) (why : ThreeRefused) → IsFirstFailure m why → MeetsThreeTermTest (map_of m) → ⊥
-no_failure m AllZero f h = not_all_zero (map_of m) h.whole f h.nonzero
-no_failure m (NoExchange b c e) f h = exchange_broken (map_of m) b c e h.exchange f.1
-no_failure m (ThreeTerm p q) f h = relations_broken (map_of m) p.elements q.elements h f.1.1.first.violated
-
 maps_determined : (m : RawMap) → IsDetermined (IsTestOfMap m)
-maps_determined m a b (fails v f) (fails w g) = both_say (failure_line v) (failure_line w) (ap failure_line (one_failure m v w f g))
-maps_determined m a b (fails v f) (meets h) = absurd (no_failure m v f h)
-maps_determined m a b (meets h) (fails v f) = absurd (no_failure m v f h)
-maps_determined m a b (meets h) (meets k) = (refl, refl)
+maps_determined m a b (fails v f broken) (fails w g broken') = both_say (failure_line v) (failure_line w) (ap failure_line (one_failure m v w f g))
+maps_determined m a b (fails v f broken) (meets h om) = absurd (broken om)
+maps_determined m a b (meets h om) (fails v f broken) = absurd (broken om)
+maps_determined m a b (meets h om) (meets k om') = (refl, refl)
 
 -- ---- documents
 

@@ -144,8 +144,8 @@ failure_replies (three.NoExchange b c e) = tt
 failure_replies (three.ThreeTerm p q) = tt
 
 map_test_replies : (m : RawMap) (a : Answer) → tests.IsTestOfMap m a → IsReply a
-map_test_replies m a (tests.fails why is) = failure_replies why
-map_test_replies m a (tests.meets is) = tt
+map_test_replies m a (tests.fails why is broken) = failure_replies why
+map_test_replies m a (tests.meets is om) = tt
 
 test_replies : (d : Document) (a : Answer) → tests.IsThreeTermTest d a → IsReply a
 test_replies d a (tests.of_map m b same is) = map_test_replies m a is

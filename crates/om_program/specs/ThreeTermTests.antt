@@ -1,8 +1,8 @@
--- What the three-term test of a document comes to. Of a map it is asked in place of the axioms, to which it is equal; no document of
--- another kind is tested.
+-- What the three-term test of a document comes to. Of a map it is asked in place of the axioms, and holds exactly where they do: its answer says also whether
+-- the map is a chirotope. No document of another kind is tested.
 use Rattle.std.specs.Prelude.{◌≡◌}
 use Rattle.om_signs.specs.declared.raw_map.RawMap.{RawMap}
-use Rattle.om_chirotope.specs.Chirotope.{IsAllZero}
+use Rattle.om_chirotope.specs.Chirotope.{IsChirotope, IsAllZero}
 use Rattle.om_chirotope.specs.Map.{map_of}
 use Rattle.om_chirotope.specs.ThreeTerm.{MeetsThreeTermTest, HasExchange}
 use Rattle.om_threeterm.specs.declared.three_refused.ThreeRefused.{ThreeRefused}
@@ -29,12 +29,12 @@ IsFirstFailure m AllZero = IsAllZero m.signs
 IsFirstFailure m (NoExchange b c e) = (IsAllZero m.signs → ⊥) × IsFirstUnexchanged (map_of m) b c e
 IsFirstFailure m (ThreeTerm p q) = (IsAllZero m.signs → ⊥) × (HasExchange (map_of m) × IsFirstUnbalanced (map_of m) p q)
 
--- the test of a map
+-- the test of a map, which it meets exactly where it is a chirotope
 pub data IsTestOfMap (m : RawMap) : Answer → Type 0 where
-  -- a part of it fails
-  fails : (why : ThreeRefused) → IsFirstFailure m why → IsTestOfMap m (says (failure_line why))
-  -- the map meets it
-  meets : MeetsThreeTermTest (map_of m) → IsTestOfMap m (says line.Accepted)
+  -- a part of it fails, and the map is no chirotope
+  fails : (why : ThreeRefused) → IsFirstFailure m why → (IsChirotope (map_of m) → ⊥) → IsTestOfMap m (says (failure_line why))
+  -- the map meets it, and is a chirotope
+  meets : MeetsThreeTermTest (map_of m) → IsChirotope (map_of m) → IsTestOfMap m (says line.Accepted)
 
 -- the body isn't a map
 abbrev pub IsNoMap : Body → Type 0

@@ -17,7 +17,8 @@ first_failure m (NoExchange b c e) all_zero exchange relation = ((λ zero. let s
 first_failure m (ThreeTerm p q) all_zero exchange relation = ((λ zero. let same = all_zero.1 zero in cc), relation p q refl)
 
 pub returns-in-Ok : goal.returns-in-Ok
-returns-in-Ok g c = meets (c.in-Ok.ensures.tested.0 refl)
+returns-in-Ok g c = meets (c.in-Ok.ensures.tested.0 refl) (c.in-Ok.ensures.accepted.0 refl)
 
 pub returns : goal.returns
-returns g c = rw c.failure_line.ensures (fails c.in-Err.bad.why (first_failure c.args.raw c.in-Err.bad.why c.in-Err.ensures.all_zero c.in-Err.ensures.exchange c.in-Err.ensures.relation))
+returns g c = rw c.failure_line.ensures (fails c.in-Err.bad.why (first_failure c.args.raw c.in-Err.bad.why c.in-Err.ensures.all_zero c.in-Err.ensures.exchange c.in-Err.ensures.relation)
+    (λ om. let no = c.in-Err.ensures.accepted.1 om in cc))
