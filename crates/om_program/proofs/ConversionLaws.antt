@@ -69,8 +69,8 @@ same_of (representation.Covectors s) c is = is.same
 
 -- ---- a document as itself
 
-pub own_converted : (k : Kind) (d e : Document) → has_kind k d.body ≡ true → e ≡ d → IsInForm e → IsConversion k d (shows e)
-own_converted k d e own same form = subst (λ u. IsConversion k d (shows u)) (sym same) (itself own (subst IsInForm same form))
+pub own_converted : (k : Kind) (d e : Document) → has_kind k d.body ≡ true → e ≡ d → IsInForm e → MeetsAxioms e → IsConversion k d (shows e)
+own_converted k d e own same form axioms = subst (λ u. IsConversion k d (shows u)) (sym same) (itself own (subst IsInForm same form) (subst MeetsAxioms same axioms))
 
 -- ---- a list whose chirotope is too wide, and one that is kept
 
@@ -110,7 +110,7 @@ normal_made d c e other narrow size of made form axioms =
     }))
 
 pub chirotope_made : (r : Representation) (c : SignMap) (e : Document) → IsKept (document_of r) → IsChirotopeOf (document_of r) c → e ≡ map_document c → IsInForm e → MeetsAxioms e → IsConversion kind.Chirotope (document_of r) (shows e)
-chirotope_made (representation.Chirotope m) c e narrow of made form axioms = own_converted kind.Chirotope (map_document m) e refl (made ∙ ap map_document of) form
+chirotope_made (representation.Chirotope m) c e narrow of made form axioms = own_converted kind.Chirotope (map_document m) e refl (made ∙ ap map_document of) form axioms
 chirotope_made (representation.Circuits s) c e narrow of made form axioms = normal_made (circuits_document s.0) c e refl narrow (size_in (representation.Circuits s)) of made form axioms
 chirotope_made (representation.Cocircuits s) c e narrow of made form axioms = normal_made (cocircuits_document s.0) c e refl narrow (size_in (representation.Cocircuits s)) of made form axioms
 chirotope_made (representation.Covectors s) c e narrow of made form axioms = normal_made (covectors_document s) c e refl narrow (size_in (representation.Covectors s)) of made form axioms

@@ -97,7 +97,7 @@ membership_replies n P x a (covector size is) = tt
 membership_replies n P x a (not_covector size is) = tt
 
 conversion_replies : (k : Kind) (d : Document) (a : Answer) → IsConversion k d a → IsReply a
-conversion_replies k d a (itself own form) = form
+conversion_replies k d a (itself own form axioms) = form
 conversion_replies k d a (wide values other is) = tt
 conversion_replies k d a (limited other narrow many) = tt
 conversion_replies k d a (converted e other narrow few is) = is.form

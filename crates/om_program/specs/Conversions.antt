@@ -83,8 +83,8 @@ pub record IsConverted (k : Kind) (d e : Document) : Type 0 where
 
 -- a document as one of a kind
 pub data IsConversion (k : Kind) (d : Document) : Answer → Type 0 where
-  -- a document of the kind is itself
-  itself : has_kind k d.body ≡ true → IsInForm d → IsConversion k d (shows d)
+  -- a document of the kind is itself, and meets its axioms
+  itself : has_kind k d.body ≡ true → IsInForm d → MeetsAxioms d → IsConversion k d (shows d)
   -- its chirotope would have more values than a document may hold
   wide : (values : ℕ) → has_kind k d.body ≡ false → IsTooWideAs k d values → IsConversion k d (says (line.LimitValues values))
   -- the list would have more members than it may have

@@ -10,7 +10,7 @@ use Rattle.om_program.proofs.conversion.to_circuits.Goals as goal
 pub returns-in-Circuits : goal.returns-in-Circuits
 returns-in-Circuits c =
     let d = c.circuits_document.ensures in
-    rw c.in-Circuits.is (own_converted kind.Circuits (circuits_document c.in-Circuits.circuits.0) c.circuits_document.result refl d.value d.form)
+    rw c.in-Circuits.is (own_converted kind.Circuits (circuits_document c.in-Circuits.circuits.0) c.circuits_document.result refl d.value d.form d.axioms)
 
 pub returns-in-Ok : goal.returns-in-Ok
 returns-in-Ok c =

@@ -8,7 +8,7 @@ use Rattle.om_program.proofs.conversion.to_cocircuits.Goals as goal
 pub returns-in-Cocircuits : goal.returns-in-Cocircuits
 returns-in-Cocircuits c =
     let d = c.cocircuits_document.ensures in
-    rw c.in-Cocircuits.is (own_converted kind.Cocircuits (cocircuits_document c.in-Cocircuits.cocircuits.0) c.cocircuits_document.result refl d.value d.form)
+    rw c.in-Cocircuits.is (own_converted kind.Cocircuits (cocircuits_document c.in-Cocircuits.cocircuits.0) c.cocircuits_document.result refl d.value d.form d.axioms)
 
 pub returns-in-Covectors : goal.returns-in-Covectors
 returns-in-Covectors c = rw c.in-Covectors.is c.list_minimal.ensures

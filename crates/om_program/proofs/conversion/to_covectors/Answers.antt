@@ -10,7 +10,7 @@ use Rattle.om_program.proofs.conversion.to_covectors.Goals as goal
 pub returns-in-Covectors : goal.returns-in-Covectors
 returns-in-Covectors c =
     let d = c.covectors_document.ensures in
-    rw c.in-Covectors.is (own_converted kind.Covectors (covectors_document c.in-Covectors.covectors) c.covectors_document.result refl d.value d.form)
+    rw c.in-Covectors.is (own_converted kind.Covectors (covectors_document c.in-Covectors.covectors) c.covectors_document.result refl d.value d.form d.axioms)
 
 pub returns-in-Ok : goal.returns-in-Ok
 returns-in-Ok c =
