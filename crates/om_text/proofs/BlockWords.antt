@@ -2,7 +2,7 @@
 --
 -- Main definitions: IsBlockWord
 -- Main results: plain_within, position_within, block_word
-use Rattle.std.proofs.Common.{◌≡◌, ℕ, suc, ◌+◌, ◌-◌, ◌<◌, ◌≤◌, ◌^◌, List, [], ◌∷◌, ◌++◌, true, false, not, ◌&&◌, ◌||◌, length, drop, nat_eq, nat_le, refl, ap, ◌∙◌, arith, inl, inr}
+use Rattle.std.proofs.Common.{◌≡◌, ℕ, suc, ◌+◌, ◌<◌, ◌≤◌, ◌^◌, List, [], ◌∷◌, ◌++◌, true, false, not, ◌&&◌, ◌||◌, length, drop, nat_eq, nat_le, refl, ap, ◌∙◌, arith, inl, inr}
 use Rattle.std.specs.Prelude.{Some, IfSome, decimal}
 use Rattle.std.specs.List.{list_all, position_or_len, before_first, after_first}
 use Rattle.std.proofs.lemmas.Bool.{le-leb}
@@ -11,7 +11,6 @@ use Rattle.std.proofs.lemmas.List.Folds.{list_all-append}
 use Rattle.std.proofs.Math.Seq.{take-append_seam}
 use Rattle.om_signs.specs.declared.block.Block.{Block}
 use Rattle.om_signs.specs.declared.limits.TheConstants.{MAX_PLAIN_DIGITS, MAX_POSITION, MAX_POSITION_DIGITS}
-use Rattle.om_text.specs.declared.code.Code.TheVariants as code
 use Rattle.om_text.specs.Lines.{has_any}
 use Rattle.om_text.specs.Words.{is_digit, number_from, is_decimal, begins_with, is_plain, plain}
 use Rattle.om_text.specs.Blocks.{position_of, is_dash, with_positions, block_of}

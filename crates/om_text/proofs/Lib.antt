@@ -33,5 +33,6 @@ pub mod BodyTexts
 pub mod KindLines
 pub mod Reread
 pub mod RereadTwo
+pub mod Sizes
 pub mod Feeds
 pub mod Language

@@ -1,6 +1,7 @@
 //! The canonical form.
 
-ghost use Rattle.std.specs.Prelude.{◌≡◌, ◌+◌, ◌<◌, ◌-◌, ◌∷◌, [], ◌++◌, map, All, OnOk, IfOk, codes, decimal};
+ghost use Rattle.std.specs.Prelude.{◌≡◌, ◌+◌, ◌<◌, ◌≤◌, ◌-◌, ◌∷◌, [], ◌++◌, length, map, All, OnOk, IfOk, codes, decimal};
+ghost use Rattle.om_signs.specs.declared.limits.TheConstants.{MAX_INPUT};
 ghost use Rattle.om_text.specs.declared.document.Document.{Document};
 ghost use Rattle.om_text.specs.Words.{byte_of};
 ghost use Rattle.om_text.specs.Lines.{lines};
@@ -218,12 +219,15 @@ fn push_document(out: &mut Vec<u8>, document: &Document) -> Result<(), NoMemory>
 /// The document has the forms and is within the limits that [`crate::parse`] promises: its numbers are in range, a map has
 /// a value for each set of its rank and no more than [`om_signs::MAX_VALUES`], the members of a list are different and have a
 /// sign for each element, the positions of blocks are at most 999, and there is a point for each element. Reading the
-/// canonical form gives it back with its members sorted. The one error is want of memory.
+/// canonical form gives it back with its members sorted, and it has at most [`om_signs::MAX_INPUT`] bytes. The one error is
+/// want of memory.
 pub fn print(alloc: Global, document: &Document) -> Result<Vec<u8>, NoMemory>
     requires form { IsInForm document.now }
     ensures bytes { IfOk result (λ bytes. bytes.items ≡ printed document.now) }
     // What is printed is a document, and reads as this one with its members sorted.
     ensures again { IfOk result (λ bytes. IsDocument (lines bytes.items) (sorted_document document.now)) }
+    // What is printed is no longer than an input may be.
+    ensures short { IfOk result (λ bytes. length bytes.items ≤ MAX_INPUT) }
 {
     let mut out = Vec::new(alloc);
     push_document(&mut out, document)?;

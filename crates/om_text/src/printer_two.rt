@@ -4,7 +4,7 @@ ghost use Rattle.std.specs.Prelude.{◌≡◌, ℕ, ◌+◌, ◌-◌, ◌<◌, �
 ghost use Rattle.std.specs.List.{flat_map};
 ghost use Rattle.std.specs.List.Sorted.{IsPermutation};
 ghost use Rattle.om_signs.specs.declared.sign.Sign.TheVariants.{Zero};
-ghost use Rattle.om_signs.specs.declared.limits.TheConstants.{MAX_ELEMENTS};
+ghost use Rattle.om_signs.specs.declared.limits.TheConstants.{MAX_ELEMENTS, MAX_INPUT};
 ghost use Rattle.om_subsets.specs.Subsets.{choose};
 ghost use Rattle.om_text.specs.Words.{byte_of};
 ghost use Rattle.om_text.specs.Lines.{lines};
@@ -234,13 +234,15 @@ fn push_document(out: &mut Vec<u8>, document: &Document) -> Result<(), NoMemory>
 ///
 /// The document has the forms and is within the limits that [`crate::parse`] promises, and the negative of each member of a
 /// list is a member. Reading what is printed gives the document with these names, and with the same members in another order.
-/// The one error is want of memory.
+/// What is printed has at most [`om_signs::MAX_INPUT`] bytes. The one error is want of memory.
 pub fn print_two(alloc: Global, document: &Document) -> Result<Vec<u8>, NoMemory>
     requires form { IsInForm document.now }
     requires closed { IsClosedUnderNegation document.now.body }
     ensures bytes { IfOk result (λ bytes. bytes.items ≡ printed_two document.now) }
     // What is printed is a document, with the names that are printed; a list's members stand in another order.
     ensures again { IfOk result (λ bytes. IsDocument (lines bytes.items) (doubled_document document.now)) }
+    // What is printed is no longer than an input may be.
+    ensures short { IfOk result (λ bytes. length bytes.items ≤ MAX_INPUT) }
     // The members are the same.
     ensures members { IsPermutation (members_of document.now.body) (members_of (doubled_body document.now.body)) }
 {

@@ -1,8 +1,10 @@
-use Rattle.std.proofs.Common.{◌≡◌, [], ◌++◌, ap, subst, sym, rules, ◌∙◌}
+use Rattle.std.proofs.Common.{◌≡◌, ◌≤◌, [], ◌++◌, length, ap, subst, sym, rules, ◌∙◌}
+use Rattle.om_signs.specs.declared.limits.TheConstants.{MAX_INPUT}
 use Rattle.om_text.specs.Lines.{lines}
 use Rattle.om_text.specs.Document.{IsDocument}
 use Rattle.om_text.specs.Print.{printed, sorted_document}
 use Rattle.om_text.proofs.Reread.{printed_document}
+use Rattle.om_text.proofs.Sizes.{printed_short}
 use Rattle.om_text.proofs.printer.print.Goals as goal
 
 pub returns-clause-bytes : goal.returns-clause-bytes
@@ -12,3 +14,6 @@ returns-clause-bytes c =
 
 pub returns-clause-again : goal.returns-clause-again
 returns-clause-again c = subst (λ bytes. IsDocument (lines bytes) (sorted_document c.args.document.now)) (sym (returns-clause-bytes c)) (printed_document c.args.document.now c.requires.form)
+
+pub returns-clause-short : goal.returns-clause-short
+returns-clause-short c = subst (λ bytes. length bytes ≤ MAX_INPUT) (sym (returns-clause-bytes c)) (printed_short c.args.document.now c.requires.form)

@@ -1,9 +1,11 @@
-use Rattle.std.proofs.Common.{◌≡◌, [], ◌++◌, ap, subst, sym, rules, ◌∙◌}
+use Rattle.std.proofs.Common.{◌≡◌, ◌≤◌, [], ◌++◌, length, ap, subst, sym, rules, ◌∙◌}
+use Rattle.om_signs.specs.declared.limits.TheConstants.{MAX_INPUT}
 use Rattle.om_text.specs.Lines.{lines}
 use Rattle.om_text.specs.Document.{IsDocument}
 use Rattle.om_text.specs.PrintTwo.{printed_two, doubled_document}
 use Rattle.om_text.proofs.Halves.{members_permute}
 use Rattle.om_text.proofs.RereadTwo.{printed_two_document}
+use Rattle.om_text.proofs.Sizes.{printed_two_short}
 use Rattle.om_text.proofs.printer_two.print_two.Goals as goal
 
 pub returns-clause-bytes : goal.returns-clause-bytes
@@ -13,6 +15,9 @@ returns-clause-bytes c =
 
 pub returns-clause-again : goal.returns-clause-again
 returns-clause-again c = subst (λ bytes. IsDocument (lines bytes) (doubled_document c.args.document.now)) (sym (returns-clause-bytes c)) (printed_two_document c.args.document.now c.requires.form c.requires.closed)
+
+pub returns-clause-short : goal.returns-clause-short
+returns-clause-short c = subst (λ bytes. length bytes ≤ MAX_INPUT) (sym (returns-clause-bytes c)) (printed_two_short c.args.document.now c.requires.form)
 
 pub returns-clause-members : goal.returns-clause-members
 returns-clause-members c = members_permute c.args.document.now.elements c.args.document.now.body c.requires.form.body c.requires.closed
