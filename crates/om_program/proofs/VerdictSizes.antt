@@ -1,11 +1,11 @@
 -- The text of a verdict other than a limit is short enough to be read: it has few lines, and each is short.
 --
 -- Main results: verdict_short.
-use Rattle.std.specs.Prelude.{ℕ, suc, ◌≡◌, ◌+◌, ◌*◌, ◌/◌, ◌<◌, ◌≤◌, ◌^◌, ℤ, pos, negsuc, unsigned_abs, List, [], ◌∷◌, ◌++◌, Bool, true, false, length, map, take, drop, decimal, codes, All}
+use Rattle.std.specs.Prelude.{ℕ, suc, ◌≡◌, ◌+◌, ◌*◌, ◌/◌, ◌<◌, ◌≤◌, ◌^◌, ℤ, pos, negsuc, unsigned_abs, List, [], ◌∷◌, ◌++◌, Bool, true, false, length, map, decimal, codes, All}
 use Rattle.std.specs.Fmt.{signed_decimal}
 use Rattle.std.specs.List.{AllByRecursion}
-use Rattle.std.proofs.Common.{arith, zero, refl, ap, length-append, length-drop}
-use Rattle.std.proofs.lemmas.List.{length-map, length-take}
+use Rattle.std.proofs.Common.{arith, refl, ap, length-append}
+use Rattle.std.proofs.lemmas.List.{length-map}
 use Rattle.std.proofs.lemmas.List.Elements.{All-nil, All-cons, All-head, All-tail, All-append, All-map, All-weaker}
 use Rattle.itoa.proofs.Decimal.{length_wide}
 use Rattle.om_signs.specs.declared.limits.TheConstants.{MAX_INPUT, MAX_ELEMENTS, MAX_VALUES}
@@ -24,9 +24,10 @@ use Rattle.om_decide.specs.declared.budgets.Budgets.{Budgets}
 use Rattle.om_decide.proofs.Few.{few_rows}
 use Rattle.om_decide.proofs.FewEntries.{few_entries}
 use Rattle.om_text.specs.Document.{end_line}
-use Rattle.om_text.specs.Print.{text_of, cut, spaced, sign_lines, kind_text, printed}
+use Rattle.om_text.specs.Print.{text_of, spaced, sign_lines, kind_text, printed}
 use Rattle.om_text.specs.Words.{byte_of}
 use Rattle.om_text.proofs.Printing.{text_of-append}
+use Rattle.om_text.proofs.Sizes.{cut_bytes}
 use Rattle.om_answer.specs.BlockLines.{word_line}
 use Rattle.om_answer.specs.VerdictText.{named, vector_numbers, vector_words, entry_numbers, entry_words, weight_numbers, weight_words, relation_name, search_lines, verdict_name, verdict_lines, block_lines, lines_text, chirotope_document, verdict_text}
 use Rattle.om_answer.proofs.ClaimSizes.{word_bytes}
@@ -158,13 +159,6 @@ block_bytes v h =
     omega (arith, n, l)
 
 -- ---- the document
-
-cut_bytes : (k : ℕ) (bs : List ℕ) → length (text_of (cut k bs)) ≤ length bs + k
-cut_bytes zero bs = omega arith
-cut_bytes (suc k) bs =
-    let a = length-append (take 64 bs) (10 ∷ text_of (cut k (drop 64 bs))) in
-    let b = cut_bytes k (drop 64 bs) in
-    omega (arith, a, b, length-take 64 bs, length-drop 64 bs)
 
 -- the most bytes of a chirotope's document: a sign and a line feed for each value, and three short lines
 abbrev MOST_DOCUMENT : ℕ
