@@ -1,12 +1,25 @@
-//! Laws of acyclic oriented matroids. Each function is one theorem: it has an empty body, and its contract is the statement.
+//! Laws of paintings and of acyclic oriented matroids. Each function is one theorem: it has an empty body, and its contract is the statement.
 
-ghost use Rattle.std.specs.Prelude.{ℕ, ◌≤◌, ◌↔◌, List};
+ghost use Rattle.std.specs.Prelude.{ℕ, ◌≡◌, ◌≤◌, ◌↔◌, List};
 ghost use Rattle.om_signs.specs.declared.sign.Sign.{Sign};
+ghost use Rattle.om_laws.specs.Colours.{Colour};
 ghost use Rattle.om_chirotope.specs.Map.{SignMap};
 ghost use Rattle.om_chirotope.specs.Chirotope.{IsChirotope};
 ghost use Rattle.om_denotation.specs.Covectors.{IsCovectorOfChirotope};
 ghost use Rattle.om_denotation.specs.Painting.{IsFittingCocircuit};
+ghost use Rattle.om_paint.specs.declared.painted.Painted.{Painted};
+ghost use Rattle.om_paint.specs.Paintings.{IsPaintingOf};
 ghost use Rattle.om_paint.specs.Hulls.{all_plus, IsPositiveCircuit, IsExtreme, green_alone};
+
+/// A map, a colouring and an element have one painting at most: one sign vector, which is a circuit or a cocircuit. It depends
+/// on the colours of the elements 1 to n alone, for the number n of elements. So the item of an element in a hull is what
+/// `paint` answers where the element is green and all others are red.
+pub fn one_painting()
+    ensures one { (m : SignMap) (colour : ℕ → Colour) (e : ℕ) (x y : Painted)
+        → IsPaintingOf m colour e x → IsPaintingOf m colour e y → x ≡ y }
+    ensures colours { (m : SignMap) (colour other : ℕ → Colour) → ((f : ℕ) → 1 ≤ f → f ≤ m.elements → colour f ≡ other f)
+        → (e : ℕ) (x : Painted) → IsPaintingOf m colour e x → IsPaintingOf m other e x }
+{}
 
 /// A chirotope is acyclic exactly where none of its circuits is without a minus.
 ///
