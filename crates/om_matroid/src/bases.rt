@@ -25,8 +25,8 @@ pub fn first_basis(chi: &Chirotope) -> Subset
 }
 
 /// The lexicographically first basis that contains an independent set: a set of some of the elements 1 to n, for the number n
-/// of elements, that is contained in some basis, as the empty set is. It walks at most once over the sets of as many elements
-/// as the rank, and takes no memory.
+/// of elements, that is contained in some basis, as the empty set is, by the law `empty_set_is_independent`. It walks at most
+/// once over the sets of as many elements as the rank, and takes no memory.
 ///
 /// Source: Björner, Las Vergnas, Sturmfels, White and Ziegler, *Oriented Matroids*, chapter 3.
 pub fn extend_to_basis(chi: &Chirotope, independent: Subset) -> Subset

@@ -13,6 +13,6 @@ mod search;
 pub use bases::{extend_to_basis, first_basis};
 pub use elements::{is_coloop, is_loop, parallel};
 pub use exchanges::exchange;
-pub use laws::exchange_of_bases;
+pub use laws::{empty_set_is_independent, exchange_of_bases};
 pub use om_chirotope::three_term_test;
 pub use ranks::rank_of;
