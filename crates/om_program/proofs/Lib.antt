@@ -6,6 +6,7 @@ mod ClaimLaws
 mod CompletenessLaws
 mod ConversionLaws
 mod DecisionLaws
+mod EvidenceLaws
 mod ExtensionLaws
 mod FlipLaws
 mod HullLaws

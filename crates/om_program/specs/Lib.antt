@@ -26,5 +26,6 @@ pub mod ThreeTermTests
 pub mod Claims
 pub mod Meaning
 pub mod ValidClaims
+pub mod SameEvidence
 pub mod Run
 pub mod Completeness

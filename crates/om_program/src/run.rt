@@ -12,6 +12,7 @@ ghost use Rattle.om_program.specs.Determined.{IsDetermined};
 ghost use Rattle.om_program.specs.Meaning.{Means, TaskMeans};
 ghost use Rattle.om_words.specs.Tasks.{HasLawfulArguments, reads};
 ghost use Rattle.om_program.specs.ValidClaims.{VerdictsAreFoundValid};
+ghost use Rattle.om_program.specs.SameEvidence.{EvidenceDecides};
 
 use super::answer::Answer;
 use super::answering::{answer_alone, answer_input};
@@ -78,6 +79,9 @@ pub fn run<R: Threads + Sync, S: Source, K: Sink>(
 
     // What `decide` answers, other than a limit, is a claim that `check` finds valid, with the word of the verdict.
     ensures decided { VerdictsAreFoundValid }
+
+    // Claims on one document with the same evidence mean the same: what they say of the end of a search plays no part.
+    ensures evidence { EvidenceDecides }
 
     // Where the source tells its bytes, an answered command that reads has taken all that it had left, up to one more than the limit on inputs.
     // So `refused long` comes exactly where more bytes were taken than the limit.

@@ -5,6 +5,7 @@ use Rattle.om_words.specs.declared.task.Task.{Task}
 use Rattle.om_words.specs.Tasks.{reads}
 use Rattle.om_words.specs.Words.{Names}
 use Rattle.om_program.proofs.CompletenessLaws.{alone_ends, always_answered}
+use Rattle.om_program.proofs.EvidenceLaws.{evidence_decides}
 use Rattle.om_program.specs.Meaning.{Means}
 use Rattle.om_program.specs.Run.{ReadNothing}
 use Rattle.om_program.proofs.MeaningLaws.{whole, cut_off, named_answer, named_cut_off, usage_meant}
@@ -26,6 +27,12 @@ returns-in-Ok-clause-decided g c = verdicts_found_valid
 
 pub returns-in-Err-clause-decided : goal.returns-in-Err-clause-decided
 returns-in-Err-clause-decided g c = verdicts_found_valid
+
+pub returns-in-Ok-clause-evidence : goal.returns-in-Ok-clause-evidence
+returns-in-Ok-clause-evidence g c = evidence_decides
+
+pub returns-in-Err-clause-evidence : goal.returns-in-Err-clause-evidence
+returns-in-Err-clause-evidence g c = evidence_decides
 
 pub returns-in-Ok-clause-determined : goal.returns-in-Ok-clause-determined
 returns-in-Ok-clause-determined g c = words_determined _ _ c.in-Ok.ensures.task
