@@ -1,6 +1,6 @@
 -- The text of a verdict, given to `check`.
 --
--- Main results: verdicts_found_valid.
+-- Main results: verdicts_found_valid, limits_found.
 use Rattle.std.specs.Prelude.{ℕ, ◌≡◌, List, [], ◌∷◌, codes, refl, Ok}
 use Rattle.std.proofs.Common.{subst, inl}
 use Rattle.om_chirotope.specs.Map.{SignMap}
@@ -16,17 +16,19 @@ use Rattle.om_decide.specs.declared.budgets.Budgets.{Budgets}
 use Rattle.om_decide.proofs.VerdictLaws.{verdict_shown}
 use Rattle.om_text.specs.declared.document.Document.{Document}
 use Rattle.om_text.specs.Form.{IsInForm}
+use Rattle.om_answer.specs.declared.line.Line.{Line}
+use Rattle.om_answer.specs.declared.line.Line.TheVariants as line
 use Rattle.om_answer.specs.VerdictText.{chirotope_document, claim_of, verdict_text}
 use Rattle.om_answer.proofs.VerdictReading.{claim_read}
 use Rattle.om_program.specs.declared.answer.Answer.{Answer}
 use Rattle.om_program.specs.declared.answer.Answer.TheVariants as answer
 use Rattle.om_words.specs.declared.task.Task.TheVariants.{Decide, Check}
 use Rattle.om_program.specs.Answers.{says, judges}
-use Rattle.om_program.specs.Claims.{valid, judged, verified, valid_line}
+use Rattle.om_program.specs.Claims.{VerdictMeans, valid, judged, limited, verified, valid_line}
 use Rattle.om_program.specs.Decisions.{IsDecided, DecisionMeans, other_rank, decided, IsDecision}
 use Rattle.om_program.specs.RankThree.{for_chirotope}
 use Rattle.om_program.specs.Meaning.{Means, usage, named, TaskMeans, long, faulty, read, faulty_claim, claimed, alone, DocumentMeans, tested, upgraded, refused, flat, answered}
-use Rattle.om_program.specs.ValidClaims.{IsLimit, IsFoundValid, VerdictsAreFoundValid}
+use Rattle.om_program.specs.ValidClaims.{IsLimit, IsFoundValid, VerdictsAreFoundValid, LimitsAreFoundWithoutCertificate}
 use Rattle.om_program.proofs.VerdictSizes.{verdict_short}
 use Rattle.om_words.proofs.TaskLaws.{named_decide}
 use Rattle.om_representation.proofs.WidthLaws.{few_of_rank3}
@@ -94,19 +96,34 @@ evidence_shown m (Vectors vs) realizes = realizes
 evidence_shown m (Balanced es) certificate = certificate_excludes m es certificate
 evidence_shown m (Weights ws) weights = weights_exclude m ws weights
 
-evidence_checked : (m : SignMap) (b : Budgets) (v : Verdict) (e : Evidence) → IsDecided m b v → (IsLimit v → ⊥) → certificate_of v ≡ Ok e → IsValid m e → Means (codes "check" ∷ []) (verdict_text m v) (says (valid_line e))
-evidence_checked m b v e is no_limit same holds =
+-- the check answers what the verdict means for the map
+text_checked : (m : SignMap) (b : Budgets) (v : Verdict) (l : Line) → IsDecided m b v → VerdictMeans m v l → Means (codes "check" ∷ []) (verdict_text m v) (says l)
+text_checked m b v l is means =
     named Check _ (record { arguments = []; first = refl; behind = refl })
-    (claimed (claim_of m v) (valid_line e) refl (verdict_short m b v is no_limit) (claim_read m v (document_form m is.rank is.sound) is.form)
-    (verified m (valid_line e) is.sound.axioms (λ bent. bent) refl (judged e (valid_line e) is.rank same (valid holds (evidence_shown m e holds)))))
+    (claimed (claim_of m v) l refl (verdict_short m b v is) (claim_read m v (document_form m is.rank is.sound) is.form)
+    (verified m l is.sound.axioms (λ bent. bent) refl means))
+
+evidence_checked : (m : SignMap) (b : Budgets) (v : Verdict) (e : Evidence) → IsDecided m b v → certificate_of v ≡ Ok e → IsValid m e → Means (codes "check" ∷ []) (verdict_text m v) (says (valid_line e))
+evidence_checked m b v e is same holds = text_checked m b v (valid_line e) is (judged e (valid_line e) is.rank same (valid holds (evidence_shown m e holds)))
 
 verdict_checked : (m : SignMap) (b : Budgets) (v : Verdict) → IsDecided m b v → (IsLimit v → ⊥) → IsFoundValid (verdict_text m v) v
-verdict_checked m b (Realizable vs) is no_limit = record { line = _; word = refl; means = evidence_checked m b (Realizable vs) (Vectors vs) is no_limit refl (verdict_shown m b (Realizable vs) is.verdict) }
-verdict_checked m b (Nonrealizable es) is no_limit = record { line = _; word = refl; means = evidence_checked m b (Nonrealizable es) (Balanced es) is no_limit refl (verdict_shown m b (Nonrealizable es) is.verdict) }
-verdict_checked m b (Undecided ws u) is no_limit = record { line = _; word = refl; means = evidence_checked m b (Undecided ws u) (Weights ws) is no_limit refl (verdict_shown m b (Undecided ws u) is.verdict) }
+verdict_checked m b (Realizable vs) is no_limit = record { line = _; word = refl; means = evidence_checked m b (Realizable vs) (Vectors vs) is refl (verdict_shown m b (Realizable vs) is.verdict) }
+verdict_checked m b (Nonrealizable es) is no_limit = record { line = _; word = refl; means = evidence_checked m b (Nonrealizable es) (Balanced es) is refl (verdict_shown m b (Nonrealizable es) is.verdict) }
+verdict_checked m b (Undecided ws u) is no_limit = record { line = _; word = refl; means = evidence_checked m b (Undecided ws u) (Weights ws) is refl (verdict_shown m b (Undecided ws u) is.verdict) }
 verdict_checked m b (Limit end u) is no_limit = absurd (no_limit tt)
+
+limit_checked : (m : SignMap) (b : Budgets) (v : Verdict) → IsDecided m b v → IsLimit v → Means (codes "check" ∷ []) (verdict_text m v) (says line.RefusedNocertificate)
+limit_checked m b (Realizable vs) is limit = absurd limit
+limit_checked m b (Nonrealizable es) is limit = absurd limit
+limit_checked m b (Undecided ws u) is limit = absurd limit
+limit_checked m b (Limit end u) is limit = text_checked m b (Limit end u) line.RefusedNocertificate is (limited end u is.rank refl)
 
 pub verdicts_found_valid : VerdictsAreFoundValid
 verdicts_found_valid options bytes m v means no_limit =
     let found = words_judged options bytes (judges m v) means in
     verdict_checked m found.0 v found.1 no_limit
+
+pub limits_found : LimitsAreFoundWithoutCertificate
+limits_found options bytes m v means limit =
+    let found = words_judged options bytes (judges m v) means in
+    limit_checked m found.0 v found.1 limit

@@ -1,4 +1,5 @@
--- The text of a verdict other than a limit is short enough to be read: it has few lines, and each is short.
+-- The text of a verdict is short enough to be read: it has few lines, and each is short but the basis line of a limit, which has
+-- few numbers.
 --
 -- Main results: verdict_short.
 use Rattle.std.specs.Prelude.{ℕ, suc, ◌≡◌, ◌+◌, ◌*◌, ◌/◌, ◌<◌, ◌≤◌, ◌^◌, ℤ, pos, negsuc, unsigned_abs, List, [], ◌∷◌, ◌++◌, Bool, true, false, length, map, decimal, codes, All}
@@ -8,32 +9,35 @@ use Rattle.std.proofs.Common.{arith, refl, ap, length-append}
 use Rattle.std.proofs.lemmas.List.{length-map}
 use Rattle.std.proofs.lemmas.List.Elements.{All-nil, All-cons, All-head, All-tail, All-append, All-map, All-weaker}
 use Rattle.itoa.proofs.Decimal.{length_wide}
-use Rattle.om_signs.specs.declared.limits.TheConstants.{MAX_INPUT, MAX_ELEMENTS, MAX_VALUES}
+use Rattle.om_signs.specs.declared.limits.TheConstants.{MAX_INPUT, MAX_ELEMENTS, MAX_PLAIN, MAX_VALUES}
 use Rattle.om_subsets.specs.Subsets.{choose}
 use Rattle.om_chirotope.specs.Map.{SignMap}
 use Rattle.om_chirotope.specs.Chirotope.{IsSound}
+use Rattle.om_simplex.specs.declared.stage.Stage.{Stage}
+use Rattle.om_simplex.specs.declared.stage.Stage.TheVariants as stage
 use Rattle.om_vectors.specs.WholeVectors.{WholeVector, IsWithinLimit}
 use Rattle.om_vectors.specs.declared.unfound.Unfound.{Unfound}
 use Rattle.om_vectors.specs.declared.unfound.Unfound.TheVariants.{Exhausted, Frontier}
 use Rattle.om_certificate.specs.declared.entry.Entry.{Entry}
 use Rattle.om_certificate.specs.declared.weight.Weight.{Weight}
+use Rattle.om_certificate.specs.declared.lp_end.LpEnd.TheVariants as lp_end
 use Rattle.om_certificate.specs.declared.verdict.Verdict.{Verdict}
 use Rattle.om_certificate.specs.declared.verdict.Verdict.TheVariants.{Realizable, Nonrealizable, Undecided, Limit}
-use Rattle.om_certificate.specs.Forms.{AreVectorsInForm, IsEntryInForm, IsWeightInForm, IsSearchInForm}
+use Rattle.om_certificate.specs.Forms.{AreVectorsInForm, IsEntryInForm, IsWeightInForm, IsWidthInForm, IsSearchInForm}
 use Rattle.om_decide.specs.declared.budgets.Budgets.{Budgets}
 use Rattle.om_decide.proofs.Few.{few_rows}
 use Rattle.om_decide.proofs.FewEntries.{few_entries}
+use Rattle.om_decide.proofs.VerdictLaws.{limit_rows}
 use Rattle.om_text.specs.Document.{end_line}
 use Rattle.om_text.specs.Print.{text_of, spaced, sign_lines, kind_text, printed}
 use Rattle.om_text.specs.Words.{byte_of}
 use Rattle.om_text.proofs.Printing.{text_of-append}
 use Rattle.om_text.proofs.Sizes.{cut_bytes}
 use Rattle.om_answer.specs.BlockLines.{word_line}
-use Rattle.om_answer.specs.VerdictText.{named, vector_numbers, vector_words, entry_numbers, entry_words, weight_numbers, weight_words, relation_name, search_lines, verdict_name, verdict_lines, block_lines, lines_text, chirotope_document, verdict_text}
+use Rattle.om_answer.specs.VerdictText.{named, vector_numbers, vector_words, entry_numbers, entry_words, weight_numbers, weight_words, relation_name, search_lines, stage_name, width_numbers, verdict_name, verdict_lines, block_lines, lines_text, chirotope_document, verdict_text}
 use Rattle.om_answer.proofs.ClaimSizes.{word_bytes}
 use Rattle.om_representation.proofs.WidthLaws.{few_of_rank3}
 use Rattle.om_program.specs.Decisions.{IsDecided}
-use Rattle.om_program.specs.ValidClaims.{IsLimit}
 
 -- ---- lines
 
@@ -84,6 +88,30 @@ entry_short e h =
     named_short (relation_name e.statement.strict) (entry_numbers e) (relation_bytes e.statement.strict) (omega arith)
     (omega arith, (omega arith, (omega arith, (omega arith, (omega arith, (omega arith, (omega arith, (omega arith, tt))))))))
 
+stage_bytes : (s : Stage) → length (stage_name s) ≤ 20
+stage_bytes stage.Price = omega arith
+stage_bytes stage.Column = omega arith
+stage_bytes stage.Update = omega arith
+stage_bytes stage.Scale = omega arith
+
+width_short : (s : Stage) (p r c : ℕ) → IsWidthInForm p r c → IsShortLine (codes "width" ∷ named (stage_name s) (width_numbers p r c))
+width_short s p r c h =
+    let x = h.pivot_most in
+    let y = h.row_most in
+    let z = h.place_most in
+    let a = stage_bytes s in
+    let b = numbers_bytes (width_numbers p r c) (omega arith, (omega arith, (omega arith, tt))) in
+    omega (arith, a, b)
+
+-- basis numbers, which have at most 39 digits
+basis_bytes : (basis : List ℕ) → All (λ b. b ≤ MAX_PLAIN) basis → word_bytes (map decimal basis) ≤ 40 * length basis
+basis_bytes [] h = omega arith
+basis_bytes (b ∷ bs) h =
+    let l = All-head (λ k. k ≤ MAX_PLAIN) b bs h in
+    let a = length_wide b (omega arith) in
+    let c = basis_bytes bs (All-tail (λ k. k ≤ MAX_PLAIN) b bs h) in
+    omega (arith, a, c)
+
 -- ---- lists of lines
 
 spaced_bytes : (ws : List (List ℕ)) → length (spaced ws) ≤ word_bytes ws
@@ -91,14 +119,17 @@ spaced_bytes [] = omega arith
 spaced_bytes (w ∷ []) = omega arith
 spaced_bytes (w ∷ v ∷ ws) = let a = length-append w (32 ∷ spaced (v ∷ ws)) in let b = spaced_bytes (v ∷ ws) in omega (arith, a, b)
 
+-- the bytes of a line and of those behind it
+first_bytes : (l : List (List ℕ)) (ls : List (List (List ℕ))) → length (lines_text (l ∷ ls)) ≤ word_bytes l + 1 + length (lines_text ls)
+first_bytes l ls = let a = length-append (spaced l) (10 ∷ lines_text ls) in let b = spaced_bytes l in omega (arith, a, b)
+
 lines_bytes : (ls : List (List (List ℕ))) → All IsShortLine ls → length (lines_text ls) ≤ (MOST_BYTES + 1) * length ls
 lines_bytes [] h = omega arith
 lines_bytes (l ∷ ls) h =
-    let a = length-append (spaced l) (10 ∷ lines_text ls) in
-    let b = spaced_bytes l in
+    let a = first_bytes l ls in
     let c = All-head IsShortLine l ls h in
     let d = lines_bytes ls (All-tail IsShortLine l ls h) in
-    omega (arith, a, b, c, d)
+    omega (arith, a, c, d)
 
 -- at most so many lines, each of them short
 record AreShortLines (most : ℕ) (ls : List (List (List ℕ))) : Type 0 where
@@ -121,7 +152,7 @@ search_short (Frontier vs) h = let r = vectors_short vs h in let n = r.few in re
 both_short : (a b : ℕ) (ls ks : List (List (List ℕ))) → AreShortLines a ls → AreShortLines b ks → AreShortLines (a + b) (ls ++ ks)
 both_short a b ls ks h g = let n = h.few in let k = g.few in record { few = omega (arith, length-append ls ks); short = All-append IsShortLine ls ks h.short g.short }
 
--- ---- the lines of a verdict
+-- ---- the block of a verdict
 
 triples : choose MAX_ELEMENTS 3 ≡ 1140
 triples = refl
@@ -133,30 +164,64 @@ MOST_LINES = 1161
 more_lines : (a b : ℕ) (ls : List (List (List ℕ))) → a ≤ b → AreShortLines a ls → AreShortLines b ls
 more_lines a b ls l h = let n = h.few in record { few = omega arith; short = h.short }
 
-verdict_lines_short : (m : SignMap) (b : Budgets) (v : Verdict) → IsDecided m b v → (IsLimit v → ⊥) → AreShortLines MOST_LINES (verdict_lines v)
-verdict_lines_short m b (Realizable vs) is no_limit = more_lines 20 MOST_LINES (map vector_words vs) (omega arith) (vectors_short vs is.form)
-verdict_lines_short m b (Nonrealizable es) is no_limit =
-    let n = few_entries m b es is.verdict in
-    let r = few_rows m is.sound.limits.high in
-    mapped_short entry_words IsEntryInForm MOST_LINES entry_short es (omega (arith, n, r, triples)) is.form
-verdict_lines_short m b (Undecided ws u) is no_limit =
-    let n = is.form.0.few in
-    more_lines (1140 + 21) MOST_LINES (verdict_lines (Undecided ws u)) (omega arith)
-    (both_short 1140 21 (map weight_words ws) (search_lines u) (mapped_short weight_words IsWeightInForm 1140 weight_short ws (omega (arith, n, triples)) is.form.0.each) (search_short u is.form.1))
-verdict_lines_short m b (Limit end u) is no_limit = absurd (no_limit tt)
-
 name_short : (v : Verdict) → IsShortLine (word_line (verdict_name v))
 name_short (Realizable vs) = omega arith
 name_short (Nonrealizable es) = omega arith
 name_short (Undecided ws u) = omega arith
 name_short (Limit e u) = omega arith
 
-block_bytes : (v : Verdict) → AreShortLines MOST_LINES (verdict_lines v) → length (lines_text (block_lines v)) ≤ (MOST_BYTES + 1) * (MOST_LINES + 2)
-block_bytes v h =
-    let body = both_short MOST_LINES 1 (verdict_lines v) (end_line ∷ []) h (record { few = omega arith; short = All-cons IsShortLine end_line [] (omega arith) (All-nil IsShortLine) }) in
+-- lines and `end`
+closed_short : (most : ℕ) (ls : List (List (List ℕ))) → AreShortLines most ls → AreShortLines (most + 1) (ls ++ end_line ∷ [])
+closed_short most ls h = both_short most 1 ls (end_line ∷ []) h (record { few = omega arith; short = All-cons IsShortLine end_line [] (omega arith) (All-nil IsShortLine) })
+
+-- the most bytes of a block
+abbrev MOST_BLOCK : ℕ
+MOST_BLOCK = (MOST_BYTES + 1) * (MOST_LINES + 2)
+
+-- a block of short lines
+short_block : (v : Verdict) → AreShortLines MOST_LINES (verdict_lines v) → length (lines_text (block_lines v)) ≤ MOST_BLOCK
+short_block v h =
+    let body = closed_short MOST_LINES (verdict_lines v) h in
     let n = body.few in
     let l = lines_bytes (block_lines v) (All-cons IsShortLine (word_line (verdict_name v)) (verdict_lines v ++ end_line ∷ []) (name_short v) body.short) in
     omega (arith, n, l)
+
+-- a block whose third line is that of a basis of few numbers
+basis_block : (count : ℕ) (basis : List ℕ) (u : Unfound) → count < 2 ^ 128 → length basis ≤ 1141 → All (λ b. b ≤ MAX_PLAIN) basis → IsSearchInForm u → length (lines_text (block_lines (Limit (lp_end.Pivots count basis) u))) ≤ MOST_BLOCK
+basis_block count basis u small few plain search =
+    let name = word_line (codes "limit") in
+    let pivots = named (codes "pivots") (pos count ∷ []) in
+    let numbers = codes "basis" ∷ map decimal basis in
+    let rest = search_lines u ++ end_line ∷ [] in
+    let closed = closed_short 21 (search_lines u) (search_short u search) in
+    let n = closed.few in
+    let d = lines_bytes rest closed.short in
+    let p = number_bytes (pos count) small in
+    let b = basis_bytes basis plain in
+    let x = first_bytes name (pivots ∷ numbers ∷ rest) in
+    let y = first_bytes pivots (numbers ∷ rest) in
+    let z = first_bytes numbers rest in
+    omega (arith, n, d, p, b, x, y, z)
+
+block_bytes : (m : SignMap) (b : Budgets) (v : Verdict) → IsDecided m b v → length (lines_text (block_lines v)) ≤ MOST_BLOCK
+block_bytes m b (Realizable vs) is = short_block (Realizable vs) (more_lines 20 MOST_LINES (map vector_words vs) (omega arith) (vectors_short vs is.form))
+block_bytes m b (Nonrealizable es) is =
+    let n = few_entries m b es is.verdict in
+    let r = few_rows m is.sound.limits.high in
+    short_block (Nonrealizable es) (mapped_short entry_words IsEntryInForm MOST_LINES entry_short es (omega (arith, n, r, triples)) is.form)
+block_bytes m b (Undecided ws u) is =
+    let n = is.form.0.few in
+    short_block (Undecided ws u) (more_lines (1140 + 21) MOST_LINES (verdict_lines (Undecided ws u)) (omega arith)
+    (both_short 1140 21 (map weight_words ws) (search_lines u) (mapped_short weight_words IsWeightInForm 1140 weight_short ws (omega (arith, n, triples)) is.form.0.each) (search_short u is.form.1)))
+block_bytes m b (Limit (lp_end.Pivots count basis) u) is =
+    let budget = is.form.0.budget in
+    let n = limit_rows m b count basis u is.verdict in
+    let r = few_rows m is.sound.limits.high in
+    basis_block count basis u (omega arith) (omega (arith, n, r, triples)) is.form.0.plain is.form.1
+block_bytes m b (Limit (lp_end.Width s p r c) u) is =
+    let line = codes "width" ∷ named (stage_name s) (width_numbers p r c) in
+    let one : AreShortLines 1 (line ∷ []) = record { few = omega arith; short = All-cons IsShortLine line [] (width_short s p r c is.form.0) (All-nil IsShortLine) } in
+    short_block (Limit (lp_end.Width s p r c) u) (more_lines (1 + 21) MOST_LINES (verdict_lines (Limit (lp_end.Width s p r c) u)) (omega arith) (both_short 1 21 (line ∷ []) (search_lines u) one (search_short u is.form.1)))
 
 -- ---- the document
 
@@ -181,8 +246,8 @@ document_bytes m three sound =
 
 -- ---- the text
 
-pub verdict_short : (m : SignMap) (b : Budgets) (v : Verdict) → IsDecided m b v → (IsLimit v → ⊥) → length (verdict_text m v) ≤ MAX_INPUT
-verdict_short m b v is no_limit =
+pub verdict_short : (m : SignMap) (b : Budgets) (v : Verdict) → IsDecided m b v → length (verdict_text m v) ≤ MAX_INPUT
+verdict_short m b v is =
     let d = document_bytes m is.rank is.sound in
-    let l = block_bytes v (verdict_lines_short m b v is no_limit) in
+    let l = block_bytes m b v is in
     omega (arith, d, l, length-append (printed (chirotope_document m)) (lines_text (block_lines v)))

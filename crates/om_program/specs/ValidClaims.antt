@@ -1,9 +1,10 @@
--- What `decide` answers is a claim that `check` finds valid.
+-- What `decide` answers is a claim that `check` finds valid, or a limit that has no certificate.
 use Rattle.std.specs.Prelude.{ℕ, ◌≡◌, List, [], ◌∷◌, ◌++◌, codes}
 use Rattle.om_chirotope.specs.Map.{SignMap}
 use Rattle.om_certificate.specs.declared.verdict.Verdict.{Verdict}
 use Rattle.om_certificate.specs.declared.verdict.Verdict.TheVariants as verdict
 use Rattle.om_answer.specs.declared.line.Line.{Line}
+use Rattle.om_answer.specs.declared.line.Line.TheVariants.{RefusedNocertificate}
 use Rattle.om_answer.specs.Texts.{line_text}
 use Rattle.om_answer.specs.VerdictText.{verdict_name, verdict_text}
 use Rattle.om_program.specs.Answers.{says, judges}
@@ -23,3 +24,7 @@ pub record IsFoundValid (bytes : List ℕ) (v : Verdict) : Type 0 where
 -- the text of each verdict of `decide` other than a limit is found valid
 abbrev pub VerdictsAreFoundValid : Type 0
 VerdictsAreFoundValid = (options : List (List ℕ)) (bytes : List ℕ) (m : SignMap) (v : Verdict) → Means (codes "decide" ∷ options) bytes (judges m v) → (IsLimit v → ⊥) → IsFoundValid (verdict_text m v) v
+
+-- of the text of each verdict of `decide` that is a limit, `check` answers that it has no certificate
+abbrev pub LimitsAreFoundWithoutCertificate : Type 0
+LimitsAreFoundWithoutCertificate = (options : List (List ℕ)) (bytes : List ℕ) (m : SignMap) (v : Verdict) → Means (codes "decide" ∷ options) bytes (judges m v) → IsLimit v → Means (codes "check" ∷ []) (verdict_text m v) (says RefusedNocertificate)

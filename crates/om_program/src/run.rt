@@ -11,8 +11,8 @@ ghost use Rattle.om_program.specs.Completeness.{IsAnswerable, IsDoneOrNoMemory};
 ghost use Rattle.om_program.specs.Determined.{IsDetermined};
 ghost use Rattle.om_program.specs.Meaning.{Means, TaskMeans};
 ghost use Rattle.om_words.specs.Tasks.{HasLawfulArguments, reads};
-ghost use Rattle.om_program.specs.ValidClaims.{VerdictsAreFoundValid};
 ghost use Rattle.om_program.specs.SameEvidence.{EvidenceDecides};
+ghost use Rattle.om_program.specs.ValidClaims.{LimitsAreFoundWithoutCertificate, VerdictsAreFoundValid};
 
 use super::answer::Answer;
 use super::answering::{answer_alone, answer_input};
@@ -79,6 +79,9 @@ pub fn run<R: Threads + Sync, S: Source, K: Sink>(
 
     // What `decide` answers, other than a limit, is a claim that `check` finds valid, with the word of the verdict.
     ensures decided { VerdictsAreFoundValid }
+
+    // What `decide` answers with a limit is a claim of which `check` says that it has no certificate.
+    ensures limits { LimitsAreFoundWithoutCertificate }
 
     // Claims on one document with the same evidence mean the same: what they say of the end of a search plays no part.
     ensures evidence { EvidenceDecides }

@@ -10,7 +10,7 @@ use Rattle.om_program.specs.Meaning.{Means}
 use Rattle.om_program.specs.Run.{ReadNothing}
 use Rattle.om_program.proofs.MeaningLaws.{whole, cut_off, named_answer, named_cut_off, usage_meant}
 use Rattle.om_program.proofs.OneAnswer.{words_determined}
-use Rattle.om_program.proofs.ValidClaimLaws.{verdicts_found_valid}
+use Rattle.om_program.proofs.ValidClaimLaws.{verdicts_found_valid, limits_found}
 use Rattle.om_program.proofs.run.run.Goals as goal
 
 pub carry_out-requires : goal.carry_out-requires
@@ -27,6 +27,12 @@ returns-in-Ok-clause-decided g c = verdicts_found_valid
 
 pub returns-in-Err-clause-decided : goal.returns-in-Err-clause-decided
 returns-in-Err-clause-decided g c = verdicts_found_valid
+
+pub returns-in-Ok-clause-limits : goal.returns-in-Ok-clause-limits
+returns-in-Ok-clause-limits g c = limits_found
+
+pub returns-in-Err-clause-limits : goal.returns-in-Err-clause-limits
+returns-in-Err-clause-limits g c = limits_found
 
 pub returns-in-Ok-clause-evidence : goal.returns-in-Ok-clause-evidence
 returns-in-Ok-clause-evidence g c = evidence_decides
