@@ -2,12 +2,18 @@
 --
 -- Main results: what a call says of a verdict (verdict_decided); a decision is an answer that can be written (decision_replies).
 use Rattle.std.specs.Prelude.{◌≡◌, ◌≤◌}
+use Rattle.std.proofs.lemmas.Result.{IfOk-weaker}
 use Rattle.om_signs.specs.declared.limits.TheConstants.{MAX_ELEMENTS}
 use Rattle.om_chirotope.specs.Map.{SignMap}
 use Rattle.om_chirotope.specs.Chirotope.{IsChirotope}
 use Rattle.om_vectors.specs.Realizations.{Realizes}
+use Rattle.om_certificate.specs.declared.evidence.Evidence.{Evidence}
+use Rattle.om_certificate.specs.declared.evidence.Evidence.TheVariants.{Vectors, Balanced, Weights}
 use Rattle.om_certificate.specs.declared.verdict.Verdict.{Verdict}
 use Rattle.om_certificate.specs.Forms.{IsVerdictInForm}
+use Rattle.om_certificate.specs.Validity.{IsValid, Shows}
+use Rattle.om_certificate.specs.Verdicts.{certificate_of}
+use Rattle.om_certificate.proofs.Exclusion.{certificate_excludes, weights_exclude}
 use Rattle.om_decide.specs.declared.budgets.Budgets.{Budgets}
 use Rattle.om_decide.specs.Verdicts as decide
 use Rattle.om_decide.proofs.VerdictLaws.{verdict_shown}
@@ -27,12 +33,19 @@ verdict_rank m b v (decide.undecided zs u end unfound) = end.rank
 verdict_rank m b v (decide.pivot_limit basis u end unfound) = end.rank
 verdict_rank m b v (decide.width stage pivot row place u end unfound) = end.rank
 
+evidence_shown : (m : SignMap) (e : Evidence) → IsValid m e → Shows m e
+evidence_shown m (Vectors vs) realizes = realizes
+evidence_shown m (Balanced es) certificate = certificate_excludes m es certificate
+evidence_shown m (Weights ws) weights = weights_exclude m ws weights
+
 pub verdict_decided : (m : SignMap) (b : Budgets) (v : Verdict) → 1 ≤ m.elements → m.elements ≤ MAX_ELEMENTS → IsChirotope m → decide.IsVerdictOf m b v → IsVerdictInForm v → IsDecided m b v
 verdict_decided m b v low high axioms verdict form = record {
   rank = verdict_rank m b v verdict;
   sound = record { axioms = axioms; limits = record { low = low; high = high } };
   verdict = verdict;
   form = form;
+  valid = verdict_shown m b v verdict;
+  shows = IfOk-weaker (certificate_of v) (IsValid m) (Shows m) (evidence_shown m) (verdict_shown m b v verdict);
 }
 
 -- ---- decisions as answers

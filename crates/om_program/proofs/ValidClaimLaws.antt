@@ -3,6 +3,7 @@
 -- Main results: verdicts_found_valid, limits_found.
 use Rattle.std.specs.Prelude.{ℕ, ◌≡◌, List, [], ◌∷◌, codes, refl, Ok}
 use Rattle.std.proofs.Common.{subst, inl}
+use Rattle.std.proofs.lemmas.Result.{IfOk-at_ok}
 use Rattle.om_chirotope.specs.Map.{SignMap}
 use Rattle.om_chirotope.specs.Chirotope.{IsSound}
 use Rattle.om_certificate.specs.declared.evidence.Evidence.{Evidence}
@@ -11,9 +12,7 @@ use Rattle.om_certificate.specs.declared.verdict.Verdict.{Verdict}
 use Rattle.om_certificate.specs.declared.verdict.Verdict.TheVariants.{Realizable, Nonrealizable, Undecided, Limit}
 use Rattle.om_certificate.specs.Verdicts.{certificate_of}
 use Rattle.om_certificate.specs.Validity.{IsValid, Shows}
-use Rattle.om_certificate.proofs.Exclusion.{certificate_excludes, weights_exclude}
 use Rattle.om_decide.specs.declared.budgets.Budgets.{Budgets}
-use Rattle.om_decide.proofs.VerdictLaws.{verdict_shown}
 use Rattle.om_text.specs.declared.document.Document.{Document}
 use Rattle.om_text.specs.Form.{IsInForm}
 use Rattle.om_answer.specs.declared.line.Line.{Line}
@@ -91,11 +90,6 @@ document_form m three sound = record {
   names = inl refl;
 }
 
-evidence_shown : (m : SignMap) (e : Evidence) → IsValid m e → Shows m e
-evidence_shown m (Vectors vs) realizes = realizes
-evidence_shown m (Balanced es) certificate = certificate_excludes m es certificate
-evidence_shown m (Weights ws) weights = weights_exclude m ws weights
-
 -- the check answers what the verdict means for the map
 text_checked : (m : SignMap) (b : Budgets) (v : Verdict) (l : Line) → IsDecided m b v → VerdictMeans m v l → Means (codes "check" ∷ []) (verdict_text m v) (says l)
 text_checked m b v l is means =
@@ -103,13 +97,14 @@ text_checked m b v l is means =
     (claimed (claim_of m v) l refl (verdict_short m b v is) (claim_read m v (document_form m is.rank is.sound) is.form)
     (verified m l is.sound.axioms (λ bent. bent) refl means))
 
-evidence_checked : (m : SignMap) (b : Budgets) (v : Verdict) (e : Evidence) → IsDecided m b v → certificate_of v ≡ Ok e → IsValid m e → Means (codes "check" ∷ []) (verdict_text m v) (says (valid_line e))
-evidence_checked m b v e is same holds = text_checked m b v (valid_line e) is (judged e (valid_line e) is.rank same (valid holds (evidence_shown m e holds)))
+evidence_checked : (m : SignMap) (b : Budgets) (v : Verdict) (e : Evidence) → IsDecided m b v → certificate_of v ≡ Ok e → Means (codes "check" ∷ []) (verdict_text m v) (says (valid_line e))
+evidence_checked m b v e is same =
+    text_checked m b v (valid_line e) is (judged e (valid_line e) is.rank same (valid (IfOk-at_ok (IsValid m) same is.valid) (IfOk-at_ok (Shows m) same is.shows)))
 
 verdict_checked : (m : SignMap) (b : Budgets) (v : Verdict) → IsDecided m b v → (IsLimit v → ⊥) → IsFoundValid (verdict_text m v) v
-verdict_checked m b (Realizable vs) is no_limit = record { line = _; word = refl; means = evidence_checked m b (Realizable vs) (Vectors vs) is refl (verdict_shown m b (Realizable vs) is.verdict) }
-verdict_checked m b (Nonrealizable es) is no_limit = record { line = _; word = refl; means = evidence_checked m b (Nonrealizable es) (Balanced es) is refl (verdict_shown m b (Nonrealizable es) is.verdict) }
-verdict_checked m b (Undecided ws u) is no_limit = record { line = _; word = refl; means = evidence_checked m b (Undecided ws u) (Weights ws) is refl (verdict_shown m b (Undecided ws u) is.verdict) }
+verdict_checked m b (Realizable vs) is no_limit = record { line = _; word = refl; means = evidence_checked m b (Realizable vs) (Vectors vs) is refl }
+verdict_checked m b (Nonrealizable es) is no_limit = record { line = _; word = refl; means = evidence_checked m b (Nonrealizable es) (Balanced es) is refl }
+verdict_checked m b (Undecided ws u) is no_limit = record { line = _; word = refl; means = evidence_checked m b (Undecided ws u) (Weights ws) is refl }
 verdict_checked m b (Limit end u) is no_limit = absurd (no_limit tt)
 
 limit_checked : (m : SignMap) (b : Budgets) (v : Verdict) → IsDecided m b v → IsLimit v → Means (codes "check" ∷ []) (verdict_text m v) (says line.RefusedNocertificate)

@@ -1,9 +1,11 @@
 -- Whether vectors realize the oriented matroid of a document: the verdict on its chirotope, within budgets.
-use Rattle.std.specs.Prelude.{◌≡◌, ◌≢◌}
+use Rattle.std.specs.Prelude.{◌≡◌, ◌≢◌, IfOk}
 use Rattle.om_chirotope.specs.Map.{SignMap}
 use Rattle.om_chirotope.specs.Chirotope.{IsSound}
 use Rattle.om_certificate.specs.declared.verdict.Verdict.{Verdict}
 use Rattle.om_certificate.specs.Forms.{IsVerdictInForm}
+use Rattle.om_certificate.specs.Validity.{IsValid, Shows}
+use Rattle.om_certificate.specs.Verdicts.{certificate_of}
 use Rattle.om_decide.specs.declared.budgets.Budgets.{Budgets}
 use Rattle.om_decide.specs.Verdicts.{IsVerdictOf}
 use Rattle.om_text.specs.declared.document.Document.{Document}
@@ -12,12 +14,15 @@ use Rattle.om_program.specs.declared.answer.Answer.{Answer}
 use Rattle.om_program.specs.Answers.{says, judges}
 use Rattle.om_program.specs.RankThree.{IsForChirotope}
 
--- the verdict on a map of rank 3 by these budgets; the map is a chirotope, and the verdict has the forms and the limits of a claim
+-- the verdict on a map of rank 3 by these budgets; the map is a chirotope, and the verdict has the forms and the limits of a claim; its
+-- vectors realize the map, its certificate shows that no vectors do, and its weights show that there is no certificate
 pub record IsDecided (m : SignMap) (b : Budgets) (v : Verdict) : Type 0 where
   pub rank : m.rank ≡ 3
   pub sound : IsSound m
   pub verdict : IsVerdictOf m b v
   pub form : IsVerdictInForm v
+  pub valid : IfOk (certificate_of v) (IsValid m)
+  pub shows : IfOk (certificate_of v) (Shows m)
 
 -- what the decision of a map comes to
 pub data DecisionMeans (b : Budgets) (m : SignMap) : Answer → Type 0 where
