@@ -3,19 +3,12 @@
 -- Main results: paintings_determined_of_map, hulls_determined, lexical_extensions_determined_of_map.
 -- Reference: Björner, Las Vergnas, Sturmfels, White and Ziegler, Oriented Matroids, chapters 3 and 7.
 use Rattle.std.specs.Prelude.{ℕ, ◌≡◌, ◌+◌, List, [], ◌∷◌, length, refl}
-use Rattle.std.specs.Ordering.{ordering_reverse}
-use Rattle.std.specs.declared.cmp.Ordering.{Ordering}
-use Rattle.std.specs.declared.cmp.Ordering.TheVariants.{Less, Equal, Greater}
 use Rattle.std.proofs.Common.{sym, ◌∙◌, ap, subst, arith}
-use Rattle.om_signs.specs.declared.sign.Sign.{Sign}
-use Rattle.om_signs.specs.Order.{lexicographic}
-use Rattle.om_signs.specs.OrderLaws.{lexicographic-total, same_from_order}
-use Rattle.om_laws.specs.Colours.{Colour}
 use Rattle.om_chirotope.specs.Map.{SignMap, IsMap}
 use Rattle.om_paint.specs.declared.painted.Painted.{Painted}
-use Rattle.om_paint.specs.declared.painted.Painted.TheVariants.{Circuit, Cocircuit}
 use Rattle.om_paint.specs.Hulls.{green_alone, EachItem}
-use Rattle.om_paint.specs.Paintings.{colouring, IsFirst, IsPaintingOf}
+use Rattle.om_paint.specs.Paintings.{colouring, IsPaintingOf}
+use Rattle.om_paint.proofs.OnePainting.{one_first, one_painting}
 use Rattle.om_lexext.specs.declared.signed.Signed.{Signed}
 use Rattle.om_lexext.proofs.Extensions.{same_extensions}
 use Rattle.om_text.specs.declared.document.Document.{Document}
@@ -30,22 +23,7 @@ use Rattle.om_words.specs.declared.colouring.Colouring.{Colouring}
 use Rattle.om_representation.specs.Documents.{map_document}
 use Rattle.om_program.proofs.Alike.{alike, both_say}
 
--- ---- first members
-
-one_first : (P : List Sign → Type 0) (X Y : List Sign) → IsFirst P X → IsFirst P Y → X ≡ Y
-one_first P X Y h k = by_order (lexicographic X Y) refl
-  where
-    by_order : (o : Ordering) → lexicographic X Y ≡ o → X ≡ Y
-    by_order Less e = absurd (k.first X h.member e)
-    by_order Equal e = same_from_order X Y e
-    by_order Greater e = absurd (h.first Y k.member (lexicographic-total.antisymm Y X ∙ ap ordering_reverse e))
-
-module _ (m : SignMap) (colour : ℕ → Colour) (e : ℕ) where
-  one_painting : (x y : Painted) → IsPaintingOf m colour e x → IsPaintingOf m colour e y → x ≡ y
-  one_painting (Circuit X) (Circuit Y) h k = ap Circuit (one_first _ X Y h k)
-  one_painting (Circuit X) (Cocircuit Y) h k = absurd (k.0 X h.member)
-  one_painting (Cocircuit X) (Circuit Y) h k = absurd (h.0 Y k.member)
-  one_painting (Cocircuit X) (Cocircuit Y) h k = ap Cocircuit (one_first _ X Y h.1 k.1)
+-- ---- paintings
 
 pub paintings_determined_of_map : (c : Colouring) (m : SignMap) → IsDetermined (IsPaintingOfMap c m)
 paintings_determined_of_map c m a b (painted x h) (painted y k) = both_say (painted_line x) (painted_line y) (ap painted_line (one_painting m (colouring (given_colours c)) c.e x y h k))

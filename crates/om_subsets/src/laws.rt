@@ -11,9 +11,11 @@ pub fn increasing_lists()
     ensures { (n : ℕ) (xs : List ℕ) → IsSubsetFrom 1 n xs ↔ (IsIncreasing xs × IsWithin 1 n xs) }
 {}
 
-/// There are as many increasing lists of r of the numbers 1 to n as there are ways to take r of n.
+/// There are as many increasing lists of r of the numbers 1 to n as there are ways to take r of n; where r is above n there
+/// are none.
 pub fn number_of_subsets()
-    ensures { (n r : ℕ) → length (all_subsets n r) ≡ choose n r }
+    ensures all { (n r : ℕ) → length (all_subsets n r) ≡ choose n r }
+    ensures none { (n r : ℕ) → n < r → choose n r ≡ 0 }
 {}
 
 /// Each subset stands at its place among those of its size, and at each place stands a subset that has this place: so
