@@ -16,3 +16,4 @@ pub mod Rows
 pub mod SignChecks
 pub mod FirstRow
 pub mod BlockLaws
+pub mod PairCounts

@@ -1,10 +1,10 @@
 //! What the words of the crate's contracts come to. A law is a function that does nothing: its contract is the law.
 
-ghost use Rattle.std.specs.Prelude.{ℕ, ◌≡◌, ◌+◌, ◌<◌, ◌≤◌, ◌↔◌, List, [], ◌∷◌, ◌++◌, length, slice_index};
+ghost use Rattle.std.specs.Prelude.{ℕ, ◌≡◌, ◌+◌, ◌-◌, ◌*◌, ◌<◌, ◌≤◌, ◌↔◌, List, [], ◌∷◌, ◌++◌, length, slice_index};
 ghost use Rattle.std.specs.List.{remove};
 ghost use Rattle.om_signs.specs.Sign.{product};
 ghost use Rattle.om_signs.specs.SignVec.{at_element};
-ghost use Rattle.om_subsets.specs.Subsets.{IsSubsetFrom, IsMember};
+ghost use Rattle.om_subsets.specs.Subsets.{choose, IsSubsetFrom, IsMember};
 ghost use Rattle.om_chirotope.specs.Map.{SignMap, IsMap, chi_of, value_of, circuit_vector, cocircuit_vector, parity_sign};
 ghost use Rattle.om_chirotope.specs.Chirotope.{IsChirotope};
 ghost use Rattle.om_chirotope.specs.ThreeTerm.{MeetsThreeTermTest};
@@ -12,7 +12,7 @@ ghost use Rattle.om_laws.specs.Chirotope as theory;
 ghost use Rattle.om_laws.specs.Chirotope.{elements_to};
 ghost use Rattle.om_laws.specs.Sorting.{on_tuples};
 
-use om_signs::Sign;
+use om_signs::{MAX_ELEMENTS, MAX_VALUES, Sign};
 
 /// The vector V of an increasing list S has at the i-th element of S, counted from 1, the value of S without this element
 /// times (-1) to the power i, and 0 off S. The vector U of an increasing list A has at e the value of A with e behind it.
@@ -37,4 +37,12 @@ pub fn axioms_and_relations()
 /// Source: Björner, Las Vergnas, Sturmfels, White and Ziegler, *Oriented Matroids*, chapter 3.
 pub fn three_term_test()
     ensures { (m : SignMap) → MeetsThreeTermTest m ↔ IsChirotope m }
+{}
+
+/// No map with as few values as may be read has more pairs of a set S and a set A than those of rank 8 on 16 elements, which
+/// have 130,873,600.
+pub fn most_pairs()
+    ensures most { (n r : ℕ) → n ≤ MAX_ELEMENTS → 1 ≤ r → choose n r ≤ MAX_VALUES → choose n (r + 1) * choose n (r - 1) ≤ 130873600 }
+    ensures values { choose 16 8 ≡ MAX_VALUES }
+    ensures reached { choose 16 (8 + 1) * choose 16 (8 - 1) ≡ 130873600 }
 {}

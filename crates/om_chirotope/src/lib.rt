@@ -18,7 +18,7 @@ mod walking;
 pub use bad_map::BadMap;
 pub use checking::check;
 pub use chirotope::Chirotope;
-pub use laws::{axioms_and_relations, three_term_test, vectors_of_a_map};
+pub use laws::{axioms_and_relations, most_pairs, three_term_test, vectors_of_a_map};
 pub use map_refused::MapRefused;
 pub use scan::violated;
 pub use three_terms::{are_balanced, has_exchange, has_three_term_relations};

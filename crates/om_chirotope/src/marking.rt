@@ -21,6 +21,12 @@ const PLACE_BITS: u8 = 6;
 /// The words for the sets of [`MAX_ELEMENTS`] elements.
 pub const WORDS: usize = 1 << (MAX_ELEMENTS - PLACE_BITS);
 
+/// The most elements whose sets have their marks in a small table.
+pub const FEW_ELEMENTS: u8 = 16;
+
+/// The words for the sets of [`FEW_ELEMENTS`] elements.
+pub const FEW_WORDS: usize = 1 << (FEW_ELEMENTS - PLACE_BITS);
+
 /// The words for the sets of [`MAX_PLACES`] elements.
 pub const MOST_WORDS: usize = 1 << (MAX_PLACES - PLACE_BITS);
 
@@ -38,7 +44,8 @@ const LOW: [u64; PLACE_BITS as usize] = [
 pub fn number_of_words(elements: u8) -> usize
     requires { elements ≤ MAX_PLACES }
     ensures room { 2 ^ elements ≤ WORD_BITS * result }
-    ensures few { elements ≤ MAX_ELEMENTS → result ≤ WORDS }
+    ensures few { elements ≤ FEW_ELEMENTS → result ≤ FEW_WORDS }
+    ensures many { elements ≤ MAX_ELEMENTS → result ≤ WORDS }
     ensures most { result ≤ MOST_WORDS }
 {
     ((1usize << elements) + WORD_BITS - 1) / WORD_BITS

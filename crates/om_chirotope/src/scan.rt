@@ -42,12 +42,28 @@ pub fn violated(raw: &RawMap) -> Option<(Subset, Subset)>
         return scan_each(raw);
     }
     if count > FEW {
-        let mut table = [SignVec::zero(raw.elements); ROOM];
-        let cocircuits = &mut table[..count];
-        return violated_by(raw, cocircuits);
+        return violated_with_room(raw);
     }
     let mut few = [SignVec::zero(raw.elements); FEW];
     let cocircuits = &mut few[..count];
+    violated_by(raw, cocircuits)
+}
+
+/// The same, by a table that has room for the vectors U of each map that is read. It is no part of its caller, so that small maps
+/// don't pay for this table.
+#[inline(never)]
+fn violated_with_room(raw: &RawMap) -> Option<(Subset, Subset)>
+    requires low { 1 ≤ raw.now.elements }
+    requires high { raw.now.elements ≤ MAX_PLACES }
+    requires rank_low { 1 ≤ raw.now.rank }
+    requires rank_high { raw.now.rank < raw.now.elements }
+    requires whole { length raw.now.signs ≡ choose raw.now.elements raw.now.rank }
+    requires fits { choose raw.now.elements (raw.now.rank - 1) ≤ ROOM }
+    ensures none { IsNone result ↔ HasOrthogonalPairs (map_of raw.now) }
+    ensures first { IfSome result (λ p. IsFirstViolated (map_of raw.now) p.0 p.1) }
+{
+    let mut table = [SignVec::zero(raw.elements); ROOM];
+    let cocircuits = &mut table[..Subset::choose(raw.elements, raw.rank - 1) as usize];
     violated_by(raw, cocircuits)
 }
 
@@ -90,12 +106,30 @@ pub fn violated_on_threads<R: Threads + Sync>(rt: &R, raw: &RawMap) -> Option<(S
         return scan_each(raw);
     }
     if count > FEW {
-        let mut table = [SignVec::zero(raw.elements); ROOM];
-        let cocircuits = &mut table[..count];
-        return violated_by_threads(rt, raw, cocircuits);
+        return violated_with_room_on_threads(rt, raw);
     }
     let mut few = [SignVec::zero(raw.elements); FEW];
     let cocircuits = &mut few[..count];
+    violated_by_threads(rt, raw, cocircuits)
+}
+
+/// The same, by a table that has room for the vectors U of each map that is read, and no part of its caller either.
+#[inline(never)]
+fn violated_with_room_on_threads<R: Threads + Sync>(
+    rt: &R,
+    raw: &RawMap,
+) -> Option<(Subset, Subset)>
+    requires low { 1 ≤ raw.now.elements }
+    requires high { raw.now.elements ≤ MAX_PLACES }
+    requires rank_low { 1 ≤ raw.now.rank }
+    requires rank_high { raw.now.rank < raw.now.elements }
+    requires whole { length raw.now.signs ≡ choose raw.now.elements raw.now.rank }
+    requires fits { choose raw.now.elements (raw.now.rank - 1) ≤ ROOM }
+    ensures none { IsNone result ↔ HasOrthogonalPairs (map_of raw.now) }
+    ensures first { IfSome result (λ p. IsFirstViolated (map_of raw.now) p.0 p.1) }
+{
+    let mut table = [SignVec::zero(raw.elements); ROOM];
+    let cocircuits = &mut table[..Subset::choose(raw.elements, raw.rank - 1) as usize];
     violated_by_threads(rt, raw, cocircuits)
 }
 

@@ -13,13 +13,19 @@ ghost use Rattle.om_chirotope.specs.Blocks.{HasViolatedPair, IsInBlock};
 
 use super::scan::first_not_orthogonal;
 use super::vectors::circuit_of;
-use om_parallel::{Probe, first_bad};
+use om_parallel::{Probe, first_bad_by_cost};
 use om_signs::{MAX_PLACES, RawMap, SignVec};
 use om_subsets::{MOST_SUBSETS, Subset};
 use std::thread::Threads;
 
 /// How many vectors U one call looks at.
 pub const BLOCK: usize = 1_024;
+
+/// How long it takes to make the vector V of a set, in nanoseconds.
+const VECTOR: u64 = 300;
+
+/// How long it takes to test a pair of vectors, in nanoseconds.
+const PAIR: u64 = 3;
 
 /// The pairs of a map, numbered by S and then by blocks of sets A: a number is bad where the vector V of its set S isn't
 /// orthogonal to the vector U of some set of its block.
@@ -105,7 +111,8 @@ pub fn scan_on_threads<R: Threads + Sync>(
         blocks,
     };
     let sets = Subset::choose(raw.elements, raw.rank + 1);
-    match first_bad(rt, &probe, u64::from(sets) * blocks) {
+    let cost = VECTOR + cocircuits.len().min(BLOCK) as u64 * PAIR;
+    match first_bad_by_cost(rt, &probe, u64::from(sets) * blocks, cost) {
         None => None,
         Some(k) => pair_of(raw, cocircuits, blocks, k),
     }

@@ -1,19 +1,22 @@
 //! The three-term test: a quick way to see that all pairs of sign vectors are orthogonal.
 
-ghost use Rattle.std.specs.Prelude.{ℕ, List, ◌≡◌, ◌≢◌, ◌+◌, ◌-◌, ◌<◌, ◌≤◌, ◌^◌, ◌↔◌, ◌∷◌, ◌++◌, length, replicate, take, IsTrue, []};
+ghost use Rattle.std.specs.Prelude.{ℕ, List, ◌≡◌, ◌≢◌, ◌+◌, ◌-◌, ◌*◌, ◌<◌, ◌≤◌, ◌^◌, ◌↔◌, ◌∷◌, ◌++◌, length, replicate, take, IsTrue, []};
 ghost use Rattle.std.specs.Int.{bit_at};
 ghost use Rattle.std.proofs.Math.ListN.{get_or};
 ghost use Rattle.om_signs.specs.Sign.{opposite, product};
 ghost use Rattle.om_signs.specs.SignVec.{at, at_element, IsMaskOf};
 ghost use Rattle.om_subsets.specs.Subsets.{choose, rank_of, IsMember, IsSubsetFrom, with_element};
 ghost use Rattle.om_laws.specs.ThreeTerm.{AreBalanced};
+ghost use Rattle.om_chirotope.specs.declared.marking.TheConstants.{WORD_BITS};
 ghost use Rattle.om_chirotope.specs.Map.{map_of, cocircuit_vector, cocircuit_vectors};
 ghost use Rattle.om_chirotope.specs.Chirotope.{HasOrthogonalPairs};
 ghost use Rattle.om_chirotope.specs.ThreeTerm.{HasExchange, HasListExchange, HasThreeTermRelations};
 ghost use Rattle.om_chirotope.specs.Pictures.{AreLong, AreMarkedAbove, AreRowsBelow, HasRelationsAt, IsLive, IsMet, IsTriple};
 
 use super::cocircuit_table::{FEW, ROOM, cocircuit_at, fill};
-use super::marking::{MOST_WORDS, WORDS, is_marked, mark_sets, number_of_words};
+use super::marking::{
+    FEW_ELEMENTS, FEW_WORDS, MOST_WORDS, WORDS, is_marked, mark_sets, number_of_words,
+};
 use super::vectors::cocircuit_of;
 use super::walking::places_with;
 use om_signs::{MAX_ELEMENTS, MAX_PLACES, RawMap, Sign, SignVec};
@@ -54,8 +57,50 @@ pub fn has_exchange(raw: &RawMap) -> bool
     if raw.rank == 0 {
         return true;
     }
+    has_exchange_of_lists(raw)
+}
+
+/// The same, by lists, for a rank above 0.
+fn has_exchange_of_lists(raw: &RawMap) -> bool
+    requires low { 1 ≤ raw.now.elements }
+    requires high { raw.now.elements ≤ MAX_PLACES }
+    requires rank_low { 1 ≤ raw.now.rank }
+    requires rank_high { raw.now.rank ≤ raw.now.elements }
+    requires whole { length raw.now.signs ≡ choose raw.now.elements raw.now.rank }
+    ensures { IsTrue result ↔ HasListExchange (map_of raw.now) }
+{
+    if raw.elements > FEW_ELEMENTS {
+        return has_exchange_with_room(raw);
+    }
+    let mut few = [0u64; FEW_WORDS];
+    has_exchange_by(raw, &mut few[..number_of_words(raw.elements)])
+}
+
+/// The same, by a table that has room for the marks of the sets of any number of elements. It is no part of its caller, so that
+/// small maps don't pay for this table.
+#[inline(never)]
+fn has_exchange_with_room(raw: &RawMap) -> bool
+    requires low { 1 ≤ raw.now.elements }
+    requires high { raw.now.elements ≤ MAX_PLACES }
+    requires rank_low { 1 ≤ raw.now.rank }
+    requires rank_high { raw.now.rank ≤ raw.now.elements }
+    requires whole { length raw.now.signs ≡ choose raw.now.elements raw.now.rank }
+    ensures { IsTrue result ↔ HasListExchange (map_of raw.now) }
+{
     let mut table = [0u64; MOST_WORDS];
-    let marks = &mut table[..number_of_words(raw.elements)];
+    has_exchange_by(raw, &mut table[..number_of_words(raw.elements)])
+}
+
+/// The same, by a table for the marks of the sets.
+fn has_exchange_by(raw: &RawMap, marks: &mut [u64]) -> bool
+    requires low { 1 ≤ raw.now.elements }
+    requires high { raw.now.elements ≤ MAX_PLACES }
+    requires rank_low { 1 ≤ raw.now.rank }
+    requires rank_high { raw.now.rank ≤ raw.now.elements }
+    requires whole { length raw.now.signs ≡ choose raw.now.elements raw.now.rank }
+    requires room { 2 ^ raw.now.elements ≤ WORD_BITS * length marks.old }
+    ensures { IsTrue result ↔ HasListExchange (map_of raw.now) }
+{
     mark_sets(raw, marks);
     each_vector_is_met(raw, marks)
 }
@@ -91,8 +136,39 @@ fn has_list_exchange(raw: &RawMap, cocircuits: &[SignVec]) -> bool
     requires filled { cocircuits.now ≡ cocircuit_vectors (map_of raw.now) }
     ensures { IsTrue result ↔ HasListExchange (map_of raw.now) }
 {
+    if raw.elements > FEW_ELEMENTS {
+        return has_list_exchange_with_room(raw, cocircuits);
+    }
+    let mut few = [0u64; FEW_WORDS];
+    has_list_exchange_by(raw, cocircuits, &mut few[..number_of_words(raw.elements)])
+}
+
+/// The same, by a table that has room for the marks of the sets of [`MAX_ELEMENTS`] elements, and no part of its caller either.
+#[inline(never)]
+fn has_list_exchange_with_room(raw: &RawMap, cocircuits: &[SignVec]) -> bool
+    requires low { 1 ≤ raw.now.elements }
+    requires high { raw.now.elements ≤ MAX_ELEMENTS }
+    requires rank_low { 1 ≤ raw.now.rank }
+    requires rank_high { raw.now.rank ≤ raw.now.elements }
+    requires whole { length raw.now.signs ≡ choose raw.now.elements raw.now.rank }
+    requires filled { cocircuits.now ≡ cocircuit_vectors (map_of raw.now) }
+    ensures { IsTrue result ↔ HasListExchange (map_of raw.now) }
+{
     let mut table = [0u64; WORDS];
-    let marks = &mut table[..number_of_words(raw.elements)];
+    has_list_exchange_by(raw, cocircuits, &mut table[..number_of_words(raw.elements)])
+}
+
+/// The same, by a table for the marks of the sets.
+fn has_list_exchange_by(raw: &RawMap, cocircuits: &[SignVec], marks: &mut [u64]) -> bool
+    requires low { 1 ≤ raw.now.elements }
+    requires high { raw.now.elements ≤ MAX_PLACES }
+    requires rank_low { 1 ≤ raw.now.rank }
+    requires rank_high { raw.now.rank ≤ raw.now.elements }
+    requires whole { length raw.now.signs ≡ choose raw.now.elements raw.now.rank }
+    requires filled { cocircuits.now ≡ cocircuit_vectors (map_of raw.now) }
+    requires room { 2 ^ raw.now.elements ≤ WORD_BITS * length marks.old }
+    ensures { IsTrue result ↔ HasListExchange (map_of raw.now) }
+{
     mark_sets(raw, marks);
     each_basis_meets_each(raw, cocircuits, marks)
 }
@@ -155,12 +231,27 @@ pub fn has_three_term_relations(raw: &RawMap) -> bool
         return has_relations(raw, &[]);
     }
     if count > FEW {
-        let mut table = [SignVec::zero(raw.elements); ROOM];
-        let cocircuits = &mut table[..count];
-        return has_relations_by(raw, cocircuits);
+        return has_relations_with_room(raw);
     }
     let mut few = [SignVec::zero(raw.elements); FEW];
     let cocircuits = &mut few[..count];
+    has_relations_by(raw, cocircuits)
+}
+
+/// The same, by a table that has room for the vectors U of each map that is read. It is no part of its caller, so that small maps
+/// don't pay for this table.
+#[inline(never)]
+fn has_relations_with_room(raw: &RawMap) -> bool
+    requires low { 1 ≤ raw.now.elements }
+    requires high { raw.now.elements ≤ MAX_PLACES }
+    requires rank_low { 1 ≤ raw.now.rank }
+    requires rank_high { raw.now.rank ≤ raw.now.elements }
+    requires whole { length raw.now.signs ≡ choose raw.now.elements raw.now.rank }
+    requires fits { choose raw.now.elements (raw.now.rank - 1) ≤ ROOM }
+    ensures { IsTrue result ↔ HasThreeTermRelations (map_of raw.now) }
+{
+    let mut table = [SignVec::zero(raw.elements); ROOM];
+    let cocircuits = &mut table[..Subset::choose(raw.elements, raw.rank - 1) as usize];
     has_relations_by(raw, cocircuits)
 }
 

@@ -26,7 +26,8 @@ has_signs X Y Z s n = each_place (length Z + 1) (λ f. at_element Z f ≡ s → 
     (λ f. decided_if _ _ (same_sign (at_element Z f) s) (decided_either _ _ (same_sign (at_element X f) s) (same_sign (at_element Y f) s)))
     (λ f ge p. absurd (n (sym p ∙ past Z f ge)))
 
-eliminates : (X Y : List Sign) (e : ℕ) (Z : List Sign) → IsDecided (Eliminates X Y e Z)
+-- whether Z eliminates e from X and Y is decided
+pub eliminates : (X Y : List Sign) (e : ℕ) (Z : List Sign) → IsDecided (Eliminates X Y e Z)
 eliminates X Y e Z = decided_same _ _
     (λ h. record { zero = h.0; plus = h.1.0; minus = h.1.1 })
     (λ h. (h.zero, (h.plus, h.minus)))

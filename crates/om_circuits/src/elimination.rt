@@ -1,13 +1,13 @@
 //! The axiom of elimination.
 
 ghost use Rattle.std.specs.Prelude.{◌↔◌, ◌+◌, ◌≤◌, ◌<◌, length, IsTrue, IfSome, IfNone};
-ghost use Rattle.om_signs.specs.declared.limits.TheConstants.{MAX_ELEMENTS};
+ghost use Rattle.om_signs.specs.declared.limits.TheConstants.{MAX_ELEMENTS, MAX_MEMBERS};
 ghost use Rattle.om_circuits.specs.Instances.{HasNoEliminator};
 ghost use Rattle.om_members.specs.Scans.{AllBelow, IsFirstBad};
 ghost use Rattle.om_circuits.specs.Scans.{IsWithin, HasWithin, HasEliminatorIfAsked, IsUnblocked, IsUnblockedAt, IsFirstBlockedWith, IsFirstBlocked};
 
 use om_members::are_same;
-use om_parallel::{Probe, first_bad};
+use om_parallel::{Probe, first_bad_by_cost};
 use om_signs::SignVec;
 use std::thread::Threads;
 
@@ -90,18 +90,20 @@ impl Probe for BlockedMembers<'_> {
 }
 
 /// The places of the first two members from which some element can't be eliminated, and the element. The first members are
-/// shared out among threads.
+/// shared out among threads, where the list is so long that threads pay: for each second member, each member is looked at.
 pub fn first_blocked<R: Threads + Sync>(
     rt: &R,
     members: &[SignVec],
     elements: u8,
 ) -> Option<(usize, usize, u8)>
-    requires { elements ≤ MAX_ELEMENTS }
+    requires high { elements ≤ MAX_ELEMENTS }
+    requires few { length members.now ≤ MAX_MEMBERS }
     ensures none { IfNone result (AllBelow (length members.now) (IsUnblockedAt members.now elements)) }
     ensures first { IfSome result (λ t. IsFirstBlocked members.now elements t.0 t.1 t.2) }
 {
     let blocked = BlockedMembers { members, elements };
-    let i = first_bad(rt, &blocked, members.len() as u64)? as usize;
+    let count = members.len() as u64;
+    let i = first_bad_by_cost(rt, &blocked, count, count * count)? as usize;
     let (j, e) = first_blocked_with(members, elements, members[i])?;
     Some((i, j, e))
 }

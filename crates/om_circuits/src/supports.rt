@@ -6,7 +6,7 @@ ghost use Rattle.om_members.specs.Scans.{AllBelow, IsFirstBad, IsFirstBadPair, n
 ghost use Rattle.om_circuits.specs.Scans.{IsZeroAt, IsNotZeroAt, IsUnnestedIn, AreNestedAt, AreUnnestedAt};
 
 use om_members::{are_same, is_zero};
-use om_parallel::{Probe, first_bad};
+use om_parallel::{Probe, first_bad_by_cost};
 use om_signs::SignVec;
 use std::thread::Threads;
 
@@ -65,13 +65,14 @@ impl Probe for NestedMembers<'_> {
 }
 
 /// The places of the first two members of which the first is nested in the second. The first members are shared out among
-/// threads.
+/// threads, where the list is so long that threads pay.
 pub fn first_nested<R: Threads + Sync>(rt: &R, members: &[SignVec]) -> Option<(usize, usize)>
     ensures none { IfNone result (AllBelow (length members.now) (λ i. AllBelow (length members.now) (AreUnnestedAt members.now i))) }
     ensures first { IfSome result (λ p. IsFirstBadPair (length members.now) (length members.now) (AreNestedAt members.now) (AreUnnestedAt members.now) p.0 p.1) }
 {
     let nested = NestedMembers { members };
-    let i = first_bad(rt, &nested, members.len() as u64)? as usize;
+    let count = members.len() as u64;
+    let i = first_bad_by_cost(rt, &nested, count, count)? as usize;
     let j = first_nested_with(members, members[i])?;
     Some((i, j))
 }

@@ -24,12 +24,12 @@ pub record IsBadCov (members : List (List Sign)) (bad : BadCov) : Type 0 where
   pub first : IsFirstViolatedCovectorAxiom members bad.why
   pub violated : MeetsCovectorAxioms members → ⊥
 
--- why a list is not accepted as circuits or as cocircuits
+-- why a list is not accepted as circuits or as cocircuits; never for want of memory
 abbrev pub IsSetReadError : List (List Sign) → ReadSetError → Type 0
 IsSetReadError members (sets.Bad bad) = IsBadSet members bad
-IsSetReadError members (sets.Memory list) = list ≡ members
+IsSetReadError members (sets.Memory list) = ⊥
 
--- why a list is not accepted as covectors
+-- why a list is not accepted as covectors; never for want of memory
 abbrev pub IsCovReadError : List (List Sign) → ReadCovError → Type 0
 IsCovReadError members (covectors.Bad bad) = IsBadCov members bad
-IsCovReadError members (covectors.Memory list) = list ≡ members
+IsCovReadError members (covectors.Memory list) = ⊥

@@ -9,7 +9,7 @@ use om_signs::{List, SignVec};
 pub enum ReadSetError {
     /// The list fails the axioms of circuits: it comes back, with the first violated instance.
     Bad(BadSet),
-    /// Want of memory: the list comes back.
+    /// Want of memory: the list comes back. It never comes, since the scan of the axioms takes no memory.
     Memory(List<SignVec>),
 }
 
@@ -18,6 +18,6 @@ pub enum ReadSetError {
 pub enum ReadCovError {
     /// The list fails the axioms of covectors: it comes back, with the first violated instance.
     Bad(BadCov),
-    /// Want of memory: the list comes back.
+    /// Want of memory: the list comes back. It never comes, since the scan of the axioms takes no memory.
     Memory(List<SignVec>),
 }

@@ -1,7 +1,7 @@
 //! Lists that are accepted by way of a chirotope.
 //!
 //! A map is proposed from the list, if that is quicker than a scan. Where it is a chirotope, and what is made of it has the members of the list and no others, the
-//! list meets the axioms. Else nothing is known, and the scan of the axioms decides.
+//! list meets the axioms. Else nothing is known, also where memory is wanting for the proposal, and the scan of the axioms, which takes none, decides.
 
 ghost use Rattle.std.specs.Prelude.{◌≡◌, ◌≤◌, length, IsTrue, IfOk, IfErr, IfSome, OnOk};
 ghost use Rattle.om_circuits.specs.Axioms.{MeetsCircuitAxioms};
@@ -26,7 +26,7 @@ use std::thread::Threads;
 /// [`MAX_ELEMENTS`], if they meet the axioms of circuits; else the list, unchanged, and the first violated instance, as
 /// [`om_circuits::check`] gives it. Members stay in their order.
 ///
-/// [`ReadSetError::Memory`] comes only for want of memory, and hands the list back.
+/// [`ReadSetError::Memory`] never comes: where memory is wanting for the quicker way, the scan decides, which takes none.
 ///
 /// Source: Björner, Las Vergnas, Sturmfels, White and Ziegler, *Oriented Matroids*, chapter 3.
 pub fn read_circuits<R: Threads + Sync>(
@@ -53,7 +53,7 @@ pub fn read_circuits<R: Threads + Sync>(
 /// to [`MAX_ELEMENTS`], if they meet the axioms of circuits, which are those of cocircuits; else the list, unchanged, and
 /// the first violated instance, as [`om_circuits::check`] gives it. Members stay in their order.
 ///
-/// [`ReadSetError::Memory`] comes only for want of memory, and hands the list back.
+/// [`ReadSetError::Memory`] never comes: where memory is wanting for the quicker way, the scan decides, which takes none.
 ///
 /// Source: Björner, Las Vergnas, Sturmfels, White and Ziegler, *Oriented Matroids*, chapter 3.
 pub fn read_cocircuits<R: Threads + Sync>(
@@ -80,7 +80,7 @@ pub fn read_cocircuits<R: Threads + Sync>(
 /// to [`MAX_ELEMENTS`], if they meet the axioms of covectors; else the list, unchanged, and the first violated instance, as
 /// [`om_covectors::check`] gives it. Members stay in their order.
 ///
-/// [`ReadCovError::Memory`] comes only for want of memory, and hands the list back.
+/// [`ReadCovError::Memory`] never comes: where memory is wanting for the quicker way, the scan decides, which takes none.
 ///
 /// Source: Björner, Las Vergnas, Sturmfels, White and Ziegler, *Oriented Matroids*, chapter 4.
 pub fn read_covectors<R: Threads + Sync>(
@@ -100,9 +100,8 @@ pub fn read_covectors<R: Threads + Sync>(
     ensures refused { IfErr result (IsCovReadError list) }
 {
     match are_covectors_of_proposal(rt, alloc, elements, list.as_slice()) {
-        Err(NoMemory) => Err(ReadCovError::Memory(list)),
         Ok(true) => Ok(Covectors::lawful(elements, list)),
-        Ok(false) => match om_covectors::check(rt, elements, list) {
+        _ => match om_covectors::check(rt, elements, list) {
             Ok(covectors) => Ok(covectors),
             Err(bad) => Err(ReadCovError::Bad(bad)),
         },
@@ -127,9 +126,8 @@ fn read_set<R: Threads + Sync>(
     ensures refused { IfErr result (IsSetReadError list) }
 {
     match are_cocircuits_of_proposal(rt, alloc, elements, list.as_slice()) {
-        Err(NoMemory) => Err(ReadSetError::Memory(list)),
         Ok(true) => Ok(SignedSet::lawful(elements, list)),
-        Ok(false) => match om_circuits::check(rt, elements, list) {
+        _ => match om_circuits::check(rt, elements, list) {
             Ok(set) => Ok(set),
             Err(bad) => Err(ReadSetError::Bad(bad)),
         },

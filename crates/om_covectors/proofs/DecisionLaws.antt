@@ -19,7 +19,8 @@ use Rattle.om_covectors.specs.Scans.{HasCompositionWith, HasNoCompositionWith, H
 past : (Z : List Sign) (f : ℕ) → length Z + 1 ≤ f → at_element Z f ≡ Zero
 past Z f ge = get_or_past Z (f - 1) Zero (omega arith)
 
-eliminates : (X Y : List Sign) (e : ℕ) (Z : List Sign) → IsDecided (EliminatesFromComposition X Y e Z)
+-- whether Z eliminates e from the composition of X and Y is decided
+pub eliminates : (X Y : List Sign) (e : ℕ) (Z : List Sign) → IsDecided (EliminatesFromComposition X Y e Z)
 eliminates X Y e Z = decided_same _ _
     (λ h. record { zero = h.0; outside = h.1 })
     (λ h. (h.zero, h.outside))

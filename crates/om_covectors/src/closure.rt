@@ -1,13 +1,14 @@
 //! The axioms on zero and on compositions.
 
-ghost use Rattle.std.specs.Prelude.{◌↔◌, length, IsTrue, IfSome, IfNone};
+ghost use Rattle.std.specs.Prelude.{◌↔◌, ◌≤◌, length, IsTrue, IfSome, IfNone};
+ghost use Rattle.om_signs.specs.declared.limits.TheConstants.{MAX_MEMBERS};
 ghost use Rattle.om_covectors.specs.Axioms.{HasZero};
 ghost use Rattle.om_members.specs.Listings.{HaveLength};
 ghost use Rattle.om_members.specs.Scans.{AllBelow, IsFirstBad, IsFirstBadPair};
 ghost use Rattle.om_covectors.specs.Scans.{HasCompositionWith, HasNoCompositionWith, HasCompositionAt, HasNoCompositionAt};
 
 use om_members::{is_member, is_zero};
-use om_parallel::{Probe, first_bad};
+use om_parallel::{Probe, first_bad_by_cost};
 use om_signs::SignVec;
 use std::thread::Threads;
 
@@ -60,18 +61,21 @@ impl Probe for UncomposedMembers<'_> {
     }
 }
 
-/// The places of the first two members whose composition is no member. The first members are shared out among threads.
+/// The places of the first two members whose composition is no member. The first members are shared out among threads,
+/// where the list is so long that threads pay: for each second member, each member is looked at.
 pub fn first_uncomposed<R: Threads + Sync>(
     rt: &R,
     members: &[SignVec],
     elements: u8,
 ) -> Option<(usize, usize)>
-    requires { HaveLength elements members.now }
+    requires lengths { HaveLength elements members.now }
+    requires few { length members.now ≤ MAX_MEMBERS }
     ensures none { IfNone result (AllBelow (length members.now) (λ i. AllBelow (length members.now) (HasCompositionAt members.now i))) }
     ensures first { IfSome result (λ p. IsFirstBadPair (length members.now) (length members.now) (HasNoCompositionAt members.now) (HasCompositionAt members.now) p.0 p.1) }
 {
     let uncomposed = UncomposedMembers { members, elements };
-    let i = first_bad(rt, &uncomposed, members.len() as u64)? as usize;
+    let count = members.len() as u64;
+    let i = first_bad_by_cost(rt, &uncomposed, count, count * count)? as usize;
     let j = first_uncomposed_with(members, members[i])?;
     Some((i, j))
 }

@@ -1,6 +1,6 @@
 -- Lists whose chirotope has more values than a document may hold.
 --
--- Main results: a map of rank 3, of a dual and of a minor has few values (few_triples, few_of_rank3, few_dual, few_deleted, few_contracted), as the chirotope of a document
+-- Main results: a map of rank 3, of a dual and of a minor has few values (few_of_rank3, few_dual, few_deleted, few_contracted), as the chirotope of a document
 -- that is kept has (few_chosen), and a map that is worked on (few_worked_on); a document is kept where a call says so (kept_circuits, kept_cocircuits, kept_covectors), and it is too wide, of a rank other than 3, where
 -- a call says that (wide_circuits, wide_cocircuits, wide_covectors).
 use Rattle.std.specs.Prelude.{ℕ, ◌≡◌, ◌≢◌, ◌<◌, ◌≤◌, ◌+◌, List, length, Result, Ok, Err, IfOk}
@@ -10,7 +10,7 @@ use Rattle.std.proofs.lemmas.Bool.{cases_lt}
 use Rattle.om_signs.specs.declared.limits.TheConstants.{MAX_ELEMENTS, MAX_VALUES}
 use Rattle.om_signs.specs.declared.sign.Sign.{Sign}
 use Rattle.om_subsets.specs.Subsets.{choose}
-use Rattle.om_subsets.proofs.Counts.{choose_none, choose_more, choose_grows}
+use Rattle.om_subsets.proofs.Counts.{choose_none, choose_more}
 use Rattle.om_subsets.proofs.LastSets.{choose_all}
 use Rattle.om_chirotope.specs.Chirotope.{IsChirotope}
 use Rattle.om_chirotope.specs.Map.{SignMap}
@@ -29,30 +29,22 @@ use Rattle.om_representation.specs.Chirotopes.{IsChirotopeOf, IsNormalChirotopeO
 use Rattle.om_representation.specs.Covectors.{IsCovectorIn}
 use Rattle.om_representation.specs.Documents.{document_of, circuits_document, cocircuits_document, covectors_document, with_map, worked_on}
 use Rattle.om_representation.specs.Points.{vector_of_point, vectors_of}
-use Rattle.om_representation.specs.Widths.{IsList, IsTooWide, IsKept, HasFewValues, IsTooWideOfRank}
+use Rattle.om_answer.proofs.FewValues as answers
+use Rattle.om_answer.proofs.FewValues.{few_triples}
+use Rattle.om_representation.specs.Widths.{IsList, IsTooWide, IsKept, HasFewValuesIn, HasFewValues, HasFewValuesUnlessRank3In, HasFewValuesUnlessRank3, IsTooWideOfRank}
 
 -- ---- a chirotope of rank 3 has few values
 
-triples : choose MAX_ELEMENTS 3 ≡ 1140
-triples = refl
-
 not_rank3 : (n r values : ℕ) → n ≤ MAX_ELEMENTS → values ≡ choose n r → MAX_VALUES < values → r ≢ 3
 not_rank3 n r values high number over three =
-    let most : choose n 3 ≤ choose MAX_ELEMENTS 3 = choose_grows n MAX_ELEMENTS 3 high in
-    let few : choose n 3 ≤ 1140 = subst (λ k. choose n 3 ≤ k) triples most in
+    let few = few_triples n high in
     let same : values ≡ choose n 3 = number ∙ ap (choose n) three in
     omega (arith, few, same, over)
 
 -- ---- maps with few values
 
-pub few_triples : (n : ℕ) → n ≤ MAX_ELEMENTS → choose n 3 ≤ MAX_VALUES
-few_triples n high =
-    let most : choose n 3 ≤ choose MAX_ELEMENTS 3 = choose_grows n MAX_ELEMENTS 3 high in
-    let few : choose n 3 ≤ 1140 = subst (λ k. choose n 3 ≤ k) triples most in
-    omega (arith, few)
-
 pub few_of_rank3 : (m : SignMap) → m.rank ≡ 3 → m.elements ≤ MAX_ELEMENTS → choose m.elements m.rank ≤ MAX_VALUES
-few_of_rank3 m three high = subst (λ r. choose m.elements r ≤ MAX_VALUES) (sym three) (few_triples m.elements high)
+few_of_rank3 = answers.few_of_rank3
 
 -- as many ways to take some as to leave them
 choose_left : (n a b : ℕ) → a + b ≡ n → choose n a ≡ choose n b
@@ -108,6 +100,18 @@ few_of_kept d c list narrow is = elim (cases_lt MAX_VALUES (choose c.elements c.
   | inl over ↦ absurd (narrow (choose c.elements c.rank) (record { list = list; map = c; of = is; number = refl; wide = over }))
   | inr ge ↦ ge
 ]
+
+-- few values are few in the ranks other than 3
+pub few_unless_rank3 : (d : Document) → HasFewValues d → HasFewValuesUnlessRank3 d
+few_unless_rank3 d few = few_in d.body few
+  where
+    few_in : (b : Body) → HasFewValuesIn b → HasFewValuesUnlessRank3In b
+    few_in (body.Chirotope m) h = λ other. h
+    few_in (body.Circuits members) h = tt
+    few_in (body.Cocircuits members) h = tt
+    few_in (body.Covectors members) h = tt
+    few_in (body.Wiring blocks) h = tt
+    few_in (body.Points points) h = tt
 
 -- the chirotope of a document that is kept
 pub few_chosen : (r : Representation) (c : SignMap) → HasFewValues (document_of r) → IsKept (document_of r) → IsChirotopeOf (document_of r) c → choose c.elements c.rank ≤ MAX_VALUES

@@ -112,8 +112,14 @@ IsRefusedOn n (Points points) l = IsRankRefused points l
 abbrev pub IsRefused : Document → Line → Type 0
 IsRefused d l = IsRefusedOn d.elements d.body l
 
--- why a body on n elements gives no oriented matroid: the line that refuses it, that it is a flat wiring, or want of memory
+-- the body is a wiring that isn't flat, or points, and meets its axioms: it has a chirotope, whose signs take memory. Maps and lists are taken as they are
+abbrev pub TakesSigns : ℕ → Body → Type 0
+TakesSigns n (Wiring blocks) = IsWiring n blocks × (IsFlat n blocks → ⊥)
+TakesSigns n (Points points) = IsRankLow (vectors_of points) → ⊥
+TakesSigns n _ = ⊥
+
+-- why a body on n elements gives no oriented matroid: the line that refuses it, that it is a flat wiring, or want of memory for the signs of its chirotope
 abbrev pub IsRefusal : ℕ → Body → Unrepresented → Type 0
 IsRefusal n b (unrepresented.Refused l) = IsRefusedOn n b l
 IsRefusal n b unrepresented.Flat = MeetsAxiomsOn n b × IsFlatOn n b
-IsRefusal n b unrepresented.Memory = Unit {0}
+IsRefusal n b unrepresented.Memory = TakesSigns n b

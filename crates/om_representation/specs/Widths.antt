@@ -39,16 +39,24 @@ HasFewValuesIn _ = Unit {0}
 abbrev pub HasFewValues : Document → Type 0
 HasFewValues d = HasFewValuesIn d.body
 
+-- a map of another rank than 3 has no more values than a document may hold; one of rank 3 never has more
+abbrev pub HasFewValuesUnlessRank3In : Body → Type 0
+HasFewValuesUnlessRank3In (body.Chirotope m) = m.rank ≢ 3 → choose m.elements m.rank ≤ MAX_VALUES
+HasFewValuesUnlessRank3In _ = Unit {0}
+
+abbrev pub HasFewValuesUnlessRank3 : Document → Type 0
+HasFewValuesUnlessRank3 d = HasFewValuesUnlessRank3In d.body
+
 -- the document is a list, and its chirotope has this rank, which isn't 3, and too many values
 pub record IsTooWideOfRank (d : Document) (rank values : ℕ) : Type 0 where
   pub width : IsTooWide d values
   pub value : rank ≡ width.map.rank
   pub other : rank ≢ 3
 
--- why there is no chirotope to work on
+-- why there is no chirotope to work on: it has too many values, or memory is wanting for it, both of a list alone
 abbrev pub IsUnchosen : Document → Unchosen → Type 0
 IsUnchosen d (unchosen.TooWide rank values) = IsTooWideOfRank d rank values
-IsUnchosen d unchosen.Memory = Unit {0}
+IsUnchosen d unchosen.Memory = IsList d.body
 
 -- the line of a command of rank 3 where there is no chirotope to work on; want of memory has none
 abbrev pub IsRankLine : Unchosen → Line → Type 0

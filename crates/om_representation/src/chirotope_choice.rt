@@ -17,7 +17,7 @@ use om_covectors::Covectors;
 use std::alloc::Global;
 
 /// The chirotope on which commands work: the given one, or the normal chirotope of a list, where this has no more values than
-/// a document may hold. Else [`Unchosen::TooWide`] where a list's has more, or want of memory.
+/// a document may hold. Else [`Unchosen::TooWide`] where a list's has more; [`Unchosen::Memory`] comes only for lists.
 pub fn choose_chirotope(
     alloc: Global,
     representation: Representation,

@@ -15,7 +15,8 @@ use om_vectors::{SignsError, Vector, Word, signs_of};
 use std::alloc::Global;
 
 /// The chirotope of the signs of the triple products of points, from one to [`MAX_ELEMENTS`] of them with coordinates as a
-/// document may hold them. Else [`Unrepresented::Refused`] where each product is zero, or want of memory.
+/// document may hold them. Else [`Unrepresented::Refused`] where each product is zero. [`Unrepresented::Memory`] comes only
+/// where some product isn't, and memory is wanting for the signs.
 pub fn chirotope_of_points(alloc: Global, points: &[[i64; 3]]) -> Result<Chirotope, Unrepresented>
     requires low { 1 ≤ length points.now }
     requires high { length points.now ≤ MAX_ELEMENTS }

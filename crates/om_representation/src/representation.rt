@@ -1,8 +1,6 @@
 //! From a document to the oriented matroid that it gives.
 
-ghost use Rattle.std.specs.Prelude.{ℕ, ◌≡◌, ◌↔◌, ◌≤◌, All, List, length, IsOk, OnOk, IfOk, IfErr};
-ghost use Rattle.om_signs.specs.declared.sign.Sign.{Sign};
-ghost use Rattle.om_convert.specs.Reading.{IsSetReadError, IsCovReadError};
+ghost use Rattle.std.specs.Prelude.{◌≡◌, ◌↔◌, ◌≤◌, All, length, IsOk, OnOk, IfOk, IfErr};
 ghost use Rattle.om_text.specs.Form.{IsInForm, AreMembersOn, AreBlocks, IsPoint};
 ghost use Rattle.om_circuits.specs.Axioms.{MeetsCircuitAxioms};
 ghost use Rattle.om_covectors.specs.Axioms.{MeetsCovectorAxioms};
@@ -57,7 +55,9 @@ impl Representation {
 /// The oriented matroid that a document in form gives, where it meets the axioms of its kind and isn't a flat wiring.
 ///
 /// Else [`Unrepresented::Refused`] where it fails the axioms, with the line that names the first violated instance, and
-/// [`Unrepresented::Flat`] where it is a flat wiring; or want of memory.
+/// [`Unrepresented::Flat`] where it is a flat wiring. [`Unrepresented::Memory`] comes only where points, or a wiring that
+/// isn't flat, meet their axioms, and memory is wanting for the signs of their chirotope: so a document that fails its axioms
+/// is refused for that, whatever memory there is, and a map or a list never wants any.
 pub fn represent<R: Threads + Sync>(
     rt: &R,
     alloc: Global,
@@ -138,7 +138,7 @@ fn map_refusal(why: MapRefused) -> Line
     }
 }
 
-/// The oriented matroid of a list of circuits, or why there is none: the line that refuses the list, or want of memory.
+/// The oriented matroid of a list of circuits, or the line that refuses the list.
 // no part of its caller, so that the tables of its callees aren't on the stack while others run
 #[inline(never)]
 fn represent_circuits<R: Threads + Sync>(
@@ -156,11 +156,13 @@ fn represent_circuits<R: Threads + Sync>(
 {
     match read_circuits(rt, alloc, elements, list) {
         Ok(circuits) => Ok(Representation::Circuits(circuits)),
-        Err(error) => Err(unread_set(error)),
+        Err(ReadSetError::Bad(bad)) => Err(Unrepresented::Refused(set_refusal(bad.why))),
+        // a list is read whatever memory there is
+        Err(ReadSetError::Memory(_)) => unreachable!(),
     }
 }
 
-/// The oriented matroid of a list of cocircuits, or why there is none: the line that refuses the list, or want of memory.
+/// The oriented matroid of a list of cocircuits, or the line that refuses the list.
 // no part of its caller, so that the tables of its callees aren't on the stack while others run
 #[inline(never)]
 fn represent_cocircuits<R: Threads + Sync>(
@@ -178,17 +180,9 @@ fn represent_cocircuits<R: Threads + Sync>(
 {
     match read_cocircuits(rt, alloc, elements, list) {
         Ok(cocircuits) => Ok(Representation::Cocircuits(cocircuits)),
-        Err(error) => Err(unread_set(error)),
-    }
-}
-
-/// Why a list gives no circuits or cocircuits: the line that refuses it, or want of memory.
-fn unread_set(error: ReadSetError) -> Unrepresented
-    ensures { (n : ℕ) (list : List (List Sign)) → IsSetReadError list error → IsRefusal n (Body.Circuits list) result }
-{
-    match error {
-        ReadSetError::Bad(bad) => Unrepresented::Refused(set_refusal(bad.why)),
-        ReadSetError::Memory(_) => Unrepresented::Memory,
+        Err(ReadSetError::Bad(bad)) => Err(Unrepresented::Refused(set_refusal(bad.why))),
+        // a list is read whatever memory there is
+        Err(ReadSetError::Memory(_)) => unreachable!(),
     }
 }
 
@@ -204,7 +198,7 @@ fn set_refusal(why: SetRefused) -> Line
     }
 }
 
-/// The oriented matroid of a list of covectors, or why there is none: the line that refuses the list, or want of memory.
+/// The oriented matroid of a list of covectors, or the line that refuses the list.
 // no part of its caller, so that the tables of its callees aren't on the stack while others run
 #[inline(never)]
 fn represent_covectors<R: Threads + Sync>(
@@ -222,17 +216,9 @@ fn represent_covectors<R: Threads + Sync>(
 {
     match read_covectors(rt, alloc, elements, list) {
         Ok(covectors) => Ok(Representation::Covectors(covectors)),
-        Err(error) => Err(unread_covectors(error)),
-    }
-}
-
-/// Why a list gives no covectors: the line that refuses it, or want of memory.
-fn unread_covectors(error: ReadCovError) -> Unrepresented
-    ensures { (n : ℕ) (list : List (List Sign)) → IsCovReadError list error → IsRefusal n (Body.Covectors list) result }
-{
-    match error {
-        ReadCovError::Bad(bad) => Unrepresented::Refused(covector_refusal(bad.why)),
-        ReadCovError::Memory(_) => Unrepresented::Memory,
+        Err(ReadCovError::Bad(bad)) => Err(Unrepresented::Refused(covector_refusal(bad.why))),
+        // a list is read whatever memory there is
+        Err(ReadCovError::Memory(_)) => unreachable!(),
     }
 }
 

@@ -10,7 +10,7 @@ pub enum Unchosen {
     /// The document is a list, and its chirotope, which is of this rank, would have `values` values, more than a document
     /// may hold.
     TooWide { rank: u8, values: u32 },
-    /// Want of memory.
+    /// Want of memory for the chirotope of a list.
     Memory,
 }
 

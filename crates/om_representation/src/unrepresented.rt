@@ -7,6 +7,6 @@ pub enum Unrepresented {
     Refused(Line),
     /// It is a wiring whose map is zero at each triple: it meets its axioms, and gives no chirotope.
     Flat,
-    /// Want of memory.
+    /// Want of memory for the signs of the chirotope of points, or of a wiring that isn't flat.
     Memory,
 }

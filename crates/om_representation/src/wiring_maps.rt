@@ -14,7 +14,8 @@ use om_signs::{Block, List, MAX_ELEMENTS};
 use om_wiring::{FlatError, Wiring, WiringRefused, check, chirotope};
 use std::alloc::Global;
 
-/// The chirotope of a wiring with these blocks, or why there is none.
+/// The chirotope of a wiring with these blocks, or why there is none. [`Unrepresented::Memory`] comes only where they are a
+/// wiring that isn't flat, and memory is wanting for the signs.
 pub fn chirotope_of_wiring(
     alloc: Global,
     elements: u8,

@@ -14,7 +14,7 @@ mod sign_vec;
 mod threads;
 
 pub use block::Block;
-pub use laws::{orthogonality_by_supports, ties_of_order};
+pub use laws::{numbers_of_the_limits, orthogonality_by_supports, ties_of_order};
 pub use limits::{
     MAX_BLOCKS, MAX_BOX, MAX_COLUMNS, MAX_COORDINATE, MAX_DRAWN, MAX_ELEMENTS, MAX_ENTRIES,
     MAX_INPUT, MAX_LINES, MAX_MEMBERS, MAX_MULTIPLICITY, MAX_NAME, MAX_PIVOTS, MAX_PLACES,

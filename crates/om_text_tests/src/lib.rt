@@ -6,6 +6,8 @@ mod answer;
 #[cfg(test)]
 mod callers;
 #[cfg(test)]
+mod claim_copies;
+#[cfg(test)]
 mod claims;
 #[cfg(test)]
 mod helpers;

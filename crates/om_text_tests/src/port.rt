@@ -79,8 +79,10 @@ fn read(found: Result<Vec<u8>, ReadError>) -> Result<usize, ReadError> {
     }
 }
 
-/// What a source gives up to its end or the limit, and what it gives then.
-fn gives<S: Source>(alloc: Global, source: &mut S, limit: usize) -> [Result<usize, ReadError>; 2] {
+/// What a source that is always ready gives up to its end or the limit, and what it gives then.
+fn gives<S: Source>(alloc: Global, source: &mut S, limit: usize) -> [Result<usize, ReadError>; 2]
+    requires { (any : _) → S.ready any }
+{
     let limit = limit.min(MAX_INPUT);
     let first = read(read_all(alloc, source, limit));
     [first, read(read_all(alloc, source, limit))]

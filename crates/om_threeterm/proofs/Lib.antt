@@ -1,3 +1,3 @@
-mod SetLaws
-mod ExchangeLaws
-mod RelationLaws
+pub mod SetLaws
+pub mod ExchangeLaws
+pub mod RelationLaws

@@ -24,7 +24,7 @@ use std::thread::Threads;
 /// The elements are from 1 to [`MAX_ELEMENTS`], the rank is at most their number, and there is one sign for each increasing
 /// list of that many elements. It takes no memory, and needs up to 350 KB of stack. Whether bases have exchange, and whether the
 /// relations hold, is found by quick tests on the calling thread; the first exchange or relation that is violated is then
-/// looked for on several threads.
+/// looked for, on several threads where that takes long.
 ///
 /// Source: Björner, Las Vergnas, Sturmfels, White and Ziegler, *Oriented Matroids*, chapter 3.
 pub fn check<R: Threads + Sync>(rt: &R, raw: RawMap) -> Result<Chirotope, BadThree>

@@ -10,7 +10,7 @@ ghost use Rattle.om_threeterm.specs.Sets.{all_chosen, IsInPlace, IsUnexchangedAt
 
 use super::sets::{ROOM, fill, is_basis, is_basis_at, set_at};
 use om_chirotope::has_exchange;
-use om_parallel::{Probe, first_bad};
+use om_parallel::{Probe, first_bad_by_cost};
 use om_signs::{MAX_PLACES, RawMap};
 use om_subsets::Subset;
 use std::thread::Threads;
@@ -64,6 +64,9 @@ fn first_unexchanged_by_scan<R: Threads + Sync>(
     fill(raw.elements, raw.rank, sets);
     first_unexchanged_among(rt, raw, sets)
 }
+
+/// How long it takes to hold a set against the elements of a basis, in nanoseconds.
+const SET: u64 = 10;
 
 /// A map, and the sets of as many elements as its rank. The number of a set is its place; it is bad where an exchange of
 /// this set is violated.
@@ -120,7 +123,7 @@ fn first_unexchanged_among<R: Threads + Sync>(
 {
     let bases = Bases { raw, sets };
     let count = Subset::choose(raw.elements, raw.rank) as u64;
-    match first_bad(rt, &bases, count) {
+    match first_bad_by_cost(rt, &bases, count, count * SET) {
         None => None,
         Some(k) => {
             let b = set_at(raw, sets, k as usize);

@@ -12,7 +12,7 @@ ghost use Rattle.om_threeterm.specs.Sets.{all_chosen};
 
 use super::sets::{fill, four_of};
 use om_chirotope::has_three_term_relations;
-use om_parallel::{Probe, first_bad};
+use om_parallel::{Probe, first_bad_by_cost};
 use om_signs::{MAX_PLACES, RawMap, Sign};
 use om_subsets::Subset;
 use std::thread::Threads;
@@ -94,6 +94,9 @@ fn fill_fours(elements: u8, table: &mut [Subset])
     fill(elements, FOUR, table);
 }
 
+/// How long it takes to test a relation, in nanoseconds.
+const RELATION: u64 = 200;
+
 /// A map, and the sets of four elements. The number of a set of two elements less than the rank is its place; it is bad where
 /// a relation of this set is violated.
 #[derive(Drop)]
@@ -133,13 +136,14 @@ fn first_unbalanced_among<R: Threads + Sync>(
     requires high { raw.now.elements ≤ MAX_PLACES }
     requires rank { raw.now.rank ≤ raw.now.elements }
     requires whole { length raw.now.signs ≡ choose raw.now.elements raw.now.rank }
+    requires few { length fours.now ≤ FOURS }
     requires filled { fours.now ≡ all_chosen raw.now.elements FOUR }
     ensures none { IfNone result (HasThreeTermRelations (map_of raw.now)) }
     ensures first { IfSome result (λ x. IsFirstUnbalanced (map_of raw.now) x.0 x.1) }
 {
     let frames = Frames { raw, fours };
     let count = Subset::choose(raw.elements, raw.rank - 2) as u64;
-    match first_bad(rt, &frames, count) {
+    match first_bad_by_cost(rt, &frames, count, fours.len() as u64 * RELATION) {
         None => None,
         Some(k) => {
             let p = Subset::unrank(k as u32, raw.rank - 2, raw.elements);

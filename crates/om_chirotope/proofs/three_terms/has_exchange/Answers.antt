@@ -9,4 +9,4 @@ returns-then-raw-eq0 c = (λ t. exchange_of_rank_zero (map_of c.args.raw.now) c.
 pub returns : goal.returns
 returns c =
     let m = map_of c.args.raw.now in
-    (λ t. exchange_from_lists m (c.each_vector_is_met.ensures.0 t), λ h. c.each_vector_is_met.ensures.1 (exchange_of_lists m h))
+    (λ t. exchange_from_lists m (c.has_exchange_of_lists.ensures.0 t), λ h. c.has_exchange_of_lists.ensures.1 (exchange_of_lists m h))

@@ -1,4 +1,11 @@
+use Rattle.std.proofs.Common.{subst}
+use Rattle.om_convert.specs.Reading.{IsSetReadError}
 use Rattle.om_representation.proofs.representation.represent_circuits.Goals as goal
 
-pub returns-in-Err-clause-refused : goal.returns-in-Err-clause-refused
-returns-in-Err-clause-refused g c = c.unread_set.ensures c.args.elements c.args.list c.in-Err.ensures.refused
+pub returns-in-Err-Bad-clause-refused : goal.returns-in-Err-Bad-clause-refused
+returns-in-Err-Bad-clause-refused g c =
+    let h = subst (IsSetReadError c.args.list) c.in-Err-Bad.field-0-is c.in-Err-Bad.ensures.refused in
+    (c.in-Err-Bad.bad.why, (c.set_refusal.ensures, h.first))
+
+pub unreachable-requires : goal.unreachable-requires
+unreachable-requires g c = subst (IsSetReadError c.args.list) c.in-Err-Memory.field-0-is c.in-Err-Memory.ensures.refused
