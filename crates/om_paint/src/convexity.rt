@@ -1,6 +1,7 @@
 //! Whether an oriented matroid is acyclic, and its extreme elements.
 
-ghost use Rattle.std.specs.Prelude.{ℕ, ◌≡◌, ◌<◌, ◌≤◌, ◌↔◌, IsTrue, IfOk, IfErr, IsErrAnd, None, get_or, length};
+ghost use Rattle.std.specs.Prelude.{ℕ, ◌≡◌, ◌<◌, ◌≤◌, ◌↔◌, List, IsTrue, IfOk, IfErr, IsErrAnd, None, get_or, length};
+ghost use Rattle.om_signs.specs.declared.sign.Sign.{Sign as Signs};
 ghost use Rattle.om_denotation.specs.Circuits.{IsCircuitOfChirotope, IsCocircuitOfChirotope};
 ghost use Rattle.om_denotation.specs.Covectors.{IsCovectorOfChirotope};
 ghost use Rattle.om_paint.specs.Paintings.{IsFirst, IsFirstIfAny, IsPaintingOf};
@@ -45,12 +46,13 @@ fn greatest(length: u8) -> SignVec
 /// order, and takes its memory from `alloc`.
 ///
 /// [`HullError::Cyclic`] comes exactly where the oriented matroid isn't acyclic, and names the first circuit without a
-/// minus; [`HullError::Memory`] comes only for want of memory.
+/// minus: it is acyclic exactly where no circuit is without one. [`HullError::Memory`] comes only for want of memory.
 ///
 /// Source: Björner, Las Vergnas, Sturmfels, White and Ziegler, *Oriented Matroids*, chapter 3.
 pub fn hull(alloc: Global, chi: &Chirotope) -> Result<List<Painted>, HullError>
     ensures cyclic { IsErrAnd result IsCyclic ↔ (IsCovectorOfChirotope chi.now (all_plus chi.now.elements) → ⊥) }
     ensures first { IfErr result (IfCyclic (IsFirst (IsPositiveCircuit chi.now))) }
+    ensures acyclic { (IsErrAnd result IsCyclic → ⊥) ↔ ((X : List Signs) → IsPositiveCircuit chi.now X → ⊥) }
     ensures size { IfOk result (λ items. length items ≡ chi.now.elements) }
     ensures items { IfOk result (EachItem (λ e. IsPaintingOf chi.now (green_alone e) e) 1) }
     ensures extreme { IfOk result (EachItem (λ e item. IsCocircuitItem item ↔ IsExtreme chi.now e) 1) }

@@ -1,0 +1,303 @@
+//! Linear forms that refuse vectors.
+
+ghost use Rattle.std.specs.Prelude.{◌≡◌, ◌≢◌, ◌≤◌, ◌*◌, ◌+ℤ◌, ◌*ℤ◌, ◌-ℤ◌, ◌<ℤ◌, ◌≤ℤ◌, ◌↔◌, pos, neg_ℤ, unsigned_abs, IsTrue, IfSome};
+ghost use Rattle.om_vectors.specs.WholeVectors.{WholeVector, triple_product, sign_of};
+ghost use Rattle.om_points.specs.Forms.{Refuses, value_at, IsCoefficient, IsMinor, AreMinors, IsTerm, IsValue};
+ghost use Rattle.om_points.specs.Slabs.{IsInRows};
+ghost use Rattle.om_points.specs.Candidates.{greatest};
+ghost use Rattle.om_points.specs.ShortVectors.{IsShort};
+
+use super::short_vector::ShortVector;
+use om_signs::{MAX_BOX, Sign};
+use std::marker::Model;
+
+/// A linear form and the least value that it takes: it refuses the vectors at which its value is less.
+#[derive(Clone, Copy)]
+pub(crate) struct Form {
+    x: i64,
+    y: i64,
+    z: i64,
+    least: i64,
+}
+
+impl Model for Form {
+    ghost use Rattle.om_points.specs.Forms.{LinearForm, IsShortForm};
+
+    ghost Value = { LinearForm };
+
+    ghost view = { λ f. record { x = f.x; y = f.y; z = f.z; least = f.least } };
+
+    ghost invariant = { λ f. IsShortForm (record { x = f.x; y = f.y; z = f.z; least = f.least }) };
+
+    ghost inverse = { λ f. record { x = f.x; y = f.y; z = f.z; least = f.least } };
+}
+
+impl Form {
+    /// A form that refuses nothing.
+    pub fn open() -> Form
+        ensures { (v : WholeVector) → Refuses result v → ⊥ }
+    {
+        Form {
+            x: 0,
+            y: 0,
+            z: 0,
+            least: 0,
+        }
+    }
+
+    /// The form that refuses a vector where the triple product of two vectors and it is less than a number.
+    fn of(a: ShortVector, b: ShortVector, least: i64) -> Form
+        requires { IsMinor least }
+        ensures refuses { (v : WholeVector) → Refuses result v ↔ triple_product a b v <ℤ least }
+        ensures minors { AreMinors result }
+    {
+        Form {
+            x: minor(a.y(), b.z(), a.z(), b.y()),
+            y: minor(a.z(), b.x(), a.x(), b.z()),
+            z: minor(a.x(), b.y(), a.y(), b.x()),
+            least,
+        }
+    }
+
+    /// Whether it refuses a vector.
+    pub fn refuses(self, v: ShortVector) -> bool
+        ensures { IsTrue result ↔ Refuses self v }
+    {
+        self.value(v) < self.least
+    }
+
+    /// The value at a vector.
+    fn value(self, v: ShortVector) -> i64
+        ensures value { result ≡ value_at self v }
+        ensures size { IsValue result }
+    {
+        term(self.x, v.x()) + term(self.y, v.y()) + term(self.z, v.z())
+    }
+
+    /// Whether it refuses the rows from a vector's to one so many rows behind it.
+    pub fn refuses_rows(self, v: ShortVector, rows: u16) -> bool
+        requires { (v.y +ℤ pos rows) ≤ℤ pos (greatest v) }
+        ensures { IsTrue result → (t : WholeVector) → IsInRows v rows t → Refuses self t }
+    {
+        self.refuses(v.corner(rows, self.y > 0, self.z > 0))
+    }
+
+    /// How many rows behind a vector's it may refuse with it, at most all of the slab. [`Form::refuses_rows`] says whether it does.
+    pub fn rows_to_try(self, v: ShortVector) -> u16
+        ensures { (v.y +ℤ pos result) ≤ℤ pos (greatest v) }
+    {
+        let most = v.rows_after();
+        let value = self.value(v.corner(0, false, self.z > 0));
+        if self.y <= 0 || self.least <= value {
+            return most;
+        }
+        let rows = self.least.abs_diff(value).saturating_sub(1) / self.y as u64;
+        if rows < most as u64 {
+            rows as u16
+        } else {
+            most
+        }
+    }
+
+    /// Its sign at the third unit vector.
+    pub fn slope(self) -> Sign {
+        if self.z > 0 {
+            Sign::Plus
+        } else if self.z < 0 {
+            Sign::Minus
+        } else {
+            Sign::Zero
+        }
+    }
+
+    /// Whether it refuses the vectors above each one that it refuses.
+    pub fn refuses_upwards(self) -> bool
+        ensures { IsTrue result → self.z ≤ℤ pos 0 }
+    {
+        self.z <= 0
+    }
+
+    /// A sum of multiples of this form and another one in which the third coordinate doesn't stand: it refuses only vectors that
+    /// one of the two refuses. None where the first one doesn't rise with that coordinate, or the other one doesn't fall.
+    pub fn without_z(self, other: Form) -> Option<Form>
+        requires first { AreMinors self }
+        requires second { AreMinors other }
+        ensures { IfSome result (λ f. (v : WholeVector) → Refuses f v → (Refuses self v → ⊥) → (Refuses other v → ⊥) → ⊥) }
+    {
+        let a = opposite(other.z);
+        let b = self.z;
+        if a <= 0 || b <= 0 {
+            return None;
+        }
+        Some(Form {
+            x: mixed(a, self.x, b, other.x),
+            y: mixed(a, self.y, b, other.y),
+            z: 0,
+            least: mixed(a, self.least, b, other.least),
+        })
+    }
+
+    /// Where it lies in the plane of the first two coordinates: by the angles from two forms, the first one to the right of the
+    /// second one. No proof depends on it.
+    pub fn side(self, right: Form, left: Form) -> Side {
+        if self.x == 0 && self.y == 0 {
+            return if self.least > 0 {
+                Side::Against
+            } else {
+                Side::Between
+            };
+        }
+        if right.x == 0 && right.y == 0 {
+            return Side::Only;
+        }
+        let from_right = angle(right, self);
+        let from_left = angle(left, self);
+        if angle(right, left) == 0 && from_right == 0 {
+            return if same_way(right, self) {
+                Side::Between
+            } else {
+                Side::Against
+            };
+        }
+        if from_right >= 0 && from_left <= 0 {
+            return Side::Between;
+        }
+        if from_right >= 0 {
+            return Side::Left;
+        }
+        if from_left <= 0 {
+            return Side::Right;
+        }
+        Side::Against
+    }
+}
+
+/// Where a form lies in the plane of the first two coordinates, seen from two others.
+pub(crate) enum Side {
+    /// There are no others yet.
+    Only,
+    /// To the right of both.
+    Right,
+    /// To the left of both.
+    Left,
+    /// Between them.
+    Between,
+    /// Opposite to both or to what lies between them.
+    Against,
+}
+
+/// More than 0 where the second form is to the left of the first one, by an angle of less than two right ones; less than 0 where
+/// it is to the right.
+fn angle(a: Form, b: Form) -> i128 {
+    (a.x as i128)
+        .wrapping_mul(b.y as i128)
+        .wrapping_sub((a.y as i128).wrapping_mul(b.x as i128))
+}
+
+/// Whether the angle between two forms is less than a right one.
+fn same_way(a: Form, b: Form) -> bool {
+    (a.x as i128)
+        .wrapping_mul(b.x as i128)
+        .wrapping_add((a.y as i128).wrapping_mul(b.y as i128))
+        > 0
+}
+
+/// The form that refuses exactly the vectors whose triple product with two vectors hasn't the wanted sign; where zero is wanted,
+/// one that refuses those at which it is minus.
+pub(crate) fn form_of(a: ShortVector, b: ShortVector, wanted: Sign) -> Form
+    ensures sound { (v : WholeVector) → Refuses result v → sign_of (triple_product a b v) ≢ wanted }
+    ensures minors { AreMinors result }
+{
+    match wanted {
+        Sign::Minus => Form::of(b, a, 1),
+        Sign::Zero => Form::of(a, b, 0),
+        Sign::Plus => Form::of(a, b, 1),
+    }
+}
+
+/// Where zero is wanted, the form that refuses the vectors whose triple product with two vectors is plus.
+pub(crate) fn opposite_of(a: ShortVector, b: ShortVector, wanted: Sign) -> Option<Form>
+    ensures sound { IfSome result (λ f. (v : WholeVector) → Refuses f v → sign_of (triple_product a b v) ≢ wanted) }
+    ensures minors { IfSome result AreMinors }
+{
+    if wanted == Sign::Zero {
+        return Some(Form::of(b, a, 0));
+    }
+    None
+}
+
+/// A form that refuses a vector, and each other vector only where its triple product with two vectors hasn't the wanted
+/// sign.
+pub(crate) fn against(
+    a: ShortVector,
+    b: ShortVector,
+    wanted: Sign,
+    vector: ShortVector,
+) -> Option<Form>
+    ensures refuses { IfSome result (λ f. Refuses f vector) }
+    ensures sound { IfSome result (λ f. (v : WholeVector) → Refuses f v → sign_of (triple_product a b v) ≢ wanted) }
+{
+    let form = form_of(a, b, wanted);
+    if form.refuses(vector) {
+        return Some(form);
+    }
+    if let Some(opposite) = opposite_of(a, b, wanted) {
+        if opposite.refuses(vector) {
+            return Some(opposite);
+        }
+    }
+    None
+}
+
+/// The opposite number.
+fn opposite(z: i64) -> i64
+    requires { IsMinor z }
+    ensures value { result ≡ neg_ℤ z }
+    ensures size { IsMinor result }
+{
+    -z
+}
+
+/// The sum of two products of minors.
+fn mixed(a: i64, p: i64, b: i64, q: i64) -> i64
+    requires a { IsMinor a }
+    requires p { IsMinor p }
+    requires b { IsMinor b }
+    requires q { IsMinor q }
+    ensures value { result ≡ a *ℤ p +ℤ b *ℤ q }
+    ensures size { IsCoefficient result }
+{
+    a * p + b * q
+}
+
+/// A product less another one.
+fn minor(a: i32, d: i32, b: i32, c: i32) -> i64
+    requires a { IsShort a }
+    requires b { IsShort b }
+    requires c { IsShort c }
+    requires d { IsShort d }
+    ensures value { result ≡ a *ℤ d -ℤ b *ℤ c }
+    ensures size { IsMinor result }
+{
+    times(a, d) - times(b, c)
+}
+
+/// The product of two coordinates.
+fn times(x: i32, y: i32) -> i64
+    requires x { IsShort x }
+    requires y { IsShort y }
+    ensures value { result ≡ x *ℤ y }
+    ensures size { unsigned_abs result ≤ MAX_BOX * MAX_BOX }
+{
+    x as i64 * y as i64
+}
+
+/// The product of a coefficient and a coordinate.
+fn term(a: i64, x: i32) -> i64
+    requires a { IsCoefficient a }
+    requires x { IsShort x }
+    ensures value { result ≡ a *ℤ x }
+    ensures size { IsTerm result }
+{
+    a * x as i64
+}

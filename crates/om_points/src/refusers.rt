@@ -1,0 +1,169 @@
+//! The forms that a search tries first.
+
+ghost use Rattle.std.specs.Prelude.{◌≡◌, ◌≤◌, ◌<◌, ◌-◌, ◌⊎◌, length, IfSome};
+ghost use Rattle.om_points.specs.Forms.{Refuses};
+ghost use Rattle.om_points.specs.Passes.{IsSound, IsUseful};
+ghost use Rattle.om_points.specs.Refusers.{AreSound, AreUseful};
+
+use super::agreement::sign_wanted;
+use super::form::{Form, Side, against, form_of, opposite_of};
+use super::order::SIGNS;
+use super::placing::Placing;
+use super::short_vector::ShortVector;
+use super::slopes::Slopes;
+use om_signs::Sign;
+
+/// Forms that refuse only vectors that haven't the wanted signs in place of the last one: three without the third coordinate,
+/// which refuse whole rows, and one of a pair of vectors.
+///
+/// In the plane of the first two coordinates, what is wanted lies between the right form and the left one. The form against these
+/// refuses all that the two don't refuse where nothing is wanted.
+#[derive(Clone, Copy)]
+pub(crate) struct Refusers {
+    right: Form,
+    left: Form,
+    against: Form,
+    held: Form,
+}
+
+impl Refusers {
+    /// The refusers that the pairs of vectors before the last one give; none of a pair is held.
+    pub fn of(placing: &Placing, wanted: &[Sign]) -> Refusers
+        requires some { 1 ≤ length placing.now }
+        requires wanted { length wanted.now ≡ SIGNS }
+        ensures { AreSound placing.now wanted.now result }
+    {
+        let slopes = slopes_of(placing, wanted);
+        let mut refusers = Refusers {
+            right: Form::open(),
+            left: Form::open(),
+            against: Form::open(),
+            held: Form::open(),
+        };
+        for k in 0..slopes.level.len() {
+            refusers.take(slopes.level.at(k));
+        }
+        for i in 0..slopes.rising.len() {
+            let rising = slopes.rising.at(i);
+            for j in 0..slopes.falling.len() {
+                if let Some(form) = rising.without_z(slopes.falling.at(j)) {
+                    refusers.take(form);
+                }
+            }
+        }
+        refusers
+    }
+
+    /// Takes a form without the third coordinate, where it lies outside of those to the right and to the left.
+    fn take(&mut self, form: Form)
+        ensures right { (self.new.right ≡ self.old.right) ⊎ (self.new.right ≡ form) }
+        ensures left { (self.new.left ≡ self.old.left) ⊎ (self.new.left ≡ form) }
+        ensures against { (self.new.against ≡ self.old.against) ⊎ (self.new.against ≡ form) }
+        ensures held { self.new.held ≡ self.old.held }
+    {
+        match form.side(self.right, self.left) {
+            Side::Only => {
+                self.right = form;
+                self.left = form;
+            }
+            Side::Right => self.right = form,
+            Side::Left => self.left = form,
+            Side::Between => {}
+            Side::Against => self.against = form,
+        }
+    }
+
+    /// A form that refuses a vector, or None where no pair of vectors refuses it. The form of a pair is held.
+    pub fn refusing(
+        &mut self,
+        placing: &Placing,
+        wanted: &[Sign],
+        vector: ShortVector,
+    ) -> Option<Form>
+        requires some { 1 ≤ length placing.now }
+        requires wanted { length wanted.now ≡ SIGNS }
+        requires sound { AreSound placing.now wanted.now self.old }
+        ensures still { AreSound placing.now wanted.now self.new }
+        ensures refuses { IfSome result (λ f. Refuses f vector) }
+        ensures sound { IfSome result (IsSound placing.now wanted.now) }
+    {
+        if self.right.refuses(vector) {
+            return Some(self.right);
+        }
+        if self.left.refuses(vector) {
+            return Some(self.left);
+        }
+        if self.against.refuses(vector) {
+            return Some(self.against);
+        }
+        if self.held.refuses(vector) {
+            return Some(self.held);
+        }
+        let form = refusing(placing, wanted, vector)?;
+        self.held = form;
+        Some(form)
+    }
+}
+
+/// A form of two vectors before the last one that refuses a vector.
+fn refusing(placing: &Placing, wanted: &[Sign], vector: ShortVector) -> Option<Form>
+    requires some { 1 ≤ length placing.now }
+    requires wanted { length wanted.now ≡ SIGNS }
+    ensures refuses { IfSome result (λ f. Refuses f vector) }
+    ensures sound { IfSome result (IsSound placing.now wanted.now) }
+{
+    let last = placing.len() - 1;
+    for q in 0..last {
+        let second = placing.at(q);
+        for p in 0..q {
+            let sign = sign_wanted(wanted, p, q, last);
+            let first = placing.at(p);
+            let form = against(first, second, sign, vector);
+            if form.is_some() {
+                return form;
+            }
+        }
+    }
+    None
+}
+
+/// The forms of the pairs of vectors before the last one, as many as there is room for.
+fn slopes_of(placing: &Placing, wanted: &[Sign]) -> Slopes
+    requires some { 1 ≤ length placing.now }
+    requires wanted { length wanted.now ≡ SIGNS }
+    ensures { AreUseful placing.now wanted.now result }
+{
+    let last = placing.len() - 1;
+    let mut slopes = Slopes::new();
+    for q in 0..last {
+        for p in 0..q {
+            slopes.add(form_at(placing, wanted, p, q));
+            if let Some(opposite) = opposite_at(placing, wanted, p, q) {
+                slopes.add(opposite);
+            }
+        }
+    }
+    slopes
+}
+
+/// The form of two vectors before the last one.
+fn form_at(placing: &Placing, wanted: &[Sign], p: u8, q: u8) -> Form
+    requires wanted { length wanted.now ≡ SIGNS }
+    requires order { p < q }
+    requires last { q < length placing.now - 1 }
+    ensures { IsUseful placing.now wanted.now result }
+{
+    let sign = sign_wanted(wanted, p, q, placing.len() - 1);
+    form_of(placing.at(p), placing.at(q), sign)
+}
+
+/// The opposite form of two vectors before the last one, where zero is wanted.
+fn opposite_at(placing: &Placing, wanted: &[Sign], p: u8, q: u8) -> Option<Form>
+    requires wanted { length wanted.now ≡ SIGNS }
+    requires order { p < q }
+    requires last { q < length placing.now - 1 }
+    ensures { IfSome result (IsUseful placing.now wanted.now) }
+{
+    let sign = sign_wanted(wanted, p, q, placing.len() - 1);
+    opposite_of(placing.at(p), placing.at(q), sign)
+}
