@@ -1,8 +1,15 @@
-# Completion of om for bash: source it, or put it into the folder of bash-completion.
+# Completion of om and om-each for bash: source it, or put it into the folder of bash-completion under both names.
+# Behind a `<` files are completed, as ever.
 _om() {
   local word=${COMP_WORDS[COMP_CWORD]} before=${COMP_WORDS[COMP_CWORD - 1]}
+  local commands="accept member convert dual delete contract reorient wiring mutations flip extend decide check paint hull lexext threeterm upgrade"
+  COMPREPLY=()
+  # behind a redirection a file is wanted, which the shell completes itself
+  case $before$word in *[\<\>]*) return ;; esac
   if [ "$COMP_CWORD" -eq 1 ]; then
-    COMPREPLY=($(compgen -W "accept member convert dual delete contract reorient wiring mutations flip extend decide check paint hull lexext threeterm upgrade make" -- "$word"))
+    # a stream has no command that reads nothing
+    case ${1##*/} in *each*) ;; *) commands+=" make" ;; esac
+    COMPREPLY=($(compgen -W "$commands" -- "$word"))
     return
   fi
   case ${COMP_WORDS[1]}:$COMP_CWORD in
@@ -15,4 +22,4 @@ _om() {
     lexext:*) COMPREPLY=($(compgen -W "$(seq -f '+%g' 20) $(seq -f '-%g' 20)" -- "$word")) ;;
   esac
 }
-complete -F _om om ./om
+complete -o default -F _om om ./om om_each om-each ./om-each

@@ -5,12 +5,14 @@ Runs the rows of the tables that lie beside it: a row is a run of the program, a
 its output, with ` | ` between two. In the input and the output a `/` stands for the end of a line and an `@` for a text that a
 line `@ = TEXT` before the row gives, as does the word `@`; `@ = TEXT * N` is N times this text, and `@ = halves N` is what
 `halves` gives for N. `\\t` is a tab, `\\r` a carriage return, `\\x0b` the byte of this number, and `\\u{feff}` this code point in
-UTF-8. Where the input is `unread`, each read would fail. A line with `# ` in front is a remark.
+UTF-8. Where the input is `unread`, each read would fail, and the output `nothing` is an empty one. A line with `# ` in front is a
+remark. `streams.txt` has runs of om_each, and each other table has runs of om.
 
 Behind the tables come runs that read a text which breaks off, runs whose output has too little room, a few answers that are looked
-at in parts, and lists that are compared with what the axioms give. All are run on each program that is named; where none is, on the
-program as it is built, and, where it is there, as the second compiler builds it. The last line is 'rows: N passed, M failed', and
-the exit code is 1 where one failed.
+at in parts, and lists that are compared with what the axioms give; and for om_each the documents of all tables in streams, and a
+conversation. All are run on each program that is named, with the runs of om_each on those whose name has `each` in it; where none is
+named, on both programs as they are built, and, where they are there, as the second compiler builds them. The last line is
+'rows: N passed, M failed', and the exit code is 1 where one failed.
 """
 import glob
 import itertools
@@ -21,10 +23,16 @@ import signal
 import subprocess
 import sys
 import tempfile
+import threading
 
 HERE = os.path.dirname(os.path.abspath(__file__))
+sys.path.insert(0, HERE)  # the checks of neighbours/ load this file, too
+
+from pieces import pieces  # noqa: E402
+
 TOP = os.path.dirname(HERE)
-BUILT = os.path.join(TOP, "crates", "om_program", "out", "om_program")
+BUILT = [os.path.join(TOP, "crates", name, "out", name) for name in ("om", "om_each")]
+STREAMS = os.path.join(HERE, "streams.txt")
 UNIFORM = b"om 1\nchirotope 3 4\n++++\nend\n"
 # the chirotope of the theorem of Pappus, but that its last triple isn't on a line
 NON_PAPPUS = b"om 1\nchirotope 3 9\n0++++++++++++--------0-0++++++++++----0---+0+++++---0+-0++++++++\n0------------------+\nend\n"
@@ -38,7 +46,7 @@ class Row:
         self.line = line
         self.words = [at.decode() if word == "@" else word for word in words.split(" ")] if words else []
         self.input = None if given == "unread" else bytes_of(given, at)
-        self.code, self.output = int(code), bytes_of(output, at)
+        self.code, self.output = int(code), b"" if output == "nothing" else bytes_of(output, at)
 
 
 def plain_bytes(text):
@@ -121,9 +129,14 @@ class Tally:
             print("failed: %s\n--- wanted %r\n--- found  %r" % (what, wanted, found))
 
 
-def run_tables(tally, program):
+def tables():
+    """The tables of om."""
+    return [it for it in sorted(glob.glob(os.path.join(HERE, "*.txt"))) if it != STREAMS]
+
+
+def run_tables(tally, program, paths):
     """The runs of the tables."""
-    for path in sorted(glob.glob(os.path.join(HERE, "*.txt"))):
+    for path in paths:
         for row in rows_of(path):
             found = run_cut_off(program, row.words, b"") if row.input is None else run(program, row.words, row.input)
             tally.expect("%s: %s" % (os.path.basename(path), row.line[:200]), found, (row.code, row.output))
@@ -220,16 +233,84 @@ def run_long_lists(tally, program):
         tally.expect("%s and back" % kind, run(program, ["convert", "chirotope"], listing), (0, uniform))
 
 
+def documents():
+    """By their words, the runs of the tables of om whose input is one piece that goes on in no way, up to a line feed."""
+    found = {}
+    for path in tables():
+        for row in rows_of(path):
+            if row.input is not None and row.input.endswith(b"\n"):
+                cut = list(pieces(row.input, 2 if row.words == ["check"] else 1))
+                if cut == [(row.input, True)]:
+                    found.setdefault(tuple(row.words), []).append(row)
+    return found
+
+
+def run_streams(tally, program):
+    """The documents of all tables, those with the same words in one run, each answered as it is alone; also with comments and documents
+    without an end between them."""
+    runs = documents()
+    for words, rows in sorted(runs.items()):
+        ended = run(program, list(words), b"".join(row.input for row in rows))
+        tally.expect("a stream of %d documents of %s" % (len(rows), " ".join(words)), ended, (max(row.code for row in rows), b"".join(row.output for row in rows)))
+    rows = runs["accept",]
+    ended = run(program, ["accept"], b"".join(b"# between\n\n" + UNIFORM + row.input + b"om 1\n# no end\n" for row in rows))
+    # the two lines behind `no end` belong to its piece, but the last time
+    wanted = b"".join(b"accepted\n" + row.output + b"refused line 5 missing\n" for row in rows)
+    tally.expect("with other pieces between", ended, (1, wanted[:-len(b"5 missing\n")] + b"3 missing\n"))
+    ended = run(program, ["accept"], UNIFORM * 100_000)
+    tally.expect("100,000 documents", (ended[0], ended[1] == b"accepted\n" * 100_000), (0, True))
+
+
+def run_stream_faults(tally, program):
+    """A read that fails behind each byte of a stream, and rooms that end behind each byte of its answers."""
+    text = UNIFORM + b"om 1\nchirotope 2 4\n+-++++\nend\n# last\n" + UNIFORM
+    answers = [b"accepted\n", b"refused relation 1,2,3 4\n", b"accepted\n"]
+    for read in range(len(text) + 1):
+        # where no line feed ends it, a line isn't whole
+        whole = text[:text.rfind(b"\n", 0, read) + 1]
+        answered = sum(closed for _, closed in pieces(whole, 1))
+        tally.expect("a read that fails behind %d bytes of a stream" % read, run_cut_off(program, ["accept"], text[:read]), (4, b"".join(answers[:answered])))
+    output = b"".join(answers)
+    for room in range(len(output) + 1):
+        found = run_in_room(program, ["accept"], text, room)
+        tally.expect("a stream in a room of %d bytes" % room, found, (1 if room == len(output) else 5, output[:room]))
+
+
+def run_conversation(tally, program):
+    """Each answer is there before the next document is."""
+    questions = [(UNIFORM, 1), (b"om 1\nchirotope 2 4\n+-++++\nend\n", 1), (b"# two at once\n" + UNIFORM * 2, 2), (UNIFORM[:-1] + b"\n", 1)]
+    found = []
+    with subprocess.Popen([program, "accept"], stdin=subprocess.PIPE, stdout=subprocess.PIPE) as talk:
+        alarm = threading.Timer(60, talk.kill)
+        alarm.start()
+        for text, lines in questions:
+            talk.stdin.write(text)
+            talk.stdin.flush()
+            found += [talk.stdout.readline() for _ in range(lines)]
+        talk.stdin.close()
+        found += [talk.stdout.read(), talk.wait()]
+        alarm.cancel()
+    good, bad = b"accepted\n", b"refused relation 1,2,3 4\n"
+    tally.expect("a conversation", found, [good, bad, good, good, good, b"", 1])
+
+
 def main():
     programs = [os.path.abspath(it) for it in sys.argv[1:]]
     if not programs:
-        # the launcher builds what isn't built
-        subprocess.run([os.path.join(TOP, "om"), "accept"], stdin=subprocess.DEVNULL, stdout=subprocess.DEVNULL)
-        programs = [it for it in (BUILT, BUILT + ".by-rattle") if os.path.exists(it)]
+        # the launchers build what isn't built
+        for launcher in "om", "om-each":
+            subprocess.run([os.path.join(TOP, launcher), "accept"], stdin=subprocess.DEVNULL, stdout=subprocess.DEVNULL)
+        programs = [it for built in BUILT for it in (built, built + ".by-rattle") if os.path.exists(it)]
     tally = Tally()
     listed = [(old, list(extensions(old))) for old in map("".join, itertools.product("-+", repeat=4))]
     for program in programs:
-        run_tables(tally, program)
+        if "each" in os.path.basename(program):
+            run_tables(tally, program, [STREAMS])
+            run_streams(tally, program)
+            run_stream_faults(tally, program)
+            run_conversation(tally, program)
+            continue
+        run_tables(tally, program, tables())
         run_faults(tally, program)
         run_parts(tally, program)
         run_long_lists(tally, program)

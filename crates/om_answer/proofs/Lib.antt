@@ -7,8 +7,10 @@ pub mod BlockFaults
 pub mod BlockRuns
 pub mod ClaimCourse
 pub mod ClaimReading
+pub mod VerdictForms
 pub mod ClaimSizes
 pub mod OneReading
 pub mod BlockTexts
+pub mod FewValues
 pub mod Spelled
 pub mod VerdictReading

@@ -2,6 +2,7 @@
 
 ghost use Rattle.std.specs.Prelude.{◌≡◌, ℕ, ◌*◌, ◌+◌, ◌-◌, ◌≤◌, ◌^◌, length, IfOk};
 ghost use Rattle.om_signs.specs.declared.limits.TheConstants.{MAX_INPUT, MAX_READ};
+ghost use Rattle.om_certificate.specs.Forms.{IsVerdictInForm};
 ghost use Rattle.om_text.specs.declared.code.Code.{Code};
 ghost use Rattle.om_text.specs.Lines.{lines};
 ghost use Rattle.om_text.specs.Parsed.{IsAnswerUnlessMemory, IfLine};
@@ -34,6 +35,8 @@ pub fn read_claim(alloc: Global, bytes: &[u8]) -> Result<Claim, ParseError>
     ensures claim { IfOk result (λ c. IsClaim (lines bytes.now) c) }
     // Its document has the forms of documents, within the limits.
     ensures form { IfOk result (λ c. IsInForm c.document) }
+    // Its verdict has the forms of verdicts, so that it can be printed again.
+    ensures verdict { IfOk result (λ c. IsVerdictInForm c.verdict) }
     // Of an input that isn't too long, its evidence is within the limits of the checker.
     ensures evidence { length bytes.now ≤ MAX_INPUT → IfOk result (λ c. HasEvidenceWithinLimits c.verdict) }
     // A claim is read, unless memory runs out.

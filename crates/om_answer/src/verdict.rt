@@ -1,6 +1,6 @@
 //! Printing a verdict on a chirotope.
 
-ghost use Rattle.std.specs.Prelude.{◌≡◌, ◌≤◌, IfOk};
+ghost use Rattle.std.specs.Prelude.{◌≡◌, ◌≢◌, ◌≤◌, IfOk};
 ghost use Rattle.om_signs.specs.declared.limits.TheConstants.{MAX_VALUES};
 ghost use Rattle.om_subsets.specs.Subsets.{choose};
 ghost use Rattle.om_certificate.specs.Forms.{IsVerdictInForm};
@@ -38,17 +38,19 @@ fn document_of(alloc: Global, chi: &Chirotope) -> Result<Document, NoMemory>
 /// The verdict has the forms and is within the limits of a claim: its vectors are no more than elements may be, the numbers
 /// of its entries and its weights are in their ranges, the elements of a weight increase, there are at most as many weights
 /// as sets of three elements, and the end of a tableau has its numbers in their ranges, with a basis number or more behind a
-/// budget of pivots. The chirotope has at most [`om_signs::MAX_VALUES`] values, as many as a document may hold. What is
-/// printed is then a claim, and [`crate::read_claim`] reads this document and this verdict from it.
+/// budget of pivots. The chirotope has at most [`om_signs::MAX_VALUES`] values, as many as a document may hold; one of rank
+/// 3, which verdicts are about, never has more. What is printed is then a claim, and [`crate::read_claim`] reads this
+/// document and this verdict from it.
 ///
 /// [`NoMemory`] comes only for want of memory.
 pub fn print_verdict(alloc: Global, chi: &Chirotope, verdict: &Verdict) -> Result<Vec<u8>, NoMemory>
     requires form { IsVerdictInForm verdict.now }
-    requires few { choose chi.now.elements chi.now.rank ≤ MAX_VALUES }
+    requires few { chi.now.rank ≢ 3 → choose chi.now.elements chi.now.rank ≤ MAX_VALUES }
     ensures text { IfOk result (λ text. text.items ≡ verdict_text chi.now verdict.now) }
     // What is printed is a claim: the chirotope's document and this verdict.
     ensures claim { IfOk result (λ text. IsClaim (lines text.items) (claim_of chi.now verdict.now)) }
 {
+    chi.is_lawful();
     let document = document_of(alloc, chi)?;
     let mut text = print(alloc, &document)?;
     push_block(&mut text, verdict)?;

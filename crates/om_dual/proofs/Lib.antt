@@ -1,1 +1,1 @@
-mod VectorLaws
+pub mod VectorLaws

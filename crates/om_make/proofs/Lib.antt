@@ -1,6 +1,6 @@
-mod BackLaws
-mod CountLaws
-mod CovectorCounts
-mod FirstSigns
-mod RankBounds
-mod GeneratorLaws
+pub mod BackLaws
+pub mod CountLaws
+pub mod CovectorCounts
+pub mod FirstSigns
+pub mod RankBounds
+pub mod GeneratorLaws

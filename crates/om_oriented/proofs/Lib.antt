@@ -1,4 +1,4 @@
-mod PlaceLaws
+pub mod PlaceLaws
 mod Members
 mod Walks
 mod Sets

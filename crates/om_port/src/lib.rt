@@ -1,9 +1,10 @@
-//! Sources and sinks of bytes, which count their faults, and reading and writing whole inputs.
+//! Sources and sinks of bytes, which count their faults, reading and writing whole inputs, and the words of a program.
 //!
-//! A count of faults starts at 0 and never falls. It rose in a call where it is greater after the call than before, or stands
-//! at its last value, `u64::MAX`.
+//! A count of faults starts at 0 and never falls. It rose in a call where it is greater after the call than before, or
+//! stands at its last value, `u64::MAX`.
 #![tactic(auto)]
 
+mod arguments;
 mod count_sink;
 mod failed;
 mod mem_sink;
@@ -18,6 +19,7 @@ mod sure_source;
 mod whole;
 mod write_fault;
 
+pub use arguments::{NoWords, words};
 pub use count_sink::CountSink;
 pub use failed::Failed;
 pub use mem_sink::MemSink;

@@ -1,4 +1,4 @@
-ghost use Rattle.std.specs.Prelude.{◌≡◌, ◌+◌, ◌≤◌, ◌↔◌, min, length, IfOk, IsErr, Some};
+ghost use Rattle.std.specs.Prelude.{◌≡◌, ◌+◌, ◌≤◌, ◌↔◌, min, length, IfOk, IsErr, Some, ⊤};
 ghost use Rattle.std.specs.Io.{ReadsAtMost};
 ghost use Rattle.std.specs.Io.KnownBytes.{ReadConsumes};
 ghost use Rattle.om_port.specs.Causes.{HasCause, CountsFault, raised};
@@ -50,6 +50,8 @@ impl Source for MemSource {
     ghost left = { λ s. Some s.bytes };
 
     ghost faults = { λ s. s.faults };
+
+    ghost ready = { λ _. ⊤ };
 
     fn read(&mut self, buf: &mut [u8]) -> Result<usize, Failed>
         ensures bound { ReadsAtMost result buf.new }

@@ -14,12 +14,20 @@ pub trait Sink {
     /// How many faults it has had.
     ghost faults: { Self → ℕ };
 
+    /// Whether it may be written to. Only bytes that it takes leave it so: generic code can't write again after a
+    /// fault.
+    ghost ready: { Self → Type 0 };
+
     /// Takes the first of the bytes, as many as it likes, and answers how many: at least one where there are any.
+    /// Generic code has to give some.
     ///
     /// [`Failed`] comes only where the count of faults rose, and nothing is then taken.
     fn write(&mut self, bytes: &[u8]) -> Result<usize, Failed>
+        requires ready { ready self.old }
+        requires nonempty { 0 < length bytes.now }
         ensures bound { WritesAtMost result bytes.now }
         ensures some { 0 < length bytes.now → IfOk result (λ k. 0 < k) }
         ensures bytes { WriteAppends (taken self.old) (taken self.new) result bytes.now }
-        ensures cause { HasCause (faults self.old) (faults self.new) result };
+        ensures cause { HasCause (faults self.old) (faults self.new) result }
+        ensures again { IfOk result (λ k. 0 < k → ready self.new) };
 }

@@ -1,4 +1,4 @@
-ghost use Rattle.std.specs.Prelude.{List, ℕ};
+ghost use Rattle.std.specs.Prelude.{◌<◌, List, ℕ, IfOk};
 ghost use Rattle.std.specs.declared.option.Option.{Option};
 ghost use Rattle.std.specs.Io.{ReadsAtMost};
 ghost use Rattle.std.specs.Io.KnownBytes.{ReadConsumes};
@@ -14,12 +14,18 @@ pub trait Source {
     /// How many faults it has had.
     ghost faults: { Self → ℕ };
 
-    /// Gives the next bytes, as many as it likes up to the length of `buf`, at the front of `buf`, and answers how many.
-    /// With a nonempty `buf` none are given only at the end of the input.
+    /// Whether it may be read. Only bytes that it gives leave it so: generic code can't read again after the end or a
+    /// fault.
+    ghost ready: { Self → Type 0 };
+
+    /// Gives the next bytes, as many as it likes up to the length of `buf`, at the front of `buf`, and answers how
+    /// many. With a nonempty `buf` none are given only at the end of the input.
     ///
     /// [`Failed`] comes only where the count of faults rose, and no byte is then gone.
     fn read(&mut self, buf: &mut [u8]) -> Result<usize, Failed>
+        requires { ready self.old }
         ensures bound { ReadsAtMost result buf.new }
         ensures bytes { ReadConsumes (left self.old) (left self.new) result buf.new }
-        ensures cause { HasCause (faults self.old) (faults self.new) result };
+        ensures cause { HasCause (faults self.old) (faults self.new) result }
+        ensures again { IfOk result (λ k. 0 < k → ready self.new) };
 }

@@ -1,4 +1,4 @@
-ghost use Rattle.std.specs.Prelude.{◌≡◌, ◌<◌, length, IfOk};
+ghost use Rattle.std.specs.Prelude.{◌≡◌, ◌<◌, length, IfOk, ⊤};
 ghost use Rattle.std.specs.Io.{WritesAtMost};
 ghost use Rattle.std.specs.Io.KnownBytes.{WriteAppends};
 ghost use Rattle.om_port.specs.Causes.{HasCause, CountsFault};
@@ -37,6 +37,8 @@ impl<W: Write + Drop> Sink for StdSink<W> {
     ghost taken = { λ s. W.contents s.inner };
 
     ghost faults = { λ s. s.faults };
+
+    ghost ready = { λ _. ⊤ };
 
     fn write(&mut self, bytes: &[u8]) -> Result<usize, Failed>
         ensures bound { WritesAtMost result bytes.now }

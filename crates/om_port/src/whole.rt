@@ -16,15 +16,17 @@ const PIECE: usize = 4_096;
 
 /// All bytes of a source up to its end, of which there are at most `limit`. The limit is at most [`MAX_INPUT`].
 ///
-/// [`ReadError::ReadFault`] comes only where the source's count of faults rose in this call. [`ReadError::TooLong`] comes
-/// exactly where `limit + 1` bytes were taken, and no further one is then taken. [`ReadError::Memory`] comes only for want
-/// of memory. After each of them the source has given a prefix of the bytes that it had left.
+/// [`ReadError::ReadFault`] comes only where the source's count of faults rose in this call. [`ReadError::TooLong`]
+/// comes exactly where `limit + 1` bytes were taken, and no further one is then taken. [`ReadError::Memory`] comes only
+/// for want of memory. After each of them the source has given a prefix of the bytes that it had left. After the end
+/// and after a fault it isn't read again.
 pub fn read_all<S: Source>(
     alloc: Global,
     source: &mut S,
     limit: usize,
 ) -> Result<Vec<u8>, ReadError>
-    requires { limit ≤ MAX_INPUT }
+    requires limit { limit ≤ MAX_INPUT }
+    requires ready { S.ready source.old }
     ensures ok { IfOk result (λ bytes. Consumes (S.left source.old) (S.left source.new) bytes.items) }
     ensures end { OnOk result (IsAtEnd (S.left source.new)) }
     ensures short { IfOk result (λ bytes. vec_len bytes ≤ limit) }
@@ -58,13 +60,16 @@ pub fn read_all<S: Source>(
 
 /// Writes all of the bytes, in order.
 ///
-/// [`WriteFault`] comes only where the sink's count of faults rose in this call. The first `written` of the bytes were then
-/// taken and no others, and `written` is less than their number.
+/// [`WriteFault`] comes only where the sink's count of faults rose in this call. The first `written` of the bytes were
+/// then taken and no others, and `written` is less than their number. Each write is of one byte at least, and after a
+/// fault there is none.
 pub fn write_all<K: Sink>(sink: &mut K, bytes: &[u8]) -> Result<(), WriteFault>
+    requires { K.ready sink.old }
     ensures ok { OnOk result (Appends (K.taken sink.old) (K.taken sink.new) bytes.now) }
     ensures err { IfErr result (λ e. Appends (K.taken sink.old) (K.taken sink.new) (take e.written bytes.now)) }
     ensures part { IfErr result (λ e. e.written < length bytes.now) }
     ensures fault { OnErr result (Rose (K.faults sink.old) (K.faults sink.new)) }
+    ensures again { OnOk result (K.ready sink.new) }
     ensures later { K.faults sink.old ≤ K.faults sink.new }
 {
     let mut written = 0;

@@ -33,7 +33,8 @@ verdict_rank m b v (decide.undecided zs u end unfound) = end.rank
 verdict_rank m b v (decide.pivot_limit basis u end unfound) = end.rank
 verdict_rank m b v (decide.width stage pivot row place u end unfound) = end.rank
 
-evidence_shown : (m : SignMap) (e : Evidence) → IsValid m e → Shows m e
+-- what valid evidence shows of a map
+pub evidence_shown : (m : SignMap) (e : Evidence) → IsValid m e → Shows m e
 evidence_shown m (Vectors vs) realizes = realizes
 evidence_shown m (Balanced es) certificate = certificate_excludes m es certificate
 evidence_shown m (Weights ws) weights = weights_exclude m ws weights

@@ -1,22 +1,22 @@
-mod AboveLaws
+pub mod AboveLaws
 mod Alike
 mod BehindLaws
 mod ChoiceLaws
 mod ClaimLaws
 mod CompletenessLaws
 mod ConversionLaws
-mod DecisionLaws
+pub mod DecisionLaws
 mod EvidenceLaws
 mod ExtensionLaws
-mod FlipLaws
+pub mod FlipLaws
 mod HullLaws
-mod LeadingLaws
+pub mod LeadingLaws
 mod MadeLaws
 mod MeaningLaws
 mod MutationLaws
-mod OneAnswer
+pub mod OneAnswer
 mod OneAnyRank
-mod OneChirotope
+pub mod OneChirotope
 mod OneClaim
 mod OneConversion
 mod OneDocument
@@ -30,8 +30,8 @@ mod OneUsage
 mod OperationLaws
 mod RankThreeLaws
 mod ReachLaws
-mod ReplyLaws
-mod SweepLaws
+pub mod ReplyLaws
+pub mod SweepLaws
 mod UpgradeLaws
 mod ValidClaimLaws
 mod VerdictSizes

@@ -11,11 +11,13 @@ use om_port::{Sink, write_all};
 
 /// Writes a text whole, and ends with this status, or with a write fault where only a part was taken.
 pub fn write_text<K: Sink>(sink: &mut K, text: &[u8], status: Status) -> Status
-    requires { IsAnswered status }
+    requires status { IsAnswered status }
+    requires ready { K.ready sink.old }
     ensures whole { IsAnswered result → (result ≡ status) × Appends (K.taken sink.old) (K.taken sink.new) text.now }
     ensures cut { result ≡ Status.WriteFault → IsFront (K.taken sink.old) (K.taken sink.new) text.now }
     ensures fault { result ≡ Status.WriteFault → Rose (K.faults sink.old) (K.faults sink.new) }
     ensures no_other { (result ≡ status) ⊎ (result ≡ Status.WriteFault) }
+    ensures again { IsAnswered result → K.ready sink.new }
     ensures later { K.faults sink.old ≤ K.faults sink.new }
 {
     match write_all(sink, text) {

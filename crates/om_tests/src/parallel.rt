@@ -2,7 +2,7 @@
 
 ghost use Rattle.std.specs.Prelude.{◌≡◌, ◌⊎◌, ◌/◌};
 
-use om_parallel::{Part, Probe, first_bad, map_parts};
+use om_parallel::{Part, Probe, first_bad, first_bad_by_cost, map_parts, map_parts_by_cost};
 use om_signs::NoMemory;
 use std::sync::atomic::{AtomicBool, Ordering};
 
@@ -18,22 +18,39 @@ impl Probe for FiveAndNineHundred {
     }
 }
 
-/// How often the call for 0 looks whether the call for 1 has come.
+/// Numbers of which 900 is bad.
+#[derive(Drop)]
+struct NineHundred;
+
+impl Probe for NineHundred {
+    ghost is_bad = { λ _ k. k ≡ 900 };
+
+    fn bad(&self, k: u64) -> bool {
+        k == 900
+    }
+}
+
+/// How often the call for 0 looks whether the call for 1 has come, where it has to come.
 const MOST_TURNS: u64 = 2_000_000_000;
+
+/// How often it looks where the call for 1 can't come before it has ended.
+const FEW_TURNS: u64 = 50_000_000;
 
 /// Two calls that are made at the same time: that for 0 waits until that for 1 has come.
 #[derive(Drop)]
 struct Held {
     come: AtomicBool,
     late: AtomicBool,
+    turns: u64,
 }
 
 impl Held {
-    /// No call has come.
-    fn new() -> Held {
+    /// No call has come, and that for 0 looks so often whether that for 1 has.
+    fn new(turns: u64) -> Held {
         Held {
             come: AtomicBool::new(false),
             late: AtomicBool::new(false),
+            turns,
         }
     }
 
@@ -43,7 +60,7 @@ impl Held {
             self.come.store(true, Ordering::SeqCst);
             return;
         }
-        for _ in 0..MOST_TURNS {
+        for _ in 0..self.turns {
             if self.come.load(Ordering::SeqCst) {
                 return;
             }
@@ -107,7 +124,7 @@ fn least_bad_number(rt: HostRuntime) {
 
 #[test]
 fn calls_meet(rt: HostRuntime) {
-    let (probes, parts) = (Held::new(), Held::new());
+    let (probes, parts) = (Held::new(MOST_TURNS), Held::new(MOST_TURNS));
     let found = [
         first_bad(&rt, &probes, 2).is_none(),
         probes.late.load(Ordering::SeqCst),
@@ -115,6 +132,48 @@ fn calls_meet(rt: HostRuntime) {
         parts.late.load(Ordering::SeqCst),
     ];
     assert!(rt; found == [true, false, true, false]);
+}
+
+// Numbers that cost little are worked by the calling thread alone, and so the call for 0 ends before that for 1.
+#[test]
+fn little_work_starts_no_thread(rt: HostRuntime) {
+    let (probes, parts) = (Held::new(FEW_TURNS), Held::new(FEW_TURNS));
+    let found = [
+        first_bad_by_cost(&rt, &probes, 2, 10).is_none(),
+        probes.late.load(Ordering::SeqCst),
+        are_answers(map_parts_by_cost(&rt, rt.alloc(), &parts, 2, 10), &[0, 1]),
+        parts.late.load(Ordering::SeqCst),
+    ];
+    assert!(rt; found == [true; 4]);
+}
+
+// Numbers that cost much are worked by several threads from the first on.
+#[test]
+fn much_work_is_shared(rt: HostRuntime) {
+    let (probes, parts) = (Held::new(MOST_TURNS), Held::new(MOST_TURNS));
+    let found = [
+        first_bad_by_cost(&rt, &probes, 2, u64::MAX).is_none(),
+        probes.late.load(Ordering::SeqCst),
+        are_answers(
+            map_parts_by_cost(&rt, rt.alloc(), &parts, 2, u64::MAX),
+            &[0, 1],
+        ),
+        parts.late.load(Ordering::SeqCst),
+    ];
+    assert!(rt; found == [true, false, true, false]);
+}
+
+// The least bad number is the same whatever the numbers cost.
+#[test]
+fn least_bad_number_at_any_cost(rt: HostRuntime) {
+    for cost in [0, 1, 1_000, 100_000, u64::MAX] {
+        let found = [
+            first_bad_by_cost(&rt, &FiveAndNineHundred, 1000, cost),
+            first_bad_by_cost(&rt, &FiveAndNineHundred, 5, cost),
+            first_bad_by_cost(&rt, &NineHundred, 1000, cost),
+        ];
+        assert!(rt; found == [Some(5), None, Some(900)]);
+    }
 }
 
 /// Whether 20 000 answers were found, and the first and the last are these.
@@ -137,4 +196,13 @@ fn parts_in_order(rt: HostRuntime) {
         are_many(map_parts(&rt, alloc, &Halves, 20_000), 0, 9_999),
     ];
     assert!(rt; found == [true; 3]);
+}
+
+// The answers are the same whatever they cost.
+#[test]
+fn parts_at_any_cost(rt: HostRuntime) {
+    for cost in [0, 1, 1_000, u64::MAX] {
+        let found = map_parts_by_cost(&rt, rt.alloc(), &Halves, 20_000, cost);
+        assert!(rt; are_many(found, 0, 9_999));
+    }
 }

@@ -46,7 +46,8 @@ lawful_count words a read =
 
 -- ---- the arguments
 
-lawful_named : (words : List (List ℕ)) (t : Task) → Names words t → HasLawfulArguments t
+-- the arguments of a task that words name lie within the limits
+pub lawful_named : (words : List (List ℕ)) (t : Task) → Names words t → HasLawfulArguments t
 lawful_named words t named = lawful t named.arguments named.behind
   where
     lawful : (t : Task) (rest : List (List ℕ)) → AreArguments t rest → HasLawfulArguments t

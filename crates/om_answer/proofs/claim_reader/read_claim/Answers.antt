@@ -5,10 +5,14 @@ use Rattle.om_text.specs.Lines.{lines}
 use Rattle.om_text.specs.declared.document.Document.{Document}
 use Rattle.om_answer.proofs.ClaimReading.{reads_claim, reads_every, reads_fault, reads_first, document_refused, block_refused, block_read, part_few}
 use Rattle.om_answer.proofs.ClaimSizes.{evidence_within}
+use Rattle.om_answer.proofs.VerdictForms.{verdict_form}
 use Rattle.om_answer.proofs.claim_reader.read_claim.Goals as goal
 
 pub returns-clause-claim : goal.returns-clause-claim
 returns-clause-claim c = reads_claim (Ok (record { document = c.in_ok-document.document; verdict = c.in_ok-verdict.verdict })) (lines c.args.bytes.now) (block_read c.in_ok-verdict.verdict c.args.bytes.now c.in_ok-document.document c.in_ok-document.len c.in_ok-document.line c.in_ok-document.ensures.part c.in_ok-verdict.ensures)
+
+pub returns-clause-verdict : goal.returns-clause-verdict
+returns-clause-verdict c = let h = returns-clause-claim c in verdict_form h.block c.in_ok-verdict.verdict h.verdict
 
 pub returns-clause-evidence : goal.returns-clause-evidence
 returns-clause-evidence c few = evidence_within c.args.bytes.now (record { document = c.in_ok-document.document; verdict = c.in_ok-verdict.verdict }) (returns-clause-claim c) few

@@ -4,8 +4,12 @@ use Rattle.om_text.specs.Form.{IsInForm}
 use Rattle.om_text.specs.Print.{printed}
 use Rattle.om_answer.specs.Claim.{IsClaim}
 use Rattle.om_answer.specs.VerdictText.{lines_text, block_lines, claim_of}
+use Rattle.om_answer.proofs.FewValues.{few_values}
 use Rattle.om_answer.proofs.VerdictReading.{claim_read}
 use Rattle.om_answer.proofs.verdict.print_verdict.Goals as goal
+
+pub document_of-requires : goal.document_of-requires
+document_of-requires c = few_values c.args.chi.now c.is_lawful.ensures.high c.requires.few
 
 pub returns-clause-text : goal.returns-clause-text
 returns-clause-text c = c.in_ok-push_block.ensures ∙ ap (λ bytes. bytes ++ lines_text (block_lines c.args.verdict.now)) (c.in_ok-text.ensures.bytes ∙ ap printed c.in_ok-document.ensures.value)

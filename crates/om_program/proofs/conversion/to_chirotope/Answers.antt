@@ -4,7 +4,7 @@ use Rattle.om_program.proofs.ConversionLaws.{chirotope_made, wide_chirotope}
 use Rattle.om_program.proofs.conversion.to_chirotope.Goals as goal
 
 pub map_document-requires : goal.map_document-requires
-map_document-requires c = few_chosen c.args.representation c.in-Ok.chirotope c.requires c.in-Ok.ensures.kept c.in-Ok.ensures.chosen
+map_document-requires c other = few_chosen c.args.representation c.in-Ok.chirotope c.requires c.in-Ok.ensures.kept c.in-Ok.ensures.chosen
 
 pub returns-in-Ok : goal.returns-in-Ok
 returns-in-Ok c =

@@ -26,7 +26,7 @@ pub flip-requires : goal.flip-requires
 flip-requires c = record { n = c.triple.ensures.n ∙ c.elements-n.ensures.value; size = ap length (c.triple.ensures.elements ∙ increasing_triple c.args.a c.args.b c.args.c c.requires.first c.requires.second) }
 
 pub map_document-requires : goal.map_document-requires
-map_document-requires c =
+map_document-requires c other =
     let is = c.in-Ok.ensures.accepted.0 refl in
     let P : SignMap → Type 0 = λ m. choose m.elements m.rank ≤ MAX_VALUES in
     let high = subst (λ n. n ≤ MAX_ELEMENTS) c.elements-n.ensures.value c.elements-n.ensures.high in

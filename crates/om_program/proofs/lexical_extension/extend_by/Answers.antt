@@ -6,7 +6,7 @@ use Rattle.om_program.proofs.LeadingLaws.{refused_values, values_fit}
 use Rattle.om_program.proofs.lexical_extension.extend_by.Goals as goal
 
 pub map_document-requires : goal.map_document-requires
-map_document-requires c =
+map_document-requires c other =
     let m = c.args.chirotope.now in
     let x = c.in-Ok.ensures.extension in
     let fits = values_fit m.elements m.rank c.requires.few c.in-Ok.ensures.values.1 in

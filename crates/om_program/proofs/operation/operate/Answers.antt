@@ -3,6 +3,7 @@ use Rattle.std.proofs.Common.{sym, ap, subst, ◌∙◌}
 use Rattle.om_program.specs.declared.unmade.Unmade.{Unmade}
 use Rattle.om_program.specs.Operations.{IsOutcome, first_above, named_elements, outside, last}
 use Rattle.om_representation.specs.Documents.{document_of}
+use Rattle.om_representation.proofs.WidthLaws.{few_unless_rank3}
 use Rattle.om_program.proofs.OperationLaws.{made_meant, limit_meant, width_meant}
 use Rattle.om_program.proofs.operation.operate.Goals as goal
 
@@ -10,7 +11,7 @@ pub returns-in-Some : goal.returns-in-Some
 returns-in-Some c = outside c.in-Some.e (sym (sym c.in-Some.is ∙ c.place_above.ensures ∙ ap (λ k. first_above k (named_elements c.args.operation)) c.elements.ensures.value))
 
 pub document_of-requires : goal.document_of-requires
-document_of-requires c = c.in-Ok.ensures.1.1.1.0
+document_of-requires c = few_unless_rank3 (document_of c.in-Ok.made) c.in-Ok.ensures.1.1.1.0
 
 pub returns-in-Ok : goal.returns-in-Ok
 returns-in-Ok c =

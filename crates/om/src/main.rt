@@ -1,0 +1,22 @@
+//! The program `om`: it reads words and standard input, and writes one answer to standard output.
+#![tactic(auto)]
+
+use om_port::{NoWords, StdSink, StdSource, words};
+use om_program::{Status, run};
+use std::io;
+use std::process::ExitCode;
+
+/// The exit code where the runtime doesn't hand the words over for another cause than want of memory.
+const NO_WORDS: u8 = 7;
+
+fn main(rt: HostRuntime) -> ExitCode {
+    let words = match words(&rt) {
+        Ok(words) => words,
+        Err(NoWords::Memory) => return ExitCode::from(Status::NoMemory.code()),
+        Err(NoWords::Unreadable) => return ExitCode::from(NO_WORDS),
+    };
+    let mut source = StdSource::new(rt.reader());
+    let mut sink = StdSink::new(io::writer(&rt));
+    let status = run(&rt, rt.alloc(), words.as_slice(), &mut source, &mut sink);
+    ExitCode::from(status.code())
+}

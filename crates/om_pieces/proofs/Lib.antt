@@ -1,0 +1,5 @@
+pub mod Takes
+pub mod Looks
+pub mod Cutting
+pub mod Feeding
+pub mod GivingBack

@@ -1,0 +1,146 @@
+//! Cutting bytes into pieces.
+
+ghost use Rattle.std.specs.Prelude.{◌≡◌, ◌≤◌, IfOk, OnOk, option_map, length};
+ghost use Rattle.om_pieces.specs.Making.{most, nothing, fed, last_ended, with_end, rest_of, with_byte, with_line};
+
+use super::seen::Seen;
+use om_signs::{MAX_INPUT, NoMemory};
+use std::alloc::Global;
+use std::marker::Model;
+use std::mem;
+
+/// The most bytes that are kept of a piece: one more than an input may have, so that a longer one is told by what is
+/// kept.
+const MOST: usize = MAX_INPUT + 1;
+
+/// Takes an input byte by byte, and gives its pieces, of each no more than its first [`MOST`] bytes.
+#[derive(Drop)]
+pub struct Cutter {
+    kept: Vec<u8>,
+    line: Vec<u8>,
+    seen: Seen,
+    wanted: u8,
+    missing: u8,
+    some: bool,
+}
+
+impl Model for Cutter {
+    ghost use Rattle.std.specs.Prelude.{length, ◌≤◌};
+    ghost use Rattle.om_pieces.specs.Making.{Making, most};
+
+    ghost Value = { Making };
+
+    ghost view = { λ c. record {
+      kept = c.kept.items;
+      line = c.line.items;
+      seen = c.seen;
+      wanted = c.wanted;
+      missing = c.missing;
+      some = c.some;
+    } };
+
+    ghost invariant = { λ c. (length c.kept.items ≤ most) × (length c.line.items ≤ most) };
+}
+
+impl Cutter {
+    /// A cutter before the first byte, of pieces that close with their `end` line of this number.
+    pub fn new(alloc: Global, wanted: u8) -> Cutter
+        ensures { result ≡ nothing wanted }
+    {
+        Cutter {
+            kept: Vec::new(alloc),
+            line: Vec::new(alloc),
+            seen: Seen::Blank,
+            wanted,
+            missing: wanted,
+            some: false,
+        }
+    }
+
+    /// Takes the next byte, and gives the piece that is whole with it.
+    pub fn feed(&mut self, alloc: Global, byte: u8) -> Result<Option<Vec<u8>>, NoMemory>
+        ensures { IfOk result (λ piece. (self.new, option_map (λ p. p.items) piece) ≡ fed self.old byte) }
+    {
+        add_byte(&mut self.line, byte)?;
+        if byte == b'\n' {
+            self.end_line(alloc)
+        } else {
+            self.seen = self.seen.with(byte);
+            Ok(None)
+        }
+    }
+
+    /// Takes the end of the input, where a last line that no line feed ends is one too, and gives the piece that is
+    /// then whole.
+    pub fn end(&mut self, alloc: Global) -> Result<Option<Vec<u8>>, NoMemory>
+        ensures { IfOk result (λ piece. (self.new, option_map (λ p. p.items) piece) ≡ last_ended self.old) }
+    {
+        if self.line.is_empty() {
+            Ok(None)
+        } else {
+            self.end_line(alloc)
+        }
+    }
+
+    /// Gives what is left behind the end of the input, where it is a piece.
+    pub fn rest(&mut self, alloc: Global) -> Option<Vec<u8>>
+        ensures { option_map (λ p. p.items) result ≡ rest_of self.old }
+    {
+        if self.some {
+            Some(mem::replace(&mut self.kept, Vec::new(alloc)))
+        } else {
+            None
+        }
+    }
+
+    /// Ends the line, and gives the piece that is then whole.
+    fn end_line(&mut self, alloc: Global) -> Result<Option<Vec<u8>>, NoMemory>
+        ensures { IfOk result (λ piece. (self.new, option_map (λ p. p.items) piece) ≡ with_end self.old) }
+    {
+        let seen = mem::replace(&mut self.seen, Seen::Blank);
+        if seen.opens() && self.some {
+            // the line is the first one of the next piece
+            let line = mem::replace(&mut self.line, Vec::new(alloc));
+            self.missing = self.wanted;
+            return Ok(Some(mem::replace(&mut self.kept, line)));
+        }
+        add_line(&mut self.kept, self.line.as_slice())?;
+        self.line.clear();
+        if !seen.closes() {
+            self.some = self.some || seen.has_word();
+            return Ok(None);
+        }
+        if self.missing > 1 {
+            self.missing -= 1;
+            self.some = true;
+            return Ok(None);
+        }
+        self.missing = self.wanted;
+        self.some = false;
+        Ok(Some(mem::replace(&mut self.kept, Vec::new(alloc))))
+    }
+}
+
+/// Adds a byte, where there is room.
+fn add_byte(line: &mut Vec<u8>, byte: u8) -> Result<(), NoMemory>
+    requires { length line.old.items ≤ most }
+    ensures added { OnOk result (line.new.items ≡ with_byte line.old.items byte) }
+    ensures within { length line.new.items ≤ most }
+{
+    if line.len() < MOST {
+        line.push(byte)?;
+    }
+    Ok(())
+}
+
+/// Adds a line, as far as there is room.
+fn add_line(kept: &mut Vec<u8>, line: &[u8]) -> Result<(), NoMemory>
+    requires { length kept.old.items ≤ most }
+    ensures added { OnOk result (kept.new.items ≡ with_line kept.old.items line.now) }
+    ensures within { length kept.new.items ≤ most }
+{
+    let room = MOST - kept.len();
+    let len = line.len().min(room);
+    kept.extend_from_slice(&line[..len])?;
+    Ok(())
+}

@@ -1,0 +1,17 @@
+//! Laws of cuts.
+
+ghost use Rattle.std.specs.Prelude.{ℕ, ◌≡◌, ◌≤◌, List, map, take};
+ghost use Rattle.om_pieces.specs.Pieces.{IsCut, HasOneCut, GiveBack};
+ghost use Rattle.om_pieces.specs.Making.{most, made, nothing};
+
+/// Bytes have one cut into pieces, and the cutter makes the first bytes of each of its pieces.
+pub fn one_cut()
+    ensures one { (n : ℕ) (bytes : List ℕ) → 1 ≤ n → HasOneCut n bytes }
+    ensures made { (n : ℕ) (bytes : List ℕ) (pieces : List (List ℕ)) → IsCut n bytes pieces
+        → made (nothing n) bytes ≡ map (take most) pieces }
+{}
+
+/// The pieces of a cut, one behind the other, and what is left behind them without a word are the bytes.
+pub fn pieces_give_back()
+    ensures { (n : ℕ) (bytes : List ℕ) (pieces : List (List ℕ)) → IsCut n bytes pieces → GiveBack pieces bytes }
+{}

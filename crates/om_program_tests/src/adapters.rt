@@ -1,0 +1,105 @@
+//! The adapters over a reader and a writer of std that fail once and then go on, and over ones that never fail. No
+//! clause can say what these show, since std's readers and writers tell no errors: an error of the inner object is a
+//! fault, nothing else is, and no call is tried again.
+
+use om_port::{Failed, Sink, Source, StdSink, StdSource};
+use std::io;
+use std::io::{Error, ErrorKind, Read, Write};
+
+/// A reader and a writer whose calls are counted from 1. A call moves as many bytes as its number is, as far as there
+/// is room; one call fails, and calls from number `last` on move nothing.
+#[derive(Drop)]
+struct Counting {
+    calls: usize,
+    failing: usize,
+    last: usize,
+    kind: ErrorKind,
+}
+
+impl Counting {
+    /// Before the first call.
+    fn new(failing: usize, last: usize, kind: ErrorKind) -> Counting {
+        Counting {
+            calls: 0,
+            failing,
+            last,
+            kind,
+        }
+    }
+
+    /// The number of bytes that the next call moves, or its error.
+    fn turn(&mut self, room: usize) -> io::Result<usize> {
+        self.calls = self.calls.saturating_add(1);
+        if self.calls == self.failing {
+            return Err(Error::from(self.kind));
+        }
+        if self.calls >= self.last {
+            return Ok(0);
+        }
+        Ok(self.calls.min(room))
+    }
+}
+
+impl Read for Counting {
+    fn read(&mut self, buf: &mut [u8]) -> io::Result<usize> {
+        let count = self.turn(buf.len())?;
+        Ok(count.min(buf.len()))
+    }
+}
+
+impl Write for Counting {
+    fn write(&mut self, buf: &[u8]) -> io::Result<usize> {
+        let count = self.turn(buf.len())?;
+        Ok(count.min(buf.len()))
+    }
+
+    fn flush(&mut self) -> io::Result<()> {
+        Ok(())
+    }
+}
+
+/// Why a call fails once: the kinds with which std's own loops try again, and others.
+const KINDS: [ErrorKind; 4] = [
+    ErrorKind::Interrupted,
+    ErrorKind::WouldBlock,
+    ErrorKind::BrokenPipe,
+    ErrorKind::Other,
+];
+
+/// What six readings give.
+fn readings(source: &mut StdSource<Counting>) -> [Result<usize, Failed>; 6] {
+    let mut buf = [0u8; 32];
+    let mut given = [Ok(0); 6];
+    for reading in given.iter_mut() {
+        *reading = source.read(&mut buf);
+    }
+    given
+}
+
+/// What six writings of many bytes give.
+fn writings(sink: &mut StdSink<Counting>) -> [Result<usize, Failed>; 6] {
+    let bytes = [0u8; 32];
+    let mut given = [Ok(0); 6];
+    for writing in given.iter_mut() {
+        *writing = sink.write(&bytes);
+    }
+    given
+}
+
+#[test]
+fn errors_are_told_once(rt: HostRuntime) {
+    for kind in KINDS.iter() {
+        let given = readings(&mut StdSource::new(Counting::new(3, 6, *kind)));
+        assert!(rt; given == [Ok(1), Ok(2), Err(Failed), Ok(4), Ok(5), Ok(0)]);
+        let given = writings(&mut StdSink::new(Counting::new(3, 6, *kind)));
+        assert!(rt; given == [Ok(1), Ok(2), Err(Failed), Ok(4), Ok(5), Err(Failed)]);
+    }
+}
+
+#[test]
+fn no_error_is_no_fault(rt: HostRuntime) {
+    let given = readings(&mut StdSource::new(Counting::new(0, 5, ErrorKind::Other)));
+    assert!(rt; given == [Ok(1), Ok(2), Ok(3), Ok(4), Ok(0), Ok(0)]);
+    let given = writings(&mut StdSink::new(Counting::new(0, 9, ErrorKind::Other)));
+    assert!(rt; given == [Ok(1), Ok(2), Ok(3), Ok(4), Ok(5), Ok(6)]);
+}

@@ -1,0 +1,4 @@
+pub mod Chaining
+pub mod Shortened
+pub mod Steps
+pub mod Runs

@@ -1,0 +1,173 @@
+//! A whole run: each piece of the source is answered.
+
+ghost use Rattle.std.specs.Prelude.{◌≡◌, ◌≢◌, ◌⊎◌, ◌≤◌, ℕ, List, IfOk, IfErr, IfSome, map, string_bytes};
+ghost use Rattle.om_port.specs.Causes.{Rose, TakesSome};
+ghost use Rattle.om_words.specs.Tasks.{HasLawfulArguments, reads};
+ghost use Rattle.om_words.specs.Words.{Names};
+ghost use Rattle.om_program.specs.Meaning.{TaskMeans};
+ghost use Rattle.om_program.specs.Run.{AreReadingCommand};
+ghost use Rattle.om_program.specs.Statuses.{IsAnswered};
+ghost use Rattle.om_pieces.specs.Making.{made, nothing};
+ghost use Rattle.om_pieces.specs.Pieces.{HasOneCut};
+ghost use Rattle.om_stream.specs.Answered.{AreAnswered, Stops, Breaks};
+ghost use Rattle.om_stream.specs.Each.{wanted_ends, AreForPieces, TakesAll};
+ghost use Rattle.om_stream.specs.Each.{IsEachAnswered, AreFirstWritten, IsNextCutOff};
+ghost use Rattle.om_stream.specs.Each.{IsReadingUsage, IsUsageWritten, IsUsageCutOff};
+
+use super::answering::{answer_bytes, answer_end};
+use super::statuses::is_answered;
+use om_pieces::Cutter;
+use om_port::{Sink, Source};
+use om_program::{Status, write_usage};
+use om_words::{Reads, Task, Usage, command};
+use std::alloc::Global;
+use std::thread::Threads;
+
+/// The most bytes that are asked for at once.
+const CHUNK: usize = 16_384;
+
+/// Cuts the bytes of the source into pieces, answers each as `run` answers an input of these bytes, and writes the
+/// texts one behind the other, each as soon as its piece is there. The words are a command that reads.
+///
+/// The status is the greatest of the pieces' statuses by exit code. A fault and want of memory end the run at once. So
+/// do, with [`Status::NoMemory`], 2^64 - 1 readings, each of one byte at least: with a thousand million a second, 584
+/// years.
+///
+/// Source and sink are ready, as each of `om_port` always is. So no call is made after the end of the source or after a
+/// fault, and nothing empty is written.
+pub fn run_each<R: Threads + Sync, S: Source, K: Sink>(
+    rt: &R,
+    alloc: Global,
+    words: &[String],
+    source: &mut S,
+    sink: &mut K,
+) -> Status
+    requires source_ready { S.ready source.old }
+    requires sink_ready { K.ready sink.old }
+
+    // With the statuses 0, 1 and 3 the bytes taken by the sink are the texts of the pieces of the input in their order,
+    // each of them what the words and the piece mean, and the status is the greatest of theirs.
+    ensures answer { (n : ℕ) → AreForPieces (map string_bytes words.now) n → IsAnswered result
+        → IfSome (S.left source.old) (λ bytes.
+        IsEachAnswered (map string_bytes words.now) n bytes result (K.taken sink.old) (K.taken sink.new)) }
+
+    // After a read fault and want of memory they are the texts of the first pieces, each whole.
+    ensures fault { (n : ℕ) → AreForPieces (map string_bytes words.now) n
+        → (result ≡ Status.ReadFault) ⊎ (result ≡ Status.NoMemory)
+        → IfSome (S.left source.old) (λ bytes.
+        AreFirstWritten (map string_bytes words.now) n bytes (K.taken sink.old) (K.taken sink.new)) }
+
+    // After a write fault they are the texts of the first pieces, each whole, and behind them a proper prefix of the
+    // text of the next one.
+    ensures cut { (n : ℕ) → AreForPieces (map string_bytes words.now) n → result ≡ Status.WriteFault
+        → IfSome (S.left source.old) (λ bytes.
+        IsNextCutOff (map string_bytes words.now) n bytes (K.taken sink.old) (K.taken sink.new)) }
+
+    // Bytes have one cut into pieces.
+    ensures one { (n : ℕ) (bytes : List ℕ) → 1 ≤ n → HasOneCut n bytes }
+
+    // Words that aren't a command that reads, and they alone, end with their usage, or with a write fault, and leave
+    // the source as it was.
+    ensures usage { (AreReadingCommand (map string_bytes words.now) → ⊥)
+        → (result ≡ Status.Usage) ⊎ (result ≡ Status.WriteFault) }
+    ensures usage_line { (AreReadingCommand (map string_bytes words.now) → ⊥) → result ≡ Status.Usage
+        → IsUsageWritten (map string_bytes words.now) (K.taken sink.old) (K.taken sink.new) }
+    ensures usage_cut { (AreReadingCommand (map string_bytes words.now) → ⊥) → result ≡ Status.WriteFault
+        → IsUsageCutOff (map string_bytes words.now) (K.taken sink.old) (K.taken sink.new) }
+    ensures only { result ≡ Status.Usage → AreReadingCommand (map string_bytes words.now) → ⊥ }
+    ensures unread { (AreReadingCommand (map string_bytes words.now) → ⊥) → source.new ≡ source.old }
+
+    // Each fault was counted in this run.
+    ensures read { result ≡ Status.ReadFault → Rose (S.faults source.old) (S.faults source.new) }
+    ensures write { result ≡ Status.WriteFault → Rose (K.faults sink.old) (K.faults sink.new) }
+
+    // An answered command that reads has taken all that the source had left.
+    ensures taken { IsAnswered result → AreReadingCommand (map string_bytes words.now)
+        → TakesAll (S.left source.old) (S.left source.new) }
+
+    // The source has given a prefix of what it had left, and no count falls.
+    ensures prefix { TakesSome (S.left source.old) (S.left source.new) }
+    ensures source_later { S.faults source.old ≤ S.faults source.new }
+    ensures sink_later { K.faults sink.old ≤ K.faults sink.new }
+{
+    match reading_command(words) {
+        Ok(task) => answer_source(rt, alloc, &task, source, sink),
+        Err(usage) => write_usage(sink, usage),
+    }
+}
+
+/// The task of a command that reads. Of a command that reads nothing the first word is at fault.
+fn reading_command(words: &[String]) -> Result<Task, Usage>
+    ensures task { IfOk result (λ task. Names (map string_bytes words.now) task × (reads task ≢ Reads.Nothing)) }
+    ensures one { IfOk result (λ task. (other : Task) → Names (map string_bytes words.now) other → other ≡ task) }
+    ensures lawful { IfOk result HasLawfulArguments }
+    ensures usage { IfErr result (λ usage. IsReadingUsage (map string_bytes words.now) usage.word) }
+    ensures none { IfErr result (λ usage. AreReadingCommand (map string_bytes words.now) → ⊥) }
+{
+    match command(words) {
+        Ok(task) => match task.reads() {
+            Reads::Document => Ok(task),
+            Reads::Claim => Ok(task),
+            Reads::Nothing => Err(Usage { word: 1 }),
+        },
+        Err(usage) => Err(usage),
+    }
+}
+
+/// How many `end` lines close a piece that the task reads.
+fn wanted_ends(task: &Task) -> u8
+    ensures { result ≡ wanted_ends (reads task.now) }
+{
+    match task.reads() {
+        Reads::Claim => 2,
+        Reads::Document | Reads::Nothing => 1,
+    }
+}
+
+/// Answers the pieces of a source.
+fn answer_source<R: Threads + Sync, S: Source, K: Sink>(
+    rt: &R,
+    alloc: Global,
+    task: &Task,
+    source: &mut S,
+    sink: &mut K,
+) -> Status
+    requires lawful { HasLawfulArguments task.now }
+    requires reading { reads task.now ≢ Reads.Nothing }
+    requires source_ready { S.ready source.old }
+    requires sink_ready { K.ready sink.old }
+    ensures answer { IsAnswered result → IfSome (S.left source.old) (λ bytes.
+        AreAnswered (TaskMeans task.now) (made (nothing (wanted_ends (reads task.now))) bytes)
+        Status.Done result (K.taken sink.old) (K.taken sink.new)) }
+    ensures fault { (result ≡ Status.ReadFault) ⊎ (result ≡ Status.NoMemory) → IfSome (S.left source.old) (λ bytes.
+        Stops (TaskMeans task.now) (made (nothing (wanted_ends (reads task.now))) bytes)
+        (K.taken sink.old) (K.taken sink.new)) }
+    ensures cut { result ≡ Status.WriteFault → IfSome (S.left source.old) (λ bytes.
+        Breaks (TaskMeans task.now) (made (nothing (wanted_ends (reads task.now))) bytes)
+        (K.taken sink.old) (K.taken sink.new)) }
+    ensures no_usage { result ≢ Status.Usage }
+    ensures read { result ≡ Status.ReadFault → Rose (S.faults source.old) (S.faults source.new) }
+    ensures write { result ≡ Status.WriteFault → Rose (K.faults sink.old) (K.faults sink.new) }
+    ensures taken { IsAnswered result → TakesAll (S.left source.old) (S.left source.new) }
+    ensures prefix { TakesSome (S.left source.old) (S.left source.new) }
+    ensures source_later { S.faults source.old ≤ S.faults source.new }
+    ensures sink_later { K.faults sink.old ≤ K.faults sink.new }
+{
+    let mut cutter = Cutter::new(alloc, wanted_ends(task));
+    let mut status = Status::Done;
+    let mut chunk = [0u8; CHUNK];
+    for _turn in 0..u64::MAX {
+        match source.read(&mut chunk) {
+            Ok(0) => return answer_end(rt, alloc, task, &mut cutter, sink, status),
+            Ok(count) => {
+                status = answer_bytes(rt, alloc, task, &mut cutter, &chunk[..count], sink, status);
+                if !is_answered(status) {
+                    return status;
+                }
+            }
+            Err(_) => return Status::ReadFault,
+        }
+    }
+    // Not reached in any time: each turn takes a byte at least.
+    Status::NoMemory
+}
