@@ -3,7 +3,7 @@
 
 Runs every command behind a `$` in the fenced blocks of the pages, and compares what it prints with what they say: a line
 `$ COMMAND` is a command, run at the top of the repository, and the lines up to the next one are its output. Commands
-of TOPCOM are left out where it isn't installed, and those after them on the same page that read what they wrote.
+of TOPCOM, nauty, GNU parallel, pv and Coq are left out where these aren't installed, and those after them that read what they wrote.
 The last line is 'examples: N passed, M failed', and the exit code is 1 where one failed.
 """
 import os
@@ -15,6 +15,15 @@ import sys
 TOP = os.path.dirname(os.path.dirname(os.path.abspath(__file__)))
 PAGES = ["README.md", "examples/README.md"] + ["neighbours/" + name for name in sorted(os.listdir(os.path.join(TOP, "neighbours"))) if name.endswith(".md")]
 PAGES += sorted("docs/" + name for name in os.listdir(os.path.join(TOP, "docs")) if name.endswith(".md"))
+
+# a package, the programs of which it has one, and the words by which a command that needs it is known
+PACKAGES = [
+    ("TOPCOM", ["topcom-chiro2circuits"], ["topcom-chiro", "topcom-points2", "/tmp/theirs"]),
+    ("nauty", ["labelg", "nauty-labelg"], ["labelg", "catalogue/grow", "catalogue/classes", "catalogue/classify", "/tmp/classes"]),
+    ("GNU parallel", ["parallel"], ["parallel --", "catalogue/classify", "/tmp/classified"]),
+    ("pv", ["pv"], ["pv -l"]),
+    ("Coq", ["coqc"], ["coqc"]),
+]
 
 
 def sessions(text):
@@ -34,13 +43,16 @@ def sessions(text):
 
 def main():
     passed = failed = 0
-    has_topcom = shutil.which("topcom-chiro2circuits") is not None
-    subprocess.run(["./om", "accept"], cwd=TOP, stdin=open(os.path.join(TOP, "examples", "pappus.om")), stdout=subprocess.DEVNULL)
+    missing = [(package, known) for package, programs, known in PACKAGES if not any(map(shutil.which, programs))]
+    for package, _ in missing:
+        print("%s isn't installed: the commands that need it are left out" % package)
+    for launcher in ("./om", "./om-each"):
+        subprocess.run([launcher, "accept"], cwd=TOP, stdin=open(os.path.join(TOP, "examples", "pappus.om")), stdout=subprocess.DEVNULL)
     for page in PAGES:
         with open(os.path.join(TOP, page)) as file:
             text = file.read()
         for command, wanted in sessions(text):
-            if not has_topcom and ("topcom-chiro" in command or "topcom-points2" in command or "/tmp/theirs" in command):
+            if any(word in command for _, known in missing for word in known):
                 continue
             run = subprocess.run(["bash", "-c", command], cwd=TOP, stdin=subprocess.DEVNULL, capture_output=True, text=True, timeout=60)
             if run.stdout == wanted:
