@@ -1,0 +1,211 @@
+#!/usr/bin/env python3
+"""catalogue/check.py
+
+Grows the classes of rank 3 up to seven elements and the uniform ones up to eight, and compares their numbers with the published ones;
+realizes all of them twice; takes them through relabel and back; sends every shipped claim through `om_each check`; and asks each
+filter for its message on bad input. Where nauty or GNU parallel isn't installed it says what it leaves out. The last line is
+'catalogue: N passed, M failed', and the exit code is 1 where one failed.
+"""
+import glob
+import gzip
+import os
+import random
+import shutil
+import subprocess
+import sys
+import tempfile
+
+HERE = os.path.dirname(os.path.abspath(__file__))
+TALLY = {True: 0, False: 0}
+ALL, UNIFORM = {3: 1, 4: 2, 5: 4, 6: 17, 7: 143}, {3: 1, 4: 1, 5: 1, 6: 4, 7: 11, 8: 135}
+THREE = b"om 1\nchirotope 3 3\n+\nend\n"
+FOUR = b"om 1\nchirotope 3 4\n++++\nend\n"
+VECTORS = b"realizable\nvector 1 0 0\nvector 0 1 0\nvector 0 0 1\nvector 1 -1 1\nend\n"
+BROKEN = b"om 1\nchirotope 3 5\n+-++++++++\nend\n"
+CUT = FOUR + b"om 1\nchirotope 3 4\n++++\n"
+
+# words, input, what its message says, whether nauty is needed
+BAD = [
+    (["relabel"], b"", "permutation", False),
+    (["relabel", "1", "1", "2"], THREE, "permutation", False),
+    (["relabel", "1", "--2", "3"], THREE, "permutation", False),
+    (["relabel", "2", "1", "3"], FOUR, "document 1: it has 4 elements", False),
+    (["relabel", "2", "1", "3", "4"], CUT, "document 2: it breaks off", False),
+    (["relabel", "2", "1", "3", "4"], FOUR + b"undecided\nend\n", "document 1: its block", False),
+    (["relabel", "2", "1", "3", "4"], FOUR + b"realizable\nvector 1 2\nend\n", "document 1: its block", False),
+    (["relabel", "2", "1", "3", "4"], FOUR + b"nonrealizable\nlt 1 2 3 4 9 1 2 1\nend\n", "document 1: its block", False),
+    (["relabel", "2", "1", "3", "4"], FOUR + b"nonrealizable\nlt 1 2\nend\n", "document 1: its block", False),
+    (["relabel", "2", "1", "3", "4"], FOUR + b"realizable\nvector 1 0 0\n", "document 1: it breaks off", False),
+    (["to-graph6", "--colours", "2"], b"", "--colours", False),
+    (["to-graph6"], THREE + FOUR, "document 2: it has 4 elements", False),
+    (["to-graph6"], b"om 2\nchirotope 3 3\n+\nend\n", "document 1: it doesn't begin", False),
+    (["to-graph6"], FOUR + VECTORS, "document 1: a claim", False),
+    (["classes", "all"], FOUR, "no words", False),
+    (["classes"], b"om 1\nchirotope 4 5\n+++++\nend\n", "document 1: `chirotope 4 5`", True),
+    (["classes"], b"om 1\ncircuits 3\n+-0\n-+0\nend\n", "document 1: `circuits 3`", True),
+    (["classes"], b"om 1\npoints 3\n1 0 0\n0 1 0\n0 0 1\nend\n", "document 1: `points 3`", True),
+    (["classes"], b"om 1\nchirotope 3 21\n+\nend\n", "document 1: `chirotope 3 21`", True),
+    (["classes"], b"om 1\nchirotope 3 4\n+++\nend\n", "document 1: its values", True),
+    (["classes"], b"om 1\nchirotope 3 4\n+++x\nend\n", "document 1: its values", True),
+    (["classes"], b"\xff\xfe\x00", "document 1: it doesn't begin", True),
+    (["grow", "--all"], FOUR, "--uniform", False),
+    (["grow"], CUT, "document 2: it breaks off", True),
+    (["grow"], THREE + FOUR, "document 2: it has 4 elements", True),
+    (["grow"], b"om 1\nchirotope 3 4\n+000\nend\n", "document 1: it has a loop or parallel", True),
+    (["grow"], BROKEN, "document 1: om_each answers `refused relation", True),
+    (["realize", "--schedule=6:10:1"], FOUR, "the word decide", False),
+    (["realize", "--schedule=decide,6:10"], FOUR, "a schedule has", False),
+    (["realize", "--seed=x"], FOUR, "the word `--seed=x`", False),
+    (["realize", "--box=0"], FOUR, "decide doesn't take --box=0", False),
+    (["realize"], CUT, "document 2: it breaks off", False),
+    (["realize"], BROKEN, "document 1: om_each answers `refused relation", False),
+    (["tally", "x"], b"", "no words", False),
+    (["tally"], FOUR, "document 1: a document without a verdict", False),
+    (["tally"], FOUR + VECTORS.replace(b"-1", b"1"), "claim 1: refused wrongsign 1,3,4", False),
+    (["tally"], FOUR + b"nonrealizable\nend\n", "claim 1: refused nostrict", False),
+    (["tally"], FOUR + VECTORS[:-4], "document 1: it breaks off", False),
+]
+
+
+def run(words, data=b"", environment=None):
+    """What a program of this folder does with an input."""
+    return subprocess.run([os.path.join(HERE, words[0])] + words[1:], input=data, capture_output=True, env=dict(os.environ, **(environment or {})))
+
+
+def compare(what, wanted, got):
+    TALLY[wanted == got] += 1
+    if wanted != got:
+        print("%s\n--- wanted\n%s\n--- got\n%s" % (what, wanted if len(repr(wanted)) < 2000 else repr(wanted)[:2000], got if len(repr(got)) < 2000 else repr(got)[:2000]))
+
+
+def is_whole(text):
+    """Whether an output has whole documents alone."""
+    return not text or (text.endswith(b"end\n") and text.startswith(b"om 1\n")) or text.startswith((b"elements", b"K"))
+
+
+def bad_inputs(has_nauty):
+    for words, data, message, needs_nauty in BAD:
+        if needs_nauty and not has_nauty:
+            continue
+        done = run(words, data)
+        said = done.stderr.decode(errors="replace")
+        good = done.returncode not in (0, None) and message in said and said.startswith(words[0] + ": ") and "Traceback" not in said and is_whole(done.stdout)
+        compare("%s on %r" % (" ".join(words), data[:60]), (True, message), (good, message) if good else (done.returncode, said))
+    for words, variable in [(["realize"], "OM_EACH"), (["tally"], "OM_EACH"), (["grow"], "LABELG"), (["classes"], "LABELG")]:
+        done = run(words, FOUR, {variable: "/nowhere/program"})
+        compare("%s without %s" % (words[0], variable), (True, True), (done.returncode == 1 and not done.stdout, b"isn't there" in done.stderr))
+
+
+def renamed_certificate():
+    """The certificate of the non-Pappus chirotope stays valid under other names and orientations, and comes back."""
+    with open(os.path.join(os.path.dirname(HERE), "examples", "non-pappus-claim.om"), "rb") as file:
+        claim = b"".join(line for line in file if not line.startswith(b"#"))
+    for seed in range(5):
+        other = renamed(claim, 9, seed)
+        compare("tally of a renamed certificate", [b"9", b"all", b"1", b"0", b"1"], run(["tally"], other).stdout.split(b"\n")[1].split()[:5])
+
+
+def grown(last, *words):
+    """The catalogues up to so many elements."""
+    catalogues = {3: THREE}
+    for n in range(4, last + 1):
+        catalogues[n] = run(["grow", *words], catalogues[n - 1]).stdout
+    return catalogues
+
+
+def renamed(catalogue, n, seed):
+    """The documents with other names and orientations, each way back, and the words."""
+    draw = random.Random(seed)
+    words = [str(k * draw.choice((1, -1))) for k in draw.sample(range(1, n + 1), n)]
+    other = run(["relabel", *words], catalogue).stdout
+    compare("relabel there and back on %d elements" % n, catalogue, run(["relabel", "--back", *words], other).stdout)
+    return other
+
+
+def classes_and_claims(has_nauty):
+    """The numbers of classes, their claims, and that a second run and other names change nothing."""
+    if not has_nauty:
+        print("nauty isn't installed: the classes are not counted, and grow and classes are not run")
+        claims = run(["realize"], THREE + FOUR)
+        compare("claims of 123 and of 1234", (0, 2), (claims.returncode, claims.stdout.count(b"realizable")))
+        return
+    every, uniform = grown(7), grown(8, "--uniform")
+    compare("classes", ALL, {n: text.count(b"om 1\n") for n, text in every.items()})
+    compare("uniform classes", UNIFORM, {n: text.count(b"om 1\n") for n, text in uniform.items()})
+    catalogue = every[7]
+    other = renamed(catalogue, 7, 1) + renamed(catalogue, 7, 2)
+    compare("classes of a catalogue and of others of it", catalogue, run(["classes"], catalogue + other).stdout)
+    graphs = run(["to-graph6"], catalogue + other).stdout.split(b"\n")[:-1]
+    colours = run(["to-graph6", "--colours", "7"]).stdout.decode().strip()
+    labelg = shutil.which("labelg") or shutil.which("nauty-labelg")
+    canonical = subprocess.run([labelg, "-q", "-f" + colours], input=b"\n".join(graphs) + b"\n", capture_output=True).stdout.split(b"\n")[:-1]
+    compare("graphs of 143 classes, three times", (429, 143, canonical[:143]), (len(canonical), len(set(canonical)), canonical[143:286]))
+    documents = b"".join(every.values()) + uniform[8]
+    claims = run(["realize"], documents)
+    count = documents.count(b"om 1\n")
+    compare("claims", (0, count), (claims.returncode, claims.stdout.count(b"realizable #") + claims.stdout.count(b"\nrealizable\n")))
+    compare("claims of a second run, in two parts", claims.stdout, run(["realize"], documents[: len(documents) - len(uniform[8])]).stdout + run(["realize"], uniform[8]).stdout)
+    lines = [line.split() for line in run(["tally"], renamed(claims_of(claims.stdout, 7), 7, 3)).stdout.decode().split("\n")[1:-1]]
+    wanted = {"all": "143", "uniform": "11"}
+    compare("tally of 143 classes with other names", [["7", kind, k, k, "0", "0", "0", "0"] for kind, k in wanted.items()], [line[:8] for line in lines])
+    compare("what is published of them", [["%s" % k, "classes,", k, "realizable"] for k in wanted.values()], [line[10:] for line in lines])
+
+
+def claims_of(claims, n):
+    """The claims on so many elements, without their comments, in canonical form."""
+    parts = [b"om 1\n" + part for part in claims.split(b"om 1\n")[1:]]
+    lines = b"".join(part for part in parts if part.startswith(b"om 1\nchirotope 3 %d\n" % n)).split(b"\n")
+    return b"\n".join(line.split(b" #")[0] for line in lines)
+
+
+def shipped_claims():
+    """Each claim that is shipped, by om_each check and by tally."""
+    for path in sorted(glob.glob(os.path.join(HERE, "*.claims")) + glob.glob(os.path.join(HERE, "*.claims.gz"))):
+        name = os.path.basename(path)
+        with (gzip.open if path.endswith(".gz") else open)(path, "rb") as file:
+            data = file.read()
+        verdict = name.split("-")[0].encode()
+        done = run(["tally"], data)
+        said = [line.split() for line in done.stdout.decode().split("\n")[1:-1]]
+        place = 3 if verdict == b"realizable" else 4
+        good = sum(int(line[place]) for line in said if line[1] == "all" or len([other for other in said if other[0] == line[0]]) == 1)
+        compare("claims in %s" % name, (0, data.count(b"om 1\n")), (done.returncode, good))
+
+
+def stopped_and_taken_over():
+    """A classification with a block lost, and begun anew elsewhere, comes to the same bytes."""
+    if not shutil.which("parallel"):
+        print("GNU parallel isn't installed: classify is not run")
+        return
+    with tempfile.TemporaryDirectory() as folder:
+        first, second = os.path.join(folder, "first"), os.path.join(folder, "second")
+        done = run(["classify", first, "all", "5"])
+        compare("classify", (0, b""), (done.returncode, done.stderr))
+        shutil.copytree(first, second)
+        for path in ("all-5.om", "all-5.claims", "all-5.grown/000000.classes", "all-5.blocks/000000.claims"):
+            os.remove(os.path.join(second, path))
+        with open(os.path.join(second, "all-5.grown", "000000.part"), "w") as file:
+            file.write("om 1\nchirotope 3 5\n+")
+        done = run(["classify", second, "all", "5"])
+        for name in ("all-5.om", "all-5.claims"):
+            with open(os.path.join(first, name), "rb") as one, open(os.path.join(second, name), "rb") as other:
+                compare("%s of a run that is taken over" % name, one.read(), other.read())
+    for words in (["classify"], ["classify", "x", "some", "5"], ["classify", "x", "all", "2"]):
+        done = run(words)
+        compare(" ".join(words), (1, b"", True), (done.returncode, done.stdout, done.stderr.startswith(b"classify: ")))
+
+
+def main():
+    has_nauty = bool(shutil.which("labelg") or shutil.which("nauty-labelg"))
+    bad_inputs(has_nauty)
+    renamed_certificate()
+    classes_and_claims(has_nauty)
+    shipped_claims()
+    if has_nauty:
+        stopped_and_taken_over()
+    print("catalogue: %d passed, %d failed" % (TALLY[True], TALLY[False]))
+    return 1 if TALLY[False] or not TALLY[True] else 0
+
+
+if __name__ == "__main__":
+    sys.exit(main())
