@@ -1,11 +1,12 @@
 #!/usr/bin/env python3
-"""bench/hostile.py [PROGRAM]
+"""bench/hostile.py [OM [OM_EACH]]
 
-Runs the built program through the operating system where something goes wrong: an input or an output that is closed, a full
+Runs the built programs through the operating system where something goes wrong: an input or an output that is closed, a full
 device, a reader that goes away, an input that is cut off or too long, bytes without sense, shipped examples with bytes
 changed, little stack and little memory. Each run has to end with a documented exit code that fits what it wrote, with
-nothing on standard error and without a signal. Prints a line for each kind of case, and last
-'hostile: N runs, M failed'; the exit code is 1 where one failed.
+nothing on standard error and without a signal. A stream has besides to be answered piece by piece as om answers each piece
+alone, and where it ends early, what it wrote has to be the first of these answers. Prints a line for each kind of case, and
+last 'hostile: N runs, M failed'; the exit code is 1 where one failed.
 """
 import math
 import os
@@ -15,7 +16,10 @@ import subprocess
 import sys
 
 TOP = os.path.dirname(os.path.dirname(os.path.abspath(__file__)))
-PROGRAM = os.path.abspath(sys.argv[1]) if len(sys.argv) > 1 else os.path.join(TOP, "crates", "om_program", "out", "om_program")
+sys.path.insert(0, os.path.join(TOP, "rows"))
+from pieces import pieces
+PROGRAM = os.path.abspath(sys.argv[1]) if len(sys.argv) > 1 else os.path.join(TOP, "crates", "om", "out", "om")
+EACH = os.path.abspath(sys.argv[2]) if len(sys.argv) > 2 else os.path.join(TOP, "crates", "om_each", "out", "om_each")
 UNIFORM = b"om 1\nchirotope 3 4\n++++\nend\n"
 LARGE = b"om 1\nchirotope 8 16\n" + b"+" * 12870 + b"\nend\n"
 RANK_3 = b"om 1\nchirotope 3 16\n" + b"+" * 560 + b"\nend\n"
@@ -33,14 +37,14 @@ COMMANDS = [
 ]
 
 
-def run(words, data=b"", before=None, **streams):
+def run(words, data=b"", before=None, program=PROGRAM, **streams):
     """The exit code, the standard output and the standard error of a run."""
     given = {"stdout": subprocess.PIPE, "stderr": subprocess.PIPE}
     if "stdin" not in streams:
         given["input"] = data
     given.update(streams)
     try:
-        ended = subprocess.run([PROGRAM] + words, preexec_fn=before, timeout=60, **given)
+        ended = subprocess.run([program] + words, preexec_fn=before, timeout=60, **given)
     except subprocess.TimeoutExpired:
         return "no end", b"", b""
     return ended.returncode, ended.stdout or b"", ended.stderr or b""
@@ -106,24 +110,28 @@ def noise(tally, random_):
         tally.expect("noise", run(random_.choice(COMMANDS), data), lambda code, out, err: code == 1 and err == b"" and out.startswith(b"refused line "))
 
 
+def change_bytes(data, random_, kinds):
+    """Changes some bytes in one of so many ways: a letter of documents, bytes left out, bytes twice, any byte. One stays at least."""
+    at = random_.randrange(len(data))
+    change = random_.randrange(kinds)
+    if change == 0:
+        data[at] = random_.choice(b"+-0 \n123456789#")
+    elif change == 1:
+        del data[at:at + random_.choice([1, 1, 5, 40])]
+    elif change == 2:
+        data[at:at] = bytes(data[at:at + random_.choice([1, 10, 60])])
+    else:
+        data[at] = random_.randrange(256)
+    if not data:
+        data.extend(b"\n")
+
+
 def changed_examples(tally, random_):
-    folder = os.path.join(TOP, "examples")
-    examples = [open(os.path.join(folder, name), "rb").read() for name in sorted(os.listdir(folder)) if name.endswith(".om")]
+    shipped = examples()
     for _ in range(1500):
-        data = bytearray(random_.choice(examples))
+        data = bytearray(random_.choice(shipped))
         for _ in range(random_.choice([1, 1, 2, 5])):
-            at = random_.randrange(len(data))
-            change = random_.randrange(4)
-            if change == 0:
-                data[at] = random_.choice(b"+-0 \n123456789#")
-            elif change == 1:
-                del data[at:at + random_.choice([1, 1, 5, 40])]
-            elif change == 2:
-                data[at:at] = bytes(data[at:at + random_.choice([1, 10, 60])])
-            else:
-                data[at] = random_.randrange(256)
-            if not data:
-                data = bytearray(b"\n")
+            change_bytes(data, random_, 4)
         words = random_.choice(COMMANDS)
         tally.expect("%s of a changed example" % words, run(words, bytes(data)), documented)
 
@@ -160,15 +168,139 @@ def little_memory(tally):
     return ends
 
 
+def examples():
+    """The shipped examples."""
+    folder = os.path.join(TOP, "examples")
+    return [open(os.path.join(folder, name), "rb").read() for name in sorted(os.listdir(folder)) if name.endswith(".om")]
+
+
+def streams_that_break_off(tally, random_):
+    """What stands before the break is answered, whether the input ends there or can't be read further."""
+    stream = b"".join(b"# %d\n" % i + (UNIFORM if i % 3 else b"om 1\nchirotope 2 4\n+-++++\nend\n") for i in range(40))
+    answers = [b"accepted\n" if i % 3 else b"refused relation 1,2,3 4\n" for i in range(40)]
+    for _ in range(150):
+        cut = random_.randrange(len(stream))
+        whole = [closed for _, closed in pieces(stream[:cut])]
+        wanted = b"".join(answers[:sum(whole)])
+        ended = run(["accept"], stream[:cut], program=EACH)
+        tally.expect("a stream cut after %d bytes" % cut, ended, lambda code, out, err: code in (0, 1) and err == b"" and out.startswith(wanted) and out.count(b"\n") == len(whole))
+        # what no line feed ends isn't a line yet where reading fails
+        wanted = b"".join(answers[:sum(closed for _, closed in pieces(stream[:stream.rfind(b"\n", 0, cut) + 1]))])
+        reading, writing = os.pipe()
+        os.set_blocking(reading, False)
+        os.write(writing, stream[:cut])
+        tally.expect("a stream that can't be read after %d bytes" % cut, run(["accept"], stdin=reading, program=EACH), exactly(4, wanted))
+        os.close(reading)
+        os.close(writing)
+
+
+def streams_to_nowhere(tally):
+    """A reader that goes away after some lines has got the first answers; a full device, closed streams."""
+    many = UNIFORM * 20_000
+    for lines in 0, 1, 100, 5000:
+        with subprocess.Popen([EACH, "accept"], stdin=subprocess.PIPE, stdout=subprocess.PIPE, stderr=subprocess.PIPE) as talk:
+            got = []
+            for _ in range(lines):
+                talk.stdin.write(UNIFORM)
+                talk.stdin.flush()
+                got.append(talk.stdout.readline())
+            talk.stdout.close()
+            try:
+                talk.stdin.write(many)
+                talk.stdin.close()
+            except BrokenPipeError:
+                pass
+            errors = talk.stderr.read()
+            tally.expect("a reader that goes away after %d answers" % lines, (talk.wait(), b"".join(got), errors), exactly(5, b"accepted\n" * lines))
+            talk.stdin = None
+    with open("/dev/full", "wb") as full:
+        tally.expect("a stream to a full device", run(["accept"], many, stdout=full, program=EACH), exactly(5))
+    tally.expect("a stream to a closed output", run(["accept"], many, before=lambda: os.close(1), program=EACH), exactly(5))
+    tally.expect("no stream", run(["accept"], stdin=subprocess.DEVNULL, before=lambda: os.close(0), program=EACH), exactly(4, b""))
+    tally.expect("a folder as a stream", run(["accept"], stdin=os.open(TOP, os.O_RDONLY), program=EACH), exactly(4, b""))
+    tally.expect("a word that isn't UTF-8 for a stream", run([os.fsdecode(b"accept\xff")], many, program=EACH), exactly(7, b""))
+    for words in [], ["acept"], ["make", "7"], ["accept", "x"]:
+        reading, writing = os.pipe()
+        os.write(writing, UNIFORM)
+        tally.expect("%s of a stream" % words, run(words, stdin=reading, program=EACH), exactly(2, b"usage %d\n" % (2 if words == ["accept", "x"] else 1)))
+        tally.expect("what %s left unread" % words, (0, os.read(reading, 1000), b""), exactly(0, UNIFORM))
+        os.close(reading)
+        os.close(writing)
+
+
+def long_streams(tally):
+    """Lines and pieces of a hundred megabytes, with room for a tenth of them, and a hundred megabytes of short documents."""
+    def small():
+        resource.setrlimit(resource.RLIMIT_AS, (40 << 20, 40 << 20))
+    hundred = 100_000_000
+    for what, long, wanted in [
+        ("a comment of a hundred megabytes", b"#" * hundred + b"\n" + UNIFORM, b"refused long\n"),
+        ("a word of a hundred megabytes", b"x" * hundred + b"\n", b"refused long\n"),
+        ("a line of a hundred megabytes that begins with om", b"om " * (hundred // 3) + b"\n", b"refused long\n"),
+        ("a hundred megabytes of empty lines", b"\n" * hundred + UNIFORM, b"refused long\n"),
+        ("a hundred megabytes of signs", b"om 1\nchirotope 8 16\n" + (b"+" * 63 + b"\n") * (hundred // 64) + b"end\n", b"refused long\n"),
+        ("spaces before an end", b"om 1\nchirotope 3 4\n++++\n" + b" " * hundred + b"end\n", b"refused long\n"),
+    ]:
+        ended = run(["accept"], UNIFORM + long + UNIFORM, before=small, program=EACH)
+        tally.expect(what, ended, exactly(1, b"accepted\n" + wanted + b"accepted\n"))
+        tally.expect(what + " at the end", run(["accept"], UNIFORM + long, before=small, program=EACH), exactly(1, b"accepted\n" + wanted))
+    tally.expect("a comment of a hundred megabytes behind all", run(["accept"], UNIFORM + b"#" * hundred, before=small, program=EACH), exactly(0, b"accepted\n"))
+    count = 1_000_000
+    ended = run(["accept"], UNIFORM * count, before=small, program=EACH)
+    tally.expect("a million documents", (ended[0], b"%d" % ended[1].count(b"\n"), ended[2]), exactly(0, b"%d" % count))
+
+
+def noisy_streams(tally, random_):
+    """Bytes without sense: an answer for each piece."""
+    for _ in range(100):
+        parts = [random_.choice([random_.randbytes(random_.choice([1, 7, 100, 5000])), UNIFORM, b"\n", b"om 1\n", b"end\n", b"#", b" ", b"om"]) for _ in range(20)]
+        data = b"".join(parts)
+        count = len(list(pieces(data)))
+        tally.expect("noise in a stream", run(["accept"], data, program=EACH), lambda code, out, err: code in (0, 1) and err == b"" and out.count(b"\n") == count)
+
+
+def changed_streams(tally, random_):
+    """Streams of changed examples: the answers of om to each piece, one behind the other, and the greatest code."""
+    shipped = examples()
+    for _ in range(120):
+        data = bytearray(b"".join(random_.choice(shipped) for _ in range(6)))
+        for _ in range(random_.choice([0, 1, 3, 10])):
+            change_bytes(data, random_, 3)
+        words = random_.choice(COMMANDS)
+        alone = [run(words, piece) for piece, _ in pieces(bytes(data), 2 if words == ["check"] else 1)]
+        ended = run(words, bytes(data), program=EACH)
+        tally.expect("%s of a changed stream" % words, ended, exactly(max((code for code, _, _ in alone), default=0), b"".join(out for _, out, _ in alone)))
+
+
+def small_streams(tally):
+    """With less and less room a stream is answered, or ends with 6 behind whole answers; with little stack it is answered."""
+    stream = (UNIFORM + LARGE) * 3
+    answers = [run(["dual"], UNIFORM)[1], run(["dual"], LARGE)[1]] * 3
+    firsts = [b"".join(answers[:count]) for count in range(len(answers) + 1)]
+    for kilobytes in range(2_000, 24_000, 500):
+        def small():
+            resource.setrlimit(resource.RLIMIT_AS, (kilobytes * 1024, kilobytes * 1024))
+        ended = run(["dual"], stream, before=small, program=EACH)
+        tally.expect("a stream in %d KB of memory" % kilobytes, ended, lambda code, out, err: (code == 0 and out == firsts[-1]) or (code == 6 and out in firsts and err == b"") or (code not in (0, 1, 2, 3, 4, 5) and out == b""))
+
+    def little():
+        resource.setrlimit(resource.RLIMIT_STACK, (600 * 1024, 600 * 1024))
+    tally.expect("a stream with a stack of 600 KB", run(["dual"], stream, before=little, program=EACH), exactly(0, firsts[-1]))
+
+
 def main():
-    if not os.path.exists(PROGRAM):
-        sys.exit("%s isn't built: ./om accept < examples/uniform-3-4.om builds it" % PROGRAM)
+    for program, launcher in (PROGRAM, "om"), (EACH, "om-each"):
+        if not os.path.exists(program):
+            sys.exit("%s isn't built: ./%s accept < examples/uniform-3-4.om builds it" % (program, launcher))
     random_ = random.Random(7)
     tally = Tally()
     for name, cases in [
         ("streams that fail", lambda: closed_streams(tally)), ("inputs that are cut off or long", lambda: long_inputs(tally)),
         ("bytes without sense", lambda: noise(tally, random_)), ("changed examples", lambda: changed_examples(tally, random_)),
         ("little stack", lambda: little_stack(tally)), ("little memory", lambda: little_memory(tally)),
+        ("streams that break off", lambda: streams_that_break_off(tally, random_)), ("streams to nowhere", lambda: streams_to_nowhere(tally)),
+        ("long streams", lambda: long_streams(tally)), ("streams without sense", lambda: noisy_streams(tally, random_)),
+        ("changed streams", lambda: changed_streams(tally, random_)), ("streams with little room", lambda: small_streams(tally)),
     ]:
         before = tally.runs
         cases()

@@ -1,11 +1,11 @@
 #!/usr/bin/env python3
-"""bench/memory.py [PROGRAM]
+"""bench/memory.py [OM [OM_EACH]]
 
-Refuses each request for memory of the built program in turn, one in a run, by a library that is loaded before the C
+Refuses each request for memory of the built programs in turn, one in a run, by a library that is loaded before the C
 library's. Each run has to end with exit code 6 and nothing written, or as it ends with all memory; so too where the
-request comes from the runtime, which hands the words over before the command begins. Prints a line for each command with
-the number of requests that were refused, and last 'memory: N runs, M failed'; the exit code is 1 where one failed. It
-needs a C compiler, $CC or cc.
+request comes from the runtime, which hands the words over before the command begins. A stream may have written the answers
+to its first documents before it ends with 6, each whole. Prints a line for each command with the number of requests that
+were refused, and last 'memory: N runs, M failed'; the exit code is 1 where one failed. It needs a C compiler, $CC or cc.
 """
 import os
 import subprocess
@@ -13,7 +13,8 @@ import sys
 import tempfile
 
 TOP = os.path.dirname(os.path.dirname(os.path.abspath(__file__)))
-PROGRAM = os.path.abspath(sys.argv[1]) if len(sys.argv) > 1 else os.path.join(TOP, "crates", "om_program", "out", "om_program")
+PROGRAM = os.path.abspath(sys.argv[1]) if len(sys.argv) > 1 else os.path.join(TOP, "crates", "om", "out", "om")
+EACH = os.path.abspath(sys.argv[2]) if len(sys.argv) > 2 else os.path.join(TOP, "crates", "om_each", "out", "om_each")
 UNIFORM = b"om 1\nchirotope 3 4\n++++\nend\n"
 CIRCUITS = b"om 1\ncircuits 4\n-+-+\n+-+-\nend\n"
 COMMANDS = [
@@ -21,6 +22,11 @@ COMMANDS = [
     (["convert", "covectors"], UNIFORM), (["convert", "chirotope"], CIRCUITS), (["dual"], CIRCUITS), (["delete", "1"], CIRCUITS),
     (["wiring"], UNIFORM), (["mutations"], UNIFORM), (["flip", "1", "2", "3"], UNIFORM), (["extend", "--first=10"], UNIFORM), (["hull"], UNIFORM),
     (["lexext", "+4"], UNIFORM), (["decide", "--box=1"], UNIFORM), (["make", "7", "--count=4"], b""),
+]
+# streams, by their documents
+STREAMS = [
+    (["accept"], [UNIFORM, b"om 1\nchirotope 2 4\n+-++++\nend\n", b"# a\n" + UNIFORM]), (["convert", "cocircuits"], [UNIFORM, CIRCUITS, UNIFORM]),
+    (["dual"], [CIRCUITS, UNIFORM]), (["extend", "--first=10"], [UNIFORM, UNIFORM]), (["upgrade"], [UNIFORM, CIRCUITS, b"om 1\n"]), (["decide", "--box=1"], [UNIFORM, UNIFORM]),
 ]
 SOURCE = r"""
 #include <errno.h>
@@ -86,42 +92,59 @@ int posix_memalign(void **place, size_t align, size_t size)
 """
 
 
-def run(library, words, data, refused=0, requests=None):
+def run(library, program, words, data, refused=0, requests=None):
     """The exit code, the output and the errors of a run in which a request is refused, counted from 1."""
     environment = dict(os.environ, LD_PRELOAD=library, OM_REFUSED_REQUEST=str(refused))
     if requests:
         environment["OM_REQUESTS_FILE"] = requests
-    ended = subprocess.run([PROGRAM] + words, input=data, capture_output=True, env=environment, timeout=60)
+    ended = subprocess.run([program] + words, input=data, capture_output=True, env=environment, timeout=60)
     return ended.returncode, ended.stdout, ended.stderr
 
 
+class Refusals:
+    """The runs so far, and those that failed."""
+
+    def __init__(self, library, requests):
+        self.library, self.requests = library, requests
+        self.runs = self.failed = 0
+
+    def refuse_each(self, what, program, words, data, firsts):
+        """Refuses each request of a run in turn; what it may have written where it ends with 6 is one of some texts."""
+        with open(self.requests, "wb") as file:
+            file.write(bytes(8))
+        whole = run(self.library, program, words, data, requests=self.requests)
+        with open(self.requests, "rb") as file:
+            count = int.from_bytes(file.read(), sys.byteorder)
+        wanting = 0
+        for refused in range(1, count + 1):
+            self.runs += 1
+            ended = run(self.library, program, words, data, refused)
+            if ended[0] == 6 and ended[1] in firsts and ended[2] == b"":
+                wanting += 1
+            elif ended != whole:
+                self.failed += 1
+                print("failed: %s with request %d refused: exit code %s, output %r, errors %r" % (what, refused, ended[0], ended[1][:80], ended[2][:200]))
+        print("%-40s %5d requests refused: %d end with 6" % (what, count, wanting))
+
+
 def main():
-    if not os.path.exists(PROGRAM):
-        sys.exit("%s isn't built: ./om accept < examples/uniform-3-4.om builds it" % PROGRAM)
-    runs = failed = 0
+    for program, launcher in (PROGRAM, "om"), (EACH, "om-each"):
+        if not os.path.exists(program):
+            sys.exit("%s isn't built: ./%s accept < examples/uniform-3-4.om builds it" % (program, launcher))
     with tempfile.TemporaryDirectory() as folder:
         library, source, requests = (os.path.join(folder, name) for name in ("refusing.so", "refusing.c", "requests"))
         with open(source, "w") as file:
             file.write(SOURCE)
         subprocess.run([os.environ.get("CC", "cc"), "-O1", "-shared", "-fPIC", "-fno-builtin", "-o", library, source], check=True)
+        refusals = Refusals(library, requests)
         for words, data in COMMANDS:
-            with open(requests, "wb") as file:
-                file.write(bytes(8))
-            whole = run(library, words, data, requests=requests)
-            with open(requests, "rb") as file:
-                count = int.from_bytes(file.read(), sys.byteorder)
-            wanting = 0
-            for refused in range(1, count + 1):
-                runs += 1
-                ended = run(library, words, data, refused)
-                if ended == (6, b"", b""):
-                    wanting += 1
-                elif ended != whole:
-                    failed += 1
-                    print("failed: %s with request %d refused: exit code %s, output %r, errors %r" % (words, refused, ended[0], ended[1][:80], ended[2][:200]))
-            print("%-28s %5d requests refused: %d end with 6" % (" ".join(words), count, wanting))
-    print("memory: %d runs, %d failed" % (runs, failed))
-    return 1 if failed or not runs else 0
+            refusals.refuse_each(" ".join(words), PROGRAM, words, data, [b""])
+        for words, documents in STREAMS:
+            answers = [run(library, PROGRAM, words, data)[1] for data in documents]
+            firsts = [b"".join(answers[:count]) for count in range(len(answers) + 1)]
+            refusals.refuse_each("a stream of %d for %s" % (len(documents), " ".join(words)), EACH, words, b"".join(documents), firsts)
+    print("memory: %d runs, %d failed" % (refusals.runs, refusals.failed))
+    return 1 if refusals.failed or not refusals.runs else 0
 
 
 if __name__ == "__main__":

@@ -1,20 +1,23 @@
 #!/usr/bin/env python3
-"""bench/run.py [--runs N]
+"""bench/run.py [--runs N] [--earlier PROGRAM]
 
 Builds the program and times it, the whole process each time, on inputs that it makes itself. Prints a table: the least
 time of N runs (5), the rate, the target (a rate or a time), and how many times better than the target the measured one is.
+PROGRAM is the program of an earlier state, built elsewhere: searches run beside it, one run of each in turn, have to write
+the same, and have a part of its time as their target.
 """
 import argparse
 import itertools
 import math
 import os
+import random
 import subprocess
 import sys
 import tempfile
 import time
 
 TOP = os.path.dirname(os.path.dirname(os.path.abspath(__file__)))
-PROGRAM = os.path.join(TOP, "crates", "om_program", "out", "om_program")
+PROGRAM = os.path.join(TOP, "crates", "om", "out", "om")
 
 
 def chirotope(rank, elements, signs):
@@ -102,7 +105,7 @@ def keep_to(processors):
     return lambda: os.sched_setaffinity(0, sorted(os.sched_getaffinity(0))[:processors])
 
 
-def least_time(words, data, runs, wanted, processors=None):
+def least_time(words, data, runs, wanted, processors=None, program=PROGRAM):
     """The least time of some runs, each of which has to write what is wanted; on so many processors, or on all."""
     best = None
     pin = None if processors is None else keep_to(processors)
@@ -111,7 +114,7 @@ def least_time(words, data, runs, wanted, processors=None):
         for _ in range(runs):
             held.seek(0)
             start = time.perf_counter()
-            done = subprocess.run([PROGRAM] + words, stdin=held, capture_output=True, preexec_fn=pin)
+            done = subprocess.run([program] + words, stdin=held, capture_output=True, preexec_fn=pin)
             took = time.perf_counter() - start
             if done.stdout != wanted:
                 sys.exit("%s answered %r" % (" ".join(words), done.stdout[:200]))
@@ -301,6 +304,72 @@ def decisions(runs):
         row("%d words of the search, without the tableau" % steps, took - without, steps / 1e6, "M words/s", target_rate=20.0)
 
 
+def mutated(signs, rng, mutations):
+    """A uniform chirotope of rank 3 after so many mutations at random: a sign is turned where the three-term relations allow it."""
+    elements = max(signs)[2]
+    full = {}
+    for triple, sign in signs.items():
+        for turn in itertools.permutations(range(3)):
+            even = sum(turn[i] > turn[j] for i in range(3) for j in range(i + 1, 3)) % 2 == 0
+            full[tuple(triple[i] for i in turn)] = sign if even else -sign
+
+    def turned(triple):
+        for turn in itertools.permutations(triple):
+            full[turn] = -full[turn]
+
+    def is_lawful_at(triple):
+        for a, b, c in (triple, triple[1:] + triple[:1], triple[2:] + triple[:2]):
+            for d, e in itertools.combinations([x for x in range(1, elements + 1) if x not in triple], 2):
+                terms = (full[a, b, c] * full[a, d, e], -full[a, b, d] * full[a, c, e], full[a, b, e] * full[a, c, d])
+                if abs(sum(terms)) == 3:
+                    return False
+        return True
+
+    while mutations:
+        triple = tuple(sorted(rng.sample(range(1, elements + 1), 3)))
+        turned(triple)
+        if is_lawful_at(triple):
+            mutations -= 1
+        else:
+            turned(triple)
+    return {triple: full[triple] for triple in signs}
+
+
+def drawn(rng, elements):
+    """A uniform chirotope of rank 3: that of vectors at random, mutated 300 times. What comes so is like a draw from the
+    reorientation classes, each under names and signs at random."""
+    signs = {}
+    while not signs or 0 in signs.values():
+        vectors = [[rng.randint(-1000, 1000) for _ in range(3)] for _ in range(elements)]
+        for a, b, c in itertools.combinations(range(elements), 3):
+            (x, y, z), (u, v, w), (r, s, t) = vectors[a], vectors[b], vectors[c]
+            product = x * (v * t - w * s) - y * (u * t - w * r) + z * (u * s - v * r)
+            signs[a + 1, b + 1, c + 1] = (product > 0) - (product < 0)
+    signs = mutated(signs, rng, 300)
+    return chirotope(3, elements, "".join("-0+"[signs[t] + 1] for t in sorted(signs)))
+
+
+def searches(runs, earlier):
+    """Searches for vectors of twelve uniform chirotopes on nine elements, beside the program of an earlier state."""
+    print("%-58s %11s  %18s  %18s  %s" % ("decide --pivots=1, twelve chirotopes on nine elements", "least time", "", "target", "ratio"))
+    rng = random.Random(1)
+    documents = [drawn(rng, 9) for _ in range(12)]
+    for box, steps, part in ((6, 40000000, 5), (8, 40000000, 5), (12, 40000000, 5), (60, 3000000, 1)):
+        words = ["decide", "--pivots=1", "--box=%d" % box, "--steps=%d" % steps]
+        programs = [PROGRAM] if earlier is None else [PROGRAM, earlier]
+        took = dict.fromkeys(programs, 0)
+        for data in documents:
+            wanted = subprocess.run([PROGRAM] + words, input=data, capture_output=True).stdout
+            best = dict.fromkeys(programs, math.inf)
+            for _ in range(runs):
+                for program in programs:
+                    best[program] = min(best[program], least_time(words, data, 1, wanted, program=program))
+            for program in programs:
+                took[program] += best[program]
+        target = None if earlier is None else took[earlier] / part
+        row("box %d, %d steps" % (box, steps), took[PROGRAM], 1, "", target_time=target)
+
+
 def wirings(runs):
     """Wirings and mutations of the uniform chirotope of rank 3 on 16 elements all of whose values are plus."""
     print("%-58s %11s  %18s  %18s  %s" % ("wirings and mutations", "least time", "", "target", "ratio"))
@@ -351,7 +420,11 @@ def painting(runs):
 def main():
     parser = argparse.ArgumentParser(description=__doc__, formatter_class=argparse.RawDescriptionHelpFormatter)
     parser.add_argument("--runs", type=int, default=5)
-    runs = parser.parse_args().runs
+    parser.add_argument("--earlier", metavar="PROGRAM")
+    options = parser.parse_args()
+    runs = options.runs
+    if options.earlier is not None and not os.access(options.earlier, os.X_OK):
+        sys.exit("run.py: %s is no program" % options.earlier)
 
     small = alternating(3, 4)
     built = subprocess.run([os.path.join(TOP, "om"), "accept"], input=small, capture_output=True)
@@ -399,6 +472,7 @@ def main():
 
     for part in (conversions, operations, lists, claims, decisions, wirings, extensions, largest, painting):
         part(runs)
+    searches(runs, options.earlier)
 
 
 if __name__ == "__main__":

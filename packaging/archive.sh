@@ -1,0 +1,44 @@
+#!/usr/bin/env bash
+# packaging/archive.sh [FOLDER]: makes an archive of the built programs with launchers, manual pages, completions, filters,
+# examples and pages, so that a group builds once and others copy. Into FOLDER, which is out where none is named, go
+# om-VERSION-x86_64-linux.tar.gz and beside it its checksum (sha256sum -c NAME.tar.gz.sha256). The archive's file PROVED has the
+# line of the toolchain by which the programs were proved and built, the commit, what they need, and their checksums. Unpacked, it runs as the
+# repository does, and needs neither the toolchain nor sources; its install.sh puts it under a PREFIX.
+set -euo pipefail
+here=$(cd "$(dirname "$(readlink -f "${BASH_SOURCE[0]}")")/.." && pwd)
+to=${1:-$here/out}
+command -v rt >/dev/null || { echo "archive.sh: rt, whose line goes into the archive, isn't on the path" >&2; exit 1; }
+# the launchers build what isn't built, or is older than its sources
+for launcher in om om-each; do
+  "$here/$launcher" accept </dev/null >/dev/null || [ $? -eq 1 ]
+done
+version=$(<"$here/VERSION")
+name=om-$version-x86_64-linux
+room=$(mktemp -d)
+trap 'rm -rf "$room"' EXIT
+tree=$room/om-$version
+mkdir -p "$to" "$tree/crates/om/out" "$tree/crates/om_each/out"
+cp "$here/crates/om/out/om" "$tree/crates/om/out/"
+cp "$here/crates/om_each/out/om_each" "$tree/crates/om_each/out/"
+cd "$here"
+cp -P om om-each install.sh README.md CHANGELOG.md LICENSE-* CITATION.cff VERSION "$tree/"
+for folder in man completions neighbours catalogue examples rows; do
+  [ ! -d "$folder" ] || cp -R "$folder" "$tree/"
+done
+mkdir "$tree/docs"
+cp docs/*.md "$tree/docs/"
+find "$tree" -name __pycache__ -prune -exec rm -rf {} +
+commit=$(git rev-parse HEAD 2>/dev/null || echo unknown)
+[ -z "$(git status --porcelain 2>/dev/null)" ] || commit="$commit, and changes to it that aren't committed"
+{
+  echo "Proved and built with $(rt version)"
+  echo "from commit $commit"
+  echo "for x86-64 and Linux with a C library that has $(cat crates/om/out/om crates/om_each/out/om_each | grep -ao 'GLIBC_[0-9.]*' | sort -uV | tail -n 1)"
+  (cd "$tree" && sha256sum crates/om/out/om crates/om_each/out/om_each)
+} >"$tree/PROVED"
+# the same bytes for the same files: sorted, and with the time of the commit
+moment=$(git log -1 --format=%ct 2>/dev/null || date +%s)
+tar -C "$room" --sort=name --owner=0 --group=0 --numeric-owner --mtime="@$moment" -cf - "om-$version" | gzip -9n >"$to/$name.tar.gz"
+(cd "$to" && sha256sum "$name.tar.gz" >"$name.tar.gz.sha256")
+cat "$tree/PROVED"
+echo "$to/$name.tar.gz"
