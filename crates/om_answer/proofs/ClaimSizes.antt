@@ -2,7 +2,8 @@
 --
 -- Main definitions: word_bytes, line_bytes
 -- Main results: evidence_within
-use Rattle.std.proofs.Common.{◌≡◌, ℕ, suc, ◌+◌, ◌*◌, ◌≤◌, List, [], ◌∷◌, ◌++◌, Bool, length, map, filter, ap, arith, inl, inr}
+use Rattle.std.proofs.Common.{◌≡◌, ℕ, suc, ◌+◌, ◌*◌, ◌≤◌, List, [], ◌∷◌, ◌++◌, Bool, length, map, filter, ap, arith}
+use Rattle.std.proofs.Common.{inl, inr}
 use Rattle.std.specs.Prelude.{ℤ, Option, Some, None, IfSome, codes, bytes_eq, nat_eq, option_and_then}
 use Rattle.std.proofs.lemmas.Slice.Eq.{bytes_eq-Decides}
 use Rattle.om_signs.specs.declared.limits.TheConstants.{MAX_INPUT}
@@ -76,7 +77,8 @@ wordful_bytes : (ls : List (List ℕ)) → line_bytes (wordful ls) ≤ word_byte
 wordful_bytes [] = omega arith
 wordful_bytes (l ∷ ls) = kept (words l) (words_bytes l) (wordful_bytes ls)
   where
-    kept : (w : List (List ℕ)) → word_bytes w ≤ suc (length l) → line_bytes (wordful ls) ≤ word_bytes ls → line_bytes (filter has_any (w ∷ map words ls)) ≤ suc (length l) + word_bytes ls
+    kept : (w : List (List ℕ)) → word_bytes w ≤ suc (length l) → line_bytes (wordful ls) ≤ word_bytes ls
+        → line_bytes (filter has_any (w ∷ map words ls)) ≤ suc (length l) + word_bytes ls
     kept [] h i = omega (arith, i)
     kept (v ∷ ws) h i = omega (arith, h, i)
 
@@ -104,13 +106,17 @@ words_few (w ∷ ws) = let h = words_few ws in omega (arith, h)
 
 entry_long : (w : List (List ℕ)) → IfSome (entry_of w) (λ e. LEAST_ENTRY ≤ word_bytes w)
 entry_long [] = tt
-entry_long (w ∷ ws) = named (strictness w) (numbers_within entry_ranges ws) (strictness_long w) (numbers_in entry_ranges ws)
+entry_long (w ∷ ws) = named (strictness w) (numbers_within entry_ranges ws) (strictness_long w)
+    (numbers_in entry_ranges ws)
   where
     made : (o : Option Entry) → 11 ≤ word_bytes (w ∷ ws) → IfSome o (λ e. LEAST_ENTRY ≤ word_bytes (w ∷ ws))
     made None l = tt
     made (Some e) l = l
 
-    named : (o : Option Bool) (p : Option (List ℤ)) → IfSome o (λ strict. length w ≡ 2) → IfSome p (λ zs. (length ws ≡ length entry_ranges) × AreIn entry_ranges zs) → IfSome (option_and_then (λ strict. option_and_then (entry_from strict) p) o) (λ e. LEAST_ENTRY ≤ word_bytes (w ∷ ws))
+    named : (o : Option Bool) (p : Option (List ℤ)) → IfSome o (λ strict. length w ≡ 2)
+        → IfSome p (λ zs. (length ws ≡ length entry_ranges) × AreIn entry_ranges zs)
+        → IfSome (option_and_then (λ strict. option_and_then (entry_from strict) p) o)
+        (λ e. LEAST_ENTRY ≤ word_bytes (w ∷ ws))
     named None p h k = tt
     named (Some strict) None h k = tt
     named (Some strict) (Some zs) h k =
@@ -118,7 +124,8 @@ entry_long (w ∷ ws) = named (strictness w) (numbers_within entry_ranges ws) (s
         let f = words_few ws in
         made (entry_from strict zs) (omega (arith, n, f, h))
 
-entries_long : (ls : List (List (List ℕ))) (es : List Entry) → AreLinesOf entry_of ls es → length es * LEAST_ENTRY ≤ line_bytes ls
+entries_long : (ls : List (List (List ℕ))) (es : List Entry) → AreLinesOf entry_of ls es
+    → length es * LEAST_ENTRY ≤ line_bytes ls
 entries_long ls [] h = omega arith
 entries_long [] (e ∷ es) h = cc
 entries_long (l ∷ ls) (e ∷ es) h =
@@ -128,17 +135,28 @@ entries_long (l ∷ ls) (e ∷ es) h =
 
 -- ---- blocks
 
-block_within : (ls : List (List (List ℕ))) (v : Verdict) → IsBlock ls v → line_bytes ls ≤ suc MAX_INPUT → HasEvidenceWithinLimits v
+block_within : (ls : List (List (List ℕ))) (v : Verdict) → IsBlock ls v → line_bytes ls ≤ suc MAX_INPUT
+    → HasEvidenceWithinLimits v
 block_within _ _ (realizable ls vs h k) size = tt
 block_within _ _ (nonrealizable ls es h) size =
     let a = line_bytes-append ls (end_line ∷ []) in
     let b = entries_long ls es h in
-    record { few = omega (arith, a, b, size); counted = λ k d l. (each_line IsEntryInForm entry_of entry_form ls es h k d l).times }
-block_within _ _ (undecided ls search ws u h k s) size = record { few = omega (arith, k); small = λ k d l. (each_line IsWeightInForm weight_of weight_form ls ws h k d l).size }
+    record {
+      few = omega (arith, a, b, size);
+      counted =
+          λ k d l. (each_line IsEntryInForm entry_of entry_form ls es h k d l).times;
+    }
+block_within _ _ (undecided ls search ws u h k s) size =
+    record {
+      few = omega (arith, k);
+      small =
+          λ k d l. (each_line IsWeightInForm weight_of weight_form ls ws h k d l).size;
+    }
 block_within _ _ (limit tableau search e u t s) size = tt
 
 -- what is claimed of an input that isn't too long
-pub evidence_within : (bytes : List ℕ) (c : Claim) → IsClaim (lines bytes) c → length bytes ≤ MAX_INPUT → HasEvidenceWithinLimits c.verdict
+pub evidence_within : (bytes : List ℕ) (c : Claim) → IsClaim (lines bytes) c → length bytes ≤ MAX_INPUT
+    → HasEvidenceWithinLimits c.verdict
 evidence_within bytes c h few =
     let a = all_bytes bytes in
     let b = line_bytes-append h.document h.block in

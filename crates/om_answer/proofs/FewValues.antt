@@ -21,7 +21,8 @@ few_triples n high =
 pub few_of_rank3 : (m : SignMap) → m.rank ≡ 3 → m.elements ≤ MAX_ELEMENTS → choose m.elements m.rank ≤ MAX_VALUES
 few_of_rank3 m three high = subst (λ r. choose m.elements r ≤ MAX_VALUES) (sym three) (few_triples m.elements high)
 
-pub few_values : (m : SignMap) → m.elements ≤ MAX_ELEMENTS → (m.rank ≢ 3 → choose m.elements m.rank ≤ MAX_VALUES) → choose m.elements m.rank ≤ MAX_VALUES
+pub few_values : (m : SignMap) → m.elements ≤ MAX_ELEMENTS → (m.rank ≢ 3 → choose m.elements m.rank ≤ MAX_VALUES)
+    → choose m.elements m.rank ≤ MAX_VALUES
 few_values m high others = elim (cases_eq m.rank 3) [
   | inl three ↦ few_of_rank3 m three high
   | inr other ↦ others other

@@ -2,7 +2,8 @@
 --
 -- Main definitions: continued
 -- Main results: no_word, other_number, next_number, all_numbers
-use Rattle.std.proofs.Common.{◌≡◌, ℕ, suc, ◌+◌, ◌<◌, ◌≤◌, List, true, false, not, [], ◌∷◌, ◌++◌, length, refl, ap, drop, take, take-suc, take_all, get_or, append_assoc, append-nil, drop-cons, arith}
+use Rattle.std.proofs.Common.{◌≡◌, ℕ, suc, ◌+◌, ◌<◌, ◌≤◌, List, true, false, not, [], ◌∷◌, ◌++◌, length, refl, ap, drop}
+use Rattle.std.proofs.Common.{take, take-suc, take_all, get_or, append_assoc, append-nil, drop-cons, arith}
 use Rattle.std.specs.Prelude.{ℤ, Option, Some, None}
 use Rattle.std.proofs.lemmas.List.{drop_all}
 use Rattle.om_text.specs.Lines.{has_any}
@@ -21,14 +22,18 @@ continued xs None = None
 continued xs (Some ys) = Some (xs ++ ys)
 
 -- where no word is left, or the next one spells no number of its range
-pub no_word : (rs : List Range) (i : ℕ) (ws : List (List ℕ)) (xs : List ℤ) → i < length rs → ws ≡ [] → continued xs (numbers_within (drop i rs) ws) ≡ None
+pub no_word : (rs : List Range) (i : ℕ) (ws : List (List ℕ)) (xs : List ℤ) → i < length rs → ws ≡ []
+    → continued xs (numbers_within (drop i rs) ws) ≡ None
 no_word rs i ws xs lt e = rw (drop-cons rs i least lt, e) refl
 
-pub other_number : (rs : List Range) (i : ℕ) (vs ws : List (List ℕ)) (w : List ℕ) (xs : List ℤ) → i < length rs → vs ≡ w ∷ ws → number_within (get_or rs i least) w ≡ None → continued xs (numbers_within (drop i rs) vs) ≡ None
+pub other_number : (rs : List Range) (i : ℕ) (vs ws : List (List ℕ)) (w : List ℕ) (xs : List ℤ) → i < length rs
+    → vs ≡ w ∷ ws → number_within (get_or rs i least) w ≡ None → continued xs (numbers_within (drop i rs) vs) ≡ None
 other_number rs i vs ws w xs lt e h = rw (drop-cons rs i least lt, e, h) refl
 
 -- where it does
-pub next_number : (rs : List Range) (i : ℕ) (vs ws : List (List ℕ)) (w : List ℕ) (xs : List ℤ) (z : ℤ) → i < length rs → vs ≡ w ∷ ws → number_within (get_or rs i least) w ≡ Some z → continued (xs ++ z ∷ []) (numbers_within (drop (i + 1) rs) ws) ≡ continued xs (numbers_within (drop i rs) vs)
+pub next_number : (rs : List Range) (i : ℕ) (vs ws : List (List ℕ)) (w : List ℕ) (xs : List ℤ) (z : ℤ) → i < length rs
+    → vs ≡ w ∷ ws → number_within (get_or rs i least) w ≡ Some z
+    → continued (xs ++ z ∷ []) (numbers_within (drop (i + 1) rs) ws) ≡ continued xs (numbers_within (drop i rs) vs)
 next_number rs i vs ws w xs z lt e h =
     let n : i + 1 ≡ suc i = omega arith in
     rw (n, drop-cons rs i least lt, e, h) (joined (numbers_within (drop (suc i) rs) ws))
@@ -38,16 +43,19 @@ next_number rs i vs ws w xs z lt e h =
     joined (Some ys) = ap (λ x. Some x) (append_assoc xs (z ∷ []) ys)
 
 -- where all ranges have their numbers, and no word is left, or some word is
-pub all_numbers : (rs : List Range) (i : ℕ) (ws : List (List ℕ)) (xs : List ℤ) → length rs ≤ i → true ≡ not (has_any ws) → continued xs (numbers_within (drop i rs) ws) ≡ Some xs
+pub all_numbers : (rs : List Range) (i : ℕ) (ws : List (List ℕ)) (xs : List ℤ) → length rs ≤ i → true ≡ not (has_any ws)
+    → continued xs (numbers_within (drop i rs) ws) ≡ Some xs
 all_numbers rs i [] xs le h = rw (drop_all i rs le) (ap (λ x. Some x) (append-nil xs))
 all_numbers rs i (w ∷ ws) xs le h = cc
 
-pub more_words : (rs : List Range) (i : ℕ) (ws : List (List ℕ)) (xs : List ℤ) → length rs ≤ i → false ≡ not (has_any ws) → continued xs (numbers_within (drop i rs) ws) ≡ None
+pub more_words : (rs : List Range) (i : ℕ) (ws : List (List ℕ)) (xs : List ℤ) → length rs ≤ i → false ≡ not (has_any ws)
+    → continued xs (numbers_within (drop i rs) ws) ≡ None
 more_words rs i [] xs le h = cc
 more_words rs i (w ∷ ws) xs le h = rw (drop_all i rs le) refl
 
 -- one more number in its range
-pub in_more : (rs : List Range) (i : ℕ) (zs : List ℤ) (z : ℤ) → i < length rs → AreIn (take i rs) zs → IsIn (get_or rs i least) z → AreIn (take (i + 1) rs) (zs ++ z ∷ [])
+pub in_more : (rs : List Range) (i : ℕ) (zs : List ℤ) (z : ℤ) → i < length rs → AreIn (take i rs) zs
+    → IsIn (get_or rs i least) z → AreIn (take (i + 1) rs) (zs ++ z ∷ [])
 in_more rs i zs z lt h k =
     let n : i + 1 ≡ suc i = omega arith in
     rw (n, take-suc rs i least lt) (append (take i rs) zs h)

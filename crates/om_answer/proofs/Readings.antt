@@ -16,7 +16,8 @@ use Rattle.om_answer.specs.Numbers.{IsIn, AreIn}
 use Rattle.om_answer.specs.BlockLines.{entry_ranges, entry_from}
 
 fits_between : (low high : ℕ) (z : ℤ) → high < 2 ^ 64 → IsIn (Between low high) z → FitsSigned w128 z
-fits_between low high (pos n) h i = let l : n ≤ high = leb→le n high i.1.le in let k : n < 2 ^ 127 = omega (arith, h, l) in record { sfits = k }
+fits_between low high (pos n) h i = let l : n ≤ high = leb→le n high i.1.le in let k : n < 2 ^ 127 =
+    omega (arith, h, l) in record { sfits = k }
 fits_between low high (negsuc n) h i = absurd i.0.le
 
 back : (low high : ℕ) (z : ℤ) → high < 2 ^ 64 → IsIn (Between low high) z → cast_signed w128 (cast_unsigned w128 z) ≡ z
@@ -38,7 +39,8 @@ entry_at strict xs = record {
   times = unsigned_abs (cast_signed w128 (cast_unsigned w128 (get_or xs 7 (pos 0))));
 }
 
-pub entry_read : (strict : Bool) (xs : List ℤ) → AreIn entry_ranges xs → Some (entry_at strict xs) ≡ entry_from strict xs
+pub entry_read : (strict : Bool) (xs : List ℤ) → AreIn entry_ranges xs
+    → Some (entry_at strict xs) ≡ entry_from strict xs
 entry_read strict [] h = absurd h
 entry_read strict (a ∷ []) h = absurd h.1
 entry_read strict (a ∷ b ∷ []) h = absurd h.1.1
@@ -48,14 +50,27 @@ entry_read strict (a ∷ b ∷ c ∷ d ∷ e ∷ []) h = absurd h.1.1.1.1.1
 entry_read strict (a ∷ b ∷ c ∷ d ∷ e ∷ f ∷ []) h = absurd h.1.1.1.1.1.1
 entry_read strict (a ∷ b ∷ c ∷ d ∷ e ∷ f ∷ g ∷ []) h = absurd h.1.1.1.1.1.1.1
 entry_read strict (a ∷ b ∷ c ∷ d ∷ e ∷ f ∷ g ∷ t ∷ []) h =
-    rw (back 1 MAX_ELEMENTS a (omega arith) h.0, back 1 MAX_ELEMENTS b (omega arith) h.1.0, back 1 MAX_ELEMENTS c (omega arith) h.1.1.0, back 1 MAX_ELEMENTS d (omega arith) h.1.1.1.0, back 1 MAX_ELEMENTS e (omega arith) h.1.1.1.1.0, back 1 3 f (omega arith) h.1.1.1.1.1.0, back 1 3 g (omega arith) h.1.1.1.1.1.1.0, back 1 MAX_MULTIPLICITY t (omega arith) h.1.1.1.1.1.1.1.0) refl
+    rw (
+      back 1 MAX_ELEMENTS a (omega arith) h.0,
+      back 1 MAX_ELEMENTS b (omega arith) h.1.0,
+      back 1 MAX_ELEMENTS c (omega arith) h.1.1.0,
+      back 1 MAX_ELEMENTS d (omega arith) h.1.1.1.0,
+      back 1 MAX_ELEMENTS e (omega arith) h.1.1.1.1.0,
+      back 1 3 f (omega arith) h.1.1.1.1.1.0,
+      back 1 3 g (omega arith) h.1.1.1.1.1.1.0,
+      back 1 MAX_MULTIPLICITY t (omega arith) h.1.1.1.1.1.1.1.0,
+    ) refl
 entry_read strict (a ∷ b ∷ c ∷ d ∷ e ∷ f ∷ g ∷ t ∷ u ∷ xs) h = absurd h.1.1.1.1.1.1.1.1
 
 -- a number that was narrowed
-pub narrowed : {r x : ℤ} → FitsSigned w64 r → FitsSigned w128 x → r ≡ cast_signed w128 (cast_unsigned w128 x) → cast_signed w64 (cast_unsigned w64 r) ≡ x
+pub narrowed : {r x : ℤ} → FitsSigned w64 r → FitsSigned w128 x → r ≡ cast_signed w128 (cast_unsigned w128 x)
+    → cast_signed w64 (cast_unsigned w64 r) ≡ x
 narrowed {r} {x} f g e = to_z-of_z w64 r f ∙ e ∙ to_z-of_z w128 x g
 
 -- the vector with coordinates that are small enough
-pub vector_made : {o : Option WholeVector} {a b c x y z : ℤ} → SomeIff o (IsWithinLimit (vector_of a b c)) (vector_of a b c) → IsCoordinate x → IsCoordinate y → IsCoordinate z → a ≡ x → b ≡ y → c ≡ z → o ≡ Some (vector_of x y z)
-vector_made {o = None} {x = x} {y = y} {z = z} h i j k p q r = absurd (h (rw (p, q, r) (record { x = i; y = j; z = k })))
+pub vector_made : {o : Option WholeVector} {a b c x y z : ℤ}
+    → SomeIff o (IsWithinLimit (vector_of a b c)) (vector_of a b c) → IsCoordinate x → IsCoordinate y → IsCoordinate z
+    → a ≡ x → b ≡ y → c ≡ z → o ≡ Some (vector_of x y z)
+vector_made {o = None} {x = x} {y = y} {z = z} h i j k p q r =
+    absurd (h (rw (p, q, r) (record { x = i; y = j; z = k })))
 vector_made {o = Some v} h i j k p q r = ap (λ w. Some w) (h.1 ∙ rw (p, q, r) refl)

@@ -2,9 +2,11 @@
 --
 -- Main definitions: IsLine, AreLines
 -- Main results: vector_line, entry_line, weight_line, pivots_line, basis_line, width_line, all_lines
-use Rattle.std.proofs.Common.{◌≡◌, ℕ, ◌≤◌, ◌<◌, ◌^◌, List, [], ◌∷◌, Bool, true, false, ◌&&◌, length, map, refl, ap, ◌∙◌, arith}
+use Rattle.std.proofs.Common.{◌≡◌, ℕ, ◌≤◌, ◌<◌, ◌^◌, List, [], ◌∷◌, Bool, true, false, ◌&&◌, length, map, refl, ap, ◌∙◌}
+use Rattle.std.proofs.Common.{arith}
 use Rattle.std.proofs.lemmas.Int.{ints}
-use Rattle.std.specs.Prelude.{ℤ, pos, negsuc, codes, decimal, Option, Some, None, option_map, option_and_then, cond, All}
+use Rattle.std.specs.Prelude.{ℤ, pos, negsuc, codes, decimal, Option, Some, None, option_map, option_and_then, cond}
+use Rattle.std.specs.Prelude.{All}
 use Rattle.std.specs.Fmt.{signed_decimal}
 use Rattle.std.specs.List.{list_all}
 use Rattle.std.proofs.lemmas.Bool.{le-leb, lt-ltb}
@@ -23,8 +25,11 @@ use Rattle.om_signs.specs.declared.limits.TheConstants.{MAX_PIVOTS, MAX_PLAIN}
 use Rattle.om_answer.specs.declared.range.Range.{Range}
 use Rattle.om_answer.specs.declared.range.Range.TheVariants.{Between, UpToSize}
 use Rattle.om_answer.specs.Numbers.{at_least, number_within, numbers_within, IsIn, AreIn}
-use Rattle.om_answer.specs.BlockLines.{vector_ranges, vector_from, vector_of, entry_ranges, entry_from, strictness, entry_of, weight_ranges, weight_from, weight_of, count_from, pivots_ranges, pivots_of, some_of, basis_of, stage_of, width_from, width_ranges, width_of}
-use Rattle.om_answer.specs.VerdictText.{named, vector_numbers, vector_words, entry_numbers, relation_name, entry_words, weight_numbers, weight_words, stage_name, width_numbers}
+use Rattle.om_answer.specs.BlockLines.{vector_ranges, vector_from, vector_of, entry_ranges, entry_from, strictness}
+use Rattle.om_answer.specs.BlockLines.{entry_of, weight_ranges, weight_from, weight_of, count_from, pivots_ranges}
+use Rattle.om_answer.specs.BlockLines.{pivots_of, some_of, basis_of, stage_of, width_from, width_ranges, width_of}
+use Rattle.om_answer.specs.VerdictText.{named, vector_numbers, vector_words, entry_numbers, relation_name, entry_words}
+use Rattle.om_answer.specs.VerdictText.{weight_numbers, weight_words, stage_name, width_numbers}
 
 -- ---- numbers
 
@@ -75,7 +80,8 @@ numbers_read (r ∷ rs) (z ∷ zs) n i =
     let h = number_read r z n.0 i.0 in
     let t = numbers_read rs zs n.1 i.1 in
     record {
-      values = ap (λ o. with_item o (numbers_within rs (map signed_decimal zs))) h.value ∙ ap (with_item (Some z)) t.values;
+      values = ap (λ o. with_item o (numbers_within rs (map signed_decimal zs))) h.value
+          ∙ ap (with_item (Some z)) t.values;
       words = ap (λ b. b && list_all is_word (map signed_decimal zs)) h.word ∙ t.words;
     }
 
@@ -114,7 +120,10 @@ vector_line v h =
 
 entry_ranges_fit : AreRangesIn120Bits entry_ranges
 unfolding AreRangesIn120Bits IsRangeIn120Bits
-entry_ranges_fit = (omega arith, (omega arith, (omega arith, (omega arith, (omega arith, (omega arith, (omega arith, (omega arith, tt))))))))
+entry_ranges_fit = (
+  omega arith,
+  (omega arith, (omega arith, (omega arith, (omega arith, (omega arith, (omega arith, (omega arith, tt))))))),
+)
 
 relation_read : (strict : Bool) → strictness (relation_name strict) ≡ Some strict
 relation_read true = refl
@@ -126,7 +135,22 @@ relation_word false = refl
 
 -- the numbers of an entry are in their ranges
 entry_in : (e : Entry) → IsEntryInForm e → AreIn entry_ranges (entry_numbers e)
-entry_in e h = (between h.a.low h.a.high, (between h.b.low h.b.high, (between h.c.low h.c.high, (between h.d.low h.d.high, (between h.e.low h.e.high, (between h.small.low h.small.high, (between h.big.low h.big.high, (between h.times.low h.times.high, tt))))))))
+entry_in e h = (
+  between h.a.low h.a.high,
+  (
+    between h.b.low h.b.high,
+    (
+      between h.c.low h.c.high,
+      (
+        between h.d.low h.d.high,
+        (
+          between h.e.low h.e.high,
+          (between h.small.low h.small.high, (between h.big.low h.big.high, (between h.times.low h.times.high, tt))),
+        ),
+      ),
+    ),
+  ),
+)
 
 pub entry_line : (e : Entry) → IsEntryInForm e → IsLine entry_of (entry_words e) e
 entry_line e h =
@@ -134,7 +158,8 @@ entry_line e h =
     let s = e.statement.strict in
     let ws = map signed_decimal (entry_numbers e) in
     record {
-      value = ap (option_and_then (λ strict. option_and_then (entry_from strict) (numbers_within entry_ranges ws))) (relation_read s)
+      value = ap (option_and_then (λ strict. option_and_then (entry_from strict) (numbers_within entry_ranges ws)))
+          (relation_read s)
           ∙ ap (option_and_then (entry_from s)) r.values;
       words = ap (λ b. b && list_all is_word ws) (relation_word s) ∙ r.words;
     }
@@ -172,7 +197,8 @@ some_numbers : (ns : List ℕ) → 1 ≤ length ns → some_of ns ≡ Some ns
 some_numbers [] h = absurd (omega arith)
 some_numbers (n ∷ ns) h = refl
 
-pub basis_line : (basis : List ℕ) → 1 ≤ length basis → All (λ b. b ≤ MAX_PLAIN) basis → IsLine basis_of (codes "basis" ∷ map decimal basis) basis
+pub basis_line : (basis : List ℕ) → 1 ≤ length basis → All (λ b. b ≤ MAX_PLAIN) basis
+    → IsLine basis_of (codes "basis" ∷ map decimal basis) basis
 basis_line basis some plain =
     let r = plain_read basis plain in
     record { value = ap (option_and_then some_of) r.values ∙ some_numbers basis some; words = r.words }
@@ -193,9 +219,13 @@ stage_word stage.Column = refl
 stage_word stage.Update = refl
 stage_word stage.Scale = refl
 
-pub width_line : (s : Stage) (p r c : ℕ) → IsWidthInForm p r c → IsLine width_of (codes "width" ∷ named (stage_name s) (width_numbers p r c)) (lp_end.Width s p r c)
+pub width_line : (s : Stage) (p r c : ℕ) → IsWidthInForm p r c
+    → IsLine width_of (codes "width" ∷ named (stage_name s) (width_numbers p r c)) (lp_end.Width s p r c)
 width_line s p r c h =
-    let k = numbers_read width_ranges (width_numbers p r c) width_ranges_fit (between (omega arith) h.pivot_most, (between (omega arith) h.row_most, (between (omega arith) h.place_most, tt))) in
+    let k = numbers_read width_ranges (width_numbers p r c) width_ranges_fit (
+      between (omega arith) h.pivot_most,
+      (between (omega arith) h.row_most, (between (omega arith) h.place_most, tt)),
+    ) in
     let ws = map signed_decimal (width_numbers p r c) in
     record {
       value = ap (option_and_then (λ s. option_and_then (width_from s) (numbers_within width_ranges ws))) (stage_read s)
@@ -205,11 +235,13 @@ width_line s p r c h =
 
 -- ---- lists of lines
 
-pub record AreLines {A : Type 0} (line_of : List (List ℕ) → Option A) (ls : List (List (List ℕ))) (xs : List A) : Type 0 where
+pub record AreLines {A : Type 0} (line_of : List (List ℕ) → Option A) (ls : List (List (List ℕ))) (xs : List A) : Type
+    0 where
   pub values : map line_of ls ≡ map Some xs
   pub words : list_all is_word_line ls ≡ true
 
-pub all_lines : {A : Type 0} (P : A → Type 0) (line_of : List (List ℕ) → Option A) (words_of : A → List (List ℕ)) → ((x : A) → P x → IsLine line_of (words_of x) x) → (xs : List A) → All P xs → AreLines line_of (map words_of xs) xs
+pub all_lines : {A : Type 0} (P : A → Type 0) (line_of : List (List ℕ) → Option A) (words_of : A → List (List ℕ))
+    → ((x : A) → P x → IsLine line_of (words_of x) x) → (xs : List A) → All P xs → AreLines line_of (map words_of xs) xs
 all_lines P line_of words_of each [] a = record { values = refl; words = refl }
 all_lines P line_of words_of each (x ∷ xs) a =
     let h = each x (All-head P x xs a) in

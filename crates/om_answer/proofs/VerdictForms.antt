@@ -1,9 +1,11 @@
 -- What the lines of a block say is in form, so that a verdict that was read can be printed.
 --
--- Main results: number_in and numbers_in, that numbers that are read are in their ranges; entry_form and weight_form, of one line;
--- each_line, of all lines; verdict_form, of a block.
-use Rattle.std.proofs.Common.{◌≡◌, ℕ, zero, suc, ◌+◌, ◌-◌, ◌*◌, ◌<◌, ◌≤◌, List, [], ◌∷◌, Bool, true, not, ◌||◌, length, refl, ap, subst, arith, inl, inr}
-use Rattle.std.specs.Prelude.{ℤ, pos, negsuc, unsigned_abs, Option, Some, None, IfSome, codes, nat_eq, nat_le, nat_lt, ◌&&◌, All, option_map, option_and_then}
+-- Main results: number_in and numbers_in, that numbers that are read are in their ranges; entry_form and weight_form,
+-- of one line; each_line, of all lines; verdict_form, of a block.
+use Rattle.std.proofs.Common.{◌≡◌, ℕ, zero, suc, ◌+◌, ◌-◌, ◌*◌, ◌<◌, ◌≤◌, List, [], ◌∷◌, Bool, true, not, ◌||◌, length}
+use Rattle.std.proofs.Common.{refl, ap, subst, arith, inl, inr}
+use Rattle.std.specs.Prelude.{ℤ, pos, negsuc, unsigned_abs, Option, Some, None, IfSome, codes, nat_eq, nat_le, nat_lt}
+use Rattle.std.specs.Prelude.{◌&&◌, All, option_map, option_and_then}
 use Rattle.std.specs.List.{list_all}
 use Rattle.std.proofs.Math.Nat.{mul-le-mul_left}
 use Rattle.std.proofs.lemmas.Bool.{leb-true, ltb-true}
@@ -26,8 +28,12 @@ use Rattle.om_text.proofs.Distinct.{both, either}
 use Rattle.om_answer.specs.declared.range.Range.{Range}
 use Rattle.om_answer.specs.declared.range.Range.TheVariants.{Between, UpToSize}
 use Rattle.om_answer.specs.Numbers.{at_least, number_within, numbers_within, IsIn, AreIn}
-use Rattle.om_answer.specs.BlockLines.{after_name, vector_ranges, vector_from, vector_of, entry_ranges, entry_from, strictness, entry_of, weight_ranges, weight_from, weight_of, count_from, pivots_ranges, pivots_of, some_of, basis_of, stage_of, width_from, width_ranges, width_after, width_of}
-use Rattle.om_answer.specs.Block.{AreLinesOf, IsSearchEnd, IsTableauEnd, IsBlock, exhausted, frontier, pivots, width, realizable, nonrealizable, undecided, limit}
+use Rattle.om_answer.specs.BlockLines.{after_name, vector_ranges, vector_from, vector_of, entry_ranges, entry_from}
+use Rattle.om_answer.specs.BlockLines.{strictness, entry_of, weight_ranges, weight_from, weight_of, count_from}
+use Rattle.om_answer.specs.BlockLines.{pivots_ranges, pivots_of, some_of, basis_of, stage_of, width_from, width_ranges}
+use Rattle.om_answer.specs.BlockLines.{width_after, width_of}
+use Rattle.om_answer.specs.Block.{AreLinesOf, IsSearchEnd, IsTableauEnd, IsBlock, exhausted, frontier, pivots, width}
+use Rattle.om_answer.specs.Block.{realizable, nonrealizable, undecided, limit}
 use Rattle.om_answer.proofs.BlockForms.{lines_head, lines_tail}
 
 -- ---- numbers in their ranges
@@ -36,7 +42,8 @@ pub some_at : {A : Type 0} (P : A → Type 0) (o : Option A) (x : A) → IfSome 
 some_at P o x h e = subst (λ o. IfSome o P) e h
 
 -- what holds of the numbers of words holds of what is made of them
-from_some : {A B : Type 0} (P : A → Type 0) (Q : B → Type 0) (f : A → Option B) (o : Option A) → IfSome o P → ((x : A) → P x → IfSome (f x) Q) → IfSome (option_and_then f o) Q
+from_some : {A B : Type 0} (P : A → Type 0) (Q : B → Type 0) (f : A → Option B) (o : Option A) → IfSome o P
+    → ((x : A) → P x → IfSome (f x) Q) → IfSome (option_and_then f o) Q
 from_some P Q f None h g = tt
 from_some P Q f (Some x) h g = g x h
 
@@ -44,20 +51,24 @@ pub number_in : (r : Range) (w : List ℕ) → IfSome (number_within r w) (IsIn 
 number_in (UpToSize size) w = signed_within size w
 number_in (Between low high) w = between (unsigned high w) (unsigned_within high w)
   where
-    between : (o : Option ℕ) → IfSome o (λ k. k ≤ high) → IfSome (option_map pos (option_and_then (at_least low) o)) (IsIn (Between low high))
+    between : (o : Option ℕ) → IfSome o (λ k. k ≤ high)
+        → IfSome (option_map pos (option_and_then (at_least low) o)) (IsIn (Between low high))
     between None h = tt
     between (Some k) h = elim (either (nat_le low k)) [
       | inl e ↦ let l = leb-true low k e in rw e (omega (arith, ints, l), omega (arith, ints, h))
       | inr n ↦ rw n tt
     ]
 
-pub numbers_in : (rs : List Range) (ws : List (List ℕ)) → IfSome (numbers_within rs ws) (λ zs. (length ws ≡ length rs) × AreIn rs zs)
+pub numbers_in : (rs : List Range) (ws : List (List ℕ))
+    → IfSome (numbers_within rs ws) (λ zs. (length ws ≡ length rs) × AreIn rs zs)
 numbers_in [] [] = (refl, tt)
 numbers_in [] (w ∷ ws) = tt
 numbers_in (r ∷ rs) [] = tt
 numbers_in (r ∷ rs) (w ∷ ws) = joined (number_within r w) (numbers_within rs ws) (number_in r w) (numbers_in rs ws)
   where
-    joined : (o : Option ℤ) (p : Option (List ℤ)) → IfSome o (IsIn r) → IfSome p (λ zs. (length ws ≡ length rs) × AreIn rs zs) → IfSome (with_item o p) (λ zs. (suc (length ws) ≡ suc (length rs)) × AreIn (r ∷ rs) zs)
+    joined : (o : Option ℤ) (p : Option (List ℤ)) → IfSome o (IsIn r)
+        → IfSome p (λ zs. (length ws ≡ length rs) × AreIn rs zs)
+        → IfSome (with_item o p) (λ zs. (suc (length ws) ≡ suc (length rs)) × AreIn (r ∷ rs) zs)
     joined None p h k = tt
     joined (Some z) None h k = tt
     joined (Some z) (Some zs) h k = (ap suc k.0, (h, k.1))
@@ -75,9 +86,13 @@ element_in : (n : ℕ) (z : ℤ) → IsIn (Between 1 n) z → IsElement n (unsig
 element_in n z h = record { low = least_size 1 n z h; high = most_size 1 n z h }
 
 -- the numbers behind a name
-named_in : {B : Type 0} (Q : B → Type 0) (rs : List Range) (f : List ℤ → Option B) → ((zs : List ℤ) → AreIn rs zs → IfSome (f zs) Q) → (o : Option (List (List ℕ))) → IfSome (option_and_then f (option_and_then (numbers_within rs) o)) Q
+named_in : {B : Type 0} (Q : B → Type 0) (rs : List Range) (f : List ℤ → Option B)
+    → ((zs : List ℤ) → AreIn rs zs → IfSome (f zs) Q) → (o : Option (List (List ℕ)))
+    → IfSome (option_and_then f (option_and_then (numbers_within rs) o)) Q
 named_in Q rs f each None = tt
-named_in Q rs f each (Some ws) = from_some (λ zs. (length ws ≡ length rs) × AreIn rs zs) Q f (numbers_within rs ws) (numbers_in rs ws) (λ zs h. each zs h.1)
+named_in Q rs f each (Some ws) =
+    from_some (λ zs. (length ws ≡ length rs) × AreIn rs zs) Q f (numbers_within rs ws) (numbers_in rs ws)
+    (λ zs h. each zs h.1)
 
 -- ---- lines
 
@@ -116,9 +131,13 @@ pub entry_form : (w : List (List ℕ)) → IfSome (entry_of w) IsEntryInForm
 entry_form [] = tt
 entry_form (w ∷ ws) = named (strictness w)
   where
-    named : (o : Option Bool) → IfSome (option_and_then (λ strict. option_and_then (entry_from strict) (numbers_within entry_ranges ws)) o) IsEntryInForm
+    named : (o : Option Bool)
+        → IfSome (option_and_then (λ strict. option_and_then (entry_from strict) (numbers_within entry_ranges ws)) o)
+        IsEntryInForm
     named None = tt
-    named (Some strict) = from_some (λ zs. (length ws ≡ length entry_ranges) × AreIn entry_ranges zs) IsEntryInForm (entry_from strict) (numbers_within entry_ranges ws) (numbers_in entry_ranges ws) (λ zs h. entry_in strict zs h.1)
+    named (Some strict) = from_some (λ zs. (length ws ≡ length entry_ranges) × AreIn entry_ranges zs) IsEntryInForm
+        (entry_from strict) (numbers_within entry_ranges ws) (numbers_in entry_ranges ws)
+        (λ zs h. entry_in strict zs h.1)
 
 pub weight_form : (w : List (List ℕ)) → IfSome (weight_of w) IsWeightInForm
 weight_form w = named_in IsWeightInForm weight_ranges weight_from weight_in (after_name (codes "weight") w)
@@ -128,17 +147,18 @@ weight_form w = named_in IsWeightInForm weight_ranges weight_from weight_in (aft
     weight_in (a ∷ []) h = tt
     weight_in (a ∷ b ∷ []) h = tt
     weight_in (a ∷ b ∷ c ∷ []) h = tt
-    weight_in (a ∷ b ∷ c ∷ z ∷ []) h = elim (either (nat_lt (unsigned_abs a) (unsigned_abs b) && nat_lt (unsigned_abs b) (unsigned_abs c))) [
-      | inl e ↦ let p = both (nat_lt (unsigned_abs a) (unsigned_abs b)) (nat_lt (unsigned_abs b) (unsigned_abs c)) e in
-          rw e (record {
-            a = least_size _ _ a h.0;
-            a_b = ltb-true (unsigned_abs a) (unsigned_abs b) p.0;
-            b_c = ltb-true (unsigned_abs b) (unsigned_abs c) p.1;
-            c = most_size _ _ c h.1.1.0;
-            size = h.1.1.1.0;
-          })
-      | inr n ↦ rw n tt
-    ]
+    weight_in (a ∷ b ∷ c ∷ z ∷ []) h =
+        elim (either (nat_lt (unsigned_abs a) (unsigned_abs b) && nat_lt (unsigned_abs b) (unsigned_abs c))) [
+          | inl e ↦ let p = both (nat_lt (unsigned_abs a) (unsigned_abs b)) (nat_lt (unsigned_abs b) (unsigned_abs c)) e in
+              rw e (record {
+                a = least_size _ _ a h.0;
+                a_b = ltb-true (unsigned_abs a) (unsigned_abs b) p.0;
+                b_c = ltb-true (unsigned_abs b) (unsigned_abs c) p.1;
+                c = most_size _ _ c h.1.1.0;
+                size = h.1.1.1.0;
+              })
+          | inr n ↦ rw n tt
+        ]
     weight_in (a ∷ b ∷ c ∷ z ∷ u ∷ zs) h = tt
 
 pivots_form : (w : List (List ℕ)) → IfSome (pivots_of w) (λ count. count ≤ MAX_PIVOTS)
@@ -188,7 +208,8 @@ plain_in : (ws : List (List ℕ)) → IfSome (plain_numbers ws) (All (λ n. n �
 plain_in [] = All-nil (λ n. n ≤ MAX_PLAIN)
 plain_in (w ∷ ws) = joined (plain w) (plain_numbers ws) (plain_most w) (plain_in ws)
   where
-    joined : (o : Option ℕ) (p : Option (List ℕ)) → IfSome o (λ n. n ≤ MAX_PLAIN) → IfSome p (All (λ n. n ≤ MAX_PLAIN)) → IfSome (with_item o p) (All (λ n. n ≤ MAX_PLAIN))
+    joined : (o : Option ℕ) (p : Option (List ℕ)) → IfSome o (λ n. n ≤ MAX_PLAIN) → IfSome p (All (λ n. n ≤ MAX_PLAIN))
+        → IfSome (with_item o p) (All (λ n. n ≤ MAX_PLAIN))
     joined None p h k = tt
     joined (Some n) None h k = tt
     joined (Some n) (Some ns) h k = All-cons (λ n. n ≤ MAX_PLAIN) n ns h k
@@ -216,12 +237,20 @@ width_form w = named (after_name (codes "width") w)
     width_in s [] h = tt
     width_in s (p ∷ []) h = tt
     width_in s (p ∷ r ∷ []) h = tt
-    width_in s (p ∷ r ∷ c ∷ []) h = record { pivot_most = most_size _ _ p h.0; row_most = most_size _ _ r h.1.0; place_most = most_size _ _ c h.1.1.0 }
+    width_in s (p ∷ r ∷ c ∷ []) h =
+        record {
+          pivot_most = most_size _ _ p h.0;
+          row_most = most_size _ _ r h.1.0;
+          place_most =
+              most_size _ _ c h.1.1.0;
+        }
     width_in s (p ∷ r ∷ c ∷ u ∷ zs) h = tt
 
-    staged : (ws : List (List ℕ)) (o : Option Stage) → IfSome (option_and_then (λ s. option_and_then (width_from s) (numbers_within width_ranges ws)) o) IsEndInForm
+    staged : (ws : List (List ℕ)) (o : Option Stage)
+        → IfSome (option_and_then (λ s. option_and_then (width_from s) (numbers_within width_ranges ws)) o) IsEndInForm
     staged ws None = tt
-    staged ws (Some s) = from_some (λ zs. (length ws ≡ length width_ranges) × AreIn width_ranges zs) IsEndInForm (width_from s) (numbers_within width_ranges ws) (numbers_in width_ranges ws) (λ zs h. width_in s zs h.1)
+    staged ws (Some s) = from_some (λ zs. (length ws ≡ length width_ranges) × AreIn width_ranges zs) IsEndInForm
+        (width_from s) (numbers_within width_ranges ws) (numbers_in width_ranges ws) (λ zs h. width_in s zs h.1)
 
     after : (ws : List (List ℕ)) → IfSome (width_after ws) IsEndInForm
     after [] = tt
@@ -232,25 +261,36 @@ width_form w = named (after_name (codes "width") w)
     named (Some ws) = after ws
 
 -- what each line of a form says holds of each item
-pub each_line : {A : Type 0} (P : A → Type 0) (line_of : List (List ℕ) → Option A) → ((l : List (List ℕ)) → IfSome (line_of l) P) → (ls : List (List (List ℕ))) (xs : List A) → AreLinesOf line_of ls xs → All P xs
+pub each_line : {A : Type 0} (P : A → Type 0) (line_of : List (List ℕ) → Option A)
+    → ((l : List (List ℕ)) → IfSome (line_of l) P) → (ls : List (List (List ℕ))) (xs : List A)
+    → AreLinesOf line_of ls xs → All P xs
 each_line P line_of form ls [] h = All-nil P
 each_line P line_of form [] (x ∷ xs) h = cc
-each_line P line_of form (l ∷ ls) (x ∷ xs) h = All-cons P x xs (some_at P (line_of l) x (form l) (lines_head line_of l ls x xs h)) (each_line P line_of form ls xs (lines_tail line_of l ls x xs h))
+each_line P line_of form (l ∷ ls) (x ∷ xs) h =
+    All-cons P x xs (some_at P (line_of l) x (form l) (lines_head line_of l ls x xs h))
+    (each_line P line_of form ls xs (lines_tail line_of l ls x xs h))
 
 -- ---- blocks
 
 search_form : (ls : List (List (List ℕ))) (u : Unfound) → IsSearchEnd ls u → IsSearchInForm u
 search_form _ _ exhausted = tt
-search_form _ _ (frontier ls vs h few) = record { few = few; each = each_line IsWithinLimit vector_of vector_form ls vs h }
+search_form _ _ (frontier ls vs h few) =
+    record { few = few; each = each_line IsWithinLimit vector_of vector_form ls vs h }
 
 tableau_form : (ls : List (List (List ℕ))) (e : LpEnd) → IsTableauEnd ls e → IsEndInForm e
 tableau_form _ _ (pivots p b count basis q d) =
     let f = some_at ArePlain (basis_of b) basis (basis_form b) d in
-    record { budget = some_at (λ count. count ≤ MAX_PIVOTS) (pivots_of p) count (pivots_form p) q; some = f.some; plain = f.plain }
+    record {
+      budget = some_at (λ count. count ≤ MAX_PIVOTS) (pivots_of p) count (pivots_form p) q;
+      some = f.some;
+      plain = f.plain;
+    }
 tableau_form _ _ (width w e q) = some_at IsEndInForm (width_of w) e (width_form w) q
 
 pub verdict_form : (ls : List (List (List ℕ))) (v : Verdict) → IsBlock ls v → IsVerdictInForm v
-verdict_form _ _ (realizable ls vs h few) = record { few = few; each = each_line IsWithinLimit vector_of vector_form ls vs h }
+verdict_form _ _ (realizable ls vs h few) =
+    record { few = few; each = each_line IsWithinLimit vector_of vector_form ls vs h }
 verdict_form _ _ (nonrealizable ls es h) = each_line IsEntryInForm entry_of entry_form ls es h
-verdict_form _ _ (undecided ls search ws u h few s) = (record { few = few; each = each_line IsWeightInForm weight_of weight_form ls ws h }, search_form search u s)
+verdict_form _ _ (undecided ls search ws u h few s) =
+    (record { few = few; each = each_line IsWeightInForm weight_of weight_form ls ws h }, search_form search u s)
 verdict_form _ _ (limit tableau search e u t s) = (tableau_form tableau e t, search_form search u s)

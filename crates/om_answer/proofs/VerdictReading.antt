@@ -24,10 +24,13 @@ use Rattle.om_text.proofs.Printing.{text_of-append}
 use Rattle.om_text.proofs.Reread.{printed_one_line, printed_spelled}
 use Rattle.om_text.proofs.Texts.{is_word_line, wordful_spaced, spaced_one_lines}
 use Rattle.om_answer.specs.BlockLines.{vector_of, entry_of, weight_of}
-use Rattle.om_answer.specs.Block.{IsSearchEnd, IsTableauEnd, IsBlock, exhausted, frontier, pivots, width, realizable, nonrealizable, undecided, limit}
+use Rattle.om_answer.specs.Block.{IsSearchEnd, IsTableauEnd, IsBlock, exhausted, frontier, pivots, width, realizable}
+use Rattle.om_answer.specs.Block.{nonrealizable, undecided, limit}
 use Rattle.om_answer.specs.Claim.{IsClaim, IsSpelledClaim}
-use Rattle.om_answer.specs.VerdictText.{vector_words, entry_words, weight_words, search_lines, tableau_lines, block_lines, chirotope_document, verdict_text, claim_of}
-use Rattle.om_answer.proofs.Spelled.{vector_line, entry_line, weight_line, pivots_line, basis_line, width_line, all_lines}
+use Rattle.om_answer.specs.VerdictText.{vector_words, entry_words, weight_words, search_lines, tableau_lines}
+use Rattle.om_answer.specs.VerdictText.{block_lines, chirotope_document, verdict_text, claim_of}
+use Rattle.om_answer.proofs.Spelled.{vector_line, entry_line, weight_line, pivots_line, basis_line, width_line}
+use Rattle.om_answer.proofs.Spelled.{all_lines}
 
 -- lines of words that end a search, or a tableau
 record IsSearch (ls : List (List (List ℕ))) (u : Unfound) : Type 0 where
@@ -50,7 +53,8 @@ tableau_read (lp_end.Pivots count basis) h =
     let b = basis_line basis h.some h.plain in
     record {
       ends = pivots _ _ count basis p.value b.value;
-      words = ap (λ a. a && list_all is_word_line ((codes "basis" ∷ map decimal basis) ∷ [])) p.words ∙ ap (λ a. a && true) b.words;
+      words = ap (λ a. a && list_all is_word_line ((codes "basis" ∷ map decimal basis) ∷ [])) p.words
+          ∙ ap (λ a. a && true) b.words;
     }
 tableau_read (lp_end.Width s p r c) h =
     let w = width_line s p r c h in
@@ -62,19 +66,25 @@ pub record IsSaid (v : Verdict) : Type 0 where
   pub words : list_all is_word_line (block_lines v) ≡ true
 
 -- lines of words, then others, and then the line `end`
-closed_words : (ls ks : List (List (List ℕ))) → list_all is_word_line ls ≡ true → list_all is_word_line ks ≡ true → list_all is_word_line ((ls ++ ks) ++ end_line ∷ []) ≡ true
+closed_words : (ls ks : List (List (List ℕ))) → list_all is_word_line ls ≡ true → list_all is_word_line ks ≡ true
+    → list_all is_word_line ((ls ++ ks) ++ end_line ∷ []) ≡ true
 closed_words ls ks h g = list_all-append is_word_line (ls ++ ks) (end_line ∷ []) ∙ ap (λ a. a && true) both_words
   where
     both_words : list_all is_word_line (ls ++ ks) ≡ true
     both_words = list_all-append is_word_line ls ks ∙ rw (h, g) refl
 
-one_closed : (ls : List (List (List ℕ))) → list_all is_word_line ls ≡ true → list_all is_word_line (ls ++ end_line ∷ []) ≡ true
+one_closed : (ls : List (List (List ℕ))) → list_all is_word_line ls ≡ true
+    → list_all is_word_line (ls ++ end_line ∷ []) ≡ true
 one_closed ls h = list_all-append is_word_line ls (end_line ∷ []) ∙ rw h refl
 
 pub block_read : (v : Verdict) → IsVerdictInForm v → IsSaid v
 block_read (Realizable vs) h =
     let r = all_lines IsWithinLimit vector_of vector_words vector_line vs h.each in
-    record { block = realizable (map vector_words vs) vs r.values h.few; words = one_closed (map vector_words vs) r.words }
+    record {
+      block = realizable (map vector_words vs) vs r.values h.few;
+      words =
+          one_closed (map vector_words vs) r.words;
+    }
 block_read (Nonrealizable es) h =
     let r = all_lines IsEntryInForm entry_of entry_words entry_line es h in
     record { block = nonrealizable (map entry_words es) es r.values; words = one_closed (map entry_words es) r.words }
@@ -94,12 +104,16 @@ block_read (Limit e u) h =
     }
 
 -- the text of a verdict on a chirotope is the claim of both
-pub claim_read : (m : SignMap) (v : Verdict) → IsInForm (chirotope_document m) → IsVerdictInForm v → IsClaim (lines (verdict_text m v)) (claim_of m v)
+pub claim_read : (m : SignMap) (v : Verdict) → IsInForm (chirotope_document m) → IsVerdictInForm v
+    → IsClaim (lines (verdict_text m v)) (claim_of m v)
 claim_read m v d h =
     let top = printed_lines (chirotope_document m) in
     let b = block_read v h in
     let behind = map spaced (block_lines v) in
-    let whole : lines (verdict_text m v) ≡ top ++ behind = ap lines (sym (text_of-append top behind)) ∙ lines_of_text (top ++ behind) (one_line-append top behind (printed_one_line (chirotope_document m) d) (spaced_one_lines (block_lines v) b.words)) in
+    let whole : lines (verdict_text m v) ≡ top ++ behind = ap lines (sym (text_of-append top behind))
+    ∙ lines_of_text (top ++ behind)
+    (one_line-append top behind (printed_one_line (chirotope_document m) d)
+    (spaced_one_lines (block_lines v) b.words)) in
     let s : IsSpelledClaim (wordful (top ++ behind)) (claim_of m v) = record {
       document = wordful top;
       block = block_lines v;

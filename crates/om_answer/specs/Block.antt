@@ -1,6 +1,6 @@
--- Verdict blocks, over whole lists of lines.
+-- Verdict blocks, in terms of whole lists of lines.
 --
--- Trusted: what a claim is rests on these definitions. Nothing here says how one is read.
+-- Trusted: these definitions say what a claim is. Nothing here says how one is read.
 use Rattle.std.specs.Prelude.{ℕ, ◌≡◌, ◌≤◌, List, [], ◌∷◌, ◌++◌, length, map, codes, Option, Some}
 use Rattle.om_signs.specs.declared.limits.TheConstants.{MAX_ELEMENTS}
 use Rattle.om_subsets.specs.Subsets.{choose}
@@ -16,7 +16,7 @@ use Rattle.om_certificate.specs.declared.verdict.Verdict.TheVariants.{Realizable
 use Rattle.om_text.specs.Document.{end_line}
 use Rattle.om_answer.specs.BlockLines.{word_line, vector_of, entry_of, weight_of, pivots_of, basis_of, width_of}
 
--- each line says the item at its place
+-- each line says the item at its position
 abbrev pub AreLinesOf : {A : Type 0} → (List (List ℕ) → Option A) → List (List (List ℕ)) → List A → Type 0
 AreLinesOf line_of ls xs = map line_of ls ≡ map Some xs
 
@@ -30,16 +30,23 @@ MOST_WEIGHTS = choose MAX_ELEMENTS 3
 -- how a search ended: `exhausted`, or `frontier` and the vectors of its word
 pub data IsSearchEnd : List (List (List ℕ)) → Unfound → Type 0 where
   exhausted : IsSearchEnd (word_line (codes "exhausted") ∷ []) Exhausted
-  frontier : (ls : List (List (List ℕ))) (vs : List WholeVector) → AreLinesOf vector_of ls vs → length vs ≤ MOST_VECTORS → IsSearchEnd (word_line (codes "frontier") ∷ ls) (Frontier vs)
+  frontier : (ls : List (List (List ℕ))) (vs : List WholeVector) → AreLinesOf vector_of ls vs → length vs ≤ MOST_VECTORS
+      → IsSearchEnd (word_line (codes "frontier") ∷ ls) (Frontier vs)
 
 -- how a tableau ended: `pivots P` and `basis B1 B2 ..`, or `width STAGE p r c`
 pub data IsTableauEnd : List (List (List ℕ)) → LpEnd → Type 0 where
-  pivots : (p b : List (List ℕ)) (count : ℕ) (basis : List ℕ) → pivots_of p ≡ Some count → basis_of b ≡ Some basis → IsTableauEnd (p ∷ b ∷ []) (lp_end.Pivots count basis)
+  pivots : (p b : List (List ℕ)) (count : ℕ) (basis : List ℕ) → pivots_of p ≡ Some count → basis_of b ≡ Some basis
+      → IsTableauEnd (p ∷ b ∷ []) (lp_end.Pivots count basis)
   width : (w : List (List ℕ)) (e : LpEnd) → width_of w ≡ Some e → IsTableauEnd (w ∷ []) e
 
 -- a verdict word, the lines of this verdict, and `end`
 pub data IsBlock : List (List (List ℕ)) → Verdict → Type 0 where
-  realizable : (ls : List (List (List ℕ))) (vs : List WholeVector) → AreLinesOf vector_of ls vs → length vs ≤ MOST_VECTORS → IsBlock (word_line (codes "realizable") ∷ ls ++ end_line ∷ []) (Realizable vs)
-  nonrealizable : (ls : List (List (List ℕ))) (es : List Entry) → AreLinesOf entry_of ls es → IsBlock (word_line (codes "nonrealizable") ∷ ls ++ end_line ∷ []) (Nonrealizable es)
-  undecided : (ls search : List (List (List ℕ))) (ws : List Weight) (u : Unfound) → AreLinesOf weight_of ls ws → length ws ≤ MOST_WEIGHTS → IsSearchEnd search u → IsBlock (word_line (codes "undecided") ∷ ls ++ search ++ end_line ∷ []) (Undecided ws u)
-  limit : (tableau search : List (List (List ℕ))) (e : LpEnd) (u : Unfound) → IsTableauEnd tableau e → IsSearchEnd search u → IsBlock (word_line (codes "limit") ∷ tableau ++ search ++ end_line ∷ []) (Limit e u)
+  realizable : (ls : List (List (List ℕ))) (vs : List WholeVector) → AreLinesOf vector_of ls vs
+      → length vs ≤ MOST_VECTORS → IsBlock (word_line (codes "realizable") ∷ ls ++ end_line ∷ []) (Realizable vs)
+  nonrealizable : (ls : List (List (List ℕ))) (es : List Entry) → AreLinesOf entry_of ls es
+      → IsBlock (word_line (codes "nonrealizable") ∷ ls ++ end_line ∷ []) (Nonrealizable es)
+  undecided : (ls search : List (List (List ℕ))) (ws : List Weight) (u : Unfound) → AreLinesOf weight_of ls ws
+      → length ws ≤ MOST_WEIGHTS → IsSearchEnd search u
+      → IsBlock (word_line (codes "undecided") ∷ ls ++ search ++ end_line ∷ []) (Undecided ws u)
+  limit : (tableau search : List (List (List ℕ))) (e : LpEnd) (u : Unfound) → IsTableauEnd tableau e
+      → IsSearchEnd search u → IsBlock (word_line (codes "limit") ∷ tableau ++ search ++ end_line ∷ []) (Limit e u)

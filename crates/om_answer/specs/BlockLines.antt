@@ -1,8 +1,10 @@
 -- The lines of a verdict block: which words a line of each form has, and what it says.
 --
--- Trusted: what a claim is rests on these definitions.
-use Rattle.std.specs.Prelude.{ℕ, ◌+◌, ℤ, List, [], ◌∷◌, Bool, true, false, cond, nat_lt, ◌&&◌, unsigned_abs, codes, Option, Some, None, bytes_eq, option_and_then}
-use Rattle.om_signs.specs.declared.limits.TheConstants.{MAX_ELEMENTS, MAX_COORDINATE, MAX_MULTIPLICITY, MAX_WEIGHT, MAX_PIVOTS, MAX_ROW_NAMED, MAX_PLAIN}
+-- Trusted: these definitions say what a claim is.
+use Rattle.std.specs.Prelude.{ℕ, ◌+◌, ℤ, List, [], ◌∷◌, Bool, true, false, cond, nat_lt, ◌&&◌, unsigned_abs, codes}
+use Rattle.std.specs.Prelude.{Option, Some, None, bytes_eq, option_and_then}
+use Rattle.om_signs.specs.declared.limits.TheConstants.{MAX_ELEMENTS, MAX_COORDINATE, MAX_MULTIPLICITY, MAX_WEIGHT}
+use Rattle.om_signs.specs.declared.limits.TheConstants.{MAX_PIVOTS, MAX_ROW_NAMED, MAX_PLAIN}
 use Rattle.om_vectors.specs.WholeVectors.{WholeVector}
 use Rattle.om_simplex.specs.declared.stage.Stage.{Stage}
 use Rattle.om_simplex.specs.declared.stage.Stage.TheVariants as stage
@@ -58,29 +60,41 @@ entry_ranges = element ∷ element ∷ element ∷ element ∷ element ∷ term 
 
 abbrev pub entry_from : Bool → List ℤ → Option Entry
 entry_from strict (a ∷ b ∷ c ∷ d ∷ e ∷ small ∷ big ∷ times ∷ []) = Some (record {
-  statement = record { a = unsigned_abs a; b = unsigned_abs b; c = unsigned_abs c; d = unsigned_abs d; e = unsigned_abs e; small = unsigned_abs small; big = unsigned_abs big; strict = strict };
+  statement =
+      record {
+        a = unsigned_abs a;
+        b = unsigned_abs b;
+        c = unsigned_abs c;
+        d = unsigned_abs d;
+        e = unsigned_abs e;
+        small = unsigned_abs small;
+        big = unsigned_abs big;
+        strict = strict;
+      };
   times = unsigned_abs times;
 })
 entry_from strict _ = None
 
--- whether a statement is strict, by the name of its line
+-- whether a statement is strict, from the name of its line
 abbrev pub strictness : List ℕ → Option Bool
 strictness w = cond (bytes_eq w (codes "lt")) (Some true) (cond (bytes_eq w (codes "eq")) (Some false) None)
 
 -- `lt a b c d e small big m`, which is strict, or `eq a b c d e small big m`, which isn't
 abbrev pub entry_of : List (List ℕ) → Option Entry
 entry_of [] = None
-entry_of (w ∷ ws) = option_and_then (λ strict. option_and_then (entry_from strict) (numbers_within entry_ranges ws)) (strictness w)
+entry_of (w ∷ ws) = option_and_then (λ strict. option_and_then (entry_from strict) (numbers_within entry_ranges ws))
+    (strictness w)
 
--- a weight, where its elements are increasing
+-- a weight, if its elements are increasing
 abbrev pub increasing : Weight → Option Weight
 increasing w = cond (nat_lt w.a w.b && nat_lt w.b w.c) (Some w) None
 
 abbrev pub weight_from : List ℤ → Option Weight
-weight_from (a ∷ b ∷ c ∷ value ∷ []) = increasing (record { a = unsigned_abs a; b = unsigned_abs b; c = unsigned_abs c; value = value })
+weight_from (a ∷ b ∷ c ∷ value ∷ []) =
+    increasing (record { a = unsigned_abs a; b = unsigned_abs b; c = unsigned_abs c; value = value })
 weight_from _ = None
 
--- three elements and a number of a limited size
+-- three elements and a number of bounded absolute value
 abbrev pub weight_ranges : List Range
 weight_ranges = element ∷ element ∷ element ∷ UpToSize (unsigned_abs MAX_WEIGHT) ∷ []
 
@@ -99,7 +113,7 @@ pivots_ranges = Between 0 MAX_PIVOTS ∷ []
 abbrev pub pivots_of : List (List ℕ) → Option ℕ
 pivots_of w = option_and_then count_from (named_numbers (codes "pivots") pivots_ranges w)
 
--- where there are some
+-- a list of numbers, if it isn't empty
 abbrev pub some_of : List ℕ → Option (List ℕ)
 some_of [] = None
 some_of (n ∷ ns) = Some (n ∷ ns)
@@ -108,7 +122,7 @@ some_of (n ∷ ns) = Some (n ∷ ns)
 abbrev pub basis_of : List (List ℕ) → Option (List ℕ)
 basis_of w = option_and_then some_of (option_and_then plain_numbers (after_name (codes "basis") w))
 
--- a stage by its name
+-- the stage with this name
 abbrev pub stage_of : List ℕ → Option Stage
 stage_of w =
     cond (bytes_eq w (codes "price")) (Some stage.Price)
@@ -120,13 +134,14 @@ abbrev pub width_from : Stage → List ℤ → Option LpEnd
 width_from s (p ∷ r ∷ c ∷ []) = Some (lp_end.Width s (unsigned_abs p) (unsigned_abs r) (unsigned_abs c))
 width_from s _ = None
 
--- the number of a pivot, which may be one more than the most pivots, a row and a place
+-- the number of a pivot, which may be one more than the most pivots; a row; a place
 abbrev pub width_ranges : List Range
 width_ranges = Between 0 (MAX_PIVOTS + 1) ∷ Between 0 MAX_ROW_NAMED ∷ Between 0 MAX_PLAIN ∷ []
 
 abbrev pub width_after : List (List ℕ) → Option LpEnd
 width_after [] = None
-width_after (w ∷ ws) = option_and_then (λ s. option_and_then (width_from s) (numbers_within width_ranges ws)) (stage_of w)
+width_after (w ∷ ws) = option_and_then (λ s. option_and_then (width_from s) (numbers_within width_ranges ws))
+    (stage_of w)
 
 -- `width STAGE p r c`
 abbrev pub width_of : List (List ℕ) → Option LpEnd

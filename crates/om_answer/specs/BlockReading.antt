@@ -13,7 +13,8 @@ use Rattle.om_text.specs.Settings.{is_line}
 use Rattle.om_text.specs.Document.{end_line}
 use Rattle.om_text.specs.Steps.{advance_by, outcome_by}
 use Rattle.om_answer.specs.declared.block.Block.{Block}
-use Rattle.om_answer.specs.declared.block.Block.TheVariants.{Empty, Vectors, Entries, Weights, Tableau, Pivots, Tested, Exhausted, Frontier, Closed}
+use Rattle.om_answer.specs.declared.block.Block.TheVariants.{Empty, Vectors, Entries, Weights, Tableau, Pivots, Tested}
+use Rattle.om_answer.specs.declared.block.Block.TheVariants.{Exhausted, Frontier, Closed}
 use Rattle.om_answer.specs.declared.block.Front.{Front}
 use Rattle.om_answer.specs.declared.block.Front.TheVariants as front
 use Rattle.om_answer.specs.BlockLines.{word_line, vector_of, entry_of, weight_of, pivots_of, basis_of, width_of}
@@ -27,7 +28,7 @@ opened w =
     (cond (is_line w (word_line (codes "undecided"))) (Ok (Weights []))
     (cond (is_line w (word_line (codes "limit"))) (Ok Tableau) (Err code.Claim))))
 
--- the items with one more, where there is room for it
+-- the items with one more, if there is room for it
 abbrev pub next_item : {A : Type 0} → ℕ → List A → Option A → Result (List A) Code
 next_item most xs None = Err code.Entry
 next_item most xs (Some x) = cond (nat_lt (length xs) most) (Ok (xs ++ x ∷ [])) (Err code.Many)
@@ -61,20 +62,21 @@ abbrev pub with_basis : ℕ → Option (List ℕ) → Result Block Code
 with_basis p None = Err code.Entry
 with_basis p (Some b) = Ok (Tested (lp_end.Pivots p b))
 
--- the end of a search, or something else
+-- the state after the end of a search, or the other outcome if the line isn't one
 abbrev pub searched : Front → List (List ℕ) → Result Block Code → Result Block Code
-searched f w other = cond (is_line w (word_line (codes "exhausted"))) (Ok (Exhausted f)) (cond (is_line w (word_line (codes "frontier"))) (Ok (Frontier f [])) other)
+searched f w other = cond (is_line w (word_line (codes "exhausted"))) (Ok (Exhausted f))
+    (cond (is_line w (word_line (codes "frontier"))) (Ok (Frontier f [])) other)
 
--- the verdict of what stands before the end of a search, and of this end
+-- the verdict of what comes before the end of a search, and of this end
 abbrev pub ended : Front → Unfound → Verdict
 ended (front.Weights ws) u = verdict.Undecided ws u
 ended (front.Tableau e) u = verdict.Limit e u
 
--- the verdict at the end line, or something else
+-- the verdict if the line is `end`, or the other outcome
 abbrev pub closed : Verdict → List (List ℕ) → Result Block Code → Result Block Code
 closed v w other = cond (is_line w end_line) (Ok (Closed v)) other
 
--- after one more line with words
+-- the state after one more non-blank line
 abbrev pub block_step : Block → List (List ℕ) → Result Block Code
 block_step Empty w = opened w
 block_step (Vectors vs) w = closed (verdict.Realizable vs) w (with_next Vectors MOST_VECTORS vs (vector_of w))
@@ -84,7 +86,8 @@ block_step Tableau w = with_tableau (pivots_of w) w
 block_step (Pivots p) w = with_basis p (basis_of w)
 block_step (Tested e) w = searched (front.Tableau e) w (Err code.Entry)
 block_step (Exhausted f) w = closed (ended f unfound.Exhausted) w (Err code.Entry)
-block_step (Frontier f vs) w = closed (ended f (unfound.Frontier vs)) w (with_next (Frontier f) MOST_VECTORS vs (vector_of w))
+block_step (Frontier f vs) w =
+    closed (ended f (unfound.Frontier vs)) w (with_next (Frontier f) MOST_VECTORS vs (vector_of w))
 block_step (Closed v) w = Err code.After
 
 -- the verdict, once the whole block is read
@@ -92,10 +95,10 @@ abbrev pub block_value : Block → Option Verdict
 block_value (Closed v) = Some v
 block_value _ = None
 
--- what the lines of a block come to, after n lines before them
+-- what the lines of a block spell, after n lines before them
 abbrev pub block_outcome : Block → ℕ → List (List ℕ) → Result Verdict (ℕ × Code)
 block_outcome = outcome_by block_step block_value
 
--- after one more line
+-- the state after one more line
 abbrev pub block_advance : Block → List ℕ → Result Block Code
 block_advance = advance_by block_step

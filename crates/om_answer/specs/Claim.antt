@@ -1,4 +1,4 @@
--- Claims: a document and then a verdict block.
+-- Claims: a document followed by a verdict block.
 --
 -- Trusted: `read_claim` promises exactly this.
 use Rattle.std.specs.Prelude.{ℕ, ◌≡◌, List, ◌++◌, IfOk}
@@ -10,7 +10,7 @@ use Rattle.om_text.specs.Document.{IsSpelled}
 use Rattle.om_answer.specs.Block.{IsBlock}
 use Rattle.om_answer.specs.declared.claim.Claim.{Claim}
 
--- the words of lines are those of a document and then those of a verdict block; c is the claim that they give
+-- the words of lines are those of a document followed by those of a verdict block; c is the claim that they spell
 pub record IsSpelledClaim (ls : List (List (List ℕ))) (c : Claim) : Type 0 where
   pub document : List (List (List ℕ))
   pub block : List (List (List ℕ))
@@ -22,6 +22,6 @@ pub record IsSpelledClaim (ls : List (List (List ℕ))) (c : Claim) : Type 0 whe
 abbrev pub IsClaim : List (List ℕ) → Claim → Type 0
 IsClaim ls c = IsSpelledClaim (wordful ls) c
 
--- where the verdict hands on evidence, this is within the limits of the checker
+-- if the verdict carries evidence, this is within the limits of the checker
 abbrev pub HasEvidenceWithinLimits : Verdict → Type 0
 HasEvidenceWithinLimits v = IfOk (certificate_of v) IsWithinLimits

@@ -1,6 +1,6 @@
 -- The first line at fault in a claim, and its code.
 --
--- Trusted: which line is named for an input that is no claim, and with which code.
+-- Trusted: which line is returned for an input that is no claim, and with which code.
 use Rattle.std.specs.Prelude.{ℕ, suc, List, [], ◌∷◌, Bool, cond, nat_le, ◌&&◌, ◌||◌, Option, Some, None, is_some}
 use Rattle.std.specs.List.{list_any}
 use Rattle.om_text.specs.declared.code.Code.{Code}
@@ -14,35 +14,38 @@ use Rattle.om_answer.specs.BlockLines.{vector_of, weight_of}
 use Rattle.om_answer.specs.Block.{MOST_VECTORS, MOST_WEIGHTS}
 use Rattle.om_answer.specs.Claim.{IsClaim}
 
--- the lines after the first `end`, where there is one: those of the block so far
+-- the lines after the first `end`, if there is one: those of the block so far
 abbrev pub lines_after_end : List (List (List ℕ)) → Option (List (List (List ℕ)))
 lines_after_end [] = None
 lines_after_end (l ∷ ls) = cond (is_line l end_line) (Some ls) (lines_after_end ls)
 
--- how many of the last lines pass a test, counted on from k
+-- how many of the last lines pass a test, starting the count at k
 abbrev pub last_passing : (List (List ℕ) → Bool) → ℕ → List (List (List ℕ)) → ℕ
 last_passing p k [] = k
 last_passing p k (l ∷ ls) = last_passing p (cond (p l) (suc k) 0) ls
 
--- a line of a form of which the greatest number of lines stand directly before it
+-- a line of this form that comes directly after the greatest number of lines of this form
 abbrev pub is_past : (List (List ℕ) → Bool) → ℕ → List (List (List ℕ)) → List (List ℕ) → Bool
 is_past p most ls w = p w && nat_le most (last_passing p 0 ls)
 
--- the line goes past the greatest number of vectors in one place, or of weights
+-- the line exceeds the greatest number of vectors in one place, or of weights
 abbrev pub goes_past : List (List (List ℕ)) → List (List ℕ) → Bool
-goes_past ls w = is_past (λ l. is_some (vector_of l)) MOST_VECTORS ls w || is_past (λ l. is_some (weight_of l)) MOST_WEIGHTS ls w
+goes_past ls w = is_past (λ l. is_some (vector_of l)) MOST_VECTORS ls w
+    || is_past (λ l. is_some (weight_of l)) MOST_WEIGHTS ls w
 
--- the code of a line in a block, after the verdict word and the lines ls: `after` behind the block's end, where nothing goes
--- past a greatest number; before it `many`, and else `entry`
+-- The code of a line in a block, after the verdict word and the lines ls. It is `after` once the block has ended.
+-- Before that it is `many` if the line exceeds a greatest number, and `entry` otherwise.
 abbrev pub code_in_block : List (List (List ℕ)) → List (List ℕ) → Code
-code_in_block ls w = cond (list_any (λ l. is_line l end_line) ls) code.After (cond (goes_past ls w) code.Many code.Entry)
+code_in_block ls w = cond (list_any (λ l. is_line l end_line) ls) code.After
+    (cond (goes_past ls w) code.Many code.Entry)
 
--- the code of a line after the document, whose block begins with the lines ls: the first of them has one of the four verdict words
+-- the code of a line after the document, if ls are the block's lines before it: `claim` for the first, which has
+-- the verdict word
 abbrev pub code_after_document : List (List (List ℕ)) → List (List ℕ) → Code
 code_after_document [] w = code.Claim
 code_after_document (v ∷ ls) w = code_in_block ls w
 
--- the code of the line w after the lines with words ls: that of the document's table up to its end
+-- the code of the line w after the non-blank lines ls: from the document's table up to its end
 abbrev pub code_by_end : Option (List (List (List ℕ))) → List (List (List ℕ)) → List (List ℕ) → Option Code
 code_by_end None ls w = first_of (table (role ls w) w)
 code_by_end (Some block) ls w = Some (code_after_document block w)

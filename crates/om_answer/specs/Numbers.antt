@@ -1,13 +1,14 @@
--- Numbers that stand one after another on a line, each in its range.
+-- Numbers that follow one another on a line, each in its range.
 --
--- Trusted: what a claim is rests on these definitions.
-use Rattle.std.specs.Prelude.{ℕ, ℤ, pos, ◌<◌, ◌≤◌, ◌≤ℤ◌, ◌^◌, unsigned_abs, List, [], ◌∷◌, cond, nat_le, Option, Some, None, option_and_then, option_map}
+-- Trusted: these definitions say what a claim is.
+use Rattle.std.specs.Prelude.{ℕ, ℤ, pos, ◌<◌, ◌≤◌, ◌≤ℤ◌, ◌^◌, unsigned_abs, List, [], ◌∷◌, cond, nat_le, Option, Some}
+use Rattle.std.specs.Prelude.{None, option_and_then, option_map}
 use Rattle.om_answer.specs.declared.range.Range.{Range}
 use Rattle.om_answer.specs.declared.range.Range.TheVariants.{Between, UpToSize}
 use Rattle.om_text.specs.Heading.{with_item}
 use Rattle.om_text.specs.Words.{unsigned, signed}
 
--- a number that isn't below the least one
+-- a number, if it isn't below the least one
 abbrev pub at_least : ℕ → ℕ → Option ℕ
 at_least low n = cond (nat_le low n) (Some n) None
 
@@ -16,15 +17,15 @@ abbrev pub number_within : Range → List ℕ → Option ℤ
 number_within (Between low high) w = option_map pos (option_and_then (at_least low) (unsigned high w))
 number_within (UpToSize size) w = signed size w
 
--- the numbers that the words of a line spell, where there are as many as ranges and each is in its own
+-- the numbers that the words of a line spell, if there are as many as ranges and each is in its own
 abbrev pub numbers_within : List Range → List (List ℕ) → Option (List ℤ)
 numbers_within [] [] = Some []
 numbers_within (r ∷ rs) (w ∷ ws) = with_item (number_within r w) (numbers_within rs ws)
 numbers_within _ _ = None
 
--- ---- what the reader asks of ranges and promises of numbers; no part of the definition of claims
+-- ---- what the reader requires of ranges and promises of numbers; no part of the definition of claims
 
--- a range whose sizes the reader can hold
+-- a range whose absolute values the reader can hold
 abbrev pub IsReadable : Range → Type 0
 IsReadable (Between low high) = Unit {0}
 IsReadable (UpToSize size) = size < 2 ^ 120

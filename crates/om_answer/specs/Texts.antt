@@ -15,25 +15,25 @@ use Rattle.om_answer.specs.declared.field.Field.TheVariants as field
 use Rattle.om_answer.specs.declared.line.Line.{Line}
 use Rattle.om_answer.specs.declared.line.Line.TheVariants as line
 
--- a text behind a space
+-- a text after a space
 abbrev pub spaced : List ℕ → List ℕ
 spaced text = 32 ∷ text
 
--- text that stands behind so many others, with a comma where there are some
+-- a text with a comma before it, unless it is the first
 abbrev pub after_comma : ℕ → List ℕ → List ℕ
 after_comma zero text = text
 after_comma (suc before) text = 44 ∷ text
 
--- a subset: its elements joined by commas, and the empty one as `none`
+-- a subset: its elements joined by commas, and `none` for the empty one
 abbrev pub subset_text : List ℕ → List ℕ
 subset_text [] = codes "none"
 subset_text (x ∷ xs) = join_with_byte 44 (map decimal (x ∷ xs))
 
--- signs: a byte for each
+-- signs: one byte for each
 abbrev pub signs_text : List Sign → List ℕ
 signs_text xs = map byte_of xs
 
--- the word of a code of a line at fault
+-- the word for the code of a line at fault
 abbrev pub code_name : Code → List ℕ
 code_name code.Version = codes "version"
 code_name code.Kind = codes "kind"
@@ -53,26 +53,26 @@ code_name code.Claim = codes "claim"
 code_name code.Entry = codes "entry"
 code_name code.Missing = codes "missing"
 
--- the number of a code behind a space, where it has one
+-- the number of a code after a space, if it has one
 abbrev pub code_number : Code → List ℕ
 code_number (code.Elements n) = spaced (decimal n)
 code_number (code.Rank r) = spaced (decimal r)
 code_number (code.Size v) = spaced (decimal v)
 code_number _ = []
 
--- a code, with its number where it has one
+-- a code, with its number if it has one
 abbrev pub code_text : Code → List ℕ
 code_text c = code_name c ++ code_number c
 
--- a number behind a space
+-- a number after a space
 abbrev pub number : ℕ → List ℕ
 number n = spaced (decimal n)
 
--- the five elements and the two terms of a statement, each behind a space
+-- the five elements and the two terms of a statement, each after a space
 abbrev pub stated : Statement → List ℕ
 stated st = number st.a ++ number st.b ++ number st.c ++ number st.d ++ number st.e ++ number st.small ++ number st.big
 
--- a field behind a space
+-- a field after a space
 abbrev pub field_text : Field → List ℕ
 field_text (field.Small n) = number n
 field_text (field.Number n) = number n
@@ -82,7 +82,7 @@ field_text (field.Signs x) = spaced (signs_text x)
 field_text (field.Code c) = spaced (code_text c)
 field_text (field.Statement st) = stated st
 
--- fields in their order, and a line feed
+-- fields in order, and a line feed
 abbrev pub ended : List Field → List ℕ
 ended [] = 10 ∷ []
 ended (f ∷ fs) = field_text f ++ ended fs
@@ -137,7 +137,7 @@ line_name line.RefusedNostrict = codes "refused nostrict"
 line_name (line.RefusedBracket _) = codes "refused bracket"
 line_name (line.RefusedWeightfails _) = codes "refused weightfails"
 
--- the fields of a line in their order
+-- the fields of a line in order
 abbrev pub line_fields : Line → List Field
 line_fields (line.Circuit x) = field.Signs x ∷ []
 line_fields (line.Cocircuit x) = field.Signs x ∷ []
@@ -171,6 +171,6 @@ line_fields (line.RefusedBracket entry) = field.Number entry ∷ []
 line_fields (line.RefusedWeightfails statement) = field.Statement statement ∷ []
 line_fields _ = []
 
--- a line: the words of its name in lower case, and then its fields in their order
+-- a line: the words of its name in lower case, then its fields in order
 abbrev pub line_text : Line → List ℕ
 line_text l = line_name l ++ ended (line_fields l)

@@ -1,4 +1,5 @@
--- The text of a verdict on a chirotope: the canonical form of the chirotope's document, and the lines of the verdict block.
+-- The text of a verdict on a chirotope: the canonical form of the chirotope's document, and the lines of the verdict
+-- block.
 --
 -- Trusted: `print_verdict` gives exactly this.
 use Rattle.std.specs.Prelude.{ℕ, ℤ, pos, List, [], ◌∷◌, ◌++◌, Bool, cond, codes, map, decimal}
@@ -22,7 +23,7 @@ use Rattle.om_text.specs.Print.{text_of, spaced, printed}
 use Rattle.om_answer.specs.declared.claim.Claim.{Claim}
 use Rattle.om_answer.specs.BlockLines.{word_line}
 
--- the words of a line: a name, and then numbers
+-- the words of a line: a name, then numbers
 abbrev pub named : List ℕ → List ℤ → List (List ℕ)
 named name zs = name ∷ map signed_decimal zs
 
@@ -35,7 +36,8 @@ vector_words v = named (codes "vector") (vector_numbers v)
 
 -- `lt a b c d e small big m` of a strict statement, and `eq a b c d e small big m` of another
 abbrev pub entry_numbers : Entry → List ℤ
-entry_numbers e = pos e.statement.a ∷ pos e.statement.b ∷ pos e.statement.c ∷ pos e.statement.d ∷ pos e.statement.e ∷ pos e.statement.small ∷ pos e.statement.big ∷ pos e.times ∷ []
+entry_numbers e = pos e.statement.a ∷ pos e.statement.b ∷ pos e.statement.c ∷ pos e.statement.d ∷ pos e.statement.e
+    ∷ pos e.statement.small ∷ pos e.statement.big ∷ pos e.times ∷ []
 
 abbrev pub relation_name : Bool → List ℕ
 relation_name strict = cond strict (codes "lt") (codes "eq")
@@ -67,7 +69,8 @@ abbrev pub width_numbers : ℕ → ℕ → ℕ → List ℤ
 width_numbers p r c = pos p ∷ pos r ∷ pos c ∷ []
 
 abbrev pub tableau_lines : LpEnd → List (List (List ℕ))
-tableau_lines (lp_end.Pivots count basis) = named (codes "pivots") (pos count ∷ []) ∷ (codes "basis" ∷ map decimal basis) ∷ []
+tableau_lines (lp_end.Pivots count basis) = named (codes "pivots") (pos count ∷ [])
+    ∷ (codes "basis" ∷ map decimal basis) ∷ []
 tableau_lines (lp_end.Width s p r c) = (codes "width" ∷ named (stage_name s) (width_numbers p r c)) ∷ []
 
 -- the word of a verdict
@@ -94,19 +97,28 @@ lines_text ls = text_of (map spaced ls)
 
 -- the document of a chirotope
 abbrev pub chirotope_document : SignMap → Document
-chirotope_document m = record { elements = m.elements; body = Chirotope (record { rank = m.rank; elements = m.elements; signs = m.signs }); names = [] }
+chirotope_document m =
+    record {
+      elements = m.elements;
+      body = Chirotope (record { rank = m.rank; elements = m.elements; signs = m.signs });
+      names = [];
+    }
 
 -- the text of a verdict on a chirotope
 abbrev pub verdict_text : SignMap → Verdict → List ℕ
 verdict_text m v = printed (chirotope_document m) ++ lines_text (block_lines v)
 
--- the claim that it is
+-- the claim that this text is
 abbrev pub claim_of : SignMap → Verdict → Claim
 claim_of m v = record { document = chirotope_document m; verdict = v }
 
+-- the text of a claim
+abbrev pub claim_text : Claim → List ℕ
+claim_text c = printed c.document ++ lines_text (block_lines c.verdict)
+
 -- ---- what a part of a line is; no part of the definition of the text
 
--- words, each behind a space
+-- words, each after a space
 abbrev pub tail_text : List (List ℕ) → List ℕ
 tail_text [] = []
 tail_text (w ∷ ws) = 32 ∷ w ++ tail_text ws

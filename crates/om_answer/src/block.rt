@@ -2,7 +2,7 @@ use om_certificate::{Entry, LpEnd, Verdict, Weight};
 use om_signs::List;
 use om_vectors::Word;
 
-/// What stands before the end of a search in a block.
+/// What comes before the end of a search in a block.
 #[derive(Drop)]
 pub enum Front {
     /// The weights of an undecided verdict.
@@ -11,26 +11,26 @@ pub enum Front {
     Tableau(LpEnd),
 }
 
-/// What the lines of a verdict block read so far leave open.
+/// The state of the reader after the lines of a verdict block read so far.
 #[derive(Drop)]
 pub enum Block {
-    /// Nothing yet: the verdict word comes next.
+    /// No line yet: the verdict word comes next.
     Empty,
-    /// The vectors of a realization.
+    /// The vectors of a realization so far.
     Vectors(Word),
-    /// The entries of a certificate.
+    /// The entries of a certificate so far.
     Entries(List<Entry>),
-    /// The weights before the end of the search.
+    /// The weights before the end of the search so far.
     Weights(List<Weight>),
-    /// The line of a limit, and nothing behind it.
+    /// The line `limit`, and nothing after it.
     Tableau,
     /// The budget of pivots, and no basis yet.
     Pivots(u32),
     /// The end of the tableau, and no end of the search yet.
     Tested(LpEnd),
-    /// The search ended without a word left.
+    /// The search ended as exhausted: only `end` is to come.
     Exhausted(Front),
-    /// The search ended at a word, of which these vectors were read.
+    /// The search ended at a frontier, at a word of which these vectors were read.
     Frontier(Front, Word),
     /// The whole block.
     Closed(Verdict),

@@ -5,7 +5,10 @@ ghost use Rattle.om_text.specs.Lines.{runs};
 ghost use Rattle.om_vectors.specs.WholeVectors.{vector_of as vector};
 ghost use Rattle.om_signs.specs.Coordinates.{IsCoordinate};
 ghost use Rattle.om_answer.specs.Numbers.{numbers_within, IsReadable, AreIn};
-ghost use Rattle.om_answer.specs.BlockLines.{after_name, named_numbers, vector_ranges, vector_from, vector_of, entry_ranges, entry_from, entry_of, strictness, increasing, weight_ranges, weight_from, weight_of, pivots_ranges, count_from, pivots_of, stage_of, width_ranges, width_from, width_after, width_of};
+ghost use Rattle.om_answer.specs.BlockLines.{after_name, named_numbers, vector_ranges, vector_from, vector_of};
+ghost use Rattle.om_answer.specs.BlockLines.{entry_ranges, entry_from, entry_of, strictness, increasing, weight_ranges};
+ghost use Rattle.om_answer.specs.BlockLines.{weight_from, weight_of, pivots_ranges, count_from, pivots_of, stage_of};
+ghost use Rattle.om_answer.specs.BlockLines.{width_ranges, width_from, width_after, width_of};
 
 use super::numbers::{MOST_NUMBERS, numbers_of};
 use super::range::Range;
@@ -30,9 +33,10 @@ const ELEMENT: Range = Range::Between(1, MAX_ELEMENTS as u64);
 /// One of the three terms of a statement.
 const TERM: Range = Range::Between(1, TERMS);
 
-/// The words after a name, where a line begins with it.
+/// The words after a name, if the line begins with this name.
 pub fn rest_after<'a>(name: &[u8], line: &'a [u8]) -> Option<&'a [u8]>
-    ensures { MatchOption result (after_name name.now (runs line.now) ≡ None) (λ rest. after_name name.now (runs line.now) ≡ Some (runs rest.now)) }
+    ensures { MatchOption result (after_name name.now (runs line.now) ≡ None)
+        (λ rest. after_name name.now (runs line.now) ≡ Some (runs rest.now)) }
 {
     let (word, rest) = first_word(line)?;
     if same(word, name) { Some(rest) } else { None }
@@ -47,13 +51,14 @@ fn numbers_after(
 ) -> Option<SmallVec<i128, MOST_NUMBERS>>
     requires few { length ranges.now ≤ MOST_NUMBERS }
     requires readable { All IsReadable ranges.now }
-    ensures value { MatchOption result (named_numbers name.now ranges.now (runs line.now) ≡ None) (λ v. named_numbers name.now ranges.now (runs line.now) ≡ Some v.items) }
+    ensures value { MatchOption result (named_numbers name.now ranges.now (runs line.now) ≡ None)
+        (λ v. named_numbers name.now ranges.now (runs line.now) ≡ Some v.items) }
     ensures within { IfSome result (λ v. AreIn ranges.now v.items) }
 {
     numbers_of(alloc, ranges, rest_after(name, line)?)
 }
 
-/// The same number in fewer bits.
+/// The same number in 64 bits.
 fn coordinate(x: i128) -> i64
     requires { IsCoordinate x }
     ensures { result ≡ x }
@@ -130,7 +135,8 @@ fn strictness_of(name: &[u8]) -> Option<bool>
 
 /// The numbers of an entry.
 fn entry_numbers(alloc: Global, line: &[u8]) -> Option<SmallVec<i128, MOST_NUMBERS>>
-    ensures value { MatchOption result (numbers_within entry_ranges (runs line.now) ≡ None) (λ v. numbers_within entry_ranges (runs line.now) ≡ Some v.items) }
+    ensures value { MatchOption result (numbers_within entry_ranges (runs line.now) ≡ None)
+        (λ v. numbers_within entry_ranges (runs line.now) ≡ Some v.items) }
     ensures within { IfSome result (λ v. AreIn entry_ranges v.items) }
 {
     let times = Range::Between(1, MAX_MULTIPLICITY);
@@ -150,7 +156,7 @@ pub fn entry_line(alloc: Global, line: &[u8]) -> Option<Entry>
     entry_of_numbers(strict, numbers.as_slice())
 }
 
-/// The weight with these numbers, where the elements are increasing.
+/// The weight with these numbers, if the elements are increasing.
 fn weight_of_numbers(numbers: &[i128]) -> Option<Weight>
     requires { AreIn weight_ranges numbers.now }
     ensures { result ≡ weight_from numbers.now }
@@ -166,7 +172,7 @@ fn weight_of_numbers(numbers: &[i128]) -> Option<Weight>
     }
 }
 
-/// The weight, where its elements are increasing.
+/// The weight, if its elements are increasing.
 fn increasing_weight(weight: Weight) -> Option<Weight>
     ensures { result ≡ increasing weight }
 {
@@ -191,7 +197,7 @@ pub fn weight_line(alloc: Global, line: &[u8]) -> Option<Weight>
     weight_of_numbers(numbers.as_slice())
 }
 
-/// The one number.
+/// The only number, as a count.
 fn count_of_numbers(numbers: &[i128]) -> Option<u32>
     requires { AreIn pivots_ranges numbers.now }
     ensures { result ≡ count_from numbers.now }
@@ -202,7 +208,7 @@ fn count_of_numbers(numbers: &[i128]) -> Option<u32>
     }
 }
 
-/// The budget of a line `pivots P`.
+/// The budget of pivots of a line `pivots P`.
 pub fn pivots_line(alloc: Global, line: &[u8]) -> Option<u32>
     ensures { result ≡ pivots_of (runs line.now) }
 {
@@ -228,7 +234,7 @@ fn stage_of_name(name: &[u8]) -> Option<Stage>
     }
 }
 
-/// The end by a width with these numbers.
+/// The end of a tableau at a width, with these numbers.
 fn width_of_numbers(stage: Stage, numbers: &[i128]) -> Option<LpEnd>
     requires { AreIn width_ranges numbers.now }
     ensures { result ≡ width_from stage numbers.now }

@@ -8,7 +8,8 @@ ghost use Rattle.om_text.specs.Parsed.{IsAnswerUnlessMemory};
 ghost use Rattle.om_answer.specs.BlockLines.{vector_of, entry_of, weight_of, pivots_of, basis_of, some_of};
 ghost use Rattle.om_signs.specs.declared.limits.TheConstants.{MAX_READ};
 ghost use Rattle.om_answer.specs.Block.{MOST_VECTORS, MOST_WEIGHTS};
-ghost use Rattle.om_answer.specs.BlockReading.{opened, next_item, another, with_tableau, with_basis, ended, block_step, block_advance, block_outcome};
+ghost use Rattle.om_answer.specs.BlockReading.{opened, next_item, another, with_tableau, with_basis, ended, block_step};
+ghost use Rattle.om_answer.specs.BlockReading.{block_advance, block_outcome};
 
 use super::block::{Block, Front};
 use super::block_lines::{
@@ -40,7 +41,7 @@ fn opened_block(alloc: Global, line: &[u8]) -> Result<Block, Code>
     }
 }
 
-/// The vectors with that of one more line.
+/// Appends the vector of one more line.
 fn next_vector(alloc: Global, mut word: Word, line: &[u8]) -> Result<Word, Code>
     ensures { result ≡ next_item MOST_VECTORS word (vector_of (runs line.now)) }
 {
@@ -57,7 +58,7 @@ fn next_vector(alloc: Global, mut word: Word, line: &[u8]) -> Result<Word, Code>
     }
 }
 
-/// The entries with that of one more line.
+/// Appends the entry of one more line.
 fn next_entry(alloc: Global, mut entries: List<Entry>, line: &[u8]) -> Result<List<Entry>, Refusal>
     ensures { IsStepUnlessMemory result (another entries (entry_of (runs line.now))) }
 {
@@ -70,7 +71,7 @@ fn next_entry(alloc: Global, mut entries: List<Entry>, line: &[u8]) -> Result<Li
     }
 }
 
-/// The weights with that of one more line.
+/// Appends the weight of one more line.
 fn next_weight(
     alloc: Global,
     mut weights: List<Weight>,
@@ -91,7 +92,7 @@ fn next_weight(
     }
 }
 
-/// The plain numbers that the words of a line are, where each word is one.
+/// The unsigned numbers that the words of a line spell, if each word is one.
 fn numbers_of_words(alloc: Global, line: &[u8]) -> Result<Option<List<u32>>, NoMemory>
     ensures { IfOk result (λ numbers. numbers ≡ plain_numbers (runs line.now)) }
 {
@@ -107,7 +108,7 @@ fn numbers_of_words(alloc: Global, line: &[u8]) -> Result<Option<List<u32>>, NoM
     Ok(Some(numbers))
 }
 
-/// The numbers, where there are some.
+/// The numbers, if there are any.
 fn some_numbers(numbers: List<u32>) -> Option<List<u32>>
     ensures { result ≡ some_of numbers }
 {
@@ -151,7 +152,7 @@ fn pivots_step(alloc: Global, count: u32, line: &[u8]) -> Result<Block, Refusal>
     }
 }
 
-/// The verdict of what stands before the end of a search, and of this end.
+/// The verdict of what comes before the end of a search, and of this end.
 fn verdict_of(front: Front, unfound: Unfound) -> Verdict
     ensures { result ≡ ended front unfound }
 {
@@ -259,7 +260,7 @@ fn advance(alloc: Global, block: Block, line: &[u8]) -> Result<Block, Refusal>
     }
 }
 
-/// What the bytes of a block come to, after `line` lines before them: a verdict, or the first line at fault.
+/// What the bytes of a block spell, after `line` lines before them: a verdict, or the first line at fault.
 pub fn read_block(alloc: Global, bytes: &[u8], line: u32) -> Result<Verdict, ParseError>
     requires { line + length bytes.now ≤ MAX_READ }
     ensures { IsAnswerUnlessMemory result (block_outcome Block.Empty line (lines bytes.now)) }

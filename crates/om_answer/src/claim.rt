@@ -1,7 +1,7 @@
 use om_certificate::Verdict;
 use om_text::Document;
 
-/// A document and what is claimed of its chirotope.
+/// A document with a verdict on its chirotope.
 #[derive(Drop)]
 pub struct Claim {
     /// The document.

@@ -1,4 +1,4 @@
-//! Reading a claim: a document and then a verdict block.
+//! Reads a claim: a document followed by a verdict block.
 
 ghost use Rattle.std.specs.Prelude.{◌≡◌, ℕ, ◌*◌, ◌+◌, ◌-◌, ◌≤◌, ◌^◌, length, IfOk};
 ghost use Rattle.om_signs.specs.declared.limits.TheConstants.{MAX_INPUT, MAX_READ};
@@ -16,35 +16,36 @@ use super::claim::Claim;
 use om_text::{ParseError, parse_part};
 use std::alloc::Global;
 
-/// Reads a claim: a document, and then the verdict block of what is claimed of its chirotope. There are at most
+/// Reads a claim: a document, followed by a verdict block about its chirotope. There are at most
 /// [`MAX_READ`](om_signs::MAX_READ) bytes.
 ///
-/// After the document's line `end` comes a line with one of the words `realizable`, `nonrealizable`, `undecided` and
-/// `limit`, then the lines of this verdict, and `end`. Only lines without words may follow. The forms of these lines and
-/// the ranges of their numbers stand in `docs/FORMATS.md`, "Claims", and in `specs/BlockLines.antt`; which lines a verdict
-/// has, in `specs/Block.antt`.
+/// After the document's line `end` comes a line with one of the words `realizable`, `nonrealizable`, `undecided`
+/// and `limit`. Then come the lines of this verdict, and `end`. Only blank lines may follow. The forms of these
+/// lines and the ranges of their numbers are in `docs/FORMATS.md`, "Claims", and in `specs/BlockLines.antt`. Which
+/// lines a verdict has is in `specs/Block.antt`.
 ///
 /// # Errors
 ///
-/// [`ParseError::Line`] exactly where the bytes are no claim within the limits: `line` is the first line after which no
-/// claim goes on, with its code. The end of the input counts as the line after the last one. [`ParseError::Memory`] where
-/// memory ran out.
+/// [`ParseError::Line`] exactly if the bytes are no claim within the limits. Its `line` is the first at which no
+/// claim can continue, and it has its code. The end of the input counts as the line after the last one.
+/// [`ParseError::Memory`] if memory ran out.
 pub fn read_claim(alloc: Global, bytes: &[u8]) -> Result<Claim, ParseError>
     requires { length bytes.now ≤ MAX_READ }
-    // What is read is a claim, with this value.
+    // If a claim is read, the bytes are this claim.
     ensures claim { IfOk result (λ c. IsClaim (lines bytes.now) c) }
     // Its document has the forms of documents, within the limits.
     ensures form { IfOk result (λ c. IsInForm c.document) }
     // Its verdict has the forms of verdicts, so that it can be printed again.
     ensures verdict { IfOk result (λ c. IsVerdictInForm c.verdict) }
-    // Of an input that isn't too long, its evidence is within the limits of the checker.
+    // If the input isn't too long, its evidence is within the limits of the checker.
     ensures evidence { length bytes.now ≤ MAX_INPUT → IfOk result (λ c. HasEvidenceWithinLimits c.verdict) }
     // A claim is read, unless memory runs out.
     ensures every { (c : Claim) → IsClaim (lines bytes.now) c → IsAnswerUnlessMemory result (Ok c) }
-    // The line that is named is the first at fault, with its code.
+    // The line that is returned is the first at fault, with its code.
     ensures fault { IfLine result (IsClaimFault (lines bytes.now)) }
-    // A fault is named, unless memory runs out.
-    ensures first { (line : ℕ) (code : Code) → IsClaimFault (lines bytes.now) line code → IsAnswerUnlessMemory result (Err (line, code)) }
+    // A fault is returned, unless memory runs out.
+    ensures first { (line : ℕ) (code : Code) → IsClaimFault (lines bytes.now) line code
+        → IsAnswerUnlessMemory result (Err (line, code)) }
 {
     let (document, len, line) = parse_part(alloc, bytes)?;
     let verdict = read_block(alloc, &bytes[len..], line)?;

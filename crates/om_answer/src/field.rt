@@ -16,7 +16,7 @@ pub enum Field {
     Set(Subset),
     /// The signs of a sign vector.
     Signs(SignVec),
-    /// What is wrong at a line, with its number where it has one.
+    /// What is wrong with a line, with a number if the code has one.
     Code(Code),
     /// The five elements and the two terms of a statement.
     Statement(Statement),

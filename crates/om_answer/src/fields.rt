@@ -1,4 +1,4 @@
-//! The fields of a line, each behind a space.
+//! The fields of a line, each after a space.
 
 ghost use Rattle.std.specs.Prelude.{◌≡◌, ◌++◌, OnOk};
 ghost use Rattle.std.specs.Fmt.{decimal, signed_decimal};
@@ -12,7 +12,7 @@ use om_grassmann::Statement;
 use om_signs::NoMemory;
 use om_text::Code;
 
-/// Puts a space and a number at the end.
+/// Appends a space and a number.
 pub fn push_number(text: &mut Vec<u8>, n: u128) -> Result<(), NoMemory>
     ensures { OnOk result (text.new.items ≡ text.old.items ++ spaced (decimal n)) }
 {
@@ -20,7 +20,7 @@ pub fn push_number(text: &mut Vec<u8>, n: u128) -> Result<(), NoMemory>
     push_decimal(text, n)
 }
 
-/// Puts a space and a number with a sign at the end.
+/// Appends a space and a number with a sign.
 pub fn push_signed(text: &mut Vec<u8>, n: i128) -> Result<(), NoMemory>
     ensures { OnOk result (text.new.items ≡ text.old.items ++ spaced (signed_decimal n)) }
 {
@@ -54,7 +54,7 @@ fn name_of(code: Code) -> &'static [u8]
     }
 }
 
-/// Puts a space and a code, with its number where it has one, at the end.
+/// Appends a space and a code, with its number if it has one.
 fn push_code(text: &mut Vec<u8>, code: Code) -> Result<(), NoMemory>
     ensures { OnOk result (text.new.items ≡ text.old.items ++ spaced (code_text code)) }
 {
@@ -82,7 +82,7 @@ fn push_code(text: &mut Vec<u8>, code: Code) -> Result<(), NoMemory>
     }
 }
 
-/// Puts the five elements and the two terms of a statement at the end, each behind a space.
+/// Appends the five elements and the two terms of a statement, each after a space.
 fn push_statement(text: &mut Vec<u8>, statement: Statement) -> Result<(), NoMemory>
     ensures { OnOk result (text.new.items ≡ text.old.items ++ stated statement) }
 {
@@ -95,7 +95,7 @@ fn push_statement(text: &mut Vec<u8>, statement: Statement) -> Result<(), NoMemo
     push_number(text, u128::from(statement.big))
 }
 
-/// Puts a field at the end, behind a space.
+/// Appends a space and a field.
 pub fn push_field(text: &mut Vec<u8>, field: &Field) -> Result<(), NoMemory>
     ensures { OnOk result (text.new.items ≡ text.old.items ++ field_text field.now) }
 {

@@ -26,4 +26,4 @@ pub use laws::{bytes_have_one_reading, claims_begin_as_bytes};
 pub use line::Line;
 pub use om_text::Kind;
 pub use texts::print_line;
-pub use verdict::print_verdict;
+pub use verdict::{print_claim, print_verdict};

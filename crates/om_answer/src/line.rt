@@ -3,11 +3,11 @@ use om_signs::SignVec;
 use om_subsets::Subset;
 use om_text::Code;
 
-/// An answer of one line. Its text is the words of its name in lower case and then its fields in their order, with single
+/// An answer of one line. Its text is the words of its name in lower case, then its fields in order, with single
 /// spaces. Members of a list count from 1, in the order of the distinct ones.
 #[derive(Clone, Copy)]
 pub enum Line {
-    /// The document meets the axioms of its kind.
+    /// The document satisfies the axioms of its kind.
     Accepted,
     /// The sign vector is a covector.
     Covector,
@@ -15,7 +15,7 @@ pub enum Line {
     NotCovector,
     /// The claim's vectors realize the chirotope of its document.
     ValidRealizable,
-    /// The claim's entries are a biquadratic final polynomial of the chirotope of its document: no vectors of whole numbers
+    /// The claim's entries are a biquadratic final polynomial of the chirotope of its document: no integer vectors
     /// realize it.
     ValidNonrealizable,
     /// The claim's weights show that the chirotope of its document has no biquadratic final polynomial.
@@ -24,7 +24,7 @@ pub enum Line {
     Circuit {
         x: SignVec,
     },
-    /// No circuit fits the colours, and the cocircuit `x` does.
+    /// No circuit fits the colours; the cocircuit `x` does.
     Cocircuit {
         x: SignVec,
     },
@@ -32,7 +32,7 @@ pub enum Line {
     Cyclic {
         x: SignVec,
     },
-    /// The words aren't a command: word `word`, counted from 1, is at fault.
+    /// The arguments aren't a command: word `word`, counted from 1, is at fault.
     Usage {
         word: u32,
     },
@@ -40,8 +40,8 @@ pub enum Line {
     LimitMembers {
         limit: u32,
     },
-    /// A chirotope would have `values` values, more than a document may hold: that of the oriented matroid, or, for
-    /// `lexext`, that of its extension.
+    /// A chirotope would have `values` values, more than a document may hold. It is the one of the oriented matroid
+    /// or, for `lexext`, the one of its extension.
     LimitValues {
         values: u32,
     },
@@ -67,13 +67,13 @@ pub enum Line {
     RefusedNonegative {
         i: u32,
     },
-    /// Members `i` and `j` are the first of which the support of `i` lies in that of `j`, and which are neither equal nor
-    /// negatives.
+    /// Members `i` and `j` are the first such that the support of `i` lies in that of `j`, and the two are neither
+    /// equal nor negatives of each other.
     RefusedNested {
         i: u32,
         j: u32,
     },
-    /// Members `i` and `j` and the element `e` are the first where no member eliminates `e` from the two.
+    /// Members `i` and `j` and the element `e` are the first for which no member eliminates `e` from the two.
     RefusedNoelimination {
         i: u32,
         j: u32,
@@ -86,7 +86,7 @@ pub enum Line {
         i: u32,
         j: u32,
     },
-    /// Block `step` of the wiring, counted from 1, has fewer than two positions, or one that isn't a wire's.
+    /// Block `step` of the wiring, counted from 1, has fewer than two positions, or a position outside the wires.
     RefusedRange {
         step: u32,
     },
@@ -94,27 +94,27 @@ pub enum Line {
     RefusedNotincreasing {
         step: u32,
     },
-    /// The blocks of the wiring don't end in the reversed order.
+    /// The blocks of the wiring don't end with the wires in reversed order.
     RefusedNotreversed,
-    /// No three of the points have a triple product other than 0.
+    /// All triple products of the points are 0.
     RefusedRanklow,
     /// The rank of the wiring isn't 3: all values of its map are zero.
     RefusedFlatrank,
-    /// `member` was given `given` signs, or `paint` as many letters, and this isn't the number of elements.
+    /// `member` was given `given` signs, or `paint` `given` letters, and this isn't the number of elements.
     RefusedLength {
         given: u32,
     },
-    /// The first element among the words that is above the number of elements.
+    /// The first element among the arguments that is above the number of elements.
     RefusedPlace {
         e: u8,
     },
     /// The only element can't be deleted or contracted.
     RefusedLastelement,
-    /// The rank is `r`, and the command asks for rank 3.
+    /// The rank is `r`, and the command requires rank 3.
     RefusedNotrank3 {
         r: u8,
     },
-    /// There are `n` elements, and there is no room for one more.
+    /// There are `n` elements, the most that are allowed, so none can be added.
     RefusedFull {
         n: u8,
     },
@@ -125,18 +125,20 @@ pub enum Line {
         s: Subset,
         a: Subset,
     },
-    /// With the value of the three elements negated, this is the first pair of sets at which the axioms of a chirotope fail.
+    /// With the value of the three elements negated, this is the first pair of sets at which the axioms of a chirotope
+    /// fail.
     RefusedNotmutation {
         s: Subset,
         a: Subset,
     },
-    /// The element `e`, at which a painting is asked for, is black or white.
+    /// The element `e`, for which a painting is requested, is black or white.
     RefusedColour {
         e: u8,
     },
-    /// The three-term test is asked of a document that isn't a map.
+    /// The three-term test is requested for a document that isn't a map.
     RefusedNotmap,
-    /// The bases `b` and `c` and the element `e` of `b` are the first where `e` can't be exchanged for an element of `c`.
+    /// The bases `b` and `c` and the element `e` of `b` are the first for which no element of `c` can be exchanged
+    /// for `e`.
     RefusedNoexchange {
         b: Subset,
         c: Subset,
@@ -149,21 +151,22 @@ pub enum Line {
     },
     /// The claim's verdict is a limit, which has no certificate.
     RefusedNocertificate,
-    /// The claim has `given` vectors or weights in place of `wanted`: a vector for each element, or a weight for each triple
-    /// on which the chirotope isn't 0.
+    /// The claim has `given` vectors or weights instead of `wanted`: a vector for each element, or a weight for
+    /// each triple on which the chirotope isn't 0.
     RefusedNumber {
         wanted: u32,
         given: u32,
     },
-    /// The first three elements whose vectors have a triple product of another sign.
+    /// The first three elements whose vectors have a triple product with the wrong sign.
     RefusedWrongsign {
         triple: Subset,
     },
-    /// Entry `entry`, counted from 1, is the first that is no lawful statement of the chirotope.
+    /// Entry `entry`, counted from 1, is the first that is not a lawful statement of the chirotope.
     RefusedUnlawful {
         entry: u32,
     },
-    /// The first bracket that stands `small` times on the small sides and `big` times on the big ones.
+    /// The first bracket that occurs `small` times on the small sides and `big` times on the big ones, with `small`
+    /// ≠ `big`.
     RefusedUnbalanced {
         bracket: Subset,
         small: u128,
@@ -171,11 +174,11 @@ pub enum Line {
     },
     /// No entry is strict.
     RefusedNostrict,
-    /// Weight `entry`, counted from 1, is the first that isn't that of the bracket whose turn it is.
+    /// Weight `entry`, counted from 1, is the first whose bracket isn't the one expected at its place.
     RefusedBracket {
         entry: u32,
     },
-    /// The first lawful statement that the weights don't meet.
+    /// The first lawful statement that the weights don't satisfy.
     RefusedWeightfails {
         statement: Statement,
     },

@@ -1,6 +1,7 @@
-//! Numbers that stand one after another on a line.
+//! Numbers that follow one another on a line.
 
-ghost use Rattle.std.specs.Prelude.{◌≡◌, ◌≤◌, ◌<◌, ◌^◌, ◌∷◌, [], length, MatchOption, IfSome, Some, None, All, FitsSigned};
+ghost use Rattle.std.specs.Prelude.{◌≡◌, ◌≤◌, ◌<◌, ◌^◌, ◌∷◌, [], length, MatchOption, IfSome, Some, None, All};
+ghost use Rattle.std.specs.Prelude.{FitsSigned};
 ghost use Rattle.std.specs.Int.{w128};
 ghost use Rattle.om_text.specs.Lines.{runs};
 ghost use Rattle.om_answer.specs.Numbers.{number_within, numbers_within, IsReadable, IsIn, AreIn};
@@ -36,7 +37,7 @@ fn number_of(range: Range, word: &[u8]) -> Option<i128>
     }
 }
 
-/// The numbers that the words of a line spell, where there are as many as ranges and each is in its own.
+/// The numbers that the words of a line spell, if there are as many as ranges and each is in its own.
 pub fn numbers_of(
     alloc: Global,
     ranges: &[Range],
@@ -44,7 +45,8 @@ pub fn numbers_of(
 ) -> Option<SmallVec<i128, MOST_NUMBERS>>
     requires few { length ranges.now ≤ MOST_NUMBERS }
     requires readable { All IsReadable ranges.now }
-    ensures value { MatchOption result (numbers_within ranges.now (runs line.now) ≡ None) (λ v. numbers_within ranges.now (runs line.now) ≡ Some v.items) }
+    ensures value { MatchOption result (numbers_within ranges.now (runs line.now) ≡ None)
+        (λ v. numbers_within ranges.now (runs line.now) ≡ Some v.items) }
     ensures within { IfSome result (λ v. AreIn ranges.now v.items) }
 {
     let mut numbers = SmallVec::new(alloc);

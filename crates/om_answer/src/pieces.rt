@@ -1,5 +1,5 @@
-//! Pieces of texts. Each call puts one at the end of a text; the other answer is want of memory, which is all that
-//! [`NoMemory`] ever says here, and then the text is as it was.
+//! Pieces of texts. Each call appends one piece to a text. A call returns [`NoMemory`] only if memory runs out, and
+//! the text is then unchanged.
 
 ghost use Rattle.std.specs.Prelude.{◌≡◌, ◌++◌, ◌∷◌, [], OnOk, OnErr, map};
 ghost use Rattle.std.specs.Io.{StartsWith};
@@ -12,7 +12,7 @@ use om_signs::{NoMemory, SignVec};
 use om_subsets::Subset;
 use om_text::words::byte_of_sign;
 
-/// Puts a word, or any other bytes, at the end.
+/// Appends a word, or any other bytes.
 pub fn push(text: &mut Vec<u8>, word: &[u8]) -> Result<(), NoMemory>
     ensures ok { OnOk result (text.new.items ≡ text.old.items ++ word.now) }
     ensures err { OnErr result (text.new.items ≡ text.old.items) }
@@ -21,7 +21,7 @@ pub fn push(text: &mut Vec<u8>, word: &[u8]) -> Result<(), NoMemory>
     Ok(())
 }
 
-/// Puts a line feed at the end.
+/// Appends a line feed.
 pub fn push_line_feed(text: &mut Vec<u8>) -> Result<(), NoMemory>
     ensures ok { OnOk result (text.new.items ≡ text.old.items ++ 10 ∷ []) }
     ensures err { OnErr result (text.new.items ≡ text.old.items) }
@@ -29,7 +29,7 @@ pub fn push_line_feed(text: &mut Vec<u8>) -> Result<(), NoMemory>
     push(text, b"\n")
 }
 
-/// Puts the decimal digits of a number at the end.
+/// Appends the decimal digits of a number.
 pub fn push_decimal(text: &mut Vec<u8>, n: u128) -> Result<(), NoMemory>
     ensures ok { OnOk result (text.new.items ≡ text.old.items ++ decimal n) }
     ensures err { OnErr result (text.new.items ≡ text.old.items) }
@@ -38,7 +38,7 @@ pub fn push_decimal(text: &mut Vec<u8>, n: u128) -> Result<(), NoMemory>
     push(text, buffer.format(n).as_bytes())
 }
 
-/// Puts the elements of a subset, joined by commas, at the end, and `none` for the empty one.
+/// Appends the elements of a subset, joined by commas, or `none` for the empty one.
 pub fn push_subset(text: &mut Vec<u8>, subset: Subset) -> Result<(), NoMemory>
     ensures ok { OnOk result (text.new.items ≡ text.old.items ++ subset_text subset.elements) }
     ensures err { OnErr result (text.new.items ≡ text.old.items) }
@@ -54,7 +54,7 @@ pub fn push_subset(text: &mut Vec<u8>, subset: Subset) -> Result<(), NoMemory>
     pushed
 }
 
-/// Puts the elements of a subset, joined by commas, at the end. Where memory is wanting, some may stand there.
+/// Appends the elements of a subset, joined by commas. If memory runs out, some of them may have been appended.
 fn push_elements(text: &mut Vec<u8>, subset: Subset) -> Result<(), NoMemory>
     ensures ok { OnOk result (text.new.items ≡ text.old.items ++ join_with_byte 44 (map decimal subset.elements)) }
     ensures kept { StartsWith text.new.items text.old.items }
@@ -70,8 +70,8 @@ fn push_elements(text: &mut Vec<u8>, subset: Subset) -> Result<(), NoMemory>
     Ok(())
 }
 
-/// Puts an element at the end, behind a comma where others stand before it. Where memory is wanting, the comma may stand
-/// there.
+/// Appends an element, after a comma if others come before it. If memory runs out, the comma may have been
+/// appended.
 fn push_element(text: &mut Vec<u8>, before: u8, e: u8) -> Result<(), NoMemory>
     ensures ok { OnOk result (text.new.items ≡ text.old.items ++ after_comma before (decimal e)) }
     ensures kept { StartsWith text.new.items text.old.items }
@@ -82,7 +82,7 @@ fn push_element(text: &mut Vec<u8>, before: u8, e: u8) -> Result<(), NoMemory>
     push_decimal(text, u128::from(e))
 }
 
-/// Puts the signs of a sign vector at the end, in the order of the elements: `-`, `0` or `+` for each.
+/// Appends the signs of a sign vector, in the order of the elements: `-`, `0` or `+` for each.
 pub fn push_vector(text: &mut Vec<u8>, vector: SignVec) -> Result<(), NoMemory>
     ensures ok { OnOk result (text.new.items ≡ text.old.items ++ signs_text vector) }
     ensures err { OnErr result (text.new.items ≡ text.old.items) }
@@ -95,7 +95,7 @@ pub fn push_vector(text: &mut Vec<u8>, vector: SignVec) -> Result<(), NoMemory>
     pushed
 }
 
-/// Puts the signs of a sign vector at the end. Where memory is wanting, some may stand there.
+/// Appends the signs of a sign vector. If memory runs out, some of them may have been appended.
 fn push_signs(text: &mut Vec<u8>, vector: SignVec) -> Result<(), NoMemory>
     ensures ok { OnOk result (text.new.items ≡ text.old.items ++ signs_text vector) }
     ensures kept { StartsWith text.new.items text.old.items }

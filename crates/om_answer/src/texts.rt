@@ -1,4 +1,4 @@
-//! The texts of answers of one line.
+//! The texts of one-line answers.
 
 ghost use Rattle.std.specs.Prelude.{◌≡◌, ◌++◌, IfOk};
 ghost use Rattle.om_answer.specs.Texts.{ended, line_name, line_text};
@@ -10,7 +10,7 @@ use super::pieces::{push, push_line_feed};
 use om_signs::NoMemory;
 use std::alloc::Global;
 
-/// A name and then fields, each behind a space, with a line feed at the end.
+/// A name and then fields, each after a space, with a line feed at the end.
 fn text_of(alloc: Global, name: &str, fields: &[Field]) -> Result<Vec<u8>, NoMemory>
     ensures { IfOk result (λ text. text.items ≡ name.now ++ ended fields.now) }
 {
@@ -78,10 +78,10 @@ fn name_of(line: &Line) -> &'static str
     }
 }
 
-/// The text of a line: the words of its name in lower case and then its fields, with single spaces, and a line feed. The
-/// text takes its memory from `alloc`.
+/// The text of a line: the words of its name in lower case, then its fields, with single spaces, and a line feed.
+/// Memory for the text comes from `alloc`.
 ///
-/// [`NoMemory`] comes only for want of memory.
+/// [`NoMemory`] comes only if memory runs out.
 pub fn print_line(alloc: Global, line: &Line) -> Result<Vec<u8>, NoMemory>
     ensures { IfOk result (λ text. text.items ≡ line_text line.now) }
 {

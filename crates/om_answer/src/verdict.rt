@@ -1,4 +1,4 @@
-//! Printing a verdict on a chirotope.
+//! Printing claims, and verdicts on chirotopes.
 
 ghost use Rattle.std.specs.Prelude.{◌≡◌, ◌≢◌, ◌≤◌, IfOk};
 ghost use Rattle.om_signs.specs.declared.limits.TheConstants.{MAX_VALUES};
@@ -7,8 +7,9 @@ ghost use Rattle.om_certificate.specs.Forms.{IsVerdictInForm};
 ghost use Rattle.om_text.specs.Form.{IsInForm};
 ghost use Rattle.om_text.specs.Lines.{lines};
 ghost use Rattle.om_answer.specs.Claim.{IsClaim};
-ghost use Rattle.om_answer.specs.VerdictText.{chirotope_document, verdict_text, claim_of};
+ghost use Rattle.om_answer.specs.VerdictText.{chirotope_document, verdict_text, claim_of, claim_text};
 
+use super::claim::Claim;
 use super::verdict_lines::push_block;
 use om_certificate::Verdict;
 use om_chirotope::Chirotope;
@@ -16,7 +17,7 @@ use om_signs::{List, NoMemory};
 use om_text::{Body, Document, print};
 use std::alloc::Global;
 
-/// The document of a chirotope with no more values than a document may hold, without names.
+/// The document of a chirotope with no more values than a document may hold. It has no names.
 fn document_of(alloc: Global, chi: &Chirotope) -> Result<Document, NoMemory>
     requires { choose chi.now.elements chi.now.rank ≤ MAX_VALUES }
     ensures value { IfOk result (λ d. d ≡ chirotope_document chi.now) }
@@ -32,27 +33,46 @@ fn document_of(alloc: Global, chi: &Chirotope) -> Result<Document, NoMemory>
     })
 }
 
-/// The text of a verdict on a chirotope: the canonical form of the chirotope's document, and then the lines of the verdict
-/// block. The text takes its memory from `alloc`, and the signs are copied with their own allocator.
+/// The text of a verdict on a chirotope: the canonical form of the chirotope's document, and then the lines of the
+/// verdict block. Memory for the text comes from `alloc`; the signs are copied with their own allocator.
 ///
-/// The verdict has the forms and is within the limits of a claim: its vectors are no more than elements may be, the numbers
-/// of its entries and its weights are in their ranges, the elements of a weight increase, there are at most as many weights
-/// as sets of three elements, and the end of a tableau has its numbers in their ranges, with a basis number or more behind a
-/// budget of pivots. The chirotope has at most [`om_signs::MAX_VALUES`] values, as many as a document may hold; one of rank
-/// 3, which verdicts are about, never has more. What is printed is then a claim, and [`crate::read_claim`] reads this
-/// document and this verdict from it.
+/// The verdict must have the forms of a claim and be within its limits:
 ///
-/// [`NoMemory`] comes only for want of memory.
+/// - there are at most as many vectors as elements are allowed;
+/// - the numbers of the entries and the weights are in their ranges;
+/// - the elements of a weight increase, and there are at most as many weights as sets of three elements;
+/// - the numbers at the end of a tableau are in their ranges;
+/// - a budget of pivots comes with at least one basis number.
+///
+/// The chirotope has at most [`om_signs::MAX_VALUES`] values, as many as a document may hold. One of rank 3, the
+/// rank that verdicts are about, never has more. The printed text is then a claim, and [`crate::read_claim`] reads
+/// this document and this verdict from it.
+///
+/// [`NoMemory`] comes only if memory runs out.
 pub fn print_verdict(alloc: Global, chi: &Chirotope, verdict: &Verdict) -> Result<Vec<u8>, NoMemory>
     requires form { IsVerdictInForm verdict.now }
     requires few { chi.now.rank ≢ 3 → choose chi.now.elements chi.now.rank ≤ MAX_VALUES }
     ensures text { IfOk result (λ text. text.items ≡ verdict_text chi.now verdict.now) }
-    // What is printed is a claim: the chirotope's document and this verdict.
+    // The printed text is a claim: the chirotope's document and this verdict.
     ensures claim { IfOk result (λ text. IsClaim (lines text.items) (claim_of chi.now verdict.now)) }
 {
     chi.is_lawful();
     let document = document_of(alloc, chi)?;
     let mut text = print(alloc, &document)?;
     push_block(&mut text, verdict)?;
+    Ok(text)
+}
+
+/// The text of a claim: the canonical form of its document, and then the lines of the verdict block. Nothing is copied.
+///
+/// The document is in form, and the verdict has the forms and is within the limits of a claim. [`NoMemory`] comes only
+/// for want of memory.
+pub fn print_claim(alloc: Global, claim: &Claim) -> Result<Vec<u8>, NoMemory>
+    requires document { IsInForm claim.now.document }
+    requires verdict { IsVerdictInForm claim.now.verdict }
+    ensures { IfOk result (λ text. text.items ≡ claim_text claim.now) }
+{
+    let mut text = print(alloc, &claim.document)?;
+    push_block(&mut text, &claim.verdict)?;
     Ok(text)
 }

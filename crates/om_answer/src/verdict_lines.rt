@@ -1,9 +1,11 @@
-//! The lines of a verdict block, as they are printed.
+//! The lines of a verdict block, as printed.
 
 ghost use Rattle.std.specs.Prelude.{◌≡◌, ◌++◌, ◌∷◌, [], OnOk, map, codes};
 ghost use Rattle.std.specs.Fmt.{decimal};
 ghost use Rattle.om_answer.specs.BlockLines.{word_line};
-ghost use Rattle.om_answer.specs.VerdictText.{lines_text, tail_text, vector_words, entry_words, weight_words, relation_name, search_lines, stage_name, tableau_lines, verdict_name, verdict_lines, block_lines};
+ghost use Rattle.om_answer.specs.VerdictText.{lines_text, tail_text, vector_words, entry_words, weight_words};
+ghost use Rattle.om_answer.specs.VerdictText.{relation_name, search_lines, stage_name, tableau_lines, verdict_name};
+ghost use Rattle.om_answer.specs.VerdictText.{verdict_lines, block_lines};
 
 use super::fields::{push, push_number, push_signed};
 use om_certificate::{Entry, LpEnd, Verdict, Weight};
@@ -11,7 +13,7 @@ use om_signs::NoMemory;
 use om_simplex::Stage;
 use om_vectors::{Unfound, Vector};
 
-/// Puts numbers at the end, each behind a space.
+/// Appends numbers, each after a space.
 fn push_numbers(text: &mut Vec<u8>, numbers: &[u64]) -> Result<(), NoMemory>
     ensures { OnOk result (text.new.items ≡ text.old.items ++ tail_text (map decimal numbers.now)) }
 {
@@ -21,7 +23,7 @@ fn push_numbers(text: &mut Vec<u8>, numbers: &[u64]) -> Result<(), NoMemory>
     Ok(())
 }
 
-/// Puts a line at the end: its name, and then numbers.
+/// Appends a line: its name, then numbers.
 fn push_named(text: &mut Vec<u8>, name: &[u8], numbers: &[u64]) -> Result<(), NoMemory>
     ensures { OnOk result (text.new.items ≡ text.old.items ++ lines_text ((name.now ∷ map decimal numbers.now) ∷ [])) }
 {
@@ -30,7 +32,7 @@ fn push_named(text: &mut Vec<u8>, name: &[u8], numbers: &[u64]) -> Result<(), No
     push(text, b"\n")
 }
 
-/// Puts a vector at the end, as a line.
+/// Appends a vector as a line.
 fn push_vector(text: &mut Vec<u8>, vector: Vector) -> Result<(), NoMemory>
     ensures { OnOk result (text.new.items ≡ text.old.items ++ lines_text (vector_words vector ∷ [])) }
 {
@@ -41,7 +43,7 @@ fn push_vector(text: &mut Vec<u8>, vector: Vector) -> Result<(), NoMemory>
     push(text, b"\n")
 }
 
-/// Puts vectors at the end, one a line.
+/// Appends vectors, one per line.
 fn push_vectors(text: &mut Vec<u8>, vectors: &[Vector]) -> Result<(), NoMemory>
     ensures { OnOk result (text.new.items ≡ text.old.items ++ lines_text (map vector_words vectors.now)) }
 {
@@ -51,14 +53,14 @@ fn push_vectors(text: &mut Vec<u8>, vectors: &[Vector]) -> Result<(), NoMemory>
     Ok(())
 }
 
-/// The name of the line of a statement.
+/// The name of the line of a statement, strict or not.
 fn relation(strict: bool) -> &'static [u8]
     ensures { result.now ≡ relation_name strict }
 {
     if strict { b"lt" } else { b"eq" }
 }
 
-/// Puts an entry at the end, as a line.
+/// Appends an entry as a line.
 fn push_entry(text: &mut Vec<u8>, entry: Entry) -> Result<(), NoMemory>
     ensures { OnOk result (text.new.items ≡ text.old.items ++ lines_text (entry_words entry ∷ [])) }
 {
@@ -76,7 +78,7 @@ fn push_entry(text: &mut Vec<u8>, entry: Entry) -> Result<(), NoMemory>
     push_named(text, relation(statement.strict), &numbers)
 }
 
-/// Puts entries at the end, one a line.
+/// Appends entries, one per line.
 fn push_entries(text: &mut Vec<u8>, entries: &[Entry]) -> Result<(), NoMemory>
     ensures { OnOk result (text.new.items ≡ text.old.items ++ lines_text (map entry_words entries.now)) }
 {
@@ -86,7 +88,7 @@ fn push_entries(text: &mut Vec<u8>, entries: &[Entry]) -> Result<(), NoMemory>
     Ok(())
 }
 
-/// Puts a weight at the end, as a line.
+/// Appends a weight as a line.
 fn push_weight(text: &mut Vec<u8>, weight: Weight) -> Result<(), NoMemory>
     ensures { OnOk result (text.new.items ≡ text.old.items ++ lines_text (weight_words weight ∷ [])) }
 {
@@ -98,7 +100,7 @@ fn push_weight(text: &mut Vec<u8>, weight: Weight) -> Result<(), NoMemory>
     push(text, b"\n")
 }
 
-/// Puts weights at the end, one a line.
+/// Appends weights, one per line.
 fn push_weights(text: &mut Vec<u8>, weights: &[Weight]) -> Result<(), NoMemory>
     ensures { OnOk result (text.new.items ≡ text.old.items ++ lines_text (map weight_words weights.now)) }
 {
@@ -108,7 +110,7 @@ fn push_weights(text: &mut Vec<u8>, weights: &[Weight]) -> Result<(), NoMemory>
     Ok(())
 }
 
-/// Puts the end of a search at the end.
+/// Appends the lines of the end of a search.
 fn push_search(text: &mut Vec<u8>, unfound: &Unfound) -> Result<(), NoMemory>
     ensures { OnOk result (text.new.items ≡ text.old.items ++ lines_text (search_lines unfound.now)) }
 {
@@ -121,7 +123,7 @@ fn push_search(text: &mut Vec<u8>, unfound: &Unfound) -> Result<(), NoMemory>
     }
 }
 
-/// The name of a stage behind the word `width`.
+/// The name of a stage, after the word `width`.
 fn width_name(stage: Stage) -> &'static [u8]
     ensures { result.now ≡ codes "width " ++ stage_name stage }
 {
@@ -133,7 +135,7 @@ fn width_name(stage: Stage) -> &'static [u8]
     }
 }
 
-/// Puts the end of a tableau by a width at the end, as a line.
+/// Appends the end of a tableau at a width, as a line.
 fn push_width(
     text: &mut Vec<u8>,
     stage: Stage,
@@ -141,13 +143,14 @@ fn push_width(
     row: u16,
     place: u32,
 ) -> Result<(), NoMemory>
-    ensures { OnOk result (text.new.items ≡ text.old.items ++ lines_text (tableau_lines (LpEnd.Width stage pivot row place))) }
+    ensures { OnOk result
+        (text.new.items ≡ text.old.items ++ lines_text (tableau_lines (LpEnd.Width stage pivot row place))) }
 {
     let numbers = [u64::from(pivot), u64::from(row), u64::from(place)];
     push_named(text, width_name(stage), &numbers)
 }
 
-/// Puts basis numbers at the end, each behind a space.
+/// Appends basis numbers, each after a space.
 fn push_places(text: &mut Vec<u8>, basis: &[u32]) -> Result<(), NoMemory>
     ensures { OnOk result (text.new.items ≡ text.old.items ++ tail_text (map decimal basis.now)) }
 {
@@ -157,9 +160,10 @@ fn push_places(text: &mut Vec<u8>, basis: &[u32]) -> Result<(), NoMemory>
     Ok(())
 }
 
-/// Puts the end of a tableau by its budget of pivots at the end.
+/// Appends the lines of the end of a tableau at its budget of pivots.
 fn push_pivots(text: &mut Vec<u8>, count: u32, basis: &[u32]) -> Result<(), NoMemory>
-    ensures { OnOk result (text.new.items ≡ text.old.items ++ lines_text (tableau_lines (LpEnd.Pivots count basis.now))) }
+    ensures { OnOk result
+        (text.new.items ≡ text.old.items ++ lines_text (tableau_lines (LpEnd.Pivots count basis.now))) }
 {
     push_named(text, b"pivots", &[u64::from(count)])?;
     push(text, b"basis")?;
@@ -167,7 +171,7 @@ fn push_pivots(text: &mut Vec<u8>, count: u32, basis: &[u32]) -> Result<(), NoMe
     push(text, b"\n")
 }
 
-/// Puts the end of a tableau at the end.
+/// Appends the lines of the end of a tableau.
 fn push_tableau(text: &mut Vec<u8>, end: &LpEnd) -> Result<(), NoMemory>
     ensures { OnOk result (text.new.items ≡ text.old.items ++ lines_text (tableau_lines end.now)) }
 {
@@ -182,9 +186,11 @@ fn push_tableau(text: &mut Vec<u8>, end: &LpEnd) -> Result<(), NoMemory>
     }
 }
 
-/// Puts the verdict word and the lines of what the verdict has at the end.
+/// Appends the verdict word and the lines of what the verdict has.
 fn push_lines(text: &mut Vec<u8>, verdict: &Verdict) -> Result<(), NoMemory>
-    ensures { OnOk result (text.new.items ≡ text.old.items ++ lines_text (word_line (verdict_name verdict.now) ∷ verdict_lines verdict.now)) }
+    ensures { OnOk result
+        (text.new.items ≡ text.old.items
+        ++ lines_text (word_line (verdict_name verdict.now) ∷ verdict_lines verdict.now)) }
 {
     match verdict {
         Verdict::Realizable(word) => {
@@ -208,7 +214,7 @@ fn push_lines(text: &mut Vec<u8>, verdict: &Verdict) -> Result<(), NoMemory>
     }
 }
 
-/// Puts the block of a verdict at the end.
+/// Appends the block of a verdict.
 pub fn push_block(text: &mut Vec<u8>, verdict: &Verdict) -> Result<(), NoMemory>
     ensures { OnOk result (text.new.items ≡ text.old.items ++ lines_text (block_lines verdict.now)) }
 {

@@ -45,13 +45,18 @@ comes_later s t (u ∷ ss) h g = elim (cases_member u t ss g) [
 ]
 
 -- increasing statements are determined by their members
-one_list : (ss ts : List Statement) → IsIncreasing ss → IsIncreasing ts → ((s : Statement) → Contains ss s → Contains ts s) → ((s : Statement) → Contains ts s → Contains ss s) → ss ≡ ts
+one_list : (ss ts : List Statement) → IsIncreasing ss → IsIncreasing ts
+    → ((s : Statement) → Contains ss s → Contains ts s) → ((s : Statement) → Contains ts s → Contains ss s) → ss ≡ ts
 one_list [] [] h g f b = refl
 one_list [] (t ∷ ts) h g f b = absurd (none_member t (b t (here t ts)))
 one_list (s ∷ ss) [] h g f b = absurd (none_member s (f s (here s ss)))
 one_list (s ∷ ss) (t ∷ ts) h g f b =
     let e = heads (cases_member t s ts (f s (here s ss))) (cases_member s t ss (b t (here t ts))) in
-    ap (λ x. x ∷ ss) e ∙ ap (λ xs. t ∷ xs) (one_list ss ts (tail_increasing s ss h) (tail_increasing t ts g) (λ x m. forth e x m (cases_member t x ts (f x (later s x ss m)))) (λ x m. back e x m (cases_member s x ss (b x (later t x ts m)))))
+    ap (λ x. x ∷ ss) e
+    ∙ ap (λ xs. t ∷ xs)
+    (one_list ss ts (tail_increasing s ss h) (tail_increasing t ts g)
+    (λ x m. forth e x m (cases_member t x ts (f x (later s x ss m))))
+    (λ x m. back e x m (cases_member s x ss (b x (later t x ts m)))))
   where
     heads : (t ≡ s) ⊎ Contains ts s → (s ≡ t) ⊎ Contains ss t → s ≡ t
     heads (inl e) q = sym e
@@ -67,23 +72,36 @@ one_list (s ∷ ss) (t ∷ ts) h g f b =
     back e x m (inr n) = n
 
 pub one_listing : (m : SignMap) (ss ts : List Statement) → AreAll m ss → AreAll m ts → ss ≡ ts
-one_listing m ss ts h g = one_list ss ts h.increasing g.increasing (λ s k. (g.members s).1 ((h.members s).0 k)) (λ s k. (h.members s).1 ((g.members s).0 k))
+one_listing m ss ts h g = one_list ss ts h.increasing g.increasing (λ s k. (g.members s).1 ((h.members s).0 k))
+    (λ s k. (h.members s).1 ((g.members s).0 k))
 
 -- ---- columns
 
 same_column : (m : SignMap) (s : Statement) (c d : Column) → IsColumnOf m s c → IsColumnOf m s d → c ≡ d
 same_column m s c d h g =
-    ap (λ x. let k : Column = record { small0 = x; small1 = c.small1; big0 = c.big0; big1 = c.big1; strict = c.strict } in k) (row_injective m _ c.small0 d.small0 h.small0 g.small0)
-    ∙ ap (λ x. let k : Column = record { small0 = d.small0; small1 = x; big0 = c.big0; big1 = c.big1; strict = c.strict } in k) (row_injective m _ c.small1 d.small1 h.small1 g.small1)
-    ∙ ap (λ x. let k : Column = record { small0 = d.small0; small1 = d.small1; big0 = x; big1 = c.big1; strict = c.strict } in k) (row_injective m _ c.big0 d.big0 h.big0 g.big0)
-    ∙ ap (λ x. let k : Column = record { small0 = d.small0; small1 = d.small1; big0 = d.big0; big1 = x; strict = c.strict } in k) (row_injective m _ c.big1 d.big1 h.big1 g.big1)
-    ∙ ap (λ x. let k : Column = record { small0 = d.small0; small1 = d.small1; big0 = d.big0; big1 = d.big1; strict = x } in k) (h.strict ∙ sym g.strict)
+    ap (λ x. let k : Column = record { small0 = x; small1 = c.small1; big0 = c.big0; big1 = c.big1; strict = c.strict }
+    in k) (row_injective m _ c.small0 d.small0 h.small0 g.small0)
+    ∙ ap (λ x. let k : Column =
+    record { small0 = d.small0; small1 = x; big0 = c.big0; big1 = c.big1; strict = c.strict } in k)
+    (row_injective m _ c.small1 d.small1 h.small1 g.small1)
+    ∙ ap (λ x. let k : Column =
+    record { small0 = d.small0; small1 = d.small1; big0 = x; big1 = c.big1; strict = c.strict } in k)
+    (row_injective m _ c.big0 d.big0 h.big0 g.big0)
+    ∙ ap (λ x. let k : Column =
+    record { small0 = d.small0; small1 = d.small1; big0 = d.big0; big1 = x; strict = c.strict } in k)
+    (row_injective m _ c.big1 d.big1 h.big1 g.big1)
+    ∙ ap (λ x. let k : Column =
+    record { small0 = d.small0; small1 = d.small1; big0 = d.big0; big1 = d.big1; strict = x } in k)
+    (h.strict ∙ sym g.strict)
 
-pub same_columns : (m : SignMap) (ss : List Statement) (cs ds : List Column) → AreColumnsOf m ss cs → AreColumnsOf m ss ds → cs ≡ ds
+pub same_columns : (m : SignMap) (ss : List Statement) (cs ds : List Column) → AreColumnsOf m ss cs
+    → AreColumnsOf m ss ds → cs ≡ ds
 same_columns m ss cs ds h g = ext_get_or no_column cs ds (h.size ∙ sym g.size) (λ i l.
     let e = h.size in
     let f : i + 1 - 1 ≡ i = omega arith in
-    let q : column_of cs (i + 1) ≡ column_of ds (i + 1) = same_column m _ (column_of cs (i + 1)) (column_of ds (i + 1)) (h.each (i + 1) (omega arith) (omega arith)) (g.each (i + 1) (omega arith) (omega arith)) in
+    let q : column_of cs (i + 1) ≡ column_of ds (i + 1) =
+    same_column m _ (column_of cs (i + 1)) (column_of ds (i + 1)) (h.each (i + 1) (omega arith) (omega arith))
+    (g.each (i + 1) (omega arith) (omega arith)) in
     ap (λ j. get_or cs j no_column) (sym f) ∙ q ∙ ap (λ j. get_or ds j no_column) f)
 
 -- ---- the end of the run

@@ -21,15 +21,17 @@ use Rattle.om_certificate.specs.declared.verdict.Verdict.{Verdict}
 use Rattle.om_certificate.specs.Validity.{IsMultiplicity, IsWithinLimits}
 use Rattle.om_certificate.specs.Verdicts.{certificate_of}
 use Rattle.om_certificate.specs.Weights.{nonzero_brackets}
-use Rattle.om_certificate.specs.Forms.{AreVectorsInForm, IsEntryInForm, IsWeightInForm, AreWeightsInForm, ArePivotsInForm, IsWidthInForm, IsSearchInForm, IsVerdictInForm}
+use Rattle.om_certificate.specs.Forms.{AreVectorsInForm, IsEntryInForm, IsWeightInForm, AreWeightsInForm}
+use Rattle.om_certificate.specs.Forms.{ArePivotsInForm, IsWidthInForm, IsSearchInForm, IsVerdictInForm}
 use Rattle.om_certificate.proofs.NonzeroBrackets.{bracket_triples}
 use Rattle.om_certificate.proofs.Triples.{triple_elements}
 use Rattle.om_points.specs.Searches.{IsFound, IsUnfound}
 use Rattle.om_points.proofs.Limits.{found_few, found_within, frontier_few, frontier_within}
-use Rattle.om_decide.specs.declared.budgets.Budgets.{Budgets}
+use Rattle.om_budgets.specs.declared.budgets.Budgets.{Budgets}
 use Rattle.om_decide.specs.Columns.{row_count, statement_at, entries_of, weight_on, weights_on}
 use Rattle.om_decide.specs.Answers.{IsEndOf}
-use Rattle.om_decide.specs.Verdicts.{AreBudgets, IsVerdictOf, realizable, nonrealizable, undecided, pivot_limit, width}
+use Rattle.om_budgets.specs.Ranges.{AreBudgets}
+use Rattle.om_decide.specs.Verdicts.{IsVerdictOf, realizable, nonrealizable, undecided, pivot_limit, width}
 use Rattle.om_decide.proofs.Outcomes.{balanced_columns, weights_columns}
 use Rattle.om_decide.proofs.Certifying.{lawful_at}
 use Rattle.om_decide.proofs.WeightLists.{length-weights_on}
@@ -38,7 +40,8 @@ use Rattle.om_decide.proofs.FewEntries.{few_entries}
 
 -- ---- weights
 
-weight_form : (n : ℕ) (b : List ℕ) (z : ℤ) → n ≤ MAX_ELEMENTS → IsTriple n b → unsigned_abs z ≤ unsigned_abs MAX_WEIGHT → IsWeightInForm (weight_on b z)
+weight_form : (n : ℕ) (b : List ℕ) (z : ℤ) → n ≤ MAX_ELEMENTS → IsTriple n b → unsigned_abs z ≤ unsigned_abs MAX_WEIGHT
+    → IsWeightInForm (weight_on b z)
 weight_form n b z l t h = three b t t.size
   where
     three : (b : List ℕ) → IsTriple n b → length b ≡ 3 → IsWeightInForm (weight_on b z)
@@ -46,20 +49,25 @@ weight_form n b z l t h = three b t t.size
     three (x ∷ []) t e = absurd (omega arith)
     three (x ∷ y ∷ []) t e = absurd (omega arith)
     three (x ∷ y ∷ w ∷ v ∷ bs) t e = absurd (omega arith)
-    three (x ∷ y ∷ w ∷ []) t e = let p = triple_elements n x y w t in let high = p.3 in record { a = p.0; a_b = p.1; b_c = p.2; c = omega arith; size = h }
+    three (x ∷ y ∷ w ∷ []) t e = let p = triple_elements n x y w t in let high = p.3 in
+        record { a = p.0; a_b = p.1; b_c = p.2; c = omega arith; size = h }
 
-weights_form : (n : ℕ) (bs : List (List ℕ)) (zs : List ℤ) → n ≤ MAX_ELEMENTS → All (IsTriple n) bs → All (λ z. unsigned_abs z ≤ unsigned_abs MAX_WEIGHT) zs → All IsWeightInForm (weights_on bs zs)
+weights_form : (n : ℕ) (bs : List (List ℕ)) (zs : List ℤ) → n ≤ MAX_ELEMENTS → All (IsTriple n) bs
+    → All (λ z. unsigned_abs z ≤ unsigned_abs MAX_WEIGHT) zs → All IsWeightInForm (weights_on bs zs)
 weights_form n [] zs l t h = All-nil IsWeightInForm
 weights_form n (b ∷ bs) [] l t h = All-nil IsWeightInForm
 weights_form n (b ∷ bs) (z ∷ zs) l t h =
     All-cons IsWeightInForm (weight_on b z) (weights_on bs zs)
-    (weight_form n b z l (All-head (IsTriple n) b bs t) (All-head (λ x. unsigned_abs x ≤ unsigned_abs MAX_WEIGHT) z zs h))
-    (weights_form n bs zs l (All-tail (IsTriple n) b bs t) (All-tail (λ x. unsigned_abs x ≤ unsigned_abs MAX_WEIGHT) z zs h))
+    (weight_form n b z l (All-head (IsTriple n) b bs t)
+    (All-head (λ x. unsigned_abs x ≤ unsigned_abs MAX_WEIGHT) z zs h))
+    (weights_form n bs zs l (All-tail (IsTriple n) b bs t)
+    (All-tail (λ x. unsigned_abs x ≤ unsigned_abs MAX_WEIGHT) z zs h))
 
 -- ---- the parts of a verdict
 
 module _ (m : SignMap) (small : m.elements ≤ MAX_ELEMENTS) (b : Budgets) where
-  entry_form : (st : Statement) (times : ℕ) → IsLawful m st → 1 ≤ times → times ≤ MAX_MULTIPLICITY → IsEntryInForm (record { statement = st; times = times })
+  entry_form : (st : Statement) (times : ℕ) → IsLawful m st → 1 ≤ times → times ≤ MAX_MULTIPLICITY
+      → IsEntryInForm (record { statement = st; times = times })
   entry_form st times h low high =
       let p = h.placed in
       let bc = p.b_c in
@@ -80,14 +88,19 @@ module _ (m : SignMap) (small : m.elements ≤ MAX_ELEMENTS) (b : Budgets) where
         times = record { low = low; high = high };
       }
 
-  entries_form : (counts : List Count) (h : IsEndOf m b.pivots (outcome.Balanced counts)) → All IsEntryInForm (entries_of h.statements counts)
+  entries_form : (counts : List Count) (h : IsEndOf m b.pivots (outcome.Balanced counts))
+      → All IsEntryInForm (entries_of h.statements counts)
   entries_form counts h =
       let balancing = balanced_columns m h.statements h.columns b.pivots counts h.are h.end in
       let few = balanced_small h.columns (row_count m) b.pivots counts h.end in
-      All-map IsEntryInForm (λ (c : Count). let e : Entry = record { statement = statement_at h.statements c.column; times = c.times } in e) counts
-      (λ k d l. entry_form (statement_at h.statements (get_or counts k d).column) (get_or counts k d).times (lawful_at m h.statements h.columns h.are (get_or counts k d).column (balancing.numbers k d l)) (balancing.counted k d l) (few k d l))
+      All-map IsEntryInForm (λ (c : Count). let e : Entry =
+      record { statement = statement_at h.statements c.column; times = c.times } in e) counts
+      (λ k d l. entry_form (statement_at h.statements (get_or counts k d).column) (get_or counts k d).times
+      (lawful_at m h.statements h.columns h.are (get_or counts k d).column (balancing.numbers k d l))
+      (balancing.counted k d l) (few k d l))
 
-  weight_list_form : (zs : List ℤ) → IsEndOf m b.pivots (outcome.Weights zs) → AreWeightsInForm (weights_on (nonzero_brackets m) zs)
+  weight_list_form : (zs : List ℤ) → IsEndOf m b.pivots (outcome.Weights zs)
+      → AreWeightsInForm (weights_on (nonzero_brackets m) zs)
   weight_list_form zs h =
       let weighing = weights_columns m h.statements h.columns b.pivots zs h.are h.end in
       let e = weighing.size in
@@ -95,7 +108,8 @@ module _ (m : SignMap) (small : m.elements ≤ MAX_ELEMENTS) (b : Budgets) where
       let f = few_rows m small in
       record {
         few = omega (arith, n);
-        each = weights_form m.elements (nonzero_brackets m) zs small (bracket_triples m) (weights_small h.columns (row_count m) b.pivots zs (omega arith) h.end);
+        each = weights_form m.elements (nonzero_brackets m) zs small (bracket_triples m)
+            (weights_small h.columns (row_count m) b.pivots zs (omega arith) h.end);
       }
 
   -- the entries and the weights are within the limits of the checker of evidence
@@ -106,25 +120,29 @@ module _ (m : SignMap) (small : m.elements ≤ MAX_ELEMENTS) (b : Budgets) where
       let r = few_rows m small in
       record {
         few = omega (arith, n, r);
-        counted = All-weaker IsEntryInForm (λ e. IsMultiplicity e.times) (λ e f. f.times) (entries_of h.statements counts) (entries_form counts h);
+        counted = All-weaker IsEntryInForm (λ e. IsMultiplicity e.times) (λ e f. f.times)
+            (entries_of h.statements counts) (entries_form counts h);
       }
   verdict_within v (undecided zs u h n) =
       let f = weight_list_form zs h in
       let few = f.few in
       record {
         few = omega arith;
-        small = All-weaker IsWeightInForm (λ w. unsigned_abs w.value ≤ unsigned_abs MAX_WEIGHT) (λ w g. g.size) (weights_on (nonzero_brackets m) zs) f.each;
+        small = All-weaker IsWeightInForm (λ w. unsigned_abs w.value ≤ unsigned_abs MAX_WEIGHT) (λ w g. g.size)
+            (weights_on (nonzero_brackets m) zs) f.each;
       }
   verdict_within v (pivot_limit basis u h n) = tt
   verdict_within v (width stage pivot row place u h n) = tt
 
 module _ (m : SignMap) (small : m.elements ≤ MAX_ELEMENTS) (b : Budgets) (budgets : AreBudgets b) where
   vectors_form : (vs : List WholeVector) → IsFound b.box_size m b.steps vs → AreVectorsInForm vs
-  vectors_form vs f = let n = found_few b.box_size m b.steps vs f in record { few = omega arith; each = found_within b.box_size m b.steps vs budgets.box_high f }
+  vectors_form vs f = let n = found_few b.box_size m b.steps vs f in
+      record { few = omega arith; each = found_within b.box_size m b.steps vs budgets.box_high f }
 
   search_form : (u : Unfound) → IsUnfound b.box_size m b.steps u → IsSearchInForm u
   search_form Exhausted h = tt
-  search_form (Frontier w) h = let n = frontier_few b.box_size m b.steps w h in record { few = omega arith; each = frontier_within b.box_size m b.steps w budgets.box_high h }
+  search_form (Frontier w) h = let n = frontier_few b.box_size m b.steps w h in
+      record { few = omega arith; each = frontier_within b.box_size m b.steps w budgets.box_high h }
 
   pivots_form : (basis : List ℕ) → IsEndOf m b.pivots (outcome.PivotLimit basis) → ArePivotsInForm b.pivots basis
   pivots_form basis h =
@@ -136,10 +154,12 @@ module _ (m : SignMap) (small : m.elements ≤ MAX_ELEMENTS) (b : Budgets) (budg
       record {
         budget = budgets.pivots_high;
         some = omega arith;
-        plain = All-weaker (λ k. k ≤ row_count m + length h.columns) (λ k. k ≤ MAX_PLAIN) (λ k l. omega arith) basis n.most;
+        plain = All-weaker (λ k. k ≤ row_count m + length h.columns) (λ k. k ≤ MAX_PLAIN) (λ k l. omega arith) basis
+            n.most;
       }
 
-  width_form : (stage : Stage) (pivot row place : ℕ) → IsEndOf m b.pivots (outcome.Width stage pivot row place) → IsWidthInForm pivot row place
+  width_form : (stage : Stage) (pivot row place : ℕ) → IsEndOf m b.pivots (outcome.Width stage pivot row place)
+      → IsWidthInForm pivot row place
   width_form stage pivot row place h =
       let n = width_numbers h.columns (row_count m) b.pivots stage pivot row place (omega arith) h.end in
       let p = n.pivot_most in

@@ -12,13 +12,14 @@ ghost use Rattle.om_certificate.specs.Verdicts.{certificate_of};
 ghost use Rattle.om_certificate.specs.Weights.{nonzero_brackets};
 ghost use Rattle.om_decide.specs.Answers.{IsRefusal};
 ghost use Rattle.om_decide.specs.Columns.{entries_of, weights_on};
-ghost use Rattle.om_decide.specs.Verdicts.{AreBudgets, IsVerdictOf};
+ghost use Rattle.om_budgets.specs.Ranges.{AreBudgets};
+ghost use Rattle.om_decide.specs.Verdicts.{IsVerdictOf};
 
-use super::budgets::Budgets;
 use super::decide_error::DecideError;
 use super::evidence::{bracket_weights, entries};
 use super::making::lawful_statements;
 use super::program::run;
+use om_budgets::Budgets;
 use om_certificate::{LpEnd, Verdict};
 use om_chirotope::Chirotope;
 use om_grassmann::Statement;
@@ -28,22 +29,22 @@ use om_simplex::{Count, Outcome};
 use om_vectors::Unfound;
 use std::alloc::Global;
 
-/// The verdict on a chirotope of rank 3: whether vectors of whole numbers realize it.
+/// The verdict on a chirotope of rank 3: whether whole-number vectors realize it.
 ///
 /// - [`Verdict::Realizable`] has the vectors that [`search`] finds in the box within the steps.
-/// - [`Verdict::Nonrealizable`] has the statements of a biquadratic final polynomial with their multiplicities, where the
-///   linear program over the lawful statements ends balanced. No vectors of any size realize the chirotope then.
-/// - [`Verdict::Undecided`] has weights of the nonzero brackets, where the search found no vectors and the program ended
-///   with weights, so that there is no such polynomial; and where the search ended.
-/// - [`Verdict::Limit`] has the end of the program where it made all its pivots or came to a number that is too wide, and
-///   where the search ended, without vectors. `Pivots` has the budget and a basis number for each row.
+/// - [`Verdict::Nonrealizable`] has the statements of a biquadratic final polynomial with their multiplicities. The
+///   linear program over the lawful statements ended balanced, so no vectors of any size realize the chirotope.
+/// - [`Verdict::Undecided`] has weights of the nonzero brackets, and where the search ended. The search found no
+///   vectors, and the program ended with weights, so there is no such polynomial.
+/// - [`Verdict::Limit`] has the end of the program and where the search ended, without vectors. The program made all
+///   its pivots or reached a number that is too wide. `Pivots` has the budget and a basis number for each row.
 ///
-/// The verdict is a function of the chirotope and the budgets. Its vectors, entries or weights are valid evidence, as
-/// [`check`](om_certificate::check) says it, and within the limits of `check`, which may be called with them. The verdict has
-/// the forms and limits that a claim can carry.
+/// The verdict depends only on the chirotope and the budgets. Its vectors, entries or weights are valid evidence,
+/// as defined for [`check`](om_certificate::check), and within the limits of `check`, so that it may be called with
+/// them. The verdict has the forms and limits that a claim can carry.
 ///
-/// Each budget is in the range that [`Budgets`] names. `NotRank3` comes exactly where the rank isn't 3, and `Memory` only
-/// for want of memory, in rank 3.
+/// Each budget is in the range that [`Budgets`] names. `NotRank3` comes exactly if the rank isn't 3. `Memory` comes
+/// only if memory runs out, in rank 3.
 ///
 /// Source: Bokowski and Richter-Gebert, *On the finding of final polynomials*, 1990.
 pub fn decide(alloc: Global, chi: &Chirotope, budgets: Budgets) -> Result<Verdict, DecideError>
@@ -64,7 +65,7 @@ pub fn decide(alloc: Global, chi: &Chirotope, budgets: Budgets) -> Result<Verdic
     }
 }
 
-/// The verdict on a chirotope of rank 3 where the search ended without vectors.
+/// The verdict on a chirotope of rank 3, if the search ended without vectors.
 fn by_tableau(
     alloc: Global,
     chi: &Chirotope,
@@ -82,7 +83,7 @@ fn by_tableau(
     by_statements(alloc, chi, statements.as_slice(), budgets, unfound)
 }
 
-/// The verdict on a chirotope of rank 3 by all its lawful statements, where the search ended without vectors.
+/// The verdict on a chirotope of rank 3 found with all its lawful statements, if the search ended without vectors.
 fn by_statements(
     alloc: Global,
     chi: &Chirotope,
@@ -122,7 +123,7 @@ fn by_statements(
     }
 }
 
-/// The verdict by the counted statements of a balanced end.
+/// The verdict with the counted statements of a balanced end.
 fn balanced(alloc: Global, statements: &[Statement], counts: &[Count]) -> Result<Verdict, NoMemory>
     requires { All (λ c. IsPlace (length statements.now) c.column) counts.now }
     ensures { IfOk result (λ verdict. verdict ≡ Verdict.Nonrealizable (entries_of statements.now counts.now)) }
@@ -130,7 +131,7 @@ fn balanced(alloc: Global, statements: &[Statement], counts: &[Count]) -> Result
     Ok(Verdict::Nonrealizable(entries(alloc, statements, counts)?))
 }
 
-/// The verdict by the weights of the nonzero brackets, where the search ended without vectors.
+/// The verdict with the weights of the nonzero brackets, if the search ended without vectors.
 fn weighed(
     alloc: Global,
     chi: &Chirotope,
@@ -140,7 +141,8 @@ fn weighed(
     requires rank { chi.now.rank ≡ 3 }
     requires part { 3 ≤ chi.now.elements }
     requires size { length values.now ≡ length (nonzero_brackets chi.now) }
-    ensures { IfOk result (λ verdict. verdict ≡ Verdict.Undecided (weights_on (nonzero_brackets chi.now) values.now) unfound) }
+    ensures { IfOk result
+        (λ verdict. verdict ≡ Verdict.Undecided (weights_on (nonzero_brackets chi.now) values.now) unfound) }
 {
     let weights = bracket_weights(alloc, chi, values)?;
     Ok(Verdict::Undecided(weights, unfound))

@@ -13,7 +13,7 @@ use om_simplex::Count;
 use om_subsets::Subset;
 use std::alloc::Global;
 
-/// The statements of counted columns, each with how often it is counted.
+/// The statements of counted columns, each with its multiplicity.
 pub fn entries(
     alloc: Global,
     statements: &[Statement],
@@ -55,7 +55,7 @@ pub fn bracket_weights(
     Ok(weights)
 }
 
-/// A bracket with a weight.
+/// A bracket with its weight.
 fn bracket_weight(bracket: Subset, value: i128) -> Weight
     requires { length bracket.elements ≡ 3 }
     ensures { result ≡ weight_on bracket.elements value }

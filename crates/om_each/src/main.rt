@@ -7,7 +7,7 @@ use om_stream::run_each;
 use std::io;
 use std::process::ExitCode;
 
-/// The exit code where the runtime doesn't hand the words over for another cause than want of memory.
+/// The exit code if the runtime doesn't hand over the words for another reason than a lack of memory.
 const NO_WORDS: u8 = 7;
 
 fn main(rt: HostRuntime) -> ExitCode {

@@ -19,10 +19,11 @@ use Rattle.om_answer.specs.declared.line.Line.TheVariants as line
 use Rattle.om_text.specs.Form.{IsInForm}
 use Rattle.om_representation.specs.Axioms.{MeetsAxioms, IsFlatDocument}
 use Rattle.om_representation.specs.Documents.{worked_on}
-use Rattle.om_program.specs.Claims.{valid_line, refusal_line, EvidenceMeans, refused, valid, VerdictMeans, other_rank}
-use Rattle.om_program.specs.Claims.{limited, judged, ClaimMeans, fails_axioms, flat, verified}
+use Rattle.om_plane.specs.Claims.{valid_line, refusal_line, EvidenceMeans, refused, valid, VerdictMeans, other_rank}
+use Rattle.om_reply.specs.RefusalLines.{refused_line}
+use Rattle.om_plane.specs.Claims.{limited, judged, ClaimMeans, fails_axioms, flat, verified}
 use Rattle.om_existence.specs.Possible.{IsPossible}
-use Rattle.om_program.proofs.DecisionLaws.{evidence_shown}
+use Rattle.om_plane.proofs.DecisionLaws.{evidence_shown}
 use Rattle.om_existence.proofs.Possible.{held, then, mapped, either_way}
 use Rattle.om_existence.proofs.EvidenceParts.{evidence_possible}
 use Rattle.om_existence.proofs.RefusalParts.{refusal_possible}
@@ -59,7 +60,7 @@ verdict_possible m v sound within = elim (cases_eq m.rank 3) [
 pub claim_possible : (c : Claim) → IsInForm c.document → HasEvidenceWithinLimits c.verdict
     → IsPossible ((l : Line) × ClaimMeans c l)
 claim_possible c form within = then (either_way (MeetsAxioms c.document)) (λ e. elim e [
-  | inr fails ↦ mapped (λ h. (h.0, fails_axioms h.0 h.1)) (refusal_possible c.document form fails)
+  | inr fails ↦ mapped (λ h. (refused_line h.0, fails_axioms h.0 h.1)) (refusal_possible c.document form fails)
   | inl axioms ↦ then (either_way (IsFlatDocument c.document)) (λ f. elim f [
     | inl zero ↦ held (line.RefusedFlatrank, flat axioms zero)
     | inr some ↦ then (worked_possible c.document form axioms some) (λ w.

@@ -29,11 +29,11 @@ use Rattle.om_representation.specs.Chirotopes.{IsNormalChirotopeOf, IsChirotopeW
 use Rattle.om_representation.specs.Covectors.{IsCovectorOfBody}
 use Rattle.om_representation.specs.Documents.{map_document}
 use Rattle.om_representation.specs.Widths.{IsList, IsTooWide}
-use Rattle.om_program.specs.declared.answer.Answer.{Answer}
-use Rattle.om_program.specs.Answers.{says, shows}
-use Rattle.om_program.specs.Conversions.{has_kind, IsMemberOf, IsTooWideAs, IsKeptAs, HasTooMany, HasExactly}
-use Rattle.om_program.specs.Conversions.{IsConverted, IsConversion, itself, wide, limited, converted}
-use Rattle.om_program.specs.Upgrades.{IsGiven}
+use Rattle.om_reply.specs.declared.answer.Answer.{Answer}
+use Rattle.om_reply.specs.Answers.{says, shows}
+use Rattle.om_commands.specs.Conversions.{has_kind, IsMemberOf, IsTooWideAs, IsKeptAs, HasTooMany, HasExactly}
+use Rattle.om_commands.specs.Conversions.{IsConverted, IsConversion, itself, wide, limited, converted}
+use Rattle.om_commands.specs.Upgrades.{IsGiven}
 use Rattle.om_existence.proofs.GivenCovectors.{covector_in, circuit_in, cocircuit_in}
 use Rattle.om_existence.proofs.MapForms.{map_form}
 use Rattle.om_existence.proofs.WithinLimits.{HasList, all_listed, unnamed, list_form}

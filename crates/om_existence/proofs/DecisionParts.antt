@@ -14,17 +14,18 @@ use Rattle.om_certificate.specs.declared.verdict.Verdict.{Verdict}
 use Rattle.om_certificate.specs.declared.verdict.Verdict.TheVariants.{Realizable, Nonrealizable, Undecided, Limit}
 use Rattle.om_certificate.specs.Weights.{nonzero_brackets}
 use Rattle.om_points.specs.Searches.{IsUnfound}
-use Rattle.om_decide.specs.declared.budgets.Budgets.{Budgets}
+use Rattle.om_budgets.specs.declared.budgets.Budgets.{Budgets}
 use Rattle.om_decide.specs.Answers.{IsEndOf}
 use Rattle.om_decide.specs.Columns.{entries_of, weights_on}
-use Rattle.om_decide.specs.Verdicts.{AreBudgets, IsVerdictOf, realizable, nonrealizable, undecided, pivot_limit, width}
+use Rattle.om_budgets.specs.Ranges.{AreBudgets}
+use Rattle.om_decide.specs.Verdicts.{IsVerdictOf, realizable, nonrealizable, undecided, pivot_limit, width}
 use Rattle.om_decide.proofs.VerdictForms.{verdict_form}
 use Rattle.om_answer.specs.declared.line.Line.TheVariants as line
-use Rattle.om_program.specs.declared.answer.Answer.{Answer}
-use Rattle.om_program.specs.Answers.{says, judges}
-use Rattle.om_program.specs.Decisions.{DecisionMeans, other_rank, decided}
+use Rattle.om_reply.specs.declared.answer.Answer.{Answer}
+use Rattle.om_reply.specs.Answers.{says, judges}
+use Rattle.om_plane.specs.Decisions.{DecisionMeans, other_rank, decided}
 use Rattle.om_existence.specs.Possible.{IsPossible}
-use Rattle.om_program.proofs.DecisionLaws.{verdict_decided}
+use Rattle.om_plane.proofs.DecisionLaws.{verdict_decided}
 use Rattle.om_existence.proofs.ColumnParts.{end_possible}
 use Rattle.om_existence.proofs.Possible.{held, then, mapped}
 use Rattle.om_existence.proofs.SearchParts.{search_possible}

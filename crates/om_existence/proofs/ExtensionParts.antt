@@ -2,13 +2,15 @@
 --
 -- Main results: extensions_possible.
 -- Reference: Björner, Las Vergnas, Sturmfels, White and Ziegler, Oriented Matroids, chapter 7.
-use Rattle.std.specs.Prelude.{ℕ, ◌≡◌, ◌≢◌, ◌+◌, ◌*◌, ◌<◌, ◌≤◌, ◌^◌, ◌⊎◌, ◌↔◌, List, [], ◌∷◌, ◌++◌, length, Bool, true, false, IsTrue, refl}
+use Rattle.std.specs.Prelude.{ℕ, ◌≡◌, ◌≢◌, ◌+◌, ◌*◌, ◌<◌, ◌≤◌, ◌^◌, ◌⊎◌, ◌↔◌, List, [], ◌∷◌, ◌++◌, length, Bool, true}
+use Rattle.std.specs.Prelude.{false, IsTrue, refl}
 use Rattle.std.specs.List.{All, AllPairs, Contains}
 use Rattle.std.specs.Ordering.{ordering_then}
 use Rattle.std.proofs.Common.{Ordering, Less, zero, suc, get_or, sym, ◌∙◌, ap, subst, inl, inr, arith}
 use Rattle.std.proofs.lemmas.Bool.{cases_eq, cases_lt}
 use Rattle.std.proofs.lemmas.List.{length-append}
-use Rattle.std.proofs.lemmas.List.Elements.{All-push, Contains-append_left, Contains-push, Contains-push_cases, Contains-get_or}
+use Rattle.std.proofs.lemmas.List.Elements.{All-push, Contains-append_left, Contains-push, Contains-push_cases}
+use Rattle.std.proofs.lemmas.List.Elements.{Contains-get_or}
 use Rattle.std.proofs.lemmas.List.Quantifiers.{all_pairs_push}
 use Rattle.om_signs.specs.declared.limits.TheConstants.{MAX_ELEMENTS}
 use Rattle.om_signs.specs.declared.sign.Sign.{Sign}
@@ -24,15 +26,16 @@ use Rattle.om_localize.proofs.Localizations.{signature_size}
 use Rattle.om_oriented.proofs.PlaceLaws.{base_three-lt, same_place}
 use Rattle.om_oriented.specs.Places.{base_three}
 use Rattle.om_answer.specs.declared.line.Line.TheVariants as line
-use Rattle.om_program.specs.declared.answer.Answer.{Answer}
-use Rattle.om_program.specs.Answers.{says, lists_extensions}
-use Rattle.om_program.specs.ExtensionLists.{AreExtensionsOfMap, other_rank, full, listed}
+use Rattle.om_reply.specs.declared.answer.Answer.{Answer}
+use Rattle.om_reply.specs.Answers.{says, lists_extensions}
+use Rattle.om_plane.specs.ExtensionLists.{AreExtensionsOfMap, other_rank, full, listed}
 use Rattle.om_existence.specs.Possible.{IsPossible}
 use Rattle.om_existence.proofs.Possible.{held, then, mapped, either_way}
 
 -- ---- the order by places
 
-digits_less : (s t : Sign) (a b p : ℕ) (o : Ordering) → a < p → b < p → sign_rank s * p + a < sign_rank t * p + b → (a < b → o ≡ Less) → ordering_then (sign_order s t) o ≡ Less
+digits_less : (s t : Sign) (a b p : ℕ) (o : Ordering) → a < p → b < p → sign_rank s * p + a < sign_rank t * p + b
+    → (a < b → o ≡ Less) → ordering_then (sign_order s t) o ≡ Less
 digits_less Minus Minus a b p o la lb l h = h (omega (arith, l))
 digits_less Minus Zero a b p o la lb l h = refl
 digits_less Minus Plus a b p o la lb l h = refl
@@ -52,7 +55,9 @@ before_of_place (x ∷ xs) (y ∷ ys) l less =
     let n : length xs ≡ length ys = omega (arith, l) in
     let p : 3 ^ length ys ≡ 3 ^ length xs = ap (λ k. 3 ^ k) (sym n) in
     let small = subst (λ q. base_three ys < q) p (base_three-lt ys) in
-    digits_less x y (base_three xs) (base_three ys) (3 ^ length xs) (lexicographic xs ys) (base_three-lt xs) small (subst (λ q. sign_rank x * 3 ^ length xs + base_three xs < sign_rank y * q + base_three ys) p less) (before_of_place xs ys n)
+    digits_less x y (base_three xs) (base_three ys) (3 ^ length xs) (lexicographic xs ys) (base_three-lt xs) small
+    (subst (λ q. sign_rank x * 3 ^ length xs + base_three xs < sign_rank y * q + base_three ys) p less)
+    (before_of_place xs ys n)
 
 -- ---- the first members of a family, place by place
 
@@ -84,33 +89,45 @@ module _ (n k : ℕ) (P : List Sign → Type 0) (long : (X : List Sign) → P X 
   }
 
   -- no member at place b
-  none_here : (b : ℕ) (lines : List (List Sign)) (more : Bool) → AreFirstBelow P k b lines more → ((X : List Sign) → P X → base_three X ≡ b → ⊥) → AreFirstBelow P k (suc b) lines more
+  none_here : (b : ℕ) (lines : List (List Sign)) (more : Bool) → AreFirstBelow P k b lines more
+      → ((X : List Sign) → P X → base_three X ≡ b → ⊥) → AreFirstBelow P k (suc b) lines more
   none_here b lines more h none = record {
     few = h.few;
     members = h.members;
     places = λ i d l. let p = h.places i d l in omega (arith, p);
     ordered = h.ordered;
     complete = λ X p l. h.complete X p (below X p l);
-    left_out = (λ t. let x = h.left_out.0 t in (x.0, (x.1.0, (let l = x.1.1.0 in omega (arith, l), x.1.1.1))), λ x. h.left_out.1 (x.0, (x.1.0, (below x.0 x.1.0 x.1.1.0, x.1.1.1))));
+    left_out = (
+      λ t. let x = h.left_out.0 t in (x.0, (x.1.0, (let l = x.1.1.0 in omega (arith, l), x.1.1.1))),
+      λ x. h.left_out.1 (x.0, (x.1.0, (below x.0 x.1.0 x.1.1.0, x.1.1.1))),
+    );
   }
     where
       below : (X : List Sign) → P X → base_three X < suc b → base_three X < b
-      below X p l = elim (cases_eq (base_three X) b) [ inl same ↦ absurd (none X p same) | inr other ↦ grind (arith, l, other) ]
+      below X p l =
+          elim (cases_eq (base_three X) b) [ inl same ↦ absurd (none X p same) | inr other ↦ grind (arith, l, other) ]
 
   -- nothing is left out while there is room
-  none_left_out : (b : ℕ) (lines : List (List Sign)) (more : Bool) → AreFirstBelow P k b lines more → length lines < k → ((X : List Sign) × IsLeftOut P b lines X) → ⊥
+  none_left_out : (b : ℕ) (lines : List (List Sign)) (more : Bool) → AreFirstBelow P k b lines more → length lines < k
+      → ((X : List Sign) × IsLeftOut P b lines X) → ⊥
   none_left_out b lines more h room x = elim (h.complete x.0 x.1.0 x.1.1.0) [
     | inl there ↦ x.1.1.1 there
     | inr filled ↦ let e = filled.0 in omega (arith, e, room)
   ]
 
   -- a member at place b, and room for it
-  one_here : (b : ℕ) (lines : List (List Sign)) (more : Bool) (X : List Sign) → AreFirstBelow P k b lines more → length lines < k → P X → base_three X ≡ b → AreFirstBelow P k (suc b) (lines ++ X ∷ []) false
+  one_here : (b : ℕ) (lines : List (List Sign)) (more : Bool) (X : List Sign) → AreFirstBelow P k b lines more
+      → length lines < k → P X → base_three X ≡ b → AreFirstBelow P k (suc b) (lines ++ X ∷ []) false
   one_here b lines more X h room p at = record {
     few = let l = length-append lines (X ∷ []) in omega (arith, l, room);
     members = All-push P lines X h.members p;
-    places = All-push (λ Y. base_three Y < suc b) lines X (λ i d l. let q = h.places i d l in omega (arith, q)) (omega (arith, at));
-    ordered = all_pairs_push IsBefore lines X h.ordered (λ i d l. let q = h.places i d l in before_of_place (get_or lines i d) X (long (get_or lines i d) (h.members i d l) ∙ sym (long X p)) (omega (arith, q, at)));
+    places = All-push (λ Y. base_three Y < suc b) lines X (λ i d l. let q = h.places i d l in omega (arith, q))
+        (omega (arith, at));
+    ordered =
+        all_pairs_push IsBefore lines X h.ordered
+        (λ i d l. let q = h.places i d l in
+        before_of_place (get_or lines i d) X (long (get_or lines i d) (h.members i d l) ∙ sym (long X p))
+        (omega (arith, q, at)));
     complete = λ Y q l. inl (listed_now Y q l);
     left_out = (λ t. cc, λ x. absurd (x.1.1.1 (listed_now x.0 x.1.0 x.1.1.0)));
   }
@@ -121,11 +138,14 @@ module _ (n k : ℕ) (P : List Sign → Type 0) (long : (X : List Sign) → P X 
           | inl there ↦ Contains-append_left lines (X ∷ []) Y there
           | inr filled ↦ let e = filled.0 in absurd (omega (arith, e, room))
         ]
-        | inr most ↦ subst (Contains (lines ++ X ∷ [])) (same_place X Y (long X p ∙ sym (long Y q)) (omega (arith, l, most, at))) (Contains-push lines X)
+        | inr most ↦
+            subst (Contains (lines ++ X ∷ [])) (same_place X Y (long X p ∙ sym (long Y q)) (omega (arith, l, most, at)))
+            (Contains-push lines X)
       ]
 
   -- a member at place b, and no room
-  no_room : (b : ℕ) (lines : List (List Sign)) (more : Bool) (X : List Sign) → AreFirstBelow P k b lines more → k ≤ length lines → P X → base_three X ≡ b → AreFirstBelow P k (suc b) lines true
+  no_room : (b : ℕ) (lines : List (List Sign)) (more : Bool) (X : List Sign) → AreFirstBelow P k b lines more
+      → k ≤ length lines → P X → base_three X ≡ b → AreFirstBelow P k (suc b) lines true
   no_room b lines more X h none p at = record {
     few = h.few;
     members = h.members;
@@ -133,7 +153,13 @@ module _ (n k : ℕ) (P : List Sign → Type 0) (long : (X : List Sign) → P X 
     ordered = h.ordered;
     complete = λ Y q l. elim (cases_lt (base_three Y) b) [
       | inl less ↦ h.complete Y q less
-      | inr most ↦ inr (filled, λ i d j. let r = h.places i d j in before_of_place (get_or lines i d) Y (long (get_or lines i d) (h.members i d j) ∙ sym (long Y q)) (omega (arith, r, most)))
+      | inr most ↦
+          inr (
+            filled,
+            λ i d j. let r = h.places i d j in
+                before_of_place (get_or lines i d) Y (long (get_or lines i d) (h.members i d j) ∙ sym (long Y q))
+                (omega (arith, r, most)),
+          )
     ];
     left_out = (λ t. (X, (p, (omega (arith, at), not_there))), λ x. refl);
   }
@@ -157,13 +183,17 @@ module _ (n k : ℕ) (P : List Sign → Type 0) (long : (X : List Sign) → P X 
   within : (X : List Sign) → P X → base_three X < 3 ^ n
   within X p = subst (λ j. base_three X < 3 ^ j) (long X p) (base_three-lt X)
 
-  first_of_all : (lines : List (List Sign)) (more : Bool) → AreFirstBelow P k (3 ^ n) lines more → AreFirst P k lines more
+  first_of_all : (lines : List (List Sign)) (more : Bool) → AreFirstBelow P k (3 ^ n) lines more
+      → AreFirst P k lines more
   first_of_all lines more h = record {
     few = h.few;
     members = h.members;
     ordered = h.ordered;
     complete = λ X p. h.complete X p (within X p);
-    more = (λ t. let x = h.left_out.0 t in (x.0, x.1.0, x.1.1.1), λ x. h.left_out.1 (x.0, (x.1, (within x.0 x.1, x.2))));
+    more = (
+      λ t. let x = h.left_out.0 t in (x.0, x.1.0, x.1.1.1),
+      λ x. h.left_out.1 (x.0, (x.1, (within x.0 x.1, x.2))),
+    );
   }
 
   firsts_possible : IsPossible ((lines : List (List Sign)) × ((more : Bool) × AreFirst P k lines more))
@@ -171,13 +201,16 @@ module _ (n k : ℕ) (P : List Sign → Type 0) (long : (X : List Sign) → P X 
 
 -- ---- the answer
 
-pub extensions_possible : (first : ℕ) (m : SignMap) → IsSound m → IsPossible ((a : Answer) × AreExtensionsOfMap first m a)
+pub extensions_possible : (first : ℕ) (m : SignMap) → IsSound m
+    → IsPossible ((a : Answer) × AreExtensionsOfMap first m a)
 extensions_possible first m s = elim (cases_eq m.rank 3) [
   | inr other ↦ held (says (line.RefusedNotrank3 m.rank), other_rank other)
   | inl three ↦ elim (cases_eq m.elements MAX_ELEMENTS) [
     | inl most ↦ held (says (line.RefusedFull m.elements), full three most)
     | inr fewer ↦
         let less : m.elements < MAX_ELEMENTS = let l = s.limits.high in grind (arith, l, fewer) in
-        mapped (λ h. let l : Extensions = record { lines = h.0; more = h.1.0 } in (lists_extensions m.elements l, listed l three less h.1.1)) (firsts_possible (choose m.elements 2) first (IsSignature m) (signature_size m))
+        mapped (λ h. let l : Extensions = record { lines = h.0; more = h.1.0 } in
+        (lists_extensions m.elements l, listed l three less h.1.1))
+        (firsts_possible (choose m.elements 2) first (IsSignature m) (signature_size m))
   ]
 ]

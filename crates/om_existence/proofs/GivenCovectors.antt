@@ -18,8 +18,8 @@ use Rattle.om_text.specs.declared.kinds.Kind.TheVariants as kind
 use Rattle.om_text.specs.Form.{IsBodyOn}
 use Rattle.om_representation.specs.Chirotopes.{IsChirotopeOf}
 use Rattle.om_representation.specs.Covectors.{IsCovectorIn, IsCovectorOfBody}
-use Rattle.om_program.specs.Conversions.{IsMemberOf}
-use Rattle.om_program.specs.Upgrades.{IsGiven}
+use Rattle.om_commands.specs.Conversions.{IsMemberOf}
+use Rattle.om_commands.specs.Upgrades.{IsGiven}
 use Rattle.om_existence.proofs.Worked.{IsWorked, IsItsChirotope}
 
 -- ---- a body

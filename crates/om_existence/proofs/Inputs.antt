@@ -16,28 +16,31 @@ use Rattle.om_answer.specs.declared.line.Line.TheVariants as line
 use Rattle.om_answer.specs.Claim.{IsClaim}
 use Rattle.om_words.specs.declared.reads.Reads.TheVariants as source
 use Rattle.om_words.specs.declared.task.Task.{Task}
-use Rattle.om_words.specs.declared.task.Task.TheVariants.{Accept, Member, Convert, Dual, Delete, Contract, Reorient, Wiring, Mutations, Flip, Extend, Decide, Paint, Hull, Lexext, Threeterm, Upgrade, Check, Make}
+use Rattle.om_words.specs.declared.task.Task.TheVariants.{Accept, Member, Convert, Dual, Delete, Contract, Reorient}
+use Rattle.om_words.specs.declared.task.Task.TheVariants.{Wiring, Mutations, Flip, Extend, Decide, Paint, Hull, Lexext}
+use Rattle.om_words.specs.declared.task.Task.TheVariants.{Threeterm, Upgrade, Check, Make}
 use Rattle.om_words.specs.Tasks.{HasLawfulArguments, reads, given_list}
 use Rattle.om_words.specs.Words.{Names, IsUsage}
 use Rattle.om_representation.specs.Axioms.{MeetsAxioms, IsRefused, IsFlatDocument}
 use Rattle.om_representation.specs.Covectors.{IsCovectorIn}
 use Rattle.om_representation.specs.Documents.{worked_on}
-use Rattle.om_program.specs.declared.answer.Answer.{Answer}
-use Rattle.om_program.specs.declared.operation.Operation.TheVariants as operation
-use Rattle.om_program.specs.Answers.{says}
-use Rattle.om_program.specs.Decisions.{DecisionMeans}
-use Rattle.om_program.specs.ExtensionLists.{AreExtensionsOfMap}
-use Rattle.om_program.specs.Flips.{triple_of, IsFlipOfMap}
-use Rattle.om_program.specs.Hulls.{IsHullOfMap}
-use Rattle.om_program.specs.Meaning.{IsAnswerOf, flat_line, DocumentMeans, tested, upgraded, refused, flat, answered, TaskMeans, long, faulty, read, faulty_claim, claimed, alone, Means, usage, named}
-use Rattle.om_program.specs.MutationLists.{AreMutationsOfMap}
-use Rattle.om_program.specs.Sweeps.{IsWiringOfMap}
+use Rattle.om_reply.specs.declared.answer.Answer.{Answer}
+use Rattle.om_commands.specs.declared.operation.Operation.TheVariants as operation
+use Rattle.om_reply.specs.Answers.{says}
+use Rattle.om_plane.specs.Decisions.{DecisionMeans}
+use Rattle.om_plane.specs.ExtensionLists.{AreExtensionsOfMap}
+use Rattle.om_commands.specs.Hulls.{IsHullOfMap}
+use Rattle.om_program.specs.Meaning.{IsAnswerOf, flat_line, DocumentMeans, tested, upgraded, refused, flat, answered}
+use Rattle.om_program.specs.Meaning.{TaskMeans, long, faulty, read, faulty_claim, claimed, alone, Means, usage, named}
+use Rattle.om_plane.specs.MutationLists.{AreMutationsOfMap}
+use Rattle.om_plane.specs.Sweeps.{IsWiringOfMap}
 use Rattle.om_existence.specs.Possible.{IsPossible}
 use Rattle.om_existence.specs.Existence.{HasAnswer}
 use Rattle.om_existence.proofs.Possible.{held, then, mapped, either_way}
 use Rattle.om_existence.proofs.Worked.{IsWorked, worked_possible, for_chirotope_possible, for_kept_chirotope_possible}
 use Rattle.om_existence.proofs.WordParts.{words_possible}
 use Rattle.om_existence.proofs.TextParts.{readings, claim_readings, document_form, claim_form, claim_within}
+use Rattle.om_reply.specs.RefusalLines.{refused_line}
 use Rattle.om_existence.proofs.RefusalParts.{refusal_possible}
 use Rattle.om_existence.proofs.MembershipParts.{membership_possible}
 use Rattle.om_existence.proofs.ConversionParts.{conversion_possible}
@@ -62,7 +65,8 @@ TakesMatroid Check = ⊥
 TakesMatroid (Make seed count) = ⊥
 TakesMatroid _ = Unit {0}
 
-on_matroid : (t : Task) → TakesMatroid t → HasLawfulArguments t → (d : Document) → IsWorked d → IsPossible ((a : Answer) × IsAnswerOf t d a)
+on_matroid : (t : Task) → TakesMatroid t → HasLawfulArguments t → (d : Document) → IsWorked d
+    → IsPossible ((a : Answer) × IsAnswerOf t d a)
 on_matroid Accept takes lawful d w = held (says line.Accepted, refl)
 on_matroid (Member x) takes lawful d w = membership_possible d.elements (IsCovectorIn d) x
 on_matroid (Convert k) takes lawful d w = conversion_possible k d w
@@ -72,29 +76,37 @@ on_matroid (Contract e) takes lawful d w = operation_possible (operation.Contrac
 on_matroid (Reorient mask) takes lawful d w = operation_possible (operation.Reorient mask) lawful d w
 on_matroid Wiring takes lawful d w = for_chirotope_possible IsWiringOfMap d w (λ m s e. wiring_possible m s)
 on_matroid Mutations takes lawful d w = for_chirotope_possible AreMutationsOfMap d w (λ m s e. mutations_possible m s)
-on_matroid (Flip a b c) takes lawful d w = for_chirotope_possible (IsFlipOfMap (triple_of a b c)) d w (λ m s e. flip_possible a b c lawful m s)
-on_matroid (Extend first) takes lawful d w = for_chirotope_possible (AreExtensionsOfMap first) d w (λ m s e. extensions_possible first m s)
+on_matroid (Flip a b c) takes lawful d w = flip_possible a b c lawful d w
+on_matroid (Extend first) takes lawful d w =
+    for_chirotope_possible (AreExtensionsOfMap first) d w (λ m s e. extensions_possible first m s)
 on_matroid (Paint c) takes lawful d w = painting_possible c lawful d w
 on_matroid Hull takes lawful d w = for_kept_chirotope_possible IsHullOfMap d w (λ m s e. hull_possible m s)
 on_matroid (Lexext l) takes lawful d w = lexical_extension_possible l lawful d w
 on_matroid Threeterm takes lawful d w = absurd takes
 on_matroid Upgrade takes lawful d w = absurd takes
-on_matroid (Decide b) takes lawful d w = for_chirotope_possible (DecisionMeans b) d w (λ m s e. decision_possible b lawful m s)
+on_matroid (Decide b) takes lawful d w =
+    for_chirotope_possible (DecisionMeans b) d w (λ m s e. decision_possible b lawful m s)
 on_matroid Check takes lawful d w = absurd takes
 on_matroid (Make seed count) takes lawful d w = absurd takes
 
 -- ---- a task on a document
 
-given_matroid : (t : Task) → TakesMatroid t → t ≢ Threeterm → t ≢ Upgrade → HasLawfulArguments t → (d : Document) → IsInForm d → IsPossible ((a : Answer) × DocumentMeans t d a)
+given_matroid : (t : Task) → TakesMatroid t → t ≢ Threeterm → t ≢ Upgrade → HasLawfulArguments t → (d : Document)
+    → IsInForm d → IsPossible ((a : Answer) × DocumentMeans t d a)
 given_matroid t takes no_test no_upgrade lawful d form = then (either_way (MeetsAxioms d)) (λ e. elim e [
-  | inr fails ↦ mapped (λ h. (says h.0, refused h.0 no_test no_upgrade h.1)) (refusal_possible d form fails)
+  | inr fails ↦ mapped (λ h. (says (refused_line h.0), refused h.0 no_test no_upgrade h.1))
+      (refusal_possible d form fails)
   | inl axioms ↦ then (either_way (IsFlatDocument d)) (λ f. elim f [
     | inl zero ↦ held (says (flat_line t), flat no_test no_upgrade axioms zero)
-    | inr some ↦ then (worked_possible d form axioms some) (λ w. mapped (λ h. (h.0, answered h.0 no_test no_upgrade axioms some h.1)) (on_matroid t takes lawful (worked_on d) w))
+    | inr some ↦
+        then (worked_possible d form axioms some)
+        (λ w. mapped (λ h. (h.0, answered h.0 no_test no_upgrade axioms some h.1))
+        (on_matroid t takes lawful (worked_on d) w))
   ])
 ])
 
-on_document : (t : Task) → reads t ≡ source.Document → HasLawfulArguments t → (d : Document) → IsInForm d → IsPossible ((a : Answer) × DocumentMeans t d a)
+on_document : (t : Task) → reads t ≡ source.Document → HasLawfulArguments t → (d : Document) → IsInForm d
+    → IsPossible ((a : Answer) × DocumentMeans t d a)
 on_document Accept r lawful d form = given_matroid Accept tt (λ e. cc) (λ e. cc) lawful d form
 on_document (Member x) r lawful d form = given_matroid (Member x) tt (λ e. cc) (λ e. cc) lawful d form
 on_document (Convert k) r lawful d form = given_matroid (Convert k) tt (λ e. cc) (λ e. cc) lawful d form
@@ -144,19 +156,23 @@ reading Threeterm = a_document refl
 reading Upgrade = a_document refl
 reading (Decide b) = a_document refl
 
-on_input : (t : Task) → HasLawfulArguments t → (bytes : List ℕ) → Reading t → IsPossible ((a : Answer) × TaskMeans t bytes a)
-on_input t lawful bytes (nothing seed count same) = mapped (λ h. (h.0, alone seed count h.0 same h.1)) (made_possible seed count (subst HasLawfulArguments same lawful))
+on_input : (t : Task) → HasLawfulArguments t → (bytes : List ℕ) → Reading t
+    → IsPossible ((a : Answer) × TaskMeans t bytes a)
+on_input t lawful bytes (nothing seed count same) =
+    mapped (λ h. (h.0, alone seed count h.0 same h.1)) (made_possible seed count (subst HasLawfulArguments same lawful))
 on_input t lawful bytes (a_document r) = elim (cases_lt MAX_INPUT (length bytes)) [
   | inl past ↦ held (says line.RefusedLong, long (λ e. let same = sym r ∙ e in cc) past)
   | inr short ↦ elim (readings bytes) [
-    | inl h ↦ mapped (λ a. (a.0, read h.0 a.0 r short h.1 a.1)) (on_document t r lawful h.0 (document_form (lines bytes) h.0 h.1))
+    | inl h ↦ mapped (λ a. (a.0, read h.0 a.0 r short h.1 a.1))
+        (on_document t r lawful h.0 (document_form (lines bytes) h.0 h.1))
     | inr f ↦ held (says (line.RefusedLine f.0 f.1), faulty f.0 f.1 r short f.2)
   ]
 ]
 on_input t lawful bytes (a_claim r) = elim (cases_lt MAX_INPUT (length bytes)) [
   | inl past ↦ held (says line.RefusedLong, long (λ e. let same = sym r ∙ e in cc) past)
   | inr short ↦ elim (claim_readings bytes) [
-    | inl h ↦ mapped (λ l. (says l.0, claimed h.0 l.0 r short h.1 l.1)) (claim_possible h.0 (claim_form (lines bytes) h.0 h.1) (claim_within bytes h.0 h.1 short))
+    | inl h ↦ mapped (λ l. (says l.0, claimed h.0 l.0 r short h.1 l.1))
+        (claim_possible h.0 (claim_form (lines bytes) h.0 h.1) (claim_within bytes h.0 h.1 short))
     | inr f ↦ held (says (line.RefusedLine f.0 f.1), faulty_claim f.0 f.1 r short f.2)
   ]
 ]

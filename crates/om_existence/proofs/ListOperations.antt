@@ -31,9 +31,9 @@ use Rattle.om_minors.proofs.FamilyMinors.{the_same, dual_between}
 use Rattle.om_minors.proofs.ListMinors as minors
 use Rattle.om_minors.proofs.ListReorientations as turns
 use Rattle.om_text.specs.Form.{AreMembersOn}
-use Rattle.om_program.specs.declared.operation.Operation.{Operation}
-use Rattle.om_program.specs.declared.operation.Operation.TheVariants.{Dual, Delete, Contract, Reorient}
-use Rattle.om_program.specs.Operations.{AreMade, elements_left}
+use Rattle.om_commands.specs.declared.operation.Operation.{Operation}
+use Rattle.om_commands.specs.declared.operation.Operation.TheVariants.{Dual, Delete, Contract, Reorient}
+use Rattle.om_commands.specs.Operations.{AreMade, elements_left}
 use Rattle.om_existence.specs.Possible.{IsPossible}
 use Rattle.om_existence.proofs.Possible.{mapped}
 use Rattle.om_existence.proofs.OperationCases.{IsOneOfSeveral}

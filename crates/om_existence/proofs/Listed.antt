@@ -1,6 +1,7 @@
 -- Lists of all members of a family of sign vectors.
 --
--- Main results: listed_possible: a list of exactly the members of a family of vectors of n signs, each once, is possible.
+-- Main results: listed_possible: a list of exactly the members of a family of vectors of n signs, each once, is
+-- possible.
 use Rattle.std.specs.Prelude.{ℕ, ◌≡◌, ◌≢◌, ◌+◌, ◌<◌, ◌≤◌, ◌^◌, ◌⊎◌, List, [], ◌∷◌, ◌++◌, length, refl}
 use Rattle.std.proofs.Common.{zero, suc, sym, ◌∙◌, ap, subst, inl, inr, arith}
 use Rattle.std.proofs.lemmas.Bool.{cases_eq, cases_lt}
@@ -30,7 +31,8 @@ module _ (n : ℕ) (P : List Sign → Type 0) (long : (X : List Sign) → P X �
   }
 
   -- the member at place k, which is the only one there
-  one_more : (k : ℕ) (members : List (List Sign)) (X : List Sign) → AreBelow P k members → P X → base_three X ≡ k → AreBelow P (suc k) (members ++ X ∷ [])
+  one_more : (k : ℕ) (members : List (List Sign)) (X : List Sign) → AreBelow P k members → P X → base_three X ≡ k
+      → AreBelow P (suc k) (members ++ X ∷ [])
   one_more k members X h p at = record {
     sound = λ Y c. elim ((pushed members X).sound Y c) [
       | inl old ↦ let s = h.sound Y old in let l = s.1 in (s.0, omega (arith, l))
@@ -38,12 +40,14 @@ module _ (n : ℕ) (P : List Sign → Type 0) (long : (X : List Sign) → P X �
     ];
     complete = λ Y q l. elim (cases_lt (base_three Y) k) [
       | inl less ↦ Contains-append_left members (X ∷ []) Y (h.complete Y q less)
-      | inr most ↦ (pushed members X).complete Y (same_place Y X (long Y q ∙ sym (long X p)) (omega (arith, l, most, at)))
+      | inr most ↦
+          (pushed members X).complete Y (same_place Y X (long Y q ∙ sym (long X p)) (omega (arith, l, most, at)))
     ];
     distinct = pushed_distinct members X h.distinct (λ c. let l = (h.sound X c).1 in omega (arith, l, at));
   }
 
-  none_more : (k : ℕ) (members : List (List Sign)) → AreBelow P k members → ((X : List Sign) → P X → base_three X ≡ k → ⊥) → AreBelow P (suc k) members
+  none_more : (k : ℕ) (members : List (List Sign)) → AreBelow P k members
+      → ((X : List Sign) → P X → base_three X ≡ k → ⊥) → AreBelow P (suc k) members
   none_more k members h none = record {
     sound = λ Y c. let s = h.sound Y c in let l = s.1 in (s.0, omega (arith, l));
     complete = λ Y q l. elim (cases_eq (base_three Y) k) [

@@ -22,9 +22,9 @@ use Rattle.om_minors.proofs.MinorLists.{deletion_at, coloop_deletion, contractio
 use Rattle.om_minors.proofs.MinorMaps.{deleted_axioms, contracted_axioms}
 use Rattle.om_minors.proofs.Turning.{reoriented_axioms, is_reorientation}
 use Rattle.om_representation.proofs.WidthLaws.{few_of_minor, few_dual}
-use Rattle.om_program.specs.declared.operation.Operation.{Operation}
-use Rattle.om_program.specs.declared.operation.Operation.TheVariants.{Dual, Delete, Contract, Reorient}
-use Rattle.om_program.specs.Operations.{AreMade, IsMapMade, elements_left}
+use Rattle.om_commands.specs.declared.operation.Operation.{Operation}
+use Rattle.om_commands.specs.declared.operation.Operation.TheVariants.{Dual, Delete, Contract, Reorient}
+use Rattle.om_commands.specs.Operations.{AreMade, IsMapMade, elements_left}
 use Rattle.om_existence.proofs.OperationCases.{IsOneOfSeveral, IsReady}
 
 -- a chirotope that an operation makes of m, with few values

@@ -5,9 +5,10 @@
 use Rattle.std.specs.Prelude.{ℕ, ◌≡◌, ◌≤◌, [], ◌∷◌, Some, None, refl}
 use Rattle.std.proofs.Common.{sym, ◌∙◌, inl, inr, arith}
 use Rattle.std.proofs.lemmas.Bool.{cases_lt, lt-ltb}
-use Rattle.om_program.specs.declared.operation.Operation.{Operation}
-use Rattle.om_program.specs.declared.operation.Operation.TheVariants.{Dual, Delete, Contract, Reorient}
-use Rattle.om_program.specs.Operations.{IsLawful, named_elements, first_above, TakesOnly, elements_left}
+use Rattle.om_commands.specs.declared.operation.Operation.{Operation}
+use Rattle.om_commands.specs.declared.operation.Operation.TheVariants.{Dual, Delete, Contract, Reorient}
+use Rattle.om_reply.specs.Above.{first_above}
+use Rattle.om_commands.specs.Operations.{IsLawful, named_elements, TakesOnly, elements_left}
 
 -- e is one of n elements, and not the only one
 pub record IsOneOfSeveral (n e : ℕ) : Type 0 where

@@ -21,15 +21,16 @@ use Rattle.om_answer.specs.declared.line.Line.TheVariants as line
 use Rattle.om_representation.specs.Axioms.{MeetsAxiomsOn}
 use Rattle.om_representation.specs.Covectors.{IsCovectorOfBody}
 use Rattle.om_representation.specs.Documents.{map_document}
-use Rattle.om_program.specs.declared.answer.Answer.{Answer}
-use Rattle.om_program.specs.declared.operation.Operation.{Operation}
-use Rattle.om_program.specs.declared.operation.Operation.TheVariants.{Dual, Delete, Contract, Reorient}
-use Rattle.om_program.specs.Answers.{says, shows}
-use Rattle.om_program.specs.Conversions.{has_kind}
-use Rattle.om_program.specs.Operations.{IsLawful, IsOperation, outside, last, wide, limited, made}
-use Rattle.om_program.specs.Operations.{named_elements, first_above, TakesOnly, elements_left, kind_made}
-use Rattle.om_program.specs.Operations.{AreMade, IsMapMade, IsMade, IsNormalBody}
-use Rattle.om_program.specs.Operations.{IsTooWideToMake, IsKeptToMake, HasTooManyMade}
+use Rattle.om_reply.specs.declared.answer.Answer.{Answer}
+use Rattle.om_commands.specs.declared.operation.Operation.{Operation}
+use Rattle.om_commands.specs.declared.operation.Operation.TheVariants.{Dual, Delete, Contract, Reorient}
+use Rattle.om_reply.specs.Answers.{says, shows}
+use Rattle.om_commands.specs.Conversions.{has_kind}
+use Rattle.om_commands.specs.Operations.{IsLawful, IsOperation, outside, last, wide, limited, made}
+use Rattle.om_reply.specs.Above.{first_above}
+use Rattle.om_commands.specs.Operations.{named_elements, TakesOnly, elements_left, kind_made}
+use Rattle.om_commands.specs.Operations.{AreMade, IsMapMade, IsResult, IsNormalBody}
+use Rattle.om_commands.specs.Operations.{IsTooWideToMake, IsKeptToMake, HasTooManyMade}
 use Rattle.om_existence.proofs.ListOperations as lists
 use Rattle.om_existence.proofs.ListOperations.{AreCircuitsMade, AreCocircuitsMade, AreCovectorsMade}
 use Rattle.om_existence.proofs.MapForms.{map_form}
@@ -48,7 +49,7 @@ document n names b = record { elements = n; body = b; names = names }
 
 -- an operation makes a document of it
 abbrev HasMade : Operation → ℕ → List (List ℕ) → Body → Type 0
-HasMade o n names b = (e : Document) × IsMade o (document n names b) e
+HasMade o n names b = (e : Document) × IsResult o (document n names b) e
 
 module _ (n : ℕ) (names : List (List ℕ)) (low : 1 ≤ n) (high : n ≤ MAX_ELEMENTS) where
   module _ (o : Operation) (is : IsReady o n) where

@@ -15,7 +15,8 @@ use Rattle.om_simplex.specs.declared.stage.Stage.TheVariants.{Column as AtColumn
 use Rattle.om_simplex.specs.Exchanges.{IsPivotEnd, at_column}
 use Rattle.om_simplex.specs.Pivots.{IsPricedOut, IsEntering, IsPriceWide, HasNoEntering}
 use Rattle.om_simplex.specs.States.{State, row_of, basis_number, column_of, coefficient}
-use Rattle.om_simplex.specs.Steps.{AreCoefficients, AreNumbersDistinct, IsBestOf, IsAheadBy, IsLeavingBy, IsUpdateNarrowBy}
+use Rattle.om_simplex.specs.Steps.{AreCoefficients, AreNumbersDistinct, IsBestOf, IsAheadBy, IsLeavingBy}
+use Rattle.om_simplex.specs.Steps.{IsUpdateNarrowBy}
 use Rattle.om_simplex.specs.Steps.{IsWideBy}
 use Rattle.om_simplex.specs.Tables.{with_number}
 use Rattle.om_simplex.proofs.Firsts.{best_start, best_passed, best_found, best_taken, best_stays, best_last}

@@ -1,7 +1,8 @@
 -- Reasoning with what it is absurd to deny.
 --
--- Main results: held, then, mapped: what holds is possible, and what follows from it; either_way: of each statement, that it holds or doesn't is
--- possible; least: where some value has a property, one of the least measure with it is possible.
+-- Main results: held, then, mapped: what holds is possible, and what follows from it; either_way: of each statement,
+-- that it holds or doesn't is possible; least: where some value has a property, one of the least measure with it is
+-- possible.
 use Rattle.std.proofs.Common.{ℕ, zero, suc, ◌≡◌, ◌+◌, ◌<◌, ◌⊎◌, Option, Some, None, refl, inl, inr, arith}
 use Rattle.om_existence.specs.Possible.{IsPossible}
 
@@ -28,7 +29,8 @@ pub record IsLeast {A : Type 0} (measure : A → ℕ) (P : A → Type 0) (y : A)
   pub has : P y
   pub below : (z : A) → measure z < measure y → P z → ⊥
 
-least_below : {A : Type 0} (measure : A → ℕ) (P : A → Type 0) (n : ℕ) (x : A) → measure x < n → P x → IsPossible ((y : A) × IsLeast measure P y)
+least_below : {A : Type 0} (measure : A → ℕ) (P : A → Type 0) (n : ℕ) (x : A) → measure x < n → P x
+    → IsPossible ((y : A) × IsLeast measure P y)
 least_below {A} measure P zero x less p = absurd (omega arith)
 least_below {A} measure P (suc n) x less p = then (either_way ((z : A) × (measure z < measure x) × P z)) (λ e. elim e [
   | inl h ↦ least_below measure P n h.0 (let l = h.1 in omega arith) h.2

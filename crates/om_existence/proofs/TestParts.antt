@@ -13,7 +13,8 @@ use Rattle.om_chirotope.proofs.Axioms.{nonzero_or_zeros, not_all_zero}
 use Rattle.om_chirotope.proofs.ThreeTerms.{chirotope_of_test, test_of_chirotope}
 use Rattle.om_threeterm.specs.declared.three_refused.ThreeRefused.{ThreeRefused}
 use Rattle.om_threeterm.specs.declared.three_refused.ThreeRefused.TheVariants as why
-use Rattle.om_threeterm.specs.Violations.{IsUnexchanged, IsFirstUnexchangedOf, IsFirstUnexchanged, IsUnbalanced, IsUnbalancedList, IsFirstUnbalancedOf, IsFirstUnbalanced}
+use Rattle.om_threeterm.specs.Violations.{IsUnexchanged, IsFirstUnexchangedOf, IsFirstUnexchanged, IsUnbalanced}
+use Rattle.om_threeterm.specs.Violations.{IsUnbalancedList, IsFirstUnbalancedOf, IsFirstUnbalanced}
 use Rattle.om_threeterm.proofs.ExchangeLaws.{exchange_of_no_violated}
 use Rattle.om_threeterm.proofs.RelationLaws.{balanced_or_not}
 use Rattle.om_text.specs.declared.body.Body.{Body}
@@ -22,13 +23,15 @@ use Rattle.om_text.specs.declared.document.Document.{Document}
 use Rattle.om_text.specs.Form.{IsBodyOn, IsInForm}
 use Rattle.om_answer.specs.declared.line.Line.TheVariants as line
 use Rattle.om_representation.specs.Axioms.{MeetsAxioms}
-use Rattle.om_program.specs.declared.answer.Answer.{Answer}
-use Rattle.om_program.specs.Answers.{says, upgrades}
-use Rattle.om_program.specs.ThreeTermTests.{failure_line, IsTestOfMap, fails, meets, IsNoMap, IsThreeTermTest, of_map, refused, no_map}
-use Rattle.om_program.specs.Upgrades as upgrade
+use Rattle.om_reply.specs.declared.answer.Answer.{Answer}
+use Rattle.om_reply.specs.Answers.{says, upgrades}
+use Rattle.om_commands.specs.ThreeTermTests.{failure_line, IsTestOfMap, fails, meets, IsNoMap, IsThreeTermTest, of_map}
+use Rattle.om_commands.specs.ThreeTermTests.{refused, no_map}
+use Rattle.om_commands.specs.Upgrades as upgrade
 use Rattle.om_existence.specs.Possible.{IsPossible}
 use Rattle.om_existence.proofs.Possible.{held, then, mapped, either_way, least, IsLeast}
 use Rattle.om_existence.proofs.Firsts.{IsFirst, first_subset}
+use Rattle.om_reply.specs.RefusalLines.{refused_line}
 use Rattle.om_existence.proofs.RefusalParts.{whole_map, refusal_possible}
 
 -- ---- exchanges
@@ -52,7 +55,8 @@ module _ (m : SignMap) where
   c_short : (b c : List ℕ) → IsBadWith b c → length c ≤ m.rank
   c_short b c h = let l = h.1.second.size in omega (arith, l)
 
-  of_first_exchanges : (b c : List ℕ) (e : ℕ) → IsFirst IsBefore IsBad b → IsFirst IsBefore (IsBadWith b) c → IsLeast (λ x. x) (IsUnexchanged m b c) e → IsFirstUnexchanged m (chosen b) (chosen c) e
+  of_first_exchanges : (b c : List ℕ) (e : ℕ) → IsFirst IsBefore IsBad b → IsFirst IsBefore (IsBadWith b) c
+      → IsLeast (λ x. x) (IsUnexchanged m b c) e → IsFirstUnexchanged m (chosen b) (chosen c) e
   of_first_exchanges b c e first second third = record {
     b_n = refl;
     first = record {
@@ -64,12 +68,14 @@ module _ (m : SignMap) where
     earlier_b = λ t d x before u. first.before t before (d, (x, u));
   }
 
-  first_exchange_possible : (HasExchange m → ⊥) → IsPossible ((b : Chosen) × ((c : Chosen) × ((e : ℕ) × IsFirstUnexchanged m b c e)))
+  first_exchange_possible : (HasExchange m → ⊥)
+      → IsPossible ((b : Chosen) × ((c : Chosen) × ((e : ℕ) × IsFirstUnexchanged m b c e)))
   first_exchange_possible fail =
       then (unexchanged_possible fail) (λ v.
       then (first_subset m.rank IsBad b_short v.0 v.1) (λ f.
       then (first_subset m.rank (IsBadWith f.0) (c_short f.0) f.1.has.0 f.1.has.1) (λ g.
-      mapped (λ h. (chosen f.0, (chosen g.0, (h.0, of_first_exchanges f.0 g.0 h.0 f.1 g.1 h.1)))) (least (λ x. x) (IsUnexchanged m f.0 g.0) g.1.has.0 g.1.has.1))))
+      mapped (λ h. (chosen f.0, (chosen g.0, (h.0, of_first_exchanges f.0 g.0 h.0 f.1 g.1 h.1))))
+      (least (λ x. x) (IsUnexchanged m f.0 g.0) g.1.has.0 g.1.has.1))))
 
   -- ---- relations
 
@@ -88,30 +94,45 @@ module _ (m : SignMap) where
   q_short : (p q : List ℕ) → IsUnbalancedList m p q → length q ≤ 4
   q_short p q h = subst (λ u. length u ≤ 4) (sym h.4) (omega arith)
 
-  of_first_relations : (p q : List ℕ) → IsFirst IsBefore HasUnbalanced p → IsFirst IsBefore (IsUnbalancedList m p) q → IsFirstUnbalanced m (chosen p) (chosen q)
+  of_first_relations : (p q : List ℕ) → IsFirst IsBefore HasUnbalanced p → IsFirst IsBefore (IsUnbalancedList m p) q
+      → IsFirstUnbalanced m (chosen p) (chosen q)
   of_first_relations p q first second = record {
     p_n = refl;
     first = record { q_n = refl; violated = second.has; earlier_q = λ t before u. second.before t before u };
     earlier_p = λ s t before u. first.before s before (t, u);
   }
 
-  first_relation_possible : (HasThreeTermRelations m → ⊥) → IsPossible ((p : Chosen) × ((q : Chosen) × IsFirstUnbalanced m p q))
+  first_relation_possible : (HasThreeTermRelations m → ⊥)
+      → IsPossible ((p : Chosen) × ((q : Chosen) × IsFirstUnbalanced m p q))
   first_relation_possible fail =
       then (unbalanced_possible fail) (λ v.
       then (first_subset m.rank HasUnbalanced p_short v.0 v.1) (λ f.
-      mapped (λ g. (chosen f.0, (chosen g.0, of_first_relations f.0 g.0 f.1 g.1))) (first_subset 4 (IsUnbalancedList m f.0) (q_short f.0) f.1.has.0 f.1.has.1)))
+      mapped (λ g. (chosen f.0, (chosen g.0, of_first_relations f.0 g.0 f.1 g.1)))
+      (first_subset 4 (IsUnbalancedList m f.0) (q_short f.0) f.1.has.0 f.1.has.1)))
 
 -- ---- the test of a map
 
 map_tested : (raw : RawMap) → IsMap (map_of raw) → IsPossible ((a : Answer) × IsTestOfMap raw a)
 map_tested raw whole = elim (nonzero_or_zeros m whole) [
-  | inr zeros ↦ held (says (failure_line why.AllZero), fails why.AllZero zeros (λ c. not_all_zero m whole zeros c.nonzero))
+  | inr zeros ↦
+      held (says (failure_line why.AllZero), fails why.AllZero zeros (λ c. not_all_zero m whole zeros c.nonzero))
   | inl some ↦ then (either_way (HasExchange m)) (λ e. elim e [
-    | inr fail ↦ mapped (λ h. (says (failure_line (why.NoExchange h.0 h.1.0 h.1.1.0)), fails (why.NoExchange h.0 h.1.0 h.1.1.0) (λ zeros. not_all_zero m whole zeros some, h.1.1.1) (λ c. fail (test_of_chirotope m c).exchange))) (first_exchange_possible m fail)
+    | inr fail ↦
+        mapped (λ h. (
+          says (failure_line (why.NoExchange h.0 h.1.0 h.1.1.0)),
+          fails (why.NoExchange h.0 h.1.0 h.1.1.0) (λ zeros. not_all_zero m whole zeros some, h.1.1.1)
+              (λ c. fail (test_of_chirotope m c).exchange),
+        )) (first_exchange_possible m fail)
     | inl exchange ↦ then (either_way (HasThreeTermRelations m)) (λ f. elim f [
-      | inr fail ↦ mapped (λ h. (says (failure_line (why.ThreeTerm h.0 h.1.0)), fails (why.ThreeTerm h.0 h.1.0) (λ zeros. not_all_zero m whole zeros some, (exchange, h.1.1)) (λ c. fail (test_of_chirotope m c).relations))) (first_relation_possible m fail)
+      | inr fail ↦
+          mapped (λ h. (
+            says (failure_line (why.ThreeTerm h.0 h.1.0)),
+            fails (why.ThreeTerm h.0 h.1.0) (λ zeros. not_all_zero m whole zeros some, (exchange, h.1.1))
+                (λ c. fail (test_of_chirotope m c).relations),
+          )) (first_relation_possible m fail)
       | inl relations ↦
-          let test : MeetsThreeTermTest m = record { whole = whole; nonzero = some; exchange = exchange; relations = relations } in
+          let test : MeetsThreeTermTest m =
+          record { whole = whole; nonzero = some; exchange = exchange; relations = relations } in
           held (says line.Accepted, meets test (chirotope_of_test m test))
     ])
   ])
@@ -125,11 +146,13 @@ map_tested raw whole = elim (nonzero_or_zeros m whole) [
 other_tested : (d : Document) → IsInForm d → IsNoMap d.body → IsPossible ((a : Answer) × IsThreeTermTest d a)
 other_tested d form other = then (either_way (MeetsAxioms d)) (λ e. elim e [
   | inl axioms ↦ held (says line.RefusedNotmap, no_map other axioms)
-  | inr fail ↦ mapped (λ h. (says h.0, refused h.0 other h.1)) (refusal_possible d form fail)
+  | inr fail ↦ mapped (λ h. (says (refused_line h.0), refused h.0 other h.1)) (refusal_possible d form fail)
 ])
 
-body_tested : (d : Document) (b : Body) → IsInForm d → d.body ≡ b → IsBodyOn d.elements b → IsPossible ((a : Answer) × IsThreeTermTest d a)
-body_tested d (Chirotope m) form is on = mapped (λ h. (h.0, of_map m h.0 is h.1)) (map_tested m (whole_map d.elements m on))
+body_tested : (d : Document) (b : Body) → IsInForm d → d.body ≡ b → IsBodyOn d.elements b
+    → IsPossible ((a : Answer) × IsThreeTermTest d a)
+body_tested d (Chirotope m) form is on =
+    mapped (λ h. (h.0, of_map m h.0 is h.1)) (map_tested m (whole_map d.elements m on))
 body_tested d (Circuits members) form is on = other_tested d form (λ m e. let same = sym is ∙ e in cc)
 body_tested d (Cocircuits members) form is on = other_tested d form (λ m e. let same = sym is ∙ e in cc)
 body_tested d (Covectors members) form is on = other_tested d form (λ m e. let same = sym is ∙ e in cc)
@@ -142,5 +165,5 @@ test_possible d form = body_tested d d.body form refl form.body
 pub upgrade_possible : (d : Document) → IsInForm d → IsPossible ((a : Answer) × upgrade.IsUpgrade d a)
 upgrade_possible d form = then (either_way (MeetsAxioms d)) (λ e. elim e [
   | inl axioms ↦ held (upgrades d, upgrade.kept axioms)
-  | inr fail ↦ mapped (λ h. (says h.0, upgrade.refused h.0 h.1)) (refusal_possible d form fail)
+  | inr fail ↦ mapped (λ h. (says (refused_line h.0), upgrade.refused h.0 h.1)) (refusal_possible d form fail)
 ])

@@ -17,18 +17,21 @@ use Rattle.om_answer.specs.declared.claim.Claim.{Claim}
 use Rattle.om_answer.specs.Claim.{IsClaim, HasEvidenceWithinLimits}
 use Rattle.om_answer.specs.ClaimFault.{IsClaimFault}
 
-pub readings : (bytes : List ℕ) → ((d : Document) × IsDocument (lines bytes) d) ⊎ ((n : ℕ) × (c : Code) × IsFault (lines bytes) n c)
+pub readings : (bytes : List ℕ) → ((d : Document) × IsDocument (lines bytes) d)
+    ⊎ ((n : ℕ) × (c : Code) × IsFault (lines bytes) n c)
 readings bytes = document_or_fault (lines bytes)
 
 pub document_form : (ls : List (List ℕ)) (d : Document) → IsDocument ls d → IsInForm d
 document_form ls d is = spelled_form (wordful ls) d is
 
-pub claim_readings : (bytes : List ℕ) → ((c : Claim) × IsClaim (lines bytes) c) ⊎ ((n : ℕ) × (c : Code) × IsClaimFault (lines bytes) n c)
+pub claim_readings : (bytes : List ℕ) → ((c : Claim) × IsClaim (lines bytes) c)
+    ⊎ ((n : ℕ) × (c : Code) × IsClaimFault (lines bytes) n c)
 claim_readings bytes = claim_or_fault (lines bytes)
 
 pub claim_form : (ls : List (List ℕ)) (c : Claim) → IsClaim ls c → IsInForm c.document
 claim_form ls c is = spelled_form is.document c.document is.spelled
 
 -- the evidence of a claim within the length of an input keeps its limits, so that each entry counts at least once
-pub claim_within : (bytes : List ℕ) (c : Claim) → IsClaim (lines bytes) c → length bytes ≤ MAX_INPUT → HasEvidenceWithinLimits c.verdict
+pub claim_within : (bytes : List ℕ) (c : Claim) → IsClaim (lines bytes) c → length bytes ≤ MAX_INPUT
+    → HasEvidenceWithinLimits c.verdict
 claim_within bytes c is short = evidence_within bytes c is short

@@ -14,8 +14,12 @@ use Rattle.om_existence.specs.Possible.{IsPossible}
 use Rattle.om_existence.proofs.Possible.{mapped}
 
 -- some triple product isn't 0
-nonzero_possible : (vs : List WholeVector) → (IsRankLow vs → ⊥) → IsPossible ((t : List ℕ) × (IsTriple (length vs) t × (triple_sign vs t ≢ Zero)))
-nonzero_possible vs high none = high (low_rank_from vs (λ t triple. elim (zero_or_not (triple_sign vs t)) [ inl zero ↦ zero | inr other ↦ absurd (none (t, (triple, other))) ]))
+nonzero_possible : (vs : List WholeVector) → (IsRankLow vs → ⊥)
+    → IsPossible ((t : List ℕ) × (IsTriple (length vs) t × (triple_sign vs t ≢ Zero)))
+nonzero_possible vs high none =
+    high (low_rank_from vs
+    (λ t triple. elim (zero_or_not (triple_sign vs t))
+    [ inl zero ↦ zero | inr other ↦ absurd (none (t, (triple, other))) ]))
 
 pub chirotope_possible : (vs : List WholeVector) → (IsRankLow vs → ⊥) → IsPossible (IsChirotope (signs_map vs))
 chirotope_possible vs high = mapped (λ h. chirotope_from vs h.0 h.1.0 h.1.1) (nonzero_possible vs high)

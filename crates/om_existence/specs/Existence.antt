@@ -1,6 +1,6 @@
--- That words and bytes mean an answer.
+-- Words and bytes mean an answer.
 use Rattle.std.specs.Prelude.{ℕ, List}
-use Rattle.om_program.specs.declared.answer.Answer.{Answer}
+use Rattle.om_reply.specs.declared.answer.Answer.{Answer}
 use Rattle.om_program.specs.Meaning.{Means}
 
 -- the words and the bytes mean some answer

@@ -1,5 +1,5 @@
--- What it is absurd to deny.
+-- Statements whose denial is absurd.
 
--- that it doesn't hold is absurd; where a statement is decided, this says that it holds
+-- it is absurd that the statement doesn't hold; for a decidable statement this says that it holds
 abbrev pub IsPossible : Type 0 → Type 0
 IsPossible P = (P → ⊥) → ⊥

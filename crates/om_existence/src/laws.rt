@@ -4,7 +4,7 @@ ghost use Rattle.std.specs.Prelude.{ℕ, List};
 ghost use Rattle.om_existence.specs.Possible.{IsPossible};
 ghost use Rattle.om_existence.specs.Existence.{HasAnswer};
 
-/// Whatever the words and the bytes, it is absurd that they mean no answer.
+/// For all words and all bytes, it is absurd that they mean no answer.
 pub fn every_input_has_an_answer()
     ensures { (words : List (List ℕ)) (bytes : List ℕ) → IsPossible (HasAnswer words bytes) }
 {}

@@ -1,7 +1,7 @@
-//! That an answer is always meant: for all words and bytes it is absurd that nothing is.
+//! An answer always exists: for all words and bytes it is absurd that they mean none.
 //!
-//! The contract of [`run`](om_program::run) says that words and bytes mean one answer at most. The law of this crate says that they
-//! mean one. Together they mean exactly one.
+//! The contract of [`run`](om_program::run) says that words and bytes mean at most one answer. The law of this
+//! crate says that they mean at least one. Together they mean exactly one.
 #![tactic(auto)]
 
 mod laws;

@@ -1,12 +1,15 @@
--- Distinct sign vectors by their first signs, and how many members a family has by its deletion and its contraction of the first element.
+-- Distinct sign vectors by their first signs, and how many members a family has by its deletion and its contraction of
+-- the first element.
 --
 -- Main definitions: IsDeleted, IsContracted, the deletion and the contraction of the first element of a family.
--- Main results: fewer (a family without more than a number of members has none with more than a greater one); split (a list of distinct vectors, by
--- their first signs); few_by_minors (a family has no more members than its deletion and twice its contraction without the zero vector, or than three
--- times its contraction where the vector that is nonzero at the first element alone is a member).
+-- Main results: fewer (a family without more than a number of members has none with more than a greater one); split (a
+-- list of distinct vectors, by their first signs); few_by_minors (a family has no more members than its deletion and
+-- twice its contraction without the zero vector, or than three times its contraction where the vector that is nonzero
+-- at the first element alone is a member).
 -- Reference: Björner, Las Vergnas, Sturmfels, White and Ziegler, Oriented Matroids, chapter 4.
 use Rattle.std.specs.List.{Contains, list_any}
-use Rattle.std.proofs.Common.{ℕ, suc, ◌≡◌, ◌≢◌, ◌+◌, ◌*◌, ◌≤◌, ◌⊎◌, List, [], ◌∷◌, length, refl, sym, subst, ◌∙◌, inl, inr, ⊎_elim, arith}
+use Rattle.std.proofs.Common.{ℕ, suc, ◌≡◌, ◌≢◌, ◌+◌, ◌*◌, ◌≤◌, ◌⊎◌, List, [], ◌∷◌, length, refl, sym, subst, ◌∙◌, inl}
+use Rattle.std.proofs.Common.{inr, ⊎_elim, arith}
 use Rattle.std.proofs.lemmas.Bool.{cases_lt, cases_Bool}
 use Rattle.std.proofs.lemmas.List.Elements.{All-contains, All-contains_itself}
 use Rattle.std.proofs.lemmas.List.Kept.{AllPairs-cons}
@@ -30,27 +33,47 @@ record AreSome (P : List Sign → Type 0) (xs : List (List Sign)) : Type 0 where
 some_none : (P : List Sign → Type 0) → AreSome P []
 some_none P = record { distinct = λ i j d l m. absurd (omega arith); each = λ X c. absurd (none_contained X c) }
 
-some_more : (P Q : List Sign → Type 0) (X : List Sign) (xs : List (List Sign)) → ((Y : List Sign) → P Y → Q Y) → Q X → (Contains xs X → ⊥) → AreSome P xs → AreSome Q (X ∷ xs)
+some_more : (P Q : List Sign → Type 0) (X : List Sign) (xs : List (List Sign)) → ((Y : List Sign) → P Y → Q Y) → Q X
+    → (Contains xs X → ⊥) → AreSome P xs → AreSome Q (X ∷ xs)
 some_more P Q X xs f q new s = record {
-  distinct = AllPairs-cons (λ Y Z. Y ≢ Z) X xs (λ i d l e. new (subst (Contains xs) (sym e) (All-contains_itself xs i d l))) s.distinct;
+  distinct =
+      AllPairs-cons (λ Y Z. Y ≢ Z) X xs (λ i d l e. new (subst (Contains xs) (sym e) (All-contains_itself xs i d l)))
+      s.distinct;
   each = λ Y c. ⊎_elim (λ e. subst Q e q) (λ k. f Y (s.each Y k)) (first_or_later X xs Y c);
 }
 
-some_weaker : (P Q : List Sign → Type 0) (xs : List (List Sign)) → ((Y : List Sign) → P Y → Q Y) → AreSome P xs → AreSome Q xs
+some_weaker : (P Q : List Sign → Type 0) (xs : List (List Sign)) → ((Y : List Sign) → P Y → Q Y) → AreSome P xs
+    → AreSome Q xs
 some_weaker P Q xs f s = record { distinct = s.distinct; each = λ X c. f X (s.each X c) }
 
-some_few : (P : List Sign → Type 0) (xs : List (List Sign)) (k : ℕ) → AreSome P xs → (HasMoreThan k P → ⊥) → length xs ≤ k
+some_few : (P : List Sign → Type 0) (xs : List (List Sign)) (k : ℕ) → AreSome P xs → (HasMoreThan k P → ⊥)
+    → length xs ≤ k
 some_few P xs k s few = ⊎_elim
-    (λ l. absurd (few (record { members = xs; many = l; distinct = s.distinct; each = λ i d m. s.each _ (All-contains_itself xs i d m) })))
+    (λ l. absurd
+    (few (record {
+      members = xs;
+      many = l;
+      distinct = s.distinct;
+      each =
+          λ i d m. s.each _ (All-contains_itself xs i d m);
+    })))
     (λ l. l)
     (cases_lt k (length xs))
 
-some_or_none : (P : List Sign → Type 0) (xs : List (List Sign)) → AreSome P xs → ((Y : List Sign) × P Y) ⊎ (length xs ≡ 0)
+some_or_none : (P : List Sign → Type 0) (xs : List (List Sign)) → AreSome P xs → ((Y : List Sign) × P Y)
+    ⊎ (length xs ≡ 0)
 some_or_none P [] s = inr refl
 some_or_none P (Y ∷ xs) s = inl (Y, s.each Y (contains_first Y xs))
 
 pub fewer : (j k : ℕ) (P : List Sign → Type 0) → j ≤ k → (HasMoreThan j P → ⊥) → HasMoreThan k P → ⊥
-fewer j k P l few more = few (record { members = more.members; many = (let m = more.many in omega arith); distinct = more.distinct; each = more.each })
+fewer j k P l few more =
+    few (record {
+      members = more.members;
+      many = (let m = more.many in omega arith);
+      distinct = more.distinct;
+      each =
+          more.each;
+    })
 
 -- ---- the first signs
 
@@ -66,7 +89,8 @@ HasBothFirst xs Y = (s : Sign) → IsNonzero s → Contains xs (s ∷ Y)
 abbrev HasZeroFirst : List (List Sign) → List Sign → Type 0
 HasZeroFirst xs Y = Contains xs (Zero ∷ Y)
 
--- the rest of the vectors: those behind a nonzero sign, each once; those behind both nonzero signs; and those behind a zero
+-- the rest of the vectors: those behind a nonzero sign, each once; those behind both nonzero signs; and those behind a
+-- zero
 record IsSplit (xs : List (List Sign)) : Type 0 where
   once : List (List Sign)
   twice : List (List Sign)
@@ -92,7 +116,8 @@ module _ (s : Sign) (Y : List Sign) (xs : List (List Sign)) (new : Contains xs (
     twice = r.twice;
     zero = Y ∷ r.zero;
     size = let q = r.size in omega arith;
-    nonzero_first = some_weaker (HasNonzeroFirst xs) (HasNonzeroFirst ((s ∷ Y) ∷ xs)) r.once later_nonzero r.nonzero_first;
+    nonzero_first = some_weaker (HasNonzeroFirst xs) (HasNonzeroFirst ((s ∷ Y) ∷ xs)) r.once later_nonzero
+        r.nonzero_first;
     both_first = some_weaker (HasBothFirst xs) (HasBothFirst ((s ∷ Y) ∷ xs)) r.twice later_both r.both_first;
     zero_first = some_more (HasZeroFirst xs) (HasZeroFirst ((s ∷ Y) ∷ xs)) Y r.zero later_zero
         (subst (λ t. Contains ((s ∷ Y) ∷ xs) (t ∷ Y)) e (contains_first (s ∷ Y) xs))
@@ -100,7 +125,8 @@ module _ (s : Sign) (Y : List Sign) (xs : List (List Sign)) (new : Contains xs (
   }
 
   split_nonzero : IsNonzero s → IsSplit ((s ∷ Y) ∷ xs)
-  split_nonzero n = ⊎_elim (λ q. again (contained r.once Y q)) (λ q. first (not_contained r.once Y q)) (cases_Bool (list_any (same_masks Y) r.once))
+  split_nonzero n = ⊎_elim (λ q. again (contained r.once Y q)) (λ q. first (not_contained r.once Y q))
+      (cases_Bool (list_any (same_masks Y) r.once))
     where
       first : (Contains r.once Y → ⊥) → IsSplit ((s ∷ Y) ∷ xs)
       first out = record {
@@ -108,7 +134,8 @@ module _ (s : Sign) (Y : List Sign) (xs : List (List Sign)) (new : Contains xs (
         twice = r.twice;
         zero = r.zero;
         size = let q = r.size in omega arith;
-        nonzero_first = some_more (HasNonzeroFirst xs) (HasNonzeroFirst ((s ∷ Y) ∷ xs)) Y r.once later_nonzero (s, n, contains_first (s ∷ Y) xs) out r.nonzero_first;
+        nonzero_first = some_more (HasNonzeroFirst xs) (HasNonzeroFirst ((s ∷ Y) ∷ xs)) Y r.once later_nonzero
+            (s, n, contains_first (s ∷ Y) xs) out r.nonzero_first;
         both_first = some_weaker (HasBothFirst xs) (HasBothFirst ((s ∷ Y) ∷ xs)) r.twice later_both r.both_first;
         zero_first = some_weaker (HasZeroFirst xs) (HasZeroFirst ((s ∷ Y) ∷ xs)) r.zero later_zero r.zero_first;
       }
@@ -129,13 +156,15 @@ module _ (s : Sign) (Y : List Sign) (xs : List (List Sign)) (new : Contains xs (
         twice = Y ∷ r.twice;
         zero = r.zero;
         size = let q = r.size in omega arith;
-        nonzero_first = some_weaker (HasNonzeroFirst xs) (HasNonzeroFirst ((s ∷ Y) ∷ xs)) r.once later_nonzero r.nonzero_first;
+        nonzero_first = some_weaker (HasNonzeroFirst xs) (HasNonzeroFirst ((s ∷ Y) ∷ xs)) r.once later_nonzero
+            r.nonzero_first;
         both_first = some_more (HasBothFirst xs) (HasBothFirst ((s ∷ Y) ∷ xs)) Y r.twice later_both
             (let h = r.nonzero_first.each Y c in other h.0 h.1 h.2) (λ k. new (r.both_first.each Y k s n)) r.both_first;
         zero_first = some_weaker (HasZeroFirst xs) (HasZeroFirst ((s ∷ Y) ∷ xs)) r.zero later_zero r.zero_first;
       }
 
-split : (n : ℕ) (xs : List (List Sign)) → AreDistinct xs → ((X : List Sign) → Contains xs X → length X ≡ suc n) → IsSplit xs
+split : (n : ℕ) (xs : List (List Sign)) → AreDistinct xs → ((X : List Sign) → Contains xs X → length X ≡ suc n)
+    → IsSplit xs
 split n [] d size = record {
   once = [];
   twice = [];
@@ -147,7 +176,8 @@ split n [] d size = record {
 }
 split n ([] ∷ xs) d size = absurd (let l = size [] (contains_first [] xs) in omega arith)
 split n ((s ∷ Y) ∷ xs) d size =
-    let r = split n xs (λ i j e l m. d (suc i) (suc j) e (omega arith) (omega arith)) (λ X c. size X (contains_later (s ∷ Y) xs X c)) in
+    let r = split n xs (λ i j e l m. d (suc i) (suc j) e (omega arith) (omega arith))
+    (λ X c. size X (contains_later (s ∷ Y) xs X c)) in
     ⊎_elim (split_zero s Y xs new r) (split_nonzero s Y xs new r) (zero_or_nonzero s)
   where
     new : Contains xs (s ∷ Y) → ⊥
@@ -163,8 +193,8 @@ IsDeleted P Y = (s : Sign) × P (s ∷ Y)
 abbrev pub IsContracted : (List Sign → Type 0) → List Sign → Type 0
 IsContracted P Y = P (Zero ∷ Y)
 
--- O is the zero vector of the rest; where a nonzero sign stands before it, the first element is a coloop, and each rest behind a nonzero sign is a
--- member of the contraction
+-- O is the zero vector of the rest; where a nonzero sign stands before it, the first element is a coloop, and each rest
+-- behind a nonzero sign is a member of the contraction
 module _ (n b z k : ℕ) (P : List Sign → Type 0) (size : (X : List Sign) → P X → length X ≡ suc n)
     (eliminated : (Y : List Sign) → P (Plus ∷ Y) → P (Minus ∷ Y) → IsContracted P Y)
     (O : List Sign) (origin : IsContracted P O)
@@ -183,19 +213,26 @@ module _ (n b z k : ℕ) (P : List Sign → Type 0) (size : (X : List Sign) → 
       -- where no first sign is nonzero, the deletion has as many members
       by_loop : length r.once ≡ 0 → length r.twice ≡ 0 → length xs ≤ k
       by_loop once twice =
-          let d = some_few (IsDeleted P) r.zero b (some_weaker (HasZeroFirst xs) (IsDeleted P) r.zero (λ Y c. (Zero, each (Zero ∷ Y) c)) r.zero_first) deleted in
+          let d = some_few (IsDeleted P) r.zero b
+          (some_weaker (HasZeroFirst xs) (IsDeleted P) r.zero (λ Y c. (Zero, each (Zero ∷ Y) c)) r.zero_first)
+          deleted in
           let q = r.size in
           omega arith
 
       module _ (few : HasMoreThan z (IsContracted P) → ⊥) where
         few_zero : length r.zero ≤ z
-        few_zero = some_few (IsContracted P) r.zero z (some_weaker (HasZeroFirst xs) (IsContracted P) r.zero (λ Y c. each (Zero ∷ Y) c) r.zero_first) few
+        few_zero =
+            some_few (IsContracted P) r.zero z
+            (some_weaker (HasZeroFirst xs) (IsContracted P) r.zero (λ Y c. each (Zero ∷ Y) c) r.zero_first) few
 
         -- where a nonzero sign stands before O, each rest is a member of the contraction
         by_coloop : (s : Sign) → IsNonzero s → P (s ∷ O) → length xs ≤ k
         by_coloop s n o =
-            let a = some_few (IsContracted P) r.once z (some_weaker (HasNonzeroFirst xs) (IsContracted P) r.once (λ Y h. dropped s h.0 Y n h.1 o (each (h.0 ∷ Y) h.2)) r.nonzero_first) few in
-            let t = some_few (IsContracted P) r.twice z (some_weaker (HasBothFirst xs) (IsContracted P) r.twice of_both r.both_first) few in
+            let a = some_few (IsContracted P) r.once z
+            (some_weaker (HasNonzeroFirst xs) (IsContracted P) r.once
+            (λ Y h. dropped s h.0 Y n h.1 o (each (h.0 ∷ Y) h.2)) r.nonzero_first) few in
+            let t = some_few (IsContracted P) r.twice z
+            (some_weaker (HasBothFirst xs) (IsContracted P) r.twice of_both r.both_first) few in
             let l = few_zero in
             let q = r.size in
             omega arith
@@ -203,8 +240,11 @@ module _ (n b z k : ℕ) (P : List Sign → Type 0) (size : (X : List Sign) → 
         -- where none does, O is one more member of the deletion and of the contraction
         by_neither : (Contains r.once O → ⊥) → (Contains r.twice O → ⊥) → length xs ≤ k
         by_neither not_once not_twice =
-            let a = some_few (IsDeleted P) (O ∷ r.once) b (some_more (HasNonzeroFirst xs) (IsDeleted P) O r.once of_nonzero (Zero, origin) not_once r.nonzero_first) deleted in
-            let t = some_few (IsContracted P) (O ∷ r.twice) z (some_more (HasBothFirst xs) (IsContracted P) O r.twice of_both origin not_twice r.both_first) few in
+            let a = some_few (IsDeleted P) (O ∷ r.once) b
+            (some_more (HasNonzeroFirst xs) (IsDeleted P) O r.once of_nonzero (Zero, origin) not_once
+            r.nonzero_first) deleted in
+            let t = some_few (IsContracted P) (O ∷ r.twice) z
+            (some_more (HasBothFirst xs) (IsContracted P) O r.twice of_both origin not_twice r.both_first) few in
             let l = few_zero in
             let q = r.size in
             omega arith
@@ -213,7 +253,8 @@ module _ (n b z k : ℕ) (P : List Sign → Type 0) (size : (X : List Sign) → 
         by_nonzero = ⊎_elim
             (λ q. let h = r.nonzero_first.each O (contained r.once O q) in by_coloop h.0 h.1 (each (h.0 ∷ O) h.2))
             (λ q. ⊎_elim
-            (λ p. by_coloop Plus plus_nonzero (each (Plus ∷ O) (r.both_first.each O (contained r.twice O p) Plus plus_nonzero)))
+            (λ p. by_coloop Plus plus_nonzero
+            (each (Plus ∷ O) (r.both_first.each O (contained r.twice O p) Plus plus_nonzero)))
             (λ p. by_neither (not_contained r.once O q) (not_contained r.twice O p))
             (cases_Bool (list_any (same_masks O) r.twice)))
             (cases_Bool (list_any (same_masks O) r.once))

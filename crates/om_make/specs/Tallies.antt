@@ -1,4 +1,4 @@
--- What a summary counts.
+-- The counts of a summary.
 --
 -- Reference: Björner, Las Vergnas, Sturmfels, White and Ziegler, Oriented Matroids, chapters 1, 3, 6 and 8.
 use Rattle.std.specs.Prelude.{ℕ, ◌≡◌, List, length, take}
@@ -25,11 +25,11 @@ use Rattle.om_make.specs.Generator.{unit_vectors}
 abbrev pub BeginsWithUnits : List WholeVector → Type 0
 BeginsWithUnits vs = take 3 vs ≡ unit_vectors
 
--- how often a sign stands in a list
+-- how often a sign occurs in a list
 abbrev pub count_of : Sign → List Sign → ℕ
 count_of s signs = count_by (equal_signs s) signs
 
--- the family has exactly k members: some list of k different sign vectors holds them all, and no others
+-- the family has exactly k members: some list of k different sign vectors has them all, and no others
 pub record HasExactly (k : ℕ) (P : List Sign → Type 0) : Type 0 where
   pub members : List (List Sign)
   pub many : length members ≡ k
@@ -42,8 +42,8 @@ pub record HasMutations (k : ℕ) (m : SignMap) : Type 0 where
   pub many : length sets ≡ k
   pub all : ListsMutations m sets
 
--- the counts of a map of rank 3: of the signs of its increasing triples, which its list has one for each; of its cocircuits and its
--- covectors; and of its mutations
+-- The counts of a map of rank 3: of the signs of its increasing triples, with one sign for each; of its cocircuits
+-- and its covectors; and of its mutations.
 pub record IsTallyOfMap (m : SignMap) (t : Tally) : Type 0 where
   pub plus : t.plus ≡ count_of Plus m.signs
   pub zero : t.zero ≡ count_of Zero m.signs
@@ -56,7 +56,9 @@ pub record IsTallyOfMap (m : SignMap) (t : Tally) : Type 0 where
 abbrev pub IsTally : List WholeVector → Tally → Type 0
 IsTally vs t = IsTallyOfMap (signs_map vs) t
 
--- the way back: each chirotope that denotes what the map denotes, and whose first sign that isn't zero is plus, is the normal form of the map
+-- converting back: each chirotope that denotes what the map denotes, and whose first nonzero sign is plus, is the
+-- normal form of the map
 abbrev pub ComesBack : SignMap → Type 0
-ComesBack m = (k : SignMap) → IsChirotope k → k.elements ≡ m.elements → DenoteTheSame m.elements (IsCovectorOfChirotope m) (IsCovectorOfChirotope k)
+ComesBack m = (k : SignMap) → IsChirotope k → k.elements ≡ m.elements
+    → DenoteTheSame m.elements (IsCovectorOfChirotope m) (IsCovectorOfChirotope k)
     → IsLedBy Plus k.signs → IsNormalFormOf m k

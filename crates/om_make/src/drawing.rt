@@ -8,14 +8,15 @@ use super::generator::Generator;
 use om_signs::{MAX_DRAWN, MIN_DRAWN};
 use om_vectors::{Vector, Word};
 
-/// How many unit vectors there are.
+/// The number of unit vectors.
 const UNITS: u8 = 3;
 
-/// `count` vectors, from [`MIN_DRAWN`] to [`MAX_DRAWN`], that a number gives: the three unit vectors, and behind them
-/// vectors of three draws each. The same number gives the same vectors, and a longer list begins with the shorter one.
+/// The `count` vectors, from [`MIN_DRAWN`] to [`MAX_DRAWN`], that a number determines: the three unit vectors,
+/// followed by vectors of three draws each. The same number gives the same vectors, and a longer list begins with
+/// the shorter one.
 ///
-/// The state of the generator is the number at first, and then 69,069 times the state before it, plus 1, modulo 2^32. A
-/// draw is the state without its low 16 bits, modulo 19, less 9. It takes no memory.
+/// The first state of the generator is the number. Each next state is 69,069 times the state before it, plus 1,
+/// modulo 2^32. A draw is the state without its low 16 bits, modulo 19, minus 9. The call allocates no memory.
 pub fn vectors(seed: u32, count: u8) -> Word
     requires low { MIN_DRAWN ≤ count }
     requires high { count ≤ MAX_DRAWN }

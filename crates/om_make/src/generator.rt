@@ -3,29 +3,29 @@ ghost use Rattle.om_make.specs.Generator.{following, draw_of, nth_state, vector_
 
 use om_vectors::Vector;
 
-/// What a state is multiplied by.
+/// The factor by which a state is multiplied.
 const MULTIPLIER: u64 = 69_069;
 
-/// How many states there are.
+/// The number of states.
 const STATES: u64 = 1 << 32;
 
-/// What a draw divides a state by, so that it doesn't take the low 16 bits, which repeat after few steps.
+/// The number by which a draw divides a state, so that it ignores the low 16 bits, which repeat after few steps.
 const DROPPED: u32 = 1 << 16;
 
-/// How many numbers a draw may give.
+/// The number of different draws.
 const CHOICES: u32 = 19;
 
-/// The greatest number that a draw may give; the least is its negative.
+/// The greatest draw; the least is its negative.
 const GREATEST: i64 = 9;
 
-/// A generator of numbers, by its state: the next state is 69,069 times the state, plus 1, modulo 2^32.
+/// A generator of numbers, given by its state. The next state is 69,069 times the state, plus 1, modulo 2^32.
 #[derive(Drop)]
 pub struct Generator {
     pub state: u32,
 }
 
 impl Generator {
-    /// The next draw, from -9 to 9: of the next state without its low 16 bits, modulo 19, less 9.
+    /// The next draw, from -9 to 9: the next state without its low 16 bits, modulo 19, minus 9.
     fn draw(&mut self) -> i64
         ensures state { self.new.state ≡ following self.old.state }
         ensures value { result ≡ draw_of self.new.state }

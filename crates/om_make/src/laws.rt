@@ -1,4 +1,4 @@
-//! What the counts come to. A law is a function that does nothing: its contract is the law.
+//! Bounds for the counts. Each law is a function that does nothing: its contract is the law.
 
 ghost use Rattle.std.specs.Prelude.{◌≡◌, ◌+◌, ◌-◌, ◌*◌};
 ghost use Rattle.om_chirotope.specs.Map.{SignMap};
@@ -11,6 +11,8 @@ ghost use Rattle.om_denotation.specs.Listings.{HasMoreThan};
 ///
 /// Source: Björner, Las Vergnas, Sturmfels, White and Ziegler, *Oriented Matroids*, chapters 3 and 4.
 pub fn members_in_rank_three()
-    ensures cocircuits { (m : SignMap) → IsChirotope m → m.rank ≡ 3 → HasMoreThan (m.elements * (m.elements - 1)) (IsCocircuitOfChirotope m) → ⊥ }
-    ensures covectors { (m : SignMap) → IsChirotope m → m.rank ≡ 3 → HasMoreThan (4 * (m.elements * (m.elements - 1)) + 3) (IsCovectorOfChirotope m) → ⊥ }
+    ensures cocircuits { (m : SignMap) → IsChirotope m → m.rank ≡ 3
+        → HasMoreThan (m.elements * (m.elements - 1)) (IsCocircuitOfChirotope m) → ⊥ }
+    ensures covectors { (m : SignMap) → IsChirotope m → m.rank ≡ 3
+        → HasMoreThan (4 * (m.elements * (m.elements - 1)) + 3) (IsCovectorOfChirotope m) → ⊥ }
 {}

@@ -1,9 +1,11 @@
-//! A large input from a number: vectors that a generator draws, and a summary of the oriented matroid that they give.
+//! A large input determined by a number: vectors that a generator draws, and a summary of the oriented matroid that
+//! they have.
 //!
-//! [`vectors`] draws them, and [`summary`] counts the signs, the cocircuits, the covectors and the mutations of their
-//! chirotope.
+//! [`vectors`] draws the vectors, and [`summary`] counts the signs, the cocircuits, the covectors and the mutations
+//! of their chirotope.
 //!
-//! Source of the notions: Björner, Las Vergnas, Sturmfels, White and Ziegler, *Oriented Matroids*, chapters 1, 3, 6 and 8.
+//! Source of the notions: Björner, Las Vergnas, Sturmfels, White and Ziegler, *Oriented Matroids*, chapters 1, 3, 6 and
+//! 8.
 #![tactic(auto)]
 
 mod counting;

@@ -46,21 +46,21 @@ pub fn list_covectors(alloc: Global, chi: &Chirotope) -> Result<Covectors, NoMem
     }
 }
 
-/// How many cocircuits stand in a list.
+/// The number of cocircuits in a list.
 pub fn count_cocircuits(cocircuits: &Cocircuits) -> u32
     ensures { result ≡ length cocircuits.now.0.members }
 {
     cocircuits.0.members().len() as u32
 }
 
-/// How many covectors stand in a list.
+/// The number of covectors in a list.
 pub fn count_covectors(covectors: &Covectors) -> u32
     ensures { result ≡ length covectors.now.members }
 {
     covectors.members().len() as u32
 }
 
-/// How many mutations a chirotope of rank 3 has.
+/// The number of mutations of a chirotope of rank 3.
 pub fn count_mutations(alloc: Global, chi: &Chirotope) -> Result<u32, NoMemory>
     requires { chi.now.rank ≡ 3 }
     ensures { IfOk result (λ k. HasMutations k chi.now) }

@@ -1,7 +1,6 @@
-//! The way back from the cocircuits and the covectors of a chirotope.
+//! The conversion of the cocircuits and the covectors of a chirotope back to a chirotope.
 
-ghost use Rattle.std.specs.Prelude.{◌≡◌, ◌↔◌, IfOk, OnOk, IsTrue};
-ghost use Rattle.om_chirotope.specs.Map.{map_of};
+ghost use Rattle.std.specs.Prelude.{◌≡◌, IfOk, OnOk};
 ghost use Rattle.om_denotation.specs.Maps.{IsNormalFormOf};
 ghost use Rattle.om_make.specs.Lists.{ListsCocircuits, ListsCovectors};
 ghost use Rattle.om_make.specs.Tallies.{ComesBack};
@@ -10,11 +9,11 @@ use om_chirotope::Chirotope;
 use om_circuits::Cocircuits;
 use om_convert::{ConvertError, cocircuits_to_chirotope, covectors_to_chirotope};
 use om_covectors::Covectors;
-use om_signs::{NoMemory, RawMap};
+use om_signs::NoMemory;
 use std::alloc::Global;
 
-/// Converts the cocircuits of a chirotope back. They give its normal form, which is proved, so that no answer is needed
-/// for other maps.
+/// Converts the cocircuits of a chirotope back. It is proved that they give its normal form, so no error is needed
+/// for another result.
 pub fn convert_cocircuits_back(
     alloc: Global,
     chi: &Chirotope,
@@ -24,12 +23,13 @@ pub fn convert_cocircuits_back(
     requires cocircuits { ListsCocircuits chi.now cocircuits.now.0 }
     ensures { OnOk result (ComesBack chi.now) }
 {
-    let back = back_from_cocircuits(alloc, chi, cocircuits)?;
-    compare(chi, back)
+    chi.is_lawful();
+    let _normal = back_from_cocircuits(alloc, chi, cocircuits)?;
+    Ok(())
 }
 
-/// Converts the covectors of a chirotope back. They give its normal form, which is proved, so that no answer is needed for
-/// other maps.
+/// Converts the covectors of a chirotope back. It is proved that they give its normal form, so no error is needed
+/// for another result.
 pub fn convert_covectors_back(
     alloc: Global,
     chi: &Chirotope,
@@ -39,21 +39,8 @@ pub fn convert_covectors_back(
     requires covectors { ListsCovectors chi.now covectors.now }
     ensures { OnOk result (ComesBack chi.now) }
 {
-    let back = back_from_covectors(alloc, chi, covectors)?;
-    compare(chi, back)
-}
-
-/// Compares what a list was converted back to with the normal form of the chirotope, which it is.
-fn compare(chi: &Chirotope, back: Chirotope) -> Result<(), NoMemory>
-    requires { IsNormalFormOf chi.now back }
-    ensures { OnOk result (ComesBack chi.now) }
-{
     chi.is_lawful();
-    let normal = chi.copy()?.normal();
-    if !are_equal(&back.into_raw(), &normal.into_raw()) {
-        // both are the normal form
-        unreachable!()
-    }
+    let _normal = back_from_covectors(alloc, chi, covectors)?;
     Ok(())
 }
 
@@ -75,7 +62,7 @@ fn back_from_cocircuits(
         }
         // a chirotope of rank 3 on 20 elements has 1,140 values
         Err(ConvertError::TooWide { .. }) => unreachable!(),
-        // the answer is a chirotope and no list, so no limit on members is met
+        // the result is a chirotope and not a list, so no limit on members applies
         Err(ConvertError::TooMany { .. }) => unreachable!(),
         Err(ConvertError::Memory) => Err(NoMemory),
     }
@@ -99,15 +86,8 @@ fn back_from_covectors(
         }
         // a chirotope of rank 3 on 20 elements has 1,140 values
         Err(ConvertError::TooWide { .. }) => unreachable!(),
-        // the answer is a chirotope and no list, so no limit on members is met
+        // the result is a chirotope and not a list, so no limit on members applies
         Err(ConvertError::TooMany { .. }) => unreachable!(),
         Err(ConvertError::Memory) => Err(NoMemory),
     }
-}
-
-/// Whether two maps are equal.
-fn are_equal(a: &RawMap, b: &RawMap) -> bool
-    ensures { IsTrue result ↔ (map_of a.now ≡ map_of b.now) }
-{
-    a.rank == b.rank && a.elements == b.elements && a.signs.as_slice() == b.signs.as_slice()
 }

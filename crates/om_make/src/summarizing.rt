@@ -1,4 +1,4 @@
-//! What there is to count of vectors.
+//! The counts of the summary of vectors.
 
 ghost use Rattle.std.specs.Prelude.{◌≡◌, IfOk, OnOk};
 ghost use Rattle.om_vectors.specs.Realizations.{signs_map};
@@ -18,16 +18,18 @@ use om_vectors::{SignsError, Word, signs_of};
 use std::alloc::Global;
 use std::thread::Threads;
 
-/// What there is to count of vectors that begin with the three unit vectors, in their order: the triples with each sign,
-/// and the cocircuits, the covectors and the mutations of the chirotope of these signs. Both lists are converted back,
-/// which gives the normal form of the chirotope.
+/// The summary of vectors that begin with the three unit vectors, in their order. It counts the triples with each
+/// sign, and the cocircuits, the covectors and the mutations of the chirotope of these signs. Both lists are
+/// converted back, which gives the normal form of the chirotope.
 ///
-/// All of it is counted on the calling thread: `_rt` is there so that the call can go on to more without another signature.
+/// Everything is counted on the calling thread. The argument `_rt` is there so that the call can use threads later
+/// without a change of its signature.
 ///
-/// [`NoMemory`] comes only for want of memory: a chirotope of rank 3 has no more cocircuits or covectors than a list may
-/// have.
+/// [`NoMemory`] comes only if memory runs out: a chirotope of rank 3 has no more cocircuits or covectors than a
+/// list may have.
 ///
-/// Source of the notions: Björner, Las Vergnas, Sturmfels, White and Ziegler, *Oriented Matroids*, chapters 1, 3, 6 and 8.
+/// Source of the notions: Björner, Las Vergnas, Sturmfels, White and Ziegler, *Oriented Matroids*, chapters 1, 3, 6 and
+/// 8.
 pub fn summary<R: Threads + Sync>(_rt: &R, alloc: Global, vectors: &Word) -> Result<Tally, NoMemory>
     requires { BeginsWithUnits vectors.now }
     ensures tally { IfOk result (IsTally vectors.now) }
@@ -37,7 +39,7 @@ pub fn summary<R: Threads + Sync>(_rt: &R, alloc: Global, vectors: &Word) -> Res
     summarize(alloc, chi)
 }
 
-/// The chirotope of vectors that begin with the unit vectors, whose triple product is 1.
+/// The chirotope of vectors that begin with the unit vectors. The triple product of these is 1.
 fn chirotope_of(alloc: Global, vectors: &Word) -> Result<Chirotope, NoMemory>
     requires { BeginsWithUnits vectors.now }
     ensures { IfOk result (λ c. c ≡ signs_map vectors.now) }
@@ -51,7 +53,7 @@ fn chirotope_of(alloc: Global, vectors: &Word) -> Result<Chirotope, NoMemory>
     }
 }
 
-/// What there is to count of a chirotope of rank 3.
+/// The summary of a chirotope of rank 3.
 fn summarize(alloc: Global, chi: Chirotope) -> Result<Tally, NoMemory>
     requires { chi.rank ≡ 3 }
     ensures tally { IfOk result (IsTallyOfMap chi) }
@@ -69,7 +71,7 @@ fn summarize(alloc: Global, chi: Chirotope) -> Result<Tally, NoMemory>
     })
 }
 
-/// How many cocircuits, covectors and mutations a chirotope has.
+/// The numbers of cocircuits, covectors and mutations of a chirotope.
 #[derive(Clone, Copy)]
 struct Sizes {
     cocircuits: u32,
@@ -77,7 +79,7 @@ struct Sizes {
     mutations: u32,
 }
 
-/// How many cocircuits, covectors and mutations a chirotope of rank 3 has.
+/// The numbers of cocircuits, covectors and mutations of a chirotope of rank 3.
 fn sizes_of(alloc: Global, chi: &Chirotope) -> Result<Sizes, NoMemory>
     requires { chi.now.rank ≡ 3 }
     ensures cocircuits { IfOk result (λ s. HasExactly s.cocircuits (IsCocircuitOfChirotope chi.now)) }
@@ -92,7 +94,7 @@ fn sizes_of(alloc: Global, chi: &Chirotope) -> Result<Sizes, NoMemory>
     })
 }
 
-/// How many cocircuits a chirotope of rank 3 has. Their list is converted back.
+/// The number of cocircuits of a chirotope of rank 3. Their list is converted back.
 fn number_of_cocircuits(alloc: Global, chi: &Chirotope) -> Result<u32, NoMemory>
     requires { chi.now.rank ≡ 3 }
     ensures number { IfOk result (λ k. HasExactly k (IsCocircuitOfChirotope chi.now)) }
@@ -103,7 +105,7 @@ fn number_of_cocircuits(alloc: Global, chi: &Chirotope) -> Result<u32, NoMemory>
     Ok(count_cocircuits(&cocircuits))
 }
 
-/// How many covectors a chirotope of rank 3 has. Their list is converted back.
+/// The number of covectors of a chirotope of rank 3. Their list is converted back.
 fn number_of_covectors(alloc: Global, chi: &Chirotope) -> Result<u32, NoMemory>
     requires { chi.now.rank ≡ 3 }
     ensures number { IfOk result (λ k. HasExactly k (IsCovectorOfChirotope chi.now)) }

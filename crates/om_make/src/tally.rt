@@ -1,16 +1,16 @@
-/// What a summary counts, of some vectors and their chirotope of rank 3.
+/// The counts of the summary of some vectors and their chirotope of rank 3.
 #[derive(Clone, Copy, Debug, PartialEq, Eq)]
 pub struct Tally {
-    /// The triples with the sign plus.
+    /// The number of triples with the sign plus.
     pub plus: u32,
-    /// The triples with the sign 0.
+    /// The number of triples with the sign 0.
     pub zero: u32,
-    /// The triples with the sign minus.
+    /// The number of triples with the sign minus.
     pub minus: u32,
-    /// The cocircuits.
+    /// The number of cocircuits.
     pub cocircuits: u32,
-    /// The covectors, the zero vector among them.
+    /// The number of covectors, including the zero vector.
     pub covectors: u32,
-    /// The mutations.
+    /// The number of mutations.
     pub mutations: u32,
 }

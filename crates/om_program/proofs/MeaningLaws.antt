@@ -1,7 +1,8 @@
 -- From what the calls on the way say to what the words and the bytes mean.
 --
--- Main results: the meaning of what was read (meant_of_long); how much was taken of the source (taken_whole, taken_long); the answer and the cut-off answer, from what was read and written (whole,
--- cut_off); from those of a task to those of the words that name it (named_answer, named_cut_off); words that aren't a command (usage_meant).
+-- Main results: the meaning of what was read (meant_of_long); how much was taken of the source (taken_whole,
+-- taken_long); the answer and the cut-off answer, from what was read and written (whole, cut_off); from those of a task
+-- to those of the words that name it (named_answer, named_cut_off); words that aren't a command (usage_meant).
 use Rattle.std.specs.Prelude.{ℕ, ◌≡◌, ◌<◌, ◌≤◌, ◌+◌, List, length, min, Option, Some, None, IfSome}
 use Rattle.std.proofs.Common.{◌∙◌, ap, arith}
 use Rattle.std.specs.Io.KnownBytes.{Appends, Consumes, IsAtEnd}
@@ -10,20 +11,25 @@ use Rattle.om_signs.specs.declared.limits.TheConstants.{MAX_INPUT}
 use Rattle.om_port.specs.Causes.{TakesExactly}
 use Rattle.om_words.specs.declared.task.Task.{Task}
 use Rattle.om_answer.specs.declared.line.Line.TheVariants as line
-use Rattle.om_program.specs.declared.status.Status.{Status}
-use Rattle.om_program.specs.declared.answer.Answer.{Answer}
-use Rattle.om_program.specs.Answers.{says, status_of, text_of}
+use Rattle.om_reply.specs.declared.status.Status.{Status}
+use Rattle.om_reply.specs.declared.answer.Answer.{Answer}
+use Rattle.om_reply.specs.Answers.{says, status_of, text_of}
 use Rattle.om_words.specs.Words.{Names, IsUsage}
 use Rattle.om_program.specs.Meaning.{Means, usage, named}
-use Rattle.om_program.specs.Run.{IsMeantBy, IsWhole, IsFront, IsCutOff, IsAnswer, IsCutOffAnswer, IsTaskAnswer, IsCutOffTask, TakesInput}
+use Rattle.om_program.specs.Run.{IsMeantBy, IsWhole, IsFront, IsCutOff, IsAnswer, IsCutOffAnswer, IsTaskAnswer}
+use Rattle.om_program.specs.Run.{IsCutOffTask, TakesInput}
 
-pub meant_of_long : (Meaning : List ℕ → Answer → Type 0) (left rest : Option (List ℕ)) (answer : Answer) → TakesExactly (MAX_INPUT + 1) left rest → ((bytes : List ℕ) → MAX_INPUT < length bytes → Meaning bytes answer) → IsMeantBy Meaning left answer
+pub meant_of_long : (Meaning : List ℕ → Answer → Type 0) (left rest : Option (List ℕ)) (answer : Answer)
+    → TakesExactly (MAX_INPUT + 1) left rest → ((bytes : List ℕ) → MAX_INPUT < length bytes → Meaning bytes answer)
+    → IsMeantBy Meaning left answer
 meant_of_long Meaning None rest answer t m = tt
 meant_of_long Meaning (Some xs) None answer (bs, h, l) m = absurd h
-meant_of_long Meaning (Some xs) (Some ys) answer (bs, h, l) m = m xs (let e = ap length h ∙ length-append bs ys in omega (arith, e, l))
+meant_of_long Meaning (Some xs) (Some ys) answer (bs, h, l) m =
+    m xs (let e = ap length h ∙ length-append bs ys in omega (arith, e, l))
 
 -- an input within the limit is taken to its end
-pub taken_whole : (left rest : Option (List ℕ)) (bytes : List ℕ) → Consumes left rest bytes → IsAtEnd rest → length bytes ≤ MAX_INPUT → TakesInput left rest
+pub taken_whole : (left rest : Option (List ℕ)) (bytes : List ℕ) → Consumes left rest bytes → IsAtEnd rest
+    → length bytes ≤ MAX_INPUT → TakesInput left rest
 taken_whole None rest bytes t e short = tt
 taken_whole (Some xs) None bytes t e short = absurd t
 taken_whole (Some xs) (Some ys) bytes t e short = (bytes, t, all)
@@ -40,22 +46,29 @@ taken_long (Some xs) (Some ys) (bytes, t, size) = (bytes, t, most)
     most : length bytes ≡ min (length xs) (MAX_INPUT + 1)
     most = let sizes = ap length t ∙ length-append bytes ys in omega (arith, sizes, size)
 
-pub whole : (Meaning : List ℕ → Answer → Type 0) (left old new : Option (List ℕ)) (result : Status) (answer : Answer) → IsMeantBy Meaning left answer → (result ≡ status_of answer) × Appends old new (text_of answer) → IfSome left (λ bytes. IsWhole (Meaning bytes) result old new)
+pub whole : (Meaning : List ℕ → Answer → Type 0) (left old new : Option (List ℕ)) (result : Status) (answer : Answer)
+    → IsMeantBy Meaning left answer → (result ≡ status_of answer) × Appends old new (text_of answer)
+    → IfSome left (λ bytes. IsWhole (Meaning bytes) result old new)
 whole Meaning None old new result answer m w = tt
 whole Meaning (Some bytes) old new result answer m w = (answer, (m, w))
 
-pub cut_off : (Meaning : List ℕ → Answer → Type 0) (left old new : Option (List ℕ)) (answer : Answer) → IsMeantBy Meaning left answer → IsFront old new (text_of answer) → IfSome left (λ bytes. IsCutOff (Meaning bytes) old new)
+pub cut_off : (Meaning : List ℕ → Answer → Type 0) (left old new : Option (List ℕ)) (answer : Answer)
+    → IsMeantBy Meaning left answer → IsFront old new (text_of answer)
+    → IfSome left (λ bytes. IsCutOff (Meaning bytes) old new)
 cut_off Meaning None old new answer m f = tt
 cut_off Meaning (Some bytes) old new answer m f = (answer, (m, f))
 
-pub named_answer : (words : List (List ℕ)) (task : Task) (left old new : Option (List ℕ)) (result : Status) → Names words task → IsTaskAnswer task left result old new → IsAnswer words left result old new
+pub named_answer : (words : List (List ℕ)) (task : Task) (left old new : Option (List ℕ)) (result : Status)
+    → Names words task → IsTaskAnswer task left result old new → IsAnswer words left result old new
 named_answer words task None old new result n a = tt
 named_answer words task (Some bytes) old new result n (answer, (m, a)) = (answer, (named task _ n m, a))
 
-pub named_cut_off : (words : List (List ℕ)) (task : Task) (left old new : Option (List ℕ)) → Names words task → IsCutOffTask task left old new → IsCutOffAnswer words left old new
+pub named_cut_off : (words : List (List ℕ)) (task : Task) (left old new : Option (List ℕ)) → Names words task
+    → IsCutOffTask task left old new → IsCutOffAnswer words left old new
 named_cut_off words task None old new n c = tt
 named_cut_off words task (Some bytes) old new n (answer, (m, f)) = (answer, (named task _ n m, f))
 
-pub usage_meant : (words : List (List ℕ)) (k : ℕ) (left : Option (List ℕ)) → IsUsage words k → IsMeantBy (Means words) left (says (line.Usage k))
+pub usage_meant : (words : List (List ℕ)) (k : ℕ) (left : Option (List ℕ)) → IsUsage words k
+    → IsMeantBy (Means words) left (says (line.Usage k))
 usage_meant words k None u = tt
 usage_meant words k (Some bytes) u = usage k u

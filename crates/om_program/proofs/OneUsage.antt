@@ -9,17 +9,23 @@ use Rattle.om_text.specs.Fault.{Begins}
 use Rattle.om_words.specs.declared.task.Task.{Task}
 use Rattle.om_words.specs.Words.{Names, AreCommand, IsUsage, at_word, at_end}
 
--- the word behind the first j is the one at fault: these begin a command, and with one word more, where there is one, they begin none
+-- the word behind the first j is the one at fault: these begin a command, and with one word more, where there is one,
+-- they begin none
 record StopsAt (words : List (List ℕ)) (j : ℕ) : Type 0 where
   within : j ≤ length words
   begins : Begins AreCommand (take j words)
   stops : j < length words → Begins AreCommand (take (j + 1) words) → ⊥
   ends : j ≡ length words → AreCommand words → ⊥
 
-fewer_begin : (words : List (List ℕ)) (i j : ℕ) → i ≤ j → Begins AreCommand (take j words) → Begins AreCommand (take i words)
+fewer_begin : (words : List (List ℕ)) (i j : ℕ) → i ≤ j → Begins AreCommand (take j words)
+    → Begins AreCommand (take i words)
 fewer_begin words i j l (more, command) =
-    let whole : take i words ++ drop i (take j words) ≡ take j words = ap (λ u. u ++ drop i (take j words)) (sym (take-take i j words l)) ∙ take-append-drop i (take j words) in
-    (drop i (take j words) ++ more, subst AreCommand (ap (λ u. u ++ more) (sym whole) ∙ append_assoc (take i words) (drop i (take j words)) more) command)
+    let whole : take i words ++ drop i (take j words) ≡ take j words =
+    ap (λ u. u ++ drop i (take j words)) (sym (take-take i j words l)) ∙ take-append-drop i (take j words) in (
+      drop i (take j words) ++ more,
+      subst AreCommand (ap (λ u. u ++ more) (sym whole) ∙ append_assoc (take i words) (drop i (take j words)) more)
+          command,
+    )
 
 command_begins : (words : List (List ℕ)) (i : ℕ) → AreCommand words → Begins AreCommand (take i words)
 command_begins words i command = (drop i words, subst AreCommand (sym (take-append-drop i words)) command)
@@ -40,7 +46,8 @@ stops_at words k (at_word before word after begins none) = (
     size = length-append before (word ∷ after)
 
     taken : take (length before + 1) (before ++ word ∷ after) ≡ before ++ word ∷ []
-    taken = ap (take (length before + 1)) (sym (append_assoc before (word ∷ []) after)) ∙ take_at (before ++ word ∷ []) after (length before + 1) (length-append before (word ∷ []))
+    taken = ap (take (length before + 1)) (sym (append_assoc before (word ∷ []) after))
+        ∙ take_at (before ++ word ∷ []) after (length before + 1) (length-append before (word ∷ []))
 stops_at words k (at_end all begins none) = (
   length words,
   refl,
@@ -53,7 +60,8 @@ stops_at words k (at_end all begins none) = (
 )
 
 none_later : (words : List (List ℕ)) (i j : ℕ) → i < j → StopsAt words i → StopsAt words j → ⊥
-none_later words i j l p q = p.stops (let within = q.within in omega arith) (fewer_begin words (i + 1) j (omega arith) q.begins)
+none_later words i j l p q =
+    p.stops (let within = q.within in omega arith) (fewer_begin words (i + 1) j (omega arith) q.begins)
 
 pub one_usage : (words : List (List ℕ)) (j k : ℕ) → IsUsage words j → IsUsage words k → j ≡ k
 one_usage words j k u v = both (stops_at words j u) (stops_at words k v)

@@ -29,31 +29,35 @@ use Rattle.om_certificate.specs.declared.verdict.Verdict.{Verdict}
 use Rattle.om_answer.specs.declared.claim.Claim.{Claim}
 use Rattle.om_text.specs.declared.kinds.Kind.{Kind}
 use Rattle.om_answer.specs.declared.line.Line.{Line}
-use Rattle.om_program.specs.declared.answer.Answer.{Answer}
-use Rattle.om_program.specs.declared.operation.Operation.{Operation}
-use Rattle.om_program.specs.declared.operation.Operation.TheVariants as operation
+use Rattle.om_reply.specs.declared.answer.Answer.{Answer}
+use Rattle.om_commands.specs.declared.operation.Operation.{Operation}
+use Rattle.om_commands.specs.declared.operation.Operation.TheVariants as operation
 use Rattle.om_words.specs.declared.task.Task.{Task}
-use Rattle.om_words.specs.declared.task.Task.TheVariants.{Accept, Member, Convert, Dual, Delete, Contract, Reorient, Wiring, Mutations, Flip, Extend, Decide, Paint, Hull, Lexext, Threeterm, Upgrade, Check, Make}
-use Rattle.om_program.specs.Statuses.{IsReplied}
-use Rattle.om_program.specs.Answers.{IsReply, status_of_line}
-use Rattle.om_representation.specs.Axioms.{MeetsAxiomsOn, IsRefusedOn, set_line, map_line, cov_line, wiring_line}
-use Rattle.om_program.specs.Memberships.{IsMembership, wrong_length, covector, not_covector}
-use Rattle.om_program.specs.Conversions.{IsConversion, itself, wide, limited, converted}
-use Rattle.om_program.specs.Operations.{IsOperation, outside, last, made}
-use Rattle.om_program.proofs.RankThreeLaws.{mutations_replies, extensions_reply, flip_replies, wiring_replies}
-use Rattle.om_program.proofs.MadeLaws.{made_replies}
-use Rattle.om_program.proofs.ReachLaws.{painting_replies, hull_replies, extension_replies}
-use Rattle.om_program.specs.Operations as operations
-use Rattle.om_program.specs.ThreeTermTests as tests
-use Rattle.om_program.specs.Upgrades as upgrades
+use Rattle.om_words.specs.declared.task.Task.TheVariants.{Accept, Member, Convert, Dual, Delete, Contract, Reorient}
+use Rattle.om_words.specs.declared.task.Task.TheVariants.{Wiring, Mutations, Flip, Extend, Decide, Paint, Hull, Lexext}
+use Rattle.om_words.specs.declared.task.Task.TheVariants.{Threeterm, Upgrade, Check, Make}
+use Rattle.om_reply.specs.Statuses.{IsReplied}
+use Rattle.om_reply.specs.Answers.{IsReply, status_of_line}
+use Rattle.om_representation.specs.declared.document_refused.DocumentRefused.{DocumentRefused}
+use Rattle.om_representation.specs.declared.document_refused.DocumentRefused.TheVariants as reason
+use Rattle.om_representation.specs.Axioms.{MeetsAxiomsOn}
+use Rattle.om_reply.specs.RefusalLines.{refused_line, set_line, map_line, cov_line, wiring_line}
+use Rattle.om_commands.specs.Memberships.{IsMembership, wrong_length, covector, not_covector}
+use Rattle.om_commands.specs.Conversions.{IsConversion, itself, wide, limited, converted}
+use Rattle.om_commands.specs.Operations.{IsOperation, outside, last, made}
+use Rattle.om_plane.proofs.RankThreeLaws.{mutations_replies, extensions_reply, flip_replies, wiring_replies}
+use Rattle.om_plane.proofs.MadeLaws.{made_replies}
+use Rattle.om_commands.proofs.ReachLaws.{painting_replies, hull_replies, extension_replies}
+use Rattle.om_commands.specs.Operations as operations
+use Rattle.om_commands.specs.ThreeTermTests as tests
+use Rattle.om_commands.specs.Upgrades as upgrades
 use Rattle.om_signs.specs.declared.raw_map.RawMap.{RawMap}
 use Rattle.om_threeterm.specs.declared.three_refused.ThreeRefused.{ThreeRefused}
 use Rattle.om_threeterm.specs.declared.three_refused.ThreeRefused.TheVariants as three
-use Rattle.om_program.specs.Claims as claims
-use Rattle.om_program.proofs.DecisionLaws.{decision_replies}
-use Rattle.om_program.specs.Meaning.{IsAnswerOf, DocumentMeans, flat_line, tested, upgraded, refused, flat, answered, TaskMeans, long, faulty, read, faulty_claim, claimed, alone}
-
--- ---- statuses
+use Rattle.om_plane.specs.Claims as claims
+use Rattle.om_plane.proofs.DecisionLaws.{decision_replies}
+use Rattle.om_program.specs.Meaning.{IsAnswerOf, DocumentMeans, flat_line, tested, upgraded, refused, flat, answered}
+use Rattle.om_program.specs.Meaning.{TaskMeans, long, faulty, read, faulty_claim, claimed, alone}
 
 -- ---- the lines of the axioms
 
@@ -78,16 +82,12 @@ wiring_refused (wiring.Range step) = tt
 wiring_refused (wiring.NotIncreasing step) = tt
 wiring_refused wiring.NotReversed = tt
 
-replied_line : (k l : Line) → l ≡ k → IsReplied (status_of_line k) → IsReplied (status_of_line l)
-replied_line k l same replied = subst (λ m. IsReplied (status_of_line m)) (sym same) replied
-
-refused_replies : (n : ℕ) (b : Body) (l : Line) → IsRefusedOn n b l → IsReplied (status_of_line l)
-refused_replies n (body.Chirotope m) l (why, (same, is)) = replied_line _ l same (map_refused why)
-refused_replies n (body.Circuits members) l (why, (same, is)) = replied_line _ l same (set_refused why)
-refused_replies n (body.Cocircuits members) l (why, (same, is)) = replied_line _ l same (set_refused why)
-refused_replies n (body.Covectors members) l (why, (same, is)) = replied_line _ l same (cov_refused why)
-refused_replies n (body.Wiring blocks) l (why, (same, is)) = replied_line _ l same (wiring_refused why)
-refused_replies n (body.Points points) l (same, is) = replied_line _ l same tt
+refused_replies : (why : DocumentRefused) → IsReplied (status_of_line (refused_line why))
+refused_replies (reason.Map why) = map_refused why
+refused_replies (reason.Circuits why) = set_refused why
+refused_replies (reason.Covectors why) = cov_refused why
+refused_replies (reason.Wiring why) = wiring_refused why
+refused_replies reason.RankLow = tt
 
 -- ---- the answers of the commands
 
@@ -134,7 +134,7 @@ verdict_replies m v l (claims.limited end unfound three is) = tt
 verdict_replies m v l (claims.judged e k three is means) = evidence_replies m e l means
 
 claim_replies : (c : Claim) (l : Line) → claims.ClaimMeans c l → IsReplied (status_of_line l)
-claim_replies c l (claims.fails_axioms why is) = refused_replies c.document.elements c.document.body l is
+claim_replies c l (claims.fails_axioms why is) = refused_replies why
 claim_replies c l (claims.flat axioms is) = tt
 claim_replies c l (claims.verified m k axioms bent is means) = verdict_replies m c.verdict l means
 
@@ -149,7 +149,7 @@ map_test_replies m a (tests.meets is om) = tt
 
 test_replies : (d : Document) (a : Answer) → tests.IsThreeTermTest d a → IsReply a
 test_replies d a (tests.of_map m b same is) = map_test_replies m a is
-test_replies d a (tests.refused why other is) = refused_replies d.elements d.body why is
+test_replies d a (tests.refused why other is) = refused_replies why
 test_replies d a (tests.no_map other axioms) = tt
 
 -- a list that meets its axioms has the negative of each member
@@ -162,7 +162,7 @@ closed_under_negation n (body.Wiring blocks) axioms = λ x none. absurd (none_co
 closed_under_negation n (body.Points points) axioms = λ x none. absurd (none_contained x none)
 
 upgrade_replies : (d : Document) (a : Answer) → IsInForm d → upgrades.IsUpgrade d a → IsReply a
-upgrade_replies d a form (upgrades.refused why is) = refused_replies d.elements d.body why is
+upgrade_replies d a form (upgrades.refused why is) = refused_replies why
 upgrade_replies d a form (upgrades.kept axioms) = (form, closed_under_negation d.elements d.body axioms)
 
 -- ---- the answers of tasks: one line for each
@@ -195,14 +195,15 @@ flat_replies _ = tt
 document_replies : (t : Task) (d : Document) (a : Answer) → IsInForm d → DocumentMeans t d a → IsReply a
 document_replies t d a form (tested b same is) = test_replies d a is
 document_replies t d a form (upgraded b same is) = upgrade_replies d a form is
-document_replies t d a form (refused why other kept is) = refused_replies d.elements d.body why is
+document_replies t d a form (refused why other kept is) = refused_replies why
 document_replies t d a form (flat other kept axioms is) = flat_replies t
 document_replies t d a form (answered b other kept axioms bent is) = task_answer_replies t _ a is
 
 pub task_replies : (t : Task) (bytes : List ℕ) (a : Answer) → TaskMeans t bytes a → IsReply a
 task_replies t bytes a (long reads past) = tt
 task_replies t bytes a (faulty n c reads short is) = tt
-task_replies t bytes a (read d b reads short is means) = document_replies t d a (document_form (wordful (lines bytes)) d is) means
+task_replies t bytes a (read d b reads short is means) =
+    document_replies t d a (document_form (wordful (lines bytes)) d is) means
 task_replies t bytes a (faulty_claim n c reads short is) = tt
 task_replies t bytes a (claimed c l reads short is means) = claim_replies c l means
 task_replies t bytes a (alone seed count b same is) = made_replies seed count b is

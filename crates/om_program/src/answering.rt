@@ -1,30 +1,24 @@
-//! From an input to the answer.
+//! From the bytes of an input to the answer.
 
-ghost use Rattle.std.specs.Prelude.{◌≡◌, ◌≢◌, ◌≤◌, IfOk, List, length, ℕ};
+ghost use Rattle.std.specs.Prelude.{◌≡◌, ◌≤◌, IfOk, List, length, ℕ};
 ghost use Rattle.om_text.specs.Form.{IsInForm};
-ghost use Rattle.om_program.specs.Meaning.{TaskMeans, DocumentMeans, IsAnswerOf, flat_line};
+ghost use Rattle.om_program.specs.Meaning.{TaskMeans, DocumentMeans, IsAnswerOf};
+ghost use Rattle.om_program.specs.Plans.{document_task, matroid_task, reading_task};
 ghost use Rattle.om_representation.specs.Documents.{document_of};
-ghost use Rattle.om_program.specs.Represented.{IsMeantFor};
+ghost use Rattle.om_reply.specs.Represented.{IsMeantFor};
 ghost use Rattle.om_representation.specs.Widths.{HasFewValues};
 ghost use Rattle.om_words.specs.Tasks.{HasLawfulArguments, reads};
 
-use super::answer::Answer;
-use super::conversion::convert;
-use super::convex_hull::find_hull;
-use super::decision::judge;
-use super::extension_list::list_extensions;
-use super::flipping::flip_triple;
-use super::lexical_extension::extend_lexically;
-use super::made_input::make_input;
-use super::membership::find_membership;
-use super::mutation_list::list_mutations;
-use super::operation::{Operation, operate};
-use super::painting::find_painting;
-use super::sweeping::find_wiring;
-use super::three_terms::test_three_terms;
-use super::upgrading::upgrade;
-use super::verification::verify;
+use super::plan::{OnDocument, OnMatroid, Plan, Reading, plan_of};
 use om_answer::{Line, read_claim};
+use om_commands::{
+    convert, extend_lexically, find_hull, find_membership, find_painting, operate,
+    test_three_terms, upgrade,
+};
+use om_plane::{
+    find_wiring, flip_triple, judge, list_extensions, list_mutations, make_input, verify,
+};
+use om_reply::{Answer, refused_line};
 use om_representation::{Representation, Unrepresented, represent};
 use om_signs::{MAX_INPUT, NoMemory};
 use om_text::{Document, ParseError, parse};
@@ -44,53 +38,46 @@ pub fn answer_input<R: Threads + Sync>(
     requires reading { reads task ≡ Reads.Nothing → ⊥ }
     ensures { IfOk result (TaskMeans task bytes.now) }
 {
-    match task {
-        Task::Check => answer_claim(rt, alloc, bytes),
-        // each other one that reads an input reads a document
-        _ => answer_text(rt, alloc, task, bytes),
+    match plan_of(task) {
+        Plan::Make { seed, count } => answer_alone(rt, alloc, seed, count),
+        Plan::Read(what) => answer_reading(rt, alloc, what, bytes),
     }
 }
 
-/// The answer to a task that reads nothing, whatever the input.
+/// The vectors that a number gives, whatever the input.
 pub fn answer_alone<R: Threads + Sync>(
     rt: &R,
     alloc: Global,
-    task: Task,
+    seed: u32,
+    count: u8,
 ) -> Result<Answer, NoMemory>
-    requires lawful { HasLawfulArguments task }
-    requires alone { reads task ≡ Reads.Nothing }
-    ensures { IfOk result (λ answer. (bytes : List ℕ) → TaskMeans task bytes answer) }
+    requires lawful { HasLawfulArguments (Task.Make seed count) }
+    ensures { IfOk result (λ answer. (bytes : List ℕ) → TaskMeans (Task.Make seed count) bytes answer) }
 {
-    match task {
-        Task::Make { seed, count } => make_input(rt, alloc, seed, count),
-        // each other one reads an input
-        _ => unreachable!(),
-    }
+    make_input(rt, alloc, seed, count)
 }
 
-/// The answer to a task that reads a document.
-fn answer_text<R: Threads + Sync>(
+/// The answer to what is asked of an input within the limit.
+pub fn answer_reading<R: Threads + Sync>(
     rt: &R,
     alloc: Global,
-    task: Task,
+    what: Reading,
     bytes: &[u8],
 ) -> Result<Answer, NoMemory>
     requires short { length bytes.now ≤ MAX_INPUT }
-    requires lawful { HasLawfulArguments task }
-    requires document { reads task ≡ Reads.Document }
-    ensures { IfOk result (TaskMeans task bytes.now) }
+    requires lawful { HasLawfulArguments (reading_task what) }
+    ensures { IfOk result (TaskMeans (reading_task what) bytes.now) }
 {
-    match parse(alloc, bytes) {
-        Ok(document) => answer_document(rt, alloc, task, document),
-        Err(ParseError::Line { line, code }) => Ok(Answer::Line(Line::RefusedLine { line, code })),
-        Err(ParseError::Memory) => Err(NoMemory),
+    match what {
+        Reading::Claim => answer_claim(rt, alloc, bytes),
+        Reading::Document(what) => answer_text(rt, alloc, what, bytes),
     }
 }
 
-/// The answer to a task that reads a claim.
+/// The answer to a claim.
 fn answer_claim<R: Threads + Sync>(rt: &R, alloc: Global, bytes: &[u8]) -> Result<Answer, NoMemory>
     requires { length bytes.now ≤ MAX_INPUT }
-    ensures { IfOk result (λ answer. (task : Task) → reads task ≡ Reads.Claim → TaskMeans task bytes.now answer) }
+    ensures { IfOk result (TaskMeans Task.Check bytes.now) }
 {
     match read_claim(alloc, bytes) {
         Ok(claim) => Ok(Answer::Line(verify(rt, alloc, claim)?)),
@@ -99,90 +86,98 @@ fn answer_claim<R: Threads + Sync>(rt: &R, alloc: Global, bytes: &[u8]) -> Resul
     }
 }
 
-/// The answer to a task on a document.
-fn answer_document<R: Threads + Sync>(
+/// The answer to what is asked of a document that is given by its bytes.
+fn answer_text<R: Threads + Sync>(
     rt: &R,
     alloc: Global,
-    task: Task,
-    document: Document,
+    what: OnDocument,
+    bytes: &[u8],
 ) -> Result<Answer, NoMemory>
-    requires form { IsInForm document }
-    requires lawful { HasLawfulArguments task }
-    requires document { reads task ≡ Reads.Document }
-    ensures { IfOk result (DocumentMeans task document) }
+    requires short { length bytes.now ≤ MAX_INPUT }
+    requires lawful { HasLawfulArguments (document_task what) }
+    ensures { IfOk result (TaskMeans (document_task what) bytes.now) }
 {
-    match task {
-        Task::Threeterm => test_three_terms(rt, alloc, document),
-        Task::Upgrade => upgrade(rt, alloc, document),
-        _ => answer_represented(rt, alloc, task, document),
+    match parse(alloc, bytes) {
+        Ok(document) => answer_document(rt, alloc, what, document),
+        Err(ParseError::Line { line, code }) => Ok(Answer::Line(Line::RefusedLine { line, code })),
+        Err(ParseError::Memory) => Err(NoMemory),
     }
 }
 
-/// The answer to a task on the oriented matroid that a document gives: that is any task but the three-term test and the upgrade.
-fn answer_represented<R: Threads + Sync>(
+/// The answer to what is asked of a document.
+fn answer_document<R: Threads + Sync>(
     rt: &R,
     alloc: Global,
-    task: Task,
+    what: OnDocument,
     document: Document,
 ) -> Result<Answer, NoMemory>
     requires form { IsInForm document }
-    requires lawful { HasLawfulArguments task }
-    requires document { reads task ≡ Reads.Document }
-    requires other { task ≢ Task.Threeterm }
-    requires kept { task ≢ Task.Upgrade }
-    ensures { IfOk result (DocumentMeans task document) }
+    requires lawful { HasLawfulArguments (document_task what) }
+    ensures { IfOk result (DocumentMeans (document_task what) document) }
+{
+    match what {
+        OnDocument::Accept => accept(rt, alloc, document),
+        OnDocument::ThreeTerm => test_three_terms(rt, alloc, document),
+        OnDocument::Upgrade => upgrade(rt, alloc, document),
+        OnDocument::Matroid(what) => answer_represented(rt, alloc, what, document),
+    }
+}
+
+/// Whether a document meets the axioms of its kind.
+fn accept<R: Threads + Sync>(rt: &R, alloc: Global, document: Document) -> Result<Answer, NoMemory>
+    requires { IsInForm document }
+    ensures { IfOk result (DocumentMeans Task.Accept document) }
 {
     match represent(rt, alloc, document) {
-        Ok(representation) => answer_task(rt, alloc, task, representation),
-        Err(Unrepresented::Refused(why)) => Ok(Answer::Line(why)),
-        Err(Unrepresented::Flat) => Ok(Answer::Line(flat_line(task))),
+        Ok(_representation) => Ok(Answer::Line(Line::Accepted)),
+        Err(Unrepresented::Refused(why)) => Ok(Answer::Line(refused_line(why))),
+        // a wiring without a chirotope meets them
+        Err(Unrepresented::Flat) => Ok(Answer::Line(Line::Accepted)),
         Err(Unrepresented::Memory) => Err(NoMemory),
     }
 }
 
-/// The line that answers a task on a wiring that gives no chirotope.
-fn flat_line(task: Task) -> Line
-    ensures { result ≡ flat_line task }
+/// The answer to what is asked of the oriented matroid that a document gives. A wiring without a chirotope gives none.
+fn answer_represented<R: Threads + Sync>(
+    rt: &R,
+    alloc: Global,
+    what: OnMatroid,
+    document: Document,
+) -> Result<Answer, NoMemory>
+    requires form { IsInForm document }
+    requires lawful { HasLawfulArguments (matroid_task what) }
+    ensures { IfOk result (DocumentMeans (matroid_task what) document) }
 {
-    match task {
-        Task::Accept => Line::Accepted,
-        _ => Line::RefusedFlatrank,
+    match represent(rt, alloc, document) {
+        Ok(representation) => answer_matroid(rt, alloc, what, representation),
+        Err(Unrepresented::Refused(why)) => Ok(Answer::Line(refused_line(why))),
+        Err(Unrepresented::Flat) => Ok(Answer::Line(Line::RefusedFlatrank)),
+        Err(Unrepresented::Memory) => Err(NoMemory),
     }
 }
 
-/// The answer to a task on an oriented matroid.
-fn answer_task<R: Threads + Sync>(
+/// The answer to what is asked of an oriented matroid.
+fn answer_matroid<R: Threads + Sync>(
     rt: &R,
     alloc: Global,
-    task: Task,
+    what: OnMatroid,
     representation: Representation,
 ) -> Result<Answer, NoMemory>
-    requires lawful { HasLawfulArguments task }
-    requires document { reads task ≡ Reads.Document }
-    requires other { task ≢ Task.Threeterm }
-    requires kept { task ≢ Task.Upgrade }
+    requires lawful { HasLawfulArguments (matroid_task what) }
     requires few { HasFewValues (document_of representation) }
-    ensures { IfOk result (IsMeantFor (IsAnswerOf task) representation) }
+    ensures { IfOk result (IsMeantFor (IsAnswerOf (matroid_task what)) representation) }
 {
-    match task {
-        Task::Accept => Ok(Answer::Line(Line::Accepted)),
-        Task::Member(x) => Ok(find_membership(&representation, x)),
-        Task::Convert(kind) => convert(alloc, representation, kind),
-        Task::Dual => operate(alloc, representation, Operation::Dual),
-        Task::Delete(e) => operate(alloc, representation, Operation::Delete(e)),
-        Task::Contract(e) => operate(alloc, representation, Operation::Contract(e)),
-        Task::Reorient(mask) => operate(alloc, representation, Operation::Reorient(mask)),
-        Task::Wiring => find_wiring(alloc, representation),
-        Task::Mutations => list_mutations(alloc, representation),
-        Task::Paint(colouring) => find_painting(alloc, representation, colouring),
-        Task::Hull => find_hull(alloc, representation),
-        Task::Lexext(leading) => extend_lexically(alloc, representation, leading),
-        Task::Flip(a, b, c) => flip_triple(alloc, representation, a, b, c),
-        Task::Extend { first } => list_extensions(rt, alloc, representation, first),
-        Task::Decide(budgets) => judge(alloc, representation, budgets),
-        // a map is tested as it stands in its document, and a document is upgraded as it stands
-        Task::Threeterm | Task::Upgrade => unreachable!(),
-        // these ones don't read a document
-        Task::Check | Task::Make { .. } => unreachable!(),
+    match what {
+        OnMatroid::Member(x) => Ok(find_membership(&representation, x)),
+        OnMatroid::Convert(kind) => convert(alloc, representation, kind),
+        OnMatroid::Operate(operation) => operate(alloc, representation, operation),
+        OnMatroid::Wiring => find_wiring(alloc, representation),
+        OnMatroid::Mutations => list_mutations(alloc, representation),
+        OnMatroid::Flip(a, b, c) => flip_triple(alloc, representation, a, b, c),
+        OnMatroid::Extend { first } => list_extensions(rt, alloc, representation, first),
+        OnMatroid::Paint(colouring) => find_painting(alloc, representation, colouring),
+        OnMatroid::Hull => find_hull(alloc, representation),
+        OnMatroid::Lexext(leading) => extend_lexically(alloc, representation, leading),
+        OnMatroid::Decide(budgets) => judge(alloc, representation, budgets),
     }
 }

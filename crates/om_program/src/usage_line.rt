@@ -3,25 +3,28 @@
 ghost use Rattle.std.specs.Prelude.{◌≡◌, ◌≤◌, ◌⊎◌, ◌+◌, ◌++◌, take, length};
 ghost use Rattle.std.specs.Io.KnownBytes.{Appends};
 ghost use Rattle.om_port.specs.Causes.{Rose};
-ghost use Rattle.om_program.specs.Statuses.{IsAnswered};
+ghost use Rattle.om_reply.specs.Statuses.{IsAnswered};
 ghost use Rattle.om_program.specs.Run.{IsFront};
 ghost use Rattle.om_answer.specs.Texts.{line_text};
 
-use super::status::Status;
 use super::write_text::write_text;
 use itoa::Buffer;
 use om_answer::Line;
 use om_port::Sink;
+use om_reply::Status;
 use om_words::Usage;
 
-/// The room for the longest number of 32 bits, with the head and the line feed.
+/// The length of the longest line: `usage `, a number of 32 bits, and the line feed.
 const ROOM: usize = 17;
 
-/// Writes the line `usage K` from an array on the stack, so that a run whose words aren't a command takes no memory.
+/// Writes the line `usage K` from an array on the stack, so that a run whose words aren't a command allocates no
+/// memory.
 pub fn write_usage<K: Sink>(sink: &mut K, usage: Usage) -> Status
     requires { K.ready sink.old }
-    ensures whole { IsAnswered result → (result ≡ Status.Usage) × Appends (K.taken sink.old) (K.taken sink.new) (line_text (Line.Usage usage.word)) }
-    ensures cut { result ≡ Status.WriteFault → IsFront (K.taken sink.old) (K.taken sink.new) (line_text (Line.Usage usage.word)) }
+    ensures whole { IsAnswered result → (result ≡ Status.Usage)
+        × Appends (K.taken sink.old) (K.taken sink.new) (line_text (Line.Usage usage.word)) }
+    ensures cut { result ≡ Status.WriteFault
+        → IsFront (K.taken sink.old) (K.taken sink.new) (line_text (Line.Usage usage.word)) }
     ensures fault { result ≡ Status.WriteFault → Rose (K.faults sink.old) (K.faults sink.new) }
     ensures no_other { (result ≡ Status.Usage) ⊎ (result ≡ Status.WriteFault) }
     ensures later { K.faults sink.old ≤ K.faults sink.new }
@@ -31,7 +34,7 @@ pub fn write_usage<K: Sink>(sink: &mut K, usage: Usage) -> Status
     write_text(sink, &text[..len], Status::Usage)
 }
 
-/// Puts the line at the front, and answers its length.
+/// Writes the line to the front of the array, and returns its length.
 fn put_usage(text: &mut [u8], usage: Usage) -> usize
     requires { length text.old ≡ ROOM }
     ensures front { take result text.new ≡ line_text (Line.Usage usage.word) }
@@ -43,7 +46,7 @@ fn put_usage(text: &mut [u8], usage: Usage) -> usize
     put(text, digits, b"\n")
 }
 
-/// Puts bytes behind the first `at` ones, and answers where they end.
+/// Writes bytes after the first `at` ones, and returns the place where they end.
 fn put(text: &mut [u8], at: usize, bytes: &[u8]) -> usize
     requires { at + length bytes.now ≤ length text.old }
     ensures end { result ≡ at + length bytes.now }

@@ -1,15 +1,15 @@
-//! Writing a text whole.
+//! Writes a text whole.
 
 ghost use Rattle.std.specs.Prelude.{◌≡◌, ◌⊎◌, ◌≤◌};
 ghost use Rattle.std.specs.Io.KnownBytes.{Appends};
 ghost use Rattle.om_port.specs.Causes.{Rose};
-ghost use Rattle.om_program.specs.Statuses.{IsAnswered};
+ghost use Rattle.om_reply.specs.Statuses.{IsAnswered};
 ghost use Rattle.om_program.specs.Run.{IsFront};
 
-use super::status::Status;
 use om_port::{Sink, write_all};
+use om_reply::Status;
 
-/// Writes a text whole, and ends with this status, or with a write fault where only a part was taken.
+/// Writes a text, and ends with this status. If only a part was taken, it ends with a write fault.
 pub fn write_text<K: Sink>(sink: &mut K, text: &[u8], status: Status) -> Status
     requires status { IsAnswered status }
     requires ready { K.ready sink.old }

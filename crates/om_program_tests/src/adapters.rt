@@ -1,13 +1,13 @@
-//! The adapters over a reader and a writer of std that fail once and then go on, and over ones that never fail. No
-//! clause can say what these show, since std's readers and writers tell no errors: an error of the inner object is a
-//! fault, nothing else is, and no call is tried again.
+//! The adapters over a reader and a writer of std that fail once and then continue, and over ones that never fail.
+//! They show that an error of the inner object is a fault, that nothing else is, and that no call is tried again.
+//! No clause can state this, since the contracts of std's readers and writers say nothing about errors.
 
 use om_port::{Failed, Sink, Source, StdSink, StdSource};
 use std::io;
 use std::io::{Error, ErrorKind, Read, Write};
 
-/// A reader and a writer whose calls are counted from 1. A call moves as many bytes as its number is, as far as there
-/// is room; one call fails, and calls from number `last` on move nothing.
+/// A reader and a writer whose calls are counted from 1. A call moves as many bytes as its number says, if there is
+/// room. One call fails, and calls from number `last` on move nothing.
 #[derive(Drop)]
 struct Counting {
     calls: usize,
@@ -58,7 +58,7 @@ impl Write for Counting {
     }
 }
 
-/// Why a call fails once: the kinds with which std's own loops try again, and others.
+/// The reasons for which a call fails once: the kinds for which std's own loops try again, and others.
 const KINDS: [ErrorKind; 4] = [
     ErrorKind::Interrupted,
     ErrorKind::WouldBlock,

@@ -1,4 +1,4 @@
-//! Runs of `check` over memory: claims that are cut off, and numbers around their limits.
+//! Runs of `check` in memory: claims that are cut off, and numbers around their limits.
 
 use super::helpers::{bytes, has_ended, sink, words};
 use om_port::SureSource;
@@ -10,7 +10,7 @@ use std::thread::Threads;
 const REALIZABLE: &[u8] =
     b"om 1\nchirotope 3 4\n++++\nend\nrealizable\nvector 1 0 0\nvector 0 1 0\nvector 0 0 1\nvector 1 -1 1\nend\n";
 
-/// What is answered to none of these lines, to the first one alone, and so on up to nine of them.
+/// The answers to none of these lines, to the first one alone, and so on up to nine of them.
 const MISSING: [&[u8]; 10] = [
     b"refused line 1 missing\n",
     b"refused line 2 missing\n",
@@ -43,7 +43,7 @@ fn checks<R: Threads + Sync>(
     }
 }
 
-/// The first so many lines.
+/// The first lines, this many.
 fn first_lines(text: &[u8], count: usize) -> &[u8] {
     let mut lines = 0usize;
     for (at, byte) in text.iter().enumerate() {
@@ -75,7 +75,7 @@ fn claims_that_are_cut_off(rt: HostRuntime) {
     );
 }
 
-/// A certificate of the non-Pappus chirotope up to its first multiplicity, and the lines behind it.
+/// A certificate of the non-Pappus chirotope up to its first multiplicity, and the lines after it.
 const BEFORE: &[u8] =
     b"om 1\nchirotope 3 9\n0++++++++++++--------0-0++++++++++----0---+0+++++---0+-0++++++++\n0------------------+\nend\nnonrealizable\neq 1 2 3 4 7 3 2 ";
 
@@ -94,7 +94,7 @@ const MULTIPLICITIES: [(&str, u8, &str); 4] = [
     ("9223372036854775809", 1, "refused line 7 entry\n"),
 ];
 
-/// Some bytes and others behind them. For want of memory there are fewer.
+/// Some bytes followed by others. If memory runs out there are fewer.
 fn joined(alloc: Global, before: &[u8], behind: &[u8]) -> Vec<u8> {
     let mut all = bytes(alloc, before);
     let _extended = all.extend_from_slice(behind);
@@ -114,7 +114,7 @@ fn multiplicities(rt: HostRuntime) {
     }
 }
 
-/// A document behind which 21 vectors are given, one more than there may be elements.
+/// A document followed by 21 vectors, one more than the most elements.
 fn many_vectors(alloc: Global) -> Vec<u8> {
     let mut all = bytes(alloc, first_lines(REALIZABLE, 5));
     for _vector in 0..21 {

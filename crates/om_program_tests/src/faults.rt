@@ -13,8 +13,8 @@ const PLUS: &[u8] = b"om 1\nchirotope 3 4\n++++\nend\n";
 /// Its circuits, 30 bytes.
 const CIRCUITS: &[u8] = b"om 1\ncircuits 4\n-+-+\n+-+-\nend\n";
 
-/// Whether a run of `accept` whose source fails at this call ends with a read fault, has written nothing, and leaves
-/// the source what it hadn't given before: so no call came after the fault.
+/// Whether a run of `accept` whose source fails at this call ends with a read fault and has written nothing. The
+/// source still has all bytes that it hadn't given before the fault, so no call came after it.
 fn stops_reading<R: Threads + Sync>(rt: &R, alloc: Global, piece: usize, call: u32) -> bool {
     let mut source = source(alloc, PLUS, piece, call);
     let given = (call as usize)
@@ -54,8 +54,8 @@ fn sources_that_fail(rt: HostRuntime) {
     assert!(rt; ends_accepting(&rt, alloc, &mut source, 0, b"accepted\n"));
 }
 
-/// Whether the circuits, written to a sink of this room and this greatest piece which fails at this call, end with this
-/// exit code, and the sink holds their first bytes up to this number.
+/// Whether the circuits, written to a sink with this room and this greatest piece that fails at this call, end with
+/// this exit code. The sink then holds their first bytes, up to this number.
 fn ends_writing<R: Threads + Sync>(
     rt: &R,
     alloc: Global,

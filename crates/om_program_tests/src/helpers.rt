@@ -1,18 +1,18 @@
-//! What several tests give a run, and what they ask of its end.
+//! What several tests give to a run, and check of its end.
 
 use om_port::{MemSink, MemSource, read_all};
 use om_program::Status;
 use om_signs::{List, NoMemory};
 use std::alloc::Global;
 
-/// Bytes in memory. For want of memory there are none.
+/// Bytes in memory. If memory runs out there are none.
 pub fn bytes(alloc: Global, text: &[u8]) -> Vec<u8> {
     let mut bytes = Vec::new(alloc);
     let _extended = bytes.extend_from_slice(text);
     bytes
 }
 
-/// The words of a line, which has a space between two. For want of memory there are fewer.
+/// The words of a line, separated by single spaces. If memory runs out there are fewer.
 pub fn words(alloc: Global, line: &str) -> Vec<String> {
     let mut words = Vec::new(alloc);
     for word in line.split(' ') {
@@ -23,19 +23,19 @@ pub fn words(alloc: Global, line: &str) -> Vec<String> {
     words
 }
 
-/// The list of one call. For want of memory it is empty, and then no call fails.
+/// The list of one call. If memory runs out it is empty, and then no call fails.
 pub fn only(alloc: Global, call: u32) -> List<u32> {
     let mut failing = List::new(alloc);
     let _pushed = failing.push(call);
     failing
 }
 
-/// A source of a text, which gives at most `piece` bytes a call, and fails at one call.
+/// A source of a text, which gives at most `piece` bytes per call, and fails at one call.
 pub fn source(alloc: Global, text: &[u8], piece: usize, failing: u32) -> MemSource {
     MemSource::new(bytes(alloc, text), piece.max(1), only(alloc, failing))
 }
 
-/// A sink with this room, which takes at most `piece` bytes a call, and fails at one call.
+/// A sink with this room, which takes at most `piece` bytes per call, and fails at one call.
 pub fn sink(alloc: Global, room: usize, piece: usize, failing: u32) -> Result<MemSink, NoMemory> {
     MemSink::new(alloc, room, piece.max(1), only(alloc, failing))
 }
@@ -53,7 +53,7 @@ pub fn leaves(alloc: Global, source: &mut MemSource, left: &[u8]) -> bool {
     }
 }
 
-/// Whether a run ended for want of memory, and its sink holds these bytes.
+/// Whether a run ended because memory ran out, and its sink holds these bytes.
 pub fn is_wanting(status: Status, sink: &MemSink, held: &[u8]) -> bool {
     matches!(status, Status::NoMemory) && sink.bytes() == held
 }

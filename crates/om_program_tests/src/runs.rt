@@ -1,4 +1,4 @@
-//! Runs of each command over memory, against answers that were worked by hand.
+//! Runs of each command in memory, against answers computed by hand.
 
 use super::helpers::{are_whole, bytes, has_ended, is_wanting, sink, source, words};
 use om_port::SureSource;
@@ -117,7 +117,7 @@ const RUNS: [(&str, &str, u8, &str); 26] = [
     ),
 ];
 
-/// Whether a run over a source that never fails, and one that reads and writes byte by byte, both end so.
+/// Whether a run over a source that never fails, and one that reads and writes byte by byte, both end like this.
 fn both_end<R: Threads + Sync>(
     rt: &R,
     alloc: Global,
@@ -146,8 +146,8 @@ fn each_command(rt: HostRuntime) {
     }
 }
 
-/// Whether a run ends so, or for want of memory with nothing written. Where memory is wanting before the run, this is
-/// true.
+/// Whether a run ends like this, or runs out of memory with nothing written. If memory runs out before the run,
+/// this is true.
 fn ends_or_wants<R: Threads + Sync>(
     rt: &R,
     alloc: Global,

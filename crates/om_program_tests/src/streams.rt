@@ -12,19 +12,19 @@ use std::thread::Threads;
 const STREAM: &[u8] =
     b"om 1\nchirotope 3 4\n++++\nend\nom 1\nchirotope 3 4\n0000\nend\nom 1\nchirotope 3 4\nom 1\nend";
 
-/// What is answered to them, in 68 bytes.
+/// The answers to them, in 68 bytes.
 const ANSWERS: &[u8] = b"accepted\nrefused allzero\nrefused line 3 missing\nrefused line 2 kind\n";
 
-/// How many bytes are read when the texts of the first documents are written, and of how many bytes these are. The last
-/// text is written at the end of the input.
+/// How many bytes are read when the texts of the first documents are written, and how many bytes these texts have.
+/// The last text is written at the end of the input.
 const STEPS: [(usize, usize); 4] = [(0, 0), (28, 9), (56, 25), (80, 48)];
 
-/// So many first bytes of the answers.
+/// The first bytes of the answers, this many.
 fn first_answers(count: usize) -> &'static [u8] {
     &ANSWERS[..count.min(ANSWERS.len())]
 }
 
-/// How many bytes are written when so many are read.
+/// How many bytes are written when this many are read.
 fn written_at(read: usize) -> usize {
     let mut all = 0;
     for (whole, written) in STEPS.iter() {
@@ -88,8 +88,8 @@ fn sources_that_fail(rt: HostRuntime) {
     assert!(rt; end_with(&rt, alloc, &mut source, sink(alloc, 100, 1, 0), 1, 68));
 }
 
-/// Whether the documents are read no further than up to the end of the one whose text is broken off behind so many
-/// bytes of all.
+/// Whether the documents are read no further than to the end of the one whose text is cut off after this many bytes
+/// in all.
 fn breaks_off<R: Threads + Sync>(
     rt: &R,
     alloc: Global,
@@ -101,7 +101,7 @@ fn breaks_off<R: Threads + Sync>(
     end_with(rt, alloc, &mut source, sink, 5, held) && leaves(alloc, &mut source, &STREAM[read..])
 }
 
-// each text is written before a byte behind its document is read
+// each text is written before a byte after its document is read
 #[test]
 fn sinks_that_fail(rt: HostRuntime) {
     let alloc = rt.alloc();
@@ -118,8 +118,8 @@ fn sinks_that_fail(rt: HostRuntime) {
     }
 }
 
-/// Whether the documents end with all answers, or for want of memory with whole first ones. Where memory is wanting
-/// before the run, this is true.
+/// Whether the documents end with all answers, or run out of memory with the first answers complete. If memory runs
+/// out before the run, this is true.
 fn end_or_want<R: Threads + Sync>(rt: &R, alloc: Global) -> bool {
     let (words, bytes) = (words(alloc, "accept"), bytes(alloc, STREAM));
     match sink(alloc, 100, 100, 0) {
@@ -195,7 +195,7 @@ fn each_of<R: Threads + Sync>(
     }
 }
 
-/// The same of a run that reads and writes byte by byte.
+/// How a run that reads and writes byte by byte ends, and whether the sink holds these bytes.
 fn each_byte_of<R: Threads + Sync>(
     rt: &R,
     alloc: Global,
@@ -226,7 +226,7 @@ fn streams(rt: HostRuntime) {
     }
 }
 
-/// A comment line of so many bytes, and behind it the documents. For want of memory there are fewer bytes.
+/// A comment line of this many bytes, followed by the documents. If memory runs out there are fewer bytes.
 fn behind_a_comment(alloc: Global, count: usize) -> Vec<u8> {
     let mut bytes = Vec::new(alloc);
     for _byte in 0..count {

@@ -1,2 +1,3 @@
+mod FewValues
 mod PointLaws
 pub mod WidthLaws

@@ -1,4 +1,4 @@
--- The chirotope of a document, of any number of values.
+-- The chirotope of a document, with any number of values.
 use Rattle.std.specs.Prelude.{◌≡◌}
 use Rattle.om_signs.specs.declared.sign.Sign.TheVariants.{Plus}
 use Rattle.om_chirotope.specs.Chirotope.{IsChirotope}
@@ -10,15 +10,15 @@ use Rattle.om_text.specs.declared.body.Body.{Body}
 use Rattle.om_text.specs.declared.body.Body.TheVariants as body
 use Rattle.om_representation.specs.Covectors.{IsCovectorIn}
 
--- the normal chirotope of what a document denotes: it has the same elements and the same covectors, and its first sign that isn't zero
--- is plus
+-- The normal chirotope of what a document denotes: it has the same elements and the same covectors, and its first
+-- nonzero sign is plus.
 pub record IsNormalChirotopeOf (d : Document) (c : SignMap) : Type 0 where
   pub axioms : IsChirotope c
   pub elements : c.elements ≡ d.elements
   pub same : DenoteTheSame d.elements (IsCovectorIn d) (IsCovectorOfChirotope c)
   pub normal : IsLedBy Plus c.signs
 
--- the given map, and the normal chirotope of a list
+-- the given map, or the normal chirotope of a list
 abbrev pub IsChirotopeWith : Body → Document → SignMap → Type 0
 IsChirotopeWith (body.Chirotope m) d c = c ≡ map_of m
 IsChirotopeWith _ d c = IsNormalChirotopeOf d c

@@ -11,7 +11,7 @@ use Rattle.om_representation.specs.declared.representation.Representation.{Repre
 use Rattle.om_representation.specs.declared.representation.Representation.TheVariants as representation
 use Rattle.om_representation.specs.Points.{points_map}
 
--- a map as it stands in a document
+-- a map in the form in which a document holds it
 abbrev pub raw_of : SignMap → RawMap
 raw_of m = record { rank = m.rank; elements = m.elements; signs = m.signs }
 
@@ -36,13 +36,13 @@ document_of (representation.Circuits c) = circuits_document c.0
 document_of (representation.Cocircuits c) = cocircuits_document c.0
 document_of (representation.Covectors c) = covectors_document c
 
--- n elements and a body, with the map of points or of a wiring in their place
+-- a document of n elements and a body, in which points or a wiring are replaced by their map
 abbrev pub with_map : ℕ → Body → Document
 with_map n (body.Points points) = map_document (points_map points)
 with_map n (body.Wiring blocks) = map_document (wiring_map n blocks)
 with_map n b = record { elements = n; body = b; names = [] }
 
--- the document on which the commands work: that of their map for points and wirings, and each other document as it is, but without its names. It is a chirotope or
--- a list of circuits, of cocircuits or of covectors
+-- The document on which the commands work. For points and wirings it is that of their map, and else the document
+-- itself, without its names. It is a chirotope, or a list of circuits, of cocircuits or of covectors.
 abbrev pub worked_on : Document → Document
 worked_on d = with_map d.elements d.body

@@ -2,7 +2,8 @@
 
 ghost use Rattle.std.specs.Prelude.{IfOk, IfErr, OnOk};
 ghost use Rattle.om_representation.specs.Chirotopes.{IsChirotopeOf, IsNormalChirotopeOf};
-ghost use Rattle.om_representation.specs.Documents.{document_of, circuits_document, cocircuits_document, covectors_document};
+ghost use Rattle.om_representation.specs.Documents.{document_of, circuits_document, cocircuits_document};
+ghost use Rattle.om_representation.specs.Documents.{covectors_document};
 ghost use Rattle.om_representation.specs.Widths.{IsKept, IsUnchosen};
 
 use super::representation::Representation;
@@ -16,8 +17,11 @@ use om_convert::{
 use om_covectors::Covectors;
 use std::alloc::Global;
 
-/// The chirotope on which commands work: the given one, or the normal chirotope of a list, where this has no more values than
-/// a document may hold. Else [`Unchosen::TooWide`] where a list's has more; [`Unchosen::Memory`] comes only for lists.
+/// The chirotope on which commands work: the given one, or the normal chirotope of a list. It has at most as many
+/// values as a document may hold, or it is the given one.
+///
+/// [`Unchosen::TooWide`] comes if the chirotope of a list has more values. [`Unchosen::Memory`] comes only for
+/// lists.
 pub fn choose_chirotope(
     alloc: Global,
     representation: Representation,

@@ -1,11 +1,12 @@
-//! The documents of values, without names.
+//! The documents of values. They have no names.
 
 ghost use Rattle.std.specs.Prelude.{◌≡◌, ◌≢◌, ◌≤◌};
 ghost use Rattle.om_signs.specs.declared.limits.TheConstants.{MAX_VALUES};
 ghost use Rattle.om_subsets.specs.Subsets.{choose};
 ghost use Rattle.om_text.specs.Form.{IsInForm};
 ghost use Rattle.om_representation.specs.Axioms.{MeetsAxioms};
-ghost use Rattle.om_representation.specs.Documents.{document_of, map_document, circuits_document, cocircuits_document, covectors_document};
+ghost use Rattle.om_representation.specs.Documents.{document_of, map_document, circuits_document, cocircuits_document};
+ghost use Rattle.om_representation.specs.Documents.{covectors_document};
 ghost use Rattle.om_representation.specs.Widths.{HasFewValuesUnlessRank3};
 
 use super::representation::Representation;
@@ -16,7 +17,8 @@ use om_signs::List;
 use om_text::{Body, Document};
 use std::alloc::Global;
 
-/// The document of an oriented matroid. A chirotope has no more values than a document may hold; one of rank 3 never has.
+/// The document of an oriented matroid. A chirotope has at most as many values as a document may hold; in rank 3
+/// this is always so.
 pub fn document_of(alloc: Global, representation: Representation) -> Document
     requires { HasFewValuesUnlessRank3 (document_of representation) }
     ensures form { IsInForm result }
@@ -31,7 +33,7 @@ pub fn document_of(alloc: Global, representation: Representation) -> Document
     }
 }
 
-/// The document of a chirotope with no more values than a document may hold; one of rank 3 never has more.
+/// The document of a chirotope with at most as many values as a document may hold; in rank 3 this is always so.
 pub fn map_document(alloc: Global, chirotope: Chirotope) -> Document
     requires { chirotope.rank ≢ 3 → choose chirotope.elements chirotope.rank ≤ MAX_VALUES }
     ensures form { IsInForm result }
@@ -42,7 +44,7 @@ pub fn map_document(alloc: Global, chirotope: Chirotope) -> Document
     narrow_map_document(alloc, chirotope)
 }
 
-/// The document of a chirotope of any rank with no more values than a document may hold.
+/// The document of a chirotope of any rank with at most as many values as a document may hold.
 fn narrow_map_document(alloc: Global, chirotope: Chirotope) -> Document
     requires { choose chirotope.elements chirotope.rank ≤ MAX_VALUES }
     ensures form { IsInForm result }

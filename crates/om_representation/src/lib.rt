@@ -1,12 +1,14 @@
 //! From a document to the oriented matroid that it gives, and back to a document.
 //!
-//! [`represent`] asks a document for the axioms of its kind and gives its [`Representation`], points and wirings by their
-//! chirotope; [`choose_chirotope`] gives the chirotope of one, and [`document_of`] its document.
+//! [`represent`] tests whether a document satisfies the axioms of its kind, and gives its [`Representation`]. Points
+//! and wirings are represented by their chirotope. [`choose_chirotope`] gives the chirotope of a representation,
+//! and [`document_of`] its document.
 //!
 //! Source of the notions: Björner, Las Vergnas, Sturmfels, White and Ziegler, *Oriented Matroids*, chapters 3, 4 and 6.
 #![tactic(auto)]
 
 mod chirotope_choice;
+mod document_refused;
 mod documents;
 mod point_vectors;
 mod representation;
@@ -15,6 +17,7 @@ mod unrepresented;
 mod wiring_maps;
 
 pub use chirotope_choice::choose_chirotope;
+pub use document_refused::DocumentRefused;
 pub use documents::{
     circuits_document, cocircuits_document, covectors_document, document_of, map_document,
 };

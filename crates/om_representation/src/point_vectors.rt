@@ -7,16 +7,18 @@ ghost use Rattle.om_vectors.specs.Realizations.{IsRankLow};
 ghost use Rattle.om_representation.specs.Points.{vector_of_point, vectors_of, points_map};
 ghost use Rattle.om_representation.specs.Axioms.{IsRefusal};
 
+use super::document_refused::DocumentRefused;
 use super::unrepresented::Unrepresented;
-use om_answer::Line;
 use om_chirotope::Chirotope;
 use om_signs::MAX_ELEMENTS;
 use om_vectors::{SignsError, Vector, Word, signs_of};
 use std::alloc::Global;
 
-/// The chirotope of the signs of the triple products of points, from one to [`MAX_ELEMENTS`] of them with coordinates as a
-/// document may hold them. Else [`Unrepresented::Refused`] where each product is zero. [`Unrepresented::Memory`] comes only
-/// where some product isn't, and memory is wanting for the signs.
+/// The chirotope of the signs of the triple products of points. There are from 1 to [`MAX_ELEMENTS`] points, with
+/// coordinates within the limits of documents.
+///
+/// [`Unrepresented::Refused`] comes if every triple product is zero. [`Unrepresented::Memory`] comes only if some
+/// product isn't, and memory for the signs runs out.
 pub fn chirotope_of_points(alloc: Global, points: &[[i64; 3]]) -> Result<Chirotope, Unrepresented>
     requires low { 1 ≤ length points.now }
     requires high { length points.now ≤ MAX_ELEMENTS }
@@ -28,7 +30,7 @@ pub fn chirotope_of_points(alloc: Global, points: &[[i64; 3]]) -> Result<Chiroto
     let word = word_of(points);
     match signs_of(alloc, word.as_slice()) {
         Ok(chirotope) => Ok(chirotope),
-        Err(SignsError::RankLow) => Err(Unrepresented::Refused(Line::RefusedRanklow)),
+        Err(SignsError::RankLow) => Err(Unrepresented::Refused(DocumentRefused::RankLow)),
         Err(SignsError::Memory) => Err(Unrepresented::Memory),
     }
 }

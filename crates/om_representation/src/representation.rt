@@ -8,27 +8,27 @@ ghost use Rattle.om_vectors.specs.Realizations.{IsRankLow};
 ghost use Rattle.om_wiring.specs.Maps.{IsFlat, wiring_map};
 ghost use Rattle.om_wiring.specs.Wirings.{IsWiring};
 ghost use Rattle.om_representation.specs.Points.{vectors_of, points_map};
-ghost use Rattle.om_representation.specs.Axioms.{MeetsAxioms, IsFlatDocument, IsRefusal, map_line, set_line, cov_line};
+ghost use Rattle.om_representation.specs.Axioms.{MeetsAxioms, IsFlatDocument, IsRefusal};
 ghost use Rattle.om_chirotope.specs.Map.{map_of};
 ghost use Rattle.om_chirotope.specs.Chirotope.{IsChirotope};
 ghost use Rattle.om_text.specs.Form.{IsMapOn};
 ghost use Rattle.om_representation.specs.Documents.{document_of, map_document, with_map, worked_on};
 
+use super::document_refused::DocumentRefused;
 use super::point_vectors::chirotope_of_points;
 use super::unrepresented::Unrepresented;
 use super::wiring_maps::chirotope_of_wiring;
-use om_answer::Line;
-use om_chirotope::{Chirotope, MapRefused};
-use om_circuits::{Circuits, Cocircuits, SetRefused};
+use om_chirotope::Chirotope;
+use om_circuits::{Circuits, Cocircuits};
 use om_convert::{ReadCovError, ReadSetError, read_circuits, read_cocircuits, read_covectors};
-use om_covectors::{CovRefused, Covectors};
+use om_covectors::Covectors;
 use om_signs::{Block, List, MAX_ELEMENTS, RawMap, SignVec};
 use om_text::{Body, Document};
 use std::alloc::Global;
 use std::thread::Threads;
 
-/// An oriented matroid, in the way in which a document gives it: points and wirings give their chirotope. The four ways are
-/// those of Björner, Las Vergnas, Sturmfels, White and Ziegler, *Oriented Matroids*, chapters 3 and 4.
+/// An oriented matroid, in one of four forms; points and wirings give their chirotope. The four forms are those of
+/// Björner, Las Vergnas, Sturmfels, White and Ziegler, *Oriented Matroids*, chapters 3 and 4.
 #[derive(Drop)]
 pub enum Representation {
     Chirotope(Chirotope),
@@ -52,12 +52,13 @@ impl Representation {
     }
 }
 
-/// The oriented matroid that a document in form gives, where it meets the axioms of its kind and isn't a flat wiring.
+/// The oriented matroid that a document in form gives, if it satisfies the axioms of its kind and isn't a flat wiring.
 ///
-/// Else [`Unrepresented::Refused`] where it fails the axioms, with the line that names the first violated instance, and
-/// [`Unrepresented::Flat`] where it is a flat wiring. [`Unrepresented::Memory`] comes only where points, or a wiring that
-/// isn't flat, meet their axioms, and memory is wanting for the signs of their chirotope: so a document that fails its axioms
-/// is refused for that, whatever memory there is, and a map or a list never wants any.
+/// [`Unrepresented::Refused`] comes if the document fails its axioms, with the line that names the first violated
+/// instance. [`Unrepresented::Flat`] comes if it is a flat wiring. [`Unrepresented::Memory`] comes only if points,
+/// or a wiring that isn't flat, meet their axioms, and memory for the signs of their chirotope runs out. So a
+/// document that fails its axioms is refused for that even if memory runs short, and a map or a list never ends
+/// with `Memory`.
 pub fn represent<R: Threads + Sync>(
     rt: &R,
     alloc: Global,
@@ -80,7 +81,7 @@ pub fn represent<R: Threads + Sync>(
     }
 }
 
-/// The oriented matroid of a wiring, by its chirotope, or why there is none.
+/// The oriented matroid of a wiring, through its chirotope, or why there is none.
 fn represent_wiring(
     alloc: Global,
     elements: u8,
@@ -98,7 +99,8 @@ fn represent_wiring(
     Ok(Representation::Chirotope(chirotope))
 }
 
-/// The oriented matroid of points, by the chirotope of the signs of their triple products, or why there is none.
+/// The oriented matroid of points, through the chirotope of the signs of their triple products, or why there is
+/// none.
 fn represent_points(alloc: Global, points: &[[i64; 3]]) -> Result<Representation, Unrepresented>
     requires low { 1 ≤ length points.now }
     requires high { length points.now ≤ MAX_ELEMENTS }
@@ -111,8 +113,8 @@ fn represent_points(alloc: Global, points: &[[i64; 3]]) -> Result<Representation
     Ok(Representation::Chirotope(chirotope))
 }
 
-/// The oriented matroid of a map, by its chirotope, or the line that refuses the map.
-// no part of its caller, so that the tables of its callees aren't on the stack while others run
+/// The oriented matroid of a map that is a chirotope, or the line that refuses the map.
+// never inlined, so that the tables of its callees aren't on the stack while other calls run
 #[inline(never)]
 fn represent_map<R: Threads + Sync>(rt: &R, raw: RawMap) -> Result<Representation, Unrepresented>
     requires low { 1 ≤ raw.elements }
@@ -124,21 +126,11 @@ fn represent_map<R: Threads + Sync>(rt: &R, raw: RawMap) -> Result<Representatio
 {
     match om_chirotope::check(rt, raw) {
         Ok(chirotope) => Ok(Representation::Chirotope(chirotope)),
-        Err(bad) => Err(Unrepresented::Refused(map_refusal(bad.why))),
+        Err(bad) => Err(Unrepresented::Refused(DocumentRefused::Map(bad.why))),
     }
 }
 
-/// The line that says why a map is no chirotope.
-fn map_refusal(why: MapRefused) -> Line
-    ensures { result ≡ map_line why }
-{
-    match why {
-        MapRefused::AllZero => Line::RefusedAllzero,
-        MapRefused::Relation { s, a } => Line::RefusedRelation { s, a },
-    }
-}
-
-/// The oriented matroid of a list of circuits, or the line that refuses the list.
+/// The oriented matroid of a list of circuits, or why they are none.
 // no part of its caller, so that the tables of its callees aren't on the stack while others run
 #[inline(never)]
 fn represent_circuits<R: Threads + Sync>(
@@ -156,14 +148,16 @@ fn represent_circuits<R: Threads + Sync>(
 {
     match read_circuits(rt, alloc, elements, list) {
         Ok(circuits) => Ok(Representation::Circuits(circuits)),
-        Err(ReadSetError::Bad(bad)) => Err(Unrepresented::Refused(set_refusal(bad.why))),
+        Err(ReadSetError::Bad(bad)) => Err(Unrepresented::Refused(DocumentRefused::Circuits(
+            bad.why,
+        ))),
         // a list is read whatever memory there is
         Err(ReadSetError::Memory(_)) => unreachable!(),
     }
 }
 
 /// The oriented matroid of a list of cocircuits, or the line that refuses the list.
-// no part of its caller, so that the tables of its callees aren't on the stack while others run
+// never inlined, so that the tables of its callees aren't on the stack while other calls run
 #[inline(never)]
 fn represent_cocircuits<R: Threads + Sync>(
     rt: &R,
@@ -180,25 +174,15 @@ fn represent_cocircuits<R: Threads + Sync>(
 {
     match read_cocircuits(rt, alloc, elements, list) {
         Ok(cocircuits) => Ok(Representation::Cocircuits(cocircuits)),
-        Err(ReadSetError::Bad(bad)) => Err(Unrepresented::Refused(set_refusal(bad.why))),
+        Err(ReadSetError::Bad(bad)) => Err(Unrepresented::Refused(DocumentRefused::Circuits(
+            bad.why,
+        ))),
         // a list is read whatever memory there is
         Err(ReadSetError::Memory(_)) => unreachable!(),
     }
 }
 
-/// The line that names a violated instance of the axioms of circuits.
-fn set_refusal(why: SetRefused) -> Line
-    ensures { result ≡ set_line why }
-{
-    match why {
-        SetRefused::Zero { i } => Line::RefusedZero { i },
-        SetRefused::NoNegative { i } => Line::RefusedNonegative { i },
-        SetRefused::Nested { i, j } => Line::RefusedNested { i, j },
-        SetRefused::NoElimination { i, j, e } => Line::RefusedNoelimination { i, j, e },
-    }
-}
-
-/// The oriented matroid of a list of covectors, or the line that refuses the list.
+/// The oriented matroid of a list of covectors, or why they are none.
 // no part of its caller, so that the tables of its callees aren't on the stack while others run
 #[inline(never)]
 fn represent_covectors<R: Threads + Sync>(
@@ -216,20 +200,10 @@ fn represent_covectors<R: Threads + Sync>(
 {
     match read_covectors(rt, alloc, elements, list) {
         Ok(covectors) => Ok(Representation::Covectors(covectors)),
-        Err(ReadCovError::Bad(bad)) => Err(Unrepresented::Refused(covector_refusal(bad.why))),
+        Err(ReadCovError::Bad(bad)) => Err(Unrepresented::Refused(DocumentRefused::Covectors(
+            bad.why,
+        ))),
         // a list is read whatever memory there is
         Err(ReadCovError::Memory(_)) => unreachable!(),
-    }
-}
-
-/// The line that names a violated instance of the axioms of covectors.
-fn covector_refusal(why: CovRefused) -> Line
-    ensures { result ≡ cov_line why }
-{
-    match why {
-        CovRefused::NoZero => Line::RefusedNozero,
-        CovRefused::NoNegative { i } => Line::RefusedNonegative { i },
-        CovRefused::NoComposition { i, j } => Line::RefusedNocomposition { i, j },
-        CovRefused::NoElimination { i, j, e } => Line::RefusedNoelimination { i, j, e },
     }
 }

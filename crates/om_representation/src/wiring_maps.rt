@@ -5,17 +5,17 @@ ghost use Rattle.om_text.specs.declared.body.Body.TheVariants as body;
 ghost use Rattle.om_text.specs.Form.{AreBlocks};
 ghost use Rattle.om_wiring.specs.Maps.{IsFlat, wiring_map};
 ghost use Rattle.om_wiring.specs.Wirings.{IsWiring};
-ghost use Rattle.om_representation.specs.Axioms.{IsRefusal, IsRefusedOn, wiring_line};
+ghost use Rattle.om_representation.specs.Axioms.{IsRefusal, IsRefusedOn};
 
+use super::document_refused::DocumentRefused;
 use super::unrepresented::Unrepresented;
-use om_answer::Line;
 use om_chirotope::Chirotope;
 use om_signs::{Block, List, MAX_ELEMENTS};
-use om_wiring::{FlatError, Wiring, WiringRefused, check, chirotope};
+use om_wiring::{FlatError, Wiring, check, chirotope};
 use std::alloc::Global;
 
-/// The chirotope of a wiring with these blocks, or why there is none. [`Unrepresented::Memory`] comes only where they are a
-/// wiring that isn't flat, and memory is wanting for the signs.
+/// The chirotope of a wiring with these blocks, or why there is none. [`Unrepresented::Memory`] comes only if the
+/// blocks are a wiring that isn't flat, and memory for the signs runs out.
 pub fn chirotope_of_wiring(
     alloc: Global,
     elements: u8,
@@ -35,7 +35,7 @@ pub fn chirotope_of_wiring(
     }
 }
 
-/// The chirotope of a wiring, where it isn't flat.
+/// The chirotope of a wiring, if it isn't flat.
 fn bent_chirotope(alloc: Global, wiring: &Wiring) -> Result<Chirotope, Unrepresented>
     requires { IsWiring wiring.now.elements wiring.now.blocks }
     ensures value { IfOk result (λ c. c ≡ wiring_map wiring.now.elements wiring.now.blocks) }
@@ -49,9 +49,9 @@ fn bent_chirotope(alloc: Global, wiring: &Wiring) -> Result<Chirotope, Unreprese
     }
 }
 
-/// The wiring with these blocks on this many elements, from one to [`MAX_ELEMENTS`], or the line that names the first step
-/// that breaks a rule, or says that the last order isn't the reverse of the first.
-pub fn wiring_of_blocks(elements: u8, blocks: List<Block>) -> Result<Wiring, Line>
+/// The wiring with these blocks on this many elements, from one to [`MAX_ELEMENTS`], or the first step that breaks a
+/// rule, or that the last order isn't the reverse of the first.
+pub fn wiring_of_blocks(elements: u8, blocks: List<Block>) -> Result<Wiring, DocumentRefused>
     requires low { 1 ≤ elements }
     requires high { elements ≤ MAX_ELEMENTS }
     requires blocks { AreBlocks blocks }
@@ -62,17 +62,6 @@ pub fn wiring_of_blocks(elements: u8, blocks: List<Block>) -> Result<Wiring, Lin
 {
     match check(elements, blocks) {
         Ok(wiring) => Ok(wiring),
-        Err(bad) => Err(wiring_refusal(bad.why)),
-    }
-}
-
-/// The line that says why blocks are no wiring diagram.
-fn wiring_refusal(why: WiringRefused) -> Line
-    ensures { result ≡ wiring_line why }
-{
-    match why {
-        WiringRefused::Range { step } => Line::RefusedRange { step },
-        WiringRefused::NotIncreasing { step } => Line::RefusedNotincreasing { step },
-        WiringRefused::NotReversed => Line::RefusedNotreversed,
+        Err(bad) => Err(DocumentRefused::Wiring(bad.why)),
     }
 }

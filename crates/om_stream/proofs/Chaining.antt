@@ -6,9 +6,9 @@ use Rattle.std.proofs.Common.{refl, sym, ap, ◌∙◌, append_assoc, append-nil
 use Rattle.std.proofs.lemmas.List.Concat.{flat_map-append}
 use Rattle.std.specs.Io.KnownBytes.{Appends}
 use Rattle.om_port.proofs.Known.{Appends-then}
-use Rattle.om_program.specs.declared.answer.Answer.{Answer}
-use Rattle.om_program.specs.declared.status.Status.{Status}
-use Rattle.om_program.specs.Answers.{text_of}
+use Rattle.om_reply.specs.declared.answer.Answer.{Answer}
+use Rattle.om_reply.specs.declared.status.Status.{Status}
+use Rattle.om_reply.specs.Answers.{text_of}
 use Rattle.om_stream.specs.Answered.{AreMeant, none, one_more, texts, AreAnswered, GoesOn, Stops, Breaks}
 use Rattle.om_stream.specs.Statuses.{greatest}
 

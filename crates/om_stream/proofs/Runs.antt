@@ -8,8 +8,8 @@ use Rattle.om_words.specs.declared.reads.Reads.TheVariants as kind
 use Rattle.om_words.specs.declared.task.Task.{Task}
 use Rattle.om_words.specs.Tasks.{reads}
 use Rattle.om_words.specs.Words.{Names}
-use Rattle.om_program.specs.declared.status.Status.{Status}
-use Rattle.om_program.specs.declared.status.Status.TheVariants as status
+use Rattle.om_reply.specs.declared.status.Status.{Status}
+use Rattle.om_reply.specs.declared.status.Status.TheVariants as status
 use Rattle.om_program.specs.Meaning.{TaskMeans}
 use Rattle.om_program.specs.Run.{AreReadingCommand}
 use Rattle.om_pieces.specs.Making.{made, nothing}

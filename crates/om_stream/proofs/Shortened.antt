@@ -12,9 +12,9 @@ use Rattle.om_words.specs.declared.reads.Reads.TheVariants as source
 use Rattle.om_words.specs.declared.task.Task.{Task}
 use Rattle.om_words.specs.Tasks.{reads}
 use Rattle.om_words.specs.Words.{Names}
-use Rattle.om_program.specs.declared.answer.Answer.{Answer}
-use Rattle.om_program.specs.declared.status.Status.{Status}
-use Rattle.om_program.specs.declared.status.Status.TheVariants as status
+use Rattle.om_reply.specs.declared.answer.Answer.{Answer}
+use Rattle.om_reply.specs.declared.status.Status.{Status}
+use Rattle.om_reply.specs.declared.status.Status.TheVariants as status
 use Rattle.om_program.specs.Meaning.{TaskMeans, long, faulty, read, faulty_claim, claimed, alone, Means, named}
 use Rattle.om_stream.specs.Answered.{AreMeant, none, one_more, AreAnswered, Stops, Breaks}
 use Rattle.om_stream.specs.Each.{IsEachAnswered, AreFirstWritten, IsNextCutOff}

@@ -9,13 +9,13 @@ use Rattle.std.specs.Io.KnownBytes.{Appends, Consumes, IsAtEnd, Keeps}
 use Rattle.std.proofs.lemmas.List.{drop_all}
 use Rattle.om_port.specs.Causes.{TakesSome}
 use Rattle.om_port.proofs.Known.{Consumes-then}
-use Rattle.om_program.specs.declared.answer.Answer.{Answer}
-use Rattle.om_program.specs.declared.status.Status.{Status}
-use Rattle.om_program.specs.declared.status.Status.TheVariants.{Done, Refused, Usage, Limit, ReadFault, WriteFault}
-use Rattle.om_program.specs.declared.status.Status.TheVariants.{NoMemory}
-use Rattle.om_program.specs.Answers.{status_of, text_of}
+use Rattle.om_reply.specs.declared.answer.Answer.{Answer}
+use Rattle.om_reply.specs.declared.status.Status.{Status}
+use Rattle.om_reply.specs.declared.status.Status.TheVariants.{Done, Refused, Usage, Limit, ReadFault, WriteFault}
+use Rattle.om_reply.specs.declared.status.Status.TheVariants.{NoMemory}
+use Rattle.om_reply.specs.Answers.{status_of, text_of}
 use Rattle.om_program.specs.Run.{IsFront}
-use Rattle.om_program.specs.Statuses.{code_of, IsAnswered, IsReplied}
+use Rattle.om_reply.specs.Statuses.{code_of, IsAnswered, IsReplied}
 use Rattle.om_pieces.specs.Making.{Making, fed, last_ended, rest_of, option_list, made}
 use Rattle.om_stream.specs.Answered.{none, one_more, AreAnswered, GoesOn, Stops, Breaks}
 use Rattle.om_stream.specs.Each.{TakesAll}

@@ -8,8 +8,8 @@ use Rattle.om_words.specs.Tasks.{reads}
 use Rattle.om_words.specs.Words.{Names, IsUsage}
 use Rattle.om_answer.specs.Texts.{line_text}
 use Rattle.om_answer.specs.declared.line.Line.TheVariants as line
-use Rattle.om_program.specs.declared.status.Status.{Status}
-use Rattle.om_program.specs.declared.status.Status.TheVariants as status
+use Rattle.om_reply.specs.declared.status.Status.{Status}
+use Rattle.om_reply.specs.declared.status.Status.TheVariants as status
 use Rattle.om_program.specs.Meaning.{Means}
 use Rattle.om_program.specs.Run.{IsFront}
 use Rattle.om_stream.specs.Answered.{AreAnswered, AreWritten, AreCutOff}
@@ -25,7 +25,8 @@ abbrev pub AreForPieces : List (List ℕ) → ℕ → Type 0
 AreForPieces words n =
     (task : Task) × (Names words task × ((reads task ≢ kind.Nothing) × (n ≡ wanted_ends (reads task))))
 
--- the first word at fault where the words aren't a command that reads; of one that reads nothing it is the first
+-- The word at fault, if the words aren't a command that reads. In a command that reads nothing it is the first
+-- word.
 pub data IsReadingUsage (words : List (List ℕ)) : ℕ → Type 0 where
   other : (k : ℕ) → IsUsage words k → IsReadingUsage words k
   unread : (task : Task) → Names words task → reads task ≡ kind.Nothing → IsReadingUsage words 1
@@ -41,7 +42,7 @@ AreFirstWritten words n bytes old new =
     (first : List (List ℕ)) × ((left : List (List ℕ)) ×
     (IsCut n bytes (first ++ left) × AreWritten (Means words) first old new))
 
--- they were written, and the text of the next one was begun and not finished
+-- the texts of the first pieces were written, each whole, and that of the next one was begun, but not finished
 abbrev pub IsNextCutOff : List (List ℕ) → ℕ → List ℕ → Option (List ℕ) → Option (List ℕ) → Type 0
 IsNextCutOff words n bytes old new =
     (first : List (List ℕ)) × ((piece : List ℕ) ×

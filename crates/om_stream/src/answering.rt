@@ -1,12 +1,12 @@
-//! Answering the pieces that are whole, one behind the other.
+//! Answers the complete pieces, one after the other.
 
 ghost use Rattle.std.specs.Prelude.{◌≡◌, ◌≢◌, ◌≤◌, ◌++◌, ◌∷◌, ℕ, List, [], IfOk, option_map};
 ghost use Rattle.om_port.specs.Causes.{Rose};
 ghost use Rattle.om_words.specs.Tasks.{HasLawfulArguments, reads};
-ghost use Rattle.om_program.specs.Answers.{IsReply};
+ghost use Rattle.om_reply.specs.Answers.{IsReply};
 ghost use Rattle.om_program.specs.Meaning.{TaskMeans};
 ghost use Rattle.om_program.specs.Run.{IsWhole, IsCutOff};
-ghost use Rattle.om_program.specs.Statuses.{IsAnswered, IsReplied};
+ghost use Rattle.om_reply.specs.Statuses.{IsAnswered, IsReplied};
 ghost use Rattle.om_pieces.specs.Making.{made, option_list};
 ghost use Rattle.om_stream.specs.Answered.{AreAnswered, GoesOn, Stops, Breaks};
 
@@ -20,7 +20,7 @@ use om_words::{Reads, Task};
 use std::alloc::Global;
 use std::thread::Threads;
 
-/// Answers the pieces that are whole with these bytes.
+/// Answers the pieces that these bytes complete.
 pub fn answer_bytes<R: Threads + Sync, K: Sink>(
     rt: &R,
     alloc: Global,
@@ -57,7 +57,7 @@ pub fn answer_bytes<R: Threads + Sync, K: Sink>(
     status
 }
 
-/// Answers the piece that is whole with this byte, where there is one.
+/// Answers the piece that this byte completes, if there is one.
 fn answer_byte<R: Threads + Sync, K: Sink>(
     rt: &R,
     alloc: Global,
@@ -90,7 +90,7 @@ fn answer_byte<R: Threads + Sync, K: Sink>(
     }
 }
 
-/// Answers the pieces that are whole with the end of the input.
+/// Answers the pieces that the end of the input completes.
 pub fn answer_end<R: Threads + Sync, K: Sink>(
     rt: &R,
     alloc: Global,
@@ -127,7 +127,7 @@ pub fn answer_end<R: Threads + Sync, K: Sink>(
     }
 }
 
-/// Answers the next piece, where there is one. The status is the greater of its own and the one before it.
+/// Answers the next piece, if there is one. The status is the greater of its own status and the one before it.
 fn answer_next<R: Threads + Sync, K: Sink>(
     rt: &R,
     alloc: Global,
@@ -162,7 +162,7 @@ fn answer_next<R: Threads + Sync, K: Sink>(
     }
 }
 
-/// Answers a piece, of which these are the first bytes.
+/// Answers a piece, given its first bytes.
 fn answer_piece<R: Threads + Sync, K: Sink>(
     rt: &R,
     alloc: Global,
@@ -190,7 +190,7 @@ fn answer_piece<R: Threads + Sync, K: Sink>(
     }
 }
 
-/// The answer to a piece, of which these are the first bytes.
+/// The answer to a piece, given its first bytes.
 fn find_answer<R: Threads + Sync>(
     rt: &R,
     alloc: Global,

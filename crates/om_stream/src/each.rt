@@ -6,7 +6,7 @@ ghost use Rattle.om_words.specs.Tasks.{HasLawfulArguments, reads};
 ghost use Rattle.om_words.specs.Words.{Names};
 ghost use Rattle.om_program.specs.Meaning.{TaskMeans};
 ghost use Rattle.om_program.specs.Run.{AreReadingCommand};
-ghost use Rattle.om_program.specs.Statuses.{IsAnswered};
+ghost use Rattle.om_reply.specs.Statuses.{IsAnswered};
 ghost use Rattle.om_pieces.specs.Making.{made, nothing};
 ghost use Rattle.om_pieces.specs.Pieces.{HasOneCut};
 ghost use Rattle.om_stream.specs.Answered.{AreAnswered, Stops, Breaks};
@@ -23,18 +23,19 @@ use om_words::{Reads, Task, Usage, command};
 use std::alloc::Global;
 use std::thread::Threads;
 
-/// The most bytes that are asked for at once.
+/// The greatest number of bytes that one call asks for.
 const CHUNK: usize = 16_384;
 
-/// Cuts the bytes of the source into pieces, answers each as `run` answers an input of these bytes, and writes the
-/// texts one behind the other, each as soon as its piece is there. The words are a command that reads.
+/// Cuts the bytes of the source into pieces, and answers each piece as `run` answers an input of these bytes. The
+/// texts are written one after the other, each as soon as its piece is complete. The words are a command that
+/// reads.
 ///
-/// The status is the greatest of the pieces' statuses by exit code. A fault and want of memory end the run at once. So
-/// do, with [`Status::NoMemory`], 2^64 - 1 readings, each of one byte at least: with a thousand million a second, 584
-/// years.
+/// The status is the greatest of the pieces' statuses by exit code. A fault or a lack of memory ends the run at
+/// once. So do 2^64 - 1 readings, with [`Status::NoMemory`]. Each has at least one byte, so even a thousand million
+/// a second would take 584 years.
 ///
-/// Source and sink are ready, as each of `om_port` always is. So no call is made after the end of the source or after a
-/// fault, and nothing empty is written.
+/// Source and sink have to be ready, as those of `om_port` always are. So no call is made after the end of the
+/// source or after a fault, and nothing empty is written.
 pub fn run_each<R: Threads + Sync, S: Source, K: Sink>(
     rt: &R,
     alloc: Global,
@@ -45,19 +46,20 @@ pub fn run_each<R: Threads + Sync, S: Source, K: Sink>(
     requires source_ready { S.ready source.old }
     requires sink_ready { K.ready sink.old }
 
-    // With the statuses 0, 1 and 3 the bytes taken by the sink are the texts of the pieces of the input in their order,
-    // each of them what the words and the piece mean, and the status is the greatest of theirs.
+    // With the statuses 0, 1 and 3, the bytes that the sink has taken are the texts of the pieces of the input in
+    // their order. Each text is what the words and the piece mean, and the status is the greatest of the pieces'
+    // statuses.
     ensures answer { (n : ℕ) → AreForPieces (map string_bytes words.now) n → IsAnswered result
         → IfSome (S.left source.old) (λ bytes.
         IsEachAnswered (map string_bytes words.now) n bytes result (K.taken sink.old) (K.taken sink.new)) }
 
-    // After a read fault and want of memory they are the texts of the first pieces, each whole.
+    // After a read fault or a lack of memory they are the texts of the first pieces, each whole.
     ensures fault { (n : ℕ) → AreForPieces (map string_bytes words.now) n
         → (result ≡ Status.ReadFault) ⊎ (result ≡ Status.NoMemory)
         → IfSome (S.left source.old) (λ bytes.
         AreFirstWritten (map string_bytes words.now) n bytes (K.taken sink.old) (K.taken sink.new)) }
 
-    // After a write fault they are the texts of the first pieces, each whole, and behind them a proper prefix of the
+    // After a write fault they are the texts of the first pieces, each whole, followed by a proper prefix of the
     // text of the next one.
     ensures cut { (n : ℕ) → AreForPieces (map string_bytes words.now) n → result ≡ Status.WriteFault
         → IfSome (S.left source.old) (λ bytes.
@@ -66,8 +68,8 @@ pub fn run_each<R: Threads + Sync, S: Source, K: Sink>(
     // Bytes have one cut into pieces.
     ensures one { (n : ℕ) (bytes : List ℕ) → 1 ≤ n → HasOneCut n bytes }
 
-    // Words that aren't a command that reads, and they alone, end with their usage, or with a write fault, and leave
-    // the source as it was.
+    // Exactly the words that aren't a command that reads end with their usage, or with a write fault, and leave the
+    // source as it was.
     ensures usage { (AreReadingCommand (map string_bytes words.now) → ⊥)
         → (result ≡ Status.Usage) ⊎ (result ≡ Status.WriteFault) }
     ensures usage_line { (AreReadingCommand (map string_bytes words.now) → ⊥) → result ≡ Status.Usage
@@ -85,7 +87,7 @@ pub fn run_each<R: Threads + Sync, S: Source, K: Sink>(
     ensures taken { IsAnswered result → AreReadingCommand (map string_bytes words.now)
         → TakesAll (S.left source.old) (S.left source.new) }
 
-    // The source has given a prefix of what it had left, and no count falls.
+    // The bytes given by the source are a prefix of what it had left, and no count falls.
     ensures prefix { TakesSome (S.left source.old) (S.left source.new) }
     ensures source_later { S.faults source.old ≤ S.faults source.new }
     ensures sink_later { K.faults sink.old ≤ K.faults sink.new }
@@ -96,7 +98,7 @@ pub fn run_each<R: Threads + Sync, S: Source, K: Sink>(
     }
 }
 
-/// The task of a command that reads. Of a command that reads nothing the first word is at fault.
+/// The task of a command that reads. If a command reads nothing, its first word is at fault.
 fn reading_command(words: &[String]) -> Result<Task, Usage>
     ensures task { IfOk result (λ task. Names (map string_bytes words.now) task × (reads task ≢ Reads.Nothing)) }
     ensures one { IfOk result (λ task. (other : Task) → Names (map string_bytes words.now) other → other ≡ task) }
@@ -168,6 +170,6 @@ fn answer_source<R: Threads + Sync, S: Source, K: Sink>(
             Err(_) => return Status::ReadFault,
         }
     }
-    // Not reached in any time: each turn takes a byte at least.
+    // Never reached in practice: each turn takes at least a byte.
     Status::NoMemory
 }

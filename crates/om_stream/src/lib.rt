@@ -1,4 +1,4 @@
-//! Many documents a run: an input is cut into pieces, and each is answered as an input of its own.
+//! Runs on many documents: an input is cut into pieces, and each is answered as an input of its own.
 #![tactic(auto)]
 
 mod answering;

@@ -1,7 +1,7 @@
-//! Which statuses go on, and which of two is reported.
+//! Which statuses let a run continue, and which of two is reported.
 
 ghost use Rattle.std.specs.Prelude.{◌≡◌, ◌⊎◌, ◌↔◌, max, IsTrue};
-ghost use Rattle.om_program.specs.Statuses.{IsAnswered, code_of};
+ghost use Rattle.om_reply.specs.Statuses.{IsAnswered, code_of};
 
 use om_program::Status;
 

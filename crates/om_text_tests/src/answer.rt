@@ -17,7 +17,7 @@ fn is_text(alloc: Global, line: &Line, text: &str) -> bool {
     is_made(print_line(alloc, line), text.as_bytes())
 }
 
-/// The subset of 1 to 9 of a mask.
+/// The subset of 1 to 9 with this mask.
 fn subset(mask: u32) -> Subset
     requires { mask < 512 }
 {
@@ -97,7 +97,7 @@ fn lines(rt: HostRuntime) {
     }
 }
 
-/// Puts a number, a space, a set, the signs of a vector and the end of the line at the end.
+/// Appends a number, a space, a set, the signs of a vector and the end of the line.
 fn push_pieces(text: &mut Vec<u8>) -> Result<(), NoMemory> {
     push_decimal(text, 4)?;
     push(text, b" ")?;

@@ -35,7 +35,7 @@ fn is_mask(found: Option<Subset>, mask: u32) -> bool {
     }
 }
 
-/// Whether there is a chirotope, and the first triple to which it gives a sign has this mask.
+/// Whether there is a chirotope, and the first triple on which it is nonzero has this mask.
 fn is_first(chi: Result<Chirotope, SampleError>, sign: Sign, mask: u32) -> bool
     requires { IfOk chi (λ c. c.rank ≡ 3) }
 {
@@ -45,7 +45,7 @@ fn is_first(chi: Result<Chirotope, SampleError>, sign: Sign, mask: u32) -> bool
     }
 }
 
-/// The signs of 123, 134 and 234, which are the first of their signs.
+/// The signs of 123, 134 and 234, each the first with its sign.
 const FIRST: [(Sign, u32); 3] = [
     (Sign::Plus, 0b0111),
     (Sign::Zero, 0b1101),

@@ -1,4 +1,4 @@
-//! Claims that are read, printed and read again, and callers of rank 3. No proof stands beside these callers.
+//! Claims that are read, printed and read again, and callers of rank 3. These callers have no proofs.
 
 ghost use Rattle.std.specs.Prelude.{◌≡◌, ◌≤◌, length};
 ghost use Rattle.om_signs.specs.declared.limits.TheConstants.{MAX_READ};
@@ -18,7 +18,7 @@ use om_vectors::Unfound;
 use std::alloc::Global;
 use std::thread::Threads;
 
-/// Whether a map meets the axioms, and the claim of this verdict on it has this text.
+/// Whether a map satisfies the axioms, and the claim of this verdict on it has this text.
 fn is_text_on_map<R: Threads + Sync>(
     rt: &R,
     alloc: Global,
@@ -76,7 +76,7 @@ fn claims_are_copied(rt: HostRuntime) {
     assert!(rt; is_printed_as(&rt, alloc, spaced, text));
 }
 
-/// The text of a claim on a chirotope of rank 3, which a tableau that ended at a width leaves open.
+/// The text of a claim on a chirotope of rank 3, left undecided by a tableau that ended at a width.
 fn open_claim(alloc: Global, chi: &Chirotope) -> Result<Vec<u8>, NoMemory>
     requires { chi.now.rank ≡ 3 }
 {

@@ -40,7 +40,8 @@ fn claim_with_a_basis(rt: HostRuntime) {
     assert!(rt; is_limit_of_wiring(&read_claim(rt.alloc(), text)));
 }
 
-/// Whether there is a chirotope, and the verdict on it that a tableau ended at a width of this stage is printed as this text.
+/// Whether there is a chirotope, and the verdict on it by a tableau that ended at a width of this stage is printed
+/// as this text.
 fn is_printed(alloc: Global, chi: Result<Chirotope, SampleError>, stage: Stage, text: &str) -> bool
     requires rank { IfOk chi (λ c. c.rank ≡ 1) }
     requires elements { IfOk chi (λ c. c.elements ≡ 1) }
@@ -60,7 +61,7 @@ fn is_printed(alloc: Global, chi: Result<Chirotope, SampleError>, stage: Stage, 
     }
 }
 
-/// The text of the verdict on one element that a tableau ended at a width of each stage.
+/// The text of the verdict on one element by a tableau that ended at a width of each stage.
 const WIDTHS: [(Stage, &str); 4] = [
     (
         Stage::Price,

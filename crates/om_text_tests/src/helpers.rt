@@ -1,4 +1,4 @@
-//! What several tests ask of an answer.
+//! Checks that several tests make of a result.
 
 use om_signs::NoMemory;
 

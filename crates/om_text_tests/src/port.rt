@@ -1,5 +1,5 @@
-//! Failures at each call and at each byte, against what a reader or a writer by hand would get. Readers of std, and writers that take
-//! all or fail, are tested by the rows, which read and write through them.
+//! Failures at each call and at each byte, against the results expected of a reader or a writer. Readers of std,
+//! and writers that take all or fail, are tested by the rows, which read and write through them.
 
 use om_port::{
     CountSink, MemSink, MemSource, ReadError, Source, StdSink, SureSource, WriteFault, read_all,
@@ -16,8 +16,8 @@ const FAULT: Result<usize, ReadError> = Err(ReadError::ReadFault);
 
 const LONG: Result<usize, ReadError> = Err(ReadError::TooLong);
 
-/// Readings of the text in pieces of two: the call that fails, the limit, and what a first and a second reading give: the last so many
-/// bytes of the text, or why there are none.
+/// Readings of the text in pieces of two: the call that fails, the limit, and the results of a first and a second
+/// reading. A result is a number of last bytes of the text, or why there are none.
 const READINGS: [(
     u32,
     usize,
@@ -38,8 +38,8 @@ const READINGS: [(
     (100, 0, LONG, LONG),
 ];
 
-/// Writings of the text: the room, the greatest piece, the call that fails, and how many bytes are written. Where these aren't all, the
-/// writing fails.
+/// Writings of the text: the room, the greatest piece, the call that fails, and how many bytes are written. If
+/// these aren't all, the writing fails.
 const WRITINGS: [(usize, usize, u32, usize); 10] = [
     // they fail at each call in turn
     (10, 2, 1, 0),
@@ -55,22 +55,22 @@ const WRITINGS: [(usize, usize, u32, usize); 10] = [
     (5, 10, 100, 5),
 ];
 
-/// The list of one number. For want of memory it is empty, and then no call fails.
+/// The list of one number. If memory runs out it is empty, and then no call fails.
 fn only(alloc: Global, call: u32) -> List<u32> {
     let mut failing = List::new(alloc);
     let _pushed = failing.push(call);
     failing
 }
 
-/// The bytes of the text. For want of memory there are none.
+/// The bytes of the text. If memory runs out there are none.
 fn text(alloc: Global) -> Vec<u8> {
     let mut bytes = Vec::new(alloc);
     let _extended = bytes.extend_from_slice(TEXT);
     bytes
 }
 
-/// What was read, as the number of the last bytes of the text that it is. Other bytes are answered as want of memory, which no test asks
-/// for.
+/// What was read, as a number of last bytes of the text. Other bytes count as running out of memory, which no test
+/// expects.
 fn read(found: Result<Vec<u8>, ReadError>) -> Result<usize, ReadError> {
     match &found {
         Ok(bytes) if TEXT.ends_with(bytes.as_slice()) => Ok(bytes.len()),
@@ -79,7 +79,7 @@ fn read(found: Result<Vec<u8>, ReadError>) -> Result<usize, ReadError> {
     }
 }
 
-/// What a source that is always ready gives up to its end or the limit, and what it gives then.
+/// The bytes that a source that is always ready gives up to its end or the limit, and what it gives then.
 fn gives<S: Source>(alloc: Global, source: &mut S, limit: usize) -> [Result<usize, ReadError>; 2]
     requires { (any : _) → S.ready any }
 {
@@ -97,7 +97,8 @@ fn readings(rt: HostRuntime) {
     }
 }
 
-/// How many bytes of the text a sink takes, and tells where these aren't all, if it has these alone then.
+/// How many bytes of the text a sink takes, and whether it reports that these aren't all, if it holds only these
+/// then.
 fn written_to(sink: &mut MemSink) -> Option<usize> {
     let written = match write_all(sink, TEXT) {
         Ok(()) => TEXT.len(),
@@ -110,7 +111,7 @@ fn written_to(sink: &mut MemSink) -> Option<usize> {
     }
 }
 
-/// The same of an owned sink, where there is one.
+/// The same for an owned sink, if there is one.
 fn taken(sink: Result<MemSink, NoMemory>) -> Option<usize> {
     match sink {
         Ok(mut sink) => written_to(&mut sink),
@@ -136,7 +137,7 @@ fn sources_and_sinks_that_never_fail(rt: HostRuntime) {
     assert!(rt; gives(alloc, &mut SureSource::new(text(alloc)), 5) == [Ok(5), Ok(0)]);
 }
 
-// the room is full behind three bytes, and the writer takes nothing then
+// the room is full after three bytes, and the writer then takes nothing
 #[test]
 fn writer_that_takes_nothing(rt: HostRuntime) {
     let mut room = [0u8; 3];

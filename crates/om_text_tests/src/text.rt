@@ -10,8 +10,8 @@ use om_text::words::{plain_number, signed_number, unsigned_number};
 use om_text::{Body, Document, Name, ParseError, parse, parse_part, print, print_two};
 use std::alloc::Global;
 
-/// Documents that fail the axioms of their kinds, or are printed by no command in version 1: their canonical forms, and the
-/// numbers of bytes and of lines up to the line `end`.
+/// Documents that violate the axioms of their kinds, or that no command prints in version 1. With their canonical
+/// forms, and the numbers of bytes and of lines up to the line `end`.
 const FORMS: [(&str, &str, usize, u32); 16] = [
     // a line has at most 64 of the 66 values
     (
@@ -81,7 +81,7 @@ const FORMS: [(&str, &str, usize, u32); 16] = [
         31,
         5,
     ),
-    // what stands behind the line `end` is not read
+    // what comes after the line `end` is not read
     (
         "om 1\npoints 1\n1 0 0\nend\n",
         "om 1\npoints 1\n1 0 0\nend\n",
@@ -114,7 +114,7 @@ const FORMS: [(&str, &str, usize, u32); 16] = [
     ),
 ];
 
-/// Whether the document at the front has this canonical form, so many bytes and so many lines.
+/// Whether the document at the front has this canonical form, and this many bytes and lines.
 fn is_read(alloc: Global, bytes: &[u8], form: &str, len: usize, lines: u32) -> bool
     requires { length bytes.now ≤ MAX_READ }
 {
@@ -193,7 +193,7 @@ fn numbers_up_to_a_limit(rt: HostRuntime) {
     assert!(rt; unsigned == [Some(MAX_MULTIPLICITY), None] && signed == [Some(-MAX_WEIGHT), None]);
 }
 
-/// Whether there are two words, and these are they.
+/// Whether there are two words, and they are these.
 fn has_words(text: &[u8], first: &[u8], second: &[u8]) -> bool {
     match first_word(text) {
         Some((word, rest)) => same(word, first) && is_only_word(rest, second),

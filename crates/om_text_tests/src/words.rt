@@ -30,7 +30,7 @@ const FAULTS: [(&str, u32); 20] = [
     ("make 1 --count=2", 3),
 ];
 
-/// Words of commands, and what these read.
+/// Words of commands, and the inputs that these read.
 const TASKS: [(&str, Reads); 19] = [
     ("accept", Reads::Document),
     ("member +-0", Reads::Document),
@@ -53,7 +53,7 @@ const TASKS: [(&str, Reads); 19] = [
     ("make 7", Reads::Nothing),
 ];
 
-/// Puts the words of a line, which has a space between two, behind some words.
+/// Appends the words of a line, which are separated by single spaces, to other words.
 fn push_words(alloc: Global, words: &mut Vec<String>, line: &str) -> Result<(), AllocError> {
     for word in line.split(' ') {
         words.push(String::from_str(alloc, word)?)?;
@@ -61,7 +61,7 @@ fn push_words(alloc: Global, words: &mut Vec<String>, line: &str) -> Result<(), 
     Ok(())
 }
 
-/// The task that the words of a line name, or the word at fault, which is 0 for want of memory.
+/// The task that the words of a line name, or the word at fault, which is 0 if memory runs out.
 fn read(alloc: Global, line: &str) -> Result<Task, Usage> {
     let mut words = Vec::new(alloc);
     match push_words(alloc, &mut words, line) {
@@ -98,7 +98,8 @@ fn what_tasks_read(rt: HostRuntime) {
     }
 }
 
-/// Whether there are three colours, the last of them black, and the element 2; the places behind the last colour are white.
+/// Whether there are three colours, the last of them black, and the element 2; the places after the last colour are
+/// white.
 fn is_painted(given: Colouring) -> bool {
     given.count == 3
         && given.e == 2
@@ -131,7 +132,7 @@ fn line_of(task: Task) -> &'static str {
     }
 }
 
-/// Words of commands with arguments, or with what there is without them.
+/// Words of commands with arguments, or with the defaults.
 const ARGUMENTS: [&str; 9] = [
     "delete 20",
     "convert cocircuits",

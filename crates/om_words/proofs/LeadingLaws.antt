@@ -1,8 +1,9 @@
 -- The elements with signs that words list.
 --
--- Main results: different elements are no more than there are (few_entries); those that words list are different, lie within the limit, and no sign
--- is zero (lawful_leading).
-use Rattle.std.specs.Prelude.{ℕ, ◌≡◌, ◌≢◌, ◌<◌, ◌≤◌, ◌+◌, ◌||◌, Bool, true, false, cond, nat_eq, nat_lt, not, List, [], ◌∷◌, ◌++◌, length, take, Option, Some, None, refl}
+-- Main results: different elements are no more than there are (few_entries); those that words list are different, lie
+-- within the limit, and no sign is zero (lawful_leading).
+use Rattle.std.specs.Prelude.{ℕ, ◌≡◌, ◌≢◌, ◌<◌, ◌≤◌, ◌+◌, ◌||◌, Bool, true, false, cond, nat_eq, nat_lt, not, List, []}
+use Rattle.std.specs.Prelude.{◌∷◌, ◌++◌, length, take, Option, Some, None, refl}
 use Rattle.std.specs.List.{list_any, filter_map, IsDistinct, AllByRecursion}
 use Rattle.std.proofs.Common.{get_or, eqb, suc, arith, ap, subst, sym, ◌∙◌, inl, inr, append_assoc, append-nil}
 use Rattle.std.proofs.lemmas.Bool.{false≢true, both_ways, and_parts, cases_eq, eq-eqb, ne_eqb}
@@ -29,23 +30,29 @@ apart_from : (e : ℕ) (list : List Signed) → IsUnlisted e list → AllByRecur
 apart_from e [] apart = tt
 apart_from e (x ∷ xs) apart = (ne_eqb e x.element (λ same. apart.0 (sym same)), apart_from e xs apart.1)
 
-apart_from_zero : (n : ℕ) (list : List Signed) → AreEntries n list → AllByRecursion (λ y. eqb 0 y ≡ false) (elements_of list)
+apart_from_zero : (n : ℕ) (list : List Signed) → AreEntries n list
+    → AllByRecursion (λ y. eqb 0 y ≡ false) (elements_of list)
 apart_from_zero n [] entries = tt
-apart_from_zero n (x ∷ xs) entries = let low = entries.0 in (ne_eqb 0 x.element (λ same. omega (arith, low, same)), apart_from_zero n xs entries.2)
+apart_from_zero n (x ∷ xs) entries = let low = entries.0 in
+    (ne_eqb 0 x.element (λ same. omega (arith, low, same)), apart_from_zero n xs entries.2)
 
 distinct_elements : (list : List Signed) → AreDifferent list → IsDistinct eqb (elements_of list)
 unfolding IsDistinct
 distinct_elements [] different = tt
-distinct_elements (x ∷ xs) different = IsDistinct-cons eqb x.element (elements_of xs) (apart_from x.element xs different.0) (distinct_elements xs different.1)
+distinct_elements (x ∷ xs) different =
+    IsDistinct-cons eqb x.element (elements_of xs) (apart_from x.element xs different.0)
+    (distinct_elements xs different.1)
 
-entries_below : (n : ℕ) (list : List Signed) → AreEntries n list → (q : ℕ) → list_any (eqb q) (elements_of list) ≡ true → q < n + 1
+entries_below : (n : ℕ) (list : List Signed) → AreEntries n list → (q : ℕ) → list_any (eqb q) (elements_of list) ≡ true
+    → q < n + 1
 entries_below n [] entries q among = absurd (false≢true among)
 entries_below n (x ∷ xs) entries q among = elim (cases_eq q x.element) [
   | inl same ↦ let high = entries.1 in omega (arith, high, same)
   | inr other ↦ entries_below n xs entries.2 q (rw (ne_eqb q x.element other) at among)
 ]
 
-zero_below : (n : ℕ) (list : List Signed) → AreEntries n list → (q : ℕ) → list_any (eqb q) (0 ∷ elements_of list) ≡ true → q < n + 1
+zero_below : (n : ℕ) (list : List Signed) → AreEntries n list → (q : ℕ) → list_any (eqb q) (0 ∷ elements_of list) ≡ true
+    → q < n + 1
 zero_below n list entries q among = elim (cases_eq q 0) [
   | inl same ↦ omega (arith, same)
   | inr other ↦ entries_below n list entries q (rw (ne_eqb q 0 other) at among)
@@ -53,7 +60,10 @@ zero_below n list entries q among = elim (cases_eq q 0) [
 
 pub few_entries : (n : ℕ) (list : List Signed) → AreEntries n list → AreDifferent list → length list ≤ n
 few_entries n list entries different =
-    let all : length (0 ∷ elements_of list) ≤ n + 1 = length-le_from_distinct_below (0 ∷ elements_of list) (n + 1) (IsDistinct-cons eqb 0 (elements_of list) (apart_from_zero n list entries) (distinct_elements list different)) (zero_below n list entries) in
+    let all : length (0 ∷ elements_of list) ≤ n + 1 =
+    length-le_from_distinct_below (0 ∷ elements_of list) (n + 1)
+    (IsDistinct-cons eqb 0 (elements_of list) (apart_from_zero n list entries) (distinct_elements list different))
+    (zero_below n list entries) in
     let size : length (elements_of list) ≡ length list = length-map list (λ (x : Signed). x.element) in
     omega (arith, all, size)
 
@@ -65,7 +75,8 @@ record IsListed (x : Signed) : Type 0 where
   high : x.element ≤ MAX_ELEMENTS
   signed : x.sign ≢ Zero
 
-listed_by : (s : Sign) (digits : List ℕ) (x : Signed) → s ≢ Zero → with_sign s (number_within 1 MAX_ELEMENTS digits) ≡ Some x → IsListed x
+listed_by : (s : Sign) (digits : List ℕ) (x : Signed) → s ≢ Zero
+    → with_sign s (number_within 1 MAX_ELEMENTS digits) ≡ Some x → IsListed x
 listed_by s digits x nonzero is = by_number (number_within 1 MAX_ELEMENTS digits) refl is
   where
     by_number : (o : Option ℕ) → number_within 1 MAX_ELEMENTS digits ≡ o → with_sign s o ≡ Some x → IsListed x
@@ -84,7 +95,8 @@ listed_of : (word : List ℕ) (x : Signed) → signed_of word ≡ Some x → IsL
 listed_of [] x is = cc
 listed_of (b ∷ digits) x is = by_sign (nat_eq b 43) (nat_eq b 45) is
   where
-    by_sign : (p m : Bool) → cond p (with_sign Plus (number_within 1 MAX_ELEMENTS digits)) (cond m (with_sign Minus (number_within 1 MAX_ELEMENTS digits)) None) ≡ Some x → IsListed x
+    by_sign : (p m : Bool) → cond p (with_sign Plus (number_within 1 MAX_ELEMENTS digits))
+        (cond m (with_sign Minus (number_within 1 MAX_ELEMENTS digits)) None) ≡ Some x → IsListed x
     by_sign true m made = listed_by Plus digits x plus_nonzero made
     by_sign false true made = listed_by Minus digits x minus_nonzero made
     by_sign false false made = cc
@@ -96,7 +108,9 @@ record IsNext (before : List (List ℕ)) (word : List ℕ) : Type 0 where
   new : is_among value.element before ≡ false
 
 next_of : (before : List (List ℕ)) (word : List ℕ) → is_leading before word ≡ true → IsNext before word
-next_of before word leads = by_value (signed_of word) refl (and_parts (nat_lt (length before) MAX_LISTED) (is_new before (signed_of word)) leads).1
+next_of before word leads =
+    by_value (signed_of word) refl
+    (and_parts (nat_lt (length before) MAX_LISTED) (is_new before (signed_of word)) leads).1
   where
     turned : (b : Bool) → not b ≡ true → b ≡ false
     turned true h = absurd (false≢true h)
@@ -122,19 +136,30 @@ or_true : (b : Bool) → (b || true) ≡ true
 or_true true = refl
 or_true false = refl
 
-among_last : (before : List (List ℕ)) (word : List ℕ) (x : Signed) → signed_of word ≡ Some x → is_among x.element (before ++ word ∷ []) ≡ true
-among_last before word x is = rw (list_any-append (λ w. has_element x.element (signed_of w)) before (word ∷ []), is, eq-eqb x.element x.element refl) (or_true (is_among x.element before))
+among_last : (before : List (List ℕ)) (word : List ℕ) (x : Signed) → signed_of word ≡ Some x
+    → is_among x.element (before ++ word ∷ []) ≡ true
+among_last before word x is =
+    rw (
+      list_any-append (λ w. has_element x.element (signed_of w)) before (word ∷ []),
+      is,
+      eq-eqb x.element x.element refl,
+    ) (or_true (is_among x.element before))
 
-listed_words : (before words : List (List ℕ)) → ((i : ℕ) → i < length words → is_leading (before ++ take i words) (get_or words i []) ≡ true) → AreListed before words
+listed_words : (before words : List (List ℕ))
+    → ((i : ℕ) → i < length words → is_leading (before ++ take i words) (get_or words i []) ≡ true)
+    → AreListed before words
 listed_words before [] each = record { count = refl; entries = tt; different = tt; signed = tt; apart = λ e among. tt }
 listed_words before (w ∷ ws) each =
     let first : is_leading before w ≡ true = rw (append-nil before) at (each 0 (omega arith)) in
     let next = next_of before w first in
-    let rest = listed_words (before ++ w ∷ []) ws (λ i l. rw (append_assoc before (w ∷ []) (take i ws)) (each (suc i) (omega (arith, l)))) in
+    let rest =
+    listed_words (before ++ w ∷ []) ws
+    (λ i l. rw (append_assoc before (w ∷ []) (take i ws)) (each (suc i) (omega (arith, l)))) in
     let head = listed_of w next.value next.is in
     more next.value next.is next.new head rest
   where
-    more : (x : Signed) → signed_of w ≡ Some x → is_among x.element before ≡ false → IsListed x → AreListed (before ++ w ∷ []) ws → AreListed before (w ∷ ws)
+    more : (x : Signed) → signed_of w ≡ Some x → is_among x.element before ≡ false → IsListed x
+        → AreListed (before ++ w ∷ []) ws → AreListed before (w ∷ ws)
     more x is new head rest =
         let same : filter_map signed_of (w ∷ ws) ≡ x ∷ filter_map signed_of ws = rw is refl in
         record {
@@ -142,7 +167,11 @@ listed_words before (w ∷ ws) each =
           entries = rw same (head.low, head.high, rest.entries);
           different = rw same (rest.apart x.element (among_last before w x is), rest.different);
           signed = rw same (head.signed, rest.signed);
-          apart = λ e among. rw same ((λ one. both_ways (is_among x.element before) new (subst (λ k. is_among k before ≡ true) (sym one) among)), rest.apart e (among_front e before (w ∷ []) among));
+          apart = λ e among. rw same (
+            (λ one. both_ways (is_among x.element before) new
+                (subst (λ k. is_among k before ≡ true) (sym one) among)),
+            rest.apart e (among_front e before (w ∷ []) among),
+          );
         }
 
 pub lawful_leading : (words : List (List ℕ)) (leading : Leading) → AreLeading words leading → AreLawful leading

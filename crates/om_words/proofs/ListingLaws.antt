@@ -2,10 +2,13 @@
 --
 -- Main results: a list that is filled in order (filled_none, filled_more, filled_all); the colours of a word
 -- (colours_read); what colours and an element are read as (colouring_read, ..).
-use Rattle.std.specs.Prelude.{ℕ, ◌≡◌, ◌<◌, ◌≤◌, ◌+◌, ◌-◌, ◌↔◌, ◌==◌, Bool, true, false, List, [], ◌∷◌, ◌++◌, length, map, replicate, Option, Some, None, is_some, Result, Ok, Err, IfErr, IsErrAnd, codes, refl}
+use Rattle.std.specs.Prelude.{ℕ, ◌≡◌, ◌<◌, ◌≤◌, ◌+◌, ◌-◌, ◌↔◌, ◌==◌, Bool, true, false, List, [], ◌∷◌, ◌++◌, length}
+use Rattle.std.specs.Prelude.{map, replicate, Option, Some, None, is_some, Result, Ok, Err, IfErr, IsErrAnd, codes}
+use Rattle.std.specs.Prelude.{refl}
 use Rattle.std.specs.List.{list_all, filter_map}
 use Rattle.std.specs.Fmt.{decimal}
-use Rattle.std.proofs.Common.{get_or, take, set, zero, suc, arith, ap, subst, sym, ◌∙◌, append_assoc, append-nil, lit≤, below_more}
+use Rattle.std.proofs.Common.{get_or, take, set, zero, suc, arith, ap, subst, sym, ◌∙◌, append_assoc, append-nil, lit≤}
+use Rattle.std.proofs.Common.{below_more}
 use Rattle.std.proofs.lemmas.Bool.{false≢true, eqb-true, le-leb, and_from}
 use Rattle.std.proofs.lemmas.List.{take_more, take_all, set_at, length_push}
 use Rattle.std.proofs.lemmas.List.Elements.{filter_map-append}
@@ -37,20 +40,27 @@ pub record AreFilled {X A : Type 0} (h : X → Option A) (filler : A) (xs : List
   pub list : made ≡ padded filler (filter_map h (take k xs))
   pub few : k ≤ MAX_LISTED
 
-pub filled_none : {X A : Type 0} (h : X → Option A) (filler : A) (xs : List X) → AreFilled h filler xs 0 (replicate MAX_LISTED filler)
+pub filled_none : {X A : Type 0} (h : X → Option A) (filler : A) (xs : List X)
+    → AreFilled h filler xs 0 (replicate MAX_LISTED filler)
 filled_none h filler xs = record { count = refl; list = refl; few = omega arith }
 
-values_more : {X A : Type 0} (h : X → Option A) (xs : List X) (k : ℕ) (x d : X) (a : A) → k < length xs → get_or xs k d ≡ x → h x ≡ Some a → filter_map h (take (k + 1) xs) ≡ filter_map h (take k xs) ++ a ∷ []
-values_more h xs k x d a l is value = rw (take_more xs k d l, filter_map-append h (take k xs) (get_or xs k d ∷ []), is, value) refl
+values_more : {X A : Type 0} (h : X → Option A) (xs : List X) (k : ℕ) (x d : X) (a : A) → k < length xs
+    → get_or xs k d ≡ x → h x ≡ Some a → filter_map h (take (k + 1) xs) ≡ filter_map h (take k xs) ++ a ∷ []
+values_more h xs k x d a l is value =
+    rw (take_more xs k d l, filter_map-append h (take k xs) (get_or xs k d ∷ []), is, value) refl
 
-padded_more : {A : Type 0} (filler : A) (values : List A) (k : ℕ) (a : A) → length values ≡ k → k < MAX_LISTED → set (padded filler values) k a ≡ padded filler (values ++ a ∷ [])
+padded_more : {A : Type 0} (filler : A) (values : List A) (k : ℕ) (a : A) → length values ≡ k → k < MAX_LISTED
+    → set (padded filler values) k a ≡ padded filler (values ++ a ∷ [])
 padded_more filler values k a count room =
     let rest : List _ = replicate (MAX_LISTED - (k + 1)) filler in
     let less : MAX_LISTED - length values ≡ suc (MAX_LISTED - (k + 1)) = omega (arith, count, room) in
-    let same : MAX_LISTED - length (values ++ a ∷ []) ≡ MAX_LISTED - (k + 1) = let p = length_push values a in omega (arith, p, count) in
+    let same : MAX_LISTED - length (values ++ a ∷ []) ≡ MAX_LISTED - (k + 1) = let p = length_push values a in
+    omega (arith, p, count) in
     rw (less, same) (set_at values filler rest a k count ∙ sym (append_assoc values (a ∷ []) rest))
 
-pub filled_more : {X A : Type 0} (h : X → Option A) (filler : A) (xs : List X) (k : ℕ) (list : List A) (x d : X) (a : A) → AreFilled h filler xs k list → k < length xs → k < MAX_LISTED → get_or xs k d ≡ x → h x ≡ Some a → AreFilled h filler xs (k + 1) (set list k a)
+pub filled_more : {X A : Type 0} (h : X → Option A) (filler : A) (xs : List X) (k : ℕ) (list : List A) (x d : X) (a : A)
+    → AreFilled h filler xs k list → k < length xs → k < MAX_LISTED → get_or xs k d ≡ x → h x ≡ Some a
+    → AreFilled h filler xs (k + 1) (set list k a)
 filled_more h filler xs k list x d a filled l room is value =
     let more = values_more h xs k x d a l is value in
     record {
@@ -59,7 +69,8 @@ filled_more h filler xs k list x d a filled l room is value =
       few = omega (arith, room);
     }
 
-pub filled_all : {X A : Type 0} (h : X → Option A) (filler : A) (xs : List X) (k : ℕ) (list : List A) → AreFilled h filler xs k list → length xs ≤ k → list ≡ padded filler (filter_map h xs)
+pub filled_all : {X A : Type 0} (h : X → Option A) (filler : A) (xs : List X) (k : ℕ) (list : List A)
+    → AreFilled h filler xs k list → length xs ≤ k → list ≡ padded filler (filter_map h xs)
 filled_all h filler xs k list filled l = filled.list ∙ ap (λ ys. padded filler (filter_map h ys)) (take_all k xs l)
 
 -- ---- the colours of a word
@@ -72,19 +83,25 @@ pub record AreLetters (word : List ℕ) (k : ℕ) (colours : List Colour) : Type
 pub letters_none : (word : List ℕ) → AreLetters word 0 (replicate MAX_LISTED White)
 letters_none word = record { filled = filled_none colour_of White word; letters = λ j l. absurd (omega (arith, l)) }
 
-pub letters_more : (word : List ℕ) (k b : ℕ) (colours : List Colour) (a : Colour) → AreLetters word k colours → k < length word → length word ≤ MAX_LISTED → get_or word k 0 ≡ b → colour_of b ≡ Some a → AreLetters word (k + 1) (set colours k a)
+pub letters_more : (word : List ℕ) (k b : ℕ) (colours : List Colour) (a : Colour) → AreLetters word k colours
+    → k < length word → length word ≤ MAX_LISTED → get_or word k 0 ≡ b → colour_of b ≡ Some a
+    → AreLetters word (k + 1) (set colours k a)
 letters_more word k b colours a passed l few is value = record {
   filled = filled_more colour_of White word k colours b 0 a passed.filled l (omega (arith, l, few)) is value;
   letters = below_more (λ j. is_some (colour_of (get_or word j 0)) ≡ true) k passed.letters (rw (is, value) refl);
 }
 
-all_letters : (p : ℕ → Bool) (word : List ℕ) → ((j : ℕ) → j < length word → p (get_or word j 0) ≡ true) → list_all p word ≡ true
+all_letters : (p : ℕ → Bool) (word : List ℕ) → ((j : ℕ) → j < length word → p (get_or word j 0) ≡ true)
+    → list_all p word ≡ true
 all_letters p [] each = refl
-all_letters p (b ∷ bs) each = and_from (p b) (list_all p bs) (each 0 (omega arith)) (all_letters p bs (λ j l. each (suc j) (omega (arith, l))))
+all_letters p (b ∷ bs) each =
+    and_from (p b) (list_all p bs) (each 0 (omega arith)) (all_letters p bs (λ j l. each (suc j) (omega (arith, l))))
 
-pub colours_read : (word : List ℕ) (k : ℕ) (colours : List Colour) → AreLetters word k colours → length word ≤ k → 1 ≤ length word → length word ≤ MAX_LISTED → Some colours ≡ colours_of word
+pub colours_read : (word : List ℕ) (k : ℕ) (colours : List Colour) → AreLetters word k colours → length word ≤ k
+    → 1 ≤ length word → length word ≤ MAX_LISTED → Some colours ≡ colours_of word
 colours_read word k colours passed l some few =
-    let all : list_all (λ b. is_some (colour_of b)) word ≡ true = all_letters (λ b. is_some (colour_of b)) word (λ j h. passed.letters j (omega (arith, h, l))) in
+    let all : list_all (λ b. is_some (colour_of b)) word ≡ true =
+    all_letters (λ b. is_some (colour_of b)) word (λ j h. passed.letters j (omega (arith, h, l))) in
     let list = filled_all colour_of White word k colours passed.filled l in
     rw (le-leb 1 (length word) some, le-leb (length word) MAX_LISTED few, all) (ap Some list)
 
@@ -102,66 +119,120 @@ some_of (suc n) r is some = omega arith
 one_element_word : IsElement (decimal 1) 1
 one_element_word = record { low = lit≤ tt; high = lit≤ tt; digits = refl }
 
-colouring_of : (u v : List ℕ) (colours : List Colour) (e : ℕ) → colours_of u ≡ Some colours → IsElement v e → AreColouring (u ∷ v ∷ []) (record { colours = colours; count = length u; e = e })
-colouring_of u v colours e is element = record { letters = u; digits = v; two = refl; colours = is; count = refl; element = element }
+colouring_of : (u v : List ℕ) (colours : List Colour) (e : ℕ) → colours_of u ≡ Some colours → IsElement v e
+    → AreColouring (u ∷ v ∷ []) (record { colours = colours; count = length u; e = e })
+colouring_of u v colours e is element =
+    record { letters = u; digits = v; two = refl; colours = is; count = refl; element = element }
 
 begin_colouring : Begins (HasValue AreColouring) []
-begin_colouring = (codes "R" ∷ decimal 1 ∷ [], (record { colours = padded White (filter_map colour_of (codes "R")); count = 1; e = 1 }, colouring_of (codes "R") (decimal 1) (padded White (filter_map colour_of (codes "R"))) 1 refl one_element_word))
+begin_colouring = (
+  codes "R" ∷ decimal 1 ∷ [],
+  (
+    record { colours = padded White (filter_map colour_of (codes "R")); count = 1; e = 1 },
+    colouring_of (codes "R") (decimal 1) (padded White (filter_map colour_of (codes "R"))) 1 refl one_element_word,
+  ),
+)
 
-begin_letters : (u : List ℕ) (colours : List Colour) → colours_of u ≡ Some colours → Begins (HasValue AreColouring) (u ∷ [])
-begin_letters u colours is = (decimal 1 ∷ [], (record { colours = colours; count = length u; e = 1 }, colouring_of u (decimal 1) colours 1 is one_element_word))
+begin_letters : (u : List ℕ) (colours : List Colour) → colours_of u ≡ Some colours
+    → Begins (HasValue AreColouring) (u ∷ [])
+begin_letters u colours is = (
+  decimal 1 ∷ [],
+  (record { colours = colours; count = length u; e = 1 }, colouring_of u (decimal 1) colours 1 is one_element_word),
+)
 
-colouring_fault : (words : List (List ℕ)) (k : ℕ) (u : Usage) → u.word ≡ k + 1 → ((a : Colouring) → AreColouring words a → ⊥) → IsFault (HasValue AreColouring) words k → IsRead AreColouring words (Err u)
-colouring_fault words k u is none fault = record { value = λ a. (λ made. absurd (no_value _ a made), λ h. absurd (none a h)); fault = (k, (is, fault)) }
+colouring_fault : (words : List (List ℕ)) (k : ℕ) (u : Usage) → u.word ≡ k + 1
+    → ((a : Colouring) → AreColouring words a → ⊥) → IsFault (HasValue AreColouring) words k
+    → IsRead AreColouring words (Err u)
+colouring_fault words k u is none fault =
+    record { value = λ a. (λ made. absurd (no_value _ a made), λ h. absurd (none a h)); fault = (k, (is, fault)) }
 
-colouring_passed : (words : List (List ℕ)) (u : Usage) (passed : Result Colouring Usage) → IsErrAnd passed (λ e. e ≡ u) → IsRead AreColouring words (Err u) → IsRead AreColouring words passed
+colouring_passed : (words : List (List ℕ)) (u : Usage) (passed : Result Colouring Usage) → IsErrAnd passed (λ e. e ≡ u)
+    → IsRead AreColouring words (Err u) → IsRead AreColouring words passed
 colouring_passed words u (Ok a) err read = absurd err
 colouring_passed words u (Err e) err read = rw err read
 
-first_letters : (u : List ℕ) (words : List (List ℕ)) (a : Colouring) → AreColouring (u ∷ words) a → colours_of u ≡ Some a.colours
+first_letters : (u : List ℕ) (words : List (List ℕ)) (a : Colouring) → AreColouring (u ∷ words) a
+    → colours_of u ≡ Some a.colours
 first_letters u words a h = subst (λ w. colours_of w ≡ Some a.colours) (sym (ap first_of h.two)) h.colours
 
-second_element : (u v : List ℕ) (words : List (List ℕ)) (a : Colouring) → AreColouring (u ∷ v ∷ words) a → IsElement v a.e
+second_element : (u v : List ℕ) (words : List (List ℕ)) (a : Colouring) → AreColouring (u ∷ v ∷ words) a
+    → IsElement v a.e
 second_element u v words a h = subst (λ w. IsElement w a.e) (sym (ap (λ ws. first_of (tail_of ws)) h.two)) h.element
 
-pub colouring_missing : {X : Type 0} (f : X → List ℕ) (xs : List X) → length xs < 1 → IsRead AreColouring (map f xs) (Err (record { word = 2 }))
-colouring_missing f [] few = colouring_fault [] 1 (record { word = 2 }) refl none (at_end [] begin_colouring (λ h. none h.0 h.1))
+pub colouring_missing : {X : Type 0} (f : X → List ℕ) (xs : List X) → length xs < 1
+    → IsRead AreColouring (map f xs) (Err (record { word = 2 }))
+colouring_missing f [] few =
+    colouring_fault [] 1 (record { word = 2 }) refl none (at_end [] begin_colouring (λ h. none h.0 h.1))
   where
     none : (a : Colouring) → AreColouring [] a → ⊥
     none a h = let same = h.two in cc
 colouring_missing f (x ∷ xs) few = absurd (omega arith)
 
-pub colouring_letters : {X : Type 0} (f : X → List ℕ) (xs : List X) (x : X) → 0 < length xs → x ≡ get_or xs 0 x → colours_of (f x) ≡ None → IsRead AreColouring (map f xs) (Err (record { word = 2 }))
+pub colouring_letters : {X : Type 0} (f : X → List ℕ) (xs : List X) (x : X) → 0 < length xs → x ≡ get_or xs 0 x
+    → colours_of (f x) ≡ None → IsRead AreColouring (map f xs) (Err (record { word = 2 }))
 colouring_letters f [] x some is bad = absurd (omega arith)
-colouring_letters f (y ∷ ys) x some is bad = rw (sym is) (colouring_fault (f x ∷ map f ys) 1 (record { word = 2 }) refl (λ a h. none_some a.colours bad (first_letters (f x) (map f ys) a h)) (at_word [] (f x) (map f ys) begin_colouring (λ b. none_some b.1.0.colours bad (first_letters (f x) b.0 b.1.0 b.1.1))))
+colouring_letters f (y ∷ ys) x some is bad =
+    rw (sym is)
+    (colouring_fault (f x ∷ map f ys) 1 (record { word = 2 }) refl
+    (λ a h. none_some a.colours bad (first_letters (f x) (map f ys) a h))
+    (at_word [] (f x) (map f ys) begin_colouring
+    (λ b. none_some b.1.0.colours bad (first_letters (f x) b.0 b.1.0 b.1.1))))
 
-pub colouring_element : {X : Type 0} (f : X → List ℕ) (xs : List X) (x : X) (colours : List Colour) (result : Result ℕ Usage) (u : Usage) (passed : Result Colouring Usage) → 0 < length xs → x ≡ get_or xs 0 x → colours_of (f x) ≡ Some colours → ((e : ℕ) → (result ≡ Ok e) ↔ IsElementAt (map f xs) 1 1 MAX_ELEMENTS e) → IfErr result (λ usage. usage.word ≡ 3) → result ≡ Err u → IsErrAnd passed (λ e. e ≡ u) → IsRead AreColouring (map f xs) passed
+pub colouring_element : {X : Type 0} (f : X → List ℕ) (xs : List X) (x : X) (colours : List Colour)
+    (result : Result ℕ Usage) (u : Usage) (passed : Result Colouring Usage) → 0 < length xs → x ≡ get_or xs 0 x
+    → colours_of (f x) ≡ Some colours → ((e : ℕ) → (result ≡ Ok e) ↔ IsElementAt (map f xs) 1 1 MAX_ELEMENTS e)
+    → IfErr result (λ usage. usage.word ≡ 3) → result ≡ Err u → IsErrAnd passed (λ e. e ≡ u)
+    → IsRead AreColouring (map f xs) passed
 colouring_element f [] x colours result u passed some first letters value fault is err = absurd (omega arith)
-colouring_element f (y ∷ []) x colours result u passed some first letters value fault is err = colouring_passed (f y ∷ []) u passed err (rw (sym first) (colouring_fault (f x ∷ []) 2 u (word_of result u 3 fault is) none (at_end (f x ∷ []) (begin_letters (f x) colours letters) (λ h. none h.0 h.1))))
+colouring_element f (y ∷ []) x colours result u passed some first letters value fault is err =
+    colouring_passed (f y ∷ []) u passed err
+    (rw (sym first)
+    (colouring_fault (f x ∷ []) 2 u (word_of result u 3 fault is) none
+    (at_end (f x ∷ []) (begin_letters (f x) colours letters) (λ h. none h.0 h.1))))
   where
     none : (a : Colouring) → AreColouring (f x ∷ []) a → ⊥
     none a h = let same = ap tail_of h.two in cc
 colouring_element f (y ∷ z ∷ zs) x colours result u passed some first letters value fault is err =
     let none = none_at (IsElementAt (map f (y ∷ z ∷ zs)) 1 1 MAX_ELEMENTS) value is in
-    colouring_passed (map f (y ∷ z ∷ zs)) u passed err (colouring_fault (map f (y ∷ z ∷ zs)) 2 u (word_of result u 3 fault is) (λ a h. refused (map f zs) a none h) (at_word (f y ∷ []) (f z) (map f zs) (begin_letters (f y) colours (rw (sym first) letters)) (λ h. refused h.0 h.1.0 none h.1.1)))
+    colouring_passed (map f (y ∷ z ∷ zs)) u passed err
+    (colouring_fault (map f (y ∷ z ∷ zs)) 2 u (word_of result u 3 fault is) (λ a h. refused (map f zs) a none h)
+    (at_word (f y ∷ []) (f z) (map f zs) (begin_letters (f y) colours (rw (sym first) letters))
+    (λ h. refused h.0 h.1.0 none h.1.1)))
   where
-    refused : (more : List (List ℕ)) (a : Colouring) → ((e : ℕ) → IsElementAt (map f (y ∷ z ∷ zs)) 1 1 MAX_ELEMENTS e → ⊥) → AreColouring (f y ∷ f z ∷ more) a → ⊥
+    refused : (more : List (List ℕ)) (a : Colouring)
+        → ((e : ℕ) → IsElementAt (map f (y ∷ z ∷ zs)) 1 1 MAX_ELEMENTS e → ⊥) → AreColouring (f y ∷ f z ∷ more) a → ⊥
     refused more a none h =
         let element = second_element (f y) (f z) more a h in
-        none a.e (record { word = f z; there = refl; within = record { element = element; above = element.low; below = element.high } })
+        none a.e (record {
+          word = f z;
+          there = refl;
+          within =
+              record { element = element; above = element.low; below = element.high };
+        })
 
-pub colouring_long : {X : Type 0} (f : X → List ℕ) (xs : List X) (x : X) (colours : List Colour) (e : ℕ) → x ≡ get_or xs 0 x → colours_of (f x) ≡ Some colours → IsElementAt (map f xs) 1 1 MAX_ELEMENTS e → 2 < length xs → IsRead AreColouring (map f xs) (Err (record { word = 4 }))
+pub colouring_long : {X : Type 0} (f : X → List ℕ) (xs : List X) (x : X) (colours : List Colour) (e : ℕ)
+    → x ≡ get_or xs 0 x → colours_of (f x) ≡ Some colours → IsElementAt (map f xs) 1 1 MAX_ELEMENTS e → 2 < length xs
+    → IsRead AreColouring (map f xs) (Err (record { word = 4 }))
 colouring_long f [] x colours e first letters at l = absurd (omega arith)
 colouring_long f (y ∷ []) x colours e first letters at l = absurd (omega arith)
 colouring_long f (y ∷ z ∷ []) x colours e first letters at l = absurd (omega arith)
 colouring_long f (y ∷ z ∷ w ∷ ws) x colours e first letters at l =
     let element = (same_there (map f (y ∷ z ∷ w ∷ ws)) 1 1 MAX_ELEMENTS e (f z) refl at).element in
-    colouring_fault (map f (y ∷ z ∷ w ∷ ws)) 3 (record { word = 4 }) refl (λ a h. too_long (map f ws) a h) (at_word (f y ∷ f z ∷ []) (f w) (map f ws) ([], (record { colours = colours; count = length (f y); e = e }, colouring_of (f y) (f z) colours e (rw (sym first) letters) element)) (λ h. too_long h.0 h.1.0 h.1.1))
+    colouring_fault (map f (y ∷ z ∷ w ∷ ws)) 3 (record { word = 4 }) refl (λ a h. too_long (map f ws) a h)
+    (at_word (f y ∷ f z ∷ []) (f w) (map f ws) (
+      [],
+      (
+        record { colours = colours; count = length (f y); e = e },
+        colouring_of (f y) (f z) colours e (rw (sym first) letters) element,
+      ),
+    ) (λ h. too_long h.0 h.1.0 h.1.1))
   where
     too_long : (more : List (List ℕ)) (a : Colouring) → AreColouring (f y ∷ f z ∷ f w ∷ more) a → ⊥
     too_long more a h = let same : f w ∷ more ≡ [] = ap (λ ws. tail_of (tail_of ws)) h.two in cc
 
-pub colouring_read : {X : Type 0} (f : X → List ℕ) (xs : List X) (x : X) (colours : List Colour) (n e : ℕ) → x ≡ get_or xs 0 x → colours_of (f x) ≡ Some colours → n ≡ length (f x) → IsElementAt (map f xs) 1 1 MAX_ELEMENTS e → length xs ≤ 2 → IsRead AreColouring (map f xs) (Ok (record { colours = colours; count = n; e = e }))
+pub colouring_read : {X : Type 0} (f : X → List ℕ) (xs : List X) (x : X) (colours : List Colour) (n e : ℕ)
+    → x ≡ get_or xs 0 x → colours_of (f x) ≡ Some colours → n ≡ length (f x) → IsElementAt (map f xs) 1 1 MAX_ELEMENTS e
+    → length xs ≤ 2 → IsRead AreColouring (map f xs) (Ok (record { colours = colours; count = n; e = e }))
 colouring_read f [] x colours n e first letters count at l = absurd (none_some at.word refl at.there)
 colouring_read f (y ∷ []) x colours n e first letters count at l = absurd (none_some at.word refl at.there)
 colouring_read f (y ∷ z ∷ w ∷ ws) x colours n e first letters count at l = absurd (omega arith)
@@ -183,7 +254,8 @@ colouring_read f (y ∷ z ∷ []) x colours n e first letters count at l =
       fault = tt;
     }
   where
-    same_colouring : (colours : List Colour) (n e : ℕ) (a : Colouring) → colours ≡ a.colours → n ≡ a.count → e ≡ a.e → record { colours = colours; count = n; e = e } ≡ a
+    same_colouring : (colours : List Colour) (n e : ℕ) (a : Colouring) → colours ≡ a.colours → n ≡ a.count → e ≡ a.e
+        → record { colours = colours; count = n; e = e } ≡ a
     same_colouring colours n e a p q r = rw (p, q, r) refl
 
 -- ---- elements with signs
@@ -199,7 +271,9 @@ pub record AreSigned (words : List (List ℕ)) (k : ℕ) (list : List Signed) : 
 pub signed_none : (words : List (List ℕ)) → AreSigned words 0 (replicate MAX_LISTED unlisted)
 signed_none words = record { filled = filled_none signed_of unlisted words; fit = λ i l. absurd (omega (arith, l)) }
 
-pub signed_more : (words : List (List ℕ)) (k : ℕ) (word : List ℕ) (list : List Signed) (x : Signed) → AreSigned words k list → k < length words → k < MAX_LISTED → get_or words k [] ≡ word → signed_of word ≡ Some x → is_leading (take k words) word ≡ true → AreSigned words (k + 1) (set list k x)
+pub signed_more : (words : List (List ℕ)) (k : ℕ) (word : List ℕ) (list : List Signed) (x : Signed)
+    → AreSigned words k list → k < length words → k < MAX_LISTED → get_or words k [] ≡ word → signed_of word ≡ Some x
+    → is_leading (take k words) word ≡ true → AreSigned words (k + 1) (set list k x)
 signed_more words k word list x passed l room is value leads = record {
   filled = filled_more signed_of unlisted words k list word [] x passed.filled l room is value;
   fit = below_more (λ i. is_leading (take i words) (get_or words i []) ≡ true) k passed.fit (rw is leads);
@@ -208,7 +282,8 @@ signed_more words k word list x passed l room is value leads = record {
 leading_of : List (List ℕ) → Leading
 leading_of words = record { list = padded unlisted (filter_map signed_of words); count = length words }
 
-leading_value : (words : List (List ℕ)) → 1 ≤ length words → EachFits is_leading words → AreLeading words (leading_of words)
+leading_value : (words : List (List ℕ)) → 1 ≤ length words → EachFits is_leading words
+    → AreLeading words (leading_of words)
 unfolding leading_of
 leading_value words some each = record { some = some; each = each; list = refl; count = refl }
 
@@ -217,18 +292,30 @@ sample_fits zero l = refl
 sample_fits (suc i) l = absurd (omega arith)
 
 leading_begins : (words : List (List ℕ)) → EachFits is_leading words → Begins (HasValue AreLeading) words
-leading_begins [] each = (codes "+1" ∷ [], (leading_of (codes "+1" ∷ []), leading_value (codes "+1" ∷ []) (omega arith) sample_fits))
-leading_begins (w ∷ ws) each = ([], rw (append-nil (w ∷ ws)) (leading_of (w ∷ ws), leading_value (w ∷ ws) (omega arith) each))
+leading_begins [] each =
+    (codes "+1" ∷ [], (leading_of (codes "+1" ∷ []), leading_value (codes "+1" ∷ []) (omega arith) sample_fits))
+leading_begins (w ∷ ws) each =
+    ([], rw (append-nil (w ∷ ws)) (leading_of (w ∷ ws), leading_value (w ∷ ws) (omega arith) each))
 
-pub leading_fault : (words : List (List ℕ)) (k : ℕ) (word : List ℕ) (list : List Signed) → AreSigned words k list → k < length words → get_or words k [] ≡ word → is_leading (take k words) word ≡ false → IsRead AreLeading words (Err (record { word = k + 2 }))
+pub leading_fault : (words : List (List ℕ)) (k : ℕ) (word : List ℕ) (list : List Signed) → AreSigned words k list
+    → k < length words → get_or words k [] ≡ word → is_leading (take k words) word ≡ false
+    → IsRead AreLeading words (Err (record { word = k + 2 }))
 leading_fault words k word list passed l is unfit =
     let here : is_leading (take k words) (get_or words k []) ≡ false = rw is unfit in
     record {
       value = λ a. (λ made. absurd (no_value _ a made), λ h. absurd (none_fits is_leading words k l here h.each));
-      fault = (k + 1, (omega arith, first_unfit (HasValue AreLeading) is_leading (λ ws h. h.1.each) leading_begins words k l passed.fit here));
+      fault = (
+        k + 1,
+        (
+          omega arith,
+          first_unfit (HasValue AreLeading) is_leading (λ ws h. h.1.each) leading_begins words k l
+              passed.fit here,
+        ),
+      );
     }
 
-pub leading_missing : {X : Type 0} (f : X → List ℕ) (xs : List X) → length xs < 1 → IsRead AreLeading (map f xs) (Err (record { word = 2 }))
+pub leading_missing : {X : Type 0} (f : X → List ℕ) (xs : List X) → length xs < 1
+    → IsRead AreLeading (map f xs) (Err (record { word = 2 }))
 leading_missing f [] few = record {
   value = λ a. (λ made. absurd (no_value _ a made), λ h. absurd (none (a, h)));
   fault = (1, (refl, at_end [] (leading_begins [] (λ i l. absurd (omega (arith, l)))) none));

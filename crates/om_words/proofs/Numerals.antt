@@ -1,8 +1,9 @@
 -- Words that are the numbers of increasing elements.
 --
--- Main results: the words that a loop has taken (taken_none, taken_more); a word at fault behind them (taken_fault), and their end (taken_end,
--- taken_empty).
-use Rattle.std.specs.Prelude.{ℕ, ◌≡◌, ◌<◌, ◌≤◌, ◌+◌, ◌^◌, ◌↔◌, ◌⊎◌, length, map, List, [], ◌∷◌, ◌++◌, refl, suc, Ok, Err, Some}
+-- Main results: the words that a loop has taken (taken_none, taken_more); a word at fault behind them (taken_fault),
+-- and their end (taken_end, taken_empty).
+use Rattle.std.specs.Prelude.{ℕ, ◌≡◌, ◌<◌, ◌≤◌, ◌+◌, ◌^◌, ◌↔◌, ◌⊎◌, length, map, List, [], ◌∷◌, ◌++◌, refl, suc, Ok}
+use Rattle.std.specs.Prelude.{Err, Some}
 use native.Mathlib.Numerals.{unary_clauses}
 use Rattle.std.specs.Fmt.{decimal}
 use Rattle.std.proofs.Common.{zero, get_or, drop, take, arith, ap, subst, sym, ◌∙◌, inl, inr, append-nil, lit≤}
@@ -32,13 +33,16 @@ pub one_element : (word : List ℕ) (e f : ℕ) → IsElement word e → IsEleme
 one_element word e f a b = same_number e f a.high b.high (sym a.digits ∙ b.digits)
 
 -- a word that is the number of an element is that of no other
-pub this_element : (word : List ℕ) (e : ℕ) → 1 ≤ e → e ≤ MAX_ELEMENTS → word ≡ decimal e → (f : ℕ) → (Some e ≡ Some f) ↔ IsElement word f
+pub this_element : (word : List ℕ) (e : ℕ) → 1 ≤ e → e ≤ MAX_ELEMENTS → word ≡ decimal e → (f : ℕ) → (Some e ≡ Some f)
+    ↔ IsElement word f
 this_element word e low high is f = (
-  λ same. let one : e ≡ f = one_some same in subst (IsElement word) one (record { low = low; high = high; digits = is }),
+  λ same. let one : e ≡ f = one_some same in
+      subst (IsElement word) one (record { low = low; high = high; digits = is }),
   λ element. ap Some (same_number e f high element.high (sym is ∙ element.digits)),
 )
 
-pub this_above : (word : List ℕ) (last e : ℕ) → IsElement word e → last < e → (f : ℕ) → (Some e ≡ Some f) ↔ (IsElement word f × (last < f))
+pub this_above : (word : List ℕ) (last e : ℕ) → IsElement word e → last < e → (f : ℕ) → (Some e ≡ Some f)
+    ↔ (IsElement word f × (last < f))
 this_above word last e element above f = (
   λ same. let one : e ≡ f = one_some same in subst (λ g. IsElement word g × (last < g)) one (element, above),
   λ both. ap Some (one_element word e f element both.0),
@@ -116,11 +120,16 @@ without_first d [] h = tt
 without_first d (x ∷ xs) h = h.1
 
 increasing_subset : (xs : List ℕ) → AreIncreasing xs → IsSubsetFrom 1 MAX_ELEMENTS xs
-increasing_subset xs h = (subset_is_increasing MAX_ELEMENTS xs).1 (without_first 0 xs h.increasing, λ e m. (let l = increasing_low 0 xs h.increasing e m in omega (arith, l), h.within e m))
+increasing_subset xs h =
+    (subset_is_increasing MAX_ELEMENTS xs).1 (
+      without_first 0 xs h.increasing,
+      λ e m. (let l = increasing_low 0 xs h.increasing e m in omega (arith, l), h.within e m),
+    )
 
 -- ---- numbers of elements
 
-same_numbers : (xs ys : List ℕ) → ((e : ℕ) → IsMember e xs → e ≤ MAX_ELEMENTS) → ((e : ℕ) → IsMember e ys → e ≤ MAX_ELEMENTS) → map decimal xs ≡ map decimal ys → xs ≡ ys
+same_numbers : (xs ys : List ℕ) → ((e : ℕ) → IsMember e xs → e ≤ MAX_ELEMENTS)
+    → ((e : ℕ) → IsMember e ys → e ≤ MAX_ELEMENTS) → map decimal xs ≡ map decimal ys → xs ≡ ys
 same_numbers [] [] a b same = refl
 same_numbers [] (y ∷ ys) a b same = cc
 same_numbers (x ∷ xs) [] a b same = cc
@@ -137,9 +146,11 @@ pub record GoesOn (xs ys : List ℕ) (word : List ℕ) : Type 0 where
   pub digits : word ≡ decimal next
   pub high : next ≤ MAX_ELEMENTS
 
-goes_on : (xs ys : List ℕ) (word : List ℕ) (rest : List (List ℕ)) → ((e : ℕ) → IsMember e xs → e ≤ MAX_ELEMENTS) → ((e : ℕ) → IsMember e ys → e ≤ MAX_ELEMENTS) → map decimal xs ++ word ∷ rest ≡ map decimal ys → GoesOn xs ys word
+goes_on : (xs ys : List ℕ) (word : List ℕ) (rest : List (List ℕ)) → ((e : ℕ) → IsMember e xs → e ≤ MAX_ELEMENTS)
+    → ((e : ℕ) → IsMember e ys → e ≤ MAX_ELEMENTS) → map decimal xs ++ word ∷ rest ≡ map decimal ys → GoesOn xs ys word
 goes_on [] [] word rest a b same = cc
-goes_on [] (y ∷ ys) word rest a b same = record { next = y; more = ys; list = refl; digits = ap first_of same; high = b y (inl refl) }
+goes_on [] (y ∷ ys) word rest a b same =
+    record { next = y; more = ys; list = refl; digits = ap first_of same; high = b y (inl refl) }
 goes_on (x ∷ xs) [] word rest a b same = cc
 goes_on (x ∷ xs) (y ∷ ys) word rest a b same =
     let first : x ≡ y = same_number x y (a x (inl refl)) (b y (inl refl)) (ap first_of same) in
@@ -168,15 +179,19 @@ taken_none words xs none = rw none (record {
   high = omega arith;
 })
 
-take_next : {X : Type 0} (words : List X) (k : ℕ) (word : X) → k < length words → get_or words k word ≡ word → take (k + 1) words ≡ take k words ++ word ∷ []
+take_next : {X : Type 0} (words : List X) (k : ℕ) (word : X) → k < length words → get_or words k word ≡ word
+    → take (k + 1) words ≡ take k words ++ word ∷ []
 take_next [] k word l same = absurd (omega arith)
 take_next (w ∷ ws) zero word l same = ap (λ u. u ∷ []) same
-take_next (w ∷ ws) (suc k) word l same = simp unary_clauses (ap (λ u. w ∷ u) (simp unary_clauses at (take_next ws k word (omega arith) same)))
+take_next (w ∷ ws) (suc k) word l same =
+    simp unary_clauses (ap (λ u. w ∷ u) (simp unary_clauses at (take_next ws k word (omega arith) same)))
 
-around_next : (words : List (List ℕ)) (k : ℕ) (word : List ℕ) → k < length words → get_or words k word ≡ word → take k words ++ word ∷ drop (k + 1) words ≡ words
+around_next : (words : List (List ℕ)) (k : ℕ) (word : List ℕ) → k < length words → get_or words k word ≡ word
+    → take k words ++ word ∷ drop (k + 1) words ≡ words
 around_next [] k word l same = absurd (omega arith)
 around_next (w ∷ ws) zero word l same = ap (λ u. u ∷ ws) (sym same)
-around_next (w ∷ ws) (suc k) word l same = simp unary_clauses (ap (λ u. w ∷ u) (simp unary_clauses at (around_next ws k word (omega arith) same)))
+around_next (w ∷ ws) (suc k) word l same =
+    simp unary_clauses (ap (λ u. w ∷ u) (simp unary_clauses at (around_next ws k word (omega arith) same)))
 
 pub length_taken : {X : Type 0} (words : List X) (k : ℕ) → k ≤ length words → length (take k words) ≡ k
 length_taken [] zero l = refl
@@ -202,11 +217,14 @@ member_more e f (x ∷ xs) (inr m) = elim (member_more e f xs m) [
   | inr n ↦ inr (inr n)
 ]
 
-pub taken_more : (words : List (List ℕ)) (k last place e : ℕ) (word : List ℕ) (xs : List ℕ) → AreTaken words k last place xs → k < length words → get_or words k word ≡ word → IsElement word e → last < e → AreTaken words (k + 1) e (place + 1) (with_element e xs)
+pub taken_more : (words : List (List ℕ)) (k last place e : ℕ) (word : List ℕ) (xs : List ℕ)
+    → AreTaken words k last place xs → k < length words → get_or words k word ≡ word → IsElement word e → last < e
+    → AreTaken words (k + 1) e (place + 1) (with_element e xs)
 taken_more words k last place e word xs taken l same element above =
     let bound : last_of 0 xs < e = subst (λ d. d < e) taken.last above in
     rw (appended 0 e xs taken.elements.increasing bound) (record {
-      digits = take_next words k word l same ∙ ap (λ u. u ++ word ∷ []) taken.digits ∙ ap (λ u. map decimal xs ++ u ∷ []) element.digits ∙ sym (map-append decimal xs (e ∷ []));
+      digits = take_next words k word l same ∙ ap (λ u. u ++ word ∷ []) taken.digits
+          ∙ ap (λ u. map decimal xs ++ u ∷ []) element.digits ∙ sym (map-append decimal xs (e ∷ []));
       elements = record {
         increasing = increasing_more 0 e xs taken.elements.increasing bound;
         within = λ f m. elim (member_more e f xs m) [
@@ -254,36 +272,63 @@ taken_begin (x ∷ xs) h = (
   ),
 )
 
-stops_at : (xs : List ℕ) (word : List ℕ) → AreIncreasing xs → ((e : ℕ) → IsElement word e → last_of 0 xs < e → ⊥) → Begins (HasValue AreElements) (map decimal xs ++ word ∷ []) → ⊥
+stops_at : (xs : List ℕ) (word : List ℕ) → AreIncreasing xs → ((e : ℕ) → IsElement word e → last_of 0 xs < e → ⊥)
+    → Begins (HasValue AreElements) (map decimal xs ++ word ∷ []) → ⊥
 stops_at xs word h none (more, (mask, all)) =
     let ys = subset_increasing all.elements all.increasing in
-    let on : GoesOn xs all.elements word = goes_on xs all.elements word more h.within ys.within (sym (append_one (map decimal xs) word more) ∙ all.digits) in
-    let above : last_of 0 xs < on.next = below_next 0 on.next xs on.more (subst (λ u. IsIncreasing (0 ∷ u)) on.list ys.increasing) in
+    let on : GoesOn xs all.elements word =
+    goes_on xs all.elements word more h.within ys.within
+    (sym (append_one (map decimal xs) word more) ∙ all.digits) in
+    let above : last_of 0 xs < on.next =
+    below_next 0 on.next xs on.more (subst (λ u. IsIncreasing (0 ∷ u)) on.list ys.increasing) in
     none on.next (record { low = omega (arith, above); high = on.high; digits = on.digits }) above
   where
     append_one : (us : List (List ℕ)) (w : List ℕ) (vs : List (List ℕ)) → us ++ w ∷ [] ++ vs ≡ us ++ w ∷ vs
     append_one [] w vs = refl
     append_one (u ∷ us) w vs = ap (λ k. u ∷ k) (append_one us w vs)
 
-pub taken_fault : (words : List (List ℕ)) (k last place : ℕ) (word : List ℕ) (xs : List ℕ) → AreTaken words k last place xs → k < length words → get_or words k word ≡ word → ((e : ℕ) → IsElement word e → last < e → ⊥) → IsRead AreElements words (Err (record { word = place + 1 }))
+pub taken_fault : (words : List (List ℕ)) (k last place : ℕ) (word : List ℕ) (xs : List ℕ)
+    → AreTaken words k last place xs → k < length words → get_or words k word ≡ word
+    → ((e : ℕ) → IsElement word e → last < e → ⊥) → IsRead AreElements words (Err (record { word = place + 1 }))
 taken_fault words k last place word xs taken l same none =
-    let stop : (e : ℕ) → IsElement word e → last_of 0 xs < e → ⊥ = λ e element above. none e element (subst (λ d. d < e) (sym taken.last) above) in
-    let refused : Begins (HasValue AreElements) (take k words ++ word ∷ []) → ⊥ = subst (λ u. Begins (HasValue AreElements) (u ++ word ∷ []) → ⊥) (sym taken.digits) (stops_at xs word taken.elements stop) in
-    let begins : Begins (HasValue AreElements) (take k words) = subst (Begins (HasValue AreElements)) (sym taken.digits) (taken_begin xs taken.elements) in
+    let stop : (e : ℕ) → IsElement word e → last_of 0 xs < e → ⊥ =
+    λ e element above. none e element (subst (λ d. d < e) (sym taken.last) above) in
+    let refused : Begins (HasValue AreElements) (take k words ++ word ∷ []) → ⊥ =
+    subst (λ u. Begins (HasValue AreElements) (u ++ word ∷ []) → ⊥) (sym taken.digits)
+    (stops_at xs word taken.elements stop) in
+    let begins : Begins (HasValue AreElements) (take k words) =
+    subst (Begins (HasValue AreElements)) (sym taken.digits) (taken_begin xs taken.elements) in
     let whole = around_next words k word l same in
     record {
       value = λ m. (
         λ made. absurd (no_value _ m made),
-        λ all. absurd (refused (drop (k + 1) words, (m, subst (λ u. AreElements u m) (sym whole ∙ sym (regroup (take k words) word (drop (k + 1) words))) all))),
+        λ all. absurd
+            (refused (
+              drop (k + 1) words,
+              (
+                m,
+                subst (λ u. AreElements u m) (sym whole ∙ sym (regroup (take k words) word (drop (k + 1) words)))
+                    all,
+              ),
+            )),
       );
-      fault = (k + 1, (ap (λ p. p + 1) taken.count, subst (λ u. IsFault (HasValue AreElements) u (k + 1)) whole (subst (λ j. IsFault (HasValue AreElements) (take k words ++ word ∷ drop (k + 1) words) (j + 1)) (length_taken words k (omega arith)) (at_word (take k words) word (drop (k + 1) words) begins refused))));
+      fault = (
+        k + 1,
+        (
+          ap (λ p. p + 1) taken.count,
+          subst (λ u. IsFault (HasValue AreElements) u (k + 1)) whole
+              (subst (λ j. IsFault (HasValue AreElements) (take k words ++ word ∷ drop (k + 1) words) (j + 1))
+              (length_taken words k (omega arith)) (at_word (take k words) word (drop (k + 1) words) begins refused)),
+        ),
+      );
     }
   where
     regroup : (us : List (List ℕ)) (w : List ℕ) (vs : List (List ℕ)) → us ++ w ∷ [] ++ vs ≡ us ++ w ∷ vs
     regroup [] w vs = refl
     regroup (u ∷ us) w vs = ap (λ k. u ∷ k) (regroup us w vs)
 
-pub taken_empty : (words : List (List ℕ)) (k last place : ℕ) (xs : List ℕ) → AreTaken words k last place xs → length words ≤ k → last ≡ 0 → IsRead AreElements words (Err (record { word = 2 }))
+pub taken_empty : (words : List (List ℕ)) (k last place : ℕ) (xs : List ℕ) → AreTaken words k last place xs
+    → length words ≤ k → last ≡ 0 → IsRead AreElements words (Err (record { word = 2 }))
 taken_empty words k last place xs taken l at_zero =
     let none : xs ≡ [] = is_empty xs taken.elements.increasing (sym taken.last ∙ at_zero) in
     let empty : words ≡ [] = sym (all_taken words k l) ∙ taken.digits ∙ ap (map decimal) none in
@@ -299,7 +344,8 @@ taken_empty words k last place xs taken l at_zero =
     no_elements : HasValue AreElements [] → ⊥
     no_elements (m, all) = no_digits all.elements all.some all.digits
 
-pub taken_end : (words : List (List ℕ)) (k last place mask : ℕ) (xs : List ℕ) → AreTaken words k last place xs → length words ≤ k → (last ≡ 0 → ⊥) → mask ≡ mask_of 1 xs MAX_ELEMENTS → IsRead AreElements words (Ok mask)
+pub taken_end : (words : List (List ℕ)) (k last place mask : ℕ) (xs : List ℕ) → AreTaken words k last place xs
+    → length words ≤ k → (last ≡ 0 → ⊥) → mask ≡ mask_of 1 xs MAX_ELEMENTS → IsRead AreElements words (Ok mask)
 taken_end words k last place mask xs taken l some is =
     let all : words ≡ map decimal xs = sym (all_taken words k l) ∙ taken.digits in
     record {
@@ -313,13 +359,15 @@ taken_end words k last place mask xs taken l some is =
         },
         λ other.
             let ys = subset_increasing other.elements other.increasing in
-            let same : xs ≡ other.elements = same_numbers xs other.elements taken.elements.within ys.within (sym all ∙ other.digits) in
+            let same : xs ≡ other.elements =
+            same_numbers xs other.elements taken.elements.within ys.within (sym all ∙ other.digits) in
             ap Ok (is ∙ ap (λ u. mask_of 1 u MAX_ELEMENTS) same ∙ sym other.value),
       );
       fault = tt;
     }
 
-pub item_at : {X : Type 0} (f : X → List ℕ) (xs : List X) (k : ℕ) (x : X) → k < length xs → x ≡ get_or xs k x → get_or (map f xs) k (f x) ≡ f x
+pub item_at : {X : Type 0} (f : X → List ℕ) (xs : List X) (k : ℕ) (x : X) → k < length xs → x ≡ get_or xs k x
+    → get_or (map f xs) k (f x) ≡ f x
 item_at f [] k x l is = absurd (omega arith)
 item_at f (y ∷ ys) zero x l is = ap f (sym is)
 item_at f (y ∷ ys) (suc k) x l is = item_at f ys k x (omega arith) is

@@ -14,8 +14,10 @@ pub record IsFilled (x : List Sign) (word : List ℕ) (k : ℕ) : Type 0 where
   pub size : length x ≡ length word
   pub signs : (i : ℕ) → i < k → at x i ≡ sign_of_byte (get_or word i 0)
 
-pub filled_all : (x : List Sign) (word : List ℕ) (k : ℕ) → length word ≤ k → IsFilled x word k → x ≡ map sign_of_byte word
-filled_all x word k l f = ext_get_or Zero x (map sign_of_byte word) (f.size ∙ sym (length-map word sign_of_byte)) (λ i li.
+pub filled_all : (x : List Sign) (word : List ℕ) (k : ℕ) → length word ≤ k → IsFilled x word k
+    → x ≡ map sign_of_byte word
+filled_all x word k l f = ext_get_or Zero x (map sign_of_byte word) (f.size ∙ sym (length-map word sign_of_byte))
+    (λ i li.
     let z = f.size in
     let lw : i < length word = omega (arith, z, li) in
     f.signs i (omega (arith, lw, l)) ∙ sym (get_or-map sign_of_byte word i 0 Zero lw))

@@ -1,8 +1,10 @@
 -- Words that are three increasing elements.
 --
--- Main results: the word at fault where one of them isn't such an element (first_bad, second_bad, third_bad) or a fourth word follows
--- (triple_long), and what the three are read as (triple_read); the word at a place (at_place_read, at_place_bad).
-use Rattle.std.specs.Prelude.{ℕ, ◌≡◌, ◌<◌, ◌≤◌, ◌+◌, ◌-◌, ◌↔◌, List, [], ◌∷◌, length, map, Option, Some, None, Result, Ok, Err, IfErr, IsErrAnd, slice_get, refl}
+-- Main results: the word at fault where one of them isn't such an element (first_bad, second_bad, third_bad) or a
+-- fourth word follows (triple_long), and what the three are read as (triple_read); the word at a place (at_place_read,
+-- at_place_bad).
+use Rattle.std.specs.Prelude.{ℕ, ◌≡◌, ◌<◌, ◌≤◌, ◌+◌, ◌-◌, ◌↔◌, List, [], ◌∷◌, length, map, Option, Some, None, Result}
+use Rattle.std.specs.Prelude.{Ok, Err, IfErr, IsErrAnd, slice_get, refl}
 use Rattle.std.specs.Fmt.{decimal}
 use Rattle.std.proofs.Common.{get_or, zero, suc, arith, ap, subst, sym, ◌∙◌, lit≤}
 use Rattle.om_signs.specs.declared.limits.TheConstants.{MAX_ELEMENTS}
@@ -16,14 +18,17 @@ use Rattle.om_words.proofs.Numerals.{one_element}
 
 -- ---- the word at a place
 
-pub there : {X : Type 0} (f : X → List ℕ) (xs : List X) (k : ℕ) (x : X) → k < length xs → x ≡ get_or xs k x → slice_get (map f xs) k ≡ Some (f x)
+pub there : {X : Type 0} (f : X → List ℕ) (xs : List X) (k : ℕ) (x : X) → k < length xs → x ≡ get_or xs k x
+    → slice_get (map f xs) k ≡ Some (f x)
 there f [] k x l is = absurd (omega arith)
 there f (y ∷ ys) zero x l is = ap (λ z. Some (f z)) (sym is)
 there f (y ∷ ys) (suc k) x l is = there f ys k x (omega arith) is
 
-pub this_within : (word : List ℕ) (low high e : ℕ) → IsElement word e → low ≤ e → e ≤ high → (d : ℕ) → (Some e ≡ Some d) ↔ IsElementWithin word low high d
+pub this_within : (word : List ℕ) (low high e : ℕ) → IsElement word e → low ≤ e → e ≤ high → (d : ℕ) → (Some e ≡ Some d)
+    ↔ IsElementWithin word low high d
 this_within word low high e element above below d = (
-  λ same. let one : e ≡ d = one_some same in subst (IsElementWithin word low high) one (record { element = element; above = above; below = below }),
+  λ same. let one : e ≡ d = one_some same in
+      subst (IsElementWithin word low high) one (record { element = element; above = above; below = below }),
   λ other. ap Some (one_element word e d element other.element),
 )
 
@@ -31,7 +36,9 @@ this_within word low high e element above below d = (
 abbrev pub IsOkAt : List (List ℕ) → ℕ → ℕ → ℕ → Result ℕ Usage → ℕ → Type 0
 IsOkAt words k low high result e = (result ≡ Ok e) ↔ IsElementAt words k low high e
 
-at_place : {X : Type 0} (f : X → List ℕ) (xs : List X) (k low high : ℕ) (x : X) (o : Option ℕ) → k < length xs → x ≡ get_or xs k x → ((e : ℕ) → (o ≡ Some e) ↔ IsElementWithin (f x) low high e) → (e : ℕ) → (o ≡ Some e) ↔ IsElementAt (map f xs) k low high e
+at_place : {X : Type 0} (f : X → List ℕ) (xs : List X) (k low high : ℕ) (x : X) (o : Option ℕ) → k < length xs
+    → x ≡ get_or xs k x → ((e : ℕ) → (o ≡ Some e) ↔ IsElementWithin (f x) low high e) → (e : ℕ) → (o ≡ Some e)
+    ↔ IsElementAt (map f xs) k low high e
 at_place f xs k low high x o l is within e = (
   λ same. record { word = f x; there = there f xs k x l is; within = (within e).0 same },
   λ other.
@@ -39,46 +46,64 @@ at_place f xs k low high x o l is within e = (
       (within e).1 (subst (λ w. IsElementWithin w low high e) (sym word) other.within),
 )
 
-pub at_place_read : {X : Type 0} (f : X → List ℕ) (xs : List X) (k low high e : ℕ) (x : X) (o : Option ℕ) → k < length xs → x ≡ get_or xs k x → ((d : ℕ) → (o ≡ Some d) ↔ IsElementWithin (f x) low high d) → o ≡ Some e → (d : ℕ) → IsOkAt (map f xs) k low high (Ok e) d
+pub at_place_read : {X : Type 0} (f : X → List ℕ) (xs : List X) (k low high e : ℕ) (x : X) (o : Option ℕ)
+    → k < length xs → x ≡ get_or xs k x → ((d : ℕ) → (o ≡ Some d) ↔ IsElementWithin (f x) low high d) → o ≡ Some e
+    → (d : ℕ) → IsOkAt (map f xs) k low high (Ok e) d
 at_place_read f xs k low high e x o l is within some d = (
   λ same. let one : e ≡ d = cc in (at_place f xs k low high x o l is within d).0 (some ∙ ap Some one),
   λ other. let one : e ≡ d = one_some (sym some ∙ (at_place f xs k low high x o l is within d).1 other) in ap Ok one,
 )
 
-pub at_place_bad : {X : Type 0} (f : X → List ℕ) (xs : List X) (k low high : ℕ) (x : X) (o : Option ℕ) (u : Usage) → k < length xs → x ≡ get_or xs k x → ((d : ℕ) → (o ≡ Some d) ↔ IsElementWithin (f x) low high d) → o ≡ None → (d : ℕ) → IsOkAt (map f xs) k low high (Err u) d
-at_place_bad f xs k low high x o u l is within none d = (λ made. absurd (no_value _ d made), λ other. absurd (none_some d none ((at_place f xs k low high x o l is within d).1 other)))
+pub at_place_bad : {X : Type 0} (f : X → List ℕ) (xs : List X) (k low high : ℕ) (x : X) (o : Option ℕ) (u : Usage)
+    → k < length xs → x ≡ get_or xs k x → ((d : ℕ) → (o ≡ Some d) ↔ IsElementWithin (f x) low high d) → o ≡ None
+    → (d : ℕ) → IsOkAt (map f xs) k low high (Err u) d
+at_place_bad f xs k low high x o u l is within none d = (
+  λ made. absurd (no_value _ d made),
+  λ other. absurd (none_some d none ((at_place f xs k low high x o l is within d).1 other)),
+)
 
 -- ---- the words of three elements
 
 within_of : (e low high : ℕ) → 1 ≤ e → e ≤ MAX_ELEMENTS → low ≤ e → e ≤ high → IsElementWithin (decimal e) low high e
-within_of e low high one most above below = record { element = record { low = one; high = most; digits = refl }; above = above; below = below }
+within_of e low high one most above below =
+    record { element = record { low = one; high = most; digits = refl }; above = above; below = below }
 
-first_of_three : (words : List (List ℕ)) (t : ℕ × ℕ × ℕ) → AreTriple words t → IsElementAt words 0 1 (MAX_ELEMENTS - 2) t.0
+first_of_three : (words : List (List ℕ)) (t : ℕ × ℕ × ℕ) → AreTriple words t
+    → IsElementAt words 0 1 (MAX_ELEMENTS - 2) t.0
 first_of_three words t h = subst (λ ws. IsElementAt ws 0 1 (MAX_ELEMENTS - 2) t.0) (sym h.digits) (record {
   word = decimal t.0;
   there = refl;
-  within = let a = h.low in let b = h.first in let c = h.second in let d = h.high in within_of t.0 1 (MAX_ELEMENTS - 2) a (omega (arith, b, c, d)) a (omega (arith, b, c, d));
+  within = let a = h.low in let b = h.first in let c = h.second in let d = h.high in
+      within_of t.0 1 (MAX_ELEMENTS - 2) a (omega (arith, b, c, d)) a (omega (arith, b, c, d));
 })
 
-second_of_three : (words : List (List ℕ)) (t : ℕ × ℕ × ℕ) → AreTriple words t → IsElementAt words 1 (t.0 + 1) (MAX_ELEMENTS - 1) t.1
+second_of_three : (words : List (List ℕ)) (t : ℕ × ℕ × ℕ) → AreTriple words t
+    → IsElementAt words 1 (t.0 + 1) (MAX_ELEMENTS - 1) t.1
 second_of_three words t h = subst (λ ws. IsElementAt ws 1 (t.0 + 1) (MAX_ELEMENTS - 1) t.1) (sym h.digits) (record {
   word = decimal t.1;
   there = refl;
-  within = let a = h.low in let b = h.first in let c = h.second in let d = h.high in within_of t.1 (t.0 + 1) (MAX_ELEMENTS - 1) (omega (arith, a, b)) (omega (arith, c, d)) (omega (arith, b)) (omega (arith, c, d));
+  within = let a = h.low in let b = h.first in let c = h.second in let d = h.high in
+      within_of t.1 (t.0 + 1) (MAX_ELEMENTS - 1) (omega (arith, a, b)) (omega (arith, c, d)) (omega (arith, b))
+      (omega (arith, c, d));
 })
 
-third_of_three : (words : List (List ℕ)) (t : ℕ × ℕ × ℕ) → AreTriple words t → IsElementAt words 2 (t.1 + 1) MAX_ELEMENTS t.2
+third_of_three : (words : List (List ℕ)) (t : ℕ × ℕ × ℕ) → AreTriple words t
+    → IsElementAt words 2 (t.1 + 1) MAX_ELEMENTS t.2
 third_of_three words t h = subst (λ ws. IsElementAt ws 2 (t.1 + 1) MAX_ELEMENTS t.2) (sym h.digits) (record {
   word = decimal t.2;
   there = refl;
-  within = let a = h.low in let b = h.first in let c = h.second in let d = h.high in within_of t.2 (t.1 + 1) MAX_ELEMENTS (omega (arith, a, b, c)) d (omega (arith, c)) d;
+  within = let a = h.low in let b = h.first in let c = h.second in let d = h.high in
+      within_of t.2 (t.1 + 1) MAX_ELEMENTS (omega (arith, a, b, c)) d (omega (arith, c)) d;
 })
 
 -- the word at a place, where it is there
-pub same_there : (words : List (List ℕ)) (k low high e : ℕ) (word : List ℕ) → slice_get words k ≡ Some word → IsElementAt words k low high e → IsElementWithin word low high e
-same_there words k low high e word is at = subst (λ w. IsElementWithin w low high e) (one_some (sym at.there ∙ is)) at.within
+pub same_there : (words : List (List ℕ)) (k low high e : ℕ) (word : List ℕ) → slice_get words k ≡ Some word
+    → IsElementAt words k low high e → IsElementWithin word low high e
+same_there words k low high e word is at =
+    subst (λ w. IsElementWithin w low high e) (one_some (sym at.there ∙ is)) at.within
 
-three : (u v w : List ℕ) (a b c : ℕ) → IsElement u a → IsElement v b → IsElement w c → a < b → b < c → AreTriple (u ∷ v ∷ w ∷ []) (a, b, c)
+three : (u v w : List ℕ) (a b c : ℕ) → IsElement u a → IsElement v b → IsElement w c → a < b → b < c
+    → AreTriple (u ∷ v ∷ w ∷ []) (a, b, c)
 three u v w a b c p q r first second = record {
   low = p.low;
   first = first;
@@ -91,120 +116,205 @@ next_to : (e : ℕ) → 1 ≤ e → e ≤ MAX_ELEMENTS → IsElement (decimal e)
 next_to e low high = record { low = low; high = high; digits = refl }
 
 begin_none : Begins (HasValue AreTriple) []
-begin_none = (decimal 1 ∷ decimal 2 ∷ decimal 3 ∷ [], ((1, 2, 3), three (decimal 1) (decimal 2) (decimal 3) 1 2 3 (next_to 1 (lit≤ tt) (lit≤ tt)) (next_to 2 (lit≤ tt) (lit≤ tt)) (next_to 3 (lit≤ tt) (lit≤ tt)) (lit≤ tt) (lit≤ tt)))
+begin_none = (
+  decimal 1 ∷ decimal 2 ∷ decimal 3 ∷ [],
+  (
+    (1, 2, 3),
+    three (decimal 1) (decimal 2) (decimal 3) 1 2 3 (next_to 1 (lit≤ tt) (lit≤ tt))
+        (next_to 2 (lit≤ tt) (lit≤ tt)) (next_to 3 (lit≤ tt) (lit≤ tt)) (lit≤ tt) (lit≤ tt),
+  ),
+)
 
 begin_one : (u : List ℕ) (a : ℕ) → IsElementWithin u 1 (MAX_ELEMENTS - 2) a → Begins (HasValue AreTriple) (u ∷ [])
 begin_one u a h =
-    let low : a ≤ MAX_ELEMENTS - 2 = h.below in
-    (decimal (a + 1) ∷ decimal (a + 2) ∷ [], ((a, a + 1, a + 2), three u (decimal (a + 1)) (decimal (a + 2)) a (a + 1) (a + 2) h.element (next_to (a + 1) (omega arith) (omega (arith, low))) (next_to (a + 2) (omega arith) (omega (arith, low))) (omega arith) (omega arith)))
+    let low : a ≤ MAX_ELEMENTS - 2 = h.below in (
+      decimal (a + 1) ∷ decimal (a + 2) ∷ [],
+      (
+        (a, a + 1, a + 2),
+        three u (decimal (a + 1)) (decimal (a + 2)) a (a + 1) (a + 2) h.element
+            (next_to (a + 1) (omega arith) (omega (arith, low))) (next_to (a + 2) (omega arith) (omega (arith, low)))
+            (omega arith) (omega arith),
+      ),
+    )
 
-begin_two : (u v : List ℕ) (a b : ℕ) → IsElement u a → IsElementWithin v (a + 1) (MAX_ELEMENTS - 1) b → Begins (HasValue AreTriple) (u ∷ v ∷ [])
+begin_two : (u v : List ℕ) (a b : ℕ) → IsElement u a → IsElementWithin v (a + 1) (MAX_ELEMENTS - 1) b
+    → Begins (HasValue AreTriple) (u ∷ v ∷ [])
 begin_two u v a b p h =
     let low : b ≤ MAX_ELEMENTS - 1 = h.below in
-    let above : a + 1 ≤ b = h.above in
-    (decimal (b + 1) ∷ [], ((a, b, b + 1), three u v (decimal (b + 1)) a b (b + 1) p h.element (next_to (b + 1) (omega arith) (omega (arith, low))) (omega (arith, above)) (omega arith)))
+    let above : a + 1 ≤ b = h.above in (
+      decimal (b + 1) ∷ [],
+      (
+        (a, b, b + 1),
+        three u v (decimal (b + 1)) a b (b + 1) p h.element
+            (next_to (b + 1) (omega arith) (omega (arith, low))) (omega (arith, above)) (omega arith),
+      ),
+    )
 
 -- ---- the word at fault
 
-first_fault : (words : List (List ℕ)) → ((e : ℕ) → IsElementAt words 0 1 (MAX_ELEMENTS - 2) e → ⊥) → IsFault (HasValue AreTriple) words 1
+first_fault : (words : List (List ℕ)) → ((e : ℕ) → IsElementAt words 0 1 (MAX_ELEMENTS - 2) e → ⊥)
+    → IsFault (HasValue AreTriple) words 1
 first_fault [] none = at_end [] begin_none (λ h. none h.0.0 (first_of_three [] h.0 h.1))
-first_fault (u ∷ words) none = at_word [] u words begin_none (λ b. none b.1.0.0 (let at = first_of_three (u ∷ b.0) b.1.0 b.1.1 in record { word = u; there = refl; within = same_there (u ∷ b.0) 0 1 (MAX_ELEMENTS - 2) b.1.0.0 u refl at }))
+first_fault (u ∷ words) none =
+    at_word [] u words begin_none
+    (λ b. none b.1.0.0 (let at = first_of_three (u ∷ b.0) b.1.0 b.1.1 in
+    record { word = u; there = refl; within = same_there (u ∷ b.0) 0 1 (MAX_ELEMENTS - 2) b.1.0.0 u refl at }))
 
-second_fault : (words : List (List ℕ)) (a : ℕ) → IsElementAt words 0 1 (MAX_ELEMENTS - 2) a → ((e : ℕ) → IsElementAt words 1 (a + 1) (MAX_ELEMENTS - 1) e → ⊥) → IsFault (HasValue AreTriple) words 2
+second_fault : (words : List (List ℕ)) (a : ℕ) → IsElementAt words 0 1 (MAX_ELEMENTS - 2) a
+    → ((e : ℕ) → IsElementAt words 1 (a + 1) (MAX_ELEMENTS - 1) e → ⊥) → IsFault (HasValue AreTriple) words 2
 second_fault [] a p none = absurd (none_some p.word refl p.there)
-second_fault (u ∷ []) a p none = at_end (u ∷ []) (begin_one u a (same_there (u ∷ []) 0 1 (MAX_ELEMENTS - 2) a u refl p)) (λ h. let at = second_of_three (u ∷ []) h.0 h.1 in none_some at.word refl at.there)
+second_fault (u ∷ []) a p none =
+    at_end (u ∷ []) (begin_one u a (same_there (u ∷ []) 0 1 (MAX_ELEMENTS - 2) a u refl p))
+    (λ h. let at = second_of_three (u ∷ []) h.0 h.1 in none_some at.word refl at.there)
 second_fault (u ∷ v ∷ words) a p none =
-    let here : IsElementWithin u 1 (MAX_ELEMENTS - 2) a = same_there (u ∷ v ∷ words) 0 1 (MAX_ELEMENTS - 2) a u refl p in
+    let here : IsElementWithin u 1 (MAX_ELEMENTS - 2) a =
+    same_there (u ∷ v ∷ words) 0 1 (MAX_ELEMENTS - 2) a u refl p in
     at_word (u ∷ []) v words (begin_one u a here) (λ b. refused b.0 b.1.0 b.1.1 here)
   where
-    refused : (more : List (List ℕ)) (t : ℕ × ℕ × ℕ) → AreTriple (u ∷ v ∷ more) t → IsElementWithin u 1 (MAX_ELEMENTS - 2) a → ⊥
+    refused : (more : List (List ℕ)) (t : ℕ × ℕ × ℕ) → AreTriple (u ∷ v ∷ more) t
+        → IsElementWithin u 1 (MAX_ELEMENTS - 2) a → ⊥
     refused more t h here =
         let first = same_there (u ∷ v ∷ more) 0 1 (MAX_ELEMENTS - 2) t.0 u refl (first_of_three (u ∷ v ∷ more) t h) in
         let same : t.0 ≡ a = one_element u t.0 a first.element here.element in
-        let second = same_there (u ∷ v ∷ more) 1 (t.0 + 1) (MAX_ELEMENTS - 1) t.1 v refl (second_of_three (u ∷ v ∷ more) t h) in
-        none t.1 (record { word = v; there = refl; within = subst (λ e. IsElementWithin v (e + 1) (MAX_ELEMENTS - 1) t.1) same second })
+        let second = same_there (u ∷ v ∷ more) 1 (t.0 + 1) (MAX_ELEMENTS - 1) t.1 v refl
+        (second_of_three (u ∷ v ∷ more) t h) in
+        none t.1 (record {
+          word = v;
+          there = refl;
+          within =
+              subst (λ e. IsElementWithin v (e + 1) (MAX_ELEMENTS - 1) t.1) same second;
+        })
 
-third_fault : (words : List (List ℕ)) (a b : ℕ) → IsElementAt words 0 1 (MAX_ELEMENTS - 2) a → IsElementAt words 1 (a + 1) (MAX_ELEMENTS - 1) b → ((e : ℕ) → IsElementAt words 2 (b + 1) MAX_ELEMENTS e → ⊥) → IsFault (HasValue AreTriple) words 3
+third_fault : (words : List (List ℕ)) (a b : ℕ) → IsElementAt words 0 1 (MAX_ELEMENTS - 2) a
+    → IsElementAt words 1 (a + 1) (MAX_ELEMENTS - 1) b → ((e : ℕ) → IsElementAt words 2 (b + 1) MAX_ELEMENTS e → ⊥)
+    → IsFault (HasValue AreTriple) words 3
 third_fault [] a b p q none = absurd (none_some p.word refl p.there)
 third_fault (u ∷ []) a b p q none = absurd (none_some q.word refl q.there)
 third_fault (u ∷ v ∷ []) a b p q none =
     let first = same_there (u ∷ v ∷ []) 0 1 (MAX_ELEMENTS - 2) a u refl p in
     let second = same_there (u ∷ v ∷ []) 1 (a + 1) (MAX_ELEMENTS - 1) b v refl q in
-    at_end (u ∷ v ∷ []) (begin_two u v a b first.element second) (λ h. let at = third_of_three (u ∷ v ∷ []) h.0 h.1 in none_some at.word refl at.there)
+    at_end (u ∷ v ∷ []) (begin_two u v a b first.element second)
+    (λ h. let at = third_of_three (u ∷ v ∷ []) h.0 h.1 in none_some at.word refl at.there)
 third_fault (u ∷ v ∷ w ∷ words) a b p q none =
     let first = same_there (u ∷ v ∷ w ∷ words) 0 1 (MAX_ELEMENTS - 2) a u refl p in
     let second = same_there (u ∷ v ∷ w ∷ words) 1 (a + 1) (MAX_ELEMENTS - 1) b v refl q in
     at_word (u ∷ v ∷ []) w words (begin_two u v a b first.element second) (λ h. refused h.0 h.1.0 h.1.1 second)
   where
-    refused : (more : List (List ℕ)) (t : ℕ × ℕ × ℕ) → AreTriple (u ∷ v ∷ w ∷ more) t → IsElementWithin v (a + 1) (MAX_ELEMENTS - 1) b → ⊥
+    refused : (more : List (List ℕ)) (t : ℕ × ℕ × ℕ) → AreTriple (u ∷ v ∷ w ∷ more) t
+        → IsElementWithin v (a + 1) (MAX_ELEMENTS - 1) b → ⊥
     refused more t h here =
-        let second = same_there (u ∷ v ∷ w ∷ more) 1 (t.0 + 1) (MAX_ELEMENTS - 1) t.1 v refl (second_of_three (u ∷ v ∷ w ∷ more) t h) in
+        let second = same_there (u ∷ v ∷ w ∷ more) 1 (t.0 + 1) (MAX_ELEMENTS - 1) t.1 v refl
+        (second_of_three (u ∷ v ∷ w ∷ more) t h) in
         let same : t.1 ≡ b = one_element v t.1 b second.element here.element in
-        let third = same_there (u ∷ v ∷ w ∷ more) 2 (t.1 + 1) MAX_ELEMENTS t.2 w refl (third_of_three (u ∷ v ∷ w ∷ more) t h) in
-        none t.2 (record { word = w; there = refl; within = subst (λ e. IsElementWithin w (e + 1) MAX_ELEMENTS t.2) same third })
+        let third = same_there (u ∷ v ∷ w ∷ more) 2 (t.1 + 1) MAX_ELEMENTS t.2 w refl
+        (third_of_three (u ∷ v ∷ w ∷ more) t h) in
+        none t.2 (record {
+          word = w;
+          there = refl;
+          within =
+              subst (λ e. IsElementWithin w (e + 1) MAX_ELEMENTS t.2) same third;
+        })
 
 -- ---- the elements are one
 
-same_first : (words : List (List ℕ)) (t : ℕ × ℕ × ℕ) (a : ℕ) → AreTriple words t → IsElementAt words 0 1 (MAX_ELEMENTS - 2) a → t.0 ≡ a
+same_first : (words : List (List ℕ)) (t : ℕ × ℕ × ℕ) (a : ℕ) → AreTriple words t
+    → IsElementAt words 0 1 (MAX_ELEMENTS - 2) a → t.0 ≡ a
 same_first words t a h p =
     let other = first_of_three words t h in
     one_element p.word t.0 a (same_there words 0 1 (MAX_ELEMENTS - 2) t.0 p.word p.there other).element p.within.element
 
-same_second : (words : List (List ℕ)) (t : ℕ × ℕ × ℕ) (b low : ℕ) → AreTriple words t → IsElementAt words 1 low (MAX_ELEMENTS - 1) b → t.1 ≡ b
+same_second : (words : List (List ℕ)) (t : ℕ × ℕ × ℕ) (b low : ℕ) → AreTriple words t
+    → IsElementAt words 1 low (MAX_ELEMENTS - 1) b → t.1 ≡ b
 same_second words t b low h q =
     let other = second_of_three words t h in
-    one_element q.word t.1 b (same_there words 1 (t.0 + 1) (MAX_ELEMENTS - 1) t.1 q.word q.there other).element q.within.element
+    one_element q.word t.1 b (same_there words 1 (t.0 + 1) (MAX_ELEMENTS - 1) t.1 q.word q.there other).element
+    q.within.element
 
-triple_of : (u v w : List ℕ) (rest : List (List ℕ)) (a b c : ℕ) → IsElementAt (u ∷ v ∷ w ∷ rest) 0 1 (MAX_ELEMENTS - 2) a → IsElementAt (u ∷ v ∷ w ∷ rest) 1 (a + 1) (MAX_ELEMENTS - 1) b → IsElementAt (u ∷ v ∷ w ∷ rest) 2 (b + 1) MAX_ELEMENTS c → AreTriple (u ∷ v ∷ w ∷ []) (a, b, c)
+triple_of : (u v w : List ℕ) (rest : List (List ℕ)) (a b c : ℕ)
+    → IsElementAt (u ∷ v ∷ w ∷ rest) 0 1 (MAX_ELEMENTS - 2) a
+    → IsElementAt (u ∷ v ∷ w ∷ rest) 1 (a + 1) (MAX_ELEMENTS - 1) b
+    → IsElementAt (u ∷ v ∷ w ∷ rest) 2 (b + 1) MAX_ELEMENTS c → AreTriple (u ∷ v ∷ w ∷ []) (a, b, c)
 triple_of u v w rest a b c p q r =
     let first = same_there (u ∷ v ∷ w ∷ rest) 0 1 (MAX_ELEMENTS - 2) a u refl p in
     let second = same_there (u ∷ v ∷ w ∷ rest) 1 (a + 1) (MAX_ELEMENTS - 1) b v refl q in
     let third = same_there (u ∷ v ∷ w ∷ rest) 2 (b + 1) MAX_ELEMENTS c w refl r in
-    three u v w a b c first.element second.element third.element (let h = second.above in omega (arith, h)) (let h = third.above in omega (arith, h))
+    three u v w a b c first.element second.element third.element (let h = second.above in omega (arith, h))
+    (let h = third.above in omega (arith, h))
 
 -- ---- what the words are read as
 
-fault_read : (words : List (List ℕ)) (k : ℕ) (u : Usage) → u.word ≡ k + 1 → ((t : ℕ × ℕ × ℕ) → AreTriple words t → ⊥) → IsFault (HasValue AreTriple) words k → IsRead AreTriple words (Err u)
-fault_read words k u is none fault = record { value = λ t. (λ made. absurd (no_value _ t made), λ h. absurd (none t h)); fault = (k, (is, fault)) }
+fault_read : (words : List (List ℕ)) (k : ℕ) (u : Usage) → u.word ≡ k + 1 → ((t : ℕ × ℕ × ℕ) → AreTriple words t → ⊥)
+    → IsFault (HasValue AreTriple) words k → IsRead AreTriple words (Err u)
+fault_read words k u is none fault =
+    record { value = λ t. (λ made. absurd (no_value _ t made), λ h. absurd (none t h)); fault = (k, (is, fault)) }
 
-pub none_at : {result : Result ℕ Usage} {u : Usage} (P : ℕ → Type 0) → ((e : ℕ) → (result ≡ Ok e) ↔ P e) → result ≡ Err u → (e : ℕ) → P e → ⊥
+pub none_at : {result : Result ℕ Usage} {u : Usage} (P : ℕ → Type 0) → ((e : ℕ) → (result ≡ Ok e) ↔ P e)
+    → result ≡ Err u → (e : ℕ) → P e → ⊥
 none_at P value is e p = let made = (value e).1 p in cc
 
-pub word_of : (result : Result ℕ Usage) (u : Usage) (k : ℕ) → IfErr result (λ usage. usage.word ≡ k) → result ≡ Err u → u.word ≡ k
+pub word_of : (result : Result ℕ Usage) (u : Usage) (k : ℕ) → IfErr result (λ usage. usage.word ≡ k) → result ≡ Err u
+    → u.word ≡ k
 word_of result u k fault is = subst (λ r. IfErr r (λ usage. usage.word ≡ k)) is fault
 
-passed_on : (words : List (List ℕ)) (u : Usage) (passed : Result (ℕ × ℕ × ℕ) Usage) → IsErrAnd passed (λ e. e ≡ u) → IsRead AreTriple words (Err u) → IsRead AreTriple words passed
+passed_on : (words : List (List ℕ)) (u : Usage) (passed : Result (ℕ × ℕ × ℕ) Usage) → IsErrAnd passed (λ e. e ≡ u)
+    → IsRead AreTriple words (Err u) → IsRead AreTriple words passed
 passed_on words u (Ok t) err read = absurd err
 passed_on words u (Err e) err read = rw err read
 
-pub first_bad : (words : List (List ℕ)) (result : Result ℕ Usage) (u : Usage) (passed : Result (ℕ × ℕ × ℕ) Usage) → ((e : ℕ) → (result ≡ Ok e) ↔ IsElementAt words 0 1 (MAX_ELEMENTS - 2) e) → IfErr result (λ usage. usage.word ≡ 2) → result ≡ Err u → IsErrAnd passed (λ e. e ≡ u) → IsRead AreTriple words passed
+pub first_bad : (words : List (List ℕ)) (result : Result ℕ Usage) (u : Usage) (passed : Result (ℕ × ℕ × ℕ) Usage)
+    → ((e : ℕ) → (result ≡ Ok e) ↔ IsElementAt words 0 1 (MAX_ELEMENTS - 2) e) → IfErr result (λ usage. usage.word ≡ 2)
+    → result ≡ Err u → IsErrAnd passed (λ e. e ≡ u) → IsRead AreTriple words passed
 first_bad words result u passed value fault is err =
     let none = none_at (IsElementAt words 0 1 (MAX_ELEMENTS - 2)) value is in
-    passed_on words u passed err (fault_read words 1 u (word_of result u 2 fault is) (λ t h. none t.0 (first_of_three words t h)) (first_fault words none))
+    passed_on words u passed err
+    (fault_read words 1 u (word_of result u 2 fault is) (λ t h. none t.0 (first_of_three words t h))
+    (first_fault words none))
 
-pub second_bad : (words : List (List ℕ)) (result : Result ℕ Usage) (u : Usage) (passed : Result (ℕ × ℕ × ℕ) Usage) (a : ℕ) → IsElementAt words 0 1 (MAX_ELEMENTS - 2) a → ((e : ℕ) → (result ≡ Ok e) ↔ IsElementAt words 1 (a + 1) (MAX_ELEMENTS - 1) e) → IfErr result (λ usage. usage.word ≡ 3) → result ≡ Err u → IsErrAnd passed (λ e. e ≡ u) → IsRead AreTriple words passed
+pub second_bad : (words : List (List ℕ)) (result : Result ℕ Usage) (u : Usage) (passed : Result (ℕ × ℕ × ℕ) Usage)
+    (a : ℕ) → IsElementAt words 0 1 (MAX_ELEMENTS - 2) a
+    → ((e : ℕ) → (result ≡ Ok e) ↔ IsElementAt words 1 (a + 1) (MAX_ELEMENTS - 1) e)
+    → IfErr result (λ usage. usage.word ≡ 3) → result ≡ Err u → IsErrAnd passed (λ e. e ≡ u)
+    → IsRead AreTriple words passed
 second_bad words result u passed a p value fault is err =
     let none = none_at (IsElementAt words 1 (a + 1) (MAX_ELEMENTS - 1)) value is in
-    passed_on words u passed err (fault_read words 2 u (word_of result u 3 fault is) (λ t h. none t.1 (subst (λ e. IsElementAt words 1 (e + 1) (MAX_ELEMENTS - 1) t.1) (same_first words t a h p) (second_of_three words t h))) (second_fault words a p none))
+    passed_on words u passed err
+    (fault_read words 2 u (word_of result u 3 fault is)
+    (λ t h. none t.1
+    (subst (λ e. IsElementAt words 1 (e + 1) (MAX_ELEMENTS - 1) t.1) (same_first words t a h p)
+    (second_of_three words t h))) (second_fault words a p none))
 
-pub third_bad : (words : List (List ℕ)) (result : Result ℕ Usage) (u : Usage) (passed : Result (ℕ × ℕ × ℕ) Usage) (a b : ℕ) → IsElementAt words 0 1 (MAX_ELEMENTS - 2) a → IsElementAt words 1 (a + 1) (MAX_ELEMENTS - 1) b → ((e : ℕ) → (result ≡ Ok e) ↔ IsElementAt words 2 (b + 1) MAX_ELEMENTS e) → IfErr result (λ usage. usage.word ≡ 4) → result ≡ Err u → IsErrAnd passed (λ e. e ≡ u) → IsRead AreTriple words passed
+pub third_bad : (words : List (List ℕ)) (result : Result ℕ Usage) (u : Usage) (passed : Result (ℕ × ℕ × ℕ) Usage)
+    (a b : ℕ) → IsElementAt words 0 1 (MAX_ELEMENTS - 2) a → IsElementAt words 1 (a + 1) (MAX_ELEMENTS - 1) b
+    → ((e : ℕ) → (result ≡ Ok e) ↔ IsElementAt words 2 (b + 1) MAX_ELEMENTS e) → IfErr result (λ usage. usage.word ≡ 4)
+    → result ≡ Err u → IsErrAnd passed (λ e. e ≡ u) → IsRead AreTriple words passed
 third_bad words result u passed a b p q value fault is err =
     let none = none_at (IsElementAt words 2 (b + 1) MAX_ELEMENTS) value is in
-    passed_on words u passed err (fault_read words 3 u (word_of result u 4 fault is) (λ t h. none t.2 (subst (λ e. IsElementAt words 2 (e + 1) MAX_ELEMENTS t.2) (same_second words t b (a + 1) h q) (third_of_three words t h))) (third_fault words a b p q none))
+    passed_on words u passed err
+    (fault_read words 3 u (word_of result u 4 fault is)
+    (λ t h. none t.2
+    (subst (λ e. IsElementAt words 2 (e + 1) MAX_ELEMENTS t.2) (same_second words t b (a + 1) h q)
+    (third_of_three words t h))) (third_fault words a b p q none))
 
-pub triple_long : {X : Type 0} (f : X → List ℕ) (xs : List X) (a b c : ℕ) → IsElementAt (map f xs) 0 1 (MAX_ELEMENTS - 2) a → IsElementAt (map f xs) 1 (a + 1) (MAX_ELEMENTS - 1) b → IsElementAt (map f xs) 2 (b + 1) MAX_ELEMENTS c → 3 < length xs → IsRead AreTriple (map f xs) (Err (record { word = 5 }))
+pub triple_long : {X : Type 0} (f : X → List ℕ) (xs : List X) (a b c : ℕ)
+    → IsElementAt (map f xs) 0 1 (MAX_ELEMENTS - 2) a → IsElementAt (map f xs) 1 (a + 1) (MAX_ELEMENTS - 1) b
+    → IsElementAt (map f xs) 2 (b + 1) MAX_ELEMENTS c → 3 < length xs
+    → IsRead AreTriple (map f xs) (Err (record { word = 5 }))
 triple_long f [] a b c p q r l = absurd (omega arith)
 triple_long f (u ∷ []) a b c p q r l = absurd (omega arith)
 triple_long f (u ∷ v ∷ []) a b c p q r l = absurd (omega arith)
 triple_long f (u ∷ v ∷ w ∷ []) a b c p q r l = absurd (omega arith)
 triple_long f (u ∷ v ∷ w ∷ x ∷ more) a b c p q r l =
     let words : List (List ℕ) = map f (u ∷ v ∷ w ∷ x ∷ more) in
-    fault_read words 4 (record { word = 5 }) refl (λ t h. too_long (map f more) t h) (at_word (f u ∷ f v ∷ f w ∷ []) (f x) (map f more) ([], ((a, b, c), triple_of (f u) (f v) (f w) (f x ∷ map f more) a b c p q r)) (λ h. too_long h.0 h.1.0 h.1.1))
+    fault_read words 4 (record { word = 5 }) refl (λ t h. too_long (map f more) t h)
+    (at_word (f u ∷ f v ∷ f w ∷ []) (f x) (map f more)
+    ([], ((a, b, c), triple_of (f u) (f v) (f w) (f x ∷ map f more) a b c p q r)) (λ h. too_long h.0 h.1.0 h.1.1))
   where
     too_long : (rest : List (List ℕ)) (t : ℕ × ℕ × ℕ) → AreTriple (f u ∷ f v ∷ f w ∷ f x ∷ rest) t → ⊥
     too_long rest t h = let same : f x ∷ rest ≡ [] = ap (λ ws. tail_of (tail_of (tail_of ws))) h.digits in cc
 
-pub triple_read : {X : Type 0} (f : X → List ℕ) (xs : List X) (a b c : ℕ) → IsElementAt (map f xs) 0 1 (MAX_ELEMENTS - 2) a → IsElementAt (map f xs) 1 (a + 1) (MAX_ELEMENTS - 1) b → IsElementAt (map f xs) 2 (b + 1) MAX_ELEMENTS c → length xs ≤ 3 → IsRead AreTriple (map f xs) (Ok (a, b, c))
+pub triple_read : {X : Type 0} (f : X → List ℕ) (xs : List X) (a b c : ℕ)
+    → IsElementAt (map f xs) 0 1 (MAX_ELEMENTS - 2) a → IsElementAt (map f xs) 1 (a + 1) (MAX_ELEMENTS - 1) b
+    → IsElementAt (map f xs) 2 (b + 1) MAX_ELEMENTS c → length xs ≤ 3 → IsRead AreTriple (map f xs) (Ok (a, b, c))
 triple_read f [] a b c p q r l = absurd (none_some p.word refl p.there)
 triple_read f (u ∷ []) a b c p q r l = absurd (none_some q.word refl q.there)
 triple_read f (u ∷ v ∷ []) a b c p q r l = absurd (none_some r.word refl r.there)
@@ -213,11 +323,14 @@ triple_read f (u ∷ v ∷ w ∷ []) a b c p q r l =
     let words : List (List ℕ) = f u ∷ f v ∷ f w ∷ [] in
     record {
       value = λ t. (
-        λ made. let same : (a, b, c) ≡ t = cc in subst (AreTriple words) same (triple_of (f u) (f v) (f w) [] a b c p q r),
+        λ made. let same : (a, b, c) ≡ t = cc in
+            subst (AreTriple words) same (triple_of (f u) (f v) (f w) [] a b c p q r),
         λ h.
             let first : a ≡ t.0 = sym (same_first words t a h p) in
             let second : b ≡ t.1 = sym (same_second words t b (a + 1) h q) in
-            let third : c ≡ t.2 = one_element (f w) c t.2 (same_there words 2 (b + 1) MAX_ELEMENTS c (f w) refl r).element (same_there words 2 (t.1 + 1) MAX_ELEMENTS t.2 (f w) refl (third_of_three words t h)).element in
+            let third : c ≡ t.2 =
+            one_element (f w) c t.2 (same_there words 2 (b + 1) MAX_ELEMENTS c (f w) refl r).element
+            (same_there words 2 (t.1 + 1) MAX_ELEMENTS t.2 (f w) refl (third_of_three words t h)).element in
             ap Ok (same_triple a b c t first second third),
       );
       fault = tt;

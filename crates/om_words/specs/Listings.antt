@@ -1,5 +1,6 @@
 -- Colours of elements, and elements with signs, as words list them.
-use Rattle.std.specs.Prelude.{ℕ, ◌≡◌, ◌≤◌, ◌-◌, ◌∷◌, ◌++◌, List, [], Bool, false, cond, not, nat_eq, nat_le, nat_lt, ◌&&◌, length, replicate, Option, Some, None, is_some, option_map}
+use Rattle.std.specs.Prelude.{ℕ, ◌≡◌, ◌≤◌, ◌-◌, ◌∷◌, ◌++◌, List, [], Bool, false, cond, not, nat_eq, nat_le, nat_lt}
+use Rattle.std.specs.Prelude.{◌&&◌, length, replicate, Option, Some, None, is_some, option_map}
 use Rattle.std.specs.List.{list_all, list_any, filter_map}
 use Rattle.om_signs.specs.declared.limits.TheConstants.{MAX_ELEMENTS}
 use Rattle.om_signs.specs.declared.sign.Sign.{Sign}
@@ -14,24 +15,27 @@ use Rattle.om_words.specs.Elements.{IsElement}
 use Rattle.om_words.specs.Fits.{EachFits}
 use Rattle.om_words.specs.Options.{number_within}
 
--- the values, and behind them the filler up to the most that are listed
+-- the values, followed by the filler up to the greatest length of a list
 abbrev pub padded : {A : Type 0} → A → List A → List A
 padded filler values = values ++ replicate (MAX_LISTED - length values) filler
 
 -- ---- `paint COLOURS E`
 
 abbrev pub colour_of : ℕ → Option Colour
-colour_of b = cond (nat_eq b 82) (Some Red) (cond (nat_eq b 71) (Some Green) (cond (nat_eq b 66) (Some Black) (cond (nat_eq b 87) (Some White) None)))
+colour_of b =
+    cond (nat_eq b 82) (Some Red)
+    (cond (nat_eq b 71) (Some Green) (cond (nat_eq b 66) (Some Black) (cond (nat_eq b 87) (Some White) None)))
 
 -- 1 to 20 letters `R`, `G`, `B` or `W`
 abbrev pub are_colours : List ℕ → Bool
-are_colours word = nat_le 1 (length word) && nat_le (length word) MAX_LISTED && list_all (λ b. is_some (colour_of b)) word
+are_colours word = nat_le 1 (length word) && nat_le (length word) MAX_LISTED
+    && list_all (λ b. is_some (colour_of b)) word
 
--- the colours of a word
+-- the colours that a word spells
 abbrev pub colours_of : List ℕ → Option (List Colour)
 colours_of word = cond (are_colours word) (Some (padded White (filter_map colour_of word))) None
 
--- the words are colours and an element
+-- the words are a colouring and an element
 pub record AreColouring (words : List (List ℕ)) (colouring : Colouring) : Type 0 where
   pub letters : List ℕ
   pub digits : List ℕ
@@ -45,29 +49,31 @@ pub record AreColouring (words : List (List ℕ)) (colouring : Colouring) : Type
 abbrev pub with_sign : Sign → Option ℕ → Option Signed
 with_sign s e = option_map (λ (e : ℕ). record { element = e; sign = s }) e
 
--- the element with a sign that a word is: `+` or `-`, and the number of the element
+-- the element with a sign that a word spells: `+` or `-`, and the number of the element
 abbrev pub signed_of : List ℕ → Option Signed
 signed_of [] = None
-signed_of (b ∷ digits) = cond (nat_eq b 43) (with_sign Plus (number_within 1 MAX_ELEMENTS digits)) (cond (nat_eq b 45) (with_sign Minus (number_within 1 MAX_ELEMENTS digits)) None)
+signed_of (b ∷ digits) = cond (nat_eq b 43) (with_sign Plus (number_within 1 MAX_ELEMENTS digits))
+    (cond (nat_eq b 45) (with_sign Minus (number_within 1 MAX_ELEMENTS digits)) None)
 
 abbrev pub has_element : ℕ → Option Signed → Bool
 has_element e None = false
 has_element e (Some x) = nat_eq x.element e
 
--- whether some word is this element with a sign
+-- whether some word spells element e with a sign
 abbrev pub is_among : ℕ → List (List ℕ) → Bool
 is_among e words = list_any (λ word. has_element e (signed_of word)) words
 
--- whether there is an element with a sign, and the words before it don't have this element
+-- whether there is an element with a sign, and no word before spells this element
 abbrev pub is_new : List (List ℕ) → Option Signed → Bool
 is_new before None = false
 is_new before (Some x) = not (is_among x.element before)
 
--- whether a word is one of at most 20, and an element with a sign, and none before it has this element
+-- whether the word spells an element with a sign, no word before spells this element, and fewer than 20 words stand
+-- before
 abbrev pub is_leading : List (List ℕ) → List ℕ → Bool
 is_leading before word = nat_lt (length before) MAX_LISTED && is_new before (signed_of word)
 
--- the words are elements with signs, and the elements are different
+-- the words spell distinct elements with signs
 pub record AreLeading (words : List (List ℕ)) (leading : Leading) : Type 0 where
   pub some : 1 ≤ length words
   pub each : EachFits is_leading words

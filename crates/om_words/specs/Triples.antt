@@ -1,10 +1,10 @@
--- Three elements, strictly increasing.
+-- Three strictly increasing elements.
 use Rattle.std.specs.Prelude.{ℕ, ◌≡◌, ◌<◌, ◌≤◌, List, [], ◌∷◌, Some, slice_get}
 use Rattle.std.specs.Fmt.{decimal}
 use Rattle.om_signs.specs.declared.limits.TheConstants.{MAX_ELEMENTS}
 use Rattle.om_words.specs.Elements.{IsElement}
 
--- the words are the numbers of three elements, strictly increasing
+-- the words are the numbers of three strictly increasing elements
 pub record AreTriple (words : List (List ℕ)) (triple : ℕ × ℕ × ℕ) : Type 0 where
   pub low : 1 ≤ triple.0
   pub first : triple.0 < triple.1
@@ -18,7 +18,7 @@ pub record IsElementWithin (word : List ℕ) (low high e : ℕ) : Type 0 where
   pub above : low ≤ e
   pub below : e ≤ high
 
--- the word at this place, counted from 0, is such a number
+-- the word at this place, counted from 0, is the number of an element from low to high
 pub record IsElementAt (words : List (List ℕ)) (place low high e : ℕ) : Type 0 where
   pub word : List ℕ
   pub there : slice_get words place ≡ Some word

@@ -12,7 +12,9 @@ use Rattle.om_text.specs.declared.kinds.Kind.{Kind}
 use Rattle.om_text.specs.declared.kinds.Kind.TheVariants as kind
 use Rattle.om_words.specs.Options.{AreBudgets, AreSeedAndCount, AreLines}
 use Rattle.om_words.specs.declared.task.Task.{Task}
-use Rattle.om_words.specs.declared.task.Task.TheVariants.{Accept, Member, Convert, Dual, Delete, Contract, Reorient, Wiring, Mutations, Flip, Extend, Decide, Paint, Hull, Lexext, Threeterm, Upgrade, Check, Make}
+use Rattle.om_words.specs.declared.task.Task.TheVariants.{Accept, Member, Convert, Dual, Delete, Contract, Reorient}
+use Rattle.om_words.specs.declared.task.Task.TheVariants.{Wiring, Mutations, Flip, Extend, Decide, Paint, Hull, Lexext}
+use Rattle.om_words.specs.declared.task.Task.TheVariants.{Threeterm, Upgrade, Check, Make}
 use Rattle.om_words.specs.declared.usage.Usage.{Usage}
 use Rattle.om_words.specs.declared.verb.Verb.{Verb}
 use Rattle.om_words.specs.declared.verb.Verb.TheVariants as verb
@@ -38,7 +40,7 @@ kind_word kind.Covectors = codes "covectors"
 abbrev pub NamesKind : List ℕ → Kind → Type 0
 NamesKind word k = word ≡ kind_word k
 
--- the words are the numbers of at least one element, strictly increasing, and the mask is that of these elements
+-- the words are the numbers of at least one element, strictly increasing, and the mask is the set of these elements
 pub record AreElements (words : List (List ℕ)) (mask : ℕ) : Type 0 where
   pub elements : List ℕ
   pub some : 1 ≤ length elements
@@ -50,7 +52,7 @@ pub record AreElements (words : List (List ℕ)) (mask : ℕ) : Type 0 where
 abbrev pub AreNone : List (List ℕ) → Unit {0} → Type 0
 AreNone words _ = words ≡ []
 
--- there is one word alone, and it spells the value
+-- there is exactly one word, and it spells the value
 abbrev pub IsAlone : {A : Type 0} → (List ℕ → A → Type 0) → List (List ℕ) → A → Type 0
 IsAlone Spelling words a = (word : List ℕ) × ((words ≡ word ∷ []) × Spelling word a)
 
@@ -97,7 +99,7 @@ verb_word verb.Decide = codes "decide"
 verb_word verb.Check = codes "check"
 verb_word verb.Make = codes "make"
 
--- the words behind the first one are those of the task
+-- the words after the first one are those of the task
 abbrev pub AreArguments : Task → List (List ℕ) → Type 0
 AreArguments Accept words = AreNone words tt
 AreArguments (Member x) words = IsAlone Spells words x
@@ -129,13 +131,16 @@ pub record Names (words : List (List ℕ)) (task : Task) : Type 0 where
 abbrev pub AreCommand : List (List ℕ) → Type 0
 AreCommand words = (task : Task) × Names words task
 
--- In a language of lists of words, word K, counted from 1, is the one at fault: with the words before it some list begins, and together
--- with it none does. Where some list begins with all words together, and they are none themselves, it is the word after the last.
+-- In a language of lists of words, word K, counted from 1, is at fault: some list begins with the words before it,
+-- and none with these words and it. If some list begins with all words together, but they are no list of the
+-- language, K is one more than their number.
 pub data IsFault (Language : List (List ℕ) → Type 0) : List (List ℕ) → ℕ → Type 0 where
-  at_word : (before : List (List ℕ)) (word : List ℕ) (after : List (List ℕ)) → Begins Language before → (Begins Language (before ++ word ∷ []) → ⊥) → IsFault Language (before ++ word ∷ after) (length before + 1)
-  at_end : (words : List (List ℕ)) → Begins Language words → (Language words → ⊥) → IsFault Language words (length words + 1)
+  at_word : (before : List (List ℕ)) (word : List ℕ) (after : List (List ℕ)) → Begins Language before
+      → (Begins Language (before ++ word ∷ []) → ⊥) → IsFault Language (before ++ word ∷ after) (length before + 1)
+  at_end : (words : List (List ℕ)) → Begins Language words → (Language words → ⊥)
+      → IsFault Language words (length words + 1)
 
--- word K is the one at fault among words that aren't a command
+-- word K is at fault, and the words aren't a command
 abbrev pub IsUsage : List (List ℕ) → ℕ → Type 0
 IsUsage words k = IsFault AreCommand words k
 
@@ -143,13 +148,14 @@ IsUsage words k = IsFault AreCommand words k
 abbrev pub HasValue : {A : Type 0} → (List (List ℕ) → A → Type 0) → List (List ℕ) → Type 0
 HasValue {A} Reading words = (a : A) × Reading words a
 
--- what the words behind the first one of a command are read as: their value exactly where they have one, and else the word at fault, where the
--- first one counts too
-pub record IsRead {A : Type 0} (Reading : List (List ℕ) → A → Type 0) (words : List (List ℕ)) (result : Result A Usage) : Type 0 where
+-- A call reads the words after the first one of a command. It returns their value exactly if they have one, and
+-- else the word at fault, counted from the first word of the command.
+pub record IsRead {A : Type 0} (Reading : List (List ℕ) → A → Type 0) (words : List (List ℕ))
+    (result : Result A Usage) : Type 0 where
   pub value : (a : A) → (result ≡ Ok a) ↔ Reading words a
   pub fault : IfErr result (λ usage. (k : ℕ) × ((usage.word ≡ k + 1) × IsFault (HasValue Reading) words k))
 
--- the task that a verb and the words behind it name, or the word at fault
+-- the task that a verb and the words after it name, or the word at fault
 pub record AreNamed (v : Verb) (words : List (List ℕ)) (result : Result Task Usage) : Type 0 where
   pub task : (task : Task) → (result ≡ Ok task) ↔ Names (verb_word v ∷ words) task
   pub usage : IfErr result (λ usage. IsUsage (verb_word v ∷ words) usage.word)

@@ -1,4 +1,4 @@
-//! Commands with one word behind the first one.
+//! Commands with one word after the first one.
 
 ghost use Rattle.std.specs.Prelude.{ℕ, ◌≡◌, ◌↔◌, ◌∷◌, List, map, string_bytes};
 ghost use Rattle.om_words.specs.Words.{IsAlone, IsRead};
@@ -8,7 +8,7 @@ use super::usage::Usage;
 use om_signs::SignVec;
 use om_text::Kind;
 
-/// A value that one word spells.
+/// A value that a single word can spell.
 pub trait Argument: Copy {
     /// The word spells the value.
     ghost spells: { List ℕ → Self → Type 0 };
@@ -17,7 +17,7 @@ pub trait Argument: Copy {
     fn read(word: &String) -> Option<Self>
         ensures { (a : Self) → (result ≡ Some a) ↔ spells (string_bytes word.now) a };
 
-    /// Some word spells a value.
+    /// Some word spells some value.
     ghost some: { (word : List ℕ) × ((a : Self) × spells word a) };
 }
 
@@ -64,7 +64,7 @@ impl Argument for u8 {
     }
 }
 
-/// The value of the only word behind the first one of a command.
+/// The value of the single word after the first word of a command.
 pub fn only<A: Argument>(rest: &[String]) -> Result<A, Usage>
     ensures { IsRead (IsAlone A.spells) (map string_bytes rest.now) result }
 {
@@ -74,7 +74,7 @@ pub fn only<A: Argument>(rest: &[String]) -> Result<A, Usage>
     }
 }
 
-/// The value of a word behind the first one of a command, where no more words follow.
+/// The value of a word after the first word of a command, if no more words follow.
 fn alone<A: Argument>(word: &String, more: &[String]) -> Result<A, Usage>
     ensures { IsRead (IsAlone A.spells) (string_bytes word.now ∷ map string_bytes more.now) result }
 {

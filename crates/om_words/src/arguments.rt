@@ -1,4 +1,4 @@
-//! Commands with no word behind the first one, and with any number of them.
+//! Commands with no word after the first one, and commands with any number of elements after it.
 
 ghost use Rattle.std.specs.Prelude.{ℕ, ◌≡◌, ◌↔◌, ◌<◌, map, string_bytes};
 ghost use Rattle.om_words.specs.Words.{AreNone, AreElements, IsElement, IsRead};
@@ -8,7 +8,7 @@ use super::usage::Usage;
 use om_signs::MAX_ELEMENTS;
 use om_subsets::Subset;
 
-/// That no word stands behind the first one of a command.
+/// Checks that no word follows the first word of a command.
 pub fn none(rest: &[String]) -> Result<(), Usage>
     ensures { IsRead AreNone (map string_bytes rest.now) result }
 {
@@ -19,7 +19,7 @@ pub fn none(rest: &[String]) -> Result<(), Usage>
     }
 }
 
-/// The mask of the elements whose numbers stand behind the first word of a command.
+/// The mask of the elements whose numbers follow the first word of a command.
 pub fn elements(rest: &[String]) -> Result<u32, Usage>
     ensures { IsRead AreElements (map string_bytes rest.now) result }
 {
@@ -40,7 +40,7 @@ pub fn elements(rest: &[String]) -> Result<u32, Usage>
     Ok(chosen.mask())
 }
 
-/// The element whose number a word is, where it is above the last one.
+/// The element whose number the word is, if it is greater than `last`.
 fn element_above(word: &String, last: u8) -> Option<u8>
     ensures { (e : ℕ) → (result ≡ Some e) ↔ (IsElement (string_bytes word.now) e × (last < e)) }
 {

@@ -1,4 +1,4 @@
-//! Colours of elements, and an element.
+//! A colouring of the elements, together with an element.
 
 ghost use Rattle.std.specs.Prelude.{◌≡◌, map, string_bytes};
 ghost use Rattle.om_words.specs.Words.{IsRead};
@@ -10,12 +10,12 @@ use super::usage::Usage;
 use om_paint::Colour;
 use om_signs::MAX_ELEMENTS;
 
-/// Colours and an element.
+/// A colouring of the elements, together with an element.
 #[derive(Clone, Copy)]
 pub struct Colouring {
-    /// The colours, and white from `count` on.
+    /// The colours of the elements from 1 on. The places from `count` on are white.
     pub colours: [Colour; MAX_LISTED],
-    /// How many colours there are, at least one.
+    /// The number of colours, from 1 to [`MAX_LISTED`].
     pub count: u8,
     /// The element, from 1 to [`MAX_ELEMENTS`].
     pub e: u8,
@@ -48,7 +48,7 @@ fn colours_of(word: &[u8]) -> Option<[Colour; MAX_LISTED]>
     Some(colours)
 }
 
-/// Colours and an element.
+/// The colouring and the element that the words after the first word of a command spell.
 pub fn colours_and_element(rest: &[String]) -> Result<Colouring, Usage>
     ensures { IsRead AreColouring (map string_bytes rest.now) result }
 {

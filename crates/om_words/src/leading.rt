@@ -1,4 +1,4 @@
-//! Different elements with signs.
+//! Distinct elements with signs.
 
 ghost use Rattle.std.specs.Prelude.{◌≡◌, ◌<◌, map, length, string_bytes, IfSome, IfNone, Some, true, false};
 ghost use Rattle.om_words.specs.Words.{IsRead};
@@ -10,22 +10,22 @@ use super::usage::Usage;
 use om_lexext::Signed;
 use om_signs::{MAX_ELEMENTS, Sign};
 
-/// What stands at the places that no word fills.
+/// The value at the places that no word fills.
 const UNLISTED: Signed = Signed {
     element: 1,
     sign: Sign::Plus,
 };
 
-/// Different elements with signs.
+/// Distinct elements with signs.
 #[derive(Clone, Copy)]
 pub struct Leading {
-    /// The elements with their signs, and element 1 with `+` from `count` on.
+    /// The elements with their signs. The places from `count` on hold element 1 with `+`.
     pub list: [Signed; MAX_LISTED],
-    /// How many there are, at least one.
+    /// The number of listed elements, from 1 to [`MAX_LISTED`].
     pub count: u8,
 }
 
-/// The element with a sign that a word is.
+/// The element with a sign that the word spells.
 fn signed_of(word: &[u8]) -> Option<Signed>
     ensures { result ≡ signed_of word.now }
 {
@@ -41,7 +41,7 @@ fn signed_of(word: &[u8]) -> Option<Signed>
     })
 }
 
-/// Whether a word is this element with a sign.
+/// Whether the word spells element e with a sign.
 fn has_element(word: &String, e: u8) -> bool
     ensures { result ≡ has_element e (signed_of (string_bytes word.now)) }
 {
@@ -51,7 +51,7 @@ fn has_element(word: &String, e: u8) -> bool
     }
 }
 
-/// Whether some word is this element with a sign.
+/// Whether some word spells element e with a sign.
 fn is_among(e: u8, words: &[String]) -> bool
     ensures { result ≡ is_among e (map string_bytes words.now) }
 {
@@ -63,7 +63,7 @@ fn is_among(e: u8, words: &[String]) -> bool
     false
 }
 
-/// The element with a sign that a word is, where there is room for it and no word before it has this element.
+/// The element with a sign that the word spells, if there is room for it and no earlier word spells this element.
 fn leading_of(before: &[String], word: &String) -> Option<Signed>
     ensures none { IfNone result (is_leading (map string_bytes before.now) (string_bytes word.now) ≡ false) }
     ensures leading { IfSome result (λ x. is_leading (map string_bytes before.now) (string_bytes word.now) ≡ true) }
@@ -81,7 +81,7 @@ fn leading_of(before: &[String], word: &String) -> Option<Signed>
     }
 }
 
-/// Different elements with signs, at least one.
+/// The distinct elements with signs, at least one, that the words after the first word of a command spell.
 pub fn signed_elements(rest: &[String]) -> Result<Leading, Usage>
     ensures { IsRead AreLeading (map string_bytes rest.now) result }
 {

@@ -1,7 +1,7 @@
 //! The words of a command, and the task that they name.
 //!
-//! [`command`] reads the words behind the program's name as a [`Task`], or tells by [`Usage`] which word is at fault. It
-//! takes no memory.
+//! [`command`] reads the words after the program's name as a [`Task`]. If they name none, [`Usage`] says which word
+//! is at fault. The call allocates no memory.
 #![tactic(auto)]
 
 mod argument;

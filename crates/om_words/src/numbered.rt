@@ -1,4 +1,4 @@
-//! Commands with numbers behind the first word.
+//! Commands with numbers after the first word.
 
 ghost use Rattle.std.specs.Prelude.{◌∷◌, map, string_bytes};
 ghost use Rattle.om_words.specs.Words.{IsRead};
@@ -7,9 +7,9 @@ ghost use Rattle.om_words.specs.Options.{AreLines, AreBudgets, AreSeedAndCount};
 use super::options::{number_of, number_within, options};
 use super::setting::Setting;
 use super::usage::Usage;
-use om_decide::Budgets;
+use om_budgets::Budgets;
 
-/// The most lines of a listing, from 1 to [`om_signs::MAX_LINES`].
+/// The greatest number of lines of a listing, from 1 to [`om_signs::MAX_LINES`].
 pub fn lines(rest: &[String]) -> Result<u64, Usage>
     ensures { IsRead AreLines (map string_bytes rest.now) result }
 {
@@ -33,7 +33,7 @@ pub fn budgets(rest: &[String]) -> Result<Budgets, Usage>
     })
 }
 
-/// The number that vectors are made from, and how many are made.
+/// The number from which vectors are made, and how many are made.
 pub fn seed_and_count(rest: &[String]) -> Result<(u32, u8), Usage>
     ensures { IsRead AreSeedAndCount (map string_bytes rest.now) result }
 {

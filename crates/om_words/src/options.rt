@@ -1,14 +1,16 @@
-//! Numbers within a range, and options `--name=K` in any order, each at most once.
+//! Numbers within a range, and options `--name=K`, in any order and each at most once.
 
 ghost use Rattle.std.specs.Prelude.{◌≡◌, ◌≤◌, ◌<◌, ◌+◌, ◌^◌, map, length, string_bytes, is_some, IfSome};
 ghost use Rattle.om_words.specs.Readings.{IsReadBehind};
-ghost use Rattle.om_words.specs.Options.{number_within, given_number, is_given, is_option, AreOptions, number_of, greatest_number};
+ghost use Rattle.om_words.specs.Options.{number_within, given_number, is_given, is_option, AreOptions, number_of};
+ghost use Rattle.om_words.specs.Options.{greatest_number};
 
 use super::setting::{Setting, default_number, greatest_number, least_number, option_text};
 use super::usage::Usage;
 use om_text::words::unsigned_number;
 
-/// The number from `least` to `greatest` that a word is: decimal digits without a leading zero, save `0` itself.
+/// The number from `least` to `greatest` that the word spells: decimal digits without a leading zero, except for
+/// `0` itself.
 pub fn number_within(word: &[u8], least: u32, greatest: u32) -> Option<u32>
     ensures value { result ≡ number_within least greatest word.now }
     ensures within { IfSome result (λ n. n ≤ greatest) }
@@ -19,7 +21,7 @@ pub fn number_within(word: &[u8], least: u32, greatest: u32) -> Option<u32>
     }
 }
 
-/// The number that a word gives a setting.
+/// The number that the word gives to a setting.
 fn given_number(setting: Setting, word: &[u8]) -> Option<u32>
     ensures value { result ≡ given_number setting word.now }
     ensures within { IfSome result (λ n. n ≤ greatest_number setting) }
@@ -36,14 +38,14 @@ fn given_number(setting: Setting, word: &[u8]) -> Option<u32>
     }
 }
 
-/// Whether a word gives the setting a number.
+/// Whether the word gives a number to the setting.
 fn gives(word: &String, setting: Setting) -> bool
     ensures { result ≡ is_some (given_number setting (string_bytes word.now)) }
 {
     given_number(setting, word.as_bytes()).is_some()
 }
 
-/// Whether some word gives the setting a number.
+/// Whether some word gives a number to the setting.
 fn is_given(setting: Setting, words: &[String]) -> bool
     ensures { result ≡ is_given setting (map string_bytes words.now) }
 {
@@ -55,15 +57,15 @@ fn is_given(setting: Setting, words: &[String]) -> bool
     false
 }
 
-/// Whether a word gives a number to one of the settings to which no word before it gives one.
+/// Whether the word gives a number to one of the settings, and no earlier word gives one to this setting.
 fn is_option(settings: &[Setting], before: &[String], word: &String) -> bool
     ensures { result ≡ is_option settings.now (map string_bytes before.now) (string_bytes word.now) }
 {
     settings.iter().any(|setting| gives(word, *setting) && !is_given(*setting, before))
 }
 
-/// That the words are options of these settings, in any order, each at most once. They stand behind the first `passed`
-/// words of a command.
+/// Checks that the words are options of these settings, in any order and each at most once. They follow the first
+/// `passed` words of a command.
 pub fn options(settings: &[Setting], words: &[String], passed: u32) -> Result<(), Usage>
     requires { passed + length settings.now + 1 < 2 ^ 32 }
     ensures { IsReadBehind passed (AreOptions settings.now) (map string_bytes words.now) result }
@@ -78,7 +80,8 @@ pub fn options(settings: &[Setting], words: &[String], passed: u32) -> Result<()
     Ok(())
 }
 
-/// The number of a setting behind these words: what the first word that gives it one says, and its default where none does.
+/// The number of a setting after these words: the one that the first word for this setting gives, or else its
+/// default.
 pub fn number_of(words: &[String], setting: Setting) -> u32
     ensures value { result ≡ number_of (map string_bytes words.now) setting }
     ensures within { result ≤ greatest_number setting }

@@ -3,8 +3,8 @@
 pub enum Reads {
     /// A document.
     Document,
-    /// A claim: a document, and a verdict behind it.
+    /// A claim: a document followed by a verdict.
     Claim,
-    /// Nothing: the source stays as it is.
+    /// Nothing: the source is left as it is.
     Nothing,
 }

@@ -1,26 +1,26 @@
-//! What options give numbers, and the ranges of these.
+//! The settings to which options give numbers, and the ranges of these numbers.
 
 ghost use Rattle.std.specs.Prelude.{◌≡◌, ◌≤◌};
 ghost use Rattle.om_words.specs.Options.{option_text, least_number, greatest_number, default_number};
 
 use om_signs::{MAX_BOX, MAX_DRAWN, MAX_LINES, MAX_PIVOTS, MAX_STEPS, MIN_DRAWN};
 
-/// What an option gives a number.
+/// A setting to which an option gives a number.
 #[derive(Clone, Copy)]
 pub enum Setting {
-    /// The most lines of a listing.
+    /// The greatest number of lines of a listing.
     First,
-    /// The greatest size of a coordinate in a search for vectors.
+    /// The greatest absolute value of a coordinate in a search for vectors.
     BoxSize,
-    /// The most steps of that search.
+    /// The greatest number of steps of that search.
     Steps,
-    /// The most pivots of a tableau run.
+    /// The greatest number of pivots of a run of the tableau.
     Pivots,
     /// The number of vectors that are made.
     Count,
 }
 
-/// The text of an option in front of its number.
+/// The text of an option before its number.
 pub fn option_text(setting: Setting) -> &'static str
     ensures { result.now ≡ option_text setting }
 {
@@ -33,7 +33,7 @@ pub fn option_text(setting: Setting) -> &'static str
     }
 }
 
-/// The least number that an option may have.
+/// The least number that the option may give.
 pub fn least_number(setting: Setting) -> u32
     ensures { result ≡ least_number setting }
 {
@@ -43,7 +43,7 @@ pub fn least_number(setting: Setting) -> u32
     }
 }
 
-/// The greatest number that an option may have.
+/// The greatest number that the option may give.
 pub fn greatest_number(setting: Setting) -> u32
     ensures { result ≡ greatest_number setting }
 {
@@ -56,7 +56,7 @@ pub fn greatest_number(setting: Setting) -> u32
     }
 }
 
-/// The number of a setting to which no option gives one.
+/// The number of a setting if no option gives one.
 pub fn default_number(setting: Setting) -> u32
     ensures { result ≡ default_number setting }
 {

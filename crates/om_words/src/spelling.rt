@@ -12,14 +12,14 @@ use om_signs::{MAX_ELEMENTS, SignVec};
 use om_text::Kind;
 use om_text::words::{is_sign_byte, sign_of_byte};
 
-/// Whether a word is this one.
+/// Whether the word is this text.
 pub fn is_word(word: &String, text: &str) -> bool
     ensures { IsTrue result ↔ (string_bytes word.now ≡ text.now) }
 {
     word.as_str() == text
 }
 
-/// Whether a word is the digits of a number.
+/// Whether the word is the decimal digits of n.
 fn is_number(word: &String, n: u8) -> bool
     ensures { IsTrue result ↔ (string_bytes word.now ≡ decimal n) }
 {
@@ -27,7 +27,7 @@ fn is_number(word: &String, n: u8) -> bool
     is_word(word, buffer.format(n))
 }
 
-/// The element whose number a word is.
+/// The element whose number the word is.
 pub fn element(word: &String) -> Option<u8>
     ensures { (e : ℕ) → (result ≡ Some e) ↔ IsElement (string_bytes word.now) e }
 {
@@ -39,7 +39,7 @@ pub fn element(word: &String) -> Option<u8>
     None
 }
 
-/// The sign vector that a word spells.
+/// The sign vector that the word spells.
 pub fn spelled(word: &[u8]) -> Option<SignVec>
     ensures { (x : List Sign) → (result ≡ Some x) ↔ Spells word.now x }
 {
@@ -49,7 +49,7 @@ pub fn spelled(word: &[u8]) -> Option<SignVec>
     Some(sign_vector(word))
 }
 
-/// Whether each byte is that of a sign.
+/// Whether each byte is a sign: `+`, `-` or `0`.
 fn are_signs(word: &[u8]) -> bool
     ensures { result ≡ list_all is_sign word.now }
 {
@@ -69,7 +69,7 @@ fn sign_vector(word: &[u8]) -> SignVec
     x
 }
 
-/// The kind that a word names.
+/// The kind that the word names.
 pub fn named_kind(word: &String) -> Option<Kind>
     ensures { (kind : Kind) → (result ≡ Some kind) ↔ NamesKind (string_bytes word.now) kind }
 {

@@ -1,4 +1,4 @@
-//! Commands with elements at fixed places.
+//! Commands with three elements after the first word.
 
 ghost use Rattle.std.specs.Prelude.{ℕ, ◌≡◌, ◌↔◌, ◌<◌, ◌≤◌, ◌+◌, ◌^◌, map, string_bytes, IfErr};
 ghost use Rattle.om_words.specs.Words.{IsRead};
@@ -8,7 +8,7 @@ use super::spelling::element;
 use super::usage::Usage;
 use om_signs::MAX_ELEMENTS;
 
-/// The element from `low` to `high` whose number a word is.
+/// The element from `low` to `high` whose number the word is.
 fn element_between(word: &String, low: u8, high: u8) -> Option<u8>
     ensures { (e : ℕ) → (result ≡ Some e) ↔ IsElementWithin (string_bytes word.now) low high e }
 {
@@ -16,8 +16,8 @@ fn element_between(word: &String, low: u8, high: u8) -> Option<u8>
     if low <= e && e <= high { Some(e) } else { None }
 }
 
-/// The element from `low` to `high` whose number is the word at this place, counted from 0 behind the first word of a
-/// command.
+/// The element from `low` to `high` whose number is the word at this place. Places count from 0 after the first
+/// word of a command.
 pub fn element_at(rest: &[String], place: usize, low: u8, high: u8) -> Result<u8, Usage>
     requires { place + 2 < 2 ^ 32 }
     ensures value { (e : ℕ) → (result ≡ Ok e) ↔ IsElementAt (map string_bytes rest.now) place low high e }
@@ -36,7 +36,7 @@ pub fn element_at(rest: &[String], place: usize, low: u8, high: u8) -> Result<u8
     }
 }
 
-/// Three elements, strictly increasing.
+/// The three strictly increasing elements that the words after the first word of a command name.
 pub fn triple(rest: &[String]) -> Result<(u8, u8, u8), Usage>
     ensures { IsRead AreTriple (map string_bytes rest.now) result }
 {

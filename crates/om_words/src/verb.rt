@@ -53,7 +53,7 @@ const VERBS: [Verb; 19] = [
 ];
 
 impl Verb {
-    /// The word.
+    /// The text of the verb.
     fn word(self) -> &'static str
         ensures { result.now ≡ verb_word self }
     {
@@ -81,7 +81,7 @@ impl Verb {
     }
 }
 
-/// The verb that a word is.
+/// The verb that the word names.
 pub fn named_verb(word: &String) -> Option<Verb>
     ensures { (verb : Verb) → (result ≡ Some verb) ↔ (string_bytes word.now ≡ verb_word verb) }
 {

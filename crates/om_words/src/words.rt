@@ -14,15 +14,18 @@ use super::triple::triple;
 use super::usage::Usage;
 use super::verb::{Verb, named_verb};
 
-/// The task that the words name. `Usage` comes exactly where they name none. It takes no memory. Which words name which
-/// task stands in `docs/FORMATS.md`, "Words and texts", and in `specs/Words.antt` (`Names`).
+/// The task that the words name. `Usage` comes exactly if they name none, and says which word is at fault. The call
+/// allocates no memory.
+///
+/// `docs/FORMATS.md`, "Words and texts", says which words name which task, and `specs/Words.antt` defines it
+/// (`Names`).
 pub fn command(words: &[String]) -> Result<Task, Usage>
     ensures task { (task : Task) → (result ≡ Ok task) ↔ Names (map string_bytes words.now) task }
 
     // The arguments of the task lie within the limits.
     ensures lawful { IfOk result HasLawfulArguments }
 
-    // The word at fault.
+    // The word in the error is the word at fault.
     ensures usage { IfErr result (λ usage. IsUsage (map string_bytes words.now) usage.word) }
 {
     match words {
@@ -31,9 +34,10 @@ pub fn command(words: &[String]) -> Result<Task, Usage>
     }
 }
 
-/// The task that a first word and the words behind it name.
+/// The task that the first word and the words after it name.
 fn after_first(first: &String, rest: &[String]) -> Result<Task, Usage>
-    ensures task { (task : Task) → (result ≡ Ok task) ↔ Names (string_bytes first.now ∷ map string_bytes rest.now) task }
+    ensures task { (task : Task) → (result ≡ Ok task)
+        ↔ Names (string_bytes first.now ∷ map string_bytes rest.now) task }
     ensures usage { IfErr result (λ usage. IsUsage (string_bytes first.now ∷ map string_bytes rest.now) usage.word) }
 {
     match named_verb(first) {
@@ -42,7 +46,7 @@ fn after_first(first: &String, rest: &[String]) -> Result<Task, Usage>
     }
 }
 
-/// The task that a verb and the words behind it name.
+/// The task that a verb and the words after it name.
 fn after_verb(verb: Verb, rest: &[String]) -> Result<Task, Usage>
     ensures { AreNamed verb (map string_bytes rest.now) result }
 {

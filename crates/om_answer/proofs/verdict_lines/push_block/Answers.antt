@@ -6,4 +6,8 @@ use Rattle.om_answer.proofs.BlockTexts.{on_ok, lines_after}
 use Rattle.om_answer.proofs.verdict_lines.push_block.Goals as goal
 
 pub returns : goal.returns
-returns c = on_ok c.push.result (lines_after (word_line (verdict_name c.args.verdict.now) ∷ verdict_lines c.args.verdict.now) (end_line ∷ []) c.args.text.now.items c.push_lines.new.text.items c.push.new.text.items c.in_ok-push_lines.ensures) c.push.ensures.ok
+returns c =
+    on_ok c.push.result
+    (lines_after (word_line (verdict_name c.args.verdict.now) ∷ verdict_lines c.args.verdict.now) (end_line ∷ [])
+    c.args.text.now.items c.push_lines.new.text.items c.push.new.text.items c.in_ok-push_lines.ensures)
+    c.push.ensures.ok

@@ -11,4 +11,6 @@ no_count = record { column = 0; times = 0 }
 pub loop-count-preserved : goal.loop-count-preserved
 loop-count-preserved c =
     let f : Count → Entry = λ k. record { statement = statement_at c.args.statements.now k.column; times = k.times } in
-    c.in_ok-push.ensures.ok ∙ ap (λ es. es ++ f (get_or c.args.counts.now c.loop-count.count-index no_count) ∷ []) c.loop-count.invariant ∙ sym (map_more f c.args.counts.now c.loop-count.count-index no_count c.loop-count-test.true)
+    c.in_ok-push.ensures.ok ∙ ap (λ es. es ++ f (get_or c.args.counts.now c.loop-count.count-index no_count) ∷ [])
+    c.loop-count.invariant
+    ∙ sym (map_more f c.args.counts.now c.loop-count.count-index no_count c.loop-count-test.true)

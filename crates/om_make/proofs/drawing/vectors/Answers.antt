@@ -11,6 +11,8 @@ push-requires c =
 pub loop-place-preserved : goal.loop-place-preserved
 loop-place-preserved c = record {
   low = omega arith;
-  word = words_more c.args.seed c.loop-place._place _ _ _ _ c.loop-place.invariant.low c.loop-place.invariant.word c.loop-place.invariant.state c.vector.ensures.value c.push.ensures;
-  state = states_more c.args.seed c.loop-place._place _ _ c.loop-place.invariant.low c.loop-place.invariant.state c.vector.ensures.state;
+  word = words_more c.args.seed c.loop-place._place _ _ _ _ c.loop-place.invariant.low c.loop-place.invariant.word
+      c.loop-place.invariant.state c.vector.ensures.value c.push.ensures;
+  state = states_more c.args.seed c.loop-place._place _ _ c.loop-place.invariant.low c.loop-place.invariant.state
+      c.vector.ensures.state;
 }

@@ -11,4 +11,5 @@ overflow_cast-result c =
     omega arith
 
 pub unreachable-requires : goal.unreachable-requires
-unreachable-requires c = ((c.in-Err-NotRank3.ensures.rank c.in-Err-NotRank3.field-0-0).0 (ap Err c.in-Err-NotRank3.field-0-is)).1 c.requires
+unreachable-requires c =
+    ((c.in-Err-NotRank3.ensures.rank c.in-Err-NotRank3.field-0-0).0 (ap Err c.in-Err-NotRank3.field-0-is)).1 c.requires

@@ -6,8 +6,16 @@ use Rattle.om_make.proofs.listing.list_covectors.Goals as goal
 
 pub unreachable-requires-in-Err-TooMany : goal.unreachable-requires-in-Err-TooMany
 unreachable-requires-in-Err-TooMany c =
-    let cause = subst (IsCause (IsCovectorOfChirotope c.args.chi.now)) c.in-Err-TooMany.field-0-is c.in-Err-TooMany.ensures.many in
+    let cause = subst (IsCause (IsCovectorOfChirotope c.args.chi.now)) c.in-Err-TooMany.field-0-is
+    c.in-Err-TooMany.ensures.many in
     few_covectors c.args.chi.now c.is_lawful.ensures.lawful c.requires c.is_lawful.ensures.high cause.1
 
 pub returns-in-Ok : goal.returns-in-Ok
-returns-in-Ok c = record { axioms = c.is_lawful.ensures.lawful; elements = c.in-Ok.ensures.elements; members = c.in-Ok.ensures.members; same = c.in-Ok.ensures.same }
+returns-in-Ok c =
+    record {
+      axioms = c.is_lawful.ensures.lawful;
+      elements = c.in-Ok.ensures.elements;
+      members =
+          c.in-Ok.ensures.members;
+      same = c.in-Ok.ensures.same;
+    }

@@ -6,8 +6,11 @@ use Rattle.om_make.proofs.return_trip.back_from_cocircuits.Goals as goal
 
 pub unreachable-requires : goal.unreachable-requires
 unreachable-requires c =
-    let cause = subst (IsWidthCause c.args.cocircuits.now.0.elements (IsCovectorOfCocircuits c.args.cocircuits.now.0)) c.in-Err-TooWide.field-0-is c.in-Err-TooWide.ensures.refused in
-    narrow_cocircuits c.args.chi.now c.args.cocircuits.now.0 c.requires.cocircuits c.requires.rank c.is_lawful.ensures.high c.in-Err-TooWide.field-0-0 cause
+    let cause = subst (IsWidthCause c.args.cocircuits.now.0.elements (IsCovectorOfCocircuits c.args.cocircuits.now.0))
+    c.in-Err-TooWide.field-0-is c.in-Err-TooWide.ensures.refused in
+    narrow_cocircuits c.args.chi.now c.args.cocircuits.now.0 c.requires.cocircuits c.requires.rank
+    c.is_lawful.ensures.high c.in-Err-TooWide.field-0-0 cause
 
 pub returns-in-Ok : goal.returns-in-Ok
-returns-in-Ok c = back_from_cocircuits _ _ _ c.requires.cocircuits c.is_lawful-in-Ok.ensures.lawful c.in-Ok.ensures.elements c.in-Ok.ensures.same c.in-Ok.ensures.normal
+returns-in-Ok c = back_from_cocircuits _ _ _ c.requires.cocircuits c.is_lawful-in-Ok.ensures.lawful
+    c.in-Ok.ensures.elements c.in-Ok.ensures.same c.in-Ok.ensures.normal

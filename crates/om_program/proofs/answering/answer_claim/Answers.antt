@@ -1,4 +1,4 @@
-use Rattle.std.specs.Prelude.{Err}
+use Rattle.std.specs.Prelude.{Err, refl}
 use Rattle.std.specs.declared.result.Result.{Result}
 use Rattle.std.proofs.Common.{subst}
 use Rattle.om_text.specs.declared.parse_error.ParseError.{ParseError}
@@ -10,9 +10,12 @@ use Rattle.om_program.specs.Meaning.{faulty_claim, claimed}
 use Rattle.om_program.proofs.answering.answer_claim.Goals as goal
 
 pub returns-in_ok-verify-in-Ok : goal.returns-in_ok-verify-in-Ok
-returns-in_ok-verify-in-Ok g c = λ task reads. claimed c.in-Ok.claim _ reads c.requires c.in-Ok.ensures.claim c.in_ok-verify-in-Ok.ensures
+returns-in_ok-verify-in-Ok g c =
+    claimed c.in-Ok.claim _ refl c.requires c.in-Ok.ensures.claim c.in_ok-verify-in-Ok.ensures
 
 pub returns-in-Err-Line : goal.returns-in-Err-Line
-returns-in-Err-Line g c = λ task reads.
-    let P : ParseError → Type 0 = λ e. (let r : Result Claim ParseError = Err e in IfLine r (IsClaimFault (lines c.args.bytes.now))) in
-    rw (c.in-Err-Line.line-is, c.in-Err-Line.code-is) (faulty_claim _ _ reads c.requires (subst P c.in-Err-Line.field-0-is c.in-Err-Line.ensures.fault))
+returns-in-Err-Line g c =
+    let P : ParseError → Type 0 =
+    λ e. (let r : Result Claim ParseError = Err e in IfLine r (IsClaimFault (lines c.args.bytes.now))) in
+    rw (c.in-Err-Line.line-is, c.in-Err-Line.code-is)
+    (faulty_claim _ _ refl c.requires (subst P c.in-Err-Line.field-0-is c.in-Err-Line.ensures.fault))

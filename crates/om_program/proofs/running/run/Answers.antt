@@ -5,7 +5,7 @@ use Rattle.om_words.specs.declared.task.Task.{Task}
 use Rattle.om_words.specs.Tasks.{reads}
 use Rattle.om_words.specs.Words.{Names}
 use Rattle.om_program.proofs.CompletenessLaws.{alone_ends, always_answered}
-use Rattle.om_program.proofs.EvidenceLaws.{evidence_decides}
+use Rattle.om_plane.proofs.EvidenceLaws.{evidence_decides}
 use Rattle.om_program.specs.Meaning.{Means}
 use Rattle.om_program.specs.Run.{ReadNothing}
 use Rattle.om_program.proofs.MeaningLaws.{whole, cut_off, named_answer, named_cut_off, usage_meant}
@@ -17,10 +17,13 @@ pub carry_out-requires-clause-lawful : goal.carry_out-requires-clause-lawful
 carry_out-requires-clause-lawful g c κs within = c.in-Ok.ensures.lawful
 
 pub returns-in-Ok-clause-answer : goal.returns-in-Ok-clause-answer
-returns-in-Ok-clause-answer g c = λ answered. named_answer _ _ _ _ _ _ ((c.in-Ok.ensures.task c.in-Ok.task).0 refl) (c.carry_out.ensures.answer answered)
+returns-in-Ok-clause-answer g c =
+    λ answered. named_answer _ _ _ _ _ _ ((c.in-Ok.ensures.task c.in-Ok.task).0 refl)
+    (c.carry_out.ensures.answer answered)
 
 pub returns-in-Ok-clause-cut : goal.returns-in-Ok-clause-cut
-returns-in-Ok-clause-cut g c = λ cut. named_cut_off _ _ _ _ _ ((c.in-Ok.ensures.task c.in-Ok.task).0 refl) (c.carry_out.ensures.cut cut)
+returns-in-Ok-clause-cut g c =
+    λ cut. named_cut_off _ _ _ _ _ ((c.in-Ok.ensures.task c.in-Ok.task).0 refl) (c.carry_out.ensures.cut cut)
 
 pub returns-in-Ok-clause-decided : goal.returns-in-Ok-clause-decided
 returns-in-Ok-clause-decided g c = verdicts_found_valid
@@ -47,16 +50,20 @@ pub returns-in-Err-clause-determined : goal.returns-in-Err-clause-determined
 returns-in-Err-clause-determined g c = words_determined _ _ c.in-Err.ensures.task
 
 pub returns-in-Err-clause-answer : goal.returns-in-Err-clause-answer
-returns-in-Err-clause-answer g c = λ answered. whole (Means _) _ _ _ _ _ (usage_meant _ _ _ c.in-Err.ensures.usage) (c.write_usage.ensures.whole answered)
+returns-in-Err-clause-answer g c =
+    λ answered. whole (Means _) _ _ _ _ _ (usage_meant _ _ _ c.in-Err.ensures.usage)
+    (c.write_usage.ensures.whole answered)
 
 pub returns-in-Err-clause-cut : goal.returns-in-Err-clause-cut
-returns-in-Err-clause-cut g c = λ cut. cut_off (Means _) _ _ _ _ (usage_meant _ _ _ c.in-Err.ensures.usage) (c.write_usage.ensures.cut cut)
+returns-in-Err-clause-cut g c =
+    λ cut. cut_off (Means _) _ _ _ _ (usage_meant _ _ _ c.in-Err.ensures.usage) (c.write_usage.ensures.cut cut)
 
 no_value : {A E : Type 0} (e : E) (a : A) → ◌≡◌ {A = Result A E} (Err e) (Ok a) → ⊥
 no_value e a same = cc
 
 pub returns-in-Ok-clause-reading : goal.returns-in-Ok-clause-reading
-returns-in-Ok-clause-reading g c = λ fault. (c.in-Ok.task, ((c.in-Ok.ensures.task c.in-Ok.task).0 refl, c.carry_out.ensures.reading fault))
+returns-in-Ok-clause-reading g c =
+    λ fault. (c.in-Ok.task, ((c.in-Ok.ensures.task c.in-Ok.task).0 refl, c.carry_out.ensures.reading fault))
 
 pub returns-in-Err-clause-only : goal.returns-in-Err-clause-only
 returns-in-Err-clause-only g c = λ is command. no_value _ _ ((c.in-Err.ensures.task command.0).1 command.1)
@@ -65,53 +72,72 @@ same_value : {A E : Type 0} (a b : A) → ◌≡◌ {A = Result A E} (Ok a) (Ok 
 same_value a b same = cc
 
 pub returns-in-Ok-clause-alone : goal.returns-in-Ok-clause-alone
-returns-in-Ok-clause-alone g c = λ task named nothing. c.carry_out.ensures.unread (subst (λ t. reads t ≡ source.Nothing) (sym (same_value _ _ ((c.in-Ok.ensures.task task).1 named))) nothing)
+returns-in-Ok-clause-alone g c =
+    λ task named nothing. c.carry_out.ensures.unread
+    (subst (λ t. reads t ≡ source.Nothing) (sym (same_value _ _ ((c.in-Ok.ensures.task task).1 named))) nothing)
 
 pub returns-in-Err-clause-alone : goal.returns-in-Err-clause-alone
 returns-in-Err-clause-alone g c = λ task named nothing. absurd (no_value _ _ ((c.in-Err.ensures.task task).1 named))
 
 pub returns-in-Ok-clause-taken : goal.returns-in-Ok-clause-taken
 returns-in-Ok-clause-taken g c = λ answered command.
-    c.carry_out.ensures.taken answered (subst (λ t. reads t ≢ source.Nothing) (sym (same_value _ _ ((c.in-Ok.ensures.task command.0).1 command.1.0))) command.1.1)
+    c.carry_out.ensures.taken answered
+    (subst (λ t. reads t ≢ source.Nothing) (sym (same_value _ _ ((c.in-Ok.ensures.task command.0).1 command.1.0)))
+    command.1.1)
 
 pub returns-in-Err-clause-taken : goal.returns-in-Err-clause-taken
-returns-in-Err-clause-taken g c = λ answered command. absurd (no_value _ _ ((c.in-Err.ensures.task command.0).1 command.1.0))
+returns-in-Err-clause-taken g c =
+    λ answered command. absurd (no_value _ _ ((c.in-Err.ensures.task command.0).1 command.1.0))
 
 -- the one task of words that read nothing reads nothing
-nothing_read : (words : List (List ℕ)) (t : Task) → Names words t → ((s : Task) → Names words s → s ≡ t) → ReadNothing words → reads t ≡ source.Nothing
+nothing_read : (words : List (List ℕ)) (t : Task) → Names words t → ((s : Task) → Names words s → s ≡ t)
+    → ReadNothing words → reads t ≡ source.Nothing
 nothing_read words t names one (inl none) = absurd (none (t, names))
 nothing_read words t names one (inr (s, (named, nothing))) = subst (λ k. reads k ≡ source.Nothing) (one s named) nothing
 
 pub returns-in-Ok-clause-alone_answer : goal.returns-in-Ok-clause-alone_answer
 returns-in-Ok-clause-alone_answer g c = λ lone answered bytes.
     let own = (c.in-Ok.ensures.task c.in-Ok.task).0 refl in
-    let nothing : reads c.in-Ok.task ≡ source.Nothing = nothing_read _ c.in-Ok.task own (λ s named. sym (same_value _ _ ((c.in-Ok.ensures.task s).1 named))) lone in
+    let nothing : reads c.in-Ok.task ≡ source.Nothing =
+    nothing_read _ c.in-Ok.task own (λ s named. sym (same_value _ _ ((c.in-Ok.ensures.task s).1 named))) lone in
     named_answer _ c.in-Ok.task (Some bytes) _ _ _ own (c.carry_out.ensures.alone_answer nothing answered bytes)
 
 pub returns-in-Ok-clause-alone_cut : goal.returns-in-Ok-clause-alone_cut
 returns-in-Ok-clause-alone_cut g c = λ lone cut bytes.
     let own = (c.in-Ok.ensures.task c.in-Ok.task).0 refl in
-    let nothing : reads c.in-Ok.task ≡ source.Nothing = nothing_read _ c.in-Ok.task own (λ s named. sym (same_value _ _ ((c.in-Ok.ensures.task s).1 named))) lone in
+    let nothing : reads c.in-Ok.task ≡ source.Nothing =
+    nothing_read _ c.in-Ok.task own (λ s named. sym (same_value _ _ ((c.in-Ok.ensures.task s).1 named))) lone in
     named_cut_off _ c.in-Ok.task (Some bytes) _ _ own (c.carry_out.ensures.alone_cut nothing cut bytes)
 
 pub returns-in-Err-clause-alone_answer : goal.returns-in-Err-clause-alone_answer
-returns-in-Err-clause-alone_answer g c = λ lone answered bytes. whole (Means _) (Some bytes) _ _ _ _ (usage_meant _ _ (Some bytes) c.in-Err.ensures.usage) (c.write_usage.ensures.whole answered)
+returns-in-Err-clause-alone_answer g c =
+    λ lone answered bytes. whole (Means _) (Some bytes) _ _ _ _ (usage_meant _ _ (Some bytes) c.in-Err.ensures.usage)
+    (c.write_usage.ensures.whole answered)
 
 pub returns-in-Err-clause-alone_cut : goal.returns-in-Err-clause-alone_cut
-returns-in-Err-clause-alone_cut g c = λ lone cut bytes. cut_off (Means _) (Some bytes) _ _ _ (usage_meant _ _ (Some bytes) c.in-Err.ensures.usage) (c.write_usage.ensures.cut cut)
+returns-in-Err-clause-alone_cut g c =
+    λ lone cut bytes. cut_off (Means _) (Some bytes) _ _ _ (usage_meant _ _ (Some bytes) c.in-Err.ensures.usage)
+    (c.write_usage.ensures.cut cut)
 
 pub returns-in-Ok-clause-alone_ends : goal.returns-in-Ok-clause-alone_ends
 returns-in-Ok-clause-alone_ends g c = λ task named nothing.
-    let own : reads c.in-Ok.task ≡ source.Nothing = subst (λ t. reads t ≡ source.Nothing) (sym (same_value _ _ ((c.in-Ok.ensures.task task).1 named))) nothing in
-    alone_ends c.in-Ok.task _ _ _ own (c.carry_out.ensures.alone_answer own) (λ fault. c.carry_out.ensures.reading fault own)
+    let own : reads c.in-Ok.task ≡ source.Nothing =
+    subst (λ t. reads t ≡ source.Nothing) (sym (same_value _ _ ((c.in-Ok.ensures.task task).1 named))) nothing in
+    alone_ends c.in-Ok.task _ _ _ own (c.carry_out.ensures.alone_answer own)
+    (λ fault. c.carry_out.ensures.reading fault own)
 
 pub returns-in-Err-clause-alone_ends : goal.returns-in-Err-clause-alone_ends
-returns-in-Err-clause-alone_ends g c = λ task named nothing. absurd (no_value _ _ ((c.in-Err.ensures.task task).1 named))
+returns-in-Err-clause-alone_ends g c =
+    λ task named nothing. absurd (no_value _ _ ((c.in-Err.ensures.task task).1 named))
 
 pub returns-in-Ok-clause-complete : goal.returns-in-Ok-clause-complete
 returns-in-Ok-clause-complete g c = λ given no_read no_write.
-    always_answered _ c.in-Ok.task _ _ _ _ given (sym (same_value _ _ ((c.in-Ok.ensures.task given.task).1 given.names))) ((c.in-Ok.ensures.task c.in-Ok.task).0 refl)
-    c.carry_out.ensures.answer c.carry_out.ensures.alone_answer c.carry_out.ensures.no_usage (λ e. no_read (c.carry_out.ensures.read e)) (λ e. no_write (c.carry_out.ensures.write e))
+    always_answered _ c.in-Ok.task _ _ _ _ given
+    (sym (same_value _ _ ((c.in-Ok.ensures.task given.task).1 given.names)))
+    ((c.in-Ok.ensures.task c.in-Ok.task).0 refl)
+    c.carry_out.ensures.answer c.carry_out.ensures.alone_answer c.carry_out.ensures.no_usage
+    (λ e. no_read (c.carry_out.ensures.read e)) (λ e. no_write (c.carry_out.ensures.write e))
 
 pub returns-in-Err-clause-complete : goal.returns-in-Err-clause-complete
-returns-in-Err-clause-complete g c = λ given no_read no_write. absurd (no_value _ _ ((c.in-Err.ensures.task given.task).1 given.names))
+returns-in-Err-clause-complete g c =
+    λ given no_read no_write. absurd (no_value _ _ ((c.in-Err.ensures.task given.task).1 given.names))

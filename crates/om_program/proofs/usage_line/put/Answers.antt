@@ -5,6 +5,7 @@ use Rattle.om_program.proofs.usage_line.put.Goals as goal
 pub returns-clause-front : goal.returns-clause-front
 returns-clause-front c =
     let same = c.copy_from_slice.ensures.after in
-    take-put_mid c.args.at (c.args.at + length c.args.bytes.now - c.args.at) c.args.text.now c.copy_from_slice.new.self (c.args.at + length c.args.bytes.now)
+    take-put_mid c.args.at (c.args.at + length c.args.bytes.now - c.args.at) c.args.text.now c.copy_from_slice.new.self
+    (c.args.at + length c.args.bytes.now)
     (let len = ap length same in omega (arith, len)) (let room = c.requires in omega (arith, room))
     ∙ ap (λ bytes. take c.args.at c.args.text.now ++ bytes) same

@@ -18,6 +18,9 @@ returns-in-Ok-clause-kept c = kept_circuits c.args.circuits.now.0 c.in-Ok.ensure
 
 pub returns-in-Err-TooWide-clause-refused : goal.returns-in-Err-TooWide-clause-refused
 returns-in-Err-TooWide-clause-refused c =
-    let P : ConvertError → Type 0 = IsWidthCause c.args.circuits.now.0.elements (IsCovectorOfCircuits c.args.circuits.now.0) in
+    let P : ConvertError → Type 0 =
+    IsWidthCause c.args.circuits.now.0.elements (IsCovectorOfCircuits c.args.circuits.now.0) in
     let cause = subst P c.in-Err-TooWide.field-0-is c.in-Err-TooWide.ensures.refused in
-    rw c.in-Err-TooWide.values-is (wide_circuits c.args.circuits.now.0 c.rank_circuits.result c.in-Err-TooWide.values c.is_lawful.ensures.high cause c.rank_circuits.ensures.rank.each)
+    rw c.in-Err-TooWide.values-is
+    (wide_circuits c.args.circuits.now.0 c.rank_circuits.result c.in-Err-TooWide.values c.is_lawful.ensures.high
+    cause c.rank_circuits.ensures.rank.each)

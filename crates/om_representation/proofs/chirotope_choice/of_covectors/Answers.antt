@@ -18,6 +18,9 @@ returns-in-Ok-clause-kept c = kept_covectors c.args.covectors.now c.in-Ok.ensure
 
 pub returns-in-Err-TooWide-clause-refused : goal.returns-in-Err-TooWide-clause-refused
 returns-in-Err-TooWide-clause-refused c =
-    let P : ConvertError → Type 0 = IsWidthCause c.args.covectors.now.elements (Contains c.args.covectors.now.members) in
+    let P : ConvertError → Type 0 = IsWidthCause c.args.covectors.now.elements (Contains c.args.covectors.now.members)
+    in
     let cause = subst P c.in-Err-TooWide.field-0-is c.in-Err-TooWide.ensures.refused in
-    rw c.in-Err-TooWide.values-is (wide_covectors c.args.covectors.now c.rank_covectors.result c.in-Err-TooWide.values c.is_lawful.ensures.high cause c.rank_covectors.ensures.rank.each)
+    rw c.in-Err-TooWide.values-is
+    (wide_covectors c.args.covectors.now c.rank_covectors.result c.in-Err-TooWide.values c.is_lawful.ensures.high
+    cause c.rank_covectors.ensures.rank.each)

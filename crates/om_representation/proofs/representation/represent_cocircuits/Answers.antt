@@ -1,3 +1,4 @@
+use Rattle.std.specs.Prelude.{refl}
 use Rattle.std.proofs.Common.{subst}
 use Rattle.om_convert.specs.Reading.{IsSetReadError}
 use Rattle.om_representation.proofs.representation.represent_cocircuits.Goals as goal
@@ -5,7 +6,7 @@ use Rattle.om_representation.proofs.representation.represent_cocircuits.Goals as
 pub returns-in-Err-Bad-clause-refused : goal.returns-in-Err-Bad-clause-refused
 returns-in-Err-Bad-clause-refused g c =
     let h = subst (IsSetReadError c.args.list) c.in-Err-Bad.field-0-is c.in-Err-Bad.ensures.refused in
-    (c.in-Err-Bad.bad.why, (c.set_refusal.ensures, h.first))
+    (c.in-Err-Bad.bad.why, (refl, h.first))
 
 pub unreachable-requires : goal.unreachable-requires
 unreachable-requires g c = subst (IsSetReadError c.args.list) c.in-Err-Memory.field-0-is c.in-Err-Memory.ensures.refused

@@ -1,7 +1,7 @@
 use Rattle.std.proofs.Common.{◌++◌, subst, sym, ◌∙◌, arith}
 use Rattle.std.proofs.lemmas.Bool.{true≢false}
 use Rattle.om_program.specs.Meaning.{TaskMeans}
-use Rattle.om_program.specs.Statuses.{IsReplied}
+use Rattle.om_reply.specs.Statuses.{IsReplied}
 use Rattle.om_pieces.specs.Making.{made}
 use Rattle.om_stream.proofs.Chaining.{nothing_yet}
 use Rattle.om_stream.proofs.Steps.{answered_replied, loop_goes, loop_stops, loop_breaks, loop_ends}

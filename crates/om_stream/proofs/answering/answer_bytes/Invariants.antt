@@ -1,6 +1,6 @@
 use Rattle.std.proofs.Common.{ℕ, ◌≤◌, ◌++◌, List, drop}
 use Rattle.om_program.specs.Meaning.{TaskMeans}
-use Rattle.om_program.specs.Statuses.{IsReplied}
+use Rattle.om_reply.specs.Statuses.{IsReplied}
 use Rattle.om_pieces.specs.Making.{made}
 use Rattle.om_stream.specs.Answered.{GoesOn}
 use Rattle.om_stream.proofs.answering.answer_bytes.Given as goal

@@ -1,4 +1,4 @@
-use Rattle.om_program.specs.declared.status.Status.TheVariants as status
+use Rattle.om_reply.specs.declared.status.Status.TheVariants as status
 use Rattle.om_stream.proofs.Steps.{next_answers, next_breaks, only_own, no_piece}
 use Rattle.om_stream.proofs.answering.answer_next.Goals as goal
 

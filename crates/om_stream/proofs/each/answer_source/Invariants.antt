@@ -1,9 +1,9 @@
 use Rattle.std.proofs.Common.{◌≤◌}
 use Rattle.om_port.specs.Causes.{TakesSome}
 use Rattle.om_words.specs.Tasks.{reads}
-use Rattle.om_program.specs.declared.status.Status.TheVariants as status
+use Rattle.om_reply.specs.declared.status.Status.TheVariants as status
 use Rattle.om_program.specs.Meaning.{TaskMeans}
-use Rattle.om_program.specs.Statuses.{IsReplied}
+use Rattle.om_reply.specs.Statuses.{IsReplied}
 use Rattle.om_pieces.specs.Making.{nothing}
 use Rattle.om_stream.specs.Each.{wanted_ends}
 use Rattle.om_stream.proofs.Steps.{Reaches}

@@ -1,5 +1,5 @@
 use Rattle.std.proofs.Common.{subst, sym}
-use Rattle.om_program.specs.Statuses.{IsAnswered}
+use Rattle.om_reply.specs.Statuses.{IsAnswered}
 use Rattle.om_pieces.proofs.Feeding.{has_one_cut}
 use Rattle.om_stream.proofs.Runs.{run_answered, run_stopped, run_broken, reads_pieces}
 use Rattle.om_stream.proofs.each.run_each.Goals as goal

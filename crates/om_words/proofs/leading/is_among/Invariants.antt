@@ -4,4 +4,5 @@ use Rattle.om_words.specs.Listings.{has_element, signed_of}
 use Rattle.om_words.proofs.leading.is_among.Given as goal
 
 abbrev pub invariant-loop-word : goal.invariant-loop-word
-invariant-loop-word l = (j : ℕ) → j < l.word-index → has_element l.e (signed_of (get_or (map string_bytes l.words) j [])) ≡ false
+invariant-loop-word l = (j : ℕ) → j < l.word-index
+    → has_element l.e (signed_of (get_or (map string_bytes l.words) j [])) ≡ false

@@ -12,10 +12,15 @@ loop-i-init c = signed_none _
 pub loop-i-preserved : goal.loop-i-preserved
 loop-i-preserved c =
     let within : c.loop-i.i ≤ length c.args.rest.now = omega arith in
-    signed_more _ _ _ _ _ c.loop-i.invariant (length-words _ _ _ c.loop-i-test.true) (rw (length-take-le c.loop-i.i c.args.rest.now within) at c.in-Some.ensures.room) (item_word _ _ _ c.index-rest-i.result c.loop-i-test.true c.index-rest-i.is) c.in-Some.ensures.value (rw (take-map (string_bytes {Z = Global}) c.loop-i.i c.args.rest.now) c.in-Some.ensures.leading)
+    signed_more _ _ _ _ _ c.loop-i.invariant (length-words _ _ _ c.loop-i-test.true)
+    (rw (length-take-le c.loop-i.i c.args.rest.now within) at c.in-Some.ensures.room)
+    (item_word _ _ _ c.index-rest-i.result c.loop-i-test.true c.index-rest-i.is) c.in-Some.ensures.value
+    (rw (take-map (string_bytes {Z = Global}) c.loop-i.i c.args.rest.now) c.in-Some.ensures.leading)
 
 pub returns-in_default : goal.returns-in_default
-returns-in_default c = leading_fault _ _ _ _ c.loop-i.invariant (length-words _ _ _ c.loop-i-test.true) (item_word _ _ _ c.index-rest-i.result c.loop-i-test.true c.index-rest-i.is) (rw (take-map (string_bytes {Z = Global}) c.loop-i.i c.args.rest.now) c.in_default.ensures.none)
+returns-in_default c = leading_fault _ _ _ _ c.loop-i.invariant (length-words _ _ _ c.loop-i-test.true)
+    (item_word _ _ _ c.index-rest-i.result c.loop-i-test.true c.index-rest-i.is)
+    (rw (take-map (string_bytes {Z = Global}) c.loop-i.i c.args.rest.now) c.in_default.ensures.none)
 
 pub returns-then-is_empty : goal.returns-then-is_empty
 returns-then-is_empty c = leading_missing _ _ (few_of _ _ c.is_empty.ensures c.if-is_empty.true)

@@ -4,4 +4,5 @@ use Rattle.om_words.specs.Options.{given_number}
 use Rattle.om_words.proofs.options.is_given.Given as goal
 
 abbrev pub invariant-loop-word : goal.invariant-loop-word
-invariant-loop-word l = (j : ℕ) → j < l.word-index → is_some (given_number l.setting (get_or (map string_bytes l.words) j [])) ≡ false
+invariant-loop-word l = (j : ℕ) → j < l.word-index
+    → is_some (given_number l.setting (get_or (map string_bytes l.words) j [])) ≡ false

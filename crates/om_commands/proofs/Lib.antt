@@ -1,0 +1,13 @@
+mod AboveLaws
+mod AcyclicLaws
+mod ConversionLaws
+pub mod LeadingLaws
+pub mod OneAnyRank
+pub mod OneConversion
+pub mod OneDocument
+pub mod OneOperation
+pub mod OneTest
+mod OneText
+mod OperationLaws
+pub mod ReachLaws
+mod UpgradeLaws

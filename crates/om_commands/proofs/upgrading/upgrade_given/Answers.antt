@@ -1,0 +1,25 @@
+use Rattle.std.proofs.Common.{sym, subst, ◌∙◌}
+use Rattle.om_text.specs.declared.document.Document.{Document}
+use Rattle.om_representation.specs.Axioms.{IsRefusal}
+use Rattle.om_representation.specs.Documents.{document_of}
+use Rattle.om_commands.specs.Upgrades.{refused}
+use Rattle.om_representation.specs.Widths.{HasFewValues}
+use Rattle.om_representation.proofs.WidthLaws.{few_unless_rank3, few_worked_on}
+use Rattle.om_commands.proofs.UpgradeLaws.{given_upgraded}
+use Rattle.om_commands.proofs.upgrading.upgrade_given.Goals as goal
+
+pub document_of-elements-requires : goal.document_of-elements-requires
+document_of-elements-requires g c =
+    let P : Document → Type 0 = HasFewValues in
+    few_unless_rank3 (document_of c.in-Ok.representation)
+    (subst P (sym c.in-Ok.ensures.value) (few_worked_on _ c.requires.form))
+
+pub returns-in-Ok : goal.returns-in-Ok
+returns-in-Ok g c = given_upgraded c.args.elements c.args.body c.args.names c.document_of-elements.result
+    c.requires.given (c.document_of-elements.ensures.value ∙ c.in-Ok.ensures.value) c.in-Ok.ensures.accepted
+
+pub returns-in-Err-Refused : goal.returns-in-Err-Refused
+returns-in-Err-Refused g c =
+    rw (c.refused_line.ensures, c.in-Err-Refused.why-is)
+    (refused _
+    (subst (IsRefusal c.args.elements c.args.body) c.in-Err-Refused.field-0-is c.in-Err-Refused.ensures.refused))

@@ -1,0 +1,9 @@
+pub mod Upgrades
+pub mod Memberships
+pub mod Conversions
+pub mod Operations
+pub mod Paintings
+pub mod Paintable
+pub mod Hulls
+pub mod LexicalExtensions
+pub mod ThreeTermTests

@@ -1,0 +1,69 @@
+//! Lexicographic extensions of an oriented matroid.
+
+ghost use Rattle.std.specs.Prelude.{◌≡◌, ◌<◌, IfOk};
+ghost use Rattle.om_lexext.specs.Lexicographic.{IsLexicographicList};
+ghost use Rattle.om_commands.specs.LexicalExtensions.{IsLexicalExtension, IsExtensionOfMap};
+ghost use Rattle.om_reply.specs.Above.{first_above};
+ghost use Rattle.om_reply.specs.Represented.{IsMeantFor};
+ghost use Rattle.om_words.specs.Tasks.{AreLawful, elements_of};
+
+use om_answer::Line;
+use om_chirotope::Chirotope;
+use om_lexext::{LexError, Signed, lexical};
+use om_reply::{Answer, width_line};
+use om_representation::{Representation, choose_chirotope, map_document};
+use om_signs::{MAX_ELEMENTS, NoMemory};
+use om_words::Leading;
+use std::alloc::Global;
+
+/// The lexicographic extension of the chirotope of an oriented matroid. The leading elements are distinct, and
+/// their signs aren't zero.
+pub fn extend_lexically(
+    alloc: Global,
+    representation: Representation,
+    leading: Leading,
+) -> Result<Answer, NoMemory>
+    requires { AreLawful leading }
+    ensures { IfOk result (IsMeantFor (IsLexicalExtension leading) representation) }
+{
+    let list = &leading.list[..leading.count as usize];
+    let n = representation.elements();
+    if let Some(e) = place_above(n, list) {
+        return Ok(Answer::Line(Line::RefusedPlace { e }));
+    }
+    if n == MAX_ELEMENTS {
+        return Ok(Answer::Line(Line::RefusedFull { n }));
+    }
+    match choose_chirotope(alloc, representation) {
+        Ok(chirotope) => extend_by(alloc, &chirotope, list),
+        Err(why) => Ok(Answer::Line(width_line(why)?)),
+    }
+}
+
+/// The lexicographic extension of a chirotope that isn't full. The listed elements are distinct elements of it, and
+/// their signs aren't zero.
+fn extend_by(alloc: Global, chirotope: &Chirotope, list: &[Signed]) -> Result<Answer, NoMemory>
+    requires few { chirotope.now.elements < MAX_ELEMENTS }
+    requires list { IsLexicographicList chirotope.now.elements list.now }
+    ensures { IfOk result (IsExtensionOfMap list.now chirotope.now) }
+{
+    match lexical(alloc, chirotope, list) {
+        Ok(extension) => Ok(Answer::Document(map_document(alloc, extension))),
+        // the chirotope has fewer elements than the limit
+        Err(LexError::Full { .. }) => unreachable!(),
+        Err(LexError::Values { count }) => Ok(Answer::Line(Line::LimitValues { values: count })),
+        Err(LexError::Memory) => Err(NoMemory),
+    }
+}
+
+/// The first listed element that is greater than n.
+fn place_above(n: u8, list: &[Signed]) -> Option<u8>
+    ensures { result ≡ first_above n (elements_of list.now) }
+{
+    for x in list {
+        if n < x.element {
+            return Some(x.element);
+        }
+    }
+    None
+}

@@ -1,0 +1,25 @@
+use Rattle.std.proofs.Common.{subst}
+use Rattle.om_decide.specs.Answers.{IsRefusal}
+use Rattle.om_answer.specs.declared.line.Line.TheVariants as line
+use Rattle.om_reply.specs.Answers.{says}
+use Rattle.om_plane.specs.Decisions.{DecisionMeans, other_rank, decided}
+use Rattle.om_plane.proofs.DecisionLaws.{verdict_rank, verdict_decided}
+use Rattle.om_plane.proofs.decision.judge_chirotope.Goals as goal
+
+pub map_document-document-requires : goal.map_document-document-requires
+map_document-document-requires c other =
+    absurd (other (verdict_rank c.args.chirotope c.args.budgets c.in-Ok.verdict c.in-Ok.ensures.verdict))
+
+pub returns-in-Ok : goal.returns-in-Ok
+returns-in-Ok c =
+    rw c.map_document-document.ensures.value
+    (decided c.in-Ok.verdict
+    (verdict_decided c.args.chirotope c.args.budgets c.in-Ok.verdict c.is_lawful.ensures.low c.is_lawful.ensures.high
+    c.is_lawful.ensures.lawful c.in-Ok.ensures.verdict c.in-Ok.ensures.form))
+
+pub returns-in-Err-NotRank3 : goal.returns-in-Err-NotRank3
+returns-in-Err-NotRank3 c =
+    let refused = subst (IsRefusal c.args.chirotope) c.in-Err-NotRank3.field-0-is c.in-Err-NotRank3.ensures.refused in
+    rw c.in-Err-NotRank3.r-is
+    (subst (λ r. DecisionMeans c.args.budgets c.args.chirotope (says (line.RefusedNotrank3 r))) refused.0
+    (other_rank refused.1))

@@ -1,9 +1,0 @@
-use Rattle.om_answer.specs.VerdictText.{vector_numbers}
-use Rattle.om_program.proofs.MadeLaws.{points_more_of, each_more}
-use Rattle.om_program.proofs.made_text.points_document.Goals as goal
-
-pub loop-v-preserved : goal.loop-v-preserved
-loop-v-preserved c = record {
-  points = points_more_of c.as_slice-v-items.result.now c.args.vectors.now c.as_slice-v-items.ensures c.loop-v.v-index _ c.v-item.result c.loop-v.points c.push_point.new.points c.loop-v-test.true c.v-item.is c.loop-v.invariant.points c.in_ok-push_point.ensures.pushed;
-  each = each_more c.loop-v.points c.push_point.new.points (vector_numbers c.v-item.result) c.in_ok-push_point.ensures.pushed c.in_ok-push_point.ensures.point c.loop-v.invariant.each;
-}

@@ -1,8 +1,0 @@
-use Rattle.std.specs.Prelude.{◌≡◌, None}
-use Rattle.std.proofs.Common.{subst}
-use Rattle.om_program.specs.Operations.{IsLawful, first_above, named_elements}
-use Rattle.om_program.proofs.AboveLaws.{mask_below}
-use Rattle.om_program.proofs.making.make_circuits.Goals as goal
-
-pub reorient_circuits-requires : goal.reorient_circuits-requires
-reorient_circuits-requires c = mask_below c.args.circuits.0.elements c.in-Reorient.mask (subst IsLawful c.in-Reorient.is c.requires.lawful) (subst (λ o. first_above c.args.circuits.0.elements (named_elements o) ≡ None) c.in-Reorient.is c.requires.within)

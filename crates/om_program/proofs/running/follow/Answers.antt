@@ -1,0 +1,27 @@
+use Rattle.std.specs.Prelude.{◌≡◌, []}
+use Rattle.std.proofs.Common.{ap, subst}
+use Rattle.om_words.specs.declared.reads.Reads.TheVariants as source
+use Rattle.om_words.specs.declared.task.Task.TheVariants.{Make}
+use Rattle.om_words.specs.Tasks.{reads}
+use Rattle.om_program.specs.declared.plan.Plan.{Plan}
+use Rattle.om_program.specs.Plans.{plan_task}
+use Rattle.om_program.proofs.PlanLaws.{reads_input}
+use Rattle.om_program.proofs.ReplyLaws.{task_replies}
+use Rattle.om_program.proofs.running.follow.Goals as goal
+
+-- the plan's task reads nothing
+abbrev ReadsNothing : Plan → Type 0
+ReadsNothing p = reads (plan_task p) ≡ source.Nothing
+
+pub returns-in_ok-answer_alone-in-Make-clause-reply : goal.returns-in_ok-answer_alone-in-Make-clause-reply
+returns-in_ok-answer_alone-in-Make-clause-reply g c =
+    task_replies (Make c.in-Make.seed c.in-Make.count) [] _ (c.in_ok-answer_alone-in-Make.ensures [])
+
+pub returns-in-Read-clause-alone : goal.returns-in-Read-clause-alone
+returns-in-Read-clause-alone g c = λ nothing. absurd (reads_input c.in-Read.what (subst ReadsNothing c.in-Read.is nothing))
+
+pub returns-in-Read-clause-reading : goal.returns-in-Read-clause-reading
+returns-in-Read-clause-reading g c = λ fault nothing. reads_input c.in-Read.what (subst ReadsNothing c.in-Read.is nothing)
+
+pub returns-in-Read-clause-unread : goal.returns-in-Read-clause-unread
+returns-in-Read-clause-unread g c = λ nothing. absurd (reads_input c.in-Read.what (subst ReadsNothing c.in-Read.is nothing))

@@ -1,0 +1,115 @@
+-- Answers: the status with which a run ends that has written an answer whole, and the text of the answer.
+use Rattle.std.specs.Prelude.{ℕ, ◌≤◌, List, length}
+use Rattle.om_chirotope.specs.Map.{SignMap}
+use Rattle.om_certificate.specs.declared.verdict.Verdict.{Verdict}
+use Rattle.om_certificate.specs.declared.verdict.Verdict.TheVariants as verdict
+use Rattle.om_certificate.specs.Forms.{IsVerdictInForm}
+use Rattle.om_text.specs.declared.document.Document.{Document}
+use Rattle.om_text.specs.Form.{IsInForm}
+use Rattle.om_text.specs.Print.{printed}
+use Rattle.om_text.specs.PrintTwo.{printed_two, IsClosedUnderNegation}
+use Rattle.om_answer.specs.declared.line.Line.{Line}
+use Rattle.om_answer.specs.declared.line.Line.TheVariants as line
+use Rattle.om_answer.specs.Texts.{line_text}
+use Rattle.om_localize.specs.declared.listing.Listing.{Listing}
+use Rattle.om_paint.specs.declared.painted.Painted.{Painted}
+use Rattle.om_subsets.specs.Members.{Chosen}
+use Rattle.om_answer.specs.VerdictText.{claim_of, claim_text}
+use Rattle.om_reply.specs.declared.answer.Answer.{Answer}
+use Rattle.om_reply.specs.declared.answer.Answer.TheVariants as answer
+use Rattle.om_reply.specs.declared.status.Status.{Status}
+use Rattle.om_reply.specs.declared.status.Status.TheVariants.{Done, Refused, Usage, Limit}
+use Rattle.om_reply.specs.Statuses.{IsReplied}
+use Rattle.om_reply.specs.ExtensionTexts.{extensions_text}
+use Rattle.om_reply.specs.HullTexts.{hull_text}
+use Rattle.om_reply.specs.MutationTexts.{mutations_text}
+use Rattle.om_reply.specs.MadeTexts.{made_text}
+use Rattle.om_make.specs.declared.tally.Tally.{Tally}
+use Rattle.om_vectors.specs.WholeVectors.{WholeVector}
+
+-- an answer of one line
+abbrev pub says : Line → Answer
+says l = answer.Line l
+
+-- an answer that is a document
+abbrev pub shows : Document → Answer
+shows d = answer.Document d
+
+-- an answer that is a document in version 2
+abbrev pub upgrades : Document → Answer
+upgrades d = answer.Upgraded d
+
+-- an answer that lists mutations
+abbrev pub lists : List Chosen → Answer
+lists sets = answer.Mutations sets
+
+-- an answer that lists extensions of a map on n elements
+abbrev pub lists_extensions : ℕ → Listing → Answer
+lists_extensions n l = answer.Extensions n l
+
+-- an answer that is a verdict on a chirotope: a claim
+abbrev pub judges : SignMap → Verdict → Answer
+judges m v = answer.Claim (claim_of m v)
+
+-- an answer that tells a hull
+abbrev pub tells : List Painted → Answer
+tells items = answer.Hull items
+
+-- an answer that consists of vectors and their summary
+abbrev pub makes : List WholeVector → Tally → Answer
+makes vs t = answer.Made vs t
+
+-- the status of a run that has written this line; every line not named here is a refusal
+abbrev pub status_of_line : Line → Status
+status_of_line line.Accepted = Done
+status_of_line line.Covector = Done
+status_of_line line.NotCovector = Done
+status_of_line (line.Circuit x) = Done
+status_of_line (line.Cocircuit x) = Done
+status_of_line (line.Cyclic x) = Done
+status_of_line line.ValidRealizable = Done
+status_of_line line.ValidNonrealizable = Done
+status_of_line line.ValidUndecided = Done
+status_of_line (line.Usage k) = Usage
+status_of_line (line.LimitMembers k) = Limit
+status_of_line (line.LimitValues k) = Limit
+status_of_line _ = Refused
+
+-- the status of a run that has written this verdict
+abbrev pub status_of_verdict : Verdict → Status
+status_of_verdict (verdict.Limit end unfound) = Limit
+status_of_verdict _ = Done
+
+-- the status of a run that has written this answer
+abbrev pub status_of : Answer → Status
+status_of (answer.Line l) = status_of_line l
+status_of (answer.Document d) = Done
+status_of (answer.Upgraded d) = Done
+status_of (answer.Mutations sets) = Done
+status_of (answer.Extensions n l) = Done
+status_of (answer.Hull items) = Done
+status_of (answer.Claim c) = status_of_verdict c.verdict
+status_of (answer.Made vs t) = Done
+
+-- the bytes of an answer. A document is written in canonical form or in version 2, and a verdict is written after
+-- the document of its chirotope.
+abbrev pub text_of : Answer → List ℕ
+text_of (answer.Line l) = line_text l
+text_of (answer.Document d) = printed d
+text_of (answer.Upgraded d) = printed_two d
+text_of (answer.Mutations sets) = mutations_text sets
+text_of (answer.Extensions n l) = extensions_text n l
+text_of (answer.Hull items) = hull_text items
+text_of (answer.Claim c) = claim_text c
+text_of (answer.Made vs t) = made_text vs t
+
+-- an answer to a command: a line that isn't a usage, or a value of the form in which it is written
+abbrev pub IsReply : Answer → Type 0
+IsReply (answer.Line l) = IsReplied (status_of_line l)
+IsReply (answer.Document d) = IsInForm d
+IsReply (answer.Upgraded d) = IsInForm d × IsClosedUnderNegation d.body
+IsReply (answer.Mutations sets) = Unit {0}
+IsReply (answer.Extensions n l) = Unit {0}
+IsReply (answer.Hull items) = Unit {0}
+IsReply (answer.Claim c) = IsInForm c.document × IsVerdictInForm c.verdict
+IsReply (answer.Made vs t) = 1 ≤ length vs

@@ -1,0 +1,12 @@
+pub mod Statuses
+pub mod MutationTexts
+pub mod ExtensionTexts
+pub mod HullTexts
+pub mod MadeTexts
+pub mod Answers
+pub mod Determined
+pub mod Above
+pub mod RefusalLines
+pub mod Represented
+pub mod RankThree
+pub mod AnyRank
