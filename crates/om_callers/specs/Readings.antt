@@ -1,4 +1,4 @@
--- What bytes say of an oriented matroid, and why they don't.
+-- What bytes say about an oriented matroid, and why they give none.
 use Rattle.std.specs.Prelude.{ℕ, ◌≡◌, List}
 use Rattle.om_signs.specs.declared.limits.TheConstants.{MAX_MEMBERS}
 use Rattle.om_signs.specs.declared.raw_map.RawMap.{RawMap}
@@ -41,7 +41,7 @@ abbrev pub IsViolated : RawMap → MapRefused → Type 0
 IsViolated m AllZero = IsAllZero m.signs
 IsViolated m (Relation s a) = IsFirstViolated (map_of m) s a
 
--- the map is a chirotope with more covectors than a list may have, and the answer names this number
+-- the map is a chirotope with more covectors than a list may have, and the error gives this limit
 pub record HasTooManyCovectors (m : SignMap) (limit : ℕ) : Type 0 where
   pub axioms : IsChirotope m
   pub named : limit ≡ MAX_MEMBERS

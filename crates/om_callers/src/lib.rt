@@ -1,6 +1,6 @@
 //! Callers of the library, to copy from: from bytes to covectors, and a search over all triples.
 //!
-//! Each shows what a caller writes, and what the contracts of the calls give him.
+//! Each shows what a caller writes, and what the caller learns from the contracts.
 #![tactic(auto)]
 
 mod not_read;

@@ -15,11 +15,11 @@ pub enum NotRead {
     /// The map is no chirotope.
     #[error("{0}")]
     Axioms(MapRefused),
-    /// The map is a chirotope, and there are more covectors than a list may have: more than `limit`, which is
-    /// [`MAX_MEMBERS`](om_signs::MAX_MEMBERS).
+    /// The map is a chirotope, and it has more than `limit` covectors. The limit is
+    /// [`MAX_MEMBERS`](om_signs::MAX_MEMBERS), the greatest length of a list.
     #[error("more than {limit} covectors")]
     TooMany { limit: u32 },
-    /// Want of memory.
+    /// Memory ran out.
     #[error("out of memory")]
     Memory,
 }

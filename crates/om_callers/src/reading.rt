@@ -14,9 +14,9 @@ use om_text::{Body, Document, ParseError, parse};
 use std::alloc::Global;
 use std::thread::Threads;
 
-/// The covectors of the oriented matroid whose chirotope the bytes give: they are read as a document, their map is tested
-/// against the axioms, and the chirotope is converted. The bytes are at most [`MAX_READ`]; each error says at which of
-/// the three steps it came, and why.
+/// The covectors of the oriented matroid whose chirotope the bytes give. The bytes are read as a document, their
+/// map is tested against the axioms, and the chirotope is converted. There are at most [`MAX_READ`] bytes. Each
+/// error says at which of the three steps it came, and why.
 ///
 /// Source: Björner, Las Vergnas, Sturmfels, White and Ziegler, *Oriented Matroids*, chapters 3 and 4.
 pub fn covectors_of_text<R: Threads + Sync>(
@@ -41,7 +41,7 @@ pub fn covectors_of_text<R: Threads + Sync>(
     }
 }
 
-/// The covectors of the oriented matroid of a map, where the map is a chirotope.
+/// The covectors of the oriented matroid of a map, if the map is a chirotope.
 fn covectors_of_map<R: Threads + Sync>(
     rt: &R,
     alloc: Global,

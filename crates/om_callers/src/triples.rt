@@ -7,8 +7,8 @@ use om_chirotope::Chirotope;
 use om_signs::Sign;
 use om_subsets::Subset;
 
-/// The lexicographically first triple of elements to which a chirotope of rank 3 gives a sign, and None where it gives
-/// this sign to no triple. It takes no memory.
+/// The lexicographically first triple of elements whose sign in a chirotope of rank 3 is this one. None if no
+/// triple has this sign. The call allocates no memory.
 ///
 /// Source: Björner, Las Vergnas, Sturmfels, White and Ziegler, *Oriented Matroids*, chapter 3.
 pub fn first_triple(chi: &Chirotope, sign: Sign) -> Option<Subset>

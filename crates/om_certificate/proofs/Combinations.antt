@@ -1,7 +1,8 @@
--- Products and sums over places, in one form: an operation with a unit and an order, powers of a value, and the total over the places
--- below a number, each taken as often as a count says.
+-- Products and sums over places, in one form: an operation with a unit and an order, powers of a value, and the total
+-- over the places below a number, each taken as often as a count says.
 --
--- Main results: total-add and total-place, the total of a sum and of one place; power_less, more of a greater value is greater.
+-- Main results: total-add and total-place, the total of a sum and of one place; power_less, more of a greater value is
+-- greater.
 --
 -- Main definitions: Combination, power, total, here
 use Rattle.std.specs.Prelude.{ℕ, ◌≡◌, ◌+◌, ◌*◌, ◌<◌, ◌≤◌, cond, nat_eq, refl}
@@ -47,27 +48,32 @@ module _ (C : Combination) where
 
   interchange : (a b c d : C.Value) → C.join (C.join a b) (C.join c d) ≡ C.join (C.join a c) (C.join b d)
   interchange a b c d =
-      C.assoc a b (C.join c d) ∙ ap (C.join a) (sym (C.assoc b c d) ∙ ap (λ x. C.join x d) (C.comm b c) ∙ C.assoc c b d) ∙ sym (C.assoc a c (C.join b d))
+      C.assoc a b (C.join c d) ∙ ap (C.join a) (sym (C.assoc b c d) ∙ ap (λ x. C.join x d) (C.comm b c) ∙ C.assoc c b d)
+      ∙ sym (C.assoc a c (C.join b d))
 
   pub power-add : (u : C.Value) (k l : ℕ) → power C u (k + l) ≡ C.join (power C u k) (power C u l)
   power-add u zero l = ap (power C u) (let e : 0 + l ≡ l = omega arith in e) ∙ sym (C.unit_left (power C u l))
   power-add u (suc k) l =
-      ap (power C u) (let e : suc k + l ≡ suc (k + l) = omega arith in e) ∙ ap (C.join u) (power-add u k l) ∙ sym (C.assoc u (power C u k) (power C u l))
+      ap (power C u) (let e : suc k + l ≡ suc (k + l) = omega arith in e) ∙ ap (C.join u) (power-add u k l)
+      ∙ sym (C.assoc u (power C u k) (power C u l))
 
   pub power-join : (u v : C.Value) (k : ℕ) → power C (C.join u v) k ≡ C.join (power C u k) (power C v k)
   power-join u v zero = sym (C.unit_left C.unit)
   power-join u v (suc k) = ap (C.join (C.join u v)) (power-join u v k) ∙ interchange u v (power C u k) (power C v k)
 
-  pub total-same : (f : ℕ → C.Value) (c d : ℕ → ℕ) (n : ℕ) → ((k : ℕ) → k < n → c k ≡ d k) → total C f c n ≡ total C f d n
+  pub total-same : (f : ℕ → C.Value) (c d : ℕ → ℕ) (n : ℕ) → ((k : ℕ) → k < n → c k ≡ d k)
+      → total C f c n ≡ total C f d n
   total-same f c d zero h = refl
   total-same f c d (suc n) h =
-      ap (λ x. C.join (power C (f n) x) (total C f c n)) (h n (omega arith)) ∙ ap (C.join (power C (f n) (d n))) (total-same f c d n (λ k l. h k (omega arith)))
+      ap (λ x. C.join (power C (f n) x) (total C f c n)) (h n (omega arith))
+      ∙ ap (C.join (power C (f n) (d n))) (total-same f c d n (λ k l. h k (omega arith)))
 
   pub total-none : (f : ℕ → C.Value) (n : ℕ) → total C f (λ k. 0) n ≡ C.unit
   total-none f zero = refl
   total-none f (suc n) = C.unit_left (total C f (λ k. 0) n) ∙ total-none f n
 
-  pub total-add : (f : ℕ → C.Value) (c d : ℕ → ℕ) (n : ℕ) → total C f (λ k. c k + d k) n ≡ C.join (total C f c n) (total C f d n)
+  pub total-add : (f : ℕ → C.Value) (c d : ℕ → ℕ) (n : ℕ)
+      → total C f (λ k. c k + d k) n ≡ C.join (total C f c n) (total C f d n)
   total-add f c d zero = sym (C.unit_left C.unit)
   total-add f c d (suc n) =
       ap (λ x. C.join x (total C f (λ k. c k + d k) n)) (power-add (f n) (c n) (d n))
@@ -80,7 +86,8 @@ module _ (C : Combination) where
   total-place f t p (suc n) h = elim (cases_eq n p) [
     | inl e ↦
         ap (λ x. C.join (power C (f n) x) (total C f (λ k. t * here k p) n)) (present n e)
-        ∙ ap (C.join (power C (f n) t)) (total-same f (λ k. t * here k p) (λ k. 0) n (λ k l. absent k (omega arith)) ∙ total-none f n)
+        ∙ ap (C.join (power C (f n) t)) (total-same f (λ k. t * here k p) (λ k. 0) n (λ k l. absent k (omega arith))
+        ∙ total-none f n)
         ∙ unit_right (power C (f n) t)
         ∙ ap (λ x. power C (f x) t) e
     | inr a ↦
@@ -103,7 +110,8 @@ module _ (C : Combination) where
   power_at_most u v zero h = C.unit_at_most
   power_at_most u v (suc k) h = C.join_at_most u v (power C u k) (power C v k) h (power_at_most u v k h)
 
-  pub power_less : (u v : C.Value) (k : ℕ) → 1 ≤ k → C.IsPositive u → C.IsLess u v → C.IsLess (power C u k) (power C v k)
+  pub power_less : (u v : C.Value) (k : ℕ) → 1 ≤ k → C.IsPositive u → C.IsLess u v
+      → C.IsLess (power C u k) (power C v k)
   power_less u v zero l p h = absurd (omega arith)
   power_less u v (suc k) l p h =
       C.join_less u v (power C u k) (power C v k) (power-positive u k p) h (power_at_most u v k (C.less_at_most u v h))

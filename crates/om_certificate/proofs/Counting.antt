@@ -1,6 +1,7 @@
 -- Tables of how often each triple stands on a side.
 --
--- Main results: raised, what two additions do to a table; none_counted and one_counted, the start and the step of the count.
+-- Main results: raised, what two additions do to a table; none_counted and one_counted, the start and the step of the
+-- count.
 use Rattle.std.specs.Prelude.{ℕ, ◌≡◌, ◌+◌, ◌*◌, ◌<◌, ◌≤◌, ◌^◌, List, length, take, cond, nat_eq, sum_by, All}
 use Rattle.std.proofs.Common.{refl, sym, ◌∙◌, ap, subst, arith, inl, inr}
 use Rattle.std.proofs.Math.ListN.{get_or, set}
@@ -17,7 +18,8 @@ use Rattle.om_certificate.specs.Tables.{AreCounts, IsRaised}
 use Rattle.om_certificate.proofs.Combinations.{here}
 use Rattle.om_certificate.proofs.Triples.{place_below, same-place}
 
-bumped : (table : List ℕ) (p k times : ℕ) → p < length table → get_or (set table p (get_or table p 0 + times)) k 0 ≡ get_or table k 0 + times * here k p
+bumped : (table : List ℕ) (p k times : ℕ) → p < length table
+    → get_or (set table p (get_or table p 0 + times)) k 0 ≡ get_or table k 0 + times * here k p
 bumped table p k times l = elim (cases_eq k p) [
   | inl e ↦ rw e (rw (eq-eqb p p refl) (get_or-set_same table p (get_or table p 0 + times) 0 l ∙ omega arith))
   | inr n ↦ rw (ne_eqb k p n) (get_or-set_other table p k (get_or table p 0 + times) 0 n ∙ omega arith)
@@ -29,9 +31,14 @@ here_most k p times = elim (cases_eq k p) [
   | inr n ↦ rw (ne_eqb k p n) (omega arith)
 ]
 
-pub raised : (n times p q : ℕ) (table c d : List ℕ) → IsTriple n c → IsTriple n d → p ≡ rank_of n c → q ≡ rank_of n d → choose n 3 ≤ length table → IsRaised n (λ b. times_among b c d) times table (set (set table p (get_or table p 0 + times)) q (get_or (set table p (get_or table p 0 + times)) q 0 + times))
+pub raised : (n times p q : ℕ) (table c d : List ℕ) → IsTriple n c → IsTriple n d → p ≡ rank_of n c → q ≡ rank_of n d
+    → choose n 3 ≤ length table
+    → IsRaised n (λ b. times_among b c d) times table
+    (set (set table p (get_or table p 0 + times)) q (get_or (set table p (get_or table p 0 + times)) q 0 + times))
 raised n times p q table c d hc hd ep eq room = record {
-  raised = λ b hb. let s = same-place n b c hb hc in let t = same-place n b d hb hd in twice (rank_of n b) ∙ counted b (is_same b c) (is_same b d) (s ∙ ap (nat_eq (rank_of n b)) (sym ep)) (t ∙ ap (nat_eq (rank_of n b)) (sym eq));
+  raised = λ b hb. let s = same-place n b c hb hc in let t = same-place n b d hb hd in twice (rank_of n b)
+      ∙ counted b (is_same b c) (is_same b d) (s ∙ ap (nat_eq (rank_of n b)) (sym ep))
+      (t ∙ ap (nat_eq (rank_of n b)) (sym eq));
   bound = λ k. let e = twice k in let f = here_most k p times in let g = here_most k q times in omega arith;
 }
   where
@@ -44,10 +51,16 @@ raised n times p q table c d hc hd ep eq room = record {
     lq : q < length (set table p (get_or table p 0 + times))
     lq = let l = place_below n d hd in let e = length-set table p (get_or table p 0 + times) in omega (arith, e)
 
-    twice : (k : ℕ) → get_or (set (set table p (get_or table p 0 + times)) q (get_or (set table p (get_or table p 0 + times)) q 0 + times)) k 0 ≡ get_or table k 0 + times * here k p + times * here k q
-    twice k = bumped (set table p (get_or table p 0 + times)) q k times lq ∙ ap (λ t. t + times * here k q) (bumped table p k times lp)
+    twice : (k : ℕ)
+        → get_or (set (set table p (get_or table p 0 + times)) q
+        (get_or (set table p (get_or table p 0 + times)) q 0 + times)) k 0 ≡ get_or table k 0 + times * here k p + times
+        * here k q
+    twice k = bumped (set table p (get_or table p 0 + times)) q k times lq
+        ∙ ap (λ t. t + times * here k q) (bumped table p k times lp)
 
-    counted : (b : List ℕ) (s t : _) → s ≡ nat_eq (rank_of n b) p → t ≡ nat_eq (rank_of n b) q → get_or table (rank_of n b) 0 + times * here (rank_of n b) p + times * here (rank_of n b) q ≡ get_or table (rank_of n b) 0 + times * (cond s 1 0 + cond t 1 0)
+    counted : (b : List ℕ) (s t : _) → s ≡ nat_eq (rank_of n b) p → t ≡ nat_eq (rank_of n b) q
+        → get_or table (rank_of n b) 0 + times * here (rank_of n b) p + times * here (rank_of n b) q
+        ≡ get_or table (rank_of n b) 0 + times * (cond s 1 0 + cond t 1 0)
     counted b s t e f = rw (e, f) (omega arith)
 
 pub one_fits :
@@ -68,9 +81,14 @@ pub record IsCounting (n : ℕ) (es : List Entry) (i : ℕ) (small big : List �
 zero_at : (table : List ℕ) → All (λ k. k ≡ 0) table → (k : ℕ) → get_or table k 0 ≡ 0
 zero_at table z k = elim (cases_lt k (length table)) [ inl l ↦ z k 0 l | inr g ↦ get_or_past table k 0 g ]
 
-pub none_counted : (n : ℕ) (es : List Entry) (small big : List ℕ) → All (λ k. k ≡ 0) small → All (λ k. k ≡ 0) big → IsCounting n es 0 small big
+pub none_counted : (n : ℕ) (es : List Entry) (small big : List ℕ) → All (λ k. k ≡ 0) small → All (λ k. k ≡ 0) big
+    → IsCounting n es 0 small big
 none_counted n es small big s b = record {
-  counts = record { small_counts = λ c h. zero_at small s (rank_of n c); big_counts = λ c h. zero_at big b (rank_of n c) };
+  counts = record {
+    small_counts = λ c h. zero_at small s (rank_of n c);
+    big_counts =
+        λ c h. zero_at big b (rank_of n c);
+  };
   small_most = λ k. let e = zero_at small s k in omega arith;
   big_most = λ k. let e = zero_at big b k in omega arith;
 }
@@ -80,13 +98,19 @@ pub one_counted :
     → i < length es
     → (get_or es i d).times ≤ MAX_MULTIPLICITY
     → IsCounting n es i small big
-    → IsRaised n (λ b. times_in b (get_or es i d).statement (get_or es i d).statement.small) (get_or es i d).times small small'
-    → IsRaised n (λ b. times_in b (get_or es i d).statement (get_or es i d).statement.big) (get_or es i d).times big big'
+    → IsRaised n (λ b. times_in b (get_or es i d).statement (get_or es i d).statement.small) (get_or es i d).times small
+    small'
+    → IsRaised n (λ b. times_in b (get_or es i d).statement (get_or es i d).statement.big) (get_or es i d).times big
+    big'
     → IsCounting n es (i + 1) small' big'
 one_counted n es i d small big small' big' l t h s b = record {
   counts = record {
-    small_counts = λ c hc. s.raised c hc ∙ ap (λ x. x + (get_or es i d).times * times_in c (get_or es i d).statement (get_or es i d).statement.small) (h.counts.small_counts c hc) ∙ sym (more (λ x. x.times * times_in c x.statement x.statement.small));
-    big_counts = λ c hc. b.raised c hc ∙ ap (λ x. x + (get_or es i d).times * times_in c (get_or es i d).statement (get_or es i d).statement.big) (h.counts.big_counts c hc) ∙ sym (more (λ x. x.times * times_in c x.statement x.statement.big));
+    small_counts = λ c hc. s.raised c hc
+        ∙ ap (λ x. x + (get_or es i d).times * times_in c (get_or es i d).statement (get_or es i d).statement.small)
+        (h.counts.small_counts c hc) ∙ sym (more (λ x. x.times * times_in c x.statement x.statement.small));
+    big_counts = λ c hc. b.raised c hc
+        ∙ ap (λ x. x + (get_or es i d).times * times_in c (get_or es i d).statement (get_or es i d).statement.big)
+        (h.counts.big_counts c hc) ∙ sym (more (λ x. x.times * times_in c x.statement x.statement.big));
   };
   small_most = λ k. let f = s.bound k in let g = h.small_most k in omega arith;
   big_most = λ k. let f = b.bound k in let g = h.big_most k in omega arith;
@@ -96,7 +120,9 @@ one_counted n es i d small big small' big' l t h s b = record {
     more f = sum_by_more f es i d l
 
 -- the two sets are the brackets of a side
-pub raised_side : (n k times : ℕ) (s t : Chosen) (b c : List ℕ) (old new : List ℕ) → k ≡ n → sides.IsTriple k b s → sides.IsTriple k c t → IsRaised s.n (λ x. times_among x s.elements t.elements) times old new → IsRaised n (λ x. times_among x b c) times old new
+pub raised_side : (n k times : ℕ) (s t : Chosen) (b c : List ℕ) (old new : List ℕ) → k ≡ n → sides.IsTriple k b s
+    → sides.IsTriple k c t → IsRaised s.n (λ x. times_among x s.elements t.elements) times old new
+    → IsRaised n (λ x. times_among x b c) times old new
 raised_side n k times s t b c old new e hs ht h =
     subst (λ xs. IsRaised n (λ x. times_among x b xs) times old new) ht.elements
     (subst (λ xs. IsRaised n (λ x. times_among x xs t.elements) times old new) hs.elements

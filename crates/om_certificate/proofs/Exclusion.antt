@@ -1,8 +1,9 @@
 -- What certificates and weights exclude.
 --
--- Main results: certificate_excludes, that a map with a certificate is realized by no vectors; weights_exclude, that a map with
--- weights has no certificate.
-use Rattle.std.specs.Prelude.{ℕ, ◌≡◌, ◌+◌, ◌*◌, ◌<◌, ◌≤◌, Bool, true, false, cond, nat_eq, ℤ, ◌<ℤ◌, ◌≤ℤ◌, List, [], ◌∷◌, length, sum_by, Any, IsTrue}
+-- Main results: certificate_excludes, that a map with a certificate is realized by no vectors; weights_exclude, that a
+-- map with weights has no certificate.
+use Rattle.std.specs.Prelude.{ℕ, ◌≡◌, ◌+◌, ◌*◌, ◌<◌, ◌≤◌, Bool, true, false, cond, nat_eq, ℤ, ◌<ℤ◌, ◌≤ℤ◌, List, [], ◌∷◌}
+use Rattle.std.specs.Prelude.{length, sum_by, Any, IsTrue}
 use Rattle.std.specs.List.{AllByRecursion as Each}
 use Rattle.std.proofs.Common.{refl, sym, ◌∙◌, ap, subst, zero, suc, arith, inl, inr}
 use Rattle.std.proofs.Math.ListN.{get_or}
@@ -59,16 +60,19 @@ each_weaker : {X : Type 0} (P Q : X → Type 0) → ((x : X) → P x → Q x) �
 each_weaker P Q f [] h = tt
 each_weaker P Q f (x ∷ xs) h = (f x h.0, each_weaker P Q f xs h.1)
 
-any_stronger : {X : Type 0} (P Q R : X → Type 0) → ((x : X) → P x → Q x → R x) → (xs : List X) → Each P xs → AnyByRecursion Q xs → AnyByRecursion R xs
+any_stronger : {X : Type 0} (P Q R : X → Type 0) → ((x : X) → P x → Q x → R x) → (xs : List X) → Each P xs
+    → AnyByRecursion Q xs → AnyByRecursion R xs
 any_stronger P Q R f [] h a = absurd a
 any_stronger P Q R f (x ∷ xs) h (inl q) = inl (f x h.0 q)
 any_stronger P Q R f (x ∷ xs) h (inr a) = inr (any_stronger P Q R f xs h.1 a)
 
 -- ---- counts by places
 
-here-same : (n k : ℕ) (c : List ℕ) → k < choose n 3 → IsTriple n c → cond (is_same (subset_at n 3 k) c) 1 0 ≡ here k (rank_of n c)
+here-same : (n k : ℕ) (c : List ℕ) → k < choose n 3 → IsTriple n c
+    → cond (is_same (subset_at n 3 k) c) 1 0 ≡ here k (rank_of n c)
 here-same n k c l hc =
-    ap (λ t. cond t 1 0) (same-place n (subset_at n 3 k) c (triple_of_place n k l) hc ∙ ap (λ j. nat_eq j (rank_of n c)) (place_of_place n k l))
+    ap (λ t. cond t 1 0) (same-place n (subset_at n 3 k) c (triple_of_place n k l) hc
+    ∙ ap (λ j. nat_eq j (rank_of n c)) (place_of_place n k l))
 
 -- the counts of the brackets of one side, of the term that side names, are those of their places
 module _ (n : ℕ) (side : Entry → ℕ) where
@@ -83,14 +87,19 @@ module _ (n : ℕ) (side : Entry → ℕ) where
     pub second : IsTriple n (second_bracket e.statement (side e))
 
   below : (es : List Entry) → Each HasSide es → Each (IsBelow first_place second_place (choose n 3)) es
-  below = each_weaker HasSide (IsBelow first_place second_place (choose n 3)) (λ e h. record { first = place_below n _ h.first; second = place_below n _ h.second })
+  below = each_weaker HasSide (IsBelow first_place second_place (choose n 3))
+      (λ e h. record { first = place_below n _ h.first; second = place_below n _ h.second })
 
-  tally-times : (k : ℕ) → k < choose n 3 → (es : List Entry) → Each HasSide es → tally (λ e. e.times) first_place second_place es k ≡ sum_by (λ e. e.times * times_in (subset_at n 3 k) e.statement (side e)) es
+  tally-times : (k : ℕ) → k < choose n 3 → (es : List Entry) → Each HasSide es
+      → tally (λ e. e.times) first_place second_place es k
+      ≡ sum_by (λ e. e.times * times_in (subset_at n 3 k) e.statement (side e)) es
   tally-times k l [] h = refl
   tally-times k l (e ∷ es) (s, h) =
       let a = here-same n k (first_bracket e.statement (side e)) l s.first in
       let b = here-same n k (second_bracket e.statement (side e)) l s.second in
-      ap (λ t. e.times * t + tally (λ e. e.times) first_place second_place es k) (let t : here k (first_place e) + here k (second_place e) ≡ times_in (subset_at n 3 k) e.statement (side e) = omega (arith, a, b) in t)
+      ap (λ t. e.times * t + tally (λ e. e.times) first_place second_place es k)
+      (let t : here k (first_place e) + here k (second_place e) ≡ times_in (subset_at n 3 k) e.statement (side e) =
+      omega (arith, a, b) in t)
       ∙ ap (λ t. e.times * times_in (subset_at n 3 k) e.statement (side e) + t) (tally-times k l es h)
       ∙ sym (sum_by-cons (λ e. e.times * times_in (subset_at n 3 k) e.statement (side e)) e es)
 
@@ -112,17 +121,21 @@ pub record AreOrdered (C : Combination) (f : List ℕ → C.Value) (st : Stateme
   pub at_most : C.IsAtMost (term_value C f st st.small) (term_value C f st st.big)
   pub less : IsTrue st.strict → C.IsLess (term_value C f st st.small) (term_value C f st st.big)
 
-module _ (C : Combination) (m : SignMap) (f : List ℕ → C.Value) (ordered : (st : Statement) → IsLawful m st → AreOrdered C f st) where
+module _ (C : Combination) (m : SignMap) (f : List ℕ → C.Value)
+    (ordered : (st : Statement) → IsLawful m st → AreOrdered C f st) where
   abbrev at_place : ℕ → C.Value
   at_place k = f (subset_at m.elements 3 k)
 
   abbrev placed_value : (Entry → ℕ) → Entry → C.Value
   placed_value side e = C.join (at_place (first_place m.elements side e)) (at_place (second_place m.elements side e))
 
-  value-place : (side : Entry → ℕ) (e : Entry) → HasSide m.elements side e → placed_value side e ≡ term_value C f e.statement (side e)
+  value-place : (side : Entry → ℕ) (e : Entry) → HasSide m.elements side e
+      → placed_value side e ≡ term_value C f e.statement (side e)
   value-place side e h =
-      ap (λ b. C.join (f b) (at_place (second_place m.elements side e))) (triple_at_place m.elements (first_bracket e.statement (side e)) h.first)
-      ∙ ap (λ b. C.join (f (first_bracket e.statement (side e))) (f b)) (triple_at_place m.elements (second_bracket e.statement (side e)) h.second)
+      ap (λ b. C.join (f b) (at_place (second_place m.elements side e)))
+      (triple_at_place m.elements (first_bracket e.statement (side e)) h.first)
+      ∙ ap (λ b. C.join (f (first_bracket e.statement (side e))) (f b))
+      (triple_at_place m.elements (second_bracket e.statement (side e)) h.second)
 
   small_side : (e : Entry) → IsLawful m e.statement → HasSide m.elements small_of e
   small_side e h = let t = lawful_triples m e.statement h in record { first = t.small_first; second = t.small_second }
@@ -131,10 +144,12 @@ module _ (C : Combination) (m : SignMap) (f : List ℕ → C.Value) (ordered : (
   big_side e h = let t = lawful_triples m e.statement h in record { first = t.big_first; second = t.big_second }
 
   abbrev IsOrderedEntry : Entry → Type 0
-  IsOrderedEntry = IsOrdered C Entry (λ e. e.times) at_place (choose m.elements 3) (first_place m.elements small_of) (second_place m.elements small_of) (first_place m.elements big_of) (second_place m.elements big_of)
+  IsOrderedEntry = IsOrdered C Entry (λ e. e.times) at_place (choose m.elements 3) (first_place m.elements small_of)
+      (second_place m.elements small_of) (first_place m.elements big_of) (second_place m.elements big_of)
 
   abbrev IsStrictEntry : Entry → Type 0
-  IsStrictEntry = IsStrict C Entry (λ e. e.times) at_place (choose m.elements 3) (first_place m.elements small_of) (second_place m.elements small_of) (first_place m.elements big_of) (second_place m.elements big_of)
+  IsStrictEntry = IsStrict C Entry (λ e. e.times) at_place (choose m.elements 3) (first_place m.elements small_of)
+      (second_place m.elements small_of) (first_place m.elements big_of) (second_place m.elements big_of)
 
   ordered_entry : (e : Entry) → IsLawful m e.statement → IsOrderedEntry e
   ordered_entry e h =
@@ -143,7 +158,8 @@ module _ (C : Combination) (m : SignMap) (f : List ℕ → C.Value) (ordered : (
       let b = sym (value-place big_of e (big_side e h)) in
       record {
         positive = subst C.IsPositive s o.positive;
-        at_most = subst (λ x. C.IsAtMost x (placed_value big_of e)) s (subst (λ x. C.IsAtMost (term_value C f e.statement (small_of e)) x) b o.at_most);
+        at_most = subst (λ x. C.IsAtMost x (placed_value big_of e)) s
+            (subst (λ x. C.IsAtMost (term_value C f e.statement (small_of e)) x) b o.at_most);
       }
 
   strict_entry : (e : Entry) → IsLawful m e.statement → 1 ≤ e.times → IsTrue e.statement.strict → IsStrictEntry e
@@ -152,40 +168,52 @@ module _ (C : Combination) (m : SignMap) (f : List ℕ → C.Value) (ordered : (
       let s = sym (value-place small_of e (small_side e h)) in
       let b = sym (value-place big_of e (big_side e h)) in
       record {
-        less = subst (λ x. C.IsLess x (placed_value big_of e)) s (subst (λ x. C.IsLess (term_value C f e.statement (small_of e)) x) b (o.less t));
+        less = subst (λ x. C.IsLess x (placed_value big_of e)) s
+            (subst (λ x. C.IsLess (term_value C f e.statement (small_of e)) x) b (o.less t));
         counted = l;
       }
 
   pub excluded : (es : List Entry) → IsCertificate m es → ⊥
   excluded es c =
-      unbalanced C Entry (λ e. e.times) at_place (choose m.elements 3) (first_place m.elements small_of) (second_place m.elements small_of) (first_place m.elements big_of) (second_place m.elements big_of) es
+      unbalanced C Entry (λ e. e.times) at_place (choose m.elements 3) (first_place m.elements small_of)
+      (second_place m.elements small_of) (first_place m.elements big_of) (second_place m.elements big_of) es
       (below m.elements small_of es small)
       (below m.elements big_of es big)
       (each_weaker (λ e. IsLawful m e.statement) IsOrderedEntry ordered_entry es lawful)
-      (any_stronger (λ e. IsLawful m e.statement × (1 ≤ e.times)) (λ e. IsTrue e.statement.strict) IsStrictEntry (λ e h t. strict_entry e h.0 h.1 t) es both (any_by_recursion (λ e. IsTrue e.statement.strict) es c.strict))
-      (λ k l. tally-times m.elements small_of k l es small ∙ c.balanced (subset_at m.elements 3 k) (triple_of_place m.elements k l) ∙ sym (tally-times m.elements big_of k l es big))
+      (any_stronger (λ e. IsLawful m e.statement × (1 ≤ e.times)) (λ e. IsTrue e.statement.strict) IsStrictEntry
+      (λ e h t. strict_entry e h.0 h.1 t) es both (any_by_recursion (λ e. IsTrue e.statement.strict) es c.strict))
+      (λ k l. tally-times m.elements small_of k l es small
+      ∙ c.balanced (subset_at m.elements 3 k) (triple_of_place m.elements k l)
+      ∙ sym (tally-times m.elements big_of k l es big))
     where
       lawful : Each (λ e. IsLawful m e.statement) es
       lawful = recursion_from_All (λ e. IsLawful m e.statement) es c.lawful
 
       both : Each (λ e. IsLawful m e.statement × (1 ≤ e.times)) es
-      both = recursion_from_All (λ e. IsLawful m e.statement × (1 ≤ e.times)) es (λ k d l. (c.lawful k d l, c.counted k d l))
+      both = recursion_from_All (λ e. IsLawful m e.statement × (1 ≤ e.times)) es
+          (λ k d l. (c.lawful k d l, c.counted k d l))
 
       small : Each (HasSide m.elements small_of) es
-      small = each_weaker (λ e. IsLawful m e.statement) (HasSide m.elements small_of) small_side es (recursion_from_All (λ e. IsLawful m e.statement) es c.lawful)
+      small = each_weaker (λ e. IsLawful m e.statement) (HasSide m.elements small_of) small_side es
+          (recursion_from_All (λ e. IsLawful m e.statement) es c.lawful)
 
       big : Each (HasSide m.elements big_of) es
-      big = each_weaker (λ e. IsLawful m e.statement) (HasSide m.elements big_of) big_side es (recursion_from_All (λ e. IsLawful m e.statement) es c.lawful)
+      big = each_weaker (λ e. IsLawful m e.statement) (HasSide m.elements big_of) big_side es
+          (recursion_from_All (λ e. IsLawful m e.statement) es c.lawful)
 
 -- ---- the two theorems
 
-pub certificate_excludes : (m : SignMap) (es : List Entry) → IsCertificate m es → (vs : List WholeVector) → Realizes vs m → ⊥
-certificate_excludes m es c vs r = excluded products m (bracket_size vs) (λ st h. let o = ordered_sizes vs m r st h in record { positive = o.positive; at_most = o.at_most; less = o.less }) es c
+pub certificate_excludes : (m : SignMap) (es : List Entry) → IsCertificate m es → (vs : List WholeVector)
+    → Realizes vs m → ⊥
+certificate_excludes m es c vs r =
+    excluded products m (bracket_size vs) (λ st h. let o = ordered_sizes vs m r st h in
+    record { positive = o.positive; at_most = o.at_most; less = o.less }) es c
 
 pub weights_exclude : (m : SignMap) (ws : List Weight) → AreWeights m ws → (es : List Entry) → IsCertificate m es → ⊥
 weights_exclude m ws w = excluded sums m (weight_of ws) (λ st h. ordered st (w.met st h))
   where
-    compared : (strict : Bool) (small big : ℤ) → Compares strict small big → (small ≤ℤ big) × (IsTrue strict → small <ℤ big)
+    compared : (strict : Bool) (small big : ℤ) → Compares strict small big → (small ≤ℤ big)
+        × (IsTrue strict → small <ℤ big)
     compared true small big h = (omega (arith, ints), λ t. h)
     compared false small big h = (omega (arith, ints), λ t. absurd (let f : false ≡ true = t in cc))
 

@@ -1,7 +1,8 @@
 -- The table of the weights of all triples.
 --
 -- Main results: none_filled and one_filled, the start and the step of filling it from the last weight on.
-use Rattle.std.specs.Prelude.{ℕ, ◌≡◌, ◌≢◌, ◌+◌, ◌-◌, ◌<◌, ◌≤◌, ℤ, pos, List, [], ◌∷◌, length, map, drop, All, unsigned_abs}
+use Rattle.std.specs.Prelude.{ℕ, ◌≡◌, ◌≢◌, ◌+◌, ◌-◌, ◌<◌, ◌≤◌, ℤ, pos, List, [], ◌∷◌, length, map, drop, All}
+use Rattle.std.specs.Prelude.{unsigned_abs}
 use Rattle.std.proofs.Common.{refl, sym, ◌∙◌, ap, subst, arith, inl, inr, ◌⊎◌, zero, suc}
 use Rattle.std.proofs.Math.ListN.{get_or, set}
 use Rattle.std.proofs.lemmas.Bool.{cases_eq, eq-eqb, ne_eqb, cases_lt}
@@ -27,7 +28,8 @@ pub record IsFilling (n : ℕ) (ws : List Weight) (j : ℕ) (table : List ℤ) :
 zero_at : (table : List ℤ) → All (λ z. z ≡ pos 0) table → (k : ℕ) → get_or table k (pos 0) ≡ pos 0
 zero_at table z k = elim (cases_lt k (length table)) [ inl l ↦ z k (pos 0) l | inr g ↦ get_or_past table k (pos 0) g ]
 
-pub none_filled : (n : ℕ) (ws : List Weight) (j : ℕ) (table : List ℤ) → length ws ≤ j → All (λ z. z ≡ pos 0) table → IsFilling n ws j table
+pub none_filled : (n : ℕ) (ws : List Weight) (j : ℕ) (table : List ℤ) → length ws ≤ j → All (λ z. z ≡ pos 0) table
+    → IsFilling n ws j table
 none_filled n ws j table l z = record {
   weights = λ b hb. zero_at table z (rank_of n b) ∙ sym (ap (λ xs. weight_of xs b) (drop_past ws j l));
   small = λ k. let e = ap unsigned_abs (zero_at table z k) in omega (arith, e);
@@ -43,12 +45,14 @@ none_filled n ws j table l z = record {
     drop_past (x ∷ xs) (suc j) l = drop_past xs j (omega arith)
 
 -- the bracket of each weight is an increasing triple
-pub weight_triple : (m : SignMap) (ws : List Weight) (j : ℕ) (d : Weight) → AreOfBrackets m ws → j < length ws → IsTriple m.elements (bracket_of (get_or ws j d))
+pub weight_triple : (m : SignMap) (ws : List Weight) (j : ℕ) (d : Weight) → AreOfBrackets m ws → j < length ws
+    → IsTriple m.elements (bracket_of (get_or ws j d))
 weight_triple m ws j d e l =
     subst (IsTriple m.elements) (ap (λ xs. get_or xs j (bracket_of d)) (sym e) ∙ at_map ws j l)
     (bracket_triples m j (bracket_of d) (let f = ap length (sym e) ∙ length-map ws bracket_of in omega (arith, f)))
   where
-    at_map : (ws : List Weight) (j : ℕ) → j < length ws → get_or (map bracket_of ws) j (bracket_of d) ≡ bracket_of (get_or ws j d)
+    at_map : (ws : List Weight) (j : ℕ) → j < length ws
+        → get_or (map bracket_of ws) j (bracket_of d) ≡ bracket_of (get_or ws j d)
     at_map [] j l = absurd (omega arith)
     at_map (w ∷ ws) zero l = refl
     at_map (w ∷ ws) (suc j) l = at_map ws j (omega arith)
@@ -73,17 +77,31 @@ one_filled n ws j p d table l t q room s h = record {
     within : p < length table
     within = let f = place_below n (bracket_of (get_or ws j d)) t in omega (arith, q)
 
-    at_triple : (b : List ℕ) → IsTriple n b → (rank_of n b ≡ p) ⊎ (rank_of n b ≢ p) → get_or (set table p (get_or ws j d).value) (rank_of n b) (pos 0) ≡ weight_of (get_or ws j d ∷ drop (suc j) ws) b
+    at_triple : (b : List ℕ) → IsTriple n b → (rank_of n b ≡ p) ⊎ (rank_of n b ≢ p)
+        → get_or (set table p (get_or ws j d).value) (rank_of n b) (pos 0)
+        ≡ weight_of (get_or ws j d ∷ drop (suc j) ws) b
     at_triple b hb (inl e) =
-        rw (same-place n b (bracket_of (get_or ws j d)) hb t, eq-eqb (rank_of n b) (rank_of n (bracket_of (get_or ws j d))) (e ∙ q))
-        (ap (λ k. get_or (set table p (get_or ws j d).value) k (pos 0)) e ∙ get_or-set_same table p (get_or ws j d).value (pos 0) within)
+        rw (
+          same-place n b (bracket_of (get_or ws j d)) hb t,
+          eq-eqb (rank_of n b) (rank_of n (bracket_of (get_or ws j d))) (e ∙ q),
+        )
+        (ap (λ k. get_or (set table p (get_or ws j d).value) k (pos 0)) e
+        ∙ get_or-set_same table p (get_or ws j d).value (pos 0) within)
     at_triple b hb (inr n') =
-        rw (same-place n b (bracket_of (get_or ws j d)) hb t, ne_eqb (rank_of n b) (rank_of n (bracket_of (get_or ws j d))) (λ e. n' (e ∙ sym q)))
-        (get_or-set_other table p (rank_of n b) (get_or ws j d).value (pos 0) n' ∙ h.weights b hb ∙ ap (λ i. weight_of (drop i ws) b) (let f : j + 1 ≡ suc j = omega arith in f))
+        rw (
+          same-place n b (bracket_of (get_or ws j d)) hb t,
+          ne_eqb (rank_of n b) (rank_of n (bracket_of (get_or ws j d))) (λ e. n' (e ∙ sym q)),
+        )
+        (get_or-set_other table p (rank_of n b) (get_or ws j d).value (pos 0) n' ∙ h.weights b hb
+        ∙ ap (λ i. weight_of (drop i ws) b) (let f : j + 1 ≡ suc j = omega arith in f))
 
-    small : (k : ℕ) → (k ≡ p) ⊎ (k ≢ p) → unsigned_abs (get_or (set table p (get_or ws j d).value) k (pos 0)) ≤ unsigned_abs MAX_WEIGHT
-    small k (inl e) = subst (λ z. unsigned_abs z ≤ unsigned_abs MAX_WEIGHT) (sym (ap (λ i. get_or (set table p (get_or ws j d).value) i (pos 0)) e ∙ get_or-set_same table p (get_or ws j d).value (pos 0) within)) s
-    small k (inr n') = subst (λ z. unsigned_abs z ≤ unsigned_abs MAX_WEIGHT) (sym (get_or-set_other table p k (get_or ws j d).value (pos 0) n')) (h.small k)
+    small : (k : ℕ) → (k ≡ p) ⊎ (k ≢ p) → unsigned_abs (get_or (set table p (get_or ws j d).value) k (pos 0))
+        ≤ unsigned_abs MAX_WEIGHT
+    small k (inl e) = subst (λ z. unsigned_abs z ≤ unsigned_abs MAX_WEIGHT)
+        (sym (ap (λ i. get_or (set table p (get_or ws j d).value) i (pos 0)) e
+        ∙ get_or-set_same table p (get_or ws j d).value (pos 0) within)) s
+    small k (inr n') = subst (λ z. unsigned_abs z ≤ unsigned_abs MAX_WEIGHT)
+        (sym (get_or-set_other table p k (get_or ws j d).value (pos 0) n')) (h.small k)
 
 pub fill_step :
     (m : SignMap) (ws : List Weight) (i p : ℕ) (d : Weight) (table : List ℤ)
@@ -93,18 +111,24 @@ pub fill_step :
     → choose m.elements 3 ≤ length table
     → All (λ w. unsigned_abs w.value ≤ unsigned_abs MAX_WEIGHT) ws
     → IsFilling m.elements ws (length ws - i) table
-    → IsFilling m.elements ws (length ws - (i + 1)) (set table p (to_z w128 (of_z w128 (get_or ws (length ws - 1 - i) d).value)))
+    → IsFilling m.elements ws (length ws - (i + 1))
+    (set table p (to_z w128 (of_z w128 (get_or ws (length ws - 1 - i) d).value)))
 fill_step m ws i p d table e l q room small h =
     let within : length ws - 1 - i < length ws = omega arith in
-    let size : unsigned_abs (get_or ws (length ws - 1 - i) d).value ≤ unsigned_abs MAX_WEIGHT = small (length ws - 1 - i) d within in
-    let back = to_z-of_z w128 (get_or ws (length ws - 1 - i) d).value (fits_signed_from_abs w128 (get_or ws (length ws - 1 - i) d).value (omega arith)) in
+    let size : unsigned_abs (get_or ws (length ws - 1 - i) d).value ≤ unsigned_abs MAX_WEIGHT =
+    small (length ws - 1 - i) d within in
+    let back = to_z-of_z w128 (get_or ws (length ws - 1 - i) d).value
+    (fits_signed_from_abs w128 (get_or ws (length ws - 1 - i) d).value (omega arith)) in
     let before : length ws - i ≡ length ws - 1 - i + 1 = omega arith in
     let after : length ws - 1 - i ≡ length ws - (i + 1) = omega arith in
-    subst (λ k. IsFilling m.elements ws k (set table p (to_z w128 (of_z w128 (get_or ws (length ws - 1 - i) d).value)))) after
+    subst (λ k. IsFilling m.elements ws k (set table p (to_z w128 (of_z w128 (get_or ws (length ws - 1 - i) d).value))))
+    after
     (subst (λ z. IsFilling m.elements ws (length ws - 1 - i) (set table p z)) (sym back)
-    (one_filled m.elements ws (length ws - 1 - i) p d table within (weight_triple m ws (length ws - 1 - i) d e within) q room size (subst (λ k. IsFilling m.elements ws k table) before h)))
+    (one_filled m.elements ws (length ws - 1 - i) p d table within (weight_triple m ws (length ws - 1 - i) d e within) q
+    room size (subst (λ k. IsFilling m.elements ws k table) before h)))
 
-pub all_filled : (n : ℕ) (ws : List Weight) (j : ℕ) (table : List ℤ) → j ≡ 0 → choose n 3 ≤ length table → IsFilling n ws j table → IsWeightTable n ws table
+pub all_filled : (n : ℕ) (ws : List Weight) (j : ℕ) (table : List ℤ) → j ≡ 0 → choose n 3 ≤ length table
+    → IsFilling n ws j table → IsWeightTable n ws table
 all_filled n ws j table e room h = record {
   room = room;
   weights = λ b hb. h.weights b hb ∙ ap (λ k. weight_of (drop k ws) b) e;

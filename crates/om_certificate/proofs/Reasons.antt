@@ -21,21 +21,26 @@ use Rattle.om_certificate.specs.Weights.{nonzero_brackets, bracket_of}
 use Rattle.om_certificate.specs.Tables.{IsOfTriple, AreCounts}
 use Rattle.om_certificate.proofs.Triples.{triple_elements}
 
-pub vectors_refused : (m : SignMap) (vs : List WholeVector) (wanted given : ℕ) → wanted ≡ m.elements → given ≡ length vs → length vs ≢ m.elements → IsVectorRefusal m vs (Number wanted given)
+pub vectors_refused : (m : SignMap) (vs : List WholeVector) (wanted given : ℕ) → wanted ≡ m.elements → given ≡ length vs
+    → length vs ≢ m.elements → IsVectorRefusal m vs (Number wanted given)
 vectors_refused m vs wanted given w g n = rw (w, g) (number_of_vectors n)
 
-pub weights_refused : (m : SignMap) (ws : List Weight) (wanted : ℕ) → wanted ≡ length (nonzero_brackets m) → length ws ≢ wanted → IsWeightRefusal m ws (Number wanted (length ws))
+pub weights_refused : (m : SignMap) (ws : List Weight) (wanted : ℕ) → wanted ≡ length (nonzero_brackets m)
+    → length ws ≢ wanted → IsWeightRefusal m ws (Number wanted (length ws))
 weights_refused m ws wanted w n = rw w (number_of_weights (λ e. n (e ∙ sym w)))
 
-pub weight_of_triple : (n k : ℕ) (w : Weight) (b : List ℕ) → k ≡ n → IsSubsetFrom 1 n b → length b ≡ 3 → b ≡ bracket_of w → IsOfTriple k w
+pub weight_of_triple : (n k : ℕ) (w : Weight) (b : List ℕ) → k ≡ n → IsSubsetFrom 1 n b → length b ≡ 3
+    → b ≡ bracket_of w → IsOfTriple k w
 weight_of_triple n k w b e h s q =
     let t : IsTriple n (bracket_of w) = subst (IsTriple n) q (record { list = h; size = s }) in
     let p = triple_elements n w.a w.b w.c t in
     let c = p.3 in
     record { a = p.0; a_b = p.1; b_c = p.2; c = omega (arith, e) }
 
-pub all_balanced : (m : SignMap) (es : List Entry) (small big : List ℕ) → AreCounts m.elements es small big → ((j : ℕ) → j < choose m.elements 3 → get_or small j 0 ≡ get_or big j 0) → AreBalanced m es
-all_balanced m es small big c h b hb = sym (c.small_counts b hb) ∙ h (rank_of m.elements b) (place_below m.elements b hb) ∙ c.big_counts b hb
+pub all_balanced : (m : SignMap) (es : List Entry) (small big : List ℕ) → AreCounts m.elements es small big
+    → ((j : ℕ) → j < choose m.elements 3 → get_or small j 0 ≡ get_or big j 0) → AreBalanced m es
+all_balanced m es small big c h b hb = sym (c.small_counts b hb)
+    ∙ h (rank_of m.elements b) (place_below m.elements b hb) ∙ c.big_counts b hb
 
 is_first_unbalanced :
     (m : SignMap) (es : List Entry) (small big : List ℕ) (place : ℕ) (b : Chosen)
@@ -49,7 +54,8 @@ is_first_unbalanced :
 is_first_unbalanced m es small big place b c n hb r d h = record {
   n = n;
   triple = hb;
-  differ = λ e. d (ap (λ k. get_or small k 0) (sym r) ∙ c.small_counts b.elements hb ∙ e ∙ sym (c.big_counts b.elements hb) ∙ ap (λ k. get_or big k 0) r);
+  differ = λ e. d (ap (λ k. get_or small k 0) (sym r) ∙ c.small_counts b.elements hb ∙ e
+      ∙ sym (c.big_counts b.elements hb) ∙ ap (λ k. get_or big k 0) r);
   earlier = λ x hx before.
       let l = (lexicographic 1 m.elements x b.elements hx.list hb.list (hx.size ∙ sym hb.size)).0 before in
       sym (c.small_counts x hx) ∙ h (rank_of m.elements x) (omega (arith, r, l)) ∙ c.big_counts x hx;
@@ -66,7 +72,10 @@ pub unbalanced_refused :
     → ((j : ℕ) → j < place → get_or small j 0 ≡ get_or big j 0)
     → IsEntryRefusal m es (Unbalanced b (get_or small place 0) (get_or big place 0))
 unbalanced_refused m es small big place b a c n hb r d h =
-    let s : get_or small place 0 ≡ small_times b.elements es = ap (λ k. get_or small k 0) (sym r) ∙ c.small_counts b.elements hb in
-    let t : get_or big place 0 ≡ big_times b.elements es = ap (λ k. get_or big k 0) (sym r) ∙ c.big_counts b.elements hb in
+    let s : get_or small place 0 ≡ small_times b.elements es = ap (λ k. get_or small k 0) (sym r)
+    ∙ c.small_counts b.elements hb in
+    let t : get_or big place 0 ≡ big_times b.elements es = ap (λ k. get_or big k 0) (sym r)
+    ∙ c.big_counts b.elements hb in
     subst (λ x. IsEntryRefusal m es (Unbalanced b x (get_or big place 0))) (sym s)
-    (subst (λ x. IsEntryRefusal m es (Unbalanced b (small_times b.elements es) x)) (sym t) (unbalanced b a (is_first_unbalanced m es small big place b c n hb r d h)))
+    (subst (λ x. IsEntryRefusal m es (Unbalanced b (small_times b.elements es) x)) (sym t)
+    (unbalanced b a (is_first_unbalanced m es small big place b c n hb r d h)))

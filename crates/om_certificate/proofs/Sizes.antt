@@ -2,7 +2,8 @@
 --
 -- Main definitions: product_at, first_number, second_number, third_number, number, IsCompared
 -- Main results: size-number, ordered_sizes
-use Rattle.std.specs.Prelude.{ℕ, zero, suc, ◌≡◌, ◌≢◌, ◌*◌, ◌<◌, ◌≤◌, ℤ, pos, negsuc, ◌+ℤ◌, ◌-ℤ◌, ◌*ℤ◌, neg_ℤ, unsigned_abs, Bool, true, false, List, [], ◌∷◌, cond, nat_eq, nat_lt, refl, ◌⊎◌}
+use Rattle.std.specs.Prelude.{ℕ, zero, suc, ◌≡◌, ◌≢◌, ◌*◌, ◌<◌, ◌≤◌, ℤ, pos, negsuc, ◌+ℤ◌, ◌-ℤ◌, ◌*ℤ◌, neg_ℤ}
+use Rattle.std.specs.Prelude.{unsigned_abs, Bool, true, false, List, [], ◌∷◌, cond, nat_eq, nat_lt, refl, ◌⊎◌}
 use Rattle.std.proofs.Common.{sym, ◌∙◌, ap, arith, inl, inr, subst}
 use Rattle.std.proofs.lemmas.Int.{ints, unsigned_abs-mul}
 use Rattle.om_signs.specs.declared.sign.Sign.TheVariants.{Minus, Zero, Plus}
@@ -30,16 +31,22 @@ size-neg (negsuc n) = refl
 abbrev pub product_at : List WholeVector → ℕ → ℕ → ℕ → ℤ
 product_at vs x y z = triple_product (vector_at vs x) (vector_at vs y) (vector_at vs z)
 
-swapped_first : (vs : List WholeVector) (x y z : ℕ) → unsigned_abs (product_at vs y x z) ≡ unsigned_abs (product_at vs x y z)
-swapped_first vs x y z = ap unsigned_abs (swap_first (vector_at vs x) (vector_at vs y) (vector_at vs z)) ∙ size-neg (product_at vs x y z)
+swapped_first : (vs : List WholeVector) (x y z : ℕ) → unsigned_abs (product_at vs y x z)
+    ≡ unsigned_abs (product_at vs x y z)
+swapped_first vs x y z = ap unsigned_abs (swap_first (vector_at vs x) (vector_at vs y) (vector_at vs z))
+    ∙ size-neg (product_at vs x y z)
 
-swapped_last : (vs : List WholeVector) (x y z : ℕ) → unsigned_abs (product_at vs x z y) ≡ unsigned_abs (product_at vs x y z)
-swapped_last vs x y z = ap unsigned_abs (swap_last (vector_at vs x) (vector_at vs y) (vector_at vs z)) ∙ size-neg (product_at vs x y z)
+swapped_last : (vs : List WholeVector) (x y z : ℕ) → unsigned_abs (product_at vs x z y)
+    ≡ unsigned_abs (product_at vs x y z)
+swapped_last vs x y z = ap unsigned_abs (swap_last (vector_at vs x) (vector_at vs y) (vector_at vs z))
+    ∙ size-neg (product_at vs x y z)
 
-size-insert : (vs : List WholeVector) (x y z : ℕ) → bracket_size vs (insert x (y ∷ z ∷ [])) ≡ unsigned_abs (product_at vs x y z)
+size-insert : (vs : List WholeVector) (x y z : ℕ) → bracket_size vs (insert x (y ∷ z ∷ []))
+    ≡ unsigned_abs (product_at vs x y z)
 size-insert vs x y z = first (nat_lt x y) (nat_lt x z)
   where
-    first : (b c : Bool) → bracket_size vs (cond b (x ∷ y ∷ z ∷ []) (y ∷ cond c (x ∷ z ∷ []) (z ∷ x ∷ []))) ≡ unsigned_abs (product_at vs x y z)
+    first : (b c : Bool) → bracket_size vs (cond b (x ∷ y ∷ z ∷ []) (y ∷ cond c (x ∷ z ∷ []) (z ∷ x ∷ [])))
+        ≡ unsigned_abs (product_at vs x y z)
     first true c = refl
     first false true = swapped_first vs x y z
     first false false = swapped_last vs y x z ∙ swapped_first vs x y z
@@ -49,7 +56,8 @@ size-triple : (vs : List WholeVector) (x y z : ℕ) → bracket_size vs (triple 
 unfolding triple
 size-triple vs x y z = rest (nat_lt y z)
   where
-    rest : (b : Bool) → bracket_size vs (insert x (cond b (y ∷ z ∷ []) (z ∷ y ∷ []))) ≡ unsigned_abs (product_at vs x y z)
+    rest : (b : Bool) → bracket_size vs (insert x (cond b (y ∷ z ∷ []) (z ∷ y ∷ [])))
+        ≡ unsigned_abs (product_at vs x y z)
     rest true = size-insert vs x y z
     rest false = size-insert vs x z y ∙ swapped_last vs x y z
 
@@ -75,9 +83,11 @@ pick-map f i x y z = go (nat_eq i 1) (nat_eq i 2)
     go false true = refl
     go false false = refl
 
-numbers_sum : (vs : List WholeVector) (st : Statement) → first_number vs st +ℤ second_number vs st +ℤ third_number vs st ≡ pos 0
+numbers_sum : (vs : List WholeVector) (st : Statement)
+    → first_number vs st +ℤ second_number vs st +ℤ third_number vs st ≡ pos 0
 numbers_sum vs st =
-    added (product_at vs st.a st.b st.c *ℤ product_at vs st.a st.d st.e) (product_at vs st.a st.b st.d *ℤ product_at vs st.a st.c st.e) (third_number vs st)
+    added (product_at vs st.a st.b st.c *ℤ product_at vs st.a st.d st.e)
+    (product_at vs st.a st.b st.d *ℤ product_at vs st.a st.c st.e) (third_number vs st)
     (three_terms (vector_at vs st.a) (vector_at vs st.b) (vector_at vs st.c) (vector_at vs st.d) (vector_at vs st.e))
   where
     added : (p q r : ℤ) → p -ℤ q +ℤ r ≡ pos 0 → p +ℤ neg_ℤ q +ℤ r ≡ pos 0
@@ -85,22 +95,30 @@ numbers_sum vs st =
 
 -- ---- signs
 
-module _ (vs : List WholeVector) (m : SignMap) (realizes : Realizes vs m) (st : Statement) (placed : IsPlaced m.elements st) where
-  sign-bracket : (x y z : ℕ) → IsElement m.elements x → IsElement m.elements y → IsElement m.elements z → sign_of (product_at vs x y z) ≡ bracket m x y z
+module _ (vs : List WholeVector) (m : SignMap) (realizes : Realizes vs m) (st : Statement)
+    (placed : IsPlaced m.elements st) where
+  sign-bracket : (x y z : ℕ) → IsElement m.elements x → IsElement m.elements y → IsElement m.elements z
+      → sign_of (product_at vs x y z) ≡ bracket m x y z
   unfolding bracket
-  sign-bracket x y z hx hy hz = sym (realized_value vs m realizes (x ∷ y ∷ z ∷ []) (record { size = refl; within = ((hx.low, hx.high), ((hy.low, hy.high), ((hz.low, hz.high), tt))) }))
+  sign-bracket x y z hx hy hz =
+      sym (realized_value vs m realizes (x ∷ y ∷ z ∷ [])
+      (record { size = refl; within = ((hx.low, hx.high), ((hy.low, hy.high), ((hz.low, hz.high), tt))) }))
 
   element_b : IsElement m.elements st.b
-  element_b = let b = placed.b in let bc = placed.b_c in let cd = placed.c_d in let de = placed.d_e in let e = placed.e in record { low = b; high = omega arith }
+  element_b = let b = placed.b in let bc = placed.b_c in let cd = placed.c_d in let de = placed.d_e in let e =
+      placed.e in record { low = b; high = omega arith }
 
   element_c : IsElement m.elements st.c
-  element_c = let b = placed.b in let bc = placed.b_c in let cd = placed.c_d in let de = placed.d_e in let e = placed.e in record { low = omega arith; high = omega arith }
+  element_c = let b = placed.b in let bc = placed.b_c in let cd = placed.c_d in let de = placed.d_e in let e =
+      placed.e in record { low = omega arith; high = omega arith }
 
   element_d : IsElement m.elements st.d
-  element_d = let b = placed.b in let bc = placed.b_c in let cd = placed.c_d in let de = placed.d_e in let e = placed.e in record { low = omega arith; high = omega arith }
+  element_d = let b = placed.b in let bc = placed.b_c in let cd = placed.c_d in let de = placed.d_e in let e =
+      placed.e in record { low = omega arith; high = omega arith }
 
   element_e : IsElement m.elements st.e
-  element_e = let b = placed.b in let bc = placed.b_c in let cd = placed.c_d in let de = placed.d_e in let e = placed.e in record { low = omega arith; high = e }
+  element_e = let b = placed.b in let bc = placed.b_c in let cd = placed.c_d in let de = placed.d_e in let e =
+      placed.e in record { low = omega arith; high = e }
 
   sign-product :
       (x y z u v : ℕ)
@@ -120,16 +138,22 @@ module _ (vs : List WholeVector) (m : SignMap) (realizes : Realizes vs m) (st : 
       pick-map sign_of i (first_number vs st) (second_number vs st) (third_number vs st)
       ∙ same
     where
-      same : pick i (sign_of (first_number vs st)) (sign_of (second_number vs st)) (sign_of (third_number vs st)) ≡ pick i (first_term m st) (second_term m st) (third_term m st)
+      same : pick i (sign_of (first_number vs st)) (sign_of (second_number vs st)) (sign_of (third_number vs st))
+          ≡ pick i (first_term m st) (second_term m st) (third_term m st)
       same =
-          ap (λ s. pick i s (sign_of (second_number vs st)) (sign_of (third_number vs st))) (sign-product st.a st.b st.c st.d st.e placed.a element_b element_c element_d element_e)
+          ap (λ s. pick i s (sign_of (second_number vs st)) (sign_of (third_number vs st)))
+          (sign-product st.a st.b st.c st.d st.e placed.a element_b element_c element_d element_e)
           ∙ ap (λ s. pick i (first_term m st) s (sign_of (third_number vs st)))
-          (sign-neg (product_at vs st.a st.b st.d *ℤ product_at vs st.a st.c st.e) ∙ ap opposite (sign-product st.a st.b st.d st.c st.e placed.a element_b element_d element_c element_e))
-          ∙ ap (λ s. pick i (first_term m st) (second_term m st) s) (sign-product st.a st.b st.e st.c st.d placed.a element_b element_e element_c element_d)
+          (sign-neg (product_at vs st.a st.b st.d *ℤ product_at vs st.a st.c st.e)
+          ∙ ap opposite (sign-product st.a st.b st.d st.c st.e placed.a element_b element_d element_c element_e))
+          ∙ ap (λ s. pick i (first_term m st) (second_term m st) s)
+          (sign-product st.a st.b st.e st.c st.d placed.a element_b element_e element_c element_d)
 
 -- ---- sizes
 
-size-product : (vs : List WholeVector) (x y z u v : ℕ) → unsigned_abs (product_at vs x y z *ℤ product_at vs x u v) ≡ bracket_size vs (triple x y z) * bracket_size vs (triple x u v)
+size-product : (vs : List WholeVector) (x y z u v : ℕ)
+    → unsigned_abs (product_at vs x y z *ℤ product_at vs x u v) ≡ bracket_size vs (triple x y z)
+    * bracket_size vs (triple x u v)
 size-product vs x y z u v =
     unsigned_abs-mul (product_at vs x y z) (product_at vs x u v)
     ∙ ap (λ k. k * unsigned_abs (product_at vs x u v)) (sym (size-triple vs x y z))
@@ -144,7 +168,8 @@ size-number vs st i = go (nat_eq i 1) (nat_eq i 2)
         ≡ bracket_size vs (cond b (triple st.a st.b st.c) (cond c (triple st.a st.b st.d) (triple st.a st.b st.e)))
         * bracket_size vs (cond b (triple st.a st.d st.e) (cond c (triple st.a st.c st.e) (triple st.a st.c st.d)))
     go true c = size-product vs st.a st.b st.c st.d st.e
-    go false true = size-neg (product_at vs st.a st.b st.d *ℤ product_at vs st.a st.c st.e) ∙ size-product vs st.a st.b st.d st.c st.e
+    go false true = size-neg (product_at vs st.a st.b st.d *ℤ product_at vs st.a st.c st.e)
+        ∙ size-product vs st.a st.b st.d st.c st.e
     go false false = size-product vs st.a st.b st.e st.c st.d
 
 -- ---- the order of the sizes
@@ -156,22 +181,51 @@ pub record IsCompared (strict : Bool) (small big : ℕ) : Type 0 where
   pub less : strict ≡ true → small < big
   pub equal : strict ≡ false → small ≡ big
 
-compared : (strict : Bool) (u w v : ℤ) → u +ℤ w +ℤ v ≡ pos 0 → HasSigns strict (sign_of u) (sign_of w) (sign_of v) → IsCompared strict (unsigned_abs u) (unsigned_abs v)
+compared : (strict : Bool) (u w v : ℤ) → u +ℤ w +ℤ v ≡ pos 0 → HasSigns strict (sign_of u) (sign_of w) (sign_of v)
+    → IsCompared strict (unsigned_abs u) (unsigned_abs v)
 compared strict (pos zero) w v e h = absurd (h.nonzero refl)
 compared strict (pos (suc k)) w (pos zero) e h = absurd (let o : Zero ≡ Minus = h.opposed in cc)
 compared strict (pos (suc k)) w (pos (suc n)) e h = absurd (let o : Plus ≡ Minus = h.opposed in cc)
 compared true (pos (suc k)) (pos zero) (negsuc n) e h = absurd (let o : Zero ≡ Plus = h.rest in cc)
-compared true (pos (suc k)) (pos (suc j)) (negsuc n) e h = record { positive = omega arith; at_most = omega (arith, ints); less = λ s. omega (arith, ints); equal = λ s. absurd (cc) }
+compared true (pos (suc k)) (pos (suc j)) (negsuc n) e h =
+    record {
+      positive = omega arith;
+      at_most = omega (arith, ints);
+      less = λ s. omega (arith, ints);
+      equal =
+          λ s. absurd (cc);
+    }
 compared true (pos (suc k)) (negsuc j) (negsuc n) e h = absurd (let o : Minus ≡ Plus = h.rest in cc)
-compared false (pos (suc k)) (pos zero) (negsuc n) e h = record { positive = omega arith; at_most = omega (arith, ints); less = λ s. absurd (cc); equal = λ s. omega (arith, ints) }
+compared false (pos (suc k)) (pos zero) (negsuc n) e h =
+    record {
+      positive = omega arith;
+      at_most = omega (arith, ints);
+      less = λ s. absurd (cc);
+      equal =
+          λ s. omega (arith, ints);
+    }
 compared false (pos (suc k)) (pos (suc j)) (negsuc n) e h = absurd (let o : Plus ≡ Zero = h.rest in cc)
 compared false (pos (suc k)) (negsuc j) (negsuc n) e h = absurd (let o : Minus ≡ Zero = h.rest in cc)
 compared strict (negsuc k) w (pos zero) e h = absurd (let o : Zero ≡ Plus = h.opposed in cc)
 compared strict (negsuc k) w (negsuc n) e h = absurd (let o : Minus ≡ Plus = h.opposed in cc)
 compared true (negsuc k) (pos zero) (pos (suc n)) e h = absurd (let o : Zero ≡ Minus = h.rest in cc)
 compared true (negsuc k) (pos (suc j)) (pos (suc n)) e h = absurd (let o : Plus ≡ Minus = h.rest in cc)
-compared true (negsuc k) (negsuc j) (pos (suc n)) e h = record { positive = omega arith; at_most = omega (arith, ints); less = λ s. omega (arith, ints); equal = λ s. absurd (cc) }
-compared false (negsuc k) (pos zero) (pos (suc n)) e h = record { positive = omega arith; at_most = omega (arith, ints); less = λ s. absurd (cc); equal = λ s. omega (arith, ints) }
+compared true (negsuc k) (negsuc j) (pos (suc n)) e h =
+    record {
+      positive = omega arith;
+      at_most = omega (arith, ints);
+      less = λ s. omega (arith, ints);
+      equal =
+          λ s. absurd (cc);
+    }
+compared false (negsuc k) (pos zero) (pos (suc n)) e h =
+    record {
+      positive = omega arith;
+      at_most = omega (arith, ints);
+      less = λ s. absurd (cc);
+      equal =
+          λ s. omega (arith, ints);
+    }
 compared false (negsuc k) (pos (suc j)) (pos (suc n)) e h = absurd (let o : Plus ≡ Zero = h.rest in cc)
 compared false (negsuc k) (negsuc j) (pos (suc n)) e h = absurd (let o : Minus ≡ Zero = h.rest in cc)
 
@@ -183,10 +237,12 @@ one_of_three (suc (suc (suc zero))) h = inr (inr refl)
 one_of_three (suc (suc (suc (suc k)))) h = let l = h.high in absurd (omega arith)
 
 -- a term, the third one and another one have sum 0
-terms_sum : (x y z : ℤ) → x +ℤ y +ℤ z ≡ pos 0 → (i j : ℕ) → AreTwo i j → pick i x y z +ℤ pick (third i j) x y z +ℤ pick j x y z ≡ pos 0
+terms_sum : (x y z : ℤ) → x +ℤ y +ℤ z ≡ pos 0 → (i j : ℕ) → AreTwo i j
+    → pick i x y z +ℤ pick (third i j) x y z +ℤ pick j x y z ≡ pos 0
 terms_sum x y z e i j t = go i j (one_of_three i t.first) (one_of_three j t.second) t.differ
   where
-    go : (i j : ℕ) → (i ≡ 1) ⊎ ((i ≡ 2) ⊎ (i ≡ 3)) → (j ≡ 1) ⊎ ((j ≡ 2) ⊎ (j ≡ 3)) → i ≢ j → pick i x y z +ℤ pick (third i j) x y z +ℤ pick j x y z ≡ pos 0
+    go : (i j : ℕ) → (i ≡ 1) ⊎ ((i ≡ 2) ⊎ (i ≡ 3)) → (j ≡ 1) ⊎ ((j ≡ 2) ⊎ (j ≡ 3)) → i ≢ j
+        → pick i x y z +ℤ pick (third i j) x y z +ℤ pick j x y z ≡ pos 0
     go i j (inl p) (inl q) n = absurd (n (p ∙ sym q))
     go i j (inl p) (inr (inl q)) n = rw (p, q) (let f : x +ℤ z +ℤ y ≡ pos 0 = omega sums in f)
     go i j (inl p) (inr (inr q)) n = rw (p, q) e
@@ -197,7 +253,8 @@ terms_sum x y z e i j t = go i j (one_of_three i t.first) (one_of_three j t.seco
     go i j (inr (inr p)) (inr (inl q)) n = rw (p, q) (let f : z +ℤ x +ℤ y ≡ pos 0 = omega sums in f)
     go i j (inr (inr p)) (inr (inr q)) n = absurd (n (p ∙ sym q))
 
--- the product of the sizes on the small side of a lawful statement is positive and at most that on the big side, less where it is strict, and else equal
+-- the product of the sizes on the small side of a lawful statement is positive and at most that on the big side, less
+-- where it is strict, and else equal
 pub ordered_sizes :
     (vs : List WholeVector) (m : SignMap)
     → Realizes vs m
@@ -208,11 +265,16 @@ ordered_sizes vs m r st h =
     subst (λ k. IsCompared st.strict k (term_size vs st st.big)) (size-number vs st st.small)
     (subst (λ k. IsCompared st.strict (unsigned_abs (number vs st st.small)) k) (size-number vs st st.big)
     (compared st.strict (number vs st st.small) (number vs st (third st.small st.big)) (number vs st st.big)
-    (terms_sum (first_number vs st) (second_number vs st) (third_number vs st) (numbers_sum vs st) st.small st.big h.two)
+    (terms_sum (first_number vs st) (second_number vs st) (third_number vs st) (numbers_sum vs st) st.small st.big
+    h.two)
     signs))
   where
-    signs : HasSigns st.strict (sign_of (number vs st st.small)) (sign_of (number vs st (third st.small st.big))) (sign_of (number vs st st.big))
+    signs : HasSigns st.strict (sign_of (number vs st st.small)) (sign_of (number vs st (third st.small st.big)))
+        (sign_of (number vs st st.big))
     signs =
-        subst (λ s. HasSigns st.strict s (sign_of (number vs st (third st.small st.big))) (sign_of (number vs st st.big))) (sym (sign-number vs m r st h.placed st.small))
-        (subst (λ s. HasSigns st.strict (term m st st.small) s (sign_of (number vs st st.big))) (sym (sign-number vs m r st h.placed (third st.small st.big)))
-        (subst (λ s. HasSigns st.strict (term m st st.small) (term m st (third st.small st.big)) s) (sym (sign-number vs m r st h.placed st.big)) h.signs))
+        subst (λ s. HasSigns st.strict s (sign_of (number vs st (third st.small st.big)))
+        (sign_of (number vs st st.big))) (sym (sign-number vs m r st h.placed st.small))
+        (subst (λ s. HasSigns st.strict (term m st st.small) s (sign_of (number vs st st.big)))
+        (sym (sign-number vs m r st h.placed (third st.small st.big)))
+        (subst (λ s. HasSigns st.strict (term m st st.small) (term m st (third st.small st.big)) s)
+        (sym (sign-number vs m r st h.placed st.big)) h.signs))

@@ -1,6 +1,7 @@
 -- Increasing triples and their places in lexicographic order.
 --
--- Main results: place_below, triple_at_place, triple_of_place, place_of_place, same-place, triples_room, triple_elements, increasing_triple
+-- Main results: place_below, triple_at_place, triple_of_place, place_of_place, same-place, triples_room,
+-- triple_elements, increasing_triple
 use Rattle.std.specs.Prelude.{ℕ, ◌≡◌, ◌<◌, ◌≤◌, List, [], ◌∷◌, nat_eq}
 use Rattle.std.proofs.Common.{refl, sym, ◌∙◌, ap, arith, inl, inr, subst}
 use Rattle.std.proofs.lemmas.Slice.Eq.{bytes_eq-Decides}
@@ -30,7 +31,8 @@ place_of_place n k l = (listed 1 n 3 k l).place
 pub same-place : (n : ℕ) (b c : List ℕ) → IsTriple n b → IsTriple n c → is_same b c ≡ nat_eq (rank_of n b) (rank_of n c)
 same-place n b c hb hc =
     same_from_decides (is_same b c) (nat_eq (rank_of n b) (rank_of n c)) (bytes_eq-Decides b c)
-    (Decides-like (nat_eq (rank_of n b) (rank_of n c)) (same_triple n b c hb hc) (ap (rank_of n)) (Decides-eqb (rank_of n b) (rank_of n c)))
+    (Decides-like (nat_eq (rank_of n b) (rank_of n c)) (same_triple n b c hb hc) (ap (rank_of n))
+    (Decides-eqb (rank_of n b) (rank_of n c)))
 
 -- a table for all elements has room for the triples of fewer
 pub triples_room : (n : ℕ) → n ≤ MAX_ELEMENTS → choose n 3 ≤ ROOM

@@ -2,7 +2,8 @@
 --
 -- Main definitions: IsWalk
 -- Main results: first_unmet_here, met_by_table, nearer_following, walk_following
-use Rattle.std.specs.Prelude.{ℕ, ◌≡◌, ◌-◌, ◌*◌, ◌^◌, ◌<◌, ℤ, pos, ◌+ℤ◌, Bool, IsTrue, ◌↔◌, List, Option, Some, None, IsNone, IfSome}
+use Rattle.std.specs.Prelude.{ℕ, ◌≡◌, ◌-◌, ◌*◌, ◌^◌, ◌<◌, ℤ, pos, ◌+ℤ◌, Bool, IsTrue, ◌↔◌, List, Option, Some, None}
+use Rattle.std.specs.Prelude.{IsNone, IfSome}
 use Rattle.std.proofs.Math.ListN.{get_or}
 use Rattle.std.proofs.Common.{refl, sym, ◌∙◌, ap, subst, arith, inl, inr, ◌⊎◌}
 use Rattle.om_chirotope.specs.Map.{SignMap}
@@ -45,36 +46,46 @@ place_small m t few h =
     let j = h.two.second.high in
     omega arith
 
-nearer : (m : SignMap) (s t : Statement) → m.elements < 256 → IsLawful m s → IsNext m s t → left (Some t) < left (Some s)
+nearer : (m : SignMap) (s t : Statement) → m.elements < 256 → IsLawful m s → IsNext m s t
+    → left (Some t) < left (Some s)
 unfolding left
-nearer m s t few h n = let l = lawful_places m s t few h n.lawful n.later in let p = place_small m t few n.lawful in omega arith
+nearer m s t few h n = let l = lawful_places m s t few h n.lawful n.later in let p = place_small m t few n.lawful in
+    omega arith
 
 at_end : (m : SignMap) (s : Statement) → m.elements < 256 → IsLawful m s → left None < left (Some s)
 unfolding left
 at_end m s few h = let p = place_small m s few h in omega arith
 
-met_before : (m : SignMap) (ws : List Weight) (s u : Statement) → IsMetBy ws s → IsWalk m ws (Some s) → IsLawful m u → (u ≡ s) ⊎ IsBefore u s → IsMetBy ws u
+met_before : (m : SignMap) (ws : List Weight) (s u : Statement) → IsMetBy ws s → IsWalk m ws (Some s) → IsLawful m u
+    → (u ≡ s) ⊎ IsBefore u s → IsMetBy ws u
 met_before m ws s u k w l (inl e) = subst (IsMetBy ws) (sym e) k
 met_before m ws s u k w l (inr b) = w.1 u l b
 
-walk_ends : (m : SignMap) (ws : List Weight) (s : Statement) → IsMetBy ws s → IsWalk m ws (Some s) → IsLast m s → IsWalk m ws None
+walk_ends : (m : SignMap) (ws : List Weight) (s : Statement) → IsMetBy ws s → IsWalk m ws (Some s) → IsLast m s
+    → IsWalk m ws None
 walk_ends m ws s k w h u l = met_before m ws s u k w l (h u l)
 
-walk_goes : (m : SignMap) (ws : List Weight) (s t : Statement) → IsMetBy ws s → IsWalk m ws (Some s) → IsNext m s t → IsWalk m ws (Some t)
+walk_goes : (m : SignMap) (ws : List Weight) (s t : Statement) → IsMetBy ws s → IsWalk m ws (Some s) → IsNext m s t
+    → IsWalk m ws (Some t)
 walk_goes m ws s t k w n = (n.lawful, λ u l b. met_before m ws s u k w l (n.next u l b))
 
-pub first_unmet_here : (m : SignMap) (ws : List Weight) (t : Statement) → IsWalk m ws (Some t) → (IsMetBy ws t → ⊥) → IsFirstUnmet m ws t
+pub first_unmet_here : (m : SignMap) (ws : List Weight) (t : Statement) → IsWalk m ws (Some t) → (IsMetBy ws t → ⊥)
+    → IsFirstUnmet m ws t
 first_unmet_here m ws t w n = record { lawful = w.0; unmet = n; earlier = w.1 }
 
 -- ---- sums by the table
 
-sum_same : (m : SignMap) (ws : List Weight) (table : List ℤ) (st : Statement) (i : ℕ) → IsWeightTable m.elements ws table → IsTriple m.elements (first_bracket st i) → IsTriple m.elements (second_bracket st i) → sum_at m.elements table st i ≡ term_weight ws st i
+sum_same : (m : SignMap) (ws : List Weight) (table : List ℤ) (st : Statement) (i : ℕ)
+    → IsWeightTable m.elements ws table → IsTriple m.elements (first_bracket st i)
+    → IsTriple m.elements (second_bracket st i) → sum_at m.elements table st i ≡ term_weight ws st i
 sum_same m ws table st i h f s =
     ap (λ z. z +ℤ get_or table (rank_of m.elements (second_bracket st i)) (pos 0)) (h.weights (first_bracket st i) f)
     ∙ ap (λ z. weight_of ws (first_bracket st i) +ℤ z) (h.weights (second_bracket st i) s)
 
 -- the test by the table tells whether the statement is met
-pub met_by_table : (m : SignMap) (n : ℕ) (ws : List Weight) (table : List ℤ) (st : Statement) (b : Bool) → n ≡ m.elements → IsWeightTable m.elements ws table → IsLawful m st → IsTrue b ↔ Compares st.strict (sum_at n table st st.small) (sum_at n table st st.big) → IsTrue b ↔ IsMetBy ws st
+pub met_by_table : (m : SignMap) (n : ℕ) (ws : List Weight) (table : List ℤ) (st : Statement) (b : Bool)
+    → n ≡ m.elements → IsWeightTable m.elements ws table → IsLawful m st → IsTrue b
+    ↔ Compares st.strict (sum_at n table st st.small) (sum_at n table st st.big) → IsTrue b ↔ IsMetBy ws st
 met_by_table m n ws table st b e h l t =
     let a = lawful_triples m st l in
     let s = sum_same m ws table st st.small h a.small_first a.small_second in
@@ -83,10 +94,12 @@ met_by_table m n ws table st b e h l t =
     (subst (λ x. IsTrue b ↔ Compares st.strict (sum_at m.elements table st st.small) x) g
     (subst (λ k. IsTrue b ↔ Compares st.strict (sum_at k table st st.small) (sum_at k table st st.big)) e t))
 
-pub nearer_following : (m : SignMap) (s : Statement) (r : Option Statement) → m.elements < 256 → IsLawful m s → IfSome r (λ t. IsNext m s t) → left r < left (Some s)
+pub nearer_following : (m : SignMap) (s : Statement) (r : Option Statement) → m.elements < 256 → IsLawful m s
+    → IfSome r (λ t. IsNext m s t) → left r < left (Some s)
 nearer_following m s None few h n = at_end m s few h
 nearer_following m s (Some t) few h n = nearer m s t few h n
 
-pub walk_following : (m : SignMap) (ws : List Weight) (s : Statement) (r : Option Statement) → IsMetBy ws s → IsWalk m ws (Some s) → IsNone r ↔ IsLast m s → IfSome r (λ t. IsNext m s t) → IsWalk m ws r
+pub walk_following : (m : SignMap) (ws : List Weight) (s : Statement) (r : Option Statement) → IsMetBy ws s
+    → IsWalk m ws (Some s) → IsNone r ↔ IsLast m s → IfSome r (λ t. IsNext m s t) → IsWalk m ws r
 walk_following m ws s None k w h n = walk_ends m ws s k w (h.0 refl)
 walk_following m ws s (Some t) k w h n = walk_goes m ws s t k w n

@@ -1,4 +1,4 @@
--- The forms and the limits of a verdict: a claim can carry each verdict that keeps them.
+-- The form and the limits of a verdict: a claim can carry each verdict in this form.
 use Rattle.std.specs.Prelude.{ℕ, ◌+◌, ◌<◌, ◌≤◌, List, length, All, unsigned_abs}
 use Rattle.om_signs.specs.declared.limits.TheConstants.{MAX_ELEMENTS, MAX_WEIGHT, MAX_PIVOTS, MAX_ROW_NAMED, MAX_PLAIN}
 use Rattle.om_subsets.specs.Subsets.{choose}
@@ -14,7 +14,7 @@ use Rattle.om_certificate.specs.declared.verdict.Verdict.{Verdict}
 use Rattle.om_certificate.specs.declared.verdict.Verdict.TheVariants.{Realizable, Nonrealizable, Undecided, Limit}
 use Rattle.om_certificate.specs.Validity.{IsMultiplicity}
 
--- no more vectors than elements may be, each with coordinates within their limit
+-- at most as many vectors as there can be elements, each with coordinates within their limit
 pub record AreVectorsInForm (vs : List WholeVector) : Type 0 where
   pub few : length vs ≤ MAX_ELEMENTS
   pub each : All IsWithinLimit vs
@@ -30,7 +30,7 @@ pub record IsEntryInForm (entry : Entry) : Type 0 where
   pub big : IsElement 3 entry.statement.big
   pub times : IsMultiplicity entry.times
 
--- three increasing elements, with a number that isn't too great in size
+-- three increasing elements, with a number whose absolute value is within the limit
 pub record IsWeightInForm (w : Weight) : Type 0 where
   pub a : 1 ≤ w.a
   pub a_b : w.a < w.b
@@ -38,18 +38,18 @@ pub record IsWeightInForm (w : Weight) : Type 0 where
   pub c : w.c ≤ MAX_ELEMENTS
   pub size : unsigned_abs w.value ≤ unsigned_abs MAX_WEIGHT
 
--- no more weights than there are sets of three elements
+-- at most as many weights as there are sets of three elements
 pub record AreWeightsInForm (ws : List Weight) : Type 0 where
   pub few : length ws ≤ choose MAX_ELEMENTS 3
   pub each : All IsWeightInForm ws
 
--- a budget of pivots, and one basis number or more of at most six digits each
+-- a budget of pivots, and at least one basis number, each of at most six digits
 pub record ArePivotsInForm (count : ℕ) (basis : List ℕ) : Type 0 where
   pub budget : count ≤ MAX_PIVOTS
   pub some : 1 ≤ length basis
   pub plain : All (λ b. b ≤ MAX_PLAIN) basis
 
--- the number of a pivot, which may be one more than the most pivots, a row and a place
+-- the number of a pivot, which may be one more than the greatest number of pivots, a row and a place
 pub record IsWidthInForm (pivot row place : ℕ) : Type 0 where
   pub pivot_most : pivot ≤ MAX_PIVOTS + 1
   pub row_most : row ≤ MAX_ROW_NAMED
@@ -65,7 +65,7 @@ abbrev pub IsSearchInForm : Unfound → Type 0
 IsSearchInForm Exhausted = Unit {0}
 IsSearchInForm (Frontier vs) = AreVectorsInForm vs
 
--- a verdict whose parts are in their forms
+-- a verdict in which every part has its form
 abbrev pub IsVerdictInForm : Verdict → Type 0
 IsVerdictInForm (Realizable vs) = AreVectorsInForm vs
 IsVerdictInForm (Nonrealizable es) = All IsEntryInForm es

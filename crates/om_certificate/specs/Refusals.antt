@@ -1,4 +1,4 @@
--- Why evidence is refused: each reason holds only where none before it does, and names the first instance.
+-- Why evidence is refused: each reason holds only if none before it does, and gives the first instance.
 use Rattle.std.specs.Prelude.{ℕ, ◌≡◌, ◌≢◌, ◌+◌, List, length, take, map, slice_get, Some}
 use Rattle.om_subsets.specs.Members.{Chosen}
 use Rattle.om_subsets.specs.Lists as lists
@@ -14,7 +14,9 @@ use Rattle.om_certificate.specs.declared.weight.Weight.{Weight}
 use Rattle.om_certificate.specs.declared.evidence.Evidence.{Evidence}
 use Rattle.om_certificate.specs.declared.evidence.Evidence.TheVariants.{Vectors, Balanced, Weights}
 use Rattle.om_certificate.specs.declared.cert_refused.CertRefused.{CertRefused}
-use Rattle.om_certificate.specs.declared.cert_refused.CertRefused.TheVariants.{NotRank3, Number, WrongSign, Unlawful, Unbalanced, NoStrict, Bracket, WeightFails}
+use Rattle.om_certificate.specs.declared.cert_refused.CertRefused.TheVariants.{NotRank3, Number, WrongSign, Unlawful}
+use Rattle.om_certificate.specs.declared.cert_refused.CertRefused.TheVariants.{Unbalanced, NoStrict, Bracket}
+use Rattle.om_certificate.specs.declared.cert_refused.CertRefused.TheVariants.{WeightFails}
 use Rattle.om_certificate.specs.Certificates.{AreLawful, AreBalanced, HasStrict, small_times, big_times}
 use Rattle.om_certificate.specs.Weights.{bracket_of, nonzero_brackets, AreOfBrackets, IsMetBy}
 
@@ -27,14 +29,15 @@ pub record IsFirstUnlawful (m : SignMap) (es : List Entry) (number : ℕ) : Type
   pub unlawful : IsLawful m entry.statement → ⊥
   pub earlier : AreLawful m (take index es)
 
--- the increasing triple b stands not equally often on both sides, and those before it in lexicographic order do
+-- the increasing triple b doesn't occur equally often on both sides, and those before it in lexicographic order do
 pub record IsFirstUnbalanced (m : SignMap) (es : List Entry) (b : Chosen) : Type 0 where
   pub n : b.n ≡ m.elements
   pub triple : IsTriple m.elements b.elements
   pub differ : small_times b.elements es ≢ big_times b.elements es
   pub earlier : (c : List ℕ) → IsTriple m.elements c → lists.IsBefore c b.elements → small_times c es ≡ big_times c es
 
--- the weight with this number, counted from 1, isn't that of the nonzero bracket of its place, and those before it are
+-- the weight with this number, counted from 1, isn't given to the nonzero bracket at its place, and those before it
+-- are
 pub record IsFirstOtherBracket (m : SignMap) (ws : List Weight) (number : ℕ) : Type 0 where
   pub index : ℕ
   pub weight : Weight
@@ -43,7 +46,7 @@ pub record IsFirstOtherBracket (m : SignMap) (ws : List Weight) (number : ℕ) :
   pub other : slice_get (nonzero_brackets m) index ≢ Some (bracket_of weight)
   pub earlier : map bracket_of (take index ws) ≡ take index (nonzero_brackets m)
 
--- the lawful statement isn't met, and those before it are
+-- the weights don't satisfy the lawful statement, and satisfy those before it
 pub record IsFirstUnmet (m : SignMap) (ws : List Weight) (st : Statement) : Type 0 where
   pub lawful : IsLawful m st
   pub unmet : IsMetBy ws st → ⊥
@@ -57,13 +60,16 @@ pub data IsVectorRefusal (m : SignMap) (vs : List WholeVector) : CertRefused →
 -- why entries are refused, on a map of rank 3
 pub data IsEntryRefusal (m : SignMap) (es : List Entry) : CertRefused → Type 0 where
   unlawful : (k : ℕ) → IsFirstUnlawful m es k → IsEntryRefusal m es (Unlawful k)
-  unbalanced : (b : Chosen) → AreLawful m es → IsFirstUnbalanced m es b → IsEntryRefusal m es (Unbalanced b (small_times b.elements es) (big_times b.elements es))
+  unbalanced : (b : Chosen) → AreLawful m es → IsFirstUnbalanced m es b
+      → IsEntryRefusal m es (Unbalanced b (small_times b.elements es) (big_times b.elements es))
   no_strict : AreLawful m es → AreBalanced m es → (HasStrict es → ⊥) → IsEntryRefusal m es NoStrict
 
 -- why weights are refused, on a map of rank 3
 pub data IsWeightRefusal (m : SignMap) (ws : List Weight) : CertRefused → Type 0 where
-  number_of_weights : length ws ≢ length (nonzero_brackets m) → IsWeightRefusal m ws (Number (length (nonzero_brackets m)) (length ws))
-  bracket : (k : ℕ) → length ws ≡ length (nonzero_brackets m) → IsFirstOtherBracket m ws k → IsWeightRefusal m ws (Bracket k)
+  number_of_weights : length ws ≢ length (nonzero_brackets m)
+      → IsWeightRefusal m ws (Number (length (nonzero_brackets m)) (length ws))
+  bracket : (k : ℕ) → length ws ≡ length (nonzero_brackets m) → IsFirstOtherBracket m ws k
+      → IsWeightRefusal m ws (Bracket k)
   weight_fails : (st : Statement) → AreOfBrackets m ws → IsFirstUnmet m ws st → IsWeightRefusal m ws (WeightFails st)
 
 -- why evidence is refused, on a map of rank 3

@@ -17,7 +17,7 @@ IsValid m (Vectors vs) = Realizes vs m
 IsValid m (Balanced es) = IsCertificate m es
 IsValid m (Weights ws) = AreWeights m ws
 
--- no list of vectors of whole numbers, of any size, realizes the map
+-- no list of whole-number vectors, of any size, realizes the map
 abbrev pub IsUnrealizable : SignMap → Type 0
 IsUnrealizable m = (vs : List WholeVector) → Realizes vs m → ⊥
 
@@ -25,7 +25,7 @@ IsUnrealizable m = (vs : List WholeVector) → Realizes vs m → ⊥
 abbrev pub HasNoCertificate : SignMap → Type 0
 HasNoCertificate m = (es : List Entry) → IsCertificate m es → ⊥
 
--- what valid evidence shows of the map
+-- what valid evidence shows about the map
 abbrev pub Shows : SignMap → Evidence → Type 0
 Shows m (Vectors vs) = Realizes vs m
 Shows m (Balanced es) = IsUnrealizable m

@@ -12,7 +12,7 @@ use Rattle.om_grassmann.specs.Sides.{first_bracket, second_bracket}
 use Rattle.om_certificate.specs.declared.weight.Weight.{Weight}
 use Rattle.om_certificate.specs.Certificates.{is_same}
 
--- the bracket that a weight is given to
+-- the bracket to which a weight is given
 abbrev pub bracket_of : Weight → List ℕ
 bracket_of w = w.a ∷ w.b ∷ w.c ∷ []
 
@@ -26,21 +26,22 @@ is_nonzero Plus = true
 abbrev pub nonzero_brackets : SignMap → List (List ℕ)
 nonzero_brackets m = filter (λ b. is_nonzero (chi_of m b)) (all_subsets m.elements 3)
 
--- the weight of a bracket, and 0 where it has none
+-- the weight of a bracket, and 0 if it has none
 abbrev pub weight_of : List Weight → List ℕ → ℤ
 weight_of [] b = pos 0
 weight_of (w ∷ ws) b = cond (is_same b (bracket_of w)) w.value (weight_of ws b)
 
--- the sum of the weights of the two brackets of the term of a statement that has a number
+-- the sum of the weights of the two brackets of the term with number i of a statement
 abbrev pub term_weight : List Weight → Statement → ℕ → ℤ
 term_weight ws st i = weight_of ws (first_bracket st i) +ℤ weight_of ws (second_bracket st i)
 
--- less where it is strict, and else equal
+-- less if the statement is strict, and else equal
 abbrev pub Compares : Bool → ℤ → ℤ → Type 0
 Compares true small big = small <ℤ big
 Compares false small big = small ≡ big
 
--- the sum over the small side is less than the sum over the big side where the statement is strict, and else the two are equal
+-- the weights satisfy a statement: the sum over the small side is less than that over the big side if it is strict,
+-- and else both are equal
 abbrev pub IsMetBy : List Weight → Statement → Type 0
 IsMetBy ws st = Compares st.strict (term_weight ws st st.small) (term_weight ws st st.big)
 
@@ -48,7 +49,7 @@ IsMetBy ws st = Compares st.strict (term_weight ws st st.small) (term_weight ws 
 abbrev pub AreOfBrackets : SignMap → List Weight → Type 0
 AreOfBrackets m ws = map bracket_of ws ≡ nonzero_brackets m
 
--- weights of the nonzero brackets that every lawful statement is met by
+-- weights of the nonzero brackets that satisfy every lawful statement
 pub record AreWeights (m : SignMap) (ws : List Weight) : Type 0 where
   pub rank : m.rank ≡ 3
   pub brackets : AreOfBrackets m ws

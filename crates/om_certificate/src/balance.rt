@@ -1,6 +1,7 @@
-//! The check of a list of entries as a certificate.
+//! The check whether a list of entries is a certificate.
 
-ghost use Rattle.std.specs.Prelude.{ℕ, ◌≡◌, ◌+◌, ◌*◌, ◌<◌, ◌≤◌, ◌^◌, ◌↔◌, length, All, IfErr, OnOk, IfSome, IfNone, IsTrue, slice_index};
+ghost use Rattle.std.specs.Prelude.{ℕ, ◌≡◌, ◌+◌, ◌*◌, ◌<◌, ◌≤◌, ◌^◌, ◌↔◌, length, All, IfErr, OnOk, IfSome, IfNone};
+ghost use Rattle.std.specs.Prelude.{IsTrue, slice_index};
 ghost use Rattle.om_subsets.specs.Subsets.{choose};
 ghost use Rattle.om_certificate.specs.Certificates.{IsCertificate, AreLawful, AreBalanced, HasStrict, times_among};
 ghost use Rattle.om_certificate.specs.Validity.{AreEntriesWithinLimits};
@@ -15,7 +16,7 @@ use om_grassmann::{lawful, sides};
 use om_signs::{MAX_ELEMENTS, MAX_ENTRIES};
 use om_subsets::Subset;
 
-/// Whether entries are a certificate.
+/// Whether entries are a certificate, or the first reason against it.
 pub fn check_entries(chi: &Chirotope, entries: &[Entry]) -> Result<(), CertRefused>
     requires rank { chi.now.rank ≡ 3 }
     requires part { 3 ≤ chi.now.elements }
@@ -41,7 +42,7 @@ fn has_strict(entries: &[Entry]) -> bool
     entries.iter().any(|entry| entry.statement.strict)
 }
 
-/// The number, from 1, of the first entry whose statement isn't lawful.
+/// The number, from 1, of the first entry whose statement isn't lawful, or None.
 fn first_unlawful(chi: &Chirotope, entries: &[Entry]) -> Option<u32>
     requires { length entries.now ≤ MAX_ENTRIES }
     ensures none { IfNone result (AreLawful chi.now entries.now) }
@@ -55,7 +56,7 @@ fn first_unlawful(chi: &Chirotope, entries: &[Entry]) -> Option<u32>
     None
 }
 
-/// Whether each bracket stands equally often on both sides; else the first one that doesn't.
+/// Whether each bracket occurs equally often on both sides; otherwise the first bracket that doesn't.
 fn check_balance(chi: &Chirotope, entries: &[Entry]) -> Result<(), CertRefused>
     requires rank { chi.now.rank ≡ 3 }
     requires part { 3 ≤ chi.now.elements }
@@ -81,7 +82,7 @@ fn check_balance(chi: &Chirotope, entries: &[Entry]) -> Result<(), CertRefused>
     Ok(())
 }
 
-/// Counts how often each bracket stands on small and on big sides, from tables of zeros.
+/// Counts how often each bracket occurs on small and on big sides, starting with tables of zeros.
 fn count_brackets(chi: &Chirotope, entries: &[Entry], small: &mut [u128], big: &mut [u128])
     requires rank { chi.now.rank ≡ 3 }
     requires limits { AreEntriesWithinLimits entries.now }

@@ -18,7 +18,7 @@ pub enum CertRefused {
         wanted: u32,
         given: u32,
     },
-    /// The first triple of elements whose vectors have a triple product of another sign.
+    /// The first triple of elements whose vectors have a triple product of the wrong sign.
     #[error("a triple product has another sign")]
     WrongSign {
         triple: Subset,
@@ -28,7 +28,7 @@ pub enum CertRefused {
     Unlawful {
         entry: u32,
     },
-    /// The first bracket that doesn't stand equally often on small sides and on big sides, with the two numbers.
+    /// The first bracket that doesn't occur equally often on small sides and on big sides, with the two counts.
     #[error("a bracket stands {small} times on small sides and {big} times on big sides")]
     Unbalanced {
         bracket: Subset,
@@ -38,12 +38,12 @@ pub enum CertRefused {
     /// No entry is strict.
     #[error("no entry is strict")]
     NoStrict,
-    /// The first weight, with its number, that isn't that of the nonzero bracket of its place in order.
+    /// The number of the first weight that isn't given to the nonzero bracket at its place.
     #[error("weight {entry} is not that of the next nonzero bracket")]
     Bracket {
         entry: u32,
     },
-    /// The first lawful statement that the weights don't meet.
+    /// The first lawful statement that the weights don't satisfy.
     #[error("a statement fails")]
     WeightFails {
         statement: Statement,

@@ -13,23 +13,25 @@ use super::weighing::check_weights;
 use om_chirotope::Chirotope;
 use om_vectors::{Word, realizes};
 
-/// Whether evidence proves what it is given for: vectors, that they realize the chirotope; entries, that no vectors of
-/// whole numbers of any size do; weights, that no list of entries proves this.
+/// Whether evidence proves what it is given for. Vectors prove that they realize the chirotope. Entries prove that
+/// no integer vectors of any size do. Weights prove that no list of entries proves this.
 ///
-/// Else the first reason against it. `NotRank3` comes exactly where the rank isn't 3. On rank 3:
+/// Otherwise the error is the first reason against the evidence. `NotRank3` comes exactly if the rank isn't 3. In
+/// rank 3:
 ///
-/// - for vectors, `Number` where there isn't one for each element, and else `WrongSign` with the first triple of elements
-///   whose triple product has another sign;
-/// - for entries, `Unlawful` with the first entry whose statement isn't lawful; else `Unbalanced` with the first bracket
-///   that stands not equally often on small and on big sides, counted with multiplicities, and the two numbers; else
-///   `NoStrict` where no statement is strict;
-/// - for weights, `Number` where there isn't one for each nonzero bracket; else `Bracket` with the first weight that isn't
-///   that of the nonzero bracket of its place in lexicographic order; else `WeightFails` with the first lawful statement
-///   that isn't met.
+/// - for vectors, `Number` if there isn't one for each element, and else `WrongSign` with the first triple of elements
+///   whose triple product has the wrong sign;
+/// - for entries, `Unlawful` with the first entry whose statement isn't lawful; else `Unbalanced` with the first
+/// bracket
+///   that doesn't occur equally often on small and on big sides, counted with multiplicities, and the two counts; else
+///   `NoStrict` if no statement is strict;
+/// - for weights, `Number` if there isn't one for each nonzero bracket; else `Bracket` with the first weight that isn't
+///   given to the nonzero bracket at its place in lexicographic order; else `WeightFails` with the first lawful
+///   statement that the weights don't satisfy.
 ///
-/// Entries and weights count from 1. There are at most [`MAX_ENTRIES`](om_signs::MAX_ENTRIES) of them, multiplicities
-/// are from 1 to [`MAX_MULTIPLICITY`](om_signs::MAX_MULTIPLICITY), and weights have at most the size
-/// [`MAX_WEIGHT`](om_signs::MAX_WEIGHT). It takes no memory.
+/// Entries and weights count from 1. There are at most [`MAX_ENTRIES`](om_signs::MAX_ENTRIES) of them.
+/// Multiplicities are from 1 to [`MAX_MULTIPLICITY`](om_signs::MAX_MULTIPLICITY), and the absolute value of a
+/// weight is at most [`MAX_WEIGHT`](om_signs::MAX_WEIGHT). The call allocates no memory.
 ///
 /// Source: Bokowski and Richter-Gebert, *On the finding of final polynomials*, 1990.
 pub fn check(chi: &Chirotope, evidence: &Evidence) -> Result<(), CertRefused>

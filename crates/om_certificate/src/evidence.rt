@@ -3,7 +3,8 @@ use super::weight::Weight;
 use om_signs::List;
 use om_vectors::Word;
 
-/// What is given as proof of a verdict on a chirotope of rank 3. [`check`](super::check) tells whether it is one.
+/// What is given as proof of a verdict on a chirotope of rank 3. [`check`](super::check) decides whether it is a
+/// proof.
 ///
 /// Source: Bokowski and Richter-Gebert, *On the finding of final polynomials*, 1990.
 #[derive(Drop)]

@@ -1,4 +1,5 @@
-//! What the words of the crate's contracts come to. A law is a function that does nothing: its contract is the law.
+//! What the definitions in the crate's contracts mean. Each law is a function that does nothing: its contract is
+//! the law.
 
 ghost use Rattle.std.specs.Prelude.{◌≡◌, ◌<◌, true, false, List};
 ghost use Rattle.om_chirotope.specs.Map.{SignMap};
@@ -16,36 +17,41 @@ ghost use Rattle.om_certificate.specs.Weights.{AreWeights};
 ghost use Rattle.om_certificate.specs.Validity.{IsValid, IsUnrealizable, HasNoCertificate};
 ghost use Rattle.om_certificate.specs.Refusals.{IsRefusal};
 
-/// What a lawful statement says of vectors that realize the map: the product of the sizes of the two brackets of the small
-/// side is less than that of the big side where the statement is strict, and equal to it where it is an equation. Neither
-/// is 0.
+/// What a lawful statement says about vectors that realize the map. If the statement is strict, the product of the
+/// absolute values of the two brackets of the small side is smaller than that of the big side. If it is an
+/// equation, the two products are equal. None of the brackets is 0.
 ///
 /// Source: Bokowski and Richter-Gebert, *On the finding of final polynomials*, 1990.
 pub fn statements_hold_of_vectors()
-    ensures strict { (m : SignMap) (vs : List WholeVector) (st : Statement) → Realizes vs m → IsLawful m st → st.strict ≡ true → term_size vs st st.small < term_size vs st st.big }
-    ensures equation { (m : SignMap) (vs : List WholeVector) (st : Statement) → Realizes vs m → IsLawful m st → st.strict ≡ false → term_size vs st st.small ≡ term_size vs st st.big }
-    ensures nonzero { (m : SignMap) (vs : List WholeVector) (st : Statement) → Realizes vs m → IsLawful m st → 0 < term_size vs st st.small }
+    ensures strict { (m : SignMap) (vs : List WholeVector) (st : Statement) → Realizes vs m → IsLawful m st
+        → st.strict ≡ true → term_size vs st st.small < term_size vs st st.big }
+    ensures equation { (m : SignMap) (vs : List WholeVector) (st : Statement) → Realizes vs m → IsLawful m st
+        → st.strict ≡ false → term_size vs st st.small ≡ term_size vs st st.big }
+    ensures nonzero { (m : SignMap) (vs : List WholeVector) (st : Statement) → Realizes vs m → IsLawful m st
+        → 0 < term_size vs st st.small }
 {}
 
-/// No list of vectors of whole numbers, of any size, realizes a map that has a certificate: with such vectors the product
-/// of the sizes of the brackets on the small sides would be less than that on the big sides, and both are products of the
-/// same brackets.
+/// No list of whole-number vectors, of any size, realizes a map that has a certificate. With such vectors, the
+/// product of the sizes of the brackets on the small sides would be smaller than that on the big sides. But both
+/// are products of the same brackets.
 ///
 /// Source: Bokowski and Richter-Gebert, *On the finding of final polynomials*, 1990.
 pub fn certificates_exclude_vectors()
     ensures { (m : SignMap) (es : List Entry) → IsCertificate m es → IsUnrealizable m }
 {}
 
-/// A map that has weights has no certificate: the sum of the weights of the brackets on the small sides would be less than
-/// that on the big sides, and both are sums over the same brackets.
+/// A map that has weights has no certificate. With one, the sum of the weights of the brackets on the small sides
+/// would be smaller than that on the big sides. But both are sums over the same brackets.
 ///
 /// Source: Bokowski and Richter-Gebert, *On the finding of final polynomials*, 1990.
 pub fn weights_exclude_certificates()
     ensures { (m : SignMap) (ws : List Weight) → AreWeights m ws → HasNoCertificate m }
 {}
 
-/// Evidence is refused for one reason at most, and for none where it is valid.
+/// Evidence is refused for at most one reason, and for none if it is valid.
 pub fn one_refusal()
-    ensures one { (m : SignMap) (evidence : Evidence) (why other : CertRefused) → IsRefusal m evidence why → IsRefusal m evidence other → why ≡ other }
-    ensures none { (m : SignMap) (evidence : Evidence) (why : CertRefused) → IsRefusal m evidence why → IsValid m evidence → ⊥ }
+    ensures one { (m : SignMap) (evidence : Evidence) (why other : CertRefused) → IsRefusal m evidence why
+        → IsRefusal m evidence other → why ≡ other }
+    ensures none { (m : SignMap) (evidence : Evidence) (why : CertRefused) → IsRefusal m evidence why
+        → IsValid m evidence → ⊥ }
 {}

@@ -1,10 +1,10 @@
 //! Certificates for and against the realizability of a chirotope of rank 3, and their checker.
 //!
-//! [`check`] tells whether vectors, a balanced list of three-term statements, or weights of the brackets prove what they
-//! are given for.
+//! [`check`] decides whether vectors, a balanced list of three-term statements, or weights of the brackets prove
+//! what they are given for.
 //!
-//! Source of the notions: Bokowski and Richter-Gebert, *On the finding of final polynomials*, 1990; Björner, Las Vergnas,
-//! Sturmfels, White and Ziegler, *Oriented Matroids*, chapter 8.
+//! Source of the notions: Bokowski and Richter-Gebert, *On the finding of final polynomials*, 1990; Björner, Las
+//! Vergnas, Sturmfels, White and Ziegler, *Oriented Matroids*, chapter 8.
 #![tactic(auto)]
 
 mod balance;

@@ -10,8 +10,8 @@ pub enum LpEnd {
         count: u32,
         basis: List<u32>,
     },
-    /// A number was too wide, or past the greatest multiplicity or weight: the stage, the number of the pivot, and the row and
-    /// the place.
+    /// A number was too wide, or beyond the greatest multiplicity or weight. Given are the stage, the number of the
+    /// pivot, the row and the place.
     Width {
         stage: Stage,
         pivot: u32,

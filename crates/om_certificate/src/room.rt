@@ -1,6 +1,6 @@
 use om_signs::MAX_ELEMENTS;
 
-/// The places of a table with one place for each increasing triple of elements.
+/// The size of a table with one place for each increasing triple of elements.
 pub const ROOM: usize = MAX_ELEMENTS as usize
     * (MAX_ELEMENTS as usize - 1)
     * (MAX_ELEMENTS as usize - 2)

@@ -11,9 +11,9 @@ use om_vectors::{Unfound, Word};
 /// An answer to the question whether vectors realize a chirotope of rank 3.
 #[derive(Drop)]
 pub enum Verdict {
-    /// These vectors do.
+    /// Yes: these vectors realize it.
     Realizable(Word),
-    /// None do, as this certificate shows.
+    /// No vectors do, as this certificate shows.
     Nonrealizable(List<Entry>),
     /// No certificate exists, as these weights show, and the search found no vectors.
     Undecided(List<Weight>, Unfound),
@@ -21,8 +21,8 @@ pub enum Verdict {
     Limit(LpEnd, Unfound),
 }
 
-/// The vectors, the certificate or the weights of a verdict; else the verdict back, exactly where it is
-/// [`Verdict::Limit`]. It takes no memory.
+/// The vectors, the certificate or the weights of a verdict. The verdict is given back exactly if it is
+/// [`Verdict::Limit`]. The call allocates no memory.
 pub fn certificate(verdict: Verdict) -> Result<Evidence, Verdict>
     ensures { result ≡ certificate_of verdict }
 {

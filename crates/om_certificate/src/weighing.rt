@@ -1,12 +1,14 @@
-//! The check of a list of weights.
+//! The check whether a list of numbers are weights.
 
-ghost use Rattle.std.specs.Prelude.{◌≡◌, ◌≤◌, ◌↔◌, ◌+ℤ◌, pos, slice_index_or, length, All, IfErr, OnOk, IfSome, IfNone, IsTrue};
+ghost use Rattle.std.specs.Prelude.{◌≡◌, ◌≤◌, ◌↔◌, ◌+ℤ◌, pos, slice_index_or, length, All, IfErr, OnOk, IfSome, IfNone};
+ghost use Rattle.std.specs.Prelude.{IsTrue};
 ghost use Rattle.om_subsets.specs.Subsets.{choose, rank_of, IsSubsetFrom};
 ghost use Rattle.om_chirotope.specs.Map.{chi_of};
 ghost use Rattle.om_grassmann.specs.declared.statement.Statement.{Statement};
 ghost use Rattle.om_grassmann.specs.Statements.{IsLawful, AreTwo};
 ghost use Rattle.om_grassmann.specs.Sides as sides;
-ghost use Rattle.om_certificate.specs.Weights.{AreWeights, AreOfBrackets, IsMetBy, Compares, bracket_of, nonzero_brackets, is_nonzero};
+ghost use Rattle.om_certificate.specs.Weights.{AreWeights, AreOfBrackets, IsMetBy, Compares, bracket_of};
+ghost use Rattle.om_certificate.specs.Weights.{nonzero_brackets, is_nonzero};
 ghost use Rattle.om_certificate.specs.Validity.{AreWeightsWithinLimits};
 ghost use Rattle.om_certificate.specs.Refusals.{IsFirstOtherBracket, IsFirstUnmet, IsWeightRefusal};
 ghost use Rattle.om_certificate.specs.Tables.{IsWeightTable, IsOfTriple, AreSmall, sum_at};
@@ -19,7 +21,8 @@ use om_grassmann::{Statement, following, nth_statement, sides};
 use om_signs::{MAX_ELEMENTS, MAX_ENTRIES, Sign};
 use om_subsets::Subset;
 
-/// Whether weights are those of the nonzero brackets, and every lawful statement is met.
+/// Whether weights are those of the nonzero brackets and satisfy every lawful statement, or the first reason
+/// against it.
 pub fn check_weights(chi: &Chirotope, weights: &[Weight]) -> Result<(), CertRefused>
     requires rank { chi.now.rank ≡ 3 }
     requires part { 3 ≤ chi.now.elements }
@@ -61,7 +64,8 @@ fn count_nonzero(chi: &Chirotope) -> u32
     count
 }
 
-/// Whether a bracket of a chirotope of rank 3 isn't 0: a set of three of the elements 1 to n. It takes no memory.
+/// Whether a bracket of a chirotope of rank 3 isn't 0. The bracket is a set of three elements of the chirotope. The
+/// call allocates no memory.
 pub fn is_nonzero(chi: &Chirotope, bracket: Subset) -> bool
     requires rank { chi.now.rank ≡ 3 }
     requires n { bracket.n ≡ chi.now.elements }
@@ -74,7 +78,7 @@ pub fn is_nonzero(chi: &Chirotope, bracket: Subset) -> bool
     }
 }
 
-/// The number, from 1, of the first weight that isn't that of the nonzero bracket of its place.
+/// The number, from 1, of the first weight that isn't given to the nonzero bracket at its place, or None.
 fn first_other_bracket(chi: &Chirotope, weights: &[Weight]) -> Option<u32>
     requires rank { chi.now.rank ≡ 3 }
     requires part { 3 ≤ chi.now.elements }
@@ -118,8 +122,8 @@ fn is_of_triple(weight: Weight, n: u8) -> bool
     1 <= weight.a && weight.a < weight.b && weight.b < weight.c && weight.c <= n
 }
 
-/// Writes the weights into a table of zeros, each at the place of its bracket: from the last one to the first, so that of two on
-/// one bracket the first one stays, which is the one that counts.
+/// Writes the weights into a table of zeros, each at the place of its bracket. It goes from the last weight to the
+/// first, so that of two weights of one bracket the first one remains, which is the one that counts.
 fn fill(chi: &Chirotope, weights: &[Weight], table: &mut [i128])
     requires rank { chi.now.rank ≡ 3 }
     requires part { 3 ≤ chi.now.elements }
@@ -136,7 +140,7 @@ fn fill(chi: &Chirotope, weights: &[Weight], table: &mut [i128])
     }
 }
 
-/// The first lawful statement that isn't met.
+/// The first lawful statement that the weights don't satisfy, or None.
 fn first_unmet(chi: &Chirotope, weights: &[Weight]) -> Option<Statement>
     requires rank { chi.now.rank ≡ 3 }
     requires part { 3 ≤ chi.now.elements }
@@ -158,7 +162,7 @@ fn first_unmet(chi: &Chirotope, weights: &[Weight]) -> Option<Statement>
     None
 }
 
-/// Whether a lawful statement is met, by the table of the weights.
+/// Whether the weights satisfy a lawful statement, found with the table of the weights.
 fn is_met(n: u8, table: &[i128], st: Statement) -> bool
     requires low { 1 ≤ n }
     requires high { n ≤ MAX_ELEMENTS }
@@ -176,19 +180,20 @@ fn is_met(n: u8, table: &[i128], st: Statement) -> bool
     )
 }
 
-/// The sum of the weights of two brackets, by the table of the weights.
+/// The sum of the weights of two brackets, found with the table of the weights.
 fn sum_of(table: &[i128], first: Subset, second: Subset) -> i128
     requires first { length first.elements ≡ 3 }
     requires second { length second.elements ≡ 3 }
     requires same { second.n ≡ first.n }
     requires room { choose first.n 3 ≤ length table.now }
     requires small { AreSmall table.now }
-    ensures { result ≡ slice_index_or table.now (rank_of first.n first.elements) (pos 0) +ℤ slice_index_or table.now (rank_of second.n second.elements) (pos 0) }
+    ensures { result ≡ slice_index_or table.now (rank_of first.n first.elements) (pos 0)
+        +ℤ slice_index_or table.now (rank_of second.n second.elements) (pos 0) }
 {
     table[first.rank() as usize] + table[second.rank() as usize]
 }
 
-/// Whether the sums over the two sides of a statement are as they should be.
+/// Whether the sums over the two sides of a statement compare as the statement says.
 fn compares(strict: bool, small: i128, big: i128) -> bool
     ensures { IsTrue result ↔ Compares strict small big }
 {

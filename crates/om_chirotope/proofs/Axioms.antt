@@ -22,7 +22,8 @@ some_place : (xs : List Sign) → ((k : ℕ) × (k < length xs) × (at xs k ≢ 
 some_place [] = inr (λ k d l. absurd (omega arith))
 some_place (x ∷ xs) = go (sign_cases x) (some_place xs)
   where
-    go : (x ≡ Zero) ⊎ (x ≢ Zero) → ((k : ℕ) × (k < length xs) × (at xs k ≢ Zero)) ⊎ IsAllZero xs → ((k : ℕ) × (k < length (x ∷ xs)) × (at (x ∷ xs) k ≢ Zero)) ⊎ IsAllZero (x ∷ xs)
+    go : (x ≡ Zero) ⊎ (x ≢ Zero) → ((k : ℕ) × (k < length xs) × (at xs k ≢ Zero)) ⊎ IsAllZero xs
+        → ((k : ℕ) × (k < length (x ∷ xs)) × (at (x ∷ xs) k ≢ Zero)) ⊎ IsAllZero (x ∷ xs)
     go (inr n) i = inl (0, omega arith, n)
     go (inl z) (inl (k, l, n)) = inl (suc k, omega arith, n)
     go (inl z) (inr all) = inr (each z all)
@@ -42,18 +43,21 @@ nonzero_value m w n = go (some_place m.signs)
           subset_at m.elements m.rank k,
           t.lawful,
           t.size,
-          λ z. s (sym (ap (at m.signs) t.place) ∙ sym (value_in_order 1 m.elements (chi_of m) (subset_at m.elements m.rank k) t.lawful) ∙ z),
+          λ z. s (sym (ap (at m.signs) t.place)
+              ∙ sym (value_in_order 1 m.elements (chi_of m) (subset_at m.elements m.rank k) t.lawful) ∙ z),
         )
 
 pub nonzero_or_zeros : (m : SignMap) → IsMap m → HasNonzeroValue m ⊎ IsAllZero m.signs
 nonzero_or_zeros m w = go (some_place m.signs)
   where
-    go : ((k : ℕ) × (k < length m.signs) × (at m.signs k ≢ Zero)) ⊎ IsAllZero m.signs → HasNonzeroValue m ⊎ IsAllZero m.signs
+    go : ((k : ℕ) × (k < length m.signs) × (at m.signs k ≢ Zero)) ⊎ IsAllZero m.signs → HasNonzeroValue m
+        ⊎ IsAllZero m.signs
     go (inr all) = inr all
     go (inl (k, l, s)) = inl (nonzero_value m w (λ all. s (all k Zero l)))
 
 pub not_all_zero : (m : SignMap) → IsMap m → IsAllZero m.signs → HasNonzeroValue m → ⊥
 not_all_zero m w z (xs, h, l, n) =
     let whole = w.whole in
-    let few : rank_of m.elements xs < choose m.elements m.rank = subst (λ i. rank_of m.elements xs < choose m.elements i) l (rank_from-lt 1 m.elements xs h) in
+    let few : rank_of m.elements xs < choose m.elements m.rank =
+    subst (λ i. rank_of m.elements xs < choose m.elements i) l (rank_from-lt 1 m.elements xs h) in
     n (value_in_order 1 m.elements (chi_of m) xs h ∙ z (rank_of m.elements xs) Zero (omega arith))

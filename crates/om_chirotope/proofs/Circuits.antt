@@ -1,7 +1,9 @@
 -- The sign of a vector V at one element, from the set without it.
 --
--- Main results: parity_sign-suc, without_below, count_below, above_le, around_member, around_other, length-without, around_same, around_opposite, parities_same, parities_differ
-use Rattle.std.specs.Prelude.{ℕ, ◌≡◌, ◌≢◌, ◌+◌, ◌-◌, ◌%◌, ◌<◌, ◌≤◌, List, [], ◌∷◌, length, cond, nat_eq, nat_lt, refl, ◌⊎◌, ◌↔◌, Bool, true, false}
+-- Main results: parity_sign-suc, without_below, count_below, above_le, around_member, around_other, length-without,
+-- around_same, around_opposite, parities_same, parities_differ
+use Rattle.std.specs.Prelude.{ℕ, ◌≡◌, ◌≢◌, ◌+◌, ◌-◌, ◌%◌, ◌<◌, ◌≤◌, List, [], ◌∷◌, length, cond, nat_eq, nat_lt, refl}
+use Rattle.std.specs.Prelude.{◌⊎◌, ◌↔◌, Bool, true, false}
 use Rattle.std.specs.Bool.{beq}
 use Rattle.std.proofs.Common.{zero, suc, ap, arith, inl, inr}
 use Rattle.std.proofs.lemmas.Bool.{cases_eq, eq-eqb, ne_eqb, lt-ltb, le-ltb}
@@ -47,10 +49,12 @@ pub above_le : (e : ℕ) (xs : List ℕ) → count_above e xs ≤ length xs
 above_le e [] = omega arith
 above_le e (x ∷ xs) = above_step e x (count_above e xs) (length xs) (above_le e xs)
 
-pub around_member : (low m e : ℕ) (chi : List ℕ → Sign) (xs : List ℕ) → IsSubsetFrom low m xs → IsMember e xs → around chi xs e ≡ product (parity_sign (length xs - count_above e xs)) (chi (without_element e xs))
+pub around_member : (low m e : ℕ) (chi : List ℕ → Sign) (xs : List ℕ) → IsSubsetFrom low m xs → IsMember e xs
+    → around chi xs e ≡ product (parity_sign (length xs - count_above e xs)) (chi (without_element e xs))
 around_member low m e chi [] h k = absurd k
 around_member low zero e chi (x ∷ xs) h k = absurd h
-around_member low (suc m) e chi (x ∷ xs) (inl (q, h)) k = here (cases_eq e x) (around_member (low + 1) m e (λ t. chi (x ∷ t)) xs h)
+around_member low (suc m) e chi (x ∷ xs) (inl (q, h)) k =
+    here (cases_eq e x) (around_member (low + 1) m e (λ t. chi (x ∷ t)) xs h)
   where
     flip : (s t : Sign) (p : ℕ) → t ≡ product (parity_sign p) s → opposite t ≡ product (parity_sign (suc p)) s
     flip s t p r = rw (r, parity_sign-suc p) (lemma (parity_sign p) s)
@@ -62,10 +66,16 @@ around_member low (suc m) e chi (x ∷ xs) (inl (q, h)) k = here (cases_eq e x) 
     later (inl r) ne = absurd (ne r)
     later (inr r) ne = r
 
-    here : (e ≡ x) ⊎ (e ≡ x → ⊥) → (IsMember e xs → around (λ t. chi (x ∷ t)) xs e ≡ product (parity_sign (length xs - count_above e xs)) (chi (x ∷ without_element e xs))) → opposite (cond (nat_eq e x) (chi xs) (around (λ t. chi (x ∷ t)) xs e)) ≡ product (parity_sign (suc (length xs) - (cond (nat_lt e x) 1 0 + count_above e xs))) (chi (cond (nat_eq e x) (without_element e xs) (x ∷ without_element e xs)))
+    here : (e ≡ x) ⊎ (e ≡ x → ⊥)
+        → (IsMember e xs → around (λ t. chi (x ∷ t)) xs e
+        ≡ product (parity_sign (length xs - count_above e xs)) (chi (x ∷ without_element e xs)))
+        → opposite (cond (nat_eq e x) (chi xs) (around (λ t. chi (x ∷ t)) xs e))
+        ≡ product (parity_sign (suc (length xs) - (cond (nat_lt e x) 1 0 + count_above e xs)))
+        (chi (cond (nat_eq e x) (without_element e xs) (x ∷ without_element e xs)))
     here (inl r) i =
         let ge : x ≤ e = omega arith in
-        let c : suc (length xs) - (0 + count_above e xs) ≡ 1 = let b = count_below (low + 1) m e xs h (omega arith) in omega arith in
+        let c : suc (length xs) - (0 + count_above e xs) ≡ 1 = let b = count_below (low + 1) m e xs h (omega arith) in
+        omega arith in
         let w = without_below (low + 1) m e xs h (omega arith) in
         rw (eq-eqb e x r, le-ltb e x ge, c, w) (lemma (chi xs))
       where
@@ -77,7 +87,8 @@ around_member low (suc m) e chi (x ∷ xs) (inl (q, h)) k = here (cases_eq e x) 
         let ge : x ≤ e = omega arith in
         let b = above_le e xs in
         let c : suc (length xs) - (0 + count_above e xs) ≡ suc (length xs - count_above e xs) = omega arith in
-        rw (ne_eqb e x ne, le-ltb e x ge, c) (flip (chi (x ∷ without_element e xs)) _ (length xs - count_above e xs) (i mem))
+        rw (ne_eqb e x ne, le-ltb e x ge, c)
+        (flip (chi (x ∷ without_element e xs)) _ (length xs - count_above e xs) (i mem))
 around_member low (suc m) e chi (x ∷ xs) (inr (q, h)) k = around_member (low + 1) m e chi (x ∷ xs) h k
 
 pub around_other : (chi : List ℕ → Sign) (xs : List ℕ) (e : ℕ) → (IsMember e xs → ⊥) → around chi xs e ≡ Zero
@@ -86,7 +97,8 @@ around_other chi (x ∷ xs) e n =
     let ne : e ≢ x = (λ q. n (inl q)) in
     rw (ne_eqb e x ne, around_other (λ t. chi (x ∷ t)) xs e (λ k. n (inr k))) refl
 
-pub length-without : (low m e : ℕ) (xs : List ℕ) → IsSubsetFrom low m xs → IsMember e xs → length (without_element e xs) + 1 ≡ length xs
+pub length-without : (low m e : ℕ) (xs : List ℕ) → IsSubsetFrom low m xs → IsMember e xs
+    → length (without_element e xs) + 1 ≡ length xs
 length-without low m e [] h k = absurd k
 length-without low zero e (x ∷ xs) h k = absurd h
 length-without low (suc m) e (x ∷ xs) (inl (q, h)) k = here (cases_eq e x) (length-without (low + 1) m e xs h)
@@ -95,19 +107,23 @@ length-without low (suc m) e (x ∷ xs) (inl (q, h)) k = here (cases_eq e x) (le
     later (inl r) ne = absurd (ne r)
     later (inr r) ne = r
 
-    here : (e ≡ x) ⊎ (e ≡ x → ⊥) → (IsMember e xs → length (without_element e xs) + 1 ≡ length xs) → length (cond (nat_eq e x) (without_element e xs) (x ∷ without_element e xs)) + 1 ≡ suc (length xs)
+    here : (e ≡ x) ⊎ (e ≡ x → ⊥) → (IsMember e xs → length (without_element e xs) + 1 ≡ length xs)
+        → length (cond (nat_eq e x) (without_element e xs) (x ∷ without_element e xs)) + 1 ≡ suc (length xs)
     here (inl r) i = let w = without_below (low + 1) m e xs h (omega arith) in rw (eq-eqb e x r, w) (omega arith)
     here (inr ne) i = let j = i (later k ne) in rw (ne_eqb e x ne) (omega arith)
 length-without low (suc m) e (x ∷ xs) (inr (q, h)) k = length-without (low + 1) m e (x ∷ xs) h k
 
 -- the sign from the parities of the size and of the count above
-pub around_same : (low m e r : ℕ) (chi : List ℕ → Sign) (xs : List ℕ) → IsSubsetFrom low m xs → IsMember e xs → length xs ≡ r + 1 → (r + 1) % 2 ≡ count_above e xs % 2 → chi (without_element e xs) ≡ around chi xs e
+pub around_same : (low m e r : ℕ) (chi : List ℕ → Sign) (xs : List ℕ) → IsSubsetFrom low m xs → IsMember e xs
+    → length xs ≡ r + 1 → (r + 1) % 2 ≡ count_above e xs % 2 → chi (without_element e xs) ≡ around chi xs e
 around_same low m e r chi xs h k l p =
     let b = above_le e xs in
     let even : (length xs - count_above e xs) % 2 ≡ 0 = omega arith in
     rw (around_member low m e chi xs h k, even) refl
 
-pub around_opposite : (low m e r : ℕ) (chi : List ℕ → Sign) (xs : List ℕ) → IsSubsetFrom low m xs → IsMember e xs → length xs ≡ r + 1 → ((r + 1) % 2 ≡ count_above e xs % 2 → ⊥) → opposite (chi (without_element e xs)) ≡ around chi xs e
+pub around_opposite : (low m e r : ℕ) (chi : List ℕ → Sign) (xs : List ℕ) → IsSubsetFrom low m xs → IsMember e xs
+    → length xs ≡ r + 1 → ((r + 1) % 2 ≡ count_above e xs % 2 → ⊥)
+    → opposite (chi (without_element e xs)) ≡ around chi xs e
 around_opposite low m e r chi xs h k l p =
     let b = above_le e xs in
     let odd : (length xs - count_above e xs) % 2 ≡ 1 = omega arith in
@@ -132,7 +148,8 @@ parities_same s k b (f, g) t = elim (cases_eq (s % 2) 1) [
     only_false true e = cc
     only_false false e = refl
 
-pub parities_differ : (s k : ℕ) (b : Bool) → ((b ≡ true) ↔ (k % 2 ≡ 1)) → beq (nat_eq (s % 2) 1) b ≡ false → s % 2 ≡ k % 2 → ⊥
+pub parities_differ : (s k : ℕ) (b : Bool) → ((b ≡ true) ↔ (k % 2 ≡ 1)) → beq (nat_eq (s % 2) 1) b ≡ false
+    → s % 2 ≡ k % 2 → ⊥
 parities_differ s k b (f, g) t e = elim (cases_eq (s % 2) 1) [
   | inl o ↦ let q = g (omega arith) in let r = rw (eq-eqb (s % 2) 1 o, q) at t in cc
   | inr z ↦ let r = only_true b (rw (ne_eqb (s % 2) 1 z) at t) in let q = f r in absurd (omega arith)

@@ -1,7 +1,9 @@
 -- The sign of a vector U at one element, from the set with it.
 --
--- Main results: sorted_end, insert_with, sign_end, sign_member, along_member, along_even, along_odd, length-with, with_lawful
-use Rattle.std.specs.Prelude.{ℕ, ◌≡◌, ◌≢◌, ◌+◌, ◌%◌, ◌<◌, ◌≤◌, List, [], ◌∷◌, ◌++◌, length, cond, nat_lt, refl, Bool, true, false}
+-- Main results: sorted_end, insert_with, sign_end, sign_member, along_member, along_even, along_odd, length-with,
+-- with_lawful
+use Rattle.std.specs.Prelude.{ℕ, ◌≡◌, ◌≢◌, ◌+◌, ◌%◌, ◌<◌, ◌≤◌, List, [], ◌∷◌, ◌++◌, length, cond, nat_lt, refl, Bool}
+use Rattle.std.specs.Prelude.{true, false}
 use Rattle.std.proofs.Common.{zero, suc, sym, ◌∙◌, ap, arith, inl, inr, subst}
 use Rattle.std.proofs.lemmas.Bool.{cases_order, ne_eqb, lt-ltb, le-ltb}
 use Rattle.om_signs.specs.declared.sign.Sign.{Sign}
@@ -23,7 +25,8 @@ insert_below low zero x (y ∷ ys) h l = absurd h
 insert_below low (suc m) x (y ∷ ys) (inl (q, h)) l = let lt : x < y = omega arith in rw (lt-ltb x y lt) refl
 insert_below low (suc m) x (y ∷ ys) (inr (q, h)) l = insert_below (low + 1) m x (y ∷ ys) h (omega arith)
 
-before_below : (low m x e : ℕ) (xs : List ℕ) → IsSubsetFrom low m xs → x < low → before_sign x (xs ++ e ∷ []) ≡ order_sign x e
+before_below : (low m x e : ℕ) (xs : List ℕ) → IsSubsetFrom low m xs → x < low
+    → before_sign x (xs ++ e ∷ []) ≡ order_sign x e
 before_below low m x e [] h l = lemma (order_sign x e)
   where
     lemma : (s : Sign) → product s Plus ≡ s
@@ -34,7 +37,8 @@ before_below low (suc m) x e (y ∷ ys) (inl (q, h)) l =
     rw (lt-ltb x y lt) (before_below (low + 1) m x e ys h (omega arith))
 before_below low (suc m) x e (y ∷ ys) (inr (q, h)) l = before_below (low + 1) m x e (y ∷ ys) h (omega arith)
 
-pub sorted_end : (low m e : ℕ) (xs : List ℕ) → IsSubsetFrom low m xs → (IsMember e xs → ⊥) → sorted (xs ++ e ∷ []) ≡ insert e xs
+pub sorted_end : (low m e : ℕ) (xs : List ℕ) → IsSubsetFrom low m xs → (IsMember e xs → ⊥)
+    → sorted (xs ++ e ∷ []) ≡ insert e xs
 sorted_end low m e [] h n = refl
 sorted_end low zero e (x ∷ xs) h n = absurd h
 sorted_end low (suc m) e (x ∷ xs) (inl (q, h)) n =
@@ -50,7 +54,8 @@ insert_with e (x ∷ xs) n =
     let ne : e ≢ x = (λ r. n (inl r)) in
     rw (ne_eqb e x ne, insert_with e xs (λ k. n (inr k))) refl
 
-pub sign_end : (low m e : ℕ) (xs : List ℕ) → IsSubsetFrom low m xs → (IsMember e xs → ⊥) → sort_sign (xs ++ e ∷ []) ≡ parity_sign (count_above e xs)
+pub sign_end : (low m e : ℕ) (xs : List ℕ) → IsSubsetFrom low m xs → (IsMember e xs → ⊥)
+    → sort_sign (xs ++ e ∷ []) ≡ parity_sign (count_above e xs)
 sign_end low m e [] h n = refl
 sign_end low zero e (x ∷ xs) h n = absurd h
 sign_end low (suc m) e (x ∷ xs) (inl (q, h)) n =
@@ -59,8 +64,11 @@ sign_end low (suc m) e (x ∷ xs) (inl (q, h)) n =
     rw (b, i) (elim (cases_order x e) [
       | inl r ↦ absurd (n (inl (sym r)))
       | inr o ↦ elim o [
-        | inl lt ↦ let ge : x ≤ e = omega arith in let z : 0 + count_above e xs ≡ count_above e xs = omega arith in rw (lt-ltb x e lt, le-ltb e x ge, z) refl
-        | inr gt ↦ let ge : e ≤ x = omega arith in let z : 1 + count_above e xs ≡ suc (count_above e xs) = omega arith in rw (le-ltb x e ge, lt-ltb e x gt, z, parity_sign-suc (count_above e xs)) (lemma (parity_sign (count_above e xs)))
+        | inl lt ↦ let ge : x ≤ e = omega arith in let z : 0 + count_above e xs ≡ count_above e xs = omega arith in
+            rw (lt-ltb x e lt, le-ltb e x ge, z) refl
+        | inr gt ↦ let ge : e ≤ x = omega arith in let z : 1 + count_above e xs ≡ suc (count_above e xs) =
+            omega arith in rw (le-ltb x e ge, lt-ltb e x gt, z, parity_sign-suc (count_above e xs))
+            (lemma (parity_sign (count_above e xs)))
       ]
     ])
   where
@@ -84,16 +92,21 @@ sign_member low (suc m) e (x ∷ xs) (inl (q, h)) (inr k) =
     lemma s = grind arith
 sign_member low (suc m) e (x ∷ xs) (inr (q, h)) k = sign_member (low + 1) m e (x ∷ xs) h k
 
-pub along_member : (low m e : ℕ) (f : List ℕ → Sign) (xs : List ℕ) → IsSubsetFrom low m xs → IsMember e xs → along (value f) xs e ≡ Zero
+pub along_member : (low m e : ℕ) (f : List ℕ → Sign) (xs : List ℕ) → IsSubsetFrom low m xs → IsMember e xs
+    → along (value f) xs e ≡ Zero
 along_member low m e f xs h k = rw (sign_member low m e xs h k) refl
 
-pub along_even : (low m e : ℕ) (f : List ℕ → Sign) (xs : List ℕ) → IsSubsetFrom low m xs → IsSubsetFrom low m (with_element e xs) → (IsMember e xs → ⊥) → (count_above e xs % 2 ≡ 1 → ⊥) → value f (with_element e xs) ≡ along (value f) xs e
+pub along_even : (low m e : ℕ) (f : List ℕ → Sign) (xs : List ℕ) → IsSubsetFrom low m xs
+    → IsSubsetFrom low m (with_element e xs) → (IsMember e xs → ⊥) → (count_above e xs % 2 ≡ 1 → ⊥)
+    → value f (with_element e xs) ≡ along (value f) xs e
 along_even low m e f xs h w n p =
     let even : count_above e xs % 2 ≡ 0 = omega arith in
     value_in_order low m f (with_element e xs) w
     ∙ rw (sign_end low m e xs h n, sorted_end low m e xs h n, insert_with e xs n, even) refl
 
-pub along_odd : (low m e : ℕ) (f : List ℕ → Sign) (xs : List ℕ) → IsSubsetFrom low m xs → IsSubsetFrom low m (with_element e xs) → (IsMember e xs → ⊥) → count_above e xs % 2 ≡ 1 → opposite (value f (with_element e xs)) ≡ along (value f) xs e
+pub along_odd : (low m e : ℕ) (f : List ℕ → Sign) (xs : List ℕ) → IsSubsetFrom low m xs
+    → IsSubsetFrom low m (with_element e xs) → (IsMember e xs → ⊥) → count_above e xs % 2 ≡ 1
+    → opposite (value f (with_element e xs)) ≡ along (value f) xs e
 along_odd low m e f xs h w n p =
     ap opposite (value_in_order low m f (with_element e xs) w)
     ∙ rw (sign_end low m e xs h n, sorted_end low m e xs h n, insert_with e xs n, p) refl
@@ -104,9 +117,11 @@ length-with e (x ∷ xs) n =
     let ne : e ≢ x = (λ r. n (inl r)) in
     rw (ne_eqb e x ne) (step (nat_lt e x) (length-with e xs (λ k. n (inr k))))
   where
-    step : (b : Bool) → length (with_element e xs) ≡ length xs + 1 → length (cond b (e ∷ x ∷ xs) (x ∷ with_element e xs)) ≡ suc (length xs) + 1
+    step : (b : Bool) → length (with_element e xs) ≡ length xs + 1
+        → length (cond b (e ∷ x ∷ xs) (x ∷ with_element e xs)) ≡ suc (length xs) + 1
     step true i = omega arith
     step false i = omega arith
 
-pub with_lawful : (n : ℕ) (v : Chosen) (xs : List ℕ) → v.n ≡ n → v.elements ≡ xs → IsSubsetFrom 1 v.n v.elements → IsSubsetFrom 1 n xs
+pub with_lawful : (n : ℕ) (v : Chosen) (xs : List ℕ) → v.n ≡ n → v.elements ≡ xs → IsSubsetFrom 1 v.n v.elements
+    → IsSubsetFrom 1 n xs
 with_lawful n v xs en es h = subst (IsSubsetFrom 1 n) es (subst (λ k. IsSubsetFrom 1 k v.elements) en h)

@@ -39,7 +39,8 @@ module _ (m : SignMap) (p : List ℕ) where
   pair a b = value_of m (p ++ a ∷ b ∷ [])
 
   abbrev IsRelation : ℕ → ℕ → ℕ → ℕ → Type 0
-  IsRelation a b c d = AreBalanced (product (pair a b) (pair c d)) (opposite (product (pair a c) (pair b d))) (product (pair a d) (pair b c))
+  IsRelation a b c d = AreBalanced (product (pair a b) (pair c d)) (opposite (product (pair a c) (pair b d)))
+      (product (pair a d) (pair b c))
 
   turned : (a b : ℕ) → pair a b ≡ opposite (pair b a)
   turned a b = value_alternating (chi_of m) b a p []
@@ -57,29 +58,44 @@ module _ (m : SignMap) (p : List ℕ) where
   -- ---- the relations of x with three elements
 
   relation_same_first : (x c d : ℕ) → IsRelation x x c d
-  relation_same_first x c d = balanced_same _ _ _ _ _ _ (product_zero_left _ _ (same x)) refl (commuted (pair x d) (pair x c)) (cancel_first (product (pair x c) (pair x d)))
+  relation_same_first x c d =
+      balanced_same _ _ _ _ _ _ (product_zero_left _ _ (same x)) refl (commuted (pair x d) (pair x c))
+      (cancel_first (product (pair x c) (pair x d)))
     where
       commuted : (s t : Sign) → product s t ≡ product t s
       commuted s t = grind arith
 
   relation_same_second : (x b d : ℕ) → IsRelation x b x d
-  relation_same_second x b d = balanced_same _ _ _ _ _ _ refl (opposite_zero _ (product_zero_left _ _ (same x))) (last (pair x d) (pair b x) (pair x b) (turned b x)) (cancel_second (product (pair x b) (pair x d)))
+  relation_same_second x b d =
+      balanced_same _ _ _ _ _ _ refl (opposite_zero _ (product_zero_left _ _ (same x)))
+      (last (pair x d) (pair b x) (pair x b) (turned b x)) (cancel_second (product (pair x b) (pair x d)))
     where
       last : (s t u : Sign) → t ≡ opposite u → product s t ≡ opposite (product u s)
       last s t u e = grind arith
 
   relation_same_third : (x b d : ℕ) → IsRelation x b b d
-  relation_same_third x b d = balanced_same _ _ _ _ _ _ refl refl (product_zero_right _ _ (same b)) (cancel_third (product (pair x b) (pair b d)))
+  relation_same_third x b d =
+      balanced_same _ _ _ _ _ _ refl refl (product_zero_right _ _ (same b))
+      (cancel_third (product (pair x b) (pair b d)))
 
-  relation_silent_first : (x b c d : ℕ) → IsElement n x → IsElement n c → IsElement n d → IsSilent b → IsRelation x b c d
-  relation_silent_first x b c d ix ic id s = balanced_zeros _ _ _ (product_zero_left _ _ (heard_from b x s ix)) (opposite_zero _ (product_zero_right _ _ (s d id))) (product_zero_right _ _ (s c ic))
+  relation_silent_first : (x b c d : ℕ) → IsElement n x → IsElement n c → IsElement n d → IsSilent b
+      → IsRelation x b c d
+  relation_silent_first x b c d ix ic id s =
+      balanced_zeros _ _ _ (product_zero_left _ _ (heard_from b x s ix))
+      (opposite_zero _ (product_zero_right _ _ (s d id))) (product_zero_right _ _ (s c ic))
 
-  relation_silent_second : (x b c d : ℕ) → IsElement n x → IsElement n b → IsElement n d → IsSilent c → IsRelation x b c d
-  relation_silent_second x b c d ix ib id s = balanced_zeros _ _ _ (product_zero_right _ _ (s d id)) (opposite_zero _ (product_zero_left _ _ (heard_from c x s ix))) (product_zero_right _ _ (heard_from c b s ib))
+  relation_silent_second : (x b c d : ℕ) → IsElement n x → IsElement n b → IsElement n d → IsSilent c
+      → IsRelation x b c d
+  relation_silent_second x b c d ix ib id s =
+      balanced_zeros _ _ _ (product_zero_right _ _ (s d id))
+      (opposite_zero _ (product_zero_left _ _ (heard_from c x s ix))) (product_zero_right _ _ (heard_from c b s ib))
 
   relation_swapped : (x b c d : ℕ) → IsRelation x b c d → IsRelation x c b d
-  relation_swapped x b c d h = balanced_same _ _ _ _ _ _ (twice (product (pair x c) (pair b d))) refl (last (pair x d) (pair c b) (pair b c) (turned c b))
-      (swapped (product (pair x b) (pair c d)) (opposite (product (pair x c) (pair b d))) (product (pair x d) (pair b c)) h)
+  relation_swapped x b c d h =
+      balanced_same _ _ _ _ _ _ (twice (product (pair x c) (pair b d))) refl
+      (last (pair x d) (pair c b) (pair b c) (turned c b))
+      (swapped (product (pair x b) (pair c d)) (opposite (product (pair x c) (pair b d)))
+      (product (pair x d) (pair b c)) h)
     where
       twice : (s : Sign) → s ≡ opposite (opposite s)
       twice s = grind arith
@@ -112,16 +128,24 @@ module _ (m : SignMap) (p : List ℕ) where
   all_relations : (x t : ℕ) → IsElement n x → IsElement n t → pair x t ≢ Zero
       → ((b c d : ℕ) → IsElement n b → IsElement n c → IsElement n d → IsRelation x b c d)
       → (a b c d : ℕ) → IsElement n a → IsElement n b → IsElement n c → IsElement n d → IsRelation a b c d
-  all_relations x t ix it nz with a b c d ia ib ic id = go (zero_or_nonzero (pair x a)) (zero_or_nonzero (pair x b)) (zero_or_nonzero (pair x c)) (zero_or_nonzero (pair x d))
+  all_relations x t ix it nz with a b c d ia ib ic id =
+      go (zero_or_nonzero (pair x a)) (zero_or_nonzero (pair x b)) (zero_or_nonzero (pair x c))
+      (zero_or_nonzero (pair x d))
     where
       four : (pair x a ≢ Zero) ⊎ ((pair x b ≢ Zero) ⊎ ((pair x c ≢ Zero) ⊎ (pair x d ≢ Zero))) → IsRelation a b c d
-      four k = relation_of_four (pair x a) (pair x b) (pair x c) (pair x d) (pair a b) (pair a c) (pair a d) (pair b c) (pair b d) (pair c d) k (with a b c ia ib ic) (with a b d ia ib id) (with a c d ia ic id) (with b c d ib ic id)
+      four k = relation_of_four (pair x a) (pair x b) (pair x c) (pair x d) (pair a b) (pair a c) (pair a d) (pair b c)
+          (pair b d) (pair c d) k (with a b c ia ib ic) (with a b d ia ib id) (with a c d ia ic id)
+          (with b c d ib ic id)
 
       -- two elements that are zero with x are zero with one another
       none : (e f : ℕ) → IsElement n e → IsElement n f → pair x e ≡ Zero → pair x f ≡ Zero → pair e f ≡ Zero
-      none e f ie if_ ze zf = alone (pair x t) (pair e f) (balanced_same _ _ _ _ _ _ refl (sym (opposite_zero _ (product_zero_left _ _ ze))) (sym (product_zero_left _ _ zf)) (with t e f it ie if_)) nz
+      none e f ie if_ ze zf =
+          alone (pair x t) (pair e f)
+          (balanced_same _ _ _ _ _ _ refl (sym (opposite_zero _ (product_zero_left _ _ ze)))
+          (sym (product_zero_left _ _ zf)) (with t e f it ie if_)) nz
 
-      go : (pair x a ≡ Zero) ⊎ (pair x a ≢ Zero) → (pair x b ≡ Zero) ⊎ (pair x b ≢ Zero) → (pair x c ≡ Zero) ⊎ (pair x c ≢ Zero) → (pair x d ≡ Zero) ⊎ (pair x d ≢ Zero) → IsRelation a b c d
+      go : (pair x a ≡ Zero) ⊎ (pair x a ≢ Zero) → (pair x b ≡ Zero) ⊎ (pair x b ≢ Zero) → (pair x c ≡ Zero)
+          ⊎ (pair x c ≢ Zero) → (pair x d ≡ Zero) ⊎ (pair x d ≢ Zero) → IsRelation a b c d
       go (inr k) zb zc zd = four (inl k)
       go (inl za) (inr k) zc zd = four (inr (inl k))
       go (inl za) (inl zb) (inr k) zd = four (inr (inr (inl k)))
@@ -141,15 +165,18 @@ module _ (m : SignMap) (p : List ℕ) where
     at_row : (a b : ℕ) → IsElement n a → IsElement n b → at (get_or rows (a - 1) []) (b - 1) ≡ pair a b
     at_row a b ia ib =
         let high = ia.1 in
-        ap (λ r. at_element r b) (are.row a ia.0 (omega (arith, high))) ∙ cocircuit_place m (p ++ a ∷ []) b ib.0 ib.1 ∙ ap (value_of m) (append_assoc p (a ∷ []) (b ∷ []))
+        ap (λ r. at_element r b) (are.row a ia.0 (omega (arith, high))) ∙ cocircuit_place m (p ++ a ∷ []) b ib.0 ib.1
+        ∙ ap (value_of m) (append_assoc p (a ∷ []) (b ∷ []))
 
     row_length : (a : ℕ) → IsElement n a → length (get_or rows (a - 1) []) ≡ n
-    row_length a ia = let high = ia.1 in ap length (are.row a ia.0 (omega (arith, high))) ∙ length-vector n (along (value_of m) (p ++ a ∷ []))
+    row_length a ia = let high = ia.1 in ap length (are.row a ia.0 (omega (arith, high)))
+        ∙ length-vector n (along (value_of m) (p ++ a ∷ []))
 
     two : {a b c d : Sign} → a ≡ c → b ≡ d → product c d ≡ product a b
     two {a} {b} {c} {d} s t = ap (λ k. product k d) (sym s) ∙ ap (product a) (sym t)
 
-    relation_of_triple : (x b c d : ℕ) → IsElement n x → IsElement n b → IsElement n c → IsElement n d → IsTriple rows (x - 1) (b - 1) (c - 1) → IsRelation x b c d
+    relation_of_triple : (x b c d : ℕ) → IsElement n x → IsElement n b → IsElement n c → IsElement n d
+        → IsTriple rows (x - 1) (b - 1) (c - 1) → IsRelation x b c d
     relation_of_triple x b c d ix ib ic id h =
         let len = row_length x ix in
         let low = id.0 in
@@ -160,7 +187,8 @@ module _ (m : SignMap) (p : List ℕ) where
         (two (at_row x d ix id) (at_row b c ib ic))
         (h.each (d - 1) (omega (arith, len, low, high)))
 
-    pub triple_from_relations : (i j k : ℕ) → i < m.elements → j < m.elements → k < m.elements → HasRelationsAt m p → IsTriple rows i j k
+    pub triple_from_relations : (i j k : ℕ) → i < m.elements → j < m.elements → k < m.elements → HasRelationsAt m p
+        → IsTriple rows i j k
     triple_from_relations i j k il jl kl all = record { each = each }
       where
         one : (i : ℕ) → i < m.elements → IsElement n (i + 1)
@@ -170,9 +198,13 @@ module _ (m : SignMap) (p : List ℕ) where
         back i = omega arith
 
         sign : (a b : ℕ) → a < m.elements → b < m.elements → at (get_or rows a []) b ≡ pair (a + 1) (b + 1)
-        sign a b al bl = ap (λ r. at (get_or rows r []) b) (sym (back a)) ∙ ap (at (get_or rows (a + 1 - 1) [])) (sym (back b)) ∙ at_row (a + 1) (b + 1) (one a al) (one b bl)
+        sign a b al bl = ap (λ r. at (get_or rows r []) b) (sym (back a))
+            ∙ ap (at (get_or rows (a + 1 - 1) [])) (sym (back b)) ∙ at_row (a + 1) (b + 1) (one a al) (one b bl)
 
-        each : (l : ℕ) → l < length (get_or rows i []) → AreBalanced (product (at (get_or rows i []) j) (at (get_or rows k []) l)) (opposite (product (at (get_or rows i []) k) (at (get_or rows j []) l))) (product (at (get_or rows i []) l) (at (get_or rows j []) k))
+        each : (l : ℕ) → l < length (get_or rows i [])
+            → AreBalanced (product (at (get_or rows i []) j) (at (get_or rows k []) l))
+            (opposite (product (at (get_or rows i []) k) (at (get_or rows j []) l)))
+            (product (at (get_or rows i []) l) (at (get_or rows j []) k))
         each l lt =
             let len = ap (λ r. length (get_or rows r [])) (sym (back i)) ∙ row_length (i + 1) (one i il) in
             let ll : l < m.elements = omega (arith, lt, len) in
@@ -180,10 +212,12 @@ module _ (m : SignMap) (p : List ℕ) where
             (sym (two (sign i j il jl) (sign k l kl ll)))
             (ap opposite (sym (two (sign i k il kl) (sign j l jl ll))))
             (sym (two (sign i l il ll) (sign j k jl kl)))
-            ((all (i + 1) (j + 1) (k + 1) (one i il) (one j jl) (one k kl)).each (l + 1) (omega arith) (omega (arith, ll)))
+            ((all (i + 1) (j + 1) (k + 1) (one i il) (one j jl) (one k kl)).each (l + 1) (omega arith)
+            (omega (arith, ll)))
 
     -- a row that isn't zero, and a mask of all others that aren't
-    pub relations_of_first_row : (i later : ℕ) → i < m.elements → IsLive rows i → ((j : ℕ) → j < m.elements → j ≢ i → (bit_at later j ≡ 1) ⊎ (IsLive rows j → ⊥))
+    pub relations_of_first_row : (i later : ℕ) → i < m.elements → IsLive rows i
+        → ((j : ℕ) → j < m.elements → j ≢ i → (bit_at later j ≡ 1) ⊎ (IsLive rows j → ⊥))
         → ((j k : ℕ) → j < k → bit_at later j ≡ 1 → bit_at later k ≡ 1 → IsTriple rows i j k) → HasRelationsAt m p
     relations_of_first_row i later il live others triples = go live
       where
@@ -191,13 +225,23 @@ module _ (m : SignMap) (p : List ℕ) where
         ix = (omega arith, omega (arith, il))
 
         silent : (b : ℕ) → IsElement n b → (IsLive rows (b - 1) → ⊥) → IsSilent b
-        silent b ib dead e ie = elim (zero_or_nonzero (pair b e)) [ inl z ↦ z | inr k ↦ absurd (dead (e - 1, λ z. k (sym (at_row b e ib ie) ∙ z))) ]
+        silent b ib dead e ie =
+            elim (zero_or_nonzero (pair b e))
+            [ inl z ↦ z | inr k ↦ absurd (dead (e - 1, λ z. k (sym (at_row b e ib ie) ∙ z))) ]
 
         kinds : (b : ℕ) → IsElement n b → IsKind (i + 1) (IsLater later) b
-        kinds b ib = elim (cases_order b (i + 1)) [ inl q ↦ inl q | inr (inl lt) ↦ other (omega (arith, lt)) | inr (inr gt) ↦ other (omega (arith, gt)) ]
+        kinds b ib =
+            elim (cases_order b (i + 1)) [
+              | inl q ↦ inl q
+              | inr (inl lt) ↦ other (omega (arith, lt))
+              | inr (inr gt) ↦
+                  other (omega (arith, gt))
+            ]
           where
             other : b - 1 ≢ i → IsKind (i + 1) (IsLater later) b
-            other ne = let low = ib.0 in let high = ib.1 in elim (others (b - 1) (omega (arith, low, high)) ne) [ inl o ↦ inr (inr (ib, o)) | inr d ↦ inr (inl (silent b ib d)) ]
+            other ne = let low = ib.0 in let high = ib.1 in
+                elim (others (b - 1) (omega (arith, low, high)) ne)
+                [ inl o ↦ inr (inr (ib, o)) | inr d ↦ inr (inl (silent b ib d)) ]
 
         back : i + 1 - 1 ≡ i
         back = omega arith
@@ -205,10 +249,16 @@ module _ (m : SignMap) (p : List ℕ) where
         later_ones : (b c d : ℕ) → b < c → IsLater later b → IsLater later c → IsElement n d → IsRelation (i + 1) b c d
         later_ones b c d lt lb lc id =
             let low = lb.0.0 in
-            relation_of_triple (i + 1) b c d ix lb.0 lc.0 id (subst (λ r. IsTriple rows r (b - 1) (c - 1)) (sym back) (triples (b - 1) (c - 1) (omega (arith, lt, low)) lb.1 lc.1))
+            relation_of_triple (i + 1) b c d ix lb.0 lc.0 id
+            (subst (λ r. IsTriple rows r (b - 1) (c - 1)) (sym back)
+            (triples (b - 1) (c - 1) (omega (arith, lt, low)) lb.1 lc.1))
 
         go : IsLive rows i → HasRelationsAt m p
-        go (l, nz) x y z jx jy jz = record { each = λ w wl wh. all_relations (i + 1) (l + 1) ix it nonzero (relations_with (i + 1) (IsLater later) ix kinds later_ones) x y z w jx jy jz (wl, wh) }
+        go (l, nz) x y z jx jy jz =
+            record {
+              each = λ w wl wh. all_relations (i + 1) (l + 1) ix it nonzero
+                  (relations_with (i + 1) (IsLater later) ix kinds later_ones) x y z w jx jy jz (wl, wh);
+            }
           where
             len : length (get_or rows i []) ≡ m.elements
             len = ap (λ r. length (get_or rows r [])) (sym back) ∙ row_length (i + 1) ix
@@ -220,7 +270,9 @@ module _ (m : SignMap) (p : List ℕ) where
             ]
 
             nonzero : pair (i + 1) (l + 1) ≢ Zero
-            nonzero q = nz (ap (λ r. at (get_or rows r []) l) (sym back) ∙ ap (at (get_or rows (i + 1 - 1) [])) (l_back l) ∙ at_row (i + 1) (l + 1) ix it ∙ q)
+            nonzero q =
+                nz (ap (λ r. at (get_or rows r []) l) (sym back) ∙ ap (at (get_or rows (i + 1 - 1) [])) (l_back l)
+                ∙ at_row (i + 1) (l + 1) ix it ∙ q)
               where
                 l_back : (l : ℕ) → l ≡ l + 1 - 1
                 l_back l = omega arith
@@ -229,11 +281,16 @@ module _ (m : SignMap) (p : List ℕ) where
     pub relations_of_zeros : ((j : ℕ) → j < m.elements → IsLive rows j → ⊥) → HasRelationsAt m p
     relations_of_zeros dead x y z jx jy jz = record {
       each = λ w wl wh.
-          balanced_zeros _ _ _ (product_zero_left _ _ (silent y jy)) (opposite_zero _ (product_zero_left _ _ (silent z jz))) (product_zero_left _ _ (silent w (wl, wh)));
+          balanced_zeros _ _ _ (product_zero_left _ _ (silent y jy))
+          (opposite_zero _ (product_zero_left _ _ (silent z jz))) (product_zero_left _ _ (silent w (wl, wh)));
     }
       where
         silent : (e : ℕ) → IsElement n e → pair x e ≡ Zero
         silent e ie =
             let lx = jx.0 in
             let hx = jx.1 in
-            elim (zero_or_nonzero (pair x e)) [ inl z ↦ z | inr k ↦ absurd (dead (x - 1) (omega (arith, lx, hx)) (e - 1, λ z. k (sym (at_row x e jx ie) ∙ z))) ]
+            elim (zero_or_nonzero (pair x e)) [
+              | inl z ↦ z
+              | inr k ↦
+                  absurd (dead (x - 1) (omega (arith, lx, hx)) (e - 1, λ z. k (sym (at_row x e jx ie) ∙ z)))
+            ]

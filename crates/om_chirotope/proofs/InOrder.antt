@@ -9,7 +9,8 @@ use Rattle.om_signs.specs.declared.sign.Sign.TheVariants.{Plus}
 use Rattle.om_subsets.specs.Subsets.{IsSubsetFrom}
 use Rattle.om_laws.specs.Tuples.{value, sorted, insert, sort_sign, before_sign}
 
-insert_front : (low m x : ℕ) (xs : List ℕ) → IsSubsetFrom low m xs → x < low → (insert x xs ≡ x ∷ xs) × (before_sign x xs ≡ Plus)
+insert_front : (low m x : ℕ) (xs : List ℕ) → IsSubsetFrom low m xs → x < low → (insert x xs ≡ x ∷ xs)
+    × (before_sign x xs ≡ Plus)
 insert_front low m x [] h l = (refl, refl)
 insert_front low zero x (y ∷ ys) h l = absurd h
 insert_front low (suc m) x (y ∷ ys) (inl (q, h)) l =

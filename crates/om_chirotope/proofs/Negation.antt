@@ -1,7 +1,9 @@
 -- The negative of a map, and the first sign that isn't zero.
 --
--- Main results: negated_chirotope, the negative of a chirotope is one; leads, some sign leads a list that isn't all zero.
-use Rattle.std.specs.Prelude.{ℕ, ◌≡◌, ◌+◌, ◌<◌, List, [], ◌∷◌, ◌++◌, length, map, cond, nat_eq, Bool, true, false, refl, ◌⊎◌}
+-- Main results: negated_chirotope, the negative of a chirotope is one; leads, some sign leads a list that isn't all
+-- zero.
+use Rattle.std.specs.Prelude.{ℕ, ◌≡◌, ◌+◌, ◌<◌, List, [], ◌∷◌, ◌++◌, length, map, cond, nat_eq, Bool, true, false, refl}
+use Rattle.std.specs.Prelude.{◌⊎◌}
 use Rattle.std.proofs.Common.{zero, suc, sym, ◌∙◌, ap, arith, inl, inr, get_or}
 use Rattle.std.proofs.lemmas.Bool.{cases_lt}
 use Rattle.std.proofs.lemmas.List.{length-map, ext_get_or, get_or_past}
@@ -32,11 +34,16 @@ value_negated m t =
     lemma : (s u : Sign) → product s (opposite u) ≡ opposite (product s u)
     lemma s u = grind arith
 
-around_negated : (chi psi : List ℕ → Sign) (xs : List ℕ) (e : ℕ) → ((t : List ℕ) → psi t ≡ opposite (chi t)) → around psi xs e ≡ opposite (around chi xs e)
+around_negated : (chi psi : List ℕ → Sign) (xs : List ℕ) (e : ℕ) → ((t : List ℕ) → psi t ≡ opposite (chi t))
+    → around psi xs e ≡ opposite (around chi xs e)
 around_negated chi psi [] e n = refl
-around_negated chi psi (x ∷ xs) e n = ap opposite (by_case (nat_eq e x) (n xs) (around_negated (λ t. chi (x ∷ t)) (λ t. psi (x ∷ t)) xs e (λ t. n (x ∷ t))))
+around_negated chi psi (x ∷ xs) e n =
+    ap opposite
+    (by_case (nat_eq e x) (n xs) (around_negated (λ t. chi (x ∷ t)) (λ t. psi (x ∷ t)) xs e (λ t. n (x ∷ t))))
   where
-    by_case : (b : Bool) → psi xs ≡ opposite (chi xs) → around (λ t. psi (x ∷ t)) xs e ≡ opposite (around (λ t. chi (x ∷ t)) xs e) → cond b (psi xs) (around (λ t. psi (x ∷ t)) xs e) ≡ opposite (cond b (chi xs) (around (λ t. chi (x ∷ t)) xs e))
+    by_case : (b : Bool) → psi xs ≡ opposite (chi xs)
+        → around (λ t. psi (x ∷ t)) xs e ≡ opposite (around (λ t. chi (x ∷ t)) xs e)
+        → cond b (psi xs) (around (λ t. psi (x ∷ t)) xs e) ≡ opposite (cond b (chi xs) (around (λ t. chi (x ∷ t)) xs e))
     by_case true p q = p
     by_case false p q = q
 
@@ -44,7 +51,8 @@ at-vector : (n : ℕ) (f : ℕ → Sign) (i : ℕ) → i < n → at (as_list n f
 at-vector n f i l = let e : 1 + i ≡ i + 1 = omega arith in get_or-map-range_with_len f 1 n i (i + 1) Zero l e
 
 -- two vectors, each place of the second opposite to that of the first
-at-vector_negated : (n : ℕ) (f g : ℕ → Sign) (i : ℕ) → ((e : ℕ) → g e ≡ opposite (f e)) → at (as_list n g) i ≡ opposite (at (as_list n f) i)
+at-vector_negated : (n : ℕ) (f g : ℕ → Sign) (i : ℕ) → ((e : ℕ) → g e ≡ opposite (f e))
+    → at (as_list n g) i ≡ opposite (at (as_list n f) i)
 at-vector_negated n f g i h = elim (cases_lt i n) [
   | inl l ↦ at-vector n g i l ∙ h (i + 1) ∙ ap opposite (sym (at-vector n f i l))
   | inr ge ↦
@@ -53,7 +61,8 @@ at-vector_negated n f g i h = elim (cases_lt i n) [
       zg ∙ ap opposite (sym zf)
 ]
 
-product_kept : (xs ys us vs : List Sign) (s : Sign) → ((i : ℕ) → at us i ≡ opposite (at xs i)) → ((i : ℕ) → at vs i ≡ opposite (at ys i)) → HasProduct xs ys s → HasProduct us vs s
+product_kept : (xs ys us vs : List Sign) (s : Sign) → ((i : ℕ) → at us i ≡ opposite (at xs i))
+    → ((i : ℕ) → at vs i ≡ opposite (at ys i)) → HasProduct xs ys s → HasProduct us vs s
 product_kept xs ys us vs s hu hv (i, p) = (i, lemma (at xs i) (at ys i) (at us i) (at vs i) (hu i) (hv i) ∙ p)
   where
     lemma : (a b c d : Sign) → c ≡ opposite a → d ≡ opposite b → product c d ≡ product a b
@@ -65,10 +74,13 @@ turned_back xs us h i = lemma (at xs i) (at us i) (h i)
     lemma : (a b : Sign) → b ≡ opposite a → a ≡ opposite b
     lemma a b p = grind arith
 
-orthogonal_kept : (xs ys us vs : List Sign) → ((i : ℕ) → at us i ≡ opposite (at xs i)) → ((i : ℕ) → at vs i ≡ opposite (at ys i)) → IsOrthogonal xs ys → IsOrthogonal us vs
+orthogonal_kept : (xs ys us vs : List Sign) → ((i : ℕ) → at us i ≡ opposite (at xs i))
+    → ((i : ℕ) → at vs i ≡ opposite (at ys i)) → IsOrthogonal xs ys → IsOrthogonal us vs
 orthogonal_kept xs ys us vs hu hv (f, g) = (
-  λ h. product_kept xs ys us vs Minus hu hv (f (product_kept us vs xs ys Plus (turned_back xs us hu) (turned_back ys vs hv) h)),
-  λ h. product_kept xs ys us vs Plus hu hv (g (product_kept us vs xs ys Minus (turned_back xs us hu) (turned_back ys vs hv) h)),
+  λ h. product_kept xs ys us vs Minus hu hv
+      (f (product_kept us vs xs ys Plus (turned_back xs us hu) (turned_back ys vs hv) h)),
+  λ h. product_kept xs ys us vs Plus hu hv
+      (g (product_kept us vs xs ys Minus (turned_back xs us hu) (turned_back ys vs hv) h)),
 )
 
 pub negated_chirotope : (m : SignMap) → IsChirotope m → IsChirotope (negated m)
@@ -76,8 +88,10 @@ negated_chirotope m c = record {
   whole = record { part = c.whole.part; whole = length-map m.signs opposite ∙ c.whole.whole };
   nonzero = some c.nonzero;
   orthogonal = λ s a p. orthogonal_kept _ _ _ _
-      (λ i. at-vector_negated m.elements (around (value_of m) s) (around (value_of (negated m)) s) i (λ e. around_negated (value_of m) (value_of (negated m)) s e (value_negated m)))
-      (λ i. at-vector_negated m.elements (along (value_of m) a) (along (value_of (negated m)) a) i (λ e. value_negated m (a ++ e ∷ [])))
+      (λ i. at-vector_negated m.elements (around (value_of m) s) (around (value_of (negated m)) s) i
+      (λ e. around_negated (value_of m) (value_of (negated m)) s e (value_negated m)))
+      (λ i. at-vector_negated m.elements (along (value_of m) a) (along (value_of (negated m)) a) i
+      (λ e. value_negated m (a ++ e ∷ [])))
       (c.orthogonal s a (record { s_list = p.s_list; s_size = p.s_size; a_list = p.a_list; a_size = p.a_size }));
 }
   where
@@ -100,7 +114,8 @@ pub leader : (xs : List Sign) → IsLedBy Plus xs ⊎ IsLedBy Minus xs ⊎ IsAll
 leader [] = inr (inr (λ k d l. absurd (omega arith)))
 leader (x ∷ xs) = go x refl (leader xs)
   where
-    go : (y : Sign) → x ≡ y → IsLedBy Plus xs ⊎ IsLedBy Minus xs ⊎ IsAllZero xs → IsLedBy Plus (x ∷ xs) ⊎ IsLedBy Minus (x ∷ xs) ⊎ IsAllZero (x ∷ xs)
+    go : (y : Sign) → x ≡ y → IsLedBy Plus xs ⊎ IsLedBy Minus xs ⊎ IsAllZero xs → IsLedBy Plus (x ∷ xs)
+        ⊎ IsLedBy Minus (x ∷ xs) ⊎ IsAllZero (x ∷ xs)
     go Plus e r = inl (0, e, λ j l. absurd (omega arith))
     go Minus e r = inr (inl (0, e, λ j l. absurd (omega arith)))
     go Zero e (inl p) = inl (led_later x xs Plus e p)
@@ -124,9 +139,13 @@ pub led_negated : (xs : List Sign) → IsLedBy Minus xs → IsLedBy Plus (map op
 led_negated xs (k, p, q) = (k, at-opposite xs k ∙ ap opposite p, λ j l. at-opposite xs j ∙ ap opposite (q j l))
 
 -- what the loop that turns the signs has made
-pub turned_map : (rank elements r e : ℕ) (xs ys : List Sign) → r ≡ rank → e ≡ elements → length ys ≡ length xs → ((k : ℕ) → k < length xs → at ys k ≡ opposite (at xs k)) → record { rank = r; elements = e; signs = ys } ≡ negated (record { rank = rank; elements = elements; signs = xs })
+pub turned_map : (rank elements r e : ℕ) (xs ys : List Sign) → r ≡ rank → e ≡ elements → length ys ≡ length xs
+    → ((k : ℕ) → k < length xs → at ys k ≡ opposite (at xs k))
+    → record { rank = r; elements = e; signs = ys } ≡ negated (record { rank = rank; elements = elements; signs = xs })
 turned_map rank elements r e xs ys er ee l h =
-    let es : ys ≡ map opposite xs = ext_get_or Zero ys (map opposite xs) (l ∙ sym (length-map xs opposite)) (λ k lt. h k (omega arith) ∙ sym (at-opposite xs k)) in
+    let es : ys ≡ map opposite xs =
+    ext_get_or Zero ys (map opposite xs) (l ∙ sym (length-map xs opposite))
+    (λ k lt. h k (omega arith) ∙ sym (at-opposite xs k)) in
     rw (er, ee, es) refl
 
 pub negated_sound : (m : SignMap) → IsSound m → IsSound (negated m)

@@ -109,7 +109,8 @@ of_all : (f : Sign → Bool) → all_signs f ≡ true → (s : Sign) → f s ≡
 unfolding all_signs
 of_all f h s = go (f Minus) (f Zero) (f Plus) refl refl refl h s
   where
-    go : (a b c : Bool) → f Minus ≡ a → f Zero ≡ b → f Plus ≡ c → cond a (cond b c false) false ≡ true → (s : Sign) → f s ≡ true
+    go : (a b c : Bool) → f Minus ≡ a → f Zero ≡ b → f Plus ≡ c → cond a (cond b c false) false ≡ true → (s : Sign)
+        → f s ≡ true
     go true true c p q r h Minus = p
     go true true c p q r h Zero = q
     go true true c p q r h Plus = r ∙ h
@@ -134,7 +135,8 @@ abbrev some : Sign → Sign → Sign → Sign → Bool
 some a b c d = cond (is_nonzero a) true (cond (is_nonzero b) true (cond (is_nonzero c) true (is_nonzero d)))
 
 abbrev last : Sign → Sign → Sign → Sign → Sign → Sign → Sign → Sign → Sign → Sign → Bool
-last xa xb xc xd ab ac bc ad bd cd = implies (relation xa xc xd ac ad cd) (implies (relation xb xc xd bc bd cd) (relation ab ac ad bc bd cd))
+last xa xb xc xd ab ac bc ad bd cd =
+    implies (relation xa xc xd ac ad cd) (implies (relation xb xc xd bc bd cd) (relation ab ac ad bc bd cd))
 
 abbrev each : Bool
 each = all_signs (λ xa. all_signs (λ xb. all_signs (λ xc. all_signs (λ xd. implies (some xa xb xc xd)
@@ -147,7 +149,8 @@ unfolding all_signs implies
 each_is = refl
 
 -- the relation of a, b, c and d, from those of x with three of them, where x isn't zero with each
-pub relation_of_four : (xa xb xc xd ab ac ad bc bd cd : Sign) → (xa ≢ Zero) ⊎ ((xb ≢ Zero) ⊎ ((xc ≢ Zero) ⊎ (xd ≢ Zero)))
+pub relation_of_four : (xa xb xc xd ab ac ad bc bd cd : Sign) → (xa ≢ Zero)
+    ⊎ ((xb ≢ Zero) ⊎ ((xc ≢ Zero) ⊎ (xd ≢ Zero)))
     → AreBalanced (product xa bc) (opposite (product xb ac)) (product xc ab)
     → AreBalanced (product xa bd) (opposite (product xb ad)) (product xd ab)
     → AreBalanced (product xa cd) (opposite (product xc ad)) (product xd ac)
@@ -176,11 +179,14 @@ relation_of_four xa xb xc xd ab ac ad bc bd cd n h1 h2 h3 h4 =
     some_is : (xa ≢ Zero) ⊎ ((xb ≢ Zero) ⊎ ((xc ≢ Zero) ⊎ (xd ≢ Zero))) → some xa xb xc xd ≡ true
     some_is (inl k) = here (is_nonzero xa) _ (nonzero_is xa k)
     some_is (inr (inl k)) = later (is_nonzero xa) _ (here (is_nonzero xb) _ (nonzero_is xb k))
-    some_is (inr (inr (inl k))) = later (is_nonzero xa) _ (later (is_nonzero xb) _ (here (is_nonzero xc) _ (nonzero_is xc k)))
-    some_is (inr (inr (inr k))) = later (is_nonzero xa) _ (later (is_nonzero xb) _ (later (is_nonzero xc) _ (nonzero_is xd k)))
+    some_is (inr (inr (inl k))) =
+        later (is_nonzero xa) _ (later (is_nonzero xb) _ (here (is_nonzero xc) _ (nonzero_is xc k)))
+    some_is (inr (inr (inr k))) =
+        later (is_nonzero xa) _ (later (is_nonzero xb) _ (later (is_nonzero xc) _ (nonzero_is xd k)))
 
 abbrev swaps : Bool
-swaps = all_signs (λ x. all_signs (λ y. all_signs (λ z. implies (balanced x y z) (balanced (opposite y) (opposite x) (opposite z)))))
+swaps = all_signs
+    (λ x. all_signs (λ y. all_signs (λ z. implies (balanced x y z) (balanced (opposite y) (opposite x) (opposite z)))))
 
 swaps_is : swaps ≡ true
 unfolding all_signs implies

@@ -1,6 +1,7 @@
 -- The value of a tuple, from its elements taken from the last on.
 --
--- Main results: before_even, before_odd, the sign of an element before a set; value_repeat and next_element for one more element.
+-- Main results: before_even, before_odd, the sign of an element before a set; value_repeat and next_element for one
+-- more element.
 use Rattle.std.specs.Prelude.{ℕ, ◌≡◌, ◌≢◌, ◌+◌, ◌-◌, ◌%◌, ◌<◌, ◌≤◌, List, [], ◌∷◌, length, refl}
 use Rattle.std.proofs.Common.{zero, suc, sym, ◌∙◌, ap, arith, inl, inr, get_or, drop}
 use Rattle.std.proofs.lemmas.Bool.{cases_lt, lt-ltb, le-ltb}
@@ -41,7 +42,8 @@ before_sorted e [] = refl
 before_sorted e (x ∷ xs) = before_insert e x (sorted xs) ∙ ap (product (order_sign e x)) (before_sorted e xs)
 
 -- each smaller element of the set turns the sign
-pub before_parity : (e : ℕ) (xs : List ℕ) → (IsMember e xs → ⊥) → before_sign e xs ≡ parity_sign (length xs - count_above e xs)
+pub before_parity : (e : ℕ) (xs : List ℕ) → (IsMember e xs → ⊥)
+    → before_sign e xs ≡ parity_sign (length xs - count_above e xs)
 before_parity e [] n = refl
 before_parity e (x ∷ xs) n =
     let i = before_parity e xs (λ h. n (inr h)) in
@@ -57,13 +59,15 @@ before_parity e (x ∷ xs) n =
           rw (le-ltb e x ge, lt-ltb x e lt, more, parity_sign-suc (length xs - count_above e xs), i) refl
     ]
 
-pub before_even : (low m e s : ℕ) (xs : List ℕ) → IsSubsetFrom low m xs → (IsMember e xs → ⊥) → s ≡ length xs → s % 2 ≡ count_above e xs % 2 → Plus ≡ before_sign e xs
+pub before_even : (low m e s : ℕ) (xs : List ℕ) → IsSubsetFrom low m xs → (IsMember e xs → ⊥) → s ≡ length xs
+    → s % 2 ≡ count_above e xs % 2 → Plus ≡ before_sign e xs
 before_even low m e s xs h n l p =
     let b = above_le e xs in
     let even : (length xs - count_above e xs) % 2 ≡ 0 = omega arith in
     rw (before_parity e xs n, even) refl
 
-pub before_odd : (low m e s : ℕ) (xs : List ℕ) → IsSubsetFrom low m xs → (IsMember e xs → ⊥) → s ≡ length xs → (s % 2 ≡ count_above e xs % 2 → ⊥) → Minus ≡ before_sign e xs
+pub before_odd : (low m e s : ℕ) (xs : List ℕ) → IsSubsetFrom low m xs → (IsMember e xs → ⊥) → s ≡ length xs
+    → (s % 2 ≡ count_above e xs % 2 → ⊥) → Minus ≡ before_sign e xs
 before_odd low m e s xs h n l p =
     let b = above_le e xs in
     let odd : (length xs - count_above e xs) % 2 ≡ 1 = omega arith in
@@ -90,16 +94,20 @@ zero_end (suc k) (x ∷ xs) z = rw (zero_end k xs z) (lemma (before_sign x xs))
     lemma s = grind arith
 
 -- one element more from the end
-pub next_rest : (tuple : List ℕ) (i : ℕ) → i < length tuple → drop (length tuple - (i + 1)) tuple ≡ get_or tuple (length tuple - 1 - i) 0 ∷ drop (length tuple - i) tuple
+pub next_rest : (tuple : List ℕ) (i : ℕ) → i < length tuple
+    → drop (length tuple - (i + 1)) tuple ≡ get_or tuple (length tuple - 1 - i) 0 ∷ drop (length tuple - i) tuple
 next_rest tuple i l =
     let a : length tuple - (i + 1) ≡ length tuple - 1 - i = omega arith in
     let b : length tuple - 1 - i + 1 ≡ length tuple - i = omega arith in
     rw a (drop_at (length tuple - 1 - i) tuple (omega arith) ∙ rw b refl)
 
-pub value_repeat : (f : List ℕ → Sign) (tuple : List ℕ) (i : ℕ) → i < length tuple → IsMember (get_or tuple (length tuple - 1 - i) 0) (sorted (drop (length tuple - i) tuple)) → Zero ≡ value f tuple
+pub value_repeat : (f : List ℕ → Sign) (tuple : List ℕ) (i : ℕ) → i < length tuple
+    → IsMember (get_or tuple (length tuple - 1 - i) 0) (sorted (drop (length tuple - i) tuple)) → Zero ≡ value f tuple
 value_repeat f tuple i l h =
-    let before = sym (before_sorted (get_or tuple (length tuple - 1 - i) 0) (drop (length tuple - i) tuple)) ∙ before_member (get_or tuple (length tuple - 1 - i) 0) (sorted (drop (length tuple - i) tuple)) h in
-    let here : sort_sign (drop (length tuple - (i + 1)) tuple) ≡ Zero = ap sort_sign (next_rest tuple i l) ∙ ap (λ s. product s (sort_sign (drop (length tuple - i) tuple))) before in
+    let before = sym (before_sorted (get_or tuple (length tuple - 1 - i) 0) (drop (length tuple - i) tuple))
+    ∙ before_member (get_or tuple (length tuple - 1 - i) 0) (sorted (drop (length tuple - i) tuple)) h in
+    let here : sort_sign (drop (length tuple - (i + 1)) tuple) ≡ Zero = ap sort_sign (next_rest tuple i l)
+    ∙ ap (λ s. product s (sort_sign (drop (length tuple - i) tuple))) before in
     rw (zero_end (length tuple - (i + 1)) tuple here) refl
 
 -- the set and the sign with the next element
@@ -107,10 +115,17 @@ pub record IsNextElement (tuple : List ℕ) (i : ℕ) (set : List ℕ) (sign : S
   pub elements : set ≡ sorted (drop (length tuple - i) tuple)
   pub sign_is : sign ≡ sort_sign (drop (length tuple - i) tuple)
 
-pub next_element : (tuple : List ℕ) (i : ℕ) (set : List ℕ) (sign before : Sign) → i < length tuple → (IsMember (get_or tuple (length tuple - 1 - i) 0) set → ⊥) → set ≡ sorted (drop (length tuple - i) tuple) → sign ≡ sort_sign (drop (length tuple - i) tuple) → before ≡ before_sign (get_or tuple (length tuple - 1 - i) 0) set → IsNextElement tuple (i + 1) (with_element (get_or tuple (length tuple - 1 - i) 0) set) (product before sign)
+pub next_element : (tuple : List ℕ) (i : ℕ) (set : List ℕ) (sign before : Sign) → i < length tuple
+    → (IsMember (get_or tuple (length tuple - 1 - i) 0) set → ⊥) → set ≡ sorted (drop (length tuple - i) tuple)
+    → sign ≡ sort_sign (drop (length tuple - i) tuple)
+    → before ≡ before_sign (get_or tuple (length tuple - 1 - i) 0) set
+    → IsNextElement tuple (i + 1) (with_element (get_or tuple (length tuple - 1 - i) 0) set) (product before sign)
 next_element tuple i set sign before l n es ss eb = record {
-  elements = sym (insert_with (get_or tuple (length tuple - 1 - i) 0) set n) ∙ ap (insert (get_or tuple (length tuple - 1 - i) 0)) es ∙ ap sorted (sym (next_rest tuple i l));
-  sign_is = ap (λ s. product s sign) (eb ∙ ap (before_sign (get_or tuple (length tuple - 1 - i) 0)) es ∙ before_sorted (get_or tuple (length tuple - 1 - i) 0) (drop (length tuple - i) tuple))
+  elements = sym (insert_with (get_or tuple (length tuple - 1 - i) 0) set n)
+      ∙ ap (insert (get_or tuple (length tuple - 1 - i) 0)) es ∙ ap sorted (sym (next_rest tuple i l));
+  sign_is =
+      ap (λ s. product s sign) (eb ∙ ap (before_sign (get_or tuple (length tuple - 1 - i) 0)) es
+      ∙ before_sorted (get_or tuple (length tuple - 1 - i) 0) (drop (length tuple - i) tuple))
       ∙ ap (product (before_sign (get_or tuple (length tuple - 1 - i) 0) (drop (length tuple - i) tuple))) ss
       ∙ ap sort_sign (sym (next_rest tuple i l));
 }

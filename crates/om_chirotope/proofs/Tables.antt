@@ -4,7 +4,8 @@
 use Rattle.std.specs.Prelude.{ℕ, ◌≡◌, ◌+◌, ◌-◌, ◌<◌, ◌≤◌, List, [], length, take}
 use Rattle.std.proofs.Common.{sym, ◌∙◌, ap, arith, inl, inr, subst, get_or, set}
 use Rattle.std.proofs.lemmas.Bool.{cases_eq}
-use Rattle.std.proofs.lemmas.List.{ext_get_or, length-map, get_or-map, get_or-set_same, get_or-set_other, get_or-take, take_all}
+use Rattle.std.proofs.lemmas.List.{ext_get_or, length-map, get_or-map, get_or-set_same, get_or-set_other, get_or-take}
+use Rattle.std.proofs.lemmas.List.{take_all}
 use Rattle.om_signs.specs.declared.sign.Sign.{Sign}
 use Rattle.om_signs.specs.SignVec.{IsOrthogonal}
 use Rattle.om_subsets.specs.Subsets.{choose, all_subsets, subset_at, rank_of, IsSubsetFrom}
@@ -17,9 +18,11 @@ use Rattle.om_chirotope.specs.Chirotope.{IsPair, IsOrthogonalPair, HasOrthogonal
 use Rattle.om_chirotope.proofs.Places.{length-vector}
 
 pub length-table : (m : SignMap) → length (cocircuit_vectors m) ≡ choose m.elements (m.rank - 1)
-length-table m = length-map (all_subsets m.elements (m.rank - 1)) (cocircuit_vector m) ∙ length-subsets_from 1 m.elements (m.rank - 1)
+length-table m = length-map (all_subsets m.elements (m.rank - 1)) (cocircuit_vector m)
+    ∙ length-subsets_from 1 m.elements (m.rank - 1)
 
-pub table_at : (m : SignMap) (k : ℕ) → k < choose m.elements (m.rank - 1) → get_or (cocircuit_vectors m) k [] ≡ cocircuit_vector m (subset_at m.elements (m.rank - 1) k)
+pub table_at : (m : SignMap) (k : ℕ) → k < choose m.elements (m.rank - 1)
+    → get_or (cocircuit_vectors m) k [] ≡ cocircuit_vector m (subset_at m.elements (m.rank - 1) k)
 table_at m k l =
     let few : k < length (all_subsets m.elements (m.rank - 1)) = rw (length-subsets_from 1 m.elements (m.rank - 1)) l in
     get_or-map (cocircuit_vector m) (all_subsets m.elements (m.rank - 1)) k [] [] few
@@ -28,46 +31,65 @@ table_at m k l =
 abbrev pub IsFilledBelow : SignMap → List (List Sign) → ℕ → Type 0
 IsFilledBelow m table k = (j : ℕ) → j < k → get_or table j [] ≡ cocircuit_vector m (subset_at m.elements (m.rank - 1) j)
 
-pub table_more : (m : SignMap) (table : List (List Sign)) (k : ℕ) (u : List Sign) → k < length table → u ≡ cocircuit_vector m (subset_at m.elements (m.rank - 1) k) → IsFilledBelow m table k → IsFilledBelow m (set table k u) (k + 1)
+pub table_more : (m : SignMap) (table : List (List Sign)) (k : ℕ) (u : List Sign) → k < length table
+    → u ≡ cocircuit_vector m (subset_at m.elements (m.rank - 1) k) → IsFilledBelow m table k
+    → IsFilledBelow m (set table k u) (k + 1)
 table_more m table k u lt e h j l = elim (cases_eq j k) [
-  | inl q ↦ ap (λ i. get_or (set table k u) i []) q ∙ get_or-set_same table k u [] lt ∙ e ∙ ap (λ i. cocircuit_vector m (subset_at m.elements (m.rank - 1) i)) (sym q)
+  | inl q ↦ ap (λ i. get_or (set table k u) i []) q ∙ get_or-set_same table k u [] lt ∙ e
+      ∙ ap (λ i. cocircuit_vector m (subset_at m.elements (m.rank - 1) i)) (sym q)
   | inr n ↦ get_or-set_other table k j u [] n ∙ h j (omega arith)
 ]
 
-pub table_done : (m : SignMap) (table : List (List Sign)) → length table ≡ choose m.elements (m.rank - 1) → IsFilledBelow m table (choose m.elements (m.rank - 1)) → table ≡ cocircuit_vectors m
+pub table_done : (m : SignMap) (table : List (List Sign)) → length table ≡ choose m.elements (m.rank - 1)
+    → IsFilledBelow m table (choose m.elements (m.rank - 1)) → table ≡ cocircuit_vectors m
 table_done m table l h = ext_get_or [] table (cocircuit_vectors m) (l ∙ sym (length-table m)) (λ k lt.
     let few : k < choose m.elements (m.rank - 1) = omega arith in
     h k few ∙ sym (table_at m k few))
 
 -- ---- the pairs with one set S
 
-pub vector_of_place : (m : SignMap) (b : List ℕ) → IsSubsetFrom 1 m.elements b → length b + 1 ≡ m.rank → (rank_of m.elements b < choose m.elements (m.rank - 1)) × (get_or (cocircuit_vectors m) (rank_of m.elements b) [] ≡ cocircuit_vector m b)
+pub vector_of_place : (m : SignMap) (b : List ℕ) → IsSubsetFrom 1 m.elements b → length b + 1 ≡ m.rank
+    → (rank_of m.elements b < choose m.elements (m.rank - 1))
+    × (get_or (cocircuit_vectors m) (rank_of m.elements b) [] ≡ cocircuit_vector m b)
 vector_of_place m b h l =
     let size : length b ≡ m.rank - 1 = omega arith in
-    let few : rank_of m.elements b < choose m.elements (m.rank - 1) = subst (λ k. rank_of m.elements b < choose m.elements k) size (rank_from-lt 1 m.elements b h) in
-    let back : subset_at m.elements (m.rank - 1) (rank_of m.elements b) ≡ b = subst (λ k. subset_at m.elements k (rank_of m.elements b) ≡ b) size (get_or-rank_from 1 m.elements b h) in
+    let few : rank_of m.elements b < choose m.elements (m.rank - 1) =
+    subst (λ k. rank_of m.elements b < choose m.elements k) size (rank_from-lt 1 m.elements b h) in
+    let back : subset_at m.elements (m.rank - 1) (rank_of m.elements b) ≡ b =
+    subst (λ k. subset_at m.elements k (rank_of m.elements b) ≡ b) size (get_or-rank_from 1 m.elements b h) in
     (few, table_at m (rank_of m.elements b) few ∙ ap (cocircuit_vector m) back)
 
 -- a table of the first vectors has at a place the vector of its set
-pub vector_in_part : (m : SignMap) (b : List ℕ) (n k : ℕ) (table : List (List Sign)) → n ≡ m.elements → IsSubsetFrom 1 n b → length b + 1 ≡ m.rank → k ≡ rank_of n b → k < length table → table ≡ take (length table) (cocircuit_vectors m) → get_or table k [] ≡ cocircuit_vector m b
+pub vector_in_part : (m : SignMap) (b : List ℕ) (n k : ℕ) (table : List (List Sign)) → n ≡ m.elements
+    → IsSubsetFrom 1 n b → length b + 1 ≡ m.rank → k ≡ rank_of n b → k < length table
+    → table ≡ take (length table) (cocircuit_vectors m) → get_or table k [] ≡ cocircuit_vector m b
 vector_in_part m b n k table en hb lb kr lt e =
     let same : k ≡ rank_of m.elements b = kr ∙ ap (λ i. rank_of i b) en in
-    ap (λ t. get_or t k []) e ∙ get_or-take (length table) (cocircuit_vectors m) k [] lt ∙ ap (λ j. get_or (cocircuit_vectors m) j []) same
+    ap (λ t. get_or t k []) e ∙ get_or-take (length table) (cocircuit_vectors m) k [] lt
+    ∙ ap (λ j. get_or (cocircuit_vectors m) j []) same
     ∙ (vector_of_place m b (subst (λ i. IsSubsetFrom 1 i b) en hb) lb).1
 
 -- a whole table is one of the first vectors
-pub table_whole : (m : SignMap) (table : List (List Sign)) → table ≡ cocircuit_vectors m → table ≡ take (length table) (cocircuit_vectors m)
-table_whole m table e = let size = ap length e in e ∙ sym (take_all (length table) (cocircuit_vectors m) (omega (arith, size)))
+pub table_whole : (m : SignMap) (table : List (List Sign)) → table ≡ cocircuit_vectors m
+    → table ≡ take (length table) (cocircuit_vectors m)
+table_whole m table e = let size = ap length e in e
+    ∙ sym (take_all (length table) (cocircuit_vectors m) (omega (arith, size)))
 
 -- the vector is orthogonal to those of the first k sets
-pub table_held : (m : SignMap) (s b : List ℕ) (k : ℕ) → ((j : ℕ) → j < k → IsOrthogonal (circuit_vector m s) (get_or (cocircuit_vectors m) j [])) → IsSubsetFrom 1 m.elements b → length b + 1 ≡ m.rank → rank_of m.elements b < k → IsOrthogonalPair m s b
-table_held m s b k o h l lt = subst (IsOrthogonal (circuit_vector m s)) (vector_of_place m b h l).1 (o (rank_of m.elements b) lt)
+pub table_held : (m : SignMap) (s b : List ℕ) (k : ℕ)
+    → ((j : ℕ) → j < k → IsOrthogonal (circuit_vector m s) (get_or (cocircuit_vectors m) j []))
+    → IsSubsetFrom 1 m.elements b → length b + 1 ≡ m.rank → rank_of m.elements b < k → IsOrthogonalPair m s b
+table_held m s b k o h l lt =
+    subst (IsOrthogonal (circuit_vector m s)) (vector_of_place m b h l).1 (o (rank_of m.elements b) lt)
 
 -- every pair with one of the first k sets S is orthogonal
 abbrev pub AllBelow : SignMap → ℕ → Type 0
 AllBelow m k = (t b : List ℕ) → IsPair m t b → rank_of m.elements t < k → IsOrthogonalPair m t b
 
-pub all_more : (m : SignMap) (s : List ℕ) (k : ℕ) → IsSubsetFrom 1 m.elements s → length s ≡ m.rank + 1 → rank_of m.elements s ≡ k → ((j : ℕ) → j < length (cocircuit_vectors m) → IsOrthogonal (circuit_vector m s) (get_or (cocircuit_vectors m) j [])) → AllBelow m k → AllBelow m (k + 1)
+pub all_more : (m : SignMap) (s : List ℕ) (k : ℕ) → IsSubsetFrom 1 m.elements s → length s ≡ m.rank + 1
+    → rank_of m.elements s ≡ k
+    → ((j : ℕ) → j < length (cocircuit_vectors m)
+    → IsOrthogonal (circuit_vector m s) (get_or (cocircuit_vectors m) j [])) → AllBelow m k → AllBelow m (k + 1)
 all_more m s k hs ls rs o all t b p lt = elim (cases_eq (rank_of m.elements t) k) [
   | inl e ↦
       let q : t ≡ s = same_place m.elements t s p.s_list hs (p.s_size ∙ sym ls) (e ∙ sym rs) in
@@ -79,16 +101,23 @@ all_more m s k hs ls rs o all t b p lt = elim (cases_eq (rank_of m.elements t) k
 
 pub all_done : (m : SignMap) (k : ℕ) → choose m.elements (m.rank + 1) ≤ k → AllBelow m k → HasOrthogonalPairs m
 all_done m k le all s a p =
-    let few : rank_of m.elements s < choose m.elements (m.rank + 1) = subst (λ i. rank_of m.elements s < choose m.elements i) p.s_size (rank_from-lt 1 m.elements s p.s_list) in
+    let few : rank_of m.elements s < choose m.elements (m.rank + 1) =
+    subst (λ i. rank_of m.elements s < choose m.elements i) p.s_size (rank_from-lt 1 m.elements s p.s_list) in
     all s a p (omega arith)
 
 -- what the scan has found, from the vector of S and the table
-pub found : (m : SignMap) (s a : Chosen) (turn k : ℕ) (u : List Sign) (table : List (List Sign)) → s.n ≡ m.elements → a.n ≡ m.elements → IsPair m s.elements a.elements → rank_of m.elements s.elements ≡ turn → rank_of m.elements a.elements ≡ k → u ≡ circuit_vector m s.elements → table ≡ cocircuit_vectors m → (IsOrthogonal u (get_or table k []) → ⊥) → ((j : ℕ) → j < k → IsOrthogonal u (get_or table j [])) → AllBelow m turn → IsFirstViolated m s a
+pub found : (m : SignMap) (s a : Chosen) (turn k : ℕ) (u : List Sign) (table : List (List Sign)) → s.n ≡ m.elements
+    → a.n ≡ m.elements → IsPair m s.elements a.elements → rank_of m.elements s.elements ≡ turn
+    → rank_of m.elements a.elements ≡ k → u ≡ circuit_vector m s.elements → table ≡ cocircuit_vectors m
+    → (IsOrthogonal u (get_or table k []) → ⊥) → ((j : ℕ) → j < k → IsOrthogonal u (get_or table j []))
+    → AllBelow m turn → IsFirstViolated m s a
 found m s a turn k u table sn an p rs ra eu et v o all = record {
   s_n = sn;
   a_n = an;
   pair = p;
-  violated = λ h. v (subst (λ w. IsOrthogonal w (get_or table k [])) (sym eu) (subst (IsOrthogonal (circuit_vector m s.elements)) here h));
+  violated =
+      λ h. v (subst (λ w. IsOrthogonal w (get_or table k [])) (sym eu)
+      (subst (IsOrthogonal (circuit_vector m s.elements)) here h));
   earlier_s = λ t b q before.
       let lower = (lexicographic 1 m.elements t s.elements q.s_list p.s_list (q.s_size ∙ sym p.s_size)).0 before in
       all t b q (omega arith);
@@ -100,20 +129,28 @@ found m s a turn k u table sn an p rs ra eu et v o all = record {
 }
   where
     here : cocircuit_vector m a.elements ≡ get_or table k []
-    here = sym (vector_of_place m a.elements p.a_list p.a_size).1 ∙ ap (λ j. get_or (cocircuit_vectors m) j []) ra ∙ ap (λ t. get_or t k []) (sym et)
+    here = sym (vector_of_place m a.elements p.a_list p.a_size).1 ∙ ap (λ j. get_or (cocircuit_vectors m) j []) ra
+        ∙ ap (λ t. get_or t k []) (sym et)
 
     held : (j : ℕ) → j < k → IsOrthogonal (circuit_vector m s.elements) (get_or (cocircuit_vectors m) j [])
-    held j l = subst (λ w. IsOrthogonal w (get_or (cocircuit_vectors m) j [])) eu (subst (λ t. IsOrthogonal u (get_or t j [])) et (o j l))
+    held j l = subst (λ w. IsOrthogonal w (get_or (cocircuit_vectors m) j [])) eu
+        (subst (λ t. IsOrthogonal u (get_or t j [])) et (o j l))
 
-pub all_held : (m : SignMap) (s : List ℕ) (k : ℕ) (u : List Sign) (table : List (List Sign)) → IsSubsetFrom 1 m.elements s → length s ≡ m.rank + 1 → rank_of m.elements s ≡ k → u ≡ circuit_vector m s → table ≡ cocircuit_vectors m → ((j : ℕ) → j < length table → IsOrthogonal u (get_or table j [])) → AllBelow m k → AllBelow m (k + 1)
+pub all_held : (m : SignMap) (s : List ℕ) (k : ℕ) (u : List Sign) (table : List (List Sign))
+    → IsSubsetFrom 1 m.elements s → length s ≡ m.rank + 1 → rank_of m.elements s ≡ k → u ≡ circuit_vector m s
+    → table ≡ cocircuit_vectors m → ((j : ℕ) → j < length table → IsOrthogonal u (get_or table j [])) → AllBelow m k
+    → AllBelow m (k + 1)
 all_held m s k u table hs ls rs eu et o all = all_more m s k hs ls rs held all
   where
-    held : (j : ℕ) → j < length (cocircuit_vectors m) → IsOrthogonal (circuit_vector m s) (get_or (cocircuit_vectors m) j [])
+    held : (j : ℕ) → j < length (cocircuit_vectors m)
+        → IsOrthogonal (circuit_vector m s) (get_or (cocircuit_vectors m) j [])
     held j l =
         let e = ap length et in
-        subst (λ w. IsOrthogonal w (get_or (cocircuit_vectors m) j [])) eu (subst (λ t. IsOrthogonal u (get_or t j [])) et (o j (omega arith)))
+        subst (λ w. IsOrthogonal w (get_or (cocircuit_vectors m) j [])) eu
+        (subst (λ t. IsOrthogonal u (get_or t j [])) et (o j (omega arith)))
 
-pub table_lengths : (m : SignMap) (s : List ℕ) (u : List Sign) (table : List (List Sign)) → u ≡ circuit_vector m s → table ≡ cocircuit_vectors m → (k : ℕ) → k < length table → length u ≡ length (get_or table k [])
+pub table_lengths : (m : SignMap) (s : List ℕ) (u : List Sign) (table : List (List Sign)) → u ≡ circuit_vector m s
+    → table ≡ cocircuit_vectors m → (k : ℕ) → k < length table → length u ≡ length (get_or table k [])
 table_lengths m s u table eu et k l =
     let size = ap length et ∙ length-table m in
     let here = ap (λ t. get_or t k []) et ∙ table_at m k (omega arith) in
@@ -124,6 +161,7 @@ table_lengths m s u table eu et k l =
 
 pub no_pairs_above : (m : SignMap) → m.rank ≡ m.elements → HasOrthogonalPairs m
 no_pairs_above m e s a p =
-    let few : rank_of m.elements s < choose m.elements (m.rank + 1) = subst (λ i. rank_of m.elements s < choose m.elements i) p.s_size (rank_from-lt 1 m.elements s p.s_list) in
+    let few : rank_of m.elements s < choose m.elements (m.rank + 1) =
+    subst (λ i. rank_of m.elements s < choose m.elements i) p.s_size (rank_from-lt 1 m.elements s p.s_list) in
     let none : choose m.elements (m.rank + 1) ≡ 0 = choose_above m.elements (m.rank + 1) (omega arith) in
     absurd (omega arith)

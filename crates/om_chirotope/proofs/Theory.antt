@@ -49,17 +49,20 @@ relations m c s a low ts ta is ia =
     } in
     relation_from_lists m.elements (suc m.rank) (value_of m) s a ts is (c.orthogonal s a pair)
 
-pub theory_chirotope : (m : SignMap) → IsChirotope m → theory.IsChirotope (elements_to m.elements) (on_tuples m.elements m.rank (chi_of m))
+pub theory_chirotope : (m : SignMap) → IsChirotope m
+    → theory.IsChirotope (elements_to m.elements) (on_tuples m.elements m.rank (chi_of m))
 theory_chirotope m c = base c.nonzero
   where
     base : HasNonzeroValue m → theory.IsChirotope (elements_to m.elements) (on_tuples m.elements m.rank (chi_of m))
     base (xs, h, l, n) =
-        chirotope_from_increasing m.elements m.rank (chi_of m) (relations m c) xs (to_tuple m.elements m.rank xs h l) ((subset_is_increasing m.elements xs).0 h).0
+        chirotope_from_increasing m.elements m.rank (chi_of m) (relations m c) xs (to_tuple m.elements m.rank xs h l)
+        ((subset_is_increasing m.elements xs).0 h).0
         (λ z. n (value_in_order 1 m.elements (chi_of m) xs h ∙ z))
 
 -- ---- and back: a nonzero tuple gives a nonzero increasing list
 
-pub lawful_with : (low m e : ℕ) (ys : List ℕ) → IsSubsetFrom low m ys → low ≤ e → e < low + m → IsSubsetFrom low m (with_element e ys)
+pub lawful_with : (low m e : ℕ) (ys : List ℕ) → IsSubsetFrom low m ys → low ≤ e → e < low + m
+    → IsSubsetFrom low m (with_element e ys)
 lawful_with low zero e ys h a b = absurd (omega arith)
 lawful_with low (suc m) e [] h a b = elim (cases_eq e low) [
   | inl q ↦ inl (q, tt)
@@ -67,7 +70,8 @@ lawful_with low (suc m) e [] h a b = elim (cases_eq e low) [
 ]
 lawful_with low (suc m) e (x ∷ xs) (inl (q, h)) a b = elim (cases_eq e x) [
   | inl p ↦ rw (eq-eqb e x p) (inl (q, h))
-  | inr n ↦ let ge : x ≤ e = omega arith in rw (ne_eqb e x n, le-ltb e x ge) (inl (q, lawful_with (low + 1) m e xs h (omega arith) (omega arith)))
+  | inr n ↦ let ge : x ≤ e = omega arith in
+      rw (ne_eqb e x n, le-ltb e x ge) (inl (q, lawful_with (low + 1) m e xs h (omega arith) (omega arith)))
 ]
 lawful_with low (suc m) e (x ∷ xs) (inr (g, h)) a b = elim (cases_eq e low) [
   | inl p ↦
@@ -75,7 +79,8 @@ lawful_with low (suc m) e (x ∷ xs) (inr (g, h)) a b = elim (cases_eq e low) [
       let ne : e ≢ x = omega arith in
       let lt : e < x = omega arith in
       rw (ne_eqb e x ne, lt-ltb e x lt) (inl (p, h))
-  | inr n ↦ later_list low m (with_element e (x ∷ xs)) (lawful_with (low + 1) m e (x ∷ xs) h (omega arith) (omega arith))
+  | inr n ↦
+      later_list low m (with_element e (x ∷ xs)) (lawful_with (low + 1) m e (x ∷ xs) h (omega arith) (omega arith))
 ]
 
 -- the sorted list of a tuple without repeats
@@ -93,7 +98,8 @@ sorted_tuple n [] h s = record { lawful = tt; size = refl }
 sorted_tuple n (x ∷ xs) h s =
     let parts = factors (before_sign x xs) (sort_sign xs) s in
     let rest = sorted_tuple n xs h.1 parts.1 in
-    let fresh : IsMember x (sorted xs) → ⊥ = (λ q. parts.0 (sym (before_sorted x xs) ∙ before_member x (sorted xs) q)) in
+    let fresh : IsMember x (sorted xs) → ⊥ = (λ q. parts.0 (sym (before_sorted x xs) ∙ before_member x (sorted xs) q))
+    in
     let low = h.0.0 in
     let high = h.0.1 in
     let size = rest.size in
@@ -102,7 +108,8 @@ sorted_tuple n (x ∷ xs) h s =
       size = length-with x (sorted xs) fresh ∙ omega arith;
     })
 
-some_value : (m : SignMap) → theory.IsChirotope (elements_to m.elements) (on_tuples m.elements m.rank (chi_of m)) → HasNonzeroValue m
+some_value : (m : SignMap) → theory.IsChirotope (elements_to m.elements) (on_tuples m.elements m.rank (chi_of m))
+    → HasNonzeroValue m
 some_value m c = go c.base
   where
     go : (t : List ℕ) × (on_tuples m.elements m.rank (chi_of m) t ≢ Zero) → HasNonzeroValue m
@@ -117,7 +124,8 @@ some_value m c = go c.base
           λ z. parts.1 (sym (value_in_order 1 m.elements (chi_of m) (sorted t) s.lawful) ∙ z),
         )
 
-pub orthogonal_of_relations : (m : SignMap) → HasRelations (on_tuples m.elements m.rank (chi_of m)) → HasOrthogonalPairs m
+pub orthogonal_of_relations : (m : SignMap) → HasRelations (on_tuples m.elements m.rank (chi_of m))
+    → HasOrthogonalPairs m
 orthogonal_of_relations m rel s a p =
     let ps = p.s_size in
     let pa = p.a_size in
@@ -130,5 +138,6 @@ orthogonal_of_relations m rel s a p =
     relation_to_lists m.elements (suc m.rank) (value_of m) s a ts is
     (relations_of_increasing_tuples m.elements m.rank (chi_of m) rel s a (omega arith) ts ta is ia)
 
-pub map_chirotope : (m : SignMap) → IsMap m → theory.IsChirotope (elements_to m.elements) (on_tuples m.elements m.rank (chi_of m)) → IsChirotope m
+pub map_chirotope : (m : SignMap) → IsMap m
+    → theory.IsChirotope (elements_to m.elements) (on_tuples m.elements m.rank (chi_of m)) → IsChirotope m
 map_chirotope m w c = record { whole = w; nonzero = some_value m c; orthogonal = orthogonal_of_relations m c.relations }

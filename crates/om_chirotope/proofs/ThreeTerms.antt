@@ -1,7 +1,7 @@
 -- The three-term test holds exactly where the axioms do.
 --
--- Main results: relations_of_test, the relations of all lists from exchange and the three-term relations; chirotope_of_test and back,
--- test_of_chirotope; test_of_orthogonal, of a map that may be zero.
+-- Main results: relations_of_test, the relations of all lists from exchange and the three-term relations;
+-- chirotope_of_test and back, test_of_chirotope; test_of_orthogonal, of a map that may be zero.
 use Rattle.std.specs.Prelude.{ℕ, ◌≡◌, ◌≢◌, ◌+◌, ◌-◌, ◌<◌, ◌⊎◌, List, [], ◌∷◌, ◌++◌, length, refl}
 use Rattle.std.proofs.Common.{suc, sym, ap, subst, ◌∙◌, arith, inl, inr}
 use Rattle.std.proofs.lemmas.Bool.{cases_lt}
@@ -26,7 +26,8 @@ use Rattle.om_laws.proofs.SignLaws.{product_zero_left, product_zero_right, zero_
 use Rattle.om_laws.proofs.ThreeTermLaws.{three_term_relations}
 use Rattle.om_laws.proofs.ThreeTermOrders.{three_terms_in_order}
 use Rattle.om_laws.proofs.ThreeTermSigns.{three_terms_of_relations}
-use Rattle.om_laws.proofs.TupleSizes.{each_from, each_member, is_tuple_cases, on_tuples_alternating, on_tuples_at, on_tuples_tuple, tuple_last, tuple_rank, tuple_with}
+use Rattle.om_laws.proofs.TupleSizes.{each_from, each_member, is_tuple_cases, on_tuples_alternating, on_tuples_at}
+use Rattle.om_laws.proofs.TupleSizes.{on_tuples_tuple, tuple_last, tuple_rank, tuple_with}
 use Rattle.om_chirotope.specs.Map.{SignMap, IsMap, chi_of, value_of}
 use Rattle.om_chirotope.specs.Chirotope.{HasNonzeroValue, HasOrthogonalPairs, IsAllZero, IsChirotope}
 use Rattle.om_chirotope.specs.Pictures.{HasRelationsAt}
@@ -37,7 +38,8 @@ use Rattle.om_chirotope.proofs.Theory.{from_tuple, map_chirotope, theory_chiroto
 
 pub balanced_same : (x y z x' y' z' : Sign) → x' ≡ x → y' ≡ y → z' ≡ z → AreBalanced x y z → AreBalanced x' y' z'
 balanced_same x y z x' y' z' p q r h =
-    subst (λ s. AreBalanced s y' z') (sym p) (subst (λ s. AreBalanced x s z') (sym q) (subst (λ s. AreBalanced x y s) (sym r) h))
+    subst (λ s. AreBalanced s y' z') (sym p)
+    (subst (λ s. AreBalanced x s z') (sym q) (subst (λ s. AreBalanced x y s) (sym r) h))
 
 pub balanced_zeros : (x y z : Sign) → x ≡ Zero → y ≡ Zero → z ≡ Zero → AreBalanced x y z
 balanced_zeros x y z p q r = balanced_same Zero Zero Zero x y z p q r tt
@@ -78,11 +80,13 @@ module _ (m : SignMap) where
 
   -- ---- exchange
 
-  with_element : (a : List ℕ) (f : ℕ) → IsSubsetFrom 1 n a → length a + 1 ≡ r → IsElement n f → IsTuple n r (a ++ f ∷ [])
+  with_element : (a : List ℕ) (f : ℕ) → IsSubsetFrom 1 n a → length a + 1 ≡ r → IsElement n f
+      → IsTuple n r (a ++ f ∷ [])
   with_element a f h l i =
       let t = to_tuple n (length a) a h refl in
       let q : suc (length a) ≡ r = omega (arith, l) in
-      subst (λ k. IsTuple n k (a ++ f ∷ [])) q (tuple_with n (length a) a [] f (subst (IsTuple n (length a)) (sym (append_nil a)) t) i)
+      subst (λ k. IsTuple n k (a ++ f ∷ [])) q
+      (tuple_with n (length a) a [] f (subst (IsTuple n (length a)) (sym (append_nil a)) t) i)
     where
       append_nil : (xs : List ℕ) → xs ++ [] ≡ xs
       append_nil [] = refl
@@ -99,8 +103,11 @@ module _ (m : SignMap) where
       let sized : length a + 1 ≡ r = omega (arith, size, rank) in
       let k = ex a c e
       (record { list = list; size = sized; low = last.1.0; high = last.1.1; nonzero = nonzero_value (a ++ e ∷ []) na })
-      (record { list = from_tuple n r c tc ic; size = tc.size; nonzero = nonzero_value c nc }) in
-      (k.0, k.1, base_from (a ++ k.0 ∷ []) (with_element a k.0 list sized (each_member (IsElement n) c tc.within k.0 k.1)) k.2)
+      (record { list = from_tuple n r c tc ic; size = tc.size; nonzero = nonzero_value c nc }) in (
+        k.0,
+        k.1,
+        base_from (a ++ k.0 ∷ []) (with_element a k.0 list sized (each_member (IsElement n) c tc.within k.0 k.1)) k.2,
+      )
 
   map_exchange : HasIncreasingExchange chi → HasListExchange m
   map_exchange ex a c e h b =
@@ -111,7 +118,8 @@ module _ (m : SignMap) where
 
   -- ---- the three-term relations
 
-  pair_tuple : (p : List ℕ) (x y : ℕ) → length p + 2 ≡ r → ((e : ℕ) → IsMember e p → IsElement n e) → IsElement n x → IsElement n y → IsTuple n r (p ++ x ∷ y ∷ [])
+  pair_tuple : (p : List ℕ) (x y : ℕ) → length p + 2 ≡ r → ((e : ℕ) → IsMember e p → IsElement n e) → IsElement n x
+      → IsElement n y → IsTuple n r (p ++ x ∷ y ∷ [])
   pair_tuple p x y l w i j = record {
     size = (let q = length-append p (x ∷ y ∷ []) in let t : length (x ∷ y ∷ []) ≡ 2 = refl in omega (arith, l, q, t));
     within = each_from (IsElement n) (p ++ x ∷ y ∷ []) (λ e k. each e (member_append e p (x ∷ y ∷ []) k));
@@ -123,9 +131,11 @@ module _ (m : SignMap) where
       each e (inr (inr (inl q))) = subst (IsElement n) (sym q) j
       each e (inr (inr (inr k))) = absurd k
 
-  four_from : (p : List ℕ) (a b c d : ℕ) → IsTuple n r (p ++ a ∷ b ∷ []) → IsTuple n r (p ++ c ∷ d ∷ []) → AreFour n r p a b c d
+  four_from : (p : List ℕ) (a b c d : ℕ) → IsTuple n r (p ++ a ∷ b ∷ []) → IsTuple n r (p ++ c ∷ d ∷ [])
+      → AreFour n r p a b c d
   four_from p a b c d s t = record {
-    size = (let k = s.size in let q = length-append p (a ∷ b ∷ []) in let l : length (a ∷ b ∷ []) ≡ 2 = refl in omega (arith, k, q, l));
+    size = (let k = s.size in let q = length-append p (a ∷ b ∷ []) in let l : length (a ∷ b ∷ []) ≡ 2 = refl in
+        omega (arith, k, q, l));
     within = λ e k. each_member (IsElement n) (p ++ a ∷ b ∷ []) s.within e (member_left e p (a ∷ b ∷ []) k);
     first = each_member (IsElement n) (p ++ a ∷ b ∷ []) s.within a (member_right a p (a ∷ b ∷ []) (inl refl));
     second = each_member (IsElement n) (p ++ a ∷ b ∷ []) s.within b (member_right b p (a ∷ b ∷ []) (inr (inl refl)));
@@ -143,7 +153,8 @@ module _ (m : SignMap) where
     ]
   ]
 
-  same_product : (xs ys : List ℕ) → IsTuple n r xs → IsTuple n r ys → product (chi xs) (chi ys) ≡ product (value_of m xs) (value_of m ys)
+  same_product : (xs ys : List ℕ) → IsTuple n r xs → IsTuple n r ys
+      → product (chi xs) (chi ys) ≡ product (value_of m xs) (value_of m ys)
   same_product xs ys s t = ap (λ k. product k (chi ys)) (at_tuple xs s) ∙ ap (product (value_of m xs)) (at_tuple ys t)
 
   four_or_not : (p : List ℕ) (a b c d : ℕ) → AreFour n r p a b c d ⊎ (AreFour n r p a b c d → ⊥)
@@ -159,10 +170,27 @@ module _ (m : SignMap) where
   theory_three_terms rel p a b c d ip ia na nb nc nd = go (four_or_not p a b c d)
     where
       turn : AreFour n r p a c b d → AreFour n r p a b c d
-      turn h = record { size = h.size; within = h.within; first = h.first; second = h.third; third = h.second; fourth = h.fourth }
+      turn h = record {
+        size = h.size;
+        within = h.within;
+        first = h.first;
+        second = h.third;
+        third = h.second;
+        fourth =
+            h.fourth;
+      }
 
       turn_last : AreFour n r p a d b c → AreFour n r p a b c d
-      turn_last h = record { size = h.size; within = h.within; first = h.first; second = h.third; third = h.fourth; fourth = h.second }
+      turn_last h =
+          record {
+            size = h.size;
+            within = h.within;
+            first = h.first;
+            second = h.third;
+            third = h.fourth;
+            fourth =
+                h.second;
+          }
 
       listed : AreFour n r p a b c d → (e : ℕ) → IsMember e (a ∷ b ∷ c ∷ d ∷ []) → IsElement n e
       listed h e (inl q) = subst (IsElement n) (sym q) h.first
@@ -171,9 +199,13 @@ module _ (m : SignMap) where
       listed h e (inr (inr (inr (inl q)))) = subst (IsElement n) (sym q) h.fourth
       listed h e (inr (inr (inr (inr k)))) = absurd k
 
-      go : AreFour n r p a b c d ⊎ (AreFour n r p a b c d → ⊥) → AreBalanced (product (chi (p ++ a ∷ b ∷ [])) (chi (p ++ c ∷ d ∷ []))) (opposite (product (chi (p ++ a ∷ c ∷ [])) (chi (p ++ b ∷ d ∷ [])))) (product (chi (p ++ a ∷ d ∷ [])) (chi (p ++ b ∷ c ∷ [])))
+      go : AreFour n r p a b c d ⊎ (AreFour n r p a b c d → ⊥)
+          → AreBalanced (product (chi (p ++ a ∷ b ∷ [])) (chi (p ++ c ∷ d ∷ [])))
+          (opposite (product (chi (p ++ a ∷ c ∷ [])) (chi (p ++ b ∷ d ∷ []))))
+          (product (chi (p ++ a ∷ d ∷ [])) (chi (p ++ b ∷ c ∷ [])))
       go (inl h) =
-          let t : (x y : ℕ) → IsElement n x → IsElement n y → IsTuple n r (p ++ x ∷ y ∷ []) = λ x y i j. pair_tuple p x y h.size h.within i j in
+          let t : (x y : ℕ) → IsElement n x → IsElement n y → IsTuple n r (p ++ x ∷ y ∷ []) =
+          λ x y i j. pair_tuple p x y h.size h.within i j in
           balanced_same _ _ _ _ _ _
           (same_product _ _ (t a b h.first h.second) (t c d h.third h.fourth))
           (ap opposite (same_product _ _ (t a c h.first h.third) (t b d h.second h.fourth)))
@@ -200,7 +232,8 @@ module _ (m : SignMap) where
   relations_at rel p list size x y z ix iy iz = record {
     each = λ w wl wh.
         let wp = ((subset_is_increasing n p).0 list).1 in
-        let t : (a b : ℕ) → IsElement n a → IsElement n b → IsTuple n r (p ++ a ∷ b ∷ []) = λ a b i j. pair_tuple p a b size wp i j in
+        let t : (a b : ℕ) → IsElement n a → IsElement n b → IsTuple n r (p ++ a ∷ b ∷ []) =
+        λ a b i j. pair_tuple p a b size wp i j in
         let iw : IsElement n w = (wl, wh) in
         balanced_same _ _ _ _ _ _
         (sym (same_product _ _ (t x y ix iy) (t z w iz iw)))
@@ -209,7 +242,10 @@ module _ (m : SignMap) where
         (three_terms_in_order chi (on_tuples_alternating n r (chi_of m)) (theory_three_terms rel) p x y z w);
   }
 
-  map_three_terms : ((p : List ℕ) (a b c d : ℕ) → AreBalanced (product (chi (p ++ a ∷ b ∷ [])) (chi (p ++ c ∷ d ∷ []))) (opposite (product (chi (p ++ a ∷ c ∷ [])) (chi (p ++ b ∷ d ∷ [])))) (product (chi (p ++ a ∷ d ∷ [])) (chi (p ++ b ∷ c ∷ [])))) → HasThreeTermRelations m
+  map_three_terms : ((p : List ℕ) (a b c d : ℕ)
+      → AreBalanced (product (chi (p ++ a ∷ b ∷ [])) (chi (p ++ c ∷ d ∷ [])))
+      (opposite (product (chi (p ++ a ∷ c ∷ [])) (chi (p ++ b ∷ d ∷ []))))
+      (product (chi (p ++ a ∷ d ∷ [])) (chi (p ++ b ∷ c ∷ [])))) → HasThreeTermRelations m
   map_three_terms rel p a b c d h =
       let wp = ((subset_is_increasing n p).0 h.list).1 in
       let w = ((subset_is_increasing n (a ∷ b ∷ c ∷ d ∷ [])).0 h.four).1 in
@@ -217,7 +253,8 @@ module _ (m : SignMap) where
       let ib = w b (inr (inl refl)) in
       let ic = w c (inr (inr (inl refl))) in
       let id = w d (inr (inr (inr (inl refl)))) in
-      let t : (x y : ℕ) → IsElement n x → IsElement n y → IsTuple n r (p ++ x ∷ y ∷ []) = λ x y i j. pair_tuple p x y h.size wp i j in
+      let t : (x y : ℕ) → IsElement n x → IsElement n y → IsTuple n r (p ++ x ∷ y ∷ []) =
+      λ x y i j. pair_tuple p x y h.size wp i j in
       balanced_same _ _ _ _ _ _
       (sym (same_product _ _ (t a b ia ib) (t c d ic id)))
       (ap opposite (sym (same_product _ _ (t a c ia ic) (t b d ib id))))
@@ -229,7 +266,8 @@ module _ (m : SignMap) where
   pub relations_of_test : HasListExchange m → HasThreeTermRelations m → HasRelations chi
   relations_of_test ex rel =
       let alt = on_tuples_alternating n r (chi_of m) in
-      three_term_relations chi alt (exchange_in_order chi alt (theory_exchange ex)) (three_terms_in_order chi alt (theory_three_terms rel))
+      three_term_relations chi alt (exchange_in_order chi alt (theory_exchange ex))
+      (three_terms_in_order chi alt (theory_three_terms rel))
 
   pub chirotope_of_test : MeetsThreeTermTest m → IsChirotope m
   chirotope_of_test t = go t.nonzero
@@ -250,17 +288,20 @@ module _ (m : SignMap) where
       record {
         whole = c.whole;
         nonzero = c.nonzero;
-        exchange = exchange_from_lists m (map_exchange (exchange_of_increasing chi t.alternating (exchange (elements_to n) chi t)));
+        exchange =
+            exchange_from_lists m
+            (map_exchange (exchange_of_increasing chi t.alternating (exchange (elements_to n) chi t)));
         relations = map_three_terms (three_terms_of_relations chi t.alternating t.relations);
       }
 
   -- ---- the same of a map that may be zero
 
   zero_value : IsAllZero m.signs → (xs : List ℕ) → value_of m xs ≡ Zero
-  zero_value z xs = product_zero_right (sort_sign xs) (chi_of m (sorted xs)) (elim (cases_lt (rank_of n (sorted xs)) (length m.signs)) [
-    | inl l ↦ z (rank_of n (sorted xs)) Zero l
-    | inr g ↦ get_or_past m.signs (rank_of n (sorted xs)) Zero g
-  ])
+  zero_value z xs = product_zero_right (sort_sign xs) (chi_of m (sorted xs))
+      (elim (cases_lt (rank_of n (sorted xs)) (length m.signs)) [
+        | inl l ↦ z (rank_of n (sorted xs)) Zero l
+        | inr g ↦ get_or_past m.signs (rank_of n (sorted xs)) Zero g
+      ])
 
   relations_of_zeros : IsAllZero m.signs → HasThreeTermRelations m
   relations_of_zeros z p a b c d f = balanced_zeros _ _ _ (left a b c d) (opposite_zero _ (left a c b d)) (left a d b c)

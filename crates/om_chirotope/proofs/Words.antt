@@ -1,7 +1,9 @@
 -- Marks of sets as bits of words, and how they are spread from each set to the set with one element more.
 --
--- Main results: add_bit_same, add_bit_other and take_bit, a number with one bit more or less; word_spread, in a word; spread_within and spread_over, in words; mark_more and mark_others
-use Rattle.std.specs.Prelude.{ℕ, ◌≡◌, ◌≢◌, ◌+◌, ◌-◌, ◌*◌, ◌/◌, ◌%◌, ◌<◌, ◌≤◌, ◌^◌, ◌⊎◌, List, length, refl, Bool, true, false, bit_and, bit_or, nat_eq, nat_lt, ◌&&◌}
+-- Main results: add_bit_same, add_bit_other and take_bit, a number with one bit more or less; word_spread, in a word;
+-- spread_within and spread_over, in words; mark_more and mark_others
+use Rattle.std.specs.Prelude.{ℕ, ◌≡◌, ◌≢◌, ◌+◌, ◌-◌, ◌*◌, ◌/◌, ◌%◌, ◌<◌, ◌≤◌, ◌^◌, ◌⊎◌, List, length, refl, Bool, true}
+use Rattle.std.specs.Prelude.{false, bit_and, bit_or, nat_eq, nat_lt, ◌&&◌}
 use Rattle.std.specs.Int.{bit_at}
 use Rattle.std.proofs.Common.{sym, ◌∙◌, ap, arith, inl, inr, subst, get_or, set, min, zero, suc, pow-suc, w64}
 use Rattle.std.proofs.lemmas.Bool.{cases_eq, cases_lt, eqb-true, ltb-true}
@@ -9,14 +11,16 @@ use Rattle.std.proofs.lemmas.List.{get_or-set_same, get_or-set_other, get_or_pas
 use Rattle.std.proofs.lemmas.Nat.{mod_below, shr-shr}
 use Rattle.std.proofs.Math.Nat.{mod-add-div'}
 use Rattle.std.proofs.Math.Pow.{pow_pos}
-use Rattle.std.proofs.lemmas.Nat.Bits.{bit_at-lt, bit_at_above, bit_at-zero, bit_at_or, bit_at_and, bit_at_cat_low, bit_at_cat_high, bit_at_set_same, bit_at_set_other}
+use Rattle.std.proofs.lemmas.Nat.Bits.{bit_at-lt, bit_at_above, bit_at-zero, bit_at_or, bit_at_and, bit_at_cat_low}
+use Rattle.std.proofs.lemmas.Nat.Bits.{bit_at_cat_high, bit_at_set_same, bit_at_set_other}
 use Rattle.om_chirotope.specs.declared.marking.TheConstants.{LOW}
 use Rattle.om_chirotope.specs.Marks.{mark_at, IsMarked, IsSpreadFrom, IsSpread, IsWordSpread}
 
 -- ---- a number with one bit more
 
 pub one_or_zero : (mask i : ℕ) → (bit_at mask i ≡ 1) ⊎ (bit_at mask i ≡ 0)
-one_or_zero mask i = elim (cases_eq (bit_at mask i) 1) [ inl q ↦ inl q | inr n ↦ let l = bit_at-lt mask i in inr (omega arith) ]
+one_or_zero mask i =
+    elim (cases_eq (bit_at mask i) 1) [ inl q ↦ inl q | inr n ↦ let l = bit_at-lt mask i in inr (omega arith) ]
 
 zero_one : (b : ℕ) → b ≡ 0 → b ≡ 1 → ⊥
 zero_one b p q = omega arith
@@ -44,12 +48,15 @@ record IsSplit (t e : ℕ) : Type 0 where
 
 split : (t e : ℕ) → bit_at t e ≡ 0 → IsSplit t e
 split t e z =
-    let w : t / 2 ^ (e + 1) * 2 ^ (e + 1) + t % 2 ^ (e + 1) ≡ t = let e' = mod-add-div' t (2 ^ (e + 1)) in omega arith in
+    let w : t / 2 ^ (e + 1) * 2 ^ (e + 1) + t % 2 ^ (e + 1) ≡ t = let e' = mod-add-div' t (2 ^ (e + 1)) in
+    omega arith in
     record {
       a = t / 2 ^ (e + 1);
       b = t % 2 ^ (e + 1);
       whole = w;
-      small = low_part (t % 2 ^ (e + 1)) e (mod_below t (2 ^ (e + 1)) (pow_pos (e + 1))) (sym (bit_at_cat_low (t / 2 ^ (e + 1)) (e + 1) (t % 2 ^ (e + 1)) e (omega arith)) ∙ ap (λ k. bit_at k e) w ∙ z);
+      small = low_part (t % 2 ^ (e + 1)) e (mod_below t (2 ^ (e + 1)) (pow_pos (e + 1)))
+          (sym (bit_at_cat_low (t / 2 ^ (e + 1)) (e + 1) (t % 2 ^ (e + 1)) e (omega arith)) ∙ ap (λ k. bit_at k e) w
+          ∙ z);
     }
 
 added : (t e : ℕ) (s : IsSplit t e) → s.a * 2 ^ (e + 1) + (1 * 2 ^ e + s.b) ≡ t + 2 ^ e
@@ -59,16 +66,19 @@ pub add_bit_same : (t e : ℕ) → bit_at t e ≡ 0 → bit_at (t + 2 ^ e) e ≡
 add_bit_same t e z =
     let s = split t e z in
     let none : e - e ≡ 0 = omega arith in
-    ap (λ k. bit_at k e) (sym (added t e s)) ∙ bit_at_cat_low s.a (e + 1) (1 * 2 ^ e + s.b) e (omega arith) ∙ bit_at_cat_high 1 e s.b e s.small (omega arith) ∙ ap (bit_at 1) none
+    ap (λ k. bit_at k e) (sym (added t e s)) ∙ bit_at_cat_low s.a (e + 1) (1 * 2 ^ e + s.b) e (omega arith)
+    ∙ bit_at_cat_high 1 e s.b e s.small (omega arith) ∙ ap (bit_at 1) none
 
 pub add_bit_other : (t e j : ℕ) → bit_at t e ≡ 0 → j ≢ e → bit_at (t + 2 ^ e) j ≡ bit_at t j
 add_bit_other t e j z n = ap (λ k. bit_at k j) (sym (added t e s)) ∙ elim (cases_lt j e) [
-  | inl l ↦ bit_at_cat_low s.a (e + 1) (1 * 2 ^ e + s.b) j (omega arith) ∙ bit_at_cat_low 1 e s.b j l ∙ sym (bit_at_cat_low s.a (e + 1) s.b j (omega arith)) ∙ ap (λ k. bit_at k j) s.whole
+  | inl l ↦ bit_at_cat_low s.a (e + 1) (1 * 2 ^ e + s.b) j (omega arith) ∙ bit_at_cat_low 1 e s.b j l
+      ∙ sym (bit_at_cat_low s.a (e + 1) s.b j (omega arith)) ∙ ap (λ k. bit_at k j) s.whole
   | inr g ↦
       let d = double e in
       let small = s.small in
       let up : e + 1 ≤ j = omega (arith, g, n) in
-      bit_at_cat_high s.a (e + 1) (1 * 2 ^ e + s.b) j (omega arith) up ∙ sym (bit_at_cat_high s.a (e + 1) s.b j (omega arith) up) ∙ ap (λ k. bit_at k j) s.whole
+      bit_at_cat_high s.a (e + 1) (1 * 2 ^ e + s.b) j (omega arith) up
+      ∙ sym (bit_at_cat_high s.a (e + 1) s.b j (omega arith) up) ∙ ap (λ k. bit_at k j) s.whole
 ]
   where
     s : IsSplit t e
@@ -88,11 +98,13 @@ take_bit s e one = (above, low)
     whole = let e' = mod-add-div' s (2 ^ (e + 1)) in omega arith
 
     one_low : bit_at (s % 2 ^ (e + 1)) e ≡ 1
-    one_low = sym (bit_at_cat_low (s / 2 ^ (e + 1)) (e + 1) (s % 2 ^ (e + 1)) e (omega arith)) ∙ ap (λ k. bit_at k e) whole ∙ one
+    one_low = sym (bit_at_cat_low (s / 2 ^ (e + 1)) (e + 1) (s % 2 ^ (e + 1)) e (omega arith))
+        ∙ ap (λ k. bit_at k e) whole ∙ one
 
     high : 2 ^ e ≤ s % 2 ^ (e + 1)
     high = elim (cases_lt (s % 2 ^ (e + 1)) (2 ^ e)) [
-      | inl l ↦ absurd (zero_one (bit_at (s % 2 ^ (e + 1)) e) (bit_at_above (s % 2 ^ (e + 1)) e e l (omega arith)) one_low)
+      | inl l ↦
+          absurd (zero_one (bit_at (s % 2 ^ (e + 1)) e) (bit_at_above (s % 2 ^ (e + 1)) e e l (omega arith)) one_low)
       | inr g ↦ g
     ]
 
@@ -106,7 +118,9 @@ take_bit s e one = (above, low)
         let d = double e in
         let m = mod_below s (2 ^ (e + 1)) (pow_pos (e + 1)) in
         let parts : s / 2 ^ (e + 1) * 2 ^ (e + 1) + (s % 2 ^ (e + 1) - 2 ^ e) ≡ s - 2 ^ e = omega arith in
-        ap (λ k. bit_at k e) (sym parts) ∙ bit_at_cat_low (s / 2 ^ (e + 1)) (e + 1) (s % 2 ^ (e + 1) - 2 ^ e) e (omega arith) ∙ bit_at_above (s % 2 ^ (e + 1) - 2 ^ e) e e (omega arith) (omega arith)
+        ap (λ k. bit_at k e) (sym parts)
+        ∙ bit_at_cat_low (s / 2 ^ (e + 1)) (e + 1) (s % 2 ^ (e + 1) - 2 ^ e) e (omega arith)
+        ∙ bit_at_above (s % 2 ^ (e + 1) - 2 ^ e) e e (omega arith) (omega arith)
 
 -- ---- within a word
 
@@ -144,7 +158,8 @@ below_at (suc n) f h k l = elim (cases_eq k n) [
     both_right true b h = h
     both_right false b h = cc
 
--- at each place of a word, the mask of e has the bit that the place hasn't; where it has one, the place with bit e is in the word too
+-- at each place of a word, the mask of e has the bit that the place hasn't; where it has one, the place with bit e is
+-- in the word too
 abbrev fits_at : ℕ → ℕ → Bool
 fits_at e p = nat_eq (bit_at (get_or LOW e 0) p + bit_at p e) 1 && nat_lt (p + 2 ^ e * (1 - bit_at p e)) 64
 
@@ -156,7 +171,9 @@ fits e p le lp = below_at 64 (fits_at e) (below_at 6 (λ e. below_all 64 (fits_a
 
 -- the mask of e has a bit at the places without bit e
 mask_bit : (e p : ℕ) → e < 6 → p < 64 → bit_at (get_or LOW e 0) p + bit_at p e ≡ 1
-mask_bit e p le lp = eqb-true (bit_at (get_or LOW e 0) p + bit_at p e) 1 (left_true (nat_eq (bit_at (get_or LOW e 0) p + bit_at p e) 1) (nat_lt (p + 2 ^ e * (1 - bit_at p e)) 64) (fits e p le lp))
+mask_bit e p le lp = eqb-true (bit_at (get_or LOW e 0) p + bit_at p e) 1
+    (left_true (nat_eq (bit_at (get_or LOW e 0) p + bit_at p e) 1) (nat_lt (p + 2 ^ e * (1 - bit_at p e)) 64)
+    (fits e p le lp))
   where
     left_true : (a b : Bool) → (a && b) ≡ true → a ≡ true
     left_true true b h = refl
@@ -164,7 +181,9 @@ mask_bit e p le lp = eqb-true (bit_at (get_or LOW e 0) p + bit_at p e) 1 (left_t
 
 pub stays_within : (e p : ℕ) → e < 6 → p < 64 → bit_at p e ≡ 0 → p + 2 ^ e < 64
 stays_within e p le lp z =
-    let h = ltb-true (p + 2 ^ e * (1 - bit_at p e)) 64 (right_true (nat_eq (bit_at (get_or LOW e 0) p + bit_at p e) 1) (nat_lt (p + 2 ^ e * (1 - bit_at p e)) 64) (fits e p le lp)) in
+    let h = ltb-true (p + 2 ^ e * (1 - bit_at p e)) 64
+    (right_true (nat_eq (bit_at (get_or LOW e 0) p + bit_at p e) 1) (nat_lt (p + 2 ^ e * (1 - bit_at p e)) 64)
+    (fits e p le lp)) in
     let one : 1 - bit_at p e ≡ 1 = omega arith in
     let same : 2 ^ e * (1 - bit_at p e) ≡ 2 ^ e = ap (λ k. 2 ^ e * k) one ∙ omega arith in
     omega arith
@@ -190,27 +209,33 @@ word_spread w e le = record { keeps = keeps; adds = adds; only = only }
         let back : p + 2 ^ e - 2 ^ e ≡ p = omega arith in
         let both = bit_at_and w (get_or LOW e 0) p in
         let mask = mask_bit e p le lp in
-        let on : bit_at (moved w e) (p + 2 ^ e) ≡ 1 = up ∙ ap (bit_at (bit_and w (get_or LOW e 0))) back ∙ omega (arith, both, mask, z, h) in
+        let on : bit_at (moved w e) (p + 2 ^ e) ≡ 1 = up ∙ ap (bit_at (bit_and w (get_or LOW e 0))) back
+        ∙ omega (arith, both, mask, z, h) in
         let o = bit_at_or w (moved w e) (p + 2 ^ e) in
         let l = bit_at-lt w (p + 2 ^ e) in
         omega (arith, o, on, l)
 
-    only : (p : ℕ) → p < 64 → bit_at (bit_or w (moved w e)) p ≡ 1 → (bit_at w p ≡ 1) ⊎ ((q : ℕ) × (q + 2 ^ e ≡ p) × (bit_at q e ≡ 0) × (bit_at w q ≡ 1))
+    only : (p : ℕ) → p < 64 → bit_at (bit_or w (moved w e)) p ≡ 1 → (bit_at w p ≡ 1)
+        ⊎ ((q : ℕ) × (q + 2 ^ e ≡ p) × (bit_at q e ≡ 0) × (bit_at w q ≡ 1))
     only p lp h = elim (one_or_zero w p) [
       | inl on ↦ inl on
       | inr off ↦
           let o = bit_at_or w (moved w e) p in
           let m : bit_at (moved w e) p ≡ 1 = omega (arith, o, h, off) in
           elim (cases_lt p (2 ^ e)) [
-            | inl below ↦ absurd (zero_one (bit_at (moved w e) p) (shl_low (bit_and w (get_or LOW e 0)) (2 ^ e) p below lp) m)
+            | inl below ↦
+                absurd (zero_one (bit_at (moved w e) p) (shl_low (bit_and w (get_or LOW e 0)) (2 ^ e) p below lp) m)
             | inr above ↦
                 let up = shl_high (bit_and w (get_or LOW e 0)) (2 ^ e) p above lp in
                 let both = bit_at_and w (get_or LOW e 0) (p - 2 ^ e) in
                 let one : bit_at (bit_and w (get_or LOW e 0)) (p - 2 ^ e) ≡ 1 = sym up ∙ m in
                 let mask = mask_bit e (p - 2 ^ e) le (omega arith) in
                 let lw = bit_at-lt w (p - 2 ^ e) in
-                let in_mask : bit_at (get_or LOW e 0) (p - 2 ^ e) ≡ 1 = both_one (bit_at w (p - 2 ^ e)) (bit_at (get_or LOW e 0) (p - 2 ^ e)) lw (sym both ∙ one) (bit_at-lt (get_or LOW e 0) (p - 2 ^ e)) in
-                let in_word : bit_at w (p - 2 ^ e) ≡ 1 = one_both (bit_at w (p - 2 ^ e)) (bit_at (get_or LOW e 0) (p - 2 ^ e)) lw (sym both ∙ one) in
+                let in_mask : bit_at (get_or LOW e 0) (p - 2 ^ e) ≡ 1 =
+                both_one (bit_at w (p - 2 ^ e)) (bit_at (get_or LOW e 0) (p - 2 ^ e)) lw (sym both ∙ one)
+                (bit_at-lt (get_or LOW e 0) (p - 2 ^ e)) in
+                let in_word : bit_at w (p - 2 ^ e) ≡ 1 =
+                one_both (bit_at w (p - 2 ^ e)) (bit_at (get_or LOW e 0) (p - 2 ^ e)) lw (sym both ∙ one) in
                 inr (p - 2 ^ e, omega (arith, above), omega (arith, mask, in_mask), in_word)
           ]
     ]
@@ -224,7 +249,8 @@ word_spread w e le = record { keeps = keeps; adds = adds; only = only }
 -- ---- over words
 
 past : (words : List ℕ) (i p : ℕ) → length words ≤ i → bit_at (get_or words i 0) p ≡ 1 → ⊥
-past words i p g h = zero_one (bit_at (get_or words i 0) p) (ap (λ w. bit_at w p) (get_or_past words i 0 g) ∙ bit_at-zero p) h
+past words i p g h =
+    zero_one (bit_at (get_or words i 0) p) (ap (λ w. bit_at w p) (get_or_past words i 0 g) ∙ bit_at-zero p) h
 
 -- a bit of a mask below the sixth is one of the place in its word
 place_bit : (s e : ℕ) → e < 6 → bit_at (s % 64) e ≡ bit_at s e
@@ -232,7 +258,8 @@ place_bit s e l =
     let w : s / 64 * 2 ^ 6 + s % 64 ≡ s = omega arith in
     sym (bit_at_cat_low (s / 64) 6 (s % 64) e l) ∙ ap (λ k. bit_at k e) w
 
-pub spread_within : (words words' : List ℕ) (e : ℕ) → e < 6 → length words' ≡ length words → ((i : ℕ) → i < length words → IsWordSpread (get_or words i 0) (get_or words' i 0) e) → IsSpread words words' e
+pub spread_within : (words words' : List ℕ) (e : ℕ) → e < 6 → length words' ≡ length words
+    → ((i : ℕ) → i < length words → IsWordSpread (get_or words i 0) (get_or words' i 0) e) → IsSpread words words' e
 spread_within words words' e le len each = record { size = len; keeps = keeps; adds = adds; only = only }
   where
     keeps : (s : ℕ) → IsMarked words s → IsMarked words' s
@@ -247,7 +274,8 @@ spread_within words words' e le len each = record { size = len; keeps = keeps; a
         let room = stays_within e (t % 64) le (omega arith) zp in
         let div : (t + 2 ^ e) / 64 ≡ t / 64 = omega arith in
         let rem : (t + 2 ^ e) % 64 ≡ t % 64 + 2 ^ e = omega arith in
-        ap (λ i. bit_at (get_or words' i 0) ((t + 2 ^ e) % 64)) div ∙ ap (bit_at (get_or words' (t / 64) 0)) rem ∙ (each (t / 64) (omega arith)).adds (t % 64) (omega arith) zp h
+        ap (λ i. bit_at (get_or words' i 0) ((t + 2 ^ e) % 64)) div ∙ ap (bit_at (get_or words' (t / 64) 0)) rem
+        ∙ (each (t / 64) (omega arith)).adds (t % 64) (omega arith) zp h
 
     only : (s : ℕ) → IsMarked words' s → IsMarked words s ⊎ IsSpreadFrom words s e
     only s h = elim (cases_lt (s / 64) (length words)) [
@@ -255,12 +283,21 @@ spread_within words words' e le len each = record { size = len; keeps = keeps; a
       | inr g ↦ absurd (past words' (s / 64) (s % 64) (omega arith) h)
     ]
       where
-        back : (s : ℕ) → (bit_at (get_or words (s / 64) 0) (s % 64) ≡ 1) ⊎ ((q : ℕ) × (q + 2 ^ e ≡ s % 64) × (bit_at q e ≡ 0) × (bit_at (get_or words (s / 64) 0) q ≡ 1)) → IsMarked words s ⊎ IsSpreadFrom words s e
+        back : (s : ℕ) → (bit_at (get_or words (s / 64) 0) (s % 64) ≡ 1)
+            ⊎ ((q : ℕ) × (q + 2 ^ e ≡ s % 64) × (bit_at q e ≡ 0) × (bit_at (get_or words (s / 64) 0) q ≡ 1))
+            → IsMarked words s ⊎ IsSpreadFrom words s e
         back s (inl k) = inl k
         back s (inr (q, sum, z, on)) =
             let div : (64 * (s / 64) + q) / 64 ≡ s / 64 = omega arith in
             let rem : (64 * (s / 64) + q) % 64 ≡ q = omega arith in
-            inr (64 * (s / 64) + q, omega arith, sym (place_bit (64 * (s / 64) + q) e le) ∙ ap (λ k. bit_at k e) rem ∙ z, ap (λ i. bit_at (get_or words i 0) ((64 * (s / 64) + q) % 64)) div ∙ ap (bit_at (get_or words (s / 64) 0)) rem ∙ on)
+            inr (
+              64 * (s / 64) + q,
+              omega arith,
+              sym (place_bit (64 * (s / 64) + q) e le) ∙ ap (λ k. bit_at k e) rem
+                  ∙ z,
+              ap (λ i. bit_at (get_or words i 0) ((64 * (s / 64) + q) % 64)) div
+                  ∙ ap (bit_at (get_or words (s / 64) 0)) rem ∙ on,
+            )
 
 -- the first k words have what lies below them by 2 ^ d too, where their number has bit d
 pub record IsSpreadBelow (words words' : List ℕ) (d k : ℕ) : Type 0 where
@@ -271,31 +308,50 @@ pub record IsSpreadBelow (words words' : List ℕ) (d k : ℕ) : Type 0 where
 
 pub spread_on : (words words' : List ℕ) (d k : ℕ) → k < length words' → bit_at k d ≡ 1 → IsSpreadBelow words words' d k
     → IsSpreadBelow words (set words' k (bit_or (get_or words' k 0) (get_or words' (k - 2 ^ d) 0))) d (k + 1)
-spread_on words words' d k l one h = record { size = length-set _ _ _ ∙ h.size; on = on; off = off; rest = λ i g. get_or-set_other words' k i _ 0 (omega arith) ∙ h.rest i (omega arith) }
+spread_on words words' d k l one h =
+    record {
+      size = length-set _ _ _ ∙ h.size;
+      on = on;
+      off = off;
+      rest =
+          λ i g. get_or-set_other words' k i _ 0 (omega arith) ∙ h.rest i (omega arith);
+    }
   where
-    here : get_or (set words' k (bit_or (get_or words' k 0) (get_or words' (k - 2 ^ d) 0))) k 0 ≡ bit_or (get_or words k 0) (get_or words (k - 2 ^ d) 0)
+    here : get_or (set words' k (bit_or (get_or words' k 0) (get_or words' (k - 2 ^ d) 0))) k 0
+        ≡ bit_or (get_or words k 0) (get_or words (k - 2 ^ d) 0)
     here =
         let t = take_bit k d one in
         let le = t.0 in
         let p = pow_pos d in
-        get_or-set_same words' k _ 0 l ∙ ap (λ w. bit_or w (get_or words' (k - 2 ^ d) 0)) (h.rest k (omega arith)) ∙ ap (bit_or (get_or words k 0)) (h.off (k - 2 ^ d) (omega (arith, le, p)) t.1)
+        get_or-set_same words' k _ 0 l ∙ ap (λ w. bit_or w (get_or words' (k - 2 ^ d) 0)) (h.rest k (omega arith))
+        ∙ ap (bit_or (get_or words k 0)) (h.off (k - 2 ^ d) (omega (arith, le, p)) t.1)
 
-    on : (i : ℕ) → i < k + 1 → bit_at i d ≡ 1 → get_or (set words' k (bit_or (get_or words' k 0) (get_or words' (k - 2 ^ d) 0))) i 0 ≡ bit_or (get_or words i 0) (get_or words (i - 2 ^ d) 0)
+    on : (i : ℕ) → i < k + 1 → bit_at i d ≡ 1
+        → get_or (set words' k (bit_or (get_or words' k 0) (get_or words' (k - 2 ^ d) 0))) i 0
+        ≡ bit_or (get_or words i 0) (get_or words (i - 2 ^ d) 0)
     on i li b = elim (cases_eq i k) [
-      | inl q ↦ subst (λ j. get_or (set words' k (bit_or (get_or words' k 0) (get_or words' (k - 2 ^ d) 0))) j 0 ≡ bit_or (get_or words j 0) (get_or words (j - 2 ^ d) 0)) (sym q) here
+      | inl q ↦
+          subst (λ j. get_or (set words' k (bit_or (get_or words' k 0) (get_or words' (k - 2 ^ d) 0))) j 0
+          ≡ bit_or (get_or words j 0) (get_or words (j - 2 ^ d) 0)) (sym q) here
       | inr n ↦ get_or-set_other words' k i _ 0 n ∙ h.on i (omega arith) b
     ]
 
-    off : (i : ℕ) → i < k + 1 → bit_at i d ≡ 0 → get_or (set words' k (bit_or (get_or words' k 0) (get_or words' (k - 2 ^ d) 0))) i 0 ≡ get_or words i 0
+    off : (i : ℕ) → i < k + 1 → bit_at i d ≡ 0
+        → get_or (set words' k (bit_or (get_or words' k 0) (get_or words' (k - 2 ^ d) 0))) i 0 ≡ get_or words i 0
     off i li z = elim (cases_eq i k) [
       | inl q ↦ absurd (zero_one (bit_at i d) z (ap (λ j. bit_at j d) q ∙ one))
       | inr n ↦ get_or-set_other words' k i _ 0 n ∙ h.off i (omega arith) z
     ]
 
-pub spread_off : (words words' : List ℕ) (d k : ℕ) → (bit_at k d ≡ 1 → ⊥) → IsSpreadBelow words words' d k → IsSpreadBelow words words' d (k + 1)
+pub spread_off : (words words' : List ℕ) (d k : ℕ) → (bit_at k d ≡ 1 → ⊥) → IsSpreadBelow words words' d k
+    → IsSpreadBelow words words' d (k + 1)
 spread_off words words' d k apart h = record {
   size = h.size;
-  on = λ i l b. elim (cases_eq i k) [ inl q ↦ absurd (apart (sym (ap (λ j. bit_at j d) q) ∙ b)) | inr n ↦ h.on i (omega arith) b ];
+  on = λ i l b. elim (cases_eq i k) [
+    | inl q ↦ absurd (apart (sym (ap (λ j. bit_at j d) q) ∙ b))
+    | inr n ↦
+        h.on i (omega arith) b
+  ];
   off = λ i l z. elim (cases_eq i k) [ inl q ↦ h.rest i (omega arith) | inr n ↦ h.off i (omega arith) z ];
   rest = λ i l. h.rest i (omega arith);
 }
@@ -304,11 +360,21 @@ spread_off words words' d k apart h = record {
 word_bit : (s d : ℕ) → bit_at (s / 64) d ≡ bit_at s (d + 6)
 word_bit s d = let q : 6 + d ≡ d + 6 = omega arith in ap (λ x. x % 2) (shr-shr s 6 d) ∙ ap (bit_at s) q
 
-pub spread_over : (words words' : List ℕ) (d e : ℕ) → d + 6 ≡ e → IsSpreadBelow words words' d (length words) → IsSpread words words' e
-spread_over words words' d e q h = subst (IsSpread words words') q (record { size = h.size; keeps = keeps; adds = adds; only = only })
+pub spread_over : (words words' : List ℕ) (d e : ℕ) → d + 6 ≡ e → IsSpreadBelow words words' d (length words)
+    → IsSpread words words' e
+spread_over words words' d e q h =
+    subst (IsSpread words words') q (record { size = h.size; keeps = keeps; adds = adds; only = only })
   where
     step : 2 ^ (d + 6) ≡ 64 * 2 ^ d
-    step = times (d + 5) (d + 6) (omega arith) ∙ omega (arith, times (d + 4) (d + 5) (omega arith), times (d + 3) (d + 4) (omega arith), times (d + 2) (d + 3) (omega arith), times (d + 1) (d + 2) (omega arith), times d (d + 1) (omega arith))
+    step = times (d + 5) (d + 6) (omega arith)
+        ∙ omega (
+          arith,
+          times (d + 4) (d + 5) (omega arith),
+          times (d + 3) (d + 4) (omega arith),
+          times (d + 2) (d + 3) (omega arith),
+          times (d + 1) (d + 2) (omega arith),
+          times d (d + 1) (omega arith),
+        )
       where
         times : (j i : ℕ) → i ≡ j + 1 → 2 ^ i ≡ 2 * 2 ^ j
         times j i q = ap (λ k. 2 ^ k) q ∙ double j
@@ -325,7 +391,8 @@ spread_over words words' d e q h = subst (IsSpread words words') q (record { siz
       | inr g ↦ absurd (past words (s / 64) (s % 64) g m)
     ]
 
-    adds : (t : ℕ) → bit_at t (d + 6) ≡ 0 → t + 2 ^ (d + 6) < 64 * length words → IsMarked words t → IsMarked words' (t + 2 ^ (d + 6))
+    adds : (t : ℕ) → bit_at t (d + 6) ≡ 0 → t + 2 ^ (d + 6) < 64 * length words → IsMarked words t
+        → IsMarked words' (t + 2 ^ (d + 6))
     adds t z l m =
         let st = step in
         let zw : bit_at (t / 64) d ≡ 0 = word_bit t d ∙ z in
@@ -335,7 +402,8 @@ spread_over words words' d e q h = subst (IsSpread words words') q (record { siz
         let within : t / 64 + 2 ^ d < length words = omega arith in
         let o = bit_at_or (get_or words (t / 64 + 2 ^ d) 0) (get_or words (t / 64) 0) (t % 64) in
         let b = bit_at-lt (get_or words (t / 64 + 2 ^ d) 0) (t % 64) in
-        ap (λ i. bit_at (get_or words' i 0) ((t + 2 ^ (d + 6)) % 64)) div ∙ ap (bit_at (get_or words' (t / 64 + 2 ^ d) 0)) rem
+        ap (λ i. bit_at (get_or words' i 0) ((t + 2 ^ (d + 6)) % 64)) div
+        ∙ ap (bit_at (get_or words' (t / 64 + 2 ^ d) 0)) rem
         ∙ ap (λ w. bit_at w (t % 64)) (h.on (t / 64 + 2 ^ d) within (add_bit_same (t / 64) d zw))
         ∙ ap (λ i. bit_at (bit_or (get_or words (t / 64 + 2 ^ d) 0) (get_or words i 0)) (t % 64)) back
         ∙ omega (arith, o, b, m)
@@ -350,12 +418,19 @@ spread_over words words' d e q h = subst (IsSpread words words') q (record { siz
               let t = take_bit (s / 64) d one in
               let le = t.0 in
               let o = bit_at_or (get_or words (s / 64) 0) (get_or words (s / 64 - 2 ^ d) 0) (s % 64) in
-              let both : bit_at (bit_or (get_or words (s / 64) 0) (get_or words (s / 64 - 2 ^ d) 0)) (s % 64) ≡ 1 = sym (ap (λ w. bit_at w (s % 64)) (h.on (s / 64) l one)) ∙ m in
+              let both : bit_at (bit_or (get_or words (s / 64) 0) (get_or words (s / 64 - 2 ^ d) 0)) (s % 64) ≡ 1 =
+              sym (ap (λ w. bit_at w (s % 64)) (h.on (s / 64) l one)) ∙ m in
               let low : bit_at (get_or words (s / 64 - 2 ^ d) 0) (s % 64) ≡ 1 = omega (arith, o, both, none) in
               let sum : s - 64 * 2 ^ d + 2 ^ (d + 6) ≡ s = omega (arith, st, le) in
               let div : (s - 64 * 2 ^ d) / 64 ≡ s / 64 - 2 ^ d = omega (arith, le) in
               let rem : (s - 64 * 2 ^ d) % 64 ≡ s % 64 = omega (arith, le) in
-              inr (s - 64 * 2 ^ d, sum, sym (word_bit (s - 64 * 2 ^ d) d) ∙ ap (λ i. bit_at i d) div ∙ t.1, ap (λ i. bit_at (get_or words i 0) ((s - 64 * 2 ^ d) % 64)) div ∙ ap (bit_at (get_or words (s / 64 - 2 ^ d) 0)) rem ∙ low)
+              inr (
+                s - 64 * 2 ^ d,
+                sum,
+                sym (word_bit (s - 64 * 2 ^ d) d) ∙ ap (λ i. bit_at i d) div ∙ t.1,
+                ap (λ i. bit_at (get_or words i 0) ((s - 64 * 2 ^ d) % 64)) div
+                    ∙ ap (bit_at (get_or words (s / 64 - 2 ^ d) 0)) rem ∙ low,
+              )
         ]
         | inr z ↦ inl (sym (ap (λ w. bit_at w (s % 64)) (h.off (s / 64) l z)) ∙ m)
       ]
@@ -364,14 +439,21 @@ spread_over words words' d e q h = subst (IsSpread words words') q (record { siz
 
 -- ---- a mark more
 
-pub mark_more : (words : List ℕ) (s : ℕ) → s / 64 < length words → IsMarked (set words (s / 64) (bit_or (get_or words (s / 64) 0) (1 * 2 ^ (s % 64) % 18446744073709551616))) s
-mark_more words s l = ap (λ w. bit_at w (s % 64)) (get_or-set_same words (s / 64) _ 0 l) ∙ bit_at_set_same w64 (get_or words (s / 64) 0) (s % 64) (omega arith)
+pub mark_more : (words : List ℕ) (s : ℕ) → s / 64 < length words
+    → IsMarked (set words (s / 64) (bit_or (get_or words (s / 64) 0) (1 * 2 ^ (s % 64) % 18446744073709551616))) s
+mark_more words s l = ap (λ w. bit_at w (s % 64)) (get_or-set_same words (s / 64) _ 0 l)
+    ∙ bit_at_set_same w64 (get_or words (s / 64) 0) (s % 64) (omega arith)
 
-pub mark_others : (words : List ℕ) (s j : ℕ) → s / 64 < length words → j ≢ s → mark_at (set words (s / 64) (bit_or (get_or words (s / 64) 0) (1 * 2 ^ (s % 64) % 18446744073709551616))) j ≡ mark_at words j
+pub mark_others : (words : List ℕ) (s j : ℕ) → s / 64 < length words → j ≢ s
+    → mark_at (set words (s / 64) (bit_or (get_or words (s / 64) 0) (1 * 2 ^ (s % 64) % 18446744073709551616))) j
+    ≡ mark_at words j
 mark_others words s j l n = elim (cases_eq (j / 64) (s / 64)) [
   | inl q ↦
       let apart : j % 64 ≢ s % 64 = (λ e. n (omega arith)) in
-      ap (λ i. bit_at (get_or (set words (s / 64) (bit_or (get_or words (s / 64) 0) (1 * 2 ^ (s % 64) % 18446744073709551616))) i 0) (j % 64)) q ∙ ap (λ w. bit_at w (j % 64)) (get_or-set_same words (s / 64) _ 0 l)
-      ∙ bit_at_set_other w64 (get_or words (s / 64) 0) (s % 64) (omega arith) (j % 64) apart ∙ ap (λ i. bit_at (get_or words i 0) (j % 64)) (sym q)
+      ap (λ i. bit_at
+      (get_or (set words (s / 64) (bit_or (get_or words (s / 64) 0) (1 * 2 ^ (s % 64) % 18446744073709551616))) i 0)
+      (j % 64)) q ∙ ap (λ w. bit_at w (j % 64)) (get_or-set_same words (s / 64) _ 0 l)
+      ∙ bit_at_set_other w64 (get_or words (s / 64) 0) (s % 64) (omega arith) (j % 64) apart
+      ∙ ap (λ i. bit_at (get_or words i 0) (j % 64)) (sym q)
   | inr ne ↦ ap (λ w. bit_at w (j % 64)) (get_or-set_other words (s / 64) (j / 64) _ 0 ne)
 ]

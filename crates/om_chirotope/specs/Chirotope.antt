@@ -11,7 +11,7 @@ use Rattle.om_subsets.specs.Lists.{IsBefore}
 use Rattle.om_subsets.specs.Members.{Chosen}
 use Rattle.om_chirotope.specs.Map.{SignMap, IsMap, value_of, circuit_vector, cocircuit_vector}
 
--- an increasing list S of one element more than the rank, and an increasing list A of one less
+-- an increasing list S of one element more than the rank, and an increasing list A of one element less
 pub record IsPair (m : SignMap) (s a : List ℕ) : Type 0 where
   pub s_list : IsSubsetFrom 1 m.elements s
   pub s_size : length s ≡ m.rank + 1
@@ -22,7 +22,7 @@ pub record IsPair (m : SignMap) (s a : List ℕ) : Type 0 where
 abbrev pub IsOrthogonalPair : SignMap → List ℕ → List ℕ → Type 0
 IsOrthogonalPair m s a = IsOrthogonal (circuit_vector m s) (cocircuit_vector m a)
 
--- every pair is orthogonal; in rank 0 there is no A, and in the rank of all elements no S
+-- every pair is orthogonal; in rank 0 there is no A, and if the rank is the number of elements there is no S
 abbrev pub HasOrthogonalPairs : SignMap → Type 0
 HasOrthogonalPairs m = (s a : List ℕ) → IsPair m s a → IsOrthogonalPair m s a
 
@@ -30,7 +30,7 @@ HasOrthogonalPairs m = (s a : List ℕ) → IsPair m s a → IsOrthogonalPair m 
 abbrev pub HasNonzeroValue : SignMap → Type 0
 HasNonzeroValue m = (xs : List ℕ) × IsSubsetFrom 1 m.elements xs × (length xs ≡ m.rank) × (value_of m xs ≢ Zero)
 
--- a map that meets the axioms of a chirotope
+-- a map that satisfies the axioms of a chirotope
 pub record IsChirotope (m : SignMap) : Type 0 where
   pub whole : IsMap m
   pub nonzero : HasNonzeroValue m
@@ -41,7 +41,7 @@ pub record IsWithinLimits (m : SignMap) : Type 0 where
   pub low : 1 ≤ m.elements
   pub high : m.elements ≤ MAX_ELEMENTS
 
--- what holds of every value of the type
+-- what holds of every chirotope of the code
 pub record IsSound (m : SignMap) : Type 0 where
   pub axioms : IsChirotope m
   pub limits : IsWithinLimits m

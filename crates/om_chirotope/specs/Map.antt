@@ -12,17 +12,18 @@ use Rattle.om_laws.specs.Tuples.{value}
 use Rattle.om_laws.specs.Relations.{around, along}
 use Rattle.om_laws.specs.Bridge.{as_list}
 
--- a map of a rank on the elements 1 to a number, by the signs of the increasing lists in lexicographic order
+-- a map of a rank on the elements 1 to `elements`, given by the signs of the increasing lists in lexicographic
+-- order
 pub record SignMap : Type 0 where
   pub rank : ℕ
   pub elements : ℕ
   pub signs : List Sign
 
--- the map that stands in a raw map
+-- the map of a raw map
 abbrev pub map_of : RawMap → SignMap
 map_of raw = record { rank = raw.rank; elements = raw.elements; signs = raw.signs }
 
--- a sign for each increasing list of rank elements
+-- a sign for each increasing list of as many elements as the rank
 pub record IsMap (m : SignMap) : Type 0 where
   pub part : m.rank ≤ m.elements
   pub whole : length m.signs ≡ choose m.elements m.rank
@@ -31,15 +32,17 @@ pub record IsMap (m : SignMap) : Type 0 where
 abbrev pub chi_of : SignMap → List ℕ → Sign
 chi_of m xs = at m.signs (rank_of m.elements xs)
 
--- the value on any tuple: zero at a repeat, and else the sign of the sorted tuple times the sign of the permutation that sorts it
+-- the value on any tuple: zero at a repeat, and else the sign of the sorted tuple times the sign of the permutation
+-- that sorts it
 abbrev pub value_of : SignMap → List ℕ → Sign
 value_of m = value (chi_of m)
 
--- the vector V of an increasing list S: at its i-th element, from 1, the value of S without this element times (-1)^i, and zero off S
+-- The vector V of an increasing list S. At its i-th element, counted from 1, it is the value of S without this
+-- element times (-1)^i; off S it is zero.
 abbrev pub circuit_vector : SignMap → List ℕ → List Sign
 circuit_vector m s = as_list m.elements (around (value_of m) s)
 
--- the vector U of an increasing list A: at e the value of A with e behind it
+-- the vector U of an increasing list A: at e the value of A followed by e
 abbrev pub cocircuit_vector : SignMap → List ℕ → List Sign
 cocircuit_vector m a = as_list m.elements (along (value_of m) a)
 
@@ -47,11 +50,11 @@ cocircuit_vector m a = as_list m.elements (along (value_of m) a)
 abbrev pub cocircuit_vectors : SignMap → List (List Sign)
 cocircuit_vectors m = map (cocircuit_vector m) (all_subsets m.elements (m.rank - 1))
 
--- the map with every sign turned
+-- the map with every sign negated
 abbrev pub negated : SignMap → SignMap
 negated m = record { rank = m.rank; elements = m.elements; signs = map opposite m.signs }
 
--- the first sign that isn't zero is s
+-- the first nonzero sign is s
 abbrev pub IsLedBy : Sign → List Sign → Type 0
 IsLedBy s signs = (k : ℕ) × (at signs k ≡ s) × ((j : ℕ) → j < k → at signs j ≡ Zero)
 

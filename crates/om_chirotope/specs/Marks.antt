@@ -1,21 +1,21 @@
--- Marks of sets: the bits of words of 64, a bit for each set, by its mask.
+-- Marks of sets: the bits of words of 64 bits, a bit for each set, at the number of its mask.
 use Rattle.std.specs.Prelude.{ℕ, ◌≡◌, ◌+◌, ◌*◌, ◌/◌, ◌%◌, ◌<◌, ◌^◌, ◌⊎◌, List, length}
 use Rattle.std.specs.Int.{bit_at}
 use Rattle.std.proofs.Math.ListN.{get_or}
 
--- the bit of the set of a mask
+-- the bit of the set with this mask
 abbrev pub mark_at : List ℕ → ℕ → ℕ
 mark_at words mask = bit_at (get_or words (mask / 64) 0) (mask % 64)
 
--- the set of a mask is marked
+-- the set with this mask is marked
 abbrev pub IsMarked : List ℕ → ℕ → Type 0
 IsMarked words mask = mark_at words mask ≡ 1
 
--- the set of a mask comes from a marked one by its bit e
+-- the set with this mask is a marked set with bit e added
 abbrev pub IsSpreadFrom : List ℕ → ℕ → ℕ → Type 0
 IsSpreadFrom words mask e = (t : ℕ) × (t + 2 ^ e ≡ mask) × (bit_at t e ≡ 0) × IsMarked words t
 
--- the same marks, and with each marked set without bit e the set with this bit
+-- the marks stay, and for each marked set without bit e the set with this bit is marked too, and no other
 pub record IsSpread (words words' : List ℕ) (e : ℕ) : Type 0 where
   pub size : length words' ≡ length words
   pub keeps : (s : ℕ) → IsMarked words s → IsMarked words' s
@@ -26,4 +26,5 @@ pub record IsSpread (words words' : List ℕ) (e : ℕ) : Type 0 where
 pub record IsWordSpread (w w' e : ℕ) : Type 0 where
   pub keeps : (p : ℕ) → bit_at w p ≡ 1 → bit_at w' p ≡ 1
   pub adds : (p : ℕ) → p < 64 → bit_at p e ≡ 0 → bit_at w p ≡ 1 → bit_at w' (p + 2 ^ e) ≡ 1
-  pub only : (p : ℕ) → p < 64 → bit_at w' p ≡ 1 → (bit_at w p ≡ 1) ⊎ ((q : ℕ) × (q + 2 ^ e ≡ p) × (bit_at q e ≡ 0) × (bit_at w q ≡ 1))
+  pub only : (p : ℕ) → p < 64 → bit_at w' p ≡ 1 → (bit_at w p ≡ 1)
+      ⊎ ((q : ℕ) × (q + 2 ^ e ≡ p) × (bit_at q e ≡ 0) × (bit_at w q ≡ 1))

@@ -1,4 +1,4 @@
--- What is known of a map before its pairs are scanned.
+-- What is known about a map before its pairs are scanned.
 use Rattle.std.specs.Prelude.{◌≡◌, List}
 use Rattle.om_signs.specs.declared.sign.Sign.{Sign}
 use Rattle.om_chirotope.specs.declared.scan.Settled.{Settled}
@@ -6,7 +6,7 @@ use Rattle.om_chirotope.specs.declared.scan.Settled.TheVariants.{Orthogonal, Vio
 use Rattle.om_chirotope.specs.Map.{SignMap, cocircuit_vectors}
 use Rattle.om_chirotope.specs.Chirotope.{HasOrthogonalPairs, IsFirstViolated}
 
--- what an answer says of a map, and of the table of the vectors U
+-- what an answer says about a map, and about the table of the vectors U
 abbrev pub IsSettled : SignMap → List (List Sign) → Settled → Type 0
 IsSettled m table Orthogonal = HasOrthogonalPairs m
 IsSettled m table (Violated s a) = IsFirstViolated m s a

@@ -15,9 +15,11 @@ pub record IsBasis (m : SignMap) (b : List ℕ) : Type 0 where
   pub size : length b ≡ m.rank
   pub nonzero : value_of m b ≢ Zero
 
--- exchange of bases: an element e of a basis B that is not in a basis C changes places with some element f of C that is not in B
+-- exchange of bases: an element e of a basis B that isn't in a basis C can be exchanged for some element f of C
+-- that isn't in B
 abbrev pub HasExchange : SignMap → Type 0
-HasExchange m = (b c : List ℕ) (e : ℕ) → IsBasis m b → IsBasis m c → IsMember e b → (IsMember e c → ⊥) → (f : ℕ) × IsMember f c × (IsMember f b → ⊥) × IsBasis m (with_element f (without_element e b))
+HasExchange m = (b c : List ℕ) (e : ℕ) → IsBasis m b → IsBasis m c → IsMember e b → (IsMember e c → ⊥) → (f : ℕ)
+    × IsMember f c × (IsMember f b → ⊥) × IsBasis m (with_element f (without_element e b))
 
 -- an increasing list A of one element less than the rank, and an element e that makes a basis with it
 pub record IsBasisWith (m : SignMap) (a : List ℕ) (e : ℕ) : Type 0 where
@@ -27,9 +29,11 @@ pub record IsBasisWith (m : SignMap) (a : List ℕ) (e : ℕ) : Type 0 where
   pub high : e ≤ m.elements
   pub nonzero : value_of m (a ++ e ∷ []) ≢ Zero
 
--- the same, by lists: where A makes a basis with some element, it makes one with an element of each basis C
+-- exchange in its form for lists: if A makes a basis with some element, it makes one with some element of each
+-- basis C
 abbrev pub HasListExchange : SignMap → Type 0
-HasListExchange m = (a c : List ℕ) (e : ℕ) → IsBasisWith m a e → IsBasis m c → (f : ℕ) × IsMember f c × (value_of m (a ++ f ∷ []) ≢ Zero)
+HasListExchange m = (a c : List ℕ) (e : ℕ) → IsBasisWith m a e → IsBasis m c → (f : ℕ) × IsMember f c
+    × (value_of m (a ++ f ∷ []) ≢ Zero)
 
 -- an increasing list P of two elements less than the rank, and four increasing elements off it
 pub record IsFrame (m : SignMap) (p : List ℕ) (a b c d : ℕ) : Type 0 where
@@ -41,8 +45,9 @@ pub record IsFrame (m : SignMap) (p : List ℕ) (a b c d : ℕ) : Type 0 where
   pub c_off : IsMember c p → ⊥
   pub d_off : IsMember d p → ⊥
 
--- the three-term relations: the value of P with ab times that with cd, the value with ac times that with bd, negated, and the value with ad
--- times that with bc are all zero, or include a plus and a minus; in ranks 0 and 1 there is no P
+-- The three-term relations. Take values of P with two of the elements a, b, c and d. Three products of them are all
+-- zero, or include a plus and a minus: ab times cd, the negative of ac times bd, and ad times bc. In ranks 0 and 1
+-- there is no P.
 abbrev pub HasThreeTermRelations : SignMap → Type 0
 HasThreeTermRelations m = (p : List ℕ) (a b c d : ℕ) → IsFrame m p a b c d
     → AreBalanced
@@ -50,7 +55,7 @@ HasThreeTermRelations m = (p : List ℕ) (a b c d : ℕ) → IsFrame m p a b c d
     (opposite (product (value_of m (p ++ a ∷ c ∷ [])) (value_of m (p ++ b ∷ d ∷ []))))
     (product (value_of m (p ++ a ∷ d ∷ [])) (value_of m (p ++ b ∷ c ∷ [])))
 
--- a map that meets the three-term test
+-- a map that passes the three-term test
 pub record MeetsThreeTermTest (m : SignMap) : Type 0 where
   pub whole : IsMap m
   pub nonzero : HasNonzeroValue m

@@ -1,7 +1,7 @@
 use super::map_refused::MapRefused;
 use om_signs::RawMap;
 
-/// A map that is no chirotope, handed back unchanged, and the reason.
+/// A map that is no chirotope, returned unchanged, with the reason.
 #[derive(Drop)]
 pub struct BadMap {
     pub raw: RawMap,

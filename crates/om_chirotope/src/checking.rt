@@ -13,11 +13,11 @@ use super::scan::violated_on_threads;
 use om_signs::{MAX_ELEMENTS, RawMap, Sign};
 use std::thread::Threads;
 
-/// The chirotope with this map, where it meets the axioms; else the map back, with the reason: `AllZero` exactly where
-/// all values are 0, and otherwise `Relation` with the first violated pair.
+/// The chirotope with this map, if it satisfies the axioms. Otherwise the map is returned with the reason: `AllZero`
+/// exactly if all values are 0, and else `Relation` with the first violated pair.
 ///
-/// The elements are from 1 to [`MAX_ELEMENTS`], the rank is at most their number, and there is one sign for each
-/// increasing list of that many elements. It takes no memory: its tables need up to 470 KB of stack.
+/// There are from 1 to [`MAX_ELEMENTS`] elements, the rank is at most their number, and each increasing list of as
+/// many elements as the rank has a sign. The call allocates no memory: its tables need up to 470 KB of stack.
 ///
 /// Source: Björner, Las Vergnas, Sturmfels, White and Ziegler, *Oriented Matroids*, chapter 3.
 pub fn check<R: Threads + Sync>(rt: &R, raw: RawMap) -> Result<Chirotope, BadMap>

@@ -8,9 +8,11 @@ use om_signs::{MAX_ELEMENTS, NoMemory, RawMap, Sign, SignVec};
 use om_subsets::Subset;
 use std::marker::Model;
 
-/// A map that meets the axioms of a chirotope: some value isn't 0, and for each increasing list S of one element more
-/// than the rank and each increasing list A of one element less, the sign vector V of S is orthogonal to the sign vector
-/// U of A. Contracts see it as its rank, its number of elements and its signs in lexicographic order.
+/// A map that satisfies the axioms of a chirotope. Some value isn't 0, and every sign vector V is orthogonal to every
+/// sign vector U. Here V is that of an increasing list S of one element more than the rank, and U that of an
+/// increasing list A of one element less.
+///
+/// Contracts see its rank, its number of elements and its signs in lexicographic order.
 ///
 /// Source: Björner, Las Vergnas, Sturmfels, White and Ziegler, *Oriented Matroids*, chapter 3.
 #[derive(Drop)]
@@ -30,8 +32,8 @@ impl Model for Chirotope {
 }
 
 impl Chirotope {
-    /// The chirotope with the rank, the elements and the signs of a map that meets the axioms. The elements are from 1
-    /// to [`MAX_ELEMENTS`].
+    /// The chirotope with the rank, the elements and the signs of a map that satisfies the axioms. There are from 1 to
+    /// [`MAX_ELEMENTS`] elements.
     pub fn lawful(raw: RawMap) -> Chirotope
         requires axioms { IsChirotope (map_of raw) }
         requires limits { IsWithinLimits (map_of raw) }
@@ -40,8 +42,8 @@ impl Chirotope {
         Chirotope { raw }
     }
 
-    /// The signs meet the axioms, the elements are from 1 to [`MAX_ELEMENTS`], and the rank is at most their number. It does
-    /// nothing: its contract is the fact.
+    /// The signs satisfy the axioms, there are from 1 to [`MAX_ELEMENTS`] elements, and the rank is at most their
+    /// number. The call does nothing: its contract is this fact.
     pub fn is_lawful(&self)
         ensures lawful { IsChirotope self.now }
         ensures part { self.now.rank ≤ self.now.elements }
@@ -51,7 +53,7 @@ impl Chirotope {
         let _rank = self.raw.rank;
     }
 
-    /// The rank: the number of elements in each list that has a sign.
+    /// The rank: the number of elements of each list that has a sign.
     pub fn rank(&self) -> u8
         ensures value { result ≡ self.now.rank }
         ensures high { result ≤ self.now.elements }
@@ -69,7 +71,7 @@ impl Chirotope {
         self.raw.elements
     }
 
-    /// The sign of a set of r of the elements 1 to n, for the rank r and the number n of elements.
+    /// The sign of a set of as many elements as the rank.
     pub fn at(&self, s: Subset) -> Sign
         requires n { s.n ≡ self.now.elements }
         requires size { length s.elements ≡ self.now.rank }
@@ -79,8 +81,8 @@ impl Chirotope {
         vectors::sign_at(&self.raw, s)
     }
 
-    /// The sign vector V of a set S of one element more than the rank: at the i-th element of S, counted from 1, the
-    /// sign of S without this element times (-1) to the power i, and 0 off S. Where V isn't 0, V and its negative are
+    /// The sign vector V of a set S of one element more than the rank. At the i-th element of S, counted from 1, it
+    /// is the sign of S without this element times (-1)^i; off S it is 0. If V isn't 0, V and its negative are
     /// circuits.
     pub fn circuit_of(&self, s: Subset) -> SignVec
         requires n { s.n ≡ self.now.elements }
@@ -90,8 +92,8 @@ impl Chirotope {
         vectors::circuit_of(&self.raw, s)
     }
 
-    /// The sign vector U of a set A of one element less than the rank: at each element e the value of the tuple of A and
-    /// e behind it. Where U isn't 0, U and its negative are cocircuits.
+    /// The sign vector U of a set A of one element less than the rank. At each element e it is the value of the
+    /// tuple of A followed by e. If U isn't 0, U and its negative are cocircuits.
     pub fn cocircuit_of(&self, a: Subset) -> SignVec
         requires n { a.n ≡ self.now.elements }
         requires size { length a.elements + 1 ≡ self.now.rank }
@@ -100,8 +102,8 @@ impl Chirotope {
         vectors::cocircuit_of(&self.raw, a)
     }
 
-    /// The value of a tuple of r elements: 0 where an element stands in it twice, and else the sign of the set of its
-    /// elements times the sign of the permutation that sorts it.
+    /// The value of a tuple of as many elements as the rank. It is 0 if an element occurs twice, and else the sign
+    /// of the set of its elements times the sign of the permutation that sorts it.
     pub fn value(&self, tuple: &[u8]) -> Sign
         requires size { length tuple.now ≡ self.now.rank }
         requires within { IsWithin 1 self.now.elements tuple.now }
@@ -110,7 +112,7 @@ impl Chirotope {
         vectors::value_at(&self.raw, tuple)
     }
 
-    /// The negative: the chirotope with every sign turned.
+    /// The negative: the chirotope with every sign negated.
     pub fn negate(self) -> Chirotope
         ensures { result ≡ negated self }
     {
@@ -119,7 +121,7 @@ impl Chirotope {
         }
     }
 
-    /// The one of this chirotope and its negative whose first sign that isn't 0 is plus.
+    /// The one of this chirotope and its negative whose first nonzero sign is plus.
     pub fn normal(self) -> Chirotope
         ensures same { (result ≡ self) ⊎ (result ≡ negated self) }
         ensures normal { IsLedBy Sign.Plus result.signs }
@@ -131,9 +133,9 @@ impl Chirotope {
         }
     }
 
-    /// A copy, which keeps its own signs on the heap, with the same allocator.
+    /// A copy, which has its own signs on the heap, with the same allocator.
     ///
-    /// [`NoMemory`] comes only for want of memory.
+    /// [`NoMemory`] comes only if memory runs out.
     pub fn copy(&self) -> Result<Chirotope, NoMemory>
         ensures { IfOk result (λ c. c ≡ self.now) }
     {
@@ -155,7 +157,7 @@ impl Chirotope {
     }
 }
 
-/// The map with every sign turned.
+/// The map with every sign negated.
 fn negation(raw: RawMap) -> RawMap
     ensures { map_of result ≡ negated (map_of raw) }
 {
@@ -167,7 +169,7 @@ fn negation(raw: RawMap) -> RawMap
     turned
 }
 
-/// Whether the first sign that isn't 0 is minus.
+/// Whether the first nonzero sign is minus.
 fn is_led_by_minus(signs: &[Sign]) -> bool
     ensures { IsTrue result ↔ IsLedBy Sign.Minus signs.now }
 {

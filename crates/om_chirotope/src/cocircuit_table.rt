@@ -10,17 +10,17 @@ use super::vectors::cocircuit_of;
 use om_signs::{MAX_ELEMENTS, MAX_PLACES, RawMap, SignVec};
 use om_subsets::Subset;
 
-/// The room of the table: 27,132, which is choose(19, 13). Of all maps on at most 20 elements with at most 12,870 values,
-/// those of rank 14 on 19 elements have the most sets of one element less than the rank.
+/// The size of the table: 27,132, which is choose(19, 13). Consider all maps on at most 20 elements with at most
+/// 12,870 values. Those of rank 14 on 19 elements have the most sets of one element less than the rank.
 pub const ROOM: usize = 27_132;
 
-/// The room of the table that serves for small maps: the number of sets of three of all elements.
+/// The size of the table for small maps: the number of sets of three of [`MAX_ELEMENTS`] elements.
 pub const FEW: usize = MAX_ELEMENTS as usize
     * (MAX_ELEMENTS as usize - 1)
     * (MAX_ELEMENTS as usize - 2)
     / 6;
 
-/// Writes the vectors U of all sets of one element less than the rank, in lexicographic order.
+/// Fills the table with the vectors U of all sets of one element less than the rank, in lexicographic order.
 pub fn fill(raw: &RawMap, table: &mut [SignVec])
     requires low { 1 ≤ raw.now.elements }
     requires high { raw.now.elements ≤ MAX_PLACES }
@@ -37,8 +37,8 @@ pub fn fill(raw: &RawMap, table: &mut [SignVec])
     }
 }
 
-/// The vector U of a set of one element less than the rank: from a table of the first of them, by the place of the set, or
-/// made anew where the table ends before this place.
+/// The vector U of a set of one element less than the rank. It is taken from a table of the first of these vectors,
+/// by the place of the set, or computed anew if the table ends before this place.
 pub fn cocircuit_at(raw: &RawMap, table: &[SignVec], a: Subset, place: u32) -> SignVec
     requires low { 1 ≤ raw.now.elements }
     requires high { raw.now.elements ≤ MAX_PLACES }
@@ -56,8 +56,9 @@ pub fn cocircuit_at(raw: &RawMap, table: &[SignVec], a: Subset, place: u32) -> S
     cocircuit_of(raw, a)
 }
 
-/// Writes the vectors U of all sets of one element less than the rank, in lexicographic order, up to the first that isn't
-/// orthogonal to a vector; the answer is its place, or None where each is orthogonal.
+/// Fills the table with the vectors U of all sets of one element less than the rank, in lexicographic order. It
+/// stops at the first that isn't orthogonal to a given vector. Returns the place of this one, or None if all are
+/// orthogonal.
 pub fn fill_while_orthogonal(raw: &RawMap, vector: SignVec, table: &mut [SignVec]) -> Option<u32>
     requires low { 1 ≤ raw.now.elements }
     requires high { raw.now.elements ≤ MAX_PLACES }
@@ -69,7 +70,8 @@ pub fn fill_while_orthogonal(raw: &RawMap, vector: SignVec, table: &mut [SignVec
     ensures none { IfNone result (table.new ≡ cocircuit_vectors (map_of raw.now)) }
     ensures within { IfSome result (λ k. k < choose raw.now.elements (raw.now.rank - 1)) }
     ensures here { IfSome result (λ k. IsOrthogonal vector (get_or (cocircuit_vectors (map_of raw.now)) k []) → ⊥) }
-    ensures before { IfSome result (λ k. (j : ℕ) → j < k → IsOrthogonal vector (get_or (cocircuit_vectors (map_of raw.now)) j [])) }
+    ensures before { IfSome result
+        (λ k. (j : ℕ) → j < k → IsOrthogonal vector (get_or (cocircuit_vectors (map_of raw.now)) j [])) }
 {
     let mut a = Subset::first(raw.rank - 1, raw.elements);
     for place in 0..Subset::choose(raw.elements, raw.rank - 1) {
@@ -83,8 +85,8 @@ pub fn fill_while_orthogonal(raw: &RawMap, vector: SignVec, table: &mut [SignVec
     None
 }
 
-/// The place of the first set of one element less than the rank, in lexicographic order, whose vector U isn't orthogonal to
-/// a vector, or None where each is. It needs no table.
+/// The place of the first set of one element less than the rank, in lexicographic order, whose vector U isn't
+/// orthogonal to a given vector. None if all are orthogonal. It needs no table.
 pub fn first_not_orthogonal_to(raw: &RawMap, vector: SignVec) -> Option<u32>
     requires low { 1 ≤ raw.now.elements }
     requires high { raw.now.elements ≤ MAX_PLACES }
@@ -92,10 +94,12 @@ pub fn first_not_orthogonal_to(raw: &RawMap, vector: SignVec) -> Option<u32>
     requires rank_high { raw.now.rank ≤ raw.now.elements }
     requires whole { length raw.now.signs ≡ choose raw.now.elements raw.now.rank }
     requires vector { length vector ≡ raw.now.elements }
-    ensures none { IfNone result ((j : ℕ) → j < choose raw.now.elements (raw.now.rank - 1) → IsOrthogonal vector (get_or (cocircuit_vectors (map_of raw.now)) j [])) }
+    ensures none { IfNone result ((j : ℕ) → j < choose raw.now.elements (raw.now.rank - 1)
+        → IsOrthogonal vector (get_or (cocircuit_vectors (map_of raw.now)) j [])) }
     ensures within { IfSome result (λ k. k < choose raw.now.elements (raw.now.rank - 1)) }
     ensures here { IfSome result (λ k. IsOrthogonal vector (get_or (cocircuit_vectors (map_of raw.now)) k []) → ⊥) }
-    ensures before { IfSome result (λ k. (j : ℕ) → j < k → IsOrthogonal vector (get_or (cocircuit_vectors (map_of raw.now)) j [])) }
+    ensures before { IfSome result
+        (λ k. (j : ℕ) → j < k → IsOrthogonal vector (get_or (cocircuit_vectors (map_of raw.now)) j [])) }
 {
     let mut a = Subset::first(raw.rank - 1, raw.elements);
     for place in 0..Subset::choose(raw.elements, raw.rank - 1) {

@@ -1,4 +1,4 @@
-//! Chirotopes: maps that give a sign to each increasing list of r elements, and meet the axioms.
+//! Chirotopes: maps that give a sign to each increasing list of r elements, and satisfy the axioms.
 #![tactic(auto)]
 
 mod bad_map;

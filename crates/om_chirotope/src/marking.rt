@@ -12,25 +12,25 @@ use super::vectors::sign_of;
 use om_signs::{MAX_ELEMENTS, MAX_PLACES, RawMap, Sign};
 use om_subsets::Subset;
 
-/// The number of bits of a word: one for each set that has its mark in the word.
+/// The number of bits of a word, each of which is the mark of a set.
 const WORD_BITS: usize = 64;
 
 /// The logarithm of [`WORD_BITS`] to base 2: the number of bits of a place in a word.
 const PLACE_BITS: u8 = 6;
 
-/// The words for the sets of [`MAX_ELEMENTS`] elements.
+/// The number of words for the sets of [`MAX_ELEMENTS`] elements.
 pub const WORDS: usize = 1 << (MAX_ELEMENTS - PLACE_BITS);
 
-/// The most elements whose sets have their marks in a small table.
+/// The greatest number of elements whose sets have their marks in a small table.
 pub const FEW_ELEMENTS: u8 = 16;
 
-/// The words for the sets of [`FEW_ELEMENTS`] elements.
+/// The number of words for the sets of [`FEW_ELEMENTS`] elements.
 pub const FEW_WORDS: usize = 1 << (FEW_ELEMENTS - PLACE_BITS);
 
-/// The words for the sets of [`MAX_PLACES`] elements.
+/// The number of words for the sets of [`MAX_PLACES`] elements.
 pub const MOST_WORDS: usize = 1 << (MAX_PLACES - PLACE_BITS);
 
-/// At place e, the bits of a word whose numbers haven't bit e.
+/// At place e, the bits of a word whose numbers don't have bit e.
 const LOW: [u64; PLACE_BITS as usize] = [
     0x5555_5555_5555_5555,
     0x3333_3333_3333_3333,
@@ -40,7 +40,7 @@ const LOW: [u64; PLACE_BITS as usize] = [
     0x0000_0000_ffff_ffff,
 ];
 
-/// The number of words for the sets of some elements.
+/// The number of words for the sets of `elements` elements.
 pub fn number_of_words(elements: u8) -> usize
     requires { elements ≤ MAX_PLACES }
     ensures room { 2 ^ elements ≤ WORD_BITS * result }
@@ -51,7 +51,7 @@ pub fn number_of_words(elements: u8) -> usize
     ((1usize << elements) + WORD_BITS - 1) / WORD_BITS
 }
 
-/// Marks the sets that contain a basis, and takes away all other marks.
+/// Marks exactly the sets that contain a basis, and removes all other marks.
 pub fn mark_sets(raw: &RawMap, words: &mut [u64])
     requires high { raw.now.elements ≤ MAX_PLACES }
     requires rank { raw.now.rank ≤ raw.now.elements }
@@ -72,7 +72,7 @@ pub fn is_marked(words: &[u64], set: u32) -> bool
     words[set as usize / WORD_BITS] >> (set as usize % WORD_BITS) & 1 == 1
 }
 
-/// Takes away all marks.
+/// Removes all marks.
 fn clear(words: &mut [u64])
     ensures room { length words.new ≡ length words.old }
     ensures clear { (i : ℕ) → get_or words.new i 0 ≡ 0 }
@@ -117,8 +117,8 @@ fn mark(words: &mut [u64], set: u32)
     words[i] |= 1u64 << (set as usize % WORD_BITS);
 }
 
-/// Marks each set that has one element or more beside those of a marked one: for each element, the set with it has the mark
-/// of the set without it, in whole words.
+/// Marks each set that contains a marked set. For each element, the set with it takes over the mark of the set
+/// without it, a whole word at a time.
 fn mark_above(raw: &RawMap, words: &mut [u64])
     requires high { raw.now.elements ≤ MAX_PLACES }
     requires bases { AreMarked (map_of raw.now) words.old }
@@ -129,7 +129,7 @@ fn mark_above(raw: &RawMap, words: &mut [u64])
     }
 }
 
-/// Marks with each marked set without bit e the set with this bit.
+/// Marks, for each marked set without bit e, the set with this bit added.
 fn spread(words: &mut [u64], e: u8)
     requires { e < MAX_PLACES }
     ensures { IsSpread words.old words.new e }
@@ -141,7 +141,7 @@ fn spread(words: &mut [u64], e: u8)
     }
 }
 
-/// The same, for a bit of the place in a word.
+/// `spread` for a bit e of the place in a word.
 fn spread_within(words: &mut [u64], e: u8)
     requires { e < PLACE_BITS }
     ensures { IsSpread words.old words.new e }
@@ -151,7 +151,7 @@ fn spread_within(words: &mut [u64], e: u8)
     }
 }
 
-/// The word with each bit whose number hasn't bit e also at the number with it.
+/// The word in which each bit whose number lacks bit e is copied to the number with it.
 fn spread_in(word: u64, e: u8) -> u64
     requires { e < PLACE_BITS }
     ensures { IsWordSpread word result e }
@@ -159,7 +159,7 @@ fn spread_in(word: u64, e: u8) -> u64
     word | (word & LOW[e as usize]) << (1u32 << e)
 }
 
-/// The same, for bit d of the number of a word.
+/// `spread` for bit d of the number of a word.
 fn spread_over(words: &mut [u64], d: u8)
     requires { d + PLACE_BITS < MAX_PLACES }
     ensures { IsSpread words.old words.new (d + PLACE_BITS) }

@@ -17,12 +17,13 @@ use om_signs::{MAX_ELEMENTS, MAX_PLACES, RawMap, SignVec};
 use om_subsets::{MOST_SUBSETS, Subset};
 use std::thread::Threads;
 
-/// The first pair, by S and then by A in lexicographic order, whose sign vectors V of S and U of A aren't orthogonal,
-/// or None where every pair is orthogonal: S has one element more than the rank, and A one less. In rank 0 there is no A,
-/// and in the rank of all elements no S, so every pair is orthogonal there.
+/// The first pair, by S and then by A in lexicographic order, whose sign vectors V of S and U of A aren't
+/// orthogonal. None if every pair is orthogonal. S has one element more than the rank, and A one less. In rank 0
+/// there is no A, and if the rank is the number of elements there is no S, so every pair is orthogonal.
 ///
-/// The elements are from 1 to [`MAX_PLACES`], the rank is at most their number, and there is one sign for each
-/// increasing list. Whether some value isn't 0 is not looked at. It takes no memory: its tables need up to 470 KB of stack.
+/// There are from 1 to [`MAX_PLACES`] elements, the rank is at most their number, and each increasing list of as
+/// many elements as the rank has a sign. Whether some value isn't 0 isn't tested. The call allocates no memory: its
+/// tables need up to 470 KB of stack.
 pub fn violated(raw: &RawMap) -> Option<(Subset, Subset)>
     requires low { 1 ≤ raw.now.elements }
     requires high { raw.now.elements ≤ MAX_PLACES }
@@ -49,8 +50,8 @@ pub fn violated(raw: &RawMap) -> Option<(Subset, Subset)>
     violated_by(raw, cocircuits)
 }
 
-/// The same, by a table that has room for the vectors U of each map that is read. It is no part of its caller, so that small maps
-/// don't pay for this table.
+/// `violated`, with a table that has room for the vectors U of each map of a document. It is never inlined, so that
+/// small maps don't pay for this table.
 #[inline(never)]
 fn violated_with_room(raw: &RawMap) -> Option<(Subset, Subset)>
     requires low { 1 ≤ raw.now.elements }
@@ -67,7 +68,7 @@ fn violated_with_room(raw: &RawMap) -> Option<(Subset, Subset)>
     violated_by(raw, cocircuits)
 }
 
-/// The same, by a table for the vectors U.
+/// `violated`, with a given table for the vectors U.
 fn violated_by(raw: &RawMap, cocircuits: &mut [SignVec]) -> Option<(Subset, Subset)>
     requires low { 1 ≤ raw.now.elements }
     requires high { raw.now.elements ≤ MAX_PLACES }
@@ -86,7 +87,7 @@ fn violated_by(raw: &RawMap, cocircuits: &mut [SignVec]) -> Option<(Subset, Subs
     }
 }
 
-/// The same, where what has to be scanned is shared out among threads.
+/// `violated`, with the scan distributed among threads.
 pub fn violated_on_threads<R: Threads + Sync>(rt: &R, raw: &RawMap) -> Option<(Subset, Subset)>
     requires low { 1 ≤ raw.now.elements }
     requires high { raw.now.elements ≤ MAX_PLACES }
@@ -113,7 +114,8 @@ pub fn violated_on_threads<R: Threads + Sync>(rt: &R, raw: &RawMap) -> Option<(S
     violated_by_threads(rt, raw, cocircuits)
 }
 
-/// The same, by a table that has room for the vectors U of each map that is read, and no part of its caller either.
+/// `violated_on_threads`, with a table that has room for the vectors U of each map of a document. It is never
+/// inlined either.
 #[inline(never)]
 fn violated_with_room_on_threads<R: Threads + Sync>(
     rt: &R,
@@ -133,7 +135,7 @@ fn violated_with_room_on_threads<R: Threads + Sync>(
     violated_by_threads(rt, raw, cocircuits)
 }
 
-/// The same, by a table for the vectors U.
+/// `violated_on_threads`, with a given table for the vectors U.
 fn violated_by_threads<R: Threads + Sync>(
     rt: &R,
     raw: &RawMap,
@@ -156,19 +158,19 @@ fn violated_by_threads<R: Threads + Sync>(
     }
 }
 
-/// What is known of a map before its pairs are scanned.
+/// What is known about a map before its pairs are scanned.
 enum Settled {
     /// Every pair is orthogonal.
     Orthogonal,
-    /// The first violated pair is this one.
+    /// This is the first violated pair.
     Violated { s: Subset, a: Subset },
     /// Neither is known.
     Open,
 }
 
-/// What the pairs of the first set S, and then the three-term test, say of a map. It fills the table with the vectors U of all
-/// sets of one element less than the rank, unless the first set S has a violated pair. The test is asked where there are many
-/// pairs, of maps on at most [`MAX_ELEMENTS`] elements.
+/// What the pairs of the first set S, and then the three-term test, show about a map. The call fills the table with
+/// the vectors U of all sets of one element less than the rank, unless the first set S has a violated pair. Only
+/// maps on at most [`MAX_ELEMENTS`] elements with many pairs are given the test.
 fn settle(raw: &RawMap, cocircuits: &mut [SignVec]) -> Settled
     requires low { 1 ≤ raw.now.elements }
     requires high { raw.now.elements ≤ MAX_PLACES }
@@ -189,7 +191,8 @@ fn settle(raw: &RawMap, cocircuits: &mut [SignVec]) -> Settled
     Settled::Open
 }
 
-/// Whether there are more pairs of a set S and a set A than sets of elements, or than words for the marks of these sets.
+/// Whether there are more pairs of a set S and a set A than sets of elements, or than words for the marks of these
+/// sets.
 fn has_many_pairs(raw: &RawMap) -> bool
     requires high { raw.now.elements ≤ MAX_PLACES }
     requires rank_low { 1 ≤ raw.now.rank }
@@ -200,7 +203,7 @@ fn has_many_pairs(raw: &RawMap) -> bool
     sets * cosets > (1u64 << raw.elements).min(WORDS as u64)
 }
 
-/// The first violated pair, from the vectors U of all sets of one element less than the rank.
+/// The first violated pair, found with the vectors U of all sets of one element less than the rank.
 fn scan(raw: &RawMap, cocircuits: &[SignVec]) -> Option<(Subset, Subset)>
     requires low { 1 ≤ raw.now.elements }
     requires high { raw.now.elements ≤ MAX_PLACES }
@@ -223,8 +226,8 @@ fn scan(raw: &RawMap, cocircuits: &[SignVec]) -> Option<(Subset, Subset)>
     None
 }
 
-/// The first violated pair, by vectors U that are made anew for each set S: for maps whose vectors U have no room in the table,
-/// which are maps with more values than a chirotope that is read.
+/// The first violated pair, found with vectors U that are computed anew for each set S. This is for maps whose
+/// vectors U have no room in the table; they have more values than a map of a document.
 fn scan_each(raw: &RawMap) -> Option<(Subset, Subset)>
     requires low { 1 ≤ raw.now.elements }
     requires high { raw.now.elements ≤ MAX_PLACES }
@@ -245,8 +248,8 @@ fn scan_each(raw: &RawMap) -> Option<(Subset, Subset)>
     None
 }
 
-/// The place of the first vector of a part of the table that isn't orthogonal to this one, from place `from` on and before
-/// `end`.
+/// The place of the first vector of the table, from place `from` on and before `end`, that isn't orthogonal to a
+/// given vector.
 pub fn first_not_orthogonal(
     vector: SignVec,
     table: &[SignVec],

@@ -1,4 +1,4 @@
-//! The scan for pairs of sign vectors that aren't orthogonal, by several threads.
+//! The scan for pairs of sign vectors that aren't orthogonal, on several threads.
 
 ghost use Rattle.std.specs.Prelude.{ℕ, ◌≡◌, ◌+◌, ◌-◌, ◌*◌, ◌<◌, ◌≤◌, ◌↔◌, [], length, IsNone, IsSome, IfNone, IfSome};
 ghost use Rattle.om_subsets.specs.Subsets.{choose};
@@ -18,17 +18,17 @@ use om_signs::{MAX_PLACES, RawMap, SignVec};
 use om_subsets::{MOST_SUBSETS, Subset};
 use std::thread::Threads;
 
-/// How many vectors U one call looks at.
+/// How many vectors U one call compares.
 pub const BLOCK: usize = 1_024;
 
-/// How long it takes to make the vector V of a set, in nanoseconds.
+/// How long it takes to compute the vector V of a set, in nanoseconds.
 const VECTOR: u64 = 300;
 
 /// How long it takes to test a pair of vectors, in nanoseconds.
 const PAIR: u64 = 3;
 
-/// The pairs of a map, numbered by S and then by blocks of sets A: a number is bad where the vector V of its set S isn't
-/// orthogonal to the vector U of some set of its block.
+/// The pairs of a map, numbered by S and then by blocks of sets A. A number is bad if the vector V of its set S
+/// isn't orthogonal to the vector U of some set of its block.
 #[derive(Drop)]
 struct Blocks<'a> {
     raw: &'a RawMap,
@@ -75,10 +75,13 @@ fn first_in_block(raw: &RawMap, cocircuits: &[SignVec], s: Subset, block: u64) -
     requires n { s.n ≡ raw.now.elements }
     requires size { length s.elements ≡ raw.now.rank + 1 }
     requires small { block ≤ MOST_SUBSETS }
-    ensures none { IfNone result ((j : ℕ) → IsInBlock (length cocircuits.now) block j → IsOrthogonal (circuit_vector (map_of raw.now) s.elements) (get_or cocircuits.now j [])) }
+    ensures none { IfNone result ((j : ℕ) → IsInBlock (length cocircuits.now) block j
+        → IsOrthogonal (circuit_vector (map_of raw.now) s.elements) (get_or cocircuits.now j [])) }
     ensures within { IfSome result (λ j. IsInBlock (length cocircuits.now) block j) }
-    ensures here { IfSome result (λ j. IsOrthogonal (circuit_vector (map_of raw.now) s.elements) (get_or cocircuits.now j []) → ⊥) }
-    ensures before { IfSome result (λ k. (j : ℕ) → IsInBlock (length cocircuits.now) block j → j < k → IsOrthogonal (circuit_vector (map_of raw.now) s.elements) (get_or cocircuits.now j [])) }
+    ensures here { IfSome result (λ j. IsOrthogonal (circuit_vector (map_of raw.now) s.elements) (get_or cocircuits.now j [])
+        → ⊥) }
+    ensures before { IfSome result (λ k. (j : ℕ) → IsInBlock (length cocircuits.now) block j → j < k
+        → IsOrthogonal (circuit_vector (map_of raw.now) s.elements) (get_or cocircuits.now j [])) }
 {
     let from = block as usize * BLOCK;
     let end = (from + BLOCK).min(cocircuits.len());
@@ -88,7 +91,7 @@ fn first_in_block(raw: &RawMap, cocircuits: &[SignVec], s: Subset, block: u64) -
     first_not_orthogonal(circuit_of(raw, s), cocircuits, from, end)
 }
 
-/// The first violated pair, from the vectors U of all sets of one element less than the rank.
+/// The first violated pair, found with the vectors U of all sets of one element less than the rank.
 pub fn scan_on_threads<R: Threads + Sync>(
     rt: &R,
     raw: &RawMap,
@@ -118,7 +121,7 @@ pub fn scan_on_threads<R: Threads + Sync>(
     }
 }
 
-/// The first violated pair of the least bad number.
+/// The first violated pair of the least bad number k.
 fn pair_of(raw: &RawMap, cocircuits: &[SignVec], blocks: u64, k: u64) -> Option<(Subset, Subset)>
     requires low { 1 ≤ raw.now.elements }
     requires high { raw.now.elements ≤ MAX_PLACES }

@@ -1,6 +1,7 @@
-//! The three-term test: a quick way to see that all pairs of sign vectors are orthogonal.
+//! The three-term test: a fast way to see that all pairs of sign vectors are orthogonal.
 
-ghost use Rattle.std.specs.Prelude.{ℕ, List, ◌≡◌, ◌≢◌, ◌+◌, ◌-◌, ◌*◌, ◌<◌, ◌≤◌, ◌^◌, ◌↔◌, ◌∷◌, ◌++◌, length, replicate, take, IsTrue, []};
+ghost use Rattle.std.specs.Prelude.{ℕ, List, ◌≡◌, ◌≢◌, ◌+◌, ◌-◌, ◌*◌, ◌<◌, ◌≤◌, ◌^◌, ◌↔◌, ◌∷◌, ◌++◌, length, replicate};
+ghost use Rattle.std.specs.Prelude.{take, IsTrue, []};
 ghost use Rattle.std.specs.Int.{bit_at};
 ghost use Rattle.std.proofs.Math.ListN.{get_or};
 ghost use Rattle.om_signs.specs.Sign.{opposite, product};
@@ -11,7 +12,8 @@ ghost use Rattle.om_chirotope.specs.declared.marking.TheConstants.{WORD_BITS};
 ghost use Rattle.om_chirotope.specs.Map.{map_of, cocircuit_vector, cocircuit_vectors};
 ghost use Rattle.om_chirotope.specs.Chirotope.{HasOrthogonalPairs};
 ghost use Rattle.om_chirotope.specs.ThreeTerm.{HasExchange, HasListExchange, HasThreeTermRelations};
-ghost use Rattle.om_chirotope.specs.Pictures.{AreLong, AreMarkedAbove, AreRowsBelow, HasRelationsAt, IsLive, IsMet, IsTriple};
+ghost use Rattle.om_chirotope.specs.Pictures.{AreLong, AreMarkedAbove, AreRowsBelow, HasRelationsAt, IsLive, IsMet};
+ghost use Rattle.om_chirotope.specs.Pictures.{IsTriple};
 
 use super::cocircuit_table::{FEW, ROOM, cocircuit_at, fill};
 use super::marking::{
@@ -25,8 +27,8 @@ use om_subsets::Subset;
 /// The number of rows of a picture: one for each element.
 const ROWS: usize = MAX_PLACES as usize;
 
-/// Whether every pair of sign vectors of the map is orthogonal, by the three-term test: whether bases have exchange, and the
-/// three-term relations hold.
+/// Whether every pair of sign vectors of the map is orthogonal, found by the three-term test: whether bases have
+/// exchange, and the three-term relations hold.
 pub fn meets_test(raw: &RawMap, cocircuits: &[SignVec]) -> bool
     requires low { 1 ≤ raw.now.elements }
     requires high { raw.now.elements ≤ MAX_ELEMENTS }
@@ -39,12 +41,12 @@ pub fn meets_test(raw: &RawMap, cocircuits: &[SignVec]) -> bool
     has_list_exchange(raw, cocircuits) && has_relations(raw, cocircuits)
 }
 
-/// Whether the bases of a map have exchange: an element e of a basis B that isn't in a basis C changes places with some
-/// element f of C that isn't in B. A basis is a set of as many elements as the rank whose value isn't 0; a map without a
-/// basis has exchange.
+/// Whether the bases of a map have exchange. Let e be an element of a basis B that isn't in a basis C. Then e can
+/// be exchanged for some element f of C that isn't in B. A basis is a set of as many elements as the rank whose
+/// value isn't 0. A map without a basis has exchange.
 ///
-/// The elements are from 1 to [`MAX_PLACES`], the rank is at most their number, and there is one sign for each
-/// increasing list. It takes no memory: its table needs 256 KB of stack.
+/// There are from 1 to [`MAX_PLACES`] elements, the rank is at most their number, and each increasing list of as
+/// many elements as the rank has a sign. The call allocates no memory: its table needs 256 KB of stack.
 ///
 /// Source: Björner, Las Vergnas, Sturmfels, White and Ziegler, *Oriented Matroids*, chapter 3.
 pub fn has_exchange(raw: &RawMap) -> bool
@@ -60,7 +62,7 @@ pub fn has_exchange(raw: &RawMap) -> bool
     has_exchange_of_lists(raw)
 }
 
-/// The same, by lists, for a rank above 0.
+/// Whether bases have exchange, in its form for lists, for a rank above 0.
 fn has_exchange_of_lists(raw: &RawMap) -> bool
     requires low { 1 ≤ raw.now.elements }
     requires high { raw.now.elements ≤ MAX_PLACES }
@@ -76,8 +78,8 @@ fn has_exchange_of_lists(raw: &RawMap) -> bool
     has_exchange_by(raw, &mut few[..number_of_words(raw.elements)])
 }
 
-/// The same, by a table that has room for the marks of the sets of any number of elements. It is no part of its caller, so that
-/// small maps don't pay for this table.
+/// `has_exchange_of_lists`, with a table that has room for the marks of the sets of any number of elements. It is
+/// never inlined, so that small maps don't pay for this table.
 #[inline(never)]
 fn has_exchange_with_room(raw: &RawMap) -> bool
     requires low { 1 ≤ raw.now.elements }
@@ -91,7 +93,7 @@ fn has_exchange_with_room(raw: &RawMap) -> bool
     has_exchange_by(raw, &mut table[..number_of_words(raw.elements)])
 }
 
-/// The same, by a table for the marks of the sets.
+/// `has_exchange_of_lists`, with a given table for the marks of the sets.
 fn has_exchange_by(raw: &RawMap, marks: &mut [u64]) -> bool
     requires low { 1 ≤ raw.now.elements }
     requires high { raw.now.elements ≤ MAX_PLACES }
@@ -105,8 +107,8 @@ fn has_exchange_by(raw: &RawMap, marks: &mut [u64]) -> bool
     each_vector_is_met(raw, marks)
 }
 
-/// Whether each basis has an element in the support of each vector U that isn't zero, by marks of the sets which contain a
-/// basis. The vectors U are made one after the other.
+/// Whether each basis has an element in the support of each nonzero vector U, found with marks of the sets that
+/// contain a basis. The vectors U are computed one after the other.
 fn each_vector_is_met(raw: &RawMap, marks: &[u64]) -> bool
     requires low { 1 ≤ raw.now.elements }
     requires high { raw.now.elements ≤ MAX_PLACES }
@@ -126,7 +128,8 @@ fn each_vector_is_met(raw: &RawMap, marks: &[u64]) -> bool
     true
 }
 
-/// The same, by a table of the vectors U, for at most [`MAX_ELEMENTS`] elements.
+/// Whether bases have exchange, in its form for lists, found with a table of the vectors U, for at most
+/// [`MAX_ELEMENTS`] elements.
 fn has_list_exchange(raw: &RawMap, cocircuits: &[SignVec]) -> bool
     requires low { 1 ≤ raw.now.elements }
     requires high { raw.now.elements ≤ MAX_ELEMENTS }
@@ -143,7 +146,8 @@ fn has_list_exchange(raw: &RawMap, cocircuits: &[SignVec]) -> bool
     has_list_exchange_by(raw, cocircuits, &mut few[..number_of_words(raw.elements)])
 }
 
-/// The same, by a table that has room for the marks of the sets of [`MAX_ELEMENTS`] elements, and no part of its caller either.
+/// `has_list_exchange`, with a table that has room for the marks of the sets of [`MAX_ELEMENTS`] elements. It is
+/// never inlined either.
 #[inline(never)]
 fn has_list_exchange_with_room(raw: &RawMap, cocircuits: &[SignVec]) -> bool
     requires low { 1 ≤ raw.now.elements }
@@ -158,7 +162,7 @@ fn has_list_exchange_with_room(raw: &RawMap, cocircuits: &[SignVec]) -> bool
     has_list_exchange_by(raw, cocircuits, &mut table[..number_of_words(raw.elements)])
 }
 
-/// The same, by a table for the marks of the sets.
+/// `has_list_exchange`, with a given table for the marks of the sets.
 fn has_list_exchange_by(raw: &RawMap, cocircuits: &[SignVec], marks: &mut [u64]) -> bool
     requires low { 1 ≤ raw.now.elements }
     requires high { raw.now.elements ≤ MAX_PLACES }
@@ -173,7 +177,7 @@ fn has_list_exchange_by(raw: &RawMap, cocircuits: &[SignVec], marks: &mut [u64])
     each_basis_meets_each(raw, cocircuits, marks)
 }
 
-/// Whether each basis has an element in the support of each vector U of the table that isn't zero.
+/// Whether each basis has an element in the support of each nonzero vector U of the table.
 fn each_basis_meets_each(raw: &RawMap, cocircuits: &[SignVec], marks: &[u64]) -> bool
     requires high { raw.now.elements ≤ MAX_PLACES }
     requires rank_low { 1 ≤ raw.now.rank }
@@ -189,7 +193,8 @@ fn each_basis_meets_each(raw: &RawMap, cocircuits: &[SignVec], marks: &[u64]) ->
     true
 }
 
-/// Whether a vector is zero, or each basis has an element in its support: whether no set is marked that lies off the support.
+/// Whether a vector is zero, or each basis has an element in its support. The latter holds exactly if the set of
+/// the elements off the support isn't marked.
 fn is_met(raw: &RawMap, marks: &[u64], u: SignVec) -> bool
     requires high { raw.now.elements ≤ MAX_PLACES }
     requires length { length u ≡ raw.now.elements }
@@ -207,13 +212,13 @@ fn is_met(raw: &RawMap, marks: &[u64], u: SignVec) -> bool
     true
 }
 
-/// Whether the three-term relations of a map hold: for each increasing list P of two elements less than the rank, and four
-/// increasing elements a, b, c and d off it, the value of P with a and b times that with c and d, the value with a and c times
-/// that with b and d, negated, and the value with a and d times that with b and c are all 0, or include a plus and a minus. In
-/// ranks 0 and 1 there is no P, so the relations hold there.
+/// Whether the three-term relations of a map hold. Let P be an increasing list of two elements less than the rank,
+/// and a, b, c and d four increasing elements off it. Take values of P with two of these. Then three products of
+/// them are all 0, or include a plus and a minus: ab times cd, the negative of ac times bd, and ad times bc. In
+/// ranks 0 and 1 there is no P, so the relations hold.
 ///
-/// The elements are from 1 to [`MAX_PLACES`], the rank is at most their number, and there is one sign for each
-/// increasing list. It takes no memory: its tables need up to 345 KB of stack.
+/// There are from 1 to [`MAX_PLACES`] elements, the rank is at most their number, and each increasing list of as
+/// many elements as the rank has a sign. The call allocates no memory: its tables need up to 345 KB of stack.
 ///
 /// Source: Björner, Las Vergnas, Sturmfels, White and Ziegler, *Oriented Matroids*, chapter 3.
 pub fn has_three_term_relations(raw: &RawMap) -> bool
@@ -238,8 +243,8 @@ pub fn has_three_term_relations(raw: &RawMap) -> bool
     has_relations_by(raw, cocircuits)
 }
 
-/// The same, by a table that has room for the vectors U of each map that is read. It is no part of its caller, so that small maps
-/// don't pay for this table.
+/// `has_three_term_relations`, with a table that has room for the vectors U of each map of a document. It is never
+/// inlined, so that small maps don't pay for this table.
 #[inline(never)]
 fn has_relations_with_room(raw: &RawMap) -> bool
     requires low { 1 ≤ raw.now.elements }
@@ -255,7 +260,7 @@ fn has_relations_with_room(raw: &RawMap) -> bool
     has_relations_by(raw, cocircuits)
 }
 
-/// The same, by a table for the vectors U.
+/// `has_three_term_relations`, with a given table for the vectors U.
 fn has_relations_by(raw: &RawMap, cocircuits: &mut [SignVec]) -> bool
     requires low { 1 ≤ raw.now.elements }
     requires high { raw.now.elements ≤ MAX_PLACES }
@@ -269,7 +274,7 @@ fn has_relations_by(raw: &RawMap, cocircuits: &mut [SignVec]) -> bool
     has_relations(raw, cocircuits)
 }
 
-/// The same, from a table of the first vectors U; those past its end are made anew.
+/// `has_three_term_relations`, with a table of the first vectors U; those beyond its end are computed anew.
 fn has_relations(raw: &RawMap, cocircuits: &[SignVec]) -> bool
     requires low { 1 ≤ raw.now.elements }
     requires high { raw.now.elements ≤ MAX_PLACES }
@@ -291,8 +296,9 @@ fn has_relations(raw: &RawMap, cocircuits: &[SignVec]) -> bool
     true
 }
 
-/// Whether the three-term relations of a list P hold, by the rows of its picture: the row of x has at each y the value
-/// of P with x and y behind it. Where the relations of the first row that isn't zero hold with any two later ones, all do.
+/// Whether the three-term relations of a list P hold, found by the rows of its picture. The row of x has at each y
+/// the value of P followed by x and y. If the relations of the first nonzero row with any two later ones hold, all
+/// do.
 fn has_relations_at(raw: &RawMap, cocircuits: &[SignVec], p: Subset) -> bool
     requires low { 1 ≤ raw.now.elements }
     requires high { raw.now.elements ≤ MAX_PLACES }
@@ -336,7 +342,7 @@ fn fill_rows(raw: &RawMap, cocircuits: &[SignVec], p: Subset, rows: &mut [SignVe
     }
 }
 
-/// The row of an element x off P, by the place of P with x.
+/// The row of an element x off P, found by the place of the set of P and x.
 fn row_of(raw: &RawMap, cocircuits: &[SignVec], p: Subset, x: u8, place: u32) -> SignVec
     requires low { 1 ≤ raw.now.elements }
     requires high { raw.now.elements ≤ MAX_PLACES }
@@ -371,7 +377,7 @@ fn live_rows(rows: &[SignVec; ROWS], elements: u8) -> u32
     live
 }
 
-/// Whether the relations of row x hold with any two of a mask of rows.
+/// Whether the relations of row x with any two rows of a mask hold.
 fn are_balanced_from(rows: &[SignVec; ROWS], elements: u8, x: u32, later: u32) -> bool
     requires high { elements ≤ MAX_PLACES }
     requires rows { AreLong rows.now elements }
@@ -390,7 +396,7 @@ fn are_balanced_from(rows: &[SignVec; ROWS], elements: u8, x: u32, later: u32) -
     true
 }
 
-/// Whether the relations of rows x and y hold with each of a mask of rows.
+/// Whether the relations of rows x and y with each row of a mask hold.
 fn are_balanced_with(rows: &[SignVec; ROWS], elements: u8, x: u32, y: u32, later: u32) -> bool
     requires high { elements ≤ MAX_PLACES }
     requires rows { AreLong rows.now elements }
@@ -412,8 +418,9 @@ fn are_balanced_with(rows: &[SignVec; ROWS], elements: u8, x: u32, y: u32, later
     true
 }
 
-/// Whether the three-term relations of three rows with all elements hold: the rows are those of elements x, y and z below a list P, so
-/// the row of x has at each element w the value of P with x and w behind it. The three have one length, and y and z are places of them.
+/// Whether the three-term relations of three rows with every fourth element hold. The rows are those of elements x,
+/// y and z off a list P. The row of x has at each element w the value of P followed by x and w. The three vectors
+/// have one length, and y and z are from 1 to this length.
 ///
 /// Source: Björner, Las Vergnas, Sturmfels, White and Ziegler, *Oriented Matroids*, chapter 3.
 pub fn are_balanced(first: SignVec, second: SignVec, third: SignVec, y: u8, z: u8) -> bool
@@ -423,7 +430,10 @@ pub fn are_balanced(first: SignVec, second: SignVec, third: SignVec, y: u8, z: u
     requires y_high { y ≤ length first }
     requires z_low { 1 ≤ z }
     requires z_high { z ≤ length first }
-    ensures { IsTrue result ↔ ((i : ℕ) → i < length first → AreBalanced (product (at_element first y) (at third i)) (opposite (product (at_element first z) (at second i))) (product (at first i) (at_element second z))) }
+    ensures { IsTrue result
+        ↔ ((i : ℕ) → i < length first
+        → AreBalanced (product (at_element first y) (at third i))
+        (opposite (product (at_element first z) (at second i))) (product (at first i) (at_element second z))) }
 {
     let u = scaled(first.get(y), third);
     let v = scaled(first.get(z).neg(), second);

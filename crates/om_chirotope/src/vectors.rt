@@ -1,4 +1,4 @@
-//! The signs of sets under a map, and the two sign vectors.
+//! The signs of sets under a map, and its two kinds of sign vectors.
 
 ghost use Rattle.std.specs.Prelude.{◌≡◌, ◌+◌, ◌<◌, ◌≤◌, length};
 ghost use Rattle.om_subsets.specs.Subsets.{choose, rank_of, IsMember, with_element};
@@ -11,7 +11,7 @@ use super::walking::places_with;
 use om_signs::{MAX_PLACES, RawMap, Sign, SignVec};
 use om_subsets::Subset;
 
-/// The sign of a set of r elements, for the rank r.
+/// The sign of a set of as many elements as the rank.
 pub fn sign_at(raw: &RawMap, s: Subset) -> Sign
     requires n { s.n ≡ raw.now.elements }
     requires size { length s.elements ≡ raw.now.rank }
@@ -22,7 +22,7 @@ pub fn sign_at(raw: &RawMap, s: Subset) -> Sign
     sign_of(raw, s, s.rank())
 }
 
-/// The same, by the place of the set.
+/// The sign of a set of as many elements as the rank, found by the place of the set.
 pub fn sign_of(raw: &RawMap, s: Subset, place: u32) -> Sign
     requires n { s.n ≡ raw.now.elements }
     requires size { length s.elements ≡ raw.now.rank }
@@ -72,7 +72,7 @@ pub fn circuit_of(raw: &RawMap, s: Subset) -> SignVec
     vector
 }
 
-/// The sign at e of the vector U of a, by the place of a with e.
+/// The sign at e of the vector U of a, found by the place of the set of a and e.
 fn cocircuit_sign(raw: &RawMap, a: Subset, e: u8, place: u32) -> Sign
     requires low { 1 ≤ e }
     requires high { e ≤ raw.now.elements }
@@ -107,7 +107,7 @@ pub fn cocircuit_of(raw: &RawMap, a: Subset) -> SignVec
     vector
 }
 
-/// The value of a tuple of r elements, for the rank r.
+/// The value of a tuple of as many elements as the rank.
 pub fn value_at(raw: &RawMap, tuple: &[u8]) -> Sign
     requires high { raw.now.elements ≤ MAX_PLACES }
     requires size { length tuple.now ≡ raw.now.rank }
@@ -128,7 +128,7 @@ pub fn value_at(raw: &RawMap, tuple: &[u8]) -> Sign
     sign.times(sign_at(raw, set))
 }
 
-/// The sign of the permutation that moves e from the front over the elements of the set that are less.
+/// The sign of the permutation that moves e from the front over the smaller elements of the set.
 fn sorting_sign(set: Subset, e: u8) -> Sign
     requires low { 1 ≤ e }
     requires high { e ≤ set.n }

@@ -1,4 +1,4 @@
-//! The places of the sets with one element more than a set.
+//! The places of the sets that have one element more than a given set.
 
 ghost use Rattle.std.specs.Prelude.{ℕ, ◌≡◌, ◌+◌, ◌-◌, ◌<◌, ◌≤◌, length};
 ghost use Rattle.std.proofs.Math.ListN.{get_or};
@@ -7,17 +7,19 @@ ghost use Rattle.om_subsets.specs.Subsets.{choose, rank_of, IsMember, IsSubsetFr
 use om_signs::MAX_PLACES;
 use om_subsets::Subset;
 
-/// The number of places of a set with one element more: one for each element.
+/// The number of places: one for each element.
 pub const PLACES: usize = MAX_PLACES as usize;
 
-/// The places of the sets with one element more: at e - 1, for each element e that isn't in the set, the place of the set
-/// with e in the lexicographic order of those of its size.
+/// The places of the sets that have one element more than the set. For each element e that isn't in the set, the
+/// result has at e - 1 the place of the set with e. This is its place in the lexicographic order of the sets of its
+/// size.
 pub fn places_with(set: Subset) -> [u32; PLACES]
-    ensures { (e : ℕ) → 1 ≤ e → e ≤ set.n → (IsMember e set.elements → ⊥) → get_or result (e - 1) 0 ≡ rank_of set.n (with_element e set.elements) }
+    ensures { (e : ℕ) → 1 ≤ e → e ≤ set.n → (IsMember e set.elements → ⊥)
+        → get_or result (e - 1) 0 ≡ rank_of set.n (with_element e set.elements) }
 {
     let mut places = [0u32; PLACES];
     let mut left = set.size();
-    // the place of the set, with what has to be added to it where the further element comes after those looked at
+    // the place of the set, and what is to be added to it if the new element comes after those seen so far
     let mut place = set.rank();
     for e in 1..set.n() + 1 {
         if set.has(e) {

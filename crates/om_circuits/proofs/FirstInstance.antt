@@ -23,7 +23,8 @@ same_key (Nested i j) (Nested k l) e = cc
 same_key (NoElimination i j x) (NoElimination k l y) e = cc
 same_key a b e = cc
 
-pub one_first : (members : List (List Sign)) (a b : SetRefused) → IsFirstViolated members a → IsFirstViolated members b → a ≡ b
+pub one_first : (members : List (List Sign)) (a b : SetRefused) → IsFirstViolated members a → IsFirstViolated members b
+    → a ≡ b
 one_first members a b f g = elim (ordered_keys (λ k. max 1 k) (key a) (key b) (keyed a) (keyed b)) [
   | inl before ↦ absurd (g.first a before f.violated)
   | inr (inl after) ↦ absurd (f.first b after g.violated)

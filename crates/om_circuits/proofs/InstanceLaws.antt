@@ -1,7 +1,8 @@
 -- From the scans to the axioms and to the first violated instance.
 --
--- Main results: axioms_met: where no scan finds an instance, the axioms hold; first_nested_violated, first_blocked_violated: what a scan finds is
--- the first violated instance; violated_breaks: a violated instance breaks the axioms.
+-- Main results: axioms_met: where no scan finds an instance, the axioms hold; first_nested_violated,
+-- first_blocked_violated: what a scan finds is the first violated instance; violated_breaks: a violated instance breaks
+-- the axioms.
 use Rattle.std.proofs.Common.{ℕ, ◌≡◌, ◌≢◌, ◌+◌, ◌-◌, ◌≤◌, List, [], ◌∷◌, length, sym, subst, arith, inl, inr}
 use Rattle.std.specs.List.{Contains}
 use Rattle.om_signs.specs.declared.sign.Sign.{Sign}
@@ -14,7 +15,8 @@ use Rattle.om_members.specs.Listings.{HaveLength}
 use Rattle.om_members.specs.Positions.{IsPosition, IsBefore}
 use Rattle.om_circuits.specs.Instances.{IsNestedIn, HasNoEliminator, IsViolated, key, IsFirstViolated}
 use Rattle.om_members.specs.Scans.{nth, AllBelow, IsFirstBadPair, HasNegativeAt}
-use Rattle.om_circuits.specs.Scans.{IsNotZeroAt, IsUnnestedIn, HasEliminatorIfAsked, AreNestedAt, AreUnnestedAt, IsUnblockedAt, IsFirstBlocked}
+use Rattle.om_circuits.specs.Scans.{IsNotZeroAt, IsUnnestedIn, HasEliminatorIfAsked, AreNestedAt, AreUnnestedAt}
+use Rattle.om_circuits.specs.Scans.{IsUnblockedAt, IsFirstBlocked}
 use Rattle.om_circuits.proofs.MaskLaws.{element_within}
 use Rattle.om_members.proofs.OrderLaws.{same_number, greater_number, last_number}
 use Rattle.om_members.proofs.ScanLaws.{nth_contained, contains_nth}
@@ -24,7 +26,8 @@ use Rattle.om_members.proofs.ScanLaws.{nth_contained, contains_nth}
 not_both_nested : (X Y : List Sign) → IsUnnestedIn X Y → IsNestedIn X Y → ⊥
 not_both_nested X Y h v = elim (h v.within) [ inl e ↦ v.other e | inr e ↦ v.not_negative e ]
 
-pub not_both_blocked : (members : List (List Sign)) (X Y : List Sign) (e : ℕ) → HasEliminatorIfAsked members X Y e → HasNoEliminator members X Y e → ⊥
+pub not_both_blocked : (members : List (List Sign)) (X Y : List Sign) (e : ℕ) → HasEliminatorIfAsked members X Y e
+    → HasNoEliminator members X Y e → ⊥
 not_both_blocked members X Y e h v = v.none (h v.element v.not_negative v.opposed)
 
 module _ (members : List (List Sign)) where
@@ -34,23 +37,29 @@ module _ (members : List (List Sign)) where
   none_negative : AllBelow (length members) (HasNegativeAt members) → (i : ℕ) → IsViolated members (NoNegative i) → ⊥
   none_negative h i v = let p = v.0.0 in let q = v.0.1 in v.1 (h (i - 1) (omega arith))
 
-  none_nested : AllBelow (length members) (λ i. AllBelow (length members) (AreUnnestedAt members i)) → (i j : ℕ) → IsViolated members (Nested i j) → ⊥
+  none_nested : AllBelow (length members) (λ i. AllBelow (length members) (AreUnnestedAt members i)) → (i j : ℕ)
+      → IsViolated members (Nested i j) → ⊥
   none_nested h i j v =
       let p = v.0.0 in let q = v.0.1 in let r = v.1.0 in let s = v.1.1 in
       not_both_nested (nth members (i - 1)) (nth members (j - 1)) (h (i - 1) (omega arith) (j - 1) (omega arith)) v.2
 
   module _ (n : ℕ) (lengths : HaveLength n members) where
-    none_blocked_at : (i j e : ℕ) → IsPosition members i → IsPosition members j → IsUnblockedAt members n (i - 1) → HasNoEliminator members (nth members (i - 1)) (nth members (j - 1)) e → ⊥
+    none_blocked_at : (i j e : ℕ) → IsPosition members i → IsPosition members j → IsUnblockedAt members n (i - 1)
+        → HasNoEliminator members (nth members (i - 1)) (nth members (j - 1)) e → ⊥
     none_blocked_at i j e p q h v =
         let a = p.0 in let b = p.1 in let c = q.0 in let d = q.1 in
         let l : length (nth members (i - 1)) ≡ n = lengths (i - 1) [] (omega arith) in
-        not_both_blocked members (nth members (i - 1)) (nth members (j - 1)) e (h (j - 1) (omega arith) e (element_within (nth members (i - 1)) e n l v.opposed.plus)) v
+        not_both_blocked members (nth members (i - 1)) (nth members (j - 1)) e
+        (h (j - 1) (omega arith) e (element_within (nth members (i - 1)) e n l v.opposed.plus)) v
 
     -- ---- the first violated instance
 
-    pub first_blocked_violated : (i j e : ℕ) → AllBelow (length members) (IsNotZeroAt members) → AllBelow (length members) (HasNegativeAt members) → AllBelow (length members) (λ i. AllBelow (length members) (AreUnnestedAt members i))
+    pub first_blocked_violated : (i j e : ℕ) → AllBelow (length members) (IsNotZeroAt members)
+        → AllBelow (length members) (HasNegativeAt members)
+        → AllBelow (length members) (λ i. AllBelow (length members) (AreUnnestedAt members i))
         → IsFirstBlocked members n i j e → IsFirstViolated members (NoElimination (i + 1) (j + 1) e)
-    first_blocked_violated i j e hz hn hs f = record { violated = ((omega arith, here), (omega arith, there), blocked); first = before }
+    first_blocked_violated i j e hz hn hs f =
+        record { violated = ((omega arith, here), (omega arith, there), blocked); first = before }
       where
         here : i + 1 ≤ length members
         here = let l = f.within in omega arith
@@ -62,35 +71,44 @@ module _ (members : List (List Sign)) where
         blocked =
             let a : i ≡ i + 1 - 1 = omega arith in
             let b : j ≡ j + 1 - 1 = omega arith in
-            subst (λ k. HasNoEliminator members (nth members k) (nth members (j + 1 - 1)) e) a (subst (λ k. HasNoEliminator members (nth members i) (nth members k) e) b f.rest.second.bad)
+            subst (λ k. HasNoEliminator members (nth members k) (nth members (j + 1 - 1)) e) a
+            (subst (λ k. HasNoEliminator members (nth members i) (nth members k) e) b f.rest.second.bad)
 
         -- an instance of the same axiom and first member
-        later : (b d : ℕ) → IsBefore (b ∷ d ∷ []) ((j + 1) ∷ e ∷ []) → IsPosition members b → HasNoEliminator members (nth members i) (nth members (b - 1)) d → ⊥
+        later : (b d : ℕ) → IsBefore (b ∷ d ∷ []) ((j + 1) ∷ e ∷ []) → IsPosition members b
+            → HasNoEliminator members (nth members i) (nth members (b - 1)) d → ⊥
         later b d (inl lt) p v =
             let l : length (nth members i) ≡ n = lengths i [] f.within in
             let low = p.0 in
-            not_both_blocked members (nth members i) (nth members (b - 1)) d (f.rest.before (b - 1) (omega arith) d (element_within (nth members i) d n l v.opposed.plus)) v
+            not_both_blocked members (nth members i) (nth members (b - 1)) d
+            (f.rest.before (b - 1) (omega arith) d (element_within (nth members i) d n l v.opposed.plus)) v
         later b d (inr (q, o)) p v =
             let lt = last_number d e o in
             let e' : b - 1 ≡ j = omega arith in
-            not_both_blocked members (nth members i) (nth members j) d (f.rest.second.before d lt) (subst (λ k. HasNoEliminator members (nth members i) (nth members k) d) e' v)
+            not_both_blocked members (nth members i) (nth members j) d (f.rest.second.before d lt)
+            (subst (λ k. HasNoEliminator members (nth members i) (nth members k) d) e' v)
 
         -- an instance of the same axiom
-        same : (a b d : ℕ) → IsBefore (a ∷ b ∷ d ∷ []) ((i + 1) ∷ (j + 1) ∷ e ∷ []) → IsViolated members (NoElimination a b d) → ⊥
+        same : (a b d : ℕ) → IsBefore (a ∷ b ∷ d ∷ []) ((i + 1) ∷ (j + 1) ∷ e ∷ [])
+            → IsViolated members (NoElimination a b d) → ⊥
         same a b d (inl lt) v = let p = v.0.0 in none_blocked_at a b d v.0 v.1 (f.before (a - 1) (omega arith)) v.2
         same a b d (inr (q, o)) v =
             let e' : a - 1 ≡ i = omega arith in
             later b d o v.1 (subst (λ k. HasNoEliminator members (nth members k) (nth members (b - 1)) d) e' v.2)
 
-        before : (other : SetRefused) → IsBefore (key other) (key (NoElimination (i + 1) (j + 1) e)) → IsViolated members other → ⊥
+        before : (other : SetRefused) → IsBefore (key other) (key (NoElimination (i + 1) (j + 1) e))
+            → IsViolated members other → ⊥
         before (Zero a) o v = none_zero hz a v
         before (NoNegative a) o v = none_negative hn a v
         before (Nested a b) o v = none_nested hs a b v
         before (NoElimination a b d) o v = same a b d (same_number 3 (a ∷ b ∷ d ∷ []) ((i + 1) ∷ (j + 1) ∷ e ∷ []) o) v
 
-  pub first_nested_violated : (i j : ℕ) → AllBelow (length members) (IsNotZeroAt members) → AllBelow (length members) (HasNegativeAt members)
-      → IsFirstBadPair (length members) (length members) (AreNestedAt members) (AreUnnestedAt members) i j → IsFirstViolated members (Nested (i + 1) (j + 1))
-  first_nested_violated i j hz hn f = record { violated = ((omega arith, here), (omega arith, there), nested); first = before }
+  pub first_nested_violated : (i j : ℕ) → AllBelow (length members) (IsNotZeroAt members)
+      → AllBelow (length members) (HasNegativeAt members)
+      → IsFirstBadPair (length members) (length members) (AreNestedAt members) (AreUnnestedAt members) i j
+      → IsFirstViolated members (Nested (i + 1) (j + 1))
+  first_nested_violated i j hz hn f =
+      record { violated = ((omega arith, here), (omega arith, there), nested); first = before }
     where
       here : i + 1 ≤ length members
       here = let l = f.within in omega arith
@@ -102,18 +120,21 @@ module _ (members : List (List Sign)) where
       nested =
           let a : i ≡ i + 1 - 1 = omega arith in
           let b : j ≡ j + 1 - 1 = omega arith in
-          subst (λ k. IsNestedIn (nth members k) (nth members (j + 1 - 1))) a (subst (λ k. IsNestedIn (nth members i) (nth members k)) b f.second.bad)
+          subst (λ k. IsNestedIn (nth members k) (nth members (j + 1 - 1))) a
+          (subst (λ k. IsNestedIn (nth members i) (nth members k)) b f.second.bad)
 
       -- an instance of the same axiom
       same : (a b : ℕ) → IsBefore (a ∷ b ∷ []) ((i + 1) ∷ (j + 1) ∷ []) → IsViolated members (Nested a b) → ⊥
       same a b (inl lt) v =
           let p = v.0.0 in let q = v.0.1 in let r = v.1.0 in let s = v.1.1 in
-          not_both_nested (nth members (a - 1)) (nth members (b - 1)) (f.before (a - 1) (omega arith) (b - 1) (omega arith)) v.2
+          not_both_nested (nth members (a - 1)) (nth members (b - 1))
+          (f.before (a - 1) (omega arith) (b - 1) (omega arith)) v.2
       same a b (inr o) v =
           let p = v.1.0 in
           let lt = last_number b (j + 1) o.1 in
           let e : a - 1 ≡ i = let q = o.0 in omega arith in
-          not_both_nested (nth members i) (nth members (b - 1)) (f.second.before (b - 1) (omega arith)) (subst (λ k. IsNestedIn (nth members k) (nth members (b - 1))) e v.2)
+          not_both_nested (nth members i) (nth members (b - 1)) (f.second.before (b - 1) (omega arith))
+          (subst (λ k. IsNestedIn (nth members k) (nth members (b - 1))) e v.2)
 
       before : (other : SetRefused) → IsBefore (key other) (key (Nested (i + 1) (j + 1))) → IsViolated members other → ⊥
       before (Zero a) o v = none_zero hz a v
@@ -124,10 +145,16 @@ module _ (members : List (List Sign)) where
   -- ---- the axioms
 
   -- what holds of the members at all pairs of places holds of all pairs of members
-  of_members : (P : List Sign → List Sign → Type 0) → AllBelow (length members) (λ i. AllBelow (length members) (λ j. P (nth members i) (nth members j))) → (X Y : List Sign) → Contains members X → Contains members Y → P X Y
-  of_members P h X Y x y = subst (λ Z. P Z Y) (nth_contained members X x) (subst (λ Z. P (nth members x.0) Z) (nth_contained members Y y) (h x.0 x.1 y.0 y.1))
+  of_members : (P : List Sign → List Sign → Type 0)
+      → AllBelow (length members) (λ i. AllBelow (length members) (λ j. P (nth members i) (nth members j)))
+      → (X Y : List Sign) → Contains members X → Contains members Y → P X Y
+  of_members P h X Y x y =
+      subst (λ Z. P Z Y) (nth_contained members X x)
+      (subst (λ Z. P (nth members x.0) Z) (nth_contained members Y y) (h x.0 x.1 y.0 y.1))
 
-  pub axioms_met : (n : ℕ) → HaveLength n members → AllBelow (length members) (IsNotZeroAt members) → AllBelow (length members) (HasNegativeAt members) → AllBelow (length members) (λ i. AllBelow (length members) (AreUnnestedAt members i))
+  pub axioms_met : (n : ℕ) → HaveLength n members → AllBelow (length members) (IsNotZeroAt members)
+      → AllBelow (length members) (HasNegativeAt members)
+      → AllBelow (length members) (λ i. AllBelow (length members) (AreUnnestedAt members i))
       → AllBelow (length members) (IsUnblockedAt members n) → MeetsCircuitAxioms members
   axioms_met n lengths hz hn hs hf = record {
     no_zero = λ X x z. hz x.0 x.1 (subst IsZero (sym (nth_contained members X x)) z);
@@ -145,6 +172,9 @@ module _ (members : List (List Sign)) where
   violated_breaks (Zero i) v ax = ax.no_zero (nth members (i - 1)) (position_member i v.0) v.1
   violated_breaks (NoNegative i) v ax = v.1 (ax.symmetric (nth members (i - 1)) (position_member i v.0))
   violated_breaks (Nested i j) v ax =
-      not_both_nested (nth members (i - 1)) (nth members (j - 1)) (ax.incomparable (nth members (i - 1)) (nth members (j - 1)) (position_member i v.0) (position_member j v.1)) v.2
+      not_both_nested (nth members (i - 1)) (nth members (j - 1))
+      (ax.incomparable (nth members (i - 1)) (nth members (j - 1)) (position_member i v.0) (position_member j v.1))
+      v.2
   violated_breaks (NoElimination i j e) v ax =
-      v.2.none (ax.elimination (nth members (i - 1)) (nth members (j - 1)) (position_member i v.0) (position_member j v.1) v.2.not_negative e v.2.element v.2.opposed)
+      v.2.none (ax.elimination (nth members (i - 1)) (nth members (j - 1)) (position_member i v.0)
+      (position_member j v.1) v.2.not_negative e v.2.element v.2.opposed)

@@ -1,7 +1,9 @@
 -- Masks of places, and what their tests say of the signs.
 --
--- Main results: element_within: an element with a plus is one of the vector; within_test: the test of the code means the word of the clause.
-use Rattle.std.proofs.Common.{ℕ, ◌≡◌, ◌+◌, ◌-◌, ◌<◌, ◌^◌, ◌↔◌, List, length, bit_and, bit_or, max, nat_eq, IsTrue, sym, ◌∙◌, ap, arith, inl, inr}
+-- Main results: element_within: an element with a plus is one of the vector; within_test: the test of the code means
+-- the word of the clause.
+use Rattle.std.proofs.Common.{ℕ, ◌≡◌, ◌+◌, ◌-◌, ◌<◌, ◌^◌, ◌↔◌, List, length, bit_and, bit_or, max, nat_eq, IsTrue, sym}
+use Rattle.std.proofs.Common.{◌∙◌, ap, arith, inl, inr}
 use Rattle.std.specs.Int.{bit_at}
 use Rattle.std.proofs.lemmas.Bool.{cases_lt, eq-eqb, eqb-true}
 use Rattle.std.proofs.lemmas.Nat.Bits.{bit_at-zero, bit_at-lt, bit_at_or}
@@ -34,7 +36,10 @@ both_zero a b = (
 )
 
 -- `(z.plus() & !plus) | (z.minus() & !minus) == 0`
-pub within_test : (zs : List Sign) (p m plus minus : ℕ) → p < 2 ^ 32 → m < 2 ^ 32 → plus < 2 ^ 32 → minus < 2 ^ 32 → IsMaskOf (length zs) (IsPlus zs) p → IsMaskOf (length zs) (IsMinus zs) m → IsTrue (nat_eq (bit_or (bit_and p (4294967295 - plus)) (bit_and m (4294967295 - minus))) 0) ↔ IsWithin plus minus zs
+pub within_test : (zs : List Sign) (p m plus minus : ℕ) → p < 2 ^ 32 → m < 2 ^ 32 → plus < 2 ^ 32 → minus < 2 ^ 32
+    → IsMaskOf (length zs) (IsPlus zs) p → IsMaskOf (length zs) (IsMinus zs) m
+    → IsTrue (nat_eq (bit_or (bit_and p (4294967295 - plus)) (bit_and m (4294967295 - minus))) 0)
+    ↔ IsWithin plus minus zs
 within_test zs p m plus minus lp lm la lb hp hm = (
   λ t. let z = (both_zero _ _).0 (eqb-true _ 0 t) in
       record {

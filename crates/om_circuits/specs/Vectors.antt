@@ -1,4 +1,4 @@
--- What the axioms of circuits ask of one, two and three sign vectors. Elements count from 1.
+-- What the axioms of circuits require of one, two and three sign vectors. Elements count from 1.
 --
 -- Reference: Björner, Las Vergnas, Sturmfels, White and Ziegler, Oriented Matroids, chapter 3.
 use Rattle.std.specs.Prelude.{ℕ, ◌≡◌, ◌⊎◌, List}
@@ -11,7 +11,7 @@ pub record IsOpposedAt (X Y : List Sign) (e : ℕ) : Type 0 where
   pub plus : at_element X e ≡ Plus
   pub minus : at_element Y e ≡ Minus
 
--- Z eliminates e from X and Y: it is zero there, a plus only where one of them is, and a minus only where one of them is
+-- Z eliminates e from X and Y: it is zero at e, plus only where one of them is, and minus only where one of them is
 pub record Eliminates (X Y : List Sign) (e : ℕ) (Z : List Sign) : Type 0 where
   pub zero : at_element Z e ≡ Zero
   pub plus : (f : ℕ) → at_element Z f ≡ Plus → (at_element X f ≡ Plus) ⊎ (at_element Y f ≡ Plus)

@@ -4,7 +4,8 @@ ghost use Rattle.std.specs.Prelude.{◌↔◌, ◌+◌, ◌≤◌, ◌<◌, leng
 ghost use Rattle.om_signs.specs.declared.limits.TheConstants.{MAX_ELEMENTS, MAX_MEMBERS};
 ghost use Rattle.om_circuits.specs.Instances.{HasNoEliminator};
 ghost use Rattle.om_members.specs.Scans.{AllBelow, IsFirstBad};
-ghost use Rattle.om_circuits.specs.Scans.{IsWithin, HasWithin, HasEliminatorIfAsked, IsUnblocked, IsUnblockedAt, IsFirstBlockedWith, IsFirstBlocked};
+ghost use Rattle.om_circuits.specs.Scans.{IsWithin, HasWithin, HasEliminatorIfAsked, IsUnblocked, IsUnblockedAt};
+ghost use Rattle.om_circuits.specs.Scans.{IsFirstBlockedWith, IsFirstBlocked};
 
 use om_members::are_same;
 use om_parallel::{Probe, first_bad_by_cost};
@@ -18,7 +19,7 @@ fn is_within(z: SignVec, plus: u32, minus: u32) -> bool
     (z.plus() & !plus) | (z.minus() & !minus) == 0
 }
 
-/// Whether some member lies within the two masks.
+/// Whether some member has its pluses in one mask and its minuses in the other.
 fn has_within(members: &[SignVec], plus: u32, minus: u32) -> bool
     ensures { IsTrue result ↔ HasWithin members.now plus minus }
 {
@@ -30,11 +31,12 @@ fn has_within(members: &[SignVec], plus: u32, minus: u32) -> bool
     false
 }
 
-/// The first element that no member eliminates from x and y.
+/// The first element that no member eliminates from x and y, or None.
 fn first_blocked_element(members: &[SignVec], elements: u8, x: SignVec, y: SignVec) -> Option<u8>
     requires { elements ≤ MAX_ELEMENTS }
     ensures none { IfNone result (AllBelow (elements + 1) (HasEliminatorIfAsked members.now x y)) }
-    ensures first { IfSome result (IsFirstBad (elements + 1) (HasNoEliminator members.now x y) (HasEliminatorIfAsked members.now x y)) }
+    ensures first { IfSome result
+        (IsFirstBad (elements + 1) (HasNoEliminator members.now x y) (HasEliminatorIfAsked members.now x y)) }
 {
     let opposed = x.plus() & y.minus();
     if opposed == 0 || are_same(x, y.neg()) {
@@ -51,7 +53,8 @@ fn first_blocked_element(members: &[SignVec], elements: u8, x: SignVec, y: SignV
     None
 }
 
-/// The place of the first member from which and x some element can't be eliminated, and the element.
+/// The place of the first member such that some element can't be eliminated from x and it, and the first such
+/// element.
 fn first_blocked_with(members: &[SignVec], elements: u8, x: SignVec) -> Option<(usize, u8)>
     requires { elements ≤ MAX_ELEMENTS }
     ensures none { IfNone result (IsUnblocked members.now elements x) }
@@ -65,8 +68,8 @@ fn first_blocked_with(members: &[SignVec], elements: u8, x: SignVec) -> Option<(
     None
 }
 
-/// The members of a list, numbered from 0: a number is bad where from its member and some member an element can't be
-/// eliminated.
+/// The members of a list, numbered from 0. A number is bad if some element can't be eliminated from its member and
+/// some other one.
 #[derive(Drop)]
 struct BlockedMembers<'a> {
     members: &'a [SignVec],
@@ -89,8 +92,9 @@ impl Probe for BlockedMembers<'_> {
     }
 }
 
-/// The places of the first two members from which some element can't be eliminated, and the element. The first members are
-/// shared out among threads, where the list is so long that threads pay: for each second member, each member is looked at.
+/// The places of the first two members from which some element can't be eliminated, and the first such element. If
+/// the list is so long that threads pay, the first members are distributed among threads. For each second member,
+/// all members are scanned.
 pub fn first_blocked<R: Threads + Sync>(
     rt: &R,
     members: &[SignVec],

@@ -1,6 +1,6 @@
-//! Sets of sign vectors that meet the axioms of circuits, which are those of cocircuits too.
+//! Sets of sign vectors that satisfy the axioms of circuits, which are also those of cocircuits.
 //!
-//! [`check`] tests a list of sign vectors against the axioms and names the first violated instance.
+//! [`check`] tests whether a list of sign vectors satisfies the axioms, and names the first violated instance.
 //!
 //! Source of the notions: Björner, Las Vergnas, Sturmfels, White and Ziegler, *Oriented Matroids*, chapter 3.
 #![tactic(auto)]

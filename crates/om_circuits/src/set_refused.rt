@@ -1,6 +1,6 @@
 use thiserror::Error;
 
-/// The first violated instance of the axioms of circuits. Positions count from 1 in the list as it was given.
+/// The first violated instance of the axioms of circuits. Positions in the given list count from 1.
 ///
 /// Source: Björner, Las Vergnas, Sturmfels, White and Ziegler, *Oriented Matroids*, chapter 3.
 #[derive(Clone, Copy, Debug, PartialEq, Eq, Error)]

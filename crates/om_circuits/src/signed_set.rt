@@ -6,8 +6,8 @@ ghost use Rattle.om_circuits.specs.SignedSets.{IsSignedSet};
 use om_signs::{List, MAX_ELEMENTS, MAX_MEMBERS, SignVec};
 use std::marker::Model;
 
-/// A finite set of sign vectors that meets the axioms of circuits, which are those of cocircuits too. Its members are
-/// distinct, and stand in the order in which they were listed.
+/// A finite set of sign vectors that satisfies the axioms of circuits, which are also those of cocircuits. Its
+/// members are distinct, in the order in which they were listed.
 ///
 /// Source: Björner, Las Vergnas, Sturmfels, White and Ziegler, *Oriented Matroids*, chapter 3.
 #[derive(Drop)]
@@ -28,8 +28,8 @@ impl Model for SignedSet {
 }
 
 impl SignedSet {
-    /// The set of these members, at most [`MAX_MEMBERS`], which are distinct, have `elements` signs each, from 1 to
-    /// [`MAX_ELEMENTS`], and meet the axioms. It takes no memory.
+    /// The set of these members. They are distinct, at most [`MAX_MEMBERS`], have `elements` signs each, from 1 to
+    /// [`MAX_ELEMENTS`], and satisfy the axioms. The call allocates no memory.
     pub fn lawful(elements: u8, list: List<SignVec>) -> SignedSet
         requires low { 1 ≤ elements }
         requires high { elements ≤ MAX_ELEMENTS }
@@ -43,15 +43,15 @@ impl SignedSet {
         SignedSet { elements, list }
     }
 
-    /// The members, at most [`MAX_MEMBERS`], are distinct, have as many signs as there are elements, from 1 to
-    /// [`MAX_ELEMENTS`], and meet the axioms of circuits. It does nothing: its contract is the fact.
+    /// The members are distinct, at most [`MAX_MEMBERS`], have a sign for each of the elements, from 1 to
+    /// [`MAX_ELEMENTS`], and satisfy the axioms of circuits. The call does nothing: its contract is this fact.
     pub fn is_lawful(&self)
         ensures { IsSignedSet self.now.elements self.now.members }
     {
         let _elements = self.elements;
     }
 
-    /// The number of elements; each member has as many places.
+    /// The number of elements; each member has as many signs.
     pub fn elements(&self) -> u8
         ensures value { result ≡ self.now.elements }
         ensures lawful { IsSignedSet self.now.elements self.now.members }

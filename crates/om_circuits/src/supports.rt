@@ -10,7 +10,7 @@ use om_parallel::{Probe, first_bad_by_cost};
 use om_signs::SignVec;
 use std::thread::Threads;
 
-/// The place of the first zero vector.
+/// The place of the first zero vector, or None.
 pub fn first_zero(members: &[SignVec]) -> Option<usize>
     ensures none { IfNone result (AllBelow (length members.now) (IsNotZeroAt members.now)) }
     ensures first { IfSome result (IsFirstBad (length members.now) (IsZeroAt members.now) (IsNotZeroAt members.now)) }
@@ -30,10 +30,12 @@ fn is_nested(x: SignVec, y: SignVec) -> bool
     x.support() & !y.support() == 0 && !are_same(x, y) && !are_same(x, y.neg())
 }
 
-/// The place of the first member in which x is nested.
+/// The place of the first member in which x is nested, or None.
 fn first_nested_with(members: &[SignVec], x: SignVec) -> Option<usize>
     ensures none { IfNone result (AllBelow (length members.now) (λ j. IsUnnestedIn x (nth members.now j))) }
-    ensures first { IfSome result (IsFirstBad (length members.now) (λ j. IsNestedIn x (nth members.now j)) (λ j. IsUnnestedIn x (nth members.now j))) }
+    ensures first { IfSome result
+        (IsFirstBad (length members.now) (λ j. IsNestedIn x (nth members.now j))
+        (λ j. IsUnnestedIn x (nth members.now j))) }
 {
     for (k, y) in members.iter().enumerate() {
         if is_nested(x, *y) {
@@ -43,7 +45,7 @@ fn first_nested_with(members: &[SignVec], x: SignVec) -> Option<usize>
     None
 }
 
-/// The members of a list, numbered from 0: a number is bad where its member is nested in some member.
+/// The members of a list, numbered from 0. A number is bad if its member is nested in some member.
 #[derive(Drop)]
 struct NestedMembers<'a> {
     members: &'a [SignVec],
@@ -54,7 +56,8 @@ impl Probe for NestedMembers<'_> {
     ghost use Rattle.om_members.specs.Scans.{AllBelow, IsBadBelow};
     ghost use Rattle.om_circuits.specs.Scans.{AreUnnestedAt};
 
-    ghost is_bad = { λ s. IsBadBelow (length s.members.now) (λ i. AllBelow (length s.members.now) (AreUnnestedAt s.members.now i)) };
+    ghost is_bad = { λ s. IsBadBelow (length s.members.now)
+        (λ i. AllBelow (length s.members.now) (AreUnnestedAt s.members.now i)) };
 
     fn bad(&self, k: u64) -> bool {
         if k >= self.members.len() as u64 {
@@ -64,11 +67,14 @@ impl Probe for NestedMembers<'_> {
     }
 }
 
-/// The places of the first two members of which the first is nested in the second. The first members are shared out among
-/// threads, where the list is so long that threads pay.
+/// The places of the first two members such that the first is nested in the second. If the list is so long that
+/// threads pay, the first members are distributed among threads.
 pub fn first_nested<R: Threads + Sync>(rt: &R, members: &[SignVec]) -> Option<(usize, usize)>
-    ensures none { IfNone result (AllBelow (length members.now) (λ i. AllBelow (length members.now) (AreUnnestedAt members.now i))) }
-    ensures first { IfSome result (λ p. IsFirstBadPair (length members.now) (length members.now) (AreNestedAt members.now) (AreUnnestedAt members.now) p.0 p.1) }
+    ensures none { IfNone result
+        (AllBelow (length members.now) (λ i. AllBelow (length members.now) (AreUnnestedAt members.now i))) }
+    ensures first { IfSome result
+        (λ p. IsFirstBadPair (length members.now) (length members.now) (AreNestedAt members.now)
+        (AreUnnestedAt members.now) p.0 p.1) }
 {
     let nested = NestedMembers { members };
     let count = members.len() as u64;

@@ -1,4 +1,4 @@
-//! The types of this crate cross threads.
+//! The types of this crate can cross threads.
 
 use super::circuits::Circuits;
 use super::cocircuits::Cocircuits;

@@ -1,9 +1,10 @@
 -- What an ordered set of sign vectors has.
 --
--- Main results: what the set finds is in its list, and what it doesn't find is not (contained, is_found, not_contained); what is inserted
--- goes last, if it isn't there (inserted).
+-- Main results: what the set finds is in its list, and what it doesn't find is not (contained, is_found,
+-- not_contained); what is inserted goes last, if it isn't there (inserted).
 use Rattle.std.specs.List.{Contains, list_any}
-use Rattle.std.proofs.Common.{true, false, ◌≡◌, List, [], ◌∷◌, ◌++◌, if◌then◌else◌, get_or, refl, sym, ap, ◌∙◌, true≢false}
+use Rattle.std.proofs.Common.{true, false, ◌≡◌, List, [], ◌∷◌, ◌++◌, if◌then◌else◌, get_or, refl, sym, ap, ◌∙◌}
+use Rattle.std.proofs.Common.{true≢false}
 use Rattle.std.proofs.lemmas.List.Folds.{list_any_at}
 use Rattle.om_signs.specs.declared.sign.Sign.{Sign}
 use Rattle.om_signs.specs.OrderLaws.{same_masks}
@@ -23,9 +24,11 @@ contained keys X h = Contains-list_any same_masks found keys X h
 pub is_found : (keys : List (List Sign)) (X : List Sign) → Contains keys X → list_any (same_masks X) keys ≡ true
 is_found keys X c = list_any_at (same_masks X) keys c.0 X c.1 (masks_of_same X (get_or keys c.0 X) (sym c.2))
 
-pub not_contained : (keys : List (List Sign)) (X : List Sign) → list_any (same_masks X) keys ≡ false → Contains keys X → ⊥
+pub not_contained : (keys : List (List Sign)) (X : List Sign) → list_any (same_masks X) keys ≡ false → Contains keys X
+    → ⊥
 not_contained keys X h c = true≢false (sym (is_found keys X c) ∙ h)
 
 -- a vector that isn't found goes last
-pub inserted : (keys new : List (List Sign)) (X : List Sign) → list_any (same_masks X) keys ≡ false → new ≡ insert_key same_masks keys X → new ≡ keys ++ X ∷ []
+pub inserted : (keys new : List (List Sign)) (X : List Sign) → list_any (same_masks X) keys ≡ false
+    → new ≡ insert_key same_masks keys X → new ≡ keys ++ X ∷ []
 inserted keys new X h q = q ∙ ap (λ b. if b then keys else keys ++ X ∷ []) h

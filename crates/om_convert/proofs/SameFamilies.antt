@@ -1,8 +1,9 @@
 -- What is said of a family of sign vectors, of an equal family.
 --
--- Main results: things that denote the same in turn (joined); the same lists (all_same), limits (within_same) and causes (cause_same); families that
--- denote the same are equal where both have n signs (equal_families); the members of least support (least_same), and the cocircuits (cocircuits_of)
--- and the covectors (covectors_listed) of a chirotope that denotes the same.
+-- Main results: things that denote the same in turn (joined); the same lists (all_same), limits (within_same) and
+-- causes (cause_same); families that denote the same are equal where both have n signs (equal_families); the members of
+-- least support (least_same), and the cocircuits (cocircuits_of) and the covectors (covectors_listed) of a chirotope
+-- that denotes the same.
 use Rattle.std.specs.List.{Contains}
 use Rattle.std.proofs.lemmas.List.Elements.{All-contains}
 use Rattle.std.proofs.Common.{ℕ, ◌≡◌, ◌↔◌, List, length, sym, ◌∙◌}
@@ -21,7 +22,8 @@ use Rattle.om_convert.specs.declared.convert_error.ConvertError.{ConvertError}
 use Rattle.om_convert.specs.declared.convert_error.ConvertError.TheVariants.{TooWide, TooMany, Memory}
 use Rattle.om_convert.specs.Limits.{IsWithinLimit, IsCause}
 
-pub joined : (n k : ℕ) (P Q R : List Sign → Type 0) → k ≡ n → DenoteTheSame n P Q → DenoteTheSame k Q R → DenoteTheSame n P R
+pub joined : (n k : ℕ) (P Q R : List Sign → Type 0) → k ≡ n → DenoteTheSame n P Q → DenoteTheSame k Q R
+    → DenoteTheSame n P R
 joined n k P Q R q a b X l = (λ x. (b X (l ∙ sym q)).0 ((a X l).0 x), λ x. (a X l).1 ((b X (l ∙ sym q)).1 x))
 
 module _ (P Q : List Sign → Type 0) (both : (X : List Sign) → P X ↔ Q X) where
@@ -29,7 +31,8 @@ module _ (P Q : List Sign → Type 0) (both : (X : List Sign) → P X ↔ Q X) w
   all_same members h = record { sound = λ X x. (both X).0 (h.sound X x); complete = λ X x. h.complete X ((both X).1 x) }
 
   more_same : HasMoreThan MAX_MEMBERS P → HasMoreThan MAX_MEMBERS Q
-  more_same h = record { members = h.members; many = h.many; distinct = h.distinct; each = λ k d l. (both _).0 (h.each k d l) }
+  more_same h =
+      record { members = h.members; many = h.many; distinct = h.distinct; each = λ k d l. (both _).0 (h.each k d l) }
 
   pub cause_same : (e : ConvertError) → IsCause P e → IsCause Q e
   cause_same (TooWide values) h = h
@@ -46,11 +49,13 @@ pub within_same : (P Q : List Sign → Type 0) → ((X : List Sign) → P X ↔ 
 within_same P Q both h = λ more. h (more_same Q P (turned P Q both) more)
 
 -- families of lists of n signs that denote the same
-pub equal_families : (n : ℕ) (P Q : List Sign → Type 0) → ((X : List Sign) → P X → length X ≡ n) → ((X : List Sign) → Q X → length X ≡ n) → DenoteTheSame n P Q → (X : List Sign) → Q X ↔ P X
+pub equal_families : (n : ℕ) (P Q : List Sign → Type 0) → ((X : List Sign) → P X → length X ≡ n)
+    → ((X : List Sign) → Q X → length X ≡ n) → DenoteTheSame n P Q → (X : List Sign) → Q X ↔ P X
 equal_families n P Q sp sq same X = (λ q. (same X (sq X q)).1 q, λ p. (same X (sp X p)).0 p)
 
 -- the cocircuits of a chirotope that denotes the same
-pub cocircuits_of : (n : ℕ) (P : List Sign → Type 0) (m : SignMap) → IsChirotope m → m.elements ≡ n → ((X : List Sign) → P X → length X ≡ n) → DenoteTheSame n P (IsCovectorOfChirotope m)
+pub cocircuits_of : (n : ℕ) (P : List Sign → Type 0) (m : SignMap) → IsChirotope m → m.elements ≡ n
+    → ((X : List Sign) → P X → length X ≡ n) → DenoteTheSame n P (IsCovectorOfChirotope m)
     → (X : List Sign) → IsCocircuitOfChirotope m X ↔ IsOfLeastSupport P X
 cocircuits_of n P m om q size same X =
     let both = equal_families n P (IsCovectorOfChirotope m) size (λ Y y. y.size ∙ q) same in
@@ -60,8 +65,10 @@ cocircuits_of n P m om q size same X =
     )
 
 -- the covectors of a chirotope that denotes the same as a list of covectors, by what denotes the same as both
-pub covectors_listed : (c : Listing) (m : SignMap) (k : ℕ) (P : List Sign → Type 0) → HaveLength c.elements c.members → k ≡ c.elements → m.elements ≡ k
-    → DenoteTheSame c.elements (Contains c.members) P → DenoteTheSame k P (IsCovectorOfChirotope m) → AreAllOf (IsCovectorOfChirotope m) c.members
+pub covectors_listed : (c : Listing) (m : SignMap) (k : ℕ) (P : List Sign → Type 0) → HaveLength c.elements c.members
+    → k ≡ c.elements → m.elements ≡ k
+    → DenoteTheSame c.elements (Contains c.members) P → DenoteTheSame k P (IsCovectorOfChirotope m)
+    → AreAllOf (IsCovectorOfChirotope m) c.members
 covectors_listed c m k P lengths q r a b =
     let same = joined c.elements k (Contains c.members) P (IsCovectorOfChirotope m) q a b in
     record {

@@ -1,8 +1,8 @@
 -- Whether the chirotope of what a list denotes has more than MAX_VALUES values.
 --
--- Main results: by the rank it is no more (narrow_by_rank) or more (wide_by_rank, width_cause); a chirotope of rank 3 has few values (few_triples,
--- narrow_of_rank_3); the rank of what denotes the same (rank_of_same); the cause of a width, and of a list, as that of a list (list_of_width,
--- list_of_cause).
+-- Main results: by the rank it is no more (narrow_by_rank) or more (wide_by_rank, width_cause); a chirotope of rank 3
+-- has few values (few_triples, narrow_of_rank_3); the rank of what denotes the same (rank_of_same); the cause of a
+-- width, and of a list, as that of a list (list_of_width, list_of_cause).
 use Rattle.std.specs.Prelude.{ℕ, ◌≡◌, ◌≤◌, ◌<◌, ◌*◌, List}
 use Rattle.std.proofs.Common.{zero, suc, sym, ap, ◌∙◌, arith}
 use Rattle.std.proofs.lemmas.Nat.{mul-le}
@@ -43,12 +43,14 @@ module _ (n : ℕ) (P : List Sign → Type 0) (rank : ℕ) (r : IsRankFor n P ra
   }
 
   pub width_cause : (k : ℕ) → k ≡ n → (e : ConvertError) → IsWidth (choose k rank) e → IsWidthCause n P e
-  width_cause k q (TooWide values) h = let wide = h.1 in let same = h.0 in wide_by_rank values (h.0 ∙ ap (λ j. choose j rank) q) (omega (arith, wide, same))
+  width_cause k q (TooWide values) h = let wide = h.1 in let same = h.0 in
+      wide_by_rank values (h.0 ∙ ap (λ j. choose j rank) q) (omega (arith, wide, same))
   width_cause k q (TooMany limit) h = h
   width_cause k q Memory h = tt
 
 -- the rank of what denotes the same
-pub rank_of_same : (n k : ℕ) (P Q : List Sign → Type 0) (rank : ℕ) → k ≡ n → DenoteTheSame n P Q → IsRankFor n P rank → IsRankFor k Q rank
+pub rank_of_same : (n k : ℕ) (P Q : List Sign → Type 0) (rank : ℕ) → k ≡ n → DenoteTheSame n P Q → IsRankFor n P rank
+    → IsRankFor k Q rank
 rank_of_same n k P Q rank e both r = record {
   each = λ m om q same. r.each m om (q ∙ e) (joined n k P Q (IsCovectorOfChirotope m) e both same);
   map = r.map;
@@ -74,8 +76,10 @@ choose_three (suc n) l =
 pub few_triples : (n : ℕ) → n ≤ MAX_ELEMENTS → choose n 3 ≤ MAX_VALUES
 few_triples n l = let a = choose_three n l in omega (arith, a, l)
 
-pub narrow_of_rank_3 : (n : ℕ) (P : List Sign → Type 0) (m : SignMap) → n ≤ MAX_ELEMENTS → IsChirotope m → m.elements ≡ n → DenoteTheSame n P (IsCovectorOfChirotope m) → m.rank ≡ 3 → HasFewValuesFor n P
-narrow_of_rank_3 n P m high om q same three = narrow_by_rank n P 3 (rank_for n P m om q same 3 (sym three)) (few_triples n high)
+pub narrow_of_rank_3 : (n : ℕ) (P : List Sign → Type 0) (m : SignMap) → n ≤ MAX_ELEMENTS → IsChirotope m
+    → m.elements ≡ n → DenoteTheSame n P (IsCovectorOfChirotope m) → m.rank ≡ 3 → HasFewValuesFor n P
+narrow_of_rank_3 n P m high om q same three =
+    narrow_by_rank n P 3 (rank_for n P m om q same 3 (sym three)) (few_triples n high)
 
 -- ---- causes
 

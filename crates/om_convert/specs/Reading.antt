@@ -1,4 +1,4 @@
--- Why lists of sign vectors are not accepted: the first violated instance, or want of memory. The list comes back unchanged.
+-- Why a list of sign vectors isn't accepted: its first violated instance. The list is returned unchanged.
 use Rattle.std.specs.Prelude.{◌≡◌, List}
 use Rattle.om_signs.specs.declared.sign.Sign.{Sign}
 use Rattle.om_circuits.specs.declared.bad_set.BadSet.{BadSet}
@@ -12,24 +12,24 @@ use Rattle.om_convert.specs.declared.read_error.ReadSetError.TheVariants as sets
 use Rattle.om_convert.specs.declared.read_error.ReadCovError.{ReadCovError}
 use Rattle.om_convert.specs.declared.read_error.ReadCovError.TheVariants as covectors
 
--- the list fails the axioms of circuits, and comes back with the first violated instance
+-- the list fails the axioms of circuits, and is returned with the first violated instance
 pub record IsBadSet (members : List (List Sign)) (bad : BadSet) : Type 0 where
   pub unchanged : bad.list ≡ members
   pub first : IsFirstViolated members bad.why
   pub violated : MeetsCircuitAxioms members → ⊥
 
--- the list fails the axioms of covectors, and comes back with the first violated instance
+-- the list fails the axioms of covectors, and is returned with the first violated instance
 pub record IsBadCov (members : List (List Sign)) (bad : BadCov) : Type 0 where
   pub unchanged : bad.list ≡ members
   pub first : IsFirstViolatedCovectorAxiom members bad.why
   pub violated : MeetsCovectorAxioms members → ⊥
 
--- why a list is not accepted as circuits or as cocircuits; never for want of memory
+-- why a list isn't accepted as circuits or as cocircuits; memory is never the reason
 abbrev pub IsSetReadError : List (List Sign) → ReadSetError → Type 0
 IsSetReadError members (sets.Bad bad) = IsBadSet members bad
 IsSetReadError members (sets.Memory list) = ⊥
 
--- why a list is not accepted as covectors; never for want of memory
+-- why a list isn't accepted as covectors; memory is never the reason
 abbrev pub IsCovReadError : List (List Sign) → ReadCovError → Type 0
 IsCovReadError members (covectors.Bad bad) = IsBadCov members bad
 IsCovReadError members (covectors.Memory list) = ⊥

@@ -2,7 +2,8 @@
 
 ghost use Rattle.std.specs.Prelude.{◌≡◌, IfOk, IfErr, OnOk};
 ghost use Rattle.om_denotation.specs.Circuits.{IsCircuitOfChirotope, IsCocircuitOfChirotope};
-ghost use Rattle.om_denotation.specs.Covectors.{IsCovectorOfChirotope, IsCovectorOfCircuits, IsCovectorOfCocircuits, IsCovectorOfCovectors};
+ghost use Rattle.om_denotation.specs.Covectors.{IsCovectorOfChirotope, IsCovectorOfCircuits, IsCovectorOfCocircuits};
+ghost use Rattle.om_denotation.specs.Covectors.{IsCovectorOfCovectors};
 ghost use Rattle.om_denotation.specs.Denotation.{DenoteTheSame};
 ghost use Rattle.om_denotation.specs.Listings.{AreAllOf};
 ghost use Rattle.om_denotation.specs.Only.{AreOnlyCircuits, AreOnlyCocircuits, AreOnlyCovectors};
@@ -15,12 +16,13 @@ use om_circuits::{Circuits, Cocircuits, SignedSet};
 use om_covectors::Covectors;
 use std::alloc::Global;
 
-/// The circuits of the oriented matroid of a chirotope: the vectors V of the increasing lists of one element more than
-/// the rank, and their negatives, as far as they aren't zero. Both have the same elements and denote the same oriented
-/// matroid, and no other list of circuits does, up to the order. The list takes its memory from `alloc`.
+/// The circuits of the oriented matroid of a chirotope: the nonzero vectors V of the increasing lists of one
+/// element more than the rank, and their negatives. Both have the same elements and denote the same oriented
+/// matroid, and up to its order no other list of circuits does. Memory for the list comes from `alloc`.
 ///
-/// [`ConvertError::TooMany`] comes exactly where there are more circuits than [`MAX_MEMBERS`](om_signs::MAX_MEMBERS), which
-/// it names, if memory lasts until the first of these; [`ConvertError::Memory`] comes only for want of memory.
+/// [`ConvertError::TooMany`] comes if there are more circuits than [`MAX_MEMBERS`](om_signs::MAX_MEMBERS), and
+/// memory lasts until the first one too many. It gives this limit. [`ConvertError::Memory`] comes only if memory
+/// runs out.
 ///
 /// Source: Björner, Las Vergnas, Sturmfels, White and Ziegler, *Oriented Matroids*, chapter 3.
 pub fn chirotope_to_circuits(alloc: Global, chi: &Chirotope) -> Result<Circuits, ConvertError>
@@ -37,12 +39,13 @@ pub fn chirotope_to_circuits(alloc: Global, chi: &Chirotope) -> Result<Circuits,
     Ok(Circuits(SignedSet::lawful(chi.elements(), circuits)))
 }
 
-/// The cocircuits of the oriented matroid of a chirotope: the vectors U of the increasing lists of one element less
-/// than the rank, and their negatives, as far as they aren't zero. Both have the same elements and denote the same
-/// oriented matroid, and no other list of cocircuits does, up to the order. The list takes its memory from `alloc`.
+/// The cocircuits of the oriented matroid of a chirotope: the nonzero vectors U of the increasing lists of one
+/// element less than the rank, and their negatives. Both have the same elements and denote the same oriented
+/// matroid, and up to its order no other list of cocircuits does. Memory for the list comes from `alloc`.
 ///
-/// [`ConvertError::TooMany`] comes exactly where there are more cocircuits than [`MAX_MEMBERS`](om_signs::MAX_MEMBERS),
-/// which it names, if memory lasts until the first of these; [`ConvertError::Memory`] comes only for want of memory.
+/// [`ConvertError::TooMany`] comes if there are more cocircuits than [`MAX_MEMBERS`](om_signs::MAX_MEMBERS), and
+/// memory lasts until the first one too many. It gives this limit. [`ConvertError::Memory`] comes only if memory
+/// runs out.
 ///
 /// Source: Björner, Las Vergnas, Sturmfels, White and Ziegler, *Oriented Matroids*, chapter 3.
 pub fn chirotope_to_cocircuits(alloc: Global, chi: &Chirotope) -> Result<Cocircuits, ConvertError>
@@ -60,11 +63,12 @@ pub fn chirotope_to_cocircuits(alloc: Global, chi: &Chirotope) -> Result<Cocircu
 }
 
 /// The covectors of the oriented matroid of a chirotope: the compositions of its cocircuits. Both have the same
-/// elements and denote the same oriented matroid, and no other list of covectors does, up to the order. The list takes
-/// its memory from `alloc`.
+/// elements and denote the same oriented matroid, and up to its order no other list of covectors does. Memory for
+/// the list comes from `alloc`.
 ///
-/// [`ConvertError::TooMany`] comes exactly where there are more covectors than [`MAX_MEMBERS`](om_signs::MAX_MEMBERS),
-/// which it names, if memory lasts until the first of these; [`ConvertError::Memory`] comes only for want of memory.
+/// [`ConvertError::TooMany`] comes if there are more covectors than [`MAX_MEMBERS`](om_signs::MAX_MEMBERS), and
+/// memory lasts until the first one too many. It gives this limit. [`ConvertError::Memory`] comes only if memory
+/// runs out.
 ///
 /// Source: Björner, Las Vergnas, Sturmfels, White and Ziegler, *Oriented Matroids*, chapters 3 and 4.
 pub fn chirotope_to_covectors(alloc: Global, chi: &Chirotope) -> Result<Covectors, ConvertError>

@@ -1,4 +1,4 @@
-//! Closing a set of sign vectors under composition.
+//! The closure of a set of sign vectors under composition.
 
 ghost use Rattle.std.specs.Prelude.{◌≤◌, IfOk, IfErr};
 ghost use Rattle.std.specs.List.{Contains};
@@ -12,11 +12,11 @@ use super::member_set::MemberSet;
 use om_signs::{MAX_PLACES, SignVec};
 use std::alloc::Global;
 
-/// The compositions of vectors of a list. Each vector has `elements` signs, of which there are 1 to [`MAX_PLACES`]. The
-/// composition of none is zero.
+/// All compositions of vectors of a list. Each vector has `elements` signs, from 1 to [`MAX_PLACES`]. The
+/// composition of no vectors is zero.
 ///
-/// The set grows while the work goes on: each member in turn is composed with each vector of the list, until the last one
-/// gives nothing new. So the work ends at the first composition past the limit.
+/// Each member of the set in turn is composed with each vector of the list, and what is new is added to the set.
+/// The call ends when the last member gives nothing new, or at the first composition beyond the limit.
 pub fn all_compositions(
     alloc: Global,
     elements: u8,

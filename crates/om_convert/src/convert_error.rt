@@ -6,14 +6,14 @@ use thiserror::Error;
 /// Why a conversion has no result.
 #[derive(Clone, Copy, Debug, PartialEq, Eq, Error)]
 pub enum ConvertError {
-    /// A list is converted by way of the chirotope that denotes the same, and this has `values` values, more than
-    /// [`MAX_VALUES`](om_signs::MAX_VALUES).
+    /// A list is converted through the chirotope that denotes the same, and this chirotope has `values` values,
+    /// more than [`MAX_VALUES`](om_signs::MAX_VALUES).
     #[error("the chirotope has {values} values")]
     TooWide { values: u32 },
     /// The result would have more than `limit` members.
     #[error("more than {limit} members")]
     TooMany { limit: u32 },
-    /// Want of memory.
+    /// Memory ran out.
     #[error("out of memory")]
     Memory,
 }

@@ -12,13 +12,13 @@ use om_circuits::{Cocircuits, SignedSet};
 use om_covectors::Covectors;
 use std::alloc::Global;
 
-/// The cocircuits of the oriented matroid with these covectors: its nonzero covectors of minimal support, in the order
-/// in which the covectors were listed. Both have the same elements and denote the same oriented matroid, and no other
-/// list of cocircuits does, up to the order. The list has the allocator of the covectors' own list, so this call leaves
-/// the one that it is passed, as the other conversions are.
+/// The cocircuits of the oriented matroid with these covectors: its nonzero covectors of minimal support, in the
+/// order in which the covectors were listed. Both have the same elements and denote the same oriented matroid, and
+/// up to its order no other list of cocircuits does. The list has the allocator of the covectors' own list. The
+/// other allocator is passed as to the other conversions, and isn't used.
 ///
-/// [`ConvertError::Memory`] comes only for want of memory, and [`ConvertError::TooMany`] never: there are no more
-/// cocircuits than covectors.
+/// [`ConvertError::Memory`] comes only if memory runs out, and the other errors never: there are no more cocircuits
+/// than covectors.
 ///
 /// Source: Björner, Las Vergnas, Sturmfels, White and Ziegler, *Oriented Matroids*, chapters 3 and 4.
 pub fn covectors_to_cocircuits(_alloc: Global, c: &Covectors) -> Result<Cocircuits, ConvertError>

@@ -1,10 +1,12 @@
 //! Conversions between the kinds of values that denote an oriented matroid.
 //!
-//! Each of chirotope, circuits, cocircuits and covectors converts to each of the three others, as [`chirotope_to_circuits`]
-//! and [`circuits_to_chirotope`]. The answer denotes the same oriented matroid, and is the only one of its kind that does: a
-//! chirotope up to sign, a list up to the order of its members. A list may denote an oriented matroid whose chirotope has more
-//! than [`MAX_VALUES`](om_signs::MAX_VALUES) values: then it converts to no other kind, but for covectors to their
-//! cocircuits, and [`rank_circuits`], [`rank_cocircuits`] and [`rank_covectors`] still give its rank.
+//! Each of chirotope, circuits, cocircuits and covectors converts to each of the three others, for example by
+//! [`chirotope_to_circuits`] and [`circuits_to_chirotope`]. The result denotes the same oriented matroid. It is the
+//! only one of its kind that does: a chirotope up to sign, a list up to the order of its members.
+//!
+//! A list may denote an oriented matroid whose chirotope has more than [`MAX_VALUES`](om_signs::MAX_VALUES) values.
+//! Then it converts to no other kind, except from covectors to their cocircuits. [`rank_circuits`],
+//! [`rank_cocircuits`] and [`rank_covectors`] still give its rank.
 //!
 //! Source of the notions: Björner, Las Vergnas, Sturmfels, White and Ziegler, *Oriented Matroids*, chapters 3 and 4.
 #![tactic(auto)]

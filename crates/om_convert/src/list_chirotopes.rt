@@ -1,4 +1,4 @@
-//! The chirotopes of lists, where they have no more than [`MAX_VALUES`] values.
+//! The chirotopes of lists, if they have at most [`MAX_VALUES`] values.
 
 ghost use Rattle.std.specs.Prelude.{◌≡◌, ◌≤◌, IfOk, IfErr, OnOk};
 ghost use Rattle.std.specs.List.{Contains};
@@ -24,11 +24,11 @@ use om_signs::{MAX_ELEMENTS, MAX_VALUES};
 use om_subsets::Subset;
 use std::alloc::Global;
 
-/// The normal chirotope with these circuits. Both have the same elements and denote the same oriented matroid, and no other
-/// chirotope does but its negative. Its signs take their memory from `alloc`.
+/// The normal chirotope with these circuits. Both have the same elements and denote the same oriented matroid, and
+/// no other chirotope does, except its negative. Memory for the signs comes from `alloc`.
 ///
-/// [`ConvertError::TooWide`] comes exactly where the chirotope has more than [`MAX_VALUES`] values, and names their number;
-/// [`ConvertError::Memory`] comes only for want of memory, and [`ConvertError::TooMany`] never.
+/// [`ConvertError::TooWide`] comes exactly if the chirotope has more than [`MAX_VALUES`] values, and gives their
+/// number. [`ConvertError::Memory`] comes only if memory runs out, and [`ConvertError::TooMany`] never.
 ///
 /// Source: Björner, Las Vergnas, Sturmfels, White and Ziegler, *Oriented Matroids*, chapter 3.
 pub fn circuits_to_chirotope(alloc: Global, c: &Circuits) -> Result<Chirotope, ConvertError>
@@ -46,11 +46,11 @@ pub fn circuits_to_chirotope(alloc: Global, c: &Circuits) -> Result<Chirotope, C
     Ok(chirotope_of_circuits(alloc, c, rank)?)
 }
 
-/// The normal chirotope with these cocircuits. Both have the same elements and denote the same oriented matroid, and no other
-/// chirotope does but its negative. Its signs take their memory from `alloc`.
+/// The normal chirotope with these cocircuits. Both have the same elements and denote the same oriented matroid,
+/// and no other chirotope does, except its negative. Memory for the signs comes from `alloc`.
 ///
-/// [`ConvertError::TooWide`] comes exactly where the chirotope has more than [`MAX_VALUES`] values, and names their number;
-/// [`ConvertError::Memory`] comes only for want of memory, and [`ConvertError::TooMany`] never.
+/// [`ConvertError::TooWide`] comes exactly if the chirotope has more than [`MAX_VALUES`] values, and gives their
+/// number. [`ConvertError::Memory`] comes only if memory runs out, and [`ConvertError::TooMany`] never.
 ///
 /// Source: Björner, Las Vergnas, Sturmfels, White and Ziegler, *Oriented Matroids*, chapter 3.
 pub fn cocircuits_to_chirotope(alloc: Global, c: &Cocircuits) -> Result<Chirotope, ConvertError>
@@ -68,11 +68,11 @@ pub fn cocircuits_to_chirotope(alloc: Global, c: &Cocircuits) -> Result<Chirotop
     Ok(chirotope_of_cocircuits(alloc, c, rank)?)
 }
 
-/// The normal chirotope with these covectors. Both have the same elements and denote the same oriented matroid, and no
-/// other chirotope does but its negative. Its signs take their memory from `alloc`.
+/// The normal chirotope with these covectors. Both have the same elements and denote the same oriented matroid, and
+/// no other chirotope does, except its negative. Memory for the signs comes from `alloc`.
 ///
-/// [`ConvertError::TooWide`] comes exactly where the chirotope has more than [`MAX_VALUES`] values, and names their number;
-/// [`ConvertError::Memory`] comes only for want of memory, and [`ConvertError::TooMany`] never.
+/// [`ConvertError::TooWide`] comes exactly if the chirotope has more than [`MAX_VALUES`] values, and gives their
+/// number. [`ConvertError::Memory`] comes only if memory runs out, and [`ConvertError::TooMany`] never.
 ///
 /// Source: Björner, Las Vergnas, Sturmfels, White and Ziegler, *Oriented Matroids*, chapters 3 and 4.
 pub fn covectors_to_chirotope(alloc: Global, c: &Covectors) -> Result<Chirotope, ConvertError>
@@ -92,7 +92,7 @@ pub fn covectors_to_chirotope(alloc: Global, c: &Covectors) -> Result<Chirotope,
     Ok(chi)
 }
 
-/// Refuses a rank for which a chirotope on so many elements would have more than [`MAX_VALUES`] values.
+/// Refuses a rank if a chirotope of this rank on `elements` elements would have more than [`MAX_VALUES`] values.
 fn test_width(elements: u8, rank: u8) -> Result<(), ConvertError>
     requires { elements ≤ MAX_ELEMENTS }
     ensures narrow { OnOk result (choose elements rank ≤ MAX_VALUES) }

@@ -1,7 +1,8 @@
 ghost use Rattle.std.specs.Prelude.{◌≡◌, ◌<◌, ◌≤◌, ◌↔◌, [], length, IsTrue, IfOk, IfErr, OnOk, slice_get, Some};
 ghost use Rattle.std.specs.List.{Contains};
 ghost use Rattle.om_members.specs.Listings.{HaveLength, AreDistinct};
-ghost use Rattle.om_convert.specs.Gathering.{IsMemberSet, HaveTheSame, IsOldOrAdded, IsExtendedBy, IsNonzeroUpToSign, IsComposedWith};
+ghost use Rattle.om_convert.specs.Gathering.{IsMemberSet, HaveTheSame, IsOldOrAdded, IsExtendedBy, IsNonzeroUpToSign};
+ghost use Rattle.om_convert.specs.Gathering.{IsComposedWith};
 ghost use Rattle.om_convert.specs.Limits.{IsCause};
 
 use super::convert_error::ConvertError;
@@ -11,7 +12,8 @@ use om_signs::{List, MAX_MEMBERS, NoMemory, SignVec};
 use std::alloc::Global;
 use std::marker::Model;
 
-/// Distinct sign vectors in the order in which they came, no more than [`MAX_MEMBERS`]. Contracts see the list of them.
+/// Distinct sign vectors in the order in which they were added, at most [`MAX_MEMBERS`]. Contracts see the list of
+/// them.
 #[derive(Drop)]
 pub struct MemberSet {
     set: IndexSet<SignVec>,
@@ -30,7 +32,7 @@ impl Model for MemberSet {
 }
 
 impl MemberSet {
-    /// The empty set. It takes no memory, and later calls take theirs from `alloc`.
+    /// The empty set. It allocates no memory, and later calls allocate from `alloc`.
     pub fn new(alloc: Global) -> MemberSet
         ensures { result ≡ [] }
     {
@@ -47,7 +49,7 @@ impl MemberSet {
         self.set.len()
     }
 
-    /// The member at the index `i`, counted from 0 and below the number of members.
+    /// The member at the index `i`, counted from 0. `i` is below the number of members.
     pub fn at(&self, i: usize) -> SignVec
         requires { i < length self.now }
         ensures { slice_get self.now i ≡ Some result }
@@ -55,14 +57,14 @@ impl MemberSet {
         self.set.as_slice()[i]
     }
 
-    /// The members, in the order in which they came.
+    /// The members, in the order in which they were added.
     pub fn as_slice(&self) -> &[SignVec]
         ensures { result.now ≡ self.now }
     {
         self.set.as_slice()
     }
 
-    /// Whether there are as many members as may be.
+    /// Whether there are [`MAX_MEMBERS`] members.
     pub fn is_full(&self) -> bool
         ensures { IsTrue result ↔ (MAX_MEMBERS ≤ length self.now) }
     {
@@ -76,7 +78,7 @@ impl MemberSet {
         self.set.contains(&x)
     }
 
-    /// Whether the members are those of a list in which no vector stands twice, in whatever order.
+    /// Whether the members are those of a list of distinct vectors, in any order.
     pub fn is_set_of(&self, list: &[SignVec]) -> bool
         requires { AreDistinct list.now }
         ensures { IsTrue result ↔ HaveTheSame self.now list.now }
@@ -92,10 +94,10 @@ impl MemberSet {
         true
     }
 
-    /// Adds a vector at the end, if it is no member.
+    /// Adds a vector at the end, unless it is a member.
     ///
-    /// [`ConvertError::TooMany`] comes exactly where it is no member and there are as many as may be, and then names their
-    /// number; [`ConvertError::Memory`] comes only for want of memory.
+    /// [`ConvertError::TooMany`] comes exactly if it is no member and the set is full, and gives the number of
+    /// members. [`ConvertError::Memory`] comes only if memory runs out.
     pub fn insert(&mut self, x: SignVec) -> Result<(), ConvertError>
         ensures added { OnOk result (IsExtendedBy (λ X. X ≡ x) self.old self.new) }
         ensures many { IfErr result (IsCause (IsOldOrAdded self.old (λ X. X ≡ x))) }
@@ -114,7 +116,7 @@ impl MemberSet {
         }
     }
 
-    /// Adds a vector and its negative at the end, if it isn't zero, as far as they are no members.
+    /// Adds a nonzero vector and its negative at the end, unless they are members. A zero vector changes nothing.
     ///
     /// The errors are those of [`MemberSet::insert`].
     pub fn insert_signed(&mut self, v: SignVec) -> Result<(), ConvertError>
@@ -128,7 +130,7 @@ impl MemberSet {
         Ok(())
     }
 
-    /// Adds a vector at the end, if it is no member. Two members are looked at first.
+    /// Adds a vector at the end, unless it is a member. It is first compared with two members.
     ///
     /// The errors are those of [`MemberSet::insert`].
     fn insert_beside(
@@ -151,9 +153,9 @@ impl MemberSet {
         self.insert(x)
     }
 
-    /// Adds the compositions of the member `x` with each vector of `ys` at the end, as far as they are no members. All have as
-    /// many places as `x`. The last two compositions are looked at first: where a vector and its negative stand side by side,
-    /// the next composition is most often one of these.
+    /// Appends the compositions of the member `x` with each vector of `ys`, unless they are members. All vectors
+    /// have the same length. Each composition is first compared with the last two. If a vector and its negative are
+    /// neighbours in `ys`, the next composition is most often one of these.
     ///
     /// The errors are those of [`MemberSet::insert`].
     pub fn insert_composed(&mut self, x: SignVec, ys: &[SignVec]) -> Result<(), ConvertError>
@@ -173,9 +175,9 @@ impl MemberSet {
         Ok(())
     }
 
-    /// The list of the members, in the order in which they came, with its memory from `alloc`.
+    /// The list of the members, in the order in which they were added. Its memory comes from `alloc`.
     ///
-    /// [`NoMemory`] comes only for want of memory.
+    /// [`NoMemory`] comes only if memory runs out.
     pub fn into_list(self, alloc: Global) -> Result<List<SignVec>, NoMemory>
         ensures value { IfOk result (λ l. l ≡ self) }
         ensures lawful { IsMemberSet self }

@@ -1,23 +1,23 @@
-//! Why a list is not read.
+//! Why a list isn't accepted.
 
 use om_circuits::BadSet;
 use om_covectors::BadCov;
 use om_signs::{List, SignVec};
 
-/// Why a list is not accepted as circuits or as cocircuits.
+/// Why a list isn't accepted as circuits or as cocircuits.
 #[derive(Drop)]
 pub enum ReadSetError {
-    /// The list fails the axioms of circuits: it comes back, with the first violated instance.
+    /// The list fails the axioms of circuits. It is returned, with the first violated instance.
     Bad(BadSet),
-    /// Want of memory: the list comes back. It never comes, since the scan of the axioms takes no memory.
+    /// Memory ran out, and the list is returned. This never comes, since the scan of the axioms needs no memory.
     Memory(List<SignVec>),
 }
 
-/// Why a list is not accepted as covectors.
+/// Why a list isn't accepted as covectors.
 #[derive(Drop)]
 pub enum ReadCovError {
-    /// The list fails the axioms of covectors: it comes back, with the first violated instance.
+    /// The list fails the axioms of covectors. It is returned, with the first violated instance.
     Bad(BadCov),
-    /// Want of memory: the list comes back. It never comes, since the scan of the axioms takes no memory.
+    /// Memory ran out, and the list is returned. This never comes, since the scan of the axioms needs no memory.
     Memory(List<SignVec>),
 }

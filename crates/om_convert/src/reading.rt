@@ -1,7 +1,8 @@
-//! Lists that are accepted by way of a chirotope.
+//! Lists that are accepted through a chirotope.
 //!
-//! A map is proposed from the list, if that is quicker than a scan. Where it is a chirotope, and what is made of it has the members of the list and no others, the
-//! list meets the axioms. Else nothing is known, also where memory is wanting for the proposal, and the scan of the axioms, which takes none, decides.
+//! A map is proposed from the list, if this is faster than a scan. Suppose that it is a chirotope and that its list
+//! has exactly the members of the given list. Then the given list satisfies the axioms. Otherwise nothing is known,
+//! also if memory for the proposal runs out. Then the scan of the axioms decides, which needs no memory.
 
 ghost use Rattle.std.specs.Prelude.{◌≡◌, ◌≤◌, length, IsTrue, IfOk, IfErr, IfSome, OnOk};
 ghost use Rattle.om_circuits.specs.Axioms.{MeetsCircuitAxioms};
@@ -22,11 +23,11 @@ use om_subsets::Subset;
 use std::alloc::Global;
 use std::thread::Threads;
 
-/// The circuits of this list, whose members, at most [`MAX_MEMBERS`], are distinct and have `elements` signs each, from 1 to
-/// [`MAX_ELEMENTS`], if they meet the axioms of circuits; else the list, unchanged, and the first violated instance, as
-/// [`om_circuits::check`] gives it. Members stay in their order.
+/// The circuits in this list, in its order, if they satisfy the axioms of circuits. Otherwise the list is returned
+/// unchanged with its first violated instance, as [`om_circuits::check`] gives it. The members are distinct, at
+/// most [`MAX_MEMBERS`], and have `elements` signs each, from 1 to [`MAX_ELEMENTS`].
 ///
-/// [`ReadSetError::Memory`] never comes: where memory is wanting for the quicker way, the scan decides, which takes none.
+/// [`ReadSetError::Memory`] never comes: if memory runs out on the faster way, the scan decides, which needs none.
 ///
 /// Source: Björner, Las Vergnas, Sturmfels, White and Ziegler, *Oriented Matroids*, chapter 3.
 pub fn read_circuits<R: Threads + Sync>(
@@ -49,11 +50,12 @@ pub fn read_circuits<R: Threads + Sync>(
     Ok(Circuits(set))
 }
 
-/// The cocircuits of this list, whose members, at most [`MAX_MEMBERS`], are distinct and have `elements` signs each, from 1
-/// to [`MAX_ELEMENTS`], if they meet the axioms of circuits, which are those of cocircuits; else the list, unchanged, and
-/// the first violated instance, as [`om_circuits::check`] gives it. Members stay in their order.
+/// The cocircuits in this list, in its order, if they satisfy the axioms of circuits, which are also those of
+/// cocircuits. Otherwise the list is returned unchanged with its first violated instance, as [`om_circuits::check`]
+/// gives it. The members are distinct, at most [`MAX_MEMBERS`], and have `elements` signs each, from 1 to
+/// [`MAX_ELEMENTS`].
 ///
-/// [`ReadSetError::Memory`] never comes: where memory is wanting for the quicker way, the scan decides, which takes none.
+/// [`ReadSetError::Memory`] never comes: if memory runs out on the faster way, the scan decides, which needs none.
 ///
 /// Source: Björner, Las Vergnas, Sturmfels, White and Ziegler, *Oriented Matroids*, chapter 3.
 pub fn read_cocircuits<R: Threads + Sync>(
@@ -76,11 +78,11 @@ pub fn read_cocircuits<R: Threads + Sync>(
     Ok(Cocircuits(set))
 }
 
-/// The covectors of this list, whose members, at most [`MAX_MEMBERS`], are distinct and have `elements` signs each, from 1
-/// to [`MAX_ELEMENTS`], if they meet the axioms of covectors; else the list, unchanged, and the first violated instance, as
-/// [`om_covectors::check`] gives it. Members stay in their order.
+/// The covectors in this list, in its order, if they satisfy the axioms of covectors. Otherwise the list is returned
+/// unchanged with its first violated instance, as [`om_covectors::check`] gives it. The members are distinct, at
+/// most [`MAX_MEMBERS`], and have `elements` signs each, from 1 to [`MAX_ELEMENTS`].
 ///
-/// [`ReadCovError::Memory`] never comes: where memory is wanting for the quicker way, the scan decides, which takes none.
+/// [`ReadCovError::Memory`] never comes: if memory runs out on the faster way, the scan decides, which needs none.
 ///
 /// Source: Björner, Las Vergnas, Sturmfels, White and Ziegler, *Oriented Matroids*, chapter 4.
 pub fn read_covectors<R: Threads + Sync>(
@@ -108,7 +110,8 @@ pub fn read_covectors<R: Threads + Sync>(
     }
 }
 
-/// The set of the members of a list, as the calls above say. Circuits are the cocircuits of the dual, so one way serves both.
+/// The set of the members of a list, for `read_circuits` and `read_cocircuits`. Circuits are the cocircuits of the
+/// dual, so the same way serves both.
 fn read_set<R: Threads + Sync>(
     rt: &R,
     alloc: Global,
@@ -134,7 +137,8 @@ fn read_set<R: Threads + Sync>(
     }
 }
 
-/// Whether vectors are seen to be the cocircuits of the chirotope that is proposed from them.
+/// Whether the proposal shows that the vectors are cocircuits: it is a chirotope, and its cocircuits are the
+/// vectors.
 fn are_cocircuits_of_proposal<R: Threads + Sync>(
     rt: &R,
     alloc: Global,
@@ -153,7 +157,7 @@ fn are_cocircuits_of_proposal<R: Threads + Sync>(
     }
 }
 
-/// Whether vectors are seen to be the cocircuits of a chirotope.
+/// Whether the vectors are the cocircuits of a chirotope. False also if the chirotope has too many.
 fn are_cocircuits_of(alloc: Global, chi: &Chirotope, vectors: &[SignVec]) -> Result<bool, NoMemory>
     requires { AreDistinct vectors.now }
     ensures { IfOk result (λ seen. IsTrue seen → MeetsCircuitAxioms vectors.now) }
@@ -161,13 +165,13 @@ fn are_cocircuits_of(alloc: Global, chi: &Chirotope, vectors: &[SignVec]) -> Res
     match all_cocircuits(alloc, chi) {
         Ok(cocircuits) => Ok(cocircuits.is_set_of(vectors)),
         Err(ConvertError::TooMany { .. }) => Ok(false),
-        // Making all cocircuits of a chirotope, of however many values, never answers this.
+        // listing the cocircuits of a chirotope, with any number of values, never ends with this error
         Err(ConvertError::TooWide { .. }) => unreachable!(),
         Err(ConvertError::Memory) => Err(NoMemory),
     }
 }
 
-/// Whether vectors are seen to be the covectors of the chirotope that is proposed from those of minimal support.
+/// Whether the proposal from the vectors of minimal support shows that the vectors are covectors.
 fn are_covectors_of_proposal<R: Threads + Sync>(
     rt: &R,
     alloc: Global,
@@ -187,7 +191,7 @@ fn are_covectors_of_proposal<R: Threads + Sync>(
     }
 }
 
-/// Whether vectors are seen to be the covectors of a chirotope.
+/// Whether the vectors are the covectors of a chirotope. False also if the chirotope has too many.
 fn are_covectors_of(alloc: Global, chi: &Chirotope, vectors: &[SignVec]) -> Result<bool, NoMemory>
     requires { AreDistinct vectors.now }
     ensures { IfOk result (λ seen. IsTrue seen → MeetsCovectorAxioms vectors.now) }
@@ -195,17 +199,17 @@ fn are_covectors_of(alloc: Global, chi: &Chirotope, vectors: &[SignVec]) -> Resu
     match all_covectors(alloc, chi) {
         Ok(covectors) => Ok(covectors.is_set_of(vectors)),
         Err(ConvertError::TooMany { .. }) => Ok(false),
-        // Making all covectors of a chirotope, of however many values, never answers this.
+        // listing the covectors of a chirotope, with any number of values, never ends with this error
         Err(ConvertError::TooWide { .. }) => unreachable!(),
         Err(ConvertError::Memory) => Err(NoMemory),
     }
 }
 
-/// As many triples of members as a scan takes in the time of one value of a proposed map.
+/// How many triples of members a scan tests in the time of one value of a proposed map.
 const TRIPLES_PER_VALUE: usize = 1_000;
 
-/// Whether a map of so many values is proposed for a list of so many members: it has no more than [`MAX_VALUES`], and takes less
-/// time than the scan of the list.
+/// Whether a map with `values` values is proposed for a list of `members` members: it has at most [`MAX_VALUES`]
+/// values, and takes less time than the scan of the list.
 fn is_proposed(members: usize, values: u32) -> bool
     ensures { IsTrue result → values ≤ MAX_VALUES }
 {
@@ -213,8 +217,9 @@ fn is_proposed(members: usize, values: u32) -> bool
     values <= MAX_VALUES && values as usize <= triples / TRIPLES_PER_VALUE
 }
 
-/// The chirotope whose cocircuits the vectors may be, for a list of so many members: the map that is carried through the sets
-/// that meet each vector, where this map is a chirotope. None also where some vector is zero, and where no map is proposed.
+/// The chirotope whose cocircuits the vectors may be, for a list of `members` members. It is the map whose signs
+/// the vectors carry from set to set, if this map is a chirotope. None also if some vector is zero, and if no map
+/// is proposed.
 fn proposed_chirotope<R: Threads + Sync>(
     rt: &R,
     alloc: Global,

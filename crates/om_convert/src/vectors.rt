@@ -1,4 +1,5 @@
-//! The circuits and the cocircuits of a chirotope, by its increasing lists, and its covectors, by composing cocircuits.
+//! The circuits and the cocircuits of a chirotope, from its increasing lists, and its covectors, as compositions of
+//! cocircuits.
 
 ghost use Rattle.std.specs.Prelude.{IfOk, IfErr};
 ghost use Rattle.om_chirotope.specs.Chirotope.{IsChirotope};
@@ -14,7 +15,7 @@ use om_chirotope::Chirotope;
 use om_subsets::Subset;
 use std::alloc::Global;
 
-/// The circuits. In the rank of all elements there are none.
+/// The circuits. If the rank is the number of elements there are none.
 pub fn all_circuits(alloc: Global, chi: &Chirotope) -> Result<MemberSet, ConvertError>
     ensures members { IfOk result (AreAllOf (IsCircuitOfChirotope chi.now)) }
     ensures many { IfErr result (IsCause (IsCircuitOfChirotope chi.now)) }

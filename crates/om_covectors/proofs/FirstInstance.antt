@@ -5,7 +5,8 @@ use Rattle.std.proofs.Common.{◌≡◌, List, refl, inl, inr}
 use Rattle.om_signs.specs.declared.sign.Sign.{Sign}
 use Rattle.om_members.proofs.OrderLaws.{IsKey, ordered_keys}
 use Rattle.om_covectors.specs.declared.cov_refused.CovRefused.{CovRefused}
-use Rattle.om_covectors.specs.declared.cov_refused.CovRefused.TheVariants.{NoZero, NoNegative, NoComposition, NoElimination}
+use Rattle.om_covectors.specs.declared.cov_refused.CovRefused.TheVariants.{NoZero, NoNegative, NoComposition}
+use Rattle.om_covectors.specs.declared.cov_refused.CovRefused.TheVariants.{NoElimination}
 use Rattle.om_covectors.specs.Instances.{covector_key, IsFirstViolatedCovectorAxiom}
 
 keyed : (a : CovRefused) → IsKey (λ k. k) (covector_key a)
@@ -22,7 +23,8 @@ same_key (NoComposition i j) (NoComposition k l) e = cc
 same_key (NoElimination i j x) (NoElimination k l y) e = cc
 same_key a b e = cc
 
-pub one_first : (members : List (List Sign)) (a b : CovRefused) → IsFirstViolatedCovectorAxiom members a → IsFirstViolatedCovectorAxiom members b → a ≡ b
+pub one_first : (members : List (List Sign)) (a b : CovRefused) → IsFirstViolatedCovectorAxiom members a
+    → IsFirstViolatedCovectorAxiom members b → a ≡ b
 one_first members a b f g = elim (ordered_keys (λ k. k) (covector_key a) (covector_key b) (keyed a) (keyed b)) [
   | inl before ↦ absurd (g.first a before f.violated)
   | inr (inl after) ↦ absurd (f.first b after g.violated)

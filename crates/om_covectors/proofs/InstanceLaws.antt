@@ -1,35 +1,42 @@
 -- From the scans to the axioms and to the first violated instance.
 --
--- Main results: axioms_met: where no scan finds an instance, the axioms hold; first_uncomposed_violated, first_blocked_violated:
--- what a scan finds is the first violated instance; violated_breaks: a violated instance breaks the axioms.
+-- Main results: axioms_met: where no scan finds an instance, the axioms hold; first_uncomposed_violated,
+-- first_blocked_violated: what a scan finds is the first violated instance; violated_breaks: a violated instance breaks
+-- the axioms.
 use Rattle.std.proofs.Common.{ℕ, ◌≡◌, ◌+◌, ◌-◌, ◌<◌, ◌≤◌, List, [], ◌∷◌, length, subst, arith, inl, inr}
 use Rattle.std.specs.List.{Contains}
 use Rattle.om_signs.specs.declared.sign.Sign.{Sign}
 use Rattle.om_signs.specs.SignVec.{compose}
 use Rattle.om_covectors.specs.declared.cov_refused.CovRefused.{CovRefused}
-use Rattle.om_covectors.specs.declared.cov_refused.CovRefused.TheVariants.{NoZero, NoNegative, NoComposition, NoElimination}
+use Rattle.om_covectors.specs.declared.cov_refused.CovRefused.TheVariants.{NoZero, NoNegative, NoComposition}
+use Rattle.om_covectors.specs.declared.cov_refused.CovRefused.TheVariants.{NoElimination}
 use Rattle.om_members.specs.Vectors.{negated}
 use Rattle.om_covectors.specs.Vectors.{IsSeparatedAt}
 use Rattle.om_covectors.specs.Axioms.{HasZero, HasCovectorEliminator, MeetsCovectorAxioms}
 use Rattle.om_members.specs.Listings.{HaveLength}
 use Rattle.om_members.specs.Positions.{IsPosition, IsBefore}
-use Rattle.om_covectors.specs.Instances.{HasNoCovectorEliminator, IsViolatedCovectorAxiom, covector_key, IsFirstViolatedCovectorAxiom}
+use Rattle.om_covectors.specs.Instances.{HasNoCovectorEliminator, IsViolatedCovectorAxiom, covector_key}
+use Rattle.om_covectors.specs.Instances.{IsFirstViolatedCovectorAxiom}
 use Rattle.om_members.specs.Scans.{nth, AllBelow, IsFirstBadPair, HasNegativeAt}
-use Rattle.om_covectors.specs.Scans.{HasCompositionAt, HasNoCompositionAt, HasCovectorEliminatorIfAsked, IsUnblockedAt, IsFirstBlocked}
+use Rattle.om_covectors.specs.Scans.{HasCompositionAt, HasNoCompositionAt, HasCovectorEliminatorIfAsked, IsUnblockedAt}
+use Rattle.om_covectors.specs.Scans.{IsFirstBlocked}
 use Rattle.om_covectors.proofs.MaskLaws.{element_within}
 use Rattle.om_members.proofs.OrderLaws.{same_number, greater_number, last_number}
 use Rattle.om_members.proofs.ScanLaws.{nth_contained, contains_nth}
 
 -- ---- one axiom at one instance
 
-pub not_both_blocked : (members : List (List Sign)) (X Y : List Sign) (e : ℕ) → HasCovectorEliminatorIfAsked members X Y e → HasNoCovectorEliminator members X Y e → ⊥
+pub not_both_blocked : (members : List (List Sign)) (X Y : List Sign) (e : ℕ)
+    → HasCovectorEliminatorIfAsked members X Y e → HasNoCovectorEliminator members X Y e → ⊥
 not_both_blocked members X Y e h v = v.none (h v.element v.separated)
 
 module _ (members : List (List Sign)) where
-  none_negative : AllBelow (length members) (HasNegativeAt members) → (i : ℕ) → IsViolatedCovectorAxiom members (NoNegative i) → ⊥
+  none_negative : AllBelow (length members) (HasNegativeAt members) → (i : ℕ)
+      → IsViolatedCovectorAxiom members (NoNegative i) → ⊥
   none_negative h i v = let p = v.0.0 in let q = v.0.1 in v.1 (h (i - 1) (omega arith))
 
-  none_uncomposed : AllBelow (length members) (λ i. AllBelow (length members) (HasCompositionAt members i)) → (i j : ℕ) → IsViolatedCovectorAxiom members (NoComposition i j) → ⊥
+  none_uncomposed : AllBelow (length members) (λ i. AllBelow (length members) (HasCompositionAt members i)) → (i j : ℕ)
+      → IsViolatedCovectorAxiom members (NoComposition i j) → ⊥
   none_uncomposed h i j v =
       let p = v.0.0 in let q = v.0.1 in let r = v.1.0 in let s = v.1.1 in
       v.2 (h (i - 1) (omega arith) (j - 1) (omega arith))
@@ -37,8 +44,10 @@ module _ (members : List (List Sign)) where
   -- ---- the first violated instance
 
   pub first_uncomposed_violated : (i j : ℕ) → HasZero members → AllBelow (length members) (HasNegativeAt members)
-      → IsFirstBadPair (length members) (length members) (HasNoCompositionAt members) (HasCompositionAt members) i j → IsFirstViolatedCovectorAxiom members (NoComposition (i + 1) (j + 1))
-  first_uncomposed_violated i j hz hn f = record { violated = ((omega arith, here), (omega arith, there), bad); first = before }
+      → IsFirstBadPair (length members) (length members) (HasNoCompositionAt members) (HasCompositionAt members) i j
+      → IsFirstViolatedCovectorAxiom members (NoComposition (i + 1) (j + 1))
+  first_uncomposed_violated i j hz hn f =
+      record { violated = ((omega arith, here), (omega arith, there), bad); first = before }
     where
       here : i + 1 ≤ length members
       here = let l = f.within in omega arith
@@ -50,10 +59,12 @@ module _ (members : List (List Sign)) where
       bad =
           let a : i ≡ i + 1 - 1 = omega arith in
           let b : j ≡ j + 1 - 1 = omega arith in
-          subst (λ k. HasNoCompositionAt members k (j + 1 - 1)) a (subst (λ k. HasNoCompositionAt members i k) b f.second.bad)
+          subst (λ k. HasNoCompositionAt members k (j + 1 - 1)) a
+          (subst (λ k. HasNoCompositionAt members i k) b f.second.bad)
 
       -- an instance of the same axiom
-      same : (a b : ℕ) → IsBefore (a ∷ b ∷ []) ((i + 1) ∷ (j + 1) ∷ []) → IsViolatedCovectorAxiom members (NoComposition a b) → ⊥
+      same : (a b : ℕ) → IsBefore (a ∷ b ∷ []) ((i + 1) ∷ (j + 1) ∷ [])
+          → IsViolatedCovectorAxiom members (NoComposition a b) → ⊥
       same a b (inl lt) v =
           let p = v.0.0 in let r = v.1.0 in let s = v.1.1 in
           v.2 (f.before (a - 1) (omega arith) (b - 1) (omega arith))
@@ -63,7 +74,8 @@ module _ (members : List (List Sign)) where
           let e : a - 1 ≡ i = let q = o.0 in omega arith in
           subst (λ k. HasNoCompositionAt members k (b - 1)) e v.2 (f.second.before (b - 1) (omega arith))
 
-      before : (other : CovRefused) → IsBefore (covector_key other) (covector_key (NoComposition (i + 1) (j + 1))) → IsViolatedCovectorAxiom members other → ⊥
+      before : (other : CovRefused) → IsBefore (covector_key other) (covector_key (NoComposition (i + 1) (j + 1)))
+          → IsViolatedCovectorAxiom members other → ⊥
       before NoZero o v = v hz
       before (NoNegative a) o v = none_negative hn a v
       before (NoComposition a b) o v = same a b (same_number 2 (a ∷ b ∷ []) ((i + 1) ∷ (j + 1) ∷ []) o) v
@@ -74,14 +86,18 @@ module _ (members : List (List Sign)) where
     separated_within : (i e : ℕ) (Y : List Sign) → i < length members → IsSeparatedAt (nth members i) Y e → e < n + 1
     separated_within i e Y l s = element_within (nth members i) Y e n (lengths i [] l) s
 
-    none_blocked_at : (i j e : ℕ) → IsPosition members i → IsPosition members j → IsUnblockedAt members n (i - 1) → HasNoCovectorEliminator members (nth members (i - 1)) (nth members (j - 1)) e → ⊥
+    none_blocked_at : (i j e : ℕ) → IsPosition members i → IsPosition members j → IsUnblockedAt members n (i - 1)
+        → HasNoCovectorEliminator members (nth members (i - 1)) (nth members (j - 1)) e → ⊥
     none_blocked_at i j e p q h v =
         let a = p.0 in let b = p.1 in let c = q.0 in let d = q.1 in
-        not_both_blocked members (nth members (i - 1)) (nth members (j - 1)) e (h (j - 1) (omega arith) e (separated_within (i - 1) e (nth members (j - 1)) (omega arith) v.separated)) v
+        not_both_blocked members (nth members (i - 1)) (nth members (j - 1)) e
+        (h (j - 1) (omega arith) e (separated_within (i - 1) e (nth members (j - 1)) (omega arith) v.separated)) v
 
-    pub first_blocked_violated : (i j e : ℕ) → HasZero members → AllBelow (length members) (HasNegativeAt members) → AllBelow (length members) (λ i. AllBelow (length members) (HasCompositionAt members i))
+    pub first_blocked_violated : (i j e : ℕ) → HasZero members → AllBelow (length members) (HasNegativeAt members)
+        → AllBelow (length members) (λ i. AllBelow (length members) (HasCompositionAt members i))
         → IsFirstBlocked members n i j e → IsFirstViolatedCovectorAxiom members (NoElimination (i + 1) (j + 1) e)
-    first_blocked_violated i j e hz hn hc f = record { violated = ((omega arith, here), (omega arith, there), blocked); first = before }
+    first_blocked_violated i j e hz hn hc f =
+        record { violated = ((omega arith, here), (omega arith, there), blocked); first = before }
       where
         here : i + 1 ≤ length members
         here = let l = f.within in omega arith
@@ -93,26 +109,34 @@ module _ (members : List (List Sign)) where
         blocked =
             let a : i ≡ i + 1 - 1 = omega arith in
             let b : j ≡ j + 1 - 1 = omega arith in
-            subst (λ k. HasNoCovectorEliminator members (nth members k) (nth members (j + 1 - 1)) e) a (subst (λ k. HasNoCovectorEliminator members (nth members i) (nth members k) e) b f.rest.second.bad)
+            subst (λ k. HasNoCovectorEliminator members (nth members k) (nth members (j + 1 - 1)) e) a
+            (subst (λ k. HasNoCovectorEliminator members (nth members i) (nth members k) e) b f.rest.second.bad)
 
         -- an instance of the same axiom and first member
-        later : (b d : ℕ) → IsBefore (b ∷ d ∷ []) ((j + 1) ∷ e ∷ []) → IsPosition members b → HasNoCovectorEliminator members (nth members i) (nth members (b - 1)) d → ⊥
+        later : (b d : ℕ) → IsBefore (b ∷ d ∷ []) ((j + 1) ∷ e ∷ []) → IsPosition members b
+            → HasNoCovectorEliminator members (nth members i) (nth members (b - 1)) d → ⊥
         later b d (inl lt) p v =
             let low = p.0 in
-            not_both_blocked members (nth members i) (nth members (b - 1)) d (f.rest.before (b - 1) (omega arith) d (separated_within i d (nth members (b - 1)) f.within v.separated)) v
+            not_both_blocked members (nth members i) (nth members (b - 1)) d
+            (f.rest.before (b - 1) (omega arith) d
+            (separated_within i d (nth members (b - 1)) f.within v.separated)) v
         later b d (inr (q, o)) p v =
             let lt = last_number d e o in
             let e' : b - 1 ≡ j = omega arith in
-            not_both_blocked members (nth members i) (nth members j) d (f.rest.second.before d lt) (subst (λ k. HasNoCovectorEliminator members (nth members i) (nth members k) d) e' v)
+            not_both_blocked members (nth members i) (nth members j) d (f.rest.second.before d lt)
+            (subst (λ k. HasNoCovectorEliminator members (nth members i) (nth members k) d) e' v)
 
         -- an instance of the same axiom
-        same : (a b d : ℕ) → IsBefore (a ∷ b ∷ d ∷ []) ((i + 1) ∷ (j + 1) ∷ e ∷ []) → IsViolatedCovectorAxiom members (NoElimination a b d) → ⊥
+        same : (a b d : ℕ) → IsBefore (a ∷ b ∷ d ∷ []) ((i + 1) ∷ (j + 1) ∷ e ∷ [])
+            → IsViolatedCovectorAxiom members (NoElimination a b d) → ⊥
         same a b d (inl lt) v = let p = v.0.0 in none_blocked_at a b d v.0 v.1 (f.before (a - 1) (omega arith)) v.2
         same a b d (inr (q, o)) v =
             let e' : a - 1 ≡ i = omega arith in
-            later b d o v.1 (subst (λ k. HasNoCovectorEliminator members (nth members k) (nth members (b - 1)) d) e' v.2)
+            later b d o v.1
+            (subst (λ k. HasNoCovectorEliminator members (nth members k) (nth members (b - 1)) d) e' v.2)
 
-        before : (other : CovRefused) → IsBefore (covector_key other) (covector_key (NoElimination (i + 1) (j + 1) e)) → IsViolatedCovectorAxiom members other → ⊥
+        before : (other : CovRefused) → IsBefore (covector_key other) (covector_key (NoElimination (i + 1) (j + 1) e))
+            → IsViolatedCovectorAxiom members other → ⊥
         before NoZero o v = v hz
         before (NoNegative a) o v = none_negative hn a v
         before (NoComposition a b) o v = none_uncomposed hc a b v
@@ -121,10 +145,15 @@ module _ (members : List (List Sign)) where
   -- ---- the axioms
 
   -- what holds of the members at all pairs of places holds of all pairs of members
-  of_members : (P : List Sign → List Sign → Type 0) → AllBelow (length members) (λ i. AllBelow (length members) (λ j. P (nth members i) (nth members j))) → (X Y : List Sign) → Contains members X → Contains members Y → P X Y
-  of_members P h X Y x y = subst (λ Z. P Z Y) (nth_contained members X x) (subst (λ Z. P (nth members x.0) Z) (nth_contained members Y y) (h x.0 x.1 y.0 y.1))
+  of_members : (P : List Sign → List Sign → Type 0)
+      → AllBelow (length members) (λ i. AllBelow (length members) (λ j. P (nth members i) (nth members j)))
+      → (X Y : List Sign) → Contains members X → Contains members Y → P X Y
+  of_members P h X Y x y =
+      subst (λ Z. P Z Y) (nth_contained members X x)
+      (subst (λ Z. P (nth members x.0) Z) (nth_contained members Y y) (h x.0 x.1 y.0 y.1))
 
-  pub axioms_met : (n : ℕ) → HaveLength n members → HasZero members → AllBelow (length members) (HasNegativeAt members) → AllBelow (length members) (λ i. AllBelow (length members) (HasCompositionAt members i))
+  pub axioms_met : (n : ℕ) → HaveLength n members → HasZero members → AllBelow (length members) (HasNegativeAt members)
+      → AllBelow (length members) (λ i. AllBelow (length members) (HasCompositionAt members i))
       → AllBelow (length members) (IsUnblockedAt members n) → MeetsCovectorAxioms members
   axioms_met n lengths hz hn hc hf = record {
     zero = hz;
@@ -141,6 +170,8 @@ module _ (members : List (List Sign)) where
   pub violated_breaks : (why : CovRefused) → IsViolatedCovectorAxiom members why → MeetsCovectorAxioms members → ⊥
   violated_breaks NoZero v ax = v ax.zero
   violated_breaks (NoNegative i) v ax = v.1 (ax.symmetric (nth members (i - 1)) (position_member i v.0))
-  violated_breaks (NoComposition i j) v ax = v.2 (ax.compositions (nth members (i - 1)) (nth members (j - 1)) (position_member i v.0) (position_member j v.1))
+  violated_breaks (NoComposition i j) v ax =
+      v.2 (ax.compositions (nth members (i - 1)) (nth members (j - 1)) (position_member i v.0) (position_member j v.1))
   violated_breaks (NoElimination i j e) v ax =
-      v.2.none (ax.elimination (nth members (i - 1)) (nth members (j - 1)) (position_member i v.0) (position_member j v.1) e v.2.element v.2.separated)
+      v.2.none (ax.elimination (nth members (i - 1)) (nth members (j - 1)) (position_member i v.0)
+      (position_member j v.1) e v.2.element v.2.separated)

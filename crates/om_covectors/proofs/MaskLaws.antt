@@ -1,6 +1,7 @@
 -- Masks of places, and what their tests say of the signs.
 --
--- Main results: element_within: an element of the separation is one of the vector; separated_bit: a bit of its mask means that its place is separated.
+-- Main results: element_within: an element of the separation is one of the vector; separated_bit: a bit of its mask
+-- means that its place is separated.
 use Rattle.std.proofs.Common.{ℕ, ◌≡◌, ◌+◌, ◌-◌, ◌<◌, ◌≤◌, ◌↔◌, List, length, subst, arith, inl, inr}
 use Rattle.std.specs.Int.{bit_at}
 use Rattle.std.proofs.lemmas.Bool.{cases_lt}
@@ -21,7 +22,9 @@ separated_past xs ys i ge s =
 
 -- an element of the separation is one of the vector
 pub element_within : (xs ys : List Sign) (e n : ℕ) → length xs ≡ n → IsSeparatedAt xs ys e → e < n + 1
-element_within xs ys e n l s = elim (cases_lt (e - 1) (length xs)) [ inl lt ↦ omega arith | inr ge ↦ absurd (separated_past xs ys (e - 1) ge s) ]
+element_within xs ys e n l s =
+    elim (cases_lt (e - 1) (length xs)) [ inl lt ↦ omega arith | inr ge ↦ absurd (separated_past xs ys (e - 1) ge s) ]
 
-pub separated_bit : (xs ys : List Sign) (m : ℕ) → IsMaskOf (length xs) (IsSeparated xs ys) m → (i : ℕ) → (bit_at m i ≡ 1) ↔ IsSeparated xs ys i
+pub separated_bit : (xs ys : List Sign) (m : ℕ) → IsMaskOf (length xs) (IsSeparated xs ys) m → (i : ℕ)
+    → (bit_at m i ≡ 1) ↔ IsSeparated xs ys i
 separated_bit xs ys m h = bit_of_mask xs (IsSeparated xs ys) m h (separated_past xs ys)

@@ -1,4 +1,4 @@
--- The axioms of covectors, of a finite set of sign vectors.
+-- The axioms of covectors, for a finite set of sign vectors.
 --
 -- Reference: Björner, Las Vergnas, Sturmfels, White and Ziegler, Oriented Matroids, chapter 4.
 use Rattle.std.specs.Prelude.{ℕ, ◌≤◌, List}
@@ -21,9 +21,10 @@ HasCompositions members = (X Y : List Sign) → Contains members X → Contains 
 abbrev pub HasCovectorEliminator : List (List Sign) → List Sign → List Sign → ℕ → Type 0
 HasCovectorEliminator members X Y e = (Z : List Sign) × Contains members Z × EliminatesFromComposition X Y e Z
 
--- elimination: of two members, at each element of their separation
+-- elimination: for two members, at each element of their separation
 abbrev pub HasCovectorElimination : List (List Sign) → Type 0
-HasCovectorElimination members = (X Y : List Sign) → Contains members X → Contains members Y → (e : ℕ) → 1 ≤ e → IsSeparatedAt X Y e → HasCovectorEliminator members X Y e
+HasCovectorElimination members = (X Y : List Sign) → Contains members X → Contains members Y → (e : ℕ) → 1 ≤ e
+    → IsSeparatedAt X Y e → HasCovectorEliminator members X Y e
 
 -- the four axioms
 pub record MeetsCovectorAxioms (members : List (List Sign)) : Type 0 where

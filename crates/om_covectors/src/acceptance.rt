@@ -1,4 +1,4 @@
-//! The test of a list against the axioms.
+//! The test whether a list satisfies the axioms.
 
 ghost use Rattle.std.specs.Prelude.{◌≡◌, ◌↔◌, ◌≤◌, length, IsOk, IfOk, IfErr, IfSome, IfNone};
 ghost use Rattle.om_covectors.specs.Axioms.{MeetsCovectorAxioms};
@@ -14,7 +14,7 @@ use om_members::first_without_negative;
 use om_signs::{List, MAX_ELEMENTS, MAX_MEMBERS, SignVec};
 use std::thread::Threads;
 
-/// The first violated instance of the axioms.
+/// The first violated instance of the axioms, or None if the list meets them.
 fn first_violated<R: Threads + Sync>(
     rt: &R,
     members: &[SignVec],
@@ -46,10 +46,12 @@ fn first_violated<R: Threads + Sync>(
     })
 }
 
-/// The covectors of this list, whose members, at most [`MAX_MEMBERS`], are distinct and have `elements` signs each, from 1
-/// to [`MAX_ELEMENTS`], if they meet the axioms of covectors; else the list, unchanged, and the first violated instance: by
-/// the axiom (the zero vector, negatives, compositions, elimination), then by positions in the list, then by element. It
-/// takes no memory.
+/// The covectors of this list, if its members satisfy the axioms of covectors. Otherwise the list is returned
+/// unchanged with its first violated instance. Instances are ordered by the axiom (the zero vector, negatives,
+/// compositions, elimination), then by positions in the list, then by element.
+///
+/// The members are distinct, at most [`MAX_MEMBERS`], and have `elements` signs each, from 1 to [`MAX_ELEMENTS`].
+/// The call allocates no memory.
 ///
 /// Source: Björner, Las Vergnas, Sturmfels, White and Ziegler, *Oriented Matroids*, chapter 4.
 pub fn check<R: Threads + Sync>(

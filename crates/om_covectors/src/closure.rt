@@ -5,7 +5,8 @@ ghost use Rattle.om_signs.specs.declared.limits.TheConstants.{MAX_MEMBERS};
 ghost use Rattle.om_covectors.specs.Axioms.{HasZero};
 ghost use Rattle.om_members.specs.Listings.{HaveLength};
 ghost use Rattle.om_members.specs.Scans.{AllBelow, IsFirstBad, IsFirstBadPair};
-ghost use Rattle.om_covectors.specs.Scans.{HasCompositionWith, HasNoCompositionWith, HasCompositionAt, HasNoCompositionAt};
+ghost use Rattle.om_covectors.specs.Scans.{HasCompositionWith, HasNoCompositionWith, HasCompositionAt};
+ghost use Rattle.om_covectors.specs.Scans.{HasNoCompositionAt};
 
 use om_members::{is_member, is_zero};
 use om_parallel::{Probe, first_bad_by_cost};
@@ -24,11 +25,12 @@ pub fn has_zero(members: &[SignVec]) -> bool
     false
 }
 
-/// The place of the first member with which the composition of x is no member.
+/// The place of the first member whose composition with x, in front, is no member, or None.
 fn first_uncomposed_with(members: &[SignVec], x: SignVec) -> Option<usize>
     requires { HaveLength (length x) members.now }
     ensures none { IfNone result (AllBelow (length members.now) (HasCompositionWith members.now x)) }
-    ensures first { IfSome result (IsFirstBad (length members.now) (HasNoCompositionWith members.now x) (HasCompositionWith members.now x)) }
+    ensures first { IfSome result
+        (IsFirstBad (length members.now) (HasNoCompositionWith members.now x) (HasCompositionWith members.now x)) }
 {
     for (j, y) in members.iter().enumerate() {
         if !is_member(members, x.compose(*y)) {
@@ -38,7 +40,8 @@ fn first_uncomposed_with(members: &[SignVec], x: SignVec) -> Option<usize>
     None
 }
 
-/// The members of a list, numbered from 0: a number is bad where the composition of its member and some member is no member.
+/// The members of a list, numbered from 0. A number is bad if the composition of its member with some member is no
+/// member.
 #[derive(Drop)]
 struct UncomposedMembers<'a> {
     members: &'a [SignVec],
@@ -51,7 +54,8 @@ impl Probe for UncomposedMembers<'_> {
     ghost use Rattle.om_members.specs.Scans.{AllBelow, IsBadBelow};
     ghost use Rattle.om_covectors.specs.Scans.{HasCompositionAt};
 
-    ghost is_bad = { λ s. IsBadBelow (length s.members.now) (λ i. AllBelow (length s.members.now) (HasCompositionAt s.members.now i)) };
+    ghost is_bad = { λ s. IsBadBelow (length s.members.now)
+        (λ i. AllBelow (length s.members.now) (HasCompositionAt s.members.now i)) };
 
     fn bad(&self, k: u64) -> bool {
         if k >= self.members.len() as u64 {
@@ -61,8 +65,8 @@ impl Probe for UncomposedMembers<'_> {
     }
 }
 
-/// The places of the first two members whose composition is no member. The first members are shared out among threads,
-/// where the list is so long that threads pay: for each second member, each member is looked at.
+/// The places of the first two members whose composition is no member. If the list is so long that threads pay, the
+/// first members are distributed among threads. For each second member, all members are scanned.
 pub fn first_uncomposed<R: Threads + Sync>(
     rt: &R,
     members: &[SignVec],
@@ -70,8 +74,11 @@ pub fn first_uncomposed<R: Threads + Sync>(
 ) -> Option<(usize, usize)>
     requires lengths { HaveLength elements members.now }
     requires few { length members.now ≤ MAX_MEMBERS }
-    ensures none { IfNone result (AllBelow (length members.now) (λ i. AllBelow (length members.now) (HasCompositionAt members.now i))) }
-    ensures first { IfSome result (λ p. IsFirstBadPair (length members.now) (length members.now) (HasNoCompositionAt members.now) (HasCompositionAt members.now) p.0 p.1) }
+    ensures none { IfNone result
+        (AllBelow (length members.now) (λ i. AllBelow (length members.now) (HasCompositionAt members.now i))) }
+    ensures first { IfSome result
+        (λ p. IsFirstBadPair (length members.now) (length members.now) (HasNoCompositionAt members.now)
+        (HasCompositionAt members.now) p.0 p.1) }
 {
     let uncomposed = UncomposedMembers { members, elements };
     let count = members.len() as u64;

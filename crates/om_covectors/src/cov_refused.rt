@@ -1,6 +1,6 @@
 use thiserror::Error;
 
-/// The first violated instance of the axioms of covectors. Positions count from 1 in the list as it was given.
+/// The first violated instance of the axioms of covectors. Positions in the given list count from 1.
 ///
 /// Source: Björner, Las Vergnas, Sturmfels, White and Ziegler, *Oriented Matroids*, chapter 4.
 #[derive(Clone, Copy, Debug, PartialEq, Eq, Error)]
@@ -14,8 +14,8 @@ pub enum CovRefused {
     /// The composition of member `i` and member `j`, in this order, is no member.
     #[error("the composition of members {i} and {j} is missing")]
     NoComposition { i: u32, j: u32 },
-    /// Element `e` is in the separation of members `i` and `j`, and no member eliminates it: none is zero at `e` and equal
-    /// to their composition outside their separation.
+    /// Element `e` is in the separation of members `i` and `j`, and no member eliminates it. That is, no member is
+    /// zero at `e` and equals their composition outside their separation.
     #[error("no member eliminates {e} from members {i} and {j}")]
     NoElimination { i: u32, j: u32, e: u8 },
 }

@@ -10,8 +10,8 @@ use om_members::is_member;
 use om_signs::{List, MAX_ELEMENTS, MAX_MEMBERS, NoMemory, SignVec};
 use std::marker::Model;
 
-/// An oriented matroid by its covectors: a finite set of sign vectors that meets the axioms of covectors. Its members are
-/// distinct, and stand in the order in which they were listed.
+/// An oriented matroid given by its covectors: a finite set of sign vectors that satisfies the axioms of covectors.
+/// Its members are distinct, in the order in which they were listed.
 ///
 /// Source: Björner, Las Vergnas, Sturmfels, White and Ziegler, *Oriented Matroids*, chapter 4.
 #[derive(Drop)]
@@ -32,8 +32,8 @@ impl Model for Covectors {
 }
 
 impl Covectors {
-    /// The covectors of this list, whose members, at most [`MAX_MEMBERS`], are distinct, have `elements` signs each, from 1 to
-    /// [`MAX_ELEMENTS`], and meet the axioms. It takes no memory.
+    /// The covectors of this list. Its members are distinct, at most [`MAX_MEMBERS`], have `elements` signs each,
+    /// from 1 to [`MAX_ELEMENTS`], and satisfy the axioms. The call allocates no memory.
     pub fn lawful(elements: u8, list: List<SignVec>) -> Covectors
         requires low { 1 ≤ elements }
         requires high { elements ≤ MAX_ELEMENTS }
@@ -47,15 +47,15 @@ impl Covectors {
         Covectors { elements, list }
     }
 
-    /// The members, at most [`MAX_MEMBERS`], are distinct, have as many signs as there are elements, from 1 to
-    /// [`MAX_ELEMENTS`], and meet the axioms of covectors. It does nothing: its contract is the fact.
+    /// The members are distinct, at most [`MAX_MEMBERS`], have a sign for each of the elements, from 1 to
+    /// [`MAX_ELEMENTS`], and satisfy the axioms of covectors. The call does nothing: its contract is this fact.
     pub fn is_lawful(&self)
         ensures { IsCovectorSet self.now.elements self.now.members }
     {
         let _elements = self.elements;
     }
 
-    /// The number of elements; each member has as many places.
+    /// The number of elements; each member has as many signs.
     pub fn elements(&self) -> u8
         ensures value { result ≡ self.now.elements }
         ensures lawful { IsCovectorSet self.now.elements self.now.members }
@@ -71,7 +71,7 @@ impl Covectors {
         self.list.as_slice()
     }
 
-    /// Whether a sign vector is a member. It takes no memory.
+    /// Whether a sign vector is a member. The call allocates no memory.
     pub fn contains(&self, x: SignVec) -> bool
         ensures { IsTrue result ↔ Contains self.now.members x }
     {
@@ -86,10 +86,10 @@ impl Covectors {
         self.list
     }
 
-    /// The nonzero members of minimal support, in the order in which they were listed. They are the cocircuits of the
-    /// oriented matroid. The list has the allocator of the covectors' own list.
+    /// The nonzero members of minimal support, in the order in which they were listed. They are the cocircuits of
+    /// the oriented matroid. The list has the allocator of the covectors' own list.
     ///
-    /// [`NoMemory`] comes only for want of memory.
+    /// [`NoMemory`] comes only if memory runs out.
     ///
     /// Source: Björner, Las Vergnas, Sturmfels, White and Ziegler, *Oriented Matroids*, chapters 3 and 4.
     pub fn minimal(&self) -> Result<List<SignVec>, NoMemory>

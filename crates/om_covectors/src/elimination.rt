@@ -5,13 +5,14 @@ ghost use Rattle.om_signs.specs.declared.limits.TheConstants.{MAX_ELEMENTS, MAX_
 ghost use Rattle.om_members.specs.Listings.{HaveLength};
 ghost use Rattle.om_covectors.specs.Instances.{HasNoCovectorEliminator};
 ghost use Rattle.om_members.specs.Scans.{AllBelow, IsFirstBad};
-ghost use Rattle.om_covectors.specs.Scans.{IsFixedOutside, HasFixedOutside, HasCovectorEliminatorIfAsked, IsUnblocked, IsUnblockedAt, IsFirstBlockedWith, IsFirstBlocked};
+ghost use Rattle.om_covectors.specs.Scans.{IsFixedOutside, HasFixedOutside, HasCovectorEliminatorIfAsked, IsUnblocked};
+ghost use Rattle.om_covectors.specs.Scans.{IsUnblockedAt, IsFirstBlockedWith, IsFirstBlocked};
 
 use om_parallel::{Probe, first_bad_by_cost};
 use om_signs::SignVec;
 use std::thread::Threads;
 
-/// Whether the places with a plus and those with a minus are the two masks, outside the places of a third.
+/// Whether, outside the places of one mask, the places with a plus and those with a minus are two other masks.
 fn is_fixed_outside(z: SignVec, free: u32, plus: u32, minus: u32) -> bool
     ensures { IsTrue result ↔ IsFixedOutside free plus minus z }
 {
@@ -30,12 +31,14 @@ fn has_fixed_outside(members: &[SignVec], free: u32, plus: u32, minus: u32) -> b
     false
 }
 
-/// The first element that no member eliminates from the composition of x and y.
+/// The first element that no member eliminates from the composition of x and y, or None.
 fn first_blocked_element(members: &[SignVec], elements: u8, x: SignVec, y: SignVec) -> Option<u8>
     requires high { elements ≤ MAX_ELEMENTS }
     requires lengths { length x ≡ length y }
     ensures none { IfNone result (AllBelow (elements + 1) (HasCovectorEliminatorIfAsked members.now x y)) }
-    ensures first { IfSome result (IsFirstBad (elements + 1) (HasNoCovectorEliminator members.now x y) (HasCovectorEliminatorIfAsked members.now x y)) }
+    ensures first { IfSome result
+        (IsFirstBad (elements + 1) (HasNoCovectorEliminator members.now x y)
+        (HasCovectorEliminatorIfAsked members.now x y)) }
 {
     let separation = x.separation(y);
     if separation == 0 {
@@ -53,7 +56,8 @@ fn first_blocked_element(members: &[SignVec], elements: u8, x: SignVec, y: SignV
     None
 }
 
-/// The place of the first member from whose composition with x some element can't be eliminated, and the element.
+/// The place of the first member such that some element can't be eliminated from its composition with x, and the
+/// first such element.
 fn first_blocked_with(members: &[SignVec], elements: u8, x: SignVec) -> Option<(usize, u8)>
     requires high { elements ≤ MAX_ELEMENTS }
     requires lengths { HaveLength (length x) members.now }
@@ -68,8 +72,8 @@ fn first_blocked_with(members: &[SignVec], elements: u8, x: SignVec) -> Option<(
     None
 }
 
-/// The members of a list, numbered from 0: a number is bad where from the composition of its member and some member an
-/// element can't be eliminated.
+/// The members of a list, numbered from 0. A number is bad if some element can't be eliminated from the composition
+/// of its member and some other one.
 #[derive(Drop)]
 struct BlockedMembers<'a> {
     members: &'a [SignVec],
@@ -93,8 +97,9 @@ impl Probe for BlockedMembers<'_> {
     }
 }
 
-/// The places of the first two members from whose composition some element can't be eliminated, and the element. The first
-/// members are shared out among threads, where the list is so long that threads pay: for each second member, each member is looked at.
+/// The places of the first two members from whose composition some element can't be eliminated, and the first such
+/// element. If the list is so long that threads pay, the first members are distributed among threads. For each
+/// second member, all members are scanned.
 pub fn first_blocked<R: Threads + Sync>(
     rt: &R,
     members: &[SignVec],

@@ -1,6 +1,6 @@
-//! Sets of sign vectors that meet the axioms of covectors.
+//! Sets of sign vectors that satisfy the axioms of covectors.
 //!
-//! [`check`] tests a list of sign vectors against the axioms and names the first violated instance.
+//! [`check`] tests whether a list of sign vectors satisfies the axioms, and names the first violated instance.
 //!
 //! Source of the notions: Björner, Las Vergnas, Sturmfels, White and Ziegler, *Oriented Matroids*, chapter 4.
 #![tactic(auto)]

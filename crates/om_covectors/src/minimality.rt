@@ -7,7 +7,7 @@ use om_members::is_zero;
 use om_signs::{List, NoMemory, SignVec};
 use std::alloc::Global;
 
-/// Whether y is not zero and its support lies strictly in that of x.
+/// Whether y is nonzero and its support lies strictly in that of x.
 fn has_smaller_support(y: SignVec, x: SignVec) -> bool
     ensures { MatchBool result (HasSmallerSupport y x) (HasNoSmallerSupport y x) }
 {
@@ -16,7 +16,7 @@ fn has_smaller_support(y: SignVec, x: SignVec) -> bool
     inner != 0 && inner & !outer == 0 && outer & !inner != 0
 }
 
-/// Whether a vector is not zero and no nonzero member has its support strictly inside. It takes no memory.
+/// Whether a vector is nonzero and no nonzero member has its support strictly inside. The call allocates no memory.
 ///
 /// Source: Björner, Las Vergnas, Sturmfels, White and Ziegler, *Oriented Matroids*, chapter 3.
 pub fn is_minimal(members: &[SignVec], x: SignVec) -> bool
@@ -33,9 +33,9 @@ pub fn is_minimal(members: &[SignVec], x: SignVec) -> bool
     true
 }
 
-/// The nonzero vectors of minimal support among these, in their order. The list takes its memory from `alloc`.
+/// The nonzero vectors of minimal support among these, in their order. Memory for the list comes from `alloc`.
 ///
-/// [`NoMemory`] comes only for want of memory.
+/// [`NoMemory`] comes only if memory runs out.
 ///
 /// Source: Björner, Las Vergnas, Sturmfels, White and Ziegler, *Oriented Matroids*, chapter 3.
 pub fn minimal_vectors(alloc: Global, vectors: &[SignVec]) -> Result<List<SignVec>, NoMemory>
@@ -44,7 +44,7 @@ pub fn minimal_vectors(alloc: Global, vectors: &[SignVec]) -> Result<List<SignVe
     with_minimal(List::new(alloc), vectors)
 }
 
-/// The nonzero vectors of minimal support among these, in their order, in a list that was empty.
+/// The nonzero vectors of minimal support among these, in their order, put into an empty list.
 pub fn with_minimal(empty: List<SignVec>, vectors: &[SignVec]) -> Result<List<SignVec>, NoMemory>
     requires { empty ≡ [] }
     ensures { IfOk result (AreThose (IsMinimal vectors.now) vectors.now) }

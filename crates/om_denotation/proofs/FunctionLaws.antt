@@ -1,7 +1,7 @@
 -- Lists of lists of signs as families of functions.
 --
--- Main results: a function is listed exactly where it is that of a member (listed, unlisted); zero vectors of lists are those of functions
--- (zero_function, nonzero_element).
+-- Main results: a function is listed exactly where it is that of a member (listed, unlisted); zero vectors of lists are
+-- those of functions (zero_function, nonzero_element).
 use Rattle.std.specs.List.{Contains}
 use Rattle.std.proofs.Common.{ℕ, zero, suc, ◌≡◌, ◌-◌, List, [], ◌∷◌, refl, sym, ap, ◌∙◌, inl, inr, ⊎_elim, arith}
 use Rattle.om_signs.specs.declared.sign.Sign.{Sign}
@@ -20,14 +20,16 @@ use Rattle.om_denotation.proofs.SelectionLaws.{contains_first, contains_later, f
 
 -- ---- listed functions
 
-pub listed : (members : List (List Sign)) (X : List Sign) (f : SignVector) → Contains members X → ((e : ℕ) → f e ≡ as_function X e) → IsListed (as_functions members) f
+pub listed : (members : List (List Sign)) (X : List Sign) (f : SignVector) → Contains members X
+    → ((e : ℕ) → f e ≡ as_function X e) → IsListed (as_functions members) f
 listed [] X f m q = let l = m.1 in absurd (omega (arith, l))
 listed (Y ∷ Ys) X f m q = ⊎_elim
     (λ r. inl (λ e. q e ∙ ap (λ Z. as_function Z e) (sym r)))
     (λ k. inr (listed Ys X f k q))
     (first_or_later Y Ys X m)
 
-pub unlisted : (members : List (List Sign)) (f : SignVector) → IsListed (as_functions members) f → (X : List Sign) × Contains members X × ((e : ℕ) → f e ≡ as_function X e)
+pub unlisted : (members : List (List Sign)) (f : SignVector) → IsListed (as_functions members) f → (X : List Sign)
+    × Contains members X × ((e : ℕ) → f e ≡ as_function X e)
 unlisted [] f h = absurd h
 unlisted (Y ∷ Ys) f (inl q) = (Y, contains_first Y Ys, q)
 unlisted (Y ∷ Ys) f (inr h) = let r = unlisted Ys f h in (r.0, contains_later Y Ys r.0 r.1, r.2)

@@ -1,7 +1,7 @@
 -- Each list that meets the axioms of circuits, of cocircuits or of covectors is that of a chirotope.
 --
--- Main results: chirotopes of the laws as maps (made, made_axioms, same_tuples); the chirotope of circuits (of_circuits), of cocircuits
--- (of_cocircuits) and of covectors (of_covectors).
+-- Main results: chirotopes of the laws as maps (made, made_axioms, same_tuples); the chirotope of circuits
+-- (of_circuits), of cocircuits (of_cocircuits) and of covectors (of_covectors).
 -- Reference: Björner, Las Vergnas, Sturmfels, White and Ziegler, Oriented Matroids, chapter 3.
 use Rattle.std.specs.List.{Contains}
 use Rattle.std.proofs.lemmas.List.Elements.{All-contains}
@@ -40,7 +40,9 @@ use Rattle.om_denotation.specs.Listings.{AreAllOf}
 use Rattle.om_denotation.specs.Existence.{HasCircuits, HasCocircuits, HasCovectors}
 use Rattle.om_denotation.specs.Families.{as_functions}
 use Rattle.om_denotation.specs.Maps.{map_by}
-use Rattle.om_denotation.proofs.ChirotopeBridge.{tuples_of, circuit_function, circuit_of_function, circuit_length, cocircuit_function, cocircuit_of_function, cocircuit_length, covector_function, covector_of_function}
+use Rattle.om_denotation.proofs.ChirotopeBridge.{tuples_of, circuit_function, circuit_of_function, circuit_length}
+use Rattle.om_denotation.proofs.ChirotopeBridge.{cocircuit_function, cocircuit_of_function, cocircuit_length}
+use Rattle.om_denotation.proofs.ChirotopeBridge.{covector_function, covector_of_function}
 use Rattle.om_denotation.proofs.FamilyLaws.{orthogonal_both, parts_both}
 use Rattle.om_denotation.proofs.AxiomLaws.{supported, covector_axioms}
 use Rattle.om_denotation.proofs.CircuitFunctions.{function_listed, member_from_function, circuit_axioms}
@@ -64,14 +66,17 @@ module _ (n : ℕ) (chi : List ℕ → Sign) (om : theory.IsChirotope (elements_
 
   pub same_tuples : (t : List ℕ) → tuples_of made t ≡ chi t
   same_tuples t = tuples_by base_size n chi t ∙ elim (is_tuple_cases n base_size t) [
-    | inl k ↦ on_tuples_at n base_size chi t k.0 ∙ alternating_equal (value chi) chi (value_alternating chi) om.alternating (value_increasing chi) t
-    | inr k ↦ on_tuples_off n base_size chi t k.0 ∙ ⊎_elim (λ z. sym z) (λ nz. absurd (k.0 (base_tuple t nz))) (zero_or_nonzero (chi t))
+    | inl k ↦ on_tuples_at n base_size chi t k.0
+        ∙ alternating_equal (value chi) chi (value_alternating chi) om.alternating (value_increasing chi) t
+    | inr k ↦ on_tuples_off n base_size chi t k.0
+        ∙ ⊎_elim (λ z. sym z) (λ nz. absurd (k.0 (base_tuple t nz))) (zero_or_nonzero (chi t))
   ]
 
   part : base_size ≤ n
   part =
       let b = om.base.0 in
-      let l = length_complement (elements_to n) b (elements_distinct n) (nonzero_distinct chi om.alternating b om.base.1) (om.within b om.base.1) in
+      let l = length_complement (elements_to n) b (elements_distinct n)
+      (nonzero_distinct chi om.alternating b om.base.1) (om.within b om.base.1) in
       let k = length-range_with_len 1 n in
       omega (arith, l, k)
 
@@ -81,23 +86,31 @@ module _ (n : ℕ) (chi : List ℕ → Sign) (om : theory.IsChirotope (elements_
   maps : tuples_of made ≡ chi
   maps = same_maps (tuples_of made) chi same_tuples
 
-  pub circuit_both : (X : List Sign) → length X ≡ n → IsCircuitOfChirotope made X ↔ IsCircuit (elements_to n) chi (as_function X)
-  circuit_both X l = subst (λ f. IsCircuitOfChirotope made X ↔ IsCircuit (elements_to n) f (as_function X)) maps (circuit_function made X, circuit_of_function made X l)
+  pub circuit_both : (X : List Sign) → length X ≡ n → IsCircuitOfChirotope made X
+      ↔ IsCircuit (elements_to n) chi (as_function X)
+  circuit_both X l = subst (λ f. IsCircuitOfChirotope made X ↔ IsCircuit (elements_to n) f (as_function X)) maps
+      (circuit_function made X, circuit_of_function made X l)
 
   pub cocircuit_both : (X : List Sign) → length X ≡ n → IsCocircuitOfChirotope made X ↔ IsCocircuit chi (as_function X)
-  cocircuit_both X l = subst (λ f. IsCocircuitOfChirotope made X ↔ IsCocircuit f (as_function X)) maps (cocircuit_function made X, cocircuit_of_function made X l)
+  cocircuit_both X l = subst (λ f. IsCocircuitOfChirotope made X ↔ IsCocircuit f (as_function X)) maps
+      (cocircuit_function made X, cocircuit_of_function made X l)
 
-  pub covector_both : (X : List Sign) → length X ≡ n → IsCovectorOfChirotope made X ↔ IsCovector (elements_to n) chi (as_function X)
-  covector_both X l = subst (λ f. IsCovectorOfChirotope made X ↔ IsCovector (elements_to n) f (as_function X)) maps (covector_function made X, covector_of_function made X l)
+  pub covector_both : (X : List Sign) → length X ≡ n → IsCovectorOfChirotope made X
+      ↔ IsCovector (elements_to n) chi (as_function X)
+  covector_both X l = subst (λ f. IsCovectorOfChirotope made X ↔ IsCovector (elements_to n) f (as_function X)) maps
+      (covector_function made X, covector_of_function made X l)
 
 -- ---- lists
 
 -- the members of a list are the lists of n signs of a family, where their functions are those of a family of functions
-all_of : (n : ℕ) (members : List (List Sign)) → HaveLength n members → (P : List Sign → Type 0) (D : SignVector → Type 0) → ((X : List Sign) → P X → length X ≡ n)
-    → ((X : List Sign) → length X ≡ n → P X ↔ D (as_function X)) → ((F : SignVector) → IsListed (as_functions members) F ↔ D F) → AreAllOf P members
+all_of : (n : ℕ) (members : List (List Sign)) → HaveLength n members
+    → (P : List Sign → Type 0) (D : SignVector → Type 0) → ((X : List Sign) → P X → length X ≡ n)
+    → ((X : List Sign) → length X ≡ n → P X ↔ D (as_function X))
+    → ((F : SignVector) → IsListed (as_functions members) F ↔ D F) → AreAllOf P members
 all_of n members lengths P D size both which = record {
   sound = λ X m. (both X (long X m)).1 ((which (as_function X)).0 (function_listed members X m));
-  complete = λ X p. member_from_function n members lengths X (size X p) ((which (as_function X)).1 ((both X (size X p)).0 p));
+  complete = λ X p. member_from_function n members lengths X (size X p)
+      ((which (as_function X)).1 ((both X (size X p)).0 p));
 }
   where
     long : (X : List Sign) → Contains members X → length X ≡ n
@@ -109,21 +122,27 @@ module _ (c : Listing) (lengths : HaveLength c.elements c.members) where
 
   module _ (axioms : MeetsCircuitAxioms c.members) where
     abbrev chi : List ℕ → Sign
-    chi = list_map (as_functions c.members) E (elements_distinct c.elements) (supported c.elements c.members lengths) (circuit_axioms c.members axioms)
+    chi = list_map (as_functions c.members) E (elements_distinct c.elements) (supported c.elements c.members lengths)
+        (circuit_axioms c.members axioms)
 
     om : theory.IsChirotope E chi
-    om = list_chirotope (as_functions c.members) E (elements_distinct c.elements) (supported c.elements c.members lengths) (circuit_axioms c.members axioms)
+    om = list_chirotope (as_functions c.members) E (elements_distinct c.elements)
+        (supported c.elements c.members lengths) (circuit_axioms c.members axioms)
 
     member_both : (F : SignVector) → IsListed (as_functions c.members) F ↔ IsCocircuit chi F
     member_both F = (
-      list_member_cocircuit (as_functions c.members) E (elements_distinct c.elements) (supported c.elements c.members lengths) (circuit_axioms c.members axioms) F,
-      list_cocircuit_member (as_functions c.members) E (elements_distinct c.elements) (supported c.elements c.members lengths) (circuit_axioms c.members axioms) F,
+      list_member_cocircuit (as_functions c.members) E (elements_distinct c.elements)
+          (supported c.elements c.members lengths) (circuit_axioms c.members axioms) F,
+      list_cocircuit_member (as_functions c.members) E (elements_distinct c.elements)
+          (supported c.elements c.members lengths) (circuit_axioms c.members axioms) F,
     )
 
     pub of_cocircuits : (m : SignMap) × HasCocircuits c m
     of_cocircuits =
         let m = made c.elements chi om in
-        let all : AreAllOf (IsCocircuitOfChirotope m) c.members = all_of c.elements c.members lengths (IsCocircuitOfChirotope m) (IsCocircuit chi) (cocircuit_length m) (cocircuit_both c.elements chi om) member_both in
+        let all : AreAllOf (IsCocircuitOfChirotope m) c.members =
+        all_of c.elements c.members lengths (IsCocircuitOfChirotope m) (IsCocircuit chi) (cocircuit_length m)
+        (cocircuit_both c.elements chi om) member_both in
         let parts = parts_both m (made_axioms c.elements chi om) in (
           m,
           record {
@@ -132,7 +151,11 @@ module _ (c : Listing) (lengths : HaveLength c.elements c.members) where
             members = all;
             same = λ X l. (
               λ h. (parts X l).1 (λ i n. let y = h.composed i n in (y.0, all.sound y.0 y.1, y.2, y.3)),
-              λ h. record { size = l; composed = λ i n. let y = (parts X l).0 h i n in (y.0, all.complete y.0 y.1, y.2, y.3) },
+              λ h. record {
+                size = l;
+                composed = λ i n. let y = (parts X l).0 h i n in
+                    (y.0, all.complete y.0 y.1, y.2, y.3);
+              },
             );
           },
         )
@@ -149,7 +172,9 @@ module _ (c : Listing) (lengths : HaveLength c.elements c.members) where
     pub of_circuits : (m : SignMap) × HasCircuits c m
     of_circuits =
         let m = made c.elements (dual_map E chi) dual_om in
-        let all : AreAllOf (IsCircuitOfChirotope m) c.members = all_of c.elements c.members lengths (IsCircuitOfChirotope m) (IsCircuit E (dual_map E chi)) (circuit_length m) (circuit_both c.elements (dual_map E chi) dual_om) circuit_member_both in
+        let all : AreAllOf (IsCircuitOfChirotope m) c.members =
+        all_of c.elements c.members lengths (IsCircuitOfChirotope m) (IsCircuit E (dual_map E chi))
+        (circuit_length m) (circuit_both c.elements (dual_map E chi) dual_om) circuit_member_both in
         let each = orthogonal_both m (made_axioms c.elements (dual_map E chi) dual_om) in (
           m,
           record {
@@ -165,21 +190,27 @@ module _ (c : Listing) (lengths : HaveLength c.elements c.members) where
 
   module _ (axioms : MeetsCovectorAxioms c.members) where
     abbrev psi : List ℕ → Sign
-    psi = covectors_map (as_functions c.members) E (elements_distinct c.elements) (supported c.elements c.members lengths) (covector_axioms c.members axioms)
+    psi = covectors_map (as_functions c.members) E (elements_distinct c.elements)
+        (supported c.elements c.members lengths) (covector_axioms c.members axioms)
 
     psi_om : theory.IsChirotope E psi
-    psi_om = covectors_chirotope (as_functions c.members) E (elements_distinct c.elements) (supported c.elements c.members lengths) (covector_axioms c.members axioms)
+    psi_om = covectors_chirotope (as_functions c.members) E (elements_distinct c.elements)
+        (supported c.elements c.members lengths) (covector_axioms c.members axioms)
 
     covector_member_both : (F : SignVector) → IsListed (as_functions c.members) F ↔ IsCovector E psi F
     covector_member_both F = (
-      member_covector (as_functions c.members) E (elements_distinct c.elements) (supported c.elements c.members lengths) (covector_axioms c.members axioms) F,
-      covector_member (as_functions c.members) E (elements_distinct c.elements) (supported c.elements c.members lengths) (covector_axioms c.members axioms) F,
+      member_covector (as_functions c.members) E (elements_distinct c.elements) (supported c.elements c.members lengths)
+          (covector_axioms c.members axioms) F,
+      covector_member (as_functions c.members) E (elements_distinct c.elements) (supported c.elements c.members lengths)
+          (covector_axioms c.members axioms) F,
     )
 
     pub of_covectors : (m : SignMap) × HasCovectors c m
     of_covectors =
         let m = made c.elements psi psi_om in
-        let all : AreAllOf (IsCovectorOfChirotope m) c.members = all_of c.elements c.members lengths (IsCovectorOfChirotope m) (IsCovector E psi) (λ X x. x.size) (covector_both c.elements psi psi_om) covector_member_both in (
+        let all : AreAllOf (IsCovectorOfChirotope m) c.members =
+        all_of c.elements c.members lengths (IsCovectorOfChirotope m) (IsCovector E psi) (λ X x. x.size)
+        (covector_both c.elements psi psi_om) covector_member_both in (
           m,
           record {
             axioms = made_axioms c.elements psi psi_om;

@@ -1,10 +1,12 @@
 -- Lists of signs and their functions from elements to signs.
 --
 -- Main definitions: AreFunctionsOf, the functions of the one family are those of the other.
--- Main results: the sign of a list at an element is that of its function (at_place, place_function); supports of lists are those of functions
--- (support_function, support_list); lists whose functions are equal up to sign are so (up_to_sign, negative_list); what separates or eliminates as a
--- function does so as a list (opposed, separated, eliminates, eliminates_from_composition).
-use Rattle.std.proofs.Common.{ℕ, zero, suc, ◌≡◌, ◌-◌, ◌≤◌, ◌⊎◌, List, length, map, replicate, refl, sym, ap, ◌∙◌, inl, inr, ⊎_elim, arith}
+-- Main results: the sign of a list at an element is that of its function (at_place, place_function); supports of lists
+-- are those of functions (support_function, support_list); lists whose functions are equal up to sign are so
+-- (up_to_sign, negative_list); what separates or eliminates as a function does so as a list (opposed, separated,
+-- eliminates, eliminates_from_composition).
+use Rattle.std.proofs.Common.{ℕ, zero, suc, ◌≡◌, ◌-◌, ◌≤◌, ◌⊎◌, List, length, map, replicate, refl, sym, ap, ◌∙◌, inl}
+use Rattle.std.proofs.Common.{inr, ⊎_elim, arith}
 use Rattle.std.proofs.lemmas.List.{length-map}
 use Rattle.om_signs.specs.declared.sign.Sign.{Sign}
 use Rattle.om_signs.specs.declared.sign.Sign.TheVariants.{Minus, Zero, Plus}
@@ -54,10 +56,13 @@ support_list X Y s e z = ⊎_elim (λ q. q) (λ n. absurd (s (suc (e - 1)) n z))
 
 -- ---- up to sign
 
-pub negative_list : (n : ℕ) (X Y : List Sign) → length X ≡ n → length Y ≡ n → ((e : ℕ) → as_function X e ≡ opposite (as_function Y e)) → X ≡ negated Y
-negative_list n X Y l k q = same_lists n X (map opposite Y) l (length-map Y opposite ∙ k) (λ e. q e ∙ sym (as_function-negated Y e))
+pub negative_list : (n : ℕ) (X Y : List Sign) → length X ≡ n → length Y ≡ n
+    → ((e : ℕ) → as_function X e ≡ opposite (as_function Y e)) → X ≡ negated Y
+negative_list n X Y l k q = same_lists n X (map opposite Y) l (length-map Y opposite ∙ k)
+    (λ e. q e ∙ sym (as_function-negated Y e))
 
-pub up_to_sign : (n : ℕ) (X Y : List Sign) → length X ≡ n → length Y ≡ n → AreEqualUpToSign (as_function X) (as_function Y) → IsUpToSign X Y
+pub up_to_sign : (n : ℕ) (X Y : List Sign) → length X ≡ n → length Y ≡ n
+    → AreEqualUpToSign (as_function X) (as_function Y) → IsUpToSign X Y
 up_to_sign n X Y l k (inl q) = inl (same_lists n X Y l k q)
 up_to_sign n X Y l k (inr q) = inr (negative_list n X Y l k q)
 
@@ -72,16 +77,20 @@ nonzero_of_minus s t = grind arith
 pub opposite_of_minus : (s t : Sign) → product s t ≡ Minus → s ≡ opposite t
 opposite_of_minus s t = grind arith
 
-pub opposed : (X Y : List Sign) (e : ℕ) → IsOpposedAt X Y e → AreSeparatedAt (as_function X) (as_function Y) (suc (e - 1))
+pub opposed : (X Y : List Sign) (e : ℕ) → IsOpposedAt X Y e
+    → AreSeparatedAt (as_function X) (as_function Y) (suc (e - 1))
 opposed X Y e o = (λ z. plus_nonzero (sym o.plus ∙ z), o.plus ∙ sym (ap opposite o.minus))
 
-pub separated : (X Y : List Sign) (e : ℕ) → IsSeparatedAt X Y e → AreSeparatedAt (as_function X) (as_function Y) (suc (e - 1))
-separated X Y e s = (nonzero_of_minus (at_element X e) (at_element Y e) s, opposite_of_minus (at_element X e) (at_element Y e) s)
+pub separated : (X Y : List Sign) (e : ℕ) → IsSeparatedAt X Y e
+    → AreSeparatedAt (as_function X) (as_function Y) (suc (e - 1))
+separated X Y e s =
+    (nonzero_of_minus (at_element X e) (at_element Y e) s, opposite_of_minus (at_element X e) (at_element Y e) s)
 
 -- ---- elimination
 
 -- a list whose function eliminates
-pub eliminates : (X Y : List Sign) (e : ℕ) (Z : SignVector) (W : List Sign) → Z (suc (e - 1)) ≡ Zero → IsFromEither (as_function X) (as_function Y) Z → ((g : ℕ) → Z g ≡ as_function W g) → Eliminates X Y e W
+pub eliminates : (X Y : List Sign) (e : ℕ) (Z : SignVector) (W : List Sign) → Z (suc (e - 1)) ≡ Zero
+    → IsFromEither (as_function X) (as_function Y) Z → ((g : ℕ) → Z g ≡ as_function W g) → Eliminates X Y e W
 eliminates X Y e Z W gone either q = record {
   zero = sym (q (suc (e - 1))) ∙ gone;
   plus = λ f p. from f Plus plus_nonzero p;
@@ -95,8 +104,12 @@ eliminates X Y e Z W gone either q = record {
 
 -- a list whose function eliminates from the composition
 pub eliminates_from_composition : (X Y : List Sign) (e : ℕ) (Z : SignVector) (W : List Sign) → Z (suc (e - 1)) ≡ Zero
-    → ((g : ℕ) → (AreSeparatedAt (as_function X) (as_function Y) g → ⊥) → Z g ≡ composition (as_function X) (as_function Y) g) → ((g : ℕ) → Z g ≡ as_function W g) → EliminatesFromComposition X Y e W
+    → ((g : ℕ) → (AreSeparatedAt (as_function X) (as_function Y) g → ⊥)
+    → Z g ≡ composition (as_function X) (as_function Y) g) → ((g : ℕ) → Z g ≡ as_function W g)
+    → EliminatesFromComposition X Y e W
 eliminates_from_composition X Y e Z W gone outside q = record {
   zero = sym (q (suc (e - 1))) ∙ gone;
-  outside = λ f apart. sym (q (suc (f - 1))) ∙ outside (suc (f - 1)) (λ s. apart (minus_of_opposite (at_element X f) (at_element Y f) s.0 s.1)) ∙ sym (as_function-compose X Y (suc (f - 1)));
+  outside = λ f apart. sym (q (suc (f - 1)))
+      ∙ outside (suc (f - 1)) (λ s. apart (minus_of_opposite (at_element X f) (at_element Y f) s.0 s.1))
+      ∙ sym (as_function-compose X Y (suc (f - 1)));
 }

@@ -1,7 +1,7 @@
 -- The complement of a set, and the sign of the permutation that lists a set and then the elements off it.
 --
--- Main results: complement_is, the set of the elements off another; sort_append, the sign of two lists one after the other; listing_more, one
--- more element of the whole set.
+-- Main results: complement_is, the set of the elements off another; sort_append, the sign of two lists one after the
+-- other; listing_more, one more element of the whole set.
 use Rattle.std.specs.Prelude.{ℕ, ◌≡◌, ◌≢◌, ◌+◌, ◌-◌, ◌%◌, ◌≤◌, ◌↔◌, List, [], ◌∷◌, ◌++◌, refl}
 use Rattle.std.specs.List.{range_with_len}
 use Rattle.std.proofs.Common.{zero, suc, sym, ◌∙◌, ap, inl, inr, arith, append-nil}
@@ -36,7 +36,8 @@ complement_subset low (suc m) xs = elim (is_member_cases low xs) [
 ]
 
 -- a set with the elements off another
-pub complement_is : (n : ℕ) (xs ys : List ℕ) → IsSubsetFrom 1 n ys → ((e : ℕ) → IsMember e ys ↔ ((1 ≤ e) × (e ≤ n) × (IsMember e xs → ⊥))) → ys ≡ complement (elements_to n) xs
+pub complement_is : (n : ℕ) (xs ys : List ℕ) → IsSubsetFrom 1 n ys
+    → ((e : ℕ) → IsMember e ys ↔ ((1 ≤ e) × (e ≤ n) × (IsMember e xs → ⊥))) → ys ≡ complement (elements_to n) xs
 complement_is n xs ys h members =
     let c = complement_is_complement (elements_to n) xs (elements_distinct n) in
     same_members 1 n ys (complement (elements_to n) xs) h (complement_subset 1 n xs)
@@ -52,7 +53,8 @@ across (x ∷ xs) ys = product (before_sign x ys) (across xs ys)
 
 before_append : (x : ℕ) (ys zs : List ℕ) → before_sign x (ys ++ zs) ≡ product (before_sign x ys) (before_sign x zs)
 before_append x [] zs = refl
-before_append x (y ∷ ys) zs = ap (product (order_sign x y)) (before_append x ys zs) ∙ lemma (order_sign x y) (before_sign x ys) (before_sign x zs)
+before_append x (y ∷ ys) zs = ap (product (order_sign x y)) (before_append x ys zs)
+    ∙ lemma (order_sign x y) (before_sign x ys) (before_sign x zs)
   where
     lemma : (a b c : Sign) → product a (product b c) ≡ product (product a b) c
     lemma a b c = grind arith
@@ -67,21 +69,25 @@ across_append (x ∷ xs) ys zs =
     lemma : (a b c d : Sign) → product (product a b) (product c d) ≡ product (product a c) (product b d)
     lemma a b c d = grind arith
 
-pub sort_append : (xs ys : List ℕ) → sort_sign (xs ++ ys) ≡ product (product (sort_sign xs) (sort_sign ys)) (across xs ys)
+pub sort_append : (xs ys : List ℕ)
+    → sort_sign (xs ++ ys) ≡ product (product (sort_sign xs) (sort_sign ys)) (across xs ys)
 sort_append [] ys = sym (product-plus (sort_sign ys))
 sort_append (x ∷ xs) ys =
     ap (product (before_sign x (xs ++ ys))) (sort_append xs ys)
     ∙ ap (λ s. product s (product (product (sort_sign xs) (sort_sign ys)) (across xs ys))) (before_append x xs ys)
     ∙ lemma (before_sign x xs) (before_sign x ys) (sort_sign xs) (sort_sign ys) (across xs ys)
   where
-    lemma : (a b c d e : Sign) → product (product a b) (product (product c d) e) ≡ product (product (product a c) d) (product b e)
+    lemma : (a b c d e : Sign) → product (product a b) (product (product c d) e)
+        ≡ product (product (product a c) d) (product b e)
     lemma a b c d e = grind arith
 
 pub sort_increasing : (xs : List ℕ) → IsIncreasing xs → sort_sign xs ≡ Plus
 sort_increasing xs i = sym (product-plus (sort_sign xs)) ∙ value_increasing (λ t. Plus) xs i
 
 sort_two : (xs ys : List ℕ) → IsIncreasing xs → IsIncreasing ys → sort_sign (xs ++ ys) ≡ across xs ys
-sort_two xs ys i j = sort_append xs ys ∙ ap (λ s. product (product s (sort_sign ys)) (across xs ys)) (sort_increasing xs i) ∙ ap (λ s. product s (across xs ys)) (sort_increasing ys j)
+sort_two xs ys i j = sort_append xs ys
+    ∙ ap (λ s. product (product s (sort_sign ys)) (across xs ys)) (sort_increasing xs i)
+    ∙ ap (λ s. product s (across xs ys)) (sort_increasing ys j)
 
 complement_append : (E F a : List ℕ) → complement (E ++ F) a ≡ complement E a ++ complement F a
 complement_append [] F a = refl
@@ -92,7 +98,10 @@ complement_append (e ∷ E) F a = elim (is_member_cases e a) [
 
 range_last : (low k : ℕ) → range_with_len low (suc k) ≡ range_with_len low k ++ (low + k) ∷ []
 range_last low zero = let e : low ≡ low + 0 = omega arith in ap (λ x. x ∷ []) e
-range_last low (suc k) = ap (λ l. low ∷ l) (range_last (low + 1) k ∙ (let e : low + 1 + k ≡ low + suc k = omega arith in ap (λ x. range_with_len (low + 1) k ++ x ∷ []) e))
+range_last low (suc k) =
+    ap (λ l. low ∷ l)
+    (range_last (low + 1) k
+    ∙ (let e : low + 1 + k ≡ low + suc k = omega arith in ap (λ x. range_with_len (low + 1) k ++ x ∷ []) e))
 
 rising_range : (low k : ℕ) → IsIncreasing (range_with_len low k)
 rising_range low zero = tt
@@ -100,26 +109,33 @@ rising_range low (suc zero) = tt
 rising_range low (suc (suc k)) = (omega arith, rising_range (low + 1) (suc k))
 
 -- one more element of the whole set: if it is off the list it is moved over the greater ones of the list
-pub listing_more : (a : List ℕ) (k : ℕ) → IsIncreasing a → sort_sign (a ++ complement (range_with_len 1 (suc k)) a) ≡ product (sort_sign (a ++ complement (range_with_len 1 k) a)) (sort_sign (a ++ complement ((1 + k) ∷ []) a))
+pub listing_more : (a : List ℕ) (k : ℕ) → IsIncreasing a
+    → sort_sign (a ++ complement (range_with_len 1 (suc k)) a)
+    ≡ product (sort_sign (a ++ complement (range_with_len 1 k) a)) (sort_sign (a ++ complement ((1 + k) ∷ []) a))
 listing_more a k i =
-    let front = sort_two a (complement (range_with_len 1 k) a) i (complement_increasing (range_with_len 1 k) a (rising_range 1 k)) in
+    let front = sort_two a (complement (range_with_len 1 k) a) i
+    (complement_increasing (range_with_len 1 k) a (rising_range 1 k)) in
     let last = sort_two a (complement ((1 + k) ∷ []) a) i (complement_increasing ((1 + k) ∷ []) a tt) in
-    sort_two a (complement (range_with_len 1 (suc k)) a) i (complement_increasing (range_with_len 1 (suc k)) a (rising_range 1 (suc k)))
+    sort_two a (complement (range_with_len 1 (suc k)) a) i
+    (complement_increasing (range_with_len 1 (suc k)) a (rising_range 1 (suc k)))
     ∙ ap (λ E. across a (complement E a)) (range_last 1 k)
     ∙ ap (across a) (complement_append (range_with_len 1 k) ((1 + k) ∷ []) a)
     ∙ across_append a (complement (range_with_len 1 k) a) (complement ((1 + k) ∷ []) a)
-    ∙ sym (ap (λ s. product s (sort_sign (a ++ complement ((1 + k) ∷ []) a))) front ∙ ap (product (across a (complement (range_with_len 1 k) a))) last)
+    ∙ sym (ap (λ s. product s (sort_sign (a ++ complement ((1 + k) ∷ []) a))) front
+    ∙ ap (product (across a (complement (range_with_len 1 k) a))) last)
 
 pub listing_none : (a : List ℕ) → IsIncreasing a → sort_sign (a ++ []) ≡ Plus
 listing_none a i = ap sort_sign (append-nil a) ∙ sort_increasing a i
 
-pub listing_inside : (e : ℕ) (a : List ℕ) → IsIncreasing a → IsMember e a → sort_sign (a ++ complement (e ∷ []) a) ≡ Plus
+pub listing_inside : (e : ℕ) (a : List ℕ) → IsIncreasing a → IsMember e a
+    → sort_sign (a ++ complement (e ∷ []) a) ≡ Plus
 listing_inside e a i h = elim (is_member_cases e a) [
   | inl k ↦ rw k.1 (listing_none a i)
   | inr k ↦ absurd (k.0 h)
 ]
 
-pub listing_outside : (n e : ℕ) (a : List ℕ) → IsSubsetFrom 1 n a → (IsMember e a → ⊥) → sort_sign (a ++ complement (e ∷ []) a) ≡ parity_sign (count_above e a)
+pub listing_outside : (n e : ℕ) (a : List ℕ) → IsSubsetFrom 1 n a → (IsMember e a → ⊥)
+    → sort_sign (a ++ complement (e ∷ []) a) ≡ parity_sign (count_above e a)
 listing_outside n e a h off = elim (is_member_cases e a) [
   | inl k ↦ absurd (off k.0)
   | inr k ↦ rw k.1 (sign_end 1 n e a h off)
@@ -133,23 +149,33 @@ even_parity k n = let e : k % 2 ≡ 0 = omega arith in rw (eq-eqb (k % 2) 0 e) r
 pub odd_parity : (k : ℕ) → k % 2 ≡ 1 → parity_sign k ≡ Minus
 odd_parity k o = let n : k % 2 ≢ 0 = omega arith in rw (ne_eqb (k % 2) 0 n) refl
 
-pub moving_inside : (n e : ℕ) (a : List ℕ) → IsSubsetFrom 1 n a → IsMember e a → Plus ≡ sort_sign (a ++ complement (e ∷ []) a)
+pub moving_inside : (n e : ℕ) (a : List ℕ) → IsSubsetFrom 1 n a → IsMember e a
+    → Plus ≡ sort_sign (a ++ complement (e ∷ []) a)
 moving_inside n e a h m = sym (listing_inside e a (increasing_subset n a h) m)
 
-pub moving_even : (n e : ℕ) (a : List ℕ) → IsSubsetFrom 1 n a → (IsMember e a → ⊥) → (count_above e a % 2 ≡ 1 → ⊥) → Plus ≡ sort_sign (a ++ complement (e ∷ []) a)
+pub moving_even : (n e : ℕ) (a : List ℕ) → IsSubsetFrom 1 n a → (IsMember e a → ⊥) → (count_above e a % 2 ≡ 1 → ⊥)
+    → Plus ≡ sort_sign (a ++ complement (e ∷ []) a)
 moving_even n e a h off even = sym (listing_outside n e a h off ∙ even_parity (count_above e a) even)
 
-pub moving_odd : (n e : ℕ) (a : List ℕ) → IsSubsetFrom 1 n a → (IsMember e a → ⊥) → count_above e a % 2 ≡ 1 → Minus ≡ sort_sign (a ++ complement (e ∷ []) a)
+pub moving_odd : (n e : ℕ) (a : List ℕ) → IsSubsetFrom 1 n a → (IsMember e a → ⊥) → count_above e a % 2 ≡ 1
+    → Minus ≡ sort_sign (a ++ complement (e ∷ []) a)
 moving_odd n e a h off odd = sym (listing_outside n e a h off ∙ odd_parity (count_above e a) odd)
 
 -- one turn of the loop
-pub listing_turn : (n e : ℕ) (a : List ℕ) (sign s t : Sign) → 1 ≤ e → IsSubsetFrom 1 n a → sign ≡ sort_sign (a ++ complement (range_with_len 1 (e - 1)) a) → s ≡ sort_sign (a ++ complement (e ∷ []) a) → t ≡ product sign s → t ≡ sort_sign (a ++ complement (range_with_len 1 (e + 1 - 1)) a)
+pub listing_turn : (n e : ℕ) (a : List ℕ) (sign s t : Sign) → 1 ≤ e → IsSubsetFrom 1 n a
+    → sign ≡ sort_sign (a ++ complement (range_with_len 1 (e - 1)) a) → s ≡ sort_sign (a ++ complement (e ∷ []) a)
+    → t ≡ product sign s → t ≡ sort_sign (a ++ complement (range_with_len 1 (e + 1 - 1)) a)
 listing_turn n e a sign s t l h p q r =
     let up : e + 1 - 1 ≡ suc (e - 1) = omega arith in
     let here : 1 + (e - 1) ≡ e = omega arith in
     r ∙ ap (λ x. product x s) p ∙ ap (product (sort_sign (a ++ complement (range_with_len 1 (e - 1)) a))) q
-    ∙ sym (ap (λ k. sort_sign (a ++ complement (range_with_len 1 k) a)) up ∙ listing_more a (e - 1) (increasing_subset n a h)
-    ∙ ap (λ x. product (sort_sign (a ++ complement (range_with_len 1 (e - 1)) a)) (sort_sign (a ++ complement (x ∷ []) a))) here)
+    ∙ sym (ap (λ k. sort_sign (a ++ complement (range_with_len 1 k) a)) up
+    ∙ listing_more a (e - 1) (increasing_subset n a h)
+    ∙ ap (λ x. product (sort_sign (a ++ complement (range_with_len 1 (e - 1)) a))
+    (sort_sign (a ++ complement (x ∷ []) a))) here)
 
-pub listing_end : (n e : ℕ) (a : List ℕ) (sign : Sign) → e ≡ n + 1 → sign ≡ sort_sign (a ++ complement (range_with_len 1 (e - 1)) a) → sign ≡ sort_sign (a ++ complement (elements_to n) a)
-listing_end n e a sign q p = let k : e - 1 ≡ n = omega arith in p ∙ ap (λ j. sort_sign (a ++ complement (range_with_len 1 j) a)) k
+pub listing_end : (n e : ℕ) (a : List ℕ) (sign : Sign) → e ≡ n + 1
+    → sign ≡ sort_sign (a ++ complement (range_with_len 1 (e - 1)) a)
+    → sign ≡ sort_sign (a ++ complement (elements_to n) a)
+listing_end n e a sign q p = let k : e - 1 ≡ n = omega arith in p
+    ∙ ap (λ j. sort_sign (a ++ complement (range_with_len 1 j) a)) k

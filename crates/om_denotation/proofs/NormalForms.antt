@@ -1,6 +1,7 @@
 -- The normal form of a map has the covectors of the map.
 --
--- Main results: each chirotope has a normal form (normal_exists); tuples_negated; covector_both; normal_covectors, which_covectors.
+-- Main results: each chirotope has a normal form (normal_exists); tuples_negated; covector_both; normal_covectors,
+-- which_covectors.
 use Rattle.std.specs.Prelude.{ℕ, ◌≡◌, ◌↔◌, ◌⊎◌, List, length, refl}
 use Rattle.std.proofs.Common.{sym, ◌∙◌, ap, subst, inl, inr}
 use Rattle.om_signs.specs.declared.sign.Sign.{Sign}
@@ -38,18 +39,24 @@ tuples_negated m t = elim (is_tuple_cases m.elements m.rank t) [
       ∙ ap (product (sort_sign t)) (at-opposite m.signs (rank_of m.elements (sorted t)))
       ∙ product-opposite_right (sort_sign t) (chi_of m (sorted t))
       ∙ ap opposite (sym (on_tuples_at m.elements m.rank (chi_of m) t k.0))
-  | inr k ↦ on_tuples_off m.elements m.rank (chi_of (negated m)) t k.0 ∙ ap opposite (sym (on_tuples_off m.elements m.rank (chi_of m) t k.0))
+  | inr k ↦ on_tuples_off m.elements m.rank (chi_of (negated m)) t k.0
+      ∙ ap opposite (sym (on_tuples_off m.elements m.rank (chi_of m) t k.0))
 ]
 
 -- a list is a covector exactly where its function is one
-pub covector_both : (m : SignMap) (X : List Sign) → length X ≡ m.elements → IsCovectorOfChirotope m X ↔ IsCovector (elements_to m.elements) (tuples_of m) (as_function X)
+pub covector_both : (m : SignMap) (X : List Sign) → length X ≡ m.elements → IsCovectorOfChirotope m X
+    ↔ IsCovector (elements_to m.elements) (tuples_of m) (as_function X)
 covector_both m X l = (covector_function m X, covector_of_function m X l)
 
 -- the same with an equal map on all lists
-pub covector_of_map : (m : SignMap) (chi : List ℕ → Sign) → ((t : List ℕ) → tuples_of m t ≡ chi t) → (X : List Sign) → length X ≡ m.elements → IsCovectorOfChirotope m X ↔ IsCovector (elements_to m.elements) chi (as_function X)
-covector_of_map m chi h X l = subst (λ f. IsCovectorOfChirotope m X ↔ IsCovector (elements_to m.elements) f (as_function X)) (same_maps (tuples_of m) chi h) (covector_both m X l)
+pub covector_of_map : (m : SignMap) (chi : List ℕ → Sign) → ((t : List ℕ) → tuples_of m t ≡ chi t) → (X : List Sign)
+    → length X ≡ m.elements → IsCovectorOfChirotope m X ↔ IsCovector (elements_to m.elements) chi (as_function X)
+covector_of_map m chi h X l =
+    subst (λ f. IsCovectorOfChirotope m X ↔ IsCovector (elements_to m.elements) f (as_function X))
+    (same_maps (tuples_of m) chi h) (covector_both m X l)
 
-negated_covectors : (m : SignMap) (X : List Sign) → length X ≡ m.elements → IsCovectorOfChirotope (negated m) X ↔ IsCovectorOfChirotope m X
+negated_covectors : (m : SignMap) (X : List Sign) → length X ≡ m.elements → IsCovectorOfChirotope (negated m) X
+    ↔ IsCovectorOfChirotope m X
 negated_covectors m X l =
     let b = covector_both m X l in
     let n = covector_of_map (negated m) (negative (tuples_of m)) (tuples_negated m) X l in (
@@ -57,12 +64,14 @@ negated_covectors m X l =
       (λ h. n.1 (negative_covector (elements_to m.elements) (tuples_of m) (as_function X) (b.0 h))),
     )
 
-pub normal_covectors : (m d : SignMap) → IsNormalFormOf m d → (X : List Sign) → length X ≡ m.elements → IsCovectorOfChirotope d X ↔ IsCovectorOfChirotope m X
+pub normal_covectors : (m d : SignMap) → IsNormalFormOf m d → (X : List Sign) → length X ≡ m.elements
+    → IsCovectorOfChirotope d X ↔ IsCovectorOfChirotope m X
 normal_covectors m d h X l = by_case h.same
   where
     by_case : (d ≡ m) ⊎ (d ≡ negated m) → IsCovectorOfChirotope d X ↔ IsCovectorOfChirotope m X
     by_case (inl q) = subst (λ k. IsCovectorOfChirotope k X ↔ IsCovectorOfChirotope m X) (sym q) ((λ c. c), (λ c. c))
-    by_case (inr q) = subst (λ k. IsCovectorOfChirotope k X ↔ IsCovectorOfChirotope m X) (sym q) (negated_covectors m X l)
+    by_case (inr q) = subst (λ k. IsCovectorOfChirotope k X ↔ IsCovectorOfChirotope m X) (sym q)
+        (negated_covectors m X l)
 
 pub normal_rank : (m d : SignMap) → IsNormalFormOf m d → d.rank ≡ m.rank
 normal_rank m d h = by_case h.same
@@ -79,7 +88,9 @@ normal_elements m d h = by_case h.same
     by_case (inr q) = ap (λ k. k.elements) q
 
 -- the covectors of the normal form of a map that the theory knows
-pub which_covectors : (m d : SignMap) (chi : List ℕ → Sign) → IsNormalFormOf m d → ((t : List ℕ) → tuples_of m t ≡ chi t) → (X : List Sign) → length X ≡ m.elements → IsCovectorOfChirotope d X ↔ IsCovector (elements_to m.elements) chi (as_function X)
+pub which_covectors : (m d : SignMap) (chi : List ℕ → Sign) → IsNormalFormOf m d
+    → ((t : List ℕ) → tuples_of m t ≡ chi t) → (X : List Sign) → length X ≡ m.elements → IsCovectorOfChirotope d X
+    ↔ IsCovector (elements_to m.elements) chi (as_function X)
 which_covectors m d chi h q X l =
     let a = normal_covectors m d h X l in
     let b = covector_of_map m chi q X l in

@@ -16,15 +16,24 @@ pub only_chirotope : (m : SignMap) → IsChirotope m → IsOnlyChirotope m
 only_chirotope m om = record { only = λ k ok e same. same_by_covectors m k om ok e same }
 
 -- a listing with n elements and these members
-module _ (c : Listing) (n : ℕ) (members : List (List Sign)) (e : c.elements ≡ n) (p : c.members ≡ members) (lengths : HaveLength n members) where
+module _ (c : Listing) (n : ℕ) (members : List (List Sign)) (e : c.elements ≡ n) (p : c.members ≡ members)
+    (lengths : HaveLength n members) where
   all_lengths : HaveLength c.elements c.members
   all_lengths = subst (λ xs. HaveLength c.elements xs) (sym p) (subst (λ k. HaveLength k members) (sym e) lengths)
 
   pub only_circuits : MeetsCircuitAxioms members → AreOnlyCircuits c
-  only_circuits axioms = record { only = λ d ld ad q same. one_list_of_circuits c d all_lengths ld (subst MeetsCircuitAxioms (sym p) axioms) ad q same }
+  only_circuits axioms =
+      record {
+        only = λ d ld ad q same. one_list_of_circuits c d all_lengths ld
+            (subst MeetsCircuitAxioms (sym p) axioms) ad q same;
+      }
 
   pub only_cocircuits : MeetsCircuitAxioms members → AreOnlyCocircuits c
-  only_cocircuits axioms = record { only = λ d ld ad q same. one_list_of_cocircuits c d all_lengths ld (subst MeetsCircuitAxioms (sym p) axioms) ad q same }
+  only_cocircuits axioms =
+      record {
+        only = λ d ld ad q same. one_list_of_cocircuits c d all_lengths ld
+            (subst MeetsCircuitAxioms (sym p) axioms) ad q same;
+      }
 
   pub only_covectors : AreOnlyCovectors c
   only_covectors = record { only = λ d ld ad q same. one_list_of_covectors c d all_lengths ld q same }

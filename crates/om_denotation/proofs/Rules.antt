@@ -1,7 +1,8 @@
 -- Maps that are given by a rule for the sign of each increasing list.
 --
--- Main results: the sign of a list is that of the rule (rule_at); the map on all lists is that of the rule (tuples_by); where this is a
--- chirotope of the theory the map meets the axioms (chirotope_by); equal maps on all lists are the same (same_maps).
+-- Main results: the sign of a list is that of the rule (rule_at); the map on all lists is that of the rule (tuples_by);
+-- where this is a chirotope of the theory the map meets the axioms (chirotope_by); equal maps on all lists are the same
+-- (same_maps).
 use Rattle.std.specs.Prelude.{ℕ, ◌≡◌, ◌<◌, ◌≤◌, List, [], length}
 use Rattle.std.proofs.Common.{sym, ◌∙◌, ap, subst, inl, inr}
 use Rattle.std.proofs.lemmas.List.{length-map, get_or-map}
@@ -23,19 +24,27 @@ use Rattle.om_denotation.specs.Maps.{map_by}
 pub same_maps : (f g : List ℕ → Sign) → ((t : List ℕ) → f t ≡ g t) → f ≡ g
 same_maps f g h = λ i. λ t. h t i
 
-pub rule_at : (rank elements : ℕ) (rule : List ℕ → Sign) (xs : List ℕ) → IsSubsetFrom 1 elements xs → length xs ≡ rank → chi_of (map_by rank elements rule) xs ≡ rule xs
+pub rule_at : (rank elements : ℕ) (rule : List ℕ → Sign) (xs : List ℕ) → IsSubsetFrom 1 elements xs → length xs ≡ rank
+    → chi_of (map_by rank elements rule) xs ≡ rule xs
 rule_at rank elements rule xs h l =
-    let few : rank_of elements xs < choose elements rank = subst (λ k. rank_of elements xs < choose elements k) l (rank_from-lt 1 elements xs h) in
-    let inside : rank_of elements xs < length (all_subsets elements rank) = subst (λ k. rank_of elements xs < k) (sym (length-subsets_from 1 elements rank)) few in
-    let back : subset_at elements rank (rank_of elements xs) ≡ xs = subst (λ k. subset_at elements k (rank_of elements xs) ≡ xs) l (get_or-rank_from 1 elements xs h) in
+    let few : rank_of elements xs < choose elements rank =
+    subst (λ k. rank_of elements xs < choose elements k) l (rank_from-lt 1 elements xs h) in
+    let inside : rank_of elements xs < length (all_subsets elements rank) =
+    subst (λ k. rank_of elements xs < k) (sym (length-subsets_from 1 elements rank)) few in
+    let back : subset_at elements rank (rank_of elements xs) ≡ xs =
+    subst (λ k. subset_at elements k (rank_of elements xs) ≡ xs) l (get_or-rank_from 1 elements xs h) in
     get_or-map rule (all_subsets elements rank) (rank_of elements xs) [] Zero inside ∙ ap rule back
 
 pub whole_by : (rank elements : ℕ) (rule : List ℕ → Sign) → rank ≤ elements → IsMap (map_by rank elements rule)
-whole_by rank elements rule le = record { part = le; whole = length-map (all_subsets elements rank) rule ∙ length-subsets_from 1 elements rank }
+whole_by rank elements rule le =
+    record { part = le; whole = length-map (all_subsets elements rank) rule ∙ length-subsets_from 1 elements rank }
 
 -- two alternating maps on the tuples of a rank that agree on the increasing ones are the same
-pub same_on_tuples : (n r : ℕ) (f g : List ℕ → Sign) → ((xs : List ℕ) → IsSubsetFrom 1 n xs → length xs ≡ r → f xs ≡ g xs) → (t : List ℕ) → on_tuples n r f t ≡ on_tuples n r g t
-same_on_tuples n r f g h = alternating_equal (on_tuples n r f) (on_tuples n r g) (on_tuples_alternating n r f) (on_tuples_alternating n r g) increasing
+pub same_on_tuples : (n r : ℕ) (f g : List ℕ → Sign)
+    → ((xs : List ℕ) → IsSubsetFrom 1 n xs → length xs ≡ r → f xs ≡ g xs) → (t : List ℕ)
+    → on_tuples n r f t ≡ on_tuples n r g t
+same_on_tuples n r f g h = alternating_equal (on_tuples n r f) (on_tuples n r g) (on_tuples_alternating n r f)
+    (on_tuples_alternating n r g) increasing
   where
     increasing : (xs : List ℕ) → IsIncreasing xs → on_tuples n r f xs ≡ on_tuples n r g xs
     increasing xs i = elim (is_tuple_cases n r xs) [
@@ -45,8 +54,12 @@ same_on_tuples n r f g h = alternating_equal (on_tuples n r f) (on_tuples n r g)
     ]
 
 -- an alternating map that is zero off the tuples of a rank is known by the increasing ones
-pub tuples_by : (rank elements : ℕ) (rule : List ℕ → Sign) (t : List ℕ) → tuples_of (map_by rank elements rule) t ≡ on_tuples elements rank rule t
-tuples_by rank elements rule = same_on_tuples elements rank (chi_of (map_by rank elements rule)) rule (rule_at rank elements rule)
+pub tuples_by : (rank elements : ℕ) (rule : List ℕ → Sign) (t : List ℕ)
+    → tuples_of (map_by rank elements rule) t ≡ on_tuples elements rank rule t
+tuples_by rank elements rule =
+    same_on_tuples elements rank (chi_of (map_by rank elements rule)) rule (rule_at rank elements rule)
 
-pub chirotope_by : (m : SignMap) (chi : List ℕ → Sign) → IsMap m → ((t : List ℕ) → tuples_of m t ≡ chi t) → theory.IsChirotope (elements_to m.elements) chi → IsChirotope m
-chirotope_by m chi w h c = map_chirotope m w (subst (theory.IsChirotope (elements_to m.elements)) (sym (same_maps (tuples_of m) chi h)) c)
+pub chirotope_by : (m : SignMap) (chi : List ℕ → Sign) → IsMap m → ((t : List ℕ) → tuples_of m t ≡ chi t)
+    → theory.IsChirotope (elements_to m.elements) chi → IsChirotope m
+chirotope_by m chi w h c =
+    map_chirotope m w (subst (theory.IsChirotope (elements_to m.elements)) (sym (same_maps (tuples_of m) chi h)) c)

@@ -1,11 +1,13 @@
 -- What is contained in a list, and the selection of those with a property.
 --
--- Main results: the selected are the members with the property (those_contained, contained_those); they are no more than the members
--- (those_few), distinct where the members are (those_distinct), and have what all members have (those_all).
+-- Main results: the selected are the members with the property (those_contained, contained_those); they are no more
+-- than the members (those_few), distinct where the members are (those_distinct), and have what all members have
+-- (those_all).
 use Rattle.std.specs.List.{Contains, All, AllPairs}
 use Rattle.std.proofs.lemmas.List.Elements.{All-contains, All-contains_itself}
 use Rattle.std.proofs.lemmas.List.Kept.{AllPairs-cons}
-use Rattle.std.proofs.Common.{zero, suc, ◌≡◌, ◌≢◌, ◌<◌, ◌≤◌, ◌⊎◌, List, [], ◌∷◌, length, refl, sym, ap, subst, inl, inr, ⊎_elim, arith}
+use Rattle.std.proofs.Common.{zero, suc, ◌≡◌, ◌≢◌, ◌<◌, ◌≤◌, ◌⊎◌, List, [], ◌∷◌, length, refl, sym, ap, subst, inl, inr}
+use Rattle.std.proofs.Common.{⊎_elim, arith}
 use Rattle.om_signs.specs.declared.sign.Sign.{Sign}
 use Rattle.om_covectors.specs.Minimality.{AreThose}
 
@@ -20,14 +22,16 @@ contains_first Y Ys = (0, omega arith, refl)
 pub contains_later : (Y : List Sign) (Ys : List (List Sign)) (X : List Sign) → Contains Ys X → Contains (Y ∷ Ys) X
 contains_later Y Ys X h = (suc h.0, (let l = h.1 in omega arith), h.2)
 
-pub first_or_later : (Y : List Sign) (Ys : List (List Sign)) (X : List Sign) → Contains (Y ∷ Ys) X → (Y ≡ X) ⊎ Contains Ys X
+pub first_or_later : (Y : List Sign) (Ys : List (List Sign)) (X : List Sign) → Contains (Y ∷ Ys) X → (Y ≡ X)
+    ⊎ Contains Ys X
 first_or_later Y Ys X (zero, l, e) = inl e
 first_or_later Y Ys X (suc k, l, e) = inr (k, omega arith, e)
 
 -- ---- those with a property
 
 module _ (P : List Sign → Type 0) where
-  pub those_contained : (xs ys : List (List Sign)) → AreThose P xs ys → (X : List Sign) → Contains ys X → Contains xs X × P X
+  pub those_contained : (xs ys : List (List Sign)) → AreThose P xs ys → (X : List Sign) → Contains ys X → Contains xs X
+      × P X
   those_contained [] ys h X m = absurd (none_contained X (subst (λ l. Contains l X) h m))
   those_contained (Z ∷ xs) ys (inl h) X m = ⊎_elim
       (λ q. (subst (Contains (Z ∷ xs)) q (contains_first Z xs), subst P q h.0))
@@ -35,7 +39,8 @@ module _ (P : List Sign → Type 0) where
       (first_or_later Z h.1 X (subst (λ l. Contains l X) h.2 m))
   those_contained (Z ∷ xs) ys (inr h) X m = let r = those_contained xs ys h.1 X m in (contains_later Z xs X r.0, r.1)
 
-  pub contained_those : (xs ys : List (List Sign)) → AreThose P xs ys → (X : List Sign) → Contains xs X → P X → Contains ys X
+  pub contained_those : (xs ys : List (List Sign)) → AreThose P xs ys → (X : List Sign) → Contains xs X → P X
+      → Contains ys X
   contained_those [] ys h X m p = absurd (none_contained X m)
   contained_those (Z ∷ xs) ys (inl h) X m p = subst (λ l. Contains l X) (sym h.2) (⊎_elim
       (λ q. subst (Contains (Z ∷ h.1)) q (contains_first Z h.1))
@@ -52,11 +57,14 @@ module _ (P : List Sign → Type 0) where
   those_few (Z ∷ xs) ys (inr h) = let r = those_few xs ys h.1 in omega arith
 
   pub those_all : (Q : List Sign → Type 0) (xs ys : List (List Sign)) → AreThose P xs ys → All Q xs → All Q ys
-  those_all Q xs ys h all = λ k d l. All-contains Q xs _ all (those_contained xs ys h _ (All-contains_itself ys k d l)).0
+  those_all Q xs ys h all =
+      λ k d l. All-contains Q xs _ all (those_contained xs ys h _ (All-contains_itself ys k d l)).0
 
-  pub those_distinct : (xs ys : List (List Sign)) → AreThose P xs ys → AllPairs (λ X Y. X ≢ Y) xs → AllPairs (λ X Y. X ≢ Y) ys
+  pub those_distinct : (xs ys : List (List Sign)) → AreThose P xs ys → AllPairs (λ X Y. X ≢ Y) xs
+      → AllPairs (λ X Y. X ≢ Y) ys
   those_distinct [] ys h d = subst (AllPairs (λ X Y. X ≢ Y)) (sym h) d
   those_distinct (Z ∷ xs) ys (inl h) d = subst (AllPairs (λ X Y. X ≢ Y)) (sym h.2) (AllPairs-cons (λ X Y. X ≢ Y) Z h.1
       (those_all (λ Y. Z ≢ Y) xs h.1 h.3 (λ k e l. d 0 (suc k) e (omega arith) (omega arith)))
       (those_distinct xs h.1 h.3 (λ i j e l m. d (suc i) (suc j) e (omega arith) (omega arith))))
-  those_distinct (Z ∷ xs) ys (inr h) d = those_distinct xs ys h.1 (λ i j e l m. d (suc i) (suc j) e (omega arith) (omega arith))
+  those_distinct (Z ∷ xs) ys (inr h) d =
+      those_distinct xs ys h.1 (λ i j e l m. d (suc i) (suc j) e (omega arith) (omega arith))

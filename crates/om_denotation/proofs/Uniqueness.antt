@@ -38,18 +38,23 @@ use Rattle.om_denotation.proofs.NormalForms.{tuples_negated}
 -- ---- maps by their values
 
 -- the value on an increasing list is its sign
-pub tuples_at : (m : SignMap) (xs : List ℕ) → IsSubsetFrom 1 m.elements xs → length xs ≡ m.rank → tuples_of m xs ≡ chi_of m xs
-tuples_at m xs h l = on_tuples_at m.elements m.rank (chi_of m) xs (to_tuple m.elements m.rank xs h l) ∙ value_increasing (chi_of m) xs (increasing_subset m.elements xs h)
+pub tuples_at : (m : SignMap) (xs : List ℕ) → IsSubsetFrom 1 m.elements xs → length xs ≡ m.rank
+    → tuples_of m xs ≡ chi_of m xs
+tuples_at m xs h l = on_tuples_at m.elements m.rank (chi_of m) xs (to_tuple m.elements m.rank xs h l)
+    ∙ value_increasing (chi_of m) xs (increasing_subset m.elements xs h)
 
-same_signs : (n r : ℕ) (xs ys : List Sign) → length xs ≡ choose n r → length ys ≡ choose n r → ((t : List ℕ) → IsSubsetFrom 1 n t → length t ≡ r → at xs (rank_of n t) ≡ at ys (rank_of n t)) → xs ≡ ys
+same_signs : (n r : ℕ) (xs ys : List Sign) → length xs ≡ choose n r → length ys ≡ choose n r
+    → ((t : List ℕ) → IsSubsetFrom 1 n t → length t ≡ r → at xs (rank_of n t) ≡ at ys (rank_of n t)) → xs ≡ ys
 same_signs n r xs ys lx ly h = ext_get_or Zero xs ys (lx ∙ sym ly) (λ k l.
     let few : k < choose n r = omega (arith, l, lx) in
     let t = listed 1 n r k few in
     subst (λ j. at xs j ≡ at ys j) t.place (h (subset_at n r k) t.lawful t.size))
 
-pub same_map : (m k : SignMap) → IsMap m → IsMap k → k.elements ≡ m.elements → k.rank ≡ m.rank → ((t : List ℕ) → tuples_of k t ≡ tuples_of m t) → k ≡ m
+pub same_map : (m k : SignMap) → IsMap m → IsMap k → k.elements ≡ m.elements → k.rank ≡ m.rank
+    → ((t : List ℕ) → tuples_of k t ≡ tuples_of m t) → k ≡ m
 same_map m k wm wk e r h =
-    let s : k.signs ≡ m.signs = same_signs m.elements m.rank k.signs m.signs (rw (sym e, sym r) wk.whole) wm.whole (λ t ht lt.
+    let s : k.signs ≡ m.signs =
+    same_signs m.elements m.rank k.signs m.signs (rw (sym e, sym r) wk.whole) wm.whole (λ t ht lt.
     let hk : IsSubsetFrom 1 k.elements t = rw e ht in
     let lk : length t ≡ k.rank = rw r lt in
     let back : at k.signs (rank_of m.elements t) ≡ at k.signs (rank_of k.elements t) = rw e refl in
@@ -69,42 +74,58 @@ negated_twice m = let e = twice m.signs in rw e refl
     twice (x ∷ xs) = ap (λ s. s ∷ map opposite (map opposite xs)) (opposite-opposite x) ∙ ap (λ l. x ∷ l) (twice xs)
 
 -- the ranks agree, since some tuple has a nonzero value
-same_rank : (m k : SignMap) → IsChirotope m → ((t : List ℕ) → IsNonzero (tuples_of m t) → IsNonzero (tuples_of k t)) → k.rank ≡ m.rank
+same_rank : (m k : SignMap) → IsChirotope m → ((t : List ℕ) → IsNonzero (tuples_of m t) → IsNonzero (tuples_of k t))
+    → k.rank ≡ m.rank
 same_rank m k om h =
     let b = (theory_chirotope m om).base in
-    sym (on_tuples_tuple k.elements k.rank (chi_of k) b.0 (h b.0 b.1)).size ∙ (on_tuples_tuple m.elements m.rank (chi_of m) b.0 b.1).size
+    sym (on_tuples_tuple k.elements k.rank (chi_of k) b.0 (h b.0 b.1)).size
+    ∙ (on_tuples_tuple m.elements m.rank (chi_of m) b.0 b.1).size
 
-pub same_up_to_sign : (m k : SignMap) → IsChirotope m → IsMap k → k.elements ≡ m.elements → ((t : List ℕ) → tuples_of k t ≡ tuples_of m t) ⊎ ((t : List ℕ) → tuples_of k t ≡ negative (tuples_of m) t) → (k ≡ m) ⊎ (k ≡ negated m)
-same_up_to_sign m k om wk e (inl h) = inl (same_map m k om.whole wk e (same_rank m k om (λ t n. subst IsNonzero (sym (h t)) n)) h)
+pub same_up_to_sign : (m k : SignMap) → IsChirotope m → IsMap k → k.elements ≡ m.elements
+    → ((t : List ℕ) → tuples_of k t ≡ tuples_of m t) ⊎ ((t : List ℕ) → tuples_of k t ≡ negative (tuples_of m) t)
+    → (k ≡ m) ⊎ (k ≡ negated m)
+same_up_to_sign m k om wk e (inl h) =
+    inl (same_map m k om.whole wk e (same_rank m k om (λ t n. subst IsNonzero (sym (h t)) n)) h)
 same_up_to_sign m k om wk e (inr h) =
     inr (same_map (negated m) k (negated_map m om.whole) wk e
     (same_rank m k om (λ t n. subst IsNonzero (sym (h t)) (opposite_nonzero (tuples_of m t) n)))
     (λ t. h t ∙ sym (tuples_negated m t)))
 
 -- chirotopes with the same covectors are the same up to sign
-pub same_by_covectors : (m k : SignMap) → IsChirotope m → IsChirotope k → k.elements ≡ m.elements → DenoteTheSame m.elements (IsCovectorOfChirotope m) (IsCovectorOfChirotope k) → (k ≡ m) ⊎ (k ≡ negated m)
+pub same_by_covectors : (m k : SignMap) → IsChirotope m → IsChirotope k → k.elements ≡ m.elements
+    → DenoteTheSame m.elements (IsCovectorOfChirotope m) (IsCovectorOfChirotope k) → (k ≡ m) ⊎ (k ≡ negated m)
 same_by_covectors m k om ok e same = same_up_to_sign m k om ok.whole e
-    (unique (elements_to m.elements) (tuples_of k) (tuples_of m) (subst (λ n. theory.IsChirotope (elements_to n) (tuples_of k)) e (theory_chirotope k ok)) (theory_chirotope m om) forth back)
+    (unique (elements_to m.elements) (tuples_of k) (tuples_of m)
+    (subst (λ n. theory.IsChirotope (elements_to n) (tuples_of k)) e (theory_chirotope k ok))
+    (theory_chirotope m om) forth back)
   where
-    listed_back : (F : SignVector) → IsSupportedOn (elements_to m.elements) F → (j : SignMap) → j.elements ≡ m.elements → IsCovectorOfChirotope j (as_list m.elements F) → IsCovector (elements_to m.elements) (tuples_of j) F
+    listed_back : (F : SignVector) → IsSupportedOn (elements_to m.elements) F → (j : SignMap) → j.elements ≡ m.elements
+        → IsCovectorOfChirotope j (as_list m.elements F) → IsCovector (elements_to m.elements) (tuples_of j) F
     listed_back F s j q c =
-        covector_same (elements_to m.elements) (IsCircuit (elements_to m.elements) (tuples_of j)) F (as_function (as_list m.elements F)) (λ i. sym (as_function-as_list m.elements F s i))
-        (subst (λ n. IsCovector (elements_to n) (tuples_of j) (as_function (as_list m.elements F))) q (covector_function j (as_list m.elements F) c))
+        covector_same (elements_to m.elements) (IsCircuit (elements_to m.elements) (tuples_of j)) F
+        (as_function (as_list m.elements F)) (λ i. sym (as_function-as_list m.elements F s i))
+        (subst (λ n. IsCovector (elements_to n) (tuples_of j) (as_function (as_list m.elements F))) q
+        (covector_function j (as_list m.elements F) c))
 
-    forth : (F : SignVector) → IsCovector (elements_to m.elements) (tuples_of k) F → IsCovector (elements_to m.elements) (tuples_of m) F
+    forth : (F : SignVector) → IsCovector (elements_to m.elements) (tuples_of k) F
+        → IsCovector (elements_to m.elements) (tuples_of m) F
     forth F f =
         let g = subst (λ n. IsCovector (elements_to n) (tuples_of k) F) (sym e) f in
         let l = subst (λ n. IsCovectorOfChirotope k (as_list n F)) e (covector_list k F g) in
         listed_back F f.supported m refl ((same (as_list m.elements F) (length-as_list m.elements F)).1 l)
 
-    back : (F : SignVector) → IsCovector (elements_to m.elements) (tuples_of m) F → IsCovector (elements_to m.elements) (tuples_of k) F
-    back F f = listed_back F f.supported k e ((same (as_list m.elements F) (length-as_list m.elements F)).0 (covector_list m F f))
+    back : (F : SignVector) → IsCovector (elements_to m.elements) (tuples_of m) F
+        → IsCovector (elements_to m.elements) (tuples_of k) F
+    back F f =
+        listed_back F f.supported k e
+        ((same (as_list m.elements F) (length-as_list m.elements F)).0 (covector_list m F f))
 
 -- ---- normal forms
 
 pub normal_up_to_sign : (m k a : SignMap) → (k ≡ m) ⊎ (k ≡ negated m) → IsNormalFormOf m a → IsNormalFormOf k a
 normal_up_to_sign m k a (inl q) h = subst (λ j. IsNormalFormOf j a) (sym q) h
-normal_up_to_sign m k a (inr q) h = subst (λ j. IsNormalFormOf j a) (sym q) (record { same = turned h.same; normal = h.normal })
+normal_up_to_sign m k a (inr q) h =
+    subst (λ j. IsNormalFormOf j a) (sym q) (record { same = turned h.same; normal = h.normal })
   where
     turned : (a ≡ m) ⊎ (a ≡ negated m) → (a ≡ negated m) ⊎ (a ≡ negated (negated m))
     turned (inl p) = inr (p ∙ sym (negated_twice m))
@@ -119,7 +140,8 @@ led_once xs (i, p, before) (j, q, former) = elim (cases_lt i j) [
   | inl l ↦ zero_is_no_plus (sym (former i l) ∙ at-opposite xs i ∙ ap opposite p)
   | inr g ↦ elim (cases_lt j i) [
     | inl l ↦ zero_is_no_plus' (sym (ap opposite (before j l)) ∙ sym (at-opposite xs j) ∙ q)
-    | inr k ↦ let e : i ≡ j = omega arith in minus_is_no_plus (sym (ap opposite p) ∙ sym (at-opposite xs i) ∙ ap (at (map opposite xs)) e ∙ q)
+    | inr k ↦ let e : i ≡ j = omega arith in
+        minus_is_no_plus (sym (ap opposite p) ∙ sym (at-opposite xs i) ∙ ap (at (map opposite xs)) e ∙ q)
   ]
 ]
   where
@@ -137,8 +159,12 @@ one_normal_form m a b h k = by_case h.same k.same
   where
     by_case : (a ≡ m) ⊎ (a ≡ negated m) → (b ≡ m) ⊎ (b ≡ negated m) → a ≡ b
     by_case (inl p) (inl q) = p ∙ sym q
-    by_case (inl p) (inr q) = absurd (led_once m.signs (subst (λ j. IsLedBy Plus j.signs) p h.normal) (subst (λ j. IsLedBy Plus j.signs) q k.normal))
-    by_case (inr p) (inl q) = absurd (led_once m.signs (subst (λ j. IsLedBy Plus j.signs) q k.normal) (subst (λ j. IsLedBy Plus j.signs) p h.normal))
+    by_case (inl p) (inr q) =
+        absurd (led_once m.signs (subst (λ j. IsLedBy Plus j.signs) p h.normal)
+        (subst (λ j. IsLedBy Plus j.signs) q k.normal))
+    by_case (inr p) (inl q) =
+        absurd (led_once m.signs (subst (λ j. IsLedBy Plus j.signs) q k.normal)
+        (subst (λ j. IsLedBy Plus j.signs) p h.normal))
     by_case (inr p) (inr q) = p ∙ sym q
 
 pub normal_axioms : (m d : SignMap) → IsChirotope m → IsNormalFormOf m d → IsChirotope d

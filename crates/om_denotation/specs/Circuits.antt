@@ -12,11 +12,12 @@ use Rattle.om_chirotope.specs.Map.{SignMap, circuit_vector, cocircuit_vector}
 abbrev pub HasNonzero : List Sign → Type 0
 HasNonzero X = (i : ℕ) × IsInSupport X i
 
--- the first is the second or its negative
+-- the first vector is the second or its negative
 abbrev pub IsUpToSign : List Sign → List Sign → Type 0
 IsUpToSign X Y = (X ≡ Y) ⊎ (X ≡ map opposite Y)
 
--- not zero, and up to sign the vector V of an increasing list of one element more than the rank
+-- a vector that isn't zero, and is, up to sign, the vector V of an increasing list of one element more than the
+-- rank
 pub record IsCircuitOfChirotope (m : SignMap) (X : List Sign) : Type 0 where
   pub tuple : List ℕ
   pub increasing : IsSubsetFrom 1 m.elements tuple
@@ -24,7 +25,8 @@ pub record IsCircuitOfChirotope (m : SignMap) (X : List Sign) : Type 0 where
   pub nonzero : HasNonzero X
   pub same : IsUpToSign X (circuit_vector m tuple)
 
--- not zero, and up to sign the vector U of an increasing list of one element less than the rank
+-- a vector that isn't zero, and is, up to sign, the vector U of an increasing list of one element less than the
+-- rank
 pub record IsCocircuitOfChirotope (m : SignMap) (X : List Sign) : Type 0 where
   pub tuple : List ℕ
   pub increasing : IsSubsetFrom 1 m.elements tuple

@@ -8,12 +8,13 @@ use Rattle.om_signs.specs.SignVec.{at, compose, IsInSupport, IsConformal, IsOrth
 use Rattle.om_members.specs.Vectors.{HasSupportIn}
 use Rattle.om_denotation.specs.Circuits.{HasNonzero}
 
--- the composition of some members, each with n signs: of none it is zero, and a member goes in front of a composition
+-- the composition of some members, each with n signs. That of no members is zero, and a member may be composed in
+-- front of a composition
 pub data IsCompositionOf (n : ℕ) (P : List Sign → Type 0) : List Sign → Type 0 where
   none : IsCompositionOf n P (replicate n Zero)
   front : (Y X : List Sign) → P Y → IsCompositionOf n P X → IsCompositionOf n P (compose Y X)
 
--- a member that conforms to X
+-- a member of the family that conforms to X
 abbrev pub IsConforming : (List Sign → Type 0) → List Sign → List Sign → Type 0
 IsConforming P X Y = P Y × IsConformal Y X
 
@@ -25,7 +26,7 @@ HasConformingParts P X = (i : ℕ) → IsInSupport X i → (Y : List Sign) × P 
 abbrev pub IsOrthogonalToEach : (List Sign → Type 0) → List Sign → Type 0
 IsOrthogonalToEach P X = (Y : List Sign) → P Y → IsOrthogonal X Y
 
--- a nonzero member, such that no nonzero member has less support
+-- a nonzero member of minimal support: if the support of a nonzero member lies in its support, the supports are equal
 pub record IsOfLeastSupport (P : List Sign → Type 0) (X : List Sign) : Type 0 where
   pub member : P X
   pub nonzero : HasNonzero X

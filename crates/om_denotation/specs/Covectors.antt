@@ -9,12 +9,14 @@ use Rattle.om_subsets.specs.Subsets.{IsSubsetFrom}
 use Rattle.om_chirotope.specs.Map.{SignMap, circuit_vector}
 use Rattle.om_members.specs.Listings.{Listing}
 
--- a sign for each element, and orthogonal to the vector V of each increasing list S of one element more than the rank
+-- a sign for each element, and orthogonal to the vector V of every increasing list S of one element more than the
+-- rank
 pub record IsCovectorOfChirotope (m : SignMap) (X : List Sign) : Type 0 where
   pub size : length X ≡ m.elements
-  pub orthogonal : (S : List ℕ) → IsSubsetFrom 1 m.elements S → length S ≡ m.rank + 1 → IsOrthogonal X (circuit_vector m S)
+  pub orthogonal : (S : List ℕ) → IsSubsetFrom 1 m.elements S → length S ≡ m.rank + 1
+      → IsOrthogonal X (circuit_vector m S)
 
--- a sign for each element, and orthogonal to each circuit
+-- a sign for each element, and orthogonal to every circuit
 pub record IsCovectorOfCircuits (circuits : Listing) (X : List Sign) : Type 0 where
   pub size : length X ≡ circuits.elements
   pub orthogonal : (Y : List Sign) → Contains circuits.members Y → IsOrthogonal X Y
@@ -28,7 +30,7 @@ pub record IsCovectorOfCocircuits (cocircuits : Listing) (X : List Sign) : Type 
   pub size : length X ≡ cocircuits.elements
   pub composed : (i : ℕ) → IsInSupport X i → HasConformingMember cocircuits.members X i
 
--- a sign for each element, and a member
+-- a sign for each element, and a member of the list
 pub record IsCovectorOfCovectors (covectors : Listing) (X : List Sign) : Type 0 where
   pub size : length X ≡ covectors.elements
   pub member : Contains covectors.members X

@@ -1,4 +1,5 @@
--- Lists that hold exactly the members of a family of sign vectors, and families of more than a number of members.
+-- Lists that hold exactly the members of a family of sign vectors, and families with more than a given number of
+-- members.
 use Rattle.std.specs.Prelude.{ℕ, ◌≢◌, ◌<◌, List, length, All, AllPairs}
 use Rattle.std.specs.List.{Contains}
 use Rattle.om_signs.specs.declared.sign.Sign.{Sign}
@@ -8,7 +9,7 @@ pub record AreAllOf (P : List Sign → Type 0) (members : List (List Sign)) : Ty
   pub sound : (X : List Sign) → Contains members X → P X
   pub complete : (X : List Sign) → P X → Contains members X
 
--- more than k different members of the family
+-- the family has more than k different members
 pub record HasMoreThan (k : ℕ) (P : List Sign → Type 0) : Type 0 where
   pub members : List (List Sign)
   pub many : k < length members

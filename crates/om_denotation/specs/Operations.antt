@@ -1,5 +1,5 @@
--- The covectors of the dual, of a deletion, of a contraction and of a reorientation, by those of an oriented matroid on n elements.
--- P are the covectors of the one, and Q those of the other.
+-- The covectors of the dual, of a deletion, of a contraction and of a reorientation of an oriented matroid on n
+-- elements. P are its covectors, and Q those of the result.
 --
 -- Reference: Björner, Las Vergnas, Sturmfels, White and Ziegler, Oriented Matroids, chapters 3 and 4.
 use Rattle.std.specs.Prelude.{ℕ, ◌≡◌, ◌+◌, ◌-◌, ◌↔◌, List, length}
@@ -8,15 +8,15 @@ use Rattle.om_signs.specs.declared.sign.Sign.{Sign}
 use Rattle.om_signs.specs.declared.sign.Sign.TheVariants.{Zero}
 use Rattle.om_signs.specs.SignVec.{at_element, flip, IsOrthogonal}
 
--- the dual: what is orthogonal to every covector
+-- the dual: the sign vectors that are orthogonal to every covector
 abbrev pub IsDual : ℕ → (List Sign → Type 0) → (List Sign → Type 0) → Type 0
 IsDual n P Q = (Y : List Sign) → length Y ≡ n → Q Y ↔ ((X : List Sign) → length X ≡ n → P X → IsOrthogonal Y X)
 
--- some covector is X with the place of e dropped
+-- X is some covector with the place of e dropped
 abbrev pub IsWithout : ℕ → ℕ → (List Sign → Type 0) → List Sign → Type 0
 IsWithout n e P X = (W : List Sign) × (length W ≡ n) × P W × (remove W (e - 1) ≡ X)
 
--- some covector that is zero at e is X with the place of e dropped
+-- X is some covector that is zero at e, with the place of e dropped
 abbrev pub IsZeroWithout : ℕ → ℕ → (List Sign → Type 0) → List Sign → Type 0
 IsZeroWithout n e P X = (W : List Sign) × (length W ≡ n) × P W × (at_element W e ≡ Zero) × (remove W (e - 1) ≡ X)
 
@@ -28,6 +28,6 @@ IsDeletion n e P Q = (X : List Sign) → length X + 1 ≡ n → Q X ↔ IsWithou
 abbrev pub IsContraction : ℕ → ℕ → (List Sign → Type 0) → (List Sign → Type 0) → Type 0
 IsContraction n e P Q = (X : List Sign) → length X + 1 ≡ n → Q X ↔ IsZeroWithout n e P X
 
--- the reorientation on the elements of a mask: the covectors with their signs there negated
+-- the reorientation of the elements of a mask: the covectors with their signs at these elements negated
 abbrev pub IsReorientation : ℕ → ℕ → (List Sign → Type 0) → (List Sign → Type 0) → Type 0
 IsReorientation n mask P Q = (X : List Sign) → length X ≡ n → Q X ↔ P (flip mask X)

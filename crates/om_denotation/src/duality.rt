@@ -18,12 +18,12 @@ use om_signs::{NoMemory, Sign};
 use om_subsets::Subset;
 use std::alloc::Global;
 
-/// The normal chirotope of the dual, whose covectors are the sign vectors that are orthogonal to every covector. Its rank is
-/// the number of elements less the rank. Before it is made normal, the sign of each increasing list is that of its
-/// complement times the sign of the permutation that lists it and then its complement, both in order. The signs take
-/// their memory from `alloc`.
+/// The normal chirotope of the dual, whose covectors are the sign vectors that are orthogonal to every covector.
+/// Its rank is the number of elements minus the rank. It is the normal form of a map in which each increasing list
+/// has the sign of its complement, times the sign of a permutation. This permutation lists the elements of the list
+/// and then those of the complement, both in order. Memory for the signs comes from `alloc`.
 ///
-/// [`NoMemory`] comes only for want of memory.
+/// [`NoMemory`] comes only if memory runs out.
 ///
 /// Source: Björner, Las Vergnas, Sturmfels, White and Ziegler, *Oriented Matroids*, chapter 3.
 pub fn dual(alloc: Global, chi: &Chirotope) -> Result<Chirotope, NoMemory>
@@ -66,7 +66,7 @@ impl SignRule for Complements<'_> {
     }
 }
 
-/// The sign of the permutation that lists a set in order and then the elements off it in order.
+/// The sign of the permutation that lists the elements of a set in order, and then the other elements in order.
 fn listing_sign(s: Subset) -> Sign
     ensures { result ≡ sort_sign (s.elements ++ complement (elements_to s.n) s.elements) }
 {
@@ -78,8 +78,8 @@ fn listing_sign(s: Subset) -> Sign
     sign
 }
 
-/// The sign of the permutation that moves an element off the set from behind the set over the greater ones. For an element
-/// of the set it is plus. The element is from 1 to n.
+/// For an element that isn't in the set: the sign of the permutation that moves it from the end of the set over the
+/// greater elements of the set. For an element of the set it is plus. The element is from 1 to n.
 fn moving_sign(s: Subset, e: u8) -> Sign
     requires low { 1 ≤ e }
     requires high { e ≤ s.n }

@@ -1,8 +1,8 @@
-//! What chirotopes, circuits, cocircuits and covectors denote: the definitions, and the proofs that each list that meets its
-//! axioms denotes the same as a chirotope.
+//! What chirotopes, circuits, cocircuits and covectors denote: the definitions, and the proofs that each list that
+//! meets its axioms denotes the same as some chirotope.
 //!
-//! [`normal_by`] makes a normal chirotope of a rule for its signs, a [`SignRule`], and [`dual`] is the normal chirotope of the
-//! dual.
+//! [`normal_by`] makes a normal chirotope from a rule for its signs, a [`SignRule`]. [`dual`] makes the normal
+//! chirotope of the dual.
 //!
 //! Source of the notions: Björner, Las Vergnas, Sturmfels, White and Ziegler, *Oriented Matroids*, chapters 3 and 4.
 #![tactic(auto)]

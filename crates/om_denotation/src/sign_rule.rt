@@ -1,4 +1,4 @@
-//! Chirotopes by a rule for their signs.
+//! Chirotopes given by a rule for their signs.
 
 ghost use Rattle.std.specs.Prelude.{ℕ, ◌≡◌, List, IfOk, length};
 ghost use Rattle.om_signs.specs.declared.sign.Sign.{Sign};
@@ -11,12 +11,12 @@ use om_signs::{NoMemory, RawMap, Sign};
 use om_subsets::Subset;
 use std::alloc::Global;
 
-/// A rule that gives each increasing list of some size a sign.
+/// A rule that gives a sign to each increasing list of some size.
 pub trait SignRule {
     /// The size of the lists.
     ghost rank: { Self → ℕ };
 
-    /// The n of the elements 1 to n that the lists are taken from.
+    /// The number n, if the lists are taken from the elements 1 to n.
     ghost elements: { Self → ℕ };
 
     /// The sign of each list.
@@ -25,7 +25,7 @@ pub trait SignRule {
     /// What has to hold of the value.
     ghost valid: { Self → Type 0 };
 
-    /// The sign of a set of the size of the rule.
+    /// The sign of a set. Its size is the rank of the rule, and it is taken from the elements of the rule.
     fn sign(&self, s: Subset) -> Sign
         requires valid { valid self.now }
         requires n { s.n ≡ elements self.now }
@@ -33,12 +33,12 @@ pub trait SignRule {
         ensures { result ≡ rule self.now s.elements };
 }
 
-/// The normal one of the chirotope with the signs of a rule and its negative: the first sign that isn't 0 is plus. The
-/// rank and the elements are those of the rule, and what it has to meet (`valid`) holds; the elements are from 1 to
-/// [`MAX_ELEMENTS`](om_signs::MAX_ELEMENTS). The signs make a chirotope, which isn't tested. They take their memory from
-/// `alloc`.
+/// The normal form of the chirotope with the signs of a rule: the one of it and its negative whose first nonzero
+/// sign is plus. `rank` and `elements` are those of the rule, and the rule is `valid`. There are from 1 to
+/// [`MAX_ELEMENTS`](om_signs::MAX_ELEMENTS) elements. The signs have to make a chirotope, which isn't tested.
+/// Memory for the signs comes from `alloc`.
 ///
-/// [`NoMemory`] comes only for want of memory.
+/// [`NoMemory`] comes only if memory runs out.
 ///
 /// Source: Björner, Las Vergnas, Sturmfels, White and Ziegler, *Oriented Matroids*, chapter 3.
 pub fn normal_by<T: SignRule>(

@@ -9,7 +9,8 @@ use Rattle.om_denotation.specs.Denotation.{DenoteTheSame}
 use Rattle.om_denotation.specs.Operations.{IsDual}
 use Rattle.om_denotation.specs.Vectors.{IsVectorOf}
 
-module _ (n : ℕ) (P : List Sign → Type 0) (m d : SignMap) (q : m.elements ≡ n) (e : d.elements ≡ m.elements) (same : DenoteTheSame n P (IsCovectorOfChirotope m))
+module _ (n : ℕ) (P : List Sign → Type 0) (m d : SignMap) (q : m.elements ≡ n) (e : d.elements ≡ m.elements)
+    (same : DenoteTheSame n P (IsCovectorOfChirotope m))
     (dual : IsDual m.elements (IsCovectorOfChirotope m) (IsCovectorOfChirotope d)) where
   at_n : IsDual n (IsCovectorOfChirotope m) (IsCovectorOfChirotope d)
   at_n = subst (λ k. IsDual k (IsCovectorOfChirotope m) (IsCovectorOfChirotope d)) q dual

@@ -1,7 +1,8 @@
 //! The dual of an oriented matroid.
 //!
-//! [`dual`] takes a chirotope and gives the normal chirotope of its dual; [`dual_circuits`], [`dual_cocircuits`] and
-//! [`dual_covectors`] take lists. [`normal_by`] makes a normal chirotope of a rule for its signs, a [`SignRule`].
+//! [`dual`] takes a chirotope and returns the normal chirotope of its dual; [`dual_circuits`], [`dual_cocircuits`]
+//! and [`dual_covectors`] take lists. [`normal_by`] makes a normal chirotope from a rule for its signs, a
+//! [`SignRule`].
 //!
 //! Source of the notions: Björner, Las Vergnas, Sturmfels, White and Ziegler, *Oriented Matroids*, chapters 3 and 4.
 #![tactic(auto)]

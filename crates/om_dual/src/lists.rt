@@ -15,8 +15,8 @@ use om_covectors::Covectors;
 use om_denotation::dual;
 use std::alloc::Global;
 
-/// The cocircuits of the dual: the same members. No other list of cocircuits denotes the dual, up to the order. It takes no
-/// memory.
+/// The cocircuits of the dual, which are the same members. Up to its order, no other list of cocircuits denotes the
+/// dual. The call allocates no memory.
 ///
 /// Source: Björner, Las Vergnas, Sturmfels, White and Ziegler, *Oriented Matroids*, chapter 3.
 pub fn dual_circuits(c: Circuits) -> Cocircuits
@@ -28,8 +28,8 @@ pub fn dual_circuits(c: Circuits) -> Cocircuits
     Cocircuits(c.0)
 }
 
-/// The circuits of the dual: the same members. No other list of circuits denotes the dual, up to the order. It takes no
-/// memory.
+/// The circuits of the dual, which are the same members. Up to its order, no other list of circuits denotes the
+/// dual. The call allocates no memory.
 ///
 /// Source: Björner, Las Vergnas, Sturmfels, White and Ziegler, *Oriented Matroids*, chapter 3.
 pub fn dual_cocircuits(c: Cocircuits) -> Circuits
@@ -41,13 +41,13 @@ pub fn dual_cocircuits(c: Cocircuits) -> Circuits
     Circuits(c.0)
 }
 
-/// The covectors of the dual: the sign vectors that are orthogonal to every covector. No other list of covectors denotes the
-/// dual, up to the order. The list takes its memory from `alloc`.
+/// The covectors of the dual: the sign vectors that are orthogonal to every covector. Up to its order, no other
+/// list of covectors denotes the dual. Memory for the list comes from `alloc`.
 ///
-/// [`ConvertError::TooWide`] comes exactly where the chirotope of these covectors has more than
-/// [`MAX_VALUES`](om_signs::MAX_VALUES) values, and names their number. [`ConvertError::TooMany`] comes exactly where it hasn't
-/// and the dual has more covectors than [`MAX_MEMBERS`](om_signs::MAX_MEMBERS), which it names, if memory lasts until the first
-/// of these. [`ConvertError::Memory`] comes only for want of memory.
+/// [`ConvertError::TooWide`] comes exactly if the chirotope of these covectors has more than
+/// [`MAX_VALUES`](om_signs::MAX_VALUES) values, and gives their number. Otherwise [`ConvertError::TooMany`] comes
+/// if the dual has more covectors than [`MAX_MEMBERS`](om_signs::MAX_MEMBERS), and memory lasts until the first one
+/// too many. It gives this limit. [`ConvertError::Memory`] comes only if memory runs out.
 ///
 /// Source: Björner, Las Vergnas, Sturmfels, White and Ziegler, *Oriented Matroids*, chapter 3.
 pub fn dual_covectors(alloc: Global, c: &Covectors) -> Result<Covectors, ConvertError>
@@ -57,7 +57,8 @@ pub fn dual_covectors(alloc: Global, c: &Covectors) -> Result<Covectors, Convert
     ensures unique { IfOk result AreOnlyCovectors }
     ensures few { OnOk result (IsWithinLimit (IsVectorOf c.now.elements (Contains c.now.members))) }
     ensures narrow { OnOk result (HasFewValuesFor c.now.elements (Contains c.now.members)) }
-    ensures refused { IfErr result (IsListCause c.now.elements (Contains c.now.members) (IsVectorOf c.now.elements (Contains c.now.members))) }
+    ensures refused { IfErr result
+        (IsListCause c.now.elements (Contains c.now.members) (IsVectorOf c.now.elements (Contains c.now.members))) }
 {
     let chi = covectors_to_chirotope(alloc, c)?;
     let turned = dual(alloc, &chi)?;

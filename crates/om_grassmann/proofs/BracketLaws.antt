@@ -13,7 +13,8 @@ use Rattle.om_chirotope.proofs.InOrder.{value_in_order}
 use Rattle.om_grassmann.specs.declared.statement.Statement.{Statement}
 use Rattle.om_grassmann.specs.Terms.{bracket, term}
 use Rattle.om_grassmann.specs.Statements.{IsElement, IsPlaced, AreTwo, IsLawful}
-use Rattle.om_grassmann.specs.Sides.{triple, IsNonzeroTriple, HasNonzeroBrackets, HasFourBrackets, first_bracket, second_bracket}
+use Rattle.om_grassmann.specs.Sides.{triple, IsNonzeroTriple, HasNonzeroBrackets, HasFourBrackets, first_bracket}
+use Rattle.om_grassmann.specs.Sides.{second_bracket}
 use Rattle.om_grassmann.proofs.Triples.{IsThree, triple-subset, length-triple, apart_in_middle, apart_at_end}
 
 -- ---- the values
@@ -34,9 +35,11 @@ turned s n = λ q. n (ap opposite q)
 
 nonzero_sign : (m : SignMap) (x y z : ℕ) → bracket m x y z ≢ Zero → chi_of m (triple x y z) ≢ Zero
 unfolding bracket triple
-nonzero_sign m x y z n = λ q. n (ap (product (sort_sign (x ∷ y ∷ z ∷ []))) q ∙ zero_product (sort_sign (x ∷ y ∷ z ∷ [])))
+nonzero_sign m x y z n =
+    λ q. n (ap (product (sort_sign (x ∷ y ∷ z ∷ []))) q ∙ zero_product (sort_sign (x ∷ y ∷ z ∷ [])))
 
-nonzero_triple : (m : SignMap) (x y z : ℕ) → IsElement m.elements x → IsElement m.elements y → IsElement m.elements z → IsThree x y z → bracket m x y z ≢ Zero → IsNonzeroTriple m (triple x y z)
+nonzero_triple : (m : SignMap) (x y z : ℕ) → IsElement m.elements x → IsElement m.elements y → IsElement m.elements z
+    → IsThree x y z → bracket m x y z ≢ Zero → IsNonzeroTriple m (triple x y z)
 nonzero_triple m x y z hx hy hz d n =
     let inside = triple-subset m.elements x y z hx hy hz d in
     record {
@@ -56,7 +59,8 @@ by_three P one two three i h = elim (cases_eq i 1) [
   ]
 ]
 
-pub nonzero_brackets : (m : SignMap) (st : Statement) (i : ℕ) → IsPlaced m.elements st → IsElement 3 i → term m st i ≢ Zero → HasNonzeroBrackets m st i
+pub nonzero_brackets : (m : SignMap) (st : Statement) (i : ℕ) → IsPlaced m.elements st → IsElement 3 i
+    → term m st i ≢ Zero → HasNonzeroBrackets m st i
 nonzero_brackets m st i p e = by_three (λ j. term m st j ≢ Zero → HasNonzeroBrackets m st j) one two three i e
   where
     b : IsElement m.elements st.b
@@ -71,25 +75,35 @@ nonzero_brackets m st i p e = by_three (λ j. term m st j ≢ Zero → HasNonzer
     e' : IsElement m.elements st.e
     e' = record { low = omega arith; high = omega arith }
 
-    with_a : (x y : ℕ) → IsElement m.elements x → IsElement m.elements y → st.a ≢ x → st.a ≢ y → x < y → bracket m st.a x y ≢ Zero → IsNonzeroTriple m (triple st.a x y)
-    with_a x y hx hy ax ay xy n = nonzero_triple m st.a x y p.a hx hy (record { first = ax; second = ay; third = omega arith }) n
+    with_a : (x y : ℕ) → IsElement m.elements x → IsElement m.elements y → st.a ≢ x → st.a ≢ y → x < y
+        → bracket m st.a x y ≢ Zero → IsNonzeroTriple m (triple st.a x y)
+    with_a x y hx hy ax ay xy n =
+        nonzero_triple m st.a x y p.a hx hy (record { first = ax; second = ay; third = omega arith }) n
 
     one : term m st 1 ≢ Zero → HasNonzeroBrackets m st 1
     one n = record {
-      first = with_a st.b st.c b c p.apart.b p.apart.c (omega arith) (first_factor (bracket m st.a st.b st.c) (bracket m st.a st.d st.e) n);
-      second = with_a st.d st.e d e' p.apart.d p.apart.e (omega arith) (second_factor (bracket m st.a st.b st.c) (bracket m st.a st.d st.e) n);
+      first = with_a st.b st.c b c p.apart.b p.apart.c (omega arith)
+          (first_factor (bracket m st.a st.b st.c) (bracket m st.a st.d st.e) n);
+      second = with_a st.d st.e d e' p.apart.d p.apart.e (omega arith)
+          (second_factor (bracket m st.a st.b st.c) (bracket m st.a st.d st.e) n);
     }
 
     two : term m st 2 ≢ Zero → HasNonzeroBrackets m st 2
     two n = record {
-      first = with_a st.b st.d b d p.apart.b p.apart.d (omega arith) (first_factor (bracket m st.a st.b st.d) (bracket m st.a st.c st.e) (turned (product (bracket m st.a st.b st.d) (bracket m st.a st.c st.e)) n));
-      second = with_a st.c st.e c e' p.apart.c p.apart.e (omega arith) (second_factor (bracket m st.a st.b st.d) (bracket m st.a st.c st.e) (turned (product (bracket m st.a st.b st.d) (bracket m st.a st.c st.e)) n));
+      first = with_a st.b st.d b d p.apart.b p.apart.d (omega arith)
+          (first_factor (bracket m st.a st.b st.d) (bracket m st.a st.c st.e)
+          (turned (product (bracket m st.a st.b st.d) (bracket m st.a st.c st.e)) n));
+      second = with_a st.c st.e c e' p.apart.c p.apart.e (omega arith)
+          (second_factor (bracket m st.a st.b st.d) (bracket m st.a st.c st.e)
+          (turned (product (bracket m st.a st.b st.d) (bracket m st.a st.c st.e)) n));
     }
 
     three : term m st 3 ≢ Zero → HasNonzeroBrackets m st 3
     three n = record {
-      first = with_a st.b st.e b e' p.apart.b p.apart.e (omega arith) (first_factor (bracket m st.a st.b st.e) (bracket m st.a st.c st.d) n);
-      second = with_a st.c st.d c d p.apart.c p.apart.d (omega arith) (second_factor (bracket m st.a st.b st.e) (bracket m st.a st.c st.d) n);
+      first = with_a st.b st.e b e' p.apart.b p.apart.e (omega arith)
+          (first_factor (bracket m st.a st.b st.e) (bracket m st.a st.c st.d) n);
+      second = with_a st.c st.d c d p.apart.c p.apart.d (omega arith)
+          (second_factor (bracket m st.a st.b st.e) (bracket m st.a st.c st.d) n);
     }
 
 -- ---- the lists
@@ -114,7 +128,8 @@ exchanged st i j h = record {
 }
 
 four : (n : ℕ) (st : Statement) → IsPlaced n st → (i j : ℕ) → AreTwo i j → HasFour st i j
-four n st p i j t = by_three (λ k. k ≢ j → HasFour st k j) (one j t.second) (two j t.second) (three j t.second) i t.first t.differ
+four n st p i j t = by_three (λ k. k ≢ j → HasFour st k j) (one j t.second) (two j t.second) (three j t.second) i
+    t.first t.differ
   where
     three_with : (x y : ℕ) → st.a ≢ x → st.a ≢ y → x < y → IsThree st.a x y
     three_with x y ax ay xy = record { first = ax; second = ay; third = omega arith }
@@ -138,10 +153,12 @@ four n st p i j t = by_three (λ k. k ≢ j → HasFour st k j) (one j t.second)
     cd = three_with st.c st.d p.apart.c p.apart.d (omega arith)
 
     -- b stands in the first bracket of each term and in no second one
-    b_tells : (y u v : ℕ) → IsThree st.a st.b y → IsThree st.a u v → st.b < u → st.b < v → triple st.a st.b y ≢ triple st.a u v
+    b_tells : (y u v : ℕ) → IsThree st.a st.b y → IsThree st.a u v → st.b < u → st.b < v
+        → triple st.a st.b y ≢ triple st.a u v
     b_tells y u v d f bu bv = apart_in_middle st.a st.b y u v d f (omega arith) (omega arith)
 
-    b_tells_back : (y u v : ℕ) → IsThree st.a st.b y → IsThree st.a u v → st.b < u → st.b < v → triple st.a u v ≢ triple st.a st.b y
+    b_tells_back : (y u v : ℕ) → IsThree st.a st.b y → IsThree st.a u v → st.b < u → st.b < v
+        → triple st.a u v ≢ triple st.a st.b y
     b_tells_back y u v d f bu bv = λ q. b_tells y u v d f bu bv (sym q)
 
     one_two : HasFour st 1 2
@@ -178,10 +195,12 @@ four n st p i j t = by_three (λ k. k ≢ j → HasFour st k j) (one j t.second)
     one k h = by_three (λ l. 1 ≢ l → HasFour st 1 l) (λ r. absurd (r refl)) (λ r. one_two) (λ r. one_three) k h
 
     two : (k : ℕ) → IsElement 3 k → 2 ≢ k → HasFour st 2 k
-    two k h = by_three (λ l. 2 ≢ l → HasFour st 2 l) (λ r. exchanged st 1 2 one_two) (λ r. absurd (r refl)) (λ r. two_three) k h
+    two k h = by_three (λ l. 2 ≢ l → HasFour st 2 l) (λ r. exchanged st 1 2 one_two) (λ r. absurd (r refl))
+        (λ r. two_three) k h
 
     three : (k : ℕ) → IsElement 3 k → 3 ≢ k → HasFour st 3 k
-    three k h = by_three (λ l. 3 ≢ l → HasFour st 3 l) (λ r. exchanged st 1 3 one_three) (λ r. exchanged st 2 3 two_three) (λ r. absurd (r refl)) k h
+    three k h = by_three (λ l. 3 ≢ l → HasFour st 3 l) (λ r. exchanged st 1 3 one_three)
+        (λ r. exchanged st 2 3 two_three) (λ r. absurd (r refl)) k h
 
 pub four_brackets : (m : SignMap) (st : Statement) → IsLawful m st → HasFourBrackets st
 four_brackets m st h =
@@ -195,10 +214,14 @@ four_brackets m st h =
       big = f.j_j;
     }
 
-pub nonzero_sides : (m : SignMap) (st : Statement) → IsLawful m st → HasNonzeroBrackets m st st.small × HasNonzeroBrackets m st st.big
+pub nonzero_sides : (m : SignMap) (st : Statement) → IsLawful m st → HasNonzeroBrackets m st st.small
+    × HasNonzeroBrackets m st st.big
 nonzero_sides m st h =
-    let n : term m st st.big ≢ Zero = (λ q. h.signs.nonzero (turned_zero (term m st st.small) (sym h.signs.opposed ∙ q))) in
-    (nonzero_brackets m st st.small h.placed h.two.first h.signs.nonzero, nonzero_brackets m st st.big h.placed h.two.second n)
+    let n : term m st st.big ≢ Zero =
+    (λ q. h.signs.nonzero (turned_zero (term m st st.small) (sym h.signs.opposed ∙ q))) in (
+      nonzero_brackets m st st.small h.placed h.two.first h.signs.nonzero,
+      nonzero_brackets m st st.big h.placed h.two.second n,
+    )
   where
     turned_zero : (s : Sign) → opposite s ≡ Zero → s ≡ Zero
     turned_zero s = grind arith

@@ -1,14 +1,17 @@
 -- The lawful statements in a list, by their number.
 --
--- Main results: following_none and following_next, for one step of the walk; number_first, number_next and number_last, for
--- the count; number_exceeds, that no statement has the number k where there are at most k; same_number, that a number belongs
--- to one statement; before_first and none_lawful, for the number 0; increasing_push, that a list with a later statement at its end increases.
-use Rattle.std.specs.Prelude.{ℕ, ◌≡◌, ◌+◌, ◌*◌, ◌<◌, ◌≤◌, ◌⊎◌, ◌↔◌, List, [], ◌∷◌, ◌++◌, length, Option, Some, None, IsNone, IfNone, IfSome}
+-- Main results: following_none and following_next, for one step of the walk; number_first, number_next and number_last,
+-- for the count; number_exceeds, that no statement has the number k where there are at most k; same_number, that a
+-- number belongs to one statement; before_first and none_lawful, for the number 0; increasing_push, that a list with a
+-- later statement at its end increases.
+use Rattle.std.specs.Prelude.{ℕ, ◌≡◌, ◌+◌, ◌*◌, ◌<◌, ◌≤◌, ◌⊎◌, ◌↔◌, List, [], ◌∷◌, ◌++◌, length, Option, Some, None}
+use Rattle.std.specs.Prelude.{IsNone, IfNone, IfSome}
 use Rattle.std.specs.List.{Contains}
 use Rattle.std.proofs.Common.{refl, sym, ◌∙◌, ap, subst, arith, inl, inr, length-append}
 use Rattle.std.proofs.lemmas.Bool.{false≢true}
 use Rattle.std.proofs.lemmas.Option.{IfSome_then}
-use Rattle.std.proofs.lemmas.List.Elements.{Contains-push, Contains-push_cases, Contains-append_left, Contains-append_right, Contains-append_cases}
+use Rattle.std.proofs.lemmas.List.Elements.{Contains-push, Contains-push_cases, Contains-append_left}
+use Rattle.std.proofs.lemmas.List.Elements.{Contains-append_right, Contains-append_cases}
 use Rattle.om_chirotope.specs.Map.{SignMap}
 use Rattle.om_grassmann.specs.declared.statement.Statement.{Statement}
 use Rattle.om_grassmann.specs.Statements.{IsLawful}
@@ -19,17 +22,22 @@ use Rattle.om_grassmann.proofs.Places.{lawful_places, next_from, last_from}
 
 -- ---- one step of the walk
 
-later_not_last : (m : SignMap) (low : ℕ) (s t : Statement) → m.elements < 256 → low ≡ place s + 1 → IsLawful m s → IsFirstFrom m low t → IsLast m s → ⊥
+later_not_last : (m : SignMap) (low : ℕ) (s t : Statement) → m.elements < 256 → low ≡ place s + 1 → IsLawful m s
+    → IsFirstFrom m low t → IsLast m s → ⊥
 later_not_last m low s t l e hs h last = elim (last t h.lawful) [
   | inl q ↦ let p : place t ≡ place s = ap place q in let f = h.from in omega arith
   | inr b ↦ let p = lawful_places m t s l h.lawful hs b in let f = h.from in omega arith
 ]
 
-pub following_none : (m : SignMap) (low : ℕ) (s : Statement) (r : Option Statement) → m.elements < 256 → low ≡ place s + 1 → IsLawful m s → IfNone r (HasNoneFrom m low) → IfSome r (λ t. IsFirstFrom m low t) → IsNone r ↔ IsLast m s
+pub following_none : (m : SignMap) (low : ℕ) (s : Statement) (r : Option Statement) → m.elements < 256
+    → low ≡ place s + 1 → IsLawful m s → IfNone r (HasNoneFrom m low) → IfSome r (λ t. IsFirstFrom m low t) → IsNone r
+    ↔ IsLast m s
 following_none m low s None l e hs none first = (λ q. last_from m low s l e hs none, λ last. refl)
-following_none m low s (Some t) l e hs none first = (λ q. absurd (false≢true (sym q)), λ last. absurd (later_not_last m low s t l e hs first last))
+following_none m low s (Some t) l e hs none first =
+    (λ q. absurd (false≢true (sym q)), λ last. absurd (later_not_last m low s t l e hs first last))
 
-pub following_next : (m : SignMap) (low : ℕ) (s : Statement) (r : Option Statement) → m.elements < 256 → low ≡ place s + 1 → IsLawful m s → IfSome r (λ t. IsFirstFrom m low t) → IfSome r (λ t. IsNext m s t)
+pub following_next : (m : SignMap) (low : ℕ) (s : Statement) (r : Option Statement) → m.elements < 256
+    → low ≡ place s + 1 → IsLawful m s → IfSome r (λ t. IsFirstFrom m low t) → IfSome r (λ t. IsNext m s t)
 following_next m low s r l e hs h = IfSome_then r h (λ t f. next_from m low s t l e hs f)
 
 -- ---- lists of statements
@@ -49,16 +57,19 @@ head_member x xs = Contains-append_left (x ∷ []) xs x (Contains-push [] x)
 pub tail_member : (x : Statement) (xs : List Statement) (u : Statement) → Contains xs u → Contains (x ∷ xs) u
 tail_member x xs u c = Contains-append_right (x ∷ []) xs u c
 
-pub increasing_push : (xs : List Statement) (t : Statement) → IsIncreasing xs → ((u : Statement) → Contains xs u → IsBefore u t) → IsIncreasing (xs ++ t ∷ [])
+pub increasing_push : (xs : List Statement) (t : Statement) → IsIncreasing xs
+    → ((u : Statement) → Contains xs u → IsBefore u t) → IsIncreasing (xs ++ t ∷ [])
 increasing_push [] t h before = tt
 increasing_push (x ∷ []) t h before = (before x (head_member x []), tt)
-increasing_push (x ∷ y ∷ ys) t h before = (h.0, increasing_push (y ∷ ys) t h.1 (λ u c. before u (tail_member x (y ∷ ys) u c)))
+increasing_push (x ∷ y ∷ ys) t h before =
+    (h.0, increasing_push (y ∷ ys) t h.1 (λ u c. before u (tail_member x (y ∷ ys) u c)))
 
 pub increasing_tail : (x : Statement) (xs : List Statement) → IsIncreasing (x ∷ xs) → IsIncreasing xs
 increasing_tail x [] h = tt
 increasing_tail x (y ∷ ys) h = h.1
 
-pub head_before : (x : Statement) (xs : List Statement) (u : Statement) → IsIncreasing (x ∷ xs) → Contains xs u → IsBefore x u
+pub head_before : (x : Statement) (xs : List Statement) (u : Statement) → IsIncreasing (x ∷ xs) → Contains xs u
+    → IsBefore x u
 head_before x [] u h c = absurd (none_in_empty u c)
 head_before x (y ∷ ys) u h c = elim (member_cases y ys u c) [
   | inl q ↦ subst (IsBefore x) q h.0
@@ -66,7 +77,8 @@ head_before x (y ∷ ys) u h c = elim (member_cases y ys u c) [
 ]
 
 -- an increasing list is no longer than one that has all its members
-no_longer : (ys xs : List Statement) → IsIncreasing xs → IsIncreasing ys → ((u : Statement) → Contains xs u → Contains ys u) → length xs ≤ length ys
+no_longer : (ys xs : List Statement) → IsIncreasing xs → IsIncreasing ys
+    → ((u : Statement) → Contains xs u → Contains ys u) → length xs ≤ length ys
 no_longer ys [] hx hy h = omega arith
 no_longer [] (x ∷ xs) hx hy h = absurd (none_in_empty x (h x (head_member x xs)))
 no_longer (y ∷ ys) (x ∷ xs) hx hy h = elim (member_cases y ys x (h x (head_member x xs))) [
@@ -101,19 +113,29 @@ none_at_all m k h = record {
   count = omega arith;
 }
 
-first_place : (m : SignMap) (u : Statement) → IsLawful m u → frame_place (record { a = 1; b = 1; c = 2; d = 3; e = 4 }) * 9 ≤ place u
+first_place : (m : SignMap) (u : Statement) → IsLawful m u
+    → frame_place (record { a = 1; b = 1; c = 2; d = 3; e = 4 }) * 9 ≤ place u
 unfolding frame_place
 first_place m u h = let p = h.placed in omega arith
 
-pub number_none : (m : SignMap) (low : ℕ) (r : Option Statement) → low ≡ frame_place (record { a = 1; b = 1; c = 2; d = 3; e = 4 }) * 9 → IfNone r (HasNoneFrom m low) → IfNone r (HasAtMost m 0)
+pub number_none : (m : SignMap) (low : ℕ) (r : Option Statement)
+    → low ≡ frame_place (record { a = 1; b = 1; c = 2; d = 3; e = 4 }) * 9 → IfNone r (HasNoneFrom m low)
+    → IfNone r (HasAtMost m 0)
 number_none m low None e h = none_at_all m 0 (λ u hu. let p = h u hu in let q = first_place m u hu in omega arith)
 number_none m low (Some t) e h = tt
 
-pub number_first : (m : SignMap) (low : ℕ) (r : Option Statement) → m.elements < 256 → low ≡ frame_place (record { a = 1; b = 1; c = 2; d = 3; e = 4 }) * 9 → IfSome r (λ t. IsFirstFrom m low t) → IfSome r (λ t. IsNumber m 0 t)
+pub number_first : (m : SignMap) (low : ℕ) (r : Option Statement) → m.elements < 256
+    → low ≡ frame_place (record { a = 1; b = 1; c = 2; d = 3; e = 4 }) * 9 → IfSome r (λ t. IsFirstFrom m low t)
+    → IfSome r (λ t. IsNumber m 0 t)
 number_first m low r l e h = IfSome_then r h (λ t f. record {
   lawful = f.lawful;
   before = [];
-  are_before = record { increasing = tt; members = λ s. (λ c. absurd (none_in_empty s c), λ (hs, b). absurd (none_before t f s hs b)) };
+  are_before =
+      record {
+        increasing = tt;
+        members =
+            λ s. (λ c. absurd (none_in_empty s c), λ (hs, b). absurd (none_before t f s hs b));
+      };
   count = refl;
 })
   where

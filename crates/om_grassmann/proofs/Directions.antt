@@ -1,6 +1,7 @@
 -- The two directions of an equation.
 --
--- Main results: exchanged_lawful, that a lawful equation is lawful with its sides exchanged; exchanged_strict, that a strict statement isn't.
+-- Main results: exchanged_lawful, that a lawful equation is lawful with its sides exchanged; exchanged_strict, that a
+-- strict statement isn't.
 use Rattle.std.specs.Prelude.{ℕ, ◌≡◌, ◌+◌, ◌-◌, Bool, true, false}
 use Rattle.std.proofs.Common.{sym, ◌∙◌, ap, subst, arith}
 use Rattle.om_signs.specs.declared.sign.Sign.{Sign}
@@ -43,10 +44,13 @@ exchanged_lawful m st h q = record {
   rank = h.rank;
   placed = still_placed m.elements st h.placed;
   two = record { first = h.two.second; second = h.two.first; differ = λ e. h.two.differ (sym e) };
-  signs = subst (λ k. HasSigns st.strict (term m st st.big) (term m st k) (term m st st.small)) (same_third st.small st.big) (equal_signs st.strict (term m st st.small) (term m st (third st.small st.big)) (term m st st.big) q h.signs);
+  signs = subst (λ k. HasSigns st.strict (term m st st.big) (term m st k) (term m st st.small))
+      (same_third st.small st.big)
+      (equal_signs st.strict (term m st st.small) (term m st (third st.small st.big)) (term m st st.big) q h.signs);
 }
 
 pub exchanged_strict : (m : SignMap) (st : Statement) → IsLawful m st → st.strict ≡ true → IsLawful m (exchanged st) → ⊥
 exchanged_strict m st h q g =
     strict_signs st.strict (term m st st.small) (term m st (third st.small st.big)) (term m st st.big) q h.signs
-    (subst (λ k. HasSigns st.strict (term m st st.big) (term m st k) (term m st st.small)) (same_third st.big st.small) g.signs)
+    (subst (λ k. HasSigns st.strict (term m st st.big) (term m st k) (term m st st.small)) (same_third st.big st.small)
+    g.signs)

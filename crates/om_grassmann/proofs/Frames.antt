@@ -1,7 +1,7 @@
 -- The lawful statements of one frame.
 --
--- Main results: none_placed, for a frame that has none; told_terms, what a lawful statement tells of its terms; none_here and
--- first_here, for the statement of one direction.
+-- Main results: none_placed, for a frame that has none; told_terms, what a lawful statement tells of its terms;
+-- none_here and first_here, for the statement of one direction.
 use Rattle.std.specs.Prelude.{ℕ, ◌≡◌, ◌≢◌, ◌+◌, ◌-◌, ◌*◌, ◌/◌, ◌%◌, ◌<◌, ◌≤◌, Bool, true, false, cond, Some, None}
 use Rattle.std.proofs.Common.{refl, sym, ◌∙◌, ap, arith, inl, inr}
 use Rattle.std.proofs.lemmas.Bool.{cases_lt, cases_eq, eq-eqb, ne_eqb}
@@ -15,7 +15,8 @@ use Rattle.om_grassmann.specs.declared.frame.Frame.{Frame}
 use Rattle.om_grassmann.specs.declared.terms.Terms.{Terms}
 use Rattle.om_grassmann.specs.Terms.{first_term, second_term, third_term, term, term_of, pick, third, told}
 use Rattle.om_grassmann.specs.Statements.{IsElement, IsPlaced, AreTwo, HasSigns, IsLawful}
-use Rattle.om_grassmann.specs.Walk.{IsFrame, frame_place, frame_of, direction, place, HasNoneBetween, IsFirstFrom, AreTermsOn, IsKind, statement_of}
+use Rattle.om_grassmann.specs.Walk.{IsFrame, frame_place, frame_of, direction, place, HasNoneBetween, IsFirstFrom}
+use Rattle.om_grassmann.specs.Walk.{AreTermsOn, IsKind, statement_of}
 use Rattle.om_grassmann.proofs.Places.{IsOn, placed_on, same_frame}
 
 pub on_frame : (f : Frame) (k : ℕ) (strict : Bool) (st : Statement) → st ≡ statement_of f k strict → IsOn f st
@@ -27,10 +28,13 @@ on_frame f k strict st q = record {
   e = ap (λ (s : Statement). s.e) q;
 }
 
-pub none_placed : (m : SignMap) (f : Frame) (s : Statement) (low : ℕ) → m.elements < 256 → IsFrame m.elements f → IsOn f s → (IsPlaced m.elements s → ⊥) → frame_place f * 9 ≤ low → HasNoneBetween m low (frame_place f * 9 + 9)
+pub none_placed : (m : SignMap) (f : Frame) (s : Statement) (low : ℕ) → m.elements < 256 → IsFrame m.elements f
+    → IsOn f s → (IsPlaced m.elements s → ⊥) → frame_place f * 9 ≤ low → HasNoneBetween m low (frame_place f * 9 + 9)
 none_placed m f s low l hf on n h = λ u hu from.
     elim (cases_lt (place u) (frame_place f * 9 + 9)) [
-      | inl lt ↦ absurd (n (placed_on m.elements f u s (same_frame m.elements f u l hf hu.placed hu.two (omega arith) lt) on hu.placed))
+      | inl lt ↦
+          absurd (n
+          (placed_on m.elements f u s (same_frame m.elements f u l hf hu.placed hu.two (omega arith) lt) on hu.placed))
       | inr ge ↦ ge
     ]
 
@@ -58,15 +62,19 @@ rest_with : (strict : Bool) (s x y : Sign) → y ≡ cond strict x Zero → prod
 rest_with true s x y q = ap (product s) q
 rest_with false s x y q = ap (product s) q ∙ product-zero s
 
-signs_with : (strict : Bool) (s x y z : Sign) → s ≢ Zero → HasSigns strict x y z → HasSigns strict (product s x) (product s y) (product s z)
+signs_with : (strict : Bool) (s x y z : Sign) → s ≢ Zero → HasSigns strict x y z
+    → HasSigns strict (product s x) (product s y) (product s z)
 signs_with strict s x y z n h = record {
   nonzero = product_nonzero s x n h.nonzero;
   opposed = ap (product s) h.opposed ∙ product-opposite_right s x;
   rest = rest_with strict s x y h.rest;
 }
 
-signs_without : (strict : Bool) (s x y z : Sign) → s ≢ Zero → HasSigns strict (product s x) (product s y) (product s z) → HasSigns strict x y z
-signs_without strict s x y z n h = signs_as strict _ _ _ x y z (twice s x n) (twice s y n) (twice s z n) (signs_with strict s (product s x) (product s y) (product s z) n h)
+signs_without : (strict : Bool) (s x y z : Sign) → s ≢ Zero → HasSigns strict (product s x) (product s y) (product s z)
+    → HasSigns strict x y z
+signs_without strict s x y z n h =
+    signs_as strict _ _ _ x y z (twice s x n) (twice s y n) (twice s z n)
+    (signs_with strict s (product s x) (product s y) (product s z) n h)
 
 square : (x : Sign) → x ≢ Zero → product x x ≡ Plus
 square Minus n = refl
@@ -80,20 +88,29 @@ beside : (strict : Bool) (x y : Sign) → x ≢ Zero → y ≡ cond strict x Zer
 beside true x y n q = ap (product x) q ∙ square x n
 beside false x y n q = ap (product x) q ∙ product-zero x
 
-told_term : (m : SignMap) (st : Statement) (i : ℕ) → IsLawful m st → IsElement 3 i → told st i ≡ product (term m st st.small) (term m st i)
+told_term : (m : SignMap) (st : Statement) (i : ℕ) → IsLawful m st → IsElement 3 i
+    → told st i ≡ product (term m st st.small) (term m st i)
 told_term m st i h e = elim (cases_eq i st.small) [
-  | inl q ↦ rw (eq-eqb i st.small q) (sym (square (term m st st.small) h.signs.nonzero) ∙ ap (λ j. product (term m st st.small) (term m st j)) (sym q))
+  | inl q ↦
+      rw (eq-eqb i st.small q) (sym (square (term m st st.small) h.signs.nonzero)
+      ∙ ap (λ j. product (term m st st.small) (term m st j)) (sym q))
   | inr n ↦ rw (ne_eqb i st.small n) (elim (cases_eq i st.big) [
-    | inl q ↦ rw (eq-eqb i st.big q) (sym (against (term m st st.small) (term m st st.big) h.signs.nonzero h.signs.opposed) ∙ ap (λ j. product (term m st st.small) (term m st j)) (sym q))
+    | inl q ↦
+        rw (eq-eqb i st.big q) (sym (against (term m st st.small) (term m st st.big) h.signs.nonzero h.signs.opposed)
+        ∙ ap (λ j. product (term m st st.small) (term m st j)) (sym q))
     | inr k ↦
         let two = h.two in
         let q : third st.small st.big ≡ i = omega arith in
-        rw (ne_eqb i st.big k) (sym (beside st.strict (term m st st.small) (term m st (third st.small st.big)) h.signs.nonzero h.signs.rest) ∙ ap (λ j. product (term m st st.small) (term m st j)) q)
+        rw (ne_eqb i st.big k)
+        (sym (beside st.strict (term m st st.small) (term m st (third st.small st.big)) h.signs.nonzero
+        h.signs.rest) ∙ ap (λ j. product (term m st st.small) (term m st j)) q)
   ])
 ]
 
 -- what a lawful statement tells
-pub told_terms : (m : SignMap) (f : Frame) (st : Statement) (terms : Terms) → m.elements < 256 → IsLawful m st → f ≡ frame_of st → terms.first ≡ told st 1 → terms.second ≡ told st 2 → terms.third ≡ told st 3 → AreTermsOn m f terms
+pub told_terms : (m : SignMap) (f : Frame) (st : Statement) (terms : Terms) → m.elements < 256 → IsLawful m st
+    → f ≡ frame_of st → terms.first ≡ told st 1 → terms.second ≡ told st 2 → terms.third ≡ told st 3
+    → AreTermsOn m f terms
 told_terms m f st terms l h q first second third = record {
   rank = h.rank;
   few = l;
@@ -122,16 +139,29 @@ frame_at : (m : SignMap) (f : Frame) (terms : Terms) → AreTermsOn m f terms �
 frame_at m f terms h =
     let on = elements_on f h.st h.on in
     let p = h.placed in
-    record { a = record { low = omega arith; high = omega arith }; b = omega arith; b_c = omega arith; c_d = omega arith; d_e = omega arith; e = omega arith }
+    record {
+      a = record { low = omega arith; high = omega arith };
+      b = omega arith;
+      b_c = omega arith;
+      c_d =
+          omega arith;
+      d_e = omega arith;
+      e = omega arith;
+    }
 
-same_terms : (m : SignMap) (s u : Statement) (i : ℕ) → s.a ≡ u.a → s.b ≡ u.b → s.c ≡ u.c → s.d ≡ u.d → s.e ≡ u.e → term m s i ≡ term m u i
+same_terms : (m : SignMap) (s u : Statement) (i : ℕ) → s.a ≡ u.a → s.b ≡ u.b → s.c ≡ u.c → s.d ≡ u.d → s.e ≡ u.e
+    → term m s i ≡ term m u i
 same_terms m s u i a b c d e = rw (a, b, c, d, e) refl
 
-term_on : (m : SignMap) (f : Frame) (terms : Terms) (u : Statement) (i j : ℕ) → (h : AreTermsOn m f terms) → IsOn f u → i ≡ j → term_of terms i ≡ product h.factor (term m u j)
+term_on : (m : SignMap) (f : Frame) (terms : Terms) (u : Statement) (i j : ℕ) → (h : AreTermsOn m f terms) → IsOn f u
+    → i ≡ j → term_of terms i ≡ product h.factor (term m u j)
 term_on m f terms u i j h on e =
     let here = elements_on f h.st h.on in
-    let same = same_terms m h.st u j (here.a ∙ sym on.a) (here.b ∙ sym on.b) (here.c ∙ sym on.c) (here.d ∙ sym on.d) (here.e ∙ sym on.e) in
-    rw (h.first, h.second, h.third, e) (pick_product h.factor (first_term m h.st) (second_term m h.st) (third_term m h.st) j ∙ ap (product h.factor) same)
+    let same = same_terms m h.st u j (here.a ∙ sym on.a) (here.b ∙ sym on.b) (here.c ∙ sym on.c) (here.d ∙ sym on.d)
+    (here.e ∙ sym on.e) in
+    rw (h.first, h.second, h.third, e)
+    (pick_product h.factor (first_term m h.st) (second_term m h.st) (third_term m h.st) j
+    ∙ ap (product h.factor) same)
 
 two_as : (i j k l : ℕ) → i ≡ k → j ≡ l → AreTwo i j → AreTwo k l
 two_as i j k l a b h = rw (← a, ← b) h
@@ -146,7 +176,9 @@ block_place p q k l a b e = omega arith
 direction-lt : (st : Statement) → AreTwo st.small st.big → direction st < 9
 direction-lt st t = omega arith
 
-pub none_here : (m : SignMap) (f : Frame) (terms : Terms) (low k : ℕ) → AreTermsOn m f terms → k < 9 → IsKind terms (k / 3 + 1) (k % 3 + 1) None → HasNoneBetween m low (frame_place f * 9 + k) → HasNoneBetween m low (frame_place f * 9 + (k + 1))
+pub none_here : (m : SignMap) (f : Frame) (terms : Terms) (low k : ℕ) → AreTermsOn m f terms → k < 9
+    → IsKind terms (k / 3 + 1) (k % 3 + 1) None → HasNoneBetween m low (frame_place f * 9 + k)
+    → HasNoneBetween m low (frame_place f * 9 + (k + 1))
 none_here m f terms low k ht lt kind before = λ u hu from.
     elim (cases_eq (place u) (frame_place f * 9 + k)) [
       | inl q ↦ absurd (refused u hu q)
@@ -155,8 +187,10 @@ none_here m f terms low k ht lt kind before = λ u hu from.
   where
     refused : (u : Statement) → IsLawful m u → place u ≡ frame_place f * 9 + k → ⊥
     refused u hu q =
-        let on = same_frame m.elements f u ht.few (frame_at m f terms ht) hu.placed hu.two (omega arith) (omega arith) in
-        let d = from_direction u.small u.big k hu.two (block_place (frame_place (frame_of u)) (frame_place f) (direction u) k (direction-lt u hu.two) lt q) in
+        let on = same_frame m.elements f u ht.few (frame_at m f terms ht) hu.placed hu.two (omega arith) (omega arith)
+        in
+        let d = from_direction u.small u.big k hu.two
+        (block_place (frame_place (frame_of u)) (frame_place f) (direction u) k (direction-lt u hu.two) lt q) in
         let e : third u.small u.big ≡ third (k / 3 + 1) (k % 3 + 1) = rw (d.0, d.1) refl in
         kind u.strict (two_as u.small u.big (k / 3 + 1) (k % 3 + 1) d.0 d.1 hu.two)
         (signs_as u.strict _ _ _ _ _ _
@@ -165,7 +199,9 @@ none_here m f terms low k ht lt kind before = λ u hu from.
         (sym (term_on m f terms u (k % 3 + 1) u.big ht on (sym d.1)))
         (signs_with u.strict ht.factor _ _ _ ht.nonzero hu.signs))
 
-pub first_here : (m : SignMap) (f : Frame) (terms : Terms) (low k : ℕ) (strict : Bool) → AreTermsOn m f terms → k < 9 → low ≤ frame_place f * 9 + k → IsKind terms (k / 3 + 1) (k % 3 + 1) (Some strict) → HasNoneBetween m low (frame_place f * 9 + k) → IsFirstFrom m low (statement_of f k strict)
+pub first_here : (m : SignMap) (f : Frame) (terms : Terms) (low k : ℕ) (strict : Bool) → AreTermsOn m f terms → k < 9
+    → low ≤ frame_place f * 9 + k → IsKind terms (k / 3 + 1) (k % 3 + 1) (Some strict)
+    → HasNoneBetween m low (frame_place f * 9 + k) → IsFirstFrom m low (statement_of f k strict)
 first_here m f terms low k strict ht lt from kind before =
     let st : Statement = statement_of f k strict in
     let on : IsOn f st = on_frame f k strict st refl in

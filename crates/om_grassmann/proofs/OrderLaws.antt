@@ -1,6 +1,7 @@
 -- The order of the lawful statements.
 --
--- Main results: before_total, before_self, before_then, and same_statement, that the seven numbers determine a lawful statement.
+-- Main results: before_total, before_self, before_then, and same_statement, that the seven numbers determine a lawful
+-- statement.
 use Rattle.std.specs.Prelude.{ℕ, ◌≡◌, ◌≢◌, List, [], ◌∷◌, length, cond, Bool, true, false}
 use Rattle.std.proofs.Common.{refl, sym, ◌∙◌, ap, arith, inl, inr, ◌⊎◌}
 use Rattle.std.proofs.lemmas.Bool.{cases_eq, cases_lt}
@@ -27,7 +28,8 @@ lists_total (x ∷ xs) (y ∷ ys) l = elim (cases_lt x y) [
   ]
 ]
   where
-    behind : x ≡ y → lists.IsBefore xs ys ⊎ ((xs ≡ ys) ⊎ lists.IsBefore ys xs) → lists.IsBefore (x ∷ xs) (y ∷ ys) ⊎ (((x ∷ xs) ≡ (y ∷ ys)) ⊎ lists.IsBefore (y ∷ ys) (x ∷ xs))
+    behind : x ≡ y → lists.IsBefore xs ys ⊎ ((xs ≡ ys) ⊎ lists.IsBefore ys xs) → lists.IsBefore (x ∷ xs) (y ∷ ys)
+        ⊎ (((x ∷ xs) ≡ (y ∷ ys)) ⊎ lists.IsBefore (y ∷ ys) (x ∷ xs))
     behind q (inl b) = inl (inr (q, b))
     behind q (inr (inl e)) = inr (inl (cc))
     behind q (inr (inr b)) = inr (inr (inr (sym q, b)))
@@ -60,15 +62,18 @@ before_then s t u b d = lists_then (numbers s) (numbers t) (numbers u) b d
 unfoldable pub statement : ℕ → ℕ → ℕ → ℕ → ℕ → ℕ → ℕ → Bool → Statement
 statement a b c d e i j strict = record { a = a; b = b; c = c; d = d; e = e; small = i; big = j; strict = strict }
 
-equal_parts : (s t : Statement) → numbers s ≡ numbers t → s.strict ≡ t.strict → statement s.a s.b s.c s.d s.e s.small s.big s.strict ≡ statement t.a t.b t.c t.d t.e t.small t.big t.strict
+equal_parts : (s t : Statement) → numbers s ≡ numbers t → s.strict ≡ t.strict
+    → statement s.a s.b s.c s.d s.e s.small s.big s.strict ≡ statement t.a t.b t.c t.d t.e t.small t.big t.strict
 equal_parts s t n k = cc
 
-from_parts : (s t : Statement) → statement s.a s.b s.c s.d s.e s.small s.big s.strict ≡ statement t.a t.b t.c t.d t.e t.small t.big t.strict → s ≡ t
+from_parts : (s t : Statement) → statement s.a s.b s.c s.d s.e s.small s.big s.strict
+    ≡ statement t.a t.b t.c t.d t.e t.small t.big t.strict → s ≡ t
 unfolding statement
 from_parts s t e = e
 
 -- the third term tells a strict statement from an equation
-same_kind : (p q : Bool) (small third : Sign) → small ≢ Zero → third ≡ cond p small Zero → third ≡ cond q small Zero → p ≡ q
+same_kind : (p q : Bool) (small third : Sign) → small ≢ Zero → third ≡ cond p small Zero → third ≡ cond q small Zero
+    → p ≡ q
 same_kind true true s t n a b = refl
 same_kind false false s t n a b = refl
 same_kind true false s t n a b = absurd (n (sym a ∙ b))
@@ -90,10 +95,15 @@ same_statement m s t hs ht n =
     let k : third s.small s.big ≡ third t.small t.big = cc in
     let x = same_term m s t s.small t.small n i in
     let y = same_term m s t (third s.small s.big) (third t.small t.big) n k in
-    let rest : term m s (third s.small s.big) ≡ cond t.strict (term m s s.small) Zero = y ∙ ht.signs.rest ∙ ap (λ z. cond t.strict z Zero) (sym x) in
-    from_parts s t (equal_parts s t n (same_kind s.strict t.strict (term m s s.small) (term m s (third s.small s.big)) hs.signs.nonzero hs.signs.rest rest))
+    let rest : term m s (third s.small s.big) ≡ cond t.strict (term m s s.small) Zero = y ∙ ht.signs.rest
+    ∙ ap (λ z. cond t.strict z Zero) (sym x) in
+    from_parts s t
+    (equal_parts s t n
+    (same_kind s.strict t.strict (term m s s.small) (term m s (third s.small s.big)) hs.signs.nonzero hs.signs.rest
+    rest))
 
-pub before_total : (m : SignMap) (s t : Statement) → IsLawful m s → IsLawful m t → IsBefore s t ⊎ ((s ≡ t) ⊎ IsBefore t s)
+pub before_total : (m : SignMap) (s t : Statement) → IsLawful m s → IsLawful m t → IsBefore s t
+    ⊎ ((s ≡ t) ⊎ IsBefore t s)
 before_total m s t hs ht = elim (lists_total (numbers s) (numbers t) refl) [
   | inl b ↦ inl b
   | inr (inl e) ↦ inr (inl (same_statement m s t hs ht e))

@@ -1,8 +1,8 @@
 -- The places of statements: frames by their digits, and the order of statements as the order of places.
 --
--- Main results: same_frame, that places of one block have one frame; lawful_places and places_before, that the order is that of
--- the places; next_from and last_from, for the first statement from a place on; none_from and first_from_later, where none
--- stands up to a later place.
+-- Main results: same_frame, that places of one block have one frame; lawful_places and places_before, that the order is
+-- that of the places; next_from and last_from, for the first statement from a place on; none_from and first_from_later,
+-- where none stands up to a later place.
 use Rattle.std.specs.Prelude.{ℕ, ◌≡◌, ◌+◌, ◌*◌, ◌<◌, ◌≤◌, ◌⊎◌, Option, Some, None, IfNone}
 use Rattle.std.proofs.Common.{sym, ap, arith, inl, inr}
 use Rattle.std.proofs.lemmas.Bool.{cases_lt}
@@ -11,7 +11,8 @@ use Rattle.om_grassmann.specs.declared.statement.Statement.{Statement}
 use Rattle.om_grassmann.specs.declared.frame.Frame.{Frame}
 use Rattle.om_grassmann.specs.Statements.{IsPlaced, AreTwo, IsLawful}
 use Rattle.om_grassmann.specs.Order.{IsBefore, IsNext, IsLast}
-use Rattle.om_grassmann.specs.Walk.{IsFrame, frame_place, frame_of, direction, place, HasNoneBetween, HasNoneFrom, IsFirstFrom}
+use Rattle.om_grassmann.specs.Walk.{IsFrame, frame_place, frame_of, direction, place, HasNoneBetween, HasNoneFrom}
+use Rattle.om_grassmann.specs.Walk.{IsFirstFrom}
 use Rattle.om_grassmann.proofs.OrderLaws.{before_total}
 
 -- a statement has the elements of a frame
@@ -41,17 +42,22 @@ direction-lt st t = omega arith
 one_block : (p q k l : ℕ) → k < 9 → q * 9 ≤ p * 9 + k → p * 9 + k < q * 9 + 9 → p ≡ q
 one_block p q k l h a b = omega arith
 
-same_digits : (n : ℕ) (f : Frame) (st : Statement) → n < 256 → IsFrame n f → IsPlaced n st → frame_place (frame_of st) ≡ frame_place f → IsOn f st
+same_digits : (n : ℕ) (f : Frame) (st : Statement) → n < 256 → IsFrame n f → IsPlaced n st
+    → frame_place (frame_of st) ≡ frame_place f → IsOn f st
 unfolding frame_place
-same_digits n f st l hf hs q = record { a = omega arith; b = omega arith; c = omega arith; d = omega arith; e = omega arith }
+same_digits n f st l hf hs q =
+    record { a = omega arith; b = omega arith; c = omega arith; d = omega arith; e = omega arith }
 
-pub same_frame : (n : ℕ) (f : Frame) (st : Statement) → n < 256 → IsFrame n f → IsPlaced n st → AreTwo st.small st.big → frame_place f * 9 ≤ place st → place st < frame_place f * 9 + 9 → IsOn f st
+pub same_frame : (n : ℕ) (f : Frame) (st : Statement) → n < 256 → IsFrame n f → IsPlaced n st → AreTwo st.small st.big
+    → frame_place f * 9 ≤ place st → place st < frame_place f * 9 + 9 → IsOn f st
 same_frame n f st l hf hs ht low high =
-    same_digits n f st l hf hs (one_block (frame_place (frame_of st)) (frame_place f) (direction st) 0 (direction-lt st ht) low high)
+    same_digits n f st l hf hs
+    (one_block (frame_place (frame_of st)) (frame_place f) (direction st) 0 (direction-lt st ht) low high)
 
 -- ---- the order
 
-pub before-place : (n : ℕ) (s t : Statement) → n < 256 → IsPlaced n s → IsPlaced n t → AreTwo s.small s.big → AreTwo t.small t.big → IsBefore s t → place s < place t
+pub before-place : (n : ℕ) (s t : Statement) → n < 256 → IsPlaced n s → IsPlaced n t → AreTwo s.small s.big
+    → AreTwo t.small t.big → IsBefore s t → place s < place t
 unfolding frame_place
 before-place n s t l ps pt ts tt_ (inl h) = omega arith
 before-place n s t l ps pt ts tt_ (inr (qa, inl h)) = omega arith
@@ -63,17 +69,20 @@ before-place n s t l ps pt ts tt_ (inr (qa, inr (qb, inr (qc, inr (qd, inr (qe, 
 before-place n s t l ps pt ts tt_ (inr (qa, inr (qb, inr (qc, inr (qd, inr (qe, inr (qi, inr h))))))) = absurd h.1
 
 -- a lawful statement that comes before another has the smaller place
-pub lawful_places : (m : SignMap) (s t : Statement) → m.elements < 256 → IsLawful m s → IsLawful m t → IsBefore s t → place s < place t
+pub lawful_places : (m : SignMap) (s t : Statement) → m.elements < 256 → IsLawful m s → IsLawful m t → IsBefore s t
+    → place s < place t
 lawful_places m s t l hs ht b = before-place m.elements s t l hs.placed ht.placed hs.two ht.two b
 
-pub places_before : (m : SignMap) (s t : Statement) → m.elements < 256 → IsLawful m s → IsLawful m t → place s < place t → IsBefore s t
+pub places_before : (m : SignMap) (s t : Statement) → m.elements < 256 → IsLawful m s → IsLawful m t → place s < place t
+    → IsBefore s t
 places_before m s t l hs ht p = elim (before_total m s t hs ht) [
   | inl b ↦ b
   | inr (inl e) ↦ let q : place s ≡ place t = ap place e in absurd (omega arith)
   | inr (inr b) ↦ let q = lawful_places m t s l ht hs b in absurd (omega arith)
 ]
 
-at_most : (m : SignMap) (s u : Statement) → m.elements < 256 → IsLawful m s → IsLawful m u → place u ≤ place s → (u ≡ s) ⊎ IsBefore u s
+at_most : (m : SignMap) (s u : Statement) → m.elements < 256 → IsLawful m s → IsLawful m u → place u ≤ place s → (u ≡ s)
+    ⊎ IsBefore u s
 at_most m s u l hs hu p = elim (before_total m s u hs hu) [
   | inl b ↦ let q = lawful_places m s u l hs hu b in absurd (omega arith)
   | inr (inl e) ↦ inl (sym e)
@@ -81,7 +90,8 @@ at_most m s u l hs hu p = elim (before_total m s u hs hu) [
 ]
 
 -- the first statement after the place of s is the next
-pub next_from : (m : SignMap) (low : ℕ) (s t : Statement) → m.elements < 256 → low ≡ place s + 1 → IsLawful m s → IsFirstFrom m low t → IsNext m s t
+pub next_from : (m : SignMap) (low : ℕ) (s t : Statement) → m.elements < 256 → low ≡ place s + 1 → IsLawful m s
+    → IsFirstFrom m low t → IsNext m s t
 next_from m low s t l e hs h =
     let from = h.from in
     record {
@@ -95,12 +105,14 @@ next_from m low s t l e hs h =
           ];
     }
 
-pub last_from : (m : SignMap) (low : ℕ) (s : Statement) → m.elements < 256 → low ≡ place s + 1 → IsLawful m s → HasNoneFrom m low → IsLast m s
+pub last_from : (m : SignMap) (low : ℕ) (s : Statement) → m.elements < 256 → low ≡ place s + 1 → IsLawful m s
+    → HasNoneFrom m low → IsLast m s
 last_from m low s l e hs h = λ u hu. let p = h u hu in at_most m s u l hs hu (omega arith)
 
 -- ---- where none stands up to a later place
 
-pub none_from : (m : SignMap) (low high : ℕ) (r : Option Statement) → HasNoneBetween m low high → IfNone r (HasNoneFrom m high) → IfNone r (HasNoneFrom m low)
+pub none_from : (m : SignMap) (low high : ℕ) (r : Option Statement) → HasNoneBetween m low high
+    → IfNone r (HasNoneFrom m high) → IfNone r (HasNoneFrom m low)
 none_from m low high (Some t) between none = tt
 none_from m low high None between none = λ u hu.
     elim (cases_lt (place u) low) [
@@ -108,7 +120,8 @@ none_from m low high None between none = λ u hu.
       | inr ge ↦ let x = between u hu ge in let y = none u hu in absurd (omega arith)
     ]
 
-pub first_from_later : (m : SignMap) (low high : ℕ) (t : Statement) → low ≤ high → HasNoneBetween m low high → IsFirstFrom m high t → IsFirstFrom m low t
+pub first_from_later : (m : SignMap) (low high : ℕ) (t : Statement) → low ≤ high → HasNoneBetween m low high
+    → IsFirstFrom m high t → IsFirstFrom m low t
 first_from_later m low high t le between h =
     let from = h.from in
     record { lawful = h.lawful; from = omega arith; first = λ u hu ge. h.first u hu (between u hu ge) }

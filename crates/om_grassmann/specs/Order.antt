@@ -14,7 +14,7 @@ numbers st = st.a ∷ st.b ∷ st.c ∷ st.d ∷ st.e ∷ st.small ∷ st.big �
 abbrev pub IsBefore : Statement → Statement → Type 0
 IsBefore s t = lists.IsBefore (numbers s) (numbers t)
 
--- each statement comes before the next
+-- the statements are in increasing order
 abbrev pub IsIncreasing : List Statement → Type 0
 IsIncreasing [] = Unit {0}
 IsIncreasing (s ∷ []) = Unit {0}
@@ -40,7 +40,7 @@ pub record AreAll (m : SignMap) (ss : List Statement) : Type 0 where
   pub increasing : IsIncreasing ss
   pub members : (s : Statement) → Contains ss s ↔ IsLawful m s
 
--- t is a lawful statement, and k lawful statements come before it
+-- t is a lawful statement, and exactly k lawful statements come before it
 pub record IsNumber (m : SignMap) (k : ℕ) (t : Statement) : Type 0 where
   pub lawful : IsLawful m t
   pub before : List Statement

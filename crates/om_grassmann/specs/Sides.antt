@@ -9,7 +9,7 @@ use Rattle.om_grassmann.specs.declared.statement.Statement.{Statement}
 use Rattle.om_grassmann.specs.Terms.{pick}
 use Rattle.om_grassmann.specs.Statements.{IsElement, IsApart}
 
--- three elements in order
+-- three elements in increasing order
 unfoldable pub triple : ℕ → ℕ → ℕ → List ℕ
 triple x y z = sorted (x ∷ y ∷ z ∷ [])
 
@@ -21,7 +21,7 @@ first_bracket st i = pick i (triple st.a st.b st.c) (triple st.a st.b st.d) (tri
 abbrev pub second_bracket : Statement → ℕ → List ℕ
 second_bracket st i = pick i (triple st.a st.d st.e) (triple st.a st.c st.e) (triple st.a st.c st.d)
 
--- s is the set of the elements of a list, three of the elements 1 to a number
+-- s is the set of the elements of a list, which has three of the elements 1 to top
 pub record IsTriple (top : ℕ) (xs : List ℕ) (s : Chosen) : Type 0 where
   pub n : s.n ≡ top
   pub elements : s.elements ≡ xs
@@ -50,7 +50,7 @@ pub record IsNonzeroTriple (m : SignMap) (xs : List ℕ) : Type 0 where
   pub nonzero : value_of m xs ≢ Zero
   pub sign : chi_of m xs ≢ Zero
 
--- both brackets of the term with this number are such lists
+-- both brackets of the term with this number are nonzero triples
 pub record HasNonzeroBrackets (m : SignMap) (st : Statement) (i : ℕ) : Type 0 where
   pub first : IsNonzeroTriple m (first_bracket st i)
   pub second : IsNonzeroTriple m (second_bracket st i)

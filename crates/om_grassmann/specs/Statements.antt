@@ -14,7 +14,7 @@ pub record IsElement (n e : ℕ) : Type 0 where
   pub low : 1 ≤ e
   pub high : e ≤ n
 
--- a is none of the other four
+-- a isn't one of the other four
 pub record IsApart (st : Statement) : Type 0 where
   pub b : st.a ≢ st.b
   pub c : st.a ≢ st.c
@@ -37,15 +37,15 @@ pub record AreTwo (i j : ℕ) : Type 0 where
   pub second : IsElement 3 j
   pub differ : i ≢ j
 
--- the small term isn't zero, the big term is of the other sign, and the third term is of the sign of the small term
--- in a strict statement and zero in an equation
+-- The small term isn't zero, and the big term has the other sign. The third term has the sign of the small term in
+-- a strict statement, and is zero in an equation.
 pub record HasSigns (strict : Bool) (small third big : Sign) : Type 0 where
   pub nonzero : small ≢ Zero
   pub opposed : big ≡ opposite small
   pub rest : third ≡ cond strict small Zero
 
--- a statement that the three-term relations of a map of rank 3 give: |small term| < |big term| where it is strict, and
--- |small term| = |big term| where it is an equation
+-- A statement that the three-term relations of a map of rank 3 give. It says |small term| < |big term| if it is
+-- strict, and |small term| = |big term| if it is an equation.
 pub record IsLawful (m : SignMap) (st : Statement) : Type 0 where
   pub rank : m.rank ≡ 3
   pub placed : IsPlaced m.elements st

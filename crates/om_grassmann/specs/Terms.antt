@@ -1,4 +1,5 @@
--- The terms of the three-term relation [abc][ade] - [abd][ace] + [abe][acd] = 0 that vectors of rank 3 meet, as signs.
+-- The terms of the three-term relation [abc][ade] - [abd][ace] + [abe][acd] = 0, which vectors of rank 3 meet, as
+-- signs.
 --
 -- Reference: Björner, Las Vergnas, Sturmfels, White and Ziegler, Oriented Matroids, chapter 8.
 use Rattle.std.specs.Prelude.{ℕ, ◌+◌, ◌-◌, [], ◌∷◌, cond, nat_eq}
@@ -33,14 +34,15 @@ pick i x y z = cond (nat_eq i 1) x (cond (nat_eq i 2) y z)
 abbrev pub term : SignMap → Statement → ℕ → Sign
 term m st i = pick i (first_term m st) (second_term m st) (third_term m st)
 
--- the term with the number 1, 2 or 3 of three
+-- the term with the number 1, 2 or 3 among three terms
 abbrev pub term_of : Terms → ℕ → Sign
 term_of terms i = pick i terms.first terms.second terms.third
 
--- the third of the numbers 1, 2, 3 beside two of them
+-- the third of the numbers 1, 2, 3, given two of them
 abbrev pub third : ℕ → ℕ → ℕ
 third i j = 6 - (i + j)
 
--- plus for the small term of a statement, minus for the big one, and for the third plus where it is strict and else zero
+-- Plus for the small term of a statement, and minus for the big one. For the third term plus if the statement is
+-- strict, and else zero.
 abbrev pub told : Statement → ℕ → Sign
 told st i = cond (nat_eq i st.small) Plus (cond (nat_eq i st.big) Minus (cond st.strict Plus Zero))

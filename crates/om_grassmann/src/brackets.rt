@@ -8,11 +8,11 @@ use super::statement::Statement;
 use om_signs::MAX_ELEMENTS;
 use om_subsets::Subset;
 
-/// The brackets of a statement as sets: the two of the side `small`, and then the two of the side `big`. The brackets of
-/// the term 1 are abc and ade, those of the term 2 abd and ace, and those of the term 3 abe and acd.
+/// The brackets of a statement as sets: the two of the side `small`, and then the two of the side `big`. The
+/// brackets of term 1 are abc and ade, those of term 2 are abd and ace, and those of term 3 are abe and acd.
 ///
-/// a to e are distinct elements of 1 to n, in any order; n is from 1 to [`MAX_ELEMENTS`], and `small` and `big` are from
-/// 1 to 3. It takes no memory.
+/// a to e are distinct elements of 1 to n, in any order. n is from 1 to [`MAX_ELEMENTS`], and `small` and `big` are
+/// from 1 to 3. The call allocates no memory.
 ///
 /// Source: Bokowski and Richter-Gebert, *On the finding of final polynomials*, 1990.
 pub fn sides(st: Statement, n: u8) -> (Subset, Subset, Subset, Subset)
@@ -31,7 +31,7 @@ pub fn sides(st: Statement, n: u8) -> (Subset, Subset, Subset, Subset)
     (small_first, small_second, big_first, big_second)
 }
 
-/// The two brackets of the term with a number from 1 to 3.
+/// The two brackets of the term with this number, from 1 to 3.
 fn term_brackets(st: Statement, number: u8, n: u8) -> (Subset, Subset)
     requires high { n ≤ MAX_ELEMENTS }
     requires distinct { AreDistinct n st }

@@ -5,7 +5,7 @@ ghost use Rattle.om_grassmann.specs.Walk.{IsFrame, frame_of, frame_place};
 use super::statement::Statement;
 use om_signs::MAX_ELEMENTS;
 
-/// An element a and four increasing elements, of which a may be one. Frames are ordered lexicographically.
+/// An element a and four increasing elements, one of which may be a. Frames are ordered lexicographically.
 #[derive(Clone, Copy)]
 pub struct Frame {
     pub a: u8,
@@ -42,14 +42,15 @@ impl Frame {
         }
     }
 
-    /// The next frame of elements of 1 to n.
+    /// The next frame of elements of 1 to n, or None if this is the last one.
     pub fn next(self, n: u8) -> Option<Frame>
         requires high { n ≤ MAX_ELEMENTS }
         requires frame { IsFrame n self }
         ensures last { IfNone result ((g : Frame) → IsFrame n g → frame_place g ≤ frame_place self) }
         ensures frame { IfSome result (λ f. IsFrame n f) }
         ensures later { IfSome result (λ f. frame_place self < frame_place f) }
-        ensures next { IfSome result (λ f. (g : Frame) → IsFrame n g → frame_place self < frame_place g → frame_place f ≤ frame_place g) }
+        ensures next { IfSome result (λ f. (g : Frame) → IsFrame n g → frame_place self < frame_place g
+            → frame_place f ≤ frame_place g) }
     {
         if self.e < n {
             Some(Frame {

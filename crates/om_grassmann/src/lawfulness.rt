@@ -9,10 +9,12 @@ use super::terms::Terms;
 use om_chirotope::Chirotope;
 use om_signs::Sign;
 
-/// Whether a statement is one that the three-term relations of the chirotope give: the rank is 3, a to e are distinct
-/// elements with b < c < d < e, `small` and `big` are two of the numbers 1, 2 and 3, the term `big` has the sign
-/// opposite to that of the term `small`, which isn't 0, and the remaining term is 0 for an equation and of the sign of
-/// the term `small` for a strict statement. The statement may have any numbers. It takes no memory.
+/// Whether the three-term relations of the chirotope give a statement. The rank is 3. a to e are distinct elements
+/// with b < c < d < e, and `small` and `big` are two of the numbers 1, 2 and 3. The term `small` isn't 0, and the
+/// term `big` has the opposite sign. In a strict statement the third term has the sign of the term `small`, and in
+/// an equation it is 0.
+///
+/// The statement may have any numbers. The call allocates no memory.
 ///
 /// Source: Bokowski and Richter-Gebert, *On the finding of final polynomials*, 1990.
 pub fn lawful(chi: &Chirotope, st: Statement) -> bool
@@ -37,7 +39,7 @@ pub fn is_placed(st: Statement, n: u8) -> bool
         && is_apart(st)
 }
 
-/// Whether a is none of b, c, d and e.
+/// Whether a isn't one of b, c, d and e.
 fn is_apart(st: Statement) -> bool
     ensures { IsTrue result ↔ IsApart st }
 {
@@ -51,7 +53,7 @@ fn is_element(e: u8, n: u8) -> bool
     1 <= e && e <= n
 }
 
-/// Whether the numbers are two of 1, 2 and 3.
+/// Whether i and j are two different ones of 1, 2 and 3.
 pub fn are_two(i: u8, j: u8) -> bool
     ensures { IsTrue result ↔ AreTwo i j }
 {
@@ -61,7 +63,8 @@ pub fn are_two(i: u8, j: u8) -> bool
 /// Whether the signs of the three terms give the statement with these two sides.
 pub fn have_signs(terms: Terms, small: u8, big: u8, strict: bool) -> bool
     requires { AreTwo small big }
-    ensures { IsTrue result ↔ HasSigns strict (term_of terms small) (term_of terms (third small big)) (term_of terms big) }
+    ensures { IsTrue result ↔ HasSigns strict (term_of terms small) (term_of terms (third small big))
+        (term_of terms big) }
 {
     let sign = terms.get(small);
     let rest = if strict { sign } else { Sign::Zero };

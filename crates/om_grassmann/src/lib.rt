@@ -1,5 +1,5 @@
-//! Three-term statements: what the three-term Grassmann-Plücker relations say of the sizes of the brackets of all vectors
-//! that have the signs of a chirotope of rank 3.
+//! Three-term statements: what the three-term Grassmann-Plücker relations say about the sizes of the brackets of
+//! all vectors that have the signs of a chirotope of rank 3.
 //!
 //! Source of the notions: Bokowski and Richter-Gebert, On the finding of final polynomials, 1990; Björner, Las Vergnas,
 //! Sturmfels, White and Ziegler, Oriented Matroids, chapter 8.

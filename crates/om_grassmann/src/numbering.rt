@@ -1,4 +1,4 @@
-//! The lawful statements by their numbers.
+//! The lawful statements by number.
 
 ghost use Rattle.std.specs.Prelude.{◌↔◌, IsNone, IfNone, IfSome};
 ghost use Rattle.om_grassmann.specs.Order.{IsNumber, HasAtMost};
@@ -9,7 +9,7 @@ use super::walk::{first_from, following};
 use om_chirotope::Chirotope;
 
 /// The lawful statement with the number k, counted from 0, in the lexicographic order by a, b, c, d, e, `small` and
-/// `big`, or None exactly where there are at most k lawful statements. It takes no memory.
+/// `big`. None exactly if there are at most k lawful statements. The call allocates no memory.
 ///
 /// Source: Bokowski and Richter-Gebert, *On the finding of final polynomials*, 1990.
 pub fn nth_statement(chi: &Chirotope, k: u32) -> Option<Statement>
@@ -23,7 +23,7 @@ pub fn nth_statement(chi: &Chirotope, k: u32) -> Option<Statement>
     Some(st)
 }
 
-/// The first lawful statement.
+/// The first lawful statement, or None.
 fn first_statement(chi: &Chirotope) -> Option<Statement>
     ensures none { IfNone result (HasAtMost chi.now 0) }
     ensures first { IfSome result (λ t. IsNumber chi.now 0 t) }

@@ -1,9 +1,9 @@
-/// A three-term statement on an element a and four elements b, c, d, e. It compares the sizes of two of the terms
-/// [abc][ade], -[abd][ace] and [abe][acd], which have the numbers 1, 2 and 3: the term `small` is less in size than the
-/// term `big` where the statement is strict, and is of the same size where it is an equation.
+/// A three-term statement on an element a and four elements b, c, d, e. It compares the absolute values of two of
+/// the terms [abc][ade], -[abd][ace] and [abe][acd], which have the numbers 1, 2 and 3. A strict statement says
+/// that the term `small` is smaller than the term `big`, and an equation that both are equal.
 ///
-/// The fields may be any numbers: [`super::lawful`] tells which statements the relations of a chirotope give. Statements
-/// are ordered lexicographically by a, b, c, d, e, small and big.
+/// The fields may be any numbers: [`super::lawful`] decides which statements the relations of a chirotope give.
+/// Statements are ordered lexicographically by a, b, c, d, e, small and big.
 ///
 /// Source: Bokowski and Richter-Gebert, *On the finding of final polynomials*, 1990.
 #[derive(Clone, Copy, Debug, PartialEq, Eq)]
@@ -13,10 +13,10 @@ pub struct Statement {
     pub c: u8,
     pub d: u8,
     pub e: u8,
-    /// The number of the term that is less in size, or equal.
+    /// The number of the term that is smaller in absolute value, or equal.
     pub small: u8,
-    /// The number of the term that is greater in size, or equal.
+    /// The number of the term that is greater in absolute value, or equal.
     pub big: u8,
-    /// Whether the sizes differ.
+    /// Whether the statement is strict, and not an equation.
     pub strict: bool,
 }

@@ -34,7 +34,7 @@ impl Terms {
         }
     }
 
-    /// What a lawful statement tells of the signs of its terms: the signs themselves, or all three negated.
+    /// What a lawful statement determines about the signs of its terms: these signs, or all three negated.
     pub fn told_by(st: Statement) -> Terms
         ensures first { result.first ≡ told st 1 }
         ensures second { result.second ≡ told st 2 }
@@ -72,8 +72,8 @@ fn value(chi: &Chirotope, x: u8, y: u8, z: u8) -> Sign
     chi.value(&[x, y, z])
 }
 
-/// What a lawful statement tells of the sign of the term with a number from 1 to 3: the signs of all three terms are these
-/// or their negatives.
+/// What a lawful statement determines about the sign of the term with this number, from 1 to 3: the signs of all
+/// three terms are these or their negatives.
 fn told_sign(st: Statement, number: u8) -> Sign
     ensures { result ≡ told st number }
 {

@@ -4,7 +4,8 @@ ghost use Rattle.std.specs.Prelude.{◌≡◌, ◌+◌, ◌*◌, ◌<◌, ◌≤
 ghost use Rattle.om_chirotope.specs.Map.{SignMap};
 ghost use Rattle.om_grassmann.specs.Statements.{IsLawful};
 ghost use Rattle.om_grassmann.specs.Order.{IsNext, IsLast};
-ghost use Rattle.om_grassmann.specs.Walk.{IsFrame, frame_place, HasNoneBetween, HasNoneFrom, IsFirstFrom, AreTermsOn, IsKind, statement_of};
+ghost use Rattle.om_grassmann.specs.Walk.{IsFrame, frame_place, HasNoneBetween, HasNoneFrom, IsFirstFrom, AreTermsOn};
+ghost use Rattle.om_grassmann.specs.Walk.{IsKind, statement_of};
 
 use super::frame::Frame;
 use super::lawfulness::{are_two, have_signs, is_placed};
@@ -16,9 +17,9 @@ use om_signs::{MAX_ELEMENTS, Sign};
 /// The number of pairs of the numbers 1, 2 and 3.
 const DIRECTIONS: u8 = 9;
 
-/// The lawful statement after a lawful statement, in the lexicographic order by a, b, c, d, e, `small` and `big`, or
-/// None exactly where this is the last one. It takes no memory, and looks up signs of the next elements alone: those of
-/// the statement's own elements follow from the statement.
+/// The lawful statement after a lawful statement, in the lexicographic order by a, b, c, d, e, `small` and `big`.
+/// None exactly if this is the last one. The call allocates no memory. It looks up signs of later elements only:
+/// those of the statement's own elements follow from the statement.
 ///
 /// Source: Bokowski and Richter-Gebert, *On the finding of final polynomials*, 1990.
 pub fn following(chi: &Chirotope, st: Statement) -> Option<Statement>
@@ -34,7 +35,7 @@ pub fn following(chi: &Chirotope, st: Statement) -> Option<Statement>
     first_after(chi, frame)
 }
 
-/// The first lawful statement from a frame on.
+/// The first lawful statement from a frame on, or None.
 pub fn first_from(chi: &Chirotope, start: Frame) -> Option<Statement>
     requires rank { chi.now.rank ≡ 3 }
     requires frame { IsFrame chi.now.elements start }
@@ -49,7 +50,7 @@ pub fn first_from(chi: &Chirotope, start: Frame) -> Option<Statement>
     first_after(chi, start)
 }
 
-/// The first lawful statement of the frames after a frame.
+/// The first lawful statement of the frames after a frame, or None.
 fn first_after(chi: &Chirotope, start: Frame) -> Option<Statement>
     requires rank { chi.now.rank ≡ 3 }
     requires frame { IsFrame chi.now.elements start }
@@ -68,7 +69,7 @@ fn first_after(chi: &Chirotope, start: Frame) -> Option<Statement>
     None
 }
 
-/// The first lawful statement of a frame.
+/// The first lawful statement of a frame, or None.
 fn first_of_frame(chi: &Chirotope, frame: Frame) -> Option<Statement>
     requires rank { chi.now.rank ≡ 3 }
     requires frame { IsFrame chi.now.elements frame }
@@ -82,11 +83,14 @@ fn first_of_frame(chi: &Chirotope, frame: Frame) -> Option<Statement>
     first_in_frame(frame, Terms::of(chi, st), 0)
 }
 
-/// The first lawful statement of a frame from a direction on, by the signs of the terms, or by all three negated.
+/// The first lawful statement of a frame from a direction on, found from the signs of the terms or from all three
+/// negated.
 fn first_in_frame(frame: Frame, terms: Terms, from: u8) -> Option<Statement>
     requires { from ≤ DIRECTIONS }
-    ensures none { IfNone result ((m : SignMap) → AreTermsOn m frame terms → HasNoneBetween m (frame_place frame * 9 + from) (frame_place frame * 9 + 9)) }
-    ensures first { IfSome result (λ t. (m : SignMap) → AreTermsOn m frame terms → IsFirstFrom m (frame_place frame * 9 + from) t) }
+    ensures none { IfNone result ((m : SignMap) → AreTermsOn m frame terms
+        → HasNoneBetween m (frame_place frame * 9 + from) (frame_place frame * 9 + 9)) }
+    ensures first { IfSome result (λ t. (m : SignMap) → AreTermsOn m frame terms
+        → IsFirstFrom m (frame_place frame * 9 + from) t) }
 {
     for direction in from..DIRECTIONS {
         if let Some(strict) = kind_of(terms, direction / 3 + 1, direction % 3 + 1) {
@@ -96,7 +100,8 @@ fn first_in_frame(frame: Frame, terms: Terms, from: u8) -> Option<Statement>
     None
 }
 
-/// Whether the statement with these two sides is lawful: Some of whether it is strict, or None where it isn't.
+/// Whether the statement with these two sides is lawful: Some says whether it is strict, and None that it isn't
+/// lawful.
 fn kind_of(terms: Terms, small: u8, big: u8) -> Option<bool>
     ensures { IsKind terms small big result }
 {
@@ -111,7 +116,7 @@ fn kind_of(terms: Terms, small: u8, big: u8) -> Option<bool>
     }
 }
 
-/// The statement of a frame with a direction.
+/// The statement of a frame with this direction.
 fn candidate(frame: Frame, direction: u8, strict: bool) -> Statement
     requires { direction < DIRECTIONS }
     ensures { result ≡ statement_of frame direction strict }

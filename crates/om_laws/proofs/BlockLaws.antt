@@ -1,8 +1,8 @@
 -- Signs negated once for each entry of a list, and blocks of a tuple that change places.
 --
 -- Main definitions: negated_for, negated_for_pairs.
--- Main results: two blocks change places (blocks_swapped); a property that is kept where neighbours change places holds of each list with the same
--- members (same_members); the sign of a permutation is nonzero (sort_sign_nonzero).
+-- Main results: two blocks change places (blocks_swapped); a property that is kept where neighbours change places holds
+-- of each list with the same members (same_members); the sign of a permutation is nonzero (sort_sign_nonzero).
 -- Reference: Björner, Las Vergnas, Sturmfels, White and Ziegler, Oriented Matroids, chapter 3.
 use Rattle.std.specs.Prelude.{ℕ, ◌≡◌, ◌≢◌, ◌<◌, List, [], ◌∷◌, ◌++◌, refl, length}
 use Rattle.std.proofs.Common.{arith, inl, inr, sym, ◌∙◌, ap, subst, ⊎_elim, append_assoc, append-nil}
@@ -13,7 +13,8 @@ use Rattle.om_signs.specs.Sign.{opposite, product}
 use Rattle.om_laws.specs.Signs.{IsNonzero, negated_times}
 use Rattle.om_laws.specs.Members.{IsMember, IsDistinct}
 use Rattle.om_laws.specs.Tuples.{IsAlternating, order_sign, before_sign, sort_sign}
-use Rattle.om_laws.proofs.SignLaws.{opposite_zero, plus_nonzero, minus_nonzero, product_nonzero, opposite_nonzero, opposite-opposite, product-opposite_left, product-opposite_right}
+use Rattle.om_laws.proofs.SignLaws.{opposite_zero, plus_nonzero, minus_nonzero, product_nonzero, opposite_nonzero}
+use Rattle.om_laws.proofs.SignLaws.{opposite-opposite, product-opposite_left, product-opposite_right}
 use Rattle.om_laws.proofs.MemberLaws.{distinct_drop, member_drop, member_insert, split_at}
 use Rattle.om_laws.proofs.TupleLaws.{moved_over}
 
@@ -39,7 +40,8 @@ negated_for_append (z ∷ u) v s = ap opposite (negated_for_append u v s)
 
 pub negated_for_twice : (u : List ℕ) (s : Sign) → negated_for u (negated_for u s) ≡ s
 negated_for_twice [] s = refl
-negated_for_twice (z ∷ u) s = ap opposite (negated_for_opposite u (negated_for u s)) ∙ opposite-opposite _ ∙ negated_for_twice u s
+negated_for_twice (z ∷ u) s = ap opposite (negated_for_opposite u (negated_for u s)) ∙ opposite-opposite _
+    ∙ negated_for_twice u s
 
 pub negated_for_times : (u : List ℕ) (s t : Sign) → negated_for u (product s t) ≡ product (negated_for u s) t
 negated_for_times [] s t = refl
@@ -47,7 +49,8 @@ negated_for_times (z ∷ u) s t = ap opposite (negated_for_times u s t) ∙ sym 
 
 pub negated_for_times_right : (u : List ℕ) (s t : Sign) → product s (negated_for u t) ≡ product (negated_for u s) t
 negated_for_times_right [] s t = refl
-negated_for_times_right (z ∷ u) s t = product-opposite_right s (negated_for u t) ∙ ap opposite (negated_for_times_right u s t) ∙ sym (product-opposite_left (negated_for u s) t)
+negated_for_times_right (z ∷ u) s t = product-opposite_right s (negated_for u t)
+    ∙ ap opposite (negated_for_times_right u s t) ∙ sym (product-opposite_left (negated_for u s) t)
 
 -- a sign, negated once for each pair of an entry of a and one of b
 abbrev pub negated_for_pairs : List ℕ → List ℕ → Sign → Sign
@@ -55,7 +58,8 @@ negated_for_pairs [] b s = s
 negated_for_pairs (x ∷ a) b s = negated_for_pairs a b (negated_for b s)
 
 -- two blocks change places
-pub blocks_swapped : (chi : List ℕ → Sign) → IsAlternating chi → (u a b : List ℕ) → chi (u ++ (a ++ b)) ≡ negated_for_pairs a b (chi (u ++ (b ++ a)))
+pub blocks_swapped : (chi : List ℕ → Sign) → IsAlternating chi → (u a b : List ℕ)
+    → chi (u ++ (a ++ b)) ≡ negated_for_pairs a b (chi (u ++ (b ++ a)))
 blocks_swapped chi alt u [] b = ap (λ l. chi (u ++ l)) (sym (append-nil b))
 blocks_swapped chi alt u (x ∷ a) b =
     ap chi (sym (append_assoc u (x ∷ []) (a ++ b)))
@@ -64,14 +68,16 @@ blocks_swapped chi alt u (x ∷ a) b =
 
 pub negated_for_product : (u : List ℕ) (s : Sign) → negated_for u s ≡ product (negated_for u Plus) s
 negated_for_product [] s = refl
-negated_for_product (z ∷ u) s = ap opposite (negated_for_product u s) ∙ sym (product-opposite_left (negated_for u Plus) s)
+negated_for_product (z ∷ u) s = ap opposite (negated_for_product u s)
+    ∙ sym (product-opposite_left (negated_for u Plus) s)
 
 pub negated_for_last : (u : List ℕ) (a : ℕ) (s : Sign) → negated_for (u ++ a ∷ []) s ≡ opposite (negated_for u s)
 negated_for_last [] a s = refl
 negated_for_last (z ∷ u) a s = ap opposite (negated_for_last u a s)
 
 -- a property kept by exchanging neighbours passes between lists with the same members
-module _ (Q : List ℕ → Type 0) (swapped : (u : List ℕ) (x y : ℕ) (v : List ℕ) → Q (u ++ x ∷ y ∷ v) → Q (u ++ y ∷ x ∷ v)) where
+module _ (Q : List ℕ → Type 0) (swapped : (u : List ℕ) (x y : ℕ) (v : List ℕ) → Q (u ++ x ∷ y ∷ v)
+    → Q (u ++ y ∷ x ∷ v)) where
   insert_later : (u p : List ℕ) (a : ℕ) (v : List ℕ) → Q (p ++ a ∷ (u ++ v)) → Q (p ++ (u ++ a ∷ v))
   insert_later [] p a v q = q
   insert_later (c ∷ u) p a v q =
@@ -79,16 +85,19 @@ module _ (Q : List ℕ → Type 0) (swapped : (u : List ℕ) (x y : ℕ) (v : Li
       let q2 = subst Q (sym (append_assoc p (c ∷ []) (a ∷ (u ++ v)))) q1 in
       subst Q (append_assoc p (c ∷ []) (u ++ a ∷ v)) (insert_later u (p ++ c ∷ []) a v q2)
 
-  pub same_members : (l p l' : List ℕ) → IsDistinct l → IsDistinct l' → ((g : ℕ) → IsMember g l → IsMember g l') → ((g : ℕ) → IsMember g l' → IsMember g l) → Q (p ++ l) → Q (p ++ l')
+  pub same_members : (l p l' : List ℕ) → IsDistinct l → IsDistinct l' → ((g : ℕ) → IsMember g l → IsMember g l')
+      → ((g : ℕ) → IsMember g l' → IsMember g l) → Q (p ++ l) → Q (p ++ l')
   same_members [] p [] r r' to from q = q
   same_members [] p (b ∷ l') r r' to from q = absurd (from b (inl refl))
   same_members (a ∷ l) p l' r r' to from q =
       let s = split_at a l' (to a (inl refl)) in
       let d = distinct_drop s.0 a s.1 (subst IsDistinct s.2 r') in
       let to2 : (g : ℕ) → IsMember g l → IsMember g (s.0 ++ s.1) = λ g m.
-      ⊎_elim (λ e. absurd (r.0 (subst (λ z. IsMember z l) e m))) (λ k. k) (member_drop g s.0 a s.1 (subst (IsMember g) s.2 (to g (inr m)))) in
+      ⊎_elim (λ e. absurd (r.0 (subst (λ z. IsMember z l) e m))) (λ k. k)
+      (member_drop g s.0 a s.1 (subst (IsMember g) s.2 (to g (inr m)))) in
       let from2 : (g : ℕ) → IsMember g (s.0 ++ s.1) → IsMember g l = λ g m.
-      ⊎_elim (λ e. absurd (d.1 (subst (λ z. IsMember z (s.0 ++ s.1)) e m))) (λ k. k) (from g (subst (IsMember g) (sym s.2) (member_insert g s.0 a s.1 m))) in
+      ⊎_elim (λ e. absurd (d.1 (subst (λ z. IsMember z (s.0 ++ s.1)) e m))) (λ k. k)
+      (from g (subst (IsMember g) (sym s.2) (member_insert g s.0 a s.1 m))) in
       let q1 = subst Q (sym (append_assoc p (a ∷ []) l)) q in
       let q2 = same_members l (p ++ a ∷ []) (s.0 ++ s.1) r.1 d.0 to2 from2 q1 in
       let q3 = subst Q (append_assoc p (a ∷ []) (s.0 ++ s.1)) q2 in
@@ -104,8 +113,11 @@ order_sign_nonzero x y n = elim (cases_lt x y) [
 
 before_sign_nonzero : (x : ℕ) (ys : List ℕ) → (IsMember x ys → ⊥) → IsNonzero (before_sign x ys)
 before_sign_nonzero x [] n = plus_nonzero
-before_sign_nonzero x (y ∷ ys) n = product_nonzero (order_sign x y) (before_sign x ys) (order_sign_nonzero x y (λ q. n (inl q))) (before_sign_nonzero x ys (λ m. n (inr m)))
+before_sign_nonzero x (y ∷ ys) n =
+    product_nonzero (order_sign x y) (before_sign x ys) (order_sign_nonzero x y (λ q. n (inl q)))
+    (before_sign_nonzero x ys (λ m. n (inr m)))
 
 pub sort_sign_nonzero : (xs : List ℕ) → IsDistinct xs → IsNonzero (sort_sign xs)
 sort_sign_nonzero [] d = plus_nonzero
-sort_sign_nonzero (x ∷ xs) d = product_nonzero (before_sign x xs) (sort_sign xs) (before_sign_nonzero x xs d.0) (sort_sign_nonzero xs d.1)
+sort_sign_nonzero (x ∷ xs) d =
+    product_nonzero (before_sign x xs) (sort_sign xs) (before_sign_nonzero x xs d.0) (sort_sign_nonzero xs d.1)

@@ -1,13 +1,14 @@
 -- Lists of signs and functions from elements to signs.
 --
--- Main results: each is the other's inverse (as_function-as_list, as_list-as_function); orthogonality, composition, conformity and negation
--- of lists are those of functions; the relation of an increasing list is the orthogonality of two lists of signs (relation_from_lists,
--- relation_to_lists).
+-- Main results: each is the other's inverse (as_function-as_list, as_list-as_function); orthogonality, composition,
+-- conformity and negation of lists are those of functions; the relation of an increasing list is the orthogonality of
+-- two lists of signs (relation_from_lists, relation_to_lists).
 use Rattle.std.specs.List.{range_with_len}
 use Rattle.std.proofs.lemmas.Bool.{cases_lt}
 use Rattle.std.proofs.lemmas.List.{get_or_past}
 use Rattle.std.proofs.lemmas.List.FromFn.{length-map-range_with_len, get_or-map-range_with_len}
-use Rattle.std.proofs.Common.{ℕ, zero, suc, List, refl, arith, inl, inr, sym, ap, ⊎_elim, length, map, ◌≡◌, ◌∷◌, ◌<◌, [], ◌+◌, ◌∙◌}
+use Rattle.std.proofs.Common.{ℕ, zero, suc, List, refl, arith, inl, inr, sym, ap, ⊎_elim, length, map, ◌≡◌, ◌∷◌, ◌<◌}
+use Rattle.std.proofs.Common.{[], ◌+◌, ◌∙◌}
 use Rattle.om_signs.specs.declared.sign.Sign.{Sign}
 use Rattle.om_signs.specs.declared.sign.Sign.TheVariants.{Minus, Zero, Plus}
 use Rattle.om_signs.specs.Sign.{opposite, product, first_nonzero}
@@ -31,18 +32,25 @@ at-as_list n f i l = get_or-map-range_with_len f 1 n i (suc i) Zero l (omega ari
 pub length-as_list : (n : ℕ) (f : SignVector) → length (as_list n f) ≡ n
 length-as_list n f = length-map-range_with_len f 1 n
 
-pub as_function-as_list : (n : ℕ) (f : SignVector) → IsSupportedOn (elements_to n) f → (e : ℕ) → as_function (as_list n f) e ≡ f e
-as_function-as_list n f s zero = sym (⊎_elim (λ z. z) (λ k. absurd (let h = (element_from_member n 0 (s 0 k)).0 in omega (arith, h))) (zero_or_nonzero (f 0)))
+pub as_function-as_list : (n : ℕ) (f : SignVector) → IsSupportedOn (elements_to n) f → (e : ℕ)
+    → as_function (as_list n f) e ≡ f e
+as_function-as_list n f s zero =
+    sym (⊎_elim (λ z. z) (λ k. absurd (let h = (element_from_member n 0 (s 0 k)).0 in omega (arith, h)))
+    (zero_or_nonzero (f 0)))
 as_function-as_list n f s (suc i) = elim (cases_lt i n) [
   | inl l ↦ at-as_list n f i l
   | inr g ↦ get_or_past (as_list n f) i Zero (let h = length-as_list n f in omega (arith, h, g))
-      ∙ sym (⊎_elim (λ z. z) (λ k. absurd (let h = (element_from_member n (suc i) (s (suc i) k)).1 in omega (arith, h, g))) (zero_or_nonzero (f (suc i))))
+      ∙ sym (⊎_elim (λ z. z)
+      (λ k. absurd (let h = (element_from_member n (suc i) (s (suc i) k)).1 in omega (arith, h, g)))
+      (zero_or_nonzero (f (suc i))))
 ]
 
-to_functions : (xs ys : List Sign) (s : Sign) → (i : ℕ) × (product (at xs i) (at ys i) ≡ s) → HasProduct (as_function xs) (as_function ys) s
+to_functions : (xs ys : List Sign) (s : Sign) → (i : ℕ) × (product (at xs i) (at ys i) ≡ s)
+    → HasProduct (as_function xs) (as_function ys) s
 to_functions xs ys s (i, p) = (suc i, p)
 
-to_lists : (xs ys : List Sign) (s : Sign) → IsNonzero s → HasProduct (as_function xs) (as_function ys) s → (i : ℕ) × (product (at xs i) (at ys i) ≡ s)
+to_lists : (xs ys : List Sign) (s : Sign) → IsNonzero s → HasProduct (as_function xs) (as_function ys) s → (i : ℕ)
+    × (product (at xs i) (at ys i) ≡ s)
 to_lists xs ys s n (zero, p) = absurd (n (sym p))
 to_lists xs ys s n (suc i, p) = (i, p)
 
@@ -71,11 +79,13 @@ at-compose (x ∷ xs) [] (suc i) = lemma (at xs i)
 at-compose (x ∷ xs) (y ∷ ys) zero = refl
 at-compose (x ∷ xs) (y ∷ ys) (suc i) = at-compose xs ys i
 
-pub as_function-compose : (xs ys : List Sign) (e : ℕ) → as_function (compose xs ys) e ≡ composition (as_function xs) (as_function ys) e
+pub as_function-compose : (xs ys : List Sign) (e : ℕ)
+    → as_function (compose xs ys) e ≡ composition (as_function xs) (as_function ys) e
 as_function-compose xs ys zero = refl
 as_function-compose xs ys (suc i) = at-compose xs ys i
 
-pub conformal_functions : (xs ys : List Sign) → IsConformal xs ys → vectors.IsConformal (as_function xs) (as_function ys)
+pub conformal_functions : (xs ys : List Sign) → IsConformal xs ys
+    → vectors.IsConformal (as_function xs) (as_function ys)
 conformal_functions xs ys h zero n = absurd (n refl)
 conformal_functions xs ys h (suc i) n = h i n
 
@@ -91,46 +101,71 @@ pub as_function-negated : (xs : List Sign) (e : ℕ) → as_function (map opposi
 as_function-negated xs zero = refl
 as_function-negated xs (suc i) = at-negated xs i
 
-list_of_signs : (xs : List Sign) (low : ℕ) (f : SignVector) → ((i : ℕ) → f (low + i) ≡ at xs i) → map f (range_with_len low (length xs)) ≡ xs
+list_of_signs : (xs : List Sign) (low : ℕ) (f : SignVector) → ((i : ℕ) → f (low + i) ≡ at xs i)
+    → map f (range_with_len low (length xs)) ≡ xs
 list_of_signs [] low f h = refl
 list_of_signs (x ∷ xs) low f h =
     ap (λ s. s ∷ map f (range_with_len (low + 1) (length xs))) (ap f (let e : low ≡ low + 0 = omega arith in e) ∙ h 0)
-    ∙ ap (λ l. x ∷ l) (list_of_signs xs (low + 1) f (λ i. (let e : low + 1 + i ≡ low + suc i = omega arith in ap f e) ∙ h (suc i)))
+    ∙ ap (λ l. x ∷ l)
+    (list_of_signs xs (low + 1) f (λ i. (let e : low + 1 + i ≡ low + suc i = omega arith in ap f e) ∙ h (suc i)))
 
 pub as_list-as_function : (n : ℕ) (xs : List Sign) → length xs ≡ n → as_list n (as_function xs) ≡ xs
-as_list-as_function n xs q = ap (λ k. as_list k (as_function xs)) (sym q) ∙ list_of_signs xs 1 (as_function xs) (λ i. (let e : 1 + i ≡ suc i = omega arith in ap (as_function xs) e))
+as_list-as_function n xs q = ap (λ k. as_list k (as_function xs)) (sym q)
+    ∙ list_of_signs xs 1 (as_function xs) (λ i. (let e : 1 + i ≡ suc i = omega arith in ap (as_function xs) e))
 
-seen : (n : ℕ) (f g : SignVector) (s : Sign) → IsSupportedOn (elements_to n) f → IsNonzero s → HasProduct f g s → (i : ℕ) × (product (at (as_list n f) i) (at (as_list n g) i) ≡ s)
-seen n f g s sup ns (zero, p) = absurd (let h = (element_from_member n 0 (sup 0 (λ z. ns (sym p ∙ product_zero_left (f 0) (g 0) z)))).0 in omega (arith, h))
+seen : (n : ℕ) (f g : SignVector) (s : Sign) → IsSupportedOn (elements_to n) f → IsNonzero s → HasProduct f g s
+    → (i : ℕ) × (product (at (as_list n f) i) (at (as_list n g) i) ≡ s)
+seen n f g s sup ns (zero, p) =
+    absurd (let h = (element_from_member n 0 (sup 0 (λ z. ns (sym p ∙ product_zero_left (f 0) (g 0) z)))).0 in
+    omega (arith, h))
 seen n f g s sup ns (suc i, p) =
-    let h = (element_from_member n (suc i) (sup (suc i) (λ z. ns (sym p ∙ product_zero_left (f (suc i)) (g (suc i)) z)))).1 in
-    let l : i < n = omega (arith, h) in
-    (i, ap (λ k. product k (at (as_list n g) i)) (at-as_list n f i l) ∙ ap (product (f (suc i))) (at-as_list n g i l) ∙ p)
+    let h = (element_from_member n (suc i)
+    (sup (suc i) (λ z. ns (sym p ∙ product_zero_left (f (suc i)) (g (suc i)) z)))).1 in
+    let l : i < n = omega (arith, h) in (
+      i,
+      ap (λ k. product k (at (as_list n g) i)) (at-as_list n f i l) ∙ ap (product (f (suc i))) (at-as_list n g i l)
+          ∙ p,
+    )
 
-unseen : (n : ℕ) (f g : SignVector) (s : Sign) → IsNonzero s → (i : ℕ) × (product (at (as_list n f) i) (at (as_list n g) i) ≡ s) → HasProduct f g s
+unseen : (n : ℕ) (f g : SignVector) (s : Sign) → IsNonzero s → (i : ℕ)
+    × (product (at (as_list n f) i) (at (as_list n g) i) ≡ s) → HasProduct f g s
 unseen n f g s ns (i, p) = elim (cases_lt i n) [
-  | inl l ↦ (suc i, ap (λ k. product k (g (suc i))) (sym (at-as_list n f i l)) ∙ ap (product (at (as_list n f) i)) (sym (at-as_list n g i l)) ∙ p)
-  | inr ge ↦ absurd (ns (sym p ∙ product_zero_left (at (as_list n f) i) (at (as_list n g) i) (get_or_past (as_list n f) i Zero (let h = length-as_list n f in omega (arith, h, ge)))))
+  | inl l ↦ (
+    suc i,
+    ap (λ k. product k (g (suc i))) (sym (at-as_list n f i l))
+        ∙ ap (product (at (as_list n f) i)) (sym (at-as_list n g i l)) ∙ p,
+  )
+  | inr ge ↦
+      absurd (ns
+      (sym p ∙ product_zero_left (at (as_list n f) i) (at (as_list n g) i)
+      (get_or_past (as_list n f) i Zero (let h = length-as_list n f in omega (arith, h, ge)))))
 ]
 
 -- only the first has to be zero off the elements
-pub orthogonal_from_lists : (n : ℕ) (f g : SignVector) → IsSupportedOn (elements_to n) f → IsOrthogonal (as_list n f) (as_list n g) → Orthogonal f g
+pub orthogonal_from_lists : (n : ℕ) (f g : SignVector) → IsSupportedOn (elements_to n) f
+    → IsOrthogonal (as_list n f) (as_list n g) → Orthogonal f g
 orthogonal_from_lists n f g sup (a, b) = record {
   minus = λ h. unseen n f g Minus (λ e. cc) (a (seen n f g Plus sup (λ e. cc) h));
   plus = λ h. unseen n f g Plus (λ e. cc) (b (seen n f g Minus sup (λ e. cc) h));
 }
 
-pub orthogonal_to_lists : (n : ℕ) (f g : SignVector) → IsSupportedOn (elements_to n) f → Orthogonal f g → IsOrthogonal (as_list n f) (as_list n g)
+pub orthogonal_to_lists : (n : ℕ) (f g : SignVector) → IsSupportedOn (elements_to n) f → Orthogonal f g
+    → IsOrthogonal (as_list n f) (as_list n g)
 orthogonal_to_lists n f g sup o = (
   λ h. seen n f g Minus sup (λ e. cc) (o.minus (unseen n f g Plus (λ e. cc) h)),
   λ h. seen n f g Plus sup (λ e. cc) (o.plus (unseen n f g Minus (λ e. cc) h)),
 )
 
 -- the relation of increasing lists s and a, as orthogonality of two lists of signs
-pub relation_from_lists : (n r : ℕ) (chi : List ℕ → Sign) (s a : List ℕ) → IsTuple n r s → IsIncreasing s → IsOrthogonal (as_list n (around chi s)) (as_list n (along chi a)) → IsBalanced chi s (along chi a)
+pub relation_from_lists : (n r : ℕ) (chi : List ℕ → Sign) (s a : List ℕ) → IsTuple n r s → IsIncreasing s
+    → IsOrthogonal (as_list n (around chi s)) (as_list n (along chi a)) → IsBalanced chi s (along chi a)
 relation_from_lists n r chi s a t i o = balanced_from_orthogonal chi s (along chi a) (increasing_distinct s i)
-    (orthogonal_from_lists n (around chi s) (along chi a) (λ e k. member_from_element n e (each_member (IsElement n) s t.within e (around_member chi s e k))) o)
+    (orthogonal_from_lists n (around chi s) (along chi a)
+    (λ e k. member_from_element n e (each_member (IsElement n) s t.within e (around_member chi s e k))) o)
 
-pub relation_to_lists : (n r : ℕ) (chi : List ℕ → Sign) (s a : List ℕ) → IsTuple n r s → IsIncreasing s → IsBalanced chi s (along chi a) → IsOrthogonal (as_list n (around chi s)) (as_list n (along chi a))
-relation_to_lists n r chi s a t i b = orthogonal_to_lists n (around chi s) (along chi a) (λ e k. member_from_element n e (each_member (IsElement n) s t.within e (around_member chi s e k)))
+pub relation_to_lists : (n r : ℕ) (chi : List ℕ → Sign) (s a : List ℕ) → IsTuple n r s → IsIncreasing s
+    → IsBalanced chi s (along chi a) → IsOrthogonal (as_list n (around chi s)) (as_list n (along chi a))
+relation_to_lists n r chi s a t i b =
+    orthogonal_to_lists n (around chi s) (along chi a)
+    (λ e k. member_from_element n e (each_member (IsElement n) s t.within e (around_member chi s e k)))
     (orthogonal_from_balanced chi s (along chi a) (increasing_distinct s i) b)

@@ -1,7 +1,7 @@
 -- The covectors of a chirotope, from the laws of a dual pair.
 --
--- Main results: cocircuits are covectors (cocircuit_covector); the covector axioms (covector_axioms); a covector is a composition of cocircuits
--- that conform to it (covector_composition).
+-- Main results: cocircuits are covectors (cocircuit_covector); the covector axioms (covector_axioms); a covector is a
+-- composition of cocircuits that conform to it (covector_composition).
 -- Reference: Björner, Las Vergnas, Sturmfels, White and Ziegler, Oriented Matroids, chapters 3 and 4.
 use Rattle.std.specs.Prelude.{ℕ, List}
 use Rattle.om_signs.specs.declared.sign.Sign.{Sign}
@@ -26,5 +26,7 @@ module _ (E : List ℕ) (chi : List ℕ → Sign) (om : IsChirotope E chi) where
   covector_composition = covectors.covector_is_composition E (IsCircuit E chi) (IsCocircuit chi) (dual_pair E chi om)
 
   -- a covector with its support in that of a cocircuit is zero or the cocircuit, up to sign
-  pub covector_in_cocircuit : (X Y : SignVector) → IsCovector E chi X → IsCocircuit chi Y → HasSupportIn X Y → HasNonzero X → AreEqualUpToSign X Y
-  covector_in_cocircuit X Y x y sub n = axioms.incomparable E (IsCircuit E chi) (IsCocircuit chi) (dual_pair E chi om) X Y x.orthogonal y sub n.0 n.1
+  pub covector_in_cocircuit : (X Y : SignVector) → IsCovector E chi X → IsCocircuit chi Y → HasSupportIn X Y
+      → HasNonzero X → AreEqualUpToSign X Y
+  covector_in_cocircuit X Y x y sub n =
+      axioms.incomparable E (IsCircuit E chi) (IsCocircuit chi) (dual_pair E chi om) X Y x.orthogonal y sub n.0 n.1

@@ -1,8 +1,8 @@
 -- A map that fits a set of cocircuits has exchange and the three-term relations, so it has the relations of all tuples.
 --
 -- Main definitions: none.
--- Main results: each nonzero vector along a tuple is a member (row_is_member); exchange (made_exchange); the three-term relations
--- (made_three_terms); the relations of all tuples (made_relations).
+-- Main results: each nonzero vector along a tuple is a member (row_is_member); exchange (made_exchange); the three-term
+-- relations (made_three_terms); the relations of all tuples (made_relations).
 -- Reference: Björner, Las Vergnas, Sturmfels, White and Ziegler, Oriented Matroids, sections 3.5 and 3.6.
 use Rattle.std.specs.Prelude.{◌≡◌, ◌⊎◌, ℕ, List, [], ◌∷◌, ◌++◌, refl}
 use Rattle.std.proofs.Common.{sym, ap, ◌∙◌, subst, ⊎_elim, inl, inr, arith, append_assoc}
@@ -11,9 +11,12 @@ use Rattle.om_signs.specs.declared.sign.Sign.TheVariants.{Minus, Zero, Plus}
 use Rattle.om_signs.specs.Sign.{opposite, product}
 use Rattle.om_laws.specs.Signs.{IsNonzero}
 use Rattle.om_laws.proofs.ExistenceHelpers.{left_factor_nonzero, left_of_two, zero_of_two}
-use Rattle.om_laws.proofs.SignLaws.{minus_nonzero, nonzero_if_opposite, opposite-opposite, opposite_nonzero, opposite_swap, opposite_zero, plus_nonzero, plus_or_minus, product-opposite_right, product_nonzero, right_factor_nonzero, zero_not_nonzero, zero_or_nonzero}
+use Rattle.om_laws.proofs.SignLaws.{minus_nonzero, nonzero_if_opposite, opposite-opposite, opposite_nonzero}
+use Rattle.om_laws.proofs.SignLaws.{opposite_swap, opposite_zero, plus_nonzero, plus_or_minus, product-opposite_right}
+use Rattle.om_laws.proofs.SignLaws.{product_nonzero, right_factor_nonzero, zero_not_nonzero, zero_or_nonzero}
 use Rattle.om_laws.specs.Members.{IsMember}
-use Rattle.om_laws.proofs.MemberLaws.{distinct_drop, member_drop, member_insert, member_last, member_left, member_middle}
+use Rattle.om_laws.proofs.MemberLaws.{distinct_drop, member_drop, member_insert, member_last, member_left}
+use Rattle.om_laws.proofs.MemberLaws.{member_middle}
 use Rattle.om_laws.specs.Vectors.{SignVector}
 use Rattle.om_laws.proofs.ExistenceHelpers.{Vanishes, same_nonzero}
 use Rattle.om_laws.proofs.VectorLaws.{same_products, same_zero}
@@ -23,7 +26,8 @@ use Rattle.om_laws.specs.Bases.{HasExchange}
 use Rattle.om_laws.specs.ThreeTerm.{AreBalanced}
 use Rattle.om_laws.specs.ThreeTerm.{HasThreeTermRelations}
 use Rattle.om_laws.proofs.ThreeTermLaws.{three_term_relations}
-use Rattle.om_laws.proofs.CocircuitBases.{ExtendsToBase, IsCocircuitBase, base_exchange, extending_member, extending_nonzero, extending_same, opposed_at}
+use Rattle.om_laws.proofs.CocircuitBases.{ExtendsToBase, IsCocircuitBase, base_exchange, extending_member}
+use Rattle.om_laws.proofs.CocircuitBases.{extending_nonzero, extending_same, opposed_at}
 
 -- a nonzero value has an opposite one
 abbrev Answers : Sign → Sign → Sign → Type 0
@@ -58,19 +62,25 @@ of_answers Plus Plus Plus h k l = ⊎_elim (λ e. grind (arith, e)) (λ e. grind
 case_one : (ab ad bc cd : Sign) → (opposite bc ≡ ab) × (cd ≡ ad) → product ad bc ≡ opposite (product ab cd)
 case_one ab ad bc cd e = let h = e.0 in let k = e.1 in grind (arith, h, k)
 
-case_one' : (ab ad bc cd : Sign) → opposite bc ≡ opposite ab → cd ≡ opposite ad → product ad bc ≡ opposite (product ab cd)
+case_one' : (ab ad bc cd : Sign) → opposite bc ≡ opposite ab → cd ≡ opposite ad
+    → product ad bc ≡ opposite (product ab cd)
 case_one' ab ad bc cd h k = grind (arith, h, k)
 
-case_two : (ab ac bd cd : Sign) → opposite ac ≡ opposite ab → cd ≡ bd → opposite (product ac bd) ≡ opposite (product ab cd)
+case_two : (ab ac bd cd : Sign) → opposite ac ≡ opposite ab → cd ≡ bd
+    → opposite (product ac bd) ≡ opposite (product ab cd)
 case_two ab ac bd cd h k = grind (arith, h, k)
 
-case_two' : (ab ac bd cd : Sign) → opposite ac ≡ opposite (opposite ab) → cd ≡ opposite bd → opposite (product ac bd) ≡ opposite (product ab cd)
+case_two' : (ab ac bd cd : Sign) → opposite ac ≡ opposite (opposite ab) → cd ≡ opposite bd
+    → opposite (product ac bd) ≡ opposite (product ab cd)
 case_two' ab ac bd cd h k = grind (arith, h, k)
 
-three_one : (ab ac bd cd : Sign) → product (opposite ab) bd ≡ product (opposite ac) cd → IsNonzero ab → IsNonzero cd → IsNonzero ac → opposite (product ac bd) ≡ opposite (product ab cd)
+three_one : (ab ac bd cd : Sign) → product (opposite ab) bd ≡ product (opposite ac) cd → IsNonzero ab → IsNonzero cd
+    → IsNonzero ac → opposite (product ac bd) ≡ opposite (product ab cd)
 three_one ab ac bd cd h n1 n2 n3 = grind arith
 
-three_two : (ab ac ad bc cd oa oc : Sign) → product oa oc ≡ product (opposite ab) bc → oc ≡ opposite ac → product oa ad ≡ product (opposite ac) cd → IsNonzero ab → IsNonzero cd → IsNonzero ac → IsNonzero bc → product ad bc ≡ opposite (product ab cd)
+three_two : (ab ac ad bc cd oa oc : Sign) → product oa oc ≡ product (opposite ab) bc → oc ≡ opposite ac
+    → product oa ad ≡ product (opposite ac) cd → IsNonzero ab → IsNonzero cd → IsNonzero ac → IsNonzero bc
+    → product ad bc ≡ opposite (product ab cd)
 three_two ab ac ad bc cd oa oc h k l n1 n2 n3 n4 = grind arith
 
 pivot_sign : (fe fh ye yh : Sign) → product fe yh ≡ product fh ye → IsNonzero yh → fe ≡ product (product fh yh) ye
@@ -91,7 +101,8 @@ opposite_of_double s t e = grind arith
 back_sign : (a b a' b' : Sign) → a' ≡ opposite a → b' ≡ opposite b → b' ≡ opposite a' → b ≡ opposite a
 back_sign a b a' b' ea eb q = grind arith
 
-turn_answers : (a b c a' b' c' : Sign) → a' ≡ opposite a → b' ≡ opposite b → c' ≡ opposite c → (IsNonzero a' → (b' ≡ opposite a') ⊎ (c' ≡ opposite a')) → Answers a b c
+turn_answers : (a b c a' b' c' : Sign) → a' ≡ opposite a → b' ≡ opposite b → c' ≡ opposite c
+    → (IsNonzero a' → (b' ≡ opposite a') ⊎ (c' ≡ opposite a')) → Answers a b c
 turn_answers a b c a' b' c' ea eb ec h n =
     ⊎_elim
     (λ q. inl (back_sign a b a' b' ea eb q)) (λ q. inr (back_sign a c a' c' ea ec q))
@@ -99,11 +110,14 @@ turn_answers a b c a' b' c' ea eb ec h n =
 
 module _ (K : SignVector → Type 0)
     (neg_k : (X : SignVector) → K X → K (λ e. opposite (X e)))
-    (elim_k : (X Y : SignVector) → K X → K Y → (e : ℕ) → IsNonzero (X e) → X e ≡ opposite (Y e) → (h : ℕ) → (X h ≡ opposite (Y h) → ⊥) → (Z : SignVector) × K Z × (Z e ≡ Zero) × ((g : ℕ) → IsNonzero (Z g) → (Z g ≡ X g) ⊎ (Z g ≡ Y g)))
+    (elim_k : (X Y : SignVector) → K X → K Y → (e : ℕ) → IsNonzero (X e) → X e ≡ opposite (Y e) → (h : ℕ)
+    → (X h ≡ opposite (Y h) → ⊥) → (Z : SignVector) × K Z × (Z e ≡ Zero)
+    × ((g : ℕ) → IsNonzero (Z g) → (Z g ≡ X g) ⊎ (Z g ≡ Y g)))
     (f : List ℕ → Sign) (alt : IsAlternating f)
     (value_base : (t : List ℕ) → IsNonzero (f t) → IsCocircuitBase K neg_k elim_k t)
     (base_value : (t : List ℕ) → IsCocircuitBase K neg_k elim_k t → IsNonzero (f t))
-    (pivot : (a : List ℕ) (Y : SignVector) → K Y → Vanishes Y a → (e h : ℕ) → product (f (a ++ e ∷ [])) (Y h) ≡ product (f (a ++ h ∷ [])) (Y e))
+    (pivot : (a : List ℕ) (Y : SignVector) → K Y → Vanishes Y a → (e h : ℕ)
+    → product (f (a ++ e ∷ [])) (Y h) ≡ product (f (a ++ h ∷ [])) (Y e))
   where
     abbrev U : List ℕ → Type 0
     U a = (Y : SignVector) × K Y × Vanishes Y a × ((e : ℕ) → Y e ≡ f (a ++ e ∷ []))
@@ -114,10 +128,16 @@ module _ (K : SignVector → Type 0)
         let y = extending_member K neg_k elim_k a (h, b) in
         let nh : IsNonzero (y.0 h) = extending_nonzero K neg_k elim_k a h b y.0 y.1 y.2 in
         let s : Sign = product (f (a ++ h ∷ [])) (y.0 h) in
-        let v : (e : ℕ) → f (a ++ e ∷ []) ≡ product s (y.0 e) = λ e. pivot_sign (f (a ++ e ∷ [])) (f (a ++ h ∷ [])) (y.0 e) (y.0 h) (pivot a y.0 y.1 y.2 e h) nh in
+        let v : (e : ℕ) → f (a ++ e ∷ []) ≡ product s (y.0 e) =
+        λ e. pivot_sign (f (a ++ e ∷ [])) (f (a ++ h ∷ [])) (y.0 e) (y.0 h) (pivot a y.0 y.1 y.2 e h) nh in
         ⊎_elim
         (λ q. (y.0, y.1, y.2, λ e. product_by_plus s (y.0 e) q ∙ sym (v e)))
-        (λ q. ((λ e. opposite (y.0 e)), neg_k y.0 y.1, (λ g m. opposite_zero (y.0 g) (y.2 g m)), λ e. product_by_minus s (y.0 e) q ∙ sym (v e)))
+        (λ q. (
+          (λ e. opposite (y.0 e)),
+          neg_k y.0 y.1,
+          (λ g m. opposite_zero (y.0 g) (y.2 g m)),
+          λ e. product_by_minus s (y.0 e) q ∙ sym (v e),
+        ))
         (plus_or_minus s (product_nonzero (f (a ++ h ∷ [])) (y.0 h) n nh))
 
     module _ (p : List ℕ) where
@@ -133,7 +153,8 @@ module _ (K : SignVector → Type 0)
       q_anti x y = alt y x p []
 
       row : (x h : ℕ) → IsNonzero (q x h) → (Y : SignVector) × K Y × Vanishes Y (p ++ x ∷ []) × ((e : ℕ) → Y e ≡ q x e)
-      row x h n = let m = row_is_member (p ++ x ∷ []) h (subst IsNonzero (q_eq x h) n) in (m.0, m.1, m.2, λ e. m.3 e ∙ sym (q_eq x e))
+      row x h n = let m = row_is_member (p ++ x ∷ []) h (subst IsNonzero (q_eq x h) n) in
+          (m.0, m.1, m.2, λ e. m.3 e ∙ sym (q_eq x e))
 
       extending_at : (x h : ℕ) → IsNonzero (q x h) → ExtendsToBase K neg_k elim_k (p ++ x ∷ [])
       extending_at x h n = (h, value_base ((p ++ x ∷ []) ++ h ∷ []) (subst IsNonzero (q_eq x h) n))
@@ -141,7 +162,9 @@ module _ (K : SignVector → Type 0)
       van_at : (Y : SignVector) (x c : ℕ) → Vanishes Y (p ++ x ∷ []) → Y c ≡ Zero → Vanishes Y (p ++ c ∷ [])
       van_at Y x c v z g m = ⊎_elim (λ k. v g (member_left g p (x ∷ []) k)) (λ e. ap Y e ∙ z) (member_last g c p m)
 
-      star : (a b c d : ℕ) → IsNonzero (product (q a b) (q c d)) → (opposite (product (q a c) (q b d)) ≡ opposite (product (q a b) (q c d))) ⊎ (product (q a d) (q b c) ≡ opposite (product (q a b) (q c d)))
+      star : (a b c d : ℕ) → IsNonzero (product (q a b) (q c d))
+          → (opposite (product (q a c) (q b d)) ≡ opposite (product (q a b) (q c d)))
+          ⊎ (product (q a d) (q b c) ≡ opposite (product (q a b) (q c d)))
       star a b c d n =
           let nab : IsNonzero (q a b) = left_factor_nonzero (q a b) (q c d) n in
           let ncd : IsNonzero (q c d) = right_factor_nonzero (q a b) (q c d) n in
@@ -154,7 +177,8 @@ module _ (K : SignVector → Type 0)
           let wa : w.0 a ≡ opposite (q a b) = w.3 a ∙ q_anti b a in
           ⊎_elim
           (λ ac0.
-          let s = extending_same K neg_k elim_k (p ++ c ∷ []) ok y.0 z.0 y.1 z.1 (van_at y.0 a c y.2 (y.3 c ∙ ac0)) z.2 in
+          let s = extending_same K neg_k elim_k (p ++ c ∷ []) ok y.0 z.0 y.1 z.1 (van_at y.0 a c y.2 (y.3 c ∙ ac0)) z.2
+          in
           inr (⊎_elim
           (λ e. case_one (q a b) (q a d) (q b c) (q c d) (sym zb ∙ sym (e b) ∙ y.3 b, sym (z.3 d) ∙ sym (e d) ∙ y.3 d))
           (λ e. case_one' (q a b) (q a d) (q b c) (q c d)
@@ -164,7 +188,8 @@ module _ (K : SignVector → Type 0)
           (λ ac.
           ⊎_elim
           (λ bc0.
-          let s = extending_same K neg_k elim_k (p ++ c ∷ []) ok w.0 z.0 w.1 z.1 (van_at w.0 b c w.2 (w.3 c ∙ bc0)) z.2 in
+          let s = extending_same K neg_k elim_k (p ++ c ∷ []) ok w.0 z.0 w.1 z.1 (van_at w.0 b c w.2 (w.3 c ∙ bc0)) z.2
+          in
           inl (⊎_elim
           (λ e. case_two (q a b) (q a c) (q b d) (q c d) (sym za ∙ sym (e a) ∙ wa) (sym (z.3 d) ∙ sym (e d) ∙ w.3 d))
           (λ e. case_two' (q a b) (q a c) (q b d) (q c d)
@@ -177,37 +202,48 @@ module _ (K : SignVector → Type 0)
           let o = opposed_at K neg_k elim_k w.0 y.0 w.1 c wc yc in
           let ya : y.0 a ≡ Zero = y.2 a (member_middle a p []) in
           let oa : IsNonzero (o.0 a) = same_nonzero o.0 w.0 o.3 a (nonzero_if_opposite (w.0 a) (q a b) wa nab) in
-          let x = elim_k o.0 y.0 o.1 y.1 c (same_nonzero o.0 w.0 o.3 c wc) o.2 a (λ e. zero_not_nonzero (o.0 a) (e ∙ opposite_zero (y.0 a) ya) oa) in
+          let x = elim_k o.0 y.0 o.1 y.1 c (same_nonzero o.0 w.0 o.3 c wc) o.2 a
+          (λ e. zero_not_nonzero (o.0 a) (e ∙ opposite_zero (y.0 a) ya) oa) in
           let vx : Vanishes x.0 (p ++ c ∷ []) = λ g m. ⊎_elim
-          (λ k. zero_of_two (x.0 g) (o.0 g) (y.0 g) (same_zero o.0 w.0 o.3 g (w.2 g (member_left g p (b ∷ []) k))) (y.2 g (member_left g p (a ∷ []) k)) (x.3 g))
+          (λ k. zero_of_two (x.0 g) (o.0 g) (y.0 g) (same_zero o.0 w.0 o.3 g (w.2 g (member_left g p (b ∷ []) k)))
+          (y.2 g (member_left g p (a ∷ []) k)) (x.3 g))
           (λ e. ap x.0 e ∙ x.2) (member_last g c p m) in
           let s = extending_same K neg_k elim_k (p ++ c ∷ []) ok x.0 z.0 x.1 z.1 vx z.2 in
           let xa : IsNonzero (x.0 a) = same_nonzero x.0 z.0 s a (nonzero_if_opposite (z.0 a) (q a c) za ac) in
           let xd : IsNonzero (x.0 d) = same_nonzero x.0 z.0 s d (subst IsNonzero (sym (z.3 d)) ncd) in
           let ea : x.0 a ≡ o.0 a = left_of_two (x.0 a) (o.0 a) (y.0 a) ya xa (x.3 a) in
-          let prod : product (x.0 a) (x.0 d) ≡ product (opposite (q a c)) (q c d) = same_products x.0 z.0 s a d ∙ ap (λ k. product k (z.0 d)) za ∙ ap (product (opposite (q a c))) (z.3 d) in
+          let prod : product (x.0 a) (x.0 d) ≡ product (opposite (q a c)) (q c d) = same_products x.0 z.0 s a d
+          ∙ ap (λ k. product k (z.0 d)) za ∙ ap (product (opposite (q a c))) (z.3 d) in
           ⊎_elim
           (λ e.
-          let h : product (o.0 a) (o.0 d) ≡ product (opposite (q a b)) (q b d) = same_products o.0 w.0 o.3 a d ∙ ap (λ k. product k (w.0 d)) wa ∙ ap (product (opposite (q a b))) (w.3 d) in
-          inl (three_one (q a b) (q a c) (q b d) (q c d) (sym h ∙ ap (λ k. product k (o.0 d)) (sym ea) ∙ ap (product (x.0 a)) (sym e) ∙ prod) nab ncd ac))
+          let h : product (o.0 a) (o.0 d) ≡ product (opposite (q a b)) (q b d) = same_products o.0 w.0 o.3 a d
+          ∙ ap (λ k. product k (w.0 d)) wa ∙ ap (product (opposite (q a b))) (w.3 d) in
+          inl (three_one (q a b) (q a c) (q b d) (q c d)
+          (sym h ∙ ap (λ k. product k (o.0 d)) (sym ea) ∙ ap (product (x.0 a)) (sym e) ∙ prod) nab ncd ac))
           (λ e.
-          let h : product (o.0 a) (o.0 c) ≡ product (opposite (q a b)) (q b c) = same_products o.0 w.0 o.3 a c ∙ ap (λ k. product k (w.0 c)) wa ∙ ap (product (opposite (q a b))) (w.3 c) in
+          let h : product (o.0 a) (o.0 c) ≡ product (opposite (q a b)) (q b c) = same_products o.0 w.0 o.3 a c
+          ∙ ap (λ k. product k (w.0 c)) wa ∙ ap (product (opposite (q a b))) (w.3 c) in
           let oc : o.0 c ≡ opposite (q a c) = o.2 ∙ ap opposite (y.3 c) in
-          let k : product (o.0 a) (q a d) ≡ product (opposite (q a c)) (q c d) = ap (λ i. product i (q a d)) (sym ea) ∙ ap (product (x.0 a)) (sym (e ∙ y.3 d)) ∙ prod in
+          let k : product (o.0 a) (q a d) ≡ product (opposite (q a c)) (q c d) = ap (λ i. product i (q a d)) (sym ea)
+          ∙ ap (product (x.0 a)) (sym (e ∙ y.3 d)) ∙ prod in
           inr (three_two (q a b) (q a c) (q a d) (q b c) (q c d) (o.0 a) (o.0 c) h oc k nab ncd ac bc))
           (x.3 d xd))
           (zero_or_nonzero (q b c)))
           (zero_or_nonzero (q a c))
 
-      relation : (a b c d : ℕ) → AreBalanced (product (q a b) (q c d)) (opposite (product (q a c) (q b d))) (product (q a d) (q b c))
+      relation : (a b c d : ℕ)
+          → AreBalanced (product (q a b) (q c d)) (opposite (product (q a c) (q b d))) (product (q a d) (q b c))
       relation a b c d =
           let t1 = product (q a b) (q c d) in
           let t2 = opposite (product (q a c) (q b d)) in
           let t3 = product (q a d) (q b c) in
           of_answers t1 t2 t3 (star a b c d)
-          (turn_answers t2 t1 t3 (product (q a c) (q b d)) (opposite (product (q a b) (q c d))) (product (q a d) (q c b))
-          (sym (opposite-opposite (product (q a c) (q b d)))) refl (ap (product (q a d)) (q_anti c b) ∙ product-opposite_right (q a d) (q b c)) (star a c b d))
-          (turn_answers t3 t1 t2 (product (q a d) (q c b)) (product (q a b) (q d c)) (opposite (product (q a c) (q d b)))
+          (turn_answers t2 t1 t3 (product (q a c) (q b d)) (opposite (product (q a b) (q c d)))
+          (product (q a d) (q c b))
+          (sym (opposite-opposite (product (q a c) (q b d)))) refl
+          (ap (product (q a d)) (q_anti c b) ∙ product-opposite_right (q a d) (q b c)) (star a c b d))
+          (turn_answers t3 t1 t2 (product (q a d) (q c b)) (product (q a b) (q d c))
+          (opposite (product (q a c) (q d b)))
           (ap (product (q a d)) (q_anti c b) ∙ product-opposite_right (q a d) (q b c))
           (ap (product (q a b)) (q_anti d c) ∙ product-opposite_right (q a b) (q c d))
           (ap opposite (ap (product (q a c)) (q_anti d b) ∙ product-opposite_right (q a c) (q b d)))
@@ -223,11 +259,13 @@ module _ (K : SignVector → Type 0)
         let bc = value_base c nc in
         let y = b.2 e (member_middle e u v) in
         let drop = distinct_drop u e v b.0 in
-        let vy : Vanishes y.0 (u ++ v) = λ g m. y.2 g (member_insert g u e v m) (λ k. drop.1 (subst (λ z. IsMember z (u ++ v)) k m)) in
+        let vy : Vanishes y.0 (u ++ v) =
+        λ g m. y.2 g (member_insert g u e v m) (λ k. drop.1 (subst (λ z. IsMember z (u ++ v)) k m)) in
         let h = bc.1 y.0 y.1 in (
           h.0,
           h.1,
-          (λ m. ⊎_elim (λ k. out (subst (λ z. IsMember z c) k h.1)) (λ k. zero_not_nonzero (y.0 h.0) (vy h.0 k) h.2) (member_drop h.0 u e v m)),
+          (λ m. ⊎_elim (λ k. out (subst (λ z. IsMember z c) k h.1)) (λ k. zero_not_nonzero (y.0 h.0) (vy h.0 k) h.2)
+              (member_drop h.0 u e v m)),
           base_value (u ++ h.0 ∷ v) (base_exchange K neg_k elim_k u v e h.0 b y.0 y.1 vy h.2),
         )
 

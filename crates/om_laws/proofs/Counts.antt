@@ -16,13 +16,19 @@ count_none : (P N : ℕ → Type 0) (dec : (x : ℕ) → P x ⊎ N x) → count 
 unfolding count
 count_none P N dec = refl
 
-count_yes : (P N : ℕ → Type 0) (dec : (x : ℕ) → P x ⊎ N x) → ((x : ℕ) → P x → N x → ⊥) → (a : ℕ) (l : List ℕ) → P a → count P N dec (a ∷ l) ≡ suc (count P N dec l)
+count_yes : (P N : ℕ → Type 0) (dec : (x : ℕ) → P x ⊎ N x) → ((x : ℕ) → P x → N x → ⊥) → (a : ℕ) (l : List ℕ) → P a
+    → count P N dec (a ∷ l) ≡ suc (count P N dec l)
 unfolding count
-count_yes P N dec apart a l p = elim (dec a) as (λ d. ⊎_elim (λ q. suc (count P N dec l)) (λ n. count P N dec l) d ≡ suc (count P N dec l)) [ inl q ↦ refl | inr n ↦ absurd (apart a p n) ]
+count_yes P N dec apart a l p = elim (dec a) as
+    (λ d. ⊎_elim (λ q. suc (count P N dec l)) (λ n. count P N dec l) d ≡ suc (count P N dec l))
+    [ inl q ↦ refl | inr n ↦ absurd (apart a p n) ]
 
-count_no : (P N : ℕ → Type 0) (dec : (x : ℕ) → P x ⊎ N x) → ((x : ℕ) → P x → N x → ⊥) → (a : ℕ) (l : List ℕ) → N a → count P N dec (a ∷ l) ≡ count P N dec l
+count_no : (P N : ℕ → Type 0) (dec : (x : ℕ) → P x ⊎ N x) → ((x : ℕ) → P x → N x → ⊥) → (a : ℕ) (l : List ℕ) → N a
+    → count P N dec (a ∷ l) ≡ count P N dec l
 unfolding count
-count_no P N dec apart a l n = elim (dec a) as (λ d. ⊎_elim (λ q. suc (count P N dec l)) (λ m. count P N dec l) d ≡ count P N dec l) [ inl q ↦ absurd (apart a q n) | inr m ↦ refl ]
+count_no P N dec apart a l n = elim (dec a) as
+    (λ d. ⊎_elim (λ q. suc (count P N dec l)) (λ m. count P N dec l) d ≡ count P N dec l)
+    [ inl q ↦ absurd (apart a q n) | inr m ↦ refl ]
 
 module _ (P N : ℕ → Type 0) (dec : (x : ℕ) → P x ⊎ N x) (apart : (x : ℕ) → P x → N x → ⊥)
     (P' N' : ℕ → Type 0) (dec' : (x : ℕ) → P' x ⊎ N' x) (apart' : (x : ℕ) → P' x → N' x → ⊥)
@@ -32,10 +38,12 @@ module _ (P N : ℕ → Type 0) (dec : (x : ℕ) → P x ⊎ N x) (apart : (x : 
   count_le (a ∷ l) =
       let h = count_le l in
       ⊎_elim
-      (λ p. let x = count_yes P' N' dec' apart' a l p in let y = count_yes P N dec apart a l (sub a p) in omega (arith, h, x, y))
+      (λ p. let x = count_yes P' N' dec' apart' a l p in let y = count_yes P N dec apart a l (sub a p) in
+      omega (arith, h, x, y))
       (λ n.
       let x = count_no P' N' dec' apart' a l n in
-      ⊎_elim (λ p. let y = count_yes P N dec apart a l p in omega (arith, h, x, y)) (λ q. let y = count_no P N dec apart a l q in omega (arith, h, x, y)) (dec a))
+      ⊎_elim (λ p. let y = count_yes P N dec apart a l p in omega (arith, h, x, y))
+      (λ q. let y = count_no P N dec apart a l q in omega (arith, h, x, y)) (dec a))
       (dec' a)
 
   pub count_less : (l : List ℕ) (s : ℕ) → IsMember s l → P s → N' s → suc (count P' N' dec' l) ≤ count P N dec l
@@ -48,8 +56,10 @@ module _ (P N : ℕ → Type 0) (dec : (x : ℕ) → P x ⊎ N x) (apart : (x : 
   count_less (a ∷ l) s (inr m) p n =
       let h = count_less l s m p n in
       ⊎_elim
-      (λ q. let x = count_yes P' N' dec' apart' a l q in let y = count_yes P N dec apart a l (sub a q) in omega (arith, h, x, y))
+      (λ q. let x = count_yes P' N' dec' apart' a l q in let y = count_yes P N dec apart a l (sub a q) in
+      omega (arith, h, x, y))
       (λ q.
       let x = count_no P' N' dec' apart' a l q in
-      ⊎_elim (λ r. let y = count_yes P N dec apart a l r in omega (arith, h, x, y)) (λ r. let y = count_no P N dec apart a l r in omega (arith, h, x, y)) (dec a))
+      ⊎_elim (λ r. let y = count_yes P N dec apart a l r in omega (arith, h, x, y))
+      (λ r. let y = count_no P N dec apart a l r in omega (arith, h, x, y)) (dec a))
       (dec' a)

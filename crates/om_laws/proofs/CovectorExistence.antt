@@ -1,7 +1,7 @@
 -- A finite list of sign vectors that meets the axioms of covectors has exactly the covectors of a chirotope.
 --
--- Main results: least_axioms, the nonzero members of least support meet the axioms of circuits; covectors_chirotope, the map that they give is a
--- chirotope; member_covector and covector_member, its covectors are the members.
+-- Main results: least_axioms, the nonzero members of least support meet the axioms of circuits; covectors_chirotope,
+-- the map that they give is a chirotope; member_covector and covector_member, its covectors are the members.
 use Rattle.std.specs.Prelude.{ℕ, ◌≡◌, ◌⊎◌, refl, List, [], ◌∷◌}
 use Rattle.std.proofs.Common.{sym, subst, ⊎_elim, inl, inr}
 use Rattle.om_signs.specs.declared.sign.Sign.{Sign}
@@ -23,8 +23,10 @@ use Rattle.om_laws.specs.Covectors.{IsCovector}
 use Rattle.om_laws.specs.Compositions.{IsConforming}
 use Rattle.om_laws.proofs.PairCovectors.{covector_from_parts}
 use Rattle.om_laws.proofs.ChirotopeCovectors.{covector_composition}
-use Rattle.om_laws.proofs.FiniteExistence.{is_in_same, list_map, list_chirotope, list_member_cocircuit, list_cocircuit_member}
-use Rattle.om_laws.proofs.FamilyLaws.{Found, NotFound, found_or_not, not_found_same, minimal_of, decompose, least_incomparable, least_elimination}
+use Rattle.om_laws.proofs.FiniteExistence.{is_in_same, list_map, list_chirotope, list_member_cocircuit}
+use Rattle.om_laws.proofs.FiniteExistence.{list_cocircuit_member}
+use Rattle.om_laws.proofs.FamilyLaws.{Found, NotFound, found_or_not, not_found_same, minimal_of, decompose}
+use Rattle.om_laws.proofs.FamilyLaws.{least_incomparable, least_elimination}
 use Rattle.om_laws.specs.Families.{IsListed}
 use Rattle.om_laws.proofs.FamilyLaws.{search_vectors}
 
@@ -38,12 +40,14 @@ least_same Ls X Y q y = (
   λ Z z n sub g m. y.1 Z z n (λ e k. subst IsNonzero (q e) (sub e k)) g (subst IsNonzero (q g) m),
 )
 
-module _ (Ls : List SignVector) (E : List ℕ) (distinct : IsDistinct E) (supported : (X : SignVector) → IsListed Ls X → IsSupportedOn E X) (ax : CovectorAxioms (λ X. IsListed Ls X)) where
+module _ (Ls : List SignVector) (E : List ℕ) (distinct : IsDistinct E)
+    (supported : (X : SignVector) → IsListed Ls X → IsSupportedOn E X) (ax : CovectorAxioms (λ X. IsListed Ls X)) where
   abbrev pub L : SignVector → Type 0
   L X = IsListed Ls X
 
   eliminated : (X Y : SignVector) → L X → L Y → (e : ℕ) → IsNonzero (X e) → Y e ≡ opposite (X e)
-      → (Z : SignVector) × L Z × (Z e ≡ Zero) × ((g : ℕ) → (IsNonzero (X g) → Y g ≡ opposite (X g) → ⊥) → Z g ≡ first_nonzero (X g) (Y g))
+      → (Z : SignVector) × L Z × (Z e ≡ Zero)
+      × ((g : ℕ) → (IsNonzero (X g) → Y g ≡ opposite (X g) → ⊥) → Z g ≡ first_nonzero (X g) (Y g))
   eliminated X Y x y e n q =
       let z = ax.elimination X Y x y e (n, opposite_swap (Y e) (X e) q) in
       (z.0, z.1, z.2, λ g o. z.3 g (λ s. o s.0 (opposite_swap (X g) (Y g) s.1)))
@@ -56,14 +60,17 @@ module _ (Ls : List SignVector) (E : List ℕ) (distinct : IsDistinct E) (suppor
   nonzero_or_zero Y y = ⊎_elim
       (λ k. inl (k.0, k.2))
       (λ none. inr (λ n. n.1 (none n.0 (supported Y y n.0 n.1))))
-      (search_members (λ g. IsNonzero (Y g)) (λ g. Y g ≡ Zero) (λ g. ⊎_elim (λ q. inr q) (λ q. inl q) (zero_or_nonzero (Y g))) E)
+      (search_members (λ g. IsNonzero (Y g)) (λ g. Y g ≡ Zero)
+      (λ g. ⊎_elim (λ q. inr q) (λ q. inl q) (zero_or_nonzero (Y g))) E)
 
   least_or_not : (Y : SignVector) → L Y → IsLeast Ls Y ⊎ (IsLeast Ls Y → ⊥)
   least_or_not Y y = ⊎_elim
       (λ n. ⊎_elim
       (λ f. inr (λ l. found_not_least Y f.0 f.1 f.2 l.1))
       (λ none. inl (n, minimal_of Ls E supported ax.negation eliminated Y y none))
-      (search_vectors (Found Ls E supported ax.negation eliminated Y) (NotFound Ls E supported ax.negation eliminated Y) (found_or_not Ls E supported ax.negation eliminated Y) (not_found_same Ls E supported ax.negation eliminated Y) Ls))
+      (search_vectors (Found Ls E supported ax.negation eliminated Y) (NotFound Ls E supported ax.negation eliminated Y)
+      (found_or_not Ls E supported ax.negation eliminated Y)
+      (not_found_same Ls E supported ax.negation eliminated Y) Ls))
       (λ n. inr (λ l. n l.0))
       (nonzero_or_zero Y y)
 
@@ -75,23 +82,27 @@ module _ (Ls : List SignVector) (E : List ℕ) (distinct : IsDistinct E) (suppor
   filtered [] i = []
   filtered (Y ∷ l) i = kept Y (filtered l (λ X m. i X (inr m))) (least_or_not Y (i Y (inl (λ e. refl))))
 
-  kept_out : (X Y : SignVector) (l : List SignVector) (d : IsLeast Ls Y ⊎ (IsLeast Ls Y → ⊥)) → IsListed (kept Y l d) X → (((e : ℕ) → X e ≡ Y e) × IsLeast Ls Y) ⊎ IsListed l X
+  kept_out : (X Y : SignVector) (l : List SignVector) (d : IsLeast Ls Y ⊎ (IsLeast Ls Y → ⊥)) → IsListed (kept Y l d) X
+      → (((e : ℕ) → X e ≡ Y e) × IsLeast Ls Y) ⊎ IsListed l X
   unfolding kept
   kept_out X Y l (inl k) (inl q) = inl (q, k)
   kept_out X Y l (inl k) (inr m) = inr m
   kept_out X Y l (inr n) m = inr m
 
-  kept_here : (X Y : SignVector) (l : List SignVector) (d : IsLeast Ls Y ⊎ (IsLeast Ls Y → ⊥)) → ((e : ℕ) → X e ≡ Y e) → IsLeast Ls Y → IsListed (kept Y l d) X
+  kept_here : (X Y : SignVector) (l : List SignVector) (d : IsLeast Ls Y ⊎ (IsLeast Ls Y → ⊥)) → ((e : ℕ) → X e ≡ Y e)
+      → IsLeast Ls Y → IsListed (kept Y l d) X
   unfolding kept
   kept_here X Y l (inl k) q least = inl q
   kept_here X Y l (inr n) q least = absurd (n least)
 
-  kept_later : (X Y : SignVector) (l : List SignVector) (d : IsLeast Ls Y ⊎ (IsLeast Ls Y → ⊥)) → IsListed l X → IsListed (kept Y l d) X
+  kept_later : (X Y : SignVector) (l : List SignVector) (d : IsLeast Ls Y ⊎ (IsLeast Ls Y → ⊥)) → IsListed l X
+      → IsListed (kept Y l d) X
   unfolding kept
   kept_later X Y l (inl k) m = inr m
   kept_later X Y l (inr n) m = m
 
-  filtered_out : (l : List SignVector) (i : (X : SignVector) → IsListed l X → L X) (X : SignVector) → IsListed (filtered l i) X → L X × IsLeast Ls X
+  filtered_out : (l : List SignVector) (i : (X : SignVector) → IsListed l X → L X) (X : SignVector)
+      → IsListed (filtered l i) X → L X × IsLeast Ls X
   unfolding filtered
   filtered_out [] i X m = absurd m
   filtered_out (Y ∷ l) i X m = ⊎_elim
@@ -99,11 +110,16 @@ module _ (Ls : List SignVector) (E : List ℕ) (distinct : IsDistinct E) (suppor
       (λ k. filtered_out l (λ Z j. i Z (inr j)) X k)
       (kept_out X Y (filtered l (λ Z j. i Z (inr j))) (least_or_not Y (i Y (inl (λ e. refl)))) m)
 
-  filtered_in : (l : List SignVector) (i : (X : SignVector) → IsListed l X → L X) (X : SignVector) → IsListed l X → IsLeast Ls X → IsListed (filtered l i) X
+  filtered_in : (l : List SignVector) (i : (X : SignVector) → IsListed l X → L X) (X : SignVector) → IsListed l X
+      → IsLeast Ls X → IsListed (filtered l i) X
   unfolding filtered
   filtered_in [] i X m least = absurd m
-  filtered_in (Y ∷ l) i X (inl q) least = kept_here X Y (filtered l (λ Z j. i Z (inr j))) (least_or_not Y (i Y (inl (λ e. refl)))) q (least_same Ls Y X (λ e. sym (q e)) least)
-  filtered_in (Y ∷ l) i X (inr m) least = kept_later X Y (filtered l (λ Z j. i Z (inr j))) (least_or_not Y (i Y (inl (λ e. refl)))) (filtered_in l (λ Z j. i Z (inr j)) X m least)
+  filtered_in (Y ∷ l) i X (inl q) least =
+      kept_here X Y (filtered l (λ Z j. i Z (inr j))) (least_or_not Y (i Y (inl (λ e. refl)))) q
+      (least_same Ls Y X (λ e. sym (q e)) least)
+  filtered_in (Y ∷ l) i X (inr m) least =
+      kept_later X Y (filtered l (λ Z j. i Z (inr j))) (least_or_not Y (i Y (inl (λ e. refl))))
+      (filtered_in l (λ Z j. i Z (inr j)) X m least)
 
   pub least_members : List SignVector
   least_members = filtered Ls (λ X m. m)
@@ -125,7 +141,8 @@ module _ (Ls : List SignVector) (E : List ℕ) (distinct : IsDistinct E) (suppor
   pub least_axioms : CircuitAxioms (λ X. IsListed least_members X)
   least_axioms = record {
     nonzero = λ X x. (least_member_in X x).1.0;
-    negation = λ X x. (let k = least_member_in X x in in_least_members (negated X) (ax.negation X k.0) (negated_least X k.1));
+    negation =
+        λ X x. (let k = least_member_in X x in in_least_members (negated X) (ax.negation X k.0) (negated_least X k.1));
     incomparable = λ X Y x y sub.
         let k = least_member_in X x in
         let j = least_member_in Y y in
@@ -134,7 +151,9 @@ module _ (Ls : List SignVector) (E : List ℕ) (distinct : IsDistinct E) (suppor
         let k = least_member_in X x in
         let j = least_member_in Y y in
         let h = not_opposite_at E X Y (supported X k.0) (supported Y j.0) ne in
-        let z = least_elimination Ls E supported ax.negation eliminated X Y k.0 j.0 e h.0 s.0 (opposite_swap (X e) (Y e) s.1) (nonzero_composition (X h.0) (Y h.0) h.1) (λ n q. h.1 (opposite_swap (Y h.0) (X h.0) q)) in
+        let z = least_elimination Ls E supported ax.negation eliminated X Y k.0 j.0 e h.0 s.0
+        (opposite_swap (X e) (Y e) s.1) (nonzero_composition (X h.0) (Y h.0) h.1)
+        (λ n q. h.1 (opposite_swap (Y h.0) (X h.0) q)) in
         (z.0, in_least_members z.0 z.1 ((h.0, z.4), z.2), z.3, z.5);
   }
 
@@ -158,13 +177,16 @@ module _ (Ls : List SignVector) (E : List ℕ) (distinct : IsDistinct E) (suppor
 
   -- each member of the list is a covector
   pub member_covector : (X : SignVector) → L X → IsCovector E covectors_map X
-  member_covector X x = covector_from_parts E (IsCircuit E covectors_map) (IsCocircuit covectors_map) (dual_pair E covectors_map covectors_chirotope) X (λ e n.
+  member_covector X x = covector_from_parts E (IsCircuit E covectors_map) (IsCocircuit covectors_map)
+      (dual_pair E covectors_map covectors_chirotope) X (λ e n.
       let y = decompose Ls E supported ax.negation eliminated X x e n in
       (y.0, least_cocircuit y.0 (in_least_members y.0 y.1 ((e, subst IsNonzero (sym y.3) n), y.4)), y.3, y.2))
 
-  composed : (X : SignVector) (Ys : List SignVector) → EachVector (IsConforming (IsCocircuit covectors_map) X) Ys → L (composition_of Ys)
+  composed : (X : SignVector) (Ys : List SignVector) → EachVector (IsConforming (IsCocircuit covectors_map) X) Ys
+      → L (composition_of Ys)
   composed X [] d = ax.zero
-  composed X (Y ∷ Ys) d = ax.composition_closed Y (composition_of Ys) (least_member_in Y (cocircuit_least Y d.0.0)).0 (composed X Ys d.1)
+  composed X (Y ∷ Ys) d = ax.composition_closed Y (composition_of Ys) (least_member_in Y (cocircuit_least Y d.0.0)).0
+      (composed X Ys d.1)
 
   -- each covector is a member of the list
   pub covector_member : (X : SignVector) → IsCovector E covectors_map X → L X

@@ -1,8 +1,8 @@
 -- Pairs of sets of sign vectors that are orthogonal to each other, and rich enough.
 --
 -- Main definitions: IsDualPair, what the circuits and the cocircuits of an oriented matroid have in common.
--- Main results: the pair in the other order (dual_pair_swapped); the circuits and the cocircuits of a chirotope are such a pair (dual_pair,
--- swapped_pair).
+-- Main results: the pair in the other order (dual_pair_swapped); the circuits and the cocircuits of a chirotope are
+-- such a pair (dual_pair, swapped_pair).
 -- Reference: Björner, Las Vergnas, Sturmfels, White and Ziegler, Oriented Matroids, chapter 3.
 use Rattle.std.specs.Prelude.{ℕ, ◌≡◌, ◌≢◌, refl, ◌⊎◌, List, cond, nat_eq, Bool, true, false}
 use Rattle.std.proofs.Common.{inl, inr, subst, ⊎_elim}
@@ -16,7 +16,8 @@ use Rattle.om_laws.specs.Vectors.{SignVector, negated, Orthogonal, HasNonzero, I
 use Rattle.om_laws.proofs.VectorLaws.{orthogonal_sym}
 use Rattle.om_laws.specs.Chirotope.{IsChirotope}
 use Rattle.om_laws.specs.Circuits.{IsCircuit, IsCocircuit}
-use Rattle.om_laws.proofs.BaseLaws.{circuit_negated, cocircuit_negated, circuit_supported, cocircuit_supported, circuit_orthogonal, two_colours, circuit_through_two, cocircuit_through_two}
+use Rattle.om_laws.proofs.BaseLaws.{circuit_negated, cocircuit_negated, circuit_supported, cocircuit_supported}
+use Rattle.om_laws.proofs.BaseLaws.{circuit_orthogonal, two_colours, circuit_through_two, cocircuit_through_two}
 
 -- two sets of sign vectors on a list of elements: closed under negation, orthogonal to each other, and rich enough
 pub record IsDualPair (E : List ℕ) (C D : SignVector → Type 0) : Type 0 where
@@ -27,9 +28,15 @@ pub record IsDualPair (E : List ℕ) (C D : SignVector → Type 0) : Type 0 wher
   pub circuit_supported : (X : SignVector) → C X → IsSupportedOn E X
   pub cocircuit_supported : (Y : SignVector) → D Y → IsSupportedOn E Y
   pub orthogonal : (X Y : SignVector) → C X → D Y → Orthogonal X Y
-  pub two_colours : (e : ℕ) → IsMember e E → (b : ℕ → Bool) → b e ≡ false → ((X : SignVector) × C X × IsNonzero (X e) × ((g : ℕ) → g ≢ e → b g ≡ false → X g ≡ Zero)) ⊎ ((Y : SignVector) × D Y × IsNonzero (Y e) × ((g : ℕ) → b g ≡ true → Y g ≡ Zero))
-  pub circuit_through_two : (Y : SignVector) → D Y → (e h : ℕ) → h ≢ e → IsNonzero (Y e) → IsNonzero (Y h) → (U : SignVector) × C U × IsNonzero (U e) × IsNonzero (U h) × ((g : ℕ) → g ≢ e → g ≢ h → product (U g) (Y g) ≡ Zero)
-  pub cocircuit_through_two : (Y : SignVector) → C Y → (e h : ℕ) → h ≢ e → IsNonzero (Y e) → IsNonzero (Y h) → (U : SignVector) × D U × IsNonzero (U e) × IsNonzero (U h) × ((g : ℕ) → g ≢ e → g ≢ h → product (U g) (Y g) ≡ Zero)
+  pub two_colours : (e : ℕ) → IsMember e E → (b : ℕ → Bool) → b e ≡ false
+      → ((X : SignVector) × C X × IsNonzero (X e) × ((g : ℕ) → g ≢ e → b g ≡ false → X g ≡ Zero))
+      ⊎ ((Y : SignVector) × D Y × IsNonzero (Y e) × ((g : ℕ) → b g ≡ true → Y g ≡ Zero))
+  pub circuit_through_two : (Y : SignVector) → D Y → (e h : ℕ) → h ≢ e → IsNonzero (Y e) → IsNonzero (Y h)
+      → (U : SignVector) × C U × IsNonzero (U e) × IsNonzero (U h)
+      × ((g : ℕ) → g ≢ e → g ≢ h → product (U g) (Y g) ≡ Zero)
+  pub cocircuit_through_two : (Y : SignVector) → C Y → (e h : ℕ) → h ≢ e → IsNonzero (Y e) → IsNonzero (Y h)
+      → (U : SignVector) × D U × IsNonzero (U e) × IsNonzero (U h)
+      × ((g : ℕ) → g ≢ e → g ≢ h → product (U g) (Y g) ≡ Zero)
 
 -- off the set and off e
 abbrev pub off_both : ℕ → (ℕ → Bool) → ℕ → Bool

@@ -8,12 +8,16 @@ use Rattle.om_signs.specs.declared.sign.Sign.{Sign}
 use Rattle.om_laws.specs.Members.{IsMember}
 use Rattle.om_laws.specs.Tuples.{IsAlternating}
 use Rattle.om_laws.specs.Bases.{IsBase, HasExchange, HasIncreasingExchange}
-use Rattle.om_laws.proofs.MemberLaws.{distinct_drop, member_append, member_drop, member_left, member_or_not, member_right}
-use Rattle.om_laws.proofs.TupleLaws.{neighbours_zero, nonzero_distinct, nonzero_from_end, nonzero_swapped, nonzero_to_end}
+use Rattle.om_laws.proofs.MemberLaws.{distinct_drop, member_append, member_drop, member_left, member_or_not}
+use Rattle.om_laws.proofs.MemberLaws.{member_right}
+use Rattle.om_laws.proofs.TupleLaws.{neighbours_zero, nonzero_distinct, nonzero_from_end, nonzero_swapped}
+use Rattle.om_laws.proofs.TupleLaws.{nonzero_to_end}
 use Rattle.om_laws.proofs.SortingLaws.{by_sorting}
 
 member_swapped : (g x y : ℕ) (cs bs : List ℕ) → IsMember g (cs ++ x ∷ y ∷ bs) → IsMember g (cs ++ y ∷ x ∷ bs)
-member_swapped g x y cs bs m = ⊎_elim (λ k. member_left g cs (y ∷ x ∷ bs) k) (λ k. member_right g cs (y ∷ x ∷ bs) (turned k)) (member_append g cs (x ∷ y ∷ bs) m)
+member_swapped g x y cs bs m =
+    ⊎_elim (λ k. member_left g cs (y ∷ x ∷ bs) k) (λ k. member_right g cs (y ∷ x ∷ bs) (turned k))
+    (member_append g cs (x ∷ y ∷ bs) m)
   where
     turned : IsMember g (x ∷ y ∷ bs) → IsMember g (y ∷ x ∷ bs)
     turned (inl q) = inr (inl q)
@@ -23,9 +27,11 @@ member_swapped g x y cs bs m = ⊎_elim (λ k. member_left g cs (y ∷ x ∷ bs)
 module _ (chi : List ℕ → Sign) (alt : IsAlternating chi) where
   -- where a and e make a base, and c is one, some element of c makes one with a
   abbrev IsExchanged : List ℕ → List ℕ → Type 0
-  IsExchanged a c = (e : ℕ) → IsBase chi (a ++ e ∷ []) → IsBase chi c → (h : ℕ) × IsMember h c × IsBase chi (a ++ h ∷ [])
+  IsExchanged a c = (e : ℕ) → IsBase chi (a ++ e ∷ []) → IsBase chi c → (h : ℕ) × IsMember h c
+      × IsBase chi (a ++ h ∷ [])
 
-  base_swapped : (x y : ℕ) (cs bs : List ℕ) (e : ℕ) → IsBase chi ((cs ++ x ∷ y ∷ bs) ++ e ∷ []) → IsBase chi ((cs ++ y ∷ x ∷ bs) ++ e ∷ [])
+  base_swapped : (x y : ℕ) (cs bs : List ℕ) (e : ℕ) → IsBase chi ((cs ++ x ∷ y ∷ bs) ++ e ∷ [])
+      → IsBase chi ((cs ++ y ∷ x ∷ bs) ++ e ∷ [])
   base_swapped x y cs bs e n =
       subst (IsBase chi) (sym (append_assoc cs (y ∷ x ∷ bs) (e ∷ [])))
       (nonzero_swapped chi alt cs x y (bs ++ e ∷ []) (subst (IsBase chi) (append_assoc cs (x ∷ y ∷ bs) (e ∷ [])) n))
@@ -36,9 +42,11 @@ module _ (chi : List ℕ → Sign) (alt : IsAlternating chi) where
       (k.0, k.1, base_swapped x y cs bs k.0 k.2)
 
   first_repeated : (x : ℕ) (cs bs c : List ℕ) → IsExchanged (cs ++ x ∷ x ∷ bs) c
-  first_repeated x cs bs c e na nc = absurd (na (ap chi (append_assoc cs (x ∷ x ∷ bs) (e ∷ [])) ∙ neighbours_zero chi alt x cs (bs ++ e ∷ [])))
+  first_repeated x cs bs c e na nc =
+      absurd (na (ap chi (append_assoc cs (x ∷ x ∷ bs) (e ∷ [])) ∙ neighbours_zero chi alt x cs (bs ++ e ∷ [])))
 
-  second_swapped : (a : List ℕ) (x y : ℕ) (cs bs : List ℕ) → IsExchanged a (cs ++ x ∷ y ∷ bs) → IsExchanged a (cs ++ y ∷ x ∷ bs)
+  second_swapped : (a : List ℕ) (x y : ℕ) (cs bs : List ℕ) → IsExchanged a (cs ++ x ∷ y ∷ bs)
+      → IsExchanged a (cs ++ y ∷ x ∷ bs)
   second_swapped a x y cs bs ex e na nc =
       let k = ex e na (nonzero_swapped chi alt cs y x bs nc) in
       (k.0, member_swapped k.0 x y cs bs k.1, k.2)
@@ -59,9 +67,11 @@ module _ (chi : List ℕ → Sign) (alt : IsAlternating chi) where
       let nh = nonzero_from_end chi alt u v k.0 k.2 in (
         k.0,
         k.1,
-        λ m. ⊎_elim (λ q. out (subst (λ z. IsMember z c) q k.1)) (λ j. (distinct_drop u k.0 v (nonzero_distinct chi alt (u ++ k.0 ∷ v) nh)).1 j) (member_drop k.0 u e v m),
+        λ m. ⊎_elim (λ q. out (subst (λ z. IsMember z c) q k.1))
+            (λ j. (distinct_drop u k.0 v (nonzero_distinct chi alt (u ++ k.0 ∷ v) nh)).1 j) (member_drop k.0 u e v m),
         nh,
       )
 
   pub exchange_of_increasing : HasExchange chi → HasIncreasingExchange chi
-  exchange_of_increasing ex a c e i j na nc = ⊎_elim (λ m. (e, m, na)) (λ n. let k = ex a e [] c na nc n in (k.0, k.1, k.3)) (member_or_not e c)
+  exchange_of_increasing ex a c e i j na nc =
+      ⊎_elim (λ m. (e, m, na)) (λ n. let k = ex a e [] c na nc n in (k.0, k.1, k.3)) (member_or_not e c)

@@ -1,6 +1,7 @@
 -- Each set of cocircuits with a base has a chirotope.
 --
--- Main definitions: IsPermutationSign, the sign of a permutation of a base as an alternating map; CocircuitMap, a map that fits the set.
+-- Main definitions: IsPermutationSign, the sign of a permutation of a base as an alternating map; CocircuitMap, a map
+-- that fits the set.
 -- Main results: map_of_cocircuits.
 -- Reference: Björner, Las Vergnas, Sturmfels, White and Ziegler, Oriented Matroids, section 3.5.
 use Rattle.std.specs.Prelude.{◌≡◌, ◌≢◌, ◌⊎◌, ℕ, false, cond, List, [], ◌∷◌, ◌++◌, refl}
@@ -10,9 +11,11 @@ use Rattle.om_signs.specs.declared.sign.Sign.{Sign}
 use Rattle.om_signs.specs.declared.sign.Sign.TheVariants.{Zero, Plus}
 use Rattle.om_signs.specs.Sign.{opposite, product}
 use Rattle.om_laws.specs.Signs.{IsNonzero}
-use Rattle.om_laws.proofs.SignLaws.{opposite-opposite, plus_nonzero, product_zero_left, product_zero_right, zero_not_nonzero, zero_or_nonzero, zeros_opposite}
+use Rattle.om_laws.proofs.SignLaws.{opposite-opposite, plus_nonzero, product_zero_left, product_zero_right}
+use Rattle.om_laws.proofs.SignLaws.{zero_not_nonzero, zero_or_nonzero, zeros_opposite}
 use Rattle.om_laws.specs.Members.{IsDistinct, IsMember}
-use Rattle.om_laws.proofs.MemberLaws.{distinct_drop, member_append, member_drop, member_insert, member_last, member_left, member_middle, member_or_not, member_right}
+use Rattle.om_laws.proofs.MemberLaws.{distinct_drop, member_append, member_drop, member_insert, member_last}
+use Rattle.om_laws.proofs.MemberLaws.{member_left, member_middle, member_or_not, member_right}
 use Rattle.om_laws.proofs.BlockLaws.{same_members}
 use Rattle.om_laws.specs.Vectors.{SignVector}
 use Rattle.om_laws.proofs.ExistenceHelpers.{Vanishes}
@@ -26,7 +29,8 @@ use Rattle.om_laws.proofs.Growth.{AreOver, IsPartialMap, first_place, grown_over
 use Rattle.om_laws.proofs.Construction.{made_relations, row_is_member}
 
 -- expansion along b, the first place of b moved to the front
-module _ (b : ℕ) (psi : List ℕ → Sign) (alt : IsAlternating psi) (zero : (a : List ℕ) → IsMember b a → psi a ≡ Zero) where
+module _ (b : ℕ) (psi : List ℕ → Sign) (alt : IsAlternating psi)
+    (zero : (a : List ℕ) → IsMember b a → psi a ≡ Zero) where
   pick : List ℕ → List ℕ → Sign
   pick pre [] = Zero
   pick pre (a ∷ t) = cond (eqb a b) (negated_for pre (psi (pre ++ t))) (pick (pre ++ a ∷ []) t)
@@ -34,20 +38,23 @@ module _ (b : ℕ) (psi : List ℕ → Sign) (alt : IsAlternating psi) (zero : (
   pub expand : List ℕ → Sign
   expand t = pick [] t
 
-  pick_at : (u pre v : List ℕ) → (IsMember b u → ⊥) → pick pre (u ++ b ∷ v) ≡ negated_for (pre ++ u) (psi ((pre ++ u) ++ v))
+  pick_at : (u pre v : List ℕ) → (IsMember b u → ⊥) → pick pre (u ++ b ∷ v)
+      ≡ negated_for (pre ++ u) (psi ((pre ++ u) ++ v))
   unfolding pick
   pick_at [] pre v n = rw (eq-eqb b b refl, append-nil pre)
   pick_at (c ∷ u) pre v n =
       let e : eqb c b ≡ false = ne_eqb c b (λ q. n (inl (sym q))) in
       let h = pick_at u (pre ++ c ∷ []) v (λ m. n (inr m)) in
-      ap (λ z. cond z (negated_for pre (psi (pre ++ (u ++ b ∷ v)))) (pick (pre ++ c ∷ []) (u ++ b ∷ v))) e ∙ h ∙ ap (λ l. negated_for l (psi (l ++ v))) (append_assoc pre (c ∷ []) u)
+      ap (λ z. cond z (negated_for pre (psi (pre ++ (u ++ b ∷ v)))) (pick (pre ++ c ∷ []) (u ++ b ∷ v))) e ∙ h
+      ∙ ap (λ l. negated_for l (psi (l ++ v))) (append_assoc pre (c ∷ []) u)
 
   pick_no : (t pre : List ℕ) → (IsMember b t → ⊥) → pick pre t ≡ Zero
   unfolding pick
   pick_no [] pre n = refl
   pick_no (c ∷ t) pre n =
       let e : eqb c b ≡ false = ne_eqb c b (λ q. n (inl (sym q))) in
-      ap (λ z. cond z (negated_for pre (psi (pre ++ t))) (pick (pre ++ c ∷ []) t)) e ∙ pick_no t (pre ++ c ∷ []) (λ m. n (inr m))
+      ap (λ z. cond z (negated_for pre (psi (pre ++ t))) (pick (pre ++ c ∷ []) t)) e
+      ∙ pick_no t (pre ++ c ∷ []) (λ m. n (inr m))
 
   pub expand_at : (u v : List ℕ) → (IsMember b u → ⊥) → expand (u ++ b ∷ v) ≡ negated_for u (psi (u ++ v))
   unfolding expand
@@ -57,31 +64,45 @@ module _ (b : ℕ) (psi : List ℕ → Sign) (alt : IsAlternating psi) (zero : (
   unfolding expand
   expand_no t n = pick_no t [] n
 
-  front_b : (u : List ℕ) (x y : ℕ) (v : List ℕ) → (IsMember b u → ⊥) → x ≡ b → y ≢ b → expand (u ++ x ∷ y ∷ v) ≡ opposite (expand (u ++ y ∷ x ∷ v))
+  front_b : (u : List ℕ) (x y : ℕ) (v : List ℕ) → (IsMember b u → ⊥) → x ≡ b → y ≢ b
+      → expand (u ++ x ∷ y ∷ v) ≡ opposite (expand (u ++ y ∷ x ∷ v))
   front_b u x y v n q ny =
-      let l : expand (u ++ x ∷ y ∷ v) ≡ negated_for u (psi (u ++ y ∷ v)) = ap (λ z. expand (u ++ z ∷ y ∷ v)) q ∙ expand_at u (y ∷ v) n in
+      let l : expand (u ++ x ∷ y ∷ v) ≡ negated_for u (psi (u ++ y ∷ v)) = ap (λ z. expand (u ++ z ∷ y ∷ v)) q
+      ∙ expand_at u (y ∷ v) n in
       let nuy : IsMember b (u ++ y ∷ []) → ⊥ = λ m. ⊎_elim n (λ k. ny (sym k)) (member_last b y u m) in
       let r : expand (u ++ y ∷ x ∷ v) ≡ opposite (negated_for u (psi (u ++ y ∷ v))) =
-      ap (λ z. expand (u ++ y ∷ z ∷ v)) q ∙ ap expand (sym (append_assoc u (y ∷ []) (b ∷ v))) ∙ expand_at (u ++ y ∷ []) v nuy ∙ negated_for_last u y (psi ((u ++ y ∷ []) ++ v)) ∙ ap (λ z. opposite (negated_for u (psi z))) (append_assoc u (y ∷ []) v) in
+      ap (λ z. expand (u ++ y ∷ z ∷ v)) q ∙ ap expand (sym (append_assoc u (y ∷ []) (b ∷ v)))
+      ∙ expand_at (u ++ y ∷ []) v nuy ∙ negated_for_last u y (psi ((u ++ y ∷ []) ++ v))
+      ∙ ap (λ z. opposite (negated_for u (psi z))) (append_assoc u (y ∷ []) v) in
       l ∙ sym (opposite-opposite (negated_for u (psi (u ++ y ∷ v)))) ∙ ap opposite (sym r)
 
   twice_b : (u : List ℕ) (x y : ℕ) (v : List ℕ) → (IsMember b u → ⊥) → x ≡ b → y ≡ b → expand (u ++ x ∷ y ∷ v) ≡ Zero
   twice_b u x y v n qx qy =
-      ap (λ k. expand (u ++ k ∷ y ∷ v)) qx ∙ expand_at u (y ∷ v) n ∙ ap (negated_for u) (zero (u ++ y ∷ v) (member_right b u (y ∷ v) (inl (sym qy)))) ∙ negated_for_zero u
+      ap (λ k. expand (u ++ k ∷ y ∷ v)) qx ∙ expand_at u (y ∷ v) n
+      ∙ ap (negated_for u) (zero (u ++ y ∷ v) (member_right b u (y ∷ v) (inl (sym qy)))) ∙ negated_for_zero u
 
-  in_u : (u1 u2 : List ℕ) (x y : ℕ) (v : List ℕ) → (IsMember b u1 → ⊥) → expand ((u1 ++ b ∷ u2) ++ x ∷ y ∷ v) ≡ opposite (expand ((u1 ++ b ∷ u2) ++ y ∷ x ∷ v))
+  in_u : (u1 u2 : List ℕ) (x y : ℕ) (v : List ℕ) → (IsMember b u1 → ⊥)
+      → expand ((u1 ++ b ∷ u2) ++ x ∷ y ∷ v) ≡ opposite (expand ((u1 ++ b ∷ u2) ++ y ∷ x ∷ v))
   in_u u1 u2 x y v n =
-      let at : (i j : ℕ) → expand ((u1 ++ b ∷ u2) ++ i ∷ j ∷ v) ≡ negated_for u1 (psi ((u1 ++ u2) ++ i ∷ j ∷ v)) = λ i j.
-      ap expand (append_assoc u1 (b ∷ u2) (i ∷ j ∷ v)) ∙ expand_at u1 (u2 ++ i ∷ j ∷ v) n ∙ ap (λ l. negated_for u1 (psi l)) (sym (append_assoc u1 u2 (i ∷ j ∷ v))) in
-      at x y ∙ ap (negated_for u1) (alt y x (u1 ++ u2) v) ∙ negated_for_opposite u1 (psi ((u1 ++ u2) ++ y ∷ x ∷ v)) ∙ ap opposite (sym (at y x))
+      let at : (i j : ℕ) → expand ((u1 ++ b ∷ u2) ++ i ∷ j ∷ v) ≡ negated_for u1 (psi ((u1 ++ u2) ++ i ∷ j ∷ v)) =
+      λ i j.
+      ap expand (append_assoc u1 (b ∷ u2) (i ∷ j ∷ v)) ∙ expand_at u1 (u2 ++ i ∷ j ∷ v) n
+      ∙ ap (λ l. negated_for u1 (psi l)) (sym (append_assoc u1 u2 (i ∷ j ∷ v))) in
+      at x y ∙ ap (negated_for u1) (alt y x (u1 ++ u2) v) ∙ negated_for_opposite u1 (psi ((u1 ++ u2) ++ y ∷ x ∷ v))
+      ∙ ap opposite (sym (at y x))
 
-  in_v : (u : List ℕ) (x y : ℕ) (v1 v2 : List ℕ) → (IsMember b u → ⊥) → x ≢ b → y ≢ b → (IsMember b v1 → ⊥) → expand (u ++ x ∷ y ∷ (v1 ++ b ∷ v2)) ≡ opposite (expand (u ++ y ∷ x ∷ (v1 ++ b ∷ v2)))
+  in_v : (u : List ℕ) (x y : ℕ) (v1 v2 : List ℕ) → (IsMember b u → ⊥) → x ≢ b → y ≢ b → (IsMember b v1 → ⊥)
+      → expand (u ++ x ∷ y ∷ (v1 ++ b ∷ v2)) ≡ opposite (expand (u ++ y ∷ x ∷ (v1 ++ b ∷ v2)))
   in_v u x y v1 v2 nu nx ny nv =
       let out : (i j : ℕ) → i ≢ b → j ≢ b → IsMember b (u ++ i ∷ j ∷ v1) → ⊥ = λ i j ni nj m.
-      ⊎_elim nu (λ h. ⊎_elim (λ q. ni (sym q)) (λ l. ⊎_elim (λ q. nj (sym q)) nv l) h) (member_append b u (i ∷ j ∷ v1) m) in
-      let at : (i j : ℕ) → i ≢ b → j ≢ b → expand (u ++ i ∷ j ∷ (v1 ++ b ∷ v2)) ≡ negated_for (u ++ i ∷ j ∷ v1) (psi (u ++ i ∷ j ∷ (v1 ++ v2))) = λ i j ni nj.
-      ap expand (sym (append_assoc u (i ∷ j ∷ v1) (b ∷ v2))) ∙ expand_at (u ++ i ∷ j ∷ v1) v2 (out i j ni nj) ∙ ap (λ l. negated_for (u ++ i ∷ j ∷ v1) (psi l)) (append_assoc u (i ∷ j ∷ v1) v2) in
-      at x y nx ny ∙ ap (negated_for (u ++ x ∷ y ∷ v1)) (alt y x u (v1 ++ v2)) ∙ negated_for_opposite (u ++ x ∷ y ∷ v1) (psi (u ++ y ∷ x ∷ (v1 ++ v2)))
+      ⊎_elim nu (λ h. ⊎_elim (λ q. ni (sym q)) (λ l. ⊎_elim (λ q. nj (sym q)) nv l) h)
+      (member_append b u (i ∷ j ∷ v1) m) in
+      let at : (i j : ℕ) → i ≢ b → j ≢ b → expand (u ++ i ∷ j ∷ (v1 ++ b ∷ v2))
+      ≡ negated_for (u ++ i ∷ j ∷ v1) (psi (u ++ i ∷ j ∷ (v1 ++ v2))) = λ i j ni nj.
+      ap expand (sym (append_assoc u (i ∷ j ∷ v1) (b ∷ v2))) ∙ expand_at (u ++ i ∷ j ∷ v1) v2 (out i j ni nj)
+      ∙ ap (λ l. negated_for (u ++ i ∷ j ∷ v1) (psi l)) (append_assoc u (i ∷ j ∷ v1) v2) in
+      at x y nx ny ∙ ap (negated_for (u ++ x ∷ y ∷ v1)) (alt y x u (v1 ++ v2))
+      ∙ negated_for_opposite (u ++ x ∷ y ∷ v1) (psi (u ++ y ∷ x ∷ (v1 ++ v2)))
       ∙ ap opposite (negated_for_swap u x y v1 (psi (u ++ y ∷ x ∷ (v1 ++ v2))) ∙ sym (at y x ny nx))
 
   pub expand_swap : (u : List ℕ) (x y : ℕ) (v : List ℕ) → expand (u ++ x ∷ y ∷ v) ≡ opposite (expand (u ++ y ∷ x ∷ v))
@@ -89,38 +110,49 @@ module _ (b : ℕ) (psi : List ℕ → Sign) (alt : IsAlternating psi) (zero : (
       ⊎_elim
       (λ nu. ⊎_elim
       (λ qx. ⊎_elim
-      (λ qy. zeros_opposite (expand (u ++ x ∷ y ∷ v)) (expand (u ++ y ∷ x ∷ v)) (twice_b u x y v nu qx qy) (twice_b u y x v nu qy qx))
+      (λ qy. zeros_opposite (expand (u ++ x ∷ y ∷ v)) (expand (u ++ y ∷ x ∷ v)) (twice_b u x y v nu qx qy)
+      (twice_b u y x v nu qy qx))
       (λ ny. front_b u x y v nu qx ny) (cases_eq y b))
       (λ nx. ⊎_elim
       (λ qy. sym (opposite-opposite (expand (u ++ x ∷ y ∷ v))) ∙ ap opposite (sym (front_b u y x v nu qy nx)))
       (λ ny. ⊎_elim
       (λ nv.
-      let out : (i j : ℕ) → i ≢ b → j ≢ b → expand (u ++ i ∷ j ∷ v) ≡ Zero = λ i j ni nj. expand_no (u ++ i ∷ j ∷ v) (λ m.
-      ⊎_elim nu (λ h. ⊎_elim (λ q. ni (sym q)) (λ l. ⊎_elim (λ q. nj (sym q)) nv l) h) (member_append b u (i ∷ j ∷ v) m)) in
+      let out : (i j : ℕ) → i ≢ b → j ≢ b → expand (u ++ i ∷ j ∷ v) ≡ Zero =
+      λ i j ni nj. expand_no (u ++ i ∷ j ∷ v) (λ m.
+      ⊎_elim nu (λ h. ⊎_elim (λ q. ni (sym q)) (λ l. ⊎_elim (λ q. nj (sym q)) nv l) h)
+      (member_append b u (i ∷ j ∷ v) m)) in
       zeros_opposite (expand (u ++ x ∷ y ∷ v)) (expand (u ++ y ∷ x ∷ v)) (out x y nx ny) (out y x ny nx))
-      (λ k. subst (λ l. expand (u ++ x ∷ y ∷ l) ≡ opposite (expand (u ++ y ∷ x ∷ l))) (sym k.2) (in_v u x y k.0 k.1 nu nx ny k.3))
+      (λ k. subst (λ l. expand (u ++ x ∷ y ∷ l) ≡ opposite (expand (u ++ y ∷ x ∷ l))) (sym k.2)
+      (in_v u x y k.0 k.1 nu nx ny k.3))
       (first_place b v))
       (cases_eq y b))
       (cases_eq x b))
-      (λ k. subst (λ l. expand (l ++ x ∷ y ∷ v) ≡ opposite (expand (l ++ y ∷ x ∷ v))) (sym k.2) (in_u k.0 k.1 x y v k.3))
+      (λ k. subst (λ l. expand (l ++ x ∷ y ∷ v) ≡ opposite (expand (l ++ y ∷ x ∷ v))) (sym k.2)
+      (in_u k.0 k.1 x y v k.3))
       (first_place b u)
 
   expand_alt : IsAlternating expand
   expand_alt x y cs bs = expand_swap cs y x bs
 
-  expand_over : (l : List ℕ) → ((t : List ℕ) → IsNonzero (psi t) → (i : ℕ) → IsMember i t → IsMember i l) → (t : List ℕ) → IsNonzero (expand t) → (i : ℕ) → IsMember i t
+  expand_over : (l : List ℕ) → ((t : List ℕ) → IsNonzero (psi t) → (i : ℕ) → IsMember i t → IsMember i l) → (t : List ℕ)
+      → IsNonzero (expand t) → (i : ℕ) → IsMember i t
       → (IsMember b t → ⊥) ⊎ ((u : List ℕ) × (v : List ℕ) × (t ≡ u ++ b ∷ v) × (IsMember b u → ⊥)) → IsMember i (b ∷ l)
   expand_over l h t n i m (inl k) = absurd (zero_not_nonzero (expand t) (expand_no t k) n)
   expand_over l h t n i m (inr k) =
-      let np = nonzero_from_negated_for k.0 (psi (k.0 ++ k.1)) (subst IsNonzero (ap expand k.2 ∙ expand_at k.0 k.1 k.3) n) in
+      let np = nonzero_from_negated_for k.0 (psi (k.0 ++ k.1))
+      (subst IsNonzero (ap expand k.2 ∙ expand_at k.0 k.1 k.3) n) in
       ⊎_elim (λ q. inl q) (λ j. inr (h (k.0 ++ k.1) np i j)) (member_drop i k.0 b k.1 (subst (IsMember i) k.2 m))
 
-  expand_all : (l : List ℕ) → ((t : List ℕ) → IsNonzero (psi t) → (i : ℕ) → IsMember i l → IsMember i t) → (t : List ℕ) → IsNonzero (expand t) → (i : ℕ) → IsMember i (b ∷ l)
+  expand_all : (l : List ℕ) → ((t : List ℕ) → IsNonzero (psi t) → (i : ℕ) → IsMember i l → IsMember i t) → (t : List ℕ)
+      → IsNonzero (expand t) → (i : ℕ) → IsMember i (b ∷ l)
       → (IsMember b t → ⊥) ⊎ ((u : List ℕ) × (v : List ℕ) × (t ≡ u ++ b ∷ v) × (IsMember b u → ⊥)) → IsMember i t
   expand_all l h t n i m (inl k) = absurd (zero_not_nonzero (expand t) (expand_no t k) n)
   expand_all l h t n i m (inr k) =
-      let np = nonzero_from_negated_for k.0 (psi (k.0 ++ k.1)) (subst IsNonzero (ap expand k.2 ∙ expand_at k.0 k.1 k.3) n) in
-      subst (IsMember i) (sym k.2) (⊎_elim (λ q. subst (λ z. IsMember z (k.0 ++ b ∷ k.1)) (sym q) (member_middle b k.0 k.1)) (λ j. member_insert i k.0 b k.1 (h (k.0 ++ k.1) np i j)) m)
+      let np = nonzero_from_negated_for k.0 (psi (k.0 ++ k.1))
+      (subst IsNonzero (ap expand k.2 ∙ expand_at k.0 k.1 k.3) n) in
+      subst (IsMember i) (sym k.2)
+      (⊎_elim (λ q. subst (λ z. IsMember z (k.0 ++ b ∷ k.1)) (sym q) (member_middle b k.0 k.1))
+      (λ j. member_insert i k.0 b k.1 (h (k.0 ++ k.1) np i j)) m)
 
 -- the sign of a permutation of a list without repeats, as an alternating map
 record IsPermutationSign (l : List ℕ) : Type 0 where
@@ -146,13 +178,15 @@ empty_over (a ∷ t) n i m = absurd (n refl)
 
 empty_start : IsPermutationSign []
 unfolding empty_sign
-empty_start = record { map = empty_sign; alt = empty_sign_alt; over = empty_over; all = λ t n i m. absurd m; at = plus_nonzero }
+empty_start =
+    record { map = empty_sign; alt = empty_sign_alt; over = empty_over; all = λ t n i m. absurd m; at = plus_nonzero }
 
 permutation_sign : (l : List ℕ) → IsDistinct l → IsPermutationSign l
 permutation_sign [] r = empty_start
 permutation_sign (b ∷ l) r =
     let s = permutation_sign l r.1 in
-    let zero : (a : List ℕ) → IsMember b a → s.map a ≡ Zero = λ a m. ⊎_elim (λ q. q) (λ n. absurd (r.0 (s.over a n b m))) (zero_or_nonzero (s.map a)) in
+    let zero : (a : List ℕ) → IsMember b a → s.map a ≡ Zero =
+    λ a m. ⊎_elim (λ q. q) (λ n. absurd (r.0 (s.over a n b m))) (zero_or_nonzero (s.map a)) in
     record {
       map = expand b s.map s.alt zero;
       alt = expand_alt b s.map s.alt zero;
@@ -173,14 +207,17 @@ dec_over E (a ∷ t) =
     (member_or_not a E)
 
 -- a map made 0 on lists that leave the ground
-restrict_go : (g : List ℕ → Sign) (E t : List ℕ) → ((i : ℕ) → IsMember i t → IsMember i E) ⊎ (((i : ℕ) → IsMember i t → IsMember i E) → ⊥) → Sign
+restrict_go : (g : List ℕ → Sign) (E t : List ℕ) → ((i : ℕ) → IsMember i t → IsMember i E)
+    ⊎ (((i : ℕ) → IsMember i t → IsMember i E) → ⊥) → Sign
 restrict_go g E t (inl k) = g t
 restrict_go g E t (inr k) = Zero
 
 restrict : (List ℕ → Sign) → List ℕ → List ℕ → Sign
 restrict g E t = restrict_go g E t (dec_over E t)
 
-restrict_in_go : (g : List ℕ → Sign) (E t : List ℕ) (d : ((i : ℕ) → IsMember i t → IsMember i E) ⊎ (((i : ℕ) → IsMember i t → IsMember i E) → ⊥)) → ((i : ℕ) → IsMember i t → IsMember i E) → restrict_go g E t d ≡ g t
+restrict_in_go : (g : List ℕ → Sign) (E t : List ℕ)
+    (d : ((i : ℕ) → IsMember i t → IsMember i E) ⊎ (((i : ℕ) → IsMember i t → IsMember i E) → ⊥))
+    → ((i : ℕ) → IsMember i t → IsMember i E) → restrict_go g E t d ≡ g t
 unfolding restrict_go
 restrict_in_go g E t (inl k) o = refl
 restrict_in_go g E t (inr k) o = absurd (k o)
@@ -189,18 +226,23 @@ restrict_in : (g : List ℕ → Sign) (E t : List ℕ) → ((i : ℕ) → IsMemb
 unfolding restrict
 restrict_in g E t o = restrict_in_go g E t (dec_over E t) o
 
-restrict_out_go : (g : List ℕ → Sign) (E t : List ℕ) (d : ((i : ℕ) → IsMember i t → IsMember i E) ⊎ (((i : ℕ) → IsMember i t → IsMember i E) → ⊥)) → (((i : ℕ) → IsMember i t → IsMember i E) → ⊥) → restrict_go g E t d ≡ Zero
+restrict_out_go : (g : List ℕ → Sign) (E t : List ℕ)
+    (d : ((i : ℕ) → IsMember i t → IsMember i E) ⊎ (((i : ℕ) → IsMember i t → IsMember i E) → ⊥))
+    → (((i : ℕ) → IsMember i t → IsMember i E) → ⊥) → restrict_go g E t d ≡ Zero
 unfolding restrict_go
 restrict_out_go g E t (inl k) o = absurd (o k)
 restrict_out_go g E t (inr k) o = refl
 
-restrict_out : (g : List ℕ → Sign) (E t : List ℕ) → (((i : ℕ) → IsMember i t → IsMember i E) → ⊥) → restrict g E t ≡ Zero
+restrict_out : (g : List ℕ → Sign) (E t : List ℕ) → (((i : ℕ) → IsMember i t → IsMember i E) → ⊥)
+    → restrict g E t ≡ Zero
 unfolding restrict
 restrict_out g E t o = restrict_out_go g E t (dec_over E t) o
 
 module _ (K : SignVector → Type 0)
     (neg_k : (X : SignVector) → K X → K (λ e. opposite (X e)))
-    (elim_k : (X Y : SignVector) → K X → K Y → (e : ℕ) → IsNonzero (X e) → X e ≡ opposite (Y e) → (h : ℕ) → (X h ≡ opposite (Y h) → ⊥) → (Z : SignVector) × K Z × (Z e ≡ Zero) × ((g : ℕ) → IsNonzero (Z g) → (Z g ≡ X g) ⊎ (Z g ≡ Y g)))
+    (elim_k : (X Y : SignVector) → K X → K Y → (e : ℕ) → IsNonzero (X e) → X e ≡ opposite (Y e) → (h : ℕ)
+    → (X h ≡ opposite (Y h) → ⊥) → (Z : SignVector) × K Z × (Z e ≡ Zero)
+    × ((g : ℕ) → IsNonzero (Z g) → (Z g ≡ X g) ⊎ (Z g ≡ Y g)))
     (extends_or_not : (a : List ℕ) → ExtendsToBase K neg_k elim_k a ⊎ (ExtendsToBase K neg_k elim_k a → ⊥))
     (b0 : List ℕ) (base0 : IsCocircuitBase K neg_k elim_k b0)
     (E : List ℕ) (ground : (X : SignVector) → K X → (e : ℕ) → IsNonzero (X e) → IsMember e E)
@@ -209,7 +251,8 @@ module _ (K : SignVector → Type 0)
     B = IsCocircuitBase K neg_k elim_k
 
     -- a base within another has all of its members
-    base_within : (s t : List ℕ) → B s → B t → ((i : ℕ) → IsMember i s → IsMember i t) → (i : ℕ) → IsMember i t → IsMember i s
+    base_within : (s t : List ℕ) → B s → B t → ((i : ℕ) → IsMember i s → IsMember i t) → (i : ℕ) → IsMember i t
+        → IsMember i s
     base_within s t bs bt sub i m =
         ⊎_elim (λ k. k)
         (λ n.
@@ -222,11 +265,13 @@ module _ (K : SignVector → Type 0)
     base_on t b i m =
         let y = b.2 i m in
         let h = b.1 y.0 y.1 in
-        ⊎_elim (λ q. ground y.0 y.1 i (subst (λ z. IsNonzero (y.0 z)) q h.2)) (λ n. absurd (zero_not_nonzero (y.0 h.0) (y.2 h.0 h.1 n) h.2)) (cases_eq h.0 i)
+        ⊎_elim (λ q. ground y.0 y.1 i (subst (λ z. IsNonzero (y.0 z)) q h.2))
+        (λ n. absurd (zero_not_nonzero (y.0 h.0) (y.2 h.0 h.1 n) h.2)) (cases_eq h.0 i)
 
     module _ (s : IsPermutationSign b0) where
       start_base : (t : List ℕ) → IsNonzero (s.map t) → B t
-      start_base t n = base_from_members K neg_k elim_k b0 t (s.all t n) (s.over t n) (nonzero_distinct s.map s.alt t n) base0
+      start_base t n = base_from_members K neg_k elim_k b0 t (s.all t n) (s.over t n) (nonzero_distinct s.map s.alt t n)
+          base0
 
       base_start : (t : List ℕ) → AreOver K neg_k elim_k extends_or_not b0 base0 b0 t → B t → IsNonzero (s.map t)
       base_start t o b =
@@ -236,13 +281,19 @@ module _ (K : SignVector → Type 0)
       both_zero : (p q y z : Sign) → p ≡ Zero → z ≡ Zero → product p y ≡ product q z
       both_zero p q y z a b = product_zero_left p y a ∙ sym (product_zero_right q z b)
 
-      start_pivot : (a : List ℕ) → AreOver K neg_k elim_k extends_or_not b0 base0 b0 a → (Y : SignVector) → K Y → Vanishes Y a → (e h : ℕ) → IsMember e b0 → IsMember h b0 → product (s.map (a ++ e ∷ [])) (Y h) ≡ product (s.map (a ++ h ∷ [])) (Y e)
+      start_pivot : (a : List ℕ) → AreOver K neg_k elim_k extends_or_not b0 base0 b0 a → (Y : SignVector) → K Y
+          → Vanishes Y a → (e h : ℕ) → IsMember e b0 → IsMember h b0
+          → product (s.map (a ++ e ∷ [])) (Y h) ≡ product (s.map (a ++ h ∷ [])) (Y e)
       start_pivot a o Y ky vy e h me mh =
           let rep : (i : ℕ) → IsMember i a → s.map (a ++ i ∷ []) ≡ Zero = λ i m.
-          ⊎_elim (λ q. q) (λ n. absurd ((distinct_drop a i [] (nonzero_distinct s.map s.alt (a ++ i ∷ []) n)).1 (member_left i a [] m))) (zero_or_nonzero (s.map (a ++ i ∷ []))) in
+          ⊎_elim (λ q. q)
+          (λ n. absurd
+          ((distinct_drop a i [] (nonzero_distinct s.map s.alt (a ++ i ∷ []) n)).1 (member_left i a [] m)))
+          (zero_or_nonzero (s.map (a ++ i ∷ []))) in
           ⊎_elim
           (λ ze. ⊎_elim
-          (λ zh. product_zero_left (s.map (a ++ e ∷ [])) (Y h) ze ∙ sym (product_zero_left (s.map (a ++ h ∷ [])) (Y e) zh))
+          (λ zh. product_zero_left (s.map (a ++ e ∷ [])) (Y h) ze
+          ∙ sym (product_zero_left (s.map (a ++ h ∷ [])) (Y e) zh))
           (λ nh. ⊎_elim
           (λ m. both_zero (s.map (a ++ e ∷ [])) (s.map (a ++ h ∷ [])) (Y h) (Y e) ze (vy e m))
           (λ q. subst (λ z. product (s.map (a ++ e ∷ [])) (Y z) ≡ product (s.map (a ++ z ∷ [])) (Y e)) q refl)
@@ -257,52 +308,84 @@ module _ (K : SignVector → Type 0)
       start_inv : IsPartialMap K neg_k elim_k extends_or_not b0 base0 b0 s.map
       start_inv = ((λ u x y v o. s.alt y x u v), (λ t o n. start_base t n), (λ t o b. base_start t o b), start_pivot)
 
-    -- the map of the set: it alternates, has the relations of all tuples and the bases of the set, and each nonzero vector along a tuple is a member
+    -- the map of the set: it alternates, has the relations of all tuples and the bases of the set, and each nonzero
+    -- vector along a tuple is a member
     pub record CocircuitMap : Type 0 where
       pub map : List ℕ → Sign
       pub alt : IsAlternating map
       pub relations : HasRelations map
       pub value_base : (t : List ℕ) → IsNonzero (map t) → B t
       pub base_value : (t : List ℕ) → B t → IsNonzero (map t)
-      pub row : (a : List ℕ) (h : ℕ) → IsNonzero (map (a ++ h ∷ [])) → (Y : SignVector) × K Y × Vanishes Y a × ((e : ℕ) → Y e ≡ map (a ++ e ∷ []))
+      pub row : (a : List ℕ) (h : ℕ) → IsNonzero (map (a ++ h ∷ [])) → (Y : SignVector) × K Y × Vanishes Y a
+          × ((e : ℕ) → Y e ≡ map (a ++ e ∷ []))
 
-    over_end : (a : List ℕ) (e : ℕ) → ((i : ℕ) → IsMember i a → IsMember i E) → IsMember e E → (i : ℕ) → IsMember i (a ++ e ∷ []) → IsMember i E
+    over_end : (a : List ℕ) (e : ℕ) → ((i : ℕ) → IsMember i a → IsMember i E) → IsMember e E → (i : ℕ)
+        → IsMember i (a ++ e ∷ []) → IsMember i E
     over_end a e o m i k = ⊎_elim (λ j. o i j) (λ q. subst (λ z. IsMember z E) (sym q) m) (member_last i e a k)
 
     zero_row : (p q y z : Sign) → p ≡ Zero → z ≡ Zero → product p y ≡ product q z
     zero_row p q y z a b = product_zero_left p y a ∙ sym (product_zero_right q z b)
 
-    pivot_all : (G : List ℕ) (g : List ℕ → Sign) → IsPartialMap K neg_k elim_k extends_or_not b0 base0 G g → ((i : ℕ) → IsMember i E → IsMember i G) → (a : List ℕ) (Y : SignVector) → K Y → Vanishes Y a → (e h : ℕ)
-        → ((i : ℕ) → IsMember i a → IsMember i E) ⊎ (((i : ℕ) → IsMember i a → IsMember i E) → ⊥) → IsMember e E ⊎ (IsMember e E → ⊥) → IsMember h E ⊎ (IsMember h E → ⊥)
+    pivot_all : (G : List ℕ) (g : List ℕ → Sign) → IsPartialMap K neg_k elim_k extends_or_not b0 base0 G g
+        → ((i : ℕ) → IsMember i E → IsMember i G) → (a : List ℕ) (Y : SignVector) → K Y → Vanishes Y a → (e h : ℕ)
+        → ((i : ℕ) → IsMember i a → IsMember i E) ⊎ (((i : ℕ) → IsMember i a → IsMember i E) → ⊥) → IsMember e E
+        ⊎ (IsMember e E → ⊥) → IsMember h E ⊎ (IsMember h E → ⊥)
         → product (restrict g E (a ++ e ∷ [])) (Y h) ≡ product (restrict g E (a ++ h ∷ [])) (Y e)
     pivot_all G g inv all a Y ky vy e h (inr n) de dh =
-        let z : (i : ℕ) → restrict g E (a ++ i ∷ []) ≡ Zero = λ i. restrict_out g E (a ++ i ∷ []) (λ o. n (λ j m. o j (member_left j a (i ∷ []) m))) in
-        product_zero_left (restrict g E (a ++ e ∷ [])) (Y h) (z e) ∙ sym (product_zero_left (restrict g E (a ++ h ∷ [])) (Y e) (z h))
+        let z : (i : ℕ) → restrict g E (a ++ i ∷ []) ≡ Zero =
+        λ i. restrict_out g E (a ++ i ∷ []) (λ o. n (λ j m. o j (member_left j a (i ∷ []) m))) in
+        product_zero_left (restrict g E (a ++ e ∷ [])) (Y h) (z e)
+        ∙ sym (product_zero_left (restrict g E (a ++ h ∷ [])) (Y e) (z h))
     pivot_all G g inv all a Y ky vy e h (inl o) (inr ne) dh =
         let ye : Y e ≡ Zero = ⊎_elim (λ q. q) (λ n. absurd (ne (ground Y ky e n))) (zero_or_nonzero (Y e)) in
-        zero_row (restrict g E (a ++ e ∷ [])) (restrict g E (a ++ h ∷ [])) (Y h) (Y e) (restrict_out g E (a ++ e ∷ []) (λ k. ne (k e (member_middle e a [])))) ye
+        zero_row (restrict g E (a ++ e ∷ [])) (restrict g E (a ++ h ∷ [])) (Y h) (Y e)
+        (restrict_out g E (a ++ e ∷ []) (λ k. ne (k e (member_middle e a [])))) ye
     pivot_all G g inv all a Y ky vy e h (inl o) (inl me) (inr nh) =
         let yh : Y h ≡ Zero = ⊎_elim (λ q. q) (λ n. absurd (nh (ground Y ky h n))) (zero_or_nonzero (Y h)) in
-        sym (zero_row (restrict g E (a ++ h ∷ [])) (restrict g E (a ++ e ∷ [])) (Y e) (Y h) (restrict_out g E (a ++ h ∷ []) (λ k. nh (k h (member_middle h a [])))) yh)
+        sym (zero_row (restrict g E (a ++ h ∷ [])) (restrict g E (a ++ e ∷ [])) (Y e) (Y h)
+        (restrict_out g E (a ++ h ∷ []) (λ k. nh (k h (member_middle h a [])))) yh)
     pivot_all G g inv all a Y ky vy e h (inl o) (inl me) (inl mh) =
-        ap (λ z. product z (Y h)) (restrict_in g E (a ++ e ∷ []) (over_end a e o me)) ∙ inv.3 a (λ i m. all i (o i m)) Y ky vy e h (all e me) (all h mh)
+        ap (λ z. product z (Y h)) (restrict_in g E (a ++ e ∷ []) (over_end a e o me))
+        ∙ inv.3 a (λ i m. all i (o i m)) Y ky vy e h (all e me) (all h mh)
         ∙ ap (λ z. product z (Y e)) (sym (restrict_in g E (a ++ h ∷ []) (over_end a h o mh)))
 
-    made_zero_outside : (G : List ℕ) (g : List ℕ → Sign) → IsPartialMap K neg_k elim_k extends_or_not b0 base0 G g → ((i : ℕ) → IsMember i E → IsMember i G) → CocircuitMap
+    made_zero_outside : (G : List ℕ) (g : List ℕ → Sign) → IsPartialMap K neg_k elim_k extends_or_not b0 base0 G g
+        → ((i : ℕ) → IsMember i E → IsMember i G) → CocircuitMap
     made_zero_outside G g inv all =
         let f : List ℕ → Sign = restrict g E in
-        let swap_in : (u : List ℕ) (x y : ℕ) (v : List ℕ) → ((i : ℕ) → IsMember i (u ++ x ∷ y ∷ v) → IsMember i E) → (i : ℕ) → IsMember i (u ++ y ∷ x ∷ v) → IsMember i E = λ u x y v o i m.
-        o i (⊎_elim (λ k. member_left i u (x ∷ y ∷ v) k) (λ k. member_right i u (x ∷ y ∷ v) (⊎_elim (λ q. inr (inl q)) (λ j. ⊎_elim (λ q. inl q) (λ l. inr (inr l)) j) k)) (member_append i u (y ∷ x ∷ v) m)) in
-        let swap : (u : List ℕ) (x y : ℕ) (v : List ℕ) → f (u ++ x ∷ y ∷ v) ≡ opposite (f (u ++ y ∷ x ∷ v)) = λ u x y v. ⊎_elim
-        (λ o. restrict_in g E (u ++ x ∷ y ∷ v) o ∙ inv.0 u x y v (λ i m. all i (o i m)) ∙ ap opposite (sym (restrict_in g E (u ++ y ∷ x ∷ v) (swap_in u x y v o))))
-        (λ n. zeros_opposite (f (u ++ x ∷ y ∷ v)) (f (u ++ y ∷ x ∷ v)) (restrict_out g E (u ++ x ∷ y ∷ v) n) (restrict_out g E (u ++ y ∷ x ∷ v) (λ o. n (swap_in u y x v o))))
+        let swap_in : (u : List ℕ) (x y : ℕ) (v : List ℕ) → ((i : ℕ) → IsMember i (u ++ x ∷ y ∷ v) → IsMember i E)
+        → (i : ℕ) → IsMember i (u ++ y ∷ x ∷ v) → IsMember i E = λ u x y v o i m.
+        o i (⊎_elim (λ k. member_left i u (x ∷ y ∷ v) k)
+        (λ k. member_right i u (x ∷ y ∷ v)
+        (⊎_elim (λ q. inr (inl q)) (λ j. ⊎_elim (λ q. inl q) (λ l. inr (inr l)) j) k))
+        (member_append i u (y ∷ x ∷ v) m)) in
+        let swap : (u : List ℕ) (x y : ℕ) (v : List ℕ) → f (u ++ x ∷ y ∷ v) ≡ opposite (f (u ++ y ∷ x ∷ v)) =
+        λ u x y v. ⊎_elim
+        (λ o. restrict_in g E (u ++ x ∷ y ∷ v) o ∙ inv.0 u x y v (λ i m. all i (o i m))
+        ∙ ap opposite (sym (restrict_in g E (u ++ y ∷ x ∷ v) (swap_in u x y v o))))
+        (λ n. zeros_opposite (f (u ++ x ∷ y ∷ v)) (f (u ++ y ∷ x ∷ v)) (restrict_out g E (u ++ x ∷ y ∷ v) n)
+        (restrict_out g E (u ++ y ∷ x ∷ v) (λ o. n (swap_in u y x v o))))
         (dec_over E (u ++ x ∷ y ∷ v)) in
         let alt : IsAlternating f = λ x y cs bs. swap cs y x bs in
-        let on : (t : List ℕ) → IsNonzero (f t) → (i : ℕ) → IsMember i t → IsMember i E = λ t n. ⊎_elim (λ o. o) (λ k. absurd (zero_not_nonzero (f t) (restrict_out g E t k) n)) (dec_over E t) in
-        let is_b : (t : List ℕ) → IsNonzero (f t) → B t = λ t n. inv.1 t (λ i m. all i (on t n i m)) (subst IsNonzero (restrict_in g E t (on t n)) n) in
-        let b_is : (t : List ℕ) → B t → IsNonzero (f t) = λ t b. subst IsNonzero (sym (restrict_in g E t (base_on t b))) (inv.2 t (λ i m. all i (base_on t b i m)) b) in
-        let pivot : (a : List ℕ) (Y : SignVector) → K Y → Vanishes Y a → (e h : ℕ) → product (f (a ++ e ∷ [])) (Y h) ≡ product (f (a ++ h ∷ [])) (Y e) = λ a Y ky vy e h. pivot_all G g inv all a Y ky vy e h (dec_over E a) (member_or_not e E) (member_or_not h E) in
-        record { map = f; alt = alt; relations = made_relations K neg_k elim_k f alt is_b b_is pivot; value_base = is_b; base_value = b_is; row = row_is_member K neg_k elim_k f alt is_b b_is pivot }
+        let on : (t : List ℕ) → IsNonzero (f t) → (i : ℕ) → IsMember i t → IsMember i E =
+        λ t n. ⊎_elim (λ o. o) (λ k. absurd (zero_not_nonzero (f t) (restrict_out g E t k) n)) (dec_over E t) in
+        let is_b : (t : List ℕ) → IsNonzero (f t) → B t =
+        λ t n. inv.1 t (λ i m. all i (on t n i m)) (subst IsNonzero (restrict_in g E t (on t n)) n) in
+        let b_is : (t : List ℕ) → B t → IsNonzero (f t) =
+        λ t b. subst IsNonzero (sym (restrict_in g E t (base_on t b)))
+        (inv.2 t (λ i m. all i (base_on t b i m)) b) in
+        let pivot : (a : List ℕ) (Y : SignVector) → K Y → Vanishes Y a → (e h : ℕ)
+        → product (f (a ++ e ∷ [])) (Y h) ≡ product (f (a ++ h ∷ [])) (Y e) =
+        λ a Y ky vy e h. pivot_all G g inv all a Y ky vy e h (dec_over E a) (member_or_not e E)
+        (member_or_not h E) in
+        record {
+          map = f;
+          alt = alt;
+          relations = made_relations K neg_k elim_k f alt is_b b_is pivot;
+          value_base = is_b;
+          base_value = b_is;
+          row = row_is_member K neg_k elim_k f alt is_b b_is pivot;
+        }
 
     -- each set of cocircuits has such a map
     pub map_of_cocircuits : CocircuitMap

@@ -1,7 +1,8 @@
 -- Helpers.
 --
 -- Main definitions: Vanishes
--- Main results: left_of_two, right_of_two, zero_of_two, left_factor_nonzero, distinct_insert, same_nonzero, negated_for_none, negated_for_one, negated_for_swap, nonzero_from_negated_for
+-- Main results: left_of_two, right_of_two, zero_of_two, left_factor_nonzero, distinct_insert, same_nonzero,
+-- negated_for_none, negated_for_one, negated_for_swap, nonzero_from_negated_for
 use Rattle.std.specs.Prelude.{ℕ, ◌≡◌, ◌⊎◌, List, [], ◌∷◌, ◌++◌, refl}
 use Rattle.std.proofs.Common.{sym, ◌∙◌, ap, subst, arith, inl, inr, ⊎_elim}
 use Rattle.om_signs.specs.declared.sign.Sign.{Sign}
@@ -42,16 +43,20 @@ zero_of_two z s t a b h = zero (zero_or_nonzero z)
 pub left_factor_nonzero : (s t : Sign) → IsNonzero (product s t) → IsNonzero s
 left_factor_nonzero s t n = grind arith
 
-pub distinct_insert : (u : List ℕ) (h : ℕ) (v : List ℕ) → IsDistinct (u ++ v) → (IsMember h (u ++ v) → ⊥) → IsDistinct (u ++ h ∷ v)
+pub distinct_insert : (u : List ℕ) (h : ℕ) (v : List ℕ) → IsDistinct (u ++ v) → (IsMember h (u ++ v) → ⊥)
+    → IsDistinct (u ++ h ∷ v)
 distinct_insert [] h v r n = (n, r)
-distinct_insert (c ∷ u) h v r n =
-    (λ m. ⊎_elim (λ q. n (inl (sym q))) (λ k. r.0 k) (member_drop c u h v m), distinct_insert u h v r.1 (λ m. n (inr m)))
+distinct_insert (c ∷ u) h v r n = (
+  λ m. ⊎_elim (λ q. n (inl (sym q))) (λ k. r.0 k) (member_drop c u h v m),
+  distinct_insert u h v r.1 (λ m. n (inr m)),
+)
 
 abbrev pub Vanishes : SignVector → List ℕ → Type 0
 Vanishes x l = (e : ℕ) → IsMember e l → x e ≡ Zero
 
 pub same_nonzero : (x y : SignVector) → AreEqualUpToSign x y → (g : ℕ) → IsNonzero (y g) → IsNonzero (x g)
-same_nonzero x y s g n = ⊎_elim (λ q. subst IsNonzero (sym (q g)) n) (λ q. subst IsNonzero (sym (q g)) (opposite_nonzero (y g) n)) s
+same_nonzero x y s g n =
+    ⊎_elim (λ q. subst IsNonzero (sym (q g)) n) (λ q. subst IsNonzero (sym (q g)) (opposite_nonzero (y g) n)) s
 
 pub negated_for_none : (t : Sign) → negated_for [] t ≡ t
 negated_for_none t = refl
@@ -59,7 +64,8 @@ negated_for_none t = refl
 pub negated_for_one : (x : ℕ) (v : List ℕ) (t : Sign) → negated_for (x ∷ v) t ≡ opposite (negated_for v t)
 negated_for_one x v t = refl
 
-pub negated_for_swap : (u : List ℕ) (x y : ℕ) (v : List ℕ) (t : Sign) → negated_for (u ++ x ∷ y ∷ v) t ≡ negated_for (u ++ y ∷ x ∷ v) t
+pub negated_for_swap : (u : List ℕ) (x y : ℕ) (v : List ℕ) (t : Sign)
+    → negated_for (u ++ x ∷ y ∷ v) t ≡ negated_for (u ++ y ∷ x ∷ v) t
 negated_for_swap [] x y v t = refl
 negated_for_swap (z ∷ u) x y v t = ap opposite (negated_for_swap u x y v t)
 

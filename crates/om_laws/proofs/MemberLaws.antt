@@ -1,8 +1,9 @@
 -- Members of lists of elements.
 --
 -- Main definitions: HasRepeat.
--- Main results: a list is distinct or has a repeat (distinct_or_repeat); membership is decided (member_or_not); members of two lists put
--- together (member_append), and of a list with an element left out (member_drop, distinct_drop); a search (search_members).
+-- Main results: a list is distinct or has a repeat (distinct_or_repeat); membership is decided (member_or_not); members
+-- of two lists put together (member_append), and of a list with an element left out (member_drop, distinct_drop); a
+-- search (search_members).
 use Rattle.std.proofs.lemmas.Bool.{cases_eq}
 use Rattle.std.proofs.Common.{ℕ, List, refl, inl, inr, sym, ap, subst, ⊎_elim, ◌≡◌, ◌⊎◌, ◌∷◌, ◌++◌, []}
 use Rattle.om_laws.specs.Members.{IsMember, IsDistinct}
@@ -62,19 +63,25 @@ distinct_last (a ∷ t) e r n =
 -- a member in the middle, moved to the front of the tail
 pub member_drop : (g : ℕ) (u : List ℕ) (a : ℕ) (v : List ℕ) → IsMember g (u ++ a ∷ v) → (g ≡ a) ⊎ IsMember g (u ++ v)
 member_drop g u a v m =
-    ⊎_elim (λ p. inr (member_left g u v p)) (λ p. ⊎_elim (λ q. inl q) (λ q. inr (member_right g u v q)) p) (member_append g u (a ∷ v) m)
+    ⊎_elim (λ p. inr (member_left g u v p)) (λ p. ⊎_elim (λ q. inl q) (λ q. inr (member_right g u v q)) p)
+    (member_append g u (a ∷ v) m)
 
 pub member_insert : (g : ℕ) (u : List ℕ) (a : ℕ) (v : List ℕ) → IsMember g (u ++ v) → IsMember g (u ++ a ∷ v)
-member_insert g u a v m = ⊎_elim (λ p. member_left g u (a ∷ v) p) (λ p. member_right g u (a ∷ v) (inr p)) (member_append g u v m)
+member_insert g u a v m = ⊎_elim (λ p. member_left g u (a ∷ v) p) (λ p. member_right g u (a ∷ v) (inr p))
+    (member_append g u v m)
 
-pub distinct_drop : (u : List ℕ) (a : ℕ) (v : List ℕ) → IsDistinct (u ++ a ∷ v) → IsDistinct (u ++ v) × (IsMember a (u ++ v) → ⊥)
+pub distinct_drop : (u : List ℕ) (a : ℕ) (v : List ℕ) → IsDistinct (u ++ a ∷ v) → IsDistinct (u ++ v)
+    × (IsMember a (u ++ v) → ⊥)
 distinct_drop [] a v r = (r.1, r.0)
 distinct_drop (c ∷ u) a v r =
-    let k = distinct_drop u a v r.1 in
-    ((λ m. r.0 (member_insert c u a v m), k.0), λ m. ⊎_elim (λ q. r.0 (subst (λ z. IsMember z (u ++ a ∷ v)) q (member_middle a u v))) (λ p. k.1 p) m)
+    let k = distinct_drop u a v r.1 in (
+      (λ m. r.0 (member_insert c u a v m), k.0),
+      λ m. ⊎_elim (λ q. r.0 (subst (λ z. IsMember z (u ++ a ∷ v)) q (member_middle a u v))) (λ p. k.1 p) m,
+    )
 
 -- a member with a property, or none
-pub search_members : (P N : ℕ → Type 0) → ((x : ℕ) → P x ⊎ N x) → (l : List ℕ) → ((x : ℕ) × IsMember x l × P x) ⊎ ((x : ℕ) → IsMember x l → N x)
+pub search_members : (P N : ℕ → Type 0) → ((x : ℕ) → P x ⊎ N x) → (l : List ℕ) → ((x : ℕ) × IsMember x l × P x)
+    ⊎ ((x : ℕ) → IsMember x l → N x)
 search_members P N dec [] = inr (λ x m. absurd m)
 search_members P N dec (a ∷ l) =
     ⊎_elim

@@ -1,7 +1,8 @@
 -- The members of minimal support of a finite family that meets the covector axioms.
 --
--- Main results: the members are what has, at each element of its support, the sign of one of them that conforms to it (parts_both), so they are
--- the compositions of these (composition_both); these meet the circuit axioms (minimal_axioms).
+-- Main results: the members are what has, at each element of its support, the sign of one of them that conforms to it
+-- (parts_both), so they are the compositions of these (composition_both); these meet the circuit axioms
+-- (minimal_axioms).
 -- Reference: Björner, Las Vergnas, Sturmfels, White and Ziegler, Oriented Matroids, chapters 3 and 4.
 use Rattle.std.specs.Prelude.{◌≡◌, ◌↔◌, ℕ, List, [], ◌∷◌}
 use Rattle.std.proofs.Common.{sym, subst, inl, inr, ◌∙◌}
@@ -23,10 +24,12 @@ listed_same X Y [] q m = m
 listed_same X Y (Z ∷ l) q (inl r) = inl (λ e. q e ∙ r e)
 listed_same X Y (Z ∷ l) q (inr m) = inr (listed_same X Y l q m)
 
-module _ (E : List ℕ) (Ls : List SignVector) (supported : AreSupportedOn E Ls) (axioms : CovectorAxioms (IsListed Ls)) where
+module _ (E : List ℕ) (Ls : List SignVector) (supported : AreSupportedOn E Ls)
+    (axioms : CovectorAxioms (IsListed Ls)) where
   -- elimination, with the opposite sign on the right
   eliminate : (X Y : SignVector) → IsListed Ls X → IsListed Ls Y → (e : ℕ) → IsNonzero (X e) → Y e ≡ opposite (X e)
-      → (Z : SignVector) × IsListed Ls Z × (Z e ≡ Zero) × ((g : ℕ) → (IsNonzero (X g) → Y g ≡ opposite (X g) → ⊥) → Z g ≡ first_nonzero (X g) (Y g))
+      → (Z : SignVector) × IsListed Ls Z × (Z e ≡ Zero)
+      × ((g : ℕ) → (IsNonzero (X g) → Y g ≡ opposite (X g) → ⊥) → Z g ≡ first_nonzero (X g) (Y g))
   eliminate X Y x y e n op =
       let z = axioms.elimination X Y x y e (n, opposite_swap (Y e) (X e) op) in
       (z.0, z.1, z.2, λ g no. z.3 g (λ s. no s.0 (opposite_swap (X g) (Y g) s.1)))
@@ -40,34 +43,41 @@ module _ (E : List ℕ) (Ls : List SignVector) (supported : AreSupportedOn E Ls)
   minimal_negated X m = record {
     member = axioms.negation X m.member;
     nonzero = (m.nonzero.0, opposite_nonzero (X m.nonzero.0) m.nonzero.1);
-    least = λ Z z n sub g k. m.least Z z n (λ h p. nonzero_from_opposite (X h) (sub h p)) g (nonzero_from_opposite (X g) k);
+    least = λ Z z n sub g k. m.least Z z n (λ h p. nonzero_from_opposite (X h) (sub h p)) g
+        (nonzero_from_opposite (X g) k);
   }
 
   pub minimal_axioms : CircuitAxioms (IsMinimal (IsListed Ls))
   minimal_axioms = record {
     nonzero = λ X m. m.nonzero;
     negation = minimal_negated;
-    incomparable = λ X Y m k sub. family.least_incomparable Ls E supported axioms.negation eliminate X Y m.member k.member m.least k.least m.nonzero.0 m.nonzero.1 sub;
+    incomparable = λ X Y m k sub. family.least_incomparable Ls E supported axioms.negation eliminate X Y m.member
+        k.member m.least k.least m.nonzero.0 m.nonzero.1 sub;
     elimination = λ X Y m k ne e s.
         let h = not_opposite_at E X Y (supported X m.member) (supported Y k.member) ne in
-        let z = family.least_elimination Ls E supported axioms.negation eliminate X Y m.member k.member e h.0 s.0 (opposite_swap (X e) (Y e) s.1)
+        let z = family.least_elimination Ls E supported axioms.negation eliminate X Y m.member k.member e h.0 s.0
+        (opposite_swap (X e) (Y e) s.1)
         (nonzero_composition (X h.0) (Y h.0) h.1) (λ n q. h.1 (opposite_swap (Y h.0) (X h.0) q)) in
         (z.0, record { member = z.1; nonzero = (h.0, z.4); least = z.2 }, z.3, z.5);
   }
 
   -- ---- the members are the compositions of those of minimal support
 
-  composition_listed : (Ys : List SignVector) → EachVector (IsMinimal (IsListed Ls)) Ys → IsListed Ls (composition_of Ys)
+  composition_listed : (Ys : List SignVector) → EachVector (IsMinimal (IsListed Ls)) Ys
+      → IsListed Ls (composition_of Ys)
   composition_listed [] m = axioms.zero
   composition_listed (Y ∷ Ys) m = axioms.composition_closed Y (composition_of Ys) m.0.member (composition_listed Ys m.1)
 
   from_composition : (X : SignVector) → IsComposition (IsMinimal (IsListed Ls)) X → IsListed Ls X
   from_composition X k = listed_same X (composition_of k.0) Ls k.2 (composition_listed k.0 k.1)
 
-  to_composition : (X : SignVector) → HasConformingParts (IsMinimal (IsListed Ls)) X → IsComposition (IsMinimal (IsListed Ls)) X
+  to_composition : (X : SignVector) → HasConformingParts (IsMinimal (IsListed Ls)) X
+      → IsComposition (IsMinimal (IsListed Ls)) X
   to_composition X parts =
-      let s : IsSupportedOn E X = λ e n. (let y = parts e n in supported y.0 y.1.member e (subst IsNonzero (sym y.2) n)) in
-      composition_from_conformal (IsMinimal (IsListed Ls)) X (conformal_from_parts (IsMinimal (IsListed Ls)) X parts E s)
+      let s : IsSupportedOn E X = λ e n. (let y = parts e n in supported y.0 y.1.member e (subst IsNonzero (sym y.2) n))
+      in
+      composition_from_conformal (IsMinimal (IsListed Ls)) X
+      (conformal_from_parts (IsMinimal (IsListed Ls)) X parts E s)
 
   pub parts_both : (X : SignVector) → IsListed Ls X ↔ HasConformingParts (IsMinimal (IsListed Ls)) X
   parts_both X = (minimal_parts X, λ p. from_composition X (to_composition X p))

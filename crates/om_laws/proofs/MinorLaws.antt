@@ -1,9 +1,9 @@
 -- Deletion and contraction of one element.
 --
--- Main results: both are chirotopes, for a deletion of an element that some base avoids and a contraction of one of some base
--- (deletion_chirotope, contraction_chirotope); the covectors of a deletion are the covectors without that element (deletion_both), those of a
--- contraction are the covectors that are zero there, without it (contraction_both); the same with the other map where the element is a coloop
--- (coloop_both), or a loop (loop_both).
+-- Main results: both are chirotopes, for a deletion of an element that some base avoids and a contraction of one of
+-- some base (deletion_chirotope, contraction_chirotope); the covectors of a deletion are the covectors without that
+-- element (deletion_both), those of a contraction are the covectors that are zero there, without it (contraction_both);
+-- the same with the other map where the element is a coloop (coloop_both), or a loop (loop_both).
 -- Reference: Björner, Las Vergnas, Sturmfels, White and Ziegler, Oriented Matroids, chapters 3 and 4.
 use Rattle.std.specs.Prelude.{ℕ, ◌≡◌, ◌↔◌, ◌≢◌, ◌+◌, ◌-◌, ◌<◌, ◌≤◌, refl, List, [], ◌∷◌, ◌++◌, map, cond, nat_lt}
 use Rattle.std.proofs.Common.{suc, arith, inl, inr, sym, ◌∙◌, ap, subst, ⊎_elim, append-nil}
@@ -20,7 +20,8 @@ use Rattle.om_laws.specs.Vectors.{SignVector}
 use Rattle.om_laws.proofs.ChirotopeLaws.{member_from_element, element_from_member}
 use Rattle.om_laws.proofs.MemberLaws.{split_at, distinct_drop}
 use Rattle.om_laws.proofs.ParallelLaws.{loop_covector}
-use Rattle.om_laws.proofs.PullbackLaws.{pullback_chirotope, covector_lifted, covector_pullback, map_image, renamed_distinct}
+use Rattle.om_laws.proofs.PullbackLaws.{pullback_chirotope, covector_lifted, covector_pullback, map_image}
+use Rattle.om_laws.proofs.PullbackLaws.{renamed_distinct}
 use Rattle.om_laws.proofs.RelationLaws.{around_member, nonzero_from_around}
 use Rattle.om_laws.proofs.TupleLaws.{nonzero_distinct, nonzero_to_end}
 use Rattle.om_laws.proofs.PairCovectors.{covector_same}
@@ -66,7 +67,8 @@ skip_image e g n = (unskip e g, sym (skip-unskip e g n))
 
 skip_map : (e : ℕ) (t : List ℕ) → (IsMember e t → ⊥) → map (skip e) (map (unskip e) t) ≡ t
 skip_map e [] n = refl
-skip_map e (x ∷ t) n = ap (λ k. k ∷ map (skip e) (map (unskip e) t)) (skip-unskip e x (λ q. n (inl (sym q)))) ∙ ap (λ l. x ∷ l) (skip_map e t (λ m. n (inr m)))
+skip_map e (x ∷ t) n = ap (λ k. k ∷ map (skip e) (map (unskip e) t)) (skip-unskip e x (λ q. n (inl (sym q))))
+    ∙ ap (λ l. x ∷ l) (skip_map e t (λ m. n (inr m)))
 
 skip_inside : (n e p : ℕ) → IsElement (suc n) e → IsMember (skip e p) (elements_to (suc n)) → IsMember p (elements_to n)
 skip_inside n e p (a, b) m =
@@ -84,8 +86,12 @@ skip_onto n e p (a, b) m =
     let k0 = k.0 in
     let k1 = k.1 in
     elim (cases_lt p e) [
-      | inl l ↦ (let q = skip_below e p l in member_from_element (suc n) (skip e p) (omega (arith, k0, q), omega (arith, k1, q)))
-      | inr g ↦ (let q = skip_above e p g in member_from_element (suc n) (skip e p) (omega (arith, k0, q), omega (arith, k1, q)))
+      | inl l ↦
+          (let q = skip_below e p l in
+          member_from_element (suc n) (skip e p) (omega (arith, k0, q), omega (arith, k1, q)))
+      | inr g ↦
+          (let q = skip_above e p g in
+          member_from_element (suc n) (skip e p) (omega (arith, k0, q), omega (arith, k1, q)))
     ]
 
 module _ (n e : ℕ) (ie : IsElement (suc n) e) (chi : List ℕ → Sign) (om : IsChirotope (elements_to (suc n)) chi) where
@@ -105,44 +111,67 @@ module _ (n e : ℕ) (ie : IsElement (suc n) e) (chi : List ℕ → Sign) (om : 
   -- ---- deletion
 
   deletion_value : (t : List ℕ) → IsNonzero (chi t) → (IsMember e t → ⊥) → IsNonzero (deletion e chi (map (unskip e) t))
-  deletion_value t n off = subst (λ l. IsNonzero (chi l)) (sym (append-nil (map (skip e) (map (unskip e) t)) ∙ skip_map e t off)) n
+  deletion_value t n off =
+      subst (λ l. IsNonzero (chi l)) (sym (append-nil (map (skip e) (map (unskip e) t)) ∙ skip_map e t off)) n
 
   pub deletion_chirotope : IsAvoided chi e → IsChirotope (elements_to n) (deletion e chi)
-  deletion_chirotope b = pullback_chirotope (elements_to (suc n)) chi om (skip e) [] (elements_to n) inside (map (unskip e) b.0) (deletion_value b.0 b.1 b.2)
+  deletion_chirotope b = pullback_chirotope (elements_to (suc n)) chi om (skip e) [] (elements_to n) inside
+      (map (unskip e) b.0) (deletion_value b.0 b.1 b.2)
 
   -- a covector of the deletion is a covector without e
-  deletion_covector_from : IsAvoided chi e → (X : SignVector) → IsCovector (elements_to n) (deletion e chi) X → (W : SignVector) × IsCovector (elements_to (suc n)) chi W × ((p : ℕ) → W (skip e p) ≡ X p)
+  deletion_covector_from : IsAvoided chi e → (X : SignVector) → IsCovector (elements_to n) (deletion e chi) X
+      → (W : SignVector) × IsCovector (elements_to (suc n)) chi W × ((p : ℕ) → W (skip e p) ≡ X p)
   deletion_covector_from b X x =
-      let w = covector_lifted (elements_to (suc n)) chi om (skip e) [] (elements_to n) inside (map (unskip e) b.0) (deletion_value b.0 b.1 b.2) X x in
+      let w = covector_lifted (elements_to (suc n)) chi om (skip e) [] (elements_to n) inside (map (unskip e) b.0)
+      (deletion_value b.0 b.1 b.2) X x in
       (w.0, w.1.covector, w.1.renamed)
 
-  deletion_covector_to : IsAvoided chi e → (W : SignVector) → IsCovector (elements_to (suc n)) chi W → IsCovector (elements_to n) (deletion e chi) (λ p. W (skip e p))
-  deletion_covector_to b W w = covector_pullback (elements_to (suc n)) chi om (skip e) [] (elements_to n) inside (map (unskip e) b.0) (deletion_value b.0 b.1 b.2)
+  deletion_covector_to : IsAvoided chi e → (W : SignVector) → IsCovector (elements_to (suc n)) chi W
+      → IsCovector (elements_to n) (deletion e chi) (λ p. W (skip e p))
+  deletion_covector_to b W w =
+      covector_pullback (elements_to (suc n)) chi om (skip e) [] (elements_to n) inside (map (unskip e) b.0)
+      (deletion_value b.0 b.1 b.2)
       (skip_apart e) (λ x m. m) (λ x m. skip_onto n e x ie m) tt (λ g m. absurd m) W w
-      (λ x d g ng nw. skip_image e g (λ q. not_renamed x (subst (IsMember e) (append-nil (map (skip e) x)) (subst (λ z. IsMember z (map (skip e) x ++ [])) q (around_member chi (map (skip e) x ++ []) g ng)))))
+      (λ x d g ng nw. skip_image e g
+      (λ q. not_renamed x
+      (subst (IsMember e) (append-nil (map (skip e) x))
+      (subst (λ z. IsMember z (map (skip e) x ++ [])) q (around_member chi (map (skip e) x ++ []) g ng)))))
 
   -- ---- contraction
 
   contraction_value : (b : IsInBase chi e) → IsNonzero (contraction e chi (map (unskip e) (b.0 ++ b.1)))
   contraction_value b =
       let d = distinct_drop b.0 e b.1 (nonzero_distinct chi om.alternating (b.0 ++ e ∷ b.1) b.2) in
-      subst (λ l. IsNonzero (chi (l ++ e ∷ []))) (sym (skip_map e (b.0 ++ b.1) d.1)) (nonzero_to_end chi om.alternating b.0 b.1 e b.2)
+      subst (λ l. IsNonzero (chi (l ++ e ∷ []))) (sym (skip_map e (b.0 ++ b.1) d.1))
+      (nonzero_to_end chi om.alternating b.0 b.1 e b.2)
 
   pub contraction_chirotope : IsInBase chi e → IsChirotope (elements_to n) (contraction e chi)
-  contraction_chirotope b = pullback_chirotope (elements_to (suc n)) chi om (skip e) (e ∷ []) (elements_to n) inside (map (unskip e) (b.0 ++ b.1)) (contraction_value b)
+  contraction_chirotope b = pullback_chirotope (elements_to (suc n)) chi om (skip e) (e ∷ []) (elements_to n) inside
+      (map (unskip e) (b.0 ++ b.1)) (contraction_value b)
 
   -- a covector of the contraction is a covector that is zero at e, without it
-  contraction_covector_from : IsInBase chi e → (X : SignVector) → IsCovector (elements_to n) (contraction e chi) X → (W : SignVector) × IsCovector (elements_to (suc n)) chi W × (W e ≡ Zero) × ((p : ℕ) → W (skip e p) ≡ X p)
+  contraction_covector_from : IsInBase chi e → (X : SignVector) → IsCovector (elements_to n) (contraction e chi) X
+      → (W : SignVector) × IsCovector (elements_to (suc n)) chi W × (W e ≡ Zero) × ((p : ℕ) → W (skip e p) ≡ X p)
   contraction_covector_from b X x =
-      let w = covector_lifted (elements_to (suc n)) chi om (skip e) (e ∷ []) (elements_to n) inside (map (unskip e) (b.0 ++ b.1)) (contraction_value b) X x in
+      let w = covector_lifted (elements_to (suc n)) chi om (skip e) (e ∷ []) (elements_to n) inside
+      (map (unskip e) (b.0 ++ b.1)) (contraction_value b) X x in
       (w.0, w.1.covector, w.1.added e (inl refl), w.1.renamed)
 
-  contraction_seen : (b : IsInBase chi e) → (W : SignVector) → IsCovector (elements_to (suc n)) chi W → ((x : List ℕ) → IsDistinct x → IsNonzero (around chi x e) → IsNonzero (W e) → ⊥) → IsCovector (elements_to n) (contraction e chi) (λ p. W (skip e p))
-  contraction_seen b W w none = covector_pullback (elements_to (suc n)) chi om (skip e) (e ∷ []) (elements_to n) inside (map (unskip e) (b.0 ++ b.1)) (contraction_value b)
-      (skip_apart e) not_e (λ x m. skip_onto n e x ie m) ((λ m. m), tt) (λ g m. ⊎_elim (λ q. subst (λ z. IsMember z (elements_to (suc n))) (sym q) e_member) (λ k. absurd k) m) W w
-      (λ x d g ng nw. skip_image e g (λ q. none (map (skip e) x ++ e ∷ []) (renamed_distinct (skip e) (e ∷ []) (skip_apart e) not_e x d ((λ m. m), tt)) (subst (λ z. IsNonzero (around chi (map (skip e) x ++ e ∷ []) z)) q ng) (subst (λ z. IsNonzero (W z)) q nw)))
+  contraction_seen : (b : IsInBase chi e) → (W : SignVector) → IsCovector (elements_to (suc n)) chi W
+      → ((x : List ℕ) → IsDistinct x → IsNonzero (around chi x e) → IsNonzero (W e) → ⊥)
+      → IsCovector (elements_to n) (contraction e chi) (λ p. W (skip e p))
+  contraction_seen b W w none =
+      covector_pullback (elements_to (suc n)) chi om (skip e) (e ∷ []) (elements_to n) inside
+      (map (unskip e) (b.0 ++ b.1)) (contraction_value b)
+      (skip_apart e) not_e (λ x m. skip_onto n e x ie m) ((λ m. m), tt)
+      (λ g m. ⊎_elim (λ q. subst (λ z. IsMember z (elements_to (suc n))) (sym q) e_member) (λ k. absurd k) m) W w
+      (λ x d g ng nw. skip_image e g
+      (λ q. none (map (skip e) x ++ e ∷ [])
+      (renamed_distinct (skip e) (e ∷ []) (skip_apart e) not_e x d ((λ m. m), tt))
+      (subst (λ z. IsNonzero (around chi (map (skip e) x ++ e ∷ []) z)) q ng) (subst (λ z. IsNonzero (W z)) q nw)))
 
-  contraction_covector_to : IsInBase chi e → (W : SignVector) → IsCovector (elements_to (suc n)) chi W → W e ≡ Zero → IsCovector (elements_to n) (contraction e chi) (λ p. W (skip e p))
+  contraction_covector_to : IsInBase chi e → (W : SignVector) → IsCovector (elements_to (suc n)) chi W → W e ≡ Zero
+      → IsCovector (elements_to n) (contraction e chi) (λ p. W (skip e p))
   contraction_covector_to b W w z = contraction_seen b W w (λ x d a k. k z)
 
   -- ---- a coloop, whose deletion is its contraction
@@ -151,7 +180,8 @@ module _ (n e : ℕ) (ie : IsElement (suc n) e) (chi : List ℕ → Sign) (om : 
   coloop_around co x d m =
       let s = split_at e x (around_member chi x e m) in
       let ds = subst IsDistinct s.2 d in
-      (distinct_drop s.0 e s.1 ds).1 (co (s.0 ++ s.1) (nonzero_from_around chi s.0 e s.1 ds (subst (λ l. IsNonzero (around chi l e)) s.2 m)))
+      (distinct_drop s.0 e s.1 ds).1
+      (co (s.0 ++ s.1) (nonzero_from_around chi s.0 e s.1 ds (subst (λ l. IsNonzero (around chi l e)) s.2 m)))
 
   coloop_base : IsColoop chi e → IsInBase chi e
   coloop_base co =
@@ -159,10 +189,12 @@ module _ (n e : ℕ) (ie : IsElement (suc n) e) (chi : List ℕ → Sign) (om : 
       (s.0, s.1, subst (λ l. IsNonzero (chi l)) s.2 om.base.1)
 
   -- the covectors without a coloop e are the covectors of the contraction
-  coloop_covector_to : IsColoop chi e → (W : SignVector) → IsCovector (elements_to (suc n)) chi W → IsCovector (elements_to n) (contraction e chi) (λ p. W (skip e p))
+  coloop_covector_to : IsColoop chi e → (W : SignVector) → IsCovector (elements_to (suc n)) chi W
+      → IsCovector (elements_to n) (contraction e chi) (λ p. W (skip e p))
   coloop_covector_to co W w = contraction_seen (coloop_base co) W w (λ x d a k. coloop_around co x d a)
 
-  coloop_covector_from : IsColoop chi e → (X : SignVector) → IsCovector (elements_to n) (contraction e chi) X → (W : SignVector) × IsCovector (elements_to (suc n)) chi W × ((p : ℕ) → W (skip e p) ≡ X p)
+  coloop_covector_from : IsColoop chi e → (X : SignVector) → IsCovector (elements_to n) (contraction e chi) X
+      → (W : SignVector) × IsCovector (elements_to (suc n)) chi W × ((p : ℕ) → W (skip e p) ≡ X p)
   coloop_covector_from co X x = let w = contraction_covector_from (coloop_base co) X x in (w.0, w.1, w.3)
 
   -- ---- a loop, whose contraction is its deletion
@@ -175,27 +207,40 @@ module _ (n e : ℕ) (ie : IsElement (suc n) e) (chi : List ℕ → Sign) (om : 
   loop_base loop = (om.base.0, om.base.1, loop om.base.0 om.base.1)
 
   -- the covectors that are zero at a loop e, without it, are the covectors of the deletion
-  loop_covector_to : IsLoop chi e → (W : SignVector) → IsCovector (elements_to (suc n)) chi W → IsCovector (elements_to n) (deletion e chi) (λ p. W (skip e p))
+  loop_covector_to : IsLoop chi e → (W : SignVector) → IsCovector (elements_to (suc n)) chi W
+      → IsCovector (elements_to n) (deletion e chi) (λ p. W (skip e p))
   loop_covector_to loop = deletion_covector_to (loop_base loop)
 
-  loop_covector_from : IsLoop chi e → (X : SignVector) → IsCovector (elements_to n) (deletion e chi) X → (W : SignVector) × IsCovector (elements_to (suc n)) chi W × (W e ≡ Zero) × ((p : ℕ) → W (skip e p) ≡ X p)
+  loop_covector_from : IsLoop chi e → (X : SignVector) → IsCovector (elements_to n) (deletion e chi) X
+      → (W : SignVector) × IsCovector (elements_to (suc n)) chi W × (W e ≡ Zero) × ((p : ℕ) → W (skip e p) ≡ X p)
   loop_covector_from loop X x =
       let w = deletion_covector_from (loop_base loop) X x in
       (w.0, w.1, loop_covector_zero loop w.0 w.1, w.2)
 
   -- ---- both ways
 
-  without_e : (psi : List ℕ → Sign) (X W : SignVector) → ((p : ℕ) → W (skip e p) ≡ X p) → IsCovector (elements_to n) psi (λ p. W (skip e p)) → IsCovector (elements_to n) psi X
-  without_e psi X W q w = covector_same (elements_to n) (IsCircuit (elements_to n) psi) X (λ p. W (skip e p)) (λ p. sym (q p)) w
+  without_e : (psi : List ℕ → Sign) (X W : SignVector) → ((p : ℕ) → W (skip e p) ≡ X p)
+      → IsCovector (elements_to n) psi (λ p. W (skip e p)) → IsCovector (elements_to n) psi X
+  without_e psi X W q w = covector_same (elements_to n) (IsCircuit (elements_to n) psi) X (λ p. W (skip e p))
+      (λ p. sym (q p)) w
 
-  pub deletion_both : IsAvoided chi e → (X : SignVector) → IsCovector (elements_to n) (deletion e chi) X ↔ IsCovectorWithout e (elements_to (suc n)) chi X
-  deletion_both b X = (deletion_covector_from b X, λ w. without_e (deletion e chi) X w.0 w.2 (deletion_covector_to b w.0 w.1))
+  pub deletion_both : IsAvoided chi e → (X : SignVector) → IsCovector (elements_to n) (deletion e chi) X
+      ↔ IsCovectorWithout e (elements_to (suc n)) chi X
+  deletion_both b X =
+      (deletion_covector_from b X, λ w. without_e (deletion e chi) X w.0 w.2 (deletion_covector_to b w.0 w.1))
 
-  pub contraction_both : IsInBase chi e → (X : SignVector) → IsCovector (elements_to n) (contraction e chi) X ↔ IsZeroCovectorWithout e (elements_to (suc n)) chi X
-  contraction_both b X = (contraction_covector_from b X, λ w. without_e (contraction e chi) X w.0 w.3 (contraction_covector_to b w.0 w.1 w.2))
+  pub contraction_both : IsInBase chi e → (X : SignVector) → IsCovector (elements_to n) (contraction e chi) X
+      ↔ IsZeroCovectorWithout e (elements_to (suc n)) chi X
+  contraction_both b X = (
+    contraction_covector_from b X,
+    λ w. without_e (contraction e chi) X w.0 w.3 (contraction_covector_to b w.0 w.1 w.2),
+  )
 
-  pub coloop_both : IsColoop chi e → (X : SignVector) → IsCovector (elements_to n) (contraction e chi) X ↔ IsCovectorWithout e (elements_to (suc n)) chi X
-  coloop_both co X = (coloop_covector_from co X, λ w. without_e (contraction e chi) X w.0 w.2 (coloop_covector_to co w.0 w.1))
+  pub coloop_both : IsColoop chi e → (X : SignVector) → IsCovector (elements_to n) (contraction e chi) X
+      ↔ IsCovectorWithout e (elements_to (suc n)) chi X
+  coloop_both co X =
+      (coloop_covector_from co X, λ w. without_e (contraction e chi) X w.0 w.2 (coloop_covector_to co w.0 w.1))
 
-  pub loop_both : IsLoop chi e → (X : SignVector) → IsCovector (elements_to n) (deletion e chi) X ↔ IsZeroCovectorWithout e (elements_to (suc n)) chi X
+  pub loop_both : IsLoop chi e → (X : SignVector) → IsCovector (elements_to n) (deletion e chi) X
+      ↔ IsZeroCovectorWithout e (elements_to (suc n)) chi X
   loop_both lo X = (loop_covector_from lo X, λ w. without_e (deletion e chi) X w.0 w.3 (loop_covector_to lo w.0 w.1))

@@ -1,8 +1,8 @@
 -- How many entries of a list are not in another.
 --
 -- Main definitions: missing.
--- Main results: an entry in the middle counts exactly if it is not in the other list (missing_middle_member, missing_middle_other); a larger second
--- list misses fewer (missing_less).
+-- Main results: an entry in the middle counts exactly if it is not in the other list (missing_middle_member,
+-- missing_middle_other); a larger second list misses fewer (missing_less).
 use Rattle.std.proofs.Common.{arith, subst, ◌≤◌, ℕ, suc, List, refl, inl, inr, sym, ap, ⊎_elim, ◌≡◌, ◌∷◌, ◌++◌, ◌∙◌, []}
 use Rattle.om_laws.specs.Members.{IsMember}
 use Rattle.om_laws.proofs.MemberLaws.{member_or_not}
@@ -14,13 +14,17 @@ missing y (a ∷ x) = ⊎_elim (λ m. missing y x) (λ n. suc (missing y x)) (me
 
 pub missing_member : (y : List ℕ) (a : ℕ) (x : List ℕ) → IsMember a y → missing y (a ∷ x) ≡ missing y x
 unfolding missing
-missing_member y a x m = elim (member_or_not a y) as (λ d. ⊎_elim (λ m. missing y x) (λ n. suc (missing y x)) d ≡ missing y x) [ inl k ↦ refl | inr k ↦ absurd (k m) ]
+missing_member y a x m = elim (member_or_not a y) as
+    (λ d. ⊎_elim (λ m. missing y x) (λ n. suc (missing y x)) d ≡ missing y x) [ inl k ↦ refl | inr k ↦ absurd (k m) ]
 
 pub missing_other : (y : List ℕ) (a : ℕ) (x : List ℕ) → (IsMember a y → ⊥) → missing y (a ∷ x) ≡ suc (missing y x)
 unfolding missing
-missing_other y a x m = elim (member_or_not a y) as (λ d. ⊎_elim (λ m. missing y x) (λ n. suc (missing y x)) d ≡ suc (missing y x)) [ inl k ↦ absurd (m k) | inr k ↦ refl ]
+missing_other y a x m = elim (member_or_not a y) as
+    (λ d. ⊎_elim (λ m. missing y x) (λ n. suc (missing y x)) d ≡ suc (missing y x))
+    [ inl k ↦ absurd (m k) | inr k ↦ refl ]
 
-pub missing_middle_member : (t u : List ℕ) (a : ℕ) (v : List ℕ) → IsMember a t → missing t (u ++ a ∷ v) ≡ missing t (u ++ v)
+pub missing_middle_member : (t u : List ℕ) (a : ℕ) (v : List ℕ) → IsMember a t
+    → missing t (u ++ a ∷ v) ≡ missing t (u ++ v)
 missing_middle_member t [] a v m = missing_member t a v m
 missing_middle_member t (c ∷ u) a v m =
     let h = missing_middle_member t u a v m in
@@ -29,7 +33,8 @@ missing_middle_member t (c ∷ u) a v m =
     (λ k. missing_other t c (u ++ a ∷ v) k ∙ ap suc h ∙ sym (missing_other t c (u ++ v) k))
     (member_or_not c t)
 
-pub missing_middle_other : (t u : List ℕ) (a : ℕ) (v : List ℕ) → (IsMember a t → ⊥) → missing t (u ++ a ∷ v) ≡ suc (missing t (u ++ v))
+pub missing_middle_other : (t u : List ℕ) (a : ℕ) (v : List ℕ) → (IsMember a t → ⊥)
+    → missing t (u ++ a ∷ v) ≡ suc (missing t (u ++ v))
 missing_middle_other t [] a v m = missing_other t a v m
 missing_middle_other t (c ∷ u) a v m =
     let h = missing_middle_other t u a v m in
@@ -55,7 +60,8 @@ missing_le y z (a ∷ x) sub =
     (member_or_not a z))
     (member_or_not a y)
 
-pub missing_less : (y z x : List ℕ) → ((g : ℕ) → IsMember g x → IsMember g y → IsMember g z) → (s : ℕ) → IsMember s x → (IsMember s y → ⊥) → IsMember s z → suc (missing z x) ≤ missing y x
+pub missing_less : (y z x : List ℕ) → ((g : ℕ) → IsMember g x → IsMember g y → IsMember g z) → (s : ℕ) → IsMember s x
+    → (IsMember s y → ⊥) → IsMember s z → suc (missing z x) ≤ missing y x
 missing_less y z [] sub s m n k = absurd m
 missing_less y z (a ∷ x) sub s m n k =
     let le = missing_le y z x (λ g j i. sub g (inr j) i) in
@@ -69,6 +75,7 @@ missing_less y z (a ∷ x) sub s m n k =
     ⊎_elim
     (λ i. let p = missing_member y a x i in let r = missing_member z a x (sub a (inl refl) i) in omega (arith, p, r, h))
     (λ i. let p = missing_other y a x i in
-    ⊎_elim (λ l. let r = missing_member z a x l in omega (arith, p, r, h)) (λ l. let r = missing_other z a x l in omega (arith, p, r, h)) (member_or_not a z))
+    ⊎_elim (λ l. let r = missing_member z a x l in omega (arith, p, r, h))
+    (λ l. let r = missing_other z a x l in omega (arith, p, r, h)) (member_or_not a z))
     (member_or_not a y))
     m

@@ -1,7 +1,7 @@
 -- The painting lemma.
 --
--- Main results: for a colouring of the elements in red, green, black and white, and a red or green element, a circuit or a cocircuit goes
--- through it with the allowed signs (painting), and not both (not_both).
+-- Main results: for a colouring of the elements in red, green, black and white, and a red or green element, a circuit
+-- or a cocircuit goes through it with the allowed signs (painting), and not both (not_both).
 -- Reference: Björner, Las Vergnas, Sturmfels, White and Ziegler, Oriented Matroids, chapter 3.
 use Rattle.std.specs.Prelude.{ℕ, ◌≡◌, ◌≢◌, refl, ◌⊎◌, List, [], ◌∷◌, cond, nat_eq, Bool, true, false}
 use Rattle.std.proofs.Common.{arith, inl, inr, sym, ◌∙◌}
@@ -9,7 +9,8 @@ use Rattle.std.proofs.lemmas.Bool.{cases_eq, eq-eqb, ne_eqb}
 use Rattle.om_signs.specs.declared.sign.Sign.{Sign}
 use Rattle.om_signs.specs.declared.sign.Sign.TheVariants.{Minus, Zero, Plus}
 use Rattle.om_signs.specs.Sign.{opposite, product}
-use Rattle.om_laws.specs.Colours.{CircuitMay, CocircuitMay, Colour, IsColoured, SomeCircuit, SomeCocircuit, black, green, red, white}
+use Rattle.om_laws.specs.Colours.{CircuitMay, CocircuitMay, Colour, IsColoured, SomeCircuit, SomeCocircuit, black}
+use Rattle.om_laws.specs.Colours.{green, red, white}
 use Rattle.om_laws.specs.Members.{IsMember}
 use Rattle.om_laws.specs.Signs.{IsNonzero}
 use Rattle.om_laws.specs.Vectors.{SignVector, negated, Orthogonal}
@@ -55,7 +56,8 @@ never_minus white s t h g p = zero_times s t h p
     zero_times s t e p = grind arith
 
 -- the product where both are wrong
-both_wrong : (k : Colour) (s t : Sign) → IsColoured k → (CircuitMay k s → ⊥) → (CircuitMay k t → ⊥) → product s t ≢ Minus
+both_wrong : (k : Colour) (s t : Sign) → IsColoured k → (CircuitMay k s → ⊥) → (CircuitMay k t → ⊥)
+    → product s t ≢ Minus
 both_wrong red Minus Minus i h g p = cc
 both_wrong red Minus Zero i h g p = cc
 both_wrong red Minus Plus i h g p = g (λ e. cc)
@@ -69,7 +71,8 @@ both_wrong green Plus Plus i h g p = cc
 both_wrong black s t i h g p = absurd i
 both_wrong white s t i h g p = absurd i
 
-both_right : (k : Colour) (s t : Sign) → IsColoured k → CircuitMay k s → CocircuitMay k t → IsNonzero s → IsNonzero t → product s t ≡ Plus
+both_right : (k : Colour) (s t : Sign) → IsColoured k → CircuitMay k s → CocircuitMay k t → IsNonzero s → IsNonzero t
+    → product s t ≡ Plus
 both_right red Minus t i h g a b = absurd (h refl)
 both_right red Zero t i h g a b = absurd (a refl)
 both_right red Plus Minus i h g a b = absurd (g refl)
@@ -95,10 +98,12 @@ zero_may green s i z = (λ e. cc (z, e))
 zero_may black s i z = absurd i
 zero_may white s i z = absurd i
 
-may_other : (c : ℕ → Colour) (f g : ℕ) (k : Colour) (s : Sign) → g ≢ f → CircuitMay (paint c f k g) s → CircuitMay (c g) s
+may_other : (c : ℕ → Colour) (f g : ℕ) (k : Colour) (s : Sign) → g ≢ f → CircuitMay (paint c f k g) s
+    → CircuitMay (c g) s
 may_other c f g k s n h = rw (ne_eqb g f n) at h
 
-co_may_other : (c : ℕ → Colour) (f g : ℕ) (k : Colour) (s : Sign) → g ≢ f → CocircuitMay (paint c f k g) s → CocircuitMay (c g) s
+co_may_other : (c : ℕ → Colour) (f g : ℕ) (k : Colour) (s : Sign) → g ≢ f → CocircuitMay (paint c f k g) s
+    → CocircuitMay (c g) s
 co_may_other c f g k s n h = rw (ne_eqb g f n) at h
 
 may_same : (c : ℕ → Colour) (f : ℕ) (k : Colour) (s : Sign) → CircuitMay (paint c f k f) s → CircuitMay k s
@@ -108,14 +113,18 @@ co_may_same : (c : ℕ → Colour) (f : ℕ) (k : Colour) (s : Sign) → Cocircu
 co_may_same c f k s h = rw (eq-eqb f f refl) at h
 
 -- allowed at f and elsewhere
-everywhere : (c : ℕ → Colour) (f : ℕ) (x : SignVector) → CircuitMay (c f) (x f) → ((g : ℕ) → g ≢ f → CircuitMay (c g) (x g)) → (g : ℕ) → CircuitMay (c g) (x g)
+everywhere : (c : ℕ → Colour) (f : ℕ) (x : SignVector) → CircuitMay (c f) (x f)
+    → ((g : ℕ) → g ≢ f → CircuitMay (c g) (x g)) → (g : ℕ) → CircuitMay (c g) (x g)
 everywhere c f x here others g = elim (cases_eq g f) [ inl q ↦ rw q here | inr n ↦ others g n ]
 
-co_everywhere : (c : ℕ → Colour) (f : ℕ) (x : SignVector) → CocircuitMay (c f) (x f) → ((g : ℕ) → g ≢ f → CocircuitMay (c g) (x g)) → (g : ℕ) → CocircuitMay (c g) (x g)
+co_everywhere : (c : ℕ → Colour) (f : ℕ) (x : SignVector) → CocircuitMay (c f) (x f)
+    → ((g : ℕ) → g ≢ f → CocircuitMay (c g) (x g)) → (g : ℕ) → CocircuitMay (c g) (x g)
 co_everywhere c f x here others g = elim (cases_eq g f) [ inl q ↦ rw q here | inr n ↦ others g n ]
 
 -- a circuit and a cocircuit that are both wrong at f, and right elsewhere, are not orthogonal
-clash : (c : ℕ → Colour) (e f : ℕ) (x y : SignVector) → IsColoured (c e) → IsColoured (c f) → e ≢ f → IsNonzero (x e) → IsNonzero (y e) → ((g : ℕ) → g ≢ f → CircuitMay (c g) (x g)) → ((g : ℕ) → g ≢ f → CocircuitMay (c g) (y g)) → (CircuitMay (c f) (x f) → ⊥) → (CircuitMay (c f) (y f) → ⊥) → Orthogonal x y → ⊥
+clash : (c : ℕ → Colour) (e f : ℕ) (x y : SignVector) → IsColoured (c e) → IsColoured (c f) → e ≢ f → IsNonzero (x e)
+    → IsNonzero (y e) → ((g : ℕ) → g ≢ f → CircuitMay (c g) (x g)) → ((g : ℕ) → g ≢ f → CocircuitMay (c g) (y g))
+    → (CircuitMay (c f) (x f) → ⊥) → (CircuitMay (c f) (y f) → ⊥) → Orthogonal x y → ⊥
 clash c e f x y ie jf ne nx ny hx hy wx wy o =
     let r = o.minus (e, both_right (c e) (x e) (y e) ie (hx e ne) (hy e ne) nx ny) in
     elim (cases_eq r.0 f) [
@@ -169,19 +178,39 @@ module _ (E : List ℕ) (C D : SignVector → Type 0) (pair : IsDualPair E C D) 
 
   -- ---- one coloured element
 
-  turned_circuit : (c : ℕ → Colour) (e : ℕ) → IsColoured (c e) → ((g : ℕ) → g ≢ e → IsColoured (c g) → ⊥) → (X : SignVector) → C X → IsNonzero (X e) → ((g : ℕ) → g ≢ e → is_black (c g) ≡ false → X g ≡ Zero) → CircuitMay (c e) (X e) ⊎ CircuitMay (c e) (opposite (X e)) → SomeCircuit C c e
+  turned_circuit : (c : ℕ → Colour) (e : ℕ) → IsColoured (c e) → ((g : ℕ) → g ≢ e → IsColoured (c g) → ⊥)
+      → (X : SignVector) → C X → IsNonzero (X e) → ((g : ℕ) → g ≢ e → is_black (c g) ≡ false → X g ≡ Zero)
+      → CircuitMay (c e) (X e) ⊎ CircuitMay (c e) (opposite (X e)) → SomeCircuit C c e
   turned_circuit c e i only X x n z (inl ok) =
       (X, x, n, everywhere c e X ok (λ g ne. circuit_may_rest (c g) (X g) (only g ne) (z g ne)))
-  turned_circuit c e i only X x n z (inr ok) =
-      (negated X, pair.negated_circuit X x, opposite_nonzero (X e) n, everywhere c e (negated X) ok (λ g ne. circuit_may_rest (c g) (opposite (X g)) (only g ne) (λ b. opposite_zero (X g) (z g ne b))))
+  turned_circuit c e i only X x n z (inr ok) = (
+    negated X,
+    pair.negated_circuit X x,
+    opposite_nonzero (X e) n,
+    everywhere c e (negated X) ok
+        (λ g ne. circuit_may_rest (c g) (opposite (X g)) (only g ne) (λ b. opposite_zero (X g) (z g ne b))),
+  )
 
-  turned_cocircuit : (c : ℕ → Colour) (e : ℕ) → IsColoured (c e) → ((g : ℕ) → g ≢ e → IsColoured (c g) → ⊥) → (Y : SignVector) → D Y → IsNonzero (Y e) → ((g : ℕ) → is_black (c g) ≡ true → Y g ≡ Zero) → CircuitMay (c e) (Y e) ⊎ CircuitMay (c e) (opposite (Y e)) → SomeCocircuit D c e
-  turned_cocircuit c e i only Y y n z (inl ok) =
-      (Y, y, n, co_everywhere c e Y (co_same_on_coloured (c e) (Y e) i ok) (λ g ne. cocircuit_may_rest (c g) (Y g) (only g ne) (z g)))
-  turned_cocircuit c e i only Y y n z (inr ok) =
-      (negated Y, pair.negated_cocircuit Y y, opposite_nonzero (Y e) n, co_everywhere c e (negated Y) (co_same_on_coloured (c e) (opposite (Y e)) i ok) (λ g ne. cocircuit_may_rest (c g) (opposite (Y g)) (only g ne) (λ b. opposite_zero (Y g) (z g b))))
+  turned_cocircuit : (c : ℕ → Colour) (e : ℕ) → IsColoured (c e) → ((g : ℕ) → g ≢ e → IsColoured (c g) → ⊥)
+      → (Y : SignVector) → D Y → IsNonzero (Y e) → ((g : ℕ) → is_black (c g) ≡ true → Y g ≡ Zero)
+      → CircuitMay (c e) (Y e) ⊎ CircuitMay (c e) (opposite (Y e)) → SomeCocircuit D c e
+  turned_cocircuit c e i only Y y n z (inl ok) = (
+    Y,
+    y,
+    n,
+    co_everywhere c e Y (co_same_on_coloured (c e) (Y e) i ok)
+        (λ g ne. cocircuit_may_rest (c g) (Y g) (only g ne) (z g)),
+  )
+  turned_cocircuit c e i only Y y n z (inr ok) = (
+    negated Y,
+    pair.negated_cocircuit Y y,
+    opposite_nonzero (Y e) n,
+    co_everywhere c e (negated Y) (co_same_on_coloured (c e) (opposite (Y e)) i ok)
+        (λ g ne. cocircuit_may_rest (c g) (opposite (Y g)) (only g ne) (λ b. opposite_zero (Y g) (z g b))),
+  )
 
-  base : (c : ℕ → Colour) (e : ℕ) → IsMember e E → IsColoured (c e) → ((g : ℕ) → g ≢ e → IsColoured (c g) → ⊥) → SomeCircuit C c e ⊎ SomeCocircuit D c e
+  base : (c : ℕ → Colour) (e : ℕ) → IsMember e E → IsColoured (c e) → ((g : ℕ) → g ≢ e → IsColoured (c g) → ⊥)
+      → SomeCircuit C c e ⊎ SomeCocircuit D c e
   base c e m i only = elim (pair.two_colours e m (λ g. is_black (c g)) (coloured_not_black (c e) i)) [
     | inl (X, x, n, z) ↦ inl (turned_circuit c e i only X x n z (one_sign_may (c e) (X e) i))
     | inr (Y, y, n, z) ↦ inr (turned_cocircuit c e i only Y y n z (one_sign_may (c e) (Y e) i))
@@ -189,7 +218,9 @@ module _ (E : List ℕ) (C D : SignVector → Type 0) (pair : IsDualPair E C D) 
 
   -- ---- all coloured elements, one after another
 
-  step : (c : ℕ → Colour) (e f : ℕ) → IsColoured (c e) → IsColoured (c f) → e ≢ f → SomeCircuit C (paint c f black) e ⊎ SomeCocircuit D (paint c f black) e → SomeCircuit C (paint c f white) e ⊎ SomeCocircuit D (paint c f white) e → SomeCircuit C c e ⊎ SomeCocircuit D c e
+  step : (c : ℕ → Colour) (e f : ℕ) → IsColoured (c e) → IsColoured (c f) → e ≢ f → SomeCircuit C (paint c f black) e
+      ⊎ SomeCocircuit D (paint c f black) e → SomeCircuit C (paint c f white) e ⊎ SomeCocircuit D (paint c f white) e
+      → SomeCircuit C c e ⊎ SomeCocircuit D c e
   step c e f ie jf ne (inr (y, dy, ny, ay)) second =
       inr (
         y,
@@ -200,7 +231,13 @@ module _ (E : List ℕ) (C D : SignVector → Type 0) (pair : IsDualPair E C D) 
             (λ g n. co_may_other c f g black (y g) n (ay g)),
       )
   step c e f ie jf ne (inl first) (inl (x, cx, nx, ax)) =
-      inl (x, cx, nx, everywhere c f x (zero_may (c f) (x f) jf (may_same c f white (x f) (ax f))) (λ g n. may_other c f g white (x g) n (ax g)))
+      inl (
+        x,
+        cx,
+        nx,
+        everywhere c f x (zero_may (c f) (x f) jf (may_same c f white (x f) (ax f)))
+            (λ g n. may_other c f g white (x g) n (ax g)),
+      )
   step c e f ie jf ne (inl (x, cx, nx, ax)) (inr (y, dy, ny, ay)) =
       let hx : (g : ℕ) → g ≢ f → CircuitMay (c g) (x g) = λ g n. may_other c f g black (x g) n (ax g) in
       let hy : (g : ℕ) → g ≢ f → CocircuitMay (c g) (y g) = λ g n. co_may_other c f g white (y g) n (ay g) in
@@ -212,7 +249,9 @@ module _ (E : List ℕ) (C D : SignVector → Type 0) (pair : IsDualPair E C D) 
         ]
       ]
 
-  fewer : (c : ℕ → Colour) (e f : ℕ) (k : Colour) (fs : List ℕ) → (IsColoured k → ⊥) → ((g : ℕ) → g ≢ e → IsColoured (c g) → IsMember g (f ∷ fs)) → (g : ℕ) → g ≢ e → IsColoured (paint c f k g) → IsMember g fs
+  fewer : (c : ℕ → Colour) (e f : ℕ) (k : Colour) (fs : List ℕ) → (IsColoured k → ⊥)
+      → ((g : ℕ) → g ≢ e → IsColoured (c g) → IsMember g (f ∷ fs)) → (g : ℕ) → g ≢ e → IsColoured (paint c f k g)
+      → IsMember g fs
   fewer c e f k fs nk among g n i = elim (cases_eq g f) [
     | inl q ↦ absurd (nk (rw (eq-eqb g f q) at i))
     | inr m ↦ later m (among g n (rw (ne_eqb g f m) at i))
@@ -222,7 +261,8 @@ module _ (E : List ℕ) (C D : SignVector → Type 0) (pair : IsDualPair E C D) 
       later m (inl q) = absurd (m q)
       later m (inr q) = q
 
-  painting_by : (fs : List ℕ) (c : ℕ → Colour) (e : ℕ) → IsMember e E → IsColoured (c e) → ((f : ℕ) → f ≢ e → IsColoured (c f) → IsMember f fs) → SomeCircuit C c e ⊎ SomeCocircuit D c e
+  painting_by : (fs : List ℕ) (c : ℕ → Colour) (e : ℕ) → IsMember e E → IsColoured (c e)
+      → ((f : ℕ) → f ≢ e → IsColoured (c f) → IsMember f fs) → SomeCircuit C c e ⊎ SomeCocircuit D c e
   painting_by [] c e em ie among = base c e em ie (λ f n i. among f n i)
   painting_by (f ∷ fs) c e em ie among = elim (cases_eq e f) [
     | inl q ↦ painting_by fs c e em ie (λ g n i. skip_equal q g n (among g n i))
@@ -242,5 +282,6 @@ module _ (E : List ℕ) (C D : SignVector → Type 0) (pair : IsDualPair E C D) 
       skip_plain nf g i (inl r) = absurd (nf (rw r at i))
       skip_plain nf g i (inr r) = r
 
-  pub painting : (c : ℕ → Colour) (e : ℕ) → IsMember e E → IsColoured (c e) → ((f : ℕ) → IsColoured (c f) → IsMember f E) → SomeCircuit C c e ⊎ SomeCocircuit D c e
+  pub painting : (c : ℕ → Colour) (e : ℕ) → IsMember e E → IsColoured (c e)
+      → ((f : ℕ) → IsColoured (c f) → IsMember f E) → SomeCircuit C c e ⊎ SomeCocircuit D c e
   painting c e m i within = painting_by E c e m i (λ f n j. within f j)

@@ -1,8 +1,8 @@
 -- Colours of the signs of one vector and of two, for the painting of a dual pair.
 --
 -- Main definitions: colour_of, colour_of_two
--- Main results: what a colour lets a circuit (circuit_plus, circuit_not_minus, circuit_plus_left, circuit_plus_right) and a cocircuit have
--- (cocircuit_equal, cocircuit_either, cocircuit_first_nonzero, cocircuit_zero)
+-- Main results: what a colour lets a circuit (circuit_plus, circuit_not_minus, circuit_plus_left, circuit_plus_right)
+-- and a cocircuit have (cocircuit_equal, cocircuit_either, cocircuit_first_nonzero, cocircuit_zero)
 -- Reference: Björner, Las Vergnas, Sturmfels, White and Ziegler, Oriented Matroids, section 3.4.
 use Rattle.std.specs.Prelude.{◌≡◌, ◌≢◌, refl, ◌⊎◌}
 use Rattle.std.proofs.Common.{arith, inl, inr}
@@ -50,7 +50,8 @@ circuit_not_minus_left s t v a e = grind arith
 pub circuit_not_minus_right : (s t v : Sign) → CircuitMay (colour_of_two s t) v → product t v ≢ Minus
 circuit_not_minus_right s t v a e = grind arith
 
-pub colour_of_two_coloured : (s t : Sign) → IsNonzero (first_nonzero s t) → (s ≡ opposite t → ⊥) → IsColoured (colour_of_two s t)
+pub colour_of_two_coloured : (s t : Sign) → IsNonzero (first_nonzero s t) → (s ≡ opposite t → ⊥)
+    → IsColoured (colour_of_two s t)
 colour_of_two_coloured Minus Plus n o = absurd (o refl)
 colour_of_two_coloured Plus Minus n o = absurd (o refl)
 colour_of_two_coloured Zero Zero n o = absurd (n refl)
@@ -79,13 +80,16 @@ cocircuit_either Plus Zero v a n = inl (grind arith)
 cocircuit_either Plus Plus v a n = inl (grind arith)
 cocircuit_either Zero Plus v a n = inr (grind arith)
 
-pub cocircuit_first_nonzero : (s t v : Sign) → IsColoured (colour_of_two s t) → CocircuitMay (colour_of_two s t) v → IsNonzero v → v ≡ first_nonzero s t
+pub cocircuit_first_nonzero : (s t v : Sign) → IsColoured (colour_of_two s t) → CocircuitMay (colour_of_two s t) v
+    → IsNonzero v → v ≡ first_nonzero s t
 cocircuit_first_nonzero s t v r a n = grind arith
 
-pub circuit_plus_left : (s t v : Sign) → IsColoured (colour_of_two s t) → CircuitMay (colour_of_two s t) v → IsNonzero v → IsNonzero s → product s v ≡ Plus
+pub circuit_plus_left : (s t v : Sign) → IsColoured (colour_of_two s t) → CircuitMay (colour_of_two s t) v → IsNonzero v
+    → IsNonzero s → product s v ≡ Plus
 circuit_plus_left s t v r a n m = grind arith
 
-pub circuit_plus_right : (s t v : Sign) → IsColoured (colour_of_two s t) → CircuitMay (colour_of_two s t) v → IsNonzero v → IsNonzero t → product t v ≡ Plus
+pub circuit_plus_right : (s t v : Sign) → IsColoured (colour_of_two s t) → CircuitMay (colour_of_two s t) v
+    → IsNonzero v → IsNonzero t → product t v ≡ Plus
 circuit_plus_right s t v r a n m = grind arith
 
 pub turned_left : (s t v : Sign) → s ≡ opposite t → product s v ≡ Minus → product t v ≡ Plus

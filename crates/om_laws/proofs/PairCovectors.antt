@@ -1,8 +1,9 @@
 -- Covectors and cocircuits of a dual pair of sets of sign vectors: each is told by the others.
 --
--- Main results: the covectors are the compositions of cocircuits (covector_is_composition, composition_is_covector), and the cocircuits are the
--- nonzero covectors of minimal support (cocircuit_minimal, minimal_is_cocircuit); a vector is orthogonal to all covectors exactly if it is
--- orthogonal to all cocircuits (orthogonal_to_covectors, orthogonal_to_cocircuits). For circuits and vectors, take the pair in the other order.
+-- Main results: the covectors are the compositions of cocircuits (covector_is_composition, composition_is_covector),
+-- and the cocircuits are the nonzero covectors of minimal support (cocircuit_minimal, minimal_is_cocircuit); a vector
+-- is orthogonal to all covectors exactly if it is orthogonal to all cocircuits (orthogonal_to_covectors,
+-- orthogonal_to_cocircuits). For circuits and vectors, take the pair in the other order.
 -- Reference: Björner, Las Vergnas, Sturmfels, White and Ziegler, Oriented Matroids, chapters 3 and 4.
 use Rattle.std.specs.Prelude.{ℕ, ◌≡◌, refl, List, [], ◌∷◌}
 use Rattle.std.proofs.Common.{sym, ◌∙◌, ap, subst, ⊎_elim}
@@ -19,7 +20,8 @@ use Rattle.om_laws.proofs.PairElimination.{conformal_decomposition, orthogonal_f
 use Rattle.om_laws.proofs.PairAxioms.{incomparable, cocircuit_is_covector, covector_axioms}
 
 -- being a covector depends on the signs alone
-pub covector_same : (E : List ℕ) (C : SignVector → Type 0) (X Y : SignVector) → ((e : ℕ) → X e ≡ Y e) → IsCovectorOf E C Y → IsCovectorOf E C X
+pub covector_same : (E : List ℕ) (C : SignVector → Type 0) (X Y : SignVector) → ((e : ℕ) → X e ≡ Y e)
+    → IsCovectorOf E C Y → IsCovectorOf E C X
 covector_same E C X Y q y = record {
   orthogonal = λ V v. orthogonal_same X Y V V q (λ e. refl) (y.orthogonal V v);
   supported = λ e n. y.supported e (subst IsNonzero (q e) n);
@@ -28,10 +30,13 @@ covector_same E C X Y q y = record {
 module _ (E : List ℕ) (C D : SignVector → Type 0) (pair : IsDualPair E C D) where
   pub composition_is_covector : (Ys : List SignVector) → EachVector D Ys → IsCovectorOf E C (composition_of Ys)
   composition_is_covector [] d = (covector_axioms E C D pair).zero
-  composition_is_covector (Y ∷ Ys) d = (covector_axioms E C D pair).composition_closed Y (composition_of Ys) (cocircuit_is_covector E C D pair Y d.0) (composition_is_covector Ys d.1)
+  composition_is_covector (Y ∷ Ys) d =
+      (covector_axioms E C D pair).composition_closed Y (composition_of Ys) (cocircuit_is_covector E C D pair Y d.0)
+      (composition_is_covector Ys d.1)
 
   pub covector_is_composition : (X : SignVector) → IsCovectorOf E C X → IsConformalComposition D X
-  covector_is_composition X x = conformal_from_parts D X (conformal_decomposition E C D pair X x.supported x.orthogonal) E x.supported
+  covector_is_composition X x =
+      conformal_from_parts D X (conformal_decomposition E C D pair X x.supported x.orthogonal) E x.supported
 
   -- made of conforming cocircuits
   pub covector_from_parts : (X : SignVector) → HasConformingParts D X → IsCovectorOf E C X
@@ -50,7 +55,8 @@ module _ (E : List ℕ) (C D : SignVector → Type 0) (pair : IsDualPair E C D) 
       (λ q. nonzero_if_opposite (Z g) (Y g) (q g) m)
       (incomparable E C D pair Z Y z.orthogonal d sub n.0 n.1)
 
-  pub minimal_is_cocircuit : (X : SignVector) → IsCovectorOf E C X → HasNonzero X → HasLeastSupport (IsCovectorOf E C) X → (Y : SignVector) × D Y × ((g : ℕ) → X g ≡ Y g)
+  pub minimal_is_cocircuit : (X : SignVector) → IsCovectorOf E C X → HasNonzero X → HasLeastSupport (IsCovectorOf E C) X
+      → (Y : SignVector) × D Y × ((g : ℕ) → X g ≡ Y g)
   minimal_is_cocircuit X x n least =
       let y = conformal_decomposition E C D pair X x.supported x.orthogonal n.0 n.1 in
       let ny : IsNonzero (y.0 n.0) = subst IsNonzero (sym y.2) n.1 in
@@ -66,8 +72,11 @@ module _ (E : List ℕ) (C D : SignVector → Type 0) (pair : IsDualPair E C D) 
   pub orthogonal_to_covectors : (Y : SignVector) → IsOrthogonalToAll D Y → IsOrthogonalToAll (IsCovectorOf E C) Y
   orthogonal_to_covectors Y o X x = orthogonal_from Y X (λ e t n h.
       let z = conformal_decomposition E C D pair X x.supported x.orthogonal e (right_nonzero (Y e) (X e) t h n) in
-      let k = opposite_product Y z.0 (o z.0 z.1) e t n (ap (product (Y e)) z.2 ∙ h) in
-      (k.0, ap (product (Y k.0)) (sym (z.3 k.0 (right_nonzero (Y k.0) (z.0 k.0) (opposite t) k.1 (opposite_nonzero t n)))) ∙ k.1))
+      let k = opposite_product Y z.0 (o z.0 z.1) e t n (ap (product (Y e)) z.2 ∙ h) in (
+        k.0,
+        ap (product (Y k.0))
+            (sym (z.3 k.0 (right_nonzero (Y k.0) (z.0 k.0) (opposite t) k.1 (opposite_nonzero t n)))) ∙ k.1,
+      ))
 
   pub orthogonal_to_cocircuits : (Y : SignVector) → IsOrthogonalToAll (IsCovectorOf E C) Y → IsOrthogonalToAll D Y
   orthogonal_to_cocircuits Y o X d = o X (cocircuit_is_covector E C D pair X d)

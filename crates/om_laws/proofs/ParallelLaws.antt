@@ -1,7 +1,7 @@
 -- Loops, coloops and parallel elements of a chirotope.
 --
--- Main results: all covectors are zero at a loop, all circuits at a coloop (loop_covector, coloop_circuit); at two parallel elements all covectors
--- are equal, or all are opposite (parallel_covectors).
+-- Main results: all covectors are zero at a loop, all circuits at a coloop (loop_covector, coloop_circuit); at two
+-- parallel elements all covectors are equal, or all are opposite (parallel_covectors).
 -- Reference: Björner, Las Vergnas, Sturmfels, White and Ziegler, Oriented Matroids, chapter 3.
 use Rattle.std.specs.Prelude.{ℕ, ◌≡◌, ◌≢◌, refl, List, [], ◌∷◌, ◌++◌}
 use Rattle.std.proofs.Common.{arith, inl, inr, sym, ◌∙◌, subst, ⊎_elim}
@@ -22,23 +22,28 @@ use Rattle.om_laws.proofs.BaseLaws.{fundamental_circuit}
 use Rattle.om_laws.proofs.ChirotopeCovectors.{cocircuit_covector}
 use Rattle.om_laws.proofs.MemberLaws.{split_at, member_middle, member_drop, member_insert, distinct_drop}
 use Rattle.om_laws.proofs.RelationLaws.{around_member, nonzero_from_around}
-use Rattle.om_laws.proofs.SignLaws.{zero_or_nonzero, product_zero_left, product_nonzero, opposite_nonzero, opposite_zero, left_nonzero, not_own_opposite}
+use Rattle.om_laws.proofs.SignLaws.{zero_or_nonzero, product_zero_left, product_nonzero, opposite_nonzero}
+use Rattle.om_laws.proofs.SignLaws.{opposite_zero, left_nonzero, not_own_opposite}
 use Rattle.om_laws.proofs.TupleLaws.{nonzero_to_end}
 use Rattle.om_laws.proofs.VectorLaws.{opposite_product, orthogonal_sym, same_zero}
 
 -- two orthogonal vectors with products at two elements alone
-two_places : (x y : SignVector) → Orthogonal x y → (e h : ℕ) → ((g : ℕ) → g ≢ e → g ≢ h → product (x g) (y g) ≡ Zero) → IsNonzero (product (x e) (y e)) → product (x h) (y h) ≡ opposite (product (x e) (y e))
+two_places : (x y : SignVector) → Orthogonal x y → (e h : ℕ) → ((g : ℕ) → g ≢ e → g ≢ h → product (x g) (y g) ≡ Zero)
+    → IsNonzero (product (x e) (y e)) → product (x h) (y h) ≡ opposite (product (x e) (y e))
 two_places x y o e h zero n =
     let k = opposite_product x y o e (product (x e) (y e)) n refl in
     elim (cases_eq k.0 e) [
-      | inl q ↦ absurd (not_own_opposite (product (x e) (y e)) n (subst (λ g. product (x g) (y g) ≡ opposite (product (x e) (y e))) q k.1))
+      | inl q ↦
+          absurd (not_own_opposite (product (x e) (y e)) n
+          (subst (λ g. product (x g) (y g) ≡ opposite (product (x e) (y e))) q k.1))
       | inr ne ↦ elim (cases_eq k.0 h) [
         | inl q ↦ subst (λ g. product (x g) (y g) ≡ opposite (product (x e) (y e))) q k.1
         | inr nh ↦ absurd (opposite_nonzero (product (x e) (y e)) n (sym k.1 ∙ zero k.0 ne nh))
       ]
     ]
 
-balanced_places : (x y : SignVector) → Orthogonal x y → (e h : ℕ) → ((g : ℕ) → g ≢ e → g ≢ h → product (x g) (y g) ≡ Zero) → product (x h) (y h) ≡ opposite (product (x e) (y e))
+balanced_places : (x y : SignVector) → Orthogonal x y → (e h : ℕ)
+    → ((g : ℕ) → g ≢ e → g ≢ h → product (x g) (y g) ≡ Zero) → product (x h) (y h) ≡ opposite (product (x e) (y e))
 balanced_places x y o e h zero = elim (zero_or_nonzero (product (x e) (y e))) [
   | inl z ↦ elim (zero_or_nonzero (product (x h) (y h))) [
     | inl w ↦ w ∙ sym (opposite_zero (product (x e) (y e)) z)
@@ -65,23 +70,28 @@ module _ (E : List ℕ) (chi : List ℕ → Sign) (om : IsChirotope E chi) where
         let k = opposite_product X W (orthogonal_sym W X (w.orthogonal X f.circuit)) e s ns refl in
         let nk : IsNonzero (X k.0) = left_nonzero (X k.0) (W k.0) (opposite s) k.1 (opposite_nonzero s ns) in
         absurd (⊎_elim
-        (λ m. (let p = split_at k.0 t m in loop (p.0 ++ e ∷ p.1) ((f.exchange p.0 k.0 p.1 p.2).0 nk) (member_middle e p.0 p.1)))
+        (λ m. (let p = split_at k.0 t m in
+        loop (p.0 ++ e ∷ p.1) ((f.exchange p.0 k.0 p.1 p.2).0 nk) (member_middle e p.0 p.1)))
         (λ q. not_own_opposite s ns (subst (λ z. product (X z) (W z) ≡ opposite s) q k.1))
         (f.support k.0 nk))
   ]
 
   pub coloop_circuit : (e : ℕ) → IsColoop chi e → (X : SignVector) → IsCircuit E chi X → X e ≡ Zero
-  coloop_circuit e coloop X c = same_zero X (around chi c.tuple) c.same e (elim (zero_or_nonzero (around chi c.tuple e)) [
-    | inl z ↦ z
-    | inr m ↦
-        let s = split_at e c.tuple (around_member chi c.tuple e m) in
-        let ds = subst IsDistinct s.2 c.distinct in
-        absurd ((distinct_drop s.0 e s.1 ds).1 (coloop (s.0 ++ s.1) (nonzero_from_around chi s.0 e s.1 ds (subst (λ l. IsNonzero (around chi l e)) s.2 m))))
-  ])
+  coloop_circuit e coloop X c =
+      same_zero X (around chi c.tuple) c.same e (elim (zero_or_nonzero (around chi c.tuple e)) [
+        | inl z ↦ z
+        | inr m ↦
+            let s = split_at e c.tuple (around_member chi c.tuple e m) in
+            let ds = subst IsDistinct s.2 c.distinct in
+            absurd ((distinct_drop s.0 e s.1 ds).1
+            (coloop (s.0 ++ s.1)
+            (nonzero_from_around chi s.0 e s.1 ds (subst (λ l. IsNonzero (around chi l e)) s.2 m))))
+      ])
 
   -- ---- parallel elements
 
-  module _ (e h : ℕ) (ne : e ≢ h) (be : IsInBase chi e) (bh : IsInBase chi h) (parallel : (t : List ℕ) → IsBase chi t → IsMember e t → IsMember h t → ⊥) (ih : IsMember h E) where
+  module _ (e h : ℕ) (ne : e ≢ h) (be : IsInBase chi e) (bh : IsInBase chi h)
+      (parallel : (t : List ℕ) → IsBase chi t → IsMember e t → IsMember h t → ⊥) (ih : IsMember h E) where
     off : IsMember h (be.0 ++ e ∷ be.1) → ⊥
     off m = parallel (be.0 ++ e ∷ be.1) be.2 (member_middle e be.0 be.1) m
 
@@ -96,15 +106,19 @@ module _ (E : List ℕ) (chi : List ℕ → Sign) (om : IsChirotope E chi) where
           (λ m.
           let s = split_at g (be.0 ++ e ∷ be.1) m in
           let b = (fundamental.exchange s.0 g s.1 s.2).0 n in
-          let me : IsMember e (s.0 ++ s.1) = ⊎_elim (λ q. absurd (ge (sym q))) (λ k. k) (member_drop e s.0 g s.1 (subst (IsMember e) s.2 (member_middle e be.0 be.1))) in
+          let me : IsMember e (s.0 ++ s.1) =
+          ⊎_elim (λ q. absurd (ge (sym q))) (λ k. k)
+          (member_drop e s.0 g s.1 (subst (IsMember e) s.2 (member_middle e be.0 be.1))) in
           parallel (s.0 ++ h ∷ s.1) b (member_insert e s.0 h s.1 me) (member_middle h s.0 s.1))
           (λ q. gh q)
           (fundamental.support g n))
     ]
 
-    places : (W : SignVector) → IsCovector E chi W → product (around chi ((be.0 ++ e ∷ be.1) ++ h ∷ []) h) (W h) ≡ opposite (product (around chi ((be.0 ++ e ∷ be.1) ++ h ∷ []) e) (W e))
+    places : (W : SignVector) → IsCovector E chi W → product (around chi ((be.0 ++ e ∷ be.1) ++ h ∷ []) h) (W h)
+        ≡ opposite (product (around chi ((be.0 ++ e ∷ be.1) ++ h ∷ []) e) (W e))
     places W w = balanced_places (around chi ((be.0 ++ e ∷ be.1) ++ h ∷ [])) W
-        (orthogonal_sym W (around chi ((be.0 ++ e ∷ be.1) ++ h ∷ [])) (w.orthogonal (around chi ((be.0 ++ e ∷ be.1) ++ h ∷ [])) fundamental.circuit)) e h
+        (orthogonal_sym W (around chi ((be.0 ++ e ∷ be.1) ++ h ∷ []))
+        (w.orthogonal (around chi ((be.0 ++ e ∷ be.1) ++ h ∷ [])) fundamental.circuit)) e h
         (λ g a b. product_zero_left (around chi ((be.0 ++ e ∷ be.1) ++ h ∷ []) g) (W g) (elsewhere g a b))
 
     -- some covector is nonzero at h, so the circuit is nonzero at e
@@ -112,11 +126,15 @@ module _ (E : List ℕ) (chi : List ℕ → Sign) (om : IsChirotope E chi) where
     at_other z =
         let y = along chi (bh.0 ++ bh.1) in
         let ny : IsNonzero (y h) = nonzero_to_end chi om.alternating bh.0 bh.1 h bh.2 in
-        let p = places y (cocircuit_covector E chi om y (record { tuple = bh.0 ++ bh.1; nonzero = (h, ny); same = inl (λ g. refl) })) in
+        let p = places y
+        (cocircuit_covector E chi om y
+        (record { tuple = bh.0 ++ bh.1; nonzero = (h, ny); same = inl (λ g. refl) })) in
         product_nonzero (around chi ((be.0 ++ e ∷ be.1) ++ h ∷ []) h) (y h) fundamental.at_element ny
-        (p ∙ opposite_zero (product (around chi ((be.0 ++ e ∷ be.1) ++ h ∷ []) e) (y e)) (product_zero_left (around chi ((be.0 ++ e ∷ be.1) ++ h ∷ []) e) (y e) z))
+        (p ∙ opposite_zero (product (around chi ((be.0 ++ e ∷ be.1) ++ h ∷ []) e) (y e))
+        (product_zero_left (around chi ((be.0 ++ e ∷ be.1) ++ h ∷ []) e) (y e) z))
 
-    sign_of_parallel : (a b u v : Sign) → IsNonzero a → product b v ≡ opposite (product a u) → IsNonzero b → v ≡ product (opposite (product a b)) u
+    sign_of_parallel : (a b u v : Sign) → IsNonzero a → product b v ≡ opposite (product a u) → IsNonzero b
+        → v ≡ product (opposite (product a b)) u
     sign_of_parallel a b u v na q nb = grind arith
 
     -- all covectors have the same product of signs at two parallel elements

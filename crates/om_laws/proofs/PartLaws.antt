@@ -7,12 +7,15 @@ use Rattle.std.proofs.Common.{sym, ◌∙◌, ap, subst, ⊎_elim}
 use Rattle.om_laws.specs.Signs.{IsNonzero}
 use Rattle.om_laws.specs.Members.{IsMember}
 use Rattle.om_laws.specs.Vectors.{SignVector, IsConformal, IsSupportedOn}
-use Rattle.om_laws.specs.Compositions.{EachVector, IsConforming, IsComposition, IsConformalComposition, HasConformingParts, composition_of}
-use Rattle.om_laws.proofs.SignLaws.{zero_or_nonzero, first_nonzero_cases, first_nonzero_from_left, first_nonzero_from_right}
+use Rattle.om_laws.specs.Compositions.{EachVector, IsConforming, IsComposition, IsConformalComposition}
+use Rattle.om_laws.specs.Compositions.{HasConformingParts, composition_of}
+use Rattle.om_laws.proofs.SignLaws.{zero_or_nonzero, first_nonzero_cases, first_nonzero_from_left}
+use Rattle.om_laws.proofs.SignLaws.{first_nonzero_from_right}
 
 module _ (D : SignVector → Type 0) (X : SignVector) (parts : HasConformingParts D X) where
   -- conforming members that reach each element of a list where X is nonzero
-  gather : (l : List ℕ) → (Ys : List SignVector) × EachVector (IsConforming D X) Ys × IsConformal (composition_of Ys) X × ((e : ℕ) → IsMember e l → IsNonzero (X e) → IsNonzero (composition_of Ys e))
+  gather : (l : List ℕ) → (Ys : List SignVector) × EachVector (IsConforming D X) Ys × IsConformal (composition_of Ys) X
+      × ((e : ℕ) → IsMember e l → IsNonzero (X e) → IsNonzero (composition_of Ys e))
   gather [] = ([], tt, (λ e n. absurd (n refl)), λ e m n. absurd m)
   gather (h ∷ l) =
       let r = gather l in
@@ -22,9 +25,11 @@ module _ (D : SignVector → Type 0) (X : SignVector) (parts : HasConformingPart
       let y = parts h nz in (
         y.0 ∷ r.0,
         ((y.1, y.3), r.1),
-        (λ e n. ⊎_elim (λ a. a.1 ∙ y.3 e a.0) (λ b. b.2 ∙ r.2 e b.1) (first_nonzero_cases (y.0 e) (composition_of r.0 e) n)),
+        (λ e n. ⊎_elim (λ a. a.1 ∙ y.3 e a.0) (λ b. b.2 ∙ r.2 e b.1)
+            (first_nonzero_cases (y.0 e) (composition_of r.0 e) n)),
         λ e m n. ⊎_elim
-            (λ q. first_nonzero_from_left (y.0 e) (composition_of r.0 e) (subst (λ k. IsNonzero (y.0 k)) (sym q) (subst IsNonzero (sym y.2) nz)))
+            (λ q. first_nonzero_from_left (y.0 e) (composition_of r.0 e)
+            (subst (λ k. IsNonzero (y.0 k)) (sym q) (subst IsNonzero (sym y.2) nz)))
             (λ k. first_nonzero_from_right (y.0 e) (composition_of r.0 e) (r.3 e k n))
             m,
       ))
@@ -43,9 +48,11 @@ module _ (D : SignVector → Type 0) (X : SignVector) (parts : HasConformingPart
 
 -- ---- forgetting that they conform
 
-each_conforming : (D : SignVector → Type 0) (X : SignVector) (Ys : List SignVector) → EachVector (IsConforming D X) Ys → EachVector D Ys
+each_conforming : (D : SignVector → Type 0) (X : SignVector) (Ys : List SignVector) → EachVector (IsConforming D X) Ys
+    → EachVector D Ys
 each_conforming D X [] h = tt
 each_conforming D X (Y ∷ Ys) h = (h.0.0, each_conforming D X Ys h.1)
 
-pub composition_from_conformal : (D : SignVector → Type 0) (X : SignVector) → IsConformalComposition D X → IsComposition D X
+pub composition_from_conformal : (D : SignVector → Type 0) (X : SignVector) → IsConformalComposition D X
+    → IsComposition D X
 composition_from_conformal D X k = (k.0, each_conforming D X k.0 k.1, k.2)

@@ -1,7 +1,8 @@
 -- The algebra of signs.
 --
--- Main results: the laws of products, gathered in the ruleset `products`; a sign that is its own opposite is zero (own_opposite); two nonzero
--- signs are equal or opposite (equal_or_opposite); where the first nonzero one of two signs comes from (first_nonzero_cases, first_of_two).
+-- Main results: the laws of products, gathered in the ruleset `products`; a sign that is its own opposite is zero
+-- (own_opposite); two nonzero signs are equal or opposite (equal_or_opposite); where the first nonzero one of two signs
+-- comes from (first_nonzero_cases, first_of_two).
 use Rattle.std.proofs.Common.{ℕ, zero, suc, refl, arith, inl, inr, sym, ◌≡◌, ◌≢◌, ◌⊎◌, ◌∙◌}
 use Rattle.om_signs.specs.declared.sign.Sign.{Sign}
 use Rattle.om_signs.specs.declared.sign.Sign.TheVariants.{Minus, Zero, Plus}
@@ -43,7 +44,16 @@ product-zero s = grind arith
 pub product-plus : (s : Sign) → product s Plus ≡ s
 product-plus s = grind arith
 
-pub ruleset products = (product_comm, product_assoc, product_left_comm, product-opposite_left, product-opposite_right, opposite-opposite, product-zero, product-plus)
+pub ruleset products = (
+  product_comm,
+  product_assoc,
+  product_left_comm,
+  product-opposite_left,
+  product-opposite_right,
+  opposite-opposite,
+  product-zero,
+  product-plus,
+)
 
 pub product_zero_left : (s t : Sign) → s ≡ Zero → product s t ≡ Zero
 product_zero_left s t e = grind arith
@@ -124,7 +134,8 @@ nonzero_either Minus t n = inl minus_nonzero
 nonzero_either Zero t n = inr n
 nonzero_either Plus t n = inl plus_nonzero
 
-pub first_nonzero_cases : (s t : Sign) → IsNonzero (first_nonzero s t) → (IsNonzero s × (first_nonzero s t ≡ s)) ⊎ ((s ≡ Zero) × IsNonzero t × (first_nonzero s t ≡ t))
+pub first_nonzero_cases : (s t : Sign) → IsNonzero (first_nonzero s t) → (IsNonzero s × (first_nonzero s t ≡ s))
+    ⊎ ((s ≡ Zero) × IsNonzero t × (first_nonzero s t ≡ t))
 first_nonzero_cases Minus t n = inl (minus_nonzero, refl)
 first_nonzero_cases Zero t n = inr (refl, n, refl)
 first_nonzero_cases Plus t n = inl (plus_nonzero, refl)
@@ -135,7 +146,8 @@ first_nonzero_zero Zero t e = (refl, e)
 first_nonzero_zero Plus t e = absurd (plus_nonzero e)
 
 -- a sign that is one of two, where the two are not opposite, is the first nonzero one
-pub first_of_two : (s t z : Sign) → IsNonzero z → (z ≡ s) ⊎ (z ≡ t) → (IsNonzero s → s ≡ opposite t → ⊥) → z ≡ first_nonzero s t
+pub first_of_two : (s t z : Sign) → IsNonzero z → (z ≡ s) ⊎ (z ≡ t) → (IsNonzero s → s ≡ opposite t → ⊥)
+    → z ≡ first_nonzero s t
 first_of_two s t z n (inl e) o = e ∙ sym (first_nonzero_left s t (λ q. n (e ∙ q)))
 first_of_two Minus Minus z n (inr e) o = e
 first_of_two Minus Zero z n (inr e) o = absurd (n e)

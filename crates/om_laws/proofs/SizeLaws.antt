@@ -24,10 +24,13 @@ middle_length [] x y v = refl
 middle_length (c ∷ u) x y v = ap suc (middle_length u x y v)
 
 module _ (E : List ℕ) (chi : List ℕ → Sign) (om : IsChirotope E chi) where
-  outside_or_within : (s t : List ℕ) → ((e : ℕ) × IsMember e s × (IsMember e t → ⊥)) ⊎ ((e : ℕ) → IsMember e s → IsMember e t)
-  outside_or_within s t = search_members (λ e. IsMember e t → ⊥) (λ e. IsMember e t) (λ e. ⊎_elim (λ k. inr k) (λ n. inl n) (member_or_not e t)) s
+  outside_or_within : (s t : List ℕ) → ((e : ℕ) × IsMember e s × (IsMember e t → ⊥))
+      ⊎ ((e : ℕ) → IsMember e s → IsMember e t)
+  outside_or_within s t = search_members (λ e. IsMember e t → ⊥) (λ e. IsMember e t)
+      (λ e. ⊎_elim (λ k. inr k) (λ n. inl n) (member_or_not e t)) s
 
-  within : (s t : List ℕ) → IsNonzero (chi s) → IsNonzero (chi t) → ((e : ℕ) → IsMember e s → IsMember e t) → length s ≡ length t
+  within : (s t : List ℕ) → IsNonzero (chi s) → IsNonzero (chi t) → ((e : ℕ) → IsMember e s → IsMember e t)
+      → length s ≡ length t
   within s t ns nt sub = sym (same_members (λ l. length l ≡ length s) (λ u x y v q. swap_length u y x v ∙ q) s [] t
       (nonzero_distinct chi om.alternating s ns) (nonzero_distinct chi om.alternating t nt)
       sub (contained chi om.alternating (exchange E chi om) s t ns nt sub) refl)
@@ -40,7 +43,8 @@ module _ (E : List ℕ) (chi : List ℕ → Sign) (om : IsChirotope E chi) where
         k.0 ++ h.0 ∷ k.1,
         h.3,
         ap length k.2 ∙ middle_length k.0 e h.0 k.1,
-        ap suc (missing_middle_member t k.0 h.0 k.1 h.1) ∙ sym (missing_middle_other t k.0 e k.1 out) ∙ ap (missing t) (sym k.2),
+        ap suc (missing_middle_member t k.0 h.0 k.1 h.1) ∙ sym (missing_middle_other t k.0 e k.1 out)
+            ∙ ap (missing t) (sym k.2),
       )
 
   by_missing : (n : ℕ) (s t : List ℕ) → missing t s ≤ n → IsNonzero (chi s) → IsNonzero (chi t) → length s ≡ length t

@@ -1,11 +1,13 @@
 -- From increasing lists to all lists.
 --
 -- Main definitions: IsRising, HasEqualNeighbours, IsAboveEach.
--- Main results: what holds of increasing lists and of lists with equal neighbours, and is kept where neighbours change places, holds of
--- all lists (by_sorting); a map is its own value on increasing lists (value_increasing); two alternating maps that agree on increasing
--- lists are equal (alternating_equal); an increasing list is distinct (increasing_distinct).
+-- Main results: what holds of increasing lists and of lists with equal neighbours, and is kept where neighbours change
+-- places, holds of all lists (by_sorting); a map is its own value on increasing lists (value_increasing); two
+-- alternating maps that agree on increasing lists are equal (alternating_equal); an increasing list is distinct
+-- (increasing_distinct).
 use Rattle.std.proofs.lemmas.Bool.{cases_eq, cases_lt, lt-ltb, le-ltb}
-use Rattle.std.proofs.Common.{ℕ, List, refl, arith, inl, inr, sym, ap, subst, append_assoc, ◌≡◌, ◌≢◌, ◌⊎◌, ◌∷◌, ◌++◌, ◌<◌, ◌≤◌, [], ◌∙◌}
+use Rattle.std.proofs.Common.{ℕ, List, refl, arith, inl, inr, sym, ap, subst, append_assoc, ◌≡◌, ◌≢◌, ◌⊎◌, ◌∷◌, ◌++◌}
+use Rattle.std.proofs.Common.{◌<◌, ◌≤◌, [], ◌∙◌}
 use Rattle.om_signs.specs.declared.sign.Sign.{Sign}
 use Rattle.om_signs.specs.declared.sign.Sign.TheVariants.{Plus}
 use Rattle.om_signs.specs.Sign.{opposite}
@@ -20,7 +22,8 @@ IsRising [] = Unit {0}
 IsRising (x ∷ []) = Unit {0}
 IsRising (x ∷ y ∷ zs) = (x ≤ y) × IsRising (y ∷ zs)
 
-insert_rising_step : (x y z : ℕ) (zs : List ℕ) → (y ≤ z) × IsRising (z ∷ zs) → IsRising (insert x (z ∷ zs)) → IsRising (insert x (y ∷ z ∷ zs))
+insert_rising_step : (x y z : ℕ) (zs : List ℕ) → (y ≤ z) × IsRising (z ∷ zs) → IsRising (insert x (z ∷ zs))
+    → IsRising (insert x (y ∷ z ∷ zs))
 insert_rising_step x y z zs r h = elim (cases_lt x y) [
   | inl lt ↦ rw (lt-ltb x y lt) (le_from x y lt, (r.0, r.1))
   | inr ge ↦ rw (le-ltb x y ge) (elim (cases_lt x z) [
@@ -84,7 +87,8 @@ module _ (P : List ℕ → Type 0)
       let h1 : P ((cs ++ x ∷ []) ++ sorted xs) = rw append_assoc (move_in x (sorted xs) cs h) in
       rw append_assoc at (from_sorted xs (cs ++ x ∷ []) h1)
 
-  pub by_sorting : ((x : ℕ) (cs bs : List ℕ) → P (cs ++ x ∷ x ∷ bs)) → ((xs : List ℕ) → IsIncreasing xs → P xs) → (xs : List ℕ) → P xs
+  pub by_sorting : ((x : ℕ) (cs bs : List ℕ) → P (cs ++ x ∷ x ∷ bs)) → ((xs : List ℕ) → IsIncreasing xs → P xs)
+      → (xs : List ℕ) → P xs
   by_sorting repeat increasing xs = from_sorted xs [] (elim (increasing_or_repeat (sorted xs) (sorted_rising xs)) [
     | inl i ↦ increasing (sorted xs) i
     | inr (x, cs, bs, e) ↦ subst P e (repeat x cs bs)
@@ -113,7 +117,8 @@ not_member x (y ∷ ys) a (inr m) = not_member x ys a.1 m
 
 pub increasing_distinct : (xs : List ℕ) → IsIncreasing xs → IsDistinct xs
 increasing_distinct [] i = tt
-increasing_distinct (x ∷ xs) i = (not_member x xs (increasing_head x xs i), increasing_distinct xs (increasing_tail x xs i))
+increasing_distinct (x ∷ xs) i =
+    (not_member x xs (increasing_head x xs i), increasing_distinct xs (increasing_tail x xs i))
 
 insert_front : (x : ℕ) (xs : List ℕ) → IsAboveEach x xs → (insert x xs ≡ x ∷ xs) × (before_sign x xs ≡ Plus)
 insert_front x [] a = (refl, refl)
@@ -131,7 +136,8 @@ in_order (x ∷ xs) h =
 pub value_increasing : (f : List ℕ → Sign) (xs : List ℕ) → IsIncreasing xs → value f xs ≡ f xs
 value_increasing f xs h = let i = in_order xs h in rw (i.1, i.0) refl
 
-pub alternating_equal : (chi psi : List ℕ → Sign) → IsAlternating chi → IsAlternating psi → ((xs : List ℕ) → IsIncreasing xs → chi xs ≡ psi xs) → (xs : List ℕ) → chi xs ≡ psi xs
+pub alternating_equal : (chi psi : List ℕ → Sign) → IsAlternating chi → IsAlternating psi
+    → ((xs : List ℕ) → IsIncreasing xs → chi xs ≡ psi xs) → (xs : List ℕ) → chi xs ≡ psi xs
 alternating_equal chi psi a b h = by_sorting (λ xs. chi xs ≡ psi xs)
     (λ x y cs bs e. a x y cs bs ∙ ap opposite e ∙ sym (b x y cs bs))
     (λ x cs bs. neighbours_zero chi a x cs bs ∙ sym (neighbours_zero psi b x cs bs))

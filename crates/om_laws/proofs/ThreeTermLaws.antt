@@ -1,6 +1,7 @@
 -- Exchange and the three-term relations give the relations of all tuples, in every rank.
 --
--- Main results: a base contained in another is the same set (contained); the relations of all tuples (three_term_relations).
+-- Main results: a base contained in another is the same set (contained); the relations of all tuples
+-- (three_term_relations).
 -- Reference: Björner, Las Vergnas, Sturmfels, White and Ziegler, Oriented Matroids, chapter 3.
 use Rattle.std.specs.Prelude.{◌≡◌, ◌≢◌, ◌⊎◌, ℕ, ◌≤◌, List, [], ◌∷◌, ◌++◌}
 use Rattle.std.proofs.Common.{zero, suc, sym, ap, ◌∙◌, subst, ⊎_elim, inl, inr, arith, append_assoc, append-nil}
@@ -15,27 +16,35 @@ use Rattle.om_laws.specs.Signs.{IsNonzero}
 use Rattle.om_laws.specs.ThreeTerm.{HasThreeTermRelations}
 use Rattle.om_laws.specs.Tuples.{IsAlternating}
 use Rattle.om_laws.specs.Vectors.{Orthogonal}
-use Rattle.om_laws.proofs.BlockLaws.{same_members, negated_for, negated_for_last, negated_for_nonzero, negated_for_product}
-use Rattle.om_laws.proofs.MemberLaws.{distinct_drop, distinct_last, member_append, member_drop, member_insert, member_last, member_left, member_middle, member_or_not, member_right, search_members, split_at}
+use Rattle.om_laws.proofs.BlockLaws.{same_members, negated_for, negated_for_last, negated_for_nonzero}
+use Rattle.om_laws.proofs.BlockLaws.{negated_for_product}
+use Rattle.om_laws.proofs.MemberLaws.{distinct_drop, distinct_last, member_append, member_drop, member_insert}
+use Rattle.om_laws.proofs.MemberLaws.{member_last, member_left, member_middle, member_or_not, member_right}
+use Rattle.om_laws.proofs.MemberLaws.{search_members, split_at}
 use Rattle.om_laws.proofs.Missing.{missing, missing_less, missing_middle_member, missing_middle_other}
 use Rattle.om_laws.proofs.RankTwoLaws.{no_other_direction}
-use Rattle.om_laws.proofs.RelationLaws.{IsBalanced_swap, around_at, around_member, balanced_from_orthogonal, nonzero_from_around, orthogonal_from_balanced, relations_by_sorting}
-use Rattle.om_laws.proofs.SignLaws.{left_nonzero, opposite_nonzero, plus_nonzero, product_nonzero, right_nonzero, same_or_different}
+use Rattle.om_laws.proofs.RelationLaws.{IsBalanced_swap, around_at, around_member, balanced_from_orthogonal}
+use Rattle.om_laws.proofs.RelationLaws.{nonzero_from_around, orthogonal_from_balanced, relations_by_sorting}
+use Rattle.om_laws.proofs.SignLaws.{left_nonzero, opposite_nonzero, plus_nonzero, product_nonzero, right_nonzero}
+use Rattle.om_laws.proofs.SignLaws.{same_or_different}
 use Rattle.om_laws.proofs.SortingLaws.{increasing_distinct}
 use Rattle.om_laws.proofs.TupleLaws.{moved_over, nonzero_distinct, nonzero_from_end, nonzero_swapped, nonzero_to_end}
 use Rattle.om_laws.proofs.VectorLaws.{opposite_product, orthogonal_from}
 
 -- d: the sign of a move; t: the sign on one side
-side_sign : (d t vx uy ps : Sign) → IsNonzero d → IsNonzero t → uy ≡ product d ps → product vx uy ≢ opposite t → product (product (product d t) vx) ps ≢ Minus
+side_sign : (d t vx uy ps : Sign) → IsNonzero d → IsNonzero t → uy ≡ product d ps → product vx uy ≢ opposite t
+    → product (product (product d t) vx) ps ≢ Minus
 side_sign d t vx uy ps nd nt e n k = grind arith
 
-off_sign : (d t vx uy ps : Sign) → IsNonzero d → IsNonzero t → uy ≡ product d ps → product vx uy ≡ t → product (product (product d t) vx) ps ≡ Plus
+off_sign : (d t vx uy ps : Sign) → IsNonzero d → IsNonzero t → uy ≡ product d ps → product vx uy ≡ t
+    → product (product (product d t) vx) ps ≡ Plus
 off_sign d t vx uy ps nd nt e n = grind arith
 
 family_in : (c vx ps t : Sign) → IsNonzero c → product (product c vx) ps ≡ t → product vx ps ≡ product c t
 family_in c vx ps t n e = grind arith
 
-family_out : (c vx ps t : Sign) → IsNonzero c → product vx ps ≡ opposite (product c t) → product (product c vx) ps ≡ opposite t
+family_out : (c vx ps t : Sign) → IsNonzero c → product vx ps ≡ opposite (product c t)
+    → product (product c vx) ps ≡ opposite t
 family_out c vx ps t n e = grind arith
 
 two_products : (d p q : Sign) → product (opposite (product d p)) q ≡ opposite (product (product d q) p)
@@ -49,7 +58,8 @@ go_on a b t e h = grind arith
 
 module _ (chi : List ℕ → Sign) (alt : IsAlternating chi) (ex : HasExchange chi) where
   -- a base contained in another is the same set
-  pub contained : (s t : List ℕ) → IsNonzero (chi s) → IsNonzero (chi t) → ((g : ℕ) → IsMember g s → IsMember g t) → (g : ℕ) → IsMember g t → IsMember g s
+  pub contained : (s t : List ℕ) → IsNonzero (chi s) → IsNonzero (chi t) → ((g : ℕ) → IsMember g s → IsMember g t)
+      → (g : ℕ) → IsMember g t → IsMember g s
   contained s t ns nt sub g m =
       ⊎_elim (λ k. k)
       (λ n.
@@ -59,9 +69,11 @@ module _ (chi : List ℕ → Sign) (alt : IsAlternating chi) (ex : HasExchange c
       (member_or_not g s)
 
   abbrev DualExchange : List ℕ → List ℕ → ℕ → Type 0
-  DualExchange t b e = (u : List ℕ) × (h : ℕ) × (v : List ℕ) × (t ≡ u ++ h ∷ v) × (IsMember h b → ⊥) × IsNonzero (chi (u ++ e ∷ v))
+  DualExchange t b e = (u : List ℕ) × (h : ℕ) × (v : List ℕ) × (t ≡ u ++ h ∷ v) × (IsMember h b → ⊥)
+      × IsNonzero (chi (u ++ e ∷ v))
 
-  dual_last : (t b : List ℕ) → IsNonzero (chi t) → IsNonzero (chi b) → (e : ℕ) → IsMember e b → (IsMember e t → ⊥) → ((g : ℕ) → IsMember g b → (g ≡ e) ⊎ IsMember g t) → DualExchange t b e
+  dual_last : (t b : List ℕ) → IsNonzero (chi t) → IsNonzero (chi b) → (e : ℕ) → IsMember e b → (IsMember e t → ⊥)
+      → ((g : ℕ) → IsMember g b → (g ≡ e) ⊎ IsMember g t) → DualExchange t b e
   dual_last t b nt nb e me ne rest =
       let s = split_at e b me in
       let nb' = subst (λ l. IsNonzero (chi l)) s.2 nb in
@@ -69,7 +81,11 @@ module _ (chi : List ℕ → Sign) (alt : IsAlternating chi) (ex : HasExchange c
       let bh = s.0 ++ h.0 ∷ s.1 in
       let sub : (g : ℕ) → IsMember g bh → IsMember g t = λ g m.
       ⊎_elim (λ q. subst (λ z. IsMember z t) (sym q) h.1)
-      (λ k. ⊎_elim (λ q. absurd ((distinct_drop s.0 e s.1 (nonzero_distinct chi alt (s.0 ++ e ∷ s.1) nb')).1 (subst (λ z. IsMember z (s.0 ++ s.1)) q k))) (λ j. j) (rest g (subst (IsMember g) (sym s.2) (member_insert g s.0 e s.1 k))))
+      (λ k. ⊎_elim
+      (λ q. absurd
+      ((distinct_drop s.0 e s.1 (nonzero_distinct chi alt (s.0 ++ e ∷ s.1) nb')).1
+      (subst (λ z. IsMember z (s.0 ++ s.1)) q k))) (λ j. j)
+      (rest g (subst (IsMember g) (sym s.2) (member_insert g s.0 e s.1 k))))
       (member_drop g s.0 h.0 s.1 m) in
       let sup = contained bh t h.3 nt sub in
       let k = split_at h.0 t h.1 in
@@ -84,21 +100,26 @@ module _ (chi : List ℕ → Sign) (alt : IsAlternating chi) (ex : HasExchange c
       (member_drop g s.0 h.0 s.1 (sup g (subst (IsMember g) (sym k.2) (member_insert g k.0 h.0 k.1 m)))) in
       let n1 = nonzero_to_end chi alt s.0 s.1 e nb' in
       let n2 = same_members (λ l. IsNonzero (chi (l ++ e ∷ [])))
-      (λ u x y v q. subst (λ l. IsNonzero (chi l)) (sym (append_assoc u (y ∷ x ∷ v) (e ∷ []))) (nonzero_swapped chi alt u x y (v ++ e ∷ []) (subst (λ l. IsNonzero (chi l)) (append_assoc u (x ∷ y ∷ v) (e ∷ [])) q)))
+      (λ u x y v q. subst (λ l. IsNonzero (chi l)) (sym (append_assoc u (y ∷ x ∷ v) (e ∷ [])))
+      (nonzero_swapped chi alt u x y (v ++ e ∷ [])
+      (subst (λ l. IsNonzero (chi l)) (append_assoc u (x ∷ y ∷ v) (e ∷ [])) q)))
       (s.0 ++ s.1) [] (k.0 ++ k.1) rb.0 rt.0 to from n1 in
       (k.0, h.0, k.1, k.2, λ m. h.2 (subst (IsMember h.0) s.2 m), nonzero_from_end chi alt k.0 k.1 e n2)
 
   abbrev Smaller : ℕ → List ℕ → ℕ → Type 0
-  Smaller n t e = (b : List ℕ) → suc (missing t b) ≤ n → IsNonzero (chi t) → IsNonzero (chi b) → IsMember e b → (IsMember e t → ⊥) → DualExchange t b e
+  Smaller n t e = (b : List ℕ) → suc (missing t b) ≤ n → IsNonzero (chi t) → IsNonzero (chi b) → IsMember e b
+      → (IsMember e t → ⊥) → DualExchange t b e
 
-  dual_step : (n : ℕ) (t b : List ℕ) → missing t b ≤ n → IsNonzero (chi t) → IsNonzero (chi b) → (e : ℕ) → IsMember e b → (IsMember e t → ⊥) → Smaller n t e → (u : ℕ) → IsMember u b → (IsMember u t → ⊥) × (u ≢ e) → DualExchange t b e
+  dual_step : (n : ℕ) (t b : List ℕ) → missing t b ≤ n → IsNonzero (chi t) → IsNonzero (chi b) → (e : ℕ) → IsMember e b
+      → (IsMember e t → ⊥) → Smaller n t e → (u : ℕ) → IsMember u b → (IsMember u t → ⊥) × (u ≢ e) → DualExchange t b e
   dual_step n t b c nt nb e me ne rec u mu nu =
       let s = split_at u b mu in
       let h = ex s.0 u s.1 t (subst (λ l. IsNonzero (chi l)) s.2 nb) nt nu.0 in
       let p : missing t b ≡ suc (missing t (s.0 ++ s.1)) = ap (missing t) s.2 ∙ missing_middle_other t s.0 u s.1 nu.0 in
       let q = missing_middle_member t s.0 h.0 s.1 h.1 in
       let e_in : IsMember e (s.0 ++ h.0 ∷ s.1) =
-      member_insert e s.0 h.0 s.1 (⊎_elim (λ k. absurd (nu.1 (sym k))) (λ k. k) (member_drop e s.0 u s.1 (subst (IsMember e) s.2 me))) in
+      member_insert e s.0 h.0 s.1
+      (⊎_elim (λ k. absurd (nu.1 (sym k))) (λ k. k) (member_drop e s.0 u s.1 (subst (IsMember e) s.2 me))) in
       let d = rec (s.0 ++ h.0 ∷ s.1) (omega (arith, c, p, q)) nt h.3 e_in ne in (
         d.0,
         d.1,
@@ -111,18 +132,24 @@ module _ (chi : List ℕ → Sign) (alt : IsAlternating chi) (ex : HasExchange c
         d.5,
       )
 
-  dual_try : (n : ℕ) (t b : List ℕ) → missing t b ≤ n → IsNonzero (chi t) → IsNonzero (chi b) → (e : ℕ) → IsMember e b → (IsMember e t → ⊥) → Smaller n t e → DualExchange t b e
+  dual_try : (n : ℕ) (t b : List ℕ) → missing t b ≤ n → IsNonzero (chi t) → IsNonzero (chi b) → (e : ℕ) → IsMember e b
+      → (IsMember e t → ⊥) → Smaller n t e → DualExchange t b e
   dual_try n t b c nt nb e me ne rec =
       ⊎_elim
       (λ k. dual_step n t b c nt nb e me ne rec k.0 k.1 k.2)
       (λ none. dual_last t b nt nb e me ne none)
       (search_members (λ u. (IsMember u t → ⊥) × (u ≢ e)) (λ u. (u ≡ e) ⊎ IsMember u t)
-      (λ u. ⊎_elim (λ m. inr (inr m)) (λ k. ⊎_elim (λ q. inr (inl q)) (λ q. inl (k, q)) (cases_eq u e)) (member_or_not u t))
+      (λ u. ⊎_elim (λ m. inr (inr m)) (λ k. ⊎_elim (λ q. inr (inl q)) (λ q. inl (k, q)) (cases_eq u e))
+      (member_or_not u t))
       b)
 
-  -- dual exchange, by the number of entries of b that aren't in t: an element of b takes the place of one of t that isn't in b
-  pub dual_exchange : (n : ℕ) (t b : List ℕ) → missing t b ≤ n → IsNonzero (chi t) → IsNonzero (chi b) → (e : ℕ) → IsMember e b → (IsMember e t → ⊥) → DualExchange t b e
-  dual_exchange zero t b c nt nb e me ne = dual_try 0 t b c nt nb e me ne (λ b' q nt' nb' m k. absurd (let z : suc (missing t b') ≤ 0 = q in omega (arith, z)))
+  -- dual exchange, by the number of entries of b that aren't in t: an element of b takes the place of one of t that
+  -- isn't in b
+  pub dual_exchange : (n : ℕ) (t b : List ℕ) → missing t b ≤ n → IsNonzero (chi t) → IsNonzero (chi b) → (e : ℕ)
+      → IsMember e b → (IsMember e t → ⊥) → DualExchange t b e
+  dual_exchange zero t b c nt nb e me ne =
+      dual_try 0 t b c nt nb e me ne
+      (λ b' q nt' nb' m k. absurd (let z : suc (missing t b') ≤ 0 = q in omega (arith, z)))
   dual_exchange (suc n) t b c nt nb e me ne =
       dual_try (suc n) t b c nt nb e me ne (λ b' q nt' nb' m k. dual_exchange n t b' (omega (arith, q)) nt' nb' e m k)
 
@@ -134,7 +161,8 @@ module _ (chi : List ℕ → Sign) (alt : IsAlternating chi) (ex : HasExchange c
     last_out y a n m = (distinct_drop y a [] (nonzero_distinct chi alt (y ++ a ∷ []) n)).1 (member_left a y [] m)
 
     -- two entries of x outside y
-    good_two : (y : List ℕ) (x0 e1 : ℕ) → IsNonzero (chi (y ++ x0 ∷ [])) → (IsMember e1 (y ++ x0 ∷ []) → ⊥) → AreOrthogonal (y ++ x0 ∷ e1 ∷ []) y
+    good_two : (y : List ℕ) (x0 e1 : ℕ) → IsNonzero (chi (y ++ x0 ∷ [])) → (IsMember e1 (y ++ x0 ∷ []) → ⊥)
+        → AreOrthogonal (y ++ x0 ∷ e1 ∷ []) y
     good_two y x0 e1 n ne = orthogonal_from (around chi (y ++ x0 ∷ e1 ∷ [])) (along chi y) (λ e t nt h.
         let z = y ++ x0 ∷ e1 ∷ [] in
         let q : (y ++ x0 ∷ []) ++ e1 ∷ [] ≡ z = append_assoc y (x0 ∷ []) (e1 ∷ []) in
@@ -144,9 +172,12 @@ module _ (chi : List ℕ → Sign) (alt : IsAlternating chi) (ex : HasExchange c
         let p = chi (y ++ x0 ∷ []) in
         let o = chi (y ++ e1 ∷ []) in
         let c0 : around chi z x0 ≡ product d o = around_at chi y x0 (e1 ∷ []) r ∙ negated_for_product (x0 ∷ y) o in
-        let c1a : around chi ((y ++ x0 ∷ []) ++ e1 ∷ []) e1 ≡ negated_for (e1 ∷ (y ++ x0 ∷ [])) (chi ((y ++ x0 ∷ []) ++ [])) = around_at chi (y ++ x0 ∷ []) e1 [] r1 in
+        let c1a : around chi ((y ++ x0 ∷ []) ++ e1 ∷ []) e1
+        ≡ negated_for (e1 ∷ (y ++ x0 ∷ [])) (chi ((y ++ x0 ∷ []) ++ [])) =
+        around_at chi (y ++ x0 ∷ []) e1 [] r1 in
         let c1b : negated_for (e1 ∷ (y ++ x0 ∷ [])) (chi ((y ++ x0 ∷ []) ++ [])) ≡ opposite (product d p) =
-        ap (λ l. negated_for (e1 ∷ (y ++ x0 ∷ [])) (chi l)) (append-nil (y ++ x0 ∷ [])) ∙ ap opposite (negated_for_last y x0 p) ∙ ap opposite (negated_for_product (x0 ∷ y) p) in
+        ap (λ l. negated_for (e1 ∷ (y ++ x0 ∷ [])) (chi l)) (append-nil (y ++ x0 ∷ []))
+        ∙ ap opposite (negated_for_last y x0 p) ∙ ap opposite (negated_for_product (x0 ∷ y) p) in
         let c1 : around chi z e1 ≡ opposite (product d p) = ap (λ l. around chi l e1) (sym q) ∙ c1a ∙ c1b in
         let op : product (around chi z e1) o ≡ opposite (product (around chi z x0) p) =
         ap (λ s. product s o) c1 ∙ two_products d p o ∙ ap (λ s. opposite (product s p)) (sym c0) in
@@ -155,9 +186,17 @@ module _ (chi : List ℕ → Sign) (alt : IsAlternating chi) (ex : HasExchange c
         ⊎_elim
         (λ k. absurd (ny k))
         (λ k. ⊎_elim
-        (λ w. (e1, go_on (product (around chi z e1) o) (product (around chi z x0) p) t op (subst (λ i. product (around chi z i) (chi (y ++ i ∷ [])) ≡ t) w h)))
+        (λ w. (
+          e1,
+          go_on (product (around chi z e1) o) (product (around chi z x0) p) t op
+              (subst (λ i. product (around chi z i) (chi (y ++ i ∷ [])) ≡ t) w h),
+        ))
         (λ k2. ⊎_elim
-        (λ w. (x0, turn_back (product (around chi z e1) o) (product (around chi z x0) p) t op (subst (λ i. product (around chi z i) (chi (y ++ i ∷ [])) ≡ t) w h)))
+        (λ w. (
+          x0,
+          turn_back (product (around chi z e1) o) (product (around chi z x0) p) t op
+              (subst (λ i. product (around chi z i) (chi (y ++ i ∷ [])) ≡ t) w h),
+        ))
         (λ b. absurd b)
         k2)
         k)
@@ -166,7 +205,8 @@ module _ (chi : List ℕ → Sign) (alt : IsAlternating chi) (ex : HasExchange c
     -- the contraction to rank 2 seen from a: all products on one side contradict
     picture : (x u w : List ℕ) (a : ℕ) → IsDistinct x → (IsMember a x → ⊥) → IsDistinct (u ++ a ∷ w)
         → ((y' : List ℕ) → IsDistinct y' → suc (missing y' x) ≤ missing (u ++ a ∷ w) x → AreOrthogonal x y')
-        → (t : Sign) → IsNonzero t → ((g : ℕ) → IsMember g x → product (around chi x g) (along chi (u ++ a ∷ w) g) ≢ opposite t)
+        → (t : Sign) → IsNonzero t
+        → ((g : ℕ) → IsMember g x → product (around chi x g) (along chi (u ++ a ∷ w) g) ≢ opposite t)
         → (x0 : ℕ) → IsMember x0 x → product (around chi x x0) (along chi (u ++ a ∷ w) x0) ≡ t
         → (s : ℕ) → IsMember s x → IsNonzero (chi ((u ++ w) ++ s ∷ x0 ∷ [])) → ⊥
     picture x u w a rx na ry rec t nt one x0 mx e0 s ms ns =
@@ -179,58 +219,80 @@ module _ (chi : List ℕ → Sign) (alt : IsAlternating chi) (ex : HasExchange c
         let nc : IsNonzero c = product_nonzero d t nd nt in
         let v : ℕ → Sign = λ g. product c (around chi x g) in
         let uy : (g : ℕ) → along chi y g ≡ product d (psi a g) = λ g.
-        ap chi (append_assoc u (a ∷ w) (g ∷ [])) ∙ moved_over chi alt w u a (g ∷ []) ∙ ap (λ l. negated_for w (chi l)) (sym (append_assoc u w (a ∷ g ∷ []))) ∙ negated_for_product w (psi a g) in
+        ap chi (append_assoc u (a ∷ w) (g ∷ [])) ∙ moved_over chi alt w u a (g ∷ [])
+        ∙ ap (λ l. negated_for w (chi l)) (sym (append_assoc u w (a ∷ g ∷ []))) ∙ negated_for_product w (psi a g) in
         no_other_direction psi (λ g h. alt h g pr []) (λ i j k l. g3 pr i j k l) x v a x0
         (λ g m. side_sign d t (around chi x g) (along chi y g) (psi a g) nd nt (uy g) (one g m))
         mx
         (off_sign d t (around chi x x0) (along chi y x0) (psi a x0) nd nt (uy x0) e0)
         (λ s' m' h mh t' nt' eq.
-        let eh : product (around chi x h) (psi s' h) ≡ product c t' = family_in c (around chi x h) (psi s' h) t' nc eq in
-        let np : IsNonzero (psi s' h) = right_nonzero (around chi x h) (psi s' h) (product c t') eh (product_nonzero c t' nc nt') in
-        let off_pr : IsMember s' pr → ⊥ = λ k. (distinct_drop pr s' (h ∷ []) (nonzero_distinct chi alt (pr ++ s' ∷ h ∷ []) np)).1 (member_left s' pr (h ∷ []) k) in
-        let ns' : IsMember s' y → ⊥ = λ k. ⊎_elim (λ q. na (subst (λ z. IsMember z x) q m')) off_pr (member_drop s' u a w k) in
+        let eh : product (around chi x h) (psi s' h) ≡ product c t' =
+        family_in c (around chi x h) (psi s' h) t' nc eq in
+        let np : IsNonzero (psi s' h) =
+        right_nonzero (around chi x h) (psi s' h) (product c t') eh (product_nonzero c t' nc nt') in
+        let off_pr : IsMember s' pr → ⊥ =
+        λ k. (distinct_drop pr s' (h ∷ []) (nonzero_distinct chi alt (pr ++ s' ∷ h ∷ []) np)).1
+        (member_left s' pr (h ∷ []) k) in
+        let ns' : IsMember s' y → ⊥ =
+        λ k. ⊎_elim (λ q. na (subst (λ z. IsMember z x) q m')) off_pr (member_drop s' u a w k) in
         let y' = pr ++ s' ∷ [] in
         let less : suc (missing y' x) ≤ missing y x = missing_less y y' x
-        (λ g i j. member_left g pr (s' ∷ []) (⊎_elim (λ q. absurd (na (subst (λ z. IsMember z x) q i))) (λ k. k) (member_drop g u a w j)))
+        (λ g i j. member_left g pr (s' ∷ [])
+        (⊎_elim (λ q. absurd (na (subst (λ z. IsMember z x) q i))) (λ k. k) (member_drop g u a w j)))
         s' m' ns' (member_middle s' pr []) in
         let ps : (g : ℕ) → along chi y' g ≡ psi s' g = λ g. ap chi (append_assoc pr (s' ∷ []) (g ∷ [])) in
-        let k = opposite_product (around chi x) (along chi y') (rec y' (distinct_last pr s' (distinct_drop u a w ry).0 off_pr) less) h (product c t') (product_nonzero c t' nc nt') (ap (product (around chi x h)) (ps h) ∙ eh) in
-        let ek : product (around chi x k.0) (psi s' k.0) ≡ opposite (product c t') = ap (product (around chi x k.0)) (sym (ps k.0)) ∙ k.1 in (
+        let k = opposite_product (around chi x) (along chi y')
+        (rec y' (distinct_last pr s' (distinct_drop u a w ry).0 off_pr) less) h (product c t')
+        (product_nonzero c t' nc nt') (ap (product (around chi x h)) (ps h) ∙ eh) in
+        let ek : product (around chi x k.0) (psi s' k.0) ≡ opposite (product c t') =
+        ap (product (around chi x k.0)) (sym (ps k.0)) ∙ k.1 in (
           k.0,
-          around_member chi x k.0 (left_nonzero (around chi x k.0) (psi s' k.0) (opposite (product c t')) ek (opposite_nonzero (product c t') (product_nonzero c t' nc nt'))),
+          around_member chi x k.0
+              (left_nonzero (around chi x k.0) (psi s' k.0) (opposite (product c t')) ek
+              (opposite_nonzero (product c t') (product_nonzero c t' nc nt'))),
           family_out c (around chi x k.0) (psi s' k.0) t' nc ek,
         ))
         s ms ns
 
-    members_two : (x y : List ℕ) (x0 e1 : ℕ) → ((g : ℕ) → IsMember g x → IsMember g y ⊎ ((g ≡ x0) ⊎ (g ≡ e1))) → (g : ℕ) → IsMember g x → IsMember g (y ++ x0 ∷ e1 ∷ [])
+    members_two : (x y : List ℕ) (x0 e1 : ℕ) → ((g : ℕ) → IsMember g x → IsMember g y ⊎ ((g ≡ x0) ⊎ (g ≡ e1))) → (g : ℕ)
+        → IsMember g x → IsMember g (y ++ x0 ∷ e1 ∷ [])
     members_two x y x0 e1 h g m =
         ⊎_elim (λ k. member_left g y (x0 ∷ e1 ∷ []) k)
         (λ k. member_right g y (x0 ∷ e1 ∷ []) (⊎_elim (λ q. inl q) (λ q. inr (inl q)) k)) (h g m)
 
-    from_two : (x y : List ℕ) (x0 e1 : ℕ) → IsMember x0 x → IsMember e1 x → ((g : ℕ) → IsMember g y → IsMember g x) → (g : ℕ) → IsMember g (y ++ x0 ∷ e1 ∷ []) → IsMember g x
+    from_two : (x y : List ℕ) (x0 e1 : ℕ) → IsMember x0 x → IsMember e1 x → ((g : ℕ) → IsMember g y → IsMember g x)
+        → (g : ℕ) → IsMember g (y ++ x0 ∷ e1 ∷ []) → IsMember g x
     from_two x y x0 e1 m0 m1 h g m =
         ⊎_elim (λ k. h g k)
-        (λ k. ⊎_elim (λ q. subst (λ z. IsMember z x) (sym q) m0) (λ j. ⊎_elim (λ q. subst (λ z. IsMember z x) (sym q) m1) (λ b. absurd b) j) k)
+        (λ k. ⊎_elim (λ q. subst (λ z. IsMember z x) (sym q) m0)
+        (λ j. ⊎_elim (λ q. subst (λ z. IsMember z x) (sym q) m1) (λ b. absurd b) j) k)
         (member_append g y (x0 ∷ e1 ∷ []) m)
 
     -- an entry a of y replaced by g, seen from another split of y
-    spread : (y u w b1 b2 : List ℕ) (x0 a g : ℕ) → y ≡ u ++ a ∷ w → y ++ x0 ∷ [] ≡ b1 ++ a ∷ b2 → IsNonzero (chi (y ++ x0 ∷ [])) → IsNonzero (chi (b1 ++ g ∷ b2)) → IsNonzero (chi ((u ++ w) ++ g ∷ x0 ∷ []))
+    spread : (y u w b1 b2 : List ℕ) (x0 a g : ℕ) → y ≡ u ++ a ∷ w → y ++ x0 ∷ [] ≡ b1 ++ a ∷ b2
+        → IsNonzero (chi (y ++ x0 ∷ [])) → IsNonzero (chi (b1 ++ g ∷ b2)) → IsNonzero (chi ((u ++ w) ++ g ∷ x0 ∷ []))
     spread y u w b1 b2 x0 a g ey eb nb n =
         let c : List ℕ = u ++ (w ++ x0 ∷ []) in
         let o : List ℕ = b1 ++ b2 in
-        let eB : y ++ x0 ∷ [] ≡ u ++ a ∷ (w ++ x0 ∷ []) = ap (λ l. l ++ x0 ∷ []) ey ∙ append_assoc u (a ∷ w) (x0 ∷ []) in
+        let eB : y ++ x0 ∷ [] ≡ u ++ a ∷ (w ++ x0 ∷ []) = ap (λ l. l ++ x0 ∷ []) ey
+        ∙ append_assoc u (a ∷ w) (x0 ∷ []) in
         let rB : IsDistinct (y ++ x0 ∷ []) = nonzero_distinct chi alt (y ++ x0 ∷ []) nb in
         let r1 = distinct_drop b1 a b2 (subst IsDistinct eb rB) in
         let r2 = distinct_drop u a (w ++ x0 ∷ []) (subst IsDistinct eB rB) in
         let forth : b1 ++ a ∷ b2 ≡ u ++ a ∷ (w ++ x0 ∷ []) = sym eb ∙ eB in
         let to : (i : ℕ) → IsMember i o → IsMember i c = λ i m.
-        ⊎_elim (λ q. absurd (r1.1 (subst (λ z. IsMember z o) q m))) (λ j. j) (member_drop i u a (w ++ x0 ∷ []) (subst (IsMember i) forth (member_insert i b1 a b2 m))) in
+        ⊎_elim (λ q. absurd (r1.1 (subst (λ z. IsMember z o) q m))) (λ j. j)
+        (member_drop i u a (w ++ x0 ∷ []) (subst (IsMember i) forth (member_insert i b1 a b2 m))) in
         let from : (i : ℕ) → IsMember i c → IsMember i o = λ i m.
-        ⊎_elim (λ q. absurd (r2.1 (subst (λ z. IsMember z c) q m))) (λ j. j) (member_drop i b1 a b2 (subst (IsMember i) (sym forth) (member_insert i u a (w ++ x0 ∷ []) m))) in
+        ⊎_elim (λ q. absurd (r2.1 (subst (λ z. IsMember z c) q m))) (λ j. j)
+        (member_drop i b1 a b2 (subst (IsMember i) (sym forth) (member_insert i u a (w ++ x0 ∷ []) m))) in
         let n2 : IsNonzero (chi (c ++ g ∷ [])) = same_members (λ l. IsNonzero (chi (l ++ g ∷ [])))
-        (λ p i j q z. subst (λ l. IsNonzero (chi l)) (sym (append_assoc p (j ∷ i ∷ q) (g ∷ []))) (nonzero_swapped chi alt p i j (q ++ g ∷ []) (subst (λ l. IsNonzero (chi l)) (append_assoc p (i ∷ j ∷ q) (g ∷ [])) z)))
+        (λ p i j q z. subst (λ l. IsNonzero (chi l)) (sym (append_assoc p (j ∷ i ∷ q) (g ∷ [])))
+        (nonzero_swapped chi alt p i j (q ++ g ∷ [])
+        (subst (λ l. IsNonzero (chi l)) (append_assoc p (i ∷ j ∷ q) (g ∷ [])) z)))
         o [] c r1.0 r2.0 to from (nonzero_to_end chi alt b1 b2 g n) in
-        let e3 : c ++ g ∷ [] ≡ (u ++ w) ++ x0 ∷ g ∷ [] = ap (λ l. l ++ g ∷ []) (sym (append_assoc u w (x0 ∷ []))) ∙ append_assoc (u ++ w) (x0 ∷ []) (g ∷ []) in
+        let e3 : c ++ g ∷ [] ≡ (u ++ w) ++ x0 ∷ g ∷ [] = ap (λ l. l ++ g ∷ []) (sym (append_assoc u w (x0 ∷ [])))
+        ∙ append_assoc (u ++ w) (x0 ∷ []) (g ∷ []) in
         nonzero_swapped chi alt (u ++ w) x0 g [] (subst (λ l. IsNonzero (chi l)) e3 n2)
 
     abbrev OneSide : List ℕ → List ℕ → Sign → Type 0
@@ -240,8 +302,10 @@ module _ (chi : List ℕ → Sign) (alt : IsAlternating chi) (ex : HasExchange c
     Before x y = (y' : List ℕ) → IsDistinct y' → suc (missing y' x) ≤ missing y x → AreOrthogonal x y'
 
     -- y known by a split
-    at_split : (x y u w : List ℕ) (a : ℕ) → y ≡ u ++ a ∷ w → IsDistinct x → IsDistinct y → Before x y → (t : Sign) → IsNonzero t → OneSide x y t → (IsMember a x → ⊥)
-        → (x0 : ℕ) → IsMember x0 x → product (around chi x x0) (along chi y x0) ≡ t → (s : ℕ) → IsMember s x → IsNonzero (chi ((u ++ w) ++ s ∷ x0 ∷ [])) → ⊥
+    at_split : (x y u w : List ℕ) (a : ℕ) → y ≡ u ++ a ∷ w → IsDistinct x → IsDistinct y → Before x y → (t : Sign)
+        → IsNonzero t → OneSide x y t → (IsMember a x → ⊥)
+        → (x0 : ℕ) → IsMember x0 x → product (around chi x x0) (along chi y x0) ≡ t → (s : ℕ) → IsMember s x
+        → IsNonzero (chi ((u ++ w) ++ s ∷ x0 ∷ [])) → ⊥
     at_split x y u w a ey rx ry rec t nt one na x0 m0 h s ms ns =
         picture x u w a rx na (subst IsDistinct ey ry)
         (λ y' r' less. rec y' r' (subst (λ l. suc (missing y' x) ≤ missing l x) (sym ey) less))
@@ -249,84 +313,117 @@ module _ (chi : List ℕ → Sign) (alt : IsAlternating chi) (ex : HasExchange c
         x0 m0 (subst (λ l. product (around chi x x0) (along chi l x0) ≡ t) ey h) s ms ns
 
     -- a third entry g of x outside y
-    use_some : (x y t' : List ℕ) (x0 e1 g : ℕ) → IsDistinct x → IsDistinct y → Before x y → (t : Sign) → IsNonzero t → OneSide x y t
-        → product (around chi x x0) (along chi y x0) ≡ t → IsMember x0 x → IsNonzero (chi (y ++ x0 ∷ [])) → IsNonzero (chi t') → (IsMember e1 (y ++ x0 ∷ []) → ⊥) → IsMember x0 t'
+    use_some : (x y t' : List ℕ) (x0 e1 g : ℕ) → IsDistinct x → IsDistinct y → Before x y → (t : Sign) → IsNonzero t
+        → OneSide x y t
+        → product (around chi x x0) (along chi y x0) ≡ t → IsMember x0 x → IsNonzero (chi (y ++ x0 ∷ []))
+        → IsNonzero (chi t') → (IsMember e1 (y ++ x0 ∷ []) → ⊥) → IsMember x0 t'
         → ((i : ℕ) → IsMember i x → i ≢ e1 → IsMember i t') → IsMember g x → (IsMember g y → ⊥) → g ≢ x0 → g ≢ e1 → ⊥
     use_some x y t' x0 e1 g rx ry rec t nt one h m0 nb n5 d4 mx0 to_t' mg ny n0 n1 =
         let nB : IsMember g (y ++ x0 ∷ []) → ⊥ = λ m. ⊎_elim ny n0 (member_last g x0 y m) in
         let a = dual_exchange (missing (y ++ x0 ∷ []) t') (y ++ x0 ∷ []) t' (omega arith) nb n5 g (to_t' g mg n1) nB in
         let maB : IsMember a.1 (y ++ x0 ∷ []) = subst (IsMember a.1) (sym a.3) (member_middle a.1 a.0 a.2) in
-        let nax : IsMember a.1 x → ⊥ = λ m. a.4 (to_t' a.1 m (λ q. d4 (subst (λ z. IsMember z (y ++ x0 ∷ [])) q maB))) in
-        let may : IsMember a.1 y = ⊎_elim (λ j. j) (λ q. absurd (a.4 (subst (λ z. IsMember z t') (sym q) mx0))) (member_last a.1 x0 y maB) in
+        let nax : IsMember a.1 x → ⊥ = λ m. a.4 (to_t' a.1 m (λ q. d4 (subst (λ z. IsMember z (y ++ x0 ∷ [])) q maB)))
+        in
+        let may : IsMember a.1 y =
+        ⊎_elim (λ j. j) (λ q. absurd (a.4 (subst (λ z. IsMember z t') (sym q) mx0))) (member_last a.1 x0 y maB) in
         let sy = split_at a.1 y may in
-        at_split x y sy.0 sy.1 a.1 sy.2 rx ry rec t nt one nax x0 m0 h g mg (spread y sy.0 sy.1 a.0 a.2 x0 a.1 g sy.2 a.3 nb a.5)
+        at_split x y sy.0 sy.1 a.1 sy.2 rx ry rec t nt one nax x0 m0 h g mg
+        (spread y sy.0 sy.1 a.0 a.2 x0 a.1 g sy.2 a.3 nb a.5)
 
     -- no third entry
     use_none : (x y t' : List ℕ) (x0 e1 : ℕ) → IsDistinct x → (t : Sign) → IsNonzero t → OneSide x y t
-        → product (around chi x x0) (along chi y x0) ≡ t → IsMember x0 x → IsMember e1 x → IsNonzero (chi (y ++ x0 ∷ [])) → IsNonzero (chi t') → (IsMember e1 (y ++ x0 ∷ []) → ⊥)
-        → ((i : ℕ) → IsMember i t' → IsMember i x) → (IsMember e1 t' → ⊥) → ((g : ℕ) → IsMember g x → IsMember g y ⊎ ((g ≡ x0) ⊎ (g ≡ e1))) → ⊥
+        → product (around chi x x0) (along chi y x0) ≡ t → IsMember x0 x → IsMember e1 x
+        → IsNonzero (chi (y ++ x0 ∷ [])) → IsNonzero (chi t') → (IsMember e1 (y ++ x0 ∷ []) → ⊥)
+        → ((i : ℕ) → IsMember i t' → IsMember i x) → (IsMember e1 t' → ⊥)
+        → ((g : ℕ) → IsMember g x → IsMember g y ⊎ ((g ≡ x0) ⊎ (g ≡ e1))) → ⊥
     use_none x y t' x0 e1 rx t nt one h m0 m1 nb n5 d4 of_t' not_e1 none =
         let in_B : (g : ℕ) → IsMember g t' → IsMember g (y ++ x0 ∷ []) = λ g m.
         ⊎_elim (λ j. member_left g y (x0 ∷ []) j)
-        (λ j. ⊎_elim (λ q. subst (λ z. IsMember z (y ++ x0 ∷ [])) (sym q) (member_middle x0 y [])) (λ q. absurd (not_e1 (subst (λ z. IsMember z t') q m))) j)
+        (λ j. ⊎_elim (λ q. subst (λ z. IsMember z (y ++ x0 ∷ [])) (sym q) (member_middle x0 y []))
+        (λ q. absurd (not_e1 (subst (λ z. IsMember z t') q m))) j)
         (none g (of_t' g m)) in
         let back = contained t' (y ++ x0 ∷ []) n5 nb in_B in
         let y_in_x : (g : ℕ) → IsMember g y → IsMember g x = λ g m. of_t' g (back g (member_left g y (x0 ∷ []) m)) in
         let z : List ℕ = y ++ x0 ∷ e1 ∷ [] in
-        let rz : IsDistinct z = subst IsDistinct (append_assoc y (x0 ∷ []) (e1 ∷ [])) (distinct_last (y ++ x0 ∷ []) e1 (nonzero_distinct chi alt (y ++ x0 ∷ []) nb) d4) in
-        let bz : IsBalanced chi z (along chi y) = balanced_from_orthogonal chi z (along chi y) rz (good_two y x0 e1 nb d4) in
-        let bx : IsBalanced chi x (along chi y) = same_members (λ l. IsBalanced chi l (along chi y)) (λ u i j v q. IsBalanced_swap chi i j u v (along chi y) alt q) z [] x rz rx (from_two x y x0 e1 m0 m1 y_in_x) (members_two x y x0 e1 none) bz in
-        let k = opposite_product (around chi x) (along chi y) (orthogonal_from_balanced chi x (along chi y) rx bx) x0 t nt h in
-        one k.0 (around_member chi x k.0 (left_nonzero (around chi x k.0) (along chi y k.0) (opposite t) k.1 (opposite_nonzero t nt))) k.1
+        let rz : IsDistinct z =
+        subst IsDistinct (append_assoc y (x0 ∷ []) (e1 ∷ []))
+        (distinct_last (y ++ x0 ∷ []) e1 (nonzero_distinct chi alt (y ++ x0 ∷ []) nb) d4) in
+        let bz : IsBalanced chi z (along chi y) =
+        balanced_from_orthogonal chi z (along chi y) rz (good_two y x0 e1 nb d4) in
+        let bx : IsBalanced chi x (along chi y) =
+        same_members (λ l. IsBalanced chi l (along chi y))
+        (λ u i j v q. IsBalanced_swap chi i j u v (along chi y) alt q) z [] x rz rx
+        (from_two x y x0 e1 m0 m1 y_in_x) (members_two x y x0 e1 none) bz in
+        let k = opposite_product (around chi x) (along chi y) (orthogonal_from_balanced chi x (along chi y) rx bx) x0 t
+        nt h in
+        one k.0 (around_member chi x k.0
+        (left_nonzero (around chi x k.0) (along chi y k.0) (opposite t) k.1 (opposite_nonzero t nt))) k.1
 
     -- x split at x0, its rest split at e1
-    with_splits : (x y s1 s2 d1 d2 : List ℕ) (x0 e1 : ℕ) → x ≡ s1 ++ x0 ∷ s2 → s1 ++ s2 ≡ d1 ++ e1 ∷ d2 → IsDistinct x → IsDistinct y → Before x y → (t : Sign) → IsNonzero t → OneSide x y t
-        → product (around chi x x0) (along chi y x0) ≡ t → IsNonzero (chi (y ++ x0 ∷ [])) → IsNonzero (chi (d1 ++ x0 ∷ d2)) → (IsMember e1 (y ++ x0 ∷ []) → ⊥) → ⊥
+    with_splits : (x y s1 s2 d1 d2 : List ℕ) (x0 e1 : ℕ) → x ≡ s1 ++ x0 ∷ s2 → s1 ++ s2 ≡ d1 ++ e1 ∷ d2 → IsDistinct x
+        → IsDistinct y → Before x y → (t : Sign) → IsNonzero t → OneSide x y t
+        → product (around chi x x0) (along chi y x0) ≡ t → IsNonzero (chi (y ++ x0 ∷ []))
+        → IsNonzero (chi (d1 ++ x0 ∷ d2)) → (IsMember e1 (y ++ x0 ∷ []) → ⊥) → ⊥
     with_splits x y s1 s2 d1 d2 x0 e1 ex' ed rx ry rec t nt one h nb n5 d4 =
         let m0 : IsMember x0 x = subst (IsMember x0) (sym ex') (member_middle x0 s1 s2) in
         let dx = distinct_drop s1 x0 s2 (subst IsDistinct ex' rx) in
         let dd = distinct_drop d1 e1 d2 (subst IsDistinct ed dx.0) in
         let to_T : (g : ℕ) → IsMember g x → g ≢ x0 → IsMember g (d1 ++ e1 ∷ d2) = λ g m n.
-        subst (IsMember g) ed (⊎_elim (λ q. absurd (n q)) (λ k. k) (member_drop g s1 x0 s2 (subst (IsMember g) ex' m))) in
-        let to_x : (g : ℕ) → IsMember g (d1 ++ e1 ∷ d2) → IsMember g x = λ g m. subst (IsMember g) (sym ex') (member_insert g s1 x0 s2 (subst (IsMember g) (sym ed) m)) in
+        subst (IsMember g) ed (⊎_elim (λ q. absurd (n q)) (λ k. k) (member_drop g s1 x0 s2 (subst (IsMember g) ex' m)))
+        in
+        let to_x : (g : ℕ) → IsMember g (d1 ++ e1 ∷ d2) → IsMember g x =
+        λ g m. subst (IsMember g) (sym ex') (member_insert g s1 x0 s2 (subst (IsMember g) (sym ed) m)) in
         let m1 : IsMember e1 x = to_x e1 (member_middle e1 d1 d2) in
         let to_t' : (g : ℕ) → IsMember g x → g ≢ e1 → IsMember g (d1 ++ x0 ∷ d2) = λ g m n.
         ⊎_elim (λ q. subst (λ z. IsMember z (d1 ++ x0 ∷ d2)) (sym q) (member_middle x0 d1 d2))
         (λ k. member_insert g d1 x0 d2 (⊎_elim (λ q. absurd (n q)) (λ j. j) (member_drop g d1 e1 d2 (to_T g m k))))
         (cases_eq g x0) in
         let of_t' : (g : ℕ) → IsMember g (d1 ++ x0 ∷ d2) → IsMember g x = λ g m.
-        ⊎_elim (λ q. subst (λ z. IsMember z x) (sym q) m0) (λ k. to_x g (member_insert g d1 e1 d2 k)) (member_drop g d1 x0 d2 m) in
+        ⊎_elim (λ q. subst (λ z. IsMember z x) (sym q) m0) (λ k. to_x g (member_insert g d1 e1 d2 k))
+        (member_drop g d1 x0 d2 m) in
         let not_e1 : IsMember e1 (d1 ++ x0 ∷ d2) → ⊥ = λ m.
-        ⊎_elim (λ q. d4 (subst (λ z. IsMember z (y ++ x0 ∷ [])) (sym q) (member_middle x0 y []))) (λ k. dd.1 k) (member_drop e1 d1 x0 d2 m) in
+        ⊎_elim (λ q. d4 (subst (λ z. IsMember z (y ++ x0 ∷ [])) (sym q) (member_middle x0 y []))) (λ k. dd.1 k)
+        (member_drop e1 d1 x0 d2 m) in
         ⊎_elim
-        (λ k. use_some x y (d1 ++ x0 ∷ d2) x0 e1 k.0 rx ry rec t nt one h m0 nb n5 d4 (member_middle x0 d1 d2) to_t' k.1 k.2.0 k.2.1 k.2.2)
+        (λ k. use_some x y (d1 ++ x0 ∷ d2) x0 e1 k.0 rx ry rec t nt one h m0 nb n5 d4 (member_middle x0 d1 d2) to_t' k.1
+        k.2.0 k.2.1 k.2.2)
         (λ none. use_none x y (d1 ++ x0 ∷ d2) x0 e1 rx t nt one h m0 m1 nb n5 d4 of_t' not_e1 none)
         (search_members (λ g. (IsMember g y → ⊥) × (g ≢ x0) × (g ≢ e1)) (λ g. IsMember g y ⊎ ((g ≡ x0) ⊎ (g ≡ e1)))
-        (λ g. ⊎_elim (λ m. inr (inl m)) (λ n. ⊎_elim (λ q. inr (inr (inl q))) (λ n0. ⊎_elim (λ q. inr (inr (inr q))) (λ n1. inl (n, n0, n1)) (cases_eq g e1)) (cases_eq g x0)) (member_or_not g y))
+        (λ g. ⊎_elim (λ m. inr (inl m))
+        (λ n. ⊎_elim (λ q. inr (inr (inl q)))
+        (λ n0. ⊎_elim (λ q. inr (inr (inr q))) (λ n1. inl (n, n0, n1)) (cases_eq g e1)) (cases_eq g x0))
+        (member_or_not g y))
         x)
 
-    contradiction : (x y : List ℕ) → IsDistinct x → IsDistinct y → Before x y → (t : Sign) → IsNonzero t → OneSide x y t → (x0 : ℕ) → product (around chi x x0) (along chi y x0) ≡ t → ⊥
+    contradiction : (x y : List ℕ) → IsDistinct x → IsDistinct y → Before x y → (t : Sign) → IsNonzero t → OneSide x y t
+        → (x0 : ℕ) → product (around chi x x0) (along chi y x0) ≡ t → ⊥
     contradiction x y rx ry rec t nt one x0 h =
         let nv : IsNonzero (around chi x x0) = left_nonzero (around chi x x0) (along chi y x0) t h nt in
         let nb : IsNonzero (chi (y ++ x0 ∷ [])) = right_nonzero (around chi x x0) (along chi y x0) t h nt in
         let s = split_at x0 x (around_member chi x x0 nv) in
         let rs = subst IsDistinct s.2 rx in
-        let nT : IsNonzero (chi (s.0 ++ s.1)) = nonzero_from_around chi s.0 x0 s.1 rs (subst (λ l. IsNonzero (around chi l x0)) s.2 nv) in
-        let d = dual_exchange (missing (s.0 ++ s.1) (y ++ x0 ∷ [])) (s.0 ++ s.1) (y ++ x0 ∷ []) (omega arith) nT nb x0 (member_middle x0 y []) (distinct_drop s.0 x0 s.1 rs).1 in
+        let nT : IsNonzero (chi (s.0 ++ s.1)) =
+        nonzero_from_around chi s.0 x0 s.1 rs (subst (λ l. IsNonzero (around chi l x0)) s.2 nv) in
+        let d = dual_exchange (missing (s.0 ++ s.1) (y ++ x0 ∷ [])) (s.0 ++ s.1) (y ++ x0 ∷ []) (omega arith) nT nb x0
+        (member_middle x0 y []) (distinct_drop s.0 x0 s.1 rs).1 in
         with_splits x y s.0 s.1 d.0 d.2 x0 d.1 s.2 d.3 rx ry rec t nt one h nb d.5 d.4
 
-    step : (x y : List ℕ) → IsDistinct x → IsDistinct y → ((y' : List ℕ) → IsDistinct y' → suc (missing y' x) ≤ missing y x → AreOrthogonal x y') → AreOrthogonal x y
+    step : (x y : List ℕ) → IsDistinct x → IsDistinct y
+        → ((y' : List ℕ) → IsDistinct y' → suc (missing y' x) ≤ missing y x → AreOrthogonal x y') → AreOrthogonal x y
     step x y rx ry rec = orthogonal_from (around chi x) (along chi y) (λ x0 t nt h.
         ⊎_elim
         (λ k. (k.0, k.2))
         (λ one. absurd (contradiction x y rx ry rec t nt one x0 h))
-        (search_members (λ g. product (around chi x g) (along chi y g) ≡ opposite t) (λ g. product (around chi x g) (along chi y g) ≢ opposite t)
+        (search_members (λ g. product (around chi x g) (along chi y g) ≡ opposite t)
+        (λ g. product (around chi x g) (along chi y g) ≢ opposite t)
         (λ g. same_or_different (product (around chi x g) (along chi y g)) (opposite t)) x))
 
     all : (k : ℕ) (x y : List ℕ) → IsDistinct x → IsDistinct y → missing y x ≤ k → AreOrthogonal x y
-    all zero x y rx ry c = step x y rx ry (λ y' r q. absurd (let z : suc (missing y' x) ≤ missing y x = q in omega (arith, z, c)))
+    all zero x y rx ry c =
+        step x y rx ry (λ y' r q. absurd (let z : suc (missing y' x) ≤ missing y x = q in omega (arith, z, c)))
     all (suc k) x y rx ry c = step x y rx ry (λ y' r q. all k x y' rx r (omega (arith, q, c)))
 
     pub three_term_relations : HasRelations chi
     three_term_relations = relations_by_sorting chi alt (λ s a is ia.
-        balanced_from_orthogonal chi s (along chi a) (increasing_distinct s is) (all (missing a s) s a (increasing_distinct s is) (increasing_distinct a ia) (omega arith)))
+        balanced_from_orthogonal chi s (along chi a) (increasing_distinct s is)
+        (all (missing a s) s a (increasing_distinct s is) (increasing_distinct a ia) (omega arith)))

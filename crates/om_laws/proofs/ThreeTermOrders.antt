@@ -77,7 +77,8 @@ balanced_middle Plus Plus Plus h = absurd h
 
 balanced_same : (x y z x' y' z' : Sign) → x' ≡ x → y' ≡ y → z' ≡ z → AreBalanced x y z → AreBalanced x' y' z'
 balanced_same x y z x' y' z' p q r h =
-    subst (λ s. AreBalanced s y' z') (sym p) (subst (λ s. AreBalanced x s z') (sym q) (subst (λ s. AreBalanced x y s) (sym r) h))
+    subst (λ s. AreBalanced s y' z') (sym p)
+    (subst (λ s. AreBalanced x s z') (sym q) (subst (λ s. AreBalanced x y s) (sym r) h))
 
 balanced_zeros : (x y z : Sign) → x ≡ Zero → y ≡ Zero → z ≡ Zero → AreBalanced x y z
 balanced_zeros x y z p q r = balanced_same Zero Zero Zero x y z p q r tt
@@ -126,7 +127,8 @@ module _ (chi : List ℕ → Sign) (alt : IsAlternating chi) where
   psi p x y = chi (p ++ x ∷ y ∷ [])
 
   abbrev pub IsRelation : List ℕ → ℕ → ℕ → ℕ → ℕ → Type 0
-  IsRelation p a b c d = AreBalanced (product (psi p a b) (psi p c d)) (opposite (product (psi p a c) (psi p b d))) (product (psi p a d) (psi p b c))
+  IsRelation p a b c d = AreBalanced (product (psi p a b) (psi p c d)) (opposite (product (psi p a c) (psi p b d)))
+      (product (psi p a d) (psi p b c))
 
   psi_swap : (p : List ℕ) (x y : ℕ) → psi p y x ≡ opposite (psi p x y)
   psi_swap p x y = alt x y p []
@@ -135,7 +137,8 @@ module _ (chi : List ℕ → Sign) (alt : IsAlternating chi) where
   psi_same p x = neighbours_zero chi alt x p []
 
   psi_first : (p : List ℕ) (x y : ℕ) → IsMember x p → psi p x y ≡ Zero
-  psi_first p x y m = zero_at_repeat chi alt (p ++ x ∷ y ∷ []) (λ r. (distinct_drop p x (y ∷ []) r).1 (member_left x p (y ∷ []) m))
+  psi_first p x y m =
+      zero_at_repeat chi alt (p ++ x ∷ y ∷ []) (λ r. (distinct_drop p x (y ∷ []) r).1 (member_left x p (y ∷ []) m))
 
   psi_second : (p : List ℕ) (x y : ℕ) → IsMember y p → psi p x y ≡ Zero
   psi_second p x y m = opposite_is_zero (psi p x y) (psi p y x) (psi_swap p y x) (psi_first p y x m)
@@ -145,33 +148,42 @@ module _ (chi : List ℕ → Sign) (alt : IsAlternating chi) where
       (turned_left (psi p a b) (psi p b a) (psi p c d) (psi_swap p a b))
       (ap opposite (exchanged (psi p b c) (psi p a d)))
       (twice (psi p b d) (psi p a c))
-      (balanced_first (product (psi p a b) (psi p c d)) (opposite (product (psi p a c) (psi p b d))) (product (psi p a d) (psi p b c)) h)
+      (balanced_first (product (psi p a b) (psi p c d)) (opposite (product (psi p a c) (psi p b d)))
+      (product (psi p a d) (psi p b c)) h)
 
   swap_middle : (p : List ℕ) (a b c d : ℕ) → IsRelation p a b c d → IsRelation p a c b d
   swap_middle p a b c d h = balanced_same _ _ _ _ _ _
       (twice (psi p a c) (psi p b d) ∙ ap (λ s. opposite (opposite s)) (exchanged (psi p b d) (psi p a c)))
       refl
       (turned_right (psi p a d) (psi p b c) (psi p c b) (psi_swap p b c))
-      (balanced_middle (product (psi p a b) (psi p c d)) (opposite (product (psi p a c) (psi p b d))) (product (psi p a d) (psi p b c)) h)
+      (balanced_middle (product (psi p a b) (psi p c d)) (opposite (product (psi p a c) (psi p b d)))
+      (product (psi p a d) (psi p b c)) h)
 
   swap_last : (p : List ℕ) (a b c d : ℕ) → IsRelation p a b c d → IsRelation p a b d c
   swap_last p a b c d h = balanced_same _ _ _ _ _ _
       (turned_right (psi p a b) (psi p c d) (psi p d c) (psi_swap p c d))
       refl
       (twice (psi p a c) (psi p b d) ∙ ap (λ s. opposite (opposite s)) (exchanged (psi p b d) (psi p a c)))
-      (balanced_first (product (psi p a b) (psi p c d)) (opposite (product (psi p a c) (psi p b d))) (product (psi p a d) (psi p b c)) h)
+      (balanced_first (product (psi p a b) (psi p c d)) (opposite (product (psi p a c) (psi p b d)))
+      (product (psi p a d) (psi p b c)) h)
 
   repeat_first : (p : List ℕ) (a c d : ℕ) → IsRelation p a a c d
-  repeat_first p a c d = balanced_same Zero (opposite (product (psi p a c) (psi p a d))) (product (psi p a c) (psi p a d)) _ _ _
-      (zero_left (psi p a a) (psi p c d) (psi_same p a)) refl (exchanged (psi p a d) (psi p a c)) (balanced_last_two (product (psi p a c) (psi p a d)))
+  repeat_first p a c d = balanced_same Zero (opposite (product (psi p a c) (psi p a d)))
+      (product (psi p a c) (psi p a d)) _ _ _
+      (zero_left (psi p a a) (psi p c d) (psi_same p a)) refl (exchanged (psi p a d) (psi p a c))
+      (balanced_last_two (product (psi p a c) (psi p a d)))
 
   repeat_middle : (p : List ℕ) (a b d : ℕ) → IsRelation p a b b d
-  repeat_middle p a b d = balanced_same (product (psi p a b) (psi p b d)) (opposite (product (psi p a b) (psi p b d))) Zero _ _ _
-      refl refl (zero_right (psi p a d) (psi p b b) (psi_same p b)) (balanced_first_two (product (psi p a b) (psi p b d)))
+  repeat_middle p a b d = balanced_same (product (psi p a b) (psi p b d)) (opposite (product (psi p a b) (psi p b d)))
+      Zero _ _ _
+      refl refl (zero_right (psi p a d) (psi p b b) (psi_same p b))
+      (balanced_first_two (product (psi p a b) (psi p b d)))
 
   repeat_last : (p : List ℕ) (a b c : ℕ) → IsRelation p a b c c
-  repeat_last p a b c = balanced_same Zero (opposite (product (psi p a c) (psi p b c))) (product (psi p a c) (psi p b c)) _ _ _
-      (zero_right (psi p a b) (psi p c c) (psi_same p c)) refl refl (balanced_last_two (product (psi p a c) (psi p b c)))
+  repeat_last p a b c = balanced_same Zero (opposite (product (psi p a c) (psi p b c)))
+      (product (psi p a c) (psi p b c)) _ _ _
+      (zero_right (psi p a b) (psi p c c) (psi_same p c)) refl refl
+      (balanced_last_two (product (psi p a c) (psi p b c)))
 
   -- the relation of the four elements of a list
   abbrev OfList : List ℕ → List ℕ → Type 0
@@ -212,16 +224,20 @@ module _ (chi : List ℕ → Sign) (alt : IsAlternating chi) where
       → (IsMember a p → ⊥) → (IsMember b p → ⊥) → (IsMember c p → ⊥) → (IsMember d p → ⊥) → IsRelation p a b c d
 
   inside_a : (p : List ℕ) (a b c d : ℕ) → IsMember a p → IsRelation p a b c d
-  inside_a p a b c d m = balanced_zeros _ _ _ (zero_left _ _ (psi_first p a b m)) (opposite_zero _ (zero_left _ _ (psi_first p a c m))) (zero_left _ _ (psi_first p a d m))
+  inside_a p a b c d m = balanced_zeros _ _ _ (zero_left _ _ (psi_first p a b m))
+      (opposite_zero _ (zero_left _ _ (psi_first p a c m))) (zero_left _ _ (psi_first p a d m))
 
   inside_b : (p : List ℕ) (a b c d : ℕ) → IsMember b p → IsRelation p a b c d
-  inside_b p a b c d m = balanced_zeros _ _ _ (zero_left _ _ (psi_second p a b m)) (opposite_zero _ (zero_right _ _ (psi_first p b d m))) (zero_right _ _ (psi_first p b c m))
+  inside_b p a b c d m = balanced_zeros _ _ _ (zero_left _ _ (psi_second p a b m))
+      (opposite_zero _ (zero_right _ _ (psi_first p b d m))) (zero_right _ _ (psi_first p b c m))
 
   inside_c : (p : List ℕ) (a b c d : ℕ) → IsMember c p → IsRelation p a b c d
-  inside_c p a b c d m = balanced_zeros _ _ _ (zero_right _ _ (psi_first p c d m)) (opposite_zero _ (zero_left _ _ (psi_second p a c m))) (zero_right _ _ (psi_second p b c m))
+  inside_c p a b c d m = balanced_zeros _ _ _ (zero_right _ _ (psi_first p c d m))
+      (opposite_zero _ (zero_left _ _ (psi_second p a c m))) (zero_right _ _ (psi_second p b c m))
 
   inside_d : (p : List ℕ) (a b c d : ℕ) → IsMember d p → IsRelation p a b c d
-  inside_d p a b c d m = balanced_zeros _ _ _ (zero_right _ _ (psi_second p c d m)) (opposite_zero _ (zero_right _ _ (psi_second p b d m))) (zero_left _ _ (psi_second p a d m))
+  inside_d p a b c d m = balanced_zeros _ _ _ (zero_right _ _ (psi_second p c d m))
+      (opposite_zero _ (zero_right _ _ (psi_second p b d m))) (zero_left _ _ (psi_second p a d m))
 
   module _ (rel : HasIncreasingThreeTerms) where
     four : (p : List ℕ) → IsIncreasing p → (a b c d : ℕ) → IsIncreasing (a ∷ b ∷ c ∷ d ∷ []) → IsRelation p a b c d
@@ -241,13 +257,18 @@ module _ (chi : List ℕ → Sign) (alt : IsAlternating chi) where
     list_increasing p i (a ∷ b ∷ c ∷ d ∷ e ∷ xs) j = tt
 
     of_increasing : (p : List ℕ) → IsIncreasing p → (a b c d : ℕ) → IsRelation p a b c d
-    of_increasing p i a b c d = by_sorting (OfList p) (list_swap p) (list_repeat p) (list_increasing p i) (a ∷ b ∷ c ∷ d ∷ [])
+    of_increasing p i a b c d =
+        by_sorting (OfList p) (list_swap p) (list_repeat p) (list_increasing p i) (a ∷ b ∷ c ∷ d ∷ [])
 
-    tuple_turned : (x y : ℕ) (cs bs : List ℕ) (u v : ℕ) → psi (cs ++ y ∷ x ∷ bs) u v ≡ opposite (psi (cs ++ x ∷ y ∷ bs) u v)
-    tuple_turned x y cs bs u v = rw (append_assoc cs (y ∷ x ∷ bs) (u ∷ v ∷ []), append_assoc cs (x ∷ y ∷ bs) (u ∷ v ∷ [])) (alt x y cs (bs ++ u ∷ v ∷ []))
+    tuple_turned : (x y : ℕ) (cs bs : List ℕ) (u v : ℕ)
+        → psi (cs ++ y ∷ x ∷ bs) u v ≡ opposite (psi (cs ++ x ∷ y ∷ bs) u v)
+    tuple_turned x y cs bs u v =
+        rw (append_assoc cs (y ∷ x ∷ bs) (u ∷ v ∷ []), append_assoc cs (x ∷ y ∷ bs) (u ∷ v ∷ []))
+        (alt x y cs (bs ++ u ∷ v ∷ []))
 
     tuple_repeat : (x : ℕ) (cs bs : List ℕ) (u v : ℕ) → psi (cs ++ x ∷ x ∷ bs) u v ≡ Zero
-    tuple_repeat x cs bs u v = rw (append_assoc cs (x ∷ x ∷ bs) (u ∷ v ∷ [])) (neighbours_zero chi alt x cs (bs ++ u ∷ v ∷ []))
+    tuple_repeat x cs bs u v =
+        rw (append_assoc cs (x ∷ x ∷ bs) (u ∷ v ∷ [])) (neighbours_zero chi alt x cs (bs ++ u ∷ v ∷ []))
 
     pub three_terms_in_order : HasThreeTermRelations chi
     three_terms_in_order p = by_sorting (λ p. (a b c d : ℕ) → IsRelation p a b c d)
@@ -257,5 +278,6 @@ module _ (chi : List ℕ → Sign) (alt : IsAlternating chi) where
         (turned_both _ _ _ _ (tuple_turned x y cs bs a d) (tuple_turned x y cs bs b c))
         (h a b c d))
         (λ x cs bs a b c d. balanced_zeros _ _ _
-        (zero_left _ _ (tuple_repeat x cs bs a b)) (opposite_zero _ (zero_left _ _ (tuple_repeat x cs bs a c))) (zero_left _ _ (tuple_repeat x cs bs a d)))
+        (zero_left _ _ (tuple_repeat x cs bs a b)) (opposite_zero _ (zero_left _ _ (tuple_repeat x cs bs a c)))
+        (zero_left _ _ (tuple_repeat x cs bs a d)))
         of_increasing p

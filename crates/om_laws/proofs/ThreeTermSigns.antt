@@ -28,7 +28,8 @@ none x y z s p q r (inl e) = p e
 none x y z s p q r (inr (inl e)) = q e
 none x y z s p q r (inr (inr e)) = r e
 
-pub balanced_from : (x y z : Sign) → (IsOneOf x y z Plus → IsOneOf x y z Minus) → (IsOneOf x y z Minus → IsOneOf x y z Plus) → AreBalanced x y z
+pub balanced_from : (x y z : Sign) → (IsOneOf x y z Plus → IsOneOf x y z Minus)
+    → (IsOneOf x y z Minus → IsOneOf x y z Plus) → AreBalanced x y z
 balanced_from Minus Minus Minus f g = absurd (none Minus Minus Minus Plus (λ e. cc) (λ e. cc) (λ e. cc) (g (inl refl)))
 balanced_from Minus Minus Zero f g = absurd (none Minus Minus Zero Plus (λ e. cc) (λ e. cc) (λ e. cc) (g (inl refl)))
 balanced_from Minus Minus Plus f g = tt
@@ -38,10 +39,13 @@ balanced_from Minus Zero Plus f g = tt
 balanced_from Minus Plus Minus f g = tt
 balanced_from Minus Plus Zero f g = tt
 balanced_from Minus Plus Plus f g = tt
-balanced_from Zero Minus Minus f g = absurd (none Zero Minus Minus Plus (λ e. cc) (λ e. cc) (λ e. cc) (g (inr (inl refl))))
-balanced_from Zero Minus Zero f g = absurd (none Zero Minus Zero Plus (λ e. cc) (λ e. cc) (λ e. cc) (g (inr (inl refl))))
+balanced_from Zero Minus Minus f g =
+    absurd (none Zero Minus Minus Plus (λ e. cc) (λ e. cc) (λ e. cc) (g (inr (inl refl))))
+balanced_from Zero Minus Zero f g =
+    absurd (none Zero Minus Zero Plus (λ e. cc) (λ e. cc) (λ e. cc) (g (inr (inl refl))))
 balanced_from Zero Minus Plus f g = tt
-balanced_from Zero Zero Minus f g = absurd (none Zero Zero Minus Plus (λ e. cc) (λ e. cc) (λ e. cc) (g (inr (inr refl))))
+balanced_from Zero Zero Minus f g =
+    absurd (none Zero Zero Minus Plus (λ e. cc) (λ e. cc) (λ e. cc) (g (inr (inr refl))))
 balanced_from Zero Zero Zero f g = tt
 balanced_from Zero Zero Plus f g = absurd (none Zero Zero Plus Minus (λ e. cc) (λ e. cc) (λ e. cc) (f (inr (inr refl))))
 balanced_from Zero Plus Minus f g = tt
@@ -57,7 +61,8 @@ balanced_from Plus Plus Minus f g = tt
 balanced_from Plus Plus Zero f g = absurd (none Plus Plus Zero Minus (λ e. cc) (λ e. cc) (λ e. cc) (f (inl refl)))
 balanced_from Plus Plus Plus f g = absurd (none Plus Plus Plus Minus (λ e. cc) (λ e. cc) (λ e. cc) (f (inl refl)))
 
-balanced_either : (x y z s : Sign) → IsNonzero s → (IsOneOf x y z s → IsOneOf x y z (opposite s)) → (IsOneOf x y z (opposite s) → IsOneOf x y z s) → AreBalanced x y z
+balanced_either : (x y z s : Sign) → IsNonzero s → (IsOneOf x y z s → IsOneOf x y z (opposite s))
+    → (IsOneOf x y z (opposite s) → IsOneOf x y z s) → AreBalanced x y z
 balanced_either x y z Minus n f g = balanced_from x y z g f
 balanced_either x y z Zero n f g = absurd (n refl)
 balanced_either x y z Plus n f g = balanced_from x y z f g
@@ -67,15 +72,21 @@ balanced_either x y z Plus n f g = balanced_from x y z f g
 no_product : (s t w : Sign) → IsNonzero w → t ≡ Zero → product s t ≡ opposite w → ⊥
 no_product s t w n z e = grind arith
 
-behind : (chi : List ℕ → Sign) (p xs : List ℕ) (u : ℕ → Sign) (s : Sign) → IsNonzero s → ((e : ℕ) → IsMember e p → u e ≡ Zero) → HasTerm chi (p ++ xs) u s → HasTerm (λ t. chi (p ++ t)) xs u (negated_for p s)
+behind : (chi : List ℕ → Sign) (p xs : List ℕ) (u : ℕ → Sign) (s : Sign) → IsNonzero s
+    → ((e : ℕ) → IsMember e p → u e ≡ Zero) → HasTerm chi (p ++ xs) u s
+    → HasTerm (λ t. chi (p ++ t)) xs u (negated_for p s)
 behind chi [] xs u s n z h = h
 behind chi (x ∷ p) xs u s n z (inl e) = absurd (no_product (chi (p ++ xs)) (u x) s n (z x (inl refl)) e)
 behind chi (x ∷ p) xs u s n z (inr h) =
-    subst (HasTerm (λ t. chi (x ∷ (p ++ t))) xs u) (negated_for_opposite p s) (behind (λ t. chi (x ∷ t)) p xs u (opposite s) (opposite_nonzero s n) (λ e m. z e (inr m)) h)
+    subst (HasTerm (λ t. chi (x ∷ (p ++ t))) xs u) (negated_for_opposite p s)
+    (behind (λ t. chi (x ∷ t)) p xs u (opposite s) (opposite_nonzero s n) (λ e m. z e (inr m)) h)
 
-before : (chi : List ℕ → Sign) (p xs : List ℕ) (u : ℕ → Sign) (s : Sign) → HasTerm (λ t. chi (p ++ t)) xs u (negated_for p s) → HasTerm chi (p ++ xs) u s
+before : (chi : List ℕ → Sign) (p xs : List ℕ) (u : ℕ → Sign) (s : Sign)
+    → HasTerm (λ t. chi (p ++ t)) xs u (negated_for p s) → HasTerm chi (p ++ xs) u s
 before chi [] xs u s h = h
-before chi (x ∷ p) xs u s h = inr (before (λ t. chi (x ∷ t)) p xs u (opposite s) (subst (HasTerm (λ t. chi (x ∷ (p ++ t))) xs u) (sym (negated_for_opposite p s)) h))
+before chi (x ∷ p) xs u s h =
+    inr (before (λ t. chi (x ∷ t)) p xs u (opposite s)
+    (subst (HasTerm (λ t. chi (x ∷ (p ++ t))) xs u) (sym (negated_for_opposite p s)) h))
 
 -- ---- the three terms
 
@@ -124,7 +135,8 @@ module _ (chi : List ℕ → Sign) (alt : IsAlternating chi) (rel : HasRelations
   from_terms s (inr (inl e)) = inr (inl (second_back (psi b d) (u c) (psi a c) s (at_element c) e))
   from_terms s (inr (inr e)) = inr (inr (inl (third_back (psi b c) (u d) (psi a d) s (at_element d) e)))
 
-  three_terms : AreBalanced (product (psi a b) (psi c d)) (opposite (product (psi a c) (psi b d))) (product (psi a d) (psi b c))
+  three_terms : AreBalanced (product (psi a b) (psi c d)) (opposite (product (psi a c) (psi b d)))
+      (product (psi a d) (psi b c))
   three_terms =
       let k = negated_for p Plus in
       let nk : IsNonzero k = negated_for_nonzero p Plus plus_nonzero in
@@ -132,7 +144,8 @@ module _ (chi : List ℕ → Sign) (alt : IsAlternating chi) (rel : HasRelations
       let r = rel (p ++ b ∷ c ∷ d ∷ []) (p ++ a ∷ []) in
       balanced_either _ _ _ (opposite k) (opposite_nonzero k nk)
       (λ h. to_terms (opposite k) (subst (HasTerm (λ t. chi (p ++ t)) (b ∷ c ∷ d ∷ []) u) turned
-      (behind chi p (b ∷ c ∷ d ∷ []) u Minus (λ e. cc) off (r.0 (before chi p (b ∷ c ∷ d ∷ []) u Plus (from_terms k h))))))
+      (behind chi p (b ∷ c ∷ d ∷ []) u Minus (λ e. cc) off
+      (r.0 (before chi p (b ∷ c ∷ d ∷ []) u Plus (from_terms k h))))))
       (λ h. to_terms k (behind chi p (b ∷ c ∷ d ∷ []) u Plus (λ e. cc) off (r.1 (before chi p (b ∷ c ∷ d ∷ []) u Minus
       (subst (HasTerm (λ t. chi (p ++ t)) (b ∷ c ∷ d ∷ []) u) (sym turned) (from_terms (opposite k) h))))))
 

@@ -1,10 +1,12 @@
 -- Tuples of elements, and the map that is zero off the tuples of its size.
 --
--- Main results: a list is a tuple or not, as its test says (is_tuple_cases); on_tuples is the value on tuples (on_tuples_at), nonzero only
--- there (on_tuples_tuple), and alternates (on_tuples_alternating); a tuple with an element left out or added (tuple_without, tuple_with).
+-- Main results: a list is a tuple or not, as its test says (is_tuple_cases); on_tuples is the value on tuples
+-- (on_tuples_at), nonzero only there (on_tuples_tuple), and alternates (on_tuples_alternating); a tuple with an element
+-- left out or added (tuple_without, tuple_with).
 use Rattle.std.proofs.lemmas.Bool.{cases_eq, cases_lt, lt-ltb, le-ltb, eq-eqb, ne_eqb}
 use Rattle.std.proofs.lemmas.List.{length-append}
-use Rattle.std.proofs.Common.{ℕ, suc, List, true, false, refl, arith, inl, inr, sym, ap, subst, length, ◌≡◌, ◌⊎◌, ◌∷◌, ◌++◌, ◌-◌, [], ◌∙◌}
+use Rattle.std.proofs.Common.{ℕ, suc, List, true, false, refl, arith, inl, inr, sym, ap, subst, length, ◌≡◌, ◌⊎◌, ◌∷◌}
+use Rattle.std.proofs.Common.{◌++◌, ◌-◌, [], ◌∙◌}
 use Rattle.om_signs.specs.declared.sign.Sign.{Sign}
 use Rattle.om_signs.specs.declared.sign.Sign.TheVariants.{Zero}
 use Rattle.om_signs.specs.Sign.{opposite}
@@ -19,7 +21,8 @@ each_member P [] a e m = absurd m
 each_member P (x ∷ xs) a e (inl q) = subst P (sym q) a.0
 each_member P (x ∷ xs) a e (inr m) = each_member P xs a.1 e m
 
-is_element_cases : (n e : ℕ) → (IsElement n e × (is_element n e ≡ true)) ⊎ ((IsElement n e → ⊥) × (is_element n e ≡ false))
+is_element_cases : (n e : ℕ) → (IsElement n e × (is_element n e ≡ true))
+    ⊎ ((IsElement n e → ⊥) × (is_element n e ≡ false))
 is_element_cases n e = elim (cases_lt 0 e) [
   | inl lt ↦ elim (cases_lt e (suc n)) [
     | inl l2 ↦ inl ((omega arith, omega arith), rw (lt-ltb 0 e lt, lt-ltb e (suc n) l2) refl)
@@ -28,7 +31,8 @@ is_element_cases n e = elim (cases_lt 0 e) [
   | inr ge ↦ inr ((λ h. let k = h.0 in omega (arith, k, ge)), rw (le-ltb 0 e ge) refl)
 ]
 
-are_elements_cases : (n : ℕ) (xs : List ℕ) → (Each (IsElement n) xs × (are_elements n xs ≡ true)) ⊎ ((Each (IsElement n) xs → ⊥) × (are_elements n xs ≡ false))
+are_elements_cases : (n : ℕ) (xs : List ℕ) → (Each (IsElement n) xs × (are_elements n xs ≡ true))
+    ⊎ ((Each (IsElement n) xs → ⊥) × (are_elements n xs ≡ false))
 are_elements_cases n [] = inl (tt, refl)
 are_elements_cases n (x ∷ xs) = elim (is_element_cases n x) [
   | inl a ↦ elim (are_elements_cases n xs) [
@@ -38,7 +42,8 @@ are_elements_cases n (x ∷ xs) = elim (is_element_cases n x) [
   | inr a ↦ inr ((λ h. a.0 h.0), rw a.1 refl)
 ]
 
-pub is_tuple_cases : (n k : ℕ) (xs : List ℕ) → (IsTuple n k xs × (is_tuple n k xs ≡ true)) ⊎ ((IsTuple n k xs → ⊥) × (is_tuple n k xs ≡ false))
+pub is_tuple_cases : (n k : ℕ) (xs : List ℕ) → (IsTuple n k xs × (is_tuple n k xs ≡ true))
+    ⊎ ((IsTuple n k xs → ⊥) × (is_tuple n k xs ≡ false))
 is_tuple_cases n k xs = elim (cases_eq (length xs) k) [
   | inl q ↦ elim (are_elements_cases n xs) [
     | inl b ↦ inl (record { size = q; within = b.0 }, rw (eq-eqb (length xs) k q) b.1)
@@ -78,8 +83,10 @@ swap_tuple n k x y cs bs h = record { size = swap_length cs ∙ h.size; within =
 
 pub on_tuples_alternating : (n r : ℕ) (f : List ℕ → Sign) → IsAlternating (on_tuples n r f)
 on_tuples_alternating n r f x y cs bs = elim (is_tuple_cases n r (cs ++ y ∷ x ∷ bs)) [
-  | inl a ↦ on_tuples_at n r f (cs ++ y ∷ x ∷ bs) a.0 ∙ value_alternating f x y cs bs ∙ ap opposite (sym (on_tuples_at n r f (cs ++ x ∷ y ∷ bs) (swap_tuple n r x y cs bs a.0)))
-  | inr a ↦ on_tuples_off n r f (cs ++ y ∷ x ∷ bs) a.0 ∙ ap opposite (sym (on_tuples_off n r f (cs ++ x ∷ y ∷ bs) (λ t. a.0 (swap_tuple n r y x cs bs t))))
+  | inl a ↦ on_tuples_at n r f (cs ++ y ∷ x ∷ bs) a.0 ∙ value_alternating f x y cs bs
+      ∙ ap opposite (sym (on_tuples_at n r f (cs ++ x ∷ y ∷ bs) (swap_tuple n r x y cs bs a.0)))
+  | inr a ↦ on_tuples_off n r f (cs ++ y ∷ x ∷ bs) a.0
+      ∙ ap opposite (sym (on_tuples_off n r f (cs ++ x ∷ y ∷ bs) (λ t. a.0 (swap_tuple n r y x cs bs t))))
 ]
 
 each_append : (P : ℕ → Type 0) (xs ys : List ℕ) → Each P (xs ++ ys) → Each P xs × Each P ys
@@ -95,27 +102,36 @@ tuple_without n k cs bs x t =
     let a = each_append (IsElement n) cs (x ∷ bs) t.within in
     let q = t.size in
     record {
-      size = (let p = length-append cs (x ∷ bs) in let r = length-append cs bs in let l : length (x ∷ bs) ≡ suc (length bs) = refl in omega (arith, q, p, r, l));
+      size = (let p = length-append cs (x ∷ bs) in let r = length-append cs bs in
+          let l : length (x ∷ bs) ≡ suc (length bs) = refl in omega (arith, q, p, r, l));
       within = each_join (IsElement n) cs bs a.0 a.1.1;
     }
 
-pub tuple_with : (n k : ℕ) (cs bs : List ℕ) (x : ℕ) → IsTuple n k (cs ++ bs) → IsElement n x → IsTuple n (suc k) (cs ++ x ∷ bs)
+pub tuple_with : (n k : ℕ) (cs bs : List ℕ) (x : ℕ) → IsTuple n k (cs ++ bs) → IsElement n x
+    → IsTuple n (suc k) (cs ++ x ∷ bs)
 tuple_with n k cs bs x t i =
     let a = each_append (IsElement n) cs bs t.within in
     let q = t.size in
     record {
-      size = (let p = length-append cs (x ∷ bs) in let r = length-append cs bs in let l : length (x ∷ bs) ≡ suc (length bs) = refl in omega (arith, q, p, r, l));
+      size = (let p = length-append cs (x ∷ bs) in let r = length-append cs bs in
+          let l : length (x ∷ bs) ≡ suc (length bs) = refl in omega (arith, q, p, r, l));
       within = each_join (IsElement n) cs (x ∷ bs) a.0 (i, a.1);
     }
 
 pub tuple_last : (n r : ℕ) (a : List ℕ) (x : ℕ) → IsTuple n r (a ++ x ∷ []) → IsTuple n (r - 1) a × IsElement n x
 tuple_last n r a x t =
     let e = each_append (IsElement n) a (x ∷ []) t.within in
-    let q = t.size in
-    (record { size = (let p = length-append a (x ∷ []) in let l : length (x ∷ []) ≡ 1 = refl in omega (arith, q, p, l)); within = e.0 }, e.1.0)
+    let q = t.size in (
+      record {
+        size = (let p = length-append a (x ∷ []) in let l : length (x ∷ []) ≡ 1 = refl in omega (arith, q, p, l));
+        within = e.0;
+      },
+      e.1.0,
+    )
 
 pub tuple_rank : (n r : ℕ) (a : List ℕ) (x : ℕ) → IsTuple n r (a ++ x ∷ []) → r ≡ suc (r - 1)
-tuple_rank n r a x t = let q = t.size in let p = length-append a (x ∷ []) in let l : length (x ∷ []) ≡ 1 = refl in omega (arith, q, p, l)
+tuple_rank n r a x t = let q = t.size in let p = length-append a (x ∷ []) in let l : length (x ∷ []) ≡ 1 = refl in
+    omega (arith, q, p, l)
 
 pub each_from : (P : ℕ → Type 0) (xs : List ℕ) → ((e : ℕ) → IsMember e xs → P e) → Each P xs
 each_from P [] h = tt

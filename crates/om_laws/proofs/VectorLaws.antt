@@ -1,16 +1,18 @@
 -- Orthogonality of sign vectors.
 --
--- Main results: orthogonality is symmetric (orthogonal_sym), and is kept by negation (orthogonal_negated) and by composition
--- (orthogonal_composition); it says that where a product is nonzero another is its opposite (opposite_product, orthogonal_from); it is that
--- of vectors that are equal up to sign (orthogonal_up_to_sign).
+-- Main results: orthogonality is symmetric (orthogonal_sym), and is kept by negation (orthogonal_negated) and by
+-- composition (orthogonal_composition); it says that where a product is nonzero another is its opposite
+-- (opposite_product, orthogonal_from); it is that of vectors that are equal up to sign (orthogonal_up_to_sign).
 -- Reference: Björner, Las Vergnas, Sturmfels, White and Ziegler, Oriented Matroids, chapter 3.
 use Rattle.std.proofs.Common.{⊎_elim, ℕ, refl, arith, inl, inr, sym, ap, ◌≡◌, ◌≢◌, ◌⊎◌, ◌∙◌}
 use Rattle.om_signs.specs.declared.sign.Sign.{Sign}
 use Rattle.om_signs.specs.declared.sign.Sign.TheVariants.{Minus, Zero, Plus}
 use Rattle.om_signs.specs.Sign.{opposite, product, first_nonzero}
-use Rattle.om_laws.specs.Vectors.{SignVector, zero_vector, negated, composition, HasProduct, Orthogonal, AreEqualUpToSign}
+use Rattle.om_laws.specs.Vectors.{SignVector, zero_vector, negated, composition, HasProduct, Orthogonal}
+use Rattle.om_laws.specs.Vectors.{AreEqualUpToSign}
 use Rattle.om_laws.specs.Signs.{IsNonzero}
-use Rattle.om_laws.proofs.SignLaws.{product_opposites, opposite_zero, opposite-opposite, plus_nonzero, minus_nonzero, product_comm, product-opposite_left}
+use Rattle.om_laws.proofs.SignLaws.{product_opposites, opposite_zero, opposite-opposite, plus_nonzero, minus_nonzero}
+use Rattle.om_laws.proofs.SignLaws.{product_comm, product-opposite_left}
 
 HasProduct_sym : (x y : SignVector) (s : Sign) → HasProduct x y s → HasProduct y x s
 HasProduct_sym x y s (e, p) = (e, product_comm (y e) (x e) ∙ p)
@@ -36,16 +38,19 @@ orthogonal_negated x y o = record {
   plus = λ h. HasProduct_negated x y Minus (o.minus (HasProduct_from_negated x y Minus h));
 }
 
-cases_first : (a b c s : Sign) → product (first_nonzero a b) c ≡ s → (product a c ≡ s) ⊎ ((a ≡ Zero) × (product b c ≡ s))
+cases_first : (a b c s : Sign) → product (first_nonzero a b) c ≡ s → (product a c ≡ s)
+    ⊎ ((a ≡ Zero) × (product b c ≡ s))
 cases_first a b c s p = grind arith
 
 pick_first : (a b c s : Sign) → s ≢ Zero → product a c ≡ s → product (first_nonzero a b) c ≡ s
 pick_first a b c s n p = grind arith
 
-pick_second : (a b c s : Sign) → s ≢ Zero → product b c ≡ s → (product (first_nonzero a b) c ≡ s) ⊎ (product a c ≡ opposite s)
+pick_second : (a b c s : Sign) → s ≢ Zero → product b c ≡ s → (product (first_nonzero a b) c ≡ s)
+    ⊎ (product a c ≡ opposite s)
 pick_second a b c s n p = grind arith
 
-half : (x y z : SignVector) (s t : Sign) → s ≢ Zero → t ≢ Zero → opposite t ≡ s → (HasProduct x z s → HasProduct x z t) → (HasProduct y z s → HasProduct y z t) → HasProduct (composition x y) z s → HasProduct (composition x y) z t
+half : (x y z : SignVector) (s t : Sign) → s ≢ Zero → t ≢ Zero → opposite t ≡ s → (HasProduct x z s → HasProduct x z t)
+    → (HasProduct y z s → HasProduct y z t) → HasProduct (composition x y) z s → HasProduct (composition x y) z t
 half x y z s t ns nt o fx fy (e, p) = elim (cases_first (x e) (y e) (z e) s p) [
   | inl q ↦ from_x (fx (e, q))
   | inr q ↦ from_y (fy (e, q.1))
@@ -64,21 +69,27 @@ orthogonal_composition x y z p q = record {
 }
 
 -- where a product is nonzero, another is its opposite
-pub opposite_product : (x y : SignVector) → Orthogonal x y → (e : ℕ) (s : Sign) → IsNonzero s → product (x e) (y e) ≡ s → (g : ℕ) × (product (x g) (y g) ≡ opposite s)
+pub opposite_product : (x y : SignVector) → Orthogonal x y → (e : ℕ) (s : Sign) → IsNonzero s → product (x e) (y e) ≡ s
+    → (g : ℕ) × (product (x g) (y g) ≡ opposite s)
 opposite_product x y o e Minus n p = o.plus (e, p)
 opposite_product x y o e Zero n p = absurd (n refl)
 opposite_product x y o e Plus n p = o.minus (e, p)
 
-pub orthogonal_from : (x y : SignVector) → ((e : ℕ) (s : Sign) → IsNonzero s → product (x e) (y e) ≡ s → (g : ℕ) × (product (x g) (y g) ≡ opposite s)) → Orthogonal x y
+pub orthogonal_from : (x y : SignVector)
+    → ((e : ℕ) (s : Sign) → IsNonzero s → product (x e) (y e) ≡ s → (g : ℕ) × (product (x g) (y g) ≡ opposite s))
+    → Orthogonal x y
 orthogonal_from x y h = record { minus = λ k. h k.0 Plus plus_nonzero k.1; plus = λ k. h k.0 Minus minus_nonzero k.1 }
 
 pub orthogonal_zero : (y : SignVector) → Orthogonal zero_vector y
-orthogonal_zero y = record { minus = λ (e, p). absurd (plus_nonzero (sym p)); plus = λ (e, p). absurd (minus_nonzero (sym p)) }
+orthogonal_zero y =
+    record { minus = λ (e, p). absurd (plus_nonzero (sym p)); plus = λ (e, p). absurd (minus_nonzero (sym p)) }
 
 -- orthogonality depends on the signs alone
-pub orthogonal_same : (x x' y y' : SignVector) → ((e : ℕ) → x e ≡ x' e) → ((e : ℕ) → y e ≡ y' e) → Orthogonal x' y' → Orthogonal x y
+pub orthogonal_same : (x x' y y' : SignVector) → ((e : ℕ) → x e ≡ x' e) → ((e : ℕ) → y e ≡ y' e) → Orthogonal x' y'
+    → Orthogonal x y
 orthogonal_same x x' y y' a b o = orthogonal_from x y (λ e s n h.
-    let k = opposite_product x' y' o e s n (ap (λ z. product z (y' e)) (sym (a e)) ∙ ap (product (x e)) (sym (b e)) ∙ h) in
+    let k = opposite_product x' y' o e s n (ap (λ z. product z (y' e)) (sym (a e)) ∙ ap (product (x e)) (sym (b e)) ∙ h)
+    in
     (k.0, ap (λ z. product z (y k.0)) (a k.0) ∙ ap (product (x' k.0)) (b k.0) ∙ k.1))
 
 pub orthogonal_up_to_sign : (x x' y : SignVector) → AreEqualUpToSign x x' → Orthogonal x' y → Orthogonal x y

@@ -1,4 +1,5 @@
--- Sign vectors as lists of signs, which calls hand out, and as functions from elements to signs, of which the laws speak.
+-- Sign vectors as lists of signs, which calls return, and as functions from elements to signs, which the laws are
+-- about.
 use Rattle.std.specs.Prelude.{ℕ, zero, suc, List, map}
 use Rattle.om_signs.specs.declared.sign.Sign.{Sign}
 use Rattle.om_signs.specs.declared.sign.Sign.TheVariants.{Zero}
@@ -6,7 +7,7 @@ use Rattle.om_signs.specs.SignVec.{at}
 use Rattle.om_laws.specs.Vectors.{SignVector}
 use Rattle.om_laws.specs.Chirotope.{elements_to}
 
--- the sign at element e, counted from 1, and zero at 0 and past the list
+-- the sign at element e, counted from 1; zero at 0 and beyond the list
 abbrev pub as_function : List Sign → SignVector
 as_function xs zero = Zero
 as_function xs (suc i) = at xs i

@@ -7,7 +7,7 @@ use Rattle.om_laws.specs.Members.{IsDistinct, AreAmong}
 use Rattle.om_laws.specs.Vectors.{SignVector, HasNonzero, AreEqualUpToSign}
 use Rattle.om_laws.specs.Relations.{around, along}
 
--- up to sign the vector around a tuple without repeats, and not zero
+-- a nonzero vector that is, up to sign, the vector around a tuple without repeats
 pub record IsCircuit (E : List ℕ) (chi : List ℕ → Sign) (X : SignVector) : Type 0 where
   pub tuple : List ℕ
   pub distinct : IsDistinct tuple
@@ -15,7 +15,7 @@ pub record IsCircuit (E : List ℕ) (chi : List ℕ → Sign) (X : SignVector) :
   pub nonzero : HasNonzero X
   pub same : AreEqualUpToSign X (around chi tuple)
 
--- up to sign the vector along a tuple, and not zero
+-- a nonzero vector that is, up to sign, the vector along a tuple
 pub record IsCocircuit (chi : List ℕ → Sign) (X : SignVector) : Type 0 where
   pub tuple : List ℕ
   pub nonzero : HasNonzero X

@@ -20,24 +20,24 @@ IsColoured green = Unit {0}
 IsColoured black = ⊥
 IsColoured white = ⊥
 
--- the signs that a colour allows a circuit: plus and zero, minus and zero, all, zero
+-- the signs that a colour allows in a circuit. Red: plus and zero. Green: minus and zero. Black: all. White: zero
 abbrev pub CircuitMay : Colour → Sign → Type 0
 CircuitMay red s = s ≢ Minus
 CircuitMay green s = s ≢ Plus
 CircuitMay black s = Unit {0}
 CircuitMay white s = s ≡ Zero
 
--- the signs that a colour allows a cocircuit: plus and zero, minus and zero, zero, all
+-- the signs that a colour allows in a cocircuit. Red: plus and zero. Green: minus and zero. Black: zero. White: all
 abbrev pub CocircuitMay : Colour → Sign → Type 0
 CocircuitMay red s = s ≢ Minus
 CocircuitMay green s = s ≢ Plus
 CocircuitMay black s = s ≡ Zero
 CocircuitMay white s = Unit {0}
 
--- some circuit through e that the colours allow
+-- some circuit that is nonzero at e and that the colours allow
 abbrev pub SomeCircuit : (SignVector → Type 0) → (ℕ → Colour) → ℕ → Type 0
 SomeCircuit C c e = (X : SignVector) × C X × IsNonzero (X e) × ((f : ℕ) → CircuitMay (c f) (X f))
 
--- some cocircuit through e that the colours allow
+-- some cocircuit that is nonzero at e and that the colours allow
 abbrev pub SomeCocircuit : (SignVector → Type 0) → (ℕ → Colour) → ℕ → Type 0
 SomeCocircuit D c e = (Y : SignVector) × D Y × IsNonzero (Y e) × ((f : ℕ) → CocircuitMay (c f) (Y f))

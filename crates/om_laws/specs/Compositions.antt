@@ -5,12 +5,12 @@ use Rattle.std.specs.Prelude.{ℕ, ◌≡◌, List, [], ◌∷◌}
 use Rattle.om_laws.specs.Signs.{IsNonzero}
 use Rattle.om_laws.specs.Vectors.{SignVector, zero_vector, composition, IsConformal}
 
--- the composition of a list of vectors, the first one first
+-- the composition of a list of vectors, in the order of the list
 abbrev pub composition_of : List SignVector → SignVector
 composition_of [] = zero_vector
 composition_of (Y ∷ Ys) = composition Y (composition_of Ys)
 
--- it holds of each vector of a list
+-- each vector of a list has the property
 abbrev pub EachVector : (SignVector → Type 0) → List SignVector → Type 0
 EachVector P [] = Unit {0}
 EachVector P (Y ∷ Ys) = P Y × EachVector P Ys

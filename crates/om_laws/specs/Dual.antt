@@ -1,4 +1,4 @@
--- The dual of a map: the value of the complement, with the sign of a permutation.
+-- The dual of a map: the value of the complement, times the sign of a permutation.
 --
 -- Reference: Björner, Las Vergnas, Sturmfels, White and Ziegler, Oriented Matroids, chapter 3.
 use Rattle.std.specs.Prelude.{ℕ, List, [], ◌∷◌, ◌++◌, cond, nat_eq, Bool, true, false}
@@ -23,7 +23,8 @@ abbrev pub complement : List ℕ → List ℕ → List ℕ
 complement [] a = []
 complement (e ∷ E) a = cond (is_member e a) (complement E a) (e ∷ complement E a)
 
--- the value of the complement, times the sign of the permutation that sorts the tuple with its complement behind it
+-- the value of the complement, times the sign of the permutation that sorts the tuple followed by its complement;
+-- zero if some entry is no element
 abbrev pub dual_map : List ℕ → (List ℕ → Sign) → List ℕ → Sign
 dual_map E chi a = cond (are_members E a) (product (sort_sign (a ++ complement E a)) (chi (complement E a))) Zero
 

@@ -9,11 +9,11 @@ use Rattle.om_laws.specs.Vectors.{SignVector}
 use Rattle.om_laws.specs.Bases.{IsBase}
 use Rattle.om_laws.specs.Covectors.{IsCovector}
 
--- the elements but e, renamed from 1 on
+-- the elements other than e, numbered from 1 on
 abbrev pub skip : ℕ → ℕ → ℕ
 skip e p = cond (nat_lt p e) p (p + 1)
 
--- the value of the renamed tuple with the list q behind it
+-- the value of the renamed tuple followed by the list q
 abbrev pub pullback : (List ℕ → Sign) → (ℕ → ℕ) → List ℕ → List ℕ → Sign
 pullback chi rename q t = chi (map rename t ++ q)
 
@@ -21,7 +21,7 @@ pullback chi rename q t = chi (map rename t ++ q)
 abbrev pub deletion : ℕ → (List ℕ → Sign) → List ℕ → Sign
 deletion e chi = pullback chi (skip e) []
 
--- the map on the tuples that e stands behind
+-- the map on the tuples followed by e
 abbrev pub contraction : ℕ → (List ℕ → Sign) → List ℕ → Sign
 contraction e chi = pullback chi (skip e) (e ∷ [])
 
@@ -29,10 +29,10 @@ contraction e chi = pullback chi (skip e) (e ∷ [])
 abbrev pub IsAvoided : (List ℕ → Sign) → ℕ → Type 0
 IsAvoided chi e = (t : List ℕ) × IsBase chi t × (IsMember e t → ⊥)
 
--- some covector of the larger map is X on the elements but e
+-- X is some covector of the larger map, without e
 abbrev pub IsCovectorWithout : ℕ → List ℕ → (List ℕ → Sign) → SignVector → Type 0
 IsCovectorWithout e E chi X = (W : SignVector) × IsCovector E chi W × ((p : ℕ) → W (skip e p) ≡ X p)
 
--- the same, of one that is zero at e
+-- X is some covector of the larger map that is zero at e, without e
 abbrev pub IsZeroCovectorWithout : ℕ → List ℕ → (List ℕ → Sign) → SignVector → Type 0
 IsZeroCovectorWithout e E chi X = (W : SignVector) × IsCovector E chi W × (W e ≡ Zero) × ((p : ℕ) → W (skip e p) ≡ X p)

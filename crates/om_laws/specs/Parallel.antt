@@ -6,19 +6,19 @@ use Rattle.om_signs.specs.declared.sign.Sign.{Sign}
 use Rattle.om_laws.specs.Members.{IsMember}
 use Rattle.om_laws.specs.Bases.{IsBase}
 
--- an element of no base
+-- an element of no basis
 abbrev pub IsLoop : (List ℕ → Sign) → ℕ → Type 0
 IsLoop chi e = (t : List ℕ) → IsBase chi t → IsMember e t → ⊥
 
--- an element of each base
+-- an element of every basis
 abbrev pub IsColoop : (List ℕ → Sign) → ℕ → Type 0
 IsColoop chi e = (t : List ℕ) → IsBase chi t → IsMember e t
 
--- an element of some base
+-- an element of some basis
 abbrev pub IsInBase : (List ℕ → Sign) → ℕ → Type 0
 IsInBase chi e = (u : List ℕ) × (v : List ℕ) × IsBase chi (u ++ e ∷ v)
 
--- each is an element of some base, and no base holds both
+-- each is an element of some basis, and no basis contains both
 pub record AreParallel (chi : List ℕ → Sign) (e h : ℕ) : Type 0 where
   pub first : IsInBase chi e
   pub second : IsInBase chi h

@@ -7,7 +7,7 @@ use Rattle.om_signs.specs.declared.sign.Sign.TheVariants.{Minus, Plus}
 use Rattle.om_signs.specs.Sign.{opposite, product}
 use Rattle.om_laws.specs.Vectors.{SignVector}
 
--- minus on the set, plus off it
+-- minus on the set, and plus off it
 abbrev pub turning : (ℕ → Bool) → ℕ → Sign
 turning set e = cond (set e) Minus Plus
 
@@ -16,7 +16,7 @@ abbrev pub signs_product : (ℕ → Sign) → List ℕ → Sign
 signs_product sigma [] = Plus
 signs_product sigma (x ∷ t) = product (sigma x) (signs_product sigma t)
 
--- the map, negated for each entry in the set
+-- the map, negated once for each entry in the set
 abbrev pub reoriented : (ℕ → Bool) → (List ℕ → Sign) → List ℕ → Sign
 reoriented set chi t = product (signs_product (turning set) t) (chi t)
 

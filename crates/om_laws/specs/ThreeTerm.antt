@@ -8,7 +8,7 @@ use Rattle.om_signs.specs.Sign.{opposite, product}
 use Rattle.om_laws.specs.Members.{IsMember}
 use Rattle.om_laws.specs.Sorting.{IsIncreasing}
 
--- three signs that are all zero, or that include a plus and a minus
+-- three signs that are all zero, or include a plus and a minus
 abbrev pub AreBalanced : Sign → Sign → Sign → Type 0
 AreBalanced Plus Minus s = Unit {0}
 AreBalanced Plus s Minus = Unit {0}
@@ -19,10 +19,18 @@ AreBalanced Zero Minus Plus = Unit {0}
 AreBalanced Zero Zero Zero = Unit {0}
 AreBalanced a b c = ⊥
 
--- for each tuple p and elements a, b, c, d: the products of the values at p with ab and cd, with ac and bd, negated, and with ad and bc
+-- The three-term relations of all tuples p and elements a, b, c, d. Three products of values of p with two of these
+-- are balanced: ab times cd, the negative of ac times bd, and ad times bc.
 abbrev pub HasThreeTermRelations : (List ℕ → Sign) → Type 0
-HasThreeTermRelations chi = (p : List ℕ) (a b c d : ℕ) → AreBalanced (product (chi (p ++ a ∷ b ∷ [])) (chi (p ++ c ∷ d ∷ []))) (opposite (product (chi (p ++ a ∷ c ∷ [])) (chi (p ++ b ∷ d ∷ [])))) (product (chi (p ++ a ∷ d ∷ [])) (chi (p ++ b ∷ c ∷ [])))
+HasThreeTermRelations chi = (p : List ℕ) (a b c d : ℕ)
+    → AreBalanced (product (chi (p ++ a ∷ b ∷ [])) (chi (p ++ c ∷ d ∷ [])))
+    (opposite (product (chi (p ++ a ∷ c ∷ [])) (chi (p ++ b ∷ d ∷ []))))
+    (product (chi (p ++ a ∷ d ∷ [])) (chi (p ++ b ∷ c ∷ [])))
 
--- the same, of an increasing tuple p and four increasing elements off it
+-- the three-term relations of an increasing tuple p and four increasing elements off it
 abbrev pub HasIncreasingThreeTermRelations : (List ℕ → Sign) → Type 0
-HasIncreasingThreeTermRelations chi = (p : List ℕ) (a b c d : ℕ) → IsIncreasing p → IsIncreasing (a ∷ b ∷ c ∷ d ∷ []) → (IsMember a p → ⊥) → (IsMember b p → ⊥) → (IsMember c p → ⊥) → (IsMember d p → ⊥) → AreBalanced (product (chi (p ++ a ∷ b ∷ [])) (chi (p ++ c ∷ d ∷ []))) (opposite (product (chi (p ++ a ∷ c ∷ [])) (chi (p ++ b ∷ d ∷ [])))) (product (chi (p ++ a ∷ d ∷ [])) (chi (p ++ b ∷ c ∷ [])))
+HasIncreasingThreeTermRelations chi = (p : List ℕ) (a b c d : ℕ) → IsIncreasing p → IsIncreasing (a ∷ b ∷ c ∷ d ∷ [])
+    → (IsMember a p → ⊥) → (IsMember b p → ⊥) → (IsMember c p → ⊥) → (IsMember d p → ⊥)
+    → AreBalanced (product (chi (p ++ a ∷ b ∷ [])) (chi (p ++ c ∷ d ∷ [])))
+    (opposite (product (chi (p ++ a ∷ c ∷ [])) (chi (p ++ b ∷ d ∷ []))))
+    (product (chi (p ++ a ∷ d ∷ [])) (chi (p ++ b ∷ c ∷ [])))

@@ -28,12 +28,12 @@ composition x y e = first_nonzero (x e) (y e)
 abbrev pub HasProduct : SignVector → SignVector → Sign → Type 0
 HasProduct x y s = (e : ℕ) × (product (x e) (y e) ≡ s)
 
--- the products include a plus exactly where they include a minus
+-- the products of the signs include a plus exactly if they include a minus
 pub record Orthogonal (x y : SignVector) : Type 0 where
   pub minus : HasProduct x y Plus → HasProduct x y Minus
   pub plus : HasProduct x y Minus → HasProduct x y Plus
 
--- each sign is zero, or that of the second vector
+-- each sign of the first vector is zero or equals that of the second
 abbrev pub IsConformal : SignVector → SignVector → Type 0
 IsConformal x y = (e : ℕ) → IsNonzero (x e) → x e ≡ y e
 
@@ -45,7 +45,7 @@ IsSupportedOn E x = (e : ℕ) → IsNonzero (x e) → IsMember e E
 abbrev pub HasSupportIn : SignVector → SignVector → Type 0
 HasSupportIn x y = (e : ℕ) → IsNonzero (x e) → IsNonzero (y e)
 
--- the support is not empty
+-- the support isn't empty
 abbrev pub HasNonzero : SignVector → Type 0
 HasNonzero x = (e : ℕ) × IsNonzero (x e)
 

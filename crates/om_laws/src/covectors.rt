@@ -19,33 +19,44 @@ pub fn axioms()
 
 /// The covectors are the compositions of cocircuits, and the vectors those of circuits.
 pub fn compositions()
-    ensures covectors { (E : List ℕ) (chi : List ℕ → Sign) → IsChirotope E chi → (X : SignVector) → IsCovector E chi X ↔ IsComposition (IsCocircuit chi) X }
-    ensures vectors { (E : List ℕ) (chi : List ℕ → Sign) → IsChirotope E chi → (X : SignVector) → IsVector E chi X ↔ IsComposition (IsCircuit E chi) X }
+    ensures covectors { (E : List ℕ) (chi : List ℕ → Sign) → IsChirotope E chi → (X : SignVector) → IsCovector E chi X
+        ↔ IsComposition (IsCocircuit chi) X }
+    ensures vectors { (E : List ℕ) (chi : List ℕ → Sign) → IsChirotope E chi → (X : SignVector) → IsVector E chi X
+        ↔ IsComposition (IsCircuit E chi) X }
 {}
 
-/// Conformal decomposition: the covectors are the compositions of cocircuits that conform to them, and the vectors those of
-/// circuits that do.
+/// Conformal decomposition: the covectors are the compositions of cocircuits that conform to them. The vectors are
+/// the compositions of circuits that conform to them.
 pub fn conformal_decomposition()
-    ensures covectors { (E : List ℕ) (chi : List ℕ → Sign) → IsChirotope E chi → (X : SignVector) → IsCovector E chi X ↔ IsConformalComposition (IsCocircuit chi) X }
-    ensures vectors { (E : List ℕ) (chi : List ℕ → Sign) → IsChirotope E chi → (X : SignVector) → IsVector E chi X ↔ IsConformalComposition (IsCircuit E chi) X }
+    ensures covectors { (E : List ℕ) (chi : List ℕ → Sign) → IsChirotope E chi → (X : SignVector) → IsCovector E chi X
+        ↔ IsConformalComposition (IsCocircuit chi) X }
+    ensures vectors { (E : List ℕ) (chi : List ℕ → Sign) → IsChirotope E chi → (X : SignVector) → IsVector E chi X
+        ↔ IsConformalComposition (IsCircuit E chi) X }
 {}
 
-/// A sign vector is a covector exactly where at each element of its support some cocircuit that conforms to it has its sign.
-/// The same holds of vectors and circuits.
+/// A sign vector is a covector exactly if, at each element of its support, some cocircuit that conforms to it has
+/// its sign. The same holds of vectors and circuits.
 pub fn conforming_parts()
-    ensures covectors { (E : List ℕ) (chi : List ℕ → Sign) → IsChirotope E chi → (X : SignVector) → IsCovector E chi X ↔ HasConformingParts (IsCocircuit chi) X }
-    ensures vectors { (E : List ℕ) (chi : List ℕ → Sign) → IsChirotope E chi → (X : SignVector) → IsVector E chi X ↔ HasConformingParts (IsCircuit E chi) X }
+    ensures covectors { (E : List ℕ) (chi : List ℕ → Sign) → IsChirotope E chi → (X : SignVector) → IsCovector E chi X
+        ↔ HasConformingParts (IsCocircuit chi) X }
+    ensures vectors { (E : List ℕ) (chi : List ℕ → Sign) → IsChirotope E chi → (X : SignVector) → IsVector E chi X
+        ↔ HasConformingParts (IsCircuit E chi) X }
 {}
 
-/// The cocircuits are the nonzero covectors of minimal support, and the circuits are the nonzero vectors of minimal support.
+/// The cocircuits are the nonzero covectors of minimal support, and the circuits are the nonzero vectors of minimal
+/// support.
 pub fn minimal_support()
-    ensures cocircuits { (E : List ℕ) (chi : List ℕ → Sign) → IsChirotope E chi → (X : SignVector) → IsCocircuit chi X ↔ IsMinimal (IsCovector E chi) X }
-    ensures circuits { (E : List ℕ) (chi : List ℕ → Sign) → IsChirotope E chi → (X : SignVector) → IsCircuit E chi X ↔ IsMinimal (IsVector E chi) X }
+    ensures cocircuits { (E : List ℕ) (chi : List ℕ → Sign) → IsChirotope E chi → (X : SignVector) → IsCocircuit chi X
+        ↔ IsMinimal (IsCovector E chi) X }
+    ensures circuits { (E : List ℕ) (chi : List ℕ → Sign) → IsChirotope E chi → (X : SignVector) → IsCircuit E chi X
+        ↔ IsMinimal (IsVector E chi) X }
 {}
 
-/// Of the sign vectors that are zero off the elements, the covectors are those orthogonal to all vectors, and the vectors are
-/// those orthogonal to all covectors.
+/// Consider the sign vectors that are zero off the elements. The covectors are those that are orthogonal to all
+/// vectors, and the vectors are those that are orthogonal to all covectors.
 pub fn vectors_and_covectors()
-    ensures covectors { (E : List ℕ) (chi : List ℕ → Sign) → IsChirotope E chi → (X : SignVector) → IsSupportedOn E X → IsCovector E chi X ↔ IsOrthogonalToAll (IsVector E chi) X }
-    ensures vectors { (E : List ℕ) (chi : List ℕ → Sign) → IsChirotope E chi → (X : SignVector) → IsSupportedOn E X → IsVector E chi X ↔ IsOrthogonalToAll (IsCovector E chi) X }
+    ensures covectors { (E : List ℕ) (chi : List ℕ → Sign) → IsChirotope E chi → (X : SignVector) → IsSupportedOn E X
+        → IsCovector E chi X ↔ IsOrthogonalToAll (IsVector E chi) X }
+    ensures vectors { (E : List ℕ) (chi : List ℕ → Sign) → IsChirotope E chi → (X : SignVector) → IsSupportedOn E X
+        → IsVector E chi X ↔ IsOrthogonalToAll (IsCovector E chi) X }
 {}

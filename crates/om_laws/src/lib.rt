@@ -1,7 +1,7 @@
-//! Laws of oriented matroids. Each function is one theorem: it has an empty body, and its contract is the statement.
+//! Laws of oriented matroids. Each function is a theorem: it has an empty body, and its contract is the statement.
 //!
-//! Here a sign vector is a function from elements to signs, and a map gives a sign to each list of elements. The laws in
-//! `lists` join these functions to the lists of signs that the calls of the other crates speak of.
+//! Here a sign vector is a function from elements to signs, and a map gives a sign to each list of elements. The
+//! laws in `lists` relate these functions to the lists of signs that the calls of the other crates use.
 //!
 //! Source of the notions: Björner, Las Vergnas, Sturmfels, White and Ziegler, *Oriented Matroids*, chapters 3 and 4.
 #![tactic(auto)]

@@ -1,4 +1,4 @@
-//! Sign vectors as lists of signs and as functions from elements to signs.
+//! Sign vectors as lists of signs, and as functions from elements to signs.
 
 ghost use Rattle.std.specs.Prelude.{◌≡◌, ◌↔◌, List, ℕ, map, length};
 ghost use Rattle.om_signs.specs.declared.sign.Sign.{Sign};
@@ -10,23 +10,25 @@ ghost use Rattle.om_laws.specs.Relations.{around, along, IsBalanced};
 ghost use Rattle.om_laws.specs.Chirotope.{elements_to};
 ghost use Rattle.om_laws.specs.Bridge.{as_function, as_list};
 
-/// A list of signs is that of its function, and a function that is zero off the elements 1 to n is that of its list.
+/// Lists of signs and functions that are zero off the elements 1 to n correspond one to one.
 pub fn lists_and_functions()
     ensures back { (xs : List Sign) → as_list (length xs) (as_function xs) ≡ xs }
-    ensures forth { (n : ℕ) (X : SignVector) → IsSupportedOn (elements_to n) X → (e : ℕ) → as_function (as_list n X) e ≡ X e }
+    ensures forth { (n : ℕ) (X : SignVector) → IsSupportedOn (elements_to n) X → (e : ℕ)
+        → as_function (as_list n X) e ≡ X e }
 {}
 
-/// Two lists of signs are orthogonal exactly where their functions are.
+/// Two lists of signs are orthogonal exactly if their functions are.
 pub fn orthogonality_of_lists()
     ensures { (xs ys : List Sign) → lists.IsOrthogonal xs ys ↔ Orthogonal (as_function xs) (as_function ys) }
 {}
 
 /// The function of a composition of lists of signs is the composition of their functions.
 pub fn composition_of_lists()
-    ensures { (xs ys : List Sign) (e : ℕ) → as_function (lists.compose xs ys) e ≡ composition (as_function xs) (as_function ys) e }
+    ensures { (xs ys : List Sign) (e : ℕ) → as_function (lists.compose xs ys) e
+        ≡ composition (as_function xs) (as_function ys) e }
 {}
 
-/// One list of signs conforms to another exactly where its function does.
+/// One list of signs conforms to another exactly if its function conforms to the other's.
 pub fn conformity_of_lists()
     ensures { (xs ys : List Sign) → lists.IsConformal xs ys ↔ IsConformal (as_function xs) (as_function ys) }
 {}
@@ -36,7 +38,9 @@ pub fn negation_of_lists()
     ensures { (xs : List Sign) (e : ℕ) → as_function (map opposite xs) e ≡ negated (as_function xs) e }
 {}
 
-/// The relation of two lists, s increasing, says that the vectors around s and along a are orthogonal as lists of signs.
+/// Let s be increasing. The relation of s and a says that the vectors around s and along a are orthogonal as lists
+/// of signs.
 pub fn relation_as_orthogonality()
-    ensures { (n k : ℕ) (chi : List ℕ → Sign) (s a : List ℕ) → IsTuple n k s → IsIncreasing s → IsBalanced chi s (along chi a) ↔ lists.IsOrthogonal (as_list n (around chi s)) (as_list n (along chi a)) }
+    ensures { (n k : ℕ) (chi : List ℕ → Sign) (s a : List ℕ) → IsTuple n k s → IsIncreasing s
+        → IsBalanced chi s (along chi a) ↔ lists.IsOrthogonal (as_list n (around chi s)) (as_list n (along chi a)) }
 {}

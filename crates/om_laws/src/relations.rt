@@ -12,37 +12,44 @@ ghost use Rattle.om_laws.specs.Sorting.{IsIncreasing, IsTuple, on_tuples};
 ghost use Rattle.om_laws.specs.Relations.{around, IsBalanced, HasIncreasingRelations, HasRelations};
 ghost use Rattle.om_laws.specs.Chirotope.{IsChirotope, elements_to};
 
-/// The vector around a list without repeats: at the i-th element, counted from 1, it is the value of the others times
-/// the i-th power of -1, and off the list it is zero.
+/// The vector around a list without repeats. At the i-th element of the list, counted from 1, it is the value of
+/// the other elements times the i-th power of -1. Off the list it is zero.
 pub fn around_a_list()
-    ensures at { (chi : List ℕ → Sign) (u : List ℕ) (e : ℕ) (v : List ℕ) → IsDistinct (u ++ e ∷ v) → around chi (u ++ e ∷ v) e ≡ negated_times (length u + 1) (chi (u ++ v)) }
+    ensures at { (chi : List ℕ → Sign) (u : List ℕ) (e : ℕ) (v : List ℕ) → IsDistinct (u ++ e ∷ v)
+        → around chi (u ++ e ∷ v) e ≡ negated_times (length u + 1) (chi (u ++ v)) }
     ensures off { (chi : List ℕ → Sign) (t : List ℕ) (e : ℕ) → (IsMember e t → ⊥) → around chi t e ≡ Sign.Zero }
 {}
 
-/// The relation of a list without repeats with a sign vector says that the vector around the list is orthogonal to it.
+/// The relation of a list without repeats and a sign vector says that the vector around the list is orthogonal to
+/// the sign vector.
 pub fn balance_is_orthogonality()
-    ensures { (chi : List ℕ → Sign) (s : List ℕ) (X : SignVector) → IsDistinct s → IsBalanced chi s X ↔ Orthogonal (around chi s) X }
+    ensures { (chi : List ℕ → Sign) (s : List ℕ) (X : SignVector) → IsDistinct s → IsBalanced chi s X
+        ↔ Orthogonal (around chi s) X }
 {}
 
-/// The relations of all lists are the relations of increasing lists.
+/// A map has the relations of all lists exactly if it has those of increasing lists.
 pub fn relations_of_increasing_lists()
     ensures { (n r : ℕ) (f : List ℕ → Sign) → HasIncreasingRelations n r (value f) ↔ HasRelations (on_tuples n r f) }
 {}
 
-/// The relations of increasing lists, and one nonzero value, make a chirotope: an alternating map on all lists which has
+/// The relations of increasing lists and one nonzero value make a chirotope: an alternating map on all lists with
 /// the relations of all lists.
 pub fn chirotope_of_increasing_lists()
-    ensures { (n r : ℕ) (f : List ℕ → Sign) → HasIncreasingRelations n r (value f) → (t : List ℕ) → IsTuple n r t → IsIncreasing t → IsNonzero (f t) → IsChirotope (elements_to n) (on_tuples n r f) }
+    ensures { (n r : ℕ) (f : List ℕ → Sign) → HasIncreasingRelations n r (value f) → (t : List ℕ) → IsTuple n r t
+        → IsIncreasing t → IsNonzero (f t) → IsChirotope (elements_to n) (on_tuples n r f) }
 {}
 
 /// Exchange of bases and the three-term relations give the relations of all lists, in every rank.
 pub fn three_term_relations()
-    ensures { (chi : List ℕ → Sign) → IsAlternating chi → HasExchange chi → HasThreeTermRelations chi → HasRelations chi }
+    ensures { (chi : List ℕ → Sign) → IsAlternating chi → HasExchange chi → HasThreeTermRelations chi
+        → HasRelations chi }
 {}
 
-/// The three-term relations of increasing tuples and increasing elements are those of tuples and elements in any order.
+/// The three-term relations of increasing tuples and increasing elements give those of tuples and elements in any
+/// order.
 pub fn three_term_relations_in_order()
-    ensures { (chi : List ℕ → Sign) → IsAlternating chi → HasIncreasingThreeTermRelations chi → HasThreeTermRelations chi }
+    ensures { (chi : List ℕ → Sign) → IsAlternating chi → HasIncreasingThreeTermRelations chi
+        → HasThreeTermRelations chi }
 {}
 
 /// The relations of all lists include the three-term relations.
@@ -50,8 +57,8 @@ pub fn three_terms_of_all_lists()
     ensures { (chi : List ℕ → Sign) → IsAlternating chi → HasRelations chi → HasThreeTermRelations chi }
 {}
 
-/// Exchange of bases is that of increasing lists: where an increasing list and an element make a base, some element of
-/// each increasing base makes one with the list.
+/// Bases have exchange exactly if increasing lists do: if an increasing list and an element make a basis, some
+/// element of each increasing basis makes one with the list.
 pub fn exchange_in_order()
     ensures { (chi : List ℕ → Sign) → IsAlternating chi → HasIncreasingExchange chi ↔ HasExchange chi }
 {}

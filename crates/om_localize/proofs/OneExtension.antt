@@ -19,15 +19,20 @@ use Rattle.om_localize.proofs.Localizations.{pair_list, table_sign}
 -- the size, and the values by their places
 module _ (m w : SignMap) (r : m.rank ≡ 3) (x : IsExtension m w) where
   number_of_signs : length w.signs ≡ choose (m.elements + 1) 3
-  number_of_signs = x.chirotope.whole.whole ∙ ap (λ n. choose n w.rank) x.elements ∙ ap (choose (m.elements + 1)) (x.rank ∙ r)
+  number_of_signs = x.chirotope.whole.whole ∙ ap (λ n. choose n w.rank) x.elements
+      ∙ ap (choose (m.elements + 1)) (x.rank ∙ r)
 
   value_at_place : (t : List ℕ) → at w.signs (rank_of (m.elements + 1) t) ≡ chi_of w t
   value_at_place t = ap (λ n. at w.signs (rank_of n t)) (sym x.elements)
 
-  value_of_pair : (a b : ℕ) → 1 ≤ a → a < b → b ≤ m.elements → at (signature_of m.elements w) (rank_of m.elements (a ∷ b ∷ [])) ≡ chi_of w (a ∷ b ∷ (m.elements + 1) ∷ [])
-  value_of_pair a b low less high = table_sign m.elements 2 (λ pair. chi_of w (pair ++ (m.elements + 1) ∷ [])) (a ∷ b ∷ []) (pair_list m.elements a b low less high) refl
+  value_of_pair : (a b : ℕ) → 1 ≤ a → a < b → b ≤ m.elements
+      → at (signature_of m.elements w) (rank_of m.elements (a ∷ b ∷ [])) ≡ chi_of w (a ∷ b ∷ (m.elements + 1) ∷ [])
+  value_of_pair a b low less high =
+      table_sign m.elements 2 (λ pair. chi_of w (pair ++ (m.elements + 1) ∷ [])) (a ∷ b ∷ [])
+      (pair_list m.elements a b low less high) refl
 
-module _ (m w v : SignMap) (r : m.rank ≡ 3) (x : IsExtension m w) (y : IsExtension m v) (same : signature_of m.elements w ≡ signature_of m.elements v) where
+module _ (m w v : SignMap) (r : m.rank ≡ 3) (x : IsExtension m w) (y : IsExtension m v)
+    (same : signature_of m.elements w ≡ signature_of m.elements v) where
   same_value : (t : List ℕ) → IsSubsetFrom 1 (m.elements + 1) t → length t ≡ 3 → chi_of w t ≡ chi_of v t
   same_value [] i l = absurd (omega arith)
   same_value (a ∷ []) i l = absurd (omega arith)
@@ -41,11 +46,22 @@ module _ (m w v : SignMap) (r : m.rank ≡ 3) (x : IsExtension m w) (y : IsExten
         | inl q ↦
             let within : b ≤ m.elements = omega (arith, second, q) in
             subst (λ k. chi_of w (a ∷ b ∷ k ∷ []) ≡ chi_of v (a ∷ b ∷ k ∷ [])) (sym q)
-            (sym (value_of_pair m w r x a b low first within) ∙ ap (λ signs. at signs (rank_of m.elements (a ∷ b ∷ []))) same ∙ value_of_pair m v r y a b low first within)
+            (sym (value_of_pair m w r x a b low first within)
+            ∙ ap (λ signs. at signs (rank_of m.elements (a ∷ b ∷ []))) same
+            ∙ value_of_pair m v r y a b low first within)
         | inr ne ↦
             let within : c ≤ m.elements = grind (arith, high, ne) in
             let old = from_tuple m.elements 3 (a ∷ b ∷ c ∷ [])
-            (record { size = refl; within = ((low, omega (arith, first, second, within)), ((omega (arith, low, first), omega (arith, second, within)), ((omega (arith, low, first, second), within), tt))) }) (first, (second, tt)) in
+            (record {
+              size = refl;
+              within = (
+                (low, omega (arith, first, second, within)),
+                (
+                  (omega (arith, low, first), omega (arith, second, within)),
+                  ((omega (arith, low, first, second), within), tt),
+                ),
+              );
+            }) (first, (second, tt)) in
             x.agrees (a ∷ b ∷ c ∷ []) old (sym r) ∙ sym (y.agrees (a ∷ b ∷ c ∷ []) old (sym r))
       ]
   same_value (a ∷ b ∷ c ∷ d ∷ ds) i l = absurd (omega arith)
@@ -55,7 +71,10 @@ module _ (m w v : SignMap) (r : m.rank ≡ 3) (x : IsExtension m w) (y : IsExten
       let size = number_of_signs m w r x in
       let t = listed 1 (m.elements + 1) 3 k (omega (arith, l, size)) in
       subst (λ j. at w.signs j ≡ at v.signs j) t.place
-      (value_at_place m w r x (subset_at (m.elements + 1) 3 k) ∙ same_value (subset_at (m.elements + 1) 3 k) t.lawful t.size ∙ sym (value_at_place m v r y (subset_at (m.elements + 1) 3 k))))
+      (value_at_place m w r x (subset_at (m.elements + 1) 3 k)
+      ∙ same_value (subset_at (m.elements + 1) 3 k) t.lawful t.size
+      ∙ sym (value_at_place m v r y (subset_at (m.elements + 1) 3 k))))
 
   pub same_extensions : w ≡ v
-  same_extensions = λ i. record { rank = (x.rank ∙ sym y.rank) i; elements = (x.elements ∙ sym y.elements) i; signs = same_signs i }
+  same_extensions =
+      λ i. record { rank = (x.rank ∙ sym y.rank) i; elements = (x.elements ∙ sym y.elements) i; signs = same_signs i }

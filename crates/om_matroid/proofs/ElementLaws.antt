@@ -1,7 +1,9 @@
 -- Loops and coloops, by what the walks tell.
 --
--- Main results: no basis is with e exactly where e is a loop (loop_both), and none without e exactly where it is a coloop (coloop_both).
-use Rattle.std.proofs.Common.{ℕ, ◌≡◌, ◌↔◌, List, [], ◌∷◌, refl, sym, subst, ◌∙◌, inl, inr, not, Bool, true, false, IsTrue}
+-- Main results: no basis is with e exactly where e is a loop (loop_both), and none without e exactly where it is a
+-- coloop (coloop_both).
+use Rattle.std.proofs.Common.{ℕ, ◌≡◌, ◌↔◌, List, [], ◌∷◌, refl, sym, subst, ◌∙◌, inl, inr, not, Bool, true, false}
+use Rattle.std.proofs.Common.{IsTrue}
 use Rattle.om_subsets.specs.Subsets.{IsMember}
 use Rattle.om_laws.proofs.MemberLaws.{member_or_not}
 use Rattle.om_chirotope.specs.Map.{SignMap}
@@ -22,19 +24,24 @@ refuted b both e p = let f : true ≡ false = sym (both.1 p) ∙ e in absurd_boo
 
 module _ (m : SignMap) (e : ℕ) where
   no_basis_with : ((b : List ℕ) → IsBasisBetween m (e ∷ []) [] b → ⊥) ↔ IsLoop m e
-  no_basis_with = (λ none b basis k. none b (record { basis = basis; contains = with_member b k; avoids = λ f h l. h }), λ loop b between. loop b between.basis (between.contains e (inl refl)))
+  no_basis_with = (
+    λ none b basis k. none b (record { basis = basis; contains = with_member b k; avoids = λ f h l. h }),
+    λ loop b between. loop b between.basis (between.contains e (inl refl)),
+  )
     where
       with_member : (b : List ℕ) → IsMember e b → (f : ℕ) → IsMember f (e ∷ []) → IsMember f b
       with_member b k f (inl q) = subst (λ g. IsMember g b) (sym q) k
       with_member b k f (inr none) = absurd none
 
-  pub loop_both : (inside outside : List ℕ) → inside ≡ e ∷ [] → outside ≡ [] → ((b : List ℕ) → IsBasisBetween m inside outside b → ⊥) ↔ IsLoop m e
+  pub loop_both : (inside outside : List ℕ) → inside ≡ e ∷ [] → outside ≡ []
+      → ((b : List ℕ) → IsBasisBetween m inside outside b → ⊥) ↔ IsLoop m e
   loop_both inside outside p q =
       subst (λ i. ((b : List ℕ) → IsBasisBetween m i outside b → ⊥) ↔ IsLoop m e) (sym p)
       (subst (λ o. ((b : List ℕ) → IsBasisBetween m (e ∷ []) o b → ⊥) ↔ IsLoop m e) (sym q) no_basis_with)
 
   no_basis_without : ((b : List ℕ) → IsBasisBetween m [] (e ∷ []) b → ⊥) ↔ IsColoop m e
-  no_basis_without = (λ none b basis. inside none b basis, λ coloop b between. between.avoids e (inl refl) (coloop b between.basis))
+  no_basis_without =
+      (λ none b basis. inside none b basis, λ coloop b between. between.avoids e (inl refl) (coloop b between.basis))
     where
       without : (b : List ℕ) → (IsMember e b → ⊥) → (f : ℕ) → IsMember f (e ∷ []) → IsMember f b → ⊥
       without b fresh f (inl q) k = fresh (subst (λ g. IsMember g b) q k)
@@ -46,7 +53,8 @@ module _ (m : SignMap) (e : ℕ) where
         | inr fresh ↦ absurd (none b (record { basis = basis; contains = λ f k. absurd k; avoids = without b fresh }))
       ]
 
-  pub coloop_both : (inside outside : List ℕ) → inside ≡ [] → outside ≡ e ∷ [] → ((b : List ℕ) → IsBasisBetween m inside outside b → ⊥) ↔ IsColoop m e
+  pub coloop_both : (inside outside : List ℕ) → inside ≡ [] → outside ≡ e ∷ []
+      → ((b : List ℕ) → IsBasisBetween m inside outside b → ⊥) ↔ IsColoop m e
   coloop_both inside outside p q =
       subst (λ i. ((b : List ℕ) → IsBasisBetween m i outside b → ⊥) ↔ IsColoop m e) (sym p)
       (subst (λ o. ((b : List ℕ) → IsBasisBetween m [] o b → ⊥) ↔ IsColoop m e) (sym q) no_basis_without)

@@ -1,9 +1,11 @@
 -- Parallel elements, by what one walk over the bases tells.
 --
 -- Main definitions: IsSeenBefore, HasBoth.
--- Main results: whether an element is seen after one set more (seen_more); an element is seen by the end of the walk exactly where it is no loop (no_loop); elements that stand in one basis are not parallel
--- (not_parallel); where no basis has both of two elements, they are parallel exactly where neither is a loop (parallel_at_last).
-use Rattle.std.proofs.Common.{ℕ, ◌≡◌, ◌≢◌, ◌+◌, ◌<◌, ◌≤◌, ◌↔◌, ◌⊎◌, List, [], ◌∷◌, length, refl, sym, ap, subst, ◌∙◌, inl, inr, arith, Bool, true, false, IsTrue}
+-- Main results: whether an element is seen after one set more (seen_more); an element is seen by the end of the walk
+-- exactly where it is no loop (no_loop); elements that stand in one basis are not parallel (not_parallel); where no
+-- basis has both of two elements, they are parallel exactly where neither is a loop (parallel_at_last).
+use Rattle.std.proofs.Common.{ℕ, ◌≡◌, ◌≢◌, ◌+◌, ◌<◌, ◌≤◌, ◌↔◌, ◌⊎◌, List, [], ◌∷◌, length, refl, sym, ap, subst, ◌∙◌}
+use Rattle.std.proofs.Common.{inl, inr, arith, Bool, true, false, IsTrue}
 use Rattle.std.proofs.lemmas.Bool.{cases_eq, false≢true}
 use Rattle.om_subsets.specs.Subsets.{IsSubsetFrom, IsMember, with_element, choose, rank_of, subset_at, IsPartOf}
 use Rattle.om_subsets.proofs.Order.{members_from}
@@ -18,33 +20,44 @@ use Rattle.om_matroid.proofs.WalkLaws.{HasNoneBefore, none_at_all, place_of}
 
 -- the basis at some place below k has e
 abbrev pub IsSeenBefore : SignMap → ℕ → ℕ → Type 0
-IsSeenBefore m e k = (j : ℕ) × (j < k) × IsBasis m (subset_at m.elements m.rank j) × IsMember e (subset_at m.elements m.rank j)
+IsSeenBefore m e k = (j : ℕ) × (j < k) × IsBasis m (subset_at m.elements m.rank j)
+    × IsMember e (subset_at m.elements m.rank j)
 
 -- a basis that has both elements
 abbrev pub HasBoth : SignMap → ℕ → ℕ → List ℕ → Type 0
 HasBoth m e f b = IsBasis m b × IsMember e b × IsMember f b
 
 -- one set more, where its basis is looked at if the element wasn't seen yet
-pub seen_more : (m : SignMap) (e k : ℕ) (b : List ℕ) (seen here next : Bool) → b ≡ subset_at m.elements m.rank k → IsTrue seen ↔ IsSeenBefore m e k
-    → IsTrue here ↔ (IsBasis m b × IsMember e b) → (seen ≡ true → next ≡ true) → (seen ≡ false → next ≡ here) → IsTrue next ↔ IsSeenBefore m e (k + 1)
-seen_more m e k b true here next place was at kept looked = (λ n. let s = was.0 refl in (s.0, (let l = s.1 in omega arith), s.2, s.3), λ s. kept refl)
+pub seen_more : (m : SignMap) (e k : ℕ) (b : List ℕ) (seen here next : Bool) → b ≡ subset_at m.elements m.rank k
+    → IsTrue seen ↔ IsSeenBefore m e k
+    → IsTrue here ↔ (IsBasis m b × IsMember e b) → (seen ≡ true → next ≡ true) → (seen ≡ false → next ≡ here)
+    → IsTrue next ↔ IsSeenBefore m e (k + 1)
+seen_more m e k b true here next place was at kept looked =
+    (λ n. let s = was.0 refl in (s.0, (let l = s.1 in omega arith), s.2, s.3), λ s. kept refl)
 seen_more m e k b false here next place was at kept looked = (
-  λ n. let h = at.0 (sym (looked refl) ∙ n) in (k, omega arith, subst (IsBasis m) place h.0, subst (IsMember e) place h.1),
+  λ n. let h = at.0 (sym (looked refl) ∙ n) in
+      (k, omega arith, subst (IsBasis m) place h.0, subst (IsMember e) place h.1),
   λ s. elim (cases_eq s.0 k) [
-    | inl q ↦ looked refl ∙ at.1 (subst (IsBasis m) (ap (subset_at m.elements m.rank) q ∙ sym place) s.2, subst (IsMember e) (ap (subset_at m.elements m.rank) q ∙ sym place) s.3)
+    | inl q ↦ looked refl
+        ∙ at.1 (
+          subst (IsBasis m) (ap (subset_at m.elements m.rank) q ∙ sym place) s.2,
+          subst (IsMember e) (ap (subset_at m.elements m.rank) q ∙ sym place) s.3,
+        )
     | inr n ↦ absurd (false≢true (was.1 (s.0, (let l = s.1 in omega arith), s.2, s.3)))
   ],
 )
 
 module _ (m : SignMap) (e : ℕ) where
-  pub no_loop : (seen : Bool) → IsTrue seen ↔ IsSeenBefore m e (choose m.elements m.rank) → IsTrue seen ↔ (IsLoop m e → ⊥)
+  pub no_loop : (seen : Bool) → IsTrue seen ↔ IsSeenBefore m e (choose m.elements m.rank) → IsTrue seen
+      ↔ (IsLoop m e → ⊥)
   no_loop true both = (λ t loop. let s = both.0 t in loop (subset_at m.elements m.rank s.0) s.2 s.3, λ n. refl)
   no_loop false both = (λ t. absurd (false≢true t), λ n. absurd (n unseen))
     where
       unseen : IsLoop m e
       unseen b basis k =
           let p = place_of (IsBasis m) m.elements m.rank b basis.list basis.size in
-          false≢true (both.1 (rank_of m.elements b, p.0, subst (IsBasis m) (sym p.1) basis, subst (IsMember e) (sym p.1) k))
+          false≢true
+          (both.1 (rank_of m.elements b, p.0, subst (IsBasis m) (sym p.1) basis, subst (IsMember e) (sym p.1) k))
 
 module _ (m : SignMap) (e f : ℕ) where
   -- an increasing list of both, where they stand in one basis
@@ -52,8 +65,15 @@ module _ (m : SignMap) (e f : ℕ) where
   not_parallel ne b (basis, k, l) parallel =
       let low = members_from 1 m.elements e b basis.list k in
       let high = members_from 1 m.elements f b basis.list l in
-      let list = lawful_with 1 m.elements e (f ∷ []) (lawful_with 1 m.elements f [] tt (omega arith) (omega arith)) (omega arith) (omega arith) in
-      let few = parallel.rank.greatest (with_element e (f ∷ [])) (record { list = list; part = λ g q. (members_with e g (f ∷ [])).0 q; independent = (b, basis, λ g q. either g ((members_with e g (f ∷ [])).0 q)) }) in
+      let list = lawful_with 1 m.elements e (f ∷ []) (lawful_with 1 m.elements f [] tt (omega arith) (omega arith))
+      (omega arith) (omega arith) in
+      let few = parallel.rank.greatest (with_element e (f ∷ []))
+      (record {
+        list = list;
+        part = λ g q. (members_with e g (f ∷ [])).0 q;
+        independent =
+            (b, basis, λ g q. either g ((members_with e g (f ∷ [])).0 q));
+      }) in
       let size : length (with_element e (f ∷ [])) ≡ length (f ∷ []) + 1 = length-with e (f ∷ []) other in
       absurd (omega arith)
     where
@@ -68,24 +88,38 @@ module _ (m : SignMap) (e f : ℕ) where
 
   module _ (apart : e ≢ f → (b : List ℕ) → HasBoth m e f b → ⊥) where
     -- two elements of a basis that are e or f
-    two : (b : List ℕ) (x y : ℕ) → IsBasis m b → (x ≡ y → ⊥) → IsMember x (e ∷ f ∷ []) → IsMember y (e ∷ f ∷ []) → IsMember x b → IsMember y b → ⊥
+    two : (b : List ℕ) (x y : ℕ) → IsBasis m b → (x ≡ y → ⊥) → IsMember x (e ∷ f ∷ []) → IsMember y (e ∷ f ∷ [])
+        → IsMember x b → IsMember y b → ⊥
     two b x y basis ne (inl p) (inl q) k l = ne (p ∙ sym q)
-    two b x y basis ne (inl p) (inr (inl q)) k l = apart (λ s. ne (p ∙ s ∙ sym q)) b (basis, subst (λ g. IsMember g b) p k, subst (λ g. IsMember g b) q l)
-    two b x y basis ne (inr (inl p)) (inl q) k l = apart (λ s. ne (p ∙ sym s ∙ sym q)) b (basis, subst (λ g. IsMember g b) q l, subst (λ g. IsMember g b) p k)
+    two b x y basis ne (inl p) (inr (inl q)) k l =
+        apart (λ s. ne (p ∙ s ∙ sym q)) b (basis, subst (λ g. IsMember g b) p k, subst (λ g. IsMember g b) q l)
+    two b x y basis ne (inr (inl p)) (inl q) k l =
+        apart (λ s. ne (p ∙ sym s ∙ sym q)) b (basis, subst (λ g. IsMember g b) q l, subst (λ g. IsMember g b) p k)
     two b x y basis ne (inr (inl p)) (inr (inl q)) k l = ne (p ∙ sym q)
     two b x y basis ne (inr (inr none)) h k l = none
     two b x y basis ne h (inr (inr none)) k l = none
 
-    short : (t : List ℕ) → IsSubsetFrom 1 m.elements t → IsPartOf t (e ∷ f ∷ []) → (b : List ℕ) × IsBasis m b × IsPartOf t b → length t ≤ 1
+    short : (t : List ℕ) → IsSubsetFrom 1 m.elements t → IsPartOf t (e ∷ f ∷ []) → (b : List ℕ) × IsBasis m b
+        × IsPartOf t b → length t ≤ 1
     short [] list part h = omega arith
     short (x ∷ []) list part h = omega arith
     short (x ∷ y ∷ t) list part (b, basis, inside) =
         let distinct = increasing_distinct (x ∷ y ∷ t) ((subset_is_increasing m.elements (x ∷ y ∷ t)).0 list).0 in
-        absurd (two b x y basis (λ q. distinct.0 (inl q)) (part x (inl refl)) (part y (inr (inl refl))) (inside x (inl refl)) (inside y (inr (inl refl))))
+        absurd (two b x y basis (λ q. distinct.0 (inl q)) (part x (inl refl)) (part y (inr (inl refl)))
+        (inside x (inl refl)) (inside y (inr (inl refl))))
 
     rank_one : (b : List ℕ) → IsBasis m b → IsMember e b → IsRankOf m (e ∷ f ∷ []) 1
     rank_one b basis k = let bound = members_from 1 m.elements e b basis.list k in record {
-      reached = (e ∷ [], record { list = lawful_with 1 m.elements e [] tt (omega arith) (omega arith); part = λ g q. first g q; independent = (b, basis, λ g q. only g q) }, refl);
+      reached = (
+        e ∷ [],
+        record {
+          list = lawful_with 1 m.elements e [] tt (omega arith) (omega arith);
+          part =
+              λ g q. first g q;
+          independent = (b, basis, λ g q. only g q);
+        },
+        refl,
+      );
       greatest = λ t p. short t p.list p.part p.independent;
     }
       where
@@ -97,18 +131,22 @@ module _ (m : SignMap) (e f : ℕ) where
         only g (inl p) = subst (λ x. IsMember x b) (sym p) k
         only g (inr none) = absurd none
 
-  pub parallel_at_last : (first second : Bool) → IsTrue first ↔ IsSeenBefore m e (choose m.elements m.rank) → IsTrue second ↔ IsSeenBefore m f (choose m.elements m.rank)
-      → (e ≢ f → HasNoneBefore (HasBoth m e f) m.elements m.rank (choose m.elements m.rank)) → IsTrue first → IsTrue second ↔ AreParallel m e f
+  pub parallel_at_last : (first second : Bool) → IsTrue first ↔ IsSeenBefore m e (choose m.elements m.rank)
+      → IsTrue second ↔ IsSeenBefore m f (choose m.elements m.rank)
+      → (e ≢ f → HasNoneBefore (HasBoth m e f) m.elements m.rank (choose m.elements m.rank)) → IsTrue first
+      → IsTrue second ↔ AreParallel m e f
   parallel_at_last first second one other none seen = (
     λ t.
         let s = one.0 seen in
         record {
           first = (no_loop m e first one).0 seen;
           second = (no_loop m f second other).0 t;
-          rank = rank_one (λ ne b h. none_at_all (HasBoth m e f) m.elements m.rank (none ne) b h.0.list h.0.size h) (subset_at m.elements m.rank s.0) s.2 s.3;
+          rank = rank_one (λ ne b h. none_at_all (HasBoth m e f) m.elements m.rank (none ne) b h.0.list h.0.size h)
+              (subset_at m.elements m.rank s.0) s.2 s.3;
         },
     λ parallel. (no_loop m f second other).1 parallel.second,
   )
 
-  pub loop_not_parallel : (first : Bool) → IsTrue first ↔ IsSeenBefore m e (choose m.elements m.rank) → first ≡ false → AreParallel m e f → ⊥
+  pub loop_not_parallel : (first : Bool) → IsTrue first ↔ IsSeenBefore m e (choose m.elements m.rank) → first ≡ false
+      → AreParallel m e f → ⊥
   loop_not_parallel first one unseen parallel = false≢true (sym unseen ∙ (no_loop m e first one).1 parallel.first)

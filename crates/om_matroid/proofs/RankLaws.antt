@@ -1,8 +1,9 @@
 -- The rank of a set, as the most elements that it has in common with a basis.
 --
 -- Main definitions: IsRankBefore.
--- Main results: the empty set has the first rank (rank_at_first); a basis with more elements raises the rank (rank_raised), and others keep it
--- (rank_kept_small, rank_kept_other); after the last set it is the rank (rank_at_last).
+-- Main results: the empty set has the first rank (rank_at_first); a basis with more elements raises the rank
+-- (rank_raised), and others keep it (rank_kept_small, rank_kept_other); after the last set it is the rank
+-- (rank_at_last).
 use Rattle.std.proofs.Common.{ℕ, ◌≡◌, ◌+◌, ◌<◌, ◌≤◌, ◌↔◌, List, [], length, refl, sym, subst, inl, inr, arith}
 use Rattle.std.proofs.lemmas.Bool.{cases_eq}
 use Rattle.om_subsets.specs.Subsets.{IsSubsetFrom, IsMember, choose, subset_at, IsPartOf}
@@ -15,7 +16,8 @@ use Rattle.om_matroid.proofs.WalkLaws.{each_set}
 
 -- no part of the set in the basis at place j has more than k elements
 abbrev pub IsBoundAt : SignMap → List ℕ → ℕ → ℕ → Type 0
-IsBoundAt m s k j = IsBasis m (subset_at m.elements m.rank j) → (t : List ℕ) → IsSubsetFrom 1 m.elements t → IsPartOf t s → IsPartOf t (subset_at m.elements m.rank j) → length t ≤ k
+IsBoundAt m s k j = IsBasis m (subset_at m.elements m.rank j) → (t : List ℕ) → IsSubsetFrom 1 m.elements t
+    → IsPartOf t s → IsPartOf t (subset_at m.elements m.rank j) → length t ≤ k
 
 -- some independent part has k elements, and none in a basis at a place below i has more
 pub record IsRankBefore (m : SignMap) (s : List ℕ) (i k : ℕ) : Type 0 where
@@ -35,16 +37,30 @@ rank_at_first m s c =
 
 module _ (m : SignMap) (s : List ℕ) (i k : ℕ) (h : IsRankBefore m s i k) where
   -- the common elements of the set and of the set at place i
-  module _ (b t : List ℕ) (place : b ≡ subset_at m.elements m.rank i) (list : IsSubsetFrom 1 m.elements t) (common : (e : ℕ) → IsMember e t ↔ (IsMember e s × IsMember e b)) where
-    no_longer : (u : List ℕ) → IsSubsetFrom 1 m.elements u → IsPartOf u s → IsPartOf u (subset_at m.elements m.rank i) → length u ≤ length t
-    no_longer u lawful part inside = length_of_part 1 m.elements u t lawful list (λ e l. (common e).1 (part e l, subst (IsMember e) (sym place) (inside e l)))
+  module _ (b t : List ℕ) (place : b ≡ subset_at m.elements m.rank i) (list : IsSubsetFrom 1 m.elements t)
+      (common : (e : ℕ) → IsMember e t ↔ (IsMember e s × IsMember e b)) where
+    no_longer : (u : List ℕ) → IsSubsetFrom 1 m.elements u → IsPartOf u s → IsPartOf u (subset_at m.elements m.rank i)
+        → length u ≤ length t
+    no_longer u lawful part inside =
+        length_of_part 1 m.elements u t lawful list
+        (λ e l. (common e).1 (part e l, subst (IsMember e) (sym place) (inside e l)))
 
     pub rank_raised : IsBasis m b → k < length t → IsRankBefore m s (i + 1) (length t)
     rank_raised basis more = record {
-      reached = (t, record { list = list; part = λ e l. ((common e).0 l).0; independent = (b, basis, λ e l. ((common e).0 l).1) }, refl);
+      reached = (
+        t,
+        record {
+          list = list;
+          part = λ e l. ((common e).0 l).0;
+          independent =
+              (b, basis, λ e l. ((common e).0 l).1);
+        },
+        refl,
+      );
       greatest = λ j l. elim (cases_eq j i) [
         | inl q ↦ subst (IsBoundAt m s (length t)) (sym q) (λ other. no_longer)
-        | inr n ↦ λ other u lawful part inside. let few = h.greatest j (omega arith) other u lawful part inside in omega arith
+        | inr n ↦ λ other u lawful part inside. let few = h.greatest j (omega arith) other u lawful part inside in
+            omega arith
       ];
     }
 
@@ -52,12 +68,15 @@ module _ (m : SignMap) (s : List ℕ) (i k : ℕ) (h : IsRankBefore m s i k) whe
     rank_kept_small few = record {
       reached = h.reached;
       greatest = λ j l. elim (cases_eq j i) [
-        | inl q ↦ subst (IsBoundAt m s k) (sym q) (λ other u lawful part inside. let n = no_longer u lawful part inside in omega arith)
+        | inl q ↦
+            subst (IsBoundAt m s k) (sym q) (λ other u lawful part inside. let n = no_longer u lawful part inside in
+            omega arith)
         | inr n ↦ h.greatest j (omega arith)
       ];
     }
 
-  pub rank_kept_other : (b : List ℕ) → b ≡ subset_at m.elements m.rank i → (IsBasis m b → ⊥) → IsRankBefore m s (i + 1) k
+  pub rank_kept_other : (b : List ℕ) → b ≡ subset_at m.elements m.rank i → (IsBasis m b → ⊥)
+      → IsRankBefore m s (i + 1) k
   rank_kept_other b place none = record {
     reached = h.reached;
     greatest = λ j l. elim (cases_eq j i) [
@@ -72,6 +91,8 @@ rank_at_last m s k h = record {
   greatest = λ t p. within t p.list p.part p.independent;
 }
   where
-    within : (t : List ℕ) → IsSubsetFrom 1 m.elements t → IsPartOf t s → (b : List ℕ) × IsBasis m b × IsPartOf t b → length t ≤ k
+    within : (t : List ℕ) → IsSubsetFrom 1 m.elements t → IsPartOf t s → (b : List ℕ) × IsBasis m b × IsPartOf t b
+        → length t ≤ k
     within t list part (b, basis, inside) =
-        each_set (λ c. IsBasis m c → IsPartOf t c → length t ≤ k) m.elements m.rank (λ j l other sub. h.greatest j l other t list part sub) b basis.list basis.size basis inside
+        each_set (λ c. IsBasis m c → IsPartOf t c → length t ≤ k) m.elements m.rank
+        (λ j l other sub. h.greatest j l other t list part sub) b basis.list basis.size basis inside

@@ -1,8 +1,9 @@
 -- The walk over the sets of one size, by their places.
 --
 -- Main definitions: HasNoneBefore.
--- Main results: what holds at each place holds of each set (each_set); after the last place there is no set with a property (none_at_all); the set
--- at which the walk stops is the first basis that contains one set and has no element of another (first_between).
+-- Main results: what holds at each place holds of each set (each_set); after the last place there is no set with a
+-- property (none_at_all); the set at which the walk stops is the first basis that contains one set and has no element
+-- of another (first_between).
 use Rattle.std.proofs.Common.{ℕ, ◌≡◌, ◌<◌, List, length, sym, subst, ◌∙◌}
 use Rattle.om_subsets.specs.Subsets.{IsSubsetFrom, choose, rank_of, subset_at}
 use Rattle.om_subsets.specs.Lists.{IsBefore}
@@ -16,30 +17,38 @@ HasNoneBefore P n r k = (j : ℕ) → j < k → P (subset_at n r j) → ⊥
 
 module _ (P : List ℕ → Type 0) (n r : ℕ) where
   -- a set stands at its place
-  pub place_of : (b : List ℕ) → IsSubsetFrom 1 n b → length b ≡ r → (rank_of n b < choose n r) × (subset_at n r (rank_of n b) ≡ b)
+  pub place_of : (b : List ℕ) → IsSubsetFrom 1 n b → length b ≡ r → (rank_of n b < choose n r)
+      × (subset_at n r (rank_of n b) ≡ b)
   place_of b list size = (
     subst (λ k. rank_of n b < choose n k) size (rank_from-lt 1 n b list),
     subst (λ k. subset_at n k (rank_of n b) ≡ b) size (get_or-rank_from 1 n b list),
   )
 
-  pub each_set : ((j : ℕ) → j < choose n r → P (subset_at n r j)) → (b : List ℕ) → IsSubsetFrom 1 n b → length b ≡ r → P b
+  pub each_set : ((j : ℕ) → j < choose n r → P (subset_at n r j)) → (b : List ℕ) → IsSubsetFrom 1 n b → length b ≡ r
+      → P b
   each_set h b list size = let p = place_of b list size in subst P p.1 (h (rank_of n b) p.0)
 
   pub none_at_all : HasNoneBefore P n r (choose n r) → (b : List ℕ) → IsSubsetFrom 1 n b → length b ≡ r → P b → ⊥
   none_at_all h b list size p = let q = place_of b list size in h (rank_of n b) q.0 (subst P (sym q.1) p)
 
   -- nor does a set that comes before the one at place k
-  pub none_earlier : (b c : List ℕ) → HasNoneBefore P n r (rank_of n b) → IsSubsetFrom 1 n b → length b ≡ r → IsSubsetFrom 1 n c → length c ≡ r → IsBefore c b → P c → ⊥
+  pub none_earlier : (b c : List ℕ) → HasNoneBefore P n r (rank_of n b) → IsSubsetFrom 1 n b → length b ≡ r
+      → IsSubsetFrom 1 n c → length c ≡ r → IsBefore c b → P c → ⊥
   none_earlier b c h blist bsize clist csize before p =
       let q = place_of c clist csize in
       h (rank_of n c) ((lexicographic 1 n c b clist blist (csize ∙ sym bsize)).0 before) (subst P (sym q.1) p)
 
 module _ (m : SignMap) (inside outside : List ℕ) where
-  pub no_basis_between : HasNoneBefore (IsBasisBetween m inside outside) m.elements m.rank (choose m.elements m.rank) → (b : List ℕ) → IsBasisBetween m inside outside b → ⊥
-  no_basis_between h b between = none_at_all (IsBasisBetween m inside outside) m.elements m.rank h b between.basis.list between.basis.size between
+  pub no_basis_between : HasNoneBefore (IsBasisBetween m inside outside) m.elements m.rank (choose m.elements m.rank)
+      → (b : List ℕ) → IsBasisBetween m inside outside b → ⊥
+  no_basis_between h b between =
+      none_at_all (IsBasisBetween m inside outside) m.elements m.rank h b between.basis.list between.basis.size between
 
-  pub first_between : (b : List ℕ) → HasNoneBefore (IsBasisBetween m inside outside) m.elements m.rank (rank_of m.elements b) → IsBasisBetween m inside outside b → IsFirstBetween m inside outside b
+  pub first_between : (b : List ℕ)
+      → HasNoneBefore (IsBasisBetween m inside outside) m.elements m.rank (rank_of m.elements b)
+      → IsBasisBetween m inside outside b → IsFirstBetween m inside outside b
   first_between b h between = record {
     between = between;
-    first = λ c other before. none_earlier (IsBasisBetween m inside outside) m.elements m.rank b c h between.basis.list between.basis.size other.basis.list other.basis.size before other;
+    first = λ c other before. none_earlier (IsBasisBetween m inside outside) m.elements m.rank b c h between.basis.list
+        between.basis.size other.basis.list other.basis.size before other;
   }

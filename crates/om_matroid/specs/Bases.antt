@@ -1,4 +1,5 @@
--- The matroid of a map: its bases, and what they say of sets and of elements. A set stands as a list of its elements.
+-- The matroid of a map: its bases, and what they determine about sets and elements. A set is given as a list of its
+-- elements.
 --
 -- Reference: Björner, Las Vergnas, Sturmfels, White and Ziegler, Oriented Matroids, chapter 3.
 use Rattle.std.specs.Prelude.{ℕ, ◌≡◌, ◌≤◌, List, [], ◌∷◌, length}
@@ -11,7 +12,7 @@ use Rattle.om_chirotope.specs.Map.{SignMap}
 abbrev pub IsIndependent : SignMap → List ℕ → Type 0
 IsIndependent m s = (b : List ℕ) × IsBasis m b × IsPartOf s b
 
--- an increasing list of some elements of a set, contained in some basis
+-- an increasing list of some elements of a set that is contained in some basis
 pub record IsIndependentPart (m : SignMap) (s t : List ℕ) : Type 0 where
   pub list : IsSubsetFrom 1 m.elements t
   pub part : IsPartOf t s
@@ -47,13 +48,13 @@ pub record IsFirstBasisWith (m : SignMap) (s b : List ℕ) : Type 0 where
   pub contains : IsPartOf s b
   pub first : (c : List ℕ) → IsBasis m c → IsPartOf s c → IsBefore c b → ⊥
 
--- f is in c and not in b, and b without e with f is a basis
+-- f is in c and not in b, and exchanging e for f in b gives a basis
 pub record IsExchange (m : SignMap) (b c : List ℕ) (e f : ℕ) : Type 0 where
   pub inside : IsMember f c
   pub outside : IsMember f b → ⊥
   pub basis : IsBasis m (with_element f (without_element e b))
 
--- the least f of these
+-- f is the least element that can be exchanged for e
 pub record IsLeastExchange (m : SignMap) (b c : List ℕ) (e f : ℕ) : Type 0 where
   pub exchange : IsExchange m b c e f
   pub least : (g : ℕ) → IsExchange m b c e g → f ≤ g

@@ -7,8 +7,8 @@ use super::search::first_between;
 use om_chirotope::Chirotope;
 use om_subsets::Subset;
 
-/// The lexicographically first basis: the first increasing list, of as many elements as the rank, whose sign isn't 0. It
-/// walks at most once over the sets of this size, and takes no memory.
+/// The lexicographically first basis: the first increasing list, of as many elements as the rank, whose sign isn't
+/// 0. The call walks at most once over the sets of this size, and allocates no memory.
 ///
 /// Source: Björner, Las Vergnas, Sturmfels, White and Ziegler, *Oriented Matroids*, chapter 3.
 pub fn first_basis(chi: &Chirotope) -> Subset
@@ -24,9 +24,9 @@ pub fn first_basis(chi: &Chirotope) -> Subset
     }
 }
 
-/// The lexicographically first basis that contains an independent set: a set of some of the elements 1 to n, for the number n
-/// of elements, that is contained in some basis, as the empty set is, by the law `empty_set_is_independent`. It walks at most
-/// once over the sets of as many elements as the rank, and takes no memory.
+/// The lexicographically first basis that contains an independent set. The set is taken from the elements of the
+/// chirotope, and some basis contains it. By the law `empty_set_is_independent`, the empty set is independent. The
+/// call walks at most once over the sets of as many elements as the rank, and allocates no memory.
 ///
 /// Source: Björner, Las Vergnas, Sturmfels, White and Ziegler, *Oriented Matroids*, chapter 3.
 pub fn extend_to_basis(chi: &Chirotope, independent: Subset) -> Subset

@@ -9,8 +9,8 @@ use super::search::{first_between, is_basis};
 use om_chirotope::Chirotope;
 use om_subsets::Subset;
 
-/// Whether e is a loop: an element of no basis. e is from 1 to n, for the number n of elements. It walks at most once over the
-/// sets of as many elements as the rank, and takes no memory.
+/// Whether e, from 1 to the number of elements, is a loop: an element of no basis. The call walks at most once over
+/// the sets of as many elements as the rank, and allocates no memory.
 ///
 /// Source: Björner, Las Vergnas, Sturmfels, White and Ziegler, *Oriented Matroids*, chapter 3.
 pub fn is_loop(chi: &Chirotope, e: u8) -> bool
@@ -22,8 +22,8 @@ pub fn is_loop(chi: &Chirotope, e: u8) -> bool
     first_between(chi, nothing.with(e), nothing).is_none()
 }
 
-/// Whether e is a coloop: an element of every basis. e is from 1 to n, for the number n of elements. It walks at most once over
-/// the sets of as many elements as the rank, and takes no memory.
+/// Whether e, from 1 to the number of elements, is a coloop: an element of every basis. The call walks at most once
+/// over the sets of as many elements as the rank, and allocates no memory.
 ///
 /// Source: Björner, Las Vergnas, Sturmfels, White and Ziegler, *Oriented Matroids*, chapter 3.
 pub fn is_coloop(chi: &Chirotope, e: u8) -> bool
@@ -35,7 +35,7 @@ pub fn is_coloop(chi: &Chirotope, e: u8) -> bool
     first_between(chi, nothing, nothing.with(e)).is_none()
 }
 
-/// Whether a set is a basis that has e, and whether it is one that has f.
+/// Whether a set is a basis that contains e, and whether it is a basis that contains f.
 fn in_basis(chi: &Chirotope, b: Subset, e: u8, f: u8) -> (bool, bool)
     requires n { b.n ≡ chi.now.elements }
     requires e_low { 1 ≤ e }
@@ -52,9 +52,9 @@ fn in_basis(chi: &Chirotope, b: Subset, e: u8, f: u8) -> (bool, bool)
     }
 }
 
-/// Whether e and f are parallel: neither is a loop, and the set of both has rank 1. So e is parallel to itself exactly where
-/// it is no loop. e and f are from 1 to n, for the number n of elements. It walks at most once over the sets of as many
-/// elements as the rank, since no basis has both of two parallel elements, and takes no memory.
+/// Whether e and f, from 1 to the number of elements, are parallel: neither is a loop, and the set of both has rank
+/// 1. So e is parallel to itself exactly if it is no loop. The call walks at most once over the sets of as many
+/// elements as the rank, since no basis contains two parallel elements. It allocates no memory.
 ///
 /// Source: Björner, Las Vergnas, Sturmfels, White and Ziegler, *Oriented Matroids*, chapter 3.
 pub fn parallel(chi: &Chirotope, e: u8, f: u8) -> bool

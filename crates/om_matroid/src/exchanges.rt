@@ -9,7 +9,7 @@ use super::search::is_basis;
 use om_chirotope::Chirotope;
 use om_subsets::Subset;
 
-/// Whether f is in c and not in b, and b without e with f is a basis.
+/// Whether f is in c and not in b, and exchanging e for f in b gives a basis.
 fn is_exchange(chi: &Chirotope, b: Subset, c: Subset, e: u8, f: u8) -> bool
     requires b { b.n ≡ chi.now.elements }
     requires c { c.n ≡ chi.now.elements }
@@ -22,8 +22,8 @@ fn is_exchange(chi: &Chirotope, b: Subset, c: Subset, e: u8, f: u8) -> bool
     c.has(f) && !b.has(f) && is_basis(chi, b.without(e).with(f))
 }
 
-/// The least f in c and not in b such that b without e with f is a basis. b and c are bases, and e is in b and not in c; then
-/// there is such an f. It takes no memory.
+/// The least f in c and not in b such that exchanging e for f in b gives a basis. b and c are bases, and e is in b
+/// and not in c; then there is such an f. The call allocates no memory.
 ///
 /// Source: Björner, Las Vergnas, Sturmfels, White and Ziegler, *Oriented Matroids*, chapter 3.
 pub fn exchange(chi: &Chirotope, b: Subset, c: Subset, e: u8) -> u8
@@ -41,6 +41,6 @@ pub fn exchange(chi: &Chirotope, b: Subset, c: Subset, e: u8) -> u8
             return f;
         }
     }
-    // some element of c takes the place of e, by the exchange of bases
+    // by exchange of bases, some element of c can take the place of e
     unreachable!()
 }

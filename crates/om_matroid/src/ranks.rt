@@ -7,9 +7,9 @@ use super::search::is_basis;
 use om_chirotope::Chirotope;
 use om_subsets::Subset;
 
-/// The rank of a set of some of the elements 1 to n, for the number n of elements: the number of elements of its greatest
-/// independent part. That is the most elements that it has in common with a basis. It walks once over the sets of as many
-/// elements as the rank of the chirotope, and takes no memory.
+/// The rank of a set that is taken from the elements of the chirotope: the size of its greatest independent part.
+/// This is the greatest number of elements that it has in common with a basis. The call walks once over the sets of
+/// as many elements as the rank of the chirotope, and allocates no memory.
 ///
 /// Source: Björner, Las Vergnas, Sturmfels, White and Ziegler, *Oriented Matroids*, chapter 3.
 pub fn rank_of(chi: &Chirotope, s: Subset) -> u8

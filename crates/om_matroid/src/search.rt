@@ -16,7 +16,7 @@ pub fn is_basis(chi: &Chirotope, b: Subset) -> bool
     b.size() == chi.rank() && chi.at(b) != Sign::Zero
 }
 
-/// Whether a set is a basis that contains one set and has no element of another.
+/// Whether a set is a basis that contains one set and avoids another.
 fn is_between(chi: &Chirotope, inside: Subset, outside: Subset, b: Subset) -> bool
     requires inside { inside.n ≡ chi.now.elements }
     requires outside { outside.n ≡ chi.now.elements }
@@ -26,8 +26,7 @@ fn is_between(chi: &Chirotope, inside: Subset, outside: Subset, b: Subset) -> bo
     inside.is_part_of(b) && outside.is_apart_from(b) && is_basis(chi, b)
 }
 
-/// The lexicographically first basis that contains one set and has no element of another, or None where there is no such
-/// basis.
+/// The lexicographically first basis that contains one set and avoids another, or None if there is no such basis.
 pub fn first_between(chi: &Chirotope, inside: Subset, outside: Subset) -> Option<Subset>
     requires inside { inside.n ≡ chi.now.elements }
     requires outside { outside.n ≡ chi.now.elements }

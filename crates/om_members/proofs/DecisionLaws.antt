@@ -1,8 +1,10 @@
 -- Statements on signs and on lists of vectors, each of which holds or doesn't.
 --
--- Main results: same_vector, some_member, each_place: equal vectors, a member with a property, and what holds at all places, are decided;
--- not_false: what is decided and isn't false holds; all_good: where no number is bad, all are good.
-use Rattle.std.proofs.Common.{ℕ, zero, suc, ◌≡◌, ◌<◌, ◌≤◌, ◌⊎◌, List, [], ◌∷◌, length, refl, sym, subst, arith, inl, inr}
+-- Main results: same_vector, some_member, each_place: equal vectors, a member with a property, and what holds at all
+-- places, are decided; not_false: what is decided and isn't false holds; all_good: where no number is bad, all are
+-- good.
+use Rattle.std.proofs.Common.{ℕ, zero, suc, ◌≡◌, ◌<◌, ◌≤◌, ◌⊎◌, List, [], ◌∷◌, length, refl, sym, subst, arith, inl}
+use Rattle.std.proofs.Common.{inr}
 use Rattle.std.proofs.lemmas.Bool.{cases_lt}
 use Rattle.std.specs.List.{Contains}
 use Rattle.om_signs.specs.declared.sign.Sign.{Sign}
@@ -92,7 +94,8 @@ each_below (suc n) P d = both (each_below n P d) (d n)
     ])
 
 -- of all numbers, where it holds from n on
-pub each_place : (n : ℕ) (P : ℕ → Type 0) → ((k : ℕ) → IsDecided (P k)) → ((k : ℕ) → n ≤ k → P k) → IsDecided ((k : ℕ) → P k)
+pub each_place : (n : ℕ) (P : ℕ → Type 0) → ((k : ℕ) → IsDecided (P k)) → ((k : ℕ) → n ≤ k → P k)
+    → IsDecided ((k : ℕ) → P k)
 each_place n P d later = elim (each_below n P d) [
   | inl h ↦ inl (λ k. elim (cases_lt k n) [ inl lt ↦ h k lt | inr ge ↦ later k ge ])
   | inr m ↦ inr (λ f. m (λ k l. f k))
@@ -101,20 +104,24 @@ each_place n P d later = elim (each_below n P d) [
 -- ---- members
 
 -- some member has the property, or none has
-pub some_member : (members : List (List Sign)) (P : List Sign → Type 0) → ((Z : List Sign) → IsDecided (P Z)) → IsDecided ((Z : List Sign) × Contains members Z × P Z)
+pub some_member : (members : List (List Sign)) (P : List Sign → Type 0) → ((Z : List Sign) → IsDecided (P Z))
+    → IsDecided ((Z : List Sign) × Contains members Z × P Z)
 some_member members P d = elim (some_below (length members) (λ k. P (nth members k)) (λ k. d (nth members k))) [
   | inl h ↦ inl (nth members h.0, contains_nth members h.0 h.1, h.2)
   | inr n ↦ inr (λ h. n (h.1.0, h.1.1, subst P (sym (nth_contained members h.0 h.1)) h.2))
 ]
 
 pub is_contained : (members : List (List Sign)) (X : List Sign) → IsDecided (Contains members X)
-is_contained members X = elim (some_below (length members) (λ k. nth members k ≡ X) (λ k. same_vector (nth members k) X)) [
-  | inl h ↦ inl (subst (Contains members) h.2 (contains_nth members h.0 h.1))
-  | inr n ↦ inr (λ h. n (h.0, h.1, nth_contained members X h))
-]
+is_contained members X =
+    elim (some_below (length members) (λ k. nth members k ≡ X) (λ k. same_vector (nth members k) X)) [
+      | inl h ↦ inl (subst (Contains members) h.2 (contains_nth members h.0 h.1))
+      | inr n ↦ inr (λ h. n (h.0, h.1, nth_contained members X h))
+    ]
 
 -- ---- scans
 
 -- where no number is bad, all are good
-pub all_good : (m n : ℕ) (Good : ℕ → Type 0) → m ≤ n → ((k : ℕ) → ((Good k → ⊥) → ⊥) → Good k) → ((k : ℕ) → 0 ≤ k → k < m → IsBadBelow n Good k → ⊥) → AllBelow m Good
-all_good m n Good le held none k l = held k (λ bad. none k (omega arith) l (record { within = omega arith; not_good = bad }))
+pub all_good : (m n : ℕ) (Good : ℕ → Type 0) → m ≤ n → ((k : ℕ) → ((Good k → ⊥) → ⊥) → Good k)
+    → ((k : ℕ) → 0 ≤ k → k < m → IsBadBelow n Good k → ⊥) → AllBelow m Good
+all_good m n Good le held none k l =
+    held k (λ bad. none k (omega arith) l (record { within = omega arith; not_good = bad }))

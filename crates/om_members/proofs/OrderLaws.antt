@@ -1,7 +1,8 @@
 -- The order of lists of positions.
 --
--- Main results: same_number, greater_number, last_number: what the order says of the first numbers; ordered: of two lists of one length one is
--- before the other, or they are equal; ordered_keys: so it is with two lists that say themselves how long they are.
+-- Main results: same_number, greater_number, last_number: what the order says of the first numbers; ordered: of two
+-- lists of one length one is before the other, or they are equal; ordered_keys: so it is with two lists that say
+-- themselves how long they are.
 use Rattle.std.proofs.Common.{ℕ, ◌≡◌, ◌<◌, ◌⊎◌, List, [], ◌∷◌, length, suc, refl, sym, ◌∙◌, ap, arith, inl, inr}
 use Rattle.std.proofs.lemmas.Bool.{cases_lt, cases_order}
 use Rattle.om_members.specs.Positions.{IsBefore}
@@ -44,7 +45,8 @@ IsKey size [] = ⊥
 IsKey size (x ∷ xs) = length xs ≡ size x
 
 -- of two such lists one is before the other, or they are equal
-pub ordered_keys : (size : ℕ → ℕ) (xs ys : List ℕ) → IsKey size xs → IsKey size ys → IsBefore xs ys ⊎ (IsBefore ys xs ⊎ (xs ≡ ys))
+pub ordered_keys : (size : ℕ → ℕ) (xs ys : List ℕ) → IsKey size xs → IsKey size ys → IsBefore xs ys
+    ⊎ (IsBefore ys xs ⊎ (xs ≡ ys))
 ordered_keys size [] ys h k = absurd h
 ordered_keys size (x ∷ xs) [] h k = absurd k
 ordered_keys size (x ∷ xs) (y ∷ ys) h k = elim (cases_order x y) [

@@ -1,4 +1,4 @@
--- Finite sets of sign vectors, listed.
+-- Finite sets of sign vectors, given as lists.
 use Rattle.std.specs.Prelude.{ℕ, ◌≡◌, ◌≢◌, List, length}
 use Rattle.std.specs.List.{All, AllPairs, Contains}
 use Rattle.om_signs.specs.declared.sign.Sign.{Sign}
@@ -13,7 +13,7 @@ pub record Listing : Type 0 where
 abbrev pub HaveLength : ℕ → List (List Sign) → Type 0
 HaveLength n members = All (λ X. length X ≡ n) members
 
--- no member stands twice
+-- no member occurs twice
 abbrev pub AreDistinct : List (List Sign) → Type 0
 AreDistinct members = AllPairs (λ X Y. X ≢ Y) members
 

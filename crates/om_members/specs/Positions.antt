@@ -2,7 +2,7 @@
 use Rattle.std.specs.Prelude.{ℕ, ◌≡◌, ◌-◌, ◌<◌, ◌≤◌, ◌⊎◌, List, [], ◌∷◌, length, slice_index_or}
 use Rattle.om_signs.specs.declared.sign.Sign.{Sign}
 
--- a position of the list
+-- a position of the list, counted from 1
 abbrev pub IsPosition : List (List Sign) → ℕ → Type 0
 IsPosition members i = (1 ≤ i) × (i ≤ length members)
 
@@ -10,7 +10,7 @@ IsPosition members i = (1 ≤ i) × (i ≤ length members)
 abbrev pub member_at : List (List Sign) → ℕ → List Sign
 member_at members i = slice_index_or members (i - 1) []
 
--- the first number in which the lists differ is smaller in the first list
+-- the lists differ, and the first number in which they differ is smaller in the first list
 abbrev pub IsBefore : List ℕ → List ℕ → Type 0
 IsBefore (x ∷ xs) (y ∷ ys) = (x < y) ⊎ ((x ≡ y) × IsBefore xs ys)
 IsBefore _ _ = ⊥

@@ -1,4 +1,4 @@
--- What the scans of a list of members say. Places in a list count from 0 here.
+-- Definitions for scans of a list of members. Places in a list count from 0 here.
 use Rattle.std.specs.Prelude.{ℕ, ◌<◌, List, [], slice_index_or}
 use Rattle.std.specs.List.{Contains}
 use Rattle.om_signs.specs.declared.sign.Sign.{Sign}
@@ -8,7 +8,7 @@ use Rattle.om_members.specs.Vectors.{negated}
 abbrev pub nth : List (List Sign) → ℕ → List Sign
 nth members k = slice_index_or members k []
 
--- it holds of each number below n
+-- each number below n is good
 abbrev pub AllBelow : ℕ → (ℕ → Type 0) → Type 0
 AllBelow n Good = (k : ℕ) → k < n → Good k
 
@@ -17,13 +17,14 @@ pub record IsBadBelow (n : ℕ) (Good : ℕ → Type 0) (k : ℕ) : Type 0 where
   pub within : k < n
   pub not_good : Good k → ⊥
 
--- the first bad number below n: those before it are good
+-- the first bad number below n: all numbers before it are good
 pub record IsFirstBad (n : ℕ) (Bad Good : ℕ → Type 0) (k : ℕ) : Type 0 where
   pub within : k < n
   pub bad : Bad k
   pub before : AllBelow k Good
 
--- the first bad pair below n and m: those before it, by the first number and then by the second, are good
+-- the first bad pair of numbers below n and m: all pairs before it, by the first number and then by the second, are
+-- good
 pub record IsFirstBadPair (n m : ℕ) (Bad Good : ℕ → ℕ → Type 0) (i j : ℕ) : Type 0 where
   pub within : i < n
   pub second : IsFirstBad m (Bad i) (Good i) j

@@ -7,7 +7,7 @@ use Rattle.om_signs.specs.declared.sign.Sign.TheVariants.{Zero}
 use Rattle.om_signs.specs.Sign.{opposite}
 use Rattle.om_signs.specs.SignVec.{at_element}
 
--- all signs are opposite
+-- the negative: each sign is opposite
 abbrev pub negated : List Sign → List Sign
 negated X = map opposite X
 

@@ -1,5 +1,5 @@
-//! Lists of sign vectors: members, positions, zero vectors, negatives and supports, for all that lists circuits, cocircuits
-//! or covectors.
+//! Lists of sign vectors: members, positions, zero vectors, negatives and supports. They serve whatever lists
+//! circuits, cocircuits or covectors.
 //!
 //! Source of the notions: Björner, Las Vergnas, Sturmfels, White and Ziegler, *Oriented Matroids*, chapters 3 and 4.
 #![tactic(auto)]

@@ -1,4 +1,4 @@
-//! Tests of vectors, and of a list by its members.
+//! Tests of vectors, and of a list of members.
 
 ghost use Rattle.std.specs.Prelude.{◌≡◌, ◌↔◌, length, IsTrue, IfSome, IfNone};
 ghost use Rattle.std.specs.List.{Contains};
@@ -7,14 +7,14 @@ ghost use Rattle.om_members.specs.Scans.{AllBelow, IsFirstBad, HasNegativeAt, Ha
 
 use om_signs::SignVec;
 
-/// Whether all signs are zero.
+/// Whether all signs of a vector are zero.
 pub fn is_zero(x: SignVec) -> bool
     ensures { IsTrue result ↔ IsZero x }
 {
     x.support() == 0
 }
 
-/// Whether two vectors are the same: of one length, with the same signs.
+/// Whether two vectors are equal: of one length, with the same signs.
 pub fn are_same(x: SignVec, y: SignVec) -> bool
     ensures { IsTrue result ↔ (x ≡ y) }
 {
@@ -33,7 +33,7 @@ pub fn is_member(members: &[SignVec], x: SignVec) -> bool
     false
 }
 
-/// The place, from 0, of the first member whose negative is no member.
+/// The place, from 0, of the first member whose negative is no member, or None if there is none.
 ///
 /// Source: Björner, Las Vergnas, Sturmfels, White and Ziegler, *Oriented Matroids*, chapter 3.
 pub fn first_without_negative(members: &[SignVec]) -> Option<usize>

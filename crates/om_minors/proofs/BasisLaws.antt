@@ -1,9 +1,10 @@
 -- Bases as increasing lists, and as tuples.
 --
 -- Main definitions: HasBasis.
--- Main results: a tuple that is a base gives a basis, with e or without it (basis_list), and conversely (avoided, in_base); an element that is no
--- coloop is avoided by a basis, and one that is no loop is in a basis (basis_off, basis_on); an element that no basis avoids is a coloop, and one
--- that none has is a loop (coloop_tuple, coloop_list, loop_tuple); a basis is there or not (decide_basis).
+-- Main results: a tuple that is a base gives a basis, with e or without it (basis_list), and conversely (avoided,
+-- in_base); an element that is no coloop is avoided by a basis, and one that is no loop is in a basis (basis_off,
+-- basis_on); an element that no basis avoids is a coloop, and one that none has is a loop (coloop_tuple, coloop_list,
+-- loop_tuple); a basis is there or not (decide_basis).
 use Rattle.std.specs.Prelude.{ℕ, ◌≡◌, ◌↔◌, ◌⊎◌, ◌+◌, ◌≤◌, List, [], ◌∷◌, ◌++◌, length, Bool, true, false, IsTrue}
 use Rattle.std.proofs.Common.{zero, suc, sym, subst, inl, inr, arith, refl, ⊎_elim}
 use Rattle.std.proofs.lemmas.Bool.{false≢true, cases_eq}
@@ -40,17 +41,33 @@ swap_member g x y (c ∷ cs) bs (inr h) = inr (swap_member g x y cs bs h)
 
 module _ (m : SignMap) where
   pub basis_nonzero : (xs : List ℕ) → IsBasis m xs → IsNonzero (tuples_of m xs)
-  basis_nonzero xs b = subst IsNonzero (sym (on_tuples_at m.elements m.rank (chi_of m) xs (to_tuple m.elements m.rank xs b.list b.size))) b.nonzero
+  basis_nonzero xs b =
+      subst IsNonzero (sym (on_tuples_at m.elements m.rank (chi_of m) xs (to_tuple m.elements m.rank xs b.list b.size)))
+      b.nonzero
 
   -- a tuple with a nonzero value, which has e or not as the test says, gives such a basis
-  pub basis_list : (e : ℕ) (inside : Bool) (t : List ℕ) → IsNonzero (tuples_of m t) → (IsTrue inside ↔ IsMember e t) → HasBasis m e inside
-  basis_list e inside = by_sorting (λ t. IsNonzero (tuples_of m t) → (IsTrue inside ↔ IsMember e t) → HasBasis m e inside)
-      (λ x y cs bs h n w. h (nonzero_from_opposite (tuples_of m (cs ++ x ∷ y ∷ bs)) (subst IsNonzero (on_tuples_alternating m.elements m.rank (chi_of m) x y cs bs) n))
+  pub basis_list : (e : ℕ) (inside : Bool) (t : List ℕ) → IsNonzero (tuples_of m t) → (IsTrue inside ↔ IsMember e t)
+      → HasBasis m e inside
+  basis_list e inside =
+      by_sorting (λ t. IsNonzero (tuples_of m t) → (IsTrue inside ↔ IsMember e t) → HasBasis m e inside)
+      (λ x y cs bs h n w. h
+      (nonzero_from_opposite (tuples_of m (cs ++ x ∷ y ∷ bs))
+      (subst IsNonzero (on_tuples_alternating m.elements m.rank (chi_of m) x y cs bs) n))
       ((λ k. swap_member e y x cs bs (w.0 k)), (λ k. w.1 (swap_member e x y cs bs k))))
-      (λ x cs bs n w. absurd (repeated x cs bs (nonzero_distinct (tuples_of m) (on_tuples_alternating m.elements m.rank (chi_of m)) (cs ++ x ∷ x ∷ bs) n)))
+      (λ x cs bs n w. absurd
+      (repeated x cs bs
+      (nonzero_distinct (tuples_of m) (on_tuples_alternating m.elements m.rank (chi_of m)) (cs ++ x ∷ x ∷ bs) n)))
       (λ xs i n w.
-      let t = on_tuples_tuple m.elements m.rank (chi_of m) xs n in
-      (xs, record { list = from_tuple m.elements m.rank xs t i; size = t.size; nonzero = subst IsNonzero (on_tuples_at m.elements m.rank (chi_of m) xs t) n }, w))
+      let t = on_tuples_tuple m.elements m.rank (chi_of m) xs n in (
+        xs,
+        record {
+          list = from_tuple m.elements m.rank xs t i;
+          size = t.size;
+          nonzero =
+              subst IsNonzero (on_tuples_at m.elements m.rank (chi_of m) xs t) n;
+        },
+        w,
+      ))
     where
       repeated : (x : ℕ) (cs bs : List ℕ) → IsDistinct (cs ++ x ∷ x ∷ bs) → ⊥
       repeated x [] bs d = d.0 (inl refl)
@@ -73,7 +90,8 @@ module _ (m : SignMap) where
   inner e t k = ((λ q. k), (λ q. refl))
 
   pub coloop_tuple : (e : ℕ) → (HasBasis m e false → ⊥) → theory.IsColoop (tuples_of m) e
-  coloop_tuple e none t n = ⊎_elim (λ k. k) (λ off. absurd (none (basis_list e false t n (outside e t off)))) (member_or_not e t)
+  coloop_tuple e none t n = ⊎_elim (λ k. k) (λ off. absurd (none (basis_list e false t n (outside e t off))))
+      (member_or_not e t)
 
   pub loop_tuple : (e : ℕ) → (HasBasis m e true → ⊥) → theory.IsLoop (tuples_of m) e
   loop_tuple e none t n k = none (basis_list e true t n (inner e t k))
@@ -85,12 +103,14 @@ module _ (m : SignMap) where
   pub basis_with : IsChirotope m → (e : ℕ) → (HasBasis m e false → ⊥) → HasBasis m e true
   basis_with om e none =
       let b = (theory_chirotope m om).base in
-      ⊎_elim (λ k. basis_list e true b.0 b.1 (inner e b.0 k)) (λ off. absurd (none (basis_list e false b.0 b.1 (outside e b.0 off)))) (member_or_not e b.0)
+      ⊎_elim (λ k. basis_list e true b.0 b.1 (inner e b.0 k))
+      (λ off. absurd (none (basis_list e false b.0 b.1 (outside e b.0 off)))) (member_or_not e b.0)
 
   pub basis_without : IsChirotope m → (e : ℕ) → (HasBasis m e true → ⊥) → HasBasis m e false
   basis_without om e none =
       let b = (theory_chirotope m om).base in
-      ⊎_elim (λ k. absurd (none (basis_list e true b.0 b.1 (inner e b.0 k)))) (λ off. basis_list e false b.0 b.1 (outside e b.0 off)) (member_or_not e b.0)
+      ⊎_elim (λ k. absurd (none (basis_list e true b.0 b.1 (inner e b.0 k))))
+      (λ off. basis_list e false b.0 b.1 (outside e b.0 off)) (member_or_not e b.0)
 
   pub rank_low : (e : ℕ) → HasBasis m e true → 1 ≤ m.rank
   rank_low e (xs, b, w) = let s = b.size in let k = long xs (w.0 refl) in omega (arith, s, k)
@@ -105,8 +125,11 @@ module _ (m : SignMap) where
   abbrev IsSuch : ℕ → Bool → List ℕ → Type 0
   IsSuch e inside xs = IsBasis m xs × (IsTrue inside ↔ IsMember e xs)
 
-  such_or_not : (e : ℕ) (inside : Bool) (s : List ℕ) → IsSubsetFrom 1 m.elements s → length s ≡ m.rank → IsSuch e inside s ⊎ (IsSuch e inside s → ⊥)
-  such_or_not e inside s h l = ⊎_elim (λ z. inr (λ w. w.0.nonzero z)) (λ n. go inside (member_or_not e s) (record { list = h; size = l; nonzero = n })) (zero_or_nonzero (value_of m s))
+  such_or_not : (e : ℕ) (inside : Bool) (s : List ℕ) → IsSubsetFrom 1 m.elements s → length s ≡ m.rank
+      → IsSuch e inside s ⊎ (IsSuch e inside s → ⊥)
+  such_or_not e inside s h l =
+      ⊎_elim (λ z. inr (λ w. w.0.nonzero z))
+      (λ n. go inside (member_or_not e s) (record { list = h; size = l; nonzero = n })) (zero_or_nonzero (value_of m s))
     where
       go : (b : Bool) → IsMember e s ⊎ (IsMember e s → ⊥) → IsBasis m s → IsSuch e b s ⊎ (IsSuch e b s → ⊥)
       go true (inl k) w = inl (w, inner e s k)
@@ -114,7 +137,8 @@ module _ (m : SignMap) where
       go false (inl k) w = inr (λ q. false≢true (q.1.1 k))
       go false (inr off) w = inl (w, outside e s off)
 
-  decide_below : (e : ℕ) (inside : Bool) (k : ℕ) → k ≤ choose m.elements m.rank → HasBasis m e inside ⊎ HasNoneBefore (IsSuch e inside) m.elements m.rank k
+  decide_below : (e : ℕ) (inside : Bool) (k : ℕ) → k ≤ choose m.elements m.rank → HasBasis m e inside
+      ⊎ HasNoneBefore (IsSuch e inside) m.elements m.rank k
   decide_below e inside zero le = inr (λ j l. absurd (omega arith))
   decide_below e inside (suc k) le = ⊎_elim (λ h. inl h)
       (λ none.

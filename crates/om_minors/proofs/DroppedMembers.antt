@@ -53,7 +53,8 @@ module _ (P : List Sign → Type 0) (vectors : List (List Sign)) (all : AreAllOf
     least = λ Y y k sub. x.least Y (all.complete Y y) (some_nonzero Y k) sub;
   }
 
-  pub least_all : (list : List (List Sign)) → AreThose (IsMinimal vectors) vectors list → AreAllOf (IsOfLeastSupport P) list
+  pub least_all : (list : List (List Sign)) → AreThose (IsMinimal vectors) vectors list
+      → AreAllOf (IsOfLeastSupport P) list
   least_all list those = record {
     sound = λ X c. let m = those_contained (IsMinimal vectors) vectors list those X c in minimal_least X m.0 m.1;
     complete = λ X x. let m = least_minimal X x in contained_those (IsMinimal vectors) vectors list those X m.0 m.1;
@@ -61,24 +62,28 @@ module _ (P : List Sign → Type 0) (vectors : List (List Sign)) (all : AreAllOf
 
 -- ---- the members without the place of e
 
-module _ (n e : ℕ) (several : 2 ≤ n) (low : 1 ≤ e) (high : e ≤ n) (members : List (List Sign)) (lengths : HaveLength n members) where
+module _ (n e : ℕ) (several : 2 ≤ n) (low : 1 ≤ e) (high : e ≤ n) (members : List (List Sign))
+    (lengths : HaveLength n members) where
   length_of : (W : List Sign) → Contains members W → length W ≡ n
   length_of W w = All-contains (λ X. length X ≡ n) members W lengths w
 
-  pub dropped_all : (list : List (List Sign)) → AreAllOf (IsDropped e members) list → AreAllOf (IsWithout n e (Contains members)) list
+  pub dropped_all : (list : List (List Sign)) → AreAllOf (IsDropped e members) list
+      → AreAllOf (IsWithout n e (Contains members)) list
   dropped_all list all = record {
     sound = λ X c. let w = all.sound X c in (w.0, length_of w.0 w.1, w.1, w.2);
     complete = λ X w. all.complete X (w.0, w.2, w.3);
   }
 
-  pub zero_dropped_all : (list : List (List Sign)) → AreAllOf (IsZeroDropped e members) list → AreAllOf (IsZeroWithout n e (Contains members)) list
+  pub zero_dropped_all : (list : List (List Sign)) → AreAllOf (IsZeroDropped e members) list
+      → AreAllOf (IsZeroWithout n e (Contains members)) list
   zero_dropped_all list all = record {
     sound = λ X c. let w = all.sound X c in (w.0, length_of w.0 w.1, w.1, w.2.0, w.2.1);
     complete = λ X w. all.complete X (w.0, w.2, (w.3, w.4));
   }
 
   module _ (k : ℕ) (less : k + 1 ≡ n) (list : List (List Sign)) where
-    shorter_members : ((X : List Sign) → Contains list X → (W : List Sign) × (length W ≡ n) × (remove W (e - 1) ≡ X)) → HaveLength k list
+    shorter_members : ((X : List Sign) → Contains list X → (W : List Sign) × (length W ≡ n) × (remove W (e - 1) ≡ X))
+        → HaveLength k list
     shorter_members from j d l =
         let w = from (slice_index_or list j d) (All-contains_itself list j d l) in
         let size = shorter_of n e low high (slice_index_or list j d) w.0 w.1 w.2 in

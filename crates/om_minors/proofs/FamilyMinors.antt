@@ -1,8 +1,8 @@
 -- Minors and reorientations of families of sign vectors, and of their duals.
 --
--- Main results: what is a deletion, a contraction, a reorientation or a dual is one of families that denote the same (deletion_same,
--- contraction_same, reorientation_same, dual_between); the dual of a deletion is the contraction of the dual (dual_contraction);
--- chirotopes with the covectors of a contraction and of a reorientation
+-- Main results: what is a deletion, a contraction, a reorientation or a dual is one of families that denote the same
+-- (deletion_same, contraction_same, reorientation_same, dual_between); the dual of a deletion is the contraction of the
+-- dual (dual_contraction); chirotopes with the covectors of a contraction and of a reorientation
 -- (contraction_exists, reorientation_exists).
 -- Reference: Björner, Las Vergnas, Sturmfels, White and Ziegler, Oriented Matroids, chapters 3 and 4.
 use Rattle.std.specs.Prelude.{ℕ, ◌≡◌, ◌+◌, ◌-◌, ◌<◌, ◌≤◌, List, length, refl, true}
@@ -32,7 +32,8 @@ use Rattle.om_minors.proofs.Turning.{reoriented_axioms, is_reorientation}
 pub the_same : (n : ℕ) (P : List Sign → Type 0) → DenoteTheSame n P P
 the_same n P X l = (λ x. x, λ x. x)
 
-pub deletion_same : (n k e : ℕ) (P Q A B : List Sign → Type 0) → k + 1 ≡ n → DenoteTheSame n P A → DenoteTheSame k Q B → IsDeletion n e A B → IsDeletion n e P Q
+pub deletion_same : (n k e : ℕ) (P Q A B : List Sign → Type 0) → k + 1 ≡ n → DenoteTheSame n P A → DenoteTheSame k Q B
+    → IsDeletion n e A B → IsDeletion n e P Q
 deletion_same n k e P Q A B size a b h X l = of_size (omega arith)
   where
     of_size : length X ≡ k → (Q X → IsWithout n e P X) × (IsWithout n e P X → Q X)
@@ -41,7 +42,8 @@ deletion_same n k e P Q A B size a b h X l = of_size (omega arith)
       λ w. (b X lx).1 ((h X l).1 (w.0, w.1, (a w.0 w.1).0 w.2, w.3)),
     )
 
-pub contraction_same : (n k e : ℕ) (P Q A B : List Sign → Type 0) → k + 1 ≡ n → DenoteTheSame n P A → DenoteTheSame k Q B → IsContraction n e A B → IsContraction n e P Q
+pub contraction_same : (n k e : ℕ) (P Q A B : List Sign → Type 0) → k + 1 ≡ n → DenoteTheSame n P A
+    → DenoteTheSame k Q B → IsContraction n e A B → IsContraction n e P Q
 contraction_same n k e P Q A B size a b h X l = of_size (omega arith)
   where
     of_size : length X ≡ k → (Q X → IsZeroWithout n e P X) × (IsZeroWithout n e P X → Q X)
@@ -50,12 +52,14 @@ contraction_same n k e P Q A B size a b h X l = of_size (omega arith)
       λ w. (b X lx).1 ((h X l).1 (w.0, w.1, (a w.0 w.1).0 w.2, w.3, w.4)),
     )
 
-pub reorientation_same : (mask n : ℕ) (P Q A B : List Sign → Type 0) → DenoteTheSame n P A → DenoteTheSame n Q B → IsReorientation n mask A B → IsReorientation n mask P Q
+pub reorientation_same : (mask n : ℕ) (P Q A B : List Sign → Type 0) → DenoteTheSame n P A → DenoteTheSame n Q B
+    → IsReorientation n mask A B → IsReorientation n mask P Q
 reorientation_same mask n P Q A B a b h X l =
     let size = length-flip mask X ∙ l in
     (λ q. (a (flip mask X) size).1 ((h X l).0 ((b X l).0 q)), λ p. (b X l).1 ((h X l).1 ((a (flip mask X) size).0 p)))
 
-pub dual_between : (n : ℕ) (P Q A B : List Sign → Type 0) → DenoteTheSame n P A → DenoteTheSame n Q B → IsDual n P Q → IsDual n A B
+pub dual_between : (n : ℕ) (P Q A B : List Sign → Type 0) → DenoteTheSame n P A → DenoteTheSame n Q B → IsDual n P Q
+    → IsDual n A B
 dual_between n P Q A B a b dual Y l = (
   λ y X lx x. (dual Y l).0 ((b Y l).1 y) X lx ((a X lx).1 x),
   λ all. (b Y l).0 ((dual Y l).1 (λ X lx x. all X lx ((a X lx).0 x))),
@@ -63,7 +67,8 @@ dual_between n P Q A B a b dual Y l = (
 
 -- ---- duals of minors
 
-module _ (n e : ℕ) (low : 1 ≤ e) (high : e ≤ n) (P P' Q Q' : List Sign → Type 0) (dual : IsDual n P P') (less : IsDual (n - 1) Q Q') (deletion : IsDeletion n e P Q) where
+module _ (n e : ℕ) (low : 1 ≤ e) (high : e ≤ n) (P P' Q Q' : List Sign → Type 0) (dual : IsDual n P P')
+    (less : IsDual (n - 1) Q Q') (deletion : IsDeletion n e P Q) where
   -- what is orthogonal to the deletion is orthogonal to the whole with a zero at e
   zero_at : (X : List Sign) → length X + 1 ≡ n → Q' X → IsZeroWithout n e P' X
   zero_at X l x =
@@ -77,8 +82,10 @@ module _ (n e : ℕ) (low : 1 ≤ e) (high : e ≤ n) (P P' Q Q' : List Sign →
       let inside : e - 1 < length W = omega (arith, lw, low, high) in
       let fewer : length (remove W (e - 1)) + 1 ≡ n = length-remove W (e - 1) inside ∙ lw in
       let smaller : length (remove W (e - 1)) ≡ n - 1 = omega (arith, fewer) in
-      let part = (less X short).0 x (remove W (e - 1)) smaller ((deletion (remove W (e - 1)) fewer).1 (W, lw, w, refl)) in
-      orthogonal_turned W (insert X (e - 1) Zero) (orthogonal_restored W (insert X (e - 1) Zero) (e - 1) inside (size ∙ sym lw) gone
+      let part = (less X short).0 x (remove W (e - 1)) smaller ((deletion (remove W (e - 1)) fewer).1 (W, lw, w, refl))
+      in
+      orthogonal_turned W (insert X (e - 1) Zero)
+      (orthogonal_restored W (insert X (e - 1) Zero) (e - 1) inside (size ∙ sym lw) gone
       (subst (IsOrthogonal (remove W (e - 1))) (sym back) (orthogonal_turned X (remove W (e - 1)) part))) in
       (insert X (e - 1) Zero, size, (dual (insert X (e - 1) Zero) size).1 each, gone, back)
 
@@ -89,7 +96,9 @@ module _ (n e : ℕ) (low : 1 ≤ e) (high : e ≤ n) (P P' Q Q' : List Sign →
       orthogonal Z (W, lw, w, s) =
           let inside : e - 1 < length W = omega (arith, lw, low, high) in
           subst (IsOrthogonal X) s (subst (λ U. IsOrthogonal U (remove W (e - 1))) r
-          (orthogonal_turned (remove W (e - 1)) (remove V (e - 1)) (orthogonal_removed W V (e - 1) inside (lv ∙ sym lw) gone (orthogonal_turned V W ((dual V lv).0 v W lw w)))))
+          (orthogonal_turned (remove W (e - 1)) (remove V (e - 1))
+          (orthogonal_removed W V (e - 1) inside (lv ∙ sym lw) gone
+          (orthogonal_turned V W ((dual V lv).0 v W lw w)))))
 
       of_size : length X ≡ n - 1 → Q' X
       of_size short = (less X short).1 (λ Z lz z. orthogonal Z ((deletion Z (omega (arith, lz, low, high))).0 z))
@@ -100,21 +109,35 @@ module _ (n e : ℕ) (low : 1 ≤ e) (high : e ≤ n) (P P' Q Q' : List Sign →
 -- ---- chirotopes with these covectors
 
 pub contraction_exists : (m : SignMap) → IsChirotope m → (e : ℕ) → 2 ≤ m.elements → 1 ≤ e → e ≤ m.elements
-    → (d : SignMap) × IsChirotope d × (d.elements ≡ m.elements - 1) × IsContraction m.elements e (IsCovectorOfChirotope m) (IsCovectorOfChirotope d)
+    → (d : SignMap) × IsChirotope d × (d.elements ≡ m.elements - 1)
+    × IsContraction m.elements e (IsCovectorOfChirotope m) (IsCovectorOfChirotope d)
 contraction_exists m om e several low high = ⊎_elim
     (λ b.
     let o = contracted_axioms m om e several low high b in
-    let d = normal_exists (contracted e m) o in
-    (d.0, normal_axioms (contracted e m) d.0 o d.1, normal_elements (contracted e m) d.0 d.1, contraction_at m om e several low high d.0 b d.1))
+    let d = normal_exists (contracted e m) o in (
+      d.0,
+      normal_axioms (contracted e m) d.0 o d.1,
+      normal_elements (contracted e m) d.0 d.1,
+      contraction_at m om e several low high d.0 b d.1,
+    ))
     (λ none.
     let o = deleted_axioms m om e several low high (basis_without m om e none) in
-    let d = normal_exists (deleted e m) o in
-    (d.0, normal_axioms (deleted e m) d.0 o d.1, normal_elements (deleted e m) d.0 d.1, loop_contraction m om e several low high d.0 none d.1))
+    let d = normal_exists (deleted e m) o in (
+      d.0,
+      normal_axioms (deleted e m) d.0 o d.1,
+      normal_elements (deleted e m) d.0 d.1,
+      loop_contraction m om e several low high d.0 none d.1,
+    ))
     (decide_basis m e true)
 
 pub reorientation_exists : (m : SignMap) → IsChirotope m → (mask : ℕ)
-    → (d : SignMap) × IsChirotope d × (d.elements ≡ m.elements) × IsReorientation m.elements mask (IsCovectorOfChirotope m) (IsCovectorOfChirotope d)
+    → (d : SignMap) × IsChirotope d × (d.elements ≡ m.elements)
+    × IsReorientation m.elements mask (IsCovectorOfChirotope m) (IsCovectorOfChirotope d)
 reorientation_exists m om mask =
     let o = reoriented_axioms m om mask in
-    let d = normal_exists (reoriented_on mask m) o in
-    (d.0, normal_axioms (reoriented_on mask m) d.0 o d.1, normal_elements (reoriented_on mask m) d.0 d.1, is_reorientation m om mask d.0 d.1)
+    let d = normal_exists (reoriented_on mask m) o in (
+      d.0,
+      normal_axioms (reoriented_on mask m) d.0 o d.1,
+      normal_elements (reoriented_on mask m) d.0 d.1,
+      is_reorientation m om mask d.0 d.1,
+    )

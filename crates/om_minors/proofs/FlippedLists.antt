@@ -1,8 +1,9 @@
 -- Lists of signs that are negated at the elements of a mask.
 --
--- Main results: twice on one mask gives the list back (flip_twice); nonzero places and supports stay (nonzero_flipped, support_flipped), and so does
--- orthogonality where both lists are negated (orthogonal_flipped); the members of least support of a reorientation (least_flipped), and its dual
--- (dual_reorientation); the members of a list, each negated (contains_flipped, flipped_distinct).
+-- Main results: twice on one mask gives the list back (flip_twice); nonzero places and supports stay (nonzero_flipped,
+-- support_flipped), and so does orthogonality where both lists are negated (orthogonal_flipped); the members of least
+-- support of a reorientation (least_flipped), and its dual (dual_reorientation); the members of a list, each negated
+-- (contains_flipped, flipped_distinct).
 -- Reference: Björner, Las Vergnas, Sturmfels, White and Ziegler, Oriented Matroids, chapter 3.
 use Rattle.std.specs.Prelude.{ℕ, ◌≡◌, ◌↔◌, ◌+◌, ◌-◌, ◌<◌, List, length, map, cond, nat_eq, Bool, true, false, refl}
 use Rattle.std.specs.Int.{bit_at}
@@ -44,12 +45,14 @@ module _ (mask : ℕ) where
   pub length-flip : (X : List Sign) → length (flip mask X) ≡ length X
   length-flip X = length-flip_from 0 mask X
 
-  at-flip : (X : List Sign) (i : ℕ) → at (flip mask X) i ≡ cond (nat_eq (bit_at mask (0 + i)) 1) (opposite (at X i)) (at X i)
+  at-flip : (X : List Sign) (i : ℕ)
+      → at (flip mask X) i ≡ cond (nat_eq (bit_at mask (0 + i)) 1) (opposite (at X i)) (at X i)
   at-flip X i = at-flip_from 0 mask X i
 
   pub flip_twice : (X : List Sign) → flip mask (flip mask X) ≡ X
   flip_twice X = ext_get_or Zero (flip mask (flip mask X)) X (length-flip (flip mask X) ∙ length-flip X) (λ i lt.
-      at-flip (flip mask X) i ∙ ap (λ s. cond (nat_eq (bit_at mask (0 + i)) 1) (opposite s) s) (at-flip X i) ∙ twice_turned (nat_eq (bit_at mask (0 + i)) 1) (at X i))
+      at-flip (flip mask X) i ∙ ap (λ s. cond (nat_eq (bit_at mask (0 + i)) 1) (opposite s) s) (at-flip X i)
+      ∙ twice_turned (nat_eq (bit_at mask (0 + i)) 1) (at X i))
 
   zero_flipped : (X : List Sign) (i : ℕ) → at X i ≡ Zero → at (flip mask X) i ≡ Zero
   zero_flipped X i z = at-flip X i ∙ zero_turned (nat_eq (bit_at mask (0 + i)) 1) (at X i) z
@@ -70,7 +73,8 @@ module _ (mask : ℕ) where
   support_from_right : (X Y : List Sign) → HasSupportIn X (flip mask Y) → HasSupportIn (flip mask X) Y
   support_from_right X Y h e z = zero_flipped X (e - 1) (h e (zero_flipped Y (e - 1) z))
 
-  product_flipped : (X Y : List Sign) (i : ℕ) → product (at (flip mask X) i) (at (flip mask Y) i) ≡ product (at X i) (at Y i)
+  product_flipped : (X Y : List Sign) (i : ℕ) → product (at (flip mask X) i) (at (flip mask Y) i)
+      ≡ product (at X i) (at Y i)
   product_flipped X Y i = ap (λ s. product s (at (flip mask Y) i)) (at-flip X i)
       ∙ ap (product (cond (nat_eq (bit_at mask (0 + i)) 1) (opposite (at X i)) (at X i))) (at-flip Y i)
       ∙ both_turned (nat_eq (bit_at mask (0 + i)) 1) (at X i) (at Y i)
@@ -82,7 +86,8 @@ module _ (mask : ℕ) where
   flipped X Y s (i, p) = (i, product_flipped X Y i ∙ p)
 
   orthogonal_flipped : (X Y : List Sign) → IsOrthogonal X Y → IsOrthogonal (flip mask X) (flip mask Y)
-  orthogonal_flipped X Y o = (λ p. flipped X Y _ (o.0 (unflipped X Y _ p)), λ p. flipped X Y _ (o.1 (unflipped X Y _ p)))
+  orthogonal_flipped X Y o =
+      (λ p. flipped X Y _ (o.0 (unflipped X Y _ p)), λ p. flipped X Y _ (o.1 (unflipped X Y _ p)))
 
   -- ---- reorientations
 
@@ -97,13 +102,16 @@ module _ (mask : ℕ) where
         λ x. record {
           member = (reorientation X (sizes X x.member)).0 x.member;
           nonzero = nonzero_flipped X x.nonzero;
-          least = λ Y y k sub. support_from_right X Y (x.least (flip mask Y) (flipped_member Y (size Y y) y) (nonzero_flipped Y k) (support_from_right Y X sub));
+          least = λ Y y k sub. support_from_right X Y
+              (x.least (flip mask Y) (flipped_member Y (size Y y) y) (nonzero_flipped Y k)
+              (support_from_right Y X sub));
         },
         λ x. record {
           member = (reorientation X (sym (length-flip X) ∙ size (flip mask X) x.member)).1 x.member;
           nonzero = subst HasNonzero (flip_twice X) (nonzero_flipped (flip mask X) x.nonzero);
           least = λ Y y k sub.
-              let back = x.least (flip mask Y) ((reorientation Y (sizes Y y)).0 y) (nonzero_flipped Y k) (support_flipped Y X sub) in
+              let back = x.least (flip mask Y) ((reorientation Y (sizes Y y)).0 y) (nonzero_flipped Y k)
+              (support_flipped Y X sub) in
               subst (HasSupportIn X) (flip_twice Y) (support_from_left X (flip mask Y) back);
         },
       )
@@ -111,29 +119,46 @@ module _ (mask : ℕ) where
     pub dual_reorientation : (P' Q' : List Sign → Type 0) → IsDual n P P' → IsDual n Q Q' → IsReorientation n mask P' Q'
     dual_reorientation P' Q' dual other X l = (
       λ x. (dual (flip mask X) (length-flip X ∙ l)).1 (λ W lw w. subst (IsOrthogonal (flip mask X)) (flip_twice W)
-          (orthogonal_flipped X (flip mask W) ((other X l).0 x (flip mask W) (length-flip W ∙ lw) (flipped_member W lw w)))),
-      λ x. (other X l).1 (λ Z lz z. subst (λ V. IsOrthogonal V Z) (flip_twice X) (subst (IsOrthogonal (flip mask (flip mask X))) (flip_twice Z)
-          (orthogonal_flipped (flip mask X) (flip mask Z) ((dual (flip mask X) (length-flip X ∙ l)).0 x (flip mask Z) (length-flip Z ∙ lz) ((reorientation Z lz).0 z))))),
+          (orthogonal_flipped X (flip mask W)
+          ((other X l).0 x (flip mask W) (length-flip W ∙ lw) (flipped_member W lw w)))),
+      λ x. (other X l).1
+          (λ Z lz z. subst (λ V. IsOrthogonal V Z) (flip_twice X)
+          (subst (IsOrthogonal (flip mask (flip mask X))) (flip_twice Z)
+          (orthogonal_flipped (flip mask X) (flip mask Z)
+          ((dual (flip mask X) (length-flip X ∙ l)).0 x (flip mask Z) (length-flip Z ∙ lz)
+          ((reorientation Z lz).0 z))))),
     )
 
   -- ---- the members of a list
 
-  pub flipped_contains : (members : List (List Sign)) (X : List Sign) → Contains (map (flip mask) members) X → Contains members (flip mask X)
+  pub flipped_contains : (members : List (List Sign)) (X : List Sign) → Contains (map (flip mask) members) X
+      → Contains members (flip mask X)
   flipped_contains members X (k, l, q) =
-      let inner : k < length members = subst (λ n. k < n) (length-map members (flip mask)) l in
-      (k, inner, sym (flip_twice (get_or members k (flip mask X))) ∙ ap (flip mask) (sym (get_or-map (flip mask) members k (flip mask X) X inner) ∙ q))
+      let inner : k < length members = subst (λ n. k < n) (length-map members (flip mask)) l in (
+        k,
+        inner,
+        sym (flip_twice (get_or members k (flip mask X)))
+            ∙ ap (flip mask) (sym (get_or-map (flip mask) members k (flip mask X) X inner) ∙ q),
+      )
 
-  pub contains_flipped : (members : List (List Sign)) (X : List Sign) → Contains members (flip mask X) → Contains (map (flip mask) members) X
-  contains_flipped members X (k, l, q) =
-      (k, subst (λ n. k < n) (sym (length-map members (flip mask))) l, get_or-map (flip mask) members k (flip mask X) X l ∙ ap (flip mask) q ∙ flip_twice X)
+  pub contains_flipped : (members : List (List Sign)) (X : List Sign) → Contains members (flip mask X)
+      → Contains (map (flip mask) members) X
+  contains_flipped members X (k, l, q) = (
+    k,
+    subst (λ n. k < n) (sym (length-map members (flip mask))) l,
+    get_or-map (flip mask) members k (flip mask X) X l ∙ ap (flip mask) q ∙ flip_twice X,
+  )
 
   pub flipped_distinct : (members : List (List Sign)) → AreDistinct members → AreDistinct (map (flip mask) members)
   flipped_distinct members distinct i j d before l q =
       let later : j < length members = subst (λ n. j < n) (length-map members (flip mask)) l in
       let earlier : i < length members = omega arith in
-      distinct i j d before later (sym (flip_twice (get_or members i d)) ∙ ap (flip mask) (sym (get_or-map (flip mask) members i d d earlier) ∙ q ∙ get_or-map (flip mask) members j d d later) ∙ flip_twice (get_or members j d))
+      distinct i j d before later (sym (flip_twice (get_or members i d))
+      ∙ ap (flip mask) (sym (get_or-map (flip mask) members i d d earlier) ∙ q
+      ∙ get_or-map (flip mask) members j d d later) ∙ flip_twice (get_or members j d))
 
-  pub flipped_lengths : (n : ℕ) (members : List (List Sign)) → All (λ X. length X ≡ n) members → All (λ X. length X ≡ n) (map (flip mask) members)
+  pub flipped_lengths : (n : ℕ) (members : List (List Sign)) → All (λ X. length X ≡ n) members
+      → All (λ X. length X ≡ n) (map (flip mask) members)
   flipped_lengths n members lengths k d l =
       let inner : k < length members = subst (λ m. k < m) (length-map members (flip mask)) l in
       ap length (get_or-map (flip mask) members k d d inner) ∙ length-flip (get_or members k d) ∙ lengths k d inner

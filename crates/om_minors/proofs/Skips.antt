@@ -26,19 +26,26 @@ skip_avoids e (x ∷ t) (inl q) = elim (cases_lt x e) [
 skip_avoids e (x ∷ t) (inr h) = skip_avoids e t h
 
 -- the value of a list that avoids e with e behind it, by the sign of the list with e
-pub behind_even : (m : SignMap) (e : ℕ) (xs a w : List ℕ) (s : Sign) → a ≡ map (skip e) xs → IsSubsetFrom 1 m.elements a → w ≡ with_element e a → IsSubsetFrom 1 m.elements w → (count_above e a % 2 ≡ 1 → ⊥) → s ≡ value_of m w → s ≡ contraction e (value_of m) xs
+pub behind_even : (m : SignMap) (e : ℕ) (xs a w : List ℕ) (s : Sign) → a ≡ map (skip e) xs → IsSubsetFrom 1 m.elements a
+    → w ≡ with_element e a → IsSubsetFrom 1 m.elements w → (count_above e a % 2 ≡ 1 → ⊥) → s ≡ value_of m w
+    → s ≡ contraction e (value_of m) xs
 behind_even m e xs a w s qa ha qw hw even v =
     v ∙ ap (value_of m) qw
-    ∙ along_even 1 m.elements e (chi_of m) a ha (subst (IsSubsetFrom 1 m.elements) qw hw) (λ k. skip_avoids e xs (subst (IsMember e) qa k)) even
+    ∙ along_even 1 m.elements e (chi_of m) a ha (subst (IsSubsetFrom 1 m.elements) qw hw)
+    (λ k. skip_avoids e xs (subst (IsMember e) qa k)) even
     ∙ ap (λ t. value_of m (t ++ e ∷ [])) qa
 
-pub behind_odd : (m : SignMap) (e : ℕ) (xs a w : List ℕ) (s : Sign) → a ≡ map (skip e) xs → IsSubsetFrom 1 m.elements a → w ≡ with_element e a → IsSubsetFrom 1 m.elements w → count_above e a % 2 ≡ 1 → s ≡ opposite (value_of m w) → s ≡ contraction e (value_of m) xs
+pub behind_odd : (m : SignMap) (e : ℕ) (xs a w : List ℕ) (s : Sign) → a ≡ map (skip e) xs → IsSubsetFrom 1 m.elements a
+    → w ≡ with_element e a → IsSubsetFrom 1 m.elements w → count_above e a % 2 ≡ 1 → s ≡ opposite (value_of m w)
+    → s ≡ contraction e (value_of m) xs
 behind_odd m e xs a w s qa ha qw hw odd v =
     v ∙ ap (λ t. opposite (value_of m t)) qw
-    ∙ along_odd 1 m.elements e (chi_of m) a ha (subst (IsSubsetFrom 1 m.elements) qw hw) (λ k. skip_avoids e xs (subst (IsMember e) qa k)) odd
+    ∙ along_odd 1 m.elements e (chi_of m) a ha (subst (IsSubsetFrom 1 m.elements) qw hw)
+    (λ k. skip_avoids e xs (subst (IsMember e) qa k)) odd
     ∙ ap (λ t. value_of m (t ++ e ∷ [])) qa
 
-pub behind_size : (e : ℕ) (xs a w : List ℕ) (r : ℕ) → a ≡ map (skip e) xs → w ≡ with_element e a → length a ≡ r - 1 → 1 ≤ r → length w ≡ r
+pub behind_size : (e : ℕ) (xs a w : List ℕ) (r : ℕ) → a ≡ map (skip e) xs → w ≡ with_element e a → length a ≡ r - 1
+    → 1 ≤ r → length w ≡ r
 behind_size e xs a w r qa qw l low =
     let k = length-with e a (λ h. skip_avoids e xs (subst (IsMember e) qa h)) in
     ap length qw ∙ omega (arith, k, l, low)

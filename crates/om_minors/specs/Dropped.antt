@@ -7,14 +7,14 @@ use Rattle.om_signs.specs.declared.sign.Sign.{Sign}
 use Rattle.om_signs.specs.declared.sign.Sign.TheVariants.{Zero}
 use Rattle.om_signs.specs.SignVec.{at_element}
 
--- each vector has the place of e, and another one
+-- each vector has the place of e, and at least two places
 abbrev pub HavePlace : ℕ → List (List Sign) → Type 0
 HavePlace e vectors = All (λ X. (e ≤ length X) × (2 ≤ length X)) vectors
 
--- some vector of the list is X with the place of e dropped
+-- X is some vector of the list with the place of e dropped
 abbrev pub IsDropped : ℕ → List (List Sign) → List Sign → Type 0
 IsDropped e vectors X = (W : List Sign) × Contains vectors W × (remove W (e - 1) ≡ X)
 
--- some vector of the list that is zero at e is X with the place of e dropped
+-- X is some vector of the list that is zero at e, with the place of e dropped
 abbrev pub IsZeroDropped : ℕ → List (List Sign) → List Sign → Type 0
 IsZeroDropped e vectors X = (W : List Sign) × Contains vectors W × ((at_element W e ≡ Zero) × (remove W (e - 1) ≡ X))

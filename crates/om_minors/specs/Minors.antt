@@ -12,7 +12,7 @@ use Rattle.om_denotation.specs.Maps.{map_by}
 abbrev pub deleted : ℕ → SignMap → SignMap
 deleted e m = map_by m.rank (m.elements - 1) (deletion e (value_of m))
 
--- the values of the tuples with e at their end, with the elements after e moved down by one
+-- the values of the tuples that end with e, with the elements after e moved down by one
 abbrev pub contracted : ℕ → SignMap → SignMap
 contracted e m = map_by (m.rank - 1) (m.elements - 1) (contraction e (value_of m))
 
@@ -20,6 +20,6 @@ contracted e m = map_by (m.rank - 1) (m.elements - 1) (contraction e (value_of m
 abbrev pub names : ℕ → ℕ → Bool
 names mask e = nat_eq (bit_at mask (e - 1)) 1
 
--- the signs, each negated once for each element of the list that the mask names
+-- the signs, each negated once for each element of its list that the mask names
 abbrev pub reoriented_on : ℕ → SignMap → SignMap
 reoriented_on mask m = map_by m.rank m.elements (reoriented (names mask) (chi_of m))

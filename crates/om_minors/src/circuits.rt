@@ -13,10 +13,11 @@ use super::signed_sets::{least_part, reoriented, zero_part};
 use om_circuits::Circuits;
 use std::alloc::Global;
 
-/// The circuits of the deletion of e, from 1 to n, for the number n of elements: the circuits that are 0 at e, without
-/// their sign there. The elements after e are moved down by one. The list takes its memory from `alloc`.
+/// The circuits of the deletion of e: the circuits that are 0 at e, without their sign there. The elements after e
+/// are moved down by one, and e is from 1 to the number of elements. Memory for the list comes from `alloc`.
 ///
-/// [`MinorError::LastElement`] comes exactly where n is 1, and [`MinorError::Memory`] only for want of memory.
+/// [`MinorError::LastElement`] comes exactly if there is only one element, and [`MinorError::Memory`] only if
+/// memory runs out.
 ///
 /// Source: Björner, Las Vergnas, Sturmfels, White and Ziegler, *Oriented Matroids*, chapter 3.
 pub fn delete_circuits(alloc: Global, c: &Circuits, e: u8) -> Result<Circuits, MinorError>
@@ -36,11 +37,12 @@ pub fn delete_circuits(alloc: Global, c: &Circuits, e: u8) -> Result<Circuits, M
     Ok(Circuits(zero_part(alloc, &c.0, e)?))
 }
 
-/// The circuits of the contraction of e, from 1 to n, for the number n of elements: those of minimal support among the
-/// circuits without their sign at e that are not zero, each once. The elements after e are moved down by one. The list
-/// takes its memory from `alloc`.
+/// The circuits of the contraction of e: the nonzero vectors of minimal support among the circuits without their
+/// sign at e, each once. The elements after e are moved down by one, and e is from 1 to the number of elements.
+/// Memory for the list comes from `alloc`.
 ///
-/// [`MinorError::LastElement`] comes exactly where n is 1, and [`MinorError::Memory`] only for want of memory.
+/// [`MinorError::LastElement`] comes exactly if there is only one element, and [`MinorError::Memory`] only if
+/// memory runs out.
 ///
 /// Source: Björner, Las Vergnas, Sturmfels, White and Ziegler, *Oriented Matroids*, chapter 3.
 pub fn contract_circuits(alloc: Global, c: &Circuits, e: u8) -> Result<Circuits, MinorError>
@@ -60,9 +62,9 @@ pub fn contract_circuits(alloc: Global, c: &Circuits, e: u8) -> Result<Circuits,
     Ok(Circuits(least_part(alloc, &c.0, e)?))
 }
 
-/// The circuits of the reorientation on the elements of a mask, whose bit e - 1 stands for e: the circuits with their signs
-/// at these elements negated, in their order. The mask names elements from 1 to n, for the number n of elements. It takes
-/// no memory.
+/// The circuits of the reorientation of the elements of a mask: the circuits with their signs at these elements
+/// negated, in their order. The mask names elements of the oriented matroid: its bit e - 1 stands for element e.
+/// The call allocates no memory.
 ///
 /// Source: Björner, Las Vergnas, Sturmfels, White and Ziegler, *Oriented Matroids*, chapter 3.
 pub fn reorient_circuits(c: Circuits, mask: u32) -> Circuits

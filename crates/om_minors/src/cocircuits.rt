@@ -13,11 +13,12 @@ use super::signed_sets::{least_part, reoriented, zero_part};
 use om_circuits::Cocircuits;
 use std::alloc::Global;
 
-/// The cocircuits of the deletion of e, from 1 to n, for the number n of elements: those of minimal support among the
-/// cocircuits without their sign at e that are not zero, each once. The elements after e are moved down by one. The list
-/// takes its memory from `alloc`.
+/// The cocircuits of the deletion of e: the nonzero vectors of minimal support among the cocircuits without their
+/// sign at e, each once. The elements after e are moved down by one, and e is from 1 to the number of elements.
+/// Memory for the list comes from `alloc`.
 ///
-/// [`MinorError::LastElement`] comes exactly where n is 1, and [`MinorError::Memory`] only for want of memory.
+/// [`MinorError::LastElement`] comes exactly if there is only one element, and [`MinorError::Memory`] only if
+/// memory runs out.
 ///
 /// Source: Björner, Las Vergnas, Sturmfels, White and Ziegler, *Oriented Matroids*, chapter 3.
 pub fn delete_cocircuits(alloc: Global, c: &Cocircuits, e: u8) -> Result<Cocircuits, MinorError>
@@ -37,10 +38,12 @@ pub fn delete_cocircuits(alloc: Global, c: &Cocircuits, e: u8) -> Result<Cocircu
     Ok(Cocircuits(least_part(alloc, &c.0, e)?))
 }
 
-/// The cocircuits of the contraction of e, from 1 to n, for the number n of elements: the cocircuits that are 0 at e,
-/// without their sign there. The elements after e are moved down by one. The list takes its memory from `alloc`.
+/// The cocircuits of the contraction of e: the cocircuits that are 0 at e, without their sign there. The elements
+/// after e are moved down by one, and e is from 1 to the number of elements. Memory for the list comes from
+/// `alloc`.
 ///
-/// [`MinorError::LastElement`] comes exactly where n is 1, and [`MinorError::Memory`] only for want of memory.
+/// [`MinorError::LastElement`] comes exactly if there is only one element, and [`MinorError::Memory`] only if
+/// memory runs out.
 ///
 /// Source: Björner, Las Vergnas, Sturmfels, White and Ziegler, *Oriented Matroids*, chapter 3.
 pub fn contract_cocircuits(alloc: Global, c: &Cocircuits, e: u8) -> Result<Cocircuits, MinorError>
@@ -60,9 +63,9 @@ pub fn contract_cocircuits(alloc: Global, c: &Cocircuits, e: u8) -> Result<Cocir
     Ok(Cocircuits(zero_part(alloc, &c.0, e)?))
 }
 
-/// The cocircuits of the reorientation on the elements of a mask, whose bit e - 1 stands for e: the cocircuits with their
-/// signs at these elements negated, in their order. The mask names elements from 1 to n, for the number n of elements. It
-/// takes no memory.
+/// The cocircuits of the reorientation of the elements of a mask: the cocircuits with their signs at these elements
+/// negated, in their order. The mask names elements of the oriented matroid: its bit e - 1 stands for element e.
+/// The call allocates no memory.
 ///
 /// Source: Björner, Las Vergnas, Sturmfels, White and Ziegler, *Oriented Matroids*, chapter 3.
 pub fn reorient_cocircuits(c: Cocircuits, mask: u32) -> Cocircuits

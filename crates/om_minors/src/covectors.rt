@@ -13,10 +13,11 @@ use super::minor_error::MinorError;
 use om_covectors::Covectors;
 use std::alloc::Global;
 
-/// The covectors of the deletion of e, from 1 to n, for the number n of elements: the covectors without their sign at e,
-/// each once. The elements after e are moved down by one. The list takes its memory from `alloc`.
+/// The covectors of the deletion of e: the covectors without their sign at e, each once. The elements after e are
+/// moved down by one, and e is from 1 to the number of elements. Memory for the list comes from `alloc`.
 ///
-/// [`MinorError::LastElement`] comes exactly where n is 1, and [`MinorError::Memory`] only for want of memory.
+/// [`MinorError::LastElement`] comes exactly if there is only one element, and [`MinorError::Memory`] only if
+/// memory runs out.
 ///
 /// Source: Björner, Las Vergnas, Sturmfels, White and Ziegler, *Oriented Matroids*, chapters 3 and 4.
 pub fn delete_covectors(alloc: Global, c: &Covectors, e: u8) -> Result<Covectors, MinorError>
@@ -37,10 +38,12 @@ pub fn delete_covectors(alloc: Global, c: &Covectors, e: u8) -> Result<Covectors
     Ok(Covectors::lawful(elements - 1, list))
 }
 
-/// The covectors of the contraction of e, from 1 to n, for the number n of elements: the covectors that are 0 at e, without
-/// their sign there. The elements after e are moved down by one. The list takes its memory from `alloc`.
+/// The covectors of the contraction of e: the covectors that are 0 at e, without their sign there. The elements
+/// after e are moved down by one, and e is from 1 to the number of elements. Memory for the list comes from
+/// `alloc`.
 ///
-/// [`MinorError::LastElement`] comes exactly where n is 1, and [`MinorError::Memory`] only for want of memory.
+/// [`MinorError::LastElement`] comes exactly if there is only one element, and [`MinorError::Memory`] only if
+/// memory runs out.
 ///
 /// Source: Björner, Las Vergnas, Sturmfels, White and Ziegler, *Oriented Matroids*, chapters 3 and 4.
 pub fn contract_covectors(alloc: Global, c: &Covectors, e: u8) -> Result<Covectors, MinorError>
@@ -61,9 +64,9 @@ pub fn contract_covectors(alloc: Global, c: &Covectors, e: u8) -> Result<Covecto
     Ok(Covectors::lawful(elements - 1, list))
 }
 
-/// The covectors of the reorientation on the elements of a mask, whose bit e - 1 stands for e: the covectors with their
-/// signs at these elements negated, in their order. The mask names elements from 1 to n, for the number n of elements. It
-/// takes no memory.
+/// The covectors of the reorientation of the elements of a mask: the covectors with their signs at these elements
+/// negated, in their order. The mask names elements of the oriented matroid: its bit e - 1 stands for element e.
+/// The call allocates no memory.
 ///
 /// Source: Björner, Las Vergnas, Sturmfels, White and Ziegler, *Oriented Matroids*, chapter 3.
 pub fn reorient_covectors(c: Covectors, mask: u32) -> Covectors

@@ -9,7 +9,7 @@ use indexmap::IndexSet;
 use om_signs::{List, NoMemory, Sign, SignVec};
 use std::alloc::Global;
 
-/// The vectors without the place of e, each once, in the order in which they come first.
+/// The vectors without the place of e, each once, in the order in which they first occur.
 pub fn without_place(alloc: Global, vectors: &[SignVec], e: u8) -> Result<List<SignVec>, NoMemory>
     requires low { 1 ≤ e }
     requires places { HavePlace e vectors.now }
@@ -28,7 +28,7 @@ pub fn without_place(alloc: Global, vectors: &[SignVec], e: u8) -> Result<List<S
     Ok(list)
 }
 
-/// The vectors that are 0 at e, without this place, in their order.
+/// The vectors that are 0 at e, without this place, in their order. The vectors are distinct.
 pub fn zero_without_place(
     alloc: Global,
     vectors: &[SignVec],

@@ -1,4 +1,5 @@
-//! Laws of minors and reorientations. Each function is one theorem: it has an empty body, and its contract is the statement.
+//! Laws of minors and reorientations. Each function is a theorem: it has an empty body, and its contract is the
+//! statement.
 
 ghost use Rattle.std.specs.Prelude.{ℕ, ◌≡◌, ◌≤◌, ◌<◌, ◌-◌, ◌^◌};
 ghost use Rattle.om_chirotope.specs.Map.{SignMap};
@@ -8,8 +9,8 @@ ghost use Rattle.om_denotation.specs.Operations.{IsDual, IsDeletion, IsContracti
 ghost use Rattle.om_denotation.specs.Maps.{IsNormalFormOf};
 ghost use Rattle.om_minors.specs.Minors.{reoriented_on};
 
-/// Deletion in the dual is the dual of contraction: where D is the dual of M, K the contraction of M at e, and L the dual
-/// of K, all by their covectors, L is the deletion of e from D.
+/// Deletion from the dual is the dual of contraction. Let D be the dual of M, K the contraction of M at e, and L
+/// the dual of K, all in terms of covectors. Then L is the deletion of e from D.
 ///
 /// Source: Björner, Las Vergnas, Sturmfels, White and Ziegler, *Oriented Matroids*, chapter 3.
 pub fn deletion_and_contraction_are_dual()
@@ -20,7 +21,7 @@ pub fn deletion_and_contraction_are_dual()
         → IsDeletion m.elements e (IsCovectorOfChirotope d) (IsCovectorOfChirotope l) }
 {}
 
-/// Reorienting twice on one set gives the normal form back.
+/// Reorienting the same set twice gives the normal form of the chirotope.
 ///
 /// Source: Björner, Las Vergnas, Sturmfels, White and Ziegler, *Oriented Matroids*, chapter 3.
 pub fn reorientation_twice()

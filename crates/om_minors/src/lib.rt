@@ -1,8 +1,8 @@
 //! Deletion, contraction and reorientation of oriented matroids.
 //!
-//! [`delete_chirotope`] and [`contract_chirotope`] take a chirotope and an element and give the normal chirotope of the
-//! minor; [`reorient_chirotope`] gives that of the reorientation on a set of elements. The calls on circuits, on cocircuits
-//! and on covectors do the same with the members of a list.
+//! [`delete_chirotope`] and [`contract_chirotope`] take a chirotope and an element, and return the normal chirotope
+//! of the minor. [`reorient_chirotope`] returns that of the reorientation of a set of elements. The calls on
+//! circuits, on cocircuits and on covectors do the same with lists.
 //!
 //! Source of the notions: Björner, Las Vergnas, Sturmfels, White and Ziegler, *Oriented Matroids*, chapters 3 and 4.
 #![tactic(auto)]

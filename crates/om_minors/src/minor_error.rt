@@ -9,7 +9,7 @@ pub enum MinorError {
     /// The element is the only one, and an oriented matroid has at least one.
     #[error("the last element")]
     LastElement,
-    /// Want of memory.
+    /// Memory ran out.
     #[error("out of memory")]
     Memory,
 }

@@ -17,11 +17,12 @@ use om_signs::{NoMemory, Sign};
 use om_subsets::Subset;
 use std::alloc::Global;
 
-/// The normal chirotope of the deletion of e, from 1 to n, for the number n of elements: its covectors are the covectors
-/// without their sign at e. The elements after e are moved down by one. The rank stays, but at a coloop it is one less: the
-/// deletion of a coloop is its contraction. The signs take their memory from `alloc`.
+/// The normal chirotope of the deletion of e: its covectors are the covectors without their sign at e. The elements
+/// after e are moved down by one, and e is from 1 to the number of elements. The rank stays the same, except that
+/// the deletion of a coloop is its contraction, of one rank less. Memory for the signs comes from `alloc`.
 ///
-/// [`MinorError::LastElement`] comes exactly where n is 1, and [`MinorError::Memory`] only for want of memory.
+/// [`MinorError::LastElement`] comes exactly if there is only one element, and [`MinorError::Memory`] only if
+/// memory runs out.
 ///
 /// Source: Björner, Las Vergnas, Sturmfels, White and Ziegler, *Oriented Matroids*, chapters 3 and 4.
 pub fn delete_chirotope(alloc: Global, chi: &Chirotope, e: u8) -> Result<Chirotope, MinorError>
@@ -48,11 +49,13 @@ pub fn delete_chirotope(alloc: Global, chi: &Chirotope, e: u8) -> Result<Chiroto
     }
 }
 
-/// The normal chirotope of the contraction of e, from 1 to n, for the number n of elements: its covectors are the covectors
-/// that are 0 at e, without their sign there. The elements after e are moved down by one. The rank is one less, but at a
-/// loop it stays: the contraction of a loop is its deletion. The signs take their memory from `alloc`.
+/// The normal chirotope of the contraction of e: its covectors are the covectors that are 0 at e, without their
+/// sign there. The elements after e are moved down by one, and e is from 1 to the number of elements. The rank is
+/// one less, except that the contraction of a loop is its deletion, of the same rank. Memory for the signs comes
+/// from `alloc`.
 ///
-/// [`MinorError::LastElement`] comes exactly where n is 1, and [`MinorError::Memory`] only for want of memory.
+/// [`MinorError::LastElement`] comes exactly if there is only one element, and [`MinorError::Memory`] only if
+/// memory runs out.
 ///
 /// Source: Björner, Las Vergnas, Sturmfels, White and Ziegler, *Oriented Matroids*, chapters 3 and 4.
 pub fn contract_chirotope(alloc: Global, chi: &Chirotope, e: u8) -> Result<Chirotope, MinorError>
@@ -79,7 +82,7 @@ pub fn contract_chirotope(alloc: Global, chi: &Chirotope, e: u8) -> Result<Chiro
     }
 }
 
-/// The normal chirotope of the signs of the lists without e, an element that is no coloop.
+/// The normal chirotope of the deletion of an element e that is no coloop: it has the signs of the lists without e.
 fn general_deletion(alloc: Global, chi: &Chirotope, e: u8) -> Result<Chirotope, NoMemory>
     requires low { 1 ≤ e }
     requires high { e ≤ chi.now.elements }
@@ -90,7 +93,8 @@ fn general_deletion(alloc: Global, chi: &Chirotope, e: u8) -> Result<Chirotope, 
     normal_by(alloc, chi.rank(), chi.elements() - 1, &Deletion { chi, e })
 }
 
-/// The normal chirotope of the values of the tuples with e at their end, for an element e that is no loop.
+/// The normal chirotope of the contraction of an element e that is no loop: it has the values of the tuples that
+/// end with e.
 fn general_contraction(alloc: Global, chi: &Chirotope, e: u8) -> Result<Chirotope, NoMemory>
     requires low { 1 ≤ e }
     requires high { e ≤ chi.now.elements }
@@ -106,7 +110,7 @@ fn general_contraction(alloc: Global, chi: &Chirotope, e: u8) -> Result<Chirotop
     )
 }
 
-/// The rule of a deletion.
+/// The rule for the signs of a deletion.
 #[derive(Drop)]
 struct Deletion<'a> {
     chi: &'a Chirotope,
@@ -132,7 +136,7 @@ impl SignRule for Deletion<'_> {
     }
 }
 
-/// The rule of a contraction.
+/// The rule for the signs of a contraction.
 #[derive(Drop)]
 struct Contraction<'a> {
     chi: &'a Chirotope,

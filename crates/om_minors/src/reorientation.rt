@@ -14,9 +14,9 @@ use om_chirotope::Chirotope;
 use om_signs::{MAX_PLACES, RawMap, Sign};
 use om_subsets::Subset;
 
-/// The normal chirotope of the reorientation on the elements of a mask, whose bit e - 1 stands for e: its covectors are the
-/// covectors with their signs at these elements negated. The mask names elements from 1 to n, for the number n of elements.
-/// It takes no memory.
+/// The normal chirotope of the reorientation of the elements of a mask: its covectors are the covectors with their
+/// signs at these elements negated. The mask names elements of the oriented matroid: its bit e - 1 stands for
+/// element e. The call allocates no memory.
 ///
 /// Source: Björner, Las Vergnas, Sturmfels, White and Ziegler, *Oriented Matroids*, chapter 3.
 pub fn reorient_chirotope(chi: Chirotope, mask: u32) -> Chirotope
@@ -50,7 +50,7 @@ fn turned(raw: RawMap, mask: u32) -> RawMap
     turned
 }
 
-/// Minus where the mask names an odd number of elements of the set, and else plus.
+/// Minus if the mask names an odd number of elements of the set, and else plus.
 fn turning_sign(s: Subset, mask: u32) -> Sign
     ensures { result ≡ signs_product (turning (names mask)) s.elements }
 {

@@ -1,4 +1,4 @@
-//! Minors and reorientations of the members of a list of circuits or of cocircuits.
+//! Minors and reorientations of a list of circuits or of cocircuits.
 
 ghost use Rattle.std.specs.Prelude.{◌≡◌, ◌≤◌, ◌<◌, ◌+◌, ◌^◌, length, IfOk, map};
 ghost use Rattle.std.specs.List.{Contains};
@@ -14,7 +14,7 @@ use om_covectors::minimal_vectors;
 use om_signs::NoMemory;
 use std::alloc::Global;
 
-/// The members that are 0 at e, without their sign there: the circuits of the deletion, and the cocircuits of the
+/// The members that are 0 at e, without their sign there: the circuits of the deletion, or the cocircuits of the
 /// contraction.
 pub fn zero_part(alloc: Global, set: &SignedSet, e: u8) -> Result<SignedSet, NoMemory>
     requires low { 1 ≤ e }
@@ -29,8 +29,8 @@ pub fn zero_part(alloc: Global, set: &SignedSet, e: u8) -> Result<SignedSet, NoM
     Ok(SignedSet::lawful(elements - 1, list))
 }
 
-/// The members without their sign at e, each once, as far as they are not zero and of minimal support: the cocircuits of the
-/// deletion, and the circuits of the contraction.
+/// The nonzero vectors of minimal support among the members without their sign at e, each once: the cocircuits of
+/// the deletion, or the circuits of the contraction.
 pub fn least_part(alloc: Global, set: &SignedSet, e: u8) -> Result<SignedSet, NoMemory>
     requires low { 1 ≤ e }
     requires high { e ≤ set.now.elements }

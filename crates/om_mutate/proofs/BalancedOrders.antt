@@ -1,7 +1,7 @@
 -- Three signs that are balanced, in other orders.
 --
--- Main results: balanced_opposite, the first two exchanged and all turned; balanced_rotated; and the relation of four elements from the relation of
--- the same four in another order.
+-- Main results: balanced_opposite, the first two exchanged and all turned; balanced_rotated; and the relation of four
+-- elements from the relation of the same four in another order.
 use Rattle.std.specs.Prelude.{◌≡◌}
 use Rattle.std.proofs.Common.{refl, ap, ◌∙◌, arith}
 use Rattle.om_signs.specs.declared.sign.Sign.{Sign}
@@ -72,7 +72,8 @@ balanced_rotated Plus Plus Plus h = absurd h
 both_turned : (s t s' t' : Sign) → s' ≡ opposite s → t' ≡ opposite t → product s t ≡ product s' t'
 both_turned s t s' t' e f = grind arith
 
-both_turned_twice : (s t s' t' : Sign) → s' ≡ opposite s → t' ≡ opposite t → product s t ≡ opposite (opposite (product s' t'))
+both_turned_twice : (s t s' t' : Sign) → s' ≡ opposite s → t' ≡ opposite t
+    → product s t ≡ opposite (opposite (product s' t'))
 both_turned_twice s t s' t' e f = grind arith
 
 twice : (s t : Sign) → product s t ≡ opposite (opposite (product s t))
@@ -98,26 +99,33 @@ module _ (ab cd ac bd ad bc : Sign) where
   abbrev pub Relation : Type 0
   Relation = AreBalanced (product ab cd) (opposite (product ac bd)) (product ad bc)
 
-  pub from_last_two : (ca db cb da : Sign) → ca ≡ opposite ac → db ≡ opposite bd → cb ≡ opposite bc → da ≡ opposite ad → AreBalanced (product cd ab) (opposite (product ca db)) (product cb da) → Relation
+  pub from_last_two : (ca db cb da : Sign) → ca ≡ opposite ac → db ≡ opposite bd → cb ≡ opposite bc → da ≡ opposite ad
+      → AreBalanced (product cd ab) (opposite (product ca db)) (product cb da) → Relation
   from_last_two ca db cb da eca edb ecb eda h =
-      balanced_same _ _ _ _ _ _ (product_comm ab cd) (ap opposite (both_turned ac bd ca db eca edb)) (product_comm ad bc ∙ both_turned bc ad cb da ecb eda) h
+      balanced_same _ _ _ _ _ _ (product_comm ab cd) (ap opposite (both_turned ac bd ca db eca edb))
+      (product_comm ad bc ∙ both_turned bc ad cb da ecb eda) h
 
-  pub from_first_third : (cb : Sign) → cb ≡ opposite bc → AreBalanced (product ac bd) (opposite (product ab cd)) (product ad cb) → Relation
+  pub from_first_third : (cb : Sign) → cb ≡ opposite bc
+      → AreBalanced (product ac bd) (opposite (product ab cd)) (product ad cb) → Relation
   from_first_third cb ecb h =
       balanced_same _ _ _ _ _ _ (twice ab cd) refl (right_turned ad bc cb ecb)
       (balanced_opposite (product ac bd) (opposite (product ab cd)) (product ad cb) h)
 
-  pub from_second_last : (ba dc da : Sign) → ba ≡ opposite ab → dc ≡ opposite cd → da ≡ opposite ad → AreBalanced (product bd ac) (opposite (product ba dc)) (product bc da) → Relation
+  pub from_second_last : (ba dc da : Sign) → ba ≡ opposite ab → dc ≡ opposite cd → da ≡ opposite ad
+      → AreBalanced (product bd ac) (opposite (product ba dc)) (product bc da) → Relation
   from_second_last ba dc da eba edc eda h =
-      balanced_same _ _ _ _ _ _ (both_turned_twice ab cd ba dc eba edc) (ap opposite (product_comm ac bd)) (right_turned_comm ad bc da eda)
+      balanced_same _ _ _ _ _ _ (both_turned_twice ab cd ba dc eba edc) (ap opposite (product_comm ac bd))
+      (right_turned_comm ad bc da eda)
       (balanced_opposite (product bd ac) (opposite (product ba dc)) (product bc da) h)
 
-  pub from_first_last : (dc db : Sign) → dc ≡ opposite cd → db ≡ opposite bd → AreBalanced (product ad bc) (opposite (product ab dc)) (product ac db) → Relation
+  pub from_first_last : (dc db : Sign) → dc ≡ opposite cd → db ≡ opposite bd
+      → AreBalanced (product ad bc) (opposite (product ab dc)) (product ac db) → Relation
   from_first_last dc db edc edb h =
       balanced_same _ _ _ _ _ _ (right_turned ab cd dc edc) (turned_right ac bd db edb) refl
       (balanced_rotated (product ad bc) (opposite (product ab dc)) (product ac db) h)
 
-  pub from_middle_two : (ba ca : Sign) → ba ≡ opposite ab → ca ≡ opposite ac → AreBalanced (product bc ad) (opposite (product ba cd)) (product bd ca) → Relation
+  pub from_middle_two : (ba ca : Sign) → ba ≡ opposite ab → ca ≡ opposite ac
+      → AreBalanced (product bc ad) (opposite (product ba cd)) (product bd ca) → Relation
   from_middle_two ba ca eba eca h =
       balanced_same _ _ _ _ _ _ (left_turned ab cd ba eba) (turned_comm ac bd ca eca) (product_comm ad bc)
       (balanced_rotated (product bc ad) (opposite (product ba cd)) (product bd ca) h)

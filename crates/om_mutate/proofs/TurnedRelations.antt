@@ -25,65 +25,90 @@ use Rattle.om_wiring.proofs.SweepEnds.{IsRising}
 use Rattle.om_wiring.proofs.WiringMaps.{three, swap_last}
 use Rattle.om_mutate.specs.Mutations.{flipped, IsMutation}
 use Rattle.om_mutate.specs.Turns.{StaysBalanced, StaysBalancedAround, StaysBalancedAt}
-use Rattle.om_mutate.proofs.BalancedOrders.{from_last_two, from_first_third, from_second_last, from_first_last, from_middle_two}
+use Rattle.om_mutate.proofs.BalancedOrders.{from_last_two, from_first_third, from_second_last, from_first_last}
+use Rattle.om_mutate.proofs.BalancedOrders.{from_middle_two}
 use Rattle.om_mutate.proofs.FlipLaws.{flipped_sign, flipped_whole}
-use Rattle.om_mutate.proofs.TurnedValues.{IsCorner, the_triple, kept_or_turned, corner_turned, corner_kept, corner_kept_third, corner_or_kept}
+use Rattle.om_mutate.proofs.TurnedValues.{IsCorner, the_triple, kept_or_turned, corner_turned, corner_kept}
+use Rattle.om_mutate.proofs.TurnedValues.{corner_kept_third, corner_or_kept}
 
 -- the three-term relation of p with four elements
 abbrev pub Relation : SignMap → ℕ → ℕ → ℕ → ℕ → ℕ → Type 0
-Relation m p x y z v = AreBalanced (product (value_of m (p ∷ x ∷ y ∷ [])) (value_of m (p ∷ z ∷ v ∷ []))) (opposite (product (value_of m (p ∷ x ∷ z ∷ [])) (value_of m (p ∷ y ∷ v ∷ [])))) (product (value_of m (p ∷ x ∷ v ∷ [])) (value_of m (p ∷ y ∷ z ∷ [])))
+Relation m p x y z v = AreBalanced (product (value_of m (p ∷ x ∷ y ∷ [])) (value_of m (p ∷ z ∷ v ∷ [])))
+    (opposite (product (value_of m (p ∷ x ∷ z ∷ [])) (value_of m (p ∷ y ∷ v ∷ []))))
+    (product (value_of m (p ∷ x ∷ v ∷ [])) (value_of m (p ∷ y ∷ z ∷ [])))
 
 three_values : (s t u v : Sign) → s ≡ u → t ≡ v → product s t ≡ product u v
 three_values s t u v e f = grind arith
 
 -- the relations of a chirotope, for any elements
-relation_of : (m : SignMap) → m.rank ≡ 3 → IsChirotope m → (p x y z v : ℕ) → IsElement m.elements p → IsElement m.elements x → IsElement m.elements y → IsElement m.elements z → IsElement m.elements v → Relation m p x y z v
+relation_of : (m : SignMap) → m.rank ≡ 3 → IsChirotope m → (p x y z v : ℕ) → IsElement m.elements p
+    → IsElement m.elements x → IsElement m.elements y → IsElement m.elements z → IsElement m.elements v
+    → Relation m p x y z v
 relation_of m r h p x y z v ip ix iy iz iv =
     let n = m.elements in
     let k = m.rank in
-    let at : (e f : ℕ) → IsElement m.elements e → IsElement m.elements f → value_of m (p ∷ e ∷ f ∷ []) ≡ on_tuples m.elements m.rank (chi_of m) (p ∷ e ∷ f ∷ []) =
-    λ e f ie if. sym (on_tuples_at n k (chi_of m) (p ∷ e ∷ f ∷ []) (subst (λ s. IsTuple n s (p ∷ e ∷ f ∷ [])) (sym r) (three n p e f ip ie if))) in
+    let at : (e f : ℕ) → IsElement m.elements e → IsElement m.elements f
+    → value_of m (p ∷ e ∷ f ∷ []) ≡ on_tuples m.elements m.rank (chi_of m) (p ∷ e ∷ f ∷ []) =
+    λ e f ie if. sym
+    (on_tuples_at n k (chi_of m) (p ∷ e ∷ f ∷ [])
+    (subst (λ s. IsTuple n s (p ∷ e ∷ f ∷ [])) (sym r) (three n p e f ip ie if))) in
     balanced_same _ _ _ _ _ _
     (three_values _ _ _ _ (at x y ix iy) (at z v iz iv))
     (ap opposite (three_values _ _ _ _ (at x z ix iz) (at y v iy iv)))
     (three_values _ _ _ _ (at x v ix iv) (at y z iy iz))
-    (three_terms (on_tuples n k (chi_of m)) (on_tuples_alternating n k (chi_of m)) (theory_chirotope m h).relations p x y z v)
+    (three_terms (on_tuples n k (chi_of m)) (on_tuples_alternating n k (chi_of m)) (theory_chirotope m h).relations p x
+    y z v)
 
 module _ (m : SignMap) (a b c : ℕ) (w : IsMap m) (r : m.rank ≡ 3) (i : IsRising m.elements a b c) where
   abbrev t : List ℕ
   t = a ∷ b ∷ c ∷ []
 
-  pub stays_balanced : IsMutation m (a ∷ b ∷ c ∷ []) → (p x y : ℕ) → IsCorner a b c p x y → IsElement m.elements p → IsElement m.elements x → IsElement m.elements y → StaysBalancedAt m p x y
+  pub stays_balanced : IsMutation m (a ∷ b ∷ c ∷ []) → (p x y : ℕ) → IsCorner a b c p x y → IsElement m.elements p
+      → IsElement m.elements x → IsElement m.elements y → StaysBalancedAt m p x y
   stays_balanced u p x y k ip ix iy z iz v iv = record {
     signs = λ zx zy vx vy. balanced_same _ _ _ _ _ _
-        (three_values _ _ _ _ (sym (corner_turned m a b c w r i p x y k)) (sym (corner_kept m a b c w r i p x y z v k ip iz iv zx zy)))
-        (ap opposite (three_values _ _ _ _ (sym (corner_kept_third m a b c w r i p x y z x k ip iz ix zx zy)) (sym (corner_kept_third m a b c w r i p x y v y k ip iv iy vx vy))))
-        (three_values _ _ _ _ (sym (corner_kept_third m a b c w r i p x y v x k ip iv ix vx vy)) (sym (corner_kept_third m a b c w r i p x y z y k ip iz iy zx zy)))
+        (three_values _ _ _ _ (sym (corner_turned m a b c w r i p x y k))
+        (sym (corner_kept m a b c w r i p x y z v k ip iz iv zx zy)))
+        (ap opposite
+        (three_values _ _ _ _ (sym (corner_kept_third m a b c w r i p x y z x k ip iz ix zx zy))
+        (sym (corner_kept_third m a b c w r i p x y v y k ip iv iy vx vy))))
+        (three_values _ _ _ _ (sym (corner_kept_third m a b c w r i p x y v x k ip iv ix vx vy))
+        (sym (corner_kept_third m a b c w r i p x y z y k ip iz iy zx zy)))
         (relation_of (flipped m t) r u.axioms p x y z v ip ix iy iz iv);
   }
 
   -- ---- and back
 
   -- the relation of the changed map with two elements of the triple
-  turned_relation : (p x y z v : ℕ) → IsCorner a b c p x y → IsElement m.elements p → IsElement m.elements x → IsElement m.elements y → IsElement m.elements z → IsElement m.elements v → z ≢ x → z ≢ y → v ≢ x → v ≢ y → StaysBalanced m p x y z v → Relation (flipped m (a ∷ b ∷ c ∷ [])) p x y z v
+  turned_relation : (p x y z v : ℕ) → IsCorner a b c p x y → IsElement m.elements p → IsElement m.elements x
+      → IsElement m.elements y → IsElement m.elements z → IsElement m.elements v → z ≢ x → z ≢ y → v ≢ x → v ≢ y
+      → StaysBalanced m p x y z v → Relation (flipped m (a ∷ b ∷ c ∷ [])) p x y z v
   turned_relation p x y z v k ip ix iy iz iv zx zy vx vy s =
       balanced_same _ _ _ _ _ _
-      (three_values _ _ _ _ (corner_turned m a b c w r i p x y k) (corner_kept m a b c w r i p x y z v k ip iz iv zx zy))
-      (ap opposite (three_values _ _ _ _ (corner_kept_third m a b c w r i p x y z x k ip iz ix zx zy) (corner_kept_third m a b c w r i p x y v y k ip iv iy vx vy)))
-      (three_values _ _ _ _ (corner_kept_third m a b c w r i p x y v x k ip iv ix vx vy) (corner_kept_third m a b c w r i p x y z y k ip iz iy zx zy))
+      (three_values _ _ _ _ (corner_turned m a b c w r i p x y k)
+      (corner_kept m a b c w r i p x y z v k ip iz iv zx zy))
+      (ap opposite
+      (three_values _ _ _ _ (corner_kept_third m a b c w r i p x y z x k ip iz ix zx zy)
+      (corner_kept_third m a b c w r i p x y v y k ip iv iy vx vy)))
+      (three_values _ _ _ _ (corner_kept_third m a b c w r i p x y v x k ip iv ix vx vy)
+      (corner_kept_third m a b c w r i p x y z y k ip iz iy zx zy))
       (s.signs zx zy vx vy)
 
   -- bases stay bases
   module _ (nonzero : chi_of m (a ∷ b ∷ c ∷ []) ≢ Zero) where
-    nonzero_sign : (u : List ℕ) → IsSubsetFrom 1 m.elements u → length u ≡ 3 → chi_of (flipped m t) u ≢ Zero → chi_of m u ≢ Zero
+    nonzero_sign : (u : List ℕ) → IsSubsetFrom 1 m.elements u → length u ≡ 3 → chi_of (flipped m t) u ≢ Zero
+        → chi_of m u ≢ Zero
     nonzero_sign u h s ne z = elim (kept_or_turned m t w r (the_triple m a b c w r i) u h s) [
       | inl e ↦ nonzero (ap (chi_of m) (sym e) ∙ z)
       | inr e ↦ ne (e ∙ z)
     ]
 
-    nonzero_turned : (u : List ℕ) → IsSubsetFrom 1 m.elements u → length u ≡ 3 → chi_of m u ≢ Zero → chi_of (flipped m t) u ≢ Zero
+    nonzero_turned : (u : List ℕ) → IsSubsetFrom 1 m.elements u → length u ≡ 3 → chi_of m u ≢ Zero
+        → chi_of (flipped m t) u ≢ Zero
     nonzero_turned u h s ne z = elim (kept_or_turned m t w r (the_triple m a b c w r i) u h s) [
-      | inl e ↦ opposite_nonzero (chi_of m t) nonzero (sym (flipped_sign m t w r (the_triple m a b c w r i)) ∙ ap (chi_of (flipped m t)) (sym e) ∙ z)
+      | inl e ↦
+          opposite_nonzero (chi_of m t) nonzero
+          (sym (flipped_sign m t w r (the_triple m a b c w r i)) ∙ ap (chi_of (flipped m t)) (sym e) ∙ z)
       | inr e ↦ ne (sym e ∙ z)
     ]
 
@@ -91,14 +116,20 @@ module _ (m : SignMap) (a b c : ℕ) (w : IsMap m) (r : m.rank ≡ 3) (i : IsRis
     basis_before u h = record {
       list = h.list;
       size = h.size;
-      nonzero = λ z. nonzero_sign u h.list (h.size ∙ r) (λ e. h.nonzero (value_in_order 1 m.elements (chi_of (flipped m t)) u h.list ∙ e)) (sym (value_in_order 1 m.elements (chi_of m) u h.list) ∙ z);
+      nonzero =
+          λ z. nonzero_sign u h.list (h.size ∙ r)
+          (λ e. h.nonzero (value_in_order 1 m.elements (chi_of (flipped m t)) u h.list ∙ e))
+          (sym (value_in_order 1 m.elements (chi_of m) u h.list) ∙ z);
     }
 
     basis_after : (u : List ℕ) → IsBasis m u → IsBasis (flipped m t) u
     basis_after u h = record {
       list = h.list;
       size = h.size;
-      nonzero = λ z. nonzero_turned u h.list (h.size ∙ r) (λ e. h.nonzero (value_in_order 1 m.elements (chi_of m) u h.list ∙ e)) (sym (value_in_order 1 m.elements (chi_of (flipped m t)) u h.list) ∙ z);
+      nonzero =
+          λ z. nonzero_turned u h.list (h.size ∙ r)
+          (λ e. h.nonzero (value_in_order 1 m.elements (chi_of m) u h.list ∙ e))
+          (sym (value_in_order 1 m.elements (chi_of (flipped m t)) u h.list) ∙ z);
     }
 
     exchange_after : HasExchange m → HasExchange (flipped m t)
@@ -106,35 +137,59 @@ module _ (m : SignMap) (a b c : ℕ) (w : IsMap m) (r : m.rank ≡ 3) (i : IsRis
         let k = ex d e f (basis_before d hd) (basis_before e he) q out in
         (k.0, k.1, k.2, basis_after _ k.3)
 
-    module _ (old : HasThreeTermRelations m) (balanced : (p x y : ℕ) → IsCorner a b c p x y → StaysBalancedAt m p x y) where
+    module _ (old : HasThreeTermRelations m)
+        (balanced : (p x y : ℕ) → IsCorner a b c p x y → StaysBalancedAt m p x y) where
       abbrev psi : ℕ → ℕ → ℕ → Sign
       psi q x y = value_of (flipped m (a ∷ b ∷ c ∷ [])) (q ∷ x ∷ y ∷ [])
 
-      swapped : (q x y : ℕ) → value_of (flipped m (a ∷ b ∷ c ∷ [])) (q ∷ y ∷ x ∷ []) ≡ opposite (value_of (flipped m (a ∷ b ∷ c ∷ [])) (q ∷ x ∷ y ∷ []))
+      swapped : (q x y : ℕ) → value_of (flipped m (a ∷ b ∷ c ∷ [])) (q ∷ y ∷ x ∷ [])
+          ≡ opposite (value_of (flipped m (a ∷ b ∷ c ∷ [])) (q ∷ x ∷ y ∷ []))
       swapped q x y = swap_last (value_of (flipped m t)) (value_alternating (chi_of (flipped m t))) q x y
 
       -- four increasing elements and another one
-      relation_in_order : (q d e f g : ℕ) → IsElement m.elements q → IsElement m.elements d → IsElement m.elements e → IsElement m.elements f → IsElement m.elements g
-          → d < e → e < f → f < g → q ≢ d → q ≢ e → q ≢ f → q ≢ g → Relation m q d e f g → Relation (flipped m (a ∷ b ∷ c ∷ [])) q d e f g
+      relation_in_order : (q d e f g : ℕ) → IsElement m.elements q → IsElement m.elements d → IsElement m.elements e
+          → IsElement m.elements f → IsElement m.elements g
+          → d < e → e < f → f < g → q ≢ d → q ≢ e → q ≢ f → q ≢ g → Relation m q d e f g
+          → Relation (flipped m (a ∷ b ∷ c ∷ [])) q d e f g
       relation_in_order q d e f g iq id ie if ig de ef fg nd ne nf ng rel =
           elim (corner_or_kept m a b c w r i q d e iq id ie nd ne de) [
-            | inl k ↦ turned_relation q d e f g k iq id ie if ig (λ z. omega (arith, z, de, ef)) (λ z. omega (arith, z, ef)) (λ z. omega (arith, z, de, ef, fg)) (λ z. omega (arith, z, ef, fg)) (balanced q d e k f if g ig)
+            | inl k ↦ turned_relation q d e f g k iq id ie if ig (λ z. omega (arith, z, de, ef))
+                (λ z. omega (arith, z, ef)) (λ z. omega (arith, z, de, ef, fg)) (λ z. omega (arith, z, ef, fg))
+                (balanced q d e k f if g ig)
             | inr k1 ↦ elim (corner_or_kept m a b c w r i q f g iq if ig nf ng fg) [
-              | inl k ↦ from_last_two (psi q d e) (psi q f g) (psi q d f) (psi q e g) (psi q d g) (psi q e f) _ _ _ _ (swapped q d f) (swapped q e g) (swapped q e f) (swapped q d g)
-                  (turned_relation q f g d e k iq if ig id ie (λ z. omega (arith, z, de, ef)) (λ z. omega (arith, z, de, ef, fg)) (λ z. omega (arith, z, ef)) (λ z. omega (arith, z, ef, fg)) (balanced q f g k d id e ie))
+              | inl k ↦ from_last_two (psi q d e) (psi q f g) (psi q d f) (psi q e g) (psi q d g) (psi q e f) _ _ _ _
+                  (swapped q d f) (swapped q e g) (swapped q e f) (swapped q d g)
+                  (turned_relation q f g d e k iq if ig id ie (λ z. omega (arith, z, de, ef))
+                  (λ z. omega (arith, z, de, ef, fg)) (λ z. omega (arith, z, ef)) (λ z. omega (arith, z, ef, fg))
+                  (balanced q f g k d id e ie))
               | inr k2 ↦ elim (corner_or_kept m a b c w r i q d f iq id if nd nf (omega (arith, de, ef))) [
-                | inl k ↦ from_first_third (psi q d e) (psi q f g) (psi q d f) (psi q e g) (psi q d g) (psi q e f) _ (swapped q e f)
-                    (turned_relation q d f e g k iq id if ie ig (λ z. omega (arith, z, de)) (λ z. omega (arith, z, ef)) (λ z. omega (arith, z, de, ef, fg)) (λ z. omega (arith, z, fg)) (balanced q d f k e ie g ig))
+                | inl k ↦ from_first_third (psi q d e) (psi q f g) (psi q d f) (psi q e g) (psi q d g) (psi q e f) _
+                    (swapped q e f)
+                    (turned_relation q d f e g k iq id if ie ig (λ z. omega (arith, z, de)) (λ z. omega (arith, z, ef))
+                    (λ z. omega (arith, z, de, ef, fg)) (λ z. omega (arith, z, fg)) (balanced q d f k e ie g ig))
                 | inr k3 ↦ elim (corner_or_kept m a b c w r i q e g iq ie ig ne ng (omega (arith, ef, fg))) [
-                  | inl k ↦ from_second_last (psi q d e) (psi q f g) (psi q d f) (psi q e g) (psi q d g) (psi q e f) _ _ _ (swapped q d e) (swapped q f g) (swapped q d g)
-                      (turned_relation q e g d f k iq ie ig id if (λ z. omega (arith, z, de)) (λ z. omega (arith, z, de, ef, fg)) (λ z. omega (arith, z, ef)) (λ z. omega (arith, z, fg)) (balanced q e g k d id f if))
+                  | inl k ↦ from_second_last (psi q d e) (psi q f g) (psi q d f) (psi q e g) (psi q d g) (psi q e f) _ _
+                      _ (swapped q d e) (swapped q f g) (swapped q d g)
+                      (turned_relation q e g d f k iq ie ig id if (λ z. omega (arith, z, de))
+                      (λ z. omega (arith, z, de, ef, fg)) (λ z. omega (arith, z, ef)) (λ z. omega (arith, z, fg))
+                      (balanced q e g k d id f if))
                   | inr k4 ↦ elim (corner_or_kept m a b c w r i q d g iq id ig nd ng (omega (arith, de, ef, fg))) [
-                    | inl k ↦ from_first_last (psi q d e) (psi q f g) (psi q d f) (psi q e g) (psi q d g) (psi q e f) _ _ (swapped q f g) (swapped q e g)
-                        (turned_relation q d g e f k iq id ig ie if (λ z. omega (arith, z, de)) (λ z. omega (arith, z, ef, fg)) (λ z. omega (arith, z, de, ef)) (λ z. omega (arith, z, fg)) (balanced q d g k e ie f if))
+                    | inl k ↦
+                        from_first_last (psi q d e) (psi q f g) (psi q d f) (psi q e g) (psi q d g) (psi q e f) _ _
+                        (swapped q f g) (swapped q e g)
+                        (turned_relation q d g e f k iq id ig ie if (λ z. omega (arith, z, de))
+                        (λ z. omega (arith, z, ef, fg)) (λ z. omega (arith, z, de, ef)) (λ z. omega (arith, z, fg))
+                        (balanced q d g k e ie f if))
                     | inr k5 ↦ elim (corner_or_kept m a b c w r i q e f iq ie if ne nf ef) [
-                      | inl k ↦ from_middle_two (psi q d e) (psi q f g) (psi q d f) (psi q e g) (psi q d g) (psi q e f) _ _ (swapped q d e) (swapped q d f)
-                          (turned_relation q e f d g k iq ie if id ig (λ z. omega (arith, z, de)) (λ z. omega (arith, z, de, ef)) (λ z. omega (arith, z, ef, fg)) (λ z. omega (arith, z, fg)) (balanced q e f k d id g ig))
-                      | inr k6 ↦ balanced_same _ _ _ _ _ _ (three_values _ _ _ _ k1 k2) (ap opposite (three_values _ _ _ _ k3 k4)) (three_values _ _ _ _ k5 k6) rel
+                      | inl k ↦
+                          from_middle_two (psi q d e) (psi q f g) (psi q d f) (psi q e g) (psi q d g) (psi q e f) _ _
+                          (swapped q d e) (swapped q d f)
+                          (turned_relation q e f d g k iq ie if id ig (λ z. omega (arith, z, de))
+                          (λ z. omega (arith, z, de, ef)) (λ z. omega (arith, z, ef, fg))
+                          (λ z. omega (arith, z, fg)) (balanced q e f k d id g ig))
+                      | inr k6 ↦
+                          balanced_same _ _ _ _ _ _ (three_values _ _ _ _ k1 k2)
+                          (ap opposite (three_values _ _ _ _ k3 k4)) (three_values _ _ _ _ k5 k6) rel
                     ]
                   ]
                 ]
@@ -147,12 +202,24 @@ module _ (m : SignMap) (a b c : ℕ) (w : IsMap m) (r : m.rank ≡ 3) (i : IsRis
       relations_after (q ∷ []) d e f g h =
           let four = (subset_is_increasing m.elements (d ∷ e ∷ f ∷ g ∷ [])).0 h.four in
           let iq = ((subset_is_increasing m.elements (q ∷ [])).0 h.list).1 q (inl refl) in
-          relation_in_order q d e f g iq (four.1 d (inl refl)) (four.1 e (inr (inl refl))) (four.1 f (inr (inr (inl refl)))) (four.1 g (inr (inr (inr (inl refl)))))
-          four.0.0 four.0.1.0 four.0.1.1.0 (λ z. h.a_off (inl (sym z))) (λ z. h.b_off (inl (sym z))) (λ z. h.c_off (inl (sym z))) (λ z. h.d_off (inl (sym z)))
-          (old (q ∷ []) d e f g (record { list = h.list; size = h.size; four = h.four; a_off = h.a_off; b_off = h.b_off; c_off = h.c_off; d_off = h.d_off }))
+          relation_in_order q d e f g iq (four.1 d (inl refl)) (four.1 e (inr (inl refl)))
+          (four.1 f (inr (inr (inl refl)))) (four.1 g (inr (inr (inr (inl refl)))))
+          four.0.0 four.0.1.0 four.0.1.1.0 (λ z. h.a_off (inl (sym z))) (λ z. h.b_off (inl (sym z)))
+          (λ z. h.c_off (inl (sym z))) (λ z. h.d_off (inl (sym z)))
+          (old (q ∷ []) d e f g
+          (record {
+            list = h.list;
+            size = h.size;
+            four = h.four;
+            a_off = h.a_off;
+            b_off = h.b_off;
+            c_off = h.c_off;
+            d_off = h.d_off;
+          }))
       relations_after (q ∷ s ∷ ps) d e f g h = let l = h.size in absurd (omega (arith, l, r))
 
-  pub mutation_if_balanced : IsChirotope m → chi_of m (a ∷ b ∷ c ∷ []) ≢ Zero → ((p x y : ℕ) → IsCorner a b c p x y → StaysBalancedAt m p x y) → IsMutation m (a ∷ b ∷ c ∷ [])
+  pub mutation_if_balanced : IsChirotope m → chi_of m (a ∷ b ∷ c ∷ []) ≢ Zero
+      → ((p x y : ℕ) → IsCorner a b c p x y → StaysBalancedAt m p x y) → IsMutation m (a ∷ b ∷ c ∷ [])
   mutation_if_balanced h nonzero balanced =
       let test = test_of_chirotope m h in
       record {
@@ -164,7 +231,8 @@ module _ (m : SignMap) (a b c : ℕ) (w : IsMap m) (r : m.rank ≡ 3) (i : IsRis
             t,
             (the_triple m a b c w r i).list,
             sym r,
-            λ z. nonzero_turned nonzero t (the_triple m a b c w r i).list refl nonzero (sym (value_in_order 1 m.elements (chi_of (flipped m t)) t (the_triple m a b c w r i).list) ∙ z),
+            λ z. nonzero_turned nonzero t (the_triple m a b c w r i).list refl nonzero
+                (sym (value_in_order 1 m.elements (chi_of (flipped m t)) t (the_triple m a b c w r i).list) ∙ z),
           );
           exchange = exchange_after nonzero test.exchange;
           relations = relations_after nonzero test.relations balanced;
@@ -173,10 +241,20 @@ module _ (m : SignMap) (a b c : ℕ) (w : IsMap m) (r : m.rank ≡ 3) (i : IsRis
 
 -- ---- a triple by its elements
 
-pub mutation_by_relations : (m : SignMap) (t : List ℕ) (a b c : ℕ) → IsChirotope m → m.rank ≡ 3 → t ≡ a ∷ b ∷ c ∷ [] → 1 ≤ a → a < b → b < c → c ≤ m.elements
-    → (StaysBalancedAround m a b c → chi_of m t ≢ Zero → IsMutation m t) × (IsMutation m t → StaysBalancedAround m a b c)
+pub mutation_by_relations : (m : SignMap) (t : List ℕ) (a b c : ℕ) → IsChirotope m → m.rank ≡ 3 → t ≡ a ∷ b ∷ c ∷ []
+    → 1 ≤ a → a < b → b < c → c ≤ m.elements
+    → (StaysBalancedAround m a b c → chi_of m t ≢ Zero → IsMutation m t)
+    × (IsMutation m t → StaysBalancedAround m a b c)
 mutation_by_relations m t a b c h r e low ab bc high =
-    let i : IsRising m.elements a b c = record { first_within = (low, omega arith); second_within = (omega arith, omega arith); third_within = (omega arith, high); first = ab; second = bc } in (
+    let i : IsRising m.elements a b c =
+    record {
+      first_within = (low, omega arith);
+      second_within = (omega arith, omega arith);
+      third_within =
+          (omega arith, high);
+      first = ab;
+      second = bc;
+    } in (
       λ s nonzero. subst (IsMutation m) (sym e)
           (mutation_if_balanced m a b c h.whole r i h (λ z. nonzero (ap (chi_of m) e ∙ z)) (at_corner a b c s)),
       λ w.

@@ -1,4 +1,4 @@
-//! The test of one triple by the three-term relations that hold it.
+//! The test of one triple by the three-term relations that contain it.
 
 ghost use Rattle.std.specs.Prelude.{ℕ, ◌≡◌, ◌-◌, ◌≤◌, ◌↔◌, ◌∷◌, [], length, IsTrue, slice_set};
 ghost use Rattle.om_signs.specs.Sign.{opposite};
@@ -14,8 +14,8 @@ use om_signs::{Sign, SignVec};
 use om_subsets::Subset;
 use om_wiring::Values;
 
-/// Whether a triple of a chirotope is a mutation: its sign isn't 0, and the three-term relations that hold it stay balanced where
-/// this sign is turned. Bases stay bases, and the other relations stay as they are.
+/// Whether a triple of a chirotope is a mutation: its sign isn't 0, and the three-term relations that contain it
+/// stay balanced if this sign is negated. Bases stay bases, and the other relations don't change.
 pub fn is_mutation(chi: &Values, triple: Subset) -> bool
     requires rank { chi.now.rank ≡ 3 }
     requires n { triple.n ≡ chi.now.elements }
@@ -30,7 +30,8 @@ pub fn is_mutation(chi: &Values, triple: Subset) -> bool
     stays_balanced_around(chi, a, b, c)
 }
 
-/// Whether the relations of each of a, b and c with the other two stay balanced where the sign of the three is turned.
+/// Whether the relations of each of a, b and c with the other two stay balanced if the sign of the three is
+/// negated.
 fn stays_balanced_around(chi: &Values, a: u8, b: u8, c: u8) -> bool
     requires rank { chi.now.rank ≡ 3 }
     requires a { IsElement chi.now.elements a }
@@ -47,8 +48,8 @@ fn stays_balanced_around(chi: &Values, a: u8, b: u8, c: u8) -> bool
     stays_balanced_at(chi, c, a, b)
 }
 
-/// Whether the relations of p with x, y and two other elements stay balanced where the sign of p, x and y is turned. The rows of p
-/// with x and with y are turned for this at one place each.
+/// Whether the relations of p with x, y and two other elements stay balanced if the sign of p, x and y is negated.
+/// For this, the rows of p with x and with y are each negated at one place.
 fn stays_balanced_at(chi: &Values, p: u8, x: u8, y: u8) -> bool
     requires rank { chi.now.rank ≡ 3 }
     requires p { IsElement chi.now.elements p }
@@ -67,7 +68,7 @@ fn stays_balanced_at(chi: &Values, p: u8, x: u8, y: u8) -> bool
     true
 }
 
-/// The vector with the sign at an element turned.
+/// The vector with the sign at an element negated.
 fn turned(row: SignVec, e: u8) -> SignVec
     requires low { 1 ≤ e }
     requires high { e ≤ length row }
@@ -76,8 +77,8 @@ fn turned(row: SignVec, e: u8) -> SignVec
     row.set(e, row.get(e).neg())
 }
 
-/// Whether the relations of p with x, y, z and each other element stay balanced, by the turned rows. Where the other element is x or
-/// y, they do so by themselves.
+/// Whether the relations of p with x, y, z and each other element stay balanced, found with the changed rows. If
+/// the other element is x or y, they always do.
 fn stays_balanced_with(
     chi: &Values,
     first: SignVec,

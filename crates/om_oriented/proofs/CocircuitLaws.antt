@@ -1,8 +1,8 @@
 -- The minimal members of a list that meets the axioms of covectors.
 --
--- Main results: a member has at each place of its support the sign of a minimal member that conforms to it (minimal_part); the minimal members
--- meet the axioms of circuits (minimal_axioms), and the members are composed of them (composed), so their
--- covectors are the members (same_covectors).
+-- Main results: a member has at each place of its support the sign of a minimal member that conforms to it
+-- (minimal_part); the minimal members meet the axioms of circuits (minimal_axioms), and the members are composed of
+-- them (composed), so their covectors are the members (same_covectors).
 -- Reference: Björner, Las Vergnas, Sturmfels, White and Ziegler, Oriented Matroids, chapters 3 and 4.
 use Rattle.std.specs.List.{Contains}
 use Rattle.std.proofs.lemmas.List.Elements.{All-contains}
@@ -40,20 +40,25 @@ use Rattle.om_oriented.proofs.ListedFamilies.{circuit_axioms, composed_both}
 abbrev pub IsLeast : List (List Sign) → List Sign → Type 0
 IsLeast members X = Contains members X × IsMinimal members X
 
-module _ (n : ℕ) (members : List (List Sign)) (lengths : HaveLength n members) (axioms : MeetsCovectorAxioms members) where
+module _ (n : ℕ) (members : List (List Sign)) (lengths : HaveLength n members)
+    (axioms : MeetsCovectorAxioms members) where
   length_of : (X : List Sign) → Contains members X → length X ≡ n
   length_of X m = All-contains (λ Y. length Y ≡ n) members X lengths m
 
-  same_member : (f : SignVector) (X : List Sign) → length X ≡ n → IsListed (as_functions members) f → ((e : ℕ) → f e ≡ as_function X e) → Contains members X
+  same_member : (f : SignVector) (X : List Sign) → length X ≡ n → IsListed (as_functions members) f
+      → ((e : ℕ) → f e ≡ as_function X e) → Contains members X
   same_member f X l h q =
       let u = unlisted members f h in
       subst (Contains members) (same_lists n u.0 X (length_of u.0 u.1) l (λ e. sym (u.2 e) ∙ q e)) u.1
 
   axioms_of_functions : CircuitAxioms (families.IsMinimal (IsListed (as_functions members)))
-  axioms_of_functions = minimal.minimal_axioms (elements_to n) (as_functions members) (supported n members lengths) (covector_axioms members axioms)
+  axioms_of_functions = minimal.minimal_axioms (elements_to n) (as_functions members) (supported n members lengths)
+      (covector_axioms members axioms)
 
-  parts_of_functions : (X : SignVector) → IsListed (as_functions members) X ↔ HasConformingParts (families.IsMinimal (IsListed (as_functions members))) X
-  parts_of_functions = minimal.parts_both (elements_to n) (as_functions members) (supported n members lengths) (covector_axioms members axioms)
+  parts_of_functions : (X : SignVector) → IsListed (as_functions members) X
+      ↔ HasConformingParts (families.IsMinimal (IsListed (as_functions members))) X
+  parts_of_functions = minimal.parts_both (elements_to n) (as_functions members) (supported n members lengths)
+      (covector_axioms members axioms)
 
   least_functions : AreFunctionsOf n (IsLeast members) (families.IsMinimal (IsListed (as_functions members)))
   least_functions = record {
@@ -64,11 +69,14 @@ module _ (n : ℕ) (members : List (List Sign)) (lengths : HaveLength n members)
 
   -- ---- conformal decomposition
 
-  least_parts : (X : List Sign) → HasConformingParts (families.IsMinimal (IsListed (as_functions members))) (as_function X) ↔ lists.HasConformingParts (IsLeast members) X
+  least_parts : (X : List Sign)
+      → HasConformingParts (families.IsMinimal (IsListed (as_functions members))) (as_function X)
+      ↔ lists.HasConformingParts (IsLeast members) X
   least_parts = family_parts n (IsLeast members) (families.IsMinimal (IsListed (as_functions members))) least_functions
 
   pub minimal_part : (X : List Sign) → Contains members X → (i : ℕ) → IsNonzero (at X i) → HasMinimalPart members X i
-  minimal_part X m i k = let y = (least_parts X).0 ((parts_of_functions (as_function X)).0 (own members axioms X m)) i k in (y.0, y.1.0, y.1.1, y.2, y.3)
+  minimal_part X m i k = let y = (least_parts X).0 ((parts_of_functions (as_function X)).0 (own members axioms X m)) i k
+      in (y.0, y.1.0, y.1.1, y.2, y.3)
 
   -- ---- the minimal members
 
@@ -81,17 +89,25 @@ module _ (n : ℕ) (members : List (List Sign)) (lengths : HaveLength n members)
 
     pub minimal_axioms : MeetsCircuitAxioms cocircuits
     minimal_axioms = circuit_axioms (IsLeast members) cocircuits all_least
-        (family_axioms n (IsLeast members) (families.IsMinimal (IsListed (as_functions members))) least_functions axioms_of_functions)
+        (family_axioms n (IsLeast members) (families.IsMinimal (IsListed (as_functions members))) least_functions
+        axioms_of_functions)
 
-    pub composed : (X : List Sign) → length X ≡ n → Contains members X ↔ lists.HasConformingParts (Contains cocircuits) X
+    pub composed : (X : List Sign) → length X ≡ n → Contains members X
+        ↔ lists.HasConformingParts (Contains cocircuits) X
     composed X l =
         let b = composed_both (IsLeast members) cocircuits all_least X in (
           λ m. b.0 ((least_parts X).0 ((parts_of_functions (as_function X)).0 (own members axioms X m))),
-          λ h. same_member (as_function X) X l ((parts_of_functions (as_function X)).1 ((least_parts X).1 (b.1 h))) (λ e. refl),
+          λ h. same_member (as_function X) X l ((parts_of_functions (as_function X)).1 ((least_parts X).1 (b.1 h)))
+              (λ e. refl),
         )
 
-    pub same_covectors : (d : Listing) → d.elements ≡ n → d.members ≡ cocircuits → DenoteTheSame n (Contains members) (IsCovectorOfCocircuits d)
+    pub same_covectors : (d : Listing) → d.elements ≡ n → d.members ≡ cocircuits
+        → DenoteTheSame n (Contains members) (IsCovectorOfCocircuits d)
     same_covectors d e q X l = (
-      λ m. record { size = l ∙ sym e; composed = subst (λ k. lists.HasConformingParts (Contains k) X) (sym q) ((composed X l).0 m) },
+      λ m. record {
+        size = l ∙ sym e;
+        composed =
+            subst (λ k. lists.HasConformingParts (Contains k) X) (sym q) ((composed X l).0 m);
+      },
       λ c. (composed X l).1 (subst (λ k. lists.HasConformingParts (Contains k) X) q c.composed),
     )

@@ -1,8 +1,8 @@
 -- The composition of the members that conform to a vector.
 --
 -- Main definitions: IsComposition
--- Main results: a conforming member may be composed (one_more), and another left out (passed); the composition of all conforming members is the
--- vector exactly where each sign of its support is that of a conforming member (composed_is).
+-- Main results: a conforming member may be composed (one_more), and another left out (passed); the composition of all
+-- conforming members is the vector exactly where each sign of its support is that of a conforming member (composed_is).
 use Rattle.std.specs.Prelude.{ℕ, ◌≡◌, ◌+◌, ◌<◌, ◌≤◌, ◌↔◌, ◌⊎◌, List, length, Bool, IsTrue}
 use Rattle.std.specs.List.{Contains}
 use Rattle.std.proofs.Common.{sym, ◌∙◌, ap, subst, arith, inl, inr}
@@ -37,13 +37,15 @@ module _ (members : List (List Sign)) (X : List Sign) (k : ℕ) (Z : List Sign) 
     conformal = h.conformal;
     member = h.member;
     all = λ j i lt conformal nonzero. elim (cases_eq j k) [
-      | inl q ↦ absurd (apart (subst (λ W. IsConformal W X) (sym e) (subst (λ a. IsConformal (nth members a) X) q conformal)))
+      | inl q ↦
+          absurd (apart (subst (λ W. IsConformal W X) (sym e) (subst (λ a. IsConformal (nth members a) X) q conformal)))
       | inr n ↦ h.all j i (omega arith) conformal nonzero
     ];
   }
 
   -- a member that conforms
-  module _ (Y : List Sign) (in_members : Contains members Y) (e : Y ≡ nth members k) (l : length Y ≡ length X) (conformal : IsConformal Y X) where
+  module _ (Y : List Sign) (in_members : Contains members Y) (e : Y ≡ nth members k) (l : length Y ≡ length X)
+      (conformal : IsConformal Y X) where
     sign_at : (i : ℕ) → at (compose Z Y) i ≡ first_nonzero (at Z i) (at Y i)
     sign_at i = at-compose Z Y i
 
@@ -60,7 +62,8 @@ module _ (members : List (List Sign)) (X : List Sign) (k : ℕ) (Z : List Sign) 
     same_sign i (inl z) nonzero = from_zero i z ∙ conformal i (nonzero_of_member i z nonzero)
     same_sign i (inr n) nonzero = from_nonzero i n ∙ h.conformal i n
 
-    with_member : (i : ℕ) → (at Z i ≡ Zero) ⊎ IsInSupport Z i → IsInSupport (compose Z Y) i → HasConformingMember members X i
+    with_member : (i : ℕ) → (at Z i ≡ Zero) ⊎ IsInSupport Z i → IsInSupport (compose Z Y) i
+        → HasConformingMember members X i
     with_member i (inl z) nonzero = (Y, in_members, conformal, conformal i (nonzero_of_member i z nonzero))
     with_member i (inr n) nonzero = h.member i n
 
@@ -77,7 +80,9 @@ module _ (members : List (List Sign)) (X : List Sign) (k : ℕ) (Z : List Sign) 
       conformal = λ i nonzero. same_sign i (zero_or_nonzero (at Z i)) nonzero;
       member = λ i nonzero. with_member i (zero_or_nonzero (at Z i)) nonzero;
       all = λ j i lt conformal nonzero. elim (cases_eq j k) [
-        | inl q ↦ now_nonzero i (zero_or_nonzero (at Z i)) (subst (λ V. IsInSupport V i) (sym e) (subst (λ a. IsInSupport (nth members a) i) q nonzero))
+        | inl q ↦
+            now_nonzero i (zero_or_nonzero (at Z i))
+            (subst (λ V. IsInSupport V i) (sym e) (subst (λ a. IsInSupport (nth members a) i) q nonzero))
         | inr n ↦ still_nonzero i (h.all j i (omega arith) conformal nonzero)
       ];
     })
@@ -90,7 +95,9 @@ same_vectors xs ys r e = (
 )
 
 -- all members are composed
-pub composed_is : (members : List (List Sign)) (X Z : List Sign) (k : ℕ) (r : Bool) → length members ≤ k → IsComposition members X k Z → (IsTrue r ↔ (Z ≡ X)) → IsTrue r ↔ ((i : ℕ) → IsInSupport X i → HasConformingMember members X i)
+pub composed_is : (members : List (List Sign)) (X Z : List Sign) (k : ℕ) (r : Bool) → length members ≤ k
+    → IsComposition members X k Z → (IsTrue r ↔ (Z ≡ X)) → IsTrue r
+    ↔ ((i : ℕ) → IsInSupport X i → HasConformingMember members X i)
 composed_is members X Z k r few h f = (
   λ t i nonzero. h.member i (λ z. nonzero (sym (ap (λ W. at W i) (f.0 t)) ∙ z)),
   λ g. f.1 (ext_get_or Zero Z X h.size (λ i lt. same_at i (zero_or_nonzero (at Z i)) (zero_or_nonzero (at X i)) g)),
@@ -103,7 +110,8 @@ composed_is members X Z k r few h f = (
         h.all in_members.0 i (omega arith) (subst (λ W. IsConformal W X) here conformal)
         (subst (λ W. IsInSupport W i) here (λ z. nonzero (sym same ∙ z)))
 
-    same_at : (i : ℕ) → (at Z i ≡ Zero) ⊎ IsInSupport Z i → (at X i ≡ Zero) ⊎ IsInSupport X i → ((a : ℕ) → IsInSupport X a → HasConformingMember members X a) → at Z i ≡ at X i
+    same_at : (i : ℕ) → (at Z i ≡ Zero) ⊎ IsInSupport Z i → (at X i ≡ Zero) ⊎ IsInSupport X i
+        → ((a : ℕ) → IsInSupport X a → HasConformingMember members X a) → at Z i ≡ at X i
     same_at i (inr n) x g = h.conformal i n
     same_at i (inl z) (inl x) g = z ∙ sym x
     same_at i (inl z) (inr n) g = absurd (found i n (g i n) z)

@@ -1,7 +1,7 @@
 -- Lists of all members of a family of sign vectors.
 --
--- Main results: where the family meets the axioms of circuits or of covectors, the list meets them (circuit_axioms, covector_axioms); what conforming
--- members of the family say of a vector, those of the list say (composed_both).
+-- Main results: where the family meets the axioms of circuits or of covectors, the list meets them (circuit_axioms,
+-- covector_axioms); what conforming members of the family say of a vector, those of the list say (composed_both).
 -- Reference: Björner, Las Vergnas, Sturmfels, White and Ziegler, Oriented Matroids, chapters 3 and 4.
 use Rattle.std.specs.List.{Contains}
 use Rattle.std.proofs.lemmas.List.Elements.{All-contains_itself}
@@ -34,7 +34,8 @@ module _ (P : List Sign → Type 0) (members : List (List Sign)) (all : AreAllOf
     no_zero = λ X x z. let n = axioms.nonzero X (all.sound X x) in n.1 (sym (at_place X n.0) ∙ z (suc n.0));
     symmetric = λ X x. all.complete (negated X) (axioms.symmetric X (all.sound X x));
     incomparable = λ X Y x y sub. axioms.incomparable X Y (all.sound X x) (all.sound Y y) sub;
-    elimination = λ X Y x y other e low o. let z = axioms.elimination X Y (all.sound X x) (all.sound Y y) other e low o in (z.0, all.complete z.0 z.1, z.2);
+    elimination = λ X Y x y other e low o. let z = axioms.elimination X Y (all.sound X x) (all.sound Y y) other e low o
+        in (z.0, all.complete z.0 z.1, z.2);
   }
 
   pub covector_axioms : (n : ℕ) → HasCovectorAxioms n P → MeetsCovectorAxioms members
@@ -42,5 +43,6 @@ module _ (P : List Sign → Type 0) (members : List (List Sign)) (all : AreAllOf
     zero = (replicate n Zero, all.complete (replicate n Zero) axioms.zero, λ e. at_zero n (e - 1));
     symmetric = λ X x. all.complete (negated X) (axioms.symmetric X (all.sound X x));
     compositions = λ X Y x y. all.complete (compose X Y) (axioms.compositions X Y (all.sound X x) (all.sound Y y));
-    elimination = λ X Y x y e low s. let z = axioms.elimination X Y (all.sound X x) (all.sound Y y) e low s in (z.0, all.complete z.0 z.1, z.2);
+    elimination = λ X Y x y e low s. let z = axioms.elimination X Y (all.sound X x) (all.sound Y y) e low s in
+        (z.0, all.complete z.0 z.1, z.2);
   }

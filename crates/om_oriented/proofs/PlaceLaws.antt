@@ -1,8 +1,10 @@
 -- The places of sign vectors of one length.
 --
--- Main results: each place is below 3 to the power of the length (base_three-lt); vectors of one length with one place are equal (same_place); the
--- lexicographic order is the order of the places (before_lt); what a change of one sign does to the place (base_three-set).
-use Rattle.std.proofs.Common.{ℕ, ◌≡◌, ◌+◌, ◌*◌, ◌^◌, ◌<◌, List, [], ◌∷◌, length, replicate, zero, suc, set, refl, sym, ◌∙◌, ap, arith}
+-- Main results: each place is below 3 to the power of the length (base_three-lt); vectors of one length with one place
+-- are equal (same_place); the lexicographic order is the order of the places (before_lt); what a change of one sign
+-- does to the place (base_three-set).
+use Rattle.std.proofs.Common.{ℕ, ◌≡◌, ◌+◌, ◌*◌, ◌^◌, ◌<◌, List, [], ◌∷◌, length, replicate, zero, suc, set, refl, sym}
+use Rattle.std.proofs.Common.{◌∙◌, ap, arith}
 use Rattle.std.proofs.Common.{pow-suc}
 use Rattle.std.proofs.lemmas.List.{length-set}
 use Rattle.std.specs.Ordering.{ordering_then}
@@ -61,7 +63,8 @@ same_place (x ∷ xs) (y ∷ ys) l e =
 
 -- ---- the order
 
-digits_before : (s t : Sign) (a b p : ℕ) (o : Ordering) → a < p → b < p → ordering_then (sign_order s t) o ≡ Less → (o ≡ Less → a < b) → sign_rank s * p + a < sign_rank t * p + b
+digits_before : (s t : Sign) (a b p : ℕ) (o : Ordering) → a < p → b < p → ordering_then (sign_order s t) o ≡ Less
+    → (o ≡ Less → a < b) → sign_rank s * p + a < sign_rank t * p + b
 digits_before Minus Minus a b p o la lb e h = let i = h e in omega arith
 digits_before Minus Zero a b p o la lb e h = omega arith
 digits_before Minus Plus a b p o la lb e h = omega arith
@@ -89,7 +92,8 @@ before_lt (x ∷ xs) (y ∷ ys) l e =
 -- ---- one sign changed
 
 -- the sign at a place with w places behind it
-pub base_three-set : (xs : List Sign) (i w : ℕ) (s : Sign) → i + 1 + w ≡ length xs → base_three (set xs i s) + sign_rank (at xs i) * 3 ^ w ≡ base_three xs + sign_rank s * 3 ^ w
+pub base_three-set : (xs : List Sign) (i w : ℕ) (s : Sign) → i + 1 + w ≡ length xs
+    → base_three (set xs i s) + sign_rank (at xs i) * 3 ^ w ≡ base_three xs + sign_rank s * 3 ^ w
 base_three-set [] i w s l = absurd (omega arith)
 base_three-set (x ∷ xs) zero w s l =
     let e : length xs ≡ w = omega arith in

@@ -1,10 +1,11 @@
 -- The walk over the sign vectors of one length, and what it has seen of two sets of them.
 --
 -- Main definitions: IsCarried, AgreeBefore
--- Main results: raising the last sign that is no plus gives the next place (raised_minus, raised_zero), and where there is none the vector is the
--- last one (last); two sets that agree before x agree before the next vector (agree_on), and after the last one they are the same (agree_at_last);
--- else x is their first difference (first_difference).
-use Rattle.std.proofs.Common.{ℕ, ◌≡◌, ◌+◌, ◌-◌, ◌*◌, ◌^◌, ◌<◌, ◌↔◌, List, length, suc, set, refl, sym, ◌∙◌, ap, subst, arith, inl, inr, Bool, true, false, not, IsTrue, replicate}
+-- Main results: raising the last sign that is no plus gives the next place (raised_minus, raised_zero), and where there
+-- is none the vector is the last one (last); two sets that agree before x agree before the next vector (agree_on), and
+-- after the last one they are the same (agree_at_last); else x is their first difference (first_difference).
+use Rattle.std.proofs.Common.{ℕ, ◌≡◌, ◌+◌, ◌-◌, ◌*◌, ◌^◌, ◌<◌, ◌↔◌, List, length, suc, set, refl, sym, ◌∙◌, ap, subst}
+use Rattle.std.proofs.Common.{arith, inl, inr, Bool, true, false, not, IsTrue, replicate}
 use Rattle.std.proofs.Common.{pow-suc}
 use Rattle.std.specs.Bool.{beq}
 use Rattle.std.proofs.lemmas.Bool.{cases_eq}
@@ -29,7 +30,9 @@ pub record AgreeBefore (n : ℕ) (P Q : List Sign → Type 0) (x : List Sign) : 
   pub before : (Y : List Sign) → length Y ≡ n → base_three Y < base_three x → P Y ↔ Q Y
 
 -- one sign changed, behind which the last k signs have been changed
-changed : (x next y : List Sign) (k i : ℕ) (s t : Sign) → IsCarried x next k → i + 1 + k ≡ length x → at x i ≡ s → y ≡ set next i t → (base_three y + 3 ^ k + sign_rank s * 3 ^ k ≡ base_three x + 1 + sign_rank t * 3 ^ k) × (length y ≡ length x)
+changed : (x next y : List Sign) (k i : ℕ) (s t : Sign) → IsCarried x next k → i + 1 + k ≡ length x → at x i ≡ s
+    → y ≡ set next i t → (base_three y + 3 ^ k + sign_rank s * 3 ^ k ≡ base_three x + 1 + sign_rank t * 3 ^ k)
+    × (length y ≡ length x)
 changed x next y k i s t h l is e =
     let n = h.size in
     let old : at next i ≡ s = h.same i (omega arith) ∙ is in
@@ -40,20 +43,25 @@ changed x next y k i s t h l is e =
     (rw e (omega arith), rw e (omega arith))
 
 -- the last sign that is no plus is raised, behind it the signs are now minus
-pub raised_minus : (x next y : List Sign) (k i : ℕ) → IsCarried x next k → i + 1 + k ≡ length x → at x i ≡ Minus → y ≡ set next i Zero → (base_three y ≡ base_three x + 1) × (length y ≡ length x)
-raised_minus x next y k i h l is e = let r = changed x next y k i Minus Zero h l is e in let n = r.0 in (omega arith, r.1)
+pub raised_minus : (x next y : List Sign) (k i : ℕ) → IsCarried x next k → i + 1 + k ≡ length x → at x i ≡ Minus
+    → y ≡ set next i Zero → (base_three y ≡ base_three x + 1) × (length y ≡ length x)
+raised_minus x next y k i h l is e = let r = changed x next y k i Minus Zero h l is e in let n = r.0 in
+    (omega arith, r.1)
 
-pub raised_zero : (x next y : List Sign) (k i : ℕ) → IsCarried x next k → i + 1 + k ≡ length x → at x i ≡ Zero → y ≡ set next i Plus → (base_three y ≡ base_three x + 1) × (length y ≡ length x)
+pub raised_zero : (x next y : List Sign) (k i : ℕ) → IsCarried x next k → i + 1 + k ≡ length x → at x i ≡ Zero
+    → y ≡ set next i Plus → (base_three y ≡ base_three x + 1) × (length y ≡ length x)
 raised_zero x next y k i h l is e = let r = changed x next y k i Zero Plus h l is e in let n = r.0 in (omega arith, r.1)
 
 -- a vector with a vector behind it is not the last one
-pub not_last : (x y : List Sign) → (base_three y ≡ base_three x + 1) × (length y ≡ length x) → base_three x + 1 ≡ 3 ^ length x → ⊥
+pub not_last : (x y : List Sign) → (base_three y ≡ base_three x + 1) × (length y ≡ length x)
+    → base_three x + 1 ≡ 3 ^ length x → ⊥
 not_last x y (n, l) e =
     let below = base_three-lt y in
     let p : 3 ^ length y ≡ 3 ^ length x = ap (λ k. 3 ^ k) l in
     absurd (omega arith)
 
-pub carried_on : (x next y : List Sign) (k i : ℕ) → IsCarried x next k → i + 1 + k ≡ length x → at x i ≡ Plus → y ≡ set next i Minus → IsCarried x y (k + 1)
+pub carried_on : (x next y : List Sign) (k i : ℕ) → IsCarried x next k → i + 1 + k ≡ length x → at x i ≡ Plus
+    → y ≡ set next i Minus → IsCarried x y (k + 1)
 carried_on x next y k i h l is e =
     let r = changed x next y k i Plus Minus h l is e in
     let n = r.0 in
@@ -68,7 +76,8 @@ carried_on x next y k i h l is e =
     power k = let s : k + 1 ≡ suc k = omega arith in rw s (pow-suc 3 k)
 
 -- the vectors that are left become fewer
-pub fewer : (x y : List Sign) → length y ≡ length x → base_three y ≡ base_three x + 1 → 3 ^ length y - base_three y < 3 ^ length x - base_three x
+pub fewer : (x y : List Sign) → length y ≡ length x → base_three y ≡ base_three x + 1
+    → 3 ^ length y - base_three y < 3 ^ length x - base_three x
 fewer x y l next =
     let below = base_three-lt y in
     let p : 3 ^ length y ≡ 3 ^ length x = ap (λ k. 3 ^ k) l in
@@ -104,9 +113,11 @@ module _ (n : ℕ) (P Q : List Sign → Type 0) where
   agree_here true true x f g e = (λ _. g.0 refl, λ _. f.0 refl)
   agree_here true false x f g e = cc
   agree_here false true x f g e = cc
-  agree_here false false x f g e = (λ p. let d : false ≡ true = f.1 p in cc d, λ q. let d : false ≡ true = g.1 q in cc d)
+  agree_here false false x f g e =
+      (λ p. let d : false ≡ true = f.1 p in cc d, λ q. let d : false ≡ true = g.1 q in cc d)
 
-  pub agree_up_to : (a b : Bool) (x Y : List Sign) → AgreeBefore n P Q x → (IsTrue a ↔ P x) → (IsTrue b ↔ Q x) → not (beq a b) ≡ false → length Y ≡ n → base_three Y < base_three x + 1 → P Y ↔ Q Y
+  pub agree_up_to : (a b : Bool) (x Y : List Sign) → AgreeBefore n P Q x → (IsTrue a ↔ P x) → (IsTrue b ↔ Q x)
+      → not (beq a b) ≡ false → length Y ≡ n → base_three Y < base_three x + 1 → P Y ↔ Q Y
   agree_up_to a b x Y h f g e size lt = elim (cases_eq (base_three Y) (base_three x)) [
     | inl same ↦
         let here : Y ≡ x = same_place Y x (size ∙ sym h.size) same in
@@ -114,24 +125,29 @@ module _ (n : ℕ) (P Q : List Sign → Type 0) where
     | inr other ↦ h.before Y size (omega arith)
   ]
 
-  pub agree_on : (a b : Bool) (x y : List Sign) → AgreeBefore n P Q x → (IsTrue a ↔ P x) → (IsTrue b ↔ Q x) → not (beq a b) ≡ false → length y ≡ length x → base_three y ≡ base_three x + 1 → AgreeBefore n P Q y
-  agree_on a b x y h f g e l next = record { size = l ∙ h.size; before = λ Y size lt. agree_up_to a b x Y h f g e size (omega arith) }
+  pub agree_on : (a b : Bool) (x y : List Sign) → AgreeBefore n P Q x → (IsTrue a ↔ P x) → (IsTrue b ↔ Q x)
+      → not (beq a b) ≡ false → length y ≡ length x → base_three y ≡ base_three x + 1 → AgreeBefore n P Q y
+  agree_on a b x y h f g e l next =
+      record { size = l ∙ h.size; before = λ Y size lt. agree_up_to a b x Y h f g e size (omega arith) }
 
   -- after the last vector
-  pub agree_at_last : (a b : Bool) (x : List Sign) → AgreeBefore n P Q x → (IsTrue a ↔ P x) → (IsTrue b ↔ Q x) → not (beq a b) ≡ false → base_three x + 1 ≡ 3 ^ length x → DenoteTheSame n P Q
+  pub agree_at_last : (a b : Bool) (x : List Sign) → AgreeBefore n P Q x → (IsTrue a ↔ P x) → (IsTrue b ↔ Q x)
+      → not (beq a b) ≡ false → base_three x + 1 ≡ 3 ^ length x → DenoteTheSame n P Q
   agree_at_last a b x h f g e end Y size =
       let below = base_three-lt Y in
       let p : 3 ^ length Y ≡ 3 ^ length x = ap (λ k. 3 ^ k) (size ∙ sym h.size) in
       agree_up_to a b x Y h f g e size (omega arith)
 
   -- x is of one alone
-  of_one_alone : (a b : Bool) (x : List Sign) → (IsTrue a ↔ P x) → (IsTrue b ↔ Q x) → not (beq a b) ≡ true → IsOfOneAlone P Q x
+  of_one_alone : (a b : Bool) (x : List Sign) → (IsTrue a ↔ P x) → (IsTrue b ↔ Q x) → not (beq a b) ≡ true
+      → IsOfOneAlone P Q x
   of_one_alone true true x f g e = cc
   of_one_alone true false x f g e = inl (f.0 refl, λ q. let d : false ≡ true = g.1 q in cc d)
   of_one_alone false true x f g e = inr (λ p. let d : false ≡ true = f.1 p in cc d, g.0 refl)
   of_one_alone false false x f g e = cc
 
-  pub first_difference : (a b : Bool) (x : List Sign) → AgreeBefore n P Q x → (IsTrue a ↔ P x) → (IsTrue b ↔ Q x) → not (beq a b) ≡ true → IsFirstDifference n P Q x
+  pub first_difference : (a b : Bool) (x : List Sign) → AgreeBefore n P Q x → (IsTrue a ↔ P x) → (IsTrue b ↔ Q x)
+      → not (beq a b) ≡ true → IsFirstDifference n P Q x
   first_difference a b x h f g e = record {
     size = h.size;
     differs = of_one_alone a b x f g e;

@@ -9,4 +9,5 @@ use Rattle.om_covectors.specs.Minimality.{IsMinimal}
 
 -- some member of minimal support conforms to X and has its sign at a place, counted from 0
 abbrev pub HasMinimalPart : List (List Sign) → List Sign → ℕ → Type 0
-HasMinimalPart members X i = (Y : List Sign) × Contains members Y × IsMinimal members Y × IsConformal Y X × (at Y i ≡ at X i)
+HasMinimalPart members X i = (Y : List Sign) × Contains members Y × IsMinimal members Y × IsConformal Y X
+    × (at Y i ≡ at X i)

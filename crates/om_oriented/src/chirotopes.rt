@@ -11,7 +11,7 @@ use om_chirotope::Chirotope;
 use om_signs::SignVec;
 use om_subsets::Subset;
 
-/// Whether a vector is orthogonal to the vector V of each set of one element more than the rank.
+/// Whether a vector is orthogonal to the vector V of every set of one element more than the rank.
 fn is_orthogonal_to_all(chi: &Chirotope, x: SignVec) -> bool
     requires { length x ≡ chi.now.elements }
     ensures { IsTrue result ↔ IsCovectorOfChirotope chi.now x }
@@ -33,7 +33,8 @@ fn is_orthogonal_to_all(chi: &Chirotope, x: SignVec) -> bool
     }
 }
 
-/// The covectors are the sign vectors that are orthogonal to the vector V of each set of one element more than the rank.
+/// The covectors are the sign vectors that are orthogonal to the vector V of every set of one element more than the
+/// rank.
 impl Oriented for Chirotope {
     ghost is_covector = { IsCovectorOfChirotope };
 

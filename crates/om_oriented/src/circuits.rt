@@ -12,7 +12,7 @@ use super::oriented::Oriented;
 use om_circuits::Circuits;
 use om_signs::SignVec;
 
-/// Whether a vector is orthogonal to each member.
+/// Whether a vector is orthogonal to every member.
 fn is_orthogonal_to_all(members: &[SignVec], x: SignVec) -> bool
     requires { HaveLength (length x) members.now }
     ensures { IsTrue result ↔ All (IsOrthogonal x) members.now }
@@ -20,7 +20,7 @@ fn is_orthogonal_to_all(members: &[SignVec], x: SignVec) -> bool
     members.iter().all(|y| x.orthogonal(*y))
 }
 
-/// The covectors are the sign vectors that are orthogonal to each circuit.
+/// The covectors are the sign vectors that are orthogonal to every circuit.
 impl Oriented for Circuits {
     ghost is_covector = { λ c. IsCovectorOfCircuits c.0 };
 

@@ -12,8 +12,8 @@ use super::oriented::Oriented;
 use om_circuits::Cocircuits;
 use om_signs::SignVec;
 
-/// Whether a vector has at each place of its support the sign of a member that conforms to it: then it is the composition
-/// of all members that conform to it.
+/// Whether a vector has, at each place of its support, the sign of a member that conforms to it. Then it is the
+/// composition of all members that conform to it.
 fn is_composed(members: &[SignVec], x: SignVec) -> bool
     requires { HaveLength (length x) members.now }
     ensures { IsTrue result ↔ ((i : ℕ) → IsInSupport x i → HasConformingMember members.now x i) }
@@ -27,8 +27,8 @@ fn is_composed(members: &[SignVec], x: SignVec) -> bool
     composed == x
 }
 
-/// The covectors are the sign vectors that have at each element of their support the sign of a cocircuit that conforms to
-/// them.
+/// The covectors are the sign vectors that have, at each element of their support, the sign of a cocircuit that
+/// conforms to them.
 impl Oriented for Cocircuits {
     ghost is_covector = { λ c. IsCovectorOfCocircuits c.0 };
 

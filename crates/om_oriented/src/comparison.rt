@@ -8,10 +8,10 @@ use super::oriented::Oriented;
 use super::walk::{following, least};
 
 /// Whether two values with the same number of elements denote the same oriented matroid: the same sign vectors are
-/// covectors of both. Where they don't, the answer is [`Differ`] with the first sign vector, in lexicographic order with
-/// minus before zero before plus, that is a covector of one and not of the other.
+/// covectors of both. Otherwise [`Differ`] has the first sign vector that is a covector of exactly one of them. The
+/// order is lexicographic, with minus before zero before plus.
 ///
-/// For n elements the walk takes up to 3 to the power n sign vectors. It takes no memory.
+/// For n elements the walk tests up to 3^n sign vectors. The call allocates no memory.
 ///
 /// Source: Björner, Las Vergnas, Sturmfels, White and Ziegler, *Oriented Matroids*, chapters 3 and 4.
 pub fn same<A: Oriented, B: Oriented>(a: &A, b: &B) -> Result<(), Differ>

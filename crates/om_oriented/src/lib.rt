@@ -1,5 +1,5 @@
-//! Oriented matroids by their covectors: one trait over chirotopes, circuits, cocircuits and covectors, and the test whether two
-//! values denote the same oriented matroid.
+//! Oriented matroids through their covectors: one trait for chirotopes, circuits, cocircuits and covectors, and the
+//! test whether two values denote the same oriented matroid.
 //!
 //! Source of the notions: Björner, Las Vergnas, Sturmfels, White and Ziegler, Oriented Matroids, chapters 3 and 4.
 #![tactic(auto)]

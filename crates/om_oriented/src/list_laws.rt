@@ -1,5 +1,5 @@
-//! Laws of finite lists of sign vectors that meet the axioms of covectors, and of their members of minimal support. A law is a
-//! function that does nothing: its contract is the law.
+//! Laws of finite lists of sign vectors that satisfy the axioms of covectors, and of their members of minimal support.
+//! Each law is a function that does nothing: its contract is the law.
 
 ghost use Rattle.std.specs.Prelude.{ℕ, List};
 ghost use Rattle.std.specs.List.{Contains};
@@ -17,7 +17,8 @@ ghost use Rattle.om_denotation.specs.Denotation.{DenoteTheSame};
 ghost use Rattle.om_denotation.specs.Families.{as_functions};
 ghost use Rattle.om_oriented.specs.Families.{HasMinimalPart};
 
-/// Lists of n signs that meet the axioms of covectors are functions that meet them, zero off the elements 1 to n.
+/// The functions of lists of n signs are zero off the elements 1 to n. If the lists satisfy the axioms of covectors,
+/// their functions do too.
 ///
 /// Source: Björner, Las Vergnas, Sturmfels, White and Ziegler, *Oriented Matroids*, chapter 4.
 pub fn functions_of_lists()
@@ -27,8 +28,8 @@ pub fn functions_of_lists()
         → CovectorAxioms (IsListed (as_functions members)) }
 {}
 
-/// Conformal decomposition: a covector has at each place of its support the sign of some nonzero covector of minimal
-/// support that conforms to it.
+/// Conformal decomposition: at each place of the support of a covector, some nonzero covector of minimal support
+/// that conforms to it has the same sign.
 ///
 /// Source: Björner, Las Vergnas, Sturmfels, White and Ziegler, *Oriented Matroids*, chapters 3 and 4.
 pub fn conformal_parts_of_lists()
@@ -36,7 +37,7 @@ pub fn conformal_parts_of_lists()
         → (X : List Sign) → Contains members X → (i : ℕ) → IsInSupport X i → HasMinimalPart members X i }
 {}
 
-/// The nonzero covectors of minimal support meet the axioms of circuits.
+/// The nonzero covectors of minimal support satisfy the axioms of circuits.
 ///
 /// Source: Björner, Las Vergnas, Sturmfels, White and Ziegler, *Oriented Matroids*, chapters 3 and 4.
 pub fn cocircuits_of_covectors()
@@ -45,8 +46,8 @@ pub fn cocircuits_of_covectors()
         → MeetsCircuitAxioms cocircuits }
 {}
 
-/// The covectors are the lists of n signs that have at each place of their support the sign of some nonzero covector of
-/// minimal support that conforms to them.
+/// The covectors are the lists of n signs that have, at each place of their support, the sign of some nonzero
+/// covector of minimal support that conforms to them.
 ///
 /// Source: Björner, Las Vergnas, Sturmfels, White and Ziegler, *Oriented Matroids*, chapters 3 and 4.
 pub fn covectors_of_minimal_members()

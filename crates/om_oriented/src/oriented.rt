@@ -12,13 +12,13 @@ use om_signs::{MAX_ELEMENTS, SignVec};
 ///
 /// Source: Björner, Las Vergnas, Sturmfels, White and Ziegler, Oriented Matroids, chapters 3 and 4.
 pub trait Oriented {
-    /// The set of the covectors, as a test of a list of signs.
+    /// The set of the covectors, as a property of a list of signs.
     ghost is_covector: { Self → List Sign → Type 0 };
 
-    /// The number of elements; each covector has as many signs.
+    /// The number of elements; each covector has a sign for each.
     ghost elements: { Self → ℕ };
 
-    /// The value meets the axioms of its type.
+    /// The value satisfies the axioms of its type.
     ghost valid: { Self → Type 0 };
 
     /// The number of elements, from 1 to [`MAX_ELEMENTS`].
@@ -28,7 +28,7 @@ pub trait Oriented {
         ensures high { elements self.now ≤ MAX_ELEMENTS }
         ensures lawful { valid self.now };
 
-    /// Whether a sign vector is a covector. It has one sign for each element. This takes no memory.
+    /// Whether a sign vector is a covector. It has one sign for each element. The call allocates no memory.
     fn is_covector(&self, x: SignVec) -> bool
         requires { length x ≡ elements self.now }
         ensures { IsTrue result ↔ is_covector self.now x };
@@ -37,14 +37,16 @@ pub trait Oriented {
     ghost zero: { (M : Self) → valid M → is_covector M (replicate (elements M) Zero) };
 
     /// The negative of a covector is a covector.
-    ghost negative: { (M : Self) (X : List Sign) → valid M → length X ≡ elements M → is_covector M X → is_covector M (map opposite X) };
+    ghost negative: { (M : Self) (X : List Sign) → valid M → length X ≡ elements M → is_covector M X
+        → is_covector M (map opposite X) };
 
     /// The composition of two covectors is a covector.
     ghost composition: { (M : Self) (X Y : List Sign) → valid M → length X ≡ elements M → length Y ≡ elements M
         → is_covector M X → is_covector M Y → is_covector M (compose X Y) };
 
-    /// Of two covectors each element of the separation is eliminated by a covector: it is zero there, and outside the
-    /// separation it is their composition.
+    /// Some covector eliminates each element of the separation of two covectors: it is zero there, and equals their
+    /// composition outside the separation.
     ghost elimination: { (M : Self) (X Y : List Sign) (e : ℕ) → valid M → length X ≡ elements M → length Y ≡ elements M
-        → is_covector M X → is_covector M Y → 1 ≤ e → IsSeparatedAt X Y e → HasEliminator (elements M) (is_covector M) X Y e };
+        → is_covector M X → is_covector M Y → 1 ≤ e → IsSeparatedAt X Y e
+        → HasEliminator (elements M) (is_covector M) X Y e };
 }

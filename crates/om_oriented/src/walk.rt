@@ -5,7 +5,7 @@ ghost use Rattle.om_oriented.specs.Places.{base_three};
 
 use om_signs::{MAX_PLACES, Sign, SignVec};
 
-/// The first sign vector of a length: all signs are minus.
+/// The first sign vector of a length: all its signs are minus.
 pub fn least(length: u8) -> SignVec
     requires low { 1 ≤ length }
     requires high { length ≤ MAX_PLACES }
@@ -18,7 +18,7 @@ pub fn least(length: u8) -> SignVec
     x
 }
 
-/// The sign vector that comes next, or None where this is the last one of its length.
+/// The next sign vector, or None if this is the last one of its length.
 pub fn following(x: SignVec) -> Option<SignVec>
     ensures none { IsNone result ↔ (base_three x + 1 ≡ 3 ^ length x) }
     ensures size { IfSome result (λ y. length y ≡ length x) }

@@ -1,9 +1,11 @@
 -- Acyclic chirotopes and their extreme elements.
 --
--- Main results: the vector of pluses is orthogonal to a nonzero vector exactly where that has both signs, so that acyclic chirotopes are those without a circuit
--- without a minus (acyclic_both); the circuits and cocircuits that fit where one element is green are those with it as their only minus place (first_circuit_at,
--- first_cocircuit_at, some_item, extreme_item, extreme_both).
-use Rattle.std.proofs.Common.{ℕ, zero, suc, ◌≡◌, ◌≢◌, ◌+◌, ◌-◌, ◌<◌, ◌≤◌, ◌⊎◌, ◌↔◌, List, [], ◌∷◌, ◌++◌, length, replicate, refl, sym, ap, subst, ◌∙◌, inl, inr, ⊎_elim, arith}
+-- Main results: the vector of pluses is orthogonal to a nonzero vector exactly where that has both signs, so that
+-- acyclic chirotopes are those without a circuit without a minus (acyclic_both); the circuits and cocircuits that fit
+-- where one element is green are those with it as their only minus place (first_circuit_at, first_cocircuit_at,
+-- some_item, extreme_item, extreme_both).
+use Rattle.std.proofs.Common.{ℕ, zero, suc, ◌≡◌, ◌≢◌, ◌+◌, ◌-◌, ◌<◌, ◌≤◌, ◌⊎◌, ◌↔◌, List, [], ◌∷◌, ◌++◌, length}
+use Rattle.std.proofs.Common.{replicate, refl, sym, ap, subst, ◌∙◌, inl, inr, ⊎_elim, arith}
 use Rattle.std.specs.Prelude.{Option, None}
 use Rattle.std.proofs.lemmas.Bool.{cases_eq, eq-eqb, ne_eqb}
 use Rattle.std.proofs.lemmas.List.{length-replicate, get_or-replicate, get_or_past, ext_get_or}
@@ -28,7 +30,8 @@ use Rattle.om_paint.specs.declared.painted.Painted.{Painted}
 use Rattle.om_paint.specs.declared.painted.Painted.TheVariants.{Circuit, Cocircuit}
 use Rattle.om_paint.specs.Paintings.{HasNoMinus, IsFirstIfAny, IsPaintingOf}
 use Rattle.om_paint.specs.Classes.{HasMinusAloneAt}
-use Rattle.om_paint.specs.Hulls.{all_plus, IsPositiveCircuit, IsOnlyMinus, IsExtreme, green_alone, IsCocircuitItem, EachItem}
+use Rattle.om_paint.specs.Hulls.{all_plus, IsPositiveCircuit, IsOnlyMinus, IsExtreme, green_alone, IsCocircuitItem}
+use Rattle.om_paint.specs.Hulls.{EachItem}
 use Rattle.om_paint.proofs.Firsts.{first_same}
 use Rattle.om_paint.proofs.Masks.{inside, plus_not_zero, minus_not_zero}
 
@@ -51,13 +54,16 @@ right_nonzero Zero t u n e z = n (sym e)
 right_nonzero Plus t u n e z = n (sym e ∙ z)
 
 -- a product with the vector of pluses is a sign of the vector
-product_from : (n : ℕ) (X : List Sign) (s : Sign) → length X ≡ n → s ≢ Zero → HasProduct (all_plus n) X s → (i : ℕ) × (at X i ≡ s)
+product_from : (n : ℕ) (X : List Sign) (s : Sign) → length X ≡ n → s ≢ Zero → HasProduct (all_plus n) X s → (i : ℕ)
+    × (at X i ≡ s)
 product_from n X s size not h =
     let lt = inside X h.0 (at X h.0) (right_nonzero (at (all_plus n) h.0) (at X h.0) s not h.1) refl in
     (h.0, sym (plus_product (at (all_plus n) h.0) (at X h.0) (plus_at n h.0 (subst (λ k. h.0 < k) size lt))) ∙ h.1)
 
-product_to : (n : ℕ) (X : List Sign) (s : Sign) → length X ≡ n → s ≢ Zero → (i : ℕ) → at X i ≡ s → HasProduct (all_plus n) X s
-product_to n X s size not i e = (i, plus_product (at (all_plus n) i) (at X i) (plus_at n i (subst (λ k. i < k) size (inside X i s not e))) ∙ e)
+product_to : (n : ℕ) (X : List Sign) (s : Sign) → length X ≡ n → s ≢ Zero → (i : ℕ) → at X i ≡ s
+    → HasProduct (all_plus n) X s
+product_to n X s size not i e =
+    (i, plus_product (at (all_plus n) i) (at X i) (plus_at n i (subst (λ k. i < k) size (inside X i s not e))) ∙ e)
 
 sign_cases : (s : Sign) → s ≢ Zero → (s ≡ Plus) ⊎ (s ≡ Minus)
 sign_cases Minus n = inr refl
@@ -97,7 +103,8 @@ red_at e f n = rw (ne_eqb f e n) refl
 -- ---- one minus or none
 
 none_both : (X : List Sign) → HasMinusAloneAt 0 X ↔ HasNoMinus X
-none_both X = (λ h i q. let z = (h i).0 q in omega (arith, z), λ h i. (λ q. absurd (h i q), λ z. absurd (omega (arith, z))))
+none_both X =
+    (λ h i q. let z = (h i).0 q in omega (arith, z), λ h i. (λ q. absurd (h i q), λ z. absurd (omega (arith, z))))
 
 alone_both : (n e : ℕ) (X : List Sign) → length X ≡ n → 1 ≤ e → e ≤ n → HasMinusAloneAt e X ↔ IsOnlyMinus n e X
 alone_both n e X size low high = (
@@ -128,59 +135,74 @@ module _ (m : SignMap) (chirotope : IsChirotope m) where
       let o = (orthogonal_both m chirotope (all_plus m.elements) (length-replicate m.elements Plus)).0 v X c in
       let i = c.nonzero in
       ⊎_elim
-      (λ p. let q = product_from m.elements X Minus (size_of X c) minus_not_zero (o.0 (product_to m.elements X Plus (size_of X c) plus_not_zero i.0 p)) in none q.0 q.1)
+      (λ p. let q = product_from m.elements X Minus (size_of X c) minus_not_zero
+      (o.0 (product_to m.elements X Plus (size_of X c) plus_not_zero i.0 p)) in none q.0 q.1)
       (λ q. none i.0 q)
       (sign_cases (at X i.0) i.1)
 
-  minus_of : ((X : List Sign) → IsPositiveCircuit m X → ⊥) → (X : List Sign) → IsCircuitOfChirotope m X → (i : ℕ) × (at X i ≡ Minus)
+  minus_of : ((X : List Sign) → IsPositiveCircuit m X → ⊥) → (X : List Sign) → IsCircuitOfChirotope m X → (i : ℕ)
+      × (at X i ≡ Minus)
   minus_of h X c = ⊎_elim (λ k. k) (λ none. absurd (h X (c, none))) (some_minus X)
 
-  plus_of : ((X : List Sign) → IsPositiveCircuit m X → ⊥) → (X : List Sign) → IsCircuitOfChirotope m X → (i : ℕ) × (at X i ≡ Plus)
-  plus_of h X c = let k = minus_of h (negated X) ((circuit_axioms m chirotope).symmetric X c) in (k.0, opposite_minus (at X k.0) (sym (at-map-opposite X k.0) ∙ k.1))
+  plus_of : ((X : List Sign) → IsPositiveCircuit m X → ⊥) → (X : List Sign) → IsCircuitOfChirotope m X → (i : ℕ)
+      × (at X i ≡ Plus)
+  plus_of h X c = let k = minus_of h (negated X) ((circuit_axioms m chirotope).symmetric X c) in
+      (k.0, opposite_minus (at X k.0) (sym (at-map-opposite X k.0) ∙ k.1))
 
   covector_of_none : ((X : List Sign) → IsPositiveCircuit m X → ⊥) → IsCovectorOfChirotope m (all_plus m.elements)
   covector_of_none h = (orthogonal_both m chirotope (all_plus m.elements) (length-replicate m.elements Plus)).1 (λ X c.
       let p = plus_of h X c in
-      let q = minus_of h X c in
-      (λ t. product_to m.elements X Minus (size_of X c) minus_not_zero q.0 q.1, λ t. product_to m.elements X Plus (size_of X c) plus_not_zero p.0 p.1))
+      let q = minus_of h X c in (
+        λ t. product_to m.elements X Minus (size_of X c) minus_not_zero q.0 q.1,
+        λ t. product_to m.elements X Plus (size_of X c) plus_not_zero p.0 p.1,
+      ))
 
   pub acyclic_both : IsCovectorOfChirotope m (all_plus m.elements) ↔ ((X : List Sign) → IsPositiveCircuit m X → ⊥)
   acyclic_both = (no_positive, covector_of_none)
 
   -- ---- extreme elements
 
-  only_minus : (e : ℕ) → 1 ≤ e → e ≤ m.elements → (X : List Sign) → IsFittingCircuit m (green_alone e) e X → IsOnlyMinus m.elements e X
+  only_minus : (e : ℕ) → 1 ≤ e → e ≤ m.elements → (X : List Sign) → IsFittingCircuit m (green_alone e) e X
+      → IsOnlyMinus m.elements e X
   only_minus e low high X h = (
-    ⊎_elim (λ p. absurd ((subst (λ k. laws.CircuitMay k (at_element X e)) (green_at e e refl) (h.fits e low high)) p)) (λ q. q) (sign_cases (at_element X e) h.through),
+    ⊎_elim (λ p. absurd ((subst (λ k. laws.CircuitMay k (at_element X e)) (green_at e e refl) (h.fits e low high)) p))
+        (λ q. q) (sign_cases (at_element X e) h.through),
     λ f a b n. subst (λ k. laws.CircuitMay k (at_element X f)) (red_at e f n) (h.fits f a b),
   )
 
-  from_only_minus : (e : ℕ) → (X : List Sign) → IsCircuitOfChirotope m X → IsOnlyMinus m.elements e X → IsFittingCircuit m (green_alone e) e X
+  from_only_minus : (e : ℕ) → (X : List Sign) → IsCircuitOfChirotope m X → IsOnlyMinus m.elements e X
+      → IsFittingCircuit m (green_alone e) e X
   from_only_minus e X c (q, others) = record {
     circuit = c;
     through = λ z. let s = sym q ∙ z in cc;
     fits = λ f a b. ⊎_elim
-        (λ s. subst (λ k. laws.CircuitMay k (at_element X f)) (sym (green_at e f s)) (subst (λ g. at_element X g ≢ Plus) (sym s) (λ p. let t = sym q ∙ p in cc)))
+        (λ s. subst (λ k. laws.CircuitMay k (at_element X f)) (sym (green_at e f s))
+        (subst (λ g. at_element X g ≢ Plus) (sym s) (λ p. let t = sym q ∙ p in cc)))
         (λ n. subst (λ k. laws.CircuitMay k (at_element X f)) (sym (red_at e f n)) (others f a b n))
         (cases_eq f e);
   }
 
-  pub extreme_item : (e : ℕ) → 1 ≤ e → e ≤ m.elements → (item : Painted) → IsPaintingOf m (green_alone e) e item → IsCocircuitItem item ↔ IsExtreme m e
+  pub extreme_item : (e : ℕ) → 1 ≤ e → e ≤ m.elements → (item : Painted) → IsPaintingOf m (green_alone e) e item
+      → IsCocircuitItem item ↔ IsExtreme m e
   extreme_item e low high (Circuit X) h = (λ a. absurd a, λ k. k X h.member.circuit (only_minus e low high X h.member))
   extreme_item e low high (Cocircuit Y) h = (λ a X c o. h.0 X (from_only_minus e X c o), λ k. tt)
 
-  only_minus_of_cocircuit : (e : ℕ) → 1 ≤ e → e ≤ m.elements → (Y : List Sign) → IsFittingCocircuit m (green_alone e) e Y → IsOnlyMinus m.elements e Y
+  only_minus_of_cocircuit : (e : ℕ) → 1 ≤ e → e ≤ m.elements → (Y : List Sign)
+      → IsFittingCocircuit m (green_alone e) e Y → IsOnlyMinus m.elements e Y
   only_minus_of_cocircuit e low high Y h = (
-    ⊎_elim (λ p. absurd ((subst (λ k. laws.CocircuitMay k (at_element Y e)) (green_at e e refl) (h.fits e low high)) p)) (λ q. q) (sign_cases (at_element Y e) h.through),
+    ⊎_elim (λ p. absurd ((subst (λ k. laws.CocircuitMay k (at_element Y e)) (green_at e e refl) (h.fits e low high)) p))
+        (λ q. q) (sign_cases (at_element Y e) h.through),
     λ f a b n. subst (λ k. laws.CocircuitMay k (at_element Y f)) (red_at e f n) (h.fits f a b),
   )
 
-  cocircuit_from_only_minus : (e : ℕ) → (Y : List Sign) → IsCocircuitOfChirotope m Y → IsOnlyMinus m.elements e Y → IsFittingCocircuit m (green_alone e) e Y
+  cocircuit_from_only_minus : (e : ℕ) → (Y : List Sign) → IsCocircuitOfChirotope m Y → IsOnlyMinus m.elements e Y
+      → IsFittingCocircuit m (green_alone e) e Y
   cocircuit_from_only_minus e Y c (q, others) = record {
     cocircuit = c;
     through = λ z. let s = sym q ∙ z in cc;
     fits = λ f a b. ⊎_elim
-        (λ s. subst (λ k. laws.CocircuitMay k (at_element Y f)) (sym (green_at e f s)) (subst (λ g. at_element Y g ≢ Plus) (sym s) (λ p. let t = sym q ∙ p in cc)))
+        (λ s. subst (λ k. laws.CocircuitMay k (at_element Y f)) (sym (green_at e f s))
+        (subst (λ g. at_element Y g ≢ Plus) (sym s) (λ p. let t = sym q ∙ p in cc)))
         (λ n. subst (λ k. laws.CocircuitMay k (at_element Y f)) (sym (red_at e f n)) (others f a b n))
         (cases_eq f e);
   }
@@ -188,33 +210,61 @@ module _ (m : SignMap) (chirotope : IsChirotope m) where
   coloured_alone : (e : ℕ) → IsColoured (green_alone e e)
   coloured_alone e = subst IsColoured (sym (green_at e e refl)) tt
 
-  pub extreme_both : (e : ℕ) → 1 ≤ e → e ≤ m.elements → IsExtreme m e ↔ ((Y : List Sign) × IsFittingCocircuit m (green_alone e) e Y)
+  pub extreme_both : (e : ℕ) → 1 ≤ e → e ≤ m.elements → IsExtreme m e
+      ↔ ((Y : List Sign) × IsFittingCocircuit m (green_alone e) e Y)
   extreme_both e low high = (
-    λ k. ⊎_elim (λ x. absurd (k x.0 x.1.circuit (only_minus e low high x.0 x.1))) (λ y. y) (painting_one m chirotope (green_alone e) e (low, high) (coloured_alone e)),
-    λ y X c o. painting_both m chirotope (green_alone e) e (low, high) (coloured_alone e) X y.0 (from_only_minus e X c o) y.1,
+    λ k. ⊎_elim (λ x. absurd (k x.0 x.1.circuit (only_minus e low high x.0 x.1))) (λ y. y)
+        (painting_one m chirotope (green_alone e) e (low, high) (coloured_alone e)),
+    λ y X c o. painting_both m chirotope (green_alone e) e (low, high) (coloured_alone e) X y.0
+        (from_only_minus e X c o) y.1,
   )
 
   -- ---- the places of the classes
 
-  pub positive_first : (o : Option (List Sign)) → IsFirstIfAny (λ X. IsCircuitOfChirotope m X × HasMinusAloneAt 0 X) o → IsFirstIfAny (IsPositiveCircuit m) o
-  positive_first o h = first_same (λ X. IsCircuitOfChirotope m X × HasMinusAloneAt 0 X) (IsPositiveCircuit m) (λ X a. (a.0, (none_both X).0 a.1)) (λ X a. (a.0, (none_both X).1 a.1)) o h
+  pub positive_first : (o : Option (List Sign)) → IsFirstIfAny (λ X. IsCircuitOfChirotope m X × HasMinusAloneAt 0 X) o
+      → IsFirstIfAny (IsPositiveCircuit m) o
+  positive_first o h = first_same (λ X. IsCircuitOfChirotope m X × HasMinusAloneAt 0 X) (IsPositiveCircuit m)
+      (λ X a. (a.0, (none_both X).0 a.1)) (λ X a. (a.0, (none_both X).1 a.1)) o h
 
   module _ (e : ℕ) (low : 1 ≤ e) (high : e ≤ m.elements) where
-    pub first_circuit_at : (o : Option (List Sign)) → IsFirstIfAny (λ X. IsCircuitOfChirotope m X × HasMinusAloneAt e X) o → IsFirstIfAny (IsFittingCircuit m (green_alone e) e) o
-    first_circuit_at o h = first_same (λ X. IsCircuitOfChirotope m X × HasMinusAloneAt e X) (IsFittingCircuit m (green_alone e) e)
+    pub first_circuit_at : (o : Option (List Sign))
+        → IsFirstIfAny (λ X. IsCircuitOfChirotope m X × HasMinusAloneAt e X) o
+        → IsFirstIfAny (IsFittingCircuit m (green_alone e) e) o
+    first_circuit_at o h = first_same (λ X. IsCircuitOfChirotope m X × HasMinusAloneAt e X)
+        (IsFittingCircuit m (green_alone e) e)
         (λ X a. from_only_minus e X a.0 ((alone_both m.elements e X (circuit_length m X a.0) low high).0 a.1))
-        (λ X a. (a.circuit, (alone_both m.elements e X (circuit_length m X a.circuit) low high).1 (only_minus e low high X a))) o h
+        (λ X a. (
+          a.circuit,
+          (alone_both m.elements e X (circuit_length m X a.circuit) low high).1
+              (only_minus e low high X a),
+        )) o h
 
-    pub first_cocircuit_at : (o : Option (List Sign)) → IsFirstIfAny (λ X. IsCocircuitOfChirotope m X × HasMinusAloneAt e X) o → IsFirstIfAny (IsFittingCocircuit m (green_alone e) e) o
-    first_cocircuit_at o h = first_same (λ X. IsCocircuitOfChirotope m X × HasMinusAloneAt e X) (IsFittingCocircuit m (green_alone e) e)
-        (λ X a. cocircuit_from_only_minus e X a.0 ((alone_both m.elements e X (cocircuit_length m X a.0) low high).0 a.1))
-        (λ X a. (a.cocircuit, (alone_both m.elements e X (cocircuit_length m X a.cocircuit) low high).1 (only_minus_of_cocircuit e low high X a))) o h
+    pub first_cocircuit_at : (o : Option (List Sign))
+        → IsFirstIfAny (λ X. IsCocircuitOfChirotope m X × HasMinusAloneAt e X) o
+        → IsFirstIfAny (IsFittingCocircuit m (green_alone e) e) o
+    first_cocircuit_at o h =
+        first_same (λ X. IsCocircuitOfChirotope m X × HasMinusAloneAt e X) (IsFittingCocircuit m (green_alone e) e)
+        (λ X a. cocircuit_from_only_minus e X a.0
+        ((alone_both m.elements e X (cocircuit_length m X a.0) low high).0 a.1))
+        (λ X a. (
+          a.cocircuit,
+          (alone_both m.elements e X (cocircuit_length m X a.cocircuit) low high).1
+              (only_minus_of_cocircuit e low high X a),
+        )) o h
 
-    pub some_item : IsFirstIfAny (IsFittingCircuit m (green_alone e) e) None → IsFirstIfAny (IsFittingCocircuit m (green_alone e) e) None → ⊥
-    some_item a b = ⊎_elim (λ x. a x.0 x.1) (λ y. b y.0 y.1) (painting_one m chirotope (green_alone e) e (low, high) (coloured_alone e))
+    pub some_item : IsFirstIfAny (IsFittingCircuit m (green_alone e) e) None
+        → IsFirstIfAny (IsFittingCocircuit m (green_alone e) e) None → ⊥
+    some_item a b =
+        ⊎_elim (λ x. a x.0 x.1) (λ y. b y.0 y.1)
+        (painting_one m chirotope (green_alone e) e (low, high) (coloured_alone e))
 
 -- ---- the list of items
 
-pub item_more : (P : ℕ → Painted → Type 0) (e : ℕ) (items : List Painted) (x : Painted) → EachItem P e items → P (e + length items) x → EachItem P e (items ++ x ∷ [])
+pub item_more : (P : ℕ → Painted → Type 0) (e : ℕ) (items : List Painted) (x : Painted) → EachItem P e items
+    → P (e + length items) x → EachItem P e (items ++ x ∷ [])
 item_more P e [] x h p = (let q : e + 0 ≡ e = omega arith in subst (λ k. P k x) q p, tt)
-item_more P e (y ∷ items) x h p = (h.0, item_more P (e + 1) items x h.1 (let q : e + suc (length items) ≡ e + 1 + length items = omega arith in subst (λ k. P k x) q p))
+item_more P e (y ∷ items) x h p = (
+  h.0,
+  item_more P (e + 1) items x h.1 (let q : e + suc (length items) ≡ e + 1 + length items = omega arith in
+      subst (λ k. P k x) q p),
+)

@@ -1,11 +1,13 @@
 -- Classes of sign vectors by masks.
 --
--- Main results: a mask that grows by a bit (mask_with, mask_without); the elements of a sign lie in a mask (within_both); the class of a vector by its
--- minuses (no_minus_class, one_minus_class, no_class).
-use Rattle.std.proofs.Common.{ℕ, ◌≡◌, ◌≢◌, ◌+◌, ◌-◌, ◌*◌, ◌%◌, ◌<◌, ◌^◌, ◌↔◌, List, length, min, sym, ap, subst, ◌∙◌, inl, inr, arith, bit_and, bit_or, w32}
+-- Main results: a mask that grows by a bit (mask_with, mask_without); the elements of a sign lie in a mask
+-- (within_both); the class of a vector by its minuses (no_minus_class, one_minus_class, no_class).
+use Rattle.std.proofs.Common.{ℕ, ◌≡◌, ◌≢◌, ◌+◌, ◌-◌, ◌*◌, ◌%◌, ◌<◌, ◌^◌, ◌↔◌, List, length, min, sym, ap, subst, ◌∙◌}
+use Rattle.std.proofs.Common.{inl, inr, arith, bit_and, bit_or, w32}
 use Rattle.std.specs.Prelude.{Option, None, Some}
 use Rattle.std.specs.Int.{bit_at, trailing_zeros}
-use Rattle.std.proofs.lemmas.Nat.Bits.{bit_at-zero, bit_at-lt, bit_at_above, bit_at_set_same, bit_at_set_other, bit_at-pow_same, bit_at-pow_other, bit_at-trailing_zeros, same_from_bits}
+use Rattle.std.proofs.lemmas.Nat.Bits.{bit_at-zero, bit_at-lt, bit_at_above, bit_at_set_same, bit_at_set_other}
+use Rattle.std.proofs.lemmas.Nat.Bits.{bit_at-pow_same, bit_at-pow_other, bit_at-trailing_zeros, same_from_bits}
 use Rattle.std.proofs.lemmas.Bool.{cases_lt, cases_eq}
 use Rattle.std.proofs.lemmas.List.{get_or_past}
 use Rattle.om_signs.specs.declared.sign.Sign.{Sign}
@@ -28,9 +30,14 @@ not_both b z o = omega arith
 module _ (P : ℕ → Type 0) (k mask : ℕ) (m : IsMaskOf k P mask) where
   pub mask_with : k < 32 → P k → IsMaskOf (k + 1) P (bit_or mask (1 * 2 ^ k % 2 ^ 32))
   mask_with small p = record {
-    within = lt_from_bits (bit_or mask (1 * 2 ^ k % 2 ^ 32)) (k + 1) (λ i ge. bit_at_set_other w32 mask k small i (λ e. omega arith) ∙ bit_at_above mask k i m.within (omega arith));
+    within = lt_from_bits (bit_or mask (1 * 2 ^ k % 2 ^ 32)) (k + 1)
+        (λ i ge. bit_at_set_other w32 mask k small i (λ e. omega arith) ∙ bit_at_above mask k i m.within (omega arith));
     holds = λ i lt. elim (cases_eq i k) [
-      | inl e ↦ (λ b. subst P (sym e) p, λ q. ap (bit_at (bit_or mask (1 * 2 ^ k % 2 ^ 32))) e ∙ bit_at_set_same w32 mask k small)
+      | inl e ↦ (
+        λ b. subst P (sym e) p,
+        λ q. ap (bit_at (bit_or mask (1 * 2 ^ k % 2 ^ 32))) e
+            ∙ bit_at_set_same w32 mask k small,
+      )
       | inr n ↦
           let same = bit_at_set_other w32 mask k small i n in
           let h = m.holds i (omega arith) in
@@ -42,7 +49,10 @@ module _ (P : ℕ → Type 0) (k mask : ℕ) (m : IsMaskOf k P mask) where
   mask_without none = record {
     within = lt_from_bits mask (k + 1) (λ i ge. bit_at_above mask k i m.within (omega arith));
     holds = λ i lt. elim (cases_eq i k) [
-      | inl e ↦ (λ b. absurd (not_both (bit_at mask i) (bit_at_above mask k i m.within (omega arith)) b), λ q. absurd (none (subst P e q)))
+      | inl e ↦ (
+        λ b. absurd (not_both (bit_at mask i) (bit_at_above mask k i m.within (omega arith)) b),
+        λ q. absurd (none (subst P e q)),
+      )
       | inr n ↦ m.holds i (omega arith)
     ];
   }
@@ -66,7 +76,8 @@ module _ (X : List Sign) (s : Sign) (not : s ≢ Zero) (mask : ℕ) (m : IsMaskO
   )
 
   -- they lie in a mask exactly where nothing is left without it
-  pub within_both : mask < 2 ^ 32 → (free : ℕ) → free < 2 ^ 32 → (bit_and mask (4294967295 - free) ≡ 0) ↔ ((i : ℕ) → at X i ≡ s → bit_at free i ≡ 1)
+  pub within_both : mask < 2 ^ 32 → (free : ℕ) → free < 2 ^ 32 → (bit_and mask (4294967295 - free) ≡ 0)
+      ↔ ((i : ℕ) → at X i ≡ s → bit_at free i ≡ 1)
   within_both small free fits = (
     λ z i q.
         let b = (bit_both i).0 q in
@@ -74,7 +85,8 @@ module _ (X : List Sign) (s : Sign) (not : s ≢ Zero) (mask : ℕ) (m : IsMaskO
         let o : bit_at (bit_and mask (4294967295 - free)) i ≡ 0 = ap (λ k. bit_at k i) z ∙ bit_at-zero i in
         let l = bit_at-lt free i in
         omega arith,
-    λ h. same_from_bits (bit_and mask (4294967295 - free)) 0 (λ i. bit_at_and_not mask free i small fits ∙ left h i ∙ sym (bit_at-zero i)),
+    λ h. same_from_bits (bit_and mask (4294967295 - free)) 0
+        (λ i. bit_at_and_not mask free i small fits ∙ left h i ∙ sym (bit_at-zero i)),
   )
     where
       left : ((i : ℕ) → at X i ≡ s → bit_at free i ≡ 1) → (i : ℕ) → min (bit_at mask i) (1 - bit_at free i) ≡ 0
@@ -121,7 +133,8 @@ module _ (X : List Sign) (mask : ℕ) (m : IsMaskOf (length X) (IsMinus X) mask)
       λ s k. let s' = some_same (t + 1) i s in (
         λ q. elim (cases_eq k t) [
           | inl j ↦ omega arith
-          | inr n ↦ absurd (not_both (bit_at mask k) (ap (λ j. bit_at j k) e ∙ bit_at-pow_other t k n) ((minus_both k).0 q))
+          | inr n ↦
+              absurd (not_both (bit_at mask k) (ap (λ j. bit_at j k) e ∙ bit_at-pow_other t k n) ((minus_both k).0 q))
         ],
         λ f. (minus_both k).1 (let j : k ≡ t = omega arith in ap (bit_at mask) j ∙ here),
       ),

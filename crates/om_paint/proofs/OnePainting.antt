@@ -1,6 +1,8 @@
--- A map, a colouring and an element have one painting at most, and it depends on the colours of the elements 1 to n alone.
+-- A map, a colouring and an element have one painting at most, and it depends on the colours of the elements 1 to n
+-- alone.
 --
--- Main results: one_first, a family has one first member at most; one_painting; same_painting, paintings by colours that agree.
+-- Main results: one_first, a family has one first member at most; one_painting; same_painting, paintings by colours
+-- that agree.
 -- Reference: Björner, Las Vergnas, Sturmfels, White and Ziegler, Oriented Matroids, chapter 3.
 use Rattle.std.specs.Prelude.{ℕ, ◌≡◌, ◌≤◌, List, Some, refl}
 use Rattle.std.specs.Ordering.{ordering_reverse}
@@ -40,17 +42,45 @@ module _ (m : SignMap) (colour : ℕ → Colour) (e : ℕ) where
 
 module _ (m : SignMap) (c d : ℕ → Colour) (agree : (f : ℕ) → 1 ≤ f → f ≤ m.elements → c f ≡ d f) (e : ℕ) where
   same_circuit : (X : List Sign) → IsFittingCircuit m c e X → IsFittingCircuit m d e X
-  same_circuit X h = record { circuit = h.circuit; through = h.through; fits = λ f low high. subst (λ k. CircuitMay k (at_element X f)) (agree f low high) (h.fits f low high) }
+  same_circuit X h =
+      record {
+        circuit = h.circuit;
+        through = h.through;
+        fits =
+            λ f low high. subst (λ k. CircuitMay k (at_element X f)) (agree f low high) (h.fits f low high);
+      }
 
   circuit_back : (X : List Sign) → IsFittingCircuit m d e X → IsFittingCircuit m c e X
-  circuit_back X h = record { circuit = h.circuit; through = h.through; fits = λ f low high. subst (λ k. CircuitMay k (at_element X f)) (sym (agree f low high)) (h.fits f low high) }
+  circuit_back X h =
+      record {
+        circuit = h.circuit;
+        through = h.through;
+        fits =
+            λ f low high. subst (λ k. CircuitMay k (at_element X f)) (sym (agree f low high)) (h.fits f low high);
+      }
 
   same_cocircuit : (Y : List Sign) → IsFittingCocircuit m c e Y → IsFittingCocircuit m d e Y
-  same_cocircuit Y h = record { cocircuit = h.cocircuit; through = h.through; fits = λ f low high. subst (λ k. CocircuitMay k (at_element Y f)) (agree f low high) (h.fits f low high) }
+  same_cocircuit Y h =
+      record {
+        cocircuit = h.cocircuit;
+        through = h.through;
+        fits =
+            λ f low high. subst (λ k. CocircuitMay k (at_element Y f)) (agree f low high) (h.fits f low high);
+      }
 
   cocircuit_back : (Y : List Sign) → IsFittingCocircuit m d e Y → IsFittingCocircuit m c e Y
-  cocircuit_back Y h = record { cocircuit = h.cocircuit; through = h.through; fits = λ f low high. subst (λ k. CocircuitMay k (at_element Y f)) (sym (agree f low high)) (h.fits f low high) }
+  cocircuit_back Y h =
+      record {
+        cocircuit = h.cocircuit;
+        through = h.through;
+        fits =
+            λ f low high. subst (λ k. CocircuitMay k (at_element Y f)) (sym (agree f low high)) (h.fits f low high);
+      }
 
   pub same_painting : (x : Painted) → IsPaintingOf m c e x → IsPaintingOf m d e x
-  same_painting (Circuit X) h = first_same (IsFittingCircuit m c e) (IsFittingCircuit m d e) same_circuit circuit_back (Some X) h
-  same_painting (Cocircuit Y) h = (λ X k. h.0 X (circuit_back X k), first_same (IsFittingCocircuit m c e) (IsFittingCocircuit m d e) same_cocircuit cocircuit_back (Some Y) h.1)
+  same_painting (Circuit X) h =
+      first_same (IsFittingCircuit m c e) (IsFittingCircuit m d e) same_circuit circuit_back (Some X) h
+  same_painting (Cocircuit Y) h = (
+    λ X k. h.0 X (circuit_back X k),
+    first_same (IsFittingCocircuit m c e) (IsFittingCocircuit m d e) same_cocircuit cocircuit_back (Some Y) h.1,
+  )

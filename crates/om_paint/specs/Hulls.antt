@@ -22,7 +22,7 @@ all_plus n = replicate n Plus
 abbrev pub IsPositiveCircuit : SignMap → List Sign → Type 0
 IsPositiveCircuit m X = IsCircuitOfChirotope m X × HasNoMinus X
 
--- e is the only element where the vector is minus
+-- e is the only element at which the vector is minus
 abbrev pub IsOnlyMinus : ℕ → ℕ → List Sign → Type 0
 IsOnlyMinus n e X = (at_element X e ≡ Minus) × ((f : ℕ) → 1 ≤ f → f ≤ n → f ≢ e → at_element X f ≢ Minus)
 
@@ -34,12 +34,12 @@ IsExtreme m e = (X : List Sign) → IsCircuitOfChirotope m X → IsOnlyMinus m.e
 abbrev pub green_alone : ℕ → ℕ → Colour
 green_alone e f = cond (nat_eq f e) green red
 
--- a cocircuit
+-- the item is a cocircuit
 abbrev pub IsCocircuitItem : Painted → Type 0
 IsCocircuitItem (Circuit X) = ⊥
 IsCocircuitItem (Cocircuit Y) = Unit {0}
 
--- it holds of each item, which are those of the elements from e on
+-- each item has the property; the items are those of the elements from e on
 abbrev pub EachItem : (ℕ → Painted → Type 0) → ℕ → List Painted → Type 0
 EachItem P e [] = Unit {0}
 EachItem P e (x ∷ xs) = P e x × EachItem P (e + 1) xs
@@ -49,7 +49,7 @@ abbrev pub IsCyclic : HullError → Type 0
 IsCyclic (Cyclic X) = Unit {0}
 IsCyclic Memory = ⊥
 
--- it holds of the vector that the error names, if it names one
+-- the vector that the error names, if it names one, has the property
 abbrev pub IfCyclic : (List Sign → Type 0) → HullError → Type 0
 IfCyclic P (Cyclic X) = P X
 IfCyclic P Memory = Unit {0}

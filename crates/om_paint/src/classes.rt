@@ -1,14 +1,14 @@
-//! Classes of sign vectors, of which a search finds the first members.
+//! Classes of sign vectors, whose first members a search finds.
 
 ghost use Rattle.std.specs.Prelude.{ℕ, ◌≡◌, ◌<◌, ◌↔◌, List, Some, IfSome, length};
 ghost use Rattle.om_signs.specs.declared.sign.Sign.{Sign as Signs};
 
 use om_signs::{MAX_ELEMENTS, SignVec};
 
-/// How many classes there may be: one for each element, and one more.
+/// The greatest number of classes: one for each element, and one more.
 pub const CLASSES: usize = MAX_ELEMENTS as usize + 1;
 
-/// For each class the first of its members that were met so far.
+/// For each class, the first one of its members that have been met so far.
 pub type Firsts = [Option<SignVec>; CLASSES];
 
 /// Classes of the sign vectors of one length, numbered from 0 on. No vector is in two of them.

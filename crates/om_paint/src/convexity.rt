@@ -6,7 +6,8 @@ ghost use Rattle.om_denotation.specs.Circuits.{IsCircuitOfChirotope, IsCocircuit
 ghost use Rattle.om_denotation.specs.Covectors.{IsCovectorOfChirotope};
 ghost use Rattle.om_paint.specs.Paintings.{IsFirst, IsFirstIfAny, IsPaintingOf};
 ghost use Rattle.om_paint.specs.Classes.{HasMinusAloneAt};
-ghost use Rattle.om_paint.specs.Hulls.{all_plus, IsPositiveCircuit, IsExtreme, green_alone, IsCocircuitItem, EachItem, IsCyclic, IfCyclic};
+ghost use Rattle.om_paint.specs.Hulls.{all_plus, IsPositiveCircuit, IsExtreme, green_alone, IsCocircuitItem, EachItem};
+ghost use Rattle.om_paint.specs.Hulls.{IsCyclic, IfCyclic};
 
 use super::classes::{CLASSES, Firsts};
 use super::hull_error::HullError;
@@ -18,7 +19,7 @@ use om_oriented::Oriented;
 use om_signs::{List, MAX_PLACES, Sign, SignVec};
 use std::alloc::Global;
 
-/// Whether the oriented matroid is acyclic: the vector of all pluses is a covector. It takes no memory.
+/// Whether the oriented matroid is acyclic: the vector of all pluses is a covector. The call allocates no memory.
 ///
 /// Source: Björner, Las Vergnas, Sturmfels, White and Ziegler, *Oriented Matroids*, chapter 3.
 pub fn acyclic<M: Oriented>(m: &M) -> bool
@@ -40,13 +41,13 @@ fn greatest(length: u8) -> SignVec
     x
 }
 
-/// What tells of each element of an acyclic oriented matroid whether it is extreme: what fits at the element where it is
-/// green and all others are red, as [`paint`] gives it. It is a cocircuit exactly where the element is extreme, so that no
-/// circuit has it as its only minus place; and else the first circuit that has. The list has one item for each element, in
-/// order, and takes its memory from `alloc`.
+/// For each element of an acyclic oriented matroid, what shows whether it is extreme. This is the result of
+/// [`paint`] with the element green and all others red. It is a cocircuit exactly if the element is extreme, so
+/// that no circuit has it as its only minus place. Otherwise it is the first such circuit. The list has one item
+/// for each element, in order. Its memory comes from `alloc`.
 ///
-/// [`HullError::Cyclic`] comes exactly where the oriented matroid isn't acyclic, and names the first circuit without a
-/// minus: it is acyclic exactly where no circuit is without one. [`HullError::Memory`] comes only for want of memory.
+/// [`HullError::Cyclic`] comes exactly if the oriented matroid isn't acyclic, that is, exactly if some circuit has
+/// no minus. It names the first such circuit. [`HullError::Memory`] comes only if memory runs out.
 ///
 /// Source: Björner, Las Vergnas, Sturmfels, White and Ziegler, *Oriented Matroids*, chapter 3.
 pub fn hull(alloc: Global, chi: &Chirotope) -> Result<List<Painted>, HullError>
@@ -71,13 +72,15 @@ pub fn hull(alloc: Global, chi: &Chirotope) -> Result<List<Painted>, HullError>
     Ok(items)
 }
 
-/// What fits at an element that is green, with all others red: the first circuit or the first cocircuit that has it as its
-/// only minus. The element is from 1 to n.
+/// What fits at element e, with e green and all others red: the first circuit or the first cocircuit that has e as
+/// its only minus. The element is from 1 to n.
 fn evidence(chi: &Chirotope, circuits: &Firsts, cocircuits: &Firsts, e: u8) -> Painted
     requires low { 1 ≤ e }
     requires high { e ≤ chi.now.elements }
-    requires circuits { (i : ℕ) → i < CLASSES → IsFirstIfAny (λ X. IsCircuitOfChirotope chi.now X × HasMinusAloneAt i X) (get_or circuits.now i None) }
-    requires cocircuits { (i : ℕ) → i < CLASSES → IsFirstIfAny (λ X. IsCocircuitOfChirotope chi.now X × HasMinusAloneAt i X) (get_or cocircuits.now i None) }
+    requires circuits { (i : ℕ) → i < CLASSES
+        → IsFirstIfAny (λ X. IsCircuitOfChirotope chi.now X × HasMinusAloneAt i X) (get_or circuits.now i None) }
+    requires cocircuits { (i : ℕ) → i < CLASSES
+        → IsFirstIfAny (λ X. IsCocircuitOfChirotope chi.now X × HasMinusAloneAt i X) (get_or cocircuits.now i None) }
     ensures painting { IsPaintingOf chi.now (green_alone e) e result }
     ensures extreme { IsCocircuitItem result ↔ IsExtreme chi.now e }
 {
@@ -87,7 +90,7 @@ fn evidence(chi: &Chirotope, circuits: &Firsts, cocircuits: &Firsts, e: u8) -> P
     }
     match cocircuits[e as usize] {
         Some(y) => Painted::Cocircuit(y),
-        // by the painting lemma a cocircuit fits where no circuit does
+        // by the painting lemma, some cocircuit fits if no circuit does
         None => unreachable!(),
     }
 }

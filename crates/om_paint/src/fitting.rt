@@ -1,4 +1,4 @@
-//! The sign vectors that fit a colouring, told by masks.
+//! The sign vectors that fit a colouring, given by masks.
 
 ghost use Rattle.std.specs.Prelude.{ℕ, ◌≡◌, ◌<◌, ◌≤◌, ◌↔◌, List, IsTrue, Some, IfSome, get_or, length};
 ghost use Rattle.om_signs.specs.declared.sign.Sign.{Sign as Signs};
@@ -11,8 +11,8 @@ use super::classes::{CLASSES, Classes};
 use super::colour::Colour;
 use om_signs::{MAX_ELEMENTS, Sign, SignVec};
 
-/// The vectors of a length that aren't zero at e, are plus only where a mask says that they may be, and minus only where
-/// another says so. They are the class 0, and there is no other.
+/// The vectors of a length that aren't zero at e, are plus only at elements of one mask, and minus only at elements
+/// of another. They are the class 0, and there is no other.
 #[derive(Drop)]
 pub struct Fitting {
     elements: u8,
@@ -37,12 +37,13 @@ impl Classes for Fitting {
 }
 
 impl Fitting {
-    /// The vectors whose signs a colouring allows a circuit, and that aren't zero at e.
+    /// The vectors that aren't zero at e and whose signs a colouring allows in a circuit.
     pub fn of_circuits(colours: &[Colour], e: u8) -> Fitting
         requires few { length colours.now ≤ MAX_ELEMENTS }
         ensures elements { result.elements ≡ length colours.now }
         ensures place { result.e ≡ e }
-        ensures allowed { (X : List Signs) → length X ≡ length colours.now → IsAllowed result.may_be_plus result.may_be_minus result.e X ↔ FitsCircuit colours.now e X }
+        ensures allowed { (X : List Signs) → length X ≡ length colours.now
+            → IsAllowed result.may_be_plus result.may_be_minus result.e X ↔ FitsCircuit colours.now e X }
     {
         Fitting {
             elements: colours.len() as u8,
@@ -52,12 +53,13 @@ impl Fitting {
         }
     }
 
-    /// The vectors whose signs a colouring allows a cocircuit, and that aren't zero at e.
+    /// The vectors that aren't zero at e and whose signs a colouring allows in a cocircuit.
     pub fn of_cocircuits(colours: &[Colour], e: u8) -> Fitting
         requires few { length colours.now ≤ MAX_ELEMENTS }
         ensures elements { result.elements ≡ length colours.now }
         ensures place { result.e ≡ e }
-        ensures allowed { (X : List Signs) → length X ≡ length colours.now → IsAllowed result.may_be_plus result.may_be_minus result.e X ↔ FitsCocircuit colours.now e X }
+        ensures allowed { (X : List Signs) → length X ≡ length colours.now
+            → IsAllowed result.may_be_plus result.may_be_minus result.e X ↔ FitsCocircuit colours.now e X }
     {
         Fitting {
             elements: colours.len() as u8,
@@ -83,7 +85,7 @@ impl Fitting {
     }
 }
 
-/// The elements at which a colouring allows a circuit a sign, as a mask.
+/// The elements at which a colouring allows a sign in a circuit, as a mask.
 fn open_to_circuits(colours: &[Colour], sign: Sign) -> u32
     requires few { length colours.now ≤ MAX_ELEMENTS }
     ensures { IsMaskOf (length colours.now) (λ i. CircuitMay (shade (get_or colours.now i Colour.Black)) sign) result }
@@ -97,10 +99,11 @@ fn open_to_circuits(colours: &[Colour], sign: Sign) -> u32
     mask
 }
 
-/// The elements at which a colouring allows a cocircuit a sign, as a mask.
+/// The elements at which a colouring allows a sign in a cocircuit, as a mask.
 fn open_to_cocircuits(colours: &[Colour], sign: Sign) -> u32
     requires few { length colours.now ≤ MAX_ELEMENTS }
-    ensures { IsMaskOf (length colours.now) (λ i. CocircuitMay (shade (get_or colours.now i Colour.Black)) sign) result }
+    ensures { IsMaskOf (length colours.now) (λ i. CocircuitMay (shade (get_or colours.now i Colour.Black)) sign)
+        result }
 {
     let mut mask = 0u32;
     for i in 0..colours.len() {
@@ -111,7 +114,7 @@ fn open_to_cocircuits(colours: &[Colour], sign: Sign) -> u32
     mask
 }
 
-/// Whether a colour allows a circuit a sign.
+/// Whether a colour allows a sign in a circuit.
 fn circuit_may(colour: Colour, sign: Sign) -> bool
     ensures { IsTrue result ↔ CircuitMay (shade colour) sign }
 {
@@ -123,7 +126,7 @@ fn circuit_may(colour: Colour, sign: Sign) -> bool
     }
 }
 
-/// Whether a colour allows a cocircuit a sign.
+/// Whether a colour allows a sign in a cocircuit.
 fn cocircuit_may(colour: Colour, sign: Sign) -> bool
     ensures { IsTrue result ↔ CocircuitMay (shade colour) sign }
 {

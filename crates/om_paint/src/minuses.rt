@@ -6,8 +6,8 @@ ghost use Rattle.om_paint.specs.Classes.{HasMinusAloneAt};
 use super::classes::{CLASSES, Classes};
 use om_signs::SignVec;
 
-/// The vectors of a length with at most one minus: the class 0 are those without a minus, and the class e are those whose
-/// only minus is at e.
+/// The vectors of a length with at most one minus. The class 0 are those without a minus, and the class e are those
+/// whose only minus is at e.
 #[derive(Drop)]
 pub struct Minuses {
     pub elements: u8,

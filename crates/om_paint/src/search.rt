@@ -9,11 +9,12 @@ use om_chirotope::Chirotope;
 use om_signs::SignVec;
 use om_subsets::Subset;
 
-/// The first circuit of each class, if it has any. It takes no memory.
+/// The first circuit of each class, if it has one. The call allocates no memory.
 pub fn first_circuits<C: Classes>(chi: &Chirotope, classes: &C) -> Firsts
     requires valid { C.valid classes.now }
     requires elements { C.elements classes.now ≡ chi.now.elements }
-    ensures { (i : ℕ) → i < CLASSES → IsFirstIfAny (λ X. IsCircuitOfChirotope chi.now X × C.holds classes.now i X) (get_or result i None) }
+    ensures { (i : ℕ) → i < CLASSES
+        → IsFirstIfAny (λ X. IsCircuitOfChirotope chi.now X × C.holds classes.now i X) (get_or result i None) }
 {
     let mut firsts = [None; CLASSES];
     let rank = chi.rank();
@@ -34,11 +35,12 @@ pub fn first_circuits<C: Classes>(chi: &Chirotope, classes: &C) -> Firsts
     }
 }
 
-/// The first cocircuit of each class, if it has any. It takes no memory.
+/// The first cocircuit of each class, if it has one. The call allocates no memory.
 pub fn first_cocircuits<C: Classes>(chi: &Chirotope, classes: &C) -> Firsts
     requires valid { C.valid classes.now }
     requires elements { C.elements classes.now ≡ chi.now.elements }
-    ensures { (i : ℕ) → i < CLASSES → IsFirstIfAny (λ X. IsCocircuitOfChirotope chi.now X × C.holds classes.now i X) (get_or result i None) }
+    ensures { (i : ℕ) → i < CLASSES
+        → IsFirstIfAny (λ X. IsCocircuitOfChirotope chi.now X × C.holds classes.now i X) (get_or result i None) }
 {
     let mut firsts = [None; CLASSES];
     let rank = chi.rank();
@@ -59,11 +61,12 @@ pub fn first_cocircuits<C: Classes>(chi: &Chirotope, classes: &C) -> Firsts
     }
 }
 
-/// Puts a vector that isn't zero into the place of its class, if it is in one, where none that comes before stands there.
+/// Puts a nonzero vector into the place of its class, if it has one, unless an earlier vector is there.
 fn meet<C: Classes>(firsts: &mut Firsts, classes: &C, x: SignVec)
     requires valid { C.valid classes.now }
     requires size { length x ≡ C.elements classes.now }
-    ensures { (i : ℕ) → i < CLASSES → IsEarlierOf (C.holds classes.now i) (get_or firsts.old i None) x (get_or firsts.new i None) }
+    ensures { (i : ℕ) → i < CLASSES
+        → IsEarlierOf (C.holds classes.now i) (get_or firsts.old i None) x (get_or firsts.new i None) }
 {
     if x.support() == 0 {
         return;

@@ -1,6 +1,5 @@
--- The piece in the making: what is kept of it and of its last line, and what a byte more makes of it. This is how the
--- cutter works; what it is
--- for, the pieces of an input, stands in `Pieces`.
+-- The piece in the making: what is kept of it and of its last line, and how a byte changes it. This is how the
+-- cutter works; the pieces of an input, which it is for, are defined in `Pieces`.
 use Rattle.std.specs.Prelude.{ℕ, ◌-◌, ◌+◌, List, [], ◌∷◌, ◌++◌, Bool, true, false, cond, nat_eq, nat_le, ◌&&◌, ◌||◌}
 use Rattle.std.specs.Prelude.{take, Option, Some, None}
 use Rattle.om_signs.specs.declared.limits.TheConstants.{MAX_INPUT}
@@ -9,7 +8,7 @@ use Rattle.om_pieces.specs.declared.seen.Seen.{Seen}
 use Rattle.om_pieces.specs.declared.seen.Seen.TheVariants.{Blank, BlankComment, E, En, End, EndBlank, EndComment, O, Om}
 use Rattle.om_pieces.specs.declared.seen.Seen.TheVariants.{OmMore, Other}
 
--- what a `#`, a blank and any other byte make of what was seen of a line
+-- how a `#`, a blank and any other byte change what was seen of a line
 abbrev pub with_comment : Seen → Seen
 with_comment Blank = BlankComment
 with_comment BlankComment = BlankComment
@@ -40,7 +39,7 @@ with_letter O b = cond (nat_eq b 109) Om Other
 with_letter OmMore b = OmMore
 with_letter _ b = Other
 
--- what was seen of a line, with a byte more
+-- what is seen of a line with one more byte
 abbrev pub seen_with : Seen → ℕ → Seen
 seen_with s b = cond (nat_eq b 35) (with_comment s) (cond (is_blank b) (with_blank s) (with_letter s b))
 
@@ -61,7 +60,7 @@ om_seen Om = true
 om_seen OmMore = true
 om_seen _ = false
 
--- the most bytes that are kept
+-- the greatest number of bytes that are kept
 abbrev pub most : ℕ
 most = MAX_INPUT + 1
 
@@ -73,24 +72,24 @@ pub record Making : Type 0 where
   pub line : List ℕ
   -- what was seen of the last line
   pub seen : Seen
-  -- how many `end` lines close a piece, and how many are wanting
+  -- how many `end` lines close a piece, and how many are still missing
   pub wanted : ℕ
   pub missing : ℕ
   -- whether a line before the last one has a word
   pub some : Bool
 
--- the first bytes, with a byte or a line more
+-- the first bytes, with one more byte or line
 abbrev pub with_byte : List ℕ → ℕ → List ℕ
 with_byte line b = take most (line ++ b ∷ [])
 
 abbrev pub with_line : List ℕ → List ℕ → List ℕ
 with_line kept line = take most (kept ++ line)
 
--- no byte of a piece
+-- the making before any byte of a piece
 abbrev pub nothing : ℕ → Making
 nothing wanted = record { kept = []; line = []; seen = Blank; wanted = wanted; missing = wanted; some = false }
 
--- the last line goes to the piece
+-- the last line is appended to the piece
 abbrev pub lengthened : Making → Bool → ℕ → Making
 lengthened m some missing =
     record {
@@ -102,11 +101,11 @@ lengthened m some missing =
       some = some;
     }
 
--- the last line is the first one of the next piece
+-- the last line becomes the first one of the next piece
 abbrev pub begun_anew : Making → Making
 begun_anew m = record { kept = m.line; line = []; seen = Blank; wanted = m.wanted; missing = m.wanted; some = true }
 
--- what the end of a line makes of it, and the piece that is then whole
+-- the making after the end of a line, and the piece that is then complete
 abbrev pub with_end : Making → Making × Option (List ℕ)
 with_end m =
     cond (om_seen m.seen && m.some) (begun_anew m, Some m.kept)
@@ -115,7 +114,7 @@ with_end m =
     (lengthened m true (m.missing - 1), None))
     (lengthened m (m.some || some_seen m.seen) m.missing, None))
 
--- the last line, with a byte more
+-- the last line, with one more byte
 abbrev pub with_more : Making → ℕ → Seen → Making
 with_more m b seen =
     record {
@@ -128,24 +127,24 @@ with_more m b seen =
           m.some;
     }
 
--- what a byte makes of it, and the piece that is then whole
+-- the making after a byte, and the piece that is then complete
 abbrev pub fed : Making → ℕ → Making × Option (List ℕ)
 fed m b = cond (nat_eq b 10) (with_end (with_more m b m.seen)) (with_more m b (seen_with m.seen b), None)
 
--- the end of the input, where a last line that no line feed ends is one too
+-- the end of the input; a last line without a line feed is a line too
 abbrev pub last_ended : Making → Making × Option (List ℕ)
 last_ended m = cond (has_any m.line) (with_end m) (m, None)
 
--- what is left behind the end of the input, where it is a piece
+-- what is left after the end of the input, if it is a piece
 abbrev pub rest_of : Making → Option (List ℕ)
 rest_of m = cond m.some (Some m.kept) None
 
--- the piece, where there is one
+-- the piece, if there is one, as a list
 abbrev pub option_list : Option (List ℕ) → List (List ℕ)
 option_list (Some piece) = piece ∷ []
 option_list None = []
 
--- the pieces that it makes with these bytes up to the end of the input; of each, the first bytes
+-- the pieces that are made with these bytes up to the end of the input; of each, the first bytes
 abbrev pub made : Making → List ℕ → List (List ℕ)
 made m [] = option_list ((last_ended m).1) ++ option_list (rest_of ((last_ended m).0))
 made m (b ∷ bs) = option_list ((fed m b).1) ++ made ((fed m b).0) bs

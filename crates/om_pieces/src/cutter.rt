@@ -9,11 +9,11 @@ use std::alloc::Global;
 use std::marker::Model;
 use std::mem;
 
-/// The most bytes that are kept of a piece: one more than an input may have, so that a longer one is told by what is
-/// kept.
+/// The greatest number of bytes that are kept of a piece. It is one more than an input may have, so that the kept
+/// bytes show whether the piece is longer.
 const MOST: usize = MAX_INPUT + 1;
 
-/// Takes an input byte by byte, and gives its pieces, of each no more than its first [`MOST`] bytes.
+/// Takes an input byte by byte, and gives its pieces, of each at most its first [`MOST`] bytes.
 #[derive(Drop)]
 pub struct Cutter {
     kept: Vec<u8>,
@@ -43,7 +43,7 @@ impl Model for Cutter {
 }
 
 impl Cutter {
-    /// A cutter before the first byte, of pieces that close with their `end` line of this number.
+    /// A cutter before the first byte. A piece closes with its `end` line number `wanted`.
     pub fn new(alloc: Global, wanted: u8) -> Cutter
         ensures { result ≡ nothing wanted }
     {
@@ -57,7 +57,7 @@ impl Cutter {
         }
     }
 
-    /// Takes the next byte, and gives the piece that is whole with it.
+    /// Takes the next byte, and gives the piece that it completes, if there is one.
     pub fn feed(&mut self, alloc: Global, byte: u8) -> Result<Option<Vec<u8>>, NoMemory>
         ensures { IfOk result (λ piece. (self.new, option_map (λ p. p.items) piece) ≡ fed self.old byte) }
     {
@@ -70,8 +70,8 @@ impl Cutter {
         }
     }
 
-    /// Takes the end of the input, where a last line that no line feed ends is one too, and gives the piece that is
-    /// then whole.
+    /// Takes the end of the input, and gives the piece that it completes, if there is one. A last line without a
+    /// line feed is a line too.
     pub fn end(&mut self, alloc: Global) -> Result<Option<Vec<u8>>, NoMemory>
         ensures { IfOk result (λ piece. (self.new, option_map (λ p. p.items) piece) ≡ last_ended self.old) }
     {
@@ -82,7 +82,7 @@ impl Cutter {
         }
     }
 
-    /// Gives what is left behind the end of the input, where it is a piece.
+    /// Gives what is left after the end of the input, if it is a piece.
     pub fn rest(&mut self, alloc: Global) -> Option<Vec<u8>>
         ensures { option_map (λ p. p.items) result ≡ rest_of self.old }
     {
@@ -93,7 +93,7 @@ impl Cutter {
         }
     }
 
-    /// Ends the line, and gives the piece that is then whole.
+    /// Ends the line, and gives the piece that is then complete, if there is one.
     fn end_line(&mut self, alloc: Global) -> Result<Option<Vec<u8>>, NoMemory>
         ensures { IfOk result (λ piece. (self.new, option_map (λ p. p.items) piece) ≡ with_end self.old) }
     {
@@ -121,7 +121,7 @@ impl Cutter {
     }
 }
 
-/// Adds a byte, where there is room.
+/// Appends a byte, if there is room.
 fn add_byte(line: &mut Vec<u8>, byte: u8) -> Result<(), NoMemory>
     requires { length line.old.items ≤ most }
     ensures added { OnOk result (line.new.items ≡ with_byte line.old.items byte) }
@@ -133,7 +133,7 @@ fn add_byte(line: &mut Vec<u8>, byte: u8) -> Result<(), NoMemory>
     Ok(())
 }
 
-/// Adds a line, as far as there is room.
+/// Appends a line, as far as there is room.
 fn add_line(kept: &mut Vec<u8>, line: &[u8]) -> Result<(), NoMemory>
     requires { length kept.old.items ≤ most }
     ensures added { OnOk result (kept.new.items ≡ with_line kept.old.items line.now) }

@@ -11,7 +11,7 @@ pub fn one_cut()
         → made (nothing n) bytes ≡ map (take most) pieces }
 {}
 
-/// The pieces of a cut, one behind the other, and what is left behind them without a word are the bytes.
+/// The pieces of a cut, one after the other, and the remaining bytes, which have no word, are all the bytes.
 pub fn pieces_give_back()
     ensures { (n : ℕ) (bytes : List ℕ) (pieces : List (List ℕ)) → IsCut n bytes pieces → GiveBack pieces bytes }
 {}

@@ -1,7 +1,7 @@
-//! An input of many documents or claims, cut into pieces, each of them one document or claim.
+//! An input of many documents or claims, cut into pieces, each of which is one document or claim.
 //!
-//! What a piece is stands in `specs/Pieces.antt`. [`Cutter`] takes an input byte by byte and gives its pieces, with as
-//! much memory as two pieces within the limit on inputs take.
+//! `specs/Pieces.antt` defines what a piece is. [`Cutter`] takes an input byte by byte and gives its pieces. It
+//! needs as much memory as two pieces within the limit on inputs.
 #![tactic(auto)]
 
 mod cutter;

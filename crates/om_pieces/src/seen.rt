@@ -4,8 +4,8 @@ ghost use Rattle.std.specs.Prelude.{◌≡◌};
 ghost use Rattle.om_pieces.specs.Making.{with_comment, with_blank, with_letter, seen_with};
 ghost use Rattle.om_pieces.specs.Making.{some_seen, end_seen, om_seen};
 
-/// What was seen of a line so far, as far as it decides whether the line has a word, is the word `end` alone, or begins
-/// with the word `om`.
+/// What was seen of a line so far. It is enough to decide whether the line has a word, is the word `end` alone, or
+/// begins with the word `om`.
 #[derive(Clone, Copy)]
 pub enum Seen {
     /// No word.
@@ -18,7 +18,7 @@ pub enum Seen {
     En,
     /// The first word, which so far is `end`.
     End,
-    /// The word `end`, and blanks behind it.
+    /// The word `end`, followed by blanks.
     EndBlank,
     /// The word `end` alone, and a comment.
     EndComment,
@@ -26,14 +26,14 @@ pub enum Seen {
     O,
     /// The first word, which so far is `om`.
     Om,
-    /// The first word `om`, and more.
+    /// The first word `om`, followed by more.
     OmMore,
-    /// Some word, and neither of the two.
+    /// Some other word.
     Other,
 }
 
 impl Seen {
-    /// What was seen with this byte, which is no line feed.
+    /// What is seen with this byte, which is no line feed.
     pub fn with(self, byte: u8) -> Seen
         ensures { result ≡ seen_with self byte }
     {
@@ -110,7 +110,7 @@ impl Seen {
         }
     }
 
-    /// Whether it is the word `end` alone.
+    /// Whether the line is the word `end` alone.
     pub fn closes(self) -> bool
         ensures { result ≡ end_seen self }
     {
@@ -121,7 +121,7 @@ impl Seen {
         }
     }
 
-    /// Whether its first word is `om`.
+    /// Whether the first word of the line is `om`.
     pub fn opens(self) -> bool
         ensures { result ≡ om_seen self }
     {

@@ -1,7 +1,8 @@
 -- The number of things with a property: how two numbers compare, and what it is for a property that is made of others.
 --
 -- Main results: number_less; number_same, number_none, number_one, number_either, number_without, number_pairs.
-use Rattle.std.proofs.Common.{ℕ, ◌≡◌, ◌+◌, ◌-◌, ◌*◌, ◌<◌, ◌≤◌, ◌⊎◌, ◌↔◌, List, [], ◌∷◌, ◌++◌, length, map, inl, inr, arith, sym, ◌∙◌, refl, ap, subst}
+use Rattle.std.proofs.Common.{ℕ, ◌≡◌, ◌+◌, ◌-◌, ◌*◌, ◌<◌, ◌≤◌, ◌⊎◌, ◌↔◌, List, [], ◌∷◌, ◌++◌, length, map, inl, inr}
+use Rattle.std.proofs.Common.{arith, sym, ◌∙◌, refl, ap, subst}
 use Rattle.std.proofs.lemmas.List.{length-append, length-map}
 use Rattle.std.proofs.Math.Nat.{suc-mul}
 use Rattle.om_points.specs.Numbers.{IsAmong, AreDifferent, HasNumber}
@@ -17,7 +18,8 @@ record Split {A : Type 0} (x : A) (ys : List A) : Type 0 where
 split_at : {A : Type 0} (x : A) (ys : List A) → IsAmong x ys → Split x ys
 split_at x [] h = absurd h
 split_at x (y ∷ ys) (inl e) = record { front = []; back = ys; whole = cc }
-split_at x (y ∷ ys) (inr h) = let s = split_at x ys h in let e = s.whole in record { front = y ∷ s.front; back = s.back; whole = ap (λ t. y ∷ t) e }
+split_at x (y ∷ ys) (inr h) = let s = split_at x ys h in let e = s.whole in
+    record { front = y ∷ s.front; back = s.back; whole = ap (λ t. y ∷ t) e }
 
 without : {A : Type 0} (y x : A) (a b : List A) → IsAmong y (a ++ x ∷ b) → (y ≡ x → ⊥) → IsAmong y (a ++ b)
 without y x [] b (inl e) n = absurd (n e)
@@ -25,17 +27,21 @@ without y x [] b (inr h) n = h
 without y x (z ∷ a) b (inl e) n = inl e
 without y x (z ∷ a) b (inr h) n = inr (without y x a b h n)
 
-fewer : {A : Type 0} (xs ys : List A) → AreDifferent xs → ((x : A) → IsAmong x xs → IsAmong x ys) → length xs ≤ length ys
+fewer : {A : Type 0} (xs ys : List A) → AreDifferent xs → ((x : A) → IsAmong x xs → IsAmong x ys)
+    → length xs ≤ length ys
 fewer [] ys d h = omega arith
 fewer (x ∷ xs) ys d h =
     let s = split_at x ys (h x (inl refl)) in
-    let i = fewer xs (s.front ++ s.back) d.1 (λ y a. without y x s.front s.back (subst (λ t. IsAmong y t) s.whole (h y (inr a))) (λ e. d.0 (subst (λ t. IsAmong t xs) e a))) in
+    let i = fewer xs (s.front ++ s.back) d.1
+    (λ y a. without y x s.front s.back (subst (λ t. IsAmong y t) s.whole (h y (inr a)))
+    (λ e. d.0 (subst (λ t. IsAmong t xs) e a))) in
     let l = ap length s.whole ∙ length-append s.front (x ∷ s.back) in
     let k = length-append s.front s.back in
     omega arith
 
 -- a number of things, and one thing more
-pub number_less : {A : Type 0} (P Q : A → Type 0) (k j : ℕ) (x : A) → HasNumber P k → HasNumber Q j → ((y : A) → P y → Q y) → Q x → (P x → ⊥) → k < j
+pub number_less : {A : Type 0} (P Q : A → Type 0) (k j : ℕ) (x : A) → HasNumber P k → HasNumber Q j
+    → ((y : A) → P y → Q y) → Q x → (P x → ⊥) → k < j
 number_less {A} P Q k j x p q sub here out =
     let n = fewer (x ∷ p.0) q.0 (λ a. out ((p.1.exactly x).0 a), p.1.different) (λ y a. (q.1.exactly y).1 (from y a)) in
     let a = p.2 in
@@ -83,38 +89,48 @@ among_append x xs ys = (there xs, back xs)
     back (z ∷ xs) (inl (inr h)) = inr (back xs (inl h))
     back (z ∷ xs) (inr h) = inr (back xs (inr h))
 
-different_append : {A : Type 0} (xs ys : List A) → AreDifferent xs → AreDifferent ys → ((x : A) → IsAmong x xs → IsAmong x ys → ⊥) → AreDifferent (xs ++ ys)
+different_append : {A : Type 0} (xs ys : List A) → AreDifferent xs → AreDifferent ys
+    → ((x : A) → IsAmong x xs → IsAmong x ys → ⊥) → AreDifferent (xs ++ ys)
 different_append [] ys d e n = e
 different_append (x ∷ xs) ys d e n = (
   λ h. elim ((among_append x xs ys).0 h) [ inl a ↦ d.0 a | inr a ↦ n x (inl refl) a ],
   different_append xs ys d.1 e (λ y a b. n y (inr a) b),
 )
 
-pub number_either : {A : Type 0} (P Q : A → Type 0) (k j : ℕ) → HasNumber P k → HasNumber Q j → ((x : A) → P x → Q x → ⊥) → HasNumber (λ x. P x ⊎ Q x) (k + j)
+pub number_either : {A : Type 0} (P Q : A → Type 0) (k j : ℕ) → HasNumber P k → HasNumber Q j
+    → ((x : A) → P x → Q x → ⊥) → HasNumber (λ x. P x ⊎ Q x) (k + j)
 number_either P Q k j p q n = (
   p.0 ++ q.0,
   record {
-    different = different_append p.0 q.0 p.1.different q.1.different (λ x a b. n x ((p.1.exactly x).0 a) ((q.1.exactly x).0 b));
+    different = different_append p.0 q.0 p.1.different q.1.different
+        (λ x a b. n x ((p.1.exactly x).0 a) ((q.1.exactly x).0 b));
     exactly = λ x. (
-      λ h. elim ((among_append x p.0 q.0).0 h) [ inl a ↦ inl ((p.1.exactly x).0 a) | inr a ↦ inr ((q.1.exactly x).0 a) ],
-      λ h. (among_append x p.0 q.0).1 (elim h [ inl a ↦ inl ((p.1.exactly x).1 a) | inr a ↦ inr ((q.1.exactly x).1 a) ]),
+      λ h. elim ((among_append x p.0 q.0).0 h)
+          [ inl a ↦ inl ((p.1.exactly x).0 a) | inr a ↦ inr ((q.1.exactly x).0 a) ],
+      λ h. (among_append x p.0 q.0).1
+          (elim h [ inl a ↦ inl ((p.1.exactly x).1 a) | inr a ↦ inr ((q.1.exactly x).1 a) ]),
     );
   },
   (let l = length-append p.0 q.0 in let a = p.2 in let b = q.2 in omega arith),
 )
 
 -- those but for one of them
-pub number_without : {A : Type 0} (P : A → Type 0) (k : ℕ) (x : A) → HasNumber P k → P x → HasNumber (λ y. P y × (y ≡ x → ⊥)) (k - 1)
+pub number_without : {A : Type 0} (P : A → Type 0) (k : ℕ) (x : A) → HasNumber P k → P x
+    → HasNumber (λ y. P y × (y ≡ x → ⊥)) (k - 1)
 number_without {A} P k x p here = (
   s.front ++ s.back,
   record {
     different = shorter s.front s.back whole;
     exactly = λ y. (
-      λ a. ((p.1.exactly y).0 (subst (λ t. IsAmong y t) (sym s.whole) (wider y s.front s.back a)), λ e. alone s.front s.back whole (subst (λ t. IsAmong t (s.front ++ s.back)) e a)),
+      λ a. (
+        (p.1.exactly y).0 (subst (λ t. IsAmong y t) (sym s.whole) (wider y s.front s.back a)),
+        λ e. alone s.front s.back whole (subst (λ t. IsAmong t (s.front ++ s.back)) e a),
+      ),
       λ h. without y x s.front s.back (subst (λ t. IsAmong y t) s.whole ((p.1.exactly y).1 h.0)) h.1,
     );
   },
-  (let l = ap length s.whole ∙ length-append s.front (x ∷ s.back) in let j = length-append s.front s.back in let a = p.2 in omega arith),
+  (let l = ap length s.whole ∙ length-append s.front (x ∷ s.back) in let j = length-append s.front s.back in let a =
+      p.2 in omega arith),
 )
   where
     s : Split x p.0
@@ -147,7 +163,8 @@ record IsImage {A C : Type 0} (f : A → C) (P : A → Type 0) (c : C) : Type 0 
   pub has : P thing
   pub made : c ≡ f thing
 
-number_image : {A C : Type 0} (f : A → C) (P : A → Type 0) (k : ℕ) → ((a b : A) → f a ≡ f b → a ≡ b) → HasNumber P k → HasNumber (IsImage f P) k
+number_image : {A C : Type 0} (f : A → C) (P : A → Type 0) (k : ℕ) → ((a b : A) → f a ≡ f b → a ≡ b) → HasNumber P k
+    → HasNumber (IsImage f P) k
 number_image {A} {C} f P k same p = (
   map f p.0,
   record {
@@ -185,20 +202,41 @@ pub record IsPair {A B C : Type 0} (f : A → B → C) (P : A → Type 0) (Q : B
   pub other : Q second
   pub made : c ≡ f first second
 
-pub number_pairs : {A B C : Type 0} (f : A → B → C) (P : A → Type 0) (Q : B → Type 0) (k j : ℕ) → ((a b : A) (x y : B) → f a x ≡ f b y → (a ≡ b) × (x ≡ y)) → HasNumber P k → HasNumber Q j → HasNumber (IsPair f P Q) (k * j)
+pub number_pairs : {A B C : Type 0} (f : A → B → C) (P : A → Type 0) (Q : B → Type 0) (k j : ℕ)
+    → ((a b : A) (x y : B) → f a x ≡ f b y → (a ≡ b) × (x ≡ y)) → HasNumber P k → HasNumber Q j
+    → HasNumber (IsPair f P Q) (k * j)
 number_pairs {A} {B} {C} f P Q k j same p q =
     subst (λ n. HasNumber (IsPair f P Q) (n * j)) p.2
     (number_same (IsPair f (λ a. IsAmong a p.0) Q) (IsPair f P Q) (length p.0 * j) (from p.0 p.1.different) (λ c. (
-      λ h. record { first = h.first; second = h.second; one = (p.1.exactly h.first).0 h.one; other = h.other; made = h.made },
-      λ h. record { first = h.first; second = h.second; one = (p.1.exactly h.first).1 h.one; other = h.other; made = h.made },
+      λ h. record {
+        first = h.first;
+        second = h.second;
+        one = (p.1.exactly h.first).0 h.one;
+        other = h.other;
+        made =
+            h.made;
+      },
+      λ h. record {
+        first = h.first;
+        second = h.second;
+        one = (p.1.exactly h.first).1 h.one;
+        other = h.other;
+        made =
+            h.made;
+      },
     )))
   where
     from : (xs : List A) → AreDifferent xs → HasNumber (IsPair f (λ a. IsAmong a xs) Q) (length xs * j)
-    from [] d = subst (λ n. HasNumber (IsPair f (λ a. IsAmong a []) Q) n) (let z : 0 ≡ 0 * j = omega arith in z) (number_none (IsPair f (λ a. IsAmong a []) Q) (λ c h. h.one))
-    from (x ∷ xs) d = subst (λ n. HasNumber (IsPair f (λ a. IsAmong a (x ∷ xs)) Q) n) (let m = suc-mul (length xs) j in let z : j + length xs * j ≡ length (x ∷ xs) * j = omega arith in z)
-        (number_same (λ c. IsImage (f x) Q c ⊎ IsPair f (λ a. IsAmong a xs) Q c) (IsPair f (λ a. IsAmong a (x ∷ xs)) Q) (j + length xs * j)
-        (number_either (IsImage (f x) Q) (IsPair f (λ a. IsAmong a xs) Q) j (length xs * j) (number_image (f x) Q j (λ a b e. (same x x a b e).1) q) (from xs d.1)
-        (λ c g h. d.0 (subst (λ t. IsAmong t xs) (sym (same x h.first g.thing h.second (sym g.made ∙ h.made)).0) h.one)))
+    from [] d = subst (λ n. HasNumber (IsPair f (λ a. IsAmong a []) Q) n) (let z : 0 ≡ 0 * j = omega arith in z)
+        (number_none (IsPair f (λ a. IsAmong a []) Q) (λ c h. h.one))
+    from (x ∷ xs) d = subst (λ n. HasNumber (IsPair f (λ a. IsAmong a (x ∷ xs)) Q) n)
+        (let m = suc-mul (length xs) j in let z : j + length xs * j ≡ length (x ∷ xs) * j = omega arith in z)
+        (number_same (λ c. IsImage (f x) Q c ⊎ IsPair f (λ a. IsAmong a xs) Q c) (IsPair f (λ a. IsAmong a (x ∷ xs)) Q)
+        (j + length xs * j)
+        (number_either (IsImage (f x) Q) (IsPair f (λ a. IsAmong a xs) Q) j (length xs * j)
+        (number_image (f x) Q j (λ a b e. (same x x a b e).1) q) (from xs d.1)
+        (λ c g h. d.0
+        (subst (λ t. IsAmong t xs) (sym (same x h.first g.thing h.second (sym g.made ∙ h.made)).0) h.one)))
         (λ c. (
           λ h. elim h [
             | inl g ↦ record { first = x; second = g.thing; one = inl refl; other = g.has; made = g.made }
@@ -207,6 +245,7 @@ number_pairs {A} {B} {C} f P Q k j same p q =
           λ h. apart c h h.one,
         )))
       where
-        apart : (c : C) (h : IsPair f (λ a. IsAmong a (x ∷ xs)) Q c) → IsAmong h.first (x ∷ xs) → IsImage (f x) Q c ⊎ IsPair f (λ a. IsAmong a xs) Q c
+        apart : (c : C) (h : IsPair f (λ a. IsAmong a (x ∷ xs)) Q c) → IsAmong h.first (x ∷ xs) → IsImage (f x) Q c
+            ⊎ IsPair f (λ a. IsAmong a xs) Q c
         apart c h (inl e) = inl (record { thing = h.second; has = h.other; made = h.made ∙ ap (λ t. f t h.second) e })
         apart c h (inr i) = inr (record { first = h.first; second = h.second; one = i; other = h.other; made = h.made })

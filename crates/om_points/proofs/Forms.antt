@@ -1,7 +1,8 @@
 -- Linear forms that refuse vectors.
 --
 -- Main definitions: form_of
--- Main results: value_of_minors, less_minus, less_plus, less_zero, more_zero, falls, refuses_above, passed_above, of_minors, tested
+-- Main results: value_of_minors, less_minus, less_plus, less_zero, more_zero, falls, refuses_above, passed_above,
+-- of_minors, tested
 use Rattle.std.proofs.Common.{ℕ, zero, suc, ◌≡◌, ◌≢◌, ◌+◌, ◌<◌, ◌↔◌, IsTrue, arith, sym, ap, subst}
 use Rattle.std.specs.Prelude.{ℤ, pos, negsuc, neg_ℤ, ◌+ℤ◌, ◌-ℤ◌, ◌*ℤ◌, ◌<ℤ◌, ◌≤ℤ◌}
 use Rattle.std.proofs.lemmas.Int.{ints}
@@ -19,7 +20,8 @@ use Rattle.om_points.specs.ShortVectors.{above}
 
 -- the form whose coefficients are the minors of two vectors
 abbrev pub form_of : WholeVector → WholeVector → ℤ → LinearForm
-form_of a b least = record { x = a.y *ℤ b.z -ℤ a.z *ℤ b.y; y = a.z *ℤ b.x -ℤ a.x *ℤ b.z; z = a.x *ℤ b.y -ℤ a.y *ℤ b.x; least = least }
+form_of a b least =
+    record { x = a.y *ℤ b.z -ℤ a.z *ℤ b.y; y = a.z *ℤ b.x -ℤ a.x *ℤ b.z; z = a.x *ℤ b.y -ℤ a.y *ℤ b.x; least = least }
 
 pub value_of_minors : (a b c : WholeVector) (least : ℤ) → value_at (form_of a b least) c ≡ triple_product a b c
 value_of_minors a b c least = simp expanding (omega sums)
@@ -73,16 +75,22 @@ refuses_above f v n l h =
 above_none : (v : WholeVector) → above v 0 ≡ v
 above_none v = let e : v.z +ℤ pos 0 ≡ v.z = omega (arith, ints) in ap (λ z. vector_of v.x v.y z) e
 
-pub passed_above : (box : ℕ) (f : LinearForm) (v : WholeVector) (n : ℕ) → f.z ≤ℤ pos 0 → Refuses f v → ((i : ℕ) → i < n → IsNextCandidate box (above v i) (above v (i + 1))) → IsPassed box (Refuses f) v n (above v n)
-passed_above box f v n l h next = subst (λ u. IsPassed box (Refuses f) u n (above v n)) (above_none v) (passed_along box (Refuses f) (above v) n next (λ i k. refuses_above f v i l h))
+pub passed_above : (box : ℕ) (f : LinearForm) (v : WholeVector) (n : ℕ) → f.z ≤ℤ pos 0 → Refuses f v
+    → ((i : ℕ) → i < n → IsNextCandidate box (above v i) (above v (i + 1))) → IsPassed box (Refuses f) v n (above v n)
+passed_above box f v n l h next =
+    subst (λ u. IsPassed box (Refuses f) u n (above v n)) (above_none v)
+    (passed_along box (Refuses f) (above v) n next (λ i k. refuses_above f v i l h))
 
 -- ---- tests of the program
 
-pub of_minors : (a b : WholeVector) (l x y z t : ℤ) → x ≡ a.y *ℤ b.z -ℤ a.z *ℤ b.y → y ≡ a.z *ℤ b.x -ℤ a.x *ℤ b.z → z ≡ a.x *ℤ b.y -ℤ a.y *ℤ b.x → t ≡ l → (v : WholeVector) → Refuses (record { x = x; y = y; z = z; least = t }) v ↔ (triple_product a b v <ℤ l)
+pub of_minors : (a b : WholeVector) (l x y z t : ℤ) → x ≡ a.y *ℤ b.z -ℤ a.z *ℤ b.y → y ≡ a.z *ℤ b.x -ℤ a.x *ℤ b.z
+    → z ≡ a.x *ℤ b.y -ℤ a.y *ℤ b.x → t ≡ l → (v : WholeVector) → Refuses (record { x = x; y = y; z = z; least = t }) v
+    ↔ (triple_product a b v <ℤ l)
 of_minors a b l x y z t ex ey ez et v =
     let P : ℤ → Type 0 = λ t. t <ℤ l in
     let e = value_of_minors a b v l in
     rw (ex, ey, ez, et) (λ h. subst P e h, λ h. subst P (sym e) h)
 
-pub tested : (f : LinearForm) (v : WholeVector) (p q r l : ℤ) → p ≡ f.x *ℤ v.x → q ≡ f.y *ℤ v.y → r ≡ f.z *ℤ v.z → l ≡ f.least → IsTrue (lt_z (p +ℤ q +ℤ r) l) ↔ Refuses f v
+pub tested : (f : LinearForm) (v : WholeVector) (p q r l : ℤ) → p ≡ f.x *ℤ v.x → q ≡ f.y *ℤ v.y → r ≡ f.z *ℤ v.z
+    → l ≡ f.least → IsTrue (lt_z (p +ℤ q +ℤ r) l) ↔ Refuses f v
 tested f v p q r l ep eq er el = rw (ep, eq, er, el) (λ h. grind (arith, ints), λ h. grind (arith, ints))

@@ -28,31 +28,45 @@ third_within Zero = zero_within
 third_within Plus = record { x = omega arith; y = omega arith; z = omega arith }
 
 basis_within : (s : Sign) → All IsWithinLimit (basis_vectors s)
-basis_within s = All-from_recursion IsWithinLimit (basis_vectors s) (record { x = omega arith; y = omega arith; z = omega arith }, (record { x = omega arith; y = omega arith; z = omega arith }, (third_within s, tt)))
+basis_within s = All-from_recursion IsWithinLimit (basis_vectors s) (
+  record { x = omega arith; y = omega arith; z = omega arith },
+  (record { x = omega arith; y = omega arith; z = omega arith }, (third_within s, tt)),
+)
 
 candidate_within : (box : ℕ) (v : WholeVector) → box ≤ MAX_BOX → IsCandidate box v → IsWithinLimit v
 candidate_within box v l h = let w = h.within in record { x = omega arith; y = omega arith; z = omega arith }
 
 candidates_within : (box : ℕ) (w : List WholeVector) → box ≤ MAX_BOX → AreCandidates box w → All IsWithinLimit w
 candidates_within box [] l h = All-nil IsWithinLimit
-candidates_within box (v ∷ w) l h = All-cons IsWithinLimit v w (candidate_within box v l h.0) (candidates_within box w l h.1)
+candidates_within box (v ∷ w) l h =
+    All-cons IsWithinLimit v w (candidate_within box v l h.0) (candidates_within box w l h.1)
 
-vector_within : (box : ℕ) (m : SignMap) (s : Start) (w : List WholeVector) (e : ℕ) → box ≤ MAX_BOX → AreCandidates box w → IsWithinLimit (vector_by m s w e)
+vector_within : (box : ℕ) (m : SignMap) (s : Start) (w : List WholeVector) (e : ℕ) → box ≤ MAX_BOX → AreCandidates box w
+    → IsWithinLimit (vector_by m s w e)
 vector_within box m s w e l h = elim (cases_lt (place_of e (order s)) (length (placed m s w))) [
-  | inl b ↦ All-get_or IsWithinLimit (placed m s w) (place_of e (order s)) zero_vector b (All-append IsWithinLimit (basis_vectors (chi_of m s.basis)) w (basis_within (chi_of m s.basis)) (candidates_within box w l h))
+  | inl b ↦ All-get_or IsWithinLimit (placed m s w) (place_of e (order s)) zero_vector b
+      (All-append IsWithinLimit (basis_vectors (chi_of m s.basis)) w (basis_within (chi_of m s.basis))
+      (candidates_within box w l h))
   | inr b ↦ subst IsWithinLimit (sym (get_or_past (placed m s w) (place_of e (order s)) zero_vector b)) zero_within
 ]
 
-pub found_few : (box : ℕ) (m : SignMap) (budget : ℕ) (vs : List WholeVector) → IsFound box m budget vs → length vs ≤ m.elements
-found_few box m budget vs h = let e = ap length h.vectors ∙ length-map-range_with_len (vector_by m h.start h.word) 1 m.elements in omega arith
+pub found_few : (box : ℕ) (m : SignMap) (budget : ℕ) (vs : List WholeVector) → IsFound box m budget vs
+    → length vs ≤ m.elements
+found_few box m budget vs h = let e = ap length h.vectors
+    ∙ length-map-range_with_len (vector_by m h.start h.word) 1 m.elements in omega arith
 
-pub found_within : (box : ℕ) (m : SignMap) (budget : ℕ) (vs : List WholeVector) → box ≤ MAX_BOX → IsFound box m budget vs → All IsWithinLimit vs
+pub found_within : (box : ℕ) (m : SignMap) (budget : ℕ) (vs : List WholeVector) → box ≤ MAX_BOX
+    → IsFound box m budget vs → All IsWithinLimit vs
 found_within box m budget vs l h =
     subst (All IsWithinLimit) (sym h.vectors)
-    (All-map IsWithinLimit (vector_by m h.start h.word) (range_with_len 1 m.elements) (λ k d b. vector_within box m h.start h.word (get_or (range_with_len 1 m.elements) k d) l h.first.full.word.candidates))
+    (All-map IsWithinLimit (vector_by m h.start h.word) (range_with_len 1 m.elements)
+    (λ k d b. vector_within box m h.start h.word (get_or (range_with_len 1 m.elements) k d) l
+    h.first.full.word.candidates))
 
-pub frontier_few : (box : ℕ) (m : SignMap) (budget : ℕ) (w : List WholeVector) → IsFrontier box m budget w → length w ≤ m.elements
+pub frontier_few : (box : ℕ) (m : SignMap) (budget : ℕ) (w : List WholeVector) → IsFrontier box m budget w
+    → length w ≤ m.elements
 frontier_few box m budget w h = let f = h.visited.word.few in let n = order_small m h.start h.is_start in omega arith
 
-pub frontier_within : (box : ℕ) (m : SignMap) (budget : ℕ) (w : List WholeVector) → box ≤ MAX_BOX → IsFrontier box m budget w → All IsWithinLimit w
+pub frontier_within : (box : ℕ) (m : SignMap) (budget : ℕ) (w : List WholeVector) → box ≤ MAX_BOX
+    → IsFrontier box m budget w → All IsWithinLimit w
 frontier_within box m budget w l h = candidates_within box w l h.visited.word.candidates

@@ -15,21 +15,30 @@ use Rattle.om_points.specs.declared.slopes.Slopes.{Slopes}
 use Rattle.om_points.specs.declared.refusers.Refusers.{Refusers}
 
 -- a form that is one of two sound ones is sound
-sound_either : (vs : List WholeVector) (signs : List Sign) (f a b : LinearForm) → IsSound vs signs a → IsSound vs signs b → (f ≡ a) ⊎ (f ≡ b) → IsSound vs signs f
+sound_either : (vs : List WholeVector) (signs : List Sign) (f a b : LinearForm) → IsSound vs signs a
+    → IsSound vs signs b → (f ≡ a) ⊎ (f ≡ b) → IsSound vs signs f
 sound_either vs signs f a b ha hb (inl e) = subst (IsSound vs signs) (sym e) ha
 sound_either vs signs f a b ha hb (inr e) = subst (IsSound vs signs) (sym e) hb
 
 -- a form that refuses only what one of two sound ones refuses is sound
-pub sound_sum : (vs : List WholeVector) (signs : List Sign) (f a b : LinearForm) → IsSound vs signs a → IsSound vs signs b → ((v : WholeVector) → Refuses f v → (Refuses a v → ⊥) → (Refuses b v → ⊥) → ⊥) → IsSound vs signs f
+pub sound_sum : (vs : List WholeVector) (signs : List Sign) (f a b : LinearForm) → IsSound vs signs a
+    → IsSound vs signs b → ((v : WholeVector) → Refuses f v → (Refuses a v → ⊥) → (Refuses b v → ⊥) → ⊥)
+    → IsSound vs signs f
 sound_sum vs signs f a b ha hb h v r agrees = h v r (λ t. ha v t agrees) (λ t. hb v t agrees)
 
 -- forms with one more, or not
-pub useful_more : (vs : List WholeVector) (signs : List Sign) (old new : List LinearForm) (f : LinearForm) → All (IsUseful vs signs) old → IsUseful vs signs f → (new ≡ old ++ f ∷ []) ⊎ (new ≡ old) → All (IsUseful vs signs) new
-useful_more vs signs old new f ho hf (inl e) = subst (All (IsUseful vs signs)) (sym e) (All-push (IsUseful vs signs) old f ho hf)
+pub useful_more : (vs : List WholeVector) (signs : List Sign) (old new : List LinearForm) (f : LinearForm)
+    → All (IsUseful vs signs) old → IsUseful vs signs f → (new ≡ old ++ f ∷ []) ⊎ (new ≡ old)
+    → All (IsUseful vs signs) new
+useful_more vs signs old new f ho hf (inl e) =
+    subst (All (IsUseful vs signs)) (sym e) (All-push (IsUseful vs signs) old f ho hf)
 useful_more vs signs old new f ho hf (inr e) = subst (All (IsUseful vs signs)) (sym e) ho
 
 -- forms by their slopes, with one more or not
-pub all_useful : (vs : List WholeVector) (signs : List Sign) (old new : Slopes) (f : LinearForm) → AreUseful vs signs old → IsUseful vs signs f → (new.rising ≡ old.rising ++ f ∷ []) ⊎ (new.rising ≡ old.rising) → (new.level ≡ old.level ++ f ∷ []) ⊎ (new.level ≡ old.level) → (new.falling ≡ old.falling ++ f ∷ []) ⊎ (new.falling ≡ old.falling) → AreUseful vs signs new
+pub all_useful : (vs : List WholeVector) (signs : List Sign) (old new : Slopes) (f : LinearForm)
+    → AreUseful vs signs old → IsUseful vs signs f → (new.rising ≡ old.rising ++ f ∷ []) ⊎ (new.rising ≡ old.rising)
+    → (new.level ≡ old.level ++ f ∷ []) ⊎ (new.level ≡ old.level) → (new.falling ≡ old.falling ++ f ∷ [])
+    ⊎ (new.falling ≡ old.falling) → AreUseful vs signs new
 all_useful vs signs old new f h u r l d = record {
   rising = useful_more vs signs old.rising new.rising f h.rising u r;
   level = useful_more vs signs old.level new.level f h.level u l;
@@ -37,11 +46,15 @@ all_useful vs signs old new f h u r l d = record {
 }
 
 -- one of useful forms
-pub useful_at : (vs : List WholeVector) (signs : List Sign) (forms : List LinearForm) (i : ℕ) (f : LinearForm) → i < length forms → All (IsUseful vs signs) forms → slice_get forms i ≡ Some f → IsUseful vs signs f
-useful_at vs signs forms i f l h e = subst (IsUseful vs signs) (get_or_from_slice_get forms i f f e) (All-get_or (IsUseful vs signs) forms i f l h)
+pub useful_at : (vs : List WholeVector) (signs : List Sign) (forms : List LinearForm) (i : ℕ) (f : LinearForm)
+    → i < length forms → All (IsUseful vs signs) forms → slice_get forms i ≡ Some f → IsUseful vs signs f
+useful_at vs signs forms i f l h e =
+    subst (IsUseful vs signs) (get_or_from_slice_get forms i f f e) (All-get_or (IsUseful vs signs) forms i f l h)
 
 -- the refusers after a sound form is taken
-pub sound_taken : (vs : List WholeVector) (signs : List Sign) (old new : Refusers) (f : LinearForm) → AreSound vs signs old → IsSound vs signs f → (new.right ≡ old.right) ⊎ (new.right ≡ f) → (new.left ≡ old.left) ⊎ (new.left ≡ f) → (new.against ≡ old.against) ⊎ (new.against ≡ f) → new.held ≡ old.held → AreSound vs signs new
+pub sound_taken : (vs : List WholeVector) (signs : List Sign) (old new : Refusers) (f : LinearForm)
+    → AreSound vs signs old → IsSound vs signs f → (new.right ≡ old.right) ⊎ (new.right ≡ f) → (new.left ≡ old.left)
+    ⊎ (new.left ≡ f) → (new.against ≡ old.against) ⊎ (new.against ≡ f) → new.held ≡ old.held → AreSound vs signs new
 sound_taken vs signs old new f h u r l a d = record {
   right = sound_either vs signs new.right old.right f h.right u r;
   left = sound_either vs signs new.left old.left f h.left u l;

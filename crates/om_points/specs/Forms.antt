@@ -4,7 +4,7 @@ use Rattle.om_vectors.specs.WholeVectors.{WholeVector}
 use Rattle.om_signs.specs.declared.limits.TheConstants.{MAX_BOX}
 use Rattle.om_points.specs.declared.slopes.TheConstants.{FORMS}
 
--- a linear form, by its coefficients, and the least value that it takes
+-- a linear form, given by its coefficients, with a lower bound
 pub record LinearForm : Type 0 where
   pub x : ℤ
   pub y : ℤ
@@ -15,34 +15,34 @@ pub record LinearForm : Type 0 where
 abbrev pub value_at : LinearForm → WholeVector → ℤ
 value_at f v = f.x *ℤ v.x +ℤ f.y *ℤ v.y +ℤ f.z *ℤ v.z
 
--- the value at a vector is less than the least one
+-- the form refuses a vector: its value there is less than the bound
 abbrev pub Refuses : LinearForm → WholeVector → Type 0
 Refuses f v = value_at f v <ℤ f.least
 
--- a sum of two products of short numbers
+-- within the size of a sum of two products of short numbers
 abbrev pub IsMinor : ℤ → Type 0
 IsMinor x = unsigned_abs x ≤ 2 * (MAX_BOX * MAX_BOX)
 
--- the coefficients are those of the form of a pair of short vectors, and the least value is no greater
+-- the coefficients are those of the form of a pair of short vectors, and the bound isn't larger
 pub record AreMinors (f : LinearForm) : Type 0 where
   pub x : IsMinor f.x
   pub y : IsMinor f.y
   pub z : IsMinor f.z
   pub least : IsMinor f.least
 
--- a sum of two products of minors
+-- within the size of a sum of two products of minors
 abbrev pub IsCoefficient : ℤ → Type 0
 IsCoefficient x = unsigned_abs x ≤ 2 * (2 * (MAX_BOX * MAX_BOX) * (2 * (MAX_BOX * MAX_BOX)))
 
--- a product of a coefficient and a coordinate
+-- within the size of a product of a coefficient and a coordinate
 abbrev pub IsTerm : ℤ → Type 0
 IsTerm x = unsigned_abs x ≤ 2 * (2 * (MAX_BOX * MAX_BOX) * (2 * (MAX_BOX * MAX_BOX))) * MAX_BOX
 
--- a sum of three such products
+-- within the size of a sum of three terms
 abbrev pub IsValue : ℤ → Type 0
 IsValue x = unsigned_abs x ≤ 3 * (2 * (2 * (MAX_BOX * MAX_BOX) * (2 * (MAX_BOX * MAX_BOX))) * MAX_BOX)
 
--- the coefficients and the least value are within these limits
+-- the coefficients and the bound are within the size of coefficients
 pub record IsShortForm (f : LinearForm) : Type 0 where
   pub x : IsCoefficient f.x
   pub y : IsCoefficient f.y

@@ -1,4 +1,4 @@
--- The forms that a search tries first. No public clause speaks of these.
+-- The forms that a search tries first. No public clause uses these.
 use Rattle.std.specs.Prelude.{List}
 use Rattle.std.specs.List.{All}
 use Rattle.om_signs.specs.declared.sign.Sign.{Sign}
@@ -7,14 +7,14 @@ use Rattle.om_points.specs.Passes.{IsSound, IsUseful}
 use Rattle.om_points.specs.declared.slopes.Slopes.{Slopes}
 use Rattle.om_points.specs.declared.refusers.Refusers.{Refusers}
 
--- each of the forms refuses only vectors that haven't the wanted signs in place of the last one
+-- each of the forms refuses only vectors without the required signs in place of the last one
 pub record AreSound (vs : List WholeVector) (signs : List Sign) (r : Refusers) : Type 0 where
   pub right : IsSound vs signs r.right
   pub left : IsSound vs signs r.left
   pub against : IsSound vs signs r.against
   pub held : IsSound vs signs r.held
 
--- the same, of forms by their signs at the third unit vector, whose coefficients are minors
+-- the same holds of all forms, and their coefficients are minors
 pub record AreUseful (vs : List WholeVector) (signs : List Sign) (s : Slopes) : Type 0 where
   pub rising : All (IsUseful vs signs) s.rising
   pub level : All (IsUseful vs signs) s.level

@@ -1,4 +1,4 @@
--- The turns of the walk of a search. No public clause speaks of these.
+-- The turns of the walk of a search. No public clause uses these.
 use Rattle.std.specs.Prelude.{ℕ, ◌≡◌, ◌≢◌, ◌-◌, ◌⊎◌, List, length}
 use Rattle.om_signs.specs.declared.sign.Sign.{Sign}
 use Rattle.om_vectors.specs.WholeVectors.{WholeVector}
@@ -8,20 +8,23 @@ use Rattle.om_points.specs.ShortVectors.{Agrees}
 use Rattle.om_points.specs.declared.searching.Turn.{Turn}
 use Rattle.om_points.specs.declared.searching.Turn.TheVariants.{Full, Last, Next}
 
--- the last vector in hand has the wanted signs, some element has no vector yet, and v is the first candidate, for the place behind the vectors
+-- The last vector has the required signs, some element has no vector yet, and v is the first candidate, for the
+-- place after the vectors.
 pub record IsLonger (box count : ℕ) (vs : List WholeVector) (signs : List Sign) (i : ℕ) (v : WholeVector) : Type 0 where
   pub agrees : Agrees vs signs (length vs - 1)
   pub short : length vs ≢ count
   pub place : i ≡ length vs
   pub first : IsFirstCandidate box v
 
--- the last vector in hand hasn't the wanted signs, and v is the next candidate for the last place that can be raised
+-- the last vector doesn't have the required signs, and v is the next candidate for the last place that can be
+-- raised
 pub record IsChanged (box : ℕ) (vs : List WholeVector) (signs : List Sign) (i : ℕ) (v : WholeVector) : Type 0 where
   pub disagrees : Agrees vs signs (length vs - 1) → ⊥
   pub raised : IsRaised box vs i v
 
--- what comes after the vectors in hand, for so many elements
+-- what comes after the placed vectors, for `count` elements
 abbrev pub IsTurnOf : ℕ → ℕ → List WholeVector → List Sign → Turn → Type 0
 IsTurnOf box count vs signs Full = Agrees vs signs (length vs - 1) × (length vs ≡ count)
 IsTurnOf box count vs signs Last = (Agrees vs signs (length vs - 1) → ⊥) × AreLast box vs 2
-IsTurnOf box count vs signs (Next next) = IsLonger box count vs signs next.place next.vector ⊎ IsChanged box vs signs next.place next.vector
+IsTurnOf box count vs signs (Next next) = IsLonger box count vs signs next.place next.vector
+    ⊎ IsChanged box vs signs next.place next.vector

@@ -1,6 +1,7 @@
 //! Linear forms that refuse vectors.
 
-ghost use Rattle.std.specs.Prelude.{◌≡◌, ◌≢◌, ◌≤◌, ◌*◌, ◌+ℤ◌, ◌*ℤ◌, ◌-ℤ◌, ◌<ℤ◌, ◌≤ℤ◌, ◌↔◌, pos, neg_ℤ, unsigned_abs, IsTrue, IfSome};
+ghost use Rattle.std.specs.Prelude.{◌≡◌, ◌≢◌, ◌≤◌, ◌*◌, ◌+ℤ◌, ◌*ℤ◌, ◌-ℤ◌, ◌<ℤ◌, ◌≤ℤ◌, ◌↔◌, pos, neg_ℤ, unsigned_abs};
+ghost use Rattle.std.specs.Prelude.{IsTrue, IfSome};
 ghost use Rattle.om_vectors.specs.WholeVectors.{WholeVector, triple_product, sign_of};
 ghost use Rattle.om_points.specs.Forms.{Refuses, value_at, IsCoefficient, IsMinor, AreMinors, IsTerm, IsValue};
 ghost use Rattle.om_points.specs.Slabs.{IsInRows};
@@ -11,7 +12,7 @@ use super::short_vector::ShortVector;
 use om_signs::{MAX_BOX, Sign};
 use std::marker::Model;
 
-/// A linear form and the least value that it takes: it refuses the vectors at which its value is less.
+/// A linear form with a lower bound: it refuses the vectors at which its value is less than the bound.
 #[derive(Clone, Copy)]
 pub(crate) struct Form {
     x: i64,
@@ -33,7 +34,7 @@ impl Model for Form {
 }
 
 impl Form {
-    /// A form that refuses nothing.
+    /// A form that refuses no vector.
     pub fn open() -> Form
         ensures { (v : WholeVector) → Refuses result v → ⊥ }
     {
@@ -45,7 +46,7 @@ impl Form {
         }
     }
 
-    /// The form that refuses a vector where the triple product of two vectors and it is less than a number.
+    /// The form that refuses a vector if its triple product with two given vectors is less than a number.
     fn of(a: ShortVector, b: ShortVector, least: i64) -> Form
         requires { IsMinor least }
         ensures refuses { (v : WholeVector) → Refuses result v ↔ triple_product a b v <ℤ least }
@@ -59,14 +60,14 @@ impl Form {
         }
     }
 
-    /// Whether it refuses a vector.
+    /// Whether the form refuses a vector.
     pub fn refuses(self, v: ShortVector) -> bool
         ensures { IsTrue result ↔ Refuses self v }
     {
         self.value(v) < self.least
     }
 
-    /// The value at a vector.
+    /// The value of the form at a vector.
     fn value(self, v: ShortVector) -> i64
         ensures value { result ≡ value_at self v }
         ensures size { IsValue result }
@@ -74,7 +75,7 @@ impl Form {
         term(self.x, v.x()) + term(self.y, v.y()) + term(self.z, v.z())
     }
 
-    /// Whether it refuses the rows from a vector's to one so many rows behind it.
+    /// Whether the form refuses all vectors in the row of v and the following `rows` rows.
     pub fn refuses_rows(self, v: ShortVector, rows: u16) -> bool
         requires { (v.y +ℤ pos rows) ≤ℤ pos (greatest v) }
         ensures { IsTrue result → (t : WholeVector) → IsInRows v rows t → Refuses self t }
@@ -82,7 +83,8 @@ impl Form {
         self.refuses(v.corner(rows, self.y > 0, self.z > 0))
     }
 
-    /// How many rows behind a vector's it may refuse with it, at most all of the slab. [`Form::refuses_rows`] says whether it does.
+    /// How many rows after that of v the form may refuse with it, at most all of the slab. [`Form::refuses_rows`]
+    /// decides whether it does.
     pub fn rows_to_try(self, v: ShortVector) -> u16
         ensures { (v.y +ℤ pos result) ≤ℤ pos (greatest v) }
     {
@@ -99,7 +101,7 @@ impl Form {
         }
     }
 
-    /// Its sign at the third unit vector.
+    /// The sign of the form at the third unit vector.
     pub fn slope(self) -> Sign {
         if self.z > 0 {
             Sign::Plus
@@ -110,19 +112,21 @@ impl Form {
         }
     }
 
-    /// Whether it refuses the vectors above each one that it refuses.
+    /// Whether the form also refuses the vectors above each one that it refuses.
     pub fn refuses_upwards(self) -> bool
         ensures { IsTrue result → self.z ≤ℤ pos 0 }
     {
         self.z <= 0
     }
 
-    /// A sum of multiples of this form and another one in which the third coordinate doesn't stand: it refuses only vectors that
-    /// one of the two refuses. None where the first one doesn't rise with that coordinate, or the other one doesn't fall.
+    /// A sum of multiples of this form and another one in which the third coordinate cancels. It refuses only
+    /// vectors that one of the two refuses. None if the first form doesn't increase with that coordinate, or the
+    /// other one doesn't decrease.
     pub fn without_z(self, other: Form) -> Option<Form>
         requires first { AreMinors self }
         requires second { AreMinors other }
-        ensures { IfSome result (λ f. (v : WholeVector) → Refuses f v → (Refuses self v → ⊥) → (Refuses other v → ⊥) → ⊥) }
+        ensures { IfSome result (λ f. (v : WholeVector) → Refuses f v → (Refuses self v → ⊥) → (Refuses other v → ⊥)
+            → ⊥) }
     {
         let a = opposite(other.z);
         let b = self.z;
@@ -137,8 +141,8 @@ impl Form {
         })
     }
 
-    /// Where it lies in the plane of the first two coordinates: by the angles from two forms, the first one to the right of the
-    /// second one. No proof depends on it.
+    /// The position of the form in the plane of the first two coordinates, by its angles to two forms, of which the
+    /// first is to the right of the second. No proof depends on it.
     pub fn side(self, right: Form, left: Form) -> Side {
         if self.x == 0 && self.y == 0 {
             return if self.least > 0 {
@@ -172,7 +176,7 @@ impl Form {
     }
 }
 
-/// Where a form lies in the plane of the first two coordinates, seen from two others.
+/// The position of a form in the plane of the first two coordinates, relative to two other forms.
 pub(crate) enum Side {
     /// There are no others yet.
     Only,
@@ -182,19 +186,19 @@ pub(crate) enum Side {
     Left,
     /// Between them.
     Between,
-    /// Opposite to both or to what lies between them.
+    /// Opposite to both, or to what lies between them.
     Against,
 }
 
-/// More than 0 where the second form is to the left of the first one, by an angle of less than two right ones; less than 0 where
-/// it is to the right.
+/// Positive if the second form is to the left of the first one, by an angle of less than two right angles; negative
+/// if it is to the right.
 fn angle(a: Form, b: Form) -> i128 {
     (a.x as i128)
         .wrapping_mul(b.y as i128)
         .wrapping_sub((a.y as i128).wrapping_mul(b.x as i128))
 }
 
-/// Whether the angle between two forms is less than a right one.
+/// Whether the angle between two forms is less than a right angle.
 fn same_way(a: Form, b: Form) -> bool {
     (a.x as i128)
         .wrapping_mul(b.x as i128)
@@ -202,8 +206,8 @@ fn same_way(a: Form, b: Form) -> bool {
         > 0
 }
 
-/// The form that refuses exactly the vectors whose triple product with two vectors hasn't the wanted sign; where zero is wanted,
-/// one that refuses those at which it is minus.
+/// The form that refuses exactly the vectors whose triple product with two vectors doesn't have the required sign.
+/// If zero is required, it refuses those at which the triple product is negative.
 pub(crate) fn form_of(a: ShortVector, b: ShortVector, wanted: Sign) -> Form
     ensures sound { (v : WholeVector) → Refuses result v → sign_of (triple_product a b v) ≢ wanted }
     ensures minors { AreMinors result }
@@ -215,7 +219,7 @@ pub(crate) fn form_of(a: ShortVector, b: ShortVector, wanted: Sign) -> Form
     }
 }
 
-/// Where zero is wanted, the form that refuses the vectors whose triple product with two vectors is plus.
+/// If zero is required, the form that refuses the vectors whose triple product with two vectors is positive.
 pub(crate) fn opposite_of(a: ShortVector, b: ShortVector, wanted: Sign) -> Option<Form>
     ensures sound { IfSome result (λ f. (v : WholeVector) → Refuses f v → sign_of (triple_product a b v) ≢ wanted) }
     ensures minors { IfSome result AreMinors }
@@ -226,8 +230,8 @@ pub(crate) fn opposite_of(a: ShortVector, b: ShortVector, wanted: Sign) -> Optio
     None
 }
 
-/// A form that refuses a vector, and each other vector only where its triple product with two vectors hasn't the wanted
-/// sign.
+/// A form that refuses a given vector. It refuses another vector only if its triple product with two vectors
+/// doesn't have the required sign.
 pub(crate) fn against(
     a: ShortVector,
     b: ShortVector,
@@ -249,7 +253,7 @@ pub(crate) fn against(
     None
 }
 
-/// The opposite number.
+/// The negative of a number.
 fn opposite(z: i64) -> i64
     requires { IsMinor z }
     ensures value { result ≡ neg_ℤ z }
@@ -270,7 +274,7 @@ fn mixed(a: i64, p: i64, b: i64, q: i64) -> i64
     a * p + b * q
 }
 
-/// A product less another one.
+/// The difference of two products.
 fn minor(a: i32, d: i32, b: i32, c: i32) -> i64
     requires a { IsShort a }
     requires b { IsShort b }

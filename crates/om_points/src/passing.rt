@@ -1,4 +1,4 @@
-//! Passing candidates that haven't the wanted signs, many at a time.
+//! Skips candidates that don't have the required signs, many at a time.
 
 ghost use Rattle.std.specs.Prelude.{ℕ, ◌≡◌, ◌≤◌, ◌<◌, ◌-◌, length, IfSome};
 ghost use Rattle.std.proofs.Math.ListN.{get_or};
@@ -14,22 +14,23 @@ use super::refusers::Refusers;
 use super::short_vector::ShortVector;
 use om_signs::{MAX_BOX, Sign};
 
-/// A candidate, and how many places it is behind another one.
+/// A candidate, and how many places it comes after another one.
 #[derive(Clone, Copy)]
 pub(crate) struct Passed {
     pub vector: ShortVector,
     pub steps: u64,
 }
 
-/// A candidate at the last vector in hand or at most so many places behind it, where the candidates from that vector up to
-/// before it haven't the wanted signs with the vectors before.
+/// A candidate at the last vector or at most `limit` places after it. The candidates from that vector up to this
+/// one, excluded, don't have the required signs with the vectors before.
 pub(crate) fn pass(placing: &Placing, wanted: &[Sign], box_size: u16, limit: u64) -> Passed
     requires some { 1 ≤ length placing.now }
     requires wanted { length wanted.now ≡ SIGNS }
     requires box_size { box_size ≤ MAX_BOX }
     requires candidate { IsCandidate box_size (get_or placing.now (length placing.now - 1) zero_vector) }
     ensures few { result.steps ≤ limit }
-    ensures passed { IsPassed box_size (Disagrees placing.now wanted.now (length placing.now - 1)) (get_or placing.now (length placing.now - 1) zero_vector) result.steps result.vector }
+    ensures passed { IsPassed box_size (Disagrees placing.now wanted.now (length placing.now - 1))
+        (get_or placing.now (length placing.now - 1) zero_vector) result.steps result.vector }
 {
     let mut vector = placing.at(placing.len() - 1);
     let mut steps = 0u64;
@@ -49,8 +50,8 @@ pub(crate) fn pass(placing: &Placing, wanted: &[Sign], box_size: u16, limit: u64
     Passed { vector, steps }
 }
 
-/// A later candidate at most so many places behind one, where the form refuses the candidates up to before it. None only where
-/// there is no later candidate.
+/// A later candidate, at most `limit` places after a vector. The form refuses the candidates from the vector up to
+/// this one, excluded. None only if there is no later candidate.
 fn leap(form: Form, vector: ShortVector, box_size: u16, limit: u64) -> Option<Passed>
     requires box_size { box_size ≤ MAX_BOX }
     requires candidate { IsCandidate box_size vector }
@@ -80,11 +81,12 @@ fn leap(form: Form, vector: ShortVector, box_size: u16, limit: u64) -> Option<Pa
     })
 }
 
-/// The last of a run of candidates that the form refuses.
+/// The last of consecutive candidates that the form refuses.
 fn run(form: Form, vector: ShortVector) -> Passed
     requires { Refuses form vector }
     ensures refused { Refuses form result.vector }
-    ensures passed { (box : ℕ) → IsCandidate box vector → IsPassed box (Refuses form) vector result.steps result.vector }
+    ensures passed { (box : ℕ) → IsCandidate box vector
+        → IsPassed box (Refuses form) vector result.steps result.vector }
 {
     if vector.is_lowest() {
         let rows = form.rows_to_try(vector);

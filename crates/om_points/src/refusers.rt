@@ -13,11 +13,11 @@ use super::short_vector::ShortVector;
 use super::slopes::Slopes;
 use om_signs::Sign;
 
-/// Forms that refuse only vectors that haven't the wanted signs in place of the last one: three without the third coordinate,
-/// which refuse whole rows, and one of a pair of vectors.
+/// Forms that refuse only vectors without the required signs in place of the last one. Three have no third
+/// coordinate, so they refuse whole rows, and one belongs to a pair of vectors.
 ///
-/// In the plane of the first two coordinates, what is wanted lies between the right form and the left one. The form against these
-/// refuses all that the two don't refuse where nothing is wanted.
+/// In the plane of the first two coordinates, the possible vectors lie between the right form and the left one. The
+/// form `against` refuses what these two don't, if nothing is possible.
 #[derive(Clone, Copy)]
 pub(crate) struct Refusers {
     right: Form,
@@ -27,7 +27,7 @@ pub(crate) struct Refusers {
 }
 
 impl Refusers {
-    /// The refusers that the pairs of vectors before the last one give; none of a pair is held.
+    /// The refusers that the pairs of vectors before the last one give. The form of no pair is held yet.
     pub fn of(placing: &Placing, wanted: &[Sign]) -> Refusers
         requires some { 1 ≤ length placing.now }
         requires wanted { length wanted.now ≡ SIGNS }
@@ -54,7 +54,7 @@ impl Refusers {
         refusers
     }
 
-    /// Takes a form without the third coordinate, where it lies outside of those to the right and to the left.
+    /// Takes a form without the third coordinate, if it lies outside the right and the left one.
     fn take(&mut self, form: Form)
         ensures right { (self.new.right ≡ self.old.right) ⊎ (self.new.right ≡ form) }
         ensures left { (self.new.left ≡ self.old.left) ⊎ (self.new.left ≡ form) }
@@ -73,7 +73,7 @@ impl Refusers {
         }
     }
 
-    /// A form that refuses a vector, or None where no pair of vectors refuses it. The form of a pair is held.
+    /// A form that refuses a vector, or None if the form of no pair of vectors does. The form of a pair is held.
     pub fn refusing(
         &mut self,
         placing: &Placing,
@@ -105,7 +105,7 @@ impl Refusers {
     }
 }
 
-/// A form of two vectors before the last one that refuses a vector.
+/// A form of two vectors before the last one that refuses a vector, or None.
 fn refusing(placing: &Placing, wanted: &[Sign], vector: ShortVector) -> Option<Form>
     requires some { 1 ≤ length placing.now }
     requires wanted { length wanted.now ≡ SIGNS }
@@ -157,7 +157,7 @@ fn form_at(placing: &Placing, wanted: &[Sign], p: u8, q: u8) -> Form
     form_of(placing.at(p), placing.at(q), sign)
 }
 
-/// The opposite form of two vectors before the last one, where zero is wanted.
+/// The opposite form of two vectors before the last one, if zero is required.
 fn opposite_at(placing: &Placing, wanted: &[Sign], p: u8, q: u8) -> Option<Form>
     requires wanted { length wanted.now ≡ SIGNS }
     requires order { p < q }

@@ -6,7 +6,7 @@ use super::form::Form;
 use om_signs::Sign;
 use std::marker::Model;
 
-/// The most forms of a table.
+/// The greatest number of forms of a table.
 const FORMS: usize = 32;
 
 /// A list of forms, by value. Contracts see the list.
@@ -28,7 +28,7 @@ impl Model for Forms {
 }
 
 impl Forms {
-    /// No forms.
+    /// The empty list.
     pub fn new() -> Forms
         ensures { result ≡ [] }
     {
@@ -45,7 +45,7 @@ impl Forms {
         self.len
     }
 
-    /// The form at an index below the length.
+    /// The form at an index, counted from 0 and below the length.
     pub fn at(&self, i: u8) -> Form
         requires { i < length self.now }
         ensures { slice_get self.now i ≡ Some result }
@@ -53,7 +53,7 @@ impl Forms {
         self.forms[i as usize]
     }
 
-    /// Adds a form at the end, where there is room.
+    /// Adds a form at the end, if there is room.
     pub fn add(&mut self, form: Form)
         ensures { (self.new ≡ self.old ++ form ∷ []) ⊎ (self.new ≡ self.old) }
     {
@@ -73,7 +73,7 @@ pub(crate) struct Slopes {
 }
 
 impl Slopes {
-    /// No forms.
+    /// No forms of any sign.
     pub fn new() -> Slopes
         ensures rising { result.rising ≡ [] }
         ensures level { result.level ≡ [] }
@@ -86,7 +86,7 @@ impl Slopes {
         }
     }
 
-    /// Adds a form, where there is room.
+    /// Adds a form, if there is room.
     pub fn add(&mut self, form: Form)
         ensures rising { (self.new.rising ≡ self.old.rising ++ form ∷ []) ⊎ (self.new.rising ≡ self.old.rising) }
         ensures level { (self.new.level ≡ self.old.level ++ form ∷ []) ⊎ (self.new.level ≡ self.old.level) }

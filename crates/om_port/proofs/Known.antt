@@ -1,14 +1,17 @@
 -- Known bytes, over several reads or writes.
 --
 -- Main results: Consumes-then, Appends-then, taken_exactly, taken_at_most, write_step, read_step
-use Rattle.std.proofs.Common.{ℕ, ◌≡◌, ◌+◌, ◌-◌, ◌<◌, ◌≤◌, List, [], ◌++◌, length, take, drop, refl, sym, ◌∙◌, ap, arith, append_assoc}
+use Rattle.std.proofs.Common.{ℕ, ◌≡◌, ◌+◌, ◌-◌, ◌<◌, ◌≤◌, List, [], ◌++◌, length, take, drop, refl, sym, ◌∙◌, ap, arith}
+use Rattle.std.proofs.Common.{append_assoc}
 use Rattle.std.specs.Prelude.{None, Some, Option}
 use Rattle.std.specs.Io.KnownBytes.{Consumes, Appends}
-use Rattle.std.proofs.lemmas.List.{drop_all, length-take, take-append-drop, length-drop, length-append, take_rest, take_at, drop-drop}
+use Rattle.std.proofs.lemmas.List.{drop_all, length-take, take-append-drop, length-drop, length-append, take_rest}
+use Rattle.std.proofs.lemmas.List.{take_at, drop-drop}
 use Rattle.std.proofs.Math.Seq.{take-add}
 use Rattle.om_port.specs.Causes.{TakesExactly, TakesAtMost}
 
-pub Consumes-then : (a b c : Option (List ℕ)) (xs ys : List ℕ) → Consumes a b xs → Consumes b c ys → Consumes a c (xs ++ ys)
+pub Consumes-then : (a b c : Option (List ℕ)) (xs ys : List ℕ) → Consumes a b xs → Consumes b c ys
+    → Consumes a c (xs ++ ys)
 Consumes-then None b c xs ys h k = h
 Consumes-then (Some a) None c xs ys h k = absurd h
 Consumes-then (Some a) (Some b) None xs ys h k = absurd k
@@ -21,20 +24,23 @@ Appends-then (Some a) (Some b) None xs ys h k = absurd k
 Appends-then (Some a) (Some b) (Some c) xs ys h k = k ∙ rw (h, append_assoc) refl
 
 -- the bytes of another read
-pub taken_exactly : (a b c : Option (List ℕ)) (xs buf : List ℕ) (k n : ℕ) → Consumes a b xs → Consumes b c (take k buf) → k ≤ length buf → length xs + k ≡ n → TakesExactly n a c
+pub taken_exactly : (a b c : Option (List ℕ)) (xs buf : List ℕ) (k n : ℕ) → Consumes a b xs → Consumes b c (take k buf)
+    → k ≤ length buf → length xs + k ≡ n → TakesExactly n a c
 taken_exactly a b c xs buf k n h h2 fits e =
     let l = length-append xs (take k buf) in
     let t = length-take k buf in
     (xs ++ take k buf, Consumes-then a b c xs (take k buf) h h2, omega arith)
 
-pub taken_at_most : (a b c : Option (List ℕ)) (xs buf : List ℕ) (k n : ℕ) → Consumes a b xs → Consumes b c (take k buf) → k ≤ length buf → length xs + k ≤ n → TakesAtMost n a c
+pub taken_at_most : (a b c : Option (List ℕ)) (xs buf : List ℕ) (k n : ℕ) → Consumes a b xs → Consumes b c (take k buf)
+    → k ≤ length buf → length xs + k ≤ n → TakesAtMost n a c
 taken_at_most a b c xs buf k n h h2 fits e =
     let l = length-append xs (take k buf) in
     let t = length-take k buf in
     (xs ++ take k buf, Consumes-then a b c xs (take k buf) h h2, omega arith)
 
 -- one write of what is left
-pub write_step : (a b c : Option (List ℕ)) (xs : List ℕ) (w k : ℕ) → Appends a b (take w xs) → Appends b c (take k (take (length xs - w) (drop w xs))) → Appends a c (take (w + k) xs)
+pub write_step : (a b c : Option (List ℕ)) (xs : List ℕ) (w k : ℕ) → Appends a b (take w xs)
+    → Appends b c (take k (take (length xs - w) (drop w xs))) → Appends a c (take (w + k) xs)
 write_step a b c xs w k h h2 =
     let h3 : Appends b c (take k (drop w xs)) = rw (take_rest xs w) at h2 in
     rw (take-add w k xs) (Appends-then a b c (take w xs) (take k (drop w xs)) h h3)
@@ -43,7 +49,10 @@ pub length_rest : (xs : List ℕ) (w : ℕ) → length (take (length xs - w) (dr
 length_rest xs w = rw (take_rest xs w) (length-drop w xs)
 
 -- one read of bytes in memory
-pub read_step : (items rest buf copied self : List ℕ) (at count : ℕ) → drop at items ≡ self → rest ≡ drop at items → count ≤ length rest → count ≤ length buf → (count ≡ 0 → 0 < length buf → length rest ≤ 0) → copied ≡ take count rest → (self ≡ take count (copied ++ drop count buf) ++ drop (at + count) items) × (count ≡ 0 → 0 < length (copied ++ drop count buf) → drop (at + count) items ≡ [])
+pub read_step : (items rest buf copied self : List ℕ) (at count : ℕ) → drop at items ≡ self → rest ≡ drop at items
+    → count ≤ length rest → count ≤ length buf → (count ≡ 0 → 0 < length buf → length rest ≤ 0)
+    → copied ≡ take count rest → (self ≡ take count (copied ++ drop count buf) ++ drop (at + count) items)
+    × (count ≡ 0 → 0 < length (copied ++ drop count buf) → drop (at + count) items ≡ [])
 read_step items rest buf copied self at count v r fits room some e =
     let l : length copied ≡ count = rw (e, length-take count rest) (omega arith) in
     let d : drop (at + count) items ≡ drop count rest = rw (r, ← drop-drop count at items) refl in (

@@ -7,11 +7,11 @@ use Rattle.std.specs.Io.KnownBytes.{Consumes}
 abbrev pub raised : ℕ → ℕ
 raised n = min (n + 1) (2 ^ 64 - 1)
 
--- the count rose, or stands at its last value
+-- the count rose, or is at its last value
 abbrev pub Rose : ℕ → ℕ → Type 0
 Rose before now = min (before + 1) (2 ^ 64 - 1) ≤ now
 
--- the count did not fall, and a failure comes only where it rose
+-- the count didn't fall, and a failure comes only if it rose
 pub record HasCause {T E : Type 0} (before now : ℕ) (result : Result T E) : Type 0 where
   pub later : before ≤ now
   pub failed : OnErr result (Rose before now)
@@ -20,14 +20,14 @@ pub record HasCause {T E : Type 0} (before now : ℕ) (result : Result T E) : Ty
 abbrev pub CountsFault : {T E : Type 0} → ℕ → ℕ → Result T E → Type 0
 CountsFault before now result = now ≡ cond (is_err result) (raised before) before
 
--- these many bytes were taken, and no others
+-- exactly this many bytes were taken, the first ones
 abbrev pub TakesExactly : ℕ → Option (List ℕ) → Option (List ℕ) → Type 0
 TakesExactly n old new = (bs : List ℕ) × Consumes old new bs × (length bs ≡ n)
 
--- some first bytes were taken, at most this many, and no others
+-- some first bytes were taken, at most this many
 abbrev pub TakesAtMost : ℕ → Option (List ℕ) → Option (List ℕ) → Type 0
 TakesAtMost n old new = (bs : List ℕ) × Consumes old new bs × (length bs ≤ n)
 
--- some first bytes were taken, and no others
+-- some first bytes were taken
 abbrev pub TakesSome : Option (List ℕ) → Option (List ℕ) → Type 0
 TakesSome old new = (bs : List ℕ) × Consumes old new bs

@@ -1,8 +1,7 @@
 use Rattle.std.specs.Prelude.{ℕ, List}
 
--- the bytes that a source in memory has left, the most that it gives a call, the numbers of the calls that fail, and
--- its
--- counts of calls and of faults
+-- A source in memory. It has the bytes that are left, the most that it gives in a call, the numbers of the calls
+-- that fail, and its counts of calls and of faults.
 pub record Feed : Type 0 where
   pub bytes : List ℕ
   pub piece : ℕ

@@ -1,7 +1,7 @@
 use Rattle.std.specs.Prelude.{ℕ, List}
 
--- the bytes that a sink in memory has taken, the most that it holds, the most that it takes a call, the numbers of the
--- calls that fail, and its counts of calls and of faults
+-- A sink in memory. It has the bytes that it has taken, the most that it holds, and the most that it takes in a
+-- call. It also has the numbers of the calls that fail, and its counts of calls and of faults.
 pub record Held : Type 0 where
   pub bytes : List ℕ
   pub room : ℕ

@@ -8,15 +8,15 @@ use thiserror::Error;
 /// Why a program doesn't have its words.
 #[derive(Clone, Copy, Debug, PartialEq, Eq, Error)]
 pub enum NoWords {
-    /// Want of memory.
+    /// Memory ran out.
     #[error("out of memory")]
     Memory,
-    /// The runtime doesn't hand them over, as where one isn't UTF-8.
+    /// The runtime doesn't hand them over, for example because one isn't UTF-8.
     #[error("the runtime doesn't hand the words over")]
     Unreadable,
 }
 
-/// The words behind the program's name. Which ones these are is the runtime's to say, and stands under no clause.
+/// The words after the program's name. The runtime determines these words, and no clause is about them.
 pub fn words<R: Env + AllocGlobal>(rt: &R) -> Result<Vec<String>, NoWords> {
     let mut arguments = match env::args(rt) {
         Ok(arguments) => arguments,

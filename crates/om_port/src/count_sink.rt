@@ -7,7 +7,7 @@ use super::failed::Failed;
 use super::sink::Sink;
 use std::marker::Model;
 
-/// A sink that keeps the number of the bytes alone, and never fails. The count of faults is always 0.
+/// A sink that keeps only the number of the bytes, and never fails. The count of faults is always 0.
 #[derive(Drop)]
 pub struct CountSink {
     count: u64,
@@ -29,7 +29,7 @@ impl CountSink {
         CountSink { count: 0 }
     }
 
-    /// The number of bytes taken, which stays at `u64::MAX` once it is there.
+    /// The number of bytes taken, which stays at `u64::MAX` when it has reached it.
     pub fn taken(&self) -> u64
         ensures { result ≡ self.now }
     {

@@ -1,7 +1,8 @@
-//! Sources and sinks of bytes, which count their faults, reading and writing whole inputs, and the words of a program.
+//! Sources and sinks of bytes, which count their faults; calls that read and write whole inputs and outputs; and
+//! the words of a program.
 //!
-//! A count of faults starts at 0 and never falls. It rose in a call where it is greater after the call than before, or
-//! stands at its last value, `u64::MAX`.
+//! A count of faults starts at 0 and never falls. It rose in a call if it is greater after the call than before, or
+//! if it is at its last value, `u64::MAX`.
 #![tactic(auto)]
 
 mod arguments;

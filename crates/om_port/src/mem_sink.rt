@@ -11,7 +11,7 @@ use om_signs::{List, NoMemory};
 use std::alloc::Global;
 use std::marker::Model;
 
-/// Room in memory, filled in pieces, whose calls fail at stated numbers and where the room is full.
+/// Room in memory that is filled in pieces. Its calls fail at given numbers, and when the room is full.
 #[derive(Drop)]
 pub struct MemSink {
     bytes: Vec<u8>,
@@ -26,17 +26,26 @@ impl Model for MemSink {
 
     ghost Value = { Held };
 
-    ghost view = { λ s. record { bytes = s.bytes.items; room = s.room; piece = s.piece; failing = s.plan.failing; calls = s.plan.calls; faults = s.plan.faults } };
+    ghost view = { λ s. record {
+      bytes = s.bytes.items;
+      room = s.room;
+      piece = s.piece;
+      failing = s.plan.failing;
+      calls =
+          s.plan.calls;
+      faults = s.plan.faults;
+    } };
 
     ghost invariant = { λ s. (1 ≤ s.piece) × (length s.bytes.items ≤ s.room) × (s.room ≤ vec_capacity s.bytes) };
 }
 
 impl MemSink {
-    /// A sink with room for `room` bytes, which takes at most `piece` of them a call, and fails exactly at the calls whose
-    /// numbers, counted from 1, are in `failing`, and where its room is full and there is a byte to take. `piece` is at
-    /// least 1. A call after number 4,294,967,295 fails by no list.
+    /// A sink with room for `room` bytes, which takes at most `piece` of them in a call. It fails exactly at the
+    /// calls whose numbers, counted from 1, are in `failing`, and when its room is full and there is a byte to
+    /// take. `piece` is at least 1. No list contains a call after number 4,294,967,295.
     ///
-    /// The memory of the whole room is taken here, and later calls take none. [`NoMemory`] comes only for want of it.
+    /// The whole room is allocated here, and later calls allocate no memory. [`NoMemory`] comes only if memory runs
+    /// out.
     pub fn new(
         alloc: Global,
         room: usize,
@@ -44,7 +53,8 @@ impl MemSink {
         failing: List<u32>,
     ) -> Result<MemSink, NoMemory>
         requires { 1 ≤ piece }
-        ensures { IfOk result (λ s. s ≡ record { bytes = []; room = room; piece = piece; failing = failing; calls = 0; faults = 0 }) }
+        ensures { IfOk result
+            (λ s. s ≡ record { bytes = []; room = room; piece = piece; failing = failing; calls = 0; faults = 0 }) }
     {
         let bytes = Vec::with_capacity(alloc, room)?;
         Ok(MemSink {
@@ -75,8 +85,11 @@ impl Sink for MemSink {
         ensures some { 0 < length bytes.now → IfOk result (λ k. 0 < k) }
         ensures bytes { WriteAppends (Some self.old.bytes) (Some self.new.bytes) result bytes.now }
         ensures cause { HasCause self.old.faults self.new.faults result }
-        ensures told { IsErr result ↔ (IsListed self.old.failing (self.old.calls + 1) ⊎ ((0 < length bytes.now) × (self.old.room ≤ length self.old.bytes))) }
-        ensures count { IfOk result (λ k. k ≡ min (min (length bytes.now) (self.old.room - length self.old.bytes)) self.old.piece) }
+        ensures told { IsErr result
+            ↔ (IsListed self.old.failing (self.old.calls + 1)
+            ⊎ ((0 < length bytes.now) × (self.old.room ≤ length self.old.bytes))) }
+        ensures count { IfOk result
+            (λ k. k ≡ min (min (length bytes.now) (self.old.room - length self.old.bytes)) self.old.piece) }
         ensures calls { self.new.calls ≡ raised self.old.calls }
         ensures faults { CountsFault self.old.faults self.new.faults result }
         ensures failing { self.new.failing ≡ self.old.failing }

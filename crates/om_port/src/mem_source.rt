@@ -10,7 +10,7 @@ use super::source::Source;
 use om_signs::List;
 use std::marker::Model;
 
-/// Bytes in memory, given in pieces, whose calls fail at stated numbers.
+/// Bytes in memory, given in pieces. Calls fail at given numbers.
 #[derive(Drop)]
 pub struct MemSource {
     bytes: Vec<u8>,
@@ -25,14 +25,22 @@ impl Model for MemSource {
 
     ghost Value = { Feed };
 
-    ghost view = { λ s. record { bytes = drop s.at s.bytes.items; piece = s.piece; failing = s.plan.failing; calls = s.plan.calls; faults = s.plan.faults } };
+    ghost view = { λ s. record {
+      bytes = drop s.at s.bytes.items;
+      piece = s.piece;
+      failing = s.plan.failing;
+      calls =
+          s.plan.calls;
+      faults = s.plan.faults;
+    } };
 
     ghost invariant = { λ s. (1 ≤ s.piece) × (s.at ≤ length s.bytes.items) };
 }
 
 impl MemSource {
-    /// A source of these bytes, which gives at most `piece` of them a call, and fails exactly at the calls whose numbers,
-    /// counted from 1, are in `failing`. `piece` is at least 1. A call after number 4,294,967,295 fails by no list.
+    /// A source of these bytes, which gives at most `piece` of them in a call, and fails exactly at the calls whose
+    /// numbers, counted from 1, are in `failing`. `piece` is at least 1. No list contains a call after number
+    /// 4,294,967,295.
     pub fn new(bytes: Vec<u8>, piece: usize, failing: List<u32>) -> MemSource
         requires { 1 ≤ piece }
         ensures { result ≡ record { bytes = bytes.items; piece = piece; failing = failing; calls = 0; faults = 0 } }

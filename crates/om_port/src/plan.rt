@@ -4,7 +4,7 @@ ghost use Rattle.om_port.specs.Calls.{IsListed};
 
 use om_signs::List;
 
-/// The calls of an object in memory: those that are to fail, how many there were, and how many failed.
+/// The calls of an object in memory: which are to fail, how many there were, and how many failed.
 #[derive(Drop)]
 pub struct Plan {
     pub failing: List<u32>,
@@ -13,7 +13,7 @@ pub struct Plan {
 }
 
 impl Plan {
-    /// The plan before any call, where the calls with these numbers, counted from 1, are to fail.
+    /// The plan before any call. The calls with these numbers, counted from 1, are to fail.
     pub fn new(failing: List<u32>) -> Plan
         ensures { result ≡ record { failing = failing; calls = 0; faults = 0 } }
     {
@@ -24,7 +24,7 @@ impl Plan {
         }
     }
 
-    /// Counts a call, and answers whether it is listed. A call after number 4,294,967,295 is in no list.
+    /// Counts a call, and returns whether it is in the list. A call after number 4,294,967,295 is in no list.
     pub fn begin(&mut self) -> bool
         ensures told { IsTrue result ↔ IsListed self.old.failing (self.old.calls + 1) }
         ensures plan { self.new ≡ record self.old { calls = raised self.old.calls } }

@@ -6,22 +6,22 @@ ghost use Rattle.om_port.specs.Causes.{HasCause};
 
 use super::failed::Failed;
 
-/// Where bytes go. A sink may tell the bytes that it has taken, and counts its faults.
+/// A destination of bytes. A sink may know the bytes that it has taken, and counts its faults.
 pub trait Sink {
-    /// The bytes that were taken, where the sink tells them.
+    /// The bytes that were taken, if the sink knows them.
     ghost taken: { Self → Option (List ℕ) };
 
     /// How many faults it has had.
     ghost faults: { Self → ℕ };
 
-    /// Whether it may be written to. Only bytes that it takes leave it so: generic code can't write again after a
-    /// fault.
+    /// Whether it may be written to. It stays so only after it has taken bytes, so generic code can't write again
+    /// after a fault.
     ghost ready: { Self → Type 0 };
 
-    /// Takes the first of the bytes, as many as it likes, and answers how many: at least one where there are any.
-    /// Generic code has to give some.
+    /// Takes the first of the bytes, as many as it likes, and returns how many: at least one if there are any.
+    /// Generic code has to pass at least one byte.
     ///
-    /// [`Failed`] comes only where the count of faults rose, and nothing is then taken.
+    /// [`Failed`] comes only if the count of faults rose, and then nothing is taken.
     fn write(&mut self, bytes: &[u8]) -> Result<usize, Failed>
         requires ready { ready self.old }
         requires nonempty { 0 < length bytes.now }

@@ -6,22 +6,22 @@ ghost use Rattle.om_port.specs.Causes.{HasCause};
 
 use super::failed::Failed;
 
-/// Where bytes come from. A source may tell the bytes that are left, and counts its faults.
+/// An origin of bytes. A source may know the bytes that are left, and counts its faults.
 pub trait Source {
-    /// The bytes that are left, where the source tells them.
+    /// The bytes that are left, if the source knows them.
     ghost left: { Self → Option (List ℕ) };
 
     /// How many faults it has had.
     ghost faults: { Self → ℕ };
 
-    /// Whether it may be read. Only bytes that it gives leave it so: generic code can't read again after the end or a
-    /// fault.
+    /// Whether it may be read. It stays so only after it has given bytes, so generic code can't read again after
+    /// the end or a fault.
     ghost ready: { Self → Type 0 };
 
-    /// Gives the next bytes, as many as it likes up to the length of `buf`, at the front of `buf`, and answers how
-    /// many. With a nonempty `buf` none are given only at the end of the input.
+    /// Gives the next bytes, as many as it likes up to the length of `buf`, at the front of `buf`, and returns how
+    /// many. For a nonempty `buf` there are none only at the end of the input.
     ///
-    /// [`Failed`] comes only where the count of faults rose, and no byte is then gone.
+    /// [`Failed`] comes only if the count of faults rose, and then no byte is consumed.
     fn read(&mut self, buf: &mut [u8]) -> Result<usize, Failed>
         requires { ready self.old }
         ensures bound { ReadsAtMost result buf.new }

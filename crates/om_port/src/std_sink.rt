@@ -8,7 +8,7 @@ use super::sink::Sink;
 use std::io::Write;
 use std::marker::Model;
 
-/// A writer of std as a sink. It counts a fault at each error of the writer, and where the writer takes nothing of a
+/// A writer of std as a sink. It counts a fault at each error of the writer, and when the writer takes nothing of a
 /// nonempty piece.
 #[derive(Drop)]
 pub struct StdSink<W: Write + Drop> {

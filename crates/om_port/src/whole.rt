@@ -11,15 +11,15 @@ use super::write_fault::WriteFault;
 use om_signs::MAX_INPUT;
 use std::alloc::Global;
 
-/// The most bytes that are asked for at once.
+/// The greatest number of bytes that one call asks for.
 const PIECE: usize = 4_096;
 
-/// All bytes of a source up to its end, of which there are at most `limit`. The limit is at most [`MAX_INPUT`].
+/// All bytes of a source up to its end, at most `limit`. The limit is at most [`MAX_INPUT`].
 ///
-/// [`ReadError::ReadFault`] comes only where the source's count of faults rose in this call. [`ReadError::TooLong`]
-/// comes exactly where `limit + 1` bytes were taken, and no further one is then taken. [`ReadError::Memory`] comes only
-/// for want of memory. After each of them the source has given a prefix of the bytes that it had left. After the end
-/// and after a fault it isn't read again.
+/// [`ReadError::ReadFault`] comes only if the source's count of faults rose in this call. [`ReadError::TooLong`]
+/// comes exactly if `limit + 1` bytes were taken, and no further byte is taken then. [`ReadError::Memory`] comes
+/// only if memory runs out. After each error the source has given a prefix of the bytes that it had left. After its
+/// end or a fault it isn't read again.
 pub fn read_all<S: Source>(
     alloc: Global,
     source: &mut S,
@@ -54,15 +54,15 @@ pub fn read_all<S: Source>(
             }
         }
     }
-    // Not reached: each turn takes a byte or ends, and the turn that takes the last of `limit + 1` bytes ends.
+    // Not reached: each turn takes a byte or ends, and the turn that takes byte number `limit + 1` ends.
     Err(ReadError::TooLong)
 }
 
 /// Writes all of the bytes, in order.
 ///
-/// [`WriteFault`] comes only where the sink's count of faults rose in this call. The first `written` of the bytes were
-/// then taken and no others, and `written` is less than their number. Each write is of one byte at least, and after a
-/// fault there is none.
+/// [`WriteFault`] comes only if the sink's count of faults rose in this call. Exactly the first `written` bytes
+/// were taken then, and `written` is less than their number. Each write has at least one byte, and none comes after
+/// a fault.
 pub fn write_all<K: Sink>(sink: &mut K, bytes: &[u8]) -> Result<(), WriteFault>
     requires { K.ready sink.old }
     ensures ok { OnOk result (Appends (K.taken sink.old) (K.taken sink.new) bytes.now) }

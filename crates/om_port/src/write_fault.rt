@@ -1,6 +1,6 @@
 use thiserror::Error;
 
-/// The sink had a fault, and has taken the first `written` bytes alone.
+/// The sink had a fault, and has taken only the first `written` bytes.
 #[derive(Clone, Copy, Debug, PartialEq, Eq, Error)]
 #[error("the sink had a fault after {written} bytes")]
 pub struct WriteFault {

@@ -1,8 +1,9 @@
 -- Tuples that every cocircuit meets.
 --
--- Main results: each cocircuit meets each base (base_hits); a tuple that each cocircuit meets contains a base (base_within), and is one where it has
--- as many elements and no repeat (hitting_base) or where no element can be left out (sharp_base); a cocircuit that is zero on a base without one
--- element is the vector along the others, up to sign (vanishing_same).
+-- Main results: each cocircuit meets each base (base_hits); a tuple that each cocircuit meets contains a base
+-- (base_within), and is one where it has as many elements and no repeat (hitting_base) or where no element can be left
+-- out (sharp_base); a cocircuit that is zero on a base without one element is the vector along the others, up to sign
+-- (vanishing_same).
 -- Reference: Björner, Las Vergnas, Sturmfels, White and Ziegler, Oriented Matroids, chapter 3.
 use Rattle.std.specs.Prelude.{ℕ, ◌≡◌, ◌≢◌, ◌≤◌, ◌⊎◌, List, [], ◌∷◌, ◌++◌, length, refl}
 use Rattle.std.proofs.Common.{zero, suc, sym, ap, subst, ◌∙◌, ⊎_elim, inl, inr, arith}
@@ -33,7 +34,8 @@ abbrev pub Meets : List ℕ → SignVector → Type 0
 Meets t Y = (g : ℕ) × IsMember g t × IsNonzero (Y g)
 
 pub meets_or_zero : (t : List ℕ) (Y : SignVector) → Meets t Y ⊎ ((g : ℕ) → IsMember g t → Y g ≡ Zero)
-meets_or_zero t Y = search_members (λ g. IsNonzero (Y g)) (λ g. Y g ≡ Zero) (λ g. ⊎_elim (λ z. inr z) (λ n. inl n) (zero_or_nonzero (Y g))) t
+meets_or_zero t Y = search_members (λ g. IsNonzero (Y g)) (λ g. Y g ≡ Zero)
+    (λ g. ⊎_elim (λ z. inr z) (λ n. inl n) (zero_or_nonzero (Y g))) t
 
 empty_by_length : (l : List ℕ) → length l ≡ 0 → l ≡ []
 empty_by_length [] e = refl
@@ -46,8 +48,10 @@ module _ (E : List ℕ) (chi : List ℕ → Sign) (om : IsChirotope E chi) where
   along_nonzero : (Y : SignVector) (c : IsCocircuit chi Y) (e : ℕ) → IsNonzero (along chi c.tuple e) → IsNonzero (Y e)
   along_nonzero Y c e n z = n (same_zero (along chi c.tuple) Y (same_sym Y (along chi c.tuple) c.same) e z)
 
-  -- where a cocircuit is nonzero off a base, it is nonzero at some element of the base that this one can take the place of
-  pub meets_fundamental : (t : List ℕ) (e : ℕ) → IsNonzero (chi t) → (IsMember e t → ⊥) → (Y : SignVector) → IsCocircuit chi Y → IsNonzero (Y e)
+  -- where a cocircuit is nonzero off a base, it is nonzero at some element of the base that this one can take the place
+  -- of
+  pub meets_fundamental : (t : List ℕ) (e : ℕ) → IsNonzero (chi t) → (IsMember e t → ⊥) → (Y : SignVector)
+      → IsCocircuit chi Y → IsNonzero (Y e)
       → (g : ℕ) × IsMember g t × IsNonzero (Y g) × IsNonzero (around chi (t ++ e ∷ []) g)
   meets_fundamental t e nt out Y c ny =
       let within = cocircuit_supported E chi om Y c e ny in
@@ -62,7 +66,8 @@ module _ (E : List ℕ) (chi : List ℕ → Sign) (om : IsChirotope E chi) where
       (λ out. let k = meets_fundamental t c.nonzero.0 nt out Y c c.nonzero.1 in (k.0, k.1, k.2))
       (member_or_not c.nonzero.0 t)
 
-  pub vanishing_same : (a : List ℕ) (h : ℕ) → IsNonzero (chi (a ++ h ∷ [])) → (Y : SignVector) → IsCocircuit chi Y → ((g : ℕ) → IsMember g a → Y g ≡ Zero)
+  pub vanishing_same : (a : List ℕ) (h : ℕ) → IsNonzero (chi (a ++ h ∷ [])) → (Y : SignVector) → IsCocircuit chi Y
+      → ((g : ℕ) → IsMember g a → Y g ≡ Zero)
       → AreEqualUpToSign Y (along chi a)
   vanishing_same a h n Y c zeros =
       let axioms = pairs.cocircuit_axioms E (IsCircuit E chi) (IsCocircuit chi) (dual_pair E chi om) in
@@ -80,27 +85,32 @@ module _ (E : List ℕ) (chi : List ℕ → Sign) (om : IsChirotope E chi) where
 
       support : HasSupportIn Y (along chi a)
       support e ny = ⊎_elim
-          (λ m. ⊎_elim (λ k. absurd (ny (zeros e k))) (λ q. subst (λ i. IsNonzero (along chi a i)) (sym q) n) (member_last e h a m))
+          (λ m. ⊎_elim (λ k. absurd (ny (zeros e k))) (λ q. subst (λ i. IsNonzero (along chi a i)) (sym q) n)
+          (member_last e h a m))
           (λ out. at_other e ny out)
           (member_or_not e (a ++ h ∷ []))
 
   -- ---- tuples that each cocircuit meets
 
-  outside_or_within : (s t : List ℕ) → ((e : ℕ) × IsMember e s × (IsMember e t → ⊥)) ⊎ ((e : ℕ) → IsMember e s → IsMember e t)
-  outside_or_within s t = search_members (λ e. IsMember e t → ⊥) (λ e. IsMember e t) (λ e. ⊎_elim (λ k. inr k) (λ n. inl n) (member_or_not e t)) s
+  outside_or_within : (s t : List ℕ) → ((e : ℕ) × IsMember e s × (IsMember e t → ⊥))
+      ⊎ ((e : ℕ) → IsMember e s → IsMember e t)
+  outside_or_within s t = search_members (λ e. IsMember e t → ⊥) (λ e. IsMember e t)
+      (λ e. ⊎_elim (λ k. inr k) (λ n. inl n) (member_or_not e t)) s
 
   abbrev HasBaseWithin : List ℕ → Type 0
   HasBaseWithin t = (b : List ℕ) × IsNonzero (chi b) × ((g : ℕ) → IsMember g b → IsMember g t)
 
   module _ (t : List ℕ) (hits : (Y : SignVector) → IsCocircuit chi Y → Meets t Y) where
-    exchanged : (b : List ℕ) → IsNonzero (chi b) → (e : ℕ) → IsMember e b → (IsMember e t → ⊥) → (r : List ℕ) × IsNonzero (chi r) × (suc (missing t r) ≡ missing t b)
+    exchanged : (b : List ℕ) → IsNonzero (chi b) → (e : ℕ) → IsMember e b → (IsMember e t → ⊥) → (r : List ℕ)
+        × IsNonzero (chi r) × (suc (missing t r) ≡ missing t b)
     exchanged b nb e m out =
         let k = split_at e b m in
         let f = fundamental_cocircuit E chi om k.0 k.1 e (subst (λ l. IsNonzero (chi l)) k.2 nb) in
         let h = hits (along chi (k.0 ++ k.1)) f.cocircuit in (
           k.0 ++ h.0 ∷ k.1,
           (f.exchange h.0).0 h.2,
-          ap suc (missing_middle_member t k.0 h.0 k.1 h.1) ∙ sym (missing_middle_other t k.0 e k.1 out) ∙ ap (missing t) (sym k.2),
+          ap suc (missing_middle_member t k.0 h.0 k.1 h.1) ∙ sym (missing_middle_other t k.0 e k.1 out)
+              ∙ ap (missing t) (sym k.2),
         )
 
     by_missing : (n : ℕ) (b : List ℕ) → missing t b ≤ n → IsNonzero (chi b) → HasBaseWithin t
@@ -120,10 +130,13 @@ module _ (E : List ℕ) (chi : List ℕ → Sign) (om : IsChirotope E chi) where
     swapped u x y v n = subst IsNonzero (sym (om.alternating x y u v)) (opposite_nonzero (chi (u ++ x ∷ y ∷ v)) n)
 
     -- with the elements of a base
-    same_as_base : (b : List ℕ) → IsNonzero (chi b) → IsDistinct t → ((g : ℕ) → IsMember g b → IsMember g t) → ((g : ℕ) → IsMember g t → IsMember g b) → IsNonzero (chi t)
-    same_as_base b nb d to from = same_members (λ l. IsNonzero (chi l)) swapped b [] t (nonzero_distinct chi om.alternating b nb) d to from nb
+    same_as_base : (b : List ℕ) → IsNonzero (chi b) → IsDistinct t → ((g : ℕ) → IsMember g b → IsMember g t)
+        → ((g : ℕ) → IsMember g t → IsMember g b) → IsNonzero (chi t)
+    same_as_base b nb d to from =
+        same_members (λ l. IsNonzero (chi l)) swapped b [] t (nonzero_distinct chi om.alternating b nb) d to from nb
 
-    all_of_base : (b : List ℕ) → IsNonzero (chi b) → IsDistinct t → length t ≡ length b → ((g : ℕ) → IsMember g b → IsMember g t) → (g : ℕ) → IsMember g t → IsMember g b
+    all_of_base : (b : List ℕ) → IsNonzero (chi b) → IsDistinct t → length t ≡ length b
+        → ((g : ℕ) → IsMember g b → IsMember g t) → (g : ℕ) → IsMember g t → IsMember g b
     all_of_base b nb d l to g m = ⊎_elim
         (λ k. k)
         (λ out.
@@ -138,10 +151,13 @@ module _ (E : List ℕ) (chi : List ℕ → Sign) (om : IsChirotope E chi) where
         same_as_base k.0 k.1 d k.2 (all_of_base k.0 k.1 d (l ∙ one_size E chi om b k.0 nb k.1) k.2)
 
     -- where each element is needed
-    pub sharp_base : IsDistinct t → ((e : ℕ) → IsMember e t → (Y : SignVector) × IsCocircuit chi Y × ((g : ℕ) → IsMember g t → g ≢ e → Y g ≡ Zero)) → IsNonzero (chi t)
+    pub sharp_base : IsDistinct t
+        → ((e : ℕ) → IsMember e t → (Y : SignVector) × IsCocircuit chi Y
+        × ((g : ℕ) → IsMember g t → g ≢ e → Y g ≡ Zero)) → IsNonzero (chi t)
     sharp_base d sharp =
         let k = base_within in
         same_as_base k.0 k.1 d k.2 (λ g m. ⊎_elim
         (λ j. j)
-        (λ out. let y = sharp g m in let h = base_hits k.0 k.1 y.0 y.1 in absurd (h.2 (y.2 h.0 (k.2 h.0 h.1) (λ q. out (subst (λ i. IsMember i k.0) q h.1)))))
+        (λ out. let y = sharp g m in let h = base_hits k.0 k.1 y.0 y.1 in
+        absurd (h.2 (y.2 h.0 (k.2 h.0 h.1) (λ q. out (subst (λ i. IsMember i k.0) q h.1)))))
         (member_or_not g k.0))

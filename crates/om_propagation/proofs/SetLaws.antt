@@ -1,7 +1,7 @@
 -- Increasing lists with an element in the place of another, and their order.
 --
--- Main results: a smaller element in the place of another gives an earlier list (exchanged_before); of two lists the earlier one has an element
--- that is not in the other, and is less than all that only the other has (first_new).
+-- Main results: a smaller element in the place of another gives an earlier list (exchanged_before); of two lists the
+-- earlier one has an element that is not in the other, and is less than all that only the other has (first_new).
 use Rattle.std.specs.Prelude.{ℕ, ◌≡◌, ◌≢◌, ◌+◌, ◌<◌, List, [], ◌∷◌, length, refl}
 use Rattle.std.proofs.Common.{zero, suc, sym, subst, ◌∙◌, ⊎_elim, inl, inr, arith}
 use Rattle.std.proofs.lemmas.Bool.{cases_eq, cases_lt, eq-eqb, ne_eqb, lt-ltb, le-ltb}
@@ -10,7 +10,8 @@ use Rattle.om_subsets.specs.Lists.{IsBefore}
 use Rattle.om_subsets.proofs.OneElement.{not_later, without_other, with_below}
 use Rattle.om_subsets.proofs.Order.{members_from}
 
-pub exchanged_before : (low m e h : ℕ) (xs : List ℕ) → IsSubsetFrom low m xs → IsMember e xs → h < e → (IsMember h (without_element e xs) → ⊥)
+pub exchanged_before : (low m e h : ℕ) (xs : List ℕ) → IsSubsetFrom low m xs → IsMember e xs → h < e
+    → (IsMember h (without_element e xs) → ⊥)
     → IsBefore (with_element h (without_element e xs)) xs
 exchanged_before low m e h [] s k l out = absurd k
 exchanged_before low zero e h (x ∷ xs) s k l out = absurd s
@@ -26,7 +27,9 @@ exchanged_before low (suc m) e h (x ∷ xs) (inl (q, s)) k l out = elim (cases_e
       let ne : h ≢ x = (λ p. out (subst (IsMember h) (sym shape) (inl p))) in
       subst (λ z. IsBefore (with_element h z) (x ∷ xs)) (sym shape) (elim (cases_lt h x) [
         | inl lt ↦ rw (ne_eqb h x ne, lt-ltb h x lt) (inl lt)
-        | inr ge ↦ rw (ne_eqb h x ne, le-ltb h x ge) (inr (refl, exchanged_before (low + 1) m e h xs s k' l (λ j. out (subst (IsMember h) (sym shape) (inr j)))))
+        | inr ge ↦
+            rw (ne_eqb h x ne, le-ltb h x ge)
+            (inr (refl, exchanged_before (low + 1) m e h xs s k' l (λ j. out (subst (IsMember h) (sym shape) (inr j)))))
       ])
 ]
 
@@ -38,7 +41,8 @@ pub record IsFirstNew (xs ys : List ℕ) : Type 0 where
   pub less : (f : ℕ) → IsMember f ys → (IsMember f xs → ⊥) → element < f
 
 -- past the numbers that both lists may begin with
-pub first_new : (low m : ℕ) (xs ys : List ℕ) → IsSubsetFrom low m xs → IsSubsetFrom low m ys → length xs ≡ length ys → IsBefore xs ys → IsFirstNew xs ys
+pub first_new : (low m : ℕ) (xs ys : List ℕ) → IsSubsetFrom low m xs → IsSubsetFrom low m ys → length xs ≡ length ys
+    → IsBefore xs ys → IsFirstNew xs ys
 first_new low m [] [] hx hy l b = absurd b
 first_new low m [] (y ∷ ys) hx hy l b = absurd (omega arith)
 first_new low m (x ∷ xs) [] hx hy l b = absurd b
@@ -63,4 +67,5 @@ first_new low (suc m) (x ∷ xs) (y ∷ ys) (inl (q, hx)) (inr (p, hy)) l b = re
 first_new low (suc m) (x ∷ xs) (y ∷ ys) (inr (q, hx)) (inl (p, hy)) l b =
     let a = (members_from (low + 1) m x (x ∷ xs) hx (inl refl)).0 in
     absurd (⊎_elim (λ lt. omega (arith, lt, a, p)) (λ e. let z = e.0 in omega (arith, z, a, p)) b)
-first_new low (suc m) (x ∷ xs) (y ∷ ys) (inr (q, hx)) (inr (p, hy)) l b = first_new (low + 1) m (x ∷ xs) (y ∷ ys) hx hy l b
+first_new low (suc m) (x ∷ xs) (y ∷ ys) (inr (q, hx)) (inr (p, hy)) l b =
+    first_new (low + 1) m (x ∷ xs) (y ∷ ys) hx hy l b

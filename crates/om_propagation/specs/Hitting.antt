@@ -1,4 +1,4 @@
--- Sets that every cocircuit of a list meets, and the chirotope that a list of cocircuits stands for.
+-- Sets that meet every cocircuit of a list, and the chirotope that a list of cocircuits determines.
 --
 -- Reference: Björner, Las Vergnas, Sturmfels, White and Ziegler, Oriented Matroids, chapter 3.
 use Rattle.std.specs.Prelude.{ℕ, ◌≡◌, ◌≢◌, ◌<◌, ◌≤◌, ◌⊎◌, List, length}
@@ -14,11 +14,11 @@ use Rattle.om_chirotope.specs.Chirotope.{IsChirotope}
 use Rattle.om_denotation.specs.Circuits.{IsCocircuitOfChirotope}
 use Rattle.om_denotation.specs.Listings.{AreAllOf}
 
--- not zero at some element of a set
+-- Y is nonzero at some element of the set
 abbrev pub IsNonzeroOn : List ℕ → List Sign → Type 0
 IsNonzeroOn s Y = (e : ℕ) × IsMember e s × (at_element Y e ≢ Zero)
 
--- each vector of a family is nonzero at some element of the set
+-- the set meets every vector of a family: the vector is nonzero at some element of the set
 abbrev pub MeetsFamily : (List Sign → Type 0) → List ℕ → Type 0
 MeetsFamily P s = (Y : List Sign) → P Y → IsNonzeroOn s Y
 
@@ -26,24 +26,24 @@ MeetsFamily P s = (Y : List Sign) → P Y → IsNonzeroOn s Y
 abbrev pub MissesOne : (List Sign → Type 0) → List ℕ → Type 0
 MissesOne P s = (Y : List Sign) × P Y × (IsNonzeroOn s Y → ⊥)
 
--- each vector of a list is nonzero at some element of the set
+-- the set meets every vector of a list
 abbrev pub MeetsEach : List (List Sign) → List ℕ → Type 0
 MeetsEach members s = MeetsFamily (Contains members) s
 
--- a vector of a list that isn't zero
+-- a nonzero vector of a list
 abbrev pub IsNonzeroMember : List (List Sign) → List Sign → Type 0
 IsNonzeroMember members Y = Contains members Y × (IsZero Y → ⊥)
 
--- the set without e where it meets each vector of a family, and the set where it does not
+-- the set without e, if this meets every vector of a family, and else the set itself
 abbrev pub IsNarrowed : (List Sign → Type 0) → List ℕ → ℕ → List ℕ → Type 0
 IsNarrowed P s e t = ((t ≡ without_element e s) × MeetsFamily P t) ⊎ ((t ≡ s) × MissesOne P (without_element e s))
 
--- it meets each vector of a family, and without any of its elements it does not
+-- a minimal set that meets every vector of a family: without any of its elements it misses some vector
 pub record IsLeastMeeting (P : List Sign → Type 0) (s : List ℕ) : Type 0 where
   pub each : MeetsFamily P s
   pub least : (e : ℕ) → IsMember e s → MissesOne P (without_element e s)
 
--- a chirotope on n elements with these cocircuits, whose first sign that isn't zero is plus
+-- a chirotope on n elements with these cocircuits, whose first nonzero sign is plus
 pub record IsNormalOf (n : ℕ) (members : List (List Sign)) (m : SignMap) : Type 0 where
   pub axioms : IsChirotope m
   pub elements : m.elements ≡ n
@@ -54,20 +54,25 @@ pub record IsNormalOf (n : ℕ) (members : List (List Sign)) (m : SignMap) : Typ
 abbrev pub IsRankOfNormal : ℕ → List (List Sign) → ℕ → Type 0
 IsRankOfNormal n members rank = (m : SignMap) → IsNormalOf n members m → m.rank ≡ rank
 
--- the first signs of each normal chirotope of the list
+-- the first signs of each normal chirotope of the list that has this rank
 abbrev pub AreFirstSigns : ℕ → ℕ → List (List Sign) → List Sign → Type 0
-AreFirstSigns n rank members signs = (m : SignMap) → IsNormalOf n members m → m.rank ≡ rank → (k : ℕ) → k < length signs → at signs k ≡ at m.signs k
+AreFirstSigns n rank members signs = (m : SignMap) → IsNormalOf n members m → m.rank ≡ rank → (k : ℕ) → k < length signs
+    → at signs k ≡ at m.signs k
 
--- the sign at a place of each normal chirotope of the list
+-- the sign at place k of each normal chirotope of the list that has this rank
 abbrev pub IsNextSign : ℕ → ℕ → List (List Sign) → ℕ → Sign → Type 0
 IsNextSign n rank members k s = (m : SignMap) → IsNormalOf n members m → m.rank ≡ rank → s ≡ at m.signs k
 
--- the sign of the set a with e, by a vector y that is zero on a, from the sign s of the set a with h
+-- the sign of the set a with e, from the sign s of the set a with h, by a vector y that is zero on a
 abbrev pub carried_sign : List ℕ → ℕ → ℕ → List Sign → Sign → Sign
-carried_sign a e h y s = product (product (product (product (parity_sign (count_above e a)) (parity_sign (count_above h a))) (at_element y e)) (at_element y h)) s
+carried_sign a e h y s =
+    product (product
+    (product (product (parity_sign (count_above e a)) (parity_sign (count_above h a))) (at_element y e))
+    (at_element y h)) s
 
--- the sign s of a set t, from that of a set before it which has a smaller element h in the place of e
-pub record IsCarried (n : ℕ) (members : List (List Sign)) (before : List Sign) (t : List ℕ) (e : ℕ) (s : Sign) : Type 0 where
+-- the sign s of a set t, from that of an earlier set, which has a smaller element h in place of e
+pub record IsCarried (n : ℕ) (members : List (List Sign)) (before : List Sign) (t : List ℕ) (e : ℕ) (s : Sign) : Type
+    0 where
   pub inside : IsMember e t
   pub vector : List Sign
   pub member : Contains members vector
@@ -76,7 +81,8 @@ pub record IsCarried (n : ℕ) (members : List (List Sign)) (before : List Sign)
   pub low : 1 ≤ other
   pub below : other < e
   pub nonzero : at_element vector other ≢ Zero
-  pub value : s ≡ carried_sign (without_element e t) e other vector (at before (rank_of n (with_element other (without_element e t))))
+  pub value : s ≡ carried_sign (without_element e t) e other vector
+      (at before (rank_of n (with_element other (without_element e t))))
 
 -- some vector is zero on t without e, and on all elements below e
 pub record IsLeastAt (members : List (List Sign)) (t : List ℕ) (e : ℕ) : Type 0 where
@@ -89,6 +95,6 @@ pub record IsLeastAt (members : List (List Sign)) (t : List ℕ) (e : ℕ) : Typ
 abbrev pub HasNoneCarried : List (List Sign) → List ℕ → ℕ → Type 0
 HasNoneCarried members t e = IsMember e t → MeetsEach members (without_element e t) ⊎ IsLeastAt members t e
 
--- each normal chirotope of the list that has the rank of the map
+-- the map equals each normal chirotope of the list that has its rank
 abbrev pub IsEachNormalOf : ℕ → List (List Sign) → SignMap → Type 0
 IsEachNormalOf n members map = (m : SignMap) → IsNormalOf n members m → m.rank ≡ map.rank → map ≡ m

@@ -5,13 +5,14 @@ ghost use Rattle.std.specs.List.{Contains};
 ghost use Rattle.om_members.specs.Listings.{HaveLength};
 ghost use Rattle.om_members.specs.Vectors.{IsZero};
 ghost use Rattle.om_subsets.specs.Subsets.{IsSubsetFrom};
-ghost use Rattle.om_propagation.specs.Hitting.{IsNonzeroOn, MeetsEach, MeetsFamily, IsNonzeroMember, IsNarrowed, IsLeastMeeting};
+ghost use Rattle.om_propagation.specs.Hitting.{IsNonzeroOn, MeetsEach, MeetsFamily, IsNonzeroMember, IsNarrowed};
+ghost use Rattle.om_propagation.specs.Hitting.{IsLeastMeeting};
 
 use om_members::is_zero;
 use om_signs::{MAX_ELEMENTS, SignVec};
 use om_subsets::Subset;
 
-/// Whether a vector is nonzero at some element of a set.
+/// Whether a vector is nonzero at some element of a set. They are on the same elements.
 pub fn meets(y: SignVec, s: Subset) -> bool
     requires { length y ≡ s.n }
     ensures { IsTrue result ↔ IsNonzeroOn s.elements y }
@@ -20,8 +21,8 @@ pub fn meets(y: SignVec, s: Subset) -> bool
     y.support() & s.mask() != 0
 }
 
-/// A vector of the list that is zero on a set, or None where the set meets each. Each vector has a sign for each of the
-/// elements 1 to n that the set is taken from.
+/// A vector of the list that is zero on the set, or None if the set meets every vector. The set is taken from the
+/// elements 1 to n, and each vector has n signs.
 pub fn missed_vector(vectors: &[SignVec], s: Subset) -> Option<SignVec>
     requires { HaveLength s.n vectors.now }
     ensures none { IfNone result (MeetsEach vectors.now s.elements) }
@@ -44,7 +45,7 @@ fn passes(y: SignVec, s: Subset) -> bool
     is_zero(y) || meets(y, s)
 }
 
-/// A vector of the list that is zero on a set and isn't zero, or None where the set meets each one that isn't zero.
+/// A nonzero vector of the list that is zero on the set, or None if the set meets every nonzero vector.
 fn missed_nonzero_vector(vectors: &[SignVec], s: Subset) -> Option<SignVec>
     requires { HaveLength s.n vectors.now }
     ensures none { IfNone result (MeetsFamily (IsNonzeroMember vectors.now) s.elements) }
@@ -60,7 +61,7 @@ fn missed_nonzero_vector(vectors: &[SignVec], s: Subset) -> Option<SignVec>
     None
 }
 
-/// The set without an element if it still meets each nonzero vector, and else the set.
+/// The set without e, if it still meets every nonzero vector, and else the set itself.
 fn narrowed(vectors: &[SignVec], set: Subset, e: u8) -> Subset
     requires low { 1 ≤ e }
     requires high { e ≤ set.n }
@@ -78,8 +79,8 @@ fn narrowed(vectors: &[SignVec], set: Subset, e: u8) -> Subset
     }
 }
 
-/// A set that meets each vector that isn't zero, and of which no element can be left out. Each vector has `elements` signs, of
-/// which there are at most [`MAX_ELEMENTS`]. It takes no memory.
+/// A minimal set that meets every nonzero vector: none of its elements can be left out. Each vector has `elements`
+/// signs, at most [`MAX_ELEMENTS`]. It allocates no memory.
 ///
 /// Source: Björner, Las Vergnas, Sturmfels, White and Ziegler, *Oriented Matroids*, chapter 3.
 pub fn least_meeting(elements: u8, vectors: &[SignVec]) -> Subset

@@ -1,5 +1,7 @@
-//! The chirotope of a set of cocircuits, sign by sign from neighbouring bases, and by its dual that of a set of circuits. Both
-//! are told the rank, which [`rank_cocircuits`], [`rank_circuits`] and [`rank_covectors`] give.
+//! The chirotope of a set of cocircuits, whose signs are found one after the other from those of neighbouring
+//! bases. The chirotope of a set of circuits is found as a dual.
+//!
+//! Both calls are given the rank, which [`rank_cocircuits`], [`rank_circuits`] and [`rank_covectors`] find.
 //!
 //! Source of the notions: Björner, Las Vergnas, Sturmfels, White and Ziegler, *Oriented Matroids*, chapter 3.
 #![tactic(auto)]

@@ -21,11 +21,11 @@ use om_signs::{List, MAX_ELEMENTS, NoMemory, RawMap, SignVec};
 use om_subsets::Subset;
 use std::alloc::Global;
 
-/// The map of this rank, at most `elements`, whose signs are carried from neighbouring sets by the vectors, each of which has
-/// `elements` signs. Where the vectors are the cocircuits of a chirotope of this rank, it is the normal one; from other
-/// vectors it is some map. Its signs take their memory from `alloc`.
+/// The map of this rank whose signs are carried from set to set by the vectors. The rank is at most `elements`, and
+/// each vector has `elements` signs. If the vectors are the cocircuits of a chirotope of this rank, the map is its
+/// normal form. For other vectors nothing is said about its signs. Memory for the signs comes from `alloc`.
 ///
-/// [`NoMemory`] comes only for want of memory.
+/// [`NoMemory`] comes only if memory runs out.
 ///
 /// Source: Björner, Las Vergnas, Sturmfels, White and Ziegler, *Oriented Matroids*, chapter 3.
 pub fn propagated_map(
@@ -56,14 +56,14 @@ pub fn propagated_map(
     })
 }
 
-/// The normal chirotope whose cocircuits are the members of a set, and whose rank this is. Its signs take their memory from
+/// The normal chirotope of this rank whose cocircuits are the members of a set. Memory for the signs comes from
 /// `alloc`.
 ///
-/// The bases are the sets of as many elements as the rank that meet each member. The first one has the sign plus, and each
-/// other one has its sign from that of a basis before it with one other element, by a member that is zero on what both have
-/// in common.
+/// The bases are the sets of as many elements as the rank that meet every member. The sign of the first basis is
+/// plus. Each other basis gets its sign from an earlier basis that differs from it in one element, by a member that
+/// is zero on the elements that both share.
 ///
-/// [`NoMemory`] comes only for want of memory.
+/// [`NoMemory`] comes only if memory runs out.
 ///
 /// Source: Björner, Las Vergnas, Sturmfels, White and Ziegler, *Oriented Matroids*, chapter 3.
 pub fn chirotope_of(alloc: Global, set: &SignedSet, rank: u8) -> Result<Chirotope, NoMemory>
@@ -76,10 +76,11 @@ pub fn chirotope_of(alloc: Global, set: &SignedSet, rank: u8) -> Result<Chirotop
     Ok(Chirotope::lawful(raw))
 }
 
-/// The normal chirotope with these cocircuits, whose rank this is. Both have the same elements and denote the same oriented
-/// matroid, and it is the only chirotope that does, up to sign. Its signs take their memory from `alloc`.
+/// The normal chirotope with these cocircuits, whose rank is `rank`. Both have the same elements and denote the
+/// same oriented matroid, and up to sign it is the only chirotope that does. Memory for the signs comes from
+/// `alloc`.
 ///
-/// [`NoMemory`] comes only for want of memory.
+/// [`NoMemory`] comes only if memory runs out.
 ///
 /// Source: Björner, Las Vergnas, Sturmfels, White and Ziegler, *Oriented Matroids*, chapter 3.
 pub fn chirotope_of_cocircuits(
@@ -98,11 +99,11 @@ pub fn chirotope_of_cocircuits(
     chirotope_of(alloc, &c.0, rank)
 }
 
-/// The normal chirotope with these circuits, whose rank this is: the dual of that whose cocircuits they are. Both have the
-/// same elements and denote the same oriented matroid, and it is the only chirotope that does, up to sign. Its signs take
-/// their memory from `alloc`.
+/// The normal chirotope with these circuits, whose rank is `rank`: the dual of the one whose cocircuits they are.
+/// Both have the same elements and denote the same oriented matroid, and up to sign it is the only chirotope that
+/// does. Memory for the signs comes from `alloc`.
 ///
-/// [`NoMemory`] comes only for want of memory.
+/// [`NoMemory`] comes only if memory runs out.
 ///
 /// Source: Björner, Las Vergnas, Sturmfels, White and Ziegler, *Oriented Matroids*, chapter 3.
 pub fn chirotope_of_circuits(alloc: Global, c: &Circuits, rank: u8) -> Result<Chirotope, NoMemory>

@@ -9,8 +9,8 @@ use super::hitting::least_meeting;
 use om_circuits::{Circuits, Cocircuits};
 use om_covectors::Covectors;
 
-/// The rank of the chirotope that denotes the same as some circuits, whatever its number of values: the number of elements
-/// less the size of a least set that meets each circuit. It takes no memory.
+/// The rank of the chirotope that denotes the same as some circuits, whatever its number of values. It is the
+/// number of elements minus the size of a minimal set that meets every circuit. The call allocates no memory.
 ///
 /// Source: Björner, Las Vergnas, Sturmfels, White and Ziegler, *Oriented Matroids*, chapter 3.
 pub fn rank_circuits(c: &Circuits) -> u8
@@ -21,8 +21,8 @@ pub fn rank_circuits(c: &Circuits) -> u8
     elements - least_meeting(elements, c.0.members()).size()
 }
 
-/// The rank of the chirotope that denotes the same as some cocircuits, whatever its number of values: the size of a least
-/// set that meets each cocircuit. It takes no memory.
+/// The rank of the chirotope that denotes the same as some cocircuits, whatever its number of values. It is the
+/// size of a minimal set that meets every cocircuit. The call allocates no memory.
 ///
 /// Source: Björner, Las Vergnas, Sturmfels, White and Ziegler, *Oriented Matroids*, chapter 3.
 pub fn rank_cocircuits(c: &Cocircuits) -> u8
@@ -32,8 +32,8 @@ pub fn rank_cocircuits(c: &Cocircuits) -> u8
     least_meeting(c.0.elements(), c.0.members()).size()
 }
 
-/// The rank of the chirotope that denotes the same as some covectors, whatever its number of values: the size of a least
-/// set that meets each covector that isn't zero. It takes no memory.
+/// The rank of the chirotope that denotes the same as some covectors, whatever its number of values. It is the size
+/// of a minimal set that meets every nonzero covector. The call allocates no memory.
 ///
 /// Source: Björner, Las Vergnas, Sturmfels, White and Ziegler, *Oriented Matroids*, chapters 3 and 4.
 pub fn rank_covectors(c: &Covectors) -> u8

@@ -5,13 +5,14 @@ ghost use Rattle.om_signs.specs.SignVec.{at, at_element};
 ghost use Rattle.om_subsets.specs.Subsets.{IsSubsetFrom, count_above, rank_of};
 ghost use Rattle.om_chirotope.specs.Map.{parity_sign};
 ghost use Rattle.om_members.specs.Listings.{HaveLength};
-ghost use Rattle.om_propagation.specs.Hitting.{MeetsEach, AreFirstSigns, IsNextSign, carried_sign, IsCarried, HasNoneCarried};
+ghost use Rattle.om_propagation.specs.Hitting.{MeetsEach, AreFirstSigns, IsNextSign, carried_sign, IsCarried};
+ghost use Rattle.om_propagation.specs.Hitting.{HasNoneCarried};
 
 use super::hitting::missed_vector;
 use om_signs::{Sign, SignVec};
 use om_subsets::Subset;
 
-/// The power of -1 to the number of elements of a set above e.
+/// The power of -1 whose exponent is the number of elements of a set above e. The element e is from 1 to n.
 fn parity_above(a: Subset, e: u8) -> Sign
     requires low { 1 ≤ e }
     requires high { e ≤ a.n }
@@ -24,7 +25,7 @@ fn parity_above(a: Subset, e: u8) -> Sign
     }
 }
 
-/// The sign of a set with e, by a vector that is zero on the set, from the sign of the set with h.
+/// The sign of the set a with e, from the sign of the set a with h, by a vector that is zero on a.
 fn carried(a: Subset, e: u8, h: u8, y: SignVec, sign: Sign) -> Sign
     requires n { length y ≡ a.n }
     requires e_low { 1 ≤ e }
@@ -37,7 +38,7 @@ fn carried(a: Subset, e: u8, h: u8, y: SignVec, sign: Sign) -> Sign
     parity.times(y.get(e)).times(y.get(h)).times(sign)
 }
 
-/// An element below e at which a vector is nonzero, or None where there is none.
+/// An element below e at which a vector is nonzero, or None if there is none.
 fn nonzero_below(y: SignVec, e: u8) -> Option<u8>
     requires { e ≤ length y }
     ensures none { IfNone result ((h : ℕ) → 1 ≤ h → h < e → at_element y h ≡ Sign.Zero) }
@@ -53,8 +54,8 @@ fn nonzero_below(y: SignVec, e: u8) -> Option<u8>
     None
 }
 
-/// The sign of a set from that of a set before it, which has a smaller element in the place of e. None where e is not in
-/// the set, or there is no such set.
+/// The sign of a set t, from that of an earlier set, which has a smaller element in place of e. None if e isn't in
+/// t, or no vector carries a sign.
 fn sign_over(vectors: &[SignVec], before: &[Sign], t: Subset, e: u8) -> Option<Sign>
     requires low { 1 ≤ e }
     requires high { e ≤ t.n }
@@ -80,13 +81,14 @@ fn sign_over(vectors: &[SignVec], before: &[Sign], t: Subset, e: u8) -> Option<S
     }
 }
 
-/// The sign of a set that meets each vector, from those of the sets before it: the sign of this basis in the normal chirotope
-/// with these cocircuits, if there is one, and those before are its signs.
+/// The sign of a set that meets every vector, from the signs of the sets before it. Suppose that `before` has the
+/// first signs of the normal chirotope with these cocircuits. Then the result is the sign of this basis in it.
 fn sign_of_basis(vectors: &[SignVec], before: &[Sign], t: Subset) -> Sign
     requires lengths { HaveLength t.n vectors.now }
     requires place { rank_of t.n t.elements ≡ length before.now }
     requires basis { MeetsEach vectors.now t.elements }
-    ensures { AreFirstSigns t.n (length t.elements) vectors.now before.now → IsNextSign t.n (length t.elements) vectors.now (length before.now) result }
+    ensures { AreFirstSigns t.n (length t.elements) vectors.now before.now
+        → IsNextSign t.n (length t.elements) vectors.now (length before.now) result }
 {
     t.is_lawful();
     for e in 1..t.n() + 1 {
@@ -97,12 +99,13 @@ fn sign_of_basis(vectors: &[SignVec], before: &[Sign], t: Subset) -> Sign
     Sign::Plus
 }
 
-/// The sign of a set from those of the sets before it: its sign in the normal chirotope with these cocircuits, if there is one,
-/// and those before are its signs.
+/// The sign of a set, from the signs of the sets before it. Suppose that `before` has the first signs of the normal
+/// chirotope with these cocircuits. Then the result is the sign of this set in it.
 pub fn sign_of(vectors: &[SignVec], before: &[Sign], t: Subset) -> Sign
     requires lengths { HaveLength t.n vectors.now }
     requires place { rank_of t.n t.elements ≡ length before.now }
-    ensures { AreFirstSigns t.n (length t.elements) vectors.now before.now → IsNextSign t.n (length t.elements) vectors.now (length before.now) result }
+    ensures { AreFirstSigns t.n (length t.elements) vectors.now before.now
+        → IsNextSign t.n (length t.elements) vectors.now (length before.now) result }
 {
     t.is_lawful();
     match missed_vector(vectors, t) {

@@ -1,4 +1,4 @@
-//! Signs and sign vectors of texts, and whether signs are those of a text.
+//! Signs and sign vectors written as texts, and whether signs are those of a text.
 
 ghost use Rattle.std.specs.Prelude.{◌≡◌, ◌≤◌, length, IfOk};
 ghost use Rattle.om_members.specs.Listings.{HaveLength, AreDistinct};
@@ -8,7 +8,7 @@ use om_members::is_member;
 use om_signs::{List, MAX_ELEMENTS, MAX_MEMBERS, MAX_PLACES, RawMap, Sign, SignVec};
 use std::alloc::Global;
 
-/// The sign of a byte: that of `+` or `-`, and zero for any other.
+/// The sign of a byte: that of `+` or `-`, and zero for any other byte.
 pub fn sign_of(byte: u8) -> Sign {
     match byte {
         b'+' => Sign::Plus,
@@ -17,9 +17,9 @@ pub fn sign_of(byte: u8) -> Sign {
     }
 }
 
-/// The signs of a text, one for each byte. The list takes its memory from `alloc`.
+/// The signs of a text, one for each byte. Memory for the list comes from `alloc`.
 ///
-/// [`SampleError::Memory`] comes for want of memory, and no other error does.
+/// [`SampleError::Memory`] comes if memory runs out. No other error comes.
 pub fn signs_of(alloc: Global, text: &str) -> Result<List<Sign>, SampleError> {
     let mut signs = List::new(alloc);
     for byte in text.as_bytes() {
@@ -28,8 +28,8 @@ pub fn signs_of(alloc: Global, text: &str) -> Result<List<Sign>, SampleError> {
     Ok(signs)
 }
 
-/// The sign vector of a text, with a place for each of the elements, from 1 to [`MAX_PLACES`]. Where the text is too
-/// short, the last places are zero; where it is too long, its end is left out.
+/// The sign vector of a text, with a place for each of the elements, from 1 to [`MAX_PLACES`]. If the text is too
+/// short, the last places are zero; if it is too long, its end is ignored.
 pub fn vector_of(elements: u8, text: &str) -> SignVec
     requires low { 1 ≤ elements }
     requires high { elements ≤ MAX_PLACES }
@@ -44,11 +44,10 @@ pub fn vector_of(elements: u8, text: &str) -> SignVec
     vector
 }
 
-/// The sign vectors of some texts, in their order; one that stood before is left out. The list takes its memory from
-/// `alloc`.
+/// The sign vectors of some texts, in their order, without repetitions. Memory for the list comes from `alloc`.
 ///
-/// [`SampleError::Refused`] comes where the elements aren't from 1 to [`MAX_ELEMENTS`], or where there are more than
-/// [`MAX_MEMBERS`] distinct vectors; [`SampleError::Memory`] for want of memory.
+/// [`SampleError::Refused`] comes if the number of elements isn't from 1 to [`MAX_ELEMENTS`], or if there are more
+/// than [`MAX_MEMBERS`] distinct vectors. [`SampleError::Memory`] comes if memory runs out.
 pub fn vectors_of(alloc: Global, elements: u8, texts: &[&str]) -> Result<List<SignVec>, SampleError>
     ensures low { IfOk result (λ l. 1 ≤ elements) }
     ensures high { IfOk result (λ l. elements ≤ MAX_ELEMENTS) }
@@ -72,8 +71,8 @@ pub fn vectors_of(alloc: Global, elements: u8, texts: &[&str]) -> Result<List<Si
     Ok(list)
 }
 
-/// Whether some sign vectors are those of a text, in any order, as many of them as words; with a space between two words, as
-/// `0++ -0+`.
+/// Whether some sign vectors are those of a text, in any order, as many as the text has words. Words are separated
+/// by a space, as in `0++ -0+`.
 pub fn are_vectors(vectors: &[SignVec], text: &str) -> bool {
     text.split_whitespace().count() == vectors.len()
         && text.split_whitespace().all(|word| vectors.iter().any(|vector| is_vector(*vector, word)))
@@ -84,7 +83,7 @@ fn is_vector(vector: SignVec, text: &str) -> bool {
     text.len() == vector.len() as usize && vector_of(vector.len(), text) == vector
 }
 
-/// Whether a map has this rank, so many elements and the signs of a text, one for each byte.
+/// Whether a map has this rank, this number of elements and the signs of a text, one for each byte.
 pub fn is_map(raw: &RawMap, rank: u8, elements: u8, text: &str) -> bool {
     let signs = raw.signs.as_slice();
     raw.rank == rank

@@ -1,4 +1,4 @@
-//! Small oriented matroids written as texts, and whether what is made of them is what a text writes: for tests alone.
+//! Small oriented matroids written as texts, and tests whether values are those of a text: only for tests.
 //!
 //! A text has one character for each sign: `+`, `-`, and any other for zero.
 #![tactic(auto)]

@@ -5,11 +5,11 @@ use thiserror::Error;
 /// Why there is no sample.
 #[derive(Clone, Copy, Debug, PartialEq, Eq, Error)]
 pub enum SampleError {
-    /// The texts don't write what was asked for: a number is out of its range, a text has another length, or what the
-    /// texts write breaks an axiom.
+    /// The texts don't give the wanted value: a number is out of its range, a text has another length, or the signs
+    /// break an axiom.
     #[error("refused")]
     Refused,
-    /// Want of memory.
+    /// Memory ran out.
     #[error("out of memory")]
     Memory,
 }

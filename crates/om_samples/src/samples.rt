@@ -1,4 +1,4 @@
-//! Chirotopes, circuits, cocircuits and covectors of texts.
+//! Chirotopes, circuits, cocircuits and covectors written as texts.
 
 ghost use Rattle.std.specs.Prelude.{◌≡◌, ◌≤◌, length, IfOk};
 ghost use Rattle.om_subsets.specs.Subsets.{choose};
@@ -13,10 +13,12 @@ use om_subsets::Subset;
 use std::alloc::Global;
 use std::thread::Threads;
 
-/// The map of a rank and a number of elements whose signs, in lexicographic order of the sets, are those of a text: whether it
-/// meets the axioms isn't looked at. The elements are at most [`MAX_ELEMENTS`]. It takes its memory from `alloc`.
+/// The map of a rank and a number of elements whose signs, in lexicographic order of the sets, are those of a text.
+/// Whether it satisfies the axioms isn't tested. There are at most [`MAX_ELEMENTS`] elements. Memory comes from
+/// `alloc`.
 ///
-/// [`SampleError::Refused`] comes where the text has not one byte for each set; [`SampleError::Memory`] for want of memory.
+/// [`SampleError::Refused`] comes if the text doesn't have one byte for each set, and [`SampleError::Memory`] if
+/// memory runs out.
 pub fn map_of(alloc: Global, rank: u8, elements: u8, text: &str) -> Result<RawMap, SampleError>
     requires { elements ≤ MAX_ELEMENTS }
     ensures rank { IfOk result (λ raw. raw.rank ≡ rank) }
@@ -34,11 +36,12 @@ pub fn map_of(alloc: Global, rank: u8, elements: u8, text: &str) -> Result<RawMa
     })
 }
 
-/// The chirotope of a rank and a number of elements whose signs, in lexicographic order of the sets, are those of a text.
-/// It takes its memory from `alloc`.
+/// The chirotope of a rank and a number of elements whose signs, in lexicographic order of the sets, are those of a
+/// text. Memory comes from `alloc`.
 ///
-/// [`SampleError::Refused`] comes where the elements aren't from 1 to [`MAX_ELEMENTS`], the rank is more, the text has
-/// not one byte for each set, or the signs break an axiom; [`SampleError::Memory`] for want of memory.
+/// [`SampleError::Refused`] comes if the number of elements isn't from 1 to [`MAX_ELEMENTS`], or the rank is
+/// greater than it. It also comes if the text doesn't have one byte for each set, or the signs violate an axiom.
+/// [`SampleError::Memory`] comes if memory runs out.
 pub fn chirotope_of<R: Threads + Sync>(
     rt: &R,
     alloc: Global,
@@ -58,7 +61,7 @@ pub fn chirotope_of<R: Threads + Sync>(
     }
 }
 
-/// The set of some texts, which meets the axioms of circuits.
+/// The set of the sign vectors of some texts, which satisfies the axioms of circuits.
 fn set_of<R: Threads + Sync>(
     rt: &R,
     alloc: Global,
@@ -74,10 +77,10 @@ fn set_of<R: Threads + Sync>(
     }
 }
 
-/// The oriented matroid whose circuits are the sign vectors of some texts. It takes its memory from `alloc`.
+/// The oriented matroid whose circuits are the sign vectors of some texts. Memory comes from `alloc`.
 ///
-/// [`SampleError::Refused`] comes where the elements aren't from 1 to [`MAX_ELEMENTS`], there are too many vectors, or
-/// they break an axiom; [`SampleError::Memory`] for want of memory.
+/// [`SampleError::Refused`] comes if the number of elements isn't from 1 to [`MAX_ELEMENTS`], there are too many
+/// vectors, or they break an axiom. [`SampleError::Memory`] comes if memory runs out.
 pub fn circuits_of<R: Threads + Sync>(
     rt: &R,
     alloc: Global,
@@ -89,7 +92,7 @@ pub fn circuits_of<R: Threads + Sync>(
     Ok(Circuits(set_of(rt, alloc, elements, texts)?))
 }
 
-/// The oriented matroid whose cocircuits are the sign vectors of some texts. It takes its memory from `alloc`.
+/// The oriented matroid whose cocircuits are the sign vectors of some texts. Memory comes from `alloc`.
 ///
 /// The errors are those of [`circuits_of`].
 pub fn cocircuits_of<R: Threads + Sync>(
@@ -103,10 +106,10 @@ pub fn cocircuits_of<R: Threads + Sync>(
     Ok(Cocircuits(set_of(rt, alloc, elements, texts)?))
 }
 
-/// The oriented matroid whose covectors are the sign vectors of some texts. It takes its memory from `alloc`.
+/// The oriented matroid whose covectors are the sign vectors of some texts. Memory comes from `alloc`.
 ///
-/// [`SampleError::Refused`] comes where the elements aren't from 1 to [`MAX_ELEMENTS`], there are too many vectors, or
-/// they break an axiom; [`SampleError::Memory`] for want of memory.
+/// [`SampleError::Refused`] comes if the number of elements isn't from 1 to [`MAX_ELEMENTS`], there are too many
+/// vectors, or they break an axiom. [`SampleError::Memory`] comes if memory runs out.
 pub fn covectors_of<R: Threads + Sync>(
     rt: &R,
     alloc: Global,

@@ -1,7 +1,8 @@
 -- The sign at a place of a list that is made of others: a composition, a negative, zeros, a list with flipped signs.
 --
 -- Main results: at-compose, length-compose, at-map-opposite, at-replicate, at-flip_from, length-flip_from
-use Rattle.std.proofs.Common.{ℕ, ◌≡◌, ◌+◌, zero, suc, refl, sym, ◌∙◌, ap, arith, List, [], ◌∷◌, length, map, replicate, true, false, cond, nat_eq}
+use Rattle.std.proofs.Common.{ℕ, ◌≡◌, ◌+◌, zero, suc, refl, sym, ◌∙◌, ap, arith, List, [], ◌∷◌, length, map, replicate}
+use Rattle.std.proofs.Common.{true, false, cond, nat_eq}
 use Rattle.std.specs.Int.{bit_at}
 use Rattle.std.proofs.Common.{add-zero}
 use Rattle.om_signs.specs.declared.sign.Sign.{Sign}
@@ -35,8 +36,10 @@ at-replicate zero i = refl
 at-replicate (suc n) zero = refl
 at-replicate (suc n) (suc i) = at-replicate n i
 
-pub at-flip_from : (j mask : ℕ) (xs : List Sign) (i : ℕ) → at (flip_from j mask xs) i ≡ cond (nat_eq (bit_at mask (j + i)) 1) (opposite (at xs i)) (at xs i)
-at-flip_from j mask [] i = elim (nat_eq (bit_at mask (j + i)) 1) as (λ b. Zero ≡ cond b Zero Zero) [ true ↦ refl | false ↦ refl ]
+pub at-flip_from : (j mask : ℕ) (xs : List Sign) (i : ℕ)
+    → at (flip_from j mask xs) i ≡ cond (nat_eq (bit_at mask (j + i)) 1) (opposite (at xs i)) (at xs i)
+at-flip_from j mask [] i = elim (nat_eq (bit_at mask (j + i)) 1) as
+    (λ b. Zero ≡ cond b Zero Zero) [ true ↦ refl | false ↦ refl ]
 at-flip_from j mask (x ∷ xs) zero = rw add-zero refl
 at-flip_from j mask (x ∷ xs) (suc i) =
     let e : j + 1 + i ≡ j + suc i = omega arith in

@@ -51,7 +51,8 @@ nonzero_product Plus Zero m n = absurd (n refl)
 nonzero_product Plus Plus m n = inl refl
 
 factors : (s t r : Sign) → product s t ≡ r → r ≢ Zero → (s ≢ Zero) × (t ≢ Zero)
-factors s t r e n = (λ z. n (sym e ∙ ap (λ k. product k t) z), λ z. n (sym e ∙ ap (λ k. product s k) z ∙ product-zero s))
+factors s t r e n =
+    (λ z. n (sym e ∙ ap (λ k. product k t) z), λ z. n (sym e ∙ ap (λ k. product s k) z ∙ product-zero s))
 
 -- no product where the supports are disjoint
 none_where_disjoint : (xs ys : List Sign) (r : Sign) → r ≢ Zero → HasDisjointSupport xs ys → HasProduct xs ys r → ⊥
@@ -63,7 +64,8 @@ plus≢zero e = cc
 minus≢zero : Minus ≢ Zero
 minus≢zero e = cc
 
-pub by_supports : (xs ys : List Sign) → IsOrthogonal xs ys ↔ (HasDisjointSupport xs ys ⊎ (HasProduct xs ys Plus × HasProduct xs ys Minus))
+pub by_supports : (xs ys : List Sign) → IsOrthogonal xs ys
+    ↔ (HasDisjointSupport xs ys ⊎ (HasProduct xs ys Plus × HasProduct xs ys Minus))
 by_supports xs ys = (
   λ h. elim (has_or_not xs ys Plus plus≢zero) [
     | inl p ↦ inr (p, h.0 p)
@@ -73,7 +75,10 @@ by_supports xs ys = (
     ])
   ],
   λ c. elim c [
-    | inl d ↦ (λ p. absurd (none_where_disjoint xs ys Plus plus≢zero d p), λ m. absurd (none_where_disjoint xs ys Minus minus≢zero d m))
+    | inl d ↦ (
+      λ p. absurd (none_where_disjoint xs ys Plus plus≢zero d p),
+      λ m. absurd (none_where_disjoint xs ys Minus minus≢zero d m),
+    )
     | inr both ↦ (λ p. both.1, λ m. both.0)
   ],
 )

@@ -2,7 +2,8 @@
 --
 -- Main results: support_made, separation_made, orthogonal_test, conforms_test
 -- Reference: Björner, Las Vergnas, Sturmfels, White and Ziegler, Oriented Matroids, chapter 3.
-use Rattle.std.proofs.Common.{ℕ, ◌≡◌, ◌≢◌, ◌-◌, ◌<◌, ◌≤◌, ◌↔◌, min, max, refl, sym, ◌∙◌, ap, arith, bit_and, bit_or, inl, inr, List, length, nat_eq, IsTrue}
+use Rattle.std.proofs.Common.{ℕ, ◌≡◌, ◌≢◌, ◌-◌, ◌<◌, ◌≤◌, ◌↔◌, min, max, refl, sym, ◌∙◌, ap, arith, bit_and, bit_or}
+use Rattle.std.proofs.Common.{inl, inr, List, length, nat_eq, IsTrue}
 use Rattle.std.specs.Int.{bit_at}
 use Rattle.std.proofs.lemmas.Bool.{cases_eq, eq-eqb, eqb-true}
 use Rattle.std.proofs.lemmas.Nat.Bits.{bit_at-zero, bit_at_and, bit_at_or, same_from_bits}
@@ -41,14 +42,22 @@ apart_minus Plus Zero = refl
 apart_minus Plus Plus = refl
 
 -- the two masks of `orthogonal`, which have the places of plus and of minus products
-pub bit_same : (p m p' m' : ℕ) (xs ys : List Sign) → Shows p m xs → Shows p' m' ys → (i : ℕ) → bit_at (bit_or (bit_and p p') (bit_and m m')) i ≡ is_plus (product (at xs i) (at ys i))
-bit_same p m p' m' xs ys f f' i = rw (bit_at_or, bit_at_and p p' i, bit_at_and m m' i, (f i).0, (f i).1, (f' i).0, (f' i).1) (same_plus (at xs i) (at ys i))
+pub bit_same : (p m p' m' : ℕ) (xs ys : List Sign) → Shows p m xs → Shows p' m' ys → (i : ℕ)
+    → bit_at (bit_or (bit_and p p') (bit_and m m')) i ≡ is_plus (product (at xs i) (at ys i))
+bit_same p m p' m' xs ys f f' i =
+    rw (bit_at_or, bit_at_and p p' i, bit_at_and m m' i, (f i).0, (f i).1, (f' i).0, (f' i).1)
+    (same_plus (at xs i) (at ys i))
 
-pub bit_apart : (p m p' m' : ℕ) (xs ys : List Sign) → Shows p m xs → Shows p' m' ys → (i : ℕ) → bit_at (bit_or (bit_and p m') (bit_and m p')) i ≡ is_minus (product (at xs i) (at ys i))
-bit_apart p m p' m' xs ys f f' i = rw (bit_at_or, bit_at_and p m' i, bit_at_and m p' i, (f i).0, (f i).1, (f' i).0, (f' i).1) (apart_minus (at xs i) (at ys i))
+pub bit_apart : (p m p' m' : ℕ) (xs ys : List Sign) → Shows p m xs → Shows p' m' ys → (i : ℕ)
+    → bit_at (bit_or (bit_and p m') (bit_and m p')) i ≡ is_minus (product (at xs i) (at ys i))
+bit_apart p m p' m' xs ys f f' i =
+    rw (bit_at_or, bit_at_and p m' i, bit_at_and m p' i, (f i).0, (f i).1, (f' i).0, (f' i).1)
+    (apart_minus (at xs i) (at ys i))
 
 -- a mask whose bits are those of a test of the products
-pub separation_made : (p m n p' m' n' : ℕ) (xs ys : List Sign) → IsSound p m n → signs_of p m n ≡ xs → IsSound p' m' n' → signs_of p' m' n' ≡ ys → length xs ≡ length ys → IsMaskOf (length xs) (IsSeparated xs ys) (bit_or (bit_and p m') (bit_and m p'))
+pub separation_made : (p m n p' m' n' : ℕ) (xs ys : List Sign) → IsSound p m n → signs_of p m n ≡ xs → IsSound p' m' n'
+    → signs_of p' m' n' ≡ ys → length xs ≡ length ys
+    → IsMaskOf (length xs) (IsSeparated xs ys) (bit_or (bit_and p m') (bit_and m p'))
 separation_made p m n p' m' n' xs ys h v h' v' same =
     let f = shows p m n xs h v in
     let f' = shows p' m' n' ys h' v' in
@@ -56,7 +65,10 @@ separation_made p m n p' m' n' xs ys h v h' v' same =
       within = rw (length_is p m n xs v) (or_lt n (bit_and p m') (bit_and m p')
           (let a = and_le_l p m' in let b = h.plus_within in omega arith)
           (let a = and_le_l m p' in let b = h.minus_within in omega arith));
-      holds = λ i lt. (λ one. from_minus_bit _ (sym (bit_apart p m p' m' xs ys f f' i) ∙ one), λ e. bit_apart p m p' m' xs ys f f' i ∙ ap is_minus e);
+      holds = λ i lt. (
+        λ one. from_minus_bit _ (sym (bit_apart p m p' m' xs ys f f' i) ∙ one),
+        λ e. bit_apart p m p' m' xs ys f f' i ∙ ap is_minus e,
+      );
     }
 
 support_bit : (s : Sign) → (max (is_plus s) (is_minus s) ≡ 1) ↔ (s ≢ Zero)
@@ -64,7 +76,8 @@ support_bit Minus = (λ _ e. cc, λ _. refl)
 support_bit Zero = (λ e. cc, λ n. absurd (n refl))
 support_bit Plus = (λ _ e. cc, λ _. refl)
 
-pub support_made : (p m n : ℕ) (xs : List Sign) → IsSound p m n → signs_of p m n ≡ xs → IsMaskOf (length xs) (IsInSupport xs) (bit_or p m)
+pub support_made : (p m n : ℕ) (xs : List Sign) → IsSound p m n → signs_of p m n ≡ xs
+    → IsMaskOf (length xs) (IsInSupport xs) (bit_or p m)
 support_made p m n xs h v =
     let f = shows p m n xs h v in
     record {
@@ -73,22 +86,28 @@ support_made p m n xs h v =
     }
 
 -- the test that `orthogonal` makes of its two masks
-pub orthogonal_test : (p m n p' m' n' : ℕ) (xs ys : List Sign) → IsSound p m n → signs_of p m n ≡ xs → IsSound p' m' n' → signs_of p' m' n' ≡ ys → IsTrue (beq (nat_eq (bit_or (bit_and p p') (bit_and m m')) 0) (nat_eq (bit_or (bit_and p m') (bit_and m p')) 0)) ↔ IsOrthogonal xs ys
+pub orthogonal_test : (p m n p' m' n' : ℕ) (xs ys : List Sign) → IsSound p m n → signs_of p m n ≡ xs → IsSound p' m' n'
+    → signs_of p' m' n' ≡ ys
+    → IsTrue (beq (nat_eq (bit_or (bit_and p p') (bit_and m m')) 0) (nat_eq (bit_or (bit_and p m') (bit_and m p')) 0))
+    ↔ IsOrthogonal xs ys
 orthogonal_test p m n p' m' n' xs ys h v h' v' =
     let f = shows p m n xs h v in
     let f' = shows p' m' n' ys h' v' in
     let fp = fits_32 p n h.high h.plus_within in
     let fm = fits_32 m n h.high h.minus_within in
     test_iff _ _ (HasProduct xs ys Plus) (HasProduct xs ys Minus)
-    (λ z. let (i, one) = some_bit _ z (or_lt 32 _ _ (le_lt (and_le_l p p') fp) (le_lt (and_le_l m m') fm)) in (i, from_plus_bit _ (sym (bit_same p m p' m' xs ys f f' i) ∙ one)))
+    (λ z. let (i, one) = some_bit _ z (or_lt 32 _ _ (le_lt (and_le_l p p') fp) (le_lt (and_le_l m m') fm)) in
+    (i, from_plus_bit _ (sym (bit_same p m p' m' xs ys f f' i) ∙ one)))
     (λ w. nonzero_from_bit _ w.0 (bit_same p m p' m' xs ys f f' w.0 ∙ ap is_plus w.1))
-    (λ z. let (i, one) = some_bit _ z (or_lt 32 _ _ (le_lt (and_le_l p m') fp) (le_lt (and_le_l m p') fm)) in (i, from_minus_bit _ (sym (bit_apart p m p' m' xs ys f f' i) ∙ one)))
+    (λ z. let (i, one) = some_bit _ z (or_lt 32 _ _ (le_lt (and_le_l p m') fp) (le_lt (and_le_l m p') fm)) in
+    (i, from_minus_bit _ (sym (bit_apart p m p' m' xs ys f f' i) ∙ one)))
     (λ w. nonzero_from_bit _ w.0 (bit_apart p m p' m' xs ys f f' w.0 ∙ ap is_minus w.1))
   where
     le_lt : {a b c : ℕ} → a ≤ b → b < c → a < c
     le_lt u w = omega arith
 
-    test_iff : (s t : ℕ) (P Q : Type 0) → (s ≢ 0 → P) → (P → s ≢ 0) → (t ≢ 0 → Q) → (Q → t ≢ 0) → IsTrue (beq (nat_eq s 0) (nat_eq t 0)) ↔ (P ↔ Q)
+    test_iff : (s t : ℕ) (P Q : Type 0) → (s ≢ 0 → P) → (P → s ≢ 0) → (t ≢ 0 → Q) → (Q → t ≢ 0)
+        → IsTrue (beq (nat_eq s 0) (nat_eq t 0)) ↔ (P ↔ Q)
     test_iff s t P Q sp ps tq qt = elim (cases_eq s 0) [
       | inl s0 ↦ elim (cases_eq t 0) [
         | inl t0 ↦ rw (s0, t0) (λ _. (λ w. absurd (ps w s0), λ w. absurd (qt w t0)), λ _. refl)
@@ -101,7 +120,8 @@ orthogonal_test p m n p' m' n' xs ys h v h' v' =
     ]
 
 -- the test that `conforms` makes
-outside : (s t : Sign) → (max (min (is_plus s) (1 - is_plus t)) (min (is_minus s) (1 - is_minus t)) ≡ 0) ↔ (s ≢ Zero → s ≡ t)
+outside : (s t : Sign) → (max (min (is_plus s) (1 - is_plus t)) (min (is_minus s) (1 - is_minus t)) ≡ 0)
+    ↔ (s ≢ Zero → s ≡ t)
 outside Minus Minus = (λ _ _. refl, λ _. refl)
 outside Minus Zero = (λ e. cc, λ h. cc (h (λ e. cc)))
 outside Minus Plus = (λ e. cc, λ h. cc (h (λ e. cc)))
@@ -110,13 +130,16 @@ outside Plus Minus = (λ e. cc, λ h. cc (h (λ e. cc)))
 outside Plus Zero = (λ e. cc, λ h. cc (h (λ e. cc)))
 outside Plus Plus = (λ _ _. refl, λ _. refl)
 
-pub conforms_test : (p m n p' m' n' : ℕ) (xs ys : List Sign) → IsSound p m n → signs_of p m n ≡ xs → IsSound p' m' n' → signs_of p' m' n' ≡ ys → IsTrue (nat_eq (bit_or (bit_and p (4294967295 - p')) (bit_and m (4294967295 - m'))) 0) ↔ IsConformal xs ys
+pub conforms_test : (p m n p' m' n' : ℕ) (xs ys : List Sign) → IsSound p m n → signs_of p m n ≡ xs → IsSound p' m' n'
+    → signs_of p' m' n' ≡ ys → IsTrue (nat_eq (bit_or (bit_and p (4294967295 - p')) (bit_and m (4294967295 - m'))) 0)
+    ↔ IsConformal xs ys
 conforms_test p m n p' m' n' xs ys h v h' v' = (
   λ t i. (outside (at xs i) (at ys i)).0 (sym (bit i) ∙ ap (λ k. bit_at k i) (eqb-true _ 0 t) ∙ bit_at-zero i),
   λ c. eq-eqb _ 0 (same_from_bits _ 0 (λ i. bit i ∙ (outside (at xs i) (at ys i)).1 (c i) ∙ sym (bit_at-zero i))),
 )
   where
-    bit : (i : ℕ) → bit_at (bit_or (bit_and p (4294967295 - p')) (bit_and m (4294967295 - m'))) i ≡ max (min (is_plus (at xs i)) (1 - is_plus (at ys i))) (min (is_minus (at xs i)) (1 - is_minus (at ys i)))
+    bit : (i : ℕ) → bit_at (bit_or (bit_and p (4294967295 - p')) (bit_and m (4294967295 - m'))) i
+        ≡ max (min (is_plus (at xs i)) (1 - is_plus (at ys i))) (min (is_minus (at xs i)) (1 - is_minus (at ys i)))
     bit i =
         let f = shows p m n xs h v i in
         let f' = shows p' m' n' ys h' v' i in

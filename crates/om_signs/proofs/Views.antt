@@ -1,9 +1,10 @@
 -- What a pair of masks shows: a list of signs, place by place.
 --
 -- Main definitions: Shows, Stands, Back
--- Main results: shows and stands, from masks to signs and back; length_is; masks_back, the masks of the signs; fits_32; from_plus_bit and
--- from_minus_bit; and_regroup
-use Rattle.std.proofs.Common.{ℕ, ◌≡◌, ◌<◌, ◌≤◌, ◌^◌, min, refl, sym, ◌∙◌, ap, arith, bit_and, inl, inr, List, length, Bool, true, false}
+-- Main results: shows and stands, from masks to signs and back; length_is; masks_back, the masks of the signs; fits_32;
+-- from_plus_bit and from_minus_bit; and_regroup
+use Rattle.std.proofs.Common.{ℕ, ◌≡◌, ◌<◌, ◌≤◌, ◌^◌, min, refl, sym, ◌∙◌, ap, arith, bit_and, inl, inr, List, length}
+use Rattle.std.proofs.Common.{Bool, true, false}
 use Rattle.std.specs.Int.{bit_at}
 use Rattle.std.proofs.lemmas.Bool.{cases_lt}
 use Rattle.std.proofs.lemmas.Nat.Bits.{bit_at-zero, bit_at-lt, bit_at_and, bit_at_above, same_from_bits}
@@ -17,7 +18,8 @@ use Rattle.om_signs.specs.declared.sign.Sign.TheVariants.{Minus, Zero, Plus}
 use Rattle.om_signs.specs.Sign.{is_plus, is_minus}
 use Rattle.om_signs.specs.declared.limits.TheConstants.{MAX_PLACES}
 use Rattle.om_signs.specs.SignVec.{at}
-use Rattle.om_signs.specs.Masks.{sign_of, sign_at, signs_of, IsSound, get_or-signs_of, length-signs_of, is_plus-sign_of, is_minus-sign_of, bit_at-apart}
+use Rattle.om_signs.specs.Masks.{sign_of, sign_at, signs_of, IsSound, get_or-signs_of, length-signs_of, is_plus-sign_of}
+use Rattle.om_signs.specs.Masks.{is_minus-sign_of, bit_at-apart}
 use Rattle.om_signs.proofs.Bits.{lt_from_bits}
 
 -- the masks have these signs, place by place, and nothing above
@@ -60,9 +62,11 @@ stands p m n xs low high len each = record {
     high = high;
     plus_within = lt_from_bits p n (λ i ge. (each i).0 ∙ ap is_plus (past i ge));
     minus_within = lt_from_bits m n (λ i ge. (each i).1 ∙ ap is_minus (past i ge));
-    apart = same_from_bits (bit_and p m) 0 (λ i. bit_at_and p m i ∙ rw ((each i).0, (each i).1) (never_both (at xs i)) ∙ sym (bit_at-zero i));
+    apart = same_from_bits (bit_and p m) 0 (λ i. bit_at_and p m i ∙ rw ((each i).0, (each i).1) (never_both (at xs i))
+        ∙ sym (bit_at-zero i));
   };
-  view = sym (fill_by_all (sign_at p m) xs n Zero len (λ i lt. rw ((each i).0, (each i).1) (sym (sign_of_is (at xs i)))));
+  view = sym
+      (fill_by_all (sign_at p m) xs n Zero len (λ i lt. rw ((each i).0, (each i).1) (sym (sign_of_is (at xs i)))));
 }
   where
     past : (i : ℕ) → n ≤ i → at xs i ≡ Zero
@@ -88,7 +92,13 @@ pub record Back (p m n : ℕ) (xs : List Sign) : Type 0 where
   pub len : length xs ≡ n
 
 pub masks_back : (p m n : ℕ) (xs : List Sign) → IsSound p m n → signs_of p m n ≡ xs → Back p m n xs
-masks_back p m n xs h v = rw (← v) (record { plus = plus_mask-signs_of p m n h; minus = minus_mask-signs_of p m n h; len = length-signs_of p m n })
+masks_back p m n xs h v =
+    rw (← v) (record {
+      plus = plus_mask-signs_of p m n h;
+      minus = minus_mask-signs_of p m n h;
+      len =
+          length-signs_of p m n;
+    })
 
 pub and_regroup : (r s a b d : Bool) → s ≡ (a && b) → r ≡ (s && d) → r ≡ (a && (b && d))
 and_regroup r s a b d e f = f ∙ rw e (cases a)

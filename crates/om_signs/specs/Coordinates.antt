@@ -2,6 +2,6 @@
 use Rattle.std.specs.Prelude.{◌≤◌, ℤ, unsigned_abs}
 use Rattle.om_signs.specs.declared.limits.TheConstants.{MAX_COORDINATE}
 
--- a whole number that a vector may have as a coordinate
+-- an integer that a vector may have as a coordinate
 abbrev pub IsCoordinate : ℤ → Type 0
 IsCoordinate x = unsigned_abs x ≤ unsigned_abs MAX_COORDINATE

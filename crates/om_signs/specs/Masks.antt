@@ -7,7 +7,8 @@ use Rattle.std.specs.Int.{bit_at}
 use Rattle.std.specs.List.{range_with_len}
 use Rattle.std.proofs.Common.{zero, suc, sym, ◌∙◌, ap, arith, get_or, min, inl, inr}
 use Rattle.std.proofs.lemmas.Bool.{cases_lt}
-use Rattle.std.proofs.lemmas.Nat.Bits.{bit_at-zero, bit_at_lowest, bit_at-suc, bit_at-lt, bit_at_and, bit_at_above, same_from_bits}
+use Rattle.std.proofs.lemmas.Nat.Bits.{bit_at-zero, bit_at_lowest, bit_at-suc, bit_at-lt, bit_at_and, bit_at_above}
+use Rattle.std.proofs.lemmas.Nat.Bits.{same_from_bits}
 use Rattle.std.proofs.lemmas.List.{get_or_past}
 use Rattle.std.proofs.lemmas.List.FromFn.{length-map-range_with_len, get_or-map-range_with_len}
 use Rattle.om_signs.specs.declared.sign.Sign.{Sign}
@@ -29,7 +30,7 @@ sign_at plus minus i = sign_of (bit_at plus i) (bit_at minus i)
 abbrev pub signs_of : ℕ → ℕ → ℕ → List Sign
 signs_of plus minus n = map (sign_at plus minus) (range_with_len 0 n)
 
--- the mask of the places where a test of the sign is 1
+-- the mask of the places at which a test of the sign is 1
 abbrev pub mask_by : (Sign → ℕ) → List Sign → ℕ
 mask_by f [] = 0
 mask_by f (x ∷ xs) = f x + 2 * mask_by f xs
@@ -42,7 +43,7 @@ plus_mask = mask_by is_plus
 abbrev pub minus_mask : List Sign → ℕ
 minus_mask = mask_by is_minus
 
--- a length within the limit, and masks with no place in common and none past the length
+-- a length within the limit, and masks without a common place and without a place beyond the length
 pub record IsSound (plus minus n : ℕ) : Type 0 where
   pub low : 1 ≤ n
   pub high : n ≤ MAX_PLACES
@@ -50,7 +51,8 @@ pub record IsSound (plus minus n : ℕ) : Type 0 where
   pub minus_within : minus < 2 ^ n
   pub apart : bit_and plus minus ≡ 0
 
-pub bit_at-mask_by : (f : Sign → ℕ) → ((s : Sign) → f s < 2) → f Zero ≡ 0 → (xs : List Sign) (i : ℕ) → bit_at (mask_by f xs) i ≡ f (get_or xs i Zero)
+pub bit_at-mask_by : (f : Sign → ℕ) → ((s : Sign) → f s < 2) → f Zero ≡ 0 → (xs : List Sign) (i : ℕ)
+    → bit_at (mask_by f xs) i ≡ f (get_or xs i Zero)
 bit_at-mask_by f small none [] i = bit_at-zero i ∙ sym none
 bit_at-mask_by f small none (x ∷ xs) zero =
     let b : f x < 2 = small x in bit_at_lowest (f x + 2 * mask_by f xs) ∙ omega arith
@@ -103,7 +105,9 @@ minus_mask-signs_of p m n h = same_from_bits _ _ (λ i. bit_at-mask_by is_minus 
   where
     each : (i : ℕ) → is_minus (get_or (signs_of p m n) i Zero) ≡ bit_at m i
     each i = elim (cases_lt i n) [
-      | inl lt ↦ rw (get_or-signs_of p m n i lt) (is_minus-sign_of (bit_at p i) (bit_at m i) (bit_at-lt m i) (bit_at-apart p m i h.apart))
+      | inl lt ↦
+          rw (get_or-signs_of p m n i lt)
+          (is_minus-sign_of (bit_at p i) (bit_at m i) (bit_at-lt m i) (bit_at-apart p m i h.apart))
       | inr ge ↦ let e : length (signs_of p m n) ≤ i = rw (length-signs_of p m n) ge in
           rw (get_or_past (signs_of p m n) i Zero e) (sym (bit_at_above m n i h.minus_within ge))
     ]

@@ -1,4 +1,4 @@
--- The lexicographic order of sign vectors is a total order, whose ties are the equal vectors.
+-- The lexicographic order of sign vectors is a total order, in which only equal vectors tie.
 --
 -- Main results: sign_order-total, lexicographic-total, same_from_order, order_of_same, same_from_masks, matches_eq
 use Rattle.std.specs.Prelude.{ℕ, ◌≡◌, ◌+◌, ◌*◌, ◌<◌, List, [], ◌∷◌, length, Bool, true, nat_eq, refl}
@@ -21,7 +21,7 @@ sign_order-total = on_total sign_rank nat_cmp_total
 pub lexicographic-total : IsTotalOrder lexicographic
 lexicographic-total = lists_total sign_order-total
 
--- ---- what ties
+-- ---- ties
 
 pub same_sign : (s t : Sign) → sign_order s t ≡ Equal → s ≡ t
 same_sign Minus Minus e = refl
@@ -34,8 +34,9 @@ same_sign Plus Minus e = cc
 same_sign Plus Zero e = cc
 same_sign Plus Plus e = refl
 
--- a fact of two signs, from all nine pairs
-pub by_pairs : (P : Sign → Sign → Type 0) (s t : Sign) → P Minus Minus → P Minus Zero → P Minus Plus → P Zero Minus → P Zero Zero → P Zero Plus → P Plus Minus → P Plus Zero → P Plus Plus → P s t
+-- a statement on two signs, from all nine pairs
+pub by_pairs : (P : Sign → Sign → Type 0) (s t : Sign) → P Minus Minus → P Minus Zero → P Minus Plus → P Zero Minus
+    → P Zero Zero → P Zero Plus → P Plus Minus → P Plus Zero → P Plus Plus → P s t
 by_pairs P Minus Minus mm mz mp zm zz zp pm pz pp = mm
 by_pairs P Minus Zero mm mz mp zm zz zp pm pz pp = mz
 by_pairs P Minus Plus mm mz mp zm zz zp pm pz pp = mp
@@ -64,7 +65,7 @@ same_from_order (x ∷ xs) (y ∷ ys) e =
 pub order_of_same : (xs ys : List Sign) → xs ≡ ys → lexicographic xs ys ≡ Equal
 order_of_same xs ys e = ap (λ zs. lexicographic xs zs) (sym e) ∙ tied_itself lexicographic-total xs
 
--- ---- the masks and the length have it all
+-- ---- the masks and the length determine the signs
 
 pub sign_from_bits : (s t : Sign) → is_plus s ≡ is_plus t → is_minus s ≡ is_minus t → s ≡ t
 sign_from_bits Minus Minus p m = refl
@@ -77,11 +78,12 @@ sign_from_bits Plus Minus p m = cc
 sign_from_bits Plus Zero p m = cc
 sign_from_bits Plus Plus p m = refl
 
--- the lowest bit and the rest of a mask
+-- a mask is determined by its lowest bit and the rest
 parted : (a b c d : ℕ) → a < 2 → c < 2 → a + 2 * b ≡ c + 2 * d → (a ≡ c) × (b ≡ d)
 parted a b c d la lc e = (omega arith, omega arith)
 
-pub same_from_masks : (xs ys : List Sign) → plus_mask xs ≡ plus_mask ys → minus_mask xs ≡ minus_mask ys → length xs ≡ length ys → xs ≡ ys
+pub same_from_masks : (xs ys : List Sign) → plus_mask xs ≡ plus_mask ys → minus_mask xs ≡ minus_mask ys
+    → length xs ≡ length ys → xs ≡ ys
 same_from_masks [] [] p m n = refl
 same_from_masks [] (y ∷ ys) p m n = absurd (omega arith)
 same_from_masks (x ∷ xs) [] p m n = absurd (omega arith)
@@ -92,15 +94,21 @@ same_from_masks (x ∷ xs) (y ∷ ys) p m n =
     let t = same_from_masks xs ys hp.1 hm.1 (omega arith) in
     λ i. s i ∷ t i
 
--- the test of two sign vectors that `==` makes of their masks and lengths
+-- the test that `==` of two sign vectors makes of their masks and lengths
 abbrev pub same_masks : List Sign → List Sign → Bool
-same_masks xs ys = nat_eq (plus_mask xs) (plus_mask ys) && (nat_eq (minus_mask xs) (minus_mask ys) && nat_eq (length xs) (length ys))
+same_masks xs ys = nat_eq (plus_mask xs) (plus_mask ys)
+    && (nat_eq (minus_mask xs) (minus_mask ys) && nat_eq (length xs) (length ys))
 
 three : (a b c d e f : ℕ) → (nat_eq a b && (nat_eq c d && nat_eq e f)) ≡ true → (a ≡ b) × (c ≡ d) × (e ≡ f)
 three a b c d e f h = grind arith
 
 itself : (xs : List Sign) → same_masks xs xs ≡ true
-itself xs = rw (eq-eqb (plus_mask xs) (plus_mask xs) refl, eq-eqb (minus_mask xs) (minus_mask xs) refl, eq-eqb (length xs) (length xs) refl) refl
+itself xs =
+    rw (
+      eq-eqb (plus_mask xs) (plus_mask xs) refl,
+      eq-eqb (minus_mask xs) (minus_mask xs) refl,
+      eq-eqb (length xs) (length xs) refl,
+    ) refl
 
 pub matches_eq : (xs ys : List Sign) → same_masks xs ys ≡ is_eq (lexicographic xs ys)
 matches_eq xs ys = both_ways (same_masks xs ys) (is_eq (lexicographic xs ys))

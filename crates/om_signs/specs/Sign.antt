@@ -2,7 +2,7 @@ use Rattle.std.specs.Prelude.{ℕ, Bool, true, false}
 use Rattle.om_signs.specs.declared.sign.Sign.{Sign}
 use Rattle.om_signs.specs.declared.sign.Sign.TheVariants.{Minus, Zero, Plus}
 
--- minus and plus change places
+-- minus and plus are exchanged
 abbrev pub opposite : Sign → Sign
 opposite Minus = Plus
 opposite Zero = Zero
@@ -14,7 +14,7 @@ product Minus t = opposite t
 product Zero t = Zero
 product Plus t = t
 
--- the first sign, or the second one where the first is zero
+-- the first sign, or the second one if the first is zero
 abbrev pub first_nonzero : Sign → Sign → Sign
 first_nonzero Minus t = Minus
 first_nonzero Zero t = t

@@ -23,11 +23,11 @@ compose (x ∷ xs) (y ∷ ys) = first_nonzero x y ∷ compose xs ys
 abbrev pub HasProduct : List Sign → List Sign → Sign → Type 0
 HasProduct xs ys s = (i : ℕ) × (product (at xs i) (at ys i) ≡ s)
 
--- orthogonal: the products of the signs include a plus exactly where they include a minus
+-- orthogonal: the products of the signs include a plus exactly if they include a minus
 abbrev pub IsOrthogonal : List Sign → List Sign → Type 0
 IsOrthogonal xs ys = HasProduct xs ys Plus ↔ HasProduct xs ys Minus
 
--- the first vector conforms to the second: each of its signs is zero, or that of the second vector
+-- the first vector conforms to the second: each of its signs is zero or equals that of the second vector
 abbrev pub IsConformal : List Sign → List Sign → Type 0
 IsConformal xs ys = (i : ℕ) → at xs i ≢ Zero → at xs i ≡ at ys i
 
@@ -43,7 +43,7 @@ IsSeparated xs ys i = product (at xs i) (at ys i) ≡ Minus
 abbrev pub HasDisjointSupport : List Sign → List Sign → Type 0
 HasDisjointSupport xs ys = (i : ℕ) → IsInSupport xs i → IsInSupport ys i → ⊥
 
--- a mask of n bits whose bit i tells whether P holds at i
+-- a mask of n bits whose bit i is 1 exactly if P holds at i
 pub record IsMaskOf (n : ℕ) (P : ℕ → Type 0) (mask : ℕ) : Type 0 where
   pub within : mask < 2 ^ n
   pub holds : (i : ℕ) → i < n → (bit_at mask i ≡ 1) ↔ P i
@@ -53,7 +53,7 @@ abbrev pub flip_from : ℕ → ℕ → List Sign → List Sign
 flip_from i mask [] = []
 flip_from i mask (x ∷ xs) = cond (nat_eq (bit_at mask i) 1) (opposite x) x ∷ flip_from (i + 1) mask xs
 
--- the reorientation: the signs at the places of a mask are negated
+-- the reorientation: the signs at the elements of a mask are negated
 abbrev pub flip : ℕ → List Sign → List Sign
 flip = flip_from 0
 

@@ -1,4 +1,4 @@
-//! Laws of the notions, each as a call that does nothing and whose contract is the law.
+//! Laws of the definitions. Each law is a call that does nothing, and its contract is the law.
 
 ghost use Rattle.std.specs.Prelude.{◌≡◌, ◌-◌, ◌^◌, ◌↔◌, ◌⊎◌, List, pos};
 ghost use Rattle.std.specs.declared.cmp.Ordering.TheVariants.{Equal};
@@ -14,21 +14,22 @@ use super::limits::{
     MAX_ROWS, MAX_STEPS, MAX_VALUES, MAX_WEIGHT, MIN_DRAWN,
 };
 
-/// Two sign vectors are orthogonal exactly where their supports are disjoint, or both a plus and a minus are among the
-/// products of their signs.
+/// Two sign vectors are orthogonal exactly if their supports are disjoint, or the products of their signs include
+/// both a plus and a minus.
 ///
 /// Source: Björner, Las Vergnas, Sturmfels, White and Ziegler, Oriented Matroids, chapter 3.
 pub fn orthogonality_by_supports()
-    ensures { (xs ys : List Sign) → IsOrthogonal xs ys ↔ (HasDisjointSupport xs ys ⊎ (HasProduct xs ys Plus × HasProduct xs ys Minus)) }
+    ensures { (xs ys : List Sign) → IsOrthogonal xs ys
+        ↔ (HasDisjointSupport xs ys ⊎ (HasProduct xs ys Plus × HasProduct xs ys Minus)) }
 {}
 
-/// The lexicographic order tells two sign vectors apart exactly where they differ.
+/// Two sign vectors tie in the lexicographic order exactly if they are equal.
 pub fn ties_of_order()
     ensures { (xs ys : List Sign) → (lexicographic xs ys ≡ Equal) ↔ (xs ≡ ys) }
 {}
 
-/// What each limit of the workbench is, as a number. Definitions take the limits by their names, so this law is where a
-/// change of one shows.
+/// The number that each limit of the workbench is. Definitions use the limits by their names, so a changed number
+/// shows in this law.
 pub fn numbers_of_the_limits()
     ensures input { MAX_INPUT ≡ 2 ^ 20 }
     ensures elements { MAX_ELEMENTS ≡ 20 }

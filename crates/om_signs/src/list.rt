@@ -1,10 +1,12 @@
-ghost use Rattle.std.specs.Prelude.{◌≡◌, ◌+◌, ◌<◌, ◌∷◌, [], ◌++◌, length, IfOk, OnOk, OnErr, slice_set, slice_get, Some};
+ghost use Rattle.std.specs.Prelude.{◌≡◌, ◌+◌, ◌<◌, ◌∷◌, [], ◌++◌, length, IfOk, OnOk, OnErr, slice_set, slice_get};
+ghost use Rattle.std.specs.Prelude.{Some};
 
 use super::no_memory::NoMemory;
 use std::alloc::Global;
 use std::marker::Model;
 
-/// A list of values on the heap, which keeps the allocator that it was made with. Contracts see the list of its values.
+/// A list of values on the heap, which keeps the allocator with which it was made. Contracts see the list of its
+/// values.
 #[derive(Drop)]
 pub struct List<T: Copy> {
     items: Vec<T>,
@@ -19,7 +21,7 @@ impl<T: Copy> Model for List<T> {
 }
 
 impl<T: Copy> List<T> {
-    /// The empty list. It takes no memory, and later calls take theirs from `alloc`.
+    /// The empty list. It allocates no memory, and later calls allocate from `alloc`.
     pub fn new(alloc: Global) -> List<T>
         ensures { result ≡ [] }
     {
@@ -35,7 +37,7 @@ impl<T: Copy> List<T> {
         self.items.len()
     }
 
-    /// The value at the index `i`, counted from 0 and below the length.
+    /// The value at the index `i`, counted from 0. `i` is below the length.
     pub fn at(&self, i: usize) -> T
         requires { i < length self.now }
         ensures { slice_get self.now i ≡ Some result }
@@ -50,7 +52,7 @@ impl<T: Copy> List<T> {
         self.items.as_slice()
     }
 
-    /// Writes `item` at the index `i`, counted from 0 and below the length. The other values stay.
+    /// Writes `item` at the index `i`, counted from 0. `i` is below the length. The other values stay.
     pub fn set(&mut self, i: usize, item: T)
         requires { i < length self.old }
         ensures { self.new ≡ slice_set self.old i item }
@@ -60,7 +62,7 @@ impl<T: Copy> List<T> {
 
     /// Adds a value at the end.
     ///
-    /// [`NoMemory`] comes only for want of memory, and the list is then unchanged.
+    /// [`NoMemory`] comes only if memory runs out, and the list is then unchanged.
     pub fn push(&mut self, item: T) -> Result<(), NoMemory>
         ensures ok { OnOk result (self.new ≡ self.old ++ item ∷ []) }
         ensures err { OnErr result (self.new ≡ self.old) }
@@ -69,7 +71,7 @@ impl<T: Copy> List<T> {
         Ok(())
     }
 
-    /// The empty list of values of any type, with the allocator of this list. It takes no memory.
+    /// The empty list of values of any type, with the allocator of this list. It allocates no memory.
     pub fn empty_like<U: Copy>(&self) -> List<U>
         ensures { result ≡ [] }
     {
@@ -78,7 +80,7 @@ impl<T: Copy> List<T> {
 
     /// A list of the same values, with the same allocator.
     ///
-    /// [`NoMemory`] comes only for want of memory.
+    /// [`NoMemory`] comes only if memory runs out.
     pub fn copy(&self) -> Result<List<T>, NoMemory>
         ensures { IfOk result (λ l. l ≡ self.now) }
     {

@@ -1,8 +1,8 @@
 use super::list::List;
 use super::sign::Sign;
 
-/// A map of rank `rank` on the elements 1 to `elements`, whether or not it meets any axiom: a sign for each increasing
-/// list of `rank` elements, in lexicographic order of the lists.
+/// A map of rank `rank` on the elements 1 to `elements`, which need not meet any axiom. It has a sign for each
+/// increasing list of `rank` elements, in lexicographic order of the lists.
 ///
 /// Source: Björner, Las Vergnas, Sturmfels, White and Ziegler, Oriented Matroids, chapter 3.
 #[derive(Drop)]

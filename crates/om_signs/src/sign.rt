@@ -14,7 +14,7 @@ pub enum Sign {
 }
 
 impl Sign {
-    /// The opposite sign: minus and plus change places, and zero stays.
+    /// The opposite sign: minus and plus are exchanged, and zero stays.
     pub fn neg(self) -> Sign
         ensures { result ≡ opposite self }
     {
@@ -70,7 +70,8 @@ impl Ord for Sign {
 
     ghost matches_partial_cmp = { λ s t i. Some (sign_order s t) };
 
-    ghost matches_eq = { λ s t. by_pairs (λ s t. equality.eq s t ≡ is_eq (sign_order s t)) s t refl refl refl refl refl refl refl refl refl };
+    ghost matches_eq = { λ s t. by_pairs (λ s t. equality.eq s t ≡ is_eq (sign_order s t)) s t refl refl refl refl refl refl refl refl
+        refl };
 
     fn cmp(&self, other: &Sign) -> Ordering {
         (*self as u8).cmp(&(*other as u8))
@@ -87,7 +88,9 @@ impl PartialOrd for Sign {
 
     ghost partial_cmp = { as_partial_cmp sign_order };
 
-    ghost laws = { partial_order_from_agreeing_total sign_order sign_order-total (λ s t i. Some (sign_order s t)) (λ s t. by_pairs (λ s t. equality.eq s t ≡ is_eq (sign_order s t)) s t refl refl refl refl refl refl refl refl refl) };
+    ghost laws = { partial_order_from_agreeing_total sign_order sign_order-total (λ s t i. Some (sign_order s t))
+        (λ s t. by_pairs (λ s t. equality.eq s t ≡ is_eq (sign_order s t)) s t refl refl refl refl refl refl refl refl
+        refl) };
 
     fn partial_cmp(&self, other: &Sign) -> Option<Ordering> {
         Some(self.cmp(other))

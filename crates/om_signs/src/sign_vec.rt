@@ -1,16 +1,19 @@
-ghost use Rattle.std.specs.Prelude.{◌≡◌, ℕ, ◌+◌, ◌-◌, ◌<◌, ◌≤◌, ◌^◌, ◌↔◌, IsTrue, length, map, replicate, remove, slice_set};
+ghost use Rattle.std.specs.Prelude.{◌≡◌, ℕ, ◌+◌, ◌-◌, ◌<◌, ◌≤◌, ◌^◌, ◌↔◌, IsTrue, length, map, replicate, remove};
+ghost use Rattle.std.specs.Prelude.{slice_set};
 ghost use Rattle.om_signs.specs.Sign.{opposite};
-ghost use Rattle.om_signs.specs.SignVec.{at_element, compose, flip, IsMaskOf, IsSeparated, IsOrthogonal, IsConformal, IsInSupport, IsPlus, IsMinus};
+ghost use Rattle.om_signs.specs.SignVec.{at_element, compose, flip, IsMaskOf, IsSeparated, IsOrthogonal, IsConformal};
+ghost use Rattle.om_signs.specs.SignVec.{IsInSupport, IsPlus, IsMinus};
 
 use super::limits::MAX_PLACES;
 use super::sign::Sign;
 use std::cmp::Ordering;
 use std::marker::Model;
 
-/// A sign vector: a sign for each of the elements 1 to `len`, of which there are 1 to [`MAX_PLACES`].
+/// A sign vector: a sign for each of the elements 1 to `len`, and `len` is from 1 to [`MAX_PLACES`].
 ///
-/// Contracts see the list of the signs. Sign vectors are ordered lexicographically: the signs at the first place where two
-/// vectors differ decide, minus before zero before plus, and a vector comes before each longer one that begins with it.
+/// Contracts see the list of the signs. Sign vectors are ordered lexicographically: the first place where two
+/// vectors differ decides, with minus before zero before plus. A vector comes before each longer one that begins
+/// with it.
 ///
 /// A mask of elements is a `u32` whose bit `e - 1` stands for the element `e`.
 ///
@@ -29,7 +32,8 @@ impl Model for SignVec {
     ghost Value = { List Sign };
 
     ghost use Rattle.std.specs.Prelude.{◌≡◌, ◌<◌, ◌≤◌, ◌^◌, bit_and, length};
-    ghost use Rattle.om_signs.specs.Masks.{signs_of, plus_mask, minus_mask, plus_mask-signs_of, minus_mask-signs_of, IsSound};
+    ghost use Rattle.om_signs.specs.Masks.{signs_of, plus_mask, minus_mask, plus_mask-signs_of, minus_mask-signs_of};
+    ghost use Rattle.om_signs.specs.Masks.{IsSound};
 
     ghost view = { λ v. signs_of v.plus v.minus v.len };
 
@@ -76,7 +80,7 @@ impl SignVec {
         }
     }
 
-    /// The sign at the element `e`, from 1 to the length.
+    /// The sign at the element `e`, which is from 1 to the length.
     pub fn get(self, e: u8) -> Sign
         requires low { 1 ≤ e }
         requires high { e ≤ length self }
@@ -92,7 +96,7 @@ impl SignVec {
         }
     }
 
-    /// The vector with the sign `s` at the element `e`, from 1 to the length, and the same signs elsewhere.
+    /// The vector with the sign `s` at the element `e`, and the same signs elsewhere. `e` is from 1 to the length.
     pub fn set(self, e: u8, s: Sign) -> SignVec
         requires low { 1 ≤ e }
         requires high { e ≤ length self }
@@ -106,7 +110,8 @@ impl SignVec {
         }
     }
 
-    /// The composition with a vector of the same length: the sign of `self` where that is not zero, and else the sign of `y`.
+    /// The composition with a vector of the same length: the sign of `self` where it isn't zero, and elsewhere the
+    /// sign of `y`.
     pub fn compose(self, y: SignVec) -> SignVec
         requires { length self ≡ length y }
         ensures { result ≡ compose self y }
@@ -118,7 +123,8 @@ impl SignVec {
         }
     }
 
-    /// The separation from a vector of the same length, as a mask: the elements at which the signs are opposite and not zero.
+    /// The separation from a vector of the same length, as a mask: the elements at which the signs are opposite and
+    /// nonzero.
     pub fn separation(self, y: SignVec) -> u32
         requires { length self ≡ length y }
         ensures { IsMaskOf (length self) (IsSeparated self y) result }
@@ -126,15 +132,15 @@ impl SignVec {
         (self.plus & y.minus) | (self.minus & y.plus)
     }
 
-    /// The support as a mask: the elements whose sign is not zero.
+    /// The support as a mask: the elements whose sign isn't zero.
     pub fn support(self) -> u32
         ensures { IsMaskOf (length self) (IsInSupport self) result }
     {
         self.plus | self.minus
     }
 
-    /// Whether the vector is orthogonal to one of the same length: the products of the signs, place by place, have a plus
-    /// exactly where they have a minus. So the supports are disjoint, or both occur.
+    /// Whether the vector is orthogonal to one of the same length. The products of the signs, place by place,
+    /// include a plus exactly if they include a minus. So the supports are disjoint, or both occur.
     pub fn orthogonal(self, y: SignVec) -> bool
         requires { length self ≡ length y }
         ensures { IsTrue result ↔ IsOrthogonal self y }
@@ -144,7 +150,7 @@ impl SignVec {
         (same == 0) == (apart == 0)
     }
 
-    /// Whether the vector conforms to one of the same length: each of its signs is zero or the same as that of `y`.
+    /// Whether the vector conforms to one of the same length: each of its signs is zero or equals that of `y`.
     pub fn conforms(self, y: SignVec) -> bool
         requires { length self ≡ length y }
         ensures { IsTrue result ↔ IsConformal self y }
@@ -153,7 +159,8 @@ impl SignVec {
         outside == 0
     }
 
-    /// The vector without the place of the element `e`, from 1 to the length, which is at least 2. Later elements move down by one.
+    /// The vector without the place of the element `e`, so that later elements move down by one. `e` is from 1 to
+    /// the length, which is at least 2.
     pub fn drop_place(self, e: u8) -> SignVec
         requires low { 1 ≤ e }
         requires high { e ≤ length self }
@@ -168,7 +175,7 @@ impl SignVec {
         }
     }
 
-    /// The vector with the signs negated at the elements of `mask`, which are elements of the vector.
+    /// The vector with its signs negated at the elements of `mask`, which are elements of the vector.
     pub fn flip(self, mask: u32) -> SignVec
         requires { mask < 2 ^ length self }
         ensures { result ≡ flip mask self }
@@ -180,14 +187,14 @@ impl SignVec {
         }
     }
 
-    /// The places with a plus, as a mask: bit e - 1 stands for place e.
+    /// The elements with a plus, as a mask: bit e - 1 stands for element e.
     pub fn plus(self) -> u32
         ensures { IsMaskOf (length self) (IsPlus self) result }
     {
         self.plus
     }
 
-    /// The places with a minus, as a mask: bit e - 1 stands for place e.
+    /// The elements with a minus, as a mask: bit e - 1 stands for element e.
     pub fn minus(self) -> u32
         ensures { IsMaskOf (length self) (IsMinus self) result }
     {
@@ -229,7 +236,8 @@ impl PartialOrd for SignVec {
 
     ghost partial_cmp = { as_partial_cmp lexicographic };
 
-    ghost laws = { partial_order_from_agreeing_total lexicographic lexicographic-total (λ x y i. Some (lexicographic x y)) matches_eq };
+    ghost laws = { partial_order_from_agreeing_total lexicographic lexicographic-total (λ x y i. Some (lexicographic x y))
+        matches_eq };
 
     fn partial_cmp(&self, other: &SignVec) -> Option<Ordering> {
         Some(self.cmp(other))

@@ -1,4 +1,4 @@
-//! The types of this crate cross threads.
+//! The types of this crate can cross threads.
 use super::block::Block;
 use super::list::List;
 use super::no_memory::NoMemory;

@@ -11,7 +11,8 @@ use Rattle.om_simplex.specs.declared.count.Count.{Count}
 use Rattle.om_simplex.specs.declared.stage.Stage.{Stage}
 use Rattle.om_simplex.specs.declared.outcome.Outcome.TheVariants.{Balanced, Weights, PivotLimit, Width}
 use Rattle.om_simplex.specs.States.{State, row_of}
-use Rattle.om_simplex.specs.Outcomes.{IsReached, first, next, IsOutcome, balanced, weights, pivot_limit, price_wide, column_wide, update_wide, own_wide, factor_wide, times_wide, weight_wide}
+use Rattle.om_simplex.specs.Outcomes.{IsReached, first, next, IsOutcome, balanced, weights, pivot_limit, price_wide}
+use Rattle.om_simplex.specs.Outcomes.{column_wide, update_wide, own_wide, factor_wide, times_wide, weight_wide}
 use Rattle.om_simplex.proofs.Reached.{reached_sound}
 use Rattle.om_simplex.proofs.Weighing.{length-weights, entry-weights}
 
@@ -25,18 +26,24 @@ module _ (columns : List Column) (m pivots : ℕ) where
   few_pivots k s first = omega arith
   few_pivots k s (next n u v r l b p) = omega arith
 
-  pub balanced_small : (counts : List Count) → IsOutcome columns m pivots (Balanced counts) → All (λ c. c.times ≤ MAX_MULTIPLICITY) counts
-  balanced_small counts (balanced k s factor cs r b o f g t a) = λ i d l. let h = (a.members (get_or cs i d)).0 (Contains-get_or cs i d l) in t h.i (get_or cs i d).column (get_or cs i d).times h.has h.times
+  pub balanced_small : (counts : List Count) → IsOutcome columns m pivots (Balanced counts)
+      → All (λ c. c.times ≤ MAX_MULTIPLICITY) counts
+  balanced_small counts (balanced k s factor cs r b o f g t a) = λ i d l. let h =
+      (a.members (get_or cs i d)).0 (Contains-get_or cs i d l) in
+      t h.i (get_or cs i d).column (get_or cs i d).times h.has h.times
 
-  pub weights_small : (zs : List ℤ) → 1 ≤ m → IsOutcome columns m pivots (Weights zs) → All (λ z. unsigned_abs z ≤ unsigned_abs MAX_WEIGHT) zs
+  pub weights_small : (zs : List ℤ) → 1 ≤ m → IsOutcome columns m pivots (Weights zs)
+      → All (λ z. unsigned_abs z ≤ unsigned_abs MAX_WEIGHT) zs
   weights_small zs low (weights k s r b n w) =
       let sound = reached_sound columns m pivots low k s r in
       let size = length-weights columns m s low sound in
       All-from_get_or (λ z. unsigned_abs z ≤ unsigned_abs MAX_WEIGHT) zs (pos 0) (λ i l.
       let q = i + 1 in
-      let e : entry zs q ≡ get_or zs i (pos 0) = ap (λ j. get_or zs j (pos 0)) (let f : i + 1 - 1 ≡ i = omega arith in f) in
+      let e : entry zs q ≡ get_or zs i (pos 0) =
+      ap (λ j. get_or zs j (pos 0)) (let f : i + 1 - 1 ≡ i = omega arith in f) in
       let f = entry-weights columns m s low sound q (record { low = omega arith; high = omega arith }) in
-      let g : unsigned_abs (entry zs q) ≡ unsigned_abs (entry (row_of s 0) q) = ap unsigned_abs f ∙ same_size (entry (row_of s 0) q) in
+      let g : unsigned_abs (entry zs q) ≡ unsigned_abs (entry (row_of s 0) q) = ap unsigned_abs f
+      ∙ same_size (entry (row_of s 0) q) in
       let h = w q (omega arith) (omega arith) in
       subst (λ z. unsigned_abs z ≤ unsigned_abs MAX_WEIGHT) e (subst (λ n. n ≤ unsigned_abs MAX_WEIGHT) (sym g) h))
 
@@ -62,15 +69,22 @@ module _ (columns : List Column) (m pivots : ℕ) where
     pub row_most : row ≤ m
     pub place_most : place ≤ m + length columns
 
-  pub width_numbers : (stage : Stage) (pivot row place : ℕ) → 1 ≤ m → IsOutcome columns m pivots (Width stage pivot row place) → AreWidthNumbers pivot row place
-  width_numbers stage pivot row place low (price_wide k s j r u w) = let f = few_pivots k s r in let h = w.number.high in record { pivot_most = omega arith; row_most = omega arith; place_most = omega arith }
-  width_numbers stage pivot row place low (column_wide k s j i a l w) = let h = w.row.high in let g = a.entering.number.high in record { pivot_most = omega arith; row_most = omega arith; place_most = omega arith }
+  pub width_numbers : (stage : Stage) (pivot row place : ℕ) → 1 ≤ m
+      → IsOutcome columns m pivots (Width stage pivot row place) → AreWidthNumbers pivot row place
+  width_numbers stage pivot row place low (price_wide k s j r u w) = let f = few_pivots k s r in let h =
+      w.number.high in record { pivot_most = omega arith; row_most = omega arith; place_most = omega arith }
+  width_numbers stage pivot row place low (column_wide k s j i a l w) = let h = w.row.high in let g =
+      a.entering.number.high in record { pivot_most = omega arith; row_most = omega arith; place_most = omega arith }
   width_numbers stage pivot row place low (update_wide k s j p i q a l n f w) =
       let h = w.row in
       let g = w.place.place.high in
       let e = (reached_sound columns m pivots low k s a.reached).widths i h in
       record { pivot_most = omega arith; row_most = omega arith; place_most = omega arith }
-  width_numbers stage pivot row place low (own_wide k s i r b w) = let f = few_pivots k s r in let h = w.has.row.high in record { pivot_most = omega arith; row_most = omega arith; place_most = omega arith }
-  width_numbers stage pivot row place low (factor_wide k s f r b n l w) = let g = few_pivots k s r in record { pivot_most = omega arith; row_most = omega arith; place_most = omega arith }
-  width_numbers stage pivot row place low (times_wide k s f i r b n l a w) = let g = few_pivots k s r in let h = w.has.row.high in record { pivot_most = omega arith; row_most = omega arith; place_most = omega arith }
-  width_numbers stage pivot row place low (weight_wide k s q r u n w) = let g = few_pivots k s r in let h = w.other in record { pivot_most = omega arith; row_most = omega arith; place_most = omega arith }
+  width_numbers stage pivot row place low (own_wide k s i r b w) = let f = few_pivots k s r in let h = w.has.row.high in
+      record { pivot_most = omega arith; row_most = omega arith; place_most = omega arith }
+  width_numbers stage pivot row place low (factor_wide k s f r b n l w) = let g = few_pivots k s r in
+      record { pivot_most = omega arith; row_most = omega arith; place_most = omega arith }
+  width_numbers stage pivot row place low (times_wide k s f i r b n l a w) = let g = few_pivots k s r in let h =
+      w.has.row.high in record { pivot_most = omega arith; row_most = omega arith; place_most = omega arith }
+  width_numbers stage pivot row place low (weight_wide k s q r u n w) = let g = few_pivots k s r in let h = w.other in
+      record { pivot_most = omega arith; row_most = omega arith; place_most = omega arith }

@@ -1,7 +1,8 @@
 -- The numbers off a set, by the mask that has the other bits.
 --
 -- Main results: complement_size, how many they are; complement_member, which they are.
-use Rattle.std.proofs.Common.{ℕ, zero, suc, ◌≡◌, ◌≢◌, ◌+◌, ◌-◌, ◌*◌, ◌/◌, ◌%◌, ◌<◌, ◌≤◌, ◌^◌, ◌↔◌, List, length, refl, sym, ap, subst, ◌∙◌, inl, inr, arith}
+use Rattle.std.proofs.Common.{ℕ, zero, suc, ◌≡◌, ◌≢◌, ◌+◌, ◌-◌, ◌*◌, ◌/◌, ◌%◌, ◌<◌, ◌≤◌, ◌^◌, ◌↔◌, List, length, refl}
+use Rattle.std.proofs.Common.{sym, ap, subst, ◌∙◌, inl, inr, arith}
 use Rattle.std.specs.Int.{bit_at}
 use Rattle.std.proofs.lemmas.Bool.{cases_eq, eq-eqb, ne_eqb}
 use Rattle.std.proofs.lemmas.Nat.Bits.{bit_at-suc, bit_at_lowest, bit_at-lt}
@@ -16,7 +17,8 @@ use Rattle.om_subsets.proofs.Places.{double}
 abbrev pub others : ℕ → ℕ → ℕ
 others mask m = 2 ^ m - 1 - mask
 
-others_half : (mask m : ℕ) → mask < 2 ^ suc m → (others mask (suc m) / 2 ≡ others (mask / 2) m) × (others mask (suc m) % 2 + mask % 2 ≡ 1)
+others_half : (mask m : ℕ) → mask < 2 ^ suc m → (others mask (suc m) / 2 ≡ others (mask / 2) m)
+    × (others mask (suc m) % 2 + mask % 2 ≡ 1)
 others_half mask m l = let p : 2 ^ suc m ≡ 2 * 2 ^ m = double m in (omega arith, omega arith)
 
 others_length : (mask e m : ℕ) → mask < 2 ^ m → length (members (others mask m) e m) + length (members mask e m) ≡ m
@@ -45,7 +47,8 @@ others_bit mask (suc m) zero l k =
 others_bit mask (suc m) (suc i) l k =
     let p : 2 ^ suc m ≡ 2 * 2 ^ m = double m in
     let half = (others_half mask m l).0 in
-    let a : bit_at (others mask (suc m)) (suc i) ≡ bit_at (others (mask / 2) m) i = bit_at-suc (others mask (suc m)) i ∙ ap (λ x. bit_at x i) half in
+    let a : bit_at (others mask (suc m)) (suc i) ≡ bit_at (others (mask / 2) m) i = bit_at-suc (others mask (suc m)) i
+    ∙ ap (λ x. bit_at x i) half in
     let b = bit_at-suc mask i in
     let rest = others_bit (mask / 2) m i (omega arith) (omega arith) in
     omega arith
@@ -58,18 +61,22 @@ module _ (n : ℕ) (xs : List ℕ) (h : IsSubsetFrom 1 n xs) where
   small = mask_of-lt 1 n xs
 
   pub complement_size : length (members (others (mask_of 1 xs n) n) 1 n) + length xs ≡ n
-  complement_size = ap (λ ys. length (members (others (mask_of 1 xs n) n) 1 n) + length ys) (sym same) ∙ others_length (mask_of 1 xs n) 1 n small
+  complement_size = ap (λ ys. length (members (others (mask_of 1 xs n) n) 1 n) + length ys) (sym same)
+      ∙ others_length (mask_of 1 xs n) 1 n small
 
   -- the bit of a number from 1 to n
   bit_of : (mask e : ℕ) → 1 ≤ e → e ≤ n → (bit_at mask (e - 1) ≡ 1) ↔ IsMember e (members mask 1 n)
   bit_of mask e low high =
       let back : 1 + (e - 1) ≡ e = omega arith in
-      subst (λ g. (bit_at mask (e - 1) ≡ 1) ↔ IsMember g (members mask 1 n)) back (member_bit mask 1 n (e - 1) (omega arith))
+      subst (λ g. (bit_at mask (e - 1) ≡ 1) ↔ IsMember g (members mask 1 n)) back
+      (member_bit mask 1 n (e - 1) (omega arith))
 
-  pub complement_member : (e : ℕ) → IsMember e (members (others (mask_of 1 xs n) n) 1 n) ↔ ((1 ≤ e) × (e ≤ n) × (IsMember e xs → ⊥))
+  pub complement_member : (e : ℕ) → IsMember e (members (others (mask_of 1 xs n) n) 1 n)
+      ↔ ((1 ≤ e) × (e ≤ n) × (IsMember e xs → ⊥))
   complement_member e = (
     λ k.
-        let b = members_from 1 n e (members (others (mask_of 1 xs n) n) 1 n) (members-subset (others (mask_of 1 xs n) n) 1 n) k in
+        let b = members_from 1 n e (members (others (mask_of 1 xs n) n) 1 n)
+        (members-subset (others (mask_of 1 xs n) n) 1 n) k in
         let low : 1 ≤ e = b.0 in
         let high : e ≤ n = (let t = b.1 in omega arith) in
         (low, high, λ q. off e low high k q),

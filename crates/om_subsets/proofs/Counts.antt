@@ -1,7 +1,8 @@
 -- How many increasing lists there are, and how long they are.
 --
--- Main results: among more numbers there are no fewer lists (choose_more, choose_grows); one list is empty (choose_none), as many as
--- numbers have one (choose_one), and few have two (choose_two); no list is longer than the numbers are many (too_long).
+-- Main results: among more numbers there are no fewer lists (choose_more, choose_grows); one list is empty
+-- (choose_none), as many as numbers have one (choose_one), and few have two (choose_two); no list is longer than the
+-- numbers are many (too_long).
 use Rattle.std.proofs.Common.{ℕ, zero, suc, ◌≡◌, ◌*◌, ◌<◌, ◌≤◌, List, length, refl, arith, inl, inr}
 use Rattle.std.proofs.lemmas.Bool.{cases_lt}
 use Rattle.om_subsets.specs.Subsets.{choose, IsSubsetFrom}

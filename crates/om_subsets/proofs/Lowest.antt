@@ -2,7 +2,8 @@
 --
 -- Main definitions: `later n xs`, how many sets of this size come after xs.
 -- Main results: `rank_and_later`; `lowest`, what `mask & (mask - 1)` does to the members.
-use Rattle.std.proofs.Common.{ℕ, ◌≡◌, ◌+◌, ◌-◌, ◌/◌, ◌%◌, ◌<◌, ◌≤◌, ◌^◌, List, [], ◌∷◌, length, zero, suc, refl, sym, ◌∙◌, ap, arith, inl, inr, bit_and, min, w32, subst}
+use Rattle.std.proofs.Common.{ℕ, ◌≡◌, ◌+◌, ◌-◌, ◌/◌, ◌%◌, ◌<◌, ◌≤◌, ◌^◌, List, [], ◌∷◌, length, zero, suc, refl, sym}
+use Rattle.std.proofs.Common.{◌∙◌, ap, arith, inl, inr, bit_and, min, w32, subst}
 use Rattle.std.specs.Int.{bit_at, trailing_zeros}
 use Rattle.std.specs.Int.Bits.{and_self}
 use Rattle.std.proofs.lemmas.Bool.{eq-eqb, ne_eqb}
@@ -22,7 +23,8 @@ abbrev pub later : ℕ → List ℕ → ℕ
 later n [] = 0
 later n (x ∷ xs) = choose (n - x) (suc (length xs)) + later n xs
 
-pub rank_and_later : (low m n : ℕ) (xs : List ℕ) → low + m ≡ n + 1 → IsSubsetFrom low m xs → rank_from low m xs + 1 + later n xs ≡ choose m (length xs)
+pub rank_and_later : (low m n : ℕ) (xs : List ℕ) → low + m ≡ n + 1 → IsSubsetFrom low m xs
+    → rank_from low m xs + 1 + later n xs ≡ choose m (length xs)
 rank_and_later low m n [] e h = let c = choose_none m in omega arith
 rank_and_later low zero n (x ∷ xs) e h = absurd h
 rank_and_later low (suc m) n (x ∷ xs) e (inl (q, h)) =
@@ -42,9 +44,11 @@ and_half a b = same_from_bits _ _ (λ i.
     sides i = rw (bit_at-suc a i, bit_at-suc b i) refl
 
 and_low : (a b : ℕ) → bit_and a b % 2 ≡ min (a % 2) (b % 2)
-and_low a b = sym (bit_at_lowest (bit_and a b)) ∙ bit_at_and a b 0 ∙ (let p = bit_at_lowest a in let q = bit_at_lowest b in rw (p, q) refl)
+and_low a b = sym (bit_at_lowest (bit_and a b)) ∙ bit_at_and a b 0
+    ∙ (let p = bit_at_lowest a in let q = bit_at_lowest b in rw (p, q) refl)
 
-lowest_at : (mask e m t : ℕ) → mask < 2 ^ m → bit_at mask t ≡ 1 → ((i : ℕ) → i < t → bit_at mask i ≡ 0) → members mask e m ≡ (e + t) ∷ members (bit_and mask (mask - 1)) e m
+lowest_at : (mask e m t : ℕ) → mask < 2 ^ m → bit_at mask t ≡ 1 → ((i : ℕ) → i < t → bit_at mask i ≡ 0)
+    → members mask e m ≡ (e + t) ∷ members (bit_and mask (mask - 1)) e m
 lowest_at mask e zero t l one none =
     let z : mask ≡ 0 = omega arith in
     let b : bit_at 0 t ≡ 1 = rw (← z) one in
@@ -65,16 +69,19 @@ lowest_at mask e (suc m) (suc t) l one none =
     let d = double m in
     let even : mask % 2 ≡ 0 = sym (bit_at_lowest mask) ∙ none 0 (omega arith) in
     let one' : bit_at (mask / 2) t ≡ 1 = sym (bit_at-suc mask t) ∙ one in
-    let none' : (i : ℕ) → i < t → bit_at (mask / 2) i ≡ 0 = (λ i l. sym (bit_at-suc mask i) ∙ none (suc i) (omega arith)) in
+    let none' : (i : ℕ) → i < t → bit_at (mask / 2) i ≡ 0 =
+    (λ i l. sym (bit_at-suc mask i) ∙ none (suc i) (omega arith)) in
     let i = lowest_at (mask / 2) (e + 1) m t (omega arith) one' none' in
     let low : bit_and mask (mask - 1) % 2 ≡ 0 = and_low mask (mask - 1) ∙ rw even (omega arith) in
     let pred : (mask - 1) / 2 ≡ mask / 2 - 1 = omega arith in
-    let half : bit_and mask (mask - 1) / 2 ≡ bit_and (mask / 2) (mask / 2 - 1) = and_half mask (mask - 1) ∙ rw pred refl in
+    let half : bit_and mask (mask - 1) / 2 ≡ bit_and (mask / 2) (mask / 2 - 1) = and_half mask (mask - 1)
+    ∙ rw pred refl in
     let s : e + 1 + t ≡ e + suc t = omega arith in
     rw (low, half, even) (i ∙ rw s refl)
 
 -- the lowest bit that is set is the first member, and the next mask has the others
-pub lowest : (mask n : ℕ) → 0 < mask → mask < 2 ^ n → n < 32 → members mask 1 n ≡ (1 + trailing_zeros w32 mask) ∷ members (bit_and mask (mask - 1)) 1 n
+pub lowest : (mask n : ℕ) → 0 < mask → mask < 2 ^ n → n < 32
+    → members mask 1 n ≡ (1 + trailing_zeros w32 mask) ∷ members (bit_and mask (mask - 1)) 1 n
 lowest mask n some l h =
     let p : 2 ^ n ≤ 2 ^ 32 = pow_mono {j = 32} (omega arith) in
     let t = bit_at-trailing_zeros w32 mask some (omega arith) in
@@ -85,13 +92,17 @@ pub record IsTurn (mask n : ℕ) : Type 0 where
   pub within : bit_and mask (mask - 1) < 2 ^ n
   pub small : trailing_zeros w32 mask + 1 ≤ n
   pub size : length (members mask 1 n) ≡ length (members (bit_and mask (mask - 1)) 1 n) + 1
-  pub place : later n (members mask 1 n) ≡ choose (n - (trailing_zeros w32 mask + 1)) (length (members mask 1 n)) + later n (members (bit_and mask (mask - 1)) 1 n)
+  pub place : later n (members mask 1 n) ≡ choose (n - (trailing_zeros w32 mask + 1)) (length (members mask 1 n))
+      + later n (members (bit_and mask (mask - 1)) 1 n)
 
 pub turn : (mask n : ℕ) → 0 < mask → mask < 2 ^ n → n ≤ MAX_PLACES → IsTurn mask n
 turn mask n some l h =
     let here = lowest mask n some l (bits_fit n h) in
-    let head : IsSubsetFrom 1 n ((1 + trailing_zeros w32 mask) ∷ members (bit_and mask (mask - 1)) 1 n) = subst (IsSubsetFrom 1 n) here (members-subset mask 1 n) in
-    let bound = members_from 1 n (1 + trailing_zeros w32 mask) ((1 + trailing_zeros w32 mask) ∷ members (bit_and mask (mask - 1)) 1 n) head (inl refl) in
+    let head : IsSubsetFrom 1 n ((1 + trailing_zeros w32 mask) ∷ members (bit_and mask (mask - 1)) 1 n) =
+    subst (IsSubsetFrom 1 n) here (members-subset mask 1 n) in
+    let bound =
+    members_from 1 n (1 + trailing_zeros w32 mask)
+    ((1 + trailing_zeros w32 mask) ∷ members (bit_and mask (mask - 1)) 1 n) head (inl refl) in
     let less = and_le_l mask (mask - 1) in
     let flip : 1 + trailing_zeros w32 mask ≡ trailing_zeros w32 mask + 1 = omega arith in
     record {

@@ -2,7 +2,8 @@
 --
 -- Main definitions: IsBack
 -- Main results: mask_of-lt, members-mask_of, bits_are_members, parts_back
-use Rattle.std.proofs.Common.{ℕ, ◌≡◌, ◌+◌, ◌*◌, ◌/◌, ◌%◌, ◌<◌, ◌^◌, List, [], ◌∷◌, zero, suc, refl, sym, ◌∙◌, ap, arith, inl, inr, ◌↔◌, true, false, cond}
+use Rattle.std.proofs.Common.{ℕ, ◌≡◌, ◌+◌, ◌*◌, ◌/◌, ◌%◌, ◌<◌, ◌^◌, List, [], ◌∷◌, zero, suc, refl, sym, ◌∙◌, ap, arith}
+use Rattle.std.proofs.Common.{inl, inr, ◌↔◌, true, false, cond}
 use Rattle.std.proofs.lemmas.Bool.{eq-eqb, ne_eqb}
 use Rattle.std.specs.Int.{bit_at}
 use Rattle.om_signs.specs.SignVec.{IsMaskOf}
@@ -17,7 +18,8 @@ mask_of-lt e (suc m) xs =
     let d = double m in
     let i = mask_of-lt (e + 1) m xs in
     let j = mask_of-lt (e + 1) m (tail xs) in
-    elim (begins_with e xs) as (λ b. cond b (1 + 2 * mask_of (e + 1) (tail xs) m) (2 * mask_of (e + 1) xs m) < 2 ^ suc m) [
+    elim (begins_with e xs) as
+    (λ b. cond b (1 + 2 * mask_of (e + 1) (tail xs) m) (2 * mask_of (e + 1) xs m) < 2 ^ suc m) [
       | true ↦ omega arith
       | false ↦ omega arith
     ]
@@ -50,7 +52,8 @@ pub record IsBack (mask n : ℕ) (v : Chosen) : Type 0 where
   pub mask_is : mask_of 1 v.elements v.n ≡ mask
   pub n_is : v.n ≡ n
 
-pub parts_back : (mask n : ℕ) (v : Chosen) → IsSound mask n → record { n = n; elements = members mask 1 n } ≡ v → IsBack mask n v
+pub parts_back : (mask n : ℕ) (v : Chosen) → IsSound mask n → record { n = n; elements = members mask 1 n } ≡ v
+    → IsBack mask n v
 parts_back mask n v s e = record {
   mask_is = sym (ap (λ w. mask_of 1 w.elements w.n) e) ∙ mask_of-members mask 1 n s.within;
   n_is = sym (ap (λ w. w.n) e);

@@ -1,10 +1,11 @@
 -- The next set of the same size: the last member that can move goes up by one, and those behind it follow it.
 --
 -- Main definitions: IsMoved, IsNext
--- Main results: next_made, what the loop for the next set makes; not_last; moved, moved_below, moved_members, moved_rank; same_low and from_low,
--- of two masks with the same low bits
+-- Main results: next_made, what the loop for the next set makes; not_last; moved, moved_below, moved_members,
+-- moved_rank; same_low and from_low, of two masks with the same low bits
 -- Reference: Knuth, The Art of Computer Programming, volume 4A, section 7.2.1.3.
-use Rattle.std.proofs.Common.{ℕ, ◌≡◌, ◌≢◌, ◌+◌, ◌-◌, ◌*◌, ◌/◌, ◌%◌, ◌<◌, ◌≤◌, ◌^◌, List, length, zero, suc, refl, sym, ◌∙◌, ap, arith, inl, inr, bit_and, add-one}
+use Rattle.std.proofs.Common.{ℕ, ◌≡◌, ◌≢◌, ◌+◌, ◌-◌, ◌*◌, ◌/◌, ◌%◌, ◌<◌, ◌≤◌, ◌^◌, List, length, zero, suc, refl, sym}
+use Rattle.std.proofs.Common.{◌∙◌, ap, arith, inl, inr, bit_and, add-one}
 use Rattle.std.proofs.Math.Pow.{pow_pos, pow_mono}
 use Rattle.std.proofs.lemmas.Bool.{cases_eq, ne_eqb}
 use Rattle.std.proofs.lemmas.Nat.{one_shl}
@@ -18,7 +19,9 @@ use Rattle.std.proofs.lemmas.Nat.Bits.{shr_and_one, bit_at-lt, bit_at_and, bit_a
 use Rattle.om_subsets.specs.Subsets.{choose, rank_from, first_of}
 use Rattle.om_subsets.proofs.Order.{rank_from-lt}
 use Rattle.om_subsets.specs.Members.{members, members-subset}
-use Rattle.om_subsets.proofs.Places.{double, members-ones, from_place, from_start, member_here, none_here, rank_from_place, rank_member, rank_skipped, rank_none, length-first_of, rank-first_of}
+use Rattle.om_subsets.proofs.Places.{double, members-ones, from_place, from_start, member_here, none_here}
+use Rattle.om_subsets.proofs.Places.{rank_from_place, rank_member, rank_skipped, rank_none, length-first_of}
+use Rattle.om_subsets.proofs.Places.{rank-first_of}
 use Rattle.om_subsets.proofs.LastSets.{IsLast}
 
 -- a mask that has the low i bits of another, none at i, and then k ones
@@ -28,13 +31,19 @@ pub record IsMoved (mask i k next : ℕ) : Type 0 where
 low_bits : (mask i : ℕ) → bit_and mask (2 ^ i - 1) ≡ mask % 2 ^ i
 low_bits mask i = and_mask mask i
 
-pub moved : (mask i k n : ℕ) → i + 1 + k ≤ n → n < 32 → IsMoved mask i k (bit_or (bit_and mask (1 * 2 ^ i % 4294967296 - 1)) ((1 * 2 ^ k % 4294967296 - 1) * 2 ^ (i + 1) % 4294967296))
+pub moved : (mask i k n : ℕ) → i + 1 + k ≤ n → n < 32
+    → IsMoved mask i k
+    (bit_or (bit_and mask (1 * 2 ^ i % 4294967296 - 1)) ((1 * 2 ^ k % 4294967296 - 1) * 2 ^ (i + 1) % 4294967296))
 moved mask i k n l h =
     let e : 1 * 2 ^ i % 4294967296 ≡ 2 ^ i = one_shl i 32 (omega arith) in
     let f : 1 * 2 ^ k % 4294967296 ≡ 2 ^ k = one_shl k 32 (omega arith) in
     let fits = run_fits in
-    let small : mask % 2 ^ i < 2 ^ (i + 1) = let d = double i in let p = pow_pos i in let m = mod_below mask (2 ^ i) p in rw add-one (omega arith) in
-    record { sum = rw (e, f, low_bits mask i, mod-eq_of_lt fits) (or_shifted_r (2 ^ k - 1) (i + 1) (mask % 2 ^ i) small) }
+    let small : mask % 2 ^ i < 2 ^ (i + 1) = let d = double i in let p = pow_pos i in let m =
+    mod_below mask (2 ^ i) p in rw add-one (omega arith) in
+    record {
+      sum =
+          rw (e, f, low_bits mask i, mod-eq_of_lt fits) (or_shifted_r (2 ^ k - 1) (i + 1) (mask % 2 ^ i) small);
+    }
   where
     run_fits : (2 ^ k - 1) * 2 ^ (i + 1) < 4294967296
     run_fits =
@@ -59,11 +68,13 @@ moved_below mask i k n next m l =
     run (suc a) b l = let e : suc a - 1 ≡ a = omega arith in rw (e, suc-mul) refl
 
 -- its members from place i on
-pub moved_members : (mask i k n next : ℕ) → IsMoved mask i k next → i + 1 + k ≤ n → from_place next i n ≡ first_of (i + 2) k
+pub moved_members : (mask i k n next : ℕ) → IsMoved mask i k next → i + 1 + k ≤ n
+    → from_place next i n ≡ first_of (i + 2) k
 moved_members mask i k n next m l =
     let p = pow_pos i in
     let d : 2 ^ (i + 1) ≡ 2 ^ i * 2 = let e = double i in rw add-one (omega arith) in
-    let q : next / 2 ^ i ≡ (2 ^ k - 1) * 2 = quotient (2 ^ k - 1) (2 ^ i) (mask % 2 ^ i) next (2 ^ (i + 1)) p (mod_below mask (2 ^ i) p) d m.sum in
+    let q : next / 2 ^ i ≡ (2 ^ k - 1) * 2 =
+    quotient (2 ^ k - 1) (2 ^ i) (mask % 2 ^ i) next (2 ^ (i + 1)) p (mod_below mask (2 ^ i) p) d m.sum in
     let s : n - i ≡ suc (n - (i + 1)) = omega arith in
     let even : (2 ^ k - 1) * 2 % 2 ≡ 0 = omega arith in
     let half : (2 ^ k - 1) * 2 / 2 ≡ 2 ^ k - 1 = omega arith in
@@ -76,23 +87,31 @@ moved_members mask i k n next m l =
         rw (← e) (digits_div (a * 2) lr)
 
 -- the next of a list of the last ones after i + 1
-pub moved_rank : (mask i k n next : ℕ) → IsMoved mask i (suc k) next → i + 1 + suc k ≤ n → bit_and (mask / 2 ^ i) 1 ≡ 1 → k ≡ length (from_place mask (i + 1) n) → IsLast mask (i + 1) n → rank_from_place i n (from_place next i n) ≡ rank_from_place i n (from_place mask i n) + 1
+pub moved_rank : (mask i k n next : ℕ) → IsMoved mask i (suc k) next → i + 1 + suc k ≤ n → bit_and (mask / 2 ^ i) 1 ≡ 1
+    → k ≡ length (from_place mask (i + 1) n) → IsLast mask (i + 1) n
+    → rank_from_place i n (from_place next i n) ≡ rank_from_place i n (from_place mask i n) + 1
 moved_rank mask i k n next m l t ek h =
     let e = rank_member mask i n (omega arith) t in
-    rw (moved_members mask i (suc k) n next m l) (skip (n - i) (n - (i + 1)) (omega arith) ∙ sym (ap (λ x. x + 1) e ∙ h ∙ ap (choose (n - (i + 1))) (sym ek)))
+    rw (moved_members mask i (suc k) n next m l)
+    (skip (n - i) (n - (i + 1)) (omega arith) ∙ sym (ap (λ x. x + 1) e ∙ h ∙ ap (choose (n - (i + 1))) (sym ek)))
   where
     skip : (a b : ℕ) → a ≡ suc b → rank_from (i + 1) a (first_of (i + 2) (suc k)) ≡ choose b k
     skip a b ea =
         let ne : i + 2 ≡ i + 1 → ⊥ = omega arith in
         let two : i + 1 + 1 ≡ i + 2 = omega arith in
-        rw (ea, ne_eqb (i + 2) (i + 1) ne, two, rank-first_of (i + 2) b (suc k), length-first_of (i + 2 + 1) k) (add-zero (choose b k))
+        rw (ea, ne_eqb (i + 2) (i + 1) ne, two, rank-first_of (i + 2) b (suc k), length-first_of (i + 2 + 1) k)
+        (add-zero (choose b k))
 
 pub same_low : (mask i k next j : ℕ) → IsMoved mask i k next → j < i → bit_at next j ≡ bit_at mask j
 same_low mask i k next j m l =
     rw (m.sum, bit_at_cat_low (2 ^ k - 1) (i + 1) (mask % 2 ^ i) j (omega arith), ← low_bits mask i)
     (bit_at_and mask (2 ^ i - 1) j ∙ rw (bit_at_ones i j l) (let b = bit_at-lt mask j in omega arith))
 
-step_rank : (a b i n : ℕ) → i < n → bit_at a i ≡ bit_at b i → length (from_place a (i + 1) n) ≡ length (from_place b (i + 1) n) → rank_from_place (i + 1) n (from_place b (i + 1) n) ≡ rank_from_place (i + 1) n (from_place a (i + 1) n) + 1 → (length (from_place a i n) ≡ length (from_place b i n)) × (rank_from_place i n (from_place b i n) ≡ rank_from_place i n (from_place a i n) + 1)
+step_rank : (a b i n : ℕ) → i < n → bit_at a i ≡ bit_at b i
+    → length (from_place a (i + 1) n) ≡ length (from_place b (i + 1) n)
+    → rank_from_place (i + 1) n (from_place b (i + 1) n) ≡ rank_from_place (i + 1) n (from_place a (i + 1) n) + 1
+    → (length (from_place a i n) ≡ length (from_place b i n))
+    × (rank_from_place i n (from_place b i n) ≡ rank_from_place i n (from_place a i n) + 1)
 step_rank a b i n l same len rank = elim (cases_eq (bit_at a i) 1) [
   | inl o ↦
       let ta = shr_and_one a i ∙ o in
@@ -115,12 +134,17 @@ step_rank a b i n l same len rank = elim (cases_eq (bit_at a i) 1) [
       )
 ]
 
-pub from_low : (a b i n : ℕ) → i ≤ n → ((j : ℕ) → j < i → bit_at a j ≡ bit_at b j) → length (from_place a i n) ≡ length (from_place b i n) → rank_from_place i n (from_place b i n) ≡ rank_from_place i n (from_place a i n) + 1 → (length (members a 1 n) ≡ length (members b 1 n)) × (rank_from 1 n (members b 1 n) ≡ rank_from 1 n (members a 1 n) + 1)
+pub from_low : (a b i n : ℕ) → i ≤ n → ((j : ℕ) → j < i → bit_at a j ≡ bit_at b j)
+    → length (from_place a i n) ≡ length (from_place b i n)
+    → rank_from_place i n (from_place b i n) ≡ rank_from_place i n (from_place a i n) + 1
+    → (length (members a 1 n) ≡ length (members b 1 n))
+    × (rank_from 1 n (members b 1 n) ≡ rank_from 1 n (members a 1 n) + 1)
 from_low a b zero n l same len rank =
     let z : n - 0 ≡ n = omega arith in
     let one : 0 + 1 ≡ 1 = omega arith in (
       sym (ap length (from_start a n)) ∙ len ∙ ap length (from_start b n),
-      ap (rank_from 1 n) (sym (from_start b n)) ∙ at_start (from_place b 0 n) ∙ rank ∙ ap (λ x. x + 1) (sym (at_start (from_place a 0 n)) ∙ ap (rank_from 1 n) (from_start a n)),
+      ap (rank_from 1 n) (sym (from_start b n)) ∙ at_start (from_place b 0 n) ∙ rank
+          ∙ ap (λ x. x + 1) (sym (at_start (from_place a 0 n)) ∙ ap (rank_from 1 n) (from_start a n)),
     )
   where
     at_start : (xs : List ℕ) → rank_from 1 n xs ≡ rank_from_place 0 n xs
@@ -128,7 +152,8 @@ from_low a b zero n l same len rank =
 from_low a b (suc i) n l same len rank =
     let e : suc i ≡ i + 1 = omega arith in
     let len' : length (from_place a (i + 1) n) ≡ length (from_place b (i + 1) n) = rw e at len in
-    let rank' : rank_from_place (i + 1) n (from_place b (i + 1) n) ≡ rank_from_place (i + 1) n (from_place a (i + 1) n) + 1 = rw e at rank in
+    let rank' : rank_from_place (i + 1) n (from_place b (i + 1) n) ≡ rank_from_place (i + 1) n (from_place a (i + 1) n)
+    + 1 = rw e at rank in
     let s = step_rank a b i n (omega arith) (same i (omega arith)) len' rank' in
     from_low a b i n (omega arith) (λ j lt. same j (omega arith)) s.0 s.1
 
@@ -141,7 +166,11 @@ pub record IsNext (mask n next : ℕ) : Type 0 where
 recount : (mask i k j next : ℕ) → k ≡ j → IsMoved mask i k next → IsMoved mask i j next
 recount mask i k j next e m = record { sum = m.sum ∙ ap (λ x. (2 ^ x - 1) * 2 ^ (i + 1) + mask % 2 ^ i) e }
 
-pub next_made : (mask n k t : ℕ) → n < 32 → k < n → bit_and (mask / 2 ^ (n - 1 - k)) 1 ≡ 1 → t < k → t ≡ length (from_place mask (n - k) n) → IsLast mask (n - k) n → IsNext mask n (bit_or (bit_and mask (1 * 2 ^ (n - 1 - k) % 4294967296 - 1)) ((1 * 2 ^ (t + 1) % 4294967296 - 1) * 2 ^ (n - 1 - k + 1) % 4294967296))
+pub next_made : (mask n k t : ℕ) → n < 32 → k < n → bit_and (mask / 2 ^ (n - 1 - k)) 1 ≡ 1 → t < k
+    → t ≡ length (from_place mask (n - k) n) → IsLast mask (n - k) n
+    → IsNext mask n
+    (bit_or (bit_and mask (1 * 2 ^ (n - 1 - k) % 4294967296 - 1))
+    ((1 * 2 ^ (t + 1) % 4294967296 - 1) * 2 ^ (n - 1 - k + 1) % 4294967296))
 next_made mask n k t h lk test lt et last =
     let here : n - k ≡ n - 1 - k + 1 = omega arith in
     let st : t + 1 ≡ suc t = omega arith in
@@ -152,11 +181,15 @@ next_made mask n k t h lk test lt et last =
     let m' = recount mask (n - 1 - k) (t + 1) (suc t) _ st m in
     let r = moved_rank mask (n - 1 - k) t n _ m' (omega arith) test et' last' in
     let lens : length (from_place mask (n - 1 - k) n) ≡ length (from_place _ (n - 1 - k) n) =
-    ap length (member_here mask (n - 1 - k) n (omega arith) test) ∙ ap suc (sym et') ∙ sym (ap length (moved_members mask (n - 1 - k) (suc t) n _ m' (omega arith)) ∙ length-first_of (n - 1 - k + 2) (suc t)) in
-    let all = from_low mask _ (n - 1 - k) n (omega arith) (λ j l. sym (same_low mask (n - 1 - k) (suc t) _ j m' l)) lens r in
+    ap length (member_here mask (n - 1 - k) n (omega arith) test) ∙ ap suc (sym et')
+    ∙ sym (ap length (moved_members mask (n - 1 - k) (suc t) n _ m' (omega arith))
+    ∙ length-first_of (n - 1 - k + 2) (suc t)) in
+    let all = from_low mask _ (n - 1 - k) n (omega arith) (λ j l. sym (same_low mask (n - 1 - k) (suc t) _ j m' l)) lens
+    r in
     record { below = moved_below mask (n - 1 - k) (t + 1) n _ m room; size = all.0; rank = all.1 }
 
-pub not_last : (mask n next : ℕ) → IsNext mask n next → rank_from 1 n (members mask 1 n) + 1 ≡ choose n (length (members mask 1 n)) → ⊥
+pub not_last : (mask n next : ℕ) → IsNext mask n next
+    → rank_from 1 n (members mask 1 n) + 1 ≡ choose n (length (members mask 1 n)) → ⊥
 not_last mask n next h e =
     let l = rank_from-lt 1 n (members next 1 n) (members-subset next 1 n) in
     let c = ap (choose n) h.size in

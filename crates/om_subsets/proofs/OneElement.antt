@@ -1,7 +1,8 @@
 -- Increasing lists with one element more, and with one less.
 --
--- Main results: a list without an element increases (subset_without), and is the same where it hadn't the element (without_other); an element below
--- a list is put at its front (with_below); an element left out and put back (with_without).
+-- Main results: a list without an element increases (subset_without), and is the same where it hadn't the element
+-- (without_other); an element below a list is put at its front (with_below); an element left out and put back
+-- (with_without).
 use Rattle.std.specs.Prelude.{ℕ, ◌≡◌, ◌≢◌, ◌+◌, ◌<◌, ◌≤◌, List, [], ◌∷◌, refl}
 use Rattle.std.proofs.Common.{zero, suc, ap, ◌∙◌, ⊎_elim, inl, inr, arith}
 use Rattle.std.proofs.lemmas.Bool.{cases_eq, eq-eqb, ne_eqb, lt-ltb, le-ltb}
@@ -28,7 +29,8 @@ subset_without low (suc m) e (x ∷ xs) (inl (q, h)) = elim (cases_eq e x) [
   | inl p ↦ rw (eq-eqb e x p) (later_list low m (without_element e xs) (subset_without (low + 1) m e xs h))
   | inr n ↦ rw (ne_eqb e x n) (inl (q, subset_without (low + 1) m e xs h))
 ]
-subset_without low (suc m) e (x ∷ xs) (inr (g, h)) = later_list low m (without_element e (x ∷ xs)) (subset_without (low + 1) m e (x ∷ xs) h)
+subset_without low (suc m) e (x ∷ xs) (inr (g, h)) =
+    later_list low m (without_element e (x ∷ xs)) (subset_without (low + 1) m e (x ∷ xs) h)
 
 -- a number below all of a list is put at its front
 pub with_below : (low m e : ℕ) (xs : List ℕ) → IsSubsetFrom low m xs → e < low → with_element e xs ≡ e ∷ xs
@@ -39,7 +41,8 @@ with_below low m e (x ∷ xs) h l =
     let lt : e < x = omega arith in
     rw (ne_eqb e x ne, lt-ltb e x lt) refl
 
-pub with_without : (low m e : ℕ) (xs : List ℕ) → IsSubsetFrom low m xs → IsMember e xs → with_element e (without_element e xs) ≡ xs
+pub with_without : (low m e : ℕ) (xs : List ℕ) → IsSubsetFrom low m xs → IsMember e xs
+    → with_element e (without_element e xs) ≡ xs
 with_without low m e [] h k = absurd k
 with_without low zero e (x ∷ xs) h k = absurd h
 with_without low (suc m) e (x ∷ xs) (inr (q, h)) k = with_without (low + 1) m e (x ∷ xs) h k

@@ -1,7 +1,8 @@
 -- The order of the increasing lists.
 --
 -- Main results: each list stands at its place and at no other (`get_or-rank_from`, `listed`), the places follow the
--- lexicographic order (`lexicographic`), the recursion describes the increasing lists (`increasing`, `from_increasing`).
+-- lexicographic order (`lexicographic`), the recursion describes the increasing lists (`increasing`,
+-- `from_increasing`).
 use Rattle.std.specs.Prelude.{ℕ, ◌≡◌, ◌≢◌, ◌+◌, ◌-◌, ◌<◌, ◌≤◌, List, [], ◌∷◌, length, map, refl, ◌↔◌}
 use Rattle.std.proofs.Common.{zero, suc, get_or, arith, sym, ◌∙◌, ap, inl, inr}
 use Rattle.std.proofs.lemmas.List.{length-append, length-map, get_or_append_left, get_or-append-add, get_or-map}
@@ -15,33 +16,42 @@ length-subsets_from low (suc m) zero = refl
 length-subsets_from low zero (suc r) = refl
 length-subsets_from low (suc m) (suc r) =
     length-append (map (λ s. low ∷ s) (subsets_from (low + 1) m r)) (subsets_from (low + 1) m (suc r))
-    ∙ rw (length-map (subsets_from (low + 1) m r) (λ s. low ∷ s), length-subsets_from (low + 1) m r, length-subsets_from (low + 1) m (suc r)) refl
+    ∙ rw (
+      length-map (subsets_from (low + 1) m r) (λ s. low ∷ s),
+      length-subsets_from (low + 1) m r,
+      length-subsets_from (low + 1) m (suc r),
+    ) refl
 
 pub rank_from-lt : (low m : ℕ) (xs : List ℕ) → IsSubsetFrom low m xs → rank_from low m xs < choose m (length xs)
 rank_from-lt low zero [] h = omega arith
 rank_from-lt low zero (x ∷ xs) h = absurd h
 rank_from-lt low (suc m) [] h = omega arith
-rank_from-lt low (suc m) (x ∷ xs) (inl (e, h)) = rw (eq-eqb x low e) (let i = rank_from-lt (low + 1) m xs h in omega arith)
-rank_from-lt low (suc m) (x ∷ xs) (inr (n, h)) = rw (ne_eqb x low n) (let i = rank_from-lt (low + 1) m (x ∷ xs) h in omega arith)
+rank_from-lt low (suc m) (x ∷ xs) (inl (e, h)) =
+    rw (eq-eqb x low e) (let i = rank_from-lt (low + 1) m xs h in omega arith)
+rank_from-lt low (suc m) (x ∷ xs) (inr (n, h)) =
+    rw (ne_eqb x low n) (let i = rank_from-lt (low + 1) m (x ∷ xs) h in omega arith)
 
 -- the first half of the lists begin with low, and the others do not
 length-front : (low m r : ℕ) → length (map (λ s. low ∷ s) (subsets_from (low + 1) m r)) ≡ choose m r
 length-front low m r = length-map (subsets_from (low + 1) m r) (λ s. low ∷ s) ∙ length-subsets_from (low + 1) m r
 
-pub at_front : (low m r k : ℕ) → k < choose m r → get_or (subsets_from low (suc m) (suc r)) k [] ≡ low ∷ get_or (subsets_from (low + 1) m r) k []
+pub at_front : (low m r k : ℕ) → k < choose m r → get_or (subsets_from low (suc m) (suc r)) k [] ≡ low
+    ∷ get_or (subsets_from (low + 1) m r) k []
 at_front low m r k l =
     let few : k < length (subsets_from (low + 1) m r) = rw (length-subsets_from (low + 1) m r) l in
     let front : k < length (map (λ s. low ∷ s) (subsets_from (low + 1) m r)) = rw (length-front low m r) l in
     get_or_append_left (map (λ s. low ∷ s) (subsets_from (low + 1) m r)) (subsets_from (low + 1) m (suc r)) [] k front
     ∙ get_or-map (λ s. low ∷ s) (subsets_from (low + 1) m r) k [] [] few
 
-pub at_back : (low m r k : ℕ) → get_or (subsets_from low (suc m) (suc r)) (choose m r + k) [] ≡ get_or (subsets_from (low + 1) m (suc r)) k []
+pub at_back : (low m r k : ℕ) → get_or (subsets_from low (suc m) (suc r)) (choose m r + k) []
+    ≡ get_or (subsets_from (low + 1) m (suc r)) k []
 at_back low m r k =
     rw (← length-front low m r)
     (get_or-append-add (map (λ s. low ∷ s) (subsets_from (low + 1) m r)) (subsets_from (low + 1) m (suc r)) k [])
 
 -- at the place of a list stands the list
-pub get_or-rank_from : (low m : ℕ) (xs : List ℕ) → IsSubsetFrom low m xs → get_or (subsets_from low m (length xs)) (rank_from low m xs) [] ≡ xs
+pub get_or-rank_from : (low m : ℕ) (xs : List ℕ) → IsSubsetFrom low m xs
+    → get_or (subsets_from low m (length xs)) (rank_from low m xs) [] ≡ xs
 get_or-rank_from low zero [] h = refl
 get_or-rank_from low zero (x ∷ xs) h = absurd h
 get_or-rank_from low (suc m) [] h = refl
@@ -50,10 +60,12 @@ get_or-rank_from low (suc m) (x ∷ xs) (inl (e, h)) =
     (at_front low m (length xs) (rank_from (low + 1) m xs) (rank_from-lt (low + 1) m xs h)
     ∙ rw (get_or-rank_from (low + 1) m xs h, e) refl)
 get_or-rank_from low (suc m) (x ∷ xs) (inr (n, h)) =
-    rw (ne_eqb x low n) (at_back low m (length xs) (rank_from (low + 1) m (x ∷ xs)) ∙ get_or-rank_from (low + 1) m (x ∷ xs) h)
+    rw (ne_eqb x low n) (at_back low m (length xs) (rank_from (low + 1) m (x ∷ xs))
+    ∙ get_or-rank_from (low + 1) m (x ∷ xs) h)
 
 -- two lists of one size at one place are the same
-pub same_place : (n : ℕ) (xs ys : List ℕ) → IsSubsetFrom 1 n xs → IsSubsetFrom 1 n ys → length xs ≡ length ys → rank_of n xs ≡ rank_of n ys → xs ≡ ys
+pub same_place : (n : ℕ) (xs ys : List ℕ) → IsSubsetFrom 1 n xs → IsSubsetFrom 1 n ys → length xs ≡ length ys
+    → rank_of n xs ≡ rank_of n ys → xs ≡ ys
 same_place n xs ys hx hy l r = sym (get_or-rank_from 1 n xs hx) ∙ rw (l, r) (get_or-rank_from 1 n ys hy)
 
 pub same_triple : (n : ℕ) (t u : List ℕ) → IsTriple n t → IsTriple n u → rank_of n t ≡ rank_of n u → t ≡ u
@@ -78,7 +90,8 @@ listed_front low m r k xs h = record {
   place = rw (eq-eqb low low refl) h.place;
 }
 
-listed_back : (low m r k : ℕ) (xs : List ℕ) → IsListed (low + 1) m (suc r) k xs → IsListed low (suc m) (suc r) (choose m r + k) xs
+listed_back : (low m r k : ℕ) (xs : List ℕ) → IsListed (low + 1) m (suc r) k xs
+    → IsListed low (suc m) (suc r) (choose m r + k) xs
 listed_back low m r k [] h = let s = h.size in absurd (omega arith)
 listed_back low m r k (x ∷ xs) h =
     let above = head_low (low + 1) m x xs h.lawful in
@@ -107,7 +120,8 @@ listed low (suc m) (suc r) k l = elim (cases_lt k (choose m r)) [
 
 -- ---- the lexicographic order
 
-pub lexicographic : (low m : ℕ) (xs ys : List ℕ) → IsSubsetFrom low m xs → IsSubsetFrom low m ys → length xs ≡ length ys → IsBefore xs ys ↔ (rank_from low m xs < rank_from low m ys)
+pub lexicographic : (low m : ℕ) (xs ys : List ℕ) → IsSubsetFrom low m xs → IsSubsetFrom low m ys → length xs ≡ length ys
+    → IsBefore xs ys ↔ (rank_from low m xs < rank_from low m ys)
 lexicographic low m [] [] hx hy l = (λ b. absurd b, λ b. absurd (omega arith))
 lexicographic low m [] (y ∷ ys) hx hy l = absurd (omega arith)
 lexicographic low m (x ∷ xs) [] hx hy l = absurd (omega arith)
@@ -148,8 +162,10 @@ pub members_from : (low m e : ℕ) (xs : List ℕ) → IsSubsetFrom low m xs →
 members_from low m e [] h q = absurd q
 members_from low zero e (x ∷ xs) h q = absurd h
 members_from low (suc m) e (x ∷ xs) (inl (p, h)) (inl q) = (omega arith, omega arith)
-members_from low (suc m) e (x ∷ xs) (inl (p, h)) (inr q) = let i = members_from (low + 1) m e xs h q in (omega arith, omega arith)
-members_from low (suc m) e (x ∷ xs) (inr (n, h)) q = let i = members_from (low + 1) m e (x ∷ xs) h q in (omega arith, omega arith)
+members_from low (suc m) e (x ∷ xs) (inl (p, h)) (inr q) = let i = members_from (low + 1) m e xs h q in
+    (omega arith, omega arith)
+members_from low (suc m) e (x ∷ xs) (inr (n, h)) q = let i = members_from (low + 1) m e (x ∷ xs) h q in
+    (omega arith, omega arith)
 
 cons_increasing : (x : ℕ) (xs : List ℕ) → ((e : ℕ) → IsMember e xs → x < e) → IsIncreasing xs → IsIncreasing (x ∷ xs)
 cons_increasing x [] below h = tt
@@ -171,12 +187,23 @@ head_below x e [] h q = absurd q
 head_below x e (y ∷ ys) h (inl q) = let l = h.0 in omega arith
 head_below x e (y ∷ ys) h (inr q) = let l = h.0 in let i = head_below y e ys h.1 q in omega arith
 
-pub from_increasing : (low m : ℕ) (xs : List ℕ) → IsIncreasing xs → ((e : ℕ) → IsMember e xs → (low ≤ e) × (e < low + m)) → IsSubsetFrom low m xs
+pub from_increasing : (low m : ℕ) (xs : List ℕ) → IsIncreasing xs
+    → ((e : ℕ) → IsMember e xs → (low ≤ e) × (e < low + m)) → IsSubsetFrom low m xs
 from_increasing low m [] h w = tt
 from_increasing low zero (x ∷ xs) h w = let b = w x (inl refl) in omega arith
 from_increasing low (suc m) (x ∷ xs) h w = elim (cases_eq x low) [
-  | inl e ↦ inl (e, from_increasing (low + 1) m xs (tail_increasing x xs h) (λ f q. let above = head_below x f xs h q in let b = w f (inr q) in (omega arith, omega arith)))
-  | inr n ↦ inr (n, from_increasing (low + 1) m (x ∷ xs) h (λ f q. let b = w f q in let start = (w x (inl refl)).0 in let above = later f q in (omega arith, omega arith)))
+  | inl e ↦
+      inl (
+        e,
+        from_increasing (low + 1) m xs (tail_increasing x xs h)
+            (λ f q. let above = head_below x f xs h q in let b = w f (inr q) in (omega arith, omega arith)),
+      )
+  | inr n ↦
+      inr (
+        n,
+        from_increasing (low + 1) m (x ∷ xs) h
+            (λ f q. let b = w f q in let start = (w x (inl refl)).0 in let above = later f q in (omega arith, omega arith)),
+      )
 ]
   where
     later : (f : ℕ) → IsMember f (x ∷ xs) → x ≤ f

@@ -1,9 +1,12 @@
 -- How loops over the bits of a mask go through its members.
 --
--- Main definitions: from_place, rank_from_place, the members from a place on and their place among the sets of their size
--- Main results: members-zero, members-ones, first_mask and first_members, of the mask of the first elements; ones-members; from_start;
--- member_here, none_here, rank_member, rank_skipped, rank_none, a turn of the loop; length-members, length-first_of, rank-first_of
-use Rattle.std.proofs.Common.{ℕ, ◌≡◌, ◌≢◌, ◌+◌, ◌-◌, ◌*◌, ◌/◌, ◌%◌, ◌<◌, ◌≤◌, ◌^◌, List, [], ◌∷◌, length, zero, suc, refl, sym, ◌∙◌, ap, arith, false, inl, inr, pow-suc, bit_and, add-one}
+-- Main definitions: from_place, rank_from_place, the members from a place on and their place among the sets of their
+-- size
+-- Main results: members-zero, members-ones, first_mask and first_members, of the mask of the first elements;
+-- ones-members; from_start; member_here, none_here, rank_member, rank_skipped, rank_none, a turn of the loop;
+-- length-members, length-first_of, rank-first_of
+use Rattle.std.proofs.Common.{ℕ, ◌≡◌, ◌≢◌, ◌+◌, ◌-◌, ◌*◌, ◌/◌, ◌%◌, ◌<◌, ◌≤◌, ◌^◌, List, [], ◌∷◌, length, zero, suc}
+use Rattle.std.proofs.Common.{refl, sym, ◌∙◌, ap, arith, false, inl, inr, pow-suc, bit_and, add-one}
 use Rattle.std.proofs.Math.Pow.{pow_pos, pow_mono}
 use Rattle.std.proofs.Math.Nat.{div-div-eq-div-mul, div-one}
 use Rattle.std.proofs.lemmas.Bool.{cases_eq, eq-eqb, ne_eqb}
@@ -75,7 +78,8 @@ halved mask i =
     div-div-eq-div-mul mask (2 ^ i) 2 ∙ ap (λ k. mask / k) e
 
 -- what one turn sees: a member, or none here
-pub member_here : (mask i n : ℕ) → i < n → bit_and (mask / 2 ^ i) 1 ≡ 1 → from_place mask i n ≡ (i + 1) ∷ from_place mask (i + 1) n
+pub member_here : (mask i n : ℕ) → i < n → bit_and (mask / 2 ^ i) 1 ≡ 1
+    → from_place mask i n ≡ (i + 1) ∷ from_place mask (i + 1) n
 member_here mask i n l t =
     let o : mask / 2 ^ i % 2 ≡ 1 = sym (shr_and_one mask i) ∙ t in
     let s : n - i ≡ suc (n - (i + 1)) = omega arith in
@@ -90,16 +94,19 @@ none_here mask i n l t =
 abbrev pub rank_from_place : ℕ → ℕ → List ℕ → ℕ
 rank_from_place i n xs = rank_from (i + 1) (n - i) xs
 
-pub rank_member : (mask i n : ℕ) → i < n → bit_and (mask / 2 ^ i) 1 ≡ 1 → rank_from_place i n (from_place mask i n) ≡ rank_from_place (i + 1) n (from_place mask (i + 1) n)
+pub rank_member : (mask i n : ℕ) → i < n → bit_and (mask / 2 ^ i) 1 ≡ 1
+    → rank_from_place i n (from_place mask i n) ≡ rank_from_place (i + 1) n (from_place mask (i + 1) n)
 rank_member mask i n l t = rw (member_here mask i n l t) (at_suc (n - (i + 1)) (n - i) (omega arith))
   where
-    at_suc : (m k : ℕ) → k ≡ suc m → rank_from (i + 1) k ((i + 1) ∷ from_place mask (i + 1) n) ≡ rank_from (i + 1 + 1) m (from_place mask (i + 1) n)
+    at_suc : (m k : ℕ) → k ≡ suc m → rank_from (i + 1) k ((i + 1) ∷ from_place mask (i + 1) n)
+        ≡ rank_from (i + 1 + 1) m (from_place mask (i + 1) n)
     at_suc m k e = rw (e, eq-eqb (i + 1) (i + 1) refl) refl
 
 begins_not : (mask i n : ℕ) → begins_with (i + 1) (from_place mask (i + 1) n) ≡ false
 begins_not mask i n = begins_later (mask / 2 ^ (i + 1)) (i + 1) 1 (n - (i + 1)) (omega arith)
 
-skip_place : (i n : ℕ) (xs : List ℕ) → i < n → begins_with (i + 1) xs ≡ false → 0 < length xs → rank_from_place i n xs ≡ choose (n - 1 - i) (length xs - 1) + rank_from_place (i + 1) n xs
+skip_place : (i n : ℕ) (xs : List ℕ) → i < n → begins_with (i + 1) xs ≡ false → 0 < length xs
+    → rank_from_place i n xs ≡ choose (n - 1 - i) (length xs - 1) + rank_from_place (i + 1) n xs
 skip_place i n [] l b some = absurd (omega arith)
 skip_place i n (x ∷ xs) l b some =
     let s : n - i ≡ suc (n - (i + 1)) = omega arith in
@@ -107,8 +114,11 @@ skip_place i n (x ∷ xs) l b some =
     let k : suc (length xs) - 1 ≡ length xs = omega arith in
     rw (s, b, e, k) refl
 
-pub rank_skipped : (mask i n : ℕ) → i < n → bit_and (mask / 2 ^ i) 1 ≢ 1 → 0 < length (from_place mask (i + 1) n) → rank_from_place i n (from_place mask i n) ≡ choose (n - 1 - i) (length (from_place mask (i + 1) n) - 1) + rank_from_place (i + 1) n (from_place mask (i + 1) n)
-rank_skipped mask i n l t some = rw (none_here mask i n l t) (skip_place i n (from_place mask (i + 1) n) l (begins_not mask i n) some)
+pub rank_skipped : (mask i n : ℕ) → i < n → bit_and (mask / 2 ^ i) 1 ≢ 1 → 0 < length (from_place mask (i + 1) n)
+    → rank_from_place i n (from_place mask i n) ≡ choose (n - 1 - i) (length (from_place mask (i + 1) n) - 1)
+    + rank_from_place (i + 1) n (from_place mask (i + 1) n)
+rank_skipped mask i n l t some =
+    rw (none_here mask i n l t) (skip_place i n (from_place mask (i + 1) n) l (begins_not mask i n) some)
 
 pub rank_none : (i n : ℕ) (xs : List ℕ) → length xs ≡ 0 → rank_from_place i n xs ≡ 0
 rank_none i n [] e = refl

@@ -1,9 +1,10 @@
 -- What the masks of two sets say of the sets.
 --
--- Main results: the first is part of the second (part_from_masks, masks_from_part), they are apart (apart_from_masks, masks_from_apart), and the
--- members of a set with the common bits (common_members).
+-- Main results: the first is part of the second (part_from_masks, masks_from_part), they are apart (apart_from_masks,
+-- masks_from_apart), and the members of a set with the common bits (common_members).
 use Rattle.std.specs.Int.{bit_at}
-use Rattle.std.proofs.Common.{ℕ, ◌≡◌, ◌+◌, ◌-◌, ◌<◌, ◌≤◌, ◌↔◌, List, min, bit_and, refl, sym, ap, subst, ◌∙◌, inl, inr, arith}
+use Rattle.std.proofs.Common.{ℕ, ◌≡◌, ◌+◌, ◌-◌, ◌<◌, ◌≤◌, ◌↔◌, List, min, bit_and, refl, sym, ap, subst, ◌∙◌, inl, inr}
+use Rattle.std.proofs.Common.{arith}
 use Rattle.std.proofs.lemmas.Bool.{cases_lt, cases_eq}
 use Rattle.std.proofs.lemmas.Nat.Bits.{bit_at-zero, bit_at-lt, bit_at_and, bit_at_above, same_from_bits}
 use Rattle.om_signs.specs.SignVec.{IsMaskOf}
@@ -11,19 +12,22 @@ use Rattle.om_subsets.specs.Subsets.{IsSubsetFrom, IsMember, IsPartOf, AreApart}
 use Rattle.om_subsets.proofs.Order.{members_from}
 
 -- the bit of a member, and the member of a bit
-bit_of_member : (n : ℕ) (s : List ℕ) (p : ℕ) → IsMaskOf n (λ i. IsMember (i + 1) s) p → IsSubsetFrom 1 n s → (e : ℕ) → IsMember e s → bit_at p (e - 1) ≡ 1
+bit_of_member : (n : ℕ) (s : List ℕ) (p : ℕ) → IsMaskOf n (λ i. IsMember (i + 1) s) p → IsSubsetFrom 1 n s → (e : ℕ)
+    → IsMember e s → bit_at p (e - 1) ≡ 1
 bit_of_member n s p mask list e k =
     let bound = members_from 1 n e s list k in
     let back : e ≡ e - 1 + 1 = omega arith in
     (mask.holds (e - 1) (omega arith)).1 (subst (λ i. IsMember i s) back k)
 
-member_of_bit : (n : ℕ) (s : List ℕ) (p : ℕ) → IsMaskOf n (λ i. IsMember (i + 1) s) p → (e : ℕ) → 1 ≤ e → e ≤ n → bit_at p (e - 1) ≡ 1 → IsMember e s
+member_of_bit : (n : ℕ) (s : List ℕ) (p : ℕ) → IsMaskOf n (λ i. IsMember (i + 1) s) p → (e : ℕ) → 1 ≤ e → e ≤ n
+    → bit_at p (e - 1) ≡ 1 → IsMember e s
 member_of_bit n s p mask e low high one =
     let back : e - 1 + 1 ≡ e = omega arith in
     subst (λ i. IsMember i s) back ((mask.holds (e - 1) (omega arith)).0 one)
 
 one_or_zero : (p i : ℕ) → (bit_at p i ≡ 1 → ⊥) → bit_at p i ≡ 0
-one_or_zero p i h = elim (cases_eq (bit_at p i) 1) [ inl one ↦ absurd (h one) | inr none ↦ let l = bit_at-lt p i in omega arith ]
+one_or_zero p i h =
+    elim (cases_eq (bit_at p i) 1) [ inl one ↦ absurd (h one) | inr none ↦ let l = bit_at-lt p i in omega arith ]
 
 -- a bit of both
 both_bits : (p q i : ℕ) → bit_at (bit_and p q) i ≡ 1 → (bit_at p i ≡ 1) × (bit_at q i ≡ 1)
@@ -36,12 +40,14 @@ both_bits p q i one =
 common_bit : (p q i : ℕ) → bit_at p i ≡ 1 → bit_at q i ≡ 1 → bit_at (bit_and p q) i ≡ 1
 common_bit p q i a b = bit_at_and p q i ∙ rw (a, b) refl
 
-module _ (n : ℕ) (s b : List ℕ) (p q : ℕ) (first : IsMaskOf n (λ i. IsMember (i + 1) s) p) (second : IsMaskOf n (λ i. IsMember (i + 1) b) q) (list : IsSubsetFrom 1 n s) where
+module _ (n : ℕ) (s b : List ℕ) (p q : ℕ) (first : IsMaskOf n (λ i. IsMember (i + 1) s) p)
+    (second : IsMaskOf n (λ i. IsMember (i + 1) b) q) (list : IsSubsetFrom 1 n s) where
   pub part_from_masks : bit_and p q ≡ p → IsPartOf s b
   part_from_masks same e k =
       let bound = members_from 1 n e s list k in
       let one = bit_of_member n s p first list e k in
-      member_of_bit n b q second e (omega arith) (omega arith) (both_bits p q (e - 1) (ap (λ m. bit_at m (e - 1)) same ∙ one)).1
+      member_of_bit n b q second e (omega arith) (omega arith)
+      (both_bits p q (e - 1) (ap (λ m. bit_at m (e - 1)) same ∙ one)).1
 
   -- a bit of the first mask is that of an element
   low_bit : (i : ℕ) → bit_at p i ≡ 1 → i < n
@@ -70,13 +76,17 @@ module _ (n : ℕ) (s b : List ℕ) (p q : ℕ) (first : IsMaskOf n (λ i. IsMem
       let lt = low_bit i bits.0 in
       apart (i + 1) ((first.holds i lt).0 bits.0) ((second.holds i lt).0 bits.1)) ∙ sym (bit_at-zero i))
 
-  pub common_members : (t : List ℕ) → IsSubsetFrom 1 n b → IsSubsetFrom 1 n t → IsMaskOf n (λ i. IsMember (i + 1) t) (bit_and p q) → (e : ℕ) → IsMember e t ↔ (IsMember e s × IsMember e b)
+  pub common_members : (t : List ℕ) → IsSubsetFrom 1 n b → IsSubsetFrom 1 n t
+      → IsMaskOf n (λ i. IsMember (i + 1) t) (bit_and p q) → (e : ℕ) → IsMember e t ↔ (IsMember e s × IsMember e b)
   common_members t other lawful both e = (
     λ k.
         let bound = members_from 1 n e t lawful k in
-        let bits = both_bits p q (e - 1) (bit_of_member n t (bit_and p q) both lawful e k) in
-        (member_of_bit n s p first e (omega arith) (omega arith) bits.0, member_of_bit n b q second e (omega arith) (omega arith) bits.1),
+        let bits = both_bits p q (e - 1) (bit_of_member n t (bit_and p q) both lawful e k) in (
+          member_of_bit n s p first e (omega arith) (omega arith) bits.0,
+          member_of_bit n b q second e (omega arith) (omega arith) bits.1,
+        ),
     λ k.
         let bound = members_from 1 n e s list k.0 in
-        member_of_bit n t (bit_and p q) both e (omega arith) (omega arith) (common_bit p q (e - 1) (bit_of_member n s p first list e k.0) (bit_of_member n b q second other e k.1)),
+        member_of_bit n t (bit_and p q) both e (omega arith) (omega arith)
+        (common_bit p q (e - 1) (bit_of_member n s p first list e k.0) (bit_of_member n b q second other e k.1)),
   )

@@ -14,7 +14,9 @@ subset_is_increasing n xs = (
 )
 
 -- the list at the next place comes next
-pub next_place : (n : ℕ) (xs ys : List ℕ) → IsSubsetFrom 1 n xs → IsSubsetFrom 1 n ys → length xs ≡ length ys → rank_of n ys ≡ rank_of n xs + 1 → IsBefore xs ys × ((zs : List ℕ) → IsSubsetFrom 1 n zs → length zs ≡ length xs → IsBefore xs zs → IsBefore zs ys → ⊥)
+pub next_place : (n : ℕ) (xs ys : List ℕ) → IsSubsetFrom 1 n xs → IsSubsetFrom 1 n ys → length xs ≡ length ys
+    → rank_of n ys ≡ rank_of n xs + 1 → IsBefore xs ys
+    × ((zs : List ℕ) → IsSubsetFrom 1 n zs → length zs ≡ length xs → IsBefore xs zs → IsBefore zs ys → ⊥)
 next_place n xs ys hx hy l r = (
   (lexicographic 1 n xs ys hx hy l).1 (omega arith),
   λ zs hz lz b c.
@@ -37,11 +39,13 @@ members_with e f (x ∷ xs) = elim (cases_eq e x) [
     here q (inl p) = inl (p ∙ q)
     here q (inr p) = p
 
-    out : IsMember f (with_element e xs) ↔ ((f ≡ e) ⊎ IsMember f xs) → (f ≡ x) ⊎ IsMember f (with_element e xs) → (f ≡ e) ⊎ IsMember f (x ∷ xs)
+    out : IsMember f (with_element e xs) ↔ ((f ≡ e) ⊎ IsMember f xs) → (f ≡ x) ⊎ IsMember f (with_element e xs)
+        → (f ≡ e) ⊎ IsMember f (x ∷ xs)
     out i (inl p) = inr (inl p)
     out i (inr p) = elim (i.0 p) [ inl q ↦ inl q | inr q ↦ inr (inr q) ]
 
-    into : IsMember f (with_element e xs) ↔ ((f ≡ e) ⊎ IsMember f xs) → (f ≡ e) ⊎ IsMember f (x ∷ xs) → (f ≡ x) ⊎ IsMember f (with_element e xs)
+    into : IsMember f (with_element e xs) ↔ ((f ≡ e) ⊎ IsMember f xs) → (f ≡ e) ⊎ IsMember f (x ∷ xs) → (f ≡ x)
+        ⊎ IsMember f (with_element e xs)
     into i (inl p) = inr (i.1 (inl p))
     into i (inr (inl p)) = inl p
     into i (inr (inr p)) = inr (i.1 (inr p))
@@ -53,17 +57,20 @@ members_without e f (x ∷ xs) = elim (cases_eq e x) [
   | inr n ↦ rw (ne_eqb e x n) (kept n (members_without e f xs), λ h. keep (members_without e f xs) h.0 h.1)
 ]
   where
-    skipped : IsMember f (without_element e xs) ↔ ((f ≢ e) × IsMember f xs) → IsMember f (without_element e xs) → (f ≢ e) × IsMember f (x ∷ xs)
+    skipped : IsMember f (without_element e xs) ↔ ((f ≢ e) × IsMember f xs) → IsMember f (without_element e xs)
+        → (f ≢ e) × IsMember f (x ∷ xs)
     skipped i h = ((i.0 h).0, inr (i.0 h).1)
 
     rest : e ≡ x → f ≢ e → IsMember f (x ∷ xs) → IsMember f xs
     rest q ne (inl p) = absurd (ne (p ∙ sym q))
     rest q ne (inr p) = p
 
-    kept : e ≢ x → IsMember f (without_element e xs) ↔ ((f ≢ e) × IsMember f xs) → (f ≡ x) ⊎ IsMember f (without_element e xs) → (f ≢ e) × IsMember f (x ∷ xs)
+    kept : e ≢ x → IsMember f (without_element e xs) ↔ ((f ≢ e) × IsMember f xs) → (f ≡ x)
+        ⊎ IsMember f (without_element e xs) → (f ≢ e) × IsMember f (x ∷ xs)
     kept n i (inl p) = (λ r. n (sym r ∙ p), inl p)
     kept n i (inr p) = ((i.0 p).0, inr (i.0 p).1)
 
-    keep : IsMember f (without_element e xs) ↔ ((f ≢ e) × IsMember f xs) → f ≢ e → IsMember f (x ∷ xs) → (f ≡ x) ⊎ IsMember f (without_element e xs)
+    keep : IsMember f (without_element e xs) ↔ ((f ≢ e) × IsMember f xs) → f ≢ e → IsMember f (x ∷ xs) → (f ≡ x)
+        ⊎ IsMember f (without_element e xs)
     keep i ne (inl p) = inl p
     keep i ne (inr p) = inr (i.1 (ne, p))

@@ -14,15 +14,20 @@ pub record IsAt (n r k : ℕ) (a : Chosen) : Type 0 where
   pub list : IsSubsetFrom 1 n a.elements
   pub place : k < choose n r → rank_of n a.elements ≡ k
 
-pub at_first : (n r : ℕ) (a : Chosen) → a.n ≡ n → length a.elements ≡ r → IsSubsetFrom 1 n a.elements → rank_of n a.elements ≡ 0 → IsAt n r 0 a
+pub at_first : (n r : ℕ) (a : Chosen) → a.n ≡ n → length a.elements ≡ r → IsSubsetFrom 1 n a.elements
+    → rank_of n a.elements ≡ 0 → IsAt n r 0 a
 at_first n r a an size list place = record { n_is = an; size = size; list = list; place = λ l. place }
 
 -- the same, where n and r are what two calls gave
-pub at_first_of : (n r m s : ℕ) (a : Chosen) → m ≡ n → s ≡ r → a.n ≡ m → length a.elements ≡ s → IsSubsetFrom 1 m a.elements → rank_of m a.elements ≡ 0 → IsAt n r 0 a
-at_first_of n r m s a mn sr an size list place = subst (λ i. IsAt i r 0 a) mn (subst (λ i. IsAt m i 0 a) sr (at_first m s a an size list place))
+pub at_first_of : (n r m s : ℕ) (a : Chosen) → m ≡ n → s ≡ r → a.n ≡ m → length a.elements ≡ s
+    → IsSubsetFrom 1 m a.elements → rank_of m a.elements ≡ 0 → IsAt n r 0 a
+at_first_of n r m s a mn sr an size list place =
+    subst (λ i. IsAt i r 0 a) mn (subst (λ i. IsAt m i 0 a) sr (at_first m s a an size list place))
 
-pub at_next : (n r k : ℕ) (a b : Chosen) → b.n ≡ a.n → length b.elements ≡ length a.elements → IsSubsetFrom 1 b.n b.elements
-    → (rank_of a.n a.elements + 1 < choose a.n (length a.elements) → rank_of b.n b.elements ≡ rank_of a.n a.elements + 1) → k < choose n r → IsAt n r k a → IsAt n r (k + 1) b
+pub at_next : (n r k : ℕ) (a b : Chosen) → b.n ≡ a.n → length b.elements ≡ length a.elements
+    → IsSubsetFrom 1 b.n b.elements
+    → (rank_of a.n a.elements + 1 < choose a.n (length a.elements)
+    → rank_of b.n b.elements ≡ rank_of a.n a.elements + 1) → k < choose n r → IsAt n r k a → IsAt n r (k + 1) b
 at_next n r k a b bn size list next l w = record {
   n_is = bn ∙ w.n_is;
   size = size ∙ w.size;
@@ -44,4 +49,5 @@ at_next n r k a b bn size list next l w = record {
         sym (ap (λ i. rank_of i b.elements) (bn ∙ w.n_is)) ∙ q ∙ ap (λ i. i + 1) h
 
 pub list_at : (n r k : ℕ) (a : Chosen) → k < choose n r → IsAt n r k a → a.elements ≡ subset_at n r k
-list_at n r k a l w = sym (get_or-rank_from 1 n a.elements w.list) ∙ ap (λ i. subset_at n i (rank_of n a.elements)) w.size ∙ ap (subset_at n r) (w.place l)
+list_at n r k a l w = sym (get_or-rank_from 1 n a.elements w.list)
+    ∙ ap (λ i. subset_at n i (rank_of n a.elements)) w.size ∙ ap (subset_at n r) (w.place l)

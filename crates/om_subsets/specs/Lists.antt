@@ -1,5 +1,5 @@
--- What an increasing list is, and what the lexicographic order is, in plain words: the laws of the crate say that the
--- definitions by recursion over the elements come to the same.
+-- Increasing lists and the lexicographic order in plain words. The laws of the crate say that the recursive
+-- definitions mean the same.
 use Rattle.std.specs.Prelude.{ℕ, ◌≡◌, ◌<◌, ◌≤◌, List, [], ◌∷◌, ◌⊎◌}
 use Rattle.om_subsets.specs.Subsets.{IsMember}
 

@@ -11,7 +11,7 @@ pub record Chosen : Type 0 where
   pub n : ℕ
   pub elements : List ℕ
 
--- the numbers from e on whose bits of the mask are set, the lowest bit being that of e
+-- the numbers from e on whose bits of the mask are set; the lowest bit is that of e
 abbrev pub members : ℕ → ℕ → ℕ → List ℕ
 members mask e zero = []
 members mask e (suc m) = cond (nat_eq (mask % 2) 1) (e ∷ members (mask / 2) (e + 1) m) (members (mask / 2) (e + 1) m)
@@ -26,7 +26,7 @@ abbrev pub tail : List ℕ → List ℕ
 tail [] = []
 tail (x ∷ xs) = xs
 
--- the mask of m bits that has these members
+-- the mask of m bits that has these numbers from e on
 abbrev pub mask_of : ℕ → List ℕ → ℕ → ℕ
 mask_of e xs zero = 0
 mask_of e xs (suc m) = cond (begins_with e xs) (1 + 2 * mask_of (e + 1) (tail xs) m) (2 * mask_of (e + 1) xs m)
@@ -36,7 +36,7 @@ pub record IsSound (mask n : ℕ) : Type 0 where
   pub within : mask < 2 ^ n
   pub few : n ≤ MAX_PLACES
 
--- ---- what the model of a subset and the clauses on its members rest on
+-- ---- for the model of a subset and the clauses on its members
 
 pub begins_later : (mask e d m : ℕ) → 1 ≤ d → begins_with e (members mask (e + d) m) ≡ false
 begins_later mask e d zero l = refl
@@ -52,7 +52,8 @@ pub mask_of-members : (mask e m : ℕ) → mask < 2 ^ m → mask_of e (members m
 mask_of-members mask e zero l = omega arith
 mask_of-members mask e (suc m) l =
     let p : 2 ^ suc m ≡ 2 * 2 ^ m = double m in
-    let i : mask_of (e + 1) (members (mask / 2) (e + 1) m) m ≡ mask / 2 = mask_of-members (mask / 2) (e + 1) m (omega arith) in
+    let i : mask_of (e + 1) (members (mask / 2) (e + 1) m) m ≡ mask / 2 =
+    mask_of-members (mask / 2) (e + 1) m (omega arith) in
     elim (cases_eq (mask % 2) 1) [
       | inl o ↦ rw (eq-eqb (mask % 2) 1 o) (rw (eq-eqb e e refl) (rw i (omega arith)))
       | inr z ↦ rw (ne_eqb (mask % 2) 1 z) (rw (begins_later (mask / 2) e 1 m (omega arith)) (rw i (omega arith)))
@@ -61,7 +62,8 @@ mask_of-members mask e (suc m) l =
     double : (m : ℕ) → 2 ^ suc m ≡ 2 * 2 ^ m
     double m = let p = pow-suc 2 m in omega arith
 
-pub subset_later : (e m : ℕ) (xs : List ℕ) → begins_with e xs ≡ false → IsSubsetFrom (e + 1) m xs → IsSubsetFrom e (suc m) xs
+pub subset_later : (e m : ℕ) (xs : List ℕ) → begins_with e xs ≡ false → IsSubsetFrom (e + 1) m xs
+    → IsSubsetFrom e (suc m) xs
 subset_later e m [] b h = tt
 subset_later e m (x ∷ xs) b h = inr (eqb-false x e b, h)
 
@@ -69,5 +71,7 @@ pub members-subset : (mask e m : ℕ) → IsSubsetFrom e m (members mask e m)
 members-subset mask e zero = tt
 members-subset mask e (suc m) = elim (cases_eq (mask % 2) 1) [
   | inl o ↦ rw (eq-eqb (mask % 2) 1 o) (inl (refl, members-subset (mask / 2) (e + 1) m))
-  | inr z ↦ rw (ne_eqb (mask % 2) 1 z) (subset_later e m _ (begins_later (mask / 2) e 1 m (omega arith)) (members-subset (mask / 2) (e + 1) m))
+  | inr z ↦
+      rw (ne_eqb (mask % 2) 1 z)
+      (subset_later e m _ (begins_later (mask / 2) e 1 m (omega arith)) (members-subset (mask / 2) (e + 1) m))
 ]

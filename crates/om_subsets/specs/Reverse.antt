@@ -20,16 +20,17 @@ revlex_subsets n zero = [] ∷ []
 revlex_subsets zero (suc r) = []
 revlex_subsets (suc n) (suc r) = revlex_subsets n (suc r) ++ map (λ s. s ++ suc n ∷ []) (revlex_subsets n r)
 
--- the list at place k of those, counted from 0
+-- the list at place k of these, counted from 0
 abbrev pub revlex_subset_at : ℕ → ℕ → ℕ → List ℕ
 revlex_subset_at n r k = get_or (revlex_subsets n r) k []
 
--- how many lists come before an increasing list by what they have at its places from i on, counted from 1: those that go on
--- alike after a place, and have a smaller number at it, and so are some of the numbers below x up to it
+-- How many lists come before an increasing list because of its numbers at the places from i on, counted from 1. For
+-- each number x at a place i these are the lists that agree after it and have a smaller number at it: their first i
+-- numbers are below x.
 abbrev pub revlex_rank_from : ℕ → List ℕ → ℕ
 revlex_rank_from i [] = 0
 revlex_rank_from i (x ∷ xs) = choose (x - 1) i + revlex_rank_from (i + 1) xs
 
--- the place of an increasing list among those of its size, in this order, counted from 0
+-- the place of an increasing list, counted from 0, among those of its size in this order
 abbrev pub revlex_rank_of : List ℕ → ℕ
 revlex_rank_of xs = revlex_rank_from 1 xs

@@ -1,12 +1,12 @@
 use om_signs::MAX_PLACES;
 
-/// The most subsets of one size that a set of [`MAX_PLACES`] elements has.
+/// The greatest number of subsets of one size that a set of [`MAX_PLACES`] elements has.
 pub const MOST_SUBSETS: u32 = 352_716;
 
-/// The rows and columns of the table: 0 to [`MAX_PLACES`].
+/// The number of rows and of columns of the table: one for each of 0 to [`MAX_PLACES`].
 const SIDE: usize = MAX_PLACES as usize + 1;
 
-/// The binomial coefficients: row n has at place r how many ways there are to take r of n.
+/// The binomial coefficients: place r of row n has the number of ways to choose r of n elements.
 pub static BINOMIALS: [[u32; SIDE]; SIDE] = [
     [
         1, 0, 0, 0, 0, 0, 0, 0, 0, 0, 0, 0, 0, 0, 0, 0, 0, 0, 0, 0, 0, 0,

@@ -1,4 +1,4 @@
-//! Subsets of the elements 1 to n, as increasing lists in lexicographic order.
+//! Subsets of the elements 1 to n, as increasing lists in lexicographic or reverse lexicographic order.
 #![tactic(auto)]
 
 mod binomials;

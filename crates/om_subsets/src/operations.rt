@@ -1,13 +1,14 @@
-//! What two sets have in common, and sets that are made of others.
+//! How two sets meet, and sets made from others.
 
 ghost use Rattle.std.specs.Prelude.{◌≡◌, ◌↔◌, ◌≤◌, ◌<◌, ◌+◌, ℕ, [], ◌∷◌, length, map, cond, nat_lt, IsTrue};
-ghost use Rattle.om_subsets.specs.Subsets.{choose, rank_of, IsSubsetFrom, IsMember, IsPartOf, AreApart, with_element, without_element};
+ghost use Rattle.om_subsets.specs.Subsets.{choose, rank_of, IsSubsetFrom, IsMember, IsPartOf, AreApart, with_element};
+ghost use Rattle.om_subsets.specs.Subsets.{without_element};
 
 use super::subset::Subset;
 use om_signs::MAX_PLACES;
 
 impl Subset {
-    /// The set of three of the elements 1 to n, in any order. n is at most [`MAX_PLACES`].
+    /// The set of the elements x, y and z of 1 to n, in any order. `n` is at most [`MAX_PLACES`].
     pub fn triple(x: u8, y: u8, z: u8, n: u8) -> Subset
         requires small { n ≤ MAX_PLACES }
         requires x_low { 1 ≤ x }
@@ -40,7 +41,7 @@ impl Subset {
         last
     }
 
-    /// The three elements of a set of three, in increasing order.
+    /// The three elements of a set of size 3, in increasing order.
     pub fn three_elements(self) -> (u8, u8, u8)
         requires { length self.elements ≡ 3 }
         ensures elements { self.elements ≡ result.0 ∷ result.1 ∷ result.2 ∷ [] }
@@ -57,7 +58,7 @@ impl Subset {
         (a, b, c)
     }
 
-    /// Whether each element of this set is one of the other. Both have the same n.
+    /// Whether each element of this set is an element of the other. Both sets have the same n.
     pub fn is_part_of(self, other: Subset) -> bool
         requires { other.n ≡ self.n }
         ensures { IsTrue result ↔ IsPartOf self.elements other.elements }
@@ -67,7 +68,7 @@ impl Subset {
         mask & other.mask() == mask
     }
 
-    /// Whether no element stands in both sets. Both have the same n.
+    /// Whether no element is in both sets. Both sets have the same n.
     pub fn is_apart_from(self, other: Subset) -> bool
         requires { other.n ≡ self.n }
         ensures { IsTrue result ↔ AreApart self.elements other.elements }
@@ -77,11 +78,12 @@ impl Subset {
         self.mask() & other.mask() == 0
     }
 
-    /// The elements that stand in both sets. Both have the same n.
+    /// The elements that are in both sets. Both sets have the same n.
     pub fn intersection(self, other: Subset) -> Subset
         requires { other.n ≡ self.n }
         ensures n { result.n ≡ self.n }
-        ensures members { (e : ℕ) → IsMember e result.elements ↔ (IsMember e self.elements × IsMember e other.elements) }
+        ensures members { (e : ℕ) → IsMember e result.elements
+            ↔ (IsMember e self.elements × IsMember e other.elements) }
         ensures lawful { IsSubsetFrom 1 result.n result.elements }
     {
         self.is_lawful();
@@ -93,7 +95,8 @@ impl Subset {
     /// The elements of 1 to n that aren't in the set.
     pub fn complement(self) -> Subset
         ensures n { result.n ≡ self.n }
-        ensures members { (e : ℕ) → IsMember e result.elements ↔ ((1 ≤ e) × (e ≤ self.n) × (IsMember e self.elements → ⊥)) }
+        ensures members { (e : ℕ) → IsMember e result.elements
+            ↔ ((1 ≤ e) × (e ≤ self.n) × (IsMember e self.elements → ⊥)) }
         ensures size { length result.elements + length self.elements ≡ self.n }
         ensures lawful { IsSubsetFrom 1 result.n result.elements }
     {
@@ -101,8 +104,8 @@ impl Subset {
         Subset::from_mask((1u32 << self.n()) - 1 - self.mask(), self.n())
     }
 
-    /// The set with its elements from e on moved up by one, so that it avoids e: a set of some of the elements 1 to n + 1. e is from 1
-    /// to n + 1, and n is below [`MAX_PLACES`].
+    /// The set with its elements from e on moved up by one, so that it avoids e. It is taken from the elements 1 to
+    /// n + 1. `e` is from 1 to n + 1, and n is below [`MAX_PLACES`].
     pub fn skipping(self, e: u8) -> Subset
         requires low { 1 ≤ e }
         requires high { e ≤ self.n + 1 }
@@ -118,7 +121,7 @@ impl Subset {
         Subset::from_mask(before | behind, self.n() + 1)
     }
 
-    /// The set as one of some of the elements before n. n is no element of it, and isn't 0.
+    /// The same set, taken from the elements 1 to n - 1. n is at least 1, and isn't an element of the set.
     pub fn before_last(self) -> Subset
         requires some { 1 ≤ self.n }
         requires off { IsMember self.n self.elements → ⊥ }
@@ -130,12 +133,13 @@ impl Subset {
         Subset::from_mask(self.mask(), self.n() - 1)
     }
 
-    /// The next set of this size in lexicographic order, or this one where it is the last: the step of a walk over all sets of a
-    /// size.
+    /// The next set of this size in lexicographic order, or this set if it is the last. It is the step of a walk
+    /// over all sets of a size.
     pub fn following(self) -> Subset
         ensures n { result.n ≡ self.n }
         ensures size { length result.elements ≡ length self.elements }
-        ensures place { rank_of self.n self.elements + 1 < choose self.n (length self.elements) → rank_of result.n result.elements ≡ rank_of self.n self.elements + 1 }
+        ensures place { rank_of self.n self.elements + 1 < choose self.n (length self.elements)
+            → rank_of result.n result.elements ≡ rank_of self.n self.elements + 1 }
         ensures last { rank_of self.n self.elements + 1 ≡ choose self.n (length self.elements) → result ≡ self }
         ensures lawful { IsSubsetFrom 1 result.n result.elements }
     {

@@ -1,6 +1,7 @@
 ghost use Rattle.std.specs.Prelude.{◌≡◌, ℕ, ◌+◌, ◌-◌, ◌<◌, ◌≤◌, ◌^◌, ◌↔◌, length, IsNone, IfSome, IsTrue, ◌%◌};
 ghost use Rattle.om_signs.specs.SignVec.{IsMaskOf};
-ghost use Rattle.om_subsets.specs.Subsets.{choose, rank_of, subset_at, first_of, IsSubsetFrom, IsMember, with_element, without_element, count_above};
+ghost use Rattle.om_subsets.specs.Subsets.{choose, rank_of, subset_at, first_of, IsSubsetFrom, IsMember, with_element};
+ghost use Rattle.om_subsets.specs.Subsets.{without_element, count_above};
 ghost use Rattle.om_subsets.specs.Members.{members, mask_of};
 ghost use Rattle.om_subsets.specs.Reverse.{revlex_rank_of, revlex_subset_at};
 
@@ -8,7 +9,7 @@ use super::binomials::{BINOMIALS, MOST_SUBSETS};
 use om_signs::MAX_PLACES;
 use std::marker::Model;
 
-/// A set of some of the elements 1 to n, for an n of at most [`MAX_PLACES`]. Contracts see it as n together with the
+/// A set of some of the elements 1 to n, with n at most [`MAX_PLACES`]. Contracts see it as n together with the
 /// increasing list of its elements.
 ///
 /// Subsets of one size are ordered lexicographically by these lists, and numbered from 0 on in this order.
@@ -34,7 +35,7 @@ impl Model for Subset {
 }
 
 impl Subset {
-    /// How many ways there are to take r of n: 0 where r is above n. n is at most [`MAX_PLACES`].
+    /// The number of ways to choose r of n elements; 0 if r is above n. `n` is at most [`MAX_PLACES`].
     pub fn choose(n: u8, r: u8) -> u32
         requires { n ≤ MAX_PLACES }
         ensures value { result ≡ choose n r }
@@ -46,8 +47,8 @@ impl Subset {
         BINOMIALS[n as usize][r as usize]
     }
 
-    /// The subset of 1 to n whose elements a mask names: bit e - 1 stands for e. n is at most [`MAX_PLACES`], and the
-    /// mask has no bit for a number above n.
+    /// The subset of 1 to n that a mask stands for: bit e - 1 stands for element e. `n` is at most [`MAX_PLACES`],
+    /// and the mask has no bit for a number above n.
     pub fn from_mask(mask: u32, n: u8) -> Subset
         requires small { n ≤ MAX_PLACES }
         requires within { mask < 2 ^ n }
@@ -59,7 +60,7 @@ impl Subset {
         Subset { mask, n }
     }
 
-    /// The mask of the elements: bit e - 1 stands for e.
+    /// The mask of the elements: bit e - 1 stands for element e.
     pub fn mask(self) -> u32
         ensures value { result ≡ mask_of 1 self.elements self.n }
         ensures bits { IsMaskOf self.n (λ i. IsMember (i + 1) self.elements) result }
@@ -67,7 +68,7 @@ impl Subset {
         self.mask
     }
 
-    /// The n of the elements 1 to n that the set is taken from.
+    /// The number n, if the set is taken from the elements 1 to n.
     pub fn n(self) -> u8
         ensures value { result ≡ self.n }
         ensures small { result ≤ MAX_PLACES }
@@ -75,8 +76,8 @@ impl Subset {
         self.n
     }
 
-    /// The elements stand in increasing order and are from 1 to n, and n is at most [`MAX_PLACES`]. It does nothing: its contract is
-    /// the fact.
+    /// The elements are in increasing order and from 1 to n, and n is at most [`MAX_PLACES`]. The call does
+    /// nothing: its contract is this fact.
     pub fn is_lawful(self)
         ensures lawful { IsSubsetFrom 1 self.n self.elements }
         ensures small { self.n ≤ MAX_PLACES }
@@ -84,7 +85,7 @@ impl Subset {
         let _mask = self.mask;
     }
 
-    /// How many elements the set has.
+    /// The number of elements of the set.
     pub fn size(self) -> u8
         ensures value { result ≡ length self.elements }
         ensures lawful { IsSubsetFrom 1 self.n self.elements }
@@ -94,8 +95,8 @@ impl Subset {
         self.mask.count_ones() as u8
     }
 
-    /// The lexicographically first subset of r of the elements 1 to n: it has 1 to r. r is at most n, and n is at most
-    /// [`MAX_PLACES`].
+    /// The lexicographically first subset of r of the elements 1 to n, which is 1 to r. `r` is at most n, and `n`
+    /// is at most [`MAX_PLACES`].
     pub fn first(r: u8, n: u8) -> Subset
         requires part { r ≤ n }
         requires small { n ≤ MAX_PLACES }
@@ -111,7 +112,7 @@ impl Subset {
         }
     }
 
-    /// The next subset of this size in lexicographic order, or None where this is the last one.
+    /// The next subset of this size in lexicographic order, or None if this is the last one.
     pub fn next(self) -> Option<Subset>
         ensures none { IsNone result ↔ (rank_of self.n self.elements + 1 ≡ choose self.n (length self.elements)) }
         ensures n { IfSome result (λ t. t.n ≡ self.n) }
@@ -137,7 +138,7 @@ impl Subset {
         None
     }
 
-    /// The place of this subset in the lexicographic order of those of its size, from 0 on.
+    /// The place of this subset, counted from 0, in the lexicographic order of those of its size.
     pub fn rank(self) -> u32
         ensures value { result ≡ rank_of self.n self.elements }
         ensures small { result < choose self.n (length self.elements) }
@@ -148,7 +149,7 @@ impl Subset {
         let mut rest = self.mask;
         let mut rank = Subset::choose(self.n, left) - 1;
         while rest != 0 {
-            // the sets that have the elements so far and go on with greater ones in place of this one come later
+            // the sets that share the elements so far, and then have a greater element than this one, come later
             let element = rest.trailing_zeros() as u8 + 1;
             rank -= Subset::choose(self.n - element, left);
             left -= 1;
@@ -157,8 +158,8 @@ impl Subset {
         rank
     }
 
-    /// The subset at place k, from 0 on, in the lexicographic order of those of r of the elements 1 to n. r is at most
-    /// n, n is at most [`MAX_PLACES`], and k is below `choose(n, r)`.
+    /// The subset at place k, counted from 0, in the lexicographic order of the subsets of r of the elements 1 to
+    /// n. `r` is at most n, `n` is at most [`MAX_PLACES`], and `k` is below `choose(n, r)`.
     pub fn unrank(k: u32, r: u8, n: u8) -> Subset
         requires part { r ≤ n }
         requires small { n ≤ MAX_PLACES }
@@ -186,8 +187,8 @@ impl Subset {
         Subset { mask, n }
     }
 
-    /// The place of this subset in the reverse lexicographic order of those of its size, from 0 on: of two lists that one
-    /// comes first that has the smaller element at the last place in which they differ.
+    /// The place of this subset, counted from 0, in the reverse lexicographic order of those of its size. The list
+    /// with the smaller element at the last place in which two lists differ comes first.
     pub fn rank_revlex(self) -> u32
         ensures value { result ≡ revlex_rank_of self.elements }
         ensures small { result < choose self.n (length self.elements) }
@@ -198,7 +199,7 @@ impl Subset {
         let mut place = 0u8;
         let mut rank = 0u32;
         while rest != 0 {
-            // the sets that go on alike after this place, and have a smaller element at it, come before
+            // the sets that agree after this place, and have a smaller element at it, come before
             let below = rest.trailing_zeros() as u8;
             place += 1;
             rank += Subset::choose(below, place);
@@ -207,8 +208,8 @@ impl Subset {
         rank
     }
 
-    /// The subset at place k, from 0 on, in the reverse lexicographic order of those of r of the elements 1 to n. r is at
-    /// most n, n is at most [`MAX_PLACES`], and k is below `choose(n, r)`.
+    /// The subset at place k, counted from 0, in the reverse lexicographic order of the subsets of r of the
+    /// elements 1 to n. `r` is at most n, `n` is at most [`MAX_PLACES`], and `k` is below `choose(n, r)`.
     pub fn unrank_revlex(k: u32, r: u8, n: u8) -> Subset
         requires part { r ≤ n }
         requires small { n ≤ MAX_PLACES }
@@ -223,7 +224,7 @@ impl Subset {
         let mut rest = k;
         let mut mask = 0u32;
         for j in 0..n {
-            // the sets without the greatest of the elements that are left come before those with it
+            // the sets without the greatest remaining element come before those with it
             let i = n - 1 - j;
             let without = Subset::choose(i, left);
             if without <= rest {
@@ -235,7 +236,7 @@ impl Subset {
         Subset { mask, n }
     }
 
-    /// Whether e is an element of the set. e is from 1 to n.
+    /// Whether e is an element of the set. `e` is from 1 to n.
     pub fn has(self, e: u8) -> bool
         requires low { 1 ≤ e }
         requires high { e ≤ self.n }
@@ -244,7 +245,7 @@ impl Subset {
         self.mask >> (e - 1) & 1 == 1
     }
 
-    /// The set with e, which may be there already. e is from 1 to n.
+    /// The set with e, which may be an element already. `e` is from 1 to n.
     pub fn with(self, e: u8) -> Subset
         requires low { 1 ≤ e }
         requires high { e ≤ self.n }
@@ -258,7 +259,7 @@ impl Subset {
         }
     }
 
-    /// The set without e, which need not be there. e is from 1 to n.
+    /// The set without e, which need not be an element. `e` is from 1 to n.
     pub fn without(self, e: u8) -> Subset
         requires low { 1 ≤ e }
         requires high { e ≤ self.n }
@@ -272,7 +273,7 @@ impl Subset {
         }
     }
 
-    /// Whether the number of elements greater than e is odd. e is from 1 to n.
+    /// Whether the number of elements greater than e is odd. `e` is from 1 to n.
     pub fn odd_after(self, e: u8) -> bool
         requires low { 1 ≤ e }
         requires high { e ≤ self.n }

@@ -1,4 +1,4 @@
-//! The type of this crate crosses threads.
+//! The type of this crate can cross threads.
 
 use super::subset::Subset;
 

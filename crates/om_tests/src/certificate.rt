@@ -1,5 +1,5 @@
-//! What no claim shows: evidence on another rank than 3, a weight whose elements are out of order, and the evidence of each kind of
-//! verdict. Evidence that is valid, and each other refusal of it, are rows of `check`.
+//! What no claim can show: evidence on a rank other than 3, a weight whose elements are out of order, and the
+//! evidence of each kind of verdict. Valid evidence, and each other reason to refuse it, are rows of `check`.
 
 ghost use Rattle.om_certificate.specs.Validity.{IsWithinLimits};
 
@@ -11,10 +11,10 @@ use om_signs::List;
 use om_vectors::Unfound;
 use std::alloc::Global;
 
-/// Three unit vectors and a fourth, with which they have the signs `++++`.
+/// Three unit vectors and a fourth, such that the signs are `++++`.
 const FOUR: [[i64; 3]; 4] = [[1, 0, 0], [0, 1, 0], [0, 0, 1], [1, -1, 1]];
 
-/// Whether there is a chirotope, and evidence is refused on it for this reason.
+/// Whether there is a chirotope for which evidence is refused for this reason.
 fn is_refused(chi: Result<Chirotope, SampleError>, evidence: Evidence, why: CertRefused) -> bool
     requires { IsWithinLimits evidence }
 {
@@ -24,7 +24,7 @@ fn is_refused(chi: Result<Chirotope, SampleError>, evidence: Evidence, why: Cert
     }
 }
 
-/// The weight 1 of the elements 1, 3 and 2, in this order. For want of memory there are no weights.
+/// The weight 1 of the elements 1, 3 and 2, in this order. If memory runs out there are no weights.
 fn unordered(alloc: Global) -> Evidence
     ensures { IsWithinLimits result }
 {
@@ -60,7 +60,7 @@ fn refusals(rt: HostRuntime) {
     assert!(rt; found == [true; 2]);
 }
 
-/// The kind of some evidence: 1 for vectors, 2 for entries, 3 for weights, and 4 for a verdict that came back.
+/// The kind of some evidence: 1 for vectors, 2 for entries, 3 for weights, and 4 for a verdict handed back.
 fn kind(evidence: &Result<Evidence, Verdict>) -> u8 {
     match evidence {
         Ok(Evidence::Vectors(_)) => 1,

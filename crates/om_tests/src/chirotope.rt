@@ -9,8 +9,8 @@ use om_subsets::Subset;
 use std::alloc::Global;
 use std::thread::Threads;
 
-/// Whether there is a chirotope, and it has the signs and vectors worked out by hand: those of 13, of (3, 1) and of (2, 2), and
-/// those of 123 and of 3.
+/// Whether there is a chirotope with the signs and vectors computed by hand: those of 13, of (3, 1) and of (2, 2),
+/// and those of 123 and of 3.
 fn has_values(chi: Result<Chirotope, SampleError>) -> bool
     requires rank { IfOk chi (λ c. c.rank ≡ 2) }
     requires elements { IfOk chi (λ c. c.elements ≡ 3) }
@@ -33,7 +33,8 @@ fn has_values(chi: Result<Chirotope, SampleError>) -> bool
     }
 }
 
-/// Whether there is a chirotope of rank 2 with three elements, and the normal one of its negative has the signs of a text.
+/// Whether there is a chirotope of rank 2 with three elements, and its negative, normalized, has the signs of a
+/// text.
 fn has_normal<E: Drop>(found: Result<Chirotope, E>, text: &str) -> bool {
     match found {
         Ok(chi) => is_map(&chi.negate().normal().into_raw(), 2, 3, text),
@@ -41,8 +42,8 @@ fn has_normal<E: Drop>(found: Result<Chirotope, E>, text: &str) -> bool {
     }
 }
 
-/// Whether there is a chirotope of rank 2 with three elements, and its negative has the signs of a text, and the normal one of the
-/// negative of its copy those of another.
+/// Whether there is a chirotope of rank 2 with three elements, its negative has the signs of a text, and the
+/// negative of its copy, normalized, those of another.
 fn has_negative(found: Result<Chirotope, SampleError>, text: &str, normal: &str) -> bool {
     match found {
         Ok(chi) => {
@@ -53,8 +54,8 @@ fn has_negative(found: Result<Chirotope, SampleError>, text: &str, normal: &str)
     }
 }
 
-// the signs of 12, 13 and 23 are plus, minus and plus; the negative begins with minus, so that the normal one of it has the first
-// signs again
+// the signs of 12, 13 and 23 are plus, minus and plus; the negative begins with minus, so normalizing it gives the
+// first signs again
 #[test]
 fn values_and_negatives(rt: HostRuntime) {
     let alloc = rt.alloc();
@@ -65,7 +66,7 @@ fn values_and_negatives(rt: HostRuntime) {
     assert!(rt; found == [true; 2]);
 }
 
-/// Whether the check of a map says this.
+/// Whether the check of a map returns this.
 fn is_answer(found: Result<Chirotope, BadMap>, expected: Result<(), MapRefused>) -> bool {
     match &found {
         Ok(_) => expected.is_ok(),
@@ -73,7 +74,7 @@ fn is_answer(found: Result<Chirotope, BadMap>, expected: Result<(), MapRefused>)
     }
 }
 
-/// Whether the text writes a map, and the check says this of it.
+/// Whether the text spells a map, and the check of it returns this.
 fn is_checked<R: Threads + Sync>(
     rt: &R,
     alloc: Global,
@@ -92,7 +93,7 @@ fn is_checked<R: Threads + Sync>(
     }
 }
 
-// the bases of the last are 123 and 456, so the first set is 1234, and 56 the last of the sets of two
+// the bases of the last are 123 and 456, so the first set is 1234, and 56 is the last of the sets of two
 #[test]
 fn checks(rt: HostRuntime) {
     let alloc = rt.alloc();
@@ -108,7 +109,7 @@ fn checks(rt: HostRuntime) {
     assert!(rt; found == [true; 3]);
 }
 
-/// Whether the text writes a map, and its bases have exchange or haven't.
+/// Whether the text spells a map, and its bases have the exchange property or not.
 fn is_exchange(alloc: Global, rank: u8, elements: u8, text: &str, expected: bool) -> bool
     requires low { 1 ≤ elements }
     requires high { elements ≤ MAX_ELEMENTS }
@@ -120,8 +121,8 @@ fn is_exchange(alloc: Global, rank: u8, elements: u8, text: &str, expected: bool
     }
 }
 
-// no element of 456 takes the place of one of 123; then each set of three is a basis, though the signs are those of no chirotope;
-// and then there is no basis
+// no element of 456 can replace one of 123; then each set of three is a basis, though the signs are those of no
+// chirotope; and then there is no basis
 #[test]
 fn exchanges(rt: HostRuntime) {
     let alloc = rt.alloc();

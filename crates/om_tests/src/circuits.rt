@@ -1,11 +1,11 @@
-//! Lists that meet the axioms of circuits, and one list for each axiom that breaks it.
+//! Lists that satisfy the axioms of circuits, and one list that violates each axiom.
 
 use om_circuits::{BadSet, SetRefused, SignedSet, check};
 use om_samples::{are_vectors, vectors_of};
 use std::alloc::Global;
 use std::thread::Threads;
 
-/// Whether a set of so many elements was accepted, with the vectors of a text; or refused for a reason.
+/// Whether a set of this many elements was accepted, with the vectors of a text, or refused for a reason.
 fn is_answer(
     found: Result<SignedSet, BadSet>,
     refused: Option<SetRefused>,
@@ -25,7 +25,8 @@ fn is_answer(
     }
 }
 
-/// Whether some texts write a list, and the check accepts it with the vectors of a text, or refuses it for a reason.
+/// Whether some texts spell a list, and the check accepts it with the vectors of a text, or refuses it for a
+/// reason.
 fn is_checked<R: Threads + Sync>(
     rt: &R,
     alloc: Global,
@@ -43,8 +44,8 @@ fn is_checked<R: Threads + Sync>(
 /// The circuits of two parallel elements, a coloop and a loop.
 const FOUR: [&str; 4] = ["+-00", "-+00", "000+", "000-"];
 
-// a list that meets the axioms; the zero vector second; no negative; nested supports; and of `0+-` and `+-0` the element 2 is to be
-// eliminated, and no vector is zero there
+// a list that satisfies the axioms; the zero vector second; no negative; nested supports; and no vector that
+// eliminates 2 from `0+-` and `+-0`
 #[test]
 fn answers(rt: HostRuntime) {
     let alloc = rt.alloc();

@@ -24,13 +24,13 @@ const COCIRCUITS: &str = "++00 --00 00+0 00-0";
 
 const COVECTORS: &str = "0000 ++00 --00 00+0 00-0 +++0 ++-0 --+0 ---0";
 
-/// The words of [`CIRCUITS`].
+/// The text of [`CIRCUITS`].
 const CIRCUIT_LIST: [&str; 4] = ["+-00", "-+00", "000+", "000-"];
 
-/// The words of [`COCIRCUITS`].
+/// The text of [`COCIRCUITS`].
 const COCIRCUIT_LIST: [&str; 4] = ["++00", "--00", "00+0", "00-0"];
 
-/// The words of [`COVECTORS`].
+/// The text of [`COVECTORS`].
 const COVECTOR_LIST: [&str; 9] = [
     "0000", "++00", "--00", "00+0", "00-0", "+++0", "++-0", "--+0", "---0",
 ];
@@ -60,7 +60,7 @@ fn of_circuits(alloc: Global, found: Result<Circuits, SampleError>) -> bool {
     }
 }
 
-/// The same of cocircuits, with their circuits.
+/// Whether there are cocircuits of rank 2, and their chirotope, circuits and covectors are those written above.
 fn of_cocircuits(alloc: Global, found: Result<Cocircuits, SampleError>) -> bool {
     match &found {
         Ok(cocircuits) => [
@@ -73,7 +73,7 @@ fn of_cocircuits(alloc: Global, found: Result<Cocircuits, SampleError>) -> bool 
     }
 }
 
-/// The same of covectors, with their circuits and cocircuits.
+/// Whether there are covectors of rank 2, and their chirotope, circuits and cocircuits are those written above.
 fn of_covectors(alloc: Global, found: Result<Covectors, SampleError>) -> bool {
     match &found {
         Ok(covectors) => [
@@ -113,7 +113,7 @@ fn errors_are_printed(rt: HostRuntime) {
     assert!(rt; is_printed(made, "more than 5 members"));
 }
 
-/// Whether a list was refused since the negative of its first member is missing.
+/// Whether a list was refused because the negative of its first member is missing.
 fn lacks_a_negative<T: Drop>(found: Result<T, ReadSetError>) -> bool {
     match &found {
         Err(ReadSetError::Bad(bad)) => bad.why == SetRefused::NoNegative { i: 1 },
@@ -121,7 +121,7 @@ fn lacks_a_negative<T: Drop>(found: Result<T, ReadSetError>) -> bool {
     }
 }
 
-/// Whether a list was refused since the zero vector is missing.
+/// Whether a list was refused because the zero vector is missing.
 fn lacks_zero<T: Drop>(found: Result<T, ReadCovError>) -> bool {
     match &found {
         Err(ReadCovError::Bad(bad)) => bad.why == CovRefused::NoZero,
@@ -129,7 +129,8 @@ fn lacks_zero<T: Drop>(found: Result<T, ReadCovError>) -> bool {
     }
 }
 
-/// What the list of some texts is read as. Want of memory also stands for texts that write no list.
+/// The result of reading some texts as a list of circuits. Running out of memory also stands for texts that spell
+/// no list.
 fn circuits_read<R: Threads + Sync>(
     rt: &R,
     alloc: Global,
@@ -142,7 +143,7 @@ fn circuits_read<R: Threads + Sync>(
     }
 }
 
-/// The same of cocircuits.
+/// The result of reading some texts as a list of cocircuits.
 fn cocircuits_read<R: Threads + Sync>(
     rt: &R,
     alloc: Global,
@@ -155,7 +156,7 @@ fn cocircuits_read<R: Threads + Sync>(
     }
 }
 
-/// The same of covectors.
+/// The result of reading some texts as a list of covectors.
 fn covectors_read<R: Threads + Sync>(
     rt: &R,
     alloc: Global,
@@ -168,7 +169,7 @@ fn covectors_read<R: Threads + Sync>(
     }
 }
 
-// each list has what it is read for, or lacks it, as its texts show
+// each list has the property that it is read for, or lacks it, as its texts show
 #[test]
 fn lists_are_read(rt: HostRuntime) {
     let alloc = rt.alloc();

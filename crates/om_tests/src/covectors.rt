@@ -1,4 +1,5 @@
-//! Lists that meet the axioms of covectors, their members of minimal support, and one list for each axiom that breaks it.
+//! Lists that satisfy the axioms of covectors, their members of minimal support, and one list that violates each
+//! axiom.
 
 ghost use Rattle.std.specs.Prelude.{◌≡◌, IfOk};
 
@@ -9,7 +10,8 @@ use om_signs::{List, SignVec};
 use std::alloc::Global;
 use std::thread::Threads;
 
-/// The covectors of three vectors in the plane, each two of them in the same turn: the signs of a, a + b and b.
+/// The covectors of three vectors in the plane, each two of them in the same orientation: the signs of a, a + b and
+/// b.
 const PLANE: [&str; 13] = [
     "000", "+++", "0++", "---", "0--", "++-", "+0-", "--+", "-0+", "+--", "++0", "-++", "--0",
 ];
@@ -22,7 +24,7 @@ fn is_bad(found: Result<Covectors, BadCov>, why: CovRefused) -> bool {
     }
 }
 
-/// Whether some texts write a list, and it is refused for this reason.
+/// Whether some texts spell a list, and it is refused for this reason.
 fn is_refused<R: Threads + Sync>(
     rt: &R,
     alloc: Global,
@@ -36,8 +38,8 @@ fn is_refused<R: Threads + Sync>(
     }
 }
 
-/// Whether there are covectors of three elements, so many of them, and of `+0-` and `+0+` the first alone is among them, and their
-/// members of minimal support are those of a text.
+/// Whether there are this many covectors of three elements, `+0-` is among them and `+0+` isn't, and their members
+/// of minimal support are those of a text.
 fn are_seen(found: Result<Covectors, SampleError>, size: usize, text: &str) -> bool
     requires { IfOk found (λ c. c.elements ≡ 3) }
 {

@@ -1,6 +1,6 @@
 //! Verdicts of each kind, in a box of 1.
 
-ghost use Rattle.om_decide.specs.Verdicts.{AreBudgets};
+ghost use Rattle.om_budgets.specs.Ranges.{AreBudgets};
 ghost use Rattle.std.specs.Prelude.{◌≡◌};
 
 use super::maps::PAPPUS;
@@ -10,12 +10,12 @@ use om_decide::{Budgets, DecideError, decide};
 use om_samples::{SampleError, chirotope_of};
 use std::alloc::Global;
 
-/// The signs of nine points of which all triples but 789 are on lines as in the theorem of Pappus.
+/// The signs of nine points in which all triples but 789 are collinear as in the theorem of Pappus.
 const NON_PAPPUS: &str =
     "0++++++++++++--------0-0++++++++++----0---+0+++++---0+-0++++++++0------------------+";
 
-/// A verdict in short: its kind, counted from 1, and how many vectors, entries, weights or rows it has; or 0 and the rank, where
-/// it isn't 3.
+/// A summary of a verdict: its kind, counted from 1, and the number of its vectors, entries, weights or rows; or 0
+/// and the rank, if it isn't 3.
 fn in_short(decided: &Result<Verdict, DecideError>) -> Option<(u8, usize)> {
     match decided {
         Ok(Verdict::Realizable(word)) => Some((1, word.len() as usize)),
@@ -28,7 +28,7 @@ fn in_short(decided: &Result<Verdict, DecideError>) -> Option<(u8, usize)> {
     }
 }
 
-/// Whether there is a chirotope, and the verdict on it is this in short.
+/// Whether there is a chirotope, and the verdict on it has this summary.
 fn is_decided(
     alloc: Global,
     chi: Result<Chirotope, SampleError>,
@@ -43,7 +43,7 @@ fn is_decided(
     }
 }
 
-/// Whether this is a verdict in short.
+/// Whether a verdict has this summary.
 fn is_verdict(decided: Result<Verdict, DecideError>, expected: (u8, usize)) -> bool {
     in_short(&decided) == Some(expected)
 }
@@ -59,8 +59,8 @@ fn budgets(steps: u64, pivots: u32) -> Budgets
     }
 }
 
-// the vectors are found at the twentieth step; on five elements the search is exhausted at the step 52, and there is a weight for
-// each of ten brackets
+// the vectors are found at the twentieth step; on five elements the search is exhausted at step 52, and there is a
+// weight for each of ten brackets
 #[test]
 fn small(rt: HostRuntime) {
     let alloc = rt.alloc();
@@ -90,7 +90,8 @@ fn small(rt: HostRuntime) {
     assert!(rt; found == [true; 3]);
 }
 
-// nine of 84 triples are on lines, and eight; the program ends at its pivot 136, and has a row for each of the 76 brackets and one more
+// nine of 84 triples are collinear, then eight; the program ends at pivot 136, and has a row for each of the 76
+// brackets and one more
 #[test]
 fn pappus(rt: HostRuntime) {
     let alloc = rt.alloc();

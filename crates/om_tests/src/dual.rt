@@ -1,4 +1,4 @@
-//! A dual worked out by hand. Those of lists, and one that is too large, are rows of `dual`.
+//! A dual computed by hand. Those of lists, and one that is too large, are rows of `dual`.
 
 use super::helpers::is_chirotope;
 use om_chirotope::Chirotope;
@@ -14,7 +14,7 @@ fn has_dual(alloc: Global, found: Result<Chirotope, SampleError>, text: &str) ->
     }
 }
 
-// 1 and 2 are parallel, 3 is a coloop and 4 a loop, and the last two change places
+// 1 and 2 are parallel, 3 is a coloop and 4 a loop, and the last two are exchanged
 #[test]
 fn four_elements(rt: HostRuntime) {
     let alloc = rt.alloc();

@@ -7,8 +7,8 @@ use om_grassmann::{
 };
 use om_samples::{SampleError, chirotope_of};
 
-/// All lawful statements on five elements, in order: five elements and the numbers of a small and a big term. Each of them is
-/// strict.
+/// All lawful statements on five elements, in order: five elements and the numbers of the small and the big term.
+/// Each of them is strict.
 const TEN: [[u8; 7]; 10] = [
     [1, 2, 3, 4, 5, 1, 2],
     [1, 2, 3, 4, 5, 3, 2],
@@ -37,7 +37,8 @@ fn statement(numbers: [u8; 7], strict: bool) -> Statement {
     }
 }
 
-/// Whether the strict statement with a number is this one, and is lawful, and the next number has the statement behind it.
+/// Whether the strict statement with a number is this one, and is lawful, and the next number has the next
+/// statement.
 fn is_at(chi: &Chirotope, k: u32, numbers: [u8; 7]) -> bool {
     match nth_statement(chi, k) {
         Some(found) => {
@@ -49,8 +50,8 @@ fn is_at(chi: &Chirotope, k: u32, numbers: [u8; 7]) -> bool {
     }
 }
 
-/// An equation, a statement with an element that is none, and two with terms that are none of the three: their numbers, and whether
-/// they are strict. None of them is lawful.
+/// An equation, a statement with an element out of range, and two with terms that are none of the three: their
+/// numbers, and whether they are strict. None of them is lawful.
 const UNLAWFUL: [([u8; 7], bool); 4] = [
     ([1, 2, 3, 4, 5, 1, 2], false),
     ([0, 2, 3, 4, 5, 1, 2], true),
@@ -58,8 +59,8 @@ const UNLAWFUL: [([u8; 7], bool); 4] = [
     ([1, 2, 3, 4, 5, 2, 4], true),
 ];
 
-/// Whether the statements with the numbers from 0 on are these, no other follows, and no unlawful one is lawful, nor the first of five
-/// elements where there are none.
+/// Whether the statements with the numbers from 0 on are these and no other follows, and no unlawful one is lawful.
+/// If there are none, the first statement of five elements isn't lawful either.
 fn are_all(chi: &Chirotope, list: &[[u8; 7]]) -> bool {
     let mut k: u32 = 0;
     for numbers in list {
@@ -77,7 +78,8 @@ fn are_all(chi: &Chirotope, list: &[[u8; 7]]) -> bool {
         && lawful(chi, statement(TEN[0], true)) != list.is_empty()
 }
 
-/// Whether a statement is lawful, and its sides have the brackets with these masks: two on the small side, two on the big one.
+/// Whether a statement is lawful, and its sides have the brackets with these masks: two on the small side, two on the
+/// big one.
 fn are_sides(chi: &Chirotope, st: Statement, masks: [u32; 4]) -> bool {
     if !lawful(chi, st) {
         return false;
@@ -87,7 +89,7 @@ fn are_sides(chi: &Chirotope, st: Statement, masks: [u32; 4]) -> bool {
     [first.mask(), second.mask(), third.mask(), fourth.mask()] == masks
 }
 
-/// Whether there is a chirotope, and the statements on it with the numbers from 0 on are these, and no other is lawful.
+/// Whether there is a chirotope, the statements on it with the numbers from 0 on are these, and no other is lawful.
 fn has_all(chi: Result<Chirotope, SampleError>, list: &[[u8; 7]]) -> bool {
     match &chi {
         Ok(chi) => are_all(chi, list),
@@ -95,7 +97,7 @@ fn has_all(chi: Result<Chirotope, SampleError>, list: &[[u8; 7]]) -> bool {
     }
 }
 
-/// Whether there is a chirotope, and the statement with a number is this one, and the last.
+/// Whether there is a chirotope, and the statement with a number is this one and the last.
 fn has_last(chi: Result<Chirotope, SampleError>, k: u32, numbers: [u8; 7]) -> bool {
     match &chi {
         Ok(chi) => is_at(chi, k, numbers) && nth_statement(chi, k.saturating_add(1)).is_none(),
@@ -117,16 +119,16 @@ fn statements(rt: HostRuntime) {
     let five = "++++++++++";
     let equation = statement([1, 2, 3, 4, 7, 3, 2], false);
     let found = [
-        // in another rank than 3 there are none
+        // in a rank other than 3 there are none
         has_all(chirotope_of(&rt, alloc, 3, 5, five), &TEN),
         has_all(chirotope_of(&rt, alloc, 2, 5, five), &[]),
-        // each of 6 elements with each four of the other five has two, of which the last are of 6 with 2, 3, 4 and 5
+        // each of 6 elements has two with each four of the other five; the last are those of 6 with 2, 3, 4 and 5
         has_last(
             chirotope_of(&rt, alloc, 3, 6, "++++++++++++++++++++"),
             59,
             [6, 2, 3, 4, 5, 3, 2],
         ),
-        // since 123 is on a line, 127 with 134 are as large as 124 with 137
+        // since 123 is collinear, 127 with 134 is equal to 124 with 137
         has_sides(
             chirotope_of(&rt, alloc, 3, 9, PAPPUS),
             equation,

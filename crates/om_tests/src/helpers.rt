@@ -1,4 +1,4 @@
-//! Answers that are compared with texts.
+//! Comparisons of results with texts.
 
 use om_chirotope::Chirotope;
 use om_circuits::{Circuits, Cocircuits};
@@ -6,7 +6,7 @@ use om_covectors::Covectors;
 use om_samples::{are_vectors, is_map};
 use om_signs::{List, SignVec};
 
-/// Whether a chirotope was found, and has this rank, so many elements and the signs of a text.
+/// Whether a chirotope was found, and has this rank, this many elements and the signs of a text.
 pub fn is_chirotope<E: Drop>(
     found: Result<Chirotope, E>,
     rank: u8,

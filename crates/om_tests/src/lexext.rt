@@ -1,4 +1,4 @@
-//! Lexicographic extensions worked out by hand.
+//! Lexicographic extensions computed by hand.
 
 ghost use Rattle.std.specs.Prelude.{◌≡◌, IfOk};
 
@@ -9,19 +9,19 @@ use om_samples::{SampleError, chirotope_of};
 use om_signs::Sign;
 use std::alloc::Global;
 
-/// The element 4 as it is.
+/// The element 4 with its own sign.
 const PLUS_FOUR: Signed = Signed {
     element: 4,
     sign: Sign::Plus,
 };
 
-/// The element 3 turned.
+/// The element 3 negated.
 const MINUS_THREE: Signed = Signed {
     element: 3,
     sign: Sign::Minus,
 };
 
-/// Whether the extension of a chirotope by 4 as it is and 3 turned has rank 3, five elements and the signs of a text.
+/// Whether the extension of a chirotope by [4, -3] has rank 3, five elements and the signs of a text.
 fn is_extended(alloc: Global, found: Result<Chirotope, SampleError>, text: &str) -> bool
     requires { IfOk found (λ c. c.elements ≡ 4) }
 {
@@ -31,8 +31,8 @@ fn is_extended(alloc: Global, found: Result<Chirotope, SampleError>, text: &str)
     }
 }
 
-// With 1 2, 1 3 and 2 3 the new element has the signs of 4, which are plus; with 1 4 and 2 4 the opposite of those of 3, which are
-// minus; and with 3 4 it has zero.
+// With 1 2, 1 3 and 2 3 the new element has the signs of 4, which are plus. With 1 4 and 2 4 it has the opposites
+// of those of 3, which are minus. With 3 4 it has zero.
 #[test]
 fn five_in_the_plane(rt: HostRuntime) {
     let chi = chirotope_of(&rt, rt.alloc(), 3, 4, "++++");

@@ -1,4 +1,4 @@
-//! The tests of the public calls of the libraries that don't read or write texts, a module for each library.
+//! The tests of the public calls of the libraries that don't read or write texts, one module per library.
 #![tactic(auto)]
 
 #[cfg(test)]

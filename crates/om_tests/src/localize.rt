@@ -1,4 +1,4 @@
-//! Extensions, whose number is known.
+//! Extensions whose number is known.
 
 ghost use Rattle.std.specs.Prelude.{◌≤◌};
 
@@ -9,7 +9,7 @@ use om_signs::{MAX_LINES, Sign};
 use std::alloc::Global;
 use std::thread::Threads;
 
-/// Whether so many extensions were listed, and whether there is a further one.
+/// Whether this many extensions were listed, and whether there is a further one.
 fn are_listed(found: Result<Listing, ExtendError>, size: usize, more: bool) -> bool {
     match &found {
         Ok(listing) => (listing.lines.len(), listing.more) == (size, more),
@@ -17,7 +17,7 @@ fn are_listed(found: Result<Listing, ExtendError>, size: usize, more: bool) -> b
     }
 }
 
-/// Whether there is a chirotope, and of its extensions the first are listed, which are so many, and whether there is a further one.
+/// Whether there is a chirotope, this many of its extensions are listed, and whether there is a further one.
 fn lists<R: Threads + Sync>(
     rt: &R,
     alloc: Global,

@@ -10,11 +10,11 @@ use om_samples::{SampleError, chirotope_of};
 use om_signs::Sign;
 use om_subsets::Subset;
 
-/// What there is to say of four elements: the masks of the loops, of the coloops, and of those that each element is parallel to; and the
-/// rank of each set, by its mask.
+/// The facts on a chirotope of four elements. They are the masks of the loops, of the coloops, and of the elements
+/// parallel to each element; and the rank of each set, by its mask.
 type Facts = (u32, u32, [u32; 4], [u8; 16]);
 
-/// The facts on a chirotope of four elements.
+/// The facts computed from a chirotope of four elements.
 fn facts(chi: &Chirotope) -> Facts
     requires { chi.now.elements ≡ 4 }
 {
@@ -49,7 +49,8 @@ fn has_facts(chi: Result<Chirotope, SampleError>, expected: Facts) -> bool
     }
 }
 
-/// The bases are 13 and 23: 1 and 2 are parallel, 3 is a coloop, and 4 a loop, which is parallel to nothing, not even to itself.
+/// The bases are 13 and 23: 1 and 2 are parallel, 3 is a coloop, and 4 a loop, which is parallel to nothing, not even
+/// to itself.
 const PARALLEL: Facts = (
     0b1000,
     0b0100,
@@ -87,7 +88,7 @@ fn is_basis(chi: &Chirotope, b: Subset) -> bool
     b.size() == chi.rank() && chi.at(b) != Sign::Zero
 }
 
-/// The first basis that contains a set, where a given basis contains it.
+/// The first basis that contains a set, if a given basis contains it.
 fn extension(chi: &Chirotope, inside: Subset, basis: Subset) -> Option<Subset>
     requires inside { inside.n ≡ chi.now.elements }
     requires basis { basis.n ≡ chi.now.elements }
@@ -99,7 +100,7 @@ fn extension(chi: &Chirotope, inside: Subset, basis: Subset) -> Option<Subset>
     }
 }
 
-/// What takes the place of an element of a basis b, where it isn't in another basis c.
+/// What can replace an element of a basis b, if it isn't in another basis c.
 fn exchanged(chi: &Chirotope, b: Subset, c: Subset, e: u8) -> Option<u8>
     requires b { b.n ≡ chi.now.elements }
     requires c { c.n ≡ chi.now.elements }
@@ -113,7 +114,7 @@ fn exchanged(chi: &Chirotope, b: Subset, c: Subset, e: u8) -> Option<u8>
     }
 }
 
-/// The first basis, the first one with 2 and 3, and what takes the places of 1 and 4 in 124 by elements of 356.
+/// The first basis, the first one with 2 and 3, and what can replace 1 and 4 in 124 among the elements of 356.
 fn bases(chi: &Chirotope) -> (Subset, Option<Subset>, Option<u8>, Option<u8>)
     requires { chi.now.elements ≡ 9 }
 {
@@ -127,8 +128,8 @@ fn bases(chi: &Chirotope) -> (Subset, Option<Subset>, Option<u8>, Option<u8>)
     )
 }
 
-/// Whether there is a chirotope of nine elements, and these are its first basis, the first one with 2 and 3, and what takes the
-/// places of 1 and 4 in 124.
+/// Whether there is a chirotope of nine elements, and these are its first basis, the first one with 2 and 3, and
+/// what can replace 1 and 4 in 124.
 fn has_bases(
     chi: Result<Chirotope, SampleError>,
     expected: (Subset, Option<Subset>, Option<u8>, Option<u8>),
@@ -141,7 +142,8 @@ fn has_bases(
     }
 }
 
-// 123 is on a line, so that the first are 124 and 234; of 3, 5 and 6 the first one makes a basis with 2 and 4, and not with 1 and 2
+// 123 is collinear, so the first bases are 124 and 234. Of 3, 5 and 6 the first makes a basis with 2 and 4, and not
+// with 1 and 2.
 #[test]
 fn pappus(rt: HostRuntime) {
     let (first, extended) = (Subset::from_mask(0b1011, 9), Subset::from_mask(0b1110, 9));

@@ -1,4 +1,4 @@
-//! Vectors of two places, and lists of them, worked out by hand.
+//! Vectors of length two, and lists of them, computed by hand.
 
 use om_members::{are_same, first_without_negative, is_member, is_zero};
 use om_samples::vector_of;

@@ -1,4 +1,4 @@
-//! Minors and reorientations worked out by hand: 1 and 2 are parallel, 3 is a coloop and 4 a loop.
+//! Minors and reorientations computed by hand: 1 and 2 are parallel, 3 is a coloop and 4 a loop.
 
 ghost use Rattle.std.specs.Prelude.{◌≡◌, IfOk};
 
@@ -24,8 +24,8 @@ const COVECTORS: [&str; 9] = [
     "0000", "++00", "--00", "00+0", "00-0", "+++0", "++-0", "--+0", "---0",
 ];
 
-/// Whether the deletions of 1 and 3, the contractions of 1 and 4 and the reorientation on 1 have the signs worked out by hand: in
-/// the last the value of 13 becomes minus, and that of 23 stays.
+/// Whether the deletions of 1 and 3, the contractions of 1 and 4 and the reorientation on 1 have the signs computed
+/// by hand. In the last the value of 13 becomes minus, and that of 23 is unchanged.
 fn of_chirotope(alloc: Global, found: Result<Chirotope, SampleError>) -> bool
     requires { IfOk found (λ c. c.elements ≡ 4) }
 {
@@ -57,7 +57,8 @@ fn is_last(alloc: Global, found: Result<Chirotope, SampleError>, why: MinorError
     }
 }
 
-/// Whether the deletion and the contraction of 1 and the reorientation on 1 and 4 have the circuits worked out by hand.
+/// Whether the deletion and the contraction of 1 and the reorientation on 1 and 4 have the circuits computed by
+/// hand.
 fn of_circuits(alloc: Global, found: Result<Circuits, SampleError>) -> bool
     requires { IfOk found (λ c. c.0.elements ≡ 4) }
 {
@@ -74,7 +75,7 @@ fn of_circuits(alloc: Global, found: Result<Circuits, SampleError>) -> bool
     }
 }
 
-/// The same of cocircuits, with the reorientation on 2.
+/// Whether the deletion and the contraction of 1 and the reorientation on 2 have the cocircuits computed by hand.
 fn of_cocircuits(alloc: Global, found: Result<Cocircuits, SampleError>) -> bool
     requires { IfOk found (λ c. c.0.elements ≡ 4) }
 {
@@ -91,7 +92,7 @@ fn of_cocircuits(alloc: Global, found: Result<Cocircuits, SampleError>) -> bool
     }
 }
 
-/// The same of covectors, with the deletion of 3 and the reorientation on 2 and 3.
+/// Whether the minors and the reorientation on 2 and 3 have the covectors computed by hand, with the deletion of 3.
 fn of_covectors(alloc: Global, found: Result<Covectors, SampleError>) -> bool
     requires { IfOk found (λ c. c.elements ≡ 4) }
 {

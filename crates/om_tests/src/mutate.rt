@@ -1,4 +1,4 @@
-//! Flips worked out by hand. The mutations of a chirotope are rows of `mutations`.
+//! Flips computed by hand. The mutations of a chirotope are rows of `mutations`.
 
 ghost use Rattle.std.specs.Prelude.{◌≡◌, IfOk};
 
@@ -10,8 +10,8 @@ use om_signs::Block;
 use om_subsets::Subset;
 use om_wiring::Wiring;
 
-/// Whether a flip gave the map of four elements with the signs of a text; or it was refused for a reason, and this map was handed
-/// back.
+/// Whether a flip gave the map of four elements with the signs of a text; or whether it was refused for a reason,
+/// and this map was handed back.
 fn is_flip(found: Result<Chirotope, BadFlip>, refused: Option<FlipRefused>, signs: &str) -> bool {
     match found {
         Ok(chi) => [refused.is_none(), is_map(&chi.into_raw(), 3, 4, signs)] == [true; 2],
@@ -24,7 +24,7 @@ fn is_flip(found: Result<Chirotope, BadFlip>, refused: Option<FlipRefused>, sign
     }
 }
 
-/// Whether there is a chirotope with four elements, and the flip of its first triple is as said.
+/// Whether there is a chirotope with four elements, and the flip of its first triple gives this.
 fn has_flip(chi: Result<Chirotope, SampleError>, refused: Option<FlipRefused>, signs: &str) -> bool
     requires { IfOk chi (λ c. c.elements ≡ 4) }
 {
@@ -34,7 +34,8 @@ fn has_flip(chi: Result<Chirotope, SampleError>, refused: Option<FlipRefused>, s
     }
 }
 
-/// Whether a wiring diagram was flipped at a triangle, and these are its blocks; or there was none, and these came back.
+/// Whether a wiring diagram was flipped at a triangle, and these are its blocks; or whether there was none, and
+/// these were handed back.
 fn has_blocks(found: Result<Wiring, NotTriangle>, has_triangle: bool, blocks: &[Block]) -> bool {
     match &found {
         Ok(other) => [has_triangle, other.blocks() == blocks] == [true; 2],
@@ -42,8 +43,8 @@ fn has_blocks(found: Result<Wiring, NotTriangle>, has_triangle: bool, blocks: &[
     }
 }
 
-/// Whether there is a wiring diagram, which has a triangle at a step or hasn't, and these are the blocks behind its flip, or those
-/// that come back.
+/// Whether there is a wiring diagram, whether it has a triangle at a step, and whether these are the blocks after
+/// its flip, or those handed back.
 fn is_flipped(found: Option<Wiring>, step: u32, has_triangle: bool, blocks: &[Block]) -> bool {
     match found {
         Some(w) => has_blocks(flip_wiring(w, step), has_triangle, blocks),
@@ -65,7 +66,7 @@ fn chirotopes_of_four(rt: HostRuntime) {
     let alloc = rt.alloc();
     let refused = Some(FlipRefused::NotBasis);
     let found = [
-        // 123 is turned where it is a basis, and else the map comes back
+        // the value of 123 is negated if it is a basis, and otherwise the map is handed back
         has_flip(chirotope_of(&rt, alloc, 3, 4, "++++"), None, "-+++"),
         has_flip(chirotope_of(&rt, alloc, 3, 4, "0+++"), refused, "0+++"),
     ];
@@ -75,11 +76,11 @@ fn chirotopes_of_four(rt: HostRuntime) {
 /// The blocks of four wires.
 const KEPT: [Block; 6] = [FIRST, SECOND, FIRST, THIRD, SECOND, FIRST];
 
-/// The same behind the flip at the first step.
+/// The same blocks after the flip at the first step.
 const TURNED: [Block; 6] = [SECOND, FIRST, SECOND, THIRD, SECOND, FIRST];
 
-// The wires 1, 2 and 3 cross by pairs in the first three steps, and behind the flip they do so in the other order. The steps 4 to 6
-// are three different blocks, and behind step 5 there is one more alone.
+// The wires 1, 2 and 3 cross in pairs in the first three steps, and after the flip they do so in the other order.
+// The steps 4 to 6 are three different blocks, and only one more comes after step 5.
 #[test]
 fn triangles(rt: HostRuntime) {
     let alloc = rt.alloc();

@@ -13,7 +13,7 @@ fn tells_apart<M: Oriented>(value: &M) -> bool {
         && !value.is_covector(vector_of(4, "+-+-"))
 }
 
-/// Whether there is an oriented matroid that tells the two apart so.
+/// Whether there is an oriented matroid that distinguishes the two in this way.
 fn is_told_apart<M: Oriented + Drop>(found: Result<M, SampleError>) -> bool {
     match &found {
         Ok(value) => tells_apart(value),
@@ -21,7 +21,7 @@ fn is_told_apart<M: Oriented + Drop>(found: Result<M, SampleError>) -> bool {
     }
 }
 
-// orthogonal to the circuits are the covectors
+// the covectors are orthogonal to the circuits
 #[test]
 fn covectors_of_each_kind(rt: HostRuntime) {
     let alloc = rt.alloc();
@@ -32,7 +32,8 @@ fn covectors_of_each_kind(rt: HostRuntime) {
     assert!(rt; found == [true; 2]);
 }
 
-/// Whether there are two oriented matroids with as many elements, and they compare so, and also the other way round.
+/// Whether there are two oriented matroids with the same number of elements, and they compare like this in both
+/// directions.
 fn are_compared<A: Oriented, B: Oriented>(
     a: &Result<A, SampleError>,
     b: &Result<B, SampleError>,
@@ -46,7 +47,7 @@ fn are_compared<A: Oriented, B: Oriented>(
     }
 }
 
-/// The same of two that are let go.
+/// Whether two oriented matroids compare like this; both are then dropped.
 fn compare<A: Oriented + Drop, B: Oriented + Drop>(
     a: Result<A, SampleError>,
     b: Result<B, SampleError>,
@@ -65,7 +66,8 @@ fn sameness_and_first_difference(rt: HostRuntime) {
             circuits_of(&rt, alloc, 4, &CIRCUITS),
             Ok(()),
         ),
-        // the vectors `----`, `---0` and `---+` are orthogonal to those of the second too, and `--0-` to `-+-+` alone
+        // the vectors `----`, `---0` and `---+` are orthogonal to the circuits of both, and `--0-` only to `-+-+`,
+        // which is one of the second
         compare(
             chirotope_of(&rt, alloc, 3, 4, "+++-"),
             circuits_of(&rt, alloc, 4, &CIRCUITS),
@@ -73,7 +75,8 @@ fn sameness_and_first_difference(rt: HostRuntime) {
                 x: vector_of(4, "--0-"),
             }),
         ),
-        // of two elements that are both loops only `00` is a covector; where none is, each vector is one
+        // of two elements that are both loops only `00` is a covector; of two elements that are no loops, each
+        // vector is one
         compare(
             cocircuits_of(&rt, alloc, 2, &["-0", "0-", "0+", "+0"]),
             covectors_of(&rt, alloc, 2, &["00"]),

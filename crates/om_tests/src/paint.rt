@@ -1,4 +1,4 @@
-//! Paintings and hulls worked out by hand.
+//! Paintings and hulls computed by hand.
 
 ghost use Rattle.std.specs.Prelude.{◌≡◌, IfOk};
 
@@ -19,7 +19,7 @@ fn is_painted(chi: Result<Chirotope, SampleError>, cocircuit: &str) -> bool
     }
 }
 
-/// Whether there is a chirotope, and it is acyclic or isn't.
+/// Whether there is a chirotope, and it is acyclic or not.
 fn is_acyclic(chi: Result<Chirotope, SampleError>, expected: bool) -> bool {
     match &chi {
         Ok(chi) => acyclic(chi) == expected,
@@ -27,7 +27,7 @@ fn is_acyclic(chi: Result<Chirotope, SampleError>, expected: bool) -> bool {
     }
 }
 
-/// Whether a hull of two elements was found, and these cocircuits tell that all are extreme.
+/// Whether a hull of two elements was found, and these cocircuits show that all are extreme.
 fn are_extreme(found: Result<List<Painted>, HullError>, first: &str, second: &str) -> bool {
     let expected = [
         Painted::Cocircuit(vector_of(2, first)),
@@ -39,7 +39,7 @@ fn are_extreme(found: Result<List<Painted>, HullError>, first: &str, second: &st
     }
 }
 
-/// Whether there is a chirotope, and these cocircuits tell that both of its elements are extreme.
+/// Whether there is a chirotope, and these cocircuits show that both of its elements are extreme.
 fn has_hull(alloc: Global, chi: Result<Chirotope, SampleError>, first: &str, second: &str) -> bool {
     match &chi {
         Ok(chi) => are_extreme(hull(alloc, chi), first, second),
@@ -51,12 +51,12 @@ fn has_hull(alloc: Global, chi: Result<Chirotope, SampleError>, first: &str, sec
 fn paintings_and_hulls(rt: HostRuntime) {
     let alloc = rt.alloc();
     let found = [
-        // a cocircuit that fits is zero on black, and so at 2 and 3
+        // a cocircuit that fits is zero on black, that is at 2 and 3
         is_painted(chirotope_of(&rt, alloc, 3, 4, "++++"), "+00+"),
         is_acyclic(chirotope_of(&rt, alloc, 2, 2, "+"), true),
         // the circuit is all plus
         is_acyclic(chirotope_of(&rt, alloc, 3, 4, "+-+-"), false),
-        // each of two elements that form a basis has a cocircuit that is minus there and zero at the other one
+        // each of two elements that form a basis has a cocircuit that is minus at it and zero at the other one
         has_hull(alloc, chirotope_of(&rt, alloc, 2, 2, "+"), "-0", "0-"),
     ];
     assert!(rt; found == [true; 4]);

@@ -1,4 +1,4 @@
-//! The least bad numbers and the answers of parts, and calls that are made at the same time.
+//! The least bad numbers and the results of parts, and calls that are made at the same time.
 
 ghost use Rattle.std.specs.Prelude.{◌≡◌, ◌⊎◌, ◌/◌};
 
@@ -30,13 +30,13 @@ impl Probe for NineHundred {
     }
 }
 
-/// How often the call for 0 looks whether the call for 1 has come, where it has to come.
+/// How often the call for 0 looks for the call for 1, if it must come.
 const MOST_TURNS: u64 = 2_000_000_000;
 
-/// How often it looks where the call for 1 can't come before it has ended.
+/// How often it looks, if the call for 1 can't come before it has ended.
 const FEW_TURNS: u64 = 50_000_000;
 
-/// Two calls that are made at the same time: that for 0 waits until that for 1 has come.
+/// Two calls that are made at the same time: the one for 0 waits for the one for 1.
 #[derive(Drop)]
 struct Held {
     come: AtomicBool,
@@ -45,7 +45,7 @@ struct Held {
 }
 
 impl Held {
-    /// No call has come, and that for 0 looks so often whether that for 1 has.
+    /// No call has come, and the one for 0 looks this often for the one for 1.
     fn new(turns: u64) -> Held {
         Held {
             come: AtomicBool::new(false),
@@ -103,7 +103,7 @@ impl Part for Halves {
     }
 }
 
-/// Whether the answers were found, and are these.
+/// Whether the results were found, and are these.
 fn are_answers(found: Result<Vec<u64>, NoMemory>, expected: &[u64]) -> bool {
     match &found {
         Ok(answers) => answers.as_slice() == expected,
@@ -134,7 +134,7 @@ fn calls_meet(rt: HostRuntime) {
     assert!(rt; found == [true, false, true, false]);
 }
 
-// Numbers that cost little are worked by the calling thread alone, and so the call for 0 ends before that for 1.
+// Numbers that cost little are handled by the calling thread alone, so the call for 0 ends before that for 1.
 #[test]
 fn little_work_starts_no_thread(rt: HostRuntime) {
     let (probes, parts) = (Held::new(FEW_TURNS), Held::new(FEW_TURNS));
@@ -147,7 +147,7 @@ fn little_work_starts_no_thread(rt: HostRuntime) {
     assert!(rt; found == [true; 4]);
 }
 
-// Numbers that cost much are worked by several threads from the first on.
+// Numbers that cost much are handled by several threads from the start.
 #[test]
 fn much_work_is_shared(rt: HostRuntime) {
     let (probes, parts) = (Held::new(MOST_TURNS), Held::new(MOST_TURNS));
@@ -176,7 +176,7 @@ fn least_bad_number_at_any_cost(rt: HostRuntime) {
     }
 }
 
-/// Whether 20 000 answers were found, and the first and the last are these.
+/// Whether 20,000 results were found, and the first and the last are these.
 fn are_many(found: Result<Vec<u64>, NoMemory>, first: u64, last: u64) -> bool {
     match &found {
         Ok(many) => {
@@ -198,7 +198,7 @@ fn parts_in_order(rt: HostRuntime) {
     assert!(rt; found == [true; 3]);
 }
 
-// The answers are the same whatever they cost.
+// The results are the same whatever they cost.
 #[test]
 fn parts_at_any_cost(rt: HostRuntime) {
     for cost in [0, 1, 1_000, u64::MAX] {

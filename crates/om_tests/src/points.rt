@@ -8,7 +8,7 @@ use om_points::search;
 use om_samples::{SampleError, chirotope_of};
 use om_vectors::{Unfound, Word};
 
-/// Whether there is a chirotope, and the search in some steps finds this.
+/// Whether there is a chirotope, and the search in this many steps finds this.
 fn finds(chi: Result<Chirotope, SampleError>, steps: u64, expected: Result<Word, Unfound>) -> bool
     requires rank { IfOk chi (λ c. c.rank ≡ 3) }
     requires steps { 1 ≤ steps }
@@ -19,9 +19,9 @@ fn finds(chi: Result<Chirotope, SampleError>, steps: u64, expected: Result<Word,
     }
 }
 
-// a basis alone is found at the first step; with a fourth vector the twentieth list is the first that has all signs, and one step
-// earlier the fourth vector is (1, -1, 0); five such vectors need a greater coordinate, and in the last list that is visited (1, 1, 0)
-// is behind the basis
+// A basis alone is found at the first step. With a fourth vector the twentieth list is the first that has all
+// signs, and one step earlier the fourth vector is (1, -1, 0). Five such vectors need a greater coordinate, and in
+// the last list that is visited (1, 1, 0) comes after the basis.
 #[test]
 fn found_and_not(rt: HostRuntime) {
     let alloc = rt.alloc();

@@ -24,7 +24,8 @@ fn of_circuits(alloc: Global, found: Result<Circuits, SampleError>, text: &str) 
     }
 }
 
-/// The same of cocircuits.
+/// Whether there are cocircuits with four elements, and they have rank 2, and their chirotope has the signs of a
+/// text.
 fn of_cocircuits(alloc: Global, found: Result<Cocircuits, SampleError>, text: &str) -> bool
     requires { IfOk found (λ c. c.0.elements ≡ 4) }
 {

@@ -1,4 +1,4 @@
-//! Rows worked out by hand, and numbers at the limit.
+//! Rows computed by hand, and numbers at the limit.
 
 use om_rows::{Column, Wide, combine, compare_ratios, dot, gcd, primitive};
 use std::cmp::Ordering;
@@ -7,7 +7,7 @@ const MAX: i128 = i128::MAX;
 
 const MIN: i128 = i128::MIN;
 
-/// The first two numbers of a row, less the third and the fourth, and the last.
+/// The first two numbers of a row, the third and the fourth subtracted, and the last.
 const STRICT: Column = Column {
     small0: 1,
     small1: 2,
@@ -16,7 +16,7 @@ const STRICT: Column = Column {
     strict: true,
 };
 
-/// The same without the last number.
+/// The same numbers without the last one.
 const NOT_STRICT: Column = Column {
     small0: 1,
     small1: 2,

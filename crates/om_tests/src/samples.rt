@@ -1,4 +1,4 @@
-//! Samples that are what their texts write, and texts that write none.
+//! Samples that are what their texts spell, and texts that spell none.
 
 use super::helpers::{are_found, is_chirotope};
 use om_samples::{
@@ -6,10 +6,10 @@ use om_samples::{
 };
 use om_signs::Sign;
 
-/// The first vector stands twice.
+/// The first vector occurs twice.
 const TWICE: [&str; 3] = ["+-", "-+", "+-"];
 
-// a vector that stands twice is left out
+// a vector that occurs twice is kept once
 #[test]
 fn written(rt: HostRuntime) {
     let alloc = rt.alloc();
@@ -29,7 +29,7 @@ fn signs_and_vectors(rt: HostRuntime) {
     assert!(rt; vector_of(3, "+") == vector_of(3, "+00"));
 }
 
-/// Whether texts write nothing of what was asked for.
+/// Whether texts spell nothing of what was requested.
 fn is_refused<T: Drop>(found: Result<T, SampleError>) -> bool {
     match &found {
         Ok(_) => false,

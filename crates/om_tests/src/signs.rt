@@ -1,4 +1,5 @@
-//! Signs, sign vectors of two places, and lists, worked out by hand. The order of vectors of one length is a row of `dual`.
+//! Signs, sign vectors of length two, and lists, computed by hand. The order of vectors of one length is a row of
+//! `dual`.
 
 use om_samples::vector_of;
 use om_signs::{List, NoMemory, Sign};
@@ -57,8 +58,8 @@ fn vectors(rt: HostRuntime) {
     assert!(rt; masks == [0b01, 0b01, 0b10, 0b01, 2] && orders == [true; 2]);
 }
 
-/// Pairs of vectors; whether they are orthogonal: where the products of their signs are all zero, or one is plus and one minus; and
-/// whether the first conforms to the second: where it is zero, or has the same sign, at each place.
+/// Pairs of vectors. Whether they are orthogonal: the products of their signs are all zero, or one is plus and one
+/// is minus. And whether the first conforms to the second: it is zero, or has the same sign, at each place.
 const PAIRS: [(&str, &str, bool, bool); 8] = [
     ("++", "+-", true, false),
     ("++", "++", false, true),
@@ -79,7 +80,7 @@ fn pairs(rt: HostRuntime) {
     }
 }
 
-/// Whether there is a list, which has the byte 1 alone.
+/// Whether there is a list, and it has only the byte 1.
 fn is_one(bytes: Result<List<u8>, NoMemory>) -> bool {
     match &bytes {
         Ok(bytes) => bytes.as_slice() == [1].as_slice(),
@@ -87,14 +88,14 @@ fn is_one(bytes: Result<List<u8>, NoMemory>) -> bool {
     }
 }
 
-/// Puts a byte in the place of the first, where there is one.
+/// Replaces the first byte by another, if there is one.
 fn set_first(bytes: &mut List<u8>, byte: u8) {
     if bytes.len() > 0 {
         bytes.set(0, byte);
     }
 }
 
-// 1 is put into a list, turned into 3, and 2 put behind it; a copy made before keeps 1 alone
+// 1 is put into a list and changed into 3, and 2 is appended; a copy made before has only 1
 #[test]
 fn lists(rt: HostRuntime) {
     let mut bytes: List<u8> = List::new(rt.alloc());

@@ -1,4 +1,5 @@
-//! Runs worked out by hand, one for each kind of end; those that end by a width by an exact run of their own.
+//! Runs computed by hand, one for each kind of end; those that end at a width are computed by an exact run of their
+//! own.
 
 ghost use Rattle.std.specs.Prelude.{◌≤◌, ◌-◌, IsTrue};
 ghost use Rattle.om_rows.specs.Rows.{IsPlace};
@@ -20,14 +21,14 @@ fn column(small0: u16, small1: u16, big0: u16, big1: u16, strict: bool) -> Colum
     }
 }
 
-/// Whether a place is a row but the last of some.
+/// Whether a place is one of this many rows other than the last.
 fn is_place(place: u16, rows: u16) -> bool
     ensures { IsTrue result → IsPlace (rows - 1) place }
 {
     1 <= place && place < rows
 }
 
-/// Whether the places of a column are rows but the last of some.
+/// Whether the places of a column are rows other than the last.
 fn fits(column: &Column, rows: u16) -> bool
     ensures { IsTrue result → IsColumn rows column.now }
 {
@@ -37,7 +38,7 @@ fn fits(column: &Column, rows: u16) -> bool
         && is_place(column.big1, rows)
 }
 
-/// The end of the run over some columns with so many pivots, where they are columns of as many rows.
+/// The end of the run over some columns with this many pivots, if they are columns with the given number of rows.
 fn end_of(alloc: Global, columns: &[Column], rows: u16, pivots: u32) -> Result<Outcome, NoMemory>
     requires some { 1 ≤ pivots }
     requires few { pivots ≤ MAX_PIVOTS }
@@ -49,8 +50,8 @@ fn end_of(alloc: Global, columns: &[Column], rows: u16, pivots: u32) -> Result<O
     solve(alloc, columns, rows, pivots)
 }
 
-/// Whether a run ended by a combination that takes the columns so often, by these weights of the rows, or for want of pivots, with these
-/// basis numbers. No list that ends a run is empty.
+/// Whether a run ended by a combination that takes the columns this often, by these weights of the rows, or because
+/// the pivots ran out, with these basis numbers. No list that ends a run is empty.
 fn is_end(
     end: &Result<Outcome, NoMemory>,
     counts: &[Count],
@@ -65,7 +66,7 @@ fn is_end(
     }
 }
 
-/// The same of an owned end, which is dropped.
+/// The same for an owned end, which is dropped.
 fn has_ended(
     end: Result<Outcome, NoMemory>,
     counts: &[Count],
@@ -75,8 +76,8 @@ fn has_ended(
     is_end(&end, counts, weights, numbers)
 }
 
-// without columns all weights are 1; a column whose sides are the same is balanced alone; one pivot is enough for a column of four
-// places, and not for it with a second one
+// Without columns all weights are 1. A column whose sides are equal is balanced alone. One pivot is enough for a
+// column of four places, and not enough with a second column.
 #[test]
 fn ends(rt: HostRuntime) {
     let alloc = rt.alloc();
@@ -100,7 +101,7 @@ fn ends(rt: HostRuntime) {
     assert!(rt; found == [true; 4]);
 }
 
-/// How a column of a chain ties the place j to the place behind it and to the last place but one, which is called z.
+/// How a column of a chain relates the place j to the next place and to the last place but one, which is called z.
 #[derive(Clone, Copy)]
 enum Link {
     /// 2 at j; -1 at j + 1 and at z.
@@ -111,7 +112,7 @@ enum Link {
     Backward,
 }
 
-/// The column of a chain behind the place j.
+/// The column of a chain after the place j.
 fn link_column(link: Link, j: u16, z: u16, strict: bool) -> Column {
     let next = j.saturating_add(1);
     match link {
@@ -129,8 +130,9 @@ fn step(small: u16, big: u16, strict: bool) -> Column {
 /// The most columns of a chain and around it.
 const MOST: usize = 130;
 
-/// The end of the run over a chain over the places 1 to n, in n + 2 rows, with one or two columns before it or behind it; there are so many
-/// before it, and so many columns at all. Along the chain the numbers of the tableau double.
+/// The end of the run over a chain over the places 1 to n, in n + 2 rows, with one or two columns before or after
+/// it. The arguments say how many come before it, and how many columns there are. Along the chain the numbers of
+/// the tableau double.
 fn end_of_chain(
     alloc: Global,
     link: Link,
@@ -154,7 +156,7 @@ fn end_of_chain(
     end_of(alloc, &columns[..all.min(MOST)], n.saturating_add(2), 1_000)
 }
 
-/// Whether a run ended by a width, with this stage, pivot, row and place.
+/// Whether a run ended at a width, with this stage, pivot, row and place.
 fn is_width(found: Result<Outcome, NoMemory>, width: (Stage, u32, u16, u32)) -> bool {
     match &found {
         Ok(
@@ -169,8 +171,8 @@ fn is_width(found: Result<Outcome, NoMemory>, width: (Stage, u32, u16, u32)) -> 
     }
 }
 
-// at a price, at a column and at an update; and at the end, by the common multiple of the denominators, by a value made whole by it, and
-// by a weight
+// At a price, at a column and at an update. And at the end, by the common multiple of the denominators, by a value
+// made integral by it, and by a weight.
 #[test]
 fn widths(rt: HostRuntime) {
     let alloc = rt.alloc();
@@ -209,8 +211,8 @@ fn widths(rt: HostRuntime) {
     assert!(rt; found == [true; 6]);
 }
 
-// one link less than in the chain whose values are too great: of 65 columns the 64th is taken once, each one before it twice as often as
-// the next, and the last as often as the first, 2^63 times
+// One link less than in the chain whose values are too great. Of 65 columns the 64th is taken once, each one before
+// it twice as often as the next, and the last as often as the first, 2^63 times.
 #[test]
 fn greatest_counts(rt: HostRuntime) {
     let mut counts = [Count {

@@ -1,4 +1,4 @@
-//! Subsets in their two orders, as they are ordered by hand.
+//! Subsets in their two orders, computed by hand.
 
 use om_signs::MAX_PLACES;
 use om_subsets::Subset;
@@ -9,8 +9,8 @@ const PAIRS: [u32; 6] = [0b0011, 0b0101, 0b1001, 0b0110, 0b1010, 0b1100];
 /// The pairs of four elements in reverse lexicographic order: 12, 13, 23, 14, 24, 34.
 const REVERSE_PAIRS: [u32; 6] = [0b0011, 0b0101, 0b0110, 0b1001, 0b1010, 0b1100];
 
-/// Three of the elements 1 to 6 at their places in reverse lexicographic order: 123, 124, 134, 234, 125 and, as the last
-/// of the 20, 456.
+/// Three of the elements 1 to 6 at their places in reverse lexicographic order: 123, 124, 134, 234, 125 and, as the
+/// last of the 20, 456.
 const REVERSE_TRIPLES: [(u32, u32); 6] = [
     (0, 0b000111),
     (1, 0b001011),
@@ -31,7 +31,7 @@ fn pairs_of_four(rt: HostRuntime) {
     assert!(rt; pair.next().is_none());
 }
 
-/// The mask and the place of the subset at a place in the reverse order.
+/// The mask and the rank of the subset at a place in the reverse order.
 fn in_reverse(place: u32, r: u8, n: u8) -> Option<(u32, u32)> {
     if n > MAX_PLACES || r > n || place >= Subset::choose(n, r) {
         return None;

@@ -1,4 +1,4 @@
-//! Maps that meet the three-term test, and maps that fail it.
+//! Maps that pass the three-term test, and maps that fail it.
 
 ghost use Rattle.std.specs.Prelude.{◌≤◌};
 
@@ -10,7 +10,7 @@ use om_threeterm::{BadThree, ThreeRefused, check};
 use std::alloc::Global;
 use std::thread::Threads;
 
-/// Whether the test of a map says this.
+/// Whether the test of a map returns this.
 fn is_answer(found: Result<Chirotope, BadThree>, expected: Result<(), ThreeRefused>) -> bool {
     match &found {
         Ok(_) => expected.is_ok(),
@@ -18,7 +18,7 @@ fn is_answer(found: Result<Chirotope, BadThree>, expected: Result<(), ThreeRefus
     }
 }
 
-/// Whether the text writes a map, and the test says this of it.
+/// Whether the text spells a map, and the test of it returns this.
 fn is_checked<R: Threads + Sync>(
     rt: &R,
     alloc: Global,
@@ -37,8 +37,8 @@ fn is_checked<R: Threads + Sync>(
     }
 }
 
-// the second has no basis; the bases of the third are 12, 13 and 34, and neither 23 nor 24 is one; in the last 135 is turned: with 1
-// as the list, the relation of 2, 3, 4 and 5 is the first that fails
+// The second has no basis. The bases of the third are 12, 13 and 34, and neither 23 nor 24 is one. In the last the
+// value of 135 is negated: with 1 as the list, the relation of 2, 3, 4 and 5 is the first that fails.
 #[test]
 fn accepted_and_refused(rt: HostRuntime) {
     let alloc = rt.alloc();

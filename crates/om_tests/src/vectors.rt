@@ -1,11 +1,11 @@
-//! Vectors at the limit and lists of vectors. The signs of vectors are rows of `convert`, and whether they realize a chirotope rows of
-//! `check`.
+//! Vectors at the limit and lists of vectors. The signs of vectors are rows of `convert`, and whether they realize a
+//! chirotope rows of `check`.
 
 use super::maps::word_of;
 use om_signs::MAX_COORDINATE;
 use om_vectors::{Unfound, Vector, Word, triple};
 
-/// Whether there is a vector of three numbers, and has them as its coordinates.
+/// Whether there is a vector of three numbers, and they are its coordinates.
 fn is_vector(x: i64, y: i64, z: i64) -> bool {
     match Vector::new(x, y, z) {
         Some(vector) => vector.x() == x && vector.y() == y && vector.z() == z,
@@ -46,7 +46,7 @@ fn greatest_triple_products(rt: HostRuntime) {
     assert!(rt; found == [true; 3]);
 }
 
-/// The first vectors of three, with one behind them.
+/// The first vectors of three, followed by another.
 fn after_cut(len: u8, x: i64, y: i64, z: i64) -> Word {
     let mut word = word_of(&[[1, 2, 3], [-4, 5, 6], [1, 2, 3]]);
     if len < word.len()

@@ -1,4 +1,4 @@
-//! Wiring diagrams worked out by hand.
+//! Wiring diagrams computed by hand.
 
 ghost use Rattle.std.specs.Prelude.{◌≡◌, IfOk};
 
@@ -10,7 +10,8 @@ use om_subsets::Subset;
 use om_wiring::{BadWiring, Values, Wiring, WiringRefused, check, chirotope, sweep};
 use std::alloc::Global;
 
-/// Whether a wiring diagram with these blocks was accepted; or these were refused for a reason, and handed back.
+/// Whether a wiring diagram with these blocks was accepted; or whether these were refused for a reason, and handed
+/// back.
 fn is_checked(
     found: Result<Wiring, BadWiring>,
     refused: Option<WiringRefused>,
@@ -22,8 +23,8 @@ fn is_checked(
     }
 }
 
-/// Whether there is a chirotope, and the values of one with the signs `+-++` are right: of the triples with 1 and 2, that with 3 has
-/// the sign plus and that with 4 minus.
+/// Whether there is a chirotope, and the values of the one with the signs `+-++` are right. Of the triples with 1
+/// and 2, that with 3 is plus and that with 4 is minus.
 fn has_rows(chi: Result<Chirotope, SampleError>) -> bool
     requires rank { IfOk chi (λ c. c.rank ≡ 3) }
     requires elements { IfOk chi (λ c. c.elements ≡ 4) }
@@ -40,7 +41,7 @@ fn has_rows(chi: Result<Chirotope, SampleError>) -> bool
     }
 }
 
-/// The least wiring diagram of a chirotope, where there is one.
+/// The least wiring diagram of a chirotope, if there is one.
 pub fn sweep_of(alloc: Global, chi: Result<Chirotope, SampleError>) -> Option<Wiring> {
     match &chi {
         Ok(chi) => sweep(alloc, chi).ok(),
@@ -48,8 +49,8 @@ pub fn sweep_of(alloc: Global, chi: Result<Chirotope, SampleError>) -> Option<Wi
     }
 }
 
-/// Whether there is a wiring diagram of four wires, whose chirotope has the signs of a text, and whose blocks are these and are
-/// accepted.
+/// Whether there is a wiring diagram of four wires, its chirotope has the signs of a text, and its blocks are these
+/// and are accepted.
 fn is_of_four(alloc: Global, found: Option<Wiring>, text: &str, blocks: &[Block]) -> bool {
     match found {
         Some(w) => {
@@ -82,7 +83,7 @@ fn four_wires(rt: HostRuntime) {
             "0+++",
             &CROSSED_AT_ONCE,
         ),
-        // the last order of no blocks at all isn't the reverse of the first
+        // the last order of no blocks isn't the reverse of the first
         is_checked(
             check(4, List::new(alloc)),
             Some(WiringRefused::NotReversed),

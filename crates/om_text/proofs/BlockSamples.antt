@@ -34,14 +34,22 @@ no_last = refl
 abbrev three_lines : List (List ℕ)
 three_lines = codes "om 1" ∷ codes "wiring 3" ∷ codes "1-2 2-3 # two steps" ∷ codes "1-2" ∷ codes "end" ∷ []
 
-three : IsDocument three_lines (record { elements = 3; body = Wiring (record { first = 1; last = 2 } ∷ record { first = 2; last = 3 } ∷ record { first = 1; last = 2 } ∷ []); names = [] })
+three : IsDocument three_lines
+    (record {
+      elements = 3;
+      body =
+          Wiring (record { first = 1; last = 2 } ∷ record { first = 2; last = 3 } ∷ record { first = 1; last = 2 } ∷ []);
+      names = [];
+    })
 three = document_from three_lines _ refl
 
 -- any number of blocks is a document, whatever their positions
-none : IsDocument (codes "om 1" ∷ codes "wiring 1" ∷ codes "end" ∷ []) (record { elements = 1; body = Wiring []; names = [] })
+none : IsDocument (codes "om 1" ∷ codes "wiring 1" ∷ codes "end" ∷ [])
+    (record { elements = 1; body = Wiring []; names = [] })
 none = document_from (codes "om 1" ∷ codes "wiring 1" ∷ codes "end" ∷ []) _ refl
 
-out_of_range : IsDocument (codes "om 1" ∷ codes "wiring 3" ∷ codes "4-0" ∷ codes "end" ∷ []) (record { elements = 3; body = Wiring (record { first = 4; last = 0 } ∷ []); names = [] })
+out_of_range : IsDocument (codes "om 1" ∷ codes "wiring 3" ∷ codes "4-0" ∷ codes "end" ∷ [])
+    (record { elements = 3; body = Wiring (record { first = 4; last = 0 } ∷ []); names = [] })
 out_of_range = document_from (codes "om 1" ∷ codes "wiring 3" ∷ codes "4-0" ∷ codes "end" ∷ []) _ refl
 
 no_block : IsFault (codes "om 1" ∷ codes "wiring 3" ∷ codes "1-2 3" ∷ []) 3 code.Block

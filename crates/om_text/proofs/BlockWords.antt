@@ -2,7 +2,8 @@
 --
 -- Main definitions: IsBlockWord
 -- Main results: plain_within, position_within, block_word
-use Rattle.std.proofs.Common.{◌≡◌, ℕ, suc, ◌+◌, ◌<◌, ◌≤◌, ◌^◌, List, [], ◌∷◌, ◌++◌, true, false, not, ◌&&◌, ◌||◌, length, drop, nat_eq, nat_le, refl, ap, ◌∙◌, arith, inl, inr}
+use Rattle.std.proofs.Common.{◌≡◌, ℕ, suc, ◌+◌, ◌<◌, ◌≤◌, ◌^◌, List, [], ◌∷◌, ◌++◌, true, false, not, ◌&&◌, ◌||◌}
+use Rattle.std.proofs.Common.{length, drop, nat_eq, nat_le, refl, ap, ◌∙◌, arith, inl, inr}
 use Rattle.std.specs.Prelude.{Some, IfSome, decimal}
 use Rattle.std.specs.List.{list_all, position_or_len, before_first, after_first}
 use Rattle.std.proofs.lemmas.Bool.{le-leb}
@@ -22,7 +23,8 @@ use Rattle.om_text.proofs.Numerals.{decimal_word, number_word}
 use Rattle.om_text.proofs.Texts.{is_word_byte}
 
 -- a number of at most three digits
-three_digits : (w : List ℕ) → list_all is_digit w ≡ true → length w ≤ MAX_POSITION_DIGITS → number_from 0 w ≤ MAX_POSITION
+three_digits : (w : List ℕ) → list_all is_digit w ≡ true → length w ≤ MAX_POSITION_DIGITS
+    → number_from 0 w ≤ MAX_POSITION
 three_digits [] h l = omega arith
 three_digits (x ∷ []) h l =
     let a = digit_at (x ∷ []) 0 h (omega arith) in
@@ -120,7 +122,9 @@ block_word b s =
     record {
       bytes = list_all-append is_word_byte (decimal b.first) (45 ∷ decimal b.last) ∙ rw (i.bytes, j.bytes) refl;
       any = any_append (decimal b.first) (45 ∷ decimal b.last) i.any;
-      value = ap (λ w. with_positions (position_of w) (position_of (after_first is_dash (block_text b)))) (before_dash (decimal b.first) (decimal b.last) i.digits)
-          ∙ ap (λ w. with_positions (position_of (decimal b.first)) (position_of w)) (after_dash (decimal b.first) (decimal b.last) i.digits)
+      value = ap (λ w. with_positions (position_of w) (position_of (after_first is_dash (block_text b))))
+          (before_dash (decimal b.first) (decimal b.last) i.digits)
+          ∙ ap (λ w. with_positions (position_of (decimal b.first)) (position_of w))
+          (after_dash (decimal b.first) (decimal b.last) i.digits)
           ∙ rw (i.value, j.value) refl;
     }

@@ -2,7 +2,8 @@
 --
 -- Main definitions: AreRows, AreCut, ArePointLines, AreBlockLines
 -- Main results: map_rows, map_each, member_rows, members_long, points_reread, blocks_reread
-use Rattle.std.proofs.Common.{◌≡◌, ℕ, zero, suc, ◌+◌, ◌*◌, ◌/◌, ◌<◌, ◌≤◌, List, [], ◌∷◌, ◌++◌, true, ◌&&◌, cond, length, take, drop, map, refl, sym, ap, ◌∙◌, arith, append-nil, nat_eq, length-drop, eq-eqb}
+use Rattle.std.proofs.Common.{◌≡◌, ℕ, zero, suc, ◌+◌, ◌*◌, ◌/◌, ◌<◌, ◌≤◌, List, [], ◌∷◌, ◌++◌, true, ◌&&◌, cond, length}
+use Rattle.std.proofs.Common.{take, drop, map, refl, sym, ap, ◌∙◌, arith, append-nil, nat_eq, length-drop, eq-eqb}
 use Rattle.std.specs.Prelude.{ℤ, unsigned_abs, is_some, unwrap_or, filter, Some, All}
 use Rattle.std.specs.List.{list_all, concat, flat_map}
 use Rattle.std.specs.Fmt.{signed_decimal}
@@ -25,7 +26,8 @@ use Rattle.om_text.specs.Print.{cut, member_lines, block_text, block_lines, spac
 use Rattle.om_text.proofs.BlockWords.{block_word}
 use Rattle.om_text.proofs.Feeds.{is_one_line}
 use Rattle.om_text.proofs.Numerals.{IsSigned, signed_word}
-use Rattle.om_text.proofs.Texts.{word_one_line, words_one, words_three, three_one_line, signs_are_word, single, bytes_are_signs}
+use Rattle.om_text.proofs.Texts.{word_one_line, words_one, words_three, three_one_line, signs_are_word, single}
+use Rattle.om_text.proofs.Texts.{bytes_are_signs}
 use Rattle.om_text.proofs.Distinct.{both}
 
 -- ---- lines of signs
@@ -39,7 +41,8 @@ pub record AreRows (ls : List (List ℕ)) : Type 0 where
 no_rows : AreRows []
 no_rows = record { lines_words = refl; one_line = refl; signs = refl }
 
-one_row : (row : List ℕ) (ls : List (List ℕ)) → list_all is_sign row ≡ true → has_any row ≡ true → AreRows ls → AreRows (row ∷ ls)
+one_row : (row : List ℕ) (ls : List (List ℕ)) → list_all is_sign row ≡ true → has_any row ≡ true → AreRows ls
+    → AreRows (row ∷ ls)
 one_row row ls s h i =
     let w = signs_are_word row s in
     let e : words row ≡ row ∷ [] = words_one row w h in
@@ -56,7 +59,8 @@ pub record AreCut (k : ℕ) (bs : List ℕ) : Type 0 where
   pub rows : AreRows (cut k bs)
   pub joined : concat (map concat (single (cut k bs))) ≡ bs
 
-cut_rows : (k : ℕ) (bs : List ℕ) → length bs ≤ 64 * k → 64 * k < length bs + 64 → list_all is_sign bs ≡ true → AreCut k bs
+cut_rows : (k : ℕ) (bs : List ℕ) → length bs ≤ 64 * k → 64 * k < length bs + 64 → list_all is_sign bs ≡ true
+    → AreCut k bs
 cut_rows zero [] h l s = record { rows = no_rows; joined = refl }
 cut_rows zero (b ∷ bs) h l s = absurd (omega arith)
 cut_rows (suc k) [] h l s = absurd (omega arith)
@@ -64,20 +68,24 @@ cut_rows (suc k) (b ∷ bs) h l s =
     let row = take 64 (b ∷ bs) in
     let rest = drop 64 (b ∷ bs) in
     let whole : row ++ rest ≡ b ∷ bs = take-append-drop 64 (b ∷ bs) in
-    let split : (list_all is_sign row && list_all is_sign rest) ≡ true = sym (list_all-append is_sign row rest) ∙ ap (list_all is_sign) whole ∙ s in
+    let split : (list_all is_sign row && list_all is_sign rest) ≡ true = sym (list_all-append is_sign row rest)
+    ∙ ap (list_all is_sign) whole ∙ s in
     let c = both (list_all is_sign row) (list_all is_sign rest) split in
     let n = length-drop 64 (b ∷ bs) in
     let i : AreCut k rest = cut_rows k rest (omega arith) (omega arith) c.1 in
     record {
       rows = one_row row (cut k rest) c.0 refl i.rows;
-      joined = ap (λ x. x ++ concat (map concat (single (cut k rest)))) (append-nil row) ∙ ap (λ x. row ++ x) i.joined ∙ whole;
+      joined = ap (λ x. x ++ concat (map concat (single (cut k rest)))) (append-nil row) ∙ ap (λ x. row ++ x) i.joined
+          ∙ whole;
     }
 
 pub map_rows : (xs : List Sign) → AreCut ((length xs + 63) / 64) (map byte_of xs)
-map_rows xs = let n = length-map xs byte_of in cut_rows ((length xs + 63) / 64) (map byte_of xs) (omega arith) (omega arith) (bytes_are_signs xs)
+map_rows xs = let n = length-map xs byte_of in
+    cut_rows ((length xs + 63) / 64) (map byte_of xs) (omega arith) (omega arith) (bytes_are_signs xs)
 
 -- they may stand in the body of a map
-pub map_each : (r n : ℕ) (ls : List (List (List ℕ))) → list_all are_signs ls ≡ true → list_all (is_body_line (headed kinds.Chirotope (r, n))) ls ≡ true
+pub map_each : (r n : ℕ) (ls : List (List (List ℕ))) → list_all are_signs ls ≡ true
+    → list_all (is_body_line (headed kinds.Chirotope (r, n))) ls ≡ true
 map_each r n [] h = refl
 map_each r n (l ∷ ls) h = let a = both (are_signs l) (list_all are_signs ls) h in rw (a.0, map_each r n ls a.1) refl
 
@@ -89,14 +97,18 @@ any_byte n (s ∷ x) l h = refl
 
 pub member_rows : (n : ℕ) (ms : List (List Sign)) → 1 ≤ n → All (λ x. length x ≡ n) ms → AreRows (member_lines ms)
 member_rows n [] l a = no_rows
-member_rows n (x ∷ xs) l a = one_row (map byte_of x) (member_lines xs) (bytes_are_signs x) (any_byte n x l (All-head (λ x. length x ≡ n) x xs a)) (member_rows n xs l (All-tail (λ x. length x ≡ n) x xs a))
+member_rows n (x ∷ xs) l a =
+    one_row (map byte_of x) (member_lines xs) (bytes_are_signs x) (any_byte n x l (All-head (λ x. length x ≡ n) x xs a))
+    (member_rows n xs l (All-tail (λ x. length x ≡ n) x xs a))
 
-pub members_long : (n : ℕ) (ms : List (List Sign)) → All (λ x. length x ≡ n) ms → list_all (λ l. are_signs l && nat_eq (length (concat l)) n && true && true) (single (member_lines ms)) ≡ true
+pub members_long : (n : ℕ) (ms : List (List Sign)) → All (λ x. length x ≡ n) ms
+    → list_all (λ l. are_signs l && nat_eq (length (concat l)) n && true && true) (single (member_lines ms)) ≡ true
 members_long n [] a = refl
 members_long n (x ∷ xs) a =
     let j : map byte_of x ++ [] ≡ map byte_of x = append-nil (map byte_of x) in
     let s : are_signs (map byte_of x ∷ []) ≡ true = ap (list_all is_sign) j ∙ bytes_are_signs x in
-    let l : nat_eq (length (concat (map byte_of x ∷ []))) n ≡ true = eq-eqb _ n (ap length j ∙ length-map x byte_of ∙ All-head (λ x. length x ≡ n) x xs a) in
+    let l : nat_eq (length (concat (map byte_of x ∷ []))) n ≡ true =
+    eq-eqb _ n (ap length j ∙ length-map x byte_of ∙ All-head (λ x. length x ≡ n) x xs a) in
     rw (s, l) (members_long n xs (All-tail (λ x. length x ≡ n) x xs a))
 
 -- ---- the lines of points
@@ -121,7 +133,8 @@ point_line (x ∷ y ∷ z ∷ []) f =
     let b = coordinate_word y (All-head IsCoordinate y (z ∷ []) t) in
     let c = coordinate_word z (All-head IsCoordinate z [] (All-tail IsCoordinate y (z ∷ []) t)) in
     record {
-      line_words = words_three (signed_decimal x) (signed_decimal y) (signed_decimal z) a.bytes a.any b.bytes b.any c.bytes c.any;
+      line_words = words_three (signed_decimal x) (signed_decimal y) (signed_decimal z) a.bytes a.any b.bytes b.any
+          c.bytes c.any;
       any = refl;
       one_line = three_one_line (signed_decimal x) (signed_decimal y) (signed_decimal z) a.bytes b.bytes c.bytes;
       point = rw (a.value, b.value, c.value) refl;
@@ -165,7 +178,8 @@ blocks_reread (b ∷ bs) a =
     let s : is_some (block_of (block_text b)) ≡ true = ap is_some w.value in
     let o : block_on (block_text b) ≡ b = ap (λ o. unwrap_or o (record { first = 0; last = 0 })) w.value in
     record {
-      lines_words = ap (λ x. filter has_any (x ∷ map words (block_lines bs))) (words_one (block_text b) w.bytes w.any) ∙ ap (λ x. (block_text b ∷ []) ∷ x) i.lines_words;
+      lines_words = ap (λ x. filter has_any (x ∷ map words (block_lines bs))) (words_one (block_text b) w.bytes w.any)
+          ∙ ap (λ x. (block_text b ∷ []) ∷ x) i.lines_words;
       one_line = rw (word_one_line (block_text b) w.bytes) i.one_line;
       each = rw s i.each;
       value = ap (λ x. x ∷ flat_map blocks_on (single (block_lines bs))) o ∙ ap (λ x. b ∷ x) i.value;

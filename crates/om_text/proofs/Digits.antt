@@ -1,7 +1,8 @@
 -- Numbers of at most six digits, and of any number of digits up to a limit.
 --
 -- Main results: ten_small, digit_at, number_step, number_grows, unsigned_within, signed_within
-use Rattle.std.proofs.Common.{◌≡◌, ℕ, zero, suc, ◌+◌, ◌-◌, ◌*◌, ◌<◌, ◌≤◌, List, [], ◌∷◌, true, length, drop, get_or, refl, arith, nat_le, inl, inr}
+use Rattle.std.proofs.Common.{◌≡◌, ℕ, zero, suc, ◌+◌, ◌-◌, ◌*◌, ◌<◌, ◌≤◌, List, [], ◌∷◌, true, length, drop, get_or}
+use Rattle.std.proofs.Common.{refl, arith, nat_le, inl, inr}
 use Rattle.std.specs.List.{list_all}
 use Rattle.std.proofs.lemmas.Bool.{leb-true, lt-leb}
 use Rattle.std.specs.Prelude.{Option, Some, None, IfSome, option_map, pos, unsigned_abs}
@@ -22,7 +23,8 @@ ten_small (suc (suc (suc (suc zero)))) h = omega arith
 ten_small (suc (suc (suc (suc (suc zero))))) h = omega arith
 ten_small (suc (suc (suc (suc (suc (suc k)))))) h = absurd (omega arith)
 
-pub digit_at : (w : List ℕ) (i : ℕ) → list_all is_digit w ≡ true → i < length w → (48 ≤ get_or w i 0) × (get_or w i 0 ≤ 57)
+pub digit_at : (w : List ℕ) (i : ℕ) → list_all is_digit w ≡ true → i < length w → (48 ≤ get_or w i 0)
+    × (get_or w i 0 ≤ 57)
 digit_at [] i h l = absurd (omega arith)
 digit_at (b ∷ bs) zero h l =
     let a = both (is_digit b) (list_all is_digit bs) h in
@@ -30,10 +32,12 @@ digit_at (b ∷ bs) zero h l =
     (leb-true 48 b c.0, leb-true b 57 c.1)
 digit_at (b ∷ bs) (suc i) h l = digit_at bs i (both (is_digit b) (list_all is_digit bs) h).1 (omega arith)
 
-pub number_step : (w : List ℕ) (i n : ℕ) → i < length w → number_from n (drop i w) ≡ number_from (10 * n + (get_or w i 0 - 48)) (drop (i + 1) w)
+pub number_step : (w : List ℕ) (i n : ℕ) → i < length w
+    → number_from n (drop i w) ≡ number_from (10 * n + (get_or w i 0 - 48)) (drop (i + 1) w)
 number_step [] i n l = absurd (omega arith)
 number_step (b ∷ bs) zero n l = refl
-number_step (b ∷ bs) (suc i) n l = let e : suc i + 1 ≡ suc (i + 1) = omega arith in rw e (number_step bs i n (omega arith))
+number_step (b ∷ bs) (suc i) n l = let e : suc i + 1 ≡ suc (i + 1) = omega arith in
+    rw e (number_step bs i n (omega arith))
 
 -- a number goes on to no smaller one
 pub number_grows : (n : ℕ) (w : List ℕ) → n ≤ number_from n w

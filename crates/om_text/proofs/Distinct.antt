@@ -1,7 +1,8 @@
 -- The distinct members of a list, member by member.
 --
 -- Main results: both, same_row-Decides, distinct-append, distinct-each, with_member_grows, with_each_grows
-use Rattle.std.proofs.Common.{◌≡◌, ◌≤◌, List, [], ◌∷◌, ◌++◌, Bool, true, false, cond, not, ◌&&◌, ◌||◌, ◌⊎◌, inl, inr, length, refl, sym, ap, ◌∙◌, arith, length-append, append_assoc, append-nil}
+use Rattle.std.proofs.Common.{◌≡◌, ◌≤◌, List, [], ◌∷◌, ◌++◌, Bool, true, false, cond, not, ◌&&◌, ◌||◌, ◌⊎◌, inl, inr}
+use Rattle.std.proofs.Common.{length, refl, sym, ap, ◌∙◌, arith, length-append, append_assoc, append-nil}
 use Rattle.std.specs.Prelude.{filter, Decides, IsTrue}
 use Rattle.std.specs.List.{list_any}
 use Rattle.std.proofs.lemmas.Slice.Eq.{slice_eq-Decides}
@@ -38,7 +39,8 @@ same_row-Decides x y = slice_eq-Decides equal_signs-Decides x y (same_row x y) r
 abbrev others : List Sign → List (List Sign) → List (List Sign)
 others y ms = filter (λ z. not (same_row y z)) ms
 
-any_other : (x y : List Sign) (ms : List (List Sign)) → same_row y x ≡ false → list_any (λ z. same_row z x) (others y ms) ≡ list_any (λ z. same_row z x) ms
+any_other : (x y : List Sign) (ms : List (List Sign)) → same_row y x ≡ false
+    → list_any (λ z. same_row z x) (others y ms) ≡ list_any (λ z. same_row z x) ms
 any_other x y [] n = refl
 any_other x y (z ∷ zs) n = elim (either (same_row y z)) [
   | inl e ↦ let q : y ≡ z = (same_row-Decides y z).0 e in
@@ -54,7 +56,8 @@ others-append y x (z ∷ zs) = elim (either (same_row y z)) [
   | inr e ↦ rw e (ap (λ r. z ∷ r) (others-append y x zs))
 ]
 
-others-with_same : (y x : List Sign) (ms : List (List Sign)) → same_row y x ≡ true → others y (with_member ms x) ≡ others y ms
+others-with_same : (y x : List Sign) (ms : List (List Sign)) → same_row y x ≡ true
+    → others y (with_member ms x) ≡ others y ms
 others-with_same y x ms e = elim (either (list_any (λ z. same_row z x) ms)) [
   | inl a ↦ rw a refl
   | inr a ↦ rw a (others-append y x ms ∙ ap (λ r. others y ms ++ r) gone ∙ append-nil (others y ms))
@@ -63,7 +66,8 @@ others-with_same y x ms e = elim (either (list_any (λ z. same_row z x) ms)) [
     gone : others y (x ∷ []) ≡ []
     gone = rw e refl
 
-others-with_other : (y x : List Sign) (ms : List (List Sign)) → same_row y x ≡ false → others y (with_member ms x) ≡ with_member (others y ms) x
+others-with_other : (y x : List Sign) (ms : List (List Sign)) → same_row y x ≡ false
+    → others y (with_member ms x) ≡ with_member (others y ms) x
 others-with_other y x ms n = elim (either (list_any (λ z. same_row z x) ms)) [
   | inl a ↦ rw (any_other x y ms n, a) refl
   | inr a ↦ rw (any_other x y ms n, a) (others-append y x ms ∙ ap (λ r. others y ms ++ r) kept)
@@ -73,7 +77,8 @@ others-with_other y x ms n = elim (either (list_any (λ z. same_row z x) ms)) [
     kept = rw n refl
 
 -- a head in front of either choice
-pull : (y x : List Sign) (b : Bool) (r : List (List Sign)) → ◌≡◌ {A = List (List Sign)} (y ∷ cond b r (r ++ x ∷ [])) (cond b (y ∷ r) (y ∷ (r ++ x ∷ [])))
+pull : (y x : List Sign) (b : Bool) (r : List (List Sign))
+    → ◌≡◌ {A = List (List Sign)} (y ∷ cond b r (r ++ x ∷ [])) (cond b (y ∷ r) (y ∷ (r ++ x ∷ [])))
 pull y x true r = refl
 pull y x false r = refl
 
@@ -81,13 +86,16 @@ pub distinct-append : (xs : List (List Sign)) (x : List Sign) → distinct (xs +
 distinct-append [] x = refl
 distinct-append (y ∷ ys) x = ap (λ r. y ∷ others y r) (distinct-append ys x) ∙ elim (either (same_row y x)) [
   | inl e ↦ rw e (ap (λ r. y ∷ r) (others-with_same y x (distinct ys) e))
-  | inr n ↦ rw n (ap (λ r. y ∷ r) (others-with_other y x (distinct ys) n) ∙ pull y x (list_any (λ z. same_row z x) (others y (distinct ys))) (others y (distinct ys)))
+  | inr n ↦
+      rw n (ap (λ r. y ∷ r) (others-with_other y x (distinct ys) n)
+      ∙ pull y x (list_any (λ z. same_row z x) (others y (distinct ys))) (others y (distinct ys)))
 ]
 
 -- several members more
 pub distinct-each : (xs ys : List (List Sign)) → distinct (xs ++ ys) ≡ with_each (distinct xs) ys
 distinct-each xs [] = ap distinct (append-nil xs)
-distinct-each xs (y ∷ ys) = ap distinct (sym (append_assoc xs (y ∷ []) ys)) ∙ distinct-each (xs ++ y ∷ []) ys ∙ ap (λ ms. with_each ms ys) (distinct-append xs y)
+distinct-each xs (y ∷ ys) = ap distinct (sym (append_assoc xs (y ∷ []) ys)) ∙ distinct-each (xs ++ y ∷ []) ys
+    ∙ ap (λ ms. with_each ms ys) (distinct-append xs y)
 
 pub with_member_grows : (ms : List (List Sign)) (x : List Sign) → length ms ≤ length (with_member ms x)
 with_member_grows ms x = elim (either (list_any (λ z. same_row z x) ms)) [
@@ -97,7 +105,8 @@ with_member_grows ms x = elim (either (list_any (λ z. same_row z x) ms)) [
 
 pub with_each_grows : (ms xs : List (List Sign)) → length ms ≤ length (with_each ms xs)
 with_each_grows ms [] = omega arith
-with_each_grows ms (x ∷ xs) = let a = with_member_grows ms x in let b = with_each_grows (with_member ms x) xs in omega arith
+with_each_grows ms (x ∷ xs) = let a = with_member_grows ms x in let b = with_each_grows (with_member ms x) xs in
+    omega arith
 
 pub same_from_iff : (r : Bool) (x y : List Sign) → (IsTrue r → x ≡ y) × (x ≡ y → IsTrue r) → r ≡ same_row x y
 same_from_iff true x y h = sym ((same_row-Decides x y).1 (h.0 refl))

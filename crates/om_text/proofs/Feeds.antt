@@ -2,7 +2,8 @@
 --
 -- Main definitions: is_one_line
 -- Main results: lines_text, lines_one_line
-use Rattle.std.proofs.Common.{◌≡◌, ℕ, zero, suc, List, [], ◌∷◌, ◌++◌, Bool, true, false, not, take, refl, ap, ◌∙◌, inl, inr, nat_eq}
+use Rattle.std.proofs.Common.{◌≡◌, ℕ, zero, suc, List, [], ◌∷◌, ◌++◌, Bool, true, false, not, take, refl, ap, ◌∙◌, inl}
+use Rattle.std.proofs.Common.{inr, nat_eq}
 use Rattle.std.specs.List.{list_all}
 use Rattle.std.proofs.lemmas.List.Folds.{list_all-append}
 use Rattle.om_text.specs.Lines.{lines, with_first}
@@ -29,7 +30,8 @@ lines_text (l ∷ ls) h =
     let a = both (is_one_line l) (list_all is_one_line ls) h in
     line_text l (text_of ls) a.0 ∙ ap (λ r. l ∷ r) (lines_text ls a.1)
 
-one_line-with_first : (b : ℕ) (ls : List (List ℕ)) → nat_eq b 10 ≡ false → list_all is_one_line ls ≡ true → list_all is_one_line (with_first b ls) ≡ true
+one_line-with_first : (b : ℕ) (ls : List (List ℕ)) → nat_eq b 10 ≡ false → list_all is_one_line ls ≡ true
+    → list_all is_one_line (with_first b ls) ≡ true
 one_line-with_first b [] n h = rw n refl
 one_line-with_first b (l ∷ ls) n h = rw n h
 
@@ -40,10 +42,13 @@ lines_one_line (b ∷ bs) = elim (either (nat_eq b 10)) [
   | inr n ↦ rw n (one_line-with_first b (lines bs) n (lines_one_line bs))
 ]
 
-pub one_line-append : (xs ys : List (List ℕ)) → list_all is_one_line xs ≡ true → list_all is_one_line ys ≡ true → list_all is_one_line (xs ++ ys) ≡ true
+pub one_line-append : (xs ys : List (List ℕ)) → list_all is_one_line xs ≡ true → list_all is_one_line ys ≡ true
+    → list_all is_one_line (xs ++ ys) ≡ true
 one_line-append xs ys h e = list_all-append is_one_line xs ys ∙ rw (h, e) refl
 
-pub one_line-take : (k : ℕ) (xs : List (List ℕ)) → list_all is_one_line xs ≡ true → list_all is_one_line (take k xs) ≡ true
+pub one_line-take : (k : ℕ) (xs : List (List ℕ)) → list_all is_one_line xs ≡ true
+    → list_all is_one_line (take k xs) ≡ true
 one_line-take zero xs h = refl
 one_line-take (suc k) [] h = refl
-one_line-take (suc k) (x ∷ xs) h = let a = both (is_one_line x) (list_all is_one_line xs) h in rw a.0 (one_line-take k xs a.1)
+one_line-take (suc k) (x ∷ xs) h = let a = both (is_one_line x) (list_all is_one_line xs) h in
+    rw a.0 (one_line-take k xs a.1)

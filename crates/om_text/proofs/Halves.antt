@@ -2,7 +2,8 @@
 --
 -- Main definitions: has, pairs
 -- Main results: doubled_permutes, members_permute, half_long, half_read
-use Rattle.std.proofs.Common.{◌≡◌, ◌≢◌, ℕ, List, [], ◌∷◌, ◌++◌, Bool, true, false, not, ◌&&◌, ◌||◌, inl, inr, length, map, refl, sym, ap, subst, ◌∙◌, append-nil}
+use Rattle.std.proofs.Common.{◌≡◌, ◌≢◌, ℕ, List, [], ◌∷◌, ◌++◌, Bool, true, false, not, ◌&&◌, ◌||◌, inl, inr, length}
+use Rattle.std.proofs.Common.{map, refl, sym, ap, subst, ◌∙◌, append-nil}
 use Rattle.std.specs.Prelude.{All, AllPairs, Contains, filter}
 use Rattle.std.specs.List.{list_any, flat_map}
 use Rattle.std.specs.List.Sorted.{IsPermutation}
@@ -67,7 +68,8 @@ same_negative z x = elim (either (same_row z (map opposite x))) [
       e ∙ sym ((same_row-Decides (map opposite z) x).1 q)
   | inr n ↦ elim (either (same_row (map opposite z) x)) [
     | inl e ↦
-        let q : z ≡ map opposite x = sym (opposite_twice z) ∙ ap (map opposite) ((same_row-Decides (map opposite z) x).0 e) in
+        let q : z ≡ map opposite x = sym (opposite_twice z)
+        ∙ ap (map opposite) ((same_row-Decides (map opposite z) x).0 e) in
         (same_row-Decides z (map opposite x)).1 q ∙ sym e
     | inr m ↦ n ∙ sym m
   ]
@@ -75,7 +77,8 @@ same_negative z x = elim (either (same_row z (map opposite x))) [
 
 -- ---- members of the lists on the way
 
-has-others : (z x : List Sign) (ys : List (List Sign)) → same_row z x ≡ false → has z (filter (λ y. not (same_row x y)) ys) ≡ has z ys
+has-others : (z x : List Sign) (ys : List (List Sign)) → same_row z x ≡ false
+    → has z (filter (λ y. not (same_row x y)) ys) ≡ has z ys
 has-others z x [] n = refl
 has-others z x (y ∷ ys) n = elim (either (same_row x y)) [
   | inl e ↦
@@ -109,14 +112,16 @@ and_false : (b : Bool) → (b && false) ≡ false
 and_false true = refl
 and_false false = refl
 
-has-begun : (z : List Sign) (xs : List (List Sign)) → has z (filter begins_with_plus xs) ≡ (begins_with_plus z && has z xs)
+has-begun : (z : List Sign) (xs : List (List Sign)) → has z (filter begins_with_plus xs)
+    ≡ (begins_with_plus z && has z xs)
 has-begun z [] = sym (and_false (begins_with_plus z))
 has-begun z (x ∷ xs) = elim (either (same_row z x)) [
   | inl e ↦
       let q : z ≡ x = (same_row-Decides z x).0 e in
       elim (either (begins_with_plus x)) [
         | inl b ↦ let c : begins_with_plus z ≡ true = ap begins_with_plus q ∙ b in rw (b, c, e) refl
-        | inr b ↦ let c : begins_with_plus z ≡ false = ap begins_with_plus q ∙ b in rw (b, c) (has-begun z xs ∙ rw c refl)
+        | inr b ↦ let c : begins_with_plus z ≡ false = ap begins_with_plus q ∙ b in
+            rw (b, c) (has-begun z xs ∙ rw c refl)
       ]
   | inr n ↦ elim (either (begins_with_plus x)) [
     | inl b ↦ rw (b, n) (has-begun z xs)
@@ -125,14 +130,16 @@ has-begun z (x ∷ xs) = elim (either (same_row z x)) [
 ]
 
 has-half : (z : List Sign) (ms : List (List Sign)) → has z (half_of ms) ≡ (begins_with_plus z && has z ms)
-has-half z ms = has-begun z (sorted ms) ∙ ap (λ b. begins_with_plus z && b) (sym (list_any-IsPermutation (same_row z) ms (sorted ms) (sorted_permutes ms)))
+has-half z ms = has-begun z (sorted ms)
+    ∙ ap (λ b. begins_with_plus z && b) (sym (list_any-IsPermutation (same_row z) ms (sorted ms) (sorted_permutes ms)))
 
 has-negative : (z : List Sign) (ms : List (List Sign)) → IsClosed ms → has (map opposite z) ms ≡ has z ms
 has-negative z ms c = elim (either (has z ms)) [
   | inl e ↦ has-from_contains (map opposite z) ms (c z (contains-from_has z ms e)) ∙ sym e
   | inr n ↦ elim (either (has (map opposite z) ms)) [
     | inl e ↦
-        let back : Contains ms z = subst (Contains ms) (opposite_twice z) (c (map opposite z) (contains-from_has (map opposite z) ms e)) in
+        let back : Contains ms z =
+        subst (Contains ms) (opposite_twice z) (c (map opposite z) (contains-from_has (map opposite z) ms e)) in
         e ∙ sym (has-from_contains z ms back)
     | inr m ↦ m ∙ sym n
   ]
@@ -148,7 +155,8 @@ has-doubled : (z : List Sign) (ms : List (List Sign)) → IsClosed ms → has z 
 has-doubled z ms c =
     has-distinct z (pairs (half_of ms)) ∙ has-pairs z (half_of ms)
     ∙ ap (λ b. b || has (map opposite z) (half_of ms)) (has-half z ms)
-    ∙ ap (λ b. (begins_with_plus z && has z ms) || b) (has-half (map opposite z) ms ∙ ap (λ b. begins_with_plus (map opposite z) && b) (has-negative z ms c))
+    ∙ ap (λ b. (begins_with_plus z && has z ms) || b)
+    (has-half (map opposite z) ms ∙ ap (λ b. begins_with_plus (map opposite z) && b) (has-negative z ms c))
     ∙ either_way (begins_with_plus z) (begins_with_plus (map opposite z)) (has z ms) (other_begins z)
 
 -- ---- a test of closure
@@ -156,8 +164,10 @@ has-doubled z ms c =
 -- ---- what is printed and read
 
 -- the members that half of them stand for are the same members
-pub doubled_permutes : (ms : List (List Sign)) → AllPairs (λ x y. x ≢ y) ms → IsClosed ms → IsPermutation ms (doubled (half_of ms))
-doubled_permutes ms p c = same_members ms (doubled (half_of ms)) p (distinct_differ (pairs (half_of ms))) (λ z. sym (has-doubled z ms c))
+pub doubled_permutes : (ms : List (List Sign)) → AllPairs (λ x y. x ≢ y) ms → IsClosed ms
+    → IsPermutation ms (doubled (half_of ms))
+doubled_permutes ms p c = same_members ms (doubled (half_of ms)) p (distinct_differ (pairs (half_of ms)))
+    (λ z. sym (has-doubled z ms c))
 
 pub half_long : (n : ℕ) (ms : List (List Sign)) → All (λ x. length x ≡ n) ms → All (λ x. length x ≡ n) (half_of ms)
 half_long n ms a = All-filter begins_with_plus (λ x. length x ≡ n) (sorted ms) (All-sorted (λ x. length x ≡ n) ms a)
@@ -166,11 +176,14 @@ half_long n ms a = All-filter begins_with_plus (λ x. length x ≡ n) (sorted ms
 pub half_read : (ms : List (List Sign)) → flat_map (members_of_line Half) (single (member_lines ms)) ≡ pairs ms
 half_read [] = refl
 half_read (x ∷ xs) =
-    let e : map sign_of_byte (map byte_of x ++ []) ≡ x = ap (map sign_of_byte) (append-nil (map byte_of x)) ∙ signs_of_bytes_of x in
-    ap (λ y. y ∷ map opposite y ∷ flat_map (members_of_line Half) (single (member_lines xs))) e ∙ ap (λ r. x ∷ map opposite x ∷ r) (half_read xs)
+    let e : map sign_of_byte (map byte_of x ++ []) ≡ x = ap (map sign_of_byte) (append-nil (map byte_of x))
+    ∙ signs_of_bytes_of x in
+    ap (λ y. y ∷ map opposite y ∷ flat_map (members_of_line Half) (single (member_lines xs))) e
+    ∙ ap (λ r. x ∷ map opposite x ∷ r) (half_read xs)
 
 -- the same of the members of a body
-pub members_permute : (n : ℕ) (b : Body) → IsBodyOn n b → IsClosedUnderNegation b → IsPermutation (members_of b) (members_of (doubled_body b))
+pub members_permute : (n : ℕ) (b : Body) → IsBodyOn n b → IsClosedUnderNegation b
+    → IsPermutation (members_of b) (members_of (doubled_body b))
 members_permute n (Chirotope m) h c = IsPermutation-refl []
 members_permute n (Wiring bs) h c = IsPermutation-refl []
 members_permute n (Points ps) h c = IsPermutation-refl []

@@ -1,8 +1,11 @@
 -- The words of a line in one are its bytes other than blanks.
 --
--- Main definitions: full_bytes and signs_of_bytes, the bytes of a line other than blanks, and their signs; IsDocumentAtFront
+-- Main definitions: full_bytes and signs_of_bytes, the bytes of a line other than blanks, and their signs;
+-- IsDocumentAtFront
 -- Main results: concat-runs, are_signs-runs, count-runs, signs-runs, part_more, part_end
-use Rattle.std.proofs.Common.{◌≡◌, ℕ, suc, ◌+◌, ◌<◌, List, [], ◌∷◌, ◌++◌, true, false, not, ◌&&◌, ◌||◌, length, take, drop, set, replicate, get_or, ◌-◌, ◌≤◌, append_assoc, append-nil, length-append, refl, sym, ap, ◌∙◌, arith, inl, inr, map}
+use Rattle.std.proofs.Common.{◌≡◌, ℕ, suc, ◌+◌, ◌<◌, List, [], ◌∷◌, ◌++◌, true, false, not, ◌&&◌, ◌||◌, length, take}
+use Rattle.std.proofs.Common.{drop, set, replicate, get_or, ◌-◌, ◌≤◌, append_assoc, append-nil, length-append, refl}
+use Rattle.std.proofs.Common.{sym, ap, ◌∙◌, arith, inl, inr, map}
 use Rattle.std.specs.Prelude.{filter, count_by}
 use Rattle.std.specs.List.{list_all, concat}
 use Rattle.std.proofs.lemmas.List.Sums.{length-filter}
@@ -64,52 +67,74 @@ pub record IsDocumentAtFront (n : ℕ) (line : List ℕ) (i e : ℕ) (vector : L
   pub count : e ≡ length (full_bytes (take i line))
   pub value : vector ≡ signs_of_bytes (take i line) ++ replicate (n - e) Zero
 
-full_more : (line : List ℕ) (i : ℕ) → i < length line → is_blank (get_or line i 0) ≡ false → full_bytes (take (i + 1) line) ≡ full_bytes (take i line) ++ get_or line i 0 ∷ []
-full_more line i l n = ap full_bytes (take_more line i 0 l) ∙ filter-append (λ b. not (is_blank b)) (take i line) (get_or line i 0 ∷ []) ∙ rw n refl
+full_more : (line : List ℕ) (i : ℕ) → i < length line → is_blank (get_or line i 0) ≡ false
+    → full_bytes (take (i + 1) line) ≡ full_bytes (take i line) ++ get_or line i 0 ∷ []
+full_more line i l n = ap full_bytes (take_more line i 0 l)
+    ∙ filter-append (λ b. not (is_blank b)) (take i line) (get_or line i 0 ∷ []) ∙ rw n refl
 
-full_same : (line : List ℕ) (i : ℕ) → i < length line → is_blank (get_or line i 0) ≡ true → full_bytes (take (i + 1) line) ≡ full_bytes (take i line)
-full_same line i l e = ap full_bytes (take_more line i 0 l) ∙ filter-append (λ b. not (is_blank b)) (take i line) (get_or line i 0 ∷ []) ∙ rw e (append-nil (full_bytes (take i line)))
+full_same : (line : List ℕ) (i : ℕ) → i < length line → is_blank (get_or line i 0) ≡ true
+    → full_bytes (take (i + 1) line) ≡ full_bytes (take i line)
+full_same line i l e = ap full_bytes (take_more line i 0 l)
+    ∙ filter-append (λ b. not (is_blank b)) (take i line) (get_or line i 0 ∷ [])
+    ∙ rw e (append-nil (full_bytes (take i line)))
 
 full_within : (line : List ℕ) (i : ℕ) → length (full_bytes (take i line)) ≤ length (full_bytes line)
 full_within line i =
-    let e : full_bytes (take i line) ++ full_bytes (drop i line) ≡ full_bytes line = sym (filter-append (λ b. not (is_blank b)) (take i line) (drop i line)) ∙ ap full_bytes (take-append-drop i line) in
+    let e : full_bytes (take i line) ++ full_bytes (drop i line) ≡ full_bytes line =
+    sym (filter-append (λ b. not (is_blank b)) (take i line) (drop i line))
+    ∙ ap full_bytes (take-append-drop i line) in
     omega (arith, length-append (full_bytes (take i line)) (full_bytes (drop i line)), ap length e)
 
-pub part_room : (n : ℕ) (line : List ℕ) (i e : ℕ) (v : List Sign) → IsDocumentAtFront n line i e v → i < length line → is_blank (get_or line i 0) ≡ false → length (concat (runs line)) ≡ n → e < n
+pub part_room : (n : ℕ) (line : List ℕ) (i e : ℕ) (v : List Sign) → IsDocumentAtFront n line i e v → i < length line
+    → is_blank (get_or line i 0) ≡ false → length (concat (runs line)) ≡ n → e < n
 part_room n line i e v p l b h =
     let m = ap length (full_more line i l b) in
     let k = full_within line (i + 1) in
     let q : length (full_bytes line) ≡ n = sym (ap length (concat-runs line)) ∙ h in
     omega (arith, length-append (full_bytes (take i line)) (get_or line i 0 ∷ []), p.count)
 
-pub part_length : (n : ℕ) (line : List ℕ) (i e : ℕ) (v : List Sign) → IsDocumentAtFront n line i e v → e ≤ n → length v ≡ n
+pub part_length : (n : ℕ) (line : List ℕ) (i e : ℕ) (v : List Sign) → IsDocumentAtFront n line i e v → e ≤ n
+    → length v ≡ n
 part_length n line i e v p h =
-    ap length p.value ∙ length-append (signs_of_bytes (take i line)) (replicate (n - e) Zero) ∙ rw (length-replicate (n - e) Zero, length-map (full_bytes (take i line)) sign_of_byte, ← p.count) (omega arith)
+    ap length p.value ∙ length-append (signs_of_bytes (take i line)) (replicate (n - e) Zero)
+    ∙ rw (length-replicate (n - e) Zero, length-map (full_bytes (take i line)) sign_of_byte, ← p.count)
+    (omega arith)
 
-pub part_same : (n : ℕ) (line : List ℕ) (i e : ℕ) (v : List Sign) → IsDocumentAtFront n line i e v → i < length line → is_blank (get_or line i 0) ≡ true → IsDocumentAtFront n line (i + 1) e v
+pub part_same : (n : ℕ) (line : List ℕ) (i e : ℕ) (v : List Sign) → IsDocumentAtFront n line i e v → i < length line
+    → is_blank (get_or line i 0) ≡ true → IsDocumentAtFront n line (i + 1) e v
 part_same n line i e v p l b = record {
   count = p.count ∙ ap length (sym (full_same line i l b));
   value = p.value ∙ ap (λ r. map sign_of_byte r ++ replicate (n - e) Zero) (sym (full_same line i l b));
 }
 
-set_next : (xs : List Sign) (n e : ℕ) (s : Sign) → e ≡ length xs → e < n → set (xs ++ replicate (n - e) Zero) e s ≡ (xs ++ s ∷ []) ++ replicate (n - (e + 1)) Zero
+set_next : (xs : List Sign) (n e : ℕ) (s : Sign) → e ≡ length xs → e < n
+    → set (xs ++ replicate (n - e) Zero) e s ≡ (xs ++ s ∷ []) ++ replicate (n - (e + 1)) Zero
 set_next xs n e s q l =
     let z : n - e ≡ suc (n - (e + 1)) = omega arith in
-    rw (z, q) (set-append_seam xs Zero (replicate (n - (length xs + 1)) Zero) s ∙ sym (append_assoc xs (s ∷ []) (replicate (n - (length xs + 1)) Zero)))
+    rw (z, q) (set-append_seam xs Zero (replicate (n - (length xs + 1)) Zero) s
+    ∙ sym (append_assoc xs (s ∷ []) (replicate (n - (length xs + 1)) Zero)))
 
-pub part_more : (n : ℕ) (line : List ℕ) (i e : ℕ) (v : List Sign) → IsDocumentAtFront n line i e v → i < length line → is_blank (get_or line i 0) ≡ false → length (concat (runs line)) ≡ n → IsDocumentAtFront n line (i + 1) (e + 1) (set v (e + 1 - 1) (sign_of_byte (get_or line i 0)))
+pub part_more : (n : ℕ) (line : List ℕ) (i e : ℕ) (v : List Sign) → IsDocumentAtFront n line i e v → i < length line
+    → is_blank (get_or line i 0) ≡ false → length (concat (runs line)) ≡ n
+    → IsDocumentAtFront n line (i + 1) (e + 1) (set v (e + 1 - 1) (sign_of_byte (get_or line i 0)))
 part_more n line i e v p l b h =
     let r = part_room n line i e v p l b h in
     let f = full_more line i l b in
-    let c : e ≡ length (signs_of_bytes (take i line)) = p.count ∙ sym (length-map (full_bytes (take i line)) sign_of_byte) in
-    let s : signs_of_bytes (take (i + 1) line) ≡ signs_of_bytes (take i line) ++ sign_of_byte (get_or line i 0) ∷ [] = ap (map sign_of_byte) f ∙ map-append sign_of_byte (full_bytes (take i line)) (get_or line i 0 ∷ []) in
+    let c : e ≡ length (signs_of_bytes (take i line)) = p.count
+    ∙ sym (length-map (full_bytes (take i line)) sign_of_byte) in
+    let s : signs_of_bytes (take (i + 1) line) ≡ signs_of_bytes (take i line) ++ sign_of_byte (get_or line i 0) ∷ [] =
+    ap (map sign_of_byte) f ∙ map-append sign_of_byte (full_bytes (take i line)) (get_or line i 0 ∷ []) in
     let d : e + 1 - 1 ≡ e = omega arith in
     record {
       count = omega (arith, p.count, ap length f, length-append (full_bytes (take i line)) (get_or line i 0 ∷ []));
-      value = ap (λ k. set v k (sign_of_byte (get_or line i 0))) d ∙ ap (λ v. set v e (sign_of_byte (get_or line i 0))) p.value ∙ set_next (signs_of_bytes (take i line)) n e (sign_of_byte (get_or line i 0)) c r ∙ ap (λ r. r ++ replicate (n - (e + 1)) Zero) (sym s);
+      value = ap (λ k. set v k (sign_of_byte (get_or line i 0))) d
+          ∙ ap (λ v. set v e (sign_of_byte (get_or line i 0))) p.value
+          ∙ set_next (signs_of_bytes (take i line)) n e (sign_of_byte (get_or line i 0)) c r
+          ∙ ap (λ r. r ++ replicate (n - (e + 1)) Zero) (sym s);
     }
 
-pub part_end : (n : ℕ) (line : List ℕ) (i e : ℕ) (v : List Sign) → IsDocumentAtFront n line i e v → length line ≤ i → length (concat (runs line)) ≡ n → v ≡ signs_of_line (runs line)
+pub part_end : (n : ℕ) (line : List ℕ) (i e : ℕ) (v : List Sign) → IsDocumentAtFront n line i e v → length line ≤ i
+    → length (concat (runs line)) ≡ n → v ≡ signs_of_line (runs line)
 part_end n line i e v p l h =
     let t = take_all i line l in
     let q : length (full_bytes line) ≡ n = sym (ap length (concat-runs line)) ∙ h in

@@ -13,7 +13,8 @@ use Rattle.om_text.specs.declared.body.Body.TheVariants.{Chirotope, Circuits, Co
 use Rattle.om_text.specs.declared.kind.DocumentKind.{DocumentKind}
 use Rattle.om_text.specs.declared.kind.DocumentKind.TheVariants as kinds
 use Rattle.om_text.specs.Lines.{has_any, words}
-use Rattle.om_text.specs.Heading.{kind_name, kind_of, heading, headed, opened, rank_of_body, has_elements, has_rank, has_size}
+use Rattle.om_text.specs.Heading.{kind_name, kind_of, heading, headed, opened, rank_of_body, has_elements, has_rank}
+use Rattle.om_text.specs.Heading.{has_size}
 use Rattle.om_text.specs.Form.{IsInForm, IsBodyOn}
 use Rattle.om_text.specs.Print.{kind_text}
 use Rattle.om_text.proofs.Feeds.{is_one_line}
@@ -44,13 +45,15 @@ pub record IsKindLine (d head : Document) : Type 0 where
   pub rank : has_rank head ≡ true
   pub size : has_size head ≡ true
 
-opens_list : (w : List ℕ) (k : DocumentKind) (n : ℕ) → IsNumber n → kind_of w ≡ Some k → opened k (decimal n ∷ []) ≡ Some (headed k (0, n)) → heading (w ∷ decimal n ∷ []) ≡ Some (headed k (0, n))
+opens_list : (w : List ℕ) (k : DocumentKind) (n : ℕ) → IsNumber n → kind_of w ≡ Some k
+    → opened k (decimal n ∷ []) ≡ Some (headed k (0, n)) → heading (w ∷ decimal n ∷ []) ≡ Some (headed k (0, n))
 opens_list w k n h m o = ap (option_and_then (λ k. opened k (decimal n ∷ []))) m ∙ o
 
 numbers_small : (n r : ℕ) → n ≤ MAX_ELEMENTS → r ≤ n → r < 10 ^ 6
 numbers_small n r h l = omega arith
 
-line_read : (n : ℕ) (b : Body) (names : List (List ℕ)) → 1 ≤ n → n ≤ MAX_ELEMENTS → IsBodyOn n b → IsKindLine (record { elements = n; body = b; names = names }) (headed (kind_of_body b) (rank_of_body b, n))
+line_read : (n : ℕ) (b : Body) (names : List (List ℕ)) → 1 ≤ n → n ≤ MAX_ELEMENTS → IsBodyOn n b
+    → IsKindLine (record { elements = n; body = b; names = names }) (headed (kind_of_body b) (rank_of_body b, n))
 line_read n (Chirotope m) names low high f =
     let hr = number_word m.rank (numbers_small n m.rank high f.rank) in
     let hn = number_word n (numbers_small n n high (omega arith)) in

@@ -2,7 +2,8 @@
 --
 -- Main definitions: run_words, AreIn, IsCompletion
 -- Main results: value_outcome, outcome_value, outcome_fault, fault_outcome
-use Rattle.std.proofs.Common.{◌≡◌, ℕ, suc, ◌+◌, List, [], ◌∷◌, ◌++◌, ◌⊎◌, inl, inr, length, refl, sym, ap, subst, ◌∙◌, arith, length-append, append_assoc, append-nil, map}
+use Rattle.std.proofs.Common.{◌≡◌, ℕ, suc, ◌+◌, List, [], ◌∷◌, ◌++◌, ◌⊎◌, inl, inr, length, refl, sym, ap, subst, ◌∙◌}
+use Rattle.std.proofs.Common.{arith, length-append, append_assoc, append-nil, map}
 use Rattle.std.specs.Prelude.{Option, Some, None, Result, Ok, Err, filter}
 use Rattle.std.proofs.lemmas.List.{map-append}
 use Rattle.std.proofs.lemmas.List.Elements.{filter-append}
@@ -22,7 +23,8 @@ run_words step s [] = Ok s
 run_words step s (w ∷ ws) = bind (step s w) (λ t. run_words step t ws)
 
 pub wordful-append : (xs ys : List (List ℕ)) → wordful (xs ++ ys) ≡ wordful xs ++ wordful ys
-wordful-append xs ys = ap (filter has_any) (map-append words xs ys) ∙ filter-append has_any (map words xs) (map words ys)
+wordful-append xs ys = ap (filter has_any) (map-append words xs ys)
+    ∙ filter-append has_any (map words xs) (map words ys)
 
 -- a value of the lines with words is what the lines are
 abbrev pub AreIn : {V : Type 0} → (List (List (List ℕ)) → V → Type 0) → List (List ℕ) → Type 0
@@ -32,7 +34,8 @@ abbrev pub code_by : (List (List (List ℕ)) → List (List ℕ) → Option Code
 code_by code_at ls line = code_at (wordful ls) (words line)
 
 -- lines that run a state to a value
-pub record IsCompletion {S V : Type 0} (step : S → List (List ℕ) → Result S Code) (value : S → Option V) (s : S) (more : List (List ℕ)) : Type 0 where
+pub record IsCompletion {S V : Type 0} (step : S → List (List ℕ) → Result S Code) (value : S → Option V) (s : S)
+    (more : List (List ℕ)) : Type 0 where
   pub last : S
   pub is : V
   pub run : run_words step s (wordful more) ≡ Ok last
@@ -47,11 +50,15 @@ module _
     (code_at : List (List (List ℕ)) → List (List ℕ) → Option Code)
     (Shows : S → List (List (List ℕ)) → Type 0)
     (starts : Shows start [])
-    (steps : (s : S) (ls : List (List (List ℕ))) (w : List (List ℕ)) (t : S) → Shows s ls → step s w ≡ Ok t → Shows t (ls ++ w ∷ []))
-    (errors : (s : S) (ls : List (List (List ℕ))) (w : List (List ℕ)) (c : Code) → Shows s ls → step s w ≡ Err c → code_at ls w ≡ Some c)
+    (steps : (s : S) (ls : List (List (List ℕ))) (w : List (List ℕ)) (t : S) → Shows s ls → step s w ≡ Ok t
+    → Shows t (ls ++ w ∷ []))
+    (errors : (s : S) (ls : List (List (List ℕ))) (w : List (List ℕ)) (c : Code) → Shows s ls → step s w ≡ Err c
+    → code_at ls w ≡ Some c)
     (ends : (s : S) (ls : List (List (List ℕ))) (v : V) → Shows s ls → value s ≡ Some v → Language ls v)
-    (runs : (ls : List (List (List ℕ))) (v : V) → Language ls v → (s : S) × (run_words step start ls ≡ Ok s) × (value s ≡ Some v))
-    (completes : (s : S) (ls : List (List (List ℕ))) → Shows s ls → (more : List (List ℕ)) × IsCompletion step value s more)
+    (runs : (ls : List (List (List ℕ))) (v : V) → Language ls v → (s : S) × (run_words step start ls ≡ Ok s)
+    × (value s ≡ Some v))
+    (completes : (s : S) (ls : List (List (List ℕ))) → Shows s ls → (more : List (List ℕ))
+    × IsCompletion step value s more)
   where
     bind_ok : (r : Result S Code) (f : S → Result S Code) (t : S) → bind r f ≡ Ok t → (s : S) × (r ≡ Ok s)
     bind_ok (Ok s) f t h = (s, refl)
@@ -65,9 +72,11 @@ module _
     bind_each (Ok s) f g e = e s
     bind_each (Err c) f g e = refl
 
-    run_words-append : (s : S) (xs ys : List (List (List ℕ))) → run_words step s (xs ++ ys) ≡ bind (run_words step s xs) (λ t. run_words step t ys)
+    run_words-append : (s : S) (xs ys : List (List (List ℕ)))
+        → run_words step s (xs ++ ys) ≡ bind (run_words step s xs) (λ t. run_words step t ys)
     run_words-append s [] ys = refl
-    run_words-append s (x ∷ xs) ys = bind_each (step s x) _ _ (λ t. run_words-append t xs ys) ∙ sym (bind-bind (step s x) (λ t. run_words step t xs) (λ t. run_words step t ys))
+    run_words-append s (x ∷ xs) ys = bind_each (step s x) _ _ (λ t. run_words-append t xs ys)
+        ∙ sym (bind-bind (step s x) (λ t. run_words step t xs) (λ t. run_words step t ys))
 
     one_line : (s : S) (l : List ℕ) → run_words step s (wordful (l ∷ [])) ≡ advance_by step s l
     one_line s l = at (words l)
@@ -80,10 +89,12 @@ module _
         at [] = refl
         at (x ∷ xs) = back (step s (x ∷ xs))
 
-    first_line : (s : S) (l : List ℕ) (ls : List (List ℕ)) → run_words step s (wordful (l ∷ ls)) ≡ bind (advance_by step s l) (λ t. run_words step t (wordful ls))
+    first_line : (s : S) (l : List ℕ) (ls : List (List ℕ))
+        → run_words step s (wordful (l ∷ ls)) ≡ bind (advance_by step s l) (λ t. run_words step t (wordful ls))
     first_line s l ls = at (words l)
       where
-        at : (w : List (List ℕ)) → run_words step s (filter has_any (w ∷ map words ls)) ≡ bind (step_if step (has_any w) s w) (λ t. run_words step t (wordful ls))
+        at : (w : List (List ℕ)) → run_words step s (filter has_any (w ∷ map words ls))
+            ≡ bind (step_if step (has_any w) s w) (λ t. run_words step t (wordful ls))
         at [] = refl
         at (x ∷ xs) = refl
 
@@ -98,19 +109,22 @@ module _
     known_value None = inr refl
     known_value (Some v) = inl (v, refl)
 
-    pub run_shows : (ws : List (List (List ℕ))) (ls : List (List (List ℕ))) (s t : S) → Shows s ls → run_words step s ws ≡ Ok t → Shows t (ls ++ ws)
+    pub run_shows : (ws : List (List (List ℕ))) (ls : List (List (List ℕ))) (s t : S) → Shows s ls
+        → run_words step s ws ≡ Ok t → Shows t (ls ++ ws)
     run_shows [] ls s t o h = rw (append-nil ls) (subst (λ x. Shows x ls) (ok_same s t h) o)
     run_shows (w ∷ ws) ls s t o h =
         let n = bind_ok (step s w) (λ t. run_words step t ws) t h in
         let g = rw n.1 at h in
-        subst (λ x. Shows t x) (append_assoc ls (w ∷ []) ws) (run_shows ws (ls ++ w ∷ []) n.0 t (steps s ls w n.0 o n.1) g)
+        subst (λ x. Shows t x) (append_assoc ls (w ∷ []) ws)
+        (run_shows ws (ls ++ w ∷ []) n.0 t (steps s ls w n.0 o n.1) g)
 
     -- the state after lines
     abbrev pub run : List (List ℕ) → Result S Code
     run ls = run_words step start (wordful ls)
 
     pub run-append : (xs ys : List (List ℕ)) (s : S) → run xs ≡ Ok s → run (xs ++ ys) ≡ run_words step s (wordful ys)
-    run-append xs ys s h = ap (run_words step start) (wordful-append xs ys) ∙ run_words-append start (wordful xs) (wordful ys) ∙ ap (λ r. bind r (λ t. run_words step t (wordful ys))) h
+    run-append xs ys s h = ap (run_words step start) (wordful-append xs ys)
+        ∙ run_words-append start (wordful xs) (wordful ys) ∙ ap (λ r. bind r (λ t. run_words step t (wordful ys))) h
 
     pub run_line : (xs : List (List ℕ)) (l : List ℕ) (s : S) → run xs ≡ Ok s → run (xs ++ l ∷ []) ≡ advance_by step s l
     run_line xs l s h = run-append xs (l ∷ []) s h ∙ one_line s l
@@ -129,15 +143,21 @@ module _
         let e = ap (run_words step start) (wordful-append ls b.0) ∙ run_words-append start (wordful ls) (wordful b.0) in
         bind_ok (run ls) (λ t. run_words step t (wordful b.0)) r.0 (sym e ∙ r.1)
 
-    refused_code : (before : List (List ℕ)) (line : List ℕ) (s : S) (c : Code) → run before ≡ Ok s → advance_by step s line ≡ Err c → code_by code_at before line ≡ Some c
-    refused_code before line s c h e = errors s (wordful before) (words line) c (run_shows (wordful before) [] start s starts h) (stepped (words line) e)
+    refused_code : (before : List (List ℕ)) (line : List ℕ) (s : S) (c : Code) → run before ≡ Ok s
+        → advance_by step s line ≡ Err c → code_by code_at before line ≡ Some c
+    refused_code before line s c h e =
+        errors s (wordful before) (words line) c (run_shows (wordful before) [] start s starts h)
+        (stepped (words line) e)
       where
         stepped : (w : List (List ℕ)) → step_if step (has_any w) s w ≡ Err c → step s w ≡ Err c
         stepped [] g = cc
         stepped (x ∷ xs) g = g
 
-    refused_line : (before : List (List ℕ)) (line : List ℕ) (rest : List (List ℕ)) (s : S) (c : Code) → run before ≡ Ok s → advance_by step s line ≡ Err c → IsFaultIn (AreIn Language) (code_by code_at) (before ++ line ∷ rest) (length before + 1) c
-    refused_line before line rest s c h e = at_line before line rest c (run_begins before s h) no (refused_code before line s c h e)
+    refused_line : (before : List (List ℕ)) (line : List ℕ) (rest : List (List ℕ)) (s : S) (c : Code)
+        → run before ≡ Ok s → advance_by step s line ≡ Err c
+        → IsFaultIn (AreIn Language) (code_by code_at) (before ++ line ∷ rest) (length before + 1) c
+    refused_line before line rest s c h e =
+        at_line before line rest c (run_begins before s h) no (refused_code before line s c h e)
       where
         differ : (t : S) → ◌≡◌ {A = Result S Code} (Err c) (Ok t) → ⊥
         differ t g = cc
@@ -145,7 +165,8 @@ module _
         no : Begins (AreIn Language) (before ++ line ∷ []) → ⊥
         no b = let r = begins_run (before ++ line ∷ []) b in differ r.0 (sym e ∙ sym (run_line before line s h) ∙ r.1)
 
-    pub outcome_passes : (xs ys : List (List ℕ)) (s t : S) (n : ℕ) → run_words step s (wordful xs) ≡ Ok t → outcome_by step value s n (xs ++ ys) ≡ outcome_by step value t (n + length xs) ys
+    pub outcome_passes : (xs ys : List (List ℕ)) (s t : S) (n : ℕ) → run_words step s (wordful xs) ≡ Ok t
+        → outcome_by step value s n (xs ++ ys) ≡ outcome_by step value t (n + length xs) ys
     outcome_passes [] ys s t n h =
         let e : s ≡ t = ok_same s t h in
         let z : n + 0 ≡ n = omega arith in
@@ -155,30 +176,35 @@ module _
         let b = bind_ok (advance_by step s x) (λ t. run_words step t (wordful xs)) t g in
         let k = rw b.1 at g in
         let z : n + 1 + length xs ≡ n + suc (length xs) = omega arith in
-        ap (λ r. then_lines r n (λ t. outcome_by step value t (n + 1) (xs ++ ys))) b.1 ∙ outcome_passes xs ys b.0 t (n + 1) k ∙ ap (λ k. outcome_by step value t k ys) z
+        ap (λ r. then_lines r n (λ t. outcome_by step value t (n + 1) (xs ++ ys))) b.1
+        ∙ outcome_passes xs ys b.0 t (n + 1) k ∙ ap (λ k. outcome_by step value t k ys) z
 
     pub value_outcome : (ls : List (List ℕ)) (v : V) → Language (wordful ls) v → outcome_by step value start 0 ls ≡ Ok v
     value_outcome ls v o =
         let r = runs (wordful ls) v o in
-        sym (ap (outcome_by step value start 0) (append-nil ls)) ∙ outcome_passes ls [] start r.0 0 r.1 ∙ ap (λ x. finish_by x (0 + length ls)) r.2
+        sym (ap (outcome_by step value start 0) (append-nil ls)) ∙ outcome_passes ls [] start r.0 0 r.1
+        ∙ ap (λ x. finish_by x (0 + length ls)) r.2
 
     finished : (o : Option V) (n : ℕ) (v : V) → finish_by o n ≡ Ok v → o ≡ Some v
     finished None n v h = cc
     finished (Some x) n v h = cc
 
-    pub outcome_value : (ls before : List (List ℕ)) (s : S) (n : ℕ) (v : V) → run before ≡ Ok s → outcome_by step value s n ls ≡ Ok v → Language (wordful (before ++ ls)) v
+    pub outcome_value : (ls before : List (List ℕ)) (s : S) (n : ℕ) (v : V) → run before ≡ Ok s
+        → outcome_by step value s n ls ≡ Ok v → Language (wordful (before ++ ls)) v
     outcome_value [] before s n v h o = rw (append-nil before) (run_value before s v h (finished (value s) n v o))
     outcome_value (l ∷ ls) before s n v h o = elim (known (advance_by step s l)) [
       | inl (t, e) ↦ let r = run_line before l s h ∙ e in
           let g = rw e at o in
-          subst (λ x. Language (wordful x) v) (append_assoc before (l ∷ []) ls) (outcome_value ls (before ++ l ∷ []) t (n + 1) v r g)
+          subst (λ x. Language (wordful x) v) (append_assoc before (l ∷ []) ls)
+          (outcome_value ls (before ++ l ∷ []) t (n + 1) v r g)
       | inr (c, e) ↦ let g = rw e at o in cc
     ]
 
     err_same : (p q : ℕ × Code) → ◌≡◌ {A = Result V (ℕ × Code)} (Err p) (Err q) → p ≡ q
     err_same p q h = cc
 
-    missing : (ls : List (List ℕ)) (s : S) → run ls ≡ Ok s → value s ≡ None → IsFaultIn (AreIn Language) (code_by code_at) ls (length ls + 1) code.Missing
+    missing : (ls : List (List ℕ)) (s : S) → run ls ≡ Ok s → value s ≡ None
+        → IsFaultIn (AreIn Language) (code_by code_at) ls (length ls + 1) code.Missing
     missing ls s h n = at_end ls (run_begins ls s h) none
       where
         apart : (v : V) → ◌≡◌ {A = Option V} None (Some v) → ⊥
@@ -187,11 +213,14 @@ module _
         none : AreIn Language ls → ⊥
         none p = let r = runs (wordful ls) p.0 p.1 in apart p.0 (sym n ∙ ap value (ok_same s r.0 (sym h ∙ r.1)) ∙ r.2)
 
-    ended : (o : Option V) (n m : ℕ) (c : Code) → finish_by o n ≡ Err (m, c) → (m ≡ n + 1) × (c ≡ code.Missing) × (o ≡ None)
-    ended None n m c h = let q = err_same (n + 1, code.Missing) (m, c) h in (sym (ap (λ p. p.0) q), sym (ap (λ p. p.1) q), refl)
+    ended : (o : Option V) (n m : ℕ) (c : Code) → finish_by o n ≡ Err (m, c) → (m ≡ n + 1) × (c ≡ code.Missing)
+        × (o ≡ None)
+    ended None n m c h = let q = err_same (n + 1, code.Missing) (m, c) h in
+        (sym (ap (λ p. p.0) q), sym (ap (λ p. p.1) q), refl)
     ended (Some v) n m c h = cc
 
-    pub outcome_fault : (ls before : List (List ℕ)) (s : S) (n m : ℕ) (c : Code) → run before ≡ Ok s → n ≡ length before → outcome_by step value s n ls ≡ Err (m, c) → IsFaultIn (AreIn Language) (code_by code_at) (before ++ ls) m c
+    pub outcome_fault : (ls before : List (List ℕ)) (s : S) (n m : ℕ) (c : Code) → run before ≡ Ok s → n ≡ length before
+        → outcome_by step value s n ls ≡ Err (m, c) → IsFaultIn (AreIn Language) (code_by code_at) (before ++ ls) m c
     outcome_fault [] before s n m c h l o =
         let e = ended (value s) n m c o in
         let q : m ≡ length before + 1 = omega (arith, e.0) in
@@ -199,7 +228,8 @@ module _
     outcome_fault (l ∷ ls) before s n m c h k o = elim (known (advance_by step s l)) [
       | inl (t, e) ↦ let r = run_line before l s h ∙ e in
           let g = rw e at o in
-          subst (λ x. IsFaultIn (AreIn Language) (code_by code_at) x m c) (append_assoc before (l ∷ []) ls) (outcome_fault ls (before ++ l ∷ []) t (n + 1) m c r (omega (arith, length-append before (l ∷ []))) g)
+          subst (λ x. IsFaultIn (AreIn Language) (code_by code_at) x m c) (append_assoc before (l ∷ []) ls)
+          (outcome_fault ls (before ++ l ∷ []) t (n + 1) m c r (omega (arith, length-append before (l ∷ []))) g)
       | inr (x, e) ↦ let g = err_same (n + 1, x) (m, c) (rw e at o) in
           let i : n + 1 ≡ m = ap (λ p. p.0) g in
           let q : m ≡ length before + 1 = omega arith in
@@ -210,7 +240,8 @@ module _
     some_same : (c x : Code) → ◌≡◌ {A = Option Code} (Some c) (Some x) → c ≡ x
     some_same c x h = cc
 
-    pub fault_outcome : {ls : List (List ℕ)} {m : ℕ} {c : Code} → IsFaultIn (AreIn Language) (code_by code_at) ls m c → outcome_by step value start 0 ls ≡ Err (m, c)
+    pub fault_outcome : {ls : List (List ℕ)} {m : ℕ} {c : Code} → IsFaultIn (AreIn Language) (code_by code_at) ls m c
+        → outcome_by step value start 0 ls ≡ Err (m, c)
     fault_outcome (at_line before line rest c b n e) =
         let r = begins_run before b in
         let p = outcome_passes before (line ∷ rest) start r.0 0 r.1 in
@@ -222,7 +253,8 @@ module _
         ]
     fault_outcome (at_end ls b n) =
         let r = begins_run ls b in
-        sym (ap (outcome_by step value start 0) (append-nil ls)) ∙ outcome_passes ls [] start r.0 0 r.1 ∙ elim (known_value (value r.0)) [
+        sym (ap (outcome_by step value start 0) (append-nil ls)) ∙ outcome_passes ls [] start r.0 0 r.1
+        ∙ elim (known_value (value r.0)) [
           | inl (v, e) ↦ absurd (n (v, run_value ls r.0 v r.1 e))
           | inr e ↦ let z : 0 + length ls + 1 ≡ length ls + 1 = omega arith in rw (e, z) refl
         ]

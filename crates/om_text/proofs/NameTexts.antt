@@ -1,7 +1,8 @@
 -- Names as words, the numbered names, and the line of names.
 --
 -- Main results: names_are_words, numbered_are_names, printed_are_names, names_line
-use Rattle.std.proofs.Common.{◌≡◌, ◌≢◌, ℕ, zero, suc, ◌+◌, ◌<◌, ◌≤◌, ◌^◌, List, [], ◌∷◌, true, false, ◌&&◌, inl, inr, length, map, nat_eq, nat_le, refl, sym, ap, ◌∙◌, arith, eq-eqb}
+use Rattle.std.proofs.Common.{◌≡◌, ◌≢◌, ℕ, zero, suc, ◌+◌, ◌<◌, ◌≤◌, ◌^◌, List, [], ◌∷◌, true, false, ◌&&◌, inl, inr}
+use Rattle.std.proofs.Common.{length, map, nat_eq, nat_le, refl, sym, ap, ◌∙◌, arith, eq-eqb}
 use Rattle.std.specs.Prelude.{codes, decimal, bytes_eq}
 use Rattle.std.specs.List.{list_all, list_any, range_with_len}
 use Rattle.std.proofs.lemmas.Bool.{le-leb}
@@ -79,27 +80,37 @@ numbered_names_are : (a n : ℕ) → a + n ≤ 10 ^ 6 → list_all is_name (map 
 numbered_names_are a zero h = refl
 numbered_names_are a (suc n) h = rw (numbered_name a (omega arith)) (numbered_names_are (a + 1) n (omega arith))
 
-not_numbered : (k a n : ℕ) → k < a → a + n ≤ 10 ^ 6 → list_any (λ v. bytes_eq (numbered k) v) (map numbered (range_with_len a n)) ≡ false
+not_numbered : (k a n : ℕ) → k < a → a + n ≤ 10 ^ 6
+    → list_any (λ v. bytes_eq (numbered k) v) (map numbered (range_with_len a n)) ≡ false
 not_numbered k a zero l h = refl
-not_numbered k a (suc n) l h = rw (numbered_apart k a (omega arith) (omega arith) (λ e. omega arith)) (not_numbered k (a + 1) n (omega arith) (omega arith))
+not_numbered k a (suc n) l h =
+    rw (numbered_apart k a (omega arith) (omega arith) (λ e. omega arith))
+    (not_numbered k (a + 1) n (omega arith) (omega arith))
 
 numbered_differ : (a n : ℕ) → a + n ≤ 10 ^ 6 → are_different (map numbered (range_with_len a n)) ≡ true
 numbered_differ a zero h = refl
-numbered_differ a (suc n) h = rw (not_numbered a (a + 1) n (omega arith) (omega arith)) (numbered_differ (a + 1) n (omega arith))
+numbered_differ a (suc n) h =
+    rw (not_numbered a (a + 1) n (omega arith) (omega arith)) (numbered_differ (a + 1) n (omega arith))
 
 pub numbered_are_names : (n : ℕ) → n < 10 ^ 6 → are_names n (numbered_names n) ≡ true
 numbered_are_names n h =
-    rw (eq-eqb (length (numbered_names n)) n (length-map-range_with_len numbered 1 n), numbered_names_are 1 n (omega arith)) (numbered_differ 1 n (omega arith))
+    rw (
+      eq-eqb (length (numbered_names n)) n (length-map-range_with_len numbered 1 n),
+      numbered_names_are 1 n (omega arith),
+    ) (numbered_differ 1 n (omega arith))
 
 -- ---- the names that are printed
 
-pub printed_are_names : (n : ℕ) (names : List (List ℕ)) → n < 10 ^ 6 → AreNamesOn n names → are_names n (printed_names n names) ≡ true
+pub printed_are_names : (n : ℕ) (names : List (List ℕ)) → n < 10 ^ 6 → AreNamesOn n names
+    → are_names n (printed_names n names) ≡ true
 printed_are_names n [] h a = numbered_are_names n h
 printed_are_names n (w ∷ ws) h (inl e) = absurd (let p : w ∷ ws ≡ [] = e in cc)
 printed_are_names n (w ∷ ws) h (inr e) = e
 
 pub all_names : (n : ℕ) (ws : List (List ℕ)) → are_names n ws ≡ true → list_all is_name ws ≡ true
-all_names n ws h = (both (nat_eq (length ws) n) (list_all is_name ws) (both (nat_eq (length ws) n && list_all is_name ws) (are_different ws) h).0).1
+all_names n ws h =
+    (both (nat_eq (length ws) n) (list_all is_name ws)
+    (both (nat_eq (length ws) n && list_all is_name ws) (are_different ws) h).0).1
 
 -- the words of a line of names
 pub names_line : (n : ℕ) (ws : List (List ℕ)) → are_names n ws ≡ true → list_all is_word (codes "names" ∷ ws) ≡ true

@@ -21,6 +21,8 @@ sizes_long kinds.Chirotope (x ∷ y ∷ z ∷ ns) h = refl
 sizes_long _ (x ∷ y ∷ z ∷ ns) h = refl
 
 -- more words than any kind line has
-pub many_numbers : (k : DocumentKind) (ns : List ℕ) (a o : Option (List ℕ)) → 3 ≤ length ns → after_numbers ns a ≡ o → option_and_then (sizes k) o ≡ None
+pub many_numbers : (k : DocumentKind) (ns : List ℕ) (a o : Option (List ℕ)) → 3 ≤ length ns → after_numbers ns a ≡ o
+    → option_and_then (sizes k) o ≡ None
 many_numbers k ns None o l h = ap (option_and_then (sizes k)) (sym h)
-many_numbers k ns (Some ks) o l h = ap (option_and_then (sizes k)) (sym h) ∙ sizes_long k (ns ++ ks) (omega (arith, length-append ns ks))
+many_numbers k ns (Some ks) o l h = ap (option_and_then (sizes k)) (sym h)
+    ∙ sizes_long k (ns ++ ks) (omega (arith, length-append ns ks))

@@ -2,7 +2,8 @@
 --
 -- Main definitions: IsDecimal, IsNumber, IsSigned
 -- Main results: decimal_word, number_word, unsigned_word, signed_word
-use Rattle.std.proofs.Common.{◌≡◌, ℕ, zero, suc, ◌<◌, ◌≤◌, ◌^◌, List, [], ◌∷◌, Bool, true, false, ◌||◌, ◌⊎◌, ◌+◌, ◌%◌, inl, inr, length, get_or, refl, ap, ◌∙◌, arith, nat_eq, length-append}
+use Rattle.std.proofs.Common.{◌≡◌, ℕ, zero, suc, ◌<◌, ◌≤◌, ◌^◌, List, [], ◌∷◌, Bool, true, false, ◌||◌, ◌⊎◌, ◌+◌, ◌%◌}
+use Rattle.std.proofs.Common.{inl, inr, length, get_or, refl, ap, ◌∙◌, arith, nat_eq, length-append}
 use Rattle.std.proofs.Math.ListN.{get_or-append}
 use Rattle.std.specs.Prelude.{ℤ, pos, negsuc, unsigned_abs, decimal, Some, option_map}
 use Rattle.std.specs.Fmt.{signed_decimal}
@@ -50,7 +51,8 @@ first_is_not : (w : List ℕ) → 48 < get_or w 0 0 → begins_with 48 w ≡ fal
 first_is_not [] h = refl
 first_is_not (b ∷ w) h = grind arith
 
-is_decimal_word : (w : List ℕ) → list_all is_digit w ≡ true → 0 < length w → (length w ≡ 1) ⊎ (begins_with 48 w ≡ false) → is_decimal w ≡ true
+is_decimal_word : (w : List ℕ) → list_all is_digit w ≡ true → 0 < length w → (length w ≡ 1) ⊎ (begins_with 48 w ≡ false)
+    → is_decimal w ≡ true
 is_decimal_word w d l (inl e) = rw (d, le-leb 1 (length w) l, eq-eqb (length w) 1 e) refl
 is_decimal_word w d l (inr n) = rw (d, le-leb 1 (length w) l, n) (or_true (nat_eq (length w) 1))
   where
@@ -60,8 +62,13 @@ is_decimal_word w d l (inr n) = rw (d, le-leb 1 (length w) l, n) (or_true (nat_e
 
 -- the first digit of a number other than 0
 first_digit : (k : ℕ) → 0 < k → k < 10 ^ 64 → 48 < get_or (decimal k) 0 0
-first_digit k some small = (decimal_by_steps_wide (λ m ds. (0 < length ds) × (0 < m → 48 < get_or ds 0 0)) (λ m l. (omega arith, λ a. omega arith))
-    (λ m ds l h. (omega (arith, length-append ds ((48 + m % 10) ∷ [])), λ a. omega (arith, get_or-append ds ((48 + m % 10) ∷ []) 0 0 h.0, h.1 (omega arith)))) k small).1 some
+first_digit k some small =
+    (decimal_by_steps_wide (λ m ds. (0 < length ds) × (0 < m → 48 < get_or ds 0 0))
+    (λ m l. (omega arith, λ a. omega arith))
+    (λ m ds l h. (
+      omega (arith, length-append ds ((48 + m % 10) ∷ [])),
+      λ a. omega (arith, get_or-append ds ((48 + m % 10) ∷ []) 0 0 h.0, h.1 (omega arith)),
+    )) k small).1 some
 
 no_leading_zero : (k : ℕ) → k < 10 ^ 64 → (length (decimal k) ≡ 1) ⊎ (begins_with 48 (decimal k) ≡ false)
 no_leading_zero zero h = inl (ap length (decimal_digit 0 (omega arith)))

@@ -53,7 +53,13 @@ too_small = refl
 abbrev two_lines : List (List ℕ)
 two_lines = codes "om 1" ∷ codes "points 2" ∷ codes "1 -2  0 # a point" ∷ codes "0 0 0" ∷ codes "end" ∷ []
 
-two : IsDocument two_lines (record { elements = 2; body = Points ((pos 1 ∷ negsuc 1 ∷ pos 0 ∷ []) ∷ (pos 0 ∷ pos 0 ∷ pos 0 ∷ []) ∷ []); names = [] })
+two : IsDocument two_lines
+    (record {
+      elements = 2;
+      body = Points ((pos 1 ∷ negsuc 1 ∷ pos 0 ∷ []) ∷ (pos 0 ∷ pos 0 ∷ pos 0 ∷ []) ∷ []);
+      names =
+          [];
+    })
 two = document_from two_lines _ refl
 
 two_numbers : IsFault (codes "om 1" ∷ codes "points 2" ∷ codes "1 0" ∷ []) 3 code.Number

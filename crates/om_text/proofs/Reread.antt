@@ -2,7 +2,8 @@
 --
 -- Main definitions: IsReread
 -- Main results: printed_one_line, printed_spelled, printed_document
-use Rattle.std.proofs.Common.{◌≡◌, ℕ, ◌≤◌, List, [], ◌∷◌, ◌++◌, true, ◌&&◌, length, map, refl, sym, ap, subst, ◌∙◌, arith, append-nil, nat_eq, nat_le, eq-eqb}
+use Rattle.std.proofs.Common.{◌≡◌, ℕ, ◌≤◌, List, [], ◌∷◌, ◌++◌, true, ◌&&◌, length, map, refl, sym, ap, subst, ◌∙◌}
+use Rattle.std.proofs.Common.{arith, append-nil, nat_eq, nat_le, eq-eqb}
 use Rattle.std.specs.Prelude.{codes}
 use Rattle.std.specs.List.{list_all, concat, flat_map}
 use Rattle.std.specs.Fmt.{signed_decimal}
@@ -21,9 +22,11 @@ use Rattle.om_text.specs.Words.{sign_of_byte, byte_of}
 use Rattle.om_text.specs.Rows.{distinct, sorted}
 use Rattle.om_text.specs.Members.{members_of, with_members}
 use Rattle.om_text.specs.Settings.{version_one_line, finished}
-use Rattle.om_text.specs.Document.{IsDocument, IsSpelled, end_line, are_signs, is_body_line, all_signs, members_of_line, filled, has_room, is_complete}
+use Rattle.om_text.specs.Document.{IsDocument, IsSpelled, end_line, are_signs, is_body_line, all_signs, members_of_line}
+use Rattle.om_text.specs.Document.{filled, has_room, is_complete}
 use Rattle.om_text.specs.Form.{IsInForm, AreMembersOn}
-use Rattle.om_text.specs.Print.{sign_lines, member_lines, block_lines, kind_text, body_lines, printed_lines, printed, sorted_document}
+use Rattle.om_text.specs.Print.{sign_lines, member_lines, block_lines, kind_text, body_lines, printed_lines, printed}
+use Rattle.om_text.specs.Print.{sorted_document}
 use Rattle.om_text.proofs.BodyTexts.{map_rows, map_each, member_rows, members_long, points_reread, blocks_reread}
 use Rattle.om_text.proofs.Feeds.{is_one_line, lines_text, one_line-append}
 use Rattle.om_text.proofs.KindLines.{head_of, kind_line_read}
@@ -44,14 +47,17 @@ record IsReread (d : Document) : Type 0 where
   complete : is_complete (sorted_document d) ≡ true
 
 one_lines : (d : Document) → IsInForm d → IsReread d → list_all is_one_line (printed_lines d) ≡ true
-one_lines d f p = rw (kind_line_read d f).one_line (one_line-append (body_lines d.body) (codes "end" ∷ []) p.body_one_line refl)
+one_lines d f p =
+    rw (kind_line_read d f).one_line (one_line-append (body_lines d.body) (codes "end" ∷ []) p.body_one_line refl)
 
-spelled_words : (d : Document) (f : IsInForm d) (p : IsReread d) → wordful (printed_lines d) ≡ version_one_line ∷ (kind_line_read d f).kind_words ∷ (p.body ++ end_line ∷ [])
+spelled_words : (d : Document) (f : IsInForm d) (p : IsReread d)
+    → wordful (printed_lines d) ≡ version_one_line ∷ (kind_line_read d f).kind_words ∷ (p.body ++ end_line ∷ [])
 spelled_words d f p =
     let k = kind_line_read d f in
     ap (λ x. version_one_line ∷ x)
     (wordful-cons (kind_text d) (body_lines d.body ++ codes "end" ∷ []) k.kind_words k.kind k.any
-    ∙ ap (λ x. k.kind_words ∷ x) (wordful-append (body_lines d.body) (codes "end" ∷ []) ∙ ap (λ x. x ++ end_line ∷ []) p.body_words))
+    ∙ ap (λ x. k.kind_words ∷ x) (wordful-append (body_lines d.body) (codes "end" ∷ [])
+    ∙ ap (λ x. x ++ end_line ∷ []) p.body_words))
 
 reread : (d : Document) → IsInForm d → IsReread d → IsSpelled (wordful (printed_lines d)) (sorted_document d)
 reread d f p =
@@ -80,16 +86,24 @@ reread d f p =
 
 -- ---- each kind
 
-map_reread : (m : RawMap) (names : List (List ℕ)) → length m.signs ≡ choose m.elements m.rank → IsReread (record { elements = m.elements; body = Chirotope m; names = names })
+map_reread : (m : RawMap) (names : List (List ℕ)) → length m.signs ≡ choose m.elements m.rank
+    → IsReread (record { elements = m.elements; body = Chirotope m; names = names })
 map_reread m names h =
     let c = map_rows m.signs in
-    let values : all_signs (single (sign_lines m.signs)) ≡ m.signs = ap (map sign_of_byte) c.joined ∙ signs_of_bytes_of m.signs in
+    let values : all_signs (single (sign_lines m.signs)) ≡ m.signs = ap (map sign_of_byte) c.joined
+    ∙ signs_of_bytes_of m.signs in
     record {
       body = single (sign_lines m.signs);
       body_words = c.rows.lines_words;
       body_one_line = c.rows.one_line;
       each = map_each m.rank m.elements (single (sign_lines m.signs)) c.rows.signs;
-      value = ap (λ xs. record { elements = m.elements; body = Chirotope (record { rank = m.rank; elements = m.elements; signs = xs }); names = [] }) values;
+      value = ap
+          (λ xs. record {
+            elements = m.elements;
+            body =
+                Chirotope (record { rank = m.rank; elements = m.elements; signs = xs });
+            names = [];
+          }) values;
       room = le-leb (length m.signs) (choose m.elements m.rank) (omega arith);
       complete = eq-eqb (length m.signs) (choose m.elements m.rank) h;
     }
@@ -97,14 +111,16 @@ map_reread m names h =
 members_read : (ms : List (List Sign)) → flat_map (members_of_line Plain) (single (member_lines ms)) ≡ ms
 members_read [] = refl
 members_read (x ∷ xs) =
-    let e : map sign_of_byte (map byte_of x ++ []) ≡ x = ap (map sign_of_byte) (append-nil (map byte_of x)) ∙ signs_of_bytes_of x in
+    let e : map sign_of_byte (map byte_of x ++ []) ≡ x = ap (map sign_of_byte) (append-nil (map byte_of x))
+    ∙ signs_of_bytes_of x in
     ap (λ y. y ∷ flat_map (members_of_line Plain) (single (member_lines xs))) e ∙ ap (λ r. x ∷ r) (members_read xs)
 
 -- what lists have in common
 record AreReread (n : ℕ) (ms : List (List Sign)) : Type 0 where
   lines_words : wordful (member_lines (sorted ms)) ≡ single (member_lines (sorted ms))
   one_line : list_all is_one_line (member_lines (sorted ms)) ≡ true
-  each : list_all (λ l. are_signs l && nat_eq (length (concat l)) n && true && true) (single (member_lines (sorted ms))) ≡ true
+  each : list_all (λ l. are_signs l && nat_eq (length (concat l)) n && true && true) (single (member_lines (sorted ms)))
+      ≡ true
   value : distinct (flat_map (members_of_line Plain) (single (member_lines (sorted ms)))) ≡ sorted ms
   room : nat_le (length (sorted ms)) MAX_MEMBERS ≡ true
 
@@ -120,8 +136,11 @@ members_reread n ms low f =
       room = le-leb (length (sorted ms)) MAX_MEMBERS (let e = length-sorted ms in let a = f.few in omega arith);
     }
 
-body_reread : (n : ℕ) (b : Body) (names : List (List ℕ)) → IsInForm (record { elements = n; body = b; names = names }) → IsReread (record { elements = n; body = b; names = names })
-body_reread n (Chirotope m) names f = subst (λ e. IsReread (record { elements = e; body = Chirotope m; names = names })) f.body.elements (map_reread m names (f.body.signs ∙ ap (λ e. choose e m.rank) (sym f.body.elements)))
+body_reread : (n : ℕ) (b : Body) (names : List (List ℕ)) → IsInForm (record { elements = n; body = b; names = names })
+    → IsReread (record { elements = n; body = b; names = names })
+body_reread n (Chirotope m) names f =
+    subst (λ e. IsReread (record { elements = e; body = Chirotope m; names = names })) f.body.elements
+    (map_reread m names (f.body.signs ∙ ap (λ e. choose e m.rank) (sym f.body.elements)))
 body_reread n (Wiring bs) names f =
     let p = blocks_reread bs f.body.short in
     record {
@@ -165,4 +184,5 @@ printed_spelled d f = reread d f (body_reread d.elements d.body d.names f)
 
 -- the canonical form of a document is a document, and its value is this one with its members sorted
 pub printed_document : (d : Document) → IsInForm d → IsDocument (lines (printed d)) (sorted_document d)
-printed_document d f = subst (λ ls. IsDocument ls (sorted_document d)) (sym (lines_text (printed_lines d) (printed_one_line d f))) (printed_spelled d f)
+printed_document d f = subst (λ ls. IsDocument ls (sorted_document d))
+    (sym (lines_text (printed_lines d) (printed_one_line d f))) (printed_spelled d f)

@@ -2,7 +2,8 @@
 --
 -- Main definitions: IsRereadTwo
 -- Main results: printed_two_spelled, printed_two_document
-use Rattle.std.proofs.Common.{◌≡◌, ℕ, ◌≤◌, List, [], ◌∷◌, ◌++◌, true, ◌&&◌, length, map, refl, sym, ap, subst, ◌∙◌, arith, nat_eq, nat_le, eq-eqb}
+use Rattle.std.proofs.Common.{◌≡◌, ℕ, ◌≤◌, List, [], ◌∷◌, ◌++◌, true, ◌&&◌, length, map, refl, sym, ap, subst, ◌∙◌}
+use Rattle.std.proofs.Common.{arith, nat_eq, nat_le, eq-eqb}
 use Rattle.std.specs.Prelude.{codes, Some, option_map}
 use Rattle.std.specs.List.{list_all, concat, flat_map}
 use Rattle.std.specs.Fmt.{signed_decimal}
@@ -24,10 +25,12 @@ use Rattle.om_text.specs.Rows.{distinct}
 use Rattle.om_text.specs.Names.{are_names}
 use Rattle.om_text.specs.Settings.{version_two_line, set_by, settings_in, finished}
 use Rattle.om_text.specs.Members.{members_of, with_members}
-use Rattle.om_text.specs.Document.{IsDocument, IsSpelled, end_line, are_signs, is_body_line, all_signs, members_of_line, filled, has_room, is_complete}
+use Rattle.om_text.specs.Document.{IsDocument, IsSpelled, end_line, are_signs, is_body_line, all_signs, members_of_line}
+use Rattle.om_text.specs.Document.{filled, has_room, is_complete}
 use Rattle.om_text.specs.Form.{IsInForm, AreMembersOn}
 use Rattle.om_text.specs.Print.{sign_lines, member_lines, block_lines, spaced, kind_text}
-use Rattle.om_text.specs.PrintTwo.{printed_names, values_in_revlex, half_of, doubled, setting_lines, body_lines_two, printed_two_lines, printed_two, doubled_document, IsClosedUnderNegation}
+use Rattle.om_text.specs.PrintTwo.{printed_names, values_in_revlex, half_of, doubled, setting_lines, body_lines_two}
+use Rattle.om_text.specs.PrintTwo.{printed_two_lines, printed_two, doubled_document, IsClosedUnderNegation}
 use Rattle.om_text.proofs.BodyTexts.{map_rows, map_each, member_rows, members_long, points_reread, blocks_reread}
 use Rattle.om_text.proofs.Feeds.{is_one_line, lines_text, one_line-append}
 use Rattle.om_text.proofs.Halves.{IsClosed, doubled_permutes, half_long, half_read}
@@ -66,12 +69,14 @@ named : (d : Document) → IsInForm d → are_names d.elements (printed_names d.
 named d f = printed_are_names d.elements d.names (let h = f.high in omega arith) f.names
 
 rest_one_line : (d : Document) → IsRereadTwo d → list_all is_one_line (rest_of d) ≡ true
-rest_one_line d p = one_line-append (setting_lines d.body ++ body_lines_two d.body) (codes "end" ∷ []) (one_line-append (setting_lines d.body) (body_lines_two d.body) p.settings_one_line p.body_one_line) refl
+rest_one_line d p = one_line-append (setting_lines d.body ++ body_lines_two d.body) (codes "end" ∷ [])
+    (one_line-append (setting_lines d.body) (body_lines_two d.body) p.settings_one_line p.body_one_line) refl
 
 rest_words : (d : Document) → (p : IsRereadTwo d) → wordful (rest_of d) ≡ (p.settings ++ p.body) ++ end_line ∷ []
 rest_words d p =
     wordful-append (setting_lines d.body ++ body_lines_two d.body) (codes "end" ∷ [])
-    ∙ ap (λ x. x ++ end_line ∷ []) (wordful-append (setting_lines d.body) (body_lines_two d.body) ∙ ap (λ x. x ++ wordful (body_lines_two d.body)) p.settings_words ∙ ap (λ x. p.settings ++ x) p.body_words)
+    ∙ ap (λ x. x ++ end_line ∷ []) (wordful-append (setting_lines d.body) (body_lines_two d.body)
+    ∙ ap (λ x. x ++ wordful (body_lines_two d.body)) p.settings_words ∙ ap (λ x. p.settings ++ x) p.body_words)
 
 one_lines : (d : Document) → IsInForm d → IsRereadTwo d → list_all is_one_line (printed_two_lines d) ≡ true
 one_lines d f p =
@@ -79,18 +84,24 @@ one_lines d f p =
     let n = spaced_one_line (names_of d) (names_line d.elements (printed_names d.elements d.names) (named d f)) in
     rw (k.one_line, n) (rest_one_line d p)
 
-spelled_words : (d : Document) (f : IsInForm d) (p : IsRereadTwo d) → wordful (printed_two_lines d) ≡ version_two_line ∷ (kind_line_read d f).kind_words ∷ names_of d ∷ ((p.settings ++ p.body) ++ end_line ∷ [])
+spelled_words : (d : Document) (f : IsInForm d) (p : IsRereadTwo d)
+    → wordful (printed_two_lines d) ≡ version_two_line ∷ (kind_line_read d f).kind_words ∷ names_of d
+    ∷ ((p.settings ++ p.body) ++ end_line ∷ [])
 spelled_words d f p =
     let k = kind_line_read d f in
-    let n : words (spaced (names_of d)) ≡ names_of d = words_spaced (names_of d) (names_line d.elements (printed_names d.elements d.names) (named d f)) in
+    let n : words (spaced (names_of d)) ≡ names_of d =
+    words_spaced (names_of d) (names_line d.elements (printed_names d.elements d.names) (named d f)) in
     ap (λ x. version_two_line ∷ x)
     (wordful-cons (kind_text d) (spaced (names_of d) ∷ rest_of d) k.kind_words k.kind k.any
-    ∙ ap (λ x. k.kind_words ∷ x) (wordful-cons (spaced (names_of d)) (rest_of d) (names_of d) n refl ∙ ap (λ x. names_of d ∷ x) (rest_words d p)))
+    ∙ ap (λ x. k.kind_words ∷ x) (wordful-cons (spaced (names_of d)) (rest_of d) (names_of d) n refl
+    ∙ ap (λ x. names_of d ∷ x) (rest_words d p)))
 
-settings_read : (d : Document) → IsInForm d → (p : IsRereadTwo d) → settings_in Two (head_of d) (names_of d ∷ p.settings) ≡ Some (printed_names d.elements d.names, p.setting)
+settings_read : (d : Document) → IsInForm d → (p : IsRereadTwo d)
+    → settings_in Two (head_of d) (names_of d ∷ p.settings) ≡ Some (printed_names d.elements d.names, p.setting)
 settings_read d f p = rw (named d f) (ap (option_map (λ s. (printed_names d.elements d.names, s))) p.set)
 
-reread_two : (d : Document) → IsInForm d → IsRereadTwo d → IsSpelled (wordful (printed_two_lines d)) (doubled_document d)
+reread_two : (d : Document) → IsInForm d → IsRereadTwo d
+    → IsSpelled (wordful (printed_two_lines d)) (doubled_document d)
 reread_two d f p =
     let k = kind_line_read d f in
     record {
@@ -117,12 +128,14 @@ reread_two d f p =
 
 -- ---- each kind
 
-map_reread : (m : RawMap) (names : List (List ℕ)) → length m.signs ≡ choose m.elements m.rank → IsRereadTwo (record { elements = m.elements; body = Chirotope m; names = names })
+map_reread : (m : RawMap) (names : List (List ℕ)) → length m.signs ≡ choose m.elements m.rank
+    → IsRereadTwo (record { elements = m.elements; body = Chirotope m; names = names })
 map_reread m names h =
     let xs : List Sign = values_in_revlex m in
     let c = map_rows xs in
     let values : all_signs (single (sign_lines xs)) ≡ xs = ap (map sign_of_byte) c.joined ∙ signs_of_bytes_of xs in
-    let long : length (all_signs (single (sign_lines xs))) ≡ choose m.elements m.rank = ap length values ∙ length-values_in_revlex m in
+    let long : length (all_signs (single (sign_lines xs))) ≡ choose m.elements m.rank = ap length values
+    ∙ length-values_in_revlex m in
     record {
       settings = (codes "order" ∷ codes "revlex" ∷ []) ∷ [];
       settings_words = refl;
@@ -134,8 +147,14 @@ map_reread m names h =
       body_one_line = c.rows.one_line;
       each = map_each m.rank m.elements (single (sign_lines xs)) c.rows.signs;
       value =
-          ap (λ ys. finished (printed_names m.elements names) Revlex (record { elements = m.elements; body = Chirotope (with_signs m ys); names = [] })) values
-          ∙ ap (λ ys. record { elements = m.elements; body = Chirotope (with_signs m ys); names = printed_names m.elements names }) (values_back m h);
+          ap (λ ys. finished (printed_names m.elements names) Revlex
+          (record { elements = m.elements; body = Chirotope (with_signs m ys); names = [] })) values
+          ∙ ap (λ ys. record {
+            elements = m.elements;
+            body = Chirotope (with_signs m ys);
+            names =
+                printed_names m.elements names;
+          }) (values_back m h);
       room = le-leb (length (all_signs (single (sign_lines xs)))) (choose m.elements m.rank) (omega arith);
       complete = eq-eqb (length (all_signs (single (sign_lines xs)))) (choose m.elements m.rank) long;
     }
@@ -144,17 +163,22 @@ map_reread m names h =
 record AreReread (n : ℕ) (ms : List (List Sign)) : Type 0 where
   lines_words : wordful (member_lines (half_of ms)) ≡ single (member_lines (half_of ms))
   one_line : list_all is_one_line (member_lines (half_of ms)) ≡ true
-  each : list_all (λ l. are_signs l && nat_eq (length (concat l)) n && true && true) (single (member_lines (half_of ms))) ≡ true
+  each : list_all (λ l. are_signs l && nat_eq (length (concat l)) n && true && true)
+      (single (member_lines (half_of ms))) ≡ true
   value : distinct (flat_map (members_of_line Half) (single (member_lines (half_of ms)))) ≡ doubled (half_of ms)
-  room : nat_le (length (distinct (flat_map (members_of_line Half) (single (member_lines (half_of ms)))))) MAX_MEMBERS ≡ true
+  room : nat_le (length (distinct (flat_map (members_of_line Half) (single (member_lines (half_of ms)))))) MAX_MEMBERS
+      ≡ true
 
 members_reread : (n : ℕ) (ms : List (List Sign)) → 1 ≤ n → AreMembersOn n ms → IsClosed ms → AreReread n ms
 members_reread n ms low f c =
     let long = half_long n ms f.long in
     let rows = member_rows n (half_of ms) low long in
-    let value : distinct (flat_map (members_of_line Half) (single (member_lines (half_of ms)))) ≡ doubled (half_of ms) = ap distinct (half_read (half_of ms)) in
-    let count : length (doubled (half_of ms)) ≡ length ms = length_permutation ms (doubled (half_of ms)) (doubled_permutes ms f.distinct c) in
-    let e : length (distinct (flat_map (members_of_line Half) (single (member_lines (half_of ms))))) ≡ length ms = ap length value ∙ count in
+    let value : distinct (flat_map (members_of_line Half) (single (member_lines (half_of ms)))) ≡ doubled (half_of ms) =
+    ap distinct (half_read (half_of ms)) in
+    let count : length (doubled (half_of ms)) ≡ length ms =
+    length_permutation ms (doubled (half_of ms)) (doubled_permutes ms f.distinct c) in
+    let e : length (distinct (flat_map (members_of_line Half) (single (member_lines (half_of ms))))) ≡ length ms =
+    ap length value ∙ count in
     record {
       lines_words = rows.lines_words;
       one_line = rows.one_line;
@@ -163,8 +187,11 @@ members_reread n ms low f c =
       room = le-leb _ MAX_MEMBERS (let a = f.few in omega arith);
     }
 
-body_reread : (n : ℕ) (b : Body) (names : List (List ℕ)) → IsInForm (record { elements = n; body = b; names = names }) → IsClosedUnderNegation b → IsRereadTwo (record { elements = n; body = b; names = names })
-body_reread n (Chirotope m) names f c = subst (λ e. IsRereadTwo (record { elements = e; body = Chirotope m; names = names })) f.body.elements (map_reread m names (f.body.signs ∙ ap (λ e. choose e m.rank) (sym f.body.elements)))
+body_reread : (n : ℕ) (b : Body) (names : List (List ℕ)) → IsInForm (record { elements = n; body = b; names = names })
+    → IsClosedUnderNegation b → IsRereadTwo (record { elements = n; body = b; names = names })
+body_reread n (Chirotope m) names f c =
+    subst (λ e. IsRereadTwo (record { elements = e; body = Chirotope m; names = names })) f.body.elements
+    (map_reread m names (f.body.signs ∙ ap (λ e. choose e m.rank) (sym f.body.elements)))
 body_reread n (Wiring bs) names f c =
     let p = blocks_reread bs f.body.short in
     record {
@@ -215,9 +242,14 @@ body_reread n b names f c =
     }
 
 -- the lines that are printed in version 2 spell the document
-pub printed_two_spelled : (d : Document) → IsInForm d → IsClosedUnderNegation d.body → IsSpelled (wordful (printed_two_lines d)) (doubled_document d)
+pub printed_two_spelled : (d : Document) → IsInForm d → IsClosedUnderNegation d.body
+    → IsSpelled (wordful (printed_two_lines d)) (doubled_document d)
 printed_two_spelled d f c = reread_two d f (body_reread d.elements d.body d.names f c)
 
 -- what is printed in version 2 is a document
-pub printed_two_document : (d : Document) → IsInForm d → IsClosedUnderNegation d.body → IsDocument (lines (printed_two d)) (doubled_document d)
-printed_two_document d f c = subst (λ ls. IsDocument ls (doubled_document d)) (sym (lines_text (printed_two_lines d) (one_lines d f (body_reread d.elements d.body d.names f c)))) (printed_two_spelled d f c)
+pub printed_two_document : (d : Document) → IsInForm d → IsClosedUnderNegation d.body
+    → IsDocument (lines (printed_two d)) (doubled_document d)
+printed_two_document d f c =
+    subst (λ ls. IsDocument ls (doubled_document d))
+    (sym (lines_text (printed_two_lines d) (one_lines d f (body_reread d.elements d.body d.names f c))))
+    (printed_two_spelled d f c)

@@ -31,9 +31,16 @@ cut_three : IsFault (codes "om 1" ∷ codes "chirotope 3 4" ∷ codes "++++" ∷
 cut_three = fault_from _ _ _ refl
 
 abbrev commented_lines : List (List ℕ)
-commented_lines = codes "# my map" ∷ [] ∷ codes "om 1" ∷ codes "chirotope 3 4" ∷ codes "+ +" ∷ codes "++ # all plus" ∷ codes "end" ∷ []
+commented_lines = codes "# my map" ∷ [] ∷ codes "om 1" ∷ codes "chirotope 3 4" ∷ codes "+ +" ∷ codes "++ # all plus"
+    ∷ codes "end" ∷ []
 
-commented : IsDocument commented_lines (record { elements = 4; body = Chirotope (record { rank = 3; elements = 4; signs = Plus ∷ Plus ∷ Plus ∷ Plus ∷ [] }); names = [] })
+commented : IsDocument commented_lines
+    (record {
+      elements = 4;
+      body =
+          Chirotope (record { rank = 3; elements = 4; signs = Plus ∷ Plus ∷ Plus ∷ Plus ∷ [] });
+      names = [];
+    })
 commented = document_from commented_lines _ refl
 
 past : IsFault (codes "om 1" ∷ codes "chirotope 3 4" ∷ codes "+++++" ∷ codes "end" ∷ []) 3 code.Many
@@ -94,7 +101,9 @@ byte_order_mark = fault_from _ _ _ refl
 
 -- a comment may hold any bytes, and carriage returns are blanks
 abbrev any_comment_lines : List (List ℕ)
-any_comment_lines = (35 ∷ 0 ∷ 255 ∷ 11 ∷ []) ∷ (codes "om 1" ++ 13 ∷ []) ∷ codes "chirotope 0 1#x" ∷ codes "-" ∷ codes "end" ∷ []
+any_comment_lines = (35 ∷ 0 ∷ 255 ∷ 11 ∷ []) ∷ (codes "om 1" ++ 13 ∷ []) ∷ codes "chirotope 0 1#x" ∷ codes "-"
+    ∷ codes "end" ∷ []
 
-any_comment : IsDocument any_comment_lines (record { elements = 1; body = Chirotope (record { rank = 0; elements = 1; signs = Minus ∷ [] }); names = [] })
+any_comment : IsDocument any_comment_lines
+    (record { elements = 1; body = Chirotope (record { rank = 0; elements = 1; signs = Minus ∷ [] }); names = [] })
 any_comment = document_from any_comment_lines _ refl

@@ -1,7 +1,9 @@
 -- The setting lines of a document, one after the other.
 --
--- Main results: settings_begin, settings_names, names_begin, line_not_setting, lines_not_settings, settings_not_end, front_of, behind_of, setting_same
-use Rattle.std.proofs.Common.{◌≡◌, ℕ, List, [], ◌∷◌, ◌++◌, Bool, true, false, ◌&&◌, ◌||◌, inl, inr, ◌⊎◌, refl, sym, ap, subst, ◌∙◌}
+-- Main results: settings_begin, settings_names, names_begin, line_not_setting, lines_not_settings, settings_not_end,
+-- front_of, behind_of, setting_same
+use Rattle.std.proofs.Common.{◌≡◌, ℕ, List, [], ◌∷◌, ◌++◌, Bool, true, false, ◌&&◌, ◌||◌, inl, inr, ◌⊎◌, refl, sym, ap}
+use Rattle.std.proofs.Common.{subst, ◌∙◌}
 use Rattle.std.specs.Prelude.{Option, Some, None, codes, bytes_eq, option_map, is_some}
 use Rattle.std.specs.List.{list_all, list_any}
 use Rattle.std.proofs.lemmas.Slice.Eq.{bytes_eq-Decides}
@@ -14,8 +16,10 @@ use Rattle.om_text.specs.declared.setting.Setting.{Setting}
 use Rattle.om_text.specs.declared.setting.Setting.TheVariants.{Plain}
 use Rattle.om_text.specs.Heading.{first_word}
 use Rattle.om_text.specs.Names.{are_names}
-use Rattle.om_text.specs.Settings.{is_line, begins_as_setting, other_words, is_names_line, setting_in, set_by, settings_in, front_settings, behind_settings}
-use Rattle.om_text.specs.Document.{end_line, are_signs, has_signs_in, has_length_in, has_blocks_in, has_numbers_in, is_body_line, filled_body}
+use Rattle.om_text.specs.Settings.{is_line, begins_as_setting, other_words, is_names_line, setting_in, set_by}
+use Rattle.om_text.specs.Settings.{settings_in, front_settings, behind_settings}
+use Rattle.om_text.specs.Document.{end_line, are_signs, has_signs_in, has_length_in, has_blocks_in, has_numbers_in}
+use Rattle.om_text.specs.Document.{is_body_line, filled_body}
 use Rattle.om_text.specs.Points.{point_of}
 use Rattle.om_text.proofs.Distinct.{either, both}
 use Rattle.om_text.proofs.Filling.{is_line-Decides}
@@ -23,17 +27,23 @@ use Rattle.om_text.proofs.Filling.{is_line-Decides}
 -- ---- lines that begin as setting lines do
 
 -- what such a line begins with
-begun : (w : List (List ℕ)) → begins_as_setting w ≡ true → (first_word w ≡ codes "names") ⊎ ((first_word w ≡ codes "order") ⊎ (first_word w ≡ codes "half"))
-begun w h = at (bytes_eq (first_word w) (codes "names")) (bytes_eq (first_word w) (codes "order")) (bytes_eq (first_word w) (codes "half")) refl refl refl h
+begun : (w : List (List ℕ)) → begins_as_setting w ≡ true → (first_word w ≡ codes "names")
+    ⊎ ((first_word w ≡ codes "order") ⊎ (first_word w ≡ codes "half"))
+begun w h = at (bytes_eq (first_word w) (codes "names")) (bytes_eq (first_word w) (codes "order"))
+    (bytes_eq (first_word w) (codes "half")) refl refl refl h
   where
-    at : (a b c : Bool) → bytes_eq (first_word w) (codes "names") ≡ a → bytes_eq (first_word w) (codes "order") ≡ b → bytes_eq (first_word w) (codes "half") ≡ c → (a || b || c) ≡ true → (first_word w ≡ codes "names") ⊎ ((first_word w ≡ codes "order") ⊎ (first_word w ≡ codes "half"))
+    at : (a b c : Bool) → bytes_eq (first_word w) (codes "names") ≡ a → bytes_eq (first_word w) (codes "order") ≡ b
+        → bytes_eq (first_word w) (codes "half") ≡ c → (a || b || c) ≡ true → (first_word w ≡ codes "names")
+        ⊎ ((first_word w ≡ codes "order") ⊎ (first_word w ≡ codes "half"))
     at true b c x y z h = inl ((bytes_eq-Decides (first_word w) (codes "names")).0 x)
     at false true c x y z h = inr (inl ((bytes_eq-Decides (first_word w) (codes "order")).0 y))
     at false false true x y z h = inr (inr ((bytes_eq-Decides (first_word w) (codes "half")).0 z))
     at false false false x y z h = cc
 
 -- no test of body lines passes these
-not_begun : (P : List (List ℕ) → Bool) → ((ws : List (List ℕ)) → P (codes "names" ∷ ws) ≡ false) → ((ws : List (List ℕ)) → P (codes "order" ∷ ws) ≡ false) → ((ws : List (List ℕ)) → P (codes "half" ∷ ws) ≡ false) → (w : List (List ℕ)) → P w ≡ true → begins_as_setting w ≡ false
+not_begun : (P : List (List ℕ) → Bool) → ((ws : List (List ℕ)) → P (codes "names" ∷ ws) ≡ false)
+    → ((ws : List (List ℕ)) → P (codes "order" ∷ ws) ≡ false) → ((ws : List (List ℕ)) → P (codes "half" ∷ ws) ≡ false)
+    → (w : List (List ℕ)) → P w ≡ true → begins_as_setting w ≡ false
 not_begun P a b c [] h = refl
 not_begun P a b c (v ∷ ws) h = elim (either (begins_as_setting (v ∷ ws))) [
   | inr n ↦ n
@@ -49,20 +59,33 @@ not_begun P a b c (v ∷ ws) h = elim (either (begins_as_setting (v ∷ ws))) [
 signs_not_setting : (w : List (List ℕ)) → are_signs w ≡ true → begins_as_setting w ≡ false
 signs_not_setting = not_begun are_signs (λ ws. refl) (λ ws. refl) (λ ws. refl)
 
-no_point : (v : List ℕ) → ((x y : List ℕ) → is_some (point_of (v ∷ x ∷ y ∷ [])) ≡ false) → (ws : List (List ℕ)) → is_some (point_of (v ∷ ws)) ≡ false
+no_point : (v : List ℕ) → ((x y : List ℕ) → is_some (point_of (v ∷ x ∷ y ∷ [])) ≡ false) → (ws : List (List ℕ))
+    → is_some (point_of (v ∷ ws)) ≡ false
 no_point v h [] = refl
 no_point v h (x ∷ []) = refl
 no_point v h (x ∷ y ∷ []) = h x y
 no_point v h (x ∷ y ∷ z ∷ ws) = refl
 
 -- a line of a body isn't one of them
-pub line_not_setting : (b : Body) (n : ℕ) (w : List (List ℕ)) → (has_signs_in b w && has_length_in b n w && has_blocks_in b w && has_numbers_in b w) ≡ true → begins_as_setting w ≡ false
-line_not_setting (Wiring bs) n w h = not_begun (λ w. has_blocks_in (Wiring bs) w) (λ ws. refl) (λ ws. refl) (λ ws. refl) w (both (has_blocks_in (Wiring bs) w) true h).0
-line_not_setting (Points ps) n w h = not_begun (λ w. has_numbers_in (Points ps) w) (no_point (codes "names") (λ x y. refl)) (no_point (codes "order") (λ x y. refl)) (no_point (codes "half") (λ x y. refl)) w h
-line_not_setting (Chirotope m) n w h = signs_not_setting w (both (are_signs w) true (both (are_signs w && true) true (both (are_signs w && true && true) true h).0).0).0
-line_not_setting b n w h = signs_not_setting w (both (are_signs w) (has_length_in b n w) (both (are_signs w && has_length_in b n w) true (both (are_signs w && has_length_in b n w && true) true h).0).0).0
+pub line_not_setting : (b : Body) (n : ℕ) (w : List (List ℕ))
+    → (has_signs_in b w && has_length_in b n w && has_blocks_in b w && has_numbers_in b w) ≡ true
+    → begins_as_setting w ≡ false
+line_not_setting (Wiring bs) n w h =
+    not_begun (λ w. has_blocks_in (Wiring bs) w) (λ ws. refl) (λ ws. refl) (λ ws. refl) w
+    (both (has_blocks_in (Wiring bs) w) true h).0
+line_not_setting (Points ps) n w h =
+    not_begun (λ w. has_numbers_in (Points ps) w) (no_point (codes "names") (λ x y. refl))
+    (no_point (codes "order") (λ x y. refl)) (no_point (codes "half") (λ x y. refl)) w h
+line_not_setting (Chirotope m) n w h =
+    signs_not_setting w
+    (both (are_signs w) true (both (are_signs w && true) true (both (are_signs w && true && true) true h).0).0).0
+line_not_setting b n w h =
+    signs_not_setting w
+    (both (are_signs w) (has_length_in b n w)
+    (both (are_signs w && has_length_in b n w) true (both (are_signs w && has_length_in b n w && true) true h).0).0).0
 
-pub lines_not_settings : (head : Document) (ls : List (List (List ℕ))) → list_all (is_body_line head) ls ≡ true → list_any begins_as_setting ls ≡ false
+pub lines_not_settings : (head : Document) (ls : List (List (List ℕ))) → list_all (is_body_line head) ls ≡ true
+    → list_any begins_as_setting ls ≡ false
 lines_not_settings head [] h = refl
 lines_not_settings head (l ∷ ls) h =
     let a = both (is_body_line head l) (list_all (is_body_line head) ls) h in
@@ -79,7 +102,8 @@ begun_not_end w h = elim (either (is_line w end_line)) [
 -- ---- setting lines
 
 pub names_begin : (n : ℕ) (w : List (List ℕ)) → is_names_line n w ≡ true → begins_as_setting w ≡ true
-names_begin n w h = let a = both (bytes_eq (first_word w) (codes "names")) (are_names n (other_words w)) h in rw a.0 refl
+names_begin n w h = let a = both (bytes_eq (first_word w) (codes "names")) (are_names n (other_words w)) h in
+    rw a.0 refl
 
 setting_begins : (b : Body) (w : List (List ℕ)) (s : Setting) → setting_in b w ≡ Some s → begins_as_setting w ≡ true
 setting_begins (Chirotope m) w s h = elim (either (is_line w (codes "order" ∷ codes "lex" ∷ []))) [
@@ -100,12 +124,14 @@ mapped_some : {A B : Type 0} (o : Option A) (f : A → B) (y : B) → option_map
 mapped_some None f y h = cc
 mapped_some (Some x) f y h = (x, refl)
 
-set_begins : (b : Body) (ls : List (List (List ℕ))) (s : Setting) → set_by b ls ≡ Some s → list_all begins_as_setting ls ≡ true
+set_begins : (b : Body) (ls : List (List (List ℕ))) (s : Setting) → set_by b ls ≡ Some s
+    → list_all begins_as_setting ls ≡ true
 set_begins b [] s h = refl
 set_begins b (w ∷ []) s h = rw (setting_begins b w s h) refl
 set_begins b (w ∷ v ∷ ls) s h = cc
 
-pub settings_begin : (v : Version) (d : Document) (ls : List (List (List ℕ))) (p : List (List ℕ) × Setting) → settings_in v d ls ≡ Some p → list_all begins_as_setting ls ≡ true
+pub settings_begin : (v : Version) (d : Document) (ls : List (List (List ℕ))) (p : List (List ℕ) × Setting)
+    → settings_in v d ls ≡ Some p → list_all begins_as_setting ls ≡ true
 settings_begin v d [] p h = refl
 settings_begin One d (w ∷ ls) p h = cc
 settings_begin Two d (w ∷ ls) p h = elim (either (is_names_line d.elements w)) [
@@ -117,27 +143,33 @@ settings_begin Two d (w ∷ ls) p h = elim (either (is_names_line d.elements w))
       set_begins d.body (w ∷ ls) m.0 m.1
 ]
 
-some_first : (a x : List (List ℕ)) (b y : Setting) → ◌≡◌ {A = Option (List (List ℕ) × Setting)} (Some (a, b)) (Some (x, y)) → a ≡ x
+some_first : (a x : List (List ℕ)) (b y : Setting)
+    → ◌≡◌ {A = Option (List (List ℕ) × Setting)} (Some (a, b)) (Some (x, y)) → a ≡ x
 some_first a x b y h = let e : ◌≡◌ {A = List (List ℕ) × Setting} (a, b) (x, y) = cc in ap (λ p. p.0) e
 
 -- setting lines give no names, or a name for each element
-pub settings_names : (v : Version) (d : Document) (ls : List (List (List ℕ))) (names : List (List ℕ)) (s : Setting) → settings_in v d ls ≡ Some (names, s) → (names ≡ []) ⊎ (are_names d.elements names ≡ true)
+pub settings_names : (v : Version) (d : Document) (ls : List (List (List ℕ))) (names : List (List ℕ)) (s : Setting)
+    → settings_in v d ls ≡ Some (names, s) → (names ≡ []) ⊎ (are_names d.elements names ≡ true)
 settings_names One d [] names s h = inl (sym (some_first [] names Plain s h))
 settings_names Two d [] names s h = inl (sym (some_first [] names Plain s h))
 settings_names One d (w ∷ ls) names s h = cc
 settings_names Two d (w ∷ ls) names s h = elim (either (is_names_line d.elements w)) [
   | inl y ↦ let g : option_map (λ s. (other_words w, s)) (set_by d.body ls) ≡ Some (names, s) = rw y at h in
       let m = mapped_some (set_by d.body ls) (λ s. (other_words w, s)) (names, s) g in
-      let k : ◌≡◌ {A = Option (List (List ℕ) × Setting)} (Some (other_words w, m.0)) (Some (names, s)) = sym (ap (option_map (λ s. (other_words w, s))) m.1) ∙ g in
+      let k : ◌≡◌ {A = Option (List (List ℕ) × Setting)} (Some (other_words w, m.0)) (Some (names, s)) =
+      sym (ap (option_map (λ s. (other_words w, s))) m.1) ∙ g in
       let e = some_first (other_words w) names m.0 s k in
-      inr (subst (λ x. are_names d.elements x ≡ true) e (both (bytes_eq (first_word w) (codes "names")) (are_names d.elements (other_words w)) y).1)
+      inr (subst (λ x. are_names d.elements x ≡ true) e
+      (both (bytes_eq (first_word w) (codes "names")) (are_names d.elements (other_words w)) y).1)
   | inr n ↦ let g : option_map (λ s. ([], s)) (set_by d.body (w ∷ ls)) ≡ Some (names, s) = rw n at h in
       let m = mapped_some (set_by d.body (w ∷ ls)) (λ s. ([], s)) (names, s) g in
-      let k : ◌≡◌ {A = Option (List (List ℕ) × Setting)} (Some ([], m.0)) (Some (names, s)) = sym (ap (option_map (λ s. ([], s))) m.1) ∙ g in
+      let k : ◌≡◌ {A = Option (List (List ℕ) × Setting)} (Some ([], m.0)) (Some (names, s)) =
+      sym (ap (option_map (λ s. ([], s))) m.1) ∙ g in
       inl (sym (some_first [] names m.0 s k))
 ]
 
-pub settings_not_end : (ls : List (List (List ℕ))) → list_all begins_as_setting ls ≡ true → list_any (λ l. is_line l end_line) ls ≡ false
+pub settings_not_end : (ls : List (List (List ℕ))) → list_all begins_as_setting ls ≡ true
+    → list_any (λ l. is_line l end_line) ls ≡ false
 settings_not_end [] h = refl
 settings_not_end (l ∷ ls) h =
     let a = both (begins_as_setting l) (list_all begins_as_setting ls) h in
@@ -158,20 +190,23 @@ all_behind (l ∷ ls) h = elim (either (begins_as_setting l)) [
 ]
 
 -- the setting lines in front of lines of another kind
-pub front_of : (ss ls : List (List (List ℕ))) → list_all begins_as_setting ss ≡ true → list_any begins_as_setting ls ≡ false → front_settings (ss ++ ls) ≡ ss
+pub front_of : (ss ls : List (List (List ℕ))) → list_all begins_as_setting ss ≡ true
+    → list_any begins_as_setting ls ≡ false → front_settings (ss ++ ls) ≡ ss
 front_of [] ls a n = none_in_front ls n
 front_of (s ∷ ss) ls a n =
     let b = both (begins_as_setting s) (list_all begins_as_setting ss) a in
     rw b.0 (ap (λ x. s ∷ x) (front_of ss ls b.1 n))
 
-pub behind_of : (ss ls : List (List (List ℕ))) → list_all begins_as_setting ss ≡ true → list_any begins_as_setting ls ≡ false → behind_settings (ss ++ ls) ≡ ls
+pub behind_of : (ss ls : List (List (List ℕ))) → list_all begins_as_setting ss ≡ true
+    → list_any begins_as_setting ls ≡ false → behind_settings (ss ++ ls) ≡ ls
 behind_of [] ls a n = all_behind ls n
 behind_of (s ∷ ss) ls a n =
     let b = both (begins_as_setting s) (list_all begins_as_setting ss) a in
     rw b.0 (behind_of ss ls b.1 n)
 
 -- a setting is by the kind of a body
-pub setting_same : (s : Setting) (b : Body) (ls : List (List (List ℕ))) (w : List (List ℕ)) → setting_in (filled_body s b ls) w ≡ setting_in b w
+pub setting_same : (s : Setting) (b : Body) (ls : List (List (List ℕ))) (w : List (List ℕ))
+    → setting_in (filled_body s b ls) w ≡ setting_in b w
 setting_same s (Chirotope m) ls w = refl
 setting_same s (Wiring bs) ls w = refl
 setting_same s (Points ps) ls w = refl

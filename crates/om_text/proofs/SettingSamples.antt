@@ -29,19 +29,35 @@ cases_differ : are_names 2 (codes "a" ∷ codes "A" ∷ []) ≡ true
 cases_differ = refl
 
 -- the sets 12, 13, 23, 14, 24, 34 in reverse lexicographic order have the values 0, +, -, 0, +, -
-reordered : values_from_revlex (record { rank = 2; elements = 4; signs = Zero ∷ Plus ∷ Minus ∷ Zero ∷ Plus ∷ Minus ∷ [] }) ≡ Zero ∷ Plus ∷ Zero ∷ Minus ∷ Plus ∷ Minus ∷ []
+reordered : values_from_revlex
+    (record { rank = 2; elements = 4; signs = Zero ∷ Plus ∷ Minus ∷ Zero ∷ Plus ∷ Minus ∷ [] }) ≡ Zero ∷ Plus ∷ Zero
+    ∷ Minus ∷ Plus ∷ Minus ∷ []
 reordered = refl
 
 abbrev named_lines : List (List ℕ)
-named_lines = codes "om 2" ∷ codes "chirotope 2 4" ∷ codes "names half end names _1 # four" ∷ [] ∷ codes "order revlex" ∷ codes "0++" ∷ codes "000" ∷ codes "end" ∷ []
+named_lines = codes "om 2" ∷ codes "chirotope 2 4" ∷ codes "names half end names _1 # four" ∷ [] ∷ codes "order revlex"
+    ∷ codes "0++" ∷ codes "000" ∷ codes "end" ∷ []
 
-named : IsDocument named_lines (record { elements = 4; body = Chirotope (record { rank = 2; elements = 4; signs = Zero ∷ Plus ∷ Zero ∷ Plus ∷ Zero ∷ Zero ∷ [] }); names = codes "half" ∷ codes "end" ∷ codes "names" ∷ codes "_1" ∷ [] })
+named : IsDocument named_lines
+    (record {
+      elements = 4;
+      body =
+          Chirotope (record { rank = 2; elements = 4; signs = Zero ∷ Plus ∷ Zero ∷ Plus ∷ Zero ∷ Zero ∷ [] });
+      names =
+          codes "half" ∷ codes "end" ∷ codes "names" ∷ codes "_1" ∷ [];
+    })
 named = document_from named_lines _ refl
 
 abbrev lexicographic_lines : List (List ℕ)
 lexicographic_lines = codes "om 2" ∷ codes "chirotope 1 2" ∷ codes "order lex" ∷ codes "+-" ∷ codes "end" ∷ []
 
-lexicographic : IsDocument lexicographic_lines (record { elements = 2; body = Chirotope (record { rank = 1; elements = 2; signs = Plus ∷ Minus ∷ [] }); names = [] })
+lexicographic : IsDocument lexicographic_lines
+    (record {
+      elements = 2;
+      body = Chirotope (record { rank = 1; elements = 2; signs = Plus ∷ Minus ∷ [] });
+      names =
+          [];
+    })
 lexicographic = document_from lexicographic_lines _ refl
 
 -- without setting lines version 2 is read as version 1
@@ -53,9 +69,17 @@ plain = document_from plain_lines _ refl
 
 -- repeated and opposite members count once
 abbrev halved_lines : List (List ℕ)
-halved_lines = codes "om 2" ∷ codes "circuits 2" ∷ codes "half" ∷ codes "+-" ∷ codes "-+" ∷ codes "00" ∷ codes "0+" ∷ codes "+-" ∷ codes "end" ∷ []
+halved_lines = codes "om 2" ∷ codes "circuits 2" ∷ codes "half" ∷ codes "+-" ∷ codes "-+" ∷ codes "00" ∷ codes "0+"
+    ∷ codes "+-" ∷ codes "end" ∷ []
 
-halved : IsDocument halved_lines (record { elements = 2; body = Circuits ((Plus ∷ Minus ∷ []) ∷ (Minus ∷ Plus ∷ []) ∷ (Zero ∷ Zero ∷ []) ∷ (Zero ∷ Plus ∷ []) ∷ (Zero ∷ Minus ∷ []) ∷ []); names = [] })
+halved : IsDocument halved_lines
+    (record {
+      elements = 2;
+      body =
+          Circuits ((Plus ∷ Minus ∷ []) ∷ (Minus ∷ Plus ∷ []) ∷ (Zero ∷ Zero ∷ []) ∷ (Zero ∷ Plus ∷ []) ∷ (Zero ∷ Minus ∷ [])
+          ∷ []);
+      names = [];
+    })
 halved = document_from halved_lines _ refl
 
 abbrev named_wiring_lines : List (List ℕ)
@@ -67,7 +91,8 @@ named_wiring = document_from named_wiring_lines _ refl
 cut_two : IsFault (codes "om 2" ∷ []) 2 code.Missing
 cut_two = fault_from _ _ _ refl
 
-few_names : IsFault (codes "om 2" ∷ codes "chirotope 3 4" ∷ codes "names a b c" ∷ codes "++++" ∷ codes "end" ∷ []) 3 code.Setting
+few_names : IsFault (codes "om 2" ∷ codes "chirotope 3 4" ∷ codes "names a b c" ∷ codes "++++" ∷ codes "end" ∷ []) 3
+    code.Setting
 few_names = fault_from _ _ _ refl
 
 many_names : IsFault (codes "om 2" ∷ codes "points 1" ∷ codes "names a b" ∷ []) 3 code.Setting

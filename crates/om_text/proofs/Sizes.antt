@@ -1,7 +1,8 @@
 -- What is printed has no more bytes than an input may have: it has few lines, and each is short.
 --
 -- Main results: cut_bytes, printed_short, printed_two_short
-use Rattle.std.proofs.Common.{◌≡◌, ℕ, zero, suc, ◌+◌, ◌*◌, ◌/◌, ◌<◌, ◌≤◌, ◌^◌, List, [], ◌∷◌, ◌++◌, true, length, take, drop, map, nat_eq, nat_le, ◌&&◌, ap, ◌∙◌, arith, length-append, length-drop}
+use Rattle.std.proofs.Common.{◌≡◌, ℕ, zero, suc, ◌+◌, ◌*◌, ◌/◌, ◌<◌, ◌≤◌, ◌^◌, List, [], ◌∷◌, ◌++◌, true, length, take}
+use Rattle.std.proofs.Common.{drop, map, nat_eq, nat_le, ◌&&◌, ap, ◌∙◌, arith, length-append, length-drop}
 use Rattle.std.specs.Prelude.{ℤ, pos, negsuc, codes, decimal, All}
 use Rattle.std.specs.Fmt.{signed_decimal}
 use Rattle.std.specs.List.{list_all}
@@ -24,8 +25,10 @@ use Rattle.om_text.specs.Members.{members_of}
 use Rattle.om_text.specs.Rows.{sorted}
 use Rattle.om_text.specs.Heading.{kind_name}
 use Rattle.om_text.specs.Form.{IsShort, AreBlocks, IsPoint, ArePointsOn, AreMembersOn, IsBodyOn, IsInForm}
-use Rattle.om_text.specs.Print.{text_of, cut, sign_lines, member_lines, spaced, block_text, block_lines, point_lines, sizes_text, kind_text, body_lines, printed}
-use Rattle.om_text.specs.PrintTwo.{printed_names, values_in_revlex, begins_with_plus, half_of, setting_lines, body_lines_two, printed_two}
+use Rattle.om_text.specs.Print.{text_of, cut, sign_lines, member_lines, spaced, block_text, block_lines, point_lines}
+use Rattle.om_text.specs.Print.{sizes_text, kind_text, body_lines, printed}
+use Rattle.om_text.specs.PrintTwo.{printed_names, values_in_revlex, begins_with_plus, half_of, setting_lines}
+use Rattle.om_text.specs.PrintTwo.{body_lines_two, printed_two}
 use Rattle.om_text.proofs.Distinct.{both}
 use Rattle.om_text.proofs.Halves.{half_long}
 use Rattle.om_text.proofs.NameTexts.{printed_are_names, all_names}
@@ -44,7 +47,8 @@ number_short n h = length-decimal-le 20 n (omega arith) (omega arith) h
 
 coordinate_short : (z : ℤ) → IsCoordinate z → IsShortWord (signed_decimal z)
 coordinate_short (pos n) h = number_short n (omega arith)
-coordinate_short (negsuc n) h = let l = length-decimal-le 19 (suc n) (omega arith) (omega arith) (omega arith) in omega (arith, l)
+coordinate_short (negsuc n) h = let l = length-decimal-le 19 (suc n) (omega arith) (omega arith) (omega arith) in
+    omega (arith, l)
 
 name_short : (w : List ℕ) → is_name w ≡ true → IsShortWord w
 name_short w h =
@@ -86,7 +90,8 @@ lines_bytes (l ∷ ls) h =
     let b = lines_bytes ls (All-tail IsShortLine l ls h) in
     omega (arith, a, b, length-append l (10 ∷ text_of ls))
 
-mapped_short : {A : Type 0} (line_of : A → List ℕ) (P : A → Type 0) → ((x : A) → P x → IsShortLine (line_of x)) → (xs : List A) → length xs ≤ MAX_MEMBERS → All P xs → AreShortLines (map line_of xs)
+mapped_short : {A : Type 0} (line_of : A → List ℕ) (P : A → Type 0) → ((x : A) → P x → IsShortLine (line_of x))
+    → (xs : List A) → length xs ≤ MAX_MEMBERS → All P xs → AreShortLines (map line_of xs)
 mapped_short line_of P each xs few h = record {
   few = omega (arith, length-map xs line_of);
   short = All-map IsShortLine line_of xs (All-weaker P (λ x. IsShortLine (line_of x)) each xs h);
@@ -100,12 +105,16 @@ block_short b h =
 
 point_short : (p : List ℤ) → IsPoint p → IsShortLine (spaced (map signed_decimal p))
 point_short p h =
-    let l = spaced_bytes (map signed_decimal p) (All-map IsShortWord signed_decimal p (All-weaker IsCoordinate (λ z. IsShortWord (signed_decimal z)) coordinate_short p h.small)) in
+    let l = spaced_bytes (map signed_decimal p)
+    (All-map IsShortWord signed_decimal p
+    (All-weaker IsCoordinate (λ z. IsShortWord (signed_decimal z)) coordinate_short p h.small)) in
     let n = h.three in
     omega (arith, l, n, length-map p signed_decimal)
 
-members_short : (n : ℕ) (ms : List (List Sign)) → n ≤ MAX_ELEMENTS → length ms ≤ MAX_MEMBERS → All (λ x. length x ≡ n) ms → AreShortLines (member_lines ms)
-members_short n ms high few long = mapped_short (map byte_of) (λ x. length x ≡ n) (λ x l. omega (arith, l, length-map x byte_of)) ms few long
+members_short : (n : ℕ) (ms : List (List Sign)) → n ≤ MAX_ELEMENTS → length ms ≤ MAX_MEMBERS
+    → All (λ x. length x ≡ n) ms → AreShortLines (member_lines ms)
+members_short n ms high few long =
+    mapped_short (map byte_of) (λ x. length x ≡ n) (λ x l. omega (arith, l, length-map x byte_of)) ms few long
 
 kind_short : (d : Document) → IsInForm d → IsShortLine (kind_text d)
 kind_short d f = line_short d.elements d.body f.high f.body
@@ -127,25 +136,35 @@ short_bytes : (ls : List (List ℕ)) → AreShortLines ls → length (text_of ls
 short_bytes ls h = let n = h.few in let l = lines_bytes ls h.short in omega (arith, n, l)
 
 signs_bytes : (xs : List Sign) → length xs ≤ MAX_VALUES → length (text_of (sign_lines xs)) ≤ MOST_BYTES
-signs_bytes xs few = let l = cut_bytes ((length xs + 63) / 64) (map byte_of xs) in omega (arith, few, l, length-map xs byte_of)
+signs_bytes xs few = let l = cut_bytes ((length xs + 63) / 64) (map byte_of xs) in
+    omega (arith, few, l, length-map xs byte_of)
 
 blocks_bytes : (bs : List Block) → AreBlocks bs → length (text_of (block_lines bs)) ≤ MOST_BYTES
-blocks_bytes bs h = short_bytes (block_lines bs) (mapped_short block_text IsShort block_short bs (let n = h.few in omega arith) h.short)
+blocks_bytes bs h =
+    short_bytes (block_lines bs) (mapped_short block_text IsShort block_short bs (let n = h.few in omega arith) h.short)
 
-points_bytes : (n : ℕ) (ps : List (List ℤ)) → n ≤ MAX_ELEMENTS → ArePointsOn n ps → length (text_of (point_lines ps)) ≤ MOST_BYTES
-points_bytes n ps high h = short_bytes (point_lines ps) (mapped_short (λ p. spaced (map signed_decimal p)) IsPoint point_short ps (let e = h.count in omega arith) h.each)
+points_bytes : (n : ℕ) (ps : List (List ℤ)) → n ≤ MAX_ELEMENTS → ArePointsOn n ps
+    → length (text_of (point_lines ps)) ≤ MOST_BYTES
+points_bytes n ps high h =
+    short_bytes (point_lines ps)
+    (mapped_short (λ p. spaced (map signed_decimal p)) IsPoint point_short ps (let e = h.count in omega arith) h.each)
 
-sorted_bytes : (n : ℕ) (ms : List (List Sign)) → n ≤ MAX_ELEMENTS → AreMembersOn n ms → length (text_of (member_lines (sorted ms))) ≤ MOST_BYTES
+sorted_bytes : (n : ℕ) (ms : List (List Sign)) → n ≤ MAX_ELEMENTS → AreMembersOn n ms
+    → length (text_of (member_lines (sorted ms))) ≤ MOST_BYTES
 sorted_bytes n ms high h =
     let few = h.few in
-    short_bytes (member_lines (sorted ms)) (members_short n (sorted ms) high (omega (arith, few, length-sorted ms)) (All-sorted (λ x. length x ≡ n) ms h.long))
+    short_bytes (member_lines (sorted ms))
+    (members_short n (sorted ms) high (omega (arith, few, length-sorted ms))
+    (All-sorted (λ x. length x ≡ n) ms h.long))
 
-half_bytes : (n : ℕ) (ms : List (List Sign)) → n ≤ MAX_ELEMENTS → AreMembersOn n ms → length (text_of (member_lines (half_of ms))) ≤ MOST_BYTES
+half_bytes : (n : ℕ) (ms : List (List Sign)) → n ≤ MAX_ELEMENTS → AreMembersOn n ms
+    → length (text_of (member_lines (half_of ms))) ≤ MOST_BYTES
 half_bytes n ms high h =
     let few = h.few in
     let l = length-filter begins_with_plus (sorted ms) in
     let m = count_by-le-length begins_with_plus (sorted ms) in
-    short_bytes (member_lines (half_of ms)) (members_short n (half_of ms) high (omega (arith, few, l, m, length-sorted ms)) (half_long n ms h.long))
+    short_bytes (member_lines (half_of ms))
+    (members_short n (half_of ms) high (omega (arith, few, l, m, length-sorted ms)) (half_long n ms h.long))
 
 body_bytes : (n : ℕ) (b : Body) → n ≤ MAX_ELEMENTS → IsBodyOn n b → length (text_of (body_lines b)) ≤ MOST_BYTES
 body_bytes n (Chirotope m) high h = let s = h.signs in let f = h.few in signs_bytes m.signs (omega arith)
@@ -156,7 +175,8 @@ body_bytes n b high h = sorted_bytes n (members_of b) high h
 body_bytes_two : (n : ℕ) (b : Body) → n ≤ MAX_ELEMENTS → IsBodyOn n b → length (text_of (body_lines_two b)) ≤ MOST_BYTES
 body_bytes_two n (Chirotope m) high h =
     let f = h.few in
-    let e : length (values_in_revlex m) ≡ choose n m.rank = length-values_in_revlex m ∙ ap (λ k. choose k m.rank) h.elements in
+    let e : length (values_in_revlex m) ≡ choose n m.rank = length-values_in_revlex m
+    ∙ ap (λ k. choose k m.rank) h.elements in
     signs_bytes (values_in_revlex m) (omega arith)
 body_bytes_two n (Wiring bs) high h = blocks_bytes bs h
 body_bytes_two n (Points ps) high h = points_bytes n ps high h
@@ -176,8 +196,12 @@ names_bytes d f =
     let ws : List (List ℕ) = printed_names d.elements d.names in
     let high = f.high in
     let are = printed_are_names d.elements d.names (omega arith) f.names in
-    let each = All-weaker (λ w. is_name w ≡ true) IsShortWord name_short ws (AllPass-from_list_all is_name ws (all_names d.elements ws are)) in
-    let count = eqb-true (length ws) d.elements (both (nat_eq (length ws) d.elements) (list_all is_name ws) (both (nat_eq (length ws) d.elements && list_all is_name ws) (are_different ws) are).0).0 in
+    let each = All-weaker (λ w. is_name w ≡ true) IsShortWord name_short ws
+    (AllPass-from_list_all is_name ws (all_names d.elements ws are)) in
+    let count =
+    eqb-true (length ws) d.elements
+    (both (nat_eq (length ws) d.elements) (list_all is_name ws)
+    (both (nat_eq (length ws) d.elements && list_all is_name ws) (are_different ws) are).0).0 in
     let l = spaced_bytes (codes "names" ∷ ws) (All-cons IsShortWord (codes "names") ws (omega arith) each) in
     omega (arith, high, count, l)
 
@@ -185,7 +209,8 @@ names_bytes d f =
 
 -- lines with the line `end` behind them
 ended_bytes : (ls : List (List ℕ)) → length (text_of (ls ++ codes "end" ∷ [])) ≡ length (text_of ls) + 4
-ended_bytes ls = ap length (text_of-append ls (codes "end" ∷ [])) ∙ length-append (text_of ls) (text_of (codes "end" ∷ []))
+ended_bytes ls = ap length (text_of-append ls (codes "end" ∷ []))
+    ∙ length-append (text_of ls) (text_of (codes "end" ∷ []))
 
 pub printed_short : (d : Document) → IsInForm d → length (printed d) ≤ MAX_INPUT
 printed_short d f =
@@ -194,7 +219,9 @@ printed_short d f =
     let behind = length-append (kind_text d) (10 ∷ text_of (body_lines d.body ++ codes "end" ∷ [])) in
     omega (arith, kind, body, behind, ended_bytes (body_lines d.body))
 
-two_bytes : (kind names : List ℕ) (settings ls : List (List ℕ)) → length (text_of (codes "om 2" ∷ kind ∷ names ∷ (settings ++ ls ++ codes "end" ∷ []))) ≡ length kind + length names + length (text_of settings) + length (text_of ls) + 11
+two_bytes : (kind names : List ℕ) (settings ls : List (List ℕ))
+    → length (text_of (codes "om 2" ∷ kind ∷ names ∷ (settings ++ ls ++ codes "end" ∷ []))) ≡ length kind + length names
+    + length (text_of settings) + length (text_of ls) + 11
 two_bytes kind names settings ls =
     let a = length-append kind (10 ∷ (names ++ 10 ∷ text_of (settings ++ ls ++ codes "end" ∷ []))) in
     let b = length-append names (10 ∷ text_of (settings ++ ls ++ codes "end" ∷ [])) in
@@ -207,5 +234,6 @@ printed_two_short d f =
     let names = names_bytes d f in
     let setting = setting_bytes d.body in
     let body = body_bytes_two d.elements d.body f.high f.body in
-    let whole = two_bytes (kind_text d) (spaced (codes "names" ∷ printed_names d.elements d.names)) (setting_lines d.body) (body_lines_two d.body) in
+    let whole = two_bytes (kind_text d) (spaced (codes "names" ∷ printed_names d.elements d.names))
+    (setting_lines d.body) (body_lines_two d.body) in
     omega (arith, kind, names, setting, body, whole)

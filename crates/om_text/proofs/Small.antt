@@ -23,22 +23,28 @@ use Rattle.om_text.specs.declared.setting.Setting.TheVariants.{Plain}
 use Rattle.om_text.specs.declared.version.Version.{Version}
 use Rattle.om_text.specs.Settings.{is_line, version_of, begins_as_setting, other_words, is_names_line, setting_in}
 use Rattle.om_text.specs.Document.{end_line, filled_body, is_complete}
-use Rattle.om_text.specs.Heading.{first_word, kind_of, heading, opened, headed, empty_body, numbers, has_elements, has_rank, rank_of_body}
-use Rattle.om_text.specs.Reading.{step, advance, with_version, first_draft, with_heading, takes_settings, with_names, with_setting, after_choice, after_setting, after_body, finished_draft, after_end, added, added_body}
+use Rattle.om_text.specs.Heading.{first_word, kind_of, heading, opened, headed, empty_body, numbers, has_elements}
+use Rattle.om_text.specs.Heading.{has_rank, rank_of_body}
+use Rattle.om_text.specs.Reading.{step, advance, with_version, first_draft, with_heading, takes_settings, with_names}
+use Rattle.om_text.specs.Reading.{with_setting, after_choice, after_setting, after_body, finished_draft, after_end}
+use Rattle.om_text.specs.Reading.{added, added_body}
 use Rattle.om_text.specs.Steps.{step_if}
 use Rattle.om_text.specs.ReaderParts.{IsDocumentInRange, IsBodyInRange, IsStateInRange}
 use Rattle.om_text.proofs.Distinct.{either, both}
 use Rattle.om_text.proofs.Course.{cond_ok, cond_err, ok_same, heading_ok, named, taken}
 
-pub mapped : (o : Option (ℕ × ℕ)) (f : ℕ × ℕ → Document) (d : Document) → option_map f o ≡ Some d → (p : ℕ × ℕ) × (f p ≡ d)
+pub mapped : (o : Option (ℕ × ℕ)) (f : ℕ × ℕ → Document) (d : Document) → option_map f o ≡ Some d → (p : ℕ × ℕ)
+    × (f p ≡ d)
 mapped None f d h = cc
 mapped (Some p) f d h = (p, cc)
 
-empty_small : (k : DocumentKind) (p : ℕ × ℕ) → p.1 ≤ MAX_ELEMENTS → rank_of_body (empty_body k p.0 p.1) ≤ p.1 → IsBodyInRange (filled_body Plain (empty_body k p.0 p.1) [])
+empty_small : (k : DocumentKind) (p : ℕ × ℕ) → p.1 ≤ MAX_ELEMENTS → rank_of_body (empty_body k p.0 p.1) ≤ p.1
+    → IsBodyInRange (filled_body Plain (empty_body k p.0 p.1) [])
 empty_small kinds.Chirotope p h r = record { elements = h; rank = r }
 empty_small _ p h r = tt
 
-heading_small : (v : Version) (w : List (List ℕ)) (d : Document) → heading w ≡ Some d → has_elements d ≡ true → has_rank d ≡ true → IsDocumentInRange (first_draft v d).document
+heading_small : (v : Version) (w : List (List ℕ)) (d : Document) → heading w ≡ Some d → has_elements d ≡ true
+    → has_rank d ≡ true → IsDocumentInRange (first_draft v d).document
 heading_small v [] d h e r = cc
 heading_small v (w ∷ ws) d h e r =
     let n = named (kind_of w) (λ k. opened k ws) d h in
@@ -47,14 +53,16 @@ heading_small v (w ∷ ws) d h e r =
     let b = both (nat_le 1 d.elements) (nat_le d.elements MAX_ELEMENTS) e in
     let l : d.elements ≤ MAX_ELEMENTS = leb-true d.elements MAX_ELEMENTS b.1 in
     let k : m.0.1 ≤ MAX_ELEMENTS = subst (λ d. d.elements ≤ MAX_ELEMENTS) (sym m.1) l in
-    let f : rank_of_body (empty_body n.0 m.0.0 m.0.1) ≤ m.0.1 = subst (λ d. rank_of_body d.body ≤ d.elements) (sym m.1) (leb-true (rank_of_body d.body) d.elements r) in
+    let f : rank_of_body (empty_body n.0 m.0.0 m.0.1) ≤ m.0.1 =
+    subst (λ d. rank_of_body d.body ≤ d.elements) (sym m.1) (leb-true (rank_of_body d.body) d.elements r) in
     record {
       low = leb-true 1 d.elements b.0;
       high = l;
       body = subst (λ x. IsBodyInRange (filled_body Plain x.body [])) m.1 (empty_small n.0 m.0 k f);
     }
 
-kind_small : (v : Version) (o : Option Document) (w : List (List ℕ)) (t : State) → heading w ≡ o → with_heading v o ≡ Ok t → IsStateInRange t
+kind_small : (v : Version) (o : Option Document) (w : List (List ℕ)) (t : State) → heading w ≡ o
+    → with_heading v o ≡ Ok t → IsStateInRange t
 kind_small v None w t e h = cc
 kind_small v (Some d) w t e h =
     let a = heading_ok v d t h in
@@ -69,14 +77,18 @@ added_small s (Chirotope m) w h = record { elements = h.elements; rank = h.rank 
 added_small s (Points ps) w h = tt
 added_small s _ w h = tt
 
-setting_small : (d : Draft) (o : Option Setting) (t : State) → IsDocumentInRange d.document → with_setting d o ≡ Ok t → IsStateInRange t
+setting_small : (d : Draft) (o : Option Setting) (t : State) → IsDocumentInRange d.document → with_setting d o ≡ Ok t
+    → IsStateInRange t
 setting_small d None t i h = cc
-setting_small d (Some s) t i h = subst IsStateInRange (ok_same (Open (record { document = d.document; setting = s; stage = Full })) t h) i
+setting_small d (Some s) t i h =
+    subst IsStateInRange (ok_same (Open (record { document = d.document; setting = s; stage = Full })) t h) i
 
-settings_small : (g : Stage) (d : Draft) (w : List (List ℕ)) (t : State) → IsDocumentInRange d.document → after_setting g d w ≡ Ok t → IsStateInRange t
+settings_small : (g : Stage) (d : Draft) (w : List (List ℕ)) (t : State) → IsDocumentInRange d.document
+    → after_setting g d w ≡ Ok t → IsStateInRange t
 settings_small Names d w t i h = elim (either (is_names_line d.document.elements w)) [
   | inl y ↦ let g : ◌≡◌ {A = Result State Code} (Ok (Open (with_names d (other_words w)))) (Ok t) = rw y at h in
-      let m : IsDocumentInRange (with_names d (other_words w)).document = record { low = i.low; high = i.high; body = i.body } in
+      let m : IsDocumentInRange (with_names d (other_words w)).document =
+      record { low = i.low; high = i.high; body = i.body } in
       subst IsStateInRange (ok_same _ _ g) m
   | inr n ↦ let g : after_choice d w ≡ Ok t = rw n at h in setting_small d (setting_in d.document.body w) t i g
 ]
@@ -97,13 +109,15 @@ step_small (Open d) w t o h = elim (either (takes_settings d.stage && begins_as_
             let a = cond_ok (is_complete d.document) (Ok (Closed (finished_draft d))) code.Few t g in
             subst IsStateInRange (ok_same _ _ a.1) tt
         | inr n ↦ let g : after_body d w ≡ Ok t = rw n at k in
-            let m : IsDocumentInRange (added d w).document = record { low = o.low; high = o.high; body = added_small d.setting d.document.body w o.body } in
+            let m : IsDocumentInRange (added d w).document =
+            record { low = o.low; high = o.high; body = added_small d.setting d.document.body w o.body } in
             subst IsStateInRange (taken d w t g).state m
       ]
 ]
 step_small (Closed d) w t o h = cc
 
-pub advance_small : (s : State) (line : List ℕ) (t : State) → IsStateInRange s → advance s line ≡ Ok t → IsStateInRange t
+pub advance_small : (s : State) (line : List ℕ) (t : State) → IsStateInRange s → advance s line ≡ Ok t
+    → IsStateInRange t
 advance_small s line t o h = at (words line) h
   where
     at : (w : List (List ℕ)) → step_if step (has_any w) s w ≡ Ok t → IsStateInRange t

@@ -1,8 +1,10 @@
 -- Words with blanks between them, as text, and their lines.
 --
 -- Main definitions: is_word_byte, is_word, is_word_line, single
--- Main results: words_one, words_two, words_three, words_spaced, wordful-cons, wordful_spaced, spaced_one_lines, signs_are_word
-use Rattle.std.proofs.Common.{◌≡◌, ℕ, List, [], ◌∷◌, ◌++◌, Bool, true, false, cond, not, ◌&&◌, map, refl, sym, ap, ◌∙◌, append-nil, inl, inr, nat_eq}
+-- Main results: words_one, words_two, words_three, words_spaced, wordful-cons, wordful_spaced, spaced_one_lines,
+-- signs_are_word
+use Rattle.std.proofs.Common.{◌≡◌, ℕ, List, [], ◌∷◌, ◌++◌, Bool, true, false, cond, not, ◌&&◌, map, refl, sym, ap, ◌∙◌}
+use Rattle.std.proofs.Common.{append-nil, inl, inr, nat_eq}
 use Rattle.std.specs.Prelude.{filter}
 use Rattle.std.specs.List.{list_all}
 use Rattle.std.proofs.lemmas.Bool.{eqb-true}
@@ -42,7 +44,8 @@ uncommented_word (b ∷ w) r h =
 uncommented_one : (w : List ℕ) → list_all is_word_byte w ≡ true → uncommented w ≡ w
 uncommented_one w h = ap uncommented (sym (append-nil w)) ∙ uncommented_word w [] h ∙ append-nil w
 
-uncommented_two : (w v : List ℕ) → list_all is_word_byte w ≡ true → list_all is_word_byte v ≡ true → uncommented (w ++ 32 ∷ v) ≡ w ++ 32 ∷ v
+uncommented_two : (w v : List ℕ) → list_all is_word_byte w ≡ true → list_all is_word_byte v ≡ true
+    → uncommented (w ++ 32 ∷ v) ≡ w ++ 32 ∷ v
 uncommented_two w v h g = uncommented_word w (32 ∷ v) h ∙ ap (λ x. w ++ 32 ∷ x) (uncommented_one v g)
 
 pieces_word : (w r : List ℕ) → list_all is_word_byte w ≡ true → pieces (w ++ 32 ∷ r) ≡ w ∷ pieces r
@@ -62,13 +65,18 @@ pieces_one (b ∷ w) h =
 pub words_one : (w : List ℕ) → list_all is_word_byte w ≡ true → has_any w ≡ true → words w ≡ w ∷ []
 words_one w h e = ap runs (uncommented_one w h) ∙ ap (filter has_any) (pieces_one w h) ∙ rw e refl
 
-pub words_two : (w v : List ℕ) → list_all is_word_byte w ≡ true → has_any w ≡ true → list_all is_word_byte v ≡ true → has_any v ≡ true → words (w ++ 32 ∷ v) ≡ w ∷ v ∷ []
-words_two w v h e g f = ap runs (uncommented_two w v h g) ∙ ap (filter has_any) (pieces_word w v h ∙ ap (λ x. w ∷ x) (pieces_one v g)) ∙ rw (e, f) refl
+pub words_two : (w v : List ℕ) → list_all is_word_byte w ≡ true → has_any w ≡ true → list_all is_word_byte v ≡ true
+    → has_any v ≡ true → words (w ++ 32 ∷ v) ≡ w ∷ v ∷ []
+words_two w v h e g f = ap runs (uncommented_two w v h g)
+    ∙ ap (filter has_any) (pieces_word w v h ∙ ap (λ x. w ∷ x) (pieces_one v g)) ∙ rw (e, f) refl
 
-pub words_three : (w v u : List ℕ) → list_all is_word_byte w ≡ true → has_any w ≡ true → list_all is_word_byte v ≡ true → has_any v ≡ true → list_all is_word_byte u ≡ true → has_any u ≡ true → words (w ++ 32 ∷ (v ++ 32 ∷ u)) ≡ w ∷ v ∷ u ∷ []
+pub words_three : (w v u : List ℕ) → list_all is_word_byte w ≡ true → has_any w ≡ true → list_all is_word_byte v ≡ true
+    → has_any v ≡ true → list_all is_word_byte u ≡ true → has_any u ≡ true
+    → words (w ++ 32 ∷ (v ++ 32 ∷ u)) ≡ w ∷ v ∷ u ∷ []
 words_three w v u h e g f k l =
     ap runs (uncommented_word w (32 ∷ (v ++ 32 ∷ u)) h ∙ ap (λ x. w ++ 32 ∷ x) (uncommented_two v u g k))
-    ∙ ap (filter has_any) (pieces_word w (v ++ 32 ∷ u) h ∙ ap (λ x. w ∷ x) (pieces_word v u g ∙ ap (λ x. v ∷ x) (pieces_one u k)))
+    ∙ ap (filter has_any)
+    (pieces_word w (v ++ 32 ∷ u) h ∙ ap (λ x. w ∷ x) (pieces_word v u g ∙ ap (λ x. v ∷ x) (pieces_one u k)))
     ∙ rw (e, f, l) refl
 
 -- a word, as printed
@@ -81,7 +89,8 @@ is_word_line ws = has_any ws && list_all is_word ws
 
 uncommented_spaced : (ws : List (List ℕ)) → list_all is_word ws ≡ true → uncommented (spaced ws) ≡ spaced ws
 uncommented_spaced [] h = refl
-uncommented_spaced (w ∷ []) h = uncommented_one w (both (list_all is_word_byte w) (has_any w) (both (is_word w) true h).0).0
+uncommented_spaced (w ∷ []) h =
+    uncommented_one w (both (list_all is_word_byte w) (has_any w) (both (is_word w) true h).0).0
 uncommented_spaced (w ∷ v ∷ ws) h =
     let a = both (is_word w) (list_all is_word (v ∷ ws)) h in
     let b = both (list_all is_word_byte w) (has_any w) a.0 in
@@ -104,7 +113,8 @@ all_full (w ∷ ws) h =
 -- words with single spaces between them are read as these words
 pub words_spaced : (ws : List (List ℕ)) → list_all is_word ws ≡ true → words (spaced ws) ≡ ws
 words_spaced [] h = refl
-words_spaced (w ∷ ws) h = ap runs (uncommented_spaced (w ∷ ws) h) ∙ ap (filter has_any) (pieces_spaced w ws h) ∙ all_full (w ∷ ws) h
+words_spaced (w ∷ ws) h = ap runs (uncommented_spaced (w ∷ ws) h) ∙ ap (filter has_any) (pieces_spaced w ws h)
+    ∙ all_full (w ∷ ws) h
 
 pub spaced_one_line : (ws : List (List ℕ)) → list_all is_word ws ≡ true → is_one_line (spaced ws) ≡ true
 spaced_one_line [] h = refl
@@ -112,11 +122,14 @@ spaced_one_line (w ∷ []) h = word_one_line w (both (list_all is_word_byte w) (
 spaced_one_line (w ∷ v ∷ ws) h =
     let a = both (is_word w) (list_all is_word (v ∷ ws)) h in
     let b = both (list_all is_word_byte w) (has_any w) a.0 in
-    list_all-append (λ b. not (nat_eq b 10)) w (32 ∷ spaced (v ∷ ws)) ∙ rw (word_one_line w b.0, spaced_one_line (v ∷ ws) a.1) refl
+    list_all-append (λ b. not (nat_eq b 10)) w (32 ∷ spaced (v ∷ ws))
+    ∙ rw (word_one_line w b.0, spaced_one_line (v ∷ ws) a.1) refl
 
 -- a line with words in front of others
-pub wordful-cons : (l : List ℕ) (ls : List (List ℕ)) (w : List (List ℕ)) → words l ≡ w → has_any w ≡ true → wordful (l ∷ ls) ≡ w ∷ wordful ls
-wordful-cons l ls w e h = ap (λ x. filter has_any (x ∷ map words ls)) e ∙ ap (λ b. cond b (w ∷ wordful ls) (wordful ls)) h
+pub wordful-cons : (l : List ℕ) (ls : List (List ℕ)) (w : List (List ℕ)) → words l ≡ w → has_any w ≡ true
+    → wordful (l ∷ ls) ≡ w ∷ wordful ls
+wordful-cons l ls w e h = ap (λ x. filter has_any (x ∷ map words ls)) e
+    ∙ ap (λ b. cond b (w ∷ wordful ls) (wordful ls)) h
 
 -- lines of words are read as these lines
 pub wordful_spaced : (ls : List (List (List ℕ))) → list_all is_word_line ls ≡ true → wordful (map spaced ls) ≡ ls
@@ -127,18 +140,23 @@ wordful_spaced (l ∷ ls) h =
     ap (λ x. filter has_any (x ∷ map words (map spaced ls))) (words_spaced l b.1)
     ∙ rw b.0 (ap (λ x. l ∷ x) (wordful_spaced ls a.1))
 
-pub spaced_one_lines : (ls : List (List (List ℕ))) → list_all is_word_line ls ≡ true → list_all is_one_line (map spaced ls) ≡ true
+pub spaced_one_lines : (ls : List (List (List ℕ))) → list_all is_word_line ls ≡ true
+    → list_all is_one_line (map spaced ls) ≡ true
 spaced_one_lines [] h = refl
 spaced_one_lines (l ∷ ls) h =
     let a = both (is_word_line l) (list_all is_word_line ls) h in
     let b = both (has_any l) (list_all is_word l) a.0 in
     rw (spaced_one_line l b.1) (spaced_one_lines ls a.1)
 
-pub two_one_line : (w v : List ℕ) → list_all is_word_byte w ≡ true → list_all is_word_byte v ≡ true → is_one_line (w ++ 32 ∷ v) ≡ true
-two_one_line w v h g = list_all-append (λ b. not (nat_eq b 10)) w (32 ∷ v) ∙ rw (word_one_line w h, word_one_line v g) refl
+pub two_one_line : (w v : List ℕ) → list_all is_word_byte w ≡ true → list_all is_word_byte v ≡ true
+    → is_one_line (w ++ 32 ∷ v) ≡ true
+two_one_line w v h g = list_all-append (λ b. not (nat_eq b 10)) w (32 ∷ v)
+    ∙ rw (word_one_line w h, word_one_line v g) refl
 
-pub three_one_line : (w v u : List ℕ) → list_all is_word_byte w ≡ true → list_all is_word_byte v ≡ true → list_all is_word_byte u ≡ true → is_one_line (w ++ 32 ∷ (v ++ 32 ∷ u)) ≡ true
-three_one_line w v u h g k = list_all-append (λ b. not (nat_eq b 10)) w (32 ∷ (v ++ 32 ∷ u)) ∙ rw (word_one_line w h, two_one_line v u g k) refl
+pub three_one_line : (w v u : List ℕ) → list_all is_word_byte w ≡ true → list_all is_word_byte v ≡ true
+    → list_all is_word_byte u ≡ true → is_one_line (w ++ 32 ∷ (v ++ 32 ∷ u)) ≡ true
+three_one_line w v u h g k = list_all-append (λ b. not (nat_eq b 10)) w (32 ∷ (v ++ 32 ∷ u))
+    ∙ rw (word_one_line w h, two_one_line v u g k) refl
 
 sign_is_word : (b : ℕ) → is_sign b ≡ true → is_word_byte b ≡ true
 sign_is_word b h = elim (either (nat_eq b 43)) [

@@ -1,13 +1,13 @@
 -- Blocks: words `i-j`.
 --
--- Trusted: what a document is rests on these definitions.
+-- Trusted: these definitions say what a document is.
 use Rattle.std.specs.Prelude.{ℕ, List, Bool, cond, nat_eq, nat_le, length, map, Option, Some, None, is_some, unwrap_or}
 use Rattle.std.specs.List.{list_all, before_first, after_first}
 use Rattle.om_signs.specs.declared.block.Block.{Block}
 use Rattle.om_signs.specs.declared.limits.TheConstants.{MAX_POSITION_DIGITS}
 use Rattle.om_text.specs.Words.{plain}
 
--- the position that a word is: a plain number of at most MAX_POSITION_DIGITS digits
+-- the position that a word spells: a plain number of at most MAX_POSITION_DIGITS digits
 abbrev pub position_of : List ℕ → Option ℕ
 position_of w = cond (nat_le (length w) MAX_POSITION_DIGITS) (plain w) None
 
@@ -15,16 +15,16 @@ position_of w = cond (nat_le (length w) MAX_POSITION_DIGITS) (plain w) None
 abbrev pub is_dash : ℕ → Bool
 is_dash b = nat_eq b 45
 
--- the block of two positions, where both are there
+-- the block of two positions, if both are there
 abbrev pub with_positions : Option ℕ → Option ℕ → Option Block
 with_positions (Some i) (Some j) = Some (record { first = i; last = j })
 with_positions _ _ = None
 
--- the block that a word is: two positions with a `-` between them
+-- the block that a word spells: two positions with a `-` between them
 abbrev pub block_of : List ℕ → Option Block
 block_of w = with_positions (position_of (before_first is_dash w)) (position_of (after_first is_dash w))
 
--- the block of a word that is one
+-- the block of a word that spells one
 abbrev pub block_on : List ℕ → Block
 block_on w = unwrap_or (block_of w) (record { first = 0; last = 0 })
 

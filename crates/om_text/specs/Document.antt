@@ -1,7 +1,8 @@
--- Documents, over whole lists of lines.
+-- Documents, in terms of whole lists of lines.
 --
 -- Trusted: this is what a document is, with its value. Nothing here says how one is read.
-use Rattle.std.specs.Prelude.{ℕ, ◌≡◌, List, [], ◌∷◌, ◌++◌, Bool, true, nat_eq, nat_le, ◌&&◌, length, map, codes, Some, is_some}
+use Rattle.std.specs.Prelude.{ℕ, ◌≡◌, List, [], ◌∷◌, ◌++◌, Bool, true, nat_eq, nat_le, ◌&&◌, length, map, codes, Some}
+use Rattle.std.specs.Prelude.{is_some}
 use Rattle.std.specs.List.{list_all, concat, flat_map}
 use Rattle.om_signs.specs.declared.limits.TheConstants.{MAX_MEMBERS, MAX_BLOCKS}
 use Rattle.om_signs.specs.declared.sign.Sign.{Sign}
@@ -34,7 +35,7 @@ are_signs w = list_all is_sign (concat w)
 abbrev pub signs_of_line : List (List ℕ) → List Sign
 signs_of_line w = map sign_of_byte (concat w)
 
--- whether a line has no byte but signs, where this kind of body asks for signs
+-- whether a line has no bytes but signs, if this kind of body requires signs
 abbrev pub has_signs_in : Body → List (List ℕ) → Bool
 has_signs_in (Wiring bs) w = true
 has_signs_in (Points ps) w = true
@@ -44,7 +45,7 @@ has_signs_in _ w = are_signs w
 abbrev pub has_signs : Document → List (List ℕ) → Bool
 has_signs d w = has_signs_in d.body w
 
--- whether a line has the length that this kind of body asks for
+-- whether a line has the length that this kind of body requires
 abbrev pub has_length_in : Body → ℕ → List (List ℕ) → Bool
 has_length_in (Chirotope m) n w = true
 has_length_in (Wiring bs) n w = true
@@ -55,7 +56,7 @@ has_length_in _ n w = nat_eq (length (concat w)) n
 abbrev pub has_length : Document → List (List ℕ) → Bool
 has_length d w = has_length_in d.body d.elements w
 
--- whether the words of a line are blocks, where this kind of body asks for blocks
+-- whether the words of a line are blocks, if this kind of body requires blocks
 abbrev pub has_blocks_in : Body → List (List ℕ) → Bool
 has_blocks_in (Wiring bs) w = are_blocks w
 has_blocks_in _ w = true
@@ -64,7 +65,7 @@ has_blocks_in _ w = true
 abbrev pub has_blocks : Document → List (List ℕ) → Bool
 has_blocks d w = has_blocks_in d.body w
 
--- whether a line is a point, where this kind of body asks for points
+-- whether a line is a point, if this kind of body requires points
 abbrev pub has_numbers_in : Body → List (List ℕ) → Bool
 has_numbers_in (Points ps) w = is_some (point_of w)
 has_numbers_in _ w = true
@@ -73,21 +74,21 @@ has_numbers_in _ w = true
 abbrev pub has_numbers : Document → List (List ℕ) → Bool
 has_numbers d w = has_numbers_in d.body w
 
--- a line that may stand in the body
+-- a line that is allowed in the body
 abbrev pub is_body_line : Document → List (List ℕ) → Bool
 is_body_line d w = has_signs d w && has_length d w && has_blocks d w && has_numbers d w
 
--- the signs of all lines together
+-- the signs of all lines, joined
 abbrev pub all_signs : List (List (List ℕ)) → List Sign
 all_signs body = map sign_of_byte (concat (map concat body))
 
--- the members that a line gives: the sign vector of its signs, and after `half` the negative of it too
+-- the members that a line gives: the sign vector of its signs, and after `half` its negative too
 abbrev pub members_of_line : Setting → List (List ℕ) → List (List Sign)
 members_of_line Half w = signs_of_line w ∷ map opposite (signs_of_line w) ∷ []
 members_of_line _ w = signs_of_line w ∷ []
 
--- the body that lines give: the values of a map in the order of the lines, the blocks, the points, or the distinct members in
--- the order of their first lines
+-- the body that lines give: the values of a map in the order of the lines, the blocks, the points, or the distinct
+-- members in the order of their first lines
 abbrev pub filled_body : Setting → Body → List (List (List ℕ)) → Body
 filled_body s (Chirotope m) body = Chirotope (record { rank = m.rank; elements = m.elements; signs = all_signs body })
 filled_body s (Wiring _) body = Wiring (flat_map blocks_on body)
@@ -105,30 +106,30 @@ size_of (Wiring bs) = length bs
 size_of (Points ps) = length ps
 size_of b = length (members_of b)
 
--- how many it may have on n elements
+-- how many a body on n elements may have
 abbrev pub room_of : Body → ℕ → ℕ
 room_of (Chirotope m) n = choose m.elements m.rank
 room_of (Wiring bs) n = MAX_BLOCKS
 room_of (Points ps) n = n
 room_of _ n = MAX_MEMBERS
 
--- whether it has no more
+-- whether the body of a document has no more
 abbrev pub has_room : Document → Bool
 has_room d = nat_le (size_of d.body) (room_of d.body d.elements)
 
--- whether a body on n elements may end: a map has all its values, there is a point for each element, and a list or a wiring
--- may always end
+-- whether a body on n elements may end: a map has all its values, there is a point for each element, and a list or
+-- a wiring may always end
 abbrev pub is_complete_body : Body → ℕ → Bool
 is_complete_body (Chirotope m) n = nat_eq (length m.signs) (choose m.elements m.rank)
 is_complete_body (Points ps) n = nat_eq (length ps) n
 is_complete_body _ n = true
 
--- the same of a document
+-- whether the body of a document may end
 abbrev pub is_complete : Document → Bool
 is_complete d = is_complete_body d.body d.elements
 
--- the words of lines are a version line, a kind line with its numbers in range, setting lines that this version and kind may
--- have, lines of a body within the limits, and the end line; d is the document that they give
+-- The lines, as their words, are a version line, a kind line with its numbers in range, setting lines that this
+-- version and kind allow, lines of a body within the limits, and the end line. They give the document d.
 pub record IsSpelled (ls : List (List (List ℕ))) (d : Document) : Type 0 where
   pub first_line : List (List ℕ)
   pub version : Version

@@ -1,7 +1,8 @@
 -- The first line at fault, and its code.
 --
--- Trusted: which line is named for an input that is no document, and with which code.
-use Rattle.std.specs.Prelude.{ℕ, ◌≡◌, ◌+◌, List, [], ◌∷◌, ◌++◌, Bool, true, false, cond, not, ◌&&◌, length, Option, Some, None, is_none, option_and_then}
+-- Trusted: which line is returned for an input that is no document, and with which code.
+use Rattle.std.specs.Prelude.{ℕ, ◌≡◌, ◌+◌, List, [], ◌∷◌, ◌++◌, Bool, true, false, cond, not, ◌&&◌, length, Option}
+use Rattle.std.specs.Prelude.{Some, None, is_none, option_and_then}
 use Rattle.std.specs.List.{list_all, list_any}
 use Rattle.om_text.specs.declared.document.Document.{Document}
 use Rattle.om_text.specs.declared.code.Code.{Code}
@@ -10,13 +11,17 @@ use Rattle.om_text.specs.declared.version.Version.{Version}
 use Rattle.om_text.specs.declared.version.Version.TheVariants.{One, Two}
 use Rattle.om_text.specs.declared.setting.Setting.{Setting}
 use Rattle.om_text.specs.Lines.{words, wordful}
-use Rattle.om_text.specs.Settings.{is_line, version_of, begins_as_setting, settings_of, settings_in, front_settings, behind_settings}
-use Rattle.om_text.specs.Document.{IsDocument, end_line, has_signs, has_length, has_blocks, has_numbers, filled, has_room, is_complete}
-use Rattle.om_text.specs.Heading.{first_word, kind_of, heading, has_elements, has_rank, has_size, rank_of_body, values_of_body}
+use Rattle.om_text.specs.Settings.{is_line, version_of, begins_as_setting, settings_of, settings_in, front_settings}
+use Rattle.om_text.specs.Settings.{behind_settings}
+use Rattle.om_text.specs.Document.{IsDocument, end_line, has_signs, has_length, has_blocks, has_numbers, filled}
+use Rattle.om_text.specs.Document.{has_room, is_complete}
+use Rattle.om_text.specs.Heading.{first_word, kind_of, heading, has_elements, has_rank, has_size, rank_of_body}
+use Rattle.om_text.specs.Heading.{values_of_body}
 
--- What a line with words is, by the lines with words before it: the first line, the kind line, a line that begins as a setting
--- line does, directly after the kind line of version 2 and the setting lines so far, a line in the body of a document after its
--- earlier body lines, its end line, or a line after that.
+-- What a non-blank line is, given the non-blank lines before it. It may be the first line or the kind line. It may
+-- be a line that begins as a setting line does, directly after the kind line of version 2 and the setting lines so
+-- far. Otherwise it is a line in the body of a document after its earlier body lines, its end line, or a line after
+-- that.
 pub data Role : Type 0 where
   first : Role
   kind : Role
@@ -25,31 +30,32 @@ pub data Role : Type 0 where
   «end» : Setting → Document → List (List (List ℕ)) → Role
   after : Role
 
--- the role of a line after a kind line that opens d and setting lines, by the body's lines ls after them
+-- the role of a line after a kind line that opens d, after setting lines, and after the body's lines ls
 abbrev pub role_in_body : Option (List (List ℕ) × Setting) → Document → List (List (List ℕ)) → List (List ℕ) → Role
 role_in_body None d ls w = after
-role_in_body (Some s) d ls w = cond (list_any (λ l. is_line l end_line) ls) after (cond (is_line w end_line) («end» s.1 d ls) (body s.1 d ls))
+role_in_body (Some s) d ls w =
+    cond (list_any (λ l. is_line l end_line) ls) after (cond (is_line w end_line) («end» s.1 d ls) (body s.1 d ls))
 
--- the role of a line after a kind line of version 2 that opens d, by the lines ls after it
+-- the role of a line after a kind line of version 2 that opens d, and after the lines ls
 abbrev pub role_in_two : Document → List (List (List ℕ)) → List (List ℕ) → Role
 role_in_two d ls w =
     cond (list_all begins_as_setting ls && begins_as_setting w)
     (setting d ls)
     (role_in_body (settings_of d (front_settings ls)) d (behind_settings ls) w)
 
--- the same in each version
+-- the role of a line after the kind line, in each version
 abbrev pub role_after_kind : Option Version → Option Document → List (List (List ℕ)) → List (List ℕ) → Role
 role_after_kind (Some One) (Some d) ls w = role_in_body (settings_in One d []) d ls w
 role_after_kind (Some Two) (Some d) ls w = role_in_two d ls w
 role_after_kind _ _ ls w = after
 
--- the role of the line w after the lines with words ls
+-- the role of the line w after the non-blank lines ls
 abbrev pub role : List (List (List ℕ)) → List (List ℕ) → Role
 role [] w = first
 role (v ∷ []) w = kind
 role (v ∷ k ∷ ls) w = role_after_kind (version_of v) (heading k) ls w
 
--- The rows of the table of codes. Each gives its code where it holds.
+-- The rows of the table of codes. Each gives its code if it holds.
 abbrev pub when : Bool → Code → Option Code
 when true c = Some c
 when false c = None
@@ -64,7 +70,7 @@ abbrev pub kind_row : Role → List (List ℕ) → Option Code
 kind_row kind w = when (is_none (kind_of (first_word w))) code.Kind
 kind_row _ w = None
 
--- the kind line has another number of words than its kind asks for, or a word that is no plain number
+-- the kind line doesn't have as many words as its kind requires, or it has a word that is no plain number
 abbrev pub header : Role → List (List ℕ) → Option Code
 header kind w = when (is_none (heading w)) code.Header
 header _ w = None
@@ -84,7 +90,7 @@ abbrev pub size : Role → List (List ℕ) → Option Code
 size kind w = option_and_then (λ d. when (not (has_size d)) (code.Size (values_of_body d.body))) (heading w)
 size _ w = None
 
--- a line that begins as a setting line does isn't one that may stand there
+-- a line that begins as a setting line does isn't allowed there
 abbrev pub setting_row : Role → List (List ℕ) → Option Code
 setting_row (setting d ls) w = when (is_none (settings_of d (ls ++ w ∷ []))) code.Setting
 setting_row _ w = None
@@ -94,7 +100,7 @@ abbrev pub sign : Role → List (List ℕ) → Option Code
 sign (body s d ls) w = when (not (has_signs d w)) code.Sign
 sign _ w = None
 
--- a member has another number of signs than there are elements
+-- a member has more or fewer signs than there are elements
 abbrev pub length_row : Role → List (List ℕ) → Option Code
 length_row (body s d ls) w = when (not (has_length d w)) code.Length
 length_row _ w = None
@@ -109,7 +115,7 @@ abbrev pub number : Role → List (List ℕ) → Option Code
 number (body s d ls) w = when (not (has_numbers d w)) code.Number
 number _ w = None
 
--- the line goes past the greatest size of the body
+-- the line exceeds the greatest size of the body
 abbrev pub many : Role → List (List ℕ) → Option Code
 many (body s d ls) w = when (not (has_room (filled s d (ls ++ w ∷ [])))) code.Many
 many _ w = None
@@ -149,15 +155,20 @@ first_of [] = None
 first_of (None ∷ rows) = first_of rows
 first_of (Some c ∷ rows) = Some c
 
--- some list of lines in the language, however long, begins with these lines
+-- some list of lines in the language, of any length, begins with these lines
 abbrev pub Begins : (List (List ℕ) → Type 0) → List (List ℕ) → Type 0
 Begins Language ls = (more : List (List ℕ)) × Language (ls ++ more)
 
--- Line number L of the lines is the first at fault in a language, and c is its code: no list of the language begins with
--- the lines 1 to L, and some one begins with the lines before it. The end of the lines is the line after the last.
-pub data IsFaultIn (Language : List (List ℕ) → Type 0) (code_after : List (List ℕ) → List ℕ → Option Code) : List (List ℕ) → ℕ → Code → Type 0 where
-  at_line : (before : List (List ℕ)) (line : List ℕ) (after : List (List ℕ)) (c : Code) → Begins Language before → (Begins Language (before ++ line ∷ []) → ⊥) → code_after before line ≡ Some c → IsFaultIn Language code_after (before ++ line ∷ after) (length before + 1) c
-  at_end : (ls : List (List ℕ)) → Begins Language ls → (Language ls → ⊥) → IsFaultIn Language code_after ls (length ls + 1) code.Missing
+-- Line number L of the lines is the first at fault in a language, and c is its code. No list of the language begins
+-- with the lines 1 to L, and some list of it begins with the lines before L. The end of the lines is the line after
+-- the last.
+pub data IsFaultIn (Language : List (List ℕ) → Type 0) (code_after : List (List ℕ) → List ℕ → Option Code) : List
+    (List ℕ) → ℕ → Code → Type 0 where
+  at_line : (before : List (List ℕ)) (line : List ℕ) (after : List (List ℕ)) (c : Code) → Begins Language before
+      → (Begins Language (before ++ line ∷ []) → ⊥) → code_after before line ≡ Some c
+      → IsFaultIn Language code_after (before ++ line ∷ after) (length before + 1) c
+  at_end : (ls : List (List ℕ)) → Begins Language ls → (Language ls → ⊥)
+      → IsFaultIn Language code_after ls (length ls + 1) code.Missing
 
 -- lines that are a document
 abbrev pub AreDocument : List (List ℕ) → Type 0

@@ -1,6 +1,6 @@
 -- The forms and the limits of a document's value.
 --
--- Trusted: `parse` promises them, and `print` asks for them.
+-- Trusted: `parse` promises them, and `print` requires them.
 use Rattle.std.specs.Prelude.{ℕ, ◌≡◌, ◌≢◌, ◌≤◌, ◌⊎◌, ℤ, List, [], true, length, All, AllPairs}
 use Rattle.om_signs.specs.declared.limits.TheConstants.{MAX_ELEMENTS, MAX_MEMBERS, MAX_VALUES, MAX_BLOCKS, MAX_POSITION}
 use Rattle.om_signs.specs.declared.block.Block.{Block}
@@ -21,7 +21,7 @@ pub record IsMapOn (n : ℕ) (m : RawMap) : Type 0 where
   pub signs : length m.signs ≡ choose n m.rank
   pub few : choose n m.rank ≤ MAX_VALUES
 
--- different sign vectors on n elements, no more than a list may have
+-- distinct sign vectors on n elements, no more than a list may have
 pub record AreMembersOn (n : ℕ) (ms : List (List Sign)) : Type 0 where
   pub few : length ms ≤ MAX_MEMBERS
   pub long : All (λ x. length x ≡ n) ms
@@ -37,7 +37,7 @@ pub record AreBlocks (bs : List Block) : Type 0 where
   pub few : length bs ≤ MAX_BLOCKS
   pub short : All IsShort bs
 
--- three of them
+-- three coordinates in range
 pub record IsPoint (p : List ℤ) : Type 0 where
   pub three : length p ≡ 3
   pub small : All IsCoordinate p

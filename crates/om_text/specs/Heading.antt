@@ -1,7 +1,8 @@
 -- The kind line of a document, and the limits of its numbers.
 --
--- Trusted: what a document is rests on these definitions.
-use Rattle.std.specs.Prelude.{ℕ, List, [], ◌∷◌, Bool, cond, nat_le, ◌&&◌, codes, Option, Some, None, bytes_eq, option_and_then, option_map}
+-- Trusted: these definitions say what a document is.
+use Rattle.std.specs.Prelude.{ℕ, List, [], ◌∷◌, Bool, cond, nat_le, ◌&&◌, codes, Option, Some, None, bytes_eq}
+use Rattle.std.specs.Prelude.{option_and_then, option_map}
 use Rattle.om_signs.specs.declared.limits.TheConstants.{MAX_ELEMENTS, MAX_VALUES}
 use Rattle.om_subsets.specs.Subsets.{choose}
 use Rattle.om_text.specs.declared.document.Document.{Document}
@@ -11,7 +12,7 @@ use Rattle.om_text.specs.declared.kind.DocumentKind.{DocumentKind}
 use Rattle.om_text.specs.declared.kind.DocumentKind.TheVariants as kinds
 use Rattle.om_text.specs.Words.{plain}
 
--- the kind that a name stands for
+-- the kind with this name
 abbrev pub kind_of : List ℕ → Option DocumentKind
 kind_of w =
     cond (bytes_eq w (codes "chirotope")) (Some kinds.Chirotope)
@@ -21,28 +22,29 @@ kind_of w =
     (cond (bytes_eq w (codes "wiring")) (Some kinds.Wiring)
     (cond (bytes_eq w (codes "points")) (Some kinds.Points) None)))))
 
--- an item in front of others, where both are there
+-- an item in front of others, if both are there
 abbrev pub with_item : {A : Type 0} → Option A → Option (List A) → Option (List A)
 with_item (Some x) (Some xs) = Some (x ∷ xs)
 with_item _ _ = None
 
--- the plain numbers that words are, where each word is one
+-- the plain numbers that words spell, if each word spells one
 abbrev pub plain_numbers : List (List ℕ) → Option (List ℕ)
 plain_numbers [] = Some []
 plain_numbers (w ∷ ws) = with_item (plain w) (plain_numbers ws)
 
--- the rank and the number of elements, where a kind line of this kind has these numbers; other kinds have no rank, and 0 stands for it
+-- the rank and the number of elements, if a kind line of this kind has these numbers; the rank of other kinds is
+-- taken as 0
 abbrev pub sizes : DocumentKind → List ℕ → Option (ℕ × ℕ)
 sizes kinds.Chirotope (r ∷ n ∷ []) = Some (r, n)
 sizes kinds.Chirotope _ = None
 sizes _ (n ∷ []) = Some (0, n)
 sizes _ _ = None
 
--- the same of the words after the kind's name
+-- the rank and the number of elements that the words after the kind's name give
 abbrev pub numbers : DocumentKind → List (List ℕ) → Option (ℕ × ℕ)
 numbers k ws = option_and_then (sizes k) (plain_numbers ws)
 
--- a body with nothing in it
+-- an empty body
 abbrev pub empty_body : DocumentKind → ℕ → ℕ → Body
 empty_body kinds.Chirotope r n = Chirotope (record { rank = r; elements = n; signs = [] })
 empty_body kinds.Circuits r n = Circuits []
@@ -64,7 +66,7 @@ abbrev pub heading : List (List ℕ) → Option Document
 heading [] = None
 heading (w ∷ ws) = option_and_then (λ k. opened k ws) (kind_of w)
 
--- the first word of a line, and no bytes where it has none
+-- the first word of a line, or no bytes if it has none
 abbrev pub first_word : List (List ℕ) → List ℕ
 first_word [] = []
 first_word (w ∷ ws) = w
@@ -78,21 +80,21 @@ kind_name (Covectors ms) = codes "covectors"
 kind_name (Wiring bs) = codes "wiring"
 kind_name (Points ps) = codes "points"
 
--- the rank that a kind line gives; 0 where the kind has none
+-- the rank that a kind line gives, or 0 if the kind has none
 abbrev pub rank_of_body : Body → ℕ
 rank_of_body (Chirotope m) = m.rank
 rank_of_body _ = 0
 
--- how many values a kind line gives; 0 where the kind has none
+-- how many values a kind line gives, or 0 if the kind has none
 abbrev pub values_of_body : Body → ℕ
 values_of_body (Chirotope m) = choose m.elements m.rank
 values_of_body _ = 0
 
--- from 1 element to the most that a document may have
+-- at least 1 element, and no more than a document may have
 abbrev pub has_elements : Document → Bool
 has_elements d = nat_le 1 d.elements && nat_le d.elements MAX_ELEMENTS
 
--- a rank of 0 to the number of elements
+-- a rank from 0 to the number of elements
 abbrev pub has_rank : Document → Bool
 has_rank d = nat_le (rank_of_body d.body) d.elements
 

@@ -1,19 +1,20 @@
 -- The lines of an input, and the words of a line.
 --
--- Trusted: what a document is rests on these definitions, so read them with care.
+-- Trusted: these definitions say what a document is, so read them with care.
 use Rattle.std.specs.Prelude.{ℕ, ◌≡◌, ◌⊎◌, ◌++◌, List, [], ◌∷◌, Bool, true, false, cond, nat_eq, ◌||◌, filter, map}
 
--- a byte in front of the first piece, or as a piece of its own where there is none
+-- a byte in front of the first piece, or as a piece of its own if there is none
 abbrev pub with_first : ℕ → List (List ℕ) → List (List ℕ)
 with_first b [] = (b ∷ []) ∷ []
 with_first b (x ∷ xs) = (b ∷ x) ∷ xs
 
--- the pieces between line feeds; a last one that no line feed ends counts where it isn't empty
+-- the pieces between line feeds; a last one that no line feed ends counts if it isn't empty
 abbrev pub lines : List ℕ → List (List ℕ)
 lines [] = []
 lines (b ∷ bs) = cond (nat_eq b 10) ([] ∷ lines bs) (with_first b (lines bs))
 
--- the bytes are a line and the bytes after it, with a line feed between them, or they are one line that no line feed ends
+-- the bytes are a line and the bytes after it, with a line feed between them, or they are one line that no line feed
+-- ends
 abbrev pub IsSplit : List ℕ → List ℕ → List ℕ → Type 0
 IsSplit bytes line after = (bytes ≡ line ++ 10 ∷ after) ⊎ ((bytes ≡ line) × (after ≡ []))
 
@@ -44,6 +45,6 @@ runs bs = filter has_any (pieces bs)
 abbrev pub words : List ℕ → List (List ℕ)
 words line = runs (uncommented line)
 
--- the words of each line that has some; other lines are passed over, wherever they stand
+-- the words of each line that has any; other lines are skipped, wherever they are
 abbrev pub wordful : List (List ℕ) → List (List (List ℕ))
 wordful ls = filter has_any (map words ls)

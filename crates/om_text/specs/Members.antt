@@ -1,6 +1,6 @@
 -- The members of a body that is a list.
 --
--- Trusted: what a document is rests on these definitions.
+-- Trusted: these definitions say what a document is.
 use Rattle.std.specs.Prelude.{List, []}
 use Rattle.om_signs.specs.declared.sign.Sign.{Sign}
 use Rattle.om_text.specs.declared.body.Body.{Body}
@@ -15,7 +15,7 @@ members_of (Circuits ms) = ms
 members_of (Cocircuits ms) = ms
 members_of (Covectors ms) = ms
 
--- a list of the same kind with these members; other bodies stay as they are
+-- a list of the same kind with these members; other bodies are unchanged
 abbrev pub with_members : Body → List (List Sign) → Body
 with_members (Chirotope m) ms = Chirotope m
 with_members (Wiring bs) ms = Wiring bs

@@ -1,12 +1,12 @@
--- How a name is kept: its bytes with zeros behind them, and its length. Not part of the definition of documents.
+-- How a name is stored: its bytes, followed by zeros, and its length. Not part of the definition of documents.
 --
 -- Main definitions: padded, IsPaddedName
--- Main results: padded_back, by which the bytes of a name give what is kept back
+-- Main results: padded_back, by which the bytes of a name give the stored ones back
 use Rattle.std.specs.Prelude.{ℕ, ◌≡◌, ◌-◌, ◌≤◌, List, ◌++◌, true, length, take, replicate}
 use Rattle.om_signs.specs.declared.limits.TheConstants.{MAX_NAME}
 use Rattle.om_text.specs.Names.{is_name}
 
--- the bytes of a name with zeros behind them
+-- the bytes of a name, followed by zeros
 abbrev pub padded : List ℕ → List ℕ
 padded w = w ++ replicate (MAX_NAME - length w) 0
 

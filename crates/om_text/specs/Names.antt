@@ -1,6 +1,6 @@
 -- Names of elements.
 --
--- Trusted: what a document is rests on these definitions.
+-- Trusted: these definitions say what a document is.
 use Rattle.std.specs.Prelude.{ℕ, List, [], ◌∷◌, Bool, true, not, nat_eq, nat_le, ◌&&◌, ◌||◌, length, bytes_eq}
 use Rattle.std.specs.List.{list_all, list_any}
 use Rattle.om_signs.specs.declared.limits.TheConstants.{MAX_NAME}

@@ -1,6 +1,6 @@
 -- A document at the front of an input.
 --
--- Trusted: the contract of `parse_part` is said in these words.
+-- Trusted: the contract of `parse_part` uses these definitions.
 use Rattle.std.specs.Prelude.{ℕ, ◌≡◌, ◌≤◌, min, List, [], ◌∷◌, ◌++◌, length, take, drop}
 use Rattle.om_text.specs.declared.document.Document.{Document}
 use Rattle.om_text.specs.Lines.{lines, words}
@@ -14,8 +14,9 @@ pub record EndsWithEnd (ls : List (List ℕ)) : Type 0 where
   pub lines : ls ≡ before ++ line ∷ []
   pub words : words line ≡ end_line
 
--- The first `count` lines of the bytes are a document with the value d, and the last of them is its end line. The first
--- `len` bytes are these lines with their line feeds, where the last one may have none, and the other bytes are the other lines.
+-- The first `count` lines of the bytes are a document with the value d, and the last of them is its end line. The
+-- first `len` bytes are these lines with their line feeds, except that the last may have none. The other bytes are
+-- the other lines.
 pub record IsDocumentAtFront (bytes : List ℕ) (d : Document) (len count : ℕ) : Type 0 where
   pub within : count ≤ length (lines bytes)
   pub document : IsDocument (take count (lines bytes)) d

@@ -27,7 +27,7 @@ cut (suc k) bs = take 64 bs ∷ cut k (drop 64 bs)
 abbrev pub sign_lines : List Sign → List (List ℕ)
 sign_lines xs = cut ((length xs + 63) / 64) (map byte_of xs)
 
--- members, one a line
+-- members, one per line
 abbrev pub member_lines : List (List Sign) → List (List ℕ)
 member_lines ms = map (map byte_of) ms
 
@@ -37,7 +37,7 @@ spaced [] = []
 spaced (w ∷ []) = w
 spaced (w ∷ v ∷ ws) = w ++ 32 ∷ spaced (v ∷ ws)
 
--- points, one a line
+-- points, one per line
 abbrev pub point_lines : List (List ℤ) → List (List ℕ)
 point_lines ps = map (λ p. spaced (map signed_decimal p)) ps
 
@@ -45,7 +45,7 @@ point_lines ps = map (λ p. spaced (map signed_decimal p)) ps
 abbrev pub block_text : Block → List ℕ
 block_text b = decimal b.first ++ 45 ∷ decimal b.last
 
--- blocks, one a line
+-- blocks, one per line
 abbrev pub block_lines : List Block → List (List ℕ)
 block_lines bs = map block_text bs
 

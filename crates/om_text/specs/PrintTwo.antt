@@ -1,7 +1,8 @@
 -- The form of a document in version 2.
 --
 -- Trusted: `print_two` gives exactly this.
-use Rattle.std.specs.Prelude.{ℕ, List, [], ◌∷◌, ◌++◌, Bool, true, false, filter, map, codes, decimal, Contains, slice_index_or}
+use Rattle.std.specs.Prelude.{ℕ, List, [], ◌∷◌, ◌++◌, Bool, true, false, filter, map, codes, decimal, Contains}
+use Rattle.std.specs.Prelude.{slice_index_or}
 use Rattle.std.specs.List.{flat_map, range_with_len}
 use Rattle.om_signs.specs.declared.raw_map.RawMap.{RawMap}
 use Rattle.om_signs.specs.declared.sign.Sign.{Sign}
@@ -20,7 +21,7 @@ use Rattle.om_text.specs.Print.{text_of, sign_lines, member_lines, spaced, kind_
 abbrev pub numbered_names : ℕ → List (List ℕ)
 numbered_names n = map (λ k. 101 ∷ decimal k) (range_with_len 1 n)
 
--- names as they are printed: numbered ones where there are none
+-- names as they are printed: numbered ones if there are none
 abbrev pub printed_names : ℕ → List (List ℕ) → List (List ℕ)
 printed_names n [] = numbered_names n
 printed_names n (w ∷ ws) = w ∷ ws
@@ -40,7 +41,7 @@ begins_with_plus (Plus ∷ xs) = true
 abbrev pub half_of : List (List Sign) → List (List Sign)
 half_of ms = filter begins_with_plus (sorted ms)
 
--- members with the negative of each, each once
+-- members and the negative of each, without repetition
 abbrev pub doubled : List (List Sign) → List (List Sign)
 doubled ms = distinct (flat_map (λ x. x ∷ map opposite x ∷ []) ms)
 
@@ -76,8 +77,9 @@ doubled_body b = with_members b (doubled (half_of (members_of b)))
 
 -- the document that the text gives: this one, with the names that are printed
 abbrev pub doubled_document : Document → Document
-doubled_document d = record { elements = d.elements; body = doubled_body d.body; names = printed_names d.elements d.names }
+doubled_document d =
+    record { elements = d.elements; body = doubled_body d.body; names = printed_names d.elements d.names }
 
--- the negative of each member of a list is a member; nothing is asked of another body
+-- the negative of each member of a list is a member; nothing is required of another body
 abbrev pub IsClosedUnderNegation : Body → Type 0
 IsClosedUnderNegation b = (x : List Sign) → Contains (members_of b) x → Contains (members_of b) (map opposite x)

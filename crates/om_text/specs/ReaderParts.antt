@@ -1,5 +1,6 @@
--- What the parts of the reader's code say of one more line. Not part of the definition of documents.
-use Rattle.std.specs.Prelude.{ℕ, ◌≡◌, ◌≢◌, ◌≤◌, List, ◌++◌, cond, nat_eq, nat_le, Bool, true, Option, Some, None, Result, Ok, Err, length}
+-- What the parts of the reader's code do with one more line. Not part of the definition of documents.
+use Rattle.std.specs.Prelude.{ℕ, ◌≡◌, ◌≢◌, ◌≤◌, List, ◌++◌, cond, nat_eq, nat_le, Bool, true, Option, Some, None}
+use Rattle.std.specs.Prelude.{Result, Ok, Err, length}
 use Rattle.om_signs.specs.declared.limits.TheConstants.{MAX_ELEMENTS, MAX_MEMBERS}
 use Rattle.om_signs.specs.declared.block.Block.{Block}
 use Rattle.om_signs.specs.declared.raw_map.RawMap.{RawMap}
@@ -24,7 +25,7 @@ use Rattle.om_text.specs.Lines.{lines}
 use Rattle.om_text.specs.Blocks.{are_blocks, blocks_on}
 use Rattle.om_text.specs.Document.{has_signs, has_length, has_blocks_in, has_numbers_in, size_of, room_of}
 
--- a part of the reader answers this value, or refuses with this code, unless memory ran out
+-- a part of the reader returns this value, or refuses with this code, unless memory ran out
 abbrev pub IsStepUnlessMemory : {A : Type 0} → Result A Refusal → Result A Code → Type 0
 IsStepUnlessMemory (Ok x) read = read ≡ Ok x
 IsStepUnlessMemory (Err refusal.Memory) read = Unit {0}
@@ -38,7 +39,7 @@ line_fault d w = cond (has_signs d w) (cond (has_length d w) None (Some code.Len
 abbrev pub body_within_limit : ℕ → Body → Result Body Code
 body_within_limit n b = cond (nat_le (size_of b) (room_of b n)) (Ok b) (Err code.Many)
 
--- the members of a list, where there aren't more than there may be
+-- the members of a list, if they are no more than allowed
 abbrev pub members_within_limit : List (List Sign) → Result (List (List Sign)) Code
 members_within_limit ms = cond (nat_le (length ms) MAX_MEMBERS) (Ok ms) (Err code.Many)
 
@@ -46,16 +47,18 @@ members_within_limit ms = cond (nat_le (length ms) MAX_MEMBERS) (Ok ms) (Err cod
 abbrev pub blocks_with_line : List Block → List (List ℕ) → Result (List Block) Code
 blocks_with_line bs w = cond (are_blocks w) (Ok (bs ++ blocks_on w)) (Err code.Block)
 
--- a body on n elements with one more line, whose signs and length are those of the kind
+-- a body on n elements with one more line, whose signs and length are right for the kind
 abbrev pub body_with_line : Setting → ℕ → Body → List (List ℕ) → Result Body Code
-body_with_line s n b w = cond (has_blocks_in b w) (cond (has_numbers_in b w) (body_within_limit n (added_body s b w)) (Err code.Number)) (Err code.Block)
+body_with_line s n b w =
+    cond (has_blocks_in b w) (cond (has_numbers_in b w) (body_within_limit n (added_body s b w)) (Err code.Number))
+    (Err code.Block)
 
 -- the numbers of a map are in range
 pub record IsMapInRange (m : RawMap) : Type 0 where
   pub elements : m.elements ≤ MAX_ELEMENTS
   pub rank : m.rank ≤ m.elements
 
--- the numbers of the map that a body is are in range; nothing is asked of another body
+-- the numbers of the map that a body is are in range; nothing is required of another body
 abbrev pub IsBodyInRange : Body → Type 0
 IsBodyInRange (Chirotope m) = IsMapInRange m
 IsBodyInRange _ = Unit {0}
@@ -66,29 +69,30 @@ pub record IsDocumentInRange (d : Document) : Type 0 where
   pub high : d.elements ≤ MAX_ELEMENTS
   pub body : IsBodyInRange d.body
 
--- the numbers of the heading that is read so far are in range
+-- the numbers of the heading read so far are in range
 abbrev pub IsStateInRange : State → Type 0
 IsStateInRange (Open d) = IsDocumentInRange d.document
 IsStateInRange _ = Unit {0}
 
--- whether a map has a value for each set of its rank; nothing is asked of another body
+-- whether a map has a value for each set of its rank; nothing is required of another body
 abbrev pub has_all_values : Body → Bool
 has_all_values (Chirotope m) = nat_eq (length m.signs) (choose m.elements m.rank)
 has_all_values _ = true
 
--- why a line with this number is not read
+-- why a line with this number can't be read
 abbrev pub fault_at : ℕ → Refusal → ParseError
 fault_at n refusal.Memory = error.Memory
 fault_at n (refusal.Line c) = error.Line n c
 
--- what the reader's loop answers, where it goes on to the end of the bytes: the outcome of all their lines, unless memory ran out
+-- what the reader's loop returns if it continues to the end of the bytes: the outcome of all their lines, unless
+-- memory ran out
 abbrev pub IsOutcomeOfAllLines : List ℕ → Result (Document × ℕ × ℕ) ParseError → Type 0
 IsOutcomeOfAllLines bytes (Ok r) = outcome Start 0 (lines bytes) ≡ Ok r.0
 IsOutcomeOfAllLines bytes (Err error.Memory) = Unit {0}
 IsOutcomeOfAllLines bytes (Err (error.Line l c)) = outcome Start 0 (lines bytes) ≡ Err (l, c)
 
--- what it answers, where it stops behind the end line: the document at the front of the bytes, or their first fault other than
--- `After`, unless memory ran out
+-- what it returns if it stops after the end line: the document at the front of the bytes, or their first fault
+-- other than `After`, unless memory ran out
 abbrev pub IsDocumentAtFrontOrFault : List ℕ → Result (Document × ℕ × ℕ) ParseError → Type 0
 IsDocumentAtFrontOrFault bytes (Ok r) = IsDocumentAtFront bytes r.0 r.1 r.2
 IsDocumentAtFrontOrFault bytes (Err error.Memory) = Unit {0}

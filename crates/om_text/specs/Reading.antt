@@ -1,5 +1,6 @@
 -- Reading documents line by line: what the reader's loop follows. Not part of the definition of documents.
-use Rattle.std.specs.Prelude.{ℕ, List, [], ◌∷◌, ◌++◌, ◌&&◌, Bool, true, false, cond, map, Option, Some, None, Result, Ok, Err, is_none}
+use Rattle.std.specs.Prelude.{ℕ, List, [], ◌∷◌, ◌++◌, ◌&&◌, Bool, true, false, cond, map, Option, Some, None, Result}
+use Rattle.std.specs.Prelude.{Ok, Err, is_none}
 use Rattle.std.specs.List.{list_any}
 use Rattle.om_signs.specs.declared.sign.Sign.{Sign}
 use Rattle.om_signs.specs.Sign.{opposite}
@@ -22,15 +23,18 @@ use Rattle.om_text.specs.Rows.{same_row}
 use Rattle.om_text.specs.Members.{members_of, with_members}
 use Rattle.om_text.specs.Blocks.{blocks_on}
 use Rattle.om_text.specs.Points.{point_on}
-use Rattle.om_text.specs.Settings.{is_line, version_of, begins_as_setting, other_words, is_names_line, setting_in, finished}
-use Rattle.om_text.specs.Document.{end_line, signs_of_line, has_signs, has_length, has_blocks, has_numbers, filled, has_room, is_complete}
-use Rattle.om_text.specs.Heading.{first_word, kind_of, heading, has_elements, has_rank, has_size, rank_of_body, values_of_body}
+use Rattle.om_text.specs.Settings.{is_line, version_of, begins_as_setting, other_words, is_names_line, setting_in}
+use Rattle.om_text.specs.Settings.{finished}
+use Rattle.om_text.specs.Document.{end_line, signs_of_line, has_signs, has_length, has_blocks, has_numbers, filled}
+use Rattle.om_text.specs.Document.{has_room, is_complete}
+use Rattle.om_text.specs.Heading.{first_word, kind_of, heading, has_elements, has_rank, has_size, rank_of_body}
+use Rattle.om_text.specs.Heading.{values_of_body}
 
--- a member at the end, if it isn't there
+-- the members with one more, unless it is already there
 abbrev pub with_member : List (List Sign) → List Sign → List (List Sign)
 with_member ms x = cond (list_any (λ y. same_row y x) ms) ms (ms ++ x ∷ [])
 
--- members at the end in turn, each if it isn't there
+-- the members with others added in turn, each unless it is already there
 abbrev pub with_each : List (List Sign) → List (List Sign) → List (List Sign)
 with_each ms [] = ms
 with_each ms (x ∷ xs) = with_each (with_member ms x) xs
@@ -46,12 +50,13 @@ with_line_members s ms w = with_each ms (members_on s (signs_of_line w))
 
 -- a body with one more line
 abbrev pub added_body : Setting → Body → List (List ℕ) → Body
-added_body s (Chirotope m) w = Chirotope (record { rank = m.rank; elements = m.elements; signs = m.signs ++ signs_of_line w })
+added_body s (Chirotope m) w =
+    Chirotope (record { rank = m.rank; elements = m.elements; signs = m.signs ++ signs_of_line w })
 added_body s (Wiring bs) w = Wiring (bs ++ blocks_on w)
 added_body s (Points ps) w = Points (ps ++ point_on w ∷ [])
 added_body s b w = with_members b (with_line_members s (members_of b) w)
 
--- the same of a document
+-- a document with one more line in its body
 abbrev pub added_document : Setting → Document → List (List ℕ) → Document
 added_document s d w = record { elements = d.elements; body = added_body s d.body w; names = d.names }
 
@@ -66,30 +71,32 @@ first_stage Two = Names
 
 -- the draft of a document with these names
 abbrev pub draft_of : List (List ℕ) → Setting → Document → Stage → Draft
-draft_of names s d g = record { document = record { elements = d.elements; body = d.body; names = names }; setting = s; stage = g }
+draft_of names s d g =
+    record { document = record { elements = d.elements; body = d.body; names = names }; setting = s; stage = g }
 
 -- the draft that a kind line opens
 abbrev pub first_draft : Version → Document → Draft
 first_draft v d = draft_of [] Plain (filled Plain d []) (first_stage v)
 
--- this draft, if its map has no more values than it may have
+-- the state that a heading opens, if its map has no more values than allowed
 abbrev pub in_size : Version → Document → Result State Code
 in_size v d = cond (has_size d) (Ok (Open (first_draft v d))) (Err (code.Size (values_of_body d.body)))
 
--- the same, if its numbers are in range
+-- the state that a heading opens, if its numbers are in range
 abbrev pub in_range : Version → Document → Result State Code
-in_range v d = cond (has_elements d) (cond (has_rank d) (in_size v d) (Err (code.Rank (rank_of_body d.body)))) (Err (code.Elements d.elements))
+in_range v d = cond (has_elements d) (cond (has_rank d) (in_size v d) (Err (code.Rank (rank_of_body d.body))))
+    (Err (code.Elements d.elements))
 
--- the same of what a kind line opens
+-- the state that a kind line opens
 abbrev pub with_heading : Version → Option Document → Result State Code
 with_heading v None = Err code.Header
 with_heading v (Some d) = in_range v d
 
--- after the kind line
+-- the state after the kind line
 abbrev pub after_kind : Version → List (List ℕ) → Result State Code
 after_kind v w = cond (is_none (kind_of (first_word w))) (Err code.Kind) (with_heading v (heading w))
 
--- whether a line that begins as a setting line does is one, or at fault
+-- whether a line that begins as a setting line does must be a setting line
 abbrev pub takes_settings : Stage → Bool
 takes_settings InBody = false
 takes_settings _ = true
@@ -103,47 +110,50 @@ abbrev pub with_setting : Draft → Option Setting → Result State Code
 with_setting d (Some s) = Ok (Open (record { document = d.document; setting = s; stage = Full }))
 with_setting d None = Err code.Setting
 
--- after a line that may be an `order` or `half` line
+-- the state after a line that may be an `order` or `half` line
 abbrev pub after_choice : Draft → List (List ℕ) → Result State Code
 after_choice d w = with_setting d (setting_in d.document.body w)
 
--- after a line that may be any setting line
+-- the state after a line that may be any setting line
 abbrev pub after_names : Draft → List (List ℕ) → Result State Code
-after_names d w = cond (is_names_line d.document.elements w) (Ok (Open (with_names d (other_words w)))) (after_choice d w)
+after_names d w = cond (is_names_line d.document.elements w) (Ok (Open (with_names d (other_words w))))
+    (after_choice d w)
 
--- after a line that begins as a setting line does, by those that may come
+-- the state after a line that begins as a setting line does, depending on those still allowed
 abbrev pub after_setting : Stage → Draft → List (List ℕ) → Result State Code
 after_setting Names d w = after_names d w
 after_setting Choice d w = after_choice d w
 after_setting _ d w = Err code.Setting
 
--- after a body line
+-- the state after a body line
 abbrev pub after_body : Draft → List (List ℕ) → Result State Code
 after_body d w =
     cond (has_signs d.document w)
     (cond (has_length d.document w)
     (cond (has_blocks d.document w)
     (cond (has_numbers d.document w)
-    (cond (has_room (added d w).document) (Ok (Open (added d w))) (Err code.Many)) (Err code.Number)) (Err code.Block)) (Err code.Length)) (Err code.Sign)
+    (cond (has_room (added d w).document) (Ok (Open (added d w))) (Err code.Many)) (Err code.Number)) (Err code.Block))
+    (Err code.Length)) (Err code.Sign)
 
 -- the document of a draft that has all its lines
 abbrev pub finished_draft : Draft → Document
 finished_draft d = finished d.document.names d.setting d.document
 
--- after the end line
+-- the state after the end line
 abbrev pub after_end : Draft → Result State Code
 after_end d = cond (is_complete d.document) (Ok (Closed (finished_draft d))) (Err code.Few)
 
--- after a line of a document that is still open
+-- the state after a line of a document that is still open
 abbrev pub open_step : Draft → List (List ℕ) → Result State Code
-open_step d w = cond (takes_settings d.stage && begins_as_setting w) (after_setting d.stage d w) (cond (is_line w end_line) (after_end d) (after_body d w))
+open_step d w = cond (takes_settings d.stage && begins_as_setting w) (after_setting d.stage d w)
+    (cond (is_line w end_line) (after_end d) (after_body d w))
 
--- after a first line that names this version
+-- the state after a first line that names this version
 abbrev pub with_version : Option Version → Result State Code
 with_version (Some v) = Ok (Versioned v)
 with_version None = Err code.Version
 
--- what a line with words makes of the lines so far
+-- the state after one more non-blank line
 abbrev pub step : State → List (List ℕ) → Result State Code
 step Start w = with_version (version_of w)
 step (Versioned v) w = after_kind v w
@@ -160,10 +170,10 @@ abbrev pub is_closed : State → Bool
 is_closed (Closed d) = true
 is_closed _ = false
 
--- the same step for any line
+-- the state after any line
 abbrev pub advance : State → List ℕ → Result State Code
 advance = advance_by step
 
--- what the lines ls come to, from a state after n lines: a document, or a line with its code
+-- what the lines ls spell, from a state after n lines: a document, or a line with its code
 abbrev pub outcome : State → ℕ → List (List ℕ) → Result Document (ℕ × Code)
 outcome = outcome_by step value_of

@@ -12,16 +12,16 @@ use Rattle.om_signs.specs.Sign.{equal_signs}
 abbrev pub same_row : List Sign → List Sign → Bool
 same_row = pointwise equal_signs
 
--- each member once, in the order of their first places
+-- the members without repetition, in the order of their first places
 abbrev pub distinct : List (List Sign) → List (List Sign)
 distinct [] = []
 distinct (x ∷ xs) = x ∷ filter (λ y. not (same_row x y)) (distinct xs)
 
--- whether x comes before y: the first place where they differ decides, with minus before zero before plus
+-- whether x comes before y: the first position where they differ decides, with minus before zero before plus
 abbrev pub is_before : List Sign → List Sign → Bool
 is_before x y = is_lt (lexicographic x y)
 
--- x among sorted members, behind those that come before it
+-- x among sorted members, after those that come before it
 abbrev pub placed : List Sign → List (List Sign) → List (List Sign)
 placed x [] = x ∷ []
 placed x (y ∷ ys) = cond (is_before y x) (y ∷ placed x ys) (x ∷ y ∷ ys)

@@ -1,7 +1,8 @@
 -- The versions of the format, and the setting lines of version 2.
 --
--- Trusted: what a document is rests on these definitions.
-use Rattle.std.specs.Prelude.{ℕ, List, [], ◌∷◌, Bool, cond, ◌&&◌, ◌||◌, map, codes, Option, Some, None, bytes_eq, option_map, slice_index_or}
+-- Trusted: these definitions say what a document is.
+use Rattle.std.specs.Prelude.{ℕ, List, [], ◌∷◌, Bool, cond, ◌&&◌, ◌||◌, map, codes, Option, Some, None, bytes_eq}
+use Rattle.std.specs.Prelude.{option_map, slice_index_or}
 use Rattle.std.specs.Cmp.Lexicographic.{pointwise}
 use Rattle.om_signs.specs.declared.raw_map.RawMap.{RawMap}
 use Rattle.om_signs.specs.declared.sign.Sign.{Sign}
@@ -35,7 +36,8 @@ version_of w = cond (is_line w version_one_line) (Some One) (cond (is_line w ver
 
 -- whether a line begins as a setting line does
 abbrev pub begins_as_setting : List (List ℕ) → Bool
-begins_as_setting w = bytes_eq (first_word w) (codes "names") || bytes_eq (first_word w) (codes "order") || bytes_eq (first_word w) (codes "half")
+begins_as_setting w = bytes_eq (first_word w) (codes "names") || bytes_eq (first_word w) (codes "order")
+    || bytes_eq (first_word w) (codes "half")
 
 -- the words after the first
 abbrev pub other_words : List (List ℕ) → List (List ℕ)
@@ -46,8 +48,8 @@ other_words (w ∷ ws) = ws
 abbrev pub is_names_line : ℕ → List (List ℕ) → Bool
 is_names_line n w = bytes_eq (first_word w) (codes "names") && are_names n (other_words w)
 
--- what a setting line other than `names` says of the lines of this kind of body: the order of the values of a map, or that each
--- line of a list stands for two members
+-- What a setting line other than `names` says about the lines of this kind of body. It gives the order of the
+-- values of a map, or it says that each line of a list gives two members.
 abbrev pub setting_in : Body → List (List ℕ) → Option Setting
 setting_in (Chirotope m) w =
     cond (is_line w (codes "order" ∷ codes "lex" ∷ [])) (Some Plain)
@@ -62,8 +64,8 @@ set_by b [] = Some Plain
 set_by b (w ∷ []) = setting_in b w
 set_by b (w ∷ v ∷ ls) = None
 
--- The names and the setting that setting lines give, after a kind line that opens d: a `names` line first, where there is one.
--- Without one there are no names.
+-- The names and the setting that setting lines give, after a kind line that opens d. A `names` line comes first, if
+-- there is one. Without one there are no names.
 abbrev pub settings_of : Document → List (List (List ℕ)) → Option (List (List ℕ) × Setting)
 settings_of d [] = Some ([], Plain)
 settings_of d (w ∷ ls) =
@@ -71,19 +73,20 @@ settings_of d (w ∷ ls) =
     (option_map (λ s. (other_words w, s)) (set_by d.body ls))
     (option_map (λ s. ([], s)) (set_by d.body (w ∷ ls)))
 
--- the same in each version: version 1 has no setting lines
+-- the names and the setting in each version: version 1 has no setting lines
 abbrev pub settings_in : Version → Document → List (List (List ℕ)) → Option (List (List ℕ) × Setting)
 settings_in One d [] = Some ([], Plain)
 settings_in One d (w ∷ ls) = None
 settings_in Two d ls = settings_of d ls
 
--- values that stand in reverse lexicographic order of the sets, in lexicographic order
+-- values in reverse lexicographic order of the sets, put into lexicographic order
 abbrev pub values_from_revlex : RawMap → List Sign
 values_from_revlex m = map (λ s. slice_index_or m.signs (revlex_rank_of s) Zero) (all_subsets m.elements m.rank)
 
--- a body whose values stand in the order that a setting names, with its values in lexicographic order
+-- a body whose values are in the order that a setting names, put into lexicographic order
 abbrev pub in_lexicographic_order : Setting → Body → Body
-in_lexicographic_order Revlex (Chirotope m) = Chirotope (record { rank = m.rank; elements = m.elements; signs = values_from_revlex m })
+in_lexicographic_order Revlex (Chirotope m) =
+    Chirotope (record { rank = m.rank; elements = m.elements; signs = values_from_revlex m })
 in_lexicographic_order _ b = b
 
 -- the document with these names, its body in lexicographic order
@@ -95,7 +98,7 @@ abbrev pub front_settings : List (List (List ℕ)) → List (List (List ℕ))
 front_settings [] = []
 front_settings (w ∷ ls) = cond (begins_as_setting w) (w ∷ front_settings ls) []
 
--- the lines behind these
+-- the lines after these
 abbrev pub behind_settings : List (List (List ℕ)) → List (List (List ℕ))
 behind_settings [] = []
 behind_settings (w ∷ ls) = cond (begins_as_setting w) (behind_settings ls) (w ∷ ls)

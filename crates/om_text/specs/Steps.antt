@@ -1,4 +1,4 @@
--- Lines read in turn by a step from state to state: what they come to. Not part of the definition of documents.
+-- Lines read in turn by a step from state to state, and their outcome. Not part of the definition of documents.
 use Rattle.std.specs.Prelude.{ℕ, ◌+◌, List, [], ◌∷◌, Bool, true, false, Option, Some, None, Result, Ok, Err}
 use Rattle.om_text.specs.declared.code.Code.{Code}
 use Rattle.om_text.specs.declared.code.Code.TheVariants as code
@@ -9,21 +9,22 @@ abbrev pub step_if : {S : Type 0} → (S → List (List ℕ) → Result S Code) 
 step_if step true s w = step s w
 step_if step false s w = Ok s
 
--- a step for a line with words; another line is passed over
+-- a step for a non-blank line; a blank line is skipped
 abbrev pub advance_by : {S : Type 0} → (S → List (List ℕ) → Result S Code) → S → List ℕ → Result S Code
 advance_by step s line = step_if step (has_any (words line)) s (words line)
 
--- what a state comes to at the end of the input, after n lines
+-- the outcome of a state at the end of the input, after n lines
 abbrev pub finish_by : {V : Type 0} → Option V → ℕ → Result V (ℕ × Code)
 finish_by (Some v) n = Ok v
 finish_by None n = Err (n + 1, code.Missing)
 
--- what a step after n lines comes to, with f for the lines after it
+-- the outcome of a step after n lines, with f for the lines after it
 abbrev pub then_lines : {S V : Type 0} → Result S Code → ℕ → (S → Result V (ℕ × Code)) → Result V (ℕ × Code)
 then_lines (Ok t) n f = f t
 then_lines (Err c) n f = Err (n + 1, c)
 
--- what the lines ls come to, from a state after n lines: a value, or a line with its code
-abbrev pub outcome_by : {S V : Type 0} → (S → List (List ℕ) → Result S Code) → (S → Option V) → S → ℕ → List (List ℕ) → Result V (ℕ × Code)
+-- the outcome of the lines ls, from a state after n lines: a value, or a line with its code
+abbrev pub outcome_by : {S V : Type 0} → (S → List (List ℕ) → Result S Code) → (S → Option V) → S → ℕ → List (List ℕ)
+    → Result V (ℕ × Code)
 outcome_by step value s n [] = finish_by (value s) n
 outcome_by step value s n (l ∷ ls) = then_lines (advance_by step s l) n (λ t. outcome_by step value t (n + 1) ls)

@@ -16,7 +16,7 @@ fn before_dash(word: &[u8]) -> &[u8]
     &word[..end]
 }
 
-/// The part of a word behind its first `-`, and no bytes where it has none.
+/// The part of a word after its first `-`, or no bytes if it has none.
 fn after_dash(word: &[u8]) -> &[u8]
     ensures { result.now ≡ after_first is_dash word.now }
 {
@@ -28,7 +28,7 @@ fn after_dash(word: &[u8]) -> &[u8]
     }
 }
 
-/// The position that a word is: a plain number of at most [`MAX_POSITION_DIGITS`] digits.
+/// The position that a word spells: a plain number of at most [`MAX_POSITION_DIGITS`] digits.
 fn position_of(word: &[u8]) -> Option<u16>
     ensures { result ≡ position_of word.now }
 {
@@ -39,7 +39,7 @@ fn position_of(word: &[u8]) -> Option<u16>
     Some(number as u16)
 }
 
-/// The block that a word is: two plain numbers of at most three digits with a `-` between them.
+/// The block that a word spells: two plain numbers of at most three digits with a `-` between them.
 pub fn block_of(word: &[u8]) -> Option<Block>
     ensures { result ≡ block_of word.now }
 {

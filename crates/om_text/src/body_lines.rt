@@ -1,13 +1,15 @@
 //! The lines of a body.
 
-ghost use Rattle.std.specs.Prelude.{◌≡◌, ℕ, ◌+◌, ◌-◌, ◌<◌, ◌≤◌, ◌++◌, ◌||◌, length, not, map, true, filter, count_by, OnOk, IsTrue, ◌↔◌};
+ghost use Rattle.std.specs.Prelude.{◌≡◌, ℕ, ◌+◌, ◌-◌, ◌<◌, ◌≤◌, ◌++◌, ◌||◌, length, not, map, true, filter, count_by};
+ghost use Rattle.std.specs.Prelude.{OnOk, IsTrue, ◌↔◌};
 ghost use Rattle.std.specs.List.{list_all, list_any, concat};
 ghost use Rattle.om_text.specs.Lines.{runs, is_blank};
 ghost use Rattle.om_text.specs.Words.{is_sign};
 ghost use Rattle.om_text.specs.Document.{are_signs, signs_of_line, members_of_line, has_signs_in, has_length_in};
 ghost use Rattle.om_text.specs.Rows.{same_row};
 ghost use Rattle.om_text.specs.Reading.{with_member, with_each, members_on, with_line_members, added_body};
-ghost use Rattle.om_text.specs.ReaderParts.{IsStepUnlessMemory, IsMapInRange, IsBodyInRange, body_within_limit, members_within_limit, blocks_with_line, body_with_line};
+ghost use Rattle.om_text.specs.ReaderParts.{IsStepUnlessMemory, IsMapInRange, IsBodyInRange, body_within_limit};
+ghost use Rattle.om_text.specs.ReaderParts.{members_within_limit, blocks_with_line, body_with_line};
 
 use super::blocks::block_of;
 use super::body::Body;
@@ -28,7 +30,7 @@ fn are_sign_bytes(line: &[u8]) -> bool
     line.iter().all(|b| is_blank_byte(*b) || is_sign_byte(*b))
 }
 
-/// Whether the words of a line have no byte but those of signs.
+/// Whether the words of a line have no bytes other than those of signs.
 fn are_signs_line(line: &[u8]) -> bool
     ensures { result ≡ are_signs (runs line.now) }
 {
@@ -41,14 +43,14 @@ fn full_count(line: &[u8]) -> usize
     line.iter().filter(|b| !is_blank_byte(**b)).count()
 }
 
-/// How many bytes the words of a line have.
+/// The number of bytes in the words of a line.
 pub fn sign_count(line: &[u8]) -> usize
     ensures { result ≡ length (concat (runs line.now)) }
 {
     full_count(line)
 }
 
-/// Puts the signs of a line at the end.
+/// Appends the signs of a line.
 pub fn push_signs(signs: &mut List<Sign>, line: &[u8]) -> Result<(), NoMemory>
     ensures { OnOk result (signs.new ≡ signs.old ++ signs_of_line (runs line.now)) }
 {
@@ -63,7 +65,8 @@ pub fn push_signs(signs: &mut List<Sign>, line: &[u8]) -> Result<(), NoMemory>
 /// A map with the values of one more line.
 fn with_values(mut map: RawMap, line: &[u8]) -> Result<Body, Refusal>
     requires { IsMapInRange map }
-    ensures { (n : ℕ) (s : Setting) → IsStepUnlessMemory result (body_within_limit n (added_body s (Body.Chirotope map) (runs line.now))) }
+    ensures { (n : ℕ) (s : Setting)
+        → IsStepUnlessMemory result (body_within_limit n (added_body s (Body.Chirotope map) (runs line.now))) }
 {
     let room = Subset::choose(map.elements, map.rank) as usize;
     let size = map.signs.len().saturating_add(sign_count(line));
@@ -86,14 +89,14 @@ fn same_signs(a: SignVec, b: SignVec) -> bool
     are_equal(a, b)
 }
 
-/// Whether a sign vector is one of these members.
+/// Whether a sign vector is one of the members.
 fn has_member(members: &[SignVec], member: SignVec) -> bool
     ensures { result ≡ list_any (λ y. same_row y member) members.now }
 {
     members.iter().any(|m| same_signs(*m, member))
 }
 
-/// The sign vector that a line of `elements` signs stands for.
+/// The sign vector that a line of `elements` signs spells.
 fn sign_vector(elements: u8, line: &[u8]) -> SignVec
     requires low { 1 ≤ elements }
     requires high { elements ≤ MAX_ELEMENTS }
@@ -111,7 +114,7 @@ fn sign_vector(elements: u8, line: &[u8]) -> SignVec
     vector
 }
 
-/// The members with one more, if it isn't there.
+/// The members with one more, unless it is already there.
 fn with_row(mut members: List<SignVec>, member: SignVec) -> Result<List<SignVec>, Refusal>
     ensures { IsStepUnlessMemory result (members_within_limit (with_member members member)) }
 {
@@ -124,7 +127,7 @@ fn with_row(mut members: List<SignVec>, member: SignVec) -> Result<List<SignVec>
     Ok(members)
 }
 
-/// The members with those of a line that stands for this one.
+/// The members with those of a line that gives this one.
 fn with_row_members(
     setting: Setting,
     members: List<SignVec>,
@@ -170,7 +173,8 @@ fn with_words(mut blocks: List<Block>, line: &[u8]) -> Result<List<Block>, Refus
 
 /// A wiring with one more line.
 fn with_blocks(blocks: List<Block>, line: &[u8]) -> Result<Body, Refusal>
-    ensures { (n : ℕ) (s : Setting) → IsStepUnlessMemory result (body_with_line s n (Body.Wiring blocks) (runs line.now)) }
+    ensures { (n : ℕ) (s : Setting)
+        → IsStepUnlessMemory result (body_with_line s n (Body.Wiring blocks) (runs line.now)) }
 {
     let blocks = with_words(blocks, line)?;
     if MAX_BLOCKS < blocks.len() {
@@ -181,7 +185,8 @@ fn with_blocks(blocks: List<Block>, line: &[u8]) -> Result<Body, Refusal>
 
 /// The points with one more line.
 fn with_point(mut points: List<[i64; 3]>, elements: u8, line: &[u8]) -> Result<Body, Refusal>
-    ensures { (s : Setting) → IsStepUnlessMemory result (body_with_line s elements (Body.Points points) (runs line.now)) }
+    ensures { (s : Setting)
+        → IsStepUnlessMemory result (body_with_line s elements (Body.Points points) (runs line.now)) }
 {
     let Some(found) = point(line) else {
         return Err(Refusal::Line(Code::Number));
@@ -217,7 +222,7 @@ pub fn has_length_line(body: &Body, elements: u8, line: &[u8]) -> bool
     }
 }
 
-/// A body with one more line, whose signs and length are those of the kind.
+/// A body with one more line, whose signs and length are right for the kind.
 pub fn with_line(setting: Setting, body: Body, elements: u8, line: &[u8]) -> Result<Body, Refusal>
     requires low { 1 ≤ elements }
     requires high { elements ≤ MAX_ELEMENTS }

@@ -1,6 +1,6 @@
 use thiserror::Error;
 
-/// What is wrong at a line. Where several hold of one line, the first of this list is named.
+/// What is wrong with a line. If several hold of one line, it has the first code in this list.
 #[derive(Clone, Copy, Debug, PartialEq, Eq, Error)]
 pub enum Code {
     /// The first line with words is neither `om 1` nor `om 2`.
@@ -9,7 +9,7 @@ pub enum Code {
     /// The first word of the kind line names no kind.
     #[error("the kind line names no kind")]
     Kind,
-    /// The kind line has another number of words than its kind asks for, or a word that isn't a plain number.
+    /// The kind line doesn't have as many words as its kind requires, or it has a word that isn't a plain number.
     #[error("the kind line has not the plain numbers of its kind")]
     Header,
     /// The kind line gives `n` elements, and this is 0 or above [`om_signs::MAX_ELEMENTS`].
@@ -18,28 +18,29 @@ pub enum Code {
     /// The kind line gives the rank `r`, and this is above the number of elements.
     #[error("rank {r} is above the number of elements")]
     Rank { r: u32 },
-    /// The kind line gives a map this many values, one for each set of its rank, and this is above [`om_signs::MAX_VALUES`].
+    /// The kind line gives a map `values` values, one for each set of its rank, and this is above
+    /// [`om_signs::MAX_VALUES`].
     #[error("{values} values are more than a map may have")]
     Size { values: u32 },
-    /// In version 2, a line directly after the kind line or after setting lines begins with `names`, `order` or `half`, and
-    /// isn't a setting line that may stand there.
+    /// In version 2, a line directly after the kind line or after setting lines begins with `names`, `order` or
+    /// `half`, and isn't a setting line that is allowed there.
     #[error("the line is no setting that may stand here")]
     Setting,
     /// A line of a map or a list has a byte other than `+`, `-` and `0` in its words.
     #[error("a body line has a byte that is no sign")]
     Sign,
-    /// A member has another number of signs than there are elements.
+    /// A member has more or fewer signs than there are elements.
     #[error("a member has not as many signs as there are elements")]
     Length,
     /// A word of a wiring's line isn't two plain numbers of at most three digits with a `-` between them.
     #[error("a word of a wiring is no block")]
     Block,
-    /// A line of points hasn't exactly three signed numbers of a size of at most [`om_signs::MAX_COORDINATE`].
+    /// A line of points hasn't exactly three signed numbers of absolute value at most [`om_signs::MAX_COORDINATE`].
     #[error("a line of points has not exactly three numbers in range")]
     Number,
-    /// The line goes past the number of values of the map, past one point for each element, past [`om_signs::MAX_BLOCKS`]
-    /// blocks, or past [`om_signs::MAX_MEMBERS`] distinct members. In a verdict, it goes past [`om_signs::MAX_ELEMENTS`]
-    /// vectors in one place, or past one weight for each triple of so many elements.
+    /// The line exceeds the number of values of the map, one point for each element, [`om_signs::MAX_BLOCKS`]
+    /// blocks, or [`om_signs::MAX_MEMBERS`] distinct members. In a verdict, it exceeds [`om_signs::MAX_ELEMENTS`]
+    /// vectors in one place, or one weight for each triple of that many elements.
     #[error("the line goes past the greatest size of the body")]
     Many,
     /// The line `end` comes before the map has all its values, or before there is a point for each element.
@@ -51,7 +52,7 @@ pub enum Code {
     /// In a claim, the line after the document isn't the first line of a verdict. No document has this code.
     #[error("the line after the document is no verdict")]
     Claim,
-    /// In a claim, a line of the verdict has none of the forms that may stand there. No document has this code.
+    /// In a claim, a line of the verdict has none of the forms that are allowed there. No document has this code.
     #[error("the line has no form that a verdict has here")]
     Entry,
     /// The input ends before the line `end`.

@@ -2,10 +2,10 @@ use super::document::Document;
 use super::setting::Setting;
 use super::stage::Stage;
 
-/// A document whose line `end` is not read yet.
+/// A document whose line `end` has not been read yet.
 #[derive(Drop)]
 pub struct Draft {
-    /// What the lines so far give. The values of a map stand in the order of the lines.
+    /// The document that the lines so far give. The values of a map are in the order of the lines.
     pub document: Document,
     /// How the body lines are read.
     pub setting: Setting,

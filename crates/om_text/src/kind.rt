@@ -3,7 +3,8 @@
 ghost use Rattle.std.specs.Prelude.{◌≡◌, ℕ, ◌≤◌, [], IfSome, IfNone, Some, None};
 ghost use Rattle.om_text.specs.Lines.{runs};
 ghost use Rattle.om_text.specs.Words.{plain};
-ghost use Rattle.om_text.specs.Heading.{kind_of, plain_numbers, sizes, numbers, headed, rank_of_body, values_of_body, empty_body};
+ghost use Rattle.om_text.specs.Heading.{kind_of, plain_numbers, sizes, numbers, headed, rank_of_body, values_of_body};
+ghost use Rattle.om_text.specs.Heading.{empty_body};
 ghost use Rattle.om_text.specs.declared.setting.Setting.TheVariants.{Plain};
 ghost use Rattle.om_text.specs.Document.{filled_body};
 ghost use Rattle.om_text.specs.Reading.{in_range, first_stage, after_kind};
@@ -23,7 +24,7 @@ use om_subsets::Subset;
 use smallvec::SmallVec;
 use std::alloc::Global;
 
-/// What the first word of a kind line names.
+/// The kinds of documents that the first word of a kind line can name.
 #[derive(Clone, Copy)]
 pub enum DocumentKind {
     Chirotope,
@@ -54,10 +55,10 @@ fn kind_of_name(word: &[u8]) -> Option<DocumentKind>
     }
 }
 
-/// The most numbers of a kind line that are looked at.
+/// The most numbers of a kind line that are read.
 const MOST_NUMBERS: usize = 16;
 
-/// The plain numbers that the words of a line are. A line with more than `MOST_NUMBERS` words is no kind line.
+/// The plain numbers that the words of a line spell. A line with more than `MOST_NUMBERS` words is no kind line.
 fn numbers_of(alloc: Global, line: &[u8]) -> Option<SmallVec<u32, MOST_NUMBERS>>
     ensures some { IfSome result (λ v. plain_numbers (runs line.now) ≡ Some v.items) }
     ensures none { IfNone result ((kind : DocumentKind) → numbers kind (runs line.now) ≡ None) }
@@ -74,7 +75,7 @@ fn numbers_of(alloc: Global, line: &[u8]) -> Option<SmallVec<u32, MOST_NUMBERS>>
     Some(numbers)
 }
 
-/// The rank and the number of elements, where a kind line of this kind has these numbers.
+/// The rank and the number of elements, if a kind line of this kind has these numbers.
 fn sizes_of(kind: DocumentKind, numbers: &[u32]) -> Option<(u32, u32)>
     ensures { result ≡ sizes kind numbers.now }
 {
@@ -92,7 +93,7 @@ fn sizes_of(kind: DocumentKind, numbers: &[u32]) -> Option<(u32, u32)>
     }
 }
 
-/// The same of the words after the kind's name.
+/// The rank and the number of elements that the words after the kind's name give.
 fn sizes_in(alloc: Global, kind: DocumentKind, line: &[u8]) -> Option<(u32, u32)>
     ensures { result ≡ numbers kind (runs line.now) }
 {
@@ -117,7 +118,7 @@ fn empty_body(alloc: Global, kind: DocumentKind, rank: u8, elements: u8) -> Body
     }
 }
 
-/// The rank that a kind line gives: only a map has one.
+/// The rank that a kind line gives; only a map has one.
 fn rank_given(kind: DocumentKind, rank: u32) -> u32
     ensures { (n : ℕ) → result ≡ rank_of_body (empty_body kind rank n) }
 {
@@ -131,7 +132,7 @@ fn rank_given(kind: DocumentKind, rank: u32) -> u32
     }
 }
 
-/// How many values a kind line gives: only a map has them.
+/// The number of values that a kind line gives; only a map has values.
 fn values_given(kind: DocumentKind, rank: u8, elements: u8) -> u32
     requires { elements ≤ MAX_ELEMENTS }
     ensures { result ≡ values_of_body (empty_body kind rank elements) }
@@ -187,7 +188,7 @@ fn open(
     }))
 }
 
-/// What a kind line opens.
+/// The state after a kind line.
 pub fn kind_line(alloc: Global, version: Version, line: &[u8]) -> Result<State, Code>
     ensures { result ≡ after_kind version (runs line.now) }
 {

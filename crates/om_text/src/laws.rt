@@ -1,4 +1,4 @@
-//! Laws of the definition of documents. Each is a function that does nothing, and whose contract is the law.
+//! Laws of the definition of documents. Each law is a function with an empty body, and its contract is the law.
 
 ghost use Rattle.std.specs.Prelude.{◌≡◌, ℕ, ◌≤◌, ◌↔◌, ◌⊎◌, List, length, take};
 ghost use Rattle.std.specs.List.Sorted.{IsPermutation, IsSorted};
@@ -11,13 +11,13 @@ ghost use Rattle.om_text.specs.Lines.{lines};
 ghost use Rattle.om_text.specs.Document.{IsDocument};
 ghost use Rattle.om_text.specs.Fault.{IsFault, Begins, AreDocument};
 
-/// An input has one value at most.
+/// An input has at most one value.
 pub fn values_are_unique()
     ensures { (ls : List (List ℕ)) (d e : Document) →
         IsDocument ls d → IsDocument ls e → d ≡ e }
 {}
 
-/// An input has one first fault at most.
+/// An input has at most one first fault.
 pub fn faults_are_unique()
     ensures { (ls : List (List ℕ)) (line other : ℕ) (code another : Code) →
         IsFault ls line code → IsFault ls other another → (line ≡ other) × (code ≡ another) }
@@ -35,15 +35,15 @@ pub fn inputs_are_documents_or_have_faults()
         ((d : Document) × IsDocument ls d) ⊎ ((line : ℕ) × (code : Code) × IsFault ls line code) }
 {}
 
-/// That the first lines of an input begin a document says the same of lists of lines and of inputs of bytes: some document
-/// in bytes, of whatever length, begins with these lines.
+/// The first lines of an input begin a document as a list of lines exactly if they do as an input of bytes. The
+/// latter means that some document in bytes, of any length, begins with these lines.
 pub fn documents_begin_as_bytes()
     ensures { (bytes : List ℕ) (k : ℕ) → k ≤ length (lines bytes) →
         Begins AreDocument (take k (lines bytes))
         ↔ ((text : List ℕ) × (take k (lines text) ≡ take k (lines bytes)) × AreDocument (lines text)) }
 {}
 
-/// The members that the canonical form has in sorted order are the same members, each as often.
+/// Sorting, as in the canonical form, keeps the members and their multiplicities.
 pub fn sorting_keeps_members()
     ensures same { (ms : List (List Sign)) → IsPermutation ms (sorted ms) }
     ensures order { (ms : List (List Sign)) → IsSorted lexicographic (sorted ms) }

@@ -1,9 +1,11 @@
 //! The lines of bytes, and the words of a line.
 //!
-//! A line is a run of bytes between line feeds; a last one that no line feed ends counts where it isn't empty. Everything in
-//! it from the first `#` on is a comment. Its words are the longest runs of bytes other than space, tab and carriage return.
+//! A line is a run of bytes between line feeds. A last one that no line feed ends counts if it isn't empty.
+//! Everything in it from the first `#` on is a comment. Its words are the longest runs of bytes other than space,
+//! tab and carriage return.
 
-ghost use Rattle.std.specs.Prelude.{◌≡◌, ◌+◌, ◌<◌, ◌≤◌, ◌∷◌, [], length, nat_eq, not, ◌||◌, MatchOption, IfSome, bytes_eq};
+ghost use Rattle.std.specs.Prelude.{◌≡◌, ◌+◌, ◌<◌, ◌≤◌, ◌∷◌, [], length, nat_eq, not, ◌||◌, MatchOption, IfSome};
+ghost use Rattle.std.specs.Prelude.{bytes_eq};
 ghost use Rattle.std.specs.List.{position, position_or_len, list_all};
 ghost use Rattle.om_text.specs.Lines.{lines, IsSplit, uncommented, runs, is_blank, has_any};
 ghost use Rattle.om_text.specs.Settings.{is_line};
@@ -16,14 +18,14 @@ pub fn same(word: &[u8], text: &[u8]) -> bool
     word == text
 }
 
-/// The place of the first such byte.
+/// The index of the first byte with this value.
 fn byte_place(bytes: &[u8], byte: u8) -> Option<usize>
     ensures { result ≡ position (λ b. nat_eq b byte) bytes.now }
 {
     bytes.iter().position(|b| *b == byte)
 }
 
-/// How many bytes stand before the first such byte.
+/// How many bytes come before the first byte with this value.
 pub(crate) fn len_before(bytes: &[u8], byte: u8) -> usize
     ensures value { result ≡ position_or_len (λ b. nat_eq b byte) bytes.now }
     ensures within { result ≤ length bytes.now }
@@ -31,7 +33,7 @@ pub(crate) fn len_before(bytes: &[u8], byte: u8) -> usize
     byte_place(bytes, byte).unwrap_or(bytes.len())
 }
 
-/// The first line without its line feed, and the bytes after it. There are some bytes.
+/// The first line without its line feed, and the bytes after it. The bytes are not empty.
 pub fn first_line(bytes: &[u8]) -> (&[u8], &[u8])
     requires { 0 < length bytes.now }
     ensures lines { lines bytes.now ≡ result.0.now ∷ lines result.1.now }
@@ -73,7 +75,7 @@ fn blank_place(line: &[u8]) -> Option<usize>
     line.iter().position(|b| is_blank_byte(*b))
 }
 
-/// How many blanks a line begins with.
+/// The number of blanks that a line begins with.
 fn blank_len(line: &[u8]) -> usize
     ensures value { result ≡ position_or_len (λ b. not (is_blank b)) line.now }
     ensures within { result ≤ length line.now }
@@ -81,7 +83,7 @@ fn blank_len(line: &[u8]) -> usize
     full_place(line).unwrap_or(line.len())
 }
 
-/// How many other bytes it begins with.
+/// The number of bytes other than blanks that a line begins with.
 fn word_len(line: &[u8]) -> usize
     ensures value { result ≡ position_or_len is_blank line.now }
     ensures within { result ≤ length line.now }

@@ -5,11 +5,11 @@ ghost use Rattle.om_text.specs.Names.{is_name_byte, is_name};
 use om_signs::MAX_NAME;
 use std::marker::Model;
 
-/// The name of an element: 1 to [`MAX_NAME`](om_signs::MAX_NAME) bytes, each a letter from `A` to `Z` or from `a` to `z`,
-/// a digit or `_`. Contracts see the list of the bytes. Two names are equal where their bytes are.
+/// The name of an element: 1 to [`MAX_NAME`](om_signs::MAX_NAME) bytes, each a letter from `A` to `Z` or from `a`
+/// to `z`, a digit or `_`. Contracts see the list of the bytes. Two names are equal if their bytes are.
 #[derive(Clone, Copy, Debug, PartialEq, Eq)]
 pub struct Name {
-    /// The bytes of the name, and zeros behind them.
+    /// The bytes of the name, followed by zeros.
     bytes: [u8; MAX_NAME],
     len: u8,
 }
@@ -45,7 +45,7 @@ fn are_name_bytes(bytes: &[u8]) -> bool
 }
 
 impl Name {
-    /// The name with these bytes, and None exactly where the bytes are no name.
+    /// The name with these bytes, or None exactly if the bytes are no name.
     pub fn new(bytes: &[u8]) -> Option<Name>
         ensures { result ≡ cond (is_name bytes.now) (Some bytes.now) None }
     {

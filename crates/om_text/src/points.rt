@@ -15,7 +15,7 @@ fn coordinate_of(word: &[u8]) -> Option<i64>
     Some(number as i64)
 }
 
-/// The point that the words of a line are.
+/// The point that the words of a line spell.
 pub fn point(line: &[u8]) -> Option<[i64; 3]>
     ensures { result ≡ point_of (runs line.now) }
 {

@@ -1,6 +1,7 @@
 //! The canonical form.
 
-ghost use Rattle.std.specs.Prelude.{◌≡◌, ◌+◌, ◌<◌, ◌≤◌, ◌-◌, ◌∷◌, [], ◌++◌, length, map, All, OnOk, IfOk, codes, decimal};
+ghost use Rattle.std.specs.Prelude.{◌≡◌, ◌+◌, ◌<◌, ◌≤◌, ◌-◌, ◌∷◌, [], ◌++◌, length, map, All, OnOk, IfOk, codes};
+ghost use Rattle.std.specs.Prelude.{decimal};
 ghost use Rattle.om_signs.specs.declared.limits.TheConstants.{MAX_INPUT};
 ghost use Rattle.om_text.specs.declared.document.Document.{Document};
 ghost use Rattle.om_text.specs.Words.{byte_of};
@@ -9,7 +10,8 @@ ghost use Rattle.om_text.specs.Rows.{sorted};
 ghost use Rattle.om_text.specs.Document.{IsDocument};
 ghost use Rattle.om_text.specs.Form.{IsPoint, IsBodyOn, IsInForm};
 ghost use Rattle.std.specs.Fmt.{signed_decimal};
-ghost use Rattle.om_text.specs.Print.{text_of, sign_lines, member_lines, block_lines, point_lines, body_lines, kind_text, printed, sorted_document};
+ghost use Rattle.om_text.specs.Print.{text_of, sign_lines, member_lines, block_lines, point_lines, body_lines};
+ghost use Rattle.om_text.specs.Print.{kind_text, printed, sorted_document};
 
 use super::body::Body;
 use super::document::Document;
@@ -17,10 +19,10 @@ use super::words::byte_of_sign;
 use om_signs::{Block, NoMemory, Sign, SignVec};
 use std::alloc::Global;
 
-/// How many signs of a map stand in a line.
+/// How many signs of a map a line has.
 pub const LINE_SIGNS: usize = 64;
 
-/// Puts a line of signs at the end.
+/// Appends a line of signs.
 fn push_row(out: &mut Vec<u8>, signs: &[Sign]) -> Result<(), NoMemory>
     ensures { OnOk result (out.new.items ≡ out.old.items ++ map byte_of signs.now ++ 10 ∷ []) }
 {
@@ -31,7 +33,7 @@ fn push_row(out: &mut Vec<u8>, signs: &[Sign]) -> Result<(), NoMemory>
     Ok(())
 }
 
-/// Puts signs at the end, in lines of 64 and a last shorter line.
+/// Appends signs, in lines of 64 and a last shorter line.
 fn push_rows(out: &mut Vec<u8>, signs: &[Sign]) -> Result<(), NoMemory>
     ensures { OnOk result (out.new.items ≡ out.old.items ++ text_of (sign_lines signs.now)) }
 {
@@ -44,7 +46,7 @@ fn push_rows(out: &mut Vec<u8>, signs: &[Sign]) -> Result<(), NoMemory>
     Ok(())
 }
 
-/// Puts a sign vector at the end, as a line.
+/// Appends a sign vector, as a line.
 pub fn push_member(out: &mut Vec<u8>, member: SignVec) -> Result<(), NoMemory>
     ensures { OnOk result (out.new.items ≡ out.old.items ++ map byte_of member ++ 10 ∷ []) }
 {
@@ -64,7 +66,7 @@ pub fn sorted_members(alloc: Global, members: &[SignVec]) -> Result<Vec<SignVec>
     Ok(rows)
 }
 
-/// Puts members at the end, one a line.
+/// Appends members, one per line.
 fn push_member_lines(out: &mut Vec<u8>, members: &[SignVec]) -> Result<(), NoMemory>
     ensures { OnOk result (out.new.items ≡ out.old.items ++ text_of (member_lines members.now)) }
 {
@@ -74,7 +76,7 @@ fn push_member_lines(out: &mut Vec<u8>, members: &[SignVec]) -> Result<(), NoMem
     Ok(())
 }
 
-/// Puts the members at the end, sorted, one a line.
+/// Appends the members, sorted, one per line.
 fn push_members(out: &mut Vec<u8>, members: &[SignVec]) -> Result<(), NoMemory>
     ensures { OnOk result (out.new.items ≡ out.old.items ++ text_of (member_lines (sorted members.now))) }
 {
@@ -91,7 +93,7 @@ fn point_text(alloc: Global, x: i64, y: i64, z: i64) -> Result<Vec<u8>, NoMemory
     Ok(text.into_bytes())
 }
 
-/// Puts a point at the end, as a line.
+/// Appends a point, as a line.
 fn push_point(out: &mut Vec<u8>, point: [i64; 3]) -> Result<(), NoMemory>
     requires { IsPoint point }
     ensures { OnOk result (out.new.items ≡ out.old.items ++ text_of (point_lines (point ∷ []))) }
@@ -109,7 +111,7 @@ fn block_text(alloc: Global, first: u16, last: u16) -> Result<Vec<u8>, NoMemory>
     Ok(text.into_bytes())
 }
 
-/// Puts a block at the end, as a line.
+/// Appends a block, as a line.
 fn push_block(out: &mut Vec<u8>, block: Block) -> Result<(), NoMemory>
     ensures { OnOk result (out.new.items ≡ out.old.items ++ text_of (block_lines (block ∷ []))) }
 {
@@ -117,7 +119,7 @@ fn push_block(out: &mut Vec<u8>, block: Block) -> Result<(), NoMemory>
     push_bytes(out, text.as_slice())
 }
 
-/// Puts blocks at the end, one a line.
+/// Appends blocks, one per line.
 pub fn push_blocks(out: &mut Vec<u8>, blocks: &[Block]) -> Result<(), NoMemory>
     ensures { OnOk result (out.new.items ≡ out.old.items ++ text_of (block_lines blocks.now)) }
 {
@@ -127,7 +129,7 @@ pub fn push_blocks(out: &mut Vec<u8>, blocks: &[Block]) -> Result<(), NoMemory>
     Ok(())
 }
 
-/// Puts points at the end, one a line.
+/// Appends points, one per line.
 pub fn push_points(out: &mut Vec<u8>, points: &[[i64; 3]]) -> Result<(), NoMemory>
     requires { All IsPoint points.now }
     ensures { OnOk result (out.new.items ≡ out.old.items ++ text_of (point_lines points.now)) }
@@ -138,7 +140,7 @@ pub fn push_points(out: &mut Vec<u8>, points: &[[i64; 3]]) -> Result<(), NoMemor
     Ok(())
 }
 
-/// Puts bytes at the end.
+/// Appends bytes.
 pub fn push_bytes(out: &mut Vec<u8>, bytes: &[u8]) -> Result<(), NoMemory>
     ensures { OnOk result (out.new.items ≡ out.old.items ++ bytes.now) }
 {
@@ -155,7 +157,7 @@ fn map_line(alloc: Global, rank: u8, elements: u8) -> Result<Vec<u8>, NoMemory>
     Ok(text.into_bytes())
 }
 
-/// The kind line of another kind.
+/// The kind line of a kind other than a map.
 fn list_line(alloc: Global, name: &str, elements: u8) -> Result<Vec<u8>, NoMemory>
     ensures { IfOk result (λ bytes. bytes.items ≡ name.now ++ 32 ∷ (decimal elements ++ 10 ∷ [])) }
 {
@@ -177,7 +179,7 @@ fn kind_line(alloc: Global, document: &Document) -> Result<Vec<u8>, NoMemory>
     }
 }
 
-/// Puts the first two lines at the end: the one that is given, and the kind line.
+/// Appends the first two lines: the given one, and the kind line.
 pub fn push_heading(out: &mut Vec<u8>, version: &[u8], document: &Document) -> Result<(), NoMemory>
     ensures { OnOk result (out.new.items
         ≡ (out.old.items ++ version.now) ++ text_of (kind_text document.now ∷ [])) }
@@ -201,7 +203,7 @@ fn push_body(out: &mut Vec<u8>, body: &Body, elements: u8) -> Result<(), NoMemor
     }
 }
 
-/// Puts the canonical form of a document at the end.
+/// Appends the canonical form of a document.
 fn push_document(out: &mut Vec<u8>, document: &Document) -> Result<(), NoMemory>
     requires { IsInForm document.now }
     ensures { OnOk result (out.new.items ≡ out.old.items ++ printed document.now) }
@@ -211,22 +213,30 @@ fn push_document(out: &mut Vec<u8>, document: &Document) -> Result<(), NoMemory>
     push_bytes(out, b"end\n")
 }
 
-/// The canonical form of a document: the line `om 1`, the kind line with single spaces, the body and the line `end`. The
-/// values of a map stand in lines of 64 and a last shorter line, the members of a list one a line, sorted by the first
-/// place where they differ, with `-` before `0` before `+`, the blocks of a wiring one a line in their order, and the points
-/// one a line in their order, with single spaces.
+/// The canonical form of a document: the line `om 1`, the kind line with single spaces, the body and the line
+/// `end`. The body has:
 ///
-/// The document has the forms and is within the limits that [`crate::parse`] promises: its numbers are in range, a map has
-/// a value for each set of its rank and no more than [`om_signs::MAX_VALUES`], the members of a list are different and have a
-/// sign for each element, the positions of blocks are at most 999, and there is a point for each element. Reading the
-/// canonical form gives it back with its members sorted, and it has at most [`om_signs::MAX_INPUT`] bytes. The one error is
-/// want of memory.
+/// - the values of a map in lines of 64 and a last shorter line;
+/// - the members of a list, one per line, sorted by the first position where they differ (`-` before `0` before `+`);
+/// - the blocks of a wiring, one per line in order;
+/// - the points, one per line in order, with single spaces.
+///
+/// The document must have the forms and be within the limits that [`crate::parse`] promises:
+///
+/// - its numbers are in range;
+/// - a map has a value for each set of its rank, and no more than [`om_signs::MAX_VALUES`];
+/// - the members of a list are distinct and have a sign for each element;
+/// - the positions of blocks are at most 999;
+/// - there is a point for each element.
+///
+/// Reading the canonical form returns the document with its members sorted. The form has at most
+/// [`om_signs::MAX_INPUT`] bytes. The call fails only if memory runs out.
 pub fn print(alloc: Global, document: &Document) -> Result<Vec<u8>, NoMemory>
     requires form { IsInForm document.now }
     ensures bytes { IfOk result (λ bytes. bytes.items ≡ printed document.now) }
-    // What is printed is a document, and reads as this one with its members sorted.
+    // The printed text is a document, and reads as this one with its members sorted.
     ensures again { IfOk result (λ bytes. IsDocument (lines bytes.items) (sorted_document document.now)) }
-    // What is printed is no longer than an input may be.
+    // The printed text is no longer than an input may be.
     ensures short { IfOk result (λ bytes. length bytes.items ≤ MAX_INPUT) }
 {
     let mut out = Vec::new(alloc);

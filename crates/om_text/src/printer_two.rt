@@ -1,6 +1,7 @@
 //! The form of a document in version 2.
 
-ghost use Rattle.std.specs.Prelude.{◌≡◌, ℕ, ◌+◌, ◌-◌, ◌<◌, ◌≤◌, ◌∷◌, [], ◌++◌, map, filter, length, take, drop, OnOk, IfOk, codes, decimal, slice_index_or};
+ghost use Rattle.std.specs.Prelude.{◌≡◌, ℕ, ◌+◌, ◌-◌, ◌<◌, ◌≤◌, ◌∷◌, [], ◌++◌, map, filter, length, take, drop, OnOk};
+ghost use Rattle.std.specs.Prelude.{IfOk, codes, decimal, slice_index_or};
 ghost use Rattle.std.specs.List.{flat_map};
 ghost use Rattle.std.specs.List.Sorted.{IsPermutation};
 ghost use Rattle.om_signs.specs.declared.sign.Sign.TheVariants.{Zero};
@@ -12,7 +13,9 @@ ghost use Rattle.om_text.specs.Members.{members_of};
 ghost use Rattle.om_text.specs.Document.{IsDocument};
 ghost use Rattle.om_text.specs.Form.{IsMapOn, IsBodyOn, IsInForm};
 ghost use Rattle.om_text.specs.Print.{text_of, sign_lines, member_lines, spaced};
-ghost use Rattle.om_text.specs.PrintTwo.{numbered_names, printed_names, values_in_revlex, begins_with_plus, half_of, setting_lines, body_lines_two, printed_two, doubled_body, doubled_document, IsClosedUnderNegation};
+ghost use Rattle.om_text.specs.PrintTwo.{numbered_names, printed_names, values_in_revlex, begins_with_plus, half_of};
+ghost use Rattle.om_text.specs.PrintTwo.{setting_lines, body_lines_two, printed_two, doubled_body, doubled_document};
+ghost use Rattle.om_text.specs.PrintTwo.{IsClosedUnderNegation};
 
 use super::body::Body;
 use super::document::Document;
@@ -25,7 +28,7 @@ use om_signs::{NoMemory, RawMap, Sign, SignVec};
 use om_subsets::Subset;
 use std::alloc::Global;
 
-/// The name with a number, after a space.
+/// The name `e` with a number, after a space.
 fn numbered_name(alloc: Global, number: u8) -> Result<Vec<u8>, NoMemory>
     ensures { IfOk result (λ bytes. bytes.items ≡ 32 ∷ 101 ∷ decimal number) }
 {
@@ -33,7 +36,7 @@ fn numbered_name(alloc: Global, number: u8) -> Result<Vec<u8>, NoMemory>
     Ok(text.into_bytes())
 }
 
-/// Puts numbered names for so many elements at the end, each after a space.
+/// Appends numbered names for this many elements, each after a space.
 fn push_numbered_names(out: &mut Vec<u8>, elements: u8) -> Result<(), NoMemory>
     ensures { OnOk result (out.new.items ≡ out.old.items ++ flat_map (λ w. 32 ∷ w) (numbered_names elements)) }
 {
@@ -44,7 +47,7 @@ fn push_numbered_names(out: &mut Vec<u8>, elements: u8) -> Result<(), NoMemory>
     Ok(())
 }
 
-/// Puts a name at the end, after a space.
+/// Appends a name, after a space.
 fn push_name(out: &mut Vec<u8>, name: Name) -> Result<(), NoMemory>
     ensures { OnOk result (out.new.items ≡ out.old.items ++ 32 ∷ name) }
 {
@@ -52,7 +55,7 @@ fn push_name(out: &mut Vec<u8>, name: Name) -> Result<(), NoMemory>
     push_bytes(out, name.as_bytes())
 }
 
-/// Puts names at the end, each after a space.
+/// Appends names, each after a space.
 fn push_names(out: &mut Vec<u8>, names: &[Name]) -> Result<(), NoMemory>
     ensures { OnOk result (out.new.items ≡ out.old.items ++ flat_map (λ w. 32 ∷ w) names.now) }
 {
@@ -62,7 +65,7 @@ fn push_names(out: &mut Vec<u8>, names: &[Name]) -> Result<(), NoMemory>
     Ok(())
 }
 
-/// Puts the names at the end, or numbered ones where there are none, each after a space.
+/// Appends the names, or numbered ones if there are none, each after a space.
 fn push_printed_names(out: &mut Vec<u8>, elements: u8, names: &[Name]) -> Result<(), NoMemory>
     ensures { OnOk result (out.new.items
         ≡ out.old.items ++ flat_map (λ w. 32 ∷ w) (printed_names elements names.now)) }
@@ -74,7 +77,7 @@ fn push_printed_names(out: &mut Vec<u8>, elements: u8, names: &[Name]) -> Result
     }
 }
 
-/// Puts the line of names at the end.
+/// Appends the line of names.
 fn push_names_line(out: &mut Vec<u8>, elements: u8, names: &[Name]) -> Result<(), NoMemory>
     ensures { OnOk result (out.new.items
         ≡ out.old.items ++ text_of (spaced (codes "names" ∷ printed_names elements names.now) ∷ [])) }
@@ -84,7 +87,7 @@ fn push_names_line(out: &mut Vec<u8>, elements: u8, names: &[Name]) -> Result<()
     push_bytes(out, b"\n")
 }
 
-/// The value at a place in reverse lexicographic order of the sets.
+/// The value at an index in reverse lexicographic order of the sets.
 fn value_at(raw: &RawMap, place: u32) -> Sign
     requires rank { raw.now.rank ≤ raw.now.elements }
     requires elements { raw.now.elements ≤ MAX_ELEMENTS }
@@ -96,7 +99,7 @@ fn value_at(raw: &RawMap, place: u32) -> Sign
     raw.signs.at(subset.rank() as usize)
 }
 
-/// Puts the values from one place up to another at the end, in reverse lexicographic order of the sets, as a line.
+/// Appends the values from one index up to another, in reverse lexicographic order of the sets, as a line.
 fn push_value_row(out: &mut Vec<u8>, raw: &RawMap, first: u32, end: u32) -> Result<(), NoMemory>
     requires rank { raw.now.rank ≤ raw.now.elements }
     requires elements { raw.now.elements ≤ MAX_ELEMENTS }
@@ -113,7 +116,7 @@ fn push_value_row(out: &mut Vec<u8>, raw: &RawMap, first: u32, end: u32) -> Resu
     Ok(())
 }
 
-/// Puts the values of a map at the end in reverse lexicographic order of the sets, in lines of 64 and a last shorter line.
+/// Appends the values of a map in reverse lexicographic order of the sets, in lines of 64 and a last shorter line.
 fn push_values(out: &mut Vec<u8>, raw: &RawMap) -> Result<(), NoMemory>
     requires rank { raw.now.rank ≤ raw.now.elements }
     requires elements { raw.now.elements ≤ MAX_ELEMENTS }
@@ -144,7 +147,7 @@ fn begins_with_plus(member: SignVec) -> bool
     true
 }
 
-/// Puts a member at the end, as a line, if it begins with plus or is zero.
+/// Appends a member, as a line, if it begins with plus or is zero.
 fn push_if_begun(out: &mut Vec<u8>, member: SignVec) -> Result<(), NoMemory>
     ensures { OnOk result (out.new.items
         ≡ out.old.items ++ text_of (member_lines (filter begins_with_plus (member ∷ [])))) }
@@ -156,7 +159,7 @@ fn push_if_begun(out: &mut Vec<u8>, member: SignVec) -> Result<(), NoMemory>
     }
 }
 
-/// Puts those of the members at the end that begin with plus or are zero, one a line.
+/// Appends those of the members that begin with plus or are zero, one per line.
 fn push_begun(out: &mut Vec<u8>, members: &[SignVec]) -> Result<(), NoMemory>
     ensures { OnOk result (out.new.items
         ≡ out.old.items ++ text_of (member_lines (filter begins_with_plus members.now))) }
@@ -167,7 +170,7 @@ fn push_begun(out: &mut Vec<u8>, members: &[SignVec]) -> Result<(), NoMemory>
     Ok(())
 }
 
-/// Puts one of each pair of opposite members at the end, sorted, one a line.
+/// Appends one of each pair of opposite members, sorted, one per line.
 fn push_half(out: &mut Vec<u8>, members: &[SignVec]) -> Result<(), NoMemory>
     ensures { OnOk result (out.new.items ≡ out.old.items ++ text_of (member_lines (half_of members.now))) }
 {
@@ -175,7 +178,7 @@ fn push_half(out: &mut Vec<u8>, members: &[SignVec]) -> Result<(), NoMemory>
     push_begun(out, rows.as_slice())
 }
 
-/// Puts a list at the end: its setting line, and half of its members.
+/// Appends a list: its setting line, and half of its members.
 fn push_list(out: &mut Vec<u8>, members: &[SignVec]) -> Result<(), NoMemory>
     ensures { OnOk result (out.new.items
         ≡ out.old.items ++ text_of (codes "half" ∷ member_lines (half_of members.now))) }
@@ -184,7 +187,7 @@ fn push_list(out: &mut Vec<u8>, members: &[SignVec]) -> Result<(), NoMemory>
     push_half(out, members)
 }
 
-/// Puts a map at the end: its setting line, and its values.
+/// Appends a map: its setting line, and its values.
 fn push_map(out: &mut Vec<u8>, raw: &RawMap) -> Result<(), NoMemory>
     requires rank { raw.now.rank ≤ raw.now.elements }
     requires elements { raw.now.elements ≤ MAX_ELEMENTS }
@@ -196,7 +199,7 @@ fn push_map(out: &mut Vec<u8>, raw: &RawMap) -> Result<(), NoMemory>
     push_values(out, raw)
 }
 
-/// Puts the setting line of a body, if it has one, and its lines at the end.
+/// Appends the setting line of a body, if it has one, and its lines.
 fn push_body(out: &mut Vec<u8>, body: &Body, elements: u8) -> Result<(), NoMemory>
     requires high { elements ≤ MAX_ELEMENTS }
     requires form { IsBodyOn elements body.now }
@@ -213,7 +216,7 @@ fn push_body(out: &mut Vec<u8>, body: &Body, elements: u8) -> Result<(), NoMemor
     }
 }
 
-/// Puts the form of a document in version 2 at the end.
+/// Appends the form of a document in version 2.
 fn push_document(out: &mut Vec<u8>, document: &Document) -> Result<(), NoMemory>
     requires { IsInForm document.now }
     ensures { OnOk result (out.new.items ≡ out.old.items ++ printed_two document.now) }
@@ -224,24 +227,30 @@ fn push_document(out: &mut Vec<u8>, document: &Document) -> Result<(), NoMemory>
     push_bytes(out, b"end\n")
 }
 
-/// The form of a document in version 2: the line `om 2`, the kind line with single spaces, the line `names` with the names
-/// of the document, or with `e1`, `e2` and so on where it has none, the setting line of the kind, the body and the line `end`.
+/// The form of a document in version 2. It is the line `om 2`, the kind line with single spaces, the line `names`,
+/// the setting line of the kind, the body and the line `end`. The line `names` has the names of the document, or
+/// `e1`, `e2` and so on if it has none.
 ///
-/// The setting line of a map is `order revlex`, and its values stand in reverse lexicographic order of the sets, in lines of
-/// 64 and a last shorter line. That of a list is `half`, and its members stand one a line, sorted by the first place where
-/// they differ with `-` before `0` before `+`: of each two opposite members the one whose first sign other than zero is `+`,
-/// and the zero vector where it is a member. A wiring and points have no setting line, and stand as [`crate::print`] has them.
+/// The setting line of a map is `order revlex`. Its values come in reverse lexicographic order of the sets, in
+/// lines of 64 and a last shorter line.
 ///
-/// The document has the forms and is within the limits that [`crate::parse`] promises, and the negative of each member of a
-/// list is a member. Reading what is printed gives the document with these names, and with the same members in another order.
-/// What is printed has at most [`om_signs::MAX_INPUT`] bytes. The one error is want of memory.
+/// The setting line of a list is `half`. Its members come one per line, sorted by the first position where they
+/// differ, with `-` before `0` before `+`. Of each two opposite members only the one whose first sign other than
+/// zero is `+` is printed. The zero vector is printed if it is a member.
+///
+/// A wiring and points have no setting line, and are printed as by [`crate::print`].
+///
+/// The document must have the forms and be within the limits that [`crate::parse`] promises, and the negative of
+/// each member of a list must be a member. Reading the printed text returns the document with these names, and with
+/// the same members in another order. The text has at most [`om_signs::MAX_INPUT`] bytes. The call fails only if
+/// memory runs out.
 pub fn print_two(alloc: Global, document: &Document) -> Result<Vec<u8>, NoMemory>
     requires form { IsInForm document.now }
     requires closed { IsClosedUnderNegation document.now.body }
     ensures bytes { IfOk result (λ bytes. bytes.items ≡ printed_two document.now) }
-    // What is printed is a document, with the names that are printed; a list's members stand in another order.
+    // The printed text is a document, with the names that are printed; a list's members are in another order.
     ensures again { IfOk result (λ bytes. IsDocument (lines bytes.items) (doubled_document document.now)) }
-    // What is printed is no longer than an input may be.
+    // The printed text is no longer than an input may be.
     ensures short { IfOk result (λ bytes. length bytes.items ≤ MAX_INPUT) }
     // The members are the same.
     ensures members { IsPermutation (members_of document.now.body) (members_of (doubled_body document.now.body)) }

@@ -9,8 +9,11 @@ ghost use Rattle.om_text.specs.Settings.{version_of, in_lexicographic_order};
 ghost use Rattle.om_text.specs.Document.{IsDocument, is_complete, is_complete_body};
 ghost use Rattle.om_text.specs.Form.{IsInForm};
 ghost use Rattle.om_text.specs.Fault.{IsFault};
-ghost use Rattle.om_text.specs.Reading.{step, advance, takes_settings, finished_draft, open_step, after_body, after_end, is_closed, outcome};
-ghost use Rattle.om_text.specs.ReaderParts.{IsStepUnlessMemory, IsDocumentInRange, IsBodyInRange, IsStateInRange, line_fault, has_all_values, fault_at, IsOutcomeOfAllLines, IsDocumentAtFrontOrFault};
+ghost use Rattle.om_text.specs.Reading.{step, advance, takes_settings, finished_draft, open_step, after_body};
+ghost use Rattle.om_text.specs.Reading.{after_end, is_closed, outcome};
+ghost use Rattle.om_text.specs.ReaderParts.{IsStepUnlessMemory, IsDocumentInRange, IsBodyInRange, IsStateInRange};
+ghost use Rattle.om_text.specs.ReaderParts.{line_fault, has_all_values, fault_at, IsOutcomeOfAllLines};
+ghost use Rattle.om_text.specs.ReaderParts.{IsDocumentAtFrontOrFault};
 ghost use Rattle.om_text.specs.Part.{IsDocumentAtFront};
 ghost use Rattle.om_text.specs.Parsed.{IsAnswerUnlessMemory, IfLine};
 
@@ -111,7 +114,7 @@ fn close(draft: Draft) -> Result<State, Refusal>
     }
 }
 
-/// What is wrong with a body line before its words are read: a byte that is no sign, or another number of signs than a
+/// What is wrong with a body line before its words are read: a byte that is no sign, or more or fewer signs than a
 /// member has.
 fn line_fault(document: &Document, line: &[u8]) -> Option<Code>
     ensures { result ≡ line_fault document.now (runs line.now) }
@@ -150,7 +153,7 @@ fn body_line(draft: Draft, line: &[u8]) -> Result<State, Refusal>
     }))
 }
 
-/// Whether a line that begins as a setting line does is one, or at fault.
+/// Whether a line that begins as a setting line does must be a setting line.
 fn takes_settings(stage: Stage) -> bool
     ensures { result ≡ takes_settings stage }
 {
@@ -160,7 +163,7 @@ fn takes_settings(stage: Stage) -> bool
     }
 }
 
-/// The state after one more line with words of a document that is still open.
+/// The state after one more non-blank line of a document that is still open.
 fn open_line(alloc: Global, draft: Draft, line: &[u8]) -> Result<State, Refusal>
     requires { IsDocumentInRange draft.document }
     ensures { IsStepUnlessMemory result (open_step draft (runs line.now)) }
@@ -174,7 +177,7 @@ fn open_line(alloc: Global, draft: Draft, line: &[u8]) -> Result<State, Refusal>
     }
 }
 
-/// The state after one more line with words.
+/// The state after one more non-blank line.
 fn step(alloc: Global, state: State, line: &[u8]) -> Result<State, Refusal>
     requires { IsStateInRange state }
     ensures { IsStepUnlessMemory result (step state (runs line.now)) }
@@ -212,7 +215,7 @@ fn at_line(refusal: Refusal, line: u32) -> ParseError
     }
 }
 
-/// The state to go on with, or as an error the document, where reading stops behind its line `end`.
+/// The state to continue with, or as an error the document, if reading stops after its line `end`.
 fn unless_over(state: State, stops: bool) -> Result<State, Document>
     ensures same { IfOk result (λ s. s ≡ state) }
     ensures unclosed { stops ≡ true → IfOk result (λ s. is_closed s ≡ false) }
@@ -229,8 +232,8 @@ fn unless_over(state: State, stops: bool) -> Result<State, Document>
     }
 }
 
-/// What the bytes come to: a document with the number of bytes and of lines that were read, or the first line at fault.
-/// Reading goes on to the end of the bytes, or stops behind the line `end`.
+/// What the bytes spell: a document with the number of bytes and of lines that were read, or the first line at
+/// fault. Reading continues to the end of the bytes, or stops after the line `end`.
 fn course(alloc: Global, bytes: &[u8], stops: bool) -> Result<(Document, usize, u32), ParseError>
     requires { length bytes.now ≤ MAX_READ }
     ensures whole { stops ≡ false → IsOutcomeOfAllLines bytes.now result }
@@ -261,7 +264,7 @@ fn course(alloc: Global, bytes: &[u8], stops: bool) -> Result<(Document, usize, 
     }
 }
 
-/// The document that all the bytes are.
+/// The document that all the bytes spell.
 fn whole(alloc: Global, bytes: &[u8]) -> Result<Document, ParseError>
     requires { length bytes.now ≤ MAX_READ }
     ensures { IsAnswerUnlessMemory result (outcome State.Start 0 (lines bytes.now)) }
@@ -272,66 +275,81 @@ fn whole(alloc: Global, bytes: &[u8]) -> Result<Document, ParseError>
 
 /// Reads a document. There are at most [`om_signs::MAX_READ`] bytes.
 ///
-/// The bytes are split into lines at line feeds. In a line, everything from the first `#` on is a comment, and the words
-/// are the longest runs of bytes other than space, tab and carriage return; a line without words is passed over. The lines
-/// with words are `om 1` or `om 2`, a kind line (`chirotope r n`, `circuits n`, `cocircuits n`, `covectors n`, `wiring n` or
-/// `points n`), after `om 2` setting lines, body lines, and `end`. The body of a map or a list has the signs `+`, `-` and
-/// `0`: a map exactly one for each set of `r` elements, at most [`om_signs::MAX_VALUES`], joined over all body lines; a list
-/// one member of `n` signs a line, and a repeated line adds nothing. A wiring has words `i-j`, two numbers of at most three
-/// digits without a leading zero, one block each. Points have exactly `n` lines of three numbers of a size of at most
-/// [`om_signs::MAX_COORDINATE`]: decimal digits without a leading zero, with or without a `-` before them, and `0` without
-/// one.
+/// The bytes are split into lines at line feeds. In a line, everything from the first `#` on is a comment, and the
+/// words are the longest runs of bytes other than space, tab and carriage return. A line without words is skipped.
+/// The other lines are, in order:
 ///
-/// The setting lines are `names` with a [`Name`](crate::Name) for each element, no two of them equal; and then, for a map,
-/// `order lex` or `order revlex`, and for a list `half`. Each may be left out. After `order revlex` the values of a map stand
-/// in reverse lexicographic order: a set stands before another where, at the last place in which their increasing lists
-/// differ, it has the smaller element. The document has them in lexicographic order. After `half` each line of a list stands
-/// for its member and then for the negative of it. A line after the first body line is no setting line, whatever it begins
-/// with.
+/// - `om 1` or `om 2`;
+/// - a kind line: `chirotope r n`, `circuits n`, `cocircuits n`, `covectors n`, `wiring n` or `points n`;
+/// - after `om 2`, setting lines;
+/// - body lines;
+/// - `end`.
+///
+/// The body of a map or a list has the signs `+`, `-` and `0`. A map has exactly one for each set of `r` elements,
+/// at most [`om_signs::MAX_VALUES`], joined over all body lines. A list has one member of `n` signs per line, and a
+/// repeated line adds nothing.
+///
+/// A wiring has words `i-j`, one for each block: two numbers of at most three digits without a leading zero. Points
+/// have exactly `n` lines of three numbers of absolute value at most [`om_signs::MAX_COORDINATE`]. Each is written
+/// in decimal digits without a leading zero, with or without a `-` before them; `0` has no `-`.
+///
+/// The setting lines are `names` with a [`Name`](crate::Name) for each element, no two of them equal, and then, for
+/// a map, `order lex` or `order revlex`, and for a list `half`. Each may be omitted. A line after the first body
+/// line is no setting line, whatever it begins with.
+///
+/// After `order revlex` the values of a map are in reverse lexicographic order. In this order a set comes before
+/// another if it has the smaller element at the last position in which their increasing lists differ. The document
+/// has the values in lexicographic order. After `half` each line of a list gives its member and then the negative
+/// of it.
 ///
 /// # Errors
 ///
-/// [`ParseError::Line`] exactly where the bytes are no such document within the limits: `line` is the first line after
-/// which no document goes on, and `code` the first of the list of [`Code`] that holds of this line. The end of the input
-/// counts as the line after the last one, with [`Code::Missing`]. [`ParseError::Memory`] where memory ran out.
+/// [`ParseError::Line`] exactly if the bytes are no such document within the limits. Its `line` is the first at
+/// which no document can continue, and its `code` is the first in the list of [`Code`] that holds of this line. The
+/// end of the input counts as the line after the last one, with [`Code::Missing`]. [`ParseError::Memory`] if memory
+/// ran out.
 pub fn parse(alloc: Global, bytes: &[u8]) -> Result<Document, ParseError>
     requires { length bytes.now ≤ MAX_READ }
-    // What is read is a document, with this value.
+    // If a document is read, the bytes are this document.
     ensures document { IfOk result (λ d. IsDocument (lines bytes.now) d) }
     // It has the forms of documents, within the limits.
     ensures form { IfOk result IsInForm }
     // A document is read, unless memory runs out.
     ensures every { (d : Document) → IsDocument (lines bytes.now) d → IsAnswerUnlessMemory result (Ok d) }
-    // The line that is named is the first at fault, with its code.
+    // The line that is returned is the first at fault, with its code.
     ensures fault { IfLine result (IsFault (lines bytes.now)) }
-    // A fault is named, unless memory runs out.
-    ensures first { (line : ℕ) (code : Code) → IsFault (lines bytes.now) line code → IsAnswerUnlessMemory result (Err (line, code)) }
+    // A fault is returned, unless memory runs out.
+    ensures first { (line : ℕ) (code : Code) → IsFault (lines bytes.now) line code
+        → IsAnswerUnlessMemory result (Err (line, code)) }
 {
     whole(alloc, bytes)
 }
 
-/// Reads a document at the front of the bytes, up to and with its line `end`: the document, the number of bytes and the
-/// number of lines that were read. Nothing is asked of the bytes after that line. There are at most [`om_signs::MAX_READ`] bytes.
+/// Reads a document at the front of the bytes, up to and including its line `end`. Returns the document, the number
+/// of bytes and the number of lines that were read. The bytes after that line may be anything. There are at most
+/// [`om_signs::MAX_READ`] bytes.
 ///
-/// The bytes that were read are the first lines with their line feeds (the line `end` may have none, at the end of the
-/// bytes). They are a document by themselves, in the forms of [`parse`], and the other bytes are the other lines.
+/// The bytes that were read are the first lines with their line feeds (the line `end` may have none, at the end of
+/// the bytes). They are a document by themselves, as in [`parse`], and the other bytes are the other lines.
 ///
 /// # Errors
 ///
-/// [`ParseError::Line`] exactly where [`parse`] names a line with a code other than [`Code::After`], with the same line and
-/// the same code. [`ParseError::Memory`] where memory ran out.
+/// [`ParseError::Line`] exactly if [`parse`] returns a line with a code other than [`Code::After`], with the same
+/// line and the same code. [`ParseError::Memory`] if memory ran out.
 pub fn parse_part(alloc: Global, bytes: &[u8]) -> Result<(Document, usize, u32), ParseError>
     requires { length bytes.now ≤ MAX_READ }
     // The lines read are a document with this value, and the last of them is its end line.
     ensures part { IfOk result (λ r. IsDocumentAtFront bytes.now r.0 r.1 r.2) }
     // It has the forms of documents, within the limits.
     ensures form { IfOk result (λ r. IsInForm r.0) }
-    // Where there is such a document it is read, unless memory runs out.
-    ensures every { (d : Document) (len count : ℕ) → IsDocumentAtFront bytes.now d len count → IsAnswerUnlessMemory result (Ok (d, len, count)) }
-    // The line that is named is the first at fault of all the bytes, with its code, and this isn't `after`.
+    // If there is such a document, it is read, unless memory runs out.
+    ensures every { (d : Document) (len count : ℕ) → IsDocumentAtFront bytes.now d len count
+        → IsAnswerUnlessMemory result (Ok (d, len, count)) }
+    // The line that is returned is the first at fault of all the bytes, with its code, and this isn't `after`.
     ensures fault { IfLine result (λ line code. IsFault (lines bytes.now) line code × (code ≢ Code.After)) }
-    // Another fault than `after` is named, unless memory runs out.
-    ensures first { (line : ℕ) (code : Code) → IsFault (lines bytes.now) line code → code ≢ Code.After → IsAnswerUnlessMemory result (Err (line, code)) }
+    // A fault other than `after` is returned, unless memory runs out.
+    ensures first { (line : ℕ) (code : Code) → IsFault (lines bytes.now) line code → code ≢ Code.After
+        → IsAnswerUnlessMemory result (Err (line, code)) }
 {
     course(alloc, bytes, true)
 }

@@ -3,7 +3,7 @@ ghost use Rattle.std.specs.Prelude.{◌≡◌};
 use super::code::Code;
 use om_signs::NoMemory;
 
-/// Why a line is not read.
+/// Why a line can't be read.
 #[derive(Clone, Copy)]
 pub enum Refusal {
     /// Memory ran out.

@@ -8,7 +8,7 @@ ghost use Rattle.om_text.specs.Settings.{values_from_revlex};
 use om_signs::{List, NoMemory, RawMap, Sign};
 use om_subsets::Subset;
 
-/// The values of a map in lexicographic order of the sets, where they stand in reverse lexicographic order.
+/// The values of a map in lexicographic order of the sets, from values in reverse lexicographic order.
 pub fn values_from_revlex(map: &RawMap) -> Result<List<Sign>, NoMemory>
     requires rank { map.now.rank ≤ map.now.elements }
     requires elements { map.now.elements ≤ MAX_ELEMENTS }

@@ -40,7 +40,7 @@ fn has_name(names: &[Name], word: &[u8]) -> bool
     names.iter().any(|name| same(name.as_bytes(), word))
 }
 
-/// The names that words are, where they are a name for each of so many elements, and no two of them equal.
+/// The names that words spell, if there is one for each of this many elements, and no two of them are equal.
 fn names_on(alloc: Global, elements: u8, words: &[u8]) -> Result<Option<List<Name>>, NoMemory>
     ensures { IfOk result (λ found. found ≡ cond (are_names elements (runs words.now)) (Some (runs words.now)) None) }
 {
@@ -89,7 +89,7 @@ fn half_of(line: &[u8]) -> Option<Setting>
     }
 }
 
-/// What a setting line other than `names` says of the lines of this kind of body.
+/// What a setting line other than `names` says about the lines of this kind of body.
 fn setting_of(body: &Body, line: &[u8]) -> Option<Setting>
     ensures { result ≡ setting_in body.now (runs line.now) }
 {
@@ -114,7 +114,7 @@ fn choice(draft: Draft, line: &[u8]) -> Result<State, Refusal>
     }
 }
 
-/// The names of a `names` line for so many elements.
+/// The names of a `names` line for this many elements.
 fn names_line(alloc: Global, elements: u8, line: &[u8]) -> Result<Option<List<Name>>, NoMemory>
     ensures { IfOk result (λ found. found
         ≡ cond (is_names_line elements (runs line.now)) (Some (other_words (runs line.now))) None) }
@@ -125,7 +125,7 @@ fn names_line(alloc: Global, elements: u8, line: &[u8]) -> Result<Option<List<Na
     }
 }
 
-/// A draft after the kind line with one more line.
+/// A draft after the kind line, with one more line.
 fn names_or_choice(alloc: Global, draft: Draft, line: &[u8]) -> Result<State, Refusal>
     ensures { IsStepUnlessMemory result (after_names draft (runs line.now)) }
 {
@@ -150,7 +150,7 @@ fn names_or_choice(alloc: Global, draft: Draft, line: &[u8]) -> Result<State, Re
     }
 }
 
-/// The state after a line that begins as a setting line does, where setting lines may come.
+/// The state after a line that begins as a setting line does, if setting lines are allowed.
 pub fn setting_line(alloc: Global, draft: Draft, line: &[u8]) -> Result<State, Refusal>
     ensures { IsStepUnlessMemory result (after_setting draft.stage draft (runs line.now)) }
 {

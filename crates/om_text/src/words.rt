@@ -2,7 +2,8 @@
 
 ghost use Rattle.std.specs.Prelude.{◌≡◌, ◌+◌, ◌-◌, ◌*◌, ◌^◌, ◌<◌, ◌≤◌, [], length, true, IfSome, unsigned_abs};
 ghost use Rattle.std.specs.List.{list_all};
-ghost use Rattle.om_text.specs.Words.{is_digit, is_decimal, is_plain, plain, number_from, up_to, unsigned, signed, is_sign, sign_of_byte, byte_of, begins_with};
+ghost use Rattle.om_text.specs.Words.{is_digit, is_decimal, is_plain, plain, number_from, up_to, unsigned, signed};
+ghost use Rattle.om_text.specs.Words.{is_sign, sign_of_byte, byte_of, begins_with};
 
 use om_signs::{MAX_PLAIN_DIGITS, Sign};
 
@@ -49,7 +50,7 @@ fn is_plain_word(word: &[u8]) -> bool
     is_decimal_word(word) && word.len() <= MAX_PLAIN_DIGITS
 }
 
-/// The plain number that a word is: 1 to 6 decimal digits without a leading zero, save `0` itself.
+/// The plain number that a word spells: 1 to 6 decimal digits without a leading zero, except `0` itself.
 pub fn plain_number(word: &[u8]) -> Option<u32>
     ensures { result ≡ plain word.now }
 {
@@ -88,8 +89,8 @@ fn decimal_number(word: &[u8], limit: u128) -> Option<u128>
     }
 }
 
-/// The number of at most `limit` that a word is: decimal digits, as many as there may be, without a leading zero, save `0`
-/// itself. None for every other word.
+/// The number of at most `limit` that a word spells: any number of decimal digits without a leading zero, except
+/// `0` itself. None for every other word.
 pub fn unsigned_number(word: &[u8], limit: u64) -> Option<u64>
     ensures value { result ≡ unsigned limit word.now }
     ensures within { IfSome result (λ n. n ≤ limit) }
@@ -98,8 +99,9 @@ pub fn unsigned_number(word: &[u8], limit: u64) -> Option<u64>
     Some(number as u64)
 }
 
-/// The number of a size of at most `limit` that a word is: decimal digits, as many as there may be, without a leading zero,
-/// with or without a `-` before them; `0` is written without a sign. None for every other word. `limit` is below 2^120.
+/// The number of absolute value at most `limit` that a word spells: any number of decimal digits without a leading
+/// zero, with or without a `-` before them. `0` is written without a sign. None for every other word. `limit` is
+/// below 2^120.
 pub fn signed_number(word: &[u8], limit: u128) -> Option<i128>
     requires { limit < 2 ^ 120 }
     ensures value { result ≡ signed limit word.now }
@@ -118,7 +120,7 @@ pub fn signed_number(word: &[u8], limit: u128) -> Option<i128>
     }
 }
 
-/// Whether a byte is that of a sign: `+`, `-` or `0`.
+/// Whether a byte is `+`, `-` or `0`, the bytes of signs.
 pub fn is_sign_byte(byte: u8) -> bool
     ensures { result ≡ is_sign byte }
 {

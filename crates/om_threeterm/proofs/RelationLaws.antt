@@ -1,8 +1,10 @@
--- Violated three-term relations: the value of a list with two elements behind it, a list's frame, and the first violated relation.
+-- Violated three-term relations: the value of a list with two elements behind it, a list's frame, and the first
+-- violated relation.
 --
--- Main results: value_same and value_turned; frame_of, the frame that a list of four elements makes; relations_of_none and first_of_least, what
--- the scan over all lists P finds; some_unbalanced, whether a list P has a violated relation.
-use Rattle.std.specs.Prelude.{ℕ, ◌≡◌, ◌+◌, ◌-◌, ◌%◌, ◌<◌, ◌≤◌, ◌↔◌, ◌⊎◌, List, [], ◌∷◌, ◌++◌, length, Bool, true, false, IsTrue, Option, Some, None, is_some, IfNone, IfSome}
+-- Main results: value_same and value_turned; frame_of, the frame that a list of four elements makes; relations_of_none
+-- and first_of_least, what the scan over all lists P finds; some_unbalanced, whether a list P has a violated relation.
+use Rattle.std.specs.Prelude.{ℕ, ◌≡◌, ◌+◌, ◌-◌, ◌%◌, ◌<◌, ◌≤◌, ◌↔◌, ◌⊎◌, List, [], ◌∷◌, ◌++◌, length, Bool, true, false}
+use Rattle.std.specs.Prelude.{IsTrue, Option, Some, None, is_some, IfNone, IfSome}
 use Rattle.std.specs.Bool.{beq}
 use Rattle.std.proofs.Common.{refl, sym, ◌∙◌, ap, arith, inl, inr, subst, ⊎_elim, append_assoc, zero-add, not}
 use Rattle.std.proofs.lemmas.Bool.{false≢true, cases_eq, cases_lt, eq-eqb, ne_eqb, lt-ltb, le-ltb}
@@ -11,7 +13,8 @@ use Rattle.om_signs.specs.declared.sign.Sign.{Sign}
 use Rattle.om_signs.specs.declared.sign.Sign.TheVariants.{Minus, Zero, Plus}
 use Rattle.om_signs.specs.Sign.{opposite}
 use Rattle.om_signs.specs.SignVec.{at_element}
-use Rattle.om_subsets.specs.Subsets.{AreApart, choose, subset_at, rank_of, IsSubsetFrom, IsMember, with_element, count_above}
+use Rattle.om_subsets.specs.Subsets.{AreApart, choose, subset_at, rank_of, IsSubsetFrom, IsMember, with_element}
+use Rattle.om_subsets.specs.Subsets.{count_above}
 use Rattle.om_subsets.specs.Members.{Chosen}
 use Rattle.om_subsets.proofs.Order.{listed}
 use Rattle.om_subsets.proofs.Statements.{members_with, subset_is_increasing}
@@ -44,7 +47,10 @@ twice Minus = refl
 twice Zero = refl
 twice Plus = refl
 
-module _ (m : SignMap) (p : List ℕ) (x y : ℕ) (list : IsSubsetFrom 1 m.elements p) (first : IsSubsetFrom 1 m.elements (with_element x p)) (both : IsSubsetFrom 1 m.elements (with_element y (with_element x p))) (x_off : IsMember x p → ⊥) (y_off : IsMember y p → ⊥) (order : x < y) (low : 1 ≤ y) (high : y ≤ m.elements) where
+module _ (m : SignMap) (p : List ℕ) (x y : ℕ) (list : IsSubsetFrom 1 m.elements p)
+    (first : IsSubsetFrom 1 m.elements (with_element x p))
+    (both : IsSubsetFrom 1 m.elements (with_element y (with_element x p))) (x_off : IsMember x p → ⊥)
+    (y_off : IsMember y p → ⊥) (order : x < y) (low : 1 ≤ y) (high : y ≤ m.elements) where
   fresh : IsMember y (with_element x p) → ⊥
   fresh k = go ((members_with x y p).0 k)
     where
@@ -76,10 +82,14 @@ module _ (m : SignMap) (p : List ℕ) (x y : ℕ) (list : IsSubsetFrom 1 m.eleme
       ∙ get_or-map opposite (cocircuit_vector m (with_element x p)) (y - 1) Zero Zero inside ∙ ap opposite row_half
 
   second_even : (count_above y p % 2 ≡ 1 → ⊥) → half ≡ whole
-  second_even n = sym (along_even 1 m.elements y (chi_of m) (with_element x p) first both fresh (subst (λ k. k % 2 ≡ 1 → ⊥) (sym (above_with x y p order)) n))
+  second_even n =
+      sym (along_even 1 m.elements y (chi_of m) (with_element x p) first both fresh
+      (subst (λ k. k % 2 ≡ 1 → ⊥) (sym (above_with x y p order)) n))
 
   second_odd : count_above y p % 2 ≡ 1 → half ≡ opposite whole
-  second_odd o = sym (along_odd 1 m.elements y (chi_of m) (with_element x p) first both fresh (subst (λ k. k % 2 ≡ 1) (sym (above_with x y p order)) o))
+  second_odd o =
+      sym (along_odd 1 m.elements y (chi_of m) (with_element x p) first both fresh
+      (subst (λ k. k % 2 ≡ 1) (sym (above_with x y p order)) o))
 
   -- both parities are the same, or not
   pub value_same : (count_above x p % 2 ≡ 1) ↔ (count_above y p % 2 ≡ 1) → whole ≡ value_of m (p ++ x ∷ y ∷ [])
@@ -88,7 +98,8 @@ module _ (m : SignMap) (p : List ℕ) (x y : ℕ) (list : IsSubsetFrom 1 m.eleme
     | inr n ↦ sym (first_even n ∙ second_even (λ o. n (same.1 o)))
   ]
 
-  pub value_turned : ((count_above x p % 2 ≡ 1) ↔ (count_above y p % 2 ≡ 1) → ⊥) → opposite whole ≡ value_of m (p ++ x ∷ y ∷ [])
+  pub value_turned : ((count_above x p % 2 ≡ 1) ↔ (count_above y p % 2 ≡ 1) → ⊥)
+      → opposite whole ≡ value_of m (p ++ x ∷ y ∷ [])
   value_turned differ = elim (cases_eq (count_above x p % 2) 1) [
     | inl o ↦ elim (cases_eq (count_above y p % 2) 1) [
       | inl q ↦ absurd (differ (λ k. q, λ k. o))
@@ -157,7 +168,8 @@ pub not_from : (r : Bool) → (IsTrue r → ⊥) → IsTrue (not r)
 not_from true n = absurd (n refl)
 not_from false n = refl
 
-pub frame_of : (m : SignMap) (p q : List ℕ) (a b c d : ℕ) → IsSubsetFrom 1 m.elements p → length p + 2 ≡ m.rank → IsSubsetFrom 1 m.elements q → q ≡ a ∷ b ∷ c ∷ d ∷ [] → AreApart p q → IsFrame m p a b c d
+pub frame_of : (m : SignMap) (p q : List ℕ) (a b c d : ℕ) → IsSubsetFrom 1 m.elements p → length p + 2 ≡ m.rank
+    → IsSubsetFrom 1 m.elements q → q ≡ a ∷ b ∷ c ∷ d ∷ [] → AreApart p q → IsFrame m p a b c d
 frame_of m p q a b c d list size four is apart = record {
   list = list;
   size = size;
@@ -191,7 +203,8 @@ in_order n q a b c d four is =
     }
 
 -- the relation of a list of four elements is that of its elements
-pub unbalanced_at : (m : SignMap) (p q : List ℕ) (a b c d : ℕ) → q ≡ a ∷ b ∷ c ∷ d ∷ [] → IsUnbalancedList m p q → HasRelation m p a b c d → ⊥
+pub unbalanced_at : (m : SignMap) (p q : List ℕ) (a b c d : ℕ) → q ≡ a ∷ b ∷ c ∷ d ∷ [] → IsUnbalancedList m p q
+    → HasRelation m p a b c d → ⊥
 unbalanced_at m p q a b c d is (a', b', c', d', is', u) h = u.violated (moved (sym is ∙ is'))
   where
     moved : a ∷ b ∷ c ∷ d ∷ [] ≡ a' ∷ b' ∷ c' ∷ d' ∷ [] → HasRelation m p a' b' c' d'
@@ -200,7 +213,9 @@ unbalanced_at m p q a b c d is (a', b', c', d', is', u) h = u.violated (moved (s
         let eb : b ≡ b' = cc in
         let ec : c ≡ c' = cc in
         let ed : d ≡ d' = cc in
-        subst (λ k. HasRelation m p k b' c' d') ea (subst (λ k. HasRelation m p a k c' d') eb (subst (λ k. HasRelation m p a b k d') ec (subst (λ k. HasRelation m p a b c k) ed h)))
+        subst (λ k. HasRelation m p k b' c' d') ea
+        (subst (λ k. HasRelation m p a k c' d') eb
+        (subst (λ k. HasRelation m p a b k d') ec (subst (λ k. HasRelation m p a b c k) ed h)))
 
 module _ (m : SignMap) where
   -- ---- all sets of four elements
@@ -208,19 +223,24 @@ module _ (m : SignMap) where
   pub of_four : (p q : List ℕ) → IsUnbalancedList m p q → IsSubsetFrom 1 m.elements q × (length q ≡ 4)
   of_four p q (a, b, c, d, is, u) = (subst (IsSubsetFrom 1 m.elements) (sym is) u.frame.four, ap length is)
 
-  pub none_of_p : (p : List ℕ) (k : ℕ) → choose m.elements 4 ≤ k → HasNoneBefore (IsUnbalancedList m p) m.elements 4 k → (q : List ℕ) → IsUnbalancedList m p q → ⊥
+  pub none_of_p : (p : List ℕ) (k : ℕ) → choose m.elements 4 ≤ k → HasNoneBefore (IsUnbalancedList m p) m.elements 4 k
+      → (q : List ℕ) → IsUnbalancedList m p q → ⊥
   none_of_p p k le none q u =
       let four = of_four p q u in
       none_at_all (IsUnbalancedList m p) m.elements 4 (λ j l. none j (omega arith)) q four.0 four.1 u
 
-  pub first_of_p : (p : List ℕ) (q : Chosen) (k : ℕ) → k < choose m.elements 4 → q.n ≡ m.elements → q.elements ≡ subset_at m.elements 4 k → IsUnbalancedList m p q.elements → HasNoneBefore (IsUnbalancedList m p) m.elements 4 k → IsFirstUnbalancedOf m p q
+  pub first_of_p : (p : List ℕ) (q : Chosen) (k : ℕ) → k < choose m.elements 4 → q.n ≡ m.elements
+      → q.elements ≡ subset_at m.elements 4 k → IsUnbalancedList m p q.elements
+      → HasNoneBefore (IsUnbalancedList m p) m.elements 4 k → IsFirstUnbalancedOf m p q
   first_of_p p q k l qn qe u none = record {
     q_n = qn;
     violated = u;
     earlier_q = λ t before v.
         let here = of_four p q.elements u in
         let there = of_four p t v in
-        none_earlier (IsUnbalancedList m p) m.elements 4 q.elements t (subst (HasNoneBefore (IsUnbalancedList m p) m.elements 4) (sym place) none) here.0 here.1 there.0 there.1 before v;
+        none_earlier (IsUnbalancedList m p) m.elements 4 q.elements t
+        (subst (HasNoneBefore (IsUnbalancedList m p) m.elements 4) (sym place) none) here.0 here.1 there.0 there.1
+        before v;
   }
     where
       place : rank_of m.elements q.elements ≡ k
@@ -235,18 +255,27 @@ module _ (m : SignMap) where
   list_of : (p q : List ℕ) → 2 ≤ m.rank → IsUnbalancedList m p q → IsSubsetFrom 1 m.elements p × (length p ≡ m.rank - 2)
   list_of p q low (a, b, c, d, is, u) = let size = u.frame.size in (u.frame.list, omega arith)
 
-  none_below : (k : ℕ) → IsNoneBad (IsUnbalancedAt m) 0 k → k ≤ choose m.elements (m.rank - 2) → HasNoneBefore IsBad m.elements (m.rank - 2) k
+  none_below : (k : ℕ) → IsNoneBad (IsUnbalancedAt m) 0 k → k ≤ choose m.elements (m.rank - 2)
+      → HasNoneBefore IsBad m.elements (m.rank - 2) k
   none_below k none le j l bad = none j (omega arith) l (omega arith, bad)
 
   relations_of_no_violated : ((p q : List ℕ) → IsUnbalancedList m p q → ⊥) → HasThreeTermRelations m
-  relations_of_no_violated none p a b c d frame = ⊎_elim (λ h. h) (λ n. absurd (none p (a ∷ b ∷ c ∷ d ∷ []) (a, b, c, d, refl, record { frame = frame; violated = n }))) (balanced_or_not _ _ _)
+  relations_of_no_violated none p a b c d frame =
+      ⊎_elim (λ h. h)
+      (λ n. absurd (none p (a ∷ b ∷ c ∷ d ∷ []) (a, b, c, d, refl, record { frame = frame; violated = n })))
+      (balanced_or_not _ _ _)
 
-  pub relations_of_none : (count : ℕ) → 2 ≤ m.rank → count ≡ choose m.elements (m.rank - 2) → IsNoneBad (IsUnbalancedAt m) 0 count → HasThreeTermRelations m
+  pub relations_of_none : (count : ℕ) → 2 ≤ m.rank → count ≡ choose m.elements (m.rank - 2)
+      → IsNoneBad (IsUnbalancedAt m) 0 count → HasThreeTermRelations m
   relations_of_none count low is none = relations_of_no_violated (λ p q u.
       let list = list_of p q low u in
-      none_at_all IsBad m.elements (m.rank - 2) (subst (HasNoneBefore IsBad m.elements (m.rank - 2)) is (none_below count none (omega arith))) p list.0 list.1 (q, u))
+      none_at_all IsBad m.elements (m.rank - 2)
+      (subst (HasNoneBefore IsBad m.elements (m.rank - 2)) is (none_below count none (omega arith))) p list.0 list.1
+      (q, u))
 
-  pub first_of_least : (count k : ℕ) (p q : Chosen) → 2 ≤ m.rank → count ≡ choose m.elements (m.rank - 2) → IsLeastBad (IsUnbalancedAt m) 0 count k → p.n ≡ m.elements → p.elements ≡ subset_at m.elements (m.rank - 2) k → IsFirstUnbalancedOf m p.elements q → IsFirstUnbalanced m p q
+  pub first_of_least : (count k : ℕ) (p q : Chosen) → 2 ≤ m.rank → count ≡ choose m.elements (m.rank - 2)
+      → IsLeastBad (IsUnbalancedAt m) 0 count k → p.n ≡ m.elements → p.elements ≡ subset_at m.elements (m.rank - 2) k
+      → IsFirstUnbalancedOf m p.elements q → IsFirstUnbalanced m p q
   first_of_least count k p q low is least pn pe first = record {
     p_n = pn;
     first = first;
@@ -263,10 +292,13 @@ module _ (m : SignMap) where
       place = ap (rank_of m.elements) pe ∙ (listed 1 m.elements (m.rank - 2) k below).place
 
       before_p : HasNoneBefore IsBad m.elements (m.rank - 2) (rank_of m.elements p.elements)
-      before_p = subst (HasNoneBefore IsBad m.elements (m.rank - 2)) (sym place) (none_below k least.earlier (omega (arith, below)))
+      before_p = subst (HasNoneBefore IsBad m.elements (m.rank - 2)) (sym place)
+          (none_below k least.earlier (omega (arith, below)))
 
   -- whether some relation of the list P at place k is violated, by the first one
-  pub some_unbalanced : (k : ℕ) (p : List ℕ) (r : Option Chosen) → k < choose m.elements (m.rank - 2) → p ≡ subset_at m.elements (m.rank - 2) k → IfNone r ((q : List ℕ) → IsUnbalancedList m p q → ⊥) → IfSome r (λ q. IsFirstUnbalancedOf m p q)
+  pub some_unbalanced : (k : ℕ) (p : List ℕ) (r : Option Chosen) → k < choose m.elements (m.rank - 2)
+      → p ≡ subset_at m.elements (m.rank - 2) k → IfNone r ((q : List ℕ) → IsUnbalancedList m p q → ⊥)
+      → IfSome r (λ q. IsFirstUnbalancedOf m p q)
       → IsTrue (is_some r) ↔ IsUnbalancedAt m k
   some_unbalanced k p None few is none first = (
     λ t. absurd (false≢true t),

@@ -1,11 +1,14 @@
 -- The table of all sets of one size, which of them are bases, and the least element of a set.
 --
--- Main results: set_at, table_more, table_done and of_part for the table; basis_of_sign; split, what taking out the least element gives.
-use Rattle.std.specs.Prelude.{ℕ, ◌≡◌, ◌+◌, ◌-◌, ◌<◌, ◌≤◌, ◌^◌, ◌↔◌, ◌⊎◌, List, [], ◌∷◌, length, take, slice_get, Some, bit_and}
+-- Main results: set_at, table_more, table_done and of_part for the table; basis_of_sign; split, what taking out the
+-- least element gives.
+use Rattle.std.specs.Prelude.{ℕ, ◌≡◌, ◌+◌, ◌-◌, ◌<◌, ◌≤◌, ◌^◌, ◌↔◌, ◌⊎◌, List, [], ◌∷◌, length, take, slice_get, Some}
+use Rattle.std.specs.Prelude.{bit_and}
 use Rattle.std.specs.Int.{trailing_zeros}
 use Rattle.std.proofs.Common.{refl, sym, ◌∙◌, ap, arith, inl, inr, subst, get_or, set, w32, zero, suc}
 use Rattle.std.proofs.lemmas.Bool.{cases_eq}
-use Rattle.std.proofs.lemmas.List.{ext_get_or, length-map, get_or-map, get_or-set_same, get_or-set_other, get_or-take, length-take-le, take_all}
+use Rattle.std.proofs.lemmas.List.{ext_get_or, length-map, get_or-map, get_or-set_same, get_or-set_other, get_or-take}
+use Rattle.std.proofs.lemmas.List.{length-take-le, take_all}
 use Rattle.std.proofs.lemmas.Option.{get_or_from_slice_get}
 use Rattle.om_signs.specs.declared.limits.TheConstants.{MAX_PLACES}
 use Rattle.om_signs.specs.declared.sign.Sign.{Sign}
@@ -44,9 +47,11 @@ set_at n r k l =
 abbrev pub IsFilledBelow : ℕ → ℕ → List Chosen → ℕ → Type 0
 IsFilledBelow n r table k = (j : ℕ) → j < k → get_or table j nothing ≡ chosen n (subset_at n r j)
 
-pub table_more : (n r : ℕ) (table : List Chosen) (k : ℕ) (s : Chosen) → k < length table → s.n ≡ n → s.elements ≡ subset_at n r k → IsFilledBelow n r table k → IsFilledBelow n r (set table k s) (k + 1)
+pub table_more : (n r : ℕ) (table : List Chosen) (k : ℕ) (s : Chosen) → k < length table → s.n ≡ n
+    → s.elements ≡ subset_at n r k → IsFilledBelow n r table k → IsFilledBelow n r (set table k s) (k + 1)
 table_more n r table k s lt sn se h j l = elim (cases_eq j k) [
-  | inl q ↦ ap (λ i. get_or (set table k s) i nothing) q ∙ get_or-set_same table k s nothing lt ∙ both s n (subset_at n r k) sn se ∙ ap (λ i. chosen n (subset_at n r i)) (sym q)
+  | inl q ↦ ap (λ i. get_or (set table k s) i nothing) q ∙ get_or-set_same table k s nothing lt
+      ∙ both s n (subset_at n r k) sn se ∙ ap (λ i. chosen n (subset_at n r i)) (sym q)
   | inr ne ↦ get_or-set_other table k j s nothing ne ∙ h j (omega arith)
 ]
   where
@@ -54,15 +59,20 @@ table_more n r table k s lt sn se h j l = elim (cases_eq j k) [
     both s n xs p q = ap (λ i. chosen i s.elements) p ∙ ap (chosen n) q
 
 -- the first sets, as many as the table has
-pub table_done : (n r : ℕ) (table : List Chosen) (count k : ℕ) → length table ≡ count → count ≤ choose n r → count ≤ k → IsFilledBelow n r table k → table ≡ take count (all_chosen n r)
+pub table_done : (n r : ℕ) (table : List Chosen) (count k : ℕ) → length table ≡ count → count ≤ choose n r → count ≤ k
+    → IsFilledBelow n r table k → table ≡ take count (all_chosen n r)
 table_done n r table count k l room done h =
     let size : count ≤ length (all_chosen n r) = let e = length-all n r in omega (arith, e, room) in
-    ext_get_or nothing table (take count (all_chosen n r)) (l ∙ sym (length-take-le count (all_chosen n r) size)) (λ j lt.
+    ext_get_or nothing table (take count (all_chosen n r)) (l ∙ sym (length-take-le count (all_chosen n r) size))
+    (λ j lt.
     let below : j < count = omega (arith, lt, l) in
-    h j (omega (arith, below, done)) ∙ sym (set_at n r j (omega (arith, below, room))) ∙ sym (get_or-take count (all_chosen n r) j nothing below))
+    h j (omega (arith, below, done)) ∙ sym (set_at n r j (omega (arith, below, room)))
+    ∙ sym (get_or-take count (all_chosen n r) j nothing below))
 
-pub table_empty : (n r : ℕ) (table : List Chosen) → length table ≤ choose n r → n < r → table ≡ take (length table) (all_chosen n r)
-table_empty n r table l above = let none = choose_above n r above in table_done n r table (length table) 0 refl l (omega arith) (λ j lt. absurd (omega arith))
+pub table_empty : (n r : ℕ) (table : List Chosen) → length table ≤ choose n r → n < r
+    → table ≡ take (length table) (all_chosen n r)
+table_empty n r table l above = let none = choose_above n r above in
+    table_done n r table (length table) 0 refl l (omega arith) (λ j lt. absurd (omega arith))
 
 -- there are at most 5,985 sets of four
 pub few_fours : (n : ℕ) → n ≤ MAX_PLACES → choose n 4 ≤ 5985
@@ -77,33 +87,40 @@ few_fours n l = up_to (MAX_PLACES - n) n (omega arith)
     up_to (suc d) n q = let more : choose n 3 + choose n 4 ≤ 5985 = up_to d (suc n) (omega arith) in omega (arith, more)
 
 -- a whole table
-pub whole_table : (n r count : ℕ) (table : List Chosen) → count ≡ choose n r → table ≡ take count (all_chosen n r) → table ≡ all_chosen n r
-whole_table n r count table whole is = is ∙ take_all count (all_chosen n r) (let e = length-all n r in omega (arith, e, whole))
+pub whole_table : (n r count : ℕ) (table : List Chosen) → count ≡ choose n r → table ≡ take count (all_chosen n r)
+    → table ≡ all_chosen n r
+whole_table n r count table whole is = is
+    ∙ take_all count (all_chosen n r) (let e = length-all n r in omega (arith, e, whole))
 
 -- a set of the table
 pub record IsSetAt (n r k : ℕ) (s : Chosen) : Type 0 where
   pub n_is : s.n ≡ n
   pub elements_are : s.elements ≡ subset_at n r k
 
-pub of_table : (n r k : ℕ) (table : List Chosen) (s : Chosen) → table ≡ all_chosen n r → k < choose n r → s ≡ get_or table k nothing → IsSetAt n r k s
+pub of_table : (n r k : ℕ) (table : List Chosen) (s : Chosen) → table ≡ all_chosen n r → k < choose n r
+    → s ≡ get_or table k nothing → IsSetAt n r k s
 of_table n r k table s filled l is =
     let e = is ∙ ap (λ t. get_or t k nothing) filled ∙ set_at n r k l in
     record { n_is = ap (λ v. v.n) e; elements_are = ap (λ v. v.elements) e }
 
 -- a set of a table of the first ones
-pub of_part : (n r k : ℕ) (table : List Chosen) (s : Chosen) → table ≡ take (length table) (all_chosen n r) → k < length table → k < choose n r → s ≡ get_or table k nothing → IsSetAt n r k s
+pub of_part : (n r k : ℕ) (table : List Chosen) (s : Chosen) → table ≡ take (length table) (all_chosen n r)
+    → k < length table → k < choose n r → s ≡ get_or table k nothing → IsSetAt n r k s
 of_part n r k table s filled inside l is =
-    of_table n r k (all_chosen n r) s refl l (is ∙ ap (λ t. get_or t k nothing) filled ∙ get_or-take (length table) (all_chosen n r) k nothing inside)
+    of_table n r k (all_chosen n r) s refl l
+    (is ∙ ap (λ t. get_or t k nothing) filled ∙ get_or-take (length table) (all_chosen n r) k nothing inside)
 
 -- ---- bases
 
-pub sign_is_value : (m : SignMap) (s : List ℕ) (k : ℕ) (sign : Sign) → IsSubsetFrom 1 m.elements s → rank_of m.elements s ≡ k → slice_get m.signs k ≡ Some sign → sign ≡ value_of m s
+pub sign_is_value : (m : SignMap) (s : List ℕ) (k : ℕ) (sign : Sign) → IsSubsetFrom 1 m.elements s
+    → rank_of m.elements s ≡ k → slice_get m.signs k ≡ Some sign → sign ≡ value_of m s
 sign_is_value m s k sign list place at =
     sym (get_or_from_slice_get m.signs k sign Zero at)
     ∙ ap (λ j. get_or m.signs j Zero) (sym place)
     ∙ sym (value_in_order 1 m.elements (chi_of m) s list)
 
-pub basis_of_sign : (m : SignMap) (s : List ℕ) (k : ℕ) (sign : Sign) → IsSubsetFrom 1 m.elements s → length s ≡ m.rank → rank_of m.elements s ≡ k → slice_get m.signs k ≡ Some sign → (sign ≡ Zero → ⊥) ↔ IsBasis m s
+pub basis_of_sign : (m : SignMap) (s : List ℕ) (k : ℕ) (sign : Sign) → IsSubsetFrom 1 m.elements s → length s ≡ m.rank
+    → rank_of m.elements s ≡ k → slice_get m.signs k ≡ Some sign → (sign ≡ Zero → ⊥) ↔ IsBasis m s
 basis_of_sign m s k sign list size place at =
     let e = sign_is_value m s k sign list place at in
     (λ n. record { list = list; size = size; nonzero = λ z. n (e ∙ z) }, λ basis z. basis.nonzero (sym e ∙ z))
@@ -117,7 +134,8 @@ pub record IsSplit (s : Chosen) (mask : ℕ) : Type 0 where
   pub within : bit_and mask (mask - 1) < 2 ^ s.n
   pub elements_are : s.elements ≡ (trailing_zeros w32 mask + 1) ∷ members (bit_and mask (mask - 1)) 1 s.n
 
-pub split : (s : Chosen) (mask : ℕ) → 1 ≤ length s.elements → IsSubsetFrom 1 s.n s.elements → s.n ≤ MAX_PLACES → mask ≡ mask_of 1 s.elements s.n → IsSplit s mask
+pub split : (s : Chosen) (mask : ℕ) → 1 ≤ length s.elements → IsSubsetFrom 1 s.n s.elements → s.n ≤ MAX_PLACES
+    → mask ≡ mask_of 1 s.elements s.n → IsSplit s mask
 split s mask many list few is =
     let within : mask < 2 ^ s.n = subst (λ k. k < 2 ^ s.n) (sym is) (mask_of-lt 1 s.n s.elements) in
     let back : members mask 1 s.n ≡ s.elements = ap (λ k. members k 1 s.n) is ∙ members-mask_of 1 s.n s.elements list in
@@ -129,7 +147,8 @@ split s mask many list few is =
       some = some;
       small = omega arith;
       within = t.within;
-      elements_are = sym back ∙ lowest mask s.n some within (bits_fit s.n few) ∙ ap (λ k. k ∷ members (bit_and mask (mask - 1)) 1 s.n) flip;
+      elements_are = sym back ∙ lowest mask s.n some within (bits_fit s.n few)
+          ∙ ap (λ k. k ∷ members (bit_and mask (mask - 1)) 1 s.n) flip;
     }
   where
     nonzero : (mask ≡ 0) ⊎ (mask ≡ 0 → ⊥) → members mask 1 s.n ≡ s.elements → 1 ≤ mask

@@ -10,14 +10,16 @@ use Rattle.om_threeterm.specs.Violations.{IsUnexchanged, IsUnbalancedList}
 abbrev pub all_chosen : ℕ → ℕ → List Chosen
 all_chosen n r = map (λ xs. record { n = n; elements = xs }) (all_subsets n r)
 
--- f is e, or is not in B and makes a basis of B without e
+-- f is e, or f isn't in B and exchanging e for f in B gives a basis
 abbrev pub IsInPlace : SignMap → List ℕ → ℕ → ℕ → Type 0
 IsInPlace m b e f = (f ≡ e) ⊎ ((IsMember f b → ⊥) × IsBasis m (with_element f (without_element e b)))
 
 -- some exchange of the set at place k is violated
 abbrev pub IsUnexchangedAt : SignMap → ℕ → Type 0
-IsUnexchangedAt m k = (k < choose m.elements m.rank) × ((c : List ℕ) × (e : ℕ) × IsUnexchanged m (subset_at m.elements m.rank k) c e)
+IsUnexchangedAt m k = (k < choose m.elements m.rank)
+    × ((c : List ℕ) × (e : ℕ) × IsUnexchanged m (subset_at m.elements m.rank k) c e)
 
 -- some relation of the list P at place k is violated
 abbrev pub IsUnbalancedAt : SignMap → ℕ → Type 0
-IsUnbalancedAt m k = (k < choose m.elements (m.rank - 2)) × ((q : List ℕ) × IsUnbalancedList m (subset_at m.elements (m.rank - 2) k) q)
+IsUnbalancedAt m k = (k < choose m.elements (m.rank - 2))
+    × ((q : List ℕ) × IsUnbalancedList m (subset_at m.elements (m.rank - 2) k) q)

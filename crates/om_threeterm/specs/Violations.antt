@@ -1,4 +1,4 @@
--- What fails in a map that doesn't meet the three-term test, and what fails first.
+-- What fails in a map that doesn't pass the three-term test, and what fails first.
 --
 -- Reference: Björner, Las Vergnas, Sturmfels, White and Ziegler, Oriented Matroids, chapter 3.
 use Rattle.std.specs.Prelude.{ℕ, ◌≡◌, ◌<◌, List, [], ◌∷◌, ◌++◌}
@@ -10,11 +10,11 @@ use Rattle.om_laws.specs.ThreeTerm.{AreBalanced}
 use Rattle.om_chirotope.specs.Map.{SignMap, value_of}
 use Rattle.om_chirotope.specs.ThreeTerm.{IsBasis, IsFrame}
 
--- e changes places with some element f of C that is not in B
+-- e can be exchanged for some element f of C that isn't in B
 abbrev pub IsExchanged : SignMap → List ℕ → List ℕ → ℕ → Type 0
 IsExchanged m b c e = (f : ℕ) × IsMember f c × (IsMember f b → ⊥) × IsBasis m (with_element f (without_element e b))
 
--- a violated exchange: an element e of a basis B that is not in a basis C, and changes places with no element of C
+-- a violated exchange: an element e of a basis B that isn't in a basis C and can be exchanged for no element of C
 pub record IsUnexchanged (m : SignMap) (b c : List ℕ) (e : ℕ) : Type 0 where
   pub first : IsBasis m b
   pub second : IsBasis m c
@@ -35,20 +35,21 @@ pub record IsFirstUnexchanged (m : SignMap) (b c : Chosen) (e : ℕ) : Type 0 wh
   pub first : IsFirstUnexchangedOf m b.elements c e
   pub earlier_b : (t d : List ℕ) (x : ℕ) → IsBefore t b.elements → IsUnexchanged m t d x → ⊥
 
--- the three-term relation of P with a, b, c and d: the value of P with ab times that with cd, the value with ac times that with bd, negated,
--- and the value with ad times that with bc are all zero, or include a plus and a minus
+-- The three-term relation of P with a, b, c and d. Take values of P with two of these. Three products of them are
+-- all zero, or include a plus and a minus: ab times cd, the negative of ac times bd, and ad times bc.
 abbrev pub HasRelation : SignMap → List ℕ → ℕ → ℕ → ℕ → ℕ → Type 0
 HasRelation m p a b c d = AreBalanced
     (product (value_of m (p ++ a ∷ b ∷ [])) (value_of m (p ++ c ∷ d ∷ [])))
     (opposite (product (value_of m (p ++ a ∷ c ∷ [])) (value_of m (p ++ b ∷ d ∷ []))))
     (product (value_of m (p ++ a ∷ d ∷ [])) (value_of m (p ++ b ∷ c ∷ [])))
 
--- a violated relation: that of an increasing list P of two elements less than the rank, and of four increasing elements off it
+-- a violated relation: of an increasing list P of two elements less than the rank, and of four increasing elements
+-- off P
 pub record IsUnbalanced (m : SignMap) (p : List ℕ) (a b c d : ℕ) : Type 0 where
   pub frame : IsFrame m p a b c d
   pub violated : HasRelation m p a b c d → ⊥
 
--- the same, of a list Q of four elements
+-- a violated relation, with the four elements as a list Q
 abbrev pub IsUnbalancedList : SignMap → List ℕ → List ℕ → Type 0
 IsUnbalancedList m p q = (a b c d : ℕ) × (q ≡ a ∷ b ∷ c ∷ d ∷ []) × IsUnbalanced m p a b c d
 

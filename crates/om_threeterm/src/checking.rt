@@ -1,4 +1,4 @@
-//! The three-term test as a test of maps.
+//! The three-term test as a test for chirotopes.
 
 ghost use Rattle.std.specs.Prelude.{ℕ, ◌≡◌, ◌≤◌, ◌↔◌, length, IsTrue, IsOk, IfOk, IfErr, IfNone, IfSome};
 ghost use Rattle.om_subsets.specs.Subsets.{choose};
@@ -16,15 +16,15 @@ use om_chirotope::Chirotope;
 use om_signs::{MAX_ELEMENTS, RawMap, Sign};
 use std::thread::Threads;
 
-/// The chirotope with this map, where it meets the three-term test, which is where it meets the axioms; else the map back,
-/// with the first part of the test that fails: [`AllZero`](ThreeRefused::AllZero) exactly where all values are 0, then
-/// [`NoExchange`](ThreeRefused::NoExchange) with the first violated exchange, and [`ThreeTerm`](ThreeRefused::ThreeTerm) with
-/// the first violated relation, where bases have exchange.
+/// The chirotope with this map, if it passes the three-term test, which is equivalent to the axioms. Otherwise the
+/// map is returned with the first part of the test that fails. [`AllZero`](ThreeRefused::AllZero) comes exactly if
+/// all values are 0. Then comes [`NoExchange`](ThreeRefused::NoExchange) with the first violated exchange. Last
+/// comes [`ThreeTerm`](ThreeRefused::ThreeTerm) with the first violated relation, if bases have exchange.
 ///
-/// The elements are from 1 to [`MAX_ELEMENTS`], the rank is at most their number, and there is one sign for each increasing
-/// list of that many elements. It takes no memory, and needs up to 350 KB of stack. Whether bases have exchange, and whether the
-/// relations hold, is found by quick tests on the calling thread; the first exchange or relation that is violated is then
-/// looked for, on several threads where that takes long.
+/// There are from 1 to [`MAX_ELEMENTS`] elements, the rank is at most their number, and each increasing list of as
+/// many elements as the rank has a sign. The call allocates no memory, and needs up to 350 KB of stack. Whether
+/// bases have exchange, and whether the relations hold, is found by fast tests on the calling thread. The first
+/// violated exchange or relation is then searched for, on several threads if that takes long.
 ///
 /// Source: Björner, Las Vergnas, Sturmfels, White and Ziegler, *Oriented Matroids*, chapter 3.
 pub fn check<R: Threads + Sync>(rt: &R, raw: RawMap) -> Result<Chirotope, BadThree>
@@ -37,8 +37,10 @@ pub fn check<R: Threads + Sync>(rt: &R, raw: RawMap) -> Result<Chirotope, BadThr
     ensures value { IfOk result (λ c. c ≡ map_of raw) }
     ensures kept { IfErr result (λ bad. bad.raw ≡ raw) }
     ensures all_zero { IfErr result (λ bad. (bad.why ≡ ThreeRefused.AllZero) ↔ IsAllZero raw.signs) }
-    ensures exchange { IfErr result (λ bad. (b c : Chosen) (e : ℕ) → bad.why ≡ ThreeRefused.NoExchange b c e → IsFirstUnexchanged (map_of raw) b c e) }
-    ensures relation { IfErr result (λ bad. (p q : Chosen) → bad.why ≡ ThreeRefused.ThreeTerm p q → HasExchange (map_of raw) × IsFirstUnbalanced (map_of raw) p q) }
+    ensures exchange { IfErr result (λ bad. (b c : Chosen) (e : ℕ) → bad.why ≡ ThreeRefused.NoExchange b c e
+        → IsFirstUnexchanged (map_of raw) b c e) }
+    ensures relation { IfErr result (λ bad. (p q : Chosen) → bad.why ≡ ThreeRefused.ThreeTerm p q → HasExchange (map_of raw)
+        × IsFirstUnbalanced (map_of raw) p q) }
 {
     match first_failure(rt, &raw) {
         None => Ok(Chirotope::lawful(raw)),
@@ -46,7 +48,7 @@ pub fn check<R: Threads + Sync>(rt: &R, raw: RawMap) -> Result<Chirotope, BadThr
     }
 }
 
-/// The first part of the three-term test that fails, or None where the map meets it.
+/// The first part of the three-term test that fails, or None if the map meets it.
 fn first_failure<R: Threads + Sync>(rt: &R, raw: &RawMap) -> Option<ThreeRefused>
     requires low { 1 ≤ raw.now.elements }
     requires high { raw.now.elements ≤ MAX_ELEMENTS }
@@ -55,8 +57,10 @@ fn first_failure<R: Threads + Sync>(rt: &R, raw: &RawMap) -> Option<ThreeRefused
     ensures none { IfNone result (MeetsThreeTermTest (map_of raw.now)) }
     ensures some { IfSome result (λ why. MeetsThreeTermTest (map_of raw.now) → ⊥) }
     ensures all_zero { IfSome result (λ why. (why ≡ ThreeRefused.AllZero) ↔ IsAllZero raw.now.signs) }
-    ensures exchange { IfSome result (λ why. (b c : Chosen) (e : ℕ) → why ≡ ThreeRefused.NoExchange b c e → IsFirstUnexchanged (map_of raw.now) b c e) }
-    ensures relation { IfSome result (λ why. (p q : Chosen) → why ≡ ThreeRefused.ThreeTerm p q → HasExchange (map_of raw.now) × IsFirstUnbalanced (map_of raw.now) p q) }
+    ensures exchange { IfSome result (λ why. (b c : Chosen) (e : ℕ) → why ≡ ThreeRefused.NoExchange b c e
+        → IsFirstUnexchanged (map_of raw.now) b c e) }
+    ensures relation { IfSome result (λ why. (p q : Chosen) → why ≡ ThreeRefused.ThreeTerm p q → HasExchange (map_of raw.now)
+        × IsFirstUnbalanced (map_of raw.now) p q) }
 {
     if is_all_zero(raw.signs.as_slice()) {
         return Some(ThreeRefused::AllZero);

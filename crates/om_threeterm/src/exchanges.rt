@@ -1,4 +1,4 @@
-//! The scan for exchanges of bases that are violated.
+//! The scan for violated exchanges of bases.
 
 ghost use Rattle.std.specs.Prelude.{ℕ, List, ◌≡◌, ◌+◌, ◌<◌, ◌≤◌, ◌↔◌, length, take, IsTrue, IsNone, IfNone, IfSome};
 ghost use Rattle.om_signs.specs.declared.limits.TheConstants.{MAX_PLACES};
@@ -15,8 +15,8 @@ use om_signs::{MAX_PLACES, RawMap};
 use om_subsets::Subset;
 use std::thread::Threads;
 
-/// The first violated exchange: the bases b and c, and the element e of b that changes places with no element of c; or
-/// None where bases have exchange. It takes no memory.
+/// The first violated exchange: the bases b and c, and the element e of b that can be exchanged for no element of
+/// c. None if bases have exchange. The call allocates no memory.
 pub fn first_unexchanged<R: Threads + Sync>(rt: &R, raw: &RawMap) -> Option<(Subset, Subset, u8)>
     requires low { 1 ≤ raw.now.elements }
     requires high { raw.now.elements ≤ MAX_PLACES }
@@ -31,8 +31,8 @@ pub fn first_unexchanged<R: Threads + Sync>(rt: &R, raw: &RawMap) -> Option<(Sub
     first_unexchanged_by_scan(rt, raw)
 }
 
-/// Whether bases have exchange, by the quick test. It is no part of its caller, so that its table isn't on the stack while the
-/// scan runs.
+/// Whether bases have exchange, by the fast test. It is never inlined, so that its table isn't on the stack while
+/// the scan runs.
 #[inline(never)]
 fn has_exchange_apart(raw: &RawMap) -> bool
     requires low { 1 ≤ raw.now.elements }
@@ -44,8 +44,8 @@ fn has_exchange_apart(raw: &RawMap) -> bool
     has_exchange(raw)
 }
 
-/// The same, by a scan of all bases. Their table holds the first [`ROOM`] sets, which are all sets where the map has no more
-/// values than a chirotope that is read.
+/// The first violated exchange, by a scan of all bases. Their table holds the first [`ROOM`] sets. These are all
+/// sets, if the map has no more values than a map of a document.
 #[inline(never)]
 fn first_unexchanged_by_scan<R: Threads + Sync>(
     rt: &R,
@@ -65,11 +65,11 @@ fn first_unexchanged_by_scan<R: Threads + Sync>(
     first_unexchanged_among(rt, raw, sets)
 }
 
-/// How long it takes to hold a set against the elements of a basis, in nanoseconds.
+/// The time that it takes to compare a set with the elements of a basis, in nanoseconds.
 const SET: u64 = 10;
 
-/// A map, and the sets of as many elements as its rank. The number of a set is its place; it is bad where an exchange of
-/// this set is violated.
+/// A map, and the sets of as many elements as its rank. The number of a set is its place. It is bad if some
+/// exchange of this set is violated.
 #[derive(Drop)]
 struct Bases<'a> {
     raw: &'a RawMap,
@@ -92,7 +92,7 @@ impl Probe for Bases<'_> {
     }
 }
 
-/// Whether some exchange of the set at place k is violated. Past the last place there is none.
+/// Whether some exchange of the set at place k is violated. Beyond the last place there is none.
 fn is_unexchanged_at(raw: &RawMap, sets: &[Subset], k: u64) -> bool
     requires low { 1 ≤ raw.now.elements }
     requires high { raw.now.elements ≤ MAX_PLACES }
@@ -107,7 +107,7 @@ fn is_unexchanged_at(raw: &RawMap, sets: &[Subset], k: u64) -> bool
     first_unexchanged_of(raw, sets, set_at(raw, sets, k as usize)).is_some()
 }
 
-/// The first violated exchange, from the sets of as many elements as the rank.
+/// The first violated exchange, found with the sets of as many elements as the rank.
 fn first_unexchanged_among<R: Threads + Sync>(
     rt: &R,
     raw: &RawMap,
@@ -133,8 +133,8 @@ fn first_unexchanged_among<R: Threads + Sync>(
     }
 }
 
-/// The first violated exchange of a set: the basis c and the element e of the set that changes places with no element of c;
-/// or None where the set is no basis, or is one and has exchange with all bases.
+/// The first violated exchange of a set: the basis c, and the element e of the set that can be exchanged for no
+/// element of c. None if the set is no basis, or has exchange with all bases.
 fn first_unexchanged_of(raw: &RawMap, sets: &[Subset], b: Subset) -> Option<(Subset, u8)>
     requires low { 1 ≤ raw.now.elements }
     requires high { raw.now.elements ≤ MAX_PLACES }
@@ -163,8 +163,8 @@ fn first_unexchanged_of(raw: &RawMap, sets: &[Subset], b: Subset) -> Option<(Sub
     }
 }
 
-/// The first place below a limit of a basis with which the exchange of the basis b and its element e is violated. Where e is
-/// no element of b, there is none.
+/// The first place, below a limit, of a basis with which the exchange of the element e of the basis b is violated.
+/// None if there is no such basis, or e is no element of b.
 fn first_unexchanged_by(
     raw: &RawMap,
     sets: &[Subset],
@@ -182,10 +182,14 @@ fn first_unexchanged_by(
     requires e_low { 1 ≤ e }
     requires e_high { e ≤ raw.now.elements }
     requires limit { limit ≤ choose raw.now.elements raw.now.rank }
-    ensures none { IfNone result ((j : ℕ) → j < limit → IsUnexchanged (map_of raw.now) b.elements (subset_at raw.now.elements raw.now.rank j) e → ⊥) }
+    ensures none { IfNone result
+        ((j : ℕ) → j < limit → IsUnexchanged (map_of raw.now) b.elements (subset_at raw.now.elements raw.now.rank j) e
+        → ⊥) }
     ensures within { IfSome result (λ k. k < limit) }
     ensures here { IfSome result (λ k. IsUnexchanged (map_of raw.now) b.elements (subset_at raw.now.elements raw.now.rank k) e) }
-    ensures earlier { IfSome result (λ k. (j : ℕ) → j < k → IsUnexchanged (map_of raw.now) b.elements (subset_at raw.now.elements raw.now.rank j) e → ⊥) }
+    ensures earlier { IfSome result
+        (λ k. (j : ℕ) → j < k → IsUnexchanged (map_of raw.now) b.elements (subset_at raw.now.elements raw.now.rank j) e
+        → ⊥) }
 {
     if !b.has(e) {
         return None;
@@ -193,8 +197,8 @@ fn first_unexchanged_by(
     first_basis_apart(raw, sets, in_place_of(raw, b, e), limit)
 }
 
-/// The elements that may stand in the place of an element e of a basis b: e itself, and each f not in b that makes a basis
-/// of b without e.
+/// The elements that can replace an element e of a basis b: e itself, and each f not in b such that exchanging e
+/// for f gives a basis.
 fn in_place_of(raw: &RawMap, b: Subset, e: u8) -> Subset
     requires high { raw.now.elements ≤ MAX_PLACES }
     requires whole { length raw.now.signs ≡ choose raw.now.elements raw.now.rank }
@@ -216,7 +220,7 @@ fn in_place_of(raw: &RawMap, b: Subset, e: u8) -> Subset
     others
 }
 
-/// The first place below a limit of a basis that has no element in common with a set.
+/// The first place, below a limit, of a basis that has no element in common with a set.
 fn first_basis_apart(raw: &RawMap, sets: &[Subset], set: Subset, limit: usize) -> Option<usize>
     requires high { raw.now.elements ≤ MAX_PLACES }
     requires rank { raw.now.rank ≤ raw.now.elements }
@@ -224,11 +228,13 @@ fn first_basis_apart(raw: &RawMap, sets: &[Subset], set: Subset, limit: usize) -
     requires filled { sets.now ≡ take (length sets.now) (all_chosen raw.now.elements raw.now.rank) }
     requires n { set.n ≡ raw.now.elements }
     requires limit { limit ≤ choose raw.now.elements raw.now.rank }
-    ensures none { IfNone result ((j : ℕ) → j < limit → IsBasis (map_of raw.now) (subset_at raw.now.elements raw.now.rank j) → AreApart (subset_at raw.now.elements raw.now.rank j) set.elements → ⊥) }
+    ensures none { IfNone result ((j : ℕ) → j < limit → IsBasis (map_of raw.now) (subset_at raw.now.elements raw.now.rank j)
+        → AreApart (subset_at raw.now.elements raw.now.rank j) set.elements → ⊥) }
     ensures within { IfSome result (λ k. k < limit) }
     ensures basis { IfSome result (λ k. IsBasis (map_of raw.now) (subset_at raw.now.elements raw.now.rank k)) }
     ensures apart { IfSome result (λ k. AreApart (subset_at raw.now.elements raw.now.rank k) set.elements) }
-    ensures earlier { IfSome result (λ k. (j : ℕ) → j < k → IsBasis (map_of raw.now) (subset_at raw.now.elements raw.now.rank j) → AreApart (subset_at raw.now.elements raw.now.rank j) set.elements → ⊥) }
+    ensures earlier { IfSome result (λ k. (j : ℕ) → j < k → IsBasis (map_of raw.now) (subset_at raw.now.elements raw.now.rank j)
+        → AreApart (subset_at raw.now.elements raw.now.rank j) set.elements → ⊥) }
 {
     for k in 0..limit {
         if is_basis_at(raw, k) && set_at(raw, sets, k).is_apart_from(set) {

@@ -1,6 +1,7 @@
-//! The scan for three-term relations that are violated.
+//! The scan for violated three-term relations.
 
-ghost use Rattle.std.specs.Prelude.{ℕ, List, ◌≡◌, ◌+◌, ◌-◌, ◌<◌, ◌≤◌, ◌↔◌, ◌∷◌, ◌++◌, [], length, IsTrue, IfNone, IfSome};
+ghost use Rattle.std.specs.Prelude.{ℕ, List, ◌≡◌, ◌+◌, ◌-◌, ◌<◌, ◌≤◌, ◌↔◌, ◌∷◌, ◌++◌, [], length, IsTrue, IfNone};
+ghost use Rattle.std.specs.Prelude.{IfSome};
 ghost use Rattle.om_signs.specs.declared.limits.TheConstants.{MAX_PLACES};
 ghost use Rattle.om_threeterm.specs.declared.relations.TheConstants.{FOUR};
 ghost use Rattle.om_subsets.specs.Subsets.{choose, IsMember};
@@ -20,14 +21,14 @@ use std::thread::Threads;
 /// The number of elements of a relation besides those of P.
 const FOUR: u8 = 4;
 
-/// The most elements of a map, as a number of sets.
+/// The greatest number of elements of a map, as an index type.
 const PLACES: usize = MAX_PLACES as usize;
 
 /// The number of sets of [`FOUR`] of [`MAX_PLACES`] elements.
 const FOURS: usize = PLACES * (PLACES - 1) * (PLACES - 2) * (PLACES - 3) / 24;
 
-/// The first violated three-term relation: the set p of two elements less than the rank, and the set q of four elements off
-/// it; or None where the relations hold. It takes no memory.
+/// The first violated three-term relation: the set p of two elements less than the rank, and the set q of four
+/// elements off p. None if the relations hold. The call allocates no memory.
 pub fn first_unbalanced<R: Threads + Sync>(rt: &R, raw: &RawMap) -> Option<(Subset, Subset)>
     requires low { 1 ≤ raw.now.elements }
     requires high { raw.now.elements ≤ MAX_PLACES }
@@ -42,8 +43,8 @@ pub fn first_unbalanced<R: Threads + Sync>(rt: &R, raw: &RawMap) -> Option<(Subs
     first_unbalanced_by_scan(rt, raw)
 }
 
-/// Whether the relations hold, by the quick test. It is no part of its caller, so that its tables aren't on the stack while the
-/// scan runs.
+/// Whether the relations hold, by the fast test. It is never inlined, so that its tables aren't on the stack while
+/// the scan runs.
 #[inline(never)]
 fn has_relations_apart(raw: &RawMap) -> bool
     requires low { 1 ≤ raw.now.elements }
@@ -75,7 +76,7 @@ fn first_unbalanced_by_scan<R: Threads + Sync>(rt: &R, raw: &RawMap) -> Option<(
     first_unbalanced_among(rt, raw, fours)
 }
 
-/// The number of sets of four of some elements.
+/// The number of sets of four of `elements` elements.
 fn number_of_fours(elements: u8) -> usize
     requires { elements ≤ MAX_PLACES }
     ensures value { result ≡ choose elements FOUR }
@@ -84,7 +85,7 @@ fn number_of_fours(elements: u8) -> usize
     Subset::choose(elements, FOUR) as usize
 }
 
-/// Writes all sets of four of some elements.
+/// Fills the table with all sets of four of `elements` elements.
 fn fill_fours(elements: u8, table: &mut [Subset])
     requires high { elements ≤ MAX_PLACES }
     requires few { length table.old ≤ FOURS }
@@ -94,11 +95,11 @@ fn fill_fours(elements: u8, table: &mut [Subset])
     fill(elements, FOUR, table);
 }
 
-/// How long it takes to test a relation, in nanoseconds.
+/// The time that it takes to test a relation, in nanoseconds.
 const RELATION: u64 = 200;
 
-/// A map, and the sets of four elements. The number of a set of two elements less than the rank is its place; it is bad where
-/// a relation of this set is violated.
+/// A map, and the sets of four elements. The number of a set of two elements less than the rank is its place. It is
+/// bad if some relation of this set is violated.
 #[derive(Drop)]
 struct Frames<'a> {
     raw: &'a RawMap,
@@ -126,7 +127,7 @@ impl Probe for Frames<'_> {
     }
 }
 
-/// The first violated relation, from the sets of four elements.
+/// The first violated relation, found with the sets of four elements.
 fn first_unbalanced_among<R: Threads + Sync>(
     rt: &R,
     raw: &RawMap,
@@ -153,7 +154,7 @@ fn first_unbalanced_among<R: Threads + Sync>(
     }
 }
 
-/// The first set q of four elements off a set p whose relation is violated, or None where those of p hold.
+/// The first set q of four elements off a set p whose relation is violated, or None if those of p hold.
 fn first_unbalanced_of(raw: &RawMap, fours: &[Subset], p: Subset) -> Option<Subset>
     requires high { raw.now.elements ≤ MAX_PLACES }
     requires whole { length raw.now.signs ≡ choose raw.now.elements raw.now.rank }
@@ -171,7 +172,7 @@ fn first_unbalanced_of(raw: &RawMap, fours: &[Subset], p: Subset) -> Option<Subs
     None
 }
 
-/// Whether four elements stand off a set p, and their relation is violated.
+/// Whether four elements lie off a set p, and their relation is violated.
 fn is_unbalanced(raw: &RawMap, p: Subset, q: Subset) -> bool
     requires whole { length raw.now.signs ≡ choose raw.now.elements raw.now.rank }
     requires p_n { p.n ≡ raw.now.elements }
@@ -207,7 +208,7 @@ fn has_relation(raw: &RawMap, p: Subset, a: u8, b: u8, c: u8, d: u8) -> bool
     are_balanced(first, second.neg(), third)
 }
 
-/// The value of a set p with two elements off it behind.
+/// The value of a set p followed by two elements off it.
 fn value_with(raw: &RawMap, p: Subset, x: u8, y: u8) -> Sign
     requires whole { length raw.now.signs ≡ choose raw.now.elements raw.now.rank }
     requires n { p.n ≡ raw.now.elements }

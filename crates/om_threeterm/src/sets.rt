@@ -9,10 +9,10 @@ ghost use Rattle.om_threeterm.specs.Sets.{all_chosen};
 use om_signs::{MAX_PLACES, MAX_VALUES, RawMap, Sign};
 use om_subsets::Subset;
 
-/// The room of a table of sets of one size: one for each value of a chirotope that is read.
+/// The size of a table of sets of one size: one for each value of the largest map of a document.
 pub const ROOM: usize = MAX_VALUES as usize;
 
-/// Writes the first sets of `size` of the elements 1 to `elements`, in lexicographic order, as many as there is room for.
+/// Fills the table with the first sets of `size` of the elements 1 to `elements`, in lexicographic order.
 pub fn fill(elements: u8, size: u8, table: &mut [Subset])
     requires high { elements ≤ MAX_PLACES }
     requires few { length table.old ≤ ROOM }
@@ -29,7 +29,8 @@ pub fn fill(elements: u8, size: u8, table: &mut [Subset])
     }
 }
 
-/// The set at place k of those of as many elements as the rank: from a table of the first of them, or by its place alone.
+/// The set at place k of those of as many elements as the rank: from a table of the first of them, or found by its
+/// place.
 pub fn set_at(raw: &RawMap, sets: &[Subset], k: usize) -> Subset
     requires high { raw.now.elements ≤ MAX_PLACES }
     requires rank { raw.now.rank ≤ raw.now.elements }
@@ -71,7 +72,7 @@ fn is_nonzero(sign: Sign) -> bool
     sign != Sign::Zero
 }
 
-/// The elements of a set of four, in their order.
+/// The elements of a set of four, in increasing order.
 pub fn four_of(q: Subset) -> (u8, u8, u8, u8)
     requires { length q.elements ≡ 4 }
     ensures { q.elements ≡ result.0 ∷ result.1 ∷ result.2 ∷ result.3 ∷ [] }
@@ -83,7 +84,7 @@ pub fn four_of(q: Subset) -> (u8, u8, u8, u8)
     (a, b, c, d)
 }
 
-/// The least element of a set, and the set of the others.
+/// The least element of a set, and the set of the other elements.
 fn split_least(s: Subset) -> (u8, Subset)
     requires { 1 ≤ length s.elements }
     ensures { s.elements ≡ result.0 ∷ result.1.elements }

@@ -9,12 +9,12 @@ pub enum ThreeRefused {
     /// All values are 0.
     #[error("all values are 0")]
     AllZero,
-    /// The first bases b and c and element e of b, not in c, such that no f in c and not in b makes a basis of b without e
-    /// with f: by b and then by c in lexicographic order, and then by e.
+    /// The first bases b and c and element e of b, not in c, such that exchanging e for any f in c and not in b
+    /// gives no basis. They are ordered by b and then by c in lexicographic order, and then by e.
     #[error("an element of a basis can't be exchanged for one of another basis")]
     NoExchange { b: Subset, c: Subset, e: u8 },
-    /// The first set p of two elements less than the rank, and then the first set q of four elements outside it, whose
-    /// three-term relation fails, in lexicographic order. Bases have exchange then.
+    /// The first set p of two elements less than the rank, and then the first set q of four elements off p, whose
+    /// three-term relation fails. Both are first in lexicographic order. Bases have exchange in this case.
     #[error("a three-term relation of the map fails")]
     ThreeTerm { p: Subset, q: Subset },
 }

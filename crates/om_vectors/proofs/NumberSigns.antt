@@ -2,7 +2,8 @@
 --
 -- Main results: sign-neg and sign-times, the signs of a negative and of a product; sign_zero, that only 0 has the sign
 -- zero; balanced, that numbers whose sum is 0 include a plus exactly where they include a minus.
-use Rattle.std.proofs.Common.{ℕ, zero, suc, ◌≡◌, ◌*◌, ◌<◌, ◌⊎◌, ◌↔◌, List, [], ◌∷◌, refl, sym, ◌∙◌, ap, inl, inr, arith, map}
+use Rattle.std.proofs.Common.{ℕ, zero, suc, ◌≡◌, ◌*◌, ◌<◌, ◌⊎◌, ◌↔◌, List, [], ◌∷◌, refl, sym, ◌∙◌, ap, inl, inr, arith}
+use Rattle.std.proofs.Common.{map}
 use Rattle.std.specs.Prelude.{ℤ, pos, negsuc, ◌*ℤ◌, neg_ℤ, ◌≤ℤ◌, ◌<ℤ◌}
 use Rattle.std.proofs.lemmas.Int.{ints}
 use Rattle.std.proofs.Math.IntN.{zero-*ℤ, *ℤ-zero}
@@ -25,9 +26,11 @@ pub sign-times : (a b : ℤ) → sign_of (a *ℤ b) ≡ product (sign_of a) (sig
 sign-times (pos zero) b = ap sign_of (zero-*ℤ b)
 sign-times (pos (suc a)) (pos zero) = ap sign_of (*ℤ-zero (pos (suc a)))
 sign-times (pos (suc a)) (pos (suc b)) = positive (suc a * suc b) (omega arith)
-sign-times (pos (suc a)) (negsuc b) = sign-neg (pos (suc a * suc b)) ∙ ap opposite (positive (suc a * suc b) (omega arith))
+sign-times (pos (suc a)) (negsuc b) = sign-neg (pos (suc a * suc b))
+    ∙ ap opposite (positive (suc a * suc b) (omega arith))
 sign-times (negsuc a) (pos zero) = ap sign_of (*ℤ-zero (negsuc a))
-sign-times (negsuc a) (pos (suc b)) = sign-neg (pos (suc a * suc b)) ∙ ap opposite (positive (suc a * suc b) (omega arith))
+sign-times (negsuc a) (pos (suc b)) = sign-neg (pos (suc a * suc b))
+    ∙ ap opposite (positive (suc a * suc b) (omega arith))
 sign-times (negsuc a) (negsuc b) = positive (suc a * suc b) (omega arith)
 
 pub sign_zero : (z : ℤ) → sign_of z ≡ Zero → z ≡ pos 0
@@ -68,4 +71,7 @@ has-back (z ∷ zs) s (inl e) = inl (turned (sign_of z) s (sym (sign-neg z) ∙ 
 has-back (z ∷ zs) s (inr h) = inr (has-back zs s h)
 
 pub balanced : (zs : List ℤ) → total zs ≡ pos 0 → HasSign zs Plus ↔ HasSign zs Minus
-balanced zs e = (minus_from_plus zs e, λ h. has-back zs Plus (minus_from_plus (map neg_ℤ zs) (total-negated zs ∙ ap neg_ℤ e) (has-negated zs Minus h)))
+balanced zs e = (
+  minus_from_plus zs e,
+  λ h. has-back zs Plus (minus_from_plus (map neg_ℤ zs) (total-negated zs ∙ ap neg_ℤ e) (has-negated zs Minus h)),
+)

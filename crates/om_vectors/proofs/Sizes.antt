@@ -16,16 +16,22 @@ abbrev pub wide : ℤ → ℤ
 wide z = to_z w128 (of_z w128 z)
 
 pub pair_size : (x y : ℤ) → IsCoordinate x → IsCoordinate y → unsigned_abs (x *ℤ y) ≤ 2 ^ 80
-pair_size x y hx hy = rw (unsigned_abs-mul x y) (mul-le (unsigned_abs x) (unsigned_abs y) (unsigned_abs MAX_COORDINATE) (unsigned_abs MAX_COORDINATE) hx hy)
+pair_size x y hx hy =
+    rw (unsigned_abs-mul x y)
+    (mul-le (unsigned_abs x) (unsigned_abs y) (unsigned_abs MAX_COORDINATE) (unsigned_abs MAX_COORDINATE) hx hy)
 
 pub pair_fits : (x y : ℤ) → IsCoordinate x → IsCoordinate y → FitsSigned w128 (x *ℤ y)
-pair_fits x y hx hy = fits_signed_mul w128 x y (unsigned_abs MAX_COORDINATE) (unsigned_abs MAX_COORDINATE) hx hy (lit< tt)
+pair_fits x y hx hy = fits_signed_mul w128 x y (unsigned_abs MAX_COORDINATE) (unsigned_abs MAX_COORDINATE) hx hy
+    (lit< tt)
 
 pub product_size : (x y z : ℤ) → IsCoordinate x → IsCoordinate y → IsCoordinate z → unsigned_abs (x *ℤ y *ℤ z) ≤ 2 ^ 120
-product_size x y z hx hy hz = rw (unsigned_abs-mul (x *ℤ y) z) (mul-le (unsigned_abs (x *ℤ y)) (unsigned_abs z) (2 ^ 80) (unsigned_abs MAX_COORDINATE) (pair_size x y hx hy) hz)
+product_size x y z hx hy hz =
+    rw (unsigned_abs-mul (x *ℤ y) z)
+    (mul-le (unsigned_abs (x *ℤ y)) (unsigned_abs z) (2 ^ 80) (unsigned_abs MAX_COORDINATE) (pair_size x y hx hy) hz)
 
 pub product_fits : (x y z : ℤ) → IsCoordinate x → IsCoordinate y → IsCoordinate z → FitsSigned w128 (x *ℤ y *ℤ z)
-product_fits x y z hx hy hz = fits_signed_mul w128 (x *ℤ y) z (2 ^ 80) (unsigned_abs MAX_COORDINATE) (pair_size x y hx hy) hz (lit< tt)
+product_fits x y z hx hy hz =
+    fits_signed_mul w128 (x *ℤ y) z (2 ^ 80) (unsigned_abs MAX_COORDINATE) (pair_size x y hx hy) hz (lit< tt)
 
 -- a sum of k products of three coordinates: it fits 128 bits, and is read back from them as it is
 pub record IsExact (k : ℕ) (z : ℤ) : Type 0 where

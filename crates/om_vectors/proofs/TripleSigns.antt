@@ -1,8 +1,10 @@
 -- The signs of triple products as a map on tuples, and the chirotope that they make.
 --
--- Main results: alternating, that the map alternates; realized_value, that a realized map has these signs on all tuples;
--- relations, its relations; own_signs, that vectors realize the map of their signs; chirotope_of, that it is a chirotope.
-use Rattle.std.proofs.Common.{ℕ, ◌≡◌, ◌≢◌, ◌<◌, ◌≤◌, ◌⊎◌, ◌↔◌, List, [], ◌∷◌, length, get_or, refl, sym, ◌∙◌, ap, inl, inr, arith}
+-- Main results: alternating, that the map alternates; realized_value, that a realized map has these signs on all
+-- tuples; relations, its relations; own_signs, that vectors realize the map of their signs; chirotope_of, that it is a
+-- chirotope.
+use Rattle.std.proofs.Common.{ℕ, ◌≡◌, ◌≢◌, ◌<◌, ◌≤◌, ◌⊎◌, ◌↔◌, List, [], ◌∷◌, length, get_or, refl, sym, ◌∙◌, ap, inl}
+use Rattle.std.proofs.Common.{inr, arith}
 use Rattle.std.specs.Prelude.{ℤ, pos, ◌+ℤ◌, ◌-ℤ◌, ◌*ℤ◌, neg_ℤ}
 use Rattle.std.proofs.lemmas.List.{length-map, get_or-map}
 use Rattle.om_signs.specs.declared.sign.Sign.{Sign}
@@ -35,9 +37,11 @@ bracket vs a b c = triple_product (vector_at vs a) (vector_at vs b) (vector_at v
 
 pub alternating : (vs : List WholeVector) → IsAlternating (triple_sign vs)
 alternating vs x y [] [] = refl
-alternating vs x y [] (c ∷ []) = ap sign_of (swap_first (vector_at vs x) (vector_at vs y) (vector_at vs c)) ∙ sign-neg (bracket vs x y c)
+alternating vs x y [] (c ∷ []) = ap sign_of (swap_first (vector_at vs x) (vector_at vs y) (vector_at vs c))
+    ∙ sign-neg (bracket vs x y c)
 alternating vs x y [] (c ∷ d ∷ ds) = refl
-alternating vs x y (a ∷ []) [] = ap sign_of (swap_last (vector_at vs a) (vector_at vs x) (vector_at vs y)) ∙ sign-neg (bracket vs a x y)
+alternating vs x y (a ∷ []) [] = ap sign_of (swap_last (vector_at vs a) (vector_at vs x) (vector_at vs y))
+    ∙ sign-neg (bracket vs a x y)
 alternating vs x y (a ∷ []) (d ∷ ds) = refl
 alternating vs x y (a ∷ b ∷ []) bs = refl
 alternating vs x y (a ∷ b ∷ c ∷ []) bs = refl
@@ -47,12 +51,15 @@ alternating vs x y (a ∷ b ∷ c ∷ d ∷ cs) bs = refl
 three : (n a b c : ℕ) → IsElement n a → IsElement n b → IsElement n c → IsTuple n 3 (a ∷ b ∷ c ∷ [])
 three n a b c ha hb hc = record { size = refl; within = (ha, (hb, (hc, tt))) }
 
-pub realized_value : (vs : List WholeVector) (m : SignMap) → Realizes vs m → (t : List ℕ) → IsTuple m.elements 3 t → value_of m t ≡ triple_sign vs t
+pub realized_value : (vs : List WholeVector) (m : SignMap) → Realizes vs m → (t : List ℕ) → IsTuple m.elements 3 t
+    → value_of m t ≡ triple_sign vs t
 realized_value vs m h t tuple =
     sym (on_tuples_at m.elements 3 (chi_of m) t tuple)
-    ∙ alternating_equal (on_tuples m.elements 3 (chi_of m)) (on_tuples m.elements 3 (triple_sign vs)) (on_tuples_alternating m.elements 3 (chi_of m)) (on_tuples_alternating m.elements 3 (triple_sign vs)) same t
+    ∙ alternating_equal (on_tuples m.elements 3 (chi_of m)) (on_tuples m.elements 3 (triple_sign vs))
+    (on_tuples_alternating m.elements 3 (chi_of m)) (on_tuples_alternating m.elements 3 (triple_sign vs)) same t
     ∙ on_tuples_at m.elements 3 (triple_sign vs) t tuple
-    ∙ sym (alternating_equal (triple_sign vs) (value (triple_sign vs)) (alternating vs) (value_alternating (triple_sign vs)) (λ xs i. sym (value_increasing (triple_sign vs) xs i)) t)
+    ∙ sym (alternating_equal (triple_sign vs) (value (triple_sign vs)) (alternating vs)
+    (value_alternating (triple_sign vs)) (λ xs i. sym (value_increasing (triple_sign vs) xs i)) t)
   where
     in_order : (xs : List ℕ) → IsTuple m.elements 3 xs → IsIncreasing xs → chi_of m xs ≡ triple_sign vs xs
     in_order [] u i = let s = u.size in absurd (omega arith)
@@ -61,9 +68,11 @@ realized_value vs m h t tuple =
     in_order (a ∷ b ∷ c ∷ []) u i = sym (h.signs a b c u.within.0.0 i.0 i.1.0 u.within.1.1.0.1)
     in_order (a ∷ b ∷ c ∷ d ∷ ds) u i = let s = u.size in absurd (omega arith)
 
-    same : (xs : List ℕ) → IsIncreasing xs → on_tuples m.elements 3 (chi_of m) xs ≡ on_tuples m.elements 3 (triple_sign vs) xs
+    same : (xs : List ℕ) → IsIncreasing xs → on_tuples m.elements 3 (chi_of m) xs
+        ≡ on_tuples m.elements 3 (triple_sign vs) xs
     same xs i = elim (is_tuple_cases m.elements 3 xs) [
-      | inl u ↦ on_tuples_at m.elements 3 (chi_of m) xs u.0 ∙ value_increasing (chi_of m) xs i ∙ in_order xs u.0 i ∙ sym (value_increasing (triple_sign vs) xs i) ∙ sym (on_tuples_at m.elements 3 (triple_sign vs) xs u.0)
+      | inl u ↦ on_tuples_at m.elements 3 (chi_of m) xs u.0 ∙ value_increasing (chi_of m) xs i ∙ in_order xs u.0 i
+          ∙ sym (value_increasing (triple_sign vs) xs i) ∙ sym (on_tuples_at m.elements 3 (triple_sign vs) xs u.0)
       | inr n ↦ on_tuples_off m.elements 3 (chi_of m) xs n.0 ∙ sym (on_tuples_off m.elements 3 (triple_sign vs) xs n.0)
     ]
 
@@ -71,9 +80,12 @@ realized_value vs m h t tuple =
 
 -- some of four signs, taken with alternating signs, is s
 abbrev pub HasOneOf : Sign → Sign → Sign → Sign → Sign → Type 0
-HasOneOf p q r t s = (p ≡ opposite s) ⊎ ((q ≡ opposite (opposite s)) ⊎ ((r ≡ opposite (opposite (opposite s))) ⊎ ((t ≡ opposite (opposite (opposite (opposite s)))) ⊎ ⊥)))
+HasOneOf p q r t s = (p ≡ opposite s)
+    ⊎ ((q ≡ opposite (opposite s))
+    ⊎ ((r ≡ opposite (opposite (opposite s))) ⊎ ((t ≡ opposite (opposite (opposite (opposite s)))) ⊎ ⊥)))
 
-four_balanced : (p q r t : Sign) (w x y z : ℤ) → p ≡ sign_of w → q ≡ sign_of x → r ≡ sign_of y → t ≡ sign_of z → w -ℤ x +ℤ y -ℤ z ≡ pos 0 → HasOneOf p q r t Plus ↔ HasOneOf p q r t Minus
+four_balanced : (p q r t : Sign) (w x y z : ℤ) → p ≡ sign_of w → q ≡ sign_of x → r ≡ sign_of y → t ≡ sign_of z
+    → w -ℤ x +ℤ y -ℤ z ≡ pos 0 → HasOneOf p q r t Plus ↔ HasOneOf p q r t Minus
 four_balanced p q r t w x y z ep eq er et e =
     let b = balanced (neg_ℤ w ∷ x ∷ neg_ℤ y ∷ z ∷ []) none in
     (λ h. from Minus (b.0 (to Plus h)), λ h. from Plus (b.1 (to Minus h)))
@@ -102,14 +114,18 @@ four_balanced p q r t w x y z ep eq er et e =
     from s (inr (inr (inr (inr h)))) = absurd h
 
 -- a product of two values is the sign of the product of two triple products
-term : (vs : List WholeVector) (m : SignMap) → Realizes vs m → (a b c d e f : ℕ) → IsTuple m.elements 3 (a ∷ b ∷ c ∷ []) → IsTuple m.elements 3 (d ∷ e ∷ f ∷ []) → product (value_of m (a ∷ b ∷ c ∷ [])) (value_of m (d ∷ e ∷ f ∷ [])) ≡ sign_of (bracket vs d e f *ℤ bracket vs a b c)
+term : (vs : List WholeVector) (m : SignMap) → Realizes vs m → (a b c d e f : ℕ) → IsTuple m.elements 3 (a ∷ b ∷ c ∷ [])
+    → IsTuple m.elements 3 (d ∷ e ∷ f ∷ []) → product (value_of m (a ∷ b ∷ c ∷ [])) (value_of m (d ∷ e ∷ f ∷ []))
+    ≡ sign_of (bracket vs d e f *ℤ bracket vs a b c)
 term vs m h a b c d e f t u =
     ap (λ s. product s (value_of m (d ∷ e ∷ f ∷ []))) (realized_value vs m h (a ∷ b ∷ c ∷ []) t)
     ∙ ap (λ s. product (triple_sign vs (a ∷ b ∷ c ∷ [])) s) (realized_value vs m h (d ∷ e ∷ f ∷ []) u)
     ∙ product_comm (sign_of (bracket vs a b c)) (sign_of (bracket vs d e f))
     ∙ sym (sign-times (bracket vs d e f) (bracket vs a b c))
 
-four_relation : (vs : List WholeVector) (m : SignMap) → Realizes vs m → (s t u v a b : ℕ) → IsElement m.elements s → IsElement m.elements t → IsElement m.elements u → IsElement m.elements v → IsElement m.elements a → IsElement m.elements b → IsBalanced (value_of m) (s ∷ t ∷ u ∷ v ∷ []) (along (value_of m) (a ∷ b ∷ []))
+four_relation : (vs : List WholeVector) (m : SignMap) → Realizes vs m → (s t u v a b : ℕ) → IsElement m.elements s
+    → IsElement m.elements t → IsElement m.elements u → IsElement m.elements v → IsElement m.elements a
+    → IsElement m.elements b → IsBalanced (value_of m) (s ∷ t ∷ u ∷ v ∷ []) (along (value_of m) (a ∷ b ∷ []))
 four_relation vs m h s t u v a b hs ht hu hv ha hb =
     let n = m.elements in
     four_balanced
@@ -117,7 +133,8 @@ four_relation vs m h s t u v a b hs ht hu hv ha hb =
     (product (value_of m (s ∷ u ∷ v ∷ [])) (value_of m (a ∷ b ∷ t ∷ [])))
     (product (value_of m (s ∷ t ∷ v ∷ [])) (value_of m (a ∷ b ∷ u ∷ [])))
     (product (value_of m (s ∷ t ∷ u ∷ [])) (value_of m (a ∷ b ∷ v ∷ [])))
-    (bracket vs a b s *ℤ bracket vs t u v) (bracket vs a b t *ℤ bracket vs s u v) (bracket vs a b u *ℤ bracket vs s t v) (bracket vs a b v *ℤ bracket vs s t u)
+    (bracket vs a b s *ℤ bracket vs t u v) (bracket vs a b t *ℤ bracket vs s u v) (bracket vs a b u *ℤ bracket vs s t v)
+    (bracket vs a b v *ℤ bracket vs s t u)
     (term vs m h t u v a b s (three n t u v ht hu hv) (three n a b s ha hb hs))
     (term vs m h s u v a b t (three n s u v hs hu hv) (three n a b t ha hb ht))
     (term vs m h s t v a b u (three n s t v hs ht hv) (three n a b u ha hb hu))
@@ -127,10 +144,13 @@ four_relation vs m h s t u v a b hs ht hu hv ha hb =
 pub relations : (vs : List WholeVector) (m : SignMap) → Realizes vs m → HasIncreasingRelations m.elements 3 (value_of m)
 relations vs m h s a low ts ta is ia = four_of s ts
   where
-    two_of : (s t u v : ℕ) → IsTuple m.elements 4 (s ∷ t ∷ u ∷ v ∷ []) → (a : List ℕ) → IsTuple m.elements 2 a → IsBalanced (value_of m) (s ∷ t ∷ u ∷ v ∷ []) (along (value_of m) a)
+    two_of : (s t u v : ℕ) → IsTuple m.elements 4 (s ∷ t ∷ u ∷ v ∷ []) → (a : List ℕ) → IsTuple m.elements 2 a
+        → IsBalanced (value_of m) (s ∷ t ∷ u ∷ v ∷ []) (along (value_of m) a)
     two_of s t u v ts [] ta = let l = ta.size in absurd (omega arith)
     two_of s t u v ts (a ∷ []) ta = let l = ta.size in absurd (omega arith)
-    two_of s t u v ts (a ∷ b ∷ []) ta = four_relation vs m h s t u v a b ts.within.0 ts.within.1.0 ts.within.1.1.0 ts.within.1.1.1.0 ta.within.0 ta.within.1.0
+    two_of s t u v ts (a ∷ b ∷ []) ta =
+        four_relation vs m h s t u v a b ts.within.0 ts.within.1.0 ts.within.1.1.0 ts.within.1.1.1.0 ta.within.0
+        ta.within.1.0
     two_of s t u v ts (a ∷ b ∷ c ∷ cs) ta = let l = ta.size in absurd (omega arith)
 
     four_of : (s : List ℕ) → IsTuple m.elements 4 s → IsBalanced (value_of m) s (along (value_of m) a)
@@ -152,7 +172,8 @@ triple_subset n a b c low ab bc high = (subset_is_increasing n (a ∷ b ∷ c �
     within e (inr (inr (inl q))) = omega arith
     within e (inr (inr (inr q))) = absurd q
 
-pub sign_at : (vs : List WholeVector) (t : List ℕ) → IsSubsetFrom 1 (length vs) t → length t ≡ 3 → chi_of (signs_map vs) t ≡ triple_sign vs t
+pub sign_at : (vs : List WholeVector) (t : List ℕ) → IsSubsetFrom 1 (length vs) t → length t ≡ 3
+    → chi_of (signs_map vs) t ≡ triple_sign vs t
 sign_at vs t h l =
     let n = length vs in
     let few : rank_of n t < length (all_subsets n 3) = rw (length-subsets_from 1 n 3, ← l) (rank_from-lt 1 n t h) in
@@ -163,13 +184,20 @@ pub own_signs : (vs : List WholeVector) → Realizes vs (signs_map vs)
 own_signs vs = record {
   rank = refl;
   elements = refl;
-  signs = λ a b c low ab bc high. sym (sign_at vs (a ∷ b ∷ c ∷ []) (triple_subset (length vs) a b c low ab bc high) refl);
+  signs = λ a b c low ab bc high. sym
+      (sign_at vs (a ∷ b ∷ c ∷ []) (triple_subset (length vs) a b c low ab bc high) refl);
 }
 
 pub whole_map : (vs : List WholeVector) → 3 ≤ length vs → IsMap (signs_map vs)
-whole_map vs l = record { part = l; whole = length-map (all_subsets (length vs) 3) (triple_sign vs) ∙ length-subsets_from 1 (length vs) 3 }
+whole_map vs l =
+    record {
+      part = l;
+      whole = length-map (all_subsets (length vs) 3) (triple_sign vs)
+          ∙ length-subsets_from 1 (length vs) 3;
+    }
 
-pub chirotope_of : (vs : List WholeVector) (a b c : ℕ) → 1 ≤ a → a < b → b < c → c ≤ length vs → bracket vs a b c ≢ pos 0 → IsChirotope (signs_map vs)
+pub chirotope_of : (vs : List WholeVector) (a b c : ℕ) → 1 ≤ a → a < b → b < c → c ≤ length vs
+    → bracket vs a b c ≢ pos 0 → IsChirotope (signs_map vs)
 chirotope_of vs a b c low ab bc high n =
     let m = signs_map vs in
     let h = own_signs vs in

@@ -3,7 +3,8 @@
 -- Main definitions: HoldsBelow, what holds of the triples of the first places.
 -- Main results: held_all and held_before, from the places to the triples;
 -- realized_triple and realizes_from, what it is to realize a map.
-use Rattle.std.proofs.Common.{ℕ, ◌≡◌, ◌≢◌, ◌<◌, ◌≤◌, List, [], ◌∷◌, length, map, take, refl, sym, ◌∙◌, ap, inl, inr, arith, subst}
+use Rattle.std.proofs.Common.{ℕ, ◌≡◌, ◌≢◌, ◌<◌, ◌≤◌, List, [], ◌∷◌, length, map, take, refl, sym, ◌∙◌, ap, inl, inr}
+use Rattle.std.proofs.Common.{arith, subst}
 use Rattle.std.proofs.lemmas.List.{take_all}
 use Rattle.om_signs.specs.declared.sign.Sign.{Sign}
 use Rattle.om_signs.specs.declared.sign.Sign.TheVariants.{Zero}
@@ -33,8 +34,13 @@ rising n [] h = let l = h.size in absurd (omega arith)
 rising n (a ∷ []) h = let l = h.size in absurd (omega arith)
 rising n (a ∷ b ∷ []) h = let l = h.size in absurd (omega arith)
 rising n (a ∷ b ∷ c ∷ []) h =
-    let i = (subset_is_increasing n (a ∷ b ∷ c ∷ [])).0 h.list in
-    (a, b, c, refl, record { low = (i.1 a (inl refl)).0; first = i.0.0; second = i.0.1.0; high = (i.1 c (inr (inr (inl refl)))).1 })
+    let i = (subset_is_increasing n (a ∷ b ∷ c ∷ [])).0 h.list in (
+      a,
+      b,
+      c,
+      refl,
+      record { low = (i.1 a (inl refl)).0; first = i.0.0; second = i.0.1.0; high = (i.1 c (inr (inr (inl refl)))).1 },
+    )
 rising n (a ∷ b ∷ c ∷ d ∷ ds) h = let l = h.size in absurd (omega arith)
 
 pub triple_from : (n a b c : ℕ) → 1 ≤ a → a < b → b < c → c ≤ n → IsTriple n (a ∷ b ∷ c ∷ [])
@@ -57,7 +63,8 @@ held_all P n k most h t i =
     let few : rank_of n t < choose n 3 = rw (← size) (rank_from-lt 1 n t i.list) in
     held P n k h t i (omega arith)
 
-pub held_before : (P : List ℕ → Type 0) (n k : ℕ) → HoldsBelow P n k → (s : List ℕ) → IsTriple n s → rank_of n s ≡ k → (t : List ℕ) → IsTriple n t → IsBefore t s → P t
+pub held_before : (P : List ℕ → Type 0) (n k : ℕ) → HoldsBelow P n k → (s : List ℕ) → IsTriple n s → rank_of n s ≡ k
+    → (t : List ℕ) → IsTriple n t → IsBefore t s → P t
 held_before P n k h s i e t j b =
     let before = (lexicographic 1 n t s j.list i.list (j.size ∙ sym i.size)).0 b in
     held P n k h t j (omega arith)
@@ -68,13 +75,15 @@ held_before P n k h s i e t j b =
 abbrev pub HasItsSign : List WholeVector → SignMap → List ℕ → Type 0
 HasItsSign vs m t = triple_sign vs t ≡ chi_of m t
 
-pub realized_triple : (vs : List WholeVector) (m : SignMap) → Realizes vs m → (t : List ℕ) → IsTriple m.elements t → triple_sign vs t ≡ chi_of m t
+pub realized_triple : (vs : List WholeVector) (m : SignMap) → Realizes vs m → (t : List ℕ) → IsTriple m.elements t
+    → triple_sign vs t ≡ chi_of m t
 realized_triple vs m h t i = of (rising m.elements t i)
   where
     of : (a : ℕ) × (b : ℕ) × (c : ℕ) × (t ≡ a ∷ b ∷ c ∷ []) × IsRising m.elements a b c → triple_sign vs t ≡ chi_of m t
     of (a, b, c, e, r) = rw e (h.signs a b c r.low r.first r.second r.high)
 
-pub realizes_from : (vs : List WholeVector) (m : SignMap) → m.rank ≡ 3 → m.elements ≡ length vs → ((t : List ℕ) → IsTriple m.elements t → triple_sign vs t ≡ chi_of m t) → Realizes vs m
+pub realizes_from : (vs : List WholeVector) (m : SignMap) → m.rank ≡ 3 → m.elements ≡ length vs
+    → ((t : List ℕ) → IsTriple m.elements t → triple_sign vs t ≡ chi_of m t) → Realizes vs m
 realizes_from vs m r n h = record {
   rank = r;
   elements = n;
@@ -82,7 +91,10 @@ realizes_from vs m r n h = record {
 }
 
 -- a triple whose sign is another one, the first of its kind
-pub other_found : (vs : List WholeVector) (m : SignMap) (k : ℕ) (s : Chosen) → s.n ≡ m.elements → IsTriple m.elements s.elements → rank_of m.elements s.elements ≡ k → (triple_sign vs s.elements ≡ chi_of m s.elements → ⊥) → HoldsBelow (HasItsSign vs m) m.elements k → IsFirstOther vs m s
+pub other_found : (vs : List WholeVector) (m : SignMap) (k : ℕ) (s : Chosen) → s.n ≡ m.elements
+    → IsTriple m.elements s.elements → rank_of m.elements s.elements ≡ k
+    → (triple_sign vs s.elements ≡ chi_of m s.elements → ⊥) → HoldsBelow (HasItsSign vs m) m.elements k
+    → IsFirstOther vs m s
 other_found vs m k s n i e o h = record {
   n = n;
   triple = i;
@@ -97,23 +109,29 @@ abbrev pub HasSignZero : List WholeVector → List ℕ → Type 0
 HasSignZero vs t = triple_sign vs t ≡ Zero
 
 pub low_rank_from : (vs : List WholeVector) → ((t : List ℕ) → IsTriple (length vs) t → HasSignZero vs t) → IsRankLow vs
-low_rank_from vs h a b c low ab bc high = sign_zero (bracket vs a b c) (h (a ∷ b ∷ c ∷ []) (triple_from (length vs) a b c low ab bc high))
+low_rank_from vs h a b c low ab bc high =
+    sign_zero (bracket vs a b c) (h (a ∷ b ∷ c ∷ []) (triple_from (length vs) a b c low ab bc high))
 
 -- a triple with a nonzero product: the rank is not low, and the signs make a chirotope
-pub rank_not_low : (vs : List WholeVector) (t : List ℕ) → IsTriple (length vs) t → triple_sign vs t ≢ Zero → IsRankLow vs → ⊥
+pub rank_not_low : (vs : List WholeVector) (t : List ℕ) → IsTriple (length vs) t → triple_sign vs t ≢ Zero
+    → IsRankLow vs → ⊥
 rank_not_low vs t i n low = of (rising (length vs) t i)
   where
     of : (a : ℕ) × (b : ℕ) × (c : ℕ) × (t ≡ a ∷ b ∷ c ∷ []) × IsRising (length vs) a b c → ⊥
     of (a, b, c, e, r) = n (ap (triple_sign vs) e ∙ ap sign_of (low a b c r.low r.first r.second r.high))
 
-pub chirotope_from : (vs : List WholeVector) (t : List ℕ) → IsTriple (length vs) t → triple_sign vs t ≢ Zero → IsChirotope (signs_map vs)
+pub chirotope_from : (vs : List WholeVector) (t : List ℕ) → IsTriple (length vs) t → triple_sign vs t ≢ Zero
+    → IsChirotope (signs_map vs)
 chirotope_from vs t i n = of (rising (length vs) t i)
   where
     of : (a : ℕ) × (b : ℕ) × (c : ℕ) × (t ≡ a ∷ b ∷ c ∷ []) × IsRising (length vs) a b c → IsChirotope (signs_map vs)
-    of (a, b, c, e, r) = chirotope_of vs a b c r.low r.first r.second r.high (λ z. n (ap (triple_sign vs) e ∙ ap sign_of z))
+    of (a, b, c, e, r) = chirotope_of vs a b c r.low r.first r.second r.high
+        (λ z. n (ap (triple_sign vs) e ∙ ap sign_of z))
 
 -- the signs up to the last place
-pub signs_done : (vs : List WholeVector) (k : ℕ) (signs : List Sign) → choose (length vs) 3 ≤ k → signs ≡ map (triple_sign vs) (take k (all_subsets (length vs) 3)) → signs ≡ map (triple_sign vs) (all_subsets (length vs) 3)
+pub signs_done : (vs : List WholeVector) (k : ℕ) (signs : List Sign) → choose (length vs) 3 ≤ k
+    → signs ≡ map (triple_sign vs) (take k (all_subsets (length vs) 3))
+    → signs ≡ map (triple_sign vs) (all_subsets (length vs) 3)
 signs_done vs k signs l h =
     let all : length (all_subsets (length vs) 3) ≤ k = rw (length-subsets_from 1 (length vs) 3) l in
     h ∙ ap (map (triple_sign vs)) (take_all k (all_subsets (length vs) 3) all)

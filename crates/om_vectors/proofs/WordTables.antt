@@ -2,13 +2,15 @@
 --
 -- Main definitions: IsCutTo, IsBack
 -- Main results: pushed, table_back, both
-use Rattle.std.proofs.Common.{ℕ, ◌≡◌, ◌+◌, ◌<◌, ◌≤◌, List, length, take, set, get_or, Bool, ◌&&◌, ◌∙◌, ◌++◌, ap, sym, arith}
+use Rattle.std.proofs.Common.{ℕ, ◌≡◌, ◌+◌, ◌<◌, ◌≤◌, List, length, take, set, get_or, Bool, ◌&&◌, ◌∙◌, ◌++◌, ap, sym}
+use Rattle.std.proofs.Common.{arith}
 use Rattle.std.proofs.lemmas.List.{length-set, get_or-set_other}
 use Rattle.om_signs.specs.declared.limits.TheConstants.{MAX_ELEMENTS}
 use Rattle.om_vectors.specs.WholeVectors.{WholeVector, zero_vector}
 use Rattle.om_vectors.specs.Words.{free_places, IsSound, length-used, whole_table}
 
-pub pushed : (table : List WholeVector) (n : ℕ) (v : WholeVector) → n < MAX_ELEMENTS → IsSound table n → IsSound (set table n v) (n + 1)
+pub pushed : (table : List WholeVector) (n : ℕ) (v : WholeVector) → n < MAX_ELEMENTS → IsSound table n
+    → IsSound (set table n v) (n + 1)
 pushed table n v l h = record {
   few = omega arith;
   whole = length-set table n v ∙ h.whole;
@@ -27,7 +29,8 @@ pub record IsBack (table : List WholeVector) (n : ℕ) (vs : List WholeVector) :
   pub table_is : vs ++ free_places (length vs) ≡ table
   pub len_is : length vs ≡ n
 
-pub table_back : (table : List WholeVector) (n : ℕ) (vs : List WholeVector) → IsSound table n → take n table ≡ vs → IsBack table n vs
+pub table_back : (table : List WholeVector) (n : ℕ) (vs : List WholeVector) → IsSound table n → take n table ≡ vs
+    → IsBack table n vs
 table_back table n vs h e =
     let size : length vs ≡ n = ap length (sym e) ∙ length-used table n h in
     record {

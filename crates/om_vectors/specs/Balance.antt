@@ -1,9 +1,9 @@
--- Sums of finitely many whole numbers, and the signs of their terms.
+-- Sums of finitely many integers, and the signs of their terms.
 use Rattle.std.specs.Prelude.{◌≡◌, ◌⊎◌, List, [], ◌∷◌, ℤ, pos, ◌+ℤ◌}
 use Rattle.om_signs.specs.declared.sign.Sign.{Sign}
 use Rattle.om_vectors.specs.WholeVectors.{sign_of}
 
--- the sum of some whole numbers
+-- the sum of some integers
 abbrev pub total : List ℤ → ℤ
 total [] = pos 0
 total (z ∷ zs) = z +ℤ total zs

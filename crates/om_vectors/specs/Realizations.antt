@@ -24,19 +24,22 @@ triple_sign vs t = Zero
 abbrev pub signs_map : List WholeVector → SignMap
 signs_map vs = record { rank = 3; elements = length vs; signs = map (triple_sign vs) (all_subsets (length vs) 3) }
 
--- the vectors realize the map: there is one for each element, and the triple product of each increasing triple has the sign of the map
+-- the vectors realize the map: there is one for each element, and the triple product of each increasing triple has
+-- the sign of the map
 pub record Realizes (vs : List WholeVector) (m : SignMap) : Type 0 where
   pub rank : m.rank ≡ 3
   pub elements : m.elements ≡ length vs
-  pub signs : (a b c : ℕ) → 1 ≤ a → a < b → b < c → c ≤ m.elements → sign_of (triple_product (vector_at vs a) (vector_at vs b) (vector_at vs c)) ≡ chi_of m (a ∷ b ∷ c ∷ [])
+  pub signs : (a b c : ℕ) → 1 ≤ a → a < b → b < c → c ≤ m.elements
+      → sign_of (triple_product (vector_at vs a) (vector_at vs b) (vector_at vs c)) ≡ chi_of m (a ∷ b ∷ c ∷ [])
 
--- the first increasing triple, in lexicographic order, whose triple product hasn't the sign of the map
+-- the first increasing triple, in lexicographic order, whose triple product doesn't have the sign of the map
 pub record IsFirstOther (vs : List WholeVector) (m : SignMap) (s : Chosen) : Type 0 where
   pub n : s.n ≡ m.elements
   pub triple : IsTriple m.elements s.elements
   pub other : triple_sign vs s.elements ≢ chi_of m s.elements
   pub earlier : (t : List ℕ) → IsTriple m.elements t → IsBefore t s.elements → triple_sign vs t ≡ chi_of m t
 
--- each triple product is zero: the vectors lie in a plane
+-- every triple product is zero: the vectors lie in a plane
 abbrev pub IsRankLow : List WholeVector → Type 0
-IsRankLow vs = (a b c : ℕ) → 1 ≤ a → a < b → b < c → c ≤ length vs → triple_product (vector_at vs a) (vector_at vs b) (vector_at vs c) ≡ pos 0
+IsRankLow vs = (a b c : ℕ) → 1 ≤ a → a < b → b < c → c ≤ length vs
+    → triple_product (vector_at vs a) (vector_at vs b) (vector_at vs c) ≡ pos 0

@@ -1,4 +1,4 @@
-//! Vectors of three whole numbers, the signs of their triple products, and the chirotopes of rank 3 that they realize.
+//! Vectors of three integers, the signs of their triple products, and the chirotopes of rank 3 that they realize.
 //!
 //! Source: Björner, Las Vergnas, Sturmfels, White and Ziegler, *Oriented Matroids*, chapters 1 and 8.
 #![tactic(auto)]

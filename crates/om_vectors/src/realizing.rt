@@ -8,10 +8,11 @@ use super::vector::Vector;
 use om_chirotope::Chirotope;
 use om_subsets::Subset;
 
-/// Whether vectors realize a chirotope of rank 3, one vector for each element: the triple product of each increasing
-/// triple has the chirotope's sign. Else the first triple, in lexicographic order, whose product has another sign.
+/// Whether vectors realize a chirotope of rank 3, one vector for each element: the triple product of each
+/// increasing triple has the chirotope's sign. Otherwise the error is the first triple, in lexicographic order,
+/// whose product has another sign.
 ///
-/// It takes no memory.
+/// The call allocates no memory.
 ///
 /// Source: Björner, Las Vergnas, Sturmfels, White and Ziegler, *Oriented Matroids*, chapter 8.
 pub fn realizes(vectors: &[Vector], chi: &Chirotope) -> Result<(), Subset>

@@ -12,11 +12,11 @@ use om_signs::{List, MAX_ELEMENTS, NoMemory, RawMap, Sign};
 use om_subsets::Subset;
 use std::alloc::Global;
 
-/// The chirotope of rank 3 of some vectors: each increasing triple has the sign of its triple product. It is not made
-/// normal. There are 1 to [`MAX_ELEMENTS`] vectors.
+/// The chirotope of rank 3 of some vectors: each increasing triple has the sign of its triple product. It isn't
+/// made normal. There are from 1 to [`MAX_ELEMENTS`] vectors.
 ///
-/// `RankLow` comes exactly where every triple product is 0, so always for fewer than three vectors, and `Memory` only
-/// for want of memory.
+/// `RankLow` comes exactly if every triple product is 0, so always for fewer than three vectors. `Memory` comes
+/// only if memory runs out.
 ///
 /// Source: Björner, Las Vergnas, Sturmfels, White and Ziegler, *Oriented Matroids*, chapter 1.
 pub fn signs_of(alloc: Global, vectors: &[Vector]) -> Result<Chirotope, SignsError>
@@ -36,7 +36,7 @@ pub fn signs_of(alloc: Global, vectors: &[Vector]) -> Result<Chirotope, SignsErr
     }))
 }
 
-/// The first triple, in lexicographic order, whose triple product isn't 0, or None where all are 0.
+/// The first triple, in lexicographic order, whose triple product isn't 0, or None if all are 0.
 fn some_nonzero(vectors: &[Vector]) -> Option<Subset>
     requires { length vectors.now ≤ MAX_ELEMENTS }
     ensures none { IsNone result ↔ IsRankLow vectors.now }

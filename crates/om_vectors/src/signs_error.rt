@@ -7,7 +7,7 @@ pub enum SignsError {
     /// Every triple product is 0.
     #[error("all triple products are 0")]
     RankLow,
-    /// Want of memory.
+    /// Memory ran out.
     #[error("out of memory")]
     Memory,
 }

@@ -6,7 +6,7 @@ ghost use Rattle.om_signs.specs.Coordinates.{IsCoordinate};
 
 use super::vector::Vector;
 
-/// The triple product of three vectors, which is their determinant, exact:
+/// The triple product of three vectors, which is their determinant. It is exact:
 /// `ax*by*cz - ax*bz*cy + ay*bz*cx - ay*bx*cz + az*bx*cy - az*by*cx`.
 ///
 /// Source: Björner, Las Vergnas, Sturmfels, White and Ziegler, *Oriented Matroids*, chapter 1.

@@ -10,8 +10,8 @@ use super::vector::Vector;
 use om_signs::Sign;
 use om_subsets::Subset;
 
-/// The sign of the triple product of the vectors of three elements. Their set has as many elements to choose from as
-/// there are vectors.
+/// The sign of the triple product of the vectors of three elements. Their set is taken from the elements 1 to the
+/// number of vectors.
 pub(crate) fn sign_of_triple(vectors: &[Vector], s: Subset) -> Sign
     requires n { s.n ≡ length vectors.now }
     requires size { length s.elements ≡ 3 }
@@ -25,7 +25,7 @@ pub(crate) fn sign_of_triple(vectors: &[Vector], s: Subset) -> Sign
     ))
 }
 
-/// The sign of a whole number: plus above 0, minus below 0, and zero at 0.
+/// The sign of an integer: plus above 0, minus below 0, and zero at 0.
 ///
 /// Source: Björner, Las Vergnas, Sturmfels, White and Ziegler, *Oriented Matroids*, chapter 1.
 pub fn sign_of(z: i128) -> Sign

@@ -6,7 +6,8 @@ ghost use Rattle.om_signs.specs.Coordinates.{IsCoordinate};
 use om_signs::MAX_COORDINATE;
 use std::marker::Model;
 
-/// A vector of three whole numbers, each of size at most [`MAX_COORDINATE`]. Contracts see the three numbers.
+/// A vector of three integers, each of absolute value at most [`MAX_COORDINATE`]. Contracts see the three
+/// numbers.
 ///
 /// Source: Björner, Las Vergnas, Sturmfels, White and Ziegler, *Oriented Matroids*, chapter 1.
 #[derive(Clone, Copy, Debug, PartialEq, Eq)]
@@ -29,7 +30,7 @@ impl Model for Vector {
 }
 
 impl Vector {
-    /// The vector with these coordinates, or None where one of them has a size above [`MAX_COORDINATE`].
+    /// The vector with these coordinates, or None if one of them has an absolute value above [`MAX_COORDINATE`].
     pub fn new(x: i64, y: i64, z: i64) -> Option<Vector>
         ensures { SomeIff result (IsWithinLimit (vector_of x y z)) (vector_of x y z) }
     {
@@ -47,7 +48,7 @@ impl Vector {
         Vector { x: 0, y: 0, z: 0 }
     }
 
-    /// The first coordinate, of size at most [`MAX_COORDINATE`].
+    /// The first coordinate, of absolute value at most [`MAX_COORDINATE`].
     pub fn x(self) -> i64
         ensures value { result ≡ self.x }
         ensures size { IsCoordinate result }
@@ -55,7 +56,7 @@ impl Vector {
         self.x
     }
 
-    /// The second coordinate, of size at most [`MAX_COORDINATE`].
+    /// The second coordinate, of absolute value at most [`MAX_COORDINATE`].
     pub fn y(self) -> i64
         ensures value { result ≡ self.y }
         ensures size { IsCoordinate result }
@@ -63,7 +64,7 @@ impl Vector {
         self.y
     }
 
-    /// The third coordinate, of size at most [`MAX_COORDINATE`].
+    /// The third coordinate, of absolute value at most [`MAX_COORDINATE`].
     pub fn z(self) -> i64
         ensures value { result ≡ self.z }
         ensures size { IsCoordinate result }
@@ -72,7 +73,7 @@ impl Vector {
     }
 }
 
-/// Whether a number has a size of at most [`MAX_COORDINATE`].
+/// Whether a number has an absolute value of at most [`MAX_COORDINATE`].
 fn is_coordinate(x: i64) -> bool
     ensures { IsTrue result ↔ IsCoordinate x }
 {

@@ -4,7 +4,7 @@ use super::vector::Vector;
 use om_signs::MAX_ELEMENTS;
 use std::marker::Model;
 
-/// The places of a word.
+/// The number of places of a word.
 const ROOM: usize = MAX_ELEMENTS as usize;
 
 /// A list of at most [`MAX_ELEMENTS`] vectors, by value. Contracts see the list.
@@ -42,7 +42,7 @@ impl Word {
         }
     }
 
-    /// There are at most [`MAX_ELEMENTS`] vectors. It does nothing: its contract is the fact.
+    /// There are at most [`MAX_ELEMENTS`] vectors. The call does nothing: its contract is this fact.
     pub fn is_lawful(&self)
         ensures { length self.now ≤ MAX_ELEMENTS }
     {
@@ -57,7 +57,7 @@ impl Word {
         self.len
     }
 
-    /// The vector at the index `i`, counted from 0 and below the length.
+    /// The vector at the index `i`, counted from 0. `i` is below the length.
     pub fn at(&self, i: u8) -> Vector
         requires { i < length self.now }
         ensures { slice_get self.now i ≡ Some result }
@@ -81,7 +81,7 @@ impl Word {
         self.len += 1;
     }
 
-    /// Keeps the first `len` vectors, with `len` at most the length.
+    /// Keeps the first `len` vectors. `len` is at most the length.
     pub fn cut(&mut self, len: u8)
         requires { len ≤ length self.old }
         ensures { self.new ≡ take len self.old }

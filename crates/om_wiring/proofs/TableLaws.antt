@@ -26,7 +26,8 @@ not_in_single p x ne (inl q) = ne q
 not_in_single p x ne (inr q) = absurd q
 
 -- the row of p and x, negated, is that of x and p
-pub row_before : (m : SignMap) (p x : ℕ) → IsElement m.elements x → p < x → map opposite (cocircuit_vector m (p ∷ x ∷ [])) ≡ cocircuit_vector m (x ∷ p ∷ [])
+pub row_before : (m : SignMap) (p x : ℕ) → IsElement m.elements x → p < x
+    → map opposite (cocircuit_vector m (p ∷ x ∷ [])) ≡ cocircuit_vector m (x ∷ p ∷ [])
 row_before m p x i l =
     ap (λ a. map opposite (cocircuit_vector m a)) (sym pair)
     ∙ row_odd m (x ∷ []) p (single_list m.elements x i) (not_in_single x p (omega arith)) (rw (lt-ltb p x l) refl)

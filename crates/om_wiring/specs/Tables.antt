@@ -6,9 +6,11 @@ use Rattle.om_signs.specs.declared.sign.Sign.{Sign}
 use Rattle.om_chirotope.specs.Map.{SignMap}
 use Rattle.om_chirotope.specs.Pictures.{AreRowsBelow}
 
--- at p - 1, for each element p below a limit, the rows of p: at x - 1 the vector that has at each y the value of p, x and y
+-- The rows of each element p below a limit are at p - 1 of the table. The row at x - 1 has at each y the value of
+-- p, x and y.
 abbrev pub HasRowsBelow : SignMap → List (List (List Sign)) → ℕ → Type 0
-HasRowsBelow m table limit = (p : ℕ) → 1 ≤ p → p < limit → (length (get_or table (p - 1) []) ≡ MAX_PLACES) × AreRowsBelow m (p ∷ []) (get_or table (p - 1) []) (m.elements + 1)
+HasRowsBelow m table limit = (p : ℕ) → 1 ≤ p → p < limit → (length (get_or table (p - 1) []) ≡ MAX_PLACES)
+    × AreRowsBelow m (p ∷ []) (get_or table (p - 1) []) (m.elements + 1)
 
 -- the table of a map of rank 3, with room for all elements
 pub record IsTable (m : SignMap) (table : List (List (List Sign))) : Type 0 where

@@ -12,11 +12,12 @@ use om_signs::{MAX_ELEMENTS, MAX_PLACES, Sign, SignVec};
 use om_subsets::Subset;
 use std::marker::Model;
 
-/// The room for the rows of all elements.
+/// The number of places for the rows of all elements.
 const ROOM: usize = MAX_PLACES as usize;
 
-/// A chirotope of rank 3 with a table of its values, for calls that read many of them. The row of two elements p and x is the
-/// sign vector that has at each element y the value of the tuple p, x, y. Contracts see the map of the chirotope.
+/// A chirotope of rank 3 with a table of its values, for calls that read many of them. The row of two elements p and x
+/// is the sign vector that has at each element y the value of the tuple p, x, y. Contracts see the map of the
+/// chirotope.
 #[derive(Drop)]
 pub struct Values<'a> {
     chi: &'a Chirotope,
@@ -36,7 +37,7 @@ impl<'a> Model for Values<'a> {
 }
 
 impl<'a> Values<'a> {
-    /// The chirotope with the table of its values. It takes no memory.
+    /// The chirotope with the table of its values. The call allocates no memory.
     pub fn of(chi: &'a Chirotope) -> Values<'a>
         requires { chi.now.rank ≡ 3 }
         ensures { result ≡ chi.now }
@@ -48,8 +49,8 @@ impl<'a> Values<'a> {
         }
     }
 
-    /// The map meets the axioms, and the number of its elements is from 1 to [`MAX_ELEMENTS`]. It does nothing: its contract
-    /// is the fact.
+    /// The map satisfies the axioms, and the number of its elements is from 1 to [`MAX_ELEMENTS`]. The call does
+    /// nothing: its contract is this fact.
     pub fn is_lawful(&self)
         ensures lawful { IsChirotope self.now }
         ensures low { 1 ≤ self.now.elements }
@@ -77,7 +78,7 @@ impl<'a> Values<'a> {
         chi.elements()
     }
 
-    /// The sign of a set of three of the elements 1 to n, where n is their number.
+    /// The sign of a set of three elements.
     pub fn at(&self, s: Subset) -> Sign
         requires n { s.n ≡ self.now.elements }
         requires size { length s.elements ≡ self.now.rank }
@@ -88,7 +89,7 @@ impl<'a> Values<'a> {
         chi.at(s)
     }
 
-    /// The row of two elements, each from 1 to n: at each element y the value of p, x and y.
+    /// The row of two elements, each from 1 to the number of elements: at each element y the value of p, x and y.
     pub fn row(&self, p: u8, x: u8) -> SignVec
         requires p { IsElement self.now.elements p }
         requires x { IsElement self.now.elements x }
@@ -99,7 +100,7 @@ impl<'a> Values<'a> {
         rows[x as usize - 1]
     }
 
-    /// The value of three elements, each from 1 to n.
+    /// The value of three elements, each from 1 to the number of elements.
     pub fn value(&self, p: u8, x: u8, y: u8) -> Sign
         requires p { IsElement self.now.elements p }
         requires x { IsElement self.now.elements x }
@@ -125,7 +126,7 @@ fn table_of(chi: &Chirotope) -> [[SignVec; ROOM]; ROOM]
     table
 }
 
-/// The rows of one element with each, by the rows of the elements before it.
+/// The rows of one element with every element, found with the rows of the elements before it.
 fn rows_of(chi: &Chirotope, p: u8, table: &[[SignVec; ROOM]]) -> [SignVec; ROOM]
     requires rank { chi.now.rank ≡ 3 }
     requires p { IsElement chi.now.elements p }
@@ -144,7 +145,7 @@ fn rows_of(chi: &Chirotope, p: u8, table: &[[SignVec; ROOM]]) -> [SignVec; ROOM]
     rows
 }
 
-/// The row of two elements that differ: where x comes before p, the negative of its row with p.
+/// The row of two different elements. If x comes before p, it is the negative of the row of x with p.
 fn row_of(chi: &Chirotope, p: u8, x: u8, table: &[[SignVec; ROOM]]) -> SignVec
     requires rank { chi.now.rank ≡ 3 }
     requires p { IsElement chi.now.elements p }

@@ -7,10 +7,14 @@ use Rattle.om_certificate.proofs.Reasons.{all_balanced, unbalanced_refused}
 use Rattle.om_certificate.proofs.balance.check_balance.Goals as goal
 
 pub count_brackets-requires-clause-small_room : goal.count_brackets-requires-clause-small_room
-count_brackets-requires-clause-small_room c = triples_room c.args.chi.now.elements (let e = c.elements-n.ensures.value in let h = c.elements-n.ensures.high in omega arith)
+count_brackets-requires-clause-small_room c =
+    triples_room c.args.chi.now.elements (let e = c.elements-n.ensures.value in let h = c.elements-n.ensures.high in
+    omega arith)
 
 pub count_brackets-requires-clause-big_room : goal.count_brackets-requires-clause-big_room
-count_brackets-requires-clause-big_room c = triples_room c.args.chi.now.elements (let e = c.elements-n.ensures.value in let h = c.elements-n.ensures.high in omega arith)
+count_brackets-requires-clause-big_room c =
+    triples_room c.args.chi.now.elements (let e = c.elements-n.ensures.value in let h = c.elements-n.ensures.high in
+    omega arith)
 
 pub count_brackets-requires-clause-small_empty : goal.count_brackets-requires-clause-small_empty
 count_brackets-requires-clause-small_empty c = All-replicate (λ k. k ≡ 0) ROOM 0 refl
@@ -19,19 +23,29 @@ pub count_brackets-requires-clause-big_empty : goal.count_brackets-requires-clau
 count_brackets-requires-clause-big_empty c = All-replicate (λ k. k ≡ 0) ROOM 0 refl
 
 pub bounds-small-k : goal.bounds-small-k
-bounds-small-k c = let r = triples_room c.elements-n.result c.elements-n.ensures.high in let e = c.choose-place-end.ensures.value in omega arith
+bounds-small-k c = let r = triples_room c.elements-n.result c.elements-n.ensures.high in let e =
+    c.choose-place-end.ensures.value in omega arith
 
 pub bounds-big-k : goal.bounds-big-k
-bounds-big-k c = let r = triples_room c.elements-n.result c.elements-n.ensures.high in let e = c.choose-place-end.ensures.value in omega arith
+bounds-big-k c = let r = triples_room c.elements-n.result c.elements-n.ensures.high in let e =
+    c.choose-place-end.ensures.value in omega arith
 
 pub returns-then-small-k-clause-refused : goal.returns-then-small-k-clause-refused
 returns-then-small-k-clause-refused c =
-    unbalanced_refused c.args.chi.now c.args.entries.now c.count_brackets.new.small c.count_brackets.new.big c.loop-place.place c.unrank.result (c.requires.lawful) c.count_brackets.ensures (c.unrank.ensures.n ∙ c.elements-n.ensures.value)
-    (record { list = subst (λ n. IsSubsetFrom 1 n c.unrank.result.elements) c.elements-n.ensures.value c.unrank.ensures.lawful; size = c.unrank.ensures.size })
+    unbalanced_refused c.args.chi.now c.args.entries.now c.count_brackets.new.small c.count_brackets.new.big
+    c.loop-place.place c.unrank.result (c.requires.lawful) c.count_brackets.ensures
+    (c.unrank.ensures.n ∙ c.elements-n.ensures.value)
+    (record {
+      list = subst (λ n. IsSubsetFrom 1 n c.unrank.result.elements) c.elements-n.ensures.value
+          c.unrank.ensures.lawful;
+      size = c.unrank.ensures.size;
+    })
     (ap (λ n. rank_of n c.unrank.result.elements) (sym c.elements-n.ensures.value) ∙ c.unrank.ensures.place)
     c.if-small-k.true c.loop-place.invariant
 
 pub returns-clause-accepted : goal.returns-clause-accepted
 returns-clause-accepted c =
-    let end : c.choose-place-end.result ≡ choose c.args.chi.now.elements 3 = c.choose-place-end.ensures.value ∙ ap (λ n. choose n 3) c.elements-n.ensures.value in
-    all_balanced c.args.chi.now c.args.entries.now c.count_brackets.new.small c.count_brackets.new.big c.count_brackets.ensures (λ j l. c.loop-place.invariant j (omega arith))
+    let end : c.choose-place-end.result ≡ choose c.args.chi.now.elements 3 = c.choose-place-end.ensures.value
+    ∙ ap (λ n. choose n 3) c.elements-n.ensures.value in
+    all_balanced c.args.chi.now c.args.entries.now c.count_brackets.new.small c.count_brackets.new.big
+    c.count_brackets.ensures (λ j l. c.loop-place.invariant j (omega arith))

@@ -15,4 +15,6 @@ returns-then-has_strict-clause-accepted c = record {
 }
 
 pub returns-else-has_strict-clause-refused : goal.returns-else-has_strict-clause-refused
-returns-else-has_strict-clause-refused c = no_strict c.in_default.ensures.none c.in_ok-check_balance.ensures.accepted (λ h. false≢true (sym c.if-has_strict.false ∙ c.has_strict.ensures.1 h))
+returns-else-has_strict-clause-refused c =
+    no_strict c.in_default.ensures.none c.in_ok-check_balance.ensures.accepted
+    (λ h. false≢true (sym c.if-has_strict.false ∙ c.has_strict.ensures.1 h))

@@ -6,7 +6,8 @@ use Rattle.om_certificate.proofs.checking.check_vectors.Goals as goal
 
 pub returns-then-len-elements-clause-refused : goal.returns-then-len-elements-clause-refused
 returns-then-len-elements-clause-refused c =
-    vectors_refused c.args.chi.now c.args.word.now _ _ c.elements-then-len-elements.ensures.value c.len-then-len-elements.ensures.value
+    vectors_refused c.args.chi.now c.args.word.now _ _ c.elements-then-len-elements.ensures.value
+    c.len-then-len-elements.ensures.value
     (λ e. c.if-len-elements.true (c.len.ensures.value ∙ e ∙ sym c.elements.ensures.value))
 
 pub returns-in-Err-clause-refused : goal.returns-in-Err-clause-refused

@@ -10,6 +10,8 @@ lawful-requires-clause-axioms g c =
     let whole : IsMap (map_of c.args.raw) = record { part = c.requires.rank; whole = c.requires.whole } in
     record {
       whole = whole;
-      nonzero = nonzero_value (map_of c.args.raw) whole (λ z. false≢true (c.if-is_all_zero.ensures.1 (subst IsAllZero (sym c.as_slice.ensures) z)));
+      nonzero =
+          nonzero_value (map_of c.args.raw) whole
+          (λ z. false≢true (c.if-is_all_zero.ensures.1 (subst IsAllZero (sym c.as_slice.ensures) z)));
       orthogonal = c.in-None.ensures.none.0 refl;
     }

@@ -7,4 +7,5 @@ returns c =
     let inv = c.loop-i.invariant in
     let end = c.len-i-end.ensures in
     let over = c.loop-i-test.false in
-    turned_map c.args.raw.rank c.args.raw.elements c.loop-i.turned.rank c.loop-i.turned.elements c.args.raw.signs c.loop-i.turned.signs inv.rank inv.elements inv.size (λ k l. inv.turned k (omega arith))
+    turned_map c.args.raw.rank c.args.raw.elements c.loop-i.turned.rank c.loop-i.turned.elements c.args.raw.signs
+    c.loop-i.turned.signs inv.rank inv.elements inv.size (λ k l. inv.turned k (omega arith))

@@ -14,11 +14,17 @@ loop-place-preserved c =
     let room = c.requires.room in
     let size = c.loop-place.invariant.size in
     let l : c.loop-place.place < choose m.elements (m.rank - 1) = omega (arith, end, test) in
-    let e : c.cocircuit_of.result ≡ cocircuit_vector m (subset_at m.elements (m.rank - 1) c.loop-place.place) = c.cocircuit_of.ensures ∙ ap (cocircuit_vector m) (list_at m.elements (m.rank - 1) c.loop-place.place c.loop-place.a l c.loop-place.invariant.at) in
+    let e : c.cocircuit_of.result ≡ cocircuit_vector m (subset_at m.elements (m.rank - 1) c.loop-place.place) =
+    c.cocircuit_of.ensures
+    ∙ ap (cocircuit_vector m)
+    (list_at m.elements (m.rank - 1) c.loop-place.place c.loop-place.a l c.loop-place.invariant.at) in
     record {
       size = length-set _ _ _ ∙ size;
-      filled = table_more m c.loop-place.table c.loop-place.place c.cocircuit_of.result (omega (arith, l, room, size)) e c.loop-place.invariant.filled;
-      at = at_next m.elements (m.rank - 1) c.loop-place.place c.loop-place.a c.following-a.result c.following-a.ensures.n c.following-a.ensures.size c.following-a.ensures.lawful c.following-a.ensures.place l c.loop-place.invariant.at;
+      filled = table_more m c.loop-place.table c.loop-place.place c.cocircuit_of.result (omega (arith, l, room, size)) e
+          c.loop-place.invariant.filled;
+      at = at_next m.elements (m.rank - 1) c.loop-place.place c.loop-place.a c.following-a.result
+          c.following-a.ensures.n c.following-a.ensures.size c.following-a.ensures.lawful c.following-a.ensures.place l
+          c.loop-place.invariant.at;
     }
 
 pub returns : goal.returns
@@ -27,4 +33,5 @@ returns c =
     let room = c.requires.room in
     let end = c.choose-place-end.ensures.value in
     let over = c.loop-place-test.false in
-    table_done (map_of c.args.raw.now) c.loop-place.table (omega (arith, size, room)) (λ j l. c.loop-place.invariant.filled j (omega (arith, l, end, over)))
+    table_done (map_of c.args.raw.now) c.loop-place.table (omega (arith, size, room))
+    (λ j l. c.loop-place.invariant.filled j (omega (arith, l, end, over)))

@@ -11,7 +11,9 @@ use Rattle.om_subsets.proofs.Walks.{at_next, list_at}
 use Rattle.om_chirotope.proofs.cocircuit_table.fill_while_orthogonal.Goals as goal
 
 pub orthogonal-requires : goal.orthogonal-requires
-orthogonal-requires c = c.requires.vector ∙ sym (ap length c.cocircuit_of-other.ensures ∙ length-vector c.args.raw.now.elements (along (value_of (map_of c.args.raw.now)) c.loop-place.a.elements))
+orthogonal-requires c = c.requires.vector
+    ∙ sym (ap length c.cocircuit_of-other.ensures
+    ∙ length-vector c.args.raw.now.elements (along (value_of (map_of c.args.raw.now)) c.loop-place.a.elements))
 
 pub returns-then-not-orthogonal-clause-here : goal.returns-then-not-orthogonal-clause-here
 returns-then-not-orthogonal-clause-here c = λ o.
@@ -19,8 +21,12 @@ returns-then-not-orthogonal-clause-here c = λ o.
     let end = c.choose-place-end.ensures.value in
     let test = c.loop-place-test.true in
     let l : c.loop-place.place < choose m.elements (m.rank - 1) = omega (arith, end, test) in
-    let e : c.cocircuit_of-other.result ≡ cocircuit_vector m (subset_at m.elements (m.rank - 1) c.loop-place.place) = c.cocircuit_of-other.ensures ∙ ap (cocircuit_vector m) (list_at m.elements (m.rank - 1) c.loop-place.place c.loop-place.a l c.loop-place.invariant.at) in
-    false≢true (c.if-not-orthogonal.ensures.1 (subst (IsOrthogonal c.args.vector) (table_at m c.loop-place.place l ∙ sym e) o))
+    let e : c.cocircuit_of-other.result ≡ cocircuit_vector m (subset_at m.elements (m.rank - 1) c.loop-place.place) =
+    c.cocircuit_of-other.ensures
+    ∙ ap (cocircuit_vector m)
+    (list_at m.elements (m.rank - 1) c.loop-place.place c.loop-place.a l c.loop-place.invariant.at) in
+    false≢true
+    (c.if-not-orthogonal.ensures.1 (subst (IsOrthogonal c.args.vector) (table_at m c.loop-place.place l ∙ sym e) o))
 
 pub loop-place-preserved : goal.loop-place-preserved
 loop-place-preserved c =
@@ -30,12 +36,20 @@ loop-place-preserved c =
     let room = c.requires.room in
     let size = c.loop-place.invariant.size in
     let l : c.loop-place.place < choose m.elements (m.rank - 1) = omega (arith, end, test) in
-    let e : c.cocircuit_of-other.result ≡ cocircuit_vector m (subset_at m.elements (m.rank - 1) c.loop-place.place) = c.cocircuit_of-other.ensures ∙ ap (cocircuit_vector m) (list_at m.elements (m.rank - 1) c.loop-place.place c.loop-place.a l c.loop-place.invariant.at) in
+    let e : c.cocircuit_of-other.result ≡ cocircuit_vector m (subset_at m.elements (m.rank - 1) c.loop-place.place) =
+    c.cocircuit_of-other.ensures
+    ∙ ap (cocircuit_vector m)
+    (list_at m.elements (m.rank - 1) c.loop-place.place c.loop-place.a l c.loop-place.invariant.at) in
     record {
       size = length-set _ _ _ ∙ size;
-      filled = table_more m c.loop-place.table c.loop-place.place c.cocircuit_of-other.result (omega (arith, l, room, size)) e c.loop-place.invariant.filled;
-      held = below_more _ _ c.loop-place.invariant.held (subst (IsOrthogonal c.args.vector) (e ∙ sym (table_at m c.loop-place.place l)) (c.if-not-orthogonal.ensures.0 refl));
-      at = at_next m.elements (m.rank - 1) c.loop-place.place c.loop-place.a c.following-a.result c.following-a.ensures.n c.following-a.ensures.size c.following-a.ensures.lawful c.following-a.ensures.place l c.loop-place.invariant.at;
+      filled = table_more m c.loop-place.table c.loop-place.place c.cocircuit_of-other.result
+          (omega (arith, l, room, size)) e c.loop-place.invariant.filled;
+      held = below_more _ _ c.loop-place.invariant.held
+          (subst (IsOrthogonal c.args.vector) (e ∙ sym (table_at m c.loop-place.place l))
+          (c.if-not-orthogonal.ensures.0 refl));
+      at = at_next m.elements (m.rank - 1) c.loop-place.place c.loop-place.a c.following-a.result
+          c.following-a.ensures.n c.following-a.ensures.size c.following-a.ensures.lawful c.following-a.ensures.place l
+          c.loop-place.invariant.at;
     }
 
 pub returns-clause-none : goal.returns-clause-none
@@ -44,4 +58,5 @@ returns-clause-none c =
     let room = c.requires.room in
     let end = c.choose-place-end.ensures.value in
     let over = c.loop-place-test.false in
-    table_done (map_of c.args.raw.now) c.loop-place.table (omega (arith, size, room)) (λ j l. c.loop-place.invariant.filled j (omega (arith, l, end, over)))
+    table_done (map_of c.args.raw.now) c.loop-place.table (omega (arith, size, room))
+    (λ j l. c.loop-place.invariant.filled j (omega (arith, l, end, over)))

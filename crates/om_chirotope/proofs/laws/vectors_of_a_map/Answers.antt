@@ -14,7 +14,8 @@ pub returns-clause-cocircuit : goal.returns-clause-cocircuit
 returns-clause-cocircuit c = cocircuit_place
 
 pub returns-clause-lengths : goal.returns-clause-lengths
-returns-clause-lengths c = λ m xs. (length-vector m.elements (around (value_of m) xs), length-vector m.elements (along (value_of m) xs))
+returns-clause-lengths c =
+    λ m xs. (length-vector m.elements (around (value_of m) xs), length-vector m.elements (along (value_of m) xs))
 
 pub returns-clause-value : goal.returns-clause-value
 returns-clause-value c = λ m xs h. value_in_order 1 m.elements (chi_of m) xs h

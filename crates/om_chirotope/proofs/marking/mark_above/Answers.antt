@@ -6,7 +6,8 @@ pub loop-e-init : goal.loop-e-init
 loop-e-init c = nothing_above (map_of c.args.raw.now) c.args.words.now c.requires.bases
 
 pub loop-e-preserved : goal.loop-e-preserved
-loop-e-preserved c = above_more (map_of c.args.raw.now) c.loop-e.words c.spread.new.words c.loop-e.e c.spread.ensures c.loop-e.invariant
+loop-e-preserved c = above_more (map_of c.args.raw.now) c.loop-e.words c.spread.new.words c.loop-e.e c.spread.ensures
+    c.loop-e.invariant
 
 pub returns : goal.returns
 returns c = all_above (map_of c.args.raw.now) c.loop-e.words c.loop-e.e c.loop-e-test.false c.loop-e.invariant

@@ -3,7 +3,8 @@ use Rattle.std.proofs.lemmas.Bool.{false≢true}
 use Rattle.om_chirotope.specs.Map.{map_of}
 use Rattle.om_chirotope.specs.Marks.{IsMarked}
 use Rattle.om_subsets.specs.Members.{mask_of}
-use Rattle.om_chirotope.proofs.Marks.{AreBasesMarkedBelow, all_marked, basis_in_itself, basis_marked, mark_kept, mark_only, none_marked}
+use Rattle.om_chirotope.proofs.Marks.{AreBasesMarkedBelow, all_marked, basis_in_itself, basis_marked, mark_kept}
+use Rattle.om_chirotope.proofs.Marks.{mark_only, none_marked}
 use Rattle.om_subsets.specs.Subsets.{choose}
 use Rattle.om_subsets.proofs.Walks.{IsAt, at_first, at_next}
 use Rattle.om_chirotope.proofs.marking.mark_bases.Goals as goal
@@ -11,7 +12,8 @@ use Rattle.om_chirotope.proofs.marking.mark_bases.Goals.{then-is_nonzero, else-i
 
 pub mark-requires : goal.mark-requires
 mark-requires c =
-    let within : c.mask.result < 2 ^ c.args.raw.now.elements = subst (λ y. c.mask.result < 2 ^ y) c.loop-k.invariant.at.n_is c.mask.ensures.bits.within in
+    let within : c.mask.result < 2 ^ c.args.raw.now.elements =
+    subst (λ y. c.mask.result < 2 ^ y) c.loop-k.invariant.at.n_is c.mask.ensures.bits.within in
     let room = c.loop-k.invariant.marked.room in
     omega (arith, within, room)
 
@@ -23,16 +25,29 @@ loop-k-preserved c =
     let end = c.choose-k-end.ensures.value in
     let test = c.loop-k-test.true in
     let few : c.loop-k.k < choose m.elements m.rank = omega (arith, end, test) in
-    let next : IsAt m.elements m.rank (c.loop-k.k + 1) c.following-b.result = at_next m.elements m.rank c.loop-k.k c.loop-k.b c.following-b.result c.following-b.ensures.n c.following-b.ensures.size c.following-b.ensures.lawful c.following-b.ensures.place few at in
+    let next : IsAt m.elements m.rank (c.loop-k.k + 1) c.following-b.result =
+    at_next m.elements m.rank c.loop-k.k c.loop-k.b c.following-b.result c.following-b.ensures.n
+    c.following-b.ensures.size c.following-b.ensures.lawful c.following-b.ensures.place few at in
     elim c.if-is_nonzero.branch [
       | then-is_nonzero w ↦
-          let same : w.mask.result ≡ mask_of 1 b c.args.raw.now.elements = w.mask.ensures.value ∙ ap (λ y. mask_of 1 b y) at.n_is in
+          let same : w.mask.result ≡ mask_of 1 b c.args.raw.now.elements = w.mask.ensures.value
+          ∙ ap (λ y. mask_of 1 b y) at.n_is in
           record {
             marked = subst (λ ms. AreBasesMarkedBelow m ms (c.loop-k.k + 1)) (sym w.words-is)
-                (basis_marked m c.loop-k.words w.mark.new.words b c.loop-k.k at.list at.size (at.place few) w.mark.auto.words
-                (λ j h. mark_kept c.loop-k.words w.mark.new.words w.mask.result j w.mark.ensures.here (w.mark.ensures.others j) h)
+                (basis_marked m c.loop-k.words w.mark.new.words b c.loop-k.k at.list at.size (at.place few)
+                w.mark.auto.words
+                (λ j h. mark_kept c.loop-k.words w.mark.new.words w.mask.result j w.mark.ensures.here
+                (w.mark.ensures.others j) h)
                 (λ basis. subst (IsMarked w.mark.new.words) same w.mark.ensures.here)
-                (mark_only m c.loop-k.words w.mark.new.words w.mask.result (basis_in_itself m b w.mask.result same (record { list = at.list; size = at.size; nonzero = λ z. w.if-is_nonzero.ensures.0 refl (c.sign_of.ensures.value ∙ z) })) w.mark.ensures.others c.loop-k.invariant.marked.only)
+                (mark_only m c.loop-k.words w.mark.new.words w.mask.result
+                (basis_in_itself m b w.mask.result same
+                (record {
+                  list = at.list;
+                  size = at.size;
+                  nonzero =
+                      λ z. w.if-is_nonzero.ensures.0 refl (c.sign_of.ensures.value ∙ z);
+                })) w.mark.ensures.others
+                c.loop-k.invariant.marked.only)
                 c.loop-k.invariant.marked);
             at = next;
           }
@@ -40,7 +55,8 @@ loop-k-preserved c =
         marked = subst (λ ms. AreBasesMarkedBelow m ms (c.loop-k.k + 1)) (sym w.words-is)
             (basis_marked m c.loop-k.words c.loop-k.words b c.loop-k.k at.list at.size (at.place few) refl
             (λ j h. h)
-            (λ basis. absurd (false≢true (w.if-is_nonzero.ensures.1 (λ z. basis.nonzero (sym c.sign_of.ensures.value ∙ z)))))
+            (λ basis. absurd
+            (false≢true (w.if-is_nonzero.ensures.1 (λ z. basis.nonzero (sym c.sign_of.ensures.value ∙ z)))))
             c.loop-k.invariant.marked.only
             c.loop-k.invariant.marked);
         at = next;
@@ -58,5 +74,6 @@ loop-k-init c =
     let m = map_of c.args.raw.now in
     record {
       marked = none_marked m c.args.words.now c.requires.room c.requires.clear;
-      at = at_first m.elements m.rank c.first-b.result c.first-b.ensures.n c.first-b.ensures.size c.first-b.ensures.lawful c.first-b.ensures.place;
+      at = at_first m.elements m.rank c.first-b.result c.first-b.ensures.n c.first-b.ensures.size
+          c.first-b.ensures.lawful c.first-b.ensures.place;
     }

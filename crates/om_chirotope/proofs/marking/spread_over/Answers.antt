@@ -28,7 +28,8 @@ loop-i-preserved c =
           let test = c.loop-i-test.true in
           let inside : i < length words = omega (arith, size, test) in
           subst (λ ws. IsSpreadBelow before ws d (i + 1)) (sym w.words-is)
-          (subst (λ k. IsSpreadBelow before (set words i (bit_or (get_or words i 0) (get_or words (i - k) 0))) d (i + 1)) (sym step)
+          (subst (λ k. IsSpreadBelow before (set words i (bit_or (get_or words i 0) (get_or words (i - k) 0))) d
+          (i + 1)) (sym step)
           (spread_on before words d i inside one c.loop-i.invariant))
       | else-i-d-eq1 w ↦
           subst (λ ws. IsSpreadBelow before ws d (i + 1)) (sym w.words-is)
@@ -41,4 +42,5 @@ returns c =
     let over = c.loop-i-test.false in
     let end = c.loop-i.auto.i-end in
     let all : c.loop-i.i ≡ length c.args.words.now = omega (arith, size, over, end) in
-    spread_over c.args.words.now c.loop-i.words c.args.d (c.args.d + 6) refl (subst (IsSpreadBelow c.args.words.now c.loop-i.words c.args.d) all c.loop-i.invariant)
+    spread_over c.args.words.now c.loop-i.words c.args.d (c.args.d + 6) refl
+    (subst (IsSpreadBelow c.args.words.now c.loop-i.words c.args.d) all c.loop-i.invariant)

@@ -11,7 +11,10 @@ loop-k-preserved c = λ j g l. elim (cases_eq j c.loop-k.k) [
       let test = c.loop-k-test.true in
       let within = c.requires.within in
       subst (λ i. IsOrthogonal c.args.vector (get_or c.args.table.now i [])) (sym q)
-      (subst (IsOrthogonal c.args.vector) (c.index-table-k.is ∙ get_or_default c.args.table.now c.loop-k.k c.index-table-k.result [] (omega (arith, test, within))) (c.if-not-orthogonal.ensures.0 refl))
+      (subst (IsOrthogonal c.args.vector)
+      (c.index-table-k.is
+      ∙ get_or_default c.args.table.now c.loop-k.k c.index-table-k.result [] (omega (arith, test, within)))
+      (c.if-not-orthogonal.ensures.0 refl))
   | inr n ↦ c.loop-k.invariant j g (omega (arith, l, n))
 ]
 

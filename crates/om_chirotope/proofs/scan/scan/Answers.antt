@@ -9,11 +9,14 @@ use Rattle.om_chirotope.proofs.scan.scan.Goals as goal
 pub loop-place-init : goal.loop-place-init
 loop-place-init c = record {
   all = λ t b p lt. absurd (omega (arith, lt));
-  at = at_first c.args.raw.now.elements (c.args.raw.now.rank + 1) c.first-s.result c.first-s.ensures.n c.first-s.ensures.size c.first-s.ensures.lawful c.first-s.ensures.place;
+  at = at_first c.args.raw.now.elements (c.args.raw.now.rank + 1) c.first-s.result c.first-s.ensures.n
+      c.first-s.ensures.size c.first-s.ensures.lawful c.first-s.ensures.place;
 }
 
 pub first_not_orthogonal-requires-clause-lengths : goal.first_not_orthogonal-requires-clause-lengths
-first_not_orthogonal-requires-clause-lengths c = table_lengths (map_of c.args.raw.now) c.loop-place.s.elements c.circuit_of.result c.args.cocircuits.now c.circuit_of.ensures c.requires.filled
+first_not_orthogonal-requires-clause-lengths c =
+    table_lengths (map_of c.args.raw.now) c.loop-place.s.elements c.circuit_of.result c.args.cocircuits.now
+    c.circuit_of.ensures c.requires.filled
 
 pub unrank-a-requires-clause-place : goal.unrank-a-requires-clause-place
 unrank-a-requires-clause-place c =
@@ -28,8 +31,19 @@ returns-in-Some-clause-none c =
     let l : c.loop-place._place < choose c.args.raw.now.elements (c.args.raw.now.rank + 1) = omega (arith, end, test) in
     let low = c.requires.rank_low in
     let size = c.unrank-a.ensures.size in
-    let pair : IsPair (map_of c.args.raw.now) c.loop-place.s.elements c.unrank-a.result.elements = record { s_list = c.loop-place.invariant.at.list; s_size = c.loop-place.invariant.at.size; a_list = c.unrank-a.ensures.lawful; a_size = omega arith } in
-    let first : IsFirstViolated (map_of c.args.raw.now) c.loop-place.s c.unrank-a.result = found (map_of c.args.raw.now) c.loop-place.s c.unrank-a.result c.loop-place._place c.in-Some.k c.circuit_of.result c.args.cocircuits.now c.loop-place.invariant.at.n_is c.unrank-a.ensures.n pair (c.loop-place.invariant.at.place l) c.unrank-a.ensures.place c.circuit_of.ensures c.requires.filled c.in-Some.ensures.here (λ j l. c.in-Some.ensures.before j (omega arith) l) c.loop-place.invariant.all in
+    let pair : IsPair (map_of c.args.raw.now) c.loop-place.s.elements c.unrank-a.result.elements =
+    record {
+      s_list = c.loop-place.invariant.at.list;
+      s_size = c.loop-place.invariant.at.size;
+      a_list =
+          c.unrank-a.ensures.lawful;
+      a_size = omega arith;
+    } in
+    let first : IsFirstViolated (map_of c.args.raw.now) c.loop-place.s c.unrank-a.result =
+    found (map_of c.args.raw.now) c.loop-place.s c.unrank-a.result c.loop-place._place c.in-Some.k
+    c.circuit_of.result c.args.cocircuits.now c.loop-place.invariant.at.n_is c.unrank-a.ensures.n pair
+    (c.loop-place.invariant.at.place l) c.unrank-a.ensures.place c.circuit_of.ensures c.requires.filled
+    c.in-Some.ensures.here (λ j l. c.in-Some.ensures.before j (omega arith) l) c.loop-place.invariant.all in
     (λ e. cc, λ h. absurd (first.violated (h c.loop-place.s.elements c.unrank-a.result.elements pair)))
 
 pub returns-in-Some-clause-first : goal.returns-in-Some-clause-first
@@ -39,8 +53,18 @@ returns-in-Some-clause-first c =
     let l : c.loop-place._place < choose c.args.raw.now.elements (c.args.raw.now.rank + 1) = omega (arith, end, test) in
     let low = c.requires.rank_low in
     let size = c.unrank-a.ensures.size in
-    let pair : IsPair (map_of c.args.raw.now) c.loop-place.s.elements c.unrank-a.result.elements = record { s_list = c.loop-place.invariant.at.list; s_size = c.loop-place.invariant.at.size; a_list = c.unrank-a.ensures.lawful; a_size = omega arith } in
-    found (map_of c.args.raw.now) c.loop-place.s c.unrank-a.result c.loop-place._place c.in-Some.k c.circuit_of.result c.args.cocircuits.now c.loop-place.invariant.at.n_is c.unrank-a.ensures.n pair (c.loop-place.invariant.at.place l) c.unrank-a.ensures.place c.circuit_of.ensures c.requires.filled c.in-Some.ensures.here (λ j l. c.in-Some.ensures.before j (omega arith) l) c.loop-place.invariant.all
+    let pair : IsPair (map_of c.args.raw.now) c.loop-place.s.elements c.unrank-a.result.elements =
+    record {
+      s_list = c.loop-place.invariant.at.list;
+      s_size = c.loop-place.invariant.at.size;
+      a_list =
+          c.unrank-a.ensures.lawful;
+      a_size = omega arith;
+    } in
+    found (map_of c.args.raw.now) c.loop-place.s c.unrank-a.result c.loop-place._place c.in-Some.k c.circuit_of.result
+    c.args.cocircuits.now c.loop-place.invariant.at.n_is c.unrank-a.ensures.n pair
+    (c.loop-place.invariant.at.place l) c.unrank-a.ensures.place c.circuit_of.ensures c.requires.filled
+    c.in-Some.ensures.here (λ j l. c.in-Some.ensures.before j (omega arith) l) c.loop-place.invariant.all
 
 pub loop-place-preserved : goal.loop-place-preserved
 loop-place-preserved c =
@@ -48,8 +72,13 @@ loop-place-preserved c =
     let test = c.loop-place-test.true in
     let l : c.loop-place._place < choose c.args.raw.now.elements (c.args.raw.now.rank + 1) = omega (arith, end, test) in
     record {
-      all = all_held (map_of c.args.raw.now) c.loop-place.s.elements c.loop-place._place c.circuit_of.result c.args.cocircuits.now c.loop-place.invariant.at.list c.loop-place.invariant.at.size (c.loop-place.invariant.at.place l) c.circuit_of.ensures c.requires.filled (λ j l. c.in_default.ensures.none j (omega arith) l) c.loop-place.invariant.all;
-      at = at_next c.args.raw.now.elements (c.args.raw.now.rank + 1) c.loop-place._place c.loop-place.s c.following-s.result c.following-s.ensures.n c.following-s.ensures.size c.following-s.ensures.lawful c.following-s.ensures.place l c.loop-place.invariant.at;
+      all = all_held (map_of c.args.raw.now) c.loop-place.s.elements c.loop-place._place c.circuit_of.result
+          c.args.cocircuits.now c.loop-place.invariant.at.list c.loop-place.invariant.at.size
+          (c.loop-place.invariant.at.place l) c.circuit_of.ensures c.requires.filled
+          (λ j l. c.in_default.ensures.none j (omega arith) l) c.loop-place.invariant.all;
+      at = at_next c.args.raw.now.elements (c.args.raw.now.rank + 1) c.loop-place._place c.loop-place.s
+          c.following-s.result c.following-s.ensures.n c.following-s.ensures.size c.following-s.ensures.lawful
+          c.following-s.ensures.place l c.loop-place.invariant.at;
     }
 
 pub returns-clause-none : goal.returns-clause-none

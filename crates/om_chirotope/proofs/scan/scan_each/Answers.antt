@@ -11,11 +11,13 @@ use Rattle.om_chirotope.proofs.scan.scan_each.Goals as goal
 pub loop-place-init : goal.loop-place-init
 loop-place-init c = record {
   all = λ t b p lt. absurd (omega (arith, lt));
-  at = at_first c.args.raw.now.elements (c.args.raw.now.rank + 1) c.first-s.result c.first-s.ensures.n c.first-s.ensures.size c.first-s.ensures.lawful c.first-s.ensures.place;
+  at = at_first c.args.raw.now.elements (c.args.raw.now.rank + 1) c.first-s.result c.first-s.ensures.n
+      c.first-s.ensures.size c.first-s.ensures.lawful c.first-s.ensures.place;
 }
 
 pub first_not_orthogonal_to-requires-clause-vector : goal.first_not_orthogonal_to-requires-clause-vector
-first_not_orthogonal_to-requires-clause-vector c = ap length c.circuit_of.ensures ∙ length-vector c.args.raw.now.elements (around (value_of (map_of c.args.raw.now)) c.loop-place.s.elements)
+first_not_orthogonal_to-requires-clause-vector c = ap length c.circuit_of.ensures
+    ∙ length-vector c.args.raw.now.elements (around (value_of (map_of c.args.raw.now)) c.loop-place.s.elements)
 
 pub returns-in-Some-clause-none : goal.returns-in-Some-clause-none
 returns-in-Some-clause-none c =
@@ -25,8 +27,19 @@ returns-in-Some-clause-none c =
     let m = map_of c.args.raw.now in
     let low = c.requires.rank_low in
     let size = c.unrank-a.ensures.size in
-    let pair : IsPair m c.loop-place.s.elements c.unrank-a.result.elements = record { s_list = c.loop-place.invariant.at.list; s_size = c.loop-place.invariant.at.size; a_list = c.unrank-a.ensures.lawful; a_size = omega (arith, low, size) } in
-    let first : IsFirstViolated m c.loop-place.s c.unrank-a.result = found m c.loop-place.s c.unrank-a.result c.loop-place._place c.in-Some.k c.circuit_of.result (cocircuit_vectors m) c.loop-place.invariant.at.n_is c.unrank-a.ensures.n pair (c.loop-place.invariant.at.place l) c.unrank-a.ensures.place c.circuit_of.ensures refl c.in-Some.ensures.here c.in-Some.ensures.before c.loop-place.invariant.all in
+    let pair : IsPair m c.loop-place.s.elements c.unrank-a.result.elements =
+    record {
+      s_list = c.loop-place.invariant.at.list;
+      s_size = c.loop-place.invariant.at.size;
+      a_list =
+          c.unrank-a.ensures.lawful;
+      a_size = omega (arith, low, size);
+    } in
+    let first : IsFirstViolated m c.loop-place.s c.unrank-a.result =
+    found m c.loop-place.s c.unrank-a.result c.loop-place._place c.in-Some.k c.circuit_of.result
+    (cocircuit_vectors m) c.loop-place.invariant.at.n_is c.unrank-a.ensures.n pair
+    (c.loop-place.invariant.at.place l) c.unrank-a.ensures.place c.circuit_of.ensures refl c.in-Some.ensures.here
+    c.in-Some.ensures.before c.loop-place.invariant.all in
     (λ e. cc, λ h. absurd (first.violated (h c.loop-place.s.elements c.unrank-a.result.elements pair)))
 
 pub returns-in-Some-clause-first : goal.returns-in-Some-clause-first
@@ -37,8 +50,18 @@ returns-in-Some-clause-first c =
     let m = map_of c.args.raw.now in
     let low = c.requires.rank_low in
     let size = c.unrank-a.ensures.size in
-    let pair : IsPair m c.loop-place.s.elements c.unrank-a.result.elements = record { s_list = c.loop-place.invariant.at.list; s_size = c.loop-place.invariant.at.size; a_list = c.unrank-a.ensures.lawful; a_size = omega (arith, low, size) } in
-    found m c.loop-place.s c.unrank-a.result c.loop-place._place c.in-Some.k c.circuit_of.result (cocircuit_vectors m) c.loop-place.invariant.at.n_is c.unrank-a.ensures.n pair (c.loop-place.invariant.at.place l) c.unrank-a.ensures.place c.circuit_of.ensures refl c.in-Some.ensures.here c.in-Some.ensures.before c.loop-place.invariant.all
+    let pair : IsPair m c.loop-place.s.elements c.unrank-a.result.elements =
+    record {
+      s_list = c.loop-place.invariant.at.list;
+      s_size = c.loop-place.invariant.at.size;
+      a_list =
+          c.unrank-a.ensures.lawful;
+      a_size = omega (arith, low, size);
+    } in
+    found m c.loop-place.s c.unrank-a.result c.loop-place._place c.in-Some.k c.circuit_of.result (cocircuit_vectors m)
+    c.loop-place.invariant.at.n_is c.unrank-a.ensures.n pair (c.loop-place.invariant.at.place l)
+    c.unrank-a.ensures.place c.circuit_of.ensures refl c.in-Some.ensures.here c.in-Some.ensures.before
+    c.loop-place.invariant.all
 
 pub loop-place-preserved : goal.loop-place-preserved
 loop-place-preserved c =
@@ -48,8 +71,13 @@ loop-place-preserved c =
     let m = map_of c.args.raw.now in
     let size = length-table m in
     record {
-      all = all_held m c.loop-place.s.elements c.loop-place._place c.circuit_of.result (cocircuit_vectors m) c.loop-place.invariant.at.list c.loop-place.invariant.at.size (c.loop-place.invariant.at.place l) c.circuit_of.ensures refl (λ j l. c.in_default.ensures.none j (omega (arith, l, size))) c.loop-place.invariant.all;
-      at = at_next c.args.raw.now.elements (c.args.raw.now.rank + 1) c.loop-place._place c.loop-place.s c.following-s.result c.following-s.ensures.n c.following-s.ensures.size c.following-s.ensures.lawful c.following-s.ensures.place l c.loop-place.invariant.at;
+      all = all_held m c.loop-place.s.elements c.loop-place._place c.circuit_of.result (cocircuit_vectors m)
+          c.loop-place.invariant.at.list c.loop-place.invariant.at.size (c.loop-place.invariant.at.place l)
+          c.circuit_of.ensures refl (λ j l. c.in_default.ensures.none j (omega (arith, l, size)))
+          c.loop-place.invariant.all;
+      at = at_next c.args.raw.now.elements (c.args.raw.now.rank + 1) c.loop-place._place c.loop-place.s
+          c.following-s.result c.following-s.ensures.n c.following-s.ensures.size c.following-s.ensures.lawful
+          c.following-s.ensures.place l c.loop-place.invariant.at;
     }
 
 pub returns-clause-none : goal.returns-clause-none

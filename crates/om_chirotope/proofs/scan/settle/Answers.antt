@@ -7,15 +7,25 @@ use Rattle.om_chirotope.proofs.Tables.{found}
 use Rattle.om_chirotope.proofs.scan.settle.Goals as goal
 
 pub fill_while_orthogonal-requires-clause-vector : goal.fill_while_orthogonal-requires-clause-vector
-fill_while_orthogonal-requires-clause-vector c = ap length c.circuit_of.ensures ∙ length-vector c.args.raw.now.elements (around (value_of (map_of c.args.raw.now)) c.first-s.result.elements)
+fill_while_orthogonal-requires-clause-vector c = ap length c.circuit_of.ensures
+    ∙ length-vector c.args.raw.now.elements (around (value_of (map_of c.args.raw.now)) c.first-s.result.elements)
 
 pub returns-in-Some : goal.returns-in-Some
 returns-in-Some c =
     let m = map_of c.args.raw.now in
     let low = c.requires.rank_low in
     let size = c.unrank-a.ensures.size in
-    let pair : IsPair m c.first-s.result.elements c.unrank-a.result.elements = record { s_list = c.first-s.ensures.lawful; s_size = c.first-s.ensures.size; a_list = c.unrank-a.ensures.lawful; a_size = omega (arith, low, size) } in
-    found m c.first-s.result c.unrank-a.result 0 c.in-Some.k c.circuit_of.result (cocircuit_vectors m) c.first-s.ensures.n c.unrank-a.ensures.n pair c.first-s.ensures.place c.unrank-a.ensures.place c.circuit_of.ensures refl c.in-Some.ensures.here c.in-Some.ensures.before (λ t b p l. absurd (omega (arith, l)))
+    let pair : IsPair m c.first-s.result.elements c.unrank-a.result.elements =
+    record {
+      s_list = c.first-s.ensures.lawful;
+      s_size = c.first-s.ensures.size;
+      a_list =
+          c.unrank-a.ensures.lawful;
+      a_size = omega (arith, low, size);
+    } in
+    found m c.first-s.result c.unrank-a.result 0 c.in-Some.k c.circuit_of.result (cocircuit_vectors m)
+    c.first-s.ensures.n c.unrank-a.ensures.n pair c.first-s.ensures.place c.unrank-a.ensures.place
+    c.circuit_of.ensures refl c.in-Some.ensures.here c.in-Some.ensures.before (λ t b p l. absurd (omega (arith, l)))
 
 pub returns-then-meets_test : goal.returns-then-meets_test
 returns-then-meets_test c = c.if-meets_test.ensures.0 refl

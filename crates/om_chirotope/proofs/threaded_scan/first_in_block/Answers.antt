@@ -8,22 +8,32 @@ use Rattle.om_chirotope.proofs.Tables.{table_lengths}
 use Rattle.om_chirotope.proofs.threaded_scan.first_in_block.Goals as goal
 
 pub first_not_orthogonal-requires-clause-lengths : goal.first_not_orthogonal-requires-clause-lengths
-first_not_orthogonal-requires-clause-lengths c = table_lengths (map_of c.args.raw.now) c.args.s.elements c.circuit_of.result c.args.cocircuits.now c.circuit_of.ensures c.requires.filled
+first_not_orthogonal-requires-clause-lengths c =
+    table_lengths (map_of c.args.raw.now) c.args.s.elements c.circuit_of.result c.args.cocircuits.now
+    c.circuit_of.ensures c.requires.filled
 
 pub returns-clause-none : goal.returns-clause-none
 returns-clause-none c =
     let r = c.first_not_orthogonal.result in
-    subst (λ v. IfNone r ((j : ℕ) → IsInBlock (length c.args.cocircuits.now) c.args.block j → IsOrthogonal v (get_or c.args.cocircuits.now j []))) c.circuit_of.ensures
-    (block_none (λ j. IsOrthogonal c.circuit_of.result (get_or c.args.cocircuits.now j [])) c.args.block (length c.args.cocircuits.now) c.min-end.result r c.min-end.ensures c.first_not_orthogonal.ensures.none)
+    subst (λ v. IfNone r ((j : ℕ) → IsInBlock (length c.args.cocircuits.now) c.args.block j
+    → IsOrthogonal v (get_or c.args.cocircuits.now j []))) c.circuit_of.ensures
+    (block_none (λ j. IsOrthogonal c.circuit_of.result (get_or c.args.cocircuits.now j [])) c.args.block
+    (length c.args.cocircuits.now) c.min-end.result r c.min-end.ensures c.first_not_orthogonal.ensures.none)
 
 pub returns-clause-within : goal.returns-clause-within
-returns-clause-within c = block_within c.args.block (length c.args.cocircuits.now) c.min-end.result c.first_not_orthogonal.result c.min-end.ensures c.first_not_orthogonal.ensures.low c.first_not_orthogonal.ensures.within
+returns-clause-within c = block_within c.args.block (length c.args.cocircuits.now) c.min-end.result
+    c.first_not_orthogonal.result c.min-end.ensures c.first_not_orthogonal.ensures.low
+    c.first_not_orthogonal.ensures.within
 
 pub returns-clause-here : goal.returns-clause-here
-returns-clause-here c = subst (λ v. IfSome c.first_not_orthogonal.result (λ j. IsOrthogonal v (get_or c.args.cocircuits.now j []) → ⊥)) c.circuit_of.ensures c.first_not_orthogonal.ensures.here
+returns-clause-here c =
+    subst (λ v. IfSome c.first_not_orthogonal.result (λ j. IsOrthogonal v (get_or c.args.cocircuits.now j []) → ⊥))
+    c.circuit_of.ensures c.first_not_orthogonal.ensures.here
 
 pub returns-clause-before : goal.returns-clause-before
 returns-clause-before c =
     let r = c.first_not_orthogonal.result in
-    subst (λ v. IfSome r (λ k. (j : ℕ) → IsInBlock (length c.args.cocircuits.now) c.args.block j → j < k → IsOrthogonal v (get_or c.args.cocircuits.now j []))) c.circuit_of.ensures
-    (block_before (λ j. IsOrthogonal c.circuit_of.result (get_or c.args.cocircuits.now j [])) c.args.block (length c.args.cocircuits.now) r c.first_not_orthogonal.ensures.before)
+    subst (λ v. IfSome r (λ k. (j : ℕ) → IsInBlock (length c.args.cocircuits.now) c.args.block j → j < k
+    → IsOrthogonal v (get_or c.args.cocircuits.now j []))) c.circuit_of.ensures
+    (block_before (λ j. IsOrthogonal c.circuit_of.result (get_or c.args.cocircuits.now j [])) c.args.block
+    (length c.args.cocircuits.now) r c.first_not_orthogonal.ensures.before)

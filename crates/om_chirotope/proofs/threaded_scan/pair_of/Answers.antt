@@ -22,10 +22,16 @@ unrank-requires-clause-place c =
     omega (arith, within, size, table)
 
 pub returns-in-None-clause-some : goal.returns-in-None-clause-some
-returns-in-None-clause-some c = absurd (not_none (map_of c.args.raw.now) c.args.blocks c.args.k c.args.cocircuits.now c.unrank-s.result.elements c.requires.filled c.unrank-s.ensures.elements c.requires.bad c.in-None.ensures.none)
+returns-in-None-clause-some c =
+    absurd (not_none (map_of c.args.raw.now) c.args.blocks c.args.k c.args.cocircuits.now c.unrank-s.result.elements
+    c.requires.filled c.unrank-s.ensures.elements c.requires.bad c.in-None.ensures.none)
 
 pub returns-in-Some-clause-first : goal.returns-in-Some-clause-first
-returns-in-Some-clause-first c = found_in_block (map_of c.args.raw.now) c.args.blocks c.args.k c.in-Some.place c.unrank-s.result c.unrank.result c.args.cocircuits.now c.requires.rank_low c.requires.some c.requires.all c.requires.filled c.requires.earlier c.requires.bad.1.listed
-    c.unrank-s.ensures.n c.unrank-s.ensures.elements c.unrank-s.ensures.lawful c.unrank-s.ensures.size c.unrank-s.ensures.place
+returns-in-Some-clause-first c =
+    found_in_block (map_of c.args.raw.now) c.args.blocks c.args.k c.in-Some.place c.unrank-s.result c.unrank.result
+    c.args.cocircuits.now c.requires.rank_low c.requires.some c.requires.all c.requires.filled c.requires.earlier
+    c.requires.bad.1.listed
+    c.unrank-s.ensures.n c.unrank-s.ensures.elements c.unrank-s.ensures.lawful c.unrank-s.ensures.size
+    c.unrank-s.ensures.place
     c.unrank.ensures.n c.unrank.ensures.lawful c.unrank.ensures.size c.unrank.ensures.place
     c.in-Some.ensures.within c.in-Some.ensures.here c.in-Some.ensures.before

@@ -5,7 +5,8 @@ use Rattle.om_chirotope.proofs.Rows.{IsCleared}
 use Rattle.om_chirotope.proofs.three_terms.are_balanced_from.Given as goal
 
 abbrev pub invariant-loop-rest : goal.invariant-loop-rest
-invariant-loop-rest l = IsCleared l.later l.rest l.elements (λ j. (k : ℕ) → j < k → bit_at l.later k ≡ 1 → IsTriple l.rows l.x j k)
+invariant-loop-rest l =
+    IsCleared l.later l.rest l.elements (λ j. (k : ℕ) → j < k → bit_at l.later k ≡ 1 → IsTriple l.rows l.x j k)
 
 abbrev pub decreases-loop-rest : goal.decreases-loop-rest
 decreases-loop-rest l = l.rest

@@ -3,7 +3,8 @@ use Rattle.std.proofs.lemmas.Bool.{false≢true}
 use Rattle.std.proofs.lemmas.List.{get_or_default}
 use Rattle.std.specs.Int.{trailing_zeros}
 use Rattle.om_chirotope.specs.Pictures.{IsTriple}
-use Rattle.om_chirotope.proofs.Rows.{IsLowest, all_cleared, cleared_more, lowest_bit, triple_of_rows, triple_to_rows, uncleared}
+use Rattle.om_chirotope.proofs.Rows.{IsLowest, all_cleared, cleared_more, lowest_bit, triple_of_rows, triple_to_rows}
+use Rattle.om_chirotope.proofs.Rows.{uncleared}
 use Rattle.om_chirotope.proofs.three_terms.are_balanced_with.Goals as goal
 
 pub loop-rest-init : goal.loop-rest-init
@@ -11,7 +12,9 @@ loop-rest-init c = uncleared c.args.later c.args.elements _ c.requires.later
 
 pub listed-in-loop-rest : goal.listed-in-loop-rest
 listed-in-loop-rest c =
-    let low : IsLowest c.loop-rest.rest c.args.elements (trailing_zeros w32 c.loop-rest.rest) = lowest_bit c.loop-rest.rest c.args.elements c.requires.high c.loop-rest.invariant.within c.loop-rest-test.true in
+    let low : IsLowest c.loop-rest.rest c.args.elements (trailing_zeros w32 c.loop-rest.rest) =
+    lowest_bit c.loop-rest.rest c.args.elements c.requires.high c.loop-rest.invariant.within c.loop-rest-test.true
+    in
     let here = low.here in
     let few = c.requires.high in
     let size = c.type_inv.rows in
@@ -19,7 +22,9 @@ listed-in-loop-rest c =
 
 pub bounds-rows-z : goal.bounds-rows-z
 bounds-rows-z c =
-    let low : IsLowest c.loop-rest.rest c.args.elements (trailing_zeros w32 c.loop-rest.rest) = lowest_bit c.loop-rest.rest c.args.elements c.requires.high c.loop-rest.invariant.within c.loop-rest-test.true in
+    let low : IsLowest c.loop-rest.rest c.args.elements (trailing_zeros w32 c.loop-rest.rest) =
+    lowest_bit c.loop-rest.rest c.args.elements c.requires.high c.loop-rest.invariant.within c.loop-rest-test.true
+    in
     let here = low.here in
     let few = c.requires.high in
     omega (arith, here, few)
@@ -27,36 +32,46 @@ bounds-rows-z c =
 pub are_balanced-requires-clause-third : goal.are_balanced-requires-clause-third
 are_balanced-requires-clause-third c =
     let tz = trailing_zeros w32 c.loop-rest.rest in
-    let low : IsLowest c.loop-rest.rest c.args.elements tz = lowest_bit c.loop-rest.rest c.args.elements c.requires.high c.loop-rest.invariant.within c.loop-rest-test.true in
+    let low : IsLowest c.loop-rest.rest c.args.elements tz =
+    lowest_bit c.loop-rest.rest c.args.elements c.requires.high c.loop-rest.invariant.within c.loop-rest-test.true
+    in
     let here = low.here in
     let few = c.requires.high in
     let size = c.type_inv.rows in
     let xl = c.requires.x in
     let a : tz < length c.args.rows.now = omega (arith, here, few, size) in
     let b : c.args.x < length c.args.rows.now = omega (arith, xl, few, size) in
-    ap length (get_or_default c.args.rows.now tz _ [] a) ∙ c.requires.rows tz a ∙ sym (ap length (get_or_default c.args.rows.now c.args.x _ [] b) ∙ c.requires.rows c.args.x b)
+    ap length (get_or_default c.args.rows.now tz _ [] a) ∙ c.requires.rows tz a
+    ∙ sym (ap length (get_or_default c.args.rows.now c.args.x _ [] b) ∙ c.requires.rows c.args.x b)
 
 pub are_balanced-requires-clause-z_high : goal.are_balanced-requires-clause-z_high
 are_balanced-requires-clause-z_high c =
     let tz = trailing_zeros w32 c.loop-rest.rest in
-    let low : IsLowest c.loop-rest.rest c.args.elements tz = lowest_bit c.loop-rest.rest c.args.elements c.requires.high c.loop-rest.invariant.within c.loop-rest-test.true in
+    let low : IsLowest c.loop-rest.rest c.args.elements tz =
+    lowest_bit c.loop-rest.rest c.args.elements c.requires.high c.loop-rest.invariant.within c.loop-rest-test.true
+    in
     let here = low.here in
     let few = c.requires.high in
     let size = c.type_inv.rows in
     let xl = c.requires.x in
     let b : c.args.x < length c.args.rows.now = omega (arith, xl, few, size) in
-    let len : length (get_or c.args.rows.now c.args.x c.index-rows-x.result) ≡ c.args.elements = ap length (get_or_default c.args.rows.now c.args.x c.index-rows-x.result [] b) ∙ c.requires.rows c.args.x b in
+    let len : length (get_or c.args.rows.now c.args.x c.index-rows-x.result) ≡ c.args.elements =
+    ap length (get_or_default c.args.rows.now c.args.x c.index-rows-x.result [] b) ∙ c.requires.rows c.args.x b in
     omega (arith, here, len)
 
 pub loop-rest-smaller : goal.loop-rest-smaller
 loop-rest-smaller c =
-    let low : IsLowest c.loop-rest.rest c.args.elements (trailing_zeros w32 c.loop-rest.rest) = lowest_bit c.loop-rest.rest c.args.elements c.requires.high c.loop-rest.invariant.within c.loop-rest-test.true in
+    let low : IsLowest c.loop-rest.rest c.args.elements (trailing_zeros w32 c.loop-rest.rest) =
+    lowest_bit c.loop-rest.rest c.args.elements c.requires.high c.loop-rest.invariant.within c.loop-rest-test.true
+    in
     low.smaller
 
 pub loop-rest-preserved : goal.loop-rest-preserved
 loop-rest-preserved c =
     let tz = trailing_zeros w32 c.loop-rest.rest in
-    let low : IsLowest c.loop-rest.rest c.args.elements tz = lowest_bit c.loop-rest.rest c.args.elements c.requires.high c.loop-rest.invariant.within c.loop-rest-test.true in
+    let low : IsLowest c.loop-rest.rest c.args.elements tz =
+    lowest_bit c.loop-rest.rest c.args.elements c.requires.high c.loop-rest.invariant.within c.loop-rest-test.true
+    in
     let here = low.here in
     let few = c.requires.high in
     let size = c.type_inv.rows in
@@ -65,16 +80,22 @@ loop-rest-preserved c =
     let a : tz < length c.args.rows.now = omega (arith, here, few, size) in
     let b : c.args.x < length c.args.rows.now = omega (arith, xl, few, size) in
     let d : c.args.y < length c.args.rows.now = omega (arith, yl, few, size) in
-    cleared_more c.args.later c.loop-rest.rest c.args.elements tz (λ k. IsTriple c.args.rows.now c.args.x c.args.y k) c.requires.high low
-    (triple_of_rows c.args.rows.now c.args.x c.args.y tz (get_or c.args.rows.now c.args.x c.index-rows-x.result) (get_or c.args.rows.now c.args.y c.index-rows-y.result) (get_or c.args.rows.now tz c.index-rows-z.result)
-    (get_or_default c.args.rows.now c.args.x c.index-rows-x.result [] b) (get_or_default c.args.rows.now c.args.y c.index-rows-y.result [] d) (get_or_default c.args.rows.now tz c.index-rows-z.result [] a)
+    cleared_more c.args.later c.loop-rest.rest c.args.elements tz (λ k. IsTriple c.args.rows.now c.args.x c.args.y k)
+    c.requires.high low
+    (triple_of_rows c.args.rows.now c.args.x c.args.y tz (get_or c.args.rows.now c.args.x c.index-rows-x.result)
+    (get_or c.args.rows.now c.args.y c.index-rows-y.result) (get_or c.args.rows.now tz c.index-rows-z.result)
+    (get_or_default c.args.rows.now c.args.x c.index-rows-x.result [] b)
+    (get_or_default c.args.rows.now c.args.y c.index-rows-y.result [] d)
+    (get_or_default c.args.rows.now tz c.index-rows-z.result [] a)
     (c.if-not-are_balanced.ensures.0 refl))
     c.loop-rest.invariant
 
 pub returns-then-not-are_balanced : goal.returns-then-not-are_balanced
 returns-then-not-are_balanced c =
     let tz = trailing_zeros w32 c.loop-rest.rest in
-    let low : IsLowest c.loop-rest.rest c.args.elements tz = lowest_bit c.loop-rest.rest c.args.elements c.requires.high c.loop-rest.invariant.within c.loop-rest-test.true in
+    let low : IsLowest c.loop-rest.rest c.args.elements tz =
+    lowest_bit c.loop-rest.rest c.args.elements c.requires.high c.loop-rest.invariant.within c.loop-rest-test.true
+    in
     let here = low.here in
     let few = c.requires.high in
     let size = c.type_inv.rows in
@@ -85,10 +106,17 @@ returns-then-not-are_balanced c =
     let d : c.args.y < length c.args.rows.now = omega (arith, yl, few, size) in (
       λ t. absurd (false≢true t),
       λ all. absurd (false≢true (c.if-not-are_balanced.ensures.1
-          (triple_to_rows c.args.rows.now c.args.x c.args.y tz (get_or c.args.rows.now c.args.x c.index-rows-x.result) (get_or c.args.rows.now c.args.y c.index-rows-y.result) (get_or c.args.rows.now tz c.index-rows-z.result)
-          (get_or_default c.args.rows.now c.args.x c.index-rows-x.result [] b) (get_or_default c.args.rows.now c.args.y c.index-rows-y.result [] d) (get_or_default c.args.rows.now tz c.index-rows-z.result [] a)
+          (triple_to_rows c.args.rows.now c.args.x c.args.y tz (get_or c.args.rows.now c.args.x c.index-rows-x.result)
+          (get_or c.args.rows.now c.args.y c.index-rows-y.result) (get_or c.args.rows.now tz c.index-rows-z.result)
+          (get_or_default c.args.rows.now c.args.x c.index-rows-x.result [] b)
+          (get_or_default c.args.rows.now c.args.y c.index-rows-y.result [] d)
+          (get_or_default c.args.rows.now tz c.index-rows-z.result [] a)
           (all tz (c.loop-rest.invariant.part tz low.bit))))),
     )
 
 pub returns : goal.returns
-returns c = (λ t. all_cleared c.args.later c.loop-rest.rest c.args.elements (λ k. IsTriple c.args.rows.now c.args.x c.args.y k) c.loop-rest-test.false c.loop-rest.invariant, λ all. refl)
+returns c = (
+  λ t. all_cleared c.args.later c.loop-rest.rest c.args.elements (λ k. IsTriple c.args.rows.now c.args.x c.args.y k)
+      c.loop-rest-test.false c.loop-rest.invariant,
+  λ all. refl,
+)

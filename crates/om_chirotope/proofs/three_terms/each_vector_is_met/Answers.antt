@@ -11,7 +11,8 @@ use Rattle.om_subsets.proofs.Walks.{at_next, list_at}
 use Rattle.om_chirotope.proofs.three_terms.each_vector_is_met.Goals as goal
 
 pub is_met-requires-clause-length : goal.is_met-requires-clause-length
-is_met-requires-clause-length c = ap length c.cocircuit_of.ensures ∙ length-vector c.args.raw.now.elements (along (value_of (map_of c.args.raw.now)) c.loop-k.a.elements)
+is_met-requires-clause-length c = ap length c.cocircuit_of.ensures
+    ∙ length-vector c.args.raw.now.elements (along (value_of (map_of c.args.raw.now)) c.loop-k.a.elements)
 
 pub loop-k-preserved : goal.loop-k-preserved
 loop-k-preserved c =
@@ -19,10 +20,14 @@ loop-k-preserved c =
     let end = c.choose-k-end.ensures.value in
     let test = c.loop-k-test.true in
     let l : c.loop-k._k < choose m.elements (m.rank - 1) = omega (arith, end, test) in
-    let e : c.cocircuit_of.result ≡ cocircuit_vector m (subset_at m.elements (m.rank - 1) c.loop-k._k) = c.cocircuit_of.ensures ∙ ap (cocircuit_vector m) (list_at m.elements (m.rank - 1) c.loop-k._k c.loop-k.a l c.loop-k.invariant.at) in
+    let e : c.cocircuit_of.result ≡ cocircuit_vector m (subset_at m.elements (m.rank - 1) c.loop-k._k) =
+    c.cocircuit_of.ensures
+    ∙ ap (cocircuit_vector m) (list_at m.elements (m.rank - 1) c.loop-k._k c.loop-k.a l c.loop-k.invariant.at) in
     record {
-      met = below_more _ _ c.loop-k.invariant.met (subst (IsMet m) (e ∙ sym (table_at m c.loop-k._k l)) (c.if-not-is_met.ensures.0 refl));
-      at = at_next m.elements (m.rank - 1) c.loop-k._k c.loop-k.a c.following-a.result c.following-a.ensures.n c.following-a.ensures.size c.following-a.ensures.lawful c.following-a.ensures.place l c.loop-k.invariant.at;
+      met = below_more _ _ c.loop-k.invariant.met
+          (subst (IsMet m) (e ∙ sym (table_at m c.loop-k._k l)) (c.if-not-is_met.ensures.0 refl));
+      at = at_next m.elements (m.rank - 1) c.loop-k._k c.loop-k.a c.following-a.result c.following-a.ensures.n
+          c.following-a.ensures.size c.following-a.ensures.lawful c.following-a.ensures.place l c.loop-k.invariant.at;
     }
 
 pub returns-then-not-is_met : goal.returns-then-not-is_met
@@ -32,7 +37,10 @@ returns-then-not-is_met c = (
       let m = map_of c.args.raw.now in
       let low = c.requires.rank_low in
       let size = c.loop-k.invariant.at.size in
-      absurd (false≢true (c.if-not-is_met.ensures.1 (subst (IsMet m) (sym c.cocircuit_of.ensures) (met_of_exchange m c.loop-k.a.elements c.loop-k.invariant.at.list (omega (arith, low, size)) ex)))),
+      absurd (false≢true
+      (c.if-not-is_met.ensures.1
+      (subst (IsMet m) (sym c.cocircuit_of.ensures)
+      (met_of_exchange m c.loop-k.a.elements c.loop-k.invariant.at.list (omega (arith, low, size)) ex)))),
 )
 
 pub returns : goal.returns

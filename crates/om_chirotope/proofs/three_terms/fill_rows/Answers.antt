@@ -16,10 +16,12 @@ loop-x-preserved c =
     elim c.if-not-has.branch [
       | then-not-has w ↦
           subst (λ rs. AreWritten (map_of c.args.raw.now) c.args.p.elements rs (c.loop-x.x + 1)) (sym w.rows-is)
-          (rows_more (map_of c.args.raw.now) c.args.p.elements c.loop-x.rows c.loop-x.x w.row_of.result low (omega (arith, low, over, few, room)) w.row_of.ensures c.loop-x.invariant)
+          (rows_more (map_of c.args.raw.now) c.args.p.elements c.loop-x.rows c.loop-x.x w.row_of.result low
+          (omega (arith, low, over, few, room)) w.row_of.ensures c.loop-x.invariant)
       | else-not-has w ↦
           subst (λ rs. AreWritten (map_of c.args.raw.now) c.args.p.elements rs (c.loop-x.x + 1)) (sym w.rows-is)
-          (rows_skip (map_of c.args.raw.now) c.args.p.elements c.loop-x.rows c.loop-x.x low (omega (arith, low, over, few, room)) c.requires.list (w.if-not-has.ensures.0 refl) c.loop-x.invariant)
+          (rows_skip (map_of c.args.raw.now) c.args.p.elements c.loop-x.rows c.loop-x.x low
+          (omega (arith, low, over, few, room)) c.requires.list (w.if-not-has.ensures.0 refl) c.loop-x.invariant)
     ]
 
 pub returns : goal.returns

@@ -8,5 +8,7 @@ returns-then-raw-eq0 c = (λ t. exchange_of_rank_zero (map_of c.args.raw.now) c.
 
 pub returns : goal.returns
 returns c =
-    let m = map_of c.args.raw.now in
-    (λ t. exchange_from_lists m (c.has_exchange_of_lists.ensures.0 t), λ h. c.has_exchange_of_lists.ensures.1 (exchange_of_lists m h))
+    let m = map_of c.args.raw.now in (
+      λ t. exchange_from_lists m (c.has_exchange_of_lists.ensures.0 t),
+      λ h. c.has_exchange_of_lists.ensures.1 (exchange_of_lists m h),
+    )

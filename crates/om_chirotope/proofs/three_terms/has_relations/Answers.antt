@@ -15,7 +15,8 @@ loop-k-init c =
     let m = map_of c.args.raw.now in
     record {
       balanced = λ q hq lq l. absurd (omega (arith, l));
-      at = at_first m.elements (m.rank - 2) c.first-p.result c.first-p.ensures.n c.first-p.ensures.size c.first-p.ensures.lawful c.first-p.ensures.place;
+      at = at_first m.elements (m.rank - 2) c.first-p.result c.first-p.ensures.n c.first-p.ensures.size
+          c.first-p.ensures.lawful c.first-p.ensures.place;
     }
 
 pub loop-k-preserved : goal.loop-k-preserved
@@ -28,16 +29,23 @@ loop-k-preserved c =
     let test = c.loop-k-test.true in
     let few : c.loop-k._k < choose m.elements (m.rank - 2) = omega (arith, end, test) in
     record {
-      balanced = pictures_more m c.loop-k.p.elements c.loop-k._k at.list (omega (arith, size, rank)) (at.place few) (c.if-not-has_relations_at.ensures.0 refl) c.loop-k.invariant.balanced;
-      at = at_next m.elements (m.rank - 2) c.loop-k._k c.loop-k.p c.following-p.result c.following-p.ensures.n c.following-p.ensures.size c.following-p.ensures.lawful c.following-p.ensures.place few at;
+      balanced = pictures_more m c.loop-k.p.elements c.loop-k._k at.list (omega (arith, size, rank)) (at.place few)
+          (c.if-not-has_relations_at.ensures.0 refl) c.loop-k.invariant.balanced;
+      at = at_next m.elements (m.rank - 2) c.loop-k._k c.loop-k.p c.following-p.result c.following-p.ensures.n
+          c.following-p.ensures.size c.following-p.ensures.lawful c.following-p.ensures.place few at;
     }
 
 pub returns-then-not-has_relations_at : goal.returns-then-not-has_relations_at
 returns-then-not-has_relations_at c =
     let at = c.loop-k.invariant.at in
     let size = at.size in
-    let rank = c.if-raw-lt2.false in
-    (λ t. absurd (false≢true t), λ h. absurd (false≢true (c.if-not-has_relations_at.ensures.1 (relations_at (map_of c.args.raw.now) h c.loop-k.p.elements at.list (omega (arith, size, rank))))))
+    let rank = c.if-raw-lt2.false in (
+      λ t. absurd (false≢true t),
+      λ h. absurd
+          (false≢true
+          (c.if-not-has_relations_at.ensures.1
+          (relations_at (map_of c.args.raw.now) h c.loop-k.p.elements at.list (omega (arith, size, rank))))),
+    )
 
 pub has_relations_at-requires-clause-rank : goal.has_relations_at-requires-clause-rank
 has_relations_at-requires-clause-rank c =
@@ -49,5 +57,7 @@ has_relations_at-requires-clause-rank c =
 pub returns : goal.returns
 returns c =
     let end = c.choose-k-end.ensures.value in
-    let over = c.loop-k-test.false in
-    (λ t. relations_of_pictures (map_of c.args.raw.now) c.loop-k._k (omega arith) c.loop-k.invariant.balanced, λ h. refl)
+    let over = c.loop-k-test.false in (
+      λ t. relations_of_pictures (map_of c.args.raw.now) c.loop-k._k (omega arith) c.loop-k.invariant.balanced,
+      λ h. refl,
+    )

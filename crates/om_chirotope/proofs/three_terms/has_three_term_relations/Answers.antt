@@ -4,4 +4,5 @@ use Rattle.om_chirotope.proofs.ThreeTerms.{relations_of_low_rank}
 use Rattle.om_chirotope.proofs.three_terms.has_three_term_relations.Goals as goal
 
 pub returns-then-raw-eq0 : goal.returns-then-raw-eq0
-returns-then-raw-eq0 c = let zero = c.if-raw-eq0.true in (λ t. relations_of_low_rank (map_of c.args.raw.now) (omega (arith, zero)), λ h. refl)
+returns-then-raw-eq0 c = let zero = c.if-raw-eq0.true in
+    (λ t. relations_of_low_rank (map_of c.args.raw.now) (omega (arith, zero)), λ h. refl)

@@ -11,13 +11,25 @@ is_marked-requires c =
     omega (arith, small, room)
 
 pub returns-then-support-eq0 : goal.returns-then-support-eq0
-returns-then-support-eq0 c = (λ t. met_of_zero (map_of c.args.raw.now) c.args.u c.support-support.result c.requires.length c.support-support.ensures c.if-support-eq0.true, λ h. refl)
+returns-then-support-eq0 c = (
+  λ t. met_of_zero (map_of c.args.raw.now) c.args.u c.support-support.result c.requires.length
+      c.support-support.ensures c.if-support-eq0.true,
+  λ h. refl,
+)
 
 pub returns-then-is_marked : goal.returns-then-is_marked
 returns-then-is_marked c = (
   λ t. absurd (false≢true t),
-  λ met. absurd (not_met (map_of c.args.raw.now) c.args.u c.support-support.result c.requires.high c.requires.length c.support-support.ensures c.if-support-eq0.false (c.requires.marked.only (off_support c.args.raw.now.elements c.support-support.result) (c.if-is_marked.ensures.0 refl)) met),
+  λ met. absurd
+      (not_met (map_of c.args.raw.now) c.args.u c.support-support.result c.requires.high c.requires.length
+      c.support-support.ensures c.if-support-eq0.false
+      (c.requires.marked.only (off_support c.args.raw.now.elements c.support-support.result)
+      (c.if-is_marked.ensures.0 refl)) met),
 )
 
 pub returns : goal.returns
-returns c = (λ t. met_of_mark (map_of c.args.raw.now) c.args.marks.now c.args.u c.support-support.result c.requires.high c.requires.length c.support-support.ensures c.requires.marked (λ h. false≢true (c.if-is_marked.ensures.1 h)), λ h. refl)
+returns c = (
+  λ t. met_of_mark (map_of c.args.raw.now) c.args.marks.now c.args.u c.support-support.result c.requires.high
+      c.requires.length c.support-support.ensures c.requires.marked (λ h. false≢true (c.if-is_marked.ensures.1 h)),
+  λ h. refl,
+)

@@ -22,6 +22,8 @@ returns-clause-place c =
 pub at-requires : goal.at-requires
 at-requires c =
     let few = rank_from-lt 1 c.args.s.n c.args.s.elements c.is_lawful.ensures.lawful in
-    let same : choose c.args.s.n (length c.args.s.elements) ≡ length c.args.raw.now.signs = ap (λ n. choose n (length c.args.s.elements)) c.requires.n ∙ ap (choose c.args.raw.now.elements) c.requires.size ∙ sym c.requires.whole in
+    let same : choose c.args.s.n (length c.args.s.elements) ≡ length c.args.raw.now.signs =
+    ap (λ n. choose n (length c.args.s.elements)) c.requires.n
+    ∙ ap (choose c.args.raw.now.elements) c.requires.size ∙ sym c.requires.whole in
     let place = c.requires.place in
     omega (arith, few, same, place)

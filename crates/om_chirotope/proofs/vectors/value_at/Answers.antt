@@ -10,14 +10,16 @@ pub has-requires-clause-low : goal.has-requires-clause-low
 has-requires-clause-low c =
     let n = c.loop-i.invariant.n in
     let test = c.loop-i-test.true in
-    let bound = c.requires.within (get_or c.args.tuple.now (length c.args.tuple.now - 1 - c.loop-i.i) 0) (member_at (length c.args.tuple.now - 1 - c.loop-i.i) c.args.tuple.now (omega arith)) in
+    let bound = c.requires.within (get_or c.args.tuple.now (length c.args.tuple.now - 1 - c.loop-i.i) 0)
+    (member_at (length c.args.tuple.now - 1 - c.loop-i.i) c.args.tuple.now (omega arith)) in
     bound.0
 
 pub has-requires-clause-high : goal.has-requires-clause-high
 has-requires-clause-high c =
     let n = c.loop-i.invariant.n in
     let test = c.loop-i-test.true in
-    let bound = c.requires.within (get_or c.args.tuple.now (length c.args.tuple.now - 1 - c.loop-i.i) 0) (member_at (length c.args.tuple.now - 1 - c.loop-i.i) c.args.tuple.now (omega arith)) in
+    let bound = c.requires.within (get_or c.args.tuple.now (length c.args.tuple.now - 1 - c.loop-i.i) 0)
+    (member_at (length c.args.tuple.now - 1 - c.loop-i.i) c.args.tuple.now (omega arith)) in
     let high = bound.1 in
     omega arith
 
@@ -25,14 +27,16 @@ pub sorting_sign-requires-clause-low : goal.sorting_sign-requires-clause-low
 sorting_sign-requires-clause-low c =
     let n = c.loop-i.invariant.n in
     let test = c.loop-i-test.true in
-    let bound = c.requires.within (get_or c.args.tuple.now (length c.args.tuple.now - 1 - c.loop-i.i) 0) (member_at (length c.args.tuple.now - 1 - c.loop-i.i) c.args.tuple.now (omega arith)) in
+    let bound = c.requires.within (get_or c.args.tuple.now (length c.args.tuple.now - 1 - c.loop-i.i) 0)
+    (member_at (length c.args.tuple.now - 1 - c.loop-i.i) c.args.tuple.now (omega arith)) in
     bound.0
 
 pub sorting_sign-requires-clause-high : goal.sorting_sign-requires-clause-high
 sorting_sign-requires-clause-high c =
     let n = c.loop-i.invariant.n in
     let test = c.loop-i-test.true in
-    let bound = c.requires.within (get_or c.args.tuple.now (length c.args.tuple.now - 1 - c.loop-i.i) 0) (member_at (length c.args.tuple.now - 1 - c.loop-i.i) c.args.tuple.now (omega arith)) in
+    let bound = c.requires.within (get_or c.args.tuple.now (length c.args.tuple.now - 1 - c.loop-i.i) 0)
+    (member_at (length c.args.tuple.now - 1 - c.loop-i.i) c.args.tuple.now (omega arith)) in
     let high = bound.1 in
     omega arith
 
@@ -40,31 +44,36 @@ pub with-set-requires-clause-low : goal.with-set-requires-clause-low
 with-set-requires-clause-low c =
     let n = c.loop-i.invariant.n in
     let test = c.loop-i-test.true in
-    let bound = c.requires.within (get_or c.args.tuple.now (length c.args.tuple.now - 1 - c.loop-i.i) 0) (member_at (length c.args.tuple.now - 1 - c.loop-i.i) c.args.tuple.now (omega arith)) in
+    let bound = c.requires.within (get_or c.args.tuple.now (length c.args.tuple.now - 1 - c.loop-i.i) 0)
+    (member_at (length c.args.tuple.now - 1 - c.loop-i.i) c.args.tuple.now (omega arith)) in
     bound.0
 
 pub with-set-requires-clause-high : goal.with-set-requires-clause-high
 with-set-requires-clause-high c =
     let n = c.loop-i.invariant.n in
     let test = c.loop-i-test.true in
-    let bound = c.requires.within (get_or c.args.tuple.now (length c.args.tuple.now - 1 - c.loop-i.i) 0) (member_at (length c.args.tuple.now - 1 - c.loop-i.i) c.args.tuple.now (omega arith)) in
+    let bound = c.requires.within (get_or c.args.tuple.now (length c.args.tuple.now - 1 - c.loop-i.i) 0)
+    (member_at (length c.args.tuple.now - 1 - c.loop-i.i) c.args.tuple.now (omega arith)) in
     let high = bound.1 in
     omega arith
 
 pub returns-then-has : goal.returns-then-has
 returns-then-has c =
     let e = get_or c.args.tuple.now (length c.args.tuple.now - 1 - c.loop-i.i) 0 in
-    value_repeat (chi_of (map_of c.args.raw.now)) c.args.tuple.now c.loop-i.i c.loop-i-test.true (subst (IsMember e) c.loop-i.invariant.elements (c.if-has.ensures.0 refl))
+    value_repeat (chi_of (map_of c.args.raw.now)) c.args.tuple.now c.loop-i.i c.loop-i-test.true
+    (subst (IsMember e) c.loop-i.invariant.elements (c.if-has.ensures.0 refl))
 
 pub loop-i-preserved : goal.loop-i-preserved
 loop-i-preserved c =
     let inv = c.loop-i.invariant in
     let e = get_or c.args.tuple.now (length c.args.tuple.now - 1 - c.loop-i.i) 0 in
     let fresh : IsMember e c.loop-i.set.elements → ⊥ = (λ k. false≢true (c.if-has.ensures.1 k)) in
-    let next = next_element c.args.tuple.now c.loop-i.i c.loop-i.set.elements c.loop-i.sign c.sorting_sign.result c.loop-i-test.true fresh inv.elements inv.sign c.sorting_sign.ensures in
+    let next = next_element c.args.tuple.now c.loop-i.i c.loop-i.set.elements c.loop-i.sign c.sorting_sign.result
+    c.loop-i-test.true fresh inv.elements inv.sign c.sorting_sign.ensures in
     record {
       n = c.with-set.ensures.n ∙ inv.n;
-      size = ap length c.with-set.ensures.elements ∙ length-with e c.loop-i.set.elements fresh ∙ ap (λ k. k + 1) inv.size;
+      size = ap length c.with-set.ensures.elements ∙ length-with e c.loop-i.set.elements fresh
+          ∙ ap (λ k. k + 1) inv.size;
       elements = c.with-set.ensures.elements ∙ next.elements;
       sign = c.times-sign.ensures ∙ next.sign_is;
     }

@@ -10,5 +10,6 @@ invariant-loop-e l = record {
   walk : IsWalk l.set.n l.set.elements l.e l.left l.place;
   bound : l.place ≤ l.e * (2 * MOST_SUBSETS);
   room : length l.places ≡ MAX_PLACES;
-  done : (f : ℕ) → 1 ≤ f → f < l.e → (IsMember f l.set.elements → ⊥) → get_or l.places (f - 1) 0 ≡ rank_of l.set.n (with_element f l.set.elements);
+  done : (f : ℕ) → 1 ≤ f → f < l.e → (IsMember f l.set.elements → ⊥)
+      → get_or l.places (f - 1) 0 ≡ rank_of l.set.n (with_element f l.set.elements);
 }

@@ -6,5 +6,7 @@ use Rattle.om_circuits.proofs.acceptance.check.Goals as goal
 pub returns-in-Some-clause-accepted : goal.returns-in-Some-clause-accepted
 returns-in-Some-clause-accepted g c = (
   λ e. let d : false ≡ true = e in cc d,
-  λ ax. absurd (violated_breaks c.args.list c.in-Some.why (subst (λ m. IsFirstViolated m c.in-Some.why) c.as_slice.ensures c.in-Some.ensures.first).violated ax),
+  λ ax. absurd
+      (violated_breaks c.args.list c.in-Some.why
+      (subst (λ m. IsFirstViolated m c.in-Some.why) c.as_slice.ensures c.in-Some.ensures.first).violated ax),
 )

@@ -5,4 +5,5 @@ pub returns-in_err-i-clause-none : goal.returns-in_err-i-clause-none
 returns-in_err-i-clause-none g c = rw c.from_residual.ensures (all_unnested c.args.members.now c.in_err-i.ensures)
 
 pub returns-clause-first : goal.returns-clause-first
-returns-clause-first g c = nested_found c.args.members.now c.in_ok-i.i c.in_ok-j.j c.index-members-i.result c.index-members-i.is c.in_ok-i.ensures c.in_ok-j.ensures.first
+returns-clause-first g c = nested_found c.args.members.now c.in_ok-i.i c.in_ok-j.j c.index-members-i.result
+    c.index-members-i.is c.in_ok-i.ensures c.in_ok-j.ensures.first

@@ -9,9 +9,11 @@ use Rattle.om_circuits.proofs.supports.is_nested.Goals as goal
 use Rattle.om_circuits.proofs.supports.is_nested.Goals.{then-support-eq0, else-support-eq0}
 
 -- the last test: whether the two are negatives
-negatives : (xs ys ns : List Sign) (s : Bool) → HasSupportIn xs ys → xs ≢ ys → ns ≡ negated ys → (IsTrue s ↔ (xs ≡ ns)) → MatchBool (not s) (IsNestedIn xs ys) (IsUnnestedIn xs ys)
+negatives : (xs ys ns : List Sign) (s : Bool) → HasSupportIn xs ys → xs ≢ ys → ns ≡ negated ys → (IsTrue s ↔ (xs ≡ ns))
+    → MatchBool (not s) (IsNestedIn xs ys) (IsUnnestedIn xs ys)
 negatives xs ys ns true h n e o = λ _. inr (o.0 refl ∙ e)
-negatives xs ys ns false h n e o = record { within = h; other = n; not_negative = λ d. let q : false ≡ true = o.1 (d ∙ sym e) in cc }
+negatives xs ys ns false h n e o =
+    record { within = h; other = n; not_negative = λ d. let q : false ≡ true = o.1 (d ∙ sym e) in cc }
 
 not_true : (s : Bool) → not s ≡ true → IsTrue s → ⊥
 not_true true e t = cc
@@ -21,7 +23,8 @@ from_not : (s : Bool) → not s ≡ false → IsTrue s
 from_not true e = refl
 from_not false e = cc
 
-unnested : (v : Bool) (xs ys : List Sign) → v ≡ false → IsUnnestedIn xs ys → MatchBool v (IsNestedIn xs ys) (IsUnnestedIn xs ys)
+unnested : (v : Bool) (xs ys : List Sign) → v ≡ false → IsUnnestedIn xs ys
+    → MatchBool v (IsNestedIn xs ys) (IsUnnestedIn xs ys)
 unnested true xs ys e h = cc
 unnested false xs ys e h = h
 
@@ -29,7 +32,8 @@ pub returns-then-not-are_same : goal.returns-then-not-are_same
 returns-then-not-are_same c = elim c.if-support-eq0.branch [
   | then-support-eq0 w ↦
       negatives c.args.x c.args.y c.neg.result c.are_same-then-not-are_same.result
-      ((support_test c.args.x c.args.y c.support.result c.support-2.result c.support.type_inv c.support-2.type_inv c.support.ensures c.support-2.ensures).0 w.if-support-eq0.true)
+      ((support_test c.args.x c.args.y c.support.result c.support-2.result c.support.type_inv c.support-2.type_inv
+      c.support.ensures c.support-2.ensures).0 w.if-support-eq0.true)
       (λ e. not_true w.are_same.result (sym w.value-is ∙ c.if-not-are_same.true) (w.are_same.ensures.1 e))
       c.neg.ensures
       c.are_same-then-not-are_same.ensures
@@ -37,7 +41,13 @@ returns-then-not-are_same c = elim c.if-support-eq0.branch [
 ]
 
 pub returns-else-not-are_same : goal.returns-else-not-are_same
-returns-else-not-are_same c = unnested c.if-support-eq0.value c.args.x c.args.y c.if-not-are_same.false (elim c.if-support-eq0.branch [
-  | then-support-eq0 w ↦ λ _. inl (w.are_same.ensures.0 (from_not w.are_same.result (sym w.value-is ∙ c.if-not-are_same.false)))
-  | else-support-eq0 w ↦ λ h. absurd (w.if-support-eq0.false ((support_test c.args.x c.args.y c.support.result c.support-2.result c.support.type_inv c.support-2.type_inv c.support.ensures c.support-2.ensures).1 h))
-])
+returns-else-not-are_same c =
+    unnested c.if-support-eq0.value c.args.x c.args.y c.if-not-are_same.false (elim c.if-support-eq0.branch [
+      | then-support-eq0 w ↦
+          λ _. inl (w.are_same.ensures.0 (from_not w.are_same.result (sym w.value-is ∙ c.if-not-are_same.false)))
+      | else-support-eq0 w ↦
+          λ h. absurd
+          (w.if-support-eq0.false
+          ((support_test c.args.x c.args.y c.support.result c.support-2.result c.support.type_inv c.support-2.type_inv
+          c.support.ensures c.support-2.ensures).1 h))
+    ])

@@ -8,24 +8,32 @@ use Rattle.om_convert.proofs.chirotopes.chirotope_to_circuits.Goals as goal
 
 pub lawful-requires-clause-lengths : goal.lawful-requires-clause-lengths
 lawful-requires-clause-lengths c =
-    let all = subst (AreAllOf (IsCircuitOfChirotope c.args.chi.now)) (sym c.in_ok-circuits.ensures.value) c.in_ok-gathered.ensures.members in
+    let all = subst (AreAllOf (IsCircuitOfChirotope c.args.chi.now)) (sym c.in_ok-circuits.ensures.value)
+    c.in_ok-gathered.ensures.members in
     λ k d l. circuit_lengths c.args.chi.now c.in_ok-circuits.circuits all k d l ∙ sym c.elements.ensures.value
 
 pub lawful-requires-clause-axioms : goal.lawful-requires-clause-axioms
 lawful-requires-clause-axioms c =
-    let all = subst (AreAllOf (IsCircuitOfChirotope c.args.chi.now)) (sym c.in_ok-circuits.ensures.value) c.in_ok-gathered.ensures.members in
+    let all = subst (AreAllOf (IsCircuitOfChirotope c.args.chi.now)) (sym c.in_ok-circuits.ensures.value)
+    c.in_ok-gathered.ensures.members in
     circuits_lawful c.args.chi.now c.in_ok-circuits.circuits all c.all_circuits.ensures.lawful
 
 pub returns-clause-same : goal.returns-clause-same
 returns-clause-same c =
-    let all = subst (AreAllOf (IsCircuitOfChirotope c.args.chi.now)) (sym c.in_ok-circuits.ensures.value) c.in_ok-gathered.ensures.members in
-    same_as_circuits c.args.chi.now c.in_ok-circuits.circuits all c.all_circuits.ensures.lawful c.lawful.result (c.lawful.ensures.elements ∙ c.elements.ensures.value) c.lawful.ensures.members
+    let all = subst (AreAllOf (IsCircuitOfChirotope c.args.chi.now)) (sym c.in_ok-circuits.ensures.value)
+    c.in_ok-gathered.ensures.members in
+    same_as_circuits c.args.chi.now c.in_ok-circuits.circuits all c.all_circuits.ensures.lawful c.lawful.result
+    (c.lawful.ensures.elements ∙ c.elements.ensures.value) c.lawful.ensures.members
 
 pub returns-clause-few : goal.returns-clause-few
-returns-clause-few c = listed_within (IsCircuitOfChirotope c.args.chi.now) c.in_ok-gathered.gathered c.in_ok-gathered.ensures.members c.in_ok-circuits.ensures.lawful.few
+returns-clause-few c = listed_within (IsCircuitOfChirotope c.args.chi.now) c.in_ok-gathered.gathered
+    c.in_ok-gathered.ensures.members c.in_ok-circuits.ensures.lawful.few
 
 pub returns-clause-unique : goal.returns-clause-unique
 returns-clause-unique c =
-    let all = subst (AreAllOf (IsCircuitOfChirotope c.args.chi.now)) (sym c.in_ok-circuits.ensures.value) c.in_ok-gathered.ensures.members in
-    only_circuits c.lawful.result c.args.chi.now.elements c.in_ok-circuits.circuits (c.lawful.ensures.elements ∙ c.elements.ensures.value) c.lawful.ensures.members
-    (circuit_lengths c.args.chi.now c.in_ok-circuits.circuits all) (circuits_lawful c.args.chi.now c.in_ok-circuits.circuits all c.all_circuits.ensures.lawful)
+    let all = subst (AreAllOf (IsCircuitOfChirotope c.args.chi.now)) (sym c.in_ok-circuits.ensures.value)
+    c.in_ok-gathered.ensures.members in
+    only_circuits c.lawful.result c.args.chi.now.elements c.in_ok-circuits.circuits
+    (c.lawful.ensures.elements ∙ c.elements.ensures.value) c.lawful.ensures.members
+    (circuit_lengths c.args.chi.now c.in_ok-circuits.circuits all)
+    (circuits_lawful c.args.chi.now c.in_ok-circuits.circuits all c.all_circuits.ensures.lawful)

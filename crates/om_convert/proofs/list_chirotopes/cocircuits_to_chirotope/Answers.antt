@@ -9,8 +9,13 @@ use Rattle.om_convert.proofs.list_chirotopes.cocircuits_to_chirotope.Goals as go
 pub returns-in_err-test_width-clause-refused : goal.returns-in_err-test_width-clause-refused
 returns-in_err-test_width-clause-refused c =
     let p = err_from_is_err_and c.from_residual.result c.from_residual.ensures.1 in
-    rw (p.1, p.2) (width_cause c.args.c.now.0.elements (IsCovectorOfCocircuits c.args.c.now.0) c.rank_cocircuits-rank.result c.rank_cocircuits-rank.ensures.rank c.elements.result c.elements.ensures.value c.in_err-test_width.field-0.0 c.in_err-test_width.ensures.wide)
+    rw (p.1, p.2)
+    (width_cause c.args.c.now.0.elements (IsCovectorOfCocircuits c.args.c.now.0) c.rank_cocircuits-rank.result
+    c.rank_cocircuits-rank.ensures.rank c.elements.result c.elements.ensures.value c.in_err-test_width.field-0.0
+    c.in_err-test_width.ensures.wide)
 
 pub returns-clause-narrow : goal.returns-clause-narrow
-returns-clause-narrow c = narrow_by_rank c.args.c.now.0.elements (IsCovectorOfCocircuits c.args.c.now.0) c.rank_cocircuits-rank.result c.rank_cocircuits-rank.ensures.rank
-    (subst (λ j. choose j c.rank_cocircuits-rank.result ≤ MAX_VALUES) c.elements.ensures.value c.in_ok-test_width.ensures.narrow)
+returns-clause-narrow c = narrow_by_rank c.args.c.now.0.elements (IsCovectorOfCocircuits c.args.c.now.0)
+    c.rank_cocircuits-rank.result c.rank_cocircuits-rank.ensures.rank
+    (subst (λ j. choose j c.rank_cocircuits-rank.result ≤ MAX_VALUES) c.elements.ensures.value
+    c.in_ok-test_width.ensures.narrow)

@@ -11,20 +11,32 @@ use Rattle.om_convert.proofs.list_chirotopes.covectors_to_chirotope.Goals as goa
 pub returns-in_err-test_width-clause-refused : goal.returns-in_err-test_width-clause-refused
 returns-in_err-test_width-clause-refused c =
     let p = err_from_is_err_and c.from_residual.result c.from_residual.ensures.1 in
-    rw (p.1, p.2) (width_cause c.args.c.now.elements (Contains c.args.c.now.members) c.rank_covectors-rank.result c.rank_covectors-rank.ensures.rank c.elements.result c.elements.ensures.value c.in_err-test_width.field-0.0 c.in_err-test_width.ensures.wide)
+    rw (p.1, p.2)
+    (width_cause c.args.c.now.elements (Contains c.args.c.now.members) c.rank_covectors-rank.result
+    c.rank_covectors-rank.ensures.rank c.elements.result c.elements.ensures.value c.in_err-test_width.field-0.0
+    c.in_err-test_width.ensures.wide)
 
 pub chirotope_of_cocircuits-requires : goal.chirotope_of_cocircuits-requires
-chirotope_of_cocircuits-requires c = rank_of_same c.args.c.now.elements c.in_ok-cocircuits.cocircuits.0.elements (Contains c.args.c.now.members) (IsCovectorOfCocircuits c.in_ok-cocircuits.cocircuits.0) c.rank_covectors-rank.result
+chirotope_of_cocircuits-requires c =
+    rank_of_same c.args.c.now.elements c.in_ok-cocircuits.cocircuits.0.elements (Contains c.args.c.now.members)
+    (IsCovectorOfCocircuits c.in_ok-cocircuits.cocircuits.0) c.rank_covectors-rank.result
     c.in_ok-cocircuits.ensures.elements c.in_ok-cocircuits.ensures.same c.rank_covectors-rank.ensures.rank
 
 pub returns-clause-covectors : goal.returns-clause-covectors
-returns-clause-covectors c = covectors_listed c.args.c.now c.in_ok-chi.chi c.in_ok-cocircuits.cocircuits.0.elements (IsCovectorOfCocircuits c.in_ok-cocircuits.cocircuits.0) c.elements.ensures.lawful.lengths
-    c.in_ok-cocircuits.ensures.elements c.in_ok-chi.ensures.elements c.in_ok-cocircuits.ensures.same c.in_ok-chi.ensures.same
+returns-clause-covectors c =
+    covectors_listed c.args.c.now c.in_ok-chi.chi c.in_ok-cocircuits.cocircuits.0.elements
+    (IsCovectorOfCocircuits c.in_ok-cocircuits.cocircuits.0) c.elements.ensures.lawful.lengths
+    c.in_ok-cocircuits.ensures.elements c.in_ok-chi.ensures.elements c.in_ok-cocircuits.ensures.same
+    c.in_ok-chi.ensures.same
 
 pub returns-clause-same : goal.returns-clause-same
-returns-clause-same c = joined c.args.c.now.elements c.in_ok-cocircuits.cocircuits.0.elements (Contains c.args.c.now.members) (IsCovectorOfCocircuits c.in_ok-cocircuits.cocircuits.0) (IsCovectorOfChirotope c.in_ok-chi.chi)
+returns-clause-same c = joined c.args.c.now.elements c.in_ok-cocircuits.cocircuits.0.elements
+    (Contains c.args.c.now.members) (IsCovectorOfCocircuits c.in_ok-cocircuits.cocircuits.0)
+    (IsCovectorOfChirotope c.in_ok-chi.chi)
     c.in_ok-cocircuits.ensures.elements c.in_ok-cocircuits.ensures.same c.in_ok-chi.ensures.same
 
 pub returns-clause-narrow : goal.returns-clause-narrow
-returns-clause-narrow c = narrow_by_rank c.args.c.now.elements (Contains c.args.c.now.members) c.rank_covectors-rank.result c.rank_covectors-rank.ensures.rank
-    (subst (λ j. choose j c.rank_covectors-rank.result ≤ MAX_VALUES) c.elements.ensures.value c.in_ok-test_width.ensures.narrow)
+returns-clause-narrow c = narrow_by_rank c.args.c.now.elements (Contains c.args.c.now.members)
+    c.rank_covectors-rank.result c.rank_covectors-rank.ensures.rank
+    (subst (λ j. choose j c.rank_covectors-rank.result ≤ MAX_VALUES) c.elements.ensures.value
+    c.in_ok-test_width.ensures.narrow)

@@ -9,26 +9,42 @@ use Rattle.om_convert.proofs.WidthLaws.{list_of_width, list_of_cause}
 use Rattle.om_convert.proofs.lists.circuits_to_cocircuits.Goals as goal
 
 pub returns-clause-members : goal.returns-clause-members
-returns-clause-members c = all_same (IsCocircuitOfChirotope c.in_ok-chi.chi) (IsOfLeastSupport (IsCovectorOfCircuits c.args.c.now.0))
-    (cocircuits_of c.args.c.now.0.elements (IsCovectorOfCircuits c.args.c.now.0) c.in_ok-chi.chi (subst IsChirotope c.chi.view_is c.chi.invariant.axioms) c.in_ok-chi.ensures.elements (λ X x. x.size) c.in_ok-chi.ensures.same)
+returns-clause-members c = all_same (IsCocircuitOfChirotope c.in_ok-chi.chi)
+    (IsOfLeastSupport (IsCovectorOfCircuits c.args.c.now.0))
+    (cocircuits_of c.args.c.now.0.elements (IsCovectorOfCircuits c.args.c.now.0) c.in_ok-chi.chi
+    (subst IsChirotope c.chi.view_is c.chi.invariant.axioms) c.in_ok-chi.ensures.elements (λ X x. x.size)
+    c.in_ok-chi.ensures.same)
     c.in_ok-cocircuits.cocircuits.0.members c.in_ok-cocircuits.ensures.members
 
 pub returns-clause-few : goal.returns-clause-few
-returns-clause-few c = within_same (IsCocircuitOfChirotope c.in_ok-chi.chi) (IsOfLeastSupport (IsCovectorOfCircuits c.args.c.now.0))
-    (cocircuits_of c.args.c.now.0.elements (IsCovectorOfCircuits c.args.c.now.0) c.in_ok-chi.chi (subst IsChirotope c.chi.view_is c.chi.invariant.axioms) c.in_ok-chi.ensures.elements (λ X x. x.size) c.in_ok-chi.ensures.same)
+returns-clause-few c = within_same (IsCocircuitOfChirotope c.in_ok-chi.chi)
+    (IsOfLeastSupport (IsCovectorOfCircuits c.args.c.now.0))
+    (cocircuits_of c.args.c.now.0.elements (IsCovectorOfCircuits c.args.c.now.0) c.in_ok-chi.chi
+    (subst IsChirotope c.chi.view_is c.chi.invariant.axioms) c.in_ok-chi.ensures.elements (λ X x. x.size)
+    c.in_ok-chi.ensures.same)
     c.in_ok-cocircuits.ensures.few
 
 pub returns-in_err-cocircuits-clause-refused : goal.returns-in_err-cocircuits-clause-refused
 returns-in_err-cocircuits-clause-refused c =
     let p = err_from_is_err_and c.from_residual-in_err-cocircuits.result c.from_residual-in_err-cocircuits.ensures.1 in
-    rw (p.1, p.2) (list_of_cause c.args.c.now.0.elements (IsCovectorOfCircuits c.args.c.now.0) (IsOfLeastSupport (IsCovectorOfCircuits c.args.c.now.0)) c.in_ok-chi.ensures.narrow c.in_err-cocircuits.field-0.0 (cause_same (IsCocircuitOfChirotope c.in_ok-chi.chi) (IsOfLeastSupport (IsCovectorOfCircuits c.args.c.now.0))
-    (cocircuits_of c.args.c.now.0.elements (IsCovectorOfCircuits c.args.c.now.0) c.in_ok-chi.chi (subst IsChirotope c.chi.view_is c.chi.invariant.axioms) c.in_ok-chi.ensures.elements (λ X x. x.size) c.in_ok-chi.ensures.same)
+    rw (p.1, p.2)
+    (list_of_cause c.args.c.now.0.elements (IsCovectorOfCircuits c.args.c.now.0)
+    (IsOfLeastSupport (IsCovectorOfCircuits c.args.c.now.0)) c.in_ok-chi.ensures.narrow
+    c.in_err-cocircuits.field-0.0
+    (cause_same (IsCocircuitOfChirotope c.in_ok-chi.chi) (IsOfLeastSupport (IsCovectorOfCircuits c.args.c.now.0))
+    (cocircuits_of c.args.c.now.0.elements (IsCovectorOfCircuits c.args.c.now.0) c.in_ok-chi.chi
+    (subst IsChirotope c.chi.view_is c.chi.invariant.axioms) c.in_ok-chi.ensures.elements (λ X x. x.size)
+    c.in_ok-chi.ensures.same)
     c.in_err-cocircuits.field-0.0 c.in_err-cocircuits.ensures.many))
 
 pub returns-in_err-chi-clause-refused : goal.returns-in_err-chi-clause-refused
 returns-in_err-chi-clause-refused c =
     let p = err_from_is_err_and c.from_residual.result c.from_residual.ensures.1 in
-    rw (p.1, p.2) (list_of_width c.args.c.now.0.elements (IsCovectorOfCircuits c.args.c.now.0) (IsOfLeastSupport (IsCovectorOfCircuits c.args.c.now.0)) c.in_err-chi.field-0.0 c.in_err-chi.ensures.refused)
+    rw (p.1, p.2)
+    (list_of_width c.args.c.now.0.elements (IsCovectorOfCircuits c.args.c.now.0)
+    (IsOfLeastSupport (IsCovectorOfCircuits c.args.c.now.0)) c.in_err-chi.field-0.0 c.in_err-chi.ensures.refused)
 
 pub returns-clause-same : goal.returns-clause-same
-returns-clause-same c = joined c.args.c.now.0.elements c.in_ok-chi.chi.elements (IsCovectorOfCircuits c.args.c.now.0) (IsCovectorOfChirotope c.in_ok-chi.chi) (IsCovectorOfCocircuits c.in_ok-cocircuits.cocircuits.0) c.in_ok-chi.ensures.elements c.in_ok-chi.ensures.same c.in_ok-cocircuits.ensures.same
+returns-clause-same c = joined c.args.c.now.0.elements c.in_ok-chi.chi.elements (IsCovectorOfCircuits c.args.c.now.0)
+    (IsCovectorOfChirotope c.in_ok-chi.chi) (IsCovectorOfCocircuits c.in_ok-cocircuits.cocircuits.0)
+    c.in_ok-chi.ensures.elements c.in_ok-chi.ensures.same c.in_ok-cocircuits.ensures.same

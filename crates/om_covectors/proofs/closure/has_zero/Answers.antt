@@ -6,5 +6,7 @@ use Rattle.om_covectors.proofs.closure.has_zero.Goals as goal
 pub returns : goal.returns
 returns c = (
   λ t. let d : false ≡ true = t in cc,
-  λ h. absurd (c.loop-x.invariant h.1.0 (let a = h.1.1 in let b = c.loop-x-test.false in omega arith) (subst IsZero (sym (nth_contained c.args.members.now h.0 h.1)) h.2)),
+  λ h. absurd
+      (c.loop-x.invariant h.1.0 (let a = h.1.1 in let b = c.loop-x-test.false in omega arith)
+      (subst IsZero (sym (nth_contained c.args.members.now h.0 h.1)) h.2)),
 )

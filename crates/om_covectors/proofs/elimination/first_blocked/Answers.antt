@@ -2,7 +2,9 @@ use Rattle.om_covectors.proofs.DecisionLaws.{all_unblocked, blocked_found}
 use Rattle.om_covectors.proofs.elimination.first_blocked.Goals as goal
 
 pub returns-in_err-i-clause-none : goal.returns-in_err-i-clause-none
-returns-in_err-i-clause-none g c = rw c.from_residual.ensures (all_unblocked c.args.members.now c.args.elements c.in_err-i.ensures)
+returns-in_err-i-clause-none g c =
+    rw c.from_residual.ensures (all_unblocked c.args.members.now c.args.elements c.in_err-i.ensures)
 
 pub returns-clause-first : goal.returns-clause-first
-returns-clause-first g c = blocked_found c.args.members.now c.args.elements c.in_ok-i.i c.in_ok-j.j c.in_ok-j.e c.index-members-i.result c.index-members-i.is c.in_ok-i.ensures c.in_ok-j.ensures.first
+returns-clause-first g c = blocked_found c.args.members.now c.args.elements c.in_ok-i.i c.in_ok-j.j c.in_ok-j.e
+    c.index-members-i.result c.index-members-i.is c.in_ok-i.ensures c.in_ok-j.ensures.first

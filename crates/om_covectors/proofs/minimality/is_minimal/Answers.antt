@@ -7,7 +7,8 @@ pub returns : goal.returns
 returns c = (
   λ _. record {
     nonzero = λ z. let q : false ≡ true = sym c.if-is_zero.false ∙ c.is_zero.ensures.1 z in cc;
-    least = λ Y y. subst (λ Z. HasNoSmallerSupport Z c.args.x) (nth_contained c.args.members.now Y y) (c.loop-y.invariant y.0 (let a = y.1 in let b = c.loop-y-test.false in omega arith));
+    least = λ Y y. subst (λ Z. HasNoSmallerSupport Z c.args.x) (nth_contained c.args.members.now Y y)
+        (c.loop-y.invariant y.0 (let a = y.1 in let b = c.loop-y-test.false in omega arith));
   },
   λ _. refl,
 )

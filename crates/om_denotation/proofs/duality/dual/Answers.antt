@@ -13,16 +13,29 @@ use Rattle.om_denotation.proofs.Uniqueness.{normal_axioms}
 use Rattle.om_denotation.proofs.duality.dual.Goals as goal
 
 pub normal_by-requires-clause-axioms : goal.normal_by-requires-clause-axioms
-normal_by-requires-clause-axioms c = rw (c.elements.ensures.value, c.elements-2.ensures.value, c.rank.ensures.value) (dual_axioms c.args.chi.now c.rank.ensures.lawful)
+normal_by-requires-clause-axioms c =
+    rw (c.elements.ensures.value, c.elements-2.ensures.value, c.rank.ensures.value)
+    (dual_axioms c.args.chi.now c.rank.ensures.lawful)
 
 pub returns-clause-dual : goal.returns-clause-dual
 returns-clause-dual c =
-    let P : SignMap → Type 0 = λ d. IsDual c.args.chi.now.elements (IsCovectorOfChirotope c.args.chi.now) (IsCovectorOfChirotope d) in
-    let Q : SignMap → Type 0 = IsNormalFormOf (map_by (c.elements.result - c.rank.result) c.elements-2.result (dual_on_increasing c.args.chi.now.elements (chi_of c.args.chi.now))) in
-    IfOk-weaker c.normal_by.result Q P (λ d h. is_dual c.args.chi.now c.rank.ensures.lawful d (rw (c.elements.ensures.value, c.elements-2.ensures.value, c.rank.ensures.value) at h)) c.normal_by.ensures
+    let P : SignMap → Type 0 =
+    λ d. IsDual c.args.chi.now.elements (IsCovectorOfChirotope c.args.chi.now) (IsCovectorOfChirotope d) in
+    let Q : SignMap → Type 0 =
+    IsNormalFormOf
+    (map_by (c.elements.result - c.rank.result) c.elements-2.result
+    (dual_on_increasing c.args.chi.now.elements (chi_of c.args.chi.now))) in
+    IfOk-weaker c.normal_by.result Q P
+    (λ d h. is_dual c.args.chi.now c.rank.ensures.lawful d
+    (rw (c.elements.ensures.value, c.elements-2.ensures.value, c.rank.ensures.value) at h)) c.normal_by.ensures
 
 pub returns-clause-unique : goal.returns-clause-unique
 returns-clause-unique c =
-    let Q : SignMap → Type 0 = IsNormalFormOf (map_by (c.elements.result - c.rank.result) c.elements-2.result (dual_on_increasing c.args.chi.now.elements (chi_of c.args.chi.now))) in
-    IfOk-weaker c.normal_by.result Q IsOnlyChirotope (λ d h. only_chirotope d (normal_axioms (dual_of c.args.chi.now) d (dual_axioms c.args.chi.now c.rank.ensures.lawful)
+    let Q : SignMap → Type 0 =
+    IsNormalFormOf
+    (map_by (c.elements.result - c.rank.result) c.elements-2.result
+    (dual_on_increasing c.args.chi.now.elements (chi_of c.args.chi.now))) in
+    IfOk-weaker c.normal_by.result Q IsOnlyChirotope
+    (λ d h. only_chirotope d
+    (normal_axioms (dual_of c.args.chi.now) d (dual_axioms c.args.chi.now c.rank.ensures.lawful)
     (rw (c.elements.ensures.value, c.elements-2.ensures.value, c.rank.ensures.value) at h))) c.normal_by.ensures

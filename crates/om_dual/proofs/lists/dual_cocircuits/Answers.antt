@@ -7,4 +7,5 @@ pub returns-clause-dual : goal.returns-clause-dual
 returns-clause-dual c = dual_of_cocircuits c.args.c.0 c.is_lawful.ensures.lengths c.is_lawful.ensures.axioms
 
 pub returns-clause-unique : goal.returns-clause-unique
-returns-clause-unique c = only_circuits c.args.c.0 c.args.c.0.elements c.args.c.0.members refl refl c.is_lawful.ensures.lengths c.is_lawful.ensures.axioms
+returns-clause-unique c = only_circuits c.args.c.0 c.args.c.0.elements c.args.c.0.members refl refl
+    c.is_lawful.ensures.lengths c.is_lawful.ensures.axioms

@@ -1,5 +1,6 @@
 use Rattle.std.proofs.Common.{◌+◌, arith}
-use Rattle.om_grassmann.proofs.Counting.{same_number, before_first, number_next, number_last, none_lawful, number_exceeds}
+use Rattle.om_grassmann.proofs.Counting.{same_number, before_first, number_next, number_last, none_lawful}
+use Rattle.om_grassmann.proofs.Counting.{number_exceeds}
 use Rattle.om_grassmann.proofs.Listed.{listed_numbers}
 use Rattle.om_grassmann.proofs.laws.numbers_of_lawful_statements.Goals as goal
 

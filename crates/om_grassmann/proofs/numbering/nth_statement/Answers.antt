@@ -6,14 +6,20 @@ use Rattle.om_grassmann.proofs.numbering.nth_statement.Goals as goal
 
 pub returns-in_err-st-2-clause-none : goal.returns-in_err-st-2-clause-none
 returns-in_err-st-2-clause-none c = (
-  λ q. number_last c.args.chi.now c.loop-turn._turn c.args.k c.loop-turn.st c.loop-turn.invariant (c.in_err-st-2.ensures.none.0 refl) c.loop-turn-test.true,
+  λ q. number_last c.args.chi.now c.loop-turn._turn c.args.k c.loop-turn.st c.loop-turn.invariant
+      (c.in_err-st-2.ensures.none.0 refl) c.loop-turn-test.true,
   λ a. rw c.from_residual-in_err-st-2.ensures refl,
 )
 
 pub loop-turn-preserved : goal.loop-turn-preserved
-loop-turn-preserved c = number_next c.args.chi.now c.loop-turn._turn c.loop-turn.st c.in_ok-st-2.st c.loop-turn.invariant c.in_ok-st-2.ensures.next
+loop-turn-preserved c = number_next c.args.chi.now c.loop-turn._turn c.loop-turn.st c.in_ok-st-2.st
+    c.loop-turn.invariant c.in_ok-st-2.ensures.next
 
 pub returns-clause-none : goal.returns-clause-none
 returns-clause-none c =
-    let end : c.loop-turn._turn ≡ c.args.k = omega arith in
-    (λ q. absurd (false≢true (sym q)), λ a. absurd (number_exceeds c.args.chi.now c.args.k c.loop-turn.st (subst (λ k. IsNumber c.args.chi.now k c.loop-turn.st) end c.loop-turn.invariant) a))
+    let end : c.loop-turn._turn ≡ c.args.k = omega arith in (
+      λ q. absurd (false≢true (sym q)),
+      λ a. absurd
+          (number_exceeds c.args.chi.now c.args.k c.loop-turn.st
+          (subst (λ k. IsNumber c.args.chi.now k c.loop-turn.st) end c.loop-turn.invariant) a),
+    )

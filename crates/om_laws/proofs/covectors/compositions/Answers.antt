@@ -4,7 +4,9 @@ use Rattle.om_laws.proofs.DualPairs.{dual_pair, swapped_pair}
 use Rattle.om_laws.proofs.covectors.compositions.Goals as goal
 
 pub returns-clause-covectors : goal.returns-clause-covectors
-returns-clause-covectors c = λ E chi om X. laws.composition_both E (IsCircuit E chi) (IsCocircuit chi) (dual_pair E chi om) X
+returns-clause-covectors c =
+    λ E chi om X. laws.composition_both E (IsCircuit E chi) (IsCocircuit chi) (dual_pair E chi om) X
 
 pub returns-clause-vectors : goal.returns-clause-vectors
-returns-clause-vectors c = λ E chi om X. laws.composition_both E (IsCocircuit chi) (IsCircuit E chi) (swapped_pair E chi om) X
+returns-clause-vectors c = λ E chi om X. laws.composition_both E (IsCocircuit chi) (IsCircuit E chi)
+    (swapped_pair E chi om) X

@@ -5,4 +5,5 @@ use Rattle.om_laws.proofs.SortingLaws.{alternating_equal, value_increasing}
 use Rattle.om_laws.proofs.tuples.only_alternating_map.Goals as goal
 
 pub returns : goal.returns
-returns c = λ f chi alt h. alternating_equal chi (value f) alt (value_alternating f) (λ t i. h t i ∙ sym (value_increasing f t i))
+returns c = λ f chi alt h. alternating_equal chi (value f) alt (value_alternating f)
+    (λ t i. h t i ∙ sym (value_increasing f t i))

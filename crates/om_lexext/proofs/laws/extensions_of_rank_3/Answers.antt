@@ -7,7 +7,8 @@ use Rattle.om_lexext.specs.Lexicographic.{AreEntries, IsLexicographicExtension}
 use Rattle.om_lexext.proofs.Extensions.{extensions_meet}
 use Rattle.om_lexext.proofs.laws.extensions_of_rank_3.Goals as goal
 
-is_extension : (m x : SignMap) (list : List Signed) → IsChirotope m → AreEntries m.elements list → IsMap x → IsLexicographicExtension m list x → IsExtension m x
+is_extension : (m x : SignMap) (list : List Signed) → IsChirotope m → AreEntries m.elements list → IsMap x
+    → IsLexicographicExtension m list x → IsExtension m x
 is_extension m x list chirotope entries w e = record {
   rank = e.rank;
   elements = e.elements;

@@ -6,5 +6,6 @@ use Rattle.om_matroid.proofs.elements.is_coloop.Goals as goal
 
 pub returns : goal.returns
 returns c = none_both (is_some c.first_between.result) c.is_none.result c.is_none.ensures c.first_between.ensures.none
-    (coloop_both c.args.chi.now c.args.e c.first-nothing.result.elements c.with.result.elements c.first-nothing.ensures.elements
+    (coloop_both c.args.chi.now c.args.e c.first-nothing.result.elements c.with.result.elements
+    c.first-nothing.ensures.elements
     (c.with.ensures.elements ∙ ap (with_element c.args.e) c.first-nothing.ensures.elements))

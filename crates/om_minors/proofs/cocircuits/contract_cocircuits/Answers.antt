@@ -2,5 +2,7 @@ use Rattle.om_minors.proofs.SetMinors.{zero_cocircuits}
 use Rattle.om_minors.proofs.cocircuits.contract_cocircuits.Goals as goal
 
 pub returns-clause-contraction : goal.returns-clause-contraction
-returns-clause-contraction c = zero_cocircuits c.args.c.now.0 c.in_ok-zero_part.field-0 c.elements.ensures.lawful c.args.e c.elements.result c.requires.low c.requires.high c.elements.ensures.value c.if-elements-eq1.false
+returns-clause-contraction c =
+    zero_cocircuits c.args.c.now.0 c.in_ok-zero_part.field-0 c.elements.ensures.lawful c.args.e c.elements.result
+    c.requires.low c.requires.high c.elements.ensures.value c.if-elements-eq1.false
     c.in_ok-zero_part.ensures.elements c.in_ok-zero_part.ensures.members

@@ -6,15 +6,26 @@ use Rattle.om_minors.proofs.CovectorMinors.{without_members, without_lengths, wi
 use Rattle.om_minors.proofs.covectors.delete_covectors.Goals as goal
 
 pub lawful-requires-clause-lengths : goal.lawful-requires-clause-lengths
-lawful-requires-clause-lengths c = without_lengths c.args.c.now c.elements-elements.ensures.lawful c.args.e c.elements-elements.result c.requires.low c.requires.high c.elements-elements.ensures.value c.if-elements-eq1.false c.members.result.now c.in_ok-list.list c.members.ensures.value c.in_ok-list.ensures.members
+lawful-requires-clause-lengths c =
+    without_lengths c.args.c.now c.elements-elements.ensures.lawful c.args.e c.elements-elements.result c.requires.low
+    c.requires.high c.elements-elements.ensures.value c.if-elements-eq1.false c.members.result.now c.in_ok-list.list
+    c.members.ensures.value c.in_ok-list.ensures.members
 
 pub lawful-requires-clause-axioms : goal.lawful-requires-clause-axioms
-lawful-requires-clause-axioms c = without_axioms c.args.c.now c.elements-elements.ensures.lawful c.args.e c.elements-elements.result c.requires.low c.requires.high c.elements-elements.ensures.value c.if-elements-eq1.false c.members.result.now c.in_ok-list.list c.members.ensures.value c.in_ok-list.ensures.members
+lawful-requires-clause-axioms c =
+    without_axioms c.args.c.now c.elements-elements.ensures.lawful c.args.e c.elements-elements.result c.requires.low
+    c.requires.high c.elements-elements.ensures.value c.if-elements-eq1.false c.members.result.now c.in_ok-list.list
+    c.members.ensures.value c.in_ok-list.ensures.members
 
 pub returns-clause-members : goal.returns-clause-members
-returns-clause-members c = subst (AreAllOf (IsWithout c.args.c.now.elements c.args.e (Contains c.args.c.now.members))) (sym c.lawful.ensures.members)
-    (without_members c.args.c.now c.elements-elements.ensures.lawful c.args.e c.elements-elements.result c.requires.low c.requires.high c.elements-elements.ensures.value c.if-elements-eq1.false c.members.result.now c.in_ok-list.list c.members.ensures.value c.in_ok-list.ensures.members)
+returns-clause-members c = subst (AreAllOf (IsWithout c.args.c.now.elements c.args.e (Contains c.args.c.now.members)))
+    (sym c.lawful.ensures.members)
+    (without_members c.args.c.now c.elements-elements.ensures.lawful c.args.e c.elements-elements.result c.requires.low
+    c.requires.high c.elements-elements.ensures.value c.if-elements-eq1.false c.members.result.now c.in_ok-list.list
+    c.members.ensures.value c.in_ok-list.ensures.members)
 
 pub returns-clause-deletion : goal.returns-clause-deletion
-returns-clause-deletion c = without_deletion c.args.c.now c.elements-elements.ensures.lawful c.args.e c.elements-elements.result c.requires.low c.requires.high c.elements-elements.ensures.value c.if-elements-eq1.false c.members.result.now c.in_ok-list.list c.members.ensures.value c.in_ok-list.ensures.members
+returns-clause-deletion c = without_deletion c.args.c.now c.elements-elements.ensures.lawful c.args.e
+    c.elements-elements.result c.requires.low c.requires.high c.elements-elements.ensures.value c.if-elements-eq1.false
+    c.members.result.now c.in_ok-list.list c.members.ensures.value c.in_ok-list.ensures.members
     c.lawful.result c.lawful.ensures.elements c.lawful.ensures.members

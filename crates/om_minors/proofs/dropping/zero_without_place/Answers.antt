@@ -22,15 +22,26 @@ signs_equal Plus q = cc
 pub loop-x-preserved : goal.loop-x-preserved
 loop-x-preserved c = elim c.if-eq.branch [
   | then-eq+in_ok-push w ↦
-      subst (λ l. AreGathered (λ W X. (at_element W c.args.e ≡ Zero) × (remove W (c.args.e - 1) ≡ X)) c.args.vectors.now l (c.loop-x.x-index + 1)) (sym (w.list-is ∙ w.in_ok-push.ensures.ok))
-      (gathered_more (λ W X. (at_element W c.args.e ≡ Zero) × (remove W (c.args.e - 1) ≡ X)) c.args.vectors.now c.loop-x.x-index c.x-item.result c.loop-x-test.true c.x-item.is c.loop-x.list w.drop_place.result c.loop-x.invariant
-      (sym c.get.ensures ∙ equal_signs c.get.result (sym c.eq.ensures ∙ w.if-eq.true), sym w.drop_place.ensures) (λ X r. sym r.1 ∙ sym w.drop_place.ensures)
-      (not_twice c.args.e c.args.vectors.now c.loop-x.x-index c.x-item.result c.loop-x-test.true c.x-item.is c.requires.distinct c.requires.low c.requires.places (sym c.get.ensures ∙ equal_signs c.get.result (sym c.eq.ensures ∙ w.if-eq.true)) c.loop-x.list w.drop_place.result w.drop_place.ensures c.loop-x.invariant.members))
+      subst (λ l. AreGathered (λ W X. (at_element W c.args.e ≡ Zero) × (remove W (c.args.e - 1) ≡ X)) c.args.vectors.now
+      l (c.loop-x.x-index + 1)) (sym (w.list-is ∙ w.in_ok-push.ensures.ok))
+      (gathered_more (λ W X. (at_element W c.args.e ≡ Zero) × (remove W (c.args.e - 1) ≡ X)) c.args.vectors.now
+      c.loop-x.x-index c.x-item.result c.loop-x-test.true c.x-item.is c.loop-x.list w.drop_place.result
+      c.loop-x.invariant
+      (sym c.get.ensures ∙ equal_signs c.get.result (sym c.eq.ensures ∙ w.if-eq.true), sym w.drop_place.ensures)
+      (λ X r. sym r.1 ∙ sym w.drop_place.ensures)
+      (not_twice c.args.e c.args.vectors.now c.loop-x.x-index c.x-item.result c.loop-x-test.true c.x-item.is
+      c.requires.distinct c.requires.low c.requires.places
+      (sym c.get.ensures ∙ equal_signs c.get.result (sym c.eq.ensures ∙ w.if-eq.true)) c.loop-x.list
+      w.drop_place.result w.drop_place.ensures c.loop-x.invariant.members))
   | else-eq w ↦
-      subst (λ l. AreGathered (λ W X. (at_element W c.args.e ≡ Zero) × (remove W (c.args.e - 1) ≡ X)) c.args.vectors.now l (c.loop-x.x-index + 1)) (sym w.list-is)
-      (gathered_kept (λ W X. (at_element W c.args.e ≡ Zero) × (remove W (c.args.e - 1) ≡ X)) c.args.vectors.now c.loop-x.x-index c.x-item.result c.loop-x-test.true c.x-item.is c.loop-x.list c.loop-x.invariant
-      (λ X r. absurd (true≢false (sym (signs_equal c.get.result (c.get.ensures ∙ r.0)) ∙ sym c.eq.ensures ∙ w.if-eq.false))))
+      subst (λ l. AreGathered (λ W X. (at_element W c.args.e ≡ Zero) × (remove W (c.args.e - 1) ≡ X)) c.args.vectors.now
+      l (c.loop-x.x-index + 1)) (sym w.list-is)
+      (gathered_kept (λ W X. (at_element W c.args.e ≡ Zero) × (remove W (c.args.e - 1) ≡ X)) c.args.vectors.now
+      c.loop-x.x-index c.x-item.result c.loop-x-test.true c.x-item.is c.loop-x.list c.loop-x.invariant
+      (λ X r. absurd
+      (true≢false (sym (signs_equal c.get.result (c.get.ensures ∙ r.0)) ∙ sym c.eq.ensures ∙ w.if-eq.false))))
 ]
 
 pub returns-clause-members : goal.returns-clause-members
-returns-clause-members c = gathered_all (λ W X. (at_element W c.args.e ≡ Zero) × (remove W (c.args.e - 1) ≡ X)) c.args.vectors.now c.loop-x.x-index c.loop-x.list c.loop-x-test.false c.loop-x.invariant
+returns-clause-members c = gathered_all (λ W X. (at_element W c.args.e ≡ Zero) × (remove W (c.args.e - 1) ≡ X))
+    c.args.vectors.now c.loop-x.x-index c.loop-x.list c.loop-x-test.false c.loop-x.invariant

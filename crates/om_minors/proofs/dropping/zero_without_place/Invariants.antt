@@ -6,4 +6,5 @@ use Rattle.om_minors.proofs.GatheringLaws.{AreGathered}
 use Rattle.om_minors.proofs.dropping.zero_without_place.Given as goal
 
 abbrev pub invariant-loop-x : goal.invariant-loop-x
-invariant-loop-x l = AreGathered (λ W X. (at_element W l.e ≡ Zero) × (remove W (l.e - 1) ≡ X)) l.vectors l.list l.x-index
+invariant-loop-x l = AreGathered (λ W X. (at_element W l.e ≡ Zero) × (remove W (l.e - 1) ≡ X)) l.vectors l.list
+    l.x-index

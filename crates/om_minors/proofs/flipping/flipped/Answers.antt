@@ -10,4 +10,6 @@ loop-k-preserved c =
     let test = c.loop-k-test.true in
     let inside : c.loop-k.k < length c.args.list = omega (arith, end, test) in
     let read = sym (get_or_from_slice_get c.loop-k.flipped c.loop-k.k c.at-x.result c.at-x.result c.at-x.ensures) in
-    c.set.ensures ∙ ap (λ y. set c.loop-k.flipped c.loop-k.k y) c.flip.ensures ∙ map_over_more (flip c.args.mask) c.args.list c.loop-k.flipped c.loop-k.k c.at-x.result inside c.loop-k.invariant read
+    c.set.ensures ∙ ap (λ y. set c.loop-k.flipped c.loop-k.k y) c.flip.ensures
+    ∙ map_over_more (flip c.args.mask) c.args.list c.loop-k.flipped c.loop-k.k c.at-x.result inside
+    c.loop-k.invariant read

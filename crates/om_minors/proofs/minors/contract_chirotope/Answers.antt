@@ -8,7 +8,9 @@ use Rattle.om_minors.proofs.minors.contract_chirotope.Goals as goal
 
 pub general_deletion-requires-clause-avoided : goal.general_deletion-requires-clause-avoided
 general_deletion-requires-clause-avoided c = λ coloop.
-    coloop_none c.args.chi.now c.args.e coloop (basis_without c.args.chi.now c.is_lawful.ensures.lawful c.args.e (loop_none c.args.chi.now c.args.e (c.is_loop.ensures.0 c.if-is_loop.true)))
+    coloop_none c.args.chi.now c.args.e coloop
+    (basis_without c.args.chi.now c.is_lawful.ensures.lawful c.args.e
+    (loop_none c.args.chi.now c.args.e (c.is_loop.ensures.0 c.if-is_loop.true)))
 
 pub returns-in_ok-general_deletion-clause-contraction : goal.returns-in_ok-general_deletion-clause-contraction
 returns-in_ok-general_deletion-clause-contraction c =
@@ -16,7 +18,9 @@ returns-in_ok-general_deletion-clause-contraction c =
     let n = c.elements.ensures.value in
     let other = c.if-elements-eq1.false in
     let several : 2 ≤ c.args.chi.now.elements = omega arith in
-    loop_contraction c.args.chi.now c.is_lawful.ensures.lawful c.args.e several c.requires.low c.requires.high c.in_ok-general_deletion.field-0 (loop_none c.args.chi.now c.args.e (c.is_loop.ensures.0 c.if-is_loop.true)) c.in_ok-general_deletion.ensures
+    loop_contraction c.args.chi.now c.is_lawful.ensures.lawful c.args.e several c.requires.low c.requires.high
+    c.in_ok-general_deletion.field-0 (loop_none c.args.chi.now c.args.e (c.is_loop.ensures.0 c.if-is_loop.true))
+    c.in_ok-general_deletion.ensures
 
 pub returns-in_ok-general_contraction-clause-contraction : goal.returns-in_ok-general_contraction-clause-contraction
 returns-in_ok-general_contraction-clause-contraction c =
@@ -24,11 +28,14 @@ returns-in_ok-general_contraction-clause-contraction c =
     let n = c.elements.ensures.value in
     let other = c.if-elements-eq1.false in
     let several : 2 ≤ c.args.chi.now.elements = omega arith in
-    contraction_at c.args.chi.now c.is_lawful.ensures.lawful c.args.e several c.requires.low c.requires.high c.in_ok-general_contraction.field-0
-    (basis_on c.args.chi.now c.args.e (λ loop. false≢true (sym c.if-is_loop.false ∙ c.is_loop.ensures.1 loop))) c.in_ok-general_contraction.ensures
+    contraction_at c.args.chi.now c.is_lawful.ensures.lawful c.args.e several c.requires.low c.requires.high
+    c.in_ok-general_contraction.field-0
+    (basis_on c.args.chi.now c.args.e (λ loop. false≢true (sym c.if-is_loop.false ∙ c.is_loop.ensures.1 loop)))
+    c.in_ok-general_contraction.ensures
 
 pub returns-in_ok-general_contraction-clause-rank : goal.returns-in_ok-general_contraction-clause-rank
 returns-in_ok-general_contraction-clause-rank c = λ no.
-    let r = normal_rank (contracted c.args.e c.args.chi.now) c.in_ok-general_contraction.field-0 c.in_ok-general_contraction.ensures in
+    let r = normal_rank (contracted c.args.e c.args.chi.now) c.in_ok-general_contraction.field-0
+    c.in_ok-general_contraction.ensures in
     let low = rank_low c.args.chi.now c.args.e (basis_on c.args.chi.now c.args.e no) in
     omega (arith, r, low)

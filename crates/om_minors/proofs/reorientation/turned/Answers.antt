@@ -15,7 +15,8 @@ loop-place-init c = record {
   size = refl;
   done = λ k l. absurd (omega arith);
   rest = λ k l. refl;
-  walk = at_first c.args.raw.elements c.args.raw.rank c.first-s.result c.first-s.ensures.n c.first-s.ensures.size c.first-s.ensures.lawful c.first-s.ensures.place;
+  walk = at_first c.args.raw.elements c.args.raw.rank c.first-s.result c.first-s.ensures.n c.first-s.ensures.size
+      c.first-s.ensures.lawful c.first-s.ensures.place;
 }
 
 pub loop-place-preserved : goal.loop-place-preserved
@@ -30,13 +31,20 @@ loop-place-preserved c =
     record {
       rank = inv.rank;
       elements = inv.elements;
-      size = ap length c.set.ensures ∙ length-set c.loop-place.turned.signs c.loop-place.place c.times.result ∙ inv.size;
-      done = turned_more (map_of c.args.raw) c.args.mask c.loop-place.turned.signs c.set.new.self c.loop-place.place c.times.result c.at-sign.result c.turning_sign.result c.loop-place.s.elements
-          inside c.set.ensures c.times.ensures (get_or_from_slice_get c.loop-place.turned.signs c.loop-place.place c.at-sign.result Zero c.at-sign.ensures) c.turning_sign.ensures
+      size = ap length c.set.ensures ∙ length-set c.loop-place.turned.signs c.loop-place.place c.times.result
+          ∙ inv.size;
+      done = turned_more (map_of c.args.raw) c.args.mask c.loop-place.turned.signs c.set.new.self c.loop-place.place
+          c.times.result c.at-sign.result c.turning_sign.result c.loop-place.s.elements
+          inside c.set.ensures c.times.ensures
+          (get_or_from_slice_get c.loop-place.turned.signs c.loop-place.place c.at-sign.result Zero
+          c.at-sign.ensures) c.turning_sign.ensures
           (list_at c.args.raw.elements c.args.raw.rank c.loop-place.place c.loop-place.s below inv.walk)
           (inv.rest c.loop-place.place (omega arith)) inv.done;
-      rest = turned_rest c.loop-place.turned.signs c.set.new.self c.args.raw.signs c.loop-place.place c.times.result c.set.ensures inv.rest;
-      walk = at_next c.args.raw.elements c.args.raw.rank c.loop-place.place c.loop-place.s c.following-s.result c.following-s.ensures.n c.following-s.ensures.size c.following-s.ensures.lawful c.following-s.ensures.place below inv.walk;
+      rest = turned_rest c.loop-place.turned.signs c.set.new.self c.args.raw.signs c.loop-place.place c.times.result
+          c.set.ensures inv.rest;
+      walk = at_next c.args.raw.elements c.args.raw.rank c.loop-place.place c.loop-place.s c.following-s.result
+          c.following-s.ensures.n c.following-s.ensures.size c.following-s.ensures.lawful c.following-s.ensures.place
+          below inv.walk;
     }
 
 pub returns : goal.returns
@@ -44,4 +52,6 @@ returns c =
     let inv = c.loop-place.invariant in
     let end = c.choose-place-end.ensures.value in
     let over = c.loop-place-test.false in
-    turned_all (map_of c.args.raw) c.args.mask c.loop-place.turned.signs c.loop-place.turned.rank c.loop-place.turned.elements c.loop-place.place inv.rank inv.elements (inv.size ∙ c.requires.whole) (omega (arith, end, over)) inv.done
+    turned_all (map_of c.args.raw) c.args.mask c.loop-place.turned.signs c.loop-place.turned.rank
+    c.loop-place.turned.elements c.loop-place.place inv.rank inv.elements (inv.size ∙ c.requires.whole)
+    (omega (arith, end, over)) inv.done

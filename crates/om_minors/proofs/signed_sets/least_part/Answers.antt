@@ -10,10 +10,20 @@ use Rattle.om_minors.proofs.SetMinors.{least_members, least_lengths, least_axiom
 use Rattle.om_minors.proofs.signed_sets.least_part.Goals as goal
 
 pub lawful-requires-clause-lengths : goal.lawful-requires-clause-lengths
-lawful-requires-clause-lengths c = least_lengths c.args.set.now c.elements-elements.ensures.lawful c.args.e c.elements-elements.result c.requires.several c.requires.low c.requires.high c.elements-elements.ensures.value c.members.result.now c.members.ensures.value c.as_slice.result.now c.in_ok-list.list (subst (AreAllOf (IsDropped c.args.e c.members.result.now)) (sym c.as_slice.ensures) c.in_ok-without.ensures.members) c.in_ok-list.ensures
+lawful-requires-clause-lengths c =
+    least_lengths c.args.set.now c.elements-elements.ensures.lawful c.args.e c.elements-elements.result
+    c.requires.several c.requires.low c.requires.high c.elements-elements.ensures.value c.members.result.now
+    c.members.ensures.value c.as_slice.result.now c.in_ok-list.list
+    (subst (AreAllOf (IsDropped c.args.e c.members.result.now)) (sym c.as_slice.ensures)
+    c.in_ok-without.ensures.members) c.in_ok-list.ensures
 
 pub lawful-requires-clause-distinct : goal.lawful-requires-clause-distinct
-lawful-requires-clause-distinct c = least_distinct c.args.set.now c.elements-elements.ensures.lawful c.args.e c.elements-elements.result c.requires.several c.requires.low c.requires.high c.elements-elements.ensures.value c.members.result.now c.members.ensures.value c.as_slice.result.now c.in_ok-list.list (subst (AreAllOf (IsDropped c.args.e c.members.result.now)) (sym c.as_slice.ensures) c.in_ok-without.ensures.members) c.in_ok-list.ensures
+lawful-requires-clause-distinct c =
+    least_distinct c.args.set.now c.elements-elements.ensures.lawful c.args.e c.elements-elements.result
+    c.requires.several c.requires.low c.requires.high c.elements-elements.ensures.value c.members.result.now
+    c.members.ensures.value c.as_slice.result.now c.in_ok-list.list
+    (subst (AreAllOf (IsDropped c.args.e c.members.result.now)) (sym c.as_slice.ensures)
+    c.in_ok-without.ensures.members) c.in_ok-list.ensures
     (subst AreDistinct (sym c.as_slice.ensures) c.in_ok-without.ensures.distinct)
 
 pub lawful-requires-clause-few : goal.lawful-requires-clause-few
@@ -22,15 +32,30 @@ lawful-requires-clause-few c =
     let few = c.in_ok-without.ensures.few in
     let same = ap length c.as_slice.ensures in
     let all = ap length c.members.ensures.value in
-    least_few c.args.set.now c.elements-elements.ensures.lawful c.args.e c.elements-elements.result c.requires.several c.requires.low c.requires.high c.elements-elements.ensures.value c.members.result.now c.members.ensures.value c.as_slice.result.now c.in_ok-list.list (subst (AreAllOf (IsDropped c.args.e c.members.result.now)) (sym c.as_slice.ensures) c.in_ok-without.ensures.members) c.in_ok-list.ensures
+    least_few c.args.set.now c.elements-elements.ensures.lawful c.args.e c.elements-elements.result c.requires.several
+    c.requires.low c.requires.high c.elements-elements.ensures.value c.members.result.now c.members.ensures.value
+    c.as_slice.result.now c.in_ok-list.list
+    (subst (AreAllOf (IsDropped c.args.e c.members.result.now)) (sym c.as_slice.ensures)
+    c.in_ok-without.ensures.members) c.in_ok-list.ensures
     MAX_MEMBERS (omega (arith, most, few, same, all))
 
 pub lawful-requires-clause-axioms : goal.lawful-requires-clause-axioms
-lawful-requires-clause-axioms c = least_axioms c.args.set.now c.elements-elements.ensures.lawful c.args.e c.elements-elements.result c.requires.several c.requires.low c.requires.high c.elements-elements.ensures.value c.members.result.now c.members.ensures.value c.as_slice.result.now c.in_ok-list.list (subst (AreAllOf (IsDropped c.args.e c.members.result.now)) (sym c.as_slice.ensures) c.in_ok-without.ensures.members) c.in_ok-list.ensures
+lawful-requires-clause-axioms c =
+    least_axioms c.args.set.now c.elements-elements.ensures.lawful c.args.e c.elements-elements.result
+    c.requires.several c.requires.low c.requires.high c.elements-elements.ensures.value c.members.result.now
+    c.members.ensures.value c.as_slice.result.now c.in_ok-list.list
+    (subst (AreAllOf (IsDropped c.args.e c.members.result.now)) (sym c.as_slice.ensures)
+    c.in_ok-without.ensures.members) c.in_ok-list.ensures
 
 pub returns-clause-members : goal.returns-clause-members
-returns-clause-members c = subst (AreAllOf (IsOfLeastSupport (IsWithout c.args.set.now.elements c.args.e (Contains c.args.set.now.members)))) (sym c.lawful.ensures.members)
-    (least_members c.args.set.now c.elements-elements.ensures.lawful c.args.e c.elements-elements.result c.requires.several c.requires.low c.requires.high c.elements-elements.ensures.value c.members.result.now c.members.ensures.value c.as_slice.result.now c.in_ok-list.list (subst (AreAllOf (IsDropped c.args.e c.members.result.now)) (sym c.as_slice.ensures) c.in_ok-without.ensures.members) c.in_ok-list.ensures)
+returns-clause-members c =
+    subst (AreAllOf (IsOfLeastSupport (IsWithout c.args.set.now.elements c.args.e (Contains c.args.set.now.members))))
+    (sym c.lawful.ensures.members)
+    (least_members c.args.set.now c.elements-elements.ensures.lawful c.args.e c.elements-elements.result
+    c.requires.several c.requires.low c.requires.high c.elements-elements.ensures.value c.members.result.now
+    c.members.ensures.value c.as_slice.result.now c.in_ok-list.list
+    (subst (AreAllOf (IsDropped c.args.e c.members.result.now)) (sym c.as_slice.ensures)
+    c.in_ok-without.ensures.members) c.in_ok-list.ensures)
 
 pub returns-clause-no_more : goal.returns-clause-no_more
 returns-clause-no_more c =
@@ -38,6 +63,10 @@ returns-clause-no_more c =
     let same = ap length c.as_slice.ensures in
     let all = ap length c.members.ensures.value in
     let made = ap length c.lawful.ensures.members in
-    let fewer = least_few c.args.set.now c.elements-elements.ensures.lawful c.args.e c.elements-elements.result c.requires.several c.requires.low c.requires.high c.elements-elements.ensures.value c.members.result.now c.members.ensures.value c.as_slice.result.now c.in_ok-list.list (subst (AreAllOf (IsDropped c.args.e c.members.result.now)) (sym c.as_slice.ensures) c.in_ok-without.ensures.members) c.in_ok-list.ensures
+    let fewer = least_few c.args.set.now c.elements-elements.ensures.lawful c.args.e c.elements-elements.result
+    c.requires.several c.requires.low c.requires.high c.elements-elements.ensures.value c.members.result.now
+    c.members.ensures.value c.as_slice.result.now c.in_ok-list.list
+    (subst (AreAllOf (IsDropped c.args.e c.members.result.now)) (sym c.as_slice.ensures)
+    c.in_ok-without.ensures.members) c.in_ok-list.ensures
     (length c.args.set.now.members) (omega (arith, few, same, all)) in
     omega (arith, made, fewer)

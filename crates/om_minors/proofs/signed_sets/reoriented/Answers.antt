@@ -7,14 +7,18 @@ use Rattle.om_minors.proofs.signed_sets.reoriented.Goals as goal
 
 pub lawful-requires-clause-lengths : goal.lawful-requires-clause-lengths
 lawful-requires-clause-lengths c =
-    flipped_sizes c.args.set (record { elements = c.elements-elements.result; members = c.flipped.result }) c.args.mask c.elements-elements.ensures.value
+    flipped_sizes c.args.set (record { elements = c.elements-elements.result; members = c.flipped.result }) c.args.mask
+    c.elements-elements.ensures.value
     (c.flipped.ensures ∙ ap (map (flip c.args.mask)) c.into_list.ensures.value) c.into_list.ensures.lawful.lengths
 
 pub lawful-requires-clause-distinct : goal.lawful-requires-clause-distinct
 lawful-requires-clause-distinct c =
-    subst AreDistinct (sym (c.flipped.ensures ∙ ap (map (flip c.args.mask)) c.into_list.ensures.value)) (flipped_distinct c.args.mask c.args.set.members c.into_list.ensures.lawful.distinct)
+    subst AreDistinct (sym (c.flipped.ensures ∙ ap (map (flip c.args.mask)) c.into_list.ensures.value))
+    (flipped_distinct c.args.mask c.args.set.members c.into_list.ensures.lawful.distinct)
 
 pub lawful-requires-clause-axioms : goal.lawful-requires-clause-axioms
 lawful-requires-clause-axioms c =
-    reoriented_axioms c.args.set (record { elements = c.elements-elements.result; members = c.flipped.result }) c.args.mask c.elements-elements.ensures.value
-    (c.flipped.ensures ∙ ap (map (flip c.args.mask)) c.into_list.ensures.value) c.into_list.ensures.lawful.lengths c.into_list.ensures.lawful.axioms
+    reoriented_axioms c.args.set (record { elements = c.elements-elements.result; members = c.flipped.result })
+    c.args.mask c.elements-elements.ensures.value
+    (c.flipped.ensures ∙ ap (map (flip c.args.mask)) c.into_list.ensures.value) c.into_list.ensures.lawful.lengths
+    c.into_list.ensures.lawful.axioms

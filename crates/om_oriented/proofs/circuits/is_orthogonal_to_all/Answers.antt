@@ -8,7 +8,9 @@ use Rattle.om_oriented.proofs.circuits.is_orthogonal_to_all.Goals as goal
 
 pub returns : goal.returns
 returns c =
-    let r = cases_from_all _ _ _ (IsOrthogonal c.args.x) (λ Y. IsOrthogonal c.args.x Y → ⊥) c.all.ensures.ran (YieldsList-from_slice c.args.members.now cc) (λ x q k. search (rules, tests)) (λ x q k. search (rules, tests)) in (
+    let r = cases_from_all _ _ _ (IsOrthogonal c.args.x) (λ Y. IsOrthogonal c.args.x Y → ⊥) c.all.ensures.ran
+    (YieldsList-from_slice c.args.members.now cc) (λ x q k. search (rules, tests))
+    (λ x q k. search (rules, tests)) in (
       λ t. All-from_all_within (IsOrthogonal c.args.x) c.args.members.now (MatchBool-at_true _ _ t r),
       λ h. true_from_All (IsOrthogonal c.args.x) (λ Y. IsOrthogonal c.args.x Y → ⊥) _ _ (λ Y p q. absurd (q p)) r h,
     )

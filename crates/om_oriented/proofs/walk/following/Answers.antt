@@ -3,19 +3,23 @@ use Rattle.om_oriented.specs.Places.{base_three}
 use Rattle.om_oriented.proofs.Walks.{raised_minus, raised_zero, not_last, carried_on, last}
 use Rattle.om_oriented.proofs.walk.following.Goals as goal
 
-raised-Minus : (c : goal.After-set) → (base_three c.set.result ≡ base_three c.args.x + 1) × (length c.set.result ≡ length c.args.x)
+raised-Minus : (c : goal.After-set) → (base_three c.set.result ≡ base_three c.args.x + 1)
+    × (length c.set.result ≡ length c.args.x)
 raised-Minus c =
     let size = c.len.ensures.value in
     let end = c.len-k-end.ensures.value in
     let below = c.loop-k-test.true in
-    raised_minus c.args.x c.loop-k.next c.set.result c.loop-k.k (c.len.result - c.loop-k.k - 1) c.loop-k.invariant (omega arith) (sym c.get.ensures ∙ c.in-Minus.is) c.set.ensures
+    raised_minus c.args.x c.loop-k.next c.set.result c.loop-k.k (c.len.result - c.loop-k.k - 1) c.loop-k.invariant
+    (omega arith) (sym c.get.ensures ∙ c.in-Minus.is) c.set.ensures
 
-raised-Zero : (c : goal.After-set-in-Zero) → (base_three c.set-in-Zero.result ≡ base_three c.args.x + 1) × (length c.set-in-Zero.result ≡ length c.args.x)
+raised-Zero : (c : goal.After-set-in-Zero) → (base_three c.set-in-Zero.result ≡ base_three c.args.x + 1)
+    × (length c.set-in-Zero.result ≡ length c.args.x)
 raised-Zero c =
     let size = c.len.ensures.value in
     let end = c.len-k-end.ensures.value in
     let below = c.loop-k-test.true in
-    raised_zero c.args.x c.loop-k.next c.set-in-Zero.result c.loop-k.k (c.len.result - c.loop-k.k - 1) c.loop-k.invariant (omega arith) (sym c.get.ensures ∙ c.in-Zero.is) c.set-in-Zero.ensures
+    raised_zero c.args.x c.loop-k.next c.set-in-Zero.result c.loop-k.k (c.len.result - c.loop-k.k - 1)
+    c.loop-k.invariant (omega arith) (sym c.get.ensures ∙ c.in-Zero.is) c.set-in-Zero.ensures
 
 pub returns-in-Minus-clause-none : goal.returns-in-Minus-clause-none
 returns-in-Minus-clause-none c = (λ e. cc, λ h. absurd (not_last c.args.x c.set.result (raised-Minus c) h))
@@ -34,7 +38,8 @@ loop-k-preserved c =
     let size = c.len.ensures.value in
     let end = c.len-k-end.ensures.value in
     let below = c.loop-k-test.true in
-    carried_on c.args.x c.loop-k.next c.set-next.result c.loop-k.k (c.len.result - c.loop-k.k - 1) c.loop-k.invariant (omega arith) (sym c.get.ensures ∙ c.in-Plus.is) c.set-next.ensures
+    carried_on c.args.x c.loop-k.next c.set-next.result c.loop-k.k (c.len.result - c.loop-k.k - 1) c.loop-k.invariant
+    (omega arith) (sym c.get.ensures ∙ c.in-Plus.is) c.set-next.ensures
 
 pub returns-clause-none : goal.returns-clause-none
 returns-clause-none c =

@@ -15,8 +15,17 @@ loop-i-preserved c =
     let small : c.loop-i.i < 32 = omega (arith, few, lt) in
     let colour = ap shade (get_or_default c.args.colours.now c.loop-i.i Red Black lt) in
     elim c.if-circuit_may.branch [
-      | then-circuit_may w ↦ subst (IsMaskOf (c.loop-i.i + 1) (λ i. CircuitMay (shade (get_or c.args.colours.now i Black)) c.args.sign)) (sym w.mask-is)
-          (mask_with (λ i. CircuitMay (shade (get_or c.args.colours.now i Black)) c.args.sign) c.loop-i.i c.loop-i.mask c.loop-i.invariant small (subst (λ d. CircuitMay d c.args.sign) colour (c.circuit_may.ensures.0 w.if-circuit_may.true)))
-      | else-circuit_may w ↦ subst (IsMaskOf (c.loop-i.i + 1) (λ i. CircuitMay (shade (get_or c.args.colours.now i Black)) c.args.sign)) (sym w.mask-is)
-          (mask_without (λ i. CircuitMay (shade (get_or c.args.colours.now i Black)) c.args.sign) c.loop-i.i c.loop-i.mask c.loop-i.invariant (λ may. let f = sym w.if-circuit_may.false ∙ c.circuit_may.ensures.1 (subst (λ d. CircuitMay d c.args.sign) (sym colour) may) in cc))
+      | then-circuit_may w ↦
+          subst (IsMaskOf (c.loop-i.i + 1) (λ i. CircuitMay (shade (get_or c.args.colours.now i Black)) c.args.sign))
+          (sym w.mask-is)
+          (mask_with (λ i. CircuitMay (shade (get_or c.args.colours.now i Black)) c.args.sign) c.loop-i.i c.loop-i.mask
+          c.loop-i.invariant small
+          (subst (λ d. CircuitMay d c.args.sign) colour (c.circuit_may.ensures.0 w.if-circuit_may.true)))
+      | else-circuit_may w ↦
+          subst (IsMaskOf (c.loop-i.i + 1) (λ i. CircuitMay (shade (get_or c.args.colours.now i Black)) c.args.sign))
+          (sym w.mask-is)
+          (mask_without (λ i. CircuitMay (shade (get_or c.args.colours.now i Black)) c.args.sign) c.loop-i.i
+          c.loop-i.mask c.loop-i.invariant
+          (λ may. let f = sym w.if-circuit_may.false
+          ∙ c.circuit_may.ensures.1 (subst (λ d. CircuitMay d c.args.sign) (sym colour) may) in cc))
     ]

@@ -15,8 +15,17 @@ loop-i-preserved c =
     let small : c.loop-i.i < 32 = omega (arith, few, lt) in
     let colour = ap shade (get_or_default c.args.colours.now c.loop-i.i Red Black lt) in
     elim c.if-cocircuit_may.branch [
-      | then-cocircuit_may w ↦ subst (IsMaskOf (c.loop-i.i + 1) (λ i. CocircuitMay (shade (get_or c.args.colours.now i Black)) c.args.sign)) (sym w.mask-is)
-          (mask_with (λ i. CocircuitMay (shade (get_or c.args.colours.now i Black)) c.args.sign) c.loop-i.i c.loop-i.mask c.loop-i.invariant small (subst (λ d. CocircuitMay d c.args.sign) colour (c.cocircuit_may.ensures.0 w.if-cocircuit_may.true)))
-      | else-cocircuit_may w ↦ subst (IsMaskOf (c.loop-i.i + 1) (λ i. CocircuitMay (shade (get_or c.args.colours.now i Black)) c.args.sign)) (sym w.mask-is)
-          (mask_without (λ i. CocircuitMay (shade (get_or c.args.colours.now i Black)) c.args.sign) c.loop-i.i c.loop-i.mask c.loop-i.invariant (λ may. let f = sym w.if-cocircuit_may.false ∙ c.cocircuit_may.ensures.1 (subst (λ d. CocircuitMay d c.args.sign) (sym colour) may) in cc))
+      | then-cocircuit_may w ↦
+          subst (IsMaskOf (c.loop-i.i + 1) (λ i. CocircuitMay (shade (get_or c.args.colours.now i Black)) c.args.sign))
+          (sym w.mask-is)
+          (mask_with (λ i. CocircuitMay (shade (get_or c.args.colours.now i Black)) c.args.sign) c.loop-i.i
+          c.loop-i.mask c.loop-i.invariant small
+          (subst (λ d. CocircuitMay d c.args.sign) colour (c.cocircuit_may.ensures.0 w.if-cocircuit_may.true)))
+      | else-cocircuit_may w ↦
+          subst (IsMaskOf (c.loop-i.i + 1) (λ i. CocircuitMay (shade (get_or c.args.colours.now i Black)) c.args.sign))
+          (sym w.mask-is)
+          (mask_without (λ i. CocircuitMay (shade (get_or c.args.colours.now i Black)) c.args.sign) c.loop-i.i
+          c.loop-i.mask c.loop-i.invariant
+          (λ may. let f = sym w.if-cocircuit_may.false
+          ∙ c.cocircuit_may.ensures.1 (subst (λ d. CocircuitMay d c.args.sign) (sym colour) may) in cc))
     ]

@@ -10,4 +10,5 @@ less_from_test Equal e = cc
 less_from_test Greater e = cc
 
 pub returns-in-Some : goal.returns-in-Some
-returns-in-Some c = subst (λ o. IsTrue c.lt.result ↔ ComesBefore c.args.x o) (sym c.in-Some.is) (λ t. less_from_test _ (sym c.lt.ensures ∙ t), λ l. c.lt.ensures ∙ ap is_lt l)
+returns-in-Some c = subst (λ o. IsTrue c.lt.result ↔ ComesBefore c.args.x o) (sym c.in-Some.is)
+    (λ t. less_from_test _ (sym c.lt.ensures ∙ t), λ l. c.lt.ensures ∙ ap is_lt l)

@@ -7,7 +7,14 @@ pub returns-clause-value : goal.returns-clause-value
 returns-clause-value c =
     let r = c.requires in
     read_difference c.times.result c.times-2.result c.times.ensures.size c.times-2.ensures.size
-    ∙ simp (c.times.ensures.value, c.times-2.ensures.value, read_back c.args.a c.args.a r.a refl, read_back c.args.b c.args.b r.b refl, read_back c.args.c c.args.c r.c refl, read_back c.args.d c.args.d r.d refl)
+    ∙ simp (
+      c.times.ensures.value,
+      c.times-2.ensures.value,
+      read_back c.args.a c.args.a r.a refl,
+      read_back c.args.b c.args.b r.b refl,
+      read_back c.args.c c.args.c r.c refl,
+      read_back c.args.d c.args.d r.d refl,
+    )
 
 pub returns-clause-size : goal.returns-clause-size
 returns-clause-size c =

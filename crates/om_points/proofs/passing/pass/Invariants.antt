@@ -7,7 +7,8 @@ use Rattle.om_points.proofs.passing.pass.Given as goal
 abbrev pub invariant-loop-steps : goal.invariant-loop-steps
 invariant-loop-steps l = record {
   few : l.steps ≤ l.limit;
-  passed : IsPassed l.box_size (Disagrees l.placing l.wanted (length l.placing - 1)) (get_or l.placing (length l.placing - 1) zero_vector) l.steps l.vector;
+  passed : IsPassed l.box_size (Disagrees l.placing l.wanted (length l.placing - 1))
+      (get_or l.placing (length l.placing - 1) zero_vector) l.steps l.vector;
   sound : AreSound l.placing l.wanted l.refusers;
 }
 

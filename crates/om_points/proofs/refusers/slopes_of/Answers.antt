@@ -19,9 +19,12 @@ pub loop-p-preserved : goal.loop-p-preserved
 loop-p-preserved c =
     let vs = c.args.placing.now in
     let signs = c.args.wanted.now in
-    let first : AreUseful vs signs c.add.new.self = all_useful vs signs c.loop-p.slopes c.add.new.self c.form_at.result c.loop-p.invariant c.form_at.ensures c.add.ensures.rising c.add.ensures.level c.add.ensures.falling in
+    let first : AreUseful vs signs c.add.new.self =
+    all_useful vs signs c.loop-p.slopes c.add.new.self c.form_at.result c.loop-p.invariant c.form_at.ensures
+    c.add.ensures.rising c.add.ensures.level c.add.ensures.falling in
     elim c.match-opposite_at.branch [
       | in-Some w ↦ subst (AreUseful vs signs) (sym w.slopes-is)
-          (all_useful vs signs c.add.new.self w.add-in-Some.new.self w.in-Some.opposite first w.in-Some.ensures w.add-in-Some.ensures.rising w.add-in-Some.ensures.level w.add-in-Some.ensures.falling)
+          (all_useful vs signs c.add.new.self w.add-in-Some.new.self w.in-Some.opposite first w.in-Some.ensures
+          w.add-in-Some.ensures.rising w.add-in-Some.ensures.level w.add-in-Some.ensures.falling)
       | in_default w ↦ subst (AreUseful vs signs) (sym w.slopes-is) first
     ]

@@ -13,10 +13,23 @@ returns-then-count-room-clause-prefix g c =
 
 pub returns-then-count-room-clause-long : goal.returns-then-count-room-clause-long
 returns-then-count-room-clause-long g c = λ _.
-    let whole : length c.loop-turn.bytes.items + c.in-Ok.count ≡ c.args.limit + 1 = omega (arith, c.loop-turn.bytes.ok, c.len.ensures, c.if-count-room.true, c.loop-turn.invariant.few) in
-    taken_exactly _ _ _ _ _ c.in-Ok.count (c.args.limit + 1) c.loop-turn.invariant.taken c.in-Ok.ensures.bytes.0 c.in-Ok.ensures.bound.0 whole
+    let whole : length c.loop-turn.bytes.items + c.in-Ok.count ≡ c.args.limit + 1 =
+    omega (arith, c.loop-turn.bytes.ok, c.len.ensures, c.if-count-room.true, c.loop-turn.invariant.few) in
+    taken_exactly _ _ _ _ _ c.in-Ok.count (c.args.limit + 1) c.loop-turn.invariant.taken c.in-Ok.ensures.bytes.0
+    c.in-Ok.ensures.bound.0 whole
 
 pub returns-then-is_err-clause-few : goal.returns-then-is_err-clause-few
 returns-then-is_err-clause-few g c = λ _.
-    let within : length c.loop-turn.bytes.items + c.in-Ok.count ≤ c.args.limit = omega (arith, c.loop-turn.bytes.ok, c.len.ensures, c.if-count-room.false, c.loop-turn.invariant.few, c.min-piece.ensures, c.in-Ok.ensures.bound, length-take c.min-piece.result c.loop-turn.buf) in
-    taken_at_most _ _ _ _ _ c.in-Ok.count c.args.limit c.loop-turn.invariant.taken c.in-Ok.ensures.bytes.0 c.in-Ok.ensures.bound.0 within
+    let within : length c.loop-turn.bytes.items + c.in-Ok.count ≤ c.args.limit =
+    omega (
+      arith,
+      c.loop-turn.bytes.ok,
+      c.len.ensures,
+      c.if-count-room.false,
+      c.loop-turn.invariant.few,
+      c.min-piece.ensures,
+      c.in-Ok.ensures.bound,
+      length-take c.min-piece.result c.loop-turn.buf,
+    ) in
+    taken_at_most _ _ _ _ _ c.in-Ok.count c.args.limit c.loop-turn.invariant.taken c.in-Ok.ensures.bytes.0
+    c.in-Ok.ensures.bound.0 within

@@ -4,4 +4,5 @@ use Rattle.om_propagation.specs.Hitting.{IsNonzeroOn}
 use Rattle.om_propagation.proofs.hitting.missed_nonzero_vector.Given as goal
 
 abbrev pub invariant-loop-y : goal.invariant-loop-y
-invariant-loop-y l = AllBelow l.y-index (λ k. (IsZero (nth l.vectors k) → ⊥) → IsNonzeroOn l.s.elements (nth l.vectors k))
+invariant-loop-y l =
+    AllBelow l.y-index (λ k. (IsZero (nth l.vectors k) → ⊥) → IsNonzeroOn l.s.elements (nth l.vectors k))

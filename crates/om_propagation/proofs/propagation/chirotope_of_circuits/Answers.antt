@@ -11,14 +11,19 @@ use Rattle.om_propagation.proofs.RankLaws.{rank_of_dual}
 use Rattle.om_propagation.proofs.propagation.chirotope_of_circuits.Goals as goal
 
 pub chirotope_of-requires : goal.chirotope_of-requires
-chirotope_of-requires c = rank_of_dual c.args.c.now.0 c.args.rank c.requires.part c.requires.rank c.elements.result c.elements.ensures.value
+chirotope_of-requires c = rank_of_dual c.args.c.now.0 c.args.rank c.requires.part c.requires.rank c.elements.result
+    c.elements.ensures.value
 
 pub returns-clause-circuits : goal.returns-clause-circuits
 returns-clause-circuits c =
     let P : SignMap → Type 0 = λ m. AreAllOf (IsCircuitOfChirotope m) c.args.c.now.0.members in
-    IfOk-weaker c.dual.result (IsNormalFormOf (dual_of c.in_ok-other.other)) P (λ d n. (has_circuits c.args.c.now.0 c.in_ok-other.other d c.in_ok-other.ensures n).members) c.dual.ensures.value
+    IfOk-weaker c.dual.result (IsNormalFormOf (dual_of c.in_ok-other.other)) P
+    (λ d n. (has_circuits c.args.c.now.0 c.in_ok-other.other d c.in_ok-other.ensures n).members)
+    c.dual.ensures.value
 
 pub returns-clause-same : goal.returns-clause-same
 returns-clause-same c =
-    let P : SignMap → Type 0 = λ m. DenoteTheSame c.args.c.now.0.elements (IsCovectorOfCircuits c.args.c.now.0) (IsCovectorOfChirotope m) in
-    IfOk-weaker c.dual.result (IsNormalFormOf (dual_of c.in_ok-other.other)) P (λ d n. (has_circuits c.args.c.now.0 c.in_ok-other.other d c.in_ok-other.ensures n).same) c.dual.ensures.value
+    let P : SignMap → Type 0 =
+    λ m. DenoteTheSame c.args.c.now.0.elements (IsCovectorOfCircuits c.args.c.now.0) (IsCovectorOfChirotope m) in
+    IfOk-weaker c.dual.result (IsNormalFormOf (dual_of c.in_ok-other.other)) P
+    (λ d n. (has_circuits c.args.c.now.0 c.in_ok-other.other d c.in_ok-other.ensures n).same) c.dual.ensures.value

@@ -14,9 +14,13 @@ chirotope_of-requires c = λ m h. sym (c.requires.each m h.axioms h.elements (de
 
 pub returns-clause-same : goal.returns-clause-same
 returns-clause-same c =
-    let P : SignMap → Type 0 = λ m. DenoteTheSame c.args.c.now.0.elements (IsCovectorOfCocircuits c.args.c.now.0) (IsCovectorOfChirotope m) in
-    IfOk-weaker c.chirotope_of.result (IsNormalOf c.args.c.now.0.elements c.args.c.now.0.members) P (λ m h. denotes c.args.c.now.0 m h) c.chirotope_of.ensures
+    let P : SignMap → Type 0 =
+    λ m. DenoteTheSame c.args.c.now.0.elements (IsCovectorOfCocircuits c.args.c.now.0) (IsCovectorOfChirotope m)
+    in
+    IfOk-weaker c.chirotope_of.result (IsNormalOf c.args.c.now.0.elements c.args.c.now.0.members) P
+    (λ m h. denotes c.args.c.now.0 m h) c.chirotope_of.ensures
 
 pub returns-clause-unique : goal.returns-clause-unique
 returns-clause-unique c =
-    IfOk-weaker c.chirotope_of.result (IsNormalOf c.args.c.now.0.elements c.args.c.now.0.members) IsOnlyChirotope (λ m h. only_chirotope m h.axioms) c.chirotope_of.ensures
+    IfOk-weaker c.chirotope_of.result (IsNormalOf c.args.c.now.0.elements c.args.c.now.0.members) IsOnlyChirotope
+    (λ m h. only_chirotope m h.axioms) c.chirotope_of.ensures

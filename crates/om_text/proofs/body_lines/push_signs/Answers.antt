@@ -5,4 +5,6 @@ use Rattle.om_text.proofs.body_lines.push_signs.Goals as goal
 
 pub returns : goal.returns
 returns c =
-    c.loop-b.invariant ∙ ap (λ r. c.args.signs.now ++ r) (ap signs_of_bytes (take_all c.loop-b.b-index c.args.line.now (omega arith)) ∙ sym (signs-runs c.args.line.now))
+    c.loop-b.invariant
+    ∙ ap (λ r. c.args.signs.now ++ r) (ap signs_of_bytes (take_all c.loop-b.b-index c.args.line.now (omega arith))
+    ∙ sym (signs-runs c.args.line.now))

@@ -3,7 +3,9 @@ use Rattle.om_text.proofs.Scan.{no_word_found, word_found}
 use Rattle.om_text.proofs.lines.first_word.Goals as goal
 
 pub returns-then-end-eq0-clause-words : goal.returns-then-end-eq0-clause-words
-returns-then-end-eq0-clause-words c = no_word_found c.args.line.now _ _ c.blank_len.ensures.value c.word_len-end.ensures.value c.if-end-eq0.true
+returns-then-end-eq0-clause-words c =
+    no_word_found c.args.line.now _ _ c.blank_len.ensures.value c.word_len-end.ensures.value c.if-end-eq0.true
 
 pub returns-clause-words : goal.returns-clause-words
-returns-clause-words c = word_found c.args.line.now _ _ _ c.blank_len.ensures.value refl c.word_len-end.ensures.value c.if-end-eq0.false
+returns-clause-words c = word_found c.args.line.now _ _ _ c.blank_len.ensures.value refl c.word_len-end.ensures.value
+    c.if-end-eq0.false

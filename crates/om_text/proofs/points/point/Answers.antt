@@ -17,16 +17,20 @@ pub returns-in_err-coordinate_of-2 : goal.returns-in_err-coordinate_of-2
 returns-in_err-coordinate_of-2 c =
     let a = three_words _ _ _ _ _ _ _ c.in_ok-x.ensures.words c.in_ok-y.ensures.words c.in_ok-z.ensures.words in
     let p = three_point _ _ _ _ _ a (sym c.has_no_words.ensures ∙ c.if-not-has_no_words.false) in
-    c.from_residual-in_err-coordinate_of-2.ensures ∙ sym (p ∙ no_second _ _ _ _ c.in_ok-coordinate_of.ensures c.in_err-coordinate_of-2.ensures)
+    c.from_residual-in_err-coordinate_of-2.ensures
+    ∙ sym (p ∙ no_second _ _ _ _ c.in_ok-coordinate_of.ensures c.in_err-coordinate_of-2.ensures)
 
 pub returns-in_err-coordinate_of-3 : goal.returns-in_err-coordinate_of-3
 returns-in_err-coordinate_of-3 c =
     let a = three_words _ _ _ _ _ _ _ c.in_ok-x.ensures.words c.in_ok-y.ensures.words c.in_ok-z.ensures.words in
     let p = three_point _ _ _ _ _ a (sym c.has_no_words.ensures ∙ c.if-not-has_no_words.false) in
-    c.from_residual-in_err-coordinate_of-3.ensures ∙ sym (p ∙ no_third _ _ _ _ _ c.in_ok-coordinate_of.ensures c.in_ok-coordinate_of-2.ensures c.in_err-coordinate_of-3.ensures)
+    c.from_residual-in_err-coordinate_of-3.ensures
+    ∙ sym (p ∙ no_third _ _ _ _ _ c.in_ok-coordinate_of.ensures c.in_ok-coordinate_of-2.ensures
+    c.in_err-coordinate_of-3.ensures)
 
 pub returns : goal.returns
 returns c =
     let a = three_words _ _ _ _ _ _ _ c.in_ok-x.ensures.words c.in_ok-y.ensures.words c.in_ok-z.ensures.words in
     let p = three_point _ _ _ _ _ a (sym c.has_no_words.ensures ∙ c.if-not-has_no_words.false) in
-    point_read _ _ _ c.in_ok-x.x.now c.in_ok-y.y.now c.in_ok-z.z.now c.in_ok-coordinate_of.ensures c.in_ok-coordinate_of-2.ensures c.in_ok-coordinate_of-3.ensures ∙ sym p
+    point_read _ _ _ c.in_ok-x.x.now c.in_ok-y.y.now c.in_ok-z.z.now c.in_ok-coordinate_of.ensures
+    c.in_ok-coordinate_of-2.ensures c.in_ok-coordinate_of-3.ensures ∙ sym p

@@ -13,7 +13,9 @@ returns-clause-bytes c =
     c.in_ok-push_document.ensures ∙ ap (λ x. x ++ printed c.args.document.now) start
 
 pub returns-clause-again : goal.returns-clause-again
-returns-clause-again c = subst (λ bytes. IsDocument (lines bytes) (sorted_document c.args.document.now)) (sym (returns-clause-bytes c)) (printed_document c.args.document.now c.requires.form)
+returns-clause-again c = subst (λ bytes. IsDocument (lines bytes) (sorted_document c.args.document.now))
+    (sym (returns-clause-bytes c)) (printed_document c.args.document.now c.requires.form)
 
 pub returns-clause-short : goal.returns-clause-short
-returns-clause-short c = subst (λ bytes. length bytes ≤ MAX_INPUT) (sym (returns-clause-bytes c)) (printed_short c.args.document.now c.requires.form)
+returns-clause-short c = subst (λ bytes. length bytes ≤ MAX_INPUT) (sym (returns-clause-bytes c))
+    (printed_short c.args.document.now c.requires.form)

@@ -14,13 +14,17 @@ returns-clause-bytes c =
     c.in_ok-push_document.ensures ∙ ap (λ x. x ++ printed_two c.args.document.now) start
 
 pub returns-clause-again : goal.returns-clause-again
-returns-clause-again c = subst (λ bytes. IsDocument (lines bytes) (doubled_document c.args.document.now)) (sym (returns-clause-bytes c)) (printed_two_document c.args.document.now c.requires.form c.requires.closed)
+returns-clause-again c = subst (λ bytes. IsDocument (lines bytes) (doubled_document c.args.document.now))
+    (sym (returns-clause-bytes c)) (printed_two_document c.args.document.now c.requires.form c.requires.closed)
 
 pub returns-clause-short : goal.returns-clause-short
-returns-clause-short c = subst (λ bytes. length bytes ≤ MAX_INPUT) (sym (returns-clause-bytes c)) (printed_two_short c.args.document.now c.requires.form)
+returns-clause-short c = subst (λ bytes. length bytes ≤ MAX_INPUT) (sym (returns-clause-bytes c))
+    (printed_two_short c.args.document.now c.requires.form)
 
 pub returns-clause-members : goal.returns-clause-members
-returns-clause-members c = members_permute c.args.document.now.elements c.args.document.now.body c.requires.form.body c.requires.closed
+returns-clause-members c = members_permute c.args.document.now.elements c.args.document.now.body c.requires.form.body
+    c.requires.closed
 
 pub returns-in_err-push_document-clause-members : goal.returns-in_err-push_document-clause-members
-returns-in_err-push_document-clause-members c = members_permute c.args.document.now.elements c.args.document.now.body c.requires.form.body c.requires.closed
+returns-in_err-push_document-clause-members c =
+    members_permute c.args.document.now.elements c.args.document.now.body c.requires.form.body c.requires.closed

@@ -9,5 +9,7 @@ pub returns : goal.returns
 returns c =
     let d = c.args.document.now in
     printed_two_bytes c.push_bytes.result d c.args.out.now.items _ _ _ _ c.in_ok-push_heading.ensures
-    (c.in_ok-push_names_line.ensures ∙ ap (λ ws. c.push_heading.new.out.items ++ text_of (spaced (codes "names" ∷ printed_names d.elements ws) ∷ [])) c.as_slice.ensures)
+    (c.in_ok-push_names_line.ensures
+    ∙ ap (λ ws. c.push_heading.new.out.items ++ text_of (spaced (codes "names" ∷ printed_names d.elements ws) ∷ []))
+    c.as_slice.ensures)
     c.in_ok-push_body.ensures c.push_bytes.ensures

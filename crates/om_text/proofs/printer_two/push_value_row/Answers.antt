@@ -8,5 +8,6 @@ pub loop-place-preserved : goal.loop-place-preserved
 loop-place-preserved c =
     let n = length-values_in_revlex c.args.raw.now in
     let within : c.loop-place.place < length (values_in_revlex c.args.raw.now) = omega arith in
-    values_more c.args.out.now.items _ _ (values_in_revlex c.args.raw.now) c.args.first c.loop-place.place c.value_at.result (omega arith) within c.value_at.ensures c.loop-place.invariant
+    values_more c.args.out.now.items _ _ (values_in_revlex c.args.raw.now) c.args.first c.loop-place.place
+    c.value_at.result (omega arith) within c.value_at.ensures c.loop-place.invariant
     (c.in_ok-push.ensures.items ∙ ap (λ b. c.loop-place.out.items ++ b ∷ []) c.byte_of_sign.ensures)

@@ -4,4 +4,5 @@ use Rattle.om_text.specs.PrintTwo.{values_in_revlex}
 use Rattle.om_text.proofs.printer_two.push_value_row.Given as goal
 
 abbrev pub invariant-loop-place : goal.invariant-loop-place
-invariant-loop-place l = l.out.items ≡ l.initial.out.items ++ map byte_of (take (l.place - l.first) (drop l.first (values_in_revlex l.raw)))
+invariant-loop-place l = l.out.items ≡ l.initial.out.items
+    ++ map byte_of (take (l.place - l.first) (drop l.first (values_in_revlex l.raw)))

@@ -6,13 +6,17 @@ use Rattle.om_text.proofs.printer_two.push_values.Goals as goal
 
 pub loop-first-preserved : goal.loop-first-preserved
 loop-first-preserved c = record {
-  same = value_rows_more c.loop-first.out.items _ _ (values_in_revlex c.args.raw.now) c.loop-first.first c.choose-count.result c.min.result _ c.loop-first-test.true
-      (c.choose-count.ensures.value ∙ sym (length-values_in_revlex c.args.raw.now)) c.min.ensures refl c.in_ok-push_value_row.ensures c.loop-first.invariant.same;
+  same = value_rows_more c.loop-first.out.items _ _ (values_in_revlex c.args.raw.now) c.loop-first.first
+      c.choose-count.result c.min.result _ c.loop-first-test.true
+      (c.choose-count.ensures.value ∙ sym (length-values_in_revlex c.args.raw.now)) c.min.ensures refl
+      c.in_ok-push_value_row.ensures c.loop-first.invariant.same;
   within = omega (arith, c.min.ensures);
 }
 
 pub returns : goal.returns
 returns c =
     let n = length-values_in_revlex c.args.raw.now in
-    let past : length (values_in_revlex c.args.raw.now) ≤ c.loop-first.first = omega (arith, c.choose-count.ensures.value, c.loop-first-test.false) in
-    value_rows_end c.loop-first.out.items _ (values_in_revlex c.args.raw.now) c.loop-first.first past c.loop-first.invariant.same
+    let past : length (values_in_revlex c.args.raw.now) ≤ c.loop-first.first =
+    omega (arith, c.choose-count.ensures.value, c.loop-first-test.false) in
+    value_rows_end c.loop-first.out.items _ (values_in_revlex c.args.raw.now) c.loop-first.first past
+    c.loop-first.invariant.same

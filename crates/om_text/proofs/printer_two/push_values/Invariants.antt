@@ -5,7 +5,8 @@ use Rattle.om_text.proofs.printer_two.push_values.Given as goal
 
 abbrev pub invariant-loop-first : goal.invariant-loop-first
 invariant-loop-first l = record {
-  same : l.out.items ++ text_of (sign_lines (drop l.first (values_in_revlex l.raw))) ≡ l.initial.out.items ++ text_of (sign_lines (values_in_revlex l.raw));
+  same : l.out.items ++ text_of (sign_lines (drop l.first (values_in_revlex l.raw))) ≡ l.initial.out.items
+      ++ text_of (sign_lines (values_in_revlex l.raw));
   within : l.first ≤ l.count;
 }
 

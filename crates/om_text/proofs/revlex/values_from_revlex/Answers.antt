@@ -8,7 +8,8 @@ use Rattle.om_text.proofs.revlex.values_from_revlex.Goals as goal
 pub loop-place-init : goal.loop-place-init
 loop-place-init c = record {
   signs = c.empty_like-signs.ensures;
-  at = at_first c.args.map.now.elements c.args.map.now.rank c.first-subset.result c.first-subset.ensures.n c.first-subset.ensures.size c.first-subset.ensures.lawful c.first-subset.ensures.place;
+  at = at_first c.args.map.now.elements c.args.map.now.rank c.first-subset.result c.first-subset.ensures.n
+      c.first-subset.ensures.size c.first-subset.ensures.lawful c.first-subset.ensures.place;
 }
 
 pub loop-place-preserved : goal.loop-place-preserved
@@ -23,8 +24,10 @@ loop-place-preserved c =
     let g : slice_get m.signs c.rank_revlex.result ≡ Some c.at.result = c.at.ensures in
     record {
       signs = c.in_ok-push.ensures.ok ∙ ap (λ xs. xs ++ c.at.result ∷ []) c.loop-place.invariant.signs
-          ∙ next_value m k s.elements c.at.result l (list_at m.elements m.rank k s l at) (ap (slice_get m.signs) (sym c.rank_revlex.ensures.value) ∙ g);
-      at = at_next m.elements m.rank k s c.following-subset.result c.following-subset.ensures.n c.following-subset.ensures.size c.following-subset.ensures.lawful c.following-subset.ensures.place l at;
+          ∙ next_value m k s.elements c.at.result l (list_at m.elements m.rank k s l at)
+          (ap (slice_get m.signs) (sym c.rank_revlex.ensures.value) ∙ g);
+      at = at_next m.elements m.rank k s c.following-subset.result c.following-subset.ensures.n
+          c.following-subset.ensures.size c.following-subset.ensures.lawful c.following-subset.ensures.place l at;
     }
 
 pub returns : goal.returns

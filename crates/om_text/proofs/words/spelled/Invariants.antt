@@ -4,4 +4,9 @@ use Rattle.om_text.proofs.Digits.{ten}
 use Rattle.om_text.proofs.words.spelled.Given as goal
 
 abbrev pub invariant-loop-b : goal.invariant-loop-b
-invariant-loop-b l = record { small : l.number < ten l.b-index; same : number_from l.number (drop l.b-index l.word) ≡ number_from 0 l.word }
+invariant-loop-b l =
+    record {
+      small : l.number < ten l.b-index;
+      same : number_from l.number (drop l.b-index l.word)
+          ≡ number_from 0 l.word;
+    }

@@ -10,7 +10,9 @@ returns-in-None-clause-none g c =
     let whole : IsMap (map_of c.args.raw.now) = record { part = c.requires.rank; whole = c.requires.whole } in
     record {
       whole = whole;
-      nonzero = nonzero_value (map_of c.args.raw.now) whole (λ z. false≢true (c.if-is_all_zero.ensures.1 (subst IsAllZero (sym c.as_slice.ensures) z)));
+      nonzero =
+          nonzero_value (map_of c.args.raw.now) whole
+          (λ z. false≢true (c.if-is_all_zero.ensures.1 (subst IsAllZero (sym c.as_slice.ensures) z)));
       exchange = c.in_default.ensures.none;
       relations = c.in-None.ensures.none;
     }

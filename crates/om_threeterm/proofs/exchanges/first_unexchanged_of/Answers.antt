@@ -1,7 +1,8 @@
 use Rattle.std.proofs.Common.{sym, subst, ◌+◌, None}
 use Rattle.om_subsets.specs.Subsets.{choose}
 use Rattle.om_chirotope.specs.Map.{map_of}
-use Rattle.om_threeterm.proofs.ExchangeLaws.{IsBestBefore, place_pair, best_start, best_same, best_new, no_element_zero, none_of_best, first_of_best}
+use Rattle.om_threeterm.proofs.ExchangeLaws.{IsBestBefore, place_pair, best_start, best_same, best_new, no_element_zero}
+use Rattle.om_threeterm.proofs.ExchangeLaws.{none_of_best, first_of_best}
 use Rattle.om_threeterm.proofs.exchanges.first_unexchanged_of.Goals as goal
 use Rattle.om_threeterm.proofs.exchanges.first_unexchanged_of.Goals.{in-Some, in_default}
 
@@ -9,7 +10,8 @@ pub loop-e-init : goal.loop-e-init
 loop-e-init c =
     let raw = c.args.raw.now in
     let pair = place_pair (map_of raw) c.args.b.elements in
-    subst (λ k. IsBestBefore pair (choose raw.elements raw.rank) k 1 None) (sym c.choose-limit.ensures.value) (best_start pair (choose raw.elements raw.rank) (no_element_zero (map_of raw) c.args.b.elements))
+    subst (λ k. IsBestBefore pair (choose raw.elements raw.rank) k 1 None) (sym c.choose-limit.ensures.value)
+    (best_start pair (choose raw.elements raw.rank) (no_element_zero (map_of raw) c.args.b.elements))
 
 pub loop-e-preserved : goal.loop-e-preserved
 loop-e-preserved c =
@@ -20,7 +22,8 @@ loop-e-preserved c =
       | in-Some w ↦
           subst (λ k. IsBestBefore pair count k (c.loop-e.e + 1) c.match-first_unexchanged_by.found) (sym w.limit-is)
           (subst (λ o. IsBestBefore pair count w.in-Some.k (c.loop-e.e + 1) o) (sym w.found-is)
-          (best_new pair count c.loop-e.limit c.loop-e.e w.in-Some.k c.loop-e.found w.in-Some.ensures.within w.in-Some.ensures.here w.in-Some.ensures.earlier c.loop-e.invariant))
+          (best_new pair count c.loop-e.limit c.loop-e.e w.in-Some.k c.loop-e.found w.in-Some.ensures.within
+          w.in-Some.ensures.here w.in-Some.ensures.earlier c.loop-e.invariant))
       | in_default w ↦
           subst (λ k. IsBestBefore pair count k (c.loop-e.e + 1) c.match-first_unexchanged_by.found) (sym w.limit-is)
           (subst (λ o. IsBestBefore pair count c.loop-e.limit (c.loop-e.e + 1) o) (sym w.found-is)
@@ -32,16 +35,22 @@ returns-in-None-clause-none c =
     let raw = c.args.raw.now in
     let pair = place_pair (map_of raw) c.args.b.elements in
     none_of_best (map_of raw) c.args.b.elements c.loop-e.limit c.loop-e.e c.loop-e-test.false
-    (subst (λ o. IsBestBefore pair (choose raw.elements raw.rank) c.loop-e.limit c.loop-e.e o) c.in-None.is c.loop-e.invariant)
+    (subst (λ o. IsBestBefore pair (choose raw.elements raw.rank) c.loop-e.limit c.loop-e.e o) c.in-None.is
+    c.loop-e.invariant)
 
 pub set_at-requires-clause-within : goal.set_at-requires-clause-within
 set_at-requires-clause-within c =
     let raw = c.args.raw.now in
-    let best = subst (λ o. IsBestBefore (place_pair (map_of raw) c.args.b.elements) (choose raw.elements raw.rank) c.loop-e.limit c.loop-e.e o) c.in-Some-found.is c.loop-e.invariant in
+    let best =
+    subst (λ o. IsBestBefore (place_pair (map_of raw) c.args.b.elements) (choose raw.elements raw.rank)
+    c.loop-e.limit c.loop-e.e o) c.in-Some-found.is c.loop-e.invariant in
     best.found_is.within
 
 pub returns-in-Some-found-clause-first : goal.returns-in-Some-found-clause-first
 returns-in-Some-found-clause-first c =
     let raw = c.args.raw.now in
-    let best = subst (λ o. IsBestBefore (place_pair (map_of raw) c.args.b.elements) (choose raw.elements raw.rank) c.loop-e.limit c.loop-e.e o) c.in-Some-found.is c.loop-e.invariant in
-    first_of_best (map_of raw) c.args.b.elements c.loop-e.limit c.loop-e.e c.in-Some-found.e c.set_at.result c.loop-e-test.false c.set_at.ensures.n c.set_at.ensures.elements best
+    let best =
+    subst (λ o. IsBestBefore (place_pair (map_of raw) c.args.b.elements) (choose raw.elements raw.rank)
+    c.loop-e.limit c.loop-e.e o) c.in-Some-found.is c.loop-e.invariant in
+    first_of_best (map_of raw) c.args.b.elements c.loop-e.limit c.loop-e.e c.in-Some-found.e c.set_at.result
+    c.loop-e-test.false c.set_at.ensures.n c.set_at.ensures.elements best

@@ -7,18 +7,24 @@ use Rattle.om_chirotope.specs.Map.{map_of}
 use Rattle.om_chirotope.specs.ThreeTerm.{IsBasis}
 use Rattle.om_chirotope.proofs.Circuits.{length-without}
 use Rattle.om_chirotope.proofs.Cocircuits.{length-with}
-use Rattle.om_threeterm.proofs.ExchangeLaws.{AreInPlaceBelow, in_place_start, in_place_same, in_place_more, in_place_end}
+use Rattle.om_threeterm.proofs.ExchangeLaws.{AreInPlaceBelow, in_place_start, in_place_same, in_place_more}
+use Rattle.om_threeterm.proofs.ExchangeLaws.{in_place_end}
 use Rattle.om_threeterm.proofs.exchanges.in_place_of.Goals as goal
-use Rattle.om_threeterm.proofs.exchanges.in_place_of.Goals.{then-not-has+then-is_basis, else-not-has, else-not-has-via-then-not-has+else-is_basis, else-not-has-via-else-not-has}
+use Rattle.om_threeterm.proofs.exchanges.in_place_of.Goals.{then-not-has+then-is_basis, else-not-has}
+use Rattle.om_threeterm.proofs.exchanges.in_place_of.Goals.{else-not-has-via-then-not-has+else-is_basis}
+use Rattle.om_threeterm.proofs.exchanges.in_place_of.Goals.{else-not-has-via-else-not-has}
 
 pub loop-f-init : goal.loop-f-init
-loop-f-init c = in_place_start (map_of c.args.raw.now) c.args.b.elements c.args.e c.from_mask.result c.with-others.result (c.from_mask.ensures.elements ∙ members-zero 1 c.args.raw.now.elements) (c.with-others.ensures.n ∙ c.from_mask.ensures.n) c.with-others.ensures.elements
+loop-f-init c = in_place_start (map_of c.args.raw.now) c.args.b.elements c.args.e c.from_mask.result
+    c.with-others.result (c.from_mask.ensures.elements ∙ members-zero 1 c.args.raw.now.elements)
+    (c.with-others.ensures.n ∙ c.from_mask.ensures.n) c.with-others.ensures.elements
 
 pub is_basis-requires-clause-size : goal.is_basis-requires-clause-size
 is_basis-requires-clause-size c =
     let basis = c.requires.basis in
     let off : IsMember c.loop-f.f c.args.b.elements → ⊥ = λ k. false≢true (c.if-not-has.ensures.1 k) in
-    let fresh : IsMember c.loop-f.f (without_element c.args.e c.args.b.elements) → ⊥ = λ k. off ((members_without c.args.e c.loop-f.f c.args.b.elements).0 k).1 in
+    let fresh : IsMember c.loop-f.f (without_element c.args.e c.args.b.elements) → ⊥ =
+    λ k. off ((members_without c.args.e c.loop-f.f c.args.b.elements).0 k).1 in
     let same = c.with.ensures.elements ∙ ap (with_element c.loop-f.f) c.without-rest.ensures.elements in
     ap length same ∙ length-with c.loop-f.f (without_element c.args.e c.args.b.elements) fresh
     ∙ length-without 1 c.args.raw.now.elements c.args.e c.args.b.elements basis.list c.requires.inside ∙ basis.size
@@ -50,4 +56,5 @@ loop-f-preserved c =
 pub returns-clause-each : goal.returns-clause-each
 returns-clause-each c =
     let over = c.loop-f-test.false in
-    in_place_end (map_of c.args.raw.now) c.args.b.elements c.args.e c.loop-f.f c.loop-f.others (omega arith) c.loop-f.invariant
+    in_place_end (map_of c.args.raw.now) c.args.b.elements c.args.e c.loop-f.f c.loop-f.others (omega arith)
+    c.loop-f.invariant

@@ -13,4 +13,5 @@ returns c =
     let lt = c.if-k-choose.false in
     let few : c.args.k < choose m.elements m.rank = omega (arith, end, lt) in
     subst (λ b. IsTrue b ↔ IsUnexchangedAt m c.args.k) (sym c.is_some.ensures)
-    (some_unexchanged m c.args.k c.set_at.result.elements c.first_unexchanged_of.result few c.set_at.ensures.elements c.first_unexchanged_of.ensures.none c.first_unexchanged_of.ensures.first)
+    (some_unexchanged m c.args.k c.set_at.result.elements c.first_unexchanged_of.result few c.set_at.ensures.elements
+    c.first_unexchanged_of.ensures.none c.first_unexchanged_of.ensures.first)

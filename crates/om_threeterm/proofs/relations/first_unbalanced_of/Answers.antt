@@ -14,7 +14,8 @@ is_unbalanced-requires-clause-q_n c =
     let n = c.args.raw.now.elements in
     let size : length c.args.fours.now ≡ choose n 4 = ap length c.requires.filled ∙ length-all n 4 in
     let lt = c.loop-q-test.true in
-    (of_table n 4 c.loop-q.q-index c.args.fours.now c.q-item.result c.requires.filled (omega arith) (c.q-item.is ∙ get_or_default c.args.fours.now c.loop-q.q-index _ nothing lt)).n_is
+    (of_table n 4 c.loop-q.q-index c.args.fours.now c.q-item.result c.requires.filled (omega arith)
+    (c.q-item.is ∙ get_or_default c.args.fours.now c.loop-q.q-index _ nothing lt)).n_is
 
 pub is_unbalanced-requires-clause-q_size : goal.is_unbalanced-requires-clause-q_size
 is_unbalanced-requires-clause-q_size c =
@@ -22,7 +23,10 @@ is_unbalanced-requires-clause-q_size c =
     let size : length c.args.fours.now ≡ choose n 4 = ap length c.requires.filled ∙ length-all n 4 in
     let lt = c.loop-q-test.true in
     let few : c.loop-q.q-index < choose n 4 = omega arith in
-    ap length (of_table n 4 c.loop-q.q-index c.args.fours.now c.q-item.result c.requires.filled few (c.q-item.is ∙ get_or_default c.args.fours.now c.loop-q.q-index _ nothing lt)).elements_are ∙ (listed 1 n 4 c.loop-q.q-index few).size
+    ap length
+    (of_table n 4 c.loop-q.q-index c.args.fours.now c.q-item.result c.requires.filled few
+    (c.q-item.is ∙ get_or_default c.args.fours.now c.loop-q.q-index _ nothing lt)).elements_are
+    ∙ (listed 1 n 4 c.loop-q.q-index few).size
 
 pub returns-then-is_unbalanced-clause-first : goal.returns-then-is_unbalanced-clause-first
 returns-then-is_unbalanced-clause-first c =
@@ -31,10 +35,13 @@ returns-then-is_unbalanced-clause-first c =
     let size : length c.args.fours.now ≡ choose n 4 = ap length c.requires.filled ∙ length-all n 4 in
     let lt = c.loop-q-test.true in
     let few : c.loop-q.q-index < choose n 4 = omega arith in
-    let here = of_table n 4 c.loop-q.q-index c.args.fours.now c.q-item.result c.requires.filled few (c.q-item.is ∙ get_or_default c.args.fours.now c.loop-q.q-index _ nothing lt) in
-    let named = of_table n 4 c.loop-q.q-index c.args.fours.now c.q-item.result c.requires.filled few (c.q-item.is ∙ get_or_default c.args.fours.now c.loop-q.q-index _ nothing lt) in
+    let here = of_table n 4 c.loop-q.q-index c.args.fours.now c.q-item.result c.requires.filled few
+    (c.q-item.is ∙ get_or_default c.args.fours.now c.loop-q.q-index _ nothing lt) in
+    let named = of_table n 4 c.loop-q.q-index c.args.fours.now c.q-item.result c.requires.filled few
+    (c.q-item.is ∙ get_or_default c.args.fours.now c.loop-q.q-index _ nothing lt) in
     first_of_p m c.args.p.elements c.q-item.result c.loop-q.q-index few named.n_is named.elements_are
-    (subst (IsUnbalancedList m c.args.p.elements) (here.elements_are ∙ sym named.elements_are) (c.if-is_unbalanced.ensures.0 refl))
+    (subst (IsUnbalancedList m c.args.p.elements) (here.elements_are ∙ sym named.elements_are)
+    (c.if-is_unbalanced.ensures.0 refl))
     c.loop-q.invariant
 
 pub loop-q-preserved : goal.loop-q-preserved
@@ -45,8 +52,11 @@ loop-q-preserved c = λ j l u. elim (cases_eq j c.loop-q.q-index) [
       let size : length c.args.fours.now ≡ choose n 4 = ap length c.requires.filled ∙ length-all n 4 in
       let lt = c.loop-q-test.true in
       let few : c.loop-q.q-index < choose n 4 = omega arith in
-      let here = of_table n 4 c.loop-q.q-index c.args.fours.now c.q-item.result c.requires.filled few (c.q-item.is ∙ get_or_default c.args.fours.now c.loop-q.q-index _ nothing lt) in
-      false≢true (c.if-is_unbalanced.ensures.1 (subst (IsUnbalancedList m c.args.p.elements) (ap (subset_at n 4) q ∙ sym here.elements_are) u))
+      let here = of_table n 4 c.loop-q.q-index c.args.fours.now c.q-item.result c.requires.filled few
+      (c.q-item.is ∙ get_or_default c.args.fours.now c.loop-q.q-index _ nothing lt) in
+      false≢true
+      (c.if-is_unbalanced.ensures.1
+      (subst (IsUnbalancedList m c.args.p.elements) (ap (subset_at n 4) q ∙ sym here.elements_are) u))
   | inr ne ↦ c.loop-q.invariant j (omega arith) u
 ]
 

@@ -19,10 +19,16 @@ at-sign-requires c =
     let n2 = c.with-2.ensures.n ∙ n1 in
     let e2 = c.with-2.ensures.elements ∙ ap (with_element y) c.with.ensures.elements in
     let list = subst (λ n. IsSubsetFrom 1 n p) c.requires.n c.is_lawful.ensures.lawful in
-    let first = with_lawful m.elements c.with.result (with_element x p) n1 c.with.ensures.elements c.with.ensures.lawful in
-    let both = with_lawful m.elements c.with-2.result (with_element y (with_element x p)) n2 e2 c.with-2.ensures.lawful in
-    let size : length c.with-2.result.elements ≡ m.rank = ap length e2 ∙ whole_size m p x y list first both c.requires.x_off c.requires.y_off order (omega arith) c.requires.y_high c.requires.size in
-    let small : c.rank.result < choose m.elements m.rank = subst (λ k. c.rank.result < choose k m.rank) n2 (subst (λ k. c.rank.result < choose c.with-2.result.n k) size c.rank.ensures.small) in
+    let first = with_lawful m.elements c.with.result (with_element x p) n1 c.with.ensures.elements c.with.ensures.lawful
+    in
+    let both = with_lawful m.elements c.with-2.result (with_element y (with_element x p)) n2 e2 c.with-2.ensures.lawful
+    in
+    let size : length c.with-2.result.elements ≡ m.rank = ap length e2
+    ∙ whole_size m p x y list first both c.requires.x_off c.requires.y_off order (omega arith) c.requires.y_high
+    c.requires.size in
+    let small : c.rank.result < choose m.elements m.rank =
+    subst (λ k. c.rank.result < choose k m.rank) n2
+    (subst (λ k. c.rank.result < choose c.with-2.result.n k) size c.rank.ensures.small) in
     let whole = c.requires.whole in
     omega arith
 
@@ -38,12 +44,16 @@ returns-then-odd_after c =
     let n2 = c.with-2.ensures.n ∙ n1 in
     let e2 = c.with-2.ensures.elements ∙ ap (with_element y) c.with.ensures.elements in
     let list = subst (λ n. IsSubsetFrom 1 n p) c.requires.n c.is_lawful.ensures.lawful in
-    let first = with_lawful m.elements c.with.result (with_element x p) n1 c.with.ensures.elements c.with.ensures.lawful in
-    let both = with_lawful m.elements c.with-2.result (with_element y (with_element x p)) n2 e2 c.with-2.ensures.lawful in
-    let place = sym (c.rank.ensures.value ∙ ap (λ k. rank_of k c.with-2.result.elements) n2 ∙ ap (rank_of m.elements) e2) in
+    let first = with_lawful m.elements c.with.result (with_element x p) n1 c.with.ensures.elements c.with.ensures.lawful
+    in
+    let both = with_lawful m.elements c.with-2.result (with_element y (with_element x p)) n2 e2 c.with-2.ensures.lawful
+    in
+    let place =
+    sym (c.rank.ensures.value ∙ ap (λ k. rank_of k c.with-2.result.elements) n2 ∙ ap (rank_of m.elements) e2) in
     sign_is_value m (with_element y (with_element x p)) c.rank.result c.at-sign.result both place c.at-sign.ensures
     ∙ value_same m p x y list first both c.requires.x_off c.requires.y_off order (omega arith) c.requires.y_high
-    (same_tests _ _ c.odd_after.result c.odd_after-2.result c.odd_after.ensures c.odd_after-2.ensures c.if-odd_after.true)
+    (same_tests _ _ c.odd_after.result c.odd_after-2.result c.odd_after.ensures c.odd_after-2.ensures
+    c.if-odd_after.true)
 
 pub returns-else-odd_after : goal.returns-else-odd_after
 returns-else-odd_after c =
@@ -57,9 +67,16 @@ returns-else-odd_after c =
     let n2 = c.with-2.ensures.n ∙ n1 in
     let e2 = c.with-2.ensures.elements ∙ ap (with_element y) c.with.ensures.elements in
     let list = subst (λ n. IsSubsetFrom 1 n p) c.requires.n c.is_lawful.ensures.lawful in
-    let first = with_lawful m.elements c.with.result (with_element x p) n1 c.with.ensures.elements c.with.ensures.lawful in
-    let both = with_lawful m.elements c.with-2.result (with_element y (with_element x p)) n2 e2 c.with-2.ensures.lawful in
-    let place = sym (c.rank.ensures.value ∙ ap (λ k. rank_of k c.with-2.result.elements) n2 ∙ ap (rank_of m.elements) e2) in
-    c.neg.ensures ∙ ap opposite (sign_is_value m (with_element y (with_element x p)) c.rank.result c.at-sign.result both place c.at-sign.ensures)
+    let first = with_lawful m.elements c.with.result (with_element x p) n1 c.with.ensures.elements c.with.ensures.lawful
+    in
+    let both = with_lawful m.elements c.with-2.result (with_element y (with_element x p)) n2 e2 c.with-2.ensures.lawful
+    in
+    let place =
+    sym (c.rank.ensures.value ∙ ap (λ k. rank_of k c.with-2.result.elements) n2 ∙ ap (rank_of m.elements) e2) in
+    c.neg.ensures
+    ∙ ap opposite
+    (sign_is_value m (with_element y (with_element x p)) c.rank.result c.at-sign.result both place
+    c.at-sign.ensures)
     ∙ value_turned m p x y list first both c.requires.x_off c.requires.y_off order (omega arith) c.requires.y_high
-    (other_tests _ _ c.odd_after.result c.odd_after-2.result c.odd_after.ensures c.odd_after-2.ensures c.if-odd_after.false)
+    (other_tests _ _ c.odd_after.result c.odd_after-2.result c.odd_after.ensures c.odd_after-2.ensures
+    c.if-odd_after.false)

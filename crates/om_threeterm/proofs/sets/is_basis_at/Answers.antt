@@ -8,5 +8,6 @@ pub returns : goal.returns
 returns c =
     let raw = c.args.raw.now in
     let here = listed 1 raw.elements raw.rank c.args.k c.requires.within in
-    let both = basis_of_sign (map_of raw) (subset_at raw.elements raw.rank c.args.k) c.args.k c.at.result here.lawful here.size here.place c.at.ensures in
+    let both = basis_of_sign (map_of raw) (subset_at raw.elements raw.rank c.args.k) c.args.k c.at.result here.lawful
+    here.size here.place c.at.ensures in
     (λ t. both.0 (c.is_nonzero.ensures.0 t), λ b. c.is_nonzero.ensures.1 (both.1 b))

@@ -6,12 +6,16 @@ use Rattle.om_threeterm.proofs.sets.split_least.Goals as goal
 
 pub overflow_sub-mask : goal.overflow_sub-mask
 overflow_sub-mask c =
-    let some = (split c.args.s c.mask-mask.result c.requires c.is_lawful.ensures.lawful c.is_lawful.ensures.small c.mask-mask.ensures.value).some in
+    let some =
+    (split c.args.s c.mask-mask.result c.requires c.is_lawful.ensures.lawful c.is_lawful.ensures.small
+    c.mask-mask.ensures.value).some in
     omega arith
 
 pub returns : goal.returns
 returns c =
     let mask = c.mask-mask.result in
-    let here = split c.args.s mask c.requires c.is_lawful.ensures.lawful c.is_lawful.ensures.small c.mask-mask.ensures.value in
+    let here = split c.args.s mask c.requires c.is_lawful.ensures.lawful c.is_lawful.ensures.small
+    c.mask-mask.ensures.value in
     here.elements_are
-    ∙ ap (λ xs. (trailing_zeros w32 mask + 1) ∷ xs) (sym (c.from_mask.ensures.elements ∙ ap (members (bit_and mask (mask - 1)) 1) c.n.ensures.value))
+    ∙ ap (λ xs. (trailing_zeros w32 mask + 1) ∷ xs)
+    (sym (c.from_mask.ensures.elements ∙ ap (members (bit_and mask (mask - 1)) 1) c.n.ensures.value))

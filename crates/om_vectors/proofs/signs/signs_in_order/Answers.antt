@@ -25,9 +25,11 @@ loop-place-preserved c =
     record {
       signs = c.in_ok-push.ensures.ok
           ∙ ap (λ xs. xs ++ c.sign_of_triple.result ∷ []) c.loop-place.invariant.signs
-          ∙ ap (λ x. map f (take k (all_subsets n 3)) ++ x ∷ []) (c.sign_of_triple.ensures ∙ ap f (list_at n 3 k s inside at))
+          ∙ ap (λ x. map f (take k (all_subsets n 3)) ++ x ∷ [])
+          (c.sign_of_triple.ensures ∙ ap f (list_at n 3 k s inside at))
           ∙ sym (map_more f (all_subsets n 3) k [] few);
-      at = at_next n 3 k s c.following-s.result c.following-s.ensures.n c.following-s.ensures.size c.following-s.ensures.lawful c.following-s.ensures.place inside at;
+      at = at_next n 3 k s c.following-s.result c.following-s.ensures.n c.following-s.ensures.size
+          c.following-s.ensures.lawful c.following-s.ensures.place inside at;
     }
 
 pub returns : goal.returns

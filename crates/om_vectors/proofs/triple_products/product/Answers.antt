@@ -11,7 +11,8 @@ overflow_mul-result-2 c =
     let y : to_z w128 (of_z w128 (to_z w64 (of_z w64 c.args.y))) ≡ c.args.y = omega (arith, ints) in
     let z : to_z w128 (of_z w128 (to_z w64 (of_z w64 c.args.z))) ≡ c.args.z = omega (arith, ints) in
     let r = c.requires in
-    rw (x, y, z, to_z-of_z w128 _ (pair_fits c.args.x c.args.y r.x r.y)) (product_fits c.args.x c.args.y c.args.z r.x r.y r.z)
+    rw (x, y, z, to_z-of_z w128 _ (pair_fits c.args.x c.args.y r.x r.y))
+    (product_fits c.args.x c.args.y c.args.z r.x r.y r.z)
 
 pub returns-clause-value : goal.returns-clause-value
 returns-clause-value c =
@@ -19,7 +20,9 @@ returns-clause-value c =
     let y : to_z w128 (of_z w128 (to_z w64 (of_z w64 c.args.y))) ≡ c.args.y = omega (arith, ints) in
     let z : to_z w128 (of_z w128 (to_z w64 (of_z w64 c.args.z))) ≡ c.args.z = omega (arith, ints) in
     let r = c.requires in
-    rw (x, y, z, to_z-of_z w128 _ (pair_fits c.args.x c.args.y r.x r.y)) (to_z-of_z w128 _ (product_fits c.args.x c.args.y c.args.z r.x r.y r.z))
+    rw (x, y, z, to_z-of_z w128 _ (pair_fits c.args.x c.args.y r.x r.y))
+    (to_z-of_z w128 _ (product_fits c.args.x c.args.y c.args.z r.x r.y r.z))
 
 pub returns-clause-size : goal.returns-clause-size
-returns-clause-size c = rw (returns-clause-value c) (let r = c.requires in product_size c.args.x c.args.y c.args.z r.x r.y r.z)
+returns-clause-size c =
+    rw (returns-clause-value c) (let r = c.requires in product_size c.args.x c.args.y c.args.z r.x r.y r.z)

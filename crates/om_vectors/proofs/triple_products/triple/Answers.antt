@@ -70,4 +70,31 @@ returns c =
     let s4 = minus 3 _ _ (lit< tt) s3 p4 in
     let s5 = plus 4 _ _ (lit< tt) s4 p5 in
     let s6 = minus 5 _ _ (lit< tt) s5 p6 in
-    rw (p1.exact, p2.exact, s2.exact, p3.exact, s3.exact, p4.exact, s4.exact, p5.exact, s5.exact, p6.exact) (s6.exact ∙ simp (c.product.ensures.value, c.product-2.ensures.value, c.product-3.ensures.value, c.product-4.ensures.value, c.product-5.ensures.value, c.product-6.ensures.value, read_back _ _ c.x.ensures.size c.x.ensures.value, read_back _ _ c.x-2.ensures.size c.x-2.ensures.value, read_back _ _ c.x-3.ensures.size c.x-3.ensures.value, read_back _ _ c.x-4.ensures.size c.x-4.ensures.value, read_back _ _ c.x-5.ensures.size c.x-5.ensures.value, read_back _ _ c.x-6.ensures.size c.x-6.ensures.value, read_back _ _ c.y.ensures.size c.y.ensures.value, read_back _ _ c.y-2.ensures.size c.y-2.ensures.value, read_back _ _ c.y-3.ensures.size c.y-3.ensures.value, read_back _ _ c.y-4.ensures.size c.y-4.ensures.value, read_back _ _ c.y-5.ensures.size c.y-5.ensures.value, read_back _ _ c.y-6.ensures.size c.y-6.ensures.value, read_back _ _ c.z.ensures.size c.z.ensures.value, read_back _ _ c.z-2.ensures.size c.z-2.ensures.value, read_back _ _ c.z-3.ensures.size c.z-3.ensures.value, read_back _ _ c.z-4.ensures.size c.z-4.ensures.value, read_back _ _ c.z-5.ensures.size c.z-5.ensures.value, read_back _ _ c.z-6.ensures.size c.z-6.ensures.value))
+    rw (p1.exact, p2.exact, s2.exact, p3.exact, s3.exact, p4.exact, s4.exact, p5.exact, s5.exact, p6.exact)
+    (s6.exact
+    ∙ simp (
+      c.product.ensures.value,
+      c.product-2.ensures.value,
+      c.product-3.ensures.value,
+      c.product-4.ensures.value,
+      c.product-5.ensures.value,
+      c.product-6.ensures.value,
+      read_back _ _ c.x.ensures.size c.x.ensures.value,
+      read_back _ _ c.x-2.ensures.size c.x-2.ensures.value,
+      read_back _ _ c.x-3.ensures.size c.x-3.ensures.value,
+      read_back _ _ c.x-4.ensures.size c.x-4.ensures.value,
+      read_back _ _ c.x-5.ensures.size c.x-5.ensures.value,
+      read_back _ _ c.x-6.ensures.size c.x-6.ensures.value,
+      read_back _ _ c.y.ensures.size c.y.ensures.value,
+      read_back _ _ c.y-2.ensures.size c.y-2.ensures.value,
+      read_back _ _ c.y-3.ensures.size c.y-3.ensures.value,
+      read_back _ _ c.y-4.ensures.size c.y-4.ensures.value,
+      read_back _ _ c.y-5.ensures.size c.y-5.ensures.value,
+      read_back _ _ c.y-6.ensures.size c.y-6.ensures.value,
+      read_back _ _ c.z.ensures.size c.z.ensures.value,
+      read_back _ _ c.z-2.ensures.size c.z-2.ensures.value,
+      read_back _ _ c.z-3.ensures.size c.z-3.ensures.value,
+      read_back _ _ c.z-4.ensures.size c.z-4.ensures.value,
+      read_back _ _ c.z-5.ensures.size c.z-5.ensures.value,
+      read_back _ _ c.z-6.ensures.size c.z-6.ensures.value,
+    ))

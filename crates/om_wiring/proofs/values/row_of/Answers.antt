@@ -16,10 +16,13 @@ returns-then-x-p c =
     let before = c.if-x-p.true in
     let high = c.requires.p.1 in
     let inside : c.args.x - 1 < length c.args.table.now = omega (arith, e, few, size, low, before, high) in
-    let there : c.index-table-x.result ≡ get_or c.args.table.now (c.args.x - 1) [] = c.index-table-x.is ∙ get_or_default c.args.table.now (c.args.x - 1) c.index-table-x.result [] inside in
-    let rows = subst (λ rs. (length rs ≡ MAX_PLACES) × AreRowsBelow m (c.args.x ∷ []) rs (m.elements + 1)) (sym there) (c.requires.before c.args.x low before) in
+    let there : c.index-table-x.result ≡ get_or c.args.table.now (c.args.x - 1) [] = c.index-table-x.is
+    ∙ get_or_default c.args.table.now (c.args.x - 1) c.index-table-x.result [] inside in
+    let rows = subst (λ rs. (length rs ≡ MAX_PLACES) × AreRowsBelow m (c.args.x ∷ []) rs (m.elements + 1)) (sym there)
+    (c.requires.before c.args.x low before) in
     let long = rows.0 in
     let within : c.args.p - 1 < length c.index-table-x.result = omega (arith, e, few, long, low, before, high) in
     c.neg.ensures
-    ∙ ap (map opposite) (get_or_default c.index-table-x.result (c.args.p - 1) c.index-rows-p.result [] within ∙ rows.1.row c.args.p c.requires.p.0 (omega (arith, high)))
+    ∙ ap (map opposite) (get_or_default c.index-table-x.result (c.args.p - 1) c.index-rows-p.result [] within
+    ∙ rows.1.row c.args.p c.requires.p.0 (omega (arith, high)))
     ∙ row_before m c.args.x c.args.p c.requires.p before

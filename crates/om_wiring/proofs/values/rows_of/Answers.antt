@@ -14,9 +14,18 @@ loop-x-preserved c =
     let size = c.loop-x.invariant.0 in
     elim c.if-x-p.branch [
       | then-x-p w ↦
-          subst (λ rs. (length rs ≡ MAX_PLACES) × AreWritten c.args.chi.now (c.args.p ∷ []) rs (c.loop-x.x + 1)) (sym w.rows-is)
-          (length-set _ _ _ ∙ size, rows_more c.args.chi.now (c.args.p ∷ []) c.loop-x.rows c.loop-x.x w.row_of.result low (omega (arith, low, over, few, size)) w.row_of.ensures c.loop-x.invariant.1)
+          subst (λ rs. (length rs ≡ MAX_PLACES) × AreWritten c.args.chi.now (c.args.p ∷ []) rs (c.loop-x.x + 1))
+          (sym w.rows-is) (
+            length-set _ _ _ ∙ size,
+            rows_more c.args.chi.now (c.args.p ∷ []) c.loop-x.rows c.loop-x.x w.row_of.result low
+                (omega (arith, low, over, few, size)) w.row_of.ensures c.loop-x.invariant.1,
+          )
       | else-x-p w ↦
-          subst (λ rs. (length rs ≡ MAX_PLACES) × AreWritten c.args.chi.now (c.args.p ∷ []) rs (c.loop-x.x + 1)) (sym w.rows-is)
-          (size, rows_skip c.args.chi.now (c.args.p ∷ []) c.loop-x.rows c.loop-x.x low (omega (arith, low, over, few, size)) (single_list c.args.chi.now.elements c.args.p c.requires.p) (inl w.if-x-p.false) c.loop-x.invariant.1)
+          subst (λ rs. (length rs ≡ MAX_PLACES) × AreWritten c.args.chi.now (c.args.p ∷ []) rs (c.loop-x.x + 1))
+          (sym w.rows-is) (
+            size,
+            rows_skip c.args.chi.now (c.args.p ∷ []) c.loop-x.rows c.loop-x.x low
+                (omega (arith, low, over, few, size)) (single_list c.args.chi.now.elements c.args.p c.requires.p)
+                (inl w.if-x-p.false) c.loop-x.invariant.1,
+          )
     ]

@@ -21,4 +21,6 @@ returns c =
     let count = c.choose.ensures.value in
     let cast = c.from.ensures in
     subst (λ b. IsTrue b ↔ HasViolatedPair m s.blocks c.args.k) (sym c.is_some.ensures)
-    (bad_of_block m s.blocks c.args.k c.unrank-s.result.elements s.cocircuits.now c.first_in_block.result (omega (arith, over, count, cast)) c.unrank-s.ensures.elements s.filled c.first_in_block.ensures.none c.first_in_block.ensures.within c.first_in_block.ensures.here)
+    (bad_of_block m s.blocks c.args.k c.unrank-s.result.elements s.cocircuits.now c.first_in_block.result
+    (omega (arith, over, count, cast)) c.unrank-s.ensures.elements s.filled c.first_in_block.ensures.none
+    c.first_in_block.ensures.within c.first_in_block.ensures.here)

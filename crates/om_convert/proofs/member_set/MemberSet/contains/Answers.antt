@@ -5,6 +5,8 @@ use Rattle.om_convert.proofs.member_set.MemberSet.contains.Goals as goal
 
 pub returns : goal.returns
 returns c = (
-  λ t. subst (λ l. Contains l c.args.x) c.self.view_is (contained c.self.inside.set.keys c.args.x (sym c.contains.ensures ∙ t)),
-  λ k. c.contains.ensures ∙ is_found c.self.inside.set.keys c.args.x (subst (λ l. Contains l c.args.x) (sym c.self.view_is) k),
+  λ t. subst (λ l. Contains l c.args.x) c.self.view_is
+      (contained c.self.inside.set.keys c.args.x (sym c.contains.ensures ∙ t)),
+  λ k. c.contains.ensures
+      ∙ is_found c.self.inside.set.keys c.args.x (subst (λ l. Contains l c.args.x) (sym c.self.view_is) k),
 )

@@ -13,20 +13,27 @@ use Rattle.om_convert.proofs.member_set.MemberSet.insert.Goals.{in-Ok, in-Err}
 pub returns-then-contains-clause-added : goal.returns-then-contains-clause-added
 returns-then-contains-clause-added c =
     let k = contained c.self.inside.set.keys c.args.x (sym c.contains.ensures ∙ c.if-contains.true) in
-    unchanged (λ X. X ≡ c.args.x) c.args.self.now (λ X q. subst (λ l. Contains l X) c.self.view_is (subst (Contains c.self.inside.set.keys) (sym q) k))
+    unchanged (λ X. X ≡ c.args.x) c.args.self.now
+    (λ X q. subst (λ l. Contains l X) c.self.view_is (subst (Contains c.self.inside.set.keys) (sym q) k))
 
 pub returns-then-is_full-clause-many : goal.returns-then-is_full-clause-many
 returns-then-is_full-clause-many c =
-    let n = not_contained c.self.inside.set.keys c.args.x (sym c.contains.ensures ∙ c.if-contains.false) in
-    (refl, full c.args.self.now c.args.x (subst AreDistinct c.self.view_is c.self.invariant.distinct) (subst (λ l. Contains l c.args.x → ⊥) c.self.view_is n) (c.is_full.ensures.0 c.if-is_full.true))
+    let n = not_contained c.self.inside.set.keys c.args.x (sym c.contains.ensures ∙ c.if-contains.false) in (
+      refl,
+      full c.args.self.now c.args.x (subst AreDistinct c.self.view_is c.self.invariant.distinct)
+          (subst (λ l. Contains l c.args.x → ⊥) c.self.view_is n) (c.is_full.ensures.0 c.if-is_full.true),
+    )
 
 pub invariant_of-self : goal.invariant_of-self
 invariant_of-self c =
     let absent = sym c.contains.ensures ∙ c.if-contains.false in
     let n = not_contained c.self.inside.set.keys c.args.x absent in
-    let room : length c.self.inside.set.keys < MAX_MEMBERS = elim (cases_lt (length c.self.inside.set.keys) MAX_MEMBERS) [
+    let room : length c.self.inside.set.keys < MAX_MEMBERS =
+    elim (cases_lt (length c.self.inside.set.keys) MAX_MEMBERS) [
       | inl lt ↦ lt
-      | inr ge ↦ absurd (true≢false (sym (c.is_full.ensures.1 (subst (λ l. MAX_MEMBERS ≤ length l) c.self.view_is ge)) ∙ c.if-is_full.false))
+      | inr ge ↦
+          absurd (true≢false (sym (c.is_full.ensures.1 (subst (λ l. MAX_MEMBERS ≤ length l) c.self.view_is ge))
+          ∙ c.if-is_full.false))
     ] in
     elim c.match-insert.branch [
       | in-Ok w ↦
@@ -47,6 +54,7 @@ returns-clause-added c =
       | in-Ok w ↦
           let q = inserted c.self.inside.set.keys c.insert.new.self.keys c.args.x absent w.in-Ok.ensures.keys in
           rw w.result-is (subst (λ l. IsExtendedBy (λ X. X ≡ c.args.x) l c.insert.new.self.keys) c.self.view_is
-          (subst (IsExtendedBy (λ X. X ≡ c.args.x) c.self.inside.set.keys) (sym q) (pushed c.self.inside.set.keys c.args.x)))
+          (subst (IsExtendedBy (λ X. X ≡ c.args.x) c.self.inside.set.keys) (sym q)
+          (pushed c.self.inside.set.keys c.args.x)))
       | in-Err w ↦ rw w.result-is tt
     ]

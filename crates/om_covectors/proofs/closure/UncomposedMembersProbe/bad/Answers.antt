@@ -6,4 +6,7 @@ pub returns : goal.returns
 returns c =
     let members = c.args.self.now.members.now in
     let x = c.index-self-k.result in
-    rw c.is_some.ensures (uncomposed_answer members c.args.k (get_or members c.args.k x) c.first_uncomposed_with.result c.if-k-self.false (ap (get_or members c.args.k) c.index-self-k.is) c.first_uncomposed_with.ensures.none c.first_uncomposed_with.ensures.first)
+    rw c.is_some.ensures
+    (uncomposed_answer members c.args.k (get_or members c.args.k x) c.first_uncomposed_with.result c.if-k-self.false
+    (ap (get_or members c.args.k) c.index-self-k.is) c.first_uncomposed_with.ensures.none
+    c.first_uncomposed_with.ensures.first)

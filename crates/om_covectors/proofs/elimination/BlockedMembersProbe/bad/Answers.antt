@@ -6,4 +6,7 @@ pub returns : goal.returns
 returns c =
     let members = c.args.self.now.members.now in
     let x = c.index-self-k.result in
-    rw c.is_some.ensures (blocked_answer members c.args.self.now.elements c.args.k (get_or members c.args.k x) c.first_blocked_with.result c.if-k-self.false (ap (get_or members c.args.k) c.index-self-k.is) c.first_blocked_with.ensures.none c.first_blocked_with.ensures.first)
+    rw c.is_some.ensures
+    (blocked_answer members c.args.self.now.elements c.args.k (get_or members c.args.k x)
+    c.first_blocked_with.result c.if-k-self.false (ap (get_or members c.args.k) c.index-self-k.is)
+    c.first_blocked_with.ensures.none c.first_blocked_with.ensures.first)

@@ -5,10 +5,34 @@ use Rattle.om_points.proofs.form.Form.of.Goals as goal
 
 pub returns-clause-refuses : goal.returns-clause-refuses
 returns-clause-refuses c = of_minors c.args.a c.args.b c.args.least _ _ _ _
-    (read_minor c.minor.result c.minor.ensures.size ∙ c.minor.ensures.value ∙ simp (read_back _ _ c.y.ensures.size c.y.ensures.value, read_back _ _ c.z.ensures.size c.z.ensures.value, read_back _ _ c.z-2.ensures.size c.z-2.ensures.value, read_back _ _ c.y-2.ensures.size c.y-2.ensures.value))
-    (read_minor c.minor-2.result c.minor-2.ensures.size ∙ c.minor-2.ensures.value ∙ simp (read_back _ _ c.z-3.ensures.size c.z-3.ensures.value, read_back _ _ c.x.ensures.size c.x.ensures.value, read_back _ _ c.x-2.ensures.size c.x-2.ensures.value, read_back _ _ c.z-4.ensures.size c.z-4.ensures.value))
-    (read_minor c.minor-3.result c.minor-3.ensures.size ∙ c.minor-3.ensures.value ∙ simp (read_back _ _ c.x-3.ensures.size c.x-3.ensures.value, read_back _ _ c.y-3.ensures.size c.y-3.ensures.value, read_back _ _ c.y-4.ensures.size c.y-4.ensures.value, read_back _ _ c.x-4.ensures.size c.x-4.ensures.value))
+    (read_minor c.minor.result c.minor.ensures.size ∙ c.minor.ensures.value
+    ∙ simp (
+      read_back _ _ c.y.ensures.size c.y.ensures.value,
+      read_back _ _ c.z.ensures.size c.z.ensures.value,
+      read_back _ _ c.z-2.ensures.size c.z-2.ensures.value,
+      read_back _ _ c.y-2.ensures.size c.y-2.ensures.value,
+    ))
+    (read_minor c.minor-2.result c.minor-2.ensures.size ∙ c.minor-2.ensures.value
+    ∙ simp (
+      read_back _ _ c.z-3.ensures.size c.z-3.ensures.value,
+      read_back _ _ c.x.ensures.size c.x.ensures.value,
+      read_back _ _ c.x-2.ensures.size c.x-2.ensures.value,
+      read_back _ _ c.z-4.ensures.size c.z-4.ensures.value,
+    ))
+    (read_minor c.minor-3.result c.minor-3.ensures.size ∙ c.minor-3.ensures.value
+    ∙ simp (
+      read_back _ _ c.x-3.ensures.size c.x-3.ensures.value,
+      read_back _ _ c.y-3.ensures.size c.y-3.ensures.value,
+      read_back _ _ c.y-4.ensures.size c.y-4.ensures.value,
+      read_back _ _ c.x-4.ensures.size c.x-4.ensures.value,
+    ))
     (read_minor c.args.least c.requires)
 
 pub returns-clause-minors : goal.returns-clause-minors
-returns-clause-minors c = record { x = minor_back c.minor.result c.minor.ensures.size; y = minor_back c.minor-2.result c.minor-2.ensures.size; z = minor_back c.minor-3.result c.minor-3.ensures.size; least = minor_back c.args.least c.requires }
+returns-clause-minors c =
+    record {
+      x = minor_back c.minor.result c.minor.ensures.size;
+      y = minor_back c.minor-2.result c.minor-2.ensures.size;
+      z = minor_back c.minor-3.result c.minor-3.ensures.size;
+      least = minor_back c.args.least c.requires;
+    }

@@ -6,11 +6,13 @@ pub overflow_add-result : goal.overflow_add-result
 overflow_add-result c = two_terms_fit c.term.result c.term-2.result c.term.ensures.size c.term-2.ensures.size
 
 pub overflow_add-result-2 : goal.overflow_add-result-2
-overflow_add-result-2 c = three_terms_fit c.term.result c.term-2.result c.term-3.result c.term.ensures.size c.term-2.ensures.size c.term-3.ensures.size
+overflow_add-result-2 c = three_terms_fit c.term.result c.term-2.result c.term-3.result c.term.ensures.size
+    c.term-2.ensures.size c.term-3.ensures.size
 
 pub returns-clause-value : goal.returns-clause-value
 returns-clause-value c =
-    read_terms c.term.result c.term-2.result c.term-3.result c.term.ensures.size c.term-2.ensures.size c.term-3.ensures.size ∙ simp (
+    read_terms c.term.result c.term-2.result c.term-3.result c.term.ensures.size c.term-2.ensures.size
+    c.term-3.ensures.size ∙ simp (
       c.term.ensures.value,
       c.term-2.ensures.value,
       c.term-3.ensures.value,
@@ -24,4 +26,7 @@ returns-clause-value c =
 
 pub returns-clause-size : goal.returns-clause-size
 returns-clause-size c =
-    rw (read_terms c.term.result c.term-2.result c.term-3.result c.term.ensures.size c.term-2.ensures.size c.term-3.ensures.size) (terms_size c.term.result c.term-2.result c.term-3.result c.term.ensures.size c.term-2.ensures.size c.term-3.ensures.size)
+    rw (read_terms c.term.result c.term-2.result c.term-3.result c.term.ensures.size c.term-2.ensures.size
+    c.term-3.ensures.size)
+    (terms_size c.term.result c.term-2.result c.term-3.result c.term.ensures.size c.term-2.ensures.size
+    c.term-3.ensures.size)

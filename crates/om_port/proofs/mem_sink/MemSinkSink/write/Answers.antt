@@ -5,7 +5,9 @@ use Rattle.om_port.proofs.mem_sink.MemSinkSink.write.Goals as goal
 pub returns-then-told-clause-cause : goal.returns-then-told-clause-cause
 returns-then-told-clause-cause c =
     let view : c.self.inside.plan.faults ≡ c.args.self.now.faults = ap (λ h. h.faults) c.self.view_is in
-    let begun : c.begin-told.new.self.faults ≡ c.self.inside.plan.faults = ap (λ p. p.faults) c.begin-told.ensures.plan in
-    let counted : c.fail.new.self.faults ≡ raised c.begin-told.new.self.faults = ap (λ p. p.faults) c.fail.ensures.plan in
+    let begun : c.begin-told.new.self.faults ≡ c.self.inside.plan.faults =
+    ap (λ p. p.faults) c.begin-told.ensures.plan in
+    let counted : c.fail.new.self.faults ≡ raised c.begin-told.new.self.faults =
+    ap (λ p. p.faults) c.fail.ensures.plan in
     let below = c.fail.ensures.later in
     record { later = omega arith; failed = omega arith }

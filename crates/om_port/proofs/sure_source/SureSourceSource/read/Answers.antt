@@ -6,8 +6,10 @@ use Rattle.om_port.proofs.sure_source.SureSourceSource.read.Goals as goal
 pub returns-clause-bytes : goal.returns-clause-bytes
 returns-clause-bytes c =
     let m = c.min-count.ensures in
-    read_step c.self.inside.bytes.items _ c.args.buf.now c.copy_from_slice.new.self c.args.self.now c.self.inside.at c.min-count.result
+    read_step c.self.inside.bytes.items _ c.args.buf.now c.copy_from_slice.new.self c.args.self.now c.self.inside.at
+    c.min-count.result
     c.self.view_is
-    (ap (λ xs. take (length xs - c.self.inside.at) (drop c.self.inside.at xs)) c.as_slice.ensures.value ∙ take_rest c.self.inside.bytes.items c.self.inside.at)
+    (ap (λ xs. take (length xs - c.self.inside.at) (drop c.self.inside.at xs)) c.as_slice.ensures.value
+    ∙ take_rest c.self.inside.bytes.items c.self.inside.at)
     (omega arith) (omega arith) (λ z some. omega arith)
     c.copy_from_slice.ensures.after

@@ -4,8 +4,10 @@ use Rattle.om_signs.proofs.sign_vec.SignVec.set.Goals as goal
 
 pub invariant_of-result : goal.invariant_of-result
 invariant_of-result c = rw (c.plus_bit.ensures, c.minus_bit.ensures)
-    ((set_made _ _ _ _ (c.args.e - 1) c.args.s c.self.invariant c.self.view_is (let l = c.requires.low in omega arith)).sound)
+    ((set_made _ _ _ _ (c.args.e - 1) c.args.s c.self.invariant c.self.view_is
+    (let l = c.requires.low in omega arith)).sound)
 
 pub returns : goal.returns
 returns c = rw (c.plus_bit.ensures, c.minus_bit.ensures)
-    ((set_made _ _ _ _ (c.args.e - 1) c.args.s c.self.invariant c.self.view_is (let l = c.requires.low in omega arith)).view)
+    ((set_made _ _ _ _ (c.args.e - 1) c.args.s c.self.invariant c.self.view_is
+    (let l = c.requires.low in omega arith)).view)

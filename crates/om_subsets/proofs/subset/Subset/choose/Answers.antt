@@ -9,4 +9,5 @@ pub returns-clause-value : goal.returns-clause-value
 returns-clause-value c = table_entry _ _ _ _ c.requires c.if-r-n.false
 
 pub returns-clause-most : goal.returns-clause-most
-returns-clause-most c = rw (table_entry c.args.n c.args.r _ _ c.requires c.if-r-n.false) (choose_most c.args.n c.args.r c.requires)
+returns-clause-most c = rw (table_entry c.args.n c.args.r _ _ c.requires c.if-r-n.false)
+    (choose_most c.args.n c.args.r c.requires)

@@ -14,10 +14,12 @@ pub returns-clause-elements : goal.returns-clause-elements
 returns-clause-elements c = first_members _ _ c.requires.part (bits_fit _ c.requires.small)
 
 pub returns-clause-size : goal.returns-clause-size
-returns-clause-size c = ap length (first_members _ _ c.requires.part (bits_fit _ c.requires.small)) ∙ length-first_of 1 c.args.r
+returns-clause-size c = ap length (first_members _ _ c.requires.part (bits_fit _ c.requires.small))
+    ∙ length-first_of 1 c.args.r
 
 pub returns-clause-place : goal.returns-clause-place
-returns-clause-place c = ap (rank_of c.args.n) (first_members _ _ c.requires.part (bits_fit _ c.requires.small)) ∙ rank-first_of 1 c.args.n c.args.r
+returns-clause-place c = ap (rank_of c.args.n) (first_members _ _ c.requires.part (bits_fit _ c.requires.small))
+    ∙ rank-first_of 1 c.args.n c.args.r
 
 pub returns-clause-lawful : goal.returns-clause-lawful
 returns-clause-lawful c = members-subset _ 1 c.args.n

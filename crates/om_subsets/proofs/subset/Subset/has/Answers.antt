@@ -7,4 +7,5 @@ returns c =
     let low = c.requires.low in
     let high = c.requires.high in
     let n_is : c.self.inside.n ≡ c.args.self.n = ap (λ v. v.n) c.self.view_is in
-    has_test _ _ c.self.inside.n c.args.e c.args.self.elements (omega arith) (omega arith) (ap (λ v. v.elements) c.self.view_is)
+    has_test _ _ c.self.inside.n c.args.e c.args.self.elements (omega arith) (omega arith)
+    (ap (λ v. v.elements) c.self.view_is)

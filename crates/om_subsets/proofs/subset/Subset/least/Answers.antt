@@ -6,7 +6,9 @@ pub loop-e-init : goal.loop-e-init
 loop-e-init c = λ k l. none_at_zero c.args.self.n k c.args.self.elements c.is_lawful.ensures.lawful l
 
 pub returns-then-has-clause-first : goal.returns-then-has-clause-first
-returns-then-has-clause-first c = least_first c.args.self.n c.loop-e.e c.args.self.elements c.is_lawful.ensures.lawful (c.has.ensures.0 c.if-has.true) c.loop-e.invariant
+returns-then-has-clause-first c =
+    least_first c.args.self.n c.loop-e.e c.args.self.elements c.is_lawful.ensures.lawful (c.has.ensures.0 c.if-has.true)
+    c.loop-e.invariant
 
 pub loop-e-preserved : goal.loop-e-preserved
 loop-e-preserved c = below_more _ _ c.loop-e.invariant (λ m. let t = c.has.ensures.1 m in cc)
@@ -14,4 +16,6 @@ loop-e-preserved c = below_more _ _ c.loop-e.invariant (λ m. let t = c.has.ensu
 pub returns-clause-first : goal.returns-clause-first
 returns-clause-first c =
     let end = c.loop-e-test.false in
-    rw c.n-last.ensures.value (last_first c.args.self.n c.args.self.elements c.is_lawful.ensures.lawful c.requires (λ k l. c.loop-e.invariant k (omega arith)))
+    rw c.n-last.ensures.value
+    (last_first c.args.self.n c.args.self.elements c.is_lawful.ensures.lawful c.requires
+    (λ k l. c.loop-e.invariant k (omega arith)))

@@ -7,7 +7,8 @@ use Rattle.om_subsets.proofs.subset.Subset.mask.Goals as goal
 
 pub returns-clause-value : goal.returns-clause-value
 returns-clause-value c =
-    sym (mask_of-members c.self.inside.mask 1 c.self.inside.n c.self.invariant.within) ∙ ap (λ v. mask_of 1 v.elements v.n) c.self.view_is
+    sym (mask_of-members c.self.inside.mask 1 c.self.inside.n c.self.invariant.within)
+    ∙ ap (λ v. mask_of 1 v.elements v.n) c.self.view_is
 
 pub returns-clause-bits : goal.returns-clause-bits
 returns-clause-bits c =

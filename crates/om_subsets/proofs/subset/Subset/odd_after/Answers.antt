@@ -7,4 +7,5 @@ returns c =
     let low = c.requires.low in
     let high = c.requires.high in
     let n_is : c.self.inside.n ≡ c.args.self.n = ap (λ v. v.n) c.self.view_is in
-    odd_test _ (c.args.e - 1) c.self.inside.n c.args.e c.args.self.elements (omega arith) (omega arith) c.self.invariant.within (ap (λ v. v.elements) c.self.view_is)
+    odd_test _ (c.args.e - 1) c.self.inside.n c.args.e c.args.self.elements (omega arith) (omega arith)
+    c.self.invariant.within (ap (λ v. v.elements) c.self.view_is)

@@ -9,14 +9,16 @@ pub overflow_sub-rank : goal.overflow_sub-rank
 overflow_sub-rank c =
     let start = rank_start c.args.self.n c.args.self.elements c.size-left.ensures.lawful in
     let n_is = ap (λ v. v.n) c.self.view_is in
-    let all = c.choose-rank.ensures.value ∙ ap (choose c.self.inside.n) c.size-left.ensures.value ∙ ap (λ k. choose k (length c.args.self.elements)) n_is in
+    let all = c.choose-rank.ensures.value ∙ ap (choose c.self.inside.n) c.size-left.ensures.value
+    ∙ ap (λ k. choose k (length c.args.self.elements)) n_is in
     omega arith
 
 pub loop-rest-init : goal.loop-rest-init
 loop-rest-init c =
     let start = rank_start c.args.self.n c.args.self.elements c.size-left.ensures.lawful in
     let n_is = ap (λ v. v.n) c.self.view_is in
-    let all = c.choose-rank.ensures.value ∙ ap (choose c.self.inside.n) c.size-left.ensures.value ∙ ap (λ k. choose k (length c.args.self.elements)) n_is in
+    let all = c.choose-rank.ensures.value ∙ ap (choose c.self.inside.n) c.size-left.ensures.value
+    ∙ ap (λ k. choose k (length c.args.self.elements)) n_is in
     let same = ap (λ v. later v.n v.elements) c.self.view_is in
     record {
       within = c.self.invariant.within;
@@ -34,7 +36,8 @@ overflow_sub-rank-in-loop-rest c =
     let some = c.loop-rest-test.true in
     let t = turn c.loop-rest.rest c.self.inside.n (omega arith) c.loop-rest.invariant.within c.self.invariant.few in
     let inv = c.loop-rest.invariant in
-    let step = c.choose-rank-in-loop-rest.ensures.value ∙ ap (choose (c.self.inside.n - (trailing_zeros w32 c.loop-rest.rest + 1))) inv.left_is in
+    let step = c.choose-rank-in-loop-rest.ensures.value
+    ∙ ap (choose (c.self.inside.n - (trailing_zeros w32 c.loop-rest.rest + 1))) inv.left_is in
     let place = t.place in
     omega arith
 
@@ -51,7 +54,8 @@ loop-rest-preserved c =
     let some = c.loop-rest-test.true in
     let t = turn c.loop-rest.rest c.self.inside.n (omega arith) c.loop-rest.invariant.within c.self.invariant.few in
     let inv = c.loop-rest.invariant in
-    let step = c.choose-rank-in-loop-rest.ensures.value ∙ ap (choose (c.self.inside.n - (trailing_zeros w32 c.loop-rest.rest + 1))) inv.left_is in
+    let step = c.choose-rank-in-loop-rest.ensures.value
+    ∙ ap (choose (c.self.inside.n - (trailing_zeros w32 c.loop-rest.rest + 1))) inv.left_is in
     let size = t.size in
     let place = t.place in
     record { within = t.within; left_is = omega arith; rank_is = omega arith }

@@ -25,7 +25,9 @@ overflow_add-place c =
     let n_is = ap (λ v. v.n) c.self.view_is in
     let few : c.args.self.n ≤ MAX_PLACES = let f = c.self.invariant.few in omega arith in
     let some = c.loop-rest-test.true in
-    let size = (reverse_turn c.loop-rest.rest c.args.self.n c.loop-rest.place (omega arith) c.loop-rest.invariant.within few).size in
+    let size =
+    (reverse_turn c.loop-rest.rest c.args.self.n c.loop-rest.place (omega arith) c.loop-rest.invariant.within
+    few).size in
     let all = ap (λ v. length v.elements) c.self.view_is in
     let most = length-members c.self.inside.mask 1 c.self.inside.n in
     let inv = c.loop-rest.invariant.place_is in
@@ -36,7 +38,9 @@ choose-rank-requires c =
     let n_is = ap (λ v. v.n) c.self.view_is in
     let few : c.args.self.n ≤ MAX_PLACES = let f = c.self.invariant.few in omega arith in
     let some = c.loop-rest-test.true in
-    let small = (reverse_turn c.loop-rest.rest c.args.self.n c.loop-rest.place (omega arith) c.loop-rest.invariant.within few).small in
+    let small =
+    (reverse_turn c.loop-rest.rest c.args.self.n c.loop-rest.place (omega arith) c.loop-rest.invariant.within
+    few).small in
     omega arith
 
 pub overflow_add-rank : goal.overflow_add-rank
@@ -44,7 +48,9 @@ overflow_add-rank c =
     let n_is = ap (λ v. v.n) c.self.view_is in
     let few : c.args.self.n ≤ MAX_PLACES = let f = c.self.invariant.few in omega arith in
     let some = c.loop-rest-test.true in
-    let rank = (reverse_turn c.loop-rest.rest c.args.self.n c.loop-rest.place (omega arith) c.loop-rest.invariant.within few).rank in
+    let rank =
+    (reverse_turn c.loop-rest.rest c.args.self.n c.loop-rest.place (omega arith) c.loop-rest.invariant.within
+    few).rank in
     let all = ap (λ v. revlex_rank_of v.elements) c.self.view_is in
     let most = reverse_small_of c.self.inside.mask c.self.inside.n c.self.invariant.few in
     let inv = c.loop-rest.invariant.rank_is in
@@ -56,7 +62,8 @@ loop-rest-preserved c =
     let n_is = ap (λ v. v.n) c.self.view_is in
     let few : c.args.self.n ≤ MAX_PLACES = let f = c.self.invariant.few in omega arith in
     let some = c.loop-rest-test.true in
-    let t = reverse_turn c.loop-rest.rest c.args.self.n c.loop-rest.place (omega arith) c.loop-rest.invariant.within few in
+    let t = reverse_turn c.loop-rest.rest c.args.self.n c.loop-rest.place (omega arith) c.loop-rest.invariant.within few
+    in
     let size = t.size in
     let rank = t.rank in
     let places = c.loop-rest.invariant.place_is in
@@ -80,7 +87,8 @@ returns-clause-small c =
     let P : Chosen → Type 0 = λ v. IsSubsetFrom 1 v.n v.elements in
     let none = no_reverse_turn c.loop-rest.rest c.args.self.n c.loop-rest.place c.loop-rest-test.false in
     let inv = c.loop-rest.invariant.rank_is in
-    let bound = reverse_small c.args.self.n c.args.self.elements (subst P c.self.view_is (members-subset c.self.inside.mask 1 c.self.inside.n)) in
+    let bound = reverse_small c.args.self.n c.args.self.elements
+    (subst P c.self.view_is (members-subset c.self.inside.mask 1 c.self.inside.n)) in
     omega arith
 
 pub returns-clause-back : goal.returns-clause-back
@@ -89,4 +97,5 @@ returns-clause-back c =
     let none = no_reverse_turn c.loop-rest.rest c.args.self.n c.loop-rest.place c.loop-rest-test.false in
     let inv = c.loop-rest.invariant.rank_is in
     let same : c.loop-rest.rank ≡ revlex_rank_of c.args.self.elements = omega arith in
-    rw same (at_reverse_rank c.args.self.n c.args.self.elements (subst P c.self.view_is (members-subset c.self.inside.mask 1 c.self.inside.n)))
+    rw same (at_reverse_rank c.args.self.n c.args.self.elements
+    (subst P c.self.view_is (members-subset c.self.inside.mask 1 c.self.inside.n)))

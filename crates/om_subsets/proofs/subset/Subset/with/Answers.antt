@@ -12,7 +12,11 @@ invariant_of-result c =
     let n_is : c.self.inside.n ≡ c.args.self.n = ap (λ v. v.n) c.self.view_is in
     let l : c.args.e - 1 < c.self.inside.n = omega arith in
     let e_is : 1 + (c.args.e - 1) ≡ c.args.e = omega arith in
-    record { within = set_fits _ _ _ c.self.invariant.within l (bits_fit _ c.self.invariant.few); few = c.self.invariant.few }
+    record {
+      within = set_fits _ _ _ c.self.invariant.within l (bits_fit _ c.self.invariant.few);
+      few =
+          c.self.invariant.few;
+    }
 
 pub returns-clause-elements : goal.returns-clause-elements
 returns-clause-elements c =
@@ -21,7 +25,8 @@ returns-clause-elements c =
     let n_is : c.self.inside.n ≡ c.args.self.n = ap (λ v. v.n) c.self.view_is in
     let l : c.args.e - 1 < c.self.inside.n = omega arith in
     let e_is : 1 + (c.args.e - 1) ≡ c.args.e = omega arith in
-    with_members _ _ 1 (c.args.e - 1) _ l (set_edit _ _ _ l (bits_fit _ c.self.invariant.few)) ∙ rw e_is (ap (λ v. with_element c.args.e v.elements) c.self.view_is)
+    with_members _ _ 1 (c.args.e - 1) _ l (set_edit _ _ _ l (bits_fit _ c.self.invariant.few))
+    ∙ rw e_is (ap (λ v. with_element c.args.e v.elements) c.self.view_is)
 
 pub returns-clause-lawful : goal.returns-clause-lawful
 returns-clause-lawful c = members-subset _ 1 c.self.inside.n

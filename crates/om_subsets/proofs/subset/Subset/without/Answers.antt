@@ -12,7 +12,9 @@ returns-clause-elements c =
     let n_is : c.self.inside.n ≡ c.args.self.n = ap (λ v. v.n) c.self.view_is in
     let l : c.args.e - 1 < c.self.inside.n = omega arith in
     let e_is : 1 + (c.args.e - 1) ≡ c.args.e = omega arith in
-    without_members _ _ 1 (c.args.e - 1) _ l (clear_edit _ _ _ c.self.invariant.within l (bits_fit _ c.self.invariant.few)) ∙ rw e_is (ap (λ v. without_element c.args.e v.elements) c.self.view_is)
+    without_members _ _ 1 (c.args.e - 1) _ l
+    (clear_edit _ _ _ c.self.invariant.within l (bits_fit _ c.self.invariant.few))
+    ∙ rw e_is (ap (λ v. without_element c.args.e v.elements) c.self.view_is)
 
 pub returns-clause-lawful : goal.returns-clause-lawful
 returns-clause-lawful c = members-subset _ 1 c.self.inside.n

@@ -13,4 +13,5 @@ returns c =
     let lt = c.if-k-choose.false in
     let few : c.args.k < choose m.elements (m.rank - 2) = omega (arith, end, lt) in
     subst (λ b. IsTrue b ↔ IsUnbalancedAt m c.args.k) (sym c.is_some.ensures)
-    (some_unbalanced m c.args.k c.unrank-p.result.elements c.first_unbalanced_of.result few c.unrank-p.ensures.elements c.first_unbalanced_of.ensures.none c.first_unbalanced_of.ensures.first)
+    (some_unbalanced m c.args.k c.unrank-p.result.elements c.first_unbalanced_of.result few c.unrank-p.ensures.elements
+    c.first_unbalanced_of.ensures.none c.first_unbalanced_of.ensures.first)
