@@ -1,10 +1,10 @@
 #!/usr/bin/env python3
 """examples/check.py
 
-Runs every command behind a `$` in the fenced blocks of the pages, and compares what it prints with what they say: a line
-`$ COMMAND` is a command, run at the top of the repository, and the lines up to the next one are its output. Commands
-of TOPCOM, nauty, GNU parallel, pv and Coq are left out where these aren't installed, and those after them that read what they wrote.
-The last line is 'examples: N passed, M failed', and the exit code is 1 where one failed.
+Runs every command after a `$` in the fenced blocks of the pages, and compares what it prints with what they say: a
+line `$ COMMAND` is a command, run at the top of the repository, and the lines up to the next one are its output.
+Commands of TOPCOM, nauty, GNU parallel, pv, Coq and polymake are left out if these aren't installed, and so are those
+that read what they wrote. The last line is 'examples: N passed, M failed', and the exit code is 1 if one failed.
 """
 import os
 import re
@@ -13,16 +13,20 @@ import subprocess
 import sys
 
 TOP = os.path.dirname(os.path.dirname(os.path.abspath(__file__)))
-PAGES = ["README.md", "examples/README.md"] + ["neighbours/" + name for name in sorted(os.listdir(os.path.join(TOP, "neighbours"))) if name.endswith(".md")]
+PAGES = ["README.md", "examples/README.md"] + ["neighbours/" + name
+                                               for name in sorted(os.listdir(os.path.join(TOP, "neighbours")))
+                                               if name.endswith(".md")]
 PAGES += sorted("docs/" + name for name in os.listdir(os.path.join(TOP, "docs")) if name.endswith(".md"))
 
 # a package, the programs of which it has one, and the words by which a command that needs it is known
 PACKAGES = [
     ("TOPCOM", ["topcom-chiro2circuits"], ["topcom-chiro", "topcom-points2", "/tmp/theirs"]),
-    ("nauty", ["labelg", "nauty-labelg"], ["labelg", "catalogue/grow", "catalogue/classes", "catalogue/classify", "/tmp/classes"]),
+    ("nauty", ["labelg", "nauty-labelg"], ["labelg", "catalogue/grow", "catalogue/classes", "catalogue/classify",
+                                           "/tmp/classes"]),
     ("GNU parallel", ["parallel"], ["parallel --", "catalogue/classify", "/tmp/classified"]),
     ("pv", ["pv"], ["pv -l"]),
     ("Coq", ["coqc"], ["coqc"]),
+    ("polymake", ["polymake"], ["polymake '"]),
 ]
 
 
@@ -47,14 +51,16 @@ def main():
     for package, _ in missing:
         print("%s isn't installed: the commands that need it are left out" % package)
     for launcher in ("./om", "./om-each"):
-        subprocess.run([launcher, "accept"], cwd=TOP, stdin=open(os.path.join(TOP, "examples", "pappus.om")), stdout=subprocess.DEVNULL)
+        subprocess.run([launcher, "accept"], cwd=TOP, stdin=open(os.path.join(TOP, "examples", "pappus.om")),
+                       stdout=subprocess.DEVNULL)
     for page in PAGES:
         with open(os.path.join(TOP, page)) as file:
             text = file.read()
         for command, wanted in sessions(text):
             if any(word in command for _, known in missing for word in known):
                 continue
-            run = subprocess.run(["bash", "-c", command], cwd=TOP, stdin=subprocess.DEVNULL, capture_output=True, text=True, timeout=60)
+            run = subprocess.run(["bash", "-c", command], cwd=TOP, stdin=subprocess.DEVNULL, capture_output=True,
+                                 text=True, timeout=300)
             if run.stdout == wanted:
                 passed += 1
             else:

@@ -1,16 +1,16 @@
 #!/usr/bin/env python3
 """neighbours/check.py
 
-Takes the shipped examples through the filters of this folder there and back; runs the table refusals.txt; gives each filter inputs
-that are cut off or changed at a byte, and streams that are closed, full or gone; asks documents.py for the lines at fault that
-the tables of rows/ tell of om; compares our circuits, cocircuits and duals with TOPCOM's where TOPCOM is installed; and runs
-the other checks of this folder, check_*.py. The last line is 'neighbours: N passed, M failed'; the exit code is 1 where one
-failed.
+Takes the shipped examples through the filters of this folder there and back; runs the table refusals.txt; gives each
+filter inputs that are cut off or changed at a byte, and streams that are closed, full or gone; asks documents.py for
+the lines at fault that the tables of rows/ tell of om; compares our circuits, cocircuits and duals with TOPCOM's if
+TOPCOM is installed; and runs the other checks of this folder, check_*.py. The last line is 'neighbours: N passed, M
+failed'; the exit code is 1 where one failed.
 
-A row of refusals.txt is `words | input | code | output | message`. In the input and the output a `/` stands for the end of a line, an
-`@` for the text that a line `@ = TEXT` above gives (`@ = TEXT * N` is N times the text), and `\\t`, `\\r` and `\\xff` are bytes.
-Where the code is 0 there is no message; else it begins with the name of the filter and has in it what the row says. A line
-with `# ` in front is a remark.
+A row of refusals.txt is `words | input | code | output | message`. In the input and the output a `/` stands for the
+end of a line, an `@` for the text that a line `@ = TEXT` above gives (`@ = TEXT * N` is N times the text), and `\\t`,
+`\\r` and `\\xff` are bytes. Where the code is 0 there is no message; else it begins with the name of the filter and
+has in it what the row says. A line with `# ` in front is a remark.
 """
 import concurrent.futures
 import glob
@@ -34,12 +34,13 @@ from filters import Refused  # noqa: E402
 EACH = os.path.join(TOP, "crates", "om_each", "out", "om_each")
 UNIFORM, POINTS = b"om 1\nchirotope 3 4\n++++\nend\n", b"om 1\npoints 3\n0 0 1\n1 0 1\n0 1 1\nend\n"
 CIRCUITS = b"om 1\ncircuits 2\n+-\n-+\nend\n"
-# each filter with its words and two inputs that it takes one behind the other, and of which each gives a text
+# each filter with its words and two inputs that it takes one after the other, and of which each gives a text
 GOOD = [("om-to-topcom", UNIFORM, UNIFORM), ("om-points-to-topcom", POINTS, POINTS), ("om-to-lists", UNIFORM, CIRCUITS),
         ("om-to-order-types 8", POINTS, POINTS),
         ("reverse-order 3 4 --back", UNIFORM, UNIFORM), ("reverse-order 3 4", b"++++\n", b"+0++\n"),
         ("order-types-to-om 3 8", b"abcdef", b"ABCDEF"), ("lists-to-om circuits", b"[[1,-1],[-1,1]]\n", b"[(1, )]\n"),
-        ("lists-to-om chirotope 3 4", b"[1,1,1,1]\n", b"[-1,0,1,1]"), ("lists-to-om points", b"[[0,0,1],[1,0,1]]\n", b"[[1,1,1]]"),
+        ("lists-to-om chirotope 3 4", b"[1,1,1,1]\n", b"[-1,0,1,1]"),
+        ("lists-to-om points", b"[[0,0,1],[1,0,1]]\n", b"[[1,1,1]]"),
         ("topcom-to-om", b"4,3:\n++++\n[[0,1,2,3]]\n", b"4,2:+-+-+-"),
         ("topcom-points-to-om", b"[[0,0,1],[1,0,1]]\n[[1,0]]\n", b"[[1,1/3,1]]\n"),
         ("topcom-sets-to-om circuits 3", b"C[0] := [{0,2},{1}];\n", b"3,2:\n{\n[{1},{2}]\n}\n"),
@@ -84,7 +85,8 @@ def shape(chirotope):
 def there_and_back(name, chirotope):
     """The pairs of filters write the same document again, and so in canonical form."""
     expect("%s by TOPCOM's form" % name, out("topcom-to-om", out("om-to-topcom", chirotope)), chirotope)
-    expect("%s by lists" % name, out("lists-to-om chirotope %s %s" % shape(chirotope), out("om-to-lists", chirotope)), chirotope)
+    expect("%s by lists" % name, out("lists-to-om chirotope %s %s" % shape(chirotope), out("om-to-lists", chirotope)),
+           chirotope)
     turned = out("reverse-order %s %s --back" % shape(chirotope), chirotope)
     expect("%s by reverse order" % name, out("reverse-order %s %s" % shape(chirotope), turned), chirotope)
     for kind in ("circuits", "covectors"):
@@ -97,8 +99,9 @@ def beside_topcom(name, chirotope):
     theirs, elements = out("om-to-topcom", chirotope), int(shape(chirotope)[1])
     for kind in ("circuits", "cocircuits"):
         sets = out("topcom-chiro2%s" % kind, theirs)
-        expect("%s of %s" % (kind, name), out("topcom-sets-to-om %s %d" % (kind, elements), sets), om("convert " + kind, chirotope))
-    # TOPCOM writes the symmetries that it was given, here the identity, behind the dual
+        expect("%s of %s" % (kind, name), out("topcom-sets-to-om %s %d" % (kind, elements), sets),
+               om("convert " + kind, chirotope))
+    # TOPCOM writes the symmetries that it was given, here the identity, after the dual
     identity = b"[[%s]]\n" % b",".join(b"%d" % element for element in range(elements))
     dual = out("topcom-to-om", out("topcom-chiro2dual", theirs + identity))
     # both up to sign: reorienting no element can't be asked for, so each is taken to its circuits
@@ -122,13 +125,16 @@ def look_at_examples(has_topcom):
 
 
 def look_at_extensions():
-    """Each line of a listing gives an extension, which has the values of its document; other documents' listings are refused."""
+    """Each line of a listing gives an extension, which has the values of its document; other documents' listings are
+    refused."""
     for signs in (b"++++", b"0+++", b"0++0"):
         document = b"om 1\nchirotope 3 4\n%s\nend\n" % signs
         listing = om("extend", document)
-        code, written, message = run(["bash", "-c", 'neighbours/extensions-to-om <(printf %s "$0") -', document], listing)
+        code, written, message = run(["bash", "-c", 'neighbours/extensions-to-om <(printf %s "$0") -', document],
+                                     listing)
         pieces = [piece + b"end\n" for piece in written.split(b"end\n")[:-1]]
-        expect("extensions of %s, one for each line" % signs, (code, len(pieces), message), (0, listing.count(b"\n") - 3, b""))
+        expect("extensions of %s, one for each line" % signs, (code, len(pieces), message),
+               (0, listing.count(b"\n") - 3, b""))
         answers = {(om("accept", piece), om("delete 5", piece)) for piece in pieces[::5]}
         expect("extensions of %s are accepted, and have its values" % signs, answers, {(b"accepted\n", document)})
     for signs in (b"+-++", b"+0++"):
@@ -145,14 +151,16 @@ def look_at_extensions():
 
 
 def look_at_faults():
-    """documents.py takes the documents of the tables of om in rows/ that om takes, and else names the line and the code that om names."""
+    """documents.py takes the documents of the tables of om in rows/ that om takes, and else names the line and the
+    code that om names."""
     loader = importlib.machinery.SourceFileLoader("rows", os.path.join(TOP, "rows", "check.py"))
     rows = importlib.util.module_from_spec(importlib.util.spec_from_loader("rows", loader))
     loader.exec_module(rows)
     for path in sorted(set(glob.glob(os.path.join(TOP, "rows", "*.txt"))) - {os.path.join(TOP, "rows", "streams.txt")}):
         for row in rows.rows_of(path):
-            # a line behind the document begins another one here, and a line may be longer than an input of om
-            if row.words == ["accept"] and row.input is not None and not row.output.endswith((b" after\n", b"refused long\n")):
+            # a line after the document begins another one here, and a line may be longer than an input of om
+            if row.words == ["accept"] and row.input is not None and not row.output.endswith((b" after\n",
+                                                                                              b"refused long\n")):
                 fault = row.output.decode().split()[2:4] if row.output.startswith(b"refused line") else []
                 try:
                     found = [] if len(list(documents(io.BytesIO(row.input)))) == 1 else ["many documents"]
@@ -166,12 +174,14 @@ def look_at_names():
     for kind in ("chirotope", "circuits", "covectors"):
         answer = om("convert " + kind, named)
         expect("names of %s" % kind, om("convert " + kind, out(words, answer)), answer)
-        expect("names of %s come back" % kind, b"names north east south west\n" in om("upgrade", out(words, answer)), True)
+        expect("names of %s come back" % kind, b"names north east south west\n" in om("upgrade", out(words, answer)),
+               True)
     claim = out(words, om("decide", named))
     expect("a claim with names", om("check", claim), b"valid realizable\n")
     # the names of a document and of a claim for one answer each, and for an answer too few and too many
     other = claim.replace(b"names north east south west", b"names a b c d")
-    for answers, code, written in ((b"circuit +000\n" * 2, 0, b"circuit +north\ncircuit +a\n"), (b"circuit +000\n", 1, b"circuit +north\n"),
+    for answers, code, written in ((b"circuit +000\n" * 2, 0, b"circuit +north\ncircuit +a\n"),
+                                   (b"circuit +000\n", 1, b"circuit +north\n"),
                                    (b"circuit +000\n" * 3, 1, b"circuit +north\ncircuit +a\n")):
         ended = run(["bash", "-c", 'neighbours/restore-names <(printf %s "$0")', named + other], answers)
         expect("names of two documents for %r" % answers, ended[:2], (code, written))
@@ -183,7 +193,8 @@ def bytes_of(text, at):
 
 
 def rows():
-    """The rows of the table: each as it stands, its words, its input, its code, its output and a part of its message."""
+    """The rows of the table: each as it stands, its words, its input, its code, its output and a part of its
+    message."""
     at = b""
     with open(os.path.join(HERE, "refusals.txt"), "rb") as file:
         lines = file.read().split(b"\n")
@@ -193,7 +204,8 @@ def rows():
             at = bytes_of(text, b"") * int(times or 1)
         elif line and not line.startswith(b"# "):
             words, given, code, output, message = line.split(b" | ")
-            yield line.decode("latin-1")[:200], words.decode().split(), bytes_of(given, at), int(code), bytes_of(output, at), message
+            yield (line.decode("latin-1")[:200], words.decode().split(), bytes_of(given, at), int(code),
+                   bytes_of(output, at), message)
 
 
 def look_at_refusals():
@@ -206,7 +218,7 @@ def look_at_refusals():
 
 
 def texts_of(answers, options, data):
-    """The texts that a filter yields for an input, and why it refuses what is behind them."""
+    """The texts that a filter yields for an input, and why it refuses what follows them."""
     sys.stdin, texts = types.SimpleNamespace(buffer=io.BytesIO(data)), []
     try:
         for text in answers(options):
@@ -217,8 +229,9 @@ def texts_of(answers, options, data):
 
 
 def look_at_changes(words, first, second):
-    """An input that is cut off behind any byte gives the first of its texts, or is refused. One in which a byte is another one is taken
-    or refused, and no text but documents comes from a filter that writes documents. All this runs in one process."""
+    """An input that is cut off after any byte gives the first of its texts, or is refused. One in which a byte is
+    another one is taken or refused, and no text but documents comes from a filter that writes documents. All this
+    runs in one process."""
     name, options, data = words.split()[0], words.split()[1:], first + second
     loader = importlib.machinery.SourceFileLoader("filter", os.path.join(HERE, name))
     module = importlib.util.module_from_spec(importlib.util.spec_from_loader("filter", loader))

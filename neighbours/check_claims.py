@@ -1,12 +1,18 @@
 #!/usr/bin/env python3
-"""neighbours/check_claims.py
+"""neighbours/check_claims.py [--coq CLAIMS..]
 
-Compares the referee with `om check` on every shipped claim, on claims with one number or sign changed, and on the claims of
-the rows; takes certificates to brackets and back, and vectors to points of the plane; and, where Coq is installed, gives the
-theorems of the shipped claims to coqc, with those of changed claims, which it has to refuse. The last line is 'claims: N
-passed, M failed'; the exit code is 1 where one failed.
+Compares the referee with `om check` on every shipped claim, on claims with one number or sign changed, and on the
+claims of the rows; takes certificates to brackets and back, and vectors to points of the plane; and, where Coq is
+installed, gives the theorems of the shipped claims to coqc, with those of changed claims, which it has to refuse. The
+last line is 'claims: N passed, M failed'; the exit code is 1 if one failed.
+
+With --coq the claims are those of these files, which may be compressed by gzip. coqc gets the file that claim-to-coq
+writes of all claims of a file. Then it gets the theorems of all these claims with one number of an entry or of a vector
+changed in each, so that `om check` refuses it: each of them has to be refused. For each file a line says how many there
+were, the seconds of a processor and the memory for the first, and the axioms.
 """
 import glob
+import gzip
 import importlib.util
 import io
 import os
@@ -21,11 +27,13 @@ TOP = os.path.dirname(os.path.dirname(os.path.abspath(__file__)))
 HERE = os.path.join(TOP, "neighbours")
 OM = os.path.join(TOP, "crates", "om", "out", "om")
 CHANGES = 100
+AXIOMS = ["ClassicalDedekindReals.sig_forall_dec", "FunctionalExtensionality.functional_extensionality_dep"]
 TALLY = {True: 0, False: 0}
 sys.path.insert(0, HERE)
 
 from claims import claims as claims_in  # noqa: E402
 from filters import Refused  # noqa: E402
+from om import pieces  # noqa: E402
 from referee import NoClaim, claims_of, judge, read  # noqa: E402
 
 
@@ -38,7 +46,8 @@ def expect(what, found, wanted):
 def run(words, data, folder=TOP):
     """The exit code, the output and the message of a program or a filter."""
     path = os.path.join(HERE, words[0])
-    ended = subprocess.run([path if os.path.exists(path) else words[0]] + words[1:], input=data, capture_output=True, cwd=folder)
+    ended = subprocess.run([path if os.path.exists(path) else words[0]] + words[1:], input=data, capture_output=True,
+                           cwd=folder)
     return ended.returncode, ended.stdout, ended.stderr
 
 
@@ -80,11 +89,12 @@ def is_read(data):
 
 
 def compare(what, data, theirs):
-    """A text of which `om check` names a line is no claim for the referee, and the answers to each other are the same. The filters
-    read those of both verdicts in rank 3."""
+    """A text of which `om check` names a line is no claim for the referee, and the answers to each other are the
+    same. The filters read those of both verdicts in rank 3."""
     expect(what, said(data), None if theirs.startswith((b"refused line ", b"refused long")) else theirs)
     if re.search(rb"(?m)^\s*(non)?realizable\s*$", data):
-        refused = (b"refused line", b"refused long", b"refused notrank3", b"refused range", b"refused notincreasing", b"refused notreversed")
+        refused = (b"refused line", b"refused long", b"refused notrank3", b"refused range", b"refused notincreasing",
+                   b"refused notreversed")
         of_rank_3 = not re.search(rb"(?m)^chirotope [^3]", data)
         expect("%s, read" % what, is_read(data), of_rank_3 and not theirs.startswith(refused))
 
@@ -92,7 +102,8 @@ def compare(what, data, theirs):
 def changed(data, chance):
     """A claim with one of its numbers or signs changed."""
     start = data.index(b"om ")
-    where = chance.choice([found for found in re.finditer(rb"-?\d+|[-+0](?=[-+0]*$)", data[start:], re.M) if found.start() > 4])
+    where = chance.choice([found for found in re.finditer(rb"-?\d+|[-+0](?=[-+0]*$)", data[start:], re.M)
+                           if found.start() > 4])
     old = where.group()
     if old in (b"+", b"-", b"0") and chance.random() < 0.7:
         new = chance.choice([s for s in (b"+", b"-", b"0") if s != old])
@@ -113,7 +124,8 @@ def look_at_referee(claims):
         for _ in range(CHANGES):
             text = changed(data, chance)
             compare("a change of %s: %r" % (name, text.decode()), text, om("check", data=text))
-    for text in (b"om 1\nchirotope 3 4\n++++\nend\n", b"", b"om 1\ncircuits 3\nend\nnonrealizable\nend\n", b"end\nend\n"):
+    for text in (b"om 1\nchirotope 3 4\n++++\nend\n", b"", b"om 1\ncircuits 3\nend\nnonrealizable\nend\n",
+                 b"end\nend\n"):
         code, answer, message = run(["referee.py"], text)
         expect("no claim: %r" % text, (code, answer, message.startswith(b"referee.py: ")), (2, b"", True))
     code, answer, _ = run(["referee.py"], b"".join(data for _, data in claims))
@@ -121,13 +133,15 @@ def look_at_referee(claims):
 
 
 def look_at_rows():
-    """The claims of the rows, with answers worked out by hand; those on lists and those of streams aren't read by the referee."""
+    """The claims of the rows, with answers worked out by hand; those on lists and those of streams aren't read by the
+    referee."""
     spec = importlib.util.spec_from_file_location("rows_check", os.path.join(TOP, "rows", "check.py"))
     rows = importlib.util.module_from_spec(spec)
     spec.loader.exec_module(rows)
     for path in sorted(set(glob.glob(os.path.join(TOP, "rows", "*.txt"))) - {os.path.join(TOP, "rows", "streams.txt")}):
         for row in rows.rows_of(path):
-            if row.words == ["check"] and row.input is not None and row.code in (0, 1) and not re.search(rb"(?m)^(co)?(circuits|covectors) ", row.input):
+            is_read = row.words == ["check"] and row.input is not None and row.code in (0, 1)
+            if is_read and not re.search(rb"(?m)^(co)?(circuits|covectors) ", row.input):
                 compare("a row: %s" % row.line[:200], row.input, row.output)
 
 
@@ -144,26 +158,29 @@ def look_at_brackets(claims):
             brackets = run(["claim-to-brackets"], data)[1]
             plain = re.sub(rb"(?m)^#.*\n", b"", data)
             expect("%s by brackets" % name, run(["brackets-to-claim", file.name], brackets)[1], plain)
-            turned = b"".join(b"%s > %s\n" % tuple(line.split(b" < ")[::-1]) if b" < " in line else line + b"\n" for line in brackets.splitlines())
+            turned = b"".join(b"%s > %s\n" % tuple(line.split(b" < ")[::-1]) if b" < " in line else line + b"\n"
+                              for line in brackets.splitlines())
             expect("%s by brackets and >" % name, run(["brackets-to-claim", file.name], turned)[1], plain)
 
 
 def claim_of(vectors):
     """A claim on the points that some vectors are, which realize them."""
     rows = ["%d %d %d" % tuple(v) for v in vectors]
-    return ("om 1\npoints %d\n%s\nend\nrealizable\n%s\nend\n" % (len(rows), "\n".join(rows), "\n".join("vector " + row for row in rows))).encode()
+    return ("om 1\npoints %d\n%s\nend\nrealizable\n%s\nend\n" %
+            (len(rows), "\n".join(rows), "\n".join("vector " + row for row in rows))).encode()
 
 
 def look_at_points(claims):
-    """Of vectors in many orientations: points with their chirotope where it has no loop and is acyclic, as `om hull` says, and
-    else a message."""
+    """Of vectors in many orientations: points with their chirotope where it has no loop and is acyclic, as `om hull`
+    says, and else a message."""
     chance = random.Random(58)
     given = {True: 0, False: 0}
     for name, data in claims:
         if b"\nrealizable" not in data:
             continue
         vectors = [row for _, row in next(claims_in(io.BytesIO(data), "realizable")).lines]
-        turned = [[[s * x for x in v] for v, s in zip(vectors, [chance.choice((1, 1, 1, -1)) for _ in vectors])] for _ in range(5)]
+        turned = [[[s * x for x in v] for v, s in zip(vectors, [chance.choice((1, 1, 1, -1)) for _ in vectors])]
+                  for _ in range(5)]
         drawn = [[[chance.randint(-4, 9) for _ in range(3)] for _ in range(chance.randint(3, 8))] for _ in range(5)]
         for text in [data] + [claim_of(vectors) for vectors in turned + drawn]:
             document, _ = parts(text)
@@ -176,8 +193,10 @@ def look_at_points(claims):
             found = om("convert", "chirotope", data=points) if points else b""
             why = b"" if gives else b"no point is a loop" if has_loop else b"the chirotope isn't acyclic"
             expect("points of %r" % text.decode(), (code, found), (0, chirotope) if gives else (1, b""))
-            expect("message %r for %r" % (message, text.decode()), message.startswith(b"claim-to-points: claim 1: " + why) != gives, True)
-            expect("points x y 1 of %r" % text.decode(), all(re.fullmatch(rb"\d+ \d+ 1", line) for line in points.splitlines()[2:-1]), True)
+            expect("message %r for %r" % (message, text.decode()),
+                   message.startswith(b"claim-to-points: claim 1: " + why) != gives, True)
+            expect("points x y 1 of %r" % text.decode(),
+                   all(re.fullmatch(rb"\d+ \d+ 1", line) for line in points.splitlines()[2:-1]), True)
             given[gives] += 1
     expect("claims that give points, and others", min(given.values()) > 5, True)
 
@@ -188,28 +207,35 @@ REFUSED = [
     ("claim-to-coq", b"", 1), ("claim-to-coq", b"om 1\nchirotope 3 3\n+\nend\n", 1), ("claim-to-coq x", CLAIM, 2),
     ("claim-to-coq", b"om 1\nchirotope 2 2\n+\nend\nnonrealizable\nend\n", 1), ("claim-to-coq", CLAIM + CLAIM[:-4], 1),
     ("claim-to-coq", b"om 1\nchirotope 3 3\n+\nend\nundecided\nweight 1 2 3 1\nexhausted\nend\n", 1),
-    ("claim-to-coq", b"om 1\ncircuits 3\nend\nnonrealizable\nend\n", 1), ("claim-to-coq", b"om 1\nwiring 3\n1-2\nend\nnonrealizable\nend\n", 1),
+    ("claim-to-coq", b"om 1\ncircuits 3\nend\nnonrealizable\nend\n", 1),
+    ("claim-to-coq", b"om 1\nwiring 3\n1-2\nend\nnonrealizable\nend\n", 1),
     ("claim-to-brackets", CLAIM, 1), ("claim-to-brackets", b"\xff\n", 1), ("claim-to-brackets x", CLAIM, 2),
     ("claim-to-brackets", 2 * b"om 1\nchirotope 3 3\n+\nend\nnonrealizable\nend\n", 1),
     ("claim-to-points", b"om 1\nchirotope 3 3\n+\nend\nnonrealizable\nend\n", 1), ("claim-to-points", b"end\nend\n", 1),
-    ("claim-to-points", CLAIM.replace(b"0 1\n", b"0 -1\n"), 1), ("claim-to-points", CLAIM.replace(b"vector 0 0 1\n", b""), 1),
+    ("claim-to-points", CLAIM.replace(b"0 1\n", b"0 -1\n"), 1),
+    ("claim-to-points", CLAIM.replace(b"vector 0 0 1\n", b""), 1),
     ("claim-to-points", CLAIM.replace(b"0 1\n", b"0 1099511627777\n"), 1), ("claim-to-points x", CLAIM, 2),
     ("brackets-to-claim", b"", 2), ("brackets-to-claim /nowhere.om", b"", 4), ("brackets-to-claim examples", b"", 4),
-    ("brackets-to-claim examples/non-pappus-claim.om", b"", 1)] + [("brackets-to-claim examples/non-pappus.om", line, 1) for line in (
-        b"[134][179] < [137]\n", b"[134][179] [137][149]\n", b"[134][179] < [137][148]\n", b"[134]^2[179] < [137][149]\n", b"x\n",
-        b"[134][179] < [179][134]\n", b"[134]^0[179]^0 < [137]^0[149]^0\n", b"[134][1,7,10] < [137][1,4,10]\n", b"[114][179] < [137][149]\n")]
+    ("brackets-to-claim examples/non-pappus-claim.om", b"", 1),
+] + [("brackets-to-claim examples/non-pappus.om", line, 1) for line in (
+    b"[134][179] < [137]\n", b"[134][179] [137][149]\n", b"[134][179] < [137][148]\n", b"[134]^2[179] < [137][149]\n",
+    b"x\n", b"[134][179] < [179][134]\n", b"[134]^0[179]^0 < [137]^0[149]^0\n", b"[134][1,7,10] < [137][1,4,10]\n",
+    b"[114][179] < [137][149]\n")]
 
 
 def look_at_refusals():
     for words, data, code in REFUSED:
         ended, output, message = run(words.split(), data)
-        expect("%s on %r" % (words, data), (ended, output, message.startswith(words.split()[0].encode() + b": "), b"Traceback" in message), (code, b"", True, False))
+        expect("%s on %r" % (words, data), (ended, output, message.startswith(words.split()[0].encode() + b": "),
+                                            b"Traceback" in message), (code, b"", True, False))
     for words in ("referee.py", "claim-to-coq", "claim-to-points"):
         with open("/dev/full", "wb") as full:
-            ended = subprocess.run([os.path.join(HERE, words)], input=CLAIM, stdout=full, stderr=subprocess.PIPE, cwd=TOP)
+            ended = subprocess.run([os.path.join(HERE, words)], input=CLAIM, stdout=full, stderr=subprocess.PIPE,
+                                   cwd=TOP)
         expect("%s without room" % words, (ended.returncode, b"Traceback" in ended.stderr), (5, False))
     code, output, message = run(["claim-to-points"], CLAIM.replace(b"0 1\n", b"0 -1\n") + CLAIM)
-    expect("a stream goes on behind a claim that gives no points", (code, output.count(b"end\n"), message.count(b"claim 1: ")), (1, 1, 1))
+    expect("a stream goes on behind a claim that gives no points",
+           (code, output.count(b"end\n"), message.count(b"claim 1: ")), (1, 1, 1))
 
 
 # ---- Coq
@@ -222,15 +248,30 @@ def compiled(folder, name, text):
     return code == 0, output, message.decode()
 
 
+def measured(folder, name, text):
+    """Whether coqc accepts a file, what it writes, its seconds of a processor and the greatest memory in MB."""
+    with open(os.path.join(folder, name), "wb") as file:
+        file.write(text)
+    with tempfile.TemporaryFile() as output:
+        process = subprocess.Popen(["coqc", "-q", name], cwd=folder, stdout=output, stderr=subprocess.STDOUT)
+        _, status, used = os.wait4(process.pid, 0)
+        process.returncode = os.waitstatus_to_exitcode(status)
+        output.seek(0)
+        return status == 0, output.read().decode(), used.ru_utime + used.ru_stime, used.ru_maxrss / 1024
+
+
 def theorems(claims, general):
     """What claim-to-coq writes of some claims, with its general part taken from where that is compiled."""
     text = run(["claim-to-coq"], b"".join(claims))[1]
     expect("the general part in front", text.startswith(general), True)
-    return b"From Coq Require Import Reals List Bool Arith ZArith.\nImport ListNotations.\nRequire Import certificates.\n" + text[len(general):]
+    head = (b"From Coq Require Import Reals List Bool Arith ZArith.\nImport ListNotations.\n"
+            b"Require Import certificates.\n")
+    return head + text[len(general):]
 
 
 def changed_block(data, chance):
-    """A claim with one number of its block changed, and what `om check` says of it; a claim still, if not a valid one."""
+    """A claim with one number of its block changed, and what `om check` says of it; a claim still, if not a valid
+    one."""
     document, block = parts(data)
     while True:
         text = document + changed(b"om " + block, chance)[3:]
@@ -240,17 +281,17 @@ def changed_block(data, chance):
 
 
 def look_at_coq(claims):
-    """coqc accepts the theorems of the shipped claims, and refuses the theorem of a changed claim. What Coq computes of many
-    changed claims, and on which their theorems rest, is what `om check` says of them."""
+    """coqc accepts the theorems of the shipped claims, and refuses the theorem of a changed claim. What Coq computes
+    of many changed claims, and on which their theorems rest, is what `om check` says of them."""
     chance = random.Random(59)
     proving = [(name, data) for name, data in claims if re.search(rb"(?m)^(non)?realizable$", data)]
     with open(os.path.join(HERE, "certificates.v"), "rb") as file:
         general = file.read()
     with tempfile.TemporaryDirectory() as folder:
-        good, output, message = compiled(folder, "shipped.v", run(["claim-to-coq"], b"".join(data for _, data in proving))[1])
+        good, output, message = compiled(folder, "shipped.v",
+                                         run(["claim-to-coq"], b"".join(data for _, data in proving))[1])
         expect("the theorems of the shipped claims: %s" % message, good, True)
-        axioms = [b"Axioms", b"ClassicalDedekindReals.sig_forall_dec", b"FunctionalExtensionality.functional_extensionality_dep"]
-        expect("the axioms of these theorems", re.findall(rb"(?m)^([\w.]+)", output), axioms)
+        expect("the axioms of these theorems", re.findall(r"(?m)^\w+\.\w+", output.decode()), AXIOMS)
         expect("the general part", compiled(folder, "certificates.v", general)[0], True)
         for name, data in proving:
             for _ in range(2):
@@ -258,11 +299,15 @@ def look_at_coq(claims):
                 while answer.startswith(b"valid"):
                     text, answer = changed_block(data, chance)
                 good, _, message = compiled(folder, "changed.v", theorems([text], general))
-                expect("the theorem of a changed claim, %r" % text.decode(), (good, "The term \"eq_refl\"" in message), (False, True))
+                expect("the theorem of a changed claim, %r" % text.decode(), (good, "The term \"eq_refl\"" in message),
+                       (False, True))
         many = [changed_block(data, chance) for _, data in proving for _ in range(10)]
         text = theorems([text for text, _ in many], general).decode()
-        text = re.sub(r"Theorem no_real_vectors .*\nProof.*", "Eval vm_compute in is_certificate chirotope certificate.", text[:text.index("Definition theorems")])
-        text = re.sub(r"Theorem these_vectors : length vectors = (\d+) .*\nProof.*", r"Eval vm_compute in (length vectors =? \1) && are_signs_of vectors chirotope.", text)
+        text = re.sub(r"Theorem no_real_vectors .*\nProof.*",
+                      "Eval vm_compute in is_certificate chirotope certificate.",
+                      text[:text.index("Definition theorems")])
+        text = re.sub(r"Theorem these_vectors : length vectors = (\d+) .*\nProof.*",
+                      r"Eval vm_compute in (length vectors =? \1) && are_signs_of vectors chirotope.", text)
         _, output, message = compiled(folder, "many.v", text.encode())
         found = re.findall(rb"= (true|false)", output)
         expect("as many answers of Coq: %s" % message, len(found), len(many))
@@ -270,18 +315,61 @@ def look_at_coq(claims):
             expect("what Coq computes of %r" % text.decode(), computed == b"true", answer.startswith(b"valid"))
 
 
+def claims_of_file(path):
+    with (gzip.open if path.endswith(".gz") else open)(path, "rb") as file:
+        return [piece for piece in pieces(file, 2) if piece.strip()]
+
+
+def refused_claim(data, chance):
+    """A claim with one number of its block changed, which `om check` refuses."""
+    while True:
+        text, answer = changed_block(data, chance)
+        if answer.startswith(b"refused"):
+            return text
+
+
+def by_coq(path):
+    """The theorems of the claims of a file, and of these claims with a number changed. `Fail Qed` lets Coq go on
+    where it refuses a proof, and stops it where it accepts one. So it has to stop at the last one, of a claim that
+    isn't changed."""
+    claims, chance = claims_of_file(path), random.Random(60)
+    changed = [refused_claim(data, chance) for data in claims]
+    both = claims, changed + claims[-1:]
+    text, others = (run(["claim-to-coq"], b"".join(each))[1].decode() for each in both)
+    with open(os.path.join(HERE, "certificates.v")) as file:
+        general = len(file.read())
+    proof = re.compile("(?m)^(Proof.*vm_cast_no_check.*) Qed[.]$")
+    others, count = proof.subn(r"\1 Fail Qed. Abort.", others[general:].partition("\nDefinition theorems")[0])
+    with tempfile.TemporaryDirectory() as folder:
+        good, output, seconds, memory = measured(folder, "claims.v", text.encode())
+        axioms = re.findall(r"(?m)^\w+\.\w+", output)
+        expect("the theorems of %s: %.2000s" % (path, output), (good, axioms), (True, AXIOMS))
+        others = text[:general] + others
+        last = 'line %d,' % (others[:others.rindex("Fail Qed")].count("\n") + 1)
+        stopped, said, *_ = measured(folder, "others.v", others.encode())
+        found = (count, stopped, "has not failed" in said, last in said)
+        wanted = len(claims) + 1, False, True, True
+        expect("the theorems of %s with a number changed: %.2000s" % (path, said), found, wanted)
+    print("%s: %d theorems, %.1f seconds of a processor, %.0f MB; axioms: %s; %d with a number changed" % (
+        path, len(claims), seconds, memory, " and ".join(axioms), len(changed)), flush=True)
+
+
 def main():
     subprocess.run(["./om", "accept"], cwd=TOP, stdin=subprocess.DEVNULL, stdout=subprocess.DEVNULL)
-    claims = list(shipped())
-    look_at_referee(claims)
-    look_at_rows()
-    look_at_brackets(claims)
-    look_at_points(claims)
-    look_at_refusals()
-    if shutil.which("coqc"):
-        look_at_coq(claims)
-    else:
+    paths, has_coq = sys.argv[2:] if sys.argv[1:2] == ["--coq"] else [], shutil.which("coqc")
+    if not paths:
+        claims = list(shipped())
+        look_at_referee(claims)
+        look_at_rows()
+        look_at_brackets(claims)
+        look_at_points(claims)
+        look_at_refusals()
+        if has_coq:
+            look_at_coq(claims)
+    if not has_coq:
         print("Coq isn't installed: the theorems of the claims are not checked")
+    for path in paths if has_coq else []:
+        by_coq(path)
     print("claims: %d passed, %d failed" % (TALLY[True], TALLY[False]))
     return 1 if TALLY[False] or not TALLY[True] else 0
 

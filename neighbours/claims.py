@@ -1,7 +1,8 @@
-"""claims.py: the claims of om with vectors or with a certificate, as docs/FORMATS.md says them, for the filters of this folder.
+"""claims.py: the claims of om with vectors or with a certificate, as docs/FORMATS.md says them, for the filters of
+this folder.
 
-`claims` reads a stream of them, one behind the other, and yields each once its last line was read. Whether the evidence holds
-isn't asked here. Python's standard library alone.
+`claims` reads a stream of them, one after the other, and yields each once its last line was read. Whether the
+evidence holds isn't asked here. Python's standard library alone.
 """
 from collections import namedtuple
 from itertools import combinations
@@ -12,12 +13,14 @@ from filters import MAX_COORDINATE, Refused, number_of, shown
 VECTOR, ENTRY = [(-MAX_COORDINATE, MAX_COORDINATE)] * 3, [(1, 20)] * 5 + [(1, 3)] * 2 + [(1, 2**63)]
 BLOCKS = {"realizable": {"vector": VECTOR}, "nonrealizable": {"lt": ENTRY, "eq": ENTRY}}
 
-# The lines of a block are pairs of a first word and its numbers; the chirotope has the sign -1, 0 or 1 of each increasing triple.
+# The lines of a block are pairs of a first word and its numbers; the chirotope has the sign -1, 0 or 1 of each
+# increasing triple.
 Claim = namedtuple("Claim", "document verdict lines chirotope")
 
 
 def claims(file, *verdicts):
-    """The claims of a stream, each with one of these verdicts, `realizable` or `nonrealizable`. An empty stream is refused."""
+    """The claims of a stream, each with one of these verdicts, `realizable` or `nonrealizable`. An empty stream is
+    refused."""
     lines, count = Lines(file), 0
     rest = iter(lines)
     for words in rest:
@@ -36,7 +39,8 @@ def block(rest, verdicts):
     """The verdict and the lines of a block."""
     words, lines = next(rest, None), []
     if words is None or len(words) != 1 or words[0] not in verdicts:
-        raise Refused("claim: the verdict %s is wanted%s" % (" or ".join(verdicts), "" if words is None else ", and not %s" % shown(" ".join(words))))
+        raise Refused("claim: the verdict %s is wanted%s" %
+                      (" or ".join(verdicts), "" if words is None else ", and not %s" % shown(" ".join(words))))
     for first, *written in rest:
         if [first, *written] == ["end"]:
             return words[0], lines
@@ -63,8 +67,8 @@ def signs_of_vectors(vectors):
 
 
 def signs_of(document):
-    """The chirotope of a document. Of a wiring it is + where the wires a and b cross before b and c, - where later, and 0 where at
-    once."""
+    """The chirotope of a document. Of a wiring it is + where the wires a and b cross before b and c, - where later,
+    and 0 where at once."""
     if document.kind == "points":
         return signs_of_vectors(document.body)
     triples = combinations(range(1, document.elements + 1), 3)
@@ -86,4 +90,5 @@ def signs_of(document):
 
 def brackets(a, b, c, d, e):
     """The two brackets of each term of [abc][ade] - [abd][ace] + [abe][acd] = 0, as increasing triples."""
-    return [[tuple(sorted(p)) for p in term] for term in (((a, b, c), (a, d, e)), ((a, b, d), (a, c, e)), ((a, b, e), (a, c, d)))]
+    terms = ((a, b, c), (a, d, e)), ((a, b, d), (a, c, e)), ((a, b, e), (a, c, d))
+    return [[tuple(sorted(p)) for p in term] for term in terms]

@@ -1,7 +1,7 @@
 """documents.py: the documents of om, as docs/FORMATS.md says them, for the filters of this folder.
 
-`documents` reads a stream of them, one behind the other, in version 1 or 2, and yields each once its line `end` was read; a
-fault is named by its code in docs/FORMATS.md. `Document.text` writes one. Python's standard library alone.
+`documents` reads a stream of them, one after the other, in version 1 or 2, and yields each once its line `end` was
+read; a fault is named by its code in docs/FORMATS.md. `Document.text` writes one. Python's standard library alone.
 """
 import itertools
 import math
@@ -19,14 +19,17 @@ OPPOSITE = str.maketrans("+-", "-+")
 
 
 class Document:
-    """A document. The body of a chirotope is the text of its values in lexicographic order; other bodies are lists: of members as
-    texts, of blocks as pairs, of points as triples. The rank is that of a chirotope, and 0 for other kinds."""
+    """A document. The body of a chirotope is the text of its values in lexicographic order; other bodies are lists:
+    of members as texts, of blocks as pairs, of points as triples. The rank is that of a chirotope, and 0 for other
+    kinds."""
 
     def __init__(self, kind, elements, body, rank=0, names=None):
         self.kind, self.elements, self.rank, self.names, self.body = kind, elements, rank, names, body
 
     def head(self):
-        return "chirotope %d %d" % (self.rank, self.elements) if self.kind == "chirotope" else "%s %d" % (self.kind, self.elements)
+        if self.kind == "chirotope":
+            return "chirotope %d %d" % (self.rank, self.elements)
+        return "%s %d" % (self.kind, self.elements)
 
     def text(self):
         """The document in version 1, or in version 2 where it has names. Members stand in their own order."""
@@ -54,8 +57,8 @@ class Lines:
 
 
 def documents(file, *kinds, claims=False):
-    """The documents of a stream, each of one of these kinds, or of any where none is named. With `claims` they may be claims, whose
-    verdicts are passed over. An empty stream is refused."""
+    """The documents of a stream, each of one of these kinds, or of any where none is named. With `claims` they may be
+    claims, whose verdicts are passed over. An empty stream is refused."""
     lines, count = Lines(file), 0
     rest = iter(lines)
     for words in rest:
@@ -111,7 +114,8 @@ class Reader:
         raise Refused("missing: the input ends before the line `end` of the document")
 
     def take_setting(self, first, values):
-        may = {"names": len(set(values)) == len(values) == self.elements and all(NAME.fullmatch(name) for name in values),
+        may = {"names": len(set(values)) == len(values) == self.elements
+               and all(NAME.fullmatch(name) for name in values),
                "order": self.kind == "chirotope" and values in (["lex"], ["revlex"]),
                "half": self.kind in LISTS and not values}
         if not may[first] or first in self.settings or first == "names" and self.settings:
@@ -147,7 +151,8 @@ def point_of(words):
     """The point of three words."""
     point = [number_of(word, -MAX_COORDINATE, MAX_COORDINATE) for word in words]
     if len(point) != 3 or None in point:
-        raise Refused("number: a point is three whole numbers of size at most 2^40, and not %s" % shown(" ".join(words)))
+        raise Refused("number: a point is three whole numbers of size at most 2^40, and not %s" %
+                      shown(" ".join(words)))
     return tuple(point)
 
 

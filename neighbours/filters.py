@@ -1,7 +1,7 @@
 """filters.py: how the filters of this folder read, refuse and end.
 
-`run` writes the texts that a filter yields, each of them whole, and ends it as om ends: with 0; or with 1 where the input is
-refused, 2 for wrong words, 4 where reading failed, 5 where writing failed. Python's standard library alone.
+`run` writes the texts that a filter yields, each of them whole, and ends it as om ends: with 0; or with 1 where the
+input is refused, 2 for wrong words, 4 where reading failed, 5 where writing failed. Python's standard library alone.
 """
 import math
 import os
@@ -28,6 +28,9 @@ def run(answers, usage):
         end(4, "reading failed: standard input is closed")
     if sys.stdout is None:
         end(5, "writing failed: standard output is closed")
+    for stream in sys.stdin, sys.stdout:
+        # another program may have left a stream that doesn't wait: where it only pauses it would seem to end
+        os.set_blocking(stream.fileno(), True)
     texts, code, reason = answers(sys.argv[1:]), 0, ""
     while True:
         try:
@@ -35,9 +38,11 @@ def run(answers, usage):
         except Refused as refused:
             text, code, reason = None, 1, str(refused)
         except WrongWords as wrong:
-            text, code, reason = None, 2, "wrong words%s%s. It is\n%s" % (": " if str(wrong) else "", wrong, usage.strip())
+            text, code, reason = None, 2, "wrong words%s%s. It is\n%s" % (": " if str(wrong) else "", wrong,
+                                                                          usage.strip())
         except OSError as fault:
-            text, code, reason = None, 4, "reading failed: %s%s" % (fault.strerror, ": %r" % fault.filename if fault.filename else "")
+            text, code, reason = None, 4, "reading failed: %s%s" % (fault.strerror, ": %r" % fault.filename
+                                                                    if fault.filename else "")
         if text is None:
             end(code, reason)
         try:
@@ -52,10 +57,17 @@ def run(answers, usage):
 def end(code, reason):
     """Ends the process. What couldn't be written is not written a second time, as the interpreter would."""
     try:
-        if reason and sys.stderr is not None:
-            print("%s: %s" % (os.path.basename(sys.argv[0]), reason), file=sys.stderr, flush=True)
+        if reason:
+            say(reason)
     finally:
         os._exit(code)
+
+
+def say(reason):
+    """A message behind the name of the filter. Where standard error is closed it is left out: print would put it among
+    the data."""
+    if sys.stderr is not None:
+        print("%s: %s" % (os.path.basename(sys.argv[0]), reason), file=sys.stderr, flush=True)
 
 
 def numbered_lines(file):
@@ -95,7 +107,8 @@ def check_shape(elements, rank=0):
         raise Refused("rank: %d, of %d elements" % (rank, elements))
     values = math.comb(elements, rank)
     if values > MAX_VALUES:
-        raise Refused("size: rank %d on %d elements has %d values, and a document at most %d" % (rank, elements, values, MAX_VALUES))
+        raise Refused("size: rank %d on %d elements has %d values, and a document at most %d" %
+                      (rank, elements, values, MAX_VALUES))
 
 
 def shape_of(words):
@@ -119,7 +132,8 @@ def check_signs(signs, wanted):
 
 
 def rows(text):
-    """The rows of a list of lists, as Python, Sage and TOPCOM write it, each as its words; None where the text is none."""
+    """The rows of a list of lists, as Python, Sage and TOPCOM write it, each as its words; None where the text is
+    none."""
     row = r"\s*[\[(]([^\[\]()]*)[\])]\s*"
     if not re.fullmatch(r"\s*\[\s*(%s(,%s)*,?)?\s*\]\s*" % (row, row), text, re.ASCII):
         return None
@@ -137,4 +151,5 @@ def row_of(text):
 
 def are_symmetries(symmetries, elements):
     """Whether rows are permutations of 0 to one less than the number of elements."""
-    return symmetries is not None and all(sorted(row) == sorted(str(element) for element in range(elements)) for row in symmetries)
+    return symmetries is not None and all(sorted(row) == sorted(str(element) for element in range(elements))
+                                          for row in symmetries)

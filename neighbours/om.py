@@ -1,13 +1,15 @@
-"""om.py: the answers of om on plain Python values, in one file that needs Python's standard library alone (3.8 or later).
+"""om.py: the answers of om on plain Python values, in one file that needs Python's standard library alone (3.8 or
+later).
 
     from om import Document, Workbench
     om = Workbench()
     om.convert(Document.chirotope(3, 4, "++++"), "circuits").body      # ((-1, 1, -1, 1), (1, -1, 1, -1))
 
-A `Workbench` holds the program om_each open over two pipes, one for each command, and starts it again where the words of
-the command change, so a question costs about a tenth of a millisecond and no start of a process. Signs are -1, 0 and 1; what
-takes signs also takes a text as "+-0". What takes a document takes a `Document`, or its text. Each refusal is `Refused`
-with the program's own line, each limit `Limit`; a program that ended is `Died`, and the next question starts it anew.
+A `Workbench` holds the program om_each open over two pipes, one for each command, and starts it again where the words
+of the command change, so a question costs about a tenth of a millisecond and no start of a process. Signs are -1, 0
+and 1; what takes signs also takes a text as "+-0". What takes a document takes a `Document`, or its text. Each
+refusal is `Refused` with the program's own line, each limit `Limit`; a program that ended is `Died`, and the next
+question starts it anew.
 """
 from __future__ import annotations
 
@@ -23,7 +25,8 @@ Vector = Tuple[int, ...]
 Signs = Union[str, Iterable[int]]
 LISTS = ("circuits", "cocircuits", "covectors")
 MAX_INPUT = 1_048_576
-CODES = {4: "reading failed", 5: "writing failed", 6: "memory ran out", 7: "a word isn't text in UTF-8, or the program couldn't be built"}
+CODES = {4: "reading failed", 5: "writing failed", 6: "memory ran out",
+         7: "a word isn't text in UTF-8, or the program couldn't be built"}
 
 
 class Error(Exception):
@@ -67,7 +70,8 @@ def sign_vector(text: str) -> Vector:
 
 def words_of(line: bytes) -> List[bytes]:
     """The words of a line, without its comment."""
-    return [it for it in line.partition(b"#")[0].replace(b"\t", b" ").replace(b"\r", b" ").replace(b"\n", b" ").split(b" ") if it]
+    blanks = bytes.maketrans(b"\t\r\n", b"   ")
+    return [it for it in line.partition(b"#")[0].translate(blanks).split(b" ") if it]
 
 
 def pieces(lines: Iterable[bytes], ends: int = 1) -> Iterator[bytes]:
@@ -89,11 +93,15 @@ def pieces(lines: Iterable[bytes], ends: int = 1) -> Iterator[bytes]:
 
 
 def closed_piece(text: bytes, ends: int) -> Optional[bytes]:
-    """A text that is a single piece and has the line that closes it, up to this line; else nothing: om itself answers it."""
-    if text.startswith(b"om ") and text.endswith(b"\nend\n") and text.count(b"end") == text.count(b"\nend\n") == ends and text.count(b"om") == 1:
+    """A text that is a single piece and has the line that closes it, up to this line; else nothing: om itself answers
+    it."""
+    is_plain = text.startswith(b"om ") and text.endswith(b"\nend\n") and text.count(b"om") == 1
+    if is_plain and text.count(b"end") == text.count(b"\nend\n") == ends:
         return text if len(text) <= MAX_INPUT else None
     found = list(itertools.islice(pieces(io.BytesIO(text), ends), 2))
-    if len(found) != 1 or len(text) > MAX_INPUT or sum(words_of(it) == [b"end"] for it in found[0].split(b"\n")) != ends:
+    if len(found) != 1 or len(text) > MAX_INPUT:
+        return None
+    if sum(words_of(it) == [b"end"] for it in found[0].split(b"\n")) != ends:
         return None
     return found[0] if found[0].endswith(b"\n") else found[0] + b"\n"
 
@@ -116,7 +124,8 @@ class Document(NamedTuple):
         return cls("chirotope", int(elements), sign_vector(sign_text(values)), int(rank), tuple(names))
 
     @classmethod
-    def of_members(cls, kind: str, members: Iterable[Signs], elements: Optional[int] = None, names: Sequence[str] = ()) -> Document:
+    def of_members(cls, kind: str, members: Iterable[Signs], elements: Optional[int] = None,
+                   names: Sequence[str] = ()) -> Document:
         """A list of the kind circuits, cocircuits or covectors; an empty one needs the number of elements."""
         body = tuple(sign_vector(sign_text(it)) for it in members)
         if kind not in LISTS:
@@ -185,7 +194,8 @@ class Document(NamedTuple):
 
     def __str__(self) -> str:
         """The text of the document: of version 2 where it has names."""
-        lines = ["om 2" if self.names else "om 1", " ".join([self.kind] + ([str(self.rank)] if self.kind == "chirotope" else []) + [str(self.elements)])]
+        lines = ["om 2" if self.names else "om 1",
+                 " ".join([self.kind] + ([str(self.rank)] if self.kind == "chirotope" else []) + [str(self.elements)])]
         lines += ["names " + " ".join(self.names)] if self.names else []
         if self.kind == "chirotope":
             values = sign_text(self.body)
@@ -197,12 +207,15 @@ class Document(NamedTuple):
         return "\n".join(lines + ["end", ""])
 
     def extended(self, signature: Signs) -> Document:
-        """The chirotope of rank 3 with one element more, whose value with each pair a < b of old ones the signature gives."""
+        """The chirotope of rank 3 with one element more, whose value with each pair a < b of old ones the signature
+        gives."""
         if self.kind != "chirotope" or self.rank != 3:
             raise ValueError("a signature extends a chirotope of rank 3")
         values = dict(zip(itertools.combinations(range(self.elements), 3), self.body))
-        values.update(zip((it + (self.elements,) for it in itertools.combinations(range(self.elements), 2)), sign_vector(sign_text(signature))))
-        return Document.chirotope(3, self.elements + 1, [values[it] for it in itertools.combinations(range(self.elements + 1), 3)])
+        values.update(zip((it + (self.elements,) for it in itertools.combinations(range(self.elements), 2)),
+                          sign_vector(sign_text(signature))))
+        return Document.chirotope(3, self.elements + 1,
+                                  [values[it] for it in itertools.combinations(range(self.elements + 1), 3)])
 
 
 class Extensions(NamedTuple):
@@ -234,7 +247,8 @@ class Claim(NamedTuple):
     @property
     def vectors(self) -> Tuple[Vector, ...]:
         """The vectors that realize the chirotope, of the verdict realizable."""
-        return tuple(tuple(map(int, it.split()[1:])) for it in self.lines if it.startswith("vector ")) if self.verdict == "realizable" else ()
+        return tuple(tuple(map(int, it.split()[1:])) for it in self.lines
+                     if it.startswith("vector ")) if self.verdict == "realizable" else ()
 
     @property
     def entries(self) -> Tuple[tuple, ...]:
@@ -249,7 +263,8 @@ class Claim(NamedTuple):
 
 
 class Hull(NamedTuple):
-    """Where there is one, the first circuit without minus; else the extreme elements and those inside, each with its evidence."""
+    """Where there is one, the first circuit without minus; else the extreme elements and those inside, each with its
+    evidence."""
 
     circuit: Optional[Vector]
     extreme: Dict[int, Vector]
@@ -274,7 +289,8 @@ class Made(NamedTuple):
 
 
 def program(name: str) -> str:
-    """The path of the program om or om_each: built in the repository or the archive that this file lies in, installed, or found on the path."""
+    """The path of the program om or om_each: built in the repository or the archive that this file lies in,
+    installed, or found on the path."""
     here = os.path.dirname(os.path.abspath(__file__))
     launcher = name.replace("_", "-")
     for path in ("../crates/%s/out/%s" % (name, name), "../" + launcher, "../../../libexec/om/" + name):
@@ -282,7 +298,8 @@ def program(name: str) -> str:
             return os.path.normpath(os.path.join(here, path))
     found = shutil.which(launcher) or shutil.which(name)
     if found is None:
-        raise FileNotFoundError("the program %s isn't built: ./%s accept < examples/pappus.om builds it" % (name, launcher))
+        raise FileNotFoundError("the program %s isn't built: ./%s accept < examples/pappus.om builds it" %
+                                (name, launcher))
     return found
 
 
@@ -325,7 +342,8 @@ class Workbench:
             if held is not None:
                 self._end(words[0])
             self._each = self._each or program("om_each")
-            self._open[words[0]] = words, subprocess.Popen([self._each, *words], stdin=subprocess.PIPE, stdout=subprocess.PIPE)
+            self._open[words[0]] = words, subprocess.Popen([self._each, *words], stdin=subprocess.PIPE,
+                                                           stdout=subprocess.PIPE)
         return self._open[words[0]][1]
 
     def _line(self, words: Tuple[str, ...], process: subprocess.Popen) -> str:
@@ -336,8 +354,8 @@ class Workbench:
         return line[:-1]
 
     def _ask(self, words: Tuple[str, ...], text: bytes) -> List[str]:
-        """The lines of the answer to one closed piece; its first line tells with which one it ends. Where the talk breaks
-        off, the program is ended, so that no later question gets the rest."""
+        """The lines of the answer to one closed piece; its first line tells with which one it ends. Where the talk
+        breaks off, the program is ended, so that no later question gets the rest."""
         with self._turn:
             process = self._process(words)
             try:
@@ -433,8 +451,10 @@ class Workbench:
         lines = self._said(["extend", "--first=%d" % first], document)
         return Extensions(tuple(map(sign_vector, lines[2:-1])), lines[-1] == "end")
 
-    def decide(self, document: Union[Document, str], box: int = 6, steps: int = 2_000_000, pivots: int = 20_000) -> Claim:
-        """The claim that realizes a chirotope of rank 3, or shows that nothing does, or that there is no certificate; else Limit."""
+    def decide(self, document: Union[Document, str], box: int = 6, steps: int = 2_000_000,
+               pivots: int = 20_000) -> Claim:
+        """The claim that realizes a chirotope of rank 3, or shows that nothing does, or that there is no certificate;
+        else Limit."""
         lines = self._said(["decide", "--box=%d" % box, "--steps=%d" % steps, "--pivots=%d" % pivots], document)
         text = "\n".join(lines + [""])
         claim = Claim.read(text)
@@ -466,7 +486,8 @@ class Workbench:
         return self._document(["lexext", *("%+d" % int(it) for it in elements)], document)
 
     def threeterm(self, document: Union[Document, str]) -> bool:
-        """True where the map of a chirotope document meets the three-term test; else Refused has the first part that fails."""
+        """True where the map of a chirotope document meets the three-term test; else Refused has the first part that
+        fails."""
         return self._said(["threeterm"], document) == ["accepted"]
 
     def upgrade(self, document: Union[Document, str]) -> Document:

@@ -1,11 +1,11 @@
 #!/usr/bin/env python3
 """referee.py < CLAIMS : what `om check` says of a claim, by the definitions and by nothing of om's code.
 
-Each claim, a document and a verdict block (docs/FORMATS.md), gets the line that `om check` prints. The exit code is 0 where
-all are valid, 1 where one is refused. A text that is no claim is refused on standard error with code 2, and so is one on
-circuits, cocircuits or covectors: `om convert chirotope` turns these into a document that is read. There is no limit on the
-length of a text. This file stands alone: its first half reads the format, its second half judges. Python's standard library
-alone.
+Each claim, a document and a verdict block (docs/FORMATS.md), gets the line that `om check` prints. The exit code is 0
+where all are valid, 1 where one is refused. A text that is no claim is refused on standard error with code 2, and so
+is one on circuits, cocircuits or covectors: `om convert chirotope` turns these into a document that is read. There is
+no limit on the length of a text. This file stands alone: its first half reads the format, its second half judges.
+Python's standard library alone.
 """
 import os
 import re
@@ -17,13 +17,17 @@ from math import comb
 # ---- The format
 
 # What the words of a line of a block are: whole numbers, each from a least to a greatest one, or one of some words.
-ELEMENT, TERM, COORDINATE, PLAIN, STAGE = (1, 20), (1, 3), (-2**40, 2**40), (0, 999999), {"price", "column", "update", "scale"}
+ELEMENT, TERM, COORDINATE, PLAIN = (1, 20), (1, 3), (-2**40, 2**40), (0, 999999)
+STAGE = {"price", "column", "update", "scale"}
 ENTRY = [ELEMENT] * 5 + [TERM] * 2 + [(1, 2**63)]
-FORMS = {"vector": [COORDINATE] * 3, "lt": ENTRY, "eq": ENTRY, "weight": [ELEMENT] * 3 + [(-2**100, 2**100)], "exhausted": [], "frontier": [],
-         "pivots": [(0, 10**6)], "width": [STAGE, (0, 10**6 + 1), (0, 65535), PLAIN]}  # and `basis`, which has one number or more
+FORMS = {"vector": [COORDINATE] * 3, "lt": ENTRY, "eq": ENTRY, "weight": [ELEMENT] * 3 + [(-2**100, 2**100)],
+         "exhausted": [], "frontier": [],
+         "pivots": [(0, 10**6)],
+         "width": [STAGE, (0, 10**6 + 1), (0, 65535), PLAIN]}  # and `basis`, which has one number or more
 # Which lines a block has behind its verdict, by their first words.
 SEARCH = "(exhausted |frontier (vector ){0,20})"
-BLOCKS = {"realizable": "(vector ){0,20}", "nonrealizable": "((lt|eq) )*", "undecided": "(weight ){0,1140}" + SEARCH, "limit": "(pivots basis |width )" + SEARCH}
+BLOCKS = {"realizable": "(vector ){0,20}", "nonrealizable": "((lt|eq) )*", "undecided": "(weight ){0,1140}" + SEARCH,
+          "limit": "(pivots basis |width )" + SEARCH}
 Claim = namedtuple("Claim", "kind rank elements names sets body verdict lines")
 
 
@@ -40,7 +44,8 @@ def item(word, form):
     if isinstance(form, set):
         ask(word in form, "none of the words %s: %s" % (", ".join(sorted(form)), word))
         return word
-    ask(re.fullmatch("0|-?[1-9][0-9]{0,39}", word) and form[0] <= int(word) <= form[1], "not a number from %d to %d: %s" % (*form, word))
+    ask(re.fullmatch("0|-?[1-9][0-9]{0,39}", word) and form[0] <= int(word) <= form[1],
+        "not a number from %d to %d: %s" % (*form, word))
     return int(word)
 
 
@@ -52,7 +57,8 @@ def items(words, forms):
 def claims_of(file):
     """The lines of each claim of a stream, as lists of words: it has two lines `end`."""
     lines, ends = [], 0
-    for line in file:
+    for line in iter(lambda: file.readline(2**20 + 1), b""):
+        ask(len(line) <= 2**20, "a line of more than 2^20 bytes")
         words = re.findall("[^ \t\r\n]+", line.decode("latin-1").split("#", 1)[0])
         lines, ends = lines + [words] if words else lines, ends + (words == ["end"])
         if ends == 2:
@@ -69,11 +75,13 @@ def read(lines):
     ask(kind in ("chirotope", "points", "wiring"), "not a document of a chirotope, of points or of a wiring: %s" % kind)
     *rank, n = items(sizes, [(0, 20), ELEMENT] if kind == "chirotope" else [ELEMENT])
     rank = rank[0] if rank else 3
-    ask(kind != "chirotope" or rank <= n and comb(n, rank) <= 12870, "no chirotope of rank %d on %d elements" % (rank, n))
+    ask(kind != "chirotope" or rank <= n and comb(n, rank) <= 12870, "no chirotope of rank %d on %d elements" %
+        (rank, n))
     sets, names = list(combinations(range(1, n + 1), rank)), None
     if second and body and body[0][0] == "names":
         names = body.pop(0)[1:]
-        ask(len(names) == len(set(names)) == n and all(re.fullmatch("[A-Za-z0-9_]{1,16}", name) for name in names), "not a name for each element")
+        ask(len(names) == len(set(names)) == n and all(re.fullmatch("[A-Za-z0-9_]{1,16}", name) for name in names),
+            "not a name for each element")
     if second and kind == "chirotope" and body and body[0][0] == "order":
         if items(body.pop(0)[1:], [{"lex", "revlex"}]) == ["revlex"]:
             sets.sort(key=lambda s: s[::-1])
@@ -88,9 +96,11 @@ def read(lines):
         ask(len(body) <= 1024, "more than 1,024 blocks")
     ask(block and len(block[0]) == 1 and block[0][0] in BLOCKS, "no verdict behind the document")
     (verdict,), *rows = block
-    ask(re.fullmatch(BLOCKS[verdict], "".join(words[0] + " " for words in rows)), "lines that a block %s doesn't have" % verdict)
+    ask(re.fullmatch(BLOCKS[verdict], "".join(words[0] + " " for words in rows)), "lines that a block %s doesn't have" %
+        verdict)
     rows = [(word, items(rest, FORMS.get(word, [PLAIN] * max(1, len(rest))))) for word, *rest in rows]
-    ask(all(word != "weight" or row[0] < row[1] < row[2] for word, row in rows), "a weight of three elements that don't increase")
+    ask(all(word != "weight" or row[0] < row[1] < row[2] for word, row in rows),
+        "a weight of three elements that don't increase")
     return Claim(kind, rank, n, names, sets, body, verdict, rows)
 
 
@@ -105,8 +115,8 @@ def det(p, q, r):
 
 
 def chirotope_of(claim):
-    """The sign of each increasing set: as given; of the determinant of points; + where the wires a and b cross before b and c,
-    - where later, 0 where at once. A wiring that is none gives the reason instead."""
+    """The sign of each increasing set: as given; of the determinant of points; + where the wires a and b cross before
+    b and c, - where later, 0 where at once. A wiring that is none gives the reason instead."""
     if claim.kind == "chirotope":
         return dict(zip(claim.sets, claim.body))
     if claim.kind == "points":
@@ -126,7 +136,8 @@ def chirotope_of(claim):
 
 
 def value(chi, t):
-    """The value on a list of elements: 0 at a repeat, else that of the set, turned by each two that stand in the other order."""
+    """The value on a list of elements: 0 at a repeat, else that of the set, turned by each two that stand in the
+    other order."""
     return chi[tuple(sorted(t))] * (-1) ** sum(x > y for x, y in combinations(t, 2)) if len(set(t)) == len(t) else 0
 
 
@@ -135,10 +146,11 @@ def text(s):
 
 
 def first_violated(rank, n, chi):
-    """The first sets S, of rank + 1 elements, and A, of rank - 1, for which V and U aren't orthogonal: their products include a
-    plus and no minus, or a minus and no plus. V is at the i-th element of S the value of the others times (-1)^i; U is at e
-    the value of A with e behind it."""
-    us = [(a, [0] + [value(chi, a + (e,)) for e in range(1, n + 1)]) for a in (combinations(range(1, n + 1), rank - 1) if rank else ())]
+    """The first sets S, of rank + 1 elements, and A, of rank - 1, for which V and U aren't orthogonal: their products
+    include a plus and no minus, or a minus and no plus. V is at the i-th element of S the value of the others times
+    (-1)^i; U is at e the value of A with e behind it."""
+    us = [(a, [0] + [value(chi, a + (e,)) for e in range(1, n + 1)])
+          for a in (combinations(range(1, n + 1), rank - 1) if rank else ())]
     for s in combinations(range(1, n + 1), rank + 1):
         v = [(e, chi[s[:i] + s[i + 1:]] * (-1) ** (i + 1)) for i, e in enumerate(s)]
         for a, u in us:
@@ -153,8 +165,8 @@ def brackets(a, b, c, d, e):
 
 
 def lawful(chi, n, a, b, c, d, e, small, big):
-    """`lt` where the small term isn't 0, the big one has the other sign and the third has that of the small one; `eq` where the
-    third is 0 instead; else None."""
+    """`lt` where the small term isn't 0, the big one has the other sign and the third has that of the small one; `eq`
+    where the third is 0 instead; else None."""
     if not b < c < d < e <= n or a > n or a in (b, c, d, e) or small == big:
         return None
     terms = [turn * value(chi, p) * value(chi, q) for turn, (p, q) in zip((1, -1, 1), brackets(a, b, c, d, e))]
@@ -177,7 +189,8 @@ def reasons(claim):
         yield "number %d %d" % (n, len(vectors)) if len(vectors) != n else None
         for t in triples:
             yield "wrongsign " + text(t) if sign(det(*(vectors[e - 1] for e in t))) != chi[t] else None
-    elif claim.verdict == "nonrealizable":  # lawful entries, one of them strict; each bracket is as often on small as on big sides
+    elif claim.verdict == "nonrealizable":
+        # lawful entries, one of them strict; each bracket is as often on small as on big sides
         for i, (word, row) in enumerate(claim.lines, 1):
             yield "unlawful %d" % i if lawful(chi, n, *row[:7]) != word else None
         sides = Counter(), Counter()
@@ -208,19 +221,26 @@ def judge(claim):
     return next(("refused " + why for why in reasons(claim) if why), "valid " + claim.verdict)
 
 
+def say(why):
+    if sys.stderr:
+        print("referee.py: %s" % why, file=sys.stderr, flush=True)
+
+
 def main():
     code, count = 0, 0
     try:
+        for stream in 0, 1:  # a closed one is a fault, and one that doesn't wait would seem to end where it pauses
+            os.set_blocking(stream, True)
         for count, lines in enumerate(claims_of(sys.stdin.buffer), 1):
             answer = judge(read(lines))
             print(answer, flush=True)
             code = max(code, int(answer.startswith("refused")))
         ask(count, "there is no claim")
     except NoClaim as why:
-        print("referee.py: %s" % why, file=sys.stderr)
+        say(why)
         code = 2
     except OSError as fault:  # a read or a write that failed; nothing is written a second time
-        print("referee.py: %s" % fault.strerror, file=sys.stderr)
+        say(fault.strerror)
         os._exit(5)
     return code
 
