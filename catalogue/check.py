@@ -1,10 +1,10 @@
 #!/usr/bin/env python3
 """catalogue/check.py
 
-Grows the classes of rank 3 up to seven elements and the uniform ones up to eight, and compares their numbers with the published ones;
-realizes all of them twice; takes them through relabel and back; sends every shipped claim through `om_each check`; and asks each
-filter for its message on bad input. Where nauty or GNU parallel isn't installed it says what it leaves out. The last line is
-'catalogue: N passed, M failed', and the exit code is 1 where one failed.
+Grows the classes of rank 3 up to seven elements and the uniform ones up to eight, and compares their numbers with the
+published ones; realizes all of them twice; takes them through relabel and back; sends every shipped claim through
+`om_each check`; and asks each filter for its message on bad input. If nauty or GNU parallel isn't installed it says
+what it leaves out. The last line is 'catalogue: N passed, M failed', and the exit code is 1 if one failed.
 """
 import glob
 import gzip
@@ -33,7 +33,8 @@ BAD = [
     (["relabel", "2", "1", "3", "4"], CUT, "document 2: it breaks off", False),
     (["relabel", "2", "1", "3", "4"], FOUR + b"undecided\nend\n", "document 1: its block", False),
     (["relabel", "2", "1", "3", "4"], FOUR + b"realizable\nvector 1 2\nend\n", "document 1: its block", False),
-    (["relabel", "2", "1", "3", "4"], FOUR + b"nonrealizable\nlt 1 2 3 4 9 1 2 1\nend\n", "document 1: its block", False),
+    (["relabel", "2", "1", "3", "4"], FOUR + b"nonrealizable\nlt 1 2 3 4 9 1 2 1\nend\n", "document 1: its block",
+     False),
     (["relabel", "2", "1", "3", "4"], FOUR + b"nonrealizable\nlt 1 2\nend\n", "document 1: its block", False),
     (["relabel", "2", "1", "3", "4"], FOUR + b"realizable\nvector 1 0 0\n", "document 1: it breaks off", False),
     (["to-graph6", "--colours", "2"], b"", "--colours", False),
@@ -59,23 +60,30 @@ BAD = [
     (["realize", "--box=0"], FOUR, "decide doesn't take --box=0", False),
     (["realize"], CUT, "document 2: it breaks off", False),
     (["realize"], BROKEN, "document 1: om_each answers `refused relation", False),
-    (["tally", "x"], b"", "no words", False),
+    (["realize"], THREE + BROKEN + CUT, "document 2: om_each answers `refused relation", False),
+    (["tally", "x"], b"", "its words are", False),
+    (["tally", "--sum"], b"000000 1 1 0 0 0 0 1 1 0123456789abcdef\n", "the first line", False),
+    (["tally", "--sum"], b"# all 9\n000000 2 1 0 0 0 0 1 1 0123456789abcdef\n", "line 2", False),
+    (["tally", "--sum"], b"# all 9\n" + 2 * b"000000 1 1 0 0 0 0 1 1 0123456789abcdef\n", "line 3", False),
     (["tally"], FOUR, "document 1: a document without a verdict", False),
     (["tally"], FOUR + VECTORS.replace(b"-1", b"1"), "claim 1: refused wrongsign 1,3,4", False),
     (["tally"], FOUR + b"nonrealizable\nend\n", "claim 1: refused nostrict", False),
     (["tally"], FOUR + VECTORS[:-4], "document 1: it breaks off", False),
+    (["tally"], FOUR + VECTORS[:-4] + FOUR + VECTORS, "document 1: it breaks off", False),
 ]
 
 
 def run(words, data=b"", environment=None):
     """What a program of this folder does with an input."""
-    return subprocess.run([os.path.join(HERE, words[0])] + words[1:], input=data, capture_output=True, env=dict(os.environ, **(environment or {})))
+    return subprocess.run([os.path.join(HERE, words[0])] + words[1:], input=data, capture_output=True,
+                          env=dict(os.environ, **(environment or {})))
 
 
 def compare(what, wanted, got):
     TALLY[wanted == got] += 1
     if wanted != got:
-        print("%s\n--- wanted\n%s\n--- got\n%s" % (what, wanted if len(repr(wanted)) < 2000 else repr(wanted)[:2000], got if len(repr(got)) < 2000 else repr(got)[:2000]))
+        print("%s\n--- wanted\n%s\n--- got\n%s" % (what, wanted if len(repr(wanted)) < 2000 else repr(wanted)[:2000],
+                                                   got if len(repr(got)) < 2000 else repr(got)[:2000]))
 
 
 def is_whole(text):
@@ -89,11 +97,15 @@ def bad_inputs(has_nauty):
             continue
         done = run(words, data)
         said = done.stderr.decode(errors="replace")
-        good = done.returncode not in (0, None) and message in said and said.startswith(words[0] + ": ") and "Traceback" not in said and is_whole(done.stdout)
-        compare("%s on %r" % (" ".join(words), data[:60]), (True, message), (good, message) if good else (done.returncode, said))
-    for words, variable in [(["realize"], "OM_EACH"), (["tally"], "OM_EACH"), (["grow"], "LABELG"), (["classes"], "LABELG")]:
+        named = said.startswith(words[0] + ": ") and message in said and "Traceback" not in said
+        good = done.returncode not in (0, None) and named and is_whole(done.stdout)
+        got = (good, message) if good else (done.returncode, said)
+        compare("%s on %r" % (" ".join(words), data[:60]), (True, message), got)
+    for words, variable in [(["realize"], "OM_EACH"), (["tally"], "OM_EACH"), (["grow"], "LABELG"),
+                            (["classes"], "LABELG")]:
         done = run(words, FOUR, {variable: "/nowhere/program"})
-        compare("%s without %s" % (words[0], variable), (True, True), (done.returncode == 1 and not done.stdout, b"isn't there" in done.stderr))
+        compare("%s without %s" % (words[0], variable), (True, True),
+                (done.returncode == 1 and not done.stdout, b"isn't there" in done.stderr))
 
 
 def renamed_certificate():
@@ -102,7 +114,8 @@ def renamed_certificate():
         claim = b"".join(line for line in file if not line.startswith(b"#"))
     for seed in range(5):
         other = renamed(claim, 9, seed)
-        compare("tally of a renamed certificate", [b"9", b"all", b"1", b"0", b"1"], run(["tally"], other).stdout.split(b"\n")[1].split()[:5])
+        compare("tally of a renamed certificate", [b"9", b"all", b"1", b"0", b"1"],
+                run(["tally"], other).stdout.split(b"\n")[1].split()[:5])
 
 
 def grown(last, *words):
@@ -138,17 +151,25 @@ def classes_and_claims(has_nauty):
     graphs = run(["to-graph6"], catalogue + other).stdout.split(b"\n")[:-1]
     colours = run(["to-graph6", "--colours", "7"]).stdout.decode().strip()
     labelg = shutil.which("labelg") or shutil.which("nauty-labelg")
-    canonical = subprocess.run([labelg, "-q", "-f" + colours], input=b"\n".join(graphs) + b"\n", capture_output=True).stdout.split(b"\n")[:-1]
-    compare("graphs of 143 classes, three times", (429, 143, canonical[:143]), (len(canonical), len(set(canonical)), canonical[143:286]))
+    canonical = subprocess.run([labelg, "-q", "-f" + colours], input=b"\n".join(graphs) + b"\n",
+                               capture_output=True).stdout.split(b"\n")[:-1]
+    compare("graphs of 143 classes, three times", (429, 143, canonical[:143]),
+            (len(canonical), len(set(canonical)), canonical[143:286]))
     documents = b"".join(every.values()) + uniform[8]
     claims = run(["realize"], documents)
     count = documents.count(b"om 1\n")
-    compare("claims", (0, count), (claims.returncode, claims.stdout.count(b"realizable #") + claims.stdout.count(b"\nrealizable\n")))
-    compare("claims of a second run, in two parts", claims.stdout, run(["realize"], documents[: len(documents) - len(uniform[8])]).stdout + run(["realize"], uniform[8]).stdout)
-    lines = [line.split() for line in run(["tally"], renamed(claims_of(claims.stdout, 7), 7, 3)).stdout.decode().split("\n")[1:-1]]
+    compare("claims", (0, count),
+            (claims.returncode, claims.stdout.count(b"realizable #") + claims.stdout.count(b"\nrealizable\n")))
+    compare("claims of a second run, in two parts", claims.stdout,
+            run(["realize"], documents[: len(documents) - len(uniform[8])]).stdout +
+            run(["realize"], uniform[8]).stdout)
+    lines = [line.split()
+             for line in run(["tally"], renamed(claims_of(claims.stdout, 7), 7, 3)).stdout.decode().split("\n")[1:-1]]
     wanted = {"all": "143", "uniform": "11"}
-    compare("tally of 143 classes with other names", [["7", kind, k, k, "0", "0", "0", "0"] for kind, k in wanted.items()], [line[:8] for line in lines])
-    compare("what is published of them", [["%s" % k, "classes,", k, "realizable"] for k in wanted.values()], [line[10:] for line in lines])
+    compare("tally of 143 classes with other names",
+            [["7", kind, k, k, "0", "0", "0", "0"] for kind, k in wanted.items()], [line[:8] for line in lines])
+    compare("what is published of them", [["%s" % k, "classes,", k, "realizable"] for k in wanted.values()],
+            [line[10:] for line in lines])
 
 
 def claims_of(claims, n):
@@ -167,32 +188,61 @@ def shipped_claims():
         verdict = name.split("-")[0].encode()
         done = run(["tally"], data)
         said = [line.split() for line in done.stdout.decode().split("\n")[1:-1]]
-        place = 3 if verdict == b"realizable" else 4
-        good = sum(int(line[place]) for line in said if line[1] == "all" or len([other for other in said if other[0] == line[0]]) == 1)
+        place = 3 + [b"realizable", b"nonrealizable", b"undecided"].index(verdict)
+        good = sum(int(line[place]) for line in said if line[1] == "all"
+                   or len([other for other in said if other[0] == line[0]]) == 1)
         compare("claims in %s" % name, (0, data.count(b"om 1\n")), (done.returncode, good))
 
 
+def shipped_tallies():
+    """No tally that is shipped has more of a kind than is published, and none has a refused claim."""
+    for path in sorted(glob.glob(os.path.join(HERE, "*.tally"))):
+        kind, n = os.path.basename(path).split(".")[0].split("-")
+        with open(path, "rb") as file:
+            data = file.read()
+        words = run(["tally", "--sum"], data).stdout.split(b"\n")[1].decode().split()
+        made, realizable, nonrealizable, _, _, refused = map(int, words[2:8])
+        classes, known = int(words[10]), int(words[12])
+        few = made <= classes and realizable <= known and nonrealizable <= classes - known
+        compare("the tally %s" % path, ([n, kind], True, 0), (words[:2], few, refused))
+
+
 def stopped_and_taken_over():
-    """A classification with a block lost, and begun anew elsewhere, comes to the same bytes."""
+    """A classification with a block lost, and begun anew elsewhere, comes to the same bytes. One that takes the tally
+    of another comes to the same table."""
     if not shutil.which("parallel"):
         print("GNU parallel isn't installed: classify is not run")
         return
     with tempfile.TemporaryDirectory() as folder:
-        first, second = os.path.join(folder, "first"), os.path.join(folder, "second")
+        first, second, third = (os.path.join(folder, name) for name in ("first", "second", "third"))
         done = run(["classify", first, "all", "5"])
-        compare("classify", (0, b""), (done.returncode, done.stderr))
+        compare("classify", (0, 5), (done.returncode, done.stderr.count(b" processor seconds\n")))
         shutil.copytree(first, second)
-        for path in ("all-5.om", "all-5.claims", "all-5.grown/000000.classes", "all-5.blocks/000000.claims"):
-            os.remove(os.path.join(second, path))
+        for path in ("om", "claims", "tally", "table", "grown/000000.classes", "blocks/000000.claims",
+                     "blocks/000000.tally"):
+            os.remove(os.path.join(second, "all-5." + path))
         with open(os.path.join(second, "all-5.grown", "000000.part"), "w") as file:
             file.write("om 1\nchirotope 3 5\n+")
-        done = run(["classify", second, "all", "5"])
-        for name in ("all-5.om", "all-5.claims"):
-            with open(os.path.join(first, name), "rb") as one, open(os.path.join(second, name), "rb") as other:
-                compare("%s of a run that is taken over" % name, one.read(), other.read())
+        compare("classify of a run that is taken over", (0, done.stdout),
+                answer_of(run(["classify", second, "all", "5"])))
+        compare("classify with a tally", (0, done.stdout),
+                answer_of(run(["classify", third, "all", "5"], environment={"TALLIES": first})))
+        for name in ("all-5.om", "all-5.claims", "all-5.tally"):
+            compare("%s of a run that is taken over" % name, bytes_of(first, name), bytes_of(second, name))
+        compare("the tally of a run with a tally", bytes_of(first, "all-5.tally"), bytes_of(third, "all-5.tally"))
+        compare("claims of a run with a tally", False, os.path.exists(os.path.join(third, "all-5.claims")))
     for words in (["classify"], ["classify", "x", "some", "5"], ["classify", "x", "all", "2"]):
         done = run(words)
         compare(" ".join(words), (1, b"", True), (done.returncode, done.stdout, done.stderr.startswith(b"classify: ")))
+
+
+def answer_of(done):
+    return done.returncode, done.stdout
+
+
+def bytes_of(folder, name):
+    with open(os.path.join(folder, name), "rb") as file:
+        return file.read()
 
 
 def main():
@@ -201,6 +251,7 @@ def main():
     renamed_certificate()
     classes_and_claims(has_nauty)
     shipped_claims()
+    shipped_tallies()
     if has_nauty:
         stopped_and_taken_over()
     print("catalogue: %d passed, %d failed" % (TALLY[True], TALLY[False]))

@@ -1,11 +1,12 @@
 """Extensions of a chirotope of rank 3 by one element: from the listing of `extend` to those that a catalogue needs.
 
-Wanted are those without loops and parallel elements. Of two opposite signatures, which differ in the orientation of the new element
-alone, the first one is taken. And an extension is passed over where its new element has a lesser weight than an old one. The weight of an
-element is how many triples with it have the value 0, and then how many are uncut (below). Neither changes with names and
-orientations, so nothing is lost: each class has a chirotope whose last element has the greatest weight. That is no coloop, since
-a coloop is in no triple with 0, and the other elements, more than two on a line, are in some. So without it the rank is 3, the rest is
-of a class on one element less, and the extension is listed with that class.
+A catalogue needs those without loops and parallel elements. Of two opposite signatures, which differ only in the
+orientation of the new element, the first one is taken. An extension is passed over if its new element has a lesser
+weight than an old one. The weight of an element is how many triples with it have the value 0, and then how many are
+uncut (below). Neither changes with names and orientations, so nothing is lost: each class has a chirotope whose last
+element has the greatest weight. The last element isn't a coloop, since a coloop is in no triple with 0, and the other
+elements, more than two on a line, are in some. So without it the rank is 3, the rest is of a class on one element
+less, and the extension is listed with that class.
 """
 import functools
 import itertools
@@ -21,7 +22,8 @@ class Parent:
     def __init__(self, number, n, signs):
         self.n, self.signs = n, signs
         pairs = list(itertools.combinations(range(n), 2))
-        self.with_element = [sum(1 << len(pairs) - 1 - k for k, pair in enumerate(pairs) if e in pair) for e in range(n)]
+        self.with_element = [sum(1 << len(pairs) - 1 - k for k, pair in enumerate(pairs) if e in pair)
+                             for e in range(n)]
         columns = ["".join(column) for column in zip(*graphs.rows(n, signs))]
         self.parallel = set(columns) | {column.translate(graphs.NEGATIVE) for column in columns}
         if len(self.parallel) < 2 * n or "0" * len(pairs) in self.parallel:
@@ -67,9 +69,10 @@ def lines_of_triples(n):
 
 
 def uncut(n, signs):
-    """For each element how many triples a, b, c with it are uncut: those for which (a,b,d)(a,c,d) is one sign for all d off the lines of
-    a and b, of a and c and of b and c, and so is (a,b,d)(b,c,d). In an arrangement of pseudolines they bound a triangle that no
-    other line meets. Neither names nor orientations matter: another orientation of d turns both factors, one of a all the products."""
+    """For each element how many triples a, b, c with it are uncut: those for which (a,b,d)(a,c,d) is one sign for all
+    d off the lines of a and b, of a and c and of b and c, and so is (a,b,d)(b,c,d). In an arrangement of pseudolines
+    they bound a triangle that no other line meets. Neither names nor orientations matter: another orientation of d
+    turns both factors, one of a all the products."""
     text = "".join(graphs.rows(n, signs))
     plus, off = text.replace("-", "0").replace("+", "1"), text.replace("-", "1").replace("+", "1")
     plus = [int(plus[k : k + n], 2) for k in range(0, len(plus), n)]

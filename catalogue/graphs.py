@@ -1,9 +1,10 @@
 """Graphs of chirotopes of rank 3, for `labelg` of nauty.
 
-The graph has two vertices for each element, e and -e, which are joined, and behind them one for each cocircuit, joined to e where
-the cocircuit is + at e and to -e where it is - there. By the colours that tell elements from cocircuits, two graphs are isomorphic
-exactly where the oriented matroids are the same up to renaming and reorientation: such a map takes the two vertices of an
-element to the two of an element, and cocircuits to cocircuits, each of which is told by its neighbours.
+The graph has two vertices for each element, e and -e, which are joined, and one for each cocircuit, joined to e where
+the cocircuit is + at e and to -e where it is - there. By the colours that tell elements from cocircuits, two graphs
+are isomorphic exactly where the oriented matroids are the same up to renaming and reorientation: such a map takes the
+two vertices of an element to the two of an element, and cocircuits to cocircuits, each of which is told by its
+neighbours.
 """
 import binascii
 import functools
@@ -22,7 +23,8 @@ NEGATIVE = str.maketrans("+-", "-+")
 
 @functools.lru_cache(None)
 def values_of_pairs(n):
-    """Picks the values of a, b, d for the pairs a < b and each d from the signs, the negated signs and a 0, one behind the other."""
+    """Picks the values of a, b, d for the pairs a < b and each d from the signs, the negated signs and a 0, one after
+    the other."""
     place = {triple: k for k, triple in enumerate(shared.triples(n))}
     picks = []
     for a, b in itertools.combinations(range(n), 2):
@@ -63,14 +65,17 @@ def head(n):
 
 
 def colours(n):
-    """The word behind -f of labelg: the vertices of elements have a colour of their own."""
+    """The word after -f of labelg: the vertices of elements have a colour of their own."""
     return "a" * (2 * n)
 
 
 def classes_of(n, lines):
-    """For each graph of n elements a key that is the same for isomorphic ones alone: a digest of 128 bits of its canonical form."""
-    done = subprocess.run([shared.labelg(), "-q", "-g", "-i1", "-f" + colours(n)], input="".join(line + "\n" for line in lines).encode(), capture_output=True)
+    """For each graph of n elements a key that is the same for isomorphic ones alone: a digest of 128 bits of its
+    canonical form."""
+    done = subprocess.run([shared.labelg(), "-q", "-g", "-i1", "-f" + colours(n)],
+                          input="".join(line + "\n" for line in lines).encode(), capture_output=True)
     canonical = done.stdout.split(b"\n")[:-1]
     if done.returncode or len(canonical) != len(lines):
-        raise shared.Refusal("labelg ended with code %d and %d of %d graphs" % (done.returncode, len(canonical), len(lines)))
+        raise shared.Refusal("labelg ended with code %d and %d of %d graphs" %
+                             (done.returncode, len(canonical), len(lines)))
     return [hashlib.blake2b(line, digest_size=16).digest() for line in canonical]

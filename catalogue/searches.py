@@ -1,6 +1,9 @@
-"""Searches for vectors that realize a chirotope of rank 3, each on other names and orientations, and a line that shows how far a run is."""
+"""Searches for vectors of a chirotope of rank 3 on other names and orientations, and a line that says how far they are.
+"""
 import collections
+import functools
 import itertools
+import operator
 import os
 import random
 import sys
@@ -11,53 +14,62 @@ import shared
 NEGATIVE = str.maketrans("+-", "-+")
 
 
+@functools.lru_cache(None)
+def places(n):
+    """For each triple, ordered in any way, the place of its value among the signs and, behind them, the negated
+    signs."""
+    known, count = {}, len(shared.triples(n))
+    for k, triple in enumerate(shared.triples(n)):
+        for j, order in enumerate(itertools.permutations(triple)):
+            known[order] = k + count if j in (1, 2, 5) else k
+    return known
+
+
+@functools.lru_cache(None)
+def move(n, number, seed):
+    """The names of a try: element k is the old element order[k], negated where flips[k] is true; and what picks the
+    signs under these names. The first tries move the elements a little, later ones more and more."""
+    chance, count = random.Random("%s %d %d" % (seed, n, number)), len(shared.triples(n))
+    order = sorted(range(n), key=[e + (2 + 2 * number) * chance.random() for e in range(n)].__getitem__)
+    flips = [chance.random() < 0.5 for _ in range(n)]
+    turned = [count * (flips[a] ^ flips[b] ^ flips[c]) for a, b, c in shared.triples(n)]
+    renamed = itertools.combinations(order, 3)
+    picks = [(places(n)[triple] + turn) % (2 * count) for triple, turn in zip(renamed, turned)]
+    return order, flips, operator.itemgetter(*picks)
+
+
 class Search:
-    """Tries for one chirotope, each on other names and orientations."""
+    """Tries for one chirotope. Elements in more triples with the value 0 are put before others: they leave fewer
+    choices, and a search that places them late goes back often."""
 
     def __init__(self, n, signs, seed):
-        self.n, self.signs = n, signs
-        self.random = random.Random("%s %d %s" % (seed, n, signs))
-        self.tries = 0
-        self.values = None
+        self.n, self.seed = n, seed
+        zeros = [e for triple, sign in zip(shared.triples(n), signs) if sign == "0" for e in triple]
+        self.order = sorted(range(n), key=zeros.count, reverse=True)
+        known, both = places(n), signs + signs.translate(NEGATIVE)
+        ordered = "".join([both[known[triple]] for triple in itertools.combinations(self.order, 3)])
+        self.both = ordered + ordered.translate(NEGATIVE)
 
-    def table(self):
-        """The value of each triple in any order."""
-        values = {}
-        for triple, sign in zip(shared.triples(self.n), self.signs):
-            other = sign.translate(NEGATIVE)
-            for k, order in enumerate(itertools.permutations(triple)):
-                values[order] = other if k in (1, 2, 5) else sign
-        return values
+    def document(self, number):
+        """The chirotope under the names of a try."""
+        return shared.text_of(self.n, "".join(move(self.n, number, self.seed)[2](self.both)))
 
-    def find(self, conversation):
-        """Vectors, by one try, or None."""
-        self.tries += 1
-        n = self.n
-        self.values = self.values or self.table()
-        draw = self.random.random
-        order = sorted(range(n), key=[draw() for _ in range(n)].__getitem__)
-        flips = [draw() < 0.5 for _ in range(n)]
-        renamed = "".join([self.values[order[a], order[b], order[c]] for a, b, c in shared.triples(n)])
-        turned = renamed.translate(NEGATIVE)
-        signs = "".join([other if flips[a] ^ flips[b] ^ flips[c] else sign for (a, b, c), sign, other in zip(shared.triples(n), renamed, turned)])
-        answer = conversation.ask(shared.text_of(n, signs), shared.is_claim)
-        found = vectors_of(answer)
-        if found is None:
+    def vectors(self, number, answer):
+        """The vectors in the answer of decide to that document, for the elements under their first names, or None."""
+        block = answer.partition(b"end\n")[2].split(b"\n")
+        if block[0] != b"realizable":
             return None
-        back = [None] * n
-        for k, flip, vector in zip(order, flips, found):
-            back[k] = ["%d" % -x for x in vector] if flip else ["%d" % x for x in vector]
-        return back
-
-
-def vectors_of(answer):
-    """The vectors of a realizable claim, or None."""
-    block = answer.decode().partition("end\n")[2].split("\n")
-    return [tuple(map(int, line.split()[1:])) for line in block[1:-2]] if block[0] == "realizable" else None
+        order, flips, _ = move(self.n, number, self.seed)
+        vectors = [None] * self.n
+        for k, flip, line in zip(order, flips, block[1:]):
+            x, y, z = map(int, line.split()[1:])
+            vectors[self.order[k]] = (-x, -y, -z) if flip else (x, y, z)
+        return vectors
 
 
 class Progress:
-    """A line on standard error, where that is a terminal: documents done, their rate, the time left, counts of verdicts."""
+    """A line on standard error, where that is a terminal: documents done, their rate, the time left, counts of
+    verdicts."""
 
     def __init__(self):
         self.counts, self.start, self.shown = collections.Counter(), time.monotonic(), 0
@@ -75,7 +87,8 @@ class Progress:
         if self.size:
             read = os.lseek(0, 0, os.SEEK_CUR)
             line += ", about %.0f s left" % (took * (self.size - read) / read)
-        print("\r%s: %s" % (line, ", ".join("%d %s" % (k, v) for v, k in self.counts.items())), end="\033[K", file=sys.stderr)
+        print("\r%s: %s" % (line, ", ".join("%d %s" % (k, v) for v, k in self.counts.items())), end="\033[K",
+              file=sys.stderr)
 
     def end(self):
         if self.shown:

@@ -1,18 +1,26 @@
-"""What the programs of this folder share: they find `om_each`, read documents and claims, ask `om_each` over two pipes, and end well.
+"""What the programs of this folder share: they find `om_each`, read documents and claims, ask `om_each` over two
+pipes, and end well.
 
 A document that is read here is of version 1, a chirotope of rank 3. Python's standard library alone.
 """
+import fcntl
 import functools
 import itertools
 import os
 import shutil
 import subprocess
 import sys
+import threading
 
 NAME = os.path.basename(sys.argv[0])
 TOP = os.path.dirname(os.path.dirname(os.path.abspath(__file__)))
 VERDICTS = (b"realizable", b"nonrealizable", b"undecided", b"limit")
 MOST = 20  # elements of a document
+NUMBERS = [b"%d" % n for n in range(3, MOST + 1)]
+ENDS = (b"end\n", b"more\n")  # the last line of a block
+LINE, LISTING, CLAIM = 0, 1, 2  # how many blocks an answer has: one of check, of extend, of decide
+PIPE_SIZE = getattr(fcntl, "F_SETPIPE_SZ", 1031)
+LOT = 500  # documents that are asked for at once
 
 
 class Refusal(Exception):
@@ -22,7 +30,12 @@ class Refusal(Exception):
 def run(main):
     """Runs a program to its end. What it wrote before a fault are whole documents, and it has no traceback."""
     code, text = 0, ""
+    if sys.stderr is None:
+        sys.stderr = open(os.devnull, "w")  # print would put messages among the data
     try:
+        for stream in 0, 1:
+            # a closed one is a fault, and one that doesn't wait would seem to end where it only pauses
+            os.set_blocking(stream, True)
         try:
             main()
         finally:
@@ -50,13 +63,15 @@ def find(variable, places, advice):
 
 def om_each():
     """The program that answers a stream of documents."""
-    places = [os.path.join(TOP, "crates", "om_each", "out", "om_each"), os.path.join(TOP, "om-each"), "om-each", "om_each"]
+    places = [os.path.join(TOP, "crates", "om_each", "out", "om_each"), os.path.join(TOP, "om-each"), "om-each",
+              "om_each"]
     return find("OM_EACH", places, "om_each isn't there: build it, or name it by OM_EACH")
 
 
 def labelg():
     """The program of nauty that labels graphs canonically."""
-    return find("LABELG", ["labelg", "nauty-labelg"], "labelg of nauty isn't there (Debian: nauty): install it, or name it by LABELG")
+    return find("LABELG", ["labelg", "nauty-labelg"],
+                "labelg of nauty isn't there (Debian: nauty): install it, or name it by LABELG")
 
 
 @functools.lru_cache(None)
@@ -73,15 +88,19 @@ def text_of(n, signs):
 
 
 def lines_with_words(source):
-    """The words of each line that has some, up to its comment."""
-    for line in source:
-        words = line.split(b"#", 1)[0].split()
+    """The words of each line that has some, up to its comment. Between them stand blanks, tabs and carriage returns."""
+    for number, line in enumerate(source, 1):
+        text = line.split(b"#", 1)[0]
+        if b"\x0b" in text or b"\x0c" in text:
+            raise Refusal("line %d: a control character" % number)
+        words = text.split()
         if words:
             yield words
 
 
 def documents(source, claims=False):
-    """The number of elements and the signs of each document, and with claims the words of the lines of its verdict block."""
+    """The number of elements and the signs of each document, and with claims the words of the lines of its verdict
+    block."""
     lines = lines_with_words(source)
     following = next(lines, None)
     number = 0
@@ -96,10 +115,29 @@ def documents(source, claims=False):
             while following != [b"end"]:
                 block.append([word.decode() for word in following])
                 following = next(lines, None)
-                if following is None:
+                if following is None or following[0] == b"om":
                     raise Refusal("document %d: it breaks off in its block" % number)
             following = next(lines, None)
         yield (n, signs, block) if claims else (n, signs)
+
+
+def lots(items):
+    """Items in lists of up to LOT. Where a fault comes up between them, it comes behind the list of those before it."""
+    lot, fault = [], None
+    while fault is None:
+        try:
+            lot.append(next(items))
+        except StopIteration:
+            break
+        except (Refusal, OSError) as found:
+            fault = found
+        if len(lot) == LOT:
+            yield lot
+            lot = []
+    if lot:
+        yield lot
+    if fault:
+        raise fault
 
 
 def document(number, first, lines):
@@ -109,9 +147,10 @@ def document(number, first, lines):
     kind = next(lines, None)
     if kind is None:
         raise Refusal("document %d: it breaks off" % number)
-    if len(kind) != 3 or kind[:2] != [b"chirotope", b"3"] or not kind[2].isdigit() or kind[2][:1] == b"0" or not 3 <= int(kind[2]) <= MOST:
+    if len(kind) != 3 or kind[:2] != [b"chirotope", b"3"] or kind[2] not in NUMBERS:
         kind = b" ".join(kind).decode(errors="replace")
-        raise Refusal("document %d: `%s`, where chirotopes of rank 3 on at most %d elements are read" % (number, kind[:40], MOST))
+        raise Refusal("document %d: `%s`, where chirotopes of rank 3 on at most %d elements are read" %
+                      (number, kind[:40], MOST))
     n, signs = int(kind[2]), b""
     for words in lines:
         if words == [b"end"]:
@@ -119,6 +158,8 @@ def document(number, first, lines):
         if words[0] == b"om":
             raise Refusal("document %d: it breaks off" % number)
         signs += b"".join(words)
+        if len(signs) > len(triples(n)):
+            break
     else:
         raise Refusal("document %d: it breaks off" % number)
     if signs.strip(b"+-0") or len(signs) != len(triples(n)):
@@ -131,37 +172,46 @@ class Conversation:
 
     def __init__(self, *words):
         self.process = subprocess.Popen([om_each(), *words], stdin=subprocess.PIPE, stdout=subprocess.PIPE)
+        for pipe in (self.process.stdin, self.process.stdout):
+            try:
+                fcntl.fcntl(pipe, PIPE_SIZE, 1 << 20)
+            except OSError:
+                pass  # a shorter pipe is slower: one program waits for the other more often
 
-    def ask(self, text, is_whole):
-        """The answer to one document, in bytes; it is read up to where it is whole."""
+    def ask(self, text, blocks):
+        """The answer to one document, in bytes."""
+        return self.ask_all([text], blocks)[0]
+
+    def ask_all(self, texts, blocks):
+        """The answer to each document, in their order. They go out while answers come in, since a pipe holds little."""
+        writer = threading.Thread(target=self.write, args=("".join(texts).encode(),), daemon=True)
+        writer.start()
+        answers = [self.answer(blocks) for _ in texts]
+        writer.join()
+        return answers
+
+    def write(self, data):
         try:
-            self.process.stdin.write(text.encode())
+            self.process.stdin.write(data)
             self.process.stdin.flush()
         except BrokenPipeError:
-            pass  # the end of its answers, which comes next, says so
-        answer = b""
-        while not is_whole(answer):
-            part = os.read(self.process.stdout.fileno(), 1 << 16)
-            if not part:
-                raise Refusal("om_each ended with code %d" % self.process.wait())
-            answer += part
-        return answer
+            pass  # the end of its answers says so
+
+    def answer(self, blocks):
+        """One answer: a line, or where it begins with `om` so many blocks of lines."""
+        lines = [self.line()]
+        while blocks and lines[0].startswith(b"om"):
+            lines.append(self.line())
+            blocks -= lines[-1] in ENDS
+        return b"".join(lines)
+
+    def line(self):
+        line = self.process.stdout.readline()
+        if not line.endswith(b"\n"):
+            raise Refusal("om_each ended with code %d" % self.process.wait())
+        return line
 
     def close(self):
         self.process.stdin.close()
         self.process.stdout.close()
         self.process.wait()
-
-
-def is_line(answer):
-    return answer.endswith(b"\n")
-
-
-def is_listing(answer):
-    """Whether an answer of `extend` is whole."""
-    return answer.endswith((b"\nend\n", b"\nmore\n")) or (answer.endswith(b"\n") and not answer.startswith(b"om"))
-
-
-def is_claim(answer):
-    """Whether an answer of `decide` is whole."""
-    return (answer.endswith(b"\nend\n") and answer.count(b"\nend\n") == 2) or (answer.endswith(b"\n") and not answer.startswith(b"om"))
