@@ -2,10 +2,11 @@
 """bench/memory.py [OM [OM_EACH]]
 
 Refuses each request for memory of the built programs in turn, one in a run, by a library that is loaded before the C
-library's. Each run has to end with exit code 6 and nothing written, or as it ends with all memory; so too where the
-request comes from the runtime, which hands the words over before the command begins. A stream may have written the answers
-to its first documents before it ends with 6, each whole. Prints a line for each command with the number of requests that
-were refused, and last 'memory: N runs, M failed'; the exit code is 1 where one failed. It needs a C compiler, $CC or cc.
+library. Each run has to end with exit code 6 and nothing written, or as it ends with all memory. This holds also for
+requests of the runtime, which hands the words over before the command begins. A stream may have written the answers
+to its first documents before it ends with 6, each whole. The program prints a line for each command with the number
+of requests that were refused, and last 'memory: N runs, M failed'; the exit code is 1 if one failed. It needs a C
+compiler, $CC or cc.
 """
 import os
 import subprocess
@@ -18,15 +19,20 @@ EACH = os.path.abspath(sys.argv[2]) if len(sys.argv) > 2 else os.path.join(TOP, 
 UNIFORM = b"om 1\nchirotope 3 4\n++++\nend\n"
 CIRCUITS = b"om 1\ncircuits 4\n-+-+\n+-+-\nend\n"
 COMMANDS = [
-    (["accept"], UNIFORM), (["accept"], CIRCUITS), (["convert", "circuits"], UNIFORM), (["convert", "cocircuits"], UNIFORM),
-    (["convert", "covectors"], UNIFORM), (["convert", "chirotope"], CIRCUITS), (["dual"], CIRCUITS), (["delete", "1"], CIRCUITS),
-    (["wiring"], UNIFORM), (["mutations"], UNIFORM), (["flip", "1", "2", "3"], UNIFORM), (["extend", "--first=10"], UNIFORM), (["hull"], UNIFORM),
+    (["accept"], UNIFORM), (["accept"], CIRCUITS), (["convert", "circuits"], UNIFORM),
+    (["convert", "cocircuits"], UNIFORM),
+    (["convert", "covectors"], UNIFORM), (["convert", "chirotope"], CIRCUITS), (["dual"], CIRCUITS),
+    (["delete", "1"], CIRCUITS),
+    (["wiring"], UNIFORM), (["mutations"], UNIFORM), (["flip", "1", "2", "3"], UNIFORM),
+    (["extend", "--first=10"], UNIFORM), (["hull"], UNIFORM),
     (["lexext", "+4"], UNIFORM), (["decide", "--box=1"], UNIFORM), (["make", "7", "--count=4"], b""),
 ]
 # streams, by their documents
 STREAMS = [
-    (["accept"], [UNIFORM, b"om 1\nchirotope 2 4\n+-++++\nend\n", b"# a\n" + UNIFORM]), (["convert", "cocircuits"], [UNIFORM, CIRCUITS, UNIFORM]),
-    (["dual"], [CIRCUITS, UNIFORM]), (["extend", "--first=10"], [UNIFORM, UNIFORM]), (["upgrade"], [UNIFORM, CIRCUITS, b"om 1\n"]), (["decide", "--box=1"], [UNIFORM, UNIFORM]),
+    (["accept"], [UNIFORM, b"om 1\nchirotope 2 4\n+-++++\nend\n", b"# a\n" + UNIFORM]),
+    (["convert", "cocircuits"], [UNIFORM, CIRCUITS, UNIFORM]),
+    (["dual"], [CIRCUITS, UNIFORM]), (["extend", "--first=10"], [UNIFORM, UNIFORM]),
+    (["upgrade"], [UNIFORM, CIRCUITS, b"om 1\n"]), (["decide", "--box=1"], [UNIFORM, UNIFORM]),
 ]
 SOURCE = r"""
 #include <errno.h>
@@ -123,7 +129,8 @@ class Refusals:
                 wanting += 1
             elif ended != whole:
                 self.failed += 1
-                print("failed: %s with request %d refused: exit code %s, output %r, errors %r" % (what, refused, ended[0], ended[1][:80], ended[2][:200]))
+                print("failed: %s with request %d refused: exit code %s, output %r, errors %r" %
+                      (what, refused, ended[0], ended[1][:80], ended[2][:200]))
         print("%-40s %5d requests refused: %d end with 6" % (what, count, wanting))
 
 
@@ -135,14 +142,16 @@ def main():
         library, source, requests = (os.path.join(folder, name) for name in ("refusing.so", "refusing.c", "requests"))
         with open(source, "w") as file:
             file.write(SOURCE)
-        subprocess.run([os.environ.get("CC", "cc"), "-O1", "-shared", "-fPIC", "-fno-builtin", "-o", library, source], check=True)
+        subprocess.run([os.environ.get("CC", "cc"), "-O1", "-shared", "-fPIC", "-fno-builtin", "-o", library, source],
+                       check=True)
         refusals = Refusals(library, requests)
         for words, data in COMMANDS:
             refusals.refuse_each(" ".join(words), PROGRAM, words, data, [b""])
         for words, documents in STREAMS:
             answers = [run(library, PROGRAM, words, data)[1] for data in documents]
             firsts = [b"".join(answers[:count]) for count in range(len(answers) + 1)]
-            refusals.refuse_each("a stream of %d for %s" % (len(documents), " ".join(words)), EACH, words, b"".join(documents), firsts)
+            refusals.refuse_each("a stream of %d for %s" % (len(documents), " ".join(words)), EACH, words,
+                                 b"".join(documents), firsts)
     print("memory: %d runs, %d failed" % (refusals.runs, refusals.failed))
     return 1 if refusals.failed or not refusals.runs else 0
 

@@ -1,10 +1,11 @@
 #!/usr/bin/env python3
 """bench/streams.py [COUNT [SEED]]
 
-Compares the built program `om_each` with a run of `om` for each piece (rows/pieces.py), on COUNT random streams (10,000 where none
-is given) of good and bad documents and claims, comments, blank lines and lines that break off. Each stream is given whole, and
-byte by byte, where each byte is read before the next one is written. Prints the streams that differ, and last
-'streams: N streams of M pieces, K failed'; the exit code is 1 where one failed. Streams without memory are bench/memory.py's.
+Compares the built program `om_each` with a run of `om` for each piece (rows/pieces.py), on COUNT random streams
+(10,000 without the word) of good and bad documents and claims, comments, blank lines and lines that break off. Each
+stream is given whole, and then byte by byte: each byte is read before the next one is written. The program prints the
+streams that differ, and last 'streams: N streams of M pieces, K failed'; the exit code is 1 if one failed.
+bench/memory.py tries streams without memory.
 """
 import fcntl
 import os
@@ -19,16 +20,22 @@ sys.path.insert(0, os.path.join(TOP, "rows"))
 from pieces import pieces
 ONE, EACH = (os.path.join(TOP, "crates", name, "out", name) for name in ("om", "om_each"))
 DOCUMENTS = [
-    b"chirotope 3 4\n++++\n", b"chirotope 3 4\n0000\n", b"chirotope 2 4\n+-++++\n", b"chirotope 2 4\n0+0+00\n", b"chirotope 3 4\n+++\n",
-    b"chirotope 16 16\n+\n", b"chirotope 21 20\n+\n", b"circuits 4\n-+-+\n+-+-\n", b"circuits 2\n+-\n", b"cocircuits 1\n", b"covectors 1\n0\n+\n-\n",
-    b"covectors 2\n00\n+0\n-0\n0+\n0-\n", b"wiring 3\n1-2 2-3 1-2\n", b"wiring 3\n1-3\n", b"points 3\n1 0 0\n0 1 0\n0 0 1\n", b"points 3\n1 0 0\n2 0 0\n0 1 0\n",
+    b"chirotope 3 4\n++++\n", b"chirotope 3 4\n0000\n", b"chirotope 2 4\n+-++++\n", b"chirotope 2 4\n0+0+00\n",
+    b"chirotope 3 4\n+++\n",
+    b"chirotope 16 16\n+\n", b"chirotope 21 20\n+\n", b"circuits 4\n-+-+\n+-+-\n", b"circuits 2\n+-\n",
+    b"cocircuits 1\n", b"covectors 1\n0\n+\n-\n",
+    b"covectors 2\n00\n+0\n-0\n0+\n0-\n", b"wiring 3\n1-2 2-3 1-2\n", b"wiring 3\n1-3\n",
+    b"points 3\n1 0 0\n0 1 0\n0 0 1\n", b"points 3\n1 0 0\n2 0 0\n0 1 0\n",
 ]
 BLOCKS = [
-    b"realizable\nvector 1 0 0\nvector 0 1 0\nvector 0 0 1\nvector 1 -1 1\n", b"realizable\n", b"undecided\nweight 1 2 3 1\nexhausted\n",
+    b"realizable\nvector 1 0 0\nvector 0 1 0\nvector 0 0 1\nvector 1 -1 1\n", b"realizable\n",
+    b"undecided\nweight 1 2 3 1\nexhausted\n",
     b"nonrealizable\nlt 1 2 3 4 5 1 2 1\n", b"limit\npivots 1\nbasis 1\nexhausted\n", b"perhaps\n",
 ]
-LINES = [b"", b" \t\r", b"# a remark", b"\t# end", b"end", b" end\t# all", b"end end", b"ends", b"om", b"om 2", b" om # 1", b"omen", b"om 1 1", b"x om", b"+-", b"\x00", b"en"]
-COMMANDS = [["accept"], ["check"], ["upgrade"], ["dual"], ["convert", "covectors"], ["member", "++-+"], ["threeterm"], ["contract", "1"]]
+LINES = [b"", b" \t\r", b"# a remark", b"\t# end", b"end", b" end\t# all", b"end end", b"ends", b"om", b"om 2",
+         b" om # 1", b"omen", b"om 1 1", b"x om", b"+-", b"\x00", b"en"]
+COMMANDS = [["accept"], ["check"], ["upgrade"], ["dual"], ["convert", "covectors"], ["member", "++-+"], ["threeterm"],
+            ["contract", "1"]]
 
 
 def stream(chance):
@@ -37,7 +44,8 @@ def stream(chance):
     for _ in range(chance.choice((0, 1, 2, 3, 5, 8))):
         if chance.random() < 0.6:
             ends = (b"end\n", b"end\n", b" end # last\n", b"")
-            parts.append(chance.choice((b"om 1\n", b"om 1\n", b"om 1 # first\n\n", b"")) + chance.choice(DOCUMENTS) + chance.choice(ends))
+            parts.append(chance.choice((b"om 1\n", b"om 1\n", b"om 1 # first\n\n", b"")) + chance.choice(DOCUMENTS) +
+                         chance.choice(ends))
             if chance.random() < 0.4:
                 parts.append(chance.choice(BLOCKS) + chance.choice(ends))
         else:
@@ -74,7 +82,8 @@ def compare(count, seed):
             cut += 1
             key = (" ".join(words), piece)
             if key not in answers:
-                ran = subprocess.run([ONE] + words, input=piece, stdout=subprocess.PIPE, stderr=subprocess.STDOUT, timeout=60)
+                ran = subprocess.run([ONE] + words, input=piece, stdout=subprocess.PIPE, stderr=subprocess.STDOUT,
+                                     timeout=60)
                 answers[key] = (ran.returncode, ran.stdout)
             wanted = (max(wanted[0], answers[key][0]), wanted[1] + answers[key][1])
         ran = subprocess.run([EACH] + words, input=data, stdout=subprocess.PIPE, stderr=subprocess.STDOUT, timeout=60)

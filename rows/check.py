@@ -1,18 +1,19 @@
 #!/usr/bin/env python3
 """rows/check.py [PROGRAM ..]
 
-Runs the rows of the tables that lie beside it: a row is a run of the program, and has its words, its input, its exit code and
-its output, with ` | ` between two. In the input and the output a `/` stands for the end of a line and an `@` for a text that a
-line `@ = TEXT` before the row gives, as does the word `@`; `@ = TEXT * N` is N times this text, and `@ = halves N` is what
-`halves` gives for N. `\\t` is a tab, `\\r` a carriage return, `\\x0b` the byte of this number, and `\\u{feff}` this code point in
-UTF-8. Where the input is `unread`, each read would fail, and the output `nothing` is an empty one. A line with `# ` in front is a
-remark. `streams.txt` has runs of om_each, and each other table has runs of om.
+Runs the rows of the tables beside it. A row is a run of the program, and has its words, its input, its exit code and
+its output, with ` | ` between two. In the input and the output a `/` stands for the end of a line. An `@` there, and
+the word `@`, stand for a text that a line `@ = TEXT` before the row gives; `@ = TEXT * N` is N times this text, and
+`@ = halves N` is what `halves` gives for N. `\\t` is a tab, `\\r` a carriage return, `\\x0b` the byte of this number,
+and `\\u{feff}` this code point in UTF-8. If the input is `unread`, each read would fail, and the output `nothing` is
+an empty one. A line that begins with `# ` is a remark. `streams.txt` has runs of om_each, and each other table has
+runs of om.
 
-Behind the tables come runs that read a text which breaks off, runs whose output has too little room, a few answers that are looked
-at in parts, and lists that are compared with what the axioms give; and for om_each the documents of all tables in streams, and a
-conversation. All are run on each program that is named, with the runs of om_each on those whose name has `each` in it; where none is
-named, on both programs as they are built, and, where they are there, as the second compiler builds them. The last line is
-'rows: N passed, M failed', and the exit code is 1 where one failed.
+After the tables come runs that read a text which breaks off, runs whose output has too little room, a few answers of
+which parts are compared, and lists that are compared with what the axioms give. For om_each there are the documents
+of all tables in streams, and a conversation. Each program that is named makes all these runs, those of om_each if its
+name has `each` in it. If none is named, both built programs do, and those of the second compiler if they are there.
+The last line is 'rows: N passed, M failed', and the exit code is 1 if one failed.
 """
 import glob
 import itertools
@@ -35,11 +36,12 @@ BUILT = [os.path.join(TOP, "crates", name, "out", name) for name in ("om", "om_e
 STREAMS = os.path.join(HERE, "streams.txt")
 UNIFORM = b"om 1\nchirotope 3 4\n++++\nend\n"
 # the chirotope of the theorem of Pappus, but that its last triple isn't on a line
-NON_PAPPUS = b"om 1\nchirotope 3 9\n0++++++++++++--------0-0++++++++++----0---+0+++++---0+-0++++++++\n0------------------+\nend\n"
+NON_PAPPUS = (b"om 1\nchirotope 3 9\n"
+              b"0++++++++++++--------0-0++++++++++----0---+0+++++---0+-0++++++++\n0------------------+\nend\n")
 
 
 class Row:
-    """A run, and what it comes to."""
+    """A run, and what it has to give."""
 
     def __init__(self, line, at):
         words, given, code, output = line.split(" | ", 3)
@@ -62,8 +64,10 @@ def bytes_of(text, at):
 
 
 def halves(count):
-    """Lines of 20 signs, no two of them equal or opposite: plus, and then plus at each one of the 19 binary digits of a number."""
-    return b"".join(b"+%s\n" % format(number, "019b").replace("0", "-").replace("1", "+").encode() for number in range(count))
+    """Lines of 20 signs, no two of them equal or opposite: plus, and then plus at each one of the 19 binary digits of
+    a number."""
+    return b"".join(b"+%s\n" % format(number, "019b").replace("0", "-").replace("1", "+").encode()
+                    for number in range(count))
 
 
 def rows_of(path):
@@ -84,18 +88,20 @@ def rows_of(path):
 
 
 def run(program, words, given, **more):
-    """The exit code and the output of a run whose input are some bytes and then their end."""
-    ended = subprocess.run([program] + words, input=given, stdout=subprocess.PIPE, stderr=subprocess.STDOUT, timeout=60, **more)
+    """The exit code and the output of a run whose input is some bytes and then their end."""
+    ended = subprocess.run([program] + words, input=given, stdout=subprocess.PIPE, stderr=subprocess.STDOUT, timeout=60,
+                           **more)
     return ended.returncode, ended.stdout
 
 
 def run_cut_off(program, words, given):
-    """The exit code and the output of a run whose input are some bytes, behind which each read fails."""
+    """The exit code and the output of a run whose input is some bytes, after which each read fails."""
     reader, writer = os.pipe()
     os.set_blocking(reader, False)
     os.write(writer, given)
     try:
-        ended = subprocess.run([program] + words, stdin=reader, stdout=subprocess.PIPE, stderr=subprocess.STDOUT, timeout=60)
+        ended = subprocess.run([program] + words, stdin=reader, stdout=subprocess.PIPE, stderr=subprocess.STDOUT,
+                               timeout=60)
     finally:
         os.close(reader)
         os.close(writer)
@@ -109,7 +115,8 @@ def run_in_room(program, words, given, room):
         resource.setrlimit(resource.RLIMIT_FSIZE, (room, room))
 
     with tempfile.TemporaryFile() as output:
-        ended = subprocess.run([program] + words, input=given, stdout=output, stderr=subprocess.DEVNULL, timeout=60, preexec_fn=little_room)
+        ended = subprocess.run([program] + words, input=given, stdout=output, stderr=subprocess.DEVNULL, timeout=60,
+                               preexec_fn=little_room)
         output.seek(0)
         return ended.returncode, output.read()
 
@@ -121,7 +128,7 @@ class Tally:
         self.passed = self.failed = 0
 
     def expect(self, what, found, wanted):
-        """Counts a run, which has to come to what is wanted."""
+        """Counts a run, which has to give what is wanted."""
         if found == wanted:
             self.passed += 1
         else:
@@ -143,17 +150,20 @@ def run_tables(tally, program, paths):
 
 
 def run_faults(tally, program):
-    """A read that fails behind each byte of a document, and rooms that end behind each byte of two answers."""
+    """A read that fails after each byte of a document, and rooms that end after each byte of two answers."""
     for read in range(len(UNIFORM) + 1):
-        tally.expect("a read that fails behind %d bytes" % read, run_cut_off(program, ["accept"], UNIFORM[:read]), (4, b""))
+        tally.expect("a read that fails behind %d bytes" % read, run_cut_off(program, ["accept"], UNIFORM[:read]),
+                     (4, b""))
     for room in range(9):
-        tally.expect("a room of %d bytes" % room, run_in_room(program, ["accept"], UNIFORM, room), (5, b"accepted\n"[:room]))
+        tally.expect("a room of %d bytes" % room, run_in_room(program, ["accept"], UNIFORM, room),
+                     (5, b"accepted\n"[:room]))
     tally.expect("a room of 9 bytes", run_in_room(program, ["accept"], UNIFORM, 9), (0, b"accepted\n"))
     circuits = b"om 1\ncircuits 4\n-+-+\n+-+-\nend\n"
     for room in range(len(circuits)):
         found = run_in_room(program, ["convert", "circuits"], UNIFORM, room)
         tally.expect("a list in a room of %d bytes" % room, found, (5, circuits[:room]))
-    tally.expect("a list in a room of its size", run_in_room(program, ["convert", "circuits"], UNIFORM, len(circuits)), (0, circuits))
+    tally.expect("a list in a room of its size", run_in_room(program, ["convert", "circuits"], UNIFORM, len(circuits)),
+                 (0, circuits))
 
 
 def run_parts(tally, program):
@@ -173,14 +183,16 @@ def run_parts(tally, program):
 
 
 def all_plus(elements, number):
-    """The document of the chirotope of rank 3 on some elements whose signs, of which this is the number, are all plus."""
+    """The document of the chirotope of rank 3 on some elements whose signs, of which this is the number, are all
+    plus."""
     return b"om 1\nchirotope 3 %d\n%s\nend\n" % (elements, b"+" * number)
 
 
 def is_chirotope(signs):
-    """Whether the map of rank 3 on five elements with these signs is a chirotope: it isn't all zero, and from each two bases x and y
-    some element of y can be exchanged with the first of x so that the product of their values is kept. Where two elements of y, or
-    the last two of x, change places, all the products change their signs, so one order of them will do."""
+    """Whether the map of rank 3 on five elements with these signs is a chirotope: it isn't all zero, and from each
+    two bases x and y some element of y can be exchanged with the first of x so that the product of their values is
+    kept. Where two elements of y, or the last two of x, change places, all the products change their signs, so one
+    order of them will do."""
     value = dict.fromkeys(itertools.product(range(5), repeat=3), 0)
     for (a, b, c), sign in zip(itertools.combinations(range(5), 3), signs):
         value[a, b, c] = value[b, c, a] = value[c, a, b] = "-0+".index(sign) - 1
@@ -194,14 +206,16 @@ def is_chirotope(signs):
 def extensions(old):
     """The signatures of the extensions of the map of rank 3 on four elements with these signs, from minus to plus."""
     for new in itertools.product("-0+", repeat=6):
-        # of five elements the triples 1 2 3, 1 2 4, 1 3 4 and 2 3 4 are the old ones, and each other one is a pair with the fifth
+        # of five elements the triples 1 2 3, 1 2 4, 1 3 4 and 2 3 4 are the old ones, and each other one is a pair
+        # with the fifth
         signs = old[0] + old[1] + new[0] + old[2] + new[1] + new[2] + old[3] + new[3] + new[4] + new[5]
         if is_chirotope(signs):
             yield "".join(new)
 
 
 def run_extensions(tally, program, listed):
-    """The extensions of each map of rank 3 on four elements that has no zero, and the numbers of those of larger ones."""
+    """The extensions of each map of rank 3 on four elements that has no zero, and the numbers of those of larger
+    ones."""
     for old, lines in listed:
         wanted = "om 1\nextensions 4\n%s\nend\n" % "\n".join(lines)
         found = run(program, ["extend"], b"om 1\nchirotope 3 4\n%s\nend\n" % old.encode())
@@ -215,7 +229,8 @@ def run_extensions(tally, program, listed):
 
 
 def run_twenty_wires(tally, program):
-    """The least wiring diagram where all signs are plus: each wire crosses all lesser ones, from its position down to the first."""
+    """The least wiring diagram where all signs are plus: each wire crosses all lesser ones, from its position down to
+    the first."""
     blocks = ["%d-%d\n" % (k, k + 1) for wire in range(2, 21) for k in range(wire - 1, 0, -1)]
     wanted = "om 1\nwiring 20\n%send\n" % "".join(blocks)
     found = run(program, ["wiring"], all_plus(20, 1140))
@@ -223,9 +238,11 @@ def run_twenty_wires(tally, program):
 
 
 def run_long_lists(tally, program):
-    """Lists so long that a map is proposed for them, as the program writes them; the conversion keeps their members in order."""
+    """Lists so long that a map is proposed for them, as the program writes them; the conversion keeps their members
+    in order."""
     uniform = all_plus(8, 56)
-    # eight lines of the plane in general position have 28 points, 56 segments and 29 regions, each with two signs, and the zero vector
+    # eight lines of the plane in general position have 28 points, 56 segments and 29 regions, each with two signs,
+    # and the zero vector
     for kind, count in ("circuits", 140), ("cocircuits", 56), ("covectors", 227):
         code, listing = run(program, ["convert", kind], uniform)
         tally.expect("%s of eight elements" % kind, (code, listing.count(b"\n")), (0, count + 2 + 1))
@@ -234,7 +251,8 @@ def run_long_lists(tally, program):
 
 
 def documents():
-    """By their words, the runs of the tables of om whose input is one piece that goes on in no way, up to a line feed."""
+    """By their words, the runs of the tables of om whose input is one piece that goes on in no way, up to a line
+    feed."""
     found = {}
     for path in tables():
         for row in rows_of(path):
@@ -246,15 +264,17 @@ def documents():
 
 
 def run_streams(tally, program):
-    """The documents of all tables, those with the same words in one run, each answered as it is alone; also with comments and documents
-    without an end between them."""
+    """The documents of all tables, those with the same words in one run, each answered as it is alone; also with
+    comments and documents without an end between them."""
     runs = documents()
     for words, rows in sorted(runs.items()):
         ended = run(program, list(words), b"".join(row.input for row in rows))
-        tally.expect("a stream of %d documents of %s" % (len(rows), " ".join(words)), ended, (max(row.code for row in rows), b"".join(row.output for row in rows)))
+        tally.expect("a stream of %d documents of %s" % (len(rows), " ".join(words)), ended,
+                     (max(row.code for row in rows), b"".join(row.output for row in rows)))
     rows = runs["accept",]
-    ended = run(program, ["accept"], b"".join(b"# between\n\n" + UNIFORM + row.input + b"om 1\n# no end\n" for row in rows))
-    # the two lines behind `no end` belong to its piece, but the last time
+    ended = run(program, ["accept"], b"".join(b"# between\n\n" + UNIFORM + row.input + b"om 1\n# no end\n"
+                                              for row in rows))
+    # the two lines after `no end` belong to its piece, except the last time
     wanted = b"".join(b"accepted\n" + row.output + b"refused line 5 missing\n" for row in rows)
     tally.expect("with other pieces between", ended, (1, wanted[:-len(b"5 missing\n")] + b"3 missing\n"))
     ended = run(program, ["accept"], UNIFORM * 100_000)
@@ -262,14 +282,15 @@ def run_streams(tally, program):
 
 
 def run_stream_faults(tally, program):
-    """A read that fails behind each byte of a stream, and rooms that end behind each byte of its answers."""
+    """A read that fails after each byte of a stream, and rooms that end after each byte of its answers."""
     text = UNIFORM + b"om 1\nchirotope 2 4\n+-++++\nend\n# last\n" + UNIFORM
     answers = [b"accepted\n", b"refused relation 1,2,3 4\n", b"accepted\n"]
     for read in range(len(text) + 1):
         # where no line feed ends it, a line isn't whole
         whole = text[:text.rfind(b"\n", 0, read) + 1]
         answered = sum(closed for _, closed in pieces(whole, 1))
-        tally.expect("a read that fails behind %d bytes of a stream" % read, run_cut_off(program, ["accept"], text[:read]), (4, b"".join(answers[:answered])))
+        tally.expect("a read that fails behind %d bytes of a stream" % read,
+                     run_cut_off(program, ["accept"], text[:read]), (4, b"".join(answers[:answered])))
     output = b"".join(answers)
     for room in range(len(output) + 1):
         found = run_in_room(program, ["accept"], text, room)
@@ -278,7 +299,8 @@ def run_stream_faults(tally, program):
 
 def run_conversation(tally, program):
     """Each answer is there before the next document is."""
-    questions = [(UNIFORM, 1), (b"om 1\nchirotope 2 4\n+-++++\nend\n", 1), (b"# two at once\n" + UNIFORM * 2, 2), (UNIFORM[:-1] + b"\n", 1)]
+    questions = [(UNIFORM, 1), (b"om 1\nchirotope 2 4\n+-++++\nend\n", 1), (b"# two at once\n" + UNIFORM * 2, 2),
+                 (UNIFORM[:-1] + b"\n", 1)]
     found = []
     with subprocess.Popen([program, "accept"], stdin=subprocess.PIPE, stdout=subprocess.PIPE) as talk:
         alarm = threading.Timer(60, talk.kill)

@@ -8,8 +8,8 @@ def words_of(line):
 
 
 def pieces(data, ends=1):
-    """The pieces of a stream: up to and with the line `end` of this number, or to before a line whose first word is `om`, where a line
-    of the piece has a word, or to the end. With each stands whether it has that line `end`."""
+    """The pieces of a stream: up to and with the line `end` of this number, or before a line whose first word is
+    `om`, if a line of the piece has a word, or to the end. With each stands whether it has that line `end`."""
     piece, has_word, left = b"", False, ends
     for line in re.findall(rb"[^\n]*\n|[^\n]+", data):
         words = words_of(line)
