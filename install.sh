@@ -53,4 +53,4 @@ ln -sf ../../bin/om "$to/share/om/om"
 ln -sf ../../bin/om-each "$to/share/om/om-each"
 put 644 share/doc/om "$here/README.md" "$here/CHANGELOG.md" "$here"/LICENSE-* "$here/CITATION.cff" "$here/VERSION" "$here/PROVED"
 put 644 share/doc/om/docs "$here"/docs/*.md
-echo "om and om-each stand in $to/bin"
+echo "om and om-each are installed in $to/bin"

@@ -1,10 +1,10 @@
 # Completion of om and om-each for bash: source it, or put it into the folder of bash-completion under both names.
-# Behind a `<` files are completed, as ever.
+# After a `<` files are completed, as always.
 _om() {
   local word=${COMP_WORDS[COMP_CWORD]} before=${COMP_WORDS[COMP_CWORD - 1]}
   local commands="accept member convert dual delete contract reorient wiring mutations flip extend decide check paint hull lexext threeterm upgrade"
   COMPREPLY=()
-  # behind a redirection a file is wanted, which the shell completes itself
+  # a redirection takes a file, which the shell completes by itself
   case $before$word in *[\<\>]*) return ;; esac
   if [ "$COMP_CWORD" -eq 1 ]; then
     # a stream has no command that reads nothing

@@ -1,9 +1,10 @@
 #!/usr/bin/env python3
 """docs/check.py
 
-Looks up what the pages name: each link, each file, and each crate, call and definition that stands between backticks. A name
-is looked up in the sources of the repository; a file from the top, from the folder of the page, or by its name alone. Then it
-asks for the size of README, and for the layers of docs/ARCHITECTURE.md, which layers.py makes of crates.txt. The last line is 'pages: N passed, M failed', and the exit code is 1 where one failed.
+Looks up what the pages name: each link, each file, and each crate, call and definition that stands between backticks.
+A name is looked up in the sources of the repository; a file from the top, from the folder of the page, or by its name
+alone. Then it asks for the size of README, and for the layers of docs/ARCHITECTURE.md, which layers.py makes of
+crates.txt. The last line is 'pages: N passed, M failed', and the exit code is 1 if one failed.
 """
 import os
 import re
@@ -50,7 +51,8 @@ def is_there(name, page, files, names):
         return any(pattern.fullmatch(path) for path in files)
     endings = [name] + [name + ending for ending in (".antt", ".rt", ".edit")]
     places = [os.path.join(TOP, at, ending) for at in ("", os.path.dirname(page)) for ending in endings]
-    return any(map(os.path.exists, places)) or name in names or any(path.endswith("/" + ending) or "/" + ending + "/" in path for path in files for ending in endings)
+    return any(map(os.path.exists, places)) or name in names or any(path.endswith("/" + ending) or "/" + ending +
+                                                                    "/" in path for path in files for ending in endings)
 
 
 def looked_up(page, text, files, names, known):
@@ -71,9 +73,11 @@ def looked_up(page, text, files, names, known):
                 continue
             if "*" in word and not is_folder(word.split("/")[0]):
                 continue  # files of a reader
-            if FILE.fullmatch(word) and (os.path.splitext(word)[1] or " " not in quoted and is_folder(word.split("/")[0])):
+            if FILE.fullmatch(word) and (os.path.splitext(word)[1] or " " not in quoted
+                                         and is_folder(word.split("/")[0])):
                 yield word, is_there(word.removeprefix("./"), page, files, names)
-            elif NAME.fullmatch(word) and page not in OTHERS and ("_" in word.strip("_") or "::" in word or re.search("[a-z][A-Z]", word)):
+            elif NAME.fullmatch(word) and page not in OTHERS and ("_" in word.strip("_") or "::" in word
+                                                                  or re.search("[a-z][A-Z]", word)):
                 yield word, all(part in known or part in names or part + ".edit" in names for part in word.split("::"))
 
 

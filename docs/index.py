@@ -1,15 +1,18 @@
 #!/usr/bin/env python3
 """docs/index.py [WORD]
 
-Prints an index of the definitions that contracts may cite: every public definition of the files `specs/*.antt`, by name,
-with its crate, its file and the comment above it. With WORD only those whose name holds it. The last line counts them.
+Prints an index of the definitions that contracts may cite: every public definition of the files `specs/*.antt`, by
+name, with its crate, its file and the comment above it. With WORD only those whose name holds it. The last line
+counts them.
 """
 import os
 import re
 import sys
 
 TOP = os.path.dirname(os.path.dirname(os.path.abspath(__file__)))
-HEAD = re.compile(r"^\s*(?:abbrev |unfoldable )?pub (?:data |record )([^\s:({]+)|^(?:abbrev |unfoldable )?pub (?:data |record )?(?:abbrev )?([^\s:({]+)|^(?:data|record) pub ([^\s:({]+)")
+HEAD = re.compile(
+    r"^\s*(?:abbrev |unfoldable )?pub (?:data |record )([^\s:({]+)"
+    r"|^(?:abbrev |unfoldable )?pub (?:data |record )?(?:abbrev )?([^\s:({]+)|^(?:data|record) pub ([^\s:({]+)")
 
 
 def definitions(path):
@@ -35,7 +38,8 @@ def main():
         specs = os.path.join(crates, crate, "specs")
         for name in sorted(os.listdir(specs)) if os.path.isdir(specs) else []:
             if name.endswith(".antt") and name != "Lib.antt":
-                rows += [(word, crate, name[:-5], text) for word, text in definitions(os.path.join(specs, name)) if wanted in word]
+                rows += [(word, crate, name[:-5], text) for word, text in definitions(os.path.join(specs, name))
+                         if wanted in word]
     for word, crate, file, text in sorted(rows, key=lambda row: (row[0].lower(), row[1])):
         print("%-36s %-16s %-18s %s" % (word, crate, file, text))
     print("definitions: %d" % len(rows))

@@ -1,9 +1,10 @@
 #!/usr/bin/env python3
-"""docs/layers.py [--write]
+"""docs/layers.py [--write | --below CRATE ..]
 
-Prints the layers of the crates, from crates.txt: a crate stands in the first layer above all crates that it uses. Behind a crate stand
-those of them that no other one uses in its turn, so that the rest follows. With --write they are put into docs/ARCHITECTURE.md, between
-the lines that begin and end them there.
+Prints the layers of the crates, from crates.txt. A crate is in the first layer above all crates that it uses. After a
+crate come the crates that it uses, without those that another of them uses already. With --write the layers are put
+into docs/ARCHITECTURE.md, between the lines that begin and end them there. With --below the crates that are named are
+printed, and all crates below them, the lowest first.
 """
 import os
 import sys
@@ -48,12 +49,32 @@ def layers():
     return "\n".join(lines) + "\n"
 
 
+def with_lower(names):
+    """These crates and all below them, each after those that it uses."""
+    used, found = crates(), []
+
+    def visit(name):
+        if name not in found:
+            for it in used[name]:
+                visit(it)
+            found.append(name)
+
+    for name in names:
+        if name not in used:
+            sys.exit("layers.py: there is no crate %s" % name)
+        visit(name)
+    return found
+
+
 def stands_in(page):
     """Whether the page has these layers."""
     return BEGIN + layers() + END in page
 
 
 def main():
+    if sys.argv[1:2] == ["--below"] and len(sys.argv) > 2:
+        print("\n".join(with_lower(sys.argv[2:])))
+        return
     if sys.argv[1:] != ["--write"]:
         sys.exit(__doc__) if sys.argv[1:] else print(layers(), end="")
         return

@@ -1,9 +1,10 @@
 #!/usr/bin/env python3
 """packaging/check.py
 
-Makes an archive of the built programs, unpacks it in a folder of its own, and runs every command behind a `$` in its README
-there, with a path on which the toolchain isn't. Then it installs from the unpacked archive, under a PREFIX and with DESTDIR,
-and runs what was installed. The last line is 'packaging: N passed, M failed', and the exit code is 1 where one failed.
+Makes an archive of the built programs, unpacks it in a folder of its own, and runs every command after a `$` in its
+README there, with a path without the toolchain. Then it installs from the unpacked archive, under a PREFIX and with
+DESTDIR, and runs what was installed. The last line is 'packaging: N passed, M failed', and the exit code is 1 if one
+failed.
 """
 import os
 import shutil
@@ -21,14 +22,15 @@ TOOLS = ("rt", "rattle")
 
 
 def expect(what, found, wanted):
-    """Counts a run, which has to come to what is wanted."""
+    """Counts a run, which has to give what is wanted."""
     TALLY[found == wanted] += 1
     if found != wanted:
         print("failed: %s\n--- wanted %r\n--- found  %r" % (what, wanted, found))
 
 
 def path_without_tools(room):
-    """A path with all that this one has, but without the toolchain: of a folder that has it, the other programs are linked to."""
+    """A path with all that this one has, but without the toolchain: of a folder that has it, the other programs are
+    linked to."""
     folders, links = [], os.path.join(room, "bin")
     os.mkdir(links)
     for folder in os.environ["PATH"].split(os.pathsep):
@@ -43,13 +45,15 @@ def path_without_tools(room):
 
 def run(words, data, environment, **more):
     """The exit code, the output and the errors of a run."""
-    ended = subprocess.run(words, input=data, stdout=subprocess.PIPE, stderr=subprocess.PIPE, env=environment, timeout=60, **more)
+    ended = subprocess.run(words, input=data, stdout=subprocess.PIPE, stderr=subprocess.PIPE, env=environment,
+                           timeout=60, **more)
     return ended.returncode, ended.stdout, ended.stderr
 
 
 def main():
     with tempfile.TemporaryDirectory() as room:
-        subprocess.run([os.path.join(TOP, "packaging", "archive.sh"), room], check=True, stdout=subprocess.DEVNULL, stderr=subprocess.DEVNULL)
+        subprocess.run([os.path.join(TOP, "packaging", "archive.sh"), room], check=True, stdout=subprocess.DEVNULL,
+                       stderr=subprocess.DEVNULL)
         with open(os.path.join(TOP, "VERSION")) as file:
             version = file.read().strip()
         name = "om-%s-x86_64-linux.tar.gz" % version
@@ -61,9 +65,11 @@ def main():
         expect("no sources", os.path.exists(os.path.join(tree, "crates.txt")), False)
         with open(os.path.join(tree, "PROVED")) as file:
             proved = file.read().splitlines()
-        expect("the toolchain's line", proved[0], "Proved and built with " + subprocess.run(["rt", "version"], stdout=subprocess.PIPE, text=True).stdout.strip())
+        expect("the toolchain's line", proved[0], "Proved and built with " +
+               subprocess.run(["rt", "version"], stdout=subprocess.PIPE, text=True).stdout.strip())
         expect("what they need", proved[2].startswith("for x86-64 and Linux with a C library that has GLIBC_2."), True)
-        expect("the programs' checksums", run(["sha256sum", "-c"], "\n".join(proved[3:] + [""]).encode(), environment, cwd=tree)[0], 0)
+        expect("the programs' checksums", run(["sha256sum", "-c"], "\n".join(proved[3:] + [""]).encode(), environment,
+                                              cwd=tree)[0], 0)
         with open(os.path.join(tree, "README.md")) as file:
             text = file.read()
         for command, wanted in sessions(text):
@@ -73,7 +79,8 @@ def main():
 
         prefix, packed = os.path.join(room, "a prefix"), os.path.join(room, "dest")
         expect("install under a prefix", run(["./install.sh", prefix], b"", environment, cwd=tree)[0], 0)
-        expect("install with DESTDIR", run(["./install.sh", "/usr"], b"", dict(environment, DESTDIR=packed), cwd=tree)[0], 0)
+        expect("install with DESTDIR", run(["./install.sh", "/usr"], b"", dict(environment, DESTDIR=packed),
+                                           cwd=tree)[0], 0)
         shutil.rmtree(tree)
         for where in prefix, os.path.join(packed, "usr"):
             program, each = os.path.join(where, "bin", "om"), os.path.join(where, "bin", "om-each")
@@ -82,15 +89,21 @@ def main():
             link = os.path.join(room, "another-name-for-each")
             os.symlink(each, link)
             for it in link, os.path.join(where, "share", "om", "om-each"):
-                expect("%s, a link to om-each" % it, run([it, "accept"], UNIFORM * 2, environment), (0, b"accepted\n" * 2, b""))
+                expect("%s, a link to om-each" % it, run([it, "accept"], UNIFORM * 2, environment),
+                       (0, b"accepted\n" * 2, b""))
             os.remove(link)
-            for file in "man/man1/om.1", "man/man1/om-each.1", "bash-completion/completions/om", "bash-completion/completions/om-each", "om/neighbours/om.py", "doc/om/README.md", "doc/om/docs/FORMATS.md", "doc/om/PROVED":
+            for file in ("man/man1/om.1", "man/man1/om-each.1", "bash-completion/completions/om",
+                         "bash-completion/completions/om-each", "om/neighbours/om.py", "doc/om/README.md",
+                         "doc/om/docs/FORMATS.md", "doc/om/PROVED"):
                 expect("%s in %s" % (file, where), os.path.isfile(os.path.join(where, "share", file)), True)
             lists = os.path.join(where, "share", "om", "neighbours", "om-to-lists")
             expect("a filter in " + where, run([lists], UNIFORM, environment)[:2], (0, b"[1, 1, 1, 1]\n"))
-            module = "import sys; sys.path.insert(0, sys.argv[1]); from om import *; print(Workbench().accept(Document.chirotope(3, 4, '++++')))"
-            expect("the module in " + where, run([sys.executable, "-c", module, os.path.dirname(lists)], b"", environment)[1], b"True\n")
-        expect("no file of the install has the first folder's name", subprocess.run(["grep", "-rlF", tree, prefix], stdout=subprocess.PIPE).stdout, b"")
+            module = ("import sys; sys.path.insert(0, sys.argv[1]); from om import *; "
+                      "print(Workbench().accept(Document.chirotope(3, 4, '++++')))")
+            expect("the module in " + where, run([sys.executable, "-c", module, os.path.dirname(lists)], b"",
+                                                 environment)[1], b"True\n")
+        expect("no file of the install has the first folder's name",
+               subprocess.run(["grep", "-rlF", tree, prefix], stdout=subprocess.PIPE).stdout, b"")
     print("packaging: %d passed, %d failed" % (TALLY[True], TALLY[False]))
     return 1 if TALLY[False] or not TALLY[True] else 0
 
