@@ -5,12 +5,12 @@
 use Rattle.std.proofs.Common.{◌≡◌, ℕ, ◌≤◌, ◌<◌, ◌⊎◌, List, [], ◌∷◌, ◌++◌, true, cond, length, refl, sym, ap, subst, ◌∙◌}
 use Rattle.std.proofs.Common.{arith, inl, inr, length-append, append_assoc}
 use Rattle.std.specs.Prelude.{Option, Some, None, Result, Ok, Err, codes, nat_lt}
-use Rattle.std.proofs.lemmas.Bool.{ltb-true}
+use Rattle.std.proofs.lemmas.Bool.{ltb-true, cases_Bool}
+use Rattle.om_signs.proofs.Results.{ok-injective}
 use Rattle.om_text.specs.declared.code.Code.{Code}
 use Rattle.om_text.specs.declared.code.Code.TheVariants as code
 use Rattle.om_text.specs.Settings.{is_line}
 use Rattle.om_text.specs.Document.{end_line}
-use Rattle.om_text.proofs.Distinct.{either}
 use Rattle.om_text.proofs.Filling.{is_line-Decides}
 use Rattle.om_vectors.specs.WholeVectors.{WholeVector}
 use Rattle.om_vectors.specs.declared.unfound.Unfound.{Unfound}
@@ -99,33 +99,30 @@ IsPart Empty ls = ls ≡ []
 IsPart (Closed v) ls = IsBlock ls v
 IsPart b ls = IsBegun b ls
 
-pub same_ok : (s t : Block) → ◌≡◌ {A = Result Block Code} (Ok s) (Ok t) → s ≡ t
-same_ok s t h = cc
-
 -- what a step says where it goes on
 pub closed_ok : (v : Verdict) (w : List (List ℕ)) (other : Result Block Code) (t : Block) → closed v w other ≡ Ok t
     → ((w ≡ end_line) × (Closed v ≡ t)) ⊎ (other ≡ Ok t)
-closed_ok v w other t h = elim (either (is_line w end_line)) [
+closed_ok v w other t h = elim (cases_Bool (is_line w end_line)) [
   | inl e ↦ let g : ◌≡◌ {A = Result Block Code} (Ok (Closed v)) (Ok t) = rw e at h in
-      inl ((is_line-Decides w end_line).0 e, same_ok (Closed v) t g)
+      inl ((is_line-Decides w end_line).0 e, ok-injective (Closed v) t g)
   | inr n ↦ let g : other ≡ Ok t = rw n at h in inr g
 ]
 
 pub searched_ok : (f : Front) (w : List (List ℕ)) (other : Result Block Code) (t : Block) → searched f w other ≡ Ok t
     → ((w ≡ word_line (codes "exhausted")) × (Exhausted f ≡ t))
     ⊎ (((w ≡ word_line (codes "frontier")) × (Frontier f [] ≡ t)) ⊎ (other ≡ Ok t))
-searched_ok f w other t h = elim (either (is_line w (word_line (codes "exhausted")))) [
+searched_ok f w other t h = elim (cases_Bool (is_line w (word_line (codes "exhausted")))) [
   | inl e ↦ let g : ◌≡◌ {A = Result Block Code} (Ok (Exhausted f)) (Ok t) = rw e at h in
-      inl ((is_line-Decides w (word_line (codes "exhausted"))).0 e, same_ok (Exhausted f) t g)
+      inl ((is_line-Decides w (word_line (codes "exhausted"))).0 e, ok-injective (Exhausted f) t g)
   | inr n ↦ let g : cond (is_line w (word_line (codes "frontier"))) (Ok (Frontier f [])) other ≡ Ok t = rw n at h in
       inr (second g)
 ]
   where
     second : cond (is_line w (word_line (codes "frontier"))) (Ok (Frontier f [])) other ≡ Ok t
         → ((w ≡ word_line (codes "frontier")) × (Frontier f [] ≡ t)) ⊎ (other ≡ Ok t)
-    second h = elim (either (is_line w (word_line (codes "frontier")))) [
+    second h = elim (cases_Bool (is_line w (word_line (codes "frontier")))) [
       | inl e ↦ let g : ◌≡◌ {A = Result Block Code} (Ok (Frontier f [])) (Ok t) = rw e at h in
-          inl ((is_line-Decides w (word_line (codes "frontier"))).0 e, same_ok (Frontier f []) t g)
+          inl ((is_line-Decides w (word_line (codes "frontier"))).0 e, ok-injective (Frontier f []) t g)
       | inr n ↦ let g : other ≡ Ok t = rw n at h in inr g
     ]
 
@@ -133,9 +130,9 @@ searched_ok f w other t h = elim (either (is_line w (word_line (codes "exhausted
 pub next_ok : {A : Type 0} (f : List A → Block) (most : ℕ) (xs : List A) (o : Option A) (t : Block)
     → with_next f most xs o ≡ Ok t → (x : A) × (o ≡ Some x) × (length xs < most) × (f (xs ++ x ∷ []) ≡ t)
 next_ok f most xs None t h = cc
-next_ok f most xs (Some x) t h = elim (either (nat_lt (length xs) most)) [
+next_ok f most xs (Some x) t h = elim (cases_Bool (nat_lt (length xs) most)) [
   | inl e ↦ let g : ◌≡◌ {A = Result Block Code} (Ok (f (xs ++ x ∷ []))) (Ok t) = rw e at h in
-      (x, refl, ltb-true (length xs) most e, same_ok _ t g)
+      (x, refl, ltb-true (length xs) most e, ok-injective _ t g)
   | inr n ↦ let g : ◌≡◌ {A = Result Block Code} (Err code.Many) (Ok t) = rw n at h in cc
 ]
 
@@ -169,17 +166,17 @@ opened_shows w t h = first h
         }
 
     fourth : cond (is_line w (word_line (codes "limit"))) (Ok Tableau) (Err code.Claim) ≡ Ok t → IsPart t (w ∷ [])
-    fourth h = elim (either (is_line w (word_line (codes "limit")))) [
+    fourth h = elim (cases_Bool (is_line w (word_line (codes "limit")))) [
       | inl e ↦ let g : ◌≡◌ {A = Result Block Code} (Ok Tableau) (Ok t) = rw e at h in
-          subst (λ b. IsPart b (w ∷ [])) (same_ok Tableau t g) (begun Tableau (codes "limit") e refl refl)
+          subst (λ b. IsPart b (w ∷ [])) (ok-injective Tableau t g) (begun Tableau (codes "limit") e refl refl)
       | inr n ↦ let g : ◌≡◌ {A = Result Block Code} (Err code.Claim) (Ok t) = rw n at h in cc
     ]
 
     third : cond (is_line w (word_line (codes "undecided"))) (Ok (Weights []))
         (cond (is_line w (word_line (codes "limit"))) (Ok Tableau) (Err code.Claim)) ≡ Ok t → IsPart t (w ∷ [])
-    third h = elim (either (is_line w (word_line (codes "undecided")))) [
+    third h = elim (cases_Bool (is_line w (word_line (codes "undecided")))) [
       | inl e ↦ let g : ◌≡◌ {A = Result Block Code} (Ok (Weights [])) (Ok t) = rw e at h in
-          subst (λ b. IsPart b (w ∷ [])) (same_ok (Weights []) t g)
+          subst (λ b. IsPart b (w ∷ [])) (ok-injective (Weights []) t g)
           (begun (Weights []) (codes "undecided") e refl (no_items weight_of MOST_WEIGHTS))
       | inr n ↦
           fourth (let g : cond (is_line w (word_line (codes "limit"))) (Ok Tableau) (Err code.Claim) ≡ Ok t =
@@ -189,9 +186,9 @@ opened_shows w t h = first h
     second : cond (is_line w (word_line (codes "nonrealizable"))) (Ok (Entries []))
         (cond (is_line w (word_line (codes "undecided"))) (Ok (Weights []))
         (cond (is_line w (word_line (codes "limit"))) (Ok Tableau) (Err code.Claim))) ≡ Ok t → IsPart t (w ∷ [])
-    second h = elim (either (is_line w (word_line (codes "nonrealizable")))) [
+    second h = elim (cases_Bool (is_line w (word_line (codes "nonrealizable")))) [
       | inl e ↦ let g : ◌≡◌ {A = Result Block Code} (Ok (Entries [])) (Ok t) = rw e at h in
-          subst (λ b. IsPart b (w ∷ [])) (same_ok (Entries []) t g)
+          subst (λ b. IsPart b (w ∷ [])) (ok-injective (Entries []) t g)
           (begun (Entries []) (codes "nonrealizable") e refl refl)
       | inr n ↦
           third (let g : cond (is_line w (word_line (codes "undecided"))) (Ok (Weights []))
@@ -199,9 +196,9 @@ opened_shows w t h = first h
     ]
 
     first : opened w ≡ Ok t → IsPart t (w ∷ [])
-    first h = elim (either (is_line w (word_line (codes "realizable")))) [
+    first h = elim (cases_Bool (is_line w (word_line (codes "realizable")))) [
       | inl e ↦ let g : ◌≡◌ {A = Result Block Code} (Ok (Vectors [])) (Ok t) = rw e at h in
-          subst (λ b. IsPart b (w ∷ [])) (same_ok (Vectors []) t g)
+          subst (λ b. IsPart b (w ∷ [])) (ok-injective (Vectors []) t g)
           (begun (Vectors []) (codes "realizable") e refl (no_items vector_of MOST_VECTORS))
       | inr n ↦
           second (let g : cond (is_line w (word_line (codes "nonrealizable"))) (Ok (Entries []))
@@ -275,7 +272,7 @@ block_shows (Entries es) ls w t o h = elim (closed_ok _ w _ t h) [
   where
     more : (p : Option Entry) → entry_of w ≡ p → with_entry es p ≡ Ok t → IsPart t (ls ++ w ∷ [])
     more None e g = cc
-    more (Some x) e g = subst (λ b. IsPart b (ls ++ w ∷ [])) (same_ok (Entries (es ++ x ∷ [])) t g)
+    more (Some x) e g = subst (λ b. IsPart b (ls ++ w ∷ [])) (ok-injective (Entries (es ++ x ∷ [])) t g)
         (record {
           rest = o.rest ++ w ∷ [];
           lines = more_lines ls o.rest (codes "nonrealizable") w o.lines;
@@ -300,12 +297,12 @@ block_shows Tableau ls w t o h = by (pivots_of w) refl h
 
     width_at : (e : Option LpEnd) → width_of w ≡ e → tested e ≡ Ok t → IsPart t (ls ++ w ∷ [])
     width_at None q g = cc
-    width_at (Some e) q g = subst (λ b. IsPart b (ls ++ w ∷ [])) (same_ok (Tested e) t g)
+    width_at (Some e) q g = subst (λ b. IsPart b (ls ++ w ∷ [])) (ok-injective (Tested e) t g)
         (record { rest = w ∷ []; lines = one; is = width w e q })
 
     by : (p : Option ℕ) → pivots_of w ≡ p → with_tableau p w ≡ Ok t → IsPart t (ls ++ w ∷ [])
     by None q g = width_at (width_of w) refl g
-    by (Some p) q g = subst (λ b. IsPart b (ls ++ w ∷ [])) (same_ok (Pivots p) t g)
+    by (Some p) q g = subst (λ b. IsPart b (ls ++ w ∷ [])) (ok-injective (Pivots p) t g)
         (record { rest = w ∷ []; lines = one; is = record { line = w; lines = refl; count = q } })
 block_shows (Pivots p) ls w t o h = by (basis_of w) refl h
   where
@@ -315,7 +312,7 @@ block_shows (Pivots p) ls w t o h = by (basis_of w) refl h
 
     by : (b : Option (List ℕ)) → basis_of w ≡ b → with_basis p b ≡ Ok t → IsPart t (ls ++ w ∷ [])
     by None q g = cc
-    by (Some b) q g = subst (λ s. IsPart s (ls ++ w ∷ [])) (same_ok _ t g)
+    by (Some b) q g = subst (λ s. IsPart s (ls ++ w ∷ [])) (ok-injective _ t g)
         (record { rest = o.is.line ∷ w ∷ []; lines = two; is = pivots o.is.line w p b o.is.count q })
 block_shows (Tested e) ls w t o h = search_shows (front.Tableau e) ls o.rest w t _ o.lines o.is (λ g. cc) h
 block_shows (Exhausted f) ls w t o h = elim (closed_ok _ w _ t h) [

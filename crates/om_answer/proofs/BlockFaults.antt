@@ -2,17 +2,17 @@
 --
 -- Main definitions: HasShape
 -- Main results: block_error
-use Rattle.std.proofs.Common.{◌≡◌, ℕ, ◌+◌, List, [], ◌∷◌, ◌++◌, Bool, true, false, cond, ◌&&◌, ◌||◌, length, refl, ap}
+use Rattle.std.proofs.Math.Bool.{and-false, or-true}
+use Rattle.std.proofs.Common.{◌≡◌, ℕ, ◌+◌, List, [], ◌∷◌, ◌++◌, Bool, true, false, cond, length, refl, ap}
 use Rattle.std.proofs.Common.{◌∙◌, arith, inl, inr}
 use Rattle.std.specs.Prelude.{Option, Some, None, Result, Ok, Err, codes, nat_lt, nat_le, is_some}
 use Rattle.std.specs.List.{list_any}
 use Rattle.std.proofs.lemmas.List.Folds.{list_any-append}
-use Rattle.std.proofs.lemmas.Bool.{le-leb, ltb-false}
+use Rattle.std.proofs.lemmas.Bool.{le-leb, ltb-false, cases_Bool}
 use Rattle.om_text.specs.declared.code.Code.{Code}
 use Rattle.om_text.specs.declared.code.Code.TheVariants as code
 use Rattle.om_text.specs.Settings.{is_line}
 use Rattle.om_text.specs.Document.{end_line}
-use Rattle.om_text.proofs.Distinct.{either}
 use Rattle.om_vectors.specs.WholeVectors.{WholeVector}
 use Rattle.om_certificate.specs.declared.entry.Entry.{Entry}
 use Rattle.om_certificate.specs.declared.weight.Weight.{Weight}
@@ -40,22 +40,18 @@ pub record HasShape (v w : ℕ) (ls : List (List (List ℕ))) : Type 0 where
   pub vectors : last_passing (λ l. is_some (vector_of l)) 0 ls ≡ v
   pub weights : last_passing (λ l. is_some (weight_of l)) 0 ls ≡ w
 
-and_false : (b : Bool) → (b && false) ≡ false
-and_false true = refl
-and_false false = refl
-
 -- the three cases of a line that is refused
 none_past : (ls : List (List (List ℕ))) (w : List (List ℕ)) → HasShape 0 0 ls → code_in_block ls w ≡ code.Entry
 none_past ls w s =
-    rw (s.open_ended, s.vectors, s.weights, and_false (is_some (vector_of w)), and_false (is_some (weight_of w))) refl
+    rw (s.open_ended, s.vectors, s.weights, and-false (is_some (vector_of w)), and-false (is_some (weight_of w))) refl
 
 no_vector : (k : ℕ) (ls : List (List (List ℕ))) (w : List (List ℕ)) → HasShape k 0 ls → vector_of w ≡ None
     → code_in_block ls w ≡ code.Entry
-no_vector k ls w s n = rw (s.open_ended, n, s.weights, and_false (is_some (weight_of w))) refl
+no_vector k ls w s n = rw (s.open_ended, n, s.weights, and-false (is_some (weight_of w))) refl
 
 no_weight : (k : ℕ) (ls : List (List (List ℕ))) (w : List (List ℕ)) → HasShape 0 k ls → weight_of w ≡ None
     → code_in_block ls w ≡ code.Entry
-no_weight k ls w s n = rw (s.open_ended, n, s.vectors, and_false (is_some (vector_of w))) refl
+no_weight k ls w s n = rw (s.open_ended, n, s.vectors, and-false (is_some (vector_of w))) refl
 
 many_vectors : (k : ℕ) (ls : List (List (List ℕ))) (w : List (List ℕ)) (x : WholeVector) → HasShape k 0 ls
     → vector_of w ≡ Some x → nat_le MOST_VECTORS k ≡ true → code_in_block ls w ≡ code.Many
@@ -63,7 +59,7 @@ many_vectors k ls w x s e m = rw (s.open_ended, e, s.vectors, m) refl
 
 many_weights : (k : ℕ) (ls : List (List (List ℕ))) (w : List (List ℕ)) (x : Weight) → HasShape 0 k ls
     → weight_of w ≡ Some x → nat_le MOST_WEIGHTS k ≡ true → code_in_block ls w ≡ code.Many
-many_weights k ls w x s e m = rw (s.open_ended, e, s.weights, s.vectors, and_false (is_some (vector_of w)), m) refl
+many_weights k ls w x s e m = rw (s.open_ended, e, s.weights, s.vectors, and-false (is_some (vector_of w)), m) refl
 
 full : (k most : ℕ) → nat_lt k most ≡ false → nat_le most k ≡ true
 full k most h = let l = ltb-false k most h in le-leb most k l
@@ -74,14 +70,14 @@ err_same a b h = cc
 -- where a step fails
 closed_err : (v : Verdict) (w : List (List ℕ)) (other : Result Block Code) (c : Code) → closed v w other ≡ Err c
     → other ≡ Err c
-closed_err v w other c h = elim (either (is_line w end_line)) [
+closed_err v w other c h = elim (cases_Bool (is_line w end_line)) [
   | inl e ↦ let g : ◌≡◌ {A = Result Block Code} (Ok (Closed v)) (Err c) = rw e at h in cc
   | inr n ↦ let g : other ≡ Err c = rw n at h in g
 ]
 
 searched_err : (f : Front) (w : List (List ℕ)) (other : Result Block Code) (c : Code) → searched f w other ≡ Err c
     → other ≡ Err c
-searched_err f w other c h = elim (either (is_line w (word_line (codes "exhausted")))) [
+searched_err f w other c h = elim (cases_Bool (is_line w (word_line (codes "exhausted")))) [
   | inl e ↦ let g : ◌≡◌ {A = Result Block Code} (Ok (Exhausted f)) (Err c) = rw e at h in cc
   | inr n ↦
       second (let g : cond (is_line w (word_line (codes "frontier"))) (Ok (Frontier f [])) other ≡ Err c = rw n at h in
@@ -89,7 +85,7 @@ searched_err f w other c h = elim (either (is_line w (word_line (codes "exhauste
 ]
   where
     second : cond (is_line w (word_line (codes "frontier"))) (Ok (Frontier f [])) other ≡ Err c → other ≡ Err c
-    second h = elim (either (is_line w (word_line (codes "frontier")))) [
+    second h = elim (cases_Bool (is_line w (word_line (codes "frontier")))) [
       | inl e ↦ let g : ◌≡◌ {A = Result Block Code} (Ok (Frontier f [])) (Err c) = rw e at h in cc
       | inr n ↦ let g : other ≡ Err c = rw n at h in g
     ]
@@ -98,7 +94,7 @@ next_err : {A : Type 0} (f : List A → Block) (most : ℕ) (xs : List A) (o : O
     → with_next f most xs o ≡ Err c → (o ≡ None → known ≡ code.Entry)
     → ((x : A) → o ≡ Some x → nat_le most (length xs) ≡ true → known ≡ code.Many) → known ≡ c
 next_err f most xs None c known h none many = none refl ∙ err_same code.Entry c h
-next_err f most xs (Some x) c known h none many = elim (either (nat_lt (length xs) most)) [
+next_err f most xs (Some x) c known h none many = elim (cases_Bool (nat_lt (length xs) most)) [
   | inl e ↦ let g : ◌≡◌ {A = Result Block Code} (Ok (f (xs ++ x ∷ []))) (Err c) = rw e at h in cc
   | inr n ↦ let g : ◌≡◌ {A = Result Block Code} (Err code.Many) (Err c) = rw n at h in
       many x refl (full (length xs) most n) ∙ err_same code.Many c g
@@ -165,28 +161,24 @@ begun_code : (ls rest : List (List (List ℕ))) (name : List ℕ) (w : List (Lis
     → code_after_document ls w ≡ code_in_block rest w
 begun_code ls rest name w h = ap (λ x. code_after_document x w) h
 
-or_true : (b : Bool) → (b || true) ≡ true
-or_true true = refl
-or_true false = refl
-
 -- a whole block has an end line behind its first line
 ends_whole : (ls : List (List (List ℕ))) (w : List (List ℕ)) (v : Verdict) → IsBlock ls v
     → code_after_document ls w ≡ code.After
 ends_whole _ w _ (realizable ls vs h k) =
-    rw (list_any-append (λ l. is_line l end_line) ls (end_line ∷ []), or_true (list_any (λ l. is_line l end_line) ls))
+    rw (list_any-append (λ l. is_line l end_line) ls (end_line ∷ []), or-true (list_any (λ l. is_line l end_line) ls))
     refl
 ends_whole _ w _ (nonrealizable ls es h) =
-    rw (list_any-append (λ l. is_line l end_line) ls (end_line ∷ []), or_true (list_any (λ l. is_line l end_line) ls))
+    rw (list_any-append (λ l. is_line l end_line) ls (end_line ∷ []), or-true (list_any (λ l. is_line l end_line) ls))
     refl
 ends_whole _ w _ (undecided ls search ws u h k s) =
     rw (
       list_any-append (λ l. is_line l end_line) (ls ++ search) (end_line ∷ []),
-      or_true (list_any (λ l. is_line l end_line) (ls ++ search)),
+      or-true (list_any (λ l. is_line l end_line) (ls ++ search)),
     ) refl
 ends_whole _ w _ (limit ls search e u t s) =
     rw (
       list_any-append (λ l. is_line l end_line) (ls ++ search) (end_line ∷ []),
-      or_true (list_any (λ l. is_line l end_line) (ls ++ search)),
+      or-true (list_any (λ l. is_line l end_line) (ls ++ search)),
     ) refl
 
 opened_err : (w : List (List ℕ)) (c : Code) → opened w ≡ Err c → code.Claim ≡ c

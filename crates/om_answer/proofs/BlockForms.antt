@@ -7,9 +7,9 @@ use Rattle.std.specs.Prelude.{Option, Some, None, codes, bytes_eq, option_and_th
 use Rattle.std.proofs.lemmas.Slice.Eq.{bytes_eq-Decides}
 use Rattle.std.specs.List.{list_any}
 use Rattle.std.proofs.lemmas.List.{map-append}
+use Rattle.std.proofs.lemmas.Bool.{cases_Bool}
 use Rattle.om_text.specs.Settings.{is_line}
 use Rattle.om_text.specs.Heading.{plain_numbers}
-use Rattle.om_text.proofs.Distinct.{either}
 use Rattle.om_text.proofs.Filling.{is_line-Decides}
 use Rattle.om_vectors.specs.WholeVectors.{WholeVector}
 use Rattle.om_certificate.specs.declared.entry.Entry.{Entry}
@@ -25,7 +25,7 @@ use Rattle.om_answer.specs.ClaimFault.{last_passing}
 -- a line that says something isn't one that says nothing
 pub not_line : {A : Type 0} (f : List (List ℕ) → Option A) (l e : List (List ℕ)) (x : A) → f e ≡ None → f l ≡ Some x
     → is_line l e ≡ false
-not_line {A = A} f l e x n h = elim (either (is_line l e)) [
+not_line {A = A} f l e x n h = elim (cases_Bool (is_line l e)) [
   | inl t ↦ let q : l ≡ e = (is_line-Decides l e).0 t in absurd (apart x (sym n ∙ ap f (sym q) ∙ h))
   | inr m ↦ m
 ]
@@ -40,7 +40,7 @@ then_some f (Some x) y h = (x, refl, h)
 
 pub named_line : (name : List ℕ) (w : List (List ℕ)) (ws : List (List ℕ)) → after_name name w ≡ Some ws → w ≡ name ∷ ws
 named_line name [] ws h = cc
-named_line name (v ∷ vs) ws h = elim (either (bytes_eq v name)) [
+named_line name (v ∷ vs) ws h = elim (cases_Bool (bytes_eq v name)) [
   | inl e ↦ let q : v ≡ name = (bytes_eq-Decides v name).0 e in
       let g : ◌≡◌ {A = Option (List (List ℕ))} (Some vs) (Some ws) = rw e at h in
       let r : vs ≡ ws = some_same vs ws g in
@@ -85,9 +85,9 @@ entry_named (w ∷ ws) e h =
     none_of name q n = subst (λ x. (vector_of (x ∷ ws) ≡ None) × (weight_of (x ∷ ws) ≡ None)) (sym q) n
 
     by_name : (strict : Bool) → strictness w ≡ Some strict → (vector_of (w ∷ ws) ≡ None) × (weight_of (w ∷ ws) ≡ None)
-    by_name strict g = elim (either (bytes_eq w (codes "lt"))) [
+    by_name strict g = elim (cases_Bool (bytes_eq w (codes "lt"))) [
       | inl e ↦ none_of (codes "lt") ((bytes_eq-Decides w (codes "lt")).0 e) (refl, refl)
-      | inr n ↦ elim (either (bytes_eq w (codes "eq"))) [
+      | inr n ↦ elim (cases_Bool (bytes_eq w (codes "eq"))) [
         | inl e ↦ none_of (codes "eq") ((bytes_eq-Decides w (codes "eq")).0 e) (refl, refl)
         | inr m ↦ let k : ◌≡◌ {A = Option Bool} None (Some strict) = rw (n, m) at g in cc
       ]

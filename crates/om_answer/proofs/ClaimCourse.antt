@@ -8,6 +8,9 @@ use Rattle.std.proofs.Common.{arith, inl, inr, append_assoc, append-nil, ◌≤�
 use Rattle.std.specs.Prelude.{Option, Some, None, Result, Ok, Err, codes}
 use Rattle.std.specs.List.{list_all, list_any}
 use Rattle.std.proofs.lemmas.List.{length-take-le, take-append-drop}
+use Rattle.std.proofs.lemmas.Bool.{cases_Bool}
+use Rattle.std.proofs.Math.Seq.{take-append_seam}
+use Rattle.om_signs.proofs.Results.{ok-injective}
 use Rattle.om_text.specs.declared.code.Code.{Code}
 use Rattle.om_text.specs.declared.code.Code.TheVariants as code
 use Rattle.om_text.specs.declared.document.Document.{Document}
@@ -28,9 +31,7 @@ use Rattle.om_text.proofs.Language.{begins_run}
 use Rattle.om_text.proofs.Course.{Shows, IsFirst, IsOpen, step_shows, step_error, spelled_run, first_not_end}
 use Rattle.om_text.proofs.Course.{open_no_end, spelled_no_end}
 use Rattle.om_text.proofs.Completion as completions
-use Rattle.om_text.proofs.Distinct.{either}
 use Rattle.om_text.proofs.Feeds.{is_one_line, lines_text, lines_one_line, one_line-take, one_line-append}
-use Rattle.om_text.proofs.Outcome.{take_front}
 use Rattle.om_certificate.specs.declared.verdict.Verdict.{Verdict}
 use Rattle.om_certificate.specs.declared.verdict.Verdict.TheVariants.{Realizable}
 use Rattle.om_answer.specs.declared.claim.Claim.{Claim}
@@ -86,18 +87,12 @@ ShowsClaim (in_block d b) ls = IsInBlock d b ls
 
 document_step_ok : (r : Result State Code) (t : ClaimState) → as_document r ≡ Ok t → (s : State) × (r ≡ Ok s)
     × (in_document s ≡ t)
-document_step_ok (Ok s) t h = (s, refl, same (in_document s) t h)
-  where
-    same : (a b : ClaimState) → ◌≡◌ {A = Result ClaimState Code} (Ok a) (Ok b) → a ≡ b
-    same a b h = cc
+document_step_ok (Ok s) t h = (s, refl, ok-injective (in_document s) t h)
 document_step_ok (Err c) t h = cc
 
 block_step_ok : (d : Document) (r : Result Block Code) (t : ClaimState) → as_block d r ≡ Ok t → (b : Block) × (r ≡ Ok b)
     × (in_block d b ≡ t)
-block_step_ok d (Ok b) t h = (b, refl, same (in_block d b) t h)
-  where
-    same : (a b : ClaimState) → ◌≡◌ {A = Result ClaimState Code} (Ok a) (Ok b) → a ≡ b
-    same a b h = cc
+block_step_ok d (Ok b) t h = (b, refl, ok-injective (in_block d b) t h)
 block_step_ok d (Err c) t h = cc
 
 document_shows : (s : State) (ls : List (List (List ℕ))) (w : List (List ℕ)) (t : ClaimState) → Shows s ls
@@ -131,7 +126,7 @@ steps (in_block d b) ls w t o h = in_block_shows d b ls o.document o.block w t o
 after_none : (ls more : List (List (List ℕ))) → list_any (λ l. is_line l end_line) ls ≡ false
     → lines_after_end (ls ++ more) ≡ lines_after_end more
 after_none [] more h = refl
-after_none (l ∷ ls) more h = elim (either (is_line l end_line)) [
+after_none (l ∷ ls) more h = elim (cases_Bool (is_line l end_line)) [
   | inl e ↦ let n : ◌≡◌ {A = Bool} true false = rw e at h in cc
   | inr n ↦ let k : list_any (λ l. is_line l end_line) ls ≡ false = rw n at h in rw n (after_none ls more k)
 ]
@@ -221,20 +216,14 @@ open_step (Closed d) w t h = cc
 -- the run of a document is one of a claim
 document_run : (ws : List (List (List ℕ))) (s t : State) (more : List (List (List ℕ))) → run_words step s ws ≡ Ok t
     → run_claim (in_document s) (ws ++ more) ≡ run_claim (in_document t) more
-document_run [] s t more h = ap (λ x. run_claim (in_document x) more) (same s t h)
-  where
-    same : (a b : State) → ◌≡◌ {A = Result State Code} (Ok a) (Ok b) → a ≡ b
-    same a b h = cc
+document_run [] s t more h = ap (λ x. run_claim (in_document x) more) (ok-injective s t h)
 document_run (w ∷ ws) s t more h =
     let k = bound (step s w) (λ t. run_words step t ws) t h in
     ap (λ r. bind r (λ t. run_claim t (ws ++ more))) (open_step s w k.0 k.1) ∙ document_run ws k.0 t more k.2
 
 block_run : (d : Document) (ws : List (List (List ℕ))) (b t : Block) → run_block b ws ≡ Ok t
     → run_claim (in_block d b) ws ≡ Ok (in_block d t)
-block_run d [] b t h = ap (λ x. Ok (in_block d x)) (same b t h)
-  where
-    same : (a b : Block) → ◌≡◌ {A = Result Block Code} (Ok a) (Ok b) → a ≡ b
-    same a b h = cc
+block_run d [] b t h = ap (λ x. Ok (in_block d x)) (ok-injective b t h)
 block_run d (w ∷ ws) b t h =
     let k = bound (block_step b w) (λ t. run_block t ws) t h in
     ap (λ r. bind (as_block d r) (λ t. run_claim t ws)) k.1 ∙ block_run d ws k.0 t k.2
@@ -452,7 +441,7 @@ begins_bytes bytes k h b =
     let e : lines (text_of (p ++ c.0)) ≡ p ++ c.0 = lines_text (p ++ c.0) one in
     let n : length p ≡ k = length-take-le k (lines bytes) h in (
       text_of (p ++ c.0),
-      ap (take k) e ∙ ap (λ j. take j (p ++ c.0)) (sym n) ∙ take_front p c.0,
+      ap (take k) e ∙ ap (λ j. take j (p ++ c.0)) (sym n) ∙ take-append_seam p c.0,
       subst AreClaim (sym e) c.2,
     )
 

@@ -5,6 +5,7 @@ use Rattle.std.proofs.Common.{◌≡◌, ◌≢◌, ℕ, suc, ◌+◌, ◌-◌, 
 use Rattle.std.proofs.Common.{arith, inl, inr, length-append, length-drop}
 use Rattle.std.specs.Prelude.{Result, Ok, Err, IfOk, nat_eq}
 use Rattle.std.proofs.lemmas.List.{length-take-le, take-append-drop, take_all}
+use Rattle.std.proofs.lemmas.Bool.{cases_Bool}
 use Rattle.om_text.specs.declared.code.Code.{Code}
 use Rattle.om_text.specs.declared.code.Code.TheVariants as code
 use Rattle.om_text.specs.declared.document.Document.{Document}
@@ -16,7 +17,6 @@ use Rattle.om_text.specs.Fault.{IsFault}
 use Rattle.om_text.specs.Parsed.{IsAnswerUnlessMemory, IfLine}
 use Rattle.om_text.specs.Part.{IsDocumentAtFront}
 use Rattle.om_text.specs.Print.{text_of}
-use Rattle.om_text.proofs.Distinct.{either}
 use Rattle.om_text.proofs.Outcome.{outcome_from}
 use Rattle.om_certificate.specs.declared.verdict.Verdict.{Verdict}
 use Rattle.om_answer.specs.declared.claim.Claim.{Claim}
@@ -90,7 +90,7 @@ block_read v bytes d len count p h = part_comes bytes d len count p
 -- there are no more lines than bytes
 lines_few : (bs : List ℕ) → length (lines bs) ≤ length bs
 lines_few [] = omega arith
-lines_few (b ∷ bs) = elim (either (nat_eq b 10)) [
+lines_few (b ∷ bs) = elim (cases_Bool (nat_eq b 10)) [
   | inl e ↦ let h = lines_few bs in rw e (omega (arith, h))
   | inr n ↦ let h = lines_few bs in rw n (first (lines bs) h)
 ]

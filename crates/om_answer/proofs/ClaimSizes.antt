@@ -6,10 +6,10 @@ use Rattle.std.proofs.Common.{◌≡◌, ℕ, suc, ◌+◌, ◌*◌, ◌≤◌, 
 use Rattle.std.proofs.Common.{inl, inr}
 use Rattle.std.specs.Prelude.{ℤ, Option, Some, None, IfSome, codes, bytes_eq, nat_eq, option_and_then}
 use Rattle.std.proofs.lemmas.Slice.Eq.{bytes_eq-Decides}
+use Rattle.std.proofs.lemmas.Bool.{cases_Bool}
 use Rattle.om_signs.specs.declared.limits.TheConstants.{MAX_INPUT}
 use Rattle.om_text.specs.Lines.{lines, with_first, uncommented, is_blank, pieces, has_any, words, wordful}
 use Rattle.om_text.specs.Document.{end_line}
-use Rattle.om_text.proofs.Distinct.{either}
 use Rattle.om_certificate.specs.declared.entry.Entry.{Entry}
 use Rattle.om_certificate.specs.declared.verdict.Verdict.{Verdict}
 use Rattle.om_certificate.specs.Forms.{IsEntryInForm, IsWeightInForm}
@@ -42,14 +42,14 @@ first_bytes b n (p ∷ ps) h = omega (arith, h)
 
 lines_bytes : (bs : List ℕ) → word_bytes (lines bs) ≤ suc (length bs)
 lines_bytes [] = omega arith
-lines_bytes (b ∷ bs) = elim (either (nat_eq b 10)) [
+lines_bytes (b ∷ bs) = elim (cases_Bool (nat_eq b 10)) [
   | inl e ↦ let h = lines_bytes bs in rw e (omega (arith, h))
   | inr n ↦ rw n (first_bytes b (length bs) (lines bs) (lines_bytes bs))
 ]
 
 pieces_bytes : (bs : List ℕ) → word_bytes (pieces bs) ≤ suc (length bs)
 pieces_bytes [] = omega arith
-pieces_bytes (b ∷ bs) = elim (either (is_blank b)) [
+pieces_bytes (b ∷ bs) = elim (cases_Bool (is_blank b)) [
   | inl e ↦ let h = pieces_bytes bs in rw e (omega (arith, h))
   | inr n ↦ rw n (first_bytes b (length bs) (pieces bs) (pieces_bytes bs))
 ]
@@ -61,7 +61,7 @@ kept_bytes ((b ∷ p) ∷ ps) = let h = kept_bytes ps in omega (arith, h)
 
 uncommented_bytes : (bs : List ℕ) → length (uncommented bs) ≤ length bs
 uncommented_bytes [] = omega arith
-uncommented_bytes (b ∷ bs) = elim (either (nat_eq b 35)) [
+uncommented_bytes (b ∷ bs) = elim (cases_Bool (nat_eq b 35)) [
   | inl e ↦ rw e (omega arith)
   | inr n ↦ let h = uncommented_bytes bs in rw n (omega (arith, h))
 ]
@@ -92,9 +92,9 @@ abbrev pub LEAST_ENTRY : ℕ
 LEAST_ENTRY = 11
 
 strictness_long : (w : List ℕ) → IfSome (strictness w) (λ strict. length w ≡ 2)
-strictness_long w = elim (either (bytes_eq w (codes "lt"))) [
+strictness_long w = elim (cases_Bool (bytes_eq w (codes "lt"))) [
   | inl e ↦ rw e (ap length ((bytes_eq-Decides w (codes "lt")).0 e))
-  | inr n ↦ elim (either (bytes_eq w (codes "eq"))) [
+  | inr n ↦ elim (cases_Bool (bytes_eq w (codes "eq"))) [
     | inl e ↦ rw (n, e) (ap length ((bytes_eq-Decides w (codes "eq")).0 e))
     | inr m ↦ rw (n, m) tt
   ]

@@ -4,7 +4,7 @@
 -- (below_member, below_other); an element joined to the others (joined_more); what stood before stays in front
 -- (joined_kept, kept_on).
 use Rattle.std.specs.Prelude.{ℕ, ◌≡◌, ◌≢◌, ◌+◌, ◌<◌, ◌≤◌, List, [], ◌∷◌, ◌++◌, length, take, drop, map, filter, nat_lt}
-use Rattle.std.specs.Prelude.{refl, ◌⊎◌}
+use Rattle.std.specs.Prelude.{refl}
 use Rattle.std.specs.Io.{StartsWith}
 use Rattle.std.specs.List.{join_with_byte}
 use Rattle.std.specs.Fmt.{decimal}
@@ -13,6 +13,7 @@ use Rattle.std.proofs.lemmas.Bool.{cases_lt, lt-ltb, le-ltb}
 use Rattle.std.proofs.Math.Seq.{take-append_seam}
 use Rattle.std.proofs.lemmas.List.{length-append, length-map, map-append, take-append-drop}
 use Rattle.om_subsets.specs.Subsets.{IsSubsetFrom, IsMember}
+use Rattle.om_subsets.proofs.Order.{members_from}
 use Rattle.om_answer.specs.Texts.{after_comma}
 
 pub below : ℕ → List ℕ → List ℕ
@@ -36,13 +37,6 @@ all_below low (suc m) e (x ∷ xs) (inl (q, h)) l =
     rw (lt-ltb x e lt) (ap (λ k. x ∷ k) (all_below (low + 1) m e xs h (omega arith)))
 all_below low (suc m) e (x ∷ xs) (inr (q, h)) l = all_below (low + 1) m e (x ∷ xs) h (omega arith)
 
-member_above : (low m e : ℕ) (xs : List ℕ) → IsSubsetFrom low m xs → IsMember e xs → low ≤ e
-member_above low m e [] h k = absurd k
-member_above low zero e (x ∷ xs) h k = absurd h
-member_above low (suc m) e (x ∷ xs) (inl (q, h)) (inl r) = omega arith
-member_above low (suc m) e (x ∷ xs) (inl (q, h)) (inr k) = let i = member_above (low + 1) m e xs h k in omega arith
-member_above low (suc m) e (x ∷ xs) (inr (q, h)) k = let i = member_above (low + 1) m e (x ∷ xs) h k in omega arith
-
 pub below_member : (low m e : ℕ) (xs : List ℕ) → IsSubsetFrom low m xs → IsMember e xs
     → below (e + 1) xs ≡ below e xs ++ e ∷ []
 unfolding below
@@ -55,27 +49,23 @@ below_member low (suc m) e (x ∷ xs) (inl (q, h)) (inl r) =
     (rw (none_below (low + 1) m (e + 1) xs h (omega arith), none_below (low + 1) m e xs h (omega arith))
     (ap (λ k. k ∷ []) (sym r)))
 below_member low (suc m) e (x ∷ xs) (inl (q, h)) (inr k) =
-    let a : low + 1 ≤ e = member_above (low + 1) m e xs h k in
+    let a : low + 1 ≤ e = (members_from (low + 1) m e xs h k).0 in
     let lt : x < e + 1 = omega arith in
     let lt2 : x < e = omega arith in
     rw (lt-ltb x (e + 1) lt, lt-ltb x e lt2) (ap (λ k. x ∷ k) (below_member (low + 1) m e xs h k))
 below_member low (suc m) e (x ∷ xs) (inr (q, h)) k = below_member (low + 1) m e (x ∷ xs) h k
-
-apart : (x e : ℕ) → x ≢ e → (x < e) ⊎ (e < x)
-apart x e ne = elim (cases_lt x e) [
-  | inl lt ↦ inl lt
-  | inr ge ↦ inr (omega arith)
-]
 
 pub below_other : (e : ℕ) (xs : List ℕ) → (IsMember e xs → ⊥) → below (e + 1) xs ≡ below e xs
 unfolding below
 below_other e [] n = refl
 below_other e (x ∷ xs) n =
     let i = below_other e xs (λ k. n (inr k)) in
-    elim (apart x e (λ q. n (inl (sym q)))) [
+    elim (cases_lt x e) [
       | inl lt ↦ let lt2 : x < e + 1 = omega arith in rw (lt-ltb x (e + 1) lt2, lt-ltb x e lt) (ap (λ k. x ∷ k) i)
-      | inr gt ↦ let ge : e + 1 ≤ x = omega arith in let ge2 : e ≤ x = omega arith in
-          rw (le-ltb x (e + 1) ge, le-ltb x e ge2) i
+      | inr ge ↦
+          let ne : e ≢ x = (λ q. n (inl q)) in
+          let gt : e + 1 ≤ x = omega arith in
+          rw (le-ltb x (e + 1) gt, le-ltb x e ge) i
     ]
 
 -- one more piece, joined to the others

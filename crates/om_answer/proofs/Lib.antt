@@ -11,6 +11,5 @@ pub mod VerdictForms
 pub mod ClaimSizes
 pub mod OneReading
 pub mod BlockTexts
-pub mod FewValues
 pub mod Spelled
 pub mod VerdictReading

@@ -8,7 +8,7 @@ use Rattle.std.specs.Prelude.{ℤ, pos, negsuc, unsigned_abs, Option, Some, None
 use Rattle.std.specs.Prelude.{◌&&◌, All, option_map, option_and_then}
 use Rattle.std.specs.List.{list_all}
 use Rattle.std.proofs.Math.Nat.{mul-le-mul_left}
-use Rattle.std.proofs.lemmas.Bool.{leb-true, ltb-true}
+use Rattle.std.proofs.lemmas.Bool.{leb-true, ltb-true, cases_Bool, and_parts}
 use Rattle.std.proofs.lemmas.Int.{ints}
 use Rattle.std.proofs.lemmas.List.Elements.{All-nil, All-cons}
 use Rattle.om_signs.specs.declared.limits.TheConstants.{MAX_PIVOTS, MAX_PLAIN, MAX_PLAIN_DIGITS}
@@ -24,7 +24,6 @@ use Rattle.om_certificate.specs.Forms.{IsEntryInForm, IsWeightInForm, IsEndInFor
 use Rattle.om_text.specs.Heading.{with_item, plain_numbers}
 use Rattle.om_text.specs.Words.{is_digit, number_from, begins_with, is_decimal, is_plain, unsigned, plain}
 use Rattle.om_text.proofs.Digits.{ten, unsigned_within, signed_within}
-use Rattle.om_text.proofs.Distinct.{both, either}
 use Rattle.om_answer.specs.declared.range.Range.{Range}
 use Rattle.om_answer.specs.declared.range.Range.TheVariants.{Between, UpToSize}
 use Rattle.om_answer.specs.Numbers.{at_least, number_within, numbers_within, IsIn, AreIn}
@@ -54,7 +53,7 @@ number_in (Between low high) w = between (unsigned high w) (unsigned_within high
     between : (o : Option ℕ) → IfSome o (λ k. k ≤ high)
         → IfSome (option_map pos (option_and_then (at_least low) o)) (IsIn (Between low high))
     between None h = tt
-    between (Some k) h = elim (either (nat_le low k)) [
+    between (Some k) h = elim (cases_Bool (nat_le low k)) [
       | inl e ↦ let l = leb-true low k e in rw e (omega (arith, ints, l), omega (arith, ints, h))
       | inr n ↦ rw n tt
     ]
@@ -148,8 +147,9 @@ weight_form w = named_in IsWeightInForm weight_ranges weight_from weight_in (aft
     weight_in (a ∷ b ∷ []) h = tt
     weight_in (a ∷ b ∷ c ∷ []) h = tt
     weight_in (a ∷ b ∷ c ∷ z ∷ []) h =
-        elim (either (nat_lt (unsigned_abs a) (unsigned_abs b) && nat_lt (unsigned_abs b) (unsigned_abs c))) [
-          | inl e ↦ let p = both (nat_lt (unsigned_abs a) (unsigned_abs b)) (nat_lt (unsigned_abs b) (unsigned_abs c)) e in
+        elim (cases_Bool (nat_lt (unsigned_abs a) (unsigned_abs b) && nat_lt (unsigned_abs b) (unsigned_abs c))) [
+          | inl e ↦ let p = and_parts (nat_lt (unsigned_abs a) (unsigned_abs b))
+              (nat_lt (unsigned_abs b) (unsigned_abs c)) e in
               rw e (record {
                 a = least_size _ _ a h.0;
                 a_b = ltb-true (unsigned_abs a) (unsigned_abs b) p.0;
@@ -173,8 +173,8 @@ pivots_form w = named_in (λ count. count ≤ MAX_PIVOTS) pivots_ranges count_fr
 number_below : (n : ℕ) (w : List ℕ) → list_all is_digit w ≡ true → number_from n w < (n + 1) * ten (length w)
 number_below n [] h = omega arith
 number_below n (b ∷ bs) h =
-    let a = both (is_digit b) (list_all is_digit bs) h in
-    let d = both (nat_le 48 b) (nat_le b 57) a.0 in
+    let a = and_parts (is_digit b) (list_all is_digit bs) h in
+    let d = and_parts (nat_le 48 b) (nat_le b 57) a.0 in
     let high = leb-true b 57 d.1 in
     let step : 10 * n + (b - 48) + 1 ≤ 10 * (n + 1) = omega arith in
     let below = number_below (10 * n + (b - 48)) bs a.1 in
@@ -192,11 +192,12 @@ ten_most (suc (suc (suc (suc (suc (suc zero)))))) h = omega arith
 ten_most (suc (suc (suc (suc (suc (suc (suc k))))))) h = absurd (omega arith)
 
 plain_most : (w : List ℕ) → IfSome (plain w) (λ n. n ≤ MAX_PLAIN)
-plain_most w = elim (either (is_plain w)) [
+plain_most w = elim (cases_Bool (is_plain w)) [
   | inl e ↦
-      let p = both (is_decimal w) (nat_le (length w) MAX_PLAIN_DIGITS) e in
-      let q = both (list_all is_digit w && nat_le 1 (length w)) (nat_eq (length w) 1 || not (begins_with 48 w)) p.0 in
-      let d = both (list_all is_digit w) (nat_le 1 (length w)) q.0 in
+      let p = and_parts (is_decimal w) (nat_le (length w) MAX_PLAIN_DIGITS) e in
+      let q = and_parts (list_all is_digit w && nat_le 1 (length w))
+      (nat_eq (length w) 1 || not (begins_with 48 w)) p.0 in
+      let d = and_parts (list_all is_digit w) (nat_le 1 (length w)) q.0 in
       let few = leb-true (length w) MAX_PLAIN_DIGITS p.1 in
       let below = number_below 0 w d.0 in
       let most = ten_most (length w) few in

@@ -11,12 +11,13 @@ use Rattle.std.proofs.lemmas.List.Sums.{sum_by_more}
 use Rattle.om_signs.specs.declared.limits.TheConstants.{MAX_MULTIPLICITY, MAX_ENTRIES}
 use Rattle.om_subsets.specs.Subsets.{choose, rank_of, IsTriple}
 use Rattle.om_subsets.specs.Members.{Chosen}
+use Rattle.om_subsets.proofs.Triples.{place_below}
 use Rattle.om_grassmann.specs.Sides as sides
 use Rattle.om_certificate.specs.declared.entry.Entry.{Entry}
 use Rattle.om_certificate.specs.Certificates.{times_among, times_in, is_same}
 use Rattle.om_certificate.specs.Tables.{AreCounts, IsRaised}
 use Rattle.om_certificate.proofs.Combinations.{here}
-use Rattle.om_certificate.proofs.Triples.{place_below, same-place}
+use Rattle.om_certificate.proofs.Triples.{same-place}
 
 bumped : (table : List ℕ) (p k times : ℕ) → p < length table
     → get_or (set table p (get_or table p 0 + times)) k 0 ≡ get_or table k 0 + times * here k p

@@ -11,6 +11,7 @@ use Rattle.std.proofs.lemmas.List.Elements.{recursion_from_All}
 use Rattle.std.proofs.lemmas.List.Sums.{sum_by-cons}
 use Rattle.std.proofs.lemmas.Int.{ints}
 use Rattle.om_subsets.specs.Subsets.{choose, rank_of, subset_at, IsTriple}
+use Rattle.om_subsets.proofs.Triples.{place_below, triple_at_place, triple_of_place, place_of_place}
 use Rattle.om_chirotope.specs.Map.{SignMap}
 use Rattle.om_vectors.specs.WholeVectors.{WholeVector}
 use Rattle.om_vectors.specs.Realizations.{Realizes}
@@ -27,7 +28,7 @@ use Rattle.om_certificate.proofs.Combinations.{Combination, here}
 use Rattle.om_certificate.proofs.Orders.{products, sums}
 use Rattle.om_certificate.proofs.Sizes.{ordered_sizes}
 use Rattle.om_certificate.proofs.Tallies.{AnyByRecursion, tally, IsBelow, IsOrdered, IsStrict, unbalanced}
-use Rattle.om_certificate.proofs.Triples.{place_below, triple_at_place, triple_of_place, place_of_place, same-place}
+use Rattle.om_certificate.proofs.Triples.{same-place}
 
 -- the brackets of both sides of a lawful statement are increasing triples
 pub record HasTriples (n : ℕ) (st : Statement) : Type 0 where

@@ -13,12 +13,13 @@ use mir.Syntax.{w128}
 use mir.Val.{to_z, of_z}
 use Rattle.om_signs.specs.declared.limits.TheConstants.{MAX_WEIGHT}
 use Rattle.om_subsets.specs.Subsets.{choose, rank_of, IsTriple}
+use Rattle.om_subsets.proofs.Triples.{place_below, rising_of_triple}
 use Rattle.om_chirotope.specs.Map.{SignMap}
 use Rattle.om_certificate.specs.declared.weight.Weight.{Weight}
 use Rattle.om_certificate.specs.Weights.{bracket_of, weight_of, AreOfBrackets}
 use Rattle.om_certificate.specs.Tables.{IsWeightTable, AreSmall, IsOfTriple}
 use Rattle.om_certificate.proofs.NonzeroBrackets.{bracket_triples}
-use Rattle.om_certificate.proofs.Triples.{place_below, same-place, triple_elements}
+use Rattle.om_certificate.proofs.Triples.{same-place}
 
 -- the table has the weights from the index j on
 pub record IsFilling (n : ℕ) (ws : List Weight) (j : ℕ) (table : List ℤ) : Type 0 where
@@ -58,7 +59,8 @@ weight_triple m ws j d e l =
     at_map (w ∷ ws) (suc j) l = at_map ws j (omega arith)
 
 pub is_of_triple : (n : ℕ) (w : Weight) → IsTriple n (bracket_of w) → IsOfTriple n w
-is_of_triple n w t = let p = triple_elements n w.a w.b w.c t in record { a = p.0; a_b = p.1; b_c = p.2; c = p.3 }
+is_of_triple n w t = let p = rising_of_triple n w.a w.b w.c t in
+    record { a = p.low; a_b = p.first; b_c = p.second; c = p.high }
 
 pub one_filled :
     (n : ℕ) (ws : List Weight) (j p : ℕ) (d : Weight) (table : List ℤ)

@@ -7,16 +7,17 @@ use Rattle.std.specs.Prelude.{ℕ, ◌≡◌, ◌+◌, ◌<◌, ◌≤◌, true,
 use Rattle.std.specs.Prelude.{drop, slice_get, Some, All}
 use Rattle.std.proofs.Common.{refl, sym, ◌∙◌, ap, arith}
 use Rattle.std.proofs.Math.ListN.{get_or}
-use Rattle.std.proofs.lemmas.List.{take_all, length-append, take-append-drop, take_more, map-append}
-use Rattle.std.proofs.lemmas.Option.{slice_get-get_or}
+use Rattle.std.proofs.lemmas.List.{take_all, length-append, take-append-drop, take_more, map-append, append-nil}
+use Rattle.std.proofs.lemmas.Option.{slice_get-get_or, same_Some}
 use Rattle.std.proofs.lemmas.List.Elements.{filter_more, filter-append, All-filter, All-from_get_or}
+use Rattle.std.proofs.Math.Seq.{take-append_seam}
 use Rattle.om_subsets.specs.Subsets.{all_subsets, choose, subset_at, IsTriple}
 use Rattle.om_subsets.proofs.Order.{length-subsets_from}
+use Rattle.om_subsets.proofs.Triples.{triple_of_place}
 use Rattle.om_chirotope.specs.Map.{SignMap, chi_of}
 use Rattle.om_certificate.specs.declared.weight.Weight.{Weight}
 use Rattle.om_certificate.specs.Weights.{is_nonzero, nonzero_brackets, bracket_of, AreOfBrackets}
 use Rattle.om_certificate.specs.Refusals.{IsFirstOtherBracket}
-use Rattle.om_certificate.proofs.Triples.{triple_of_place}
 
 -- the nonzero brackets among the first k triples
 abbrev pub nonzero_below : SignMap → ℕ → List (List ℕ)
@@ -44,11 +45,7 @@ pub more_zero : (m : SignMap) (k : ℕ) (b : List ℕ) → k < choose m.elements
     → is_nonzero (chi_of m b) ≡ false → nonzero_below m (k + 1) ≡ nonzero_below m k
 more_zero m k b l e z = below_more m k l
     ∙ ap (λ t. nonzero_below m k ++ cond t (subset_at m.elements 3 k ∷ []) [])
-    (ap (λ c. is_nonzero (chi_of m c)) (sym e) ∙ z) ∙ append_nil (nonzero_below m k)
-  where
-    append_nil : {X : Type 0} (xs : List X) → xs ++ [] ≡ xs
-    append_nil [] = refl
-    append_nil (x ∷ xs) = ap (λ r. x ∷ r) (append_nil xs)
+    (ap (λ c. is_nonzero (chi_of m c)) (sym e) ∙ z) ∙ append-nil (nonzero_below m k)
 
 -- ---- the first triples and the rest
 
@@ -67,11 +64,8 @@ below_length m k = let e = ap length (below_split m k) ∙ length-append (nonzer
     omega (arith, e)
 
 pub below_take : (m : SignMap) (k : ℕ) → take (length (nonzero_below m k)) (nonzero_brackets m) ≡ nonzero_below m k
-below_take m k = ap (take (length (nonzero_below m k))) (below_split m k) ∙ front (nonzero_below m k) (rest_from m k)
-  where
-    front : {X : Type 0} (xs ys : List X) → take (length xs) (xs ++ ys) ≡ xs
-    front [] ys = refl
-    front (x ∷ xs) ys = ap (λ r. x ∷ r) (front xs ys)
+below_take m k = ap (take (length (nonzero_below m k))) (below_split m k) ∙ take-append_seam (nonzero_below m k)
+    (rest_from m k)
 
 -- the next nonzero bracket is the triple at the place k
 pub next_nonzero : (m : SignMap) (k : ℕ) (b : List ℕ) → k < choose m.elements 3 → b ≡ subset_at m.elements 3 k
@@ -136,13 +130,10 @@ first_other m ws next k d b l e n w q h = record {
   counts = refl;
   here = slice_get-get_or ws next d w;
   other = λ o. q
-      (some_same b (bracket_of (get_or ws next d))
+      (same_Some b (bracket_of (get_or ws next d))
       (sym (next_nonzero m k b l e n) ∙ ap (slice_get (nonzero_brackets m)) (sym h.counts) ∙ o));
   earlier = h.same ∙ sym (below_take m k) ∙ ap (λ j. take j (nonzero_brackets m)) (sym h.counts);
 }
-  where
-    some_same : (x y : List ℕ) → Some x ≡ Some y → x ≡ y
-    some_same x y p = cc
 
 pub all_matched : (m : SignMap) (ws : List Weight) (next k : ℕ) → choose m.elements 3 ≤ k
     → length ws ≡ length (nonzero_brackets m) → IsMatching m ws next k → AreOfBrackets m ws

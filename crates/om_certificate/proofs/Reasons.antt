@@ -8,7 +8,6 @@ use Rattle.om_subsets.proofs.Order.{lexicographic}
 use Rattle.om_certificate.specs.declared.entry.Entry.{Entry}
 use Rattle.om_certificate.specs.Certificates.{AreBalanced, AreLawful, small_times, big_times}
 use Rattle.om_certificate.specs.Refusals.{IsFirstUnbalanced, IsEntryRefusal, unbalanced}
-use Rattle.om_certificate.proofs.Triples.{place_below}
 use Rattle.std.proofs.Common.{sym, ◌∙◌, ap, subst, arith}
 use Rattle.om_subsets.specs.Members.{Chosen}
 use Rattle.om_chirotope.specs.Map.{SignMap}
@@ -17,9 +16,9 @@ use Rattle.om_certificate.specs.declared.cert_refused.CertRefused.TheVariants.{N
 use Rattle.om_certificate.specs.Refusals.{IsVectorRefusal, number_of_vectors, IsWeightRefusal, number_of_weights}
 use Rattle.om_certificate.specs.declared.weight.Weight.{Weight}
 use Rattle.om_subsets.specs.Subsets.{IsSubsetFrom}
+use Rattle.om_subsets.proofs.Triples.{place_below, rising_of_triple}
 use Rattle.om_certificate.specs.Weights.{nonzero_brackets, bracket_of}
 use Rattle.om_certificate.specs.Tables.{IsOfTriple, AreCounts}
-use Rattle.om_certificate.proofs.Triples.{triple_elements}
 
 pub vectors_refused : (m : SignMap) (vs : List WholeVector) (wanted given : ℕ) → wanted ≡ m.elements → given ≡ length vs
     → length vs ≢ m.elements → IsVectorRefusal m vs (Number wanted given)
@@ -33,9 +32,9 @@ pub weight_of_triple : (n k : ℕ) (w : Weight) (b : List ℕ) → k ≡ n → I
     → b ≡ bracket_of w → IsOfTriple k w
 weight_of_triple n k w b e h s q =
     let t : IsTriple n (bracket_of w) = subst (IsTriple n) q (record { list = h; size = s }) in
-    let p = triple_elements n w.a w.b w.c t in
-    let c = p.3 in
-    record { a = p.0; a_b = p.1; b_c = p.2; c = omega (arith, e) }
+    let p = rising_of_triple n w.a w.b w.c t in
+    let c = p.high in
+    record { a = p.low; a_b = p.first; b_c = p.second; c = omega (arith, e) }
 
 pub all_balanced : (m : SignMap) (es : List Entry) (small big : List ℕ) → AreCounts m.elements es small big
     → ((j : ℕ) → j < choose m.elements 3 → get_or small j 0 ≡ get_or big j 0) → AreBalanced m es

@@ -1,7 +1,7 @@
 -- Evidence is refused for one reason at most, and for none where it is valid.
 --
--- Main results: one_reason and no_reason; settled_accepted and settled_refused, that an answer whose reasons hold is
--- exact.
+-- Main results: one_reason and no_reason; valid_shows, what valid evidence shows of a map; settled_accepted and
+-- settled_refused, that an answer whose reasons hold is exact.
 use Rattle.std.specs.Prelude.{ℕ, ◌≡◌, ◌≢◌, ◌+◌, ◌<◌, ◌↔◌, List, [], ◌∷◌, length, take, Result, Ok, Err, IsOk, IfErr}
 use Rattle.std.specs.Prelude.{OnOk, slice_get}
 use Rattle.std.proofs.Common.{refl, sym, ◌∙◌, ap, subst, zero, suc, arith, inl, inr}
@@ -17,6 +17,7 @@ use Rattle.om_subsets.proofs.Order.{lexicographic, same_triple}
 use Rattle.om_chirotope.specs.Map.{SignMap, chi_of}
 use Rattle.om_vectors.specs.WholeVectors.{WholeVector}
 use Rattle.om_vectors.specs.Realizations.{Realizes, triple_sign}
+use Rattle.om_vectors.proofs.Triples.{realized_triple}
 use Rattle.om_grassmann.specs.Statements.{IsLawful}
 use Rattle.om_grassmann.proofs.OrderLaws.{before_total}
 use Rattle.om_certificate.specs.declared.entry.Entry.{Entry}
@@ -34,7 +35,6 @@ use Rattle.om_certificate.specs.Refusals.{wrong_sign, IsEntryRefusal, unlawful, 
 use Rattle.om_certificate.specs.Refusals.{number_of_weights, bracket, weight_fails, IsRefusalOf, IsRefusal, not_rank_3}
 use Rattle.om_certificate.specs.Refusals.{of_rank_3}
 use Rattle.om_certificate.proofs.Exclusion.{certificate_excludes, weights_exclude}
-use Rattle.om_certificate.proofs.Triples.{triple_elements}
 
 -- ---- the first of its kind
 
@@ -160,14 +160,6 @@ one_reason m (Vectors vs) why other (of_rank_3 w r h) (of_rank_3 x s k) = one_of
 one_reason m (Balanced es) why other (of_rank_3 w r h) (of_rank_3 x s k) = one_of_entries m es h k
 one_reason m (Weights ws) why other (of_rank_3 w r h) (of_rank_3 x s k) = one_of_weights m ws h k
 
-triple_realized : (m : SignMap) (vs : List WholeVector) → Realizes vs m → (t : List ℕ) → IsTriple m.elements t
-    → triple_sign vs t ≡ chi_of m t
-triple_realized m vs r [] h = absurd (let s = h.size in omega arith)
-triple_realized m vs r (a ∷ []) h = absurd (let s = h.size in omega arith)
-triple_realized m vs r (a ∷ b ∷ []) h = absurd (let s = h.size in omega arith)
-triple_realized m vs r (a ∷ b ∷ c ∷ []) h = let p = triple_elements m.elements a b c h in r.signs a b c p.0 p.1 p.2 p.3
-triple_realized m vs r (a ∷ b ∷ c ∷ d ∷ ds) h = absurd (let s = h.size in omega arith)
-
 rank_of_valid : (m : SignMap) (evidence : Evidence) → IsValid m evidence → m.rank ≡ 3
 rank_of_valid m (Vectors vs) v = v.rank
 rank_of_valid m (Balanced es) v = go v.strict
@@ -179,7 +171,7 @@ rank_of_valid m (Weights ws) v = v.rank
 none_of_vectors : (m : SignMap) (vs : List WholeVector) (why : CertRefused) → IsVectorRefusal m vs why → Realizes vs m
     → ⊥
 none_of_vectors m vs why (number_of_vectors n) v = n (sym v.elements)
-none_of_vectors m vs why (wrong_sign t e f) v = f.other (triple_realized m vs v t.elements f.triple)
+none_of_vectors m vs why (wrong_sign t e f) v = f.other (realized_triple vs m v t.elements f.triple)
 
 none_of_entries : (m : SignMap) (es : List Entry) (why : CertRefused) → IsEntryRefusal m es why → IsCertificate m es → ⊥
 none_of_entries m es why (unlawful k f) v = no_unlawful m es k f v.lawful
@@ -222,10 +214,10 @@ lifted : (m : SignMap) (evidence : Evidence) (r : Result (Unit {0}) CertRefused)
 lifted m evidence (Ok u) q f = f
 lifted m evidence (Err why) q f = of_rank_3 why q f
 
-shows : (m : SignMap) (evidence : Evidence) → IsValid m evidence → Shows m evidence
-shows m (Vectors vs) v = v
-shows m (Balanced es) v = certificate_excludes m es v
-shows m (Weights ws) v = weights_exclude m ws v
+pub valid_shows : (m : SignMap) (evidence : Evidence) → IsValid m evidence → Shows m evidence
+valid_shows m (Vectors vs) v = v
+valid_shows m (Balanced es) v = certificate_excludes m es v
+valid_shows m (Weights ws) v = weights_exclude m ws v
 
 module _ (m : SignMap) (evidence matched : Evidence) (e : evidence ≡ matched) (r : Result (Unit {0}) CertRefused)
     (q : m.rank ≡ 3) (a : OnOk r (IsValid m matched)) (f : IfErr r (IsRefusalOf m matched)) where
@@ -245,7 +237,7 @@ module _ (m : SignMap) (evidence matched : Evidence) (e : evidence ≡ matched) 
   matched_shown = go r valid
     where
       go : (r : Result (Unit {0}) CertRefused) → OnOk r (IsValid m evidence) → OnOk r (Shows m evidence)
-      go (Ok u) v = shows m evidence v
+      go (Ok u) v = valid_shows m evidence v
       go (Err why) v = v
 
 pub rank_refused : (m : SignMap) (evidence : Evidence) (rank : ℕ) → rank ≡ m.rank → m.rank ≢ 3

@@ -8,11 +8,11 @@ use Rattle.std.proofs.Common.{sym, ◌∙◌, ap, arith, inl, inr, subst}
 use Rattle.std.proofs.lemmas.Int.{ints, unsigned_abs-mul}
 use Rattle.om_signs.specs.declared.sign.Sign.TheVariants.{Minus, Zero, Plus}
 use Rattle.om_signs.specs.Sign.{opposite, product}
+use Rattle.om_signs.proofs.Rings.{sums, unsigned_abs-neg}
 use Rattle.om_laws.specs.Tuples.{insert}
 use Rattle.om_chirotope.specs.Map.{SignMap}
 use Rattle.om_vectors.specs.WholeVectors.{WholeVector, triple_product, sign_of}
 use Rattle.om_vectors.specs.Realizations.{vector_at, Realizes}
-use Rattle.om_vectors.proofs.Rings.{sums}
 use Rattle.om_vectors.proofs.Identities.{swap_first, swap_last, three_terms}
 use Rattle.om_vectors.proofs.NumberSigns.{sign-neg, sign-times}
 use Rattle.om_vectors.proofs.TripleSigns.{realized_value}
@@ -22,11 +22,6 @@ use Rattle.om_grassmann.specs.Statements.{IsElement, IsPlaced, AreTwo, HasSigns,
 use Rattle.om_grassmann.specs.Sides.{triple}
 use Rattle.om_certificate.specs.BracketSizes.{bracket_size, term_size}
 
-size-neg : (z : ℤ) → unsigned_abs (neg_ℤ z) ≡ unsigned_abs z
-size-neg (pos zero) = refl
-size-neg (pos (suc n)) = refl
-size-neg (negsuc n) = refl
-
 -- the triple product of the vectors of three elements
 abbrev pub product_at : List WholeVector → ℕ → ℕ → ℕ → ℤ
 product_at vs x y z = triple_product (vector_at vs x) (vector_at vs y) (vector_at vs z)
@@ -34,12 +29,12 @@ product_at vs x y z = triple_product (vector_at vs x) (vector_at vs y) (vector_a
 swapped_first : (vs : List WholeVector) (x y z : ℕ) → unsigned_abs (product_at vs y x z)
     ≡ unsigned_abs (product_at vs x y z)
 swapped_first vs x y z = ap unsigned_abs (swap_first (vector_at vs x) (vector_at vs y) (vector_at vs z))
-    ∙ size-neg (product_at vs x y z)
+    ∙ unsigned_abs-neg (product_at vs x y z)
 
 swapped_last : (vs : List WholeVector) (x y z : ℕ) → unsigned_abs (product_at vs x z y)
     ≡ unsigned_abs (product_at vs x y z)
 swapped_last vs x y z = ap unsigned_abs (swap_last (vector_at vs x) (vector_at vs y) (vector_at vs z))
-    ∙ size-neg (product_at vs x y z)
+    ∙ unsigned_abs-neg (product_at vs x y z)
 
 size-insert : (vs : List WholeVector) (x y z : ℕ) → bracket_size vs (insert x (y ∷ z ∷ []))
     ≡ unsigned_abs (product_at vs x y z)
@@ -168,7 +163,7 @@ size-number vs st i = go (nat_eq i 1) (nat_eq i 2)
         ≡ bracket_size vs (cond b (triple st.a st.b st.c) (cond c (triple st.a st.b st.d) (triple st.a st.b st.e)))
         * bracket_size vs (cond b (triple st.a st.d st.e) (cond c (triple st.a st.c st.e) (triple st.a st.c st.d)))
     go true c = size-product vs st.a st.b st.c st.d st.e
-    go false true = size-neg (product_at vs st.a st.b st.d *ℤ product_at vs st.a st.c st.e)
+    go false true = unsigned_abs-neg (product_at vs st.a st.b st.d *ℤ product_at vs st.a st.c st.e)
         ∙ size-product vs st.a st.b st.d st.c st.e
     go false false = size-product vs st.a st.b st.e st.c st.d
 

@@ -1,26 +1,22 @@
 -- What the answers of the check say of the axioms.
 --
 -- Main results: nonzero_value, nonzero_or_zeros, not_all_zero
-use Rattle.std.specs.Prelude.{ℕ, ◌≡◌, ◌≢◌, ◌<◌, List, [], ◌∷◌, length, refl, ◌⊎◌}
+use Rattle.std.specs.Prelude.{ℕ, ◌≡◌, ◌≢◌, ◌<◌, List, [], ◌∷◌, length, ◌⊎◌}
 use Rattle.std.proofs.Common.{zero, suc, sym, ◌∙◌, ap, arith, inl, inr, subst, get_or}
 use Rattle.om_signs.specs.declared.sign.Sign.{Sign}
-use Rattle.om_signs.specs.declared.sign.Sign.TheVariants.{Minus, Zero, Plus}
+use Rattle.om_signs.specs.declared.sign.Sign.TheVariants.{Zero}
 use Rattle.om_signs.specs.SignVec.{at}
+use Rattle.om_signs.proofs.SignLaws.{zero_or_nonzero}
 use Rattle.om_subsets.specs.Subsets.{choose, rank_of, subset_at}
 use Rattle.om_subsets.proofs.Order.{listed, rank_from-lt}
 use Rattle.om_chirotope.specs.Map.{SignMap, IsMap, chi_of}
 use Rattle.om_chirotope.specs.Chirotope.{HasNonzeroValue, IsAllZero}
 use Rattle.om_chirotope.proofs.InOrder.{value_in_order}
 
-sign_cases : (s : Sign) → (s ≡ Zero) ⊎ (s ≢ Zero)
-sign_cases Minus = inr (λ e. cc)
-sign_cases Zero = inl refl
-sign_cases Plus = inr (λ e. cc)
-
 -- some place has a sign that isn't zero, or all are zero
 some_place : (xs : List Sign) → ((k : ℕ) × (k < length xs) × (at xs k ≢ Zero)) ⊎ IsAllZero xs
 some_place [] = inr (λ k d l. absurd (omega arith))
-some_place (x ∷ xs) = go (sign_cases x) (some_place xs)
+some_place (x ∷ xs) = go (zero_or_nonzero x) (some_place xs)
   where
     go : (x ≡ Zero) ⊎ (x ≢ Zero) → ((k : ℕ) × (k < length xs) × (at xs k ≢ Zero)) ⊎ IsAllZero xs
         → ((k : ℕ) × (k < length (x ∷ xs)) × (at (x ∷ xs) k ≢ Zero)) ⊎ IsAllZero (x ∷ xs)

@@ -1,21 +1,20 @@
 -- What the numbers of sets S and blocks of sets A say of the pairs.
 --
 -- Main results: all_earlier, orthogonal_before; none_bad.
-use Rattle.std.specs.Prelude.{ℕ, ◌≡◌, ◌≢◌, ◌+◌, ◌-◌, ◌*◌, ◌/◌, ◌%◌, ◌<◌, ◌≤◌, ◌⊎◌, ◌↔◌, List, [], ◌∷◌, length, refl}
+use Rattle.std.specs.Prelude.{ℕ, ◌≡◌, ◌≢◌, ◌+◌, ◌-◌, ◌*◌, ◌/◌, ◌%◌, ◌<◌, ◌≤◌, ◌⊎◌, ◌↔◌, List, [], length, refl}
 use Rattle.std.specs.Prelude.{IfNone, IfSome, IsTrue}
-use Rattle.std.proofs.Common.{zero, suc, sym, ap, subst, ◌∙◌, ⊎_elim, inl, inr, arith, get_or, min, Option, Some, None}
+use Rattle.std.proofs.Common.{sym, ap, subst, ◌∙◌, ⊎_elim, inl, inr, arith, get_or, min, Option, Some, None}
 use Rattle.std.specs.Option.{is_some}
 use Rattle.std.proofs.lemmas.Bool.{cases_lt, false≢true}
 use Rattle.std.proofs.lemmas.Nat.{div-add-mod', div-mul-add, mod-mul-add, mul-add-lt}
 use Rattle.std.proofs.Math.Nat.{mul-div-le}
 use Rattle.om_signs.specs.declared.sign.Sign.{Sign}
-use Rattle.om_signs.specs.declared.sign.Sign.TheVariants.{Minus, Zero, Plus}
-use Rattle.om_signs.specs.Sign.{product}
-use Rattle.om_signs.specs.SignVec.{at, HasProduct, IsOrthogonal}
+use Rattle.om_signs.specs.declared.sign.Sign.TheVariants.{Minus, Plus}
+use Rattle.om_signs.specs.SignVec.{HasProduct, IsOrthogonal}
 use Rattle.om_subsets.specs.Subsets.{choose, rank_of, subset_at, IsSubsetFrom}
 use Rattle.om_subsets.specs.Members.{Chosen}
 use Rattle.om_subsets.proofs.Order.{get_or-rank_from, rank_from-lt}
-use Rattle.om_laws.proofs.SignLaws.{product_zero_left, product_zero_right}
+use Rattle.om_signs.proofs.Orthogonality.{has_or_not}
 use Rattle.om_chirotope.specs.declared.threaded_scan.TheConstants.{BLOCK}
 use Rattle.om_chirotope.specs.Blocks.{HasViolatedPair, IsInBlock}
 use Rattle.om_chirotope.specs.Chirotope.{HasOrthogonalPairs, IsFirstViolated}
@@ -24,34 +23,8 @@ use Rattle.om_chirotope.proofs.Tables.{AllBelow, all_done, found, length-table, 
 
 -- ---- whether two vectors are orthogonal is decided
 
-sign_same : (s t : Sign) → (s ≡ t) ⊎ (s ≢ t)
-sign_same Minus Minus = inl refl
-sign_same Minus Zero = inr (λ e. cc)
-sign_same Minus Plus = inr (λ e. cc)
-sign_same Zero Minus = inr (λ e. cc)
-sign_same Zero Zero = inl refl
-sign_same Zero Plus = inr (λ e. cc)
-sign_same Plus Minus = inr (λ e. cc)
-sign_same Plus Zero = inr (λ e. cc)
-sign_same Plus Plus = inl refl
-
-product_cases : (xs ys : List Sign) (s : Sign) → s ≢ Zero → HasProduct xs ys s ⊎ (HasProduct xs ys s → ⊥)
-product_cases [] ys s n = inr (λ (i, e). n (sym e ∙ product_zero_left Zero (at ys i) refl))
-product_cases (x ∷ xs) [] s n = inr (λ (i, e). n (sym e ∙ product_zero_right (at (x ∷ xs) i) Zero refl))
-product_cases (x ∷ xs) (y ∷ ys) s n = go (sign_same (product x y) s) (product_cases xs ys s n)
-  where
-    go : (product x y ≡ s) ⊎ (product x y ≢ s) → HasProduct xs ys s ⊎ (HasProduct xs ys s → ⊥)
-        → HasProduct (x ∷ xs) (y ∷ ys) s ⊎ (HasProduct (x ∷ xs) (y ∷ ys) s → ⊥)
-    go (inl e) d = inl (0, e)
-    go (inr k) (inl (i, e)) = inl (suc i, e)
-    go (inr k) (inr none) = inr each
-      where
-        each : HasProduct (x ∷ xs) (y ∷ ys) s → ⊥
-        each (zero, e) = k e
-        each (suc i, e) = none (i, e)
-
 pub orthogonal_cases : (xs ys : List Sign) → IsOrthogonal xs ys ⊎ (IsOrthogonal xs ys → ⊥)
-orthogonal_cases xs ys = go (product_cases xs ys Plus (λ e. cc)) (product_cases xs ys Minus (λ e. cc))
+orthogonal_cases xs ys = go (has_or_not xs ys Plus (λ e. cc)) (has_or_not xs ys Minus (λ e. cc))
   where
     go : HasProduct xs ys Plus ⊎ (HasProduct xs ys Plus → ⊥) → HasProduct xs ys Minus ⊎ (HasProduct xs ys Minus → ⊥)
         → IsOrthogonal xs ys ⊎ (IsOrthogonal xs ys → ⊥)

@@ -1,29 +1,22 @@
 -- The sign of a vector V at one element, from the set without it.
 --
--- Main results: parity_sign-suc, without_below, count_below, above_le, around_member, around_other, length-without,
--- around_same, around_opposite, parities_same, parities_differ
+-- Main results: parity_sign-suc, without_below, count_below, above_le, around_member, length-without, around_same,
+-- around_opposite, parities_same, parities_differ
 use Rattle.std.specs.Prelude.{ℕ, ◌≡◌, ◌≢◌, ◌+◌, ◌-◌, ◌%◌, ◌<◌, ◌≤◌, List, [], ◌∷◌, length, cond, nat_eq, nat_lt, refl}
 use Rattle.std.specs.Prelude.{◌⊎◌, ◌↔◌, Bool, true, false}
 use Rattle.std.specs.Bool.{beq}
-use Rattle.std.proofs.Common.{zero, suc, ap, arith, inl, inr}
+use Rattle.std.proofs.Common.{zero, suc, ap, arith, inl, inr, sym}
 use Rattle.std.proofs.lemmas.Bool.{cases_eq, eq-eqb, ne_eqb, lt-ltb, le-ltb}
 use Rattle.om_signs.specs.declared.sign.Sign.{Sign}
-use Rattle.om_signs.specs.declared.sign.Sign.TheVariants.{Minus, Zero}
 use Rattle.om_signs.specs.Sign.{opposite, product}
+use Rattle.om_signs.proofs.SignLaws.{product-opposite_left}
 use Rattle.om_subsets.specs.Subsets.{IsSubsetFrom, IsMember, without_element, count_above}
 use Rattle.om_laws.specs.Relations.{around}
+use Rattle.om_subsets.proofs.Order.{members_from}
 use Rattle.om_chirotope.specs.Map.{parity_sign}
 
 pub parity_sign-suc : (k : ℕ) → parity_sign (suc k) ≡ opposite (parity_sign k)
 parity_sign-suc k = grind arith
-
--- an element below all of a set
-member_from : (low m e : ℕ) (xs : List ℕ) → IsSubsetFrom low m xs → IsMember e xs → low ≤ e
-member_from low m e [] h k = absurd k
-member_from low zero e (x ∷ xs) h k = absurd h
-member_from low (suc m) e (x ∷ xs) (inl (q, h)) (inl r) = omega arith
-member_from low (suc m) e (x ∷ xs) (inl (q, h)) (inr r) = let i = member_from (low + 1) m e xs h r in omega arith
-member_from low (suc m) e (x ∷ xs) (inr (q, h)) k = let i = member_from (low + 1) m e (x ∷ xs) h k in omega arith
 
 pub without_below : (low m e : ℕ) (xs : List ℕ) → IsSubsetFrom low m xs → e < low → without_element e xs ≡ xs
 without_below low m e [] h l = refl
@@ -57,10 +50,7 @@ around_member low (suc m) e chi (x ∷ xs) (inl (q, h)) k =
     here (cases_eq e x) (around_member (low + 1) m e (λ t. chi (x ∷ t)) xs h)
   where
     flip : (s t : Sign) (p : ℕ) → t ≡ product (parity_sign p) s → opposite t ≡ product (parity_sign (suc p)) s
-    flip s t p r = rw (r, parity_sign-suc p) (lemma (parity_sign p) s)
-      where
-        lemma : (a b : Sign) → opposite (product a b) ≡ product (opposite a) b
-        lemma a b = grind arith
+    flip s t p r = rw (r, parity_sign-suc p) (sym (product-opposite_left (parity_sign p) s))
 
     later : IsMember e (x ∷ xs) → e ≢ x → IsMember e xs
     later (inl r) ne = absurd (ne r)
@@ -77,25 +67,16 @@ around_member low (suc m) e chi (x ∷ xs) (inl (q, h)) k =
         let c : suc (length xs) - (0 + count_above e xs) ≡ 1 = let b = count_below (low + 1) m e xs h (omega arith) in
         omega arith in
         let w = without_below (low + 1) m e xs h (omega arith) in
-        rw (eq-eqb e x r, le-ltb e x ge, c, w) (lemma (chi xs))
-      where
-        lemma : (s : Sign) → opposite s ≡ product Minus s
-        lemma s = grind arith
+        rw (eq-eqb e x r, le-ltb e x ge, c, w) refl
     here (inr ne) i =
         let mem = later k ne in
-        let lt = member_from (low + 1) m e xs h mem in
+        let lt = (members_from (low + 1) m e xs h mem).0 in
         let ge : x ≤ e = omega arith in
         let b = above_le e xs in
         let c : suc (length xs) - (0 + count_above e xs) ≡ suc (length xs - count_above e xs) = omega arith in
         rw (ne_eqb e x ne, le-ltb e x ge, c)
         (flip (chi (x ∷ without_element e xs)) _ (length xs - count_above e xs) (i mem))
 around_member low (suc m) e chi (x ∷ xs) (inr (q, h)) k = around_member (low + 1) m e chi (x ∷ xs) h k
-
-pub around_other : (chi : List ℕ → Sign) (xs : List ℕ) (e : ℕ) → (IsMember e xs → ⊥) → around chi xs e ≡ Zero
-around_other chi [] e n = refl
-around_other chi (x ∷ xs) e n =
-    let ne : e ≢ x = (λ q. n (inl q)) in
-    rw (ne_eqb e x ne, around_other (λ t. chi (x ∷ t)) xs e (λ k. n (inr k))) refl
 
 pub length-without : (low m e : ℕ) (xs : List ℕ) → IsSubsetFrom low m xs → IsMember e xs
     → length (without_element e xs) + 1 ≡ length xs
@@ -127,10 +108,7 @@ pub around_opposite : (low m e r : ℕ) (chi : List ℕ → Sign) (xs : List ℕ
 around_opposite low m e r chi xs h k l p =
     let b = above_le e xs in
     let odd : (length xs - count_above e xs) % 2 ≡ 1 = omega arith in
-    rw (around_member low m e chi xs h k, odd) (lemma (chi (without_element e xs)))
-  where
-    lemma : (s : Sign) → opposite s ≡ product Minus s
-    lemma s = grind arith
+    rw (around_member low m e chi xs h k, odd) refl
 
 -- what the code's test of two parities says
 pub parities_same : (s k : ℕ) (b : Bool) → ((b ≡ true) ↔ (k % 2 ≡ 1)) → beq (nat_eq (s % 2) 1) b ≡ true → s % 2 ≡ k % 2

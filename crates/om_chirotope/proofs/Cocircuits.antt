@@ -7,8 +7,9 @@ use Rattle.std.specs.Prelude.{true, false}
 use Rattle.std.proofs.Common.{zero, suc, sym, ◌∙◌, ap, arith, inl, inr, subst}
 use Rattle.std.proofs.lemmas.Bool.{cases_order, ne_eqb, lt-ltb, le-ltb}
 use Rattle.om_signs.specs.declared.sign.Sign.{Sign}
-use Rattle.om_signs.specs.declared.sign.Sign.TheVariants.{Minus, Zero, Plus}
-use Rattle.om_signs.specs.Sign.{opposite, product}
+use Rattle.om_signs.specs.declared.sign.Sign.TheVariants.{Zero}
+use Rattle.om_signs.specs.Sign.{opposite}
+use Rattle.om_signs.proofs.SignLaws.{product-plus, product-zero}
 use Rattle.om_subsets.specs.Subsets.{IsSubsetFrom, IsMember, with_element, count_above}
 use Rattle.om_subsets.specs.Members.{Chosen}
 use Rattle.om_laws.specs.Tuples.{value, sorted, insert, sort_sign, before_sign, order_sign}
@@ -27,10 +28,7 @@ insert_below low (suc m) x (y ∷ ys) (inr (q, h)) l = insert_below (low + 1) m 
 
 before_below : (low m x e : ℕ) (xs : List ℕ) → IsSubsetFrom low m xs → x < low
     → before_sign x (xs ++ e ∷ []) ≡ order_sign x e
-before_below low m x e [] h l = lemma (order_sign x e)
-  where
-    lemma : (s : Sign) → product s Plus ≡ s
-    lemma s = grind arith
+before_below low m x e [] h l = product-plus (order_sign x e)
 before_below low zero x e (y ∷ ys) h l = absurd h
 before_below low (suc m) x e (y ∷ ys) (inl (q, h)) l =
     let lt : x < y = omega arith in
@@ -67,13 +65,9 @@ sign_end low (suc m) e (x ∷ xs) (inl (q, h)) n =
         | inl lt ↦ let ge : x ≤ e = omega arith in let z : 0 + count_above e xs ≡ count_above e xs = omega arith in
             rw (lt-ltb x e lt, le-ltb e x ge, z) refl
         | inr gt ↦ let ge : e ≤ x = omega arith in let z : 1 + count_above e xs ≡ suc (count_above e xs) =
-            omega arith in rw (le-ltb x e ge, lt-ltb e x gt, z, parity_sign-suc (count_above e xs))
-            (lemma (parity_sign (count_above e xs)))
+            omega arith in rw (le-ltb x e ge, lt-ltb e x gt, z, parity_sign-suc (count_above e xs)) refl
       ]
     ])
-  where
-    lemma : (s : Sign) → product Minus s ≡ opposite s
-    lemma s = refl
 sign_end low (suc m) e (x ∷ xs) (inr (q, h)) n = sign_end (low + 1) m e (x ∷ xs) h n
 
 pub sign_member : (low m e : ℕ) (xs : List ℕ) → IsSubsetFrom low m xs → IsMember e xs → sort_sign (xs ++ e ∷ []) ≡ Zero
@@ -86,10 +80,7 @@ sign_member low (suc m) e (x ∷ xs) (inl (q, h)) (inl r) =
     rw (b, le-ltb x e le, le-ltb e x ge) refl
 sign_member low (suc m) e (x ∷ xs) (inl (q, h)) (inr k) =
     let i = sign_member (low + 1) m e xs h k in
-    rw i (lemma (before_sign x (xs ++ e ∷ [])))
-  where
-    lemma : (s : Sign) → product s Zero ≡ Zero
-    lemma s = grind arith
+    rw i (product-zero (before_sign x (xs ++ e ∷ [])))
 sign_member low (suc m) e (x ∷ xs) (inr (q, h)) k = sign_member (low + 1) m e (x ∷ xs) h k
 
 pub along_member : (low m e : ℕ) (f : List ℕ → Sign) (xs : List ℕ) → IsSubsetFrom low m xs → IsMember e xs

@@ -8,6 +8,7 @@ use Rattle.std.proofs.lemmas.Bool.{cases_eq, cases_lt, eq-eqb, ne_eqb, lt-ltb, l
 use Rattle.om_signs.specs.declared.sign.Sign.{Sign}
 use Rattle.om_signs.specs.declared.sign.Sign.TheVariants.{Zero}
 use Rattle.om_signs.specs.Sign.{opposite}
+use Rattle.om_signs.proofs.SignLaws.{zero_from_opposite}
 use Rattle.om_subsets.specs.Subsets.{IsSubsetFrom, IsMember, with_element, without_element, count_above}
 use Rattle.om_subsets.proofs.OneElement.{without_other, subset_without, with_without}
 use Rattle.om_subsets.proofs.Order.{members_from}
@@ -47,12 +48,10 @@ nonzero_behind : (n e : ℕ) (f : List ℕ → Sign) (xs : List ℕ) → IsSubse
     → IsSubsetFrom 1 n (with_element e xs) → (IsMember e xs → ⊥) → value f (with_element e xs) ≢ Zero
     → value f (xs ++ e ∷ []) ≢ Zero
 nonzero_behind n e f xs list lawful fresh nonzero z = elim (cases_eq (count_above e xs % 2) 1) [
-  | inl odd ↦ nonzero (zero_of_opposite (value f (with_element e xs)) (along_odd 1 n e f xs list lawful fresh odd ∙ z))
+  | inl odd ↦ nonzero (zero_from_opposite (value f (with_element e xs))
+      (along_odd 1 n e f xs list lawful fresh odd ∙ z))
   | inr even ↦ nonzero (along_even 1 n e f xs list lawful fresh even ∙ z)
 ]
-  where
-    zero_of_opposite : (s : Sign) → opposite s ≡ Zero → s ≡ Zero
-    zero_of_opposite s e = grind arith
 
 module _ (m : SignMap) where
   basis_with : (a : List ℕ) (e : ℕ) → IsBasisWith m a e → IsBasis m (with_element e a) × (IsMember e a → ⊥)

@@ -10,25 +10,20 @@ use Rattle.om_signs.specs.declared.sign.Sign.{Sign}
 use Rattle.om_signs.specs.declared.sign.Sign.TheVariants.{Zero}
 use Rattle.om_signs.specs.Sign.{opposite, product}
 use Rattle.om_signs.specs.SignVec.{at, at_element}
+use Rattle.om_signs.proofs.SignLaws.{product_zero_left, product_zero_right, zero_or_nonzero, own_opposite}
+use Rattle.om_signs.proofs.SignLaws.{zero_if_opposite, opposite_zero, right_factor_zero, product_comm}
+use Rattle.om_signs.proofs.SignLaws.{opposite-opposite, product_turned_right, product-same, product_turned_comm}
 use Rattle.om_laws.specs.Relations.{along}
 use Rattle.om_laws.specs.Sorting.{IsElement}
 use Rattle.om_laws.specs.ThreeTerm.{AreBalanced}
-use Rattle.om_laws.proofs.SignLaws.{product_zero_left, product_zero_right, zero_or_nonzero}
 use Rattle.om_laws.proofs.TupleLaws.{value_alternating}
+use Rattle.om_laws.proofs.BridgeLaws.{length-as_list}
+use Rattle.om_laws.proofs.BalancedSigns.{balanced_first_exchanged, balanced_last_two, balanced_ends, balanced_first_two}
+use Rattle.om_laws.proofs.BalancedSigns.{balanced_same, balanced_zeros, balanced_alone}
 use Rattle.om_chirotope.specs.Map.{SignMap, chi_of, value_of}
 use Rattle.om_chirotope.specs.Pictures.{AreRowsBelow, HasRelationsAt, IsLive, IsTriple}
-use Rattle.om_chirotope.proofs.Places.{cocircuit_place, length-vector}
-use Rattle.om_chirotope.proofs.SignChecks.{alone, cancel_first, cancel_second, cancel_third, relation_of_four, swapped}
-use Rattle.om_chirotope.proofs.ThreeTerms.{balanced_same, balanced_zeros}
-
-self_opposite : (s : Sign) → s ≡ opposite s → s ≡ Zero
-self_opposite s e = grind arith
-
-opposite_of_zero : (s t : Sign) → s ≡ opposite t → t ≡ Zero → s ≡ Zero
-opposite_of_zero s t e z = grind arith
-
-opposite_zero : (s : Sign) → s ≡ Zero → opposite s ≡ Zero
-opposite_zero s e = grind arith
+use Rattle.om_chirotope.proofs.Places.{cocircuit_place}
+use Rattle.om_chirotope.proofs.SignChecks.{relation_of_four}
 
 module _ (m : SignMap) (p : List ℕ) where
   abbrev n : ℕ
@@ -46,37 +41,32 @@ module _ (m : SignMap) (p : List ℕ) where
   turned a b = value_alternating (chi_of m) b a p []
 
   same : (a : ℕ) → pair a a ≡ Zero
-  same a = self_opposite (pair a a) (turned a a)
+  same a = own_opposite (pair a a) (turned a a)
 
   -- an element whose signs are all zero
   abbrev IsSilent : ℕ → Type 0
   IsSilent b = (e : ℕ) → IsElement n e → pair b e ≡ Zero
 
   heard_from : (b a : ℕ) → IsSilent b → IsElement n a → pair a b ≡ Zero
-  heard_from b a s i = opposite_of_zero (pair a b) (pair b a) (turned a b) (s a i)
+  heard_from b a s i = zero_if_opposite (pair a b) (pair b a) (turned a b) (s a i)
 
   -- ---- the relations of x with three elements
 
   relation_same_first : (x c d : ℕ) → IsRelation x x c d
   relation_same_first x c d =
-      balanced_same _ _ _ _ _ _ (product_zero_left _ _ (same x)) refl (commuted (pair x d) (pair x c))
-      (cancel_first (product (pair x c) (pair x d)))
-    where
-      commuted : (s t : Sign) → product s t ≡ product t s
-      commuted s t = grind arith
+      balanced_same _ _ _ _ _ _ (product_zero_left _ _ (same x)) refl (product_comm (pair x d) (pair x c))
+      (balanced_last_two (product (pair x c) (pair x d)))
 
   relation_same_second : (x b d : ℕ) → IsRelation x b x d
   relation_same_second x b d =
       balanced_same _ _ _ _ _ _ refl (opposite_zero _ (product_zero_left _ _ (same x)))
-      (last (pair x d) (pair b x) (pair x b) (turned b x)) (cancel_second (product (pair x b) (pair x d)))
-    where
-      last : (s t u : Sign) → t ≡ opposite u → product s t ≡ opposite (product u s)
-      last s t u e = grind arith
+      (product_turned_comm (pair x d) (pair x b) (pair b x) (turned b x))
+      (balanced_ends (product (pair x b) (pair x d)))
 
   relation_same_third : (x b d : ℕ) → IsRelation x b b d
   relation_same_third x b d =
       balanced_same _ _ _ _ _ _ refl refl (product_zero_right _ _ (same b))
-      (cancel_third (product (pair x b) (pair b d)))
+      (balanced_first_two (product (pair x b) (pair b d)))
 
   relation_silent_first : (x b c d : ℕ) → IsElement n x → IsElement n c → IsElement n d → IsSilent b
       → IsRelation x b c d
@@ -92,16 +82,10 @@ module _ (m : SignMap) (p : List ℕ) where
 
   relation_swapped : (x b c d : ℕ) → IsRelation x b c d → IsRelation x c b d
   relation_swapped x b c d h =
-      balanced_same _ _ _ _ _ _ (twice (product (pair x c) (pair b d))) refl
-      (last (pair x d) (pair c b) (pair b c) (turned c b))
-      (swapped (product (pair x b) (pair c d)) (opposite (product (pair x c) (pair b d)))
+      balanced_same _ _ _ _ _ _ (sym (opposite-opposite (product (pair x c) (pair b d)))) refl
+      (product_turned_right (pair x d) (pair b c) (pair c b) (turned c b))
+      (balanced_first_exchanged (product (pair x b) (pair c d)) (opposite (product (pair x c) (pair b d)))
       (product (pair x d) (pair b c)) h)
-    where
-      twice : (s : Sign) → s ≡ opposite (opposite s)
-      twice s = grind arith
-
-      last : (s t u : Sign) → t ≡ opposite u → product s t ≡ opposite (product s u)
-      last s t u e = grind arith
 
   -- what an element is to x: x itself, silent, or one of some later ones
   abbrev IsKind : ℕ → (ℕ → Type 0) → ℕ → Type 0
@@ -140,9 +124,10 @@ module _ (m : SignMap) (p : List ℕ) where
       -- two elements that are zero with x are zero with one another
       none : (e f : ℕ) → IsElement n e → IsElement n f → pair x e ≡ Zero → pair x f ≡ Zero → pair e f ≡ Zero
       none e f ie if_ ze zf =
-          alone (pair x t) (pair e f)
+          right_factor_zero (pair x t) (pair e f) nz
+          (balanced_alone (product (pair x t) (pair e f))
           (balanced_same _ _ _ _ _ _ refl (sym (opposite_zero _ (product_zero_left _ _ ze)))
-          (sym (product_zero_left _ _ zf)) (with t e f it ie if_)) nz
+          (sym (product_zero_left _ _ zf)) (with t e f it ie if_)))
 
       go : (pair x a ≡ Zero) ⊎ (pair x a ≢ Zero) → (pair x b ≡ Zero) ⊎ (pair x b ≢ Zero) → (pair x c ≡ Zero)
           ⊎ (pair x c ≢ Zero) → (pair x d ≡ Zero) ⊎ (pair x d ≢ Zero) → IsRelation a b c d
@@ -170,10 +155,7 @@ module _ (m : SignMap) (p : List ℕ) where
 
     row_length : (a : ℕ) → IsElement n a → length (get_or rows (a - 1) []) ≡ n
     row_length a ia = let high = ia.1 in ap length (are.row a ia.0 (omega (arith, high)))
-        ∙ length-vector n (along (value_of m) (p ++ a ∷ []))
-
-    two : {a b c d : Sign} → a ≡ c → b ≡ d → product c d ≡ product a b
-    two {a} {b} {c} {d} s t = ap (λ k. product k d) (sym s) ∙ ap (product a) (sym t)
+        ∙ length-as_list n (along (value_of m) (p ++ a ∷ []))
 
     relation_of_triple : (x b c d : ℕ) → IsElement n x → IsElement n b → IsElement n c → IsElement n d
         → IsTriple rows (x - 1) (b - 1) (c - 1) → IsRelation x b c d
@@ -182,9 +164,9 @@ module _ (m : SignMap) (p : List ℕ) where
         let low = id.0 in
         let high = id.1 in
         balanced_same _ _ _ _ _ _
-        (two (at_row x b ix ib) (at_row c d ic id))
-        (ap opposite (two (at_row x c ix ic) (at_row b d ib id)))
-        (two (at_row x d ix id) (at_row b c ib ic))
+        (sym (product-same (at_row x b ix ib) (at_row c d ic id)))
+        (ap opposite (sym (product-same (at_row x c ix ic) (at_row b d ib id))))
+        (sym (product-same (at_row x d ix id) (at_row b c ib ic)))
         (h.each (d - 1) (omega (arith, len, low, high)))
 
     pub triple_from_relations : (i j k : ℕ) → i < m.elements → j < m.elements → k < m.elements → HasRelationsAt m p
@@ -209,9 +191,9 @@ module _ (m : SignMap) (p : List ℕ) where
             let len = ap (λ r. length (get_or rows r [])) (sym (back i)) ∙ row_length (i + 1) (one i il) in
             let ll : l < m.elements = omega (arith, lt, len) in
             balanced_same _ _ _ _ _ _
-            (sym (two (sign i j il jl) (sign k l kl ll)))
-            (ap opposite (sym (two (sign i k il kl) (sign j l jl ll))))
-            (sym (two (sign i l il ll) (sign j k jl kl)))
+            (product-same (sign i j il jl) (sign k l kl ll))
+            (ap opposite (product-same (sign i k il kl) (sign j l jl ll)))
+            (product-same (sign i l il ll) (sign j k jl kl))
             ((all (i + 1) (j + 1) (k + 1) (one i il) (one j jl) (one k kl)).each (l + 1) (omega arith)
             (omega (arith, ll)))
 

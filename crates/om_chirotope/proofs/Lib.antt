@@ -16,4 +16,5 @@ pub mod Rows
 pub mod SignChecks
 pub mod FirstRow
 pub mod BlockLaws
+pub mod FewValues
 pub mod PairCounts

@@ -12,25 +12,27 @@ use Rattle.std.proofs.lemmas.Bool.{cases_eq, cases_lt}
 use Rattle.std.proofs.lemmas.Nat.{and_le_l}
 use Rattle.std.proofs.Math.Pow.{pow_mono, pow_pos}
 use Rattle.std.proofs.lemmas.Nat.Bits.{bit_at_above, bit_at-zero, bit_at_ones, same_from_bits_below}
-use Rattle.om_signs.proofs.Bits.{bit_at_and_not, one_shl_32, some_bit}
 use Rattle.om_signs.specs.declared.limits.TheConstants.{MAX_PLACES}
 use Rattle.om_signs.specs.declared.sign.Sign.{Sign}
 use Rattle.om_signs.specs.declared.sign.Sign.TheVariants.{Zero}
 use Rattle.om_signs.specs.SignVec.{at, at_element, IsMaskOf, IsInSupport}
+use Rattle.om_signs.proofs.Bits.{bit_at_and_not, one_shl_32, some_bit, not_zero_and_one, zero_has_no_bit}
+use Rattle.om_signs.proofs.Bits.{bit_one_or_zero}
+use Rattle.om_signs.proofs.SignLaws.{zero_or_nonzero}
 use Rattle.om_subsets.specs.Subsets.{choose, rank_of, subset_at, IsSubsetFrom, IsMember}
 use Rattle.om_subsets.specs.Members.{mask_of}
 use Rattle.om_subsets.proofs.Masks.{mask_of-lt, members-mask_of, bits_are_members}
 use Rattle.om_subsets.proofs.Order.{members_from, rank_from-lt, same_place}
 use Rattle.om_laws.specs.Relations.{along}
 use Rattle.om_laws.proofs.MemberLaws.{member_or_not, search_members}
-use Rattle.om_laws.proofs.SignLaws.{zero_or_nonzero}
+use Rattle.om_laws.proofs.BridgeLaws.{length-as_list}
 use Rattle.om_chirotope.specs.Map.{SignMap, value_of, cocircuit_vector, cocircuit_vectors}
 use Rattle.om_chirotope.specs.ThreeTerm.{HasListExchange, IsBasis}
 use Rattle.om_chirotope.specs.Marks.{mark_at, IsMarked, IsSpread, IsSpreadFrom}
 use Rattle.om_chirotope.specs.Pictures.{AreMarked, AreMarkedAbove, HasBasisIn, IsInMask, IsMet}
-use Rattle.om_chirotope.proofs.Places.{cocircuit_place, length-vector}
+use Rattle.om_chirotope.proofs.Places.{cocircuit_place}
 use Rattle.om_chirotope.proofs.Tables.{vector_of_place, length-table, table_at}
-use Rattle.om_chirotope.proofs.Words.{add_bit_other, one_or_zero, take_bit}
+use Rattle.om_chirotope.proofs.Words.{add_bit_other, take_bit}
 
 -- a mark at each basis among the first k sets of its size
 pub record AreBasesMarkedBelow (m : SignMap) (words : List ℕ) (k : ℕ) : Type 0 where
@@ -44,9 +46,6 @@ pub record AreMarkedUpTo (m : SignMap) (words : List ℕ) (limit : ℕ) : Type 0
   pub above : (mask : ℕ) (b : List ℕ) → mask < 2 ^ m.elements → IsBasis m b → IsInMask b mask
       → ((i : ℕ) → limit ≤ i → bit_at mask i ≡ 1 → IsMember (i + 1) b) → IsMarked words mask
   pub only : (mask : ℕ) → IsMarked words mask → HasBasisIn m mask
-
-zero_one : (b : ℕ) → b ≡ 0 → b ≡ 1 → ⊥
-zero_one b p q = omega arith
 
 -- ---- marks of bases
 
@@ -92,7 +91,8 @@ none_marked m words room clear = record {
   room = room;
   bases = λ b basis l. absurd (omega arith);
   only = λ mask h. absurd
-      (zero_one (mark_at words mask) (ap (λ w. bit_at w (mask % 64)) (clear (mask / 64)) ∙ bit_at-zero (mask % 64)) h);
+      (not_zero_and_one (mark_at words mask)
+      (ap (λ w. bit_at w (mask % 64)) (clear (mask / 64)) ∙ bit_at-zero (mask % 64)) h);
 }
 
 -- a mark more says no more than there is
@@ -137,10 +137,10 @@ nothing_above m words h = record { room = h.room; above = above; only = h.only }
       where
         same_bit : (i : ℕ) → (bit_at (mask_of 1 b m.elements) i ≡ 1) ↔ IsMember (i + 1) b
             → bit_at (mask_of 1 b m.elements) i ≡ bit_at mask i
-        same_bit i holds = elim (one_or_zero mask i) [
+        same_bit i holds = elim (bit_one_or_zero mask i) [
           | inl o ↦ holds.1 (each i (omega arith) o) ∙ sym o
-          | inr z ↦ elim (one_or_zero (mask_of 1 b m.elements) i) [
-            | inl o ↦ absurd (zero_one (bit_at mask i) z (inside i (holds.0 o)))
+          | inr z ↦ elim (bit_one_or_zero (mask_of 1 b m.elements) i) [
+            | inl o ↦ absurd (not_zero_and_one (bit_at mask i) z (inside i (holds.0 o)))
             | inr z2 ↦ z2 ∙ sym z
           ]
         ]
@@ -164,7 +164,7 @@ above_more m words words' e spread all =
           b,
           basis,
           λ j k. elim (cases_eq j e) [
-            | inl q ↦ absurd (zero_one (bit_at t j) (ap (bit_at t) q ∙ z) (inside j k))
+            | inl q ↦ absurd (not_zero_and_one (bit_at t j) (ap (bit_at t) q ∙ z) (inside j k))
             | inr n ↦ sym (ap (λ s. bit_at s j) sum) ∙ add_bit_other t e j z n ∙ inside j k
           ],
         )
@@ -192,19 +192,19 @@ above_more m words words' e spread all =
         let low : IsMarked words (mask - 2 ^ e) = all.above (mask - 2 ^ e) b (omega arith) basis
         (λ j k. same j (λ q. out (subst (λ i. IsMember (i + 1) b) q k)) ∙ inside j k)
         (λ i l on. elim (cases_eq i e) [
-          | inl q ↦ absurd (zero_one (bit_at (mask - 2 ^ e) i) (ap (bit_at (mask - 2 ^ e)) q ∙ t.1) on)
+          | inl q ↦ absurd (not_zero_and_one (bit_at (mask - 2 ^ e) i) (ap (bit_at (mask - 2 ^ e)) q ∙ t.1) on)
           | inr n ↦ each i (omega arith) (sym (same i n) ∙ on)
         ]) in
         subst (IsMarked words') sum (spread.adds (mask - 2 ^ e) t.1 (omega arith) low)
 
     above : (mask : ℕ) (b : List ℕ) → mask < 2 ^ m.elements → IsBasis m b → IsInMask b mask
         → ((i : ℕ) → e + 1 ≤ i → bit_at mask i ≡ 1 → IsMember (i + 1) b) → IsMarked words' mask
-    above mask b within basis inside each = elim (one_or_zero mask e) [
+    above mask b within basis inside each = elim (bit_one_or_zero mask e) [
       | inl one ↦ elim (member_or_not (e + 1) b) [
         | inl k ↦ before mask b within basis inside each (λ o. k)
         | inr out ↦ added mask b within basis inside each one out
       ]
-      | inr z ↦ before mask b within basis inside each (λ one. absurd (zero_one (bit_at mask e) z one))
+      | inr z ↦ before mask b within basis inside each (λ one. absurd (not_zero_and_one (bit_at mask e) z one))
     ]
 
 pub all_above : (m : SignMap) (words : List ℕ) (e : ℕ) → m.elements ≤ e → AreMarkedUpTo m words e
@@ -212,7 +212,7 @@ pub all_above : (m : SignMap) (words : List ℕ) (e : ℕ) → m.elements ≤ e 
 all_above m words e le all = record {
   room = all.room;
   above = λ mask b within basis inside. all.above mask b within basis inside
-      (λ i l one. absurd (zero_one (bit_at mask i) (bit_at_above mask m.elements i within (omega arith)) one));
+      (λ i l one. absurd (not_zero_and_one (bit_at mask i) (bit_at_above mask m.elements i within (omega arith)) one));
   only = all.only;
 }
 
@@ -274,7 +274,7 @@ met_of_mark m words u support few len is all none i l nz b basis =
         let zero : at u j ≡ Zero = ap (at u) (sym at_j) ∙ zeros (j + 1) k in
         let jl : j < length u = omega (arith, jn, len) in
         let bit : bit_at support j ≡ 0 =
-        elim (one_or_zero support j) [ inl o ↦ absurd ((is.holds j jl).0 o zero) | inr z ↦ z ] in
+        elim (bit_one_or_zero support j) [ inl o ↦ absurd ((is.holds j jl).0 o zero) | inr z ↦ z ] in
         let within = is.within in
         let r = room in
         let p = pos in
@@ -286,10 +286,7 @@ pub met_of_zero : (m : SignMap) (u : List Sign) (support : ℕ) → length u ≡
     → IsMaskOf (length u) (IsInSupport u) support → support ≡ 0 → IsMet m u
 met_of_zero m u support len is z i l nz b basis =
     let il : i < length u = omega (arith, l, len) in
-    absurd (none i (sym (ap (λ k. bit_at k i) z) ∙ (is.holds i il).1 nz))
-  where
-    none : (i : ℕ) → bit_at 0 i ≡ 1 → ⊥
-    none i q = let e = bit_at-zero i in omega (arith, e, q)
+    absurd (zero_has_no_bit i (sym (ap (λ k. bit_at k i) z) ∙ (is.holds i il).1 nz))
 
 -- where some set off the support of a vector that isn't zero has a basis in it, that basis has no element of the
 -- support
@@ -368,4 +365,4 @@ pub table_length : (m : SignMap) (table : List (List Sign)) (k : ℕ) → table 
 table_length m table k et l =
     let size = ap length et ∙ length-table m in
     ap (λ t. length (get_or t k [])) et ∙ ap length (table_at m k (omega (arith, l, size)))
-    ∙ length-vector m.elements (along (value_of m) (subset_at m.elements (m.rank - 1) k))
+    ∙ length-as_list m.elements (along (value_of m) (subset_at m.elements (m.rank - 1) k))

@@ -12,27 +12,21 @@ use Rattle.om_signs.specs.declared.sign.Sign.{Sign}
 use Rattle.om_signs.specs.declared.sign.Sign.TheVariants.{Minus, Zero, Plus}
 use Rattle.om_signs.specs.Sign.{opposite, product}
 use Rattle.om_signs.specs.SignVec.{at, HasProduct, IsOrthogonal}
+use Rattle.om_signs.proofs.ListPlaces.{at-map-opposite}
+use Rattle.om_signs.proofs.SignLaws.{product-opposite_right, product_turned_both, opposite_swap, zero_from_opposite}
 use Rattle.om_subsets.specs.Subsets.{rank_of}
 use Rattle.om_laws.specs.Tuples.{sorted, sort_sign}
 use Rattle.om_laws.specs.Relations.{around, along}
 use Rattle.om_laws.specs.Bridge.{as_list}
+use Rattle.om_laws.proofs.BridgeLaws.{length-as_list}
 use Rattle.om_chirotope.specs.Map.{SignMap, value_of, negated, IsLedBy}
 use Rattle.om_chirotope.specs.Chirotope.{HasNonzeroValue, IsChirotope, IsSound, IsAllZero}
-use Rattle.om_chirotope.proofs.Places.{length-vector}
 use Rattle.om_chirotope.proofs.Axioms.{not_all_zero}
-
-pub at-opposite : (xs : List Sign) (i : ℕ) → at (map opposite xs) i ≡ opposite (at xs i)
-at-opposite [] i = refl
-at-opposite (x ∷ xs) zero = refl
-at-opposite (x ∷ xs) (suc i) = at-opposite xs i
 
 value_negated : (m : SignMap) (t : List ℕ) → value_of (negated m) t ≡ opposite (value_of m t)
 value_negated m t =
-    ap (product (sort_sign t)) (at-opposite m.signs (rank_of m.elements (sorted t)))
-    ∙ lemma (sort_sign t) (at m.signs (rank_of m.elements (sorted t)))
-  where
-    lemma : (s u : Sign) → product s (opposite u) ≡ opposite (product s u)
-    lemma s u = grind arith
+    ap (product (sort_sign t)) (at-map-opposite m.signs (rank_of m.elements (sorted t)))
+    ∙ product-opposite_right (sort_sign t) (at m.signs (rank_of m.elements (sorted t)))
 
 around_negated : (chi psi : List ℕ → Sign) (xs : List ℕ) (e : ℕ) → ((t : List ℕ) → psi t ≡ opposite (chi t))
     → around psi xs e ≡ opposite (around chi xs e)
@@ -56,23 +50,18 @@ at-vector_negated : (n : ℕ) (f g : ℕ → Sign) (i : ℕ) → ((e : ℕ) → 
 at-vector_negated n f g i h = elim (cases_lt i n) [
   | inl l ↦ at-vector n g i l ∙ h (i + 1) ∙ ap opposite (sym (at-vector n f i l))
   | inr ge ↦
-      let zf : at (as_list n f) i ≡ Zero = get_or_past (as_list n f) i Zero (rw (length-vector n f) ge) in
-      let zg : at (as_list n g) i ≡ Zero = get_or_past (as_list n g) i Zero (rw (length-vector n g) ge) in
+      let zf : at (as_list n f) i ≡ Zero = get_or_past (as_list n f) i Zero (rw (length-as_list n f) ge) in
+      let zg : at (as_list n g) i ≡ Zero = get_or_past (as_list n g) i Zero (rw (length-as_list n g) ge) in
       zg ∙ ap opposite (sym zf)
 ]
 
 product_kept : (xs ys us vs : List Sign) (s : Sign) → ((i : ℕ) → at us i ≡ opposite (at xs i))
     → ((i : ℕ) → at vs i ≡ opposite (at ys i)) → HasProduct xs ys s → HasProduct us vs s
-product_kept xs ys us vs s hu hv (i, p) = (i, lemma (at xs i) (at ys i) (at us i) (at vs i) (hu i) (hv i) ∙ p)
-  where
-    lemma : (a b c d : Sign) → c ≡ opposite a → d ≡ opposite b → product c d ≡ product a b
-    lemma a b c d p q = grind arith
+product_kept xs ys us vs s hu hv (i, p) =
+    (i, product_turned_both (at xs i) (at us i) (at ys i) (at vs i) (hu i) (hv i) ∙ p)
 
 turned_back : (xs us : List Sign) → ((i : ℕ) → at us i ≡ opposite (at xs i)) → (i : ℕ) → at xs i ≡ opposite (at us i)
-turned_back xs us h i = lemma (at xs i) (at us i) (h i)
-  where
-    lemma : (a b : Sign) → b ≡ opposite a → a ≡ opposite b
-    lemma a b p = grind arith
+turned_back xs us h i = opposite_swap (at us i) (at xs i) (h i)
 
 orthogonal_kept : (xs ys us vs : List Sign) → ((i : ℕ) → at us i ≡ opposite (at xs i))
     → ((i : ℕ) → at vs i ≡ opposite (at ys i)) → IsOrthogonal xs ys → IsOrthogonal us vs
@@ -96,10 +85,7 @@ negated_chirotope m c = record {
 }
   where
     some : HasNonzeroValue m → HasNonzeroValue (negated m)
-    some (xs, h, l, n) = (xs, h, l, λ z. n (lemma (value_of m xs) (sym (value_negated m xs) ∙ z)))
-      where
-        lemma : (s : Sign) → opposite s ≡ Zero → s ≡ Zero
-        lemma s z = grind arith
+    some (xs, h, l, n) = (xs, h, l, λ z. n (zero_from_opposite (value_of m xs) (sym (value_negated m xs) ∙ z)))
 
 -- ---- the first sign that isn't zero
 
@@ -136,7 +122,7 @@ led_by_plus m c n = go (leader m.signs)
     go (inr (inr z)) = absurd (not_all_zero m c.whole z c.nonzero)
 
 pub led_negated : (xs : List Sign) → IsLedBy Minus xs → IsLedBy Plus (map opposite xs)
-led_negated xs (k, p, q) = (k, at-opposite xs k ∙ ap opposite p, λ j l. at-opposite xs j ∙ ap opposite (q j l))
+led_negated xs (k, p, q) = (k, at-map-opposite xs k ∙ ap opposite p, λ j l. at-map-opposite xs j ∙ ap opposite (q j l))
 
 -- what the loop that turns the signs has made
 pub turned_map : (rank elements r e : ℕ) (xs ys : List Sign) → r ≡ rank → e ≡ elements → length ys ≡ length xs
@@ -145,7 +131,7 @@ pub turned_map : (rank elements r e : ℕ) (xs ys : List Sign) → r ≡ rank �
 turned_map rank elements r e xs ys er ee l h =
     let es : ys ≡ map opposite xs =
     ext_get_or Zero ys (map opposite xs) (l ∙ sym (length-map xs opposite))
-    (λ k lt. h k (omega arith) ∙ sym (at-opposite xs k)) in
+    (λ k lt. h k (omega arith) ∙ sym (at-map-opposite xs k)) in
     rw (er, ee, es) refl
 
 pub negated_sound : (m : SignMap) → IsSound m → IsSound (negated m)

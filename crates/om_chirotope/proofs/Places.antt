@@ -1,7 +1,6 @@
 -- The signs of the two vectors of a map, place by place.
 --
--- Main results: vector_is, vector_more, length-vector, place-vector, around_place, circuit_place, circuit_off,
--- cocircuit_place
+-- Main results: vector_is, vector_more, place-vector, around_place, circuit_place, circuit_off, cocircuit_place
 use Rattle.std.specs.Prelude.{ℕ, ◌≡◌, ◌≢◌, ◌+◌, ◌-◌, ◌<◌, ◌≤◌, List, [], ◌∷◌, ◌++◌, length, refl}
 use Rattle.std.specs.List.{remove}
 use Rattle.std.proofs.Common.{zero, suc, sym, ◌∙◌, arith, inl, inr, set, get_or}
@@ -10,14 +9,17 @@ use Rattle.std.proofs.lemmas.List.{ext_get_or, get_or-set_same, get_or-set_other
 use Rattle.std.proofs.lemmas.List.FromFn.{length-map-range_with_len, get_or-map-range_with_len}
 use Rattle.om_signs.specs.declared.sign.Sign.{Sign}
 use Rattle.om_signs.specs.declared.sign.Sign.TheVariants.{Zero}
-use Rattle.om_signs.specs.Sign.{opposite, product}
+use Rattle.om_signs.specs.Sign.{product}
 use Rattle.om_signs.specs.SignVec.{at, at_element}
+use Rattle.om_signs.proofs.SignLaws.{product-opposite_left}
 use Rattle.om_subsets.specs.Subsets.{IsSubsetFrom, IsMember}
 use Rattle.om_subsets.proofs.Order.{members_from}
 use Rattle.om_laws.specs.Relations.{around, along}
 use Rattle.om_laws.specs.Bridge.{as_list}
+use Rattle.om_laws.proofs.RelationLaws.{around_zero}
+use Rattle.om_laws.proofs.MemberLaws.{member_at}
 use Rattle.om_chirotope.specs.Map.{SignMap, value_of, circuit_vector, cocircuit_vector, parity_sign}
-use Rattle.om_chirotope.proofs.Circuits.{parity_sign-suc, around_other}
+use Rattle.om_chirotope.proofs.Circuits.{parity_sign-suc}
 
 -- a list of n signs that are those of f at 1 to n
 pub vector_is : (n : ℕ) (f : ℕ → Sign) (xs : List Sign) → length xs ≡ n → ((k : ℕ) → k < n → at xs k ≡ f (k + 1))
@@ -36,22 +38,12 @@ vector_more e f xs s low high is done k l = elim (cases_eq k (e - 1)) [
   | inr n ↦ get_or-set_other xs (e - 1) k s Zero n ∙ done k (omega arith)
 ]
 
-pub length-vector : (n : ℕ) (f : ℕ → Sign) → length (as_list n f) ≡ n
-length-vector n f = length-map-range_with_len f 1 n
-
 pub place-vector : (n : ℕ) (f : ℕ → Sign) (e : ℕ) → 1 ≤ e → e ≤ n → at_element (as_list n f) e ≡ f e
 place-vector n f e low high =
     let back : 1 + (e - 1) ≡ e = omega arith in
     get_or-map-range_with_len f 1 n (e - 1) e Zero (omega arith) back
 
 -- ---- the vector around a list, by the places of its elements
-
-at_member : (low m i : ℕ) (xs : List ℕ) → IsSubsetFrom low m xs → i < length xs → IsMember (get_or xs i 0) xs
-at_member low m i [] h l = absurd (omega arith)
-at_member low m zero (x ∷ xs) h l = inl refl
-at_member low zero (suc i) (x ∷ xs) h l = absurd h
-at_member low (suc m) (suc i) (x ∷ xs) (inl (q, h)) l = inr (at_member (low + 1) m i xs h (omega arith))
-at_member low (suc m) (suc i) (x ∷ xs) (inr (n, h)) l = at_member (low + 1) m (suc i) (x ∷ xs) h l
 
 remove_first : (x : ℕ) (xs : List ℕ) → remove (x ∷ xs) 0 ≡ xs
 remove_first x xs = refl
@@ -65,28 +57,25 @@ around_place low m i chi [] h l = absurd (omega arith)
 around_place low zero i chi (x ∷ xs) h l = absurd h
 around_place low (suc m) zero chi (x ∷ xs) (inl (q, h)) l = rw (eq-eqb x x refl, remove_first x xs) refl
 around_place low (suc m) (suc i) chi (x ∷ xs) (inl (q, h)) l =
-    let above = members_from (low + 1) m (get_or xs i 0) xs h (at_member (low + 1) m i xs h (omega arith)) in
+    let above = members_from (low + 1) m (get_or xs i 0) xs h (member_at xs i (omega arith)) in
     let ne : get_or xs i 0 ≢ x = omega arith in
     let here = around_place (low + 1) m i (λ t. chi (x ∷ t)) xs h (omega arith) in
     let s : suc i + 1 ≡ suc (i + 1) = omega arith in
     rw (ne_eqb (get_or xs i 0) x ne, here, remove_later x i xs, s, parity_sign-suc (i + 1))
-    (lemma (parity_sign (i + 1)) (chi (x ∷ remove xs i)))
-  where
-    lemma : (a b : Sign) → opposite (product a b) ≡ product (opposite a) b
-    lemma a b = grind arith
+    (sym (product-opposite_left (parity_sign (i + 1)) (chi (x ∷ remove xs i))))
 around_place low (suc m) i chi (x ∷ xs) (inr (n, h)) l = around_place (low + 1) m i chi (x ∷ xs) h l
 
 pub circuit_place : (m : SignMap) (s : List ℕ) (i : ℕ) → IsSubsetFrom 1 m.elements s → i < length s
     → at_element (circuit_vector m s) (get_or s i 0) ≡ product (parity_sign (i + 1)) (value_of m (remove s i))
 circuit_place m s i h l =
-    let bound = members_from 1 m.elements (get_or s i 0) s h (at_member 1 m.elements i s h l) in
+    let bound = members_from 1 m.elements (get_or s i 0) s h (member_at s i l) in
     place-vector m.elements (around (value_of m) s) (get_or s i 0) (omega arith) (omega arith)
     ∙ around_place 1 m.elements i (value_of m) s h l
 
 pub circuit_off : (m : SignMap) (s : List ℕ) (e : ℕ) → 1 ≤ e → e ≤ m.elements → (IsMember e s → ⊥)
     → at_element (circuit_vector m s) e ≡ Zero
 circuit_off m s e low high n = place-vector m.elements (around (value_of m) s) e low high
-    ∙ around_other (value_of m) s e n
+    ∙ around_zero (value_of m) s e n
 
 pub cocircuit_place : (m : SignMap) (a : List ℕ) (e : ℕ) → 1 ≤ e → e ≤ m.elements
     → at_element (cocircuit_vector m a) e ≡ value_of m (a ++ e ∷ [])

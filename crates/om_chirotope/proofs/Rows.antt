@@ -4,10 +4,9 @@
 -- relations_of_pictures.
 use Rattle.std.specs.Prelude.{ℕ, ◌≡◌, ◌≢◌, ◌+◌, ◌-◌, ◌*◌, ◌%◌, ◌<◌, ◌≤◌, ◌^◌, ◌⊎◌, ◌↔◌, List, [], ◌∷◌, ◌++◌, length}
 use Rattle.std.specs.Prelude.{map, refl, bit_and, bit_or}
-use Rattle.std.specs.Int.{bit_at}
-use Rattle.std.proofs.Common.{sym, ◌∙◌, ap, arith, inl, inr, subst, get_or, set, replicate}
-use Rattle.std.proofs.Common.{⊎_elim, zero, suc, append_assoc, w32, max}
-use Rattle.std.specs.Int.{trailing_zeros}
+use Rattle.std.specs.Int.{bit_at, trailing_zeros}
+use Rattle.std.proofs.Common.{sym, ◌∙◌, ap, arith, inl, inr, subst, get_or, set, replicate, ⊎_elim, zero, suc}
+use Rattle.std.proofs.Common.{append_assoc, w32, max}
 use Rattle.std.proofs.lemmas.Bool.{cases_eq, cases_lt, cases_order, eq-eqb, ne_eqb, lt-ltb, le-ltb}
 use Rattle.std.proofs.lemmas.List.{get_or_past, length-set, length-map, length-replicate, get_or-map, get_or-replicate}
 use Rattle.std.proofs.lemmas.List.{get_or-set_same, get_or-set_other}
@@ -17,12 +16,14 @@ use Rattle.std.proofs.Math.Pow.{pow_mono}
 use Rattle.std.proofs.lemmas.Nat.Bits.{bit_at-lt, bit_at-zero, bit_at_or, bit_at-trailing_zeros, bit_at_clear_other}
 use Rattle.std.proofs.lemmas.Nat.Bits.{bit_at_clear_same, bit_at_above, bit_at_set_same, bit_at_set_other}
 use Rattle.std.proofs.lemmas.Nat.Bits.{same_from_bits}
-use Rattle.om_signs.proofs.Bits.{lt_from_bits, some_bit}
 use Rattle.om_signs.specs.declared.limits.TheConstants.{MAX_PLACES}
 use Rattle.om_signs.specs.declared.sign.Sign.{Sign}
 use Rattle.om_signs.specs.declared.sign.Sign.TheVariants.{Minus, Zero, Plus}
 use Rattle.om_signs.specs.Sign.{opposite, product}
 use Rattle.om_signs.specs.SignVec.{at, at_element, IsMaskOf, IsInSupport, IsPlus, IsMinus}
+use Rattle.om_signs.proofs.Bits.{lt_from_bits, some_bit, not_zero_and_one}
+use Rattle.om_signs.proofs.SignLaws.{product-same, zero_not_plus, zero_not_minus, product-opposite_left}
+use Rattle.om_signs.proofs.Order.{at_place}
 use Rattle.om_subsets.specs.Subsets.{choose, rank_of, IsSubsetFrom, IsMember, with_element, count_above}
 use Rattle.om_subsets.proofs.Order.{same_place, rank_from-lt}
 use Rattle.om_laws.specs.Bridge.{as_list}
@@ -33,13 +34,14 @@ use Rattle.om_laws.specs.ThreeTerm.{AreBalanced}
 use Rattle.om_laws.proofs.MemberLaws.{member_left}
 use Rattle.om_laws.proofs.ThreeTermSigns.{IsOneOf, balanced_from}
 use Rattle.om_laws.proofs.TupleLaws.{last_repeat_zero, moved_over, value_alternating}
+use Rattle.om_laws.proofs.BridgeLaws.{length-as_list}
+use Rattle.om_laws.proofs.BalancedSigns.{balanced_same}
 use Rattle.om_subsets.proofs.Statements.{subset_is_increasing}
 use Rattle.om_chirotope.specs.Map.{SignMap, chi_of, value_of, cocircuit_vector, parity_sign}
 use Rattle.om_chirotope.specs.ThreeTerm.{HasThreeTermRelations}
 use Rattle.om_chirotope.specs.Pictures.{AreRowsBelow, HasRelationsAt, IsBalancedTriple, IsLive, IsTriple}
 use Rattle.om_chirotope.proofs.Circuits.{parity_sign-suc, count_below}
-use Rattle.om_chirotope.proofs.Places.{vector_is, length-vector}
-use Rattle.om_chirotope.proofs.ThreeTerms.{balanced_same}
+use Rattle.om_chirotope.proofs.Places.{vector_is}
 
 -- the relations of the first k lists P hold
 abbrev pub AreBalancedBelow : SignMap → ℕ → Type 0
@@ -50,10 +52,7 @@ AreBalancedBelow m k = (p : List ℕ) → IsSubsetFrom 1 m.elements p → length
 
 times_parity : (k : ℕ) (s : Sign) → negated_times k s ≡ product (parity_sign k) s
 times_parity zero s = refl
-times_parity (suc k) s = rw (times_parity k s, parity_sign-suc k) (lemma (parity_sign k) s)
-  where
-    lemma : (a b : Sign) → opposite (product a b) ≡ product (opposite a) b
-    lemma a b = grind arith
+times_parity (suc k) s = rw (times_parity k s, parity_sign-suc k) (sym (product-opposite_left (parity_sign k) s))
 
 parity_cases : (k : ℕ) → (parity_sign k ≡ Plus) ⊎ (parity_sign k ≡ Minus)
 parity_cases k = elim (cases_eq (k % 2) 0) [
@@ -116,7 +115,7 @@ module _ (m : SignMap) (p : List ℕ) (x : ℕ) (h : IsSubsetFrom 1 m.elements p
   pub row_even : (count_above x p % 2 ≡ 1 → ⊥) → cocircuit_vector m (with_element x p)
       ≡ cocircuit_vector m (p ++ x ∷ [])
   row_even n = vector_is m.elements (along (value_of m) (p ++ x ∷ [])) (cocircuit_vector m (with_element x p))
-      (length-vector m.elements (along (value_of m) (with_element x p)))
+      (length-as_list m.elements (along (value_of m) (with_element x p)))
       (λ k l. at_vector (with_element x p) k l
       ∙ sym (row_sign (k + 1) ∙ plus (along (value_of m) (with_element x p) (k + 1))))
     where
@@ -126,7 +125,7 @@ module _ (m : SignMap) (p : List ℕ) (x : ℕ) (h : IsSubsetFrom 1 m.elements p
   pub row_odd : count_above x p % 2 ≡ 1 → map opposite (cocircuit_vector m (with_element x p))
       ≡ cocircuit_vector m (p ++ x ∷ [])
   row_odd o =
-      let len = length-vector m.elements (along (value_of m) (with_element x p)) in
+      let len = length-as_list m.elements (along (value_of m) (with_element x p)) in
       vector_is m.elements (along (value_of m) (p ++ x ∷ [])) (map opposite (cocircuit_vector m (with_element x p)))
       (length-map (cocircuit_vector m (with_element x p)) opposite ∙ len)
       (λ k l. get_or-map opposite (cocircuit_vector m (with_element x p)) k Zero Zero (subst (λ i. k < i) (sym len) l)
@@ -160,12 +159,6 @@ no_sign (inl e) = e
 no_sign (inr (inl e)) = e
 no_sign (inr (inr e)) = e
 
-zero_plus : Zero ≡ Plus → ⊥
-zero_plus e = cc
-
-zero_minus : Zero ≡ Minus → ⊥
-zero_minus e = cc
-
 with_minus : (x y z : Sign) → AreBalanced x y z → IsOneOf x y z Plus → IsOneOf x y z Minus
 with_minus Minus Minus Minus h k = absurd h
 with_minus Minus Minus Zero h k = absurd h
@@ -180,7 +173,7 @@ with_minus Zero Minus Minus h k = absurd h
 with_minus Zero Minus Zero h k = absurd h
 with_minus Zero Minus Plus h k = inr (inl refl)
 with_minus Zero Zero Minus h k = absurd h
-with_minus Zero Zero Zero h k = absurd (zero_plus (no_sign k))
+with_minus Zero Zero Zero h k = absurd (zero_not_plus (no_sign k))
 with_minus Zero Zero Plus h k = absurd h
 with_minus Zero Plus Minus h k = inr (inr refl)
 with_minus Zero Plus Zero h k = absurd h
@@ -209,7 +202,7 @@ with_plus Zero Minus Minus h k = absurd h
 with_plus Zero Minus Zero h k = absurd h
 with_plus Zero Minus Plus h k = inr (inr refl)
 with_plus Zero Zero Minus h k = absurd h
-with_plus Zero Zero Zero h k = absurd (zero_minus (no_sign k))
+with_plus Zero Zero Zero h k = absurd (zero_not_minus (no_sign k))
 with_plus Zero Zero Plus h k = absurd h
 with_plus Zero Plus Minus h k = inr (inl refl)
 with_plus Zero Plus Zero h k = absurd h
@@ -328,13 +321,13 @@ lowest_bit mask n few within some =
       here = elim (cases_lt (trailing_zeros w32 mask) n) [
         | inl l ↦ l
         | inr g ↦
-            absurd (zero_one (bit_at mask (trailing_zeros w32 mask))
+            absurd (not_zero_and_one (bit_at mask (trailing_zeros w32 mask))
             (bit_at_above mask n (trailing_zeros w32 mask) within g) t.1)
       ];
       bit = t.1;
       smaller = elim (cases_eq (bit_and mask (4294967295 - 1 * 2 ^ trailing_zeros w32 mask % 4294967296)) mask) [
         | inl q ↦
-            absurd (zero_one (bit_at mask (trailing_zeros w32 mask))
+            absurd (not_zero_and_one (bit_at mask (trailing_zeros w32 mask))
             (sym (ap (λ k. bit_at k (trailing_zeros w32 mask)) q) ∙ cleared) t.1)
         | inr k ↦ omega arith
       ];
@@ -342,9 +335,6 @@ lowest_bit mask n few within some =
       others = λ j l ne. bit_at_clear_other w32 mask (trailing_zeros w32 mask) t.0 j l ne;
       lower = t.2;
     }
-  where
-    zero_one : (b : ℕ) → b ≡ 0 → b ≡ 1 → ⊥
-    zero_one b p q = omega arith
 
 -- ---- the relations of all lists P
 
@@ -414,7 +404,7 @@ rows_more m p rows x row low l e h =
     lengths k lt = elim (cases_eq k (x - 1)) [
       | inl q ↦ ap (λ j. length (get_or (set rows (x - 1) row) j [])) q
           ∙ ap length (get_or-set_same rows (x - 1) row [] l) ∙ ap length e
-          ∙ length-vector m.elements (along (value_of m) (p ++ x ∷ []))
+          ∙ length-as_list m.elements (along (value_of m) (p ++ x ∷ []))
       | inr n ↦ ap length (get_or-set_other rows (x - 1) k row [] n)
           ∙ h.below.lengths k (let s = length-set rows (x - 1) row in omega (arith, lt, s))
     ]
@@ -459,19 +449,12 @@ rows_skip m p rows x low inside list k h = record {
 
 -- ---- the rows of a mask
 
-zero_one : (b : ℕ) → b ≡ 0 → b ≡ 1 → ⊥
-zero_one b p q = omega (arith, p, q)
-
-pub bit_inside : (mask n k : ℕ) → mask < 2 ^ n → bit_at mask k ≡ 1 → k < n
-bit_inside mask n k w o =
-    elim (cases_lt k n) [ inl l ↦ l | inr g ↦ absurd (zero_one (bit_at mask k) (bit_at_above mask n k w g) o) ]
-
 bit_below_32 : (mask n k : ℕ) → n ≤ MAX_PLACES → mask < 2 ^ n → bit_at mask k ≡ 1 → k < 32
 bit_below_32 mask n k few w o =
     elim (cases_lt k n) [
       | inl l ↦ omega (arith, l, few)
       | inr g ↦
-          absurd (zero_one (bit_at mask k) (bit_at_above mask n k w g) o)
+          absurd (not_zero_and_one (bit_at mask k) (bit_at_above mask n k w g) o)
     ]
 
 -- a bit that is left is one of the mask, and above the lowest
@@ -482,9 +465,10 @@ left_bit rest n i k few low within o =
     let w : bit_and rest (4294967295 - 1 * 2 ^ i % 4294967296) < 2 ^ n = omega (arith, a, within) in
     let small = bit_below_32 (bit_and rest (4294967295 - 1 * 2 ^ i % 4294967296)) n k few w o in
     elim (cases_order k i) [
-      | inl q ↦ absurd (zero_one _ (ap (bit_at (bit_and rest (4294967295 - 1 * 2 ^ i % 4294967296))) q ∙ low.none) o)
+      | inl q ↦ absurd (not_zero_and_one _
+          (ap (bit_at (bit_and rest (4294967295 - 1 * 2 ^ i % 4294967296))) q ∙ low.none) o)
       | inr (inl lt) ↦ let ne : k ≢ i = omega (arith, lt) in
-          absurd (zero_one (bit_at rest k) (low.lower k lt) (sym (low.others k small ne) ∙ o))
+          absurd (not_zero_and_one (bit_at rest k) (low.lower k lt) (sym (low.others k small ne) ∙ o))
       | inr (inr gt) ↦ let ne : k ≢ i = omega (arith, gt) in (sym (low.others k small ne) ∙ o, gt)
     ]
 
@@ -541,12 +525,6 @@ all_cleared later rest n Done z h k o =
 
 -- ---- three rows of a table
 
-two : {a b c d : Sign} → a ≡ c → b ≡ d → product a b ≡ product c d
-two {a} {b} {c} {d} s t = ap (λ k. product k b) s ∙ ap (product c) t
-
-at_place : (y : ℕ) (first row : List Sign) → first ≡ row → at row y ≡ at_element first (y + 1)
-at_place y first row e = let back : y ≡ y + 1 - 1 = omega arith in ap (λ r. at r y) (sym e) ∙ ap (at first) back
-
 pub triple_of_rows : (rows : List (List Sign)) (x y z : ℕ) (first second third : List Sign) → first ≡ get_or rows x []
     → second ≡ get_or rows y [] → third ≡ get_or rows z []
     → ((i : ℕ) → i < length first
@@ -557,9 +535,9 @@ pub triple_of_rows : (rows : List (List Sign)) (x y z : ℕ) (first second third
 triple_of_rows rows x y z first second third e1 e2 e3 h = record {
   each = λ l lt.
       balanced_same _ _ _ _ _ _
-      (two (at_place y first _ e1) (ap (λ r. at r l) (sym e3)))
-      (ap opposite (two (at_place z first _ e1) (ap (λ r. at r l) (sym e2))))
-      (two (ap (λ r. at r l) (sym e1)) (at_place z second _ e2))
+      (product-same (sym (at_place first _ y e1)) (ap (λ r. at r l) (sym e3)))
+      (ap opposite (product-same (sym (at_place first _ z e1)) (ap (λ r. at r l) (sym e2))))
+      (product-same (ap (λ r. at r l) (sym e1)) (sym (at_place second _ z e2)))
       (h l (subst (λ r. l < length r) (sym e1) lt));
 }
 
@@ -571,9 +549,9 @@ pub triple_to_rows : (rows : List (List Sign)) (x y z : ℕ) (first second third
     (opposite (product (at_element first (z + 1)) (at second i))) (product (at first i) (at_element second (z + 1)))
 triple_to_rows rows x y z first second third e1 e2 e3 t l lt =
     balanced_same _ _ _ _ _ _
-    (sym (two (at_place y first _ e1) (ap (λ r. at r l) (sym e3))))
-    (ap opposite (sym (two (at_place z first _ e1) (ap (λ r. at r l) (sym e2)))))
-    (sym (two (ap (λ r. at r l) (sym e1)) (at_place z second _ e2)))
+    (sym (product-same (sym (at_place first _ y e1)) (ap (λ r. at r l) (sym e3))))
+    (ap opposite (sym (product-same (sym (at_place first _ z e1)) (ap (λ r. at r l) (sym e2)))))
+    (sym (product-same (ap (λ r. at r l) (sym e1)) (sym (at_place second _ z e2))))
     (t.each l (subst (λ r. l < length r) e1 lt))
 
 -- ---- the mask of the rows that aren't zero

@@ -1,6 +1,6 @@
 -- Four elements of a picture, and a fifth with the relations of all: the four have their relation too. By all signs.
 --
--- Main results: relation_of_four; swapped.
+-- Main results: relation_of_four.
 use Rattle.std.specs.Prelude.{◌≡◌, ◌≢◌, ◌⊎◌, Bool, true, false, cond, refl}
 use Rattle.std.proofs.Common.{◌∙◌, inl, inr}
 use Rattle.std.proofs.lemmas.Bool.{false≢true}
@@ -183,40 +183,3 @@ relation_of_four xa xb xc xd ab ac ad bc bd cd n h1 h2 h3 h4 =
         later (is_nonzero xa) _ (later (is_nonzero xb) _ (here (is_nonzero xc) _ (nonzero_is xc k)))
     some_is (inr (inr (inr k))) =
         later (is_nonzero xa) _ (later (is_nonzero xb) _ (later (is_nonzero xc) _ (nonzero_is xd k)))
-
-abbrev swaps : Bool
-swaps = all_signs
-    (λ x. all_signs (λ y. all_signs (λ z. implies (balanced x y z) (balanced (opposite y) (opposite x) (opposite z)))))
-
-swaps_is : swaps ≡ true
-unfolding all_signs implies
-swaps_is = refl
-
-pub swapped : (x y z : Sign) → AreBalanced x y z → AreBalanced (opposite y) (opposite x) (opposite z)
-swapped x y z h = from_test _ _ _ (then _ _ (of_all _ (of_all _ (of_all _ swaps_is x) y) z) (tested x y z h))
-
--- ---- a term that is zero, and two that are opposite
-
-pub cancel_first : (s : Sign) → AreBalanced Zero (opposite s) s
-cancel_first Minus = tt
-cancel_first Zero = tt
-cancel_first Plus = tt
-
-pub cancel_second : (s : Sign) → AreBalanced s Zero (opposite s)
-cancel_second Minus = tt
-cancel_second Zero = tt
-cancel_second Plus = tt
-
-pub cancel_third : (s : Sign) → AreBalanced s (opposite s) Zero
-cancel_third Minus = tt
-cancel_third Zero = tt
-cancel_third Plus = tt
-
-pub alone : (s t : Sign) → AreBalanced (product s t) Zero Zero → s ≢ Zero → t ≡ Zero
-alone Minus Minus h n = absurd h
-alone Minus Zero h n = refl
-alone Minus Plus h n = absurd h
-alone Zero t h n = absurd (n refl)
-alone Plus Minus h n = absurd h
-alone Plus Zero h n = refl
-alone Plus Plus h n = absurd h

@@ -2,40 +2,35 @@
 --
 -- Main results: before_even, before_odd, the sign of an element before a set; value_repeat and next_element for one
 -- more element.
-use Rattle.std.specs.Prelude.{ℕ, ◌≡◌, ◌≢◌, ◌+◌, ◌-◌, ◌%◌, ◌<◌, ◌≤◌, List, [], ◌∷◌, length, refl}
+use Rattle.std.specs.Prelude.{ℕ, ◌≡◌, ◌≢◌, ◌+◌, ◌-◌, ◌%◌, ◌<◌, List, [], ◌∷◌, length, refl}
 use Rattle.std.proofs.Common.{zero, suc, sym, ◌∙◌, ap, arith, inl, inr, get_or, drop}
 use Rattle.std.proofs.lemmas.Bool.{cases_lt, lt-ltb, le-ltb}
+use Rattle.std.proofs.lemmas.List.{drop_more}
 use Rattle.om_signs.specs.declared.sign.Sign.{Sign}
 use Rattle.om_signs.specs.declared.sign.Sign.TheVariants.{Minus, Zero, Plus}
 use Rattle.om_signs.specs.Sign.{product}
+use Rattle.om_signs.proofs.SignLaws.{product-zero, product_left_comm}
 use Rattle.om_subsets.specs.Subsets.{IsSubsetFrom, IsMember, with_element, count_above}
 use Rattle.om_laws.specs.Tuples.{value, sorted, insert, sort_sign, before_sign, order_sign}
+use Rattle.om_laws.proofs.OrderSigns.{order_sign_equal}
 use Rattle.om_chirotope.specs.Map.{parity_sign}
 use Rattle.om_chirotope.proofs.Circuits.{parity_sign-suc, above_le}
 use Rattle.om_chirotope.proofs.Cocircuits.{insert_with}
 
 -- ---- an element before a list
 
-order_self : (e x : ℕ) → e ≡ x → order_sign e x ≡ Zero
-order_self e x q = let a : x ≤ e = omega arith in let b : e ≤ x = omega arith in rw (le-ltb e x a, le-ltb x e b) refl
-
 pub before_member : (e : ℕ) (xs : List ℕ) → IsMember e xs → before_sign e xs ≡ Zero
 before_member e [] h = absurd h
-before_member e (x ∷ xs) (inl q) = rw (order_self e x q) refl
-before_member e (x ∷ xs) (inr h) = rw (before_member e xs h) (lemma (order_sign e x))
-  where
-    lemma : (s : Sign) → product s Zero ≡ Zero
-    lemma s = grind arith
+before_member e (x ∷ xs) (inl q) = rw (order_sign_equal e x q) refl
+before_member e (x ∷ xs) (inr h) = rw (before_member e xs h) (product-zero (order_sign e x))
 
 before_insert : (e x : ℕ) (ys : List ℕ) → before_sign e (insert x ys) ≡ product (order_sign e x) (before_sign e ys)
 before_insert e x [] = refl
 before_insert e x (y ∷ ys) = elim (cases_lt x y) [
   | inl lt ↦ rw (lt-ltb x y lt) refl
-  | inr ge ↦ rw (le-ltb x y ge, before_insert e x ys) (lemma (order_sign e x) (order_sign e y) (before_sign e ys))
+  | inr ge ↦ rw (le-ltb x y ge, before_insert e x ys)
+      (product_left_comm (order_sign e y) (order_sign e x) (before_sign e ys))
 ]
-  where
-    lemma : (a b c : Sign) → product b (product a c) ≡ product a (product b c)
-    lemma a b c = grind arith
 
 pub before_sorted : (e : ℕ) (xs : List ℕ) → before_sign e (sorted xs) ≡ before_sign e xs
 before_sorted e [] = refl
@@ -75,23 +70,10 @@ before_odd low m e s xs h n l p =
 
 -- ---- one more element of a tuple
 
-pub drop_at : (k : ℕ) (xs : List ℕ) → k < length xs → drop k xs ≡ get_or xs k 0 ∷ drop (k + 1) xs
-drop_at k [] l = absurd (omega arith)
-drop_at zero (x ∷ xs) l = refl
-drop_at (suc k) (x ∷ xs) l = let e : suc k + 1 ≡ suc (k + 1) = omega arith in rw e (drop_at k xs (omega arith))
-
-pub member_at : (k : ℕ) (xs : List ℕ) → k < length xs → IsMember (get_or xs k 0) xs
-member_at k [] l = absurd (omega arith)
-member_at zero (x ∷ xs) l = inl refl
-member_at (suc k) (x ∷ xs) l = inr (member_at k xs (omega arith))
-
 zero_end : (k : ℕ) (xs : List ℕ) → sort_sign (drop k xs) ≡ Zero → sort_sign xs ≡ Zero
 zero_end zero xs z = z
 zero_end (suc k) [] z = z
-zero_end (suc k) (x ∷ xs) z = rw (zero_end k xs z) (lemma (before_sign x xs))
-  where
-    lemma : (s : Sign) → product s Zero ≡ Zero
-    lemma s = grind arith
+zero_end (suc k) (x ∷ xs) z = rw (zero_end k xs z) (product-zero (before_sign x xs))
 
 -- one element more from the end
 pub next_rest : (tuple : List ℕ) (i : ℕ) → i < length tuple
@@ -99,7 +81,7 @@ pub next_rest : (tuple : List ℕ) (i : ℕ) → i < length tuple
 next_rest tuple i l =
     let a : length tuple - (i + 1) ≡ length tuple - 1 - i = omega arith in
     let b : length tuple - 1 - i + 1 ≡ length tuple - i = omega arith in
-    rw a (drop_at (length tuple - 1 - i) tuple (omega arith) ∙ rw b refl)
+    rw a (drop_more tuple (length tuple - 1 - i) 0 (omega arith) ∙ rw b refl)
 
 pub value_repeat : (f : List ℕ → Sign) (tuple : List ℕ) (i : ℕ) → i < length tuple
     → IsMember (get_or tuple (length tuple - 1 - i) 0) (sorted (drop (length tuple - i) tuple)) → Zero ≡ value f tuple

@@ -13,9 +13,9 @@ use Rattle.om_subsets.specs.Members.{Chosen}
 use Rattle.om_subsets.proofs.Order.{length-subsets_from, rank_from-lt, get_or-rank_from, lexicographic, same_place}
 use Rattle.om_subsets.proofs.Table.{choose_above}
 use Rattle.om_laws.specs.Relations.{around, along}
+use Rattle.om_laws.proofs.BridgeLaws.{length-as_list}
 use Rattle.om_chirotope.specs.Map.{SignMap, value_of, circuit_vector, cocircuit_vector, cocircuit_vectors}
 use Rattle.om_chirotope.specs.Chirotope.{IsPair, IsOrthogonalPair, HasOrthogonalPairs, IsFirstViolated}
-use Rattle.om_chirotope.proofs.Places.{length-vector}
 
 pub length-table : (m : SignMap) → length (cocircuit_vectors m) ≡ choose m.elements (m.rank - 1)
 length-table m = length-map (all_subsets m.elements (m.rank - 1)) (cocircuit_vector m)
@@ -154,8 +154,8 @@ pub table_lengths : (m : SignMap) (s : List ℕ) (u : List Sign) (table : List (
 table_lengths m s u table eu et k l =
     let size = ap length et ∙ length-table m in
     let here = ap (λ t. get_or t k []) et ∙ table_at m k (omega arith) in
-    ap length eu ∙ length-vector m.elements (around (value_of m) s)
-    ∙ sym (ap length here ∙ length-vector m.elements (along (value_of m) (subset_at m.elements (m.rank - 1) k)))
+    ap length eu ∙ length-as_list m.elements (around (value_of m) s)
+    ∙ sym (ap length here ∙ length-as_list m.elements (along (value_of m) (subset_at m.elements (m.rank - 1) k)))
 
 -- ---- no pairs
 

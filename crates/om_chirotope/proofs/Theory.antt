@@ -4,11 +4,9 @@
 use Rattle.std.specs.Prelude.{ℕ, ◌≡◌, ◌≢◌, ◌+◌, ◌-◌, ◌<◌, ◌≤◌, List, [], ◌∷◌, length, refl}
 use Rattle.std.proofs.Common.{zero, suc, sym, ◌∙◌, arith, inl, inr}
 use Rattle.std.proofs.lemmas.Bool.{cases_eq, eq-eqb, ne_eqb, lt-ltb, le-ltb}
-use Rattle.om_signs.specs.declared.sign.Sign.{Sign}
-use Rattle.om_signs.specs.declared.sign.Sign.TheVariants.{Minus, Zero, Plus}
-use Rattle.om_signs.specs.Sign.{product}
+use Rattle.om_signs.specs.declared.sign.Sign.TheVariants.{Zero}
+use Rattle.om_signs.proofs.SignLaws.{left_factor_nonzero, right_factor_nonzero}
 use Rattle.om_subsets.specs.Subsets.{IsSubsetFrom, IsMember, with_element}
-use Rattle.om_subsets.specs.Lists.{IsWithin}
 use Rattle.om_subsets.proofs.OneElement.{later_list}
 use Rattle.om_subsets.proofs.Order.{head_low}
 use Rattle.om_subsets.proofs.Statements.{subset_is_increasing}
@@ -17,7 +15,7 @@ use Rattle.om_laws.specs.Sorting.{IsIncreasing, IsTuple, IsElement, Each, on_tup
 use Rattle.om_laws.specs.Relations.{HasIncreasingRelations, HasRelations}
 use Rattle.om_laws.specs.Chirotope as theory
 use Rattle.om_laws.specs.Chirotope.{elements_to}
-use Rattle.om_laws.proofs.TupleSizes.{each_member, on_tuples_at, on_tuples_tuple}
+use Rattle.om_laws.proofs.TupleSizes.{each_member, on_tuples_at, on_tuples_tuple, each_from}
 use Rattle.om_laws.proofs.BridgeLaws.{relation_from_lists, relation_to_lists}
 use Rattle.om_laws.proofs.ChirotopeLaws.{chirotope_from_increasing, relations_of_increasing_tuples}
 use Rattle.om_chirotope.specs.Map.{SignMap, IsMap, chi_of, value_of}
@@ -30,12 +28,8 @@ use Rattle.om_chirotope.proofs.SortedTuples.{before_member, before_sorted}
 pub from_tuple : (n k : ℕ) (xs : List ℕ) → IsTuple n k xs → IsIncreasing xs → IsSubsetFrom 1 n xs
 from_tuple n k xs t i = (subset_is_increasing n xs).1 (i, λ e q. each_member (IsElement n) xs t.within e q)
 
-each_element : (n : ℕ) (xs : List ℕ) → IsWithin 1 n xs → Each (IsElement n) xs
-each_element n [] h = tt
-each_element n (x ∷ xs) h = (h x (inl refl), each_element n xs (λ e q. h e (inr q)))
-
 pub to_tuple : (n k : ℕ) (xs : List ℕ) → IsSubsetFrom 1 n xs → length xs ≡ k → IsTuple n k xs
-to_tuple n k xs h l = record { size = l; within = each_element n xs ((subset_is_increasing n xs).0 h).1 }
+to_tuple n k xs h l = record { size = l; within = each_from (IsElement n) xs ((subset_is_increasing n xs).0 h).1 }
 
 relations : (m : SignMap) → IsChirotope m → HasIncreasingRelations m.elements m.rank (value_of m)
 relations m c s a low ts ta is ia =
@@ -88,18 +82,12 @@ pub record IsSorted (n k : ℕ) (xs : List ℕ) : Type 0 where
   pub lawful : IsSubsetFrom 1 n xs
   pub size : length xs ≡ k
 
-factors : (s t : Sign) → product s t ≢ Zero → (s ≢ Zero) × (t ≢ Zero)
-factors Minus t n = ((λ e. cc), λ z. n (rw z refl))
-factors Zero t n = absurd (n refl)
-factors Plus t n = ((λ e. cc), n)
-
 sorted_tuple : (n : ℕ) (xs : List ℕ) → Each (IsElement n) xs → sort_sign xs ≢ Zero → IsSorted n (length xs) (sorted xs)
 sorted_tuple n [] h s = record { lawful = tt; size = refl }
 sorted_tuple n (x ∷ xs) h s =
-    let parts = factors (before_sign x xs) (sort_sign xs) s in
-    let rest = sorted_tuple n xs h.1 parts.1 in
-    let fresh : IsMember x (sorted xs) → ⊥ = (λ q. parts.0 (sym (before_sorted x xs) ∙ before_member x (sorted xs) q))
-    in
+    let rest = sorted_tuple n xs h.1 (right_factor_nonzero (before_sign x xs) (sort_sign xs) s) in
+    let fresh : IsMember x (sorted xs) → ⊥ = (λ q. left_factor_nonzero (before_sign x xs) (sort_sign xs) s
+    (sym (before_sorted x xs) ∙ before_member x (sorted xs) q)) in
     let low = h.0.0 in
     let high = h.0.1 in
     let size = rest.size in
@@ -116,12 +104,13 @@ some_value m c = go c.base
     go (t, nz) =
         let tuple = on_tuples_tuple m.elements m.rank (chi_of m) t nz in
         let at : value (chi_of m) t ≢ Zero = (λ z. nz (on_tuples_at m.elements m.rank (chi_of m) t tuple ∙ z)) in
-        let parts = factors (sort_sign t) (chi_of m (sorted t)) at in
-        let s = sorted_tuple m.elements t tuple.within parts.0 in (
+        let s = sorted_tuple m.elements t tuple.within
+        (left_factor_nonzero (sort_sign t) (chi_of m (sorted t)) at) in (
           sorted t,
           s.lawful,
           s.size ∙ tuple.size,
-          λ z. parts.1 (sym (value_in_order 1 m.elements (chi_of m) (sorted t) s.lawful) ∙ z),
+          λ z. right_factor_nonzero (sort_sign t) (chi_of m (sorted t)) at
+              (sym (value_in_order 1 m.elements (chi_of m) (sorted t) s.lawful) ∙ z),
         )
 
 pub orthogonal_of_relations : (m : SignMap) → HasRelations (on_tuples m.elements m.rank (chi_of m))

@@ -5,10 +5,11 @@
 use Rattle.std.specs.Prelude.{ℕ, ◌≡◌, ◌≢◌, ◌+◌, ◌-◌, ◌<◌, ◌⊎◌, List, [], ◌∷◌, ◌++◌, length, refl}
 use Rattle.std.proofs.Common.{suc, sym, ap, subst, ◌∙◌, arith, inl, inr}
 use Rattle.std.proofs.lemmas.Bool.{cases_lt}
-use Rattle.std.proofs.lemmas.List.{length-append, get_or_past}
+use Rattle.std.proofs.lemmas.List.{length-append, get_or_past, append-nil}
 use Rattle.om_signs.specs.declared.sign.Sign.{Sign}
 use Rattle.om_signs.specs.declared.sign.Sign.TheVariants.{Zero}
 use Rattle.om_signs.specs.Sign.{opposite, product}
+use Rattle.om_signs.proofs.SignLaws.{product_zero_left, product_zero_right, zero_or_nonzero, opposite_zero}
 use Rattle.om_subsets.specs.Subsets.{IsSubsetFrom, rank_of}
 use Rattle.om_subsets.proofs.Statements.{subset_is_increasing}
 use Rattle.om_laws.specs.Bases.{IsBase, HasIncreasingExchange}
@@ -22,12 +23,12 @@ use Rattle.om_laws.proofs.BaseLaws.{exchange}
 use Rattle.om_laws.proofs.ChirotopeLaws.{member_from_element}
 use Rattle.om_laws.proofs.ExchangeOrders.{exchange_in_order, exchange_of_increasing}
 use Rattle.om_laws.proofs.MemberLaws.{member_append, member_left, member_right}
-use Rattle.om_laws.proofs.SignLaws.{product_zero_left, product_zero_right, zero_or_nonzero}
 use Rattle.om_laws.proofs.ThreeTermLaws.{three_term_relations}
 use Rattle.om_laws.proofs.ThreeTermOrders.{three_terms_in_order}
 use Rattle.om_laws.proofs.ThreeTermSigns.{three_terms_of_relations}
 use Rattle.om_laws.proofs.TupleSizes.{each_from, each_member, is_tuple_cases, on_tuples_alternating, on_tuples_at}
 use Rattle.om_laws.proofs.TupleSizes.{on_tuples_tuple, tuple_last, tuple_rank, tuple_with}
+use Rattle.om_laws.proofs.BalancedSigns.{balanced_same, balanced_zeros}
 use Rattle.om_chirotope.specs.Map.{SignMap, IsMap, chi_of, value_of}
 use Rattle.om_chirotope.specs.Chirotope.{HasNonzeroValue, HasOrthogonalPairs, IsAllZero, IsChirotope}
 use Rattle.om_chirotope.specs.Pictures.{HasRelationsAt}
@@ -35,17 +36,6 @@ use Rattle.om_chirotope.specs.ThreeTerm.{HasListExchange, HasThreeTermRelations,
 use Rattle.om_chirotope.proofs.Axioms.{nonzero_or_zeros}
 use Rattle.om_chirotope.proofs.ExchangeForms.{exchange_from_lists, exchange_of_lists}
 use Rattle.om_chirotope.proofs.Theory.{from_tuple, map_chirotope, theory_chirotope, to_tuple}
-
-pub balanced_same : (x y z x' y' z' : Sign) → x' ≡ x → y' ≡ y → z' ≡ z → AreBalanced x y z → AreBalanced x' y' z'
-balanced_same x y z x' y' z' p q r h =
-    subst (λ s. AreBalanced s y' z') (sym p)
-    (subst (λ s. AreBalanced x s z') (sym q) (subst (λ s. AreBalanced x y s) (sym r) h))
-
-pub balanced_zeros : (x y z : Sign) → x ≡ Zero → y ≡ Zero → z ≡ Zero → AreBalanced x y z
-balanced_zeros x y z p q r = balanced_same Zero Zero Zero x y z p q r tt
-
-opposite_zero : (s : Sign) → s ≡ Zero → opposite s ≡ Zero
-opposite_zero s e = grind arith
 
 -- a tuple p of two elements less than the rank, and four elements
 record AreFour (n r : ℕ) (p : List ℕ) (a b c d : ℕ) : Type 0 where
@@ -86,11 +76,7 @@ module _ (m : SignMap) where
       let t = to_tuple n (length a) a h refl in
       let q : suc (length a) ≡ r = omega (arith, l) in
       subst (λ k. IsTuple n k (a ++ f ∷ [])) q
-      (tuple_with n (length a) a [] f (subst (IsTuple n (length a)) (sym (append_nil a)) t) i)
-    where
-      append_nil : (xs : List ℕ) → xs ++ [] ≡ xs
-      append_nil [] = refl
-      append_nil (x ∷ xs) = ap (λ k. x ∷ k) (append_nil xs)
+      (tuple_with n (length a) a [] f (subst (IsTuple n (length a)) (sym (append-nil a)) t) i)
 
   theory_exchange : HasListExchange m → HasIncreasingExchange chi
   theory_exchange ex a c e ia ic na nc =

@@ -3,41 +3,32 @@
 -- Main results: add_bit_same, add_bit_other and take_bit, a number with one bit more or less; word_spread, in a word;
 -- spread_within and spread_over, in words; mark_more and mark_others
 use Rattle.std.specs.Prelude.{ℕ, ◌≡◌, ◌≢◌, ◌+◌, ◌-◌, ◌*◌, ◌/◌, ◌%◌, ◌<◌, ◌≤◌, ◌^◌, ◌⊎◌, List, length, refl, Bool, true}
-use Rattle.std.specs.Prelude.{false, bit_and, bit_or, nat_eq, nat_lt, ◌&&◌}
+use Rattle.std.specs.Prelude.{bit_and, bit_or, nat_eq, nat_lt, ◌&&◌}
 use Rattle.std.specs.Int.{bit_at}
-use Rattle.std.proofs.Common.{sym, ◌∙◌, ap, arith, inl, inr, subst, get_or, set, min, zero, suc, pow-suc, w64}
-use Rattle.std.proofs.lemmas.Bool.{cases_eq, cases_lt, eqb-true, ltb-true}
+use Rattle.std.proofs.Common.{sym, ◌∙◌, ap, arith, inl, inr, subst, get_or, set, min, zero, suc, w64}
+use Rattle.std.proofs.lemmas.Bool.{cases_eq, cases_lt, eqb-true, ltb-true, and_parts}
 use Rattle.std.proofs.lemmas.List.{get_or-set_same, get_or-set_other, get_or_past, length-set}
 use Rattle.std.proofs.lemmas.Nat.{mod_below, shr-shr}
 use Rattle.std.proofs.Math.Nat.{mod-add-div'}
 use Rattle.std.proofs.Math.Pow.{pow_pos}
 use Rattle.std.proofs.lemmas.Nat.Bits.{bit_at-lt, bit_at_above, bit_at-zero, bit_at_or, bit_at_and, bit_at_cat_low}
 use Rattle.std.proofs.lemmas.Nat.Bits.{bit_at_cat_high, bit_at_set_same, bit_at_set_other}
+use Rattle.om_signs.proofs.Bits.{not_zero_and_one, bit_one_or_zero, pow-add_one}
 use Rattle.om_chirotope.specs.declared.marking.TheConstants.{LOW}
 use Rattle.om_chirotope.specs.Marks.{mark_at, IsMarked, IsSpreadFrom, IsSpread, IsWordSpread}
 
 -- ---- a number with one bit more
-
-pub one_or_zero : (mask i : ℕ) → (bit_at mask i ≡ 1) ⊎ (bit_at mask i ≡ 0)
-one_or_zero mask i =
-    elim (cases_eq (bit_at mask i) 1) [ inl q ↦ inl q | inr n ↦ let l = bit_at-lt mask i in inr (omega arith) ]
-
-zero_one : (b : ℕ) → b ≡ 0 → b ≡ 1 → ⊥
-zero_one b p q = omega arith
-
-double : (e : ℕ) → 2 ^ (e + 1) ≡ 2 * 2 ^ e
-double e = let s : e + 1 ≡ suc e = omega arith in let p = pow-suc 2 e in ap (λ k. 2 ^ k) s ∙ omega arith
 
 -- a number of e + 1 bits whose bit e is 0 is below 2 ^ e
 low_part : (b e : ℕ) → b < 2 ^ (e + 1) → bit_at b e ≡ 0 → b < 2 ^ e
 low_part b e l z = elim (cases_lt b (2 ^ e)) [
   | inl k ↦ k
   | inr g ↦
-      let d = double e in
+      let d = pow-add_one e in
       let parts : 1 * 2 ^ e + (b - 2 ^ e) ≡ b = omega arith in
       let one = bit_at_cat_high 1 e (b - 2 ^ e) e (omega arith) (omega arith) in
       let none : e - e ≡ 0 = omega arith in
-      absurd (zero_one (bit_at b e) z (ap (λ k. bit_at k e) (sym parts) ∙ one ∙ ap (bit_at 1) none))
+      absurd (not_zero_and_one (bit_at b e) z (ap (λ k. bit_at k e) (sym parts) ∙ one ∙ ap (bit_at 1) none))
 ]
 
 record IsSplit (t e : ℕ) : Type 0 where
@@ -74,7 +65,7 @@ add_bit_other t e j z n = ap (λ k. bit_at k j) (sym (added t e s)) ∙ elim (ca
   | inl l ↦ bit_at_cat_low s.a (e + 1) (1 * 2 ^ e + s.b) j (omega arith) ∙ bit_at_cat_low 1 e s.b j l
       ∙ sym (bit_at_cat_low s.a (e + 1) s.b j (omega arith)) ∙ ap (λ k. bit_at k j) s.whole
   | inr g ↦
-      let d = double e in
+      let d = pow-add_one e in
       let small = s.small in
       let up : e + 1 ≤ j = omega (arith, g, n) in
       bit_at_cat_high s.a (e + 1) (1 * 2 ^ e + s.b) j (omega arith) up
@@ -104,7 +95,8 @@ take_bit s e one = (above, low)
     high : 2 ^ e ≤ s % 2 ^ (e + 1)
     high = elim (cases_lt (s % 2 ^ (e + 1)) (2 ^ e)) [
       | inl l ↦
-          absurd (zero_one (bit_at (s % 2 ^ (e + 1)) e) (bit_at_above (s % 2 ^ (e + 1)) e e l (omega arith)) one_low)
+          absurd (not_zero_and_one (bit_at (s % 2 ^ (e + 1)) e)
+          (bit_at_above (s % 2 ^ (e + 1)) e e l (omega arith)) one_low)
       | inr g ↦ g
     ]
 
@@ -115,7 +107,7 @@ take_bit s e one = (above, low)
     low =
         let h = high in
         let w = whole in
-        let d = double e in
+        let d = pow-add_one e in
         let m = mod_below s (2 ^ (e + 1)) (pow_pos (e + 1)) in
         let parts : s / 2 ^ (e + 1) * 2 ^ (e + 1) + (s % 2 ^ (e + 1) - 2 ^ e) ≡ s - 2 ^ e = omega arith in
         ap (λ k. bit_at k e) (sym parts)
@@ -146,17 +138,9 @@ below_all (suc n) f = f n && below_all n f
 below_at : (n : ℕ) (f : ℕ → Bool) → below_all n f ≡ true → (k : ℕ) → k < n → f k ≡ true
 below_at zero f h k l = absurd (omega arith)
 below_at (suc n) f h k l = elim (cases_eq k n) [
-  | inl q ↦ ap f q ∙ both_left (f n) (below_all n f) h
-  | inr ne ↦ below_at n f (both_right (f n) (below_all n f) h) k (omega arith)
+  | inl q ↦ ap f q ∙ (and_parts (f n) (below_all n f) h).0
+  | inr ne ↦ below_at n f (and_parts (f n) (below_all n f) h).1 k (omega arith)
 ]
-  where
-    both_left : (a b : Bool) → (a && b) ≡ true → a ≡ true
-    both_left true b h = refl
-    both_left false b h = h
-
-    both_right : (a b : Bool) → (a && b) ≡ true → b ≡ true
-    both_right true b h = h
-    both_right false b h = cc
 
 -- at each place of a word, the mask of e has the bit that the place hasn't; where it has one, the place with bit e is
 -- in the word too
@@ -172,25 +156,17 @@ fits e p le lp = below_at 64 (fits_at e) (below_at 6 (λ e. below_all 64 (fits_a
 -- the mask of e has a bit at the places without bit e
 mask_bit : (e p : ℕ) → e < 6 → p < 64 → bit_at (get_or LOW e 0) p + bit_at p e ≡ 1
 mask_bit e p le lp = eqb-true (bit_at (get_or LOW e 0) p + bit_at p e) 1
-    (left_true (nat_eq (bit_at (get_or LOW e 0) p + bit_at p e) 1) (nat_lt (p + 2 ^ e * (1 - bit_at p e)) 64)
-    (fits e p le lp))
-  where
-    left_true : (a b : Bool) → (a && b) ≡ true → a ≡ true
-    left_true true b h = refl
-    left_true false b h = h
+    (and_parts (nat_eq (bit_at (get_or LOW e 0) p + bit_at p e) 1) (nat_lt (p + 2 ^ e * (1 - bit_at p e)) 64)
+    (fits e p le lp)).0
 
 pub stays_within : (e p : ℕ) → e < 6 → p < 64 → bit_at p e ≡ 0 → p + 2 ^ e < 64
 stays_within e p le lp z =
     let h = ltb-true (p + 2 ^ e * (1 - bit_at p e)) 64
-    (right_true (nat_eq (bit_at (get_or LOW e 0) p + bit_at p e) 1) (nat_lt (p + 2 ^ e * (1 - bit_at p e)) 64)
-    (fits e p le lp)) in
+    (and_parts (nat_eq (bit_at (get_or LOW e 0) p + bit_at p e) 1) (nat_lt (p + 2 ^ e * (1 - bit_at p e)) 64)
+    (fits e p le lp)).1 in
     let one : 1 - bit_at p e ≡ 1 = omega arith in
     let same : 2 ^ e * (1 - bit_at p e) ≡ 2 ^ e = ap (λ k. 2 ^ e * k) one ∙ omega arith in
     omega arith
-  where
-    right_true : (a b : Bool) → (a && b) ≡ true → b ≡ true
-    right_true true b h = h
-    right_true false b h = cc
 
 -- the word with what its mask has moved up
 abbrev pub moved : ℕ → ℕ → ℕ
@@ -217,14 +193,15 @@ word_spread w e le = record { keeps = keeps; adds = adds; only = only }
 
     only : (p : ℕ) → p < 64 → bit_at (bit_or w (moved w e)) p ≡ 1 → (bit_at w p ≡ 1)
         ⊎ ((q : ℕ) × (q + 2 ^ e ≡ p) × (bit_at q e ≡ 0) × (bit_at w q ≡ 1))
-    only p lp h = elim (one_or_zero w p) [
+    only p lp h = elim (bit_one_or_zero w p) [
       | inl on ↦ inl on
       | inr off ↦
           let o = bit_at_or w (moved w e) p in
           let m : bit_at (moved w e) p ≡ 1 = omega (arith, o, h, off) in
           elim (cases_lt p (2 ^ e)) [
             | inl below ↦
-                absurd (zero_one (bit_at (moved w e) p) (shl_low (bit_and w (get_or LOW e 0)) (2 ^ e) p below lp) m)
+                absurd (not_zero_and_one (bit_at (moved w e) p)
+                (shl_low (bit_and w (get_or LOW e 0)) (2 ^ e) p below lp) m)
             | inr above ↦
                 let up = shl_high (bit_and w (get_or LOW e 0)) (2 ^ e) p above lp in
                 let both = bit_at_and w (get_or LOW e 0) (p - 2 ^ e) in
@@ -250,7 +227,7 @@ word_spread w e le = record { keeps = keeps; adds = adds; only = only }
 
 past : (words : List ℕ) (i p : ℕ) → length words ≤ i → bit_at (get_or words i 0) p ≡ 1 → ⊥
 past words i p g h =
-    zero_one (bit_at (get_or words i 0) p) (ap (λ w. bit_at w p) (get_or_past words i 0 g) ∙ bit_at-zero p) h
+    not_zero_and_one (bit_at (get_or words i 0) p) (ap (λ w. bit_at w p) (get_or_past words i 0 g) ∙ bit_at-zero p) h
 
 -- a bit of a mask below the sixth is one of the place in its word
 place_bit : (s e : ℕ) → e < 6 → bit_at (s % 64) e ≡ bit_at s e
@@ -339,7 +316,7 @@ spread_on words words' d k l one h =
     off : (i : ℕ) → i < k + 1 → bit_at i d ≡ 0
         → get_or (set words' k (bit_or (get_or words' k 0) (get_or words' (k - 2 ^ d) 0))) i 0 ≡ get_or words i 0
     off i li z = elim (cases_eq i k) [
-      | inl q ↦ absurd (zero_one (bit_at i d) z (ap (λ j. bit_at j d) q ∙ one))
+      | inl q ↦ absurd (not_zero_and_one (bit_at i d) z (ap (λ j. bit_at j d) q ∙ one))
       | inr n ↦ get_or-set_other words' k i _ 0 n ∙ h.off i (omega arith) z
     ]
 
@@ -377,11 +354,11 @@ spread_over words words' d e q h =
         )
       where
         times : (j i : ℕ) → i ≡ j + 1 → 2 ^ i ≡ 2 * 2 ^ j
-        times j i q = ap (λ k. 2 ^ k) q ∙ double j
+        times j i q = ap (λ k. 2 ^ k) q ∙ pow-add_one j
 
     keeps : (s : ℕ) → IsMarked words s → IsMarked words' s
     keeps s m = elim (cases_lt (s / 64) (length words)) [
-      | inl l ↦ elim (one_or_zero (s / 64) d) [
+      | inl l ↦ elim (bit_one_or_zero (s / 64) d) [
         | inl one ↦
             let o = bit_at_or (get_or words (s / 64) 0) (get_or words (s / 64 - 2 ^ d) 0) (s % 64) in
             let b = bit_at-lt (get_or words (s / 64 - 2 ^ d) 0) (s % 64) in
@@ -410,8 +387,8 @@ spread_over words words' d e q h =
 
     only : (s : ℕ) → IsMarked words' s → IsMarked words s ⊎ IsSpreadFrom words s (d + 6)
     only s m = elim (cases_lt (s / 64) (length words)) [
-      | inl l ↦ elim (one_or_zero (s / 64) d) [
-        | inl one ↦ elim (one_or_zero (get_or words (s / 64) 0) (s % 64)) [
+      | inl l ↦ elim (bit_one_or_zero (s / 64) d) [
+        | inl one ↦ elim (bit_one_or_zero (get_or words (s / 64) 0) (s % 64)) [
           | inl here ↦ inl here
           | inr none ↦
               let st = step in

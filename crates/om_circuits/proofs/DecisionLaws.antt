@@ -2,16 +2,17 @@
 --
 -- Main results: all_unnested, all_unblocked: where no number is bad, the axiom holds; nested_found, blocked_found: the
 -- least bad number is the first member of the first instance.
-use Rattle.std.proofs.Common.{ℕ, ◌≡◌, ◌+◌, ◌-◌, ◌<◌, ◌≤◌, ◌⊎◌, ◌↔◌, List, length, get_or, Option, None, Some, is_some}
-use Rattle.std.proofs.Common.{IfNone, IfSome, IsTrue, true, false, refl, sym, ◌∙◌, subst, arith}
-use Rattle.std.proofs.lemmas.List.{get_or_past}
+use Rattle.std.proofs.Common.{ℕ, ◌≡◌, ◌+◌, ◌<◌, ◌⊎◌, ◌↔◌, List, length, get_or, Option, None, Some, is_some, IfNone}
+use Rattle.std.proofs.Common.{IfSome, IsTrue, true, false, refl, sym, ◌∙◌, subst, arith}
 use Rattle.om_signs.specs.declared.sign.Sign.{Sign}
 use Rattle.om_signs.specs.declared.sign.Sign.TheVariants.{Minus, Zero, Plus}
 use Rattle.om_signs.specs.SignVec.{at_element}
+use Rattle.om_signs.proofs.ListPlaces.{at_element_past}
+use Rattle.om_signs.proofs.SignLaws.{same_or_different}
 use Rattle.om_members.specs.Scans.{nth, AllBelow, IsBadBelow, IsFirstBad, IsFirstBadPair}
 use Rattle.om_members.specs.Vectors.{negated}
 use Rattle.om_members.proofs.DecisionLaws.{IsDecided, not_false, decided_either, decided_if, decided_both, decided_same}
-use Rattle.om_members.proofs.DecisionLaws.{same_sign, same_vector, each_place, some_member, all_good}
+use Rattle.om_members.proofs.DecisionLaws.{same_vector, each_place, some_member, all_good}
 use Rattle.om_members.proofs.ScanLaws.{nth_read}
 use Rattle.om_parallel.specs.FirstBad.{IsNoneBad, IsLeastBad}
 use Rattle.om_circuits.specs.Instances.{IsNestedIn}
@@ -20,23 +21,20 @@ use Rattle.om_circuits.specs.Vectors.{Eliminates}
 use Rattle.om_circuits.specs.Scans.{IsUnnestedIn, AreNestedAt, AreUnnestedAt, IsUnblocked, IsUnblockedAt}
 use Rattle.om_circuits.specs.Scans.{IsFirstBlockedWith, IsFirstBlocked}
 
-past : (Z : List Sign) (f : ℕ) → length Z + 1 ≤ f → at_element Z f ≡ Zero
-past Z f ge = get_or_past Z (f - 1) Zero (omega arith)
-
 -- a sign of Z, that isn't zero, stands only where X or Y has it
 has_signs : (X Y Z : List Sign) (s : Sign) → (s ≡ Zero → ⊥)
     → IsDecided ((f : ℕ) → at_element Z f ≡ s → (at_element X f ≡ s) ⊎ (at_element Y f ≡ s))
 has_signs X Y Z s n = each_place (length Z + 1) (λ f. at_element Z f ≡ s → (at_element X f ≡ s) ⊎ (at_element Y f ≡ s))
-    (λ f. decided_if _ _ (same_sign (at_element Z f) s)
-    (decided_either _ _ (same_sign (at_element X f) s) (same_sign (at_element Y f) s)))
-    (λ f ge p. absurd (n (sym p ∙ past Z f ge)))
+    (λ f. decided_if _ _ (same_or_different (at_element Z f) s)
+    (decided_either _ _ (same_or_different (at_element X f) s) (same_or_different (at_element Y f) s)))
+    (λ f ge p. absurd (n (sym p ∙ at_element_past Z f ge)))
 
 -- whether Z eliminates e from X and Y is decided
 pub eliminates : (X Y : List Sign) (e : ℕ) (Z : List Sign) → IsDecided (Eliminates X Y e Z)
 eliminates X Y e Z = decided_same _ _
     (λ h. record { zero = h.0; plus = h.1.0; minus = h.1.1 })
     (λ h. (h.zero, (h.plus, h.minus)))
-    (decided_both _ _ (same_sign (at_element Z e) Zero)
+    (decided_both _ _ (same_or_different (at_element Z e) Zero)
     (decided_both _ _ (has_signs X Y Z Plus (λ d. cc)) (has_signs X Y Z Minus (λ d. cc))))
 
 module _ (members : List (List Sign)) where

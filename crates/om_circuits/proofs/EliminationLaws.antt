@@ -12,11 +12,12 @@ use Rattle.std.proofs.lemmas.Nat.{or_lt}
 use Rattle.om_signs.specs.declared.sign.Sign.{Sign}
 use Rattle.om_signs.specs.declared.sign.Sign.TheVariants.{Minus, Zero, Plus}
 use Rattle.om_signs.specs.SignVec.{at, at_element, IsMaskOf, IsPlus, IsMinus}
-use Rattle.om_signs.proofs.Bits.{bit_at_and_not, one_shl_32, bit_from_test, no_bit_from_test}
+use Rattle.om_signs.proofs.Bits.{bit_at_and_not, one_shl_32, bit_from_test, no_bit_from_test, bit_one_or_zero}
+use Rattle.om_signs.proofs.SignLaws.{zero_if_neither}
 use Rattle.om_circuits.specs.Vectors.{IsOpposedAt, Eliminates}
 use Rattle.om_circuits.specs.Axioms.{HasEliminator}
 use Rattle.om_circuits.specs.Scans.{IsWithin, HasWithin}
-use Rattle.om_members.proofs.MaskLaws.{plus_bit, minus_bit, bit_or_none, zero_mask}
+use Rattle.om_members.proofs.MaskLaws.{plus_bit, minus_bit, zero_mask}
 
 -- `x.plus() & y.minus()`
 pub opposed_bit : (xs ys : List Sign) (p m : ℕ) → IsMaskOf (length xs) (IsPlus xs) p
@@ -41,9 +42,9 @@ open_bit a b k i la lb lk = (λ one. (some one, other one), λ h. all h.0 h.1)
         ∙ ap (λ n. min n (1 - bit_at (2 ^ k) i)) (bit_at_or a b i)
 
     some : bit_at (bit_and (bit_or a b) (4294967295 - 2 ^ k)) i ≡ 1 → (bit_at a i ≡ 1) ⊎ (bit_at b i ≡ 1)
-    some one = elim (bit_or_none a i) [
+    some one = elim (bit_one_or_zero a i) [
       | inl x ↦ inl x
-      | inr x ↦ elim (bit_or_none b i) [
+      | inr x ↦ elim (bit_one_or_zero b i) [
         | inl y ↦ inr y
         | inr y ↦ let e = whole in absurd (omega arith)
       ]
@@ -73,7 +74,8 @@ pub eliminates_within : (xs ys zs : List Sign) (xp xm yp ym e : ℕ) → xp < 2 
     zs ↔ Eliminates xs ys e zs
 eliminates_within xs ys zs xp xm yp ym e lxp lxm lyp lym le hxp hxm hyp hym = (
   λ w. record {
-    zero = neither (at_element zs e) (λ q. ((open_bit xp yp (e - 1) (e - 1) lxp lyp le).0 (w.pluses (e - 1) q)).1 refl)
+    zero = zero_if_neither (at_element zs e)
+        (λ q. ((open_bit xp yp (e - 1) (e - 1) lxp lyp le).0 (w.pluses (e - 1) q)).1 refl)
         (λ q. ((open_bit xm ym (e - 1) (e - 1) lxm lym le).0 (w.minuses (e - 1) q)).1 refl);
     plus = λ f q. either (plus_bit xs xp hxp (f - 1)).0 (plus_bit ys yp hyp (f - 1)).0
         ((open_bit xp yp (e - 1) (f - 1) lxp lyp le).0 (w.pluses (f - 1) q)).0;
@@ -93,11 +95,6 @@ eliminates_within xs ys zs xp xm yp ym e lxp lxm lyp lym le hxp hxm hyp hym = (
   },
 )
   where
-    neither : (s : Sign) → (s ≡ Plus → ⊥) → (s ≡ Minus → ⊥) → s ≡ Zero
-    neither Minus p m = absurd (m refl)
-    neither Zero p m = refl
-    neither Plus p m = absurd (p refl)
-
     either : {A B C D : Type 0} → (A → C) → (B → D) → A ⊎ B → C ⊎ D
     either f g (inl a) = inl (f a)
     either f g (inr b) = inr (g b)

@@ -19,7 +19,7 @@ use Rattle.om_circuits.specs.Scans.{IsNotZeroAt, IsUnnestedIn, HasEliminatorIfAs
 use Rattle.om_circuits.specs.Scans.{IsUnblockedAt, IsFirstBlocked}
 use Rattle.om_circuits.proofs.MaskLaws.{element_within}
 use Rattle.om_members.proofs.OrderLaws.{same_number, greater_number, last_number}
-use Rattle.om_members.proofs.ScanLaws.{nth_contained, contains_nth}
+use Rattle.om_members.proofs.ScanLaws.{nth_contained, pairs_of_members, position_member}
 
 -- ---- one axiom at one instance
 
@@ -144,14 +144,6 @@ module _ (members : List (List Sign)) where
 
   -- ---- the axioms
 
-  -- what holds of the members at all pairs of places holds of all pairs of members
-  of_members : (P : List Sign → List Sign → Type 0)
-      → AllBelow (length members) (λ i. AllBelow (length members) (λ j. P (nth members i) (nth members j)))
-      → (X Y : List Sign) → Contains members X → Contains members Y → P X Y
-  of_members P h X Y x y =
-      subst (λ Z. P Z Y) (nth_contained members X x)
-      (subst (λ Z. P (nth members x.0) Z) (nth_contained members Y y) (h x.0 x.1 y.0 y.1))
-
   pub axioms_met : (n : ℕ) → HaveLength n members → AllBelow (length members) (IsNotZeroAt members)
       → AllBelow (length members) (HasNegativeAt members)
       → AllBelow (length members) (λ i. AllBelow (length members) (AreUnnestedAt members i))
@@ -159,22 +151,21 @@ module _ (members : List (List Sign)) where
   axioms_met n lengths hz hn hs hf = record {
     no_zero = λ X x z. hz x.0 x.1 (subst IsZero (sym (nth_contained members X x)) z);
     symmetric = λ X x. subst (λ Z. Contains members (negated Z)) (nth_contained members X x) (hn x.0 x.1);
-    incomparable = of_members IsUnnestedIn hs;
-    elimination = of_members (λ X Y. X ≢ negated Y → (e : ℕ) → 1 ≤ e → IsOpposedAt X Y e → HasEliminator members X Y e)
+    incomparable = pairs_of_members members IsUnnestedIn hs;
+    elimination = pairs_of_members members
+        (λ X Y. X ≢ negated Y → (e : ℕ) → 1 ≤ e → IsOpposedAt X Y e → HasEliminator members X Y e)
         (λ i li j lj ne e low o. hf i li j lj e (element_within (nth members i) e n (lengths i [] li) o.plus) low ne o);
   }
 
-  position_member : (i : ℕ) → IsPosition members i → Contains members (nth members (i - 1))
-  position_member i p = let a = p.0 in let b = p.1 in contains_nth members (i - 1) (omega arith)
-
   -- a violated instance breaks the axioms
   pub violated_breaks : (why : SetRefused) → IsViolated members why → MeetsCircuitAxioms members → ⊥
-  violated_breaks (Zero i) v ax = ax.no_zero (nth members (i - 1)) (position_member i v.0) v.1
-  violated_breaks (NoNegative i) v ax = v.1 (ax.symmetric (nth members (i - 1)) (position_member i v.0))
+  violated_breaks (Zero i) v ax = ax.no_zero (nth members (i - 1)) (position_member members i v.0) v.1
+  violated_breaks (NoNegative i) v ax = v.1 (ax.symmetric (nth members (i - 1)) (position_member members i v.0))
   violated_breaks (Nested i j) v ax =
       not_both_nested (nth members (i - 1)) (nth members (j - 1))
-      (ax.incomparable (nth members (i - 1)) (nth members (j - 1)) (position_member i v.0) (position_member j v.1))
+      (ax.incomparable (nth members (i - 1)) (nth members (j - 1)) (position_member members i v.0)
+      (position_member members j v.1))
       v.2
   violated_breaks (NoElimination i j e) v ax =
-      v.2.none (ax.elimination (nth members (i - 1)) (nth members (j - 1)) (position_member i v.0)
-      (position_member j v.1) v.2.not_negative e v.2.element v.2.opposed)
+      v.2.none (ax.elimination (nth members (i - 1)) (nth members (j - 1)) (position_member members i v.0)
+      (position_member members j v.1) v.2.not_negative e v.2.element v.2.opposed)

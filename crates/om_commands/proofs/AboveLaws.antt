@@ -2,9 +2,11 @@
 --
 -- Main results: the first element of a mask above n (first_found), and that there is none (none_found); a mask without
 -- elements above n (mask_below).
-use Rattle.std.specs.Prelude.{ℕ, ◌≡◌, ◌+◌, ◌*◌, ◌/◌, ◌%◌, ◌<◌, ◌≤◌, ◌^◌, List, [], ◌∷◌, Some, None, refl}
-use Rattle.std.proofs.Common.{zero, suc, arith, inl, inr, sym, subst, pow-suc}
+use Rattle.std.specs.Prelude.{ℕ, ◌≡◌, ◌+◌, ◌/◌, ◌%◌, ◌<◌, ◌≤◌, ◌^◌, List, [], ◌∷◌, Some, None, refl}
+use Rattle.std.proofs.Common.{zero, suc, arith, inl, inr, sym, subst}
 use Rattle.std.proofs.lemmas.Bool.{cases_eq, cases_lt, eq-eqb, ne_eqb, lt-ltb, le-ltb}
+use Rattle.std.proofs.Math.Nat.{pow-succ'}
+use Rattle.std.proofs.lemmas.Option.{none-some}
 use Rattle.om_signs.specs.declared.limits.TheConstants.{MAX_ELEMENTS}
 use Rattle.om_subsets.specs.Subsets.{IsSubsetFrom, IsMember}
 use Rattle.om_subsets.specs.Members.{members}
@@ -38,13 +40,10 @@ above_or_not : (n x k : ℕ) (xs : List ℕ) → x ≤ n → (IsMember k xs → 
 above_or_not n x k xs ge rest (inl same) = omega (arith, ge, same)
 above_or_not n x k xs ge rest (inr m) = rest m
 
-some_or_none : {x : ℕ} → Some x ≡ None → ⊥
-some_or_none same = cc
-
 pub none_above : (n : ℕ) (xs : List ℕ) → first_above n xs ≡ None → (k : ℕ) → IsMember k xs → k ≤ n
 none_above n [] found k member = absurd member
 none_above n (x ∷ xs) found k member = elim (cases_lt n x) [
-  | inl lt ↦ absurd (some_or_none {x = x} (rw (lt-ltb n x lt) at found))
+  | inl lt ↦ absurd (none-some x (sym (rw (lt-ltb n x lt) at found)))
   | inr ge ↦ above_or_not n x k xs ge (none_above n xs (rw (le-ltb n x ge) at found) k) member
 ]
 
@@ -62,12 +61,9 @@ none_found n e mask xs is lawful past before =
     (sym (find_none n xs (λ k l member. let high = (members_from 1 MAX_ELEMENTS k xs lawful member).1 in
     before k l (omega (arith, high, past)) member)))
 
-double : (m : ℕ) → 2 ^ suc m ≡ 2 * 2 ^ m
-double m = let p = pow-suc 2 m in omega arith
-
 some_power : (m : ℕ) → 1 ≤ 2 ^ m
 some_power zero = omega arith
-some_power (suc m) = let i = some_power m in let d = double m in omega (arith, i, d)
+some_power (suc m) = let i = some_power m in let d = pow-succ' 2 m in omega (arith, i, d)
 
 at_odd : (mask low m n : ℕ) → mask % 2 ≡ 1
     → ((n : ℕ) → ((k : ℕ) → IsMember k (members (mask / 2) (low + 1) m) → k < low + 1 + n) → mask / 2 < 2 ^ n)
@@ -75,7 +71,7 @@ at_odd : (mask low m n : ℕ) → mask % 2 ≡ 1
 at_odd mask low m zero odd rest none = let l = none low (inl refl) in absurd (omega (arith, l))
 at_odd mask low m (suc n) odd rest none =
     let i = rest n (λ k i. let l = none k (inr i) in omega (arith, l)) in
-    let d = double n in omega (arith, i, d)
+    let d = pow-succ' 2 n in omega (arith, i, d)
 
 at_even : (mask low m n : ℕ) → (mask % 2 ≡ 1 → ⊥)
     → ((n : ℕ) → ((k : ℕ) → IsMember k (members (mask / 2) (low + 1) m) → k < low + 1 + n) → mask / 2 < 2 ^ n)
@@ -85,13 +81,13 @@ at_even mask low m zero even rest none =
     omega (arith, i, even)
 at_even mask low m (suc n) even rest none =
     let i = rest n (λ k i. let l = none k i in omega (arith, l)) in
-    let d = double n in omega (arith, i, d)
+    let d = pow-succ' 2 n in omega (arith, i, d)
 
 members_below : (mask low m n : ℕ) → mask < 2 ^ m → ((k : ℕ) → IsMember k (members mask low m) → k < low + n)
     → mask < 2 ^ n
 members_below mask low zero n small none = let p = some_power n in omega (arith, small, p)
 members_below mask low (suc m) n small none =
-    let d = double m in
+    let d = pow-succ' 2 m in
     let half : mask / 2 < 2 ^ m = omega (arith, small, d) in
     elim (cases_eq (mask % 2) 1) [
       | inl odd ↦ at_odd mask low m n odd (λ n. members_below (mask / 2) (low + 1) m n half)

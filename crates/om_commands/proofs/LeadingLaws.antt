@@ -5,6 +5,7 @@
 use Rattle.std.specs.Prelude.{ℕ, ◌≡◌, ◌<◌, ◌≤◌, ◌+◌, ◌↔◌, not, List, [], ◌∷◌, length, Some, None, refl}
 use Rattle.std.proofs.Common.{get_or, zero, suc, arith, subst, sym, inl, inr}
 use Rattle.std.proofs.lemmas.Bool.{cases_lt, lt-ltb, le-ltb}
+use Rattle.std.proofs.lemmas.Option.{none-some}
 use Rattle.om_signs.specs.declared.limits.TheConstants.{MAX_ELEMENTS, MAX_VALUES}
 use Rattle.om_subsets.specs.Subsets.{choose}
 use Rattle.om_chirotope.specs.Map.{SignMap}
@@ -22,14 +23,11 @@ use Rattle.om_words.proofs.LeadingLaws.{few_entries}
 
 -- ---- no element is above n
 
-no_some : {x : ℕ} → Some x ≡ None → ⊥
-no_some same = cc
-
 entries_within : (k n : ℕ) (list : List Signed) → AreEntries k list → first_above n (elements_of list) ≡ None
     → AreEntries n list
 entries_within k n [] entries none = tt
 entries_within k n (x ∷ xs) entries none = elim (cases_lt n x.element) [
-  | inl lt ↦ absurd (no_some {x = x.element} (rw (lt-ltb n x.element lt) at none))
+  | inl lt ↦ absurd (none-some x.element (sym (rw (lt-ltb n x.element lt) at none)))
   | inr ge ↦ (entries.0, ge, entries_within k n xs entries.2 (rw (le-ltb n x.element ge) at none))
 ]
 

@@ -2,7 +2,8 @@
 --
 -- Main results: paintings_determined, lexical_extensions_determined.
 use Rattle.std.specs.Prelude.{refl}
-use Rattle.std.proofs.Common.{arith}
+use Rattle.std.proofs.Common.{arith, sym, ◌∙◌}
+use Rattle.std.proofs.lemmas.Option.{none-some}
 use Rattle.om_chirotope.specs.Map.{SignMap}
 use Rattle.om_text.specs.declared.document.Document.{Document}
 use Rattle.om_words.specs.declared.colouring.Colouring.{Colouring}
@@ -12,7 +13,7 @@ use Rattle.om_answer.specs.declared.line.Line.TheVariants as line
 use Rattle.om_reply.specs.Determined.{IsDetermined}
 use Rattle.om_commands.specs.LexicalExtensions.{IsExtensionOfMap, IsLexicalExtension, outside, full, fewer}
 use Rattle.om_commands.specs.Paintings as paintings
-use Rattle.om_reply.proofs.Alike.{both_say, one_place, found_or_none}
+use Rattle.om_reply.proofs.Alike.{both_say, one_place}
 use Rattle.om_reply.proofs.OneChirotope.{for_kept_chirotope_determined}
 
 -- ---- lexicographic extensions
@@ -20,13 +21,14 @@ use Rattle.om_reply.proofs.OneChirotope.{for_kept_chirotope_determined}
 pub lexical_extensions_determined : (l : Leading) → ((m : SignMap) → IsDetermined (IsExtensionOfMap (given_list l) m))
     → (d : Document) → IsDetermined (IsLexicalExtension l d)
 lexical_extensions_determined l determined d x y (outside e p) (outside f q) = one_place _ e f p q
-lexical_extensions_determined l determined d x y (outside e p) (full q most) = absurd (found_or_none _ e p q)
-lexical_extensions_determined l determined d x y (outside e p) (fewer y' q less also) = absurd (found_or_none _ e p q)
-lexical_extensions_determined l determined d x y (full p most) (outside f q) = absurd (found_or_none _ f q p)
+lexical_extensions_determined l determined d x y (outside e p) (full q most) = absurd (none-some e (sym q ∙ p))
+lexical_extensions_determined l determined d x y (outside e p) (fewer y' q less also) = absurd (none-some e (sym q ∙ p))
+lexical_extensions_determined l determined d x y (full p most) (outside f q) = absurd (none-some f (sym p ∙ q))
 lexical_extensions_determined l determined d x y (full p most) (full q most') =
     both_say (line.RefusedFull d.elements) (line.RefusedFull d.elements) refl
 lexical_extensions_determined l determined d x y (full p most) (fewer y' q less also) = absurd (omega arith)
-lexical_extensions_determined l determined d x y (fewer x' p less means) (outside f q) = absurd (found_or_none _ f q p)
+lexical_extensions_determined l determined d x y (fewer x' p less means) (outside f q) =
+    absurd (none-some f (sym p ∙ q))
 lexical_extensions_determined l determined d x y (fewer x' p less means) (full q most) = absurd (omega arith)
 lexical_extensions_determined l determined d x y (fewer x' p less means) (fewer y' q less' also) =
     for_kept_chirotope_determined (IsExtensionOfMap (given_list l)) determined d x y means also

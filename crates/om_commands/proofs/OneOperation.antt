@@ -4,6 +4,7 @@
 -- Reference: Björner, Las Vergnas, Sturmfels, White and Ziegler, Oriented Matroids, chapters 3 and 4.
 use Rattle.std.specs.Prelude.{ℕ, ◌≡◌, ◌+◌, ◌≤◌, ◌↔◌, List, length, refl}
 use Rattle.std.proofs.Common.{sym, ◌∙◌, ap, subst, arith}
+use Rattle.std.proofs.lemmas.Option.{none-some}
 use Rattle.om_signs.specs.declared.sign.Sign.{Sign}
 use Rattle.om_denotation.specs.Denotation.{DenoteTheSame}
 use Rattle.om_text.specs.declared.document.Document.{Document}
@@ -17,7 +18,7 @@ use Rattle.om_commands.specs.declared.operation.Operation.TheVariants.{Dual, Del
 use Rattle.om_reply.specs.Determined.{IsDetermined}
 use Rattle.om_commands.specs.Operations.{TakesOnly, elements_left, AreMade, kind_made, TakesChirotope, HasTooManyOn}
 use Rattle.om_commands.specs.Operations.{IsResult, IsOperation, outside, last, wide, limited, made}
-use Rattle.om_reply.proofs.Alike.{both_say, one_place, found_or_none}
+use Rattle.om_reply.proofs.Alike.{both_say, one_place}
 use Rattle.om_reply.proofs.OneChirotope.{one_width}
 use Rattle.om_commands.proofs.OneText.{IsNormalAs, denoted_alike}
 
@@ -61,29 +62,30 @@ few _ o n P only many = many
 
 pub operations_determined : (o : Operation) (d : Document) → IsDetermined (IsOperation o d)
 operations_determined o d a b (outside e is) (outside f is') = one_place _ e f is is'
-operations_determined o d a b (outside e is) (last none' only') = absurd (found_or_none _ e is none')
-operations_determined o d a b (outside e is) (wide w none' is') = absurd (found_or_none _ e is none')
-operations_determined o d a b (outside e is) (limited none' narrow' many') = absurd (found_or_none _ e is none')
-operations_determined o d a b (outside e is) (made f none' left' narrow' few' is') = absurd (found_or_none _ e is none')
-operations_determined o d a b (last none only) (outside f is') = absurd (found_or_none _ f is' none)
+operations_determined o d a b (outside e is) (last none' only') = absurd (none-some e (sym none' ∙ is))
+operations_determined o d a b (outside e is) (wide w none' is') = absurd (none-some e (sym none' ∙ is))
+operations_determined o d a b (outside e is) (limited none' narrow' many') = absurd (none-some e (sym none' ∙ is))
+operations_determined o d a b (outside e is) (made f none' left' narrow' few' is') =
+    absurd (none-some e (sym none' ∙ is))
+operations_determined o d a b (last none only) (outside f is') = absurd (none-some f (sym none ∙ is'))
 operations_determined o d a b (last none only) (last none' only') = (refl, refl)
 operations_determined o d a b (last none only) (wide w none' is') = absurd (direct d.body o d.elements only is'.0)
 operations_determined o d a b (last none only) (limited none' narrow' many') =
     absurd (few d.body o d.elements (IsCovectorIn d) only many')
 operations_determined o d a b (last none only) (made f none' left' narrow' few' is') = absurd (left' only)
-operations_determined o d a b (wide v none is) (outside f is') = absurd (found_or_none _ f is' none)
+operations_determined o d a b (wide v none is) (outside f is') = absurd (none-some f (sym none ∙ is'))
 operations_determined o d a b (wide v none is) (last none' only') = absurd (direct d.body o d.elements only' is.0)
 operations_determined o d a b (wide v none is) (wide w none' is') =
     both_say (line.LimitValues v) (line.LimitValues w) (ap line.LimitValues (one_width d v w is.1 is'.1))
 operations_determined o d a b (wide v none is) (limited none' narrow' many') = absurd (narrow' v is)
 operations_determined o d a b (wide v none is) (made f none' left' narrow' few' is') = absurd (narrow' v is)
-operations_determined o d a b (limited none narrow many) (outside f is') = absurd (found_or_none _ f is' none)
+operations_determined o d a b (limited none narrow many) (outside f is') = absurd (none-some f (sym none ∙ is'))
 operations_determined o d a b (limited none narrow many) (last none' only') =
     absurd (few d.body o d.elements (IsCovectorIn d) only' many)
 operations_determined o d a b (limited none narrow many) (wide w none' is') = absurd (narrow w is')
 operations_determined o d a b (limited none narrow many) (limited none' narrow' many') = (refl, refl)
 operations_determined o d a b (limited none narrow many) (made f none' left' narrow' few' is') = absurd (few' many)
-operations_determined o d a b (made e none left narrow few is) (outside f is') = absurd (found_or_none _ f is' none)
+operations_determined o d a b (made e none left narrow few is) (outside f is') = absurd (none-some f (sym none ∙ is'))
 operations_determined o d a b (made e none left narrow few is) (last none' only') = absurd (left only')
 operations_determined o d a b (made e none left narrow few is) (wide w none' is') = absurd (narrow w is')
 operations_determined o d a b (made e none left narrow few is) (limited none' narrow' many') = absurd (few many')

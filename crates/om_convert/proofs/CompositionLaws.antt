@@ -14,14 +14,15 @@ use Rattle.om_signs.specs.declared.sign.Sign.{Sign}
 use Rattle.om_signs.specs.declared.sign.Sign.TheVariants.{Minus, Zero, Plus}
 use Rattle.om_signs.specs.Sign.{first_nonzero}
 use Rattle.om_signs.specs.SignVec.{compose}
-use Rattle.om_signs.proofs.ListPlaces.{length-compose, first_nonzero-zero}
+use Rattle.om_signs.proofs.ListPlaces.{length-compose}
+use Rattle.om_signs.proofs.SignLaws.{first_nonzero-zero}
+use Rattle.om_signs.proofs.Contained.{none_contained}
 use Rattle.om_members.specs.Listings.{HaveLength}
 use Rattle.om_denotation.specs.Compositions.{IsCompositionOf, none, front}
 use Rattle.om_denotation.specs.Listings.{AreAllOf}
 use Rattle.om_convert.specs.declared.convert_error.ConvertError.{ConvertError}
 use Rattle.om_convert.specs.Gathering.{IsOldOrAdded, IsExtendedBy, IsComposedWith}
 use Rattle.om_convert.specs.Limits.{IsCause}
-use Rattle.om_denotation.proofs.SelectionLaws.{none_contained}
 use Rattle.om_convert.proofs.CountingLaws.{cause_of_cause}
 
 -- ---- compositions

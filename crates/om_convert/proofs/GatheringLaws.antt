@@ -15,14 +15,14 @@ use Rattle.om_signs.specs.declared.limits.TheConstants.{MAX_MEMBERS}
 use Rattle.om_signs.specs.Sign.{opposite}
 use Rattle.om_signs.specs.SignVec.{at, compose}
 use Rattle.om_signs.proofs.ListPlaces.{at-map-opposite}
-use Rattle.om_laws.proofs.SignLaws.{opposite_nonzero}
+use Rattle.om_signs.proofs.SignLaws.{opposite_nonzero}
+use Rattle.om_signs.proofs.Contained.{none_contained}
 use Rattle.om_members.specs.Listings.{AreDistinct}
 use Rattle.om_denotation.specs.Circuits.{HasNonzero}
 use Rattle.om_denotation.specs.Listings.{AreAllOf, HasMoreThan}
 use Rattle.om_convert.specs.declared.convert_error.ConvertError.{ConvertError}
 use Rattle.om_convert.specs.Gathering.{IsOldOrAdded, IsExtendedBy, IsNonzeroUpToSign, IsComposedWith}
 use Rattle.om_convert.specs.Limits.{IsCause}
-use Rattle.om_denotation.proofs.SelectionLaws.{none_contained}
 use Rattle.om_convert.proofs.CountingLaws.{cause_of_cause}
 
 -- ---- one vector

@@ -1,7 +1,7 @@
 -- What an ordered set of sign vectors has.
 --
 -- Main results: what the set finds is in its list, and what it doesn't find is not (contained, is_found,
--- not_contained); what is inserted goes last, if it isn't there (inserted).
+-- not_contained); what is inserted goes last, if it isn't there (new_key), and changes nothing else (old_key).
 use Rattle.std.specs.List.{Contains, list_any}
 use Rattle.std.proofs.Common.{true, false, ◌≡◌, List, [], ◌∷◌, ◌++◌, if◌then◌else◌, get_or, refl, sym, ap, ◌∙◌}
 use Rattle.std.proofs.Common.{true≢false}
@@ -29,6 +29,11 @@ pub not_contained : (keys : List (List Sign)) (X : List Sign) → list_any (same
 not_contained keys X h c = true≢false (sym (is_found keys X c) ∙ h)
 
 -- a vector that isn't found goes last
-pub inserted : (keys new : List (List Sign)) (X : List Sign) → list_any (same_masks X) keys ≡ false
+pub new_key : (keys new : List (List Sign)) (X : List Sign) → list_any (same_masks X) keys ≡ false
     → new ≡ insert_key same_masks keys X → new ≡ keys ++ X ∷ []
-inserted keys new X h q = q ∙ ap (λ b. if b then keys else keys ++ X ∷ []) h
+new_key keys new X h q = q ∙ ap (λ b. if b then keys else keys ++ X ∷ []) h
+
+-- one that is found is there once
+pub old_key : (keys new : List (List Sign)) (X : List Sign) → list_any (same_masks X) keys ≡ true
+    → new ≡ insert_key same_masks keys X → new ≡ keys
+old_key keys new X h q = q ∙ ap (λ b. if b then keys else keys ++ X ∷ []) h

@@ -1,17 +1,16 @@
 -- Whether the chirotope of what a list denotes has more than MAX_VALUES values.
 --
--- Main results: by the rank it is no more (narrow_by_rank) or more (wide_by_rank, width_cause); a chirotope of rank 3
--- has few values (few_triples, narrow_of_rank_3); the rank of what denotes the same (rank_of_same); the cause of a
--- width, and of a list, as that of a list (list_of_width, list_of_cause).
-use Rattle.std.specs.Prelude.{ℕ, ◌≡◌, ◌≤◌, ◌<◌, ◌*◌, List}
-use Rattle.std.proofs.Common.{zero, suc, sym, ap, ◌∙◌, arith}
-use Rattle.std.proofs.lemmas.Nat.{mul-le}
+-- Main results: by the rank it is no more (narrow_by_rank) or more (wide_by_rank, width_cause); of rank 3 it is no more
+-- (narrow_of_rank_3); the rank of what denotes the same (rank_of_same); the cause of a width, and of a list, as that of
+-- a list (list_of_width, list_of_cause).
+use Rattle.std.specs.Prelude.{ℕ, ◌≡◌, ◌≤◌, ◌<◌, List}
+use Rattle.std.proofs.Common.{sym, ap, ◌∙◌, arith}
 use Rattle.om_signs.specs.declared.sign.Sign.{Sign}
 use Rattle.om_signs.specs.declared.limits.TheConstants.{MAX_ELEMENTS, MAX_VALUES}
 use Rattle.om_subsets.specs.Subsets.{choose}
-use Rattle.om_subsets.proofs.Counts.{choose_two}
 use Rattle.om_chirotope.specs.Map.{SignMap}
 use Rattle.om_chirotope.specs.Chirotope.{IsChirotope}
+use Rattle.om_chirotope.proofs.FewValues.{few_triples}
 use Rattle.om_denotation.specs.Covectors.{IsCovectorOfChirotope}
 use Rattle.om_denotation.specs.Denotation.{DenoteTheSame}
 use Rattle.om_propagation.specs.Ranks.{IsRankFor}
@@ -61,20 +60,6 @@ rank_of_same n k P Q rank e both r = record {
 }
 
 -- ---- rank 3
-
-choose_two_more : (n : ℕ) → n ≤ MAX_ELEMENTS → choose n 2 ≤ 400
-choose_two_more n l = let a = choose_two n in let s = mul-le n n MAX_ELEMENTS MAX_ELEMENTS l l in omega (arith, a, s)
-
--- each element more has at most 400 triples with it as the greatest
-choose_three : (n : ℕ) → n ≤ MAX_ELEMENTS → choose n 3 ≤ 400 * n
-choose_three zero l = omega arith
-choose_three (suc n) l =
-    let a = choose_two_more n (omega (arith, l)) in
-    let b = choose_three n (omega (arith, l)) in
-    omega (arith, a, b)
-
-pub few_triples : (n : ℕ) → n ≤ MAX_ELEMENTS → choose n 3 ≤ MAX_VALUES
-few_triples n l = let a = choose_three n l in omega (arith, a, l)
 
 pub narrow_of_rank_3 : (n : ℕ) (P : List Sign → Type 0) (m : SignMap) → n ≤ MAX_ELEMENTS → IsChirotope m
     → m.elements ≡ n → DenoteTheSame n P (IsCovectorOfChirotope m) → m.rank ≡ 3 → HasFewValuesFor n P

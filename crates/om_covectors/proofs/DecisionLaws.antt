@@ -2,16 +2,17 @@
 --
 -- Main results: all_composed, all_unblocked: where no number is bad, the axiom holds; uncomposed_found, blocked_found:
 -- the least bad number is the first member of the first instance.
-use Rattle.std.proofs.Common.{ℕ, ◌≡◌, ◌+◌, ◌-◌, ◌<◌, ◌≤◌, ◌↔◌, List, length, get_or, Option, None, Some, is_some}
-use Rattle.std.proofs.Common.{IfNone, IfSome, IsTrue, true, false, refl, sym, ◌∙◌, subst, arith}
-use Rattle.std.proofs.lemmas.List.{get_or_past}
+use Rattle.std.proofs.Common.{ℕ, ◌≡◌, ◌+◌, ◌<◌, ◌↔◌, List, length, get_or, Option, None, Some, is_some, IfNone, IfSome}
+use Rattle.std.proofs.Common.{IsTrue, true, false, refl, sym, ◌∙◌, subst, arith}
 use Rattle.om_signs.specs.declared.sign.Sign.{Sign}
 use Rattle.om_signs.specs.declared.sign.Sign.TheVariants.{Minus, Zero}
 use Rattle.om_signs.specs.Sign.{product}
 use Rattle.om_signs.specs.SignVec.{at_element, compose}
+use Rattle.om_signs.proofs.ListPlaces.{at_element_past}
+use Rattle.om_signs.proofs.SignLaws.{same_or_different}
 use Rattle.om_members.specs.Scans.{nth, AllBelow, IsBadBelow, IsFirstBad, IsFirstBadPair}
 use Rattle.om_members.proofs.DecisionLaws.{IsDecided, not_false, decided_if, decided_both, decided_not, decided_same}
-use Rattle.om_members.proofs.DecisionLaws.{same_sign, each_place, some_member, is_contained, all_good}
+use Rattle.om_members.proofs.DecisionLaws.{each_place, some_member, is_contained, all_good}
 use Rattle.om_members.proofs.ScanLaws.{nth_read}
 use Rattle.om_parallel.specs.FirstBad.{IsNoneBad, IsLeastBad}
 use Rattle.om_covectors.proofs.InstanceLaws.{not_both_blocked}
@@ -19,22 +20,19 @@ use Rattle.om_covectors.specs.Vectors.{IsSeparatedAt, EliminatesFromComposition}
 use Rattle.om_covectors.specs.Scans.{HasCompositionWith, HasNoCompositionWith, HasCompositionAt, HasNoCompositionAt}
 use Rattle.om_covectors.specs.Scans.{IsUnblocked, IsUnblockedAt, IsFirstBlockedWith, IsFirstBlocked}
 
-past : (Z : List Sign) (f : ℕ) → length Z + 1 ≤ f → at_element Z f ≡ Zero
-past Z f ge = get_or_past Z (f - 1) Zero (omega arith)
-
 -- whether Z eliminates e from the composition of X and Y is decided
 pub eliminates : (X Y : List Sign) (e : ℕ) (Z : List Sign) → IsDecided (EliminatesFromComposition X Y e Z)
 eliminates X Y e Z = decided_same _ _
     (λ h. record { zero = h.0; outside = h.1 })
     (λ h. (h.zero, h.outside))
-    (decided_both _ _ (same_sign (at_element Z e) Zero) outside)
+    (decided_both _ _ (same_or_different (at_element Z e) Zero) outside)
   where
     outside : IsDecided ((f : ℕ) → (IsSeparatedAt X Y f → ⊥) → at_element Z f ≡ at_element (compose X Y) f)
     outside = each_place (length Z + length (compose X Y) + 1)
         (λ f. (IsSeparatedAt X Y f → ⊥) → at_element Z f ≡ at_element (compose X Y) f)
-        (λ f. decided_if _ _ (decided_not _ (same_sign (product (at_element X f) (at_element Y f)) Minus))
-        (same_sign (at_element Z f) (at_element (compose X Y) f)))
-        (λ f ge _. past Z f (omega arith) ∙ sym (past (compose X Y) f (omega arith)))
+        (λ f. decided_if _ _ (decided_not _ (same_or_different (product (at_element X f) (at_element Y f)) Minus))
+        (same_or_different (at_element Z f) (at_element (compose X Y) f)))
+        (λ f ge _. at_element_past Z f (omega arith) ∙ sym (at_element_past (compose X Y) f (omega arith)))
 
 module _ (members : List (List Sign)) where
   composed_held : (i : ℕ) → ((AllBelow (length members) (HasCompositionAt members i) → ⊥) → ⊥)

@@ -12,11 +12,12 @@ use Rattle.std.proofs.Math.Pow.{pow-lt}
 use Rattle.om_signs.specs.declared.sign.Sign.{Sign}
 use Rattle.om_signs.specs.declared.sign.Sign.TheVariants.{Minus, Zero, Plus}
 use Rattle.om_signs.specs.SignVec.{at, at_element, compose, IsMaskOf, IsPlus, IsMinus, IsSeparated}
-use Rattle.om_signs.proofs.Bits.{bit_at_and_not, one_shl_32, bit_from_test, no_bit_from_test}
+use Rattle.om_signs.proofs.Bits.{bit_at_and_not, one_shl_32, bit_from_test, no_bit_from_test, bit_one_or_zero}
+use Rattle.om_signs.proofs.SignLaws.{zero_if_neither}
 use Rattle.om_covectors.specs.Vectors.{IsSeparatedAt, EliminatesFromComposition}
 use Rattle.om_covectors.specs.Axioms.{HasCovectorEliminator}
 use Rattle.om_covectors.specs.Scans.{IsFixedOutside, HasFixedOutside}
-use Rattle.om_members.proofs.MaskLaws.{bit_or_none, zero_mask, plus_bit, minus_bit}
+use Rattle.om_members.proofs.MaskLaws.{zero_mask, plus_bit, minus_bit}
 use Rattle.om_covectors.proofs.MaskLaws.{separated_bit}
 
 same_bit : (a b : ℕ) → a < 2 → b < 2 → (a ≡ 1 → b ≡ 1) → (b ≡ 1 → a ≡ 1) → a ≡ b
@@ -43,11 +44,6 @@ fixed_mask P p free m lp lf h = (
 
     together : (i : ℕ) → P i → bit_at free i ≡ 0 → min (bit_at p i) (1 - bit_at free i) ≡ 1
     together i x z = let one = (h i).1 x in omega arith
-
-neither : (s : Sign) → (s ≡ Plus → ⊥) → (s ≡ Minus → ⊥) → s ≡ Zero
-neither Minus p m = absurd (m refl)
-neither Zero p m = refl
-neither Plus p m = absurd (p refl)
 
 same_signs : (s t : Sign) → (s ≡ Plus → t ≡ Plus) → (t ≡ Plus → s ≡ Plus) → (s ≡ Minus → t ≡ Minus)
     → (t ≡ Minus → s ≡ Minus) → s ≡ t
@@ -123,7 +119,7 @@ module _ (xs ys zs : List Sign) (separation plus minus e : ℕ) (ls : separation
     )
 
   outside_separation : (i : ℕ) → (IsSeparated xs ys i → ⊥) → bit_at separation i ≡ 0
-  outside_separation i n = elim (bit_or_none separation i) [ inl k ↦ absurd (n ((hs i).0 k)) | inr z ↦ z ]
+  outside_separation i n = elim (bit_one_or_zero separation i) [ inl k ↦ absurd (n ((hs i).0 k)) | inr z ↦ z ]
 
   same_outside : EliminatesFromComposition xs ys e zs → (i : ℕ) → bit_at separation i ≡ 0
       → at zs i ≡ at (compose xs ys) i
@@ -138,7 +134,7 @@ module _ (xs ys zs : List Sign) (separation plus minus e : ℕ) (ls : separation
       ↔ EliminatesFromComposition xs ys e zs
   fixed_eliminates = (
     λ h. record {
-      zero = neither (at_element zs e) (not_at_element Plus plus lp hp h.pluses)
+      zero = zero_if_neither (at_element zs e) (not_at_element Plus plus lp hp h.pluses)
           (not_at_element Minus minus lm hm h.minuses);
       outside = λ f n. let z = outside_separation (f - 1) n in
           same_signs (at_element zs f) (at_element (compose xs ys) f)

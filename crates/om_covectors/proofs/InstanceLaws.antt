@@ -22,7 +22,7 @@ use Rattle.om_covectors.specs.Scans.{HasCompositionAt, HasNoCompositionAt, HasCo
 use Rattle.om_covectors.specs.Scans.{IsFirstBlocked}
 use Rattle.om_covectors.proofs.MaskLaws.{element_within}
 use Rattle.om_members.proofs.OrderLaws.{same_number, greater_number, last_number}
-use Rattle.om_members.proofs.ScanLaws.{nth_contained, contains_nth}
+use Rattle.om_members.proofs.ScanLaws.{nth_contained, pairs_of_members, position_member}
 
 -- ---- one axiom at one instance
 
@@ -144,34 +144,25 @@ module _ (members : List (List Sign)) where
 
   -- ---- the axioms
 
-  -- what holds of the members at all pairs of places holds of all pairs of members
-  of_members : (P : List Sign → List Sign → Type 0)
-      → AllBelow (length members) (λ i. AllBelow (length members) (λ j. P (nth members i) (nth members j)))
-      → (X Y : List Sign) → Contains members X → Contains members Y → P X Y
-  of_members P h X Y x y =
-      subst (λ Z. P Z Y) (nth_contained members X x)
-      (subst (λ Z. P (nth members x.0) Z) (nth_contained members Y y) (h x.0 x.1 y.0 y.1))
-
   pub axioms_met : (n : ℕ) → HaveLength n members → HasZero members → AllBelow (length members) (HasNegativeAt members)
       → AllBelow (length members) (λ i. AllBelow (length members) (HasCompositionAt members i))
       → AllBelow (length members) (IsUnblockedAt members n) → MeetsCovectorAxioms members
   axioms_met n lengths hz hn hc hf = record {
     zero = hz;
     symmetric = λ X x. subst (λ Z. Contains members (negated Z)) (nth_contained members X x) (hn x.0 x.1);
-    compositions = of_members (λ X Y. Contains members (compose X Y)) hc;
-    elimination = of_members (λ X Y. (e : ℕ) → 1 ≤ e → IsSeparatedAt X Y e → HasCovectorEliminator members X Y e)
+    compositions = pairs_of_members members (λ X Y. Contains members (compose X Y)) hc;
+    elimination = pairs_of_members members
+        (λ X Y. (e : ℕ) → 1 ≤ e → IsSeparatedAt X Y e → HasCovectorEliminator members X Y e)
         (λ i li j lj e low s. hf i li j lj e (separated_within n lengths i e (nth members j) li s) low s);
   }
-
-  position_member : (i : ℕ) → IsPosition members i → Contains members (nth members (i - 1))
-  position_member i p = let a = p.0 in let b = p.1 in contains_nth members (i - 1) (omega arith)
 
   -- a violated instance breaks the axioms
   pub violated_breaks : (why : CovRefused) → IsViolatedCovectorAxiom members why → MeetsCovectorAxioms members → ⊥
   violated_breaks NoZero v ax = v ax.zero
-  violated_breaks (NoNegative i) v ax = v.1 (ax.symmetric (nth members (i - 1)) (position_member i v.0))
+  violated_breaks (NoNegative i) v ax = v.1 (ax.symmetric (nth members (i - 1)) (position_member members i v.0))
   violated_breaks (NoComposition i j) v ax =
-      v.2 (ax.compositions (nth members (i - 1)) (nth members (j - 1)) (position_member i v.0) (position_member j v.1))
+      v.2 (ax.compositions (nth members (i - 1)) (nth members (j - 1)) (position_member members i v.0)
+      (position_member members j v.1))
   violated_breaks (NoElimination i j e) v ax =
-      v.2.none (ax.elimination (nth members (i - 1)) (nth members (j - 1)) (position_member i v.0)
-      (position_member j v.1) e v.2.element v.2.separated)
+      v.2.none (ax.elimination (nth members (i - 1)) (nth members (j - 1)) (position_member members i v.0)
+      (position_member members j v.1) e v.2.element v.2.separated)

@@ -11,6 +11,7 @@ use Rattle.std.proofs.lemmas.List.{length-map}
 use Rattle.std.proofs.lemmas.List.Elements.{Contains-get_or}
 use Rattle.std.proofs.lemmas.Map.Keys.{IsDistinct-cons}
 use Rattle.std.proofs.lemmas.Map.Made.{is_member-Decides, length-le_from_is_member}
+use Rattle.om_signs.proofs.Contained.{contains_first, contains_later}
 use Rattle.om_chirotope.specs.Map.{SignMap}
 use Rattle.om_rows.specs.declared.column.Column.{Column}
 use Rattle.om_simplex.specs.declared.count.Count.{Count}
@@ -18,7 +19,7 @@ use Rattle.om_simplex.specs.declared.outcome.Outcome.TheVariants.{Balanced}
 use Rattle.om_simplex.specs.Results.{AreColumnsIncreasing, HasColumn}
 use Rattle.om_simplex.specs.States.{State}
 use Rattle.om_simplex.specs.Outcomes.{IsOutcome, balanced}
-use Rattle.om_simplex.proofs.Counting.{here, later, tail_increasing, column_later}
+use Rattle.om_simplex.proofs.Counting.{tail_increasing, column_later}
 use Rattle.om_simplex.proofs.Reached.{reached_sound}
 use Rattle.om_certificate.specs.declared.entry.Entry.{Entry}
 use Rattle.om_certificate.specs.declared.verdict.Verdict.TheVariants.{Nonrealizable}
@@ -35,8 +36,8 @@ apart : (m j : ℕ) (cs : List Count) → ((c : Count) → Contains cs c → j <
     → AllByRecursion (λ y. nat_eq (m + j) y ≡ false) (numbers_of m cs)
 apart m j [] h = tt
 apart m j (c ∷ cs) h = (
-  let l = h c (here c cs) in ne_eqb (m + j) (m + c.column) (λ e. absurd (omega arith)),
-  apart m j cs (λ d k. h d (later c d cs k)),
+  let l = h c (contains_first c cs) in ne_eqb (m + j) (m + c.column) (λ e. absurd (omega arith)),
+  apart m j cs (λ d k. h d (contains_later c cs d k)),
 )
 
 distinct : (m : ℕ) (cs : List Count) → AreColumnsIncreasing cs → IsDistinct nat_eq (numbers_of m cs)
@@ -49,8 +50,8 @@ distinct m (c ∷ cs) h = IsDistinct-cons nat_eq (m + c.column) (numbers_of m cs
 among : (m : ℕ) (cs : List Count) (basis : List ℕ) → ((c : Count) → Contains cs c → Contains basis (m + c.column))
     → (q : ℕ) → Contains (numbers_of m cs) q → Contains basis q
 among m [] basis h q (k, l, e) = absurd (omega arith)
-among m (c ∷ cs) basis h q (zero, l, e) = subst (Contains basis) e (h c (here c cs))
-among m (c ∷ cs) basis h q (suc k, l, e) = among m cs basis (λ d n. h d (later c d cs n)) q (k, omega arith, e)
+among m (c ∷ cs) basis h q (zero, l, e) = subst (Contains basis) e (h c (contains_first c cs))
+among m (c ∷ cs) basis h q (suc k, l, e) = among m cs basis (λ d n. h d (contains_later c cs d n)) q (k, omega arith, e)
 
 -- a counted column is that of a row, which has one basis number
 few_counts : (columns : List Column) (m pivots : ℕ) (counts : List Count) → 1 ≤ m

@@ -3,12 +3,14 @@
 -- Main results: one_listing, same_columns and one_end.
 use Rattle.std.specs.Prelude.{ℕ, ◌≡◌, ◌+◌, ◌-◌, ◌⊎◌, List, [], ◌∷◌}
 use Rattle.std.specs.List.{Contains}
-use Rattle.std.proofs.Common.{arith, sym, ◌∙◌, ap, subst, zero, suc, refl, inl, inr, get_or}
+use Rattle.std.proofs.Common.{arith, sym, ◌∙◌, ap, subst, suc, refl, inl, inr, get_or}
 use Rattle.std.proofs.lemmas.List.{ext_get_or}
+use Rattle.om_signs.proofs.Contained.{none_contained, contains_first, contains_later, first_or_later}
 use Rattle.om_chirotope.specs.Map.{SignMap}
 use Rattle.om_grassmann.specs.declared.statement.Statement.{Statement}
 use Rattle.om_grassmann.specs.Order.{IsBefore, IsIncreasing, AreAll}
 use Rattle.om_grassmann.proofs.OrderLaws.{before_self, before_then}
+use Rattle.om_grassmann.proofs.Counting.{increasing_tail, head_before}
 use Rattle.om_rows.specs.declared.column.Column.{Column}
 use Rattle.om_simplex.specs.declared.outcome.Outcome.{Outcome}
 use Rattle.om_simplex.specs.States.{column_of, no_column}
@@ -20,55 +22,32 @@ use Rattle.om_decide.proofs.Rows.{row_injective}
 
 -- ---- statements
 
-here : (s : Statement) (ss : List Statement) → Contains (s ∷ ss) s
-here s ss = (0, omega arith, refl)
-
-later : (s t : Statement) (ss : List Statement) → Contains ss t → Contains (s ∷ ss) t
-later s t ss (k, l, e) = (suc k, omega arith, e)
-
-cases_member : (s t : Statement) (ss : List Statement) → Contains (s ∷ ss) t → (s ≡ t) ⊎ Contains ss t
-cases_member s t ss (zero, l, e) = inl e
-cases_member s t ss (suc k, l, e) = inr (k, omega arith, e)
-
-none_member : (t : Statement) → Contains [] t → ⊥
-none_member t (k, l, e) = absurd (omega arith)
-
-tail_increasing : (s : Statement) (ss : List Statement) → IsIncreasing (s ∷ ss) → IsIncreasing ss
-tail_increasing s [] h = tt
-tail_increasing s (t ∷ ss) h = h.1
-
-comes_later : (s t : Statement) (ss : List Statement) → IsIncreasing (s ∷ ss) → Contains ss t → IsBefore s t
-comes_later s t [] h g = absurd (none_member t g)
-comes_later s t (u ∷ ss) h g = elim (cases_member u t ss g) [
-  | inl q ↦ subst (IsBefore s) q h.0
-  | inr r ↦ before_then s u t h.0 (comes_later u t ss h.1 r)
-]
-
 -- increasing statements are determined by their members
 one_list : (ss ts : List Statement) → IsIncreasing ss → IsIncreasing ts
     → ((s : Statement) → Contains ss s → Contains ts s) → ((s : Statement) → Contains ts s → Contains ss s) → ss ≡ ts
 one_list [] [] h g f b = refl
-one_list [] (t ∷ ts) h g f b = absurd (none_member t (b t (here t ts)))
-one_list (s ∷ ss) [] h g f b = absurd (none_member s (f s (here s ss)))
+one_list [] (t ∷ ts) h g f b = absurd (none_contained t (b t (contains_first t ts)))
+one_list (s ∷ ss) [] h g f b = absurd (none_contained s (f s (contains_first s ss)))
 one_list (s ∷ ss) (t ∷ ts) h g f b =
-    let e = heads (cases_member t s ts (f s (here s ss))) (cases_member s t ss (b t (here t ts))) in
+    let e = heads (first_or_later t ts s (f s (contains_first s ss)))
+    (first_or_later s ss t (b t (contains_first t ts))) in
     ap (λ x. x ∷ ss) e
     ∙ ap (λ xs. t ∷ xs)
-    (one_list ss ts (tail_increasing s ss h) (tail_increasing t ts g)
-    (λ x m. forth e x m (cases_member t x ts (f x (later s x ss m))))
-    (λ x m. back e x m (cases_member s x ss (b x (later t x ts m)))))
+    (one_list ss ts (increasing_tail s ss h) (increasing_tail t ts g)
+    (λ x m. forth e x m (first_or_later t ts x (f x (contains_later s ss x m))))
+    (λ x m. back e x m (first_or_later s ss x (b x (contains_later t ts x m)))))
   where
     heads : (t ≡ s) ⊎ Contains ts s → (s ≡ t) ⊎ Contains ss t → s ≡ t
     heads (inl e) q = sym e
     heads (inr m) (inl e) = e
-    heads (inr m) (inr n) = absurd (before_self s (before_then s t s (comes_later s t ss h n) (comes_later t s ts g m)))
+    heads (inr m) (inr n) = absurd (before_self s (before_then s t s (head_before s ss t h n) (head_before t ts s g m)))
 
     forth : s ≡ t → (x : Statement) → Contains ss x → (t ≡ x) ⊎ Contains ts x → Contains ts x
-    forth e x m (inl q) = absurd (before_self s (subst (IsBefore s) (sym (e ∙ q)) (comes_later s x ss h m)))
+    forth e x m (inl q) = absurd (before_self s (subst (IsBefore s) (sym (e ∙ q)) (head_before s ss x h m)))
     forth e x m (inr n) = n
 
     back : s ≡ t → (x : Statement) → Contains ts x → (s ≡ x) ⊎ Contains ss x → Contains ss x
-    back e x m (inl q) = absurd (before_self t (subst (IsBefore t) (sym (sym e ∙ q)) (comes_later t x ts g m)))
+    back e x m (inl q) = absurd (before_self t (subst (IsBefore t) (sym (sym e ∙ q)) (head_before t ts x g m)))
     back e x m (inr n) = n
 
 pub one_listing : (m : SignMap) (ss ts : List Statement) → AreAll m ss → AreAll m ts → ss ≡ ts

@@ -8,6 +8,7 @@ use Rattle.om_signs.specs.declared.limits.TheConstants.{MAX_ELEMENTS, MAX_MULTIP
 use Rattle.om_chirotope.specs.Map.{SignMap}
 use Rattle.om_vectors.specs.WholeVectors.{WholeVector}
 use Rattle.om_subsets.specs.Subsets.{IsTriple}
+use Rattle.om_subsets.proofs.Triples.{rising_of_triple}
 use Rattle.om_vectors.specs.declared.unfound.Unfound.{Unfound}
 use Rattle.om_vectors.specs.declared.unfound.Unfound.TheVariants.{Exhausted, Frontier}
 use Rattle.om_grassmann.specs.declared.statement.Statement.{Statement}
@@ -24,7 +25,6 @@ use Rattle.om_certificate.specs.Weights.{nonzero_brackets}
 use Rattle.om_certificate.specs.Forms.{AreVectorsInForm, IsEntryInForm, IsWeightInForm, AreWeightsInForm}
 use Rattle.om_certificate.specs.Forms.{ArePivotsInForm, IsWidthInForm, IsSearchInForm, IsVerdictInForm}
 use Rattle.om_certificate.proofs.NonzeroBrackets.{bracket_triples}
-use Rattle.om_certificate.proofs.Triples.{triple_elements}
 use Rattle.om_points.specs.Searches.{IsFound, IsUnfound}
 use Rattle.om_points.proofs.Limits.{found_few, found_within, frontier_few, frontier_within}
 use Rattle.om_budgets.specs.declared.budgets.Budgets.{Budgets}
@@ -49,8 +49,8 @@ weight_form n b z l t h = three b t t.size
     three (x ∷ []) t e = absurd (omega arith)
     three (x ∷ y ∷ []) t e = absurd (omega arith)
     three (x ∷ y ∷ w ∷ v ∷ bs) t e = absurd (omega arith)
-    three (x ∷ y ∷ w ∷ []) t e = let p = triple_elements n x y w t in let high = p.3 in
-        record { a = p.0; a_b = p.1; b_c = p.2; c = omega arith; size = h }
+    three (x ∷ y ∷ w ∷ []) t e = let p = rising_of_triple n x y w t in let high = p.high in
+        record { a = p.low; a_b = p.first; b_c = p.second; c = omega arith; size = h }
 
 weights_form : (n : ℕ) (bs : List (List ℕ)) (zs : List ℤ) → n ≤ MAX_ELEMENTS → All (IsTriple n) bs
     → All (λ z. unsigned_abs z ≤ unsigned_abs MAX_WEIGHT) zs → All IsWeightInForm (weights_on bs zs)

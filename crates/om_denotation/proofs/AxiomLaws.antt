@@ -10,6 +10,7 @@ use Rattle.om_signs.specs.declared.sign.Sign.{Sign}
 use Rattle.om_signs.specs.declared.sign.Sign.TheVariants.{Minus, Zero}
 use Rattle.om_signs.specs.Sign.{opposite, product, first_nonzero}
 use Rattle.om_signs.specs.SignVec.{at, compose}
+use Rattle.om_signs.proofs.SignLaws.{product_minus_if_opposite, opposite_if_product_minus, left_nonzero, minus_nonzero}
 use Rattle.om_laws.specs.Signs.{IsNonzero}
 use Rattle.om_laws.specs.Vectors.{SignVector, zero_vector, composition}
 use Rattle.om_laws.specs.Vectors as vectors
@@ -26,8 +27,7 @@ use Rattle.om_members.specs.Listings.{HaveLength}
 use Rattle.om_covectors.specs.Minimality.{IsMinimal}
 use Rattle.om_denotation.specs.Families.{as_functions}
 use Rattle.om_denotation.proofs.ChirotopeBridge.{list_supported}
-use Rattle.om_denotation.proofs.ListFunctions.{at_place, support_list, support_function, minus_of_opposite}
-use Rattle.om_denotation.proofs.ListFunctions.{nonzero_of_minus, opposite_of_minus}
+use Rattle.om_denotation.proofs.ListFunctions.{at_place, support_list, support_function}
 use Rattle.om_denotation.proofs.FunctionLaws.{listed, unlisted, zero_function, nonzero_element}
 
 -- ---- support
@@ -43,14 +43,14 @@ supported n members lengths f h e k =
 separated_lists : (X Y : List Sign) (i : ℕ) → IsNonzero (at X i) → at X i ≡ opposite (at Y i)
     → IsSeparatedAt X Y (suc i)
 separated_lists X Y i n q = ap (λ k. product (at X k) (at Y k)) (let e : suc i - 1 ≡ i = omega arith in e)
-    ∙ minus_of_opposite (at X i) (at Y i) n q
+    ∙ product_minus_if_opposite (at X i) (at Y i) n q
 
 separated_functions : (X Y : List Sign) (i : ℕ) → IsSeparatedAt X Y (suc i)
     → AreSeparatedAt (as_function X) (as_function Y) (suc i)
 separated_functions X Y i s =
     let q : product (at X i) (at Y i) ≡ Minus =
     ap (λ k. product (at X k) (at Y k)) (let e : i ≡ suc i - 1 = omega arith in e) ∙ s in
-    (nonzero_of_minus (at X i) (at Y i) q, opposite_of_minus (at X i) (at Y i) q)
+    (left_nonzero (at X i) (at Y i) Minus q minus_nonzero, opposite_if_product_minus (at X i) (at Y i) q)
 
 module _ (members : List (List Sign)) (axioms : MeetsCovectorAxioms members) where
   pub own : (X : List Sign) → Contains members X → IsListed (as_functions members) (as_function X)

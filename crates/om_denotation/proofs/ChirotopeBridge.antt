@@ -16,7 +16,6 @@ use Rattle.om_signs.specs.declared.sign.Sign.TheVariants.{Zero}
 use Rattle.om_signs.specs.Sign.{opposite}
 use Rattle.om_subsets.specs.Subsets.{IsSubsetFrom}
 use Rattle.om_subsets.proofs.Statements.{subset_is_increasing}
-use Rattle.om_laws.specs.Signs.{IsNonzero}
 use Rattle.om_laws.specs.Vectors.{SignVector, IsSupportedOn, AreEqualUpToSign}
 use Rattle.om_laws.specs.Vectors as vectors
 use Rattle.om_laws.specs.Sorting.{IsIncreasing, IsElement, IsTuple, on_tuples}
@@ -26,7 +25,6 @@ use Rattle.om_laws.specs.Circuits.{IsCircuit, IsCocircuit}
 use Rattle.om_laws.specs.Covectors.{IsCovector}
 use Rattle.om_laws.specs.Denotations.{IsAroundTuple, IsAlongTuple, IsOrthogonalInRank}
 use Rattle.om_laws.specs.Bridge.{as_function, as_list}
-use Rattle.om_laws.proofs.VectorLaws.{orthogonal_sym, orthogonal_same}
 use Rattle.om_laws.proofs.RelationLaws.{around_member}
 use Rattle.om_laws.proofs.TupleSizes.{each_member, on_tuples_at, on_tuples_tuple, tuple_with, tuple_without, tuple_last}
 use Rattle.om_laws.proofs.TupleSizes.{tuple_rank}
@@ -36,6 +34,7 @@ use Rattle.om_laws.proofs.CovectorLaws.{circuit_same, cocircuit_same}
 use Rattle.om_laws.proofs.PairCovectors.{covector_same}
 use Rattle.om_laws.proofs.BridgeLaws.{as_function-as_list, as_list-as_function, as_function-negated}
 use Rattle.om_laws.proofs.BridgeLaws.{orthogonal_functions, orthogonal_lists, length-as_list}
+use Rattle.om_laws.proofs.VectorLaws.{orthogonal_sym, orthogonal_same, nonzero_up_to_sign}
 use Rattle.om_chirotope.specs.Map.{SignMap, chi_of, value_of, circuit_vector, cocircuit_vector}
 use Rattle.om_chirotope.proofs.Theory.{from_tuple, to_tuple}
 use Rattle.om_denotation.specs.Circuits.{HasNonzero, IsUpToSign, IsCircuitOfChirotope, IsCocircuitOfChirotope}
@@ -103,10 +102,6 @@ module _ (n : ℕ) (F : SignVector) (sup : IsSupportedOn (elements_to n) F) wher
 up_to_sign_length : (n : ℕ) (F : SignVector) (X : List Sign) → IsUpToSign X (as_list n F) → length X ≡ n
 up_to_sign_length n F X (inl q) = ap length q ∙ length-as_list n F
 up_to_sign_length n F X (inr q) = ap length q ∙ length-map (as_list n F) opposite ∙ length-as_list n F
-
-nonzero_up_to_sign : (X Y : SignVector) → AreEqualUpToSign X Y → (e : ℕ) → IsNonzero (X e) → IsNonzero (Y e)
-nonzero_up_to_sign X Y (inl q) e n = λ z. n (q e ∙ z)
-nonzero_up_to_sign X Y (inr q) e n = λ z. n (q e ∙ ap opposite z)
 
 -- ---- the two kinds of vectors
 

@@ -9,13 +9,13 @@ use Rattle.om_signs.specs.declared.sign.Sign.{Sign}
 use Rattle.om_signs.specs.declared.sign.Sign.TheVariants.{Minus, Zero, Plus}
 use Rattle.om_signs.specs.Sign.{opposite}
 use Rattle.om_signs.specs.SignVec.{at}
+use Rattle.om_signs.proofs.SignLaws.{plus_or_minus, opposite_swap}
 use Rattle.om_laws.specs.Signs.{IsNonzero}
 use Rattle.om_laws.specs.Vectors.{SignVector, HasSupportIn, AreEqualUpToSign}
 use Rattle.om_laws.specs.Vectors as vectors
 use Rattle.om_laws.specs.Axioms.{CircuitAxioms, AreSeparatedAt, IsFromEither}
 use Rattle.om_laws.specs.Families.{IsListed}
 use Rattle.om_laws.specs.Bridge.{as_function}
-use Rattle.om_laws.proofs.SignLaws.{plus_or_minus, opposite_swap}
 use Rattle.om_laws.proofs.BridgeLaws.{as_function-negated}
 use Rattle.om_members.specs.Vectors.{negated}
 use Rattle.om_members.specs.Listings.{HaveLength}

@@ -5,6 +5,7 @@ use Rattle.std.specs.Prelude.{ℕ, ◌≡◌, ◌⊎◌, ◌-◌, List, ◌++◌
 use Rattle.std.proofs.Common.{sym, ◌∙◌, ap, subst, refl, inl, inr, ⊎_elim, arith}
 use Rattle.om_signs.specs.declared.sign.Sign.{Sign}
 use Rattle.om_signs.specs.Sign.{opposite}
+use Rattle.om_signs.proofs.SignLaws.{product-opposite_right, opposite-opposite}
 use Rattle.om_laws.specs.Bridge.{as_function, as_list}
 use Rattle.om_laws.specs.Chirotope.{elements_to}
 use Rattle.om_laws.specs.Circuits.{IsCircuit, IsCocircuit}
@@ -18,7 +19,6 @@ use Rattle.om_laws.proofs.DualPairs.{dual_pair}
 use Rattle.om_laws.proofs.PairCovectors.{orthogonal_to_covectors, orthogonal_to_cocircuits}
 use Rattle.om_laws.proofs.DualSizes.{dual_of_on_tuples, dual_dual_up_to_sign}
 use Rattle.om_laws.proofs.Complements.{are_members_cases}
-use Rattle.om_laws.proofs.SignLaws.{product-opposite_right, opposite-opposite}
 use Rattle.om_laws.proofs.TupleSizes.{on_tuples_tuple}
 use Rattle.om_laws.proofs.VectorLaws.{orthogonal_same}
 use Rattle.om_chirotope.specs.Map.{SignMap, chi_of, negated}

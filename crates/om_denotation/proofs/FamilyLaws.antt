@@ -16,6 +16,7 @@ use Rattle.om_signs.specs.Sign.{opposite, first_nonzero}
 use Rattle.om_signs.specs.SignVec.{at, at_element, compose, IsOrthogonal}
 use Rattle.om_signs.specs.SignVec as lists
 use Rattle.om_signs.proofs.ListPlaces.{length-compose}
+use Rattle.om_signs.proofs.SignLaws.{zero_or_nonzero}
 use Rattle.om_members.specs.Vectors.{negated}
 use Rattle.om_laws.specs.Signs.{IsNonzero}
 use Rattle.om_laws.specs.Members.{IsMember}
@@ -30,8 +31,6 @@ use Rattle.om_laws.specs.Compositions as functions
 use Rattle.om_laws.specs.Covectors.{IsCovector, IsMinimal}
 use Rattle.om_laws.specs.Sorting.{IsElement, is_element}
 use Rattle.om_laws.specs.Bridge.{as_function, as_list}
-use Rattle.om_laws.proofs.SignLaws.{zero_or_nonzero}
-use Rattle.om_laws.proofs.VectorLaws.{orthogonal_same}
 use Rattle.om_laws.proofs.DualPairs.{dual_pair, swapped_pair}
 use Rattle.om_laws.proofs.PairAxioms as pairs
 use Rattle.om_laws.proofs.PaintingLaws as paintings
@@ -40,6 +39,7 @@ use Rattle.om_laws.proofs.CovectorLaws as covectors
 use Rattle.om_laws.proofs.ChirotopeLaws.{member_from_element, element_from_member}
 use Rattle.om_laws.proofs.BridgeLaws.{as_function-as_list, as_function-negated, as_function-compose, orthogonal_lists}
 use Rattle.om_laws.proofs.BridgeLaws.{orthogonal_functions, conformal_lists, conformal_functions, length-as_list}
+use Rattle.om_laws.proofs.VectorLaws.{orthogonal_same}
 use Rattle.om_chirotope.specs.Map.{SignMap}
 use Rattle.om_chirotope.specs.Chirotope.{IsChirotope}
 use Rattle.om_chirotope.proofs.Theory.{theory_chirotope}

@@ -7,16 +7,17 @@ use Rattle.std.proofs.Common.{ℕ, zero, suc, ◌≡◌, ◌-◌, List, [], ◌�
 use Rattle.om_signs.specs.declared.sign.Sign.{Sign}
 use Rattle.om_signs.specs.declared.sign.Sign.TheVariants.{Zero}
 use Rattle.om_signs.specs.SignVec.{at}
+use Rattle.om_signs.proofs.SignLaws.{zero_or_nonzero}
+use Rattle.om_signs.proofs.Contained.{contains_first, contains_later, first_or_later}
 use Rattle.om_laws.specs.Signs.{IsNonzero}
 use Rattle.om_laws.specs.Vectors.{SignVector}
 use Rattle.om_laws.specs.Vectors as vectors
 use Rattle.om_laws.specs.Families.{IsListed}
 use Rattle.om_laws.specs.Bridge.{as_function}
-use Rattle.om_laws.proofs.SignLaws.{zero_or_nonzero}
 use Rattle.om_members.specs.Vectors.{IsZero}
 use Rattle.om_denotation.proofs.ListFunctions.{at_place}
 use Rattle.om_denotation.specs.Families.{as_functions}
-use Rattle.om_denotation.proofs.SelectionLaws.{contains_first, contains_later, first_or_later}
+use Rattle.om_denotation.specs.Circuits.{HasNonzero}
 
 -- ---- listed functions
 
@@ -39,6 +40,9 @@ unlisted (Y ∷ Ys) f (inr h) = let r = unlisted Ys f h in (r.0, contains_later 
 pub zero_function : (X : List Sign) → IsZero X → (e : ℕ) → as_function X e ≡ Zero
 zero_function X z zero = refl
 zero_function X z (suc i) = sym (at_place X i) ∙ z (suc i)
+
+pub nonzero_list_not_zero : (X : List Sign) → HasNonzero X → IsZero X → ⊥
+nonzero_list_not_zero X (i, k) z = k (sym (at_place X i) ∙ z (suc i))
 
 nonzero_place : (X : List Sign) → (((i : ℕ) → at X i ≡ Zero) → ⊥) → (i : ℕ) × IsNonzero (at X i)
 nonzero_place [] h = absurd (h (λ i. refl))

@@ -3,11 +3,10 @@
 -- Main results: chirotopes of the laws as maps (made, made_axioms, same_tuples); the chirotope of circuits
 -- (of_circuits), of cocircuits (of_cocircuits) and of covectors (of_covectors).
 -- Reference: Björner, Las Vergnas, Sturmfels, White and Ziegler, Oriented Matroids, chapter 3.
-use Rattle.std.specs.List.{Contains}
-use Rattle.std.proofs.lemmas.List.Elements.{All-contains}
 use Rattle.std.proofs.lemmas.List.FromFn.{length-range_with_len}
 use Rattle.std.proofs.Common.{ℕ, ◌≡◌, ◌≤◌, ◌↔◌, List, length, refl, sym, subst, ◌∙◌, inl, inr, ⊎_elim, arith}
 use Rattle.om_signs.specs.declared.sign.Sign.{Sign}
+use Rattle.om_signs.proofs.SignLaws.{zero_or_nonzero}
 use Rattle.om_laws.specs.Signs.{IsNonzero}
 use Rattle.om_laws.specs.Vectors.{SignVector}
 use Rattle.om_laws.specs.Tuples.{value}
@@ -19,7 +18,6 @@ use Rattle.om_laws.specs.Covectors.{IsCovector}
 use Rattle.om_laws.specs.Dual.{dual_map}
 use Rattle.om_laws.specs.Families.{IsListed}
 use Rattle.om_laws.specs.Bridge.{as_function}
-use Rattle.om_laws.proofs.SignLaws.{zero_or_nonzero}
 use Rattle.om_laws.proofs.TupleLaws.{value_alternating, nonzero_distinct}
 use Rattle.om_laws.proofs.TupleSizes.{is_tuple_cases, on_tuples_at, on_tuples_off, each_from}
 use Rattle.om_laws.proofs.SortingLaws.{value_increasing, alternating_equal}
@@ -32,6 +30,7 @@ use Rattle.om_laws.proofs.CovectorExistence.{covectors_map, covectors_chirotope,
 use Rattle.om_chirotope.specs.Map.{SignMap}
 use Rattle.om_chirotope.specs.Chirotope.{IsChirotope}
 use Rattle.om_members.specs.Listings.{Listing, HaveLength}
+use Rattle.om_members.proofs.ScanLaws.{length_of_member}
 use Rattle.om_circuits.specs.Axioms.{MeetsCircuitAxioms}
 use Rattle.om_covectors.specs.Axioms.{MeetsCovectorAxioms}
 use Rattle.om_denotation.specs.Circuits.{IsCircuitOfChirotope, IsCocircuitOfChirotope}
@@ -108,13 +107,11 @@ all_of : (n : ℕ) (members : List (List Sign)) → HaveLength n members
     → ((X : List Sign) → length X ≡ n → P X ↔ D (as_function X))
     → ((F : SignVector) → IsListed (as_functions members) F ↔ D F) → AreAllOf P members
 all_of n members lengths P D size both which = record {
-  sound = λ X m. (both X (long X m)).1 ((which (as_function X)).0 (function_listed members X m));
+  sound = λ X m. (both X (length_of_member n members lengths X m)).1
+      ((which (as_function X)).0 (function_listed members X m));
   complete = λ X p. member_from_function n members lengths X (size X p)
       ((which (as_function X)).1 ((both X (size X p)).0 p));
 }
-  where
-    long : (X : List Sign) → Contains members X → length X ≡ n
-    long X m = All-contains (λ Y. length Y ≡ n) members X lengths m
 
 module _ (c : Listing) (lengths : HaveLength c.elements c.members) where
   abbrev E : List ℕ

@@ -10,8 +10,11 @@ use Rattle.std.proofs.Common.{inr, ⊎_elim, arith}
 use Rattle.std.proofs.lemmas.List.{length-map}
 use Rattle.om_signs.specs.declared.sign.Sign.{Sign}
 use Rattle.om_signs.specs.declared.sign.Sign.TheVariants.{Minus, Zero, Plus}
-use Rattle.om_signs.specs.Sign.{opposite, product}
+use Rattle.om_signs.specs.Sign.{opposite}
 use Rattle.om_signs.specs.SignVec.{at, at_element}
+use Rattle.om_signs.proofs.SignLaws.{zero_or_nonzero, plus_nonzero, minus_nonzero, product_minus_if_opposite}
+use Rattle.om_signs.proofs.SignLaws.{opposite_if_product_minus, left_nonzero}
+use Rattle.om_signs.proofs.ListPlaces.{at-replicate}
 use Rattle.om_members.specs.Vectors.{negated, HasSupportIn}
 use Rattle.om_circuits.specs.Vectors.{IsOpposedAt, Eliminates}
 use Rattle.om_covectors.specs.Vectors.{IsSeparatedAt, EliminatesFromComposition}
@@ -20,10 +23,8 @@ use Rattle.om_laws.specs.Vectors.{SignVector, zero_vector, composition, AreEqual
 use Rattle.om_laws.specs.Vectors as vectors
 use Rattle.om_laws.specs.Axioms.{AreSeparatedAt, IsFromEither}
 use Rattle.om_laws.specs.Bridge.{as_function}
-use Rattle.om_laws.proofs.SignLaws.{zero_or_nonzero, plus_nonzero, minus_nonzero}
 use Rattle.om_laws.proofs.BridgeLaws.{as_function-negated, as_function-compose}
 use Rattle.om_denotation.specs.Circuits.{IsUpToSign}
-use Rattle.om_denotation.specs.CovectorLaws.{at_zero}
 use Rattle.om_denotation.proofs.ChirotopeBridge.{same_lists}
 
 -- the functions of the lists of P, which have n signs, are those of D
@@ -43,7 +44,7 @@ place_function X (suc i) low = at_place X i
 
 pub zero_is_list : (n : ℕ) (e : ℕ) → as_function (replicate n Zero) e ≡ zero_vector e
 zero_is_list n zero = refl
-zero_is_list n (suc i) = at_zero n i
+zero_is_list n (suc i) = at-replicate n i
 
 -- ---- supports
 
@@ -68,23 +69,16 @@ up_to_sign n X Y l k (inr q) = inr (negative_list n X Y l k q)
 
 -- ---- separation
 
-pub minus_of_opposite : (s t : Sign) → IsNonzero s → s ≡ opposite t → product s t ≡ Minus
-minus_of_opposite s t = grind arith
-
-pub nonzero_of_minus : (s t : Sign) → product s t ≡ Minus → IsNonzero s
-nonzero_of_minus s t = grind arith
-
-pub opposite_of_minus : (s t : Sign) → product s t ≡ Minus → s ≡ opposite t
-opposite_of_minus s t = grind arith
-
 pub opposed : (X Y : List Sign) (e : ℕ) → IsOpposedAt X Y e
     → AreSeparatedAt (as_function X) (as_function Y) (suc (e - 1))
 opposed X Y e o = (λ z. plus_nonzero (sym o.plus ∙ z), o.plus ∙ sym (ap opposite o.minus))
 
 pub separated : (X Y : List Sign) (e : ℕ) → IsSeparatedAt X Y e
     → AreSeparatedAt (as_function X) (as_function Y) (suc (e - 1))
-separated X Y e s =
-    (nonzero_of_minus (at_element X e) (at_element Y e) s, opposite_of_minus (at_element X e) (at_element Y e) s)
+separated X Y e s = (
+  left_nonzero (at_element X e) (at_element Y e) Minus s minus_nonzero,
+  opposite_if_product_minus (at_element X e) (at_element Y e) s,
+)
 
 -- ---- elimination
 
@@ -110,6 +104,6 @@ pub eliminates_from_composition : (X Y : List Sign) (e : ℕ) (Z : SignVector) (
 eliminates_from_composition X Y e Z W gone outside q = record {
   zero = sym (q (suc (e - 1))) ∙ gone;
   outside = λ f apart. sym (q (suc (f - 1)))
-      ∙ outside (suc (f - 1)) (λ s. apart (minus_of_opposite (at_element X f) (at_element Y f) s.0 s.1))
+      ∙ outside (suc (f - 1)) (λ s. apart (product_minus_if_opposite (at_element X f) (at_element Y f) s.0 s.1))
       ∙ sym (as_function-compose X Y (suc (f - 1)));
 }

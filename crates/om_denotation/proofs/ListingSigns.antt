@@ -9,6 +9,7 @@ use Rattle.std.proofs.lemmas.Bool.{eq-eqb, ne_eqb}
 use Rattle.om_signs.specs.declared.sign.Sign.{Sign}
 use Rattle.om_signs.specs.declared.sign.Sign.TheVariants.{Minus, Plus}
 use Rattle.om_signs.specs.Sign.{product}
+use Rattle.om_signs.proofs.SignLaws.{product-plus, product_assoc, product_middle_exchange}
 use Rattle.om_subsets.specs.Members.{members}
 use Rattle.om_subsets.specs.Subsets.{IsSubsetFrom, IsMember, count_above}
 use Rattle.om_subsets.proofs.Firsts.{same_members}
@@ -18,8 +19,7 @@ use Rattle.om_laws.specs.Dual.{complement}
 use Rattle.om_laws.specs.Sorting.{IsIncreasing}
 use Rattle.om_laws.specs.Tuples.{sort_sign, before_sign, order_sign}
 use Rattle.om_laws.proofs.Complements.{is_member_cases, complement_is_complement}
-use Rattle.om_laws.proofs.DualSizes.{complement_increasing}
-use Rattle.om_laws.proofs.SignLaws.{product-plus}
+use Rattle.om_laws.proofs.DualSizes.{complement_increasing, range_increasing}
 use Rattle.om_laws.proofs.SortingLaws.{value_increasing}
 use Rattle.om_laws.proofs.ChirotopeLaws.{elements_distinct, member_from_element, element_from_member}
 use Rattle.om_chirotope.specs.Map.{parity_sign}
@@ -54,20 +54,14 @@ across (x ∷ xs) ys = product (before_sign x ys) (across xs ys)
 before_append : (x : ℕ) (ys zs : List ℕ) → before_sign x (ys ++ zs) ≡ product (before_sign x ys) (before_sign x zs)
 before_append x [] zs = refl
 before_append x (y ∷ ys) zs = ap (product (order_sign x y)) (before_append x ys zs)
-    ∙ lemma (order_sign x y) (before_sign x ys) (before_sign x zs)
-  where
-    lemma : (a b c : Sign) → product a (product b c) ≡ product (product a b) c
-    lemma a b c = grind arith
+    ∙ sym (product_assoc (order_sign x y) (before_sign x ys) (before_sign x zs))
 
 pub across_append : (xs ys zs : List ℕ) → across xs (ys ++ zs) ≡ product (across xs ys) (across xs zs)
 across_append [] ys zs = refl
 across_append (x ∷ xs) ys zs =
     ap (product (before_sign x (ys ++ zs))) (across_append xs ys zs)
     ∙ ap (λ s. product s (product (across xs ys) (across xs zs))) (before_append x ys zs)
-    ∙ lemma (before_sign x ys) (before_sign x zs) (across xs ys) (across xs zs)
-  where
-    lemma : (a b c d : Sign) → product (product a b) (product c d) ≡ product (product a c) (product b d)
-    lemma a b c d = grind arith
+    ∙ product_middle_exchange (before_sign x ys) (before_sign x zs) (across xs ys) (across xs zs)
 
 pub sort_append : (xs ys : List ℕ)
     → sort_sign (xs ++ ys) ≡ product (product (sort_sign xs) (sort_sign ys)) (across xs ys)
@@ -103,21 +97,16 @@ range_last low (suc k) =
     (range_last (low + 1) k
     ∙ (let e : low + 1 + k ≡ low + suc k = omega arith in ap (λ x. range_with_len (low + 1) k ++ x ∷ []) e))
 
-rising_range : (low k : ℕ) → IsIncreasing (range_with_len low k)
-rising_range low zero = tt
-rising_range low (suc zero) = tt
-rising_range low (suc (suc k)) = (omega arith, rising_range (low + 1) (suc k))
-
 -- one more element of the whole set: if it is off the list it is moved over the greater ones of the list
 pub listing_more : (a : List ℕ) (k : ℕ) → IsIncreasing a
     → sort_sign (a ++ complement (range_with_len 1 (suc k)) a)
     ≡ product (sort_sign (a ++ complement (range_with_len 1 k) a)) (sort_sign (a ++ complement ((1 + k) ∷ []) a))
 listing_more a k i =
     let front = sort_two a (complement (range_with_len 1 k) a) i
-    (complement_increasing (range_with_len 1 k) a (rising_range 1 k)) in
+    (complement_increasing (range_with_len 1 k) a (range_increasing 1 k)) in
     let last = sort_two a (complement ((1 + k) ∷ []) a) i (complement_increasing ((1 + k) ∷ []) a tt) in
     sort_two a (complement (range_with_len 1 (suc k)) a) i
-    (complement_increasing (range_with_len 1 (suc k)) a (rising_range 1 (suc k)))
+    (complement_increasing (range_with_len 1 (suc k)) a (range_increasing 1 (suc k)))
     ∙ ap (λ E. across a (complement E a)) (range_last 1 k)
     ∙ ap (across a) (complement_append (range_with_len 1 k) ((1 + k) ∷ []) a)
     ∙ across_append a (complement (range_with_len 1 k) a) (complement ((1 + k) ∷ []) a)

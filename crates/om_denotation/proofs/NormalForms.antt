@@ -7,19 +7,20 @@ use Rattle.std.proofs.Common.{sym, ◌∙◌, ap, subst, inl, inr}
 use Rattle.om_signs.specs.declared.sign.Sign.{Sign}
 use Rattle.om_signs.specs.declared.sign.Sign.TheVariants.{Minus, Plus}
 use Rattle.om_signs.specs.Sign.{opposite, product}
+use Rattle.om_signs.proofs.SignLaws.{product-opposite_right}
+use Rattle.om_signs.proofs.ListPlaces.{at-map-opposite}
 use Rattle.om_subsets.specs.Subsets.{rank_of}
 use Rattle.om_laws.specs.Bridge.{as_function}
 use Rattle.om_laws.specs.Chirotope.{elements_to}
 use Rattle.om_laws.specs.Covectors.{IsCovector}
 use Rattle.om_laws.specs.Reorientation.{negative}
 use Rattle.om_laws.specs.Tuples.{sorted, sort_sign}
-use Rattle.om_laws.proofs.SignLaws.{product-opposite_right}
 use Rattle.om_laws.proofs.ReorientationLaws.{negative_covector, covector_negative}
 use Rattle.om_laws.proofs.TupleSizes.{is_tuple_cases, on_tuples_at, on_tuples_off}
 use Rattle.om_chirotope.specs.Map.{SignMap, chi_of, negated, IsLedBy}
 use Rattle.om_chirotope.specs.Chirotope.{IsChirotope, IsAllZero}
 use Rattle.om_chirotope.proofs.Axioms.{not_all_zero}
-use Rattle.om_chirotope.proofs.Negation.{at-opposite, leader, led_negated}
+use Rattle.om_chirotope.proofs.Negation.{leader, led_negated}
 use Rattle.om_denotation.specs.Covectors.{IsCovectorOfChirotope}
 use Rattle.om_denotation.proofs.ChirotopeBridge.{tuples_of, covector_function, covector_of_function}
 use Rattle.om_denotation.specs.Maps.{IsNormalFormOf}
@@ -36,7 +37,7 @@ normal_exists m om = by_leader (leader m.signs)
 pub tuples_negated : (m : SignMap) (t : List ℕ) → tuples_of (negated m) t ≡ negative (tuples_of m) t
 tuples_negated m t = elim (is_tuple_cases m.elements m.rank t) [
   | inl k ↦ on_tuples_at m.elements m.rank (chi_of (negated m)) t k.0
-      ∙ ap (product (sort_sign t)) (at-opposite m.signs (rank_of m.elements (sorted t)))
+      ∙ ap (product (sort_sign t)) (at-map-opposite m.signs (rank_of m.elements (sorted t)))
       ∙ product-opposite_right (sort_sign t) (chi_of m (sorted t))
       ∙ ap opposite (sym (on_tuples_at m.elements m.rank (chi_of m) t k.0))
   | inr k ↦ on_tuples_off m.elements m.rank (chi_of (negated m)) t k.0

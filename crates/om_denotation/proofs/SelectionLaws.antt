@@ -1,4 +1,4 @@
--- What is contained in a list, and the selection of those with a property.
+-- The selection of those of a list with a property.
 --
 -- Main results: the selected are the members with the property (those_contained, contained_those); they are no more
 -- than the members (those_few), distinct where the members are (those_distinct), and have what all members have
@@ -6,26 +6,11 @@
 use Rattle.std.specs.List.{Contains, All, AllPairs}
 use Rattle.std.proofs.lemmas.List.Elements.{All-contains, All-contains_itself}
 use Rattle.std.proofs.lemmas.List.Kept.{AllPairs-cons}
-use Rattle.std.proofs.Common.{zero, suc, ◌≡◌, ◌≢◌, ◌<◌, ◌≤◌, ◌⊎◌, List, [], ◌∷◌, length, refl, sym, ap, subst, inl, inr}
+use Rattle.std.proofs.Common.{suc, ◌≢◌, ◌≤◌, List, [], ◌∷◌, length, sym, ap, subst, inl, inr}
 use Rattle.std.proofs.Common.{⊎_elim, arith}
 use Rattle.om_signs.specs.declared.sign.Sign.{Sign}
+use Rattle.om_signs.proofs.Contained.{none_contained, contains_first, contains_later, first_or_later}
 use Rattle.om_covectors.specs.Minimality.{AreThose}
-
--- ---- contained in a list
-
-pub none_contained : (X : List Sign) → Contains [] X → ⊥
-none_contained X h = let l : h.0 < 0 = h.1 in omega arith
-
-pub contains_first : (Y : List Sign) (Ys : List (List Sign)) → Contains (Y ∷ Ys) Y
-contains_first Y Ys = (0, omega arith, refl)
-
-pub contains_later : (Y : List Sign) (Ys : List (List Sign)) (X : List Sign) → Contains Ys X → Contains (Y ∷ Ys) X
-contains_later Y Ys X h = (suc h.0, (let l = h.1 in omega arith), h.2)
-
-pub first_or_later : (Y : List Sign) (Ys : List (List Sign)) (X : List Sign) → Contains (Y ∷ Ys) X → (Y ≡ X)
-    ⊎ Contains Ys X
-first_or_later Y Ys X (zero, l, e) = inl e
-first_or_later Y Ys X (suc k, l, e) = inr (k, omega arith, e)
 
 -- ---- those with a property
 

@@ -1,14 +1,16 @@
 -- A map is known by its values on tuples, and a chirotope up to sign by its covectors.
 --
 -- Main results: same_map; same_up_to_sign, same_by_covectors; normal_up_to_sign, one_normal_form.
-use Rattle.std.specs.Prelude.{ℕ, ◌≡◌, ◌⊎◌, ◌<◌, List, [], ◌∷◌, length, map, refl}
+use Rattle.std.specs.Prelude.{ℕ, ◌≡◌, ◌⊎◌, ◌<◌, List, length, map, refl}
 use Rattle.std.proofs.Common.{sym, ◌∙◌, ap, subst, inl, inr, arith}
 use Rattle.std.proofs.lemmas.Bool.{cases_lt}
 use Rattle.std.proofs.lemmas.List.{ext_get_or, length-map}
 use Rattle.om_signs.specs.declared.sign.Sign.{Sign}
-use Rattle.om_signs.specs.declared.sign.Sign.TheVariants.{Minus, Zero, Plus}
+use Rattle.om_signs.specs.declared.sign.Sign.TheVariants.{Zero, Plus}
 use Rattle.om_signs.specs.Sign.{opposite}
 use Rattle.om_signs.specs.SignVec.{at}
+use Rattle.om_signs.proofs.SignLaws.{opposite_nonzero, zero_not_minus, zero_not_plus, minus_not_plus}
+use Rattle.om_signs.proofs.ListPlaces.{at-map-opposite, map-opposite-opposite}
 use Rattle.om_subsets.specs.Subsets.{IsSubsetFrom, choose, subset_at, rank_of}
 use Rattle.om_subsets.proofs.Order.{listed}
 use Rattle.om_laws.specs.Bridge.{as_function, as_list}
@@ -21,13 +23,12 @@ use Rattle.om_laws.specs.Signs.{IsNonzero}
 use Rattle.om_laws.specs.Vectors.{SignVector, IsSupportedOn}
 use Rattle.om_laws.proofs.BridgeLaws.{as_function-as_list, length-as_list}
 use Rattle.om_laws.proofs.PairCovectors.{covector_same}
-use Rattle.om_laws.proofs.SignLaws.{opposite-opposite, opposite_nonzero}
 use Rattle.om_laws.proofs.SortingLaws.{value_increasing}
 use Rattle.om_laws.proofs.TupleSizes.{on_tuples_at, on_tuples_tuple}
 use Rattle.om_laws.proofs.UniquenessLaws.{unique}
 use Rattle.om_chirotope.specs.Map.{SignMap, IsMap, chi_of, negated, IsLedBy}
 use Rattle.om_chirotope.specs.Chirotope.{IsChirotope}
-use Rattle.om_chirotope.proofs.Negation.{at-opposite, negated_chirotope}
+use Rattle.om_chirotope.proofs.Negation.{negated_chirotope}
 use Rattle.om_chirotope.proofs.Theory.{theory_chirotope, to_tuple}
 use Rattle.om_denotation.specs.Covectors.{IsCovectorOfChirotope}
 use Rattle.om_denotation.specs.Denotation.{DenoteTheSame}
@@ -67,11 +68,7 @@ negated_map : (m : SignMap) → IsMap m → IsMap (negated m)
 negated_map m w = record { part = w.part; whole = length-map m.signs opposite ∙ w.whole }
 
 negated_twice : (m : SignMap) → negated (negated m) ≡ m
-negated_twice m = let e = twice m.signs in rw e refl
-  where
-    twice : (xs : List Sign) → map opposite (map opposite xs) ≡ xs
-    twice [] = refl
-    twice (x ∷ xs) = ap (λ s. s ∷ map opposite (map opposite xs)) (opposite-opposite x) ∙ ap (λ l. x ∷ l) (twice xs)
+negated_twice m = let e = map-opposite-opposite m.signs in rw e refl
 
 -- the ranks agree, since some tuple has a nonzero value
 same_rank : (m k : SignMap) → IsChirotope m → ((t : List ℕ) → IsNonzero (tuples_of m t) → IsNonzero (tuples_of k t))
@@ -137,22 +134,13 @@ flipped m k (inr q) = inr (sym (ap negated q ∙ negated_twice m))
 
 led_once : (xs : List Sign) → IsLedBy Plus xs → IsLedBy Plus (map opposite xs) → ⊥
 led_once xs (i, p, before) (j, q, former) = elim (cases_lt i j) [
-  | inl l ↦ zero_is_no_plus (sym (former i l) ∙ at-opposite xs i ∙ ap opposite p)
+  | inl l ↦ zero_not_minus (sym (former i l) ∙ at-map-opposite xs i ∙ ap opposite p)
   | inr g ↦ elim (cases_lt j i) [
-    | inl l ↦ zero_is_no_plus' (sym (ap opposite (before j l)) ∙ sym (at-opposite xs j) ∙ q)
+    | inl l ↦ zero_not_plus (sym (ap opposite (before j l)) ∙ sym (at-map-opposite xs j) ∙ q)
     | inr k ↦ let e : i ≡ j = omega arith in
-        minus_is_no_plus (sym (ap opposite p) ∙ sym (at-opposite xs i) ∙ ap (at (map opposite xs)) e ∙ q)
+        minus_not_plus (sym (ap opposite p) ∙ sym (at-map-opposite xs i) ∙ ap (at (map opposite xs)) e ∙ q)
   ]
 ]
-  where
-    zero_is_no_plus : Zero ≡ Minus → ⊥
-    zero_is_no_plus e = cc
-
-    zero_is_no_plus' : Zero ≡ Plus → ⊥
-    zero_is_no_plus' e = cc
-
-    minus_is_no_plus : Minus ≡ Plus → ⊥
-    minus_is_no_plus e = cc
 
 pub one_normal_form : (m a b : SignMap) → IsNormalFormOf m a → IsNormalFormOf m b → a ≡ b
 one_normal_form m a b h k = by_case h.same k.same

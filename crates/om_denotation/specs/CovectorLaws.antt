@@ -2,18 +2,17 @@
 --
 -- Main results: zero_of_chirotope, zero_of_circuits, zero_of_cocircuits, negative_of_chirotope, negative_of_circuits,
 -- negative_of_cocircuits, zero_of_covectors, negative_of_covectors
-use Rattle.std.specs.Prelude.{ℕ, ◌≡◌, ◌+◌, ◌-◌, ◌≢◌, List, length, map, replicate, refl}
+use Rattle.std.specs.Prelude.{ℕ, ◌≡◌, ◌+◌, ◌-◌, ◌≢◌, List, length, map, replicate}
 use Rattle.std.proofs.Common.{sym, ◌∙◌, ap, subst, arith}
-use Rattle.std.proofs.Math.ListN.{get_or-map}
 use Rattle.std.specs.List.{Contains}
 use Rattle.std.proofs.lemmas.List.Elements.{All-contains}
-use Rattle.std.proofs.lemmas.List.{get_or-replicate, get_or_past, length-map, length-replicate, ext_get_or}
-use Rattle.std.proofs.lemmas.Bool.{cases_lt}
-use Rattle.std.proofs.Common.{inl, inr}
+use Rattle.std.proofs.lemmas.List.{length-map, length-replicate, ext_get_or}
 use Rattle.om_signs.specs.declared.sign.Sign.{Sign}
 use Rattle.om_signs.specs.declared.sign.Sign.TheVariants.{Minus, Zero, Plus}
 use Rattle.om_signs.specs.Sign.{opposite, product}
 use Rattle.om_signs.specs.SignVec.{at, IsInSupport, HasProduct, IsOrthogonal, IsConformal}
+use Rattle.om_signs.proofs.SignLaws.{plus_nonzero, minus_nonzero, opposite-opposite, product-opposite_left}
+use Rattle.om_signs.proofs.ListPlaces.{at-map-opposite, at-replicate}
 use Rattle.om_chirotope.specs.Map.{SignMap}
 use Rattle.om_chirotope.specs.Chirotope.{IsSound}
 use Rattle.om_members.specs.Vectors.{IsZero}
@@ -25,23 +24,11 @@ use Rattle.om_covectors.specs.CovectorSets as covector_sets
 
 -- ---- the zero vector
 
-pub at_zero : (n i : ℕ) → at (replicate n Zero) i ≡ Zero
-at_zero n i = elim (cases_lt i n) [
-  | inl lt ↦ get_or-replicate n i Zero Zero lt
-  | inr ge ↦ let l = length-replicate n Zero in get_or_past (replicate n Zero) i Zero (rw l ge)
-]
-
 product_with_zero : (n : ℕ) (Y : List Sign) (i : ℕ) → product (at (replicate n Zero) i) (at Y i) ≡ Zero
-product_with_zero n Y i = ap (λ s. product s (at Y i)) (at_zero n i)
+product_with_zero n Y i = ap (λ s. product s (at Y i)) (at-replicate n i)
 
 no_product : (n : ℕ) (Y : List Sign) (s : Sign) → s ≢ Zero → HasProduct (replicate n Zero) Y s → ⊥
 no_product n Y s nonzero p = nonzero (sym p.1 ∙ product_with_zero n Y p.0)
-
-plus_nonzero : Plus ≢ Zero
-plus_nonzero e = cc
-
-minus_nonzero : Minus ≢ Zero
-minus_nonzero e = cc
 
 zero_orthogonal : (n : ℕ) (Y : List Sign) → IsOrthogonal (replicate n Zero) Y
 zero_orthogonal n Y =
@@ -59,30 +46,20 @@ zero_of_circuits c v =
 pub zero_of_cocircuits : (c : Listing) → IsSignedSet c.elements c.members
     → IsCovectorOfCocircuits c (replicate c.elements Zero)
 zero_of_cocircuits c v =
-    record { size = length-replicate c.elements Zero; composed = λ i nonzero. absurd (nonzero (at_zero c.elements i)) }
+    record {
+      size = length-replicate c.elements Zero;
+      composed = λ i nonzero. absurd (nonzero (at-replicate c.elements i));
+    }
 
 -- ---- the negative
 
-at_negative : (X : List Sign) (i : ℕ) → at (map opposite X) i ≡ opposite (at X i)
-at_negative X i = get_or-map opposite X i Zero
-
-opposite_twice : (s : Sign) → opposite (opposite s) ≡ s
-opposite_twice Minus = refl
-opposite_twice Zero = refl
-opposite_twice Plus = refl
-
-product_opposite : (s t : Sign) → product (opposite s) t ≡ opposite (product s t)
-product_opposite Minus t = sym (opposite_twice t)
-product_opposite Zero t = refl
-product_opposite Plus t = refl
-
 product_negative : (X Y : List Sign) (i : ℕ) → product (at (map opposite X) i) (at Y i)
     ≡ opposite (product (at X i) (at Y i))
-product_negative X Y i = ap (λ s. product s (at Y i)) (at_negative X i) ∙ product_opposite (at X i) (at Y i)
+product_negative X Y i = ap (λ s. product s (at Y i)) (at-map-opposite X i) ∙ product-opposite_left (at X i) (at Y i)
 
 -- from a product with the negative of a vector to the product with the vector
 product_back : (X Y : List Sign) (s : Sign) → HasProduct (map opposite X) Y s → HasProduct X Y (opposite s)
-product_back X Y s p = (p.0, sym (opposite_twice _) ∙ ap opposite (sym (product_negative X Y p.0) ∙ p.1))
+product_back X Y s p = (p.0, sym (opposite-opposite _) ∙ ap opposite (sym (product_negative X Y p.0) ∙ p.1))
 
 product_forth : (X Y : List Sign) (s : Sign) → HasProduct X Y s → HasProduct (map opposite X) Y (opposite s)
 product_forth X Y s p = (p.0, product_negative X Y p.0 ∙ ap opposite p.1)
@@ -112,10 +89,10 @@ negative_of_circuits c X v l h =
     }
 
 nonzero_back : (X : List Sign) (i : ℕ) → IsInSupport (map opposite X) i → IsInSupport X i
-nonzero_back X i nonzero e = nonzero (at_negative X i ∙ ap opposite e)
+nonzero_back X i nonzero e = nonzero (at-map-opposite X i ∙ ap opposite e)
 
 same_negative : (X Y : List Sign) (i : ℕ) → at Y i ≡ at X i → at (map opposite Y) i ≡ at (map opposite X) i
-same_negative X Y i e = at_negative Y i ∙ ap opposite e ∙ sym (at_negative X i)
+same_negative X Y i e = at-map-opposite Y i ∙ ap opposite e ∙ sym (at-map-opposite X i)
 
 conformal_negative : (X Y : List Sign) → IsConformal Y X → IsConformal (map opposite Y) (map opposite X)
 conformal_negative X Y h i nonzero = same_negative X Y i (h i (nonzero_back Y i nonzero))
@@ -135,7 +112,7 @@ negative_of_cocircuits c X v l h = record {
 
 zero_is : (X : List Sign) (n : ℕ) → length X ≡ n → IsZero X → X ≡ replicate n Zero
 zero_is X n size zero = ext_get_or Zero X (replicate n Zero) (size ∙ sym (length-replicate n Zero))
-    (λ i l. (let e : i ≡ i + 1 - 1 = omega arith in ap (at X) e) ∙ zero (i + 1) ∙ sym (at_zero n i))
+    (λ i l. (let e : i ≡ i + 1 - 1 = omega arith in ap (at X) e) ∙ zero (i + 1) ∙ sym (at-replicate n i))
 
 contains_replaced : (members : List (List Sign)) (X Y : List Sign) → X ≡ Y → Contains members X → Contains members Y
 contains_replaced members X Y same c = subst (Contains members) same c

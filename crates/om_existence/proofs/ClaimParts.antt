@@ -12,6 +12,7 @@ use Rattle.om_certificate.specs.declared.verdict.Verdict.{Verdict}
 use Rattle.om_certificate.specs.declared.verdict.Verdict.TheVariants.{Realizable, Nonrealizable, Undecided, Limit}
 use Rattle.om_certificate.specs.Refusals.{of_rank_3}
 use Rattle.om_certificate.specs.Validity.{IsWithinLimits}
+use Rattle.om_certificate.proofs.Refusing.{valid_shows}
 use Rattle.om_answer.specs.Claim.{HasEvidenceWithinLimits}
 use Rattle.om_answer.specs.declared.claim.Claim.{Claim}
 use Rattle.om_answer.specs.declared.line.Line.{Line}
@@ -23,7 +24,6 @@ use Rattle.om_plane.specs.Claims.{valid_line, refusal_line, EvidenceMeans, refus
 use Rattle.om_reply.specs.RefusalLines.{refused_line}
 use Rattle.om_plane.specs.Claims.{limited, judged, ClaimMeans, fails_axioms, flat, verified}
 use Rattle.om_existence.specs.Possible.{IsPossible}
-use Rattle.om_plane.proofs.DecisionLaws.{evidence_shown}
 use Rattle.om_existence.proofs.Possible.{held, then, mapped, either_way}
 use Rattle.om_existence.proofs.EvidenceParts.{evidence_possible}
 use Rattle.om_existence.proofs.RefusalParts.{refusal_possible}
@@ -32,7 +32,7 @@ use Rattle.om_existence.proofs.Worked.{worked_possible, chirotope_of}
 evidence_meant : (m : SignMap) (e : Evidence) → IsSound m → m.rank ≡ 3 → IsWithinLimits e
     → IsPossible ((l : Line) × EvidenceMeans m e l)
 evidence_meant m e sound three within = mapped (λ h. elim h [
-  | inl is ↦ (valid_line e, valid is (evidence_shown m e is))
+  | inl is ↦ (valid_line e, valid is (valid_shows m e is))
   | inr r ↦ (refusal_line r.0, refused r.0 (of_rank_3 r.0 three r.1))
 ]) (evidence_possible m e sound three within)
 

@@ -1,9 +1,9 @@
 -- Each document has a conversion to each kind.
 --
 -- Main results: conversion_possible.
-use Rattle.std.specs.Prelude.{ℕ, ◌≡◌, ◌↔◌, ◌≤◌, ◌⊎◌, Bool, true, false, List, length, refl}
+use Rattle.std.specs.Prelude.{ℕ, ◌≡◌, ◌↔◌, ◌≤◌, true, false, List, length, refl}
 use Rattle.std.proofs.Common.{sym, ◌∙◌, inl, inr}
-use Rattle.std.proofs.lemmas.Bool.{cases_lt}
+use Rattle.std.proofs.lemmas.Bool.{cases_lt, cases_Bool}
 use Rattle.om_signs.specs.declared.limits.TheConstants.{MAX_MEMBERS, MAX_VALUES}
 use Rattle.om_signs.specs.declared.sign.Sign.{Sign}
 use Rattle.om_subsets.specs.Subsets.{choose}
@@ -168,12 +168,8 @@ module _ (d : Document) (w : IsWorked d) (c : SignMap) (its : IsItsChirotope d c
       mapped covectors_made
       (listed kind.Covectors (IsCovectorOfChirotope c) (covector_in d w c its) (λ X x. x.size) few)
 
-true_or_false : (b : Bool) → (b ≡ true) ⊎ (b ≡ false)
-true_or_false true = inl refl
-true_or_false false = inr refl
-
 pub conversion_possible : (k : Kind) (d : Document) → IsWorked d → IsPossible ((a : Answer) × IsConversion k d a)
-conversion_possible k d w = elim (true_or_false (has_kind k d.body)) [
+conversion_possible k d w = elim (cases_Bool (has_kind k d.body)) [
   | inl own ↦ held (shows d, itself own w.form w.axioms)
   | inr other ↦ then (either_way ((values : ℕ) × IsTooWideAs k d values)) (λ e. elim e [
     | inl h ↦ held (says (line.LimitValues h.0), wide h.0 other h.1)

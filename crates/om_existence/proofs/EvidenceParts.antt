@@ -6,10 +6,11 @@ use Rattle.std.specs.Prelude.{Some, All, refl}
 use Rattle.std.proofs.Common.{suc, get_or, sym, ◌∙◌, ap, subst, inl, inr, arith}
 use Rattle.std.proofs.lemmas.Bool.{cases_eq, cases_lt}
 use Rattle.std.proofs.lemmas.List.Elements.{All-nil, All-cons, All-weaker}
+use Rattle.std.proofs.lemmas.Option.{same_Some}
+use Rattle.om_signs.proofs.SignLaws.{same_or_different}
 use Rattle.om_subsets.specs.Lists as lists
 use Rattle.om_subsets.specs.Members.{Chosen}
 use Rattle.om_subsets.specs.Subsets.{IsTriple}
-use Rattle.om_laws.proofs.SignLaws.{same_or_different}
 use Rattle.om_chirotope.specs.Chirotope.{IsSound}
 use Rattle.om_chirotope.specs.Map.{SignMap, chi_of}
 use Rattle.om_vectors.specs.WholeVectors.{WholeVector}
@@ -163,9 +164,6 @@ record IsOtherAt (ws : List Weight) (bs : List (List ℕ)) (k : ℕ) (w : Weight
   pub other : slice_get bs k ≢ Some (bracket_of w)
   pub earlier : map bracket_of (take k ws) ≡ take k bs
 
-same_some : (b c : List ℕ) → Some b ≡ Some c → b ≡ c
-same_some b c e = cc
-
 brackets_or_first : (ws : List Weight) (bs : List (List ℕ)) → length ws ≡ length bs
     → IsPossible ((map bracket_of ws ≡ bs) ⊎ ((k : ℕ) × ((w : Weight) × IsOtherAt ws bs k w)))
 brackets_or_first [] [] l = held (inl refl)
@@ -174,7 +172,7 @@ brackets_or_first (w ∷ ws) [] l = absurd (omega (arith, l))
 brackets_or_first (w ∷ ws) (b ∷ bs) l = then (either_way (bracket_of w ≡ b)) (λ h. elim h [
   | inr not ↦ held (inr (
     0,
-    (w, record { here = refl; other = λ e. not (sym (same_some b (bracket_of w) e)); earlier = refl }),
+    (w, record { here = refl; other = λ e. not (sym (same_Some b (bracket_of w) e)); earlier = refl }),
   ))
   | inl is ↦ mapped (λ rest. elim rest [
     | inl all ↦ inl (ap (λ c. c ∷ map bracket_of ws) is ∙ ap (λ cs. b ∷ cs) all)

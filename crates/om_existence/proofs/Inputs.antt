@@ -14,6 +14,7 @@ use Rattle.om_answer.specs.declared.claim.Claim.{Claim}
 use Rattle.om_answer.specs.declared.line.Line.{Line}
 use Rattle.om_answer.specs.declared.line.Line.TheVariants as line
 use Rattle.om_answer.specs.Claim.{IsClaim}
+use Rattle.om_answer.proofs.ClaimSizes.{evidence_within}
 use Rattle.om_words.specs.declared.reads.Reads.TheVariants as source
 use Rattle.om_words.specs.declared.task.Task.{Task}
 use Rattle.om_words.specs.declared.task.Task.TheVariants.{Accept, Member, Convert, Dual, Delete, Contract, Reorient}
@@ -39,7 +40,7 @@ use Rattle.om_existence.specs.Existence.{HasAnswer}
 use Rattle.om_existence.proofs.Possible.{held, then, mapped, either_way}
 use Rattle.om_existence.proofs.Worked.{IsWorked, worked_possible, for_chirotope_possible, for_kept_chirotope_possible}
 use Rattle.om_existence.proofs.WordParts.{words_possible}
-use Rattle.om_existence.proofs.TextParts.{readings, claim_readings, document_form, claim_form, claim_within}
+use Rattle.om_existence.proofs.TextParts.{readings, claim_readings, document_form, claim_form}
 use Rattle.om_reply.specs.RefusalLines.{refused_line}
 use Rattle.om_existence.proofs.RefusalParts.{refusal_possible}
 use Rattle.om_existence.proofs.MembershipParts.{membership_possible}
@@ -172,7 +173,7 @@ on_input t lawful bytes (a_claim r) = elim (cases_lt MAX_INPUT (length bytes)) [
   | inl past ↦ held (says line.RefusedLong, long (λ e. let same = sym r ∙ e in cc) past)
   | inr short ↦ elim (claim_readings bytes) [
     | inl h ↦ mapped (λ l. (says l.0, claimed h.0 l.0 r short h.1 l.1))
-        (claim_possible h.0 (claim_form (lines bytes) h.0 h.1) (claim_within bytes h.0 h.1 short))
+        (claim_possible h.0 (claim_form (lines bytes) h.0 h.1) (evidence_within bytes h.0 h.1 short))
     | inr f ↦ held (says (line.RefusedLine f.0 f.1), faulty_claim f.0 f.1 r short f.2)
   ]
 ]

@@ -6,10 +6,10 @@ use Rattle.std.proofs.Common.{zero, suc, sym, ◌∙◌, ap, subst, inl, inr, ar
 use Rattle.std.proofs.lemmas.Bool.{cases_eq}
 use Rattle.om_signs.specs.declared.sign.Sign.{Sign}
 use Rattle.om_signs.specs.declared.sign.Sign.TheVariants.{Zero}
+use Rattle.om_signs.proofs.SignLaws.{zero_or_nonzero}
 use Rattle.om_subsets.specs.Members.{Chosen}
 use Rattle.om_subsets.specs.Subsets.{choose, subset_at, rank_of, IsMember, IsTriple}
 use Rattle.om_subsets.proofs.Order.{rank_from-lt, listed, from_increasing}
-use Rattle.om_members.proofs.MaskLaws.{zero_or_not}
 use Rattle.om_chirotope.specs.Chirotope.{HasOrthogonalPairs, IsSound}
 use Rattle.om_chirotope.specs.Map.{SignMap, chi_of}
 use Rattle.om_mutate.specs.Mutations.{flipped, IsMutation, ListsMutations}
@@ -94,7 +94,7 @@ map_flip_possible : (a b c : ℕ) → AreIncreasing a b c → (m : SignMap) → 
     → IsPossible ((answer : Answer) × IsFlipOfMap (triple_of a b c) m answer)
 map_flip_possible a b c is m s high = elim (cases_eq m.rank 3) [
   | inr other ↦ held (says (line.RefusedNotrank3 m.rank), other_rank other)
-  | inl three ↦ elim (zero_or_not (chi_of m t)) [
+  | inl three ↦ elim (zero_or_nonzero (chi_of m t)) [
     | inl null ↦ held (says line.RefusedNotbasis, no_basis three null)
     | inr some ↦
         let triple = lawful_triple m.elements a b c is high in

@@ -8,6 +8,7 @@ use Rattle.std.proofs.Common.{zero, suc, sym, ap, subst, inl, inr, arith}
 use Rattle.std.proofs.lemmas.Bool.{cases_eq, cases_lt}
 use Rattle.std.proofs.lemmas.List.Elements.{Contains-append_left, Contains-push, Contains-push_cases}
 use Rattle.om_signs.specs.declared.limits.TheConstants.{MAX_MULTIPLICITY}
+use Rattle.om_signs.proofs.Contained.{none_contained}
 use Rattle.om_rows.specs.declared.column.Column.{Column}
 use Rattle.om_rows.specs.Rows.{IsPlace}
 use Rattle.om_simplex.specs.declared.count.Count.{Count}
@@ -19,19 +20,13 @@ use Rattle.om_simplex.specs.Results.{own, AreOwnNarrow, IsTimes, IsLeastFactor}
 use Rattle.om_simplex.specs.Results.{IsCountOf, AreColumnsIncreasing, AreCounts}
 use Rattle.om_simplex.specs.States.{State, basis_number, last_of}
 use Rattle.om_simplex.specs.Values.{IsReady}
-use Rattle.om_simplex.proofs.Counting.{here, later, none_member}
 use Rattle.om_simplex.proofs.Gcds.{scaled_once}
+use Rattle.om_simplex.proofs.Scalings.{increasing_push}
 use Rattle.om_existence.specs.Possible.{IsPossible}
 use Rattle.om_existence.proofs.ValueParts.{times_down, own_is, last_is, own_possible, least_factor, times_possible}
 use Rattle.om_existence.proofs.Possible.{held, then, mapped, either_way}
 
 -- ---- lists of counts
-
-count_push : (cs : List Count) (c : Count) → AreColumnsIncreasing cs
-    → ((d : Count) → Contains cs d → d.column < c.column) → AreColumnsIncreasing (cs ++ c ∷ [])
-count_push [] c h f = tt
-count_push (x ∷ []) c h f = (f x (here x []), tt)
-count_push (x ∷ y ∷ ys) c h f = (h.0, count_push (y ∷ ys) c h.1 (λ d k. f d (later x d (y ∷ ys) k)))
 
 same_parts : (c d : Count) → c.column ≡ d.column → c.times ≡ d.times → c ≡ d
 same_parts c d p q = λ i. record { column = p i; times = q i }
@@ -70,7 +65,7 @@ module _ (columns : List Column) (m : ℕ) (s : State) (ready : IsReady columns 
     none_below : AreCountsBelow 0 []
     none_below = record {
       increasing = tt;
-      members = λ c. (λ k. absurd (none_member c k), λ h. let l = h.1 in absurd (omega (arith, l)));
+      members = λ c. (λ k. absurd (none_contained c k), λ h. let l = h.1 in absurd (omega (arith, l)));
     }
 
     none_here : (b : ℕ) (cs : List Count) → AreCountsBelow b cs
@@ -89,7 +84,7 @@ module _ (columns : List Column) (m : ℕ) (s : State) (ready : IsReady columns 
     one_here : (b : ℕ) (cs : List Count) (d : Count) → AreCountsBelow b cs → IsCountOf columns m s factor d
         → d.column ≡ b → AreCountsBelow (suc b) (cs ++ d ∷ [])
     one_here b cs d h is at = record {
-      increasing = count_push cs d h.increasing (λ c k. let l = ((h.members c).0 k).1 in omega (arith, l, at));
+      increasing = increasing_push cs d h.increasing (λ c k. let l = ((h.members c).0 k).1 in omega (arith, l, at));
       members = λ c. (
         λ k. elim (Contains-push_cases cs d c k) [
           | inl there ↦ let q = (h.members c).0 there in let l = q.1 in (q.0, omega (arith, l))

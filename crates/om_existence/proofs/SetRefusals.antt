@@ -8,10 +8,11 @@ use Rattle.std.proofs.lemmas.List.{get_or_past}
 use Rattle.om_signs.specs.declared.sign.Sign.{Sign}
 use Rattle.om_signs.specs.declared.sign.Sign.TheVariants.{Zero}
 use Rattle.om_signs.specs.SignVec.{compose, at_element}
+use Rattle.om_signs.proofs.SignLaws.{same_or_different}
 use Rattle.om_members.specs.Positions.{IsPosition, member_at, IsBefore}
 use Rattle.om_members.specs.Scans.{nth}
 use Rattle.om_members.specs.Vectors.{negated, IsZero, HasSupportIn}
-use Rattle.om_members.proofs.DecisionLaws.{IsDecided, not_false, decided_either, same_sign, same_vector, each_place}
+use Rattle.om_members.proofs.DecisionLaws.{IsDecided, not_false, decided_either, same_vector, each_place}
 use Rattle.om_members.proofs.DecisionLaws.{some_member, is_contained}
 use Rattle.om_members.proofs.ScanLaws.{nth_contained}
 use Rattle.om_circuits.specs.declared.set_refused.SetRefused.{SetRefused}
@@ -49,7 +50,7 @@ position_of members X h = record {
 
 -- a vector is zero, or it isn't
 zero_or_other : (Z : List Sign) → IsDecided (IsZero Z)
-zero_or_other Z = each_place (length Z + 1) (λ f. at_element Z f ≡ Zero) (λ f. same_sign (at_element Z f) Zero)
+zero_or_other Z = each_place (length Z + 1) (λ f. at_element Z f ≡ Zero) (λ f. same_or_different (at_element Z f) Zero)
     (λ f ge. get_or_past Z (f - 1) Zero (omega arith))
 
 -- ---- circuits

@@ -6,6 +6,7 @@ use Rattle.std.proofs.Common.{zero, suc, sym, subst, inl, inr, arith}
 use Rattle.std.proofs.lemmas.Bool.{cases_eq}
 use Rattle.om_subsets.specs.Lists.{IsBefore}
 use Rattle.om_subsets.specs.Subsets.{IsSubsetFrom, IsMember}
+use Rattle.om_subsets.proofs.OneElement.{later_list}
 use Rattle.om_chirotope.specs.Chirotope.{IsChirotope}
 use Rattle.om_chirotope.specs.Map.{SignMap}
 use Rattle.om_chirotope.specs.ThreeTerm.{IsBasis}
@@ -45,15 +46,10 @@ with_this P low n xs h p = record {
   );
 }
 
-later_list : (low n : ℕ) (xs : List ℕ) → ((e : ℕ) → IsMember e xs → low < e) → IsSubsetFrom (low + 1) n xs
-    → IsSubsetFrom low (suc n) xs
-later_list low n [] f h = tt
-later_list low n (x ∷ xs) f h = inr (λ same. (let l = f x (inl refl) in absurd (omega (arith, l, same))), h)
-
 without_this : (P : ℕ → Type 0) (low n : ℕ) (xs : List ℕ) → AreThose P (low + 1) n xs → (P low → ⊥)
     → AreThose P low (suc n) xs
 without_this P low n xs h not = record {
-  list = later_list low n xs (λ e a. let l = ((h.exactly e).0 a).0 in omega (arith, l)) h.list;
+  list = later_list low n xs h.list;
   exactly = λ e. (
     λ a. let q = (h.exactly e).0 a in let l = q.0 in let g = q.1.0 in (omega (arith, l), (omega (arith, g), q.1.1)),
     λ q. elim (cases_eq e low) [

@@ -6,12 +6,13 @@ use Rattle.std.specs.List.{Contains}
 use Rattle.std.proofs.Common.{zero, suc, get_or, ap, subst, inl, inr, arith}
 use Rattle.std.proofs.lemmas.Bool.{cases_eq, cases_lt}
 use Rattle.std.proofs.lemmas.List.Elements.{Contains-append_left, Contains-push, Contains-push_cases}
+use Rattle.om_signs.proofs.Contained.{none_contained}
 use Rattle.om_chirotope.specs.Map.{SignMap}
 use Rattle.om_grassmann.specs.declared.statement.Statement.{Statement}
 use Rattle.om_grassmann.specs.Order.{IsBefore, IsIncreasing, AreAll}
 use Rattle.om_grassmann.specs.Statements.{IsLawful}
 use Rattle.om_grassmann.specs.Walk.{frame_place, place}
-use Rattle.om_grassmann.proofs.Counting.{none_in_empty, increasing_push, increasing_tail, head_before}
+use Rattle.om_grassmann.proofs.Counting.{increasing_push, increasing_tail, head_before}
 use Rattle.om_grassmann.proofs.OrderLaws.{before_total}
 use Rattle.om_grassmann.proofs.Places.{lawful_places, places_before}
 use Rattle.om_existence.specs.Possible.{IsPossible}
@@ -28,7 +29,7 @@ module _ (m : SignMap) (small : m.elements < 256) where
   none_below : AreBelow m 0 []
   none_below = record {
     increasing = tt;
-    members = λ s. (λ c. absurd (none_in_empty s c), λ h. let l = h.1 in absurd (omega (arith, l)));
+    members = λ s. (λ c. absurd (none_contained s c), λ h. let l = h.1 in absurd (omega (arith, l)));
   }
 
   -- no lawful statement at this place

@@ -1,8 +1,7 @@
 -- Bytes are a document or a claim, or have a first line at fault.
 --
--- Main results: readings, claim_readings; document_form, claim_form, claim_within.
-use Rattle.std.specs.Prelude.{ℕ, ◌≤◌, ◌⊎◌, List, length}
-use Rattle.om_signs.specs.declared.limits.TheConstants.{MAX_INPUT}
+-- Main results: readings, claim_readings; document_form, claim_form.
+use Rattle.std.specs.Prelude.{ℕ, ◌⊎◌, List}
 use Rattle.om_text.specs.declared.code.Code.{Code}
 use Rattle.om_text.specs.declared.document.Document.{Document}
 use Rattle.om_text.specs.Document.{IsDocument}
@@ -11,10 +10,9 @@ use Rattle.om_text.specs.Form.{IsInForm}
 use Rattle.om_text.specs.Lines.{lines, wordful}
 use Rattle.om_text.proofs.Forms.{document_form as spelled_form}
 use Rattle.om_text.proofs.Outcome.{document_or_fault}
-use Rattle.om_answer.proofs.ClaimSizes.{evidence_within}
 use Rattle.om_answer.proofs.OneReading.{claim_or_fault}
 use Rattle.om_answer.specs.declared.claim.Claim.{Claim}
-use Rattle.om_answer.specs.Claim.{IsClaim, HasEvidenceWithinLimits}
+use Rattle.om_answer.specs.Claim.{IsClaim}
 use Rattle.om_answer.specs.ClaimFault.{IsClaimFault}
 
 pub readings : (bytes : List ℕ) → ((d : Document) × IsDocument (lines bytes) d)
@@ -30,8 +28,3 @@ claim_readings bytes = claim_or_fault (lines bytes)
 
 pub claim_form : (ls : List (List ℕ)) (c : Claim) → IsClaim ls c → IsInForm c.document
 claim_form ls c is = spelled_form is.document c.document is.spelled
-
--- the evidence of a claim within the length of an input keeps its limits, so that each entry counts at least once
-pub claim_within : (bytes : List ℕ) (c : Claim) → IsClaim (lines bytes) c → length bytes ≤ MAX_INPUT
-    → HasEvidenceWithinLimits c.verdict
-claim_within bytes c is short = evidence_within bytes c is short

@@ -7,9 +7,9 @@ use Rattle.std.specs.Prelude.{ℕ, ◌≡◌, ◌≢◌, ◌-◌, ◌*◌, ◌<�
 use Rattle.std.proofs.Common.{zero, suc, sym, ◌∙◌, ap, subst, inl, inr, arith}
 use Rattle.std.proofs.Math.IntN.{pos-*ℤ-pos}
 use Rattle.std.proofs.lemmas.Bool.{cases_eq, cases_lt}
-use Rattle.std.proofs.lemmas.Int.{ints}
 use Rattle.std.proofs.lemmas.Nat.{mul-le}
 use Rattle.om_signs.specs.declared.limits.TheConstants.{MAX_MULTIPLICITY}
+use Rattle.om_signs.proofs.Rings.{pos-injective}
 use Rattle.om_rows.specs.declared.column.Column.{Column}
 use Rattle.om_rows.specs.Rows.{IsNarrow}
 use Rattle.om_simplex.specs.Results.{HasColumn, own, AreOwnNarrow, IsOwnWide, IsTimes, IsFactor, IsLeastFactor}
@@ -29,11 +29,8 @@ times_up n f a b x y e g h =
 
 pub times_down : (n f a b : ℕ) (x y : ℤ) → x ≡ pos a → y ≡ pos b → pos n *ℤ x ≡ pos f *ℤ y → n * a ≡ f * b
 times_down n f a b x y e g h =
-    same (n * a) (f * b)
+    pos-injective (n * a) (f * b)
     (sym (pos-*ℤ-pos n a) ∙ sym (ap (λ z. pos n *ℤ z) e) ∙ h ∙ ap (λ z. pos f *ℤ z) g ∙ pos-*ℤ-pos f b)
-  where
-    same : (p q : ℕ) → pos p ≡ pos q → p ≡ q
-    same p q r = omega (arith, ints)
 
 module _ (columns : List Column) (m : ℕ) (s : State) (ready : IsReady columns m s) where
   -- ---- the columns of the rows

@@ -4,8 +4,8 @@
 use Rattle.std.specs.Prelude.{ℕ, ◌≢◌, List, length}
 use Rattle.std.proofs.Common.{inl, inr}
 use Rattle.om_signs.specs.declared.sign.Sign.TheVariants.{Zero}
+use Rattle.om_signs.proofs.SignLaws.{zero_or_nonzero}
 use Rattle.om_subsets.specs.Subsets.{IsTriple}
-use Rattle.om_members.proofs.MaskLaws.{zero_or_not}
 use Rattle.om_chirotope.specs.Chirotope.{IsChirotope}
 use Rattle.om_vectors.specs.Realizations.{signs_map, triple_sign, IsRankLow}
 use Rattle.om_vectors.specs.WholeVectors.{WholeVector}
@@ -18,7 +18,7 @@ nonzero_possible : (vs : List WholeVector) → (IsRankLow vs → ⊥)
     → IsPossible ((t : List ℕ) × (IsTriple (length vs) t × (triple_sign vs t ≢ Zero)))
 nonzero_possible vs high none =
     high (low_rank_from vs
-    (λ t triple. elim (zero_or_not (triple_sign vs t))
+    (λ t triple. elim (zero_or_nonzero (triple_sign vs t))
     [ inl zero ↦ zero | inr other ↦ absurd (none (t, (triple, other))) ]))
 
 pub chirotope_possible : (vs : List WholeVector) → (IsRankLow vs → ⊥) → IsPossible (IsChirotope (signs_map vs))

@@ -1,15 +1,15 @@
 -- Words name a task, or one of them is at fault.
 --
 -- Main results: words_possible.
-use Rattle.std.specs.Prelude.{ℕ, ◌≡◌, ◌+◌, ◌⊎◌, List, [], ◌∷◌, ◌++◌, codes, length, refl}
+use Rattle.std.specs.Prelude.{ℕ, ◌≡◌, ◌+◌, ◌⊎◌, List, [], ◌∷◌, ◌++◌, length}
 use Rattle.std.proofs.Common.{sym, subst, inl, inr, append_assoc}
 use Rattle.std.proofs.lemmas.List.{append-nil}
 use Rattle.om_text.specs.Fault.{Begins}
 use Rattle.om_words.specs.declared.task.Task.{Task}
-use Rattle.om_words.specs.declared.task.Task.TheVariants.{Accept}
 use Rattle.om_words.specs.Tasks.{HasLawfulArguments}
 use Rattle.om_words.specs.Words.{AreCommand, Names, IsFault, at_word, at_end, IsUsage}
 use Rattle.om_words.proofs.TaskLaws.{lawful_named}
+use Rattle.om_words.proofs.WordLaws.{empty_begins}
 use Rattle.om_existence.specs.Possible.{IsPossible}
 use Rattle.om_existence.proofs.Possible.{held, then, either_way}
 
@@ -31,13 +31,9 @@ fault_behind Language before (word ∷ after) begun none =
     whole : (before ++ word ∷ []) ++ after ≡ before ++ word ∷ after
     whole = append_assoc before (word ∷ []) after
 
--- some command begins without a word: each does
-some_command : Begins AreCommand []
-some_command = (codes "accept" ∷ [], (Accept, record { arguments = []; first = refl; behind = refl }))
-
 pub words_possible : (words : List (List ℕ))
     → IsPossible (((k : ℕ) × IsUsage words k) ⊎ ((t : Task) × Names words t × HasLawfulArguments t))
 words_possible words = then (either_way (AreCommand words)) (λ e. elim e [
   | inl h ↦ held (inr (h.0, h.1, lawful_named words h.0 h.1))
-  | inr none ↦ then (fault_behind AreCommand [] words some_command none) (λ f. held (inl f))
+  | inr none ↦ then (fault_behind AreCommand [] words empty_begins none) (λ f. held (inl f))
 ])

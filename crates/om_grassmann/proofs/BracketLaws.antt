@@ -4,9 +4,10 @@
 use Rattle.std.specs.Prelude.{ℕ, ◌≡◌, ◌≢◌, ◌<◌, [], ◌∷◌}
 use Rattle.std.proofs.Common.{refl, sym, ◌∙◌, ap, subst, arith, inl, inr}
 use Rattle.std.proofs.lemmas.Bool.{cases_eq}
-use Rattle.om_signs.specs.declared.sign.Sign.{Sign}
-use Rattle.om_signs.specs.declared.sign.Sign.TheVariants.{Minus, Zero, Plus}
-use Rattle.om_signs.specs.Sign.{opposite, product}
+use Rattle.om_signs.specs.declared.sign.Sign.TheVariants.{Zero}
+use Rattle.om_signs.specs.Sign.{product}
+use Rattle.om_signs.proofs.SignLaws.{product-zero, left_factor_nonzero, right_factor_nonzero, nonzero_from_opposite}
+use Rattle.om_signs.proofs.SignLaws.{zero_from_opposite}
 use Rattle.om_laws.specs.Tuples.{sort_sign}
 use Rattle.om_chirotope.specs.Map.{SignMap, chi_of}
 use Rattle.om_chirotope.proofs.InOrder.{value_in_order}
@@ -19,24 +20,10 @@ use Rattle.om_grassmann.proofs.Triples.{IsThree, triple-subset, length-triple, a
 
 -- ---- the values
 
-zero_product : (s : Sign) → product s Zero ≡ Zero
-zero_product Minus = refl
-zero_product Zero = refl
-zero_product Plus = refl
-
-first_factor : (s t : Sign) → product s t ≢ Zero → s ≢ Zero
-first_factor s t n = λ q. n (rw q refl)
-
-second_factor : (s t : Sign) → product s t ≢ Zero → t ≢ Zero
-second_factor s t n = λ q. n (ap (product s) q ∙ zero_product s)
-
-turned : (s : Sign) → opposite s ≢ Zero → s ≢ Zero
-turned s n = λ q. n (ap opposite q)
-
 nonzero_sign : (m : SignMap) (x y z : ℕ) → bracket m x y z ≢ Zero → chi_of m (triple x y z) ≢ Zero
 unfolding bracket triple
 nonzero_sign m x y z n =
-    λ q. n (ap (product (sort_sign (x ∷ y ∷ z ∷ []))) q ∙ zero_product (sort_sign (x ∷ y ∷ z ∷ [])))
+    λ q. n (ap (product (sort_sign (x ∷ y ∷ z ∷ []))) q ∙ product-zero (sort_sign (x ∷ y ∷ z ∷ [])))
 
 nonzero_triple : (m : SignMap) (x y z : ℕ) → IsElement m.elements x → IsElement m.elements y → IsElement m.elements z
     → IsThree x y z → bracket m x y z ≢ Zero → IsNonzeroTriple m (triple x y z)
@@ -83,27 +70,27 @@ nonzero_brackets m st i p e = by_three (λ j. term m st j ≢ Zero → HasNonzer
     one : term m st 1 ≢ Zero → HasNonzeroBrackets m st 1
     one n = record {
       first = with_a st.b st.c b c p.apart.b p.apart.c (omega arith)
-          (first_factor (bracket m st.a st.b st.c) (bracket m st.a st.d st.e) n);
+          (left_factor_nonzero (bracket m st.a st.b st.c) (bracket m st.a st.d st.e) n);
       second = with_a st.d st.e d e' p.apart.d p.apart.e (omega arith)
-          (second_factor (bracket m st.a st.b st.c) (bracket m st.a st.d st.e) n);
+          (right_factor_nonzero (bracket m st.a st.b st.c) (bracket m st.a st.d st.e) n);
     }
 
     two : term m st 2 ≢ Zero → HasNonzeroBrackets m st 2
     two n = record {
       first = with_a st.b st.d b d p.apart.b p.apart.d (omega arith)
-          (first_factor (bracket m st.a st.b st.d) (bracket m st.a st.c st.e)
-          (turned (product (bracket m st.a st.b st.d) (bracket m st.a st.c st.e)) n));
+          (left_factor_nonzero (bracket m st.a st.b st.d) (bracket m st.a st.c st.e)
+          (nonzero_from_opposite (product (bracket m st.a st.b st.d) (bracket m st.a st.c st.e)) n));
       second = with_a st.c st.e c e' p.apart.c p.apart.e (omega arith)
-          (second_factor (bracket m st.a st.b st.d) (bracket m st.a st.c st.e)
-          (turned (product (bracket m st.a st.b st.d) (bracket m st.a st.c st.e)) n));
+          (right_factor_nonzero (bracket m st.a st.b st.d) (bracket m st.a st.c st.e)
+          (nonzero_from_opposite (product (bracket m st.a st.b st.d) (bracket m st.a st.c st.e)) n));
     }
 
     three : term m st 3 ≢ Zero → HasNonzeroBrackets m st 3
     three n = record {
       first = with_a st.b st.e b e' p.apart.b p.apart.e (omega arith)
-          (first_factor (bracket m st.a st.b st.e) (bracket m st.a st.c st.d) n);
+          (left_factor_nonzero (bracket m st.a st.b st.e) (bracket m st.a st.c st.d) n);
       second = with_a st.c st.d c d p.apart.c p.apart.d (omega arith)
-          (second_factor (bracket m st.a st.b st.e) (bracket m st.a st.c st.d) n);
+          (right_factor_nonzero (bracket m st.a st.b st.e) (bracket m st.a st.c st.d) n);
     }
 
 -- ---- the lists
@@ -218,10 +205,7 @@ pub nonzero_sides : (m : SignMap) (st : Statement) → IsLawful m st → HasNonz
     × HasNonzeroBrackets m st st.big
 nonzero_sides m st h =
     let n : term m st st.big ≢ Zero =
-    (λ q. h.signs.nonzero (turned_zero (term m st st.small) (sym h.signs.opposed ∙ q))) in (
+    (λ q. h.signs.nonzero (zero_from_opposite (term m st st.small) (sym h.signs.opposed ∙ q))) in (
       nonzero_brackets m st st.small h.placed h.two.first h.signs.nonzero,
       nonzero_brackets m st st.big h.placed h.two.second n,
     )
-  where
-    turned_zero : (s : Sign) → opposite s ≡ Zero → s ≡ Zero
-    turned_zero s = grind arith

@@ -11,7 +11,7 @@ use Rattle.std.proofs.Common.{refl, sym, ◌∙◌, ap, subst, arith, inl, inr, 
 use Rattle.std.proofs.lemmas.Bool.{false≢true}
 use Rattle.std.proofs.lemmas.Option.{IfSome_then}
 use Rattle.std.proofs.lemmas.List.Elements.{Contains-push, Contains-push_cases, Contains-append_left}
-use Rattle.std.proofs.lemmas.List.Elements.{Contains-append_right, Contains-append_cases}
+use Rattle.om_signs.proofs.Contained.{none_contained, first_or_later, contains_first, contains_later}
 use Rattle.om_chirotope.specs.Map.{SignMap}
 use Rattle.om_grassmann.specs.declared.statement.Statement.{Statement}
 use Rattle.om_grassmann.specs.Statements.{IsLawful}
@@ -42,27 +42,12 @@ following_next m low s r l e hs h = IfSome_then r h (λ t f. next_from m low s t
 
 -- ---- lists of statements
 
-pub none_in_empty : (s : Statement) → Contains [] s → ⊥
-none_in_empty s c = let h = c.1 in omega arith
-
-only_member : (x u : Statement) → Contains (x ∷ []) u → x ≡ u
-only_member x u c = elim (Contains-push_cases [] x u c) [ inl h ↦ absurd (none_in_empty u h) | inr q ↦ q ]
-
-pub member_cases : (x : Statement) (xs : List Statement) (u : Statement) → Contains (x ∷ xs) u → (x ≡ u) ⊎ Contains xs u
-member_cases x xs u c = elim (Contains-append_cases (x ∷ []) xs u c) [ inl h ↦ inl (only_member x u h) | inr h ↦ inr h ]
-
-pub head_member : (x : Statement) (xs : List Statement) → Contains (x ∷ xs) x
-head_member x xs = Contains-append_left (x ∷ []) xs x (Contains-push [] x)
-
-pub tail_member : (x : Statement) (xs : List Statement) (u : Statement) → Contains xs u → Contains (x ∷ xs) u
-tail_member x xs u c = Contains-append_right (x ∷ []) xs u c
-
 pub increasing_push : (xs : List Statement) (t : Statement) → IsIncreasing xs
     → ((u : Statement) → Contains xs u → IsBefore u t) → IsIncreasing (xs ++ t ∷ [])
 increasing_push [] t h before = tt
-increasing_push (x ∷ []) t h before = (before x (head_member x []), tt)
+increasing_push (x ∷ []) t h before = (before x (contains_first x []), tt)
 increasing_push (x ∷ y ∷ ys) t h before =
-    (h.0, increasing_push (y ∷ ys) t h.1 (λ u c. before u (tail_member x (y ∷ ys) u c)))
+    (h.0, increasing_push (y ∷ ys) t h.1 (λ u c. before u (contains_later x (y ∷ ys) u c)))
 
 pub increasing_tail : (x : Statement) (xs : List Statement) → IsIncreasing (x ∷ xs) → IsIncreasing xs
 increasing_tail x [] h = tt
@@ -70,8 +55,8 @@ increasing_tail x (y ∷ ys) h = h.1
 
 pub head_before : (x : Statement) (xs : List Statement) (u : Statement) → IsIncreasing (x ∷ xs) → Contains xs u
     → IsBefore x u
-head_before x [] u h c = absurd (none_in_empty u c)
-head_before x (y ∷ ys) u h c = elim (member_cases y ys u c) [
+head_before x [] u h c = absurd (none_contained u c)
+head_before x (y ∷ ys) u h c = elim (first_or_later y ys u c) [
   | inl q ↦ subst (IsBefore x) q h.0
   | inr k ↦ before_then x y u h.0 (head_before y ys u h.1 k)
 ]
@@ -80,26 +65,26 @@ head_before x (y ∷ ys) u h c = elim (member_cases y ys u c) [
 no_longer : (ys xs : List Statement) → IsIncreasing xs → IsIncreasing ys
     → ((u : Statement) → Contains xs u → Contains ys u) → length xs ≤ length ys
 no_longer ys [] hx hy h = omega arith
-no_longer [] (x ∷ xs) hx hy h = absurd (none_in_empty x (h x (head_member x xs)))
-no_longer (y ∷ ys) (x ∷ xs) hx hy h = elim (member_cases y ys x (h x (head_member x xs))) [
+no_longer [] (x ∷ xs) hx hy h = absurd (none_contained x (h x (contains_first x xs)))
+no_longer (y ∷ ys) (x ∷ xs) hx hy h = elim (first_or_later y ys x (h x (contains_first x xs))) [
   | inl q ↦ let l = no_longer ys xs (increasing_tail x xs hx) (increasing_tail y ys hy) (rest q) in omega arith
   | inr k ↦ let l = no_longer ys (x ∷ xs) hx (increasing_tail y ys hy) (later k) in omega arith
 ]
   where
     rest : y ≡ x → (u : Statement) → Contains xs u → Contains ys u
-    rest q u c = elim (member_cases y ys u (h u (tail_member x xs u c))) [
+    rest q u c = elim (first_or_later y ys u (h u (contains_later x xs u c))) [
       | inl p ↦ absurd (before_self u (subst (λ z. IsBefore z u) (sym q ∙ p) (head_before x xs u hx c)))
       | inr k ↦ k
     ]
 
     above : Contains ys x → (u : Statement) → Contains (x ∷ xs) u → IsBefore y u
-    above k u c = elim (member_cases x xs u c) [
+    above k u c = elim (first_or_later x xs u c) [
       | inl p ↦ subst (IsBefore y) p (head_before y ys x hy k)
       | inr d ↦ before_then y x u (head_before y ys x hy k) (head_before x xs u hx d)
     ]
 
     later : Contains ys x → (u : Statement) → Contains (x ∷ xs) u → Contains ys u
-    later k u c = elim (member_cases y ys u (h u c)) [
+    later k u c = elim (first_or_later y ys u (h u c)) [
       | inl p ↦ absurd (before_self u (subst (λ z. IsBefore z u) p (above k u c)))
       | inr d ↦ d
     ]
@@ -109,7 +94,7 @@ no_longer (y ∷ ys) (x ∷ xs) hx hy h = elim (member_cases y ys x (h x (head_m
 pub none_at_all : (m : SignMap) (k : ℕ) → ((u : Statement) → IsLawful m u → ⊥) → HasAtMost m k
 none_at_all m k h = record {
   all = [];
-  are_all = record { increasing = tt; members = λ s. (λ c. absurd (none_in_empty s c), λ hs. absurd (h s hs)) };
+  are_all = record { increasing = tt; members = λ s. (λ c. absurd (none_contained s c), λ hs. absurd (h s hs)) };
   count = omega arith;
 }
 
@@ -134,7 +119,7 @@ number_first m low r l e h = IfSome_then r h (λ t f. record {
       record {
         increasing = tt;
         members =
-            λ s. (λ c. absurd (none_in_empty s c), λ (hs, b). absurd (none_before t f s hs b));
+            λ s. (λ c. absurd (none_contained s c), λ (hs, b). absurd (none_before t f s hs b));
       };
   count = refl;
 })

@@ -6,9 +6,10 @@ use Rattle.std.specs.Prelude.{ℕ, ◌≡◌, ◌≢◌, ◌+◌, ◌-◌, ◌*�
 use Rattle.std.proofs.Common.{refl, sym, ◌∙◌, ap, arith, inl, inr}
 use Rattle.std.proofs.lemmas.Bool.{cases_lt, cases_eq, eq-eqb, ne_eqb}
 use Rattle.om_signs.specs.declared.sign.Sign.{Sign}
-use Rattle.om_signs.specs.declared.sign.Sign.TheVariants.{Minus, Zero, Plus}
-use Rattle.om_signs.specs.Sign.{opposite, product}
-use Rattle.om_laws.proofs.SignLaws.{product-opposite_right, opposite-opposite, product-zero, product_nonzero}
+use Rattle.om_signs.specs.declared.sign.Sign.TheVariants.{Zero, Plus}
+use Rattle.om_signs.specs.Sign.{product}
+use Rattle.om_signs.proofs.SignLaws.{product-opposite_right, product-zero, product_nonzero, product_twice}
+use Rattle.om_signs.proofs.SignLaws.{product_square, product_minus_if_opposite, opposite_swap}
 use Rattle.om_chirotope.specs.Map.{SignMap}
 use Rattle.om_grassmann.specs.declared.statement.Statement.{Statement}
 use Rattle.om_grassmann.specs.declared.frame.Frame.{Frame}
@@ -17,7 +18,7 @@ use Rattle.om_grassmann.specs.Terms.{first_term, second_term, third_term, term, 
 use Rattle.om_grassmann.specs.Statements.{IsElement, IsPlaced, AreTwo, HasSigns, IsLawful}
 use Rattle.om_grassmann.specs.Walk.{IsFrame, frame_place, frame_of, direction, place, HasNoneBetween, IsFirstFrom}
 use Rattle.om_grassmann.specs.Walk.{AreTermsOn, IsKind, statement_of}
-use Rattle.om_grassmann.proofs.Places.{IsOn, placed_on, same_frame}
+use Rattle.om_grassmann.proofs.Places.{IsOn, placed_on, same_frame, direction-lt}
 
 pub on_frame : (f : Frame) (k : ℕ) (strict : Bool) (st : Statement) → st ≡ statement_of f k strict → IsOn f st
 on_frame f k strict st q = record {
@@ -53,11 +54,6 @@ pick_product s x y z j = elim (cases_eq j 1) [
   | inr n ↦ rw (ne_eqb j 1 n) (elim (cases_eq j 2) [ inl q ↦ rw (eq-eqb j 2 q) refl | inr k ↦ rw (ne_eqb j 2 k) refl ])
 ]
 
-twice : (s x : Sign) → s ≢ Zero → product s (product s x) ≡ x
-twice Minus x n = opposite-opposite x
-twice Zero x n = absurd (n refl)
-twice Plus x n = refl
-
 rest_with : (strict : Bool) (s x y : Sign) → y ≡ cond strict x Zero → product s y ≡ cond strict (product s x) Zero
 rest_with true s x y q = ap (product s) q
 rest_with false s x y q = ap (product s) q ∙ product-zero s
@@ -73,30 +69,23 @@ signs_with strict s x y z n h = record {
 signs_without : (strict : Bool) (s x y z : Sign) → s ≢ Zero → HasSigns strict (product s x) (product s y) (product s z)
     → HasSigns strict x y z
 signs_without strict s x y z n h =
-    signs_as strict _ _ _ x y z (twice s x n) (twice s y n) (twice s z n)
+    signs_as strict _ _ _ x y z (product_twice s x n) (product_twice s y n) (product_twice s z n)
     (signs_with strict s (product s x) (product s y) (product s z) n h)
 
-square : (x : Sign) → x ≢ Zero → product x x ≡ Plus
-square Minus n = refl
-square Zero n = absurd (n refl)
-square Plus n = refl
-
-against : (x y : Sign) → x ≢ Zero → y ≡ opposite x → product x y ≡ Minus
-against x y n q = ap (product x) q ∙ product-opposite_right x x ∙ ap opposite (square x n)
-
 beside : (strict : Bool) (x y : Sign) → x ≢ Zero → y ≡ cond strict x Zero → product x y ≡ cond strict Plus Zero
-beside true x y n q = ap (product x) q ∙ square x n
+beside true x y n q = ap (product x) q ∙ product_square x n
 beside false x y n q = ap (product x) q ∙ product-zero x
 
 told_term : (m : SignMap) (st : Statement) (i : ℕ) → IsLawful m st → IsElement 3 i
     → told st i ≡ product (term m st st.small) (term m st i)
 told_term m st i h e = elim (cases_eq i st.small) [
   | inl q ↦
-      rw (eq-eqb i st.small q) (sym (square (term m st st.small) h.signs.nonzero)
+      rw (eq-eqb i st.small q) (sym (product_square (term m st st.small) h.signs.nonzero)
       ∙ ap (λ j. product (term m st st.small) (term m st j)) (sym q))
   | inr n ↦ rw (ne_eqb i st.small n) (elim (cases_eq i st.big) [
     | inl q ↦
-        rw (eq-eqb i st.big q) (sym (against (term m st st.small) (term m st st.big) h.signs.nonzero h.signs.opposed)
+        rw (eq-eqb i st.big q) (sym (product_minus_if_opposite (term m st st.small) (term m st st.big) h.signs.nonzero
+        (opposite_swap (term m st st.big) (term m st st.small) h.signs.opposed))
         ∙ ap (λ j. product (term m st st.small) (term m st j)) (sym q))
     | inr k ↦
         let two = h.two in
@@ -172,9 +161,6 @@ from_direction i j k h e = (omega arith, omega arith)
 
 block_place : (p q k l : ℕ) → k < 9 → l < 9 → p * 9 + k ≡ q * 9 + l → k ≡ l
 block_place p q k l a b e = omega arith
-
-direction-lt : (st : Statement) → AreTwo st.small st.big → direction st < 9
-direction-lt st t = omega arith
 
 pub none_here : (m : SignMap) (f : Frame) (terms : Terms) (low k : ℕ) → AreTermsOn m f terms → k < 9
     → IsKind terms (k / 3 + 1) (k % 3 + 1) None → HasNoneBetween m low (frame_place f * 9 + k)

@@ -36,7 +36,7 @@ placed_on n f s t hs ht p =
       apart = record { b = omega arith; c = omega arith; d = omega arith; e = omega arith };
     }
 
-direction-lt : (st : Statement) → AreTwo st.small st.big → direction st < 9
+pub direction-lt : (st : Statement) → AreTwo st.small st.big → direction st < 9
 direction-lt st t = omega arith
 
 one_block : (p q k l : ℕ) → k < 9 → q * 9 ≤ p * 9 + k → p * 9 + k < q * 9 + 9 → p ≡ q

@@ -8,10 +8,13 @@
 -- Reference: Björner, Las Vergnas, Sturmfels, White and Ziegler, Oriented Matroids, chapter 3.
 use Rattle.std.proofs.Common.{◌≡◌, ◌≢◌, ◌⊎◌, ℕ, zero, suc, Bool, true, false, cond, List, [], ◌∷◌, ◌++◌, refl, sym, ap}
 use Rattle.std.proofs.Common.{◌∙◌, subst, ⊎_elim, inl, inr, arith, append_assoc}
-use Rattle.std.proofs.lemmas.Bool.{cases_Bool}
+use Rattle.std.proofs.lemmas.Bool.{cases_Bool, both_ways}
 use Rattle.om_signs.specs.declared.sign.Sign.{Sign}
 use Rattle.om_signs.specs.declared.sign.Sign.TheVariants.{Zero}
 use Rattle.om_signs.specs.Sign.{opposite, product}
+use Rattle.om_signs.proofs.SignLaws.{zero_or_nonzero, zero_not_nonzero, opposite_nonzero, nonzero_from_opposite}
+use Rattle.om_signs.proofs.SignLaws.{product_zero_left, product_zero_right, product_nonzero, left_nonzero}
+use Rattle.om_signs.proofs.SignLaws.{right_nonzero, not_own_opposite, opposite-opposite}
 use Rattle.om_laws.specs.Bases.{HasExchange, IsFundamentalCircuit, IsFundamentalCocircuit, SymmetricExchange}
 use Rattle.om_laws.specs.Chirotope.{IsChirotope}
 use Rattle.om_laws.specs.Circuits.{IsCocircuit, IsCircuit}
@@ -23,9 +26,6 @@ use Rattle.om_laws.proofs.MemberLaws.{split_at, member_middle, member_or_not, me
 use Rattle.om_laws.proofs.MemberLaws.{member_last, member_drop, distinct_last, distinct_drop, search_members}
 use Rattle.om_laws.proofs.RelationLaws.{around_member, around_at_nonzero, nonzero_from_around, around_last_nonzero}
 use Rattle.om_laws.proofs.RelationLaws.{orthogonal_from_balanced}
-use Rattle.om_laws.proofs.SignLaws.{zero_or_nonzero, zero_not_nonzero, opposite_nonzero, nonzero_from_opposite}
-use Rattle.om_laws.proofs.SignLaws.{product_zero_left, product_zero_right, product_nonzero, left_nonzero, right_nonzero}
-use Rattle.om_laws.proofs.SignLaws.{not_own_opposite, opposite-opposite}
 use Rattle.om_laws.proofs.TupleLaws.{last_repeat_zero, nonzero_distinct, nonzero_to_end, nonzero_from_end}
 use Rattle.om_laws.proofs.VectorLaws.{opposite_product, orthogonal_sym, orthogonal_up_to_sign}
 
@@ -49,9 +49,6 @@ cocircuit_negated chi X c = record {
   nonzero = (c.nonzero.0, opposite_nonzero (X c.nonzero.0) c.nonzero.1);
   same = same_negated X (along chi c.tuple) c.same;
 }
-
-not_both_bool : (b : Bool) → b ≡ true → b ≡ false → ⊥
-not_both_bool b p q = grind (arith, p, q)
 
 zero_up_to_sign : (s t : Sign) → t ≡ Zero → (s ≡ t) ⊎ (s ≡ opposite t) → s ≡ Zero
 zero_up_to_sign s t z (inl q) = q ∙ z
@@ -234,7 +231,7 @@ module _ (E : List ℕ) (chi : List ℕ → Sign) (om : IsChirotope E chi) where
         (search_members (λ x. (b x ≡ false) × IsNonzero (around chi (t ++ e ∷ []) x))
         (λ x. b x ≡ false → around chi (t ++ e ∷ []) x ≡ Zero)
         (λ x. ⊎_elim
-        (λ p. inr (λ q. absurd (not_both_bool (b x) p q)))
+        (λ p. inr (λ q. absurd (both_ways (b x) q p)))
         (λ p. ⊎_elim (λ z. inr (λ q. z)) (λ k. inl (p, k)) (zero_or_nonzero (around chi (t ++ e ∷ []) x)))
         (cases_Bool (b x)))
         t)
@@ -254,7 +251,7 @@ module _ (E : List ℕ) (chi : List ℕ → Sign) (om : IsChirotope E chi) where
         ⊎_elim
         (λ c.
         let base : IsNonzero (chi (u ++ c.0 ∷ v)) = nonzero_from_end chi om.alternating u v c.0 c.2.1 in
-        let ne : e ≢ c.0 = λ q. not_both_bool (b e) (ap b q ∙ c.2.0) be in
+        let ne : e ≢ c.0 = λ q. both_ways (b e) be (ap b q ∙ c.2.0) in
         let off : IsMember e (u ++ c.0 ∷ v) → ⊥ = λ m.
         ⊎_elim (λ a. distinct_middle u v (nonzero_distinct chi om.alternating (u ++ e ∷ v) n) (inl a))
         (λ a. ⊎_elim (λ q. ne q) (λ w. distinct_middle u v (nonzero_distinct chi om.alternating (u ++ e ∷ v) n) (inr w))
@@ -276,7 +273,7 @@ module _ (E : List ℕ) (chi : List ℕ → Sign) (om : IsChirotope E chi) where
         (λ x. b x ≡ true → along chi (u ++ v) x ≡ Zero)
         (λ x. ⊎_elim
         (λ p. ⊎_elim (λ z. inr (λ q. z)) (λ w. inl (p, w)) (zero_or_nonzero (along chi (u ++ v) x)))
-        (λ p. inr (λ q. absurd (not_both_bool (b x) q p)))
+        (λ p. inr (λ q. absurd (both_ways (b x) p q)))
         (cases_Bool (b x)))
         E)
 

@@ -4,19 +4,19 @@
 -- Main results: two blocks change places (blocks_swapped); a property that is kept where neighbours change places holds
 -- of each list with the same members (same_members); the sign of a permutation is nonzero (sort_sign_nonzero).
 -- Reference: Björner, Las Vergnas, Sturmfels, White and Ziegler, Oriented Matroids, chapter 3.
-use Rattle.std.specs.Prelude.{ℕ, ◌≡◌, ◌≢◌, ◌<◌, List, [], ◌∷◌, ◌++◌, refl, length}
-use Rattle.std.proofs.Common.{arith, inl, inr, sym, ◌∙◌, ap, subst, ⊎_elim, append_assoc, append-nil}
-use Rattle.std.proofs.lemmas.Bool.{cases_lt, lt-ltb, le-ltb}
+use Rattle.std.specs.Prelude.{ℕ, ◌≡◌, List, [], ◌∷◌, ◌++◌, refl, length}
+use Rattle.std.proofs.Common.{inl, inr, sym, ◌∙◌, ap, subst, ⊎_elim, append_assoc, append-nil}
 use Rattle.om_signs.specs.declared.sign.Sign.{Sign}
 use Rattle.om_signs.specs.declared.sign.Sign.TheVariants.{Zero, Plus}
 use Rattle.om_signs.specs.Sign.{opposite, product}
+use Rattle.om_signs.proofs.SignLaws.{opposite_zero, plus_nonzero, product_nonzero, opposite_nonzero, opposite-opposite}
+use Rattle.om_signs.proofs.SignLaws.{product-opposite_left, product-opposite_right}
 use Rattle.om_laws.specs.Signs.{IsNonzero, negated_times}
 use Rattle.om_laws.specs.Members.{IsMember, IsDistinct}
 use Rattle.om_laws.specs.Tuples.{IsAlternating, order_sign, before_sign, sort_sign}
-use Rattle.om_laws.proofs.SignLaws.{opposite_zero, plus_nonzero, minus_nonzero, product_nonzero, opposite_nonzero}
-use Rattle.om_laws.proofs.SignLaws.{opposite-opposite, product-opposite_left, product-opposite_right}
 use Rattle.om_laws.proofs.MemberLaws.{distinct_drop, member_drop, member_insert, split_at}
 use Rattle.om_laws.proofs.TupleLaws.{moved_over}
+use Rattle.om_laws.proofs.OrderSigns.{order_sign_nonzero}
 
 -- negated once for each entry
 abbrev pub negated_for : List ℕ → Sign → Sign
@@ -104,12 +104,6 @@ module _ (Q : List ℕ → Type 0) (swapped : (u : List ℕ) (x y : ℕ) (v : Li
       subst (λ z. Q (p ++ z)) (sym s.2) (insert_later s.0 p a s.1 q3)
 
 -- ---- the sign of a permutation
-
-order_sign_nonzero : (x y : ℕ) → x ≢ y → IsNonzero (order_sign x y)
-order_sign_nonzero x y n = elim (cases_lt x y) [
-  | inl l ↦ rw (lt-ltb x y l) plus_nonzero
-  | inr g ↦ let l : y < x = omega arith in rw (le-ltb x y g, lt-ltb y x l) minus_nonzero
-]
 
 before_sign_nonzero : (x : ℕ) (ys : List ℕ) → (IsMember x ys → ⊥) → IsNonzero (before_sign x ys)
 before_sign_nonzero x [] n = plus_nonzero

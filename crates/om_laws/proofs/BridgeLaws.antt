@@ -11,15 +11,16 @@ use Rattle.std.proofs.Common.{ℕ, zero, suc, List, refl, arith, inl, inr, sym, 
 use Rattle.std.proofs.Common.{[], ◌+◌, ◌∙◌}
 use Rattle.om_signs.specs.declared.sign.Sign.{Sign}
 use Rattle.om_signs.specs.declared.sign.Sign.TheVariants.{Minus, Zero, Plus}
-use Rattle.om_signs.specs.Sign.{opposite, product, first_nonzero}
+use Rattle.om_signs.specs.Sign.{opposite, product}
 use Rattle.om_signs.specs.SignVec.{at, compose, IsOrthogonal, IsConformal}
+use Rattle.om_signs.proofs.SignLaws.{zero_or_nonzero, product_zero_left}
+use Rattle.om_signs.proofs.ListPlaces.{at-compose, at-map-opposite}
 use Rattle.om_laws.specs.Vectors.{SignVector, negated, composition, HasProduct, Orthogonal, IsSupportedOn}
 use Rattle.om_laws.specs.Bridge.{as_function, as_list}
 use Rattle.om_laws.specs.Chirotope.{elements_to}
 use Rattle.om_laws.specs.Sorting.{IsIncreasing, IsElement, IsTuple}
 use Rattle.om_laws.specs.Signs.{IsNonzero}
 use Rattle.om_laws.specs.Relations.{around, along, IsBalanced}
-use Rattle.om_laws.proofs.SignLaws.{zero_or_nonzero, product_zero_left}
 use Rattle.om_laws.proofs.SortingLaws.{increasing_distinct}
 use Rattle.om_laws.proofs.RelationLaws.{around_member, orthogonal_from_balanced, balanced_from_orthogonal}
 use Rattle.om_laws.proofs.ChirotopeLaws.{member_from_element, element_from_member}
@@ -66,19 +67,6 @@ orthogonal_lists xs ys o = (
   λ h. to_lists xs ys Plus (λ e. cc) (o.plus (to_functions xs ys Minus h)),
 )
 
-at-compose : (xs ys : List Sign) (i : ℕ) → at (compose xs ys) i ≡ first_nonzero (at xs i) (at ys i)
-at-compose [] ys i = refl
-at-compose (x ∷ xs) [] zero = lemma x
-  where
-    lemma : (s : Sign) → s ≡ first_nonzero s Zero
-    lemma s = grind arith
-at-compose (x ∷ xs) [] (suc i) = lemma (at xs i)
-  where
-    lemma : (s : Sign) → s ≡ first_nonzero s Zero
-    lemma s = grind arith
-at-compose (x ∷ xs) (y ∷ ys) zero = refl
-at-compose (x ∷ xs) (y ∷ ys) (suc i) = at-compose xs ys i
-
 pub as_function-compose : (xs ys : List Sign) (e : ℕ)
     → as_function (compose xs ys) e ≡ composition (as_function xs) (as_function ys) e
 as_function-compose xs ys zero = refl
@@ -92,14 +80,9 @@ conformal_functions xs ys h (suc i) n = h i n
 pub conformal_lists : (xs ys : List Sign) → vectors.IsConformal (as_function xs) (as_function ys) → IsConformal xs ys
 conformal_lists xs ys h i n = h (suc i) n
 
-at-negated : (xs : List Sign) (i : ℕ) → at (map opposite xs) i ≡ opposite (at xs i)
-at-negated [] i = refl
-at-negated (x ∷ xs) zero = refl
-at-negated (x ∷ xs) (suc i) = at-negated xs i
-
 pub as_function-negated : (xs : List Sign) (e : ℕ) → as_function (map opposite xs) e ≡ negated (as_function xs) e
 as_function-negated xs zero = refl
-as_function-negated xs (suc i) = at-negated xs i
+as_function-negated xs (suc i) = at-map-opposite xs i
 
 list_of_signs : (xs : List Sign) (low : ℕ) (f : SignVector) → ((i : ℕ) → f (low + i) ≡ at xs i)
     → map f (range_with_len low (length xs)) ≡ xs

@@ -10,13 +10,13 @@ use Rattle.std.proofs.Common.{◌<◌, ◌≤◌, [], ◌+◌, ◌∙◌}
 use Rattle.om_signs.specs.declared.sign.Sign.{Sign}
 use Rattle.om_signs.specs.declared.sign.Sign.TheVariants.{Zero}
 use Rattle.om_signs.specs.Sign.{product}
+use Rattle.om_signs.proofs.SignLaws.{zero_or_nonzero, product_zero_left, product_zero_right}
 use Rattle.om_laws.specs.Members.{IsMember, IsDistinct}
 use Rattle.om_laws.specs.Tuples.{value}
 use Rattle.om_laws.specs.Chirotope.{elements_to, IsChirotope}
 use Rattle.om_laws.specs.Sorting.{IsIncreasing, IsElement, IsTuple, on_tuples}
 use Rattle.om_laws.specs.Signs.{IsNonzero}
 use Rattle.om_laws.specs.Relations.{along, IsBalanced, HasIncreasingRelations, HasRelations}
-use Rattle.om_laws.proofs.SignLaws.{zero_or_nonzero, product_zero_left, product_zero_right}
 use Rattle.om_laws.proofs.MemberLaws.{member_middle}
 use Rattle.om_laws.proofs.SortingLaws.{value_increasing}
 use Rattle.om_laws.proofs.RelationLaws.{relations_by_sorting, IsBalanced_same, IsBalanced_zero}

@@ -10,9 +10,9 @@ use Rattle.std.proofs.lemmas.Bool.{cases_eq}
 use Rattle.om_signs.specs.declared.sign.Sign.{Sign}
 use Rattle.om_signs.specs.declared.sign.Sign.TheVariants.{Minus, Zero}
 use Rattle.om_signs.specs.Sign.{opposite, product}
+use Rattle.om_signs.proofs.SignLaws.{equal_or_opposite, opposite-opposite, opposite_zero, same_or_different}
+use Rattle.om_signs.proofs.SignLaws.{zero_not_nonzero, zero_or_nonzero}
 use Rattle.om_laws.specs.Signs.{IsNonzero}
-use Rattle.om_laws.proofs.SignLaws.{equal_or_opposite, opposite-opposite, opposite_zero, same_or_different}
-use Rattle.om_laws.proofs.SignLaws.{zero_not_nonzero, zero_or_nonzero}
 use Rattle.om_laws.proofs.ExistenceHelpers.{left_of_two, right_of_two, zero_of_two}
 use Rattle.om_laws.specs.Members.{IsDistinct, IsMember}
 use Rattle.om_laws.proofs.MemberLaws.{distinct_drop, member_append, member_drop, member_insert, member_left}

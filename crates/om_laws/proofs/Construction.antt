@@ -9,17 +9,17 @@ use Rattle.std.proofs.Common.{sym, ap, ◌∙◌, subst, ⊎_elim, inl, inr, ari
 use Rattle.om_signs.specs.declared.sign.Sign.{Sign}
 use Rattle.om_signs.specs.declared.sign.Sign.TheVariants.{Minus, Zero, Plus}
 use Rattle.om_signs.specs.Sign.{opposite, product}
+use Rattle.om_signs.proofs.SignLaws.{minus_nonzero, nonzero_if_opposite, opposite-opposite, opposite_nonzero}
+use Rattle.om_signs.proofs.SignLaws.{opposite_swap, opposite_zero, plus_nonzero, plus_or_minus, product-opposite_right}
+use Rattle.om_signs.proofs.SignLaws.{product_nonzero, right_factor_nonzero, zero_not_nonzero, zero_or_nonzero}
+use Rattle.om_signs.proofs.SignLaws.{left_factor_nonzero, product_plus_left}
 use Rattle.om_laws.specs.Signs.{IsNonzero}
-use Rattle.om_laws.proofs.ExistenceHelpers.{left_factor_nonzero, left_of_two, zero_of_two}
-use Rattle.om_laws.proofs.SignLaws.{minus_nonzero, nonzero_if_opposite, opposite-opposite, opposite_nonzero}
-use Rattle.om_laws.proofs.SignLaws.{opposite_swap, opposite_zero, plus_nonzero, plus_or_minus, product-opposite_right}
-use Rattle.om_laws.proofs.SignLaws.{product_nonzero, right_factor_nonzero, zero_not_nonzero, zero_or_nonzero}
+use Rattle.om_laws.proofs.ExistenceHelpers.{left_of_two, zero_of_two}
 use Rattle.om_laws.specs.Members.{IsMember}
 use Rattle.om_laws.proofs.MemberLaws.{distinct_drop, member_drop, member_insert, member_last, member_left}
 use Rattle.om_laws.proofs.MemberLaws.{member_middle}
 use Rattle.om_laws.specs.Vectors.{SignVector}
 use Rattle.om_laws.proofs.ExistenceHelpers.{Vanishes, same_nonzero}
-use Rattle.om_laws.proofs.VectorLaws.{same_products, same_zero}
 use Rattle.om_laws.specs.Tuples.{IsAlternating}
 use Rattle.om_laws.specs.Relations.{HasRelations}
 use Rattle.om_laws.specs.Bases.{HasExchange}
@@ -28,6 +28,7 @@ use Rattle.om_laws.specs.ThreeTerm.{HasThreeTermRelations}
 use Rattle.om_laws.proofs.ThreeTermLaws.{three_term_relations}
 use Rattle.om_laws.proofs.CocircuitBases.{ExtendsToBase, IsCocircuitBase, base_exchange, extending_member}
 use Rattle.om_laws.proofs.CocircuitBases.{extending_nonzero, extending_same, opposed_at}
+use Rattle.om_laws.proofs.VectorLaws.{same_products, same_zero}
 
 -- a nonzero value has an opposite one
 abbrev Answers : Sign → Sign → Sign → Type 0
@@ -89,9 +90,6 @@ pivot_sign fe fh ye yh e n = grind arith
 product_by_minus : (s t : Sign) → s ≡ Minus → opposite t ≡ product s t
 product_by_minus s t e = grind (arith, e)
 
-product_by_plus : (s t : Sign) → s ≡ Plus → t ≡ product s t
-product_by_plus s t e = grind (arith, e)
-
 opposites_swapped : (s t : Sign) → opposite s ≡ opposite (opposite t) → opposite t ≡ opposite (opposite s)
 opposites_swapped s t e = grind arith
 
@@ -131,7 +129,7 @@ module _ (K : SignVector → Type 0)
         let v : (e : ℕ) → f (a ++ e ∷ []) ≡ product s (y.0 e) =
         λ e. pivot_sign (f (a ++ e ∷ [])) (f (a ++ h ∷ [])) (y.0 e) (y.0 h) (pivot a y.0 y.1 y.2 e h) nh in
         ⊎_elim
-        (λ q. (y.0, y.1, y.2, λ e. product_by_plus s (y.0 e) q ∙ sym (v e)))
+        (λ q. (y.0, y.1, y.2, λ e. sym (product_plus_left s (y.0 e) q) ∙ sym (v e)))
         (λ q. (
           (λ e. opposite (y.0 e)),
           neg_k y.0 y.1,

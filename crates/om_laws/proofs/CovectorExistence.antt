@@ -7,8 +7,8 @@ use Rattle.std.proofs.Common.{sym, subst, ⊎_elim, inl, inr}
 use Rattle.om_signs.specs.declared.sign.Sign.{Sign}
 use Rattle.om_signs.specs.declared.sign.Sign.TheVariants.{Zero}
 use Rattle.om_signs.specs.Sign.{opposite, first_nonzero}
+use Rattle.om_signs.proofs.SignLaws.{zero_or_nonzero, opposite_nonzero, nonzero_from_opposite, opposite_swap}
 use Rattle.om_laws.specs.Signs.{IsNonzero}
-use Rattle.om_laws.proofs.SignLaws.{zero_or_nonzero, opposite_nonzero, nonzero_from_opposite, opposite_swap}
 use Rattle.om_laws.specs.Members.{IsDistinct}
 use Rattle.om_laws.proofs.MemberLaws.{search_members}
 use Rattle.om_laws.specs.Vectors.{SignVector, negated, IsSupportedOn, HasNonzero}
@@ -23,12 +23,11 @@ use Rattle.om_laws.specs.Covectors.{IsCovector}
 use Rattle.om_laws.specs.Compositions.{IsConforming}
 use Rattle.om_laws.proofs.PairCovectors.{covector_from_parts}
 use Rattle.om_laws.proofs.ChirotopeCovectors.{covector_composition}
-use Rattle.om_laws.proofs.FiniteExistence.{is_in_same, list_map, list_chirotope, list_member_cocircuit}
+use Rattle.om_laws.proofs.FiniteExistence.{list_map, list_chirotope, list_member_cocircuit}
 use Rattle.om_laws.proofs.FiniteExistence.{list_cocircuit_member}
-use Rattle.om_laws.proofs.FamilyLaws.{Found, NotFound, found_or_not, not_found_same, minimal_of, decompose}
-use Rattle.om_laws.proofs.FamilyLaws.{least_incomparable, least_elimination}
 use Rattle.om_laws.specs.Families.{IsListed}
-use Rattle.om_laws.proofs.FamilyLaws.{search_vectors}
+use Rattle.om_laws.proofs.FamilyLaws.{Found, NotFound, found_or_not, not_found_same, minimal_of, decompose}
+use Rattle.om_laws.proofs.FamilyLaws.{least_incomparable, least_elimination, search_vectors, listed_same}
 
 -- nonzero, and of least support
 abbrev pub IsLeast : List SignVector → SignVector → Type 0
@@ -192,4 +191,4 @@ module _ (Ls : List SignVector) (E : List ℕ) (distinct : IsDistinct E)
   pub covector_member : (X : SignVector) → IsCovector E covectors_map X → L X
   covector_member X x =
       let r = covector_composition E covectors_map covectors_chirotope X x in
-      is_in_same X (composition_of r.0) Ls r.2 (composed X r.0 r.1)
+      listed_same X (composition_of r.0) Ls r.2 (composed X r.0 r.1)

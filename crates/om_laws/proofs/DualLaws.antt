@@ -6,10 +6,13 @@
 -- the map up to sign (dual_dual).
 -- Reference: Björner, Las Vergnas, Sturmfels, White and Ziegler, Oriented Matroids, chapter 3.
 use Rattle.std.specs.Prelude.{ℕ, ◌≡◌, refl, List, [], ◌∷◌, ◌++◌}
-use Rattle.std.proofs.Common.{arith, inl, inr, sym, ◌∙◌, ap, subst, ⊎_elim, append_assoc, append-nil}
+use Rattle.std.proofs.Common.{inl, inr, sym, ◌∙◌, ap, subst, ⊎_elim, append_assoc, append-nil}
 use Rattle.om_signs.specs.declared.sign.Sign.{Sign}
 use Rattle.om_signs.specs.declared.sign.Sign.TheVariants.{Zero}
 use Rattle.om_signs.specs.Sign.{opposite, product}
+use Rattle.om_signs.proofs.SignLaws.{zero_or_nonzero, product_nonzero, product_zero_left, product_zero_right}
+use Rattle.om_signs.proofs.SignLaws.{product_opposites, product-opposite_left, opposite_nonzero, nonzero_from_opposite}
+use Rattle.om_signs.proofs.SignLaws.{plus_or_minus, product_twice}
 use Rattle.om_laws.specs.Chirotope.{IsChirotope}
 use Rattle.om_laws.specs.Circuits.{IsCircuit, IsCocircuit}
 use Rattle.om_laws.specs.Covectors.{IsCovector, IsVector}
@@ -30,9 +33,6 @@ use Rattle.om_laws.proofs.MemberLaws.{distinct_front, member_drop, member_insert
 use Rattle.om_laws.proofs.MemberLaws.{member_middle, member_or_not, split_at}
 use Rattle.om_laws.proofs.RelationLaws.{IsBalanced_zero, relations_by_sorting, around_at, around_zero}
 use Rattle.om_laws.proofs.RelationLaws.{balanced_from_orthogonal}
-use Rattle.om_laws.proofs.SignLaws.{zero_or_nonzero, product_nonzero, product_zero_left, product_zero_right}
-use Rattle.om_laws.proofs.SignLaws.{product_opposites, product-opposite_left, opposite_nonzero, nonzero_from_opposite}
-use Rattle.om_laws.proofs.SignLaws.{plus_or_minus}
 use Rattle.om_laws.proofs.SortingLaws.{increasing_distinct}
 use Rattle.om_laws.proofs.TupleLaws.{last_repeat_zero, moved_over, nonzero_distinct, sort_sign_swap}
 use Rattle.om_laws.proofs.VectorLaws.{orthogonal_sym, orthogonal_up_to_sign, same_sym, same_trans}
@@ -339,26 +339,16 @@ module _ (E : List ℕ) (de : IsDistinct E) (chi : List ℕ → Sign) (om : IsCh
 
   -- ---- the dual of the dual
 
-  times_self : (s t u : Sign) → IsNonzero u → s ≡ u → product s (product u t) ≡ t
-  times_self s t u n e = lemma s t u n e
-    where
-      lemma : (s t u : Sign) → IsNonzero u → s ≡ u → product s (product u t) ≡ t
-      lemma s t u n e = grind arith
-
   pairs_times : (a b : List ℕ) (s t : Sign) → IsNonzero s
       → product (negated_for_pairs a b s) (product s t) ≡ negated_for_pairs a b t
-  pairs_times [] b s t n = times_self s t s n refl
+  pairs_times [] b s t n = product_twice s t n
   pairs_times (x ∷ a) b s t n =
       ap (product (negated_for_pairs a b (negated_for b s))) (sym (both b s t))
-      ∙ pairs_times a b (negated_for b s) (negated_for b t) (nonzero b s n)
+      ∙ pairs_times a b (negated_for b s) (negated_for b t) (negated_for_nonzero b s n)
     where
       both : (b : List ℕ) (s t : Sign) → product (negated_for b s) (negated_for b t) ≡ product s t
       both [] s t = refl
       both (z ∷ b) s t = product_opposites (negated_for b s) (negated_for b t) ∙ both b s t
-
-      nonzero : (b : List ℕ) (s : Sign) → IsNonzero s → IsNonzero (negated_for b s)
-      nonzero [] s n = n
-      nonzero (z ∷ b) s n = opposite_nonzero (negated_for b s) (nonzero b s n)
 
   -- on a tuple without repeats: the map, negated once for each pair of an element of the tuple and one off it
   pub dual_dual : (a : List ℕ) → IsDistinct a → AreAmong E a

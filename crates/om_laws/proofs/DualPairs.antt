@@ -6,18 +6,18 @@
 -- Reference: Björner, Las Vergnas, Sturmfels, White and Ziegler, Oriented Matroids, chapter 3.
 use Rattle.std.specs.Prelude.{ℕ, ◌≡◌, ◌≢◌, refl, ◌⊎◌, List, cond, nat_eq, Bool, true, false}
 use Rattle.std.proofs.Common.{inl, inr, subst, ⊎_elim}
-use Rattle.std.proofs.lemmas.Bool.{cases_eq, eq-eqb, ne_eqb}
+use Rattle.std.proofs.lemmas.Bool.{cases_eq, eq-eqb, ne_eqb, both_ways}
 use Rattle.om_signs.specs.declared.sign.Sign.{Sign}
 use Rattle.om_signs.specs.declared.sign.Sign.TheVariants.{Zero}
 use Rattle.om_signs.specs.Sign.{product}
 use Rattle.om_laws.specs.Members.{IsMember}
 use Rattle.om_laws.specs.Signs.{IsNonzero}
 use Rattle.om_laws.specs.Vectors.{SignVector, negated, Orthogonal, HasNonzero, IsSupportedOn}
-use Rattle.om_laws.proofs.VectorLaws.{orthogonal_sym}
 use Rattle.om_laws.specs.Chirotope.{IsChirotope}
 use Rattle.om_laws.specs.Circuits.{IsCircuit, IsCocircuit}
 use Rattle.om_laws.proofs.BaseLaws.{circuit_negated, cocircuit_negated, circuit_supported, cocircuit_supported}
 use Rattle.om_laws.proofs.BaseLaws.{circuit_orthogonal, two_colours, circuit_through_two, cocircuit_through_two}
+use Rattle.om_laws.proofs.VectorLaws.{orthogonal_sym}
 
 -- two sets of sign vectors on a list of elements: closed under negation, orthogonal to each other, and rich enough
 pub record IsDualPair (E : List ℕ) (C D : SignVector → Type 0) : Type 0 where
@@ -51,9 +51,6 @@ off_both_in e b g q = elim (cases_eq g e) [ inl s ↦ rw (eq-eqb g e s) refl | i
 off_both_out : (e : ℕ) (b : ℕ → Bool) (g : ℕ) → g ≢ e → b g ≡ false → off_both e b g ≡ true
 off_both_out e b g ne q = rw (ne_eqb g e ne, q) refl
 
-differ : (b : Bool) → b ≡ true → b ≡ false → ⊥
-differ b p q = cc
-
 pub dual_pair_swapped : (E : List ℕ) (C D : SignVector → Type 0) → IsDualPair E C D → IsDualPair E D C
 dual_pair_swapped E C D p = record {
   negated_circuit = p.negated_cocircuit;
@@ -64,7 +61,13 @@ dual_pair_swapped E C D p = record {
   cocircuit_supported = p.circuit_supported;
   orthogonal = λ X Y x y. orthogonal_sym Y X (p.orthogonal Y X y x);
   two_colours = λ e m b q. ⊎_elim
-      (λ k. inr (k.0, k.1, k.2, λ g t. k.3 g (λ s. differ (b e) (subst (λ z. b z ≡ true) s t) q) (off_both_in e b g t)))
+      (λ k. inr (
+        k.0,
+        k.1,
+        k.2,
+        λ g t. k.3 g (λ s. both_ways (b e) q (subst (λ z. b z ≡ true) s t))
+            (off_both_in e b g t),
+      ))
       (λ k. inl (k.0, k.1, k.2, λ g ne f. k.3 g (off_both_out e b g ne f)))
       (p.two_colours e m (off_both e b) (off_both_at e b));
   circuit_through_two = p.cocircuit_through_two;

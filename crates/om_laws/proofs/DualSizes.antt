@@ -1,19 +1,20 @@
 -- The dual of a chirotope of a given rank, on increasing lists; the dual of the dual up to one sign.
 --
--- Main results: a complement has the size that is left (length_complement); the dual of the map of rank r on n elements
--- is the map of rank n - r that is given on increasing lists by dual_on_increasing (dual_of_on_tuples); the dual of the
--- dual is the map or its negative (dual_dual_up_to_sign), and the sign is that of as many negations as the product of
--- the sizes of a tuple and its complement (dual_dual_times).
+-- Main results: a range increases (range_increasing); a complement has the size that is left (length_complement); the
+-- dual of the map of rank r on n elements is the map of rank n - r that is given on increasing lists by
+-- dual_on_increasing (dual_of_on_tuples); the dual of the dual is the map or its negative (dual_dual_up_to_sign), and
+-- the sign is that of as many negations as the product of the sizes of a tuple and its complement (dual_dual_times).
 -- Reference: Björner, Las Vergnas, Sturmfels, White and Ziegler, Oriented Matroids, chapter 3.
-use Rattle.std.specs.Prelude.{ℕ, ◌≡◌, ◌+◌, ◌-◌, ◌<◌, ◌≤◌, ◌*◌, refl, ◌⊎◌, List, [], ◌∷◌, ◌++◌, length}
-use Rattle.std.specs.List.{range_with_len}
+use Rattle.std.specs.Prelude.{ℕ, ◌≡◌, ◌+◌, ◌-◌, ◌≤◌, ◌*◌, refl, ◌⊎◌, List, [], ◌∷◌, ◌++◌, length}
 use Rattle.std.proofs.Common.{zero, suc, arith, inl, inr, sym, ◌∙◌, ap, ⊎_elim}
 use Rattle.std.proofs.lemmas.List.{length-append}
 use Rattle.std.proofs.lemmas.List.FromFn.{length-range_with_len}
 use Rattle.std.proofs.Math.Nat.{suc-mul}
+use Rattle.std.specs.List.{range_with_len}
 use Rattle.om_signs.specs.declared.sign.Sign.{Sign}
 use Rattle.om_signs.specs.declared.sign.Sign.TheVariants.{Zero, Plus}
 use Rattle.om_signs.specs.Sign.{opposite, product}
+use Rattle.om_signs.proofs.SignLaws.{plus_nonzero, zero_or_nonzero, product_zero_right, plus_or_minus}
 use Rattle.om_laws.specs.Chirotope.{IsChirotope, elements_to}
 use Rattle.om_laws.specs.Dual.{dual_map, complement, dual_on_increasing}
 use Rattle.om_laws.specs.Members.{IsDistinct, AreAmong}
@@ -22,22 +23,17 @@ use Rattle.om_laws.specs.Sorting.{IsIncreasing, IsTuple, IsElement, on_tuples}
 use Rattle.om_laws.specs.Tuples.{sort_sign}
 use Rattle.om_laws.proofs.BlockLaws.{same_members, negated_for, negated_for_nonzero, negated_for_pairs}
 use Rattle.om_laws.proofs.BlockLaws.{negated_for_times, negated_for_zero}
-use Rattle.om_laws.proofs.ChirotopeLaws.{elements_distinct, member_from_element, element_from_member}
+use Rattle.om_laws.proofs.ChirotopeLaws.{elements_distinct, element_from_member, member_from_element}
 use Rattle.om_laws.proofs.Complements.{is_member_cases, are_members_cases, complement_is_complement, complement_joined}
 use Rattle.om_laws.proofs.DualLaws.{dual_among, dual_off, dual_nonzero_among, dual_alternating, dual_dual}
 use Rattle.om_laws.proofs.MemberLaws.{member_or_not, member_append, member_left, member_right}
-use Rattle.om_laws.proofs.SignLaws.{plus_nonzero, zero_or_nonzero, product_zero_right, plus_or_minus}
 use Rattle.om_laws.proofs.SortingLaws.{IsAboveEach, increasing_head, increasing_tail, increasing_distinct}
 use Rattle.om_laws.proofs.SortingLaws.{value_increasing, alternating_equal}
 use Rattle.om_laws.proofs.TupleLaws.{nonzero_distinct}
-use Rattle.om_laws.proofs.TupleSizes.{each_member, each_from, on_tuples_at, on_tuples_off, on_tuples_alternating}
-use Rattle.om_laws.proofs.TupleSizes.{is_tuple_cases}
+use Rattle.om_laws.proofs.TupleSizes.{each_from, on_tuples_at, on_tuples_off, on_tuples_alternating}
+use Rattle.om_laws.proofs.TupleSizes.{is_tuple_cases, length_swap, each_member}
 
 -- ---- sizes
-
-swap_length : (u : List ℕ) (x y : ℕ) (v : List ℕ) → length (u ++ x ∷ y ∷ v) ≡ length (u ++ y ∷ x ∷ v)
-swap_length [] x y v = refl
-swap_length (c ∷ u) x y v = ap suc (swap_length u x y v)
 
 -- a list and its complement have all elements
 pub length_complement : (E a : List ℕ) → IsDistinct E → IsDistinct a → AreAmong E a
@@ -45,7 +41,7 @@ pub length_complement : (E a : List ℕ) → IsDistinct E → IsDistinct a → A
 length_complement E a de da i =
     let k = complement_is_complement E a de in
     sym (length-append a (complement E a))
-    ∙ same_members (λ l. length l ≡ length E) (λ u x y v q. swap_length u y x v ∙ q) E [] (a ++ complement E a) de
+    ∙ same_members (λ l. length l ≡ length E) (λ u x y v q. length_swap u y x v ∙ q) E [] (a ++ complement E a) de
     (complement_joined E a (complement E a) da k)
     (λ g m. ⊎_elim (λ j. member_left g a (complement E a) j) (λ o. member_right g a (complement E a) (k.all g m o))
     (member_or_not g a))
@@ -72,23 +68,18 @@ complement_increasing (e ∷ E) a i = elim (is_member_cases e a) [
       (complement_increasing E a (increasing_tail e E i)))
 ]
 
-range_increasing : (low n : ℕ) → IsIncreasing (range_with_len low n)
+pub tuple_among : (n k : ℕ) (a : List ℕ) → IsTuple n k a → AreAmong (elements_to n) a
+tuple_among n k a t g m = member_from_element n g (each_member (IsElement n) a t.within g m)
+
+pub range_increasing : (low k : ℕ) → IsIncreasing (range_with_len low k)
 range_increasing low zero = tt
-range_increasing low (suc n) =
-    increasing_from_head low (range_with_len (low + 1) n) (above low (low + 1) n (omega arith))
-    (range_increasing (low + 1) n)
-  where
-    above : (x low n : ℕ) → x < low → IsAboveEach x (range_with_len low n)
-    above x low zero l = tt
-    above x low (suc n) l = (l, above x (low + 1) n (omega arith))
+range_increasing low (suc zero) = tt
+range_increasing low (suc (suc k)) = (omega arith, range_increasing (low + 1) (suc k))
 
 module _ (n r : ℕ) (f : List ℕ → Sign) (le : r ≤ n) where
   sizes : (a : List ℕ) → IsDistinct a → AreAmong (elements_to n) a
       → length a + length (complement (elements_to n) a) ≡ n
   sizes a d i = length_complement (elements_to n) a (elements_distinct n) d i ∙ length-range_with_len 1 n
-
-  among_from_tuple : (k : ℕ) (a : List ℕ) → IsTuple n k a → AreAmong (elements_to n) a
-  among_from_tuple k a t g m = member_from_element n g (each_member (IsElement n) a t.within g m)
 
   tuple_from_among : (k : ℕ) (a : List ℕ) → length a ≡ k → AreAmong (elements_to n) a → IsTuple n k a
   tuple_from_among k a q i =
@@ -97,7 +88,7 @@ module _ (n r : ℕ) (f : List ℕ → Sign) (le : r ≤ n) where
   complement_tuple : (k l : ℕ) (a : List ℕ) → k + l ≡ n → IsDistinct a → IsTuple n k a
       → IsTuple n l (complement (elements_to n) a)
   complement_tuple k l a q d t =
-      let s = sizes a d (among_from_tuple k a t) in
+      let s = sizes a d (tuple_among n k a t) in
       let z = t.size in
       tuple_from_among l (complement (elements_to n) a) (omega (arith, q, s, z))
       (complement_is_complement (elements_to n) a (elements_distinct n)).among
@@ -106,7 +97,7 @@ module _ (n r : ℕ) (f : List ℕ → Sign) (le : r ≤ n) where
       ≡ on_tuples n (n - r) (dual_on_increasing n f) a
   on_increasing a i = elim (is_tuple_cases n (n - r) a) [
     | inl t ↦
-        let among = among_from_tuple (n - r) a t.0 in
+        let among = tuple_among n (n - r) a t.0 in
         let c : IsTuple n r (complement (elements_to n) a) =
         complement_tuple (n - r) r a (omega arith) (increasing_distinct a i) t.0 in
         dual_among (elements_to n) (elements_distinct n) (on_tuples n r f) (on_tuples_alternating n r f) a among

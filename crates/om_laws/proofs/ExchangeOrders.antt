@@ -3,26 +3,15 @@
 -- Main results: exchange_in_order and back, exchange_of_increasing.
 -- Reference: Björner, Las Vergnas, Sturmfels, White and Ziegler, Oriented Matroids, chapter 3.
 use Rattle.std.specs.Prelude.{ℕ, List, [], ◌∷◌, ◌++◌}
-use Rattle.std.proofs.Common.{sym, ap, subst, ◌∙◌, ⊎_elim, inl, inr, append_assoc}
+use Rattle.std.proofs.Common.{sym, ap, subst, ◌∙◌, ⊎_elim, append_assoc}
 use Rattle.om_signs.specs.declared.sign.Sign.{Sign}
 use Rattle.om_laws.specs.Members.{IsMember}
 use Rattle.om_laws.specs.Tuples.{IsAlternating}
 use Rattle.om_laws.specs.Bases.{IsBase, HasExchange, HasIncreasingExchange}
-use Rattle.om_laws.proofs.MemberLaws.{distinct_drop, member_append, member_drop, member_left, member_or_not}
-use Rattle.om_laws.proofs.MemberLaws.{member_right}
+use Rattle.om_laws.proofs.MemberLaws.{distinct_drop, member_drop, member_or_not, member_swap}
 use Rattle.om_laws.proofs.TupleLaws.{neighbours_zero, nonzero_distinct, nonzero_from_end, nonzero_swapped}
 use Rattle.om_laws.proofs.TupleLaws.{nonzero_to_end}
 use Rattle.om_laws.proofs.SortingLaws.{by_sorting}
-
-member_swapped : (g x y : ℕ) (cs bs : List ℕ) → IsMember g (cs ++ x ∷ y ∷ bs) → IsMember g (cs ++ y ∷ x ∷ bs)
-member_swapped g x y cs bs m =
-    ⊎_elim (λ k. member_left g cs (y ∷ x ∷ bs) k) (λ k. member_right g cs (y ∷ x ∷ bs) (turned k))
-    (member_append g cs (x ∷ y ∷ bs) m)
-  where
-    turned : IsMember g (x ∷ y ∷ bs) → IsMember g (y ∷ x ∷ bs)
-    turned (inl q) = inr (inl q)
-    turned (inr (inl q)) = inl q
-    turned (inr (inr k)) = inr (inr k)
 
 module _ (chi : List ℕ → Sign) (alt : IsAlternating chi) where
   -- where a and e make a base, and c is one, some element of c makes one with a
@@ -49,7 +38,7 @@ module _ (chi : List ℕ → Sign) (alt : IsAlternating chi) where
       → IsExchanged a (cs ++ y ∷ x ∷ bs)
   second_swapped a x y cs bs ex e na nc =
       let k = ex e na (nonzero_swapped chi alt cs y x bs nc) in
-      (k.0, member_swapped k.0 x y cs bs k.1, k.2)
+      (k.0, member_swap k.0 x y cs bs k.1, k.2)
 
   second_repeated : (a : List ℕ) (x : ℕ) (cs bs : List ℕ) → IsExchanged a (cs ++ x ∷ x ∷ bs)
   second_repeated a x cs bs e na nc = absurd (nc (neighbours_zero chi alt x cs bs))

@@ -10,9 +10,9 @@ use Rattle.std.proofs.lemmas.Bool.{cases_eq, eq-eqb, ne_eqb}
 use Rattle.om_signs.specs.declared.sign.Sign.{Sign}
 use Rattle.om_signs.specs.declared.sign.Sign.TheVariants.{Zero, Plus}
 use Rattle.om_signs.specs.Sign.{opposite, product}
+use Rattle.om_signs.proofs.SignLaws.{opposite-opposite, plus_nonzero, product_zero_left, zero_not_nonzero}
+use Rattle.om_signs.proofs.SignLaws.{zero_or_nonzero, zeros_opposite, products_zero}
 use Rattle.om_laws.specs.Signs.{IsNonzero}
-use Rattle.om_laws.proofs.SignLaws.{opposite-opposite, plus_nonzero, product_zero_left, product_zero_right}
-use Rattle.om_laws.proofs.SignLaws.{zero_not_nonzero, zero_or_nonzero, zeros_opposite}
 use Rattle.om_laws.specs.Members.{IsDistinct, IsMember}
 use Rattle.om_laws.proofs.MemberLaws.{distinct_drop, member_append, member_drop, member_insert, member_last}
 use Rattle.om_laws.proofs.MemberLaws.{member_left, member_middle, member_or_not, member_right}
@@ -278,9 +278,6 @@ module _ (K : SignVector → Type 0)
           same_members (λ l. IsNonzero (s.map l)) (nonzero_swapped s.map s.alt)
           b0 [] t base0.0 b.0 (base_within t b0 b base0 o) o s.at
 
-      both_zero : (p q y z : Sign) → p ≡ Zero → z ≡ Zero → product p y ≡ product q z
-      both_zero p q y z a b = product_zero_left p y a ∙ sym (product_zero_right q z b)
-
       start_pivot : (a : List ℕ) → AreOver K neg_k elim_k extends_or_not b0 base0 b0 a → (Y : SignVector) → K Y
           → Vanishes Y a → (e h : ℕ) → IsMember e b0 → IsMember h b0
           → product (s.map (a ++ e ∷ [])) (Y h) ≡ product (s.map (a ++ h ∷ [])) (Y e)
@@ -295,12 +292,12 @@ module _ (K : SignVector → Type 0)
           (λ zh. product_zero_left (s.map (a ++ e ∷ [])) (Y h) ze
           ∙ sym (product_zero_left (s.map (a ++ h ∷ [])) (Y e) zh))
           (λ nh. ⊎_elim
-          (λ m. both_zero (s.map (a ++ e ∷ [])) (s.map (a ++ h ∷ [])) (Y h) (Y e) ze (vy e m))
+          (λ m. products_zero (s.map (a ++ e ∷ [])) (s.map (a ++ h ∷ [])) (Y h) (Y e) ze (vy e m))
           (λ q. subst (λ z. product (s.map (a ++ e ∷ [])) (Y z) ≡ product (s.map (a ++ z ∷ [])) (Y e)) q refl)
           (member_last e h a (s.all (a ++ h ∷ []) nh e me)))
           (zero_or_nonzero (s.map (a ++ h ∷ []))))
           (λ ne. ⊎_elim
-          (λ m. sym (both_zero (s.map (a ++ h ∷ [])) (s.map (a ++ e ∷ [])) (Y e) (Y h) (rep h m) (vy h m)))
+          (λ m. sym (products_zero (s.map (a ++ h ∷ [])) (s.map (a ++ e ∷ [])) (Y e) (Y h) (rep h m) (vy h m)))
           (λ q. subst (λ z. product (s.map (a ++ z ∷ [])) (Y h) ≡ product (s.map (a ++ h ∷ [])) (Y z)) q refl)
           (member_last h e a (s.all (a ++ e ∷ []) ne h mh)))
           (zero_or_nonzero (s.map (a ++ e ∷ [])))
@@ -323,9 +320,6 @@ module _ (K : SignVector → Type 0)
         → IsMember i (a ++ e ∷ []) → IsMember i E
     over_end a e o m i k = ⊎_elim (λ j. o i j) (λ q. subst (λ z. IsMember z E) (sym q) m) (member_last i e a k)
 
-    zero_row : (p q y z : Sign) → p ≡ Zero → z ≡ Zero → product p y ≡ product q z
-    zero_row p q y z a b = product_zero_left p y a ∙ sym (product_zero_right q z b)
-
     pivot_all : (G : List ℕ) (g : List ℕ → Sign) → IsPartialMap K neg_k elim_k extends_or_not b0 base0 G g
         → ((i : ℕ) → IsMember i E → IsMember i G) → (a : List ℕ) (Y : SignVector) → K Y → Vanishes Y a → (e h : ℕ)
         → ((i : ℕ) → IsMember i a → IsMember i E) ⊎ (((i : ℕ) → IsMember i a → IsMember i E) → ⊥) → IsMember e E
@@ -338,11 +332,11 @@ module _ (K : SignVector → Type 0)
         ∙ sym (product_zero_left (restrict g E (a ++ h ∷ [])) (Y e) (z h))
     pivot_all G g inv all a Y ky vy e h (inl o) (inr ne) dh =
         let ye : Y e ≡ Zero = ⊎_elim (λ q. q) (λ n. absurd (ne (ground Y ky e n))) (zero_or_nonzero (Y e)) in
-        zero_row (restrict g E (a ++ e ∷ [])) (restrict g E (a ++ h ∷ [])) (Y h) (Y e)
+        products_zero (restrict g E (a ++ e ∷ [])) (restrict g E (a ++ h ∷ [])) (Y h) (Y e)
         (restrict_out g E (a ++ e ∷ []) (λ k. ne (k e (member_middle e a [])))) ye
     pivot_all G g inv all a Y ky vy e h (inl o) (inl me) (inr nh) =
         let yh : Y h ≡ Zero = ⊎_elim (λ q. q) (λ n. absurd (nh (ground Y ky h n))) (zero_or_nonzero (Y h)) in
-        sym (zero_row (restrict g E (a ++ h ∷ [])) (restrict g E (a ++ e ∷ [])) (Y e) (Y h)
+        sym (products_zero (restrict g E (a ++ h ∷ [])) (restrict g E (a ++ e ∷ [])) (Y e) (Y h)
         (restrict_out g E (a ++ h ∷ []) (λ k. nh (k h (member_middle h a [])))) yh)
     pivot_all G g inv all a Y ky vy e h (inl o) (inl me) (inl mh) =
         ap (λ z. product z (Y h)) (restrict_in g E (a ++ e ∷ []) (over_end a e o me))

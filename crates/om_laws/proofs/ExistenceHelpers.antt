@@ -1,17 +1,17 @@
 -- Helpers.
 --
 -- Main definitions: Vanishes
--- Main results: left_of_two, right_of_two, zero_of_two, left_factor_nonzero, distinct_insert, same_nonzero,
--- negated_for_none, negated_for_one, negated_for_swap, nonzero_from_negated_for
+-- Main results: left_of_two, right_of_two, zero_of_two, distinct_insert, same_nonzero, negated_for_none,
+-- negated_for_one, negated_for_swap, nonzero_from_negated_for
 use Rattle.std.specs.Prelude.{ℕ, ◌≡◌, ◌⊎◌, List, [], ◌∷◌, ◌++◌, refl}
-use Rattle.std.proofs.Common.{sym, ◌∙◌, ap, subst, arith, inl, inr, ⊎_elim}
+use Rattle.std.proofs.Common.{sym, ◌∙◌, ap, subst, inl, inr, ⊎_elim}
 use Rattle.om_signs.specs.declared.sign.Sign.{Sign}
 use Rattle.om_signs.specs.declared.sign.Sign.TheVariants.{Zero}
-use Rattle.om_signs.specs.Sign.{opposite, product}
+use Rattle.om_signs.specs.Sign.{opposite}
+use Rattle.om_signs.proofs.SignLaws.{zero_or_nonzero, opposite_nonzero, nonzero_from_opposite}
 use Rattle.om_laws.specs.Signs.{IsNonzero}
 use Rattle.om_laws.specs.Members.{IsMember, IsDistinct}
 use Rattle.om_laws.specs.Vectors.{SignVector, AreEqualUpToSign}
-use Rattle.om_laws.proofs.SignLaws.{zero_or_nonzero, opposite_nonzero, nonzero_from_opposite}
 use Rattle.om_laws.proofs.MemberLaws.{member_drop}
 use Rattle.om_laws.proofs.BlockLaws.{negated_for}
 
@@ -39,9 +39,6 @@ zero_of_two z s t a b h = zero (zero_or_nonzero z)
     zero : (z ≡ Zero) ⊎ IsNonzero z → z ≡ Zero
     zero (inl q) = q
     zero (inr n) = either (h n)
-
-pub left_factor_nonzero : (s t : Sign) → IsNonzero (product s t) → IsNonzero s
-left_factor_nonzero s t n = grind arith
 
 pub distinct_insert : (u : List ℕ) (h : ℕ) (v : List ℕ) → IsDistinct (u ++ v) → (IsMember h (u ++ v) → ⊥)
     → IsDistinct (u ++ h ∷ v)

@@ -9,17 +9,23 @@ use Rattle.std.proofs.Common.{zero, suc, sym, ap, ◌∙◌, subst, ⊎_elim, in
 use Rattle.om_signs.specs.declared.sign.Sign.{Sign}
 use Rattle.om_signs.specs.declared.sign.Sign.TheVariants.{Zero}
 use Rattle.om_signs.specs.Sign.{opposite, first_nonzero}
+use Rattle.om_signs.proofs.SignLaws.{equal_not_opposite, equal_or_opposite, first_nonzero_either, first_nonzero_left}
+use Rattle.om_signs.proofs.SignLaws.{first_nonzero_right, nonzero_either, opposite-opposite, opposite_back}
+use Rattle.om_signs.proofs.SignLaws.{opposite_nonzero, opposite_swap, opposite_zero, same_or_different}
+use Rattle.om_signs.proofs.SignLaws.{zero_not_nonzero, zero_or_nonzero}
 use Rattle.om_laws.specs.Signs.{IsNonzero}
 use Rattle.om_laws.specs.Members.{IsMember}
 use Rattle.om_laws.specs.Vectors.{AreEqualUpToSign, HasSupportIn, IsConformal, SignVector}
 use Rattle.om_laws.specs.Covectors.{HasLeastSupport}
 use Rattle.om_laws.specs.Families.{IsListed}
-use Rattle.om_laws.proofs.SignLaws.{equal_not_opposite, equal_or_opposite, first_nonzero_either, first_nonzero_left}
-use Rattle.om_laws.proofs.SignLaws.{first_nonzero_right, nonzero_either, opposite-opposite, opposite_back}
-use Rattle.om_laws.proofs.SignLaws.{opposite_nonzero, opposite_swap, opposite_zero, same_or_different, zero_not_nonzero}
-use Rattle.om_laws.proofs.SignLaws.{zero_or_nonzero}
 use Rattle.om_laws.proofs.MemberLaws.{search_members}
 use Rattle.om_laws.proofs.Counts.{count, count_less}
+
+-- a family has each vector that has the signs of a listed one
+pub listed_same : (X Y : SignVector) (l : List SignVector) → ((e : ℕ) → X e ≡ Y e) → IsListed l Y → IsListed l X
+listed_same X Y [] q m = m
+listed_same X Y (Z ∷ l) q (inl r) = inl (λ e. q e ∙ r e)
+listed_same X Y (Z ∷ l) q (inr m) = inr (listed_same X Y l q m)
 
 pub search_vectors : (P N : SignVector → Type 0) → ((X : SignVector) → P X ⊎ N X)
     → ((X Y : SignVector) → ((e : ℕ) → X e ≡ Y e) → N Y → N X) → (l : List SignVector)

@@ -8,8 +8,8 @@ use Rattle.std.proofs.lemmas.Bool.{cases_eq}
 use Rattle.om_signs.specs.declared.sign.Sign.{Sign}
 use Rattle.om_signs.specs.declared.sign.Sign.TheVariants.{Zero}
 use Rattle.om_signs.specs.Sign.{opposite}
+use Rattle.om_signs.proofs.SignLaws.{nonzero_from_opposite, zero_not_nonzero, zero_or_nonzero}
 use Rattle.om_laws.specs.Signs.{IsNonzero}
-use Rattle.om_laws.proofs.SignLaws.{nonzero_from_opposite, zero_not_nonzero, zero_or_nonzero}
 use Rattle.om_laws.specs.Members.{IsDistinct, IsMember}
 use Rattle.om_laws.proofs.MemberLaws.{distinct_drop, distinct_last, member_drop, member_insert, member_last}
 use Rattle.om_laws.proofs.MemberLaws.{member_left, member_middle, member_or_not, member_right, search_members, split_at}
@@ -22,12 +22,7 @@ use Rattle.om_laws.proofs.CocircuitBases.{ExtendsToBase, HitsAll, IsCocircuitBas
 use Rattle.om_laws.proofs.CocircuitBases.{base_from_members, extending_same}
 use Rattle.om_laws.proofs.Existence.{CocircuitMap, map_of_cocircuits}
 use Rattle.om_laws.specs.Families.{IsListed}
-use Rattle.om_laws.proofs.FamilyLaws.{search_vectors}
-
-pub is_in_same : (X Y : SignVector) (l : List SignVector) → ((e : ℕ) → X e ≡ Y e) → IsListed l Y → IsListed l X
-is_in_same X Y [] q m = m
-is_in_same X Y (Z ∷ l) q (inl r) = inl (λ e. q e ∙ r e)
-is_in_same X Y (Z ∷ l) q (inr m) = inr (is_in_same X Y l q m)
+use Rattle.om_laws.proofs.FamilyLaws.{search_vectors, listed_same}
 
 distinct_or_not : (t : List ℕ) → IsDistinct t ⊎ (IsDistinct t → ⊥)
 distinct_or_not [] = inl tt
@@ -278,7 +273,7 @@ module _ (Ks : List SignVector) (E : List ℕ) (no_rep_ground : IsDistinct E)
     pub row_member : (a : List ℕ) (h : ℕ) → IsNonzero (chirotope.map (a ++ h ∷ []))
         → K (λ e. chirotope.map (a ++ e ∷ []))
     row_member a h n = let y = chirotope.row a h n in
-        is_in_same (λ e. chirotope.map (a ++ e ∷ [])) y.0 Ks (λ e. sym (y.3 e)) y.1
+        listed_same (λ e. chirotope.map (a ++ e ∷ [])) y.0 Ks (λ e. sym (y.3 e)) y.1
 
 -- ---- the chirotope
 
@@ -322,8 +317,9 @@ module _ (Ks : List SignVector) (E : List ℕ) (distinct_ground : IsDistinct E)
       row_member Ks E distinct_ground supported axioms.nonzero axioms.negation axioms.incomparable eliminated
       c.tuple c.nonzero.0 in
       ⊎_elim
-      (λ q. is_in_same X (λ e. m.map (c.tuple ++ e ∷ [])) Ks q (along_in (subst IsNonzero (q c.nonzero.0) c.nonzero.1)))
-      (λ q. is_in_same X (λ e. opposite (m.map (c.tuple ++ e ∷ []))) Ks q
+      (λ q. listed_same X (λ e. m.map (c.tuple ++ e ∷ [])) Ks q
+      (along_in (subst IsNonzero (q c.nonzero.0) c.nonzero.1)))
+      (λ q. listed_same X (λ e. opposite (m.map (c.tuple ++ e ∷ []))) Ks q
       (axioms.negation (λ e. m.map (c.tuple ++ e ∷ []))
       (along_in
       (nonzero_from_opposite (m.map (c.tuple ++ c.nonzero.0 ∷ [])) (subst IsNonzero (q c.nonzero.0) c.nonzero.1)))))

@@ -10,23 +10,23 @@ use Rattle.std.proofs.lemmas.Bool.{cases_eq, eq-eqb, ne_eqb}
 use Rattle.om_signs.specs.declared.sign.Sign.{Sign}
 use Rattle.om_signs.specs.declared.sign.Sign.TheVariants.{Minus, Zero, Plus}
 use Rattle.om_signs.specs.Sign.{opposite, product}
+use Rattle.om_signs.proofs.SignLaws.{opposite-opposite, product-opposite_left, product_assoc, product_nonzero}
+use Rattle.om_signs.proofs.SignLaws.{product_zero_left, product_zero_right, right_factor_nonzero, zero_not_nonzero}
+use Rattle.om_signs.proofs.SignLaws.{zero_or_nonzero, zeros_opposite, products_zero}
 use Rattle.om_laws.specs.Signs.{IsNonzero}
-use Rattle.om_laws.proofs.SignLaws.{opposite-opposite, product-opposite_left, product_assoc, product_nonzero}
-use Rattle.om_laws.proofs.SignLaws.{product_zero_left, product_zero_right, right_factor_nonzero, zero_not_nonzero}
-use Rattle.om_laws.proofs.SignLaws.{zero_or_nonzero, zeros_opposite}
 use Rattle.om_laws.specs.Members.{IsDistinct, IsMember}
 use Rattle.om_laws.proofs.MemberLaws.{distinct_drop, distinct_last, member_append, member_drop, member_insert}
 use Rattle.om_laws.proofs.MemberLaws.{member_last, member_left, member_middle, member_or_not, member_right}
 use Rattle.om_laws.proofs.ExistenceHelpers.{distinct_insert}
 use Rattle.om_laws.specs.Vectors.{SignVector}
 use Rattle.om_laws.proofs.ExistenceHelpers.{Vanishes, same_nonzero}
-use Rattle.om_laws.proofs.VectorLaws.{same_products}
 use Rattle.om_laws.proofs.BlockLaws.{negated_for, negated_for_last, negated_for_nonzero, negated_for_opposite}
 use Rattle.om_laws.proofs.BlockLaws.{negated_for_product, negated_for_zero}
 use Rattle.om_laws.proofs.ExistenceHelpers.{negated_for_none, negated_for_one, negated_for_swap}
 use Rattle.om_laws.proofs.ExistenceHelpers.{nonzero_from_negated_for}
 use Rattle.om_laws.proofs.CocircuitBases.{ExtendsToBase, IsCocircuitBase, base_from_members, extending_base}
 use Rattle.om_laws.proofs.CocircuitBases.{extending_member, extending_nonzero, extending_same, triangle}
+use Rattle.om_laws.proofs.VectorLaws.{same_products}
 
 -- value of psi, against the pivot rule
 rule_sign : (gb gh yb yh yp s : Sign) → s ≡ product gb (product yb yp) → product gb yh ≡ product gh yb → IsNonzero yb
@@ -598,9 +598,6 @@ module _ (K : SignVector → Type 0)
       zero_if_opposite_product : (d s : Sign) → s ≡ Zero → opposite (product d s) ≡ Zero
       zero_if_opposite_product d s e = grind arith
 
-      both_zero : (s t y z : Sign) → s ≡ Zero → z ≡ Zero → product s y ≡ product t z
-      both_zero s t y z a b = product_zero_left s y a ∙ sym (product_zero_right t z b)
-
       both_zero' : (s t y z : Sign) → s ≡ Zero → t ≡ Zero → product s y ≡ product t z
       both_zero' s t y z a b = product_zero_left s y a ∙ sym (product_zero_left t z b)
 
@@ -638,11 +635,12 @@ module _ (K : SignVector → Type 0)
           grown_end u v i n ∙ zero_if_opposite_product d (psi ((u ++ v) ++ i ∷ []))
           (psi_p ((u ++ v) ++ i ∷ []) (member_right p (u ++ v) (i ∷ []) (inl (sym q)))) in
           ⊎_elim
-          (λ qe. both_zero (grown ((u ++ p ∷ v) ++ e ∷ [])) (grown ((u ++ p ∷ v) ++ h ∷ [])) (Y h) (Y e) (zero_p e qe)
+          (λ qe. products_zero (grown ((u ++ p ∷ v) ++ e ∷ [])) (grown ((u ++ p ∷ v) ++ h ∷ [])) (Y h) (Y e)
+          (zero_p e qe)
           (ap Y qe ∙ yp))
           (λ ge. ⊎_elim
           (λ qh. sym
-          (both_zero (grown ((u ++ p ∷ v) ++ h ∷ [])) (grown ((u ++ p ∷ v) ++ e ∷ [])) (Y e) (Y h) (zero_p h qh)
+          (products_zero (grown ((u ++ p ∷ v) ++ h ∷ [])) (grown ((u ++ p ∷ v) ++ e ∷ [])) (Y e) (Y h) (zero_p h qh)
           (ap Y qh ∙ yp)))
           (λ gh. ⊎_elim
           (λ m.

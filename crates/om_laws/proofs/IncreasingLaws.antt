@@ -10,8 +10,9 @@ use Rattle.std.proofs.lemmas.Bool.{cases_eq, eq-eqb, ne_eqb}
 use Rattle.om_signs.specs.declared.sign.Sign.{Sign}
 use Rattle.om_signs.specs.declared.sign.Sign.TheVariants.{Zero}
 use Rattle.om_signs.specs.Sign.{opposite}
+use Rattle.om_signs.proofs.SignLaws.{opposite-opposite, nonzero_from_opposite, zero_or_nonzero}
 use Rattle.om_laws.specs.Signs.{IsNonzero}
-use Rattle.om_laws.specs.Members.{IsDistinct, IsMember, AreAmong}
+use Rattle.om_laws.specs.Members.{IsDistinct, AreAmong}
 use Rattle.om_laws.specs.Vectors.{SignVector, zero_vector, AreEqualUpToSign, HasNonzero}
 use Rattle.om_laws.specs.Tuples.{IsAlternating}
 use Rattle.om_laws.specs.Sorting.{IsIncreasing}
@@ -19,13 +20,12 @@ use Rattle.om_laws.specs.Relations.{around, along}
 use Rattle.om_laws.specs.Circuits.{IsCircuit, IsCocircuit}
 use Rattle.om_laws.specs.Covectors.{IsOrthogonalToAll}
 use Rattle.om_laws.specs.Denotations.{IsAroundIncreasing, IsAlongIncreasing, IsOrthogonalToTuples}
-use Rattle.om_laws.proofs.SignLaws.{opposite-opposite, nonzero_from_opposite, zero_or_nonzero}
-use Rattle.om_laws.proofs.MemberLaws.{distinct_front, search_members}
-use Rattle.om_laws.proofs.VectorLaws.{orthogonal_sym, orthogonal_same, orthogonal_zero, orthogonal_up_to_sign}
-use Rattle.om_laws.proofs.VectorLaws.{same_trans}
+use Rattle.om_laws.proofs.MemberLaws.{distinct_front, search_members, member_swap}
 use Rattle.om_laws.proofs.TupleLaws.{nonzero_distinct}
 use Rattle.om_laws.proofs.SortingLaws.{by_sorting, increasing_distinct}
 use Rattle.om_laws.proofs.RelationLaws.{along_swap, around_member}
+use Rattle.om_laws.proofs.VectorLaws.{orthogonal_sym, orthogonal_same, orthogonal_zero, orthogonal_up_to_sign}
+use Rattle.om_laws.proofs.VectorLaws.{same_trans}
 
 around_swap : (chi : List ℕ → Sign) (x y : ℕ) (cs bs : List ℕ) (e : ℕ) → IsAlternating chi → x ≢ y
     → around chi (cs ++ y ∷ x ∷ bs) e ≡ opposite (around chi (cs ++ x ∷ y ∷ bs) e)
@@ -58,16 +58,9 @@ around_swap chi x y [] bs e alt ne = elim (cases_eq e y) [
           rw (ne_eqb e z n) (ap opposite (around_opposite (λ t. chi (z ∷ t)) (λ t. psi (z ∷ t)) zs e (λ t. h (z ∷ t))))
     ]
 
-members_swap : (x y : ℕ) (cs bs : List ℕ) (e : ℕ) → IsMember e (cs ++ x ∷ y ∷ bs) → IsMember e (cs ++ y ∷ x ∷ bs)
-members_swap x y [] bs e (inl q) = inr (inl q)
-members_swap x y [] bs e (inr (inl q)) = inl q
-members_swap x y [] bs e (inr (inr m)) = inr (inr m)
-members_swap x y (c ∷ cs) bs e (inl q) = inl q
-members_swap x y (c ∷ cs) bs e (inr m) = inr (members_swap x y cs bs e m)
-
 distinct_swap : (x y : ℕ) (cs bs : List ℕ) → IsDistinct (cs ++ x ∷ y ∷ bs) → IsDistinct (cs ++ y ∷ x ∷ bs)
 distinct_swap x y [] bs d = ((λ m. ⊎_elim (λ q. d.0 (inl (sym q))) (λ k. d.1.0 k) m), (λ m. d.0 (inr m), d.1.1))
-distinct_swap x y (c ∷ cs) bs d = ((λ m. d.0 (members_swap y x cs bs c m)), distinct_swap x y cs bs d.1)
+distinct_swap x y (c ∷ cs) bs d = ((λ m. d.0 (member_swap c y x cs bs m)), distinct_swap x y cs bs d.1)
 
 neighbours_differ : (x y : ℕ) (cs bs : List ℕ) → IsDistinct (cs ++ x ∷ y ∷ bs) → x ≢ y
 neighbours_differ x y [] bs d q = d.0 (inl q)
@@ -88,7 +81,7 @@ around_sorted chi alt = by_sorting (λ t. IsDistinct t → IsAroundSorted chi t)
     let k = p (distinct_swap y x cs bs d) in (
       k.0,
       k.1,
-      λ e m. members_swap x y cs bs e (k.2 e m),
+      λ e m. member_swap e x y cs bs (k.2 e m),
       same_trans (around chi (cs ++ y ∷ x ∷ bs)) (around chi (cs ++ x ∷ y ∷ bs)) (around chi k.0)
           (inr (λ e. around_swap chi x y cs bs e alt (λ q. neighbours_differ y x cs bs d (sym q)))) k.3,
     ))

@@ -1,6 +1,8 @@
-pub mod SignLaws
+pub mod NegatedTimes
+pub mod BalancedSigns
 pub mod MemberLaws
 pub mod VectorLaws
+pub mod OrderSigns
 pub mod TupleLaws
 pub mod SortingLaws
 pub mod TupleSizes

@@ -2,10 +2,11 @@
 --
 -- Main definitions: HasRepeat.
 -- Main results: a list is distinct or has a repeat (distinct_or_repeat); membership is decided (member_or_not); members
--- of two lists put together (member_append), and of a list with an element left out (member_drop, distinct_drop); a
--- search (search_members).
+-- of two lists put together (member_append), of a list whose neighbours change places (member_swap), at a place
+-- (member_at), and of a list with an element left out (member_drop, distinct_drop); a search (search_members).
 use Rattle.std.proofs.lemmas.Bool.{cases_eq}
-use Rattle.std.proofs.Common.{ℕ, List, refl, inl, inr, sym, ap, subst, ⊎_elim, ◌≡◌, ◌⊎◌, ◌∷◌, ◌++◌, []}
+use Rattle.std.proofs.Common.{ℕ, zero, suc, List, refl, inl, inr, sym, ap, subst, arith, ⊎_elim, ◌≡◌, ◌<◌, ◌⊎◌, ◌∷◌}
+use Rattle.std.proofs.Common.{◌++◌, [], length, get_or}
 use Rattle.om_laws.specs.Members.{IsMember, IsDistinct}
 
 pub split_at : (e : ℕ) (l : List ℕ) → IsMember e l → (u : List ℕ) × (v : List ℕ) × (l ≡ u ++ e ∷ v)
@@ -49,6 +50,19 @@ pub member_right : (g : ℕ) (u v : List ℕ) → IsMember g v → IsMember g (u
 member_right g [] v m = m
 member_right g (a ∷ u) v m = inr (member_right g u v m)
 
+-- a member of a list in which two neighbours change places
+pub member_swap : (g x y : ℕ) (cs bs : List ℕ) → IsMember g (cs ++ x ∷ y ∷ bs) → IsMember g (cs ++ y ∷ x ∷ bs)
+member_swap g x y [] bs (inl q) = inr (inl q)
+member_swap g x y [] bs (inr (inl q)) = inl q
+member_swap g x y [] bs (inr (inr m)) = inr (inr m)
+member_swap g x y (c ∷ cs) bs (inl q) = inl q
+member_swap g x y (c ∷ cs) bs (inr m) = inr (member_swap g x y cs bs m)
+
+pub member_at : (xs : List ℕ) (i : ℕ) → i < length xs → IsMember (get_or xs i 0) xs
+member_at [] i l = absurd (omega (arith, l))
+member_at (x ∷ xs) zero l = inl refl
+member_at (x ∷ xs) (suc i) l = inr (member_at xs i (omega (arith, l)))
+
 pub member_last : (g e : ℕ) (t : List ℕ) → IsMember g (t ++ e ∷ []) → IsMember g t ⊎ (g ≡ e)
 member_last g e [] (inl q) = inr q
 member_last g e [] (inr m) = absurd m
@@ -91,6 +105,11 @@ search_members P N dec (a ∷ l) =
     (λ k. inr (λ x m. ⊎_elim (λ q. subst N (sym q) n) (λ b. k x b) m))
     (search_members P N dec l))
     (dec a)
+
+pub outside_or_within : (s t : List ℕ) → ((e : ℕ) × IsMember e s × (IsMember e t → ⊥))
+    ⊎ ((e : ℕ) → IsMember e s → IsMember e t)
+outside_or_within s t = search_members (λ e. IsMember e t → ⊥) (λ e. IsMember e t)
+    (λ e. ⊎_elim (λ k. inr k) (λ n. inl n) (member_or_not e t)) s
 
 pub distinct_front : (t : List ℕ) (e : ℕ) → IsDistinct (t ++ e ∷ []) → IsDistinct t
 distinct_front [] e d = tt

@@ -5,24 +5,20 @@
 -- (minimal_axioms).
 -- Reference: Björner, Las Vergnas, Sturmfels, White and Ziegler, Oriented Matroids, chapters 3 and 4.
 use Rattle.std.specs.Prelude.{◌≡◌, ◌↔◌, ℕ, List, [], ◌∷◌}
-use Rattle.std.proofs.Common.{sym, subst, inl, inr, ◌∙◌}
+use Rattle.std.proofs.Common.{sym, subst}
 use Rattle.om_signs.specs.declared.sign.Sign.TheVariants.{Zero}
 use Rattle.om_signs.specs.Sign.{opposite, first_nonzero}
+use Rattle.om_signs.proofs.SignLaws.{nonzero_from_opposite, opposite_nonzero, opposite_swap}
 use Rattle.om_laws.specs.Signs.{IsNonzero}
 use Rattle.om_laws.specs.Vectors.{SignVector, negated, IsSupportedOn}
 use Rattle.om_laws.specs.Axioms.{CircuitAxioms, CovectorAxioms}
 use Rattle.om_laws.specs.Covectors.{IsMinimal}
 use Rattle.om_laws.specs.Compositions.{EachVector, IsComposition, HasConformingParts, composition_of}
 use Rattle.om_laws.specs.Families.{IsListed, AreSupportedOn}
-use Rattle.om_laws.proofs.SignLaws.{nonzero_from_opposite, opposite_nonzero, opposite_swap}
 use Rattle.om_laws.proofs.PairAxioms.{nonzero_composition, not_opposite_at}
 use Rattle.om_laws.proofs.FamilyLaws as family
 use Rattle.om_laws.proofs.PartLaws.{composition_from_conformal, conformal_from_parts}
-
-listed_same : (X Y : SignVector) (l : List SignVector) → ((e : ℕ) → X e ≡ Y e) → IsListed l Y → IsListed l X
-listed_same X Y [] q m = m
-listed_same X Y (Z ∷ l) q (inl r) = inl (λ e. q e ∙ r e)
-listed_same X Y (Z ∷ l) q (inr m) = inr (listed_same X Y l q m)
+use Rattle.om_laws.proofs.FamilyLaws.{listed_same}
 
 module _ (E : List ℕ) (Ls : List SignVector) (supported : AreSupportedOn E Ls)
     (axioms : CovectorAxioms (IsListed Ls)) where

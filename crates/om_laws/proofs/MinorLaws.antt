@@ -3,7 +3,8 @@
 -- Main results: both are chirotopes, for a deletion of an element that some base avoids and a contraction of one of
 -- some base (deletion_chirotope, contraction_chirotope); the covectors of a deletion are the covectors without that
 -- element (deletion_both), those of a contraction are the covectors that are zero there, without it (contraction_both);
--- the same with the other map where the element is a coloop (coloop_both), or a loop (loop_both).
+-- the same with the other map where the element is a coloop (coloop_both), or a loop (loop_both); the numbers from e
+-- on, moved up by one (skip_below, skip_above, skip_other).
 -- Reference: Björner, Las Vergnas, Sturmfels, White and Ziegler, Oriented Matroids, chapters 3 and 4.
 use Rattle.std.specs.Prelude.{ℕ, ◌≡◌, ◌↔◌, ◌≢◌, ◌+◌, ◌-◌, ◌<◌, ◌≤◌, refl, List, [], ◌∷◌, ◌++◌, map, cond, nat_lt}
 use Rattle.std.proofs.Common.{suc, arith, inl, inr, sym, ◌∙◌, ap, subst, ⊎_elim, append-nil}
@@ -32,13 +33,13 @@ use Rattle.om_laws.specs.Circuits.{IsCircuit}
 abbrev pub unskip : ℕ → ℕ → ℕ
 unskip e g = cond (nat_lt g e) g (g - 1)
 
-skip_below : (e p : ℕ) → p < e → skip e p ≡ p
+pub skip_below : (e p : ℕ) → p < e → skip e p ≡ p
 skip_below e p l = rw (lt-ltb p e l) refl
 
-skip_above : (e p : ℕ) → e ≤ p → skip e p ≡ p + 1
+pub skip_above : (e p : ℕ) → e ≤ p → skip e p ≡ p + 1
 skip_above e p l = rw (le-ltb p e l) refl
 
-skip_other : (e p : ℕ) → skip e p ≢ e
+pub skip_other : (e p : ℕ) → skip e p ≢ e
 skip_other e p q = elim (cases_lt p e) [
   | inl l ↦ (let k = skip_below e p l in omega (arith, k, q, l))
   | inr g ↦ (let k = skip_above e p g in omega (arith, k, q, g))

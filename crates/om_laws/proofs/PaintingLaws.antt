@@ -4,18 +4,18 @@
 -- or a cocircuit goes through it with the allowed signs (painting), and not both (not_both).
 -- Reference: Björner, Las Vergnas, Sturmfels, White and Ziegler, Oriented Matroids, chapter 3.
 use Rattle.std.specs.Prelude.{ℕ, ◌≡◌, ◌≢◌, refl, ◌⊎◌, List, [], ◌∷◌, cond, nat_eq, Bool, true, false}
-use Rattle.std.proofs.Common.{arith, inl, inr, sym, ◌∙◌}
+use Rattle.std.proofs.Common.{inl, inr, sym, ◌∙◌}
 use Rattle.std.proofs.lemmas.Bool.{cases_eq, eq-eqb, ne_eqb}
 use Rattle.om_signs.specs.declared.sign.Sign.{Sign}
 use Rattle.om_signs.specs.declared.sign.Sign.TheVariants.{Minus, Zero, Plus}
 use Rattle.om_signs.specs.Sign.{opposite, product}
+use Rattle.om_signs.proofs.SignLaws.{opposite_nonzero, opposite_zero, not_zero_and_minus, product_zero_left}
 use Rattle.om_laws.specs.Colours.{CircuitMay, CocircuitMay, Colour, IsColoured, SomeCircuit, SomeCocircuit, black}
 use Rattle.om_laws.specs.Colours.{green, red, white}
 use Rattle.om_laws.specs.Members.{IsMember}
 use Rattle.om_laws.specs.Signs.{IsNonzero}
 use Rattle.om_laws.specs.Vectors.{SignVector, negated, Orthogonal}
 use Rattle.om_laws.proofs.DualPairs.{IsDualPair}
-use Rattle.om_laws.proofs.SignLaws.{opposite_nonzero, opposite_zero}
 
 abbrev pub paint : (ℕ → Colour) → ℕ → Colour → ℕ → Colour
 paint c f k g = cond (nat_eq g f) k (c g)
@@ -50,10 +50,7 @@ never_minus green Plus t h g p = h refl
 never_minus black Minus t h g p = cc (g, p)
 never_minus black Zero t h g p = cc
 never_minus black Plus t h g p = cc (g, p)
-never_minus white s t h g p = zero_times s t h p
-  where
-    zero_times : (s t : Sign) → s ≡ Zero → product s t ≢ Minus
-    zero_times s t e p = grind arith
+never_minus white s t h g p = not_zero_and_minus (product s t) (product_zero_left s t h) p
 
 -- the product where both are wrong
 both_wrong : (k : Colour) (s t : Sign) → IsColoured k → (CircuitMay k s → ⊥) → (CircuitMay k t → ⊥)

@@ -10,18 +10,18 @@ use Rattle.std.proofs.lemmas.Bool.{cases_eq}
 use Rattle.om_signs.specs.declared.sign.Sign.{Sign}
 use Rattle.om_signs.specs.declared.sign.Sign.TheVariants.{Minus, Zero, Plus}
 use Rattle.om_signs.specs.Sign.{opposite, product, first_nonzero}
+use Rattle.om_signs.proofs.SignLaws.{plus_nonzero, minus_nonzero, zero_or_nonzero, opposite_nonzero, opposite_zero}
+use Rattle.om_signs.proofs.SignLaws.{opposite_or_not, first_nonzero_right, equal_or_opposite, product_nonzero}
+use Rattle.om_signs.proofs.SignLaws.{product_comm, product_zero_left}
 use Rattle.om_laws.specs.Axioms.{AreSeparatedAt, CircuitAxioms, CovectorAxioms}
 use Rattle.om_laws.specs.Covectors.{IsCovectorOf, IsOrthogonalToAll}
 use Rattle.om_laws.specs.Signs.{IsNonzero}
-use Rattle.om_laws.specs.Vectors.{SignVector, composition, Orthogonal, IsSupportedOn}
+use Rattle.om_laws.specs.Vectors.{SignVector, composition, IsSupportedOn}
 use Rattle.om_laws.proofs.DualPairs.{IsDualPair}
 use Rattle.om_laws.proofs.MemberLaws.{search_members}
-use Rattle.om_laws.proofs.SignLaws.{plus_nonzero, minus_nonzero, zero_or_nonzero, opposite_nonzero, opposite_zero}
-use Rattle.om_laws.proofs.SignLaws.{opposite_or_not, first_nonzero_right, equal_or_opposite, product_nonzero}
-use Rattle.om_laws.proofs.SignLaws.{product_comm, product_zero_left, not_own_opposite}
-use Rattle.om_laws.proofs.VectorLaws.{opposite_product, orthogonal_sym}
 use Rattle.om_laws.proofs.PairElimination.{composition_supported, elimination_at, covector_composition}
 use Rattle.om_laws.proofs.PairElimination.{covector_negated, covector_zero, vector_elimination}
+use Rattle.om_laws.proofs.VectorLaws.{orthogonal_sym, two_places}
 
 same_product : (x y xe ye u ue : Sign) → product x u ≡ opposite (product xe ue) → product y u ≡ opposite (product ye ue)
     → xe ≡ ye → IsNonzero u → IsNonzero ue → IsNonzero xe → x ≡ y
@@ -54,20 +54,6 @@ nonzero_composition Plus t o = plus_nonzero
 
 module _ (E : List ℕ) (C D : SignVector → Type 0) (pair : IsDualPair E C D) where
   -- a vector orthogonal to all circuits, with its support in that of a cocircuit, is the cocircuit up to sign
-  only_two : (X Y U : SignVector) → Orthogonal X U → (e h : ℕ) → ((g : ℕ) → g ≢ e → g ≢ h → product (X g) (U g) ≡ Zero)
-      → IsNonzero (product (X e) (U e)) → product (X h) (U h) ≡ opposite (product (X e) (U e))
-  only_two X Y U p e h z n =
-      let k = opposite_product X U p e (product (X e) (U e)) n refl in
-      ⊎_elim
-      (λ q. absurd
-      (not_own_opposite (product (X e) (U e)) n
-      (subst (λ j. product (X j) (U j) ≡ opposite (product (X e) (U e))) q k.1)))
-      (λ ne. ⊎_elim
-      (λ q. subst (λ j. product (X j) (U j) ≡ opposite (product (X e) (U e))) q k.1)
-      (λ nh. absurd (opposite_nonzero (product (X e) (U e)) n (sym k.1 ∙ z k.0 ne nh)))
-      (cases_eq k.0 h))
-      (cases_eq k.0 e)
-
   equal_on_support : (X Y : SignVector) → IsOrthogonalToAll C X → D Y → ((g : ℕ) → IsNonzero (X g) → IsNonzero (Y g))
       → (e : ℕ) → IsNonzero (X e) → X e ≡ Y e → (h : ℕ) → X h ≡ Y h
   equal_on_support X Y cx dy sub e n q h =
@@ -83,8 +69,8 @@ module _ (E : List ℕ) (C D : SignVector → Type 0) (pair : IsDualPair E C D) 
       (λ m. product_zero_at (X g) (u.0 g) (Y g) (sub g m) (u.4 g a b)) (zero_or_nonzero (X g)) in
       let zy : (g : ℕ) → g ≢ e → g ≢ h → product (Y g) (u.0 g) ≡ Zero = λ g a b. product_comm (Y g) (u.0 g)
       ∙ u.4 g a b in
-      let kx = only_two X Y u.0 (cx u.0 u.1) e h zx (product_nonzero (X e) (u.0 e) n u.2) in
-      let ky = only_two Y Y u.0 (orthogonal_sym u.0 Y (pair.orthogonal u.0 Y u.1 dy)) e h zy
+      let kx = two_places X u.0 (cx u.0 u.1) e h zx (product_nonzero (X e) (u.0 e) n u.2) in
+      let ky = two_places Y u.0 (orthogonal_sym u.0 Y (pair.orthogonal u.0 Y u.1 dy)) e h zy
       (product_nonzero (Y e) (u.0 e) ye u.2) in
       same_product (X h) (Y h) (X e) (Y e) (u.0 h) (u.0 e) kx ky q u.3 u.2 n)
       (cases_eq h e))

@@ -8,16 +8,16 @@
 use Rattle.std.specs.Prelude.{ℕ, ◌≡◌, refl, List, [], ◌∷◌}
 use Rattle.std.proofs.Common.{sym, ◌∙◌, ap, subst, ⊎_elim}
 use Rattle.om_signs.specs.Sign.{opposite, product}
+use Rattle.om_signs.proofs.SignLaws.{zero_or_nonzero, opposite_nonzero, nonzero_if_opposite, right_nonzero}
 use Rattle.om_laws.specs.Compositions.{IsConformalComposition, EachVector, HasConformingParts, composition_of}
 use Rattle.om_laws.specs.Covectors.{HasLeastSupport, IsCovectorOf, IsOrthogonalToAll}
 use Rattle.om_laws.specs.Signs.{IsNonzero}
 use Rattle.om_laws.specs.Vectors.{SignVector, HasNonzero}
 use Rattle.om_laws.proofs.DualPairs.{IsDualPair}
-use Rattle.om_laws.proofs.SignLaws.{zero_or_nonzero, opposite_nonzero, nonzero_if_opposite, right_nonzero}
-use Rattle.om_laws.proofs.VectorLaws.{opposite_product, orthogonal_from, orthogonal_same}
 use Rattle.om_laws.proofs.PartLaws.{conformal_from_parts}
 use Rattle.om_laws.proofs.PairElimination.{conformal_decomposition, orthogonal_from_parts}
 use Rattle.om_laws.proofs.PairAxioms.{incomparable, cocircuit_is_covector, covector_axioms}
+use Rattle.om_laws.proofs.VectorLaws.{opposite_product, orthogonal_from, orthogonal_same}
 
 -- being a covector depends on the signs alone
 pub covector_same : (E : List ℕ) (C : SignVector → Type 0) (X Y : SignVector) → ((e : ℕ) → X e ≡ Y e)

@@ -10,6 +10,10 @@ use Rattle.std.proofs.Common.{inl, inr, sym, ◌∙◌, ap, subst, ⊎_elim}
 use Rattle.std.proofs.lemmas.Bool.{cases_eq, eq-eqb, ne_eqb}
 use Rattle.om_signs.specs.declared.sign.Sign.TheVariants.{Minus, Zero, Plus}
 use Rattle.om_signs.specs.Sign.{opposite, product, first_nonzero}
+use Rattle.om_signs.proofs.SignLaws.{plus_nonzero, zero_or_nonzero, opposite_nonzero, opposite_or_not}
+use Rattle.om_signs.proofs.SignLaws.{not_plus_and_minus, nonzero_either, first_nonzero_right, first_nonzero_cases}
+use Rattle.om_signs.proofs.SignLaws.{first_nonzero_from_left, first_nonzero_from_right, first_nonzero_zero}
+use Rattle.om_signs.proofs.SignLaws.{first_of_two, nonzero_if_opposite, left_nonzero}
 use Rattle.om_laws.specs.Colours.{Colour, black, CircuitMay, CocircuitMay, IsColoured}
 use Rattle.om_laws.specs.Compositions.{HasConformingParts}
 use Rattle.om_laws.specs.Covectors.{IsOrthogonalToAll}
@@ -18,17 +22,13 @@ use Rattle.om_laws.specs.Signs.{IsNonzero}
 use Rattle.om_laws.specs.Vectors.{SignVector, zero_vector, negated, composition, IsSupportedOn}
 use Rattle.om_laws.proofs.DualPairs.{IsDualPair}
 use Rattle.om_laws.proofs.PaintingLaws.{painting}
-use Rattle.om_laws.proofs.SignLaws.{plus_nonzero, zero_or_nonzero, opposite_nonzero, opposite_or_not}
-use Rattle.om_laws.proofs.SignLaws.{not_plus_and_minus, nonzero_either, first_nonzero_right, first_nonzero_cases}
-use Rattle.om_laws.proofs.SignLaws.{first_nonzero_from_left, first_nonzero_from_right, first_nonzero_zero, first_of_two}
-use Rattle.om_laws.proofs.SignLaws.{nonzero_if_opposite, left_nonzero}
-use Rattle.om_laws.proofs.VectorLaws.{opposite_product, orthogonal_from, orthogonal_sym, orthogonal_negated}
-use Rattle.om_laws.proofs.VectorLaws.{orthogonal_zero, orthogonal_composition}
 use Rattle.om_laws.proofs.PairColours.{colour_of, colour_of_two, colour_of_coloured, nonzero_from_colour}
 use Rattle.om_laws.proofs.PairColours.{circuit_not_minus, circuit_plus, cocircuit_equal, circuit_not_minus_left}
 use Rattle.om_laws.proofs.PairColours.{circuit_not_minus_right, colour_of_two_coloured, nonzero_from_colour_of_two}
 use Rattle.om_laws.proofs.PairColours.{cocircuit_either, cocircuit_first_nonzero, circuit_plus_left, circuit_plus_right}
 use Rattle.om_laws.proofs.PairColours.{turned_left, turned_right, cocircuit_zero}
+use Rattle.om_laws.proofs.VectorLaws.{opposite_product, orthogonal_from, orthogonal_sym, orthogonal_negated}
+use Rattle.om_laws.proofs.VectorLaws.{orthogonal_zero, orthogonal_composition}
 
 module _ (E : List ℕ) (C D : SignVector → Type 0) (pair : IsDualPair E C D) where
   painted : (col : ℕ → Colour) (e : ℕ) → IsMember e E → IsColoured (col e)

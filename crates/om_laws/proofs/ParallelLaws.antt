@@ -5,10 +5,11 @@
 -- Reference: Björner, Las Vergnas, Sturmfels, White and Ziegler, Oriented Matroids, chapter 3.
 use Rattle.std.specs.Prelude.{ℕ, ◌≡◌, ◌≢◌, refl, List, [], ◌∷◌, ◌++◌}
 use Rattle.std.proofs.Common.{arith, inl, inr, sym, ◌∙◌, subst, ⊎_elim}
-use Rattle.std.proofs.lemmas.Bool.{cases_eq}
 use Rattle.om_signs.specs.declared.sign.Sign.{Sign}
 use Rattle.om_signs.specs.declared.sign.Sign.TheVariants.{Zero}
 use Rattle.om_signs.specs.Sign.{opposite, product}
+use Rattle.om_signs.proofs.SignLaws.{zero_or_nonzero, product_zero_left, product_nonzero, opposite_nonzero}
+use Rattle.om_signs.proofs.SignLaws.{opposite_zero, left_nonzero, not_own_opposite, opposite_swap}
 use Rattle.om_laws.specs.Bases.{IsFundamentalCircuit, IsBase}
 use Rattle.om_laws.specs.Chirotope.{IsChirotope}
 use Rattle.om_laws.specs.Circuits.{IsCircuit}
@@ -22,38 +23,18 @@ use Rattle.om_laws.proofs.BaseLaws.{fundamental_circuit}
 use Rattle.om_laws.proofs.ChirotopeCovectors.{cocircuit_covector}
 use Rattle.om_laws.proofs.MemberLaws.{split_at, member_middle, member_drop, member_insert, distinct_drop}
 use Rattle.om_laws.proofs.RelationLaws.{around_member, nonzero_from_around}
-use Rattle.om_laws.proofs.SignLaws.{zero_or_nonzero, product_zero_left, product_nonzero, opposite_nonzero}
-use Rattle.om_laws.proofs.SignLaws.{opposite_zero, left_nonzero, not_own_opposite}
 use Rattle.om_laws.proofs.TupleLaws.{nonzero_to_end}
-use Rattle.om_laws.proofs.VectorLaws.{opposite_product, orthogonal_sym, same_zero}
-
--- two orthogonal vectors with products at two elements alone
-two_places : (x y : SignVector) → Orthogonal x y → (e h : ℕ) → ((g : ℕ) → g ≢ e → g ≢ h → product (x g) (y g) ≡ Zero)
-    → IsNonzero (product (x e) (y e)) → product (x h) (y h) ≡ opposite (product (x e) (y e))
-two_places x y o e h zero n =
-    let k = opposite_product x y o e (product (x e) (y e)) n refl in
-    elim (cases_eq k.0 e) [
-      | inl q ↦
-          absurd (not_own_opposite (product (x e) (y e)) n
-          (subst (λ g. product (x g) (y g) ≡ opposite (product (x e) (y e))) q k.1))
-      | inr ne ↦ elim (cases_eq k.0 h) [
-        | inl q ↦ subst (λ g. product (x g) (y g) ≡ opposite (product (x e) (y e))) q k.1
-        | inr nh ↦ absurd (opposite_nonzero (product (x e) (y e)) n (sym k.1 ∙ zero k.0 ne nh))
-      ]
-    ]
+use Rattle.om_laws.proofs.VectorLaws.{opposite_product, orthogonal_sym, same_zero, two_places}
 
 balanced_places : (x y : SignVector) → Orthogonal x y → (e h : ℕ)
     → ((g : ℕ) → g ≢ e → g ≢ h → product (x g) (y g) ≡ Zero) → product (x h) (y h) ≡ opposite (product (x e) (y e))
 balanced_places x y o e h zero = elim (zero_or_nonzero (product (x e) (y e))) [
   | inl z ↦ elim (zero_or_nonzero (product (x h) (y h))) [
     | inl w ↦ w ∙ sym (opposite_zero (product (x e) (y e)) z)
-    | inr n ↦ back (product (x e) (y e)) (product (x h) (y h)) (two_places x y o h e (λ g a b. zero g b a) n)
+    | inr n ↦ opposite_swap (product (x e) (y e)) (product (x h) (y h)) (two_places x y o h e (λ g a b. zero g b a) n)
   ]
   | inr n ↦ two_places x y o e h zero n
 ]
-  where
-    back : (a b : Sign) → a ≡ opposite b → b ≡ opposite a
-    back a b q = grind arith
 
 module _ (E : List ℕ) (chi : List ℕ → Sign) (om : IsChirotope E chi) where
   -- ---- loops and coloops

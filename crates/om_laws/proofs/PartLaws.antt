@@ -4,13 +4,13 @@
 -- Reference: Björner, Las Vergnas, Sturmfels, White and Ziegler, Oriented Matroids, chapters 3 and 4.
 use Rattle.std.specs.Prelude.{ℕ, refl, List, [], ◌∷◌}
 use Rattle.std.proofs.Common.{sym, ◌∙◌, ap, subst, ⊎_elim}
+use Rattle.om_signs.proofs.SignLaws.{zero_or_nonzero, first_nonzero_cases, first_nonzero_from_left}
+use Rattle.om_signs.proofs.SignLaws.{first_nonzero_from_right}
 use Rattle.om_laws.specs.Signs.{IsNonzero}
 use Rattle.om_laws.specs.Members.{IsMember}
 use Rattle.om_laws.specs.Vectors.{SignVector, IsConformal, IsSupportedOn}
 use Rattle.om_laws.specs.Compositions.{EachVector, IsConforming, IsComposition, IsConformalComposition}
 use Rattle.om_laws.specs.Compositions.{HasConformingParts, composition_of}
-use Rattle.om_laws.proofs.SignLaws.{zero_or_nonzero, first_nonzero_cases, first_nonzero_from_left}
-use Rattle.om_laws.proofs.SignLaws.{first_nonzero_from_right}
 
 module _ (D : SignVector → Type 0) (X : SignVector) (parts : HasConformingParts D X) where
   -- conforming members that reach each element of a list where X is nonzero

@@ -4,11 +4,14 @@
 -- are zero at the fixed elements (covector_lifted), and such covectors give covectors (covector_pullback).
 -- Reference: Björner, Las Vergnas, Sturmfels, White and Ziegler, Oriented Matroids, chapters 3 and 4.
 use Rattle.std.specs.Prelude.{ℕ, ◌≡◌, refl, ◌⊎◌, List, [], ◌∷◌, ◌++◌, map}
-use Rattle.std.proofs.Common.{arith, inl, inr, sym, ◌∙◌, ap, subst, ⊎_elim, append-nil}
+use Rattle.std.proofs.Common.{inl, inr, sym, ◌∙◌, ap, subst, ⊎_elim, append-nil}
 use Rattle.std.proofs.lemmas.Bool.{cases_eq, eq-eqb, ne_eqb}
 use Rattle.om_signs.specs.declared.sign.Sign.{Sign}
 use Rattle.om_signs.specs.declared.sign.Sign.TheVariants.{Minus, Zero, Plus}
 use Rattle.om_signs.specs.Sign.{opposite, product, first_nonzero}
+use Rattle.om_signs.proofs.SignLaws.{plus_nonzero, minus_nonzero, opposite_nonzero, opposite-opposite}
+use Rattle.om_signs.proofs.SignLaws.{product_zero_right, left_nonzero, right_nonzero, opposite_swap}
+use Rattle.om_signs.proofs.SignLaws.{product-opposite_right}
 use Rattle.om_laws.specs.Chirotope.{IsChirotope}
 use Rattle.om_laws.specs.Circuits.{IsCircuit, IsCocircuit}
 use Rattle.om_laws.specs.Compositions.{EachVector, composition_of, IsConforming}
@@ -23,8 +26,6 @@ use Rattle.om_laws.proofs.BlockLaws.{negated_for, negated_for_opposite, negated_
 use Rattle.om_laws.proofs.ChirotopeCovectors.{cocircuit_covector, covector_axioms, covector_composition}
 use Rattle.om_laws.proofs.MemberLaws.{member_middle, member_append, member_left, member_right}
 use Rattle.om_laws.proofs.RelationLaws.{no_term, around_zero}
-use Rattle.om_laws.proofs.SignLaws.{plus_nonzero, minus_nonzero, opposite_nonzero, opposite-opposite}
-use Rattle.om_laws.proofs.SignLaws.{product_zero_right, left_nonzero, right_nonzero}
 use Rattle.om_laws.proofs.TupleLaws.{moved_over, last_repeat_zero}
 use Rattle.om_laws.proofs.VectorLaws.{opposite_product, orthogonal_from, orthogonal_sym, orthogonal_up_to_sign}
 
@@ -43,23 +44,19 @@ module _ (rename : ℕ → ℕ) (q : List ℕ) where
 
   -- ---- relations
 
+  product_negated_for : (q : List ℕ) (a b c t : Sign) → b ≡ negated_for q c → product a b ≡ opposite t
+      → product a c ≡ opposite (negated_for q t)
+  product_negated_for [] a b c t e p = ap (product a) (sym e) ∙ p
+  product_negated_for (z ∷ q) a b c t e p =
+      product_negated_for q a (opposite b) c (opposite t) (sym (opposite_swap b (negated_for q c) e))
+      (product-opposite_right a b ∙ ap opposite p) ∙ ap opposite (negated_for_opposite q t)
+
   term_up : (chi : List ℕ → Sign) (s : List ℕ) (u v : SignVector) (t : Sign)
       → ((x : ℕ) → u x ≡ negated_for q (v (rename x))) → HasTerm (pullback chi rename q) s u t
       → HasTerm chi (map rename s ++ q) v (negated_for q t)
   term_up chi [] u v t e h = absurd h
-  term_up chi (x ∷ s) u v t e (inl p) = inl (lemma q (chi (map rename s ++ q)) (u x) (v (rename x)) t (e x) p)
-    where
-      lemma : (q : List ℕ) (a b c t : Sign) → b ≡ negated_for q c → product a b ≡ opposite t
-          → product a c ≡ opposite (negated_for q t)
-      lemma [] a b c t e p = ap (product a) (sym e) ∙ p
-      lemma (z ∷ q) a b c t e p = lemma q a (opposite b) c (opposite t) (turned b (negated_for q c) e) (moved a b t p)
-          ∙ ap opposite (negated_for_opposite q t)
-        where
-          turned : (b c : Sign) → b ≡ opposite c → opposite b ≡ c
-          turned b c e = grind arith
-
-          moved : (a b t : Sign) → product a b ≡ opposite t → product a (opposite b) ≡ opposite (opposite t)
-          moved a b t p = grind arith
+  term_up chi (x ∷ s) u v t e (inl p) =
+      inl (product_negated_for q (chi (map rename s ++ q)) (u x) (v (rename x)) t (e x) p)
   term_up chi (x ∷ s) u v t e (inr h) =
       inr (subst (HasTerm (λ l. chi (rename x ∷ l)) (map rename s ++ q) v) (negated_for_opposite q t)
       (term_up (λ l. chi (rename x ∷ l)) s u v (opposite t) e h))
@@ -71,19 +68,8 @@ module _ (rename : ℕ → ℕ) (q : List ℕ) where
       absurd (no_term chi q v t n
       (λ cs bs x k. product_zero_right (chi (cs ++ bs)) (v x)
       (z x (subst (IsMember x) (sym k) (member_middle x cs bs)))) h)
-  term_down chi (x ∷ s) u v t n e z (inl p) = inl (lemma q (chi (map rename s ++ q)) (v (rename x)) (u x) t (e x) p)
-    where
-      lemma : (q : List ℕ) (a b c t : Sign) → b ≡ negated_for q c → product a b ≡ opposite t
-          → product a c ≡ opposite (negated_for q t)
-      lemma [] a b c t e p = ap (product a) (sym e) ∙ p
-      lemma (z ∷ q) a b c t e p = lemma q a (opposite b) c (opposite t) (turned b (negated_for q c) e) (moved a b t p)
-          ∙ ap opposite (negated_for_opposite q t)
-        where
-          turned : (b c : Sign) → b ≡ opposite c → opposite b ≡ c
-          turned b c e = grind arith
-
-          moved : (a b t : Sign) → product a b ≡ opposite t → product a (opposite b) ≡ opposite (opposite t)
-          moved a b t p = grind arith
+  term_down chi (x ∷ s) u v t n e z (inl p) =
+      inl (product_negated_for q (chi (map rename s ++ q)) (v (rename x)) (u x) t (e x) p)
   term_down chi (x ∷ s) u v t n e z (inr h) =
       inr (subst (HasTerm (pullback (λ l. chi (rename x ∷ l)) rename q) s u) (negated_for_opposite q t)
       (term_down (λ l. chi (rename x ∷ l)) s u v (opposite t) (opposite_nonzero t n) e z h))

@@ -6,34 +6,26 @@
 use Rattle.std.specs.Prelude.{ℕ, suc, ◌↔◌, refl, List, [], ◌∷◌, ◌++◌}
 use Rattle.std.proofs.Common.{inl, inr, sym, subst, ⊎_elim}
 use Rattle.om_signs.specs.declared.sign.Sign.{Sign}
+use Rattle.om_signs.proofs.SignLaws.{zero_or_nonzero}
 use Rattle.om_laws.specs.Signs.{IsNonzero}
 use Rattle.om_laws.specs.Members.{IsDistinct, AreAmong}
-use Rattle.om_laws.specs.Vectors.{SignVector, zero_vector, AreEqualUpToSign}
-use Rattle.om_laws.specs.Sorting.{IsElement, IsTuple, on_tuples}
+use Rattle.om_laws.specs.Vectors.{SignVector, zero_vector}
+use Rattle.om_laws.specs.Sorting.{IsTuple, on_tuples}
 use Rattle.om_laws.specs.Relations.{around, along}
 use Rattle.om_laws.specs.Chirotope.{elements_to}
 use Rattle.om_laws.specs.Circuits.{IsCircuit, IsCocircuit}
 use Rattle.om_laws.specs.Covectors.{IsOrthogonalToAll}
 use Rattle.om_laws.specs.Denotations.{IsOrthogonalToTuples, IsAroundTuple, IsAlongTuple, IsOrthogonalInRank}
-use Rattle.om_laws.proofs.SignLaws.{nonzero_from_opposite, zero_or_nonzero}
 use Rattle.om_laws.proofs.MemberLaws.{split_at}
-use Rattle.om_laws.proofs.VectorLaws.{orthogonal_same, orthogonal_zero}
 use Rattle.om_laws.proofs.SortingLaws.{increasing_distinct}
 use Rattle.om_laws.proofs.RelationLaws.{around_member, nonzero_from_around}
-use Rattle.om_laws.proofs.TupleSizes.{each_member, is_tuple_cases, on_tuples_tuple, on_tuples_alternating, tuple_with}
-use Rattle.om_laws.proofs.TupleSizes.{tuple_last}
-use Rattle.om_laws.proofs.ChirotopeLaws.{member_from_element, element_from_member}
+use Rattle.om_laws.proofs.TupleSizes.{is_tuple_cases, on_tuples_tuple, on_tuples_alternating, tuple_with, tuple_last}
+use Rattle.om_laws.proofs.ChirotopeLaws.{element_from_member}
 use Rattle.om_laws.proofs.IncreasingLaws.{circuit_both, cocircuit_both, orthogonal_both}
-
--- a nonzero sign of a vector that is equal up to sign is nonzero
-nonzero_same : (X Y : SignVector) → AreEqualUpToSign X Y → (e : ℕ) → IsNonzero (X e) → IsNonzero (Y e)
-nonzero_same X Y (inl q) e n = subst IsNonzero (q e) n
-nonzero_same X Y (inr q) e n = nonzero_from_opposite (Y e) (subst IsNonzero (q e) n)
+use Rattle.om_laws.proofs.DualSizes.{tuple_among}
+use Rattle.om_laws.proofs.VectorLaws.{orthogonal_same, orthogonal_zero, nonzero_up_to_sign}
 
 module _ (n r : ℕ) (f : List ℕ → Sign) where
-  among_tuple : (k : ℕ) (s : List ℕ) → IsTuple n k s → AreAmong (elements_to n) s
-  among_tuple k s t e m = member_from_element n e (each_member (IsElement n) s t.within e m)
-
   -- a tuple with a nonzero vector around it has r + 1 elements
   around_sized : (s : List ℕ) → IsDistinct s → AreAmong (elements_to n) s → (e : ℕ)
       → IsNonzero (around (on_tuples n r f) s e) → IsTuple n (suc r) s
@@ -52,7 +44,7 @@ module _ (n r : ℕ) (f : List ℕ → Sign) where
           tuple = k.tuple;
           increasing = k.increasing;
           sized = around_sized k.tuple (increasing_distinct k.tuple k.increasing) k.within k.nonzero.0
-              (nonzero_same X (around (on_tuples n r f) k.tuple) k.same k.nonzero.0 k.nonzero.1);
+              (nonzero_up_to_sign X (around (on_tuples n r f) k.tuple) k.same k.nonzero.0 k.nonzero.1);
           nonzero = k.nonzero;
           same = k.same;
         },
@@ -60,7 +52,7 @@ module _ (n r : ℕ) (f : List ℕ → Sign) where
             (record {
               tuple = k.tuple;
               increasing = k.increasing;
-              within = among_tuple (suc r) k.tuple k.sized;
+              within = tuple_among n (suc r) k.tuple k.sized;
               nonzero = k.nonzero;
               same = k.same;
             }),
@@ -74,7 +66,7 @@ module _ (n r : ℕ) (f : List ℕ → Sign) where
           increasing = k.increasing;
           sized = (tuple_last n r k.tuple k.nonzero.0
               (on_tuples_tuple n r f (k.tuple ++ k.nonzero.0 ∷ [])
-              (nonzero_same X (along (on_tuples n r f) k.tuple) k.same k.nonzero.0 k.nonzero.1))).0;
+              (nonzero_up_to_sign X (along (on_tuples n r f) k.tuple) k.same k.nonzero.0 k.nonzero.1))).0;
           nonzero = k.nonzero;
           same = k.same;
         },
@@ -86,7 +78,7 @@ module _ (n r : ℕ) (f : List ℕ → Sign) where
   orthogonal_in_rank X =
       let both = orthogonal_both (elements_to n) (on_tuples n r f) (on_tuples_alternating n r f) X in (
         λ h. both.0 (λ s i w. sized_or_zero h s i w),
-        λ o s t i. both.1 o s i (among_tuple (suc r) s t),
+        λ o s t i. both.1 o s i (tuple_among n (suc r) s t),
       )
     where
       sized_or_zero : IsOrthogonalInRank n r f X → IsOrthogonalToTuples (elements_to n) (on_tuples n r f) X

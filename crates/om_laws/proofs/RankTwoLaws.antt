@@ -8,30 +8,16 @@ use Rattle.std.proofs.Common.{sym, ◌∙◌, subst, ⊎_elim, inl, inr, arith}
 use Rattle.om_signs.specs.declared.sign.Sign.{Sign}
 use Rattle.om_signs.specs.declared.sign.Sign.TheVariants.{Minus, Zero, Plus}
 use Rattle.om_signs.specs.Sign.{opposite, product}
+use Rattle.om_signs.proofs.SignLaws.{opposite_zero, product_nonzero, product_zero_left, product_zero_right}
+use Rattle.om_signs.proofs.SignLaws.{zero_or_nonzero, right_factor_zero, square_times_own_opposite, minus_or_not}
+use Rattle.om_signs.proofs.SignLaws.{same_or_different, left_nonzero, right_nonzero, plus_nonzero, opposite_nonzero}
 use Rattle.om_laws.specs.Members.{IsMember}
 use Rattle.om_laws.specs.Signs.{IsNonzero}
 use Rattle.om_laws.specs.ThreeTerm.{AreBalanced}
-use Rattle.om_laws.proofs.SignLaws.{opposite_zero, product_nonzero, product_zero_left, product_zero_right}
-use Rattle.om_laws.proofs.SignLaws.{zero_or_nonzero}
+use Rattle.om_laws.proofs.BalancedSigns.{balanced_alone}
 
 balanced_without_first : (p q : Sign) → AreBalanced Zero (opposite p) q → p ≡ q
 balanced_without_first p q b = grind arith
-
-balanced_alone : (p : Sign) → AreBalanced p Zero Zero → p ≡ Zero
-balanced_alone p b = grind arith
-
-cancel : (s t : Sign) → IsNonzero s → product s t ≡ Zero → t ≡ Zero
-cancel s t n e = grind arith
-
-dec_plus : (s : Sign) → (s ≡ Plus) ⊎ (s ≢ Plus)
-dec_plus Minus = inr (λ e. grind (arith, e))
-dec_plus Zero = inr (λ e. grind (arith, e))
-dec_plus Plus = inl refl
-
-dec_minus : (s : Sign) → (s ≡ Minus) ⊎ (s ≢ Minus)
-dec_minus Minus = inl refl
-dec_minus Zero = inr (λ e. grind (arith, e))
-dec_minus Plus = inr (λ e. grind (arith, e))
 
 -- ---- facts about a few signs
 step_a : (vh ah vx ax eh ex : Sign) → product ax eh ≡ product ah ex → product vh ah ≢ Minus → product vx ax ≡ Plus
@@ -51,7 +37,7 @@ trans_sign al be ga gh hm gm vg vh vm b p q r h k e =
 anti_total : (vg vh s t : Sign) → t ≡ opposite s → (product (product vg vh) s ≢ Minus)
     ⊎ (product (product vh vg) t ≢ Minus)
 anti_total vg vh s t e =
-    ⊎_elim (λ m. inr (λ k. grind arith)) (λ n. inl n) (dec_minus (product (product vg vh) s))
+    ⊎_elim (λ m. inr (λ k. grind arith)) (λ n. inl n) (minus_or_not (product (product vg vh) s))
 
 live_sign : (v a : Sign) → IsNonzero v → product v a ≢ Minus → (a ≡ Zero) ⊎ (product v a ≡ Plus)
 live_sign Minus Minus n h = inr refl
@@ -66,27 +52,9 @@ least_clash : (vs vh sh t vx sx : Sign) → product (product vs vh) sh ≢ Minus
     → product vx sx ≡ t → IsNonzero t → product vh sh ≡ opposite t → IsNonzero vs → ⊥
 least_clash vs vh sh t vx sx p q e n f u = grind arith
 
-prod_left : (s t r : Sign) → product s t ≡ opposite r → IsNonzero r → IsNonzero s
-prod_left s t r e n = grind arith
-
-prod_right : (s t r : Sign) → product s t ≡ opposite r → IsNonzero r → IsNonzero t
-prod_right s t r e n = grind arith
-
-plus_left : (s t : Sign) → product s t ≡ Plus → IsNonzero s
-plus_left s t e = grind arith
-
-plus_right : (s t : Sign) → product s t ≡ Plus → IsNonzero t
-plus_right s t e = grind arith
-
-nonzero_not_zero : (s : Sign) → IsNonzero s → s ≡ Zero → ⊥
-nonzero_not_zero s n e = grind arith
-
 end_sign : (vh ah vx ax sh sx : Sign) → product ah sx ≡ product ax sh → product vh ah ≢ Minus → product vx ax ≡ Plus
     → product vh sh ≡ opposite (product vx sx) → IsNonzero sx → ⊥
 end_sign vh ah vx ax sh sx b p x0 f n = grind arith
-
-self_sign : (vg s : Sign) → s ≡ opposite s → product (product vg vg) s ≢ Minus
-self_sign vg s e k = grind arith
 
 -- elements S with signs v, a map psi of rank 2 with the three-term relations, an element a that is on one side of all,
 -- and x0 off it
@@ -119,14 +87,15 @@ module _ (psi : ℕ → ℕ → Sign)
         ⊎_elim (λ q. q)
         (λ w.
         let t = product (v x0) (psi e x0) in
-        let k = fam e m x0 mx t (product_nonzero (v x0) (psi e x0) (plus_left (v x0) (psi a x0) off) w) refl in
+        let k = fam e m x0 mx t (product_nonzero (v x0) (psi e x0)
+        (left_nonzero (v x0) (psi a x0) Plus off plus_nonzero) w) refl in
         absurd (step_a (v k.0) (psi a k.0) (v x0) (psi a x0) (psi e k.0) (psi e x0) (line e k.0 z) (side k.0 k.1) off
         k.2 w))
         (zero_or_nonzero (psi e x0))
 
     on_line_all : Families → (e : ℕ) → IsMember e S → IsNonzero (v e) → psi a e ≡ Zero → (h : ℕ) → psi e h ≡ Zero
     on_line_all fam e m n z h =
-        cancel (psi a x0) (psi e h) (plus_right (v x0) (psi a x0) off)
+        right_factor_zero (psi a x0) (psi e h) (right_nonzero (v x0) (psi a x0) Plus off plus_nonzero)
         (line e h z ∙ product_zero_right (psi a h) (psi e x0) (on_line fam e m n z))
 
     abbrev Off : ℕ → Type 0
@@ -155,7 +124,7 @@ module _ (psi : ℕ → ℕ → Sign)
           my,
           oy,
           λ h m oh. ⊎_elim
-              (λ e. subst (λ z. Before y z) (sym e) (self_sign (v y) (psi y y) (anti y y)))
+              (λ e. subst (λ z. Before y z) (sym e) (square_times_own_opposite (v y) (psi y y) (anti y y)))
               (λ b. before_trans y o.0 h oy o.2 oh r (o.3 h b oh)) m,
         ))
         (anti_total (v o.0) (v y) (psi o.0 y) (psi y o.0) (anti y o.0))
@@ -163,7 +132,7 @@ module _ (psi : ℕ → ℕ → Sign)
     outer : (l : List ℕ) → ((h : ℕ) → IsMember h l → IsMember h S) → Outer l
     outer [] w = (x0, mx, off, λ h m oh. absurd m)
     outer (y ∷ l) w = outer_step y l (w y (inl refl)) (outer l (λ h m. w h (inr m)))
-        (dec_plus (product (v y) (psi a y)))
+        (same_or_different (product (v y) (psi a y)) Plus)
 
     -- all elements off the line are parallel to an outermost one
     outer_parallel : Families → (o : Outer S) → (h : ℕ) → IsMember h S → Off h → psi o.0 h ≡ Zero
@@ -171,15 +140,17 @@ module _ (psi : ℕ → ℕ → Sign)
         ⊎_elim (λ q. q)
         (λ w.
         let t = product (v h) (psi o.0 h) in
-        let nt : IsNonzero t = product_nonzero (v h) (psi o.0 h) (plus_left (v h) (psi a h) oh) w in
+        let nt : IsNonzero t = product_nonzero (v h) (psi o.0 h)
+        (left_nonzero (v h) (psi a h) Plus oh plus_nonzero) w in
         let k = fam o.0 o.1 h m t nt refl in
-        let nv : IsNonzero (v k.0) = prod_left (v k.0) (psi o.0 k.0) t k.2 nt in
-        let np : IsNonzero (psi o.0 k.0) = prod_right (v k.0) (psi o.0 k.0) t k.2 nt in
+        let nv : IsNonzero (v k.0) = left_nonzero (v k.0) (psi o.0 k.0) (opposite t) k.2 (opposite_nonzero t nt) in
+        let np : IsNonzero (psi o.0 k.0) =
+        right_nonzero (v k.0) (psi o.0 k.0) (opposite t) k.2 (opposite_nonzero t nt) in
         absurd (⊎_elim
-        (λ z. nonzero_not_zero (psi o.0 k.0) np
+        (λ z. np
         (anti o.0 k.0 ∙ opposite_zero (psi k.0 o.0) (on_line_all fam k.0 k.1 nv z o.0)))
         (λ ok. least_clash (v o.0) (v k.0) (psi o.0 k.0) t (v h) (psi o.0 h) (o.3 k.0 k.1 ok) (o.3 h m oh) refl nt k.2
-        (plus_left (v o.0) (psi a o.0) o.2))
+        (left_nonzero (v o.0) (psi a o.0) Plus o.2 plus_nonzero))
         (live_sign (v k.0) (psi a k.0) nv (side k.0 k.1))))
         (zero_or_nonzero (psi o.0 h))
 
@@ -197,7 +168,7 @@ module _ (psi : ℕ → ℕ → Sign)
         (product_zero_right (psi a e) (psi o.0 x0) p) b in
         let b3 = subst (λ s. AreBalanced (product (psi a o.0) (psi e x0)) Zero s)
         (product_zero_right (psi a x0) (psi o.0 e) q) b2 in
-        cancel (psi a o.0) (psi e x0) (plus_right (v o.0) (psi a o.0) o.2)
+        right_factor_zero (psi a o.0) (psi e x0) (right_nonzero (v o.0) (psi a o.0) Plus o.2 plus_nonzero)
         (balanced_alone (product (psi a o.0) (psi e x0)) b3))
         (live_sign (v e) (psi a e) n (side e m))
 
@@ -205,9 +176,10 @@ module _ (psi : ℕ → ℕ → Sign)
     pub no_other_direction : Families → (s : ℕ) → IsMember s S → IsNonzero (psi s x0) → ⊥
     no_other_direction fam s m n =
         let t = product (v x0) (psi s x0) in
-        let nt : IsNonzero t = product_nonzero (v x0) (psi s x0) (plus_left (v x0) (psi a x0) off) n in
+        let nt : IsNonzero t = product_nonzero (v x0) (psi s x0)
+        (left_nonzero (v x0) (psi a x0) Plus off plus_nonzero) n in
         let k = fam s m x0 mx t nt refl in
-        let nv : IsNonzero (v k.0) = prod_left (v k.0) (psi s k.0) t k.2 nt in
+        let nv : IsNonzero (v k.0) = left_nonzero (v k.0) (psi s k.0) (opposite t) k.2 (opposite_nonzero t nt) in
         let z = each_parallel fam k.0 k.1 nv in
         let b = g3 a s k.0 x0 in
         let b2 = subst (λ r. AreBalanced r (opposite (product (psi a k.0) (psi s x0))) (product (psi a x0) (psi s k.0)))

@@ -12,43 +12,38 @@ use Rattle.std.proofs.Common.{◌≡◌, ◌≢◌, ◌∷◌, ◌++◌, [], ◌
 use Rattle.om_signs.specs.declared.sign.Sign.{Sign}
 use Rattle.om_signs.specs.declared.sign.Sign.TheVariants.{Minus, Zero, Plus}
 use Rattle.om_signs.specs.Sign.{opposite, product}
+use Rattle.om_signs.proofs.SignLaws.{plus_nonzero, minus_nonzero, opposite_nonzero, left_nonzero, opposite-opposite}
+use Rattle.om_signs.proofs.SignLaws.{product_turned_in, product_turned_out, product_zero_left, product_zero_right}
 use Rattle.om_laws.specs.Vectors.{SignVector, HasProduct, Orthogonal}
 use Rattle.om_laws.specs.Members.{IsMember, IsDistinct}
 use Rattle.om_laws.specs.Tuples.{IsAlternating}
 use Rattle.om_laws.specs.Sorting.{IsIncreasing}
 use Rattle.om_laws.specs.Signs.{IsNonzero, negated_times}
 use Rattle.om_laws.specs.Relations.{around, along, HasTerm, IsBalanced, HasRelations}
-use Rattle.om_laws.proofs.SignLaws.{plus_nonzero, minus_nonzero, opposite_nonzero, left_nonzero, negated_times_nonzero}
-use Rattle.om_laws.proofs.SignLaws.{nonzero_from_negated_times}
 use Rattle.om_laws.proofs.MemberLaws.{member_middle, member_or_not}
 use Rattle.om_laws.proofs.TupleLaws.{neighbours_zero}
 use Rattle.om_laws.proofs.SortingLaws.{by_sorting}
+use Rattle.om_laws.proofs.NegatedTimes.{negated_times_nonzero, nonzero_from_negated_times}
+
+turned_product : (a b c s : Sign) → a ≡ opposite b → product a c ≡ opposite s → product b c ≡ opposite (opposite s)
+turned_product a b c s e p = grind arith
 
 HasTerm_opposite : (chi psi : List ℕ → Sign) (xs : List ℕ) (u : ℕ → Sign) (s : Sign)
     → ((t : List ℕ) → psi t ≡ opposite (chi t)) → HasTerm psi xs u s → HasTerm chi xs u (opposite s)
 HasTerm_opposite chi psi [] u s n h = h
-HasTerm_opposite chi psi (x ∷ xs) u s n (inl p) = inl (lemma (psi xs) (chi xs) (u x) s (n xs) p)
-  where
-    lemma : (a b c s : Sign) → a ≡ opposite b → product a c ≡ opposite s → product b c ≡ opposite (opposite s)
-    lemma a b c s e p = grind arith
+HasTerm_opposite chi psi (x ∷ xs) u s n (inl p) = inl (turned_product (psi xs) (chi xs) (u x) s (n xs) p)
 HasTerm_opposite chi psi (x ∷ xs) u s n (inr h) =
     inr (HasTerm_opposite (λ t. chi (x ∷ t)) (λ t. psi (x ∷ t)) xs u (opposite s) (λ t. n (x ∷ t)) h)
 
 HasTerm_swap : (chi : List ℕ → Sign) (x y : ℕ) (cs bs : List ℕ) (u : ℕ → Sign) (s : Sign) → IsAlternating chi
     → HasTerm chi (cs ++ y ∷ x ∷ bs) u s → HasTerm chi (cs ++ x ∷ y ∷ bs) u (opposite s)
-HasTerm_swap chi x y [] bs u s alt (inl p) = inr (inl (ap (λ k. k) p ∙ lemma s))
-  where
-    lemma : (s : Sign) → opposite s ≡ opposite (opposite (opposite s))
-    lemma s = grind arith
+HasTerm_swap chi x y [] bs u s alt (inl p) = inr (inl (ap (λ k. k) p ∙ sym (opposite-opposite (opposite s))))
 HasTerm_swap chi x y [] bs u s alt (inr (inl p)) = inl p
 HasTerm_swap chi x y [] bs u s alt (inr (inr h)) =
     inr (inr (HasTerm_opposite (λ t. chi (x ∷ y ∷ t)) (λ t. chi (y ∷ x ∷ t)) bs u (opposite (opposite s))
     (λ t. alt x y [] t) h))
 HasTerm_swap chi x y (c ∷ cs) bs u s alt (inl p) =
-    inl (lemma (chi (cs ++ y ∷ x ∷ bs)) (chi (cs ++ x ∷ y ∷ bs)) (u c) s (alt x y cs bs) p)
-  where
-    lemma : (a b c s : Sign) → a ≡ opposite b → product a c ≡ opposite s → product b c ≡ opposite (opposite s)
-    lemma a b c s e p = grind arith
+    inl (turned_product (chi (cs ++ y ∷ x ∷ bs)) (chi (cs ++ x ∷ y ∷ bs)) (u c) s (alt x y cs bs) p)
 HasTerm_swap chi x y (c ∷ cs) bs u s alt (inr h) =
     inr (HasTerm_swap (λ t. chi (c ∷ t)) x y cs bs u (opposite s) (λ x y cs bs. alt x y (c ∷ cs) bs) h)
 
@@ -62,39 +57,23 @@ IsBalanced_swap chi x y cs bs u alt (f, g) = (
 none_of_zero : (chi : List ℕ → Sign) (xs : List ℕ) (u : ℕ → Sign) (s : Sign) → s ≢ Zero → ((t : List ℕ) → chi t ≡ Zero)
     → HasTerm chi xs u s → ⊥
 none_of_zero chi [] u s n z h = h
-none_of_zero chi (x ∷ xs) u s n z (inl p) = lemma (chi xs) (u x) s n (z xs) p
-  where
-    lemma : (a c s : Sign) → s ≢ Zero → a ≡ Zero → product a c ≡ opposite s → ⊥
-    lemma a c s n e p = grind arith
+none_of_zero chi (x ∷ xs) u s n z (inl p) = opposite_nonzero s n (sym p ∙ product_zero_left (chi xs) (u x) (z xs))
 none_of_zero chi (x ∷ xs) u s n z (inr h) =
-    none_of_zero (λ t. chi (x ∷ t)) xs u (opposite s) (lemma s n) (λ t. z (x ∷ t)) h
-  where
-    lemma : (s : Sign) → s ≢ Zero → opposite s ≢ Zero
-    lemma s n = grind arith
+    none_of_zero (λ t. chi (x ∷ t)) xs u (opposite s) (opposite_nonzero s n) (λ t. z (x ∷ t)) h
 
 HasTerm_repeat : (chi : List ℕ → Sign) (x : ℕ) (cs bs : List ℕ) (u : ℕ → Sign) (s : Sign) → s ≢ Zero → IsAlternating chi
     → HasTerm chi (cs ++ x ∷ x ∷ bs) u s → HasTerm chi (cs ++ x ∷ x ∷ bs) u (opposite s)
-HasTerm_repeat chi x [] bs u s n alt (inl p) = inr (inl (p ∙ lemma s))
-  where
-    lemma : (s : Sign) → opposite s ≡ opposite (opposite (opposite s))
-    lemma s = grind arith
+HasTerm_repeat chi x [] bs u s n alt (inl p) = inr (inl (p ∙ sym (opposite-opposite (opposite s))))
 HasTerm_repeat chi x [] bs u s n alt (inr (inl p)) = inl p
 HasTerm_repeat chi x [] bs u s n alt (inr (inr h)) =
-    absurd (none_of_zero (λ t. chi (x ∷ x ∷ t)) bs u (opposite (opposite s)) (lemma s n)
-    (λ t. neighbours_zero chi alt x [] t) h)
-  where
-    lemma : (s : Sign) → s ≢ Zero → opposite (opposite s) ≢ Zero
-    lemma s n = grind arith
+    absurd (none_of_zero (λ t. chi (x ∷ x ∷ t)) bs u (opposite (opposite s))
+    (opposite_nonzero (opposite s) (opposite_nonzero s n)) (λ t. neighbours_zero chi alt x [] t) h)
 HasTerm_repeat chi x (c ∷ cs) bs u s n alt (inl p) =
-    absurd (lemma (chi (cs ++ x ∷ x ∷ bs)) (u c) s n (neighbours_zero chi alt x cs bs) p)
-  where
-    lemma : (a c s : Sign) → s ≢ Zero → a ≡ Zero → product a c ≡ opposite s → ⊥
-    lemma a c s n e p = grind arith
+    absurd (opposite_nonzero s n
+    (sym p ∙ product_zero_left (chi (cs ++ x ∷ x ∷ bs)) (u c) (neighbours_zero chi alt x cs bs)))
 HasTerm_repeat chi x (c ∷ cs) bs u s n alt (inr h) =
-    inr (HasTerm_repeat (λ t. chi (c ∷ t)) x cs bs u (opposite s) (lemma s n) (λ x y cs bs. alt x y (c ∷ cs) bs) h)
-  where
-    lemma : (s : Sign) → s ≢ Zero → opposite s ≢ Zero
-    lemma s n = grind arith
+    inr (HasTerm_repeat (λ t. chi (c ∷ t)) x cs bs u (opposite s) (opposite_nonzero s n)
+    (λ x y cs bs. alt x y (c ∷ cs) bs) h)
 
 pub IsBalanced_repeat : (chi : List ℕ → Sign) (x : ℕ) (cs bs : List ℕ) (u : ℕ → Sign) → IsAlternating chi
     → IsBalanced chi (cs ++ x ∷ x ∷ bs) u
@@ -120,14 +99,9 @@ IsBalanced_along chi xs u v n m (f, g) = (
 none_along_zero : (chi : List ℕ → Sign) (xs : List ℕ) (u : ℕ → Sign) (s : Sign) → s ≢ Zero → ((e : ℕ) → u e ≡ Zero)
     → HasTerm chi xs u s → ⊥
 none_along_zero chi [] u s n z h = h
-none_along_zero chi (x ∷ xs) u s n z (inl p) = lemma (chi xs) (u x) s n (z x) p
-  where
-    lemma : (a c s : Sign) → s ≢ Zero → c ≡ Zero → product a c ≡ opposite s → ⊥
-    lemma a c s n e p = grind arith
-none_along_zero chi (x ∷ xs) u s n z (inr h) = none_along_zero (λ t. chi (x ∷ t)) xs u (opposite s) (lemma s n) z h
-  where
-    lemma : (s : Sign) → s ≢ Zero → opposite s ≢ Zero
-    lemma s n = grind arith
+none_along_zero chi (x ∷ xs) u s n z (inl p) = opposite_nonzero s n (sym p ∙ product_zero_right (chi xs) (u x) (z x))
+none_along_zero chi (x ∷ xs) u s n z (inr h) =
+    none_along_zero (λ t. chi (x ∷ t)) xs u (opposite s) (opposite_nonzero s n) z h
 
 pub along_swap : (chi : List ℕ → Sign) (x y : ℕ) (cs bs : List ℕ) (e : ℕ) → IsAlternating chi
     → along chi (cs ++ y ∷ x ∷ bs) e ≡ opposite (along chi (cs ++ x ∷ y ∷ bs) e)
@@ -176,10 +150,7 @@ IsBalanced_same chi psi xs u v e (f, g) = (
 pub no_term : (chi : List ℕ → Sign) (xs : List ℕ) (u : SignVector) (s : Sign) → IsNonzero s
     → ((cs bs : List ℕ) (x : ℕ) → xs ≡ cs ++ x ∷ bs → product (chi (cs ++ bs)) (u x) ≡ Zero) → HasTerm chi xs u s → ⊥
 no_term chi [] u s n z h = h
-no_term chi (x ∷ xs) u s n z (inl p) = lemma (product (chi xs) (u x)) s n (z [] xs x refl) p
-  where
-    lemma : (a s : Sign) → IsNonzero s → a ≡ Zero → a ≡ opposite s → ⊥
-    lemma a s n e p = grind arith
+no_term chi (x ∷ xs) u s n z (inl p) = opposite_nonzero s n (sym p ∙ z [] xs x refl)
 no_term chi (x ∷ xs) u s n z (inr h) =
     no_term (λ t. chi (x ∷ t)) xs u (opposite s) (opposite_nonzero s n)
     (λ cs bs y q. z (x ∷ cs) bs y (ap (λ k. x ∷ k) q)) h
@@ -224,34 +195,25 @@ around_last_nonzero chi t e d n = around_at_nonzero chi t e [] d (subst (λ l. I
 term_product : (chi : List ℕ → Sign) (xs : List ℕ) (u : SignVector) (s : Sign) → IsNonzero s → IsDistinct xs
     → HasTerm chi xs u s → HasProduct (around chi xs) u s
 term_product chi [] u s k d h = absurd h
-term_product chi (x ∷ xs) u s k d (inl p) = (x, rw (eq-eqb x x refl) (lemma (chi xs) (u x) s p))
-  where
-    lemma : (a b s : Sign) → product a b ≡ opposite s → product (opposite a) b ≡ s
-    lemma a b s p = grind arith
+term_product chi (x ∷ xs) u s k d (inl p) = (x, rw (eq-eqb x x refl) (product_turned_in (chi xs) (u x) s p))
 term_product chi (x ∷ xs) u s k d (inr h) =
     let r = term_product (λ t. chi (x ∷ t)) xs u (opposite s) (opposite_nonzero s k) d.1 h in
     let m : IsMember r.0 xs =
     around_member (λ t. chi (x ∷ t)) xs r.0 (left_nonzero _ (u r.0) (opposite s) r.1 (opposite_nonzero s k)) in (
       r.0,
       rw (ne_eqb r.0 x (λ q. d.0 (subst (λ z. IsMember z xs) q m)))
-          (lemma (around (λ t. chi (x ∷ t)) xs r.0) (u r.0) s r.1),
+          (product_turned_in (around (λ t. chi (x ∷ t)) xs r.0) (u r.0) s r.1),
     )
-  where
-    lemma : (a b s : Sign) → product a b ≡ opposite s → product (opposite a) b ≡ s
-    lemma a b s p = grind arith
 
 product_term : (chi : List ℕ → Sign) (xs : List ℕ) (u : SignVector) (s : Sign) (e : ℕ) → IsNonzero s
     → product (around chi xs e) (u e) ≡ s → HasTerm chi xs u s
 product_term chi [] u s e n p = n (sym p)
 product_term chi (x ∷ xs) u s e n p = elim (cases_eq e x) [
-  | inl q ↦ inl (lemma (chi xs) (u x) s (rw q at (rw (eq-eqb e x q) at p)))
+  | inl q ↦ inl (product_turned_out (chi xs) (u x) s (rw q at (rw (eq-eqb e x q) at p)))
   | inr q ↦
       inr (product_term (λ t. chi (x ∷ t)) xs u (opposite s) e (opposite_nonzero s n)
-      (lemma (around (λ t. chi (x ∷ t)) xs e) (u e) s (rw (ne_eqb e x q) at p)))
+      (product_turned_out (around (λ t. chi (x ∷ t)) xs e) (u e) s (rw (ne_eqb e x q) at p)))
 ]
-  where
-    lemma : (a b s : Sign) → product (opposite a) b ≡ s → product a b ≡ opposite s
-    lemma a b s p = grind arith
 
 pub orthogonal_from_balanced : (chi : List ℕ → Sign) (xs : List ℕ) (u : SignVector) → IsDistinct xs
     → IsBalanced chi xs u → Orthogonal (around chi xs) u

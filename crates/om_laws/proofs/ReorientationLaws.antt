@@ -10,6 +10,9 @@ use Rattle.std.proofs.lemmas.Bool.{cases_eq, eq-eqb, ne_eqb}
 use Rattle.om_signs.specs.declared.sign.Sign.{Sign}
 use Rattle.om_signs.specs.declared.sign.Sign.TheVariants.{Minus, Zero, Plus}
 use Rattle.om_signs.specs.Sign.{opposite, product}
+use Rattle.om_signs.proofs.SignLaws.{plus_nonzero, minus_nonzero, plus_or_minus, product_nonzero, right_factor_nonzero}
+use Rattle.om_signs.proofs.SignLaws.{product-opposite_right, opposite-opposite, opposite_nonzero, nonzero_from_opposite}
+use Rattle.om_signs.proofs.SignLaws.{product_opposites, products, product_left_comm, opposite_swap, product_twice}
 use Rattle.om_laws.specs.Chirotope.{IsChirotope}
 use Rattle.om_laws.specs.Circuits.{IsCircuit, IsCocircuit}
 use Rattle.om_laws.specs.Covectors.{IsCovector}
@@ -19,18 +22,15 @@ use Rattle.om_laws.specs.Signs.{IsNonzero}
 use Rattle.om_laws.specs.Tuples.{IsAlternating}
 use Rattle.om_laws.specs.Vectors.{SignVector, Orthogonal, AreEqualUpToSign}
 use Rattle.om_laws.proofs.RelationLaws.{IsBalanced_same}
-use Rattle.om_laws.proofs.SignLaws.{plus_nonzero, minus_nonzero, plus_or_minus, product_nonzero, right_factor_nonzero}
-use Rattle.om_laws.proofs.SignLaws.{product-opposite_right, opposite-opposite, opposite_nonzero, nonzero_from_opposite}
-use Rattle.om_laws.proofs.SignLaws.{product_opposites, products}
-use Rattle.om_laws.proofs.VectorLaws.{opposite_product, orthogonal_from}
 use Rattle.om_laws.proofs.PairCovectors.{covector_same}
 use Rattle.om_laws.proofs.CovectorLaws.{circuit_same, cocircuit_same}
+use Rattle.om_laws.proofs.VectorLaws.{opposite_product, orthogonal_from}
 
 turning_nonzero : (set : ℕ → Bool) (e : ℕ) → IsNonzero (turning set e)
 turning_nonzero set e = elim (set e) as
     (λ b. IsNonzero (cond b Minus Plus)) [ true ↦ minus_nonzero | false ↦ plus_nonzero ]
 
-signs_product_nonzero : (set : ℕ → Bool) (t : List ℕ) → IsNonzero (signs_product (turning set) t)
+pub signs_product_nonzero : (set : ℕ → Bool) (t : List ℕ) → IsNonzero (signs_product (turning set) t)
 signs_product_nonzero set [] = plus_nonzero
 signs_product_nonzero set (x ∷ t) =
     product_nonzero (turning set x) (signs_product (turning set) t) (turning_nonzero set x)
@@ -40,17 +40,11 @@ signs_product_middle : (sigma : ℕ → Sign) (cs bs : List ℕ) (x : ℕ)
     → signs_product sigma (cs ++ x ∷ bs) ≡ product (sigma x) (signs_product sigma (cs ++ bs))
 signs_product_middle sigma [] bs x = refl
 signs_product_middle sigma (c ∷ cs) bs x = ap (product (sigma c)) (signs_product_middle sigma cs bs x)
-    ∙ lemma (sigma c) (sigma x) (signs_product sigma (cs ++ bs))
-  where
-    lemma : (a b c : Sign) → product a (product b c) ≡ product b (product a c)
-    lemma a b c = grind arith
+    ∙ product_left_comm (sigma c) (sigma x) (signs_product sigma (cs ++ bs))
 
 signs_product_swap : (sigma : ℕ → Sign) (cs bs : List ℕ) (x y : ℕ)
     → signs_product sigma (cs ++ y ∷ x ∷ bs) ≡ signs_product sigma (cs ++ x ∷ y ∷ bs)
-signs_product_swap sigma [] bs x y = lemma (sigma y) (sigma x) (signs_product sigma bs)
-  where
-    lemma : (a b c : Sign) → product a (product b c) ≡ product b (product a c)
-    lemma a b c = grind arith
+signs_product_swap sigma [] bs x y = product_left_comm (sigma y) (sigma x) (signs_product sigma bs)
 signs_product_swap sigma (c ∷ cs) bs x y = ap (product (sigma c)) (signs_product_swap sigma cs bs x y)
 
 signs_product_last : (sigma : ℕ → Sign) (t : List ℕ) (x : ℕ)
@@ -91,13 +85,13 @@ IsBalanced_scaled chi psi xs u v Plus n e (f, g) = (
 
 -- ---- reorientation
 
+product_across : (a b c : Sign) → product (product a b) c ≡ product b (product a c)
+product_across a b c = grind arith
+
 along_reoriented : (set : ℕ → Bool) (chi : List ℕ → Sign) (y : List ℕ) (e : ℕ)
     → along (reoriented set chi) y e ≡ product (signs_product (turning set) y) (turned set (along chi y) e)
 along_reoriented set chi y e = ap (λ k. product k (chi (y ++ e ∷ []))) (signs_product_last (turning set) y e)
-    ∙ lemma (turning set e) (signs_product (turning set) y) (chi (y ++ e ∷ []))
-  where
-    lemma : (a b c : Sign) → product (product a b) c ≡ product b (product a c)
-    lemma a b c = grind arith
+    ∙ product_across (turning set e) (signs_product (turning set) y) (chi (y ++ e ∷ []))
 
 around_scaled : (chi psi : List ℕ → Sign) (sigma : ℕ → Sign) (c : Sign) (xs : List ℕ) (e : ℕ)
     → ((x : ℕ) → IsNonzero (sigma x)) → ((t : List ℕ) → psi t ≡ product (product c (signs_product sigma t)) (chi t))
@@ -143,10 +137,7 @@ turned_up_to_sign set X Y Z c n h same = go same (plus_or_minus c n)
         inl (λ e. ap (product (turning set e)) (q e) ∙ sym (h e ∙ ap (λ k. product k (turned set Y e)) p))
     go (inl q) (inr p) =
         inr (λ e. ap (product (turning set e)) (q e)
-        ∙ back (turned set Y e) (Z e) (h e ∙ ap (λ k. product k (turned set Y e)) p))
-      where
-        back : (a b : Sign) → b ≡ opposite a → a ≡ opposite b
-        back a b e = grind arith
+        ∙ opposite_swap (Z e) (turned set Y e) (h e ∙ ap (λ k. product k (turned set Y e)) p))
     go (inr q) (inl p) =
         inr (λ e. ap (product (turning set e)) (q e) ∙ product-opposite_right (turning set e) (Y e)
         ∙ ap opposite (sym (h e ∙ ap (λ k. product k (turned set Y e)) p)))
@@ -158,18 +149,12 @@ turned_nonzero : (set : ℕ → Bool) (X : SignVector) (e : ℕ) → IsNonzero (
 turned_nonzero set X e n = product_nonzero (turning set e) (X e) (turning_nonzero set e) n
 
 turned_twice : (set : ℕ → Bool) (X : SignVector) (e : ℕ) → turned set (turned set X) e ≡ X e
-turned_twice set X e = lemma (turning set e) (X e) (turning_nonzero set e)
-  where
-    lemma : (a b : Sign) → IsNonzero a → product a (product a b) ≡ b
-    lemma a b n = grind arith
+turned_twice set X e = product_twice (turning set e) (X e) (turning_nonzero set e)
 
 turned_across : (set : ℕ → Bool) (X V : SignVector) → Orthogonal X (turned set V) → Orthogonal (turned set X) V
 turned_across set X V o = orthogonal_from (turned set X) V (λ e s n h.
-    let k = opposite_product X (turned set V) o e s n (sym (across (turning set e) (X e) (V e)) ∙ h) in
-    (k.0, across (turning set k.0) (X k.0) (V k.0) ∙ k.1))
-  where
-    across : (a b c : Sign) → product (product a b) c ≡ product b (product a c)
-    across a b c = grind arith
+    let k = opposite_product X (turned set V) o e s n (sym (product_across (turning set e) (X e) (V e)) ∙ h) in
+    (k.0, product_across (turning set k.0) (X k.0) (V k.0) ∙ k.1))
 
 module _ (set : ℕ → Bool) (E : List ℕ) (chi : List ℕ → Sign) where
   reoriented_alternating : IsAlternating chi → IsAlternating (reoriented set chi)
@@ -228,15 +213,15 @@ module _ (set : ℕ → Bool) (E : List ℕ) (chi : List ℕ → Sign) where
 
   -- ---- and back
 
+  undone : (p a v : Sign) → IsNonzero p → IsNonzero a → product p (product a (product p (product a v))) ≡ v
+  undone p a v n m = grind arith
+
   around_back : (x : List ℕ) (e : ℕ)
       → around chi x e ≡ product (signs_product (turning set) x) (turned set (around (reoriented set chi) x) e)
   around_back x e =
       sym (ap (λ k. product (signs_product (turning set) x) (product (turning set e) k)) (around_reoriented set chi x e)
       ∙ undone (signs_product (turning set) x) (turning set e) (around chi x e) (signs_product_nonzero set x)
       (turning_nonzero set e))
-    where
-      undone : (p a v : Sign) → IsNonzero p → IsNonzero a → product p (product a (product p (product a v))) ≡ v
-      undone p a v n m = grind arith
 
   along_back : (y : List ℕ) (e : ℕ)
       → along chi y e ≡ product (signs_product (turning set) y) (turned set (along (reoriented set chi) y) e)
@@ -244,9 +229,6 @@ module _ (set : ℕ → Bool) (E : List ℕ) (chi : List ℕ → Sign) where
       sym (ap (λ k. product (signs_product (turning set) y) (product (turning set e) k)) (along_reoriented set chi y e)
       ∙ undone (signs_product (turning set) y) (turning set e) (along chi y e) (signs_product_nonzero set y)
       (turning_nonzero set e))
-    where
-      undone : (p a v : Sign) → IsNonzero p → IsNonzero a → product p (product a (product p (product a v))) ≡ v
-      undone p a v n m = grind arith
 
   circuit_reoriented : (X : SignVector) → IsCircuit E (reoriented set chi) X → IsCircuit E chi (turned set X)
   circuit_reoriented X c = record {

@@ -2,36 +2,28 @@
 --
 -- Main results: one_size.
 -- Reference: Björner, Las Vergnas, Sturmfels, White and Ziegler, Oriented Matroids, chapter 3.
-use Rattle.std.specs.Prelude.{ℕ, ◌≡◌, ◌≤◌, ◌⊎◌, List, [], ◌∷◌, ◌++◌, length, refl}
-use Rattle.std.proofs.Common.{zero, suc, sym, ap, subst, ◌∙◌, ⊎_elim, inl, inr, arith}
+use Rattle.std.specs.Prelude.{ℕ, ◌≡◌, ◌≤◌, List, [], ◌∷◌, ◌++◌, length, refl}
+use Rattle.std.proofs.Common.{zero, suc, sym, ap, subst, ◌∙◌, ⊎_elim, arith}
 use Rattle.om_signs.specs.declared.sign.Sign.{Sign}
 use Rattle.om_laws.specs.Signs.{IsNonzero}
 use Rattle.om_laws.specs.Members.{IsMember}
 use Rattle.om_laws.specs.Chirotope.{IsChirotope}
-use Rattle.om_laws.proofs.MemberLaws.{member_or_not, search_members, split_at}
+use Rattle.om_laws.proofs.MemberLaws.{split_at, outside_or_within}
 use Rattle.om_laws.proofs.TupleLaws.{nonzero_distinct}
 use Rattle.om_laws.proofs.BlockLaws.{same_members}
 use Rattle.om_laws.proofs.BaseLaws.{exchange}
 use Rattle.om_laws.proofs.ThreeTermLaws.{contained}
 use Rattle.om_laws.proofs.Missing.{missing, missing_middle_member, missing_middle_other}
-
-swap_length : (u : List ℕ) (x y : ℕ) (v : List ℕ) → length (u ++ x ∷ y ∷ v) ≡ length (u ++ y ∷ x ∷ v)
-swap_length [] x y v = refl
-swap_length (c ∷ u) x y v = ap suc (swap_length u x y v)
+use Rattle.om_laws.proofs.TupleSizes.{length_swap}
 
 middle_length : (u : List ℕ) (x y : ℕ) (v : List ℕ) → length (u ++ x ∷ v) ≡ length (u ++ y ∷ v)
 middle_length [] x y v = refl
 middle_length (c ∷ u) x y v = ap suc (middle_length u x y v)
 
 module _ (E : List ℕ) (chi : List ℕ → Sign) (om : IsChirotope E chi) where
-  outside_or_within : (s t : List ℕ) → ((e : ℕ) × IsMember e s × (IsMember e t → ⊥))
-      ⊎ ((e : ℕ) → IsMember e s → IsMember e t)
-  outside_or_within s t = search_members (λ e. IsMember e t → ⊥) (λ e. IsMember e t)
-      (λ e. ⊎_elim (λ k. inr k) (λ n. inl n) (member_or_not e t)) s
-
   within : (s t : List ℕ) → IsNonzero (chi s) → IsNonzero (chi t) → ((e : ℕ) → IsMember e s → IsMember e t)
       → length s ≡ length t
-  within s t ns nt sub = sym (same_members (λ l. length l ≡ length s) (λ u x y v q. swap_length u y x v ∙ q) s [] t
+  within s t ns nt sub = sym (same_members (λ l. length l ≡ length s) (λ u x y v q. length_swap u y x v ∙ q) s [] t
       (nonzero_distinct chi om.alternating s ns) (nonzero_distinct chi om.alternating t nt)
       sub (contained chi om.alternating (exchange E chi om) s t ns nt sub) refl)
 

@@ -9,6 +9,8 @@ use Rattle.std.proofs.lemmas.Bool.{cases_eq}
 use Rattle.om_signs.specs.declared.sign.Sign.{Sign}
 use Rattle.om_signs.specs.declared.sign.Sign.TheVariants.{Minus, Plus}
 use Rattle.om_signs.specs.Sign.{opposite, product}
+use Rattle.om_signs.proofs.SignLaws.{left_nonzero, opposite_nonzero, plus_nonzero, product_nonzero, right_nonzero}
+use Rattle.om_signs.proofs.SignLaws.{same_or_different}
 use Rattle.om_laws.specs.Bases.{HasExchange}
 use Rattle.om_laws.specs.Members.{IsDistinct, IsMember}
 use Rattle.om_laws.specs.Relations.{HasRelations, IsBalanced, along, around}
@@ -25,8 +27,6 @@ use Rattle.om_laws.proofs.Missing.{missing, missing_less, missing_middle_member,
 use Rattle.om_laws.proofs.RankTwoLaws.{no_other_direction}
 use Rattle.om_laws.proofs.RelationLaws.{IsBalanced_swap, around_at, around_member, balanced_from_orthogonal}
 use Rattle.om_laws.proofs.RelationLaws.{nonzero_from_around, orthogonal_from_balanced, relations_by_sorting}
-use Rattle.om_laws.proofs.SignLaws.{left_nonzero, opposite_nonzero, plus_nonzero, product_nonzero, right_nonzero}
-use Rattle.om_laws.proofs.SignLaws.{same_or_different}
 use Rattle.om_laws.proofs.SortingLaws.{increasing_distinct}
 use Rattle.om_laws.proofs.TupleLaws.{moved_over, nonzero_distinct, nonzero_from_end, nonzero_swapped, nonzero_to_end}
 use Rattle.om_laws.proofs.VectorLaws.{opposite_product, orthogonal_from}

@@ -3,10 +3,12 @@
 -- Main results: three_terms_in_order.
 -- Reference: Björner, Las Vergnas, Sturmfels, White and Ziegler, Oriented Matroids, chapter 3.
 use Rattle.std.specs.Prelude.{ℕ, ◌≡◌, List, [], ◌∷◌, ◌++◌, refl}
-use Rattle.std.proofs.Common.{sym, ap, subst, ◌∙◌, ⊎_elim, arith, append_assoc}
+use Rattle.std.proofs.Common.{ap, ◌∙◌, ⊎_elim, arith, append_assoc}
 use Rattle.om_signs.specs.declared.sign.Sign.{Sign}
-use Rattle.om_signs.specs.declared.sign.Sign.TheVariants.{Minus, Zero, Plus}
+use Rattle.om_signs.specs.declared.sign.Sign.TheVariants.{Zero}
 use Rattle.om_signs.specs.Sign.{opposite, product}
+use Rattle.om_signs.proofs.SignLaws.{product_zero_left, product_zero_right, opposite_zero, product_turned_left}
+use Rattle.om_signs.proofs.SignLaws.{product_turned_right, product_turned_both, product_comm, zero_if_opposite}
 use Rattle.om_laws.specs.Members.{IsMember}
 use Rattle.om_laws.specs.Tuples.{IsAlternating}
 use Rattle.om_laws.specs.Sorting.{IsIncreasing}
@@ -14,111 +16,13 @@ use Rattle.om_laws.specs.ThreeTerm.{AreBalanced, HasThreeTermRelations}
 use Rattle.om_laws.proofs.MemberLaws.{distinct_drop, member_left, member_or_not}
 use Rattle.om_laws.proofs.TupleLaws.{neighbours_zero, zero_at_repeat}
 use Rattle.om_laws.proofs.SortingLaws.{by_sorting}
+use Rattle.om_laws.proofs.BalancedSigns.{balanced_same, balanced_zeros, balanced_last_two, balanced_first_two}
+use Rattle.om_laws.proofs.BalancedSigns.{balanced_first_exchanged, balanced_last_exchanged}
 
 -- ---- three signs
 
-balanced_first : (x y z : Sign) → AreBalanced x y z → AreBalanced (opposite x) (opposite z) (opposite y)
-balanced_first Minus Minus Minus h = absurd h
-balanced_first Minus Minus Zero h = absurd h
-balanced_first Minus Minus Plus h = tt
-balanced_first Minus Zero Minus h = absurd h
-balanced_first Minus Zero Zero h = absurd h
-balanced_first Minus Zero Plus h = tt
-balanced_first Minus Plus Minus h = tt
-balanced_first Minus Plus Zero h = tt
-balanced_first Minus Plus Plus h = tt
-balanced_first Zero Minus Minus h = absurd h
-balanced_first Zero Minus Zero h = absurd h
-balanced_first Zero Minus Plus h = tt
-balanced_first Zero Zero Minus h = absurd h
-balanced_first Zero Zero Zero h = tt
-balanced_first Zero Zero Plus h = absurd h
-balanced_first Zero Plus Minus h = tt
-balanced_first Zero Plus Zero h = absurd h
-balanced_first Zero Plus Plus h = absurd h
-balanced_first Plus Minus Minus h = tt
-balanced_first Plus Minus Zero h = tt
-balanced_first Plus Minus Plus h = tt
-balanced_first Plus Zero Minus h = tt
-balanced_first Plus Zero Zero h = absurd h
-balanced_first Plus Zero Plus h = absurd h
-balanced_first Plus Plus Minus h = tt
-balanced_first Plus Plus Zero h = absurd h
-balanced_first Plus Plus Plus h = absurd h
-
-balanced_middle : (x y z : Sign) → AreBalanced x y z → AreBalanced (opposite y) (opposite x) (opposite z)
-balanced_middle Minus Minus Minus h = absurd h
-balanced_middle Minus Minus Zero h = absurd h
-balanced_middle Minus Minus Plus h = tt
-balanced_middle Minus Zero Minus h = absurd h
-balanced_middle Minus Zero Zero h = absurd h
-balanced_middle Minus Zero Plus h = tt
-balanced_middle Minus Plus Minus h = tt
-balanced_middle Minus Plus Zero h = tt
-balanced_middle Minus Plus Plus h = tt
-balanced_middle Zero Minus Minus h = absurd h
-balanced_middle Zero Minus Zero h = absurd h
-balanced_middle Zero Minus Plus h = tt
-balanced_middle Zero Zero Minus h = absurd h
-balanced_middle Zero Zero Zero h = tt
-balanced_middle Zero Zero Plus h = absurd h
-balanced_middle Zero Plus Minus h = tt
-balanced_middle Zero Plus Zero h = absurd h
-balanced_middle Zero Plus Plus h = absurd h
-balanced_middle Plus Minus Minus h = tt
-balanced_middle Plus Minus Zero h = tt
-balanced_middle Plus Minus Plus h = tt
-balanced_middle Plus Zero Minus h = tt
-balanced_middle Plus Zero Zero h = absurd h
-balanced_middle Plus Zero Plus h = absurd h
-balanced_middle Plus Plus Minus h = tt
-balanced_middle Plus Plus Zero h = absurd h
-balanced_middle Plus Plus Plus h = absurd h
-
-balanced_same : (x y z x' y' z' : Sign) → x' ≡ x → y' ≡ y → z' ≡ z → AreBalanced x y z → AreBalanced x' y' z'
-balanced_same x y z x' y' z' p q r h =
-    subst (λ s. AreBalanced s y' z') (sym p)
-    (subst (λ s. AreBalanced x s z') (sym q) (subst (λ s. AreBalanced x y s) (sym r) h))
-
-balanced_zeros : (x y z : Sign) → x ≡ Zero → y ≡ Zero → z ≡ Zero → AreBalanced x y z
-balanced_zeros x y z p q r = balanced_same Zero Zero Zero x y z p q r tt
-
-balanced_last_two : (s : Sign) → AreBalanced Zero (opposite s) s
-balanced_last_two Minus = tt
-balanced_last_two Zero = tt
-balanced_last_two Plus = tt
-
-balanced_first_two : (s : Sign) → AreBalanced s (opposite s) Zero
-balanced_first_two Minus = tt
-balanced_first_two Zero = tt
-balanced_first_two Plus = tt
-
-zero_left : (s t : Sign) → s ≡ Zero → product s t ≡ Zero
-zero_left s t e = grind arith
-
-zero_right : (s t : Sign) → t ≡ Zero → product s t ≡ Zero
-zero_right s t e = grind arith
-
-opposite_zero : (s : Sign) → s ≡ Zero → opposite s ≡ Zero
-opposite_zero s e = grind arith
-
-turned_left : (s s' t : Sign) → s' ≡ opposite s → product s' t ≡ opposite (product s t)
-turned_left s s' t e = grind arith
-
-turned_right : (s t t' : Sign) → t' ≡ opposite t → product s t' ≡ opposite (product s t)
-turned_right s t t' e = grind arith
-
-turned_both : (s s' t t' : Sign) → s' ≡ opposite s → t' ≡ opposite t → product s' t' ≡ product s t
-turned_both s s' t t' e k = grind arith
-
-exchanged : (s t : Sign) → product s t ≡ product t s
-exchanged s t = grind arith
-
 twice : (s t : Sign) → product s t ≡ opposite (opposite (product t s))
 twice s t = grind arith
-
-opposite_is_zero : (s t : Sign) → s ≡ opposite t → t ≡ Zero → s ≡ Zero
-opposite_is_zero s t e z = grind arith
 
 -- ---- a map that alternates
 
@@ -141,48 +45,48 @@ module _ (chi : List ℕ → Sign) (alt : IsAlternating chi) where
       zero_at_repeat chi alt (p ++ x ∷ y ∷ []) (λ r. (distinct_drop p x (y ∷ []) r).1 (member_left x p (y ∷ []) m))
 
   psi_second : (p : List ℕ) (x y : ℕ) → IsMember y p → psi p x y ≡ Zero
-  psi_second p x y m = opposite_is_zero (psi p x y) (psi p y x) (psi_swap p y x) (psi_first p y x m)
+  psi_second p x y m = zero_if_opposite (psi p x y) (psi p y x) (psi_swap p y x) (psi_first p y x m)
 
   swap_first : (p : List ℕ) (a b c d : ℕ) → IsRelation p a b c d → IsRelation p b a c d
   swap_first p a b c d h = balanced_same _ _ _ _ _ _
-      (turned_left (psi p a b) (psi p b a) (psi p c d) (psi_swap p a b))
-      (ap opposite (exchanged (psi p b c) (psi p a d)))
+      (product_turned_left (psi p a b) (psi p b a) (psi p c d) (psi_swap p a b))
+      (ap opposite (product_comm (psi p b c) (psi p a d)))
       (twice (psi p b d) (psi p a c))
-      (balanced_first (product (psi p a b) (psi p c d)) (opposite (product (psi p a c) (psi p b d)))
+      (balanced_last_exchanged (product (psi p a b) (psi p c d)) (opposite (product (psi p a c) (psi p b d)))
       (product (psi p a d) (psi p b c)) h)
 
   swap_middle : (p : List ℕ) (a b c d : ℕ) → IsRelation p a b c d → IsRelation p a c b d
   swap_middle p a b c d h = balanced_same _ _ _ _ _ _
-      (twice (psi p a c) (psi p b d) ∙ ap (λ s. opposite (opposite s)) (exchanged (psi p b d) (psi p a c)))
+      (twice (psi p a c) (psi p b d) ∙ ap (λ s. opposite (opposite s)) (product_comm (psi p b d) (psi p a c)))
       refl
-      (turned_right (psi p a d) (psi p b c) (psi p c b) (psi_swap p b c))
-      (balanced_middle (product (psi p a b) (psi p c d)) (opposite (product (psi p a c) (psi p b d)))
+      (product_turned_right (psi p a d) (psi p b c) (psi p c b) (psi_swap p b c))
+      (balanced_first_exchanged (product (psi p a b) (psi p c d)) (opposite (product (psi p a c) (psi p b d)))
       (product (psi p a d) (psi p b c)) h)
 
   swap_last : (p : List ℕ) (a b c d : ℕ) → IsRelation p a b c d → IsRelation p a b d c
   swap_last p a b c d h = balanced_same _ _ _ _ _ _
-      (turned_right (psi p a b) (psi p c d) (psi p d c) (psi_swap p c d))
+      (product_turned_right (psi p a b) (psi p c d) (psi p d c) (psi_swap p c d))
       refl
-      (twice (psi p a c) (psi p b d) ∙ ap (λ s. opposite (opposite s)) (exchanged (psi p b d) (psi p a c)))
-      (balanced_first (product (psi p a b) (psi p c d)) (opposite (product (psi p a c) (psi p b d)))
+      (twice (psi p a c) (psi p b d) ∙ ap (λ s. opposite (opposite s)) (product_comm (psi p b d) (psi p a c)))
+      (balanced_last_exchanged (product (psi p a b) (psi p c d)) (opposite (product (psi p a c) (psi p b d)))
       (product (psi p a d) (psi p b c)) h)
 
   repeat_first : (p : List ℕ) (a c d : ℕ) → IsRelation p a a c d
   repeat_first p a c d = balanced_same Zero (opposite (product (psi p a c) (psi p a d)))
       (product (psi p a c) (psi p a d)) _ _ _
-      (zero_left (psi p a a) (psi p c d) (psi_same p a)) refl (exchanged (psi p a d) (psi p a c))
+      (product_zero_left (psi p a a) (psi p c d) (psi_same p a)) refl (product_comm (psi p a d) (psi p a c))
       (balanced_last_two (product (psi p a c) (psi p a d)))
 
   repeat_middle : (p : List ℕ) (a b d : ℕ) → IsRelation p a b b d
   repeat_middle p a b d = balanced_same (product (psi p a b) (psi p b d)) (opposite (product (psi p a b) (psi p b d)))
       Zero _ _ _
-      refl refl (zero_right (psi p a d) (psi p b b) (psi_same p b))
+      refl refl (product_zero_right (psi p a d) (psi p b b) (psi_same p b))
       (balanced_first_two (product (psi p a b) (psi p b d)))
 
   repeat_last : (p : List ℕ) (a b c : ℕ) → IsRelation p a b c c
   repeat_last p a b c = balanced_same Zero (opposite (product (psi p a c) (psi p b c)))
       (product (psi p a c) (psi p b c)) _ _ _
-      (zero_right (psi p a b) (psi p c c) (psi_same p c)) refl refl
+      (product_zero_right (psi p a b) (psi p c c) (psi_same p c)) refl refl
       (balanced_last_two (product (psi p a c) (psi p b c)))
 
   -- the relation of the four elements of a list
@@ -224,20 +128,20 @@ module _ (chi : List ℕ → Sign) (alt : IsAlternating chi) where
       → (IsMember a p → ⊥) → (IsMember b p → ⊥) → (IsMember c p → ⊥) → (IsMember d p → ⊥) → IsRelation p a b c d
 
   inside_a : (p : List ℕ) (a b c d : ℕ) → IsMember a p → IsRelation p a b c d
-  inside_a p a b c d m = balanced_zeros _ _ _ (zero_left _ _ (psi_first p a b m))
-      (opposite_zero _ (zero_left _ _ (psi_first p a c m))) (zero_left _ _ (psi_first p a d m))
+  inside_a p a b c d m = balanced_zeros _ _ _ (product_zero_left _ _ (psi_first p a b m))
+      (opposite_zero _ (product_zero_left _ _ (psi_first p a c m))) (product_zero_left _ _ (psi_first p a d m))
 
   inside_b : (p : List ℕ) (a b c d : ℕ) → IsMember b p → IsRelation p a b c d
-  inside_b p a b c d m = balanced_zeros _ _ _ (zero_left _ _ (psi_second p a b m))
-      (opposite_zero _ (zero_right _ _ (psi_first p b d m))) (zero_right _ _ (psi_first p b c m))
+  inside_b p a b c d m = balanced_zeros _ _ _ (product_zero_left _ _ (psi_second p a b m))
+      (opposite_zero _ (product_zero_right _ _ (psi_first p b d m))) (product_zero_right _ _ (psi_first p b c m))
 
   inside_c : (p : List ℕ) (a b c d : ℕ) → IsMember c p → IsRelation p a b c d
-  inside_c p a b c d m = balanced_zeros _ _ _ (zero_right _ _ (psi_first p c d m))
-      (opposite_zero _ (zero_left _ _ (psi_second p a c m))) (zero_right _ _ (psi_second p b c m))
+  inside_c p a b c d m = balanced_zeros _ _ _ (product_zero_right _ _ (psi_first p c d m))
+      (opposite_zero _ (product_zero_left _ _ (psi_second p a c m))) (product_zero_right _ _ (psi_second p b c m))
 
   inside_d : (p : List ℕ) (a b c d : ℕ) → IsMember d p → IsRelation p a b c d
-  inside_d p a b c d m = balanced_zeros _ _ _ (zero_right _ _ (psi_second p c d m))
-      (opposite_zero _ (zero_right _ _ (psi_second p b d m))) (zero_left _ _ (psi_second p a d m))
+  inside_d p a b c d m = balanced_zeros _ _ _ (product_zero_right _ _ (psi_second p c d m))
+      (opposite_zero _ (product_zero_right _ _ (psi_second p b d m))) (product_zero_left _ _ (psi_second p a d m))
 
   module _ (rel : HasIncreasingThreeTerms) where
     four : (p : List ℕ) → IsIncreasing p → (a b c d : ℕ) → IsIncreasing (a ∷ b ∷ c ∷ d ∷ []) → IsRelation p a b c d
@@ -273,11 +177,12 @@ module _ (chi : List ℕ → Sign) (alt : IsAlternating chi) where
     pub three_terms_in_order : HasThreeTermRelations chi
     three_terms_in_order p = by_sorting (λ p. (a b c d : ℕ) → IsRelation p a b c d)
         (λ x y cs bs h a b c d. balanced_same _ _ _ _ _ _
-        (turned_both _ _ _ _ (tuple_turned x y cs bs a b) (tuple_turned x y cs bs c d))
-        (ap opposite (turned_both _ _ _ _ (tuple_turned x y cs bs a c) (tuple_turned x y cs bs b d)))
-        (turned_both _ _ _ _ (tuple_turned x y cs bs a d) (tuple_turned x y cs bs b c))
+        (product_turned_both _ _ _ _ (tuple_turned x y cs bs a b) (tuple_turned x y cs bs c d))
+        (ap opposite (product_turned_both _ _ _ _ (tuple_turned x y cs bs a c) (tuple_turned x y cs bs b d)))
+        (product_turned_both _ _ _ _ (tuple_turned x y cs bs a d) (tuple_turned x y cs bs b c))
         (h a b c d))
         (λ x cs bs a b c d. balanced_zeros _ _ _
-        (zero_left _ _ (tuple_repeat x cs bs a b)) (opposite_zero _ (zero_left _ _ (tuple_repeat x cs bs a c)))
-        (zero_left _ _ (tuple_repeat x cs bs a d)))
+        (product_zero_left _ _ (tuple_repeat x cs bs a b))
+        (opposite_zero _ (product_zero_left _ _ (tuple_repeat x cs bs a c)))
+        (product_zero_left _ _ (tuple_repeat x cs bs a d)))
         of_increasing p

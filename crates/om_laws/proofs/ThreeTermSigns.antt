@@ -7,6 +7,7 @@ use Rattle.std.proofs.Common.{sym, ap, subst, inl, inr, arith, append_assoc}
 use Rattle.om_signs.specs.declared.sign.Sign.{Sign}
 use Rattle.om_signs.specs.declared.sign.Sign.TheVariants.{Minus, Zero, Plus}
 use Rattle.om_signs.specs.Sign.{opposite, product}
+use Rattle.om_signs.proofs.SignLaws.{opposite_nonzero, plus_nonzero}
 use Rattle.om_laws.specs.Signs.{IsNonzero}
 use Rattle.om_laws.specs.Members.{IsMember}
 use Rattle.om_laws.specs.Tuples.{IsAlternating}
@@ -14,7 +15,6 @@ use Rattle.om_laws.specs.Relations.{along, HasTerm, HasRelations}
 use Rattle.om_laws.specs.ThreeTerm.{AreBalanced, HasThreeTermRelations}
 use Rattle.om_laws.proofs.BlockLaws.{negated_for, negated_for_nonzero, negated_for_opposite}
 use Rattle.om_laws.proofs.MemberLaws.{member_left}
-use Rattle.om_laws.proofs.SignLaws.{opposite_nonzero, plus_nonzero}
 use Rattle.om_laws.proofs.TupleLaws.{last_repeat_zero}
 
 -- ---- three signs

@@ -11,16 +11,14 @@ use Rattle.std.proofs.Common.{◌≡◌, ◌≢◌, ◌∷◌, ◌++◌, [], ◌
 use Rattle.om_signs.specs.declared.sign.Sign.{Sign}
 use Rattle.om_signs.specs.declared.sign.Sign.TheVariants.{Zero}
 use Rattle.om_signs.specs.Sign.{opposite, product}
+use Rattle.om_signs.proofs.SignLaws.{nonzero_if_opposite, product_left_comm, product-opposite_left}
+use Rattle.om_signs.proofs.SignLaws.{product-opposite_right, products, opposite_zero, own_opposite}
 use Rattle.om_laws.specs.Members.{IsMember, IsDistinct}
 use Rattle.om_laws.specs.Signs.{IsNonzero, negated_times}
 use Rattle.om_laws.specs.Tuples.{IsAlternating, order_sign, before_sign, sort_sign, insert, sorted, value}
-use Rattle.om_laws.proofs.SignLaws.{nonzero_if_opposite, product_left_comm, product-opposite_left}
-use Rattle.om_laws.proofs.SignLaws.{product-opposite_right, products, opposite_zero, own_opposite}
-use Rattle.om_laws.proofs.SignLaws.{negated_times_nonzero, nonzero_from_negated_times}
 use Rattle.om_laws.proofs.MemberLaws.{distinct_or_repeat, split_at}
-
-pub order_sign_swap : (x y : ℕ) → order_sign y x ≡ opposite (order_sign x y)
-order_sign_swap x y = grind arith
+use Rattle.om_laws.proofs.NegatedTimes.{negated_times_nonzero, nonzero_from_negated_times}
+use Rattle.om_laws.proofs.OrderSigns.{order_sign_swap}
 
 before_sign_swap : (a x y : ℕ) (cs bs : List ℕ) → before_sign a (cs ++ y ∷ x ∷ bs) ≡ before_sign a (cs ++ x ∷ y ∷ bs)
 before_sign_swap a x y [] bs = product_left_comm (order_sign a y) (order_sign a x) (before_sign a bs)

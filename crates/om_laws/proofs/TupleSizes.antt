@@ -21,6 +21,9 @@ each_member P [] a e m = absurd m
 each_member P (x ∷ xs) a e (inl q) = subst P (sym q) a.0
 each_member P (x ∷ xs) a e (inr m) = each_member P xs a.1 e m
 
+pub triple_is_tuple : (n a b c : ℕ) → IsElement n a → IsElement n b → IsElement n c → IsTuple n 3 (a ∷ b ∷ c ∷ [])
+triple_is_tuple n a b c ha hb hc = record { size = refl; within = (ha, (hb, (hc, tt))) }
+
 is_element_cases : (n e : ℕ) → (IsElement n e × (is_element n e ≡ true))
     ⊎ ((IsElement n e → ⊥) × (is_element n e ≡ false))
 is_element_cases n e = elim (cases_lt 0 e) [
@@ -30,6 +33,9 @@ is_element_cases n e = elim (cases_lt 0 e) [
   ]
   | inr ge ↦ inr ((λ h. let k = h.0 in omega (arith, k, ge)), rw (le-ltb 0 e ge) refl)
 ]
+
+pub element_or_not : (n e : ℕ) → IsElement n e ⊎ (IsElement n e → ⊥)
+element_or_not n e = elim (is_element_cases n e) [ inl a ↦ inl a.0 | inr a ↦ inr a.0 ]
 
 are_elements_cases : (n : ℕ) (xs : List ℕ) → (Each (IsElement n) xs × (are_elements n xs ≡ true))
     ⊎ ((Each (IsElement n) xs → ⊥) × (are_elements n xs ≡ false))
@@ -70,13 +76,14 @@ on_tuples_tuple n r f xs h = elim (is_tuple_cases n r xs) [
   | inr a ↦ absurd (h (rw a.1 refl))
 ]
 
-pub swap_tuple : (n k x y : ℕ) (cs bs : List ℕ) → IsTuple n k (cs ++ y ∷ x ∷ bs) → IsTuple n k (cs ++ x ∷ y ∷ bs)
-swap_tuple n k x y cs bs h = record { size = swap_length cs ∙ h.size; within = swap_all cs h.within }
-  where
-    swap_length : (cs : List ℕ) → length (cs ++ x ∷ y ∷ bs) ≡ length (cs ++ y ∷ x ∷ bs)
-    swap_length [] = refl
-    swap_length (c ∷ cs) = ap suc (swap_length cs)
+-- two neighbours change places
+pub length_swap : (u : List ℕ) (x y : ℕ) (v : List ℕ) → length (u ++ x ∷ y ∷ v) ≡ length (u ++ y ∷ x ∷ v)
+length_swap [] x y v = refl
+length_swap (c ∷ u) x y v = ap suc (length_swap u x y v)
 
+pub swap_tuple : (n k x y : ℕ) (cs bs : List ℕ) → IsTuple n k (cs ++ y ∷ x ∷ bs) → IsTuple n k (cs ++ x ∷ y ∷ bs)
+swap_tuple n k x y cs bs h = record { size = length_swap cs x y bs ∙ h.size; within = swap_all cs h.within }
+  where
     swap_all : (cs : List ℕ) → Each (IsElement n) (cs ++ y ∷ x ∷ bs) → Each (IsElement n) (cs ++ x ∷ y ∷ bs)
     swap_all [] (a, (b, r)) = (b, (a, r))
     swap_all (c ∷ cs) (a, r) = (a, swap_all cs r)

@@ -6,8 +6,11 @@
 use Rattle.std.specs.Prelude.{◌≡◌, ◌≢◌, ◌⊎◌, ℕ, ◌≤◌, List, [], ◌∷◌, ◌++◌, refl}
 use Rattle.std.proofs.Common.{zero, suc, sym, ap, ◌∙◌, subst, ⊎_elim, inl, inr, arith, append_assoc}
 use Rattle.om_signs.specs.declared.sign.Sign.{Sign}
-use Rattle.om_signs.specs.declared.sign.Sign.TheVariants.{Minus, Zero, Plus}
+use Rattle.om_signs.specs.declared.sign.Sign.TheVariants.{Zero}
 use Rattle.om_signs.specs.Sign.{opposite, product}
+use Rattle.om_signs.proofs.SignLaws.{left_nonzero, not_own_opposite, opposite_nonzero, plus_or_minus, product_nonzero}
+use Rattle.om_signs.proofs.SignLaws.{product_opposites, right_nonzero, zero_not_nonzero, zero_or_nonzero}
+use Rattle.om_signs.proofs.SignLaws.{zeros_opposite, equal_if_product_plus, opposite_if_product_minus}
 use Rattle.om_laws.specs.Chirotope.{IsChirotope}
 use Rattle.om_laws.specs.Circuits.{IsCircuit}
 use Rattle.om_laws.specs.Covectors.{IsCovector}
@@ -23,8 +26,6 @@ use Rattle.om_laws.proofs.MemberLaws.{distinct_last, member_drop, member_insert,
 use Rattle.om_laws.proofs.MemberLaws.{member_middle, member_or_not, member_right, search_members, split_at}
 use Rattle.om_laws.proofs.Missing.{missing, missing_middle_member, missing_middle_other}
 use Rattle.om_laws.proofs.RelationLaws.{around_last_nonzero, around_member, nonzero_from_around}
-use Rattle.om_laws.proofs.SignLaws.{left_nonzero, not_own_opposite, opposite_nonzero, plus_or_minus, product_nonzero}
-use Rattle.om_laws.proofs.SignLaws.{product_opposites, right_nonzero, zero_not_nonzero, zero_or_nonzero, zeros_opposite}
 use Rattle.om_laws.proofs.TupleLaws.{last_repeat_zero, nonzero_distinct, nonzero_from_end, nonzero_swapped}
 use Rattle.om_laws.proofs.TupleLaws.{nonzero_to_end}
 use Rattle.om_laws.proofs.VectorLaws.{opposite_product, orthogonal_from, orthogonal_sym, orthogonal_up_to_sign}
@@ -256,12 +257,6 @@ module _ (E : List ℕ) (chi psi : List ℕ → Sign) (omf : IsChirotope E chi) 
         → product (chi t) (psi t) ≡ product (chi omf.base.0) (psi omf.base.0)
     same_ratio t n = connect (missing omf.base.0 t) omf.base.0 t omf.base.1 n (omega arith)
 
-equal_values : (a b : Sign) → product a b ≡ Plus → a ≡ b
-equal_values a b e = grind arith
-
-opposite_values : (a b : Sign) → product a b ≡ Minus → a ≡ opposite b
-opposite_values a b e = grind arith
-
 -- two chirotopes with the same covectors are equal or opposite
 pub unique : (E : List ℕ) (chi psi : List ℕ → Sign) → IsChirotope E chi → IsChirotope E psi
     → ((Y : SignVector) → IsCovector E chi Y → IsCovector E psi Y)
@@ -276,9 +271,9 @@ unique E chi psi omf omg fg gf =
     λ t z. ⊎_elim (λ q. q) (λ n. absurd (zero_not_nonzero (chi t) z (back t n))) (zero_or_nonzero (psi t)) in
     ⊎_elim
     (λ p. inl
-    (λ t. ⊎_elim (λ z. z ∙ sym (zero t z)) (λ n. equal_values (chi t) (psi t) (rho t n ∙ p))
+    (λ t. ⊎_elim (λ z. z ∙ sym (zero t z)) (λ n. equal_if_product_plus (chi t) (psi t) (rho t n ∙ p))
     (zero_or_nonzero (chi t))))
     (λ p. inr
     (λ t. ⊎_elim (λ z. zeros_opposite (chi t) (psi t) z (zero t z))
-    (λ n. opposite_values (chi t) (psi t) (rho t n ∙ p)) (zero_or_nonzero (chi t))))
+    (λ n. opposite_if_product_minus (chi t) (psi t) (rho t n ∙ p)) (zero_or_nonzero (chi t))))
     (plus_or_minus r (product_nonzero (chi omf.base.0) (psi omf.base.0) omf.base.1 (there omf.base.0 omf.base.1)))

@@ -4,15 +4,17 @@
 -- composition (orthogonal_composition); it says that where a product is nonzero another is its opposite
 -- (opposite_product, orthogonal_from); it is that of vectors that are equal up to sign (orthogonal_up_to_sign).
 -- Reference: Björner, Las Vergnas, Sturmfels, White and Ziegler, Oriented Matroids, chapter 3.
-use Rattle.std.proofs.Common.{⊎_elim, ℕ, refl, arith, inl, inr, sym, ap, ◌≡◌, ◌≢◌, ◌⊎◌, ◌∙◌}
+use Rattle.std.proofs.Common.{⊎_elim, ℕ, refl, arith, inl, inr, sym, ap, ◌≡◌, ◌≢◌, ◌⊎◌, ◌∙◌, subst}
+use Rattle.std.proofs.lemmas.Bool.{cases_eq}
 use Rattle.om_signs.specs.declared.sign.Sign.{Sign}
 use Rattle.om_signs.specs.declared.sign.Sign.TheVariants.{Minus, Zero, Plus}
 use Rattle.om_signs.specs.Sign.{opposite, product, first_nonzero}
+use Rattle.om_signs.proofs.SignLaws.{product_opposites, opposite_zero, opposite-opposite, plus_nonzero, minus_nonzero}
+use Rattle.om_signs.proofs.SignLaws.{product_comm, product-opposite_left, product_turned_out, opposite_swap}
+use Rattle.om_signs.proofs.SignLaws.{not_own_opposite, opposite_nonzero}
 use Rattle.om_laws.specs.Vectors.{SignVector, zero_vector, negated, composition, HasProduct, Orthogonal}
 use Rattle.om_laws.specs.Vectors.{AreEqualUpToSign}
 use Rattle.om_laws.specs.Signs.{IsNonzero}
-use Rattle.om_laws.proofs.SignLaws.{product_opposites, opposite_zero, opposite-opposite, plus_nonzero, minus_nonzero}
-use Rattle.om_laws.proofs.SignLaws.{product_comm, product-opposite_left}
 
 HasProduct_sym : (x y : SignVector) (s : Sign) → HasProduct x y s → HasProduct y x s
 HasProduct_sym x y s (e, p) = (e, product_comm (y e) (x e) ∙ p)
@@ -27,10 +29,7 @@ HasProduct_negated : (x y : SignVector) (s : Sign) → HasProduct x y s → HasP
 HasProduct_negated x y s (e, p) = (e, product-opposite_left (x e) (y e) ∙ ap opposite p)
 
 HasProduct_from_negated : (x y : SignVector) (s : Sign) → HasProduct (negated x) y s → HasProduct x y (opposite s)
-HasProduct_from_negated x y s (e, p) = (e, lemma (x e) (y e) s p)
-  where
-    lemma : (a b s : Sign) → product (opposite a) b ≡ s → product a b ≡ opposite s
-    lemma a b s p = grind arith
+HasProduct_from_negated x y s (e, p) = (e, product_turned_out (x e) (y e) s p)
 
 pub orthogonal_negated : (x y : SignVector) → Orthogonal x y → Orthogonal (negated x) y
 orthogonal_negated x y o = record {
@@ -103,10 +102,7 @@ same_trans x y z (inr p) (inl q) = inr (λ e. p e ∙ ap opposite (q e))
 same_trans x y z (inr p) (inr q) = inl (λ e. p e ∙ ap opposite (q e) ∙ opposite-opposite (z e))
 
 pub same_sym : (x y : SignVector) → AreEqualUpToSign x y → AreEqualUpToSign y x
-same_sym x y s = ⊎_elim (λ q. inl (λ e. sym (q e))) (λ q. inr (λ e. back (x e) (y e) (q e))) s
-  where
-    back : (a b : Sign) → a ≡ opposite b → b ≡ opposite a
-    back a b e = grind arith
+same_sym x y s = ⊎_elim (λ q. inl (λ e. sym (q e))) (λ q. inr (λ e. opposite_swap (x e) (y e) (q e))) s
 
 pub same_zero : (x y : SignVector) → AreEqualUpToSign x y → (g : ℕ) → y g ≡ Zero → x g ≡ Zero
 same_zero x y s g z = ⊎_elim (λ q. q g ∙ z) (λ q. q g ∙ opposite_zero (y g) z) s
@@ -115,3 +111,24 @@ pub same_products : (x y : SignVector) → AreEqualUpToSign x y → (g h : ℕ) 
 same_products x y s g h =
     ⊎_elim (λ q. ap (λ z. product z (x h)) (q g) ∙ ap (product (y g)) (q h))
     (λ q. ap (λ z. product z (x h)) (q g) ∙ ap (product (opposite (y g))) (q h) ∙ product_opposites (y g) (y h)) s
+
+-- a nonzero sign of a vector that is equal up to sign is nonzero
+pub nonzero_up_to_sign : (x y : SignVector) → AreEqualUpToSign x y → (e : ℕ) → IsNonzero (x e) → IsNonzero (y e)
+nonzero_up_to_sign x y (inl q) e n = λ z. n (q e ∙ z)
+nonzero_up_to_sign x y (inr q) e n = λ z. n (q e ∙ ap opposite z)
+
+-- two orthogonal vectors with products at two elements alone
+pub two_places : (x y : SignVector) → Orthogonal x y → (e h : ℕ)
+    → ((g : ℕ) → g ≢ e → g ≢ h → product (x g) (y g) ≡ Zero)
+    → IsNonzero (product (x e) (y e)) → product (x h) (y h) ≡ opposite (product (x e) (y e))
+two_places x y o e h zero n =
+    let k = opposite_product x y o e (product (x e) (y e)) n refl in
+    elim (cases_eq k.0 e) [
+      | inl q ↦
+          absurd (not_own_opposite (product (x e) (y e)) n
+          (subst (λ g. product (x g) (y g) ≡ opposite (product (x e) (y e))) q k.1))
+      | inr ne ↦ elim (cases_eq k.0 h) [
+        | inl q ↦ subst (λ g. product (x g) (y g) ≡ opposite (product (x e) (y e))) q k.1
+        | inr nh ↦ absurd (opposite_nonzero (product (x e) (y e)) n (sym k.1 ∙ zero k.0 ne nh))
+      ]
+    ]

@@ -1,20 +1,22 @@
 -- The map of a lexicographic extension, by its signs on increasing lists.
 --
--- Main results: an increasing list with the last element is one without it, and that element behind it (last_split);
--- the map of the signs is the extension and meets the axioms (lexicographic_axioms, is_extension); extensions by one
--- list are the same (same_extensions); steps of the calls (found_entry, passed_entry, without_size, sign_with_last,
--- sign_without_last).
+-- Main results: an increasing list has the last element at its end, or not at all (end_or_not); the map of the signs is
+-- the extension and meets the axioms (lexicographic_axioms, is_extension); extensions by one list are the same
+-- (same_extensions); steps of the calls (found_entry, passed_entry, without_size, sign_with_last, sign_without_last).
 -- Reference: Björner, Las Vergnas, Sturmfels, White and Ziegler, Oriented Matroids, chapter 7.
 use Rattle.std.proofs.Common.{ℕ, zero, suc, ◌≡◌, ◌≢◌, ◌+◌, ◌<◌, ◌≤◌, ◌⊎◌, List, [], ◌∷◌, ◌++◌, length, map, drop, take}
-use Rattle.std.proofs.Common.{cond, Bool, true, false, refl, sym, ap, subst, ◌∙◌, inl, inr, ⊎_elim, arith, get_or}
+use Rattle.std.proofs.Common.{cond, true, false, refl, sym, ap, subst, ◌∙◌, inl, inr, ⊎_elim, arith, get_or}
 use Rattle.std.proofs.Common.{append-nil}
-use Rattle.std.proofs.lemmas.Bool.{cases_eq, eq-eqb, ne_eqb, false≢true}
+use Rattle.std.proofs.lemmas.Bool.{cases_eq, eq-eqb, ne_eqb}
 use Rattle.std.proofs.lemmas.List.{length-append, take_all}
 use Rattle.om_signs.specs.declared.sign.Sign.{Sign}
 use Rattle.om_signs.specs.declared.sign.Sign.TheVariants.{Zero}
 use Rattle.om_signs.specs.Sign.{product, first_nonzero}
+use Rattle.om_signs.proofs.SignLaws.{zero_or_nonzero, first_nonzero_left, first_nonzero_right}
 use Rattle.om_subsets.specs.Subsets.{IsSubsetFrom, IsMember, choose, without_element, all_subsets, subset_at}
-use Rattle.om_subsets.proofs.Order.{length-subsets_from}
+use Rattle.om_subsets.proofs.Order.{length-subsets_from, members_from}
+use Rattle.om_subsets.proofs.OneElement.{subset_wider}
+use Rattle.om_subsets.proofs.Reverse.{split_last, subset_push}
 use Rattle.om_laws.specs.Members as lists
 use Rattle.om_laws.specs.Chirotope.{elements_to}
 use Rattle.om_laws.specs.Relations.{along}
@@ -23,9 +25,9 @@ use Rattle.om_laws.specs.Sorting.{IsElement, IsTuple, IsIncreasing, on_tuples}
 use Rattle.om_laws.specs.Tuples.{IsAlternating}
 use Rattle.om_laws.proofs.ChirotopeLaws.{member_from_element, element_from_member}
 use Rattle.om_laws.proofs.SortingLaws.{value_increasing, alternating_equal}
-use Rattle.om_laws.proofs.SignLaws.{zero_or_nonzero, first_nonzero_left, first_nonzero_right}
 use Rattle.om_laws.proofs.TupleSizes.{is_tuple_cases, on_tuples_at, on_tuples_off, on_tuples_tuple}
 use Rattle.om_laws.proofs.TupleSizes.{on_tuples_alternating, tuple_with, each_from}
+use Rattle.om_laws.proofs.MemberLaws.{member_middle}
 use Rattle.om_chirotope.specs.Map.{SignMap, IsMap, chi_of, value_of}
 use Rattle.om_chirotope.specs.Chirotope.{IsChirotope}
 use Rattle.om_chirotope.proofs.Theory.{theory_chirotope, to_tuple}
@@ -42,96 +44,8 @@ use Rattle.om_lexext.proofs.Theory.{extension_size, extension_chirotope, value_a
 
 -- ---- increasing lists with their last element
 
-last_element : (low m : ℕ) → low + 1 + m ≡ low + suc m
-last_element low m = omega arith
-
-grown : (low m : ℕ) (xs : List ℕ) → IsSubsetFrom low m xs → IsSubsetFrom low (suc m) xs
-grown low zero [] h = tt
-grown low zero (x ∷ xs) h = absurd h
-grown low (suc m) [] h = tt
-grown low (suc m) (x ∷ xs) (inl (q, h)) = inl (q, grown (low + 1) m xs h)
-grown low (suc m) (x ∷ xs) (inr (n, h)) = inr (n, grown (low + 1) m (x ∷ xs) h)
-
-within_bounds : (low m : ℕ) (xs : List ℕ) → IsSubsetFrom low m xs → (g : ℕ) → IsMember g xs → (low ≤ g) × (g < low + m)
-within_bounds low m [] h g k = absurd k
-within_bounds low zero (x ∷ xs) h g k = absurd h
-within_bounds low (suc m) (x ∷ xs) (inl (q, h)) g (inl e) = (omega (arith, q, e), omega (arith, q, e))
-within_bounds low (suc m) (x ∷ xs) (inl (q, h)) g (inr k) = let b = within_bounds (low + 1) m xs h g k in let c = b.0 in
-    let d = b.1 in (omega (arith, c), omega (arith, d))
-within_bounds low (suc m) (x ∷ xs) (inr (n, h)) g k = let b = within_bounds (low + 1) m (x ∷ xs) h g k in let c = b.0 in
-    let d = b.1 in (omega (arith, c), omega (arith, d))
-
--- a list that ends before the last element
-shrunk : (low m : ℕ) (xs : List ℕ) → IsSubsetFrom low (suc m) xs → (IsMember (low + m) xs → ⊥) → IsSubsetFrom low m xs
-shrunk low zero [] h n = tt
-shrunk low zero (x ∷ xs) (inl (q, h)) n = absurd (n (inl (let e : low + zero ≡ x = omega (arith, q) in e)))
-shrunk low zero (x ∷ xs) (inr (d, h)) n = absurd h
-shrunk low (suc m) [] h n = tt
-shrunk low (suc m) (x ∷ xs) (inl (q, h)) n =
-    inl (q, shrunk (low + 1) m xs h (λ k. n (inr (subst (λ g. IsMember g xs) (last_element low m) k))))
-shrunk low (suc m) (x ∷ xs) (inr (d, h)) n =
-    inr (d, shrunk (low + 1) m (x ∷ xs) h (λ k. n (subst (λ g. IsMember g (x ∷ xs)) (last_element low m) k)))
-
--- an increasing list with the last element: the others, and that one behind them
-abbrev pub IsSplit : ℕ → ℕ → List ℕ → Type 0
-IsSplit low m xs = (A : List ℕ) × IsSubsetFrom low m A × (xs ≡ A ++ (low + m) ∷ [])
-
-empty_subset : (low : ℕ) (xs : List ℕ) → IsSubsetFrom low zero xs → xs ≡ []
-empty_subset low [] h = refl
-empty_subset low (x ∷ xs) h = absurd h
-
-last_split : (low m : ℕ) (xs : List ℕ) → IsSubsetFrom low (suc m) xs → IsMember (low + m) xs → IsSplit low m xs
-last_split low m [] h k = absurd k
-last_split low zero (x ∷ xs) (inl (q, h)) k = (
-  [],
-  tt,
-  (let e : x ≡ low + zero = omega (arith, q) in ap (λ g. g ∷ xs) e
-      ∙ ap (λ l. (low + zero) ∷ l) (empty_subset (low + 1) xs h)),
-)
-last_split low zero (x ∷ xs) (inr (d, h)) k = absurd h
-last_split low (suc m) (x ∷ xs) (inl (q, h)) k =
-    front (last_split (low + 1) m xs h
-    (⊎_elim (λ e. absurd (let f : low + suc m ≡ low = e ∙ q in omega (arith, f)))
-    (λ j. subst (λ g. IsMember g xs) (sym (last_element low m)) j) k))
-  where
-    front : IsSplit (low + 1) m xs → IsSplit low (suc m) (x ∷ xs)
-    front (A, s, e) = (x ∷ A, inl (q, s), ap (λ l. x ∷ l) (e ∙ ap (λ g. A ++ g ∷ []) (last_element low m)))
-last_split low (suc m) (x ∷ xs) (inr (d, h)) k =
-    later (last_split (low + 1) m (x ∷ xs) h (subst (λ g. IsMember g (x ∷ xs)) (sym (last_element low m)) k))
-  where
-    not_low : (A : List ℕ) → IsSubsetFrom (low + 1) m A → x ∷ xs ≡ A ++ (low + 1 + m) ∷ [] → IsSubsetFrom low (suc m) A
-    not_low [] s e = tt
-    not_low (y ∷ ys) s e =
-        inr ((λ z. let b = within_bounds (low + 1) m (y ∷ ys) s y (inl refl) in let c = b.0 in omega (arith, c, z)), s)
-
-    later : IsSplit (low + 1) m (x ∷ xs) → IsSplit low (suc m) (x ∷ xs)
-    later (A, s, e) = (A, not_low A s e, e ∙ ap (λ g. A ++ g ∷ []) (last_element low m))
-
--- and the other way
-joined : (low m : ℕ) (A : List ℕ) → IsSubsetFrom low m A → IsSubsetFrom low (suc m) (A ++ (low + m) ∷ [])
-joined low zero [] h = inl ((let e : low + zero ≡ low = omega arith in e), tt)
-joined low zero (x ∷ xs) h = absurd h
-joined low (suc m) [] h =
-    inr (
-      (λ e. omega (arith, e)),
-      subst (λ g. IsSubsetFrom (low + 1) (suc m) (g ∷ [])) (last_element low m) (joined (low + 1) m [] tt),
-    )
-joined low (suc m) (x ∷ xs) (inl (q, h)) =
-    inl (q, subst (λ g. IsSubsetFrom (low + 1) (suc m) (xs ++ g ∷ [])) (last_element low m) (joined (low + 1) m xs h))
-joined low (suc m) (x ∷ xs) (inr (n, h)) =
-    inr (
-      n,
-      subst (λ g. IsSubsetFrom (low + 1) (suc m) (x ∷ (xs ++ g ∷ []))) (last_element low m)
-          (joined (low + 1) m (x ∷ xs) h),
-    )
-
-member_of : (g : ℕ) (xs : List ℕ) → lists.IsMember g xs → IsMember g xs
-member_of g [] k = absurd k
-member_of g (x ∷ xs) (inl e) = inl e
-member_of g (x ∷ xs) (inr k) = inr (member_of g xs k)
-
 off_last : (n : ℕ) (A : List ℕ) → IsSubsetFrom 1 n A → IsMember (n + 1) A → ⊥
-off_last n A h k = let b = within_bounds 1 n A h (n + 1) k in let c = b.1 in omega (arith, c)
+off_last n A h k = let c = (members_from 1 n (n + 1) A h k).1 in omega (arith, c)
 
 has_member : (g : ℕ) (xs : List ℕ) → IsMember g xs → has g xs ≡ true
 has_member g [] k = absurd k
@@ -144,16 +58,9 @@ has_not : (g : ℕ) (xs : List ℕ) → (IsMember g xs → ⊥) → has g xs ≡
 has_not g [] k = refl
 has_not g (x ∷ xs) k = rw (ne_eqb x g (λ q. k (inl (sym q)))) (has_not g xs (λ j. k (inr j)))
 
-member_end : (g : ℕ) (A : List ℕ) → IsMember g (A ++ g ∷ [])
-member_end g [] = inl refl
-member_end g (x ∷ A) = inr (member_end g A)
-
 without_end : (g : ℕ) (A : List ℕ) → (IsMember g A → ⊥) → without_element g (A ++ g ∷ []) ≡ A
 without_end g [] n = rw (eq-eqb g g refl) refl
 without_end g (x ∷ A) n = rw (ne_eqb g x (λ q. n (inl q))) (ap (λ l. x ∷ l) (without_end g A (λ k. n (inr k))))
-
-one_plus : (n : ℕ) → 1 + n ≡ n + 1
-one_plus n = omega arith
 
 suc_plus : (n : ℕ) → suc n ≡ n + 1
 suc_plus n = omega arith
@@ -163,26 +70,11 @@ EndsWithLast n xs = (A : List ℕ) × IsSubsetFrom 1 n A × (xs ≡ A ++ (n + 1)
 
 -- an increasing list of 1 to n + 1 has n + 1 at its end, or not at all
 pub end_or_not : (n : ℕ) (xs : List ℕ) → IsSubsetFrom 1 (n + 1) xs → EndsWithLast n xs ⊎ IsSubsetFrom 1 n xs
-end_or_not n xs h = by (has (n + 1) xs) refl
-  where
-    h' : IsSubsetFrom 1 (suc n) xs
-    h' = subst (λ k. IsSubsetFrom 1 k xs) (sym (suc_plus n)) h
-
-    member_from : (g : ℕ) (ys : List ℕ) → has g ys ≡ true → IsMember g ys
-    member_from g [] e = absurd (false≢true e)
-    member_from g (y ∷ ys) e = elim (cases_eq y g) [
-      | inl q ↦ inl (sym q)
-      | inr n ↦ inr (member_from g ys (sym (ap (λ b. cond b true (has g ys)) (ne_eqb y g n)) ∙ e))
+end_or_not n xs h =
+    elim (split_last 1 n (n + 1) xs (omega arith) (subst (λ k. IsSubsetFrom 1 k xs) (sym (suc_plus n)) h)) [
+      | inl s ↦ inr s
+      | inr k ↦ inl (k.front, k.lawful, k.whole)
     ]
-
-    not_member : (g : ℕ) (ys : List ℕ) → has g ys ≡ false → IsMember g ys → ⊥
-    not_member g ys e k = false≢true (sym e ∙ has_member g ys k)
-
-    by : (b : Bool) → has (n + 1) xs ≡ b → EndsWithLast n xs ⊎ IsSubsetFrom 1 n xs
-    by true e =
-        let s = last_split 1 n xs h' (subst (λ g. IsMember g xs) (sym (one_plus n)) (member_from (n + 1) xs e)) in
-        inl (s.0, s.1, s.2 ∙ ap (λ g. s.0 ++ g ∷ []) (one_plus n))
-    by false e = inr (shrunk 1 n xs h' (λ k. not_member (n + 1) xs e (subst (λ g. IsMember g xs) (one_plus n) k)))
 
 -- ---- the entries of the list
 
@@ -232,7 +124,7 @@ module _ (m : SignMap) (chirotope : IsChirotope m) (list : List Signed) (entries
   extended = map_by m.rank (m.elements + 1) (lexicographic_sign m list)
 
   no_last : (A : List ℕ) → IsSubsetFrom 1 m.elements A → lists.IsMember (m.elements + 1) A → ⊥
-  no_last A h k = off_last m.elements A h (member_of (m.elements + 1) A k)
+  no_last A h k = off_last m.elements A h k
 
   tuple_end : (A : List ℕ) (e : ℕ) → IsSubsetFrom 1 m.elements A → length A + 1 ≡ m.rank → IsElement m.elements e
       → IsTuple m.elements m.rank (A ++ e ∷ [])
@@ -269,7 +161,7 @@ module _ (m : SignMap) (chirotope : IsChirotope m) (list : List Signed) (entries
 
   sign_new : (A : List ℕ) → IsSubsetFrom 1 m.elements A
       → lexicographic_sign m list (A ++ (m.elements + 1) ∷ []) ≡ first_listed (along (value_of m) A) list
-  sign_new A h = rw (has_member (m.elements + 1) (A ++ (m.elements + 1) ∷ []) (member_end (m.elements + 1) A))
+  sign_new A h = rw (has_member (m.elements + 1) (A ++ (m.elements + 1) ∷ []) (member_middle (m.elements + 1) A []))
       (ap (λ l. first_listed (along (value_of m) l) list) (without_end (m.elements + 1) A (off_last m.elements A h)))
 
   same_rule : (xs : List ℕ) → IsSubsetFrom 1 (m.elements + 1) xs → length xs ≡ m.rank
@@ -338,11 +230,10 @@ module _ (m : SignMap) (chirotope : IsChirotope m) (list : List Signed) (entries
     rank = refl;
     elements = refl;
     agrees = λ A h l. rule_at m.rank (m.elements + 1) (lexicographic_sign m list) A
-        (subst (λ k. IsSubsetFrom 1 k A) (suc_plus m.elements) (grown 1 m.elements A h)) l ∙ sign_old A h;
+        (subst (λ k. IsSubsetFrom 1 k A) (suc_plus m.elements) (subset_wider 1 m.elements A h)) l ∙ sign_old A h;
     new = λ A h l. rule_at m.rank (m.elements + 1) (lexicographic_sign m list) (A ++ (m.elements + 1) ∷ [])
         (subst (λ k. IsSubsetFrom 1 k (A ++ (m.elements + 1) ∷ [])) (suc_plus m.elements)
-        (subst (λ g. IsSubsetFrom 1 (suc m.elements) (A ++ g ∷ [])) (one_plus m.elements)
-        (joined 1 m.elements A h)))
+        (subset_push 1 m.elements (m.elements + 1) A (omega arith) h))
         (length-append A ((m.elements + 1) ∷ []) ∙ l) ∙ sign_new A h;
   }
 

@@ -14,6 +14,8 @@ use Rattle.om_signs.specs.declared.sign.Sign.{Sign}
 use Rattle.om_signs.specs.Sign.{opposite, product}
 use Rattle.om_signs.specs.SignVec.{at}
 use Rattle.om_signs.proofs.ListPlaces.{at-compose}
+use Rattle.om_signs.proofs.SignLaws.{zero_or_nonzero, zero_not_nonzero, product_nonzero, left_nonzero, right_nonzero}
+use Rattle.om_signs.proofs.SignLaws.{opposite_nonzero, not_own_opposite}
 use Rattle.om_laws.specs.Signs.{IsNonzero}
 use Rattle.om_laws.specs.Members.{IsMember}
 use Rattle.om_laws.specs.Vectors.{SignVector, Orthogonal}
@@ -25,8 +27,6 @@ use Rattle.om_laws.specs.Covectors.{IsCovector}
 use Rattle.om_laws.proofs.BaseLaws.{fundamental_circuit}
 use Rattle.om_laws.proofs.ExistenceHelpers.{Vanishes}
 use Rattle.om_laws.proofs.MemberLaws.{split_at, member_or_not, member_append, member_last}
-use Rattle.om_laws.proofs.SignLaws.{zero_or_nonzero, zero_not_nonzero, product_nonzero, left_nonzero, right_nonzero}
-use Rattle.om_laws.proofs.SignLaws.{opposite_nonzero, not_own_opposite}
 use Rattle.om_laws.proofs.TupleLaws.{nonzero_to_end}
 use Rattle.om_laws.proofs.TupleSizes.{on_tuples_tuple}
 use Rattle.om_laws.proofs.VectorLaws.{opposite_product}

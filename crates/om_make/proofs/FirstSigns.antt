@@ -16,11 +16,11 @@ use Rattle.std.proofs.lemmas.List.Kept.{AllPairs-cons}
 use Rattle.om_signs.specs.declared.sign.Sign.{Sign}
 use Rattle.om_signs.specs.declared.sign.Sign.TheVariants.{Minus, Zero, Plus}
 use Rattle.om_signs.specs.OrderLaws.{same_masks}
+use Rattle.om_signs.proofs.Contained.{none_contained, contains_first, contains_later, first_or_later}
+use Rattle.om_signs.proofs.SignLaws.{zero_or_nonzero, equal_or_opposite, plus_nonzero, minus_nonzero}
 use Rattle.om_laws.specs.Signs.{IsNonzero}
-use Rattle.om_laws.proofs.SignLaws.{zero_or_nonzero, equal_or_opposite, plus_nonzero, minus_nonzero}
 use Rattle.om_members.specs.Listings.{AreDistinct}
 use Rattle.om_denotation.specs.Listings.{HasMoreThan}
-use Rattle.om_denotation.proofs.SelectionLaws.{none_contained, contains_first, contains_later, first_or_later}
 use Rattle.om_convert.proofs.KeyLaws.{contained, not_contained}
 
 -- ---- distinct members of a family

@@ -8,15 +8,16 @@
 use Rattle.std.proofs.Common.{ℕ, zero, suc, ◌≡◌, ◌≢◌, ◌+◌, ◌-◌, ◌*◌, ◌<◌, ◌≤◌, List, [], ◌∷◌, length, get_or, map}
 use Rattle.std.proofs.Common.{replicate, refl, sym, ap, subst, ◌∙◌, ⊎_elim, arith}
 use Rattle.std.specs.List.{Contains}
-use Rattle.std.proofs.lemmas.List.{ext_get_or}
+use Rattle.std.proofs.lemmas.List.{ext_get_or, nil_from_length}
 use Rattle.std.proofs.lemmas.List.Elements.{All-contains, Contains-get_or}
 use Rattle.om_signs.specs.declared.sign.Sign.{Sign}
 use Rattle.om_signs.specs.declared.sign.Sign.TheVariants.{Minus, Zero, Plus}
 use Rattle.om_signs.specs.Sign.{opposite, product, first_nonzero}
 use Rattle.om_signs.specs.SignVec.{at, IsSeparated}
-use Rattle.om_signs.proofs.ListPlaces.{first_nonzero-zero, at-map-opposite, at-replicate}
+use Rattle.om_signs.proofs.ListPlaces.{at-map-opposite, at-replicate}
+use Rattle.om_signs.proofs.SignLaws.{zero_or_nonzero, same_or_different, equal_or_opposite, product_zero_right}
+use Rattle.om_signs.proofs.SignLaws.{first_nonzero-zero, product_minus_if_opposite}
 use Rattle.om_laws.specs.Signs.{IsNonzero}
-use Rattle.om_laws.proofs.SignLaws.{zero_or_nonzero, same_or_different, equal_or_opposite, product_zero_right}
 use Rattle.om_members.specs.Listings.{AreDistinct}
 use Rattle.om_denotation.specs.Listings.{HasMoreThan}
 use Rattle.om_make.proofs.FirstSigns.{IsDeleted, IsContracted, fewer, few_by_minors}
@@ -70,9 +71,6 @@ zero_adds_nothing s t e = (λ q. let z = product_zero_right s t e in cc, ap (fir
 
 apart_from_negative : (s t : Sign) → s ≡ t → s ≢ Zero → product s (opposite t) ≡ Minus
 apart_from_negative s t e n = grind arith
-
-apart_from_opposite : (s t : Sign) → s ≡ opposite t → s ≢ Zero → product s t ≡ Minus
-apart_from_opposite s t e n = grind arith
 
 module _ (n : ℕ) (P : List Sign → Type 0) (closed : IsClosed (suc n) P) where
   -- a member by its first sign and the rest
@@ -135,7 +133,7 @@ module _ (n : ℕ) (P : List Sign → Type 0) (closed : IsClosed (suc n) P) wher
       (λ i. zero_adds_nothing (at Y i) (at (map opposite (replicate n Zero)) i)
       (at-map-opposite (replicate n Zero) i ∙ ap opposite (at-replicate n i)))
       y (closed.symmetric (s ∷ replicate n Zero) o))
-      (λ e. dropped t s Y (replicate n Zero) (apart_from_opposite t s e nt)
+      (λ e. dropped t s Y (replicate n Zero) (product_minus_if_opposite t s nt e)
       (λ i. zero_adds_nothing (at Y i) (at (replicate n Zero) i) (at-replicate n i)) y o)
       (equal_or_opposite t s nt ns)
 
@@ -225,12 +223,8 @@ few_on_none : (P : List Sign → Type 0) → IsClosed 0 P → HasMoreThan 1 P �
 few_on_none P closed more =
     more.distinct 0 1 [] (omega arith) more.many (empty 0 (let l = more.many in omega arith) ∙ sym (empty 1 more.many))
   where
-    is_nil : (X : List Sign) → length X ≡ 0 → X ≡ []
-    is_nil [] l = refl
-    is_nil (s ∷ X) l = absurd (omega arith)
-
     empty : (k : ℕ) → k < length more.members → get_or more.members k [] ≡ []
-    empty k l = is_nil _ (closed.size _ (more.each k [] l))
+    empty k l = nil_from_length _ (closed.size _ (more.each k [] l))
 
 -- one element has rank 1 at most
 rank_of_one : (P : List Sign → Type 0) → IsClosed 1 P → HasRankAtMost 1 P

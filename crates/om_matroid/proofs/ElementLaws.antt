@@ -16,12 +16,6 @@ pub none_both : (some none : Bool) {P Q : Type 0} → some ≡ not none → (som
 none_both some true e p q = (λ t. q.0 (p.0 e), λ h. refl)
 none_both some false e p q = (λ t. cc, λ h. sym (p.1 (q.1 h)) ∙ e)
 
-pub refuted : (b : Bool) {P : Type 0} → IsTrue b ↔ P → b ≡ false → P → ⊥
-refuted b both e p = let f : true ≡ false = sym (both.1 p) ∙ e in absurd_bool f
-  where
-    absurd_bool : true ≡ false → ⊥
-    absurd_bool f = cc
-
 module _ (m : SignMap) (e : ℕ) where
   no_basis_with : ((b : List ℕ) → IsBasisBetween m (e ∷ []) [] b → ⊥) ↔ IsLoop m e
   no_basis_with = (

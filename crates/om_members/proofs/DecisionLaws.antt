@@ -4,11 +4,11 @@
 -- places, are decided; not_false: what is decided and isn't false holds; all_good: where no number is bad, all are
 -- good.
 use Rattle.std.proofs.Common.{ℕ, zero, suc, ◌≡◌, ◌<◌, ◌≤◌, ◌⊎◌, List, [], ◌∷◌, length, refl, sym, subst, arith, inl}
-use Rattle.std.proofs.Common.{inr}
+use Rattle.std.proofs.Common.{inr, ◌-◌}
 use Rattle.std.proofs.lemmas.Bool.{cases_lt}
 use Rattle.std.specs.List.{Contains}
 use Rattle.om_signs.specs.declared.sign.Sign.{Sign}
-use Rattle.om_signs.specs.declared.sign.Sign.TheVariants.{Minus, Zero, Plus}
+use Rattle.om_signs.proofs.SignLaws.{same_or_different}
 use Rattle.om_members.specs.Scans.{nth, AllBelow, IsBadBelow}
 use Rattle.om_members.proofs.ScanLaws.{nth_contained, contains_nth}
 
@@ -45,22 +45,11 @@ decided_same P Q f g (inr n) = inr (λ q. n (g q))
 
 -- ---- signs and vectors
 
-pub same_sign : (s t : Sign) → IsDecided (s ≡ t)
-same_sign Minus Minus = inl refl
-same_sign Minus Zero = inr (λ e. cc)
-same_sign Minus Plus = inr (λ e. cc)
-same_sign Zero Minus = inr (λ e. cc)
-same_sign Zero Zero = inl refl
-same_sign Zero Plus = inr (λ e. cc)
-same_sign Plus Minus = inr (λ e. cc)
-same_sign Plus Zero = inr (λ e. cc)
-same_sign Plus Plus = inl refl
-
 pub same_vector : (X Y : List Sign) → IsDecided (X ≡ Y)
 same_vector [] [] = inl refl
 same_vector [] (t ∷ Y) = inr (λ e. cc)
 same_vector (s ∷ X) [] = inr (λ e. cc)
-same_vector (s ∷ X) (t ∷ Y) = both (same_sign s t) (same_vector X Y)
+same_vector (s ∷ X) (t ∷ Y) = both (same_or_different s t) (same_vector X Y)
   where
     both : IsDecided (s ≡ t) → IsDecided (X ≡ Y) → IsDecided (s ∷ X ≡ t ∷ Y)
     both (inl p) (inl q) = inl (cc (p, q))

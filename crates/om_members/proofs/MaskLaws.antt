@@ -2,22 +2,18 @@
 --
 -- Main results: zero_test, part_test, support_test: the tests of the code mean the words of the clauses; support_bit,
 -- plus_bit, minus_bit: a bit of a mask means the sign at its place.
-use Rattle.std.proofs.Common.{ℕ, ◌≡◌, ◌≢◌, ◌+◌, ◌-◌, ◌<◌, ◌≤◌, ◌^◌, ◌↔◌, ◌⊎◌, List, length, bit_and, min, nat_eq}
+use Rattle.std.proofs.Common.{ℕ, ◌≡◌, ◌+◌, ◌-◌, ◌<◌, ◌≤◌, ◌^◌, ◌↔◌, List, length, bit_and, min, nat_eq}
 use Rattle.std.proofs.Common.{IsTrue, refl, sym, ◌∙◌, ap, subst, arith, inl, inr}
 use Rattle.std.specs.Int.{bit_at}
-use Rattle.std.proofs.lemmas.Bool.{cases_lt, cases_eq, eq-eqb, eqb-true}
-use Rattle.std.proofs.lemmas.Nat.Bits.{bit_at-zero, bit_at-lt, bit_at_above, same_from_bits}
+use Rattle.std.proofs.lemmas.Bool.{cases_lt, eq-eqb, eqb-true}
+use Rattle.std.proofs.lemmas.Nat.Bits.{bit_at-zero, bit_at_above, same_from_bits}
 use Rattle.std.proofs.lemmas.List.{get_or_past}
 use Rattle.om_signs.specs.declared.sign.Sign.{Sign}
-use Rattle.om_signs.specs.declared.sign.Sign.TheVariants.{Minus, Zero, Plus}
+use Rattle.om_signs.specs.declared.sign.Sign.TheVariants.{Zero}
 use Rattle.om_signs.specs.SignVec.{at, at_element, IsMaskOf, IsInSupport, IsPlus, IsMinus}
-use Rattle.om_signs.proofs.Bits.{bit_at_and_not}
+use Rattle.om_signs.proofs.Bits.{bit_at_and_not, bit_one_or_zero}
+use Rattle.om_signs.proofs.SignLaws.{zero_or_nonzero}
 use Rattle.om_members.specs.Vectors.{IsZero, HasSupportIn}
-
-pub zero_or_not : (s : Sign) → (s ≡ Zero) ⊎ (s ≢ Zero)
-zero_or_not Minus = inr (λ e. cc)
-zero_or_not Zero = inl refl
-zero_or_not Plus = inr (λ e. cc)
 
 -- what holds of the sign at each element holds at each place
 pub at_from_place : (P : Sign → Type 0) (xs : List Sign) → ((e : ℕ) → P (at_element xs e)) → (i : ℕ) → P (at xs i)
@@ -25,18 +21,12 @@ at_from_place P xs h i = let e : i + 1 - 1 ≡ i = omega arith in subst (λ k. P
 
 -- ---- one bit
 
-pub bit_or_none : (m i : ℕ) → (bit_at m i ≡ 1) ⊎ (bit_at m i ≡ 0)
-bit_or_none m i = elim (cases_eq (bit_at m i) 0) [
-  | inl z ↦ inr z
-  | inr n ↦ let l = bit_at-lt m i in inl (omega arith)
-]
-
 -- a mask is zero exactly where it has no bit
 pub zero_mask : (m : ℕ) → (m ≡ 0) ↔ ((i : ℕ) → bit_at m i ≡ 1 → ⊥)
 zero_mask m = (
   λ z i one. let n : bit_at m i ≡ 0 = ap (λ k. bit_at k i) z ∙ bit_at-zero i in absurd (omega arith),
   λ h. same_from_bits m 0
-      (λ i. elim (bit_or_none m i) [ inl one ↦ absurd (h i one) | inr z ↦ z ∙ sym (bit_at-zero i) ]),
+      (λ i. elim (bit_one_or_zero m i) [ inl one ↦ absurd (h i one) | inr z ↦ z ∙ sym (bit_at-zero i) ]),
 )
 
 -- the bits of a mask of places, at all places
@@ -63,7 +53,7 @@ minus_bit xs m h = bit_of_mask xs (IsMinus xs) m h (λ i ge p. let e = sym (get_
 -- the support is the zero mask
 pub zero_support : (xs : List Sign) (m : ℕ) → IsMaskOf (length xs) (IsInSupport xs) m → (m ≡ 0) ↔ IsZero xs
 zero_support xs m h = (
-  λ t e. elim (zero_or_not (at_element xs e)) [
+  λ t e. elim (zero_or_nonzero (at_element xs e)) [
     | inl z ↦ z
     | inr n ↦ absurd ((zero_mask m).0 t (e - 1) ((support_bit xs m h (e - 1)).1 n))
   ],
@@ -78,13 +68,13 @@ zero_test xs m h = (λ t. (zero_support xs m h).0 (eqb-true m 0 t), λ z. eq-eqb
 pub part_test : (a b : ℕ) → a < 2 ^ 32 → b < 2 ^ 32 → (bit_and a (4294967295 - b) ≡ 0)
     ↔ ((i : ℕ) → bit_at a i ≡ 1 → bit_at b i ≡ 1)
 part_test a b la lb = (
-  λ z i one. elim (bit_or_none b i) [
+  λ z i one. elim (bit_one_or_zero b i) [
     | inl have ↦ have
     | inr none ↦ absurd ((zero_mask _).0 z i (bit_at_and_not a b i la lb ∙ rw (one, none) refl))
   ],
   λ h. (zero_mask _).1 (λ i one.
       let e : min (bit_at a i) (1 - bit_at b i) ≡ 1 = sym (bit_at_and_not a b i la lb) ∙ one in
-      elim (bit_or_none a i) [
+      elim (bit_one_or_zero a i) [
         | inl have ↦ let q = h i have in absurd (omega arith)
         | inr none ↦ absurd (omega arith)
       ]),
@@ -94,7 +84,7 @@ part_test a b la lb = (
 pub support_test : (xs ys : List Sign) (m n : ℕ) → m < 2 ^ 32 → n < 2 ^ 32 → IsMaskOf (length xs) (IsInSupport xs) m
     → IsMaskOf (length ys) (IsInSupport ys) n → (bit_and m (4294967295 - n) ≡ 0) ↔ HasSupportIn xs ys
 support_test xs ys m n lm ln hm hn = (
-  λ t e z. elim (zero_or_not (at_element xs e)) [
+  λ t e z. elim (zero_or_nonzero (at_element xs e)) [
     | inl q ↦ q
     | inr k ↦
         absurd ((support_bit ys n hn (e - 1)).0 ((part_test m n lm ln).0 t (e - 1) ((support_bit xs m hm (e - 1)).1 k))

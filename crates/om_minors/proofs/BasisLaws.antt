@@ -8,6 +8,7 @@
 use Rattle.std.specs.Prelude.{ℕ, ◌≡◌, ◌↔◌, ◌⊎◌, ◌+◌, ◌≤◌, List, [], ◌∷◌, ◌++◌, length, Bool, true, false, IsTrue}
 use Rattle.std.proofs.Common.{zero, suc, sym, subst, inl, inr, arith, refl, ⊎_elim}
 use Rattle.std.proofs.lemmas.Bool.{false≢true, cases_eq}
+use Rattle.om_signs.proofs.SignLaws.{nonzero_from_opposite, zero_or_nonzero}
 use Rattle.om_subsets.specs.Subsets.{IsSubsetFrom, IsMember, choose, subset_at}
 use Rattle.om_subsets.proofs.Order.{listed}
 use Rattle.om_laws.specs.Signs.{IsNonzero}
@@ -15,8 +16,7 @@ use Rattle.om_laws.specs.Minors.{IsAvoided}
 use Rattle.om_laws.specs.Parallel.{IsInBase}
 use Rattle.om_laws.specs.Members.{IsDistinct}
 use Rattle.om_laws.specs.Parallel as theory
-use Rattle.om_laws.proofs.MemberLaws.{member_or_not, split_at}
-use Rattle.om_laws.proofs.SignLaws.{nonzero_from_opposite, zero_or_nonzero}
+use Rattle.om_laws.proofs.MemberLaws.{member_or_not, split_at, member_swap}
 use Rattle.om_laws.proofs.SortingLaws.{by_sorting}
 use Rattle.om_laws.proofs.TupleLaws.{nonzero_distinct}
 use Rattle.om_laws.proofs.TupleSizes.{on_tuples_at, on_tuples_alternating, on_tuples_tuple}
@@ -32,13 +32,6 @@ use Rattle.om_denotation.proofs.ChirotopeBridge.{tuples_of}
 abbrev pub HasBasis : SignMap → ℕ → Bool → Type 0
 HasBasis m e inside = (xs : List ℕ) × IsBasis m xs × (IsTrue inside ↔ IsMember e xs)
 
-swap_member : (g x y : ℕ) (cs bs : List ℕ) → IsMember g (cs ++ x ∷ y ∷ bs) → IsMember g (cs ++ y ∷ x ∷ bs)
-swap_member g x y [] bs (inl q) = inr (inl q)
-swap_member g x y [] bs (inr (inl q)) = inl q
-swap_member g x y [] bs (inr (inr h)) = inr (inr h)
-swap_member g x y (c ∷ cs) bs (inl q) = inl q
-swap_member g x y (c ∷ cs) bs (inr h) = inr (swap_member g x y cs bs h)
-
 module _ (m : SignMap) where
   pub basis_nonzero : (xs : List ℕ) → IsBasis m xs → IsNonzero (tuples_of m xs)
   basis_nonzero xs b =
@@ -53,7 +46,7 @@ module _ (m : SignMap) where
       (λ x y cs bs h n w. h
       (nonzero_from_opposite (tuples_of m (cs ++ x ∷ y ∷ bs))
       (subst IsNonzero (on_tuples_alternating m.elements m.rank (chi_of m) x y cs bs) n))
-      ((λ k. swap_member e y x cs bs (w.0 k)), (λ k. w.1 (swap_member e x y cs bs k))))
+      ((λ k. member_swap e y x cs bs (w.0 k)), (λ k. w.1 (member_swap e x y cs bs k))))
       (λ x cs bs n w. absurd
       (repeated x cs bs
       (nonzero_distinct (tuples_of m) (on_tuples_alternating m.elements m.rank (chi_of m)) (cs ++ x ∷ x ∷ bs) n)))

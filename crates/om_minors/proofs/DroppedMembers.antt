@@ -4,21 +4,19 @@
 -- that these have one sign less (without_lengths, zero_without_lengths, least_lengths).
 use Rattle.std.specs.Prelude.{ℕ, ◌≡◌, ◌+◌, ◌-◌, ◌≤◌, List, length, slice_index_or}
 use Rattle.std.specs.List.{Contains, remove}
-use Rattle.std.proofs.Common.{suc, sym, ◌∙◌, arith}
-use Rattle.std.proofs.lemmas.List.Elements.{All-contains, All-contains_itself}
+use Rattle.std.proofs.Common.{arith}
+use Rattle.std.proofs.lemmas.List.Elements.{All-contains_itself}
 use Rattle.om_signs.specs.declared.sign.Sign.{Sign}
-use Rattle.om_signs.specs.declared.sign.Sign.TheVariants.{Zero}
-use Rattle.om_signs.specs.SignVec.{at}
 use Rattle.om_members.specs.Listings.{HaveLength}
 use Rattle.om_members.specs.Vectors.{IsZero}
+use Rattle.om_members.proofs.ScanLaws.{length_of_member}
 use Rattle.om_covectors.specs.Minimality.{IsMinimal, AreThose}
 use Rattle.om_denotation.specs.Circuits.{HasNonzero}
 use Rattle.om_denotation.specs.Compositions.{IsOfLeastSupport}
 use Rattle.om_denotation.specs.Listings.{AreAllOf}
 use Rattle.om_denotation.specs.Operations.{IsWithout, IsZeroWithout}
 use Rattle.om_denotation.proofs.ChirotopeBridge.{nonzero_list}
-use Rattle.om_denotation.proofs.FunctionLaws.{nonzero_element}
-use Rattle.om_denotation.proofs.ListFunctions.{at_place}
+use Rattle.om_denotation.proofs.FunctionLaws.{nonzero_element, nonzero_list_not_zero}
 use Rattle.om_denotation.proofs.SelectionLaws.{those_contained, contained_those}
 use Rattle.om_minors.specs.Dropped.{IsDropped, IsZeroDropped}
 use Rattle.om_minors.proofs.DroppedPlaces.{shorter_of}
@@ -28,12 +26,6 @@ use Rattle.om_minors.proofs.DroppedPlaces.{shorter_of}
 nonzero_some : (X : List Sign) → (IsZero X → ⊥) → HasNonzero X
 nonzero_some X h = nonzero_list X (nonzero_element X h)
 
-some_nonzero : (X : List Sign) → HasNonzero X → IsZero X → ⊥
-some_nonzero X (i, k) z = k (at_zero_place X i z)
-  where
-    at_zero_place : (X : List Sign) (i : ℕ) → IsZero X → at X i ≡ Zero
-    at_zero_place X i z = sym (at_place X i) ∙ z (suc i)
-
 -- ---- the members of least support
 
 module _ (P : List Sign → Type 0) (vectors : List (List Sign)) (all : AreAllOf P vectors) where
@@ -41,7 +33,7 @@ module _ (P : List Sign → Type 0) (vectors : List (List Sign)) (all : AreAllOf
   least_minimal X x = (
     all.complete X x.member,
     record {
-      nonzero = some_nonzero X x.nonzero;
+      nonzero = nonzero_list_not_zero X x.nonzero;
       least = λ Y y k sub. x.least Y (all.sound Y y) (nonzero_some Y k) sub;
     },
   )
@@ -50,7 +42,7 @@ module _ (P : List Sign → Type 0) (vectors : List (List Sign)) (all : AreAllOf
   minimal_least X c x = record {
     member = all.sound X c;
     nonzero = nonzero_some X x.nonzero;
-    least = λ Y y k sub. x.least Y (all.complete Y y) (some_nonzero Y k) sub;
+    least = λ Y y k sub. x.least Y (all.complete Y y) (nonzero_list_not_zero Y k) sub;
   }
 
   pub least_all : (list : List (List Sign)) → AreThose (IsMinimal vectors) vectors list
@@ -64,20 +56,17 @@ module _ (P : List Sign → Type 0) (vectors : List (List Sign)) (all : AreAllOf
 
 module _ (n e : ℕ) (several : 2 ≤ n) (low : 1 ≤ e) (high : e ≤ n) (members : List (List Sign))
     (lengths : HaveLength n members) where
-  length_of : (W : List Sign) → Contains members W → length W ≡ n
-  length_of W w = All-contains (λ X. length X ≡ n) members W lengths w
-
   pub dropped_all : (list : List (List Sign)) → AreAllOf (IsDropped e members) list
       → AreAllOf (IsWithout n e (Contains members)) list
   dropped_all list all = record {
-    sound = λ X c. let w = all.sound X c in (w.0, length_of w.0 w.1, w.1, w.2);
+    sound = λ X c. let w = all.sound X c in (w.0, length_of_member n members lengths w.0 w.1, w.1, w.2);
     complete = λ X w. all.complete X (w.0, w.2, w.3);
   }
 
   pub zero_dropped_all : (list : List (List Sign)) → AreAllOf (IsZeroDropped e members) list
       → AreAllOf (IsZeroWithout n e (Contains members)) list
   zero_dropped_all list all = record {
-    sound = λ X c. let w = all.sound X c in (w.0, length_of w.0 w.1, w.1, w.2.0, w.2.1);
+    sound = λ X c. let w = all.sound X c in (w.0, length_of_member n members lengths w.0 w.1, w.1, w.2.0, w.2.1);
     complete = λ X w. all.complete X (w.0, w.2, (w.3, w.4));
   }
 

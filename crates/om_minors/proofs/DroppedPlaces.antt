@@ -15,7 +15,7 @@ use Rattle.std.proofs.lemmas.List.Edits.{length-remove, get_or-remove_below, get
 use Rattle.om_signs.specs.declared.sign.Sign.{Sign}
 use Rattle.om_signs.specs.declared.sign.Sign.TheVariants.{Zero}
 use Rattle.om_signs.specs.SignVec.{at, at_element, IsInSupport, IsConformal}
-use Rattle.om_laws.proofs.SignLaws.{zero_or_nonzero}
+use Rattle.om_signs.proofs.SignLaws.{zero_or_nonzero}
 use Rattle.om_members.specs.Vectors.{HasSupportIn}
 use Rattle.om_denotation.specs.Circuits.{HasNonzero}
 use Rattle.om_denotation.specs.Compositions.{IsOfLeastSupport, HasConformingParts}

@@ -12,8 +12,8 @@ use Rattle.om_signs.specs.declared.sign.Sign.{Sign}
 use Rattle.om_signs.specs.declared.sign.Sign.TheVariants.{Minus, Zero, Plus}
 use Rattle.om_signs.specs.Sign.{product}
 use Rattle.om_signs.specs.SignVec.{at, HasProduct, IsOrthogonal}
+use Rattle.om_signs.proofs.SignLaws.{product_comm, product_zero_right, plus_nonzero, minus_nonzero}
 use Rattle.om_laws.specs.Signs.{IsNonzero}
-use Rattle.om_laws.proofs.SignLaws.{product_comm, product_zero_right, plus_nonzero, minus_nonzero}
 use Rattle.om_chirotope.specs.Map.{SignMap}
 use Rattle.om_chirotope.specs.Chirotope.{IsChirotope}
 use Rattle.om_denotation.specs.Covectors.{IsCovectorOfChirotope}

@@ -2,11 +2,10 @@
 --
 -- Main definitions: AreGathered.
 -- Main results: one vector more gives nothing new (gathered_kept) or something new (gathered_more), till all are read
--- (gathered_all); a vector that is new for a set goes to its end (new_key), and one that isn't leaves it (old_key);
--- vectors that are the same without a place where they have the same sign are the same (same_restored), so that of
--- distinct vectors none is dropped twice (not_twice).
-use Rattle.std.specs.Prelude.{ℕ, ◌≡◌, ◌⊎◌, ◌+◌, ◌-◌, ◌<◌, ◌≤◌, List, [], ◌∷◌, ◌++◌, length, if◌then◌else◌, true, false}
-use Rattle.std.specs.List.{Contains, remove, list_any}
+-- (gathered_all); vectors that are the same without a place where they have the same sign are the same (same_restored),
+-- so that of distinct vectors none is dropped twice (not_twice).
+use Rattle.std.specs.Prelude.{ℕ, ◌≡◌, ◌⊎◌, ◌+◌, ◌-◌, ◌<◌, ◌≤◌, List, [], ◌∷◌, ◌++◌, length}
+use Rattle.std.specs.List.{Contains, remove}
 use Rattle.std.proofs.Common.{take, drop, get_or, sym, ◌∙◌, ap, subst, inl, inr, ⊎_elim, arith}
 use Rattle.std.proofs.lemmas.Bool.{cases_lt, cases_eq}
 use Rattle.std.proofs.lemmas.List.{length-append, length-take-le, take_all, take_more, get_or-take, ext_get_or}
@@ -15,12 +14,10 @@ use Rattle.std.proofs.lemmas.List.Edits.{length-remove, get_or-remove_below, get
 use Rattle.std.proofs.lemmas.List.Elements.{All-contains, Contains-append_left, Contains-push, Contains-push_cases}
 use Rattle.om_signs.specs.declared.sign.Sign.{Sign}
 use Rattle.om_signs.specs.declared.sign.Sign.TheVariants.{Zero}
-use Rattle.om_signs.specs.OrderLaws.{same_masks}
 use Rattle.om_signs.specs.SignVec.{at, at_element}
 use Rattle.om_members.specs.Listings.{AreDistinct}
 use Rattle.om_denotation.specs.Listings.{AreAllOf}
 use Rattle.om_convert.proofs.GatheringLaws.{pushed_distinct}
-use Rattle.indexmap.specs.IndexSet.{insert_key}
 use Rattle.om_minors.specs.Dropped.{HavePlace}
 
 -- what is related to some vector of a list
@@ -76,16 +73,6 @@ module _ (R : List Sign → List Sign → Type 0) (vectors : List (List Sign)) w
   pub gathered_all : (k : ℕ) (list : List (List Sign)) → length vectors ≤ k → AreGathered R vectors list k
       → AreAllOf (IsMade R vectors) list
   gathered_all k list le h = subst (λ vs. AreAllOf (IsMade R vs) list) (take_all k vectors le) h.members
-
--- ---- the keys of a set
-
-pub new_key : (keys new : List (List Sign)) (X : List Sign) → list_any (same_masks X) keys ≡ false
-    → new ≡ insert_key same_masks keys X → new ≡ keys ++ X ∷ []
-new_key keys new X h q = q ∙ ap (λ b. if b then keys else keys ++ X ∷ []) h
-
-pub old_key : (keys new : List (List Sign)) (X : List Sign) → list_any (same_masks X) keys ≡ true
-    → new ≡ insert_key same_masks keys X → new ≡ keys
-old_key keys new X h q = q ∙ ap (λ b. if b then keys else keys ++ X ∷ []) h
 
 -- ---- distinct vectors
 

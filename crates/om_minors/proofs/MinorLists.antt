@@ -8,7 +8,6 @@ use Rattle.std.proofs.lemmas.Bool.{cases_lt, lt-ltb}
 use Rattle.std.proofs.lemmas.List.Edits.{length-remove, get_or-remove_below, get_or-remove_above}
 use Rattle.om_signs.specs.declared.sign.Sign.{Sign}
 use Rattle.om_signs.specs.declared.sign.Sign.TheVariants.{Zero}
-use Rattle.om_signs.specs.SignVec.{at, at_element}
 use Rattle.om_laws.specs.Bridge.{as_function, as_list}
 use Rattle.om_laws.specs.Chirotope.{elements_to}
 use Rattle.om_laws.specs.Covectors.{IsCovector}
@@ -17,7 +16,7 @@ use Rattle.om_laws.specs.Sorting.{on_tuples}
 use Rattle.om_laws.specs.Vectors.{SignVector}
 use Rattle.om_laws.specs.Parallel as theory
 use Rattle.om_laws.proofs.BridgeLaws.{as_function-as_list, length-as_list}
-use Rattle.om_laws.proofs.MinorLaws.{deletion_both, contraction_both, coloop_both, loop_both}
+use Rattle.om_laws.proofs.MinorLaws.{deletion_both, contraction_both, coloop_both, loop_both, skip_below, skip_above}
 use Rattle.om_chirotope.specs.Map.{SignMap, chi_of}
 use Rattle.om_chirotope.specs.Chirotope.{IsChirotope}
 use Rattle.om_chirotope.proofs.Places.{place-vector}
@@ -26,11 +25,11 @@ use Rattle.om_denotation.specs.Operations.{IsDeletion, IsContraction}
 use Rattle.om_denotation.proofs.ChirotopeBridge.{tuples_of, same_lists, covector_function, covector_list}
 use Rattle.om_denotation.specs.Maps.{IsNormalFormOf}
 use Rattle.om_denotation.proofs.NormalForms.{which_covectors}
+use Rattle.om_denotation.proofs.ListFunctions.{place_function}
 use Rattle.om_minors.specs.Minors.{deleted, contracted}
 use Rattle.om_minors.proofs.BasisLaws.{HasBasis, rank_low, basis_with, coloop_tuple, loop_tuple}
 use Rattle.om_minors.proofs.MinorMaps.{one_more, element, larger_chirotope, larger_avoided, larger_in_base}
 use Rattle.om_minors.proofs.MinorMaps.{deleted_tuples, contracted_tuples}
-use Rattle.om_minors.proofs.Skips.{skip_below, skip_above}
 
 -- a list without the place of e, as a function
 pub removed_function : (W : List Sign) (e p : ℕ) → 1 ≤ e → e ≤ length W
@@ -44,10 +43,6 @@ removed_function W e (suc i) low high = elim (cases_lt (suc i) e) [
       get_or-remove_above W (e - 1) Zero i (omega arith) (omega arith)
       ∙ ap (as_function W) (up ∙ sym (skip_above e (suc i) g))
 ]
-
-place_function : (W : List Sign) (e : ℕ) → 1 ≤ e → as_function W e ≡ at_element W e
-place_function W zero low = absurd (omega arith)
-place_function W (suc i) low = let q : i ≡ suc i - 1 = omega arith in ap (at W) q
 
 module _ (m : SignMap) (om : IsChirotope m) (e : ℕ) (several : 2 ≤ m.elements) (low : 1 ≤ e)
     (high : e ≤ m.elements) where
@@ -128,7 +123,7 @@ module _ (m : SignMap) (om : IsChirotope m) (e : ℕ) (several : 2 ≤ m.element
             ((both (as_function X)).1 (
               as_function w.0,
               lowered w.0 w.2,
-              place_function w.0 e low ∙ w.3,
+              sym (place_function w.0 e low) ∙ w.3,
               skipped_of w.0 X w.1 w.4,
             ))),
       )

@@ -8,13 +8,14 @@ use Rattle.std.proofs.lemmas.Bool.{cases_lt, cases_eq, false≢true}
 use Rattle.std.proofs.lemmas.List.{length-append, length-map}
 use Rattle.om_signs.specs.declared.sign.Sign.{Sign}
 use Rattle.om_subsets.specs.Subsets.{IsSubsetFrom, IsMember}
+use Rattle.om_subsets.proofs.Counts.{subset_small}
 use Rattle.om_laws.specs.Chirotope as theory
 use Rattle.om_laws.specs.Chirotope.{elements_to}
 use Rattle.om_laws.specs.Minors.{skip, pullback, deletion, contraction, IsAvoided}
 use Rattle.om_laws.specs.Parallel.{IsInBase}
 use Rattle.om_laws.specs.Sorting.{IsElement, Each, IsTuple, IsIncreasing, on_tuples}
 use Rattle.om_laws.specs.Tuples.{value}
-use Rattle.om_laws.proofs.MinorLaws.{deletion_chirotope, contraction_chirotope}
+use Rattle.om_laws.proofs.MinorLaws.{deletion_chirotope, contraction_chirotope, skip_below, skip_above}
 use Rattle.om_laws.proofs.PullbackLaws.{pullback_alternating}
 use Rattle.om_laws.proofs.SortingLaws.{value_increasing, alternating_equal}
 use Rattle.om_laws.proofs.TupleSizes.{is_tuple_cases, on_tuples_at, on_tuples_off, on_tuples_alternating}
@@ -25,15 +26,8 @@ use Rattle.om_denotation.proofs.ChirotopeBridge.{tuples_of}
 use Rattle.om_denotation.proofs.Rules.{tuples_by, whole_by, chirotope_by}
 use Rattle.om_minors.specs.Minors.{deleted, contracted}
 use Rattle.om_minors.proofs.BasisLaws.{HasBasis, avoided, in_base, rank_low}
-use Rattle.om_minors.proofs.Skips.{skip_below, skip_above}
 
 -- ---- the whole set
-
-subset_small : (low n : ℕ) (xs : List ℕ) → IsSubsetFrom low n xs → length xs ≤ n
-subset_small low n [] h = omega arith
-subset_small low zero (x ∷ xs) h = absurd h
-subset_small low (suc n) (x ∷ xs) (inl (q, h)) = let k = subset_small (low + 1) n xs h in omega arith
-subset_small low (suc n) (x ∷ xs) (inr (q, h)) = let k = subset_small (low + 1) n (x ∷ xs) h in omega arith
 
 -- an increasing list of all n numbers has each of them
 whole_set : (low n : ℕ) (xs : List ℕ) → IsSubsetFrom low n xs → length xs ≡ n → (g : ℕ) → low ≤ g → g < low + n

@@ -1,28 +1,19 @@
 -- Sets with their elements from e on moved up by one.
 --
 -- Main results: they avoid e (skip_avoids); the value of such a set with e behind it (behind_even, behind_odd).
-use Rattle.std.specs.Prelude.{ℕ, ◌≡◌, ◌+◌, ◌-◌, ◌%◌, ◌<◌, ◌≤◌, List, [], ◌∷◌, ◌++◌, length, map, refl}
-use Rattle.std.proofs.Common.{◌∙◌, ap, subst, inl, inr, arith}
-use Rattle.std.proofs.lemmas.Bool.{cases_lt, lt-ltb, le-ltb}
+use Rattle.std.specs.Prelude.{ℕ, ◌≡◌, ◌-◌, ◌%◌, ◌≤◌, List, [], ◌∷◌, ◌++◌, length, map}
+use Rattle.std.proofs.Common.{sym, ◌∙◌, ap, subst, inl, inr, arith}
 use Rattle.om_subsets.specs.Subsets.{IsSubsetFrom, IsMember, with_element, count_above}
 use Rattle.om_laws.specs.Minors.{skip, contraction}
+use Rattle.om_laws.proofs.MinorLaws.{skip_other}
 use Rattle.om_signs.specs.declared.sign.Sign.{Sign}
 use Rattle.om_signs.specs.Sign.{opposite}
 use Rattle.om_chirotope.specs.Map.{SignMap, chi_of, value_of}
 use Rattle.om_chirotope.proofs.Cocircuits.{along_even, along_odd, length-with}
 
-pub skip_below : (e p : ℕ) → p < e → skip e p ≡ p
-skip_below e p l = rw (lt-ltb p e l) refl
-
-pub skip_above : (e p : ℕ) → e ≤ p → skip e p ≡ p + 1
-skip_above e p l = rw (le-ltb p e l) refl
-
 pub skip_avoids : (e : ℕ) (t : List ℕ) → IsMember e (map (skip e) t) → ⊥
 skip_avoids e [] h = h
-skip_avoids e (x ∷ t) (inl q) = elim (cases_lt x e) [
-  | inl l ↦ (let k = skip_below e x l in omega (arith, k, q, l))
-  | inr g ↦ (let k = skip_above e x g in omega (arith, k, q, g))
-]
+skip_avoids e (x ∷ t) (inl q) = skip_other e x (sym q)
 skip_avoids e (x ∷ t) (inr h) = skip_avoids e t h
 
 -- the value of a list that avoids e with e behind it, by the sign of the list with e

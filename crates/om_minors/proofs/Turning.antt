@@ -2,18 +2,20 @@
 --
 -- Main results: turned_odd, turned_even, the sign of the elements that a mask names; reoriented_tuples,
 -- reoriented_axioms, is_reorientation; twice.
-use Rattle.std.specs.Prelude.{ℕ, ◌≡◌, ◌≢◌, ◌⊎◌, ◌+◌, ◌-◌, ◌/◌, ◌%◌, ◌<◌, ◌≤◌, List, [], ◌∷◌, length, map, refl, cond}
+use Rattle.std.specs.Prelude.{ℕ, ◌≡◌, ◌≢◌, ◌⊎◌, ◌+◌, ◌-◌, ◌/◌, ◌%◌, ◌<◌, ◌≤◌, List, [], length, map, refl, cond}
 use Rattle.std.specs.Prelude.{nat_eq, bit_and, Bool, true, false}
 use Rattle.std.specs.Int.{bit_at}
-use Rattle.std.proofs.Common.{zero, suc, sym, ◌∙◌, ap, inl, inr, arith, min, set}
+use Rattle.std.proofs.Common.{zero, suc, sym, ◌∙◌, ap, inl, inr, arith, set}
 use Rattle.std.proofs.lemmas.Bool.{cases_eq, eq-eqb, ne_eqb}
 use Rattle.std.proofs.lemmas.List.{ext_get_or, length-map, get_or-map, get_or-set_same, get_or-set_other}
-use Rattle.std.proofs.lemmas.Nat.Bits.{bit_at_lowest, bit_at-suc, bit_at_and, same_from_bits}
+use Rattle.std.proofs.lemmas.Nat.Bits.{bit_at_lowest, bit_at-suc}
 use Rattle.om_signs.specs.declared.sign.Sign.{Sign}
 use Rattle.om_signs.specs.declared.sign.Sign.TheVariants.{Minus, Zero, Plus}
 use Rattle.om_signs.specs.Sign.{opposite, product}
 use Rattle.om_signs.specs.SignVec.{at, flip}
 use Rattle.om_signs.proofs.ListPlaces.{at-flip_from, length-flip_from}
+use Rattle.om_signs.proofs.SignLaws.{product-zero, product-opposite_right, product_twice}
+use Rattle.om_signs.proofs.Bits.{bit_and-half, bit_and-lowest}
 use Rattle.om_subsets.specs.Members.{members, mask_of}
 use Rattle.om_subsets.specs.Subsets.{IsSubsetFrom, choose, all_subsets, subset_at}
 use Rattle.om_subsets.proofs.Masks.{members-mask_of}
@@ -24,9 +26,7 @@ use Rattle.om_laws.specs.Circuits.{IsCircuit}
 use Rattle.om_laws.specs.Reorientation.{turning, signs_product, reoriented, turned, negative}
 use Rattle.om_laws.specs.Sorting.{IsIncreasing, on_tuples}
 use Rattle.om_laws.proofs.PairCovectors.{covector_same}
-use Rattle.om_laws.proofs.ReorientationLaws.{reoriented_chirotope, covector_turned}
-use Rattle.om_laws.specs.Signs.{IsNonzero}
-use Rattle.om_laws.proofs.SignLaws.{plus_nonzero, minus_nonzero, product_nonzero, product-zero, product-opposite_right}
+use Rattle.om_laws.proofs.ReorientationLaws.{reoriented_chirotope, covector_turned, signs_product_nonzero}
 use Rattle.om_laws.proofs.SortingLaws.{value_increasing, alternating_equal}
 use Rattle.om_laws.proofs.TupleSizes.{is_tuple_cases, on_tuples_at, on_tuples_off, on_tuples_alternating}
 use Rattle.om_chirotope.specs.Map.{SignMap, chi_of, negated, parity_sign}
@@ -45,22 +45,12 @@ use Rattle.om_minors.specs.Minors.{names, reoriented_on}
 
 -- ---- the sign of the elements that a mask names
 
-half_and : (a b : ℕ) → bit_and a b / 2 ≡ bit_and (a / 2) (b / 2)
-half_and a b = same_from_bits (bit_and a b / 2) (bit_and (a / 2) (b / 2)) (λ i.
-    sym (bit_at-suc (bit_and a b) i) ∙ bit_at_and a b (suc i)
-    ∙ ap (λ x. min x (bit_at b (suc i))) (bit_at-suc a i) ∙ ap (min (bit_at (a / 2) i)) (bit_at-suc b i)
-    ∙ sym (bit_at_and (a / 2) (b / 2) i))
-
-low_and : (a b : ℕ) → bit_and a b % 2 ≡ min (a % 2) (b % 2)
-low_and a b = sym (bit_at_lowest (bit_and a b)) ∙ bit_at_and a b 0 ∙ ap (λ x. min x (bit_at b 0)) (bit_at_lowest a)
-    ∙ ap (min (a % 2)) (bit_at_lowest b)
-
 -- b has the bits of the mask from that of the element low on
 turning_members : (a b mask low m : ℕ) → ((i : ℕ) → i < m → bit_at b i ≡ bit_at mask (low - 1 + i)) → 1 ≤ low
     → signs_product (turning (names mask)) (members a low m) ≡ parity_sign (length (members (bit_and a b) low m))
 turning_members a b mask low zero h l = refl
 turning_members a b mask low (suc m) h l =
-    let both = low_and a b in
+    let both = bit_and-lowest a b in
     let here : bit_at mask (low - 1) ≡ b % 2 = (let q : low - 1 ≡ low - 1 + 0 = omega arith in ap (bit_at mask) q)
     ∙ sym (h 0 (omega arith)) ∙ bit_at_lowest b in
     let rest : signs_product (turning (names mask)) (members (a / 2) (low + 1) m)
@@ -68,7 +58,7 @@ turning_members a b mask low (suc m) h l =
     turning_members (a / 2) (b / 2) mask (low + 1) m
     (λ i u. sym (bit_at-suc b i) ∙ h (suc i) (omega arith)
     ∙ (let q : low - 1 + suc i ≡ low + 1 - 1 + i = omega arith in ap (bit_at mask) q)) (omega arith)
-    ∙ ap (λ x. parity_sign (length (members x (low + 1) m))) (sym (half_and a b)) in
+    ∙ ap (λ x. parity_sign (length (members x (low + 1) m))) (sym (bit_and-half a b)) in
     elim (cases_eq (a % 2) 1) [
       | inl o ↦ elim (cases_eq (b % 2) 1) [
         | inl p ↦
@@ -205,20 +195,8 @@ module _ (m : SignMap) (om : IsChirotope m) (mask : ℕ) where
 
 -- ---- twice on one set
 
-signs_product_nonzero : (set : ℕ → Bool) (t : List ℕ) → IsNonzero (signs_product (turning set) t)
-signs_product_nonzero set [] = plus_nonzero
-signs_product_nonzero set (x ∷ t) =
-    product_nonzero (turning set x) (signs_product (turning set) t) (by_case (set x)) (signs_product_nonzero set t)
-  where
-    by_case : (b : Bool) → IsNonzero (cond b Minus Plus)
-    by_case true = minus_nonzero
-    by_case false = plus_nonzero
-
 signs_twice : (set : ℕ → Bool) (chi : List ℕ → Sign) (t : List ℕ) → reoriented set (reoriented set chi) t ≡ chi t
-signs_twice set chi t = lemma (signs_product (turning set) t) (chi t) (signs_product_nonzero set t)
-  where
-    lemma : (a b : Sign) → IsNonzero a → product a (product a b) ≡ b
-    lemma a b n = grind arith
+signs_twice set chi t = product_twice (signs_product (turning set) t) (chi t) (signs_product_nonzero set t)
 
 signs_negative : (set : ℕ → Bool) (chi : List ℕ → Sign) (t : List ℕ)
     → reoriented set (negative chi) t ≡ negative (reoriented set chi) t

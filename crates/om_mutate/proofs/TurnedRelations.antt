@@ -7,22 +7,23 @@ use Rattle.std.proofs.Common.{refl, sym, ap, ◌∙◌, subst, inl, inr, arith}
 use Rattle.om_signs.specs.declared.sign.Sign.{Sign}
 use Rattle.om_signs.specs.declared.sign.Sign.TheVariants.{Zero}
 use Rattle.om_signs.specs.Sign.{opposite, product}
+use Rattle.om_signs.proofs.SignLaws.{opposite_nonzero, product-same}
 use Rattle.om_subsets.specs.Subsets.{IsSubsetFrom}
 use Rattle.om_subsets.proofs.Statements.{subset_is_increasing}
 use Rattle.om_laws.specs.Sorting.{IsElement, IsTuple, on_tuples}
 use Rattle.om_laws.specs.ThreeTerm.{AreBalanced}
-use Rattle.om_laws.proofs.SignLaws.{opposite_nonzero}
 use Rattle.om_laws.proofs.TupleLaws.{value_alternating}
-use Rattle.om_laws.proofs.TupleSizes.{on_tuples_at, on_tuples_alternating}
+use Rattle.om_laws.proofs.TupleSizes.{on_tuples_at, on_tuples_alternating, triple_is_tuple}
+use Rattle.om_laws.proofs.BalancedSigns.{balanced_same}
+use Rattle.om_subsets.proofs.Triples.{IsRising, rising_within}
 use Rattle.om_chirotope.specs.Map.{SignMap, IsMap, chi_of, value_of}
 use Rattle.om_chirotope.specs.Chirotope.{IsChirotope}
 use Rattle.om_chirotope.specs.ThreeTerm.{IsBasis, HasExchange, HasThreeTermRelations}
 use Rattle.om_chirotope.proofs.InOrder.{value_in_order}
 use Rattle.om_chirotope.proofs.Theory.{theory_chirotope}
-use Rattle.om_chirotope.proofs.ThreeTerms.{balanced_same, chirotope_of_test, test_of_chirotope}
+use Rattle.om_chirotope.proofs.ThreeTerms.{chirotope_of_test, test_of_chirotope}
 use Rattle.om_wiring.proofs.CrossingOrders.{three_terms}
-use Rattle.om_wiring.proofs.SweepEnds.{IsRising}
-use Rattle.om_wiring.proofs.WiringMaps.{three, swap_last}
+use Rattle.om_wiring.proofs.WiringMaps.{swap_last}
 use Rattle.om_mutate.specs.Mutations.{flipped, IsMutation}
 use Rattle.om_mutate.specs.Turns.{StaysBalanced, StaysBalancedAround, StaysBalancedAt}
 use Rattle.om_mutate.proofs.BalancedOrders.{from_last_two, from_first_third, from_second_last, from_first_last}
@@ -37,9 +38,6 @@ Relation m p x y z v = AreBalanced (product (value_of m (p ∷ x ∷ y ∷ [])) 
     (opposite (product (value_of m (p ∷ x ∷ z ∷ [])) (value_of m (p ∷ y ∷ v ∷ []))))
     (product (value_of m (p ∷ x ∷ v ∷ [])) (value_of m (p ∷ y ∷ z ∷ [])))
 
-three_values : (s t u v : Sign) → s ≡ u → t ≡ v → product s t ≡ product u v
-three_values s t u v e f = grind arith
-
 -- the relations of a chirotope, for any elements
 relation_of : (m : SignMap) → m.rank ≡ 3 → IsChirotope m → (p x y z v : ℕ) → IsElement m.elements p
     → IsElement m.elements x → IsElement m.elements y → IsElement m.elements z → IsElement m.elements v
@@ -51,11 +49,11 @@ relation_of m r h p x y z v ip ix iy iz iv =
     → value_of m (p ∷ e ∷ f ∷ []) ≡ on_tuples m.elements m.rank (chi_of m) (p ∷ e ∷ f ∷ []) =
     λ e f ie if. sym
     (on_tuples_at n k (chi_of m) (p ∷ e ∷ f ∷ [])
-    (subst (λ s. IsTuple n s (p ∷ e ∷ f ∷ [])) (sym r) (three n p e f ip ie if))) in
+    (subst (λ s. IsTuple n s (p ∷ e ∷ f ∷ [])) (sym r) (triple_is_tuple n p e f ip ie if))) in
     balanced_same _ _ _ _ _ _
-    (three_values _ _ _ _ (at x y ix iy) (at z v iz iv))
-    (ap opposite (three_values _ _ _ _ (at x z ix iz) (at y v iy iv)))
-    (three_values _ _ _ _ (at x v ix iv) (at y z iy iz))
+    (product-same (at x y ix iy) (at z v iz iv))
+    (ap opposite (product-same (at x z ix iz) (at y v iy iv)))
+    (product-same (at x v ix iv) (at y z iy iz))
     (three_terms (on_tuples n k (chi_of m)) (on_tuples_alternating n k (chi_of m)) (theory_chirotope m h).relations p x
     y z v)
 
@@ -67,12 +65,12 @@ module _ (m : SignMap) (a b c : ℕ) (w : IsMap m) (r : m.rank ≡ 3) (i : IsRis
       → IsElement m.elements x → IsElement m.elements y → StaysBalancedAt m p x y
   stays_balanced u p x y k ip ix iy z iz v iv = record {
     signs = λ zx zy vx vy. balanced_same _ _ _ _ _ _
-        (three_values _ _ _ _ (sym (corner_turned m a b c w r i p x y k))
+        (product-same (sym (corner_turned m a b c w r i p x y k))
         (sym (corner_kept m a b c w r i p x y z v k ip iz iv zx zy)))
         (ap opposite
-        (three_values _ _ _ _ (sym (corner_kept_third m a b c w r i p x y z x k ip iz ix zx zy))
+        (product-same (sym (corner_kept_third m a b c w r i p x y z x k ip iz ix zx zy))
         (sym (corner_kept_third m a b c w r i p x y v y k ip iv iy vx vy))))
-        (three_values _ _ _ _ (sym (corner_kept_third m a b c w r i p x y v x k ip iv ix vx vy))
+        (product-same (sym (corner_kept_third m a b c w r i p x y v x k ip iv ix vx vy))
         (sym (corner_kept_third m a b c w r i p x y z y k ip iz iy zx zy)))
         (relation_of (flipped m t) r u.axioms p x y z v ip ix iy iz iv);
   }
@@ -85,12 +83,12 @@ module _ (m : SignMap) (a b c : ℕ) (w : IsMap m) (r : m.rank ≡ 3) (i : IsRis
       → StaysBalanced m p x y z v → Relation (flipped m (a ∷ b ∷ c ∷ [])) p x y z v
   turned_relation p x y z v k ip ix iy iz iv zx zy vx vy s =
       balanced_same _ _ _ _ _ _
-      (three_values _ _ _ _ (corner_turned m a b c w r i p x y k)
+      (product-same (corner_turned m a b c w r i p x y k)
       (corner_kept m a b c w r i p x y z v k ip iz iv zx zy))
       (ap opposite
-      (three_values _ _ _ _ (corner_kept_third m a b c w r i p x y z x k ip iz ix zx zy)
+      (product-same (corner_kept_third m a b c w r i p x y z x k ip iz ix zx zy)
       (corner_kept_third m a b c w r i p x y v y k ip iv iy vx vy)))
-      (three_values _ _ _ _ (corner_kept_third m a b c w r i p x y v x k ip iv ix vx vy)
+      (product-same (corner_kept_third m a b c w r i p x y v x k ip iv ix vx vy)
       (corner_kept_third m a b c w r i p x y z y k ip iz iy zx zy))
       (s.signs zx zy vx vy)
 
@@ -188,8 +186,8 @@ module _ (m : SignMap) (a b c : ℕ) (w : IsMap m) (r : m.rank ≡ 3) (i : IsRis
                           (λ z. omega (arith, z, de, ef)) (λ z. omega (arith, z, ef, fg))
                           (λ z. omega (arith, z, fg)) (balanced q e f k d id g ig))
                       | inr k6 ↦
-                          balanced_same _ _ _ _ _ _ (three_values _ _ _ _ k1 k2)
-                          (ap opposite (three_values _ _ _ _ k3 k4)) (three_values _ _ _ _ k5 k6) rel
+                          balanced_same _ _ _ _ _ _ (product-same k1 k2)
+                          (ap opposite (product-same k3 k4)) (product-same k5 k6) rel
                     ]
                   ]
                 ]
@@ -247,22 +245,16 @@ pub mutation_by_relations : (m : SignMap) (t : List ℕ) (a b c : ℕ) → IsChi
     × (IsMutation m t → StaysBalancedAround m a b c)
 mutation_by_relations m t a b c h r e low ab bc high =
     let i : IsRising m.elements a b c =
-    record {
-      first_within = (low, omega arith);
-      second_within = (omega arith, omega arith);
-      third_within =
-          (omega arith, high);
-      first = ab;
-      second = bc;
-    } in (
+    record { low = low; first = ab; second = bc; high = high } in
+    let v = rising_within i in (
       λ s nonzero. subst (IsMutation m) (sym e)
           (mutation_if_balanced m a b c h.whole r i h (λ z. nonzero (ap (chi_of m) e ∙ z)) (at_corner a b c s)),
       λ w.
           let l = stays_balanced m a b c h.whole r i (subst (IsMutation m) e w) in
           record {
-            first = l a b c (inl (refl, refl, refl)) i.first_within i.second_within i.third_within;
-            second = l b a c (inr (inl (refl, refl, refl))) i.second_within i.first_within i.third_within;
-            third = l c a b (inr (inr (refl, refl, refl))) i.third_within i.first_within i.second_within;
+            first = l a b c (inl (refl, refl, refl)) v.0 v.1 v.2;
+            second = l b a c (inr (inl (refl, refl, refl))) v.1 v.0 v.2;
+            third = l c a b (inr (inr (refl, refl, refl))) v.2 v.0 v.1;
           },
     )
   where

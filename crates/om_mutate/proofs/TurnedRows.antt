@@ -11,13 +11,15 @@ use Rattle.om_signs.specs.declared.sign.Sign.{Sign}
 use Rattle.om_signs.specs.declared.sign.Sign.TheVariants.{Minus, Zero, Plus}
 use Rattle.om_signs.specs.Sign.{opposite, product}
 use Rattle.om_signs.specs.SignVec.{at, at_element}
+use Rattle.om_signs.proofs.SignLaws.{product_zero_left, product-zero, opposite-opposite, product-same}
 use Rattle.om_laws.specs.Sorting.{IsElement}
 use Rattle.om_laws.specs.Relations.{along}
 use Rattle.om_laws.specs.ThreeTerm.{AreBalanced}
 use Rattle.om_laws.proofs.TupleLaws.{value_alternating}
+use Rattle.om_laws.proofs.BridgeLaws.{length-as_list}
+use Rattle.om_laws.proofs.BalancedSigns.{balanced_same}
 use Rattle.om_chirotope.specs.Map.{SignMap, chi_of, value_of, cocircuit_vector}
-use Rattle.om_chirotope.proofs.Places.{length-vector, cocircuit_place}
-use Rattle.om_chirotope.proofs.ThreeTerms.{balanced_same}
+use Rattle.om_chirotope.proofs.Places.{cocircuit_place}
 use Rattle.om_wiring.proofs.WiringMaps.{swap_last, last_equal}
 use Rattle.om_mutate.specs.Turns.{StaysBalanced, StaysBalancedWith, turned_row}
 
@@ -45,24 +47,6 @@ opposite_ends Plus Minus = tt
 opposite_ends Plus Zero = tt
 opposite_ends Plus Plus = tt
 
-zero_right : (s : Sign) → product s Zero ≡ Zero
-zero_right Minus = refl
-zero_right Zero = refl
-zero_right Plus = refl
-
-zero_left : (s : Sign) → product Zero s ≡ Zero
-zero_left Minus = refl
-zero_left Zero = refl
-zero_left Plus = refl
-
-twice : (s : Sign) → opposite (opposite s) ≡ s
-twice Minus = refl
-twice Zero = refl
-twice Plus = refl
-
-two : {s t u v : Sign} → s ≡ u → t ≡ v → product s t ≡ product u v
-two {s} {t} {u} {v} e f = ap (λ k. product k t) e ∙ ap (product u) f
-
 module _ (m : SignMap) (p : ℕ) where
   abbrev chi : ℕ → ℕ → Sign
   chi x y = value_of m (p ∷ x ∷ y ∷ [])
@@ -79,7 +63,7 @@ module _ (m : SignMap) (p : ℕ) where
   in_row x e i = cocircuit_place m (p ∷ x ∷ []) e i.0 i.1
 
   row_size : (x : ℕ) → length (cocircuit_vector m (p ∷ x ∷ [])) ≡ m.elements
-  row_size x = length-vector m.elements (along (value_of m) (p ∷ x ∷ []))
+  row_size x = length-as_list m.elements (along (value_of m) (p ∷ x ∷ []))
 
   -- the turned row of x at y, and elsewhere
   turned_here : (x y : ℕ) → IsElement m.elements y → at_element (turned_row (cocircuit_vector m (p ∷ x ∷ [])) y) y
@@ -119,20 +103,20 @@ module _ (m : SignMap) (p : ℕ) where
         → product (at_element (turned_row (cocircuit_vector m (p ∷ x ∷ [])) y) y)
         (at_element (cocircuit_vector m (p ∷ z ∷ [])) w)
         ≡ product (opposite (value_of m (p ∷ x ∷ y ∷ []))) (value_of m (p ∷ z ∷ w ∷ []))
-    first_term w iw = two (turned_here x y iy) (in_row z w iw)
+    first_term w iw = product-same (turned_here x y iy) (in_row z w iw)
 
     second_term : (w : ℕ) → IsElement m.elements w → w ≢ x
         → opposite
         (product (at_element (turned_row (cocircuit_vector m (p ∷ x ∷ [])) y) z)
         (at_element (turned_row (cocircuit_vector m (p ∷ y ∷ [])) x) w))
         ≡ opposite (product (value_of m (p ∷ x ∷ z ∷ [])) (value_of m (p ∷ y ∷ w ∷ [])))
-    second_term w iw wx = ap opposite (two (turned_else x y z iy iz zy) (turned_else y x w ix iw wx))
+    second_term w iw wx = ap opposite (product-same (turned_else x y z iy iz zy) (turned_else y x w ix iw wx))
 
     third_term : (w : ℕ) → IsElement m.elements w → w ≢ y
         → product (at_element (turned_row (cocircuit_vector m (p ∷ x ∷ [])) y) w)
         (at_element (turned_row (cocircuit_vector m (p ∷ y ∷ [])) x) z)
         ≡ product (value_of m (p ∷ x ∷ w ∷ [])) (value_of m (p ∷ y ∷ z ∷ []))
-    third_term w iw wy = two (turned_else x y w iy iw wy) (turned_else y x z ix iz zx)
+    third_term w iw wy = product-same (turned_else x y w iy iw wy) (turned_else y x z ix iz zx)
 
     balanced_at : (w : ℕ) → IsElement m.elements w → Turned w → StaysBalanced m p x y z w
     balanced_at w iw h =
@@ -153,21 +137,22 @@ module _ (m : SignMap) (p : ℕ) where
     turned_at_y : Turned y
     turned_at_y =
         balanced_same _ _ _ _ _ _
-        (two (turned_here x y iy) (in_row z y iy ∙ swapped y z))
+        (product-same (turned_here x y iy) (in_row z y iy ∙ swapped y z))
         (ap opposite
-        (two refl (own_zero y x iy ix)
-        ∙ zero_right (at_element (turned_row (cocircuit_vector m (p ∷ x ∷ [])) y) z)))
-        (two (turned_here x y iy) (turned_else y x z ix iz zx))
+        (product-same refl (own_zero y x iy ix)
+        ∙ product-zero (at_element (turned_row (cocircuit_vector m (p ∷ x ∷ [])) y) z)))
+        (product-same (turned_here x y iy) (turned_else y x z ix iz zx))
         (opposite_ends (value_of m (p ∷ x ∷ y ∷ [])) (value_of m (p ∷ y ∷ z ∷ [])))
 
     turned_at_x : Turned x
     turned_at_x =
         balanced_same _ _ _ _ _ _
-        (two (turned_here x y iy) (in_row z x ix ∙ swapped x z))
+        (product-same (turned_here x y iy) (in_row z x ix ∙ swapped x z))
         (ap opposite
-        (two (turned_else x y z iy iz zy)
-        (turned_here y x ix ∙ ap opposite (swapped x y) ∙ twice (value_of m (p ∷ x ∷ y ∷ [])))))
-        (two (own_zero x y ix iy) refl ∙ zero_left (at_element (turned_row (cocircuit_vector m (p ∷ y ∷ [])) x) z))
+        (product-same (turned_else x y z iy iz zy)
+        (turned_here y x ix ∙ ap opposite (swapped x y) ∙ opposite-opposite (value_of m (p ∷ x ∷ y ∷ [])))))
+        (product-same (own_zero x y ix iy) refl ∙ product_zero_left Zero
+        (at_element (turned_row (cocircuit_vector m (p ∷ y ∷ [])) x) z) refl)
         (opposite_pair (value_of m (p ∷ x ∷ y ∷ [])) (value_of m (p ∷ x ∷ z ∷ [])))
 
     turned_at : StaysBalancedWith m p x y z → (w : ℕ) → IsElement m.elements w → Turned w
@@ -195,12 +180,12 @@ module _ (m : SignMap) (p : ℕ) where
       to_code i h =
           let back : i + 1 - 1 ≡ i = omega arith in
           balanced_same _ _ _ _ _ _
-          (two (ap (λ r. at_element r y) e1)
+          (product-same (ap (λ r. at_element r y) e1)
           (ap (λ r. at r i) e3 ∙ ap (at (cocircuit_vector m (p ∷ z ∷ []))) (sym back)))
           (ap opposite
-          (two (ap (λ r. at_element r z) e1)
+          (product-same (ap (λ r. at_element r z) e1)
           (ap (λ r. at r i) e2 ∙ ap (at (turned_row (cocircuit_vector m (p ∷ y ∷ [])) x)) (sym back))))
-          (two (ap (λ r. at r i) e1 ∙ ap (at (turned_row (cocircuit_vector m (p ∷ x ∷ [])) y)) (sym back))
+          (product-same (ap (λ r. at r i) e1 ∙ ap (at (turned_row (cocircuit_vector m (p ∷ x ∷ [])) y)) (sym back))
           (ap (λ r. at_element r z) e2))
           h
 
@@ -208,12 +193,12 @@ module _ (m : SignMap) (p : ℕ) where
       of_code i h =
           let back : i + 1 - 1 ≡ i = omega arith in
           balanced_same _ _ _ _ _ _
-          (sym (two (ap (λ r. at_element r y) e1)
+          (sym (product-same (ap (λ r. at_element r y) e1)
           (ap (λ r. at r i) e3 ∙ ap (at (cocircuit_vector m (p ∷ z ∷ []))) (sym back))))
           (ap opposite
-          (sym (two (ap (λ r. at_element r z) e1)
+          (sym (product-same (ap (λ r. at_element r z) e1)
           (ap (λ r. at r i) e2 ∙ ap (at (turned_row (cocircuit_vector m (p ∷ y ∷ [])) x)) (sym back)))))
-          (sym (two (ap (λ r. at r i) e1 ∙ ap (at (turned_row (cocircuit_vector m (p ∷ x ∷ [])) y)) (sym back))
+          (sym (product-same (ap (λ r. at r i) e1 ∙ ap (at (turned_row (cocircuit_vector m (p ∷ x ∷ [])) y)) (sym back))
           (ap (λ r. at_element r z) e2)))
           h
 

@@ -11,25 +11,18 @@ use Rattle.om_signs.specs.declared.sign.Sign.TheVariants.{Zero}
 use Rattle.om_signs.specs.Sign.{opposite}
 use Rattle.om_subsets.specs.Subsets.{IsSubsetFrom, rank_of, IsTriple}
 use Rattle.om_subsets.proofs.Order.{same_place}
+use Rattle.om_subsets.proofs.Triples.{IsRising, triple_from}
 use Rattle.om_laws.specs.Members.{IsMember}
 use Rattle.om_laws.specs.Sorting.{IsElement, IsIncreasing, IsTuple}
-use Rattle.om_laws.proofs.MemberLaws.{member_or_not}
+use Rattle.om_laws.proofs.MemberLaws.{member_or_not, member_swap}
 use Rattle.om_laws.proofs.SortingLaws.{by_sorting, value_increasing}
 use Rattle.om_laws.proofs.TupleLaws.{neighbours_zero, value_alternating}
-use Rattle.om_laws.proofs.TupleSizes.{swap_tuple}
+use Rattle.om_laws.proofs.TupleSizes.{swap_tuple, triple_is_tuple}
 use Rattle.om_chirotope.specs.Map.{SignMap, IsMap, chi_of, value_of}
 use Rattle.om_chirotope.proofs.Theory.{from_tuple}
-use Rattle.om_wiring.proofs.SweepEnds.{IsRising}
-use Rattle.om_wiring.proofs.WiringMaps.{triple_subset, three, swap_first, swap_last, rotated, first_equal}
+use Rattle.om_wiring.proofs.WiringMaps.{swap_first, swap_last, rotated, first_equal}
 use Rattle.om_mutate.specs.Mutations.{flipped}
 use Rattle.om_mutate.proofs.FlipLaws.{flipped_sign}
-
-swap_member : (z x y : ℕ) (cs bs : List ℕ) → IsMember z (cs ++ y ∷ x ∷ bs) → IsMember z (cs ++ x ∷ y ∷ bs)
-swap_member z x y [] bs (inl q) = inr (inl q)
-swap_member z x y [] bs (inr (inl q)) = inl q
-swap_member z x y [] bs (inr (inr k)) = inr (inr k)
-swap_member z x y (c ∷ cs) bs (inl q) = inl q
-swap_member z x y (c ∷ cs) bs (inr k) = inr (swap_member z x y cs bs k)
 
 module _ (m : SignMap) (t : List ℕ) (w : IsMap m) (r : m.rank ≡ 3) (h : IsTriple m.elements t) where
   other_sign : (u : List ℕ) → IsSubsetFrom 1 m.elements u → length u ≡ 3 → u ≢ t → chi_of (flipped m t) u ≡ chi_of m u
@@ -47,7 +40,7 @@ module _ (m : SignMap) (t : List ℕ) (w : IsMap m) (r : m.rank ≡ 3) (h : IsTr
       swap : (x y : ℕ) (cs bs : List ℕ) → Kept z (cs ++ x ∷ y ∷ bs) → Kept z (cs ++ y ∷ x ∷ bs)
       swap x y cs bs k tuple q =
           value_alternating (chi_of (flipped m t)) x y cs bs
-          ∙ ap opposite (k (swap_tuple m.elements 3 x y cs bs tuple) (swap_member z x y cs bs q))
+          ∙ ap opposite (k (swap_tuple m.elements 3 x y cs bs tuple) (member_swap z y x cs bs q))
           ∙ sym (value_alternating (chi_of m) x y cs bs)
 
       repeat : (x : ℕ) (cs bs : List ℕ) → Kept z (cs ++ x ∷ x ∷ bs)
@@ -78,8 +71,7 @@ IsCorner a b c p x y = ((p ≡ a) × (x ≡ b) × (y ≡ c)) ⊎ (((p ≡ b) × 
 
 module _ (m : SignMap) (a b c : ℕ) (w : IsMap m) (r : m.rank ≡ 3) (i : IsRising m.elements a b c) where
   pub the_triple : IsTriple m.elements (a ∷ b ∷ c ∷ [])
-  the_triple =
-      record { list = triple_subset m.elements a b c i.first_within i.third_within i.first i.second; size = refl }
+  the_triple = triple_from m.elements a b c i.low i.first i.second i.high
 
   abbrev pub turned_map : SignMap
   turned_map = flipped m (a ∷ b ∷ c ∷ [])
@@ -131,7 +123,7 @@ module _ (m : SignMap) (a b c : ℕ) (w : IsMap m) (r : m.rank ≡ 3) (i : IsRis
         (first_equal (value_of turned_map) (value_alternating (chi_of turned_map)) p v
         ∙ sym (first_equal (value_of m) (value_alternating (chi_of m)) p v))
     | inr np ↦ other_value m (a ∷ b ∷ c ∷ []) w r the_triple z (off_corner p x y z k np nx ny) (p ∷ z ∷ v ∷ [])
-        (three m.elements p z v ip iz iv) (inr (inl refl))
+        (triple_is_tuple m.elements p z v ip iz iv) (inr (inl refl))
   ]
 
   pub corner_kept_third : (p x y z v : ℕ) → IsCorner a b c p x y → IsElement m.elements p → IsElement m.elements z
@@ -178,7 +170,7 @@ module _ (m : SignMap) (a b c : ℕ) (w : IsMap m) (r : m.rank ≡ 3) (i : IsRis
       → p ≢ y → x < y → IsCorner a b c p x y
       ⊎ (value_of (flipped m (a ∷ b ∷ c ∷ [])) (p ∷ x ∷ y ∷ []) ≡ value_of m (p ∷ x ∷ y ∷ []))
   corner_or_kept p x y ip ix iy nx ny l =
-      let u = three m.elements p x y ip ix iy in
+      let u = triple_is_tuple m.elements p x y ip ix iy in
       let other = other_value m (a ∷ b ∷ c ∷ []) w r the_triple in elim (member_or_not p (a ∷ b ∷ c ∷ [])) [
         | inr out ↦ inr (other p out (p ∷ x ∷ y ∷ []) u (inl refl))
         | inl mp ↦ elim (member_or_not x (a ∷ b ∷ c ∷ [])) [

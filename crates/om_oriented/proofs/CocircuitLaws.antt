@@ -5,7 +5,6 @@
 -- them (composed), so their covectors are the members (same_covectors).
 -- Reference: Björner, Las Vergnas, Sturmfels, White and Ziegler, Oriented Matroids, chapters 3 and 4.
 use Rattle.std.specs.List.{Contains}
-use Rattle.std.proofs.lemmas.List.Elements.{All-contains}
 use Rattle.std.proofs.Common.{ℕ, ◌≡◌, ◌↔◌, List, length, refl, sym, subst, ◌∙◌}
 use Rattle.om_signs.specs.declared.sign.Sign.{Sign}
 use Rattle.om_signs.specs.SignVec.{at}
@@ -20,6 +19,7 @@ use Rattle.om_laws.specs.Chirotope.{elements_to}
 use Rattle.om_laws.proofs.MinimalLaws as minimal
 use Rattle.om_covectors.specs.Axioms.{MeetsCovectorAxioms}
 use Rattle.om_members.specs.Listings.{HaveLength, Listing}
+use Rattle.om_members.proofs.ScanLaws.{length_of_member}
 use Rattle.om_covectors.specs.Minimality.{IsMinimal, AreThose}
 use Rattle.om_circuits.specs.Axioms.{MeetsCircuitAxioms}
 use Rattle.om_denotation.specs.Covectors.{IsCovectorOfCocircuits}
@@ -42,14 +42,12 @@ IsLeast members X = Contains members X × IsMinimal members X
 
 module _ (n : ℕ) (members : List (List Sign)) (lengths : HaveLength n members)
     (axioms : MeetsCovectorAxioms members) where
-  length_of : (X : List Sign) → Contains members X → length X ≡ n
-  length_of X m = All-contains (λ Y. length Y ≡ n) members X lengths m
-
   same_member : (f : SignVector) (X : List Sign) → length X ≡ n → IsListed (as_functions members) f
       → ((e : ℕ) → f e ≡ as_function X e) → Contains members X
   same_member f X l h q =
       let u = unlisted members f h in
-      subst (Contains members) (same_lists n u.0 X (length_of u.0 u.1) l (λ e. sym (u.2 e) ∙ q e)) u.1
+      subst (Contains members)
+      (same_lists n u.0 X (length_of_member n members lengths u.0 u.1) l (λ e. sym (u.2 e) ∙ q e)) u.1
 
   axioms_of_functions : CircuitAxioms (families.IsMinimal (IsListed (as_functions members)))
   axioms_of_functions = minimal.minimal_axioms (elements_to n) (as_functions members) (supported n members lengths)
@@ -62,7 +60,7 @@ module _ (n : ℕ) (members : List (List Sign)) (lengths : HaveLength n members)
 
   least_functions : AreFunctionsOf n (IsLeast members) (families.IsMinimal (IsListed (as_functions members)))
   least_functions = record {
-    size = λ X d. length_of X d.0;
+    size = λ X d. length_of_member n members lengths X d.0;
     function = λ X d. minimal_function members axioms X d.0 d.1;
     list = λ Z z. let u = unlisted members Z z.member in (u.0, (u.1, minimal_list members axioms Z u.0 z u.2), u.2);
   }

@@ -12,12 +12,12 @@ use Rattle.om_signs.specs.declared.sign.Sign.{Sign}
 use Rattle.om_signs.specs.declared.sign.Sign.TheVariants.{Zero}
 use Rattle.om_signs.specs.Sign.{first_nonzero}
 use Rattle.om_signs.specs.SignVec.{at, compose, IsInSupport, IsConformal}
-use Rattle.om_signs.proofs.ListPlaces.{at-compose, length-compose}
 use Rattle.std.specs.Cmp.{tied_itself, Equal-is}
 use Rattle.std.specs.Ordering.{is_eq}
 use Rattle.om_signs.specs.Order.{lexicographic}
 use Rattle.om_signs.specs.OrderLaws.{lexicographic-total, same_from_order, same_masks, matches_eq}
-use Rattle.om_laws.proofs.SignLaws.{zero_or_nonzero, first_nonzero_left}
+use Rattle.om_signs.proofs.ListPlaces.{at-compose, length-compose}
+use Rattle.om_signs.proofs.SignLaws.{zero_or_nonzero, first_nonzero_left}
 use Rattle.om_members.specs.Scans.{nth}
 use Rattle.om_members.proofs.ScanLaws.{nth_contained}
 use Rattle.om_denotation.specs.Covectors.{HasConformingMember}

@@ -9,12 +9,12 @@ use Rattle.std.proofs.Common.{ℕ, suc, ◌≡◌, ◌-◌, ◌↔◌, List, len
 use Rattle.om_signs.specs.declared.sign.Sign.{Sign}
 use Rattle.om_signs.specs.declared.sign.Sign.TheVariants.{Zero}
 use Rattle.om_signs.specs.SignVec.{compose}
+use Rattle.om_signs.proofs.ListPlaces.{at-replicate}
 use Rattle.om_members.specs.Vectors.{negated}
 use Rattle.om_circuits.specs.Axioms.{MeetsCircuitAxioms}
 use Rattle.om_members.specs.Listings.{HaveLength}
 use Rattle.om_covectors.specs.Axioms.{MeetsCovectorAxioms}
 use Rattle.om_denotation.specs.Compositions.{HasConformingParts}
-use Rattle.om_denotation.specs.CovectorLaws.{at_zero}
 use Rattle.om_denotation.specs.FamilyAxioms.{HasCircuitAxioms, HasCovectorAxioms}
 use Rattle.om_denotation.specs.Listings.{AreAllOf}
 use Rattle.om_denotation.proofs.ListFunctions.{at_place}
@@ -40,7 +40,7 @@ module _ (P : List Sign → Type 0) (members : List (List Sign)) (all : AreAllOf
 
   pub covector_axioms : (n : ℕ) → HasCovectorAxioms n P → MeetsCovectorAxioms members
   covector_axioms n axioms = record {
-    zero = (replicate n Zero, all.complete (replicate n Zero) axioms.zero, λ e. at_zero n (e - 1));
+    zero = (replicate n Zero, all.complete (replicate n Zero) axioms.zero, λ e. at-replicate n (e - 1));
     symmetric = λ X x. all.complete (negated X) (axioms.symmetric X (all.sound X x));
     compositions = λ X Y x y. all.complete (compose X Y) (axioms.compositions X Y (all.sound X x) (all.sound Y y));
     elimination = λ X Y x y e low s. let z = axioms.elimination X Y (all.sound X x) (all.sound Y y) e low s in

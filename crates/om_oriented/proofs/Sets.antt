@@ -12,8 +12,8 @@ use Rattle.om_subsets.specs.Members.{Chosen}
 use Rattle.om_subsets.proofs.Order.{rank_from-lt, same_place}
 use Rattle.om_subsets.proofs.Table.{choose_above}
 use Rattle.om_laws.specs.Relations.{around}
+use Rattle.om_laws.proofs.BridgeLaws.{length-as_list}
 use Rattle.om_chirotope.specs.Map.{SignMap, value_of, circuit_vector}
-use Rattle.om_chirotope.proofs.Places.{length-vector}
 use Rattle.om_denotation.specs.Covectors.{IsCovectorOfChirotope}
 
 -- S is a set of one element more than the rank, and X is orthogonal to the vector V of each such set before S
@@ -86,4 +86,4 @@ no_sets m X l e = record {
 }
 
 pub length-circuit_vector : (m : SignMap) (s : List ℕ) → length (circuit_vector m s) ≡ m.elements
-length-circuit_vector m s = length-vector m.elements (around (value_of m) s)
+length-circuit_vector m s = length-as_list m.elements (around (value_of m) s)

@@ -13,6 +13,7 @@ use Rattle.std.specs.Cmp.{tied_itself}
 use Rattle.std.specs.declared.cmp.Ordering.TheVariants.{Less}
 use Rattle.std.proofs.lemmas.Bool.{cases_lt, cases_eq}
 use Rattle.std.proofs.lemmas.List.{get_or-replicate, get_or-set_same, get_or-set_other, get_or_default}
+use Rattle.std.proofs.lemmas.Option.{same_Some}
 use Rattle.om_signs.specs.declared.sign.Sign.{Sign}
 use Rattle.om_signs.specs.Sign.{opposite}
 use Rattle.om_signs.specs.Order.{lexicographic}
@@ -25,7 +26,6 @@ use Rattle.om_chirotope.specs.Map.{SignMap, circuit_vector, cocircuit_vector}
 use Rattle.om_denotation.specs.Circuits.{HasNonzero, IsUpToSign, IsCircuitOfChirotope, IsCocircuitOfChirotope}
 use Rattle.om_paint.specs.declared.classes.TheConstants.{CLASSES}
 use Rattle.om_paint.specs.Paintings.{IsFirst, IsFirstIfAny, ComesBefore, IsEarlierOf}
-use Rattle.om_paint.proofs.Masks.{some_same}
 
 -- a vector of the family, or this one where it isn't zero and is allowed
 abbrev IsOldOrNew : (List Sign → Type 0) → (List Sign → Type 0) → List Sign → List Sign → Type 0
@@ -150,7 +150,7 @@ module _ (H : ℕ → List Sign → Type 0) (x : List Sign) (firsts : List (Opti
 
   module _ (class : Option ℕ) (in_class : (i : ℕ) → H i x ↔ (class ≡ Some i)) where
     same_class : (i j : ℕ) → class ≡ Some i → H j x → i ≡ j
-    same_class i j e q = some_same i j (sym e ∙ (in_class j).0 q)
+    same_class i j e q = same_Some i j (sym e ∙ (in_class j).0 q)
 
     pub put : (i : ℕ) → class ≡ Some i → i < length firsts → HasNonzero x → ComesBefore x (get_or firsts i None)
         → (j : ℕ) → IsEarlierOf (H j) (get_or firsts j None) x (get_or (set firsts i (Some x)) j None)

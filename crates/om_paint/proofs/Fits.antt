@@ -10,6 +10,7 @@ use Rattle.std.specs.Int.{bit_at}
 use Rattle.om_signs.specs.declared.sign.Sign.{Sign}
 use Rattle.om_signs.specs.declared.sign.Sign.TheVariants.{Minus, Zero, Plus}
 use Rattle.om_signs.specs.SignVec.{at, at_element, IsMaskOf}
+use Rattle.om_signs.proofs.SignLaws.{plus_nonzero, minus_nonzero}
 use Rattle.om_laws.specs.Colours.{red, green, black, white, IsColoured}
 use Rattle.om_laws.specs.Colours as laws
 use Rattle.om_chirotope.specs.Map.{SignMap}
@@ -23,7 +24,7 @@ use Rattle.om_paint.specs.declared.colour.Colour.TheVariants.{Black}
 use Rattle.om_paint.specs.Paintings.{shade, colouring, FitsCircuit, FitsCocircuit, IsFirst, IsFirstIfAny}
 use Rattle.om_paint.specs.Classes.{IsAllowed}
 use Rattle.om_paint.proofs.Firsts.{first_same}
-use Rattle.om_paint.proofs.Masks.{inside, plus_not_zero, minus_not_zero}
+use Rattle.om_paint.proofs.Masks.{inside}
 
 -- ---- the masks of a colouring
 
@@ -67,9 +68,9 @@ module _ (may : laws.Colour → Sign → Type 0) (zero_may : (c : laws.Colour) �
     λ h. (h.0, λ f low high. allowed_sign h.1 h.2 (f - 1) (omega (arith, low, high)) (at_element X f) refl),
     λ h. (
       h.0,
-      λ i q. let a = sign_allowed h.1 Plus plus_not_zero i q in (p.holds i a.0).1 a.1,
+      λ i q. let a = sign_allowed h.1 Plus plus_nonzero i q in (p.holds i a.0).1 a.1,
       λ i q. let a =
-          sign_allowed h.1 Minus minus_not_zero i q in (m.holds i a.0).1 a.1,
+          sign_allowed h.1 Minus minus_nonzero i q in (m.holds i a.0).1 a.1,
     ),
   )
 

@@ -11,9 +11,7 @@ use Rattle.std.proofs.lemmas.Bool.{cases_eq, eq-eqb, ne_eqb}
 use Rattle.std.proofs.lemmas.List.{length-replicate, get_or-replicate, get_or_past, ext_get_or}
 use Rattle.om_signs.specs.declared.sign.Sign.{Sign}
 use Rattle.om_signs.specs.declared.sign.Sign.TheVariants.{Minus, Zero, Plus}
-use Rattle.om_signs.specs.Sign.{opposite, product}
 use Rattle.om_signs.specs.SignVec.{at, at_element, HasProduct}
-use Rattle.om_signs.proofs.ListPlaces.{at-map-opposite}
 use Rattle.om_members.specs.Vectors.{negated}
 use Rattle.om_laws.specs.Colours.{red, green, IsColoured}
 use Rattle.om_laws.specs.Colours as laws
@@ -25,6 +23,9 @@ use Rattle.om_denotation.specs.Painting.{IsFittingCircuit, IsFittingCocircuit}
 use Rattle.om_denotation.proofs.ChirotopeBridge.{circuit_length, cocircuit_length}
 use Rattle.om_denotation.proofs.FamilyLaws.{orthogonal_both, circuit_axioms, painting_one, painting_both}
 use Rattle.om_signs.specs.declared.limits.TheConstants.{MAX_ELEMENTS}
+use Rattle.om_signs.proofs.ListPlaces.{at-map-opposite}
+use Rattle.om_signs.proofs.SignLaws.{opposite_back, plus_or_minus, minus_or_not, right_nonzero, plus_nonzero}
+use Rattle.om_signs.proofs.SignLaws.{minus_nonzero, product_plus_left}
 use Rattle.om_paint.specs.declared.classes.TheConstants.{CLASSES}
 use Rattle.om_paint.specs.declared.painted.Painted.{Painted}
 use Rattle.om_paint.specs.declared.painted.Painted.TheVariants.{Circuit, Cocircuit}
@@ -33,7 +34,7 @@ use Rattle.om_paint.specs.Classes.{HasMinusAloneAt}
 use Rattle.om_paint.specs.Hulls.{all_plus, IsPositiveCircuit, IsOnlyMinus, IsExtreme, green_alone, IsCocircuitItem}
 use Rattle.om_paint.specs.Hulls.{EachItem}
 use Rattle.om_paint.proofs.Firsts.{first_same}
-use Rattle.om_paint.proofs.Masks.{inside, plus_not_zero, minus_not_zero}
+use Rattle.om_paint.proofs.Masks.{inside}
 
 pub all_pluses : (n : ℕ) (x : List Sign) → length x ≡ n → ((k : ℕ) → k < n → at x k ≡ Plus) → x ≡ all_plus n
 all_pluses n x l h = ext_get_or Zero x (replicate n Plus) (l ∙ sym (length-replicate n Plus)) (λ k lt.
@@ -42,43 +43,20 @@ all_pluses n x l h = ext_get_or Zero x (replicate n Plus) (l ∙ sym (length-rep
 
 -- ---- acyclic chirotopes
 
-plus_product : (s t : Sign) → s ≡ Plus → product s t ≡ t
-plus_product s t e = ap (λ u. product u t) e
-
 plus_at : (n i : ℕ) → i < n → at (all_plus n) i ≡ Plus
 plus_at n i lt = get_or-replicate n i Plus Zero lt
-
-right_nonzero : (s t u : Sign) → u ≢ Zero → product s t ≡ u → t ≢ Zero
-right_nonzero Minus t u n e z = n (sym e ∙ ap opposite z)
-right_nonzero Zero t u n e z = n (sym e)
-right_nonzero Plus t u n e z = n (sym e ∙ z)
 
 -- a product with the vector of pluses is a sign of the vector
 product_from : (n : ℕ) (X : List Sign) (s : Sign) → length X ≡ n → s ≢ Zero → HasProduct (all_plus n) X s → (i : ℕ)
     × (at X i ≡ s)
 product_from n X s size not h =
-    let lt = inside X h.0 (at X h.0) (right_nonzero (at (all_plus n) h.0) (at X h.0) s not h.1) refl in
-    (h.0, sym (plus_product (at (all_plus n) h.0) (at X h.0) (plus_at n h.0 (subst (λ k. h.0 < k) size lt))) ∙ h.1)
+    let lt = inside X h.0 (at X h.0) (right_nonzero (at (all_plus n) h.0) (at X h.0) s h.1 not) refl in
+    (h.0, sym (product_plus_left (at (all_plus n) h.0) (at X h.0) (plus_at n h.0 (subst (λ k. h.0 < k) size lt))) ∙ h.1)
 
 product_to : (n : ℕ) (X : List Sign) (s : Sign) → length X ≡ n → s ≢ Zero → (i : ℕ) → at X i ≡ s
     → HasProduct (all_plus n) X s
 product_to n X s size not i e =
-    (i, plus_product (at (all_plus n) i) (at X i) (plus_at n i (subst (λ k. i < k) size (inside X i s not e))) ∙ e)
-
-sign_cases : (s : Sign) → s ≢ Zero → (s ≡ Plus) ⊎ (s ≡ Minus)
-sign_cases Minus n = inr refl
-sign_cases Zero n = absurd (n refl)
-sign_cases Plus n = inl refl
-
-minus_or_not : (s : Sign) → (s ≡ Minus) ⊎ (s ≢ Minus)
-minus_or_not Minus = inl refl
-minus_or_not Zero = inr (λ e. cc)
-minus_or_not Plus = inr (λ e. cc)
-
-opposite_minus : (s : Sign) → opposite s ≡ Minus → s ≡ Plus
-opposite_minus Minus e = cc
-opposite_minus Zero e = cc
-opposite_minus Plus e = refl
+    (i, product_plus_left (at (all_plus n) i) (at X i) (plus_at n i (subst (λ k. i < k) size (inside X i s not e))) ∙ e)
 
 some_minus : (X : List Sign) → ((i : ℕ) × (at X i ≡ Minus)) ⊎ HasNoMinus X
 some_minus [] = inr (λ i e. let z = get_or_past [] i Zero (omega arith) in cc)
@@ -116,7 +94,7 @@ alone_both n e X size low high = (
     only h i q = elim (cases_eq (i + 1) e) [
       | inl s ↦ s
       | inr d ↦
-          let lt = subst (λ k. i < k) size (inside X i Minus minus_not_zero q) in
+          let lt = subst (λ k. i < k) size (inside X i Minus minus_nonzero q) in
           let back : i ≡ i + 1 - 1 = omega arith in
           absurd (h.1 (i + 1) (omega arith) (omega (arith, lt)) d (ap (at X) (sym back) ∙ q))
     ]
@@ -135,10 +113,10 @@ module _ (m : SignMap) (chirotope : IsChirotope m) where
       let o = (orthogonal_both m chirotope (all_plus m.elements) (length-replicate m.elements Plus)).0 v X c in
       let i = c.nonzero in
       ⊎_elim
-      (λ p. let q = product_from m.elements X Minus (size_of X c) minus_not_zero
-      (o.0 (product_to m.elements X Plus (size_of X c) plus_not_zero i.0 p)) in none q.0 q.1)
+      (λ p. let q = product_from m.elements X Minus (size_of X c) minus_nonzero
+      (o.0 (product_to m.elements X Plus (size_of X c) plus_nonzero i.0 p)) in none q.0 q.1)
       (λ q. none i.0 q)
-      (sign_cases (at X i.0) i.1)
+      (plus_or_minus (at X i.0) i.1)
 
   minus_of : ((X : List Sign) → IsPositiveCircuit m X → ⊥) → (X : List Sign) → IsCircuitOfChirotope m X → (i : ℕ)
       × (at X i ≡ Minus)
@@ -147,14 +125,14 @@ module _ (m : SignMap) (chirotope : IsChirotope m) where
   plus_of : ((X : List Sign) → IsPositiveCircuit m X → ⊥) → (X : List Sign) → IsCircuitOfChirotope m X → (i : ℕ)
       × (at X i ≡ Plus)
   plus_of h X c = let k = minus_of h (negated X) ((circuit_axioms m chirotope).symmetric X c) in
-      (k.0, opposite_minus (at X k.0) (sym (at-map-opposite X k.0) ∙ k.1))
+      (k.0, opposite_back (at X k.0) Minus (sym (at-map-opposite X k.0) ∙ k.1))
 
   covector_of_none : ((X : List Sign) → IsPositiveCircuit m X → ⊥) → IsCovectorOfChirotope m (all_plus m.elements)
   covector_of_none h = (orthogonal_both m chirotope (all_plus m.elements) (length-replicate m.elements Plus)).1 (λ X c.
       let p = plus_of h X c in
       let q = minus_of h X c in (
-        λ t. product_to m.elements X Minus (size_of X c) minus_not_zero q.0 q.1,
-        λ t. product_to m.elements X Plus (size_of X c) plus_not_zero p.0 p.1,
+        λ t. product_to m.elements X Minus (size_of X c) minus_nonzero q.0 q.1,
+        λ t. product_to m.elements X Plus (size_of X c) plus_nonzero p.0 p.1,
       ))
 
   pub acyclic_both : IsCovectorOfChirotope m (all_plus m.elements) ↔ ((X : List Sign) → IsPositiveCircuit m X → ⊥)
@@ -166,7 +144,7 @@ module _ (m : SignMap) (chirotope : IsChirotope m) where
       → IsOnlyMinus m.elements e X
   only_minus e low high X h = (
     ⊎_elim (λ p. absurd ((subst (λ k. laws.CircuitMay k (at_element X e)) (green_at e e refl) (h.fits e low high)) p))
-        (λ q. q) (sign_cases (at_element X e) h.through),
+        (λ q. q) (plus_or_minus (at_element X e) h.through),
     λ f a b n. subst (λ k. laws.CircuitMay k (at_element X f)) (red_at e f n) (h.fits f a b),
   )
 
@@ -191,7 +169,7 @@ module _ (m : SignMap) (chirotope : IsChirotope m) where
       → IsFittingCocircuit m (green_alone e) e Y → IsOnlyMinus m.elements e Y
   only_minus_of_cocircuit e low high Y h = (
     ⊎_elim (λ p. absurd ((subst (λ k. laws.CocircuitMay k (at_element Y e)) (green_at e e refl) (h.fits e low high)) p))
-        (λ q. q) (sign_cases (at_element Y e) h.through),
+        (λ q. q) (plus_or_minus (at_element Y e) h.through),
     λ f a b n. subst (λ k. laws.CocircuitMay k (at_element Y f)) (red_at e f n) (h.fits f a b),
   )
 

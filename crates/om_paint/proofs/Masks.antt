@@ -10,20 +10,13 @@ use Rattle.std.proofs.lemmas.Nat.Bits.{bit_at-zero, bit_at-lt, bit_at_above, bit
 use Rattle.std.proofs.lemmas.Nat.Bits.{bit_at-pow_same, bit_at-pow_other, bit_at-trailing_zeros, same_from_bits}
 use Rattle.std.proofs.lemmas.Bool.{cases_lt, cases_eq}
 use Rattle.std.proofs.lemmas.List.{get_or_past}
+use Rattle.std.proofs.lemmas.Option.{same_Some}
 use Rattle.om_signs.specs.declared.sign.Sign.{Sign}
-use Rattle.om_signs.specs.declared.sign.Sign.TheVariants.{Zero, Minus, Plus}
+use Rattle.om_signs.specs.declared.sign.Sign.TheVariants.{Zero, Minus}
 use Rattle.om_signs.specs.SignVec.{at, IsMaskOf, IsMinus}
-use Rattle.om_signs.proofs.Bits.{lt_from_bits, bit_at_and_not}
+use Rattle.om_signs.proofs.Bits.{lt_from_bits, bit_at_and_not, not_zero_and_one, bit_zero_if_not_one}
+use Rattle.om_signs.proofs.SignLaws.{minus_nonzero}
 use Rattle.om_paint.specs.Classes.{HasMinusAloneAt}
-
-one_or_none : (m i : ℕ) → (bit_at m i ≡ 1 → ⊥) → bit_at m i ≡ 0
-one_or_none m i h = let l = bit_at-lt m i in elim (cases_eq (bit_at m i) 0) [
-  | inl z ↦ z
-  | inr n ↦ absurd (h (omega arith))
-]
-
-not_both : (b : ℕ) → b ≡ 0 → b ≡ 1 → ⊥
-not_both b z o = omega arith
 
 -- ---- one bit more
 
@@ -50,7 +43,7 @@ module _ (P : ℕ → Type 0) (k mask : ℕ) (m : IsMaskOf k P mask) where
     within = lt_from_bits mask (k + 1) (λ i ge. bit_at_above mask k i m.within (omega arith));
     holds = λ i lt. elim (cases_eq i k) [
       | inl e ↦ (
-        λ b. absurd (not_both (bit_at mask i) (bit_at_above mask k i m.within (omega arith)) b),
+        λ b. absurd (not_zero_and_one (bit_at mask i) (bit_at_above mask k i m.within (omega arith)) b),
         λ q. absurd (none (subst P e q)),
       )
       | inr n ↦ m.holds i (omega arith)
@@ -71,7 +64,7 @@ module _ (X : List Sign) (s : Sign) (not : s ≢ Zero) (mask : ℕ) (m : IsMaskO
     λ q. (m.holds i (inside X i s not q)).1 q,
     λ b. elim (cases_lt i (length X)) [
       | inl lt ↦ (m.holds i lt).0 b
-      | inr ge ↦ absurd (not_both (bit_at mask i) (bit_at_above mask (length X) i m.within ge) b)
+      | inr ge ↦ absurd (not_zero_and_one (bit_at mask i) (bit_at_above mask (length X) i m.within ge) b)
     ],
   )
 
@@ -92,27 +85,18 @@ module _ (X : List Sign) (s : Sign) (not : s ≢ Zero) (mask : ℕ) (m : IsMaskO
       left : ((i : ℕ) → at X i ≡ s → bit_at free i ≡ 1) → (i : ℕ) → min (bit_at mask i) (1 - bit_at free i) ≡ 0
       left h i = elim (cases_eq (bit_at mask i) 1) [
         | inl b ↦ let o = h i ((bit_both i).1 b) in omega arith
-        | inr n ↦ let z = one_or_none mask i n in omega arith
+        | inr n ↦ let z = bit_zero_if_not_one mask i n in omega arith
       ]
 
 -- ---- the minuses
-
-pub plus_not_zero : Plus ≢ Zero
-plus_not_zero e = cc
-
-pub minus_not_zero : Minus ≢ Zero
-minus_not_zero e = cc
 
 abbrev value : Option ℕ → ℕ
 value None = 0
 value (Some i) = i
 
-pub some_same : (i j : ℕ) → Some i ≡ Some j → i ≡ j
-some_same i j e = ap value e
-
 module _ (X : List Sign) (mask : ℕ) (m : IsMaskOf (length X) (IsMinus X) mask) where
   minus_both : (i : ℕ) → (at X i ≡ Minus) ↔ (bit_at mask i ≡ 1)
-  minus_both i = bit_both X Minus minus_not_zero mask m i
+  minus_both i = bit_both X Minus minus_nonzero mask m i
 
   pub no_minus_class : mask ≡ 0 → (i : ℕ) → HasMinusAloneAt i X ↔ (Some 0 ≡ Some i)
   no_minus_class z i = (
@@ -120,21 +104,22 @@ module _ (X : List Sign) (mask : ℕ) (m : IsMaskOf (length X) (IsMinus X) mask)
       | inl e ↦ ap Some e
       | inr n ↦ absurd (none (i - 1) ((h (i - 1)).1 (omega arith)))
     ],
-    λ e k. let e' = some_same 0 i e in (λ q. absurd (none k q), λ f. absurd (omega (arith, e', f))),
+    λ e k. let e' = same_Some 0 i e in (λ q. absurd (none k q), λ f. absurd (omega (arith, e', f))),
   )
     where
       none : (k : ℕ) → at X k ≡ Minus → ⊥
-      none k q = not_both (bit_at mask k) (ap (λ j. bit_at j k) z ∙ bit_at-zero k) ((minus_both k).0 q)
+      none k q = not_zero_and_one (bit_at mask k) (ap (λ j. bit_at j k) z ∙ bit_at-zero k) ((minus_both k).0 q)
 
   module _ (t : ℕ) where
     pub one_minus_class : mask ≡ 2 ^ t → (i : ℕ) → HasMinusAloneAt i X ↔ (Some (t + 1) ≡ Some i)
     one_minus_class e i = (
       λ h. ap Some ((h t).0 ((minus_both t).1 here)),
-      λ s k. let s' = some_same (t + 1) i s in (
+      λ s k. let s' = same_Some (t + 1) i s in (
         λ q. elim (cases_eq k t) [
           | inl j ↦ omega arith
           | inr n ↦
-              absurd (not_both (bit_at mask k) (ap (λ j. bit_at j k) e ∙ bit_at-pow_other t k n) ((minus_both k).0 q))
+              absurd (not_zero_and_one (bit_at mask k) (ap (λ j. bit_at j k) e ∙ bit_at-pow_other t k n)
+              ((minus_both k).0 q))
         ],
         λ f. (minus_both k).1 (let j : k ≡ t = omega arith in ap (bit_at mask) j ∙ here),
       ),
@@ -147,7 +132,7 @@ module _ (X : List Sign) (mask : ℕ) (m : IsMaskOf (length X) (IsMinus X) mask)
     pub no_class : bit_at mask t ≡ 1 → mask ≢ 2 ^ t → (i : ℕ) → HasMinusAloneAt i X → ⊥
     no_class here n i h = n (same_from_bits mask (2 ^ t) (λ k. elim (cases_eq k t) [
       | inl j ↦ ap (bit_at mask) j ∙ here ∙ sym (ap (bit_at (2 ^ t)) j ∙ bit_at-pow_same t)
-      | inr o ↦ one_or_none mask k (λ b.
+      | inr o ↦ bit_zero_if_not_one mask k (λ b.
           let first = (h t).0 ((minus_both t).1 here) in
           let second = (h k).0 ((minus_both k).1 b) in
           omega arith) ∙ sym (bit_at-pow_other t k o)
@@ -155,12 +140,6 @@ module _ (X : List Sign) (mask : ℕ) (m : IsMaskOf (length X) (IsMinus X) mask)
 
 pub lowest_minus : (mask : ℕ) → mask ≢ 0 → mask < 2 ^ 32 → bit_at mask (trailing_zeros w32 mask) ≡ 1
 lowest_minus mask n small = let h = bit_at-trailing_zeros w32 mask (omega arith) small in h.1
-
-pub bit_within : (mask n t : ℕ) → mask < 2 ^ n → bit_at mask t ≡ 1 → t < n
-bit_within mask n t small b = elim (cases_lt t n) [
-  | inl lt ↦ lt
-  | inr ge ↦ absurd (not_both (bit_at mask t) (bit_at_above mask n t small ge) b)
-]
 
 pub lowest_small : (mask : ℕ) → mask ≢ 0 → mask < 2 ^ 32 → trailing_zeros w32 mask < 32
 lowest_small mask n small = let h = bit_at-trailing_zeros w32 mask (omega arith) small in h.0

@@ -1,6 +1,7 @@
 -- The cut of lines, made line by line: it is a cut, and there is no other.
 --
 -- Main results: cut_is, cut_one.
+use Rattle.std.proofs.Math.Bool.{or-true, and-false, or_assoc}
 use Rattle.std.specs.Prelude.{ℕ, ◌≡◌, ◌+◌, ◌-◌, ◌<◌, ◌≤◌, List, [], ◌∷◌, ◌++◌, Bool, true, false, cond, not, nat_le}
 use Rattle.std.specs.Prelude.{◌&&◌, ◌||◌, bytes_eq, codes}
 use Rattle.std.specs.List.{list_all, list_any}
@@ -132,7 +133,7 @@ cut_from_is n (r ∷ rs) body missing some pos count more s u = elim (cases_Bool
       let zero_ends : ends (r ∷ []) ≡ 0 = rw c refl in
       let none : ends (r ∷ []) + n ≡ n = omega (arith, zero_ends) in
       let word : true ≡ list_any has_word (r ∷ []) = rw (opens_word r p.0) refl in
-      let whole : is_unbroken (r ∷ []) ≡ true = unbroken_more [] r refl (nothing_before (opens r)) in
+      let whole : is_unbroken (r ∷ []) ≡ true = unbroken_more [] r refl (and-false (opens r)) in
       rw (cut_opens n missing some body r rs o)
       (broken body r rs _ (record { few = omega arith; unbroken = u }) (sym s ∙ p.1) p.0
       (cut_from_is n rs (r ∷ []) n true pos none pos word whole))
@@ -149,7 +150,7 @@ cut_from_is n (r ∷ rs) body missing some pos count more s u = elim (cases_Bool
           let count2 : ends (body ++ r ∷ []) + (missing - 1) ≡ n =
           (let e = ends_more body r in omega (arith, e, ended, two)) in
           let word : true ≡ list_any has_word (body ++ r ∷ []) = sym
-          (any_more body r ∙ (rw (closes_word r c) (at_right (list_any has_word body)))) in
+          (any_more body r ∙ (rw (closes_word r c) (or-true (list_any has_word body)))) in
           let whole : is_unbroken (body ++ r ∷ []) ≡ true = unbroken_more body r u
           (ap (λ t. t && list_any has_word body) (closes_not_opens r c)) in
           let ih = cut_from_is n rs (body ++ r ∷ []) (missing - 1) true pos count2 (omega (arith, two)) word whole in
@@ -169,14 +170,6 @@ cut_from_is n (r ∷ rs) body missing some pos count more s u = elim (cases_Bool
         (append_assoc body (r ∷ []) rs) ih)
   ]
 ]
-  where
-    nothing_before : (t : Bool) → (t && false) ≡ false
-    nothing_before true = refl
-    nothing_before false = refl
-
-    at_right : (t : Bool) → (t || true) ≡ true
-    at_right true = refl
-    at_right false = refl
 
 pub cut_is : (n : ℕ) (rs : List (List ℕ)) → 1 ≤ n → AreCut n rs (cut n n false [] rs)
 cut_is n rs pos = cut_from_is n rs [] n false pos (none_ended n) pos refl refl
@@ -195,11 +188,7 @@ goes_parts true r body g = let p = and_parts (not (opens r)) (none_opens body) g
     shut true e = absurd (false≢true e)
     shut false e = refl
 goes_parts false r body g =
-    (shut (opens r), elim (cases_Bool (has_word r)) [ inl e ↦ rw e (rw e at g) | inr e ↦ rw e (rw e at g) ])
-  where
-    shut : (t : Bool) → (t && false) ≡ false
-    shut true = refl
-    shut false = refl
+    (and-false (opens r), elim (cases_Bool (has_word r)) [ inl e ↦ rw e (rw e at g) | inr e ↦ rw e (rw e at g) ])
 
 pub cut_along : (n : ℕ) (body rest piece : List (List ℕ)) (missing : ℕ) (some : Bool) → ends body < missing
     → goes some body ≡ true → cut n missing some piece (body ++ rest) ≡ cut n (missing - ends body)
@@ -220,29 +209,21 @@ cut_along n (r ∷ body) rest piece missing some few g =
       | inl c ↦
           let ended : ends (r ∷ body) ≡ ends body + 1 = rw c refl in
           let two : nat_le missing 1 ≡ false = lt-leb missing 1 (omega (arith, ended)) in
-          let word : (some || has_word r) ≡ true = rw (closes_word r c) (at_right some) in
+          let word : (some || has_word r) ≡ true = rw (closes_word r c) (or-true some) in
           let on : goes true body ≡ true = subst (λ t. goes t body ≡ true) word p.1 in
           let ih = cut_along n body rest (piece ++ r ∷ []) (missing - 1) true (omega (arith, ended)) on in
           let any : true ≡ (some || (has_word r || list_any has_word body)) = rw (closes_word r c)
-          (sym (at_right some)) in
+          (sym (or-true some)) in
           cut_counts n missing some piece r (body ++ rest) c two
           ∙ (ih ∙ same3 n _ _ _ _ _ _ rest (omega (arith, ended)) any (append_assoc piece (r ∷ []) body))
       | inr c ↦
           let ended : ends (r ∷ body) ≡ ends body = rw c refl in
           let ih = cut_along n body rest (piece ++ r ∷ []) missing (some || has_word r) (omega (arith, ended)) p.1 in
           cut_goes n missing some piece r (body ++ rest) p.0 c
-          ∙ (ih ∙ same3 n _ _ _ _ _ _ rest (omega (arith, ended)) (assoc some (has_word r) (list_any has_word body))
+          ∙ (ih ∙ same3 n _ _ _ _ _ _ rest (omega (arith, ended)) (or_assoc some (has_word r) (list_any has_word body))
           (append_assoc piece (r ∷ []) body))
     ]
   where
-    at_right : (t : Bool) → (t || true) ≡ true
-    at_right true = refl
-    at_right false = refl
-
-    assoc : (a b c : Bool) → ((a || b) || c) ≡ (a || (b || c))
-    assoc true b c = refl
-    assoc false b c = refl
-
     same3 : (n j k : ℕ) (s t : Bool) (x y rest : List (List ℕ)) → j ≡ k → s ≡ t → x ≡ y
         → cut n j s x rest ≡ cut n k t y rest
     same3 n j k s t x y rest a b c = cc
@@ -256,14 +237,10 @@ wordless_cut n (r ∷ rest) piece missing e = elim (cases_Bool (has_word r)) [
       let c : closes r ≡ false = (elim
       (cases_Bool (closes r)) [ inl c ↦ absurd (true≢false (sym (closes_word r c) ∙ w)) | inr c ↦ c ]) in
       let none : list_any has_word rest ≡ false = rw w at e in
-      cut_goes n missing false piece r rest (shut (opens r)) c
+      cut_goes n missing false piece r rest (and-false (opens r)) c
       ∙ (ap (λ t. cut n missing (false || t) (piece ++ r ∷ []) rest) w
       ∙ wordless_cut n rest (piece ++ r ∷ []) missing none)
 ]
-  where
-    shut : (t : Bool) → (t && false) ≡ false
-    shut true = refl
-    shut false = refl
 
 pub cut_one : (n : ℕ) (rs : List (List ℕ)) (parts : List (List (List ℕ))) → AreCut n rs parts
     → parts ≡ cut n n false [] rs
@@ -278,13 +255,9 @@ cut_one n rs parts (broken body next after others b w o rest) =
     let begun : (opens next && (false || list_any has_word body)) ≡ true = rw (o, w) refl in
     let c = opens_not_closes next o in
     let first : cut n n false [] (next ∷ after) ≡ cut n n true (next ∷ []) after = cut_goes n n false [] next after
-    (shut (opens next)) c ∙ ap (λ t. cut n n (false || t) (next ∷ []) after) (opens_word next o) in
+    (and-false (opens next)) c ∙ ap (λ t. cut n n (false || t) (next ∷ []) after) (opens_word next o) in
     ap (λ ps. body ∷ ps) (cut_one n (next ∷ after) others rest ∙ first)
     ∙ sym (on ∙ cut_opens n (n - ends body) (false || list_any has_word body) body next after begun)
-  where
-    shut : (t : Bool) → (t && false) ≡ false
-    shut true = refl
-    shut false = refl
 cut_one n rs parts (at_end body b w) =
     let on = cut_along n body [] [] n false b.few b.unbroken in
     sym (ap (λ l. cut n n false [] l) (sym (append-nil body)) ∙ (on ∙ ap (λ t. cond (false || t) (body ∷ []) []) w))

@@ -8,14 +8,13 @@ use Rattle.std.proofs.lemmas.Result.{IfOk-weaker}
 use Rattle.om_signs.specs.declared.limits.TheConstants.{MAX_ELEMENTS}
 use Rattle.om_chirotope.specs.Map.{SignMap}
 use Rattle.om_chirotope.specs.Chirotope.{IsChirotope, IsSound}
+use Rattle.om_chirotope.proofs.FewValues.{few_of_rank3}
 use Rattle.om_vectors.specs.Realizations.{Realizes}
-use Rattle.om_certificate.specs.declared.evidence.Evidence.{Evidence}
-use Rattle.om_certificate.specs.declared.evidence.Evidence.TheVariants.{Vectors, Balanced, Weights}
 use Rattle.om_certificate.specs.declared.verdict.Verdict.{Verdict}
 use Rattle.om_certificate.specs.Forms.{IsVerdictInForm}
 use Rattle.om_certificate.specs.Validity.{IsValid, Shows}
 use Rattle.om_certificate.specs.Verdicts.{certificate_of}
-use Rattle.om_certificate.proofs.Exclusion.{certificate_excludes, weights_exclude}
+use Rattle.om_certificate.proofs.Refusing.{valid_shows}
 use Rattle.om_budgets.specs.declared.budgets.Budgets.{Budgets}
 use Rattle.om_decide.specs.Verdicts as decide
 use Rattle.om_decide.proofs.VerdictLaws.{verdict_shown}
@@ -25,7 +24,6 @@ use Rattle.om_answer.specs.VerdictText.{chirotope_document}
 use Rattle.om_reply.specs.declared.answer.Answer.{Answer}
 use Rattle.om_reply.specs.Answers.{IsReply}
 use Rattle.om_plane.specs.Decisions.{IsDecided, DecisionMeans, other_rank, decided, IsDecision}
-use Rattle.om_representation.proofs.WidthLaws.{few_of_rank3}
 use Rattle.om_plane.proofs.RankThreeLaws.{chirotope_replies}
 
 -- ---- a verdict on a chirotope
@@ -38,12 +36,6 @@ verdict_rank m b v (decide.undecided zs u end unfound) = end.rank
 verdict_rank m b v (decide.pivot_limit basis u end unfound) = end.rank
 verdict_rank m b v (decide.width stage pivot row place u end unfound) = end.rank
 
--- what valid evidence shows of a map
-pub evidence_shown : (m : SignMap) (e : Evidence) → IsValid m e → Shows m e
-evidence_shown m (Vectors vs) realizes = realizes
-evidence_shown m (Balanced es) certificate = certificate_excludes m es certificate
-evidence_shown m (Weights ws) weights = weights_exclude m ws weights
-
 pub verdict_decided : (m : SignMap) (b : Budgets) (v : Verdict) → 1 ≤ m.elements → m.elements ≤ MAX_ELEMENTS
     → IsChirotope m → decide.IsVerdictOf m b v → IsVerdictInForm v → IsDecided m b v
 verdict_decided m b v low high axioms verdict form = record {
@@ -52,7 +44,7 @@ verdict_decided m b v low high axioms verdict form = record {
   verdict = verdict;
   form = form;
   valid = verdict_shown m b v verdict;
-  shows = IfOk-weaker (certificate_of v) (IsValid m) (Shows m) (evidence_shown m) (verdict_shown m b v verdict);
+  shows = IfOk-weaker (certificate_of v) (IsValid m) (Shows m) (valid_shows m) (verdict_shown m b v verdict);
 }
 
 -- ---- decisions as answers

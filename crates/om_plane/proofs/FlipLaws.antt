@@ -4,6 +4,7 @@
 use Rattle.std.specs.Prelude.{ℕ, ◌≡◌, ◌≤◌, Some, None, refl}
 use Rattle.std.proofs.Common.{sym, ◌∙◌, inl, inr}
 use Rattle.std.proofs.lemmas.Bool.{cases_lt, lt-ltb, le-ltb}
+use Rattle.std.proofs.lemmas.Option.{none-some}
 use Rattle.om_subsets.specs.Members.{Chosen}
 use Rattle.om_chirotope.specs.Map.{SignMap}
 use Rattle.om_mutate.specs.declared.flip_refused.FlipRefused.{FlipRefused}
@@ -17,19 +18,16 @@ pub within_of_none : (n a b c : ℕ) → first_above n (triple_of a b c) ≡ Non
 within_of_none n a b c none = elim (cases_lt n c) [
   | inl lt ↦ elim (cases_lt n a) [
     | inl la ↦ let e : first_above n (triple_of a b c) ≡ Some a = rw (lt-ltb n a la) refl in
-        absurd (no_some a (sym e ∙ none))
+        absurd (none-some a (sym none ∙ e))
     | inr ga ↦ elim (cases_lt n b) [
       | inl lb ↦ let e : first_above n (triple_of a b c) ≡ Some b = rw (le-ltb n a ga, lt-ltb n b lb) refl in
-          absurd (no_some b (sym e ∙ none))
+          absurd (none-some b (sym none ∙ e))
       | inr gb ↦ let e : first_above n (triple_of a b c) ≡ Some c =
-          rw (le-ltb n a ga, le-ltb n b gb, lt-ltb n c lt) refl in absurd (no_some c (sym e ∙ none))
+          rw (le-ltb n a ga, le-ltb n b gb, lt-ltb n c lt) refl in absurd (none-some c (sym none ∙ e))
     ]
   ]
   | inr ge ↦ ge
 ]
-  where
-    no_some : (x : ℕ) → Some x ≡ None → ⊥
-    no_some x same = cc
 
 pub refused_flip : (m : SignMap) (t : Chosen) (why : FlipRefused) → IsRefusal m t why
     → IsFlipOfMap t.elements m (says (flip_refusal why))

@@ -6,6 +6,7 @@ use Rattle.std.specs.Prelude.{ℕ, ◌≡◌, ◌<◌, ◌≤◌, List, [], leng
 use Rattle.std.proofs.Common.{zero, suc, inl, inr, sym, ◌∙◌, ap, arith}
 use Rattle.std.proofs.lemmas.Bool.{cases_order}
 use Rattle.std.proofs.lemmas.List.{ext_get_or}
+use Rattle.std.proofs.lemmas.Option.{none-some}
 use Rattle.om_signs.specs.declared.sign.Sign.{Sign}
 use Rattle.om_subsets.specs.Members.{Chosen}
 use Rattle.om_subsets.specs.Subsets.{choose, rank_of}
@@ -34,7 +35,7 @@ use Rattle.om_plane.specs.MutationLists as mutations
 use Rattle.om_plane.specs.MutationLists.{AreMutationsOfMap}
 use Rattle.om_plane.specs.Sweeps as sweeps
 use Rattle.om_plane.specs.Sweeps.{IsWiringOfMap, wiring_document}
-use Rattle.om_reply.proofs.Alike.{alike, both_say, one_place, found_or_none}
+use Rattle.om_reply.proofs.Alike.{alike, both_say, one_place}
 use Rattle.om_reply.proofs.OneChirotope.{for_chirotope_determined}
 use Rattle.om_reply.proofs.OneRefusal.{one_violated, not_violated}
 
@@ -214,8 +215,8 @@ flips_determined_of_map t m a b (flips.turned d three mutation made form) (flips
 
 pub flips_determined : (x y z : ℕ) (d : Document) → IsDetermined (IsFlip x y z d)
 flips_determined x y z d a b (flips.outside e p) (flips.outside f q) = one_place _ e f p q
-flips_determined x y z d a b (flips.outside e p) (flips.inside b' none means) = absurd (found_or_none _ e p none)
-flips_determined x y z d a b (flips.inside a' none means) (flips.outside f q) = absurd (found_or_none _ f q none)
+flips_determined x y z d a b (flips.outside e p) (flips.inside b' none means) = absurd (none-some e (sym none ∙ p))
+flips_determined x y z d a b (flips.inside a' none means) (flips.outside f q) = absurd (none-some f (sym none ∙ q))
 flips_determined x y z d a b (flips.inside a' none means) (flips.inside b' nor also) =
     for_chirotope_determined (IsFlipOfMap (triple_of x y z)) (flips_determined_of_map (triple_of x y z)) d a b means
     also

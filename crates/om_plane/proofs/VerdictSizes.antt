@@ -6,14 +6,14 @@ use Rattle.std.specs.Prelude.{ℕ, suc, ◌≡◌, ◌+◌, ◌*◌, ◌/◌, �
 use Rattle.std.specs.Prelude.{◌++◌, Bool, true, false, length, map, decimal, codes, All}
 use Rattle.std.specs.Fmt.{signed_decimal}
 use Rattle.std.specs.List.{AllByRecursion}
-use Rattle.std.proofs.Common.{arith, refl, ap, length-append}
+use Rattle.std.proofs.Common.{arith, ap, length-append}
 use Rattle.std.proofs.lemmas.List.{length-map}
 use Rattle.std.proofs.lemmas.List.Elements.{All-nil, All-cons, All-head, All-tail, All-append, All-map, All-weaker}
 use Rattle.itoa.proofs.Decimal.{length_wide}
-use Rattle.om_signs.specs.declared.limits.TheConstants.{MAX_INPUT, MAX_ELEMENTS, MAX_PLAIN, MAX_VALUES}
-use Rattle.om_subsets.specs.Subsets.{choose}
+use Rattle.om_signs.specs.declared.limits.TheConstants.{MAX_INPUT, MAX_PLAIN, MAX_VALUES}
 use Rattle.om_chirotope.specs.Map.{SignMap}
 use Rattle.om_chirotope.specs.Chirotope.{IsSound}
+use Rattle.om_chirotope.proofs.FewValues.{few_of_rank3, most_triples}
 use Rattle.om_simplex.specs.declared.stage.Stage.{Stage}
 use Rattle.om_simplex.specs.declared.stage.Stage.TheVariants as stage
 use Rattle.om_vectors.specs.WholeVectors.{WholeVector, IsWithinLimit}
@@ -40,7 +40,6 @@ use Rattle.om_answer.specs.VerdictText.{weight_words, relation_name, search_line
 use Rattle.om_answer.specs.VerdictText.{verdict_name, verdict_lines, block_lines, lines_text, chirotope_document}
 use Rattle.om_answer.specs.VerdictText.{verdict_text}
 use Rattle.om_answer.proofs.ClaimSizes.{word_bytes}
-use Rattle.om_representation.proofs.WidthLaws.{few_of_rank3}
 use Rattle.om_plane.specs.Decisions.{IsDecided}
 
 -- ---- lines
@@ -183,9 +182,6 @@ both_short a b ls ks h g = let n = h.few in let k = g.few in
 
 -- ---- the block of a verdict
 
-triples : choose MAX_ELEMENTS 3 ≡ 1140
-triples = refl
-
 -- the most lines of what a verdict has: a weight for each triple, and the end of a search
 abbrev MOST_LINES : ℕ
 MOST_LINES = 1161
@@ -249,18 +245,18 @@ block_bytes m b (Nonrealizable es) is =
     let n = few_entries m b es is.verdict in
     let r = few_rows m is.sound.limits.high in
     short_block (Nonrealizable es)
-    (mapped_short entry_words IsEntryInForm MOST_LINES entry_short es (omega (arith, n, r, triples)) is.form)
+    (mapped_short entry_words IsEntryInForm MOST_LINES entry_short es (omega (arith, n, r, most_triples)) is.form)
 block_bytes m b (Undecided ws u) is =
     let n = is.form.0.few in
     short_block (Undecided ws u) (more_lines (1140 + 21) MOST_LINES (verdict_lines (Undecided ws u)) (omega arith)
     (both_short 1140 21 (map weight_words ws) (search_lines u)
-    (mapped_short weight_words IsWeightInForm 1140 weight_short ws (omega (arith, n, triples)) is.form.0.each)
+    (mapped_short weight_words IsWeightInForm 1140 weight_short ws (omega (arith, n, most_triples)) is.form.0.each)
     (search_short u is.form.1)))
 block_bytes m b (Limit (lp_end.Pivots count basis) u) is =
     let budget = is.form.0.budget in
     let n = limit_rows m b count basis u is.verdict in
     let r = few_rows m is.sound.limits.high in
-    basis_block count basis u (omega arith) (omega (arith, n, r, triples)) is.form.0.plain is.form.1
+    basis_block count basis u (omega arith) (omega (arith, n, r, most_triples)) is.form.0.plain is.form.1
 block_bytes m b (Limit (lp_end.Width s p r c) u) is =
     let line = codes "width" ∷ named (stage_name s) (width_numbers p r c) in
     let one : AreShortLines 1 (line ∷ []) =

@@ -7,8 +7,8 @@ use Rattle.std.specs.Prelude.{ℤ, pos, negsuc, neg_ℤ, cond, ◌+ℤ◌, ◌-�
 use Rattle.std.proofs.lemmas.Int.{ints}
 use lib.Signed.{lt_z}
 use Rattle.std.proofs.Math.IntN.{pos-*ℤ-pos}
+use Rattle.om_signs.proofs.Rings.{times-plus}
 use Rattle.om_vectors.specs.WholeVectors.{WholeVector}
-use Rattle.om_vectors.proofs.Rings.{times-plus}
 use Rattle.om_points.specs.Candidates.{greatest}
 use Rattle.om_points.specs.Forms.{LinearForm, Refuses}
 use Rattle.om_points.specs.Slabs.{IsInRows, corner}

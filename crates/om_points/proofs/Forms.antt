@@ -9,8 +9,8 @@ use Rattle.std.proofs.lemmas.Int.{ints}
 use lib.Signed.{lt_z}
 use Rattle.std.proofs.Math.IntN.{zero-*ℤ, negsuc-*ℤ-pos}
 use Rattle.om_signs.specs.declared.sign.Sign.TheVariants.{Minus, Zero, Plus}
+use Rattle.om_signs.proofs.Rings.{expanding, sums}
 use Rattle.om_vectors.specs.WholeVectors.{WholeVector, vector_of, triple_product, sign_of}
-use Rattle.om_vectors.proofs.Rings.{expanding, sums}
 use Rattle.om_vectors.proofs.Identities.{swap_first}
 use Rattle.om_points.specs.Candidates.{IsNextCandidate}
 use Rattle.om_points.specs.Passes.{IsPassed}

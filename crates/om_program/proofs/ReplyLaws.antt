@@ -11,7 +11,6 @@ use Rattle.om_circuits.specs.declared.set_refused.SetRefused.{SetRefused}
 use Rattle.om_circuits.specs.declared.set_refused.SetRefused.TheVariants as set
 use Rattle.om_covectors.specs.declared.cov_refused.CovRefused.{CovRefused}
 use Rattle.om_covectors.specs.declared.cov_refused.CovRefused.TheVariants as cov
-use Rattle.om_denotation.proofs.SelectionLaws.{none_contained}
 use Rattle.om_wiring.specs.declared.wiring_refused.WiringRefused.{WiringRefused}
 use Rattle.om_wiring.specs.declared.wiring_refused.WiringRefused.TheVariants as wiring
 use Rattle.om_text.specs.declared.document.Document.{Document}
@@ -52,6 +51,7 @@ use Rattle.om_commands.specs.Operations as operations
 use Rattle.om_commands.specs.ThreeTermTests as tests
 use Rattle.om_commands.specs.Upgrades as upgrades
 use Rattle.om_signs.specs.declared.raw_map.RawMap.{RawMap}
+use Rattle.om_signs.proofs.Contained.{none_contained}
 use Rattle.om_threeterm.specs.declared.three_refused.ThreeRefused.{ThreeRefused}
 use Rattle.om_threeterm.specs.declared.three_refused.ThreeRefused.TheVariants as three
 use Rattle.om_plane.specs.Claims as claims

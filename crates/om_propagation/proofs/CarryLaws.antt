@@ -12,6 +12,8 @@ use Rattle.om_signs.specs.declared.sign.Sign.{Sign}
 use Rattle.om_signs.specs.declared.sign.Sign.TheVariants.{Minus, Zero, Plus}
 use Rattle.om_signs.specs.Sign.{product}
 use Rattle.om_signs.specs.SignVec.{at, at_element}
+use Rattle.om_signs.proofs.SignLaws.{zero_or_nonzero, product_assoc, opposite_nonzero, plus_nonzero}
+use Rattle.om_signs.proofs.SignLaws.{right_factor_nonzero, product_nonzero}
 use Rattle.om_subsets.specs.Subsets.{IsSubsetFrom, IsMember, with_element, without_element, count_above, rank_of}
 use Rattle.om_subsets.specs.Subsets.{choose, subset_at}
 use Rattle.om_subsets.specs.Lists.{IsBefore}
@@ -27,14 +29,12 @@ use Rattle.om_laws.specs.Chirotope as theory
 use Rattle.om_laws.specs.Chirotope.{elements_to}
 use Rattle.om_laws.specs.Circuits.{IsCocircuit}
 use Rattle.om_laws.specs.Bridge.{as_function, as_list}
-use Rattle.om_laws.proofs.SignLaws.{zero_or_nonzero, product_assoc, opposite_nonzero, plus_nonzero}
-use Rattle.om_laws.proofs.SignLaws.{right_factor_nonzero, product_nonzero}
 use Rattle.om_laws.proofs.MemberLaws.{member_last}
 use Rattle.om_laws.proofs.SortingLaws.{increasing_distinct}
 use Rattle.om_laws.proofs.TupleSizes.{each_from, on_tuples_at, on_tuples_tuple}
-use Rattle.om_laws.proofs.VectorLaws.{same_products, same_zero, same_sym}
 use Rattle.om_laws.proofs.BridgeLaws.{as_function-as_list}
 use Rattle.om_laws.proofs.BaseLaws.{along_member_zero}
+use Rattle.om_laws.proofs.VectorLaws.{same_products, same_zero, same_sym}
 use Rattle.om_chirotope.specs.Map.{SignMap, chi_of, parity_sign}
 use Rattle.om_chirotope.proofs.Circuits.{length-without, parity_sign-suc}
 use Rattle.om_chirotope.proofs.Cocircuits.{sorted_end, insert_with, sign_end, length-with}

@@ -7,8 +7,10 @@
 -- Reference: Björner, Las Vergnas, Sturmfels, White and Ziegler, Oriented Matroids, chapter 3.
 use Rattle.std.specs.Prelude.{ℕ, ◌≡◌, ◌≢◌, ◌≤◌, ◌⊎◌, List, [], ◌∷◌, ◌++◌, length, refl}
 use Rattle.std.proofs.Common.{zero, suc, sym, ap, subst, ◌∙◌, ⊎_elim, inl, inr, arith}
+use Rattle.std.proofs.lemmas.List.{nil_from_length}
 use Rattle.om_signs.specs.declared.sign.Sign.{Sign}
 use Rattle.om_signs.specs.declared.sign.Sign.TheVariants.{Zero}
+use Rattle.om_signs.proofs.SignLaws.{zero_or_nonzero, opposite_nonzero}
 use Rattle.om_laws.specs.Signs.{IsNonzero}
 use Rattle.om_laws.specs.Members.{IsMember, IsDistinct}
 use Rattle.om_laws.specs.Vectors.{SignVector, AreEqualUpToSign, HasSupportIn}
@@ -16,18 +18,18 @@ use Rattle.om_laws.specs.Relations.{around, along}
 use Rattle.om_laws.specs.Circuits.{IsCircuit, IsCocircuit}
 use Rattle.om_laws.specs.Dual.{complement}
 use Rattle.om_laws.specs.Chirotope.{IsChirotope}
-use Rattle.om_laws.proofs.SignLaws.{zero_or_nonzero, opposite_nonzero}
 use Rattle.om_laws.proofs.MemberLaws.{member_or_not, search_members, split_at, distinct_last, member_last}
+use Rattle.om_laws.proofs.MemberLaws.{outside_or_within}
 use Rattle.om_laws.proofs.TupleLaws.{nonzero_distinct}
 use Rattle.om_laws.proofs.BlockLaws.{same_members}
 use Rattle.om_laws.proofs.BaseLaws.{fundamental_circuit, fundamental_cocircuit, other_common, cocircuit_supported}
-use Rattle.om_laws.proofs.VectorLaws.{same_zero, same_sym}
 use Rattle.om_laws.proofs.DualPairs.{dual_pair}
 use Rattle.om_laws.proofs.PairAxioms as pairs
 use Rattle.om_laws.proofs.SizeLaws.{one_size}
 use Rattle.om_laws.proofs.Missing.{missing, missing_middle_member, missing_middle_other}
 use Rattle.om_laws.proofs.Complements.{complement_is_complement}
 use Rattle.om_laws.proofs.DualSizes.{length_complement}
+use Rattle.om_laws.proofs.VectorLaws.{same_zero, same_sym}
 
 -- nonzero at some entry
 abbrev pub Meets : List ℕ → SignVector → Type 0
@@ -36,10 +38,6 @@ Meets t Y = (g : ℕ) × IsMember g t × IsNonzero (Y g)
 pub meets_or_zero : (t : List ℕ) (Y : SignVector) → Meets t Y ⊎ ((g : ℕ) → IsMember g t → Y g ≡ Zero)
 meets_or_zero t Y = search_members (λ g. IsNonzero (Y g)) (λ g. Y g ≡ Zero)
     (λ g. ⊎_elim (λ z. inr z) (λ n. inl n) (zero_or_nonzero (Y g))) t
-
-empty_by_length : (l : List ℕ) → length l ≡ 0 → l ≡ []
-empty_by_length [] e = refl
-empty_by_length (x ∷ l) e = absurd (omega arith)
 
 module _ (E : List ℕ) (chi : List ℕ → Sign) (om : IsChirotope E chi) where
   nonzero_along : (Y : SignVector) (c : IsCocircuit chi Y) (e : ℕ) → IsNonzero (Y e) → IsNonzero (along chi c.tuple e)
@@ -92,11 +90,6 @@ module _ (E : List ℕ) (chi : List ℕ → Sign) (om : IsChirotope E chi) where
 
   -- ---- tuples that each cocircuit meets
 
-  outside_or_within : (s t : List ℕ) → ((e : ℕ) × IsMember e s × (IsMember e t → ⊥))
-      ⊎ ((e : ℕ) → IsMember e s → IsMember e t)
-  outside_or_within s t = search_members (λ e. IsMember e t → ⊥) (λ e. IsMember e t)
-      (λ e. ⊎_elim (λ k. inr k) (λ n. inl n) (member_or_not e t)) s
-
   abbrev HasBaseWithin : List ℕ → Type 0
   HasBaseWithin t = (b : List ℕ) × IsNonzero (chi b) × ((g : ℕ) → IsMember g b → IsMember g t)
 
@@ -141,7 +134,7 @@ module _ (E : List ℕ) (chi : List ℕ → Sign) (om : IsChirotope E chi) where
         (λ k. k)
         (λ out.
         let s = length_complement t b d (nonzero_distinct chi om.alternating b nb) to in
-        let none = empty_by_length (complement t b) (omega (arith, s, l)) in
+        let none = nil_from_length (complement t b) (omega (arith, s, l)) in
         absurd (subst (IsMember g) none ((complement_is_complement t b d).all g m out)))
         (member_or_not g b)
 

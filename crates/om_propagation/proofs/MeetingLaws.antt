@@ -16,15 +16,16 @@ use Rattle.std.proofs.lemmas.List.Elements.{All-contains}
 use Rattle.om_signs.specs.declared.sign.Sign.{Sign}
 use Rattle.om_signs.specs.declared.sign.Sign.TheVariants.{Minus, Zero, Plus}
 use Rattle.om_signs.specs.SignVec.{at, IsMaskOf, IsInSupport}
+use Rattle.om_signs.proofs.Bits.{bit_one_or_zero}
 use Rattle.om_subsets.specs.Subsets.{IsSubsetFrom, IsMember, without_element, first_of, choose, rank_of}
 use Rattle.om_subsets.proofs.Order.{members_from}
 use Rattle.om_subsets.proofs.Statements.{members_without}
 use Rattle.om_laws.specs.Bridge.{as_function}
-use Rattle.om_laws.proofs.ChirotopeLaws.{element_from_member, elements_distinct}
+use Rattle.om_laws.proofs.ChirotopeLaws.{element_from_member}
 use Rattle.om_members.specs.Vectors.{IsZero}
 use Rattle.om_members.specs.Listings.{Listing, HaveLength}
 use Rattle.om_members.specs.Scans.{nth, AllBelow}
-use Rattle.om_members.proofs.MaskLaws.{zero_mask, support_bit, bit_or_none}
+use Rattle.om_members.proofs.MaskLaws.{zero_mask, support_bit}
 use Rattle.om_members.proofs.ScanLaws.{nth_read, nth_contained}
 use Rattle.om_chirotope.specs.Map.{SignMap, negated, IsLedBy}
 use Rattle.om_chirotope.specs.Chirotope.{IsChirotope, IsAllZero}
@@ -32,30 +33,23 @@ use Rattle.om_chirotope.proofs.Negation.{leader, led_negated, negated_chirotope}
 use Rattle.om_chirotope.proofs.Axioms.{not_all_zero}
 use Rattle.om_circuits.specs.Axioms.{MeetsCircuitAxioms}
 use Rattle.om_circuits.specs.SignedSets.{IsSignedSet}
-use Rattle.om_laws.specs.Chirotope.{elements_to}
-use Rattle.om_laws.specs.Circuits.{IsCircuit}
-use Rattle.om_laws.specs.Dual.{dual_map}
-use Rattle.om_laws.proofs.DualLaws.{dual_circuit, cocircuit_dual}
-use Rattle.om_chirotope.proofs.Theory.{theory_chirotope}
-use Rattle.om_denotation.specs.Circuits.{IsCircuitOfChirotope, IsCocircuitOfChirotope}
+use Rattle.om_denotation.specs.Circuits.{IsCircuitOfChirotope}
 use Rattle.om_denotation.specs.Listings.{AreAllOf}
 use Rattle.om_denotation.specs.Maps.{IsNormalFormOf}
 use Rattle.om_denotation.specs.Dual.{dual_of}
 use Rattle.om_denotation.specs.Covectors.{IsCovectorOfChirotope, IsCovectorOfCocircuits}
 use Rattle.om_denotation.specs.Denotation.{DenoteTheSame}
 use Rattle.om_denotation.specs.Existence.{HasCircuits, HasCocircuits}
-use Rattle.om_denotation.proofs.ChirotopeBridge.{tuples_of, list_supported, circuit_length, circuit_function}
-use Rattle.om_denotation.proofs.ChirotopeBridge.{circuit_of_function, cocircuit_length, cocircuit_function}
-use Rattle.om_denotation.proofs.ChirotopeBridge.{cocircuit_of_function}
+use Rattle.om_denotation.proofs.ChirotopeBridge.{list_supported}
 use Rattle.om_denotation.proofs.ListFunctions.{place_function}
 use Rattle.om_denotation.proofs.FunctionLaws.{nonzero_element}
 use Rattle.om_denotation.proofs.FamilyLaws.{orthogonal_both, parts_both}
 use Rattle.om_denotation.proofs.ListExistence.{of_cocircuits}
-use Rattle.om_denotation.proofs.ListUniqueness.{cocircuit_of_negated, circuits_up_to_sign}
-use Rattle.om_denotation.proofs.Rules.{same_maps}
+use Rattle.om_denotation.proofs.ListUniqueness.{cocircuit_of_negated}
 use Rattle.om_denotation.proofs.NormalForms.{normal_elements}
 use Rattle.om_denotation.proofs.Uniqueness.{normal_axioms}
-use Rattle.om_denotation.proofs.DualMaps.{dual_tuples, dual_axioms}
+use Rattle.om_denotation.proofs.DualMaps.{dual_axioms}
+use Rattle.om_denotation.proofs.DualLists.{circuit_both}
 use Rattle.om_propagation.specs.Hitting.{IsNonzeroOn, MeetsFamily, MissesOne, IsNonzeroMember, IsNarrowed}
 use Rattle.om_propagation.specs.Hitting.{IsLeastMeeting, IsNormalOf, IsRankOfNormal, IsEachNormalOf, AreFirstSigns}
 use Rattle.om_propagation.proofs.HittingLaws.{meets_or_zero}
@@ -90,8 +84,8 @@ meets_test n Y s a b l list ha hb = elim (meets_or_zero s (as_function Y)) [
     zero_and : ((g : ℕ) → IsMember g s → as_function Y g ≡ Zero) → bit_and a b ≡ 0
     zero_and zeros = (zero_mask (bit_and a b)).1 (λ i one.
         let q : min (bit_at a i) (bit_at b i) ≡ 1 = sym (bit_at_and a b i) ∙ one in
-        elim (bit_or_none a i) [
-          | inl ka ↦ elim (bit_or_none b i) [
+        elim (bit_one_or_zero a i) [
+          | inl ka ↦ elim (bit_one_or_zero b i) [
             | inl kb ↦ elim (cases_lt i n) [
               | inl lt ↦
                   (support_bit Y a ha i).0 ka
@@ -321,31 +315,6 @@ made_normal c v n vectors rank map q w ranks r each =
 
 -- ---- circuits
 
-module _ (m : SignMap) (om : IsChirotope m) where
-  dual_maps : tuples_of (dual_of m) ≡ dual_map (elements_to m.elements) (tuples_of m)
-  dual_maps = same_maps (tuples_of (dual_of m)) (dual_map (elements_to m.elements) (tuples_of m)) (dual_tuples m om)
-
-  -- the circuits of the dual are the cocircuits
-  pub circuit_of_dual : (X : List Sign) → IsCircuitOfChirotope (dual_of m) X ↔ IsCocircuitOfChirotope m X
-  circuit_of_dual X = (
-    λ c. cocircuit_of_function m X (circuit_length (dual_of m) X c)
-        (dual_circuit (elements_to m.elements) (elements_distinct m.elements) (tuples_of m) (theory_chirotope m om)
-        (as_function X)
-        (subst (λ f. IsCircuit (elements_to m.elements) f (as_function X)) dual_maps
-        (circuit_function (dual_of m) X c))),
-    λ c. circuit_of_function (dual_of m) X (cocircuit_length m X c)
-        (subst (λ f. IsCircuit (elements_to m.elements) f (as_function X)) (sym dual_maps)
-        (cocircuit_dual (elements_to m.elements) (elements_distinct m.elements) (tuples_of m) (theory_chirotope m om)
-        (as_function X) (cocircuit_function m X c))),
-  )
-
-  pub circuit_of_normal_dual : (d : SignMap) → IsNormalFormOf (dual_of m) d → (X : List Sign) → IsCircuitOfChirotope d X
-      ↔ IsCocircuitOfChirotope m X
-  circuit_of_normal_dual d h X =
-      let a = circuits_up_to_sign (dual_of m) d h.same X in
-      let b = circuit_of_dual X in
-      (λ x. b.0 (a.1 x), λ x. a.0 (b.1 x))
-
 -- the normal dual of the chirotope whose cocircuits are the circuits of a list
 pub has_circuits : (c : Listing) (m d : SignMap) → IsNormalOf c.elements c.members m → IsNormalFormOf (dual_of m) d
     → HasCircuits c d
@@ -367,6 +336,6 @@ has_circuits c m d h n = record {
 
     all : AreAllOf (IsCircuitOfChirotope d) c.members
     all = record {
-      sound = λ X x. (circuit_of_normal_dual m h.axioms d n X).1 (h.cocircuits.sound X x);
-      complete = λ X x. h.cocircuits.complete X ((circuit_of_normal_dual m h.axioms d n X).0 x);
+      sound = λ X x. (circuit_both m h.axioms d n X).1 (h.cocircuits.sound X x);
+      complete = λ X x. h.cocircuits.complete X ((circuit_both m h.axioms d n X).0 x);
     }

@@ -12,6 +12,7 @@ use Rattle.std.proofs.Common.{zero, suc, sym, ap, subst, ◌∙◌, ⊎_elim, ar
 use Rattle.om_signs.specs.declared.sign.Sign.{Sign}
 use Rattle.om_signs.specs.declared.sign.Sign.TheVariants.{Zero}
 use Rattle.om_signs.specs.SignVec.{at_element}
+use Rattle.om_signs.proofs.SignLaws.{zero_or_nonzero}
 use Rattle.om_subsets.specs.Subsets.{IsSubsetFrom, IsMember, without_element}
 use Rattle.om_subsets.proofs.Statements.{members_without}
 use Rattle.om_laws.specs.Signs.{IsNonzero}
@@ -22,12 +23,9 @@ use Rattle.om_laws.specs.Circuits.{IsCocircuit}
 use Rattle.om_laws.specs.Bridge.{as_function, as_list}
 use Rattle.om_laws.specs.Vectors as vectors
 use Rattle.om_laws.proofs.BridgeLaws.{as_function-as_list}
-use Rattle.om_laws.proofs.SignLaws.{zero_or_nonzero}
 use Rattle.om_laws.proofs.SortingLaws.{increasing_distinct}
 use Rattle.om_laws.proofs.TupleSizes.{on_tuples_tuple}
 use Rattle.om_members.specs.Listings.{Listing}
-use Rattle.om_members.specs.Vectors.{IsZero}
-use Rattle.om_members.proofs.MaskLaws.{at_from_place}
 use Rattle.om_chirotope.specs.Map.{SignMap, chi_of, negated}
 use Rattle.om_chirotope.specs.Chirotope.{IsChirotope}
 use Rattle.om_chirotope.proofs.Theory.{theory_chirotope}
@@ -42,7 +40,7 @@ use Rattle.om_denotation.proofs.ChirotopeBridge.{tuples_of, cocircuit_function, 
 use Rattle.om_denotation.proofs.ChirotopeBridge.{increasing_subset}
 use Rattle.om_denotation.proofs.DualMaps.{dual_axioms}
 use Rattle.om_denotation.proofs.FamilyLaws.{cocircuit_covector, parts_both}
-use Rattle.om_denotation.proofs.FunctionLaws.{nonzero_element}
+use Rattle.om_denotation.proofs.FunctionLaws.{nonzero_element, nonzero_list_not_zero}
 use Rattle.om_denotation.proofs.ListExistence.{of_covectors}
 use Rattle.om_denotation.proofs.NormalForms.{normal_exists, normal_covectors, normal_rank, normal_elements}
 use Rattle.om_denotation.proofs.Uniqueness.{same_by_covectors, normal_axioms}
@@ -98,13 +96,11 @@ module _ (m : SignMap) (om : IsChirotope m) where
                   (zero_or_nonzero (as_function c.0 g)),
             )
 
-not_zero : (X : List Sign) → HasNonzero X → IsZero X → ⊥
-not_zero X n z = n.1 (at_from_place (λ s. s ≡ Zero) X z n.0)
-
 cocircuits_rank : (n : ℕ) (members : List (List Sign)) (m : SignMap) → IsNormalOf n members m → (s : List ℕ)
     → IsSubsetFrom 1 n s → IsLeastMeeting (IsNonzeroMember members) s → length s ≡ m.rank
 cocircuits_rank n members m h s list least =
-    least_rank m h.axioms (IsNonzeroMember members) (λ X x. (h.cocircuits.complete X x, not_zero X x.nonzero))
+    least_rank m h.axioms (IsNonzeroMember members)
+    (λ X x. (h.cocircuits.complete X x, nonzero_list_not_zero X x.nonzero))
     (λ X x. (X, h.cocircuits.sound X x.0, λ e k. k)) s
     (subst (λ i. IsSubsetFrom 1 i s) (sym h.elements) list) least
 
@@ -112,7 +108,7 @@ covectors_rank : (c : Listing) (m : SignMap) → HasCovectors c m → (s : List 
     → IsLeastMeeting (IsNonzeroMember c.members) s → length s ≡ m.rank
 covectors_rank c m h s list least =
     least_rank m h.axioms (IsNonzeroMember c.members)
-    (λ X x. (h.members.complete X (cocircuit_covector m h.axioms X x), not_zero X x.nonzero)) within s
+    (λ X x. (h.members.complete X (cocircuit_covector m h.axioms X x), nonzero_list_not_zero X x.nonzero)) within s
     (subst (λ i. IsSubsetFrom 1 i s) (sym h.elements) list) least
   where
     at_part : (X : List Sign) → IsCovectorOfChirotope m X → vectors.HasNonzero (as_function X)

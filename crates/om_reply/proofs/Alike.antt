@@ -1,8 +1,7 @@
 -- Equal answers end a run alike.
 --
--- Main results: alike, both_say; one element at most is found (one_place), and not both an element and none
--- (found_or_none).
-use Rattle.std.specs.Prelude.{ℕ, ◌≡◌, Option, Some, None}
+-- Main results: alike, both_say; one element at most is found (one_place).
+use Rattle.std.specs.Prelude.{ℕ, ◌≡◌, Option, Some}
 use Rattle.std.proofs.Common.{sym, ◌∙◌, ap}
 use Rattle.om_answer.specs.declared.line.Line.{Line}
 use Rattle.om_answer.specs.declared.line.Line.TheVariants.{RefusedPlace}
@@ -19,6 +18,3 @@ both_say l m same = alike (says l) (says m) (ap says same)
 pub one_place : (found : Option ℕ) (e f : ℕ) → found ≡ Some e → found ≡ Some f
     → AreAlike (says (RefusedPlace e)) (says (RefusedPlace f))
 one_place found e f p q = both_say (RefusedPlace e) (RefusedPlace f) (let same = sym p ∙ q in cc)
-
-pub found_or_none : (found : Option ℕ) (e : ℕ) → found ≡ Some e → found ≡ None → ⊥
-found_or_none found e p q = let same = sym p ∙ q in cc

@@ -1,3 +1,2 @@
-mod FewValues
 mod PointLaws
 pub mod WidthLaws

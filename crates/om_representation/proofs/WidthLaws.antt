@@ -1,9 +1,9 @@
 -- Lists whose chirotope has more values than a document may hold.
 --
--- Main results: a map of rank 3, of a dual and of a minor has few values (few_of_rank3, few_dual, few_deleted,
--- few_contracted), as the chirotope of a document that is kept has (few_chosen), and a map that is worked on
--- (few_worked_on); a document is kept where a call says so (kept_circuits, kept_cocircuits, kept_covectors), and it is
--- too wide, of a rank other than 3, where a call says that (wide_circuits, wide_cocircuits, wide_covectors).
+-- Main results: a map of a dual and of a minor has few values (few_dual, few_deleted, few_contracted), as the chirotope
+-- of a document that is kept has (few_chosen), and a map that is worked on (few_worked_on); a document is kept where a
+-- call says so (kept_circuits, kept_cocircuits, kept_covectors), and it is too wide, of a rank other than 3, where a
+-- call says that (wide_circuits, wide_cocircuits, wide_covectors).
 use Rattle.std.specs.Prelude.{ℕ, ◌≡◌, ◌≢◌, ◌<◌, ◌≤◌, ◌+◌, List, length, Result, Ok, Err, IfOk}
 use Rattle.std.specs.List.{Contains}
 use Rattle.std.proofs.Common.{zero, suc, arith, sym, ap, subst, ◌∙◌, refl, inl, inr}
@@ -15,6 +15,7 @@ use Rattle.om_subsets.proofs.Counts.{choose_none, choose_more}
 use Rattle.om_subsets.proofs.LastSets.{choose_all}
 use Rattle.om_chirotope.specs.Chirotope.{IsChirotope}
 use Rattle.om_chirotope.specs.Map.{SignMap}
+use Rattle.om_chirotope.proofs.FewValues.{few_triples}
 use Rattle.om_convert.specs.Limits.{IsTooWideFor, HasFewValuesFor}
 use Rattle.om_denotation.specs.Covectors.{IsCovectorOfChirotope, IsCovectorOfCircuits, IsCovectorOfCocircuits}
 use Rattle.om_denotation.specs.Covectors.{IsCovectorOfCovectors}
@@ -32,8 +33,6 @@ use Rattle.om_representation.specs.Covectors.{IsCovectorIn}
 use Rattle.om_representation.specs.Documents.{document_of, circuits_document, cocircuits_document, covectors_document}
 use Rattle.om_representation.specs.Documents.{with_map, worked_on}
 use Rattle.om_representation.specs.Points.{vector_of_point, vectors_of}
-use Rattle.om_representation.proofs.FewValues as answers
-use Rattle.om_representation.proofs.FewValues.{few_triples}
 use Rattle.om_representation.specs.Widths.{IsList, IsTooWide, IsKept, HasFewValuesIn, HasFewValues}
 use Rattle.om_representation.specs.Widths.{HasFewValuesUnlessRank3In, HasFewValuesUnlessRank3, IsTooWideOfRank}
 
@@ -46,9 +45,6 @@ not_rank3 n r values high number over three =
     omega (arith, few, same, over)
 
 -- ---- maps with few values
-
-pub few_of_rank3 : (m : SignMap) → m.rank ≡ 3 → m.elements ≤ MAX_ELEMENTS → choose m.elements m.rank ≤ MAX_VALUES
-few_of_rank3 = answers.few_of_rank3
 
 -- as many ways to take some as to leave them
 choose_left : (n a b : ℕ) → a + b ≡ n → choose n a ≡ choose n b

@@ -1,3 +1,7 @@
+pub mod SignLaws
+pub mod Rings
+pub mod Results
+pub mod Contained
 pub mod Bits
 pub mod Order
 pub mod Orthogonality

@@ -1,19 +1,18 @@
 -- The sign at a place of a list that is made of others: a composition, a negative, zeros, a list with flipped signs.
 --
--- Main results: at-compose, length-compose, at-map-opposite, at-replicate, at-flip_from, length-flip_from
+-- Main results: at-compose, length-compose, at-map-opposite, map-opposite-opposite, at-replicate,
+-- at_element_past, at-flip_from, length-flip_from
 use Rattle.std.proofs.Common.{ℕ, ◌≡◌, ◌+◌, zero, suc, refl, sym, ◌∙◌, ap, arith, List, [], ◌∷◌, length, map, replicate}
 use Rattle.std.proofs.Common.{true, false, cond, nat_eq}
 use Rattle.std.specs.Int.{bit_at}
-use Rattle.std.proofs.Common.{add-zero}
+use Rattle.std.proofs.Common.{add-zero, ◌-◌, ◌≤◌}
+use Rattle.std.proofs.Math.ListN.{get_or-map}
+use Rattle.std.proofs.lemmas.List.{get_or_past}
 use Rattle.om_signs.specs.declared.sign.Sign.{Sign}
-use Rattle.om_signs.specs.declared.sign.Sign.TheVariants.{Minus, Zero, Plus}
+use Rattle.om_signs.specs.declared.sign.Sign.TheVariants.{Zero}
 use Rattle.om_signs.specs.Sign.{opposite, first_nonzero}
-use Rattle.om_signs.specs.SignVec.{at, compose, flip_from}
-
-pub first_nonzero-zero : (s : Sign) → first_nonzero s Zero ≡ s
-first_nonzero-zero Minus = refl
-first_nonzero-zero Zero = refl
-first_nonzero-zero Plus = refl
+use Rattle.om_signs.specs.SignVec.{at, compose, flip_from, at_element}
+use Rattle.om_signs.proofs.SignLaws.{first_nonzero-zero, opposite-opposite}
 
 pub at-compose : (xs ys : List Sign) (i : ℕ) → at (compose xs ys) i ≡ first_nonzero (at xs i) (at ys i)
 at-compose [] ys i = refl
@@ -27,14 +26,20 @@ length-compose (x ∷ xs) [] e = refl
 length-compose (x ∷ xs) (y ∷ ys) e = ap suc (length-compose xs ys (omega arith))
 
 pub at-map-opposite : (xs : List Sign) (i : ℕ) → at (map opposite xs) i ≡ opposite (at xs i)
-at-map-opposite [] i = refl
-at-map-opposite (x ∷ xs) zero = refl
-at-map-opposite (x ∷ xs) (suc i) = at-map-opposite xs i
+at-map-opposite xs i = get_or-map opposite xs i Zero
+
+pub map-opposite-opposite : (xs : List Sign) → map opposite (map opposite xs) ≡ xs
+map-opposite-opposite [] = refl
+map-opposite-opposite (x ∷ xs) = ap (λ s. s ∷ map opposite (map opposite xs)) (opposite-opposite x)
+    ∙ ap (λ l. x ∷ l) (map-opposite-opposite xs)
 
 pub at-replicate : (n i : ℕ) → at (replicate n Zero) i ≡ Zero
 at-replicate zero i = refl
 at-replicate (suc n) zero = refl
 at-replicate (suc n) (suc i) = at-replicate n i
+
+pub at_element_past : (xs : List Sign) (e : ℕ) → length xs + 1 ≤ e → at_element xs e ≡ Zero
+at_element_past xs e ge = get_or_past xs (e - 1) Zero (omega arith)
 
 pub at-flip_from : (j mask : ℕ) (xs : List Sign) (i : ℕ)
     → at (flip_from j mask xs) i ≡ cond (nat_eq (bit_at mask (j + i)) 1) (opposite (at xs i)) (at xs i)

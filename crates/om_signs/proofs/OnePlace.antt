@@ -19,32 +19,22 @@ use Rattle.om_signs.specs.declared.sign.Sign.TheVariants.{Minus, Zero, Plus}
 use Rattle.om_signs.specs.Sign.{is_plus, is_minus}
 use Rattle.om_signs.specs.SignVec.{at}
 use Rattle.om_signs.specs.Masks.{signs_of, IsSound}
+use Rattle.om_signs.proofs.Views.{Stands, length_is, shows, stands, fits_32, from_plus_bit, from_minus_bit}
 use Rattle.om_signs.proofs.Bits.{bit_at_and_not, one_shl_32, bit_from_test, no_bit_from_test}
-use Rattle.om_signs.proofs.Views.{Stands, length_is, shows, stands, fits_32}
 
 pub get_plus : (p m n : ℕ) (xs : List Sign) (e : ℕ) → IsSound p m n → signs_of p m n ≡ xs → e ≤ length xs
     → bit_and p (1 * 2 ^ (e - 1) % 4294967296) ≢ 0 → Plus ≡ at xs (e - 1)
 get_plus p m n xs e h v le t =
     let k : e - 1 < 32 = let l = length_is p m n xs v in let b = h.high in omega arith in
     let t' : bit_and p (2 ^ (e - 1)) ≢ 0 = rw one_shl_32 at t in
-    from_plus (at xs (e - 1)) (sym ((shows p m n xs h v (e - 1)).0) ∙ bit_from_test p (e - 1) t')
-  where
-    from_plus : (s : Sign) → is_plus s ≡ 1 → Plus ≡ s
-    from_plus Minus e = cc
-    from_plus Zero e = cc
-    from_plus Plus e = refl
+    sym (from_plus_bit (at xs (e - 1)) (sym ((shows p m n xs h v (e - 1)).0) ∙ bit_from_test p (e - 1) t'))
 
 pub get_minus : (p m n : ℕ) (xs : List Sign) (e : ℕ) → IsSound p m n → signs_of p m n ≡ xs → e ≤ length xs
     → bit_and m (1 * 2 ^ (e - 1) % 4294967296) ≢ 0 → Minus ≡ at xs (e - 1)
 get_minus p m n xs e h v le t =
     let k : e - 1 < 32 = let l = length_is p m n xs v in let b = h.high in omega arith in
     let t' : bit_and m (2 ^ (e - 1)) ≢ 0 = rw one_shl_32 at t in
-    from_minus (at xs (e - 1)) (sym ((shows p m n xs h v (e - 1)).1) ∙ bit_from_test m (e - 1) t')
-  where
-    from_minus : (s : Sign) → is_minus s ≡ 1 → Minus ≡ s
-    from_minus Minus e = refl
-    from_minus Zero e = cc
-    from_minus Plus e = cc
+    sym (from_minus_bit (at xs (e - 1)) (sym ((shows p m n xs h v (e - 1)).1) ∙ bit_from_test m (e - 1) t'))
 
 pub get_zero : (p m n : ℕ) (xs : List Sign) (e : ℕ) → IsSound p m n → signs_of p m n ≡ xs → e ≤ length xs
     → bit_and p (1 * 2 ^ (e - 1) % 4294967296) ≡ 0 → bit_and m (1 * 2 ^ (e - 1) % 4294967296) ≡ 0 → Zero ≡ at xs (e - 1)

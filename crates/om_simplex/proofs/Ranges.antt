@@ -1,10 +1,11 @@
 -- The ranges of the numbers that the ends of a run have.
 --
 -- Main results: balanced_small, weights_small, limit_basis and width_numbers.
-use Rattle.std.specs.Prelude.{ℕ, ◌≡◌, ◌+◌, ◌-◌, ◌≤◌, ℤ, pos, negsuc, neg_ℤ, unsigned_abs, List, length, All}
-use Rattle.std.proofs.Common.{arith, sym, ◌∙◌, ap, subst, zero, suc, refl, get_or}
+use Rattle.std.specs.Prelude.{ℕ, ◌≡◌, ◌+◌, ◌-◌, ◌≤◌, ℤ, pos, unsigned_abs, List, length, All}
+use Rattle.std.proofs.Common.{arith, sym, ◌∙◌, ap, subst, get_or}
 use Rattle.std.proofs.lemmas.List.Elements.{Contains-get_or, All-from_get_or}
 use Rattle.om_signs.specs.declared.limits.TheConstants.{MAX_MULTIPLICITY, MAX_WEIGHT}
+use Rattle.om_signs.proofs.Rings.{unsigned_abs-neg}
 use Rattle.om_rows.specs.declared.column.Column.{Column}
 use Rattle.om_rows.specs.Rows.{entry}
 use Rattle.om_simplex.specs.declared.count.Count.{Count}
@@ -15,11 +16,6 @@ use Rattle.om_simplex.specs.Outcomes.{IsReached, first, next, IsOutcome, balance
 use Rattle.om_simplex.specs.Outcomes.{column_wide, update_wide, own_wide, factor_wide, times_wide, weight_wide}
 use Rattle.om_simplex.proofs.Reached.{reached_sound}
 use Rattle.om_simplex.proofs.Weighing.{length-weights, entry-weights}
-
-same_size : (z : ℤ) → unsigned_abs (neg_ℤ z) ≡ unsigned_abs z
-same_size (pos zero) = refl
-same_size (pos (suc n)) = refl
-same_size (negsuc n) = refl
 
 module _ (columns : List Column) (m pivots : ℕ) where
   few_pivots : (k : ℕ) (s : State) → IsReached columns m pivots k s → k ≤ pivots
@@ -43,7 +39,7 @@ module _ (columns : List Column) (m pivots : ℕ) where
       ap (λ j. get_or zs j (pos 0)) (let f : i + 1 - 1 ≡ i = omega arith in f) in
       let f = entry-weights columns m s low sound q (record { low = omega arith; high = omega arith }) in
       let g : unsigned_abs (entry zs q) ≡ unsigned_abs (entry (row_of s 0) q) = ap unsigned_abs f
-      ∙ same_size (entry (row_of s 0) q) in
+      ∙ unsigned_abs-neg (entry (row_of s 0) q) in
       let h = w q (omega arith) (omega arith) in
       subst (λ z. unsigned_abs z ≤ unsigned_abs MAX_WEIGHT) e (subst (λ n. n ≤ unsigned_abs MAX_WEIGHT) (sym g) h))
 

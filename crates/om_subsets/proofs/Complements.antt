@@ -6,12 +6,12 @@ use Rattle.std.proofs.Common.{sym, ap, subst, ◌∙◌, inl, inr, arith}
 use Rattle.std.specs.Int.{bit_at}
 use Rattle.std.proofs.lemmas.Bool.{cases_eq, eq-eqb, ne_eqb}
 use Rattle.std.proofs.lemmas.Nat.Bits.{bit_at-suc, bit_at_lowest, bit_at-lt}
+use Rattle.std.proofs.Math.Nat.{pow-succ'}
 use Rattle.om_subsets.specs.Subsets.{IsSubsetFrom, IsMember}
 use Rattle.om_subsets.specs.Members.{members, mask_of, members-subset}
 use Rattle.om_subsets.proofs.Edits.{member_bit}
 use Rattle.om_subsets.proofs.Masks.{members-mask_of, mask_of-lt}
 use Rattle.om_subsets.proofs.Order.{members_from}
-use Rattle.om_subsets.proofs.Places.{double}
 
 -- the mask with the other bits
 abbrev pub others : ℕ → ℕ → ℕ
@@ -19,12 +19,12 @@ others mask m = 2 ^ m - 1 - mask
 
 others_half : (mask m : ℕ) → mask < 2 ^ suc m → (others mask (suc m) / 2 ≡ others (mask / 2) m)
     × (others mask (suc m) % 2 + mask % 2 ≡ 1)
-others_half mask m l = let p : 2 ^ suc m ≡ 2 * 2 ^ m = double m in (omega arith, omega arith)
+others_half mask m l = let p : 2 ^ suc m ≡ 2 * 2 ^ m = pow-succ' 2 m in (omega arith, omega arith)
 
 others_length : (mask e m : ℕ) → mask < 2 ^ m → length (members (others mask m) e m) + length (members mask e m) ≡ m
 others_length mask e zero l = refl
 others_length mask e (suc m) l =
-    let p : 2 ^ suc m ≡ 2 * 2 ^ m = double m in
+    let p : 2 ^ suc m ≡ 2 * 2 ^ m = pow-succ' 2 m in
     let h = others_half mask m l in
     let rest = others_length (mask / 2) (e + 1) m (omega arith) in
     let low = h.1 in
@@ -45,7 +45,7 @@ others_bit mask (suc m) zero l k =
     let h = (others_half mask m l).1 in
     omega arith
 others_bit mask (suc m) (suc i) l k =
-    let p : 2 ^ suc m ≡ 2 * 2 ^ m = double m in
+    let p : 2 ^ suc m ≡ 2 * 2 ^ m = pow-succ' 2 m in
     let half = (others_half mask m l).0 in
     let a : bit_at (others mask (suc m)) (suc i) ≡ bit_at (others (mask / 2) m) i = bit_at-suc (others mask (suc m)) i
     ∙ ap (λ x. bit_at x i) half in

@@ -1,13 +1,11 @@
 -- How many increasing lists there are, and how long they are.
 --
 -- Main results: among more numbers there are no fewer lists (choose_more, choose_grows); one list is empty
--- (choose_none), as many as numbers have one (choose_one), and few have two (choose_two); no list is longer than the
--- numbers are many (too_long).
-use Rattle.std.proofs.Common.{ℕ, zero, suc, ◌≡◌, ◌*◌, ◌<◌, ◌≤◌, List, length, refl, arith, inl, inr}
+-- (choose_none), and as many as numbers have one (choose_one); no list is longer than the numbers are many
+-- (subset_small, too_long).
+use Rattle.std.proofs.Common.{ℕ, zero, suc, ◌≡◌, ◌+◌, ◌<◌, ◌≤◌, List, [], ◌∷◌, length, refl, arith, inl, inr}
 use Rattle.std.proofs.lemmas.Bool.{cases_lt}
 use Rattle.om_subsets.specs.Subsets.{choose, IsSubsetFrom}
-use Rattle.om_subsets.proofs.Order.{rank_from-lt}
-use Rattle.om_subsets.proofs.Table.{choose_above}
 
 pub choose_none : (n : ℕ) → choose n zero ≡ 1
 choose_none zero = refl
@@ -16,10 +14,6 @@ choose_none (suc n) = refl
 pub choose_one : (n : ℕ) → choose n 1 ≡ n
 choose_one zero = refl
 choose_one (suc n) = let a = choose_none n in let b = choose_one n in omega arith
-
-pub choose_two : (n : ℕ) → choose n 2 ≤ n * n
-choose_two zero = omega arith
-choose_two (suc n) = let a = choose_one n in let b = choose_two n in grind arith
 
 pub choose_more : (n r : ℕ) → choose n r ≤ choose (suc n) r
 choose_more n zero = let a = choose_none n in omega arith
@@ -32,9 +26,12 @@ choose_grows m (suc n) r l = elim (cases_lt m (suc n)) [
   | inr ge ↦ let e : m ≡ suc n = omega arith in rw e (omega arith)
 ]
 
--- no increasing list is longer than the elements are many
+-- no increasing list is longer than the numbers are many
+pub subset_small : (low n : ℕ) (xs : List ℕ) → IsSubsetFrom low n xs → length xs ≤ n
+subset_small low n [] h = omega arith
+subset_small low zero (x ∷ xs) h = absurd h
+subset_small low (suc n) (x ∷ xs) (inl (q, h)) = let k = subset_small (low + 1) n xs h in omega arith
+subset_small low (suc n) (x ∷ xs) (inr (q, h)) = let k = subset_small (low + 1) n (x ∷ xs) h in omega arith
+
 pub too_long : (n : ℕ) (xs : List ℕ) → IsSubsetFrom 1 n xs → n < length xs → ⊥
-too_long n xs h l =
-    let b = rank_from-lt 1 n xs h in
-    let z = choose_above n (length xs) l in
-    omega (arith, b, z)
+too_long n xs h l = let k = subset_small 1 n xs h in omega (arith, k, l)

@@ -14,9 +14,9 @@ use Rattle.std.proofs.lemmas.Nat.Bits.{bit_at-pow_same, bit_at-pow_other, shr_an
 use Rattle.om_subsets.specs.Subsets.{IsMember, with_element, without_element, count_above}
 use Rattle.om_subsets.specs.Members.{members}
 use Rattle.std.specs.Int.Count.{ones}
-use Rattle.std.proofs.Math.Nat.{div-div-eq-div-mul}
+use Rattle.std.proofs.Math.Nat.{div-div-eq-div-mul, pow-succ'}
 use Rattle.std.proofs.lemmas.Nat.{or_lt}
-use Rattle.om_subsets.proofs.Places.{double, ones-members}
+use Rattle.om_subsets.proofs.Places.{ones-members}
 
 -- two masks that agree at their bits but at j, in place of which the second has bit b
 pub record IsEdit (mask next j b m : ℕ) : Type 0 where
@@ -176,7 +176,7 @@ pub count_members : (mask e j m : ℕ) → j < m → mask < 2 ^ m
     → ones (mask / 2 ^ (j + 1)) ≡ count_above (e + j) (members mask e m)
 count_members mask e j zero l h = absurd (omega arith)
 count_members mask e zero (suc m) l h =
-    let d = double m in
+    let d = pow-succ' 2 m in
     let s : e + 0 ≡ e = omega arith in
     let half : mask / 2 ^ (0 + 1) ≡ mask / 2 = refl in
     let i = ones-members (mask / 2) (e + 1) m (omega arith) in
@@ -187,9 +187,9 @@ count_members mask e zero (suc m) l h =
       | inr z ↦ rw (ne_eqb (mask % 2) 1 z) (sym f)
     ])
 count_members mask e (suc j) (suc m) l h =
-    let d = double m in
+    let d = pow-succ' 2 m in
     let s : e + suc j ≡ e + 1 + j = omega arith in
-    let p : 2 ^ (suc j + 1) ≡ 2 * 2 ^ (j + 1) = rw add-one (rw add-one (double (suc j))) in
+    let p : 2 ^ (suc j + 1) ≡ 2 * 2 ^ (j + 1) = rw add-one (rw add-one (pow-succ' 2 (suc j))) in
     let half : mask / 2 ^ (suc j + 1) ≡ mask / 2 / 2 ^ (j + 1) = rw p (sym (div-div-eq-div-mul mask 2 (2 ^ (j + 1)))) in
     let i = count_members (mask / 2) (e + 1) j m (omega arith) (omega arith) in
     let ge : e ≤ e + 1 + j = omega arith in

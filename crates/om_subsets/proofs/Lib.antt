@@ -10,6 +10,7 @@ pub mod Unrank
 pub mod Lowest
 pub mod Masks
 pub mod Statements
+pub mod Triples
 pub mod Reverse
 pub mod Relations
 pub mod Firsts

@@ -3,11 +3,11 @@
 -- Main definitions: `later n xs`, how many sets of this size come after xs.
 -- Main results: `rank_and_later`; `lowest`, what `mask & (mask - 1)` does to the members.
 use Rattle.std.proofs.Common.{ℕ, ◌≡◌, ◌+◌, ◌-◌, ◌/◌, ◌%◌, ◌<◌, ◌≤◌, ◌^◌, List, [], ◌∷◌, length, zero, suc, refl, sym}
-use Rattle.std.proofs.Common.{◌∙◌, ap, arith, inl, inr, bit_and, min, w32, subst}
+use Rattle.std.proofs.Common.{◌∙◌, ap, arith, inl, inr, bit_and, w32, subst}
 use Rattle.std.specs.Int.{bit_at, trailing_zeros}
 use Rattle.std.specs.Int.Bits.{and_self}
 use Rattle.std.proofs.lemmas.Bool.{eq-eqb, ne_eqb}
-use Rattle.std.proofs.lemmas.Nat.Bits.{bit_at-suc, bit_at_lowest, bit_at_and, bit_at-trailing_zeros, same_from_bits}
+use Rattle.std.proofs.lemmas.Nat.Bits.{bit_at-suc, bit_at_lowest, bit_at-trailing_zeros}
 use Rattle.std.proofs.Math.Pow.{pow_mono}
 use Rattle.om_subsets.specs.Subsets.{choose, rank_from, rank_of, IsSubsetFrom}
 use Rattle.om_signs.specs.declared.limits.TheConstants.{MAX_PLACES}
@@ -15,7 +15,9 @@ use Rattle.om_subsets.specs.Members.{members, members-subset}
 use Rattle.om_subsets.proofs.Order.{members_from}
 use Rattle.om_subsets.proofs.Counts.{choose_none}
 use Rattle.std.proofs.lemmas.Nat.{and_le_l}
-use Rattle.om_subsets.proofs.Places.{bits_fit, double, members-zero}
+use Rattle.std.proofs.Math.Nat.{pow-succ'}
+use Rattle.om_signs.proofs.Bits.{bit_and-half, bit_and-lowest, zero_has_no_bit}
+use Rattle.om_subsets.proofs.Places.{bits_fit, members-zero}
 
 -- how many of the sets of its size of the numbers 1 to n come after an increasing list: those that first differ from
 -- it at some member, and go on with later numbers
@@ -36,45 +38,30 @@ rank_and_later low (suc m) n (x ∷ xs) e (inr (g, h)) =
     let i = rank_and_later (low + 1) m n (x ∷ xs) (omega arith) h in
     rw (ne_eqb x low g) (omega arith)
 
-and_half : (a b : ℕ) → bit_and a b / 2 ≡ bit_and (a / 2) (b / 2)
-and_half a b = same_from_bits _ _ (λ i.
-    sym (bit_at-suc (bit_and a b) i) ∙ bit_at_and a b (suc i) ∙ sides i ∙ sym (bit_at_and (a / 2) (b / 2) i))
-  where
-    sides : (i : ℕ) → min (bit_at a (suc i)) (bit_at b (suc i)) ≡ min (bit_at (a / 2) i) (bit_at (b / 2) i)
-    sides i = rw (bit_at-suc a i, bit_at-suc b i) refl
-
-and_low : (a b : ℕ) → bit_and a b % 2 ≡ min (a % 2) (b % 2)
-and_low a b = sym (bit_at_lowest (bit_and a b)) ∙ bit_at_and a b 0
-    ∙ (let p = bit_at_lowest a in let q = bit_at_lowest b in rw (p, q) refl)
-
 lowest_at : (mask e m t : ℕ) → mask < 2 ^ m → bit_at mask t ≡ 1 → ((i : ℕ) → i < t → bit_at mask i ≡ 0)
     → members mask e m ≡ (e + t) ∷ members (bit_and mask (mask - 1)) e m
 lowest_at mask e zero t l one none =
     let z : mask ≡ 0 = omega arith in
     let b : bit_at 0 t ≡ 1 = rw (← z) one in
-    absurd (no_bit t b)
-  where
-    no_bit : (t : ℕ) → bit_at 0 t ≡ 1 → ⊥
-    no_bit zero b = let p = sym (bit_at_lowest 0) ∙ b in omega arith
-    no_bit (suc t) b = no_bit t (sym (bit_at-suc 0 t) ∙ b)
+    absurd (zero_has_no_bit t b)
 lowest_at mask e (suc m) zero l one none =
     let odd : mask % 2 ≡ 1 = sym (bit_at_lowest mask) ∙ one in
     let before : (mask - 1) % 2 ≡ 0 = omega arith in
-    let low : bit_and mask (mask - 1) % 2 ≡ 0 = and_low mask (mask - 1) ∙ rw (odd, before) refl in
+    let low : bit_and mask (mask - 1) % 2 ≡ 0 = bit_and-lowest mask (mask - 1) ∙ rw (odd, before) refl in
     let same : (mask - 1) / 2 ≡ mask / 2 = omega arith in
-    let half : bit_and mask (mask - 1) / 2 ≡ mask / 2 = and_half mask (mask - 1) ∙ rw same (and_self (mask / 2)) in
+    let half : bit_and mask (mask - 1) / 2 ≡ mask / 2 = bit_and-half mask (mask - 1) ∙ rw same (and_self (mask / 2)) in
     let z : e + 0 ≡ e = omega arith in
     rw (low, half, odd, z) refl
 lowest_at mask e (suc m) (suc t) l one none =
-    let d = double m in
+    let d = pow-succ' 2 m in
     let even : mask % 2 ≡ 0 = sym (bit_at_lowest mask) ∙ none 0 (omega arith) in
     let one' : bit_at (mask / 2) t ≡ 1 = sym (bit_at-suc mask t) ∙ one in
     let none' : (i : ℕ) → i < t → bit_at (mask / 2) i ≡ 0 =
     (λ i l. sym (bit_at-suc mask i) ∙ none (suc i) (omega arith)) in
     let i = lowest_at (mask / 2) (e + 1) m t (omega arith) one' none' in
-    let low : bit_and mask (mask - 1) % 2 ≡ 0 = and_low mask (mask - 1) ∙ rw even (omega arith) in
+    let low : bit_and mask (mask - 1) % 2 ≡ 0 = bit_and-lowest mask (mask - 1) ∙ rw even (omega arith) in
     let pred : (mask - 1) / 2 ≡ mask / 2 - 1 = omega arith in
-    let half : bit_and mask (mask - 1) / 2 ≡ bit_and (mask / 2) (mask / 2 - 1) = and_half mask (mask - 1)
+    let half : bit_and mask (mask - 1) / 2 ≡ bit_and (mask / 2) (mask / 2 - 1) = bit_and-half mask (mask - 1)
     ∙ rw pred refl in
     let s : e + 1 + t ≡ e + suc t = omega arith in
     rw (low, half, even) (i ∙ rw s refl)

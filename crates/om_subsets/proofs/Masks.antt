@@ -6,16 +6,16 @@ use Rattle.std.proofs.Common.{ℕ, ◌≡◌, ◌+◌, ◌*◌, ◌/◌, ◌%◌
 use Rattle.std.proofs.Common.{inl, inr, ◌↔◌, true, false, cond}
 use Rattle.std.proofs.lemmas.Bool.{eq-eqb, ne_eqb}
 use Rattle.std.specs.Int.{bit_at}
+use Rattle.std.proofs.Math.Nat.{pow-succ'}
 use Rattle.om_signs.specs.SignVec.{IsMaskOf}
 use Rattle.om_subsets.specs.Subsets.{IsSubsetFrom, IsMember}
 use Rattle.om_subsets.specs.Members.{Chosen, IsSound, members, mask_of, mask_of-members, begins_with, tail}
-use Rattle.om_subsets.proofs.Places.{double}
 use Rattle.om_subsets.proofs.Edits.{member_bit}
 
 pub mask_of-lt : (e m : ℕ) (xs : List ℕ) → mask_of e xs m < 2 ^ m
 mask_of-lt e zero xs = omega arith
 mask_of-lt e (suc m) xs =
-    let d = double m in
+    let d = pow-succ' 2 m in
     let i = mask_of-lt (e + 1) m xs in
     let j = mask_of-lt (e + 1) m (tail xs) in
     elim (begins_with e xs) as

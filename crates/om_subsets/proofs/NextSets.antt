@@ -12,14 +12,14 @@ use Rattle.std.proofs.lemmas.Nat.{one_shl}
 use Rattle.std.proofs.Common.{add-zero, suc-mul, bit_or, mul-le-mul_right, pow-add}
 use Rattle.std.proofs.Math.Arith.{digits_div}
 use Rattle.std.proofs.lemmas.Nat.{mod_below, and_mask}
-use Rattle.std.proofs.Math.Nat.{mod-eq_of_lt}
+use Rattle.std.proofs.Math.Nat.{mod-eq_of_lt, pow-succ'}
 use Rattle.std.specs.Int.{bit_at}
 use Rattle.std.specs.Int.Bits.{or_shifted_r}
 use Rattle.std.proofs.lemmas.Nat.Bits.{shr_and_one, bit_at-lt, bit_at_and, bit_at_ones, bit_at_cat_low}
 use Rattle.om_subsets.specs.Subsets.{choose, rank_from, first_of}
 use Rattle.om_subsets.proofs.Order.{rank_from-lt}
 use Rattle.om_subsets.specs.Members.{members, members-subset}
-use Rattle.om_subsets.proofs.Places.{double, members-ones, from_place, from_start, member_here, none_here}
+use Rattle.om_subsets.proofs.Places.{members-ones, from_place, from_start, member_here, none_here}
 use Rattle.om_subsets.proofs.Places.{rank_from_place, rank_member, rank_skipped, rank_none, length-first_of}
 use Rattle.om_subsets.proofs.Places.{rank-first_of}
 use Rattle.om_subsets.proofs.LastSets.{IsLast}
@@ -38,7 +38,7 @@ moved mask i k n l h =
     let e : 1 * 2 ^ i % 4294967296 ≡ 2 ^ i = one_shl i 32 (omega arith) in
     let f : 1 * 2 ^ k % 4294967296 ≡ 2 ^ k = one_shl k 32 (omega arith) in
     let fits = run_fits in
-    let small : mask % 2 ^ i < 2 ^ (i + 1) = let d = double i in let p = pow_pos i in let m =
+    let small : mask % 2 ^ i < 2 ^ (i + 1) = let d = pow-succ' 2 i in let p = pow_pos i in let m =
     mod_below mask (2 ^ i) p in rw add-one (omega arith) in
     record {
       sum =
@@ -57,7 +57,7 @@ moved_below mask i k n next m l =
     let s = m.sum in
     let a : 2 ^ (k + (i + 1)) ≡ 2 ^ k * 2 ^ (i + 1) = pow-add 2 k (i + 1) in
     let b : 2 ^ (k + (i + 1)) ≤ 2 ^ n = pow_mono (omega arith) in
-    let d : 2 ^ (i + 1) ≡ 2 * 2 ^ i = rw add-one (double i) in
+    let d : 2 ^ (i + 1) ≡ 2 * 2 ^ i = rw add-one (pow-succ' 2 i) in
     let p = pow_pos i in
     let q = mod_below mask (2 ^ i) p in
     let c : (2 ^ k - 1) * 2 ^ (i + 1) + 2 ^ (i + 1) ≡ 2 ^ k * 2 ^ (i + 1) = run (2 ^ k) (2 ^ (i + 1)) (pow_pos k) in
@@ -72,7 +72,7 @@ pub moved_members : (mask i k n next : ℕ) → IsMoved mask i k next → i + 1 
     → from_place next i n ≡ first_of (i + 2) k
 moved_members mask i k n next m l =
     let p = pow_pos i in
-    let d : 2 ^ (i + 1) ≡ 2 ^ i * 2 = let e = double i in rw add-one (omega arith) in
+    let d : 2 ^ (i + 1) ≡ 2 ^ i * 2 = let e = pow-succ' 2 i in rw add-one (omega arith) in
     let q : next / 2 ^ i ≡ (2 ^ k - 1) * 2 =
     quotient (2 ^ k - 1) (2 ^ i) (mask % 2 ^ i) next (2 ^ (i + 1)) p (mod_below mask (2 ^ i) p) d m.sum in
     let s : n - i ≡ suc (n - (i + 1)) = omega arith in

@@ -14,9 +14,20 @@ pub later_list : (low m : ℕ) (ys : List ℕ) → IsSubsetFrom (low + 1) m ys �
 later_list low m [] h = tt
 later_list low m (y ∷ ys) h = let above = head_low (low + 1) m y ys h in let ne : y ≢ low = omega arith in inr (ne, h)
 
+-- a list of some of m numbers is one of some of m + 1
+pub subset_wider : (low m : ℕ) (xs : List ℕ) → IsSubsetFrom low m xs → IsSubsetFrom low (suc m) xs
+subset_wider low m [] h = tt
+subset_wider low zero (x ∷ xs) h = absurd h
+subset_wider low (suc m) (x ∷ xs) (inl (e, h)) = inl (e, subset_wider (low + 1) m xs h)
+subset_wider low (suc m) (x ∷ xs) (inr (n, h)) = inr (n, subset_wider (low + 1) m (x ∷ xs) h)
+
 -- the first number isn't among the later ones
 pub not_later : (low m e : ℕ) (xs : List ℕ) → IsSubsetFrom (low + 1) m xs → e ≡ low → IsMember e xs → ⊥
 not_later low m e xs h q k = let b = (members_from (low + 1) m e xs h k).0 in omega (arith, b, q)
+
+pub not_in_single : (x e : ℕ) → e ≢ x → IsMember e (x ∷ []) → ⊥
+not_in_single x e n (inl q) = n q
+not_in_single x e n (inr h) = h
 
 pub without_other : (e : ℕ) (xs : List ℕ) → (IsMember e xs → ⊥) → without_element e xs ≡ xs
 without_other e [] n = refl

@@ -178,11 +178,11 @@ increasing low (suc m) (x ∷ xs) (inl (e, h)) =
     cons_increasing x xs (λ f q. let b = members_from (low + 1) m f xs h q in omega arith) (increasing (low + 1) m xs h)
 increasing low (suc m) (x ∷ xs) (inr (n, h)) = increasing (low + 1) m (x ∷ xs) h
 
-tail_increasing : (x : ℕ) (xs : List ℕ) → IsIncreasing (x ∷ xs) → IsIncreasing xs
-tail_increasing x [] h = tt
-tail_increasing x (y ∷ ys) h = h.1
+pub increasing_tail : (x : ℕ) (xs : List ℕ) → IsIncreasing (x ∷ xs) → IsIncreasing xs
+increasing_tail x [] h = tt
+increasing_tail x (y ∷ ys) h = h.1
 
-head_below : (x e : ℕ) (xs : List ℕ) → IsIncreasing (x ∷ xs) → IsMember e xs → x < e
+pub head_below : (x e : ℕ) (xs : List ℕ) → IsIncreasing (x ∷ xs) → IsMember e xs → x < e
 head_below x e [] h q = absurd q
 head_below x e (y ∷ ys) h (inl q) = let l = h.0 in omega arith
 head_below x e (y ∷ ys) h (inr q) = let l = h.0 in let i = head_below y e ys h.1 q in omega arith
@@ -195,7 +195,7 @@ from_increasing low (suc m) (x ∷ xs) h w = elim (cases_eq x low) [
   | inl e ↦
       inl (
         e,
-        from_increasing (low + 1) m xs (tail_increasing x xs h)
+        from_increasing (low + 1) m xs (increasing_tail x xs h)
             (λ f q. let above = head_below x f xs h q in let b = w f (inr q) in (omega arith, omega arith)),
       )
   | inr n ↦

@@ -6,9 +6,9 @@
 -- ones-members; from_start; member_here, none_here, rank_member, rank_skipped, rank_none, a turn of the loop;
 -- length-members, length-first_of, rank-first_of
 use Rattle.std.proofs.Common.{ℕ, ◌≡◌, ◌≢◌, ◌+◌, ◌-◌, ◌*◌, ◌/◌, ◌%◌, ◌<◌, ◌≤◌, ◌^◌, List, [], ◌∷◌, length, zero, suc}
-use Rattle.std.proofs.Common.{refl, sym, ◌∙◌, ap, arith, false, inl, inr, pow-suc, bit_and, add-one}
+use Rattle.std.proofs.Common.{refl, sym, ◌∙◌, ap, arith, false, inl, inr, bit_and, add-one}
 use Rattle.std.proofs.Math.Pow.{pow_pos, pow_mono}
-use Rattle.std.proofs.Math.Nat.{div-div-eq-div-mul, div-one}
+use Rattle.std.proofs.Math.Nat.{div-div-eq-div-mul, div-one, pow-succ'}
 use Rattle.std.proofs.lemmas.Bool.{cases_eq, eq-eqb, ne_eqb}
 use Rattle.std.proofs.lemmas.Nat.{one_shl}
 use Rattle.std.proofs.lemmas.Nat.Bits.{shr_and_one}
@@ -21,9 +21,6 @@ use Rattle.om_subsets.specs.Members.{members, begins_with, begins_later}
 pub bits_fit : (n : ℕ) → n ≤ MAX_PLACES → n < 32
 bits_fit n l = omega arith
 
-pub double : (m : ℕ) → 2 ^ suc m ≡ 2 * 2 ^ m
-double m = let p = pow-suc 2 m in omega arith
-
 pub members-zero : (e m : ℕ) → members 0 e m ≡ []
 members-zero e zero = refl
 members-zero e (suc m) = members-zero (e + 1) m
@@ -32,7 +29,7 @@ pub members-ones : (r e m : ℕ) → r ≤ m → members (2 ^ r - 1) e m ≡ fir
 members-ones zero e m l = members-zero e m
 members-ones (suc r) e zero l = absurd (omega arith)
 members-ones (suc r) e (suc m) l =
-    let d = double r in
+    let d = pow-succ' 2 r in
     let p = pow_pos r in
     let odd : (2 ^ suc r - 1) % 2 ≡ 1 = omega arith in
     let half : (2 ^ suc r - 1) / 2 ≡ 2 ^ r - 1 = omega arith in
@@ -54,7 +51,7 @@ pub ones-members : (mask e m : ℕ) → mask < 2 ^ m → ones mask ≡ length (m
 unfolding ones
 ones-members mask e zero l = let z : mask ≡ 0 = omega arith in rw z refl
 ones-members mask e (suc m) l =
-    let d = double m in
+    let d = pow-succ' 2 m in
     let i = ones-members (mask / 2) (e + 1) m (omega arith) in
     elim (cases_eq (mask % 2) 1) [
       | inl o ↦ ones_step mask ∙ rw (o, i) (omega arith)
@@ -73,7 +70,7 @@ from_start mask n =
 
 halved : (mask i : ℕ) → mask / 2 ^ i / 2 ≡ mask / 2 ^ (i + 1)
 halved mask i =
-    let d = double i in
+    let d = pow-succ' 2 i in
     let e : 2 ^ i * 2 ≡ 2 ^ (i + 1) = rw add-one (omega arith) in
     div-div-eq-div-mul mask (2 ^ i) 2 ∙ ap (λ k. mask / k) e
 

@@ -3,11 +3,12 @@
 -- Main results: the first is part of the second (part_from_masks, masks_from_part), they are apart (apart_from_masks,
 -- masks_from_apart), and the members of a set with the common bits (common_members).
 use Rattle.std.specs.Int.{bit_at}
-use Rattle.std.proofs.Common.{ℕ, ◌≡◌, ◌+◌, ◌-◌, ◌<◌, ◌≤◌, ◌↔◌, List, min, bit_and, refl, sym, ap, subst, ◌∙◌, inl, inr}
+use Rattle.std.proofs.Common.{ℕ, ◌≡◌, ◌+◌, ◌-◌, ◌<◌, ◌≤◌, ◌↔◌, List, bit_and, sym, ap, subst, ◌∙◌, inl, inr}
 use Rattle.std.proofs.Common.{arith}
 use Rattle.std.proofs.lemmas.Bool.{cases_lt, cases_eq}
-use Rattle.std.proofs.lemmas.Nat.Bits.{bit_at-zero, bit_at-lt, bit_at_and, bit_at_above, same_from_bits}
+use Rattle.std.proofs.lemmas.Nat.Bits.{bit_at-zero, bit_at_and, bit_at_above, same_from_bits}
 use Rattle.om_signs.specs.SignVec.{IsMaskOf}
+use Rattle.om_signs.proofs.Bits.{bit_zero_if_not_one, bit_at_and_one}
 use Rattle.om_subsets.specs.Subsets.{IsSubsetFrom, IsMember, IsPartOf, AreApart}
 use Rattle.om_subsets.proofs.Order.{members_from}
 
@@ -25,21 +26,6 @@ member_of_bit n s p mask e low high one =
     let back : e - 1 + 1 ≡ e = omega arith in
     subst (λ i. IsMember i s) back ((mask.holds (e - 1) (omega arith)).0 one)
 
-one_or_zero : (p i : ℕ) → (bit_at p i ≡ 1 → ⊥) → bit_at p i ≡ 0
-one_or_zero p i h =
-    elim (cases_eq (bit_at p i) 1) [ inl one ↦ absurd (h one) | inr none ↦ let l = bit_at-lt p i in omega arith ]
-
--- a bit of both
-both_bits : (p q i : ℕ) → bit_at (bit_and p q) i ≡ 1 → (bit_at p i ≡ 1) × (bit_at q i ≡ 1)
-both_bits p q i one =
-    let m : min (bit_at p i) (bit_at q i) ≡ 1 = sym (bit_at_and p q i) ∙ one in
-    let a = bit_at-lt p i in
-    let b = bit_at-lt q i in
-    (omega arith, omega arith)
-
-common_bit : (p q i : ℕ) → bit_at p i ≡ 1 → bit_at q i ≡ 1 → bit_at (bit_and p q) i ≡ 1
-common_bit p q i a b = bit_at_and p q i ∙ rw (a, b) refl
-
 module _ (n : ℕ) (s b : List ℕ) (p q : ℕ) (first : IsMaskOf n (λ i. IsMember (i + 1) s) p)
     (second : IsMaskOf n (λ i. IsMember (i + 1) b) q) (list : IsSubsetFrom 1 n s) where
   pub part_from_masks : bit_and p q ≡ p → IsPartOf s b
@@ -47,7 +33,7 @@ module _ (n : ℕ) (s b : List ℕ) (p q : ℕ) (first : IsMaskOf n (λ i. IsMem
       let bound = members_from 1 n e s list k in
       let one = bit_of_member n s p first list e k in
       member_of_bit n b q second e (omega arith) (omega arith)
-      (both_bits p q (e - 1) (ap (λ m. bit_at m (e - 1)) same ∙ one)).1
+      ((bit_at_and_one p q (e - 1)).0 (ap (λ m. bit_at m (e - 1)) same ∙ one)).1
 
   -- a bit of the first mask is that of an element
   low_bit : (i : ℕ) → bit_at p i ≡ 1 → i < n
@@ -60,19 +46,20 @@ module _ (n : ℕ) (s b : List ℕ) (p q : ℕ) (first : IsMaskOf n (λ i. IsMem
   masks_from_part part = same_from_bits (bit_and p q) p (λ i. elim (cases_eq (bit_at p i) 1) [
     | inl one ↦
         let lt = low_bit i one in
-        common_bit p q i one ((second.holds i lt).1 (part (i + 1) ((first.holds i lt).0 one))) ∙ sym one
-    | inr none ↦ let zero = one_or_zero p i none in bit_at_and p q i ∙ rw zero (omega arith)
+        (bit_at_and_one p q i).1 (one, (second.holds i lt).1 (part (i + 1) ((first.holds i lt).0 one))) ∙ sym one
+    | inr none ↦ let zero = bit_zero_if_not_one p i none in bit_at_and p q i ∙ rw zero (omega arith)
   ])
 
   pub apart_from_masks : IsSubsetFrom 1 n b → bit_and p q ≡ 0 → AreApart s b
   apart_from_masks other none e k l =
-      let one = common_bit p q (e - 1) (bit_of_member n s p first list e k) (bit_of_member n b q second other e l) in
+      let one = (bit_at_and_one p q (e - 1)).1
+      (bit_of_member n s p first list e k, bit_of_member n b q second other e l) in
       let zero = ap (λ m. bit_at m (e - 1)) none ∙ bit_at-zero (e - 1) in
       omega arith
 
   pub masks_from_apart : AreApart s b → bit_and p q ≡ 0
-  masks_from_apart apart = same_from_bits (bit_and p q) 0 (λ i. one_or_zero (bit_and p q) i (λ one.
-      let bits = both_bits p q i one in
+  masks_from_apart apart = same_from_bits (bit_and p q) 0 (λ i. bit_zero_if_not_one (bit_and p q) i (λ one.
+      let bits = (bit_at_and_one p q i).0 one in
       let lt = low_bit i bits.0 in
       apart (i + 1) ((first.holds i lt).0 bits.0) ((second.holds i lt).0 bits.1)) ∙ sym (bit_at-zero i))
 
@@ -81,12 +68,13 @@ module _ (n : ℕ) (s b : List ℕ) (p q : ℕ) (first : IsMaskOf n (λ i. IsMem
   common_members t other lawful both e = (
     λ k.
         let bound = members_from 1 n e t lawful k in
-        let bits = both_bits p q (e - 1) (bit_of_member n t (bit_and p q) both lawful e k) in (
+        let bits = (bit_at_and_one p q (e - 1)).0 (bit_of_member n t (bit_and p q) both lawful e k) in (
           member_of_bit n s p first e (omega arith) (omega arith) bits.0,
           member_of_bit n b q second e (omega arith) (omega arith) bits.1,
         ),
     λ k.
         let bound = members_from 1 n e s list k.0 in
         member_of_bit n t (bit_and p q) both e (omega arith) (omega arith)
-        (common_bit p q (e - 1) (bit_of_member n s p first list e k.0) (bit_of_member n b q second other e k.1)),
+        ((bit_at_and_one p q (e - 1)).1
+        (bit_of_member n s p first list e k.0, bit_of_member n b q second other e k.1)),
   )

@@ -1,8 +1,9 @@
 -- The reverse lexicographic order of the increasing lists.
 --
 -- Main results: each list stands at its place and at no other (`reverse_small`, `at_reverse_rank`, `reverse_listed`),
--- the places follow the order (`reverse_order`); `reverse_skip`, `reverse_take`, `reverse_end`: the set at a place,
--- chosen from the greatest number on.
+-- the places follow the order (`reverse_order`); a list ends with the last number or is one of the numbers before it
+-- (`split_last`, `subset_push`); `reverse_skip`, `reverse_take`, `reverse_end`: the set at a place, chosen from the
+-- greatest number on.
 use Rattle.std.proofs.Common.{ℕ, zero, suc, ◌≡◌, ◌+◌, ◌-◌, ◌*◌, ◌/◌, ◌%◌, ◌<◌, ◌≤◌, ◌^◌, ◌↔◌, ◌⊎◌, List, [], ◌∷◌, ◌++◌}
 use Rattle.std.proofs.Common.{length, map, bit_and, bit_or, w32, refl, sym, ◌∙◌, ap, subst, arith, inl, inr}
 use Rattle.std.specs.Int.{trailing_zeros}
@@ -11,6 +12,7 @@ use Rattle.std.proofs.lemmas.List.{length-append, length-map, length_push, get_o
 use Rattle.std.proofs.lemmas.List.{get_or-map, append_assoc, ext_get_or}
 use Rattle.std.proofs.lemmas.Nat.{one_shl, or_lt, or_shifted}
 use Rattle.std.proofs.Math.Pow.{pow-lt, pow_pos}
+use Rattle.std.proofs.Math.Nat.{pow-succ'}
 use Rattle.om_signs.specs.declared.limits.TheConstants.{MAX_PLACES}
 use Rattle.om_subsets.specs.declared.binomials.TheConstants.{MOST_SUBSETS}
 use Rattle.om_subsets.specs.Subsets.{choose, IsSubsetFrom}
@@ -18,38 +20,33 @@ use Rattle.om_subsets.specs.Lists.{IsIncreasing}
 use Rattle.om_subsets.specs.Members.{members, members-subset}
 use Rattle.om_subsets.specs.Reverse.{number_at, IsRevlexBefore, revlex_subsets, revlex_subset_at, revlex_rank_from}
 use Rattle.om_subsets.specs.Reverse.{revlex_rank_of}
-use Rattle.om_subsets.proofs.Order.{head_low, increasing}
-use Rattle.om_subsets.proofs.Places.{bits_fit, double, members-zero}
+use Rattle.om_subsets.proofs.Order.{head_low, increasing, increasing_tail}
+use Rattle.om_subsets.proofs.Places.{bits_fit, members-zero}
 use Rattle.om_subsets.proofs.Lowest.{lowest, turn}
 use Rattle.om_subsets.proofs.Table.{choose_most}
 use Rattle.om_subsets.proofs.Counts.{choose_none, choose_more, choose_grows}
-use Rattle.om_subsets.proofs.OneElement.{later_list}
+use Rattle.om_subsets.proofs.OneElement.{later_list, subset_wider}
 
 -- ---- lists with and without their last number
 
-wider : (low m : ℕ) (xs : List ℕ) → IsSubsetFrom low m xs → IsSubsetFrom low (suc m) xs
-wider low m [] h = tt
-wider low zero (x ∷ xs) h = absurd h
-wider low (suc m) (x ∷ xs) (inl (e, h)) = inl (e, wider (low + 1) m xs h)
-wider low (suc m) (x ∷ xs) (inr (n, h)) = inr (n, wider (low + 1) m (x ∷ xs) h)
-
-pushed : (low m z : ℕ) (ys : List ℕ) → z ≡ low + m → IsSubsetFrom low m ys → IsSubsetFrom low (suc m) (ys ++ z ∷ [])
-pushed low zero z [] q h = inl (omega arith, tt)
-pushed low zero z (y ∷ ys) q h = absurd h
-pushed low (suc m) z [] q h = later_list low (suc m) (z ∷ []) (pushed (low + 1) m z [] (omega arith) tt)
-pushed low (suc m) z (y ∷ ys) q (inl (e, h)) = inl (e, pushed (low + 1) m z ys (omega arith) h)
-pushed low (suc m) z (y ∷ ys) q (inr (n, h)) = inr (n, pushed (low + 1) m z (y ∷ ys) (omega arith) h)
+pub subset_push : (low m z : ℕ) (ys : List ℕ) → z ≡ low + m → IsSubsetFrom low m ys
+    → IsSubsetFrom low (suc m) (ys ++ z ∷ [])
+subset_push low zero z [] q h = inl (omega arith, tt)
+subset_push low zero z (y ∷ ys) q h = absurd h
+subset_push low (suc m) z [] q h = later_list low (suc m) (z ∷ []) (subset_push (low + 1) m z [] (omega arith) tt)
+subset_push low (suc m) z (y ∷ ys) q (inl (e, h)) = inl (e, subset_push (low + 1) m z ys (omega arith) h)
+subset_push low (suc m) z (y ∷ ys) q (inr (n, h)) = inr (n, subset_push (low + 1) m z (y ∷ ys) (omega arith) h)
 
 -- a list that ends with z, without it
-record EndsWith (low m z : ℕ) (xs : List ℕ) : Type 0 where
-  front : List ℕ
-  whole : xs ≡ front ++ z ∷ []
-  lawful : IsSubsetFrom low m front
+pub record EndsWith (low m z : ℕ) (xs : List ℕ) : Type 0 where
+  pub front : List ℕ
+  pub whole : xs ≡ front ++ z ∷ []
+  pub lawful : IsSubsetFrom low m front
 
 ended_later : (low m z : ℕ) (xs : List ℕ) → EndsWith (low + 1) m z xs → EndsWith low (suc m) z xs
 ended_later low m z xs h = record { front = h.front; whole = h.whole; lawful = later_list low m h.front h.lawful }
 
-split_last : (low m z : ℕ) (xs : List ℕ) → z ≡ low + m → IsSubsetFrom low (suc m) xs → IsSubsetFrom low m xs
+pub split_last : (low m z : ℕ) (xs : List ℕ) → z ≡ low + m → IsSubsetFrom low (suc m) xs → IsSubsetFrom low m xs
     ⊎ EndsWith low m z xs
 split_last low m z [] q h = inl tt
 split_last low zero z (x ∷ []) q (inl (e, h)) = let s : x ≡ z = omega arith in
@@ -152,12 +149,12 @@ pub record IsReverseListed (n r k : ℕ) (xs : List ℕ) : Type 0 where
   pub place : revlex_rank_of xs ≡ k
 
 listed_wider : (n r k : ℕ) (xs : List ℕ) → IsReverseListed n r k xs → IsReverseListed (suc n) r k xs
-listed_wider n r k xs h = record { lawful = wider 1 n xs h.lawful; size = h.size; place = h.place }
+listed_wider n r k xs h = record { lawful = subset_wider 1 n xs h.lawful; size = h.size; place = h.place }
 
 listed_pushed : (n r k : ℕ) (xs : List ℕ) → IsReverseListed n r k xs
     → IsReverseListed (suc n) (suc r) (choose n (suc r) + k) (xs ++ suc n ∷ [])
 listed_pushed n r k xs h = record {
-  lawful = pushed 1 n (suc n) xs (omega arith) h.lawful;
+  lawful = subset_push 1 n (suc n) xs (omega arith) h.lawful;
   size = length_push xs (suc n) ∙ (let s = h.size in omega arith);
   place = rank_ended n xs ∙ rw (h.size, h.place) refl;
 }
@@ -241,10 +238,6 @@ fits_next i a x (y ∷ ys) f h =
     let g = choose_grows x (y - 1) (i + 1) (omega arith) in
     (omega arith, omega arith)
 
-tail_increasing : (x : ℕ) (xs : List ℕ) → IsIncreasing (x ∷ xs) → IsIncreasing xs
-tail_increasing x [] h = tt
-tail_increasing x (y ∷ ys) h = h.1
-
 -- the smaller first number counts less
 first_counts : (i a b x y : ℕ) → 1 ≤ x → a < choose (x - 1) i → x < y
     → a + choose (x - 1) (i + 1) < b + choose (y - 1) (i + 1)
@@ -265,7 +258,7 @@ counts_follow i a b [] (y ∷ ys) l hx hy fx fy = absurd (omega arith)
 counts_follow i a b (x ∷ xs) [] l hx hy fx fy = absurd (omega arith)
 counts_follow i a b (x ∷ xs) (y ∷ ys) l hx hy fx fy =
     let rest = counts_follow (i + 1) (a + choose (x - 1) (i + 1)) (b + choose (y - 1) (i + 1)) xs ys (omega arith)
-    (tail_increasing x xs hx) (tail_increasing y ys hy) (fits_next i a x xs fx hx) (fits_next i b y ys fy hy) in
+    (increasing_tail x xs hx) (increasing_tail y ys hy) (fits_next i a x xs fx hx) (fits_next i b y ys fy hy) in
     (λ lt. forth (rest.0 (omega arith)), λ h. let lt = rest.1 (back h) in omega arith)
   where
     forth : IsCountedBefore (a + choose (x - 1) (i + 1)) (b + choose (y - 1) (i + 1)) xs ys
@@ -354,7 +347,7 @@ pub reverse_skip : (mask i left rest r k n : ℕ) → i < n → rest < choose i 
     → IsReverseBegun mask (suc i) left rest r k n → IsReverseBegun mask i left rest r k n
 reverse_skip mask i left rest r k n l few b = record {
   high = 2 * b.high;
-  mask_is = b.mask_is ∙ rw (double i) (times_double b.high (2 ^ i));
+  mask_is = b.mask_is ∙ rw (pow-succ' 2 i) (times_double b.high (2 ^ i));
   within = b.within;
   place = few;
   listed = b.listed ∙ ap (λ xs. xs ++ members b.high (suc i + 1) (n - suc i)) (reverse_front i left rest few)
@@ -395,7 +388,7 @@ reverse_take mask i (suc left) rest r k n l h ge b = let o : suc left - 1 ≡ le
 
     whole : bit_or mask (2 ^ i) ≡ (1 + 2 * b.high) * 2 ^ i
     whole =
-        let d = double i in
+        let d = pow-succ' 2 i in
         let p = pow_pos i in
         let less : 2 ^ i < 2 ^ suc i = omega arith in
         ap (λ m. bit_or m (2 ^ i)) b.mask_is ∙ or_shifted b.high (suc i) (2 ^ i) less ∙ rw d (omega arith)

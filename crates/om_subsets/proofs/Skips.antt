@@ -4,7 +4,7 @@
 use Rattle.std.specs.Prelude.{ℕ, ◌≡◌, ◌≢◌, ◌+◌, ◌-◌, ◌*◌, ◌/◌, ◌%◌, ◌<◌, ◌≤◌, ◌^◌, List, ◌∷◌, map, refl, bit_and, cond}
 use Rattle.std.specs.Prelude.{nat_lt}
 use Rattle.std.specs.Int.{bit_at}
-use Rattle.std.proofs.Common.{zero, suc, sym, ◌∙◌, ap, inl, inr, arith, min, max, pow-suc, bit_or}
+use Rattle.std.proofs.Common.{zero, suc, sym, ◌∙◌, ap, inl, inr, arith, min, max, bit_or}
 use Rattle.std.proofs.lemmas.Bool.{cases_eq, eq-eqb, ne_eqb, lt-ltb, le-ltb}
 use Rattle.std.proofs.lemmas.Nat.{or_lt, and_le_l, pow-add, pow_pos}
 use Rattle.std.proofs.lemmas.Nat.Bits.{bit_at_lowest, bit_at-suc, bit_at-zero, bit_at-lt, bit_at_and, bit_at_or}
@@ -12,7 +12,7 @@ use Rattle.std.proofs.lemmas.Nat.Bits.{bit_at_ones, bit_at_ones_above, bit_at_ca
 use Rattle.std.proofs.Math.Nat.{div-mul-le_self, div-div-eq-div-mul, mod-eq_of_lt}
 use Rattle.std.proofs.Math.Pow.{pow_mono}
 use Rattle.om_signs.specs.declared.limits.TheConstants.{MAX_PLACES}
-use Rattle.om_signs.proofs.Bits.{one_shl_32}
+use Rattle.om_signs.proofs.Bits.{one_shl_32, pow-add_one}
 use Rattle.om_subsets.specs.Members.{members, mask_of}
 use Rattle.om_subsets.specs.Subsets.{IsSubsetFrom}
 use Rattle.om_subsets.proofs.Edits.{members_same}
@@ -123,17 +123,14 @@ spread_bits mask k m = record {
         ∙ bit_at_cat_high (mask / 2 ^ k) (k + 1) 0 (suc i) (pow_pos (k + 1)) (omega arith)
         ∙ ap (bit_at (mask / 2 ^ k)) a ∙ bit_of_quotient mask k (i - k) ∙ ap (bit_at mask) b
 
-double : (k : ℕ) → 2 ^ (k + 1) ≡ 2 * 2 ^ k
-double k = let e : k + 1 ≡ suc k = omega arith in ap (λ j. 2 ^ j) e ∙ (let p = pow-suc 2 k in omega (arith, p))
-
 behind_small : (mask k n : ℕ) → mask < 2 ^ n → mask / 2 ^ k * 2 ^ (k + 1) < 2 ^ (n + 1)
 behind_small mask k n l =
     let p = div-mul-le_self mask (2 ^ k) in
-    rw (double k, double n) (omega (arith, p, l))
+    rw (pow-add_one k, pow-add_one n) (omega (arith, p, l))
 
 pub spread_small : (mask k n : ℕ) → mask < 2 ^ n → spread mask k < 2 ^ (n + 1)
 spread_small mask k n l =
-    let b = double n in
+    let b = pow-add_one n in
     let a = and_le_l mask (2 ^ k - 1) in
     or_lt (n + 1) (bit_and mask (2 ^ k - 1)) (mask / 2 ^ k * 2 ^ (k + 1)) (omega (arith, a, b, l))
     (behind_small mask k n l)

@@ -8,12 +8,14 @@ use Rattle.std.specs.Int.{bit_at}
 use Rattle.std.proofs.Math.Pow.{pow-lt}
 use Rattle.std.proofs.lemmas.Nat.{one_shl, or_lt}
 use Rattle.std.proofs.lemmas.Nat.Bits.{bit_at_or, bit_at_above, bit_at-pow_same, bit_at-pow_other, shr_and_one}
+use Rattle.std.proofs.Math.Nat.{pow-succ'}
+use Rattle.om_signs.proofs.Bits.{not_zero_and_one}
 use Rattle.om_subsets.specs.Subsets.{choose, rank_from, subset_at}
 use Rattle.om_subsets.specs.Members.{members, members-subset}
 use Rattle.om_subsets.proofs.Order.{get_or-rank_from}
 use Rattle.om_subsets.proofs.Counts.{choose_none}
 use Rattle.om_subsets.proofs.Places.{from_place, rank_from_place, member_here, none_here, rank_member, rank_skipped}
-use Rattle.om_subsets.proofs.Places.{rank_none, double}
+use Rattle.om_subsets.proofs.Places.{rank_none}
 
 -- a mask that begins as this one, and goes on with a set of this size and place, has size r and place k
 abbrev pub Completes : ℕ → ℕ → ℕ → ℕ → ℕ → ℕ → ℕ → Type 0
@@ -26,11 +28,8 @@ pub record IsBegun (mask i left rest r k n : ℕ) : Type 0 where
   pub place : rest < choose (n - i) left
   pub completes : Completes mask i left rest r k n
 
-differ : (b : ℕ) → b ≡ 0 → b ≡ 1 → ⊥
-differ b z o = absurd (omega arith)
-
 grow : (mask i : ℕ) → mask < 2 ^ i → mask < 2 ^ (i + 1)
-grow mask i l = let d = double i in rw add-one (omega arith)
+grow mask i l = let d = pow-succ' 2 i in rw add-one (omega arith)
 
 pub begun_done : (mask i rest r k n : ℕ) → i < n → IsBegun mask i 0 rest r k n → IsBegun mask (i + 1) 0 rest r k n
 begun_done mask i rest r k n l b = record {
@@ -39,7 +38,7 @@ begun_done mask i rest r k n l b = record {
       omega arith);
   completes = λ m same len rank.
       let bit : bit_at m i ≡ 0 = same i (omega arith) ∙ bit_at_above mask i i b.small (omega arith) in
-      let none : bit_and (m / 2 ^ i) 1 ≢ 1 = (λ e. differ (bit_at m i) bit (sym (shr_and_one m i) ∙ e)) in
+      let none : bit_and (m / 2 ^ i) 1 ≢ 1 = (λ e. not_zero_and_one (bit_at m i) bit (sym (shr_and_one m i) ∙ e)) in
       let here = none_here m i n l none in
       let len0 = ap length here ∙ len in
       b.completes m (λ j lj. same j (omega arith)) len0
@@ -57,7 +56,7 @@ begun_skip mask i left rest r k n l some le b = record {
   place = pascal (n - i) (n - 1 - i) (n - (i + 1)) left rest (omega arith) (omega arith) some b.place le;
   completes = λ m same len rank.
       let bit : bit_at m i ≡ 0 = same i (omega arith) ∙ bit_at_above mask i i b.small (omega arith) in
-      let none : bit_and (m / 2 ^ i) 1 ≢ 1 = (λ e. differ (bit_at m i) bit (sym (shr_and_one m i) ∙ e)) in
+      let none : bit_and (m / 2 ^ i) 1 ≢ 1 = (λ e. not_zero_and_one (bit_at m i) bit (sym (shr_and_one m i) ∙ e)) in
       let s : 0 < length (from_place m (i + 1) n) = omega arith in
       let step = rank_skipped m i n l none s in
       let q = ap (λ x. choose (n - 1 - i) (x - 1)) len in

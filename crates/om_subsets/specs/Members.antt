@@ -1,8 +1,8 @@
 -- The members of a mask of elements.
 use Rattle.std.specs.Prelude.{ℕ, ◌≡◌, ◌+◌, ◌*◌, ◌/◌, ◌%◌, ◌<◌, ◌≤◌, ◌^◌, List, [], ◌∷◌, cond, nat_eq, Bool, false, refl}
 use Rattle.std.proofs.Common.{zero, suc, arith, inl, inr}
-use Rattle.std.proofs.Common.{pow-suc}
 use Rattle.std.proofs.lemmas.Bool.{cases_eq, eq-eqb, ne_eqb, eqb-false}
+use Rattle.std.proofs.Math.Nat.{pow-succ'}
 use Rattle.om_signs.specs.declared.limits.TheConstants.{MAX_PLACES}
 use Rattle.om_subsets.specs.Subsets.{IsSubsetFrom}
 
@@ -51,16 +51,13 @@ begins_later mask e d (suc m) l =
 pub mask_of-members : (mask e m : ℕ) → mask < 2 ^ m → mask_of e (members mask e m) m ≡ mask
 mask_of-members mask e zero l = omega arith
 mask_of-members mask e (suc m) l =
-    let p : 2 ^ suc m ≡ 2 * 2 ^ m = double m in
+    let p : 2 ^ suc m ≡ 2 * 2 ^ m = pow-succ' 2 m in
     let i : mask_of (e + 1) (members (mask / 2) (e + 1) m) m ≡ mask / 2 =
     mask_of-members (mask / 2) (e + 1) m (omega arith) in
     elim (cases_eq (mask % 2) 1) [
       | inl o ↦ rw (eq-eqb (mask % 2) 1 o) (rw (eq-eqb e e refl) (rw i (omega arith)))
       | inr z ↦ rw (ne_eqb (mask % 2) 1 z) (rw (begins_later (mask / 2) e 1 m (omega arith)) (rw i (omega arith)))
     ]
-  where
-    double : (m : ℕ) → 2 ^ suc m ≡ 2 * 2 ^ m
-    double m = let p = pow-suc 2 m in omega arith
 
 pub subset_later : (e m : ℕ) (xs : List ℕ) → begins_with e xs ≡ false → IsSubsetFrom (e + 1) m xs
     → IsSubsetFrom e (suc m) xs

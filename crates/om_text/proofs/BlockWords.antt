@@ -6,7 +6,7 @@ use Rattle.std.proofs.Common.{◌≡◌, ℕ, suc, ◌+◌, ◌<◌, ◌≤◌, 
 use Rattle.std.proofs.Common.{length, drop, nat_eq, nat_le, refl, ap, ◌∙◌, arith, inl, inr}
 use Rattle.std.specs.Prelude.{Some, IfSome, decimal}
 use Rattle.std.specs.List.{list_all, position_or_len, before_first, after_first}
-use Rattle.std.proofs.lemmas.Bool.{le-leb}
+use Rattle.std.proofs.lemmas.Bool.{le-leb, cases_Bool, and_parts}
 use Rattle.std.proofs.lemmas.Fmt.{length-decimal-le}
 use Rattle.std.proofs.lemmas.List.Folds.{list_all-append}
 use Rattle.std.proofs.Math.Seq.{take-append_seam}
@@ -17,7 +17,6 @@ use Rattle.om_text.specs.Words.{is_digit, number_from, is_decimal, begins_with, 
 use Rattle.om_text.specs.Blocks.{position_of, is_dash, with_positions, block_of}
 use Rattle.om_text.specs.Form.{IsShort}
 use Rattle.om_text.specs.Print.{block_text}
-use Rattle.om_text.proofs.Distinct.{either, both}
 use Rattle.om_text.proofs.Digits.{digit_at}
 use Rattle.om_text.proofs.Numerals.{decimal_word, number_word}
 use Rattle.om_text.proofs.Texts.{is_word_byte}
@@ -42,11 +41,12 @@ three_digits (x ∷ y ∷ z ∷ u ∷ w) h l = absurd (omega arith)
 
 -- a plain word of at most three digits is a position
 pub plain_within : (w : List ℕ) → length w ≤ MAX_POSITION_DIGITS → IfSome (plain w) (λ k. k ≤ MAX_POSITION)
-plain_within w l = elim (either (is_plain w)) [
+plain_within w l = elim (cases_Bool (is_plain w)) [
   | inl e ↦
-      let p = both (is_decimal w) (nat_le (length w) MAX_PLAIN_DIGITS) e in
-      let q = both (list_all is_digit w && nat_le 1 (length w)) (nat_eq (length w) 1 || not (begins_with 48 w)) p.0 in
-      let d = both (list_all is_digit w) (nat_le 1 (length w)) q.0 in
+      let p = and_parts (is_decimal w) (nat_le (length w) MAX_PLAIN_DIGITS) e in
+      let q = and_parts (list_all is_digit w && nat_le 1 (length w))
+      (nat_eq (length w) 1 || not (begins_with 48 w)) p.0 in
+      let d = and_parts (list_all is_digit w) (nat_le 1 (length w)) q.0 in
       rw e (three_digits w d.0 l)
   | inr n ↦ rw n tt
 ]
@@ -55,7 +55,7 @@ pub plain_small : (w : List ℕ) (k : ℕ) → length w ≤ MAX_POSITION_DIGITS 
 plain_small w k l h = let i : IfSome (plain w) (λ k. k ≤ MAX_POSITION) = plain_within w l in let j = rw (← h) at i in j
 
 pub position_within : (w : List ℕ) → IfSome (position_of w) (λ k. k ≤ MAX_POSITION)
-position_within w = elim (either (nat_le (length w) MAX_POSITION_DIGITS)) [
+position_within w = elim (cases_Bool (nat_le (length w) MAX_POSITION_DIGITS)) [
   | inl e ↦ rw e (plain_within w (at (length w) e))
   | inr n ↦ rw n tt
 ]
@@ -71,7 +71,7 @@ digit_no_dash b h = grind arith
 dash_at : (xs ys : List ℕ) → list_all is_digit xs ≡ true → position_or_len is_dash (xs ++ 45 ∷ ys) ≡ length xs
 dash_at [] ys h = refl
 dash_at (x ∷ xs) ys h =
-    let a = both (is_digit x) (list_all is_digit xs) h in
+    let a = and_parts (is_digit x) (list_all is_digit xs) h in
     rw (digit_no_dash x a.0) (let i = dash_at xs ys a.1 in omega arith)
 
 before_dash : (xs ys : List ℕ) → list_all is_digit xs ≡ true → before_first is_dash (xs ++ 45 ∷ ys) ≡ xs

@@ -10,6 +10,7 @@ use Rattle.std.specs.Fmt.{signed_decimal}
 use Rattle.std.proofs.lemmas.List.{length-map, take-append-drop}
 use Rattle.std.proofs.lemmas.List.Elements.{All-head, All-tail}
 use Rattle.std.proofs.lemmas.List.Folds.{list_all-append}
+use Rattle.std.proofs.lemmas.Bool.{and_parts}
 use Rattle.om_signs.specs.declared.limits.TheConstants.{MAX_COORDINATE}
 use Rattle.om_signs.specs.declared.block.Block.{Block}
 use Rattle.om_signs.specs.declared.sign.Sign.{Sign}
@@ -28,7 +29,6 @@ use Rattle.om_text.proofs.Feeds.{is_one_line}
 use Rattle.om_text.proofs.Numerals.{IsSigned, signed_word}
 use Rattle.om_text.proofs.Texts.{word_one_line, words_one, words_three, three_one_line, signs_are_word, single}
 use Rattle.om_text.proofs.Texts.{bytes_are_signs}
-use Rattle.om_text.proofs.Distinct.{both}
 
 -- ---- lines of signs
 
@@ -70,7 +70,7 @@ cut_rows (suc k) (b ∷ bs) h l s =
     let whole : row ++ rest ≡ b ∷ bs = take-append-drop 64 (b ∷ bs) in
     let split : (list_all is_sign row && list_all is_sign rest) ≡ true = sym (list_all-append is_sign row rest)
     ∙ ap (list_all is_sign) whole ∙ s in
-    let c = both (list_all is_sign row) (list_all is_sign rest) split in
+    let c = and_parts (list_all is_sign row) (list_all is_sign rest) split in
     let n = length-drop 64 (b ∷ bs) in
     let i : AreCut k rest = cut_rows k rest (omega arith) (omega arith) c.1 in
     record {
@@ -87,7 +87,8 @@ map_rows xs = let n = length-map xs byte_of in
 pub map_each : (r n : ℕ) (ls : List (List (List ℕ))) → list_all are_signs ls ≡ true
     → list_all (is_body_line (headed kinds.Chirotope (r, n))) ls ≡ true
 map_each r n [] h = refl
-map_each r n (l ∷ ls) h = let a = both (are_signs l) (list_all are_signs ls) h in rw (a.0, map_each r n ls a.1) refl
+map_each r n (l ∷ ls) h = let a = and_parts (are_signs l) (list_all are_signs ls) h in
+    rw (a.0, map_each r n ls a.1) refl
 
 -- ---- the lines of members
 

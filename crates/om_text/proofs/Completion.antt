@@ -2,6 +2,7 @@
 --
 -- Main definitions: IsCompletion
 -- Main results: body_completion, completion
+use Rattle.std.proofs.Math.Bool.{and-false}
 use Rattle.std.proofs.Common.{◌≡◌, ℕ, zero, suc, ◌+◌, ◌-◌, ◌<◌, ◌≤◌, List, [], ◌∷◌, ◌++◌, Bool, true, false, cond, ◌&&◌}
 use Rattle.std.proofs.Common.{length, refl, ap, ◌∙◌, arith, length-append, append-nil, eq-eqb}
 use Rattle.std.specs.Prelude.{ℤ, Result, Ok, Err, codes, filter}
@@ -32,7 +33,7 @@ use Rattle.om_text.specs.Points.{point_on}
 use Rattle.om_text.specs.Reading.{step, takes_settings, finished_draft, added}
 use Rattle.om_text.proofs.Feeds.{is_one_line}
 use Rattle.om_text.proofs.Filling.{signs_not_end}
-use Rattle.om_text.proofs.Course.{Shows, run_words, and_no}
+use Rattle.om_text.proofs.Course.{Shows, run_words}
 use Rattle.om_text.proofs.Language.{bind}
 
 -- ---- maps
@@ -92,7 +93,7 @@ drawn n names s b g = record { document = record { elements = n; body = b; names
 -- a draft with this body is complete at its end line
 ends_at : (n : ℕ) (names : List (List ℕ)) (s : Setting) (b : Body) (g : Stage) → is_complete_body b n ≡ true
     → run_words (Open (drawn n names s b g)) (end_line ∷ []) ≡ Ok (Closed (finished_draft (drawn n names s b g)))
-ends_at n names s b g e = rw (and_no (takes_settings g), e) refl
+ends_at n names s b g e = rw (and-false (takes_settings g), e) refl
 
 ended : (n : ℕ) (names : List (List ℕ)) (s : Setting) (b : Body) (g : Stage) → is_complete_body b n ≡ true
     → IsCompletion (Open (drawn n names s b g)) (codes "end" ∷ [])
@@ -142,7 +143,7 @@ one_point : (n : ℕ) (names : List (List ℕ)) (s : Setting) (g : Stage) (ps : 
 unfolding zero_words
 one_point n names s g ps h =
     rw (
-      and_no (takes_settings g),
+      and-false (takes_settings g),
       le-leb (length (ps ++ point_on zero_words ∷ [])) n (omega (arith, length-append ps (point_on zero_words ∷ []))),
     )
     refl

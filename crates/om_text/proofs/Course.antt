@@ -3,11 +3,14 @@
 --
 -- Main definitions: IsStage, IsOpen, Shows, IsTaken, run_words
 -- Main results: taken, step_shows, step_error, spelled_run, open_no_end, spelled_no_end
-use Rattle.std.proofs.Common.{◌≡◌, ℕ, List, [], ◌∷◌, ◌++◌, Bool, true, false, cond, not, ◌&&◌, ◌||◌, ◌⊎◌, inl, inr}
+use Rattle.std.proofs.Math.Bool.{and-false, or-true}
+use Rattle.std.proofs.Common.{◌≡◌, ℕ, List, [], ◌∷◌, ◌++◌, Bool, true, false, cond, not, ◌&&◌, ◌⊎◌, inl, inr}
 use Rattle.std.proofs.Common.{refl, sym, ap, subst, ◌∙◌, append_assoc, append-nil}
 use Rattle.std.specs.Prelude.{Option, Some, None, Result, Ok, Err, is_none, option_and_then, option_map}
 use Rattle.std.specs.List.{list_any, list_all}
 use Rattle.std.proofs.lemmas.List.Folds.{list_any-append}
+use Rattle.std.proofs.lemmas.Bool.{cases_Bool, and_parts}
+use Rattle.om_signs.proofs.Results.{ok-injective}
 use Rattle.om_text.specs.declared.document.Document.{Document}
 use Rattle.om_text.specs.declared.code.Code.{Code}
 use Rattle.om_text.specs.declared.code.Code.TheVariants as code
@@ -35,7 +38,6 @@ use Rattle.om_text.specs.Reading.{with_heading, takes_settings, with_setting, af
 use Rattle.om_text.specs.Reading.{after_end, added}
 use Rattle.om_text.proofs.Language as any
 use Rattle.om_text.proofs.Language.{bind}
-use Rattle.om_text.proofs.Distinct.{either, both}
 use Rattle.om_text.proofs.Filling.{is_line-Decides, line_not_end, has_signs_filled, has_length_filled}
 use Rattle.om_text.proofs.Filling.{has_blocks_filled, has_numbers_filled, filled_added, room_before, room_empty}
 use Rattle.om_text.proofs.Filling.{empty_filled}
@@ -94,13 +96,6 @@ pub cond_err : (b : Bool) (r : Result State Code) (c : Code) (t : State) → con
 cond_err true r c t h = cc
 cond_err false r c t h = (refl, h)
 
-pub ok_same : (s t : State) → ◌≡◌ {A = Result State Code} (Ok s) (Ok t) → s ≡ t
-ok_same s t h = cc
-
-pub and_no : (a : Bool) → (a && false) ≡ false
-and_no true = refl
-and_no false = refl
-
 -- ---- setting lines
 
 -- what a line that begins as a setting line does makes of a draft, where one may come after the setting lines ss of a
@@ -144,7 +139,7 @@ setting_step d ss w names s Names h i y =
     (subst (λ ss. IsSet d ss w (after_setting Names (draft_of [] Plain (filled Plain d []) Names) w)) (sym q) first))
   where
     first : IsSet d [] w (after_setting Names (draft_of [] Plain (filled Plain d []) Names) w)
-    first = elim (either (is_names_line d.elements w)) [
+    first = elim (cases_Bool (is_names_line d.elements w)) [
       | inl e ↦ accepted (other_words w) Plain Choice (rw e refl) (rw e refl) (refl, refl, (w, refl, e))
       | inr n ↦ rw n (chosen d [] w [] Names (setting_in d.body w) refl (rw n refl) (λ v. rw n refl))
     ]
@@ -182,7 +177,7 @@ record IsBefore (ls : List (List (List ℕ))) (d : Draft) (w : List (List ℕ)) 
 before : (ls : List (List (List ℕ))) (d : Draft) (w : List (List ℕ)) → IsOpen ls d
     → (takes_settings d.stage && begins_as_setting w) ≡ true → IsBefore ls d w
 before ls d w o h =
-    let b = both (takes_settings d.stage) (begins_as_setting w) h in
+    let b = and_parts (takes_settings d.stage) (begins_as_setting w) h in
     let k = taking o.version o.head o.settings o.body d.stage o.stage b.0 in
     let set : settings_of o.head o.settings ≡ Some (o.names, o.setting) =
     subst (λ v. settings_in v o.head o.settings ≡ Some (o.names, o.setting)) k.0 o.set in
@@ -223,7 +218,7 @@ taken d w t h =
         → cond a (cond b (cond f (cond c (cond e (Ok x) (Err code.Many)) (Err code.Number)) (Err code.Block))
         (Err code.Length)) (Err code.Sign) ≡ Ok t → (a ≡ true) × (b ≡ true) × (f ≡ true) × (c ≡ true) × (e ≡ true)
         × (x ≡ t)
-    at true true true true true x t h = (refl, refl, refl, refl, refl, ok_same x t h)
+    at true true true true true x t h = (refl, refl, refl, refl, refl, ok-injective x t h)
     at true true true true false x t h = cc
     at true true true false e x t h = cc
     at true true false c e x t h = cc
@@ -234,7 +229,7 @@ list_all-append : (p : List (List ℕ) → Bool) (xs : List (List (List ℕ))) (
     → p y ≡ true → list_all p (xs ++ y ∷ []) ≡ true
 list_all-append p [] y h e = rw e refl
 list_all-append p (x ∷ xs) y h e =
-    let b = both (p x) (list_all p xs) h in
+    let b = and_parts (p x) (list_all p xs) h in
     rw (b.0, list_all-append p xs y b.1 e) refl
 
 any_last : (xs : List (List (List ℕ))) (y : List (List ℕ)) → has_any (xs ++ y ∷ []) ≡ true
@@ -262,7 +257,7 @@ heading_ok v d t h =
     (code.Elements d.elements) t h in
     let b = cond_ok (has_rank d) (in_size v d) (code.Rank (rank_of_body d.body)) t a.1 in
     let c = cond_ok (has_size d) (Ok (Open (first_draft v d))) (code.Size (values_of_body d.body)) t b.1 in
-    record { elements = a.0; rank = b.0; size = c.0; state = ok_same _ _ c.1 }
+    record { elements = a.0; rank = b.0; size = c.0; state = ok-injective _ _ c.1 }
 
 heading_shows : (f : List (List ℕ)) (v : Version) (o : Option Document) (w : List (List ℕ)) (t : State)
     → version_of f ≡ Some v → heading w ≡ o → with_heading v o ≡ Ok t → Shows t (f ∷ w ∷ [])
@@ -327,7 +322,7 @@ setting_shows ls d w t b h = at b.step
           stage = i;
           value = refl;
         } in
-        subst (λ x. Shows x (ls ++ w ∷ [])) (ok_same _ _ (sym e ∙ h)) n
+        subst (λ x. Shows x (ls ++ w ∷ [])) (ok-injective _ _ (sym e ∙ h)) n
 
 body_shows : (ls : List (List (List ℕ))) (d : Draft) (w : List (List ℕ)) (t : State) → IsOpen ls d
     → after_body d w ≡ Ok t → Shows t (ls ++ w ∷ [])
@@ -395,22 +390,22 @@ end_shows ls d t o h =
       complete = sym (ap (λ e. is_complete e.document) o.value) ∙ a.0;
       value = ap finished_draft o.value;
     } in
-    subst (λ s. Shows s (ls ++ end_line ∷ [])) (ok_same _ _ a.1) n
+    subst (λ s. Shows s (ls ++ end_line ∷ [])) (ok-injective _ _ a.1) n
 
 version_shows : (o : Option Version) (w : List (List ℕ)) (t : State) → version_of w ≡ o → with_version o ≡ Ok t
     → Shows t (w ∷ [])
 version_shows None w t e h = cc
-version_shows (Some v) w t e h = subst (λ s. Shows s (w ∷ [])) (ok_same (Versioned v) t h) (w, refl, e)
+version_shows (Some v) w t e h = subst (λ s. Shows s (w ∷ [])) (ok-injective (Versioned v) t h) (w, refl, e)
 
 -- a step goes on to a state that stands for one line more
 pub step_shows : (s : State) (ls : List (List (List ℕ))) (w : List (List ℕ)) (t : State) → Shows s ls → step s w ≡ Ok t
     → Shows t (ls ++ w ∷ [])
 step_shows Start ls w t o h = subst (λ x. Shows t (x ++ w ∷ [])) (sym o) (version_shows (version_of w) w t refl h)
 step_shows (Versioned v) ls w t o h = subst (λ x. Shows t (x ++ w ∷ [])) (sym o.1) (kind_shows o.0 v w t o.2 h)
-step_shows (Open d) ls w t o h = elim (either (takes_settings d.stage && begins_as_setting w)) [
+step_shows (Open d) ls w t o h = elim (cases_Bool (takes_settings d.stage && begins_as_setting w)) [
   | inl y ↦ let a : after_setting d.stage d w ≡ Ok t = rw y at h in setting_shows ls d w t (before ls d w o y) a
   | inr f ↦ let g : cond (is_line w end_line) (after_end d) (after_body d w) ≡ Ok t = rw f at h in
-      elim (either (is_line w end_line)) [
+      elim (cases_Bool (is_line w end_line)) [
         | inl e ↦ let q : w ≡ end_line = (is_line-Decides w end_line).0 e in
             let a : after_end d ≡ Ok t = rw e at g in
             subst (λ x. Shows t (ls ++ x ∷ [])) (sym q) (end_shows ls d t o a)
@@ -424,11 +419,11 @@ step_shows (Closed d) ls w t o h = cc
 not_all_begin : (ss ls : List (List (List ℕ))) → list_any begins_as_setting ls ≡ false → has_any ls ≡ true
     → list_all begins_as_setting (ss ++ ls) ≡ false
 not_all_begin [] [] n a = cc
-not_all_begin [] (l ∷ ls) n a = elim (either (begins_as_setting l)) [
+not_all_begin [] (l ∷ ls) n a = elim (cases_Bool (begins_as_setting l)) [
   | inl y ↦ let z = rw y at n in cc
   | inr f ↦ rw f refl
 ]
-not_all_begin (s ∷ ss) ls n a = rw (not_all_begin ss ls n a) (and_no (begins_as_setting s))
+not_all_begin (s ∷ ss) ls n a = rw (not_all_begin ss ls n a) (and-false (begins_as_setting s))
 
 -- a line isn't in the place of a setting line
 past_settings : (v : Version) (d : Document) (ss ls : List (List (List ℕ))) (g : Stage) (w : List (List ℕ))
@@ -437,11 +432,11 @@ past_settings : (v : Version) (d : Document) (ss ls : List (List (List ℕ))) (g
 past_settings v d ss ls InBody w (inl e) n h t = let z = sym e ∙ t in cc
 past_settings v d ss ls InBody w (inr a) n h t = rw (not_all_begin ss ls n a) refl
 past_settings v d ss ls Names w i n h t = ap (λ b. list_all begins_as_setting (ss ++ ls) && b) h
-    ∙ and_no (list_all begins_as_setting (ss ++ ls))
+    ∙ and-false (list_all begins_as_setting (ss ++ ls))
 past_settings v d ss ls Choice w i n h t = ap (λ b. list_all begins_as_setting (ss ++ ls) && b) h
-    ∙ and_no (list_all begins_as_setting (ss ++ ls))
+    ∙ and-false (list_all begins_as_setting (ss ++ ls))
 past_settings v d ss ls Full w i n h t = ap (λ b. list_all begins_as_setting (ss ++ ls) && b) h
-    ∙ and_no (list_all begins_as_setting (ss ++ ls))
+    ∙ and-false (list_all begins_as_setting (ss ++ ls))
 
 -- a line after the setting lines ss and the lines ls that begin otherwise
 behind_role : (v : Version) (d : Document) (ss ls : List (List (List ℕ))) (p : List (List ℕ) × Setting)
@@ -466,7 +461,7 @@ pub no_end : (head : Document) (ls : List (List (List ℕ))) → list_all (is_bo
     → list_any (λ l. is_line l end_line) ls ≡ false
 no_end head [] h = refl
 no_end head (l ∷ ls) h =
-    let a = both (is_body_line head l) (list_all (is_body_line head) ls) h in
+    let a = and_parts (is_body_line head l) (list_all (is_body_line head) ls) h in
     rw (line_not_end head.body head.elements l a.0) (no_end head ls a.1)
 
 open_role : (ls : List (List (List ℕ))) (d : Draft) (w : List (List ℕ)) → (o : IsOpen ls d)
@@ -492,11 +487,7 @@ setting_role ls d w b =
 
 any_end : (ls : List (List (List ℕ))) → list_any (λ l. is_line l end_line) (ls ++ end_line ∷ []) ≡ true
 any_end ls = list_any-append (λ l. is_line l end_line) ls (end_line ∷ [])
-    ∙ or_true (list_any (λ l. is_line l end_line) ls)
-  where
-    or_true : (b : Bool) → (b || true) ≡ true
-    or_true true = refl
-    or_true false = refl
+    ∙ or-true (list_any (λ l. is_line l end_line) ls)
 
 closed_role : (ls : List (List (List ℕ))) (d : Document) (w : List (List ℕ)) → IsSpelled ls d → role ls w ≡ after
 closed_role ls d w o =
@@ -596,13 +587,13 @@ step_error Start ls w c o h =
     later : List (Option Code)
     later = None ∷ None ∷ None ∷ None ∷ None ∷ None ∷ None ∷ None ∷ None ∷ None ∷ None ∷ None ∷ None ∷ []
 step_error (Versioned v) ls w c o h = subst (λ x. first_of (table (role x w) w) ≡ Some c) (sym o.1) (kind_rows v w c h)
-step_error (Open d) ls w c o h = elim (either (takes_settings d.stage && begins_as_setting w)) [
+step_error (Open d) ls w c o h = elim (cases_Bool (takes_settings d.stage && begins_as_setting w)) [
   | inl y ↦ let a : after_setting d.stage d w ≡ Err c = rw y at h in
       let b = before ls d w o y in
       subst (λ p. first_of (table p w) ≡ Some c) (sym (setting_role ls d w b)) (setting_rows ls d w c b a)
   | inr f ↦ let g : cond (is_line w end_line) (after_end d) (after_body d w) ≡ Err c = rw f at h in
       let at = open_role ls d w o f in
-      elim (either (is_line w end_line)) [
+      elim (cases_Bool (is_line w end_line)) [
         | inl e ↦ let a : after_end d ≡ Err c = rw e at g in
             let q : role ls w ≡ «end» o.setting o.head o.body = at ∙ rw e refl in
             subst (λ p. first_of (table p w) ≡ Some c) (sym q)
@@ -700,14 +691,15 @@ settings_run v d [] more names s h =
     }
 settings_run One d (w ∷ ss) more names s h = cc
 settings_run Two d (w ∷ []) more names s h =
-    let b = both (begins_as_setting w) true (settings_begin Two d (w ∷ []) (names, s) h) in
+    let b = and_parts (begins_as_setting w) true (settings_begin Two d (w ∷ []) (names, s) h) in
     let r = one_run d [] w [] names Plain s Names refl (refl, refl, refl) refl b.0 h in
     record { stage = r.stage; run = ap (λ x. bind x (λ t. run_words t more)) r.run }
-settings_run Two d (w ∷ v ∷ []) more names s h = elim (either (is_names_line d.elements w)) [
+settings_run Two d (w ∷ v ∷ []) more names s h = elim (cases_Bool (is_names_line d.elements w)) [
   | inl y ↦
-      let b = both (begins_as_setting w) (begins_as_setting v && true) (settings_begin Two d (w ∷ v ∷ []) (names, s) h)
+      let b = and_parts (begins_as_setting w) (begins_as_setting v && true)
+      (settings_begin Two d (w ∷ v ∷ []) (names, s) h)
       in
-      let c = both (begins_as_setting v) true b.1 in
+      let c = and_parts (begins_as_setting v) true b.1 in
       let m : settings_of d (w ∷ []) ≡ Some (other_words w, Plain) = rw y refl in
       let f : step (Open (draft_of [] Plain (filled Plain d []) Names)) w
       ≡ Ok (Open (draft_of (other_words w) Plain (filled Plain d []) Choice)) = rw (b.0, y) refl in
@@ -719,7 +711,7 @@ settings_run Two d (w ∷ v ∷ []) more names s h = elim (either (is_names_line
       }
   | inr n ↦ let z = rw n at h in cc
 ]
-settings_run Two d (w ∷ v ∷ u ∷ ss) more names s h = elim (either (is_names_line d.elements w)) [
+settings_run Two d (w ∷ v ∷ u ∷ ss) more names s h = elim (cases_Bool (is_names_line d.elements w)) [
   | inl y ↦ let z = rw y at h in cc
   | inr n ↦ let z = rw n at h in cc
 ]
@@ -731,12 +723,12 @@ body_run : (s : Setting) (names : List (List ℕ)) (head : Document) (g : Stage)
     ≡ Ok (Closed (finished names s (filled s head (pre ++ ls))))
 body_run s names head g pre [] a r c =
     rw (append-nil pre) (let d : is_complete (filled s head pre) ≡ true = rw (append-nil pre) at c in
-    rw (and_no (takes_settings g), d) refl)
+    rw (and-false (takes_settings g), d) refl)
 body_run s names head g pre (w ∷ ws) a r c =
-    let b = both (is_body_line head w) (list_all (is_body_line head) ws) a in
-    let f = both (has_signs head w && has_length head w && has_blocks head w) (has_numbers head w) b.0 in
-    let e = both (has_signs head w && has_length head w) (has_blocks head w) f.0 in
-    let l = both (has_signs head w) (has_length head w) e.0 in
+    let b = and_parts (is_body_line head w) (list_all (is_body_line head) ws) a in
+    let f = and_parts (has_signs head w && has_length head w && has_blocks head w) (has_numbers head w) b.0 in
+    let e = and_parts (has_signs head w && has_length head w) (has_blocks head w) f.0 in
+    let l = and_parts (has_signs head w) (has_length head w) e.0 in
     let q : (pre ++ w ∷ []) ++ ws ≡ pre ++ w ∷ ws = append_assoc pre (w ∷ []) ws in
     let r2 : has_room (filled s head ((pre ++ w ∷ []) ++ ws)) ≡ true = rw q r in
     let c2 : is_complete (filled s head ((pre ++ w ∷ []) ++ ws)) ≡ true = rw q c in
@@ -771,7 +763,7 @@ body_run s names head g pre (w ∷ ws) a r c =
         let r2 : has_room (added x w).document ≡ true = ap (λ e. has_room e.document) v ∙ r in
         let e : after_body x w ≡ Ok (Open (added x w)) = chain _ _ _ _ _ _ sg l k m r2 in
         let z : (takes_settings g && begins_as_setting w) ≡ false = ap (λ b. takes_settings g && b) y
-        ∙ and_no (takes_settings g) in
+        ∙ and-false (takes_settings g) in
         let c : step (Open x) w ≡ after_body x w = choose_second _ _ _ z ∙ choose_second _ _ _ n in
         c ∙ e ∙ ap (λ e. Ok (Open e)) v
       where
@@ -807,7 +799,7 @@ spelled_run ls d o =
 
 -- the version line isn't the end line
 pub first_not_end : (f : List (List ℕ)) (v : Version) → version_of f ≡ Some v → is_line f end_line ≡ false
-first_not_end f v h = elim (either (is_line f end_line)) [
+first_not_end f v h = elim (cases_Bool (is_line f end_line)) [
   | inl e ↦ let q : f ≡ end_line = (is_line-Decides f end_line).0 e in
       let n : ◌≡◌ {A = Option Version} None (Some v) = ap version_of (sym q) ∙ h in cc
   | inr n ↦ n
@@ -815,7 +807,7 @@ first_not_end f v h = elim (either (is_line f end_line)) [
 
 -- nor is the kind line
 kind_not_end : (k : List (List ℕ)) (d : Document) → heading k ≡ Some d → is_line k end_line ≡ false
-kind_not_end k d h = elim (either (is_line k end_line)) [
+kind_not_end k d h = elim (cases_Bool (is_line k end_line)) [
   | inl e ↦ let q : k ≡ end_line = (is_line-Decides k end_line).0 e in
       let n : ◌≡◌ {A = Option Document} None (Some d) = ap heading (sym q) ∙ h in cc
   | inr n ↦ n

@@ -4,10 +4,9 @@
 use Rattle.std.proofs.Common.{◌≡◌, ℕ, zero, suc, ◌+◌, ◌-◌, ◌*◌, ◌<◌, ◌≤◌, List, [], ◌∷◌, true, length, drop, get_or}
 use Rattle.std.proofs.Common.{refl, arith, nat_le, inl, inr}
 use Rattle.std.specs.List.{list_all}
-use Rattle.std.proofs.lemmas.Bool.{leb-true, lt-leb}
+use Rattle.std.proofs.lemmas.Bool.{leb-true, lt-leb, cases_Bool, and_parts}
 use Rattle.std.specs.Prelude.{Option, Some, None, IfSome, option_map, pos, unsigned_abs}
 use Rattle.om_text.specs.Words.{is_digit, number_from, begins_with, is_decimal, up_to, unsigned, negative, signed}
-use Rattle.om_text.proofs.Distinct.{both, either}
 
 -- ten times ten, k times
 abbrev pub ten : ℕ → ℕ
@@ -27,10 +26,10 @@ pub digit_at : (w : List ℕ) (i : ℕ) → list_all is_digit w ≡ true → i <
     × (get_or w i 0 ≤ 57)
 digit_at [] i h l = absurd (omega arith)
 digit_at (b ∷ bs) zero h l =
-    let a = both (is_digit b) (list_all is_digit bs) h in
-    let c = both (nat_le 48 b) (nat_le b 57) a.0 in
+    let a = and_parts (is_digit b) (list_all is_digit bs) h in
+    let c = and_parts (nat_le 48 b) (nat_le b 57) a.0 in
     (leb-true 48 b c.0, leb-true b 57 c.1)
-digit_at (b ∷ bs) (suc i) h l = digit_at bs i (both (is_digit b) (list_all is_digit bs) h).1 (omega arith)
+digit_at (b ∷ bs) (suc i) h l = digit_at bs i (and_parts (is_digit b) (list_all is_digit bs) h).1 (omega arith)
 
 pub number_step : (w : List ℕ) (i n : ℕ) → i < length w
     → number_from n (drop i w) ≡ number_from (10 * n + (get_or w i 0 - 48)) (drop (i + 1) w)
@@ -48,19 +47,19 @@ pub past_limit : (limit n : ℕ) (w : List ℕ) → limit < n → up_to limit (n
 past_limit limit n w h = let i = number_grows n w in rw (lt-leb (number_from n w) limit (omega arith)) refl
 
 up_to_within : (limit n : ℕ) → IfSome (up_to limit n) (λ k. k ≤ limit)
-up_to_within limit n = elim (either (nat_le n limit)) [
+up_to_within limit n = elim (cases_Bool (nat_le n limit)) [
   | inl e ↦ rw e (leb-true n limit e)
   | inr e ↦ rw e tt
 ]
 
 pub unsigned_within : (limit : ℕ) (w : List ℕ) → IfSome (unsigned limit w) (λ k. k ≤ limit)
-unsigned_within limit w = elim (either (is_decimal w)) [
+unsigned_within limit w = elim (cases_Bool (is_decimal w)) [
   | inl e ↦ rw e (up_to_within limit (number_from 0 w))
   | inr e ↦ rw e tt
 ]
 
 pub signed_within : (limit : ℕ) (w : List ℕ) → IfSome (signed limit w) (λ z. unsigned_abs z ≤ limit)
-signed_within limit w = elim (either (begins_with 45 w)) [
+signed_within limit w = elim (cases_Bool (begins_with 45 w)) [
   | inl e ↦ rw e (below (unsigned limit (drop 1 w)) (unsigned_within limit (drop 1 w)))
   | inr e ↦ rw e (above (unsigned limit w) (unsigned_within limit w))
 ]

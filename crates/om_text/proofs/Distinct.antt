@@ -1,25 +1,17 @@
 -- The distinct members of a list, member by member.
 --
--- Main results: both, same_row-Decides, distinct-append, distinct-each, with_member_grows, with_each_grows
-use Rattle.std.proofs.Common.{◌≡◌, ◌≤◌, List, [], ◌∷◌, ◌++◌, Bool, true, false, cond, not, ◌&&◌, ◌||◌, ◌⊎◌, inl, inr}
+-- Main results: same_row-Decides, distinct-append, distinct-each, with_member_grows, with_each_grows
+use Rattle.std.proofs.Common.{◌≡◌, ◌≤◌, List, [], ◌∷◌, ◌++◌, Bool, true, false, cond, not, ◌||◌, inl, inr}
 use Rattle.std.proofs.Common.{length, refl, sym, ap, ◌∙◌, arith, length-append, append_assoc, append-nil}
 use Rattle.std.specs.Prelude.{filter, Decides, IsTrue}
 use Rattle.std.specs.List.{list_any}
 use Rattle.std.proofs.lemmas.Slice.Eq.{slice_eq-Decides}
+use Rattle.std.proofs.lemmas.Bool.{cases_Bool, and_parts}
 use Rattle.om_signs.specs.declared.sign.Sign.{Sign}
 use Rattle.om_signs.specs.declared.sign.Sign.TheVariants.{Minus, Zero, Plus}
 use Rattle.om_text.specs.Rows.{same_row, distinct}
 use Rattle.om_signs.specs.Sign.{equal_signs}
 use Rattle.om_text.specs.Reading.{with_member, with_each}
-
-pub either : (b : Bool) → (b ≡ true) ⊎ (b ≡ false)
-either true = inl refl
-either false = inr refl
-
-pub both : (a b : Bool) → (a && b) ≡ true → (a ≡ true) × (b ≡ true)
-both true true h = (refl, refl)
-both true false h = cc
-both false b h = cc
 
 pub equal_signs-Decides : (s t : Sign) → Decides (equal_signs s t) (s ≡ t)
 equal_signs-Decides Minus Minus = (λ _. refl, λ _. refl)
@@ -42,7 +34,7 @@ others y ms = filter (λ z. not (same_row y z)) ms
 any_other : (x y : List Sign) (ms : List (List Sign)) → same_row y x ≡ false
     → list_any (λ z. same_row z x) (others y ms) ≡ list_any (λ z. same_row z x) ms
 any_other x y [] n = refl
-any_other x y (z ∷ zs) n = elim (either (same_row y z)) [
+any_other x y (z ∷ zs) n = elim (cases_Bool (same_row y z)) [
   | inl e ↦ let q : y ≡ z = (same_row-Decides y z).0 e in
       let m : same_row z x ≡ false = rw (← q) n in
       rw (e, m) (any_other x y zs n)
@@ -51,14 +43,14 @@ any_other x y (z ∷ zs) n = elim (either (same_row y z)) [
 
 others-append : (y x : List Sign) (ms : List (List Sign)) → others y (ms ++ x ∷ []) ≡ others y ms ++ others y (x ∷ [])
 others-append y x [] = refl
-others-append y x (z ∷ zs) = elim (either (same_row y z)) [
+others-append y x (z ∷ zs) = elim (cases_Bool (same_row y z)) [
   | inl e ↦ rw e (others-append y x zs)
   | inr e ↦ rw e (ap (λ r. z ∷ r) (others-append y x zs))
 ]
 
 others-with_same : (y x : List Sign) (ms : List (List Sign)) → same_row y x ≡ true
     → others y (with_member ms x) ≡ others y ms
-others-with_same y x ms e = elim (either (list_any (λ z. same_row z x) ms)) [
+others-with_same y x ms e = elim (cases_Bool (list_any (λ z. same_row z x) ms)) [
   | inl a ↦ rw a refl
   | inr a ↦ rw a (others-append y x ms ∙ ap (λ r. others y ms ++ r) gone ∙ append-nil (others y ms))
 ]
@@ -68,7 +60,7 @@ others-with_same y x ms e = elim (either (list_any (λ z. same_row z x) ms)) [
 
 others-with_other : (y x : List Sign) (ms : List (List Sign)) → same_row y x ≡ false
     → others y (with_member ms x) ≡ with_member (others y ms) x
-others-with_other y x ms n = elim (either (list_any (λ z. same_row z x) ms)) [
+others-with_other y x ms n = elim (cases_Bool (list_any (λ z. same_row z x) ms)) [
   | inl a ↦ rw (any_other x y ms n, a) refl
   | inr a ↦ rw (any_other x y ms n, a) (others-append y x ms ∙ ap (λ r. others y ms ++ r) kept)
 ]
@@ -84,7 +76,7 @@ pull y x false r = refl
 
 pub distinct-append : (xs : List (List Sign)) (x : List Sign) → distinct (xs ++ x ∷ []) ≡ with_member (distinct xs) x
 distinct-append [] x = refl
-distinct-append (y ∷ ys) x = ap (λ r. y ∷ others y r) (distinct-append ys x) ∙ elim (either (same_row y x)) [
+distinct-append (y ∷ ys) x = ap (λ r. y ∷ others y r) (distinct-append ys x) ∙ elim (cases_Bool (same_row y x)) [
   | inl e ↦ rw e (ap (λ r. y ∷ r) (others-with_same y x (distinct ys) e))
   | inr n ↦
       rw n (ap (λ r. y ∷ r) (others-with_other y x (distinct ys) n)
@@ -98,7 +90,7 @@ distinct-each xs (y ∷ ys) = ap distinct (sym (append_assoc xs (y ∷ []) ys)) 
     ∙ ap (λ ms. with_each ms ys) (distinct-append xs y)
 
 pub with_member_grows : (ms : List (List Sign)) (x : List Sign) → length ms ≤ length (with_member ms x)
-with_member_grows ms x = elim (either (list_any (λ z. same_row z x) ms)) [
+with_member_grows ms x = elim (cases_Bool (list_any (λ z. same_row z x) ms)) [
   | inl a ↦ rw a (omega arith)
   | inr a ↦ rw a (omega (arith, length-append ms (x ∷ [])))
 ]
@@ -110,7 +102,7 @@ with_each_grows ms (x ∷ xs) = let a = with_member_grows ms x in let b = with_e
 
 pub same_from_iff : (r : Bool) (x y : List Sign) → (IsTrue r → x ≡ y) × (x ≡ y → IsTrue r) → r ≡ same_row x y
 same_from_iff true x y h = sym ((same_row-Decides x y).1 (h.0 refl))
-same_from_iff false x y h = elim (either (same_row x y)) [
+same_from_iff false x y h = elim (cases_Bool (same_row x y)) [
   | inl e ↦ let bad = h.1 ((same_row-Decides x y).0 e) in cc
   | inr n ↦ sym n
 ]

@@ -6,13 +6,9 @@ use Rattle.std.proofs.Common.{◌≡◌, ℕ, zero, suc, List, [], ◌∷◌, �
 use Rattle.std.proofs.Common.{inr, nat_eq}
 use Rattle.std.specs.List.{list_all}
 use Rattle.std.proofs.lemmas.List.Folds.{list_all-append}
+use Rattle.std.proofs.lemmas.Bool.{cases_Bool, and_parts, not-true}
 use Rattle.om_text.specs.Lines.{lines, with_first}
 use Rattle.om_text.specs.Print.{text_of}
-use Rattle.om_text.proofs.Distinct.{either, both}
-
-pub not_true : (b : Bool) → not b ≡ true → b ≡ false
-not_true true h = cc
-not_true false h = refl
 
 -- a line without a line feed
 abbrev pub is_one_line : List ℕ → Bool
@@ -21,13 +17,13 @@ is_one_line l = list_all (λ b. not (nat_eq b 10)) l
 pub line_text : (l bs : List ℕ) → is_one_line l ≡ true → lines (l ++ 10 ∷ bs) ≡ l ∷ lines bs
 line_text [] bs h = refl
 line_text (b ∷ l) bs h =
-    let a = both (not (nat_eq b 10)) (is_one_line l) h in
-    rw (not_true (nat_eq b 10) a.0) (ap (with_first b) (line_text l bs a.1))
+    let a = and_parts (not (nat_eq b 10)) (is_one_line l) h in
+    rw (not-true (nat_eq b 10) a.0) (ap (with_first b) (line_text l bs a.1))
 
 pub lines_text : (ls : List (List ℕ)) → list_all is_one_line ls ≡ true → lines (text_of ls) ≡ ls
 lines_text [] h = refl
 lines_text (l ∷ ls) h =
-    let a = both (is_one_line l) (list_all is_one_line ls) h in
+    let a = and_parts (is_one_line l) (list_all is_one_line ls) h in
     line_text l (text_of ls) a.0 ∙ ap (λ r. l ∷ r) (lines_text ls a.1)
 
 one_line-with_first : (b : ℕ) (ls : List (List ℕ)) → nat_eq b 10 ≡ false → list_all is_one_line ls ≡ true
@@ -37,7 +33,7 @@ one_line-with_first b (l ∷ ls) n h = rw n h
 
 pub lines_one_line : (bytes : List ℕ) → list_all is_one_line (lines bytes) ≡ true
 lines_one_line [] = refl
-lines_one_line (b ∷ bs) = elim (either (nat_eq b 10)) [
+lines_one_line (b ∷ bs) = elim (cases_Bool (nat_eq b 10)) [
   | inl e ↦ rw e (lines_one_line bs)
   | inr n ↦ rw n (one_line-with_first b (lines bs) n (lines_one_line bs))
 ]
@@ -50,5 +46,5 @@ pub one_line-take : (k : ℕ) (xs : List (List ℕ)) → list_all is_one_line xs
     → list_all is_one_line (take k xs) ≡ true
 one_line-take zero xs h = refl
 one_line-take (suc k) [] h = refl
-one_line-take (suc k) (x ∷ xs) h = let a = both (is_one_line x) (list_all is_one_line xs) h in
+one_line-take (suc k) (x ∷ xs) h = let a = and_parts (is_one_line x) (list_all is_one_line xs) h in
     rw a.0 (one_line-take k xs a.1)

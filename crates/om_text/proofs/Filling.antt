@@ -7,7 +7,7 @@ use Rattle.std.specs.Prelude.{Decides, nat_le}
 use Rattle.std.specs.List.{concat, flat_map}
 use Rattle.std.proofs.lemmas.Slice.Eq.{slice_eq-Decides, bytes_eq-Decides}
 use Rattle.std.proofs.lemmas.List.{map-append}
-use Rattle.std.proofs.lemmas.Bool.{leb-true, le-leb}
+use Rattle.std.proofs.lemmas.Bool.{leb-true, le-leb, cases_Bool, and_parts}
 use Rattle.std.proofs.lemmas.List.Concat.{flat_map-append}
 use Rattle.std.proofs.lemmas.List.Folds.{concat-append}
 use Rattle.std.proofs.Math.Dec.{leb-zero}
@@ -27,14 +27,14 @@ use Rattle.om_text.specs.Document.{end_line, are_signs, signs_of_line, members_o
 use Rattle.om_text.specs.Document.{size_of, room_of, has_signs_in, has_length_in, has_blocks_in, has_numbers_in}
 use Rattle.om_text.specs.Document.{has_room}
 use Rattle.om_text.specs.Reading.{members_on, with_line_members, added_body}
-use Rattle.om_text.proofs.Distinct.{either, both, distinct-each, with_each_grows}
+use Rattle.om_text.proofs.Distinct.{distinct-each, with_each_grows}
 
 pub is_line-Decides : (w v : List (List ℕ)) → Decides (is_line w v) (w ≡ v)
 is_line-Decides w v = slice_eq-Decides bytes_eq-Decides w v (is_line w v) refl
 
 -- a line of signs isn't the end line
 pub signs_not_end : (w : List (List ℕ)) → are_signs w ≡ true → is_line w end_line ≡ false
-signs_not_end w h = elim (either (is_line w end_line)) [
+signs_not_end w h = elim (cases_Bool (is_line w end_line)) [
   | inl e ↦ let q : w ≡ end_line = (is_line-Decides w end_line).0 e in
       let bad = rw q at h in cc
   | inr n ↦ n
@@ -44,23 +44,25 @@ signs_not_end w h = elim (either (is_line w end_line)) [
 pub line_not_end : (b : Body) (n : ℕ) (w : List (List ℕ))
     → (has_signs_in b w && has_length_in b n w && has_blocks_in b w && has_numbers_in b w) ≡ true
     → is_line w end_line ≡ false
-line_not_end (Wiring bs) n w h = elim (either (is_line w end_line)) [
+line_not_end (Wiring bs) n w h = elim (cases_Bool (is_line w end_line)) [
   | inl e ↦ let q : w ≡ end_line = (is_line-Decides w end_line).0 e in
       let bad = rw q at h in cc
   | inr n ↦ n
 ]
-line_not_end (Points ps) n w h = elim (either (is_line w end_line)) [
+line_not_end (Points ps) n w h = elim (cases_Bool (is_line w end_line)) [
   | inl e ↦ let q : w ≡ end_line = (is_line-Decides w end_line).0 e in
       let bad = rw q at h in cc
   | inr n ↦ n
 ]
 line_not_end (Chirotope m) n w h =
     signs_not_end w
-    (both (are_signs w) true (both (are_signs w && true) true (both (are_signs w && true && true) true h).0).0).0
+    (and_parts (are_signs w) true
+    (and_parts (are_signs w && true) true (and_parts (are_signs w && true && true) true h).0).0).0
 line_not_end b n w h =
     signs_not_end w
-    (both (are_signs w) (has_length_in b n w)
-    (both (are_signs w && has_length_in b n w) true (both (are_signs w && has_length_in b n w && true) true h).0).0).0
+    (and_parts (are_signs w) (has_length_in b n w)
+    (and_parts (are_signs w && has_length_in b n w) true
+    (and_parts (are_signs w && has_length_in b n w && true) true h).0).0).0
 
 pub has_signs_filled : (s : Setting) (b : Body) (ls : List (List (List ℕ))) (w : List (List ℕ))
     → has_signs_in (filled_body s b ls) w ≡ has_signs_in b w

@@ -4,7 +4,7 @@
 use Rattle.std.proofs.Common.{◌≡◌, ℕ, ◌≤◌, List, [], ◌∷◌, true, not, ◌&&◌, length, map, refl, sym, ap, subst, ◌∙◌}
 use Rattle.std.specs.Prelude.{ℤ, Option, Some, None, is_some, unwrap_or, IfSome, All, nat_eq, nat_le, slice_index_or}
 use Rattle.std.specs.List.{list_all, concat, flat_map, before_first, after_first}
-use Rattle.std.proofs.lemmas.Bool.{leb-true, eqb-true}
+use Rattle.std.proofs.lemmas.Bool.{leb-true, eqb-true, and_parts}
 use Rattle.std.proofs.lemmas.List.{length-map}
 use Rattle.std.proofs.lemmas.List.Elements.{All-nil, All-cons, All-head, All-tail, All-append, All-filter}
 use Rattle.om_signs.specs.declared.limits.TheConstants.{MAX_ELEMENTS, MAX_MEMBERS, MAX_VALUES, MAX_BLOCKS, MAX_POSITION}
@@ -34,7 +34,6 @@ use Rattle.om_text.specs.Form.{AreNamesOn}
 use Rattle.om_signs.specs.Coordinates.{IsCoordinate}
 use Rattle.om_text.specs.Blocks.{position_of, is_dash, with_positions, block_of, block_on, are_blocks, blocks_on}
 use Rattle.om_text.specs.Points.{coordinate, with_three, point_of, point_on}
-use Rattle.om_text.proofs.Distinct.{both}
 use Rattle.om_text.proofs.SettingLines.{settings_names}
 use Rattle.om_text.proofs.Course.{named}
 use Rattle.om_text.proofs.BlockWords.{position_within}
@@ -64,9 +63,9 @@ rows_long : (s : Setting) (n : ℕ) (ls : List (List (List ℕ)))
     → All (λ x. length x ≡ n) (flat_map (members_of_line s) ls)
 rows_long s n [] h = All-nil (λ x. length x ≡ n)
 rows_long s n (l ∷ ls) h =
-    let a = both (are_signs l && nat_eq (length (concat l)) n)
+    let a = and_parts (are_signs l && nat_eq (length (concat l)) n)
     (list_all (λ l. are_signs l && nat_eq (length (concat l)) n) ls) h in
-    let b = both (are_signs l) (nat_eq (length (concat l)) n) a.0 in
+    let b = and_parts (are_signs l) (nat_eq (length (concat l)) n) a.0 in
     All-append (λ x. length x ≡ n) (members_of_line s l) (flat_map (members_of_line s) ls)
     (line_long s n l (length-map (concat l) sign_of_byte ∙ eqb-true _ _ b.1)) (rows_long s n ls a.1)
 
@@ -86,10 +85,10 @@ lines_of_signs : (n : ℕ) (ls : List (List (List ℕ)))
     → list_all (λ l. are_signs l && nat_eq (length (concat l)) n) ls ≡ true
 lines_of_signs n [] h = refl
 lines_of_signs n (l ∷ ls) h =
-    let a = both (are_signs l && nat_eq (length (concat l)) n && true && true)
+    let a = and_parts (are_signs l && nat_eq (length (concat l)) n && true && true)
     (list_all (λ l. are_signs l && nat_eq (length (concat l)) n && true && true) ls) h in
-    let b = both (are_signs l && nat_eq (length (concat l)) n && true) true a.0 in
-    rw ((both (are_signs l && nat_eq (length (concat l)) n) true b.0).0, lines_of_signs n ls a.1) refl
+    let b = and_parts (are_signs l && nat_eq (length (concat l)) n && true) true a.0 in
+    rw ((and_parts (are_signs l && nat_eq (length (concat l)) n) true b.0).0, lines_of_signs n ls a.1) refl
 
 -- the blocks of lines
 
@@ -106,15 +105,15 @@ block_form w h = short_form (position_of (before_first is_dash w)) (position_of 
 each_block : (ws : List (List ℕ)) → are_blocks ws ≡ true → All IsShort (blocks_on ws)
 each_block [] h = All-nil IsShort
 each_block (w ∷ ws) h =
-    let a = both (is_some (block_of w)) (are_blocks ws) h in
+    let a = and_parts (is_some (block_of w)) (are_blocks ws) h in
     All-cons IsShort (block_on w) _ (block_form w a.0) (each_block ws a.1)
 
 all_blocks : (ls : List (List (List ℕ))) → list_all (λ l. are_blocks l && true) ls ≡ true
     → All IsShort (flat_map blocks_on ls)
 all_blocks [] h = All-nil IsShort
 all_blocks (l ∷ ls) h =
-    let a = both (are_blocks l && true) (list_all (λ l. are_blocks l && true) ls) h in
-    let b = both (are_blocks l) true a.0 in
+    let a = and_parts (are_blocks l && true) (list_all (λ l. are_blocks l && true) ls) h in
+    let b = and_parts (are_blocks l) true a.0 in
     All-append IsShort (blocks_on l) (flat_map blocks_on ls) (each_block l b.0) (all_blocks ls a.1)
 
 blocks_form : (ls : List (List (List ℕ))) → list_all (λ l. are_blocks l && true) ls ≡ true
@@ -144,7 +143,7 @@ each_point : (ls : List (List (List ℕ))) → list_all (λ l. is_some (point_of
     → All IsPoint (map point_on ls)
 each_point [] h = All-nil IsPoint
 each_point (l ∷ ls) h =
-    let a = both (is_some (point_of l)) (list_all (λ l. is_some (point_of l)) ls) h in
+    let a = and_parts (is_some (point_of l)) (list_all (λ l. is_some (point_of l)) ls) h in
     All-cons IsPoint (point_on l) _ (point_form l a.0) (each_point ls a.1)
 
 points_form : (n : ℕ) (ls : List (List (List ℕ))) → list_all (λ l. is_some (point_of l)) ls ≡ true
@@ -192,7 +191,7 @@ head_form : (names : List (List ℕ)) (s : Setting) (k : DocumentKind) (p : ℕ 
     → is_complete (filled s (headed k p) ls) ≡ true → AreNamesOn p.1 names
     → IsInForm (finished names s (filled s (headed k p) ls))
 head_form names s k p ls e l z a m c w =
-    let b = both (nat_le 1 p.1) (nat_le p.1 MAX_ELEMENTS) e in
+    let b = and_parts (nat_le 1 p.1) (nat_le p.1 MAX_ELEMENTS) e in
     record {
       low = leb-true 1 p.1 b.0;
       high = leb-true p.1 MAX_ELEMENTS b.1;

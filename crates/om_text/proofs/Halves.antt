@@ -2,6 +2,7 @@
 --
 -- Main definitions: has, pairs
 -- Main results: doubled_permutes, members_permute, half_long, half_read
+use Rattle.std.proofs.Math.Bool.{and-false}
 use Rattle.std.proofs.Common.{◌≡◌, ◌≢◌, ℕ, List, [], ◌∷◌, ◌++◌, Bool, true, false, not, ◌&&◌, ◌||◌, inl, inr, length}
 use Rattle.std.proofs.Common.{map, refl, sym, ap, subst, ◌∙◌, append-nil}
 use Rattle.std.specs.Prelude.{All, AllPairs, Contains, filter}
@@ -11,9 +12,11 @@ use Rattle.std.proofs.lemmas.List.Elements.{All-filter}
 use Rattle.std.proofs.lemmas.List.Folds.{list_any_at}
 use Rattle.std.proofs.lemmas.List.Sorted.{list_any-IsPermutation, IsPermutation-refl}
 use Rattle.std.proofs.lemmas.Map.Views.{Contains-from_any}
+use Rattle.std.proofs.lemmas.Bool.{cases_Bool}
 use Rattle.om_signs.specs.declared.sign.Sign.{Sign}
 use Rattle.om_signs.specs.declared.sign.Sign.TheVariants.{Minus, Zero, Plus}
 use Rattle.om_signs.specs.Sign.{opposite}
+use Rattle.om_signs.proofs.ListPlaces.{map-opposite-opposite}
 use Rattle.om_text.specs.declared.body.Body.{Body}
 use Rattle.om_text.specs.declared.body.Body.TheVariants.{Chirotope, Wiring, Points}
 use Rattle.om_text.specs.declared.setting.Setting.TheVariants.{Half}
@@ -24,7 +27,7 @@ use Rattle.om_text.specs.Members.{members_of}
 use Rattle.om_text.specs.Form.{IsBodyOn}
 use Rattle.om_text.specs.Print.{member_lines}
 use Rattle.om_text.specs.PrintTwo.{begins_with_plus, half_of, doubled, doubled_body, IsClosedUnderNegation}
-use Rattle.om_text.proofs.Distinct.{either, same_row-Decides}
+use Rattle.om_text.proofs.Distinct.{same_row-Decides}
 use Rattle.om_text.proofs.Sorting.{All-sorted, distinct_differ, sorted_permutes, same_members}
 use Rattle.om_text.proofs.Texts.{single, signs_of_bytes_of}
 
@@ -48,12 +51,6 @@ contains-from_has z xs h = Contains-from_any (λ x y e. (same_row-Decides x y).0
 
 -- ---- negatives
 
-opposite_twice : (xs : List Sign) → map opposite (map opposite xs) ≡ xs
-opposite_twice [] = refl
-opposite_twice (Minus ∷ xs) = ap (λ r. Minus ∷ r) (opposite_twice xs)
-opposite_twice (Zero ∷ xs) = ap (λ r. Zero ∷ r) (opposite_twice xs)
-opposite_twice (Plus ∷ xs) = ap (λ r. Plus ∷ r) (opposite_twice xs)
-
 -- of a vector and its negative, one begins with plus
 other_begins : (xs : List Sign) → begins_with_plus xs ≡ false → begins_with_plus (map opposite xs) ≡ true
 other_begins [] h = refl
@@ -62,13 +59,14 @@ other_begins (Zero ∷ xs) h = other_begins xs h
 other_begins (Plus ∷ xs) h = absurd (let e : true ≡ false = h in cc)
 
 same_negative : (z x : List Sign) → same_row z (map opposite x) ≡ same_row (map opposite z) x
-same_negative z x = elim (either (same_row z (map opposite x))) [
+same_negative z x = elim (cases_Bool (same_row z (map opposite x))) [
   | inl e ↦
-      let q : map opposite z ≡ x = ap (map opposite) ((same_row-Decides z (map opposite x)).0 e) ∙ opposite_twice x in
+      let q : map opposite z ≡ x = ap (map opposite) ((same_row-Decides z (map opposite x)).0 e)
+      ∙ map-opposite-opposite x in
       e ∙ sym ((same_row-Decides (map opposite z) x).1 q)
-  | inr n ↦ elim (either (same_row (map opposite z) x)) [
+  | inr n ↦ elim (cases_Bool (same_row (map opposite z) x)) [
     | inl e ↦
-        let q : z ≡ map opposite x = sym (opposite_twice z)
+        let q : z ≡ map opposite x = sym (map-opposite-opposite z)
         ∙ ap (map opposite) ((same_row-Decides (map opposite z) x).0 e) in
         (same_row-Decides z (map opposite x)).1 q ∙ sym e
     | inr m ↦ n ∙ sym m
@@ -80,7 +78,7 @@ same_negative z x = elim (either (same_row z (map opposite x))) [
 has-others : (z x : List Sign) (ys : List (List Sign)) → same_row z x ≡ false
     → has z (filter (λ y. not (same_row x y)) ys) ≡ has z ys
 has-others z x [] n = refl
-has-others z x (y ∷ ys) n = elim (either (same_row x y)) [
+has-others z x (y ∷ ys) n = elim (cases_Bool (same_row x y)) [
   | inl e ↦
       let q : x ≡ y = (same_row-Decides x y).0 e in
       let m : same_row z y ≡ false = subst (λ v. same_row z v ≡ false) q n in
@@ -90,7 +88,7 @@ has-others z x (y ∷ ys) n = elim (either (same_row x y)) [
 
 has-distinct : (z : List Sign) (xs : List (List Sign)) → has z (distinct xs) ≡ has z xs
 has-distinct z [] = refl
-has-distinct z (x ∷ xs) = elim (either (same_row z x)) [
+has-distinct z (x ∷ xs) = elim (cases_Bool (same_row z x)) [
   | inl e ↦ rw e refl
   | inr n ↦ rw n (has-others z x (distinct xs) n ∙ has-distinct z xs)
 ]
@@ -108,22 +106,18 @@ has-pairs z (x ∷ xs) =
     ∙ ap (λ b. same_row z x || (same_row (map opposite z) x || b)) (has-pairs z xs)
     ∙ exchanged (same_row z x) (same_row (map opposite z) x) (has z xs) (has (map opposite z) xs)
 
-and_false : (b : Bool) → (b && false) ≡ false
-and_false true = refl
-and_false false = refl
-
 has-begun : (z : List Sign) (xs : List (List Sign)) → has z (filter begins_with_plus xs)
     ≡ (begins_with_plus z && has z xs)
-has-begun z [] = sym (and_false (begins_with_plus z))
-has-begun z (x ∷ xs) = elim (either (same_row z x)) [
+has-begun z [] = sym (and-false (begins_with_plus z))
+has-begun z (x ∷ xs) = elim (cases_Bool (same_row z x)) [
   | inl e ↦
       let q : z ≡ x = (same_row-Decides z x).0 e in
-      elim (either (begins_with_plus x)) [
+      elim (cases_Bool (begins_with_plus x)) [
         | inl b ↦ let c : begins_with_plus z ≡ true = ap begins_with_plus q ∙ b in rw (b, c, e) refl
         | inr b ↦ let c : begins_with_plus z ≡ false = ap begins_with_plus q ∙ b in
             rw (b, c) (has-begun z xs ∙ rw c refl)
       ]
-  | inr n ↦ elim (either (begins_with_plus x)) [
+  | inr n ↦ elim (cases_Bool (begins_with_plus x)) [
     | inl b ↦ rw (b, n) (has-begun z xs)
     | inr b ↦ rw (b, n) (has-begun z xs)
   ]
@@ -134,12 +128,12 @@ has-half z ms = has-begun z (sorted ms)
     ∙ ap (λ b. begins_with_plus z && b) (sym (list_any-IsPermutation (same_row z) ms (sorted ms) (sorted_permutes ms)))
 
 has-negative : (z : List Sign) (ms : List (List Sign)) → IsClosed ms → has (map opposite z) ms ≡ has z ms
-has-negative z ms c = elim (either (has z ms)) [
+has-negative z ms c = elim (cases_Bool (has z ms)) [
   | inl e ↦ has-from_contains (map opposite z) ms (c z (contains-from_has z ms e)) ∙ sym e
-  | inr n ↦ elim (either (has (map opposite z) ms)) [
+  | inr n ↦ elim (cases_Bool (has (map opposite z) ms)) [
     | inl e ↦
         let back : Contains ms z =
-        subst (Contains ms) (opposite_twice z) (c (map opposite z) (contains-from_has (map opposite z) ms e)) in
+        subst (Contains ms) (map-opposite-opposite z) (c (map opposite z) (contains-from_has (map opposite z) ms e)) in
         e ∙ sym (has-from_contains z ms back)
     | inr m ↦ m ∙ sym n
   ]
@@ -148,7 +142,7 @@ has-negative z ms c = elim (either (has z ms)) [
 -- one of two choices is open
 either_way : (a b c : Bool) → (a ≡ false → b ≡ true) → ((a && c) || (b && c)) ≡ c
 either_way true b true h = refl
-either_way true b false h = and_false b
+either_way true b false h = and-false b
 either_way false b c h = rw (h refl) refl
 
 has-doubled : (z : List Sign) (ms : List (List Sign)) → IsClosed ms → has z (doubled (half_of ms)) ≡ has z ms

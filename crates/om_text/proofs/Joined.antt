@@ -12,12 +12,12 @@ use Rattle.std.proofs.lemmas.List.Sums.{length-filter}
 use Rattle.std.proofs.lemmas.List.{take_more, length-map, length-replicate, map-append, take_all, take-append-drop}
 use Rattle.std.proofs.lemmas.List.Elements.{filter-append}
 use Rattle.std.proofs.Math.Seq.{set-append_seam}
+use Rattle.std.proofs.lemmas.Bool.{cases_Bool}
 use Rattle.om_signs.specs.declared.sign.Sign.TheVariants.{Zero}
 use Rattle.om_signs.specs.declared.sign.Sign.{Sign}
 use Rattle.om_text.specs.Lines.{with_first, is_blank, pieces, has_any, runs}
 use Rattle.om_text.specs.Words.{is_sign, sign_of_byte}
 use Rattle.om_text.specs.Document.{are_signs, signs_of_line}
-use Rattle.om_text.proofs.Distinct.{either}
 
 -- the bytes of a line other than blanks
 abbrev pub full_bytes : List ℕ → List ℕ
@@ -38,7 +38,7 @@ concat-with_first b (p ∷ ps) = refl
 
 concat-pieces : (bs : List ℕ) → concat (pieces bs) ≡ full_bytes bs
 concat-pieces [] = refl
-concat-pieces (b ∷ bs) = elim (either (is_blank b)) [
+concat-pieces (b ∷ bs) = elim (cases_Bool (is_blank b)) [
   | inl e ↦ rw e (concat-pieces bs)
   | inr n ↦ rw n (concat-with_first b (pieces bs) ∙ ap (λ r. b ∷ r) (concat-pieces bs))
 ]
@@ -48,7 +48,7 @@ concat-runs bs = concat_full (pieces bs) ∙ concat-pieces bs
 
 all_full : (bs : List ℕ) → list_all (λ b. is_blank b || is_sign b) bs ≡ list_all is_sign (full_bytes bs)
 all_full [] = refl
-all_full (b ∷ bs) = elim (either (is_blank b)) [
+all_full (b ∷ bs) = elim (cases_Bool (is_blank b)) [
   | inl e ↦ rw e (all_full bs)
   | inr n ↦ rw n (ap (λ r. is_sign b && r) (all_full bs))
 ]

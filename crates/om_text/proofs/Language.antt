@@ -7,6 +7,7 @@ use Rattle.std.proofs.Common.{arith, length-append, append_assoc, append-nil, ma
 use Rattle.std.specs.Prelude.{Option, Some, None, Result, Ok, Err, filter}
 use Rattle.std.proofs.lemmas.List.{map-append}
 use Rattle.std.proofs.lemmas.List.Elements.{filter-append}
+use Rattle.om_signs.proofs.Results.{ok-injective}
 use Rattle.om_text.specs.declared.code.Code.{Code}
 use Rattle.om_text.specs.declared.code.Code.TheVariants as code
 use Rattle.om_text.specs.Lines.{words, wordful, has_any}
@@ -98,9 +99,6 @@ module _
         at [] = refl
         at (x ∷ xs) = refl
 
-    ok_same : (s t : S) → ◌≡◌ {A = Result S Code} (Ok s) (Ok t) → s ≡ t
-    ok_same s t h = cc
-
     known : (r : Result S Code) → ((t : S) × (r ≡ Ok t)) ⊎ ((c : Code) × (r ≡ Err c))
     known (Ok t) = inl (t, refl)
     known (Err c) = inr (c, refl)
@@ -111,7 +109,7 @@ module _
 
     pub run_shows : (ws : List (List (List ℕ))) (ls : List (List (List ℕ))) (s t : S) → Shows s ls
         → run_words step s ws ≡ Ok t → Shows t (ls ++ ws)
-    run_shows [] ls s t o h = rw (append-nil ls) (subst (λ x. Shows x ls) (ok_same s t h) o)
+    run_shows [] ls s t o h = rw (append-nil ls) (subst (λ x. Shows x ls) (ok-injective s t h) o)
     run_shows (w ∷ ws) ls s t o h =
         let n = bind_ok (step s w) (λ t. run_words step t ws) t h in
         let g = rw n.1 at h in
@@ -168,7 +166,7 @@ module _
     pub outcome_passes : (xs ys : List (List ℕ)) (s t : S) (n : ℕ) → run_words step s (wordful xs) ≡ Ok t
         → outcome_by step value s n (xs ++ ys) ≡ outcome_by step value t (n + length xs) ys
     outcome_passes [] ys s t n h =
-        let e : s ≡ t = ok_same s t h in
+        let e : s ≡ t = ok-injective s t h in
         let z : n + 0 ≡ n = omega arith in
         rw (e, z) refl
     outcome_passes (x ∷ xs) ys s t n h =
@@ -211,7 +209,8 @@ module _
         apart v e = cc
 
         none : AreIn Language ls → ⊥
-        none p = let r = runs (wordful ls) p.0 p.1 in apart p.0 (sym n ∙ ap value (ok_same s r.0 (sym h ∙ r.1)) ∙ r.2)
+        none p = let r = runs (wordful ls) p.0 p.1 in
+            apart p.0 (sym n ∙ ap value (ok-injective s r.0 (sym h ∙ r.1)) ∙ r.2)
 
     ended : (o : Option V) (n m : ℕ) (c : Code) → finish_by o n ≡ Err (m, c) → (m ≡ n + 1) × (c ≡ code.Missing)
         × (o ≡ None)

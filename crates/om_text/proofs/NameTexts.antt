@@ -5,7 +5,7 @@ use Rattle.std.proofs.Common.{◌≡◌, ◌≢◌, ℕ, zero, suc, ◌+◌, ◌
 use Rattle.std.proofs.Common.{length, map, nat_eq, nat_le, refl, sym, ap, ◌∙◌, arith, eq-eqb}
 use Rattle.std.specs.Prelude.{codes, decimal, bytes_eq}
 use Rattle.std.specs.List.{list_all, list_any, range_with_len}
-use Rattle.std.proofs.lemmas.Bool.{le-leb}
+use Rattle.std.proofs.lemmas.Bool.{le-leb, cases_Bool, and_parts}
 use Rattle.std.proofs.lemmas.Fmt.{length-decimal-le}
 use Rattle.std.proofs.lemmas.List.FromFn.{length-map-range_with_len}
 use Rattle.std.proofs.lemmas.Slice.Eq.{bytes_eq-Decides}
@@ -14,7 +14,6 @@ use Rattle.om_text.specs.Words.{is_digit, number_from}
 use Rattle.om_text.specs.Names.{is_name_byte, is_name, are_different, are_names}
 use Rattle.om_text.specs.Form.{AreNamesOn}
 use Rattle.om_text.specs.PrintTwo.{numbered_names, printed_names}
-use Rattle.om_text.proofs.Distinct.{either, both}
 use Rattle.om_text.proofs.Numerals.{decimal_word}
 use Rattle.om_text.proofs.Texts.{is_word_byte, is_word}
 
@@ -26,19 +25,20 @@ name_is_word b h = grind arith
 bytes_are_word : (w : List ℕ) → list_all is_name_byte w ≡ true → list_all is_word_byte w ≡ true
 bytes_are_word [] h = refl
 bytes_are_word (b ∷ w) h =
-    let a = both (is_name_byte b) (list_all is_name_byte w) h in
+    let a = and_parts (is_name_byte b) (list_all is_name_byte w) h in
     rw (name_is_word b a.0) (bytes_are_word w a.1)
 
 pub name_word : (w : List ℕ) → is_name w ≡ true → is_word w ≡ true
 name_word [] h = absurd (let e : false ≡ true = h in cc)
 name_word (b ∷ w) h =
-    let a = both (nat_le 1 (length (b ∷ w)) && nat_le (length (b ∷ w)) MAX_NAME) (list_all is_name_byte (b ∷ w)) h in
+    let a = and_parts (nat_le 1 (length (b ∷ w)) && nat_le (length (b ∷ w)) MAX_NAME)
+    (list_all is_name_byte (b ∷ w)) h in
     rw (bytes_are_word (b ∷ w) a.1) refl
 
 pub names_are_words : (ws : List (List ℕ)) → list_all is_name ws ≡ true → list_all is_word ws ≡ true
 names_are_words [] h = refl
 names_are_words (w ∷ ws) h =
-    let a = both (is_name w) (list_all is_name ws) h in
+    let a = and_parts (is_name w) (list_all is_name ws) h in
     rw (name_word w a.0) (names_are_words ws a.1)
 
 -- ---- numbered names
@@ -53,7 +53,7 @@ digit_is_name b h = grind arith
 digits_are_name : (w : List ℕ) → list_all is_digit w ≡ true → list_all is_name_byte w ≡ true
 digits_are_name [] h = refl
 digits_are_name (b ∷ w) h =
-    let a = both (is_digit b) (list_all is_digit w) h in
+    let a = and_parts (is_digit b) (list_all is_digit w) h in
     rw (digit_is_name b a.0) (digits_are_name w a.1)
 
 name_of_word : (w : List ℕ) → list_all is_name_byte w ≡ true → 1 ≤ length w → length w ≤ MAX_NAME → is_name w ≡ true
@@ -67,7 +67,7 @@ numbered_name k h =
 
 -- numbers that have the same name are the same
 numbered_apart : (j k : ℕ) → j < 10 ^ 6 → k < 10 ^ 6 → j ≢ k → bytes_eq (numbered j) (numbered k) ≡ false
-numbered_apart j k l m n = elim (either (bytes_eq (numbered j) (numbered k))) [
+numbered_apart j k l m n = elim (cases_Bool (bytes_eq (numbered j) (numbered k))) [
   | inl e ↦
       let q : decimal j ≡ decimal k = let p = (bytes_eq-Decides (numbered j) (numbered k)).0 e in cc in
       let a = decimal_word j (omega arith) in
@@ -109,8 +109,8 @@ printed_are_names n (w ∷ ws) h (inr e) = e
 
 pub all_names : (n : ℕ) (ws : List (List ℕ)) → are_names n ws ≡ true → list_all is_name ws ≡ true
 all_names n ws h =
-    (both (nat_eq (length ws) n) (list_all is_name ws)
-    (both (nat_eq (length ws) n && list_all is_name ws) (are_different ws) h).0).1
+    (and_parts (nat_eq (length ws) n) (list_all is_name ws)
+    (and_parts (nat_eq (length ws) n && list_all is_name ws) (are_different ws) h).0).1
 
 -- the words of a line of names
 pub names_line : (n : ℕ) (ws : List (List ℕ)) → are_names n ws ≡ true → list_all is_word (codes "names" ∷ ws) ≡ true

@@ -2,20 +2,20 @@
 --
 -- Main definitions: IsDecimal, IsNumber, IsSigned
 -- Main results: decimal_word, number_word, unsigned_word, signed_word
-use Rattle.std.proofs.Common.{◌≡◌, ℕ, zero, suc, ◌<◌, ◌≤◌, ◌^◌, List, [], ◌∷◌, Bool, true, false, ◌||◌, ◌⊎◌, ◌+◌, ◌%◌}
+use Rattle.std.proofs.Math.Bool.{or-true}
+use Rattle.std.proofs.Common.{◌≡◌, ℕ, zero, suc, ◌<◌, ◌≤◌, ◌^◌, List, [], ◌∷◌, true, false, ◌⊎◌, ◌+◌, ◌%◌}
 use Rattle.std.proofs.Common.{inl, inr, length, get_or, refl, ap, ◌∙◌, arith, nat_eq, length-append}
 use Rattle.std.proofs.Math.ListN.{get_or-append}
 use Rattle.std.specs.Prelude.{ℤ, pos, negsuc, unsigned_abs, decimal, Some, option_map}
 use Rattle.std.specs.Fmt.{signed_decimal}
 use Rattle.std.specs.List.{list_all}
 use Rattle.std.proofs.Common.{eq-eqb, rules}
-use Rattle.std.proofs.lemmas.Bool.{le-leb}
+use Rattle.std.proofs.lemmas.Bool.{le-leb, and_parts}
 use Rattle.std.proofs.lemmas.Fmt.{decimal_is_IsNumeral_wide, decimal_by_steps_wide, length-decimal-le, decimal_digit}
 use Rattle.std.proofs.lemmas.Str.Parse.{IsNumeralModel, numerals_by_fold}
 use Rattle.om_text.specs.Lines.{has_any}
 use Rattle.om_text.specs.Words.{is_digit, number_from, begins_with, is_decimal, plain, unsigned, negative, signed}
 use Rattle.om_text.proofs.Texts.{is_word_byte}
-use Rattle.om_text.proofs.Distinct.{both}
 
 numerals : IsNumeralModel (λ ds. list_all is_digit ds ≡ true) (number_from 0)
 numerals = numerals_by_fold _ (search rules) number_from (search rules)
@@ -40,7 +40,7 @@ digit_is_word b h = grind arith
 digits_are_word : (w : List ℕ) → list_all is_digit w ≡ true → list_all is_word_byte w ≡ true
 digits_are_word [] h = refl
 digits_are_word (b ∷ w) h =
-    let a = both (is_digit b) (list_all is_digit w) h in
+    let a = and_parts (is_digit b) (list_all is_digit w) h in
     rw (digit_is_word b a.0) (digits_are_word w a.1)
 
 any_of : (w : List ℕ) → 0 < length w → has_any w ≡ true
@@ -54,11 +54,7 @@ first_is_not (b ∷ w) h = grind arith
 is_decimal_word : (w : List ℕ) → list_all is_digit w ≡ true → 0 < length w → (length w ≡ 1) ⊎ (begins_with 48 w ≡ false)
     → is_decimal w ≡ true
 is_decimal_word w d l (inl e) = rw (d, le-leb 1 (length w) l, eq-eqb (length w) 1 e) refl
-is_decimal_word w d l (inr n) = rw (d, le-leb 1 (length w) l, n) (or_true (nat_eq (length w) 1))
-  where
-    or_true : (b : Bool) → (b || true) ≡ true
-    or_true true = refl
-    or_true false = refl
+is_decimal_word w d l (inr n) = rw (d, le-leb 1 (length w) l, n) (or-true (nat_eq (length w) 1))
 
 -- the first digit of a number other than 0
 first_digit : (k : ℕ) → 0 < k → k < 10 ^ 64 → 48 < get_or (decimal k) 0 0
@@ -111,7 +107,7 @@ digit_no_minus b h = grind arith
 
 digits_no_minus : (w : List ℕ) → list_all is_digit w ≡ true → begins_with 45 w ≡ false
 digits_no_minus [] h = refl
-digits_no_minus (b ∷ w) h = digit_no_minus b (both (is_digit b) (list_all is_digit w) h).0
+digits_no_minus (b ∷ w) h = digit_no_minus b (and_parts (is_digit b) (list_all is_digit w) h).0
 
 pub unsigned_word : (limit k : ℕ) → IsDecimal k → k ≤ limit → unsigned limit (decimal k) ≡ Some k
 unsigned_word limit k d h = rw (d.word, d.number, le-leb k limit h) refl

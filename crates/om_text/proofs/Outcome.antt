@@ -7,6 +7,7 @@ use Rattle.std.proofs.Common.{◌≤◌, take, drop, arith}
 use Rattle.std.specs.Prelude.{Option, Some, Result, Ok, Err, IfOk}
 use Rattle.std.specs.List.{list_all}
 use Rattle.std.proofs.lemmas.List.{length-take-le, take-append-drop}
+use Rattle.std.proofs.Math.Seq.{take-append_seam}
 use Rattle.om_text.specs.declared.document.Document.{Document}
 use Rattle.om_text.specs.declared.parse_error.ParseError.{ParseError}
 use Rattle.om_text.specs.declared.parse_error.ParseError.TheVariants as error
@@ -138,10 +139,6 @@ run_completes ls s h =
       ),
     )
 
-pub take_front : {A : Type 0} (xs ys : List A) → take (length xs) (xs ++ ys) ≡ xs
-take_front [] ys = refl
-take_front (x ∷ xs) ys = ap (λ r. x ∷ r) (take_front xs ys)
-
 -- lines begin a document exactly where some bytes that are a document begin with them
 pub begins_bytes : (bytes : List ℕ) (k : ℕ) → k ≤ length (lines bytes) → Begins AreDocument (take k (lines bytes))
     → (text : List ℕ) × (take k (lines text) ≡ take k (lines bytes)) × AreDocument (lines text)
@@ -155,7 +152,7 @@ begins_bytes bytes k h b =
     let e : lines (text_of (p ++ c.0)) ≡ p ++ c.0 = lines_text (p ++ c.0) one in
     let n : length p ≡ k = length-take-le k (lines bytes) h in (
       text_of (p ++ c.0),
-      ap (take k) e ∙ ap (λ j. take j (p ++ c.0)) (sym n) ∙ take_front p c.0,
+      ap (take k) e ∙ ap (λ j. take j (p ++ c.0)) (sym n) ∙ take-append_seam p c.0,
       subst AreDocument (sym e) c.2,
     )
 

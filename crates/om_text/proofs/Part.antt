@@ -8,9 +8,11 @@ use Rattle.std.proofs.Common.{cond, ◌&&◌, length, take, drop, refl, sym, ap,
 use Rattle.std.proofs.Common.{append-nil, length-append}
 use Rattle.std.specs.Prelude.{◌≢◌, Option, Some, None, Result, Ok, Err, IfOk, is_none}
 use Rattle.std.specs.List.{list_all}
-use Rattle.std.proofs.lemmas.Bool.{cases_lt}
+use Rattle.std.proofs.lemmas.Bool.{cases_lt, cases_Bool, and_parts, both_ways}
 use Rattle.std.proofs.lemmas.List.{take-append-drop, take-append-le, take-take, take_all, drop_all, length-take-le}
-use Rattle.std.proofs.Math.Seq.{drop-append_seam}
+use Rattle.std.proofs.lemmas.List.{nil_from_length}
+use Rattle.std.proofs.Math.Seq.{drop-append_seam, take-append_seam}
+use Rattle.om_signs.proofs.Results.{ok-injective}
 use Rattle.om_text.specs.declared.document.Document.{Document}
 use Rattle.om_text.specs.declared.code.Code.{Code}
 use Rattle.om_text.specs.declared.code.Code.TheVariants as code
@@ -41,24 +43,23 @@ use Rattle.om_text.specs.Steps.{step_if}
 use Rattle.om_text.specs.ReaderParts.{IsStepUnlessMemory, fault_at, IsOutcomeOfAllLines, IsDocumentAtFrontOrFault}
 use Rattle.om_text.specs.declared.refusal.Refusal.{Refusal}
 use Rattle.om_text.specs.declared.refusal.Refusal.TheVariants as refusal
-use Rattle.om_text.proofs.Distinct.{either, both}
 use Rattle.om_text.proofs.Feeds.{is_one_line, lines_text, lines_one_line, one_line-append}
 use Rattle.om_text.proofs.Filling.{is_line-Decides}
-use Rattle.om_text.proofs.Course.{cond_err, ok_same, heading_ok, taken, run_words, spelled_run}
+use Rattle.om_text.proofs.Course.{cond_err, heading_ok, taken, run_words, spelled_run}
 use Rattle.om_text.proofs.Forms.{document_form}
 use Rattle.om_text.proofs.Printing.{text_of-append}
 use Rattle.om_text.proofs.Outcome.{fault_from, outcome_from, same_value, same_fault, begun, run_document, run_next}
-use Rattle.om_text.proofs.Outcome.{run_on, outcome_run, take_front}
+use Rattle.om_text.proofs.Outcome.{run_on, outcome_run}
 
 -- ---- where the document closes
 
 -- a state that is not closed
 open_state : (d : Draft) (t : State) → ◌≡◌ {A = Result State Code} (Ok (Open d)) (Ok t) → is_closed t ≡ false
-open_state d t h = sym (ap is_closed (ok_same (Open d) t h))
+open_state d t h = sym (ap is_closed (ok-injective (Open d) t h))
 
 version_opens : (o : Option Version) (t : State) → with_version o ≡ Ok t → is_closed t ≡ false
 version_opens None t h = cc
-version_opens (Some v) t h = sym (ap is_closed (ok_same (Versioned v) t h))
+version_opens (Some v) t h = sym (ap is_closed (ok-injective (Versioned v) t h))
 
 heading_opens : (v : Version) (o : Option Document) (t : State) → with_heading v o ≡ Ok t → is_closed t ≡ false
 heading_opens v None t g = cc
@@ -71,7 +72,7 @@ setting_opens d (Some s) t h = open_state _ t h
 
 settings_open : (g : Stage) (d : Draft) (w : List (List ℕ)) (t : State) → after_setting g d w ≡ Ok t
     → is_closed t ≡ false
-settings_open Names d w t h = elim (either (is_names_line d.document.elements w)) [
+settings_open Names d w t h = elim (cases_Bool (is_names_line d.document.elements w)) [
   | inl y ↦ let g : ◌≡◌ {A = Result State Code} (Ok (Open (with_names d (other_words w)))) (Ok t) = rw y at h in
       open_state _ t g
   | inr n ↦ let g : after_choice d w ≡ Ok t = rw n at h in setting_opens d (setting_in d.document.body w) t g
@@ -80,22 +81,20 @@ settings_open Choice d w t h = setting_opens d (setting_in d.document.body w) t 
 settings_open Full d w t h = cc
 settings_open InBody d w t h = cc
 
-differ : (t : State) → is_closed t ≡ false → is_closed t ≡ true → ⊥
-differ t a b = let c = sym a ∙ b in cc
-
 -- a line that closes a state is an end line
 closes : (s t : State) (w : List (List ℕ)) → is_closed s ≡ false → step s w ≡ Ok t → is_closed t ≡ true → w ≡ end_line
-closes Start t w n h e = absurd (differ t (version_opens (version_of w) t h) e)
+closes Start t w n h e = absurd (both_ways (is_closed t) (version_opens (version_of w) t h) e)
 closes (Versioned v) t w n h e =
     let b = cond_err (is_none (kind_of (first_word w))) (with_heading v (heading w)) code.Kind t h in
-    absurd (differ t (heading_opens v (heading w) t b.1) e)
-closes (Open d) t w n h e = elim (either (takes_settings d.stage && begins_as_setting w)) [
-  | inl y ↦ let g : after_setting d.stage d w ≡ Ok t = rw y at h in absurd (differ t (settings_open d.stage d w t g) e)
+    absurd (both_ways (is_closed t) (heading_opens v (heading w) t b.1) e)
+closes (Open d) t w n h e = elim (cases_Bool (takes_settings d.stage && begins_as_setting w)) [
+  | inl y ↦ let g : after_setting d.stage d w ≡ Ok t = rw y at h in
+      absurd (both_ways (is_closed t) (settings_open d.stage d w t g) e)
   | inr f ↦ let k : cond (is_line w end_line) (after_end d) (after_body d w) ≡ Ok t = rw f at h in
-      elim (either (is_line w end_line)) [
+      elim (cases_Bool (is_line w end_line)) [
         | inl y ↦ (is_line-Decides w end_line).0 y
         | inr y ↦ let g : after_body d w ≡ Ok t = rw y at k in
-            absurd (differ t (sym (ap is_closed (taken d w t g).state)) e)
+            absurd (both_ways (is_closed t) (sym (ap is_closed (taken d w t g).state)) e)
       ]
 ]
 closes (Closed d) t w n h e = cc
@@ -105,7 +104,7 @@ line_closes : (s t : State) (l : List ℕ) → is_closed s ≡ false → advance
 line_closes s t l n h e = at (words l) refl h
   where
     at : (w : List (List ℕ)) → words l ≡ w → step_if step (has_any w) s w ≡ Ok t → words l ≡ end_line
-    at [] q g = let z : s ≡ t = ok_same s t g in let y = rw (z, e) at n in cc
+    at [] q g = let z : s ≡ t = ok-injective s t g in let y = rw (z, e) at n in cc
     at (x ∷ xs) q g = q ∙ closes s t (x ∷ xs) n g e
 
 -- only a closed state answers `after`
@@ -147,7 +146,7 @@ setting_not d None c h = no_setting c h
 setting_not d (Some s) c h = no_error _ c h
 
 settings_not : (g : Stage) (d : Draft) (w : List (List ℕ)) (c : Code) → after_setting g d w ≡ Err c → c ≡ code.After → ⊥
-settings_not Names d w c h = elim (either (is_names_line d.document.elements w)) [
+settings_not Names d w c h = elim (cases_Bool (is_names_line d.document.elements w)) [
   | inl y ↦ let g : ◌≡◌ {A = Result State Code} (Ok (Open (with_names d (other_words w)))) (Err c) = rw y at h in
       no_error _ c g
   | inr n ↦ let g : after_choice d w ≡ Err c = rw n at h in setting_not d (setting_in d.document.body w) c g
@@ -162,10 +161,10 @@ step_not_after Start w c n h = version_not (version_of w) c h
 step_not_after (Versioned v) w c n h =
     keeps_when (is_none (kind_of (first_word w))) code.Kind c (with_heading v (heading w)) (λ e. cc)
     (heading_not v (heading w) c) h
-step_not_after (Open d) w c n h = elim (either (takes_settings d.stage && begins_as_setting w)) [
+step_not_after (Open d) w c n h = elim (cases_Bool (takes_settings d.stage && begins_as_setting w)) [
   | inl y ↦ let g : after_setting d.stage d w ≡ Err c = rw y at h in settings_not d.stage d w c g
   | inr f ↦ let k : cond (is_line w end_line) (after_end d) (after_body d w) ≡ Err c = rw f at h in
-      elim (either (is_line w end_line)) [
+      elim (cases_Bool (is_line w end_line)) [
         | inl y ↦ let g : after_end d ≡ Err c = rw y at k in
             keeps_not (is_complete d.document) code.Few c (Ok (Closed (finished_draft d))) (λ e. cc) (no_error _ c) g
         | inr y ↦ let g : after_body d w ≡ Err c = rw y at k in body_not d w c g
@@ -224,7 +223,7 @@ read_start bytes stops =
 -- the first line is one line
 first_one_line : (rest line after : List ℕ) → lines rest ≡ line ∷ lines after → is_one_line line ≡ true
 first_one_line rest line after h =
-    (both (is_one_line line) (list_all is_one_line (lines after))
+    (and_parts (is_one_line line) (list_all is_one_line (lines after))
     (sym (ap (list_all is_one_line) h) ∙ lines_one_line rest)).0
 
 record IsLonger (bytes rest line after : List ℕ) (front : List (List ℕ)) : Type 0 where
@@ -294,7 +293,7 @@ cut : (bytes rest : List ℕ) (front : List (List ℕ)) (k : ℕ) → list_all i
 cut bytes rest front k o l h (inl e) =
     let n : k ≡ length (text_of front) = omega (arith, ap length e, length-append (text_of front) rest) in
     let t : take k bytes ≡ text_of front = ap (λ x. take k x) e ∙ ap (λ k. take k (text_of front ++ rest)) n
-    ∙ take_front (text_of front) rest in
+    ∙ take-append_seam (text_of front) rest in
     let d : drop k bytes ≡ rest = ap (λ x. drop k x) e ∙ ap (λ k. drop k (text_of front ++ rest)) n
     ∙ drop-append_seam (text_of front) rest in
     record { lines_before = ap lines t ∙ lines_text front o; bytes_after = d }
@@ -310,7 +309,7 @@ pub read_part : (bytes rest : List ℕ) (d : Document) (n : ℕ) (stops : Bool) 
 read_part bytes rest d n stops y r =
     let k : ℕ = length bytes - length rest in
     let f : take n (lines bytes) ≡ r.front = ap (take n) r.left ∙ ap (λ j. take j (r.front ++ lines rest)) (sym r.count)
-    ∙ take_front r.front (lines rest) in
+    ∙ take-append_seam r.front (lines rest) in
     let g : drop n (lines bytes) ≡ lines rest = ap (drop n) r.left
     ∙ ap (λ j. drop j (r.front ++ lines rest)) (sym r.count) ∙ drop-append_seam r.front (lines rest) in
     let c = cut bytes rest r.front k r.one_line r.left (let z = r.size in omega arith) r.feeds in
@@ -327,7 +326,7 @@ read_part bytes rest d n stops y r =
 
 closed_stays : (ws : List (List (List ℕ))) (d : Document) (s : State) → run_words (Closed d) ws ≡ Ok s
     → is_closed s ≡ true
-closed_stays [] d s h = ap is_closed (sym (ok_same (Closed d) s h))
+closed_stays [] d s h = ap is_closed (sym (ok-injective (Closed d) s h))
 closed_stays (w ∷ ws) d s h = cc
 
 -- the lines before the end line leave the document open
@@ -372,10 +371,7 @@ no_longer bytes d e j k n m p q l =
     sym (run_on (take n (lines bytes)) (drop n u.before) (Closed d) f) ∙ ap (λ x. run_words Start (wordful x)) w
     ∙ o.run in
     let y = closed_stays (wordful (drop n u.before)) d o.state g in
-    differ o.state o.is_open y
-  where
-    differ : (s : State) → is_closed s ≡ false → is_closed s ≡ true → ⊥
-    differ s a b = let c = sym a ∙ b in cc
+    both_ways (is_closed o.state) o.is_open y
 
 same_count : (bytes : List ℕ) (d e : Document) (j k n m : ℕ) → IsDocumentAtFront bytes d j n
     → IsDocumentAtFront bytes e k m → n ≡ m
@@ -422,11 +418,6 @@ part_no_fault bytes d k n m c p f =
 
 -- ---- what a reading says
 
--- nothing is left
-empty : (rest : List ℕ) → length rest ≡ 0 → rest ≡ []
-empty [] h = refl
-empty (b ∷ bs) h = absurd (omega arith)
-
 -- the line that a step refuses
 refused : (s : State) (n : ℕ) (rest line after : List ℕ) (c : Code) → lines rest ≡ line ∷ lines after
     → advance s line ≡ Err c → outcome s n (lines rest) ≡ Err (n + 1, c)
@@ -435,7 +426,7 @@ refused s n rest line after c e h = rw e (rw h refl)
 -- the end of the bytes
 unfinished : (s : State) (n : ℕ) (rest : List ℕ) → is_closed s ≡ false → length rest ≡ 0
     → outcome s n (lines rest) ≡ Err (n + 1, code.Missing)
-unfinished s n rest c z = ap (λ r. outcome s n (lines r)) (empty rest z) ∙ at s c
+unfinished s n rest c z = ap (λ r. outcome s n (lines r)) (nil_from_length rest z) ∙ at s c
   where
     at : (s : State) → is_closed s ≡ false → outcome s n [] ≡ Err (n + 1, code.Missing)
     at Start c = refl
@@ -480,7 +471,7 @@ front_unfinished bytes rest s n stops r c z =
 pub whole_document : (bytes rest : List ℕ) (d : Document) (n k : ℕ) (stops : Bool)
     → IsRead bytes rest (Closed d) n stops → length rest ≡ 0 → IsOutcomeOfAllLines bytes (Ok (d, k, n))
 whole_document bytes rest d n k stops r z = read_outcome bytes rest (Closed d) n stops r
-    ∙ ap (λ x. outcome (Closed d) n (lines x)) (empty rest z)
+    ∙ ap (λ x. outcome (Closed d) n (lines x)) (nil_from_length rest z)
 
 pub front_part : (bytes : List ℕ) (r : Result (Document × ℕ × ℕ) ParseError) → IsDocumentAtFrontOrFault bytes r
     → IfOk r (λ p. IsDocumentAtFront bytes p.0 p.1 p.2)

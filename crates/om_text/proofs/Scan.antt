@@ -6,15 +6,14 @@ use Rattle.std.proofs.Common.{◌≡◌, ℕ, zero, suc, ◌+◌, ◌-◌, ◌<�
 use Rattle.std.proofs.Common.{length, take, drop, refl, sym, ap, ◌∙◌, arith, inl, inr, nat_eq, nat_lt}
 use Rattle.std.specs.Prelude.{Some, None, unwrap_or, filter}
 use Rattle.std.specs.List.{position_or_len, list_all}
-use Rattle.std.proofs.lemmas.Bool.{lt-ltb, le-ltb, cases_lt, eqb-true}
+use Rattle.std.proofs.lemmas.Bool.{lt-ltb, le-ltb, cases_lt, eqb-true, cases_Bool}
 use Rattle.std.proofs.lemmas.List.{take_rest, take_all}
 use Rattle.std.proofs.Math.ListN.{drop_of_length-le}
 use Rattle.om_text.specs.Lines.{lines, IsSplit, with_first, uncommented, is_blank, pieces, has_any, runs}
-use Rattle.om_text.proofs.Distinct.{either}
 
 pub position_le : (p : ℕ → Bool) (xs : List ℕ) → position_or_len p xs ≤ length xs
 position_le p [] = omega arith
-position_le p (x ∷ xs) = elim (either (p x)) [
+position_le p (x ∷ xs) = elim (cases_Bool (p x)) [
   | inl e ↦ rw e (omega arith)
   | inr n ↦ rw n (let i = position_le p xs in omega arith)
 ]
@@ -42,11 +41,11 @@ line_next b cs k i = ap (with_first b) i ∙ rw (take_one k b cs, drop_two k b c
 
 pub line_first : (b : ℕ) (bs : List ℕ) → lines (b ∷ bs) ≡ take (position_or_len (λ b. nat_eq b 10) (b ∷ bs)) (b ∷ bs)
     ∷ lines (drop (position_or_len (λ b. nat_eq b 10) (b ∷ bs) + 1) (b ∷ bs))
-line_first b [] = elim (either (nat_eq b 10)) [
+line_first b [] = elim (cases_Bool (nat_eq b 10)) [
   | inl e ↦ rw e refl
   | inr n ↦ rw n refl
 ]
-line_first b (c ∷ bs) = elim (either (nat_eq b 10)) [
+line_first b (c ∷ bs) = elim (cases_Bool (nat_eq b 10)) [
   | inl e ↦ rw e refl
   | inr n ↦ rw n (line_next b (c ∷ bs) (position_or_len (λ b. nat_eq b 10) (c ∷ bs)) (line_first c bs))
 ]
@@ -70,7 +69,7 @@ line_whole (b ∷ bs) k h e l =
 feed_first : (bs : List ℕ) → position_or_len (λ b. nat_eq b 10) bs < length bs
     → bs ≡ take (position_or_len (λ b. nat_eq b 10) bs) bs ++ 10 ∷ drop (position_or_len (λ b. nat_eq b 10) bs + 1) bs
 feed_first [] l = absurd (omega arith)
-feed_first (b ∷ bs) l = elim (either (nat_eq b 10)) [
+feed_first (b ∷ bs) l = elim (cases_Bool (nat_eq b 10)) [
   | inl e ↦ rw e (ap (λ x. x ∷ bs) (eqb-true b 10 e))
   | inr n ↦ let k = position_or_len (λ b. nat_eq b 10) bs in
       let z : position_or_len (λ b. nat_eq b 10) (b ∷ bs) ≡ 1 + k = rw n refl in
@@ -89,14 +88,14 @@ whole_split bytes k l = inr (sym (take_all k bytes l), (let z : length bytes - k
 
 pub comment_first : (bs : List ℕ) → take (position_or_len (λ b. nat_eq b 35) bs) bs ≡ uncommented bs
 comment_first [] = refl
-comment_first (b ∷ bs) = elim (either (nat_eq b 35)) [
+comment_first (b ∷ bs) = elim (cases_Bool (nat_eq b 35)) [
   | inl e ↦ rw e refl
   | inr n ↦ rw n (take_one (position_or_len (λ b. nat_eq b 35) bs) b bs ∙ ap (λ r. b ∷ r) (comment_first bs))
 ]
 
 pub runs_after_blanks : (bs : List ℕ) → runs bs ≡ runs (drop (position_or_len (λ b. not (is_blank b)) bs) bs)
 runs_after_blanks [] = refl
-runs_after_blanks (b ∷ bs) = elim (either (is_blank b)) [
+runs_after_blanks (b ∷ bs) = elim (cases_Bool (is_blank b)) [
   | inl e ↦ rw e (runs_after_blanks bs ∙ ap runs (sym (drop_one (position_or_len (λ b. not (is_blank b)) bs) b bs)))
   | inr n ↦ let z : position_or_len (λ b. not (is_blank b)) (b ∷ bs) ≡ 0 = rw n refl in
       ap (λ k. runs (drop k (b ∷ bs))) (sym z)
@@ -117,7 +116,7 @@ piece_next b bs k n i = record {
 
 pub piece_first : (bs : List ℕ) → IsFirstPiece bs (position_or_len is_blank bs)
 piece_first [] = record { rest = []; pieces = refl; after = refl }
-piece_first (b ∷ bs) = elim (either (is_blank b)) [
+piece_first (b ∷ bs) = elim (cases_Bool (is_blank b)) [
   | inl e ↦ rw e (record { rest = pieces bs; pieces = rw e refl; after = rw e refl })
   | inr n ↦ rw n (piece_next b bs (position_or_len is_blank bs) n (piece_first bs))
 ]
@@ -140,7 +139,7 @@ word_first (b ∷ bs) h =
 pub no_word : (bs : List ℕ) → position_or_len is_blank (drop (position_or_len (λ b. not (is_blank b)) bs) bs) ≡ 0
     → drop (position_or_len (λ b. not (is_blank b)) bs) bs ≡ []
 no_word [] h = refl
-no_word (b ∷ bs) h = elim (either (is_blank b)) [
+no_word (b ∷ bs) h = elim (cases_Bool (is_blank b)) [
   | inl e ↦ let q : drop (position_or_len (λ b. not (is_blank b)) (b ∷ bs)) (b ∷ bs)
       ≡ drop (position_or_len (λ b. not (is_blank b)) bs) bs =
       rw e (drop_one (position_or_len (λ b. not (is_blank b)) bs) b bs) in
@@ -152,7 +151,7 @@ no_word (b ∷ bs) h = elim (either (is_blank b)) [
 
 pub all_blank : (bs : List ℕ) → list_all is_blank bs ≡ not (has_any (runs bs))
 all_blank [] = refl
-all_blank (b ∷ bs) = elim (either (is_blank b)) [
+all_blank (b ∷ bs) = elim (cases_Bool (is_blank b)) [
   | inl e ↦ rw e (all_blank bs)
   | inr n ↦ let w : position_or_len is_blank (b ∷ bs) ≡ 1 + position_or_len is_blank bs = rw n refl in
       let q = word_first (b ∷ bs) (omega arith) in

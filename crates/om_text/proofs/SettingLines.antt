@@ -7,6 +7,7 @@ use Rattle.std.proofs.Common.{subst, ◌∙◌}
 use Rattle.std.specs.Prelude.{Option, Some, None, codes, bytes_eq, option_map, is_some}
 use Rattle.std.specs.List.{list_all, list_any}
 use Rattle.std.proofs.lemmas.Slice.Eq.{bytes_eq-Decides}
+use Rattle.std.proofs.lemmas.Bool.{cases_Bool, and_parts}
 use Rattle.om_text.specs.declared.document.Document.{Document}
 use Rattle.om_text.specs.declared.body.Body.{Body}
 use Rattle.om_text.specs.declared.body.Body.TheVariants.{Chirotope, Wiring, Points}
@@ -21,7 +22,6 @@ use Rattle.om_text.specs.Settings.{settings_in, front_settings, behind_settings}
 use Rattle.om_text.specs.Document.{end_line, are_signs, has_signs_in, has_length_in, has_blocks_in, has_numbers_in}
 use Rattle.om_text.specs.Document.{is_body_line, filled_body}
 use Rattle.om_text.specs.Points.{point_of}
-use Rattle.om_text.proofs.Distinct.{either, both}
 use Rattle.om_text.proofs.Filling.{is_line-Decides}
 
 -- ---- lines that begin as setting lines do
@@ -45,7 +45,7 @@ not_begun : (P : List (List ℕ) → Bool) → ((ws : List (List ℕ)) → P (co
     → ((ws : List (List ℕ)) → P (codes "order" ∷ ws) ≡ false) → ((ws : List (List ℕ)) → P (codes "half" ∷ ws) ≡ false)
     → (w : List (List ℕ)) → P w ≡ true → begins_as_setting w ≡ false
 not_begun P a b c [] h = refl
-not_begun P a b c (v ∷ ws) h = elim (either (begins_as_setting (v ∷ ws))) [
+not_begun P a b c (v ∷ ws) h = elim (cases_Bool (begins_as_setting (v ∷ ws))) [
   | inr n ↦ n
   | inl y ↦ elim (begun (v ∷ ws) y) [
     | inl e ↦ let q : P (v ∷ ws) ≡ false = ap (λ x. P (x ∷ ws)) e ∙ a ws in cc
@@ -72,28 +72,30 @@ pub line_not_setting : (b : Body) (n : ℕ) (w : List (List ℕ))
     → begins_as_setting w ≡ false
 line_not_setting (Wiring bs) n w h =
     not_begun (λ w. has_blocks_in (Wiring bs) w) (λ ws. refl) (λ ws. refl) (λ ws. refl) w
-    (both (has_blocks_in (Wiring bs) w) true h).0
+    (and_parts (has_blocks_in (Wiring bs) w) true h).0
 line_not_setting (Points ps) n w h =
     not_begun (λ w. has_numbers_in (Points ps) w) (no_point (codes "names") (λ x y. refl))
     (no_point (codes "order") (λ x y. refl)) (no_point (codes "half") (λ x y. refl)) w h
 line_not_setting (Chirotope m) n w h =
     signs_not_setting w
-    (both (are_signs w) true (both (are_signs w && true) true (both (are_signs w && true && true) true h).0).0).0
+    (and_parts (are_signs w) true
+    (and_parts (are_signs w && true) true (and_parts (are_signs w && true && true) true h).0).0).0
 line_not_setting b n w h =
     signs_not_setting w
-    (both (are_signs w) (has_length_in b n w)
-    (both (are_signs w && has_length_in b n w) true (both (are_signs w && has_length_in b n w && true) true h).0).0).0
+    (and_parts (are_signs w) (has_length_in b n w)
+    (and_parts (are_signs w && has_length_in b n w) true
+    (and_parts (are_signs w && has_length_in b n w && true) true h).0).0).0
 
 pub lines_not_settings : (head : Document) (ls : List (List (List ℕ))) → list_all (is_body_line head) ls ≡ true
     → list_any begins_as_setting ls ≡ false
 lines_not_settings head [] h = refl
 lines_not_settings head (l ∷ ls) h =
-    let a = both (is_body_line head l) (list_all (is_body_line head) ls) h in
+    let a = and_parts (is_body_line head l) (list_all (is_body_line head) ls) h in
     rw (line_not_setting head.body head.elements l a.0) (lines_not_settings head ls a.1)
 
 -- and neither is the end line
 begun_not_end : (w : List (List ℕ)) → begins_as_setting w ≡ true → is_line w end_line ≡ false
-begun_not_end w h = elim (either (is_line w end_line)) [
+begun_not_end w h = elim (cases_Bool (is_line w end_line)) [
   | inl e ↦ let q : w ≡ end_line = (is_line-Decides w end_line).0 e in
       let bad : begins_as_setting end_line ≡ true = ap begins_as_setting (sym q) ∙ h in cc
   | inr n ↦ n
@@ -102,20 +104,20 @@ begun_not_end w h = elim (either (is_line w end_line)) [
 -- ---- setting lines
 
 pub names_begin : (n : ℕ) (w : List (List ℕ)) → is_names_line n w ≡ true → begins_as_setting w ≡ true
-names_begin n w h = let a = both (bytes_eq (first_word w) (codes "names")) (are_names n (other_words w)) h in
+names_begin n w h = let a = and_parts (bytes_eq (first_word w) (codes "names")) (are_names n (other_words w)) h in
     rw a.0 refl
 
 setting_begins : (b : Body) (w : List (List ℕ)) (s : Setting) → setting_in b w ≡ Some s → begins_as_setting w ≡ true
-setting_begins (Chirotope m) w s h = elim (either (is_line w (codes "order" ∷ codes "lex" ∷ []))) [
+setting_begins (Chirotope m) w s h = elim (cases_Bool (is_line w (codes "order" ∷ codes "lex" ∷ []))) [
   | inl e ↦ let q = (is_line-Decides w (codes "order" ∷ codes "lex" ∷ [])).0 e in ap begins_as_setting q
-  | inr n ↦ elim (either (is_line w (codes "order" ∷ codes "revlex" ∷ []))) [
+  | inr n ↦ elim (cases_Bool (is_line w (codes "order" ∷ codes "revlex" ∷ []))) [
     | inl e ↦ let q = (is_line-Decides w (codes "order" ∷ codes "revlex" ∷ [])).0 e in ap begins_as_setting q
     | inr m ↦ let z = rw (n, m) at h in cc
   ]
 ]
 setting_begins (Wiring bs) w s h = cc
 setting_begins (Points ps) w s h = cc
-setting_begins b w s h = elim (either (is_line w (codes "half" ∷ []))) [
+setting_begins b w s h = elim (cases_Bool (is_line w (codes "half" ∷ []))) [
   | inl e ↦ let q = (is_line-Decides w (codes "half" ∷ [])).0 e in ap begins_as_setting q
   | inr n ↦ let z = rw n at h in cc
 ]
@@ -134,7 +136,7 @@ pub settings_begin : (v : Version) (d : Document) (ls : List (List (List ℕ))) 
     → settings_in v d ls ≡ Some p → list_all begins_as_setting ls ≡ true
 settings_begin v d [] p h = refl
 settings_begin One d (w ∷ ls) p h = cc
-settings_begin Two d (w ∷ ls) p h = elim (either (is_names_line d.elements w)) [
+settings_begin Two d (w ∷ ls) p h = elim (cases_Bool (is_names_line d.elements w)) [
   | inl y ↦ let g : option_map (λ s. (other_words w, s)) (set_by d.body ls) ≡ Some p = rw y at h in
       let m = mapped_some (set_by d.body ls) (λ s. (other_words w, s)) p g in
       rw (names_begin d.elements w y) (set_begins d.body ls m.0 m.1)
@@ -153,14 +155,14 @@ pub settings_names : (v : Version) (d : Document) (ls : List (List (List ℕ))) 
 settings_names One d [] names s h = inl (sym (some_first [] names Plain s h))
 settings_names Two d [] names s h = inl (sym (some_first [] names Plain s h))
 settings_names One d (w ∷ ls) names s h = cc
-settings_names Two d (w ∷ ls) names s h = elim (either (is_names_line d.elements w)) [
+settings_names Two d (w ∷ ls) names s h = elim (cases_Bool (is_names_line d.elements w)) [
   | inl y ↦ let g : option_map (λ s. (other_words w, s)) (set_by d.body ls) ≡ Some (names, s) = rw y at h in
       let m = mapped_some (set_by d.body ls) (λ s. (other_words w, s)) (names, s) g in
       let k : ◌≡◌ {A = Option (List (List ℕ) × Setting)} (Some (other_words w, m.0)) (Some (names, s)) =
       sym (ap (option_map (λ s. (other_words w, s))) m.1) ∙ g in
       let e = some_first (other_words w) names m.0 s k in
       inr (subst (λ x. are_names d.elements x ≡ true) e
-      (both (bytes_eq (first_word w) (codes "names")) (are_names d.elements (other_words w)) y).1)
+      (and_parts (bytes_eq (first_word w) (codes "names")) (are_names d.elements (other_words w)) y).1)
   | inr n ↦ let g : option_map (λ s. ([], s)) (set_by d.body (w ∷ ls)) ≡ Some (names, s) = rw n at h in
       let m = mapped_some (set_by d.body (w ∷ ls)) (λ s. ([], s)) (names, s) g in
       let k : ◌≡◌ {A = Option (List (List ℕ) × Setting)} (Some ([], m.0)) (Some (names, s)) =
@@ -172,19 +174,19 @@ pub settings_not_end : (ls : List (List (List ℕ))) → list_all begins_as_sett
     → list_any (λ l. is_line l end_line) ls ≡ false
 settings_not_end [] h = refl
 settings_not_end (l ∷ ls) h =
-    let a = both (begins_as_setting l) (list_all begins_as_setting ls) h in
+    let a = and_parts (begins_as_setting l) (list_all begins_as_setting ls) h in
     rw (begun_not_end l a.0) (settings_not_end ls a.1)
 
 none_in_front : (ls : List (List (List ℕ))) → list_any begins_as_setting ls ≡ false → front_settings ls ≡ []
 none_in_front [] h = refl
-none_in_front (l ∷ ls) h = elim (either (begins_as_setting l)) [
+none_in_front (l ∷ ls) h = elim (cases_Bool (begins_as_setting l)) [
   | inl y ↦ let z = rw y at h in cc
   | inr n ↦ rw n refl
 ]
 
 all_behind : (ls : List (List (List ℕ))) → list_any begins_as_setting ls ≡ false → behind_settings ls ≡ ls
 all_behind [] h = refl
-all_behind (l ∷ ls) h = elim (either (begins_as_setting l)) [
+all_behind (l ∷ ls) h = elim (cases_Bool (begins_as_setting l)) [
   | inl y ↦ let z = rw y at h in cc
   | inr n ↦ rw n refl
 ]
@@ -194,14 +196,14 @@ pub front_of : (ss ls : List (List (List ℕ))) → list_all begins_as_setting s
     → list_any begins_as_setting ls ≡ false → front_settings (ss ++ ls) ≡ ss
 front_of [] ls a n = none_in_front ls n
 front_of (s ∷ ss) ls a n =
-    let b = both (begins_as_setting s) (list_all begins_as_setting ss) a in
+    let b = and_parts (begins_as_setting s) (list_all begins_as_setting ss) a in
     rw b.0 (ap (λ x. s ∷ x) (front_of ss ls b.1 n))
 
 pub behind_of : (ss ls : List (List (List ℕ))) → list_all begins_as_setting ss ≡ true
     → list_any begins_as_setting ls ≡ false → behind_settings (ss ++ ls) ≡ ls
 behind_of [] ls a n = all_behind ls n
 behind_of (s ∷ ss) ls a n =
-    let b = both (begins_as_setting s) (list_all begins_as_setting ss) a in
+    let b = and_parts (begins_as_setting s) (list_all begins_as_setting ss) a in
     rw b.0 (behind_of ss ls b.1 n)
 
 -- a setting is by the kind of a body

@@ -6,7 +6,7 @@ use Rattle.std.proofs.Common.{drop, map, nat_eq, nat_le, ◌&&◌, ap, ◌∙◌
 use Rattle.std.specs.Prelude.{ℤ, pos, negsuc, codes, decimal, All}
 use Rattle.std.specs.Fmt.{signed_decimal}
 use Rattle.std.specs.List.{list_all}
-use Rattle.std.proofs.lemmas.Bool.{eqb-true, leb-true}
+use Rattle.std.proofs.lemmas.Bool.{eqb-true, leb-true, and_parts}
 use Rattle.std.proofs.lemmas.Fmt.{length-decimal-le}
 use Rattle.std.proofs.lemmas.List.{length-map, length-take}
 use Rattle.std.proofs.lemmas.List.Elements.{All-cons, All-head, All-tail, All-map, All-weaker}
@@ -29,7 +29,6 @@ use Rattle.om_text.specs.Print.{text_of, cut, sign_lines, member_lines, spaced, 
 use Rattle.om_text.specs.Print.{sizes_text, kind_text, body_lines, printed}
 use Rattle.om_text.specs.PrintTwo.{printed_names, values_in_revlex, begins_with_plus, half_of, setting_lines}
 use Rattle.om_text.specs.PrintTwo.{body_lines_two, printed_two}
-use Rattle.om_text.proofs.Distinct.{both}
 use Rattle.om_text.proofs.Halves.{half_long}
 use Rattle.om_text.proofs.NameTexts.{printed_are_names, all_names}
 use Rattle.om_text.proofs.Orders.{length-values_in_revlex}
@@ -52,8 +51,8 @@ coordinate_short (negsuc n) h = let l = length-decimal-le 19 (suc n) (omega arit
 
 name_short : (w : List ℕ) → is_name w ≡ true → IsShortWord w
 name_short w h =
-    let a = both (nat_le 1 (length w) && nat_le (length w) MAX_NAME) (list_all is_name_byte w) h in
-    let l = leb-true (length w) MAX_NAME (both (nat_le 1 (length w)) (nat_le (length w) MAX_NAME) a.0).1 in
+    let a = and_parts (nat_le 1 (length w) && nat_le (length w) MAX_NAME) (list_all is_name_byte w) h in
+    let l = leb-true (length w) MAX_NAME (and_parts (nat_le 1 (length w)) (nat_le (length w) MAX_NAME) a.0).1 in
     omega (arith, l)
 
 spaced_bytes : (ws : List (List ℕ)) → All IsShortWord ws → length (spaced ws) ≤ 21 * length ws
@@ -200,8 +199,8 @@ names_bytes d f =
     (AllPass-from_list_all is_name ws (all_names d.elements ws are)) in
     let count =
     eqb-true (length ws) d.elements
-    (both (nat_eq (length ws) d.elements) (list_all is_name ws)
-    (both (nat_eq (length ws) d.elements && list_all is_name ws) (are_different ws) are).0).0 in
+    (and_parts (nat_eq (length ws) d.elements) (list_all is_name ws)
+    (and_parts (nat_eq (length ws) d.elements && list_all is_name ws) (are_different ws) are).0).0 in
     let l = spaced_bytes (codes "names" ∷ ws) (All-cons IsShortWord (codes "names") ws (omega arith) each) in
     omega (arith, high, count, l)
 

@@ -3,8 +3,9 @@
 -- Main results: advance_small
 use Rattle.std.proofs.Common.{◌≡◌, ℕ, ◌≤◌, List, [], ◌∷◌, true, cond, ◌&&◌, refl, sym, subst, inl, inr}
 use Rattle.std.specs.Prelude.{Option, Some, None, Result, Ok, is_none, option_map, nat_le}
-use Rattle.std.proofs.lemmas.Bool.{leb-true}
+use Rattle.std.proofs.lemmas.Bool.{leb-true, cases_Bool, and_parts}
 use Rattle.om_signs.specs.declared.limits.TheConstants.{MAX_ELEMENTS}
+use Rattle.om_signs.proofs.Results.{ok-injective}
 use Rattle.om_text.specs.declared.document.Document.{Document}
 use Rattle.om_text.specs.declared.body.Body.{Body}
 use Rattle.om_text.specs.declared.body.Body.TheVariants.{Chirotope, Points}
@@ -30,8 +31,7 @@ use Rattle.om_text.specs.Reading.{with_setting, after_choice, after_setting, aft
 use Rattle.om_text.specs.Reading.{added, added_body}
 use Rattle.om_text.specs.Steps.{step_if}
 use Rattle.om_text.specs.ReaderParts.{IsDocumentInRange, IsBodyInRange, IsStateInRange}
-use Rattle.om_text.proofs.Distinct.{either, both}
-use Rattle.om_text.proofs.Course.{cond_ok, cond_err, ok_same, heading_ok, named, taken}
+use Rattle.om_text.proofs.Course.{cond_ok, cond_err, heading_ok, named, taken}
 
 pub mapped : (o : Option (ℕ × ℕ)) (f : ℕ × ℕ → Document) (d : Document) → option_map f o ≡ Some d → (p : ℕ × ℕ)
     × (f p ≡ d)
@@ -50,7 +50,7 @@ heading_small v (w ∷ ws) d h e r =
     let n = named (kind_of w) (λ k. opened k ws) d h in
     let q : opened n.0 ws ≡ Some d = rw n.1 at h in
     let m = mapped (numbers n.0 ws) (headed n.0) d q in
-    let b = both (nat_le 1 d.elements) (nat_le d.elements MAX_ELEMENTS) e in
+    let b = and_parts (nat_le 1 d.elements) (nat_le d.elements MAX_ELEMENTS) e in
     let l : d.elements ≤ MAX_ELEMENTS = leb-true d.elements MAX_ELEMENTS b.1 in
     let k : m.0.1 ≤ MAX_ELEMENTS = subst (λ d. d.elements ≤ MAX_ELEMENTS) (sym m.1) l in
     let f : rank_of_body (empty_body n.0 m.0.0 m.0.1) ≤ m.0.1 =
@@ -70,7 +70,7 @@ kind_small v (Some d) w t e h =
 
 version_small : (o : Option Version) (t : State) → with_version o ≡ Ok t → IsStateInRange t
 version_small None t h = cc
-version_small (Some v) t h = subst IsStateInRange (ok_same (Versioned v) t h) tt
+version_small (Some v) t h = subst IsStateInRange (ok-injective (Versioned v) t h) tt
 
 added_small : (s : Setting) (b : Body) (w : List (List ℕ)) → IsBodyInRange b → IsBodyInRange (added_body s b w)
 added_small s (Chirotope m) w h = record { elements = h.elements; rank = h.rank }
@@ -81,15 +81,15 @@ setting_small : (d : Draft) (o : Option Setting) (t : State) → IsDocumentInRan
     → IsStateInRange t
 setting_small d None t i h = cc
 setting_small d (Some s) t i h =
-    subst IsStateInRange (ok_same (Open (record { document = d.document; setting = s; stage = Full })) t h) i
+    subst IsStateInRange (ok-injective (Open (record { document = d.document; setting = s; stage = Full })) t h) i
 
 settings_small : (g : Stage) (d : Draft) (w : List (List ℕ)) (t : State) → IsDocumentInRange d.document
     → after_setting g d w ≡ Ok t → IsStateInRange t
-settings_small Names d w t i h = elim (either (is_names_line d.document.elements w)) [
+settings_small Names d w t i h = elim (cases_Bool (is_names_line d.document.elements w)) [
   | inl y ↦ let g : ◌≡◌ {A = Result State Code} (Ok (Open (with_names d (other_words w)))) (Ok t) = rw y at h in
       let m : IsDocumentInRange (with_names d (other_words w)).document =
       record { low = i.low; high = i.high; body = i.body } in
-      subst IsStateInRange (ok_same _ _ g) m
+      subst IsStateInRange (ok-injective _ _ g) m
   | inr n ↦ let g : after_choice d w ≡ Ok t = rw n at h in setting_small d (setting_in d.document.body w) t i g
 ]
 settings_small Choice d w t i h = setting_small d (setting_in d.document.body w) t i h
@@ -101,13 +101,13 @@ step_small Start w t o h = version_small (version_of w) t h
 step_small (Versioned v) w t o h =
     let b = cond_err (is_none (kind_of (first_word w))) (with_heading v (heading w)) code.Kind t h in
     kind_small v (heading w) w t refl b.1
-step_small (Open d) w t o h = elim (either (takes_settings d.stage && begins_as_setting w)) [
+step_small (Open d) w t o h = elim (cases_Bool (takes_settings d.stage && begins_as_setting w)) [
   | inl y ↦ let g : after_setting d.stage d w ≡ Ok t = rw y at h in settings_small d.stage d w t o g
   | inr f ↦ let k : cond (is_line w end_line) (after_end d) (after_body d w) ≡ Ok t = rw f at h in
-      elim (either (is_line w end_line)) [
+      elim (cases_Bool (is_line w end_line)) [
         | inl e ↦ let g : after_end d ≡ Ok t = rw e at k in
             let a = cond_ok (is_complete d.document) (Ok (Closed (finished_draft d))) code.Few t g in
-            subst IsStateInRange (ok_same _ _ a.1) tt
+            subst IsStateInRange (ok-injective _ _ a.1) tt
         | inr n ↦ let g : after_body d w ≡ Ok t = rw n at k in
             let m : IsDocumentInRange (added d w).document =
             record { low = o.low; high = o.high; body = added_small d.setting d.document.body w o.body } in
@@ -121,5 +121,5 @@ pub advance_small : (s : State) (line : List ℕ) (t : State) → IsStateInRange
 advance_small s line t o h = at (words line) h
   where
     at : (w : List (List ℕ)) → step_if step (has_any w) s w ≡ Ok t → IsStateInRange t
-    at [] g = subst IsStateInRange (ok_same s t g) o
+    at [] g = subst IsStateInRange (ok-injective s t g) o
     at (x ∷ xs) g = step_small s (x ∷ xs) t o g

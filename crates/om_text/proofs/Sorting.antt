@@ -17,11 +17,12 @@ use Rattle.std.proofs.lemmas.List.Sorted.{ranks_by, sorted_far, sum_by-IsPermuta
 use Rattle.std.proofs.lemmas.List.Sorted.{IsPermutation-sym, IsPermutation-trans, IsPermutation-middle}
 use Rattle.std.proofs.lemmas.List.Sorted.{IsPermutation-cons}
 use Rattle.std.proofs.lemmas.List.Sums.{sum_by-cons}
+use Rattle.std.proofs.lemmas.Bool.{cases_Bool}
 use Rattle.om_signs.specs.declared.sign.Sign.{Sign}
 use Rattle.om_signs.specs.Order.{lexicographic}
 use Rattle.om_signs.specs.OrderLaws.{lexicographic-total, same_from_order}
 use Rattle.om_text.specs.Rows.{same_row, distinct, is_before, placed, sorted}
-use Rattle.om_text.proofs.Distinct.{either, same_row-Decides}
+use Rattle.om_text.proofs.Distinct.{same_row-Decides}
 
 order : IsStrictWeakOrder is_before
 order = ranks_by lexicographic-total (λ x. x)
@@ -43,7 +44,7 @@ same_from_order_tests x y a b =
     same_from_order x y (tied (lexicographic x y) (lexicographic y x) (lexicographic-total.antisymm x y) b a)
 
 not_before_itself : (x : List Sign) → IsUpTo x x
-not_before_itself x = elim (either (is_before x x)) [
+not_before_itself x = elim (cases_Bool (is_before x x)) [
   | inl e ↦ order.one_way x x e
   | inr n ↦ n
 ]
@@ -81,7 +82,7 @@ tally-same z = let e = (same_row-Decides z z).1 refl in rw e refl
 counted : (P : List Sign → Type 0) (z : List Sign) (ys : List (List Sign)) → All P ys → 1 ≤ count z ys → P z
 unfolding count tally
 counted P z [] a h = absurd (omega arith)
-counted P z (y ∷ ys) a h = elim (either (same_row z y)) [
+counted P z (y ∷ ys) a h = elim (cases_Bool (same_row z y)) [
   | inl e ↦ subst P (sym ((same_row-Decides z y).0 e)) (All-head P y ys a)
   | inr n ↦
       counted P z ys (All-tail P y ys a) (let g : 1 ≤ cond (same_row z y) 1 0 + count z ys = h in let m = rw n at g in
@@ -118,7 +119,7 @@ unique (x ∷ xs) (y ∷ ys) a b h =
 
 All-placed : (P : List Sign → Type 0) (x : List Sign) (ys : List (List Sign)) → P x → All P ys → All P (placed x ys)
 All-placed P x [] p a = All-cons P x [] p (All-nil P)
-All-placed P x (y ∷ ys) p a = elim (either (is_before y x)) [
+All-placed P x (y ∷ ys) p a = elim (cases_Bool (is_before y x)) [
   | inl e ↦ rw e (All-cons P y (placed x ys) (All-head P y ys a) (All-placed P x ys p (All-tail P y ys a)))
   | inr n ↦ rw n (All-cons P x (y ∷ ys) p a)
 ]
@@ -129,7 +130,7 @@ All-sorted P (x ∷ xs) a = All-placed P x (sorted xs) (All-head P x xs a) (All-
 
 placed_up : (x : List Sign) (ys : List (List Sign)) → AllPairs IsUpTo ys → AllPairs IsUpTo (placed x ys)
 placed_up x [] a = AllPairs-cons IsUpTo x [] (All-nil (IsUpTo x)) a
-placed_up x (y ∷ ys) a = elim (either (is_before y x)) [
+placed_up x (y ∷ ys) a = elim (cases_Bool (is_before y x)) [
   | inl e ↦
       rw e (AllPairs-cons IsUpTo y (placed x ys)
       (All-placed (IsUpTo y) x ys (order.one_way y x e) (pairs_head IsUpTo y ys a))
@@ -146,7 +147,7 @@ sorted_up (x ∷ xs) = placed_up x (sorted xs) (sorted_up xs)
 count-placed : (z x : List Sign) (ys : List (List Sign)) → count z (placed x ys) ≡ tally z x + count z ys
 unfolding count
 count-placed z x [] = refl
-count-placed z x (y ∷ ys) = elim (either (is_before y x)) [
+count-placed z x (y ∷ ys) = elim (cases_Bool (is_before y x)) [
   | inl e ↦ rw e (let i = count-placed z x ys in omega arith)
   | inr n ↦ rw n refl
 ]
@@ -168,7 +169,7 @@ sorted_is ms ys p s = unique ys (sorted ms) (up_from_sorted ys s) (sorted_up ms)
 
 placed_permutes : (x : List Sign) (ys : List (List Sign)) → IsPermutation (x ∷ ys) (placed x ys)
 placed_permutes x [] = IsPermutation-refl (x ∷ [])
-placed_permutes x (y ∷ ys) = elim (either (is_before y x)) [
+placed_permutes x (y ∷ ys) = elim (cases_Bool (is_before y x)) [
   | inl e ↦
       rw e (IsPermutation-trans (x ∷ y ∷ ys) (y ∷ x ∷ ys) (y ∷ placed x ys) (IsPermutation-middle (x ∷ []) y ys)
       (IsPermutation-cons y (x ∷ ys) (placed x ys) (placed_permutes x ys)))
@@ -185,7 +186,7 @@ sorted_rises ms k d l h = sorted_up ms k (k + 1) d (omega arith) h
 
 length-placed : (x : List Sign) (ys : List (List Sign)) → length (placed x ys) ≡ suc (length ys)
 length-placed x [] = refl
-length-placed x (y ∷ ys) = elim (either (is_before y x)) [
+length-placed x (y ∷ ys) = elim (cases_Bool (is_before y x)) [
   | inl e ↦ rw e (ap suc (length-placed x ys))
   | inr n ↦ rw n refl
 ]
@@ -199,7 +200,7 @@ length-sorted (x ∷ xs) = length-placed x (sorted xs) ∙ ap suc (length-sorted
 placed_differ : (x : List Sign) (ys : List (List Sign)) → All (λ y. x ≢ y) ys → AllPairs (λ x y. x ≢ y) ys
     → AllPairs (λ x y. x ≢ y) (placed x ys)
 placed_differ x [] a p = AllPairs-cons (λ x y. x ≢ y) x [] a p
-placed_differ x (y ∷ ys) a p = elim (either (is_before y x)) [
+placed_differ x (y ∷ ys) a p = elim (cases_Bool (is_before y x)) [
   | inl e ↦
       rw e (AllPairs-cons (λ x y. x ≢ y) y (placed x ys)
       (All-placed (λ z. y ≢ z) x ys (λ q. All-head (λ y. x ≢ y) y ys a (sym q)) (pairs_head (λ x y. x ≢ y) y ys p))
@@ -214,14 +215,14 @@ sorted_differ (x ∷ xs) p = placed_differ x (sorted xs) (All-sorted (λ y. x �
 
 others_kept : (x : List Sign) (ys : List (List Sign)) → All (λ y. x ≢ y) ys → filter (λ y. not (same_row x y)) ys ≡ ys
 others_kept x [] a = refl
-others_kept x (y ∷ ys) a = elim (either (same_row x y)) [
+others_kept x (y ∷ ys) a = elim (cases_Bool (same_row x y)) [
   | inl e ↦ absurd (All-head (λ y. x ≢ y) y ys a ((same_row-Decides x y).0 e))
   | inr n ↦ rw n (ap (λ r. y ∷ r) (others_kept x ys (All-tail (λ y. x ≢ y) y ys a)))
 ]
 
 others_differ : (x : List Sign) (ys : List (List Sign)) → All (λ y. x ≢ y) (filter (λ y. not (same_row x y)) ys)
 others_differ x [] = All-nil (λ y. x ≢ y)
-others_differ x (y ∷ ys) = elim (either (same_row x y)) [
+others_differ x (y ∷ ys) = elim (cases_Bool (same_row x y)) [
   | inl e ↦ rw e (others_differ x ys)
   | inr n ↦ rw n (All-cons (λ y. x ≢ y) y _ (λ q. let t = (same_row-Decides x y).1 q in cc) (others_differ x ys))
 ]
@@ -241,7 +242,7 @@ distinct_itself (x ∷ xs) p =
 
 no_other : (x : List Sign) (ys : List (List Sign)) → All (λ y. x ≢ y) ys → list_any (same_row x) ys ≡ false
 no_other x [] a = refl
-no_other x (y ∷ ys) a = elim (either (same_row x y)) [
+no_other x (y ∷ ys) a = elim (cases_Bool (same_row x y)) [
   | inl e ↦ absurd (All-head (λ y. x ≢ y) y ys a ((same_row-Decides x y).0 e))
   | inr n ↦ rw n (no_other x ys (All-tail (λ y. x ≢ y) y ys a))
 ]
@@ -251,7 +252,7 @@ count-different : (z : List Sign) (xs : List (List Sign)) → AllPairs (λ x y. 
     → count z xs ≡ cond (list_any (same_row z) xs) 1 0
 unfolding count tally
 count-different z [] p = refl
-count-different z (x ∷ xs) p = elim (either (same_row z x)) [
+count-different z (x ∷ xs) p = elim (cases_Bool (same_row z x)) [
   | inl e ↦
       let q : z ≡ x = (same_row-Decides z x).0 e in
       let n : list_any (same_row z) xs ≡ false =

@@ -7,15 +7,14 @@ use Rattle.std.proofs.Common.{◌≡◌, ℕ, List, [], ◌∷◌, ◌++◌, Boo
 use Rattle.std.proofs.Common.{append-nil, inl, inr, nat_eq}
 use Rattle.std.specs.Prelude.{filter}
 use Rattle.std.specs.List.{list_all}
-use Rattle.std.proofs.lemmas.Bool.{eqb-true}
+use Rattle.std.proofs.lemmas.Bool.{eqb-true, cases_Bool, and_parts, not-true}
 use Rattle.std.proofs.lemmas.List.Folds.{list_all-append}
 use Rattle.om_signs.specs.declared.sign.Sign.{Sign}
 use Rattle.om_signs.specs.declared.sign.Sign.TheVariants.{Minus, Zero, Plus}
 use Rattle.om_text.specs.Lines.{with_first, uncommented, is_blank, pieces, has_any, runs, words, wordful}
 use Rattle.om_text.specs.Print.{spaced}
 use Rattle.om_text.specs.Words.{is_sign, sign_of_byte, byte_of}
-use Rattle.om_text.proofs.Distinct.{either, both}
-use Rattle.om_text.proofs.Feeds.{is_one_line, not_true}
+use Rattle.om_text.proofs.Feeds.{is_one_line}
 
 -- a byte of a word, as printed
 abbrev pub is_word_byte : ℕ → Bool
@@ -23,21 +22,21 @@ is_word_byte b = not (is_blank b) && not (nat_eq b 35) && not (nat_eq b 10)
 
 word_byte : (b : ℕ) → is_word_byte b ≡ true → (is_blank b ≡ false) × (nat_eq b 35 ≡ false) × (nat_eq b 10 ≡ false)
 word_byte b h =
-    let a = both (not (is_blank b) && not (nat_eq b 35)) (not (nat_eq b 10)) h in
-    let c = both (not (is_blank b)) (not (nat_eq b 35)) a.0 in
-    (not_true (is_blank b) c.0, not_true (nat_eq b 35) c.1, not_true (nat_eq b 10) a.1)
+    let a = and_parts (not (is_blank b) && not (nat_eq b 35)) (not (nat_eq b 10)) h in
+    let c = and_parts (not (is_blank b)) (not (nat_eq b 35)) a.0 in
+    (not-true (is_blank b) c.0, not-true (nat_eq b 35) c.1, not-true (nat_eq b 10) a.1)
 
 pub word_one_line : (w : List ℕ) → list_all is_word_byte w ≡ true → is_one_line w ≡ true
 word_one_line [] h = refl
 word_one_line (b ∷ w) h =
-    let a = both (is_word_byte b) (list_all is_word_byte w) h in
+    let a = and_parts (is_word_byte b) (list_all is_word_byte w) h in
     let c = word_byte b a.0 in
     rw c.2 (word_one_line w a.1)
 
 uncommented_word : (w r : List ℕ) → list_all is_word_byte w ≡ true → uncommented (w ++ r) ≡ w ++ uncommented r
 uncommented_word [] r h = refl
 uncommented_word (b ∷ w) r h =
-    let a = both (is_word_byte b) (list_all is_word_byte w) h in
+    let a = and_parts (is_word_byte b) (list_all is_word_byte w) h in
     let c = word_byte b a.0 in
     rw c.1 (ap (λ x. b ∷ x) (uncommented_word w r a.1))
 
@@ -51,14 +50,14 @@ uncommented_two w v h g = uncommented_word w (32 ∷ v) h ∙ ap (λ x. w ++ 32 
 pieces_word : (w r : List ℕ) → list_all is_word_byte w ≡ true → pieces (w ++ 32 ∷ r) ≡ w ∷ pieces r
 pieces_word [] r h = refl
 pieces_word (b ∷ w) r h =
-    let a = both (is_word_byte b) (list_all is_word_byte w) h in
+    let a = and_parts (is_word_byte b) (list_all is_word_byte w) h in
     let c = word_byte b a.0 in
     rw c.0 (ap (with_first b) (pieces_word w r a.1))
 
 pieces_one : (w : List ℕ) → list_all is_word_byte w ≡ true → pieces w ≡ w ∷ []
 pieces_one [] h = refl
 pieces_one (b ∷ w) h =
-    let a = both (is_word_byte b) (list_all is_word_byte w) h in
+    let a = and_parts (is_word_byte b) (list_all is_word_byte w) h in
     let c = word_byte b a.0 in
     rw c.0 (ap (with_first b) (pieces_one w a.1))
 
@@ -90,24 +89,24 @@ is_word_line ws = has_any ws && list_all is_word ws
 uncommented_spaced : (ws : List (List ℕ)) → list_all is_word ws ≡ true → uncommented (spaced ws) ≡ spaced ws
 uncommented_spaced [] h = refl
 uncommented_spaced (w ∷ []) h =
-    uncommented_one w (both (list_all is_word_byte w) (has_any w) (both (is_word w) true h).0).0
+    uncommented_one w (and_parts (list_all is_word_byte w) (has_any w) (and_parts (is_word w) true h).0).0
 uncommented_spaced (w ∷ v ∷ ws) h =
-    let a = both (is_word w) (list_all is_word (v ∷ ws)) h in
-    let b = both (list_all is_word_byte w) (has_any w) a.0 in
+    let a = and_parts (is_word w) (list_all is_word (v ∷ ws)) h in
+    let b = and_parts (list_all is_word_byte w) (has_any w) a.0 in
     uncommented_word w (32 ∷ spaced (v ∷ ws)) b.0 ∙ ap (λ x. w ++ 32 ∷ x) (uncommented_spaced (v ∷ ws) a.1)
 
 pieces_spaced : (w : List ℕ) (ws : List (List ℕ)) → list_all is_word (w ∷ ws) ≡ true → pieces (spaced (w ∷ ws)) ≡ w ∷ ws
-pieces_spaced w [] h = pieces_one w (both (list_all is_word_byte w) (has_any w) (both (is_word w) true h).0).0
+pieces_spaced w [] h = pieces_one w (and_parts (list_all is_word_byte w) (has_any w) (and_parts (is_word w) true h).0).0
 pieces_spaced w (v ∷ ws) h =
-    let a = both (is_word w) (list_all is_word (v ∷ ws)) h in
-    let b = both (list_all is_word_byte w) (has_any w) a.0 in
+    let a = and_parts (is_word w) (list_all is_word (v ∷ ws)) h in
+    let b = and_parts (list_all is_word_byte w) (has_any w) a.0 in
     pieces_word w (spaced (v ∷ ws)) b.0 ∙ ap (λ x. w ∷ x) (pieces_spaced v ws a.1)
 
 all_full : (ws : List (List ℕ)) → list_all is_word ws ≡ true → filter has_any ws ≡ ws
 all_full [] h = refl
 all_full (w ∷ ws) h =
-    let a = both (is_word w) (list_all is_word ws) h in
-    let b = both (list_all is_word_byte w) (has_any w) a.0 in
+    let a = and_parts (is_word w) (list_all is_word ws) h in
+    let b = and_parts (list_all is_word_byte w) (has_any w) a.0 in
     rw b.1 (ap (λ x. w ∷ x) (all_full ws a.1))
 
 -- words with single spaces between them are read as these words
@@ -118,10 +117,11 @@ words_spaced (w ∷ ws) h = ap runs (uncommented_spaced (w ∷ ws) h) ∙ ap (fi
 
 pub spaced_one_line : (ws : List (List ℕ)) → list_all is_word ws ≡ true → is_one_line (spaced ws) ≡ true
 spaced_one_line [] h = refl
-spaced_one_line (w ∷ []) h = word_one_line w (both (list_all is_word_byte w) (has_any w) (both (is_word w) true h).0).0
+spaced_one_line (w ∷ []) h =
+    word_one_line w (and_parts (list_all is_word_byte w) (has_any w) (and_parts (is_word w) true h).0).0
 spaced_one_line (w ∷ v ∷ ws) h =
-    let a = both (is_word w) (list_all is_word (v ∷ ws)) h in
-    let b = both (list_all is_word_byte w) (has_any w) a.0 in
+    let a = and_parts (is_word w) (list_all is_word (v ∷ ws)) h in
+    let b = and_parts (list_all is_word_byte w) (has_any w) a.0 in
     list_all-append (λ b. not (nat_eq b 10)) w (32 ∷ spaced (v ∷ ws))
     ∙ rw (word_one_line w b.0, spaced_one_line (v ∷ ws) a.1) refl
 
@@ -135,8 +135,8 @@ wordful-cons l ls w e h = ap (λ x. filter has_any (x ∷ map words ls)) e
 pub wordful_spaced : (ls : List (List (List ℕ))) → list_all is_word_line ls ≡ true → wordful (map spaced ls) ≡ ls
 wordful_spaced [] h = refl
 wordful_spaced (l ∷ ls) h =
-    let a = both (is_word_line l) (list_all is_word_line ls) h in
-    let b = both (has_any l) (list_all is_word l) a.0 in
+    let a = and_parts (is_word_line l) (list_all is_word_line ls) h in
+    let b = and_parts (has_any l) (list_all is_word l) a.0 in
     ap (λ x. filter has_any (x ∷ map words (map spaced ls))) (words_spaced l b.1)
     ∙ rw b.0 (ap (λ x. l ∷ x) (wordful_spaced ls a.1))
 
@@ -144,8 +144,8 @@ pub spaced_one_lines : (ls : List (List (List ℕ))) → list_all is_word_line l
     → list_all is_one_line (map spaced ls) ≡ true
 spaced_one_lines [] h = refl
 spaced_one_lines (l ∷ ls) h =
-    let a = both (is_word_line l) (list_all is_word_line ls) h in
-    let b = both (has_any l) (list_all is_word l) a.0 in
+    let a = and_parts (is_word_line l) (list_all is_word_line ls) h in
+    let b = and_parts (has_any l) (list_all is_word l) a.0 in
     rw (spaced_one_line l b.1) (spaced_one_lines ls a.1)
 
 pub two_one_line : (w v : List ℕ) → list_all is_word_byte w ≡ true → list_all is_word_byte v ≡ true
@@ -159,11 +159,11 @@ three_one_line w v u h g k = list_all-append (λ b. not (nat_eq b 10)) w (32 ∷
     ∙ rw (word_one_line w h, two_one_line v u g k) refl
 
 sign_is_word : (b : ℕ) → is_sign b ≡ true → is_word_byte b ≡ true
-sign_is_word b h = elim (either (nat_eq b 43)) [
+sign_is_word b h = elim (cases_Bool (nat_eq b 43)) [
   | inl e ↦ let q : b ≡ 43 = eqb-true b 43 e in rw q refl
-  | inr m ↦ elim (either (nat_eq b 45)) [
+  | inr m ↦ elim (cases_Bool (nat_eq b 45)) [
     | inl e ↦ let q : b ≡ 45 = eqb-true b 45 e in rw q refl
-    | inr n ↦ elim (either (nat_eq b 48)) [
+    | inr n ↦ elim (cases_Bool (nat_eq b 48)) [
       | inl e ↦ let q : b ≡ 48 = eqb-true b 48 e in rw q refl
       | inr o ↦ let bad = rw (m, n, o) at h in cc
     ]
@@ -173,7 +173,7 @@ sign_is_word b h = elim (either (nat_eq b 43)) [
 pub signs_are_word : (w : List ℕ) → list_all is_sign w ≡ true → list_all is_word_byte w ≡ true
 signs_are_word [] h = refl
 signs_are_word (b ∷ w) h =
-    let a = both (is_sign b) (list_all is_sign w) h in
+    let a = and_parts (is_sign b) (list_all is_sign w) h in
     rw (sign_is_word b a.0) (signs_are_word w a.1)
 
 -- each line as its one word

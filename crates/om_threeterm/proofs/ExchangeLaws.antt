@@ -8,6 +8,7 @@ use Rattle.std.specs.Prelude.{ℕ, ◌≡◌, ◌+◌, ◌<◌, ◌≤◌, ◌�
 use Rattle.std.specs.Prelude.{is_some, MatchOption, IfNone, IfSome}
 use Rattle.std.proofs.Common.{refl, sym, ◌∙◌, ap, arith, inl, inr, subst, ⊎_elim}
 use Rattle.std.proofs.lemmas.Bool.{false≢true, cases_eq}
+use Rattle.om_signs.proofs.SignLaws.{zero_or_nonzero}
 use Rattle.om_subsets.specs.Subsets.{AreApart, choose, subset_at, rank_of, IsSubsetFrom, IsMember, with_element}
 use Rattle.om_subsets.specs.Subsets.{without_element}
 use Rattle.om_subsets.specs.Members.{Chosen}
@@ -15,7 +16,6 @@ use Rattle.om_subsets.proofs.OneElement.{subset_without}
 use Rattle.om_subsets.proofs.Order.{members_from, listed}
 use Rattle.om_subsets.proofs.Statements.{members_with, members_without}
 use Rattle.om_laws.proofs.MemberLaws.{member_or_not, search_members}
-use Rattle.om_laws.proofs.SignLaws.{zero_or_nonzero}
 use Rattle.om_chirotope.specs.Map.{SignMap, value_of}
 use Rattle.om_chirotope.specs.ThreeTerm.{IsBasis, HasExchange}
 use Rattle.om_chirotope.proofs.Circuits.{length-without}

@@ -13,6 +13,7 @@ use Rattle.om_signs.specs.declared.sign.Sign.{Sign}
 use Rattle.om_signs.specs.declared.sign.Sign.TheVariants.{Minus, Zero, Plus}
 use Rattle.om_signs.specs.Sign.{opposite}
 use Rattle.om_signs.specs.SignVec.{at_element}
+use Rattle.om_signs.proofs.SignLaws.{opposite-opposite}
 use Rattle.om_subsets.specs.Subsets.{AreApart, choose, subset_at, rank_of, IsSubsetFrom, IsMember, with_element}
 use Rattle.om_subsets.specs.Subsets.{count_above}
 use Rattle.om_subsets.specs.Members.{Chosen}
@@ -22,9 +23,10 @@ use Rattle.om_laws.specs.ThreeTerm.{AreBalanced}
 use Rattle.om_chirotope.specs.Map.{SignMap, chi_of, value_of, cocircuit_vector}
 use Rattle.om_chirotope.specs.ThreeTerm.{IsFrame, HasThreeTermRelations}
 use Rattle.om_chirotope.proofs.Cocircuits.{along_even, along_odd, length-with}
-use Rattle.om_chirotope.proofs.Places.{cocircuit_place, length-vector}
+use Rattle.om_chirotope.proofs.Places.{cocircuit_place}
 use Rattle.om_chirotope.proofs.Rows.{row_even, row_odd}
 use Rattle.om_laws.specs.Relations.{along}
+use Rattle.om_laws.proofs.BridgeLaws.{length-as_list}
 use Rattle.om_matroid.proofs.WalkLaws.{HasNoneBefore, none_at_all, none_earlier}
 use Rattle.om_parallel.specs.FirstBad.{IsNoneBad, IsLeastBad}
 use Rattle.om_threeterm.specs.Violations.{HasRelation, IsUnbalancedList, IsFirstUnbalanced, IsFirstUnbalancedOf}
@@ -41,11 +43,6 @@ above_with x y (z ∷ zs) l = elim (cases_eq x z) [
     | inr ge ↦ rw (ne_eqb x z n, le-ltb x z ge) (rw (above_with x y zs l) refl)
   ]
 ]
-
-twice : (s : Sign) → opposite (opposite s) ≡ s
-twice Minus = refl
-twice Zero = refl
-twice Plus = refl
 
 module _ (m : SignMap) (p : List ℕ) (x y : ℕ) (list : IsSubsetFrom 1 m.elements p)
     (first : IsSubsetFrom 1 m.elements (with_element x p))
@@ -76,7 +73,7 @@ module _ (m : SignMap) (p : List ℕ) (x y : ℕ) (list : IsSubsetFrom 1 m.eleme
 
   first_odd : count_above x p % 2 ≡ 1 → value_of m (p ++ x ∷ y ∷ []) ≡ opposite half
   first_odd o =
-      let len = length-vector m.elements (along (value_of m) (with_element x p)) in
+      let len = length-as_list m.elements (along (value_of m) (with_element x p)) in
       let inside : y - 1 < length (cocircuit_vector m (with_element x p)) = omega arith in
       in_row ∙ ap (λ v. at_element v y) (sym (row_odd m p x list x_off o))
       ∙ get_or-map opposite (cocircuit_vector m (with_element x p)) (y - 1) Zero Zero inside ∙ ap opposite row_half
@@ -94,7 +91,7 @@ module _ (m : SignMap) (p : List ℕ) (x y : ℕ) (list : IsSubsetFrom 1 m.eleme
   -- both parities are the same, or not
   pub value_same : (count_above x p % 2 ≡ 1) ↔ (count_above y p % 2 ≡ 1) → whole ≡ value_of m (p ++ x ∷ y ∷ [])
   value_same same = elim (cases_eq (count_above x p % 2) 1) [
-    | inl o ↦ sym (first_odd o ∙ ap opposite (second_odd (same.0 o)) ∙ twice whole)
+    | inl o ↦ sym (first_odd o ∙ ap opposite (second_odd (same.0 o)) ∙ opposite-opposite whole)
     | inr n ↦ sym (first_even n ∙ second_even (λ o. n (same.1 o)))
   ]
 

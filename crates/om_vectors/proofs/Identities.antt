@@ -4,8 +4,8 @@
 use Rattle.std.proofs.Common.{◌≡◌, ◌∙◌, ap}
 use Rattle.std.specs.Prelude.{ℤ, pos, ◌+ℤ◌, ◌-ℤ◌, ◌*ℤ◌, neg_ℤ}
 use Rattle.std.proofs.Math.IntN.{*ℤ-zero, zero-*ℤ}
+use Rattle.om_signs.proofs.Rings.{expanding, sums}
 use Rattle.om_vectors.specs.WholeVectors.{WholeVector, vector_of, triple_product}
-use Rattle.om_vectors.proofs.Rings.{expanding, sums}
 
 -- the product of vectors a and b that is orthogonal to both
 abbrev pub cross : WholeVector → WholeVector → WholeVector

@@ -1,4 +1,3 @@
-pub mod Rings
 pub mod Identities
 pub mod WordTables
 pub mod Sizes

@@ -10,15 +10,17 @@ use Rattle.std.proofs.lemmas.List.{length-map, get_or-map}
 use Rattle.om_signs.specs.declared.sign.Sign.{Sign}
 use Rattle.om_signs.specs.declared.sign.Sign.TheVariants.{Minus, Zero, Plus}
 use Rattle.om_signs.specs.Sign.{opposite, product}
-use Rattle.om_subsets.specs.Subsets.{IsSubsetFrom, IsMember, all_subsets, rank_of}
+use Rattle.om_signs.proofs.SignLaws.{product_comm, opposite-opposite}
+use Rattle.om_signs.proofs.Rings.{sums}
+use Rattle.om_subsets.specs.Subsets.{IsSubsetFrom, all_subsets, rank_of}
 use Rattle.om_subsets.proofs.Order.{length-subsets_from, rank_from-lt, get_or-rank_from}
-use Rattle.om_subsets.proofs.Statements.{subset_is_increasing}
+use Rattle.om_subsets.proofs.Triples.{triple_subset}
 use Rattle.om_laws.specs.Tuples.{IsAlternating, value}
 use Rattle.om_laws.specs.Sorting.{IsIncreasing, IsElement, IsTuple, on_tuples}
 use Rattle.om_laws.specs.Relations.{HasIncreasingRelations, IsBalanced, along}
-use Rattle.om_laws.proofs.SignLaws.{product_comm, opposite-opposite}
 use Rattle.om_laws.proofs.TupleLaws.{value_alternating}
 use Rattle.om_laws.proofs.TupleSizes.{is_tuple_cases, on_tuples_at, on_tuples_off, on_tuples_alternating}
+use Rattle.om_laws.proofs.TupleSizes.{triple_is_tuple}
 use Rattle.om_laws.proofs.SortingLaws.{value_increasing, alternating_equal}
 use Rattle.om_laws.proofs.ChirotopeLaws.{chirotope_from_increasing}
 use Rattle.om_chirotope.specs.Map.{SignMap, IsMap, chi_of, value_of}
@@ -27,7 +29,6 @@ use Rattle.om_chirotope.proofs.Theory.{map_chirotope}
 use Rattle.om_vectors.specs.WholeVectors.{WholeVector, triple_product, sign_of}
 use Rattle.om_vectors.specs.Balance.{total, HasSign}
 use Rattle.om_vectors.specs.Realizations.{vector_at, triple_sign, signs_map, Realizes}
-use Rattle.om_vectors.proofs.Rings.{sums}
 use Rattle.om_vectors.proofs.Identities.{swap_first, swap_last, four_terms}
 use Rattle.om_vectors.proofs.NumberSigns.{sign-neg, sign-times, sign_zero, balanced}
 
@@ -46,10 +47,6 @@ alternating vs x y (a ∷ []) (d ∷ ds) = refl
 alternating vs x y (a ∷ b ∷ []) bs = refl
 alternating vs x y (a ∷ b ∷ c ∷ []) bs = refl
 alternating vs x y (a ∷ b ∷ c ∷ d ∷ cs) bs = refl
-
--- three elements in any order
-three : (n a b c : ℕ) → IsElement n a → IsElement n b → IsElement n c → IsTuple n 3 (a ∷ b ∷ c ∷ [])
-three n a b c ha hb hc = record { size = refl; within = (ha, (hb, (hc, tt))) }
 
 pub realized_value : (vs : List WholeVector) (m : SignMap) → Realizes vs m → (t : List ℕ) → IsTuple m.elements 3 t
     → value_of m t ≡ triple_sign vs t
@@ -135,10 +132,10 @@ four_relation vs m h s t u v a b hs ht hu hv ha hb =
     (product (value_of m (s ∷ t ∷ u ∷ [])) (value_of m (a ∷ b ∷ v ∷ [])))
     (bracket vs a b s *ℤ bracket vs t u v) (bracket vs a b t *ℤ bracket vs s u v) (bracket vs a b u *ℤ bracket vs s t v)
     (bracket vs a b v *ℤ bracket vs s t u)
-    (term vs m h t u v a b s (three n t u v ht hu hv) (three n a b s ha hb hs))
-    (term vs m h s u v a b t (three n s u v hs hu hv) (three n a b t ha hb ht))
-    (term vs m h s t v a b u (three n s t v hs ht hv) (three n a b u ha hb hu))
-    (term vs m h s t u a b v (three n s t u hs ht hu) (three n a b v ha hb hv))
+    (term vs m h t u v a b s (triple_is_tuple n t u v ht hu hv) (triple_is_tuple n a b s ha hb hs))
+    (term vs m h s u v a b t (triple_is_tuple n s u v hs hu hv) (triple_is_tuple n a b t ha hb ht))
+    (term vs m h s t v a b u (triple_is_tuple n s t v hs ht hv) (triple_is_tuple n a b u ha hb hu))
+    (term vs m h s t u a b v (triple_is_tuple n s t u hs ht hu) (triple_is_tuple n a b v ha hb hv))
     (four_terms (vector_at vs a) (vector_at vs b) (vector_at vs s) (vector_at vs t) (vector_at vs u) (vector_at vs v))
 
 pub relations : (vs : List WholeVector) (m : SignMap) → Realizes vs m → HasIncreasingRelations m.elements 3 (value_of m)
@@ -162,15 +159,6 @@ relations vs m h s a low ts ta is ia = four_of s ts
     four_of (s ∷ t ∷ u ∷ v ∷ w ∷ ws) ts = let l = ts.size in absurd (omega arith)
 
 -- ---- the map of the signs
-
-pub triple_subset : (n a b c : ℕ) → 1 ≤ a → a < b → b < c → c ≤ n → IsSubsetFrom 1 n (a ∷ b ∷ c ∷ [])
-triple_subset n a b c low ab bc high = (subset_is_increasing n (a ∷ b ∷ c ∷ [])).1 ((ab, (bc, tt)), within)
-  where
-    within : (e : ℕ) → IsMember e (a ∷ b ∷ c ∷ []) → (1 ≤ e) × (e ≤ n)
-    within e (inl q) = omega arith
-    within e (inr (inl q)) = omega arith
-    within e (inr (inr (inl q))) = omega arith
-    within e (inr (inr (inr q))) = absurd q
 
 pub sign_at : (vs : List WholeVector) (t : List ℕ) → IsSubsetFrom 1 (length vs) t → length t ≡ 3
     → chi_of (signs_map vs) t ≡ triple_sign vs t
@@ -203,6 +191,6 @@ chirotope_of vs a b c low ab bc high n =
     let h = own_signs vs in
     map_chirotope m (whole_map vs (omega arith))
     (chirotope_from_increasing m.elements 3 (chi_of m) (relations vs m h) (a ∷ b ∷ c ∷ [])
-    (three m.elements a b c (low, omega arith) (omega arith, omega arith) (omega arith, high))
+    (triple_is_tuple m.elements a b c (low, omega arith) (omega arith, omega arith) (omega arith, high))
     (ab, (bc, tt))
     (λ z. n (sign_zero (bracket vs a b c) (h.signs a b c low ab bc high ∙ z))))

@@ -1,12 +1,13 @@
 -- The table of the rows of a map, as it is filled.
 --
 -- Main results: row_before, a row by that of the two elements exchanged.
-use Rattle.std.specs.Prelude.{ℕ, ◌≡◌, ◌≢◌, ◌<◌, [], ◌∷◌, map}
+use Rattle.std.specs.Prelude.{ℕ, ◌≡◌, ◌<◌, [], ◌∷◌, map}
 use Rattle.std.proofs.Common.{refl, sym, ap, ◌∙◌, subst, inl, inr, arith}
 use Rattle.std.proofs.lemmas.Bool.{ne_eqb, lt-ltb}
 use Rattle.om_signs.specs.Sign.{opposite}
 use Rattle.om_subsets.specs.Subsets.{IsSubsetFrom, IsMember, with_element}
 use Rattle.om_subsets.proofs.Statements.{subset_is_increasing}
+use Rattle.om_subsets.proofs.OneElement.{not_in_single}
 use Rattle.om_laws.specs.Sorting.{IsElement}
 use Rattle.om_chirotope.specs.Map.{SignMap, cocircuit_vector}
 use Rattle.om_chirotope.proofs.Rows.{row_odd}
@@ -20,10 +21,6 @@ single_list n p i = (subset_is_increasing n (p ∷ [])).1 (tt, within)
     within : (e : ℕ) → IsMember e (p ∷ []) → IsElement n e
     within e (inl q) = subst (IsElement n) (sym q) i
     within e (inr q) = absurd q
-
-not_in_single : (p x : ℕ) → x ≢ p → IsMember x (p ∷ []) → ⊥
-not_in_single p x ne (inl q) = ne q
-not_in_single p x ne (inr q) = absurd q
 
 -- the row of p and x, negated, is that of x and p
 pub row_before : (m : SignMap) (p x : ℕ) → IsElement m.elements x → p < x

@@ -1,6 +1,6 @@
 -- What no words, and one word alone, behind the first one of a command are read as.
 --
--- Main results: no_value, none_read, some_read, alone_empty, alone_bad, alone_many, alone_read, none_some, one_some
+-- Main results: no_value, none_read, some_read, alone_empty, alone_bad, alone_many, alone_read, none_some
 use Rattle.std.specs.Prelude.{ℕ, ◌≡◌, ◌<◌, length, map, List, [], ◌∷◌, refl, true, false, ◌==◌, suc, Ok, Err, Option}
 use Rattle.std.specs.Prelude.{Some, None}
 use Rattle.std.proofs.Common.{arith, ap, subst, sym, ◌∙◌}
@@ -105,6 +105,3 @@ alone_read Spelling f word [] a spells one empty = record {
 
 pub none_some : {A : Type 0} {o : Option A} (a : A) → o ≡ None → o ≡ Some a → ⊥
 none_some {A = A} a none some = let same : ◌≡◌ {A = Option A} None (Some a) = sym none ∙ some in cc
-
-pub one_some : {A : Type 0} {a b : A} → Some a ≡ Some b → a ≡ b
-one_some same = cc

@@ -4,10 +4,10 @@
 -- (first_unfit); items of a list as words (item_word); a test of some word (any_found, any_none).
 use Rattle.std.specs.Prelude.{ℕ, ◌≡◌, ◌<◌, ◌≤◌, ◌+◌, Bool, true, false, List, [], ◌∷◌, ◌++◌, length, map, refl}
 use Rattle.std.specs.List.{list_any}
-use Rattle.std.proofs.Common.{get_or, take, drop, zero, suc, arith, ap, subst, sym, ◌∙◌, append_assoc, length-append}
+use Rattle.std.proofs.Common.{get_or, take, drop, arith, ap, subst, sym, ◌∙◌, append_assoc, length-append}
 use Rattle.std.proofs.lemmas.Bool.{both_ways}
 use Rattle.std.proofs.lemmas.List.{length-take-le, take-take, get_or-take, take_at, get_or_at, take-append-drop}
-use Rattle.std.proofs.lemmas.List.{drop_more, get_or_default}
+use Rattle.std.proofs.lemmas.List.{drop_more, get_or_default, get_or-map}
 use Rattle.std.proofs.lemmas.List.Folds.{list_any_at, list_any_none}
 use Rattle.om_text.specs.Fault.{Begins}
 use Rattle.om_words.specs.Words.{IsFault, at_word}
@@ -38,9 +38,9 @@ unfit_at fits before word after each =
     ≡ true = each (length before) (omega (arith, size)) in
     rw (take_at before (word ∷ after) (length before) refl, get_or_at before word after [] (length before) refl) at h
 
-pub around : (words : List (List ℕ)) (k : ℕ) → k < length words
-    → take k words ++ get_or words k [] ∷ drop (k + 1) words ≡ words
-around words k l = ap (λ u. take k words ++ u) (sym (drop_more words k [] l)) ∙ take-append-drop k words
+pub around : (words : List (List ℕ)) (k : ℕ) (d : List ℕ) → k < length words
+    → take k words ++ get_or words k d ∷ drop (k + 1) words ≡ words
+around words k d l = ap (λ u. take k words ++ u) (sym (drop_more words k d l)) ∙ take-append-drop k words
 
 pub none_fits : (fits : List (List ℕ) → List ℕ → Bool) (words : List (List ℕ)) (k : ℕ) → k < length words
     → fits (take k words) (get_or words k []) ≡ false → EachFits fits words → ⊥
@@ -61,14 +61,13 @@ first_unfit Language fits each begins words k l before unfit =
     (unfit_at fits (take k words) word b.0
     (subst (EachFits fits) (append_assoc (take k words) (word ∷ []) b.0)
     (each (take k words ++ word ∷ [] ++ b.0) b.1)))) in
-    subst (λ ws. IsFault Language ws (k + 1)) (around words k l)
+    subst (λ ws. IsFault Language ws (k + 1)) (around words k [] l)
     (subst (λ j. IsFault Language (take k words ++ word ∷ drop (k + 1) words) (j + 1)) size fault)
 
-pub item_word : {X : Type 0} (f : X → List ℕ) (xs : List X) (k : ℕ) (x : X) → k < length xs → x ≡ get_or xs k x
-    → get_or (map f xs) k [] ≡ f x
-item_word f [] k x l is = absurd (omega arith)
-item_word f (y ∷ ys) zero x l is = ap f (sym is)
-item_word f (y ∷ ys) (suc k) x l is = item_word f ys k x (omega arith) is
+-- an item of a list, as a word of the list of words
+pub item_word : {X : Type 0} (f : X → List ℕ) (xs : List X) (k : ℕ) (x : X) (d : List ℕ) → k < length xs
+    → x ≡ get_or xs k x → get_or (map f xs) k d ≡ f x
+item_word f xs k x d l is = get_or-map f xs k x d l ∙ ap f (sym is)
 
 -- ---- tests of words
 

@@ -2,18 +2,21 @@
 --
 -- Main results: different elements are no more than there are (few_entries); those that words list are different, lie
 -- within the limit, and no sign is zero (lawful_leading).
-use Rattle.std.specs.Prelude.{ℕ, ◌≡◌, ◌≢◌, ◌<◌, ◌≤◌, ◌+◌, ◌||◌, Bool, true, false, cond, nat_eq, nat_lt, not, List, []}
+use Rattle.std.proofs.Math.Bool.{or-true}
+use Rattle.std.specs.Prelude.{ℕ, ◌≡◌, ◌≢◌, ◌<◌, ◌≤◌, ◌+◌, Bool, true, false, cond, nat_eq, nat_lt, List, []}
 use Rattle.std.specs.Prelude.{◌∷◌, ◌++◌, length, take, Option, Some, None, refl}
 use Rattle.std.specs.List.{list_any, filter_map, IsDistinct, AllByRecursion}
 use Rattle.std.proofs.Common.{get_or, eqb, suc, arith, ap, subst, sym, ◌∙◌, inl, inr, append_assoc, append-nil}
-use Rattle.std.proofs.lemmas.Bool.{false≢true, both_ways, and_parts, cases_eq, eq-eqb, ne_eqb}
+use Rattle.std.proofs.lemmas.Bool.{false≢true, both_ways, and_parts, cases_eq, eq-eqb, ne_eqb, not-true}
 use Rattle.std.proofs.lemmas.List.{take_at, length-map}
 use Rattle.std.proofs.lemmas.List.Folds.{list_any-append}
 use Rattle.std.proofs.lemmas.Map.Keys.{IsDistinct-cons}
 use Rattle.std.proofs.lemmas.Map.Steps.{length-le_from_distinct_below}
+use Rattle.std.proofs.lemmas.Option.{same_Some}
 use Rattle.om_signs.specs.declared.limits.TheConstants.{MAX_ELEMENTS}
 use Rattle.om_signs.specs.declared.sign.Sign.{Sign}
 use Rattle.om_signs.specs.declared.sign.Sign.TheVariants.{Plus, Minus, Zero}
+use Rattle.om_signs.proofs.SignLaws.{plus_nonzero, minus_nonzero}
 use Rattle.om_lexext.specs.declared.signed.Signed.{Signed}
 use Rattle.om_lexext.specs.Lexicographic.{AreEntries, IsUnlisted, AreDifferent, AreNonzero, IsLexicographicList}
 use Rattle.om_words.specs.declared.limits.TheConstants.{MAX_LISTED}
@@ -21,7 +24,6 @@ use Rattle.om_words.specs.declared.leading.Leading.{Leading}
 use Rattle.om_words.specs.Options.{number_within}
 use Rattle.om_words.specs.Listings.{with_sign, signed_of, has_element, is_among, is_new, is_leading, AreLeading}
 use Rattle.om_words.specs.Tasks.{given_list, elements_of, AreLawful}
-use Rattle.om_words.proofs.ArgumentLaws.{one_some}
 use Rattle.om_words.proofs.OptionLaws.{number_limits}
 
 -- ---- different elements are no more than there are elements
@@ -83,13 +85,7 @@ listed_by s digits x nonzero is = by_number (number_within 1 MAX_ELEMENTS digits
     by_number None number made = cc
     by_number (Some e) number made =
         let limits = number_limits 1 MAX_ELEMENTS e digits number in
-        subst IsListed (one_some made) (record { low = limits.0; high = limits.1; signed = nonzero })
-
-plus_nonzero : Plus ≢ Zero
-plus_nonzero same = cc
-
-minus_nonzero : Minus ≢ Zero
-minus_nonzero same = cc
+        subst IsListed (same_Some _ _ made) (record { low = limits.0; high = limits.1; signed = nonzero })
 
 listed_of : (word : List ℕ) (x : Signed) → signed_of word ≡ Some x → IsListed x
 listed_of [] x is = cc
@@ -112,13 +108,9 @@ next_of before word leads =
     by_value (signed_of word) refl
     (and_parts (nat_lt (length before) MAX_LISTED) (is_new before (signed_of word)) leads).1
   where
-    turned : (b : Bool) → not b ≡ true → b ≡ false
-    turned true h = absurd (false≢true h)
-    turned false h = refl
-
     by_value : (o : Option Signed) → signed_of word ≡ o → is_new before o ≡ true → IsNext before word
     by_value None is new = absurd (false≢true new)
-    by_value (Some x) is new = record { value = x; is = is; new = turned (is_among x.element before) new }
+    by_value (Some x) is new = record { value = x; is = is; new = not-true (is_among x.element before) new }
 
 -- ---- the elements with signs of words that may stand behind others
 
@@ -132,10 +124,6 @@ record AreListed (before words : List (List ℕ)) : Type 0 where
 among_front : (e : ℕ) (before after : List (List ℕ)) → is_among e before ≡ true → is_among e (before ++ after) ≡ true
 among_front e before after among = rw (list_any-append (λ w. has_element e (signed_of w)) before after, among) refl
 
-or_true : (b : Bool) → (b || true) ≡ true
-or_true true = refl
-or_true false = refl
-
 among_last : (before : List (List ℕ)) (word : List ℕ) (x : Signed) → signed_of word ≡ Some x
     → is_among x.element (before ++ word ∷ []) ≡ true
 among_last before word x is =
@@ -143,7 +131,7 @@ among_last before word x is =
       list_any-append (λ w. has_element x.element (signed_of w)) before (word ∷ []),
       is,
       eq-eqb x.element x.element refl,
-    ) (or_true (is_among x.element before))
+    ) (or-true (is_among x.element before))
 
 listed_words : (before words : List (List ℕ))
     → ((i : ℕ) → i < length words → is_leading (before ++ take i words) (get_or words i []) ≡ true)

@@ -8,4 +8,4 @@ mod SignWords
 pub mod TaskLaws
 mod TripleLaws
 mod VerbLaws
-mod WordLaws
+pub mod WordLaws

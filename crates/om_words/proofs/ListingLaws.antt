@@ -12,6 +12,7 @@ use Rattle.std.proofs.Common.{below_more}
 use Rattle.std.proofs.lemmas.Bool.{false≢true, eqb-true, le-leb, and_from}
 use Rattle.std.proofs.lemmas.List.{take_more, take_all, set_at, length_push}
 use Rattle.std.proofs.lemmas.List.Elements.{filter_map-append}
+use Rattle.std.proofs.lemmas.Option.{same_Some}
 use Rattle.om_signs.specs.declared.limits.TheConstants.{MAX_ELEMENTS}
 use Rattle.om_signs.specs.declared.sign.Sign.TheVariants.{Plus}
 use Rattle.om_text.specs.Fault.{Begins}
@@ -27,7 +28,7 @@ use Rattle.om_words.specs.Readings.{EachFits}
 use Rattle.om_words.specs.Triples.{IsElementAt}
 use Rattle.om_words.specs.Listings.{padded, colour_of, colours_of, AreColouring, signed_of, is_leading, AreLeading}
 use Rattle.om_words.proofs.WordLaws.{first_of, tail_of}
-use Rattle.om_words.proofs.ArgumentLaws.{no_value, none_some, one_some}
+use Rattle.om_words.proofs.ArgumentLaws.{no_value, none_some}
 use Rattle.om_words.proofs.Numerals.{one_element}
 use Rattle.om_words.proofs.FitLaws.{FitBelow, none_fits, first_unfit}
 use Rattle.om_words.proofs.TripleLaws.{same_there, none_at, word_of}
@@ -246,7 +247,7 @@ colouring_read f (y ∷ z ∷ []) x colours n e first letters count at l =
             let same : record { colours = colours; count = n; e = e } ≡ a = cc in
             subst (AreColouring (f y ∷ f z ∷ [])) same (rw size (colouring_of (f y) (f z) colours e here element)),
         λ h.
-            let p : colours ≡ a.colours = one_some (sym here ∙ first_letters (f y) (f z ∷ []) a h) in
+            let p : colours ≡ a.colours = same_Some _ _ (sym here ∙ first_letters (f y) (f z ∷ []) a h) in
             let q : n ≡ a.count = size ∙ ap (λ ws. length (first_of ws)) h.two ∙ sym h.count in
             let r : e ≡ a.e = one_element (f z) e a.e element (second_element (f y) (f z) [] a h) in
             ap Ok (same_colouring colours n e a p q r),

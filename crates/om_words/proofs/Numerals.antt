@@ -7,19 +7,23 @@ use Rattle.std.specs.Prelude.{Err, Some}
 use native.Mathlib.Numerals.{unary_clauses}
 use Rattle.std.specs.Fmt.{decimal}
 use Rattle.std.proofs.Common.{zero, get_or, drop, take, arith, ap, subst, sym, ◌∙◌, inl, inr, append-nil, lit≤}
+use Rattle.std.proofs.Common.{append_assoc}
 use Rattle.std.proofs.lemmas.Bool.{ne_eqb, le-ltb}
-use Rattle.std.proofs.lemmas.List.{map-append, length-map}
+use Rattle.std.proofs.lemmas.List.{map-append, length-map, length-take-le, take_all}
 use Rattle.std.proofs.lemmas.Fmt.{decimal_injective}
+use Rattle.std.proofs.lemmas.Option.{same_Some}
 use Rattle.om_signs.specs.declared.limits.TheConstants.{MAX_ELEMENTS}
 use Rattle.om_subsets.specs.Subsets.{IsSubsetFrom, IsMember, with_element}
 use Rattle.om_subsets.specs.Lists.{IsIncreasing}
 use Rattle.om_subsets.specs.Members.{members, mask_of}
 use Rattle.om_subsets.proofs.Places.{members-zero}
 use Rattle.om_subsets.proofs.Statements.{subset_is_increasing}
+use Rattle.om_subsets.proofs.Order.{increasing_tail, head_below}
 use Rattle.om_text.specs.Fault.{Begins}
 use Rattle.om_words.specs.Words.{IsElement, AreElements, IsFault, at_word, at_end, HasValue, IsRead}
 use Rattle.om_words.proofs.WordLaws.{first_of, tail_of}
-use Rattle.om_words.proofs.ArgumentLaws.{no_value, one_some}
+use Rattle.om_words.proofs.ArgumentLaws.{no_value}
+use Rattle.om_words.proofs.FitLaws.{around}
 
 -- ---- numbers
 
@@ -36,7 +40,7 @@ one_element word e f a b = same_number e f a.high b.high (sym a.digits ∙ b.dig
 pub this_element : (word : List ℕ) (e : ℕ) → 1 ≤ e → e ≤ MAX_ELEMENTS → word ≡ decimal e → (f : ℕ) → (Some e ≡ Some f)
     ↔ IsElement word f
 this_element word e low high is f = (
-  λ same. let one : e ≡ f = one_some same in
+  λ same. let one : e ≡ f = same_Some _ _ same in
       subst (IsElement word) one (record { low = low; high = high; digits = is }),
   λ element. ap Some (same_number e f high element.high (sym is ∙ element.digits)),
 )
@@ -44,7 +48,7 @@ this_element word e low high is f = (
 pub this_above : (word : List ℕ) (last e : ℕ) → IsElement word e → last < e → (f : ℕ) → (Some e ≡ Some f)
     ↔ (IsElement word f × (last < f))
 this_above word last e element above f = (
-  λ same. let one : e ≡ f = one_some same in subst (λ g. IsElement word g × (last < g)) one (element, above),
+  λ same. let one : e ≡ f = same_Some _ _ same in subst (λ g. IsElement word g × (last < g)) one (element, above),
   λ both. ap Some (one_element word e f element both.0),
 )
 
@@ -110,20 +114,11 @@ subset_increasing xs subset =
     let h = (subset_is_increasing MAX_ELEMENTS xs).0 subset in
     record { increasing = from_zero xs h.0 (λ e m. (h.1 e m).0); within = λ e m. (h.1 e m).1 }
 
-increasing_low : (d : ℕ) (xs : List ℕ) → IsIncreasing (d ∷ xs) → (e : ℕ) → IsMember e xs → d < e
-increasing_low d [] h e m = absurd m
-increasing_low d (x ∷ xs) h e (inl same) = let l = h.0 in omega (arith, l, same)
-increasing_low d (x ∷ xs) h e (inr m) = let i = increasing_low x xs h.1 e m in let l = h.0 in omega (arith, i, l)
-
-without_first : (d : ℕ) (xs : List ℕ) → IsIncreasing (d ∷ xs) → IsIncreasing xs
-without_first d [] h = tt
-without_first d (x ∷ xs) h = h.1
-
 increasing_subset : (xs : List ℕ) → AreIncreasing xs → IsSubsetFrom 1 MAX_ELEMENTS xs
 increasing_subset xs h =
     (subset_is_increasing MAX_ELEMENTS xs).1 (
-      without_first 0 xs h.increasing,
-      λ e m. (let l = increasing_low 0 xs h.increasing e m in omega (arith, l), h.within e m),
+      increasing_tail 0 xs h.increasing,
+      λ e m. (let l = head_below 0 e xs h.increasing m in omega (arith, l), h.within e m),
     )
 
 -- ---- numbers of elements
@@ -185,28 +180,6 @@ take_next [] k word l same = absurd (omega arith)
 take_next (w ∷ ws) zero word l same = ap (λ u. u ∷ []) same
 take_next (w ∷ ws) (suc k) word l same =
     simp unary_clauses (ap (λ u. w ∷ u) (simp unary_clauses at (take_next ws k word (omega arith) same)))
-
-around_next : (words : List (List ℕ)) (k : ℕ) (word : List ℕ) → k < length words → get_or words k word ≡ word
-    → take k words ++ word ∷ drop (k + 1) words ≡ words
-around_next [] k word l same = absurd (omega arith)
-around_next (w ∷ ws) zero word l same = ap (λ u. u ∷ ws) (sym same)
-around_next (w ∷ ws) (suc k) word l same =
-    simp unary_clauses (ap (λ u. w ∷ u) (simp unary_clauses at (around_next ws k word (omega arith) same)))
-
-pub length_taken : {X : Type 0} (words : List X) (k : ℕ) → k ≤ length words → length (take k words) ≡ k
-length_taken [] zero l = refl
-length_taken [] (suc k) l = absurd (omega (arith, l))
-length_taken (w ∷ ws) zero l = refl
-length_taken (w ∷ ws) (suc k) l = ap suc (length_taken ws k (omega arith))
-
-all_taken : {X : Type 0} (words : List X) (k : ℕ) → length words ≤ k → take k words ≡ words
-all_taken {X = X} [] k l = none k
-  where
-    none : (k : ℕ) → take {A = X} k [] ≡ []
-    none zero = refl
-    none (suc k) = refl
-all_taken (w ∷ ws) zero l = absurd (omega arith)
-all_taken (w ∷ ws) (suc k) l = ap (λ u. w ∷ u) (all_taken ws k (omega arith))
 
 member_more : (e f : ℕ) (xs : List ℕ) → IsMember f (xs ++ e ∷ []) → (f ≡ e) ⊎ IsMember f xs
 member_more e f [] (inl same) = inl same
@@ -278,14 +251,10 @@ stops_at xs word h none (more, (mask, all)) =
     let ys = subset_increasing all.elements all.increasing in
     let on : GoesOn xs all.elements word =
     goes_on xs all.elements word more h.within ys.within
-    (sym (append_one (map decimal xs) word more) ∙ all.digits) in
+    (sym (append_assoc (map decimal xs) (word ∷ []) more) ∙ all.digits) in
     let above : last_of 0 xs < on.next =
     below_next 0 on.next xs on.more (subst (λ u. IsIncreasing (0 ∷ u)) on.list ys.increasing) in
     none on.next (record { low = omega (arith, above); high = on.high; digits = on.digits }) above
-  where
-    append_one : (us : List (List ℕ)) (w : List ℕ) (vs : List (List ℕ)) → us ++ w ∷ [] ++ vs ≡ us ++ w ∷ vs
-    append_one [] w vs = refl
-    append_one (u ∷ us) w vs = ap (λ k. u ∷ k) (append_one us w vs)
 
 pub taken_fault : (words : List (List ℕ)) (k last place : ℕ) (word : List ℕ) (xs : List ℕ)
     → AreTaken words k last place xs → k < length words → get_or words k word ≡ word
@@ -298,7 +267,7 @@ taken_fault words k last place word xs taken l same none =
     (stops_at xs word taken.elements stop) in
     let begins : Begins (HasValue AreElements) (take k words) =
     subst (Begins (HasValue AreElements)) (sym taken.digits) (taken_begin xs taken.elements) in
-    let whole = around_next words k word l same in
+    let whole = ap (λ w. take k words ++ w ∷ drop (k + 1) words) (sym same) ∙ around words k word l in
     record {
       value = λ m. (
         λ made. absurd (no_value _ m made),
@@ -307,7 +276,8 @@ taken_fault words k last place word xs taken l same none =
               drop (k + 1) words,
               (
                 m,
-                subst (λ u. AreElements u m) (sym whole ∙ sym (regroup (take k words) word (drop (k + 1) words)))
+                subst (λ u. AreElements u m)
+                    (sym whole ∙ sym (append_assoc (take k words) (word ∷ []) (drop (k + 1) words)))
                     all,
               ),
             )),
@@ -318,20 +288,16 @@ taken_fault words k last place word xs taken l same none =
           ap (λ p. p + 1) taken.count,
           subst (λ u. IsFault (HasValue AreElements) u (k + 1)) whole
               (subst (λ j. IsFault (HasValue AreElements) (take k words ++ word ∷ drop (k + 1) words) (j + 1))
-              (length_taken words k (omega arith)) (at_word (take k words) word (drop (k + 1) words) begins refused)),
+              (length-take-le k words (omega arith)) (at_word (take k words) word (drop (k + 1) words) begins refused)),
         ),
       );
     }
-  where
-    regroup : (us : List (List ℕ)) (w : List ℕ) (vs : List (List ℕ)) → us ++ w ∷ [] ++ vs ≡ us ++ w ∷ vs
-    regroup [] w vs = refl
-    regroup (u ∷ us) w vs = ap (λ k. u ∷ k) (regroup us w vs)
 
 pub taken_empty : (words : List (List ℕ)) (k last place : ℕ) (xs : List ℕ) → AreTaken words k last place xs
     → length words ≤ k → last ≡ 0 → IsRead AreElements words (Err (record { word = 2 }))
 taken_empty words k last place xs taken l at_zero =
     let none : xs ≡ [] = is_empty xs taken.elements.increasing (sym taken.last ∙ at_zero) in
-    let empty : words ≡ [] = sym (all_taken words k l) ∙ taken.digits ∙ ap (map decimal) none in
+    let empty : words ≡ [] = sym (take_all k words l) ∙ taken.digits ∙ ap (map decimal) none in
     subst (λ u. IsRead AreElements u (Err (record { word = 2 }))) (sym empty) (record {
       value = λ m. (λ made. absurd (no_value _ m made), λ all. absurd (no_elements (m, all)));
       fault = (1, (refl, at_end [] (decimal 1 ∷ [], one_begins) no_elements));
@@ -347,7 +313,7 @@ taken_empty words k last place xs taken l at_zero =
 pub taken_end : (words : List (List ℕ)) (k last place mask : ℕ) (xs : List ℕ) → AreTaken words k last place xs
     → length words ≤ k → (last ≡ 0 → ⊥) → mask ≡ mask_of 1 xs MAX_ELEMENTS → IsRead AreElements words (Ok mask)
 taken_end words k last place mask xs taken l some is =
-    let all : words ≡ map decimal xs = sym (all_taken words k l) ∙ taken.digits in
+    let all : words ≡ map decimal xs = sym (take_all k words l) ∙ taken.digits in
     record {
       value = λ m. (
         λ made. let same : mask ≡ m = cc in record {
@@ -365,12 +331,6 @@ taken_end words k last place mask xs taken l some is =
       );
       fault = tt;
     }
-
-pub item_at : {X : Type 0} (f : X → List ℕ) (xs : List X) (k : ℕ) (x : X) → k < length xs → x ≡ get_or xs k x
-    → get_or (map f xs) k (f x) ≡ f x
-item_at f [] k x l is = absurd (omega arith)
-item_at f (y ∷ ys) zero x l is = ap f (sym is)
-item_at f (y ∷ ys) (suc k) x l is = item_at f ys k x (omega arith) is
 
 pub length-words : {X : Type 0} (f : X → List ℕ) (xs : List X) (k : ℕ) → k < length xs → k < length (map f xs)
 length-words f xs k l = rw (length-map xs f) l

@@ -11,6 +11,7 @@ use Rattle.std.proofs.Common.{get_or, take, drop, suc, arith, ap, subst, sym, �
 use Rattle.std.proofs.lemmas.Bool.{false≢true, leb-true}
 use Rattle.std.proofs.lemmas.List.{take_more, drop_more}
 use Rattle.std.proofs.lemmas.List.Folds.{list_any-append}
+use Rattle.std.proofs.lemmas.Option.{same_Some}
 use Rattle.om_text.specs.Words.{is_decimal, number_from, up_to}
 use Rattle.om_text.specs.Fault.{Begins}
 use Rattle.om_words.specs.declared.usage.Usage.{Usage}
@@ -21,7 +22,7 @@ use Rattle.om_words.specs.Readings.{EachFits, IsReadBehind}
 use Rattle.om_words.specs.Options.{from_least, option_text, least_number, greatest_number, given_number, is_given}
 use Rattle.om_words.specs.Options.{is_option, AreOptions, number_of, default_number, number_within, AreSet}
 use Rattle.om_words.specs.Options.{AreSeedAndCount, budgets_of}
-use Rattle.om_words.proofs.ArgumentLaws.{no_value, none_some, one_some}
+use Rattle.om_words.proofs.ArgumentLaws.{no_value, none_some}
 use Rattle.om_words.proofs.WordLaws.{first_of, tail_of, fault_behind}
 use Rattle.om_words.proofs.FitLaws.{FitBelow, fits_all, none_fits, first_unfit}
 
@@ -168,7 +169,7 @@ number_limits least greatest n word is = by_decimal (is_decimal word) is
             → number_from 0 word ≤ greatest → (least ≤ n) × (n ≤ greatest)
         by_least false low is l = cc
         by_least true low is l =
-            let one : number_from 0 word ≡ n = one_some is in
+            let one : number_from 0 word ≡ n = same_Some _ _ is in
             let p = leb-true least (number_from 0 word) low in (omega (arith, one, p), omega (arith, one, l))
 
     by_decimal : (b : Bool) → from_least least (cond b (up_to greatest (number_from 0 word)) None) ≡ Some n
@@ -276,7 +277,7 @@ seed_read word more result n k seed read is made = record {
         (parts_seed word more (n, k) (record { seed = seed; count = ((read.value tt).0 is, made) })),
     λ other.
         let parts = seed_parts word more b other in
-        let first : n ≡ b.0 = one_some (sym seed ∙ parts.seed) in
+        let first : n ≡ b.0 = same_Some _ _ (sym seed ∙ parts.seed) in
         let second : k ≡ b.1 = made ∙ sym parts.count.1 in
         ap Ok (ap (λ x. let p : ℕ × ℕ = (x, k) in p) first ∙ ap (λ y. let p : ℕ × ℕ = (b.0, y) in p) second),
   );

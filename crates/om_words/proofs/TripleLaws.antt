@@ -7,13 +7,14 @@ use Rattle.std.specs.Prelude.{ℕ, ◌≡◌, ◌<◌, ◌≤◌, ◌+◌, ◌-�
 use Rattle.std.specs.Prelude.{Ok, Err, IfErr, IsErrAnd, slice_get, refl}
 use Rattle.std.specs.Fmt.{decimal}
 use Rattle.std.proofs.Common.{get_or, zero, suc, arith, ap, subst, sym, ◌∙◌, lit≤}
+use Rattle.std.proofs.lemmas.Option.{same_Some}
 use Rattle.om_signs.specs.declared.limits.TheConstants.{MAX_ELEMENTS}
 use Rattle.om_text.specs.Fault.{Begins}
 use Rattle.om_words.specs.declared.usage.Usage.{Usage}
 use Rattle.om_words.specs.Words.{IsElement, IsFault, at_word, at_end, HasValue, IsRead}
 use Rattle.om_words.specs.Triples.{AreTriple, IsElementWithin, IsElementAt}
 use Rattle.om_words.proofs.WordLaws.{tail_of}
-use Rattle.om_words.proofs.ArgumentLaws.{no_value, none_some, one_some}
+use Rattle.om_words.proofs.ArgumentLaws.{no_value, none_some}
 use Rattle.om_words.proofs.Numerals.{one_element}
 
 -- ---- the word at a place
@@ -27,7 +28,7 @@ there f (y ∷ ys) (suc k) x l is = there f ys k x (omega arith) is
 pub this_within : (word : List ℕ) (low high e : ℕ) → IsElement word e → low ≤ e → e ≤ high → (d : ℕ) → (Some e ≡ Some d)
     ↔ IsElementWithin word low high d
 this_within word low high e element above below d = (
-  λ same. let one : e ≡ d = one_some same in
+  λ same. let one : e ≡ d = same_Some _ _ same in
       subst (IsElementWithin word low high) one (record { element = element; above = above; below = below }),
   λ other. ap Some (one_element word e d element other.element),
 )
@@ -42,7 +43,7 @@ at_place : {X : Type 0} (f : X → List ℕ) (xs : List X) (k low high : ℕ) (x
 at_place f xs k low high x o l is within e = (
   λ same. record { word = f x; there = there f xs k x l is; within = (within e).0 same },
   λ other.
-      let word : f x ≡ other.word = one_some (sym (there f xs k x l is) ∙ other.there) in
+      let word : f x ≡ other.word = same_Some _ _ (sym (there f xs k x l is) ∙ other.there) in
       (within e).1 (subst (λ w. IsElementWithin w low high e) (sym word) other.within),
 )
 
@@ -51,7 +52,8 @@ pub at_place_read : {X : Type 0} (f : X → List ℕ) (xs : List X) (k low high 
     → (d : ℕ) → IsOkAt (map f xs) k low high (Ok e) d
 at_place_read f xs k low high e x o l is within some d = (
   λ same. let one : e ≡ d = cc in (at_place f xs k low high x o l is within d).0 (some ∙ ap Some one),
-  λ other. let one : e ≡ d = one_some (sym some ∙ (at_place f xs k low high x o l is within d).1 other) in ap Ok one,
+  λ other. let one : e ≡ d = same_Some _ _ (sym some ∙ (at_place f xs k low high x o l is within d).1 other) in
+      ap Ok one,
 )
 
 pub at_place_bad : {X : Type 0} (f : X → List ℕ) (xs : List X) (k low high : ℕ) (x : X) (o : Option ℕ) (u : Usage)
@@ -100,7 +102,7 @@ third_of_three words t h = subst (λ ws. IsElementAt ws 2 (t.1 + 1) MAX_ELEMENTS
 pub same_there : (words : List (List ℕ)) (k low high e : ℕ) (word : List ℕ) → slice_get words k ≡ Some word
     → IsElementAt words k low high e → IsElementWithin word low high e
 same_there words k low high e word is at =
-    subst (λ w. IsElementWithin w low high e) (one_some (sym at.there ∙ is)) at.within
+    subst (λ w. IsElementWithin w low high e) (same_Some _ _ (sym at.there ∙ is)) at.within
 
 three : (u v w : List ℕ) (a b c : ℕ) → IsElement u a → IsElement v b → IsElement w c → a < b → b < c
     → AreTriple (u ∷ v ∷ w ∷ []) (a, b, c)

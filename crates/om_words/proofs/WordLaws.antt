@@ -8,6 +8,7 @@ use Rattle.std.specs.Prelude.{Err, IfErr, IsErrAnd}
 use Rattle.std.proofs.Common.{get_or, drop, take, ◌-◌, arith, ap, subst, sym, ◌∙◌}
 use Rattle.std.proofs.Math.Seq.{take-length}
 use Rattle.om_signs.specs.declared.sign.Sign.{Sign}
+use Rattle.om_signs.proofs.Results.{err-ne-ok}
 use Rattle.om_text.specs.Fault.{Begins}
 use Rattle.om_text.specs.declared.kinds.Kind.{Kind}
 use Rattle.om_budgets.specs.declared.budgets.Budgets.{Budgets}
@@ -55,11 +56,12 @@ fault_behind L M first same (at_end words begins not) =
 accept_words : AreCommand (codes "accept" ∷ [])
 accept_words = (Accept, record { arguments = []; first = refl; behind = refl })
 
-none_begin : Begins AreCommand []
-none_begin = (codes "accept" ∷ [], accept_words)
+-- some command begins without a word: each does
+pub empty_begins : Begins AreCommand []
+empty_begins = (codes "accept" ∷ [], accept_words)
 
 no_words : IsUsage [] 1
-no_words = at_end [] none_begin none
+no_words = at_end [] empty_begins none
   where
     none : AreCommand [] → ⊥
     none (task, named) = let first = named.first in cc
@@ -79,7 +81,7 @@ first_named first rest task none named = none (verb_of task) (ap first_of named.
 
 pub first_at_fault : (first : List ℕ) (rest : List (List ℕ)) → ((v : Verb) → first ≡ verb_word v → ⊥)
     → IsUsage (first ∷ rest) 1
-first_at_fault first rest none = at_word [] first rest none_begin refused
+first_at_fault first rest none = at_word [] first rest empty_begins refused
   where
     refused : Begins AreCommand (first ∷ []) → ⊥
     refused (more, (task, named)) = first_named first more task none named
@@ -149,7 +151,7 @@ pub err_named : {A : Type 0} (v : Verb) (Reading : List (List ℕ) → A → Typ
     → AreNamed v words (Err u)
 err_named v Reading make words result u shape read is = record {
   task = λ task. (
-    λ same. absurd (no_ok same),
+    λ same. absurd (err-ne-ok u task same),
     λ named.
         let valued = named_valued v Reading make words task shape named in
         let again = (read.value valued.value).1 valued.reading in
@@ -161,9 +163,6 @@ err_named v Reading make words result u shape read is = record {
       subst (IsUsage (verb_word v ∷ words)) (sym fault.1.0)
       (fault_behind (HasValue Reading) AreCommand (verb_word v) (shape_commands v Reading make shape) fault.1.1);
 }
-  where
-    no_ok : {task : Task} → Err u ≡ Ok task → ⊥
-    no_ok same = cc
 
 -- the same where an error is passed on
 pub err_passed : {A : Type 0} (v : Verb) (Reading : List (List ℕ) → A → Type 0) (make : A → Task)

@@ -1,11 +1,12 @@
 use Rattle.std.proofs.Common.{rules, ◌≡◌, ◌-◌, length, ◌∙◌, ap, arith, pos}
 use Rattle.std.proofs.Math.ListN.{get_or}
 use Rattle.om_subsets.specs.Subsets.{rank_of}
+use Rattle.om_subsets.proofs.Triples.{place_below}
 use Rattle.om_certificate.specs.declared.weight.Weight.{Weight}
 use Rattle.om_certificate.specs.Weights.{bracket_of}
 use Rattle.om_certificate.specs.Tables.{IsOfTriple}
 use Rattle.om_certificate.proofs.Filling.{none_filled, fill_step, all_filled, weight_triple, is_of_triple}
-use Rattle.om_certificate.proofs.Triples.{place_below, increasing_triple}
+use Rattle.om_certificate.proofs.Triples.{increasing_triple}
 use Rattle.om_certificate.proofs.weighing.fill.Goals as goal
 
 abbrev no_weight : Weight

@@ -4,8 +4,8 @@ use Rattle.std.proofs.lemmas.List.{length-set}
 use Rattle.om_signs.specs.SignVec.{IsOrthogonal}
 use Rattle.om_subsets.specs.Subsets.{choose, subset_at}
 use Rattle.om_laws.specs.Relations.{along}
+use Rattle.om_laws.proofs.BridgeLaws.{length-as_list}
 use Rattle.om_chirotope.specs.Map.{map_of, cocircuit_vector, value_of}
-use Rattle.om_chirotope.proofs.Places.{length-vector}
 use Rattle.om_chirotope.proofs.Tables.{table_at, table_done, table_more}
 use Rattle.om_subsets.proofs.Walks.{at_next, list_at}
 use Rattle.om_chirotope.proofs.cocircuit_table.fill_while_orthogonal.Goals as goal
@@ -13,7 +13,7 @@ use Rattle.om_chirotope.proofs.cocircuit_table.fill_while_orthogonal.Goals as go
 pub orthogonal-requires : goal.orthogonal-requires
 orthogonal-requires c = c.requires.vector
     ∙ sym (ap length c.cocircuit_of-other.ensures
-    ∙ length-vector c.args.raw.now.elements (along (value_of (map_of c.args.raw.now)) c.loop-place.a.elements))
+    ∙ length-as_list c.args.raw.now.elements (along (value_of (map_of c.args.raw.now)) c.loop-place.a.elements))
 
 pub returns-then-not-orthogonal-clause-here : goal.returns-then-not-orthogonal-clause-here
 returns-then-not-orthogonal-clause-here c = λ o.

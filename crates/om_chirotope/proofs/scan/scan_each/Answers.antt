@@ -1,9 +1,9 @@
 use Rattle.std.proofs.Common.{◌+◌, ◌<◌, refl, arith, ◌∙◌, ap, length}
 use Rattle.om_laws.specs.Relations.{around}
+use Rattle.om_laws.proofs.BridgeLaws.{length-as_list}
 use Rattle.om_subsets.specs.Subsets.{choose}
 use Rattle.om_chirotope.specs.Map.{map_of, cocircuit_vectors, value_of}
 use Rattle.om_chirotope.specs.Chirotope.{IsPair, IsFirstViolated}
-use Rattle.om_chirotope.proofs.Places.{length-vector}
 use Rattle.om_subsets.proofs.Walks.{at_first, at_next}
 use Rattle.om_chirotope.proofs.Tables.{length-table, found, all_held, all_done}
 use Rattle.om_chirotope.proofs.scan.scan_each.Goals as goal
@@ -17,7 +17,7 @@ loop-place-init c = record {
 
 pub first_not_orthogonal_to-requires-clause-vector : goal.first_not_orthogonal_to-requires-clause-vector
 first_not_orthogonal_to-requires-clause-vector c = ap length c.circuit_of.ensures
-    ∙ length-vector c.args.raw.now.elements (around (value_of (map_of c.args.raw.now)) c.loop-place.s.elements)
+    ∙ length-as_list c.args.raw.now.elements (around (value_of (map_of c.args.raw.now)) c.loop-place.s.elements)
 
 pub returns-in-Some-clause-none : goal.returns-in-Some-clause-none
 returns-in-Some-clause-none c =

@@ -1,14 +1,14 @@
 use Rattle.std.proofs.Common.{arith, refl, ap, ◌∙◌, length}
 use Rattle.om_laws.specs.Relations.{around}
+use Rattle.om_laws.proofs.BridgeLaws.{length-as_list}
 use Rattle.om_chirotope.specs.Map.{map_of, cocircuit_vectors, value_of}
 use Rattle.om_chirotope.specs.Chirotope.{IsPair}
-use Rattle.om_chirotope.proofs.Places.{length-vector}
 use Rattle.om_chirotope.proofs.Tables.{found}
 use Rattle.om_chirotope.proofs.scan.settle.Goals as goal
 
 pub fill_while_orthogonal-requires-clause-vector : goal.fill_while_orthogonal-requires-clause-vector
 fill_while_orthogonal-requires-clause-vector c = ap length c.circuit_of.ensures
-    ∙ length-vector c.args.raw.now.elements (around (value_of (map_of c.args.raw.now)) c.first-s.result.elements)
+    ∙ length-as_list c.args.raw.now.elements (around (value_of (map_of c.args.raw.now)) c.first-s.result.elements)
 
 pub returns-in-Some : goal.returns-in-Some
 returns-in-Some c =

@@ -2,17 +2,17 @@ use Rattle.std.proofs.Common.{arith, refl, sym, ap, subst, below_more, ◌∙◌
 use Rattle.std.proofs.lemmas.Bool.{false≢true}
 use Rattle.om_subsets.specs.Subsets.{choose, subset_at}
 use Rattle.om_laws.specs.Relations.{along}
+use Rattle.om_laws.proofs.BridgeLaws.{length-as_list}
 use Rattle.om_chirotope.specs.Map.{map_of, cocircuit_vector, cocircuit_vectors, value_of}
 use Rattle.om_chirotope.specs.Pictures.{IsMet}
 use Rattle.om_chirotope.proofs.Marks.{exchange_of_met, met_of_exchange}
-use Rattle.om_chirotope.proofs.Places.{length-vector}
 use Rattle.om_chirotope.proofs.Tables.{length-table, table_at}
 use Rattle.om_subsets.proofs.Walks.{at_next, list_at}
 use Rattle.om_chirotope.proofs.three_terms.each_vector_is_met.Goals as goal
 
 pub is_met-requires-clause-length : goal.is_met-requires-clause-length
 is_met-requires-clause-length c = ap length c.cocircuit_of.ensures
-    ∙ length-vector c.args.raw.now.elements (along (value_of (map_of c.args.raw.now)) c.loop-k.a.elements)
+    ∙ length-as_list c.args.raw.now.elements (along (value_of (map_of c.args.raw.now)) c.loop-k.a.elements)
 
 pub loop-k-preserved : goal.loop-k-preserved
 loop-k-preserved c =

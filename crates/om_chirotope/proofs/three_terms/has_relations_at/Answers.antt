@@ -1,8 +1,9 @@
 use Rattle.std.proofs.Common.{arith, refl, w32}
 use Rattle.std.specs.Int.{trailing_zeros}
+use Rattle.om_signs.proofs.Bits.{bit_within}
 use Rattle.om_chirotope.specs.Map.{map_of}
 use Rattle.om_chirotope.proofs.FirstRow.{relations_of_first_row, relations_of_zeros, triple_from_relations}
-use Rattle.om_chirotope.proofs.Rows.{IsLowest, bit_inside, dead_rows, lowest_bit, other_rows, left_bit}
+use Rattle.om_chirotope.proofs.Rows.{IsLowest, dead_rows, lowest_bit, other_rows, left_bit}
 use Rattle.om_chirotope.proofs.three_terms.has_relations_at.Goals as goal
 
 pub returns-then-live-eq0 : goal.returns-then-live-eq0
@@ -45,5 +46,5 @@ returns c =
           let bj = left_bit live m.elements first j c.requires.high low within o in
           let bk = left_bit live m.elements first k c.requires.high low within b in
           triple_from_relations m c.args.p.elements rows c.fill_rows.ensures first j k low.here
-          (bit_inside live m.elements j within bj.0) (bit_inside live m.elements k within bk.0) all),
+          (bit_within live m.elements j within bj.0) (bit_within live m.elements k within bk.0) all),
     )

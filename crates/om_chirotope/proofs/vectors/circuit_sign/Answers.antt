@@ -1,15 +1,16 @@
 use Rattle.std.proofs.Common.{refl, arith, sym, ◌∙◌, ap, ◌≡◌, ◌+◌, ◌%◌}
 use Rattle.std.proofs.lemmas.Bool.{false≢true}
 use Rattle.om_signs.specs.Sign.{opposite}
+use Rattle.om_laws.proofs.RelationLaws.{around_zero}
 use Rattle.om_subsets.specs.Subsets.{count_above}
 use Rattle.om_chirotope.specs.Map.{map_of, value_of}
-use Rattle.om_chirotope.proofs.Circuits.{around_other, around_same, around_opposite, length-without, parities_same}
+use Rattle.om_chirotope.proofs.Circuits.{around_same, around_opposite, length-without, parities_same}
 use Rattle.om_chirotope.proofs.Circuits.{parities_differ}
 use Rattle.om_chirotope.proofs.vectors.circuit_sign.Goals as goal
 
 pub returns-then-not-has : goal.returns-then-not-has
 returns-then-not-has c =
-    sym (around_other (value_of (map_of c.args.raw.now)) c.args.s.elements c.args.e
+    sym (around_zero (value_of (map_of c.args.raw.now)) c.args.s.elements c.args.e
     (λ k. false≢true (c.if-not-has.ensures.1 k)))
 
 pub sign_at-sign-requires-clause-size : goal.sign_at-sign-requires-clause-size

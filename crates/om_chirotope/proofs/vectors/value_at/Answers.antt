@@ -1,9 +1,10 @@
 use Rattle.std.proofs.Common.{◌+◌, ◌-◌, ◌∙◌, length, get_or, refl, arith, subst, ap}
 use Rattle.std.proofs.lemmas.Bool.{false≢true}
+use Rattle.om_laws.proofs.MemberLaws.{member_at}
 use Rattle.om_subsets.specs.Subsets.{IsMember}
 use Rattle.om_chirotope.specs.Map.{map_of, chi_of}
 use Rattle.om_chirotope.proofs.Cocircuits.{length-with}
-use Rattle.om_chirotope.proofs.SortedTuples.{member_at, value_repeat, next_element}
+use Rattle.om_chirotope.proofs.SortedTuples.{value_repeat, next_element}
 use Rattle.om_chirotope.proofs.vectors.value_at.Goals as goal
 
 pub has-requires-clause-low : goal.has-requires-clause-low
@@ -11,7 +12,7 @@ has-requires-clause-low c =
     let n = c.loop-i.invariant.n in
     let test = c.loop-i-test.true in
     let bound = c.requires.within (get_or c.args.tuple.now (length c.args.tuple.now - 1 - c.loop-i.i) 0)
-    (member_at (length c.args.tuple.now - 1 - c.loop-i.i) c.args.tuple.now (omega arith)) in
+    (member_at c.args.tuple.now (length c.args.tuple.now - 1 - c.loop-i.i) (omega arith)) in
     bound.0
 
 pub has-requires-clause-high : goal.has-requires-clause-high
@@ -19,7 +20,7 @@ has-requires-clause-high c =
     let n = c.loop-i.invariant.n in
     let test = c.loop-i-test.true in
     let bound = c.requires.within (get_or c.args.tuple.now (length c.args.tuple.now - 1 - c.loop-i.i) 0)
-    (member_at (length c.args.tuple.now - 1 - c.loop-i.i) c.args.tuple.now (omega arith)) in
+    (member_at c.args.tuple.now (length c.args.tuple.now - 1 - c.loop-i.i) (omega arith)) in
     let high = bound.1 in
     omega arith
 
@@ -28,7 +29,7 @@ sorting_sign-requires-clause-low c =
     let n = c.loop-i.invariant.n in
     let test = c.loop-i-test.true in
     let bound = c.requires.within (get_or c.args.tuple.now (length c.args.tuple.now - 1 - c.loop-i.i) 0)
-    (member_at (length c.args.tuple.now - 1 - c.loop-i.i) c.args.tuple.now (omega arith)) in
+    (member_at c.args.tuple.now (length c.args.tuple.now - 1 - c.loop-i.i) (omega arith)) in
     bound.0
 
 pub sorting_sign-requires-clause-high : goal.sorting_sign-requires-clause-high
@@ -36,7 +37,7 @@ sorting_sign-requires-clause-high c =
     let n = c.loop-i.invariant.n in
     let test = c.loop-i-test.true in
     let bound = c.requires.within (get_or c.args.tuple.now (length c.args.tuple.now - 1 - c.loop-i.i) 0)
-    (member_at (length c.args.tuple.now - 1 - c.loop-i.i) c.args.tuple.now (omega arith)) in
+    (member_at c.args.tuple.now (length c.args.tuple.now - 1 - c.loop-i.i) (omega arith)) in
     let high = bound.1 in
     omega arith
 
@@ -45,7 +46,7 @@ with-set-requires-clause-low c =
     let n = c.loop-i.invariant.n in
     let test = c.loop-i-test.true in
     let bound = c.requires.within (get_or c.args.tuple.now (length c.args.tuple.now - 1 - c.loop-i.i) 0)
-    (member_at (length c.args.tuple.now - 1 - c.loop-i.i) c.args.tuple.now (omega arith)) in
+    (member_at c.args.tuple.now (length c.args.tuple.now - 1 - c.loop-i.i) (omega arith)) in
     bound.0
 
 pub with-set-requires-clause-high : goal.with-set-requires-clause-high
@@ -53,7 +54,7 @@ with-set-requires-clause-high c =
     let n = c.loop-i.invariant.n in
     let test = c.loop-i-test.true in
     let bound = c.requires.within (get_or c.args.tuple.now (length c.args.tuple.now - 1 - c.loop-i.i) 0)
-    (member_at (length c.args.tuple.now - 1 - c.loop-i.i) c.args.tuple.now (omega arith)) in
+    (member_at c.args.tuple.now (length c.args.tuple.now - 1 - c.loop-i.i) (omega arith)) in
     let high = bound.1 in
     omega arith
 

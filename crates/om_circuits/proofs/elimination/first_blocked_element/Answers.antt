@@ -1,5 +1,6 @@
 use Rattle.std.proofs.Common.{◌≡◌, ◌≢◌, ◌-◌, ◌<◌, ◌↔◌, List, Bool, true, false, IsTrue, arith, below_more, refl, sym}
 use Rattle.std.proofs.Common.{◌∙◌}
+use Rattle.std.proofs.lemmas.Bool.{iff_false}
 use Rattle.om_signs.specs.declared.sign.Sign.{Sign}
 use Rattle.om_members.specs.Vectors.{negated}
 use Rattle.om_circuits.specs.Scans.{HasEliminatorIfAsked}
@@ -13,9 +14,6 @@ use Rattle.om_circuits.proofs.elimination.first_blocked_element.Goals.{else-oppo
 
 not_same : (r : Bool) (xs ys ns : List Sign) → (IsTrue r ↔ (xs ≡ ns)) → ns ≡ negated ys → r ≡ false → xs ≢ negated ys
 not_same r xs ys ns h e f q = let t : false ≡ true = sym f ∙ h.1 (q ∙ sym e) in cc
-
-none_found : (r : Bool) (P Q : Type 0) → (IsTrue r ↔ P) → (P ↔ Q) → r ≡ false → Q → ⊥
-none_found r P Q h k f q = let t : false ≡ true = sym f ∙ h.1 (k.1 q) in cc
 
 pub returns-then-opposed-eq0-clause-none : goal.returns-then-opposed-eq0-clause-none
 returns-then-opposed-eq0-clause-none c = λ e lt low n o. elim c.then-opposed-eq0.branch [
@@ -40,11 +38,10 @@ returns-then-not-has_within-clause-first c =
             c.if-are_same.false;
         opposed = opposed_if_tested c.args.x c.args.y c.plus.result c.minus.result c.loop-e.e le c.plus.ensures
             c.minus.ensures c.if-opposed-bit-ne0.true;
-        none = none_found c.has_within.result _ _ c.has_within.ensures
-            (has_within_eliminator c.args.members.now c.args.x c.args.y c.plus-2.result c.minus-2.result c.plus-3.result
+        none = λ q. iff_false c.has_within.ensures c.if-not-has_within.true
+            ((has_within_eliminator c.args.members.now c.args.x c.args.y c.plus-2.result c.minus-2.result c.plus-3.result
             c.minus-3.result c.loop-e.e _ c.plus-2.type_inv c.minus-2.type_inv c.plus-3.type_inv c.minus-3.type_inv
-            le refl c.plus-2.ensures c.minus-2.ensures c.plus-3.ensures c.minus-3.ensures)
-            c.if-not-has_within.true;
+            le refl c.plus-2.ensures c.minus-2.ensures c.plus-3.ensures c.minus-3.ensures).1 q);
       };
       before = c.loop-e.invariant;
     }

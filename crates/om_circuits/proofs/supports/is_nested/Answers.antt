@@ -1,5 +1,5 @@
 use Rattle.std.proofs.Common.{◌≡◌, ◌≢◌, ◌↔◌, List, Bool, true, false, not, IsTrue, MatchBool, refl, sym, ◌∙◌, inl, inr}
-use Rattle.std.proofs.lemmas.Bool.{eqb-true}
+use Rattle.std.proofs.lemmas.Bool.{eqb-true, both_ways, not-true, not-false}
 use Rattle.om_signs.specs.declared.sign.Sign.{Sign}
 use Rattle.om_members.specs.Vectors.{negated, HasSupportIn}
 use Rattle.om_circuits.specs.Instances.{IsNestedIn}
@@ -15,14 +15,6 @@ negatives xs ys ns true h n e o = λ _. inr (o.0 refl ∙ e)
 negatives xs ys ns false h n e o =
     record { within = h; other = n; not_negative = λ d. let q : false ≡ true = o.1 (d ∙ sym e) in cc }
 
-not_true : (s : Bool) → not s ≡ true → IsTrue s → ⊥
-not_true true e t = cc
-not_true false e t = cc
-
-from_not : (s : Bool) → not s ≡ false → IsTrue s
-from_not true e = refl
-from_not false e = cc
-
 unnested : (v : Bool) (xs ys : List Sign) → v ≡ false → IsUnnestedIn xs ys
     → MatchBool v (IsNestedIn xs ys) (IsUnnestedIn xs ys)
 unnested true xs ys e h = cc
@@ -34,7 +26,8 @@ returns-then-not-are_same c = elim c.if-support-eq0.branch [
       negatives c.args.x c.args.y c.neg.result c.are_same-then-not-are_same.result
       ((support_test c.args.x c.args.y c.support.result c.support-2.result c.support.type_inv c.support-2.type_inv
       c.support.ensures c.support-2.ensures).0 w.if-support-eq0.true)
-      (λ e. not_true w.are_same.result (sym w.value-is ∙ c.if-not-are_same.true) (w.are_same.ensures.1 e))
+      (λ e. both_ways w.are_same.result (not-true w.are_same.result (sym w.value-is ∙ c.if-not-are_same.true))
+      (w.are_same.ensures.1 e))
       c.neg.ensures
       c.are_same-then-not-are_same.ensures
   | else-support-eq0 w ↦ absurd (w.if-support-eq0.false (eqb-true _ 0 (sym w.value-is ∙ c.if-not-are_same.true)))
@@ -44,7 +37,7 @@ pub returns-else-not-are_same : goal.returns-else-not-are_same
 returns-else-not-are_same c =
     unnested c.if-support-eq0.value c.args.x c.args.y c.if-not-are_same.false (elim c.if-support-eq0.branch [
       | then-support-eq0 w ↦
-          λ _. inl (w.are_same.ensures.0 (from_not w.are_same.result (sym w.value-is ∙ c.if-not-are_same.false)))
+          λ _. inl (w.are_same.ensures.0 (not-false w.are_same.result (sym w.value-is ∙ c.if-not-are_same.false)))
       | else-support-eq0 w ↦
           λ h. absurd
           (w.if-support-eq0.false

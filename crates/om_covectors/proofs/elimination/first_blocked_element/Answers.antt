@@ -1,13 +1,11 @@
-use Rattle.std.proofs.Common.{◌≡◌, ◌-◌, ◌<◌, ◌↔◌, Bool, true, false, IsTrue, arith, below_more, refl, sym, ◌∙◌}
+use Rattle.std.proofs.Common.{◌-◌, ◌<◌, arith, below_more, refl}
+use Rattle.std.proofs.lemmas.Bool.{iff_false}
 use Rattle.om_covectors.specs.Scans.{HasCovectorEliminatorIfAsked}
 use Rattle.om_covectors.proofs.EliminationLaws.{has_fixed_eliminator, separated_if_tested, tested_if_separated}
 use Rattle.om_covectors.proofs.EliminationLaws.{none_separated}
 use Rattle.om_covectors.proofs.elimination.first_blocked_element.Goals as goal
 use Rattle.om_covectors.proofs.elimination.first_blocked_element.Goals.{else-separation-bit-ne0-via-then-separation-bit-ne0+else-not-has_fixed_outside}
 use Rattle.om_covectors.proofs.elimination.first_blocked_element.Goals.{else-separation-bit-ne0-via-else-separation-bit-ne0}
-
-none_found : (r : Bool) (P Q : Type 0) → (IsTrue r ↔ P) → (P ↔ Q) → r ≡ false → Q → ⊥
-none_found r P Q h k f q = let t : false ≡ true = sym f ∙ h.1 (k.1 q) in cc
 
 pub returns-then-separation-eq0-clause-none : goal.returns-then-separation-eq0-clause-none
 returns-then-separation-eq0-clause-none c =
@@ -25,12 +23,11 @@ returns-then-not-has_fixed_outside-clause-first c =
       bad = record {
         element = c.loop-e.auto.e;
         separated = s;
-        none = none_found c.has_fixed_outside.result _ _ c.has_fixed_outside.ensures
-            (has_fixed_eliminator c.args.members.now c.args.x c.args.y c.compose-composed.result
+        none = λ q. iff_false c.has_fixed_outside.ensures c.if-not-has_fixed_outside.true
+            ((has_fixed_eliminator c.args.members.now c.args.x c.args.y c.compose-composed.result
             c.separation-separation.result c.plus.result c.minus.result c.loop-e.e _
             c.separation-separation.type_inv c.plus.type_inv c.minus.type_inv le refl c.compose-composed.ensures
-            c.separation-separation.ensures c.plus.ensures c.minus.ensures s)
-            c.if-not-has_fixed_outside.true;
+            c.separation-separation.ensures c.plus.ensures c.minus.ensures s).1 q);
       };
       before = c.loop-e.invariant;
     }

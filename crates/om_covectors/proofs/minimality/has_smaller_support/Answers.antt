@@ -1,6 +1,6 @@
 use Rattle.std.proofs.Common.{◌≡◌, ◌↔◌, List, Bool, true, false, not, IsTrue, MatchBool, nat_eq, bit_and, ◌-◌, refl}
 use Rattle.std.proofs.Common.{sym, ◌∙◌}
-use Rattle.std.proofs.lemmas.Bool.{eq-eqb, eqb-true}
+use Rattle.std.proofs.lemmas.Bool.{eq-eqb, eqb-true, both_ways}
 use Rattle.om_signs.specs.declared.sign.Sign.{Sign}
 use Rattle.om_members.specs.Vectors.{IsZero, HasSupportIn}
 use Rattle.om_covectors.specs.Minimality.{HasSmallerSupport, HasNoSmallerSupport}
@@ -42,13 +42,10 @@ returns-then-inner-outer-eq0 c = elim c.if-inner-ne0.branch [
 pub returns-else-inner-outer-eq0 : goal.returns-else-inner-outer-eq0
 returns-else-inner-outer-eq0 c =
     not_smaller c.if-inner-ne0.value c.args.y c.args.x c.if-inner-outer-eq0.false (elim c.if-inner-ne0.branch [
-      | then-inner-ne0 w ↦ λ n h. absurd (not_both _ (sym w.value-is ∙ c.if-inner-outer-eq0.false)
+      | then-inner-ne0 w ↦ λ n h. absurd (both_ways _ (sym w.value-is ∙ c.if-inner-outer-eq0.false)
           (eq-eqb _ 0
           ((support_test c.args.y c.args.x c.support-inner.result c.support-outer.result c.support-inner.type_inv
           c.support-outer.type_inv c.support-inner.ensures c.support-outer.ensures).1 h)))
       | else-inner-ne0 w ↦
           λ n h. absurd (n ((zero_support c.args.y c.support-inner.result c.support-inner.ensures).0 w.if-inner-ne0.false))
     ])
-  where
-    not_both : (b : Bool) → b ≡ false → b ≡ true → ⊥
-    not_both b f t = let q : false ≡ true = sym f ∙ t in cc

@@ -1,6 +1,7 @@
-use Rattle.std.proofs.Common.{ℕ, ◌≡◌, ◌+◌, ◌<◌, List, [], ◌∷◌, ◌++◌, Bool, true, false, IsTrue, length, take, get_or}
+use Rattle.std.proofs.Common.{ℕ, ◌≡◌, ◌+◌, ◌<◌, List, [], ◌∷◌, ◌++◌, true, false, length, take, get_or}
 use Rattle.std.proofs.Common.{sym, ◌∙◌, ap, subst}
 use Rattle.std.proofs.lemmas.List.{take_more}
+use Rattle.std.proofs.lemmas.Bool.{iff_false}
 use Rattle.om_signs.specs.declared.sign.Sign.{Sign}
 use Rattle.om_covectors.specs.Minimality.{IsMinimal, AreThose}
 use Rattle.om_covectors.proofs.MinimalityLaws.{those_taken, those_left}
@@ -22,9 +23,6 @@ module _ (P : List Sign → Type 0) (xs ys zs : List (List Sign)) (k : ℕ) (x :
       subst (λ l. AreThose P l zs) one_more
       (subst (AreThose P (take k xs ++ x ∷ [])) (sym e) (those_left P (take k xs) ys x h p))
 
-none_found : (r : Bool) (A : Type 0) → (A → IsTrue r) → r ≡ false → A → ⊥
-none_found r A h f a = let q : false ≡ true = sym f ∙ h a in cc
-
 pub loop-x-preserved : goal.loop-x-preserved
 loop-x-preserved c = elim c.if-is_minimal.branch [
   | then-is_minimal+in_ok-push w ↦
@@ -33,5 +31,5 @@ loop-x-preserved c = elim c.if-is_minimal.branch [
       (c.is_minimal.ensures.0 w.if-is_minimal.true) (w.minimal-is ∙ w.in_ok-push.ensures.ok)
   | else-is_minimal w ↦ left (IsMinimal c.args.vectors.now) c.args.vectors.now c.loop-x.minimal c.if-is_minimal.minimal
       c.loop-x.x-index c.x-item.result c.loop-x-test.true c.x-item.is c.loop-x.invariant
-      (none_found c.is_minimal.result _ c.is_minimal.ensures.1 w.if-is_minimal.false) w.minimal-is
+      (iff_false c.is_minimal.ensures w.if-is_minimal.false) w.minimal-is
 ]

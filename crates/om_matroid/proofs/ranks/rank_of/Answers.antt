@@ -1,7 +1,7 @@
 use Rattle.std.proofs.Common.{◌≡◌, ◌+◌, ◌<◌, length, sym, ap, subst, ◌∙◌, arith}
+use Rattle.std.proofs.lemmas.Bool.{iff_false}
 use Rattle.om_subsets.specs.Subsets.{IsSubsetFrom, choose, subset_at}
 use Rattle.om_subsets.proofs.Walks.{at_first_of, at_next, list_at}
-use Rattle.om_matroid.proofs.ElementLaws.{refuted}
 use Rattle.om_matroid.proofs.RankLaws.{IsRankBefore, rank_at_first, rank_raised, rank_kept_small, rank_kept_other}
 use Rattle.om_matroid.proofs.RankLaws.{rank_at_last}
 use Rattle.om_matroid.proofs.ranks.rank_of.Goals as goal
@@ -44,7 +44,7 @@ loop-k-preserved c =
                 (elim w.else-most-size.branch [
                   | else-most-size-via-then-most-size+else-is_basis u ↦
                       rank_kept_other m c.args.s.elements c.loop-k._k c.loop-k.most c.loop-k.invariant.best
-                      c.loop-k.b.elements place (refuted u.is_basis.result u.is_basis.ensures u.if-is_basis.false)
+                      c.loop-k.b.elements place (iff_false u.is_basis.ensures u.if-is_basis.false)
                   | else-most-size-via-else-most-size u ↦
                       rank_kept_small m c.args.s.elements c.loop-k._k c.loop-k.most c.loop-k.invariant.best
                       c.loop-k.b.elements c.intersection.result.elements place list c.intersection.ensures.members

@@ -1,18 +1,11 @@
-use Rattle.std.proofs.Common.{◌≡◌, ◌+◌, ◌-◌, ◌++◌, [], ◌∷◌, List, Bool, true, false, not, sym, ◌∙◌, ap, subst}
+use Rattle.std.proofs.Common.{◌≡◌, ◌+◌, ◌-◌, ◌++◌, [], ◌∷◌, List, true, false, sym, ◌∙◌, ap, subst}
 use Rattle.std.specs.List.{Contains, remove}
+use Rattle.std.proofs.lemmas.Bool.{not-true, not-false}
 use Rattle.om_signs.specs.declared.sign.Sign.{Sign}
-use Rattle.om_convert.proofs.KeyLaws.{contained, not_contained}
-use Rattle.om_minors.proofs.GatheringLaws.{AreGathered, gathered_kept, gathered_more, gathered_all, new_key, old_key}
+use Rattle.om_convert.proofs.KeyLaws.{contained, not_contained, new_key, old_key}
+use Rattle.om_minors.proofs.GatheringLaws.{AreGathered, gathered_kept, gathered_more, gathered_all}
 use Rattle.om_minors.proofs.dropping.without_place.Goals as goal
 use Rattle.om_minors.proofs.dropping.without_place.Goals.{then-branch+in_ok-push, else-branch}
-
-false_of : (r b : Bool) → r ≡ not b → r ≡ true → b ≡ false
-false_of r true q t = cc
-false_of r false q t = cc
-
-true_of : (r b : Bool) → r ≡ not b → r ≡ false → b ≡ true
-true_of r true q t = cc
-true_of r false q t = cc
 
 pub loop-x-preserved : goal.loop-x-preserved
 loop-x-preserved c =
@@ -22,7 +15,7 @@ loop-x-preserved c =
     let inv = c.loop-x.invariant in
     elim c.if-branch.branch [
       | then-branch+in_ok-push w ↦
-          let absent = false_of c.in_ok-insert.field-0 _ c.in_ok-insert.ensures.added w.if-branch.true in
+          let absent = not-true _ (sym c.in_ok-insert.ensures.added ∙ w.if-branch.true) in
           let none = not_contained c.loop-x.seen.keys c.drop_place-y.result absent in
           let pushed = w.list-is ∙ w.in_ok-push.ensures.ok in
           record {
@@ -37,7 +30,7 @@ loop-x-preserved c =
                 c.in_ok-insert.ensures.keys ∙ ap (λ l. l ++ c.drop_place-y.result ∷ []) inv.keys ∙ sym pushed;
           }
       | else-branch w ↦
-          let there = true_of c.in_ok-insert.field-0 _ c.in_ok-insert.ensures.added w.if-branch.false in
+          let there = not-false _ (sym c.in_ok-insert.ensures.added ∙ w.if-branch.false) in
           let found = contained c.loop-x.seen.keys c.drop_place-y.result there in
           record {
             gathered =

@@ -3,8 +3,8 @@ use Rattle.std.specs.Prelude.{None}
 use Rattle.std.proofs.lemmas.List.{length-map}
 use Rattle.om_signs.specs.Sign.{opposite}
 use Rattle.om_chirotope.specs.Map.{circuit_vector, value_of}
-use Rattle.om_chirotope.proofs.Places.{length-vector}
 use Rattle.om_laws.specs.Relations.{around}
+use Rattle.om_laws.proofs.BridgeLaws.{length-as_list}
 use Rattle.om_paint.proofs.Firsts.{fewer, filled_on, filled_at_last, first_of_circuits, no_circuits}
 use Rattle.om_paint.proofs.search.first_circuits.Goals as goal
 
@@ -15,13 +15,13 @@ returns-then-rank-elements g c =
 
 pub meet-requires-clause-size : goal.meet-requires-clause-size
 meet-requires-clause-size g c = ap length c.circuit_of-v.ensures
-    ∙ length-vector c.args.chi.now.elements (around (value_of c.args.chi.now) c.loop-next.s.elements)
+    ∙ length-as_list c.args.chi.now.elements (around (value_of c.args.chi.now) c.loop-next.s.elements)
     ∙ sym c.requires.elements
 
 pub meet-requires-in-loop-next-clause-size : goal.meet-requires-in-loop-next-clause-size
 meet-requires-in-loop-next-clause-size g c =
     let size = ap length c.circuit_of-v.ensures
-    ∙ length-vector c.args.chi.now.elements (around (value_of c.args.chi.now) c.loop-next.s.elements)
+    ∙ length-as_list c.args.chi.now.elements (around (value_of c.args.chi.now) c.loop-next.s.elements)
     ∙ sym c.requires.elements in
     let same = ap length c.neg-negative.ensures ∙ length-map c.circuit_of-v.result opposite in
     omega (arith, size, same)

@@ -3,20 +3,20 @@ use Rattle.std.specs.Prelude.{None}
 use Rattle.std.proofs.lemmas.List.{length-map}
 use Rattle.om_signs.specs.Sign.{opposite}
 use Rattle.om_chirotope.specs.Map.{cocircuit_vector, value_of}
-use Rattle.om_chirotope.proofs.Places.{length-vector}
 use Rattle.om_laws.specs.Relations.{along}
+use Rattle.om_laws.proofs.BridgeLaws.{length-as_list}
 use Rattle.om_paint.proofs.Firsts.{fewer, filled_on, filled_at_last, first_of_cocircuits}
 use Rattle.om_paint.proofs.search.first_cocircuits.Goals as goal
 
 pub meet-requires-clause-size : goal.meet-requires-clause-size
 meet-requires-clause-size g c = ap length c.cocircuit_of-u.ensures
-    ∙ length-vector c.args.chi.now.elements (along (value_of c.args.chi.now) c.loop-next.a.elements)
+    ∙ length-as_list c.args.chi.now.elements (along (value_of c.args.chi.now) c.loop-next.a.elements)
     ∙ sym c.requires.elements
 
 pub meet-requires-in-loop-next-clause-size : goal.meet-requires-in-loop-next-clause-size
 meet-requires-in-loop-next-clause-size g c =
     let size = ap length c.cocircuit_of-u.ensures
-    ∙ length-vector c.args.chi.now.elements (along (value_of c.args.chi.now) c.loop-next.a.elements)
+    ∙ length-as_list c.args.chi.now.elements (along (value_of c.args.chi.now) c.loop-next.a.elements)
     ∙ sym c.requires.elements in
     let same = ap length c.neg-negative.ensures ∙ length-map c.cocircuit_of-u.result opposite in
     omega (arith, size, same)

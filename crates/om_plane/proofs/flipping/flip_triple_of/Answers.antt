@@ -3,12 +3,12 @@ use Rattle.std.proofs.Common.{refl, sym, ap, subst, ◌∙◌, arith, rules}
 use Rattle.om_signs.specs.declared.limits.TheConstants.{MAX_ELEMENTS, MAX_VALUES}
 use Rattle.om_subsets.specs.Subsets.{choose}
 use Rattle.om_chirotope.specs.Map.{SignMap}
+use Rattle.om_chirotope.proofs.FewValues.{few_of_rank3}
 use Rattle.om_certificate.proofs.Triples.{increasing_triple}
 use Rattle.om_mutate.specs.Mutations.{flipped, IsMutation}
 use Rattle.om_reply.specs.Answers.{says}
 use Rattle.om_representation.specs.Documents.{map_document}
 use Rattle.om_plane.specs.Flips.{flip_refusal, IsFlipOfMap, turned}
-use Rattle.om_representation.proofs.WidthLaws.{few_of_rank3}
 use Rattle.om_plane.proofs.FlipLaws.{refused_flip}
 use Rattle.om_plane.proofs.flipping.flip_triple_of.Goals as goal
 

@@ -1,5 +1,6 @@
-use Rattle.std.specs.Prelude.{ℕ, ◌≡◌, ◌≢◌, List, Result, Ok, Err, Some}
+use Rattle.std.specs.Prelude.{ℕ, ◌≡◌, ◌≢◌, List, Some}
 use Rattle.std.proofs.Common.{refl, rules, sym, subst, inl, inr}
+use Rattle.om_signs.proofs.Results.{err-ne-ok, ok-injective}
 use Rattle.om_words.specs.declared.reads.Reads.TheVariants as source
 use Rattle.om_words.specs.declared.task.Task.{Task}
 use Rattle.om_words.specs.Tasks.{reads}
@@ -58,36 +59,30 @@ pub returns-in-Err-clause-cut : goal.returns-in-Err-clause-cut
 returns-in-Err-clause-cut g c =
     λ cut. cut_off (Means _) _ _ _ _ (usage_meant _ _ _ c.in-Err.ensures.usage) (c.write_usage.ensures.cut cut)
 
-no_value : {A E : Type 0} (e : E) (a : A) → ◌≡◌ {A = Result A E} (Err e) (Ok a) → ⊥
-no_value e a same = cc
-
 pub returns-in-Ok-clause-reading : goal.returns-in-Ok-clause-reading
 returns-in-Ok-clause-reading g c =
     λ fault. (c.in-Ok.task, ((c.in-Ok.ensures.task c.in-Ok.task).0 refl, c.carry_out.ensures.reading fault))
 
 pub returns-in-Err-clause-only : goal.returns-in-Err-clause-only
-returns-in-Err-clause-only g c = λ is command. no_value _ _ ((c.in-Err.ensures.task command.0).1 command.1)
-
-same_value : {A E : Type 0} (a b : A) → ◌≡◌ {A = Result A E} (Ok a) (Ok b) → a ≡ b
-same_value a b same = cc
+returns-in-Err-clause-only g c = λ is command. err-ne-ok _ _ ((c.in-Err.ensures.task command.0).1 command.1)
 
 pub returns-in-Ok-clause-alone : goal.returns-in-Ok-clause-alone
 returns-in-Ok-clause-alone g c =
     λ task named nothing. c.carry_out.ensures.unread
-    (subst (λ t. reads t ≡ source.Nothing) (sym (same_value _ _ ((c.in-Ok.ensures.task task).1 named))) nothing)
+    (subst (λ t. reads t ≡ source.Nothing) (sym (ok-injective _ _ ((c.in-Ok.ensures.task task).1 named))) nothing)
 
 pub returns-in-Err-clause-alone : goal.returns-in-Err-clause-alone
-returns-in-Err-clause-alone g c = λ task named nothing. absurd (no_value _ _ ((c.in-Err.ensures.task task).1 named))
+returns-in-Err-clause-alone g c = λ task named nothing. absurd (err-ne-ok _ _ ((c.in-Err.ensures.task task).1 named))
 
 pub returns-in-Ok-clause-taken : goal.returns-in-Ok-clause-taken
 returns-in-Ok-clause-taken g c = λ answered command.
     c.carry_out.ensures.taken answered
-    (subst (λ t. reads t ≢ source.Nothing) (sym (same_value _ _ ((c.in-Ok.ensures.task command.0).1 command.1.0)))
+    (subst (λ t. reads t ≢ source.Nothing) (sym (ok-injective _ _ ((c.in-Ok.ensures.task command.0).1 command.1.0)))
     command.1.1)
 
 pub returns-in-Err-clause-taken : goal.returns-in-Err-clause-taken
 returns-in-Err-clause-taken g c =
-    λ answered command. absurd (no_value _ _ ((c.in-Err.ensures.task command.0).1 command.1.0))
+    λ answered command. absurd (err-ne-ok _ _ ((c.in-Err.ensures.task command.0).1 command.1.0))
 
 -- the one task of words that read nothing reads nothing
 nothing_read : (words : List (List ℕ)) (t : Task) → Names words t → ((s : Task) → Names words s → s ≡ t)
@@ -99,14 +94,14 @@ pub returns-in-Ok-clause-alone_answer : goal.returns-in-Ok-clause-alone_answer
 returns-in-Ok-clause-alone_answer g c = λ lone answered bytes.
     let own = (c.in-Ok.ensures.task c.in-Ok.task).0 refl in
     let nothing : reads c.in-Ok.task ≡ source.Nothing =
-    nothing_read _ c.in-Ok.task own (λ s named. sym (same_value _ _ ((c.in-Ok.ensures.task s).1 named))) lone in
+    nothing_read _ c.in-Ok.task own (λ s named. sym (ok-injective _ _ ((c.in-Ok.ensures.task s).1 named))) lone in
     named_answer _ c.in-Ok.task (Some bytes) _ _ _ own (c.carry_out.ensures.alone_answer nothing answered bytes)
 
 pub returns-in-Ok-clause-alone_cut : goal.returns-in-Ok-clause-alone_cut
 returns-in-Ok-clause-alone_cut g c = λ lone cut bytes.
     let own = (c.in-Ok.ensures.task c.in-Ok.task).0 refl in
     let nothing : reads c.in-Ok.task ≡ source.Nothing =
-    nothing_read _ c.in-Ok.task own (λ s named. sym (same_value _ _ ((c.in-Ok.ensures.task s).1 named))) lone in
+    nothing_read _ c.in-Ok.task own (λ s named. sym (ok-injective _ _ ((c.in-Ok.ensures.task s).1 named))) lone in
     named_cut_off _ c.in-Ok.task (Some bytes) _ _ own (c.carry_out.ensures.alone_cut nothing cut bytes)
 
 pub returns-in-Err-clause-alone_answer : goal.returns-in-Err-clause-alone_answer
@@ -122,22 +117,22 @@ returns-in-Err-clause-alone_cut g c =
 pub returns-in-Ok-clause-alone_ends : goal.returns-in-Ok-clause-alone_ends
 returns-in-Ok-clause-alone_ends g c = λ task named nothing.
     let own : reads c.in-Ok.task ≡ source.Nothing =
-    subst (λ t. reads t ≡ source.Nothing) (sym (same_value _ _ ((c.in-Ok.ensures.task task).1 named))) nothing in
+    subst (λ t. reads t ≡ source.Nothing) (sym (ok-injective _ _ ((c.in-Ok.ensures.task task).1 named))) nothing in
     alone_ends c.in-Ok.task _ _ _ own (c.carry_out.ensures.alone_answer own)
     (λ fault. c.carry_out.ensures.reading fault own)
 
 pub returns-in-Err-clause-alone_ends : goal.returns-in-Err-clause-alone_ends
 returns-in-Err-clause-alone_ends g c =
-    λ task named nothing. absurd (no_value _ _ ((c.in-Err.ensures.task task).1 named))
+    λ task named nothing. absurd (err-ne-ok _ _ ((c.in-Err.ensures.task task).1 named))
 
 pub returns-in-Ok-clause-complete : goal.returns-in-Ok-clause-complete
 returns-in-Ok-clause-complete g c = λ given no_read no_write.
     always_answered _ c.in-Ok.task _ _ _ _ given
-    (sym (same_value _ _ ((c.in-Ok.ensures.task given.task).1 given.names)))
+    (sym (ok-injective _ _ ((c.in-Ok.ensures.task given.task).1 given.names)))
     ((c.in-Ok.ensures.task c.in-Ok.task).0 refl)
     c.carry_out.ensures.answer c.carry_out.ensures.alone_answer c.carry_out.ensures.no_usage
     (λ e. no_read (c.carry_out.ensures.read e)) (λ e. no_write (c.carry_out.ensures.write e))
 
 pub returns-in-Err-clause-complete : goal.returns-in-Err-clause-complete
 returns-in-Err-clause-complete g c =
-    λ given no_read no_write. absurd (no_value _ _ ((c.in-Err.ensures.task given.task).1 given.names))
+    λ given no_read no_write. absurd (err-ne-ok _ _ ((c.in-Err.ensures.task given.task).1 given.names))

@@ -1,8 +1,9 @@
 use Rattle.std.proofs.Common.{◌≡◌, ◌≤◌, ◌<◌, arith, below_more, refl, rules, subst, sym, ◌∙◌}
 use Rattle.om_subsets.specs.Subsets.{choose, IsTriple}
 use Rattle.om_subsets.proofs.Walks.{at_first_of, at_next, list_at}
+use Rattle.om_subsets.proofs.Triples.{held_all}
 use Rattle.om_vectors.specs.Realizations.{IsFirstOther}
-use Rattle.om_vectors.proofs.Triples.{HasItsSign, held_all, other_found, realized_triple, realizes_from}
+use Rattle.om_vectors.proofs.Triples.{HasItsSign, other_found, realized_triple, realizes_from}
 use Rattle.om_vectors.proofs.realizing.realizes.Goals as goal
 
 pub loop-place-init : goal.loop-place-init

@@ -1,5 +1,6 @@
 use Rattle.om_subsets.proofs.Walks.{IsAt}
-use Rattle.om_vectors.proofs.Triples.{HoldsBelow, HasItsSign}
+use Rattle.om_subsets.proofs.Triples.{HoldsBelow}
+use Rattle.om_vectors.proofs.Triples.{HasItsSign}
 use Rattle.om_vectors.proofs.realizing.realizes.Given as goal
 
 abbrev pub invariant-loop-place : goal.invariant-loop-place

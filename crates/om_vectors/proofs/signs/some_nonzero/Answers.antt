@@ -2,7 +2,8 @@ use Rattle.std.proofs.Common.{◌≡◌, ◌≢◌, ◌≤◌, ◌<◌, arith, b
 use Rattle.om_signs.specs.declared.sign.Sign.TheVariants.{Zero}
 use Rattle.om_subsets.specs.Subsets.{choose, IsTriple}
 use Rattle.om_subsets.proofs.Walks.{at_next, list_at}
-use Rattle.om_vectors.proofs.Triples.{HasSignZero, held_all, low_rank_from, rank_not_low}
+use Rattle.om_subsets.proofs.Triples.{held_all}
+use Rattle.om_vectors.proofs.Triples.{HasSignZero, low_rank_from, rank_not_low}
 use Rattle.om_vectors.proofs.signs.some_nonzero.Goals as goal
 
 pub returns-then-n-lt3-clause-none : goal.returns-then-n-lt3-clause-none

@@ -1,6 +1,7 @@
 use Rattle.std.proofs.Common.{length}
 use Rattle.om_subsets.proofs.Walks.{IsAt}
-use Rattle.om_vectors.proofs.Triples.{HoldsBelow, HasSignZero}
+use Rattle.om_subsets.proofs.Triples.{HoldsBelow}
+use Rattle.om_vectors.proofs.Triples.{HasSignZero}
 use Rattle.om_vectors.proofs.signs.some_nonzero.Given as goal
 
 abbrev pub invariant-loop-place : goal.invariant-loop-place

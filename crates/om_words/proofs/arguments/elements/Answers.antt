@@ -1,9 +1,10 @@
 use Rattle.std.proofs.Common.{refl, ◌∙◌}
 use Rattle.om_signs.specs.declared.limits.TheConstants.{MAX_ELEMENTS}
 use Rattle.om_words.proofs.ArgumentLaws.{none_some}
-use Rattle.om_words.proofs.Numerals.{taken_none, taken_more, taken_fault, taken_empty, taken_end, item_at, length-words}
+use Rattle.om_words.proofs.Numerals.{taken_none, taken_more, taken_fault, taken_empty, taken_end, length-words}
 use Rattle.om_words.proofs.Numerals.{length-words_end, no_members}
 use Rattle.om_words.proofs.arguments.elements.Goals as goal
+use Rattle.om_words.proofs.FitLaws.{item_word}
 
 pub loop-word-init : goal.loop-word-init
 loop-word-init c =
@@ -15,7 +16,7 @@ loop-word-init c =
 
 pub returns-in_default : goal.returns-in_default
 returns-in_default c = taken_fault _ _ _ _ _ _ c.loop-word.invariant.taken (length-words _ _ _ c.loop-word-test.true)
-    (item_at _ _ _ c.word-item.result c.loop-word-test.true c.word-item.is)
+    (item_word _ _ _ c.word-item.result _ c.loop-word-test.true c.word-item.is)
     (λ e element above. none_some e c.in_default.is ((c.element_above.ensures e).1 (element, above)))
 
 pub with-chosen-requires-clause-low : goal.with-chosen-requires-clause-low
@@ -31,7 +32,7 @@ loop-word-preserved c =
       n = c.with-chosen.ensures.n ∙ c.loop-word.invariant.n;
       taken = rw c.with-chosen.ensures.elements
           (taken_more _ _ _ _ _ _ _ c.loop-word.invariant.taken (length-words _ _ _ c.loop-word-test.true)
-          (item_at _ _ _ c.word-item.result c.loop-word-test.true c.word-item.is) read.0 read.1);
+          (item_word _ _ _ c.word-item.result _ c.loop-word-test.true c.word-item.is) read.0 read.1);
     }
 
 pub returns-then-last-eq0 : goal.returns-then-last-eq0

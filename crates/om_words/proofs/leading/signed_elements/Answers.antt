@@ -1,5 +1,5 @@
 use Rattle.std.specs.Prelude.{◌≤◌, length, string_bytes}
-use Rattle.std.proofs.Common.{arith, Global}
+use Rattle.std.proofs.Common.{arith, Global, []}
 use Rattle.std.proofs.lemmas.List.{take-map, length-take-le}
 use Rattle.om_words.proofs.FitLaws.{item_word}
 use Rattle.om_words.proofs.Numerals.{length-words}
@@ -14,12 +14,12 @@ loop-i-preserved c =
     let within : c.loop-i.i ≤ length c.args.rest.now = omega arith in
     signed_more _ _ _ _ _ c.loop-i.invariant (length-words _ _ _ c.loop-i-test.true)
     (rw (length-take-le c.loop-i.i c.args.rest.now within) at c.in-Some.ensures.room)
-    (item_word _ _ _ c.index-rest-i.result c.loop-i-test.true c.index-rest-i.is) c.in-Some.ensures.value
+    (item_word _ _ _ c.index-rest-i.result [] c.loop-i-test.true c.index-rest-i.is) c.in-Some.ensures.value
     (rw (take-map (string_bytes {Z = Global}) c.loop-i.i c.args.rest.now) c.in-Some.ensures.leading)
 
 pub returns-in_default : goal.returns-in_default
 returns-in_default c = leading_fault _ _ _ _ c.loop-i.invariant (length-words _ _ _ c.loop-i-test.true)
-    (item_word _ _ _ c.index-rest-i.result c.loop-i-test.true c.index-rest-i.is)
+    (item_word _ _ _ c.index-rest-i.result [] c.loop-i-test.true c.index-rest-i.is)
     (rw (take-map (string_bytes {Z = Global}) c.loop-i.i c.args.rest.now) c.in_default.ensures.none)
 
 pub returns-then-is_empty : goal.returns-then-is_empty

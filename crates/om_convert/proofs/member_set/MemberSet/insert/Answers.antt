@@ -6,7 +6,7 @@ use Rattle.om_signs.specs.declared.limits.TheConstants.{MAX_MEMBERS}
 use Rattle.om_members.specs.Listings.{AreDistinct}
 use Rattle.om_convert.specs.Gathering.{IsMemberSet, IsExtendedBy}
 use Rattle.om_convert.proofs.GatheringLaws.{unchanged, pushed, pushed_distinct, full}
-use Rattle.om_convert.proofs.KeyLaws.{contained, not_contained, inserted}
+use Rattle.om_convert.proofs.KeyLaws.{contained, not_contained, new_key}
 use Rattle.om_convert.proofs.member_set.MemberSet.insert.Goals as goal
 use Rattle.om_convert.proofs.member_set.MemberSet.insert.Goals.{in-Ok, in-Err}
 
@@ -37,7 +37,7 @@ invariant_of-self c =
     ] in
     elim c.match-insert.branch [
       | in-Ok w ↦
-          let q = inserted c.self.inside.set.keys c.insert.new.self.keys c.args.x absent w.in-Ok.ensures.keys in
+          let q = new_key c.self.inside.set.keys c.insert.new.self.keys c.args.x absent w.in-Ok.ensures.keys in
           let l = length-append c.self.inside.set.keys (c.args.x ∷ []) in
           let whole : IsMemberSet (c.self.inside.set.keys ++ c.args.x ∷ []) = record {
             distinct = pushed_distinct c.self.inside.set.keys c.args.x c.self.invariant.distinct n;
@@ -52,7 +52,7 @@ returns-clause-added c =
     let absent = sym c.contains.ensures ∙ c.if-contains.false in
     elim c.match-insert.branch [
       | in-Ok w ↦
-          let q = inserted c.self.inside.set.keys c.insert.new.self.keys c.args.x absent w.in-Ok.ensures.keys in
+          let q = new_key c.self.inside.set.keys c.insert.new.self.keys c.args.x absent w.in-Ok.ensures.keys in
           rw w.result-is (subst (λ l. IsExtendedBy (λ X. X ≡ c.args.x) l c.insert.new.self.keys) c.self.view_is
           (subst (IsExtendedBy (λ X. X ≡ c.args.x) c.self.inside.set.keys) (sym q)
           (pushed c.self.inside.set.keys c.args.x)))

@@ -1,7 +1,7 @@
 use Rattle.std.proofs.Common.{sym, ◌∙◌, arith, w32, length}
 use Rattle.std.specs.Int.{trailing_zeros}
-use Rattle.om_signs.proofs.Bits.{one_shl_32}
-use Rattle.om_paint.proofs.Masks.{no_minus_class, one_minus_class, no_class, lowest_minus, bit_within, lowest_small}
+use Rattle.om_signs.proofs.Bits.{one_shl_32, bit_within}
+use Rattle.om_paint.proofs.Masks.{no_minus_class, one_minus_class, no_class, lowest_minus, lowest_small}
 use Rattle.om_paint.proofs.minuses.MinusesClasses.class_of.Goals as goal
 
 pub returns-then-minus-eq0-clause-class : goal.returns-then-minus-eq0-clause-class

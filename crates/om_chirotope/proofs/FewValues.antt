@@ -1,6 +1,6 @@
 -- A chirotope of rank 3 has no more values than a document may hold.
 --
--- Main results: few_triples and few_of_rank3; few_values, from the other ranks to all.
+-- Main results: most_triples, few_triples and few_of_rank3; few_values, from the other ranks to all.
 use Rattle.std.specs.Prelude.{ℕ, ◌≡◌, ◌≢◌, ◌≤◌}
 use Rattle.std.proofs.Common.{arith, sym, subst, refl, inl, inr}
 use Rattle.std.proofs.lemmas.Bool.{cases_eq}
@@ -9,13 +9,13 @@ use Rattle.om_subsets.specs.Subsets.{choose}
 use Rattle.om_subsets.proofs.Counts.{choose_grows}
 use Rattle.om_chirotope.specs.Map.{SignMap}
 
-pub triples : choose MAX_ELEMENTS 3 ≡ 1140
-triples = refl
+pub most_triples : choose MAX_ELEMENTS 3 ≡ 1140
+most_triples = refl
 
 pub few_triples : (n : ℕ) → n ≤ MAX_ELEMENTS → choose n 3 ≤ MAX_VALUES
 few_triples n high =
     let most : choose n 3 ≤ choose MAX_ELEMENTS 3 = choose_grows n MAX_ELEMENTS 3 high in
-    let few : choose n 3 ≤ 1140 = subst (λ k. choose n 3 ≤ k) triples most in
+    let few : choose n 3 ≤ 1140 = subst (λ k. choose n 3 ≤ k) most_triples most in
     omega (arith, few)
 
 pub few_of_rank3 : (m : SignMap) → m.rank ≡ 3 → m.elements ≤ MAX_ELEMENTS → choose m.elements m.rank ≤ MAX_VALUES
