@@ -1,11 +1,17 @@
 //! Rows computed by hand, and numbers at the limit.
 
-use om_rows::{Column, Wide, combine, compare_ratios, dot, gcd, primitive};
+use om_rows::{Column, Wide, are_short, combine, compare_ratios, dot, gcd, is_short, primitive};
 use std::cmp::Ordering;
 
 const MAX: i128 = i128::MAX;
 
 const MIN: i128 = i128::MIN;
+
+/// The greatest number of 64 bits.
+const SHORT_MAX: i128 = 9_223_372_036_854_775_807;
+
+/// The least number of 64 bits.
+const SHORT_MIN: i128 = -9_223_372_036_854_775_808;
 
 /// The first two numbers of a row, the third and the fourth subtracted, and the last.
 const STRICT: Column = Column {
@@ -58,6 +64,38 @@ fn combinations_too_wide(rt: HostRuntime) {
     ];
     let places = [Err(Wide { place: 1 }), Err(Wide { place: 2 })];
     assert!(rt; found == places && wide == [1 << 126]);
+}
+
+#[test]
+fn short_numbers(rt: HostRuntime) {
+    let found = [
+        is_short(SHORT_MAX),
+        is_short(SHORT_MIN),
+        are_short(&[SHORT_MIN, 0, SHORT_MAX]),
+        !is_short(SHORT_MAX + 1),
+        !is_short(SHORT_MIN - 1),
+        !are_short(&[0, MIN]),
+    ];
+    assert!(rt; found == [true; 6]);
+}
+
+#[test]
+fn combinations_of_short_numbers(rt: HostRuntime) {
+    let mut row = [SHORT_MIN, SHORT_MAX];
+    let combined = [MAX - SHORT_MAX, MIN + 27_670_116_110_564_327_423];
+    assert!(rt; combine(SHORT_MIN, &mut row, SHORT_MAX, &[SHORT_MIN, SHORT_MAX]).is_ok() && row == combined);
+}
+
+#[test]
+fn combinations_past_short_numbers(rt: HostRuntime) {
+    let mut narrow = [SHORT_MAX + 1];
+    let mut wide = [SHORT_MAX + 1];
+    let found = [
+        combine(SHORT_MAX + 1, &mut narrow, SHORT_MAX, &[SHORT_MIN]),
+        combine(SHORT_MAX + 1, &mut wide, SHORT_MIN, &[SHORT_MAX + 1]),
+    ];
+    let places = [Ok(()), Err(Wide { place: 1 })];
+    assert!(rt; found == places && narrow == [MAX - SHORT_MAX] && wide == [SHORT_MAX + 1]);
 }
 
 /// Whether a row divided by the greatest common divisor of its numbers is this one.
