@@ -1,8 +1,8 @@
 /// How far a decision goes before it gives up.
 ///
 /// `box_size` is the greatest absolute value of a coordinate that the search tries, from 1 to
-/// [`MAX_BOX`](om_signs::MAX_BOX). `steps` is the number of words that it visits, from 1 to
-/// [`MAX_STEPS`](om_signs::MAX_STEPS). `pivots` is the number of pivots of the tableau, from 1 to
+/// [`MAX_BOX`](om_signs::MAX_BOX). `steps` is the greatest number of words that it visits, from 1 to
+/// [`MAX_STEPS`](om_signs::MAX_STEPS). `pivots` is the greatest number of pivots of the tableau, from 1 to
 /// [`MAX_PIVOTS`](om_signs::MAX_PIVOTS).
 #[derive(Clone, Copy, Debug, PartialEq, Eq)]
 pub struct Budgets {

@@ -2,7 +2,7 @@
 --
 -- Main results: the chirotope of a representation denotes the same (same_of); a document as itself (own_converted); a
 -- list whose chirotope is too wide (wide_answered, wide_chirotope); a document as a
--- chirotope (chirotope_made); lists that are made by way of a chirotope (circuits_made, cocircuits_made,
+-- chirotope (chirotope_made); lists that are made through a chirotope (circuits_made, cocircuits_made,
 -- covectors_made), and those with too many members (many_circuits, many_cocircuits, many_covectors); covectors as
 -- cocircuits (minimal_made); a representation of one of two kinds (one_of_two).
 use Rattle.std.specs.Prelude.{ℕ, ◌≡◌, ◌↔◌, ◌⊎◌, true, false, List, [], length, refl}
@@ -135,7 +135,7 @@ chirotope_made (representation.Cocircuits s) c e narrow of made form axioms =
 chirotope_made (representation.Covectors s) c e narrow of made form axioms =
     normal_made (covectors_document s) c e refl narrow (size_in (representation.Covectors s)) of made form axioms
 
--- ---- lists, by way of a chirotope
+-- ---- lists, through a chirotope
 
 exactly_same : (P Q : List Sign → Type 0) → ((X : List Sign) → P X ↔ Q X) → (b : Body) → HasExactly P b → HasExactly Q b
 exactly_same P Q both (body.Chirotope m) h = h

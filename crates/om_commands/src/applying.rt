@@ -24,9 +24,9 @@ use om_minors::{
 use om_representation::Representation;
 use std::alloc::Global;
 
-/// What an operation makes of an oriented matroid: one of the same kind, but the dual of circuits is one of cocircuits,
-/// and that of cocircuits one of circuits. A chirotope is normal. The elements that the operation names are elements of
-/// the oriented matroid.
+/// What an operation makes of an oriented matroid. It stays of the same kind, but the dual of circuits is a list of
+/// cocircuits, and the dual of cocircuits is a list of circuits. A chirotope is normal. The elements that the operation
+/// names are elements of the oriented matroid.
 pub fn apply(
     alloc: Global,
     representation: Representation,
@@ -49,7 +49,7 @@ pub fn apply(
 }
 
 /// What an operation makes of a chirotope, as a normal chirotope. The elements that it names are elements of the
-/// chirotope. `LastElement` comes exactly where it would take the only one away.
+/// chirotope. `LastElement` comes exactly if it would take the only one away.
 fn apply_to_chirotope(
     alloc: Global,
     chirotope: Chirotope,
@@ -123,8 +123,8 @@ fn apply_to_cocircuits(
     }
 }
 
-/// What an operation makes of covectors: covectors. The dual is made by way of the chirotope, which may be too wide,
-/// and of it there may be too many.
+/// What an operation makes of covectors: covectors. The dual is made through the chirotope, which may be too wide.
+/// The dual may also have too many covectors.
 fn apply_to_covectors(
     alloc: Global,
     covectors: Covectors,

@@ -82,15 +82,14 @@ impl Cutter {
         }
     }
 
-    /// Gives what is left after the end of the input, if it is a piece.
+    /// Gives what is left after the end of the input, if it is a piece. The cutter is then as before the first byte.
     pub fn rest(&mut self, alloc: Global) -> Option<Vec<u8>>
-        ensures { option_map (λ p. p.items) result ≡ rest_of self.old }
+        ensures piece { option_map (λ p. p.items) result ≡ rest_of self.old }
+        ensures anew { self.new ≡ nothing self.old.wanted }
     {
-        if self.some {
-            Some(mem::replace(&mut self.kept, Vec::new(alloc)))
-        } else {
-            None
-        }
+        let anew = Cutter::new(alloc, self.wanted);
+        let last = mem::replace(self, anew);
+        if last.some { Some(last.kept) } else { None }
     }
 
     /// Ends the line, and gives the piece that is then complete, if there is one.

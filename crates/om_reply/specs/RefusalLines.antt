@@ -1,5 +1,5 @@
--- The line that names the first violated instance of the axioms of a document, and the line where there is no chirotope
--- to work on.
+-- The line that names the first violated instance of the axioms of a document, and the line of a command if there is
+-- no chirotope to work on.
 use Rattle.std.specs.Prelude.{◌≡◌}
 use Rattle.om_chirotope.specs.declared.map_refused.MapRefused.{MapRefused}
 use Rattle.om_chirotope.specs.declared.map_refused.MapRefused.TheVariants as map
@@ -49,12 +49,12 @@ refused_line (reason.Covectors why) = cov_line why
 refused_line (reason.Wiring why) = wiring_line why
 refused_line reason.RankLow = line.RefusedRanklow
 
--- the line of a command of rank 3 where there is no chirotope to work on; want of memory has none
+-- the line of a command of rank 3 if there is no chirotope to work on; if memory ran out there is none
 abbrev pub IsRankLine : Unchosen → Line → Type 0
 IsRankLine (unchosen.TooWide rank values) l = l ≡ line.RefusedNotrank3 rank
 IsRankLine unchosen.Memory l = ⊥
 
--- the line of the other commands there; want of memory has none
+-- the line of the other commands if there is no chirotope to work on; if memory ran out there is none
 abbrev pub IsWidthLine : Unchosen → Line → Type 0
 IsWidthLine (unchosen.TooWide rank values) l = l ≡ line.LimitValues values
 IsWidthLine unchosen.Memory l = ⊥

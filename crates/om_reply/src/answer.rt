@@ -26,13 +26,13 @@ pub enum Answer {
     /// Mutations: a line with their number, a line for each, and `end`.
     Mutations(List<Subset>),
     /// Extensions of a map on this many elements: `om 1`, `extensions` and the number of elements, a line for each
-    /// signature, and `end`, or `more` where a further one exists.
+    /// signature, and `end`, or `more` if a further one exists.
     Extensions { elements: u8, listing: Listing },
     /// The hull of an acyclic oriented matroid: `acyclic`, a line for each element, and `end`.
     Hull(List<Painted>),
-    /// A claim: the document of a chirotope, and behind it the verdict on it.
+    /// A claim: the document of a chirotope, followed by the verdict on it.
     Claim(Claim),
-    /// Vectors that a number gives: the document of the points, and behind it what there is to count of them.
+    /// Vectors that a number determines: the document of the points, followed by the counts of their summary.
     Made { vectors: Word, tally: Tally },
 }
 

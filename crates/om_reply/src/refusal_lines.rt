@@ -70,8 +70,8 @@ fn wiring_line(why: WiringRefused) -> Line
     }
 }
 
-/// The line of a command of rank 3 where there is no chirotope to work on: one with too many values is of another rank.
-/// Want of memory has no line.
+/// The line of a command of rank 3 if there is no chirotope to work on: one with too many values is of another rank.
+/// If memory ran out there is no line.
 pub fn rank_line(why: Unchosen) -> Result<Line, NoMemory>
     ensures line { IfOk result (IsRankLine why) }
     ensures memory { IsErr result → why ≡ Unchosen.Memory }
@@ -82,8 +82,8 @@ pub fn rank_line(why: Unchosen) -> Result<Line, NoMemory>
     }
 }
 
-/// The line of a command of any rank where there is no chirotope to work on: the number of values.
-/// Want of memory has no line.
+/// The line of a command of any rank if there is no chirotope to work on: the number of values. If memory ran out
+/// there is no line.
 pub fn width_line(why: Unchosen) -> Result<Line, NoMemory>
     ensures line { IfOk result (IsWidthLine why) }
     ensures memory { IsErr result → why ≡ Unchosen.Memory }

@@ -121,8 +121,8 @@ fn is_exchange(alloc: Global, rank: u8, elements: u8, text: &str, expected: bool
     }
 }
 
-// no element of 456 can replace one of 123; then each set of three is a basis, though the signs are those of no
-// chirotope; and then there is no basis
+// First, no element of 456 can replace one of 123. Second, each set of three is a basis, though the signs are those
+// of no chirotope. Third, there is no basis.
 #[test]
 fn exchanges(rt: HostRuntime) {
     let alloc = rt.alloc();

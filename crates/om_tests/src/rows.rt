@@ -83,7 +83,9 @@ fn short_numbers(rt: HostRuntime) {
 fn combinations_of_short_numbers(rt: HostRuntime) {
     let mut row = [SHORT_MIN, SHORT_MAX];
     let combined = [MAX - SHORT_MAX, MIN + 27_670_116_110_564_327_423];
-    assert!(rt; combine(SHORT_MIN, &mut row, SHORT_MAX, &[SHORT_MIN, SHORT_MAX]).is_ok() && row == combined);
+    assert!(rt;
+        combine(SHORT_MIN, &mut row, SHORT_MAX, &[SHORT_MIN, SHORT_MAX]).is_ok() && row == combined
+    );
 }
 
 #[test]

@@ -87,8 +87,8 @@ abbrev pub members_of_line : Setting → List (List ℕ) → List (List Sign)
 members_of_line Half w = signs_of_line w ∷ map opposite (signs_of_line w) ∷ []
 members_of_line _ w = signs_of_line w ∷ []
 
--- the body that lines give: the values of a map in the order of the lines, the blocks, the points, or the distinct
--- members in the order of their first lines
+-- The body that lines give. A map has its values in the order of the lines, and so have blocks and points. A list
+-- has its distinct members in the order of their first lines.
 abbrev pub filled_body : Setting → Body → List (List (List ℕ)) → Body
 filled_body s (Chirotope m) body = Chirotope (record { rank = m.rank; elements = m.elements; signs = all_signs body })
 filled_body s (Wiring _) body = Wiring (flat_map blocks_on body)
@@ -128,8 +128,8 @@ is_complete_body _ n = true
 abbrev pub is_complete : Document → Bool
 is_complete d = is_complete_body d.body d.elements
 
--- The lines, as their words, are a version line, a kind line with its numbers in range, setting lines that this
--- version and kind allow, lines of a body within the limits, and the end line. They give the document d.
+-- The lines, as their words, give the document d. They are a version line, a kind line with its numbers in range,
+-- setting lines that this version and kind allow, lines of a body within the limits, and the end line.
 pub record IsSpelled (ls : List (List (List ℕ))) (d : Document) : Type 0 where
   pub first_line : List (List ℕ)
   pub version : Version

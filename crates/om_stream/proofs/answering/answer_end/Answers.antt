@@ -14,7 +14,7 @@ answer_next-requires-clause-before g c κs within =
 pub returns-then-is_answered-clause-answer : goal.returns-then-is_answered-clause-answer
 returns-then-is_answered-clause-answer g c =
     λ answered. end_answers
-    (TaskMeans c.args.task.now) c.args.cutter.now c.end.new.self _ _ _ _ _ _ _ _ c.in-Ok.ensures c.rest.ensures
+    (TaskMeans c.args.task.now) c.args.cutter.now c.end.new.self _ _ _ _ _ _ _ _ c.in-Ok.ensures c.rest.ensures.piece
     (c.answer_next-status.ensures.answer (c.is_answered.ensures.0 c.if-is_answered.true))
     (c.answer_next.ensures.answer answered)
 
@@ -28,7 +28,7 @@ returns-then-is_answered-clause-memory g c = λ memory.
 pub returns-then-is_answered-clause-cut : goal.returns-then-is_answered-clause-cut
 returns-then-is_answered-clause-cut g c =
     λ cut. end_breaks_later
-    (TaskMeans c.args.task.now) c.args.cutter.now c.end.new.self _ _ _ _ _ _ _ c.in-Ok.ensures c.rest.ensures
+    (TaskMeans c.args.task.now) c.args.cutter.now c.end.new.self _ _ _ _ _ _ _ c.in-Ok.ensures c.rest.ensures.piece
     (c.answer_next-status.ensures.answer (c.is_answered.ensures.0 c.if-is_answered.true))
     (c.answer_next.ensures.cut cut)
 
