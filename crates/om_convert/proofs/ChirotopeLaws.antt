@@ -20,7 +20,7 @@ use Rattle.om_denotation.specs.Denotation.{DenoteTheSame}
 use Rattle.om_denotation.specs.Listings.{AreAllOf}
 use Rattle.om_denotation.proofs.ChirotopeBridge.{circuit_length, cocircuit_length}
 use Rattle.om_denotation.proofs.FamilyLaws as chirotopes
-use Rattle.om_oriented.proofs.ListedFamilies.{lengths, circuit_axioms, covector_axioms, composed_both}
+use Rattle.om_denotation.proofs.ListedFamilies.{lengths, circuit_axioms, covector_axioms, composed_both}
 
 -- compositions of members of a family are compositions of members of a larger one
 compositions_of : (P Q : List Sign → Type 0) → ((Y : List Sign) → P Y → Q Y) → (n : ℕ) (X : List Sign)

@@ -8,7 +8,7 @@ use Rattle.std.proofs.Common.{true≢false}
 use Rattle.std.proofs.lemmas.List.Folds.{list_any_at}
 use Rattle.om_signs.specs.declared.sign.Sign.{Sign}
 use Rattle.om_signs.specs.OrderLaws.{same_masks}
-use Rattle.om_oriented.proofs.Compositions.{same_vectors}
+use Rattle.om_denotation.proofs.Compositions.{same_vectors}
 use Rattle.indexmap.specs.IndexSet.{insert_key}
 use Rattle.indexmap.proofs.CallerLemmas.{Contains-list_any}
 

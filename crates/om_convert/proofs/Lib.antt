@@ -1,3 +1,8 @@
+mod HittingLaws
+mod SetLaws
+mod CarryLaws
+mod MeetingLaws
+pub mod RankLaws
 pub mod CountingLaws
 pub mod GatheringLaws
 pub mod CompositionLaws

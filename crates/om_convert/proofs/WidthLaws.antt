@@ -13,8 +13,8 @@ use Rattle.om_chirotope.specs.Chirotope.{IsChirotope}
 use Rattle.om_chirotope.proofs.FewValues.{few_triples}
 use Rattle.om_denotation.specs.Covectors.{IsCovectorOfChirotope}
 use Rattle.om_denotation.specs.Denotation.{DenoteTheSame}
-use Rattle.om_propagation.specs.Ranks.{IsRankFor}
-use Rattle.om_propagation.proofs.RankLaws.{rank_for}
+use Rattle.om_convert.specs.Ranks.{IsRankFor}
+use Rattle.om_convert.proofs.RankLaws.{rank_for}
 use Rattle.om_convert.specs.declared.convert_error.ConvertError.{ConvertError}
 use Rattle.om_convert.specs.declared.convert_error.ConvertError.TheVariants.{TooWide, TooMany, Memory}
 use Rattle.om_convert.proofs.SameFamilies.{joined}

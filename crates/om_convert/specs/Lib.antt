@@ -1,3 +1,5 @@
+pub mod Hitting
+pub mod Ranks
 pub mod Limits
 pub mod Gathering
 pub mod Reading

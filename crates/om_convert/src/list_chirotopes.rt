@@ -14,12 +14,11 @@ ghost use Rattle.om_convert.specs.Limits.{HasFewValuesFor, IsWidth, IsWidthCause
 
 use super::convert_error::ConvertError;
 use super::covectors::covectors_to_cocircuits;
+use super::propagation::{chirotope_of_circuits, chirotope_of_cocircuits};
+use super::ranks::{rank_circuits, rank_cocircuits, rank_covectors};
 use om_chirotope::Chirotope;
 use om_circuits::{Circuits, Cocircuits};
 use om_covectors::Covectors;
-use om_propagation::{
-    chirotope_of_circuits, chirotope_of_cocircuits, rank_circuits, rank_cocircuits, rank_covectors,
-};
 use om_signs::{MAX_ELEMENTS, MAX_VALUES};
 use om_subsets::Subset;
 use std::alloc::Global;

@@ -8,16 +8,17 @@ ghost use Rattle.std.specs.Prelude.{◌≡◌, ◌≤◌, length, IsTrue, IfOk, 
 ghost use Rattle.om_circuits.specs.Axioms.{MeetsCircuitAxioms};
 ghost use Rattle.om_covectors.specs.Axioms.{MeetsCovectorAxioms};
 ghost use Rattle.om_members.specs.Listings.{HaveLength, AreDistinct};
-ghost use Rattle.om_propagation.specs.Hitting.{IsEachNormalOf};
+ghost use Rattle.om_convert.specs.Hitting.{IsEachNormalOf};
 ghost use Rattle.om_convert.specs.Reading.{IsSetReadError, IsCovReadError};
 
 use super::convert_error::ConvertError;
+use super::hitting::{least_meeting, missed_vector};
+use super::propagation::propagated_map;
 use super::read_error::{ReadCovError, ReadSetError};
 use super::vectors::{all_cocircuits, all_covectors};
 use om_chirotope::Chirotope;
 use om_circuits::{Circuits, Cocircuits, SignedSet};
 use om_covectors::{Covectors, minimal_vectors};
-use om_propagation::{least_meeting, missed_vector, propagated_map};
 use om_signs::{List, MAX_ELEMENTS, MAX_MEMBERS, MAX_VALUES, NoMemory, SignVec};
 use om_subsets::Subset;
 use std::alloc::Global;

@@ -16,3 +16,6 @@ pub mod ListUniqueness
 pub mod KindLaws
 pub mod DualLists
 pub mod OnlyLaws
+pub mod ListedFamilies
+pub mod Compositions
+pub mod CocircuitLaws

@@ -14,3 +14,4 @@ pub mod Existence
 pub mod Elimination
 pub mod Vectors
 pub mod Only
+pub mod MinimalParts

@@ -10,7 +10,7 @@ use Rattle.om_signs.specs.declared.limits.TheConstants.{MAX_ELEMENTS, MAX_MEMBER
 use Rattle.om_signs.specs.declared.sign.Sign.{Sign}
 use Rattle.om_members.specs.Listings.{AreDistinct}
 use Rattle.om_denotation.specs.Listings.{AreAllOf, HasMoreThan}
-use Rattle.om_oriented.proofs.ListedFamilies.{lengths}
+use Rattle.om_denotation.proofs.ListedFamilies.{lengths}
 use Rattle.om_text.specs.declared.body.Body.{Body}
 use Rattle.om_text.specs.declared.document.Document.{Document}
 use Rattle.om_text.specs.Form.{IsBodyOn, AreMembersOn, IsInForm}

@@ -15,7 +15,7 @@ ghost use Rattle.om_circuits.specs.Axioms.{MeetsCircuitAxioms};
 ghost use Rattle.om_denotation.specs.Compositions.{HasConformingParts};
 ghost use Rattle.om_denotation.specs.Denotation.{DenoteTheSame};
 ghost use Rattle.om_denotation.specs.Families.{as_functions};
-ghost use Rattle.om_oriented.specs.Families.{HasMinimalPart};
+ghost use Rattle.om_denotation.specs.MinimalParts.{HasMinimalPart};
 
 /// The functions of lists of n signs are zero off the elements 1 to n. If the lists satisfy the axioms of covectors,
 /// their functions do too.

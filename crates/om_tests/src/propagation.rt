@@ -4,10 +4,10 @@ ghost use Rattle.std.specs.Prelude.{◌≡◌, IfOk};
 
 use super::helpers::is_chirotope;
 use om_circuits::{Circuits, Cocircuits};
-use om_covectors::Covectors;
-use om_propagation::{
+use om_convert::{
     chirotope_of_circuits, chirotope_of_cocircuits, rank_circuits, rank_cocircuits, rank_covectors,
 };
+use om_covectors::Covectors;
 use om_samples::{SampleError, circuits_of, cocircuits_of, covectors_of};
 use std::alloc::Global;
 

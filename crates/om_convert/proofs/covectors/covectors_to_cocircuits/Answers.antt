@@ -3,7 +3,7 @@ use Rattle.om_members.specs.Listings.{HaveLength}
 use Rattle.om_covectors.specs.Minimality.{IsMinimal}
 use Rattle.om_denotation.proofs.SelectionLaws.{those_all, those_few, those_distinct}
 use Rattle.om_denotation.proofs.OnlyLaws.{only_cocircuits}
-use Rattle.om_oriented.proofs.CocircuitLaws.{minimal_axioms, same_covectors}
+use Rattle.om_denotation.proofs.CocircuitLaws.{minimal_axioms, same_covectors}
 use Rattle.om_convert.proofs.covectors.covectors_to_cocircuits.Goals as goal
 
 pub lawful-requires-clause-lengths : goal.lawful-requires-clause-lengths

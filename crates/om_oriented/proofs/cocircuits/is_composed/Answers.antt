@@ -1,6 +1,6 @@
 use Rattle.std.proofs.Common.{◌≡◌, ◌+◌, length, sym, ◌∙◌, ap, subst, arith, true, false}
 use Rattle.om_members.proofs.ScanLaws.{nth_read}
-use Rattle.om_oriented.proofs.Compositions.{IsComposition, passed, one_more, same_vectors, composed_is}
+use Rattle.om_denotation.proofs.Compositions.{IsComposition, passed, one_more, same_vectors, composed_is}
 use Rattle.om_oriented.proofs.cocircuits.is_composed.Goals as goal
 use Rattle.om_oriented.proofs.cocircuits.is_composed.Goals.{then-conforms, else-conforms}
 

@@ -1,4 +1,4 @@
-use Rattle.om_oriented.proofs.Compositions.{IsComposition}
+use Rattle.om_denotation.proofs.Compositions.{IsComposition}
 use Rattle.om_oriented.proofs.cocircuits.is_composed.Given as goal
 
 abbrev pub invariant-loop-y : goal.invariant-loop-y

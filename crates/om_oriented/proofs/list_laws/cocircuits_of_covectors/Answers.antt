@@ -1,4 +1,4 @@
-use Rattle.om_oriented.proofs.CocircuitLaws.{minimal_axioms}
+use Rattle.om_denotation.proofs.CocircuitLaws.{minimal_axioms}
 use Rattle.om_oriented.proofs.list_laws.cocircuits_of_covectors.Goals as goal
 
 pub returns : goal.returns

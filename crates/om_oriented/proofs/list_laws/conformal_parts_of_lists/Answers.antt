@@ -1,4 +1,4 @@
-use Rattle.om_oriented.proofs.CocircuitLaws.{minimal_part}
+use Rattle.om_denotation.proofs.CocircuitLaws.{minimal_part}
 use Rattle.om_oriented.proofs.list_laws.conformal_parts_of_lists.Goals as goal
 
 pub returns : goal.returns

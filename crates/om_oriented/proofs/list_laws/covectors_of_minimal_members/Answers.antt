@@ -1,4 +1,4 @@
-use Rattle.om_oriented.proofs.CocircuitLaws.{composed}
+use Rattle.om_denotation.proofs.CocircuitLaws.{composed}
 use Rattle.om_oriented.proofs.list_laws.covectors_of_minimal_members.Goals as goal
 
 pub returns : goal.returns

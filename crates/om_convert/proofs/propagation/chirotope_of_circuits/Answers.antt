@@ -1,0 +1,29 @@
+use Rattle.std.proofs.lemmas.Result.{IfOk-weaker}
+use Rattle.om_chirotope.specs.Map.{SignMap}
+use Rattle.om_denotation.specs.Circuits.{IsCircuitOfChirotope}
+use Rattle.om_denotation.specs.Covectors.{IsCovectorOfChirotope, IsCovectorOfCircuits}
+use Rattle.om_denotation.specs.Denotation.{DenoteTheSame}
+use Rattle.om_denotation.specs.Listings.{AreAllOf}
+use Rattle.om_denotation.specs.Maps.{IsNormalFormOf}
+use Rattle.om_denotation.specs.Dual.{dual_of}
+use Rattle.om_convert.proofs.MeetingLaws.{has_circuits}
+use Rattle.om_convert.proofs.RankLaws.{rank_of_dual}
+use Rattle.om_convert.proofs.propagation.chirotope_of_circuits.Goals as goal
+
+pub chirotope_of-requires : goal.chirotope_of-requires
+chirotope_of-requires c = rank_of_dual c.args.c.now.0 c.args.rank c.requires.part c.requires.rank c.elements.result
+    c.elements.ensures.value
+
+pub returns-clause-circuits : goal.returns-clause-circuits
+returns-clause-circuits c =
+    let P : SignMap → Type 0 = λ m. AreAllOf (IsCircuitOfChirotope m) c.args.c.now.0.members in
+    IfOk-weaker c.dual.result (IsNormalFormOf (dual_of c.in_ok-other.other)) P
+    (λ d n. (has_circuits c.args.c.now.0 c.in_ok-other.other d c.in_ok-other.ensures n).members)
+    c.dual.ensures.value
+
+pub returns-clause-same : goal.returns-clause-same
+returns-clause-same c =
+    let P : SignMap → Type 0 =
+    λ m. DenoteTheSame c.args.c.now.0.elements (IsCovectorOfCircuits c.args.c.now.0) (IsCovectorOfChirotope m) in
+    IfOk-weaker c.dual.result (IsNormalFormOf (dual_of c.in_ok-other.other)) P
+    (λ d n. (has_circuits c.args.c.now.0 c.in_ok-other.other d c.in_ok-other.ensures n).same) c.dual.ensures.value

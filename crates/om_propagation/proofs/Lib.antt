@@ -1,5 +1,0 @@
-mod HittingLaws
-mod SetLaws
-mod CarryLaws
-mod MeetingLaws
-pub mod RankLaws

@@ -1,8 +1,0 @@
-use Rattle.om_members.specs.Scans.{AllBelow, nth}
-use Rattle.om_members.specs.Vectors.{IsZero}
-use Rattle.om_propagation.specs.Hitting.{IsNonzeroOn}
-use Rattle.om_propagation.proofs.hitting.missed_nonzero_vector.Given as goal
-
-abbrev pub invariant-loop-y : goal.invariant-loop-y
-invariant-loop-y l =
-    AllBelow l.y-index (λ k. (IsZero (nth l.vectors k) → ⊥) → IsNonzeroOn l.s.elements (nth l.vectors k))

@@ -1,6 +1,0 @@
-use Rattle.std.proofs.Common.{ℕ, ◌≤◌, ◌<◌}
-use Rattle.om_propagation.specs.Hitting.{HasNoneCarried}
-use Rattle.om_propagation.proofs.signs.sign_of_basis.Given as goal
-
-abbrev pub invariant-loop-e : goal.invariant-loop-e
-invariant-loop-e l = (f : ℕ) → 1 ≤ f → f < l.e → HasNoneCarried l.vectors l.t.elements f

@@ -1,2 +1,0 @@
-pub mod Hitting
-pub mod Ranks
