@@ -32,7 +32,7 @@ use Rattle.om_answer.specs.ClaimFault.{last_passing, code_in_block, code_after_d
 use Rattle.om_answer.proofs.BlockForms.{not_line, lines_not, all_passing, none_passing, last_passing-append}
 use Rattle.om_answer.proofs.BlockForms.{vector_no_weight, weight_no_vector, entry_named, pivots_named, basis_named}
 use Rattle.om_answer.proofs.BlockForms.{width_named}
-use Rattle.om_answer.proofs.BlockCourse.{IsFront, IsPart}
+use Rattle.om_answer.proofs.BlockParts.{IsFront, IsPart}
 
 -- lines without an end line, of which the last v are vectors and the last w are weights
 pub record HasShape (v w : ℕ) (ls : List (List (List ℕ))) : Type 0 where

@@ -24,8 +24,9 @@ use Rattle.om_answer.specs.declared.block.Block.TheVariants as block
 use Rattle.om_answer.specs.BlockReading.{block_outcome}
 use Rattle.om_answer.specs.Claim.{IsClaim}
 use Rattle.om_answer.specs.ClaimFault.{IsClaimFault}
-use Rattle.om_answer.proofs.ClaimCourse.{in_document, claim_outcome, claim_comes, claim_from, claim_fault_from}
-use Rattle.om_answer.proofs.ClaimCourse.{claim_fault_comes, document_fault_comes, document_passes, joined}
+use Rattle.om_answer.proofs.ClaimSteps.{in_document}
+use Rattle.om_answer.proofs.ClaimCourse.{claim_outcome, claim_comes, claim_from, claim_fault_from, claim_fault_comes}
+use Rattle.om_answer.proofs.ClaimBeginnings.{document_fault_comes, document_passes, joined}
 
 -- what the reading of lines answers
 abbrev pub Reads : Result Claim ParseError → List (List ℕ) → Type 0

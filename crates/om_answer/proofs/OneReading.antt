@@ -8,8 +8,8 @@ use Rattle.om_text.specs.declared.state.State.TheVariants.{Start}
 use Rattle.om_answer.specs.declared.claim.Claim.{Claim}
 use Rattle.om_answer.specs.Claim.{IsClaim}
 use Rattle.om_answer.specs.ClaimFault.{IsClaimFault}
-use Rattle.om_answer.proofs.ClaimCourse.{in_document, claim_outcome, claim_comes, claim_from, claim_fault_from}
-use Rattle.om_answer.proofs.ClaimCourse.{claim_fault_comes}
+use Rattle.om_answer.proofs.ClaimSteps.{in_document}
+use Rattle.om_answer.proofs.ClaimCourse.{claim_outcome, claim_comes, claim_from, claim_fault_from, claim_fault_comes}
 
 pub same_claim : (ls : List (List ℕ)) (c d : Claim) → IsClaim ls c → IsClaim ls d → c ≡ d
 same_claim ls c d a b = let p = claim_comes ls c a in let q = claim_comes ls d b in cc

@@ -9,10 +9,15 @@ pub mod Negation
 pub mod SortedTuples
 pub mod Theory
 pub mod ExchangeForms
+pub mod ThreeTermRelations
 pub mod ThreeTerms
+pub mod WordBits
 pub mod Words
 pub mod Marks
+pub mod SupportMarks
 pub mod Rows
+pub mod ThreeRows
+pub mod RowMasks
 pub mod SignChecks
 pub mod FirstRow
 pub mod BlockLaws

@@ -20,7 +20,7 @@ use Rattle.om_laws.specs.Relations.{around, along}
 use Rattle.om_laws.specs.Bridge.{as_list}
 use Rattle.om_laws.proofs.BridgeLaws.{length-as_list}
 use Rattle.om_chirotope.specs.Map.{SignMap, value_of, negated, IsLedBy}
-use Rattle.om_chirotope.specs.Chirotope.{HasNonzeroValue, IsChirotope, IsSound, IsAllZero}
+use Rattle.om_chirotope.specs.Chirotope.{HasNonzeroValue, IsChirotope, IsChirotopeWithinLimits, IsAllZero}
 use Rattle.om_chirotope.proofs.Axioms.{not_all_zero}
 
 value_negated : (m : SignMap) (t : List ℕ) → value_of (negated m) t ≡ opposite (value_of m t)
@@ -134,7 +134,7 @@ turned_map rank elements r e xs ys er ee l h =
     (λ k lt. h k (omega arith) ∙ sym (at-map-opposite xs k)) in
     rw (er, ee, es) refl
 
-pub negated_sound : (m : SignMap) → IsSound m → IsSound (negated m)
+pub negated_sound : (m : SignMap) → IsChirotopeWithinLimits m → IsChirotopeWithinLimits (negated m)
 negated_sound m h = record {
   axioms = negated_chirotope m h.axioms;
   limits = record { low = h.limits.low; high = h.limits.high };

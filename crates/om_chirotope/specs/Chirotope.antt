@@ -42,7 +42,7 @@ pub record IsWithinLimits (m : SignMap) : Type 0 where
   pub high : m.elements ≤ MAX_ELEMENTS
 
 -- what holds of every chirotope of the code
-pub record IsSound (m : SignMap) : Type 0 where
+pub record IsChirotopeWithinLimits (m : SignMap) : Type 0 where
   pub axioms : IsChirotope m
   pub limits : IsWithinLimits m
 

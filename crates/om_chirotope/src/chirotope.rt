@@ -22,13 +22,13 @@ pub struct Chirotope {
 
 impl Model for Chirotope {
     ghost use Rattle.om_chirotope.specs.Map.{SignMap, map_of};
-    ghost use Rattle.om_chirotope.specs.Chirotope.{IsSound};
+    ghost use Rattle.om_chirotope.specs.Chirotope.{IsChirotopeWithinLimits};
 
     ghost Value = { SignMap };
 
     ghost view = { λ c. map_of c.raw };
 
-    ghost invariant = { λ c. IsSound (map_of c.raw) };
+    ghost invariant = { λ c. IsChirotopeWithinLimits (map_of c.raw) };
 }
 
 impl Chirotope {

@@ -1,19 +1,19 @@
--- The signs of the normal chirotope of a list of cocircuits, from one another.
+-- The signs of the normal chirotope of a list of cocircuits: that of a basis from that of one before it, and that of
+-- the first basis.
 --
--- Main results: a set of the rank is a basis exactly where it meets each member (basis_meets, meeting_basis); the sign
--- of a basis from that of one before it (carried_is), and of the first basis (first_is_plus).
+-- Main results: rest_misses, other_nonzero, other_fresh, carried_is, first_is_plus, earlier_place, zero_sign,
+-- carried_value, plus_sign, none_more, none_all
 -- Reference: Björner, Las Vergnas, Sturmfels, White and Ziegler, Oriented Matroids, chapter 3.
 use Rattle.std.specs.Prelude.{ℕ, ◌≡◌, ◌≢◌, ◌+◌, ◌<◌, ◌≤◌, List, [], ◌∷◌, ◌++◌, length, refl}
 use Rattle.std.specs.List.{Contains}
-use Rattle.std.proofs.Common.{zero, suc, sym, ap, subst, ◌∙◌, ⊎_elim, inl, inr, arith}
+use Rattle.std.proofs.Common.{sym, ap, subst, ◌∙◌, ⊎_elim, inl, inr, arith}
 use Rattle.std.proofs.lemmas.Bool.{cases_eq, cases_lt}
 use Rattle.std.proofs.lemmas.List.{length-append}
 use Rattle.om_signs.specs.declared.sign.Sign.{Sign}
-use Rattle.om_signs.specs.declared.sign.Sign.TheVariants.{Minus, Zero, Plus}
+use Rattle.om_signs.specs.declared.sign.Sign.TheVariants.{Zero, Plus}
 use Rattle.om_signs.specs.Sign.{product}
 use Rattle.om_signs.specs.SignVec.{at, at_element}
-use Rattle.om_signs.proofs.SignLaws.{zero_or_nonzero, product_assoc, opposite_nonzero, plus_nonzero}
-use Rattle.om_signs.proofs.SignLaws.{right_factor_nonzero, product_nonzero}
+use Rattle.om_signs.proofs.SignLaws.{zero_or_nonzero, plus_nonzero, right_factor_nonzero, product_nonzero}
 use Rattle.om_subsets.specs.Subsets.{IsSubsetFrom, IsMember, with_element, without_element, count_above, rank_of}
 use Rattle.om_subsets.specs.Subsets.{choose, subset_at}
 use Rattle.om_subsets.specs.Lists.{IsBefore}
@@ -21,93 +21,33 @@ use Rattle.om_subsets.proofs.OneElement.{subset_without, with_without}
 use Rattle.om_subsets.proofs.Order.{members_from, lexicographic, listed, rank_from-lt}
 use Rattle.om_subsets.proofs.Statements.{members_without}
 use Rattle.om_laws.specs.Signs.{IsNonzero}
-use Rattle.om_laws.specs.Vectors.{SignVector, AreEqualUpToSign}
+use Rattle.om_laws.specs.Vectors.{AreEqualUpToSign}
 use Rattle.om_laws.specs.Tuples.{sorted}
 use Rattle.om_laws.specs.Sorting.{IsElement, IsTuple}
 use Rattle.om_laws.specs.Relations.{along}
-use Rattle.om_laws.specs.Chirotope as theory
 use Rattle.om_laws.specs.Chirotope.{elements_to}
 use Rattle.om_laws.specs.Circuits.{IsCocircuit}
-use Rattle.om_laws.specs.Bridge.{as_function, as_list}
+use Rattle.om_laws.specs.Bridge.{as_function}
 use Rattle.om_laws.proofs.MemberLaws.{member_last}
-use Rattle.om_laws.proofs.SortingLaws.{increasing_distinct}
-use Rattle.om_laws.proofs.TupleSizes.{each_from, on_tuples_at, on_tuples_tuple}
-use Rattle.om_laws.proofs.BridgeLaws.{as_function-as_list}
-use Rattle.om_laws.proofs.BaseLaws.{along_member_zero}
+use Rattle.om_laws.proofs.TupleSizes.{each_from, on_tuples_at}
+use Rattle.om_laws.proofs.FundamentalCircuits.{along_member_zero}
 use Rattle.om_laws.proofs.VectorLaws.{same_products, same_zero, same_sym}
 use Rattle.om_chirotope.specs.Map.{SignMap, chi_of, parity_sign}
-use Rattle.om_chirotope.proofs.Circuits.{length-without, parity_sign-suc}
+use Rattle.om_chirotope.proofs.Circuits.{length-without}
 use Rattle.om_chirotope.proofs.Cocircuits.{sorted_end, insert_with, sign_end, length-with}
 use Rattle.om_chirotope.proofs.InOrder.{value_in_order}
-use Rattle.om_chirotope.proofs.Theory.{theory_chirotope, lawful_with}
+use Rattle.om_chirotope.proofs.Theory.{lawful_with}
 use Rattle.om_matroid.specs.Bases.{IsExchange}
 use Rattle.om_chirotope.specs.ThreeTerm.{IsBasis}
 use Rattle.om_matroid.proofs.ExchangeLaws.{symmetric_exchange}
-use Rattle.om_denotation.proofs.ChirotopeBridge.{tuples_of, cocircuit_function, cocircuit_supported, cocircuit_list}
-use Rattle.om_denotation.proofs.ChirotopeBridge.{increasing_subset}
-use Rattle.om_denotation.proofs.ListFunctions.{at_place, place_function}
-use Rattle.om_denotation.proofs.Uniqueness.{tuples_at}
+use Rattle.om_denotation.proofs.ChirotopeBridge.{tuples_of}
+use Rattle.om_denotation.proofs.ListFunctions.{place_function}
 use Rattle.om_convert.specs.Hitting.{IsNonzeroOn, MeetsEach, MissesOne, IsNormalOf, carried_sign, IsCarried}
 use Rattle.om_convert.specs.Hitting.{HasNoneCarried, AreFirstSigns}
-use Rattle.om_convert.proofs.HittingLaws.{Meets, base_hits, hitting_base, vanishing_same}
+use Rattle.om_convert.proofs.HittingLaws.{vanishing_same}
 use Rattle.om_convert.proofs.SetLaws.{exchanged_before, first_new, IsFirstNew}
-
--- ---- signs
-
-parity_nonzero : (k : ℕ) → IsNonzero (parity_sign k)
-parity_nonzero zero = plus_nonzero
-parity_nonzero (suc k) = subst IsNonzero (sym (parity_sign-suc k)) (opposite_nonzero (parity_sign k) (parity_nonzero k))
-
--- nonzero factors that stand twice
-cancelled : (p q s t : Sign) → IsNonzero p → IsNonzero q → IsNonzero s
-    → product (product (product p q) (product (product p t) (product q s))) s ≡ t
-cancelled Zero q s t n k j = absurd (n refl)
-cancelled Plus Zero s t n k j = absurd (k refl)
-cancelled Minus Zero s t n k j = absurd (k refl)
-cancelled Plus Plus Zero t n k j = absurd (j refl)
-cancelled Plus Minus Zero t n k j = absurd (j refl)
-cancelled Minus Plus Zero t n k j = absurd (j refl)
-cancelled Minus Minus Zero t n k j = absurd (j refl)
-cancelled Plus Plus Plus Plus n k j = refl
-cancelled Plus Plus Plus Minus n k j = refl
-cancelled Plus Plus Plus Zero n k j = refl
-cancelled Plus Plus Minus Plus n k j = refl
-cancelled Plus Plus Minus Minus n k j = refl
-cancelled Plus Plus Minus Zero n k j = refl
-cancelled Plus Minus Plus Plus n k j = refl
-cancelled Plus Minus Plus Minus n k j = refl
-cancelled Plus Minus Plus Zero n k j = refl
-cancelled Plus Minus Minus Plus n k j = refl
-cancelled Plus Minus Minus Minus n k j = refl
-cancelled Plus Minus Minus Zero n k j = refl
-cancelled Minus Plus Plus Plus n k j = refl
-cancelled Minus Plus Plus Minus n k j = refl
-cancelled Minus Plus Plus Zero n k j = refl
-cancelled Minus Plus Minus Plus n k j = refl
-cancelled Minus Plus Minus Minus n k j = refl
-cancelled Minus Plus Minus Zero n k j = refl
-cancelled Minus Minus Plus Plus n k j = refl
-cancelled Minus Minus Plus Minus n k j = refl
-cancelled Minus Minus Plus Zero n k j = refl
-cancelled Minus Minus Minus Plus n k j = refl
-cancelled Minus Minus Minus Minus n k j = refl
-cancelled Minus Minus Minus Zero n k j = refl
-
-carry : (p q s t y z : Sign) → IsNonzero p → IsNonzero q → IsNonzero s
-    → product y z ≡ product (product p t) (product q s) → product (product (product (product p q) y) z) s ≡ t
-carry p q s t y z n k j e =
-    ap (λ x. product x s) (product_assoc (product p q) y z ∙ ap (product (product p q)) e)
-    ∙ cancelled p q s t n k j
-
--- ---- sets and vectors
-
-pub met_function : (n : ℕ) (s : List ℕ) (Y : List Sign) → IsSubsetFrom 1 n s → IsNonzeroOn s Y → Meets s (as_function Y)
-met_function n s Y list (e, m, k) = let low = (members_from 1 n e s list m).0 in
-    (e, m, λ z. k (place_function Y e low ∙ z))
-
-pub met_list : (s : List ℕ) (Y : List Sign) → Meets s (as_function Y) → IsNonzeroOn s Y
-met_list s Y (zero, m, k) = absurd (k refl)
-met_list s Y (suc i, m, k) = (suc i, m, λ z. k (sym (at_place Y i) ∙ z))
+use Rattle.om_convert.proofs.MeetingBases.{parity_nonzero, carry, met_list, om, of_member, basis_meets, meets_all}
+use Rattle.om_convert.proofs.MeetingBases.{meeting_basis}
 
 module _ (n : ℕ) (members : List (List Sign)) (m : SignMap) (h : IsNormalOf n members m) where
   abbrev E : List ℕ
@@ -115,44 +55,6 @@ module _ (n : ℕ) (members : List (List Sign)) (m : SignMap) (h : IsNormalOf n 
 
   abbrev chi : List ℕ → Sign
   chi = tuples_of m
-
-  om : theory.IsChirotope E chi
-  om = theory_chirotope m h.axioms
-
-  of_member : (Y : List Sign) → Contains members Y → IsCocircuit chi (as_function Y)
-  of_member Y y = cocircuit_function m Y (h.cocircuits.sound Y y)
-
-  member_of : (F : SignVector) → IsCocircuit chi F → Contains members (as_list m.elements F)
-  member_of F f = h.cocircuits.complete (as_list m.elements F) (cocircuit_list m F f)
-
-  back : (F : SignVector) → IsCocircuit chi F → (e : ℕ) → as_function (as_list m.elements F) e ≡ F e
-  back F f = as_function-as_list m.elements F (cocircuit_supported m F f)
-
-  base_of : (t : List ℕ) → IsSubsetFrom 1 m.elements t → length t ≡ m.rank → chi_of m t ≢ Zero → IsNonzero (chi t)
-  base_of t list size k z = k (sym (tuples_at m t list size) ∙ z)
-
-  of_base : (t : List ℕ) → IsSubsetFrom 1 m.elements t → length t ≡ m.rank → IsNonzero (chi t) → chi_of m t ≢ Zero
-  of_base t list size k z = k (tuples_at m t list size ∙ z)
-
-  base_size : length om.base.0 ≡ m.rank
-  base_size = (on_tuples_tuple m.elements m.rank (chi_of m) om.base.0 om.base.1).size
-
-  pub basis_meets : (t : List ℕ) → IsSubsetFrom 1 m.elements t → length t ≡ m.rank → chi_of m t ≢ Zero
-      → MeetsEach members t
-  basis_meets t list size k Y y =
-      met_list t Y (base_hits E chi om t (base_of t list size k) (as_function Y) (of_member Y y))
-
-  meets_all : (t : List ℕ) → IsSubsetFrom 1 m.elements t → MeetsEach members t → (F : SignVector) → IsCocircuit chi F
-      → Meets t F
-  meets_all t list each F f =
-      let k = met_function m.elements t (as_list m.elements F) list (each (as_list m.elements F) (member_of F f)) in
-      (k.0, k.1, subst IsNonzero (back F f k.0) k.2)
-
-  pub meeting_basis : (t : List ℕ) → IsSubsetFrom 1 m.elements t → length t ≡ m.rank → MeetsEach members t
-      → chi_of m t ≢ Zero
-  meeting_basis t list size each = of_base t list size
-      (hitting_base E chi om t (meets_all t list each) (increasing_distinct t (increasing_subset m.elements t list))
-      om.base.0 om.base.1 (size ∙ sym base_size))
 
   -- ---- a basis without an element, and another element
 
@@ -209,12 +111,12 @@ module _ (n : ℕ) (members : List (List Sign)) (m : SignMap) (h : IsNormalOf n 
       rest_misses each =
           let f : IsCocircuit chi (along chi rest) =
           record { tuple = rest; nonzero = (e, own_nonzero); same = inl (λ g. refl) } in
-          let k = meets_all rest rest_list each (along chi rest) f in
-          k.2 (along_member_zero E chi om rest k.0 k.1)
+          let k = meets_all n members m h rest rest_list each (along chi rest) f in
+          k.2 (along_member_zero E chi (om n members m h) rest k.0 k.1)
 
       module _ (Y : List Sign) (y : Contains members Y) (missed : IsNonzeroOn rest Y → ⊥) where
         same : AreEqualUpToSign (as_function Y) (along chi rest)
-        same = vanishing_same E chi om rest e own_nonzero (as_function Y) (of_member Y y)
+        same = vanishing_same E chi (om n members m h) rest e own_nonzero (as_function Y) (of_member n members m h Y y)
             (λ g k. ⊎_elim (λ z. z) (λ nz. absurd (missed (met_list rest Y (g, k, nz))))
             (zero_or_nonzero (as_function Y g)))
 

@@ -19,6 +19,7 @@ use Rattle.om_denotation.specs.Covectors.{IsCovectorOfCovectors}
 use Rattle.om_denotation.specs.Denotation.{DenoteTheSame}
 use Rattle.om_denotation.specs.Listings.{AreAllOf}
 use Rattle.om_denotation.proofs.ChirotopeBridge.{circuit_length, cocircuit_length}
+use Rattle.om_denotation.proofs.FamilyAxioms as family_axioms
 use Rattle.om_denotation.proofs.FamilyLaws as chirotopes
 use Rattle.om_denotation.proofs.ListedFamilies.{lengths, circuit_axioms, covector_axioms, composed_both}
 
@@ -36,7 +37,7 @@ module _ (m : SignMap) where
     circuit_lengths = lengths (IsCircuitOfChirotope m) circuits all m.elements (circuit_length m)
 
     pub circuits_lawful : IsChirotope m → MeetsCircuitAxioms circuits
-    circuits_lawful c = circuit_axioms (IsCircuitOfChirotope m) circuits all (chirotopes.circuit_axioms m c)
+    circuits_lawful c = circuit_axioms (IsCircuitOfChirotope m) circuits all (family_axioms.circuit_axioms m c)
 
     pub same_as_circuits : IsChirotope m → (d : Listing) → d.elements ≡ m.elements → d.members ≡ circuits
         → DenoteTheSame m.elements (IsCovectorOfChirotope m) (IsCovectorOfCircuits d)
@@ -54,7 +55,7 @@ module _ (m : SignMap) where
     cocircuit_lengths = lengths (IsCocircuitOfChirotope m) cocircuits all m.elements (cocircuit_length m)
 
     pub cocircuits_lawful : MeetsCircuitAxioms cocircuits
-    cocircuits_lawful = circuit_axioms (IsCocircuitOfChirotope m) cocircuits all (chirotopes.cocircuit_axioms m c)
+    cocircuits_lawful = circuit_axioms (IsCocircuitOfChirotope m) cocircuits all (family_axioms.cocircuit_axioms m c)
 
     pub same_as_cocircuits : (d : Listing) → d.elements ≡ m.elements → d.members ≡ cocircuits
         → DenoteTheSame m.elements (IsCovectorOfChirotope m) (IsCovectorOfCocircuits d)
@@ -101,7 +102,7 @@ module _ (m : SignMap) where
 
     pub covectors_lawful : IsChirotope m → MeetsCovectorAxioms members
     covectors_lawful c = covector_axioms (IsCovectorOfChirotope m) members all m.elements
-        (chirotopes.covector_axioms m c)
+        (family_axioms.covector_axioms m c)
 
     pub same_as_covectors : (d : Listing) → d.elements ≡ m.elements → d.members ≡ members
         → DenoteTheSame m.elements (IsCovectorOfChirotope m) (IsCovectorOfCovectors d)

@@ -22,7 +22,9 @@ use Rattle.om_laws.proofs.MemberLaws.{member_or_not, search_members, split_at, d
 use Rattle.om_laws.proofs.MemberLaws.{outside_or_within}
 use Rattle.om_laws.proofs.TupleLaws.{nonzero_distinct}
 use Rattle.om_laws.proofs.BlockLaws.{same_members}
-use Rattle.om_laws.proofs.BaseLaws.{fundamental_circuit, fundamental_cocircuit, other_common, cocircuit_supported}
+use Rattle.om_laws.proofs.BaseLaws.{other_common}
+use Rattle.om_laws.proofs.FundamentalCircuits.{fundamental_circuit, fundamental_cocircuit}
+use Rattle.om_laws.proofs.TwoElements.{cocircuit_supported}
 use Rattle.om_laws.proofs.DualPairs.{dual_pair}
 use Rattle.om_laws.proofs.PairAxioms as pairs
 use Rattle.om_laws.proofs.SizeLaws.{one_size}

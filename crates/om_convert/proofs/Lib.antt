@@ -1,7 +1,9 @@
 mod HittingLaws
 mod SetLaws
+mod MeetingBases
 mod CarryLaws
 mod MeetingLaws
+mod NormalSigns
 pub mod RankLaws
 pub mod CountingLaws
 pub mod GatheringLaws

@@ -48,8 +48,8 @@ use Rattle.om_convert.specs.Hitting.{IsNonzeroOn, MeetsFamily, IsNonzeroMember, 
 use Rattle.om_convert.specs.Hitting.{IsRankOfNormal}
 use Rattle.om_convert.specs.Ranks.{IsRankFor}
 use Rattle.om_convert.proofs.HittingLaws.{Meets, sharp_base}
-use Rattle.om_convert.proofs.CarryLaws.{met_function, met_list}
-use Rattle.om_convert.proofs.MeetingLaws.{normal_of, denotes, has_circuits}
+use Rattle.om_convert.proofs.MeetingBases.{met_function, met_list}
+use Rattle.om_convert.proofs.NormalSigns.{normal_of, denotes, has_circuits}
 
 -- ---- least sets
 
@@ -92,7 +92,11 @@ module _ (m : SignMap) (om : IsChirotope m) where
               as_function c.0,
               cocircuit_function m c.0 c.1,
               λ g j ne. ⊎_elim (λ z. z)
-                  (λ nz. absurd (missed (met_list (without_element e s) c.0 (g, (members_without e g s).1 (ne, j), nz))))
+                  (λ nz. absurd (missed (met_list (without_element e s) c.0 (
+                    g,
+                    (members_without e g s).1 (ne, j),
+                    nz,
+                  ))))
                   (zero_or_nonzero (as_function c.0 g)),
             )
 

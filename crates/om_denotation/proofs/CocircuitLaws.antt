@@ -28,7 +28,7 @@ use Rattle.om_denotation.specs.Listings.{AreAllOf}
 use Rattle.om_denotation.specs.Compositions as lists
 use Rattle.om_denotation.proofs.ChirotopeBridge.{same_lists}
 use Rattle.om_denotation.proofs.ListFunctions.{AreFunctionsOf}
-use Rattle.om_denotation.proofs.FamilyLaws.{family_axioms, family_parts}
+use Rattle.om_denotation.proofs.FamilyAxioms.{family_axioms, family_parts}
 use Rattle.om_denotation.specs.Families.{as_functions}
 use Rattle.om_denotation.specs.MinimalParts.{HasMinimalPart}
 use Rattle.om_denotation.proofs.SelectionLaws.{those_contained, contained_those}

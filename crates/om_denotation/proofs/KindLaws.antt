@@ -10,7 +10,7 @@ use Rattle.om_signs.specs.declared.sign.Sign.{Sign}
 use Rattle.om_signs.specs.SignVec.{compose}
 use Rattle.om_signs.proofs.ListPlaces.{length-compose}
 use Rattle.om_chirotope.specs.Map.{SignMap}
-use Rattle.om_chirotope.specs.Chirotope.{IsChirotope, IsSound}
+use Rattle.om_chirotope.specs.Chirotope.{IsChirotope, IsChirotopeWithinLimits}
 use Rattle.om_members.specs.Listings.{Listing}
 use Rattle.om_circuits.specs.SignedSets.{IsSignedSet}
 use Rattle.om_covectors.specs.Vectors.{IsSeparatedAt}
@@ -20,12 +20,12 @@ use Rattle.om_denotation.specs.Covectors.{IsCovectorOfCovectors}
 use Rattle.om_denotation.specs.Denotation.{DenoteTheSame}
 use Rattle.om_denotation.specs.Existence.{HasCircuits, HasCocircuits}
 use Rattle.om_denotation.specs.Elimination.{HasEliminator}
-use Rattle.om_denotation.proofs.FamilyLaws.{covector_axioms}
+use Rattle.om_denotation.proofs.FamilyAxioms.{covector_axioms}
 use Rattle.om_denotation.proofs.ListExistence.{of_circuits, of_cocircuits}
 
 -- ---- chirotopes
 
-pub composition_of_chirotope : (m : SignMap) (X Y : List Sign) → IsSound m → length X ≡ m.elements
+pub composition_of_chirotope : (m : SignMap) (X Y : List Sign) → IsChirotopeWithinLimits m → length X ≡ m.elements
     → length Y ≡ m.elements
     → IsCovectorOfChirotope m X → IsCovectorOfChirotope m Y → IsCovectorOfChirotope m (compose X Y)
 composition_of_chirotope m X Y v lx ly x y = (covector_axioms m v.axioms).compositions X Y x y
@@ -36,7 +36,8 @@ eliminated : (m : SignMap) → IsChirotope m → (X Y : List Sign) (e : ℕ) →
 eliminated m om X Y e x y low apart = let z = (covector_axioms m om).elimination X Y x y e low apart in
     (z.0, z.1.size, z.1, z.2)
 
-pub elimination_of_chirotope : (m : SignMap) (X Y : List Sign) (e : ℕ) → IsSound m → length X ≡ m.elements
+pub elimination_of_chirotope : (m : SignMap) (X Y : List Sign) (e : ℕ) → IsChirotopeWithinLimits m
+    → length X ≡ m.elements
     → length Y ≡ m.elements
     → IsCovectorOfChirotope m X → IsCovectorOfChirotope m Y → 1 ≤ e → IsSeparatedAt X Y e
     → HasEliminator m.elements (IsCovectorOfChirotope m) X Y e

@@ -1,6 +1,8 @@
 pub mod ChirotopeBridge
 pub mod ListFunctions
+pub mod FamilyAxioms
 pub mod FamilyLaws
+pub mod FamilyPaintings
 pub mod SelectionLaws
 pub mod FunctionLaws
 pub mod AxiomLaws

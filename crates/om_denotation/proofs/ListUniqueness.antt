@@ -11,7 +11,7 @@ use Rattle.om_laws.specs.Chirotope.{elements_to}
 use Rattle.om_laws.specs.Circuits.{IsCircuit, IsCocircuit}
 use Rattle.om_laws.specs.Reorientation.{negative}
 use Rattle.om_laws.specs.Bridge.{as_function}
-use Rattle.om_laws.proofs.ReorientationLaws.{negative_circuit, circuit_negative, negative_cocircuit, cocircuit_negative}
+use Rattle.om_laws.proofs.NegationLaws.{negative_circuit, circuit_negative, negative_cocircuit, cocircuit_negative}
 use Rattle.om_chirotope.specs.Map.{SignMap, negated}
 use Rattle.om_members.specs.Listings.{Listing, HaveLength}
 use Rattle.om_circuits.specs.Axioms.{MeetsCircuitAxioms}

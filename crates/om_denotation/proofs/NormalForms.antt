@@ -15,7 +15,7 @@ use Rattle.om_laws.specs.Chirotope.{elements_to}
 use Rattle.om_laws.specs.Covectors.{IsCovector}
 use Rattle.om_laws.specs.Reorientation.{negative}
 use Rattle.om_laws.specs.Tuples.{sorted, sort_sign}
-use Rattle.om_laws.proofs.ReorientationLaws.{negative_covector, covector_negative}
+use Rattle.om_laws.proofs.NegationLaws.{negative_covector, covector_negative}
 use Rattle.om_laws.proofs.TupleSizes.{is_tuple_cases, on_tuples_at, on_tuples_off}
 use Rattle.om_chirotope.specs.Map.{SignMap, chi_of, negated, IsLedBy}
 use Rattle.om_chirotope.specs.Chirotope.{IsChirotope, IsAllZero}

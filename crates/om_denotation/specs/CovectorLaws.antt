@@ -14,7 +14,7 @@ use Rattle.om_signs.specs.SignVec.{at, IsInSupport, HasProduct, IsOrthogonal, Is
 use Rattle.om_signs.proofs.SignLaws.{plus_nonzero, minus_nonzero, opposite-opposite, product-opposite_left}
 use Rattle.om_signs.proofs.ListPlaces.{at-map-opposite, at-replicate}
 use Rattle.om_chirotope.specs.Map.{SignMap}
-use Rattle.om_chirotope.specs.Chirotope.{IsSound}
+use Rattle.om_chirotope.specs.Chirotope.{IsChirotopeWithinLimits}
 use Rattle.om_members.specs.Vectors.{IsZero}
 use Rattle.om_members.specs.Listings.{Listing}
 use Rattle.om_circuits.specs.SignedSets.{IsSignedSet}
@@ -34,7 +34,7 @@ zero_orthogonal : (n : ℕ) (Y : List Sign) → IsOrthogonal (replicate n Zero) 
 zero_orthogonal n Y =
     (λ p. absurd (no_product n Y Plus plus_nonzero p), λ p. absurd (no_product n Y Minus minus_nonzero p))
 
-pub zero_of_chirotope : (m : SignMap) → IsSound m → IsCovectorOfChirotope m (replicate m.elements Zero)
+pub zero_of_chirotope : (m : SignMap) → IsChirotopeWithinLimits m → IsCovectorOfChirotope m (replicate m.elements Zero)
 zero_of_chirotope m v =
     record { size = length-replicate m.elements Zero; orthogonal = λ S list few. zero_orthogonal m.elements _ }
 
@@ -70,7 +70,7 @@ negative_orthogonal X Y o = (
   λ p. product_forth X Y Minus (o.0 (product_back X Y Minus p)),
 )
 
-pub negative_of_chirotope : (m : SignMap) (X : List Sign) → IsSound m → length X ≡ m.elements
+pub negative_of_chirotope : (m : SignMap) (X : List Sign) → IsChirotopeWithinLimits m → length X ≡ m.elements
     → IsCovectorOfChirotope m X → IsCovectorOfChirotope m (map opposite X)
 negative_of_chirotope m X v l c =
     record {

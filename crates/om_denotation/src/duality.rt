@@ -48,7 +48,7 @@ struct Complements<'a> {
 impl SignRule for Complements<'_> {
     ghost use Rattle.std.specs.Prelude.{◌-◌};
     ghost use Rattle.om_chirotope.specs.Map.{chi_of};
-    ghost use Rattle.om_chirotope.specs.Chirotope.{IsSound};
+    ghost use Rattle.om_chirotope.specs.Chirotope.{IsChirotopeWithinLimits};
     ghost use Rattle.om_laws.specs.Dual.{dual_on_increasing};
 
     ghost rank = { λ c. c.chi.now.elements - c.chi.now.rank };
@@ -57,7 +57,7 @@ impl SignRule for Complements<'_> {
 
     ghost rule = { λ c. dual_on_increasing c.chi.now.elements (chi_of c.chi.now) };
 
-    ghost valid = { λ c. IsSound c.chi.now };
+    ghost valid = { λ c. IsChirotopeWithinLimits c.chi.now };
 
     fn sign(&self, s: Subset) -> Sign {
         let rest = s.complement();

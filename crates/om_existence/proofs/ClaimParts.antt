@@ -4,7 +4,7 @@
 use Rattle.std.specs.Prelude.{◌≡◌, refl}
 use Rattle.std.proofs.Common.{inl, inr}
 use Rattle.std.proofs.lemmas.Bool.{cases_eq}
-use Rattle.om_chirotope.specs.Chirotope.{IsSound}
+use Rattle.om_chirotope.specs.Chirotope.{IsChirotopeWithinLimits}
 use Rattle.om_chirotope.specs.Map.{SignMap}
 use Rattle.om_certificate.specs.declared.evidence.Evidence.{Evidence}
 use Rattle.om_certificate.specs.declared.evidence.Evidence.TheVariants as evidence
@@ -29,14 +29,14 @@ use Rattle.om_existence.proofs.EvidenceParts.{evidence_possible}
 use Rattle.om_existence.proofs.RefusalParts.{refusal_possible}
 use Rattle.om_existence.proofs.Worked.{worked_possible, chirotope_of}
 
-evidence_meant : (m : SignMap) (e : Evidence) → IsSound m → m.rank ≡ 3 → IsWithinLimits e
+evidence_meant : (m : SignMap) (e : Evidence) → IsChirotopeWithinLimits m → m.rank ≡ 3 → IsWithinLimits e
     → IsPossible ((l : Line) × EvidenceMeans m e l)
 evidence_meant m e sound three within = mapped (λ h. elim h [
   | inl is ↦ (valid_line e, valid is (valid_shows m e is))
   | inr r ↦ (refusal_line r.0, refused r.0 (of_rank_3 r.0 three r.1))
 ]) (evidence_possible m e sound three within)
 
-verdict_meant : (m : SignMap) (v : Verdict) → IsSound m → m.rank ≡ 3 → HasEvidenceWithinLimits v
+verdict_meant : (m : SignMap) (v : Verdict) → IsChirotopeWithinLimits m → m.rank ≡ 3 → HasEvidenceWithinLimits v
     → IsPossible ((l : Line) × VerdictMeans m v l)
 verdict_meant m (Realizable vs) sound three within =
     mapped (λ h. (h.0, judged (evidence.Vectors vs) h.0 three refl h.1))
@@ -49,7 +49,7 @@ verdict_meant m (Undecided ws u) sound three within =
     (evidence_meant m (evidence.Weights ws) sound three within)
 verdict_meant m (Limit end u) sound three within = held (line.RefusedNocertificate, limited end u three refl)
 
-verdict_possible : (m : SignMap) (v : Verdict) → IsSound m → HasEvidenceWithinLimits v
+verdict_possible : (m : SignMap) (v : Verdict) → IsChirotopeWithinLimits m → HasEvidenceWithinLimits v
     → IsPossible ((l : Line) × VerdictMeans m v l)
 verdict_possible m v sound within = elim (cases_eq m.rank 3) [
   | inr other ↦ held (line.RefusedNotrank3 m.rank, other_rank other)

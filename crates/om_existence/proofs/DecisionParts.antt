@@ -5,7 +5,7 @@ use Rattle.std.specs.Prelude.{◌≡◌}
 use Rattle.std.proofs.Common.{inl, inr}
 use Rattle.std.proofs.lemmas.Bool.{cases_eq}
 use Rattle.om_chirotope.specs.Map.{SignMap}
-use Rattle.om_chirotope.specs.Chirotope.{IsSound}
+use Rattle.om_chirotope.specs.Chirotope.{IsChirotopeWithinLimits}
 use Rattle.om_vectors.specs.declared.unfound.Unfound.{Unfound}
 use Rattle.om_simplex.specs.declared.outcome.Outcome.{Outcome}
 use Rattle.om_simplex.specs.declared.outcome.Outcome.TheVariants as outcome
@@ -42,7 +42,7 @@ unfound_verdict m b u (outcome.PivotLimit basis) unfound end =
 unfound_verdict m b u (outcome.Width stage pivot row place) unfound end =
     (Limit (lp_end.Width stage pivot row place) u, width stage pivot row place u end unfound)
 
-verdict_possible : (b : Budgets) → AreBudgets b → (m : SignMap) → IsSound m → m.rank ≡ 3
+verdict_possible : (b : Budgets) → AreBudgets b → (m : SignMap) → IsChirotopeWithinLimits m → m.rank ≡ 3
     → IsPossible ((v : Verdict) × IsVerdictOf m b v)
 verdict_possible b lawful m s three = then (search_possible b.box_size m b.steps s.axioms three lawful.steps_low)
     (λ h. elim h [
@@ -50,7 +50,7 @@ verdict_possible b lawful m s three = then (search_possible b.box_size m b.steps
       | inr u ↦ mapped (λ o. unfound_verdict m b u.0 o.0 u.1 o.1) (end_possible m b.pivots three s.limits.high)
     ])
 
-pub decision_possible : (b : Budgets) → AreBudgets b → (m : SignMap) → IsSound m
+pub decision_possible : (b : Budgets) → AreBudgets b → (m : SignMap) → IsChirotopeWithinLimits m
     → IsPossible ((a : Answer) × DecisionMeans b m a)
 decision_possible b lawful m s = elim (cases_eq m.rank 3) [
   | inr other ↦ held (says (line.RefusedNotrank3 m.rank), other_rank other)

@@ -11,7 +11,7 @@ use Rattle.om_signs.proofs.SignLaws.{same_or_different}
 use Rattle.om_subsets.specs.Lists as lists
 use Rattle.om_subsets.specs.Members.{Chosen}
 use Rattle.om_subsets.specs.Subsets.{IsTriple}
-use Rattle.om_chirotope.specs.Chirotope.{IsSound}
+use Rattle.om_chirotope.specs.Chirotope.{IsChirotopeWithinLimits}
 use Rattle.om_chirotope.specs.Map.{SignMap, chi_of}
 use Rattle.om_vectors.specs.WholeVectors.{WholeVector}
 use Rattle.om_vectors.specs.Realizations.{triple_sign, Realizes, IsFirstOther}
@@ -260,7 +260,7 @@ weights_judged m ws small three = elim (cases_eq (length ws) (length (nonzero_br
 
 -- ---- each kind
 
-pub evidence_possible : (m : SignMap) (e : Evidence) → IsSound m → m.rank ≡ 3 → IsWithinLimits e
+pub evidence_possible : (m : SignMap) (e : Evidence) → IsChirotopeWithinLimits m → m.rank ≡ 3 → IsWithinLimits e
     → IsPossible (IsJudged m e)
 evidence_possible m (Vectors vs) sound three within = vectors_judged m vs three
 evidence_possible m (Balanced es) sound three within =

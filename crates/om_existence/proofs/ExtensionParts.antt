@@ -18,7 +18,7 @@ use Rattle.om_signs.specs.declared.sign.Sign.TheVariants.{Minus, Zero, Plus}
 use Rattle.om_signs.specs.Order.{lexicographic, sign_order, sign_rank}
 use Rattle.om_subsets.specs.Subsets.{choose}
 use Rattle.om_chirotope.specs.Map.{SignMap}
-use Rattle.om_chirotope.specs.Chirotope.{IsSound}
+use Rattle.om_chirotope.specs.Chirotope.{IsChirotopeWithinLimits}
 use Rattle.om_localize.specs.declared.listing.Listing.{Listing as Extensions}
 use Rattle.om_localize.specs.Extensions.{IsSignature}
 use Rattle.om_localize.specs.Listings.{IsBefore, IsFullBefore, AreFirst}
@@ -201,7 +201,7 @@ module _ (n k : ℕ) (P : List Sign → Type 0) (long : (X : List Sign) → P X 
 
 -- ---- the answer
 
-pub extensions_possible : (first : ℕ) (m : SignMap) → IsSound m
+pub extensions_possible : (first : ℕ) (m : SignMap) → IsChirotopeWithinLimits m
     → IsPossible ((a : Answer) × AreExtensionsOfMap first m a)
 extensions_possible first m s = elim (cases_eq m.rank 3) [
   | inr other ↦ held (says (line.RefusedNotrank3 m.rank), other_rank other)

@@ -8,7 +8,7 @@ use Rattle.std.proofs.lemmas.Bool.{cases_eq, cases_lt}
 use Rattle.om_signs.specs.declared.limits.TheConstants.{MAX_ELEMENTS, MAX_VALUES}
 use Rattle.om_subsets.specs.Subsets.{choose}
 use Rattle.om_chirotope.specs.Map.{SignMap}
-use Rattle.om_chirotope.specs.Chirotope.{IsChirotope, IsSound}
+use Rattle.om_chirotope.specs.Chirotope.{IsChirotope, IsChirotopeWithinLimits}
 use Rattle.om_lexext.specs.declared.signed.Signed.{Signed}
 use Rattle.om_lexext.specs.Lexicographic.{AreEntries, IsLexicographicExtension}
 use Rattle.om_lexext.proofs.Extensions.{extended, lexicographic_axioms, is_extension}
@@ -28,7 +28,8 @@ use Rattle.om_existence.proofs.Possible.{held, mapped, found_or_not}
 use Rattle.om_existence.proofs.MapForms.{map_form}
 use Rattle.om_existence.proofs.Worked.{IsWorked, for_kept_chirotope_possible}
 
-of_map : (list : List Signed) (m : SignMap) → IsSound m → m.elements < MAX_ELEMENTS → AreEntries m.elements list
+of_map : (list : List Signed) (m : SignMap) → IsChirotopeWithinLimits m → m.elements < MAX_ELEMENTS
+    → AreEntries m.elements list
     → IsPossible ((a : Answer) × IsExtensionOfMap list m a)
 of_map list m s less entries = elim (cases_lt MAX_VALUES (choose (m.elements + 1) m.rank)) [
   | inl many ↦ held (says (line.LimitValues (choose (m.elements + 1) m.rank)), limited many)

@@ -10,7 +10,7 @@ use Rattle.om_signs.proofs.SignLaws.{zero_or_nonzero}
 use Rattle.om_subsets.specs.Members.{Chosen}
 use Rattle.om_subsets.specs.Subsets.{choose, subset_at, rank_of, IsMember, IsTriple}
 use Rattle.om_subsets.proofs.Order.{rank_from-lt, listed, from_increasing}
-use Rattle.om_chirotope.specs.Chirotope.{HasOrthogonalPairs, IsSound}
+use Rattle.om_chirotope.specs.Chirotope.{HasOrthogonalPairs, IsChirotopeWithinLimits}
 use Rattle.om_chirotope.specs.Map.{SignMap, chi_of}
 use Rattle.om_mutate.specs.Mutations.{flipped, IsMutation, ListsMutations}
 use Rattle.om_mutate.proofs.FlipLaws.{flipped_whole, mutation_from}
@@ -67,7 +67,8 @@ all_listed m sets h = record {
 pub list_possible : (m : SignMap) → IsPossible ((sets : List Chosen) × ListsMutations m sets)
 list_possible m = mapped (λ h. (h.0, all_listed m h.0 h.1)) (below_possible m (choose m.elements 3) (omega arith))
 
-pub mutations_possible : (m : SignMap) → IsSound m → IsPossible ((a : Answer) × mutations.AreMutationsOfMap m a)
+pub mutations_possible : (m : SignMap) → IsChirotopeWithinLimits m
+    → IsPossible ((a : Answer) × mutations.AreMutationsOfMap m a)
 mutations_possible m s = elim (cases_eq m.rank 3) [
   | inr other ↦ held (says (line.RefusedNotrank3 m.rank), mutations.other_rank other)
   | inl three ↦ mapped (λ h. (lists h.0, mutations.listed h.0 three h.1)) (list_possible m)
@@ -90,7 +91,7 @@ lawful_triple n a b c is high = record {
         (omega (arith, l, f, g, same), omega (arith, high, same))
     within e (inr (inr (inr none))) = absurd none
 
-map_flip_possible : (a b c : ℕ) → AreIncreasing a b c → (m : SignMap) → IsSound m → c ≤ m.elements
+map_flip_possible : (a b c : ℕ) → AreIncreasing a b c → (m : SignMap) → IsChirotopeWithinLimits m → c ≤ m.elements
     → IsPossible ((answer : Answer) × IsFlipOfMap (triple_of a b c) m answer)
 map_flip_possible a b c is m s high = elim (cases_eq m.rank 3) [
   | inr other ↦ held (says (line.RefusedNotrank3 m.rank), other_rank other)

@@ -9,12 +9,12 @@ use Rattle.std.proofs.lemmas.List.{length-append}
 use Rattle.om_signs.specs.declared.sign.Sign.{Sign}
 use Rattle.om_signs.specs.Order.{lexicographic}
 use Rattle.om_laws.specs.Colours.{Colour, IsColoured}
-use Rattle.om_chirotope.specs.Chirotope.{IsChirotope, IsSound}
+use Rattle.om_chirotope.specs.Chirotope.{IsChirotope, IsChirotopeWithinLimits}
 use Rattle.om_chirotope.specs.Map.{SignMap}
 use Rattle.om_denotation.specs.Covectors.{IsCovectorOfChirotope}
 use Rattle.om_denotation.specs.Painting.{IsFittingCircuit, IsFittingCocircuit}
 use Rattle.om_denotation.proofs.ChirotopeBridge.{circuit_length, cocircuit_length}
-use Rattle.om_denotation.proofs.FamilyLaws.{painting_one}
+use Rattle.om_denotation.proofs.FamilyPaintings.{painting_one}
 use Rattle.om_oriented.proofs.PlaceLaws.{before_lt}
 use Rattle.om_oriented.specs.Places.{base_three}
 use Rattle.om_paint.specs.declared.painted.Painted.{Painted}
@@ -74,7 +74,8 @@ module _ (m : SignMap) (chirotope : IsChirotope m) (colour : ℕ → Colour) (e 
   ])
 
 painted_map : (c : Colouring) → HasElement c → (n : ℕ) → c.e ≤ n
-    → IsColoured (colouring (paintings.given_colours c) c.e) → (m : SignMap) → IsSound m → m.elements ≡ n
+    → IsColoured (colouring (paintings.given_colours c) c.e) → (m : SignMap) → IsChirotopeWithinLimits m
+    → m.elements ≡ n
     → IsPossible ((a : Answer) × paintings.IsPaintingOfMap c m a)
 painted_map c some n within coloured m s e =
     mapped (λ h. (says (paintings.painted_line h.0), paintings.painted h.0 h.1))
@@ -100,7 +101,7 @@ painting_possible c some d w = elim (cases_eq c.count d.elements) [
 green_is_coloured : (e : ℕ) → IsColoured (green_alone e e)
 green_is_coloured e = rw (eq-eqb e e refl) tt
 
-module _ (m : SignMap) (s : IsSound m) where
+module _ (m : SignMap) (s : IsChirotopeWithinLimits m) where
   -- the item of an element, which is a cocircuit exactly where the element is extreme
   abbrev IsItem : ℕ → Painted → Type 0
   IsItem e x = IsPaintingOf m (green_alone e) e x × (IsCocircuitItem x ↔ IsExtreme m e)

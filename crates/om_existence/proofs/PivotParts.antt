@@ -21,7 +21,7 @@ use Rattle.om_simplex.specs.Steps.{IsWideBy}
 use Rattle.om_simplex.specs.Tables.{with_number}
 use Rattle.om_simplex.proofs.Firsts.{best_start, best_passed, best_found, best_taken, best_stays, best_last}
 use Rattle.om_simplex.proofs.Runs.{numbers_distinct, has_positive, exchange_up}
-use Rattle.om_simplex.proofs.Soundness.{IsSound}
+use Rattle.om_simplex.proofs.Soundness.{IsReachedState}
 use Rattle.om_existence.specs.Possible.{IsPossible}
 use Rattle.om_existence.proofs.FirstPlaces.{IsFirstOfRows, row_or_first, IsFirstOther, other_or_first}
 use Rattle.om_existence.proofs.Possible.{held, then, mapped, either_way}
@@ -119,7 +119,7 @@ module _ (m : ℕ) (s : State) (ts : List ℤ) (p : ℕ) where
 
 -- ---- one step
 
-module _ (columns : List Column) (m k : ℕ) (s : State) (sound : IsSound columns m s) (j : ℕ)
+module _ (columns : List Column) (m k : ℕ) (s : State) (sound : IsReachedState columns m s) (j : ℕ)
     (entering : IsEntering columns s j) where
   abbrev c : Column
   c = column_of columns j

@@ -9,7 +9,7 @@ use Rattle.std.proofs.lemmas.Bool.{cases_eq, cases_lt}
 use Rattle.om_signs.specs.declared.block.Block.{Block}
 use Rattle.om_signs.specs.declared.limits.TheConstants.{MAX_ELEMENTS, MAX_BLOCKS}
 use Rattle.om_chirotope.specs.Map.{SignMap, IsMap}
-use Rattle.om_chirotope.specs.Chirotope.{HasOrthogonalPairs, IsSound}
+use Rattle.om_chirotope.specs.Chirotope.{HasOrthogonalPairs, IsChirotopeWithinLimits}
 use Rattle.om_wiring.specs.Maps.{extended, IsSweepable}
 use Rattle.om_wiring.specs.Sweeps.{IsOpen, IsFirstOpen, IsLeastWiring}
 use Rattle.om_wiring.specs.Wirings.{IsBlockBefore, mirror, position}
@@ -17,7 +17,7 @@ use Rattle.om_wiring.proofs.ExtendedLaws.{three_elements_of, made_sweepable}
 use Rattle.om_wiring.proofs.Reversals.{position_last}
 use Rattle.om_wiring.proofs.SweepEnds.{least_wiring, not_empty, sweep_order, sweep_more, uncrossed_count, count_falls}
 use Rattle.om_wiring.proofs.SweepEnds.{few_blocks}
-use Rattle.om_wiring.proofs.SweepLaws.{IsSweep}
+use Rattle.om_wiring.proofs.OpenSweeps.{IsSweep}
 use Rattle.om_answer.specs.declared.line.Line.TheVariants as line
 use Rattle.om_reply.specs.declared.answer.Answer.{Answer}
 use Rattle.om_reply.specs.Answers.{says, shows}
@@ -110,7 +110,7 @@ module _ (m : SignMap) (three : m.rank ≡ 3) (whole : IsMap m) (sweepable : IsS
 few_enough : (n k : ℕ) → n ≤ MAX_ELEMENTS → k ≤ n * n → k ≤ MAX_BLOCKS
 few_enough n k high few = let l = mul-le-mul_left n high in omega (arith, l, high, few)
 
-pub wiring_possible : (m : SignMap) → IsSound m → IsPossible ((a : Answer) × IsWiringOfMap m a)
+pub wiring_possible : (m : SignMap) → IsChirotopeWithinLimits m → IsPossible ((a : Answer) × IsWiringOfMap m a)
 wiring_possible m s = elim (cases_eq m.rank 3) [
   | inr other ↦ held (says (line.RefusedNotrank3 m.rank), other_rank other)
   | inl three ↦

@@ -24,7 +24,8 @@ fault_behind Language before [] begun none =
 fault_behind Language before (word ∷ after) begun none =
     then (either_way (Begins Language (before ++ word ∷ []))) (λ e. elim e [
       | inl more ↦ subst (λ words. IsPossible ((k : ℕ) × IsFault Language words k)) whole
-          (fault_behind Language (before ++ word ∷ []) after more (subst (λ words. Language words → ⊥) (sym whole) none))
+          (fault_behind Language (before ++ word ∷ []) after more (subst (λ words. Language words
+          → ⊥) (sym whole) none))
       | inr begins_none ↦ held (length before + 1, at_word before word after begun begins_none)
     ])
   where

@@ -10,7 +10,7 @@ use Rattle.om_signs.specs.declared.limits.TheConstants.{MAX_ELEMENTS}
 use Rattle.om_signs.specs.declared.raw_map.RawMap.{RawMap}
 use Rattle.om_signs.specs.declared.sign.Sign.{Sign}
 use Rattle.om_chirotope.specs.Map.{SignMap, map_of}
-use Rattle.om_chirotope.specs.Chirotope.{IsChirotope, IsSound}
+use Rattle.om_chirotope.specs.Chirotope.{IsChirotope, IsChirotopeWithinLimits}
 use Rattle.om_denotation.specs.Covectors.{IsCovectorOfChirotope}
 use Rattle.om_denotation.specs.Denotation.{DenoteTheSame}
 use Rattle.om_denotation.proofs.ListExistence.{of_circuits, of_cocircuits, of_covectors}
@@ -83,13 +83,13 @@ worked_possible d form axioms some = worked_body d.elements d.body form.low form
 -- the chirotope of a document, which is of as many elements
 pub record IsItsChirotope (d : Document) (m : SignMap) : Type 0 where
   pub of : IsChirotopeOf d m
-  pub sound : IsSound m
+  pub sound : IsChirotopeWithinLimits m
   pub elements : m.elements ≡ d.elements
 
 -- the normal form of a chirotope that denotes what the document denotes
 normal_of : (d : Document) → IsInForm d → (m : SignMap) → IsChirotope m → m.elements ≡ d.elements
     → DenoteTheSame d.elements (IsCovectorIn d) (IsCovectorOfChirotope m) → (k : SignMap)
-    × (IsNormalChirotopeOf d k × IsSound k)
+    × (IsNormalChirotopeOf d k × IsChirotopeWithinLimits k)
 normal_of d form m chirotope count same =
     let h = normal_exists m chirotope in
     let axioms = normal_axioms m h.0 chirotope h.1 in
@@ -118,7 +118,7 @@ normal_of d form m chirotope count same =
     )
 
 sound_map : (n : ℕ) (raw : RawMap) → 1 ≤ n → n ≤ MAX_ELEMENTS → IsMapOn n raw → IsChirotope (map_of raw)
-    → IsSound (map_of raw)
+    → IsChirotopeWithinLimits (map_of raw)
 sound_map n raw low high on axioms =
     record {
       axioms = axioms;
@@ -166,13 +166,13 @@ chirotope_of d w = chirotope_of_body d.elements d.body d.names w
 -- ---- an answer for the chirotope
 
 pub for_chirotope_possible : (Meaning : SignMap → Answer → Type 0) (d : Document) → IsWorked d
-    → ((m : SignMap) → IsSound m → m.elements ≡ d.elements → IsPossible ((a : Answer) × Meaning m a))
+    → ((m : SignMap) → IsChirotopeWithinLimits m → m.elements ≡ d.elements → IsPossible ((a : Answer) × Meaning m a))
     → IsPossible ((a : Answer) × IsForChirotope Meaning d a)
 for_chirotope_possible Meaning d w f = let c = chirotope_of d w in
     mapped (λ h. (h.0, for_chirotope c.0 h.0 c.1.of h.1)) (f c.0 c.1.sound c.1.elements)
 
 pub for_kept_chirotope_possible : (Meaning : SignMap → Answer → Type 0) (d : Document) → IsWorked d
-    → ((m : SignMap) → IsSound m → m.elements ≡ d.elements → IsPossible ((a : Answer) × Meaning m a))
+    → ((m : SignMap) → IsChirotopeWithinLimits m → m.elements ≡ d.elements → IsPossible ((a : Answer) × Meaning m a))
     → IsPossible ((a : Answer) × IsForKeptChirotope Meaning d a)
 for_kept_chirotope_possible Meaning d w f = then (either_way ((values : ℕ) × IsTooWide d values)) (λ e. elim e [
   | inl h ↦ held (says (line.LimitValues h.0), wide h.0 h.1)

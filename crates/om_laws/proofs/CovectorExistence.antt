@@ -23,8 +23,7 @@ use Rattle.om_laws.specs.Covectors.{IsCovector}
 use Rattle.om_laws.specs.Compositions.{IsConforming}
 use Rattle.om_laws.proofs.PairCovectors.{covector_from_parts}
 use Rattle.om_laws.proofs.ChirotopeCovectors.{covector_composition}
-use Rattle.om_laws.proofs.FiniteExistence.{list_map, list_chirotope, list_member_cocircuit}
-use Rattle.om_laws.proofs.FiniteExistence.{list_cocircuit_member}
+use Rattle.om_laws.proofs.FiniteExistence.{list_map, list_chirotope, list_member_cocircuit, list_cocircuit_member}
 use Rattle.om_laws.specs.Families.{IsListed}
 use Rattle.om_laws.proofs.FamilyLaws.{Found, NotFound, found_or_not, not_found_same, minimal_of, decompose}
 use Rattle.om_laws.proofs.FamilyLaws.{least_incomparable, least_elimination, search_vectors, listed_same}

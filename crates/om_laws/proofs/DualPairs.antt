@@ -15,8 +15,10 @@ use Rattle.om_laws.specs.Signs.{IsNonzero}
 use Rattle.om_laws.specs.Vectors.{SignVector, negated, Orthogonal, HasNonzero, IsSupportedOn}
 use Rattle.om_laws.specs.Chirotope.{IsChirotope}
 use Rattle.om_laws.specs.Circuits.{IsCircuit, IsCocircuit}
-use Rattle.om_laws.proofs.BaseLaws.{circuit_negated, cocircuit_negated, circuit_supported, cocircuit_supported}
-use Rattle.om_laws.proofs.BaseLaws.{circuit_orthogonal, two_colours, circuit_through_two, cocircuit_through_two}
+use Rattle.om_laws.proofs.BaseLaws.{circuit_negated, cocircuit_negated, circuit_orthogonal}
+use Rattle.om_laws.proofs.FundamentalCircuits.{two_colours}
+use Rattle.om_laws.proofs.TwoElements.{circuit_supported, cocircuit_supported, circuit_through_two}
+use Rattle.om_laws.proofs.TwoElements.{cocircuit_through_two}
 use Rattle.om_laws.proofs.VectorLaws.{orthogonal_sym}
 
 -- two sets of sign vectors on a list of elements: closed under negation, orthogonal to each other, and rich enough

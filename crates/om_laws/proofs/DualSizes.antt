@@ -25,7 +25,8 @@ use Rattle.om_laws.proofs.BlockLaws.{same_members, negated_for, negated_for_nonz
 use Rattle.om_laws.proofs.BlockLaws.{negated_for_times, negated_for_zero}
 use Rattle.om_laws.proofs.ChirotopeLaws.{elements_distinct, element_from_member, member_from_element}
 use Rattle.om_laws.proofs.Complements.{is_member_cases, are_members_cases, complement_is_complement, complement_joined}
-use Rattle.om_laws.proofs.DualLaws.{dual_among, dual_off, dual_nonzero_among, dual_alternating, dual_dual}
+use Rattle.om_laws.proofs.DualMaps.{dual_among, dual_off, dual_nonzero_among, dual_alternating}
+use Rattle.om_laws.proofs.DualLaws.{dual_dual}
 use Rattle.om_laws.proofs.MemberLaws.{member_or_not, member_append, member_left, member_right}
 use Rattle.om_laws.proofs.SortingLaws.{IsAboveEach, increasing_head, increasing_tail, increasing_distinct}
 use Rattle.om_laws.proofs.SortingLaws.{value_increasing, alternating_equal}

@@ -21,8 +21,8 @@ use Rattle.om_laws.specs.Vectors.{SignVector}
 use Rattle.om_laws.proofs.ChirotopeLaws.{member_from_element, element_from_member}
 use Rattle.om_laws.proofs.MemberLaws.{split_at, distinct_drop}
 use Rattle.om_laws.proofs.ParallelLaws.{loop_covector}
-use Rattle.om_laws.proofs.PullbackLaws.{pullback_chirotope, covector_lifted, covector_pullback, map_image}
-use Rattle.om_laws.proofs.PullbackLaws.{renamed_distinct}
+use Rattle.om_laws.proofs.PulledBackMaps.{map_image, renamed_distinct}
+use Rattle.om_laws.proofs.PullbackLaws.{pullback_chirotope, covector_lifted, covector_pullback}
 use Rattle.om_laws.proofs.RelationLaws.{around_member, nonzero_from_around}
 use Rattle.om_laws.proofs.TupleLaws.{nonzero_distinct, nonzero_to_end}
 use Rattle.om_laws.proofs.PairCovectors.{covector_same}

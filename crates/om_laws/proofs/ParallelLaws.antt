@@ -19,7 +19,7 @@ use Rattle.om_laws.specs.Parallel.{IsLoop, IsColoop, IsInBase}
 use Rattle.om_laws.specs.Relations.{around, along}
 use Rattle.om_laws.specs.Signs.{IsNonzero}
 use Rattle.om_laws.specs.Vectors.{SignVector, Orthogonal}
-use Rattle.om_laws.proofs.BaseLaws.{fundamental_circuit}
+use Rattle.om_laws.proofs.FundamentalCircuits.{fundamental_circuit}
 use Rattle.om_laws.proofs.ChirotopeCovectors.{cocircuit_covector}
 use Rattle.om_laws.proofs.MemberLaws.{split_at, member_middle, member_drop, member_insert, distinct_drop}
 use Rattle.om_laws.proofs.RelationLaws.{around_member, nonzero_from_around}

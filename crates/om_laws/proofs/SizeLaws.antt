@@ -12,7 +12,7 @@ use Rattle.om_laws.proofs.MemberLaws.{split_at, outside_or_within}
 use Rattle.om_laws.proofs.TupleLaws.{nonzero_distinct}
 use Rattle.om_laws.proofs.BlockLaws.{same_members}
 use Rattle.om_laws.proofs.BaseLaws.{exchange}
-use Rattle.om_laws.proofs.ThreeTermLaws.{contained}
+use Rattle.om_laws.proofs.DualExchangeLaws.{contained}
 use Rattle.om_laws.proofs.Missing.{missing, missing_middle_member, missing_middle_other}
 use Rattle.om_laws.proofs.TupleSizes.{length_swap}
 

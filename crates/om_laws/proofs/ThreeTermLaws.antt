@@ -1,16 +1,13 @@
 -- Exchange and the three-term relations give the relations of all tuples, in every rank.
 --
--- Main results: a base contained in another is the same set (contained); the relations of all tuples
--- (three_term_relations).
+-- Main results: three_term_relations
 -- Reference: Björner, Las Vergnas, Sturmfels, White and Ziegler, Oriented Matroids, chapter 3.
 use Rattle.std.specs.Prelude.{◌≡◌, ◌≢◌, ◌⊎◌, ℕ, ◌≤◌, List, [], ◌∷◌, ◌++◌}
-use Rattle.std.proofs.Common.{zero, suc, sym, ap, ◌∙◌, subst, ⊎_elim, inl, inr, arith, append_assoc, append-nil}
+use Rattle.std.proofs.Common.{zero, suc, sym, ap, ◌∙◌, subst, ⊎_elim, inl, inr, arith, append_assoc}
 use Rattle.std.proofs.lemmas.Bool.{cases_eq}
 use Rattle.om_signs.specs.declared.sign.Sign.{Sign}
-use Rattle.om_signs.specs.declared.sign.Sign.TheVariants.{Minus, Plus}
 use Rattle.om_signs.specs.Sign.{opposite, product}
-use Rattle.om_signs.proofs.SignLaws.{left_nonzero, opposite_nonzero, plus_nonzero, product_nonzero, right_nonzero}
-use Rattle.om_signs.proofs.SignLaws.{same_or_different}
+use Rattle.om_signs.proofs.SignLaws.{left_nonzero, opposite_nonzero, right_nonzero, same_or_different}
 use Rattle.om_laws.specs.Bases.{HasExchange}
 use Rattle.om_laws.specs.Members.{IsDistinct, IsMember}
 use Rattle.om_laws.specs.Relations.{HasRelations, IsBalanced, along, around}
@@ -18,241 +15,23 @@ use Rattle.om_laws.specs.Signs.{IsNonzero}
 use Rattle.om_laws.specs.ThreeTerm.{HasThreeTermRelations}
 use Rattle.om_laws.specs.Tuples.{IsAlternating}
 use Rattle.om_laws.specs.Vectors.{Orthogonal}
-use Rattle.om_laws.proofs.BlockLaws.{same_members, negated_for, negated_for_last, negated_for_nonzero}
-use Rattle.om_laws.proofs.BlockLaws.{negated_for_product}
+use Rattle.om_laws.proofs.BlockLaws.{same_members}
 use Rattle.om_laws.proofs.MemberLaws.{distinct_drop, distinct_last, member_append, member_drop, member_insert}
 use Rattle.om_laws.proofs.MemberLaws.{member_last, member_left, member_middle, member_or_not, member_right}
 use Rattle.om_laws.proofs.MemberLaws.{search_members, split_at}
-use Rattle.om_laws.proofs.Missing.{missing, missing_less, missing_middle_member, missing_middle_other}
-use Rattle.om_laws.proofs.RankTwoLaws.{no_other_direction}
-use Rattle.om_laws.proofs.RelationLaws.{IsBalanced_swap, around_at, around_member, balanced_from_orthogonal}
-use Rattle.om_laws.proofs.RelationLaws.{nonzero_from_around, orthogonal_from_balanced, relations_by_sorting}
+use Rattle.om_laws.proofs.Missing.{missing}
+use Rattle.om_laws.proofs.RelationLaws.{IsBalanced_swap, around_member, balanced_from_orthogonal, nonzero_from_around}
+use Rattle.om_laws.proofs.RelationLaws.{orthogonal_from_balanced, relations_by_sorting}
 use Rattle.om_laws.proofs.SortingLaws.{increasing_distinct}
-use Rattle.om_laws.proofs.TupleLaws.{moved_over, nonzero_distinct, nonzero_from_end, nonzero_swapped, nonzero_to_end}
+use Rattle.om_laws.proofs.TupleLaws.{nonzero_distinct, nonzero_swapped, nonzero_to_end}
 use Rattle.om_laws.proofs.VectorLaws.{opposite_product, orthogonal_from}
-
--- d: the sign of a move; t: the sign on one side
-side_sign : (d t vx uy ps : Sign) → IsNonzero d → IsNonzero t → uy ≡ product d ps → product vx uy ≢ opposite t
-    → product (product (product d t) vx) ps ≢ Minus
-side_sign d t vx uy ps nd nt e n k = grind arith
-
-off_sign : (d t vx uy ps : Sign) → IsNonzero d → IsNonzero t → uy ≡ product d ps → product vx uy ≡ t
-    → product (product (product d t) vx) ps ≡ Plus
-off_sign d t vx uy ps nd nt e n = grind arith
-
-family_in : (c vx ps t : Sign) → IsNonzero c → product (product c vx) ps ≡ t → product vx ps ≡ product c t
-family_in c vx ps t n e = grind arith
-
-family_out : (c vx ps t : Sign) → IsNonzero c → product vx ps ≡ opposite (product c t)
-    → product (product c vx) ps ≡ opposite t
-family_out c vx ps t n e = grind arith
-
-two_products : (d p q : Sign) → product (opposite (product d p)) q ≡ opposite (product (product d q) p)
-two_products d p q = grind arith
-
-turn_back : (a b t : Sign) → a ≡ opposite b → a ≡ t → b ≡ opposite t
-turn_back a b t e h = grind arith
-
-go_on : (a b t : Sign) → a ≡ opposite b → b ≡ t → a ≡ opposite t
-go_on a b t e h = grind arith
+use Rattle.om_laws.proofs.DualExchangeLaws.{contained, dual_exchange}
+use Rattle.om_laws.proofs.RankTwoPictures.{good_two, picture}
 
 module _ (chi : List ℕ → Sign) (alt : IsAlternating chi) (ex : HasExchange chi) where
-  -- a base contained in another is the same set
-  pub contained : (s t : List ℕ) → IsNonzero (chi s) → IsNonzero (chi t) → ((g : ℕ) → IsMember g s → IsMember g t)
-      → (g : ℕ) → IsMember g t → IsMember g s
-  contained s t ns nt sub g m =
-      ⊎_elim (λ k. k)
-      (λ n.
-      let k = split_at g t m in
-      let h = ex k.0 g k.1 s (subst (λ l. IsNonzero (chi l)) k.2 nt) ns n in
-      absurd (h.2 (subst (IsMember h.0) k.2 (sub h.0 h.1))))
-      (member_or_not g s)
-
-  abbrev DualExchange : List ℕ → List ℕ → ℕ → Type 0
-  DualExchange t b e = (u : List ℕ) × (h : ℕ) × (v : List ℕ) × (t ≡ u ++ h ∷ v) × (IsMember h b → ⊥)
-      × IsNonzero (chi (u ++ e ∷ v))
-
-  dual_last : (t b : List ℕ) → IsNonzero (chi t) → IsNonzero (chi b) → (e : ℕ) → IsMember e b → (IsMember e t → ⊥)
-      → ((g : ℕ) → IsMember g b → (g ≡ e) ⊎ IsMember g t) → DualExchange t b e
-  dual_last t b nt nb e me ne rest =
-      let s = split_at e b me in
-      let nb' = subst (λ l. IsNonzero (chi l)) s.2 nb in
-      let h = ex s.0 e s.1 t nb' nt ne in
-      let bh = s.0 ++ h.0 ∷ s.1 in
-      let sub : (g : ℕ) → IsMember g bh → IsMember g t = λ g m.
-      ⊎_elim (λ q. subst (λ z. IsMember z t) (sym q) h.1)
-      (λ k. ⊎_elim
-      (λ q. absurd
-      ((distinct_drop s.0 e s.1 (nonzero_distinct chi alt (s.0 ++ e ∷ s.1) nb')).1
-      (subst (λ z. IsMember z (s.0 ++ s.1)) q k))) (λ j. j)
-      (rest g (subst (IsMember g) (sym s.2) (member_insert g s.0 e s.1 k))))
-      (member_drop g s.0 h.0 s.1 m) in
-      let sup = contained bh t h.3 nt sub in
-      let k = split_at h.0 t h.1 in
-      let rt = distinct_drop k.0 h.0 k.1 (subst IsDistinct k.2 (nonzero_distinct chi alt t nt)) in
-      let rb = distinct_drop s.0 e s.1 (nonzero_distinct chi alt (s.0 ++ e ∷ s.1) nb') in
-      let rh = distinct_drop s.0 h.0 s.1 (nonzero_distinct chi alt bh h.3) in
-      let to : (g : ℕ) → IsMember g (s.0 ++ s.1) → IsMember g (k.0 ++ k.1) = λ g m.
-      ⊎_elim (λ q. absurd (rh.1 (subst (λ z. IsMember z (s.0 ++ s.1)) q m))) (λ j. j)
-      (member_drop g k.0 h.0 k.1 (subst (IsMember g) k.2 (sub g (member_insert g s.0 h.0 s.1 m)))) in
-      let from : (g : ℕ) → IsMember g (k.0 ++ k.1) → IsMember g (s.0 ++ s.1) = λ g m.
-      ⊎_elim (λ q. absurd (rt.1 (subst (λ z. IsMember z (k.0 ++ k.1)) q m))) (λ j. j)
-      (member_drop g s.0 h.0 s.1 (sup g (subst (IsMember g) (sym k.2) (member_insert g k.0 h.0 k.1 m)))) in
-      let n1 = nonzero_to_end chi alt s.0 s.1 e nb' in
-      let n2 = same_members (λ l. IsNonzero (chi (l ++ e ∷ [])))
-      (λ u x y v q. subst (λ l. IsNonzero (chi l)) (sym (append_assoc u (y ∷ x ∷ v) (e ∷ [])))
-      (nonzero_swapped chi alt u x y (v ++ e ∷ [])
-      (subst (λ l. IsNonzero (chi l)) (append_assoc u (x ∷ y ∷ v) (e ∷ [])) q)))
-      (s.0 ++ s.1) [] (k.0 ++ k.1) rb.0 rt.0 to from n1 in
-      (k.0, h.0, k.1, k.2, λ m. h.2 (subst (IsMember h.0) s.2 m), nonzero_from_end chi alt k.0 k.1 e n2)
-
-  abbrev Smaller : ℕ → List ℕ → ℕ → Type 0
-  Smaller n t e = (b : List ℕ) → suc (missing t b) ≤ n → IsNonzero (chi t) → IsNonzero (chi b) → IsMember e b
-      → (IsMember e t → ⊥) → DualExchange t b e
-
-  dual_step : (n : ℕ) (t b : List ℕ) → missing t b ≤ n → IsNonzero (chi t) → IsNonzero (chi b) → (e : ℕ) → IsMember e b
-      → (IsMember e t → ⊥) → Smaller n t e → (u : ℕ) → IsMember u b → (IsMember u t → ⊥) × (u ≢ e) → DualExchange t b e
-  dual_step n t b c nt nb e me ne rec u mu nu =
-      let s = split_at u b mu in
-      let h = ex s.0 u s.1 t (subst (λ l. IsNonzero (chi l)) s.2 nb) nt nu.0 in
-      let p : missing t b ≡ suc (missing t (s.0 ++ s.1)) = ap (missing t) s.2 ∙ missing_middle_other t s.0 u s.1 nu.0 in
-      let q = missing_middle_member t s.0 h.0 s.1 h.1 in
-      let e_in : IsMember e (s.0 ++ h.0 ∷ s.1) =
-      member_insert e s.0 h.0 s.1
-      (⊎_elim (λ k. absurd (nu.1 (sym k))) (λ k. k) (member_drop e s.0 u s.1 (subst (IsMember e) s.2 me))) in
-      let d = rec (s.0 ++ h.0 ∷ s.1) (omega (arith, c, p, q)) nt h.3 e_in ne in (
-        d.0,
-        d.1,
-        d.2,
-        d.3,
-        λ m. ⊎_elim
-            (λ k. nu.0 (subst (λ z. IsMember z t) k (subst (IsMember d.1) (sym d.3) (member_middle d.1 d.0 d.2))))
-            (λ k. d.4 (member_insert d.1 s.0 h.0 s.1 k))
-            (member_drop d.1 s.0 u s.1 (subst (IsMember d.1) s.2 m)),
-        d.5,
-      )
-
-  dual_try : (n : ℕ) (t b : List ℕ) → missing t b ≤ n → IsNonzero (chi t) → IsNonzero (chi b) → (e : ℕ) → IsMember e b
-      → (IsMember e t → ⊥) → Smaller n t e → DualExchange t b e
-  dual_try n t b c nt nb e me ne rec =
-      ⊎_elim
-      (λ k. dual_step n t b c nt nb e me ne rec k.0 k.1 k.2)
-      (λ none. dual_last t b nt nb e me ne none)
-      (search_members (λ u. (IsMember u t → ⊥) × (u ≢ e)) (λ u. (u ≡ e) ⊎ IsMember u t)
-      (λ u. ⊎_elim (λ m. inr (inr m)) (λ k. ⊎_elim (λ q. inr (inl q)) (λ q. inl (k, q)) (cases_eq u e))
-      (member_or_not u t))
-      b)
-
-  -- dual exchange, by the number of entries of b that aren't in t: an element of b takes the place of one of t that
-  -- isn't in b
-  pub dual_exchange : (n : ℕ) (t b : List ℕ) → missing t b ≤ n → IsNonzero (chi t) → IsNonzero (chi b) → (e : ℕ)
-      → IsMember e b → (IsMember e t → ⊥) → DualExchange t b e
-  dual_exchange zero t b c nt nb e me ne =
-      dual_try 0 t b c nt nb e me ne
-      (λ b' q nt' nb' m k. absurd (let z : suc (missing t b') ≤ 0 = q in omega (arith, z)))
-  dual_exchange (suc n) t b c nt nb e me ne =
-      dual_try (suc n) t b c nt nb e me ne (λ b' q nt' nb' m k. dual_exchange n t b' (omega (arith, q)) nt' nb' e m k)
-
   module _ (g3 : HasThreeTermRelations chi) where
     abbrev AreOrthogonal : List ℕ → List ℕ → Type 0
     AreOrthogonal x y = Orthogonal (around chi x) (along chi y)
-
-    last_out : (y : List ℕ) (a : ℕ) → IsNonzero (chi (y ++ a ∷ [])) → IsMember a y → ⊥
-    last_out y a n m = (distinct_drop y a [] (nonzero_distinct chi alt (y ++ a ∷ []) n)).1 (member_left a y [] m)
-
-    -- two entries of x outside y
-    good_two : (y : List ℕ) (x0 e1 : ℕ) → IsNonzero (chi (y ++ x0 ∷ [])) → (IsMember e1 (y ++ x0 ∷ []) → ⊥)
-        → AreOrthogonal (y ++ x0 ∷ e1 ∷ []) y
-    good_two y x0 e1 n ne = orthogonal_from (around chi (y ++ x0 ∷ e1 ∷ [])) (along chi y) (λ e t nt h.
-        let z = y ++ x0 ∷ e1 ∷ [] in
-        let q : (y ++ x0 ∷ []) ++ e1 ∷ [] ≡ z = append_assoc y (x0 ∷ []) (e1 ∷ []) in
-        let r1 = distinct_last (y ++ x0 ∷ []) e1 (nonzero_distinct chi alt (y ++ x0 ∷ []) n) ne in
-        let r : IsDistinct z = subst IsDistinct q r1 in
-        let d = negated_for (x0 ∷ y) Plus in
-        let p = chi (y ++ x0 ∷ []) in
-        let o = chi (y ++ e1 ∷ []) in
-        let c0 : around chi z x0 ≡ product d o = around_at chi y x0 (e1 ∷ []) r ∙ negated_for_product (x0 ∷ y) o in
-        let c1a : around chi ((y ++ x0 ∷ []) ++ e1 ∷ []) e1
-        ≡ negated_for (e1 ∷ (y ++ x0 ∷ [])) (chi ((y ++ x0 ∷ []) ++ [])) =
-        around_at chi (y ++ x0 ∷ []) e1 [] r1 in
-        let c1b : negated_for (e1 ∷ (y ++ x0 ∷ [])) (chi ((y ++ x0 ∷ []) ++ [])) ≡ opposite (product d p) =
-        ap (λ l. negated_for (e1 ∷ (y ++ x0 ∷ [])) (chi l)) (append-nil (y ++ x0 ∷ []))
-        ∙ ap opposite (negated_for_last y x0 p) ∙ ap opposite (negated_for_product (x0 ∷ y) p) in
-        let c1 : around chi z e1 ≡ opposite (product d p) = ap (λ l. around chi l e1) (sym q) ∙ c1a ∙ c1b in
-        let op : product (around chi z e1) o ≡ opposite (product (around chi z x0) p) =
-        ap (λ s. product s o) c1 ∙ two_products d p o ∙ ap (λ s. opposite (product s p)) (sym c0) in
-        let m : IsMember e z = around_member chi z e (left_nonzero (around chi z e) (chi (y ++ e ∷ [])) t h nt) in
-        let ny : IsMember e y → ⊥ = last_out y e (right_nonzero (around chi z e) (chi (y ++ e ∷ [])) t h nt) in
-        ⊎_elim
-        (λ k. absurd (ny k))
-        (λ k. ⊎_elim
-        (λ w. (
-          e1,
-          go_on (product (around chi z e1) o) (product (around chi z x0) p) t op
-              (subst (λ i. product (around chi z i) (chi (y ++ i ∷ [])) ≡ t) w h),
-        ))
-        (λ k2. ⊎_elim
-        (λ w. (
-          x0,
-          turn_back (product (around chi z e1) o) (product (around chi z x0) p) t op
-              (subst (λ i. product (around chi z i) (chi (y ++ i ∷ [])) ≡ t) w h),
-        ))
-        (λ b. absurd b)
-        k2)
-        k)
-        (member_append e y (x0 ∷ e1 ∷ []) m))
-
-    -- the contraction to rank 2 seen from a: all products on one side contradict
-    picture : (x u w : List ℕ) (a : ℕ) → IsDistinct x → (IsMember a x → ⊥) → IsDistinct (u ++ a ∷ w)
-        → ((y' : List ℕ) → IsDistinct y' → suc (missing y' x) ≤ missing (u ++ a ∷ w) x → AreOrthogonal x y')
-        → (t : Sign) → IsNonzero t
-        → ((g : ℕ) → IsMember g x → product (around chi x g) (along chi (u ++ a ∷ w) g) ≢ opposite t)
-        → (x0 : ℕ) → IsMember x0 x → product (around chi x x0) (along chi (u ++ a ∷ w) x0) ≡ t
-        → (s : ℕ) → IsMember s x → IsNonzero (chi ((u ++ w) ++ s ∷ x0 ∷ [])) → ⊥
-    picture x u w a rx na ry rec t nt one x0 mx e0 s ms ns =
-        let y = u ++ a ∷ w in
-        let pr = u ++ w in
-        let psi : ℕ → ℕ → Sign = λ g h. chi (pr ++ g ∷ h ∷ []) in
-        let d = negated_for w Plus in
-        let nd : IsNonzero d = negated_for_nonzero w Plus plus_nonzero in
-        let c = product d t in
-        let nc : IsNonzero c = product_nonzero d t nd nt in
-        let v : ℕ → Sign = λ g. product c (around chi x g) in
-        let uy : (g : ℕ) → along chi y g ≡ product d (psi a g) = λ g.
-        ap chi (append_assoc u (a ∷ w) (g ∷ [])) ∙ moved_over chi alt w u a (g ∷ [])
-        ∙ ap (λ l. negated_for w (chi l)) (sym (append_assoc u w (a ∷ g ∷ []))) ∙ negated_for_product w (psi a g) in
-        no_other_direction psi (λ g h. alt h g pr []) (λ i j k l. g3 pr i j k l) x v a x0
-        (λ g m. side_sign d t (around chi x g) (along chi y g) (psi a g) nd nt (uy g) (one g m))
-        mx
-        (off_sign d t (around chi x x0) (along chi y x0) (psi a x0) nd nt (uy x0) e0)
-        (λ s' m' h mh t' nt' eq.
-        let eh : product (around chi x h) (psi s' h) ≡ product c t' =
-        family_in c (around chi x h) (psi s' h) t' nc eq in
-        let np : IsNonzero (psi s' h) =
-        right_nonzero (around chi x h) (psi s' h) (product c t') eh (product_nonzero c t' nc nt') in
-        let off_pr : IsMember s' pr → ⊥ =
-        λ k. (distinct_drop pr s' (h ∷ []) (nonzero_distinct chi alt (pr ++ s' ∷ h ∷ []) np)).1
-        (member_left s' pr (h ∷ []) k) in
-        let ns' : IsMember s' y → ⊥ =
-        λ k. ⊎_elim (λ q. na (subst (λ z. IsMember z x) q m')) off_pr (member_drop s' u a w k) in
-        let y' = pr ++ s' ∷ [] in
-        let less : suc (missing y' x) ≤ missing y x = missing_less y y' x
-        (λ g i j. member_left g pr (s' ∷ [])
-        (⊎_elim (λ q. absurd (na (subst (λ z. IsMember z x) q i))) (λ k. k) (member_drop g u a w j)))
-        s' m' ns' (member_middle s' pr []) in
-        let ps : (g : ℕ) → along chi y' g ≡ psi s' g = λ g. ap chi (append_assoc pr (s' ∷ []) (g ∷ [])) in
-        let k = opposite_product (around chi x) (along chi y')
-        (rec y' (distinct_last pr s' (distinct_drop u a w ry).0 off_pr) less) h (product c t')
-        (product_nonzero c t' nc nt') (ap (product (around chi x h)) (ps h) ∙ eh) in
-        let ek : product (around chi x k.0) (psi s' k.0) ≡ opposite (product c t') =
-        ap (product (around chi x k.0)) (sym (ps k.0)) ∙ k.1 in (
-          k.0,
-          around_member chi x k.0
-              (left_nonzero (around chi x k.0) (psi s' k.0) (opposite (product c t')) ek
-              (opposite_nonzero (product c t') (product_nonzero c t' nc nt'))),
-          family_out c (around chi x k.0) (psi s' k.0) t' nc ek,
-        ))
-        s ms ns
 
     members_two : (x y : List ℕ) (x0 e1 : ℕ) → ((g : ℕ) → IsMember g x → IsMember g y ⊎ ((g ≡ x0) ⊎ (g ≡ e1))) → (g : ℕ)
         → IsMember g x → IsMember g (y ++ x0 ∷ e1 ∷ [])
@@ -307,7 +86,7 @@ module _ (chi : List ℕ → Sign) (alt : IsAlternating chi) (ex : HasExchange c
         → (x0 : ℕ) → IsMember x0 x → product (around chi x x0) (along chi y x0) ≡ t → (s : ℕ) → IsMember s x
         → IsNonzero (chi ((u ++ w) ++ s ∷ x0 ∷ [])) → ⊥
     at_split x y u w a ey rx ry rec t nt one na x0 m0 h s ms ns =
-        picture x u w a rx na (subst IsDistinct ey ry)
+        picture chi alt ex g3 x u w a rx na (subst IsDistinct ey ry)
         (λ y' r' less. rec y' r' (subst (λ l. suc (missing y' x) ≤ missing l x) (sym ey) less))
         t nt (λ i m. subst (λ l. product (around chi x i) (along chi l i) ≢ opposite t) ey (one i m))
         x0 m0 (subst (λ l. product (around chi x x0) (along chi l x0) ≡ t) ey h) s ms ns
@@ -320,7 +99,9 @@ module _ (chi : List ℕ → Sign) (alt : IsAlternating chi) (ex : HasExchange c
         → ((i : ℕ) → IsMember i x → i ≢ e1 → IsMember i t') → IsMember g x → (IsMember g y → ⊥) → g ≢ x0 → g ≢ e1 → ⊥
     use_some x y t' x0 e1 g rx ry rec t nt one h m0 nb n5 d4 mx0 to_t' mg ny n0 n1 =
         let nB : IsMember g (y ++ x0 ∷ []) → ⊥ = λ m. ⊎_elim ny n0 (member_last g x0 y m) in
-        let a = dual_exchange (missing (y ++ x0 ∷ []) t') (y ++ x0 ∷ []) t' (omega arith) nb n5 g (to_t' g mg n1) nB in
+        let a =
+        dual_exchange chi alt ex (missing (y ++ x0 ∷ []) t') (y ++ x0 ∷ []) t' (omega arith) nb n5 g (to_t' g mg n1) nB
+        in
         let maB : IsMember a.1 (y ++ x0 ∷ []) = subst (IsMember a.1) (sym a.3) (member_middle a.1 a.0 a.2) in
         let nax : IsMember a.1 x → ⊥ = λ m. a.4 (to_t' a.1 m (λ q. d4 (subst (λ z. IsMember z (y ++ x0 ∷ [])) q maB)))
         in
@@ -342,14 +123,14 @@ module _ (chi : List ℕ → Sign) (alt : IsAlternating chi) (ex : HasExchange c
         (λ j. ⊎_elim (λ q. subst (λ z. IsMember z (y ++ x0 ∷ [])) (sym q) (member_middle x0 y []))
         (λ q. absurd (not_e1 (subst (λ z. IsMember z t') q m))) j)
         (none g (of_t' g m)) in
-        let back = contained t' (y ++ x0 ∷ []) n5 nb in_B in
+        let back = contained chi alt ex t' (y ++ x0 ∷ []) n5 nb in_B in
         let y_in_x : (g : ℕ) → IsMember g y → IsMember g x = λ g m. of_t' g (back g (member_left g y (x0 ∷ []) m)) in
         let z : List ℕ = y ++ x0 ∷ e1 ∷ [] in
         let rz : IsDistinct z =
         subst IsDistinct (append_assoc y (x0 ∷ []) (e1 ∷ []))
         (distinct_last (y ++ x0 ∷ []) e1 (nonzero_distinct chi alt (y ++ x0 ∷ []) nb) d4) in
         let bz : IsBalanced chi z (along chi y) =
-        balanced_from_orthogonal chi z (along chi y) rz (good_two y x0 e1 nb d4) in
+        balanced_from_orthogonal chi z (along chi y) rz (good_two chi alt ex g3 y x0 e1 nb d4) in
         let bx : IsBalanced chi x (along chi y) =
         same_members (λ l. IsBalanced chi l (along chi y))
         (λ u i j v q. IsBalanced_swap chi i j u v (along chi y) alt q) z [] x rz rx
@@ -404,7 +185,9 @@ module _ (chi : List ℕ → Sign) (alt : IsAlternating chi) (ex : HasExchange c
         let rs = subst IsDistinct s.2 rx in
         let nT : IsNonzero (chi (s.0 ++ s.1)) =
         nonzero_from_around chi s.0 x0 s.1 rs (subst (λ l. IsNonzero (around chi l x0)) s.2 nv) in
-        let d = dual_exchange (missing (s.0 ++ s.1) (y ++ x0 ∷ [])) (s.0 ++ s.1) (y ++ x0 ∷ []) (omega arith) nT nb x0
+        let d =
+        dual_exchange chi alt ex (missing (s.0 ++ s.1) (y ++ x0 ∷ [])) (s.0 ++ s.1) (y ++ x0 ∷ []) (omega arith) nT nb
+        x0
         (member_middle x0 y []) (distinct_drop s.0 x0 s.1 rs).1 in
         with_splits x y s.0 s.1 d.0 d.2 x0 d.1 s.2 d.3 rx ry rec t nt one h nb d.5 d.4
 

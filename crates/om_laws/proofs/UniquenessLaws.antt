@@ -19,7 +19,7 @@ use Rattle.om_laws.specs.Relations.{along, around}
 use Rattle.om_laws.specs.Signs.{IsNonzero}
 use Rattle.om_laws.specs.Vectors.{AreEqualUpToSign, Orthogonal, SignVector}
 use Rattle.om_laws.proofs.BaseLaws.{exchange, around_orthogonal_along}
-use Rattle.om_laws.proofs.ThreeTermLaws.{contained}
+use Rattle.om_laws.proofs.DualExchangeLaws.{contained}
 use Rattle.om_laws.proofs.BlockLaws.{same_members}
 use Rattle.om_laws.proofs.ChirotopeCovectors.{covector_in_cocircuit}
 use Rattle.om_laws.proofs.MemberLaws.{distinct_last, member_drop, member_insert, member_last, member_left}

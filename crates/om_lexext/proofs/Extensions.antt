@@ -1,22 +1,19 @@
--- The map of a lexicographic extension, by its signs on increasing lists.
+-- The map of a lexicographic extension, by its signs on increasing lists, meets the axioms; extensions by one list are
+-- the same.
 --
--- Main results: an increasing list has the last element at its end, or not at all (end_or_not); the map of the signs is
--- the extension and meets the axioms (lexicographic_axioms, is_extension); extensions by one list are the same
--- (same_extensions); steps of the calls (found_entry, passed_entry, without_size, sign_with_last, sign_without_last).
+-- Main definitions: extended
+-- Main results: lexicographic_axioms, is_extension, same_extensions, extensions_meet
 -- Reference: Björner, Las Vergnas, Sturmfels, White and Ziegler, Oriented Matroids, chapter 7.
-use Rattle.std.proofs.Common.{ℕ, zero, suc, ◌≡◌, ◌≢◌, ◌+◌, ◌<◌, ◌≤◌, ◌⊎◌, List, [], ◌∷◌, ◌++◌, length, map, drop, take}
-use Rattle.std.proofs.Common.{cond, true, false, refl, sym, ap, subst, ◌∙◌, inl, inr, ⊎_elim, arith, get_or}
-use Rattle.std.proofs.Common.{append-nil}
-use Rattle.std.proofs.lemmas.Bool.{cases_eq, eq-eqb, ne_eqb}
-use Rattle.std.proofs.lemmas.List.{length-append, take_all}
+use Rattle.std.proofs.Common.{ℕ, zero, suc, ◌≡◌, ◌+◌, ◌<◌, ◌⊎◌, List, [], ◌∷◌, ◌++◌, length, refl, sym, ap, subst, ◌∙◌}
+use Rattle.std.proofs.Common.{inl, inr, ⊎_elim, arith, append-nil}
+use Rattle.std.proofs.lemmas.List.{length-append}
 use Rattle.om_signs.specs.declared.sign.Sign.{Sign}
 use Rattle.om_signs.specs.declared.sign.Sign.TheVariants.{Zero}
 use Rattle.om_signs.specs.Sign.{product, first_nonzero}
-use Rattle.om_signs.proofs.SignLaws.{zero_or_nonzero, first_nonzero_left, first_nonzero_right}
-use Rattle.om_subsets.specs.Subsets.{IsSubsetFrom, IsMember, choose, without_element, all_subsets, subset_at}
-use Rattle.om_subsets.proofs.Order.{length-subsets_from, members_from}
+use Rattle.om_signs.proofs.SignLaws.{zero_or_nonzero}
+use Rattle.om_subsets.specs.Subsets.{IsSubsetFrom}
 use Rattle.om_subsets.proofs.OneElement.{subset_wider}
-use Rattle.om_subsets.proofs.Reverse.{split_last, subset_push}
+use Rattle.om_subsets.proofs.ReversePlaces.{subset_push}
 use Rattle.om_laws.specs.Members as lists
 use Rattle.om_laws.specs.Chirotope.{elements_to}
 use Rattle.om_laws.specs.Relations.{along}
@@ -36,45 +33,12 @@ use Rattle.om_denotation.specs.Maps.{map_by}
 use Rattle.om_denotation.proofs.Rules.{rule_at, whole_by, tuples_by, chirotope_by, same_on_tuples}
 use Rattle.om_denotation.proofs.Uniqueness.{tuples_at, same_map}
 use Rattle.om_lexext.specs.declared.signed.Signed.{Signed}
-use Rattle.om_lexext.specs.Lexicographic.{AreEntries, first_listed, has, lexicographic_sign, IsLexicographicExtension}
+use Rattle.om_lexext.specs.Lexicographic.{AreEntries, first_listed, lexicographic_sign, IsLexicographicExtension}
 use Rattle.om_lexext.proofs.Leads.{lead, lead_same}
-use Rattle.om_lexext.proofs.Theory.{instead, swap_at, instead_off, instead_append, count_none, count_last, extension}
-use Rattle.om_lexext.proofs.Theory.{extension_none, extension_once, extension_alternating, extension_within}
-use Rattle.om_lexext.proofs.Theory.{extension_size, extension_chirotope, value_at}
-
--- ---- increasing lists with their last element
-
-off_last : (n : ℕ) (A : List ℕ) → IsSubsetFrom 1 n A → IsMember (n + 1) A → ⊥
-off_last n A h k = let c = (members_from 1 n (n + 1) A h k).1 in omega (arith, c)
-
-has_member : (g : ℕ) (xs : List ℕ) → IsMember g xs → has g xs ≡ true
-has_member g [] k = absurd k
-has_member g (x ∷ xs) k = elim (cases_eq x g) [
-  | inl q ↦ rw (eq-eqb x g q) refl
-  | inr n ↦ rw (ne_eqb x g n) (has_member g xs (⊎_elim (λ e. absurd (n (sym e))) (λ j. j) k))
-]
-
-has_not : (g : ℕ) (xs : List ℕ) → (IsMember g xs → ⊥) → has g xs ≡ false
-has_not g [] k = refl
-has_not g (x ∷ xs) k = rw (ne_eqb x g (λ q. k (inl (sym q)))) (has_not g xs (λ j. k (inr j)))
-
-without_end : (g : ℕ) (A : List ℕ) → (IsMember g A → ⊥) → without_element g (A ++ g ∷ []) ≡ A
-without_end g [] n = rw (eq-eqb g g refl) refl
-without_end g (x ∷ A) n = rw (ne_eqb g x (λ q. n (inl q))) (ap (λ l. x ∷ l) (without_end g A (λ k. n (inr k))))
-
-suc_plus : (n : ℕ) → suc n ≡ n + 1
-suc_plus n = omega arith
-
-abbrev EndsWithLast : ℕ → List ℕ → Type 0
-EndsWithLast n xs = (A : List ℕ) × IsSubsetFrom 1 n A × (xs ≡ A ++ (n + 1) ∷ [])
-
--- an increasing list of 1 to n + 1 has n + 1 at its end, or not at all
-pub end_or_not : (n : ℕ) (xs : List ℕ) → IsSubsetFrom 1 (n + 1) xs → EndsWithLast n xs ⊎ IsSubsetFrom 1 n xs
-end_or_not n xs h =
-    elim (split_last 1 n (n + 1) xs (omega arith) (subst (λ k. IsSubsetFrom 1 k xs) (sym (suc_plus n)) h)) [
-      | inl s ↦ inr s
-      | inr k ↦ inl (k.front, k.lawful, k.whole)
-    ]
+use Rattle.om_lexext.proofs.ReplacedPlaces.{instead, swap_at, instead_off, instead_append, count_none, count_last}
+use Rattle.om_lexext.proofs.ExtensionTerms.{extension, extension_none, extension_once, extension_alternating, value_at}
+use Rattle.om_lexext.proofs.Theory.{extension_within, extension_size, extension_chirotope}
+use Rattle.om_lexext.proofs.LastElements.{off_last, has_member, has_not, without_end, suc_plus, end_or_not}
 
 -- ---- the entries of the list
 
@@ -262,92 +226,3 @@ extensions_meet m x list chirotope entries w e =
     (same_extensions m (extended m chirotope list entries) x list
     (lexicographic_axioms m chirotope list entries).whole w (is_extension m chirotope list entries) e)
     (lexicographic_axioms m chirotope list entries)
-
--- ---- the steps of the calls
-
-pub drop_entry : (list : List Signed) (i : ℕ) (d : Signed) → i < length list
-    → drop i list ≡ get_or list i d ∷ drop (i + 1) list
-drop_entry [] i d l = absurd (omega (arith, l))
-drop_entry (x ∷ xs) zero d l = refl
-drop_entry (x ∷ xs) (suc i) d l = drop_entry xs i d (omega (arith, l))
-    ∙ ap (λ k. get_or xs i d ∷ drop k (x ∷ xs)) (let e : suc (i + 1) ≡ suc i + 1 = omega arith in e)
-
-pub without_off : (n : ℕ) (xs : List ℕ) → IsMember n (without_element n xs) → ⊥
-without_off n [] k = k
-without_off n (x ∷ xs) k = elim (cases_eq n x) [
-  | inl q ↦
-      without_off n xs
-      (subst (IsMember n) (ap (λ b. cond b (without_element n xs) (x ∷ without_element n xs)) (eq-eqb n x q)) k)
-  | inr d ↦ ⊎_elim (λ e. absurd (d e)) (λ j. without_off n xs j)
-      (subst (IsMember n) (ap (λ b. cond b (without_element n xs) (x ∷ without_element n xs)) (ne_eqb n x d)) k)
-]
-
-pub without_size : (n : ℕ) (xs : List ℕ) → IsSubsetFrom 1 (n + 1) xs → IsMember (n + 1) xs
-    → length (without_element (n + 1) xs) + 1 ≡ length xs
-without_size n xs h k = ⊎_elim
-    (λ s. let a = ap length s.2 in
-    let b = length-append s.0 ((n + 1) ∷ []) in
-    let c = ap (λ l. length (without_element (n + 1) l)) s.2 in
-    let d = ap length (without_end (n + 1) s.0 (off_last n s.0 s.1)) in
-    omega (arith, a, b, c, d))
-    (λ s. absurd (off_last n xs s k))
-    (end_or_not n xs h)
-
-pub sign_with_last : (m : SignMap) (list : List Signed) (xs : List ℕ) → IsMember (m.elements + 1) xs
-    → first_listed (along (value_of m) (without_element (m.elements + 1) xs)) list ≡ lexicographic_sign m list xs
-sign_with_last m list xs k = rw (has_member (m.elements + 1) xs k) refl
-
-pub sign_without_last : (m : SignMap) (list : List Signed) (xs : List ℕ) → (IsMember (m.elements + 1) xs → ⊥)
-    → chi_of m xs ≡ lexicographic_sign m list xs
-sign_without_last m list xs k = rw (has_not (m.elements + 1) xs k) refl
-
-pub all_signs : (rule : List ℕ → Sign) (n r place all : ℕ) (signs : List Sign)
-    → signs ≡ map rule (take place (all_subsets n r)) → place ≡ all → all ≡ choose n r
-    → signs ≡ map rule (all_subsets n r)
-all_signs rule n r place all signs h e c = h
-    ∙ ap (map rule) (take_all place (all_subsets n r) (let l = length-subsets_from 1 n r in omega (arith, e, c, l)))
-
-pub same_map_of : (m : SignMap) (rule : List ℕ → Sign) (rank elements : ℕ) (signs : List Sign) → rank ≡ m.rank
-    → elements ≡ m.elements → signs ≡ map rule (all_subsets (elements + 1) rank)
-    → map_by m.rank (m.elements + 1) rule ≡ record { rank = rank; elements = elements + 1; signs = signs }
-same_map_of m rule rank elements signs r e s = (λ i. map_by (sym r i) (sym e i + 1) rule)
-    ∙ (λ i. record { rank = rank; elements = elements + 1; signs = sym s i })
-
-module _ (u : ℕ → Sign) (n : ℕ) (list : List Signed) (i : ℕ) (d : Signed) (l : i < length list) where
-  here_listed : first_listed u (drop i list)
-      ≡ first_nonzero (product (get_or list i d).sign (u (get_or list i d).element))
-      (first_listed u (drop (i + 1) list))
-  here_listed = ap (first_listed u) (drop_entry list i d l)
-
-  pub found_entry : (s : Sign) → first_listed u list ≡ first_listed u (drop i list)
-      → s ≡ product (get_or list i d).sign (u (get_or list i d).element) → s ≢ Zero → s ≡ first_listed u list
-  found_entry s rest e n = e
-      ∙ sym (rest ∙ here_listed
-      ∙ first_nonzero_left (product (get_or list i d).sign (u (get_or list i d).element))
-      (first_listed u (drop (i + 1) list)) (subst IsNonzero e n))
-
-  pub passed_entry : (s : Sign) → first_listed u list ≡ first_listed u (drop i list)
-      → s ≡ product (get_or list i d).sign (u (get_or list i d).element) → s ≡ Zero
-      → first_listed u list ≡ first_listed u (drop (i + 1) list)
-  passed_entry s rest e z = rest ∙ here_listed
-      ∙ first_nonzero_right (product (get_or list i d).sign (u (get_or list i d).element))
-      (first_listed u (drop (i + 1) list)) (sym e ∙ z)
-
-  pub entry_bounds : AreEntries n (drop i list) → (1 ≤ (get_or list i d).element) × ((get_or list i d).element ≤ n)
-      × AreEntries n (drop (i + 1) list)
-  entry_bounds h = subst (AreEntries n) (drop_entry list i d l) h
-
-last_mapped : (rule : List ℕ → Sign) (xss : List (List ℕ)) (k : ℕ) → k < length xss
-    → map rule (take k xss) ++ rule (get_or xss k []) ∷ [] ≡ map rule (take (k + 1) xss)
-last_mapped rule [] k l = absurd (omega (arith, l))
-last_mapped rule (x ∷ xss) zero l = refl
-last_mapped rule (x ∷ xss) (suc k) l = ap (λ z. rule x ∷ z) (last_mapped rule xss k (omega (arith, l)))
-    ∙ ap (λ j. map rule (take j (x ∷ xss))) (let e : suc (k + 1) ≡ suc k + 1 = omega arith in e)
-
-pub signs_more : (rule : List ℕ → Sign) (n r k : ℕ) (signs new : List Sign) (s : Sign) (xs : List ℕ)
-    → signs ≡ map rule (take k (all_subsets n r)) → new ≡ signs ++ s ∷ [] → s ≡ rule xs → xs ≡ subset_at n r k
-    → k < choose n r → new ≡ map rule (take (k + 1) (all_subsets n r))
-signs_more rule n r k signs new s xs h e q p l =
-    let i : k < length (all_subsets n r) = subst (λ c. k < c) (sym (length-subsets_from 1 n r)) l in
-    e ∙ ap (λ z. z ++ s ∷ []) h ∙ ap (λ z. map rule (take k (all_subsets n r)) ++ z ∷ []) (q ∙ ap rule p)
-    ∙ last_mapped rule (all_subsets n r) k i

@@ -14,7 +14,7 @@ use Rattle.om_subsets.proofs.Statements.{subset_is_increasing}
 use Rattle.om_chirotope.specs.Map.{SignMap, chi_of}
 use Rattle.om_chirotope.proofs.Theory.{from_tuple}
 use Rattle.om_localize.specs.Extensions.{IsExtension, signature_of}
-use Rattle.om_localize.proofs.Localizations.{pair_list, table_sign}
+use Rattle.om_localize.proofs.SignatureCircles.{pair_list, table_sign}
 
 -- the size, and the values by their places
 module _ (m w : SignMap) (r : m.rank ≡ 3) (x : IsExtension m w) where

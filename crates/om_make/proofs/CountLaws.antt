@@ -18,7 +18,7 @@ use Rattle.om_subsets.specs.Members.{Chosen}
 use Rattle.om_subsets.proofs.Counts.{choose_one}
 use Rattle.om_subsets.proofs.Table.{choose_most}
 use Rattle.om_signs.specs.declared.raw_map.RawMap.{RawMap}
-use Rattle.om_chirotope.specs.Chirotope.{IsSound}
+use Rattle.om_chirotope.specs.Chirotope.{IsChirotopeWithinLimits}
 use Rattle.om_chirotope.specs.Map.{SignMap, map_of, cocircuit_vector, cocircuit_vectors}
 use Rattle.om_denotation.specs.Circuits.{IsCocircuitOfChirotope, IsUpToSign}
 use Rattle.om_denotation.specs.Listings.{HasMoreThan}
@@ -136,7 +136,8 @@ module _ (m : SignMap) (sets : List Chosen) (h : ListsMutations m sets) where
 
 -- ---- how many signs a map has
 
-pub few_signs : (m : SignMap) → IsSound m → (raw : RawMap) (signs : List Sign) → map_of raw ≡ m → signs ≡ raw.signs
+pub few_signs : (m : SignMap) → IsChirotopeWithinLimits m → (raw : RawMap) (signs : List Sign) → map_of raw ≡ m
+    → signs ≡ raw.signs
     → length signs ≤ 4294967295
 few_signs m sound raw signs is same =
     let whole = sound.axioms.whole.whole in

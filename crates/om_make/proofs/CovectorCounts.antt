@@ -24,7 +24,7 @@ use Rattle.om_laws.specs.Bridge.{as_function}
 use Rattle.om_laws.specs.Chirotope.{elements_to}
 use Rattle.om_laws.specs.Chirotope as theory
 use Rattle.om_laws.specs.Covectors.{IsCovector}
-use Rattle.om_laws.proofs.BaseLaws.{fundamental_circuit}
+use Rattle.om_laws.proofs.FundamentalCircuits.{fundamental_circuit}
 use Rattle.om_laws.proofs.ExistenceHelpers.{Vanishes}
 use Rattle.om_laws.proofs.MemberLaws.{split_at, member_or_not, member_append, member_last}
 use Rattle.om_laws.proofs.TupleLaws.{nonzero_to_end}
@@ -36,7 +36,7 @@ use Rattle.om_chirotope.proofs.Theory.{theory_chirotope}
 use Rattle.om_denotation.specs.Covectors.{IsCovectorOfChirotope}
 use Rattle.om_denotation.specs.Listings.{HasMoreThan}
 use Rattle.om_denotation.proofs.ChirotopeBridge.{tuples_of, covector_function}
-use Rattle.om_denotation.proofs.FamilyLaws.{covector_axioms}
+use Rattle.om_denotation.proofs.FamilyAxioms.{covector_axioms}
 use Rattle.om_denotation.proofs.ListFunctions.{at_place}
 use Rattle.om_make.proofs.FirstSigns.{fewer}
 use Rattle.om_make.proofs.RankBounds.{IsClosed, IsZeroAt, HasRankAtMost, rank_moved, bound_in_rank_three}

@@ -14,7 +14,8 @@ use Rattle.om_laws.specs.Bases.{IsBase, SymmetricExchange}
 use Rattle.om_laws.proofs.MemberLaws.{split_at, member_middle}
 use Rattle.om_laws.proofs.SortingLaws.{increasing_distinct}
 use Rattle.om_laws.proofs.TupleSizes.{each_from, each_member, on_tuples_at, on_tuples_tuple}
-use Rattle.om_laws.proofs.BaseLaws as bases
+use Rattle.om_laws.proofs.BaseLaws as base_laws
+use Rattle.om_laws.proofs.FundamentalCircuits as bases
 use Rattle.om_chirotope.specs.Map.{SignMap, chi_of, value_of}
 use Rattle.om_chirotope.specs.Chirotope.{IsChirotope}
 use Rattle.om_chirotope.proofs.Circuits.{length-without}
@@ -74,7 +75,7 @@ module _ (m : SignMap) (axioms : IsChirotope m) where
   symmetric_exchange b c e first second inside outside =
       let s = split_at e b inside in
       changed s.0 s.1 s.2
-      (bases.symmetric_exchange (elements_to m.elements) chi (theory_chirotope m axioms) s.0 e s.1 c
+      (base_laws.symmetric_exchange (elements_to m.elements) chi (theory_chirotope m axioms) s.0 e s.1 c
       (subst (IsBase chi) s.2 (base_of_basis b first)) (base_of_basis c second) outside)
     where
       changed : (u v : List ℕ) → b ≡ u ++ e ∷ v → SymmetricExchange chi u e v c → (f : ℕ) × IsExchange m b c e f

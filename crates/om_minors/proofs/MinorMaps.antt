@@ -16,7 +16,7 @@ use Rattle.om_laws.specs.Parallel.{IsInBase}
 use Rattle.om_laws.specs.Sorting.{IsElement, Each, IsTuple, IsIncreasing, on_tuples}
 use Rattle.om_laws.specs.Tuples.{value}
 use Rattle.om_laws.proofs.MinorLaws.{deletion_chirotope, contraction_chirotope, skip_below, skip_above}
-use Rattle.om_laws.proofs.PullbackLaws.{pullback_alternating}
+use Rattle.om_laws.proofs.PulledBackMaps.{pullback_alternating}
 use Rattle.om_laws.proofs.SortingLaws.{value_increasing, alternating_equal}
 use Rattle.om_laws.proofs.TupleSizes.{is_tuple_cases, on_tuples_at, on_tuples_off, on_tuples_alternating}
 use Rattle.om_chirotope.specs.Map.{SignMap, chi_of, value_of}

@@ -26,7 +26,8 @@ use Rattle.om_laws.specs.Circuits.{IsCircuit}
 use Rattle.om_laws.specs.Reorientation.{turning, signs_product, reoriented, turned, negative}
 use Rattle.om_laws.specs.Sorting.{IsIncreasing, on_tuples}
 use Rattle.om_laws.proofs.PairCovectors.{covector_same}
-use Rattle.om_laws.proofs.ReorientationLaws.{reoriented_chirotope, covector_turned, signs_product_nonzero}
+use Rattle.om_laws.proofs.TurnedVectors.{signs_product_nonzero}
+use Rattle.om_laws.proofs.ReorientationLaws.{reoriented_chirotope, covector_turned}
 use Rattle.om_laws.proofs.SortingLaws.{value_increasing, alternating_equal}
 use Rattle.om_laws.proofs.TupleSizes.{is_tuple_cases, on_tuples_at, on_tuples_off, on_tuples_alternating}
 use Rattle.om_chirotope.specs.Map.{SignMap, chi_of, negated, parity_sign}

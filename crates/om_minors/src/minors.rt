@@ -120,7 +120,7 @@ struct Deletion<'a> {
 impl SignRule for Deletion<'_> {
     ghost use Rattle.std.specs.Prelude.{◌≤◌, ◌-◌};
     ghost use Rattle.om_chirotope.specs.Map.{value_of};
-    ghost use Rattle.om_chirotope.specs.Chirotope.{IsSound};
+    ghost use Rattle.om_chirotope.specs.Chirotope.{IsChirotopeWithinLimits};
     ghost use Rattle.om_laws.specs.Minors.{deletion};
 
     ghost rank = { λ d. d.chi.now.rank };
@@ -129,7 +129,7 @@ impl SignRule for Deletion<'_> {
 
     ghost rule = { λ d. deletion d.e (value_of d.chi.now) };
 
-    ghost valid = { λ d. IsSound d.chi.now × (1 ≤ d.e) × (d.e ≤ d.chi.now.elements) };
+    ghost valid = { λ d. IsChirotopeWithinLimits d.chi.now × (1 ≤ d.e) × (d.e ≤ d.chi.now.elements) };
 
     fn sign(&self, s: Subset) -> Sign {
         self.chi.at(s.skipping(self.e))
@@ -146,7 +146,7 @@ struct Contraction<'a> {
 impl SignRule for Contraction<'_> {
     ghost use Rattle.std.specs.Prelude.{◌≤◌, ◌-◌};
     ghost use Rattle.om_chirotope.specs.Map.{value_of};
-    ghost use Rattle.om_chirotope.specs.Chirotope.{IsSound};
+    ghost use Rattle.om_chirotope.specs.Chirotope.{IsChirotopeWithinLimits};
     ghost use Rattle.om_laws.specs.Minors.{contraction};
 
     ghost rank = { λ c. c.chi.now.rank - 1 };
@@ -155,7 +155,7 @@ impl SignRule for Contraction<'_> {
 
     ghost rule = { λ c. contraction c.e (value_of c.chi.now) };
 
-    ghost valid = { λ c. IsSound c.chi.now × (1 ≤ c.e) × (c.e ≤ c.chi.now.elements) × (1 ≤ c.chi.now.rank) };
+    ghost valid = { λ c. IsChirotopeWithinLimits c.chi.now × (1 ≤ c.e) × (c.e ≤ c.chi.now.elements) × (1 ≤ c.chi.now.rank) };
 
     fn sign(&self, s: Subset) -> Sign {
         let others = s.skipping(self.e);

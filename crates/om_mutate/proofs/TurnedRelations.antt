@@ -23,7 +23,7 @@ use Rattle.om_chirotope.proofs.InOrder.{value_in_order}
 use Rattle.om_chirotope.proofs.Theory.{theory_chirotope}
 use Rattle.om_chirotope.proofs.ThreeTerms.{chirotope_of_test, test_of_chirotope}
 use Rattle.om_wiring.proofs.CrossingOrders.{three_terms}
-use Rattle.om_wiring.proofs.WiringMaps.{swap_last}
+use Rattle.om_wiring.proofs.ListedMaps.{swap_last}
 use Rattle.om_mutate.specs.Mutations.{flipped, IsMutation}
 use Rattle.om_mutate.specs.Turns.{StaysBalanced, StaysBalancedAround, StaysBalancedAt}
 use Rattle.om_mutate.proofs.BalancedOrders.{from_last_two, from_first_third, from_second_last, from_first_last}

@@ -20,7 +20,7 @@ use Rattle.om_laws.proofs.BridgeLaws.{length-as_list}
 use Rattle.om_laws.proofs.BalancedSigns.{balanced_same}
 use Rattle.om_chirotope.specs.Map.{SignMap, chi_of, value_of, cocircuit_vector}
 use Rattle.om_chirotope.proofs.Places.{cocircuit_place}
-use Rattle.om_wiring.proofs.WiringMaps.{swap_last, last_equal}
+use Rattle.om_wiring.proofs.ListedMaps.{swap_last, last_equal}
 use Rattle.om_mutate.specs.Turns.{StaysBalanced, StaysBalancedWith, turned_row}
 
 -- ---- the relations with x and y themselves

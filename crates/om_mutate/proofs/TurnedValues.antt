@@ -20,7 +20,7 @@ use Rattle.om_laws.proofs.TupleLaws.{neighbours_zero, value_alternating}
 use Rattle.om_laws.proofs.TupleSizes.{swap_tuple, triple_is_tuple}
 use Rattle.om_chirotope.specs.Map.{SignMap, IsMap, chi_of, value_of}
 use Rattle.om_chirotope.proofs.Theory.{from_tuple}
-use Rattle.om_wiring.proofs.WiringMaps.{swap_first, swap_last, rotated, first_equal}
+use Rattle.om_wiring.proofs.ListedMaps.{swap_first, swap_last, rotated, first_equal}
 use Rattle.om_mutate.specs.Mutations.{flipped}
 use Rattle.om_mutate.proofs.FlipLaws.{flipped_sign}
 

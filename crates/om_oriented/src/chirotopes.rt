@@ -1,7 +1,7 @@
 //! The covectors of a chirotope.
 
 ghost use Rattle.std.specs.Prelude.{◌≡◌, ◌↔◌, IsTrue, length};
-ghost use Rattle.om_chirotope.specs.Chirotope.{IsSound};
+ghost use Rattle.om_chirotope.specs.Chirotope.{IsChirotopeWithinLimits};
 ghost use Rattle.om_denotation.specs.Covectors.{IsCovectorOfChirotope};
 ghost use Rattle.om_denotation.specs.CovectorLaws.{zero_of_chirotope, negative_of_chirotope};
 ghost use Rattle.om_denotation.proofs.KindLaws.{composition_of_chirotope, elimination_of_chirotope};
@@ -40,7 +40,7 @@ impl Oriented for Chirotope {
 
     ghost elements = { λ m. m.elements };
 
-    ghost valid = { IsSound };
+    ghost valid = { IsChirotopeWithinLimits };
 
     ghost zero = { zero_of_chirotope };
 

@@ -18,12 +18,12 @@ use Rattle.om_chirotope.specs.Chirotope.{IsChirotope}
 use Rattle.om_denotation.specs.Circuits.{IsCircuitOfChirotope, IsCocircuitOfChirotope}
 use Rattle.om_denotation.specs.Painting.{IsFittingCircuit, IsFittingCocircuit}
 use Rattle.om_denotation.proofs.ChirotopeBridge.{circuit_length, cocircuit_length}
-use Rattle.om_denotation.proofs.FamilyLaws.{painting_one}
+use Rattle.om_denotation.proofs.FamilyPaintings.{painting_one}
 use Rattle.om_paint.specs.declared.colour.Colour.{Colour}
 use Rattle.om_paint.specs.declared.colour.Colour.TheVariants.{Black}
 use Rattle.om_paint.specs.Paintings.{shade, colouring, FitsCircuit, FitsCocircuit, IsFirst, IsFirstIfAny}
 use Rattle.om_paint.specs.Classes.{IsAllowed}
-use Rattle.om_paint.proofs.Firsts.{first_same}
+use Rattle.om_paint.proofs.FirstVectors.{first_same}
 use Rattle.om_paint.proofs.Masks.{inside}
 
 -- ---- the masks of a colouring

@@ -21,7 +21,9 @@ use Rattle.om_denotation.specs.Circuits.{IsCircuitOfChirotope, IsCocircuitOfChir
 use Rattle.om_denotation.specs.Covectors.{IsCovectorOfChirotope}
 use Rattle.om_denotation.specs.Painting.{IsFittingCircuit, IsFittingCocircuit}
 use Rattle.om_denotation.proofs.ChirotopeBridge.{circuit_length, cocircuit_length}
-use Rattle.om_denotation.proofs.FamilyLaws.{orthogonal_both, circuit_axioms, painting_one, painting_both}
+use Rattle.om_denotation.proofs.FamilyAxioms.{circuit_axioms}
+use Rattle.om_denotation.proofs.FamilyLaws.{orthogonal_both}
+use Rattle.om_denotation.proofs.FamilyPaintings.{painting_one, painting_both}
 use Rattle.om_signs.specs.declared.limits.TheConstants.{MAX_ELEMENTS}
 use Rattle.om_signs.proofs.ListPlaces.{at-map-opposite}
 use Rattle.om_signs.proofs.SignLaws.{opposite_back, plus_or_minus, minus_or_not, right_nonzero, plus_nonzero}
@@ -33,7 +35,7 @@ use Rattle.om_paint.specs.Paintings.{HasNoMinus, IsFirstIfAny, IsPaintingOf}
 use Rattle.om_paint.specs.Classes.{HasMinusAloneAt}
 use Rattle.om_paint.specs.Hulls.{all_plus, IsPositiveCircuit, IsOnlyMinus, IsExtreme, green_alone, IsCocircuitItem}
 use Rattle.om_paint.specs.Hulls.{EachItem}
-use Rattle.om_paint.proofs.Firsts.{first_same}
+use Rattle.om_paint.proofs.FirstVectors.{first_same}
 use Rattle.om_paint.proofs.Masks.{inside}
 
 pub all_pluses : (n : ℕ) (x : List Sign) → length x ≡ n → ((k : ℕ) → k < n → at x k ≡ Plus) → x ≡ all_plus n

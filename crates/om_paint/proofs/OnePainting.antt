@@ -19,7 +19,7 @@ use Rattle.om_denotation.specs.Painting.{IsFittingCircuit, IsFittingCocircuit}
 use Rattle.om_paint.specs.declared.painted.Painted.{Painted}
 use Rattle.om_paint.specs.declared.painted.Painted.TheVariants.{Circuit, Cocircuit}
 use Rattle.om_paint.specs.Paintings.{IsFirst, IsPaintingOf}
-use Rattle.om_paint.proofs.Firsts.{first_same}
+use Rattle.om_paint.proofs.FirstVectors.{first_same}
 
 -- ---- first members
 

@@ -7,7 +7,7 @@ use Rattle.std.proofs.Common.{inl}
 use Rattle.std.proofs.lemmas.Result.{IfOk-weaker}
 use Rattle.om_signs.specs.declared.limits.TheConstants.{MAX_ELEMENTS}
 use Rattle.om_chirotope.specs.Map.{SignMap}
-use Rattle.om_chirotope.specs.Chirotope.{IsChirotope, IsSound}
+use Rattle.om_chirotope.specs.Chirotope.{IsChirotope, IsChirotopeWithinLimits}
 use Rattle.om_chirotope.proofs.FewValues.{few_of_rank3}
 use Rattle.om_vectors.specs.Realizations.{Realizes}
 use Rattle.om_certificate.specs.declared.verdict.Verdict.{Verdict}
@@ -49,7 +49,7 @@ verdict_decided m b v low high axioms verdict form = record {
 
 -- ---- decisions as answers
 
-pub document_form : (m : SignMap) → m.rank ≡ 3 → IsSound m → IsInForm (chirotope_document m)
+pub document_form : (m : SignMap) → m.rank ≡ 3 → IsChirotopeWithinLimits m → IsInForm (chirotope_document m)
 document_form m three sound = record {
   low = sound.limits.low;
   high = sound.limits.high;

@@ -17,7 +17,7 @@ use Rattle.om_wiring.specs.Maps.{extended}
 use Rattle.om_wiring.proofs.Existence.{one_least}
 use Rattle.om_localize.specs.Extensions.{IsSignature}
 use Rattle.om_localize.proofs.Localizations.{signature_size}
-use Rattle.om_localize.proofs.SearchLaws.{same_lines, same_more}
+use Rattle.om_localize.proofs.FirstMembers.{same_lines, same_more}
 use Rattle.om_mutate.specs.Mutations.{flipped, nth, ListsMutations}
 use Rattle.om_budgets.specs.declared.budgets.Budgets.{Budgets}
 use Rattle.om_decide.proofs.VerdictLaws.{one_verdict}

@@ -12,7 +12,7 @@ use Rattle.std.proofs.lemmas.List.Elements.{All-nil, All-cons, All-head, All-tai
 use Rattle.itoa.proofs.Decimal.{length_wide}
 use Rattle.om_signs.specs.declared.limits.TheConstants.{MAX_INPUT, MAX_PLAIN, MAX_VALUES}
 use Rattle.om_chirotope.specs.Map.{SignMap}
-use Rattle.om_chirotope.specs.Chirotope.{IsSound}
+use Rattle.om_chirotope.specs.Chirotope.{IsChirotopeWithinLimits}
 use Rattle.om_chirotope.proofs.FewValues.{few_of_rank3, most_triples}
 use Rattle.om_simplex.specs.declared.stage.Stage.{Stage}
 use Rattle.om_simplex.specs.declared.stage.Stage.TheVariants as stage
@@ -275,7 +275,8 @@ block_bytes m b (Limit (lp_end.Width s p r c) u) is =
 abbrev MOST_DOCUMENT : ℕ
 MOST_DOCUMENT = 2 * MAX_VALUES + 200
 
-document_bytes : (m : SignMap) → m.rank ≡ 3 → IsSound m → length (printed (chirotope_document m)) ≤ MOST_DOCUMENT
+document_bytes : (m : SignMap) → m.rank ≡ 3 → IsChirotopeWithinLimits m
+    → length (printed (chirotope_document m)) ≤ MOST_DOCUMENT
 document_bytes m three sound =
     let d = chirotope_document m in
     let whole = sound.axioms.whole.whole in

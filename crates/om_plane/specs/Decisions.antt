@@ -1,7 +1,7 @@
 -- Whether vectors realize the oriented matroid of a document: the verdict on its chirotope, within budgets.
 use Rattle.std.specs.Prelude.{◌≡◌, ◌≢◌, IfOk}
 use Rattle.om_chirotope.specs.Map.{SignMap}
-use Rattle.om_chirotope.specs.Chirotope.{IsSound}
+use Rattle.om_chirotope.specs.Chirotope.{IsChirotopeWithinLimits}
 use Rattle.om_certificate.specs.declared.verdict.Verdict.{Verdict}
 use Rattle.om_certificate.specs.Forms.{IsVerdictInForm}
 use Rattle.om_certificate.specs.Validity.{IsValid, Shows}
@@ -19,7 +19,7 @@ use Rattle.om_reply.specs.RankThree.{IsForChirotope}
 -- show that there is no certificate.
 pub record IsDecided (m : SignMap) (b : Budgets) (v : Verdict) : Type 0 where
   pub rank : m.rank ≡ 3
-  pub sound : IsSound m
+  pub sound : IsChirotopeWithinLimits m
   pub verdict : IsVerdictOf m b v
   pub form : IsVerdictInForm v
   pub valid : IfOk (certificate_of v) (IsValid m)

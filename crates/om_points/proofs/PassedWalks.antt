@@ -13,7 +13,8 @@ use Rattle.om_points.specs.Candidates.{IsCandidate, IsNextCandidate}
 use Rattle.om_points.specs.ShortVectors.{Agrees}
 use Rattle.om_points.specs.Turns.{IsChanged}
 use Rattle.om_points.specs.Passes.{Disagrees, IsPassed}
-use Rattle.om_points.proofs.Walks.{IsWalk, length_placing, walk_candidates, walk_turned, walk_more}
+use Rattle.om_points.proofs.WalkedWords.{IsWalk, length_placing, walk_candidates, walk_more}
+use Rattle.om_points.proofs.Walks.{walk_turned}
 
 -- the vectors with another last one
 abbrev pub with_last : List WholeVector → WholeVector → List WholeVector

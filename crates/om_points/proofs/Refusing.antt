@@ -9,21 +9,21 @@ use Rattle.std.proofs.lemmas.Option.{get_or_from_slice_get}
 use Rattle.om_signs.specs.declared.sign.Sign.{Sign}
 use Rattle.om_vectors.specs.WholeVectors.{WholeVector}
 use Rattle.om_points.specs.Forms.{LinearForm, Refuses}
-use Rattle.om_points.specs.Passes.{IsSound, IsUseful}
+use Rattle.om_points.specs.Passes.{RefusesRightly, IsUseful}
 use Rattle.om_points.specs.Refusers.{AreSound, AreUseful}
 use Rattle.om_points.specs.declared.slopes.Slopes.{Slopes}
 use Rattle.om_points.specs.declared.refusers.Refusers.{Refusers}
 
 -- a form that is one of two sound ones is sound
-sound_either : (vs : List WholeVector) (signs : List Sign) (f a b : LinearForm) → IsSound vs signs a
-    → IsSound vs signs b → (f ≡ a) ⊎ (f ≡ b) → IsSound vs signs f
-sound_either vs signs f a b ha hb (inl e) = subst (IsSound vs signs) (sym e) ha
-sound_either vs signs f a b ha hb (inr e) = subst (IsSound vs signs) (sym e) hb
+sound_either : (vs : List WholeVector) (signs : List Sign) (f a b : LinearForm) → RefusesRightly vs signs a
+    → RefusesRightly vs signs b → (f ≡ a) ⊎ (f ≡ b) → RefusesRightly vs signs f
+sound_either vs signs f a b ha hb (inl e) = subst (RefusesRightly vs signs) (sym e) ha
+sound_either vs signs f a b ha hb (inr e) = subst (RefusesRightly vs signs) (sym e) hb
 
 -- a form that refuses only what one of two sound ones refuses is sound
-pub sound_sum : (vs : List WholeVector) (signs : List Sign) (f a b : LinearForm) → IsSound vs signs a
-    → IsSound vs signs b → ((v : WholeVector) → Refuses f v → (Refuses a v → ⊥) → (Refuses b v → ⊥) → ⊥)
-    → IsSound vs signs f
+pub sound_sum : (vs : List WholeVector) (signs : List Sign) (f a b : LinearForm) → RefusesRightly vs signs a
+    → RefusesRightly vs signs b → ((v : WholeVector) → Refuses f v → (Refuses a v → ⊥) → (Refuses b v → ⊥) → ⊥)
+    → RefusesRightly vs signs f
 sound_sum vs signs f a b ha hb h v r agrees = h v r (λ t. ha v t agrees) (λ t. hb v t agrees)
 
 -- forms with one more, or not
@@ -53,11 +53,12 @@ useful_at vs signs forms i f l h e =
 
 -- the refusers after a sound form is taken
 pub sound_taken : (vs : List WholeVector) (signs : List Sign) (old new : Refusers) (f : LinearForm)
-    → AreSound vs signs old → IsSound vs signs f → (new.right ≡ old.right) ⊎ (new.right ≡ f) → (new.left ≡ old.left)
+    → AreSound vs signs old → RefusesRightly vs signs f → (new.right ≡ old.right) ⊎ (new.right ≡ f)
+    → (new.left ≡ old.left)
     ⊎ (new.left ≡ f) → (new.against ≡ old.against) ⊎ (new.against ≡ f) → new.held ≡ old.held → AreSound vs signs new
 sound_taken vs signs old new f h u r l a d = record {
   right = sound_either vs signs new.right old.right f h.right u r;
   left = sound_either vs signs new.left old.left f h.left u l;
   against = sound_either vs signs new.against old.against f h.against u a;
-  held = subst (IsSound vs signs) (sym d) h.held;
+  held = subst (RefusesRightly vs signs) (sym d) h.held;
 }

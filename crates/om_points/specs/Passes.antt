@@ -15,13 +15,13 @@ Disagrees vs signs k v =
     ≡ get_or signs (sign_place p q k) Zero) → ⊥
 
 -- the form refuses only vectors without the required signs in place of the last one
-abbrev pub IsSound : List WholeVector → List Sign → LinearForm → Type 0
-IsSound vs signs f = (v : WholeVector) → Refuses f v → Disagrees vs signs (length vs - 1) v
+abbrev pub RefusesRightly : List WholeVector → List Sign → LinearForm → Type 0
+RefusesRightly vs signs f = (v : WholeVector) → Refuses f v → Disagrees vs signs (length vs - 1) v
 
 -- the same holds, and the coefficients of the form are minors
 pub record IsUseful (vs : List WholeVector) (signs : List Sign) (f : LinearForm) : Type 0 where
   pub minors : AreMinors f
-  pub sound : IsSound vs signs f
+  pub sound : RefusesRightly vs signs f
 
 -- u is the candidate n places after v, and R holds of the candidates from v up to u, excluded
 unfoldable pub IsPassed : ℕ → (WholeVector → Type 0) → WholeVector → ℕ → WholeVector → Type 0

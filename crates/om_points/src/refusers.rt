@@ -2,7 +2,7 @@
 
 ghost use Rattle.std.specs.Prelude.{◌≡◌, ◌≤◌, ◌<◌, ◌-◌, ◌⊎◌, length, IfSome};
 ghost use Rattle.om_points.specs.Forms.{Refuses};
-ghost use Rattle.om_points.specs.Passes.{IsSound, IsUseful};
+ghost use Rattle.om_points.specs.Passes.{RefusesRightly, IsUseful};
 ghost use Rattle.om_points.specs.Refusers.{AreSound, AreUseful};
 
 use super::agreement::sign_wanted;
@@ -85,7 +85,7 @@ impl Refusers {
         requires sound { AreSound placing.now wanted.now self.old }
         ensures still { AreSound placing.now wanted.now self.new }
         ensures refuses { IfSome result (λ f. Refuses f vector) }
-        ensures sound { IfSome result (IsSound placing.now wanted.now) }
+        ensures sound { IfSome result (RefusesRightly placing.now wanted.now) }
     {
         if self.right.refuses(vector) {
             return Some(self.right);
@@ -110,7 +110,7 @@ fn refusing(placing: &Placing, wanted: &[Sign], vector: ShortVector) -> Option<F
     requires some { 1 ≤ length placing.now }
     requires wanted { length wanted.now ≡ SIGNS }
     ensures refuses { IfSome result (λ f. Refuses f vector) }
-    ensures sound { IfSome result (IsSound placing.now wanted.now) }
+    ensures sound { IfSome result (RefusesRightly placing.now wanted.now) }
 {
     let last = placing.len() - 1;
     for q in 0..last {

@@ -13,7 +13,7 @@ use Rattle.om_signs.specs.declared.sign.Sign.TheVariants.{Minus, Zero, Plus}
 use Rattle.om_signs.specs.Sign.{opposite, first_nonzero, is_plus, is_minus}
 use Rattle.om_signs.specs.declared.limits.TheConstants.{MAX_PLACES}
 use Rattle.om_signs.specs.SignVec.{at, compose, flip}
-use Rattle.om_signs.specs.Masks.{signs_of, IsSound}
+use Rattle.om_signs.specs.Masks.{signs_of, AreSignMasks}
 use Rattle.om_signs.proofs.Bits.{bit_at_and_not}
 use Rattle.om_signs.proofs.Views.{Stands, length_is, shows, stands, fits_32}
 use Rattle.om_signs.proofs.ListPlaces.{at-compose, length-compose, at-map-opposite, at-replicate, at-flip_from}
@@ -33,7 +33,7 @@ pub zero_made : (n : ℕ) → 1 ≤ n → n ≤ MAX_PLACES → Stands 0 0 n (rep
 zero_made n low high = stands 0 0 n _ low high (length-replicate n Zero) (λ i.
     rw (at-replicate n i) (bit_at-zero i, bit_at-zero i))
 
-pub neg_made : (p m n : ℕ) (xs : List Sign) → IsSound p m n → signs_of p m n ≡ xs → Stands m p n (map opposite xs)
+pub neg_made : (p m n : ℕ) (xs : List Sign) → AreSignMasks p m n → signs_of p m n ≡ xs → Stands m p n (map opposite xs)
 neg_made p m n xs h e = stands m p n _ h.low h.high (length-map xs opposite ∙ length_is p m n xs e) (λ i.
     let f = shows p m n xs h e i in
     rw (at-map-opposite xs i) (f.1 ∙ plus_of_opposite (at xs i), f.0 ∙ minus_of_opposite (at xs i)))
@@ -60,7 +60,8 @@ composed_minus Plus Minus = refl
 composed_minus Plus Zero = refl
 composed_minus Plus Plus = refl
 
-pub compose_made : (p m n p' m' n' : ℕ) (xs ys : List Sign) → IsSound p m n → signs_of p m n ≡ xs → IsSound p' m' n'
+pub compose_made : (p m n p' m' n' : ℕ) (xs ys : List Sign) → AreSignMasks p m n → signs_of p m n ≡ xs
+    → AreSignMasks p' m' n'
     → signs_of p' m' n' ≡ ys → length xs ≡ length ys
     → Stands (bit_or p (bit_and p' (4294967295 - m))) (bit_or m (bit_and m' (4294967295 - p))) n (compose xs ys)
 compose_made p m n p' m' n' xs ys h e h' e' same =
@@ -96,7 +97,8 @@ flipped_minus (suc zero) Zero l = refl
 flipped_minus (suc zero) Plus l = refl
 flipped_minus (suc (suc b)) s l = absurd (omega arith)
 
-pub flip_made : (p m n : ℕ) (xs : List Sign) (mask : ℕ) → IsSound p m n → signs_of p m n ≡ xs → mask < 2 ^ length xs
+pub flip_made : (p m n : ℕ) (xs : List Sign) (mask : ℕ) → AreSignMasks p m n → signs_of p m n ≡ xs
+    → mask < 2 ^ length xs
     → Stands (bit_or (bit_and p (4294967295 - mask)) (bit_and m mask))
     (bit_or (bit_and m (4294967295 - mask)) (bit_and p mask)) n (flip mask xs)
 flip_made p m n xs mask h v lt =

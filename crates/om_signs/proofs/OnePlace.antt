@@ -18,25 +18,25 @@ use Rattle.om_signs.specs.declared.sign.Sign.{Sign}
 use Rattle.om_signs.specs.declared.sign.Sign.TheVariants.{Minus, Zero, Plus}
 use Rattle.om_signs.specs.Sign.{is_plus, is_minus}
 use Rattle.om_signs.specs.SignVec.{at}
-use Rattle.om_signs.specs.Masks.{signs_of, IsSound}
+use Rattle.om_signs.specs.Masks.{signs_of, AreSignMasks}
 use Rattle.om_signs.proofs.Views.{Stands, length_is, shows, stands, fits_32, from_plus_bit, from_minus_bit}
 use Rattle.om_signs.proofs.Bits.{bit_at_and_not, one_shl_32, bit_from_test, no_bit_from_test}
 
-pub get_plus : (p m n : ℕ) (xs : List Sign) (e : ℕ) → IsSound p m n → signs_of p m n ≡ xs → e ≤ length xs
+pub get_plus : (p m n : ℕ) (xs : List Sign) (e : ℕ) → AreSignMasks p m n → signs_of p m n ≡ xs → e ≤ length xs
     → bit_and p (1 * 2 ^ (e - 1) % 4294967296) ≢ 0 → Plus ≡ at xs (e - 1)
 get_plus p m n xs e h v le t =
     let k : e - 1 < 32 = let l = length_is p m n xs v in let b = h.high in omega arith in
     let t' : bit_and p (2 ^ (e - 1)) ≢ 0 = rw one_shl_32 at t in
     sym (from_plus_bit (at xs (e - 1)) (sym ((shows p m n xs h v (e - 1)).0) ∙ bit_from_test p (e - 1) t'))
 
-pub get_minus : (p m n : ℕ) (xs : List Sign) (e : ℕ) → IsSound p m n → signs_of p m n ≡ xs → e ≤ length xs
+pub get_minus : (p m n : ℕ) (xs : List Sign) (e : ℕ) → AreSignMasks p m n → signs_of p m n ≡ xs → e ≤ length xs
     → bit_and m (1 * 2 ^ (e - 1) % 4294967296) ≢ 0 → Minus ≡ at xs (e - 1)
 get_minus p m n xs e h v le t =
     let k : e - 1 < 32 = let l = length_is p m n xs v in let b = h.high in omega arith in
     let t' : bit_and m (2 ^ (e - 1)) ≢ 0 = rw one_shl_32 at t in
     sym (from_minus_bit (at xs (e - 1)) (sym ((shows p m n xs h v (e - 1)).1) ∙ bit_from_test m (e - 1) t'))
 
-pub get_zero : (p m n : ℕ) (xs : List Sign) (e : ℕ) → IsSound p m n → signs_of p m n ≡ xs → e ≤ length xs
+pub get_zero : (p m n : ℕ) (xs : List Sign) (e : ℕ) → AreSignMasks p m n → signs_of p m n ≡ xs → e ≤ length xs
     → bit_and p (1 * 2 ^ (e - 1) % 4294967296) ≡ 0 → bit_and m (1 * 2 ^ (e - 1) % 4294967296) ≡ 0 → Zero ≡ at xs (e - 1)
 get_zero p m n xs e h v le t u =
     let k : e - 1 < 32 = let l = length_is p m n xs v in let b = h.high in omega arith in
@@ -73,7 +73,8 @@ bit_put_same p k b lp lk lb = rw (one_shl_32 k lk)
     bit_high (suc zero) l = rw (one_shl_32 k lk) (bit_at-pow_same k)
     bit_high (suc (suc b)) l = absurd (omega arith)
 
-pub set_made : (p m n : ℕ) (xs : List Sign) (k : ℕ) (s : Sign) → IsSound p m n → signs_of p m n ≡ xs → k < length xs
+pub set_made : (p m n : ℕ) (xs : List Sign) (k : ℕ) (s : Sign) → AreSignMasks p m n → signs_of p m n ≡ xs
+    → k < length xs
     → Stands (bit_or (bit_and p (4294967295 - 1 * 2 ^ k % 4294967296)) (is_plus s * 2 ^ k % 4294967296))
     (bit_or (bit_and m (4294967295 - 1 * 2 ^ k % 4294967296)) (is_minus s * 2 ^ k % 4294967296)) n (set xs k s)
 set_made p m n xs k s h v lt =
@@ -122,7 +123,7 @@ drop_above p k i lp lk ge = rw (one_shl_32 k lk)
     )
     (rw add-one (let l = bit_at-lt p (suc i) in omega arith)))
 
-pub drop_made : (p m n : ℕ) (xs : List Sign) (k : ℕ) → IsSound p m n → signs_of p m n ≡ xs → k < length xs
+pub drop_made : (p m n : ℕ) (xs : List Sign) (k : ℕ) → AreSignMasks p m n → signs_of p m n ≡ xs → k < length xs
     → 2 ≤ length xs
     → Stands (bit_or (bit_and p (1 * 2 ^ k % 4294967296 - 1))
     (bit_and (p / 2) (4294967295 - (1 * 2 ^ k % 4294967296 - 1))))

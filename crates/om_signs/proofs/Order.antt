@@ -14,7 +14,7 @@ use Rattle.std.proofs.lemmas.Nat.Bits.{bit_at-zero, bit_at-lt, bit_at_or, bit_at
 use Rattle.om_signs.specs.declared.sign.Sign.{Sign}
 use Rattle.om_signs.specs.Sign.{is_plus, is_minus}
 use Rattle.om_signs.specs.SignVec.{at, at_element}
-use Rattle.om_signs.specs.Masks.{signs_of, IsSound}
+use Rattle.om_signs.specs.Masks.{signs_of, AreSignMasks}
 use Rattle.om_signs.specs.Order.{sign_order, lexicographic}
 use Rattle.om_signs.specs.OrderLaws.{sign_order-total, same_sign, sign_from_bits}
 use Rattle.om_signs.proofs.Views.{Shows, shows, length_is, fits_32}
@@ -110,13 +110,14 @@ set_at_lowest d fits lt = elim (cases_eq d 0) [
   | inr n ↦ (bit_at-trailing_zeros w32 d (omega arith) fits).1
 ]
 
-differing_fits : (p m n p' m' n' : ℕ) → IsSound p m n → IsSound p' m' n' → differing p m p' m' < 2 ^ 32
+differing_fits : (p m n p' m' n' : ℕ) → AreSignMasks p m n → AreSignMasks p' m' n' → differing p m p' m' < 2 ^ 32
 differing_fits p m n p' m' n' h h' = or_lt 32 (bit_xor p p') (bit_xor m m')
     (xor_lt 32 p p' (fits_32 p n h.high h.plus_within) (fits_32 p' n' h'.high h'.plus_within))
     (xor_lt 32 m m' (fits_32 m n h.high h.minus_within) (fits_32 m' n' h'.high h'.minus_within))
 
 -- a lowest place that both vectors have
-pub order_here : (p m n p' m' n' : ℕ) (xs ys : List Sign) → IsSound p m n → signs_of p m n ≡ xs → IsSound p' m' n'
+pub order_here : (p m n p' m' n' : ℕ) (xs ys : List Sign) → AreSignMasks p m n → signs_of p m n ≡ xs
+    → AreSignMasks p' m' n'
     → signs_of p' m' n' ≡ ys → trailing_zeros w32 (differing p m p' m') < min n n'
     → lexicographic xs ys ≡ sign_order (at xs (trailing_zeros w32 (differing p m p' m')))
     (at ys (trailing_zeros w32 (differing p m p' m')))
@@ -132,7 +133,8 @@ order_here p m n p' m' n' xs ys h v h' v' lt =
     (differ_here p m p' m' xs ys _ f f' (set_at_lowest (differing p m p' m') fits (omega arith)))
 
 -- no such place
-pub order_of_lengths : (p m n p' m' n' : ℕ) (xs ys : List Sign) → IsSound p m n → signs_of p m n ≡ xs → IsSound p' m' n'
+pub order_of_lengths : (p m n p' m' n' : ℕ) (xs ys : List Sign) → AreSignMasks p m n → signs_of p m n ≡ xs
+    → AreSignMasks p' m' n'
     → signs_of p' m' n' ≡ ys → min n n' ≤ trailing_zeros w32 (differing p m p' m') → lexicographic xs ys ≡ nat_cmp n n'
 order_of_lengths p m n p' m' n' xs ys h v h' v' ge =
     let f = shows p m n xs h v in

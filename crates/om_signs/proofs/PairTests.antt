@@ -14,7 +14,7 @@ use Rattle.om_signs.specs.declared.sign.Sign.{Sign}
 use Rattle.om_signs.specs.declared.sign.Sign.TheVariants.{Minus, Zero, Plus}
 use Rattle.om_signs.specs.Sign.{product, is_plus, is_minus}
 use Rattle.om_signs.specs.SignVec.{at, HasProduct, IsOrthogonal, IsConformal, IsInSupport, IsSeparated, IsMaskOf}
-use Rattle.om_signs.specs.Masks.{signs_of, IsSound}
+use Rattle.om_signs.specs.Masks.{signs_of, AreSignMasks}
 use Rattle.om_signs.proofs.Bits.{bit_at_and_not, some_bit, nonzero_from_bit}
 use Rattle.std.proofs.lemmas.Nat.{or_lt}
 use Rattle.om_signs.proofs.Views.{Shows, length_is, shows, fits_32, from_plus_bit, from_minus_bit}
@@ -55,7 +55,8 @@ bit_apart p m p' m' xs ys f f' i =
     (apart_minus (at xs i) (at ys i))
 
 -- a mask whose bits are those of a test of the products
-pub separation_made : (p m n p' m' n' : ℕ) (xs ys : List Sign) → IsSound p m n → signs_of p m n ≡ xs → IsSound p' m' n'
+pub separation_made : (p m n p' m' n' : ℕ) (xs ys : List Sign) → AreSignMasks p m n → signs_of p m n ≡ xs
+    → AreSignMasks p' m' n'
     → signs_of p' m' n' ≡ ys → length xs ≡ length ys
     → IsMaskOf (length xs) (IsSeparated xs ys) (bit_or (bit_and p m') (bit_and m p'))
 separation_made p m n p' m' n' xs ys h v h' v' same =
@@ -76,7 +77,7 @@ support_bit Minus = (λ _ e. cc, λ _. refl)
 support_bit Zero = (λ e. cc, λ n. absurd (n refl))
 support_bit Plus = (λ _ e. cc, λ _. refl)
 
-pub support_made : (p m n : ℕ) (xs : List Sign) → IsSound p m n → signs_of p m n ≡ xs
+pub support_made : (p m n : ℕ) (xs : List Sign) → AreSignMasks p m n → signs_of p m n ≡ xs
     → IsMaskOf (length xs) (IsInSupport xs) (bit_or p m)
 support_made p m n xs h v =
     let f = shows p m n xs h v in
@@ -86,7 +87,8 @@ support_made p m n xs h v =
     }
 
 -- the test that `orthogonal` makes of its two masks
-pub orthogonal_test : (p m n p' m' n' : ℕ) (xs ys : List Sign) → IsSound p m n → signs_of p m n ≡ xs → IsSound p' m' n'
+pub orthogonal_test : (p m n p' m' n' : ℕ) (xs ys : List Sign) → AreSignMasks p m n → signs_of p m n ≡ xs
+    → AreSignMasks p' m' n'
     → signs_of p' m' n' ≡ ys
     → IsTrue (beq (nat_eq (bit_or (bit_and p p') (bit_and m m')) 0) (nat_eq (bit_or (bit_and p m') (bit_and m p')) 0))
     ↔ IsOrthogonal xs ys
@@ -130,7 +132,8 @@ outside Plus Minus = (λ e. cc, λ h. cc (h (λ e. cc)))
 outside Plus Zero = (λ e. cc, λ h. cc (h (λ e. cc)))
 outside Plus Plus = (λ _ _. refl, λ _. refl)
 
-pub conforms_test : (p m n p' m' n' : ℕ) (xs ys : List Sign) → IsSound p m n → signs_of p m n ≡ xs → IsSound p' m' n'
+pub conforms_test : (p m n p' m' n' : ℕ) (xs ys : List Sign) → AreSignMasks p m n → signs_of p m n ≡ xs
+    → AreSignMasks p' m' n'
     → signs_of p' m' n' ≡ ys → IsTrue (nat_eq (bit_or (bit_and p (4294967295 - p')) (bit_and m (4294967295 - m'))) 0)
     ↔ IsConformal xs ys
 conforms_test p m n p' m' n' xs ys h v h' v' = (

@@ -18,7 +18,8 @@ use Rattle.om_signs.specs.declared.sign.Sign.TheVariants.{Minus, Zero, Plus}
 use Rattle.om_signs.specs.Sign.{is_plus, is_minus}
 use Rattle.om_signs.specs.declared.limits.TheConstants.{MAX_PLACES}
 use Rattle.om_signs.specs.SignVec.{at}
-use Rattle.om_signs.specs.Masks.{sign_of, sign_at, signs_of, IsSound, get_or-signs_of, length-signs_of, is_plus-sign_of}
+use Rattle.om_signs.specs.Masks.{sign_of, sign_at, signs_of, AreSignMasks, get_or-signs_of, length-signs_of}
+use Rattle.om_signs.specs.Masks.{is_plus-sign_of}
 use Rattle.om_signs.specs.Masks.{is_minus-sign_of, bit_at-apart}
 use Rattle.om_signs.proofs.Bits.{lt_from_bits}
 
@@ -27,13 +28,13 @@ abbrev pub Shows : ℕ → ℕ → List Sign → Type 0
 Shows p m xs = (i : ℕ) → (bit_at p i ≡ is_plus (at xs i)) × (bit_at m i ≡ is_minus (at xs i))
 
 pub record Stands (p m n : ℕ) (xs : List Sign) : Type 0 where
-  pub sound : IsSound p m n
+  pub sound : AreSignMasks p m n
   pub view : signs_of p m n ≡ xs
 
 pub length_is : (p m n : ℕ) (xs : List Sign) → signs_of p m n ≡ xs → length xs ≡ n
 length_is p m n xs e = sym (ap length e) ∙ length-signs_of p m n
 
-pub shows : (p m n : ℕ) (xs : List Sign) → IsSound p m n → signs_of p m n ≡ xs → Shows p m xs
+pub shows : (p m n : ℕ) (xs : List Sign) → AreSignMasks p m n → signs_of p m n ≡ xs → Shows p m xs
 shows p m n xs h e i = rw (← e) (elim (cases_lt i n) [
   | inl lt ↦ rw (get_or-signs_of p m n i lt) (
     sym (is_plus-sign_of (bit_at p i) (bit_at m i) (bit_at-lt p i)),
@@ -91,7 +92,7 @@ pub record Back (p m n : ℕ) (xs : List Sign) : Type 0 where
   pub minus : minus_mask xs ≡ m
   pub len : length xs ≡ n
 
-pub masks_back : (p m n : ℕ) (xs : List Sign) → IsSound p m n → signs_of p m n ≡ xs → Back p m n xs
+pub masks_back : (p m n : ℕ) (xs : List Sign) → AreSignMasks p m n → signs_of p m n ≡ xs → Back p m n xs
 masks_back p m n xs h v =
     rw (← v) (record {
       plus = plus_mask-signs_of p m n h;

@@ -1,6 +1,6 @@
 -- What two masks stand for: the places with a plus, and the places with a minus.
 --
--- Main definitions: sign_of, signs_of, plus_mask, minus_mask, IsSound
+-- Main definitions: sign_of, signs_of, plus_mask, minus_mask, AreSignMasks
 -- Main results: plus_mask-signs_of, minus_mask-signs_of
 use Rattle.std.specs.Prelude.{ℕ, ◌≡◌, ◌+◌, ◌*◌, ◌/◌, ◌<◌, ◌≤◌, ◌^◌, List, [], ◌∷◌, length, bit_and, map, refl}
 use Rattle.std.specs.Int.{bit_at}
@@ -44,7 +44,7 @@ abbrev pub minus_mask : List Sign → ℕ
 minus_mask = mask_by is_minus
 
 -- a length within the limit, and masks without a common place and without a place beyond the length
-pub record IsSound (plus minus n : ℕ) : Type 0 where
+pub record AreSignMasks (plus minus n : ℕ) : Type 0 where
   pub low : 1 ≤ n
   pub high : n ≤ MAX_PLACES
   pub plus_within : plus < 2 ^ n
@@ -90,7 +90,7 @@ length-signs_of p m n = length-map-range_with_len (sign_at p m) 0 n
 pub bit_at-apart : (p m i : ℕ) → bit_and p m ≡ 0 → min (bit_at p i) (bit_at m i) ≡ 0
 bit_at-apart p m i h = sym (bit_at_and p m i) ∙ ap (λ k. bit_at k i) h ∙ bit_at-zero i
 
-pub plus_mask-signs_of : (p m n : ℕ) → IsSound p m n → plus_mask (signs_of p m n) ≡ p
+pub plus_mask-signs_of : (p m n : ℕ) → AreSignMasks p m n → plus_mask (signs_of p m n) ≡ p
 plus_mask-signs_of p m n h = same_from_bits _ _ (λ i. bit_at-mask_by is_plus is_plus-lt refl _ i ∙ each i)
   where
     each : (i : ℕ) → is_plus (get_or (signs_of p m n) i Zero) ≡ bit_at p i
@@ -100,7 +100,7 @@ plus_mask-signs_of p m n h = same_from_bits _ _ (λ i. bit_at-mask_by is_plus is
           rw (get_or_past (signs_of p m n) i Zero e) (sym (bit_at_above p n i h.plus_within ge))
     ]
 
-pub minus_mask-signs_of : (p m n : ℕ) → IsSound p m n → minus_mask (signs_of p m n) ≡ m
+pub minus_mask-signs_of : (p m n : ℕ) → AreSignMasks p m n → minus_mask (signs_of p m n) ≡ m
 minus_mask-signs_of p m n h = same_from_bits _ _ (λ i. bit_at-mask_by is_minus is_minus-lt refl _ i ∙ each i)
   where
     each : (i : ℕ) → is_minus (get_or (signs_of p m n) i Zero) ≡ bit_at m i

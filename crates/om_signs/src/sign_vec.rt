@@ -33,11 +33,11 @@ impl Model for SignVec {
 
     ghost use Rattle.std.specs.Prelude.{◌≡◌, ◌<◌, ◌≤◌, ◌^◌, bit_and, length};
     ghost use Rattle.om_signs.specs.Masks.{signs_of, plus_mask, minus_mask, plus_mask-signs_of, minus_mask-signs_of};
-    ghost use Rattle.om_signs.specs.Masks.{IsSound};
+    ghost use Rattle.om_signs.specs.Masks.{AreSignMasks};
 
     ghost view = { λ v. signs_of v.plus v.minus v.len };
 
-    ghost invariant = { λ v. IsSound v.plus v.minus v.len };
+    ghost invariant = { λ v. AreSignMasks v.plus v.minus v.len };
 
     ghost inverse = { λ xs. record { plus = plus_mask xs; minus = minus_mask xs; len = length xs } };
 

@@ -11,7 +11,9 @@ pub mod Lowest
 pub mod Masks
 pub mod Statements
 pub mod Triples
+pub mod ReversePlaces
 pub mod Reverse
+pub mod ReverseSets
 pub mod Relations
 pub mod Firsts
 pub mod Shorter

@@ -9,7 +9,7 @@ use Rattle.std.specs.Int.{bit_at}
 use Rattle.std.proofs.Math.Nat.{pow-succ'}
 use Rattle.om_signs.specs.SignVec.{IsMaskOf}
 use Rattle.om_subsets.specs.Subsets.{IsSubsetFrom, IsMember}
-use Rattle.om_subsets.specs.Members.{Chosen, IsSound, members, mask_of, mask_of-members, begins_with, tail}
+use Rattle.om_subsets.specs.Members.{Chosen, IsSubsetMask, members, mask_of, mask_of-members, begins_with, tail}
 use Rattle.om_subsets.proofs.Edits.{member_bit}
 
 pub mask_of-lt : (e m : ℕ) (xs : List ℕ) → mask_of e xs m < 2 ^ m
@@ -52,7 +52,7 @@ pub record IsBack (mask n : ℕ) (v : Chosen) : Type 0 where
   pub mask_is : mask_of 1 v.elements v.n ≡ mask
   pub n_is : v.n ≡ n
 
-pub parts_back : (mask n : ℕ) (v : Chosen) → IsSound mask n → record { n = n; elements = members mask 1 n } ≡ v
+pub parts_back : (mask n : ℕ) (v : Chosen) → IsSubsetMask mask n → record { n = n; elements = members mask 1 n } ≡ v
     → IsBack mask n v
 parts_back mask n v s e = record {
   mask_is = sym (ap (λ w. mask_of 1 w.elements w.n) e) ∙ mask_of-members mask 1 n s.within;

@@ -202,7 +202,8 @@ from_increasing low (suc m) (x ∷ xs) h w = elim (cases_eq x low) [
       inr (
         n,
         from_increasing (low + 1) m (x ∷ xs) h
-            (λ f q. let b = w f q in let start = (w x (inl refl)).0 in let above = later f q in (omega arith, omega arith)),
+            (λ f q. let b = w f q in let start = (w x (inl refl)).0 in let above = later f q in
+            (omega arith, omega arith)),
       )
 ]
   where

@@ -32,7 +32,7 @@ mask_of e xs zero = 0
 mask_of e xs (suc m) = cond (begins_with e xs) (1 + 2 * mask_of (e + 1) (tail xs) m) (2 * mask_of (e + 1) xs m)
 
 -- a mask of bits for the numbers 1 to n
-pub record IsSound (mask n : ℕ) : Type 0 where
+pub record IsSubsetMask (mask n : ℕ) : Type 0 where
   pub within : mask < 2 ^ n
   pub few : n ≤ MAX_PLACES
 

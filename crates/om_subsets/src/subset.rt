@@ -21,13 +21,13 @@ pub struct Subset {
 
 impl Model for Subset {
     ghost use Rattle.std.specs.Prelude.{◌<◌, ◌^◌};
-    ghost use Rattle.om_subsets.specs.Members.{Chosen, IsSound, members, mask_of, mask_of-members};
+    ghost use Rattle.om_subsets.specs.Members.{Chosen, IsSubsetMask, members, mask_of, mask_of-members};
 
     ghost Value = { Chosen };
 
     ghost view = { λ s. record { n = s.n; elements = members s.mask 1 s.n } };
 
-    ghost invariant = { λ s. IsSound s.mask s.n };
+    ghost invariant = { λ s. IsSubsetMask s.mask s.n };
 
     ghost inverse = { λ v. record { mask = mask_of 1 v.elements v.n; n = v.n } };
 

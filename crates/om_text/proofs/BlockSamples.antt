@@ -38,7 +38,8 @@ three : IsDocument three_lines
     (record {
       elements = 3;
       body =
-          Wiring (record { first = 1; last = 2 } ∷ record { first = 2; last = 3 } ∷ record { first = 1; last = 2 } ∷ []);
+          Wiring (record { first = 1; last = 2 } ∷ record { first = 2; last = 3 } ∷ record { first = 1; last = 2 } ∷
+          []);
       names = [];
     })
 three = document_from three_lines _ refl

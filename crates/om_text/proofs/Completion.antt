@@ -33,7 +33,8 @@ use Rattle.om_text.specs.Points.{point_on}
 use Rattle.om_text.specs.Reading.{step, takes_settings, finished_draft, added}
 use Rattle.om_text.proofs.Feeds.{is_one_line}
 use Rattle.om_text.proofs.Filling.{signs_not_end}
-use Rattle.om_text.proofs.Course.{Shows, run_words}
+use Rattle.om_text.proofs.SettingSteps.{Shows}
+use Rattle.om_text.proofs.Course.{run_words}
 use Rattle.om_text.proofs.Language.{bind}
 
 -- ---- maps

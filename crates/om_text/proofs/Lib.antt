@@ -3,6 +3,9 @@ pub mod Filling
 pub mod SettingLines
 pub mod NameForms
 pub mod RevlexValues
+pub mod SettingSteps
+pub mod CourseSteps
+pub mod StepErrors
 pub mod Course
 pub mod Completion
 pub mod Outcome
@@ -11,6 +14,9 @@ pub mod Digits
 pub mod BlockWords
 pub mod BodyLines
 pub mod Coordinates
+pub mod DocumentEnds
+pub mod ReadLines
+pub mod OneDocument
 pub mod Part
 pub mod Numbers
 pub mod Forms

@@ -9,7 +9,7 @@ use Rattle.om_signs.specs.declared.sign.Sign.TheVariants.{Zero}
 use Rattle.om_subsets.specs.Subsets.{choose, all_subsets, subset_at, rank_of}
 use Rattle.om_subsets.specs.Reverse.{revlex_subsets, revlex_subset_at, revlex_rank_of}
 use Rattle.om_subsets.proofs.Order.{length-subsets_from, listed}
-use Rattle.om_subsets.proofs.Reverse.{length-revlex_subsets, reverse_small, at_reverse_rank}
+use Rattle.om_subsets.proofs.ReversePlaces.{length-revlex_subsets, reverse_small, at_reverse_rank}
 use Rattle.om_text.specs.Settings.{values_from_revlex}
 use Rattle.om_text.specs.PrintTwo.{values_in_revlex}
 

@@ -23,7 +23,10 @@ use Rattle.om_text.specs.Reading.{step, advance, value_of, outcome}
 use Rattle.om_text.specs.Form.{IsInForm}
 use Rattle.om_text.proofs.Forms.{document_form}
 use Rattle.om_text.proofs.Feeds.{is_one_line, lines_text, lines_one_line, one_line-take, one_line-append}
-use Rattle.om_text.proofs.Course.{Shows, run_words, spelled_run, step_shows, step_error}
+use Rattle.om_text.proofs.SettingSteps.{Shows}
+use Rattle.om_text.proofs.CourseSteps.{step_shows}
+use Rattle.om_text.proofs.StepErrors.{step_error}
+use Rattle.om_text.proofs.Course.{run_words, spelled_run}
 use Rattle.om_text.proofs.Completion as completions
 use Rattle.om_text.proofs.Language.{IsCompletion, run_shows, run-append, run_line, run_value, begins_run}
 use Rattle.om_text.proofs.Language.{outcome_passes, value_outcome, outcome_value, outcome_fault, fault_outcome}

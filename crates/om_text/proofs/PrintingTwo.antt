@@ -17,7 +17,7 @@ use Rattle.om_signs.specs.declared.sign.Sign.{Sign}
 use Rattle.om_signs.specs.declared.sign.Sign.TheVariants.{Zero}
 use Rattle.om_subsets.specs.Subsets.{choose, rank_of}
 use Rattle.om_subsets.specs.Reverse.{revlex_subsets, revlex_subset_at}
-use Rattle.om_subsets.proofs.Reverse.{length-revlex_subsets}
+use Rattle.om_subsets.proofs.ReversePlaces.{length-revlex_subsets}
 use Rattle.om_text.specs.declared.document.Document.{Document}
 use Rattle.om_text.specs.Words.{byte_of}
 use Rattle.om_text.specs.Print.{text_of, sign_lines, member_lines, spaced, kind_text}

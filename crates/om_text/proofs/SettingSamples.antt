@@ -76,7 +76,8 @@ halved : IsDocument halved_lines
     (record {
       elements = 2;
       body =
-          Circuits ((Plus ∷ Minus ∷ []) ∷ (Minus ∷ Plus ∷ []) ∷ (Zero ∷ Zero ∷ []) ∷ (Zero ∷ Plus ∷ []) ∷ (Zero ∷ Minus ∷ [])
+          Circuits ((Plus ∷ Minus ∷ []) ∷ (Minus ∷ Plus ∷ []) ∷ (Zero ∷ Zero ∷ []) ∷ (Zero ∷ Plus ∷ []) ∷ (Zero ∷ Minus
+          ∷ [])
           ∷ []);
       names = [];
     })

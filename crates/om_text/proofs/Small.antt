@@ -31,7 +31,9 @@ use Rattle.om_text.specs.Reading.{with_setting, after_choice, after_setting, aft
 use Rattle.om_text.specs.Reading.{added, added_body}
 use Rattle.om_text.specs.Steps.{step_if}
 use Rattle.om_text.specs.ReaderParts.{IsDocumentInRange, IsBodyInRange, IsStateInRange}
-use Rattle.om_text.proofs.Course.{cond_ok, cond_err, heading_ok, named, taken}
+use Rattle.om_text.proofs.SettingSteps.{cond_ok, cond_err}
+use Rattle.om_text.proofs.CourseSteps.{heading_ok, taken}
+use Rattle.om_text.proofs.Course.{named}
 
 pub mapped : (o : Option (ℕ × ℕ)) (f : ℕ × ℕ → Document) (d : Document) → option_map f o ≡ Some d → (p : ℕ × ℕ)
     × (f p ≡ d)

@@ -23,6 +23,7 @@ mod setting;
 mod setting_lines;
 mod stage;
 mod state;
+mod stepping;
 mod version;
 pub mod words;
 

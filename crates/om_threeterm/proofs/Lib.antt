@@ -1,3 +1,5 @@
 pub mod SetLaws
+pub mod ExchangePlaces
 pub mod ExchangeLaws
+pub mod TurnedValues
 pub mod RelationLaws

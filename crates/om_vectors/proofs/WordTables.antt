@@ -7,10 +7,10 @@ use Rattle.std.proofs.Common.{arith}
 use Rattle.std.proofs.lemmas.List.{length-set, get_or-set_other}
 use Rattle.om_signs.specs.declared.limits.TheConstants.{MAX_ELEMENTS}
 use Rattle.om_vectors.specs.WholeVectors.{WholeVector, zero_vector}
-use Rattle.om_vectors.specs.Words.{free_places, IsSound, length-used, whole_table}
+use Rattle.om_vectors.specs.Words.{free_places, IsWordTable, length-used, whole_table}
 
-pub pushed : (table : List WholeVector) (n : ℕ) (v : WholeVector) → n < MAX_ELEMENTS → IsSound table n
-    → IsSound (set table n v) (n + 1)
+pub pushed : (table : List WholeVector) (n : ℕ) (v : WholeVector) → n < MAX_ELEMENTS → IsWordTable table n
+    → IsWordTable (set table n v) (n + 1)
 pushed table n v l h = record {
   few = omega arith;
   whole = length-set table n v ∙ h.whole;
@@ -29,7 +29,7 @@ pub record IsBack (table : List WholeVector) (n : ℕ) (vs : List WholeVector) :
   pub table_is : vs ++ free_places (length vs) ≡ table
   pub len_is : length vs ≡ n
 
-pub table_back : (table : List WholeVector) (n : ℕ) (vs : List WholeVector) → IsSound table n → take n table ≡ vs
+pub table_back : (table : List WholeVector) (n : ℕ) (vs : List WholeVector) → IsWordTable table n → take n table ≡ vs
     → IsBack table n vs
 table_back table n vs h e =
     let size : length vs ≡ n = ap length (sym e) ∙ length-used table n h in

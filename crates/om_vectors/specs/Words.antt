@@ -13,18 +13,18 @@ abbrev pub free_places : ℕ → List WholeVector
 free_places n = replicate (MAX_ELEMENTS - n) zero_vector
 
 -- the table has all its places, and those after the first n hold the zero vector
-pub record IsSound (table : List WholeVector) (n : ℕ) : Type 0 where
+pub record IsWordTable (table : List WholeVector) (n : ℕ) : Type 0 where
   pub few : n ≤ MAX_ELEMENTS
   pub whole : length table ≡ MAX_ELEMENTS
   pub free : (k : ℕ) → n ≤ k → get_or table k zero_vector ≡ zero_vector
 
-pub length-used : (table : List WholeVector) (n : ℕ) → IsSound table n → length (take n table) ≡ n
+pub length-used : (table : List WholeVector) (n : ℕ) → IsWordTable table n → length (take n table) ≡ n
 length-used table n h =
     let w = h.whole in
     let f = h.few in
     length-take-le n table (omega arith)
 
-pub whole_table : (table : List WholeVector) (n : ℕ) → IsSound table n → take n table ++ free_places n ≡ table
+pub whole_table : (table : List WholeVector) (n : ℕ) → IsWordTable table n → take n table ++ free_places n ≡ table
 whole_table table n h = ap (λ xs. take n table ++ xs) (sym rest) ∙ take-append-drop n table
   where
     size : length (drop n table) ≡ MAX_ELEMENTS - n

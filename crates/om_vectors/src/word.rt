@@ -20,11 +20,11 @@ impl Model for Word {
 
     ghost Value = { List WholeVector };
 
-    ghost use Rattle.om_vectors.specs.Words.{free_places, IsSound, length-used, whole_table};
+    ghost use Rattle.om_vectors.specs.Words.{free_places, IsWordTable, length-used, whole_table};
 
     ghost view = { λ w. take w.len w.vectors };
 
-    ghost invariant = { λ w. IsSound w.vectors w.len };
+    ghost invariant = { λ w. IsWordTable w.vectors w.len };
 
     ghost inverse = { λ xs. record { vectors = xs ++ free_places (length xs); len = length xs } };
 

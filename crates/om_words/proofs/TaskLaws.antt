@@ -19,7 +19,8 @@ use Rattle.om_words.specs.Words.{AreArguments, Names, verb_of}
 use Rattle.om_words.proofs.LeadingLaws.{lawful_leading}
 use Rattle.om_words.proofs.OptionLaws.{number_of_within}
 use Rattle.om_words.proofs.VerbLaws.{same_verb}
-use Rattle.om_words.proofs.WordLaws.{first_of, decide_shape}
+use Rattle.om_words.proofs.WordLaws.{first_of}
+use Rattle.om_words.proofs.VerbShapes.{decide_shape}
 
 -- ---- the numbers that options give
 

@@ -1,4 +1,4 @@
-use Rattle.om_answer.proofs.ClaimCourse.{begins_bytes, bytes_begin}
+use Rattle.om_answer.proofs.ClaimBeginnings.{begins_bytes, bytes_begin}
 use Rattle.om_answer.proofs.laws.claims_begin_as_bytes.Goals as goal
 
 pub returns : goal.returns

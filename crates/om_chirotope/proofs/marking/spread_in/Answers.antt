@@ -3,7 +3,7 @@ use Rattle.std.specs.Int.RustNames.{bit_or}
 use Rattle.std.proofs.lemmas.Nat.{one_shl}
 use Rattle.om_chirotope.specs.declared.marking.TheConstants.{LOW}
 use Rattle.om_chirotope.specs.Marks.{IsWordSpread}
-use Rattle.om_chirotope.proofs.Words.{word_spread}
+use Rattle.om_chirotope.proofs.WordBits.{word_spread}
 use Rattle.om_chirotope.proofs.marking.spread_in.Goals as goal
 
 pub returns : goal.returns

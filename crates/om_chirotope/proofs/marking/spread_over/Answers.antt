@@ -3,7 +3,8 @@ use Rattle.std.specs.Int.{bit_at}
 use Rattle.std.specs.Int.RustNames.{bit_or}
 use Rattle.std.proofs.lemmas.Nat.{one_shl}
 use Rattle.std.proofs.lemmas.Nat.Bits.{shr_and_one}
-use Rattle.om_chirotope.proofs.Words.{IsSpreadBelow, spread_off, spread_on, spread_over, take_bit}
+use Rattle.om_chirotope.proofs.WordBits.{take_bit}
+use Rattle.om_chirotope.proofs.Words.{IsSpreadBelow, spread_off, spread_on, spread_over}
 use Rattle.om_chirotope.proofs.marking.spread_over.Goals as goal
 use Rattle.om_chirotope.proofs.marking.spread_over.Goals.{then-i-d-eq1, else-i-d-eq1}
 

@@ -1,7 +1,7 @@
 use Rattle.std.proofs.Common.{ℕ, arith, sym, length, ◌≡◌, ◌<◌}
 use Rattle.std.proofs.lemmas.Bool.{eq-eqb, eqb-true}
 use Rattle.om_signs.specs.declared.sign.Sign.{Sign}
-use Rattle.om_chirotope.proofs.Rows.{balanced_of_masks, masks_of_balanced}
+use Rattle.om_chirotope.proofs.ThreeRows.{balanced_of_masks, masks_of_balanced}
 use Rattle.om_signs.specs.Sign.{opposite, product}
 use Rattle.om_signs.specs.SignVec.{at, at_element}
 use Rattle.om_laws.proofs.BalancedSigns.{balanced_same}

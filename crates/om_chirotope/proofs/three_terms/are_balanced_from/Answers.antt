@@ -2,8 +2,8 @@ use Rattle.std.proofs.Common.{ℕ, arith, refl, w32, ◌≡◌, ◌<◌}
 use Rattle.std.proofs.lemmas.Bool.{false≢true}
 use Rattle.std.specs.Int.{bit_at, trailing_zeros}
 use Rattle.om_chirotope.specs.Pictures.{IsTriple}
-use Rattle.om_chirotope.proofs.Rows.{IsLowest, all_cleared, cleared_more, lowest_bit, left_later, others_left}
-use Rattle.om_chirotope.proofs.Rows.{uncleared}
+use Rattle.om_chirotope.proofs.RowMasks.{IsLowest, all_cleared, cleared_more, lowest_bit, left_later, others_left}
+use Rattle.om_chirotope.proofs.RowMasks.{uncleared}
 use Rattle.om_chirotope.proofs.three_terms.are_balanced_from.Goals as goal
 
 pub loop-rest-init : goal.loop-rest-init

@@ -1,7 +1,7 @@
 use Rattle.std.proofs.Common.{ℕ, ◌≡◌, ◌<◌}
 use Rattle.std.specs.Int.{bit_at}
 use Rattle.om_chirotope.specs.Pictures.{IsTriple}
-use Rattle.om_chirotope.proofs.Rows.{IsCleared}
+use Rattle.om_chirotope.proofs.RowMasks.{IsCleared}
 use Rattle.om_chirotope.proofs.three_terms.are_balanced_from.Given as goal
 
 abbrev pub invariant-loop-rest : goal.invariant-loop-rest

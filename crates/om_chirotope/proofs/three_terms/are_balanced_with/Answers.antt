@@ -3,8 +3,8 @@ use Rattle.std.proofs.lemmas.Bool.{false≢true}
 use Rattle.std.proofs.lemmas.List.{get_or_default}
 use Rattle.std.specs.Int.{trailing_zeros}
 use Rattle.om_chirotope.specs.Pictures.{IsTriple}
-use Rattle.om_chirotope.proofs.Rows.{IsLowest, all_cleared, cleared_more, lowest_bit, triple_of_rows, triple_to_rows}
-use Rattle.om_chirotope.proofs.Rows.{uncleared}
+use Rattle.om_chirotope.proofs.ThreeRows.{triple_of_rows, triple_to_rows}
+use Rattle.om_chirotope.proofs.RowMasks.{IsLowest, all_cleared, cleared_more, lowest_bit, uncleared}
 use Rattle.om_chirotope.proofs.three_terms.are_balanced_with.Goals as goal
 
 pub loop-rest-init : goal.loop-rest-init

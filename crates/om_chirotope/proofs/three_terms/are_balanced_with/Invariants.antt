@@ -1,5 +1,5 @@
 use Rattle.om_chirotope.specs.Pictures.{IsTriple}
-use Rattle.om_chirotope.proofs.Rows.{IsCleared}
+use Rattle.om_chirotope.proofs.RowMasks.{IsCleared}
 use Rattle.om_chirotope.proofs.three_terms.are_balanced_with.Given as goal
 
 abbrev pub invariant-loop-rest : goal.invariant-loop-rest

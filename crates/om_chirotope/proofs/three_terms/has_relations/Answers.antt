@@ -4,7 +4,7 @@ use Rattle.om_subsets.proofs.Walks.{at_first, at_next}
 use Rattle.std.proofs.lemmas.Bool.{false≢true}
 use Rattle.om_chirotope.specs.Map.{map_of}
 use Rattle.om_chirotope.proofs.Rows.{pictures_more, relations_of_pictures}
-use Rattle.om_chirotope.proofs.ThreeTerms.{relations_at, relations_of_low_rank}
+use Rattle.om_chirotope.proofs.ThreeTermRelations.{relations_at, relations_of_low_rank}
 use Rattle.om_chirotope.proofs.three_terms.has_relations.Goals as goal
 
 pub returns-then-raw-lt2 : goal.returns-then-raw-lt2

@@ -3,7 +3,7 @@ use Rattle.std.specs.Int.{trailing_zeros}
 use Rattle.om_signs.proofs.Bits.{bit_within}
 use Rattle.om_chirotope.specs.Map.{map_of}
 use Rattle.om_chirotope.proofs.FirstRow.{relations_of_first_row, relations_of_zeros, triple_from_relations}
-use Rattle.om_chirotope.proofs.Rows.{IsLowest, dead_rows, lowest_bit, other_rows, left_bit}
+use Rattle.om_chirotope.proofs.RowMasks.{IsLowest, dead_rows, lowest_bit, other_rows, left_bit}
 use Rattle.om_chirotope.proofs.three_terms.has_relations_at.Goals as goal
 
 pub returns-then-live-eq0 : goal.returns-then-live-eq0

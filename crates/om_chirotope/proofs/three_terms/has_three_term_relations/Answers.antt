@@ -1,6 +1,6 @@
 use Rattle.std.proofs.Common.{arith, refl}
 use Rattle.om_chirotope.specs.Map.{map_of}
-use Rattle.om_chirotope.proofs.ThreeTerms.{relations_of_low_rank}
+use Rattle.om_chirotope.proofs.ThreeTermRelations.{relations_of_low_rank}
 use Rattle.om_chirotope.proofs.three_terms.has_three_term_relations.Goals as goal
 
 pub returns-then-raw-eq0 : goal.returns-then-raw-eq0

@@ -2,7 +2,7 @@ use Rattle.std.proofs.Common.{arith, sym, ap, subst, ◌∙◌, get_or, length, 
 use Rattle.std.proofs.lemmas.List.{get_or_default}
 use Rattle.om_signs.specs.SignVec.{IsMaskOf}
 use Rattle.om_chirotope.specs.Pictures.{IsLive}
-use Rattle.om_chirotope.proofs.Rows.{dead_of_support, live_more, live_of_support, live_skip}
+use Rattle.om_chirotope.proofs.RowMasks.{dead_of_support, live_more, live_of_support, live_skip}
 use Rattle.om_chirotope.proofs.three_terms.live_rows.Goals as goal
 use Rattle.om_chirotope.proofs.three_terms.live_rows.Goals.{then-support-ne0, else-support-ne0}
 

@@ -39,7 +39,8 @@ returns-then-not-has_within-clause-first c =
         opposed = opposed_if_tested c.args.x c.args.y c.plus.result c.minus.result c.loop-e.e le c.plus.ensures
             c.minus.ensures c.if-opposed-bit-ne0.true;
         none = λ q. iff_false c.has_within.ensures c.if-not-has_within.true
-            ((has_within_eliminator c.args.members.now c.args.x c.args.y c.plus-2.result c.minus-2.result c.plus-3.result
+            ((has_within_eliminator c.args.members.now c.args.x c.args.y c.plus-2.result c.minus-2.result
+            c.plus-3.result
             c.minus-3.result c.loop-e.e _ c.plus-2.type_inv c.minus-2.type_inv c.plus-3.type_inv c.minus-3.type_inv
             le refl c.plus-2.ensures c.minus-2.ensures c.plus-3.ensures c.minus-3.ensures).1 q);
       };

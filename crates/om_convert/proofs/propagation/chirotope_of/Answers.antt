@@ -1,7 +1,7 @@
 use Rattle.std.proofs.Common.{sym, subst}
 use Rattle.om_chirotope.specs.Map.{map_of}
 use Rattle.om_convert.specs.Hitting.{IsNormalOf}
-use Rattle.om_convert.proofs.MeetingLaws.{rank_part, made_normal}
+use Rattle.om_convert.proofs.NormalSigns.{rank_part, made_normal}
 use Rattle.om_convert.proofs.propagation.chirotope_of.Goals as goal
 
 pub propagated_map-requires-clause-part : goal.propagated_map-requires-clause-part

@@ -6,7 +6,7 @@ use Rattle.om_denotation.specs.Denotation.{DenoteTheSame}
 use Rattle.om_denotation.specs.Listings.{AreAllOf}
 use Rattle.om_denotation.specs.Maps.{IsNormalFormOf}
 use Rattle.om_denotation.specs.Dual.{dual_of}
-use Rattle.om_convert.proofs.MeetingLaws.{has_circuits}
+use Rattle.om_convert.proofs.NormalSigns.{has_circuits}
 use Rattle.om_convert.proofs.RankLaws.{rank_of_dual}
 use Rattle.om_convert.proofs.propagation.chirotope_of_circuits.Goals as goal
 

@@ -6,7 +6,7 @@ use Rattle.om_denotation.specs.Denotation.{DenoteTheSame}
 use Rattle.om_denotation.specs.Only.{IsOnlyChirotope}
 use Rattle.om_denotation.proofs.OnlyLaws.{only_chirotope}
 use Rattle.om_convert.specs.Hitting.{IsNormalOf}
-use Rattle.om_convert.proofs.MeetingLaws.{denotes}
+use Rattle.om_convert.proofs.NormalSigns.{denotes}
 use Rattle.om_convert.proofs.propagation.chirotope_of_cocircuits.Goals as goal
 
 pub chirotope_of-requires : goal.chirotope_of-requires

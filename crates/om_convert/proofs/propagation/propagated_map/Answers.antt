@@ -1,7 +1,7 @@
 use Rattle.std.proofs.Common.{◌≡◌, ◌<◌, ◌∙◌, arith}
 use Rattle.om_subsets.specs.Subsets.{choose}
 use Rattle.om_subsets.proofs.Walks.{at_first, at_next}
-use Rattle.om_convert.proofs.MeetingLaws.{signs_start, signs_before, place_is, signs_pushed, signs_are}
+use Rattle.om_convert.proofs.NormalSigns.{signs_start, signs_before, place_is, signs_pushed, signs_are}
 use Rattle.om_convert.proofs.propagation.propagated_map.Goals as goal
 
 pub loop-k-init : goal.loop-k-init

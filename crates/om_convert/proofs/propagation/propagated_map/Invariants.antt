@@ -1,5 +1,5 @@
 use Rattle.om_subsets.proofs.Walks.{IsAt}
-use Rattle.om_convert.proofs.MeetingLaws.{AreSigns}
+use Rattle.om_convert.proofs.NormalSigns.{AreSigns}
 use Rattle.om_convert.proofs.propagation.propagated_map.Given as goal
 
 abbrev pub invariant-loop-k : goal.invariant-loop-k

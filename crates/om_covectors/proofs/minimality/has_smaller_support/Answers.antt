@@ -47,5 +47,6 @@ returns-else-inner-outer-eq0 c =
           ((support_test c.args.y c.args.x c.support-inner.result c.support-outer.result c.support-inner.type_inv
           c.support-outer.type_inv c.support-inner.ensures c.support-outer.ensures).1 h)))
       | else-inner-ne0 w ↦
-          λ n h. absurd (n ((zero_support c.args.y c.support-inner.result c.support-inner.ensures).0 w.if-inner-ne0.false))
+          λ n h. absurd (n ((zero_support c.args.y c.support-inner.result c.support-inner.ensures).0
+          w.if-inner-ne0.false))
     ])

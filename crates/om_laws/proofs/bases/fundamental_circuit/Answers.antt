@@ -1,4 +1,4 @@
-use Rattle.om_laws.proofs.BaseLaws as laws
+use Rattle.om_laws.proofs.FundamentalCircuits as laws
 use Rattle.om_laws.proofs.bases.fundamental_circuit.Goals as goal
 
 pub returns : goal.returns

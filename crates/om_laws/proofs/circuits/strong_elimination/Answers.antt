@@ -1,5 +1,5 @@
 use Rattle.om_laws.specs.Circuits.{IsCircuit, IsCocircuit}
-use Rattle.om_laws.proofs.BaseLaws.{circuit_supported, cocircuit_supported}
+use Rattle.om_laws.proofs.TwoElements.{circuit_supported, cocircuit_supported}
 use Rattle.om_laws.proofs.DualPairs.{dual_pair, swapped_pair}
 use Rattle.om_laws.proofs.PairElimination as laws
 use Rattle.om_laws.proofs.circuits.strong_elimination.Goals as goal

@@ -1,5 +1,5 @@
 use Rattle.std.proofs.Common.{[]}
-use Rattle.om_laws.proofs.ReorientationLaws as laws
+use Rattle.om_laws.proofs.NegationLaws as laws
 use Rattle.om_laws.proofs.operations.negation.Goals as goal
 
 pub returns-clause-chirotope : goal.returns-clause-chirotope

@@ -1,4 +1,4 @@
-use Rattle.om_localize.proofs.SignatureLaws.{plus_sign, minus_sign, no_sign}
+use Rattle.om_localize.proofs.SignatureWords.{plus_sign, minus_sign, no_sign}
 use Rattle.om_localize.proofs.signature.sign_with.Goals as goal
 
 pub returns-then-plus-gt0 : goal.returns-then-plus-gt0

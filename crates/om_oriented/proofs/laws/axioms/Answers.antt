@@ -1,4 +1,4 @@
-use Rattle.om_denotation.proofs.FamilyLaws.{circuit_axioms, cocircuit_axioms, covector_axioms}
+use Rattle.om_denotation.proofs.FamilyAxioms.{circuit_axioms, cocircuit_axioms, covector_axioms}
 use Rattle.om_oriented.proofs.laws.axioms.Goals as goal
 
 pub returns-clause-circuits : goal.returns-clause-circuits

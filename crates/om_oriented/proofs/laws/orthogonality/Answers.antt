@@ -1,4 +1,4 @@
-use Rattle.om_denotation.proofs.FamilyLaws.{orthogonal}
+use Rattle.om_denotation.proofs.FamilyAxioms.{orthogonal}
 use Rattle.om_oriented.proofs.laws.orthogonality.Goals as goal
 
 pub returns : goal.returns

@@ -1,4 +1,4 @@
-use Rattle.om_denotation.proofs.FamilyLaws.{painting_one, painting_both}
+use Rattle.om_denotation.proofs.FamilyPaintings.{painting_one, painting_both}
 use Rattle.om_oriented.proofs.laws.painting.Goals as goal
 
 pub returns-clause-one : goal.returns-clause-one

@@ -10,7 +10,8 @@ use Rattle.om_program.specs.Plans.{plan_task, reading_task}
 use Rattle.om_program.proofs.answering.answer_input.Goals as goal
 
 pub answer_alone-requires-clause-lawful : goal.answer_alone-requires-clause-lawful
-answer_alone-requires-clause-lawful g c = λ κs out. subst HasLawfulArguments (sym c.plan_of.ensures ∙ ap plan_task c.in-Make.is)
+answer_alone-requires-clause-lawful g c = λ κs out. subst HasLawfulArguments (sym c.plan_of.ensures
+    ∙ ap plan_task c.in-Make.is)
     c.requires.lawful
 
 pub answer_reading-requires-clause-lawful : goal.answer_reading-requires-clause-lawful

@@ -18,10 +18,13 @@ returns-in_ok-answer_alone-in-Make-clause-reply g c =
     task_replies (Make c.in-Make.seed c.in-Make.count) [] _ (c.in_ok-answer_alone-in-Make.ensures [])
 
 pub returns-in-Read-clause-alone : goal.returns-in-Read-clause-alone
-returns-in-Read-clause-alone g c = λ nothing. absurd (reads_input c.in-Read.what (subst ReadsNothing c.in-Read.is nothing))
+returns-in-Read-clause-alone g c = λ nothing. absurd (reads_input c.in-Read.what (subst ReadsNothing c.in-Read.is
+    nothing))
 
 pub returns-in-Read-clause-reading : goal.returns-in-Read-clause-reading
-returns-in-Read-clause-reading g c = λ fault nothing. reads_input c.in-Read.what (subst ReadsNothing c.in-Read.is nothing)
+returns-in-Read-clause-reading g c = λ fault nothing. reads_input c.in-Read.what (subst ReadsNothing c.in-Read.is
+    nothing)
 
 pub returns-in-Read-clause-unread : goal.returns-in-Read-clause-unread
-returns-in-Read-clause-unread g c = λ nothing. absurd (reads_input c.in-Read.what (subst ReadsNothing c.in-Read.is nothing))
+returns-in-Read-clause-unread g c = λ nothing. absurd (reads_input c.in-Read.what (subst ReadsNothing c.in-Read.is
+    nothing))

@@ -5,9 +5,10 @@ use Rattle.om_reply.specs.declared.status.Status.TheVariants as status
 use Rattle.om_program.specs.Meaning.{TaskMeans}
 use Rattle.om_pieces.specs.Making.{nothing}
 use Rattle.om_stream.specs.Each.{wanted_ends}
-use Rattle.om_stream.proofs.Steps.{answered_replied, starts, reach_further, reach_stops, reach_stops_later}
-use Rattle.om_stream.proofs.Steps.{reach_breaks_later, reach_end, reach_end_stops, reach_end_breaks, all_taken}
-use Rattle.om_stream.proofs.Steps.{taken_more, taken_still, none_taken, no_first}
+use Rattle.om_stream.proofs.Steps.{answered_replied}
+use Rattle.om_stream.proofs.Readings.{starts, reach_further, reach_stops, reach_stops_later, reach_breaks_later}
+use Rattle.om_stream.proofs.Readings.{reach_end, reach_end_stops, reach_end_breaks, all_taken, taken_more, taken_still}
+use Rattle.om_stream.proofs.Readings.{none_taken, no_first}
 use Rattle.om_stream.proofs.each.answer_source.Goals as goal
 
 pub loop-turn-init : goal.loop-turn-init

@@ -6,7 +6,7 @@ use Rattle.om_program.specs.Meaning.{TaskMeans}
 use Rattle.om_reply.specs.Statuses.{IsReplied}
 use Rattle.om_pieces.specs.Making.{nothing}
 use Rattle.om_stream.specs.Each.{wanted_ends}
-use Rattle.om_stream.proofs.Steps.{Reaches}
+use Rattle.om_stream.proofs.Readings.{Reaches}
 use Rattle.om_stream.proofs.each.answer_source.Given as goal
 
 abbrev pub invariant-loop-turn : goal.invariant-loop-turn

@@ -1,4 +1,4 @@
-use Rattle.om_subsets.proofs.Reverse.{length-revlex_subsets, reverse_small, at_reverse_rank, reverse_listed}
+use Rattle.om_subsets.proofs.ReversePlaces.{length-revlex_subsets, reverse_small, at_reverse_rank, reverse_listed}
 use Rattle.om_subsets.proofs.laws.reverse_places_and_lists.Goals as goal
 
 pub returns-clause-number : goal.returns-clause-number

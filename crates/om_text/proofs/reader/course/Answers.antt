@@ -2,8 +2,9 @@ use Rattle.std.proofs.Common.{refl, sym, subst, ◌+◌, arith}
 use Rattle.om_text.specs.ReaderParts.{IsStateInRange}
 use Rattle.om_text.proofs.Printing.{not_empty, no_bytes}
 use Rattle.om_text.proofs.Small.{advance_small}
-use Rattle.om_text.proofs.Part.{IsRead, read_start, read_more, read_part, whole_refused, front_refused, whole_document}
-use Rattle.om_text.proofs.Part.{other_state, whole_unfinished, front_unfinished}
+use Rattle.om_text.proofs.ReadLines.{IsRead, read_start, read_more, read_part}
+use Rattle.om_text.proofs.Part.{whole_refused, front_refused, whole_document, other_state, whole_unfinished}
+use Rattle.om_text.proofs.Part.{front_unfinished}
 use Rattle.om_text.proofs.reader.course.Goals as goal
 
 pub loop-rest-init : goal.loop-rest-init

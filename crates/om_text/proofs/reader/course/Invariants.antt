@@ -1,7 +1,7 @@
 use Rattle.std.proofs.Common.{◌≡◌, ◌≤◌, ◌+◌, true, false, length}
 use Rattle.om_text.specs.Reading.{is_closed}
 use Rattle.om_text.specs.ReaderParts.{IsStateInRange}
-use Rattle.om_text.proofs.Part.{IsRead}
+use Rattle.om_text.proofs.ReadLines.{IsRead}
 use Rattle.om_text.proofs.reader.course.Given as goal
 
 abbrev pub invariant-loop-rest : goal.invariant-loop-rest

@@ -1,7 +1,7 @@
 use Rattle.std.proofs.Common.{refl}
 use Rattle.om_subsets.specs.Subsets.{subset_at}
 use Rattle.om_chirotope.specs.Map.{map_of}
-use Rattle.om_threeterm.proofs.ExchangeLaws.{unexchanged_of_apart, apart_of_unexchanged, none_so, some_so}
+use Rattle.om_threeterm.proofs.ExchangePlaces.{unexchanged_of_apart, apart_of_unexchanged, none_so, some_so}
 use Rattle.om_threeterm.proofs.exchanges.first_unexchanged_by.Goals as goal
 
 pub returns-clause-none : goal.returns-clause-none

@@ -1,8 +1,8 @@
 use Rattle.std.proofs.Common.{sym, subst, ◌+◌, None}
 use Rattle.om_subsets.specs.Subsets.{choose}
 use Rattle.om_chirotope.specs.Map.{map_of}
-use Rattle.om_threeterm.proofs.ExchangeLaws.{IsBestBefore, place_pair, best_start, best_same, best_new, no_element_zero}
-use Rattle.om_threeterm.proofs.ExchangeLaws.{none_of_best, first_of_best}
+use Rattle.om_threeterm.proofs.ExchangePlaces.{IsBestBefore, best_start, best_same, best_new}
+use Rattle.om_threeterm.proofs.ExchangeLaws.{place_pair, no_element_zero, none_of_best, first_of_best}
 use Rattle.om_threeterm.proofs.exchanges.first_unexchanged_of.Goals as goal
 use Rattle.om_threeterm.proofs.exchanges.first_unexchanged_of.Goals.{in-Some, in_default}
 

@@ -7,8 +7,8 @@ use Rattle.om_chirotope.specs.Map.{map_of}
 use Rattle.om_chirotope.specs.ThreeTerm.{IsBasis}
 use Rattle.om_chirotope.proofs.Circuits.{length-without}
 use Rattle.om_chirotope.proofs.Cocircuits.{length-with}
-use Rattle.om_threeterm.proofs.ExchangeLaws.{AreInPlaceBelow, in_place_start, in_place_same, in_place_more}
-use Rattle.om_threeterm.proofs.ExchangeLaws.{in_place_end}
+use Rattle.om_threeterm.proofs.ExchangePlaces.{AreInPlaceBelow, in_place_start, in_place_same, in_place_more}
+use Rattle.om_threeterm.proofs.ExchangePlaces.{in_place_end}
 use Rattle.om_threeterm.proofs.exchanges.in_place_of.Goals as goal
 use Rattle.om_threeterm.proofs.exchanges.in_place_of.Goals.{then-not-has+then-is_basis, else-not-has}
 use Rattle.om_threeterm.proofs.exchanges.in_place_of.Goals.{else-not-has-via-then-not-has+else-is_basis}

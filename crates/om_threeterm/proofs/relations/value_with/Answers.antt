@@ -4,7 +4,7 @@ use Rattle.om_signs.specs.Sign.{opposite}
 use Rattle.om_chirotope.specs.Map.{map_of}
 use Rattle.om_chirotope.proofs.Cocircuits.{with_lawful}
 use Rattle.om_threeterm.proofs.SetLaws.{sign_is_value}
-use Rattle.om_threeterm.proofs.RelationLaws.{value_same, value_turned, whole_size, same_tests, other_tests}
+use Rattle.om_threeterm.proofs.TurnedValues.{value_same, value_turned, whole_size, same_tests, other_tests}
 use Rattle.om_threeterm.proofs.relations.value_with.Goals as goal
 
 pub at-sign-requires : goal.at-sign-requires

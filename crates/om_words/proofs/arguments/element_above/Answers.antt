@@ -1,5 +1,5 @@
 use Rattle.std.proofs.Common.{refl}
-use Rattle.om_words.proofs.Numerals.{this_above}
+use Rattle.om_words.proofs.ElementNumbers.{this_above}
 use Rattle.om_words.proofs.arguments.element_above.Goals as goal
 
 pub returns-then-last-e : goal.returns-then-last-e

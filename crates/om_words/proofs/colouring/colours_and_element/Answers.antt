@@ -1,8 +1,9 @@
 use Rattle.std.specs.Prelude.{length}
 use Rattle.std.proofs.Common.{sym, ap, ◌∙◌}
 use Rattle.om_words.specs.Listings.{colours_of}
-use Rattle.om_words.proofs.ListingLaws.{few_of, some_of, colouring_missing, colouring_letters, colouring_element}
-use Rattle.om_words.proofs.ListingLaws.{colouring_long, colouring_read}
+use Rattle.om_words.proofs.FilledLists.{few_of, some_of}
+use Rattle.om_words.proofs.ListingLaws.{colouring_missing, colouring_letters, colouring_element, colouring_long}
+use Rattle.om_words.proofs.ListingLaws.{colouring_read}
 use Rattle.om_words.proofs.colouring.colours_and_element.Goals as goal
 
 pub returns-then-is_empty : goal.returns-then-is_empty

@@ -1,5 +1,5 @@
 use Rattle.std.proofs.Common.{refl, sym, ◌∙◌}
-use Rattle.om_words.proofs.ListingLaws.{some_of, letters_none, letters_more, colours_read}
+use Rattle.om_words.proofs.FilledLists.{some_of, letters_none, letters_more, colours_read}
 use Rattle.om_words.proofs.colouring.colours_of.Goals as goal
 
 pub loop-i-init : goal.loop-i-init

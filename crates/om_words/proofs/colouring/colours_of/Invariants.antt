@@ -1,4 +1,4 @@
-use Rattle.om_words.proofs.ListingLaws.{AreLetters}
+use Rattle.om_words.proofs.FilledLists.{AreLetters}
 use Rattle.om_words.proofs.colouring.colours_of.Given as goal
 
 abbrev pub invariant-loop-i : goal.invariant-loop-i

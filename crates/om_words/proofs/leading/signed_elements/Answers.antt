@@ -3,7 +3,8 @@ use Rattle.std.proofs.Common.{arith, Global, []}
 use Rattle.std.proofs.lemmas.List.{take-map, length-take-le}
 use Rattle.om_words.proofs.FitLaws.{item_word}
 use Rattle.om_words.proofs.Numerals.{length-words}
-use Rattle.om_words.proofs.ListingLaws.{few_of, signed_none, signed_more, leading_fault, leading_missing}
+use Rattle.om_words.proofs.FilledLists.{few_of}
+use Rattle.om_words.proofs.ListingLaws.{signed_none, signed_more, leading_fault, leading_missing}
 use Rattle.om_words.proofs.leading.signed_elements.Goals as goal
 
 pub loop-i-init : goal.loop-i-init

@@ -2,7 +2,7 @@ use Rattle.std.specs.Prelude.{[], ◌∷◌, map, string_bytes}
 use Rattle.std.proofs.Common.{◌∙◌}
 use Rattle.om_words.specs.declared.setting.Setting.TheVariants.{BoxSize, Steps, Pivots}
 use Rattle.om_words.specs.Options.{budgets_of}
-use Rattle.om_words.proofs.OptionLaws.{set_read, set_passed, budgets_same}
+use Rattle.om_words.proofs.OptionCommands.{set_read, set_passed, budgets_same}
 use Rattle.om_words.proofs.numbered.budgets.Goals as goal
 
 pub returns : goal.returns

@@ -2,7 +2,7 @@ use Rattle.std.specs.Prelude.{[], ◌∷◌}
 use Rattle.std.proofs.Common.{◌∙◌}
 use Rattle.om_words.specs.declared.setting.Setting.TheVariants.{First}
 use Rattle.om_words.specs.Options.{number_of}
-use Rattle.om_words.proofs.OptionLaws.{set_read, set_passed}
+use Rattle.om_words.proofs.OptionCommands.{set_read, set_passed}
 use Rattle.om_words.proofs.numbered.lines.Goals as goal
 
 pub returns : goal.returns

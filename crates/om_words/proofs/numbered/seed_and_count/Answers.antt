@@ -1,4 +1,4 @@
-use Rattle.om_words.proofs.OptionLaws.{seed_missing}
+use Rattle.om_words.proofs.OptionCommands.{seed_missing}
 use Rattle.om_words.proofs.numbered.seed_and_count.Goals as goal
 
 pub returns-in-empty : goal.returns-in-empty

@@ -1,6 +1,6 @@
 use Rattle.std.proofs.Common.{◌∙◌, ap, sym}
 use Rattle.om_words.specs.Options.{number_within}
-use Rattle.om_words.proofs.OptionLaws.{seed_read, seed_passed, seed_bad}
+use Rattle.om_words.proofs.OptionCommands.{seed_read, seed_passed, seed_bad}
 use Rattle.om_words.proofs.numbered.seed_before.Goals as goal
 
 pub returns-in_default : goal.returns-in_default

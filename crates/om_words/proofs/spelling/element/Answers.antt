@@ -1,5 +1,5 @@
 use Rattle.std.proofs.Common.{arith}
-use Rattle.om_words.proofs.Numerals.{this_element}
+use Rattle.om_words.proofs.ElementNumbers.{this_element}
 use Rattle.om_words.proofs.spelling.element.Goals as goal
 
 pub returns-then-is_number : goal.returns-then-is_number

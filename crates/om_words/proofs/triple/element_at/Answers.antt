@@ -1,4 +1,4 @@
-use Rattle.om_words.proofs.TripleLaws.{at_place_read, at_place_bad}
+use Rattle.om_words.proofs.ThreeWords.{at_place_read, at_place_bad}
 use Rattle.om_words.proofs.triple.element_at.Goals as goal
 
 pub returns-in-Some-clause-value : goal.returns-in-Some-clause-value

@@ -1,5 +1,5 @@
 use Rattle.std.proofs.Common.{refl}
-use Rattle.om_words.proofs.TripleLaws.{this_within}
+use Rattle.om_words.proofs.ThreeWords.{this_within}
 use Rattle.om_words.proofs.triple.element_between.Goals as goal
 
 pub returns-then-e-high : goal.returns-then-e-high

@@ -1,7 +1,8 @@
-use Rattle.om_words.proofs.WordLaws.{ok_named, err_passed, accept_shape, member_shape, convert_shape, dual_shape}
-use Rattle.om_words.proofs.WordLaws.{delete_shape, contract_shape, reorient_shape, mutations_shape, flip_shape}
-use Rattle.om_words.proofs.WordLaws.{extend_shape, paint_shape, hull_shape, threeterm_shape, upgrade_shape}
-use Rattle.om_words.proofs.WordLaws.{lexext_shape, wiring_shape, decide_shape, check_shape, make_shape}
+use Rattle.om_words.proofs.WordLaws.{ok_named, err_passed}
+use Rattle.om_words.proofs.VerbShapes.{accept_shape, member_shape, convert_shape, dual_shape, delete_shape}
+use Rattle.om_words.proofs.VerbShapes.{contract_shape, reorient_shape, mutations_shape, flip_shape, extend_shape}
+use Rattle.om_words.proofs.VerbShapes.{paint_shape, hull_shape, threeterm_shape, upgrade_shape, lexext_shape}
+use Rattle.om_words.proofs.VerbShapes.{wiring_shape, decide_shape, check_shape, make_shape}
 use Rattle.om_words.proofs.words.after_verb.Goals as goal
 
 pub returns-in_ok-none-in-Accept : goal.returns-in_ok-none-in-Accept

@@ -1,5 +1,5 @@
 use Rattle.std.proofs.Common.{◌∙◌, arith}
-use Rattle.om_localize.proofs.SignatureLaws.{few_in, sign_in}
+use Rattle.om_localize.proofs.SignatureWords.{few_in, sign_in}
 use Rattle.om_localize.proofs.signature.Signature.at.Goals as goal
 
 pub bounds-self-inside-word : goal.bounds-self-inside-word

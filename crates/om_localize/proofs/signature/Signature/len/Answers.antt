@@ -1,5 +1,5 @@
 use Rattle.std.proofs.Common.{◌∙◌}
-use Rattle.om_localize.proofs.SignatureLaws.{top_word, length_in}
+use Rattle.om_localize.proofs.SignatureWords.{top_word, length_in}
 use Rattle.om_localize.proofs.signature.Signature.len.Goals as goal
 
 pub returns-clause-value : goal.returns-clause-value

@@ -4,7 +4,8 @@ use Rattle.om_subsets.specs.Subsets.{IsSubsetFrom}
 use Rattle.om_subsets.specs.Members.{Chosen, members, members-subset}
 use Rattle.om_subsets.specs.Reverse.{revlex_rank_of}
 use Rattle.om_subsets.proofs.Places.{length-members}
-use Rattle.om_subsets.proofs.Reverse.{reverse_turn, no_reverse_turn, reverse_small_of, reverse_small, at_reverse_rank}
+use Rattle.om_subsets.proofs.ReversePlaces.{reverse_small, at_reverse_rank}
+use Rattle.om_subsets.proofs.Reverse.{reverse_turn, no_reverse_turn, reverse_small_of}
 use Rattle.om_subsets.proofs.subset.Subset.rank_revlex.Goals as goal
 
 pub loop-rest-init : goal.loop-rest-init

@@ -3,7 +3,8 @@ use Rattle.om_subsets.specs.Subsets.{choose}
 use Rattle.om_subsets.specs.Members.{members-subset}
 use Rattle.om_subsets.specs.Reverse.{revlex_rank_of}
 use Rattle.om_subsets.proofs.Places.{bits_fit}
-use Rattle.om_subsets.proofs.Reverse.{IsReverseBegun, reverse_skip, reverse_take, reverse_end, reverse_listed}
+use Rattle.om_subsets.proofs.ReversePlaces.{reverse_listed}
+use Rattle.om_subsets.proofs.ReverseSets.{IsReverseBegun, reverse_skip, reverse_take, reverse_end}
 use Rattle.om_subsets.proofs.subset.Subset.unrank_revlex.Goals as goal
 use Rattle.om_subsets.proofs.subset.Subset.unrank_revlex.Goals.{then-without-rest, else-without-rest}
 

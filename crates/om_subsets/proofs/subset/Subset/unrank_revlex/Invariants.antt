@@ -1,5 +1,5 @@
 use Rattle.std.proofs.Common.{◌-◌}
-use Rattle.om_subsets.proofs.Reverse.{IsReverseBegun}
+use Rattle.om_subsets.proofs.ReverseSets.{IsReverseBegun}
 use Rattle.om_subsets.proofs.subset.Subset.unrank_revlex.Given as goal
 
 abbrev pub invariant-loop-j : goal.invariant-loop-j

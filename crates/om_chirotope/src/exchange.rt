@@ -1,0 +1,186 @@
+//! Whether the bases of a map have exchange, found by marks of the sets that contain a basis.
+
+ghost use Rattle.std.specs.Prelude.{◌≡◌, ◌-◌, ◌*◌, ◌<◌, ◌≤◌, ◌^◌, ◌↔◌, length, IsTrue};
+ghost use Rattle.om_subsets.specs.Subsets.{choose};
+ghost use Rattle.om_chirotope.specs.declared.marking.TheConstants.{WORD_BITS};
+ghost use Rattle.om_chirotope.specs.Map.{map_of, cocircuit_vectors};
+ghost use Rattle.om_chirotope.specs.ThreeTerm.{HasExchange, HasListExchange};
+ghost use Rattle.om_chirotope.specs.Pictures.{AreMarkedAbove, IsMet};
+
+use super::marking::{
+    FEW_ELEMENTS, FEW_WORDS, MOST_WORDS, WORDS, is_marked, mark_sets, number_of_words,
+};
+use super::vectors::cocircuit_of;
+use om_signs::{MAX_ELEMENTS, MAX_PLACES, RawMap, SignVec};
+use om_subsets::Subset;
+
+/// Whether the bases of a map have exchange. Let e be an element of a basis B that isn't in a basis C. Then e can
+/// be exchanged for some element f of C that isn't in B. A basis is a set of as many elements as the rank whose
+/// value isn't 0. A map without a basis has exchange.
+///
+/// There are from 1 to [`MAX_PLACES`] elements, the rank is at most their number, and each increasing list of as
+/// many elements as the rank has a sign. The call allocates no memory: its table needs 256 KB of stack.
+///
+/// Source: Björner, Las Vergnas, Sturmfels, White and Ziegler, *Oriented Matroids*, chapter 3.
+pub fn has_exchange(raw: &RawMap) -> bool
+    requires low { 1 ≤ raw.now.elements }
+    requires high { raw.now.elements ≤ MAX_PLACES }
+    requires rank { raw.now.rank ≤ raw.now.elements }
+    requires whole { length raw.now.signs ≡ choose raw.now.elements raw.now.rank }
+    ensures { IsTrue result ↔ HasExchange (map_of raw.now) }
+{
+    if raw.rank == 0 {
+        return true;
+    }
+    has_exchange_of_lists(raw)
+}
+
+/// Whether bases have exchange, in its form for lists, for a rank above 0.
+fn has_exchange_of_lists(raw: &RawMap) -> bool
+    requires low { 1 ≤ raw.now.elements }
+    requires high { raw.now.elements ≤ MAX_PLACES }
+    requires rank_low { 1 ≤ raw.now.rank }
+    requires rank_high { raw.now.rank ≤ raw.now.elements }
+    requires whole { length raw.now.signs ≡ choose raw.now.elements raw.now.rank }
+    ensures { IsTrue result ↔ HasListExchange (map_of raw.now) }
+{
+    if raw.elements > FEW_ELEMENTS {
+        return has_exchange_with_room(raw);
+    }
+    let mut few = [0u64; FEW_WORDS];
+    has_exchange_by(raw, &mut few[..number_of_words(raw.elements)])
+}
+
+/// `has_exchange_of_lists`, with a table that has room for the marks of the sets of any number of elements. It is
+/// never inlined, so that small maps don't pay for this table.
+#[inline(never)]
+fn has_exchange_with_room(raw: &RawMap) -> bool
+    requires low { 1 ≤ raw.now.elements }
+    requires high { raw.now.elements ≤ MAX_PLACES }
+    requires rank_low { 1 ≤ raw.now.rank }
+    requires rank_high { raw.now.rank ≤ raw.now.elements }
+    requires whole { length raw.now.signs ≡ choose raw.now.elements raw.now.rank }
+    ensures { IsTrue result ↔ HasListExchange (map_of raw.now) }
+{
+    let mut table = [0u64; MOST_WORDS];
+    has_exchange_by(raw, &mut table[..number_of_words(raw.elements)])
+}
+
+/// `has_exchange_of_lists`, with a given table for the marks of the sets.
+fn has_exchange_by(raw: &RawMap, marks: &mut [u64]) -> bool
+    requires low { 1 ≤ raw.now.elements }
+    requires high { raw.now.elements ≤ MAX_PLACES }
+    requires rank_low { 1 ≤ raw.now.rank }
+    requires rank_high { raw.now.rank ≤ raw.now.elements }
+    requires whole { length raw.now.signs ≡ choose raw.now.elements raw.now.rank }
+    requires room { 2 ^ raw.now.elements ≤ WORD_BITS * length marks.old }
+    ensures { IsTrue result ↔ HasListExchange (map_of raw.now) }
+{
+    mark_sets(raw, marks);
+    each_vector_is_met(raw, marks)
+}
+
+/// Whether each basis has an element in the support of each nonzero vector U, found with marks of the sets that
+/// contain a basis. The vectors U are computed one after the other.
+fn each_vector_is_met(raw: &RawMap, marks: &[u64]) -> bool
+    requires low { 1 ≤ raw.now.elements }
+    requires high { raw.now.elements ≤ MAX_PLACES }
+    requires rank_low { 1 ≤ raw.now.rank }
+    requires rank_high { raw.now.rank ≤ raw.now.elements }
+    requires whole { length raw.now.signs ≡ choose raw.now.elements raw.now.rank }
+    requires marked { AreMarkedAbove (map_of raw.now) marks.now }
+    ensures { IsTrue result ↔ HasListExchange (map_of raw.now) }
+{
+    let mut a = Subset::first(raw.rank - 1, raw.elements);
+    for _k in 0..Subset::choose(raw.elements, raw.rank - 1) {
+        if !is_met(raw, marks, cocircuit_of(raw, a)) {
+            return false;
+        }
+        a = a.following();
+    }
+    true
+}
+
+/// Whether bases have exchange, in its form for lists, found with a table of the vectors U, for at most
+/// [`MAX_ELEMENTS`] elements.
+pub fn has_list_exchange(raw: &RawMap, cocircuits: &[SignVec]) -> bool
+    requires low { 1 ≤ raw.now.elements }
+    requires high { raw.now.elements ≤ MAX_ELEMENTS }
+    requires rank_low { 1 ≤ raw.now.rank }
+    requires rank_high { raw.now.rank ≤ raw.now.elements }
+    requires whole { length raw.now.signs ≡ choose raw.now.elements raw.now.rank }
+    requires filled { cocircuits.now ≡ cocircuit_vectors (map_of raw.now) }
+    ensures { IsTrue result ↔ HasListExchange (map_of raw.now) }
+{
+    if raw.elements > FEW_ELEMENTS {
+        return has_list_exchange_with_room(raw, cocircuits);
+    }
+    let mut few = [0u64; FEW_WORDS];
+    has_list_exchange_by(raw, cocircuits, &mut few[..number_of_words(raw.elements)])
+}
+
+/// `has_list_exchange`, with a table that has room for the marks of the sets of [`MAX_ELEMENTS`] elements. It is
+/// never inlined either.
+#[inline(never)]
+fn has_list_exchange_with_room(raw: &RawMap, cocircuits: &[SignVec]) -> bool
+    requires low { 1 ≤ raw.now.elements }
+    requires high { raw.now.elements ≤ MAX_ELEMENTS }
+    requires rank_low { 1 ≤ raw.now.rank }
+    requires rank_high { raw.now.rank ≤ raw.now.elements }
+    requires whole { length raw.now.signs ≡ choose raw.now.elements raw.now.rank }
+    requires filled { cocircuits.now ≡ cocircuit_vectors (map_of raw.now) }
+    ensures { IsTrue result ↔ HasListExchange (map_of raw.now) }
+{
+    let mut table = [0u64; WORDS];
+    has_list_exchange_by(raw, cocircuits, &mut table[..number_of_words(raw.elements)])
+}
+
+/// `has_list_exchange`, with a given table for the marks of the sets.
+fn has_list_exchange_by(raw: &RawMap, cocircuits: &[SignVec], marks: &mut [u64]) -> bool
+    requires low { 1 ≤ raw.now.elements }
+    requires high { raw.now.elements ≤ MAX_PLACES }
+    requires rank_low { 1 ≤ raw.now.rank }
+    requires rank_high { raw.now.rank ≤ raw.now.elements }
+    requires whole { length raw.now.signs ≡ choose raw.now.elements raw.now.rank }
+    requires filled { cocircuits.now ≡ cocircuit_vectors (map_of raw.now) }
+    requires room { 2 ^ raw.now.elements ≤ WORD_BITS * length marks.old }
+    ensures { IsTrue result ↔ HasListExchange (map_of raw.now) }
+{
+    mark_sets(raw, marks);
+    each_basis_meets_each(raw, cocircuits, marks)
+}
+
+/// Whether each basis has an element in the support of each nonzero vector U of the table.
+fn each_basis_meets_each(raw: &RawMap, cocircuits: &[SignVec], marks: &[u64]) -> bool
+    requires high { raw.now.elements ≤ MAX_PLACES }
+    requires rank_low { 1 ≤ raw.now.rank }
+    requires filled { cocircuits.now ≡ cocircuit_vectors (map_of raw.now) }
+    requires marked { AreMarkedAbove (map_of raw.now) marks.now }
+    ensures { IsTrue result ↔ HasListExchange (map_of raw.now) }
+{
+    for u in cocircuits {
+        if !is_met(raw, marks, *u) {
+            return false;
+        }
+    }
+    true
+}
+
+/// Whether a vector is zero, or each basis has an element in its support. The latter holds exactly if the set of
+/// the elements off the support isn't marked.
+fn is_met(raw: &RawMap, marks: &[u64], u: SignVec) -> bool
+    requires high { raw.now.elements ≤ MAX_PLACES }
+    requires length { length u ≡ raw.now.elements }
+    requires marked { AreMarkedAbove (map_of raw.now) marks.now }
+    ensures { IsTrue result ↔ IsMet (map_of raw.now) u }
+{
+    let support = u.support();
+    if support == 0 {
+        return true;
+    }
+    let all = (1u32 << raw.elements) - 1;
+    if is_marked(marks, all & !support) {
+        return false;
+    }
+    true
+}

@@ -1,0 +1,23 @@
+use Rattle.std.proofs.Common.{◌∙◌, refl, arith}
+use Rattle.std.proofs.lemmas.Int.{ints}
+use Rattle.om_points.proofs.Sizes.{read_back, read_difference}
+use Rattle.om_points.proofs.minors.minor.Goals as goal
+
+pub returns-clause-value : goal.returns-clause-value
+returns-clause-value c =
+    let r = c.requires in
+    read_difference c.times.result c.times-2.result c.times.ensures.size c.times-2.ensures.size
+    ∙ simp (
+      c.times.ensures.value,
+      c.times-2.ensures.value,
+      read_back c.args.a c.args.a r.a refl,
+      read_back c.args.b c.args.b r.b refl,
+      read_back c.args.c c.args.c r.c refl,
+      read_back c.args.d c.args.d r.d refl,
+    )
+
+pub returns-clause-size : goal.returns-clause-size
+returns-clause-size c =
+    let s = c.times.ensures.size in
+    let t = c.times-2.ensures.size in
+    rw (read_difference c.times.result c.times-2.result s t) (omega (arith, ints))
