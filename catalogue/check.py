@@ -195,16 +195,21 @@ def shipped_claims():
 
 
 def shipped_tallies():
-    """No tally that is shipped has more of a kind than is published, and none has a refused claim."""
+    """No tally that is shipped has more of a kind than is published, and none has a refused claim. Where certificates
+    or weights are shipped beside it, they are as many as it says."""
     for path in sorted(glob.glob(os.path.join(HERE, "*.tally"))):
         kind, n = os.path.basename(path).split(".")[0].split("-")
         with open(path, "rb") as file:
             data = file.read()
         words = run(["tally", "--sum"], data).stdout.split(b"\n")[1].decode().split()
-        made, realizable, nonrealizable, _, _, refused = map(int, words[2:8])
+        made, realizable, nonrealizable, undecided, _, refused = map(int, words[2:8])
         classes, known = int(words[10]), int(words[12])
         few = made <= classes and realizable <= known and nonrealizable <= classes - known
         compare("the tally %s" % path, ([n, kind], True, 0), (words[:2], few, refused))
+        for verdict, count in ("nonrealizable", nonrealizable), ("undecided", undecided):
+            name = "%s-%s%s.claims" % (verdict, n, "" if kind == "all" else "-" + kind)
+            if os.path.exists(os.path.join(HERE, name)):
+                compare("as many claims in %s as the tally says" % name, count, bytes_of(HERE, name).count(b"om 1\n"))
 
 
 def stopped_and_taken_over():
