@@ -1,8 +1,11 @@
 #!/usr/bin/env bash
 # packaging/build.sh [om] [om_each]: proves and builds the programs, both where none is named, over what earlier calls built.
-# The libraries that a program stands on are proved side by side, as many as there are processors and 4 GB of memory for
-# each (RT_JOBS is another number); what an interrupted call has built is kept. How far it is goes to standard error where
-# that is a terminal. Where a proof fails, what rt says of that crate goes there, and the exit code is 1.
+# Where more than two crates are wanting, `rt ci` gets the crates that the programs stand on, without their must-fail
+# edits, in a folder for the time being. It proves as many side by side as there are processors and 4 GB of memory for
+# each (RT_JOBS is another number), those first for which most others wait, and keeps beside the toolchain what is
+# proved, for later calls and for the gate. Else rt builds in place, and so it does where nothing can be kept there; it
+# keeps its work in crates/*/out then. How far it is goes to standard error where that is a terminal. Where a proof
+# fails, what rt says of that crate goes there, and the exit code is 1.
 set -u
 here=$(cd "$(dirname "$(readlink -f "${BASH_SOURCE[0]}")")/.." && pwd) || exit 1
 [ $# -gt 0 ] || set -- om om_each
@@ -14,11 +17,14 @@ processors=$(nproc 2>/dev/null || echo 1)
 rooms=$(awk '/^MemAvailable:/ { print int($2 / 4000000) }' /proc/meminfo 2>/dev/null)
 jobs=$((${rooms:-1} < processors ? ${rooms:-1} : processors))
 jobs=${RT_JOBS:-$((jobs < 1 ? 1 : jobs))}
-log=$(mktemp) && start=$(mktemp) || exit 1
-running=
-trap 'rm -f "$log" "$start"' EXIT
+room=$(mktemp -d) || exit 1
+log=$room/log tree=$room/tree running=
+# a source that is changed from now on is newer than what is built
+start=$room/start
+touch "$log" "$start"
+trap 'rm -rf "$room"' EXIT
 # rt runs in the background, where Ctrl-C doesn't reach it; when it ends, so do the checks that it has started
-trap '[ -z "$running" ] || kill "$running"; exit 130' INT TERM HUP
+trap '[ -z "$running" ] || { kill "$running"; wait "$running"; } 2>/dev/null; exit 130' INT TERM HUP
 began=$(date +%s)
 
 # The crates that a program stands on, and itself.
@@ -32,6 +38,30 @@ crates_of() {
       for (i = 1; i <= n; i++) visit(names[i])
     }
     END { visit(program) }' "$here/crates.txt"
+}
+
+# Whether rt can keep what is proved, which it does beside the folder of its first page, where the disk has room.
+can_keep() {
+  local page beside
+  page=$(rt doc 2>/dev/null) && beside=$(dirname "$(dirname "$page")") && [ -w "$beside" ] &&
+    df -Pk "$beside" | awk 'NR == 2 { exit !($4 > 6000000) }'
+}
+
+# Puts the crates into the folder for the time being.
+lay_out() {
+  # it is the top of a repository, whatever stands above it
+  mkdir -p "$tree/crates" "$tree/.git" && cp "$here/HANDLES" "$tree/" || return 1
+  local crate part
+  while read -r crate; do
+    mkdir "$tree/crates/$crate" || return 1
+    for part in "$here/crates/$crate"/*; do
+      case ${part##*/} in
+        must-fail | out) ;;
+        *) cp -Rp "$part" "$tree/crates/$crate/" || return 1 ;;
+      esac
+    done
+    grep -E "^$crate( |:)" "$here/crates.txt" >>"$tree/crates.txt" || return 1
+  done <<<"$crates"
 }
 
 # Removes what an rt that was killed left in the folders where the crates are built, which another one would stop at.
@@ -52,31 +82,24 @@ show() {
   printf '\r\033[Kom: %s, %d min %02d s' "$1" $((spent / 60)) $((spent % 60)) >&2
 }
 
-# How many crates are done, and the last one.
+# How many crates are done, and the last one: of rt ci each line of a proof, of rt all each head.
 proved() {
-  awk -v all="$count" '/^== om/ { if (!seen[$2]++) n++; last = " (" $2 ")" } END { print (n + 0) " of " all " crates proved" last }' "$log"
+  awk -v all="$count" -v ways="$1" '
+    ways == "ci" && /^rt: [a-z_]+ (proved|is kept:)/ || ways == "all" && /^== om/ { if (!seen[$2]++) n++; last = " (" $2 ")" }
+    END { print (n + 0) " of " all " crates proved" last }' "$log"
 }
 
-# Whether all stands that om_program stands on, and om_program doesn't.
-is_program_next() {
-  awk -v names="$below" 'BEGIN { n = split(names, wanted, " ") } /^== om/ { seen[$2] = 1 }
-    END { for (i = 1; i <= n; i++) if (!(wanted[i] in seen)) exit 1; exit ("om_program" in seen) }' "$log"
-}
-
-# attend WHAT CRATE WORDS..: runs rt in the folder of a crate, and says how far WHAT is. With 143 it was stopped before om_program.
+# attend WHAT FOLDER WORDS..: runs rt in a folder, and says how far it is.
 attend() {
-  local what=$1 crate=$2
+  local what=$1 folder=$2
   shift 2
-  sweep
-  (cd "$here/crates/$crate" && exec rt "$@") >"$log" 2>&1 </dev/null &
+  (cd "$folder" && exec rt "$@") >"$log" 2>&1 </dev/null &
   running=$!
   while kill -0 "$running" 2>/dev/null; do
-    if [ "$what" = side_by_side ]; then
-      show "$(proved)"
-      if is_program_next; then kill "$running"; fi
-    else
-      show "$what"
-    fi
+    case $what in
+      ci | all) show "$(proved "$what")" ;;
+      *) show "$what" ;;
+    esac
     sleep 0.3
   done
   wait "$running"
@@ -85,11 +108,19 @@ attend() {
   return $status
 }
 
-# What rt said of the crates that failed.
+# What rt said of the crates that failed, or, where none did, all but what it said of the others.
 failures() {
-  awk '/^== summary/ { summary = 1 } summary && /: failed/ { sub(/:.*/, ""); failed[$0] = 1 }
-    !summary && /^== / { name = $2 } !summary { text[name] = text[name] $0 "\n" }
-    END { if (!summary) printf "%s", text[name]; for (name in failed) printf "%s", text[name] }' "$log"
+  sed "s|$tree/|$here/|g" "$log" | awk '
+    /^== summary/ { summary = 1 }
+    /^== / && !summary { name = $2; text[name] = "" }
+    name != "" && !summary { text[name] = text[name] $0 "\n" }
+    /^rt: [a-z_]+ NOT PROVED/ || summary && /: failed/ { failed[$1 == "rt:" ? $2 : substr($1, 1, length($1) - 1)] = 1 }
+    /^rt: [a-z_]+ (NOT )?PROVED$/ || /^rt: [a-z_]+ proved$/ { name = ""; next }
+    name == "" && !summary { rest = rest $0 "\n" }
+    END {
+      for (it in failed) if (it in text) { printf "%s", text[it]; n++ }
+      if (!n) { printf "%s", rest; for (it in text) printf "%s", text[it] }
+    }'
 }
 
 fail() {
@@ -99,32 +130,52 @@ fail() {
   exit 1
 }
 
+# Proves and builds in the folder for the time being, and puts the programs into their places.
+build_apart() {
+  lay_out || fail echo "om: the crates can't be copied to $tree"
+  RT_JOBS=$jobs attend ci "$tree" ci || fail failures
+  local program to
+  for program in "$@"; do
+    to=$here/crates/$program/out/$program
+    mkdir -p "${to%/*}" && cp "$tree/crates/$program/out/$program" "$to.new" && touch -r "$start" "$to.new" && mv -f "$to.new" "$to" ||
+      fail echo "om: the program can't be put into crates/$program/out"
+  done
+}
+
+# Proves the libraries in place, side by side. om_each stands on all that om stands on.
+prove_in_place() {
+  local top=om_each
+  [ $# -gt 1 ] || top=$1
+  sweep
+  attend all "$here/crates/$top" all check --jobs "$jobs" || fail failures
+}
+
+# Builds the programs in place, over libraries that are proved there, or whose changes rt proves now.
+build_in_place() {
+  local program
+  for program in "$@"; do
+    sweep
+    attend "building $program" "$here/crates/$program" run
+    # rt runs the program that it has built, or that it finds built from the same sources; without words this answers usage 1
+    [ "$(tail -n 1 "$log")" = "usage 1" ] || fail cat "$log"
+    touch -r "$start" "$here/crates/$program/out/$program"
+  done
+}
+
 crates=$(for program in "$@"; do crates_of "$program"; done | sort -u)
 count=$(wc -l <<<"$crates")
-below=$(crates_of om_program | grep -vx om_program | paste -sd' ')
 unbuilt=$(while read -r crate; do [ -e "$here/crates/$crate/out/rlib/stamp" ] || echo "$crate"; done <<<"$crates" | grep -cvx -e om -e om_each)
-# Side by side pays where much is wanting. Over what an earlier build kept, rt alone is quicker, since it begins with no pass over all sources.
-if [ "$unbuilt" -gt 2 ]; then
-  echo "om: proving and building $count crates, $jobs at a time; from nothing that takes many minutes" >&2
-  # om_each stands on all that om stands on
-  [ $# -eq 1 ] && top=$1 || top=om_each
-  attend side_by_side "$top" all check --jobs "$jobs"
-  status=$?
-  # Little can be built beside om_program, which stands on nearly all. rt alone takes several jobs for it, where rt all takes one.
-  if [ "$status" -eq 143 ]; then
-    attend "proving om_program, the last large crate" om_program lib || fail cat "$log"
-  elif [ "$status" -ne 0 ]; then
-    fail failures
-  fi
-else
+if [ "$unbuilt" -le 2 ]; then
   echo "om: proving and building what has changed" >&2
+  build_in_place "$@"
+else
+  echo "om: proving and building $count crates, $jobs at a time; from nothing that takes many minutes" >&2
+  if can_keep; then
+    build_apart "$@"
+  else
+    prove_in_place "$@"
+    build_in_place "$@"
+  fi
 fi
-for program in "$@"; do
-  attend "building $program" "$program" run
-  # rt runs the program that it has built, or that it finds built from the same sources; without words this answers usage 1
-  [ "$(tail -n 1 "$log")" = "usage 1" ] || fail cat "$log"
-  # a source that was changed since the start is newer
-  touch -r "$start" "$here/crates/$program/out/$program"
-done
 show "proved and built"
 [ ! -t 2 ] || echo >&2

@@ -18,29 +18,35 @@ import time
 TOP = os.path.dirname(os.path.dirname(os.path.abspath(__file__)))
 TALLY = {True: 0, False: 0}
 UNIFORM = b"om 1\nchirotope 3 4\n++++\nend\n"
-# it proves crates, but the one that FAILS names, notes each call in a file, and links a program where there is none
+# it proves crates, but the one that FAILS names, notes each call in a file, and gives a program where there is none; with
+# WAITS it waits to be stopped
 STAND_IN = """#!/bin/sh
 name=${PWD##*/}
-echo "$1-$name" >>../../built
-ls -d ../*/out/rt-work-* 2>/dev/null && exit 2
 case $1 in
-  all)
-    for crate in om_signs om_rows om_text om_program "$name"; do
-      # here it waits to be stopped
-      [ "$crate" != om_program ] || exec sleep 20
+  doc) echo "$PAGE" ;;
+  ci)
+    echo "ci:$(ls crates | paste -sd+)" >>"$BUILT"
+    [ -z "${WAITS-}" ] || exec sleep 20
+    ls -d crates/*/must-fail crates/*/out 2>/dev/null && exit 2
+    for crate in om_signs om_rows om_text om_pieces om_program om om_each; do
+      [ -f "crates/$crate/src/lib.rt" ] && grep -q "^$crate:" crates.txt || continue
       if [ "$crate" = "${FAILS-}" ]; then
-        printf '== %s\\nfn f: not proved\\n== summary\\n%s: failed (1)\\n' "$crate" "$crate"
+        printf '== %s\\nfn f: not proved in %s\\nrt: %s NOT PROVED\\n' "$crate" "$PWD/crates/$crate" "$crate"
+        printf 'rt: om_program NOT PROVED: its library %s failed\\nrt: FAILED: %s\\n1 passed, 2 failed\\n' "$crate" "$crate"
         exit 1
       fi
-      printf '== %s\\nfn g: proved\\n' "$crate"
-      mkdir -p ../"$crate"/out/rlib && touch ../"$crate"/out/rlib/stamp
+      printf '== %s\\nfn g: proved\\nrt: %s proved\\n' "$crate" "$crate"
+      case $crate in
+        om | om_each) mkdir "crates/$crate/out" && cp "$PROGRAMS/$crate/out/$crate" "crates/$crate/out/" ;;
+      esac
     done
-    echo '== summary'
+    sleep 0.5
     ;;
-  lib) mkdir -p out/rlib && touch out/rlib/stamp ;;
-  run)
-    [ -z "${FAILS-}" ] || { echo "fn f: not proved"; exit 1; }
-    mkdir -p out && { [ -x "out/$name" ] || cp "$PROGRAMS/$name/out/$name" out/; } && "out/$name"
+  *)
+    echo "$1-$name" >>"$BUILT"
+    ls -d ../*/out/rt-work-* 2>/dev/null && exit 2
+    [ -z "${FAILS-}" ] || { printf '== %s\\nfn f: not proved\\n== summary\\n%s: failed (1)\\n' "$FAILS" "$FAILS"; exit 1; }
+    [ "$1" = all ] || { mkdir -p out && { [ -x "out/$name" ] || cp "$PROGRAMS/$name/out/$name" out/; } && "out/$name"; }
     ;;
 esac
 """
@@ -123,33 +129,42 @@ def hints(tree):
 def builds(tree, room):
     """What is built, and when."""
     os.mkdir(os.path.join(room, "bin"))
-    stand_in = os.path.join(room, "bin", "rt")
+    stand_in, calls, away = (os.path.join(room, *it) for it in (("bin", "rt"), ("calls",), ("away",)))
+    os.mkdir(away)
     with open(stand_in, "w") as file:
         file.write(STAND_IN)
     os.chmod(stand_in, 0o755)
-    environment = dict(os.environ, PATH=os.path.dirname(stand_in) + os.pathsep + os.environ["PATH"],
-                       PROGRAMS=os.path.join(TOP, "crates"))
+    environment = dict(os.environ, PATH=os.path.dirname(stand_in) + os.pathsep + os.environ["PATH"], TMPDIR=away,
+                       PROGRAMS=os.path.join(TOP, "crates"), BUILT=calls, PAGE=os.path.join(room, "kit", "page"))
+    environment.pop("RT_JOBS", None)
     for crate in "om_signs", "om_rows", "om_text", "om_program", "om_pieces", "om_tests", "om", "om_each":
         os.makedirs(os.path.join(tree, "crates", crate, "src"))
+        os.makedirs(os.path.join(tree, "crates", crate, "must-fail"))
         with open(os.path.join(tree, "crates", crate, "src", "lib.rt"), "w"):
             pass
+    with open(os.path.join(tree, "HANDLES"), "w") as file:
+        file.write("Handles allowed: none.\n")
     with open(os.path.join(tree, "crates.txt"), "w") as file:
         file.write("# crates\nom_signs:\nom_rows: om_signs\nom_text: om_signs itoa\nom_pieces: om_text\n"
                    "om_tests: om_text\nom_program: om_text om_rows\nom: om_program\nom_each: om_program om_pieces\n")
+    of_om = "ci:om+om_program+om_rows+om_signs+om_text"
 
     def built():
-        path = os.path.join(tree, "built")
-        if not os.path.exists(path):
+        if not os.path.exists(calls):
             return []
-        with open(path) as file:
+        with open(calls) as file:
             found = file.read().split()
-        os.remove(path)
+        os.remove(calls)
         return found
 
     def touch(crate):
         # the clock of the files may be coarse
         time.sleep(0.02)
         os.utime(os.path.join(tree, "crates", crate, "src", "lib.rt"))
+
+    def forget():
+        for crate in os.listdir(os.path.join(tree, "crates")):
+            shutil.rmtree(os.path.join(tree, "crates", crate, "out"), ignore_errors=True)
 
     for words in ["./om"], ["./om", "--help"], ["./om", "help"], ["./om", "acept"], ["./om-each", "make", "7"]:
         expect("%s builds nothing" % words, run(tree, words, env=environment), (2, b"usage 1\n", b""))
@@ -162,49 +177,71 @@ def builds(tree, room):
         code, output, errors = run(tree, ["./om", "accept"], UNIFORM, env=lacking)
         expect("without rt", (code, output, b"rt" in errors), (7, b"", True))
     code, output, errors = run(tree, ["./om", "accept"], UNIFORM, env=dict(environment, FAILS="om_text"))
-    said = b"om_text\nfn f: not proved" in errors, b"fn g" in errors, errors.endswith(b"om: the build failed\n")
-    found = code, output, *said, built()
-    expect("a proof that fails in a first build", found, (7, b"", True, False, True, ["all-om"]))
+    said = (b"\n== om_text\nfn f: not proved in %s/crates/om_text\n" % tree.encode() in errors, b"fn g" in errors,
+            b"om_program" in errors, errors.endswith(b"om: the build failed\n"))
+    expect("a proof that fails in a first build", (code, output, *said, built()),
+           (7, b"", True, False, False, True, [of_om]))
     code, output, errors = run_on_terminal(tree, ["./om", "accept"], UNIFORM, env=environment)
-    found = code, output, b"om: proving and building 5 crates" in errors, b"om: proved and built" in errors, built()
-    expect("what it built is kept, and rt alone builds the little that is wanting", found,
-           (0, b"accepted\n", False, True, ["run-om"]))
-    shutil.rmtree(os.path.join(tree, "crates", "om_rows", "out"))
-    for crate in "om_signs", "om_text", "om_program", "om":
-        shutil.rmtree(os.path.join(tree, "crates", crate, "out"), ignore_errors=True)
-    # what a killed rt leaves, which is none that runs
-    os.makedirs(os.path.join(tree, "crates", "om_text", "out", "rt-work-4194305-x", "rlib"))
-    code, output, errors = run_on_terminal(tree, ["./om", "accept"], UNIFORM, env=environment)
-    found = code, output, b"om: proving and building 5 crates" in errors, b"om: proved and built" in errors, built()
-    expect("a first call builds side by side", found,
-           (0, b"accepted\n", True, True, ["all-om", "lib-om_program", "run-om"]))
+    found = (code, output, b"om: proving and building 5 crates" in errors, b"5 of 5 crates proved (om)" in errors,
+             b"om: proved and built" in errors, built())
+    expect("a first call builds side by side", found, (0, b"accepted\n", True, True, True, [of_om]))
     expect("the second one doesn't", (run(tree, ["./om", "accept"], UNIFORM, env=environment), built()),
            ((0, b"accepted\n", b""), []))
     touch("om_pieces")
     touch("om_tests")
     expect("nor where a source is newer that om doesn't stand on",
            (run(tree, ["./om", "accept"], UNIFORM, env=environment), built()), ((0, b"accepted\n", b""), []))
+    touch("om_text")
+    code, output, errors = run(tree, ["./om", "accept"], UNIFORM, env=dict(environment, FAILS="om_text"))
+    expect("a newer source, and a proof that fails",
+           (code, output, b"fn f: not proved" in errors, errors.endswith(b"om: the build failed\n"), built()),
+           (7, b"", True, True, [of_om]))
+    touch("om_signs")
+    several = [subprocess.Popen(["./om", "accept"], stdin=subprocess.PIPE, stdout=subprocess.PIPE,
+                                stderr=subprocess.DEVNULL, cwd=tree, env=environment) for _ in range(3)]
+    outputs = [it.communicate(UNIFORM, timeout=60)[0] for it in several]
+    expect("three calls at once build once", (outputs, built()), ([b"accepted\n"] * 3, [of_om]))
+    forget()
+    expect("both programs", (run(tree, ["packaging/build.sh"], env=environment)[:2], built()),
+           ((0, b""), ["ci:om+om_each+om_pieces+om_program+om_rows+om_signs+om_text"]))
+    expect("each in its place", [run(tree, [it, "accept"], UNIFORM, env=environment)[:2] for it in ("./om", "./om-each")],
+           [(0, b"accepted\n")] * 2)
+    stopped = subprocess.Popen(["packaging/build.sh", "om"], stdout=subprocess.PIPE, stderr=subprocess.DEVNULL, cwd=tree,
+                               env=dict(environment, WAITS="yes"))
+    end = time.monotonic() + 10
+    while not os.path.exists(calls) and time.monotonic() < end:
+        time.sleep(0.02)
+    stopped.terminate()
+    expect("one that is stopped", (stopped.wait(timeout=10), built()), (130, [of_om]))
+    expect("no folder is left behind", os.listdir(away), [])
+    # where rt can't keep what is proved, and where little is wanting, it builds in place
+    unkept = dict(environment, PAGE="/no/such/kit/page")
+    forget()
+    # what a killed rt leaves, which is none that runs
+    os.makedirs(os.path.join(tree, "crates", "om_text", "out", "rt-work-4194305-x", "rlib"))
+    code, output, errors = run(tree, ["./om", "accept"], UNIFORM, env=dict(unkept, FAILS="om_text"))
+    expect("a proof that fails in place",
+           (code, output, b"== om_text\nfn f: not proved\n" in errors, errors.endswith(b"om: the build failed\n"), built()),
+           (7, b"", True, True, ["all-om"]))
+    expect("in place", (run(tree, ["./om", "accept"], UNIFORM, env=unkept)[:2], built()),
+           ((0, b"accepted\n"), ["all-om", "run-om"]))
+    for crate in "om_signs", "om_rows", "om_text", "om_pieces", "om_program":
+        os.makedirs(os.path.join(tree, "crates", crate, "out", "rlib"), exist_ok=True)
+        with open(os.path.join(tree, "crates", crate, "out", "rlib", "stamp"), "w"):
+            pass
     code, output, errors = run(tree, ["./om-each", "accept"], UNIFORM, env=environment)
-    expect("om-each builds its own", (code, output, errors, built()),
+    expect("little is wanting", (code, output, errors, built()),
            (0, b"accepted\n", b"om: proving and building what has changed\n", ["run-om_each"]))
     touch("om_text")
     code, output, errors = run(tree, ["./om", "accept"], UNIFORM, env=dict(environment, FAILS="om_text"))
-    expect("a proof that fails",
+    expect("and its proof fails",
            (code, output, b"fn f: not proved" in errors, errors.endswith(b"om: the build failed\n"), built()),
            (7, b"", True, True, ["run-om"]))
     code, output, errors = run_on_terminal(tree, ["./om", "accept"], UNIFORM, env=environment)
-    expect("a newer source", (code, output, b"om: proved and built" in errors, built()),
+    expect("and is mended", (code, output, b"om: proved and built" in errors, built()),
            (0, b"accepted\n", True, ["run-om"]))
     expect("once", (run(tree, ["./om", "accept"], UNIFORM, env=environment), built()), ((0, b"accepted\n", b""), []))
-    touch("om_signs")
-    both = [subprocess.Popen(["./om", "accept"], stdin=subprocess.PIPE, stdout=subprocess.PIPE,
-                             stderr=subprocess.DEVNULL, cwd=tree, env=environment) for _ in range(3)]
-    outputs = [it.communicate(UNIFORM, timeout=60)[0] for it in both]
-    expect("three calls at once build once", (outputs, built()), ([b"accepted\n"] * 3, ["run-om"]))
-    for crate in os.listdir(os.path.join(tree, "crates")):
-        shutil.rmtree(os.path.join(tree, "crates", crate, "out"), ignore_errors=True)
-    expect("both programs", (run(tree, ["packaging/build.sh"], env=environment)[:2], built()),
-           ((0, b""), ["all-om_each", "lib-om_program", "run-om", "run-om_each"]))
+    expect("and nothing is left behind", os.listdir(away), [])
 
 
 def main():
