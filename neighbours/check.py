@@ -274,6 +274,10 @@ def main():
     has_topcom, standard_input = shutil.which("topcom-chiro2circuits") is not None, sys.stdin
     if not has_topcom:
         print("TOPCOM isn't installed: our answers are not compared with its")
+    # they run beside what follows
+    others = [(os.path.basename(path), subprocess.Popen([sys.executable, path], stdout=subprocess.PIPE,
+                                                        stderr=subprocess.STDOUT, cwd=TOP))
+              for path in sorted(glob.glob(os.path.join(HERE, "check_*.py")))]
     look_at_examples(has_topcom)
     look_at_extensions()
     look_at_faults()
@@ -284,8 +288,10 @@ def main():
         look_at_changes(words, first, second)
         look_at_streams(words, first)
     sys.stdin = standard_input
-    for path in sorted(glob.glob(os.path.join(HERE, "check_*.py"))):
-        expect(os.path.basename(path), subprocess.run([sys.executable, path], cwd=TOP).returncode, 0)
+    for name, check in others:
+        said, _ = check.communicate()
+        print(said.decode(), end="")
+        expect(name, check.returncode, 0)
     print("neighbours: %d passed, %d failed" % (TALLY[True], TALLY[False]))
     return 1 if TALLY[False] or not TALLY[True] else 0
 
