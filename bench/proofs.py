@@ -5,9 +5,11 @@ Which functions take longest to prove. Runs `rt check --jobs 1` in the folder of
 takes the seconds between two lines `checked FUNCTION`. Prints the N slowest of all (10), with their seconds, as a table
 in Markdown; and for each crate how many functions were proved in this call, and in how many seconds.
 
-rt takes over what an earlier check on the machine has proved, and such functions have no line. So call this where
-nothing is kept, for example in a new container, or after a change in a crate below. The libraries below a crate are
-built first, and aren't counted. The first function of a crate counts for the start of the check too.
+The first line of a check comes after its start, in which the sources are read and the statements of all libraries are
+loaded. These seconds are told by themselves, with the first function, and aren't in the table. rt takes over what an
+earlier check on the machine has proved, and such functions have no line. So call this where nothing is kept, for
+example in a new container, or after a change in a crate below. The libraries below a crate are built first, and aren't
+counted.
 """
 import os
 import re
@@ -52,7 +54,9 @@ def main():
         found, count = proofs(crate)
         print("%s: %d of %d functions proved in this call, %.0f s" % (crate, len(found), count or len(found),
                                                                      sum(seconds for seconds, _ in found)))
-        slowest += found
+        for seconds, function in found[:1]:
+            print("  the start, with %s: %.0f s" % (function, seconds))
+        slowest += found[1:]
     print("\n| Function | Seconds |\n|---|---|")
     for seconds, function in sorted(slowest, reverse=True)[:most]:
         print("| `%s` | %.1f |" % (function, seconds))
