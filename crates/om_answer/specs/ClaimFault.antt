@@ -39,8 +39,8 @@ abbrev pub code_in_block : List (List (List ℕ)) → List (List ℕ) → Code
 code_in_block ls w = cond (list_any (λ l. is_line l end_line) ls) code.After
     (cond (goes_past ls w) code.Many code.Entry)
 
--- the code of a line after the document, if ls are the block's lines before it: `claim` for the first, which has
--- the verdict word
+-- the code of a line after the document, if ls are the block's lines before it: `claim` for the first, which
+-- should be a verdict word
 abbrev pub code_after_document : List (List (List ℕ)) → List (List ℕ) → Code
 code_after_document [] w = code.Claim
 code_after_document (v ∷ ls) w = code_in_block ls w

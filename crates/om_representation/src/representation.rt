@@ -67,7 +67,7 @@ pub fn represent<R: Threads + Sync>(
     requires { IsInForm document }
     ensures accepted { OnOk result (MeetsAxioms document) }
     ensures bent { OnOk result (IsFlatDocument document → ⊥) }
-    ensures value { IfOk result (λ representation. document_of representation ≡ worked_on document) }
+    ensures value { IfOk result (λ r. document_of r ≡ worked_on document) }
     ensures refused { IfErr result (IsRefusal document.elements document.body) }
 {
     let Document { elements, body, .. } = document;
@@ -92,7 +92,7 @@ fn represent_wiring(
     requires blocks { AreBlocks blocks }
     ensures accepted { OnOk result (IsWiring elements blocks) }
     ensures bent { OnOk result (IsFlat elements blocks → ⊥) }
-    ensures value { IfOk result (λ representation. document_of representation ≡ map_document (wiring_map elements blocks)) }
+    ensures value { IfOk result (λ r. document_of r ≡ map_document (wiring_map elements blocks)) }
     ensures refused { IfErr result (IsRefusal elements (Body.Wiring blocks)) }
 {
     let chirotope = chirotope_of_wiring(alloc, elements, blocks)?;
@@ -106,7 +106,7 @@ fn represent_points(alloc: Global, points: &[[i64; 3]]) -> Result<Representation
     requires high { length points.now ≤ MAX_ELEMENTS }
     requires each { All IsPoint points.now }
     ensures accepted { OnOk result (IsRankLow (vectors_of points.now) → ⊥) }
-    ensures value { IfOk result (λ representation. document_of representation ≡ map_document (points_map points.now)) }
+    ensures value { IfOk result (λ r. document_of r ≡ map_document (points_map points.now)) }
     ensures refused { IfErr result (IsRefusal (length points.now) (Body.Points points.now)) }
 {
     let chirotope = chirotope_of_points(alloc, points)?;
@@ -121,7 +121,7 @@ fn represent_map<R: Threads + Sync>(rt: &R, raw: RawMap) -> Result<Representatio
     requires high { raw.elements ≤ MAX_ELEMENTS }
     requires whole { IsMapOn raw.elements raw }
     ensures accepted { IsOk result ↔ IsChirotope (map_of raw) }
-    ensures value { IfOk result (λ representation. document_of representation ≡ map_document (map_of raw)) }
+    ensures value { IfOk result (λ r. document_of r ≡ map_document (map_of raw)) }
     ensures refused { IfErr result (IsRefusal raw.elements (Body.Chirotope raw)) }
 {
     match om_chirotope::check(rt, raw) {
@@ -143,7 +143,7 @@ fn represent_circuits<R: Threads + Sync>(
     requires high { elements ≤ MAX_ELEMENTS }
     requires members { AreMembersOn elements list }
     ensures accepted { OnOk result (MeetsCircuitAxioms list) }
-    ensures value { IfOk result (λ representation. document_of representation ≡ with_map elements (Body.Circuits list)) }
+    ensures value { IfOk result (λ r. document_of r ≡ with_map elements (Body.Circuits list)) }
     ensures refused { IfErr result (IsRefusal elements (Body.Circuits list)) }
 {
     match read_circuits(rt, alloc, elements, list) {
@@ -169,7 +169,7 @@ fn represent_cocircuits<R: Threads + Sync>(
     requires high { elements ≤ MAX_ELEMENTS }
     requires members { AreMembersOn elements list }
     ensures accepted { OnOk result (MeetsCircuitAxioms list) }
-    ensures value { IfOk result (λ representation. document_of representation ≡ with_map elements (Body.Cocircuits list)) }
+    ensures value { IfOk result (λ r. document_of r ≡ with_map elements (Body.Cocircuits list)) }
     ensures refused { IfErr result (IsRefusal elements (Body.Cocircuits list)) }
 {
     match read_cocircuits(rt, alloc, elements, list) {
@@ -195,7 +195,7 @@ fn represent_covectors<R: Threads + Sync>(
     requires high { elements ≤ MAX_ELEMENTS }
     requires members { AreMembersOn elements list }
     ensures accepted { OnOk result (MeetsCovectorAxioms list) }
-    ensures value { IfOk result (λ representation. document_of representation ≡ with_map elements (Body.Covectors list)) }
+    ensures value { IfOk result (λ r. document_of r ≡ with_map elements (Body.Covectors list)) }
     ensures refused { IfErr result (IsRefusal elements (Body.Covectors list)) }
 {
     match read_covectors(rt, alloc, elements, list) {
