@@ -146,8 +146,8 @@ def builds(tree, room):
         file.write("Handles allowed: none.\n")
     with open(os.path.join(tree, "crates.txt"), "w") as file:
         file.write("# crates\nom_signs:\nom_rows: om_signs\nom_text: om_signs itoa\nom_pieces: om_text\n"
-                   "om_tests: om_text\nom_program: om_text om_rows\nom: om_program\nom_each: om_program om_pieces\n")
-    of_om = "ci:om+om_program+om_rows+om_signs+om_text"
+                   "om_tests: om_text\nom_program: om_text om_rows om_pieces\nom: om_program\nom_each: om_program\n")
+    of_om = "ci:om+om_pieces+om_program+om_rows+om_signs+om_text"
 
     def built():
         if not os.path.exists(calls):
@@ -182,12 +182,12 @@ def builds(tree, room):
     expect("a proof that fails in a first build", (code, output, *said, built()),
            (7, b"", True, False, False, True, [of_om]))
     code, output, errors = run_on_terminal(tree, ["./om", "accept"], UNIFORM, env=environment)
-    found = (code, output, b"om: proving and building 5 crates" in errors, b"5 of 5 crates proved (om)" in errors,
+    found = (code, output, b"om: proving and building 6 crates" in errors, b"6 of 6 crates proved (om)" in errors,
              b"om: proved and built" in errors, built())
     expect("a first call builds side by side", found, (0, b"accepted\n", True, True, True, [of_om]))
     expect("the second one doesn't", (run(tree, ["./om", "accept"], UNIFORM, env=environment), built()),
            ((0, b"accepted\n", b""), []))
-    touch("om_pieces")
+    touch("om_each")
     touch("om_tests")
     expect("nor where a source is newer that om doesn't stand on",
            (run(tree, ["./om", "accept"], UNIFORM, env=environment), built()), ((0, b"accepted\n", b""), []))

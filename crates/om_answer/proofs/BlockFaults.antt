@@ -23,7 +23,8 @@ use Rattle.om_answer.specs.declared.block.Block.TheVariants.{Empty, Vectors, Ent
 use Rattle.om_answer.specs.declared.block.Block.TheVariants.{Exhausted, Frontier, Closed}
 use Rattle.om_answer.specs.declared.block.Front.{Front}
 use Rattle.om_answer.specs.declared.block.Front.TheVariants as front
-use Rattle.om_answer.specs.BlockLines.{word_line, vector_of, entry_of, weight_of, pivots_of, basis_of, width_of}
+use Rattle.om_answer.specs.BlockLines.{vector_of, entry_of, weight_of, pivots_of, basis_of, width_of}
+use Rattle.om_reply.specs.VerdictText.{word_line}
 use Rattle.om_answer.specs.Block.{AreLinesOf, IsTableauEnd, pivots, width, IsBlock, realizable, nonrealizable}
 use Rattle.om_answer.specs.Block.{undecided, limit, MOST_VECTORS, MOST_WEIGHTS}
 use Rattle.om_answer.specs.BlockReading.{opened, with_next, with_entry, tested, with_tableau, with_basis, searched}

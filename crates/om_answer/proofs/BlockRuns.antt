@@ -26,7 +26,8 @@ use Rattle.om_answer.specs.declared.block.Block.TheVariants.{Empty, Vectors, Ent
 use Rattle.om_answer.specs.declared.block.Block.TheVariants.{Exhausted, Frontier, Closed}
 use Rattle.om_answer.specs.declared.block.Front.{Front}
 use Rattle.om_answer.specs.declared.block.Front.TheVariants as front
-use Rattle.om_answer.specs.BlockLines.{word_line, vector_of, entry_of, weight_of}
+use Rattle.om_answer.specs.BlockLines.{vector_of, entry_of, weight_of}
+use Rattle.om_reply.specs.VerdictText.{word_line}
 use Rattle.om_answer.specs.Block.{AreLinesOf, IsSearchEnd, exhausted, frontier, IsTableauEnd, pivots, width, IsBlock}
 use Rattle.om_answer.specs.Block.{realizable, nonrealizable, undecided, limit, MOST_VECTORS, MOST_WEIGHTS}
 use Rattle.om_answer.specs.BlockReading.{with_next, searched, ended, block_step, block_value}

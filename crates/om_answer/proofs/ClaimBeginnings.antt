@@ -23,7 +23,7 @@ use Rattle.om_text.proofs.Language.{outcome_passes, begins_run}
 use Rattle.om_text.proofs.Course.{spelled_run}
 use Rattle.om_text.proofs.Feeds.{is_one_line, lines_text, lines_one_line, one_line-take, one_line-append}
 use Rattle.om_certificate.specs.declared.verdict.Verdict.{Verdict}
-use Rattle.om_answer.specs.declared.claim.Claim.{Claim}
+use Rattle.om_reply.specs.declared.claim.Claim.{Claim}
 use Rattle.om_answer.specs.declared.block.Block.{Block}
 use Rattle.om_answer.specs.declared.block.Block.TheVariants as block
 use Rattle.om_answer.specs.BlockReading.{block_step, block_value, block_outcome}

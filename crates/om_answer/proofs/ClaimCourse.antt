@@ -21,7 +21,7 @@ use Rattle.om_text.proofs.Completion as completions
 use Rattle.om_text.proofs.Feeds.{is_one_line, one_line-append}
 use Rattle.om_certificate.specs.declared.verdict.Verdict.{Verdict}
 use Rattle.om_certificate.specs.declared.verdict.Verdict.TheVariants.{Realizable}
-use Rattle.om_answer.specs.declared.claim.Claim.{Claim}
+use Rattle.om_reply.specs.declared.claim.Claim.{Claim}
 use Rattle.om_answer.specs.declared.block.Block.{Block}
 use Rattle.om_answer.specs.declared.block.Block.TheVariants as block
 use Rattle.om_answer.specs.BlockReading.{block_step, block_value}

@@ -19,7 +19,7 @@ use Rattle.om_text.specs.Part.{IsDocumentAtFront}
 use Rattle.om_text.specs.Print.{text_of}
 use Rattle.om_text.proofs.Outcome.{outcome_from}
 use Rattle.om_certificate.specs.declared.verdict.Verdict.{Verdict}
-use Rattle.om_answer.specs.declared.claim.Claim.{Claim}
+use Rattle.om_reply.specs.declared.claim.Claim.{Claim}
 use Rattle.om_answer.specs.declared.block.Block.TheVariants as block
 use Rattle.om_answer.specs.BlockReading.{block_outcome}
 use Rattle.om_answer.specs.Claim.{IsClaim}

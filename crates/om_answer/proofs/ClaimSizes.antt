@@ -1,6 +1,6 @@
 -- The evidence of a claim of a limited number of bytes is within the limits of the checker.
 --
--- Main definitions: word_bytes, line_bytes
+-- Main definitions: line_bytes
 -- Main results: evidence_within
 use Rattle.std.proofs.Common.{◌≡◌, ℕ, suc, ◌+◌, ◌*◌, ◌≤◌, List, [], ◌∷◌, ◌++◌, Bool, length, map, filter, ap, arith}
 use Rattle.std.proofs.Common.{inl, inr}
@@ -13,20 +13,16 @@ use Rattle.om_text.specs.Document.{end_line}
 use Rattle.om_certificate.specs.declared.entry.Entry.{Entry}
 use Rattle.om_certificate.specs.declared.verdict.Verdict.{Verdict}
 use Rattle.om_certificate.specs.Forms.{IsEntryInForm, IsWeightInForm}
-use Rattle.om_answer.specs.declared.claim.Claim.{Claim}
+use Rattle.om_reply.specs.declared.claim.Claim.{Claim}
 use Rattle.om_answer.specs.Numbers.{numbers_within, AreIn}
 use Rattle.om_answer.specs.BlockLines.{entry_ranges, entry_from, strictness, entry_of, weight_of}
 use Rattle.om_answer.specs.Block.{AreLinesOf, IsBlock, realizable, nonrealizable, undecided, limit}
-use Rattle.om_answer.specs.Claim.{IsClaim, HasEvidenceWithinLimits}
+use Rattle.om_answer.specs.Claim.{IsClaim}
+use Rattle.om_certificate.specs.Verdicts.{HasEvidenceWithinLimits}
 use Rattle.om_answer.proofs.BlockForms.{lines_head, lines_tail}
 use Rattle.om_answer.proofs.VerdictForms.{some_at, numbers_in, entry_form, weight_form, each_line}
 
 -- ---- the bytes of words and of lines
-
--- the bytes of words, with one more for each
-abbrev pub word_bytes : List (List ℕ) → ℕ
-word_bytes [] = 0
-word_bytes (w ∷ ws) = suc (length w) + word_bytes ws
 
 abbrev pub line_bytes : List (List (List ℕ)) → ℕ
 line_bytes [] = 0

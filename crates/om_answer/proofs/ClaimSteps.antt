@@ -22,7 +22,7 @@ use Rattle.om_text.proofs.CourseSteps.{step_shows}
 use Rattle.om_text.proofs.StepErrors.{step_error}
 use Rattle.om_text.proofs.Course.{first_not_end, open_no_end, spelled_no_end}
 use Rattle.om_certificate.specs.declared.verdict.Verdict.{Verdict}
-use Rattle.om_answer.specs.declared.claim.Claim.{Claim}
+use Rattle.om_reply.specs.declared.claim.Claim.{Claim}
 use Rattle.om_answer.specs.declared.block.Block.{Block}
 use Rattle.om_answer.specs.declared.block.Block.TheVariants as block
 use Rattle.om_answer.specs.BlockReading.{block_step, block_value}

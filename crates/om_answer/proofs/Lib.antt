@@ -1,4 +1,3 @@
-mod Elements
 pub mod NumberLaws
 pub mod Readings
 pub mod BlockForms
@@ -13,6 +12,5 @@ pub mod ClaimReading
 pub mod VerdictForms
 pub mod ClaimSizes
 pub mod OneReading
-pub mod BlockTexts
 pub mod Spelled
 pub mod VerdictReading

@@ -5,7 +5,7 @@ use Rattle.std.proofs.Common.{◌≡◌, ◌⊎◌, inl, inr, ℕ, List, refl, s
 use Rattle.std.specs.Prelude.{Result, Ok, Err}
 use Rattle.om_text.specs.declared.code.Code.{Code}
 use Rattle.om_text.specs.declared.state.State.TheVariants.{Start}
-use Rattle.om_answer.specs.declared.claim.Claim.{Claim}
+use Rattle.om_reply.specs.declared.claim.Claim.{Claim}
 use Rattle.om_answer.specs.Claim.{IsClaim}
 use Rattle.om_answer.specs.ClaimFault.{IsClaimFault}
 use Rattle.om_answer.proofs.ClaimSteps.{in_document}

@@ -28,8 +28,8 @@ use Rattle.om_answer.specs.Numbers.{at_least, number_within, numbers_within, IsI
 use Rattle.om_answer.specs.BlockLines.{vector_ranges, vector_from, vector_of, entry_ranges, entry_from, strictness}
 use Rattle.om_answer.specs.BlockLines.{entry_of, weight_ranges, weight_from, weight_of, count_from, pivots_ranges}
 use Rattle.om_answer.specs.BlockLines.{pivots_of, some_of, basis_of, stage_of, width_from, width_ranges, width_of}
-use Rattle.om_answer.specs.VerdictText.{named, vector_numbers, vector_words, entry_numbers, relation_name, entry_words}
-use Rattle.om_answer.specs.VerdictText.{weight_numbers, weight_words, stage_name, width_numbers}
+use Rattle.om_reply.specs.VerdictText.{named, vector_numbers, vector_words, entry_numbers, relation_name, entry_words}
+use Rattle.om_reply.specs.VerdictText.{weight_numbers, weight_words, stage_name, width_numbers}
 
 -- ---- numbers
 

@@ -27,8 +27,8 @@ use Rattle.om_answer.specs.BlockLines.{vector_of, entry_of, weight_of}
 use Rattle.om_answer.specs.Block.{IsSearchEnd, IsTableauEnd, IsBlock, exhausted, frontier, pivots, width, realizable}
 use Rattle.om_answer.specs.Block.{nonrealizable, undecided, limit}
 use Rattle.om_answer.specs.Claim.{IsClaim, IsSpelledClaim}
-use Rattle.om_answer.specs.VerdictText.{vector_words, entry_words, weight_words, search_lines, tableau_lines}
-use Rattle.om_answer.specs.VerdictText.{block_lines, chirotope_document, verdict_text, claim_of}
+use Rattle.om_reply.specs.VerdictText.{vector_words, entry_words, weight_words, search_lines, tableau_lines}
+use Rattle.om_reply.specs.VerdictText.{block_lines, chirotope_document, verdict_text, claim_of}
 use Rattle.om_answer.proofs.Spelled.{vector_line, entry_line, weight_line, pivots_line, basis_line, width_line}
 use Rattle.om_answer.proofs.Spelled.{all_lines}
 

@@ -14,7 +14,8 @@ use Rattle.om_certificate.specs.declared.lp_end.LpEnd.TheVariants as lp_end
 use Rattle.om_certificate.specs.declared.verdict.Verdict.{Verdict}
 use Rattle.om_certificate.specs.declared.verdict.Verdict.TheVariants.{Realizable, Nonrealizable, Undecided, Limit}
 use Rattle.om_text.specs.Document.{end_line}
-use Rattle.om_answer.specs.BlockLines.{word_line, vector_of, entry_of, weight_of, pivots_of, basis_of, width_of}
+use Rattle.om_answer.specs.BlockLines.{vector_of, entry_of, weight_of, pivots_of, basis_of, width_of}
+use Rattle.om_reply.specs.VerdictText.{word_line}
 
 -- each line says the item at its position
 abbrev pub AreLinesOf : {A : Type 0} → (List (List ℕ) → Option A) → List (List (List ℕ)) → List A → Type 0

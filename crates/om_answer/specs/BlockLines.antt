@@ -18,10 +18,6 @@ use Rattle.om_answer.specs.declared.range.Range.{Range}
 use Rattle.om_answer.specs.declared.range.Range.TheVariants.{Between, UpToSize}
 use Rattle.om_answer.specs.Numbers.{numbers_within}
 
--- a line of one word
-abbrev pub word_line : List ℕ → List (List ℕ)
-word_line w = w ∷ []
-
 -- an element
 abbrev pub element : Range
 element = Between 1 MAX_ELEMENTS

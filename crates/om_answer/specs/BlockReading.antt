@@ -17,7 +17,8 @@ use Rattle.om_answer.specs.declared.block.Block.TheVariants.{Empty, Vectors, Ent
 use Rattle.om_answer.specs.declared.block.Block.TheVariants.{Exhausted, Frontier, Closed}
 use Rattle.om_answer.specs.declared.block.Front.{Front}
 use Rattle.om_answer.specs.declared.block.Front.TheVariants as front
-use Rattle.om_answer.specs.BlockLines.{word_line, vector_of, entry_of, weight_of, pivots_of, basis_of, width_of}
+use Rattle.om_answer.specs.BlockLines.{vector_of, entry_of, weight_of, pivots_of, basis_of, width_of}
+use Rattle.om_reply.specs.VerdictText.{word_line}
 use Rattle.om_answer.specs.Block.{MOST_VECTORS, MOST_WEIGHTS}
 
 -- the block that a verdict word opens

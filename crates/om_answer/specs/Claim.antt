@@ -1,14 +1,11 @@
 -- Claims: a document followed by a verdict block.
 --
 -- Trusted: `read_claim` promises exactly this.
-use Rattle.std.specs.Prelude.{ℕ, ◌≡◌, List, ◌++◌, IfOk}
-use Rattle.om_certificate.specs.declared.verdict.Verdict.{Verdict}
-use Rattle.om_certificate.specs.Verdicts.{certificate_of}
-use Rattle.om_certificate.specs.Validity.{IsWithinLimits}
+use Rattle.std.specs.Prelude.{ℕ, ◌≡◌, List, ◌++◌}
 use Rattle.om_text.specs.Lines.{wordful}
 use Rattle.om_text.specs.Document.{IsSpelled}
 use Rattle.om_answer.specs.Block.{IsBlock}
-use Rattle.om_answer.specs.declared.claim.Claim.{Claim}
+use Rattle.om_reply.specs.declared.claim.Claim.{Claim}
 
 -- the words of lines are those of a document followed by those of a verdict block; c is the claim that they spell
 pub record IsSpelledClaim (ls : List (List (List ℕ))) (c : Claim) : Type 0 where
@@ -21,7 +18,3 @@ pub record IsSpelledClaim (ls : List (List (List ℕ))) (c : Claim) : Type 0 whe
 -- the lines are a claim, and c is its value
 abbrev pub IsClaim : List (List ℕ) → Claim → Type 0
 IsClaim ls c = IsSpelledClaim (wordful ls) c
-
--- if the verdict carries evidence, this is within the limits of the checker
-abbrev pub HasEvidenceWithinLimits : Verdict → Type 0
-HasEvidenceWithinLimits v = IfOk (certificate_of v) IsWithinLimits

@@ -9,7 +9,7 @@ use Rattle.om_text.specs.Lines.{words, wordful}
 use Rattle.om_text.specs.Settings.{is_line}
 use Rattle.om_text.specs.Document.{end_line}
 use Rattle.om_text.specs.Fault.{IsFaultIn, role, table, first_of}
-use Rattle.om_answer.specs.declared.claim.Claim.{Claim}
+use Rattle.om_reply.specs.declared.claim.Claim.{Claim}
 use Rattle.om_answer.specs.BlockLines.{vector_of, weight_of}
 use Rattle.om_answer.specs.Block.{MOST_VECTORS, MOST_WEIGHTS}
 use Rattle.om_answer.specs.Claim.{IsClaim}

@@ -1,8 +1,6 @@
-pub mod Texts
 pub mod Numbers
 pub mod BlockLines
 pub mod Block
 pub mod Claim
 pub mod ClaimFault
-pub mod VerdictText
 pub mod BlockReading

@@ -7,12 +7,13 @@ ghost use Rattle.om_text.specs.declared.code.Code.{Code};
 ghost use Rattle.om_text.specs.Lines.{lines};
 ghost use Rattle.om_text.specs.Parsed.{IsAnswerUnlessMemory, IfLine};
 ghost use Rattle.om_text.specs.Form.{IsInForm};
-ghost use Rattle.om_answer.specs.declared.claim.Claim.{Claim};
-ghost use Rattle.om_answer.specs.Claim.{IsClaim, HasEvidenceWithinLimits};
+ghost use Rattle.om_reply.specs.declared.claim.Claim.{Claim};
+ghost use Rattle.om_answer.specs.Claim.{IsClaim};
+ghost use Rattle.om_certificate.specs.Verdicts.{HasEvidenceWithinLimits};
 ghost use Rattle.om_answer.specs.ClaimFault.{IsClaimFault};
 
 use super::block_reader::read_block;
-use super::claim::Claim;
+use om_reply::Claim;
 use om_text::{ParseError, parse_part};
 use std::alloc::Global;
 

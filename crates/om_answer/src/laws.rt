@@ -4,7 +4,7 @@ ghost use Rattle.std.specs.Prelude.{ℕ, ◌≡◌, ◌≤◌, ◌↔◌, ◌⊎
 ghost use Rattle.om_text.specs.declared.code.Code.{Code};
 ghost use Rattle.om_text.specs.Fault.{Begins};
 ghost use Rattle.om_text.specs.Lines.{lines};
-ghost use Rattle.om_answer.specs.declared.claim.Claim.{Claim};
+ghost use Rattle.om_reply.specs.declared.claim.Claim.{Claim};
 ghost use Rattle.om_answer.specs.Claim.{IsClaim};
 ghost use Rattle.om_answer.specs.ClaimFault.{AreClaim, IsClaimFault};
 

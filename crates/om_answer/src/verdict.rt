@@ -1,4 +1,4 @@
-//! Printing claims, and verdicts on chirotopes.
+//! Printing verdicts on chirotopes.
 
 ghost use Rattle.std.specs.Prelude.{◌≡◌, ◌≢◌, ◌≤◌, IfOk};
 ghost use Rattle.om_signs.specs.declared.limits.TheConstants.{MAX_VALUES};
@@ -7,12 +7,11 @@ ghost use Rattle.om_certificate.specs.Forms.{IsVerdictInForm};
 ghost use Rattle.om_text.specs.Form.{IsInForm};
 ghost use Rattle.om_text.specs.Lines.{lines};
 ghost use Rattle.om_answer.specs.Claim.{IsClaim};
-ghost use Rattle.om_answer.specs.VerdictText.{chirotope_document, verdict_text, claim_of, claim_text};
+ghost use Rattle.om_reply.specs.VerdictText.{chirotope_document, verdict_text, claim_of};
 
-use super::claim::Claim;
-use super::verdict_lines::push_block;
 use om_certificate::Verdict;
 use om_chirotope::Chirotope;
+use om_reply::push_block;
 use om_signs::{List, NoMemory};
 use om_text::{Body, Document, print};
 use std::alloc::Global;
@@ -60,19 +59,5 @@ pub fn print_verdict(alloc: Global, chi: &Chirotope, verdict: &Verdict) -> Resul
     let document = document_of(alloc, chi)?;
     let mut text = print(alloc, &document)?;
     push_block(&mut text, verdict)?;
-    Ok(text)
-}
-
-/// The text of a claim: the canonical form of its document, and then the lines of the verdict block. Nothing is copied.
-///
-/// The document is in form, and the verdict has the forms and is within the limits of a claim. [`NoMemory`] comes only
-/// for want of memory.
-pub fn print_claim(alloc: Global, claim: &Claim) -> Result<Vec<u8>, NoMemory>
-    requires document { IsInForm claim.now.document }
-    requires verdict { IsVerdictInForm claim.now.verdict }
-    ensures { IfOk result (λ text. text.items ≡ claim_text claim.now) }
-{
-    let mut text = print(alloc, &claim.document)?;
-    push_block(&mut text, &claim.verdict)?;
     Ok(text)
 }

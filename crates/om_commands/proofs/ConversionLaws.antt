@@ -34,8 +34,8 @@ use Rattle.om_text.specs.declared.body.Body.TheVariants as body
 use Rattle.om_text.specs.Form.{IsInForm}
 use Rattle.om_text.specs.declared.kinds.Kind.{Kind}
 use Rattle.om_text.specs.declared.kinds.Kind.TheVariants as kind
-use Rattle.om_answer.specs.declared.line.Line.{Line}
-use Rattle.om_answer.specs.declared.line.Line.TheVariants as line
+use Rattle.om_printing.specs.declared.line.Line.{Line}
+use Rattle.om_printing.specs.declared.line.Line.TheVariants as line
 use Rattle.om_reply.specs.declared.answer.Answer.{Answer}
 use Rattle.om_representation.specs.declared.representation.Representation.{Representation}
 use Rattle.om_representation.specs.declared.representation.Representation.TheVariants as representation
@@ -47,9 +47,9 @@ use Rattle.om_representation.specs.Covectors.{IsCovectorIn}
 use Rattle.om_representation.specs.Documents.{document_of, map_document, circuits_document, cocircuits_document}
 use Rattle.om_representation.specs.Documents.{covectors_document}
 use Rattle.om_reply.specs.Answers.{says, shows}
-use Rattle.om_reply.proofs.ChoiceLaws.{elements_of}
+use Rattle.om_representation.proofs.ChoiceLaws.{elements_of}
 use Rattle.om_representation.specs.Widths.{IsList, IsKept, IsUnchosen}
-use Rattle.om_reply.specs.RefusalLines.{IsWidthLine}
+use Rattle.om_representation.specs.RefusalLines.{IsWidthLine}
 use Rattle.om_commands.specs.Conversions.{has_kind, IsMemberOf, HasExactly, IsConversion, IsConversionFrom, itself}
 use Rattle.om_commands.specs.Conversions.{wide, limited, converted, is_direct, IsKeptAs, IsUnlisted}
 

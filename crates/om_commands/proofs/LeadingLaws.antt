@@ -13,7 +13,7 @@ use Rattle.om_lexext.specs.declared.lex_error.LexError.{LexError}
 use Rattle.om_lexext.specs.declared.lex_error.LexError.TheVariants as why_of
 use Rattle.om_lexext.specs.declared.signed.Signed.{Signed}
 use Rattle.om_lexext.specs.Lexicographic.{AreEntries, IsLexicographicList, IsOverValues, NamesNumber}
-use Rattle.om_answer.specs.declared.line.Line.TheVariants as line
+use Rattle.om_printing.specs.declared.line.Line.TheVariants as line
 use Rattle.om_reply.specs.Answers.{says}
 use Rattle.om_reply.specs.Above.{first_above}
 use Rattle.om_commands.specs.LexicalExtensions.{IsExtensionOfMap}

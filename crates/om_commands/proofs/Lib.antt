@@ -1,6 +1,7 @@
 mod AboveLaws
 mod AcyclicLaws
 mod ConversionLaws
+pub mod KeptLaws
 pub mod LeadingLaws
 pub mod OneAnyRank
 pub mod OneConversion

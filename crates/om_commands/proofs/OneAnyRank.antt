@@ -7,7 +7,7 @@ use Rattle.std.specs.Prelude.{ℕ, ◌≡◌, ◌+◌, List, [], ◌∷◌, leng
 use Rattle.std.proofs.Common.{sym, ◌∙◌, ap, subst, arith}
 use Rattle.om_signs.specs.declared.sign.Sign.{Sign}
 use Rattle.om_chirotope.specs.Map.{SignMap, IsMap}
-use Rattle.om_paint.specs.declared.painted.Painted.{Painted}
+use Rattle.om_oriented.specs.declared.painted.Painted.{Painted}
 use Rattle.om_paint.specs.Hulls.{green_alone, EachItem}
 use Rattle.om_paint.specs.Paintings.{colouring, IsPaintingOf}
 use Rattle.om_paint.proofs.OnePainting.{one_first, one_painting}
@@ -15,7 +15,7 @@ use Rattle.om_lexext.specs.declared.signed.Signed.{Signed}
 use Rattle.om_lexext.proofs.Extensions.{same_extensions}
 use Rattle.om_text.specs.declared.document.Document.{Document}
 use Rattle.om_text.specs.Form.{IsInForm}
-use Rattle.om_answer.specs.declared.line.Line.TheVariants as line
+use Rattle.om_printing.specs.declared.line.Line.TheVariants as line
 use Rattle.om_reply.specs.Answers.{shows, tells}
 use Rattle.om_reply.specs.Determined.{IsDetermined}
 use Rattle.om_commands.specs.Hulls.{IsHullOfMap, cyclic, acyclic}

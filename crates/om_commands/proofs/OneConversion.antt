@@ -9,13 +9,13 @@ use Rattle.om_text.specs.declared.body.Body.{Body}
 use Rattle.om_text.specs.declared.body.Body.TheVariants as body
 use Rattle.om_text.specs.declared.kinds.Kind.{Kind}
 use Rattle.om_text.specs.Print.{printed}
-use Rattle.om_answer.specs.declared.line.Line.TheVariants as line
+use Rattle.om_printing.specs.declared.line.Line.TheVariants as line
 use Rattle.om_commands.specs.Conversions.{has_kind, HasExactly, IsMemberOf, IsConverted, IsConversion, itself, wide}
 use Rattle.om_commands.specs.Conversions.{limited, converted}
 use Rattle.om_reply.specs.Determined.{IsDetermined}
 use Rattle.om_commands.specs.Operations.{IsNormalBody}
 use Rattle.om_reply.proofs.Alike.{both_say}
-use Rattle.om_reply.proofs.OneChirotope.{one_width}
+use Rattle.om_representation.proofs.OneChirotope.{one_width}
 use Rattle.om_commands.proofs.OneText.{IsNormalAs, denoted_alike}
 
 -- a document isn't both of the kind and of another

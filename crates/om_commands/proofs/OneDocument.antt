@@ -9,12 +9,12 @@ use Rattle.om_text.specs.declared.document.Document.{Document}
 use Rattle.om_words.specs.declared.colouring.Colouring.{Colouring}
 use Rattle.om_words.specs.declared.leading.Leading.{Leading}
 use Rattle.om_words.specs.Tasks.{given_list}
-use Rattle.om_answer.specs.declared.line.Line.TheVariants as line
+use Rattle.om_printing.specs.declared.line.Line.TheVariants as line
 use Rattle.om_reply.specs.Determined.{IsDetermined}
 use Rattle.om_commands.specs.LexicalExtensions.{IsExtensionOfMap, IsLexicalExtension, outside, full, fewer}
 use Rattle.om_commands.specs.Paintings as paintings
 use Rattle.om_reply.proofs.Alike.{both_say, one_place}
-use Rattle.om_reply.proofs.OneChirotope.{for_kept_chirotope_determined}
+use Rattle.om_commands.proofs.KeptLaws.{for_kept_chirotope_determined}
 
 -- ---- lexicographic extensions
 

@@ -11,7 +11,7 @@ use Rattle.om_text.specs.declared.document.Document.{Document}
 use Rattle.om_text.specs.declared.body.Body.{Body}
 use Rattle.om_text.specs.declared.body.Body.TheVariants as body
 use Rattle.om_text.specs.Print.{printed}
-use Rattle.om_answer.specs.declared.line.Line.TheVariants as line
+use Rattle.om_printing.specs.declared.line.Line.TheVariants as line
 use Rattle.om_representation.specs.Covectors.{IsCovectorIn}
 use Rattle.om_commands.specs.declared.operation.Operation.{Operation}
 use Rattle.om_commands.specs.declared.operation.Operation.TheVariants.{Dual, Delete, Contract, Reorient}
@@ -19,7 +19,7 @@ use Rattle.om_reply.specs.Determined.{IsDetermined}
 use Rattle.om_commands.specs.Operations.{TakesOnly, elements_left, AreMade, kind_made, TakesChirotope, HasTooManyOn}
 use Rattle.om_commands.specs.Operations.{IsResult, IsOperation, outside, last, wide, limited, made}
 use Rattle.om_reply.proofs.Alike.{both_say, one_place}
-use Rattle.om_reply.proofs.OneChirotope.{one_width}
+use Rattle.om_representation.proofs.OneChirotope.{one_width}
 use Rattle.om_commands.proofs.OneText.{IsNormalAs, denoted_alike}
 
 -- ---- what is made

@@ -1,6 +1,6 @@
--- The three-term test of a document ends a run in one way, and so does its upgrade.
+-- The three-term test of a document ends a run in one way, and so does its upgrade, or its refusal.
 --
--- Main results: tests_determined, upgrades_determined.
+-- Main results: refusals_determined, tests_determined, upgrades_determined.
 --
 -- Reference: Björner, Las Vergnas, Sturmfels, White and Ziegler, Oriented Matroids, chapter 3.
 use Rattle.std.specs.Prelude.{ℕ, ◌≡◌, ◌+◌, ◌<◌, List, length, refl}
@@ -16,12 +16,16 @@ use Rattle.om_threeterm.specs.declared.three_refused.ThreeRefused.TheVariants.{A
 use Rattle.om_threeterm.specs.Violations.{IsUnexchanged, IsFirstUnexchangedOf, IsFirstUnexchanged, IsUnbalancedList}
 use Rattle.om_threeterm.specs.Violations.{IsFirstUnbalancedOf, IsFirstUnbalanced}
 use Rattle.om_text.specs.declared.document.Document.{Document}
-use Rattle.om_reply.specs.Determined.{IsDetermined}
+use Rattle.om_representation.specs.declared.document_refused.DocumentRefused.{DocumentRefused}
+use Rattle.om_representation.specs.Axioms.{IsRefused}
+use Rattle.om_representation.specs.RefusalLines.{refused_line}
+use Rattle.om_reply.specs.Answers.{says}
+use Rattle.om_reply.specs.Determined.{AreAlike, IsDetermined}
 use Rattle.om_commands.specs.ThreeTermTests.{failure_line, IsFirstFailure, IsTestOfMap, fails, meets, IsThreeTermTest}
 use Rattle.om_commands.specs.ThreeTermTests.{of_map, refused, no_map}
 use Rattle.om_commands.specs.Upgrades as upgrade
 use Rattle.om_reply.proofs.Alike.{both_say}
-use Rattle.om_reply.proofs.OneRefusal.{one_first, not_refused, refusals_determined}
+use Rattle.om_representation.proofs.OneRefusal.{one_first, one_refused, not_refused}
 
 -- ---- the first violated exchange
 
@@ -118,6 +122,10 @@ maps_determined m a b (meets h om) (fails v f broken) = absurd (broken om)
 maps_determined m a b (meets h om) (meets k om') = (refl, refl)
 
 -- ---- documents
+
+pub refusals_determined : (d : Document) (l m : DocumentRefused) → IsRefused d l → IsRefused d m
+    → AreAlike (says (refused_line l)) (says (refused_line m))
+refusals_determined d l m f g = both_say (refused_line l) (refused_line m) (ap refused_line (one_refused d l m f g))
 
 pub tests_determined : (d : Document) → IsDetermined (IsThreeTermTest d)
 tests_determined d a b (of_map m x p t) (of_map k y q u) = let same : k ≡ m = cc in

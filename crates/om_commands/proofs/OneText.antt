@@ -31,7 +31,7 @@ use Rattle.om_representation.specs.Covectors.{IsCovectorIn, IsCovectorOfBody}
 use Rattle.om_representation.specs.Documents.{raw_of}
 use Rattle.om_commands.specs.Conversions.{has_kind}
 use Rattle.om_commands.specs.Operations.{IsNormalBody}
-use Rattle.om_reply.proofs.OneChirotope.{one_normal_map}
+use Rattle.om_representation.proofs.OneChirotope.{one_normal_map}
 
 -- ---- names
 

@@ -4,8 +4,8 @@
 use Rattle.std.specs.Prelude.{List}
 use Rattle.om_chirotope.specs.Map.{SignMap}
 use Rattle.om_lexext.specs.declared.signed.Signed.{Signed}
-use Rattle.om_paint.specs.declared.painted.Painted.{Painted}
-use Rattle.om_paint.specs.declared.painted.Painted.TheVariants.{Circuit, Cocircuit}
+use Rattle.om_oriented.specs.declared.painted.Painted.{Painted}
+use Rattle.om_oriented.specs.declared.painted.Painted.TheVariants.{Circuit, Cocircuit}
 use Rattle.om_text.specs.declared.document.Document.{Document}
 use Rattle.om_reply.specs.declared.answer.Answer.{Answer}
 use Rattle.om_words.specs.declared.colouring.Colouring.{Colouring}
@@ -15,7 +15,7 @@ use Rattle.om_commands.specs.Paintings as paintings
 use Rattle.om_commands.specs.Hulls as hulls
 use Rattle.om_words.specs.Tasks.{given_list}
 use Rattle.om_commands.specs.LexicalExtensions as extensions
-use Rattle.om_reply.proofs.ChoiceLaws.{kept_replies}
+use Rattle.om_commands.proofs.KeptLaws.{kept_replies}
 
 painted_replies : (item : Painted) → IsReply (says (paintings.painted_line item))
 painted_replies (Circuit X) = tt

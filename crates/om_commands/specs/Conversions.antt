@@ -15,7 +15,7 @@ use Rattle.om_text.specs.declared.body.Body.TheVariants as body
 use Rattle.om_text.specs.Form.{IsInForm}
 use Rattle.om_text.specs.declared.kinds.Kind.{Kind}
 use Rattle.om_text.specs.declared.kinds.Kind.TheVariants as kind
-use Rattle.om_answer.specs.declared.line.Line.TheVariants as line
+use Rattle.om_printing.specs.declared.line.Line.TheVariants as line
 use Rattle.om_reply.specs.declared.answer.Answer.{Answer}
 use Rattle.om_representation.specs.declared.representation.Representation.{Representation}
 use Rattle.om_reply.specs.Answers.{says, shows}
@@ -23,7 +23,7 @@ use Rattle.om_representation.specs.Axioms.{MeetsAxioms}
 use Rattle.om_representation.specs.Chirotopes.{IsChirotopeOf}
 use Rattle.om_representation.specs.Covectors.{IsCovectorIn}
 use Rattle.om_representation.specs.Documents.{document_of}
-use Rattle.om_reply.specs.Represented.{IsMeantFor}
+use Rattle.om_representation.specs.Represented.{IsMeantFor}
 use Rattle.om_representation.specs.Widths.{IsTooWide, IsKept}
 
 -- whether a body is of a kind

@@ -5,14 +5,14 @@ use Rattle.om_chirotope.specs.Map.{SignMap}
 use Rattle.om_denotation.specs.Covectors.{IsCovectorOfChirotope}
 use Rattle.om_paint.specs.declared.hull_error.HullError.{HullError}
 use Rattle.om_paint.specs.declared.hull_error.HullError.TheVariants.{Cyclic, Memory}
-use Rattle.om_paint.specs.declared.painted.Painted.{Painted}
+use Rattle.om_oriented.specs.declared.painted.Painted.{Painted}
 use Rattle.om_paint.specs.Paintings.{IsFirst, IsPaintingOf}
 use Rattle.om_paint.specs.Hulls.{all_plus, IsPositiveCircuit, IsExtreme, green_alone, IsCocircuitItem, EachItem}
 use Rattle.om_text.specs.declared.document.Document.{Document}
-use Rattle.om_answer.specs.declared.line.Line.TheVariants as line
+use Rattle.om_printing.specs.declared.line.Line.TheVariants as line
 use Rattle.om_reply.specs.declared.answer.Answer.{Answer}
 use Rattle.om_reply.specs.Answers.{says, tells}
-use Rattle.om_reply.specs.AnyRank.{IsForKeptChirotope}
+use Rattle.om_representation.specs.AnyRank.{IsForKeptChirotope}
 
 -- the hull of a map
 pub data IsHullOfMap (m : SignMap) : Answer → Type 0 where
@@ -32,4 +32,4 @@ IsCyclicAnswer Memory a = ⊥
 
 -- the hull of the chirotope of a document
 abbrev pub IsHull : Document → Answer → Type 0
-IsHull d answer = IsForKeptChirotope IsHullOfMap d answer
+IsHull d answer = IsForKeptChirotope says IsHullOfMap d answer

@@ -7,7 +7,7 @@ use Rattle.om_lexext.specs.declared.signed.Signed.{Signed}
 use Rattle.om_lexext.specs.Lexicographic.{IsLexicographicExtension}
 use Rattle.om_text.specs.declared.document.Document.{Document}
 use Rattle.om_text.specs.Form.{IsInForm}
-use Rattle.om_answer.specs.declared.line.Line.TheVariants as line
+use Rattle.om_printing.specs.declared.line.Line.TheVariants as line
 use Rattle.om_reply.specs.declared.answer.Answer.{Answer}
 use Rattle.om_words.specs.Tasks.{given_list, elements_of}
 use Rattle.om_words.specs.declared.leading.Leading.{Leading}
@@ -15,7 +15,7 @@ use Rattle.om_reply.specs.Answers.{says, shows}
 use Rattle.om_representation.specs.Axioms.{MeetsAxioms}
 use Rattle.om_representation.specs.Documents.{map_document}
 use Rattle.om_reply.specs.Above.{first_above}
-use Rattle.om_reply.specs.AnyRank.{IsForKeptChirotope}
+use Rattle.om_representation.specs.AnyRank.{IsForKeptChirotope}
 
 -- the lexicographic extension of a map by elements with signs
 pub data IsExtensionOfMap (list : List Signed) (m : SignMap) : Answer → Type 0 where
@@ -37,4 +37,4 @@ pub data IsLexicalExtension (l : Leading) (d : Document) : Answer → Type 0 whe
       → IsLexicalExtension l d (says (line.RefusedFull d.elements))
   -- the extension of the chirotope of the document
   fewer : (answer : Answer) → first_above d.elements (elements_of (given_list l)) ≡ None → d.elements < MAX_ELEMENTS
-      → IsForKeptChirotope (IsExtensionOfMap (given_list l)) d answer → IsLexicalExtension l d answer
+      → IsForKeptChirotope says (IsExtensionOfMap (given_list l)) d answer → IsLexicalExtension l d answer

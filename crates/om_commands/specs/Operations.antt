@@ -20,7 +20,7 @@ use Rattle.om_text.specs.Form.{IsInForm}
 use Rattle.om_words.specs.Tasks.{IsElementNumber}
 use Rattle.om_text.specs.declared.kinds.Kind.{Kind}
 use Rattle.om_text.specs.declared.kinds.Kind.TheVariants as kind
-use Rattle.om_answer.specs.declared.line.Line.TheVariants as line
+use Rattle.om_printing.specs.declared.line.Line.TheVariants as line
 use Rattle.om_reply.specs.declared.answer.Answer.{Answer}
 use Rattle.om_commands.specs.declared.operation.Operation.{Operation}
 use Rattle.om_commands.specs.declared.operation.Operation.TheVariants.{Dual, Delete, Contract, Reorient}

@@ -2,17 +2,17 @@
 use Rattle.std.specs.Prelude.{◌≡◌, ◌≢◌, ◌<◌, ◌≤◌, List, take}
 use Rattle.om_laws.specs.Colours.{IsColoured}
 use Rattle.om_chirotope.specs.Map.{SignMap}
-use Rattle.om_paint.specs.declared.colour.Colour.{Colour}
-use Rattle.om_paint.specs.declared.painted.Painted.{Painted}
-use Rattle.om_paint.specs.declared.painted.Painted.TheVariants.{Circuit, Cocircuit}
+use Rattle.om_oriented.specs.declared.colour.Colour.{Colour}
+use Rattle.om_oriented.specs.declared.painted.Painted.{Painted}
+use Rattle.om_oriented.specs.declared.painted.Painted.TheVariants.{Circuit, Cocircuit}
 use Rattle.om_paint.specs.Paintings.{colouring, IsPaintingOf}
 use Rattle.om_text.specs.declared.document.Document.{Document}
-use Rattle.om_answer.specs.declared.line.Line.{Line}
-use Rattle.om_answer.specs.declared.line.Line.TheVariants as line
+use Rattle.om_printing.specs.declared.line.Line.{Line}
+use Rattle.om_printing.specs.declared.line.Line.TheVariants as line
 use Rattle.om_reply.specs.declared.answer.Answer.{Answer}
 use Rattle.om_words.specs.declared.colouring.Colouring.{Colouring}
 use Rattle.om_reply.specs.Answers.{says}
-use Rattle.om_reply.specs.AnyRank.{IsForKeptChirotope}
+use Rattle.om_representation.specs.AnyRank.{IsForKeptChirotope}
 
 -- the given colours
 abbrev pub given_colours : Colouring → List Colour
@@ -40,4 +40,4 @@ pub data IsPainting (c : Colouring) (d : Document) : Answer → Type 0 where
       → IsPainting c d (says (line.RefusedColour c.e))
   -- what fits in the chirotope of the document
   coloured : (answer : Answer) → c.count ≡ d.elements → c.e ≤ d.elements → IsColoured (colouring (given_colours c) c.e)
-      → IsForKeptChirotope (IsPaintingOfMap c) d answer → IsPainting c d answer
+      → IsForKeptChirotope says (IsPaintingOfMap c) d answer → IsPainting c d answer

@@ -11,13 +11,13 @@ use Rattle.om_threeterm.specs.Violations.{IsFirstUnexchanged, IsFirstUnbalanced}
 use Rattle.om_text.specs.declared.body.Body.{Body}
 use Rattle.om_text.specs.declared.body.Body.TheVariants.{Chirotope}
 use Rattle.om_text.specs.declared.document.Document.{Document}
-use Rattle.om_answer.specs.declared.line.Line.{Line}
-use Rattle.om_answer.specs.declared.line.Line.TheVariants as line
+use Rattle.om_printing.specs.declared.line.Line.{Line}
+use Rattle.om_printing.specs.declared.line.Line.TheVariants as line
 use Rattle.om_reply.specs.declared.answer.Answer.{Answer}
 use Rattle.om_reply.specs.Answers.{says}
 use Rattle.om_representation.specs.declared.document_refused.DocumentRefused.{DocumentRefused}
 use Rattle.om_representation.specs.Axioms.{MeetsAxioms, IsRefused}
-use Rattle.om_reply.specs.RefusalLines.{refused_line}
+use Rattle.om_representation.specs.RefusalLines.{refused_line}
 
 -- the line that names the first part of the test that fails
 abbrev pub failure_line : ThreeRefused → Line

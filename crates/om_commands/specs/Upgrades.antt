@@ -7,7 +7,7 @@ use Rattle.om_reply.specs.declared.answer.Answer.{Answer}
 use Rattle.om_reply.specs.Answers.{says, upgrades}
 use Rattle.om_representation.specs.declared.document_refused.DocumentRefused.{DocumentRefused}
 use Rattle.om_representation.specs.Axioms.{MeetsAxioms, IsRefused}
-use Rattle.om_reply.specs.RefusalLines.{refused_line}
+use Rattle.om_representation.specs.RefusalLines.{refused_line}
 
 -- the upgrade of a document
 pub data IsUpgrade (d : Document) : Answer → Type 0 where

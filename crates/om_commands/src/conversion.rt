@@ -2,18 +2,20 @@
 
 ghost use Rattle.std.specs.Prelude.{◌≡◌, IfOk};
 ghost use Rattle.om_representation.specs.Documents.{document_of};
-ghost use Rattle.om_reply.specs.Represented.{IsMeantFor};
+ghost use Rattle.om_representation.specs.Represented.{IsMeantFor};
 ghost use Rattle.om_representation.specs.Widths.{HasFewValues};
 ghost use Rattle.om_commands.specs.Conversions.{IsConversion, IsConversionFrom, IsUnlisted};
 
-use om_answer::{Kind, Line};
 use om_chirotope::Chirotope;
+use om_printing::Line;
+use om_text::Kind;
 use om_convert::{
     ConvertError, chirotope_to_circuits, chirotope_to_cocircuits, chirotope_to_covectors,
     covectors_to_cocircuits,
 };
 use om_covectors::Covectors;
-use om_reply::{Answer, width_line};
+use om_reply::Answer;
+use om_representation::width_line;
 use om_representation::{
     Representation, choose_chirotope, circuits_document, cocircuits_document, covectors_document,
     map_document,

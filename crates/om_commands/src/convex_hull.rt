@@ -2,13 +2,13 @@
 
 ghost use Rattle.std.specs.Prelude.{IfOk};
 ghost use Rattle.om_commands.specs.Hulls.{IsCyclicAnswer, IsHull, IsHullOfMap};
-ghost use Rattle.om_reply.specs.Represented.{IsMeantFor};
+ghost use Rattle.om_representation.specs.Represented.{IsMeantFor};
 
-use om_answer::Line;
 use om_chirotope::Chirotope;
 use om_paint::{HullError, acyclic_chirotopes, hull};
-use om_reply::{Answer, width_line};
-use om_representation::{Representation, choose_chirotope};
+use om_printing::Line;
+use om_reply::Answer;
+use om_representation::{Representation, choose_chirotope, width_line};
 use om_signs::NoMemory;
 use std::alloc::Global;
 

@@ -4,14 +4,14 @@ ghost use Rattle.std.specs.Prelude.{◌≡◌, ◌<◌, IfOk};
 ghost use Rattle.om_lexext.specs.Lexicographic.{IsLexicographicList};
 ghost use Rattle.om_commands.specs.LexicalExtensions.{IsLexicalExtension, IsExtensionOfMap};
 ghost use Rattle.om_reply.specs.Above.{first_above};
-ghost use Rattle.om_reply.specs.Represented.{IsMeantFor};
+ghost use Rattle.om_representation.specs.Represented.{IsMeantFor};
 ghost use Rattle.om_words.specs.Tasks.{AreLawful, elements_of};
 
-use om_answer::Line;
 use om_chirotope::Chirotope;
 use om_lexext::{LexError, Signed, lexical};
-use om_reply::{Answer, width_line};
-use om_representation::{Representation, choose_chirotope, map_document};
+use om_printing::Line;
+use om_reply::Answer;
+use om_representation::{Representation, choose_chirotope, map_document, width_line};
 use om_signs::{MAX_ELEMENTS, NoMemory};
 use om_words::Leading;
 use std::alloc::Global;

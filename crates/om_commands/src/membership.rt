@@ -1,11 +1,11 @@
 //! Whether a sign vector is a covector.
 
 ghost use Rattle.om_representation.specs.Covectors.{IsCovectorIn};
-ghost use Rattle.om_reply.specs.Represented.{IsMeantFor};
+ghost use Rattle.om_representation.specs.Represented.{IsMeantFor};
 ghost use Rattle.om_commands.specs.Memberships.{IsMembership};
 
-use om_answer::Line;
 use om_oriented::Oriented;
+use om_printing::Line;
 use om_reply::Answer;
 use om_representation::Representation;
 use om_signs::SignVec;

@@ -3,14 +3,14 @@
 ghost use Rattle.std.specs.Prelude.{◌≡◌, ◌<◌, ◌≤◌, ◌^◌, ◌∷◌, [], IfOk};
 ghost use Rattle.om_subsets.specs.Members.{members};
 ghost use Rattle.om_representation.specs.Documents.{document_of};
-ghost use Rattle.om_reply.specs.Represented.{IsMeantFor};
+ghost use Rattle.om_representation.specs.Represented.{IsMeantFor};
 ghost use Rattle.om_representation.specs.Widths.{HasFewValues};
 ghost use Rattle.om_reply.specs.Above.{first_above};
 ghost use Rattle.om_commands.specs.Operations.{IsLawful, IsOperation, named_elements};
 
 use super::applying::apply;
 use super::unmade::Unmade;
-use om_answer::Line;
+use om_printing::Line;
 use om_reply::Answer;
 use om_representation::{Representation, document_of};
 use om_signs::{MAX_ELEMENTS, NoMemory};

@@ -7,14 +7,14 @@ ghost use Rattle.om_text.specs.declared.document.Document.{Document};
 ghost use Rattle.om_reply.specs.Answers.{says};
 ghost use Rattle.om_commands.specs.Paintings.{IsPainting, IsPaintingOfMap, painted_line};
 ghost use Rattle.om_commands.specs.Paintable.{IsPaintable};
-ghost use Rattle.om_reply.specs.Represented.{IsMeantFor};
+ghost use Rattle.om_representation.specs.Represented.{IsMeantFor};
 ghost use Rattle.om_words.specs.Tasks.{HasElement};
 
-use om_answer::Line;
 use om_chirotope::Chirotope;
 use om_paint::{Colour, Painted, paint};
-use om_reply::{Answer, width_line};
-use om_representation::{Representation, choose_chirotope};
+use om_printing::Line;
+use om_reply::Answer;
+use om_representation::{Representation, choose_chirotope, width_line};
 use om_signs::{MAX_ELEMENTS, NoMemory};
 use om_words::Colouring;
 use std::alloc::Global;

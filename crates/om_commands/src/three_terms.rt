@@ -5,9 +5,9 @@ ghost use Rattle.om_text.specs.Form.{IsInForm, IsMapOn};
 ghost use Rattle.om_reply.specs.Answers.{says};
 ghost use Rattle.om_commands.specs.ThreeTermTests.{IsThreeTermTest, IsTestOfMap, IsNoMap, failure_line};
 
-use om_answer::Line;
-use om_reply::{Answer, refused_line};
-use om_representation::{Unrepresented, represent};
+use om_printing::Line;
+use om_reply::Answer;
+use om_representation::{Unrepresented, refused_line, represent};
 use om_signs::{MAX_ELEMENTS, NoMemory, RawMap};
 use om_text::{Body, Document};
 use om_threeterm::{ThreeRefused, check};

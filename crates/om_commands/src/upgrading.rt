@@ -5,7 +5,8 @@ ghost use Rattle.om_signs.specs.declared.limits.TheConstants.{MAX_ELEMENTS};
 ghost use Rattle.om_text.specs.Form.{IsInForm, AreBlocks};
 ghost use Rattle.om_commands.specs.Upgrades.{IsUpgrade, IsGiven};
 
-use om_reply::{Answer, refused_line};
+use om_reply::Answer;
+use om_representation::refused_line;
 use om_representation::{
     Unrepresented, chirotope_of_points, document_of, represent, wiring_of_blocks,
 };

@@ -2,8 +2,7 @@
 #![tactic(auto)]
 
 use om_port::{NoWords, StdSink, StdSource, words};
-use om_program::Status;
-use om_stream::run_each;
+use om_program::{Status, run_each};
 use std::io;
 use std::process::ExitCode;
 

@@ -23,7 +23,7 @@ use Rattle.om_text.specs.declared.document.Document.{Document}
 use Rattle.om_text.specs.declared.kinds.Kind.{Kind}
 use Rattle.om_text.specs.declared.kinds.Kind.TheVariants as kind
 use Rattle.om_text.specs.Form.{IsBodyOn}
-use Rattle.om_answer.specs.declared.line.Line.TheVariants as line
+use Rattle.om_printing.specs.declared.line.Line.TheVariants as line
 use Rattle.om_representation.specs.Axioms.{MeetsAxiomsOn}
 use Rattle.om_representation.specs.Chirotopes.{IsNormalChirotopeOf, IsChirotopeWith}
 use Rattle.om_representation.specs.Covectors.{IsCovectorOfBody}

@@ -20,7 +20,7 @@ use Rattle.om_decide.specs.Columns.{entries_of, weights_on}
 use Rattle.om_budgets.specs.Ranges.{AreBudgets}
 use Rattle.om_decide.specs.Verdicts.{IsVerdictOf, realizable, nonrealizable, undecided, pivot_limit, width}
 use Rattle.om_decide.proofs.VerdictForms.{verdict_form}
-use Rattle.om_answer.specs.declared.line.Line.TheVariants as line
+use Rattle.om_printing.specs.declared.line.Line.TheVariants as line
 use Rattle.om_reply.specs.declared.answer.Answer.{Answer}
 use Rattle.om_reply.specs.Answers.{says, judges}
 use Rattle.om_plane.specs.Decisions.{DecisionMeans, other_rank, decided}

@@ -25,7 +25,7 @@ use Rattle.om_localize.specs.Listings.{IsBefore, IsFullBefore, AreFirst}
 use Rattle.om_localize.proofs.Localizations.{signature_size}
 use Rattle.om_oriented.proofs.PlaceLaws.{base_three-lt, same_place}
 use Rattle.om_oriented.specs.Places.{base_three}
-use Rattle.om_answer.specs.declared.line.Line.TheVariants as line
+use Rattle.om_printing.specs.declared.line.Line.TheVariants as line
 use Rattle.om_reply.specs.declared.answer.Answer.{Answer}
 use Rattle.om_reply.specs.Answers.{says, lists_extensions}
 use Rattle.om_plane.specs.ExtensionLists.{AreExtensionsOfMap, other_rank, full, listed}

@@ -10,9 +10,9 @@ use Rattle.om_text.specs.declared.document.Document.{Document}
 use Rattle.om_text.specs.Document.{IsDocument}
 use Rattle.om_text.specs.Form.{IsInForm}
 use Rattle.om_text.specs.Lines.{lines}
-use Rattle.om_answer.specs.declared.claim.Claim.{Claim}
-use Rattle.om_answer.specs.declared.line.Line.{Line}
-use Rattle.om_answer.specs.declared.line.Line.TheVariants as line
+use Rattle.om_reply.specs.declared.claim.Claim.{Claim}
+use Rattle.om_printing.specs.declared.line.Line.{Line}
+use Rattle.om_printing.specs.declared.line.Line.TheVariants as line
 use Rattle.om_answer.specs.Claim.{IsClaim}
 use Rattle.om_answer.proofs.ClaimSizes.{evidence_within}
 use Rattle.om_words.specs.declared.reads.Reads.TheVariants as source
@@ -41,7 +41,7 @@ use Rattle.om_existence.proofs.Possible.{held, then, mapped, either_way}
 use Rattle.om_existence.proofs.Worked.{IsWorked, worked_possible, for_chirotope_possible, for_kept_chirotope_possible}
 use Rattle.om_existence.proofs.WordParts.{words_possible}
 use Rattle.om_existence.proofs.TextParts.{readings, claim_readings, document_form, claim_form}
-use Rattle.om_reply.specs.RefusalLines.{refused_line}
+use Rattle.om_representation.specs.RefusalLines.{refused_line}
 use Rattle.om_existence.proofs.RefusalParts.{refusal_possible}
 use Rattle.om_existence.proofs.MembershipParts.{membership_possible}
 use Rattle.om_existence.proofs.ConversionParts.{conversion_possible}

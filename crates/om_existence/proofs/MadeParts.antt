@@ -13,7 +13,7 @@ use Rattle.om_denotation.specs.Circuits.{IsCocircuitOfChirotope}
 use Rattle.om_denotation.specs.Covectors.{IsCovectorOfChirotope}
 use Rattle.om_denotation.proofs.ChirotopeBridge.{cocircuit_length}
 use Rattle.om_vectors.specs.Realizations.{signs_map}
-use Rattle.om_make.specs.declared.tally.Tally.{Tally}
+use Rattle.om_vectors.specs.declared.tally.Tally.{Tally}
 use Rattle.om_make.specs.Generator.{made_vectors}
 use Rattle.om_make.specs.Tallies.{count_of, HasExactly, HasMutations, IsTallyOfMap}
 use Rattle.om_make.proofs.BackLaws.{comes_back}

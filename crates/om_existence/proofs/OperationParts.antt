@@ -17,7 +17,7 @@ use Rattle.om_text.specs.declared.body.Body.{Body}
 use Rattle.om_text.specs.declared.body.Body.TheVariants as body
 use Rattle.om_text.specs.declared.document.Document.{Document}
 use Rattle.om_text.specs.Form.{IsBodyOn, AreMembersOn, IsMapOn}
-use Rattle.om_answer.specs.declared.line.Line.TheVariants as line
+use Rattle.om_printing.specs.declared.line.Line.TheVariants as line
 use Rattle.om_representation.specs.Axioms.{MeetsAxiomsOn}
 use Rattle.om_representation.specs.Covectors.{IsCovectorOfBody}
 use Rattle.om_representation.specs.Documents.{map_document}

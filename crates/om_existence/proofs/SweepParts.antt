@@ -18,7 +18,7 @@ use Rattle.om_wiring.proofs.Reversals.{position_last}
 use Rattle.om_wiring.proofs.SweepEnds.{least_wiring, not_empty, sweep_order, sweep_more, uncrossed_count, count_falls}
 use Rattle.om_wiring.proofs.SweepEnds.{few_blocks}
 use Rattle.om_wiring.proofs.OpenSweeps.{IsSweep}
-use Rattle.om_answer.specs.declared.line.Line.TheVariants as line
+use Rattle.om_printing.specs.declared.line.Line.TheVariants as line
 use Rattle.om_reply.specs.declared.answer.Answer.{Answer}
 use Rattle.om_reply.specs.Answers.{says, shows}
 use Rattle.om_plane.specs.Sweeps.{wiring_document, IsWiringOfMap, other_rank, not_sweepable, least as is_least}

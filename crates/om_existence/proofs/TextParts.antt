@@ -11,7 +11,7 @@ use Rattle.om_text.specs.Lines.{lines, wordful}
 use Rattle.om_text.proofs.Forms.{document_form as spelled_form}
 use Rattle.om_text.proofs.Outcome.{document_or_fault}
 use Rattle.om_answer.proofs.OneReading.{claim_or_fault}
-use Rattle.om_answer.specs.declared.claim.Claim.{Claim}
+use Rattle.om_reply.specs.declared.claim.Claim.{Claim}
 use Rattle.om_answer.specs.Claim.{IsClaim}
 use Rattle.om_answer.specs.ClaimFault.{IsClaimFault}
 

@@ -22,7 +22,7 @@ use Rattle.om_text.specs.declared.body.Body.{Body}
 use Rattle.om_text.specs.declared.body.Body.TheVariants as body
 use Rattle.om_text.specs.declared.document.Document.{Document}
 use Rattle.om_text.specs.Form.{IsMapOn, IsBodyOn, IsInForm}
-use Rattle.om_answer.specs.declared.line.Line.TheVariants as line
+use Rattle.om_printing.specs.declared.line.Line.TheVariants as line
 use Rattle.om_representation.specs.Axioms.{MeetsAxiomsOn, MeetsAxioms, IsFlatOn, IsFlatDocument}
 use Rattle.om_representation.specs.Chirotopes.{IsNormalChirotopeOf, IsChirotopeOf}
 use Rattle.om_representation.specs.Covectors.{IsCovectorIn}
@@ -31,8 +31,8 @@ use Rattle.om_representation.specs.Points.{vector_of_point, vectors_of, points_m
 use Rattle.om_representation.specs.Widths.{IsTooWide}
 use Rattle.om_reply.specs.declared.answer.Answer.{Answer}
 use Rattle.om_reply.specs.Answers.{says}
-use Rattle.om_reply.specs.AnyRank.{IsForKeptChirotope, wide, kept}
-use Rattle.om_reply.specs.RankThree.{IsForChirotope, for_chirotope}
+use Rattle.om_representation.specs.AnyRank.{IsForKeptChirotope, wide, kept}
+use Rattle.om_representation.specs.RankThree.{IsForChirotope, for_chirotope}
 use Rattle.om_commands.specs.Upgrades.{IsGiven}
 use Rattle.om_existence.specs.Possible.{IsPossible}
 use Rattle.om_existence.proofs.Possible.{held, then, mapped, either_way}
@@ -173,7 +173,7 @@ for_chirotope_possible Meaning d w f = let c = chirotope_of d w in
 
 pub for_kept_chirotope_possible : (Meaning : SignMap → Answer → Type 0) (d : Document) → IsWorked d
     → ((m : SignMap) → IsChirotopeWithinLimits m → m.elements ≡ d.elements → IsPossible ((a : Answer) × Meaning m a))
-    → IsPossible ((a : Answer) × IsForKeptChirotope Meaning d a)
+    → IsPossible ((a : Answer) × IsForKeptChirotope says Meaning d a)
 for_kept_chirotope_possible Meaning d w f = then (either_way ((values : ℕ) × IsTooWide d values)) (λ e. elim e [
   | inl h ↦ held (says (line.LimitValues h.0), wide h.0 h.1)
   | inr n ↦ let c = chirotope_of d w in

@@ -18,7 +18,7 @@ use Rattle.om_denotation.specs.Maps.{IsNormalFormOf}
 use Rattle.om_mutate.specs.Mutations.{ListsMutations}
 use Rattle.om_vectors.specs.WholeVectors.{WholeVector}
 use Rattle.om_vectors.specs.Realizations.{signs_map}
-use Rattle.om_make.specs.declared.tally.Tally.{Tally}
+use Rattle.om_vectors.specs.declared.tally.Tally.{Tally}
 use Rattle.om_make.specs.Generator.{unit_vectors}
 
 -- the list begins with the unit vectors, in their order

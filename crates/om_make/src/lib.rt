@@ -15,9 +15,8 @@ mod laws;
 mod listing;
 mod return_trip;
 mod summarizing;
-mod tally;
 
 pub use drawing::vectors;
 pub use laws::members_in_rank_three;
+pub use om_vectors::Tally;
 pub use summarizing::summary;
-pub use tally::Tally;

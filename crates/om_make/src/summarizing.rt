@@ -11,10 +11,9 @@ use super::listing::{
     count_cocircuits, count_covectors, count_mutations, list_cocircuits, list_covectors,
 };
 use super::return_trip::{convert_cocircuits_back, convert_covectors_back};
-use super::tally::Tally;
 use om_chirotope::Chirotope;
 use om_signs::{NoMemory, Sign};
-use om_vectors::{SignsError, Word, signs_of};
+use om_vectors::{SignsError, Tally, Word, signs_of};
 use std::alloc::Global;
 use std::thread::Threads;
 

@@ -19,8 +19,8 @@ use Rattle.om_denotation.specs.Circuits.{IsCircuitOfChirotope, IsCocircuitOfChir
 use Rattle.om_denotation.specs.Painting.{IsFittingCircuit, IsFittingCocircuit}
 use Rattle.om_denotation.proofs.ChirotopeBridge.{circuit_length, cocircuit_length}
 use Rattle.om_denotation.proofs.FamilyPaintings.{painting_one}
-use Rattle.om_paint.specs.declared.colour.Colour.{Colour}
-use Rattle.om_paint.specs.declared.colour.Colour.TheVariants.{Black}
+use Rattle.om_oriented.specs.declared.colour.Colour.{Colour}
+use Rattle.om_oriented.specs.declared.colour.Colour.TheVariants.{Black}
 use Rattle.om_paint.specs.Paintings.{shade, colouring, FitsCircuit, FitsCocircuit, IsFirst, IsFirstIfAny}
 use Rattle.om_paint.specs.Classes.{IsAllowed}
 use Rattle.om_paint.proofs.FirstVectors.{first_same}

@@ -29,8 +29,8 @@ use Rattle.om_signs.proofs.ListPlaces.{at-map-opposite}
 use Rattle.om_signs.proofs.SignLaws.{opposite_back, plus_or_minus, minus_or_not, right_nonzero, plus_nonzero}
 use Rattle.om_signs.proofs.SignLaws.{minus_nonzero, product_plus_left}
 use Rattle.om_paint.specs.declared.classes.TheConstants.{CLASSES}
-use Rattle.om_paint.specs.declared.painted.Painted.{Painted}
-use Rattle.om_paint.specs.declared.painted.Painted.TheVariants.{Circuit, Cocircuit}
+use Rattle.om_oriented.specs.declared.painted.Painted.{Painted}
+use Rattle.om_oriented.specs.declared.painted.Painted.TheVariants.{Circuit, Cocircuit}
 use Rattle.om_paint.specs.Paintings.{HasNoMinus, IsFirstIfAny, IsPaintingOf}
 use Rattle.om_paint.specs.Classes.{HasMinusAloneAt}
 use Rattle.om_paint.specs.Hulls.{all_plus, IsPositiveCircuit, IsOnlyMinus, IsExtreme, green_alone, IsCocircuitItem}

@@ -16,8 +16,8 @@ use Rattle.om_signs.specs.OrderLaws.{lexicographic-total, same_from_order}
 use Rattle.om_laws.specs.Colours.{Colour, CircuitMay, CocircuitMay}
 use Rattle.om_chirotope.specs.Map.{SignMap}
 use Rattle.om_denotation.specs.Painting.{IsFittingCircuit, IsFittingCocircuit}
-use Rattle.om_paint.specs.declared.painted.Painted.{Painted}
-use Rattle.om_paint.specs.declared.painted.Painted.TheVariants.{Circuit, Cocircuit}
+use Rattle.om_oriented.specs.declared.painted.Painted.{Painted}
+use Rattle.om_oriented.specs.declared.painted.Painted.TheVariants.{Circuit, Cocircuit}
 use Rattle.om_paint.specs.Paintings.{IsFirst, IsPaintingOf}
 use Rattle.om_paint.proofs.FirstVectors.{first_same}
 

@@ -8,8 +8,8 @@ use Rattle.om_signs.specs.SignVec.{at_element}
 use Rattle.om_laws.specs.Colours.{red, green, Colour}
 use Rattle.om_chirotope.specs.Map.{SignMap}
 use Rattle.om_denotation.specs.Circuits.{IsCircuitOfChirotope}
-use Rattle.om_paint.specs.declared.painted.Painted.{Painted}
-use Rattle.om_paint.specs.declared.painted.Painted.TheVariants.{Circuit, Cocircuit}
+use Rattle.om_oriented.specs.declared.painted.Painted.{Painted}
+use Rattle.om_oriented.specs.declared.painted.Painted.TheVariants.{Circuit, Cocircuit}
 use Rattle.om_paint.specs.declared.hull_error.HullError.{HullError}
 use Rattle.om_paint.specs.declared.hull_error.HullError.TheVariants.{Cyclic, Memory}
 use Rattle.om_paint.specs.Paintings.{HasNoMinus}

@@ -13,10 +13,10 @@ use Rattle.om_laws.specs.Colours as laws
 use Rattle.om_chirotope.specs.Map.{SignMap}
 use Rattle.om_denotation.specs.Circuits.{HasNonzero}
 use Rattle.om_denotation.specs.Painting.{IsFittingCircuit, IsFittingCocircuit}
-use Rattle.om_paint.specs.declared.colour.Colour.{Colour}
-use Rattle.om_paint.specs.declared.colour.Colour.TheVariants.{Red, Green, Black, White}
-use Rattle.om_paint.specs.declared.painted.Painted.{Painted}
-use Rattle.om_paint.specs.declared.painted.Painted.TheVariants.{Circuit, Cocircuit}
+use Rattle.om_oriented.specs.declared.colour.Colour.{Colour}
+use Rattle.om_oriented.specs.declared.colour.Colour.TheVariants.{Red, Green, Black, White}
+use Rattle.om_oriented.specs.declared.painted.Painted.{Painted}
+use Rattle.om_oriented.specs.declared.painted.Painted.TheVariants.{Circuit, Cocircuit}
 
 -- the colour under its name in the painting lemma
 abbrev pub shade : Colour → laws.Colour

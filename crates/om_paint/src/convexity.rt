@@ -12,10 +12,9 @@ ghost use Rattle.om_paint.specs.Hulls.{IsCyclic, IfCyclic};
 use super::classes::{CLASSES, Firsts};
 use super::hull_error::HullError;
 use super::minuses::Minuses;
-use super::painted::Painted;
 use super::search::{first_circuits, first_cocircuits};
 use om_chirotope::Chirotope;
-use om_oriented::Oriented;
+use om_oriented::{Oriented, Painted};
 use om_signs::{List, MAX_PLACES, Sign, SignVec};
 use std::alloc::Global;
 

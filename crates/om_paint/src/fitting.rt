@@ -8,7 +8,7 @@ ghost use Rattle.om_paint.specs.Paintings.{shade, FitsCircuit, FitsCocircuit};
 ghost use Rattle.om_paint.specs.Classes.{IsAllowed};
 
 use super::classes::{CLASSES, Classes};
-use super::colour::Colour;
+use om_oriented::Colour;
 use om_signs::{MAX_ELEMENTS, Sign, SignVec};
 
 /// The vectors of a length that aren't zero at e, are plus only at elements of one mask, and minus only at elements

@@ -8,7 +8,7 @@ ghost use Rattle.om_chirotope.specs.Map.{SignMap};
 ghost use Rattle.om_chirotope.specs.Chirotope.{IsChirotope};
 ghost use Rattle.om_denotation.specs.Covectors.{IsCovectorOfChirotope};
 ghost use Rattle.om_denotation.specs.Painting.{IsFittingCocircuit};
-ghost use Rattle.om_paint.specs.declared.painted.Painted.{Painted};
+ghost use Rattle.om_oriented.specs.declared.painted.Painted.{Painted};
 ghost use Rattle.om_paint.specs.Paintings.{IsPaintingOf};
 ghost use Rattle.om_paint.specs.Hulls.{all_plus, IsPositiveCircuit, IsExtreme, green_alone};
 

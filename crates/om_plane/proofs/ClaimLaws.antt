@@ -9,9 +9,9 @@ use Rattle.om_certificate.specs.declared.verdict.Verdict.{Verdict}
 use Rattle.om_certificate.specs.declared.verdict.Verdict.TheVariants.{Realizable, Nonrealizable, Undecided, Limit}
 use Rattle.om_certificate.specs.Verdicts.{certificate_of}
 use Rattle.om_text.specs.declared.document.Document.{Document}
-use Rattle.om_answer.specs.declared.claim.Claim.{Claim}
-use Rattle.om_answer.specs.declared.line.Line.{Line}
-use Rattle.om_answer.specs.declared.line.Line.TheVariants as line
+use Rattle.om_reply.specs.declared.claim.Claim.{Claim}
+use Rattle.om_printing.specs.declared.line.Line.{Line}
+use Rattle.om_printing.specs.declared.line.Line.TheVariants as line
 use Rattle.om_representation.specs.declared.unchosen.Unchosen.{Unchosen}
 use Rattle.om_representation.specs.declared.unchosen.Unchosen.TheVariants as unchosen
 use Rattle.om_representation.specs.Axioms.{MeetsAxioms, IsFlatDocument}
@@ -19,7 +19,7 @@ use Rattle.om_representation.specs.Chirotopes.{IsChirotopeOf}
 use Rattle.om_plane.specs.Claims.{VerdictMeans, other_rank, limited, ClaimMeans, verified}
 use Rattle.om_representation.specs.Documents.{worked_on}
 use Rattle.om_representation.specs.Widths.{IsUnchosen}
-use Rattle.om_reply.specs.RefusalLines.{IsRankLine}
+use Rattle.om_representation.specs.RefusalLines.{IsRankLine}
 
 no_err : (e : Evidence) (w : Verdict) → Ok e ≡ Err w → ⊥
 no_err e w same = cc

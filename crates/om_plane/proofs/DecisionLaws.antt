@@ -20,7 +20,7 @@ use Rattle.om_decide.specs.Verdicts as decide
 use Rattle.om_decide.proofs.VerdictLaws.{verdict_shown}
 use Rattle.om_text.specs.declared.document.Document.{Document}
 use Rattle.om_text.specs.Form.{IsInForm}
-use Rattle.om_answer.specs.VerdictText.{chirotope_document}
+use Rattle.om_reply.specs.VerdictText.{chirotope_document}
 use Rattle.om_reply.specs.declared.answer.Answer.{Answer}
 use Rattle.om_reply.specs.Answers.{IsReply}
 use Rattle.om_plane.specs.Decisions.{IsDecided, DecisionMeans, other_rank, decided, IsDecision}

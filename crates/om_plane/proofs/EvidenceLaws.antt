@@ -11,7 +11,7 @@ use Rattle.om_certificate.specs.declared.lp_end.LpEnd.{LpEnd}
 use Rattle.om_certificate.specs.declared.verdict.Verdict.{Verdict}
 use Rattle.om_certificate.specs.declared.verdict.Verdict.TheVariants.{Realizable, Nonrealizable, Undecided, Limit}
 use Rattle.om_certificate.specs.Verdicts.{certificate_of}
-use Rattle.om_answer.specs.declared.line.Line.{Line}
+use Rattle.om_printing.specs.declared.line.Line.{Line}
 use Rattle.om_representation.specs.Axioms.{IsRefused, MeetsAxioms, IsFlatDocument}
 use Rattle.om_representation.specs.Chirotopes.{IsChirotopeOf}
 use Rattle.om_representation.specs.Documents.{worked_on}

@@ -11,7 +11,7 @@ use Rattle.om_localize.specs.declared.extend_error.ExtendError.TheVariants.{NotR
 use Rattle.om_localize.specs.Extensions.{IsSignature}
 use Rattle.om_localize.specs.Listings.{AreFirst}
 use Rattle.om_localize.specs.declared.listing.Listing.{Listing}
-use Rattle.om_answer.specs.declared.line.Line.TheVariants as line
+use Rattle.om_printing.specs.declared.line.Line.TheVariants as line
 use Rattle.om_reply.specs.Answers.{says, lists_extensions}
 use Rattle.om_plane.specs.ExtensionLists.{AreExtensionsOfMap, other_rank, full, listed}
 use Rattle.om_plane.proofs.RankThreeLaws.{no_error}

@@ -5,7 +5,7 @@
 use Rattle.std.specs.Prelude.{ℕ, ◌≡◌, ◌≤◌, ◌-◌, List, length, refl}
 use Rattle.std.proofs.Common.{arith, sym, subst}
 use Rattle.std.proofs.lemmas.List.{length-append}
-use Rattle.om_make.specs.declared.tally.Tally.{Tally}
+use Rattle.om_vectors.specs.declared.tally.Tally.{Tally}
 use Rattle.om_make.specs.Generator.{unit_vectors, vectors_drawn, made_vectors}
 use Rattle.om_make.specs.Tallies.{BeginsWithUnits, IsTally, ComesBack}
 use Rattle.om_vectors.specs.WholeVectors.{WholeVector}

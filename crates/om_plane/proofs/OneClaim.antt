@@ -11,14 +11,14 @@ use Rattle.om_certificate.specs.declared.verdict.Verdict.TheVariants.{Limit}
 use Rattle.om_certificate.specs.declared.lp_end.LpEnd.{LpEnd}
 use Rattle.om_certificate.specs.Verdicts.{certificate_of}
 use Rattle.om_certificate.proofs.Refusing.{one_reason, no_reason}
-use Rattle.om_answer.specs.declared.claim.Claim.{Claim}
-use Rattle.om_answer.specs.declared.line.Line.{Line}
+use Rattle.om_reply.specs.declared.claim.Claim.{Claim}
+use Rattle.om_printing.specs.declared.line.Line.{Line}
 use Rattle.om_representation.specs.Documents.{worked_on}
-use Rattle.om_reply.specs.RefusalLines.{refused_line}
+use Rattle.om_representation.specs.RefusalLines.{refused_line}
 use Rattle.om_plane.specs.Claims.{refusal_line, EvidenceMeans, refused, valid, VerdictMeans, other_rank, limited}
 use Rattle.om_plane.specs.Claims.{judged, ClaimMeans, fails_axioms, flat, verified}
-use Rattle.om_reply.proofs.OneChirotope.{one_chirotope}
-use Rattle.om_reply.proofs.OneRefusal.{one_refused, not_refused}
+use Rattle.om_representation.proofs.OneChirotope.{one_chirotope}
+use Rattle.om_representation.proofs.OneRefusal.{one_refused, not_refused}
 
 one_evidence_line : (m : SignMap) (e : Evidence) (l k : Line) → EvidenceMeans m e l → EvidenceMeans m e k → l ≡ k
 one_evidence_line m e l k (refused v f) (refused w g) = ap refusal_line (one_reason m e v w f g)

@@ -7,7 +7,7 @@ use Rattle.om_signs.specs.declared.sign.Sign.{Sign}
 use Rattle.om_chirotope.specs.Map.{SignMap}
 use Rattle.om_convert.proofs.CountingLaws.{distinct_few}
 use Rattle.om_vectors.specs.Realizations.{signs_map}
-use Rattle.om_make.specs.declared.tally.Tally.{Tally}
+use Rattle.om_vectors.specs.declared.tally.Tally.{Tally}
 use Rattle.om_make.specs.Generator.{made_vectors}
 use Rattle.om_make.specs.Tallies.{HasExactly, IsTallyOfMap}
 use Rattle.om_reply.specs.Answers.{makes}

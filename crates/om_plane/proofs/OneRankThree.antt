@@ -22,11 +22,11 @@ use Rattle.om_mutate.specs.Mutations.{flipped, nth, ListsMutations}
 use Rattle.om_budgets.specs.declared.budgets.Budgets.{Budgets}
 use Rattle.om_decide.proofs.VerdictLaws.{one_verdict}
 use Rattle.om_text.specs.declared.document.Document.{Document}
-use Rattle.om_answer.specs.declared.line.Line.TheVariants as line
+use Rattle.om_printing.specs.declared.line.Line.TheVariants as line
 use Rattle.om_reply.specs.Answers.{shows, lists, lists_extensions, judges}
 use Rattle.om_plane.specs.Decisions as decisions
 use Rattle.om_plane.specs.Decisions.{DecisionMeans}
-use Rattle.om_reply.specs.Determined.{IsDetermined}
+use Rattle.om_reply.specs.Determined.{AreAlike, IsDetermined}
 use Rattle.om_plane.specs.ExtensionLists as extensions
 use Rattle.om_plane.specs.ExtensionLists.{AreExtensionsOfMap}
 use Rattle.om_plane.specs.Flips as flips
@@ -36,8 +36,8 @@ use Rattle.om_plane.specs.MutationLists.{AreMutationsOfMap}
 use Rattle.om_plane.specs.Sweeps as sweeps
 use Rattle.om_plane.specs.Sweeps.{IsWiringOfMap, wiring_document}
 use Rattle.om_reply.proofs.Alike.{alike, both_say, one_place}
-use Rattle.om_reply.proofs.OneChirotope.{for_chirotope_determined}
-use Rattle.om_reply.proofs.OneRefusal.{one_violated, not_violated}
+use Rattle.om_representation.proofs.OneChirotope.{for_chirotope_determined}
+use Rattle.om_representation.proofs.OneRefusal.{one_violated, not_violated}
 
 -- ---- mutations
 
@@ -218,5 +218,5 @@ flips_determined x y z d a b (flips.outside e p) (flips.outside f q) = one_place
 flips_determined x y z d a b (flips.outside e p) (flips.inside b' none means) = absurd (none-some e (sym none ∙ p))
 flips_determined x y z d a b (flips.inside a' none means) (flips.outside f q) = absurd (none-some f (sym none ∙ q))
 flips_determined x y z d a b (flips.inside a' none means) (flips.inside b' nor also) =
-    for_chirotope_determined (IsFlipOfMap (triple_of x y z)) (flips_determined_of_map (triple_of x y z)) d a b means
-    also
+    for_chirotope_determined AreAlike (IsFlipOfMap (triple_of x y z)) (flips_determined_of_map (triple_of x y z)) d a b
+    means also

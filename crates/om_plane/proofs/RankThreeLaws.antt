@@ -11,7 +11,7 @@ use Rattle.om_text.specs.declared.document.Document.{Document}
 use Rattle.om_reply.specs.declared.answer.Answer.{Answer}
 use Rattle.om_reply.specs.Answers.{IsReply}
 use Rattle.om_representation.specs.Chirotopes.{IsChirotopeOf}
-use Rattle.om_reply.specs.RankThree.{IsForChirotope, for_chirotope}
+use Rattle.om_representation.specs.RankThree.{IsForChirotope, for_chirotope}
 use Rattle.om_plane.specs.Sweeps as sweeps
 use Rattle.om_plane.specs.MutationLists as mutations
 use Rattle.om_plane.specs.ExtensionLists as extensions

@@ -34,12 +34,12 @@ use Rattle.om_text.specs.Print.{text_of, spaced, sign_lines, kind_text, printed}
 use Rattle.om_text.specs.Words.{byte_of}
 use Rattle.om_text.proofs.Printing.{text_of-append}
 use Rattle.om_text.proofs.Sizes.{cut_bytes}
-use Rattle.om_answer.specs.BlockLines.{word_line}
-use Rattle.om_answer.specs.VerdictText.{named, vector_numbers, vector_words, entry_numbers, entry_words, weight_numbers}
-use Rattle.om_answer.specs.VerdictText.{weight_words, relation_name, search_lines, stage_name, width_numbers}
-use Rattle.om_answer.specs.VerdictText.{verdict_name, verdict_lines, block_lines, lines_text, chirotope_document}
-use Rattle.om_answer.specs.VerdictText.{verdict_text}
-use Rattle.om_answer.proofs.ClaimSizes.{word_bytes}
+use Rattle.om_reply.specs.VerdictText.{word_line}
+use Rattle.om_reply.specs.VerdictText.{named, vector_numbers, vector_words, entry_numbers, entry_words, weight_numbers}
+use Rattle.om_reply.specs.VerdictText.{weight_words, relation_name, search_lines, stage_name, width_numbers}
+use Rattle.om_reply.specs.VerdictText.{verdict_name, verdict_lines, block_lines, lines_text, chirotope_document}
+use Rattle.om_reply.specs.VerdictText.{verdict_text}
+use Rattle.om_reply.proofs.BlockTexts.{word_bytes}
 use Rattle.om_plane.specs.Decisions.{IsDecided}
 
 -- ---- lines

@@ -13,13 +13,13 @@ use Rattle.om_certificate.specs.Verdicts.{certificate_of}
 use Rattle.om_certificate.specs.Validity.{IsValid, Shows}
 use Rattle.om_certificate.specs.Refusals.{IsRefusal}
 use Rattle.om_vectors.specs.declared.unfound.Unfound.{Unfound}
-use Rattle.om_answer.specs.declared.claim.Claim.{Claim}
-use Rattle.om_answer.specs.declared.line.Line.{Line}
-use Rattle.om_answer.specs.declared.line.Line.TheVariants as line
+use Rattle.om_reply.specs.declared.claim.Claim.{Claim}
+use Rattle.om_printing.specs.declared.line.Line.{Line}
+use Rattle.om_printing.specs.declared.line.Line.TheVariants as line
 use Rattle.om_representation.specs.Chirotopes.{IsChirotopeOf}
 use Rattle.om_representation.specs.declared.document_refused.DocumentRefused.{DocumentRefused}
 use Rattle.om_representation.specs.Axioms.{MeetsAxioms, IsRefused, IsFlatDocument}
-use Rattle.om_reply.specs.RefusalLines.{refused_line}
+use Rattle.om_representation.specs.RefusalLines.{refused_line}
 use Rattle.om_representation.specs.Documents.{worked_on}
 
 -- the line that says what valid evidence proves

@@ -9,10 +9,10 @@ use Rattle.om_certificate.specs.Verdicts.{certificate_of}
 use Rattle.om_budgets.specs.declared.budgets.Budgets.{Budgets}
 use Rattle.om_decide.specs.Verdicts.{IsVerdictOf}
 use Rattle.om_text.specs.declared.document.Document.{Document}
-use Rattle.om_answer.specs.declared.line.Line.TheVariants as line
+use Rattle.om_printing.specs.declared.line.Line.TheVariants as line
 use Rattle.om_reply.specs.declared.answer.Answer.{Answer}
 use Rattle.om_reply.specs.Answers.{says, judges}
-use Rattle.om_reply.specs.RankThree.{IsForChirotope}
+use Rattle.om_representation.specs.RankThree.{IsForChirotope}
 
 -- The verdict on a map of rank 3 within these budgets. The map is a chirotope, and the verdict has the forms and
 -- the limits of a claim. Its vectors realize the map, its certificate shows that no vectors do, and its weights

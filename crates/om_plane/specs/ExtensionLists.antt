@@ -6,10 +6,10 @@ use Rattle.om_localize.specs.declared.listing.Listing.{Listing}
 use Rattle.om_localize.specs.Extensions.{IsSignature}
 use Rattle.om_localize.specs.Listings.{AreFirst}
 use Rattle.om_text.specs.declared.document.Document.{Document}
-use Rattle.om_answer.specs.declared.line.Line.TheVariants as line
+use Rattle.om_printing.specs.declared.line.Line.TheVariants as line
 use Rattle.om_reply.specs.declared.answer.Answer.{Answer}
 use Rattle.om_reply.specs.Answers.{says, lists_extensions}
-use Rattle.om_reply.specs.RankThree.{IsForChirotope}
+use Rattle.om_representation.specs.RankThree.{IsForChirotope}
 
 -- the first extensions of a map
 pub data AreExtensionsOfMap (first : ℕ) (m : SignMap) : Answer → Type 0 where

@@ -9,13 +9,13 @@ use Rattle.om_mutate.specs.declared.flip_refused.FlipRefused.TheVariants as why
 use Rattle.om_mutate.specs.Mutations.{flipped, IsMutation}
 use Rattle.om_text.specs.declared.document.Document.{Document}
 use Rattle.om_text.specs.Form.{IsInForm}
-use Rattle.om_answer.specs.declared.line.Line.{Line}
-use Rattle.om_answer.specs.declared.line.Line.TheVariants as line
+use Rattle.om_printing.specs.declared.line.Line.{Line}
+use Rattle.om_printing.specs.declared.line.Line.TheVariants as line
 use Rattle.om_reply.specs.declared.answer.Answer.{Answer}
 use Rattle.om_reply.specs.Answers.{says, shows}
 use Rattle.om_reply.specs.Above.{first_above}
 use Rattle.om_representation.specs.Documents.{map_document}
-use Rattle.om_reply.specs.RankThree.{IsForChirotope}
+use Rattle.om_representation.specs.RankThree.{IsForChirotope}
 
 -- the list of three elements
 abbrev pub triple_of : ℕ → ℕ → ℕ → List ℕ

@@ -1,6 +1,6 @@
 -- The vectors that a number determines, and their summary.
 use Rattle.std.specs.Prelude.{ℕ}
-use Rattle.om_make.specs.declared.tally.Tally.{Tally}
+use Rattle.om_vectors.specs.declared.tally.Tally.{Tally}
 use Rattle.om_make.specs.Generator.{made_vectors}
 use Rattle.om_make.specs.Tallies.{IsTally, ComesBack}
 use Rattle.om_vectors.specs.Realizations.{signs_map}

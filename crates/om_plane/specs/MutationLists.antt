@@ -4,10 +4,10 @@ use Rattle.om_subsets.specs.Members.{Chosen}
 use Rattle.om_chirotope.specs.Map.{SignMap}
 use Rattle.om_mutate.specs.Mutations.{ListsMutations}
 use Rattle.om_text.specs.declared.document.Document.{Document}
-use Rattle.om_answer.specs.declared.line.Line.TheVariants as line
+use Rattle.om_printing.specs.declared.line.Line.TheVariants as line
 use Rattle.om_reply.specs.declared.answer.Answer.{Answer}
 use Rattle.om_reply.specs.Answers.{says, lists}
-use Rattle.om_reply.specs.RankThree.{IsForChirotope}
+use Rattle.om_representation.specs.RankThree.{IsForChirotope}
 
 -- the mutations of a map
 pub data AreMutationsOfMap (m : SignMap) : Answer → Type 0 where

@@ -4,8 +4,8 @@ use Rattle.std.specs.Result.{result_ok}
 use Rattle.om_certificate.specs.declared.evidence.Evidence.{Evidence}
 use Rattle.om_certificate.specs.declared.verdict.Verdict.{Verdict}
 use Rattle.om_certificate.specs.Verdicts.{certificate_of}
-use Rattle.om_answer.specs.declared.claim.Claim.{Claim}
-use Rattle.om_answer.specs.declared.line.Line.{Line}
+use Rattle.om_reply.specs.declared.claim.Claim.{Claim}
+use Rattle.om_printing.specs.declared.line.Line.{Line}
 use Rattle.om_plane.specs.Claims.{ClaimMeans}
 
 -- the vectors, the entries or the weights of a verdict; a limit has none

@@ -11,10 +11,10 @@ use Rattle.om_wiring.specs.Sweeps.{IsLeastWiring}
 use Rattle.om_text.specs.declared.document.Document.{Document}
 use Rattle.om_text.specs.declared.body.Body.TheVariants as body
 use Rattle.om_text.specs.Form.{IsInForm}
-use Rattle.om_answer.specs.declared.line.Line.TheVariants as line
+use Rattle.om_printing.specs.declared.line.Line.TheVariants as line
 use Rattle.om_reply.specs.declared.answer.Answer.{Answer}
 use Rattle.om_reply.specs.Answers.{says, shows}
-use Rattle.om_reply.specs.RankThree.{IsForChirotope}
+use Rattle.om_representation.specs.RankThree.{IsForChirotope}
 
 -- the document of a wiring diagram
 abbrev pub wiring_document : ℕ → List Block → Document

@@ -2,14 +2,14 @@
 
 ghost use Rattle.std.specs.Prelude.{IfOk};
 ghost use Rattle.om_budgets.specs.Ranges.{AreBudgets};
-ghost use Rattle.om_reply.specs.Represented.{IsMeantFor};
+ghost use Rattle.om_representation.specs.Represented.{IsMeantFor};
 ghost use Rattle.om_plane.specs.Decisions.{IsDecision, DecisionMeans};
 
-use om_answer::{Claim, Line};
 use om_chirotope::Chirotope;
 use om_decide::{Budgets, DecideError, decide};
-use om_reply::{Answer, rank_line};
-use om_representation::{Representation, choose_chirotope, map_document};
+use om_printing::Line;
+use om_reply::{Answer, Claim};
+use om_representation::{Representation, choose_chirotope, map_document, rank_line};
 use om_signs::NoMemory;
 use std::alloc::Global;
 

@@ -2,14 +2,14 @@
 
 ghost use Rattle.std.specs.Prelude.{◌≤◌, IfOk};
 ghost use Rattle.om_plane.specs.ExtensionLists.{AreExtensions, AreExtensionsOfMap};
-ghost use Rattle.om_reply.specs.Represented.{IsMeantFor};
+ghost use Rattle.om_representation.specs.Represented.{IsMeantFor};
 ghost use Rattle.om_words.specs.Tasks.{IsNumberOfLines};
 
-use om_answer::Line;
 use om_chirotope::Chirotope;
 use om_localize::{ExtendError, extensions};
-use om_reply::{Answer, rank_line};
-use om_representation::{Representation, choose_chirotope};
+use om_printing::Line;
+use om_reply::Answer;
+use om_representation::{Representation, choose_chirotope, rank_line};
 use om_signs::NoMemory;
 use std::alloc::Global;
 use std::thread::Threads;

@@ -3,14 +3,14 @@
 ghost use Rattle.std.specs.Prelude.{◌≡◌, ◌≤◌, IfOk};
 ghost use Rattle.om_plane.specs.Flips.{IsFlip, IsFlipOfMap, flip_refusal, triple_of};
 ghost use Rattle.om_reply.specs.Above.{first_above};
-ghost use Rattle.om_reply.specs.Represented.{IsMeantFor};
+ghost use Rattle.om_representation.specs.Represented.{IsMeantFor};
 ghost use Rattle.om_words.specs.Tasks.{AreIncreasing};
 
-use om_answer::Line;
 use om_chirotope::Chirotope;
 use om_mutate::{FlipRefused, flip};
-use om_reply::{Answer, rank_line};
-use om_representation::{Representation, choose_chirotope, map_document};
+use om_printing::Line;
+use om_reply::Answer;
+use om_representation::{Representation, choose_chirotope, map_document, rank_line};
 use om_signs::NoMemory;
 use om_subsets::Subset;
 use std::alloc::Global;

@@ -1,6 +1,6 @@
 //! The commands of rank 3, that is of the plane, and the check of a claim.
 //!
-//! Each command answers by an [`Answer`](om_reply::Answer), and the check by a [`Line`](om_answer::Line).
+//! Each command answers by an [`Answer`](om_reply::Answer), and the check by a [`Line`](om_printing::Line).
 #![tactic(auto)]
 
 mod decision;

@@ -2,13 +2,13 @@
 
 ghost use Rattle.std.specs.Prelude.{◌≡◌, IfOk};
 ghost use Rattle.om_text.specs.Form.{IsInForm};
-ghost use Rattle.om_reply.specs.Represented.{IsMeantFor};
+ghost use Rattle.om_representation.specs.Represented.{IsMeantFor};
 ghost use Rattle.om_plane.specs.Sweeps.{IsSweepRefusal, IsWiringOf, IsWiringOfMap, wiring_document};
 
-use om_answer::Line;
 use om_chirotope::Chirotope;
-use om_reply::{Answer, rank_line};
-use om_representation::{Representation, choose_chirotope};
+use om_printing::Line;
+use om_reply::Answer;
+use om_representation::{Representation, choose_chirotope, rank_line};
 use om_signs::{List, NoMemory};
 use om_text::{Body, Document};
 use om_wiring::{SweepError, Wiring, sweep};

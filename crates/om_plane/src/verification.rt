@@ -3,14 +3,14 @@
 ghost use Rattle.std.specs.Prelude.{◌≡◌, IfOk};
 ghost use Rattle.om_text.specs.Form.{IsInForm};
 ghost use Rattle.om_certificate.specs.Validity.{IsWithinLimits};
-ghost use Rattle.om_answer.specs.Claim.{HasEvidenceWithinLimits};
+ghost use Rattle.om_certificate.specs.Verdicts.{HasEvidenceWithinLimits};
 ghost use Rattle.om_plane.specs.Claims.{ClaimMeans, VerdictMeans, EvidenceMeans, valid_line, refusal_line};
 
-use om_answer::{Claim, Line};
 use om_certificate::{CertRefused, Evidence, Verdict, certificate, check};
 use om_chirotope::Chirotope;
-use om_reply::{rank_line, refused_line};
-use om_representation::{Unrepresented, choose_chirotope, represent};
+use om_printing::Line;
+use om_reply::Claim;
+use om_representation::{Unrepresented, choose_chirotope, rank_line, refused_line, represent};
 use om_signs::NoMemory;
 use std::alloc::Global;
 use std::thread::Threads;

@@ -5,3 +5,8 @@ mod OneUsage
 mod PlanLaws
 pub mod ReplyLaws
 mod ValidClaimLaws
+pub mod Chaining
+pub mod Readings
+pub mod Runs
+pub mod Shortened
+pub mod Steps

@@ -10,13 +10,14 @@ use Rattle.std.proofs.lemmas.List.{length-append}
 use Rattle.om_signs.specs.declared.limits.TheConstants.{MAX_INPUT}
 use Rattle.om_port.specs.Causes.{TakesExactly}
 use Rattle.om_words.specs.declared.task.Task.{Task}
-use Rattle.om_answer.specs.declared.line.Line.TheVariants as line
+use Rattle.om_printing.specs.declared.line.Line.TheVariants as line
 use Rattle.om_reply.specs.declared.status.Status.{Status}
 use Rattle.om_reply.specs.declared.answer.Answer.{Answer}
 use Rattle.om_reply.specs.Answers.{says, status_of, text_of}
 use Rattle.om_words.specs.Words.{Names, IsUsage}
 use Rattle.om_program.specs.Meaning.{Means, usage, named}
-use Rattle.om_program.specs.Run.{IsMeantBy, IsWhole, IsFront, IsCutOff, IsAnswer, IsCutOffAnswer, IsTaskAnswer}
+use Rattle.om_program.specs.Run.{IsMeantBy, IsWhole, IsCutOff, IsAnswer, IsCutOffAnswer, IsTaskAnswer}
+use Rattle.om_reply.specs.Written.{IsFront}
 use Rattle.om_program.specs.Run.{IsCutOffTask, TakesInput}
 
 pub meant_of_long : (Meaning : List ℕ → Answer → Type 0) (left rest : Option (List ℕ)) (answer : Answer)

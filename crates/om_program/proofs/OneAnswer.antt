@@ -11,10 +11,10 @@ use Rattle.om_words.specs.declared.task.Task.{Task}
 use Rattle.om_words.specs.declared.task.Task.TheVariants.{Accept, Member, Convert, Dual, Delete, Contract, Reorient}
 use Rattle.om_words.specs.declared.task.Task.TheVariants.{Wiring, Mutations, Flip, Extend, Decide, Paint, Hull, Lexext}
 use Rattle.om_words.specs.declared.task.Task.TheVariants.{Threeterm, Upgrade, Check, Make}
-use Rattle.om_words.specs.declared.usage.Usage.{Usage}
+use Rattle.om_printing.specs.declared.usage.Usage.{Usage}
 use Rattle.om_words.specs.Tasks.{reads, given_list}
 use Rattle.om_words.specs.Words.{Names}
-use Rattle.om_answer.specs.declared.line.Line.TheVariants as line
+use Rattle.om_printing.specs.declared.line.Line.TheVariants as line
 use Rattle.om_answer.proofs.OneReading as claims
 use Rattle.om_representation.specs.Covectors.{IsCovectorIn}
 use Rattle.om_representation.specs.Documents.{worked_on}
@@ -32,7 +32,8 @@ use Rattle.om_plane.specs.MutationLists.{AreMutationsOfMap}
 use Rattle.om_plane.specs.Sweeps.{IsWiringOfMap}
 use Rattle.om_reply.proofs.Alike.{alike, both_say}
 use Rattle.om_program.proofs.CompletenessLaws.{apart_document_claim, apart_nothing_document, apart_nothing_claim}
-use Rattle.om_reply.proofs.OneChirotope.{for_chirotope_determined, for_kept_chirotope_determined}
+use Rattle.om_representation.proofs.OneChirotope.{for_chirotope_determined}
+use Rattle.om_commands.proofs.KeptLaws.{for_kept_chirotope_determined}
 use Rattle.om_plane.proofs.OneClaim.{one_claim_line}
 use Rattle.om_commands.proofs.OneConversion.{conversions_determined}
 use Rattle.om_commands.proofs.OneDocument.{lexical_extensions_determined, paintings_determined}
@@ -40,10 +41,10 @@ use Rattle.om_commands.proofs.OneAnyRank.{memberships_determined, paintings_dete
 use Rattle.om_commands.proofs.OneAnyRank.{lexical_extensions_determined_of_map}
 use Rattle.om_plane.proofs.OneMade.{made_determined}
 use Rattle.om_commands.proofs.OneOperation.{operations_determined}
-use Rattle.om_reply.proofs.OneRefusal.{not_refused, refusals_determined}
+use Rattle.om_representation.proofs.OneRefusal.{not_refused}
 use Rattle.om_plane.proofs.OneRankThree.{wirings_determined, mutations_determined, flips_determined}
 use Rattle.om_plane.proofs.OneRankThree.{extension_lists_determined, decisions_determined}
-use Rattle.om_commands.proofs.OneTest.{tests_determined, upgrades_determined}
+use Rattle.om_commands.proofs.OneTest.{refusals_determined, tests_determined, upgrades_determined}
 use Rattle.om_program.proofs.OneUsage.{one_usage, no_usage}
 
 -- ---- a task on the document of an oriented matroid
@@ -56,11 +57,12 @@ answers_determined Dual d a b p q = operations_determined operation.Dual d a b p
 answers_determined (Delete e) d a b p q = operations_determined (operation.Delete e) d a b p q
 answers_determined (Contract e) d a b p q = operations_determined (operation.Contract e) d a b p q
 answers_determined (Reorient mask) d a b p q = operations_determined (operation.Reorient mask) d a b p q
-answers_determined Wiring d a b p q = for_chirotope_determined IsWiringOfMap wirings_determined d a b p q
-answers_determined Mutations d a b p q = for_chirotope_determined AreMutationsOfMap mutations_determined d a b p q
+answers_determined Wiring d a b p q = for_chirotope_determined AreAlike IsWiringOfMap wirings_determined d a b p q
+answers_determined Mutations d a b p q =
+    for_chirotope_determined AreAlike AreMutationsOfMap mutations_determined d a b p q
 answers_determined (Flip e f g) d a b p q = flips_determined e f g d a b p q
 answers_determined (Extend first) d a b p q =
-    for_chirotope_determined (AreExtensionsOfMap first) (extension_lists_determined first) d a b p q
+    for_chirotope_determined AreAlike (AreExtensionsOfMap first) (extension_lists_determined first) d a b p q
 answers_determined (Paint c) d a b p q = paintings_determined c (paintings_determined_of_map c) d a b p q
 answers_determined Hull d a b p q = for_kept_chirotope_determined IsHullOfMap hulls_determined d a b p q
 answers_determined (Lexext l) d a b p q =
@@ -68,7 +70,7 @@ answers_determined (Lexext l) d a b p q =
 answers_determined Threeterm d a b p q = absurd p
 answers_determined Upgrade d a b p q = absurd p
 answers_determined (Decide budgets) d a b p q =
-    for_chirotope_determined (DecisionMeans budgets) (decisions_determined budgets) d a b p q
+    for_chirotope_determined AreAlike (DecisionMeans budgets) (decisions_determined budgets) d a b p q
 answers_determined Check d a b p q = absurd p
 answers_determined (Make seed count) d a b p q = absurd p
 

@@ -6,7 +6,7 @@
 use Rattle.std.specs.Prelude.{◌≡◌, refl}
 use Rattle.std.proofs.Common.{sym, ◌∙◌}
 use Rattle.om_text.specs.declared.document.Document.{Document}
-use Rattle.om_answer.specs.declared.line.Line.TheVariants as line
+use Rattle.om_printing.specs.declared.line.Line.TheVariants as line
 use Rattle.om_words.specs.declared.reads.Reads.TheVariants as source
 use Rattle.om_words.specs.declared.task.Task.TheVariants.{Threeterm, Upgrade}
 use Rattle.om_words.specs.Tasks.{HasLawfulArguments, reads}

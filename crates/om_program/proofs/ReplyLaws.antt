@@ -25,9 +25,9 @@ use Rattle.om_certificate.specs.declared.cert_refused.CertRefused.TheVariants as
 use Rattle.om_certificate.specs.declared.evidence.Evidence.{Evidence}
 use Rattle.om_certificate.specs.declared.evidence.Evidence.TheVariants as evidence
 use Rattle.om_certificate.specs.declared.verdict.Verdict.{Verdict}
-use Rattle.om_answer.specs.declared.claim.Claim.{Claim}
+use Rattle.om_reply.specs.declared.claim.Claim.{Claim}
 use Rattle.om_text.specs.declared.kinds.Kind.{Kind}
-use Rattle.om_answer.specs.declared.line.Line.{Line}
+use Rattle.om_printing.specs.declared.line.Line.{Line}
 use Rattle.om_reply.specs.declared.answer.Answer.{Answer}
 use Rattle.om_commands.specs.declared.operation.Operation.{Operation}
 use Rattle.om_commands.specs.declared.operation.Operation.TheVariants as operation
@@ -40,7 +40,7 @@ use Rattle.om_reply.specs.Answers.{IsReply, status_of_line}
 use Rattle.om_representation.specs.declared.document_refused.DocumentRefused.{DocumentRefused}
 use Rattle.om_representation.specs.declared.document_refused.DocumentRefused.TheVariants as reason
 use Rattle.om_representation.specs.Axioms.{MeetsAxiomsOn}
-use Rattle.om_reply.specs.RefusalLines.{refused_line, set_line, map_line, cov_line, wiring_line}
+use Rattle.om_representation.specs.RefusalLines.{refused_line, set_line, map_line, cov_line, wiring_line}
 use Rattle.om_commands.specs.Memberships.{IsMembership, wrong_length, covector, not_covector}
 use Rattle.om_commands.specs.Conversions.{IsConversion, itself, wide, limited, converted}
 use Rattle.om_commands.specs.Operations.{IsOperation, outside, last, made}

@@ -16,9 +16,9 @@ use Rattle.om_budgets.specs.declared.budgets.Budgets.{Budgets}
 use Rattle.om_text.specs.declared.body.Body.{Body}
 use Rattle.om_text.specs.declared.body.Body.TheVariants.{Chirotope}
 use Rattle.om_text.specs.declared.document.Document.{Document}
-use Rattle.om_answer.specs.declared.line.Line.{Line}
-use Rattle.om_answer.specs.declared.line.Line.TheVariants as line
-use Rattle.om_answer.specs.VerdictText.{claim_of, verdict_text}
+use Rattle.om_printing.specs.declared.line.Line.{Line}
+use Rattle.om_printing.specs.declared.line.Line.TheVariants as line
+use Rattle.om_reply.specs.VerdictText.{claim_of, verdict_text}
 use Rattle.om_answer.proofs.VerdictReading.{claim_read}
 use Rattle.om_reply.specs.declared.answer.Answer.{Answer}
 use Rattle.om_reply.specs.declared.answer.Answer.TheVariants as answer
@@ -26,7 +26,7 @@ use Rattle.om_words.specs.declared.task.Task.TheVariants.{Decide, Check}
 use Rattle.om_reply.specs.Answers.{says, judges}
 use Rattle.om_plane.specs.Claims.{VerdictMeans, valid, judged, limited, verified, valid_line}
 use Rattle.om_plane.specs.Decisions.{IsDecided, DecisionMeans, other_rank, decided, IsDecision}
-use Rattle.om_reply.specs.RankThree.{for_chirotope}
+use Rattle.om_representation.specs.RankThree.{for_chirotope}
 use Rattle.om_program.specs.Meaning.{Means, usage, named, TaskMeans, long, faulty, read, faulty_claim, claimed, alone}
 use Rattle.om_program.specs.Meaning.{DocumentMeans, tested, upgraded, refused, flat, answered}
 use Rattle.om_program.specs.ValidClaims.{IsLimit, IsFoundValid, VerdictsAreFoundValid, LimitsAreFoundWithoutCertificate}

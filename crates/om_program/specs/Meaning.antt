@@ -8,9 +8,9 @@ use Rattle.om_text.specs.declared.document.Document.{Document}
 use Rattle.om_text.specs.Lines.{lines}
 use Rattle.om_text.specs.Document.{IsDocument}
 use Rattle.om_text.specs.Fault.{IsFault}
-use Rattle.om_answer.specs.declared.claim.Claim.{Claim}
-use Rattle.om_answer.specs.declared.line.Line.{Line}
-use Rattle.om_answer.specs.declared.line.Line.TheVariants as line
+use Rattle.om_reply.specs.declared.claim.Claim.{Claim}
+use Rattle.om_printing.specs.declared.line.Line.{Line}
+use Rattle.om_printing.specs.declared.line.Line.TheVariants as line
 use Rattle.om_answer.specs.Claim.{IsClaim}
 use Rattle.om_answer.specs.ClaimFault.{IsClaimFault}
 use Rattle.om_reply.specs.declared.answer.Answer.{Answer}
@@ -23,7 +23,7 @@ use Rattle.om_words.specs.declared.task.Task.TheVariants.{Threeterm, Upgrade, Ch
 use Rattle.om_reply.specs.Answers.{says}
 use Rattle.om_representation.specs.declared.document_refused.DocumentRefused.{DocumentRefused}
 use Rattle.om_representation.specs.Axioms.{MeetsAxioms, IsRefused, IsFlatDocument}
-use Rattle.om_reply.specs.RefusalLines.{refused_line}
+use Rattle.om_representation.specs.RefusalLines.{refused_line}
 use Rattle.om_plane.specs.Claims.{ClaimMeans}
 use Rattle.om_commands.specs.Conversions.{IsConversion}
 use Rattle.om_representation.specs.Covectors.{IsCovectorIn}

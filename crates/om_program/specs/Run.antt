@@ -8,6 +8,7 @@ use Rattle.om_words.specs.declared.reads.Reads.TheVariants as kind
 use Rattle.om_words.specs.declared.task.Task.{Task}
 use Rattle.om_words.specs.Tasks.{reads}
 use Rattle.om_words.specs.Words.{AreCommand, Names}
+use Rattle.om_reply.specs.Written.{IsFront}
 use Rattle.om_reply.specs.declared.status.Status.{Status}
 use Rattle.om_reply.specs.declared.answer.Answer.{Answer}
 use Rattle.om_reply.specs.Answers.{status_of, text_of}
@@ -16,10 +17,6 @@ use Rattle.om_program.specs.Meaning.{Means, TaskMeans}
 -- the bytes of each word
 abbrev pub bytes_of : {Z : Type 0} → List (String Z) → List (List ℕ)
 bytes_of words = map string_bytes words
-
--- the words are a command that reads
-abbrev pub AreReadingCommand : List (List ℕ) → Type 0
-AreReadingCommand words = (task : Task) × (Names words task × (reads task ≢ kind.Nothing))
 
 -- the words aren't a command, or are a command that reads nothing
 abbrev pub ReadNothing : List (List ℕ) → Type 0
@@ -38,10 +35,6 @@ IsMeantBy Meaning left answer = IfSome left (λ bytes. Meaning bytes answer)
 abbrev pub IsWhole : (Answer → Type 0) → Status → Option (List ℕ) → Option (List ℕ) → Type 0
 IsWhole Meaning status old new = (answer : Answer)
     × (Meaning answer × ((status ≡ status_of answer) × Appends old new (text_of answer)))
-
--- the first bytes of a text were written, but not all of them
-abbrev pub IsFront : Option (List ℕ) → Option (List ℕ) → List ℕ → Type 0
-IsFront old new text = (k : ℕ) × ((k < length text) × Appends old new (take k text))
 
 -- an answer with this meaning was begun, but not finished
 abbrev pub IsCutOff : (Answer → Type 0) → Option (List ℕ) → Option (List ℕ) → Type 0

@@ -3,10 +3,10 @@ use Rattle.std.specs.Prelude.{ℕ, ◌≡◌, List, [], ◌∷◌, ◌++◌, cod
 use Rattle.om_chirotope.specs.Map.{SignMap}
 use Rattle.om_certificate.specs.declared.verdict.Verdict.{Verdict}
 use Rattle.om_certificate.specs.declared.verdict.Verdict.TheVariants as verdict
-use Rattle.om_answer.specs.declared.line.Line.{Line}
-use Rattle.om_answer.specs.declared.line.Line.TheVariants.{RefusedNocertificate}
-use Rattle.om_answer.specs.Texts.{line_text}
-use Rattle.om_answer.specs.VerdictText.{verdict_name, verdict_text}
+use Rattle.om_printing.specs.declared.line.Line.{Line}
+use Rattle.om_printing.specs.declared.line.Line.TheVariants.{RefusedNocertificate}
+use Rattle.om_printing.specs.Texts.{line_text}
+use Rattle.om_reply.specs.VerdictText.{verdict_name, verdict_text}
 use Rattle.om_reply.specs.Answers.{says, judges}
 use Rattle.om_program.specs.Meaning.{Means}
 

@@ -5,12 +5,13 @@ ghost use Rattle.om_text.specs.Form.{IsInForm};
 ghost use Rattle.om_program.specs.Meaning.{TaskMeans, DocumentMeans, IsAnswerOf};
 ghost use Rattle.om_program.specs.Plans.{document_task, matroid_task, reading_task};
 ghost use Rattle.om_representation.specs.Documents.{document_of};
-ghost use Rattle.om_reply.specs.Represented.{IsMeantFor};
+ghost use Rattle.om_representation.specs.Represented.{IsMeantFor};
 ghost use Rattle.om_representation.specs.Widths.{HasFewValues};
 ghost use Rattle.om_words.specs.Tasks.{HasLawfulArguments, reads};
 
 use super::plan::{OnDocument, OnMatroid, Plan, Reading, plan_of};
-use om_answer::{Line, read_claim};
+use om_answer::read_claim;
+use om_printing::Line;
 use om_commands::{
     convert, extend_lexically, find_hull, find_membership, find_painting, operate,
     test_three_terms, upgrade,
@@ -18,8 +19,8 @@ use om_commands::{
 use om_plane::{
     find_wiring, flip_triple, judge, list_extensions, list_mutations, make_input, verify,
 };
-use om_reply::{Answer, refused_line};
-use om_representation::{Representation, Unrepresented, represent};
+use om_reply::Answer;
+use om_representation::{Representation, Unrepresented, refused_line, represent};
 use om_signs::{MAX_INPUT, NoMemory};
 use om_text::{Document, ParseError, parse};
 use om_words::{Reads, Task};

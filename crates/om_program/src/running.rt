@@ -6,8 +6,10 @@ ghost use Rattle.om_port.specs.Causes.{Rose, TakesSome};
 ghost use Rattle.om_words.specs.Words.{AreCommand, Names};
 ghost use Rattle.om_reply.specs.Answers.{IsReply, status_of, text_of};
 ghost use Rattle.om_reply.specs.Statuses.{IsAnswered};
-ghost use Rattle.om_program.specs.Run.{bytes_of, AreReadingCommand, ReadNothing, IsAnswer, IsCutOffAnswer};
-ghost use Rattle.om_program.specs.Run.{IsFront, IsWhole, IsCutOff, IsTaskAnswer, IsCutOffTask, IsMeantBy, TakesInput};
+ghost use Rattle.om_program.specs.Run.{bytes_of, ReadNothing, IsAnswer, IsCutOffAnswer};
+ghost use Rattle.om_words.specs.ReadingCommands.{AreReadingCommand};
+ghost use Rattle.om_program.specs.Run.{IsWhole, IsCutOff, IsTaskAnswer, IsCutOffTask, IsMeantBy, TakesInput};
+ghost use Rattle.om_reply.specs.Written.{IsFront};
 ghost use Rattle.om_program.specs.Completeness.{IsAnswerable, IsDoneOrNoMemory};
 ghost use Rattle.om_reply.specs.Determined.{IsDetermined};
 ghost use Rattle.om_program.specs.Meaning.{Means, TaskMeans};
@@ -18,11 +20,9 @@ ghost use Rattle.om_program.specs.ValidClaims.{LimitsAreFoundWithoutCertificate,
 
 use super::answering::{answer_alone, answer_reading};
 use super::plan::{Plan, Reading, plan_of};
-use super::usage_line::write_usage;
-use super::write_text::write_text;
-use om_answer::Line;
 use om_port::{ReadError, Sink, Source, read_all};
-use om_reply::{Answer, Status, print_answer};
+use om_printing::Line;
+use om_reply::{Answer, Status, write_answer, write_usage};
 use om_signs::{MAX_INPUT, NoMemory};
 use om_words::{Reads, Task, command};
 use std::alloc::Global;
@@ -245,25 +245,5 @@ fn read_and_answer<R: Threads + Sync, S: Source>(
         Err(ReadError::TooLong) => Ok(Answer::Line(Line::RefusedLong)),
         Err(ReadError::ReadFault) => Err(Unanswered::ReadFault),
         Err(ReadError::Memory) => Err(Unanswered::NoMemory),
-    }
-}
-
-/// Makes the text of an answer, and writes it. This is the one place where answers to commands are written.
-pub fn write_answer<K: Sink>(alloc: Global, answer: &Answer, sink: &mut K) -> Status
-    requires reply { IsReply answer.now }
-    requires ready { K.ready sink.old }
-    ensures whole { IsAnswered result → (result ≡ status_of answer.now)
-        × Appends (K.taken sink.old) (K.taken sink.new) (text_of answer.now) }
-    ensures cut { result ≡ Status.WriteFault → IsFront (K.taken sink.old) (K.taken sink.new) (text_of answer.now) }
-    ensures untouched { result ≡ Status.NoMemory → sink.new ≡ sink.old }
-    ensures fault { result ≡ Status.WriteFault → Rose (K.faults sink.old) (K.faults sink.new) }
-    ensures no_read { result ≢ Status.ReadFault }
-    ensures no_usage { result ≢ Status.Usage }
-    ensures again { IsAnswered result → K.ready sink.new }
-    ensures later { K.faults sink.old ≤ K.faults sink.new }
-{
-    match print_answer(alloc, answer) {
-        Ok(text) => write_text(sink, text.as_slice(), answer.status()),
-        Err(_) => Status::NoMemory,
     }
 }

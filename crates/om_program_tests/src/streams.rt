@@ -2,9 +2,8 @@
 
 use super::helpers::{are_whole, bytes, has_ended, is_wanting, leaves, sink, source, words};
 use om_port::{MemSink, MemSource, SureSource};
-use om_program::Status;
+use om_program::{Status, run_each};
 use om_signs::{MAX_INPUT, NoMemory};
-use om_stream::run_each;
 use std::alloc::Global;
 use std::thread::Threads;
 

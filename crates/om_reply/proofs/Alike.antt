@@ -3,8 +3,8 @@
 -- Main results: alike, both_say; one element at most is found (one_place).
 use Rattle.std.specs.Prelude.{ℕ, ◌≡◌, Option, Some}
 use Rattle.std.proofs.Common.{sym, ◌∙◌, ap}
-use Rattle.om_answer.specs.declared.line.Line.{Line}
-use Rattle.om_answer.specs.declared.line.Line.TheVariants.{RefusedPlace}
+use Rattle.om_printing.specs.declared.line.Line.{Line}
+use Rattle.om_printing.specs.declared.line.Line.TheVariants.{RefusedPlace}
 use Rattle.om_reply.specs.declared.answer.Answer.{Answer}
 use Rattle.om_reply.specs.Answers.{says, status_of, text_of}
 use Rattle.om_reply.specs.Determined.{AreAlike}

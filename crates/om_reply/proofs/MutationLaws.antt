@@ -8,7 +8,7 @@ use Rattle.std.proofs.lemmas.List.{take_more, map-append}
 use Rattle.om_subsets.specs.Members.{Chosen}
 use Rattle.om_text.specs.Print.{text_of}
 use Rattle.om_text.proofs.Printing.{text_of-append}
-use Rattle.om_answer.specs.Texts.{subset_text}
+use Rattle.om_printing.specs.Texts.{subset_text}
 use Rattle.om_reply.specs.MutationTexts.{set_lines, mutations_text}
 use Rattle.om_reply.proofs.BehindLaws.{put_behind}
 

@@ -9,7 +9,7 @@ use Rattle.om_signs.specs.declared.sign.Sign.{Sign}
 use Rattle.om_localize.specs.declared.listing.Listing.{Listing}
 use Rattle.om_text.specs.Print.{text_of}
 use Rattle.om_text.proofs.Printing.{text_of-append}
-use Rattle.om_answer.specs.Texts.{signs_text}
+use Rattle.om_printing.specs.Texts.{signs_text}
 use Rattle.om_reply.specs.ExtensionTexts.{signature_lines, last_word, extensions_text}
 use Rattle.om_reply.proofs.BehindLaws.{put_behind}
 

@@ -8,13 +8,13 @@ use Rattle.om_text.specs.declared.document.Document.{Document}
 use Rattle.om_text.specs.Form.{IsInForm}
 use Rattle.om_text.specs.Print.{printed}
 use Rattle.om_text.specs.PrintTwo.{printed_two, IsClosedUnderNegation}
-use Rattle.om_answer.specs.declared.line.Line.{Line}
-use Rattle.om_answer.specs.declared.line.Line.TheVariants as line
-use Rattle.om_answer.specs.Texts.{line_text}
+use Rattle.om_printing.specs.declared.line.Line.{Line}
+use Rattle.om_printing.specs.declared.line.Line.TheVariants as line
+use Rattle.om_printing.specs.Texts.{line_text}
 use Rattle.om_localize.specs.declared.listing.Listing.{Listing}
-use Rattle.om_paint.specs.declared.painted.Painted.{Painted}
+use Rattle.om_oriented.specs.declared.painted.Painted.{Painted}
 use Rattle.om_subsets.specs.Members.{Chosen}
-use Rattle.om_answer.specs.VerdictText.{claim_of, claim_text}
+use Rattle.om_reply.specs.VerdictText.{claim_of, claim_text}
 use Rattle.om_reply.specs.declared.answer.Answer.{Answer}
 use Rattle.om_reply.specs.declared.answer.Answer.TheVariants as answer
 use Rattle.om_reply.specs.declared.status.Status.{Status}
@@ -24,7 +24,7 @@ use Rattle.om_reply.specs.ExtensionTexts.{extensions_text}
 use Rattle.om_reply.specs.HullTexts.{hull_text}
 use Rattle.om_reply.specs.MutationTexts.{mutations_text}
 use Rattle.om_reply.specs.MadeTexts.{made_text}
-use Rattle.om_make.specs.declared.tally.Tally.{Tally}
+use Rattle.om_vectors.specs.declared.tally.Tally.{Tally}
 use Rattle.om_vectors.specs.WholeVectors.{WholeVector}
 
 -- an answer of one line

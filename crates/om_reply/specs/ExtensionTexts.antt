@@ -4,7 +4,7 @@ use Rattle.std.specs.Fmt.{decimal}
 use Rattle.om_signs.specs.declared.sign.Sign.{Sign}
 use Rattle.om_localize.specs.declared.listing.Listing.{Listing}
 use Rattle.om_text.specs.Print.{text_of}
-use Rattle.om_answer.specs.Texts.{spaced, signs_text}
+use Rattle.om_printing.specs.Texts.{spaced, signs_text}
 
 -- signatures, one on each line
 abbrev pub signature_lines : List (List Sign) → List (List ℕ)

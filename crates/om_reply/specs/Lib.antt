@@ -1,4 +1,5 @@
 pub mod Statuses
+pub mod VerdictText
 pub mod MutationTexts
 pub mod ExtensionTexts
 pub mod HullTexts
@@ -6,7 +7,4 @@ pub mod MadeTexts
 pub mod Answers
 pub mod Determined
 pub mod Above
-pub mod RefusalLines
-pub mod Represented
-pub mod RankThree
-pub mod AnyRank
+pub mod Written

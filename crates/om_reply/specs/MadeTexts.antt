@@ -5,8 +5,8 @@ use Rattle.om_text.specs.declared.document.Document.{Document}
 use Rattle.om_text.specs.declared.body.Body.TheVariants.{Points}
 use Rattle.om_text.specs.Print.{printed, text_of}
 use Rattle.om_vectors.specs.WholeVectors.{WholeVector}
-use Rattle.om_make.specs.declared.tally.Tally.{Tally}
-use Rattle.om_answer.specs.VerdictText.{vector_numbers}
+use Rattle.om_vectors.specs.declared.tally.Tally.{Tally}
+use Rattle.om_reply.specs.VerdictText.{vector_numbers}
 
 -- the document whose points have the coordinates of the vectors
 abbrev pub points_document : List WholeVector → Document

@@ -3,7 +3,7 @@ use Rattle.std.specs.Prelude.{ℕ, List, [], ◌∷◌, ◌++◌, codes, length,
 use Rattle.std.specs.Fmt.{decimal}
 use Rattle.om_subsets.specs.Members.{Chosen}
 use Rattle.om_text.specs.Print.{text_of}
-use Rattle.om_answer.specs.Texts.{spaced, subset_text}
+use Rattle.om_printing.specs.Texts.{spaced, subset_text}
 
 -- sets, one on each line
 abbrev pub set_lines : List Chosen → List (List ℕ)

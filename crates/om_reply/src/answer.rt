@@ -3,16 +3,16 @@
 ghost use Rattle.std.specs.Prelude.{◌≡◌};
 ghost use Rattle.om_reply.specs.Answers.{status_of, status_of_line, status_of_verdict};
 
+use super::claim::Claim;
 use super::status::Status;
-use om_answer::{Claim, Line};
 use om_certificate::Verdict;
 use om_localize::Listing;
-use om_make::Tally;
-use om_paint::Painted;
+use om_oriented::Painted;
+use om_printing::Line;
 use om_signs::List;
 use om_subsets::Subset;
 use om_text::Document;
-use om_vectors::Word;
+use om_vectors::{Tally, Word};
 
 /// What the program answers. A command decides it, and it is printed once, at the end of the run.
 #[derive(Drop)]

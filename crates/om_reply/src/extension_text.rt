@@ -2,11 +2,11 @@
 
 ghost use Rattle.std.specs.Prelude.{◌≡◌, ◌++◌, ◌∷◌, [], IfOk, OnOk};
 ghost use Rattle.om_text.specs.Print.{text_of};
-ghost use Rattle.om_answer.specs.Texts.{signs_text};
+ghost use Rattle.om_printing.specs.Texts.{signs_text};
 ghost use Rattle.om_reply.specs.ExtensionTexts.{signature_lines, last_word, extensions_text};
 
-use om_answer::pieces::{push, push_decimal, push_line_feed};
 use om_localize::{Listing, Signature};
+use om_printing::pieces::{push, push_decimal, push_line_feed};
 use om_signs::NoMemory;
 use om_text::words::byte_of_sign;
 use std::alloc::Global;

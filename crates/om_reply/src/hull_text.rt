@@ -4,8 +4,8 @@ ghost use Rattle.std.specs.Prelude.{◌≡◌, ◌++◌, ◌∷◌, [], IfOk, On
 ghost use Rattle.om_text.specs.Print.{text_of};
 ghost use Rattle.om_reply.specs.HullTexts.{element_text, item_text, item_lines, hull_text};
 
-use om_answer::pieces::{push, push_decimal, push_line_feed, push_vector};
-use om_paint::Painted;
+use om_oriented::Painted;
+use om_printing::pieces::{push, push_decimal, push_line_feed, push_vector};
 use om_signs::{NoMemory, SignVec};
 use std::alloc::Global;
 

@@ -4,7 +4,7 @@ ghost use Rattle.std.specs.Prelude.{◌≡◌, ◌++◌, IfOk, OnOk};
 ghost use Rattle.om_text.specs.Print.{text_of};
 ghost use Rattle.om_reply.specs.MutationTexts.{set_lines, mutations_text};
 
-use om_answer::pieces::{push, push_decimal, push_line_feed, push_subset};
+use om_printing::pieces::{push, push_decimal, push_line_feed, push_subset};
 use om_signs::NoMemory;
 use om_subsets::Subset;
 use std::alloc::Global;

@@ -4,11 +4,12 @@ ghost use Rattle.std.specs.Prelude.{◌≡◌, IfOk};
 ghost use Rattle.om_reply.specs.Answers.{IsReply, text_of};
 
 use super::answer::Answer;
+use super::claim_text::print_claim;
 use super::extension_text::print_extensions;
 use super::hull_text::print_hull;
 use super::made_text::print_made;
 use super::mutation_text::print_mutations;
-use om_answer::{print_claim, print_line};
+use om_printing::print_line;
 use om_signs::NoMemory;
 use om_text::{print, print_two};
 use std::alloc::Global;

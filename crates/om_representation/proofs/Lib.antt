@@ -1,2 +1,5 @@
 mod PointLaws
 pub mod WidthLaws
+pub mod ChoiceLaws
+pub mod OneChirotope
+pub mod OneRefusal

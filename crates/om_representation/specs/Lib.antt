@@ -4,3 +4,7 @@ pub mod Covectors
 pub mod Documents
 pub mod Chirotopes
 pub mod Widths
+pub mod RefusalLines
+pub mod Represented
+pub mod AnyRank
+pub mod RankThree

@@ -6,9 +6,10 @@ ghost use Rattle.om_certificate.specs.Forms.{IsVerdictInForm};
 ghost use Rattle.om_text.specs.Form.{IsMapOn};
 
 use super::helpers::is_made;
-use om_answer::{Claim, print_verdict, read_claim};
+use om_answer::{print_verdict, read_claim};
 use om_certificate::{LpEnd, Verdict};
 use om_chirotope::{Chirotope, check};
+use om_reply::Claim;
 use om_representation::map_document;
 use om_samples::{chirotope_of, is_map};
 use om_signs::{MAX_ELEMENTS, NoMemory, RawMap};

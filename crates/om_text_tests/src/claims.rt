@@ -3,9 +3,10 @@
 ghost use Rattle.std.specs.Prelude.{◌≡◌, IfOk};
 
 use super::helpers::is_made;
-use om_answer::{Claim, print_verdict, read_claim};
+use om_answer::{print_verdict, read_claim};
 use om_certificate::{LpEnd, Verdict};
 use om_chirotope::Chirotope;
+use om_reply::Claim;
 use om_samples::{SampleError, chirotope_of};
 use om_simplex::Stage;
 use om_text::{Body, ParseError};

@@ -1,8 +1,8 @@
 //! The words of commands: the tasks that they name, and the words at fault.
 
-use om_answer::Kind;
 use om_paint::Colour;
 use om_signs::{MAX_DRAWN, Sign};
+use om_text::Kind;
 use om_words::{Colouring, Leading, Reads, Task, Usage, command};
 use std::alloc::{AllocError, Global};
 

@@ -9,8 +9,8 @@ use Rattle.std.proofs.Common.{get_or, take, set, zero, suc, arith, ap, sym, ◌�
 use Rattle.std.proofs.lemmas.Bool.{false≢true, eqb-true, le-leb, and_from}
 use Rattle.std.proofs.lemmas.List.{take_more, take_all, set_at, length_push}
 use Rattle.std.proofs.lemmas.List.Elements.{filter_map-append}
-use Rattle.om_paint.specs.declared.colour.Colour.{Colour}
-use Rattle.om_paint.specs.declared.colour.Colour.TheVariants.{White}
+use Rattle.om_oriented.specs.declared.colour.Colour.{Colour}
+use Rattle.om_oriented.specs.declared.colour.Colour.TheVariants.{White}
 use Rattle.om_words.specs.declared.limits.TheConstants.{MAX_LISTED}
 use Rattle.om_words.specs.Listings.{padded, colour_of, colours_of}
 

@@ -12,11 +12,11 @@ use Rattle.std.proofs.lemmas.Option.{same_Some}
 use Rattle.om_signs.specs.declared.limits.TheConstants.{MAX_ELEMENTS}
 use Rattle.om_signs.specs.declared.sign.Sign.TheVariants.{Plus}
 use Rattle.om_text.specs.Fault.{Begins}
-use Rattle.om_paint.specs.declared.colour.Colour.{Colour}
-use Rattle.om_paint.specs.declared.colour.Colour.TheVariants.{White}
+use Rattle.om_oriented.specs.declared.colour.Colour.{Colour}
+use Rattle.om_oriented.specs.declared.colour.Colour.TheVariants.{White}
 use Rattle.om_lexext.specs.declared.signed.Signed.{Signed}
 use Rattle.om_words.specs.declared.limits.TheConstants.{MAX_LISTED}
-use Rattle.om_words.specs.declared.usage.Usage.{Usage}
+use Rattle.om_printing.specs.declared.usage.Usage.{Usage}
 use Rattle.om_words.specs.declared.colouring.Colouring.{Colouring}
 use Rattle.om_words.specs.declared.leading.Leading.{Leading}
 use Rattle.om_words.specs.Words.{IsElement, IsFault, at_word, at_end, HasValue, IsRead}

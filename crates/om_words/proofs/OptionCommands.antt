@@ -8,7 +8,7 @@ use Rattle.std.specs.Prelude.{IfErr, IsErrAnd, codes, refl}
 use Rattle.std.proofs.Common.{arith, ap, subst, sym, ◌∙◌}
 use Rattle.std.proofs.lemmas.Option.{same_Some}
 use Rattle.om_text.specs.Fault.{Begins}
-use Rattle.om_words.specs.declared.usage.Usage.{Usage}
+use Rattle.om_printing.specs.declared.usage.Usage.{Usage}
 use Rattle.om_words.specs.declared.setting.Setting.{Setting}
 use Rattle.om_words.specs.declared.setting.Setting.TheVariants.{BoxSize, Steps, Pivots, Count}
 use Rattle.om_words.specs.Words.{IsFault, at_word, at_end, HasValue, IsRead}

@@ -11,7 +11,7 @@ use Rattle.om_budgets.specs.Ranges as ranges
 use Rattle.om_words.specs.declared.setting.Setting.TheVariants.{First, BoxSize, Steps, Pivots, Count}
 use Rattle.om_words.specs.declared.task.Task.{Task}
 use Rattle.om_words.specs.declared.task.Task.TheVariants as task
-use Rattle.om_words.specs.declared.usage.Usage.{Usage}
+use Rattle.om_printing.specs.declared.usage.Usage.{Usage}
 use Rattle.om_words.specs.declared.verb.Verb.TheVariants as verb
 use Rattle.om_words.specs.Options.{AreBudgets, AreLines, AreSeedAndCount, budgets_of, number_of}
 use Rattle.om_words.specs.Tasks.{HasLawfulArguments, IsCount, IsNumberOfLines}

@@ -9,7 +9,7 @@ use Rattle.std.proofs.Common.{get_or, zero, suc, arith, ap, subst, sym, ◌∙�
 use Rattle.std.proofs.lemmas.Option.{same_Some}
 use Rattle.om_signs.specs.declared.limits.TheConstants.{MAX_ELEMENTS}
 use Rattle.om_text.specs.Fault.{Begins}
-use Rattle.om_words.specs.declared.usage.Usage.{Usage}
+use Rattle.om_printing.specs.declared.usage.Usage.{Usage}
 use Rattle.om_words.specs.Words.{IsElement, HasValue}
 use Rattle.om_words.specs.Triples.{AreTriple, IsElementWithin, IsElementAt}
 use Rattle.om_words.proofs.ArgumentLaws.{no_value, none_some}

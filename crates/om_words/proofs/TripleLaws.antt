@@ -6,7 +6,7 @@ use Rattle.std.specs.Prelude.{ℕ, ◌≡◌, ◌<◌, ◌≤◌, ◌+◌, ◌-�
 use Rattle.std.specs.Prelude.{IsErrAnd, refl}
 use Rattle.std.proofs.Common.{arith, ap, subst, sym}
 use Rattle.om_signs.specs.declared.limits.TheConstants.{MAX_ELEMENTS}
-use Rattle.om_words.specs.declared.usage.Usage.{Usage}
+use Rattle.om_printing.specs.declared.usage.Usage.{Usage}
 use Rattle.om_words.specs.Words.{IsFault, at_word, at_end, HasValue, IsRead}
 use Rattle.om_words.specs.Triples.{AreTriple, IsElementWithin, IsElementAt}
 use Rattle.om_words.proofs.WordLaws.{tail_of}

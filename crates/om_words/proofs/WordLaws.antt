@@ -12,7 +12,7 @@ use Rattle.om_signs.proofs.Results.{err-ne-ok}
 use Rattle.om_text.specs.Fault.{Begins}
 use Rattle.om_words.specs.declared.task.Task.{Task}
 use Rattle.om_words.specs.declared.task.Task.TheVariants.{Accept}
-use Rattle.om_words.specs.declared.usage.Usage.{Usage}
+use Rattle.om_printing.specs.declared.usage.Usage.{Usage}
 use Rattle.om_words.specs.declared.verb.Verb.{Verb}
 use Rattle.om_words.proofs.VerbLaws.{same_verb}
 use Rattle.om_words.specs.Words.{Names, AreNamed, AreArguments, verb_word, verb_of, AreCommand, IsFault, IsUsage}

@@ -7,3 +7,4 @@ pub mod Words
 pub mod Tasks
 pub mod Samples
 pub mod Readings
+pub mod ReadingCommands

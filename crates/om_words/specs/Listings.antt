@@ -5,8 +5,8 @@ use Rattle.std.specs.List.{list_all, list_any, filter_map}
 use Rattle.om_signs.specs.declared.limits.TheConstants.{MAX_ELEMENTS}
 use Rattle.om_signs.specs.declared.sign.Sign.{Sign}
 use Rattle.om_signs.specs.declared.sign.Sign.TheVariants.{Plus, Minus}
-use Rattle.om_paint.specs.declared.colour.Colour.{Colour}
-use Rattle.om_paint.specs.declared.colour.Colour.TheVariants.{Red, Green, Black, White}
+use Rattle.om_oriented.specs.declared.colour.Colour.{Colour}
+use Rattle.om_oriented.specs.declared.colour.Colour.TheVariants.{Red, Green, Black, White}
 use Rattle.om_lexext.specs.declared.signed.Signed.{Signed}
 use Rattle.om_words.specs.declared.limits.TheConstants.{MAX_LISTED}
 use Rattle.om_words.specs.declared.colouring.Colouring.{Colouring}

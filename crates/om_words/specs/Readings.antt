@@ -1,6 +1,6 @@
 -- How a call reads the words after some others of a command.
 use Rattle.std.specs.Prelude.{ℕ, ◌≡◌, ◌↔◌, ◌+◌, List, Result, Ok, IfErr}
-use Rattle.om_words.specs.declared.usage.Usage.{Usage}
+use Rattle.om_printing.specs.declared.usage.Usage.{Usage}
 use Rattle.om_words.specs.Words.{IsFault, HasValue}
 pub use Rattle.om_words.specs.Fits.{EachFits}
 

@@ -15,7 +15,7 @@ use Rattle.om_words.specs.declared.task.Task.{Task}
 use Rattle.om_words.specs.declared.task.Task.TheVariants.{Accept, Member, Convert, Dual, Delete, Contract, Reorient}
 use Rattle.om_words.specs.declared.task.Task.TheVariants.{Wiring, Mutations, Flip, Extend, Decide, Paint, Hull, Lexext}
 use Rattle.om_words.specs.declared.task.Task.TheVariants.{Threeterm, Upgrade, Check, Make}
-use Rattle.om_words.specs.declared.usage.Usage.{Usage}
+use Rattle.om_printing.specs.declared.usage.Usage.{Usage}
 use Rattle.om_words.specs.declared.verb.Verb.{Verb}
 use Rattle.om_words.specs.declared.verb.Verb.TheVariants as verb
 use Rattle.om_words.specs.Listings.{AreColouring, AreLeading}

@@ -4,7 +4,7 @@ ghost use Rattle.std.specs.Prelude.{ℕ, ◌≡◌, ◌↔◌, ◌∷◌, List, 
 ghost use Rattle.om_words.specs.Words.{IsAlone, IsRead};
 
 use super::spelling::{element, named_kind, spelled};
-use super::usage::Usage;
+use om_printing::Usage;
 use om_signs::SignVec;
 use om_text::Kind;
 

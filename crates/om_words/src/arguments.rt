@@ -4,7 +4,7 @@ ghost use Rattle.std.specs.Prelude.{ℕ, ◌≡◌, ◌↔◌, ◌<◌, map, str
 ghost use Rattle.om_words.specs.Words.{AreNone, AreElements, IsElement, IsRead};
 
 use super::spelling::element;
-use super::usage::Usage;
+use om_printing::Usage;
 use om_signs::MAX_ELEMENTS;
 use om_subsets::Subset;
 

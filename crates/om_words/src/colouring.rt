@@ -6,8 +6,8 @@ ghost use Rattle.om_words.specs.Listings.{colour_of, colours_of, AreColouring};
 
 use super::limits::MAX_LISTED;
 use super::triple::element_at;
-use super::usage::Usage;
-use om_paint::Colour;
+use om_oriented::Colour;
+use om_printing::Usage;
 use om_signs::MAX_ELEMENTS;
 
 /// A colouring of the elements, together with an element.

@@ -6,8 +6,8 @@ ghost use Rattle.om_words.specs.Listings.{signed_of, has_element, is_among, is_l
 
 use super::limits::MAX_LISTED;
 use super::options::number_within;
-use super::usage::Usage;
 use om_lexext::Signed;
+use om_printing::Usage;
 use om_signs::{MAX_ELEMENTS, Sign};
 
 /// The value at the places that no word fills.

@@ -6,8 +6,8 @@ ghost use Rattle.om_words.specs.Options.{AreLines, AreBudgets, AreSeedAndCount};
 
 use super::options::{number_of, number_within, options};
 use super::setting::Setting;
-use super::usage::Usage;
 use om_budgets::Budgets;
+use om_printing::Usage;
 
 /// The greatest number of lines of a listing, from 1 to [`om_signs::MAX_LINES`].
 pub fn lines(rest: &[String]) -> Result<u64, Usage>

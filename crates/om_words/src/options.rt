@@ -6,7 +6,7 @@ ghost use Rattle.om_words.specs.Options.{number_within, given_number, is_given, 
 ghost use Rattle.om_words.specs.Options.{greatest_number};
 
 use super::setting::{Setting, default_number, greatest_number, least_number, option_text};
-use super::usage::Usage;
+use om_printing::Usage;
 use om_text::words::unsigned_number;
 
 /// The number from `least` to `greatest` that the word spells: decimal digits without a leading zero, except for

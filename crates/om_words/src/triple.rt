@@ -5,7 +5,7 @@ ghost use Rattle.om_words.specs.Words.{IsRead};
 ghost use Rattle.om_words.specs.Triples.{AreTriple, IsElementAt, IsElementWithin};
 
 use super::spelling::element;
-use super::usage::Usage;
+use om_printing::Usage;
 use om_signs::MAX_ELEMENTS;
 
 /// The element from `low` to `high` whose number the word is.

@@ -11,8 +11,8 @@ use super::leading::signed_elements;
 use super::numbered::{budgets, lines, seed_and_count};
 use super::task::Task;
 use super::triple::triple;
-use super::usage::Usage;
 use super::verb::{Verb, named_verb};
+use om_printing::Usage;
 
 /// The task that the words name. `Usage` comes exactly if they name none, and says which word is at fault. The call
 /// allocates no memory.

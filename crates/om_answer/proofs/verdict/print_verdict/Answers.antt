@@ -3,7 +3,7 @@ use Rattle.om_text.specs.Lines.{lines}
 use Rattle.om_text.specs.Form.{IsInForm}
 use Rattle.om_text.specs.Print.{printed}
 use Rattle.om_answer.specs.Claim.{IsClaim}
-use Rattle.om_answer.specs.VerdictText.{lines_text, block_lines, claim_of}
+use Rattle.om_reply.specs.VerdictText.{lines_text, block_lines, claim_of}
 use Rattle.om_chirotope.proofs.FewValues.{few_values}
 use Rattle.om_answer.proofs.VerdictReading.{claim_read}
 use Rattle.om_answer.proofs.verdict.print_verdict.Goals as goal

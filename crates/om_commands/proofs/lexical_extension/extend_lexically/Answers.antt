@@ -5,10 +5,11 @@ use Rattle.om_representation.specs.Documents.{document_of}
 use Rattle.om_words.specs.Tasks.{given_list, elements_of}
 use Rattle.om_commands.specs.LexicalExtensions.{IsExtensionOfMap, outside, full, fewer}
 use Rattle.om_reply.specs.Above.{first_above}
-use Rattle.om_reply.specs.AnyRank.{kept}
+use Rattle.om_reply.specs.Answers.{says}
+use Rattle.om_representation.specs.AnyRank.{kept}
 use Rattle.om_commands.proofs.LeadingLaws.{listed_within, fewer_elements}
-use Rattle.om_reply.proofs.ChoiceLaws.{width_answered}
-use Rattle.om_reply.proofs.ChoiceLaws as choices
+use Rattle.om_representation.proofs.ChoiceLaws.{width_answered}
+use Rattle.om_representation.proofs.ChoiceLaws as choices
 use Rattle.om_commands.proofs.lexical_extension.extend_lexically.Goals as goal
 
 pub returns-in-Some : goal.returns-in-Some
@@ -55,5 +56,5 @@ returns-in_ok-width_line-in-Err c =
     let high = subst (λ k. k ≤ MAX_ELEMENTS) c.elements-n.ensures.value c.elements-n.ensures.high in
     let few = fewer_elements _ high (λ is. c.if-n-eq-MAX_ELEMENTS.false (c.elements-n.ensures.value ∙ is)) in
     fewer _ (sym none) few
-    (width_answered (IsExtensionOfMap (given_list c.args.leading)) (document_of c.args.representation) c.in-Err.why
-    c.in-Err.ensures.refused _ c.in_ok-width_line-in-Err.ensures.line)
+    (width_answered says (IsExtensionOfMap (given_list c.args.leading)) (document_of c.args.representation)
+    c.in-Err.why c.in-Err.ensures.refused _ c.in_ok-width_line-in-Err.ensures.line)

@@ -2,8 +2,9 @@ use Rattle.std.proofs.Common.{◌∙◌, sym, subst}
 use Rattle.om_representation.specs.Documents.{document_of}
 use Rattle.om_commands.specs.Paintings.{IsPaintingOfMap, coloured}
 use Rattle.om_commands.specs.Paintable.{IsPaintable}
-use Rattle.om_reply.specs.AnyRank.{kept}
-use Rattle.om_reply.proofs.ChoiceLaws.{elements_of, width_answered}
+use Rattle.om_reply.specs.Answers.{says}
+use Rattle.om_representation.specs.AnyRank.{kept}
+use Rattle.om_representation.proofs.ChoiceLaws.{elements_of, width_answered}
 use Rattle.om_commands.proofs.painting.find_painting.Goals as goal
 
 pub returns-in-Some : goal.returns-in-Some
@@ -24,5 +25,5 @@ pub returns-in_ok-width_line-in-Err : goal.returns-in_ok-width_line-in-Err
 returns-in_ok-width_line-in-Err c =
     let fit = subst (IsPaintable c.args.given) c.elements.ensures.value c.in_default.ensures in
     coloured _ fit.count fit.within fit.coloured
-    (width_answered (IsPaintingOfMap c.args.given) (document_of c.args.representation) c.in-Err.why
+    (width_answered says (IsPaintingOfMap c.args.given) (document_of c.args.representation) c.in-Err.why
     c.in-Err.ensures.refused _ c.in_ok-width_line-in-Err.ensures.line)

@@ -1,7 +1,7 @@
 use Rattle.std.proofs.Common.{◌<◌, ◌+◌, ◌∙◌, get_or, sym, subst, ap, arith}
 use Rattle.std.proofs.lemmas.List.{get_or_default}
 use Rattle.om_laws.specs.Colours.{CocircuitMay}
-use Rattle.om_paint.specs.declared.colour.Colour.TheVariants.{Red, Black}
+use Rattle.om_oriented.specs.declared.colour.Colour.TheVariants.{Red, Black}
 use Rattle.om_paint.specs.Paintings.{shade}
 use Rattle.om_signs.specs.SignVec.{IsMaskOf}
 use Rattle.om_paint.proofs.Masks.{mask_with, mask_without}

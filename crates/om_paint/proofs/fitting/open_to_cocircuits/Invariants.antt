@@ -1,7 +1,7 @@
 use Rattle.std.proofs.Common.{get_or}
 use Rattle.om_signs.specs.SignVec.{IsMaskOf}
 use Rattle.om_laws.specs.Colours.{CocircuitMay}
-use Rattle.om_paint.specs.declared.colour.Colour.TheVariants.{Black}
+use Rattle.om_oriented.specs.declared.colour.Colour.TheVariants.{Black}
 use Rattle.om_paint.specs.Paintings.{shade}
 use Rattle.om_paint.proofs.fitting.open_to_cocircuits.Given as goal
 

@@ -1,6 +1,7 @@
 use Rattle.om_representation.specs.Documents.{document_of}
 use Rattle.om_plane.specs.Decisions.{DecisionMeans, other_rank}
-use Rattle.om_reply.proofs.ChoiceLaws.{rank_refused}
+use Rattle.om_reply.specs.Answers.{says}
+use Rattle.om_representation.proofs.ChoiceLaws.{rank_refused}
 use Rattle.om_plane.proofs.RankThreeLaws.{result_for_chirotope}
 use Rattle.om_plane.proofs.decision.judge.Goals as goal
 
@@ -10,5 +11,5 @@ returns-in-Ok c = result_for_chirotope (DecisionMeans c.args.budgets) _ c.in-Ok.
 
 pub returns-in_ok-rank_line-in-Err : goal.returns-in_ok-rank_line-in-Err
 returns-in_ok-rank_line-in-Err c =
-    rank_refused (DecisionMeans c.args.budgets) (document_of c.args.representation) (λ m of other. other_rank other)
-    c.in-Err.why c.in-Err.ensures.refused _ c.in_ok-rank_line-in-Err.ensures.line
+    rank_refused says (DecisionMeans c.args.budgets) (document_of c.args.representation)
+    (λ m of other. other_rank other) c.in-Err.why c.in-Err.ensures.refused _ c.in_ok-rank_line-in-Err.ensures.line

@@ -1,6 +1,6 @@
 use Rattle.std.proofs.Common.{subst}
 use Rattle.om_decide.specs.Answers.{IsRefusal}
-use Rattle.om_answer.specs.declared.line.Line.TheVariants as line
+use Rattle.om_printing.specs.declared.line.Line.TheVariants as line
 use Rattle.om_reply.specs.Answers.{says}
 use Rattle.om_plane.specs.Decisions.{DecisionMeans, other_rank, decided}
 use Rattle.om_plane.proofs.DecisionLaws.{verdict_rank, verdict_decided}

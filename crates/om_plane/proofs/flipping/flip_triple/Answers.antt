@@ -1,8 +1,9 @@
 use Rattle.std.proofs.Common.{ap, sym, ◌∙◌}
 use Rattle.om_representation.specs.Documents.{document_of}
 use Rattle.om_reply.specs.Above.{first_above}
-use Rattle.om_reply.specs.RankThree.{for_chirotope}
-use Rattle.om_reply.proofs.ChoiceLaws.{elements_of, rank_refused}
+use Rattle.om_representation.specs.RankThree.{for_chirotope}
+use Rattle.om_reply.specs.Answers.{says}
+use Rattle.om_representation.proofs.ChoiceLaws.{elements_of, rank_refused}
 use Rattle.om_plane.specs.Flips.{triple_of, IsFlipOfMap, other_rank, outside, inside}
 use Rattle.om_plane.proofs.FlipLaws.{within_of_none}
 use Rattle.om_plane.proofs.flipping.flip_triple.Goals as goal
@@ -31,5 +32,5 @@ returns-in_ok-rank_line-in-Err c =
     let list = triple_of c.args.a c.args.b c.args.c in
     let none = sym c.in_default.is ∙ c.place_above.ensures ∙ ap (λ k. first_above k list) c.elements.ensures.value in
     inside _ (sym none)
-    (rank_refused (IsFlipOfMap list) (document_of c.args.representation) (λ m of other. other_rank other)
+    (rank_refused says (IsFlipOfMap list) (document_of c.args.representation) (λ m of other. other_rank other)
     c.in-Err.why c.in-Err.ensures.refused _ c.in_ok-rank_line-in-Err.ensures.line)

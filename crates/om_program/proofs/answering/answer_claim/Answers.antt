@@ -4,7 +4,7 @@ use Rattle.std.proofs.Common.{subst}
 use Rattle.om_text.specs.declared.parse_error.ParseError.{ParseError}
 use Rattle.om_text.specs.Lines.{lines}
 use Rattle.om_text.specs.Parsed.{IfLine}
-use Rattle.om_answer.specs.declared.claim.Claim.{Claim}
+use Rattle.om_reply.specs.declared.claim.Claim.{Claim}
 use Rattle.om_answer.specs.ClaimFault.{IsClaimFault}
 use Rattle.om_program.specs.Meaning.{faulty_claim, claimed}
 use Rattle.om_program.proofs.answering.answer_claim.Goals as goal

@@ -7,7 +7,7 @@ use Rattle.om_program.specs.declared.plan.OnMatroid.{OnMatroid}
 use Rattle.om_program.specs.Meaning.{IsAnswerOf}
 use Rattle.om_commands.specs.Operations.{IsOperation}
 use Rattle.om_program.specs.Plans.{matroid_task}
-use Rattle.om_reply.specs.Represented.{IsMeantFor}
+use Rattle.om_representation.specs.Represented.{IsMeantFor}
 use Rattle.om_program.proofs.PlanLaws.{lawful_operation, operation_meant}
 use Rattle.om_program.proofs.answering.answer_matroid.Goals as goal
 

@@ -1,7 +1,7 @@
 use Rattle.std.specs.Prelude.{decimal}
 use Rattle.std.proofs.Common.{[], ◌∷◌, ◌++◌, ap, ◌∙◌}
 use Rattle.std.proofs.lemmas.Result.{on_ok_weaker}
-use Rattle.om_answer.specs.Texts.{signs_text}
+use Rattle.om_printing.specs.Texts.{signs_text}
 use Rattle.om_reply.proofs.HullLaws.{element_pushed}
 use Rattle.om_reply.proofs.hull_text.push_element.Goals as goal
 

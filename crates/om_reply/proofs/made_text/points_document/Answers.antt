@@ -1,4 +1,4 @@
-use Rattle.om_answer.specs.VerdictText.{vector_numbers}
+use Rattle.om_reply.specs.VerdictText.{vector_numbers}
 use Rattle.om_reply.proofs.PointTextLaws.{points_more_of, each_more}
 use Rattle.om_reply.proofs.made_text.points_document.Goals as goal
 

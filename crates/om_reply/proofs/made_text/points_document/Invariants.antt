@@ -1,7 +1,7 @@
 use Rattle.std.specs.Prelude.{All}
 use Rattle.std.proofs.Common.{◌≡◌, map, take}
 use Rattle.om_text.specs.Form.{IsPoint}
-use Rattle.om_answer.specs.VerdictText.{vector_numbers}
+use Rattle.om_reply.specs.VerdictText.{vector_numbers}
 use Rattle.om_reply.proofs.made_text.points_document.Given as goal
 
 abbrev pub invariant-loop-v : goal.invariant-loop-v

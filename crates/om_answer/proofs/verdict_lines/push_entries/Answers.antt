@@ -1,8 +1,0 @@
-use Rattle.std.proofs.Common.{refl}
-use Rattle.om_answer.specs.VerdictText.{entry_words}
-use Rattle.om_answer.proofs.BlockTexts.{lines_more}
-use Rattle.om_answer.proofs.verdict_lines.push_entries.Goals as goal
-
-pub loop-entry-preserved : goal.loop-entry-preserved
-loop-entry-preserved c = lines_more entry_words c.args.text.now.items _ _ c.args.entries.now c.loop-entry.entry-index _
-    _ c.loop-entry-test.true refl c.loop-entry.invariant c.in_ok-push_entry.ensures

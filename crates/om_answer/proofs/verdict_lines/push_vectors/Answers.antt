@@ -1,8 +1,0 @@
-use Rattle.om_answer.specs.VerdictText.{vector_words}
-use Rattle.om_answer.proofs.BlockTexts.{lines_more}
-use Rattle.om_answer.proofs.verdict_lines.push_vectors.Goals as goal
-
-pub loop-vector-preserved : goal.loop-vector-preserved
-loop-vector-preserved c = lines_more vector_words c.args.text.now.items _ _ c.args.vectors.now
-    c.loop-vector.vector-index _ c.vector-item.result c.loop-vector-test.true c.vector-item.is c.loop-vector.invariant
-    c.in_ok-push_vector.ensures

@@ -1,0 +1,171 @@
+-- What is answered to the first bytes of a piece is what the piece means, and what was answered of the pieces that the
+-- cutter makes was answered of
+-- the pieces of the input.
+--
+-- Main results: each_answered, first_written, next_cut_off.
+use Rattle.std.specs.Prelude.{ℕ, ◌≡◌, ◌≢◌, ◌<◌, ◌≤◌, List, [], ◌∷◌, ◌++◌, map, take, length, Option}
+use Rattle.std.proofs.Common.{refl, sym, ap, ◌∙◌, subst, arith, inl, inr}
+use Rattle.std.proofs.lemmas.List.{length-take, take_all}
+use Rattle.std.proofs.lemmas.Bool.{cases_lt}
+use Rattle.om_signs.specs.declared.limits.TheConstants.{MAX_INPUT}
+use Rattle.om_words.specs.declared.reads.Reads.TheVariants as source
+use Rattle.om_words.specs.declared.task.Task.{Task}
+use Rattle.om_words.specs.Tasks.{reads}
+use Rattle.om_words.specs.Words.{Names}
+use Rattle.om_reply.specs.declared.answer.Answer.{Answer}
+use Rattle.om_reply.specs.declared.status.Status.{Status}
+use Rattle.om_reply.specs.declared.status.Status.TheVariants as status
+use Rattle.om_program.specs.Meaning.{TaskMeans, long, faulty, read, faulty_claim, claimed, alone, Means, named}
+use Rattle.om_program.specs.Answered.{AreMeant, none, one_more, AreAnswered, Stops, Breaks}
+use Rattle.om_program.specs.Each.{IsEachAnswered, AreFirstWritten, IsNextCutOff}
+use Rattle.om_pieces.specs.Making.{most, made, nothing}
+use Rattle.om_pieces.specs.Pieces.{IsCut}
+use Rattle.om_pieces.proofs.Feeding.{cut_pieces, has_one_cut}
+
+-- ---- one piece
+
+-- an input that is too long means what any other one means that is
+long_meant : (task : Task) (front bytes : List ℕ) (answer : Answer) → reads task ≢ source.Nothing
+    → MAX_INPUT < length front → MAX_INPUT < length bytes → TaskMeans task front answer → TaskMeans task bytes answer
+long_meant task front bytes x r f l (long reading past) = long reading l
+long_meant task front bytes x r f l (faulty n c k short fault) = absurd (omega (arith, f, short))
+long_meant task front bytes x r f l (read d answer k short document m) = absurd (omega (arith, f, short))
+long_meant task front bytes x r f l (faulty_claim n c k short fault) = absurd (omega (arith, f, short))
+long_meant task front bytes x r f l (claimed c w k short claim m) = absurd (omega (arith, f, short))
+long_meant task front bytes x r f l (alone seed count answer e m) = absurd (r (ap reads e))
+
+pub piece_meant : (task : Task) (piece : List ℕ) (answer : Answer) → reads task ≢ source.Nothing
+    → TaskMeans task (take most piece) answer → TaskMeans task piece answer
+piece_meant task piece answer r m = elim (cases_lt MAX_INPUT (length piece)) [
+  | inl l ↦ long_meant task (take most piece) piece answer r (let k = length-take most piece in omega (arith, k, l)) l m
+  | inr s ↦ subst (λ bytes. TaskMeans task bytes answer) (take_all most piece (omega (arith, s))) m
+]
+
+-- ---- pieces
+
+pieces_meant : (words : List (List ℕ)) (task : Task) (fronts pieces : List (List ℕ)) (answers : List Answer)
+    → Names words task → reads task ≢ source.Nothing → fronts ≡ map (take most) pieces
+    → AreMeant (TaskMeans task) fronts answers → AreMeant (Means words) pieces answers
+pieces_meant words task fronts [] answers n r e none = none
+pieces_meant words task fronts (q ∷ qs) answers n r e none = absurd (empty_full _ _ e)
+  where
+    empty_full : (x : List ℕ) (xs : List (List ℕ)) → ◌≡◌ {A = List (List ℕ)} [] (x ∷ xs) → ⊥
+    empty_full x xs e = cc
+pieces_meant words task fronts [] answers n r e (one_more p ps x xs m ms) = absurd (full_empty p ps e)
+  where
+    full_empty : (x : List ℕ) (xs : List (List ℕ)) → ◌≡◌ {A = List (List ℕ)} (x ∷ xs) [] → ⊥
+    full_empty x xs e = cc
+pieces_meant words task fronts (q ∷ qs) answers n r e (one_more p ps x xs m ms) =
+    one_more q qs x xs (named task x n
+    (piece_meant task q x r (subst (λ bytes. TaskMeans task bytes x) (heads _ _ _ _ e) m)))
+    (pieces_meant words task ps qs xs n r (tails _ _ _ _ e) ms)
+  where
+    heads : (a b : List ℕ) (xs ys : List (List ℕ)) → ◌≡◌ {A = List (List ℕ)} (a ∷ xs) (b ∷ ys) → a ≡ b
+    heads a b xs ys e = cc
+
+    tails : (a b : List ℕ) (xs ys : List (List ℕ)) → ◌≡◌ {A = List (List ℕ)} (a ∷ xs) (b ∷ ys) → xs ≡ ys
+    tails a b xs ys e = cc
+
+-- what is in front of the first bytes of pieces are the first bytes of the first ones
+pub record IsParted (pieces qs left : List (List ℕ)) : Type 0 where
+  pub first : List (List ℕ)
+  pub last : List (List ℕ)
+  pub whole : pieces ≡ first ++ last
+  pub front : qs ≡ map (take most) first
+  pub behind : left ≡ map (take most) last
+
+parted : (pieces qs left : List (List ℕ)) → map (take most) pieces ≡ qs ++ left → IsParted pieces qs left
+parted pieces [] left e = record { first = []; last = pieces; whole = refl; front = refl; behind = sym e }
+parted [] (q ∷ qs) left e = absurd (no _ _ e)
+  where
+    no : (x : List ℕ) (xs : List (List ℕ)) → ◌≡◌ {A = List (List ℕ)} [] (x ∷ xs) → ⊥
+    no x xs e = cc
+parted (p ∷ ps) (q ∷ qs) left e =
+    let i = parted ps qs left (tails _ _ _ _ e) in
+    record {
+      first = p ∷ i.first;
+      last = i.last;
+      whole = ap (λ l. p ∷ l) i.whole;
+      front = both _ _ _ _
+          (sym (heads _ _ _ _ e)) i.front;
+      behind = i.behind;
+    }
+  where
+    heads : (a b : List ℕ) (xs ys : List (List ℕ)) → ◌≡◌ {A = List (List ℕ)} (a ∷ xs) (b ∷ ys) → a ≡ b
+    heads a b xs ys e = cc
+
+    tails : (a b : List ℕ) (xs ys : List (List ℕ)) → ◌≡◌ {A = List (List ℕ)} (a ∷ xs) (b ∷ ys) → xs ≡ ys
+    tails a b xs ys e = cc
+
+    both : (a b : List ℕ) (xs ys : List (List ℕ)) → a ≡ b → xs ≡ ys → ◌≡◌ {A = List (List ℕ)} (a ∷ xs) (b ∷ ys)
+    both a b xs ys e f = cc
+
+-- ---- runs
+
+pub each_answered : (words : List (List ℕ)) (task : Task) (n : ℕ) (bytes : List ℕ) (s : Status) (o m : Option (List ℕ))
+    → 1 ≤ n → Names words task → reads task ≢ source.Nothing
+    → AreAnswered (TaskMeans task) (made (nothing n) bytes) status.Done s o m → IsEachAnswered words n bytes s o m
+each_answered words task n bytes s o m pos names reading (xs, (a, rest)) =
+    let h = has_one_cut n bytes pos in
+    (h.0, (h.1.0, (xs, (pieces_meant words task _ h.0 xs names reading (cut_pieces n bytes h.0 h.1.0) a, rest))))
+
+pub first_written : (words : List (List ℕ)) (task : Task) (n : ℕ) (bytes : List ℕ) (o m : Option (List ℕ)) → 1 ≤ n
+    → Names words task → reads task ≢ source.Nothing
+    → Stops (TaskMeans task) (made (nothing n) bytes) o m → AreFirstWritten words n bytes o m
+first_written words task n bytes o m pos names reading (qs, (left, (e, (xs, (a, w))))) =
+    let h = has_one_cut n bytes pos in
+    let p = parted h.0 qs left (sym (cut_pieces n bytes h.0 h.1.0) ∙ e) in (
+      p.first,
+      (
+        p.last,
+        (
+          subst (λ ps. IsCut n bytes ps) p.whole h.1.0,
+          (xs, (pieces_meant words task qs p.first xs names reading p.front a, w)),
+        ),
+      ),
+    )
+
+pub next_cut_off : (words : List (List ℕ)) (task : Task) (n : ℕ) (bytes : List ℕ) (o m : Option (List ℕ)) → 1 ≤ n
+    → Names words task → reads task ≢ source.Nothing
+    → Breaks (TaskMeans task) (made (nothing n) bytes) o m → IsNextCutOff words n bytes o m
+next_cut_off words task n bytes o m pos names reading (qs, (q, (left, (e, (xs, (a, (x, (mx, w)))))))) =
+    let h = has_one_cut n bytes pos in
+    let p = parted h.0 qs (q ∷ left) (sym (cut_pieces n bytes h.0 h.1.0) ∙ e) in
+    behind p.first p.last p.whole p.front p.behind h.1.0
+  where
+    behind : (first last : List (List ℕ)) → (has_one_cut n bytes pos).0 ≡ first ++ last → qs ≡ map (take most) first
+        → (q ∷ left) ≡ map (take most) last → IsCut n bytes ((has_one_cut n bytes pos).0)
+        → IsNextCutOff words n bytes o m
+    behind first [] whole front rest c = absurd (no _ _ rest)
+      where
+        no : (x : List ℕ) (xs : List (List ℕ)) → ◌≡◌ {A = List (List ℕ)} (x ∷ xs) [] → ⊥
+        no x xs e = cc
+    behind first (piece ∷ more) whole front rest c = (
+      first,
+      (
+        piece,
+        (
+          more,
+          (
+            subst (λ ps. IsCut n bytes ps) whole c,
+            (
+              xs,
+              (
+                pieces_meant words task qs first xs names reading front a,
+                (
+                  x,
+                  (
+                    named task x names (piece_meant task piece x reading
+                        (subst (λ b. TaskMeans task b x) (heads _ _ _ _ rest) mx)),
+                    w,
+                  ),
+                ),
+              ),
+            ),
+          ),
+        ),
+      ),
+    )
+      where
+        heads : (a b : List ℕ) (xs ys : List (List ℕ)) → ◌≡◌ {A = List (List ℕ)} (a ∷ xs) (b ∷ ys) → a ≡ b
+        heads a b xs ys e = cc
