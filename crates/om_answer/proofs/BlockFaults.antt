@@ -9,10 +9,9 @@ use Rattle.std.specs.Prelude.{Option, Some, None, Result, Ok, Err, codes, nat_lt
 use Rattle.std.specs.List.{list_any}
 use Rattle.std.proofs.lemmas.List.Folds.{list_any-append}
 use Rattle.std.proofs.lemmas.Bool.{le-leb, ltb-false, cases_Bool}
-use Rattle.om_text.specs.declared.code.Code.{Code}
-use Rattle.om_text.specs.declared.code.Code.TheVariants as code
-use Rattle.om_text.specs.Settings.{is_line}
-use Rattle.om_text.specs.Document.{end_line}
+use Rattle.om_document.specs.declared.code.Code.{Code}
+use Rattle.om_document.specs.declared.code.Code.TheVariants as code
+use Rattle.om_lines.specs.Lines.{is_line, end_line}
 use Rattle.om_vectors.specs.WholeVectors.{WholeVector}
 use Rattle.om_certificate.specs.declared.entry.Entry.{Entry}
 use Rattle.om_certificate.specs.declared.weight.Weight.{Weight}

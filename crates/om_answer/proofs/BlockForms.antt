@@ -8,9 +8,9 @@ use Rattle.std.proofs.lemmas.Slice.Eq.{bytes_eq-Decides}
 use Rattle.std.specs.List.{list_any}
 use Rattle.std.proofs.lemmas.List.{map-append}
 use Rattle.std.proofs.lemmas.Bool.{cases_Bool}
-use Rattle.om_text.specs.Settings.{is_line}
-use Rattle.om_text.specs.Heading.{plain_numbers}
-use Rattle.om_text.proofs.Filling.{is_line-Decides}
+use Rattle.om_lines.specs.Lines.{is_line}
+use Rattle.om_document.specs.Heading.{plain_numbers}
+use Rattle.om_lines.proofs.WordLines.{is_line-Decides}
 use Rattle.om_vectors.specs.WholeVectors.{WholeVector}
 use Rattle.om_certificate.specs.declared.entry.Entry.{Entry}
 use Rattle.om_certificate.specs.declared.weight.Weight.{Weight}

@@ -7,11 +7,10 @@ use Rattle.std.proofs.Common.{◌≡◌, ℕ, ◌≤◌, ◌<◌, ◌⊎◌, Lis
 use Rattle.std.specs.Prelude.{Option, Some, None, Result, Ok, Err, codes, nat_lt}
 use Rattle.std.proofs.lemmas.Bool.{ltb-true, cases_Bool}
 use Rattle.om_signs.proofs.Results.{ok-injective}
-use Rattle.om_text.specs.declared.code.Code.{Code}
-use Rattle.om_text.specs.declared.code.Code.TheVariants as code
-use Rattle.om_text.specs.Settings.{is_line}
-use Rattle.om_text.specs.Document.{end_line}
-use Rattle.om_text.proofs.Filling.{is_line-Decides}
+use Rattle.om_document.specs.declared.code.Code.{Code}
+use Rattle.om_document.specs.declared.code.Code.TheVariants as code
+use Rattle.om_lines.specs.Lines.{is_line, end_line}
+use Rattle.om_lines.proofs.WordLines.{is_line-Decides}
 use Rattle.om_vectors.specs.WholeVectors.{WholeVector}
 use Rattle.om_certificate.specs.declared.verdict.Verdict.{Verdict}
 use Rattle.om_answer.specs.declared.block.Block.{Block}

@@ -6,11 +6,10 @@ use Rattle.std.proofs.Common.{◌∙◌, arith, length-append, append_assoc, app
 use Rattle.std.specs.Prelude.{Option, Some, Result, Ok, Err, codes}
 use Rattle.std.specs.List.{list_all}
 use Rattle.std.proofs.lemmas.Bool.{lt-ltb}
-use Rattle.om_text.specs.declared.code.Code.{Code}
-use Rattle.om_text.specs.declared.code.Code.TheVariants as code
-use Rattle.om_text.specs.Settings.{is_line}
-use Rattle.om_text.specs.Document.{end_line}
-use Rattle.om_text.proofs.Feeds.{is_one_line}
+use Rattle.om_document.specs.declared.code.Code.{Code}
+use Rattle.om_document.specs.declared.code.Code.TheVariants as code
+use Rattle.om_lines.specs.Lines.{is_line, end_line}
+use Rattle.om_document.proofs.Feeds.{is_one_line}
 use Rattle.om_text.proofs.Language.{run_words, bind, IsCompletion}
 use Rattle.om_vectors.specs.WholeVectors.{WholeVector}
 use Rattle.om_vectors.specs.declared.unfound.Unfound.{Unfound}

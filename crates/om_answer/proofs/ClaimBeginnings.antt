@@ -8,20 +8,19 @@ use Rattle.std.specs.Prelude.{Option, Some, None, Result, Ok, Err}
 use Rattle.std.specs.List.{list_all}
 use Rattle.std.proofs.lemmas.List.{length-take-le, take-append-drop}
 use Rattle.std.proofs.Math.Seq.{take-append_seam}
-use Rattle.om_text.specs.declared.code.Code.{Code}
-use Rattle.om_text.specs.declared.code.Code.TheVariants as code
-use Rattle.om_text.specs.declared.document.Document.{Document}
+use Rattle.om_document.specs.declared.code.Code.{Code}
+use Rattle.om_document.specs.declared.code.Code.TheVariants as code
+use Rattle.om_document.specs.declared.document.Document.{Document}
 use Rattle.om_text.specs.declared.state.State.{State}
 use Rattle.om_text.specs.declared.state.State.TheVariants.{Start, Versioned, Open, Closed}
-use Rattle.om_text.specs.Lines.{lines, words, wordful, has_any}
+use Rattle.om_lines.specs.Lines.{lines, words, wordful, has_any, Begins}
 use Rattle.om_text.specs.Steps.{step_if, finish_by, then_lines}
-use Rattle.om_text.specs.Document.{IsDocument}
-use Rattle.om_text.specs.Fault.{Begins}
-use Rattle.om_text.specs.Print.{text_of}
+use Rattle.om_document.specs.Document.{IsDocument}
+use Rattle.om_document.specs.Print.{text_of}
 use Rattle.om_text.specs.Reading.{step, value_of, outcome}
 use Rattle.om_text.proofs.Language.{outcome_passes, begins_run}
 use Rattle.om_text.proofs.Course.{spelled_run}
-use Rattle.om_text.proofs.Feeds.{is_one_line, lines_text, lines_one_line, one_line-take, one_line-append}
+use Rattle.om_document.proofs.Feeds.{is_one_line, lines_text, lines_one_line, one_line-take, one_line-append}
 use Rattle.om_certificate.specs.declared.verdict.Verdict.{Verdict}
 use Rattle.om_reply.specs.declared.claim.Claim.{Claim}
 use Rattle.om_answer.specs.declared.block.Block.{Block}

@@ -6,19 +6,20 @@ use Rattle.std.proofs.Common.{◌≡◌, ℕ, ◌+◌, List, [], ◌∷◌, ◌+
 use Rattle.std.specs.Prelude.{Option, Some, Result, Ok, Err, codes}
 use Rattle.std.specs.List.{list_all}
 use Rattle.om_signs.proofs.Results.{ok-injective}
-use Rattle.om_text.specs.declared.code.Code.{Code}
-use Rattle.om_text.specs.declared.document.Document.{Document}
+use Rattle.om_document.specs.declared.code.Code.{Code}
+use Rattle.om_document.specs.declared.document.Document.{Document}
 use Rattle.om_text.specs.declared.state.State.{State}
 use Rattle.om_text.specs.declared.state.State.TheVariants.{Start, Versioned, Open, Closed}
-use Rattle.om_text.specs.Lines.{wordful}
+use Rattle.om_lines.specs.Lines.{wordful}
 use Rattle.om_text.specs.Steps.{outcome_by}
 use Rattle.om_text.specs.Reading.{step}
-use Rattle.om_text.proofs.Language.{run_words, bind, IsCompletion, wordful-append, value_outcome, outcome_value}
-use Rattle.om_text.proofs.Language.{outcome_fault, fault_outcome, run_shows, run-append, run_value}
+use Rattle.om_text.proofs.Language.{run_words, bind, IsCompletion, value_outcome, outcome_value, outcome_fault}
+use Rattle.om_text.proofs.Language.{fault_outcome, run_shows, run-append, run_value}
+use Rattle.om_lines.proofs.WordLines.{wordful-append}
 use Rattle.om_text.proofs.SettingSteps.{Shows}
 use Rattle.om_text.proofs.Course.{spelled_run}
 use Rattle.om_text.proofs.Completion as completions
-use Rattle.om_text.proofs.Feeds.{is_one_line, one_line-append}
+use Rattle.om_document.proofs.Feeds.{is_one_line, one_line-append}
 use Rattle.om_certificate.specs.declared.verdict.Verdict.{Verdict}
 use Rattle.om_certificate.specs.declared.verdict.Verdict.TheVariants.{Realizable}
 use Rattle.om_reply.specs.declared.claim.Claim.{Claim}

@@ -6,17 +6,17 @@ use Rattle.std.proofs.Common.{arith, inl, inr, length-append, length-drop}
 use Rattle.std.specs.Prelude.{Result, Ok, Err, IfOk, nat_eq}
 use Rattle.std.proofs.lemmas.List.{length-take-le, take-append-drop, take_all}
 use Rattle.std.proofs.lemmas.Bool.{cases_Bool}
-use Rattle.om_text.specs.declared.code.Code.{Code}
-use Rattle.om_text.specs.declared.code.Code.TheVariants as code
-use Rattle.om_text.specs.declared.document.Document.{Document}
+use Rattle.om_document.specs.declared.code.Code.{Code}
+use Rattle.om_document.specs.declared.code.Code.TheVariants as code
+use Rattle.om_document.specs.declared.document.Document.{Document}
 use Rattle.om_text.specs.declared.parse_error.ParseError.{ParseError}
 use Rattle.om_text.specs.declared.parse_error.ParseError.TheVariants as error
 use Rattle.om_text.specs.declared.state.State.TheVariants.{Start}
-use Rattle.om_text.specs.Lines.{lines, with_first}
+use Rattle.om_lines.specs.Lines.{lines, with_first}
 use Rattle.om_text.specs.Fault.{IsFault}
 use Rattle.om_text.specs.Parsed.{IsAnswerUnlessMemory, IfLine}
 use Rattle.om_text.specs.Part.{IsDocumentAtFront}
-use Rattle.om_text.specs.Print.{text_of}
+use Rattle.om_document.specs.Print.{text_of}
 use Rattle.om_text.proofs.Outcome.{outcome_from}
 use Rattle.om_certificate.specs.declared.verdict.Verdict.{Verdict}
 use Rattle.om_reply.specs.declared.claim.Claim.{Claim}

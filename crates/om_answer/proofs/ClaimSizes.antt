@@ -8,8 +8,7 @@ use Rattle.std.specs.Prelude.{ℤ, Option, Some, None, IfSome, codes, bytes_eq, 
 use Rattle.std.proofs.lemmas.Slice.Eq.{bytes_eq-Decides}
 use Rattle.std.proofs.lemmas.Bool.{cases_Bool}
 use Rattle.om_signs.specs.declared.limits.TheConstants.{MAX_INPUT}
-use Rattle.om_text.specs.Lines.{lines, with_first, uncommented, is_blank, pieces, has_any, words, wordful}
-use Rattle.om_text.specs.Document.{end_line}
+use Rattle.om_lines.specs.Lines.{lines, with_first, uncommented, is_blank, pieces, has_any, words, wordful, end_line}
 use Rattle.om_certificate.specs.declared.entry.Entry.{Entry}
 use Rattle.om_certificate.specs.declared.verdict.Verdict.{Verdict}
 use Rattle.om_certificate.specs.Forms.{IsEntryInForm, IsWeightInForm}

@@ -8,14 +8,14 @@ use Rattle.std.specs.Prelude.{Option, Some, None, Result, Ok, Err}
 use Rattle.std.specs.List.{list_any}
 use Rattle.std.proofs.lemmas.Bool.{cases_Bool}
 use Rattle.om_signs.proofs.Results.{ok-injective}
-use Rattle.om_text.specs.declared.code.Code.{Code}
-use Rattle.om_text.specs.declared.document.Document.{Document}
+use Rattle.om_document.specs.declared.code.Code.{Code}
+use Rattle.om_document.specs.declared.document.Document.{Document}
 use Rattle.om_text.specs.declared.draft.Draft.{Draft}
-use Rattle.om_text.specs.declared.version.Version.{Version}
+use Rattle.om_document.specs.declared.version.Version.{Version}
 use Rattle.om_text.specs.declared.state.State.{State}
 use Rattle.om_text.specs.declared.state.State.TheVariants.{Start, Versioned, Open, Closed}
-use Rattle.om_text.specs.Settings.{is_line}
-use Rattle.om_text.specs.Document.{IsSpelled, end_line}
+use Rattle.om_lines.specs.Lines.{is_line, end_line}
+use Rattle.om_document.specs.Document.{IsSpelled}
 use Rattle.om_text.specs.Reading.{step}
 use Rattle.om_text.proofs.SettingSteps.{Shows, IsFirst, IsOpen}
 use Rattle.om_text.proofs.CourseSteps.{step_shows}

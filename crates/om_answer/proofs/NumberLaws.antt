@@ -6,8 +6,8 @@ use Rattle.std.proofs.Common.{◌≡◌, ℕ, suc, ◌+◌, ◌<◌, ◌≤◌, 
 use Rattle.std.proofs.Common.{take, take-suc, take_all, get_or, append_assoc, append-nil, drop-cons, arith}
 use Rattle.std.specs.Prelude.{ℤ, Option, Some, None}
 use Rattle.std.proofs.lemmas.List.{drop_all}
-use Rattle.om_text.specs.Lines.{has_any}
-use Rattle.om_text.specs.Heading.{with_item}
+use Rattle.om_lines.specs.Lines.{has_any}
+use Rattle.om_document.specs.Heading.{with_item}
 use Rattle.om_answer.specs.declared.range.Range.{Range}
 use Rattle.om_answer.specs.declared.range.Range.TheVariants.{Between}
 use Rattle.om_answer.specs.Numbers.{number_within, numbers_within, IsIn, AreIn}

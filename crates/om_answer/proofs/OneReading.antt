@@ -3,7 +3,7 @@
 -- Main results: same_claim, same_fault, no_fault, claim_or_fault
 use Rattle.std.proofs.Common.{◌≡◌, ◌⊎◌, inl, inr, ℕ, List, refl, sym, ap, ◌∙◌}
 use Rattle.std.specs.Prelude.{Result, Ok, Err}
-use Rattle.om_text.specs.declared.code.Code.{Code}
+use Rattle.om_document.specs.declared.code.Code.{Code}
 use Rattle.om_text.specs.declared.state.State.TheVariants.{Start}
 use Rattle.om_reply.specs.declared.claim.Claim.{Claim}
 use Rattle.om_answer.specs.Claim.{IsClaim}

@@ -18,9 +18,9 @@ use Rattle.om_certificate.specs.declared.entry.Entry.{Entry}
 use Rattle.om_certificate.specs.declared.weight.Weight.{Weight}
 use Rattle.om_certificate.specs.declared.lp_end.LpEnd.TheVariants as lp_end
 use Rattle.om_certificate.specs.Forms.{IsEntryInForm, IsWeightInForm, IsWidthInForm}
-use Rattle.om_text.specs.Heading.{with_item, plain_numbers}
-use Rattle.om_text.proofs.Texts.{is_word, is_word_line}
-use Rattle.om_text.proofs.Numerals.{decimal_word, number_word, unsigned_word, signed_word}
+use Rattle.om_document.specs.Heading.{with_item, plain_numbers}
+use Rattle.om_document.proofs.Texts.{is_word, is_word_line}
+use Rattle.om_document.proofs.Numerals.{decimal_word, number_word, unsigned_word, signed_word}
 use Rattle.om_signs.specs.declared.limits.TheConstants.{MAX_PIVOTS, MAX_PLAIN}
 use Rattle.om_answer.specs.declared.range.Range.{Range}
 use Rattle.om_answer.specs.declared.range.Range.TheVariants.{Between, UpToSize}

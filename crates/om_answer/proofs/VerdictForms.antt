@@ -21,9 +21,9 @@ use Rattle.om_certificate.specs.declared.weight.Weight.{Weight}
 use Rattle.om_certificate.specs.declared.lp_end.LpEnd.{LpEnd}
 use Rattle.om_certificate.specs.declared.verdict.Verdict.{Verdict}
 use Rattle.om_certificate.specs.Forms.{IsEntryInForm, IsWeightInForm, IsEndInForm, IsSearchInForm, IsVerdictInForm}
-use Rattle.om_text.specs.Heading.{with_item, plain_numbers}
-use Rattle.om_text.specs.Words.{is_digit, number_from, begins_with, is_decimal, is_plain, unsigned, plain}
-use Rattle.om_text.proofs.Digits.{ten, unsigned_within, signed_within}
+use Rattle.om_document.specs.Heading.{with_item, plain_numbers}
+use Rattle.om_lines.specs.Words.{is_digit, number_from, begins_with, is_decimal, is_plain, unsigned, plain}
+use Rattle.om_lines.proofs.Digits.{ten, unsigned_within, signed_within}
 use Rattle.om_answer.specs.declared.range.Range.{Range}
 use Rattle.om_answer.specs.declared.range.Range.TheVariants.{Between, UpToSize}
 use Rattle.om_answer.specs.Numbers.{at_least, number_within, numbers_within, IsIn, AreIn}

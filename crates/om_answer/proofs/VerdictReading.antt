@@ -14,15 +14,14 @@ use Rattle.om_certificate.specs.declared.lp_end.LpEnd.TheVariants as lp_end
 use Rattle.om_certificate.specs.declared.verdict.Verdict.{Verdict}
 use Rattle.om_certificate.specs.declared.verdict.Verdict.TheVariants.{Realizable, Nonrealizable, Undecided, Limit}
 use Rattle.om_certificate.specs.Forms.{IsEntryInForm, IsWeightInForm, IsEndInForm, IsSearchInForm, IsVerdictInForm}
-use Rattle.om_text.specs.Lines.{lines, wordful}
-use Rattle.om_text.specs.Document.{end_line}
-use Rattle.om_text.specs.Form.{IsInForm}
-use Rattle.om_text.specs.Print.{spaced, printed_lines}
-use Rattle.om_text.proofs.Feeds.{one_line-append, lines_text as lines_of_text}
-use Rattle.om_text.proofs.Language.{wordful-append}
-use Rattle.om_text.proofs.Printing.{text_of-append}
-use Rattle.om_text.proofs.Reread.{printed_one_line, printed_spelled}
-use Rattle.om_text.proofs.Texts.{is_word_line, wordful_spaced, spaced_one_lines}
+use Rattle.om_lines.specs.Lines.{lines, wordful, end_line}
+use Rattle.om_document.specs.Form.{IsInForm}
+use Rattle.om_document.specs.Print.{spaced, printed_lines}
+use Rattle.om_document.proofs.Feeds.{one_line-append, lines_text as lines_of_text}
+use Rattle.om_lines.proofs.WordLines.{wordful-append}
+use Rattle.om_document.proofs.Printing.{text_of-append}
+use Rattle.om_document.proofs.Reread.{printed_one_line, printed_spelled}
+use Rattle.om_document.proofs.Texts.{is_word_line, wordful_spaced, spaced_one_lines}
 use Rattle.om_answer.specs.BlockLines.{vector_of, entry_of, weight_of}
 use Rattle.om_answer.specs.Block.{IsSearchEnd, IsTableauEnd, IsBlock, exhausted, frontier, pivots, width, realizable}
 use Rattle.om_answer.specs.Block.{nonrealizable, undecided, limit}

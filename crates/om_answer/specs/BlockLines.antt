@@ -12,7 +12,7 @@ use Rattle.om_certificate.specs.declared.entry.Entry.{Entry}
 use Rattle.om_certificate.specs.declared.weight.Weight.{Weight}
 use Rattle.om_certificate.specs.declared.lp_end.LpEnd.{LpEnd}
 use Rattle.om_certificate.specs.declared.lp_end.LpEnd.TheVariants as lp_end
-use Rattle.om_text.specs.Heading.{plain_numbers}
+use Rattle.om_document.specs.Heading.{plain_numbers}
 use Rattle.om_answer.specs.declared.block_lines.TheConstants.{TERMS}
 use Rattle.om_answer.specs.declared.range.Range.{Range}
 use Rattle.om_answer.specs.declared.range.Range.TheVariants.{Between, UpToSize}

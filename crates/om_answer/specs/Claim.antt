@@ -2,8 +2,8 @@
 --
 -- Trusted: `read_claim` promises exactly this.
 use Rattle.std.specs.Prelude.{ℕ, ◌≡◌, List, ◌++◌}
-use Rattle.om_text.specs.Lines.{wordful}
-use Rattle.om_text.specs.Document.{IsSpelled}
+use Rattle.om_lines.specs.Lines.{wordful}
+use Rattle.om_document.specs.Document.{IsSpelled}
 use Rattle.om_answer.specs.Block.{IsBlock}
 use Rattle.om_reply.specs.declared.claim.Claim.{Claim}
 

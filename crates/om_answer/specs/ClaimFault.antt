@@ -3,11 +3,9 @@
 -- Trusted: which line is returned for an input that is no claim, and with which code.
 use Rattle.std.specs.Prelude.{ℕ, suc, List, [], ◌∷◌, Bool, cond, nat_le, ◌&&◌, ◌||◌, Option, Some, None, is_some}
 use Rattle.std.specs.List.{list_any}
-use Rattle.om_text.specs.declared.code.Code.{Code}
-use Rattle.om_text.specs.declared.code.Code.TheVariants as code
-use Rattle.om_text.specs.Lines.{words, wordful}
-use Rattle.om_text.specs.Settings.{is_line}
-use Rattle.om_text.specs.Document.{end_line}
+use Rattle.om_document.specs.declared.code.Code.{Code}
+use Rattle.om_document.specs.declared.code.Code.TheVariants as code
+use Rattle.om_lines.specs.Lines.{words, wordful, is_line, end_line}
 use Rattle.om_text.specs.Fault.{IsFaultIn, role, table, first_of}
 use Rattle.om_reply.specs.declared.claim.Claim.{Claim}
 use Rattle.om_answer.specs.BlockLines.{vector_of, weight_of}

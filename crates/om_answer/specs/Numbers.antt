@@ -5,8 +5,8 @@ use Rattle.std.specs.Prelude.{ℕ, ℤ, pos, ◌<◌, ◌≤◌, ◌≤ℤ◌, �
 use Rattle.std.specs.Prelude.{None, option_and_then, option_map}
 use Rattle.om_answer.specs.declared.range.Range.{Range}
 use Rattle.om_answer.specs.declared.range.Range.TheVariants.{Between, UpToSize}
-use Rattle.om_text.specs.Heading.{with_item}
-use Rattle.om_text.specs.Words.{unsigned, signed}
+use Rattle.om_document.specs.Heading.{with_item}
+use Rattle.om_lines.specs.Words.{unsigned, signed}
 
 -- a number, if it isn't below the least one
 abbrev pub at_least : ℕ → ℕ → Option ℕ

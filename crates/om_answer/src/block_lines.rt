@@ -1,7 +1,7 @@
 //! The lines of a verdict block.
 
 ghost use Rattle.std.specs.Prelude.{◌≡◌, ◌≤◌, ◌++◌, MatchOption, IfSome, IfOk, Some, None, All, length};
-ghost use Rattle.om_text.specs.Lines.{runs};
+ghost use Rattle.om_lines.specs.Lines.{runs};
 ghost use Rattle.om_vectors.specs.WholeVectors.{vector_of as vector};
 ghost use Rattle.om_signs.specs.Coordinates.{IsCoordinate};
 ghost use Rattle.om_answer.specs.Numbers.{numbers_within, IsReadable, AreIn};
@@ -19,7 +19,7 @@ use om_signs::{
     MAX_WEIGHT,
 };
 use om_simplex::Stage;
-use om_text::lines::{first_word, same};
+use om_lines::lines::{first_word, same};
 use om_vectors::Vector;
 use smallvec::SmallVec;
 use std::alloc::Global;

@@ -1,8 +1,8 @@
 //! Reading a verdict block line by line.
 
 ghost use Rattle.std.specs.Prelude.{◌≡◌, ◌+◌, ◌-◌, ◌≤◌, ◌^◌, length, IfOk};
-ghost use Rattle.om_text.specs.Lines.{runs, lines};
-ghost use Rattle.om_text.specs.Heading.{plain_numbers};
+ghost use Rattle.om_lines.specs.Lines.{runs, lines};
+ghost use Rattle.om_document.specs.Heading.{plain_numbers};
 ghost use Rattle.om_text.specs.ReaderParts.{IsStepUnlessMemory};
 ghost use Rattle.om_text.specs.Parsed.{IsAnswerUnlessMemory};
 ghost use Rattle.om_answer.specs.BlockLines.{vector_of, entry_of, weight_of, pivots_of, basis_of, some_of};
@@ -18,8 +18,8 @@ use super::block_lines::{
 use om_certificate::{Entry, LpEnd, Verdict, Weight};
 use om_signs::{List, MAX_ELEMENTS, NoMemory};
 use om_subsets::Subset;
-use om_text::lines::{before_comment, first_line, first_word, has_no_words, is_end, is_only_word};
-use om_text::words::plain_number;
+use om_lines::lines::{before_comment, first_line, first_word, has_no_words, is_end, is_only_word};
+use om_lines::words::plain_number;
 use om_text::{Code, ParseError, Refusal};
 use om_vectors::{Unfound, Word};
 use std::alloc::Global;

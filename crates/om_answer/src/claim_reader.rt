@@ -3,10 +3,10 @@
 ghost use Rattle.std.specs.Prelude.{◌≡◌, ℕ, ◌*◌, ◌+◌, ◌-◌, ◌≤◌, ◌^◌, length, IfOk};
 ghost use Rattle.om_signs.specs.declared.limits.TheConstants.{MAX_INPUT, MAX_READ};
 ghost use Rattle.om_certificate.specs.Forms.{IsVerdictInForm};
-ghost use Rattle.om_text.specs.declared.code.Code.{Code};
-ghost use Rattle.om_text.specs.Lines.{lines};
+ghost use Rattle.om_document.specs.declared.code.Code.{Code};
+ghost use Rattle.om_lines.specs.Lines.{lines};
 ghost use Rattle.om_text.specs.Parsed.{IsAnswerUnlessMemory, IfLine};
-ghost use Rattle.om_text.specs.Form.{IsInForm};
+ghost use Rattle.om_document.specs.Form.{IsInForm};
 ghost use Rattle.om_reply.specs.declared.claim.Claim.{Claim};
 ghost use Rattle.om_answer.specs.Claim.{IsClaim};
 ghost use Rattle.om_certificate.specs.Verdicts.{HasEvidenceWithinLimits};

@@ -1,9 +1,8 @@
 //! Laws of the definition of claims. Each law is a function with an empty body, and its contract is the law.
 
 ghost use Rattle.std.specs.Prelude.{ℕ, ◌≡◌, ◌≤◌, ◌↔◌, ◌⊎◌, List, length, take};
-ghost use Rattle.om_text.specs.declared.code.Code.{Code};
-ghost use Rattle.om_text.specs.Fault.{Begins};
-ghost use Rattle.om_text.specs.Lines.{lines};
+ghost use Rattle.om_document.specs.declared.code.Code.{Code};
+ghost use Rattle.om_lines.specs.Lines.{Begins, lines};
 ghost use Rattle.om_reply.specs.declared.claim.Claim.{Claim};
 ghost use Rattle.om_answer.specs.Claim.{IsClaim};
 ghost use Rattle.om_answer.specs.ClaimFault.{AreClaim, IsClaimFault};

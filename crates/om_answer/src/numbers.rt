@@ -3,12 +3,12 @@
 ghost use Rattle.std.specs.Prelude.{◌≡◌, ◌≤◌, ◌<◌, ◌^◌, ◌∷◌, [], length, MatchOption, IfSome, Some, None, All};
 ghost use Rattle.std.specs.Prelude.{FitsSigned};
 ghost use Rattle.std.specs.Int.{w128};
-ghost use Rattle.om_text.specs.Lines.{runs};
+ghost use Rattle.om_lines.specs.Lines.{runs};
 ghost use Rattle.om_answer.specs.Numbers.{number_within, numbers_within, IsReadable, IsIn, AreIn};
 
 use super::range::Range;
-use om_text::lines::{first_word, has_no_words};
-use om_text::words::{signed_number, unsigned_number};
+use om_lines::lines::{first_word, has_no_words};
+use om_lines::words::{signed_number, unsigned_number};
 use smallvec::SmallVec;
 use std::alloc::Global;
 

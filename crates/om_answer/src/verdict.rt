@@ -4,8 +4,8 @@ ghost use Rattle.std.specs.Prelude.{◌≡◌, ◌≢◌, ◌≤◌, IfOk};
 ghost use Rattle.om_signs.specs.declared.limits.TheConstants.{MAX_VALUES};
 ghost use Rattle.om_subsets.specs.Subsets.{choose};
 ghost use Rattle.om_certificate.specs.Forms.{IsVerdictInForm};
-ghost use Rattle.om_text.specs.Form.{IsInForm};
-ghost use Rattle.om_text.specs.Lines.{lines};
+ghost use Rattle.om_document.specs.Form.{IsInForm};
+ghost use Rattle.om_lines.specs.Lines.{lines};
 ghost use Rattle.om_answer.specs.Claim.{IsClaim};
 ghost use Rattle.om_reply.specs.VerdictText.{chirotope_document, verdict_text, claim_of};
 
@@ -13,7 +13,7 @@ use om_certificate::Verdict;
 use om_chirotope::Chirotope;
 use om_reply::push_block;
 use om_signs::{List, NoMemory};
-use om_text::{Body, Document, print};
+use om_document::{Body, Document, print};
 use std::alloc::Global;
 
 /// The document of a chirotope with no more values than a document may hold. It has no names.

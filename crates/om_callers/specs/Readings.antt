@@ -9,12 +9,12 @@ use Rattle.om_chirotope.specs.declared.map_refused.MapRefused.{MapRefused}
 use Rattle.om_chirotope.specs.declared.map_refused.MapRefused.TheVariants.{AllZero, Relation}
 use Rattle.om_denotation.specs.Covectors.{IsCovectorOfChirotope}
 use Rattle.om_denotation.specs.Listings.{AreAllOf, HasMoreThan}
-use Rattle.om_text.specs.declared.body.Body.{Body}
-use Rattle.om_text.specs.declared.body.Body.TheVariants as body
-use Rattle.om_text.specs.declared.document.Document.{Document}
-use Rattle.om_text.specs.Document.{IsDocument}
+use Rattle.om_document.specs.declared.body.Body.{Body}
+use Rattle.om_document.specs.declared.body.Body.TheVariants as body
+use Rattle.om_document.specs.declared.document.Document.{Document}
+use Rattle.om_document.specs.Document.{IsDocument}
 use Rattle.om_text.specs.Fault.{IsFault}
-use Rattle.om_text.specs.Lines.{lines}
+use Rattle.om_lines.specs.Lines.{lines}
 use Rattle.om_callers.specs.declared.not_read.NotRead.{NotRead}
 use Rattle.om_callers.specs.declared.not_read.NotRead.TheVariants.{Line, Kind, Axioms, TooMany, Memory}
 

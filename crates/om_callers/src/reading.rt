@@ -3,14 +3,15 @@
 ghost use Rattle.std.specs.Prelude.{◌≤◌, length, IfOk, IfErr};
 ghost use Rattle.om_callers.specs.Readings.{AreCovectorsOfText, IsCause, IsCauseOfMap, AreCovectorsOfMap};
 ghost use Rattle.om_chirotope.specs.Map.{map_of};
-ghost use Rattle.om_text.specs.Form.{IsMapOn};
+ghost use Rattle.om_document.specs.Form.{IsMapOn};
 
 use super::not_read::NotRead;
 use om_chirotope::check;
 use om_convert::{ConvertError, chirotope_to_covectors};
 use om_covectors::Covectors;
 use om_signs::{MAX_ELEMENTS, MAX_READ, RawMap};
-use om_text::{Body, Document, ParseError, parse};
+use om_document::{Body, Document};
+use om_text::{ParseError, parse};
 use std::alloc::Global;
 use std::thread::Threads;
 

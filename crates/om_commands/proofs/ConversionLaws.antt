@@ -28,12 +28,12 @@ use Rattle.om_denotation.specs.Denotation.{DenoteTheSame}
 use Rattle.om_denotation.specs.Listings.{AreAllOf, HasMoreThan}
 use Rattle.om_denotation.proofs.DualLists.{circuits_of}
 use Rattle.om_minors.proofs.DroppedMembers.{least_all}
-use Rattle.om_text.specs.declared.document.Document.{Document}
-use Rattle.om_text.specs.declared.body.Body.{Body}
-use Rattle.om_text.specs.declared.body.Body.TheVariants as body
-use Rattle.om_text.specs.Form.{IsInForm}
-use Rattle.om_text.specs.declared.kinds.Kind.{Kind}
-use Rattle.om_text.specs.declared.kinds.Kind.TheVariants as kind
+use Rattle.om_document.specs.declared.document.Document.{Document}
+use Rattle.om_document.specs.declared.body.Body.{Body}
+use Rattle.om_document.specs.declared.body.Body.TheVariants as body
+use Rattle.om_document.specs.Form.{IsInForm}
+use Rattle.om_document.specs.declared.kinds.Kind.{Kind}
+use Rattle.om_document.specs.declared.kinds.Kind.TheVariants as kind
 use Rattle.om_printing.specs.declared.line.Line.{Line}
 use Rattle.om_printing.specs.declared.line.Line.TheVariants as line
 use Rattle.om_reply.specs.declared.answer.Answer.{Answer}

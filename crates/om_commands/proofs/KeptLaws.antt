@@ -4,7 +4,7 @@
 -- chirotope (for_kept_chirotope_determined).
 use Rattle.std.proofs.Common.{ap}
 use Rattle.om_chirotope.specs.Map.{SignMap}
-use Rattle.om_text.specs.declared.document.Document.{Document}
+use Rattle.om_document.specs.declared.document.Document.{Document}
 use Rattle.om_printing.specs.declared.line.Line.TheVariants as line
 use Rattle.om_representation.specs.AnyRank.{IsForKeptChirotope, wide, kept}
 use Rattle.om_representation.proofs.OneChirotope.{meant_for_one, one_width}

@@ -13,8 +13,8 @@ use Rattle.om_paint.specs.Paintings.{colouring, IsPaintingOf}
 use Rattle.om_paint.proofs.OnePainting.{one_first, one_painting}
 use Rattle.om_lexext.specs.declared.signed.Signed.{Signed}
 use Rattle.om_lexext.proofs.Extensions.{same_extensions}
-use Rattle.om_text.specs.declared.document.Document.{Document}
-use Rattle.om_text.specs.Form.{IsInForm}
+use Rattle.om_document.specs.declared.document.Document.{Document}
+use Rattle.om_document.specs.Form.{IsInForm}
 use Rattle.om_printing.specs.declared.line.Line.TheVariants as line
 use Rattle.om_reply.specs.Answers.{shows, tells}
 use Rattle.om_reply.specs.Determined.{IsDetermined}

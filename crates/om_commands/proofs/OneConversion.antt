@@ -4,11 +4,11 @@
 use Rattle.std.specs.Prelude.{◌≡◌, true, false, List, refl}
 use Rattle.std.proofs.Common.{sym, ◌∙◌, ap}
 use Rattle.om_signs.specs.declared.sign.Sign.{Sign}
-use Rattle.om_text.specs.declared.document.Document.{Document}
-use Rattle.om_text.specs.declared.body.Body.{Body}
-use Rattle.om_text.specs.declared.body.Body.TheVariants as body
-use Rattle.om_text.specs.declared.kinds.Kind.{Kind}
-use Rattle.om_text.specs.Print.{printed}
+use Rattle.om_document.specs.declared.document.Document.{Document}
+use Rattle.om_document.specs.declared.body.Body.{Body}
+use Rattle.om_document.specs.declared.body.Body.TheVariants as body
+use Rattle.om_document.specs.declared.kinds.Kind.{Kind}
+use Rattle.om_document.specs.Print.{printed}
 use Rattle.om_printing.specs.declared.line.Line.TheVariants as line
 use Rattle.om_commands.specs.Conversions.{has_kind, HasExactly, IsMemberOf, IsConverted, IsConversion, itself, wide}
 use Rattle.om_commands.specs.Conversions.{limited, converted}

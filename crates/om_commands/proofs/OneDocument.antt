@@ -5,7 +5,7 @@ use Rattle.std.specs.Prelude.{refl}
 use Rattle.std.proofs.Common.{arith, sym, ◌∙◌}
 use Rattle.std.proofs.lemmas.Option.{none-some}
 use Rattle.om_chirotope.specs.Map.{SignMap}
-use Rattle.om_text.specs.declared.document.Document.{Document}
+use Rattle.om_document.specs.declared.document.Document.{Document}
 use Rattle.om_words.specs.declared.colouring.Colouring.{Colouring}
 use Rattle.om_words.specs.declared.leading.Leading.{Leading}
 use Rattle.om_words.specs.Tasks.{given_list}

@@ -15,7 +15,7 @@ use Rattle.om_threeterm.specs.declared.three_refused.ThreeRefused.{ThreeRefused}
 use Rattle.om_threeterm.specs.declared.three_refused.ThreeRefused.TheVariants.{AllZero, NoExchange, ThreeTerm}
 use Rattle.om_threeterm.specs.Violations.{IsUnexchanged, IsFirstUnexchangedOf, IsFirstUnexchanged, IsUnbalancedList}
 use Rattle.om_threeterm.specs.Violations.{IsFirstUnbalancedOf, IsFirstUnbalanced}
-use Rattle.om_text.specs.declared.document.Document.{Document}
+use Rattle.om_document.specs.declared.document.Document.{Document}
 use Rattle.om_representation.specs.declared.document_refused.DocumentRefused.{DocumentRefused}
 use Rattle.om_representation.specs.Axioms.{IsRefused}
 use Rattle.om_representation.specs.RefusalLines.{refused_line}

@@ -16,16 +16,16 @@ use Rattle.om_members.specs.Listings.{AreDistinct}
 use Rattle.om_denotation.specs.Covectors.{IsCovectorOfChirotope}
 use Rattle.om_denotation.specs.Denotation.{DenoteTheSame}
 use Rattle.om_denotation.proofs.ListUniqueness.{one_list_of_circuits, one_list_of_cocircuits, one_list_of_covectors}
-use Rattle.om_text.specs.declared.document.Document.{Document}
-use Rattle.om_text.specs.declared.body.Body.{Body}
-use Rattle.om_text.specs.declared.body.Body.TheVariants as body
-use Rattle.om_text.specs.declared.kinds.Kind.{Kind}
-use Rattle.om_text.specs.declared.kinds.Kind.TheVariants as kind
-use Rattle.om_text.specs.Form.{IsBodyOn}
-use Rattle.om_text.specs.Print.{text_of, member_lines, printed}
-use Rattle.om_text.specs.Rows.{same_row, sorted}
-use Rattle.om_text.proofs.Distinct.{same_row-Decides}
-use Rattle.om_text.proofs.Sorting.{same_sorted}
+use Rattle.om_document.specs.declared.document.Document.{Document}
+use Rattle.om_document.specs.declared.body.Body.{Body}
+use Rattle.om_document.specs.declared.body.Body.TheVariants as body
+use Rattle.om_document.specs.declared.kinds.Kind.{Kind}
+use Rattle.om_document.specs.declared.kinds.Kind.TheVariants as kind
+use Rattle.om_document.specs.Form.{IsBodyOn}
+use Rattle.om_document.specs.Print.{text_of, member_lines, printed}
+use Rattle.om_document.specs.Rows.{same_row, sorted}
+use Rattle.om_document.proofs.SameRow.{same_row-Decides}
+use Rattle.om_document.proofs.Sorting.{same_sorted}
 use Rattle.om_representation.specs.Axioms.{MeetsAxiomsOn}
 use Rattle.om_representation.specs.Covectors.{IsCovectorIn, IsCovectorOfBody}
 use Rattle.om_representation.specs.Documents.{raw_of}

@@ -19,8 +19,8 @@ use Rattle.om_convert.proofs.SameFamilies as families
 use Rattle.om_denotation.specs.Covectors.{IsCovectorOfChirotope, IsCovectorOfCovectors}
 use Rattle.om_denotation.specs.Operations.{IsDual}
 use Rattle.om_denotation.specs.Vectors.{IsVectorOf}
-use Rattle.om_text.specs.declared.document.Document.{Document}
-use Rattle.om_text.specs.Form.{IsInForm}
+use Rattle.om_document.specs.declared.document.Document.{Document}
+use Rattle.om_document.specs.Form.{IsInForm}
 use Rattle.om_printing.specs.declared.line.Line.TheVariants as line
 use Rattle.om_commands.specs.declared.operation.Operation.{Operation}
 use Rattle.om_commands.specs.declared.operation.Operation.TheVariants as operation

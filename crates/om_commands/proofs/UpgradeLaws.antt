@@ -5,9 +5,9 @@
 use Rattle.std.specs.Prelude.{ℕ, ◌≡◌, List, [], refl}
 use Rattle.std.proofs.Common.{sym, subst, ◌∙◌}
 use Rattle.om_signs.specs.declared.block.Block.{Block}
-use Rattle.om_text.specs.declared.body.Body.{Body}
-use Rattle.om_text.specs.declared.body.Body.TheVariants as body
-use Rattle.om_text.specs.declared.document.Document.{Document}
+use Rattle.om_document.specs.declared.body.Body.{Body}
+use Rattle.om_document.specs.declared.body.Body.TheVariants as body
+use Rattle.om_document.specs.declared.document.Document.{Document}
 use Rattle.om_reply.specs.Answers.{upgrades}
 use Rattle.om_representation.specs.Axioms.{MeetsAxiomsOn}
 use Rattle.om_representation.specs.Documents.{with_map}

@@ -9,12 +9,12 @@ use Rattle.om_denotation.specs.Listings.{AreAllOf, HasMoreThan}
 use Rattle.om_denotation.specs.Vectors.{IsVectorOf}
 use Rattle.om_convert.specs.declared.convert_error.ConvertError.{ConvertError}
 use Rattle.om_convert.specs.declared.convert_error.ConvertError.TheVariants as convert
-use Rattle.om_text.specs.declared.document.Document.{Document}
-use Rattle.om_text.specs.declared.body.Body.{Body}
-use Rattle.om_text.specs.declared.body.Body.TheVariants as body
-use Rattle.om_text.specs.Form.{IsInForm}
-use Rattle.om_text.specs.declared.kinds.Kind.{Kind}
-use Rattle.om_text.specs.declared.kinds.Kind.TheVariants as kind
+use Rattle.om_document.specs.declared.document.Document.{Document}
+use Rattle.om_document.specs.declared.body.Body.{Body}
+use Rattle.om_document.specs.declared.body.Body.TheVariants as body
+use Rattle.om_document.specs.Form.{IsInForm}
+use Rattle.om_document.specs.declared.kinds.Kind.{Kind}
+use Rattle.om_document.specs.declared.kinds.Kind.TheVariants as kind
 use Rattle.om_printing.specs.declared.line.Line.TheVariants as line
 use Rattle.om_reply.specs.declared.answer.Answer.{Answer}
 use Rattle.om_representation.specs.declared.representation.Representation.{Representation}

@@ -8,7 +8,7 @@ use Rattle.om_paint.specs.declared.hull_error.HullError.TheVariants.{Cyclic, Mem
 use Rattle.om_oriented.specs.declared.painted.Painted.{Painted}
 use Rattle.om_paint.specs.Paintings.{IsFirst, IsPaintingOf}
 use Rattle.om_paint.specs.Hulls.{all_plus, IsPositiveCircuit, IsExtreme, green_alone, IsCocircuitItem, EachItem}
-use Rattle.om_text.specs.declared.document.Document.{Document}
+use Rattle.om_document.specs.declared.document.Document.{Document}
 use Rattle.om_printing.specs.declared.line.Line.TheVariants as line
 use Rattle.om_reply.specs.declared.answer.Answer.{Answer}
 use Rattle.om_reply.specs.Answers.{says, tells}

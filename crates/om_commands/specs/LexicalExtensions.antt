@@ -5,8 +5,8 @@ use Rattle.om_subsets.specs.Subsets.{choose}
 use Rattle.om_chirotope.specs.Map.{SignMap}
 use Rattle.om_lexext.specs.declared.signed.Signed.{Signed}
 use Rattle.om_lexext.specs.Lexicographic.{IsLexicographicExtension}
-use Rattle.om_text.specs.declared.document.Document.{Document}
-use Rattle.om_text.specs.Form.{IsInForm}
+use Rattle.om_document.specs.declared.document.Document.{Document}
+use Rattle.om_document.specs.Form.{IsInForm}
 use Rattle.om_printing.specs.declared.line.Line.TheVariants as line
 use Rattle.om_reply.specs.declared.answer.Answer.{Answer}
 use Rattle.om_words.specs.Tasks.{given_list, elements_of}

@@ -6,7 +6,7 @@ use Rattle.om_oriented.specs.declared.colour.Colour.{Colour}
 use Rattle.om_oriented.specs.declared.painted.Painted.{Painted}
 use Rattle.om_oriented.specs.declared.painted.Painted.TheVariants.{Circuit, Cocircuit}
 use Rattle.om_paint.specs.Paintings.{colouring, IsPaintingOf}
-use Rattle.om_text.specs.declared.document.Document.{Document}
+use Rattle.om_document.specs.declared.document.Document.{Document}
 use Rattle.om_printing.specs.declared.line.Line.{Line}
 use Rattle.om_printing.specs.declared.line.Line.TheVariants as line
 use Rattle.om_reply.specs.declared.answer.Answer.{Answer}

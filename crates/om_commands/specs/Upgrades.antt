@@ -1,8 +1,8 @@
 -- The upgrade of a document to version 2 of the format. It is the document itself, with its names. Points and
 -- wirings aren't replaced by their map, and a flat wiring is upgraded too.
-use Rattle.om_text.specs.declared.body.Body.{Body}
-use Rattle.om_text.specs.declared.body.Body.TheVariants.{Wiring, Points}
-use Rattle.om_text.specs.declared.document.Document.{Document}
+use Rattle.om_document.specs.declared.body.Body.{Body}
+use Rattle.om_document.specs.declared.body.Body.TheVariants.{Wiring, Points}
+use Rattle.om_document.specs.declared.document.Document.{Document}
 use Rattle.om_reply.specs.declared.answer.Answer.{Answer}
 use Rattle.om_reply.specs.Answers.{says, upgrades}
 use Rattle.om_representation.specs.declared.document_refused.DocumentRefused.{DocumentRefused}

@@ -8,7 +8,7 @@ ghost use Rattle.om_commands.specs.Conversions.{IsConversion, IsConversionFrom, 
 
 use om_chirotope::Chirotope;
 use om_printing::Line;
-use om_text::Kind;
+use om_document::Kind;
 use om_convert::{
     ConvertError, chirotope_to_circuits, chirotope_to_cocircuits, chirotope_to_covectors,
     covectors_to_cocircuits,

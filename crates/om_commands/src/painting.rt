@@ -3,7 +3,7 @@
 ghost use Rattle.std.specs.Prelude.{◌≡◌, ◌≤◌, ◌↔◌, IfOk, IsTrue, MatchOption, length};
 ghost use Rattle.om_laws.specs.Colours.{IsColoured};
 ghost use Rattle.om_paint.specs.Paintings.{colouring};
-ghost use Rattle.om_text.specs.declared.document.Document.{Document};
+ghost use Rattle.om_document.specs.declared.document.Document.{Document};
 ghost use Rattle.om_reply.specs.Answers.{says};
 ghost use Rattle.om_commands.specs.Paintings.{IsPainting, IsPaintingOfMap, painted_line};
 ghost use Rattle.om_commands.specs.Paintable.{IsPaintable};

@@ -1,7 +1,7 @@
 //! The three-term test as a command.
 
 ghost use Rattle.std.specs.Prelude.{◌≡◌, ◌≤◌, IfOk};
-ghost use Rattle.om_text.specs.Form.{IsInForm, IsMapOn};
+ghost use Rattle.om_document.specs.Form.{IsInForm, IsMapOn};
 ghost use Rattle.om_reply.specs.Answers.{says};
 ghost use Rattle.om_commands.specs.ThreeTermTests.{IsThreeTermTest, IsTestOfMap, IsNoMap, failure_line};
 
@@ -9,7 +9,7 @@ use om_printing::Line;
 use om_reply::Answer;
 use om_representation::{Unrepresented, refused_line, represent};
 use om_signs::{MAX_ELEMENTS, NoMemory, RawMap};
-use om_text::{Body, Document};
+use om_document::{Body, Document};
 use om_threeterm::{ThreeRefused, check};
 use std::alloc::Global;
 use std::thread::Threads;

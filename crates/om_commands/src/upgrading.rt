@@ -2,7 +2,7 @@
 
 ghost use Rattle.std.specs.Prelude.{◌≡◌, ◌≤◌, IfOk, length, All};
 ghost use Rattle.om_signs.specs.declared.limits.TheConstants.{MAX_ELEMENTS};
-ghost use Rattle.om_text.specs.Form.{IsInForm, AreBlocks};
+ghost use Rattle.om_document.specs.Form.{IsInForm, AreBlocks};
 ghost use Rattle.om_commands.specs.Upgrades.{IsUpgrade, IsGiven};
 
 use om_reply::Answer;
@@ -11,7 +11,7 @@ use om_representation::{
     Unrepresented, chirotope_of_points, document_of, represent, wiring_of_blocks,
 };
 use om_signs::{Block, List, NoMemory};
-use om_text::{Body, Document, Name};
+use om_document::{Body, Document, Name};
 use std::alloc::Global;
 use std::thread::Threads;
 

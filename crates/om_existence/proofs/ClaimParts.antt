@@ -17,12 +17,12 @@ use Rattle.om_certificate.specs.Verdicts.{HasEvidenceWithinLimits}
 use Rattle.om_reply.specs.declared.claim.Claim.{Claim}
 use Rattle.om_printing.specs.declared.line.Line.{Line}
 use Rattle.om_printing.specs.declared.line.Line.TheVariants as line
-use Rattle.om_text.specs.Form.{IsInForm}
+use Rattle.om_document.specs.Form.{IsInForm}
 use Rattle.om_representation.specs.Axioms.{MeetsAxioms, IsFlatDocument}
 use Rattle.om_representation.specs.Documents.{worked_on}
 use Rattle.om_plane.specs.Claims.{valid_line, refusal_line, EvidenceMeans, refused, valid, VerdictMeans, other_rank}
-use Rattle.om_representation.specs.RefusalLines.{refused_line}
 use Rattle.om_plane.specs.Claims.{limited, judged, ClaimMeans, fails_axioms, flat, verified}
+use Rattle.om_representation.specs.RefusalLines.{refused_line}
 use Rattle.om_existence.specs.Possible.{IsPossible}
 use Rattle.om_existence.proofs.Possible.{held, then, mapped, either_way}
 use Rattle.om_existence.proofs.EvidenceParts.{evidence_possible}

@@ -9,20 +9,20 @@ use Rattle.om_signs.specs.declared.sign.Sign.{Sign}
 use Rattle.om_subsets.specs.Subsets.{choose}
 use Rattle.om_chirotope.specs.Map.{SignMap}
 use Rattle.om_members.specs.Listings.{Listing}
-use Rattle.om_convert.proofs.ChirotopeLaws.{circuits_lawful, cocircuits_lawful, covectors_lawful}
-use Rattle.om_convert.proofs.ChirotopeLaws.{same_as_circuits, same_as_cocircuits, same_as_covectors}
+use Rattle.om_convert.proofs.ChirotopeLaws.{circuits_lawful, cocircuits_lawful, covectors_lawful, same_as_circuits}
+use Rattle.om_convert.proofs.ChirotopeLaws.{same_as_cocircuits, same_as_covectors}
 use Rattle.om_convert.proofs.CountingLaws.{more_of_more}
 use Rattle.om_convert.proofs.SameFamilies.{all_same}
 use Rattle.om_denotation.specs.Circuits.{IsCircuitOfChirotope, IsCocircuitOfChirotope}
 use Rattle.om_denotation.specs.Covectors.{IsCovectorOfChirotope}
 use Rattle.om_denotation.specs.Denotation.{DenoteTheSame}
 use Rattle.om_denotation.proofs.ChirotopeBridge.{circuit_length, cocircuit_length}
-use Rattle.om_text.specs.declared.body.Body.{Body}
-use Rattle.om_text.specs.declared.body.Body.TheVariants as body
-use Rattle.om_text.specs.declared.document.Document.{Document}
-use Rattle.om_text.specs.declared.kinds.Kind.{Kind}
-use Rattle.om_text.specs.declared.kinds.Kind.TheVariants as kind
-use Rattle.om_text.specs.Form.{IsBodyOn}
+use Rattle.om_document.specs.declared.body.Body.{Body}
+use Rattle.om_document.specs.declared.body.Body.TheVariants as body
+use Rattle.om_document.specs.declared.document.Document.{Document}
+use Rattle.om_document.specs.declared.kinds.Kind.{Kind}
+use Rattle.om_document.specs.declared.kinds.Kind.TheVariants as kind
+use Rattle.om_document.specs.Form.{IsBodyOn}
 use Rattle.om_printing.specs.declared.line.Line.TheVariants as line
 use Rattle.om_representation.specs.Axioms.{MeetsAxiomsOn}
 use Rattle.om_representation.specs.Chirotopes.{IsNormalChirotopeOf, IsChirotopeWith}

@@ -11,11 +11,11 @@ use Rattle.om_denotation.specs.Circuits.{IsCircuitOfChirotope, IsCocircuitOfChir
 use Rattle.om_denotation.specs.Covectors.{IsCovectorOfChirotope}
 use Rattle.om_denotation.specs.Denotation.{DenoteTheSame}
 use Rattle.om_denotation.proofs.DualLists.{circuits_of}
-use Rattle.om_text.specs.declared.body.Body.{Body}
-use Rattle.om_text.specs.declared.body.Body.TheVariants as body
-use Rattle.om_text.specs.declared.document.Document.{Document}
-use Rattle.om_text.specs.declared.kinds.Kind.TheVariants as kind
-use Rattle.om_text.specs.Form.{IsBodyOn}
+use Rattle.om_document.specs.declared.body.Body.{Body}
+use Rattle.om_document.specs.declared.body.Body.TheVariants as body
+use Rattle.om_document.specs.declared.document.Document.{Document}
+use Rattle.om_document.specs.declared.kinds.Kind.TheVariants as kind
+use Rattle.om_document.specs.Form.{IsBodyOn}
 use Rattle.om_representation.specs.Chirotopes.{IsChirotopeOf}
 use Rattle.om_representation.specs.Covectors.{IsCovectorIn, IsCovectorOfBody}
 use Rattle.om_commands.specs.Conversions.{IsMemberOf}

@@ -6,10 +6,10 @@ use Rattle.std.proofs.Common.{sym, ◌∙◌, ap, subst, inl, inr, arith}
 use Rattle.std.proofs.lemmas.Bool.{cases_lt}
 use Rattle.om_signs.specs.declared.limits.TheConstants.{MAX_INPUT}
 use Rattle.om_chirotope.specs.Map.{SignMap}
-use Rattle.om_text.specs.declared.document.Document.{Document}
-use Rattle.om_text.specs.Document.{IsDocument}
-use Rattle.om_text.specs.Form.{IsInForm}
-use Rattle.om_text.specs.Lines.{lines}
+use Rattle.om_document.specs.declared.document.Document.{Document}
+use Rattle.om_document.specs.Document.{IsDocument}
+use Rattle.om_document.specs.Form.{IsInForm}
+use Rattle.om_lines.specs.Lines.{lines}
 use Rattle.om_reply.specs.declared.claim.Claim.{Claim}
 use Rattle.om_printing.specs.declared.line.Line.{Line}
 use Rattle.om_printing.specs.declared.line.Line.TheVariants as line

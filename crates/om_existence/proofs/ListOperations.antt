@@ -15,8 +15,8 @@ use Rattle.om_covectors.specs.Axioms.{MeetsCovectorAxioms}
 use Rattle.om_members.specs.Listings.{Listing}
 use Rattle.om_convert.proofs.ChirotopeLaws.{covectors_lawful}
 use Rattle.om_denotation.specs.Compositions.{IsOfLeastSupport}
-use Rattle.om_denotation.specs.Covectors.{IsCovectorOfChirotope}
-use Rattle.om_denotation.specs.Covectors.{IsCovectorOfCircuits, IsCovectorOfCocircuits, IsCovectorOfCovectors}
+use Rattle.om_denotation.specs.Covectors.{IsCovectorOfChirotope, IsCovectorOfCircuits, IsCovectorOfCocircuits}
+use Rattle.om_denotation.specs.Covectors.{IsCovectorOfCovectors}
 use Rattle.om_denotation.specs.Dual.{dual_of}
 use Rattle.om_denotation.specs.Existence.{HasCovectors}
 use Rattle.om_denotation.specs.Listings.{AreAllOf, HasMoreThan}
@@ -30,7 +30,7 @@ use Rattle.om_denotation.proofs.NormalForms.{normal_elements}
 use Rattle.om_minors.proofs.FamilyMinors.{the_same, dual_between}
 use Rattle.om_minors.proofs.ListMinors as minors
 use Rattle.om_minors.proofs.ListReorientations as turns
-use Rattle.om_text.specs.Form.{AreMembersOn}
+use Rattle.om_document.specs.Form.{AreMembersOn}
 use Rattle.om_commands.specs.declared.operation.Operation.{Operation}
 use Rattle.om_commands.specs.declared.operation.Operation.TheVariants.{Dual, Delete, Contract, Reorient}
 use Rattle.om_commands.specs.Operations.{AreMade, elements_left}

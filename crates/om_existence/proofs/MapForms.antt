@@ -8,7 +8,7 @@ use Rattle.om_signs.specs.declared.limits.TheConstants.{MAX_ELEMENTS, MAX_VALUES
 use Rattle.om_subsets.specs.Subsets.{choose}
 use Rattle.om_chirotope.specs.Map.{SignMap, IsMap}
 use Rattle.om_chirotope.proofs.FewValues.{few_of_rank3}
-use Rattle.om_text.specs.Form.{IsInForm}
+use Rattle.om_document.specs.Form.{IsInForm}
 use Rattle.om_representation.specs.Documents.{map_document}
 
 pub map_form : (m : SignMap) → IsMap m → 1 ≤ m.elements → m.elements ≤ MAX_ELEMENTS

@@ -16,7 +16,7 @@ use Rattle.om_mutate.specs.Mutations.{flipped, IsMutation, ListsMutations}
 use Rattle.om_mutate.proofs.FlipLaws.{flipped_whole, mutation_from}
 use Rattle.om_mutate.proofs.MutationLists.{ListsBelow, listed_none, listed_other, listed_more}
 use Rattle.om_words.specs.Tasks.{AreIncreasing}
-use Rattle.om_text.specs.declared.document.Document.{Document}
+use Rattle.om_document.specs.declared.document.Document.{Document}
 use Rattle.om_printing.specs.declared.line.Line.TheVariants as line
 use Rattle.om_representation.specs.Documents.{map_document}
 use Rattle.om_reply.specs.declared.answer.Answer.{Answer}

@@ -13,10 +13,10 @@ use Rattle.om_chirotope.specs.Chirotope.{IsChirotope}
 use Rattle.om_circuits.specs.Axioms.{MeetsCircuitAxioms}
 use Rattle.om_covectors.specs.Axioms.{MeetsCovectorAxioms}
 use Rattle.om_denotation.specs.Covectors.{IsCovectorOfChirotope}
-use Rattle.om_text.specs.declared.body.Body.{Body}
-use Rattle.om_text.specs.declared.body.Body.TheVariants as body
-use Rattle.om_text.specs.declared.document.Document.{Document}
-use Rattle.om_text.specs.Form.{IsBodyOn, AreMembersOn, IsMapOn}
+use Rattle.om_document.specs.declared.body.Body.{Body}
+use Rattle.om_document.specs.declared.body.Body.TheVariants as body
+use Rattle.om_document.specs.declared.document.Document.{Document}
+use Rattle.om_document.specs.Form.{IsBodyOn, AreMembersOn, IsMapOn}
 use Rattle.om_printing.specs.declared.line.Line.TheVariants as line
 use Rattle.om_representation.specs.Axioms.{MeetsAxiomsOn}
 use Rattle.om_representation.specs.Covectors.{IsCovectorOfBody}
@@ -26,11 +26,10 @@ use Rattle.om_commands.specs.declared.operation.Operation.{Operation}
 use Rattle.om_commands.specs.declared.operation.Operation.TheVariants.{Dual, Delete, Contract, Reorient}
 use Rattle.om_reply.specs.Answers.{says, shows}
 use Rattle.om_commands.specs.Conversions.{has_kind}
-use Rattle.om_commands.specs.Operations.{IsLawful, IsOperation, outside, last, wide, limited, made}
+use Rattle.om_commands.specs.Operations.{IsLawful, IsOperation, outside, last, wide, limited, made, named_elements}
+use Rattle.om_commands.specs.Operations.{TakesOnly, elements_left, kind_made, AreMade, IsMapMade, IsResult}
+use Rattle.om_commands.specs.Operations.{IsNormalBody, IsTooWideToMake, IsKeptToMake, HasTooManyMade}
 use Rattle.om_reply.specs.Above.{first_above}
-use Rattle.om_commands.specs.Operations.{named_elements, TakesOnly, elements_left, kind_made}
-use Rattle.om_commands.specs.Operations.{AreMade, IsMapMade, IsResult, IsNormalBody}
-use Rattle.om_commands.specs.Operations.{IsTooWideToMake, IsKeptToMake, HasTooManyMade}
 use Rattle.om_existence.proofs.ListOperations as lists
 use Rattle.om_existence.proofs.ListOperations.{AreCircuitsMade, AreCocircuitsMade, AreCovectorsMade}
 use Rattle.om_existence.proofs.MapForms.{map_form}

@@ -22,7 +22,7 @@ use Rattle.om_oriented.specs.declared.painted.Painted.TheVariants as item
 use Rattle.om_paint.specs.Hulls.{all_plus, IsPositiveCircuit, IsExtreme, green_alone, IsCocircuitItem, EachItem}
 use Rattle.om_paint.specs.Paintings.{colouring, IsFirst, IsPaintingOf}
 use Rattle.om_paint.proofs.Hulls.{acyclic_both, extreme_item, item_more}
-use Rattle.om_text.specs.declared.document.Document.{Document}
+use Rattle.om_document.specs.declared.document.Document.{Document}
 use Rattle.om_printing.specs.declared.line.Line.TheVariants as line
 use Rattle.om_words.specs.declared.colouring.Colouring.{Colouring}
 use Rattle.om_words.specs.Tasks.{HasElement}

@@ -6,10 +6,10 @@ use Rattle.std.proofs.Common.{subst, sym, arith}
 use Rattle.om_signs.specs.declared.raw_map.RawMap.{RawMap}
 use Rattle.om_subsets.specs.Subsets.{choose}
 use Rattle.om_chirotope.specs.Map.{map_of, IsMap}
-use Rattle.om_text.specs.declared.body.Body.{Body}
-use Rattle.om_text.specs.declared.body.Body.TheVariants.{Chirotope, Circuits, Cocircuits, Covectors, Wiring, Points}
-use Rattle.om_text.specs.declared.document.Document.{Document}
-use Rattle.om_text.specs.Form.{IsMapOn, IsBodyOn, IsInForm}
+use Rattle.om_document.specs.declared.body.Body.{Body}
+use Rattle.om_document.specs.declared.body.Body.TheVariants.{Chirotope, Circuits, Cocircuits, Covectors, Wiring, Points}
+use Rattle.om_document.specs.declared.document.Document.{Document}
+use Rattle.om_document.specs.Form.{IsMapOn, IsBodyOn, IsInForm}
 use Rattle.om_vectors.specs.Realizations.{IsRankLow}
 use Rattle.om_representation.specs.declared.document_refused.DocumentRefused.{DocumentRefused}
 use Rattle.om_representation.specs.declared.document_refused.DocumentRefused.TheVariants as reason

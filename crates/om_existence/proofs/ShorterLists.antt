@@ -15,7 +15,7 @@ use Rattle.om_denotation.specs.Listings.{AreAllOf}
 use Rattle.om_denotation.specs.Operations.{IsWithout}
 use Rattle.om_minors.proofs.DroppedPlaces.{shorter_of}
 use Rattle.om_minors.proofs.FlippedLists.{flipped_distinct, flipped_lengths}
-use Rattle.om_text.specs.Form.{AreMembersOn}
+use Rattle.om_document.specs.Form.{AreMembersOn}
 use Rattle.om_existence.specs.Possible.{IsPossible}
 use Rattle.om_existence.proofs.Possible.{mapped}
 use Rattle.om_existence.proofs.Listed.{listed_possible}

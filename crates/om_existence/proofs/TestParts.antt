@@ -17,10 +17,10 @@ use Rattle.om_threeterm.specs.Violations.{IsUnexchanged, IsFirstUnexchangedOf, I
 use Rattle.om_threeterm.specs.Violations.{IsUnbalancedList, IsFirstUnbalancedOf, IsFirstUnbalanced}
 use Rattle.om_threeterm.proofs.ExchangeLaws.{exchange_of_no_violated}
 use Rattle.om_threeterm.proofs.RelationLaws.{balanced_or_not}
-use Rattle.om_text.specs.declared.body.Body.{Body}
-use Rattle.om_text.specs.declared.body.Body.TheVariants.{Chirotope, Circuits, Cocircuits, Covectors, Wiring, Points}
-use Rattle.om_text.specs.declared.document.Document.{Document}
-use Rattle.om_text.specs.Form.{IsBodyOn, IsInForm}
+use Rattle.om_document.specs.declared.body.Body.{Body}
+use Rattle.om_document.specs.declared.body.Body.TheVariants.{Chirotope, Circuits, Cocircuits, Covectors, Wiring, Points}
+use Rattle.om_document.specs.declared.document.Document.{Document}
+use Rattle.om_document.specs.Form.{IsBodyOn, IsInForm}
 use Rattle.om_printing.specs.declared.line.Line.TheVariants as line
 use Rattle.om_representation.specs.Axioms.{MeetsAxioms}
 use Rattle.om_reply.specs.declared.answer.Answer.{Answer}

@@ -2,12 +2,12 @@
 --
 -- Main results: readings, claim_readings; document_form, claim_form.
 use Rattle.std.specs.Prelude.{ℕ, ◌⊎◌, List}
-use Rattle.om_text.specs.declared.code.Code.{Code}
-use Rattle.om_text.specs.declared.document.Document.{Document}
-use Rattle.om_text.specs.Document.{IsDocument}
+use Rattle.om_document.specs.declared.code.Code.{Code}
+use Rattle.om_document.specs.declared.document.Document.{Document}
+use Rattle.om_document.specs.Document.{IsDocument}
 use Rattle.om_text.specs.Fault.{IsFault}
-use Rattle.om_text.specs.Form.{IsInForm}
-use Rattle.om_text.specs.Lines.{lines, wordful}
+use Rattle.om_document.specs.Form.{IsInForm}
+use Rattle.om_lines.specs.Lines.{lines, wordful}
 use Rattle.om_text.proofs.Forms.{document_form as spelled_form}
 use Rattle.om_text.proofs.Outcome.{document_or_fault}
 use Rattle.om_answer.proofs.OneReading.{claim_or_fault}

@@ -4,7 +4,7 @@
 use Rattle.std.specs.Prelude.{ℕ, ◌≡◌, ◌+◌, ◌⊎◌, List, [], ◌∷◌, ◌++◌, length}
 use Rattle.std.proofs.Common.{sym, subst, inl, inr, append_assoc}
 use Rattle.std.proofs.lemmas.List.{append-nil}
-use Rattle.om_text.specs.Fault.{Begins}
+use Rattle.om_lines.specs.Lines.{Begins}
 use Rattle.om_words.specs.declared.task.Task.{Task}
 use Rattle.om_words.specs.Tasks.{HasLawfulArguments}
 use Rattle.om_words.specs.Words.{AreCommand, Names, IsFault, at_word, at_end, IsUsage}

@@ -18,10 +18,10 @@ use Rattle.om_denotation.proofs.NormalForms.{normal_exists, normal_covectors, no
 use Rattle.om_denotation.proofs.Uniqueness.{normal_axioms}
 use Rattle.om_wiring.specs.Maps.{wiring_map}
 use Rattle.om_wiring.proofs.Existence.{chirotope_if_not_flat}
-use Rattle.om_text.specs.declared.body.Body.{Body}
-use Rattle.om_text.specs.declared.body.Body.TheVariants as body
-use Rattle.om_text.specs.declared.document.Document.{Document}
-use Rattle.om_text.specs.Form.{IsMapOn, IsBodyOn, IsInForm}
+use Rattle.om_document.specs.declared.body.Body.{Body}
+use Rattle.om_document.specs.declared.body.Body.TheVariants as body
+use Rattle.om_document.specs.declared.document.Document.{Document}
+use Rattle.om_document.specs.Form.{IsMapOn, IsBodyOn, IsInForm}
 use Rattle.om_printing.specs.declared.line.Line.TheVariants as line
 use Rattle.om_representation.specs.Axioms.{MeetsAxiomsOn, MeetsAxioms, IsFlatOn, IsFlatDocument}
 use Rattle.om_representation.specs.Chirotopes.{IsNormalChirotopeOf, IsChirotopeOf}

@@ -8,10 +8,7 @@ use Rattle.std.specs.List.{list_all, list_any}
 use Rattle.std.proofs.Common.{refl, sym, ap, ◌∙◌, subst, append_assoc, append-nil, arith, inl, inr}
 use Rattle.std.proofs.lemmas.Bool.{cases_Bool, eqb-true, leb-true, leb-false, le-leb, lt-leb, true≢false, false≢true}
 use Rattle.std.proofs.lemmas.Bool.{and_parts}
-use Rattle.om_text.specs.Document.{end_line}
-use Rattle.om_text.specs.Heading.{first_word}
-use Rattle.om_text.specs.Lines.{has_any, words}
-use Rattle.om_text.specs.Settings.{is_line}
+use Rattle.om_lines.specs.Lines.{end_line, first_word, has_any, words, is_line}
 use Rattle.om_pieces.specs.Pieces.{without_line_feed, has_word, closes, opens, ends, is_unbroken, AreCut, no_more}
 use Rattle.om_pieces.specs.Pieces.{closed, broken, at_end}
 

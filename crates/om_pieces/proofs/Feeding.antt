@@ -7,10 +7,7 @@ use Rattle.std.specs.List.{list_all}
 use Rattle.std.proofs.Common.{refl, sym, ap, ◌∙◌, append_assoc, append-nil, inl, inr}
 use Rattle.std.proofs.lemmas.Bool.{cases_Bool, eqb-true, and_parts, not-true, cond-true, cond-false}
 use Rattle.std.proofs.lemmas.List.Concat.{flat_map-append}
-use Rattle.om_text.specs.Document.{end_line}
-use Rattle.om_text.specs.Heading.{first_word}
-use Rattle.om_text.specs.Lines.{has_any, words, with_first}
-use Rattle.om_text.specs.Settings.{is_line}
+use Rattle.om_lines.specs.Lines.{end_line, first_word, has_any, words, with_first, is_line}
 use Rattle.om_pieces.specs.declared.seen.Seen.{Seen}
 use Rattle.om_pieces.specs.declared.seen.Seen.TheVariants.{Blank}
 use Rattle.om_pieces.specs.Pieces.{full_lines, without_line_feed, has_word, closes, opens, bytes_of, IsCut, HasOneCut}

@@ -6,7 +6,7 @@ use Rattle.std.specs.List.{list_any}
 use Rattle.std.proofs.Common.{refl, sym, ap, ◌∙◌, subst, append_assoc, append-nil, inl, inr}
 use Rattle.std.proofs.lemmas.Bool.{cases_Bool, eqb-true, cond-true, cond-false}
 use Rattle.std.proofs.lemmas.List.Concat.{flat_map-append}
-use Rattle.om_text.specs.Lines.{with_first}
+use Rattle.om_lines.specs.Lines.{with_first}
 use Rattle.om_pieces.specs.Pieces.{Line, Piece, full_lines, has_word, AreCut, no_more, closed, broken, at_end, bytes_of}
 use Rattle.om_pieces.specs.Pieces.{IsCut, GiveBack}
 

@@ -5,10 +5,8 @@ use Rattle.std.specs.Prelude.{ℕ, ◌≡◌, List, [], ◌∷◌, ◌++◌, Boo
 use Rattle.std.specs.Prelude.{filter}
 use Rattle.std.proofs.Common.{refl, sym, ap, ◌∙◌, inl, inr}
 use Rattle.std.proofs.lemmas.Bool.{cases_Bool, eqb-true, true≢false}
-use Rattle.om_text.specs.Document.{end_line}
-use Rattle.om_text.specs.Heading.{first_word}
-use Rattle.om_text.specs.Lines.{is_blank, uncommented, pieces, with_first, has_any, words}
-use Rattle.om_text.specs.Settings.{is_line}
+use Rattle.om_lines.specs.Lines.{end_line, first_word, is_blank, uncommented, pieces, with_first, has_any, words}
+use Rattle.om_lines.specs.Lines.{is_line}
 use Rattle.om_pieces.specs.declared.seen.Seen.{Seen}
 use Rattle.om_pieces.specs.declared.seen.Seen.TheVariants.{Blank, BlankComment, E, En, End, EndBlank, EndComment, O, Om}
 use Rattle.om_pieces.specs.declared.seen.Seen.TheVariants.{OmMore, Other}

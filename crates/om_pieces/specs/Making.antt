@@ -3,7 +3,7 @@
 use Rattle.std.specs.Prelude.{ℕ, ◌-◌, ◌+◌, List, [], ◌∷◌, ◌++◌, Bool, true, false, cond, nat_eq, nat_le, ◌&&◌, ◌||◌}
 use Rattle.std.specs.Prelude.{take, Option, Some, None}
 use Rattle.om_signs.specs.declared.limits.TheConstants.{MAX_INPUT}
-use Rattle.om_text.specs.Lines.{is_blank, has_any}
+use Rattle.om_lines.specs.Lines.{is_blank, has_any}
 use Rattle.om_pieces.specs.declared.seen.Seen.{Seen}
 use Rattle.om_pieces.specs.declared.seen.Seen.TheVariants.{Blank, BlankComment, E, En, End, EndBlank, EndComment, O, Om}
 use Rattle.om_pieces.specs.declared.seen.Seen.TheVariants.{OmMore, Other}

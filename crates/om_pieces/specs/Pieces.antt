@@ -4,10 +4,7 @@
 use Rattle.std.specs.Prelude.{ℕ, ◌≡◌, ◌+◌, ◌<◌, List, [], ◌∷◌, ◌++◌, Bool, true, false, cond, not, nat_eq}
 use Rattle.std.specs.Prelude.{codes, flat_map, map, bytes_eq}
 use Rattle.std.specs.List.{list_all, list_any}
-use Rattle.om_text.specs.Document.{end_line}
-use Rattle.om_text.specs.Heading.{first_word}
-use Rattle.om_text.specs.Lines.{has_any, with_first, words}
-use Rattle.om_text.specs.Settings.{is_line}
+use Rattle.om_lines.specs.Lines.{end_line, first_word, has_any, with_first, words, is_line}
 
 -- a line is its bytes, and a piece is its lines
 abbrev pub Line : Type 0

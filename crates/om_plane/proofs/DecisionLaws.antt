@@ -18,8 +18,8 @@ use Rattle.om_certificate.proofs.Refusing.{valid_shows}
 use Rattle.om_budgets.specs.declared.budgets.Budgets.{Budgets}
 use Rattle.om_decide.specs.Verdicts as decide
 use Rattle.om_decide.proofs.VerdictLaws.{verdict_shown}
-use Rattle.om_text.specs.declared.document.Document.{Document}
-use Rattle.om_text.specs.Form.{IsInForm}
+use Rattle.om_document.specs.declared.document.Document.{Document}
+use Rattle.om_document.specs.Form.{IsInForm}
 use Rattle.om_reply.specs.VerdictText.{chirotope_document}
 use Rattle.om_reply.specs.declared.answer.Answer.{Answer}
 use Rattle.om_reply.specs.Answers.{IsReply}

@@ -21,7 +21,7 @@ use Rattle.om_localize.proofs.FirstMembers.{same_lines, same_more}
 use Rattle.om_mutate.specs.Mutations.{flipped, nth, ListsMutations}
 use Rattle.om_budgets.specs.declared.budgets.Budgets.{Budgets}
 use Rattle.om_decide.proofs.VerdictLaws.{one_verdict}
-use Rattle.om_text.specs.declared.document.Document.{Document}
+use Rattle.om_document.specs.declared.document.Document.{Document}
 use Rattle.om_printing.specs.declared.line.Line.TheVariants as line
 use Rattle.om_reply.specs.Answers.{shows, lists, lists_extensions, judges}
 use Rattle.om_plane.specs.Decisions as decisions

@@ -7,7 +7,7 @@ use Rattle.std.specs.Prelude.{ℕ, ◌≡◌, ◌≢◌, ◌↔◌, List, Result
 use Rattle.std.proofs.Common.{inl, inr}
 use Rattle.std.proofs.lemmas.Bool.{cases_eq}
 use Rattle.om_chirotope.specs.Map.{SignMap}
-use Rattle.om_text.specs.declared.document.Document.{Document}
+use Rattle.om_document.specs.declared.document.Document.{Document}
 use Rattle.om_reply.specs.declared.answer.Answer.{Answer}
 use Rattle.om_reply.specs.Answers.{IsReply}
 use Rattle.om_representation.specs.Chirotopes.{IsChirotopeOf}

@@ -14,8 +14,8 @@ use Rattle.om_wiring.specs.declared.sweep_error.SweepError.{SweepError}
 use Rattle.om_wiring.specs.declared.sweep_error.SweepError.TheVariants as sweep
 use Rattle.om_wiring.specs.Maps.{extended}
 use Rattle.om_wiring.specs.Wirings.{IsWiring}
-use Rattle.om_text.specs.declared.body.Body.TheVariants.{Wiring}
-use Rattle.om_text.specs.Form.{IsInForm, IsShort}
+use Rattle.om_document.specs.declared.body.Body.TheVariants.{Wiring}
+use Rattle.om_document.specs.Form.{IsInForm, IsShort}
 use Rattle.om_reply.specs.declared.answer.Answer.{Answer}
 use Rattle.om_plane.specs.Sweeps.{IsSweepRefusal, IsWiringOfMap, other_rank, not_sweepable}
 use Rattle.om_plane.proofs.RankThreeLaws.{of_rank3}

@@ -29,16 +29,15 @@ use Rattle.om_budgets.specs.declared.budgets.Budgets.{Budgets}
 use Rattle.om_decide.proofs.Few.{few_rows}
 use Rattle.om_decide.proofs.FewEntries.{few_entries}
 use Rattle.om_decide.proofs.VerdictLaws.{limit_rows}
-use Rattle.om_text.specs.Document.{end_line}
-use Rattle.om_text.specs.Print.{text_of, spaced, sign_lines, kind_text, printed}
-use Rattle.om_text.specs.Words.{byte_of}
-use Rattle.om_text.proofs.Printing.{text_of-append}
-use Rattle.om_text.proofs.Sizes.{cut_bytes}
-use Rattle.om_reply.specs.VerdictText.{word_line}
-use Rattle.om_reply.specs.VerdictText.{named, vector_numbers, vector_words, entry_numbers, entry_words, weight_numbers}
-use Rattle.om_reply.specs.VerdictText.{weight_words, relation_name, search_lines, stage_name, width_numbers}
-use Rattle.om_reply.specs.VerdictText.{verdict_name, verdict_lines, block_lines, lines_text, chirotope_document}
-use Rattle.om_reply.specs.VerdictText.{verdict_text}
+use Rattle.om_lines.specs.Lines.{end_line}
+use Rattle.om_document.specs.Print.{text_of, spaced, sign_lines, kind_text, printed}
+use Rattle.om_lines.specs.Words.{byte_of}
+use Rattle.om_document.proofs.Printing.{text_of-append}
+use Rattle.om_document.proofs.Sizes.{cut_bytes}
+use Rattle.om_reply.specs.VerdictText.{word_line, named, vector_numbers, vector_words, entry_numbers, entry_words}
+use Rattle.om_reply.specs.VerdictText.{weight_numbers, weight_words, relation_name, search_lines, stage_name}
+use Rattle.om_reply.specs.VerdictText.{width_numbers, verdict_name, verdict_lines, block_lines, lines_text}
+use Rattle.om_reply.specs.VerdictText.{chirotope_document, verdict_text}
 use Rattle.om_reply.proofs.BlockTexts.{word_bytes}
 use Rattle.om_plane.specs.Decisions.{IsDecided}
 

@@ -8,7 +8,7 @@ use Rattle.om_certificate.specs.Validity.{IsValid, Shows}
 use Rattle.om_certificate.specs.Verdicts.{certificate_of}
 use Rattle.om_budgets.specs.declared.budgets.Budgets.{Budgets}
 use Rattle.om_decide.specs.Verdicts.{IsVerdictOf}
-use Rattle.om_text.specs.declared.document.Document.{Document}
+use Rattle.om_document.specs.declared.document.Document.{Document}
 use Rattle.om_printing.specs.declared.line.Line.TheVariants as line
 use Rattle.om_reply.specs.declared.answer.Answer.{Answer}
 use Rattle.om_reply.specs.Answers.{says, judges}

@@ -5,7 +5,7 @@ use Rattle.om_chirotope.specs.Map.{SignMap}
 use Rattle.om_localize.specs.declared.listing.Listing.{Listing}
 use Rattle.om_localize.specs.Extensions.{IsSignature}
 use Rattle.om_localize.specs.Listings.{AreFirst}
-use Rattle.om_text.specs.declared.document.Document.{Document}
+use Rattle.om_document.specs.declared.document.Document.{Document}
 use Rattle.om_printing.specs.declared.line.Line.TheVariants as line
 use Rattle.om_reply.specs.declared.answer.Answer.{Answer}
 use Rattle.om_reply.specs.Answers.{says, lists_extensions}

@@ -7,8 +7,8 @@ use Rattle.om_chirotope.specs.Chirotope.{IsFirstViolated}
 use Rattle.om_mutate.specs.declared.flip_refused.FlipRefused.{FlipRefused}
 use Rattle.om_mutate.specs.declared.flip_refused.FlipRefused.TheVariants as why
 use Rattle.om_mutate.specs.Mutations.{flipped, IsMutation}
-use Rattle.om_text.specs.declared.document.Document.{Document}
-use Rattle.om_text.specs.Form.{IsInForm}
+use Rattle.om_document.specs.declared.document.Document.{Document}
+use Rattle.om_document.specs.Form.{IsInForm}
 use Rattle.om_printing.specs.declared.line.Line.{Line}
 use Rattle.om_printing.specs.declared.line.Line.TheVariants as line
 use Rattle.om_reply.specs.declared.answer.Answer.{Answer}

@@ -8,9 +8,9 @@ use Rattle.om_wiring.specs.declared.sweep_error.SweepError.{SweepError}
 use Rattle.om_wiring.specs.declared.sweep_error.SweepError.TheVariants as sweep
 use Rattle.om_wiring.specs.Maps.{extended, IsSweepable}
 use Rattle.om_wiring.specs.Sweeps.{IsLeastWiring}
-use Rattle.om_text.specs.declared.document.Document.{Document}
-use Rattle.om_text.specs.declared.body.Body.TheVariants as body
-use Rattle.om_text.specs.Form.{IsInForm}
+use Rattle.om_document.specs.declared.document.Document.{Document}
+use Rattle.om_document.specs.declared.body.Body.TheVariants as body
+use Rattle.om_document.specs.Form.{IsInForm}
 use Rattle.om_printing.specs.declared.line.Line.TheVariants as line
 use Rattle.om_reply.specs.declared.answer.Answer.{Answer}
 use Rattle.om_reply.specs.Answers.{says, shows}

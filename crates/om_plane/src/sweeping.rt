@@ -1,7 +1,7 @@
 //! The least wiring diagram of a chirotope.
 
 ghost use Rattle.std.specs.Prelude.{◌≡◌, IfOk};
-ghost use Rattle.om_text.specs.Form.{IsInForm};
+ghost use Rattle.om_document.specs.Form.{IsInForm};
 ghost use Rattle.om_representation.specs.Represented.{IsMeantFor};
 ghost use Rattle.om_plane.specs.Sweeps.{IsSweepRefusal, IsWiringOf, IsWiringOfMap, wiring_document};
 
@@ -10,7 +10,7 @@ use om_printing::Line;
 use om_reply::Answer;
 use om_representation::{Representation, choose_chirotope, rank_line};
 use om_signs::{List, NoMemory};
-use om_text::{Body, Document};
+use om_document::{Body, Document};
 use om_wiring::{SweepError, Wiring, sweep};
 use std::alloc::Global;
 

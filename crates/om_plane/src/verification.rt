@@ -1,7 +1,7 @@
 //! Whether the evidence of a claim proves its verdict.
 
 ghost use Rattle.std.specs.Prelude.{◌≡◌, IfOk};
-ghost use Rattle.om_text.specs.Form.{IsInForm};
+ghost use Rattle.om_document.specs.Form.{IsInForm};
 ghost use Rattle.om_certificate.specs.Validity.{IsWithinLimits};
 ghost use Rattle.om_certificate.specs.Verdicts.{HasEvidenceWithinLimits};
 ghost use Rattle.om_plane.specs.Claims.{ClaimMeans, VerdictMeans, EvidenceMeans, valid_line, refusal_line};

@@ -7,9 +7,9 @@ use Rattle.std.specs.Fmt.{decimal}
 use Rattle.std.specs.List.{join_with_byte}
 use Rattle.om_signs.specs.declared.sign.Sign.{Sign}
 use Rattle.om_grassmann.specs.declared.statement.Statement.{Statement}
-use Rattle.om_text.specs.declared.code.Code.{Code}
-use Rattle.om_text.specs.declared.code.Code.TheVariants as code
-use Rattle.om_text.specs.Words.{byte_of}
+use Rattle.om_document.specs.declared.code.Code.{Code}
+use Rattle.om_document.specs.declared.code.Code.TheVariants as code
+use Rattle.om_lines.specs.Words.{byte_of}
 use Rattle.om_printing.specs.declared.field.Field.{Field}
 use Rattle.om_printing.specs.declared.field.Field.TheVariants as field
 use Rattle.om_printing.specs.declared.line.Line.{Line}

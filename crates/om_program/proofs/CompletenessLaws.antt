@@ -4,7 +4,7 @@
 -- other tasks (apart_document_claim, apart_nothing_document, apart_nothing_claim).
 use Rattle.std.specs.Prelude.{ℕ, ◌≡◌, ◌≢◌, ◌⊎◌, List, [], Option, Some, refl}
 use Rattle.std.proofs.Common.{sym, ◌∙◌, subst, inl, inr, arith}
-use Rattle.om_text.specs.Lines.{lines}
+use Rattle.om_lines.specs.Lines.{lines}
 use Rattle.om_answer.proofs.OneReading as claims
 use Rattle.om_text.proofs.Outcome.{same_value, no_fault}
 use Rattle.om_reply.specs.declared.answer.Answer.{Answer}

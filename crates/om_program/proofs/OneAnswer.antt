@@ -3,9 +3,9 @@
 -- Main results: words_determined.
 use Rattle.std.specs.Prelude.{ℕ, ◌≡◌, ◌↔◌, List, Result, Ok, refl}
 use Rattle.std.proofs.Common.{sym, ◌∙◌, ap, subst, arith}
-use Rattle.om_text.specs.declared.code.Code.{Code}
-use Rattle.om_text.specs.declared.document.Document.{Document}
-use Rattle.om_text.specs.Lines.{lines}
+use Rattle.om_document.specs.declared.code.Code.{Code}
+use Rattle.om_document.specs.declared.document.Document.{Document}
+use Rattle.om_lines.specs.Lines.{lines}
 use Rattle.om_text.proofs.Outcome as documents
 use Rattle.om_words.specs.declared.task.Task.{Task}
 use Rattle.om_words.specs.declared.task.Task.TheVariants.{Accept, Member, Convert, Dual, Delete, Contract, Reorient}

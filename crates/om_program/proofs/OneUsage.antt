@@ -5,7 +5,7 @@ use Rattle.std.specs.Prelude.{ℕ, ◌≡◌, ◌<◌, ◌≤◌, ◌+◌, List,
 use Rattle.std.proofs.Common.{sym, ◌∙◌, ap, subst, arith, append_assoc, inl, inr}
 use Rattle.std.proofs.lemmas.Bool.{cases_lt}
 use Rattle.std.proofs.lemmas.List.{length-append, take-append-drop, take-take, take_all, take_at}
-use Rattle.om_text.specs.Fault.{Begins}
+use Rattle.om_lines.specs.Lines.{Begins}
 use Rattle.om_words.specs.declared.task.Task.{Task}
 use Rattle.om_words.specs.Words.{Names, AreCommand, IsUsage, at_word, at_end}
 

@@ -5,7 +5,7 @@
 -- refused to a flat wiring (flat_refused).
 use Rattle.std.specs.Prelude.{◌≡◌, refl}
 use Rattle.std.proofs.Common.{sym, ◌∙◌}
-use Rattle.om_text.specs.declared.document.Document.{Document}
+use Rattle.om_document.specs.declared.document.Document.{Document}
 use Rattle.om_printing.specs.declared.line.Line.TheVariants as line
 use Rattle.om_words.specs.declared.reads.Reads.TheVariants as source
 use Rattle.om_words.specs.declared.task.Task.TheVariants.{Threeterm, Upgrade}

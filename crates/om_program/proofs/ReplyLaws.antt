@@ -13,20 +13,20 @@ use Rattle.om_covectors.specs.declared.cov_refused.CovRefused.{CovRefused}
 use Rattle.om_covectors.specs.declared.cov_refused.CovRefused.TheVariants as cov
 use Rattle.om_wiring.specs.declared.wiring_refused.WiringRefused.{WiringRefused}
 use Rattle.om_wiring.specs.declared.wiring_refused.WiringRefused.TheVariants as wiring
-use Rattle.om_text.specs.declared.document.Document.{Document}
-use Rattle.om_text.specs.Form.{IsInForm}
-use Rattle.om_text.specs.Lines.{lines, wordful}
-use Rattle.om_text.specs.PrintTwo.{IsClosedUnderNegation}
+use Rattle.om_document.specs.declared.document.Document.{Document}
+use Rattle.om_document.specs.Form.{IsInForm}
+use Rattle.om_lines.specs.Lines.{lines, wordful}
+use Rattle.om_document.specs.PrintTwo.{IsClosedUnderNegation}
 use Rattle.om_text.proofs.Forms.{document_form}
-use Rattle.om_text.specs.declared.body.Body.{Body}
-use Rattle.om_text.specs.declared.body.Body.TheVariants as body
+use Rattle.om_document.specs.declared.body.Body.{Body}
+use Rattle.om_document.specs.declared.body.Body.TheVariants as body
 use Rattle.om_certificate.specs.declared.cert_refused.CertRefused.{CertRefused}
 use Rattle.om_certificate.specs.declared.cert_refused.CertRefused.TheVariants as cert
 use Rattle.om_certificate.specs.declared.evidence.Evidence.{Evidence}
 use Rattle.om_certificate.specs.declared.evidence.Evidence.TheVariants as evidence
 use Rattle.om_certificate.specs.declared.verdict.Verdict.{Verdict}
 use Rattle.om_reply.specs.declared.claim.Claim.{Claim}
-use Rattle.om_text.specs.declared.kinds.Kind.{Kind}
+use Rattle.om_document.specs.declared.kinds.Kind.{Kind}
 use Rattle.om_printing.specs.declared.line.Line.{Line}
 use Rattle.om_reply.specs.declared.answer.Answer.{Answer}
 use Rattle.om_commands.specs.declared.operation.Operation.{Operation}

@@ -13,9 +13,9 @@ use Rattle.om_certificate.specs.declared.verdict.Verdict.TheVariants.{Realizable
 use Rattle.om_certificate.specs.Verdicts.{certificate_of}
 use Rattle.om_certificate.specs.Validity.{IsValid, Shows}
 use Rattle.om_budgets.specs.declared.budgets.Budgets.{Budgets}
-use Rattle.om_text.specs.declared.body.Body.{Body}
-use Rattle.om_text.specs.declared.body.Body.TheVariants.{Chirotope}
-use Rattle.om_text.specs.declared.document.Document.{Document}
+use Rattle.om_document.specs.declared.body.Body.{Body}
+use Rattle.om_document.specs.declared.body.Body.TheVariants.{Chirotope}
+use Rattle.om_document.specs.declared.document.Document.{Document}
 use Rattle.om_printing.specs.declared.line.Line.{Line}
 use Rattle.om_printing.specs.declared.line.Line.TheVariants as line
 use Rattle.om_reply.specs.VerdictText.{claim_of, verdict_text}

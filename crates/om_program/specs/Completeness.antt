@@ -1,9 +1,9 @@
 -- When a run is certain to end with its answer, if memory lasts and no fault comes.
 use Rattle.std.specs.Prelude.{ℕ, ◌≡◌, ◌≢◌, ◌≤◌, ◌⊎◌, List, length, Option, Some}
 use Rattle.om_signs.specs.declared.limits.TheConstants.{MAX_INPUT}
-use Rattle.om_text.specs.declared.document.Document.{Document}
-use Rattle.om_text.specs.Lines.{lines}
-use Rattle.om_text.specs.Document.{IsDocument}
+use Rattle.om_document.specs.declared.document.Document.{Document}
+use Rattle.om_lines.specs.Lines.{lines}
+use Rattle.om_document.specs.Document.{IsDocument}
 use Rattle.om_reply.specs.declared.claim.Claim.{Claim}
 use Rattle.om_printing.specs.declared.line.Line.{Line}
 use Rattle.om_answer.specs.Claim.{IsClaim}

@@ -3,10 +3,10 @@
 -- if none before it does. What each command answers is defined in a file of its own.
 use Rattle.std.specs.Prelude.{ℕ, ◌≡◌, ◌≢◌, ◌<◌, ◌≤◌, List, length}
 use Rattle.om_signs.specs.declared.limits.TheConstants.{MAX_INPUT}
-use Rattle.om_text.specs.declared.code.Code.{Code}
-use Rattle.om_text.specs.declared.document.Document.{Document}
-use Rattle.om_text.specs.Lines.{lines}
-use Rattle.om_text.specs.Document.{IsDocument}
+use Rattle.om_document.specs.declared.code.Code.{Code}
+use Rattle.om_document.specs.declared.document.Document.{Document}
+use Rattle.om_lines.specs.Lines.{lines}
+use Rattle.om_document.specs.Document.{IsDocument}
 use Rattle.om_text.specs.Fault.{IsFault}
 use Rattle.om_reply.specs.declared.claim.Claim.{Claim}
 use Rattle.om_printing.specs.declared.line.Line.{Line}

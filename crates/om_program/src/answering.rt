@@ -1,7 +1,7 @@
 //! From the bytes of an input to the answer.
 
 ghost use Rattle.std.specs.Prelude.{◌≡◌, ◌≤◌, IfOk, List, length, ℕ};
-ghost use Rattle.om_text.specs.Form.{IsInForm};
+ghost use Rattle.om_document.specs.Form.{IsInForm};
 ghost use Rattle.om_program.specs.Meaning.{TaskMeans, DocumentMeans, IsAnswerOf};
 ghost use Rattle.om_program.specs.Plans.{document_task, matroid_task, reading_task};
 ghost use Rattle.om_representation.specs.Documents.{document_of};
@@ -22,7 +22,8 @@ use om_plane::{
 use om_reply::Answer;
 use om_representation::{Representation, Unrepresented, refused_line, represent};
 use om_signs::{MAX_INPUT, NoMemory};
-use om_text::{Document, ParseError, parse};
+use om_document::Document;
+use om_text::{ParseError, parse};
 use om_words::{Reads, Task};
 use std::alloc::Global;
 use std::thread::Threads;

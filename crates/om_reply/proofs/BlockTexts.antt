@@ -11,8 +11,8 @@ use mir.Val.{to_z, of_z}
 use Rattle.std.proofs.lemmas.List.{take_more, map-append}
 use Rattle.std.specs.Prelude.{ℤ, codes, decimal, Result, Ok, Err, OnOk}
 use Rattle.std.specs.Fmt.{signed_decimal}
-use Rattle.om_text.specs.Print.{text_of, spaced}
-use Rattle.om_text.proofs.Printing.{text_of-append}
+use Rattle.om_document.specs.Print.{text_of, spaced}
+use Rattle.om_document.proofs.Printing.{text_of-append}
 use Rattle.om_reply.specs.VerdictText.{lines_text, tail_text}
 
 -- the bytes of words, with one more for each

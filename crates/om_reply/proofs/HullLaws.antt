@@ -6,8 +6,8 @@ use Rattle.std.specs.Prelude.{ℕ, ◌≡◌, ◌+◌, ◌<◌, List, [], ◌∷
 use Rattle.std.proofs.Common.{get_or, arith, sym, ap, ◌∙◌, append_assoc}
 use Rattle.std.proofs.lemmas.List.{take_more, length-take-le}
 use Rattle.om_oriented.specs.declared.painted.Painted.{Painted}
-use Rattle.om_text.specs.Print.{text_of}
-use Rattle.om_text.proofs.Printing.{text_of-append}
+use Rattle.om_document.specs.Print.{text_of}
+use Rattle.om_document.proofs.Printing.{text_of-append}
 use Rattle.om_reply.specs.HullTexts.{item_text, item_lines, hull_text}
 use Rattle.om_reply.proofs.BehindLaws.{put_behind}
 

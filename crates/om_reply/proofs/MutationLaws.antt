@@ -6,8 +6,8 @@ use Rattle.std.specs.Fmt.{decimal}
 use Rattle.std.proofs.Common.{get_or, sym, ap, ◌∙◌, append_assoc}
 use Rattle.std.proofs.lemmas.List.{take_more, map-append}
 use Rattle.om_subsets.specs.Members.{Chosen}
-use Rattle.om_text.specs.Print.{text_of}
-use Rattle.om_text.proofs.Printing.{text_of-append}
+use Rattle.om_document.specs.Print.{text_of}
+use Rattle.om_document.proofs.Printing.{text_of-append}
 use Rattle.om_printing.specs.Texts.{subset_text}
 use Rattle.om_reply.specs.MutationTexts.{set_lines, mutations_text}
 use Rattle.om_reply.proofs.BehindLaws.{put_behind}

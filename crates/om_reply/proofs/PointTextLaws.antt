@@ -8,8 +8,8 @@ use Rattle.std.proofs.lemmas.List.Elements.{All-push}
 use Rattle.std.specs.Fmt.{decimal}
 use Rattle.om_signs.specs.declared.limits.TheConstants.{MAX_ELEMENTS}
 use Rattle.om_vectors.specs.declared.tally.Tally.{Tally}
-use Rattle.om_text.specs.Form.{IsPoint, IsInForm}
-use Rattle.om_text.specs.Print.{text_of}
+use Rattle.om_document.specs.Form.{IsPoint, IsInForm}
+use Rattle.om_document.specs.Print.{text_of}
 use Rattle.om_vectors.specs.WholeVectors.{WholeVector}
 use Rattle.om_reply.specs.VerdictText.{vector_numbers}
 use Rattle.om_reply.specs.MadeTexts.{points_document, tally_lines}

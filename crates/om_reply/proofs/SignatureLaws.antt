@@ -7,8 +7,8 @@ use Rattle.std.proofs.Common.{get_or, sym, ap, ◌∙◌, append_assoc}
 use Rattle.std.proofs.lemmas.List.{take_more, map-append}
 use Rattle.om_signs.specs.declared.sign.Sign.{Sign}
 use Rattle.om_localize.specs.declared.listing.Listing.{Listing}
-use Rattle.om_text.specs.Print.{text_of}
-use Rattle.om_text.proofs.Printing.{text_of-append}
+use Rattle.om_document.specs.Print.{text_of}
+use Rattle.om_document.proofs.Printing.{text_of-append}
 use Rattle.om_printing.specs.Texts.{signs_text}
 use Rattle.om_reply.specs.ExtensionTexts.{signature_lines, last_word, extensions_text}
 use Rattle.om_reply.proofs.BehindLaws.{put_behind}

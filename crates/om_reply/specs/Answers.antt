@@ -4,10 +4,10 @@ use Rattle.om_chirotope.specs.Map.{SignMap}
 use Rattle.om_certificate.specs.declared.verdict.Verdict.{Verdict}
 use Rattle.om_certificate.specs.declared.verdict.Verdict.TheVariants as verdict
 use Rattle.om_certificate.specs.Forms.{IsVerdictInForm}
-use Rattle.om_text.specs.declared.document.Document.{Document}
-use Rattle.om_text.specs.Form.{IsInForm}
-use Rattle.om_text.specs.Print.{printed}
-use Rattle.om_text.specs.PrintTwo.{printed_two, IsClosedUnderNegation}
+use Rattle.om_document.specs.declared.document.Document.{Document}
+use Rattle.om_document.specs.Form.{IsInForm}
+use Rattle.om_document.specs.Print.{printed}
+use Rattle.om_document.specs.PrintTwo.{printed_two, IsClosedUnderNegation}
 use Rattle.om_printing.specs.declared.line.Line.{Line}
 use Rattle.om_printing.specs.declared.line.Line.TheVariants as line
 use Rattle.om_printing.specs.Texts.{line_text}

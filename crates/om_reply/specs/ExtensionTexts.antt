@@ -3,7 +3,7 @@ use Rattle.std.specs.Prelude.{ℕ, List, [], ◌∷◌, ◌++◌, Bool, true, fa
 use Rattle.std.specs.Fmt.{decimal}
 use Rattle.om_signs.specs.declared.sign.Sign.{Sign}
 use Rattle.om_localize.specs.declared.listing.Listing.{Listing}
-use Rattle.om_text.specs.Print.{text_of}
+use Rattle.om_document.specs.Print.{text_of}
 use Rattle.om_printing.specs.Texts.{spaced, signs_text}
 
 -- signatures, one on each line

@@ -4,7 +4,7 @@ use Rattle.std.specs.Fmt.{decimal}
 use Rattle.om_signs.specs.declared.sign.Sign.{Sign}
 use Rattle.om_oriented.specs.declared.painted.Painted.{Painted}
 use Rattle.om_oriented.specs.declared.painted.Painted.TheVariants.{Circuit, Cocircuit}
-use Rattle.om_text.specs.Print.{text_of}
+use Rattle.om_document.specs.Print.{text_of}
 use Rattle.om_printing.specs.Texts.{spaced, signs_text}
 
 -- a word, an element and a sign vector

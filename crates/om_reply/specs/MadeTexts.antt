@@ -1,9 +1,9 @@
 -- The text of vectors that a number determines, and of their summary.
 use Rattle.std.specs.Prelude.{ℕ, List, [], ◌∷◌, ◌++◌, codes, length, map}
 use Rattle.std.specs.Fmt.{decimal}
-use Rattle.om_text.specs.declared.document.Document.{Document}
-use Rattle.om_text.specs.declared.body.Body.TheVariants.{Points}
-use Rattle.om_text.specs.Print.{printed, text_of}
+use Rattle.om_document.specs.declared.document.Document.{Document}
+use Rattle.om_document.specs.declared.body.Body.TheVariants.{Points}
+use Rattle.om_document.specs.Print.{printed, text_of}
 use Rattle.om_vectors.specs.WholeVectors.{WholeVector}
 use Rattle.om_vectors.specs.declared.tally.Tally.{Tally}
 use Rattle.om_reply.specs.VerdictText.{vector_numbers}

@@ -2,7 +2,7 @@
 use Rattle.std.specs.Prelude.{ℕ, List, [], ◌∷◌, ◌++◌, codes, length, map}
 use Rattle.std.specs.Fmt.{decimal}
 use Rattle.om_subsets.specs.Members.{Chosen}
-use Rattle.om_text.specs.Print.{text_of}
+use Rattle.om_document.specs.Print.{text_of}
 use Rattle.om_printing.specs.Texts.{spaced, subset_text}
 
 -- sets, one on each line

@@ -16,10 +16,10 @@ use Rattle.om_certificate.specs.declared.lp_end.LpEnd.{LpEnd}
 use Rattle.om_certificate.specs.declared.lp_end.LpEnd.TheVariants as lp_end
 use Rattle.om_certificate.specs.declared.verdict.Verdict.{Verdict}
 use Rattle.om_certificate.specs.declared.verdict.Verdict.TheVariants.{Realizable, Nonrealizable, Undecided, Limit}
-use Rattle.om_text.specs.declared.document.Document.{Document}
-use Rattle.om_text.specs.declared.body.Body.TheVariants.{Chirotope}
-use Rattle.om_text.specs.Document.{end_line}
-use Rattle.om_text.specs.Print.{text_of, spaced, printed}
+use Rattle.om_document.specs.declared.document.Document.{Document}
+use Rattle.om_document.specs.declared.body.Body.TheVariants.{Chirotope}
+use Rattle.om_lines.specs.Lines.{end_line}
+use Rattle.om_document.specs.Print.{text_of, spaced, printed}
 use Rattle.om_reply.specs.declared.claim.Claim.{Claim}
 
 -- a line of one word

@@ -11,7 +11,7 @@ use om_oriented::Painted;
 use om_printing::Line;
 use om_signs::List;
 use om_subsets::Subset;
-use om_text::Document;
+use om_document::Document;
 use om_vectors::{Tally, Word};
 
 /// What the program answers. A command decides it, and it is printed once, at the end of the run.

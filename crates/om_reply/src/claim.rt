@@ -1,5 +1,5 @@
 use om_certificate::Verdict;
-use om_text::Document;
+use om_document::Document;
 
 /// A document with a verdict on its chirotope.
 #[derive(Drop)]

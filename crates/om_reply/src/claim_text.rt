@@ -2,13 +2,13 @@
 
 ghost use Rattle.std.specs.Prelude.{◌≡◌, IfOk};
 ghost use Rattle.om_certificate.specs.Forms.{IsVerdictInForm};
-ghost use Rattle.om_text.specs.Form.{IsInForm};
+ghost use Rattle.om_document.specs.Form.{IsInForm};
 ghost use Rattle.om_reply.specs.VerdictText.{claim_text};
 
 use super::claim::Claim;
 use super::verdict_lines::push_block;
 use om_signs::NoMemory;
-use om_text::print;
+use om_document::print;
 use std::alloc::Global;
 
 /// The text of a claim: the canonical form of its document, and then the lines of the verdict block. Nothing is copied.

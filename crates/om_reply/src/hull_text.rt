@@ -1,7 +1,7 @@
 //! The text of the hull of an acyclic oriented matroid.
 
 ghost use Rattle.std.specs.Prelude.{◌≡◌, ◌++◌, ◌∷◌, [], IfOk, OnOk};
-ghost use Rattle.om_text.specs.Print.{text_of};
+ghost use Rattle.om_document.specs.Print.{text_of};
 ghost use Rattle.om_reply.specs.HullTexts.{element_text, item_text, item_lines, hull_text};
 
 use om_oriented::Painted;

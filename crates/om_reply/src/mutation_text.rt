@@ -1,7 +1,7 @@
 //! The text of a list of mutations.
 
 ghost use Rattle.std.specs.Prelude.{◌≡◌, ◌++◌, IfOk, OnOk};
-ghost use Rattle.om_text.specs.Print.{text_of};
+ghost use Rattle.om_document.specs.Print.{text_of};
 ghost use Rattle.om_reply.specs.MutationTexts.{set_lines, mutations_text};
 
 use om_printing::pieces::{push, push_decimal, push_line_feed, push_subset};

@@ -11,7 +11,7 @@ use super::made_text::print_made;
 use super::mutation_text::print_mutations;
 use om_printing::print_line;
 use om_signs::NoMemory;
-use om_text::{print, print_two};
+use om_document::{print, print_two};
 use std::alloc::Global;
 
 /// The text of an answer to a command.

@@ -6,7 +6,7 @@
 use Rattle.std.specs.Prelude.{◌≡◌, ◌≢◌, Result, Ok, Err, IfOk}
 use Rattle.std.proofs.Common.{sym, ap, subst, ◌∙◌}
 use Rattle.om_chirotope.specs.Map.{SignMap}
-use Rattle.om_text.specs.declared.document.Document.{Document}
+use Rattle.om_document.specs.declared.document.Document.{Document}
 use Rattle.om_printing.specs.declared.line.Line.{Line}
 use Rattle.om_printing.specs.declared.line.Line.TheVariants as line
 use Rattle.om_representation.specs.declared.representation.Representation.{Representation}

@@ -14,9 +14,9 @@ use Rattle.om_chirotope.specs.Map.{SignMap, IsLedBy}
 use Rattle.om_denotation.specs.Covectors.{IsCovectorOfChirotope}
 use Rattle.om_denotation.specs.Denotation.{DenoteTheSame}
 use Rattle.om_denotation.proofs.Uniqueness.{same_by_covectors, one_normal_form}
-use Rattle.om_text.specs.declared.document.Document.{Document}
-use Rattle.om_text.specs.declared.body.Body.{Body}
-use Rattle.om_text.specs.declared.body.Body.TheVariants as body
+use Rattle.om_document.specs.declared.document.Document.{Document}
+use Rattle.om_document.specs.declared.body.Body.{Body}
+use Rattle.om_document.specs.declared.body.Body.TheVariants as body
 use Rattle.om_representation.specs.Chirotopes.{IsChirotopeWith, IsChirotopeOf, IsNormalChirotopeOf}
 use Rattle.om_representation.specs.Widths.{IsTooWide}
 use Rattle.om_representation.specs.RankThree.{IsForChirotope, for_chirotope}

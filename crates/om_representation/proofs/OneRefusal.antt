@@ -22,9 +22,9 @@ use Rattle.om_covectors.proofs.FirstInstance as covector_instances
 use Rattle.om_covectors.proofs.InstanceLaws as covectors
 use Rattle.om_wiring.proofs.CrossingLaws.{one_refusal}
 use Rattle.om_wiring.proofs.RefusalLaws.{refused_is_none}
-use Rattle.om_text.specs.declared.body.Body.{Body}
-use Rattle.om_text.specs.declared.body.Body.TheVariants.{Chirotope, Circuits, Cocircuits, Covectors, Wiring, Points}
-use Rattle.om_text.specs.declared.document.Document.{Document}
+use Rattle.om_document.specs.declared.body.Body.{Body}
+use Rattle.om_document.specs.declared.body.Body.TheVariants.{Chirotope, Circuits, Cocircuits, Covectors, Wiring, Points}
+use Rattle.om_document.specs.declared.document.Document.{Document}
 use Rattle.om_representation.specs.declared.document_refused.DocumentRefused.{DocumentRefused}
 use Rattle.om_representation.specs.declared.document_refused.DocumentRefused.TheVariants as reason
 use Rattle.om_representation.specs.Axioms.{MeetsAxiomsOn, MeetsAxioms, IsViolatedMap, IsRefusedOn, IsRefused}

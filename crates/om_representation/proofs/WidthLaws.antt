@@ -22,10 +22,10 @@ use Rattle.om_denotation.specs.Covectors.{IsCovectorOfCovectors}
 use Rattle.om_denotation.specs.Denotation.{DenoteTheSame}
 use Rattle.om_members.specs.Listings.{Listing}
 use Rattle.std.proofs.lemmas.List.{length-map}
-use Rattle.om_text.specs.declared.document.Document.{Document}
-use Rattle.om_text.specs.declared.body.Body.{Body}
-use Rattle.om_text.specs.declared.body.Body.TheVariants as body
-use Rattle.om_text.specs.Form.{IsInForm, IsBodyOn}
+use Rattle.om_document.specs.declared.document.Document.{Document}
+use Rattle.om_document.specs.declared.body.Body.{Body}
+use Rattle.om_document.specs.declared.body.Body.TheVariants as body
+use Rattle.om_document.specs.Form.{IsInForm, IsBodyOn}
 use Rattle.om_representation.specs.declared.representation.Representation.{Representation}
 use Rattle.om_representation.specs.declared.representation.Representation.TheVariants as representation
 use Rattle.om_representation.specs.Chirotopes.{IsChirotopeOf, IsNormalChirotopeOf}

@@ -2,7 +2,7 @@
 -- may hold, they answer that it has. Answers are of any type that has lines among its values.
 use Rattle.std.specs.Prelude.{ℕ}
 use Rattle.om_chirotope.specs.Map.{SignMap}
-use Rattle.om_text.specs.declared.document.Document.{Document}
+use Rattle.om_document.specs.declared.document.Document.{Document}
 use Rattle.om_printing.specs.declared.line.Line.{Line}
 use Rattle.om_printing.specs.declared.line.Line.TheVariants as line
 use Rattle.om_representation.specs.Chirotopes.{IsChirotopeOf}

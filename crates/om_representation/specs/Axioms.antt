@@ -18,9 +18,9 @@ use Rattle.om_wiring.specs.declared.wiring_refused.WiringRefused.{WiringRefused}
 use Rattle.om_wiring.specs.Maps.{IsFlat}
 use Rattle.om_wiring.specs.Refusals as wirings
 use Rattle.om_wiring.specs.Wirings.{IsWiring}
-use Rattle.om_text.specs.declared.document.Document.{Document}
-use Rattle.om_text.specs.declared.body.Body.{Body}
-use Rattle.om_text.specs.declared.body.Body.TheVariants.{Chirotope, Circuits, Cocircuits, Covectors, Wiring, Points}
+use Rattle.om_document.specs.declared.document.Document.{Document}
+use Rattle.om_document.specs.declared.body.Body.{Body}
+use Rattle.om_document.specs.declared.body.Body.TheVariants.{Chirotope, Circuits, Cocircuits, Covectors, Wiring, Points}
 use Rattle.om_representation.specs.declared.document_refused.DocumentRefused.{DocumentRefused}
 use Rattle.om_representation.specs.declared.document_refused.DocumentRefused.TheVariants as reason
 use Rattle.om_representation.specs.declared.unrepresented.Unrepresented.{Unrepresented}

@@ -4,9 +4,9 @@ use Rattle.om_signs.specs.declared.raw_map.RawMap.{RawMap}
 use Rattle.om_chirotope.specs.Map.{SignMap}
 use Rattle.om_members.specs.Listings.{Listing}
 use Rattle.om_wiring.specs.Maps.{wiring_map}
-use Rattle.om_text.specs.declared.document.Document.{Document}
-use Rattle.om_text.specs.declared.body.Body.{Body}
-use Rattle.om_text.specs.declared.body.Body.TheVariants as body
+use Rattle.om_document.specs.declared.document.Document.{Document}
+use Rattle.om_document.specs.declared.body.Body.{Body}
+use Rattle.om_document.specs.declared.body.Body.TheVariants as body
 use Rattle.om_representation.specs.declared.representation.Representation.{Representation}
 use Rattle.om_representation.specs.declared.representation.Representation.TheVariants as representation
 use Rattle.om_representation.specs.Points.{points_map}

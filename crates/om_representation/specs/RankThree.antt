@@ -1,7 +1,7 @@
 -- Commands of rank 3 that work on the chirotope of the document, whatever the number of its values. A chirotope
 -- with more values than a document may hold has another rank. Answers are of any type.
 use Rattle.om_chirotope.specs.Map.{SignMap}
-use Rattle.om_text.specs.declared.document.Document.{Document}
+use Rattle.om_document.specs.declared.document.Document.{Document}
 use Rattle.om_representation.specs.Chirotopes.{IsChirotopeOf}
 
 -- the answer means this for the chirotope of the document

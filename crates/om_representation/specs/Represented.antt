@@ -1,5 +1,5 @@
 -- What an answer, of any type, means for an oriented matroid that a document gives.
-use Rattle.om_text.specs.declared.document.Document.{Document}
+use Rattle.om_document.specs.declared.document.Document.{Document}
 use Rattle.om_representation.specs.declared.representation.Representation.{Representation}
 use Rattle.om_representation.specs.Documents.{document_of}
 

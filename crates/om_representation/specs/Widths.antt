@@ -3,9 +3,9 @@ use Rattle.std.specs.Prelude.{ℕ, ◌≡◌, ◌≢◌, ◌<◌, ◌≤◌}
 use Rattle.om_signs.specs.declared.limits.TheConstants.{MAX_VALUES}
 use Rattle.om_subsets.specs.Subsets.{choose}
 use Rattle.om_chirotope.specs.Map.{SignMap}
-use Rattle.om_text.specs.declared.document.Document.{Document}
-use Rattle.om_text.specs.declared.body.Body.{Body}
-use Rattle.om_text.specs.declared.body.Body.TheVariants as body
+use Rattle.om_document.specs.declared.document.Document.{Document}
+use Rattle.om_document.specs.declared.body.Body.{Body}
+use Rattle.om_document.specs.declared.body.Body.TheVariants as body
 use Rattle.om_representation.specs.declared.unchosen.Unchosen.{Unchosen}
 use Rattle.om_representation.specs.declared.unchosen.Unchosen.TheVariants as unchosen
 use Rattle.om_representation.specs.Chirotopes.{IsChirotopeOf}

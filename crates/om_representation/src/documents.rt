@@ -3,7 +3,7 @@
 ghost use Rattle.std.specs.Prelude.{◌≡◌, ◌≢◌, ◌≤◌};
 ghost use Rattle.om_signs.specs.declared.limits.TheConstants.{MAX_VALUES};
 ghost use Rattle.om_subsets.specs.Subsets.{choose};
-ghost use Rattle.om_text.specs.Form.{IsInForm};
+ghost use Rattle.om_document.specs.Form.{IsInForm};
 ghost use Rattle.om_representation.specs.Axioms.{MeetsAxioms};
 ghost use Rattle.om_representation.specs.Documents.{document_of, map_document, circuits_document, cocircuits_document};
 ghost use Rattle.om_representation.specs.Documents.{covectors_document};
@@ -14,7 +14,7 @@ use om_chirotope::Chirotope;
 use om_circuits::{Circuits, Cocircuits};
 use om_covectors::Covectors;
 use om_signs::List;
-use om_text::{Body, Document};
+use om_document::{Body, Document};
 use std::alloc::Global;
 
 /// The document of an oriented matroid. A chirotope has at most as many values as a document may hold; in rank 3

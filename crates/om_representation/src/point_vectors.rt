@@ -1,8 +1,8 @@
 //! The chirotope of points.
 
 ghost use Rattle.std.specs.Prelude.{◌≡◌, ◌≤◌, length, All, OnOk, IfOk, IfErr};
-ghost use Rattle.om_text.specs.declared.body.Body.TheVariants.{Points};
-ghost use Rattle.om_text.specs.Form.{IsPoint};
+ghost use Rattle.om_document.specs.declared.body.Body.TheVariants.{Points};
+ghost use Rattle.om_document.specs.Form.{IsPoint};
 ghost use Rattle.om_vectors.specs.Realizations.{IsRankLow};
 ghost use Rattle.om_representation.specs.Points.{vector_of_point, vectors_of, points_map};
 ghost use Rattle.om_representation.specs.Axioms.{IsRefusal};

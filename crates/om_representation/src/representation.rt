@@ -1,7 +1,7 @@
 //! From a document to the oriented matroid that it gives.
 
 ghost use Rattle.std.specs.Prelude.{◌≡◌, ◌↔◌, ◌≤◌, All, length, IsOk, OnOk, IfOk, IfErr};
-ghost use Rattle.om_text.specs.Form.{IsInForm, AreMembersOn, AreBlocks, IsPoint};
+ghost use Rattle.om_document.specs.Form.{IsInForm, AreMembersOn, AreBlocks, IsPoint, IsMapOn};
 ghost use Rattle.om_circuits.specs.Axioms.{MeetsCircuitAxioms};
 ghost use Rattle.om_covectors.specs.Axioms.{MeetsCovectorAxioms};
 ghost use Rattle.om_vectors.specs.Realizations.{IsRankLow};
@@ -11,7 +11,6 @@ ghost use Rattle.om_representation.specs.Points.{vectors_of, points_map};
 ghost use Rattle.om_representation.specs.Axioms.{MeetsAxioms, IsFlatDocument, IsRefusal};
 ghost use Rattle.om_chirotope.specs.Map.{map_of};
 ghost use Rattle.om_chirotope.specs.Chirotope.{IsChirotope};
-ghost use Rattle.om_text.specs.Form.{IsMapOn};
 ghost use Rattle.om_representation.specs.Documents.{document_of, map_document, with_map, worked_on};
 
 use super::document_refused::DocumentRefused;
@@ -23,7 +22,7 @@ use om_circuits::{Circuits, Cocircuits};
 use om_convert::{ReadCovError, ReadSetError, read_circuits, read_cocircuits, read_covectors};
 use om_covectors::Covectors;
 use om_signs::{Block, List, MAX_ELEMENTS, RawMap, SignVec};
-use om_text::{Body, Document};
+use om_document::{Body, Document};
 use std::alloc::Global;
 use std::thread::Threads;
 

@@ -1,8 +1,8 @@
 //! Wirings, and their chirotopes.
 
 ghost use Rattle.std.specs.Prelude.{◌≡◌, ◌≤◌, OnOk, IfOk, IfErr};
-ghost use Rattle.om_text.specs.declared.body.Body.TheVariants as body;
-ghost use Rattle.om_text.specs.Form.{AreBlocks};
+ghost use Rattle.om_document.specs.declared.body.Body.TheVariants as body;
+ghost use Rattle.om_document.specs.Form.{AreBlocks};
 ghost use Rattle.om_wiring.specs.Maps.{IsFlat, wiring_map};
 ghost use Rattle.om_wiring.specs.Wirings.{IsWiring};
 ghost use Rattle.om_representation.specs.Axioms.{IsRefusal, IsRefusedOn};

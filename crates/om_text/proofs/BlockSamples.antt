@@ -1,12 +1,12 @@
 -- The definitions at small inputs: blocks, documents of wirings, and their faults.
 use Rattle.std.proofs.Common.{◌≡◌, List, [], ◌∷◌, ℕ, refl}
 use Rattle.std.specs.Prelude.{codes, Some, None}
-use Rattle.om_text.specs.declared.body.Body.TheVariants.{Wiring}
-use Rattle.om_text.specs.declared.code.Code.TheVariants as code
+use Rattle.om_document.specs.declared.body.Body.TheVariants.{Wiring}
+use Rattle.om_document.specs.declared.code.Code.TheVariants as code
 use Rattle.std.specs.Fmt.{digits}
-use Rattle.om_text.specs.Blocks.{block_of}
-use Rattle.om_text.specs.Print.{block_lines}
-use Rattle.om_text.specs.Document.{IsDocument}
+use Rattle.om_document.specs.Blocks.{block_of}
+use Rattle.om_document.specs.Print.{block_lines}
+use Rattle.om_document.specs.Document.{IsDocument}
 use Rattle.om_text.specs.Fault.{IsFault}
 use Rattle.om_text.proofs.Outcome.{document_from, fault_from}
 

@@ -3,17 +3,17 @@
 -- Main results: open_faulty, no_fault, open_line, open_refused
 use Rattle.std.proofs.Common.{◌≡◌, ℕ, List, Bool, true, false, cond, refl, ap}
 use Rattle.std.specs.Prelude.{Result, Ok, Err, Some, None}
-use Rattle.om_text.specs.declared.document.Document.{Document}
+use Rattle.om_document.specs.declared.document.Document.{Document}
 use Rattle.om_text.specs.declared.draft.Draft.{Draft}
 use Rattle.om_text.specs.declared.stage.Stage.TheVariants.{Body as InBody}
-use Rattle.om_text.specs.declared.body.Body.{Body}
-use Rattle.om_text.specs.declared.code.Code.{Code}
-use Rattle.om_text.specs.declared.code.Code.TheVariants as code
+use Rattle.om_document.specs.declared.body.Body.{Body}
+use Rattle.om_document.specs.declared.code.Code.{Code}
+use Rattle.om_document.specs.declared.code.Code.TheVariants as code
 use Rattle.om_text.specs.declared.refusal.Refusal.{Refusal}
 use Rattle.om_text.specs.declared.refusal.Refusal.TheVariants as refusal
 use Rattle.om_text.specs.declared.state.State.{State}
 use Rattle.om_text.specs.declared.state.State.TheVariants.{Open}
-use Rattle.om_text.specs.Document.{has_signs, has_length, has_blocks, has_numbers, has_room}
+use Rattle.om_document.specs.Document.{has_signs, has_length, has_blocks, has_numbers, has_room}
 use Rattle.om_text.specs.Reading.{after_body, added, added_body}
 use Rattle.om_text.specs.ReaderParts.{IsStepUnlessMemory, line_fault, body_with_line}
 

@@ -11,27 +11,27 @@ use Rattle.std.proofs.lemmas.Bool.{leb-true, le-leb}
 use Rattle.std.proofs.lemmas.List.{length-map}
 use Rattle.om_signs.specs.declared.sign.Sign.TheVariants.{Plus}
 use Rattle.om_subsets.specs.Subsets.{choose}
-use Rattle.om_text.specs.declared.document.Document.{Document}
+use Rattle.om_document.specs.declared.document.Document.{Document}
 use Rattle.om_signs.specs.declared.raw_map.RawMap.{RawMap}
-use Rattle.om_text.specs.declared.body.Body.{Body}
-use Rattle.om_text.specs.declared.body.Body.TheVariants.{Chirotope, Points}
-use Rattle.om_text.specs.declared.code.Code.{Code}
-use Rattle.om_text.specs.declared.code.Code.TheVariants as code
+use Rattle.om_document.specs.declared.body.Body.{Body}
+use Rattle.om_document.specs.declared.body.Body.TheVariants.{Chirotope, Points}
+use Rattle.om_document.specs.declared.code.Code.{Code}
+use Rattle.om_document.specs.declared.code.Code.TheVariants as code
 use Rattle.om_text.specs.declared.state.State.{State}
 use Rattle.om_text.specs.declared.state.State.TheVariants.{Start, Versioned, Open, Closed}
-use Rattle.om_text.specs.Lines.{words, wordful, has_any, uncommented, pieces, with_first}
-use Rattle.om_text.specs.Words.{is_sign, sign_of_byte}
+use Rattle.om_lines.specs.Lines.{words, wordful, has_any, uncommented, pieces, with_first, is_line, end_line}
+use Rattle.om_lines.specs.Words.{is_sign, sign_of_byte}
 use Rattle.om_text.specs.declared.draft.Draft.{Draft}
 use Rattle.om_text.specs.declared.stage.Stage.{Stage}
 use Rattle.om_text.specs.declared.stage.Stage.TheVariants.{Body as InBody}
-use Rattle.om_text.specs.declared.setting.Setting.{Setting}
-use Rattle.om_text.specs.declared.version.Version.{Version}
-use Rattle.om_text.specs.declared.version.Version.TheVariants.{One, Two}
-use Rattle.om_text.specs.Settings.{is_line, begins_as_setting}
-use Rattle.om_text.specs.Document.{end_line, are_signs, signs_of_line, size_of, room_of, has_room, is_complete_body}
-use Rattle.om_text.specs.Points.{point_on}
+use Rattle.om_document.specs.declared.setting.Setting.{Setting}
+use Rattle.om_document.specs.declared.version.Version.{Version}
+use Rattle.om_document.specs.declared.version.Version.TheVariants.{One, Two}
+use Rattle.om_document.specs.Settings.{begins_as_setting}
+use Rattle.om_document.specs.Document.{are_signs, signs_of_line, size_of, room_of, has_room, is_complete_body}
+use Rattle.om_document.specs.Points.{point_on}
 use Rattle.om_text.specs.Reading.{step, takes_settings, finished_draft, added}
-use Rattle.om_text.proofs.Feeds.{is_one_line}
+use Rattle.om_document.proofs.Feeds.{is_one_line}
 use Rattle.om_text.proofs.Filling.{signs_not_end}
 use Rattle.om_text.proofs.SettingSteps.{Shows}
 use Rattle.om_text.proofs.Course.{run_words}

@@ -9,30 +9,32 @@ use Rattle.std.specs.Prelude.{Option, Some, None, Result, Ok, Err, is_none, opti
 use Rattle.std.specs.List.{list_any, list_all}
 use Rattle.std.proofs.lemmas.List.Folds.{list_any-append}
 use Rattle.std.proofs.lemmas.Bool.{cases_Bool, and_parts}
-use Rattle.om_text.specs.declared.document.Document.{Document}
-use Rattle.om_text.specs.declared.code.Code.{Code}
-use Rattle.om_text.specs.declared.code.Code.TheVariants as code
+use Rattle.om_document.specs.declared.document.Document.{Document}
+use Rattle.om_document.specs.declared.code.Code.{Code}
+use Rattle.om_document.specs.declared.code.Code.TheVariants as code
 use Rattle.om_text.specs.declared.state.State.{State}
 use Rattle.om_text.specs.declared.state.State.TheVariants.{Start, Versioned, Open, Closed}
 use Rattle.om_text.specs.declared.draft.Draft.{Draft}
 use Rattle.om_text.specs.declared.stage.Stage.{Stage}
 use Rattle.om_text.specs.declared.stage.Stage.TheVariants.{Names, Choice, Body as InBody}
-use Rattle.om_text.specs.declared.setting.Setting.{Setting}
-use Rattle.om_text.specs.declared.setting.Setting.TheVariants.{Plain}
-use Rattle.om_text.specs.declared.version.Version.{Version}
-use Rattle.om_text.specs.declared.version.Version.TheVariants.{One, Two}
-use Rattle.om_text.specs.declared.kind.DocumentKind.{DocumentKind}
-use Rattle.om_text.specs.Settings.{is_line, version_of, begins_as_setting, other_words, is_names_line, settings_of}
-use Rattle.om_text.specs.Settings.{settings_in, finished}
-use Rattle.om_text.specs.Document.{IsSpelled, end_line, is_body_line, has_signs, has_length, has_blocks, has_numbers}
-use Rattle.om_text.specs.Document.{filled, has_room, is_complete}
-use Rattle.om_text.specs.Heading.{kind_of, heading, opened, has_elements, has_rank, has_size}
+use Rattle.om_document.specs.declared.setting.Setting.{Setting}
+use Rattle.om_document.specs.declared.setting.Setting.TheVariants.{Plain}
+use Rattle.om_document.specs.declared.version.Version.{Version}
+use Rattle.om_document.specs.declared.version.Version.TheVariants.{One, Two}
+use Rattle.om_document.specs.declared.document_kind.DocumentKind.{DocumentKind}
+use Rattle.om_lines.specs.Lines.{is_line, end_line}
+use Rattle.om_document.specs.Settings.{version_of, begins_as_setting, other_words, is_names_line, settings_of}
+use Rattle.om_document.specs.Settings.{settings_in, finished}
+use Rattle.om_document.specs.Document.{IsSpelled, is_body_line, has_signs, has_length, has_blocks, has_numbers, filled}
+use Rattle.om_document.specs.Document.{has_room, is_complete}
+use Rattle.om_document.specs.Heading.{kind_of, heading, opened, has_elements, has_rank, has_size}
 use Rattle.om_text.specs.Reading.{step, with_version, after_kind, first_stage, draft_of, first_draft, with_heading}
 use Rattle.om_text.specs.Reading.{takes_settings, after_setting, after_body, added}
 use Rattle.om_text.proofs.Language as any
 use Rattle.om_text.proofs.Language.{bind}
-use Rattle.om_text.proofs.Filling.{is_line-Decides, line_not_end, has_signs_filled, has_length_filled}
-use Rattle.om_text.proofs.Filling.{has_blocks_filled, has_numbers_filled, filled_added, room_before}
+use Rattle.om_lines.proofs.WordLines.{is_line-Decides}
+use Rattle.om_text.proofs.Filling.{line_not_end, has_signs_filled, has_length_filled, has_blocks_filled}
+use Rattle.om_text.proofs.Filling.{has_numbers_filled, filled_added, room_before}
 use Rattle.om_text.proofs.SettingLines.{settings_begin, line_not_setting, settings_not_end}
 use Rattle.om_text.proofs.SettingSteps.{IsStage, IsOpen, IsSet, refused, accepted, some_pair, setting_step}
 use Rattle.om_text.proofs.CourseSteps.{no_settings}

@@ -8,26 +8,26 @@ use Rattle.std.specs.Prelude.{Option, Some, None, Ok, Err, is_none}
 use Rattle.std.specs.List.{list_all}
 use Rattle.std.proofs.lemmas.Bool.{cases_Bool, and_parts}
 use Rattle.om_signs.proofs.Results.{ok-injective}
-use Rattle.om_text.specs.declared.document.Document.{Document}
-use Rattle.om_text.specs.declared.code.Code.TheVariants as code
+use Rattle.om_document.specs.declared.document.Document.{Document}
+use Rattle.om_document.specs.declared.code.Code.TheVariants as code
 use Rattle.om_text.specs.declared.state.State.{State}
 use Rattle.om_text.specs.declared.state.State.TheVariants.{Start, Versioned, Open, Closed}
 use Rattle.om_text.specs.declared.draft.Draft.{Draft}
 use Rattle.om_text.specs.declared.stage.Stage.TheVariants.{Body as InBody}
-use Rattle.om_text.specs.declared.setting.Setting.TheVariants.{Plain}
-use Rattle.om_text.specs.declared.version.Version.{Version}
-use Rattle.om_text.specs.declared.version.Version.TheVariants.{One, Two}
-use Rattle.om_text.specs.Lines.{has_any}
-use Rattle.om_text.specs.Settings.{is_line, version_of, begins_as_setting, settings_in}
-use Rattle.om_text.specs.Document.{IsSpelled, end_line, is_body_line, has_signs, has_length, has_blocks, has_numbers}
-use Rattle.om_text.specs.Document.{filled, has_room, is_complete}
-use Rattle.om_text.specs.Heading.{first_word, kind_of, heading, has_elements, has_rank, has_size, rank_of_body}
-use Rattle.om_text.specs.Heading.{values_of_body}
+use Rattle.om_document.specs.declared.setting.Setting.TheVariants.{Plain}
+use Rattle.om_document.specs.declared.version.Version.{Version}
+use Rattle.om_document.specs.declared.version.Version.TheVariants.{One, Two}
+use Rattle.om_lines.specs.Lines.{has_any, is_line, end_line, first_word}
+use Rattle.om_document.specs.Settings.{version_of, begins_as_setting, settings_in}
+use Rattle.om_document.specs.Document.{IsSpelled, is_body_line, has_signs, has_length, has_blocks, has_numbers, filled}
+use Rattle.om_document.specs.Document.{has_room, is_complete}
+use Rattle.om_document.specs.Heading.{kind_of, heading, has_elements, has_rank, has_size, rank_of_body, values_of_body}
 use Rattle.om_text.specs.Reading.{step, with_version, after_kind, first_stage, draft_of, first_draft, in_size}
 use Rattle.om_text.specs.Reading.{with_heading, takes_settings, after_setting, after_body, finished_draft, after_end}
 use Rattle.om_text.specs.Reading.{added}
-use Rattle.om_text.proofs.Filling.{is_line-Decides, has_signs_filled, has_length_filled, has_blocks_filled}
-use Rattle.om_text.proofs.Filling.{has_numbers_filled, filled_added, room_empty}
+use Rattle.om_lines.proofs.WordLines.{is_line-Decides}
+use Rattle.om_text.proofs.Filling.{has_signs_filled, has_length_filled, has_blocks_filled, has_numbers_filled}
+use Rattle.om_text.proofs.Filling.{filled_added, room_empty}
 use Rattle.om_text.proofs.SettingSteps.{IsStage, IsOpen, Shows, cond_ok, cond_err, IsSet, refused, accepted, IsBefore}
 use Rattle.om_text.proofs.SettingSteps.{before}
 

@@ -1,31 +1,15 @@
 -- The distinct members of a list, member by member.
 --
--- Main results: same_row-Decides, distinct-append, distinct-each, with_member_grows, with_each_grows
+-- Main results: distinct-append, distinct-each, with_member_grows, with_each_grows
 use Rattle.std.proofs.Common.{◌≡◌, ◌≤◌, List, [], ◌∷◌, ◌++◌, Bool, true, false, cond, not, ◌||◌, inl, inr}
 use Rattle.std.proofs.Common.{length, refl, sym, ap, ◌∙◌, arith, length-append, append_assoc, append-nil}
-use Rattle.std.specs.Prelude.{filter, Decides, IsTrue}
+use Rattle.std.specs.Prelude.{filter, IsTrue}
 use Rattle.std.specs.List.{list_any}
-use Rattle.std.proofs.lemmas.Slice.Eq.{slice_eq-Decides}
 use Rattle.std.proofs.lemmas.Bool.{cases_Bool, and_parts}
 use Rattle.om_signs.specs.declared.sign.Sign.{Sign}
-use Rattle.om_signs.specs.declared.sign.Sign.TheVariants.{Minus, Zero, Plus}
-use Rattle.om_text.specs.Rows.{same_row, distinct}
-use Rattle.om_signs.specs.Sign.{equal_signs}
+use Rattle.om_document.specs.Rows.{same_row, distinct}
+use Rattle.om_document.proofs.SameRow.{same_row-Decides}
 use Rattle.om_text.specs.Reading.{with_member, with_each}
-
-pub equal_signs-Decides : (s t : Sign) → Decides (equal_signs s t) (s ≡ t)
-equal_signs-Decides Minus Minus = (λ _. refl, λ _. refl)
-equal_signs-Decides Minus Zero = (λ h. cc, λ h. cc)
-equal_signs-Decides Minus Plus = (λ h. cc, λ h. cc)
-equal_signs-Decides Zero Minus = (λ h. cc, λ h. cc)
-equal_signs-Decides Zero Zero = (λ _. refl, λ _. refl)
-equal_signs-Decides Zero Plus = (λ h. cc, λ h. cc)
-equal_signs-Decides Plus Minus = (λ h. cc, λ h. cc)
-equal_signs-Decides Plus Zero = (λ h. cc, λ h. cc)
-equal_signs-Decides Plus Plus = (λ _. refl, λ _. refl)
-
-pub same_row-Decides : (x y : List Sign) → Decides (same_row x y) (x ≡ y)
-same_row-Decides x y = slice_eq-Decides equal_signs-Decides x y (same_row x y) refl
 
 -- the members other than y
 abbrev others : List Sign → List (List Sign) → List (List Sign)

@@ -5,26 +5,25 @@ use Rattle.std.proofs.Common.{◌≡◌, inl, inr, ℕ, ◌-◌, List, [], ◌�
 use Rattle.std.specs.Prelude.{Option, Some, None, Result, Ok, Err, is_none}
 use Rattle.std.proofs.lemmas.Bool.{cases_Bool, both_ways}
 use Rattle.om_signs.proofs.Results.{ok-injective}
-use Rattle.om_text.specs.declared.document.Document.{Document}
-use Rattle.om_text.specs.declared.code.Code.{Code}
-use Rattle.om_text.specs.declared.code.Code.TheVariants as code
+use Rattle.om_document.specs.declared.document.Document.{Document}
+use Rattle.om_document.specs.declared.code.Code.{Code}
+use Rattle.om_document.specs.declared.code.Code.TheVariants as code
 use Rattle.om_text.specs.declared.state.State.{State}
 use Rattle.om_text.specs.declared.state.State.TheVariants.{Start, Versioned, Open, Closed}
-use Rattle.om_text.specs.Lines.{words, has_any}
+use Rattle.om_lines.specs.Lines.{words, has_any, is_line, end_line, first_word}
 use Rattle.om_text.specs.declared.draft.Draft.{Draft}
 use Rattle.om_text.specs.declared.stage.Stage.{Stage}
 use Rattle.om_text.specs.declared.stage.Stage.TheVariants.{Names, Choice, Full, Body as InBody}
-use Rattle.om_text.specs.declared.setting.Setting.{Setting}
-use Rattle.om_text.specs.declared.version.Version.{Version}
-use Rattle.om_text.specs.Settings.{is_line, version_of, begins_as_setting, other_words, is_names_line, setting_in}
-use Rattle.om_text.specs.Document.{end_line, has_signs, has_length, has_blocks, has_numbers, has_room, is_complete}
-use Rattle.om_text.specs.Heading.{first_word, kind_of, heading, has_elements, has_rank, has_size, rank_of_body}
-use Rattle.om_text.specs.Heading.{values_of_body}
+use Rattle.om_document.specs.declared.setting.Setting.{Setting}
+use Rattle.om_document.specs.declared.version.Version.{Version}
+use Rattle.om_document.specs.Settings.{version_of, begins_as_setting, other_words, is_names_line, setting_in}
+use Rattle.om_document.specs.Document.{has_signs, has_length, has_blocks, has_numbers, has_room, is_complete}
+use Rattle.om_document.specs.Heading.{kind_of, heading, has_elements, has_rank, has_size, rank_of_body, values_of_body}
 use Rattle.om_text.specs.Reading.{step, advance, with_version, first_draft, in_size, with_heading, takes_settings}
 use Rattle.om_text.specs.Reading.{with_names, with_setting, after_choice, after_setting, after_body, finished_draft}
 use Rattle.om_text.specs.Reading.{after_end, added, is_closed}
 use Rattle.om_text.specs.Steps.{step_if}
-use Rattle.om_text.proofs.Filling.{is_line-Decides}
+use Rattle.om_lines.proofs.WordLines.{is_line-Decides}
 use Rattle.om_text.proofs.SettingSteps.{cond_err}
 use Rattle.om_text.proofs.CourseSteps.{heading_ok, taken}
 

@@ -3,34 +3,31 @@
 -- Main results: filled_added, room_before, room_empty, line_not_end
 use Rattle.std.proofs.Common.{◌≡◌, ℕ, ◌≤◌, List, [], ◌∷◌, ◌++◌, true, false, ◌&&◌, inl, inr, refl, sym, ap, ◌∙◌, arith}
 use Rattle.std.proofs.Common.{length-append, append_assoc, append-nil, map}
-use Rattle.std.specs.Prelude.{Decides, nat_le}
+use Rattle.std.specs.Prelude.{nat_le}
 use Rattle.std.specs.List.{concat, flat_map}
-use Rattle.std.proofs.lemmas.Slice.Eq.{slice_eq-Decides, bytes_eq-Decides}
 use Rattle.std.proofs.lemmas.List.{map-append}
 use Rattle.std.proofs.lemmas.Bool.{leb-true, le-leb, cases_Bool, and_parts}
 use Rattle.std.proofs.lemmas.List.Concat.{flat_map-append}
 use Rattle.std.proofs.lemmas.List.Folds.{concat-append}
 use Rattle.std.proofs.Math.Dec.{leb-zero}
 use Rattle.om_subsets.specs.Subsets.{choose}
-use Rattle.om_text.specs.declared.document.Document.{Document}
-use Rattle.om_text.specs.declared.body.Body.{Body}
-use Rattle.om_text.specs.declared.body.Body.TheVariants.{Chirotope, Wiring, Points}
-use Rattle.om_text.specs.Words.{sign_of_byte}
-use Rattle.om_text.specs.Rows.{distinct}
-use Rattle.om_text.specs.Members.{members_of, with_members}
-use Rattle.om_text.specs.Blocks.{blocks_on}
-use Rattle.om_text.specs.Points.{point_on}
-use Rattle.om_text.specs.declared.setting.Setting.{Setting}
-use Rattle.om_text.specs.declared.setting.Setting.TheVariants.{Plain, Revlex, Half}
-use Rattle.om_text.specs.Settings.{is_line}
-use Rattle.om_text.specs.Document.{end_line, are_signs, signs_of_line, members_of_line, all_signs, filled_body, filled}
-use Rattle.om_text.specs.Document.{size_of, room_of, has_signs_in, has_length_in, has_blocks_in, has_numbers_in}
-use Rattle.om_text.specs.Document.{has_room}
+use Rattle.om_document.specs.declared.document.Document.{Document}
+use Rattle.om_document.specs.declared.body.Body.{Body}
+use Rattle.om_document.specs.declared.body.Body.TheVariants.{Chirotope, Wiring, Points}
+use Rattle.om_lines.specs.Words.{sign_of_byte}
+use Rattle.om_document.specs.Rows.{distinct}
+use Rattle.om_document.specs.Members.{members_of, with_members}
+use Rattle.om_document.specs.Blocks.{blocks_on}
+use Rattle.om_document.specs.Points.{point_on}
+use Rattle.om_document.specs.declared.setting.Setting.{Setting}
+use Rattle.om_document.specs.declared.setting.Setting.TheVariants.{Plain, Revlex, Half}
+use Rattle.om_lines.specs.Lines.{is_line, end_line}
+use Rattle.om_lines.proofs.WordLines.{is_line-Decides}
+use Rattle.om_document.specs.Document.{are_signs, signs_of_line, members_of_line, all_signs, filled_body, filled}
+use Rattle.om_document.specs.Document.{size_of, room_of, has_signs_in, has_length_in, has_blocks_in, has_numbers_in}
+use Rattle.om_document.specs.Document.{has_room}
 use Rattle.om_text.specs.Reading.{members_on, with_line_members, added_body}
 use Rattle.om_text.proofs.Distinct.{distinct-each, with_each_grows}
-
-pub is_line-Decides : (w v : List (List ℕ)) → Decides (is_line w v) (w ≡ v)
-is_line-Decides w v = slice_eq-Decides bytes_eq-Decides w v (is_line w v) refl
 
 -- a line of signs isn't the end line
 pub signs_not_end : (w : List (List ℕ)) → are_signs w ≡ true → is_line w end_line ≡ false

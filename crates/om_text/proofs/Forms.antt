@@ -16,30 +16,30 @@ use Rattle.om_signs.specs.Sign.{opposite}
 use Rattle.om_subsets.specs.Subsets.{choose, all_subsets}
 use Rattle.om_subsets.specs.Reverse.{revlex_rank_of}
 use Rattle.om_subsets.proofs.Order.{length-subsets_from}
-use Rattle.om_text.specs.declared.document.Document.{Document}
-use Rattle.om_text.specs.declared.body.Body.TheVariants.{Chirotope}
-use Rattle.om_text.specs.declared.setting.Setting.{Setting}
-use Rattle.om_text.specs.declared.setting.Setting.TheVariants.{Plain, Revlex, Half}
-use Rattle.om_text.specs.declared.kind.DocumentKind.{DocumentKind}
-use Rattle.om_text.specs.declared.kind.DocumentKind.TheVariants as kinds
-use Rattle.om_text.specs.Words.{sign_of_byte}
-use Rattle.om_text.specs.Heading.{kind_of, numbers, opened, headed, heading, empty_body, has_elements, has_rank}
-use Rattle.om_text.specs.Heading.{has_size}
-use Rattle.om_text.specs.Rows.{same_row, distinct}
-use Rattle.om_text.specs.Settings.{in_lexicographic_order, finished}
-use Rattle.om_text.specs.Document.{IsSpelled, are_signs, signs_of_line, members_of_line, all_signs, is_body_line}
-use Rattle.om_text.specs.Document.{has_room, is_complete, filled, filled_body}
-use Rattle.om_text.specs.Form.{IsInForm, AreMembersOn, IsShort, AreBlocks, IsPoint, ArePointsOn, IsBodyOn, IsMapOn}
-use Rattle.om_text.specs.Form.{AreNamesOn}
+use Rattle.om_document.specs.declared.document.Document.{Document}
+use Rattle.om_document.specs.declared.body.Body.TheVariants.{Chirotope}
+use Rattle.om_document.specs.declared.setting.Setting.{Setting}
+use Rattle.om_document.specs.declared.setting.Setting.TheVariants.{Plain, Revlex, Half}
+use Rattle.om_document.specs.declared.document_kind.DocumentKind.{DocumentKind}
+use Rattle.om_document.specs.declared.document_kind.DocumentKind.TheVariants as kinds
+use Rattle.om_lines.specs.Words.{sign_of_byte}
+use Rattle.om_document.specs.Heading.{kind_of, numbers, opened, headed, heading, empty_body, has_elements, has_rank}
+use Rattle.om_document.specs.Heading.{has_size}
+use Rattle.om_document.specs.Rows.{same_row, distinct}
+use Rattle.om_document.specs.Settings.{in_lexicographic_order, finished}
+use Rattle.om_document.specs.Document.{IsSpelled, are_signs, signs_of_line, members_of_line, all_signs, is_body_line}
+use Rattle.om_document.specs.Document.{has_room, is_complete, filled, filled_body}
+use Rattle.om_document.specs.Form.{IsInForm, AreMembersOn, IsShort, AreBlocks, IsPoint, ArePointsOn, IsBodyOn, IsMapOn}
+use Rattle.om_document.specs.Form.{AreNamesOn}
 use Rattle.om_signs.specs.Coordinates.{IsCoordinate}
-use Rattle.om_text.specs.Blocks.{position_of, is_dash, with_positions, block_of, block_on, are_blocks, blocks_on}
-use Rattle.om_text.specs.Points.{coordinate, with_three, point_of, point_on}
+use Rattle.om_document.specs.Blocks.{position_of, is_dash, with_positions, block_of, block_on, are_blocks, blocks_on}
+use Rattle.om_document.specs.Points.{coordinate, with_three, point_of, point_on}
 use Rattle.om_text.proofs.SettingLines.{settings_names}
 use Rattle.om_text.proofs.Course.{named}
-use Rattle.om_text.proofs.BlockWords.{position_within}
-use Rattle.om_text.proofs.Digits.{signed_within}
+use Rattle.om_document.proofs.BlockWords.{position_within}
+use Rattle.om_lines.proofs.Digits.{signed_within}
 use Rattle.om_text.proofs.Small.{mapped}
-use Rattle.om_text.proofs.Sorting.{distinct_differ}
+use Rattle.om_document.proofs.Sorting.{distinct_differ}
 
 All-distinct : (P : List Sign → Type 0) (xs : List (List Sign)) → All P xs → All P (distinct xs)
 All-distinct P [] h = h

@@ -15,9 +15,9 @@ use Rattle.std.proofs.Math.Seq.{set-append_seam}
 use Rattle.std.proofs.lemmas.Bool.{cases_Bool}
 use Rattle.om_signs.specs.declared.sign.Sign.TheVariants.{Zero}
 use Rattle.om_signs.specs.declared.sign.Sign.{Sign}
-use Rattle.om_text.specs.Lines.{with_first, is_blank, pieces, has_any, runs}
-use Rattle.om_text.specs.Words.{is_sign, sign_of_byte}
-use Rattle.om_text.specs.Document.{are_signs, signs_of_line}
+use Rattle.om_lines.specs.Lines.{with_first, is_blank, pieces, has_any, runs}
+use Rattle.om_lines.specs.Words.{is_sign, sign_of_byte}
+use Rattle.om_document.specs.Document.{are_signs, signs_of_line}
 
 -- the bytes of a line other than blanks
 abbrev pub full_bytes : List ℕ → List ℕ

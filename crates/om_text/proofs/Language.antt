@@ -5,13 +5,12 @@
 use Rattle.std.proofs.Common.{◌≡◌, ℕ, suc, ◌+◌, List, [], ◌∷◌, ◌++◌, ◌⊎◌, inl, inr, length, refl, sym, ap, subst, ◌∙◌}
 use Rattle.std.proofs.Common.{arith, length-append, append_assoc, append-nil, map}
 use Rattle.std.specs.Prelude.{Option, Some, None, Result, Ok, Err, filter}
-use Rattle.std.proofs.lemmas.List.{map-append}
-use Rattle.std.proofs.lemmas.List.Elements.{filter-append}
 use Rattle.om_signs.proofs.Results.{ok-injective}
-use Rattle.om_text.specs.declared.code.Code.{Code}
-use Rattle.om_text.specs.declared.code.Code.TheVariants as code
-use Rattle.om_text.specs.Lines.{words, wordful, has_any}
-use Rattle.om_text.specs.Fault.{Begins, IsFaultIn, at_line, at_end}
+use Rattle.om_document.specs.declared.code.Code.{Code}
+use Rattle.om_document.specs.declared.code.Code.TheVariants as code
+use Rattle.om_lines.specs.Lines.{words, wordful, has_any, Begins}
+use Rattle.om_text.specs.Fault.{IsFaultIn, at_line, at_end}
+use Rattle.om_lines.proofs.WordLines.{wordful-append}
 use Rattle.om_text.specs.Steps.{step_if, advance_by, finish_by, then_lines, outcome_by}
 
 abbrev pub bind : {S : Type 0} → Result S Code → (S → Result S Code) → Result S Code
@@ -22,10 +21,6 @@ bind (Err c) f = Err c
 abbrev pub run_words : {S : Type 0} → (S → List (List ℕ) → Result S Code) → S → List (List (List ℕ)) → Result S Code
 run_words step s [] = Ok s
 run_words step s (w ∷ ws) = bind (step s w) (λ t. run_words step t ws)
-
-pub wordful-append : (xs ys : List (List ℕ)) → wordful (xs ++ ys) ≡ wordful xs ++ wordful ys
-wordful-append xs ys = ap (filter has_any) (map-append words xs ys)
-    ∙ filter-append has_any (map words xs) (map words ys)
 
 -- a value of the lines with words is what the lines are
 abbrev pub AreIn : {V : Type 0} → (List (List (List ℕ)) → V → Type 0) → List (List ℕ) → Type 0

@@ -2,10 +2,10 @@
 use Rattle.std.proofs.Common.{◌≡◌, List, [], ◌∷◌, ℕ, refl}
 use Rattle.std.specs.Prelude.{codes}
 use Rattle.om_signs.specs.declared.sign.Sign.TheVariants.{Minus, Zero, Plus}
-use Rattle.om_text.specs.declared.body.Body.TheVariants.{Circuits, Cocircuits, Covectors}
-use Rattle.om_text.specs.declared.code.Code.TheVariants as code
-use Rattle.om_text.specs.Rows.{sorted}
-use Rattle.om_text.specs.Document.{IsDocument}
+use Rattle.om_document.specs.declared.body.Body.TheVariants.{Circuits, Cocircuits, Covectors}
+use Rattle.om_document.specs.declared.code.Code.TheVariants as code
+use Rattle.om_document.specs.Rows.{sorted}
+use Rattle.om_document.specs.Document.{IsDocument}
 use Rattle.om_text.specs.Fault.{IsFault}
 use Rattle.om_text.proofs.Outcome.{document_from, fault_from}
 

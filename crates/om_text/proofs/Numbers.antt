@@ -4,9 +4,9 @@
 -- Main results: many_numbers
 use Rattle.std.proofs.Common.{◌≡◌, ℕ, ◌≤◌, List, [], ◌∷◌, ◌++◌, length, refl, sym, ap, ◌∙◌, arith, length-append}
 use Rattle.std.specs.Prelude.{Option, Some, None, option_and_then}
-use Rattle.om_text.specs.declared.kind.DocumentKind.{DocumentKind}
-use Rattle.om_text.specs.declared.kind.DocumentKind.TheVariants as kinds
-use Rattle.om_text.specs.Heading.{sizes}
+use Rattle.om_document.specs.declared.document_kind.DocumentKind.{DocumentKind}
+use Rattle.om_document.specs.declared.document_kind.DocumentKind.TheVariants as kinds
+use Rattle.om_document.specs.Heading.{sizes}
 
 -- numbers in front of others, where there are these
 abbrev pub after_numbers : List ℕ → Option (List ℕ) → Option (List ℕ)

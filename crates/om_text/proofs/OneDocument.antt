@@ -7,16 +7,16 @@ use Rattle.std.specs.Prelude.{Result, Ok, Err}
 use Rattle.std.proofs.lemmas.Bool.{cases_lt, both_ways}
 use Rattle.std.proofs.lemmas.List.{take-append-drop, take-append-le, take-take, length-take-le}
 use Rattle.om_signs.proofs.Results.{ok-injective}
-use Rattle.om_text.specs.declared.document.Document.{Document}
-use Rattle.om_text.specs.declared.code.Code.{Code}
-use Rattle.om_text.specs.declared.code.Code.TheVariants as code
+use Rattle.om_document.specs.declared.document.Document.{Document}
+use Rattle.om_document.specs.declared.code.Code.{Code}
+use Rattle.om_document.specs.declared.code.Code.TheVariants as code
 use Rattle.om_text.specs.declared.state.State.{State}
 use Rattle.om_text.specs.declared.state.State.TheVariants.{Start, Versioned, Open, Closed}
-use Rattle.om_text.specs.Lines.{lines, words, wordful}
-use Rattle.om_text.specs.Document.{IsDocument, end_line}
+use Rattle.om_lines.specs.Lines.{lines, words, wordful, end_line}
+use Rattle.om_document.specs.Document.{IsDocument}
 use Rattle.om_text.specs.Fault.{IsFault}
 use Rattle.om_text.specs.Part.{IsDocumentAtFront}
-use Rattle.om_text.specs.Print.{text_of}
+use Rattle.om_document.specs.Print.{text_of}
 use Rattle.om_text.specs.Reading.{advance, is_closed, outcome}
 use Rattle.om_text.proofs.Course.{run_words, spelled_run}
 use Rattle.om_text.proofs.Outcome.{outcome_from, same_value, begun, run_next, run_on, outcome_run}

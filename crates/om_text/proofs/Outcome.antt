@@ -8,21 +8,21 @@ use Rattle.std.specs.Prelude.{Option, Some, Result, Ok, Err, IfOk}
 use Rattle.std.specs.List.{list_all}
 use Rattle.std.proofs.lemmas.List.{length-take-le, take-append-drop}
 use Rattle.std.proofs.Math.Seq.{take-append_seam}
-use Rattle.om_text.specs.declared.document.Document.{Document}
+use Rattle.om_document.specs.declared.document.Document.{Document}
 use Rattle.om_text.specs.declared.parse_error.ParseError.{ParseError}
 use Rattle.om_text.specs.declared.parse_error.ParseError.TheVariants as error
-use Rattle.om_text.specs.declared.code.Code.{Code}
+use Rattle.om_document.specs.declared.code.Code.{Code}
 use Rattle.om_text.specs.declared.state.State.{State}
 use Rattle.om_text.specs.declared.state.State.TheVariants.{Start, Versioned, Open, Closed}
-use Rattle.om_text.specs.Lines.{lines, wordful}
-use Rattle.om_text.specs.Document.{IsSpelled, IsDocument}
-use Rattle.om_text.specs.Fault.{AreDocument, Begins, IsFault, role, table, first_of}
-use Rattle.om_text.specs.Print.{text_of}
+use Rattle.om_lines.specs.Lines.{lines, wordful, Begins}
+use Rattle.om_document.specs.Document.{IsSpelled, IsDocument}
+use Rattle.om_text.specs.Fault.{AreDocument, IsFault, role, table, first_of}
+use Rattle.om_document.specs.Print.{text_of}
 use Rattle.om_text.specs.Parsed.{IsAnswerUnlessMemory, IfLine}
 use Rattle.om_text.specs.Reading.{step, advance, value_of, outcome}
-use Rattle.om_text.specs.Form.{IsInForm}
+use Rattle.om_document.specs.Form.{IsInForm}
 use Rattle.om_text.proofs.Forms.{document_form}
-use Rattle.om_text.proofs.Feeds.{is_one_line, lines_text, lines_one_line, one_line-take, one_line-append}
+use Rattle.om_document.proofs.Feeds.{is_one_line, lines_text, lines_one_line, one_line-take, one_line-append}
 use Rattle.om_text.proofs.SettingSteps.{Shows}
 use Rattle.om_text.proofs.CourseSteps.{step_shows}
 use Rattle.om_text.proofs.StepErrors.{step_error}

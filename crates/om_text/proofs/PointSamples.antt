@@ -1,13 +1,13 @@
 -- The definitions at small inputs: signed numbers, documents of points, and their faults.
 use Rattle.std.proofs.Common.{◌≡◌, List, [], ◌∷◌, ℕ, refl}
 use Rattle.std.specs.Prelude.{pos, negsuc, codes, Some, None}
-use Rattle.om_text.specs.declared.body.Body.TheVariants.{Points}
-use Rattle.om_text.specs.declared.code.Code.TheVariants as code
+use Rattle.om_document.specs.declared.body.Body.TheVariants.{Points}
+use Rattle.om_document.specs.declared.code.Code.TheVariants as code
 use Rattle.std.specs.Fmt.{digits}
-use Rattle.om_text.specs.Words.{unsigned, signed}
-use Rattle.om_text.specs.Points.{coordinate}
-use Rattle.om_text.specs.Print.{point_lines}
-use Rattle.om_text.specs.Document.{IsDocument}
+use Rattle.om_lines.specs.Words.{unsigned, signed}
+use Rattle.om_document.specs.Points.{coordinate}
+use Rattle.om_document.specs.Print.{point_lines}
+use Rattle.om_document.specs.Document.{IsDocument}
 use Rattle.om_text.specs.Fault.{IsFault}
 use Rattle.om_text.proofs.Outcome.{document_from, fault_from}
 

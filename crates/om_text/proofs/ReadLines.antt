@@ -10,19 +10,19 @@ use Rattle.std.specs.List.{list_all}
 use Rattle.std.proofs.lemmas.Bool.{and_parts}
 use Rattle.std.proofs.lemmas.List.{take_all, drop_all}
 use Rattle.std.proofs.Math.Seq.{drop-append_seam, take-append_seam}
-use Rattle.om_text.specs.declared.document.Document.{Document}
-use Rattle.om_text.specs.declared.code.Code.{Code}
+use Rattle.om_document.specs.declared.document.Document.{Document}
+use Rattle.om_document.specs.declared.code.Code.{Code}
 use Rattle.om_text.specs.declared.state.State.{State}
 use Rattle.om_text.specs.declared.state.State.TheVariants.{Start, Closed}
-use Rattle.om_text.specs.Lines.{lines, wordful, IsSplit}
-use Rattle.om_text.specs.Document.{IsDocument}
+use Rattle.om_lines.specs.Lines.{lines, wordful, IsSplit}
+use Rattle.om_document.specs.Document.{IsDocument}
 use Rattle.om_text.specs.Fault.{IsFault}
 use Rattle.om_text.specs.Part.{EndsWithEnd, IsDocumentAtFront}
-use Rattle.om_text.specs.Print.{text_of}
+use Rattle.om_document.specs.Print.{text_of}
 use Rattle.om_text.specs.Reading.{advance, is_closed, outcome}
-use Rattle.om_text.proofs.Feeds.{is_one_line, lines_text, lines_one_line, one_line-append}
+use Rattle.om_document.proofs.Feeds.{is_one_line, lines_text, lines_one_line, one_line-append}
 use Rattle.om_text.proofs.Course.{run_words}
-use Rattle.om_text.proofs.Printing.{text_of-append}
+use Rattle.om_document.proofs.Printing.{text_of-append}
 use Rattle.om_text.proofs.Outcome.{fault_from, run_document, run_next, outcome_run}
 use Rattle.om_text.proofs.DocumentEnds.{line_closes}
 

@@ -14,7 +14,7 @@ use Rattle.om_signs.specs.declared.sign.Sign.TheVariants.{Zero}
 use Rattle.om_subsets.specs.Subsets.{choose, all_subsets, subset_at}
 use Rattle.om_subsets.specs.Reverse.{revlex_rank_of}
 use Rattle.om_subsets.proofs.Order.{length-subsets_from}
-use Rattle.om_text.specs.Settings.{values_from_revlex}
+use Rattle.om_document.specs.Settings.{values_from_revlex}
 
 -- the value of a set, where the values stand in reverse lexicographic order
 abbrev pub value_at : RawMap → List ℕ → Sign

@@ -8,21 +8,21 @@ use Rattle.std.specs.Prelude.{Option, Some, None, codes, bytes_eq, option_map, i
 use Rattle.std.specs.List.{list_all, list_any}
 use Rattle.std.proofs.lemmas.Slice.Eq.{bytes_eq-Decides}
 use Rattle.std.proofs.lemmas.Bool.{cases_Bool, and_parts}
-use Rattle.om_text.specs.declared.document.Document.{Document}
-use Rattle.om_text.specs.declared.body.Body.{Body}
-use Rattle.om_text.specs.declared.body.Body.TheVariants.{Chirotope, Wiring, Points}
-use Rattle.om_text.specs.declared.version.Version.{Version}
-use Rattle.om_text.specs.declared.version.Version.TheVariants.{One, Two}
-use Rattle.om_text.specs.declared.setting.Setting.{Setting}
-use Rattle.om_text.specs.declared.setting.Setting.TheVariants.{Plain}
-use Rattle.om_text.specs.Heading.{first_word}
-use Rattle.om_text.specs.Names.{are_names}
-use Rattle.om_text.specs.Settings.{is_line, begins_as_setting, other_words, is_names_line, setting_in, set_by}
-use Rattle.om_text.specs.Settings.{settings_in, front_settings, behind_settings}
-use Rattle.om_text.specs.Document.{end_line, are_signs, has_signs_in, has_length_in, has_blocks_in, has_numbers_in}
-use Rattle.om_text.specs.Document.{is_body_line, filled_body}
-use Rattle.om_text.specs.Points.{point_of}
-use Rattle.om_text.proofs.Filling.{is_line-Decides}
+use Rattle.om_document.specs.declared.document.Document.{Document}
+use Rattle.om_document.specs.declared.body.Body.{Body}
+use Rattle.om_document.specs.declared.body.Body.TheVariants.{Chirotope, Wiring, Points}
+use Rattle.om_document.specs.declared.version.Version.{Version}
+use Rattle.om_document.specs.declared.version.Version.TheVariants.{One, Two}
+use Rattle.om_document.specs.declared.setting.Setting.{Setting}
+use Rattle.om_document.specs.declared.setting.Setting.TheVariants.{Plain}
+use Rattle.om_lines.specs.Lines.{first_word, is_line, end_line}
+use Rattle.om_document.specs.Names.{are_names}
+use Rattle.om_document.specs.Settings.{begins_as_setting, other_words, is_names_line, setting_in, set_by, settings_in}
+use Rattle.om_document.specs.Settings.{front_settings, behind_settings}
+use Rattle.om_document.specs.Document.{are_signs, has_signs_in, has_length_in, has_blocks_in, has_numbers_in}
+use Rattle.om_document.specs.Document.{is_body_line, filled_body}
+use Rattle.om_document.specs.Points.{point_of}
+use Rattle.om_lines.proofs.WordLines.{is_line-Decides}
 
 -- ---- lines that begin as setting lines do
 

@@ -2,11 +2,11 @@
 use Rattle.std.proofs.Common.{◌≡◌, List, [], ◌∷◌, ℕ, true, false, refl}
 use Rattle.std.specs.Prelude.{codes}
 use Rattle.om_signs.specs.declared.sign.Sign.TheVariants.{Minus, Zero, Plus}
-use Rattle.om_text.specs.declared.body.Body.TheVariants.{Chirotope, Circuits, Covectors, Wiring}
-use Rattle.om_text.specs.declared.code.Code.TheVariants as code
-use Rattle.om_text.specs.Names.{is_name, are_names}
-use Rattle.om_text.specs.Settings.{values_from_revlex}
-use Rattle.om_text.specs.Document.{IsDocument}
+use Rattle.om_document.specs.declared.body.Body.TheVariants.{Chirotope, Circuits, Covectors, Wiring}
+use Rattle.om_document.specs.declared.code.Code.TheVariants as code
+use Rattle.om_document.specs.Names.{is_name, are_names}
+use Rattle.om_document.specs.Settings.{values_from_revlex}
+use Rattle.om_document.specs.Document.{IsDocument}
 use Rattle.om_text.specs.Fault.{IsFault}
 use Rattle.om_text.proofs.Outcome.{document_from, fault_from}
 

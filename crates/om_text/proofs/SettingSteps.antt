@@ -7,23 +7,23 @@ use Rattle.std.proofs.Common.{subst, ◌∙◌, append-nil}
 use Rattle.std.specs.Prelude.{Option, Some, None, Result, Ok, Err, option_map}
 use Rattle.std.specs.List.{list_all}
 use Rattle.std.proofs.lemmas.Bool.{cases_Bool, and_parts}
-use Rattle.om_text.specs.declared.document.Document.{Document}
-use Rattle.om_text.specs.declared.code.Code.{Code}
-use Rattle.om_text.specs.declared.code.Code.TheVariants as code
+use Rattle.om_document.specs.declared.document.Document.{Document}
+use Rattle.om_document.specs.declared.code.Code.{Code}
+use Rattle.om_document.specs.declared.code.Code.TheVariants as code
 use Rattle.om_text.specs.declared.state.State.{State}
 use Rattle.om_text.specs.declared.state.State.TheVariants.{Start, Versioned, Open, Closed}
 use Rattle.om_text.specs.declared.draft.Draft.{Draft}
 use Rattle.om_text.specs.declared.stage.Stage.{Stage}
 use Rattle.om_text.specs.declared.stage.Stage.TheVariants.{Names, Choice, Full, Body as InBody}
-use Rattle.om_text.specs.declared.setting.Setting.{Setting}
-use Rattle.om_text.specs.declared.setting.Setting.TheVariants.{Plain}
-use Rattle.om_text.specs.declared.version.Version.{Version}
-use Rattle.om_text.specs.declared.version.Version.TheVariants.{One, Two}
-use Rattle.om_text.specs.Lines.{has_any}
-use Rattle.om_text.specs.Settings.{version_of, begins_as_setting, other_words, is_names_line, setting_in, settings_of}
-use Rattle.om_text.specs.Settings.{settings_in}
-use Rattle.om_text.specs.Document.{IsSpelled, is_body_line, filled_body, filled, has_room}
-use Rattle.om_text.specs.Heading.{has_elements, has_rank, has_size, heading}
+use Rattle.om_document.specs.declared.setting.Setting.{Setting}
+use Rattle.om_document.specs.declared.setting.Setting.TheVariants.{Plain}
+use Rattle.om_document.specs.declared.version.Version.{Version}
+use Rattle.om_document.specs.declared.version.Version.TheVariants.{One, Two}
+use Rattle.om_lines.specs.Lines.{has_any}
+use Rattle.om_document.specs.Settings.{version_of, begins_as_setting, other_words, is_names_line, setting_in}
+use Rattle.om_document.specs.Settings.{settings_of, settings_in}
+use Rattle.om_document.specs.Document.{IsSpelled, is_body_line, filled_body, filled, has_room}
+use Rattle.om_document.specs.Heading.{has_elements, has_rank, has_size, heading}
 use Rattle.om_text.specs.Reading.{draft_of, takes_settings, with_setting, after_setting}
 use Rattle.om_text.proofs.Filling.{empty_filled}
 use Rattle.om_text.proofs.SettingLines.{setting_same}

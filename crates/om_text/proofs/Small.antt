@@ -6,26 +6,26 @@ use Rattle.std.specs.Prelude.{Option, Some, None, Result, Ok, is_none, option_ma
 use Rattle.std.proofs.lemmas.Bool.{leb-true, cases_Bool, and_parts}
 use Rattle.om_signs.specs.declared.limits.TheConstants.{MAX_ELEMENTS}
 use Rattle.om_signs.proofs.Results.{ok-injective}
-use Rattle.om_text.specs.declared.document.Document.{Document}
-use Rattle.om_text.specs.declared.body.Body.{Body}
-use Rattle.om_text.specs.declared.body.Body.TheVariants.{Chirotope, Points}
-use Rattle.om_text.specs.declared.code.Code.{Code}
-use Rattle.om_text.specs.declared.code.Code.TheVariants as code
-use Rattle.om_text.specs.declared.kind.DocumentKind.{DocumentKind}
-use Rattle.om_text.specs.declared.kind.DocumentKind.TheVariants as kinds
+use Rattle.om_document.specs.declared.document.Document.{Document}
+use Rattle.om_document.specs.declared.body.Body.{Body}
+use Rattle.om_document.specs.declared.body.Body.TheVariants.{Chirotope, Points}
+use Rattle.om_document.specs.declared.code.Code.{Code}
+use Rattle.om_document.specs.declared.code.Code.TheVariants as code
+use Rattle.om_document.specs.declared.document_kind.DocumentKind.{DocumentKind}
+use Rattle.om_document.specs.declared.document_kind.DocumentKind.TheVariants as kinds
 use Rattle.om_text.specs.declared.state.State.{State}
 use Rattle.om_text.specs.declared.state.State.TheVariants.{Start, Versioned, Open, Closed}
-use Rattle.om_text.specs.Lines.{words, has_any}
+use Rattle.om_lines.specs.Lines.{words, has_any, is_line, end_line, first_word}
 use Rattle.om_text.specs.declared.draft.Draft.{Draft}
 use Rattle.om_text.specs.declared.stage.Stage.{Stage}
 use Rattle.om_text.specs.declared.stage.Stage.TheVariants.{Names, Choice, Full, Body as InBody}
-use Rattle.om_text.specs.declared.setting.Setting.{Setting}
-use Rattle.om_text.specs.declared.setting.Setting.TheVariants.{Plain}
-use Rattle.om_text.specs.declared.version.Version.{Version}
-use Rattle.om_text.specs.Settings.{is_line, version_of, begins_as_setting, other_words, is_names_line, setting_in}
-use Rattle.om_text.specs.Document.{end_line, filled_body, is_complete}
-use Rattle.om_text.specs.Heading.{first_word, kind_of, heading, opened, headed, empty_body, numbers, has_elements}
-use Rattle.om_text.specs.Heading.{has_rank, rank_of_body}
+use Rattle.om_document.specs.declared.setting.Setting.{Setting}
+use Rattle.om_document.specs.declared.setting.Setting.TheVariants.{Plain}
+use Rattle.om_document.specs.declared.version.Version.{Version}
+use Rattle.om_document.specs.Settings.{version_of, begins_as_setting, other_words, is_names_line, setting_in}
+use Rattle.om_document.specs.Document.{filled_body, is_complete}
+use Rattle.om_document.specs.Heading.{kind_of, heading, opened, headed, empty_body, numbers, has_elements, has_rank}
+use Rattle.om_document.specs.Heading.{rank_of_body}
 use Rattle.om_text.specs.Reading.{step, advance, with_version, first_draft, with_heading, takes_settings, with_names}
 use Rattle.om_text.specs.Reading.{with_setting, after_choice, after_setting, after_body, finished_draft, after_end}
 use Rattle.om_text.specs.Reading.{added, added_body}

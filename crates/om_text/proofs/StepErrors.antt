@@ -8,23 +8,22 @@ use Rattle.std.specs.Prelude.{Option, Some, None, Result, Ok, Err, is_none, opti
 use Rattle.std.specs.List.{list_any, list_all}
 use Rattle.std.proofs.lemmas.List.Folds.{list_any-append}
 use Rattle.std.proofs.lemmas.Bool.{cases_Bool, and_parts}
-use Rattle.om_text.specs.declared.document.Document.{Document}
-use Rattle.om_text.specs.declared.code.Code.{Code}
-use Rattle.om_text.specs.declared.code.Code.TheVariants as code
+use Rattle.om_document.specs.declared.document.Document.{Document}
+use Rattle.om_document.specs.declared.code.Code.{Code}
+use Rattle.om_document.specs.declared.code.Code.TheVariants as code
 use Rattle.om_text.specs.declared.state.State.{State}
 use Rattle.om_text.specs.declared.state.State.TheVariants.{Start, Versioned, Open, Closed}
 use Rattle.om_text.specs.declared.draft.Draft.{Draft}
 use Rattle.om_text.specs.declared.stage.Stage.{Stage}
 use Rattle.om_text.specs.declared.stage.Stage.TheVariants.{Names, Choice, Full, Body as InBody}
-use Rattle.om_text.specs.declared.setting.Setting.{Setting}
-use Rattle.om_text.specs.declared.version.Version.{Version}
-use Rattle.om_text.specs.declared.version.Version.TheVariants.{One, Two}
-use Rattle.om_text.specs.Lines.{has_any}
-use Rattle.om_text.specs.Settings.{is_line, version_of, begins_as_setting, settings_in}
-use Rattle.om_text.specs.Document.{IsSpelled, end_line, is_body_line, has_signs, has_length, has_blocks, has_numbers}
-use Rattle.om_text.specs.Document.{filled, has_room, is_complete}
-use Rattle.om_text.specs.Heading.{first_word, kind_of, heading, has_elements, has_rank, has_size, rank_of_body}
-use Rattle.om_text.specs.Heading.{values_of_body}
+use Rattle.om_document.specs.declared.setting.Setting.{Setting}
+use Rattle.om_document.specs.declared.version.Version.{Version}
+use Rattle.om_document.specs.declared.version.Version.TheVariants.{One, Two}
+use Rattle.om_lines.specs.Lines.{has_any, is_line, end_line, first_word}
+use Rattle.om_document.specs.Settings.{version_of, begins_as_setting, settings_in}
+use Rattle.om_document.specs.Document.{IsSpelled, is_body_line, has_signs, has_length, has_blocks, has_numbers, filled}
+use Rattle.om_document.specs.Document.{has_room, is_complete}
+use Rattle.om_document.specs.Heading.{kind_of, heading, has_elements, has_rank, has_size, rank_of_body, values_of_body}
 use Rattle.om_text.specs.Fault.{kind, setting, body, «end», after, role_in_body, role_after_kind, role, when, first_of}
 use Rattle.om_text.specs.Fault.{table}
 use Rattle.om_text.specs.Reading.{step, with_version, after_kind, draft_of, first_draft, in_size, with_heading}

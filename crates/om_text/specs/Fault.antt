@@ -4,19 +4,18 @@
 use Rattle.std.specs.Prelude.{ℕ, ◌≡◌, ◌+◌, List, [], ◌∷◌, ◌++◌, Bool, true, false, cond, not, ◌&&◌, length, Option}
 use Rattle.std.specs.Prelude.{Some, None, is_none, option_and_then}
 use Rattle.std.specs.List.{list_all, list_any}
-use Rattle.om_text.specs.declared.document.Document.{Document}
-use Rattle.om_text.specs.declared.code.Code.{Code}
-use Rattle.om_text.specs.declared.code.Code.TheVariants as code
-use Rattle.om_text.specs.declared.version.Version.{Version}
-use Rattle.om_text.specs.declared.version.Version.TheVariants.{One, Two}
-use Rattle.om_text.specs.declared.setting.Setting.{Setting}
-use Rattle.om_text.specs.Lines.{words, wordful}
-use Rattle.om_text.specs.Settings.{is_line, version_of, begins_as_setting, settings_of, settings_in, front_settings}
-use Rattle.om_text.specs.Settings.{behind_settings}
-use Rattle.om_text.specs.Document.{IsDocument, end_line, has_signs, has_length, has_blocks, has_numbers, filled}
-use Rattle.om_text.specs.Document.{has_room, is_complete}
-use Rattle.om_text.specs.Heading.{first_word, kind_of, heading, has_elements, has_rank, has_size, rank_of_body}
-use Rattle.om_text.specs.Heading.{values_of_body}
+use Rattle.om_document.specs.declared.document.Document.{Document}
+use Rattle.om_document.specs.declared.code.Code.{Code}
+use Rattle.om_document.specs.declared.code.Code.TheVariants as code
+use Rattle.om_document.specs.declared.version.Version.{Version}
+use Rattle.om_document.specs.declared.version.Version.TheVariants.{One, Two}
+use Rattle.om_document.specs.declared.setting.Setting.{Setting}
+use Rattle.om_lines.specs.Lines.{words, wordful, is_line, end_line, first_word, Begins}
+use Rattle.om_document.specs.Settings.{version_of, begins_as_setting, settings_of, settings_in, front_settings}
+use Rattle.om_document.specs.Settings.{behind_settings}
+use Rattle.om_document.specs.Document.{IsDocument, has_signs, has_length, has_blocks, has_numbers, filled, has_room}
+use Rattle.om_document.specs.Document.{is_complete}
+use Rattle.om_document.specs.Heading.{kind_of, heading, has_elements, has_rank, has_size, rank_of_body, values_of_body}
 
 -- What a non-blank line is, given the non-blank lines before it. It may be the first line or the kind line. It may
 -- be a line that begins as a setting line does, directly after the kind line of version 2 and the setting lines so
@@ -154,10 +153,6 @@ abbrev pub first_of : List (Option Code) → Option Code
 first_of [] = None
 first_of (None ∷ rows) = first_of rows
 first_of (Some c ∷ rows) = Some c
-
--- some list of lines in the language, of any length, begins with these lines
-abbrev pub Begins : (List (List ℕ) → Type 0) → List (List ℕ) → Type 0
-Begins Language ls = (more : List (List ℕ)) × Language (ls ++ more)
 
 -- Line number L of the lines is the first at fault in a language, and c is its code. No list of the language begins
 -- with the lines 1 to L, and some list of it begins with the lines before L. The end of the lines is the line after

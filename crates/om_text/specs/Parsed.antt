@@ -2,7 +2,7 @@
 --
 -- Trusted: the contracts of `parse` and `parse_part` use these definitions.
 use Rattle.std.specs.Prelude.{ℕ, ◌≡◌, Result, Ok, Err}
-use Rattle.om_text.specs.declared.code.Code.{Code}
+use Rattle.om_document.specs.declared.code.Code.{Code}
 use Rattle.om_text.specs.declared.parse_error.ParseError.{ParseError}
 use Rattle.om_text.specs.declared.parse_error.ParseError.TheVariants as error
 

@@ -2,10 +2,10 @@
 --
 -- Trusted: the contract of `parse_part` uses these definitions.
 use Rattle.std.specs.Prelude.{ℕ, ◌≡◌, ◌≤◌, min, List, [], ◌∷◌, ◌++◌, length, take, drop}
-use Rattle.om_text.specs.declared.document.Document.{Document}
-use Rattle.om_text.specs.Lines.{lines, words}
-use Rattle.om_text.specs.Document.{IsDocument, end_line}
-use Rattle.om_text.specs.Print.{text_of}
+use Rattle.om_document.specs.declared.document.Document.{Document}
+use Rattle.om_lines.specs.Lines.{lines, words, end_line}
+use Rattle.om_document.specs.Document.{IsDocument}
+use Rattle.om_document.specs.Print.{text_of}
 
 -- the last of the lines is an end line
 pub record EndsWithEnd (ls : List (List ℕ)) : Type 0 where

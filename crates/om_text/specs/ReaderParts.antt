@@ -6,24 +6,24 @@ use Rattle.om_signs.specs.declared.block.Block.{Block}
 use Rattle.om_signs.specs.declared.raw_map.RawMap.{RawMap}
 use Rattle.om_subsets.specs.Subsets.{choose}
 use Rattle.om_signs.specs.declared.sign.Sign.{Sign}
-use Rattle.om_text.specs.declared.document.Document.{Document}
-use Rattle.om_text.specs.declared.body.Body.{Body}
-use Rattle.om_text.specs.declared.body.Body.TheVariants.{Chirotope}
-use Rattle.om_text.specs.declared.code.Code.{Code}
-use Rattle.om_text.specs.declared.code.Code.TheVariants as code
+use Rattle.om_document.specs.declared.document.Document.{Document}
+use Rattle.om_document.specs.declared.body.Body.{Body}
+use Rattle.om_document.specs.declared.body.Body.TheVariants.{Chirotope}
+use Rattle.om_document.specs.declared.code.Code.{Code}
+use Rattle.om_document.specs.declared.code.Code.TheVariants as code
 use Rattle.om_text.specs.declared.refusal.Refusal.{Refusal}
 use Rattle.om_text.specs.declared.refusal.Refusal.TheVariants as refusal
 use Rattle.om_text.specs.declared.state.State.{State}
 use Rattle.om_text.specs.declared.state.State.TheVariants.{Start, Open}
 use Rattle.om_text.specs.declared.parse_error.ParseError.{ParseError}
 use Rattle.om_text.specs.declared.parse_error.ParseError.TheVariants as error
-use Rattle.om_text.specs.declared.setting.Setting.{Setting}
+use Rattle.om_document.specs.declared.setting.Setting.{Setting}
 use Rattle.om_text.specs.Fault.{IsFault}
 use Rattle.om_text.specs.Part.{IsDocumentAtFront}
 use Rattle.om_text.specs.Reading.{added_body, outcome}
-use Rattle.om_text.specs.Lines.{lines}
-use Rattle.om_text.specs.Blocks.{are_blocks, blocks_on}
-use Rattle.om_text.specs.Document.{has_signs, has_length, has_blocks_in, has_numbers_in, size_of, room_of}
+use Rattle.om_lines.specs.Lines.{lines}
+use Rattle.om_document.specs.Blocks.{are_blocks, blocks_on}
+use Rattle.om_document.specs.Document.{has_signs, has_length, has_blocks_in, has_numbers_in, size_of, room_of}
 
 -- a part of the reader returns this value, or refuses with this code, unless memory ran out
 abbrev pub IsStepUnlessMemory : {A : Type 0} → Result A Refusal → Result A Code → Type 0

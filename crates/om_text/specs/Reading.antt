@@ -4,31 +4,30 @@ use Rattle.std.specs.Prelude.{Ok, Err, is_none}
 use Rattle.std.specs.List.{list_any}
 use Rattle.om_signs.specs.declared.sign.Sign.{Sign}
 use Rattle.om_signs.specs.Sign.{opposite}
-use Rattle.om_text.specs.declared.document.Document.{Document}
-use Rattle.om_text.specs.declared.body.Body.{Body}
-use Rattle.om_text.specs.declared.body.Body.TheVariants.{Chirotope, Wiring, Points}
-use Rattle.om_text.specs.declared.code.Code.{Code}
-use Rattle.om_text.specs.declared.code.Code.TheVariants as code
+use Rattle.om_document.specs.declared.document.Document.{Document}
+use Rattle.om_document.specs.declared.body.Body.{Body}
+use Rattle.om_document.specs.declared.body.Body.TheVariants.{Chirotope, Wiring, Points}
+use Rattle.om_document.specs.declared.code.Code.{Code}
+use Rattle.om_document.specs.declared.code.Code.TheVariants as code
 use Rattle.om_text.specs.declared.state.State.{State}
 use Rattle.om_text.specs.declared.state.State.TheVariants.{Start, Versioned, Open, Closed}
 use Rattle.om_text.specs.declared.draft.Draft.{Draft}
 use Rattle.om_text.specs.declared.stage.Stage.{Stage}
 use Rattle.om_text.specs.declared.stage.Stage.TheVariants.{Names, Choice, Full, Body as InBody}
-use Rattle.om_text.specs.declared.setting.Setting.{Setting}
-use Rattle.om_text.specs.declared.setting.Setting.TheVariants.{Plain, Half}
-use Rattle.om_text.specs.declared.version.Version.{Version}
-use Rattle.om_text.specs.declared.version.Version.TheVariants.{One, Two}
+use Rattle.om_document.specs.declared.setting.Setting.{Setting}
+use Rattle.om_document.specs.declared.setting.Setting.TheVariants.{Plain, Half}
+use Rattle.om_document.specs.declared.version.Version.{Version}
+use Rattle.om_document.specs.declared.version.Version.TheVariants.{One, Two}
 use Rattle.om_text.specs.Steps.{advance_by, outcome_by}
-use Rattle.om_text.specs.Rows.{same_row}
-use Rattle.om_text.specs.Members.{members_of, with_members}
-use Rattle.om_text.specs.Blocks.{blocks_on}
-use Rattle.om_text.specs.Points.{point_on}
-use Rattle.om_text.specs.Settings.{is_line, version_of, begins_as_setting, other_words, is_names_line, setting_in}
-use Rattle.om_text.specs.Settings.{finished}
-use Rattle.om_text.specs.Document.{end_line, signs_of_line, has_signs, has_length, has_blocks, has_numbers, filled}
-use Rattle.om_text.specs.Document.{has_room, is_complete}
-use Rattle.om_text.specs.Heading.{first_word, kind_of, heading, has_elements, has_rank, has_size, rank_of_body}
-use Rattle.om_text.specs.Heading.{values_of_body}
+use Rattle.om_document.specs.Rows.{same_row}
+use Rattle.om_document.specs.Members.{members_of, with_members}
+use Rattle.om_document.specs.Blocks.{blocks_on}
+use Rattle.om_document.specs.Points.{point_on}
+use Rattle.om_lines.specs.Lines.{is_line, end_line, first_word}
+use Rattle.om_document.specs.Settings.{version_of, begins_as_setting, other_words, is_names_line, setting_in, finished}
+use Rattle.om_document.specs.Document.{signs_of_line, has_signs, has_length, has_blocks, has_numbers, filled, has_room}
+use Rattle.om_document.specs.Document.{is_complete}
+use Rattle.om_document.specs.Heading.{kind_of, heading, has_elements, has_rank, has_size, rank_of_body, values_of_body}
 
 -- the members with one more, unless it is already there
 abbrev pub with_member : List (List Sign) → List Sign → List (List Sign)

@@ -1,8 +1,8 @@
 -- Lines read in turn by a step from state to state, and their outcome. Not part of the definition of documents.
 use Rattle.std.specs.Prelude.{ℕ, ◌+◌, List, [], ◌∷◌, Bool, true, false, Option, Some, None, Result, Ok, Err}
-use Rattle.om_text.specs.declared.code.Code.{Code}
-use Rattle.om_text.specs.declared.code.Code.TheVariants as code
-use Rattle.om_text.specs.Lines.{words, has_any}
+use Rattle.om_document.specs.declared.code.Code.{Code}
+use Rattle.om_document.specs.declared.code.Code.TheVariants as code
+use Rattle.om_lines.specs.Lines.{words, has_any}
 
 -- a step if the test holds
 abbrev pub step_if : {S : Type 0} → (S → List (List ℕ) → Result S Code) → Bool → S → List (List ℕ) → Result S Code

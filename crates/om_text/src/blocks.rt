@@ -2,10 +2,10 @@
 
 ghost use Rattle.std.specs.Prelude.{◌≡◌, ◌≤◌, IfSome};
 ghost use Rattle.std.specs.List.{before_first, after_first};
-ghost use Rattle.om_text.specs.Blocks.{position_of, is_dash, block_of};
+ghost use Rattle.om_document.specs.Blocks.{position_of, is_dash, block_of};
 
-use super::lines::len_before;
-use super::words::plain_number;
+use om_lines::lines::len_before;
+use om_lines::words::plain_number;
 use om_signs::{Block, MAX_POSITION_DIGITS};
 
 /// The part of a word before its first `-`.

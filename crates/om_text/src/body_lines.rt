@@ -3,22 +3,20 @@
 ghost use Rattle.std.specs.Prelude.{◌≡◌, ℕ, ◌+◌, ◌-◌, ◌<◌, ◌≤◌, ◌++◌, ◌||◌, length, not, map, true, filter, count_by};
 ghost use Rattle.std.specs.Prelude.{OnOk, IsTrue, ◌↔◌};
 ghost use Rattle.std.specs.List.{list_all, list_any, concat};
-ghost use Rattle.om_text.specs.Lines.{runs, is_blank};
-ghost use Rattle.om_text.specs.Words.{is_sign};
-ghost use Rattle.om_text.specs.Document.{are_signs, signs_of_line, members_of_line, has_signs_in, has_length_in};
-ghost use Rattle.om_text.specs.Rows.{same_row};
+ghost use Rattle.om_lines.specs.Lines.{runs, is_blank};
+ghost use Rattle.om_lines.specs.Words.{is_sign};
+ghost use Rattle.om_document.specs.Document.{are_signs, signs_of_line, members_of_line, has_signs_in, has_length_in};
+ghost use Rattle.om_document.specs.Rows.{same_row};
 ghost use Rattle.om_text.specs.Reading.{with_member, with_each, members_on, with_line_members, added_body};
 ghost use Rattle.om_text.specs.ReaderParts.{IsStepUnlessMemory, IsMapInRange, IsBodyInRange, body_within_limit};
 ghost use Rattle.om_text.specs.ReaderParts.{members_within_limit, blocks_with_line, body_with_line};
 
 use super::blocks::block_of;
-use super::body::Body;
-use super::code::Code;
-use super::lines::{first_word, is_blank_byte};
 use super::points::point;
 use super::refusal::Refusal;
-use super::setting::Setting;
-use super::words::{is_sign_byte, sign_of_byte};
+use om_document::{Body, Code, Setting};
+use om_lines::lines::{first_word, is_blank_byte};
+use om_lines::words::{is_sign_byte, sign_of_byte};
 use om_signs::{
     Block, List, MAX_BLOCKS, MAX_ELEMENTS, MAX_MEMBERS, NoMemory, RawMap, Sign, SignVec,
 };

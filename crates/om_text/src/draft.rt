@@ -1,6 +1,5 @@
-use super::document::Document;
-use super::setting::Setting;
 use super::stage::Stage;
+use om_document::{Document, Setting};
 
 /// A document whose line `end` has not been read yet.
 #[derive(Drop)]

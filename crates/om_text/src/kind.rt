@@ -1,39 +1,24 @@
 //! The kind line.
 
 ghost use Rattle.std.specs.Prelude.{◌≡◌, ℕ, ◌≤◌, [], IfSome, IfNone, Some, None};
-ghost use Rattle.om_text.specs.Lines.{runs};
-ghost use Rattle.om_text.specs.Words.{plain};
-ghost use Rattle.om_text.specs.Heading.{kind_of, plain_numbers, sizes, numbers, headed, rank_of_body, values_of_body};
-ghost use Rattle.om_text.specs.Heading.{empty_body};
-ghost use Rattle.om_text.specs.declared.setting.Setting.TheVariants.{Plain};
-ghost use Rattle.om_text.specs.Document.{filled_body};
+ghost use Rattle.om_lines.specs.Lines.{runs};
+ghost use Rattle.om_lines.specs.Words.{plain};
+ghost use Rattle.om_document.specs.Heading.{kind_of, plain_numbers, sizes, numbers, headed, rank_of_body};
+ghost use Rattle.om_document.specs.Heading.{values_of_body, empty_body};
+ghost use Rattle.om_document.specs.declared.setting.Setting.TheVariants.{Plain};
+ghost use Rattle.om_document.specs.Document.{filled_body};
 ghost use Rattle.om_text.specs.Reading.{in_range, first_stage, after_kind};
 
-use super::body::Body;
-use super::code::Code;
-use super::document::Document;
 use super::draft::Draft;
-use super::lines::{first_word, same};
-use super::setting::Setting;
 use super::stage::Stage;
 use super::state::State;
-use super::version::Version;
-use super::words::plain_number;
+use om_document::{Body, Code, Document, DocumentKind, Setting, Version};
+use om_lines::lines::{first_word, same};
+use om_lines::words::plain_number;
 use om_signs::{List, MAX_ELEMENTS, MAX_VALUES, RawMap};
 use om_subsets::Subset;
 use smallvec::SmallVec;
 use std::alloc::Global;
-
-/// The kinds of documents that the first word of a kind line can name.
-#[derive(Clone, Copy)]
-pub enum DocumentKind {
-    Chirotope,
-    Circuits,
-    Cocircuits,
-    Covectors,
-    Wiring,
-    Points,
-}
 
 fn kind_of_name(word: &[u8]) -> Option<DocumentKind>
     ensures { result ≡ kind_of word.now }

@@ -1,15 +1,11 @@
 //! Laws of the definition of documents. Each law is a function with an empty body, and its contract is the law.
 
 ghost use Rattle.std.specs.Prelude.{◌≡◌, ℕ, ◌≤◌, ◌↔◌, ◌⊎◌, List, length, take};
-ghost use Rattle.std.specs.List.Sorted.{IsPermutation, IsSorted};
-ghost use Rattle.om_signs.specs.declared.sign.Sign.{Sign};
-ghost use Rattle.om_signs.specs.Order.{lexicographic};
-ghost use Rattle.om_text.specs.Rows.{sorted};
-ghost use Rattle.om_text.specs.declared.document.Document.{Document};
-ghost use Rattle.om_text.specs.declared.code.Code.{Code};
-ghost use Rattle.om_text.specs.Lines.{lines};
-ghost use Rattle.om_text.specs.Document.{IsDocument};
-ghost use Rattle.om_text.specs.Fault.{IsFault, Begins, AreDocument};
+ghost use Rattle.om_document.specs.declared.document.Document.{Document};
+ghost use Rattle.om_document.specs.declared.code.Code.{Code};
+ghost use Rattle.om_lines.specs.Lines.{lines, Begins};
+ghost use Rattle.om_document.specs.Document.{IsDocument};
+ghost use Rattle.om_text.specs.Fault.{IsFault, AreDocument};
 
 /// An input has at most one value.
 pub fn values_are_unique()
@@ -41,10 +37,4 @@ pub fn documents_begin_as_bytes()
     ensures { (bytes : List ℕ) (k : ℕ) → k ≤ length (lines bytes) →
         Begins AreDocument (take k (lines bytes))
         ↔ ((text : List ℕ) × (take k (lines text) ≡ take k (lines bytes)) × AreDocument (lines text)) }
-{}
-
-/// Sorting, as in the canonical form, keeps the members and their multiplicities.
-pub fn sorting_keeps_members()
-    ensures same { (ms : List (List Sign)) → IsPermutation ms (sorted ms) }
-    ensures order { (ms : List (List Sign)) → IsSorted lexicographic (sorted ms) }
 {}

@@ -1,4 +1,4 @@
-use super::code::Code;
+use om_document::Code;
 use thiserror::Error;
 
 /// Why bytes can't be read as a document.

@@ -1,11 +1,11 @@
 //! The lines of points.
 
 ghost use Rattle.std.specs.Prelude.{◌≡◌};
-ghost use Rattle.om_text.specs.Lines.{runs};
-ghost use Rattle.om_text.specs.Points.{coordinate, point_of};
+ghost use Rattle.om_lines.specs.Lines.{runs};
+ghost use Rattle.om_document.specs.Points.{coordinate, point_of};
 
-use super::lines::{first_word, has_no_words};
-use super::words::signed_number;
+use om_lines::lines::{first_word, has_no_words};
+use om_lines::words::signed_number;
 use om_signs::MAX_COORDINATE;
 
 fn coordinate_of(word: &[u8]) -> Option<i64>

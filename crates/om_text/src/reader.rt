@@ -2,24 +2,23 @@
 
 ghost use Rattle.std.specs.Prelude.{◌≡◌, ◌≢◌, ℕ, ◌+◌, ◌<◌, ◌≤◌, ◌-◌, length, true, false, IfOk, IfErr};
 ghost use Rattle.om_signs.specs.declared.limits.TheConstants.{MAX_READ};
-ghost use Rattle.om_text.specs.declared.document.Document.{Document};
-ghost use Rattle.om_text.specs.declared.code.Code.{Code};
-ghost use Rattle.om_text.specs.Lines.{lines};
-ghost use Rattle.om_text.specs.Document.{IsDocument};
-ghost use Rattle.om_text.specs.Form.{IsInForm};
+ghost use Rattle.om_document.specs.declared.document.Document.{Document};
+ghost use Rattle.om_document.specs.declared.code.Code.{Code};
+ghost use Rattle.om_lines.specs.Lines.{lines};
+ghost use Rattle.om_document.specs.Document.{IsDocument};
+ghost use Rattle.om_document.specs.Form.{IsInForm};
 ghost use Rattle.om_text.specs.Fault.{IsFault};
 ghost use Rattle.om_text.specs.Reading.{advance, is_closed, outcome};
 ghost use Rattle.om_text.specs.ReaderParts.{fault_at, IsOutcomeOfAllLines, IsDocumentAtFrontOrFault};
 ghost use Rattle.om_text.specs.Part.{IsDocumentAtFront};
 ghost use Rattle.om_text.specs.Parsed.{IsAnswerUnlessMemory, IfLine};
 
-use super::code::Code;
-use super::document::Document;
-use super::lines::{first_line, same};
 use super::parse_error::ParseError;
 use super::refusal::Refusal;
 use super::state::State;
 use super::stepping::advance;
+use om_document::{Code, Document};
+use om_lines::lines::{first_line, same};
 use std::alloc::Global;
 
 fn at_line(refusal: Refusal, line: u32) -> ParseError

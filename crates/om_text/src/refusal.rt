@@ -1,6 +1,6 @@
 ghost use Rattle.std.specs.Prelude.{◌≡◌};
 
-use super::code::Code;
+use om_document::Code;
 use om_signs::NoMemory;
 
 /// Why a line can't be read.

@@ -3,7 +3,7 @@
 ghost use Rattle.std.specs.Prelude.{◌≡◌, ◌≤◌, IfOk, length};
 ghost use Rattle.om_signs.specs.declared.limits.TheConstants.{MAX_ELEMENTS};
 ghost use Rattle.om_subsets.specs.Subsets.{choose};
-ghost use Rattle.om_text.specs.Settings.{values_from_revlex};
+ghost use Rattle.om_document.specs.Settings.{values_from_revlex};
 
 use om_signs::{List, NoMemory, RawMap, Sign};
 use om_subsets::Subset;

@@ -3,22 +3,18 @@
 ghost use Rattle.std.specs.Prelude.{◌≡◌, ℕ, ◌∷◌, [], cond, codes, Some, None, IfOk, bytes_eq};
 ghost use Rattle.std.specs.List.{list_any};
 ghost use Rattle.om_signs.specs.declared.raw_map.RawMap.{RawMap};
-ghost use Rattle.om_text.specs.Lines.{runs};
-ghost use Rattle.om_text.specs.Names.{are_names};
-ghost use Rattle.om_text.specs.Settings.{is_line, begins_as_setting, other_words, is_names_line, setting_in};
+ghost use Rattle.om_lines.specs.Lines.{runs, is_line};
+ghost use Rattle.om_document.specs.Names.{are_names};
+ghost use Rattle.om_document.specs.Settings.{begins_as_setting, other_words, is_names_line, setting_in};
 ghost use Rattle.om_text.specs.Reading.{after_choice, after_names, after_setting};
 ghost use Rattle.om_text.specs.ReaderParts.{IsStepUnlessMemory};
 
-use super::body::Body;
-use super::code::Code;
-use super::document::Document;
 use super::draft::Draft;
-use super::lines::{first_word, is_only_word, same};
-use super::name::Name;
 use super::refusal::Refusal;
-use super::setting::Setting;
 use super::stage::Stage;
 use super::state::State;
+use om_document::{Body, Code, Document, Name, Setting};
+use om_lines::lines::{first_word, is_only_word, same};
 use om_signs::{List, NoMemory};
 use std::alloc::Global;
 

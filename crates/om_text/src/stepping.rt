@@ -1,30 +1,26 @@
 //! The state of a reader after one more line.
 
 ghost use Rattle.std.specs.Prelude.{◌≡◌, ◌<◌, ◌-◌, true, false, IfOk};
-ghost use Rattle.om_text.specs.declared.document.Document.{Document};
-ghost use Rattle.om_text.specs.declared.code.Code.{Code};
-ghost use Rattle.om_text.specs.Lines.{runs};
-ghost use Rattle.om_text.specs.Settings.{version_of, in_lexicographic_order};
-ghost use Rattle.om_text.specs.Document.{is_complete, is_complete_body};
+ghost use Rattle.om_document.specs.declared.document.Document.{Document};
+ghost use Rattle.om_document.specs.declared.code.Code.{Code};
+ghost use Rattle.om_lines.specs.Lines.{runs};
+ghost use Rattle.om_document.specs.Settings.{version_of, in_lexicographic_order};
+ghost use Rattle.om_document.specs.Document.{is_complete, is_complete_body};
 ghost use Rattle.om_text.specs.Reading.{step, advance, takes_settings, finished_draft, open_step, after_body};
 ghost use Rattle.om_text.specs.Reading.{after_end};
 ghost use Rattle.om_text.specs.ReaderParts.{IsStepUnlessMemory, IsDocumentInRange, IsBodyInRange, IsStateInRange};
 ghost use Rattle.om_text.specs.ReaderParts.{line_fault, has_all_values};
 
-use super::body::Body;
 use super::body_lines::{has_length_line, has_signs_line, with_line};
-use super::code::Code;
-use super::document::Document;
 use super::draft::Draft;
 use super::kind::kind_line;
-use super::lines::{before_comment, first_word, has_no_words, is_end, is_only_word, same};
 use super::refusal::Refusal;
 use super::revlex::values_from_revlex;
-use super::setting::Setting;
 use super::setting_lines::{begins_as_setting, setting_line};
 use super::stage::Stage;
 use super::state::State;
-use super::version::Version;
+use om_document::{Body, Code, Document, Setting, Version};
+use om_lines::lines::{before_comment, first_word, has_no_words, is_end, is_only_word, same};
 use om_signs::{NoMemory, RawMap};
 use om_subsets::Subset;
 use std::alloc::Global;

@@ -3,7 +3,7 @@
 ghost use Rattle.std.specs.Prelude.{◌≡◌, ◌≤◌, length};
 ghost use Rattle.om_signs.specs.declared.limits.TheConstants.{MAX_READ};
 ghost use Rattle.om_certificate.specs.Forms.{IsVerdictInForm};
-ghost use Rattle.om_text.specs.Form.{IsMapOn};
+ghost use Rattle.om_document.specs.Form.{IsMapOn};
 
 use super::helpers::is_made;
 use om_answer::{print_verdict, read_claim};

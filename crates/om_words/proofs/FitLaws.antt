@@ -9,7 +9,7 @@ use Rattle.std.proofs.lemmas.Bool.{both_ways}
 use Rattle.std.proofs.lemmas.List.{length-take-le, take-take, get_or-take, take_at, get_or_at, take-append-drop}
 use Rattle.std.proofs.lemmas.List.{drop_more, get_or_default, get_or-map}
 use Rattle.std.proofs.lemmas.List.Folds.{list_any_at, list_any_none}
-use Rattle.om_text.specs.Fault.{Begins}
+use Rattle.om_lines.specs.Lines.{Begins}
 use Rattle.om_words.specs.Words.{IsFault, at_word}
 use Rattle.om_words.specs.Readings.{EachFits}
 

@@ -11,7 +11,7 @@ use Rattle.std.proofs.Common.{get_or, take, set, zero, suc, arith, ap, subst, sy
 use Rattle.std.proofs.lemmas.Option.{same_Some}
 use Rattle.om_signs.specs.declared.limits.TheConstants.{MAX_ELEMENTS}
 use Rattle.om_signs.specs.declared.sign.Sign.TheVariants.{Plus}
-use Rattle.om_text.specs.Fault.{Begins}
+use Rattle.om_lines.specs.Lines.{Begins}
 use Rattle.om_oriented.specs.declared.colour.Colour.{Colour}
 use Rattle.om_oriented.specs.declared.colour.Colour.TheVariants.{White}
 use Rattle.om_lexext.specs.declared.signed.Signed.{Signed}

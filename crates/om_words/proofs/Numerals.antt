@@ -14,7 +14,7 @@ use Rattle.om_subsets.specs.Subsets.{IsMember, with_element}
 use Rattle.om_subsets.specs.Lists.{IsIncreasing}
 use Rattle.om_subsets.specs.Members.{members, mask_of}
 use Rattle.om_subsets.proofs.Places.{members-zero}
-use Rattle.om_text.specs.Fault.{Begins}
+use Rattle.om_lines.specs.Lines.{Begins}
 use Rattle.om_words.specs.Words.{IsElement, AreElements, IsFault, at_word, at_end, HasValue, IsRead}
 use Rattle.om_words.proofs.ArgumentLaws.{no_value}
 use Rattle.om_words.proofs.FitLaws.{around}

@@ -7,7 +7,7 @@ use Rattle.std.specs.Prelude.{ℕ, ◌≡◌, ◌↔◌, ◌<◌, ◌+◌, List,
 use Rattle.std.specs.Prelude.{IfErr, IsErrAnd, codes, refl}
 use Rattle.std.proofs.Common.{arith, ap, subst, sym, ◌∙◌}
 use Rattle.std.proofs.lemmas.Option.{same_Some}
-use Rattle.om_text.specs.Fault.{Begins}
+use Rattle.om_lines.specs.Lines.{Begins}
 use Rattle.om_printing.specs.declared.usage.Usage.{Usage}
 use Rattle.om_words.specs.declared.setting.Setting.{Setting}
 use Rattle.om_words.specs.declared.setting.Setting.TheVariants.{BoxSize, Steps, Pivots, Count}

@@ -11,8 +11,8 @@ use Rattle.std.proofs.lemmas.Bool.{false≢true, leb-true}
 use Rattle.std.proofs.lemmas.List.{take_more, drop_more}
 use Rattle.std.proofs.lemmas.List.Folds.{list_any-append}
 use Rattle.std.proofs.lemmas.Option.{same_Some}
-use Rattle.om_text.specs.Words.{is_decimal, number_from, up_to}
-use Rattle.om_text.specs.Fault.{Begins}
+use Rattle.om_lines.specs.Words.{is_decimal, number_from, up_to}
+use Rattle.om_lines.specs.Lines.{Begins}
 use Rattle.om_words.specs.declared.setting.Setting.{Setting}
 use Rattle.om_words.specs.declared.setting.Setting.TheVariants.{First, BoxSize, Steps, Pivots, Count}
 use Rattle.om_words.specs.Words.{HasValue}

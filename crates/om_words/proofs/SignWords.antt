@@ -7,7 +7,7 @@ use Rattle.std.proofs.lemmas.List.{ext_get_or, get_or-map, length-map}
 use Rattle.om_signs.specs.declared.sign.Sign.{Sign}
 use Rattle.om_signs.specs.declared.sign.Sign.TheVariants.{Zero}
 use Rattle.om_signs.specs.SignVec.{at}
-use Rattle.om_text.specs.Words.{sign_of_byte}
+use Rattle.om_lines.specs.Words.{sign_of_byte}
 
 -- the first k signs are those of the bytes
 pub record IsFilled (x : List Sign) (word : List ℕ) (k : ℕ) : Type 0 where

@@ -8,7 +8,7 @@ use Rattle.std.specs.Fmt.{decimal}
 use Rattle.std.proofs.Common.{get_or, zero, suc, arith, ap, subst, sym, ◌∙◌, lit≤}
 use Rattle.std.proofs.lemmas.Option.{same_Some}
 use Rattle.om_signs.specs.declared.limits.TheConstants.{MAX_ELEMENTS}
-use Rattle.om_text.specs.Fault.{Begins}
+use Rattle.om_lines.specs.Lines.{Begins}
 use Rattle.om_printing.specs.declared.usage.Usage.{Usage}
 use Rattle.om_words.specs.Words.{IsElement, HasValue}
 use Rattle.om_words.specs.Triples.{AreTriple, IsElementWithin, IsElementAt}

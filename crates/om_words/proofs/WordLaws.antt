@@ -9,7 +9,7 @@ use Rattle.std.specs.Prelude.{Err, IfErr, IsErrAnd}
 use Rattle.std.proofs.Common.{get_or, drop, take, ◌-◌, arith, ap, subst, sym, ◌∙◌}
 use Rattle.std.proofs.Math.Seq.{take-length}
 use Rattle.om_signs.proofs.Results.{err-ne-ok}
-use Rattle.om_text.specs.Fault.{Begins}
+use Rattle.om_lines.specs.Lines.{Begins}
 use Rattle.om_words.specs.declared.task.Task.{Task}
 use Rattle.om_words.specs.declared.task.Task.TheVariants.{Accept}
 use Rattle.om_printing.specs.declared.usage.Usage.{Usage}

@@ -3,7 +3,7 @@ use Rattle.std.specs.Prelude.{ℕ, ◌≡◌, ◌∷◌, List, [], Bool, cond, n
 use Rattle.std.specs.Prelude.{Some, None, is_some, unwrap_or}
 use Rattle.std.specs.List.{list_any, starts_with}
 use Rattle.om_signs.specs.declared.limits.TheConstants.{MIN_DRAWN, MAX_DRAWN, MAX_LINES, MAX_BOX, MAX_STEPS, MAX_PIVOTS}
-use Rattle.om_text.specs.Words.{unsigned}
+use Rattle.om_lines.specs.Words.{unsigned}
 use Rattle.om_budgets.specs.declared.budgets.Budgets.{Budgets}
 use Rattle.om_words.specs.declared.setting.Setting.{Setting}
 use Rattle.om_words.specs.declared.setting.Setting.TheVariants.{First, BoxSize, Steps, Pivots, Count}

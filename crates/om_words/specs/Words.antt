@@ -6,10 +6,10 @@ use Rattle.om_signs.specs.declared.limits.TheConstants.{MAX_ELEMENTS}
 use Rattle.om_signs.specs.declared.sign.Sign.{Sign}
 use Rattle.om_subsets.specs.Subsets.{IsSubsetFrom}
 use Rattle.om_subsets.specs.Members.{mask_of}
-use Rattle.om_text.specs.Words.{is_sign, sign_of_byte}
-use Rattle.om_text.specs.Fault.{Begins}
-use Rattle.om_text.specs.declared.kinds.Kind.{Kind}
-use Rattle.om_text.specs.declared.kinds.Kind.TheVariants as kind
+use Rattle.om_lines.specs.Words.{is_sign, sign_of_byte}
+use Rattle.om_lines.specs.Lines.{Begins}
+use Rattle.om_document.specs.declared.kinds.Kind.{Kind}
+use Rattle.om_document.specs.declared.kinds.Kind.TheVariants as kind
 use Rattle.om_words.specs.Options.{AreBudgets, AreSeedAndCount, AreLines}
 use Rattle.om_words.specs.declared.task.Task.{Task}
 use Rattle.om_words.specs.declared.task.Task.TheVariants.{Accept, Member, Convert, Dual, Delete, Contract, Reorient}

@@ -6,7 +6,7 @@ ghost use Rattle.om_words.specs.Words.{IsAlone, IsRead};
 use super::spelling::{element, named_kind, spelled};
 use om_printing::Usage;
 use om_signs::SignVec;
-use om_text::Kind;
+use om_document::Kind;
 
 /// A value that a single word can spell.
 pub trait Argument: Copy {
@@ -24,8 +24,8 @@ pub trait Argument: Copy {
 impl Argument for SignVec {
     ghost use Rattle.std.specs.Prelude.{codes, ◌∷◌, []};
     ghost use Rattle.om_signs.specs.declared.sign.Sign.TheVariants.{Plus};
-    ghost use Rattle.om_words.specs.Words.{Spells};
-    ghost use Rattle.om_words.specs.Samples.{plus_spelled};
+    ghost use Rattle.om_words.specs.Words.{Spells, NamesKind, IsElement};
+    ghost use Rattle.om_words.specs.Samples.{plus_spelled, one_spelled};
 
     ghost spells = { Spells };
 
@@ -38,8 +38,7 @@ impl Argument for SignVec {
 
 impl Argument for Kind {
     ghost use Rattle.std.specs.Prelude.{codes, refl};
-    ghost use Rattle.om_text.specs.declared.kinds.Kind.TheVariants.{Circuits};
-    ghost use Rattle.om_words.specs.Words.{NamesKind};
+    ghost use Rattle.om_document.specs.declared.kinds.Kind.TheVariants.{Circuits};
 
     ghost spells = { NamesKind };
 
@@ -52,8 +51,6 @@ impl Argument for Kind {
 
 impl Argument for u8 {
     ghost use Rattle.std.specs.Prelude.{codes};
-    ghost use Rattle.om_words.specs.Words.{IsElement};
-    ghost use Rattle.om_words.specs.Samples.{one_spelled};
 
     ghost spells = { IsElement };
 

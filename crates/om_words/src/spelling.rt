@@ -4,13 +4,13 @@ ghost use Rattle.std.specs.Prelude.{ℕ, ◌≡◌, ◌↔◌, ◌≤◌, List, 
 ghost use Rattle.std.specs.List.{list_all};
 ghost use Rattle.std.specs.Fmt.{decimal};
 ghost use Rattle.om_signs.specs.declared.sign.Sign.{Sign};
-ghost use Rattle.om_text.specs.Words.{is_sign, sign_of_byte};
+ghost use Rattle.om_lines.specs.Words.{is_sign, sign_of_byte};
 ghost use Rattle.om_words.specs.Words.{Spells, NamesKind, IsElement};
 
 use itoa::Buffer;
 use om_signs::{MAX_ELEMENTS, SignVec};
-use om_text::Kind;
-use om_text::words::{is_sign_byte, sign_of_byte};
+use om_document::Kind;
+use om_lines::words::{is_sign_byte, sign_of_byte};
 
 /// Whether the word is this text.
 pub fn is_word(word: &String, text: &str) -> bool

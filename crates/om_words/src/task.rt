@@ -6,7 +6,7 @@ use super::leading::Leading;
 use super::reads::Reads;
 use om_budgets::Budgets;
 use om_signs::SignVec;
-use om_text::Kind;
+use om_document::Kind;
 
 /// What the words after the program's name ask for.
 #[derive(Clone, Copy)]

@@ -1,6 +1,6 @@
 use Rattle.std.proofs.Common.{◌≡◌, length}
-use Rattle.om_text.specs.Lines.{runs}
-use Rattle.om_text.specs.Heading.{plain_numbers}
+use Rattle.om_lines.specs.Lines.{runs}
+use Rattle.om_document.specs.Heading.{plain_numbers}
 use Rattle.om_answer.proofs.NumberLaws.{continued}
 use Rattle.om_answer.proofs.block_reader.numbers_of_words.Given as goal
 

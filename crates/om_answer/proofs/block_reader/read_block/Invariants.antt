@@ -1,5 +1,5 @@
 use Rattle.std.proofs.Common.{◌≡◌, ◌≤◌, ◌+◌, length}
-use Rattle.om_text.specs.Lines.{lines}
+use Rattle.om_lines.specs.Lines.{lines}
 use Rattle.om_answer.specs.declared.block.Block.TheVariants.{Empty}
 use Rattle.om_answer.specs.BlockReading.{block_outcome}
 use Rattle.om_answer.proofs.block_reader.read_block.Given as goal

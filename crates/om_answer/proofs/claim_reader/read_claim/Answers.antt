@@ -1,8 +1,8 @@
 use Rattle.std.proofs.Common.{ℕ, arith}
 use Rattle.std.proofs.lemmas.Result.{err_from_is_err_and}
 use Rattle.std.specs.Prelude.{Ok, Err}
-use Rattle.om_text.specs.Lines.{lines}
-use Rattle.om_text.specs.declared.document.Document.{Document}
+use Rattle.om_lines.specs.Lines.{lines}
+use Rattle.om_document.specs.declared.document.Document.{Document}
 use Rattle.om_answer.proofs.ClaimReading.{reads_claim, reads_every, reads_fault, reads_first, document_refused}
 use Rattle.om_answer.proofs.ClaimReading.{block_refused, block_read, part_few}
 use Rattle.om_answer.proofs.ClaimSizes.{evidence_within}

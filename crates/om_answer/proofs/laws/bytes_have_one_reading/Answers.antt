@@ -1,4 +1,4 @@
-use Rattle.om_text.specs.Lines.{lines}
+use Rattle.om_lines.specs.Lines.{lines}
 use Rattle.om_answer.proofs.OneReading.{same_claim, same_fault, no_fault, claim_or_fault}
 use Rattle.om_answer.proofs.laws.bytes_have_one_reading.Goals as goal
 

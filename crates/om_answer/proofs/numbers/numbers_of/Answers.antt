@@ -1,7 +1,7 @@
 use Rattle.std.proofs.Common.{◌∷◌, [], ◌++◌, ◌+◌, length, drop, take, sym, ap, subst, ◌∙◌, length-append}
 use Rattle.std.proofs.lemmas.Int.{to_z-of_z}
 use Rattle.std.specs.Int.{w128}
-use Rattle.om_text.specs.Lines.{runs}
+use Rattle.om_lines.specs.Lines.{runs}
 use Rattle.om_answer.specs.Numbers.{numbers_within, AreIn}
 use Rattle.om_answer.proofs.NumberLaws.{continued, no_word, other_number, next_number, all_numbers, more_words, in_more}
 use Rattle.om_answer.proofs.NumberLaws.{in_all}

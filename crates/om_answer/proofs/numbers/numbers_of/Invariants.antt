@@ -1,5 +1,5 @@
 use Rattle.std.proofs.Common.{◌≡◌, length, drop, take}
-use Rattle.om_text.specs.Lines.{runs}
+use Rattle.om_lines.specs.Lines.{runs}
 use Rattle.om_answer.specs.Numbers.{numbers_within, AreIn}
 use Rattle.om_answer.proofs.NumberLaws.{continued}
 use Rattle.om_answer.proofs.numbers.numbers_of.Given as goal

@@ -1,7 +1,7 @@
 use Rattle.std.proofs.Common.{◌++◌, ap, sym, subst, ◌∙◌}
-use Rattle.om_text.specs.Lines.{lines}
-use Rattle.om_text.specs.Form.{IsInForm}
-use Rattle.om_text.specs.Print.{printed}
+use Rattle.om_lines.specs.Lines.{lines}
+use Rattle.om_document.specs.Form.{IsInForm}
+use Rattle.om_document.specs.Print.{printed}
 use Rattle.om_answer.specs.Claim.{IsClaim}
 use Rattle.om_reply.specs.VerdictText.{lines_text, block_lines, claim_of}
 use Rattle.om_chirotope.proofs.FewValues.{few_values}

@@ -1,6 +1,6 @@
 use Rattle.std.specs.Prelude.{refl}
 use Rattle.std.proofs.lemmas.Result.{IfOk-weaker}
-use Rattle.om_text.specs.declared.kinds.Kind.TheVariants as kind
+use Rattle.om_document.specs.declared.kinds.Kind.TheVariants as kind
 use Rattle.om_representation.specs.Documents.{document_of, cocircuits_document}
 use Rattle.om_commands.proofs.ConversionLaws.{own_converted, from_chirotope, wide_answered}
 use Rattle.om_commands.proofs.conversion.to_cocircuits.Goals as goal

@@ -1,6 +1,6 @@
 use Rattle.std.specs.Prelude.{◌≡◌, false, refl}
 use Rattle.std.proofs.lemmas.Result.{IfOk-weaker}
-use Rattle.om_text.specs.declared.kinds.Kind.TheVariants as kind
+use Rattle.om_document.specs.declared.kinds.Kind.TheVariants as kind
 use Rattle.om_representation.specs.declared.representation.Representation.TheVariants as representation
 use Rattle.om_commands.specs.Conversions.{has_kind, is_direct}
 use Rattle.om_representation.specs.Documents.{document_of, covectors_document}

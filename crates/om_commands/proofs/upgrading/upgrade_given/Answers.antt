@@ -1,5 +1,5 @@
 use Rattle.std.proofs.Common.{sym, subst, ◌∙◌}
-use Rattle.om_text.specs.declared.document.Document.{Document}
+use Rattle.om_document.specs.declared.document.Document.{Document}
 use Rattle.om_representation.specs.Axioms.{IsRefusal}
 use Rattle.om_representation.specs.Documents.{document_of}
 use Rattle.om_commands.specs.Upgrades.{refused}

@@ -1,6 +1,6 @@
 use Rattle.std.specs.Prelude.{ℤ, List, length}
 use Rattle.std.proofs.Common.{subst}
-use Rattle.om_text.specs.declared.body.Body.TheVariants.{Points}
+use Rattle.om_document.specs.declared.body.Body.TheVariants.{Points}
 use Rattle.om_vectors.specs.Realizations.{IsRankLow}
 use Rattle.om_representation.specs.Axioms.{IsRefusal, IsRankRefused}
 use Rattle.om_representation.specs.Points.{vectors_of}

@@ -1,7 +1,7 @@
 use Rattle.std.proofs.Common.{ap, sym, subst, ◌∙◌}
 use Rattle.std.proofs.lemmas.Result.{IfOk-weaker}
-use Rattle.om_text.specs.declared.document.Document.{Document}
-use Rattle.om_text.specs.Form.{IsInForm}
+use Rattle.om_document.specs.declared.document.Document.{Document}
+use Rattle.om_document.specs.Form.{IsInForm}
 use Rattle.om_wiring.specs.declared.sweep_error.SweepError.TheVariants.{NotRank3}
 use Rattle.om_reply.specs.Answers.{shows}
 use Rattle.om_plane.specs.Sweeps.{IsWiringOfMap, wiring_document, least}

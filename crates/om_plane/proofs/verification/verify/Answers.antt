@@ -1,6 +1,6 @@
 use Rattle.std.proofs.Common.{subst}
 use Rattle.std.proofs.lemmas.Result.{IfOk-weaker}
-use Rattle.om_text.specs.declared.document.Document.{Document}
+use Rattle.om_document.specs.declared.document.Document.{Document}
 use Rattle.om_representation.specs.Axioms.{IsRefusal}
 use Rattle.om_representation.specs.Chirotopes.{IsChirotopeOf}
 use Rattle.om_plane.specs.Claims.{fails_axioms, flat, verified}

@@ -1,5 +1,5 @@
 use Rattle.std.proofs.Common.{◌≡◌, ◌++◌, take, map}
-use Rattle.om_text.specs.Words.{byte_of}
+use Rattle.om_lines.specs.Words.{byte_of}
 use Rattle.om_printing.proofs.pieces.push_signs.Given as goal
 
 abbrev pub invariant-loop-place : goal.invariant-loop-place

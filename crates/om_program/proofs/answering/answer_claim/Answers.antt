@@ -2,7 +2,7 @@ use Rattle.std.specs.Prelude.{Err, refl}
 use Rattle.std.specs.declared.result.Result.{Result}
 use Rattle.std.proofs.Common.{subst}
 use Rattle.om_text.specs.declared.parse_error.ParseError.{ParseError}
-use Rattle.om_text.specs.Lines.{lines}
+use Rattle.om_lines.specs.Lines.{lines}
 use Rattle.om_text.specs.Parsed.{IfLine}
 use Rattle.om_reply.specs.declared.claim.Claim.{Claim}
 use Rattle.om_answer.specs.ClaimFault.{IsClaimFault}

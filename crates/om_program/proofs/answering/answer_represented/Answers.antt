@@ -1,6 +1,6 @@
 use Rattle.std.proofs.Common.{sym, subst}
 use Rattle.std.proofs.lemmas.Result.{IfOk-weaker}
-use Rattle.om_text.specs.declared.document.Document.{Document}
+use Rattle.om_document.specs.declared.document.Document.{Document}
 use Rattle.om_printing.specs.declared.line.Line.{Line}
 use Rattle.om_representation.specs.Axioms.{IsRefusal}
 use Rattle.om_representation.specs.Widths.{HasFewValues}

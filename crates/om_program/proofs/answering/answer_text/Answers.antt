@@ -3,10 +3,10 @@ use Rattle.std.specs.declared.result.Result.{Result}
 use Rattle.std.proofs.Common.{subst}
 use Rattle.std.proofs.lemmas.Result.{IfOk-weaker}
 use Rattle.om_text.specs.declared.parse_error.ParseError.{ParseError}
-use Rattle.om_text.specs.declared.document.Document.{Document}
+use Rattle.om_document.specs.declared.document.Document.{Document}
 use Rattle.om_text.specs.Parsed.{IfLine}
 use Rattle.om_text.specs.Fault.{IsFault}
-use Rattle.om_text.specs.Lines.{lines}
+use Rattle.om_lines.specs.Lines.{lines}
 use Rattle.om_program.specs.Meaning.{faulty, read}
 use Rattle.om_program.proofs.PlanLaws.{reads_document}
 use Rattle.om_program.proofs.answering.answer_text.Goals as goal

@@ -1,5 +1,5 @@
 use Rattle.std.proofs.Common.{◌≡◌, ◌++◌, take, map}
-use Rattle.om_text.specs.Words.{byte_of}
+use Rattle.om_lines.specs.Words.{byte_of}
 use Rattle.om_reply.proofs.extension_text.push_signature.Given as goal
 
 abbrev pub invariant-loop-k : goal.invariant-loop-k

@@ -1,5 +1,5 @@
 use Rattle.std.proofs.Common.{◌≡◌, ◌++◌, take}
-use Rattle.om_text.specs.Print.{text_of}
+use Rattle.om_document.specs.Print.{text_of}
 use Rattle.om_reply.specs.ExtensionTexts.{signature_lines}
 use Rattle.om_reply.proofs.extension_text.push_signatures.Given as goal
 

@@ -1,6 +1,6 @@
 use Rattle.std.specs.Prelude.{All}
 use Rattle.std.proofs.Common.{◌≡◌, map, take}
-use Rattle.om_text.specs.Form.{IsPoint}
+use Rattle.om_document.specs.Form.{IsPoint}
 use Rattle.om_reply.specs.VerdictText.{vector_numbers}
 use Rattle.om_reply.proofs.made_text.points_document.Given as goal
 

@@ -1,5 +1,5 @@
 use Rattle.std.proofs.Common.{◌++◌, ap, ◌∙◌}
-use Rattle.om_text.specs.Print.{text_of}
+use Rattle.om_document.specs.Print.{text_of}
 use Rattle.om_reply.specs.MadeTexts.{tally_lines}
 use Rattle.om_reply.proofs.made_text.print_made.Goals as goal
 

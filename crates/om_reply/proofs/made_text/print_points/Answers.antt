@@ -1,7 +1,7 @@
 use Rattle.std.proofs.Common.{ap, sym, subst, ◌∙◌}
 use Rattle.std.proofs.lemmas.Result.{IfOk-weaker}
-use Rattle.om_text.specs.Form.{IsInForm}
-use Rattle.om_text.specs.Print.{printed}
+use Rattle.om_document.specs.Form.{IsInForm}
+use Rattle.om_document.specs.Print.{printed}
 use Rattle.om_reply.proofs.PointTextLaws.{points_form}
 use Rattle.om_reply.proofs.made_text.print_points.Goals as goal
 

@@ -1,5 +1,5 @@
 use Rattle.std.proofs.Common.{◌≡◌, ◌++◌, take}
-use Rattle.om_text.specs.Print.{text_of}
+use Rattle.om_document.specs.Print.{text_of}
 use Rattle.om_reply.specs.MutationTexts.{set_lines}
 use Rattle.om_reply.proofs.mutation_text.push_sets.Given as goal
 

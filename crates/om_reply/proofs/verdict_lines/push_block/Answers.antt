@@ -1,7 +1,6 @@
 use Rattle.std.proofs.Common.{[], ◌∷◌}
-use Rattle.om_text.specs.Document.{end_line}
-use Rattle.om_reply.specs.VerdictText.{word_line}
-use Rattle.om_reply.specs.VerdictText.{verdict_name, verdict_lines}
+use Rattle.om_lines.specs.Lines.{end_line}
+use Rattle.om_reply.specs.VerdictText.{word_line, verdict_name, verdict_lines}
 use Rattle.om_reply.proofs.BlockTexts.{on_ok, lines_after}
 use Rattle.om_reply.proofs.verdict_lines.push_block.Goals as goal
 

@@ -1,5 +1,5 @@
 use Rattle.std.proofs.Common.{subst}
-use Rattle.om_text.specs.Form.{IsBodyOn}
+use Rattle.om_document.specs.Form.{IsBodyOn}
 use Rattle.om_representation.proofs.representation.represent.Goals as goal
 
 pub returns-clause-accepted : goal.returns-clause-accepted

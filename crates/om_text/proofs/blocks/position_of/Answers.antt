@@ -1,6 +1,6 @@
 use Rattle.std.proofs.Common.{◌≤◌, arith}
 use Rattle.om_signs.specs.declared.limits.TheConstants.{MAX_POSITION}
-use Rattle.om_text.proofs.BlockWords.{plain_small}
+use Rattle.om_document.proofs.BlockWords.{plain_small}
 use Rattle.om_text.proofs.blocks.position_of.Goals as goal
 
 pub overflow_cast-result : goal.overflow_cast-result

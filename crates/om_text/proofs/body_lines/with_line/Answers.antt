@@ -1,5 +1,5 @@
 use Rattle.std.proofs.Common.{sym, subst}
-use Rattle.om_text.specs.Lines.{runs}
+use Rattle.om_lines.specs.Lines.{runs}
 use Rattle.om_text.specs.ReaderParts.{IsStepUnlessMemory, body_with_line}
 use Rattle.om_text.proofs.body_lines.with_line.Goals as goal
 

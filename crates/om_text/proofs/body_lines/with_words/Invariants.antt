@@ -1,5 +1,5 @@
 use Rattle.std.proofs.Common.{◌≡◌, length}
-use Rattle.om_text.specs.Lines.{runs}
+use Rattle.om_lines.specs.Lines.{runs}
 use Rattle.om_text.specs.ReaderParts.{blocks_with_line}
 use Rattle.om_text.proofs.body_lines.with_words.Given as goal
 

@@ -1,6 +1,6 @@
 use Rattle.std.proofs.Common.{◌≡◌, length}
-use Rattle.om_text.specs.Lines.{runs}
-use Rattle.om_text.specs.Heading.{plain_numbers}
+use Rattle.om_lines.specs.Lines.{runs}
+use Rattle.om_document.specs.Heading.{plain_numbers}
 use Rattle.om_text.proofs.Numbers.{after_numbers}
 use Rattle.om_text.proofs.kind.numbers_of.Given as goal
 

@@ -1,5 +1,6 @@
 use Rattle.std.proofs.Common.{sym, ◌∙◌}
-use Rattle.om_text.proofs.Coordinates.{three_words, long_point, three_point, no_first, no_second, no_third, point_read}
+use Rattle.om_document.proofs.Coordinates.{three_words, long_point, three_point, no_first, no_second, no_third}
+use Rattle.om_document.proofs.Coordinates.{point_read}
 use Rattle.om_text.proofs.points.point.Goals as goal
 
 pub returns-then-not-has_no_words : goal.returns-then-not-has_no_words

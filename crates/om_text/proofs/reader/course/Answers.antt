@@ -1,6 +1,6 @@
 use Rattle.std.proofs.Common.{refl, sym, subst, ◌+◌, arith}
 use Rattle.om_text.specs.ReaderParts.{IsStateInRange}
-use Rattle.om_text.proofs.Printing.{not_empty, no_bytes}
+use Rattle.om_document.proofs.Printing.{not_empty, no_bytes}
 use Rattle.om_text.proofs.Small.{advance_small}
 use Rattle.om_text.proofs.ReadLines.{IsRead, read_start, read_more, read_part}
 use Rattle.om_text.proofs.Part.{whole_refused, front_refused, whole_document, other_state, whole_unfinished}

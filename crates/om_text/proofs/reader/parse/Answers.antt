@@ -1,4 +1,4 @@
-use Rattle.om_text.specs.Lines.{lines}
+use Rattle.om_lines.specs.Lines.{lines}
 use Rattle.om_text.proofs.Outcome.{comes_document, comes_form, comes_fault, comes_every, comes_first}
 use Rattle.om_text.proofs.reader.parse.Goals as goal
 

@@ -1,8 +1,8 @@
 use Rattle.std.proofs.Common.{◌≡◌, ◌++◌, ◌∷◌, [], true, false, length, sym, ap, subst, ◌∙◌, arith, length-append}
 use Rattle.std.specs.Prelude.{bytes_eq}
 use Rattle.std.specs.List.{list_any}
-use Rattle.om_text.specs.Lines.{runs}
-use Rattle.om_text.proofs.NameForms.{AreKept, one_too_many, name_again, kept_more}
+use Rattle.om_lines.specs.Lines.{runs}
+use Rattle.om_document.proofs.NameForms.{AreKept, one_too_many, name_again, kept_more}
 use Rattle.om_text.proofs.setting_lines.names_on.Goals as goal
 use Rattle.om_text.proofs.setting_lines.names_on.Goals.{then-len-elements-via-then-len-elements}
 use Rattle.om_text.proofs.setting_lines.names_on.Goals.{then-len-elements-via-else-len-elements+then-has_name}

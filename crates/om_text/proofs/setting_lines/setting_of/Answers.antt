@@ -1,6 +1,6 @@
 use Rattle.std.proofs.Common.{sym, ap, ◌∙◌}
-use Rattle.om_text.specs.Lines.{runs}
-use Rattle.om_text.specs.Settings.{setting_in}
+use Rattle.om_lines.specs.Lines.{runs}
+use Rattle.om_document.specs.Settings.{setting_in}
 use Rattle.om_text.proofs.setting_lines.setting_of.Goals as goal
 
 pub returns-in-Chirotope : goal.returns-in-Chirotope

@@ -1,6 +1,6 @@
 use Rattle.std.proofs.Common.{rules, Err, ◌∙◌}
 use Rattle.om_text.specs.declared.state.State.{State}
-use Rattle.om_text.specs.Lines.{runs}
+use Rattle.om_lines.specs.Lines.{runs}
 use Rattle.om_text.specs.Reading.{after_body}
 use Rattle.om_text.specs.ReaderParts.{IsStepUnlessMemory}
 use Rattle.om_text.proofs.BodyLines.{open_faulty, no_fault, open_line, open_refused}

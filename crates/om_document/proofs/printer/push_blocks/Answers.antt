@@ -1,0 +1,6 @@
+use Rattle.om_document.proofs.Printing.{blocks_more}
+use Rattle.om_document.proofs.printer.push_blocks.Goals as goal
+
+pub loop-block-preserved : goal.loop-block-preserved
+loop-block-preserved c = blocks_more c.args.out.now.items _ _ c.args.blocks.now c.loop-block.block-index _
+    c.loop-block-test.true c.loop-block.invariant c.in_ok-push_block.ensures

@@ -1,0 +1,6 @@
+use Rattle.om_document.proofs.PrintingTwo.{names_more}
+use Rattle.om_document.proofs.printer_two.push_names.Goals as goal
+
+pub loop-name-preserved : goal.loop-name-preserved
+loop-name-preserved c = names_more c.args.out.now.items _ _ c.args.names.now c.loop-name.name-index c.name-item.result
+    c.loop-name-test.true c.name-item.is c.loop-name.invariant c.in_ok-push_name.ensures

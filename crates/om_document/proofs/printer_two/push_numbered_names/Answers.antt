@@ -1,0 +1,7 @@
+use Rattle.std.proofs.Common.{refl, ap, ◌∙◌, ◌++◌}
+use Rattle.om_document.proofs.PrintingTwo.{numbers_more}
+use Rattle.om_document.proofs.printer_two.push_numbered_names.Goals as goal
+
+pub loop-index-preserved : goal.loop-index-preserved
+loop-index-preserved c = numbers_more c.args.out.now.items _ _ _ c.loop-index.index _ refl c.loop-index.invariant
+    c.in_ok-name.ensures (c.in_ok-push_bytes.ensures ∙ ap (λ x. c.loop-index.out.items ++ x) c.as_slice.ensures.value)

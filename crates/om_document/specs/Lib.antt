@@ -1,0 +1,12 @@
+pub mod Heading
+pub mod Rows
+pub mod Members
+pub mod Names
+pub mod NameBytes
+pub mod Settings
+pub mod Points
+pub mod Blocks
+pub mod Document
+pub mod Form
+pub mod Print
+pub mod PrintTwo

@@ -1,0 +1,74 @@
+-- Numbers of at most six digits, and of any number of digits up to a limit.
+--
+-- Main results: ten_small, digit_at, number_step, number_grows, unsigned_within, signed_within
+use Rattle.std.proofs.Common.{◌≡◌, ℕ, zero, suc, ◌+◌, ◌-◌, ◌*◌, ◌<◌, ◌≤◌, List, [], ◌∷◌, true, length, drop, get_or}
+use Rattle.std.proofs.Common.{refl, arith, nat_le, inl, inr}
+use Rattle.std.specs.List.{list_all}
+use Rattle.std.proofs.lemmas.Bool.{leb-true, lt-leb, cases_Bool, and_parts}
+use Rattle.std.specs.Prelude.{Option, Some, None, IfSome, option_map, pos, unsigned_abs}
+use Rattle.om_lines.specs.Words.{is_digit, number_from, begins_with, is_decimal, up_to, unsigned, negative, signed}
+
+-- ten times ten, k times
+abbrev pub ten : ℕ → ℕ
+ten zero = 1
+ten (suc k) = 10 * ten k
+
+pub ten_small : (k : ℕ) → k < 6 → ten k ≤ 100000
+ten_small zero h = omega arith
+ten_small (suc zero) h = omega arith
+ten_small (suc (suc zero)) h = omega arith
+ten_small (suc (suc (suc zero))) h = omega arith
+ten_small (suc (suc (suc (suc zero)))) h = omega arith
+ten_small (suc (suc (suc (suc (suc zero))))) h = omega arith
+ten_small (suc (suc (suc (suc (suc (suc k)))))) h = absurd (omega arith)
+
+pub digit_at : (w : List ℕ) (i : ℕ) → list_all is_digit w ≡ true → i < length w → (48 ≤ get_or w i 0)
+    × (get_or w i 0 ≤ 57)
+digit_at [] i h l = absurd (omega arith)
+digit_at (b ∷ bs) zero h l =
+    let a = and_parts (is_digit b) (list_all is_digit bs) h in
+    let c = and_parts (nat_le 48 b) (nat_le b 57) a.0 in
+    (leb-true 48 b c.0, leb-true b 57 c.1)
+digit_at (b ∷ bs) (suc i) h l = digit_at bs i (and_parts (is_digit b) (list_all is_digit bs) h).1 (omega arith)
+
+pub number_step : (w : List ℕ) (i n : ℕ) → i < length w
+    → number_from n (drop i w) ≡ number_from (10 * n + (get_or w i 0 - 48)) (drop (i + 1) w)
+number_step [] i n l = absurd (omega arith)
+number_step (b ∷ bs) zero n l = refl
+number_step (b ∷ bs) (suc i) n l = let e : suc i + 1 ≡ suc (i + 1) = omega arith in
+    rw e (number_step bs i n (omega arith))
+
+-- a number goes on to no smaller one
+pub number_grows : (n : ℕ) (w : List ℕ) → n ≤ number_from n w
+number_grows n [] = omega arith
+number_grows n (b ∷ bs) = let i = number_grows (10 * n + (b - 48)) bs in omega arith
+
+pub past_limit : (limit n : ℕ) (w : List ℕ) → limit < n → up_to limit (number_from n w) ≡ None
+past_limit limit n w h = let i = number_grows n w in rw (lt-leb (number_from n w) limit (omega arith)) refl
+
+up_to_within : (limit n : ℕ) → IfSome (up_to limit n) (λ k. k ≤ limit)
+up_to_within limit n = elim (cases_Bool (nat_le n limit)) [
+  | inl e ↦ rw e (leb-true n limit e)
+  | inr e ↦ rw e tt
+]
+
+pub unsigned_within : (limit : ℕ) (w : List ℕ) → IfSome (unsigned limit w) (λ k. k ≤ limit)
+unsigned_within limit w = elim (cases_Bool (is_decimal w)) [
+  | inl e ↦ rw e (up_to_within limit (number_from 0 w))
+  | inr e ↦ rw e tt
+]
+
+pub signed_within : (limit : ℕ) (w : List ℕ) → IfSome (signed limit w) (λ z. unsigned_abs z ≤ limit)
+signed_within limit w = elim (cases_Bool (begins_with 45 w)) [
+  | inl e ↦ rw e (below (unsigned limit (drop 1 w)) (unsigned_within limit (drop 1 w)))
+  | inr e ↦ rw e (above (unsigned limit w) (unsigned_within limit w))
+]
+  where
+    below : (o : Option ℕ) → IfSome o (λ k. k ≤ limit) → IfSome (negative o) (λ z. unsigned_abs z ≤ limit)
+    below None h = tt
+    below (Some zero) h = tt
+    below (Some (suc n)) h = h
+
+    above : (o : Option ℕ) → IfSome o (λ k. k ≤ limit) → IfSome (option_map pos o) (λ z. unsigned_abs z ≤ limit)
+    above None h = tt
+    above (Some n) h = h

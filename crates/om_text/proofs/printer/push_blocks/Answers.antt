@@ -1,6 +1,0 @@
-use Rattle.om_text.proofs.Printing.{blocks_more}
-use Rattle.om_text.proofs.printer.push_blocks.Goals as goal
-
-pub loop-block-preserved : goal.loop-block-preserved
-loop-block-preserved c = blocks_more c.args.out.now.items _ _ c.args.blocks.now c.loop-block.block-index _
-    c.loop-block-test.true c.loop-block.invariant c.in_ok-push_block.ensures

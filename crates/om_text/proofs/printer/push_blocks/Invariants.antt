@@ -1,6 +1,0 @@
-use Rattle.std.proofs.Common.{◌≡◌, ◌++◌, take}
-use Rattle.om_text.specs.Print.{text_of, block_lines}
-use Rattle.om_text.proofs.printer.push_blocks.Given as goal
-
-abbrev pub invariant-loop-block : goal.invariant-loop-block
-invariant-loop-block l = l.out.items ≡ l.initial.out.items ++ text_of (block_lines (take l.block-index l.blocks))

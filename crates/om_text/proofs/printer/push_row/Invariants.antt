@@ -1,6 +1,0 @@
-use Rattle.std.proofs.Common.{◌≡◌, ◌++◌, take, map}
-use Rattle.om_text.specs.Words.{byte_of}
-use Rattle.om_text.proofs.printer.push_row.Given as goal
-
-abbrev pub invariant-loop-sign : goal.invariant-loop-sign
-invariant-loop-sign l = l.out.items ≡ l.initial.out.items ++ map byte_of (take l.sign-index l.signs)
