@@ -57,6 +57,8 @@ impl Chirotope {
     pub fn rank(&self) -> u8
         ensures value { result ≡ self.now.rank }
         ensures high { result ≤ self.now.elements }
+        ensures some { 1 ≤ self.now.elements }
+        ensures few { self.now.elements ≤ MAX_ELEMENTS }
         ensures lawful { IsChirotope self.now }
     {
         self.raw.rank
@@ -67,6 +69,8 @@ impl Chirotope {
         ensures value { result ≡ self.now.elements }
         ensures low { 1 ≤ result }
         ensures high { result ≤ MAX_ELEMENTS }
+        ensures part { self.now.rank ≤ self.now.elements }
+        ensures lawful { IsChirotope self.now }
     {
         self.raw.elements
     }
@@ -151,7 +155,11 @@ impl Chirotope {
 
     /// The map of the chirotope: its rank, its elements and its signs.
     pub fn into_raw(self) -> RawMap
-        ensures { map_of result ≡ self }
+        ensures value { map_of result ≡ self }
+        ensures part { self.rank ≤ self.elements }
+        ensures low { 1 ≤ self.elements }
+        ensures high { self.elements ≤ MAX_ELEMENTS }
+        ensures lawful { IsChirotope self }
     {
         self.raw
     }

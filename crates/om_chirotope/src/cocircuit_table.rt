@@ -3,7 +3,7 @@
 ghost use Rattle.std.specs.Prelude.{ℕ, ◌≡◌, ◌+◌, ◌-◌, ◌<◌, ◌≤◌, [], length, take, IfNone, IfSome};
 ghost use Rattle.std.proofs.Math.ListN.{get_or};
 ghost use Rattle.om_signs.specs.SignVec.{IsOrthogonal};
-ghost use Rattle.om_subsets.specs.Subsets.{choose, rank_of};
+ghost use Rattle.om_subsets.specs.Subsets.{choose, rank_of, IsSubsetFrom};
 ghost use Rattle.om_chirotope.specs.Map.{map_of, cocircuit_vector, cocircuit_vectors};
 
 use super::vectors::cocircuit_of;
@@ -46,10 +46,10 @@ pub fn cocircuit_at(raw: &RawMap, table: &[SignVec], a: Subset, place: u32) -> S
     requires size { length a.elements + 1 ≡ raw.now.rank }
     requires whole { length raw.now.signs ≡ choose raw.now.elements raw.now.rank }
     requires filled { table.now ≡ take (length table.now) (cocircuit_vectors (map_of raw.now)) }
+    requires list { IsSubsetFrom 1 a.n a.elements }
     requires place { place ≡ rank_of a.n a.elements }
     ensures { result ≡ cocircuit_vector (map_of raw.now) a.elements }
 {
-    a.is_lawful();
     if (place as usize) < table.len() {
         return table[place as usize];
     }

@@ -174,6 +174,7 @@ fn row_of(raw: &RawMap, cocircuits: &[SignVec], p: Subset, x: u8, place: u32) ->
     requires rank_high { raw.now.rank ≤ raw.now.elements }
     requires whole { length raw.now.signs ≡ choose raw.now.elements raw.now.rank }
     requires n { p.n ≡ raw.now.elements }
+    requires list { IsSubsetFrom 1 raw.now.elements p.elements }
     requires filled { cocircuits.now ≡ take (length cocircuits.now) (cocircuit_vectors (map_of raw.now)) }
     requires x_low { 1 ≤ x }
     requires x_high { x ≤ raw.now.elements }
@@ -181,7 +182,6 @@ fn row_of(raw: &RawMap, cocircuits: &[SignVec], p: Subset, x: u8, place: u32) ->
     requires place { place ≡ rank_of p.n (with_element x p.elements) }
     ensures { result ≡ cocircuit_vector (map_of raw.now) (p.elements ++ x ∷ []) }
 {
-    p.is_lawful();
     let vector = cocircuit_at(raw, cocircuits, p.with(x), place);
     if p.odd_after(x) { vector.neg() } else { vector }
 }

@@ -1,7 +1,7 @@
 //! The signs of sets under a map, and its two kinds of sign vectors.
 
 ghost use Rattle.std.specs.Prelude.{◌≡◌, ◌+◌, ◌<◌, ◌≤◌, length};
-ghost use Rattle.om_subsets.specs.Subsets.{choose, rank_of, IsMember, with_element};
+ghost use Rattle.om_subsets.specs.Subsets.{choose, rank_of, IsMember, IsSubsetFrom, with_element};
 ghost use Rattle.om_subsets.specs.Lists.{IsWithin};
 ghost use Rattle.om_laws.specs.Tuples.{before_sign};
 ghost use Rattle.om_laws.specs.Relations.{around, along};
@@ -28,10 +28,10 @@ pub fn sign_of(raw: &RawMap, s: Subset, place: u32) -> Sign
     requires size { length s.elements ≡ raw.now.rank }
     requires whole { length raw.now.signs ≡ choose raw.now.elements raw.now.rank }
     requires place { place ≡ rank_of s.n s.elements }
+    requires list { IsSubsetFrom 1 s.n s.elements }
     ensures place { result ≡ chi_of (map_of raw.now) s.elements }
     ensures value { result ≡ value_of (map_of raw.now) s.elements }
 {
-    s.is_lawful();
     raw.signs.at(place as usize)
 }
 
@@ -79,10 +79,10 @@ fn cocircuit_sign(raw: &RawMap, a: Subset, e: u8, place: u32) -> Sign
     requires n { a.n ≡ raw.now.elements }
     requires size { length a.elements + 1 ≡ raw.now.rank }
     requires whole { length raw.now.signs ≡ choose raw.now.elements raw.now.rank }
+    requires list { IsSubsetFrom 1 a.n a.elements }
     requires place { (IsMember e a.elements → ⊥) → place ≡ rank_of a.n (with_element e a.elements) }
     ensures { result ≡ along (value_of (map_of raw.now)) a.elements e }
 {
-    a.is_lawful();
     if a.has(e) {
         return Sign::Zero;
     }

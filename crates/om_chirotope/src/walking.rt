@@ -14,8 +14,9 @@ pub const PLACES: usize = MAX_PLACES as usize;
 /// result has at e - 1 the place of the set with e. This is its place in the lexicographic order of the sets of its
 /// size.
 pub fn places_with(set: Subset) -> [u32; PLACES]
-    ensures { (e : ℕ) → 1 ≤ e → e ≤ set.n → (IsMember e set.elements → ⊥)
+    ensures places { (e : ℕ) → 1 ≤ e → e ≤ set.n → (IsMember e set.elements → ⊥)
         → get_or result (e - 1) 0 ≡ rank_of set.n (with_element e set.elements) }
+    ensures list { IsSubsetFrom 1 set.n set.elements }
 {
     let mut places = [0u32; PLACES];
     let mut left = set.size();

@@ -43,14 +43,6 @@ impl SignedSet {
         SignedSet { elements, list }
     }
 
-    /// The members are distinct, at most [`MAX_MEMBERS`], have a sign for each of the elements, from 1 to
-    /// [`MAX_ELEMENTS`], and satisfy the axioms of circuits. The call does nothing: its contract is this fact.
-    pub fn is_lawful(&self)
-        ensures { IsSignedSet self.now.elements self.now.members }
-    {
-        let _elements = self.elements;
-    }
-
     /// The number of elements; each member has as many signs.
     pub fn elements(&self) -> u8
         ensures value { result ≡ self.now.elements }

@@ -4,11 +4,11 @@ use super::circuits::Circuits;
 use super::cocircuits::Cocircuits;
 use super::signed_set::SignedSet;
 
-// Whatever is passed here may be moved to another thread and shared between threads.
-fn crosses<T: Send + Sync>(_value: &T) {}
+/// A type whose values may be moved to another thread and shared between threads.
+trait Crosses: Send + Sync {}
 
-fn sets_cross(set: &SignedSet, circuits: &Circuits, cocircuits: &Cocircuits) {
-    crosses(set);
-    crosses(circuits);
-    crosses(cocircuits);
-}
+impl Crosses for SignedSet {}
+
+impl Crosses for Circuits {}
+
+impl Crosses for Cocircuits {}

@@ -77,7 +77,6 @@ fn to_circuits(alloc: Global, representation: Representation) -> Result<Answer, 
 fn list_circuits(alloc: Global, chirotope: &Chirotope) -> Result<Answer, NoMemory>
     ensures { IfOk result (IsConversionFrom Kind.Circuits chirotope.now) }
 {
-    chirotope.is_lawful();
     match chirotope_to_circuits(alloc, chirotope) {
         Ok(circuits) => Ok(Answer::Document(circuits_document(alloc, circuits))),
         Err(why) => refuse_list(why),
@@ -105,7 +104,6 @@ fn to_cocircuits(alloc: Global, representation: Representation) -> Result<Answer
 fn list_cocircuits(alloc: Global, chirotope: &Chirotope) -> Result<Answer, NoMemory>
     ensures { IfOk result (IsConversionFrom Kind.Cocircuits chirotope.now) }
 {
-    chirotope.is_lawful();
     match chirotope_to_cocircuits(alloc, chirotope) {
         Ok(cocircuits) => Ok(Answer::Document(cocircuits_document(alloc, cocircuits))),
         Err(why) => refuse_list(why),
@@ -134,7 +132,6 @@ fn to_covectors(alloc: Global, representation: Representation) -> Result<Answer,
 fn list_covectors(alloc: Global, chirotope: &Chirotope) -> Result<Answer, NoMemory>
     ensures { IfOk result (IsConversionFrom Kind.Covectors chirotope.now) }
 {
-    chirotope.is_lawful();
     match chirotope_to_covectors(alloc, chirotope) {
         Ok(covectors) => Ok(Answer::Document(covectors_document(alloc, covectors))),
         Err(why) => refuse_list(why),
@@ -145,7 +142,6 @@ fn list_covectors(alloc: Global, chirotope: &Chirotope) -> Result<Answer, NoMemo
 fn list_minimal(alloc: Global, covectors: &Covectors) -> Result<Answer, NoMemory>
     ensures { IfOk result (IsMeantFor (IsConversion Kind.Cocircuits) (Representation.Covectors covectors.now)) }
 {
-    covectors.is_lawful();
     match covectors_to_cocircuits(alloc, covectors) {
         Ok(cocircuits) => Ok(Answer::Document(cocircuits_document(alloc, cocircuits))),
         Err(why) => refuse_list(why),

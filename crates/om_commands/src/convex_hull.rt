@@ -5,7 +5,7 @@ ghost use Rattle.om_commands.specs.Hulls.{IsCyclicAnswer, IsHull, IsHullOfMap};
 ghost use Rattle.om_representation.specs.Represented.{IsMeantFor};
 
 use om_chirotope::Chirotope;
-use om_paint::{HullError, acyclic_chirotopes, hull};
+use om_paint::{HullError, hull};
 use om_printing::Line;
 use om_reply::Answer;
 use om_representation::{Representation, choose_chirotope, width_line};
@@ -27,9 +27,6 @@ pub fn find_hull(alloc: Global, representation: Representation) -> Result<Answer
 fn find_hull_of(alloc: Global, chirotope: &Chirotope) -> Result<Answer, NoMemory>
     ensures { IfOk result (IsHullOfMap chirotope.now) }
 {
-    chirotope.is_lawful();
-    // this law says which chirotopes are acyclic
-    acyclic_chirotopes();
     match hull(alloc, chirotope) {
         Ok(items) => Ok(Answer::Hull(items)),
         Err(why) => refuse_hull(why),

@@ -62,10 +62,10 @@ fn painting_refusal(n: u8, given: &Colouring) -> Option<Line>
 /// The line that names what fits a colouring in a chirotope.
 fn find_painting_of(chirotope: &Chirotope, given: &Colouring) -> Line
     requires element { HasElement given.now }
+    requires few { chirotope.now.elements ≤ MAX_ELEMENTS }
     requires lawful { IsPaintable given.now chirotope.now.elements }
     ensures { IsPaintingOfMap given.now chirotope.now (says result) }
 {
-    chirotope.is_lawful();
     let colours = &given.colours[..given.count as usize];
     painted_line(paint(chirotope, colours, given.e))
 }

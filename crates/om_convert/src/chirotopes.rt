@@ -1,6 +1,7 @@
 //! Conversions of chirotopes.
 
-ghost use Rattle.std.specs.Prelude.{◌≡◌, IfOk, IfErr, OnOk};
+ghost use Rattle.std.specs.Prelude.{◌≡◌, ◌≤◌, IfOk, IfErr, OnOk};
+ghost use Rattle.om_chirotope.specs.Chirotope.{IsChirotope};
 ghost use Rattle.om_denotation.specs.Circuits.{IsCircuitOfChirotope, IsCocircuitOfChirotope};
 ghost use Rattle.om_denotation.specs.Covectors.{IsCovectorOfChirotope, IsCovectorOfCircuits, IsCovectorOfCocircuits};
 ghost use Rattle.om_denotation.specs.Covectors.{IsCovectorOfCovectors};
@@ -14,6 +15,7 @@ use super::vectors::{all_circuits, all_cocircuits, all_covectors};
 use om_chirotope::Chirotope;
 use om_circuits::{Circuits, Cocircuits, SignedSet};
 use om_covectors::Covectors;
+use om_signs::MAX_ELEMENTS;
 use std::alloc::Global;
 
 /// The circuits of the oriented matroid of a chirotope: the nonzero vectors V of the increasing lists of one
@@ -33,6 +35,7 @@ pub fn chirotope_to_circuits(alloc: Global, chi: &Chirotope) -> Result<Circuits,
     ensures unique { IfOk result (λ c. AreOnlyCircuits c.0) }
     ensures few { OnOk result (IsWithinLimit (IsCircuitOfChirotope chi.now)) }
     ensures many { IfErr result (IsCause (IsCircuitOfChirotope chi.now)) }
+    ensures lawful { IsChirotope chi.now }
 {
     let gathered = all_circuits(alloc, chi)?;
     let circuits = gathered.into_list(alloc)?;
@@ -56,6 +59,8 @@ pub fn chirotope_to_cocircuits(alloc: Global, chi: &Chirotope) -> Result<Cocircu
     ensures unique { IfOk result (λ c. AreOnlyCocircuits c.0) }
     ensures few { OnOk result (IsWithinLimit (IsCocircuitOfChirotope chi.now)) }
     ensures many { IfErr result (IsCause (IsCocircuitOfChirotope chi.now)) }
+    ensures high { chi.now.elements ≤ MAX_ELEMENTS }
+    ensures lawful { IsChirotope chi.now }
 {
     let gathered = all_cocircuits(alloc, chi)?;
     let cocircuits = gathered.into_list(alloc)?;
@@ -79,6 +84,8 @@ pub fn chirotope_to_covectors(alloc: Global, chi: &Chirotope) -> Result<Covector
     ensures unique { IfOk result AreOnlyCovectors }
     ensures few { OnOk result (IsWithinLimit (IsCovectorOfChirotope chi.now)) }
     ensures many { IfErr result (IsCause (IsCovectorOfChirotope chi.now)) }
+    ensures high { chi.now.elements ≤ MAX_ELEMENTS }
+    ensures lawful { IsChirotope chi.now }
 {
     let gathered = all_covectors(alloc, chi)?;
     let covectors = gathered.into_list(alloc)?;

@@ -2,6 +2,7 @@
 
 ghost use Rattle.std.specs.Prelude.{◌≡◌, IfOk, IsOkUnless};
 ghost use Rattle.std.specs.List.{Contains};
+ghost use Rattle.om_covectors.specs.CovectorSets.{IsCovectorSet};
 ghost use Rattle.om_covectors.specs.Minimality.{IsMinimal, AreThose};
 ghost use Rattle.om_denotation.specs.Covectors.{IsCovectorOfCocircuits};
 ghost use Rattle.om_denotation.specs.Denotation.{DenoteTheSame};
@@ -28,7 +29,9 @@ pub fn covectors_to_cocircuits(_alloc: Global, c: &Covectors) -> Result<Cocircui
         DenoteTheSame c.now.elements (Contains c.now.members) (IsCovectorOfCocircuits d.0)) }
     ensures unique { IfOk result (λ d. AreOnlyCocircuits d.0) }
     ensures memory { IsOkUnless result ConvertError.Memory }
+    ensures lawful { IsCovectorSet c.now.elements c.now.members }
 {
+    let elements = c.elements();
     let minimal = c.minimal()?;
-    Ok(Cocircuits(SignedSet::lawful(c.elements(), minimal)))
+    Ok(Cocircuits(SignedSet::lawful(elements, minimal)))
 }

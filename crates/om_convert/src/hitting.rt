@@ -17,7 +17,6 @@ pub fn meets(y: SignVec, s: Subset) -> bool
     requires { length y ≡ s.n }
     ensures { IsTrue result ↔ IsNonzeroOn s.elements y }
 {
-    s.is_lawful();
     y.support() & s.mask() != 0
 }
 

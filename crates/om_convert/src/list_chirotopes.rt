@@ -4,6 +4,7 @@ ghost use Rattle.std.specs.Prelude.{◌≡◌, ◌≤◌, IfOk, IfErr, OnOk};
 ghost use Rattle.std.specs.List.{Contains};
 ghost use Rattle.om_signs.specs.declared.sign.Sign.TheVariants.{Plus};
 ghost use Rattle.om_chirotope.specs.Map.{IsLedBy};
+ghost use Rattle.om_chirotope.specs.Chirotope.{IsChirotope};
 ghost use Rattle.om_denotation.specs.Circuits.{IsCircuitOfChirotope, IsCocircuitOfChirotope};
 ghost use Rattle.om_denotation.specs.Covectors.{IsCovectorOfChirotope, IsCovectorOfCircuits, IsCovectorOfCocircuits};
 ghost use Rattle.om_denotation.specs.Denotation.{DenoteTheSame};
@@ -35,6 +36,7 @@ pub fn circuits_to_chirotope(alloc: Global, c: &Circuits) -> Result<Chirotope, C
     ensures circuits { IfOk result (λ m. AreAllOf (IsCircuitOfChirotope m) c.now.0.members) }
     ensures same { IfOk result (λ m.
         DenoteTheSame c.now.0.elements (IsCovectorOfCircuits c.now.0) (IsCovectorOfChirotope m)) }
+    ensures lawful { IfOk result IsChirotope }
     ensures normal { IfOk result (λ m. IsLedBy Plus m.signs) }
     ensures unique { IfOk result IsOnlyChirotope }
     ensures narrow { OnOk result (HasFewValuesFor c.now.0.elements (IsCovectorOfCircuits c.now.0)) }
@@ -57,6 +59,7 @@ pub fn cocircuits_to_chirotope(alloc: Global, c: &Cocircuits) -> Result<Chirotop
     ensures cocircuits { IfOk result (λ m. AreAllOf (IsCocircuitOfChirotope m) c.now.0.members) }
     ensures same { IfOk result (λ m.
         DenoteTheSame c.now.0.elements (IsCovectorOfCocircuits c.now.0) (IsCovectorOfChirotope m)) }
+    ensures lawful { IfOk result IsChirotope }
     ensures normal { IfOk result (λ m. IsLedBy Plus m.signs) }
     ensures unique { IfOk result IsOnlyChirotope }
     ensures narrow { OnOk result (HasFewValuesFor c.now.0.elements (IsCovectorOfCocircuits c.now.0)) }
@@ -79,6 +82,7 @@ pub fn covectors_to_chirotope(alloc: Global, c: &Covectors) -> Result<Chirotope,
     ensures covectors { IfOk result (λ m. AreAllOf (IsCovectorOfChirotope m) c.now.members) }
     ensures same { IfOk result (λ m.
         DenoteTheSame c.now.elements (Contains c.now.members) (IsCovectorOfChirotope m)) }
+    ensures lawful { IfOk result IsChirotope }
     ensures normal { IfOk result (λ m. IsLedBy Plus m.signs) }
     ensures unique { IfOk result IsOnlyChirotope }
     ensures narrow { OnOk result (HasFewValuesFor c.now.elements (Contains c.now.members)) }

@@ -3,6 +3,7 @@
 ghost use Rattle.std.specs.Prelude.{◌≡◌, ◌≤◌, IfOk, length};
 ghost use Rattle.om_signs.specs.declared.sign.Sign.TheVariants.{Plus};
 ghost use Rattle.om_chirotope.specs.Map.{IsLedBy, map_of};
+ghost use Rattle.om_chirotope.specs.Chirotope.{IsChirotope};
 ghost use Rattle.om_denotation.specs.Circuits.{IsCircuitOfChirotope, IsCocircuitOfChirotope};
 ghost use Rattle.om_denotation.specs.Covectors.{IsCovectorOfChirotope, IsCovectorOfCircuits, IsCovectorOfCocircuits};
 ghost use Rattle.om_denotation.specs.Denotation.{DenoteTheSame};
@@ -93,6 +94,7 @@ pub fn chirotope_of_cocircuits(
     ensures cocircuits { IfOk result (λ m. AreAllOf (IsCocircuitOfChirotope m) c.now.0.members) }
     ensures same { IfOk result (λ m.
         DenoteTheSame c.now.0.elements (IsCovectorOfCocircuits c.now.0) (IsCovectorOfChirotope m)) }
+    ensures lawful { IfOk result IsChirotope }
     ensures normal { IfOk result (λ m. IsLedBy Plus m.signs) }
     ensures unique { IfOk result IsOnlyChirotope }
 {
@@ -113,6 +115,7 @@ pub fn chirotope_of_circuits(alloc: Global, c: &Circuits, rank: u8) -> Result<Ch
     ensures circuits { IfOk result (λ m. AreAllOf (IsCircuitOfChirotope m) c.now.0.members) }
     ensures same { IfOk result (λ m.
         DenoteTheSame c.now.0.elements (IsCovectorOfCircuits c.now.0) (IsCovectorOfChirotope m)) }
+    ensures lawful { IfOk result IsChirotope }
     ensures normal { IfOk result (λ m. IsLedBy Plus m.signs) }
     ensures unique { IfOk result IsOnlyChirotope }
 {

@@ -8,6 +8,7 @@ ghost use Rattle.om_convert.specs.Ranks.{IsRankFor};
 use super::hitting::least_meeting;
 use om_circuits::{Circuits, Cocircuits};
 use om_covectors::Covectors;
+use om_signs::MAX_ELEMENTS;
 
 /// The rank of the chirotope that denotes the same as some circuits, whatever its number of values. It is the
 /// number of elements minus the size of a minimal set that meets every circuit. The call allocates no memory.
@@ -15,6 +16,7 @@ use om_covectors::Covectors;
 /// Source: Björner, Las Vergnas, Sturmfels, White and Ziegler, *Oriented Matroids*, chapter 3.
 pub fn rank_circuits(c: &Circuits) -> u8
     ensures high { result ≤ c.now.0.elements }
+    ensures few { c.now.0.elements ≤ MAX_ELEMENTS }
     ensures rank { IsRankFor c.now.0.elements (IsCovectorOfCircuits c.now.0) result }
 {
     let elements = c.0.elements();
@@ -27,6 +29,7 @@ pub fn rank_circuits(c: &Circuits) -> u8
 /// Source: Björner, Las Vergnas, Sturmfels, White and Ziegler, *Oriented Matroids*, chapter 3.
 pub fn rank_cocircuits(c: &Cocircuits) -> u8
     ensures high { result ≤ c.now.0.elements }
+    ensures few { c.now.0.elements ≤ MAX_ELEMENTS }
     ensures rank { IsRankFor c.now.0.elements (IsCovectorOfCocircuits c.now.0) result }
 {
     least_meeting(c.0.elements(), c.0.members()).size()
@@ -38,6 +41,7 @@ pub fn rank_cocircuits(c: &Cocircuits) -> u8
 /// Source: Björner, Las Vergnas, Sturmfels, White and Ziegler, *Oriented Matroids*, chapters 3 and 4.
 pub fn rank_covectors(c: &Covectors) -> u8
     ensures high { result ≤ c.now.elements }
+    ensures few { c.now.elements ≤ MAX_ELEMENTS }
     ensures rank { IsRankFor c.now.elements (Contains c.now.members) result }
 {
     least_meeting(c.elements(), c.members()).size()

@@ -90,7 +90,6 @@ fn sign_of_basis(vectors: &[SignVec], before: &[Sign], t: Subset) -> Sign
     ensures { AreFirstSigns t.n (length t.elements) vectors.now before.now
         → IsNextSign t.n (length t.elements) vectors.now (length before.now) result }
 {
-    t.is_lawful();
     for e in 1..t.n() + 1 {
         if let Some(sign) = sign_over(vectors, before, t, e) {
             return sign;
@@ -103,11 +102,11 @@ fn sign_of_basis(vectors: &[SignVec], before: &[Sign], t: Subset) -> Sign
 /// chirotope with these cocircuits. Then the result is the sign of this set in it.
 pub fn sign_of(vectors: &[SignVec], before: &[Sign], t: Subset) -> Sign
     requires lengths { HaveLength t.n vectors.now }
+    requires lawful { IsSubsetFrom 1 t.n t.elements }
     requires place { rank_of t.n t.elements ≡ length before.now }
     ensures { AreFirstSigns t.n (length t.elements) vectors.now before.now
         → IsNextSign t.n (length t.elements) vectors.now (length before.now) result }
 {
-    t.is_lawful();
     match missed_vector(vectors, t) {
         Some(_) => Sign::Zero,
         None => sign_of_basis(vectors, before, t),

@@ -1,7 +1,7 @@
 //! The circuits and the cocircuits of a chirotope, from its increasing lists, and its covectors, as compositions of
 //! cocircuits.
 
-ghost use Rattle.std.specs.Prelude.{IfOk, IfErr};
+ghost use Rattle.std.specs.Prelude.{◌≤◌, IfOk, IfErr};
 ghost use Rattle.om_chirotope.specs.Chirotope.{IsChirotope};
 ghost use Rattle.om_denotation.specs.Circuits.{IsCircuitOfChirotope, IsCocircuitOfChirotope};
 ghost use Rattle.om_denotation.specs.Covectors.{IsCovectorOfChirotope};
@@ -12,6 +12,7 @@ use super::closure::all_compositions;
 use super::convert_error::ConvertError;
 use super::member_set::MemberSet;
 use om_chirotope::Chirotope;
+use om_signs::MAX_ELEMENTS;
 use om_subsets::Subset;
 use std::alloc::Global;
 
@@ -40,6 +41,7 @@ pub fn all_circuits(alloc: Global, chi: &Chirotope) -> Result<MemberSet, Convert
 pub fn all_cocircuits(alloc: Global, chi: &Chirotope) -> Result<MemberSet, ConvertError>
     ensures members { IfOk result (AreAllOf (IsCocircuitOfChirotope chi.now)) }
     ensures many { IfErr result (IsCause (IsCocircuitOfChirotope chi.now)) }
+    ensures high { chi.now.elements ≤ MAX_ELEMENTS }
     ensures lawful { IsChirotope chi.now }
 {
     let elements = chi.elements();
@@ -61,6 +63,7 @@ pub fn all_cocircuits(alloc: Global, chi: &Chirotope) -> Result<MemberSet, Conve
 pub fn all_covectors(alloc: Global, chi: &Chirotope) -> Result<MemberSet, ConvertError>
     ensures members { IfOk result (AreAllOf (IsCovectorOfChirotope chi.now)) }
     ensures many { IfErr result (IsCause (IsCovectorOfChirotope chi.now)) }
+    ensures high { chi.now.elements ≤ MAX_ELEMENTS }
     ensures lawful { IsChirotope chi.now }
 {
     let cocircuits = all_cocircuits(alloc, chi)?;

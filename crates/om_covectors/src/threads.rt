@@ -2,9 +2,7 @@
 
 use super::covectors::Covectors;
 
-// Whatever is passed here may be moved to another thread and shared between threads.
-fn crosses<T: Send + Sync>(_value: &T) {}
+/// A type whose values may be moved to another thread and shared between threads.
+trait Crosses: Send + Sync {}
 
-fn covectors_cross(covectors: &Covectors) {
-    crosses(covectors);
-}
+impl Crosses for Covectors {}

@@ -55,7 +55,6 @@ pub fn decide(alloc: Global, chi: &Chirotope, budgets: Budgets) -> Result<Verdic
     ensures form { IfOk result IsVerdictInForm }
     ensures refused { IfErr result (IsRefusal chi.now) }
 {
-    chi.is_lawful();
     if chi.rank() != 3 {
         return Err(DecideError::NotRank3 { r: chi.rank() });
     }

@@ -5,7 +5,7 @@
 -- of cocircuits, read as circuits (dual_of_cocircuits); the circuits of what denotes the same as a chirotope
 -- (circuits_of).
 -- Reference: Björner, Las Vergnas, Sturmfels, White and Ziegler, Oriented Matroids, chapter 3.
-use Rattle.std.proofs.Common.{ℕ, ◌≡◌, ◌↔◌, ◌⊎◌, List, refl, sym, subst, ◌∙◌, inl, inr}
+use Rattle.std.proofs.Common.{ℕ, ◌≡◌, ◌↔◌, ◌⊎◌, List, refl, sym, ap, subst, ◌∙◌, inl, inr}
 use Rattle.om_signs.specs.declared.sign.Sign.{Sign}
 use Rattle.om_signs.specs.declared.sign.Sign.TheVariants.{Minus, Plus}
 use Rattle.om_laws.specs.Chirotope.{elements_to}
@@ -190,3 +190,8 @@ circuits_of n P m om q same X = by_dual (normal_dual m om)
               (l, λ Z lz z. (dual Y l).0 y Z lz ((same Z lz).0 z)),
           λ v. (dual Y v.0).1 (λ Z lz z. v.1 Z lz ((same Z lz).1 z)),
         )
+
+-- a listing is its number of elements and its members
+pub same_listing : (s t : Listing) → s.elements ≡ t.elements → s.members ≡ t.members → s ≡ t
+same_listing s t n e = ap (λ k. record { elements = k; members = s.members }) n
+    ∙ ap (λ xs. record { elements = t.elements; members = xs }) e

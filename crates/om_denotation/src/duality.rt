@@ -2,6 +2,7 @@
 
 ghost use Rattle.std.specs.Prelude.{◌≡◌, ◌≤◌, ◌+◌, ◌-◌, ◌++◌, ◌∷◌, [], IfOk};
 ghost use Rattle.om_signs.specs.declared.sign.Sign.TheVariants.{Plus};
+ghost use Rattle.om_subsets.specs.Subsets.{IsSubsetFrom};
 ghost use Rattle.om_laws.specs.Chirotope.{elements_to};
 ghost use Rattle.om_laws.specs.Dual.{complement, dual_on_increasing};
 ghost use Rattle.om_laws.specs.Tuples.{sort_sign};
@@ -70,7 +71,6 @@ impl SignRule for Complements<'_> {
 fn listing_sign(s: Subset) -> Sign
     ensures { result ≡ sort_sign (s.elements ++ complement (elements_to s.n) s.elements) }
 {
-    s.is_lawful();
     let mut sign = Sign::Plus;
     for e in 1..s.n() + 1 {
         sign = sign.times(moving_sign(s, e));
@@ -83,9 +83,9 @@ fn listing_sign(s: Subset) -> Sign
 fn moving_sign(s: Subset, e: u8) -> Sign
     requires low { 1 ≤ e }
     requires high { e ≤ s.n }
+    requires lawful { IsSubsetFrom 1 s.n s.elements }
     ensures { result ≡ sort_sign (s.elements ++ complement (e ∷ []) s.elements) }
 {
-    s.is_lawful();
     if s.has(e) {
         return Sign::Plus;
     }

@@ -9,7 +9,7 @@ ghost use Rattle.om_denotation.specs.Only.{AreOnlyCircuits, AreOnlyCocircuits, A
 ghost use Rattle.om_denotation.specs.Operations.{IsDual};
 ghost use Rattle.om_denotation.specs.Vectors.{IsVectorOf};
 
-use om_circuits::{Circuits, Cocircuits};
+use om_circuits::{Circuits, Cocircuits, SignedSet};
 use om_convert::{ConvertError, chirotope_to_covectors, covectors_to_chirotope};
 use om_covectors::Covectors;
 use om_denotation::dual;
@@ -24,8 +24,8 @@ pub fn dual_circuits(c: Circuits) -> Cocircuits
     ensures dual { IsDual c.0.elements (IsCovectorOfCircuits c.0) (IsCovectorOfCocircuits result.0) }
     ensures unique { AreOnlyCocircuits result.0 }
 {
-    c.0.is_lawful();
-    Cocircuits(c.0)
+    let elements = c.0.elements();
+    Cocircuits(SignedSet::lawful(elements, c.0.into_list()))
 }
 
 /// The circuits of the dual, which are the same members. Up to its order, no other list of circuits denotes the
@@ -37,8 +37,8 @@ pub fn dual_cocircuits(c: Cocircuits) -> Circuits
     ensures dual { IsDual c.0.elements (IsCovectorOfCocircuits c.0) (IsCovectorOfCircuits result.0) }
     ensures unique { AreOnlyCircuits result.0 }
 {
-    c.0.is_lawful();
-    Circuits(c.0)
+    let elements = c.0.elements();
+    Circuits(SignedSet::lawful(elements, c.0.into_list()))
 }
 
 /// The covectors of the dual: the sign vectors that are orthogonal to every covector. Up to its order, no other

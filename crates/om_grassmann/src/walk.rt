@@ -27,12 +27,12 @@ pub fn following(chi: &Chirotope, st: Statement) -> Option<Statement>
     ensures none { IsNone result ↔ IsLast chi.now st }
     ensures next { IfSome result (λ t. IsNext chi.now st t) }
 {
-    chi.is_lawful();
+    let n = chi.elements();
     let frame = Frame::of(st);
     if let Some(next) = first_in_frame(frame, Terms::told_by(st), 3 * (st.small - 1) + st.big) {
         return Some(next);
     }
-    first_after(chi, frame)
+    first_after(chi, n, frame)
 }
 
 /// The first lawful statement from a frame on, or None.
@@ -43,22 +43,22 @@ pub fn first_from(chi: &Chirotope, start: Frame) -> Option<Statement>
     ensures none { IfNone result (HasNoneFrom chi.now (frame_place start * 9)) }
     ensures first { IfSome result (λ t. IsFirstFrom chi.now (frame_place start * 9) t) }
 {
-    chi.is_lawful();
+    let n = chi.elements();
     if let Some(st) = first_of_frame(chi, start) {
         return Some(st);
     }
-    first_after(chi, start)
+    first_after(chi, n, start)
 }
 
-/// The first lawful statement of the frames after a frame, or None.
-fn first_after(chi: &Chirotope, start: Frame) -> Option<Statement>
+/// The first lawful statement of the frames after a frame, or None. `n` is the number of elements.
+fn first_after(chi: &Chirotope, n: u8, start: Frame) -> Option<Statement>
     requires rank { chi.now.rank ≡ 3 }
+    requires n { n ≡ chi.now.elements }
+    requires limit { n ≤ MAX_ELEMENTS }
     requires frame { IsFrame chi.now.elements start }
-    ensures limit { chi.now.elements ≤ MAX_ELEMENTS }
     ensures none { IfNone result (HasNoneFrom chi.now (frame_place start * 9 + 9)) }
     ensures first { IfSome result (λ t. IsFirstFrom chi.now (frame_place start * 9 + 9) t) }
 {
-    let n = chi.elements();
     let mut frame = start;
     while let Some(next) = frame.next(n) {
         if let Some(st) = first_of_frame(chi, next) {

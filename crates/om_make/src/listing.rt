@@ -19,7 +19,6 @@ pub fn list_cocircuits(alloc: Global, chi: &Chirotope) -> Result<Cocircuits, NoM
     requires { chi.now.rank ≡ 3 }
     ensures { IfOk result (λ c. ListsCocircuits chi.now c.0) }
 {
-    chi.is_lawful();
     match chirotope_to_cocircuits(alloc, chi) {
         Ok(cocircuits) => Ok(cocircuits),
         // a list of cocircuits has no values
@@ -35,7 +34,6 @@ pub fn list_covectors(alloc: Global, chi: &Chirotope) -> Result<Covectors, NoMem
     requires { chi.now.rank ≡ 3 }
     ensures { IfOk result (λ c. ListsCovectors chi.now c) }
 {
-    chi.is_lawful();
     match chirotope_to_covectors(alloc, chi) {
         Ok(covectors) => Ok(covectors),
         // a list of covectors has no values
@@ -65,7 +63,6 @@ pub fn count_mutations(alloc: Global, chi: &Chirotope) -> Result<u32, NoMemory>
     requires { chi.now.rank ≡ 3 }
     ensures { IfOk result (λ k. HasMutations k chi.now) }
 {
-    chi.is_lawful();
     match mutations(alloc, chi) {
         Ok(sets) => Ok(sets.len() as u32),
         // the rank is 3

@@ -43,7 +43,6 @@ fn chirotope_of(alloc: Global, vectors: &Word) -> Result<Chirotope, NoMemory>
     requires { BeginsWithUnits vectors.now }
     ensures { IfOk result (λ c. c ≡ signs_map vectors.now) }
 {
-    vectors.is_lawful();
     match signs_of(alloc, vectors.as_slice()) {
         Ok(chi) => Ok(chi),
         // the triple product of the unit vectors is 1

@@ -16,7 +16,6 @@ pub fn first_basis(chi: &Chirotope) -> Subset
     ensures first { IsFirstBasis chi.now result.elements }
 {
     let nothing = Subset::first(0, chi.elements());
-    chi.is_lawful();
     match first_between(chi, nothing, nothing) {
         Some(first) => first,
         // some value of a chirotope isn't 0

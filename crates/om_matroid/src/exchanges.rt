@@ -35,7 +35,6 @@ pub fn exchange(chi: &Chirotope, b: Subset, c: Subset, e: u8) -> u8
     requires outside { IsMember e c.elements → ⊥ }
     ensures { IsLeastExchange chi.now b.elements c.elements e result }
 {
-    chi.is_lawful();
     for f in 1..chi.elements() + 1 {
         if is_exchange(chi, b, c, e, f) {
             return f;

@@ -73,6 +73,5 @@ pub fn reorient_circuits(c: Circuits, mask: u32) -> Circuits
     ensures members { result.0.members ≡ map (flip mask) c.0.members }
     ensures reorientation { IsReorientation c.0.elements mask (IsCovectorOfCircuits c.0) (IsCovectorOfCircuits result.0) }
 {
-    c.0.is_lawful();
     Circuits(reoriented(c.0, mask))
 }

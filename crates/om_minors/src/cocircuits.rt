@@ -74,6 +74,5 @@ pub fn reorient_cocircuits(c: Cocircuits, mask: u32) -> Cocircuits
     ensures members { result.0.members ≡ map (flip mask) c.0.members }
     ensures reorientation { IsReorientation c.0.elements mask (IsCovectorOfCocircuits c.0) (IsCovectorOfCocircuits result.0) }
 {
-    c.0.is_lawful();
     Cocircuits(reoriented(c.0, mask))
 }

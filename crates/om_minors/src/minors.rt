@@ -38,7 +38,6 @@ pub fn delete_chirotope(alloc: Global, chi: &Chirotope, e: u8) -> Result<Chiroto
     ensures rank { IfOk result (λ d. (IsColoop chi.now e → ⊥) → d.rank ≡ chi.now.rank) }
     ensures rank_at_coloop { IfOk result (λ d. IsColoop chi.now e → d.rank + 1 ≡ chi.now.rank) }
 {
-    chi.is_lawful();
     if chi.elements() == 1 {
         return Err(MinorError::LastElement);
     }
@@ -71,7 +70,6 @@ pub fn contract_chirotope(alloc: Global, chi: &Chirotope, e: u8) -> Result<Chiro
     ensures rank { IfOk result (λ d. (IsLoop chi.now e → ⊥) → d.rank + 1 ≡ chi.now.rank) }
     ensures rank_at_loop { IfOk result (λ d. IsLoop chi.now e → d.rank ≡ chi.now.rank) }
 {
-    chi.is_lawful();
     if chi.elements() == 1 {
         return Err(MinorError::LastElement);
     }

@@ -27,7 +27,6 @@ pub fn reorient_chirotope(chi: Chirotope, mask: u32) -> Chirotope
     ensures normal { IsLedBy Plus result.signs }
     ensures value { IsNormalFormOf (reoriented_on mask chi) result }
 {
-    chi.is_lawful();
     Chirotope::lawful(turned(chi.into_raw(), mask)).normal()
 }
 
@@ -54,7 +53,6 @@ fn turned(raw: RawMap, mask: u32) -> RawMap
 fn turning_sign(s: Subset, mask: u32) -> Sign
     ensures { result ≡ signs_product (turning (names mask)) s.elements }
 {
-    s.is_lawful();
     let named = Subset::from_mask(s.mask() & mask, s.n());
     if named.size() % 2 == 1 {
         Sign::Minus

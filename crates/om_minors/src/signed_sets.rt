@@ -3,6 +3,7 @@
 ghost use Rattle.std.specs.Prelude.{◌≡◌, ◌≤◌, ◌<◌, ◌+◌, ◌^◌, length, IfOk, map};
 ghost use Rattle.std.specs.List.{Contains};
 ghost use Rattle.om_signs.specs.SignVec.{flip};
+ghost use Rattle.om_circuits.specs.SignedSets.{IsSignedSet};
 ghost use Rattle.om_denotation.specs.Compositions.{IsOfLeastSupport};
 ghost use Rattle.om_denotation.specs.Listings.{AreAllOf};
 ghost use Rattle.om_denotation.specs.Operations.{IsWithout, IsZeroWithout};
@@ -51,6 +52,7 @@ pub fn reoriented(set: SignedSet, mask: u32) -> SignedSet
     requires { mask < 2 ^ set.elements }
     ensures elements { result.elements ≡ set.elements }
     ensures members { result.members ≡ map (flip mask) set.members }
+    ensures lawful { IsSignedSet set.elements set.members }
 {
     let elements = set.elements();
     SignedSet::lawful(elements, flipped(set.into_list(), mask))

@@ -6,6 +6,7 @@ ghost use Rattle.om_signs.specs.SignVec.{at_element};
 ghost use Rattle.om_subsets.specs.Subsets.{without_element};
 ghost use Rattle.om_laws.specs.Sorting.{IsElement};
 ghost use Rattle.om_chirotope.specs.Map.{cocircuit_vector};
+ghost use Rattle.om_chirotope.specs.Chirotope.{IsChirotope};
 ghost use Rattle.om_mutate.specs.Mutations.{IsMutation};
 ghost use Rattle.om_mutate.specs.Turns.{StaysBalancedAround, StaysBalancedAt, StaysBalancedWith, turned_row};
 
@@ -17,12 +18,12 @@ use om_wiring::Values;
 /// Whether a triple of a chirotope is a mutation: its sign isn't 0, and the three-term relations that contain it
 /// stay balanced if this sign is negated. Bases stay bases, and the other relations don't change.
 pub fn is_mutation(chi: &Values, triple: Subset) -> bool
+    requires lawful { IsChirotope chi.now }
     requires rank { chi.now.rank ≡ 3 }
     requires n { triple.n ≡ chi.now.elements }
     requires size { length triple.elements ≡ 3 }
     ensures { IsTrue result ↔ IsMutation chi.now triple.elements }
 {
-    chi.is_lawful();
     if chi.at(triple) == Sign::Zero {
         return false;
     }

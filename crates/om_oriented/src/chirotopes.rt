@@ -51,7 +51,6 @@ impl Oriented for Chirotope {
     ghost elimination = { elimination_of_chirotope };
 
     fn elements(&self) -> u8 {
-        self.is_lawful();
         Chirotope::elements(self)
     }
 

@@ -2,6 +2,7 @@
 
 ghost use Rattle.std.specs.Prelude.{ℕ, ◌≡◌, ◌<◌, ◌≤◌, ◌↔◌, List, IsTrue, IfOk, IfErr, IsErrAnd, None, get_or, length};
 ghost use Rattle.om_signs.specs.declared.sign.Sign.{Sign as Signs};
+ghost use Rattle.om_chirotope.specs.Chirotope.{IsChirotope};
 ghost use Rattle.om_denotation.specs.Circuits.{IsCircuitOfChirotope, IsCocircuitOfChirotope};
 ghost use Rattle.om_denotation.specs.Covectors.{IsCovectorOfChirotope};
 ghost use Rattle.om_paint.specs.Paintings.{IsFirst, IsFirstIfAny, IsPaintingOf};
@@ -15,7 +16,7 @@ use super::minuses::Minuses;
 use super::search::{first_circuits, first_cocircuits};
 use om_chirotope::Chirotope;
 use om_oriented::{Oriented, Painted};
-use om_signs::{List, MAX_PLACES, Sign, SignVec};
+use om_signs::{List, MAX_ELEMENTS, MAX_PLACES, Sign, SignVec};
 use std::alloc::Global;
 
 /// Whether the oriented matroid is acyclic: the vector of all pluses is a covector. The call allocates no memory.
@@ -56,8 +57,8 @@ pub fn hull(alloc: Global, chi: &Chirotope) -> Result<List<Painted>, HullError>
     ensures size { IfOk result (λ items. length items ≡ chi.now.elements) }
     ensures items { IfOk result (EachItem (λ e. IsPaintingOf chi.now (green_alone e) e) 1) }
     ensures extreme { IfOk result (EachItem (λ e item. IsCocircuitItem item ↔ IsExtreme chi.now e) 1) }
+    ensures lawful { IsChirotope chi.now }
 {
-    chi.is_lawful();
     let elements = chi.elements();
     let circuits = first_circuits(chi, &Minuses { elements });
     if let Some(x) = circuits[0] {
@@ -74,6 +75,8 @@ pub fn hull(alloc: Global, chi: &Chirotope) -> Result<List<Painted>, HullError>
 /// What fits at element e, with e green and all others red: the first circuit or the first cocircuit that has e as
 /// its only minus. The element is from 1 to n.
 fn evidence(chi: &Chirotope, circuits: &Firsts, cocircuits: &Firsts, e: u8) -> Painted
+    requires lawful { IsChirotope chi.now }
+    requires few { chi.now.elements ≤ MAX_ELEMENTS }
     requires low { 1 ≤ e }
     requires high { e ≤ chi.now.elements }
     requires circuits { (i : ℕ) → i < CLASSES
@@ -83,7 +86,6 @@ fn evidence(chi: &Chirotope, circuits: &Firsts, cocircuits: &Firsts, e: u8) -> P
     ensures painting { IsPaintingOf chi.now (green_alone e) e result }
     ensures extreme { IsCocircuitItem result ↔ IsExtreme chi.now e }
 {
-    chi.is_lawful();
     if let Some(x) = circuits[e as usize] {
         return Painted::Circuit(x);
     }

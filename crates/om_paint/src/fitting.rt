@@ -38,15 +38,16 @@ impl Classes for Fitting {
 
 impl Fitting {
     /// The vectors that aren't zero at e and whose signs a colouring allows in a circuit.
-    pub fn of_circuits(colours: &[Colour], e: u8) -> Fitting
-        requires few { length colours.now ≤ MAX_ELEMENTS }
+    pub fn of_circuits(colours: &[Colour], elements: u8, e: u8) -> Fitting
+        requires size { length colours.now ≡ elements }
+        requires few { elements ≤ MAX_ELEMENTS }
         ensures elements { result.elements ≡ length colours.now }
         ensures place { result.e ≡ e }
         ensures allowed { (X : List Signs) → length X ≡ length colours.now
             → IsAllowed result.may_be_plus result.may_be_minus result.e X ↔ FitsCircuit colours.now e X }
     {
         Fitting {
-            elements: colours.len() as u8,
+            elements,
             may_be_plus: open_to_circuits(colours, Sign::Plus),
             may_be_minus: open_to_circuits(colours, Sign::Minus),
             e,
@@ -54,15 +55,16 @@ impl Fitting {
     }
 
     /// The vectors that aren't zero at e and whose signs a colouring allows in a cocircuit.
-    pub fn of_cocircuits(colours: &[Colour], e: u8) -> Fitting
-        requires few { length colours.now ≤ MAX_ELEMENTS }
+    pub fn of_cocircuits(colours: &[Colour], elements: u8, e: u8) -> Fitting
+        requires size { length colours.now ≡ elements }
+        requires few { elements ≤ MAX_ELEMENTS }
         ensures elements { result.elements ≡ length colours.now }
         ensures place { result.e ≡ e }
         ensures allowed { (X : List Signs) → length X ≡ length colours.now
             → IsAllowed result.may_be_plus result.may_be_minus result.e X ↔ FitsCocircuit colours.now e X }
     {
         Fitting {
-            elements: colours.len() as u8,
+            elements,
             may_be_plus: open_to_cocircuits(colours, Sign::Plus),
             may_be_minus: open_to_cocircuits(colours, Sign::Minus),
             e,

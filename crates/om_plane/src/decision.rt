@@ -37,7 +37,6 @@ fn judge_chirotope(
     requires { AreBudgets budgets }
     ensures { IfOk result (DecisionMeans budgets chirotope) }
 {
-    chirotope.is_lawful();
     match decide(alloc, &chirotope, budgets) {
         Ok(verdict) => {
             let document = map_document(alloc, chirotope);

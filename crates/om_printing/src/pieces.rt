@@ -60,7 +60,6 @@ fn push_elements(text: &mut Vec<u8>, subset: Subset) -> Result<(), NoMemory>
     ensures kept { StartsWith text.new.items text.old.items }
 {
     let mut before = 0u8;
-    subset.is_lawful();
     for e in 1..subset.n() + 1 {
         if subset.has(e) {
             push_element(text, before, e)?;

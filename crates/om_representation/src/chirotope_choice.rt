@@ -44,12 +44,8 @@ fn of_circuits(alloc: Global, circuits: &Circuits) -> Result<Chirotope, Unchosen
     ensures kept { OnOk result (IsKept (circuits_document circuits.now.0)) }
     ensures refused { IfErr result (IsUnchosen (circuits_document circuits.now.0)) }
 {
-    circuits.0.is_lawful();
     match circuits_to_chirotope(alloc, circuits) {
-        Ok(chirotope) => {
-            chirotope.is_lawful();
-            Ok(chirotope)
-        }
+        Ok(chirotope) => Ok(chirotope),
         Err(ConvertError::TooWide { values }) => Err(Unchosen::TooWide {
             rank: rank_circuits(circuits),
             values,
@@ -66,12 +62,8 @@ fn of_cocircuits(alloc: Global, cocircuits: &Cocircuits) -> Result<Chirotope, Un
     ensures kept { OnOk result (IsKept (cocircuits_document cocircuits.now.0)) }
     ensures refused { IfErr result (IsUnchosen (cocircuits_document cocircuits.now.0)) }
 {
-    cocircuits.0.is_lawful();
     match cocircuits_to_chirotope(alloc, cocircuits) {
-        Ok(chirotope) => {
-            chirotope.is_lawful();
-            Ok(chirotope)
-        }
+        Ok(chirotope) => Ok(chirotope),
         Err(ConvertError::TooWide { values }) => Err(Unchosen::TooWide {
             rank: rank_cocircuits(cocircuits),
             values,
@@ -88,12 +80,8 @@ fn of_covectors(alloc: Global, covectors: &Covectors) -> Result<Chirotope, Uncho
     ensures kept { OnOk result (IsKept (covectors_document covectors.now)) }
     ensures refused { IfErr result (IsUnchosen (covectors_document covectors.now)) }
 {
-    covectors.is_lawful();
     match covectors_to_chirotope(alloc, covectors) {
-        Ok(chirotope) => {
-            chirotope.is_lawful();
-            Ok(chirotope)
-        }
+        Ok(chirotope) => Ok(chirotope),
         Err(ConvertError::TooWide { values }) => Err(Unchosen::TooWide {
             rank: rank_covectors(covectors),
             values,

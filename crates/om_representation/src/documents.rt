@@ -40,19 +40,19 @@ pub fn map_document(alloc: Global, chirotope: Chirotope) -> Document
     ensures axioms { MeetsAxioms result }
     ensures value { result ≡ map_document chirotope }
 {
-    chirotope.is_lawful();
-    narrow_map_document(alloc, chirotope)
+    let elements = chirotope.elements();
+    narrow_map_document(alloc, elements, chirotope)
 }
 
-/// The document of a chirotope of any rank with at most as many values as a document may hold.
-fn narrow_map_document(alloc: Global, chirotope: Chirotope) -> Document
-    requires { choose chirotope.elements chirotope.rank ≤ MAX_VALUES }
+/// The document of a chirotope on `elements` elements, of any rank, with at most as many values as a document may
+/// hold.
+fn narrow_map_document(alloc: Global, elements: u8, chirotope: Chirotope) -> Document
+    requires elements { elements ≡ chirotope.elements }
+    requires few { choose chirotope.elements chirotope.rank ≤ MAX_VALUES }
     ensures form { IsInForm result }
     ensures axioms { MeetsAxioms result }
     ensures value { result ≡ map_document chirotope }
 {
-    let elements = chirotope.elements();
-    chirotope.is_lawful();
     Document {
         elements,
         body: Body::Chirotope(chirotope.into_raw()),

@@ -30,8 +30,8 @@ impl Subset {
         ensures low { 1 ≤ result }
         ensures high { result ≤ self.n }
         ensures first { self.elements ≡ result ∷ without_element result self.elements }
+        ensures lawful { IsSubsetFrom 1 self.n self.elements }
     {
-        self.is_lawful();
         let last = self.n();
         for e in 1..last {
             if self.has(e) {
@@ -50,7 +50,6 @@ impl Subset {
         ensures third { result.1 < result.2 }
         ensures high { result.2 ≤ self.n }
     {
-        self.is_lawful();
         let a = self.least();
         let later = self.without(a);
         let b = later.least();
@@ -63,7 +62,6 @@ impl Subset {
         requires { other.n ≡ self.n }
         ensures { IsTrue result ↔ IsPartOf self.elements other.elements }
     {
-        self.is_lawful();
         let mask = self.mask();
         mask & other.mask() == mask
     }
@@ -73,8 +71,6 @@ impl Subset {
         requires { other.n ≡ self.n }
         ensures { IsTrue result ↔ AreApart self.elements other.elements }
     {
-        self.is_lawful();
-        other.is_lawful();
         self.mask() & other.mask() == 0
     }
 
@@ -86,8 +82,6 @@ impl Subset {
             ↔ (IsMember e self.elements × IsMember e other.elements) }
         ensures lawful { IsSubsetFrom 1 result.n result.elements }
     {
-        self.is_lawful();
-        other.is_lawful();
         let n = self.n();
         Subset::from_mask(self.mask() & other.mask(), n)
     }
@@ -100,7 +94,6 @@ impl Subset {
         ensures size { length result.elements + length self.elements ≡ self.n }
         ensures lawful { IsSubsetFrom 1 result.n result.elements }
     {
-        self.is_lawful();
         Subset::from_mask((1u32 << self.n()) - 1 - self.mask(), self.n())
     }
 
@@ -115,7 +108,6 @@ impl Subset {
         ensures size { length result.elements ≡ length self.elements }
         ensures lawful { IsSubsetFrom 1 result.n result.elements }
     {
-        self.is_lawful();
         let before = self.mask() & ((1u32 << (e - 1)) - 1);
         let behind = self.mask() >> (e - 1) << e;
         Subset::from_mask(before | behind, self.n() + 1)
@@ -129,7 +121,6 @@ impl Subset {
         ensures elements { result.elements ≡ self.elements }
         ensures lawful { IsSubsetFrom 1 result.n result.elements }
     {
-        self.is_lawful();
         Subset::from_mask(self.mask(), self.n() - 1)
     }
 
@@ -143,7 +134,6 @@ impl Subset {
         ensures last { rank_of self.n self.elements + 1 ≡ choose self.n (length self.elements) → result ≡ self }
         ensures lawful { IsSubsetFrom 1 result.n result.elements }
     {
-        self.is_lawful();
         match self.next() {
             None => self,
             Some(next) => next,

@@ -64,6 +64,7 @@ impl Subset {
     pub fn mask(self) -> u32
         ensures value { result ≡ mask_of 1 self.elements self.n }
         ensures bits { IsMaskOf self.n (λ i. IsMember (i + 1) self.elements) result }
+        ensures lawful { IsSubsetFrom 1 self.n self.elements }
     {
         self.mask
     }
@@ -72,17 +73,9 @@ impl Subset {
     pub fn n(self) -> u8
         ensures value { result ≡ self.n }
         ensures small { result ≤ MAX_PLACES }
+        ensures lawful { IsSubsetFrom 1 self.n self.elements }
     {
         self.n
-    }
-
-    /// The elements are in increasing order and from 1 to n, and n is at most [`MAX_PLACES`]. The call does
-    /// nothing: its contract is this fact.
-    pub fn is_lawful(self)
-        ensures lawful { IsSubsetFrom 1 self.n self.elements }
-        ensures small { self.n ≤ MAX_PLACES }
-    {
-        let _mask = self.mask;
     }
 
     /// The number of elements of the set.
@@ -119,6 +112,7 @@ impl Subset {
         ensures size { IfSome result (λ t. length t.elements ≡ length self.elements) }
         ensures rank { IfSome result (λ t. rank_of t.n t.elements ≡ rank_of self.n self.elements + 1) }
         ensures lawful { IfSome result (λ t. IsSubsetFrom 1 t.n t.elements) }
+        ensures here { IsSubsetFrom 1 self.n self.elements }
     {
         let mut tail = 0u8;
         for k in 0..self.n {

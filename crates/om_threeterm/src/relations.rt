@@ -4,7 +4,7 @@ ghost use Rattle.std.specs.Prelude.{ℕ, List, ◌≡◌, ◌+◌, ◌-◌, ◌<
 ghost use Rattle.std.specs.Prelude.{IfSome};
 ghost use Rattle.om_signs.specs.declared.limits.TheConstants.{MAX_PLACES};
 ghost use Rattle.om_threeterm.specs.declared.relations.TheConstants.{FOUR};
-ghost use Rattle.om_subsets.specs.Subsets.{choose, IsMember};
+ghost use Rattle.om_subsets.specs.Subsets.{choose, IsMember, IsSubsetFrom};
 ghost use Rattle.om_laws.specs.ThreeTerm.{AreBalanced};
 ghost use Rattle.om_chirotope.specs.Map.{map_of, value_of};
 ghost use Rattle.om_chirotope.specs.ThreeTerm.{HasThreeTermRelations, IsFrame};
@@ -160,6 +160,7 @@ fn first_unbalanced_of(raw: &RawMap, fours: &[Subset], p: Subset) -> Option<Subs
     requires whole { length raw.now.signs ≡ choose raw.now.elements raw.now.rank }
     requires filled { fours.now ≡ all_chosen raw.now.elements FOUR }
     requires n { p.n ≡ raw.now.elements }
+    requires list { IsSubsetFrom 1 raw.now.elements p.elements }
     requires size { length p.elements + 2 ≡ raw.now.rank }
     ensures none { IfNone result ((q : List ℕ) → IsUnbalancedList (map_of raw.now) p.elements q → ⊥) }
     ensures first { IfSome result (λ q. IsFirstUnbalancedOf (map_of raw.now) p.elements q) }
@@ -176,13 +177,12 @@ fn first_unbalanced_of(raw: &RawMap, fours: &[Subset], p: Subset) -> Option<Subs
 fn is_unbalanced(raw: &RawMap, p: Subset, q: Subset) -> bool
     requires whole { length raw.now.signs ≡ choose raw.now.elements raw.now.rank }
     requires p_n { p.n ≡ raw.now.elements }
+    requires p_list { IsSubsetFrom 1 raw.now.elements p.elements }
     requires p_size { length p.elements + 2 ≡ raw.now.rank }
     requires q_n { q.n ≡ raw.now.elements }
     requires q_size { length q.elements ≡ 4 }
     ensures { IsTrue result ↔ IsUnbalancedList (map_of raw.now) p.elements q.elements }
 {
-    p.is_lawful();
-    q.is_lawful();
     if !p.is_apart_from(q) {
         return false;
     }
@@ -212,6 +212,7 @@ fn has_relation(raw: &RawMap, p: Subset, a: u8, b: u8, c: u8, d: u8) -> bool
 fn value_with(raw: &RawMap, p: Subset, x: u8, y: u8) -> Sign
     requires whole { length raw.now.signs ≡ choose raw.now.elements raw.now.rank }
     requires n { p.n ≡ raw.now.elements }
+    requires list { IsSubsetFrom 1 raw.now.elements p.elements }
     requires size { length p.elements + 2 ≡ raw.now.rank }
     requires x_low { 1 ≤ x }
     requires order { x < y }
@@ -220,7 +221,6 @@ fn value_with(raw: &RawMap, p: Subset, x: u8, y: u8) -> Sign
     requires y_off { IsMember y p.elements → ⊥ }
     ensures { result ≡ value_of (map_of raw.now) (p.elements ++ x ∷ y ∷ []) }
 {
-    p.is_lawful();
     let sign = raw.signs.at(p.with(x).with(y).rank() as usize);
     if p.odd_after(x) == p.odd_after(y) {
         sign

@@ -1,7 +1,7 @@
 //! Sets of elements: all sets of one size, which of them are bases, and the elements of a set of four.
 
 ghost use Rattle.std.specs.Prelude.{ℕ, ◌≡◌, ◌+◌, ◌<◌, ◌≤◌, ◌↔◌, ◌∷◌, [], length, take, IsTrue};
-ghost use Rattle.om_subsets.specs.Subsets.{choose, subset_at};
+ghost use Rattle.om_subsets.specs.Subsets.{choose, subset_at, IsSubsetFrom};
 ghost use Rattle.om_chirotope.specs.Map.{map_of};
 ghost use Rattle.om_chirotope.specs.ThreeTerm.{IsBasis};
 ghost use Rattle.om_threeterm.specs.Sets.{all_chosen};
@@ -75,7 +75,8 @@ fn is_nonzero(sign: Sign) -> bool
 /// The elements of a set of four, in increasing order.
 pub fn four_of(q: Subset) -> (u8, u8, u8, u8)
     requires { length q.elements ≡ 4 }
-    ensures { q.elements ≡ result.0 ∷ result.1 ∷ result.2 ∷ result.3 ∷ [] }
+    ensures elements { q.elements ≡ result.0 ∷ result.1 ∷ result.2 ∷ result.3 ∷ [] }
+    ensures list { IsSubsetFrom 1 q.n q.elements }
 {
     let (a, after_a) = split_least(q);
     let (b, after_b) = split_least(after_a);
@@ -87,10 +88,11 @@ pub fn four_of(q: Subset) -> (u8, u8, u8, u8)
 /// The least element of a set, and the set of the other elements.
 fn split_least(s: Subset) -> (u8, Subset)
     requires { 1 ≤ length s.elements }
-    ensures { s.elements ≡ result.0 ∷ result.1.elements }
+    ensures elements { s.elements ≡ result.0 ∷ result.1.elements }
+    ensures list { IsSubsetFrom 1 s.n s.elements }
 {
-    s.is_lawful();
+    let n = s.n();
     let mask = s.mask();
     let least = mask.trailing_zeros() as u8 + 1;
-    (least, Subset::from_mask(mask & (mask - 1), s.n()))
+    (least, Subset::from_mask(mask & (mask - 1), n))
 }

@@ -42,13 +42,6 @@ impl Word {
         }
     }
 
-    /// There are at most [`MAX_ELEMENTS`] vectors. The call does nothing: its contract is this fact.
-    pub fn is_lawful(&self)
-        ensures { length self.now ≤ MAX_ELEMENTS }
-    {
-        let _len = self.len;
-    }
-
     /// The number of vectors, at most [`MAX_ELEMENTS`].
     pub fn len(&self) -> u8
         ensures value { result ≡ length self.now }
@@ -67,7 +60,8 @@ impl Word {
 
     /// The vectors as a slice.
     pub fn as_slice(&self) -> &[Vector]
-        ensures { result.now ≡ self.now }
+        ensures value { result.now ≡ self.now }
+        ensures few { length self.now ≤ MAX_ELEMENTS }
     {
         &self.vectors[..self.len as usize]
     }

@@ -42,21 +42,10 @@ impl<'a> Values<'a> {
         requires { chi.now.rank ≡ 3 }
         ensures { result ≡ chi.now }
     {
-        chi.is_lawful();
         Values {
             chi,
             rows: table_of(chi),
         }
-    }
-
-    /// The map satisfies the axioms, and the number of its elements is from 1 to [`MAX_ELEMENTS`]. The call does
-    /// nothing: its contract is this fact.
-    pub fn is_lawful(&self)
-        ensures lawful { IsChirotope self.now }
-        ensures low { 1 ≤ self.now.elements }
-        ensures high { self.now.elements ≤ MAX_ELEMENTS }
-    {
-        self.chi.is_lawful();
     }
 
     /// The rank, which is 3.
@@ -73,6 +62,7 @@ impl<'a> Values<'a> {
         ensures value { result ≡ self.now.elements }
         ensures low { 1 ≤ result }
         ensures high { result ≤ MAX_ELEMENTS }
+        ensures lawful { IsChirotope self.now }
     {
         let chi = self.chi;
         chi.elements()
@@ -114,6 +104,7 @@ impl<'a> Values<'a> {
 /// The rows of all pairs of elements.
 fn table_of(chi: &Chirotope) -> [[SignVec; ROOM]; ROOM]
     requires { chi.now.rank ≡ 3 }
+    ensures few { chi.now.elements ≤ MAX_ELEMENTS }
     ensures room { length result ≡ MAX_PLACES }
     ensures rows { HasRowsBelow chi.now result (chi.now.elements + 1) }
 {

@@ -13,4 +13,4 @@ returns-then-len-elements-clause-refused c =
 pub returns-in-Err-clause-refused : goal.returns-in-Err-clause-refused
 returns-in-Err-clause-refused c =
     wrong_sign c.in-Err.triple (sym c.len.ensures.value ∙ c.if-len-elements.false ∙ c.elements.ensures.value)
-    (subst (λ vs. IsFirstOther vs c.args.chi.now c.in-Err.triple) c.as_slice.ensures c.in-Err.ensures.first)
+    (subst (λ vs. IsFirstOther vs c.args.chi.now c.in-Err.triple) c.as_slice.ensures.value c.in-Err.ensures.first)

@@ -8,4 +8,4 @@ pub returns-then-place-table : goal.returns-then-place-table
 returns-then-place-table c =
     c.index-table-place.is ∙ get_or_default c.args.table.now c.args.place _ [] c.if-place-table.true
     ∙ vector_in_part (map_of c.args.raw.now) c.args.a.elements c.args.a.n c.args.place c.args.table.now c.requires.n
-    c.is_lawful.ensures.lawful c.requires.size c.requires.place c.if-place-table.true c.requires.filled
+    c.requires.list c.requires.size c.requires.place c.if-place-table.true c.requires.filled

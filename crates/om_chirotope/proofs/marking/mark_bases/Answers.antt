@@ -5,10 +5,15 @@ use Rattle.om_chirotope.specs.Marks.{IsMarked}
 use Rattle.om_subsets.specs.Members.{mask_of}
 use Rattle.om_chirotope.proofs.Marks.{AreBasesMarkedBelow, all_marked, basis_in_itself, basis_marked, mark_kept}
 use Rattle.om_chirotope.proofs.Marks.{mark_only, none_marked}
-use Rattle.om_subsets.specs.Subsets.{choose}
+use Rattle.om_subsets.specs.Subsets.{choose, IsSubsetFrom}
 use Rattle.om_subsets.proofs.Walks.{IsAt, at_first, at_next}
 use Rattle.om_chirotope.proofs.marking.mark_bases.Goals as goal
 use Rattle.om_chirotope.proofs.marking.mark_bases.Goals.{then-is_nonzero, else-is_nonzero}
+
+pub sign_of-requires-clause-list : goal.sign_of-requires-clause-list
+sign_of-requires-clause-list c =
+    let at = c.loop-k.invariant.at in
+    subst (λ n. IsSubsetFrom 1 n c.loop-k.b.elements) (sym at.n_is) at.list
 
 pub mark-requires : goal.mark-requires
 mark-requires c =

@@ -1,5 +1,4 @@
-use Rattle.om_subsets.specs.Subsets.{IsSubsetFrom}
-use Rattle.std.proofs.Common.{arith, refl, ap, subst, ◌∙◌, length}
+use Rattle.std.proofs.Common.{arith, refl, ap, ◌∙◌, length}
 use Rattle.std.proofs.lemmas.Bool.{false≢true}
 use Rattle.om_chirotope.specs.Map.{map_of, cocircuit_vector}
 use Rattle.om_signs.specs.Sign.{opposite}
@@ -17,13 +16,13 @@ cocircuit_at-vector-requires-clause-size c =
 pub returns-then-odd_after : goal.returns-then-odd_after
 returns-then-odd_after c =
     let m = map_of c.args.raw.now in
-    let list = subst (λ n. IsSubsetFrom 1 n c.args.p.elements) c.requires.n c.is_lawful.ensures.lawful in
+    let list = c.requires.list in
     c.neg.ensures ∙ ap (map opposite) (c.cocircuit_at-vector.ensures ∙ ap (cocircuit_vector m) c.with.ensures.elements)
     ∙ row_odd m c.args.p.elements c.args.x list c.requires.off (c.if-odd_after.ensures.0 refl)
 
 pub returns-else-odd_after : goal.returns-else-odd_after
 returns-else-odd_after c =
     let m = map_of c.args.raw.now in
-    let list = subst (λ n. IsSubsetFrom 1 n c.args.p.elements) c.requires.n c.is_lawful.ensures.lawful in
+    let list = c.requires.list in
     c.cocircuit_at-vector.ensures ∙ ap (cocircuit_vector m) c.with.ensures.elements
     ∙ row_even m c.args.p.elements c.args.x list c.requires.off (λ o. false≢true (c.if-odd_after.ensures.1 o))

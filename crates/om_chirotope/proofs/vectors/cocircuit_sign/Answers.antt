@@ -8,7 +8,7 @@ use Rattle.om_chirotope.proofs.vectors.cocircuit_sign.Goals as goal
 pub returns-then-has : goal.returns-then-has
 returns-then-has c =
     sym (along_member 1 c.args.a.n c.args.e (chi_of (map_of c.args.raw.now)) c.args.a.elements
-    c.is_lawful.ensures.lawful (c.if-has.ensures.0 refl))
+    c.requires.list (c.if-has.ensures.0 refl))
 
 pub sign_of-sign-requires-clause-size : goal.sign_of-sign-requires-clause-size
 sign_of-sign-requires-clause-size c =
@@ -19,7 +19,7 @@ pub returns-then-odd_after : goal.returns-then-odd_after
 returns-then-odd_after c =
     c.neg.ensures
     ∙ ap opposite (c.sign_of-sign.ensures.value ∙ ap (value_of (map_of c.args.raw.now)) c.with.ensures.elements)
-    ∙ along_odd 1 c.args.a.n c.args.e (chi_of (map_of c.args.raw.now)) c.args.a.elements c.is_lawful.ensures.lawful
+    ∙ along_odd 1 c.args.a.n c.args.e (chi_of (map_of c.args.raw.now)) c.args.a.elements c.requires.list
     (with_lawful _ _ _ c.with.ensures.n c.with.ensures.elements c.with.ensures.lawful)
     (λ k. false≢true (c.if-has.ensures.1 k)) (c.if-odd_after.ensures.0 refl)
 
@@ -27,6 +27,6 @@ pub returns-else-odd_after : goal.returns-else-odd_after
 returns-else-odd_after c =
     c.sign_of-sign.ensures.value
     ∙ ap (value_of (map_of c.args.raw.now)) c.with.ensures.elements
-    ∙ along_even 1 c.args.a.n c.args.e (chi_of (map_of c.args.raw.now)) c.args.a.elements c.is_lawful.ensures.lawful
+    ∙ along_even 1 c.args.a.n c.args.e (chi_of (map_of c.args.raw.now)) c.args.a.elements c.requires.list
     (with_lawful _ _ _ c.with.ensures.n c.with.ensures.elements c.with.ensures.lawful)
     (λ k. false≢true (c.if-has.ensures.1 k)) (λ k. false≢true (c.if-odd_after.ensures.1 k))

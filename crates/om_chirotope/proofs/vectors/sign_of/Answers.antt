@@ -12,7 +12,7 @@ pub returns-clause-value : goal.returns-clause-value
 returns-clause-value c =
     sym (get_or_from_slice_get c.args.raw.now.signs c.args.place _ Zero c.at.ensures)
     ∙ ap (at c.args.raw.now.signs) (c.requires.place ∙ ap (λ n. rank_of n c.args.s.elements) c.requires.n)
-    ∙ sym (value_in_order 1 c.args.s.n (chi_of (map_of c.args.raw.now)) c.args.s.elements c.is_lawful.ensures.lawful)
+    ∙ sym (value_in_order 1 c.args.s.n (chi_of (map_of c.args.raw.now)) c.args.s.elements c.requires.list)
 
 pub returns-clause-place : goal.returns-clause-place
 returns-clause-place c =
@@ -21,7 +21,7 @@ returns-clause-place c =
 
 pub at-requires : goal.at-requires
 at-requires c =
-    let few = rank_from-lt 1 c.args.s.n c.args.s.elements c.is_lawful.ensures.lawful in
+    let few = rank_from-lt 1 c.args.s.n c.args.s.elements c.requires.list in
     let same : choose c.args.s.n (length c.args.s.elements) ≡ length c.args.raw.now.signs =
     ap (λ n. choose n (length c.args.s.elements)) c.requires.n
     ∙ ap (choose c.args.raw.now.elements) c.requires.size ∙ sym c.requires.whole in

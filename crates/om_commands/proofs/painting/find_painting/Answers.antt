@@ -1,4 +1,5 @@
-use Rattle.std.proofs.Common.{◌∙◌, sym, subst}
+use Rattle.std.proofs.Common.{◌∙◌, ◌≤◌, sym, subst}
+use Rattle.om_signs.specs.declared.limits.TheConstants.{MAX_ELEMENTS}
 use Rattle.om_representation.specs.Documents.{document_of}
 use Rattle.om_commands.specs.Paintings.{IsPaintingOfMap, coloured}
 use Rattle.om_commands.specs.Paintable.{IsPaintable}
@@ -14,6 +15,11 @@ pub find_painting_of-requires-clause-lawful : goal.find_painting_of-requires-cla
 find_painting_of-requires-clause-lawful c =
     let same = elements_of c.args.representation c.in-Ok.chirotope c.in-Ok.ensures.chosen in
     subst (IsPaintable c.args.given) (c.elements.ensures.value ∙ sym same) c.in_default.ensures
+
+pub find_painting_of-requires-clause-few : goal.find_painting_of-requires-clause-few
+find_painting_of-requires-clause-few c =
+    let same = elements_of c.args.representation c.in-Ok.chirotope c.in-Ok.ensures.chosen in
+    subst (λ n. n ≤ MAX_ELEMENTS) (c.elements.ensures.value ∙ sym same) c.elements.ensures.high
 
 pub returns-in-Ok : goal.returns-in-Ok
 returns-in-Ok c =

@@ -1,5 +1,8 @@
 use Rattle.std.proofs.lemmas.Result.{IfOk-weaker}
 use Rattle.om_chirotope.specs.Map.{SignMap}
+use Rattle.om_chirotope.specs.Chirotope.{IsChirotope}
+use Rattle.om_denotation.proofs.DualMaps.{dual_axioms}
+use Rattle.om_denotation.proofs.Uniqueness.{normal_axioms}
 use Rattle.om_denotation.specs.Circuits.{IsCircuitOfChirotope}
 use Rattle.om_denotation.specs.Covectors.{IsCovectorOfChirotope, IsCovectorOfCircuits}
 use Rattle.om_denotation.specs.Denotation.{DenoteTheSame}
@@ -27,3 +30,9 @@ returns-clause-same c =
     λ m. DenoteTheSame c.args.c.now.0.elements (IsCovectorOfCircuits c.args.c.now.0) (IsCovectorOfChirotope m) in
     IfOk-weaker c.dual.result (IsNormalFormOf (dual_of c.in_ok-other.other)) P
     (λ d n. (has_circuits c.args.c.now.0 c.in_ok-other.other d c.in_ok-other.ensures n).same) c.dual.ensures.value
+
+pub returns-clause-lawful : goal.returns-clause-lawful
+returns-clause-lawful c =
+    IfOk-weaker c.dual.result (IsNormalFormOf (dual_of c.in_ok-other.other)) IsChirotope
+    (λ d n. normal_axioms (dual_of c.in_ok-other.other) d (dual_axioms c.in_ok-other.other c.in_ok-other.ensures.axioms)
+    n) c.dual.ensures.value

@@ -1,6 +1,7 @@
 use Rattle.std.proofs.Common.{sym}
 use Rattle.std.proofs.lemmas.Result.{IfOk-weaker}
 use Rattle.om_chirotope.specs.Map.{SignMap}
+use Rattle.om_chirotope.specs.Chirotope.{IsChirotope}
 use Rattle.om_denotation.specs.Covectors.{IsCovectorOfChirotope, IsCovectorOfCocircuits}
 use Rattle.om_denotation.specs.Denotation.{DenoteTheSame}
 use Rattle.om_denotation.specs.Only.{IsOnlyChirotope}
@@ -24,3 +25,8 @@ pub returns-clause-unique : goal.returns-clause-unique
 returns-clause-unique c =
     IfOk-weaker c.chirotope_of.result (IsNormalOf c.args.c.now.0.elements c.args.c.now.0.members) IsOnlyChirotope
     (λ m h. only_chirotope m h.axioms) c.chirotope_of.ensures
+
+pub returns-clause-lawful : goal.returns-clause-lawful
+returns-clause-lawful c =
+    IfOk-weaker c.chirotope_of.result (IsNormalOf c.args.c.now.0.elements c.args.c.now.0.members) IsChirotope
+    (λ m h. h.axioms) c.chirotope_of.ensures

@@ -1,5 +1,5 @@
-use Rattle.std.proofs.Common.{◌≡◌, ◌<◌, ◌∙◌, arith}
-use Rattle.om_subsets.specs.Subsets.{choose}
+use Rattle.std.proofs.Common.{◌≡◌, ◌<◌, ◌∙◌, arith, subst, sym}
+use Rattle.om_subsets.specs.Subsets.{choose, IsSubsetFrom}
 use Rattle.om_subsets.proofs.Walks.{at_first, at_next}
 use Rattle.om_convert.proofs.NormalSigns.{signs_start, signs_before, place_is, signs_pushed, signs_are}
 use Rattle.om_convert.proofs.propagation.propagated_map.Goals as goal
@@ -52,3 +52,8 @@ returns-clause-normal c =
     let last = c.choose-k-end.ensures.value in
     let end : c.loop-k._k ≡ choose c.args.elements c.args.rank = omega (arith, over, under, last) in
     signs_are c.args.elements c.args.rank c.args.vectors.now c.loop-k._k c.loop-k.signs c.loop-k.invariant.made end
+
+pub sign_of-sign-requires-clause-lawful : goal.sign_of-sign-requires-clause-lawful
+sign_of-sign-requires-clause-lawful c =
+    let at = c.loop-k.invariant.at in
+    subst (λ n. IsSubsetFrom 1 n c.loop-k.t.elements) (sym at.n_is) at.list

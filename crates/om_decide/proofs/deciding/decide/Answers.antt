@@ -10,7 +10,7 @@ returns-in-Ok-clause-verdict c = realizable c.in-Ok.word c.in-Ok.ensures.found
 
 pub returns-in-Ok-clause-form : goal.returns-in-Ok-clause-form
 returns-in-Ok-clause-form c =
-    let small : c.args.chi.now.elements ≤ MAX_ELEMENTS = c.is_lawful.ensures.high in
+    let small : c.args.chi.now.elements ≤ MAX_ELEMENTS = c.rank.ensures.few in
     verdict_form c.args.chi.now small c.args.budgets c.requires _ (realizable c.in-Ok.word c.in-Ok.ensures.found)
 
 pub returns-in_ok-by_tableau-in-Err-clause-shown : goal.returns-in_ok-by_tableau-in-Err-clause-shown
@@ -19,12 +19,12 @@ returns-in_ok-by_tableau-in-Err-clause-shown c =
 
 pub returns-in_ok-by_tableau-in-Err-clause-limits : goal.returns-in_ok-by_tableau-in-Err-clause-limits
 returns-in_ok-by_tableau-in-Err-clause-limits c =
-    let small : c.args.chi.now.elements ≤ MAX_ELEMENTS = c.is_lawful.ensures.high in
+    let small : c.args.chi.now.elements ≤ MAX_ELEMENTS = c.rank.ensures.few in
     verdict_within c.args.chi.now small c.args.budgets c.in_ok-by_tableau-in-Err.field-0
     c.in_ok-by_tableau-in-Err.ensures
 
 pub returns-in_ok-by_tableau-in-Err-clause-form : goal.returns-in_ok-by_tableau-in-Err-clause-form
 returns-in_ok-by_tableau-in-Err-clause-form c =
-    let small : c.args.chi.now.elements ≤ MAX_ELEMENTS = c.is_lawful.ensures.high in
+    let small : c.args.chi.now.elements ≤ MAX_ELEMENTS = c.rank.ensures.few in
     verdict_form c.args.chi.now small c.args.budgets c.requires c.in_ok-by_tableau-in-Err.field-0
     c.in_ok-by_tableau-in-Err.ensures

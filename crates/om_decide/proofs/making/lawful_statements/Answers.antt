@@ -13,7 +13,7 @@ pub loop-current-smaller : goal.loop-current-smaller
 loop-current-smaller c =
     let walk : IsWalk c.args.chi.now c.loop-current.statements (Some c.in-Some.st) =
     subst (IsWalk c.args.chi.now c.loop-current.statements) c.in-Some.is c.loop-current.invariant in
-    let few : c.args.chi.now.elements < 256 = (let h = c.is_lawful.ensures.high in omega arith) in
+    let few : c.args.chi.now.elements < 256 = (let h = c.requires.small in omega arith) in
     subst (λ r. left c.following-current.result < left r) (sym c.in-Some.is)
     (nearer_following c.args.chi.now c.in-Some.st c.following-current.result few walk.lawful
     c.following-current.ensures.next)

@@ -5,11 +5,11 @@ use Rattle.om_denotation.proofs.duality.listing_sign.Goals as goal
 
 pub loop-e-init : goal.loop-e-init
 loop-e-init c =
-    sym (listing_none c.args.s.elements (increasing_subset c.args.s.n c.args.s.elements c.is_lawful.ensures.lawful))
+    sym (listing_none c.args.s.elements (increasing_subset c.args.s.n c.args.s.elements c.n-e-end.ensures.lawful))
 
 pub loop-e-preserved : goal.loop-e-preserved
 loop-e-preserved c = listing_turn c.args.s.n c.loop-e.e c.args.s.elements c.loop-e.sign c.moving_sign.result
-    c.times-sign.result c.loop-e.auto.e c.is_lawful.ensures.lawful c.loop-e.invariant c.moving_sign.ensures
+    c.times-sign.result c.loop-e.auto.e c.n-e-end.ensures.lawful c.loop-e.invariant c.moving_sign.ensures
     c.times-sign.ensures
 
 pub returns : goal.returns

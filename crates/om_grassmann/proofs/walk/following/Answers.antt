@@ -9,7 +9,8 @@ use Rattle.om_grassmann.proofs.walk.following.Goals as goal
 
 pub returns-in-Some-clause-none : goal.returns-in-Some-clause-none
 returns-in-Some-clause-none c =
-    let high = c.is_lawful.ensures.high in
+    let high = c.elements-n.ensures.high in
+    let same = c.elements-n.ensures.value in
     let start = ap frame_place c.of-frame.ensures in
     let told = c.told_by.ensures in
     following_none c.args.chi.now (frame_place c.of-frame.result * 9 + (3 * (c.args.st.small - 1) + c.args.st.big))
@@ -20,7 +21,8 @@ returns-in-Some-clause-none c =
 
 pub returns-in-Some-clause-next : goal.returns-in-Some-clause-next
 returns-in-Some-clause-next c =
-    let high = c.is_lawful.ensures.high in
+    let high = c.elements-n.ensures.high in
+    let same = c.elements-n.ensures.value in
     let start = ap frame_place c.of-frame.ensures in
     let told = c.told_by.ensures in
     following_next c.args.chi.now (frame_place c.of-frame.result * 9 + (3 * (c.args.st.small - 1) + c.args.st.big))
@@ -31,7 +33,8 @@ returns-in-Some-clause-next c =
 
 pub returns-clause-none : goal.returns-clause-none
 returns-clause-none c =
-    let high = c.is_lawful.ensures.high in
+    let high = c.elements-n.ensures.high in
+    let same = c.elements-n.ensures.value in
     let start = ap frame_place c.of-frame.ensures in
     let two = c.requires.two in
     let told = c.told_by.ensures in
@@ -48,7 +51,8 @@ returns-clause-none c =
 
 pub returns-clause-next : goal.returns-clause-next
 returns-clause-next c =
-    let high = c.is_lawful.ensures.high in
+    let high = c.elements-n.ensures.high in
+    let same = c.elements-n.ensures.value in
     let start = ap frame_place c.of-frame.ensures in
     let two = c.requires.two in
     let told = c.told_by.ensures in

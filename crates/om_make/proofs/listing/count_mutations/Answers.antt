@@ -7,6 +7,7 @@ use Rattle.om_make.proofs.listing.count_mutations.Goals as goal
 pub overflow_cast-result : goal.overflow_cast-result
 overflow_cast-result c =
     let few = few_mutations c.args.chi.now c.in-Ok.sets c.in-Ok.ensures.listed in
+    let high = c.mutations.ensures.few in
     let most = choose_most c.args.chi.now.elements 3 (omega arith) in
     omega arith
 

@@ -8,12 +8,12 @@ pub unreachable-requires-in-Err-TooMany : goal.unreachable-requires-in-Err-TooMa
 unreachable-requires-in-Err-TooMany c =
     let cause = subst (IsCause (IsCocircuitOfChirotope c.args.chi.now)) c.in-Err-TooMany.field-0-is
     c.in-Err-TooMany.ensures.many in
-    few_cocircuits c.args.chi.now c.requires c.is_lawful.ensures.high cause.1
+    few_cocircuits c.args.chi.now c.requires c.chirotope_to_cocircuits.ensures.high cause.1
 
 pub returns-in-Ok : goal.returns-in-Ok
 returns-in-Ok c =
     record {
-      axioms = c.is_lawful.ensures.lawful;
+      axioms = c.chirotope_to_cocircuits.ensures.lawful;
       elements = c.in-Ok.ensures.elements;
       members =
           c.in-Ok.ensures.members;

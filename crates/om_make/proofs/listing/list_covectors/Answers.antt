@@ -8,12 +8,13 @@ pub unreachable-requires-in-Err-TooMany : goal.unreachable-requires-in-Err-TooMa
 unreachable-requires-in-Err-TooMany c =
     let cause = subst (IsCause (IsCovectorOfChirotope c.args.chi.now)) c.in-Err-TooMany.field-0-is
     c.in-Err-TooMany.ensures.many in
-    few_covectors c.args.chi.now c.is_lawful.ensures.lawful c.requires c.is_lawful.ensures.high cause.1
+    few_covectors c.args.chi.now c.chirotope_to_covectors.ensures.lawful c.requires
+    c.chirotope_to_covectors.ensures.high cause.1
 
 pub returns-in-Ok : goal.returns-in-Ok
 returns-in-Ok c =
     record {
-      axioms = c.is_lawful.ensures.lawful;
+      axioms = c.chirotope_to_covectors.ensures.lawful;
       elements = c.in-Ok.ensures.elements;
       members =
           c.in-Ok.ensures.members;

@@ -7,4 +7,5 @@ use Rattle.om_make.proofs.summarizing.chirotope_of.Goals as goal
 pub unreachable-requires : goal.unreachable-requires
 unreachable-requires c =
     units_span c.args.vectors.now c.requires
-    (subst IsRankLow c.as_slice.ensures (c.in-Err-RankLow.ensures.rank_low.0 (ap Err c.in-Err-RankLow.field-0-is)))
+    (subst IsRankLow c.as_slice.ensures.value (c.in-Err-RankLow.ensures.rank_low.0 (ap Err
+    c.in-Err-RankLow.field-0-is)))

@@ -5,14 +5,14 @@ use Rattle.om_make.proofs.summarizing.summarize.Goals as goal
 
 pub count-requires : goal.count-requires
 count-requires c = few_signs c.args.chi (subst IsChirotopeWithinLimits c.chi.view_is c.chi.invariant) c.into_raw.result
-    c.as_slice.result.now c.into_raw.ensures c.as_slice.ensures
+    c.as_slice.result.now c.into_raw.ensures.value c.as_slice.ensures
 
 pub count-requires-2 : goal.count-requires-2
 count-requires-2 c = few_signs c.args.chi (subst IsChirotopeWithinLimits c.chi.view_is c.chi.invariant)
     c.into_raw.result
-    c.as_slice-2.result.now c.into_raw.ensures c.as_slice-2.ensures
+    c.as_slice-2.result.now c.into_raw.ensures.value c.as_slice-2.ensures
 
 pub count-requires-3 : goal.count-requires-3
 count-requires-3 c = few_signs c.args.chi (subst IsChirotopeWithinLimits c.chi.view_is c.chi.invariant)
     c.into_raw.result
-    c.as_slice-3.result.now c.into_raw.ensures c.as_slice-3.ensures
+    c.as_slice-3.result.now c.into_raw.ensures.value c.as_slice-3.ensures

@@ -19,7 +19,8 @@ is_exchange-requires-clause-e_high c = let bound =
 
 pub unreachable-requires : goal.unreachable-requires
 unreachable-requires c =
-    let s = symmetric_exchange c.args.chi.now c.is_lawful.ensures.lawful c.args.b.elements c.args.c.elements c.args.e
+    let s = symmetric_exchange c.args.chi.now c.elements-f-end.ensures.lawful c.args.b.elements c.args.c.elements
+    c.args.e
     c.requires.b_basis c.requires.c_basis c.requires.inside c.requires.outside in
     let bound = members_from 1 c.args.chi.now.elements s.0 c.args.c.elements c.requires.c_basis.list s.1.inside in
     let size = c.elements-f-end.ensures.value in

@@ -9,7 +9,7 @@ use Rattle.om_minors.proofs.minors.contract_chirotope.Goals as goal
 pub general_deletion-requires-clause-avoided : goal.general_deletion-requires-clause-avoided
 general_deletion-requires-clause-avoided c = λ coloop.
     coloop_none c.args.chi.now c.args.e coloop
-    (basis_without c.args.chi.now c.is_lawful.ensures.lawful c.args.e
+    (basis_without c.args.chi.now c.elements.ensures.lawful c.args.e
     (loop_none c.args.chi.now c.args.e (c.is_loop.ensures.0 c.if-is_loop.true)))
 
 pub returns-in_ok-general_deletion-clause-contraction : goal.returns-in_ok-general_deletion-clause-contraction
@@ -18,7 +18,7 @@ returns-in_ok-general_deletion-clause-contraction c =
     let n = c.elements.ensures.value in
     let other = c.if-elements-eq1.false in
     let several : 2 ≤ c.args.chi.now.elements = omega arith in
-    loop_contraction c.args.chi.now c.is_lawful.ensures.lawful c.args.e several c.requires.low c.requires.high
+    loop_contraction c.args.chi.now c.elements.ensures.lawful c.args.e several c.requires.low c.requires.high
     c.in_ok-general_deletion.field-0 (loop_none c.args.chi.now c.args.e (c.is_loop.ensures.0 c.if-is_loop.true))
     c.in_ok-general_deletion.ensures
 
@@ -28,7 +28,7 @@ returns-in_ok-general_contraction-clause-contraction c =
     let n = c.elements.ensures.value in
     let other = c.if-elements-eq1.false in
     let several : 2 ≤ c.args.chi.now.elements = omega arith in
-    contraction_at c.args.chi.now c.is_lawful.ensures.lawful c.args.e several c.requires.low c.requires.high
+    contraction_at c.args.chi.now c.elements.ensures.lawful c.args.e several c.requires.low c.requires.high
     c.in_ok-general_contraction.field-0
     (basis_on c.args.chi.now c.args.e (λ loop. false≢true (sym c.if-is_loop.false ∙ c.is_loop.ensures.1 loop)))
     c.in_ok-general_contraction.ensures

@@ -9,7 +9,7 @@ use Rattle.om_minors.proofs.minors.delete_chirotope.Goals as goal
 pub general_contraction-requires-clause-used : goal.general_contraction-requires-clause-used
 general_contraction-requires-clause-used c = λ loop.
     loop_none c.args.chi.now c.args.e loop
-    (basis_with c.args.chi.now c.is_lawful.ensures.lawful c.args.e
+    (basis_with c.args.chi.now c.elements.ensures.lawful c.args.e
     (coloop_none c.args.chi.now c.args.e (c.is_coloop.ensures.0 c.if-is_coloop.true)))
 
 pub returns-in_ok-general_contraction-clause-deletion : goal.returns-in_ok-general_contraction-clause-deletion
@@ -18,7 +18,7 @@ returns-in_ok-general_contraction-clause-deletion c =
     let n = c.elements.ensures.value in
     let other = c.if-elements-eq1.false in
     let several : 2 ≤ c.args.chi.now.elements = omega arith in
-    coloop_deletion c.args.chi.now c.is_lawful.ensures.lawful c.args.e several c.requires.low c.requires.high
+    coloop_deletion c.args.chi.now c.elements.ensures.lawful c.args.e several c.requires.low c.requires.high
     c.in_ok-general_contraction.field-0
     (coloop_none c.args.chi.now c.args.e (c.is_coloop.ensures.0 c.if-is_coloop.true))
     c.in_ok-general_contraction.ensures
@@ -30,7 +30,7 @@ returns-in_ok-general_contraction-clause-rank_at_coloop c = λ coloop.
     c.in_ok-general_contraction.ensures in
     let low =
     rank_low c.args.chi.now c.args.e
-    (basis_with c.args.chi.now c.is_lawful.ensures.lawful c.args.e (coloop_none c.args.chi.now c.args.e coloop))
+    (basis_with c.args.chi.now c.elements.ensures.lawful c.args.e (coloop_none c.args.chi.now c.args.e coloop))
     in
     omega (arith, r, low)
 
@@ -40,7 +40,7 @@ returns-in_ok-general_deletion-clause-deletion c =
     let n = c.elements.ensures.value in
     let other = c.if-elements-eq1.false in
     let several : 2 ≤ c.args.chi.now.elements = omega arith in
-    deletion_at c.args.chi.now c.is_lawful.ensures.lawful c.args.e several c.requires.low c.requires.high
+    deletion_at c.args.chi.now c.elements.ensures.lawful c.args.e several c.requires.low c.requires.high
     c.in_ok-general_deletion.field-0
     (basis_off c.args.chi.now c.args.e (λ coloop. false≢true (sym c.if-is_coloop.false ∙ c.is_coloop.ensures.1 coloop)))
     c.in_ok-general_deletion.ensures

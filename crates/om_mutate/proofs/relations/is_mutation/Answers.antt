@@ -7,7 +7,7 @@ pub returns : goal.returns
 returns c =
     let nonzero : c.at.result ≢ Zero = search rules in
     let three = c.three_elements-a.ensures in
-    let k = mutation_by_relations c.args.chi.now c.args.triple.elements _ _ _ c.is_lawful.ensures.lawful c.requires.rank
+    let k = mutation_by_relations c.args.chi.now c.args.triple.elements _ _ _ c.requires.lawful c.requires.rank
     three.elements three.low three.second three.third (omega arith) in (
       λ h. k.0 (c.stays_balanced_around.ensures.0 h) (λ z. nonzero (c.at.ensures.place ∙ z)),
       λ u. c.stays_balanced_around.ensures.1 (k.1 u),

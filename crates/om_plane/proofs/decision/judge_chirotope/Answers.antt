@@ -1,4 +1,8 @@
 use Rattle.std.proofs.Common.{subst}
+use Rattle.om_chirotope.specs.Chirotope.{IsChirotope}
+use Rattle.om_text.specs.Form.{IsInForm}
+use Rattle.om_representation.specs.Axioms.{MeetsAxioms}
+use Rattle.om_representation.specs.Documents.{map_document}
 use Rattle.om_decide.specs.Answers.{IsRefusal}
 use Rattle.om_printing.specs.declared.line.Line.TheVariants as line
 use Rattle.om_reply.specs.Answers.{says}
@@ -12,10 +16,13 @@ map_document-document-requires c other =
 
 pub returns-in-Ok : goal.returns-in-Ok
 returns-in-Ok c =
-    rw c.map_document-document.ensures.value
+    let d = c.map_document-document.ensures in
+    let form : IsInForm (map_document c.args.chirotope) = subst IsInForm d.value d.form in
+    let axioms : IsChirotope c.args.chirotope = subst MeetsAxioms d.value d.axioms in
+    rw d.value
     (decided c.in-Ok.verdict
-    (verdict_decided c.args.chirotope c.args.budgets c.in-Ok.verdict c.is_lawful.ensures.low c.is_lawful.ensures.high
-    c.is_lawful.ensures.lawful c.in-Ok.ensures.verdict c.in-Ok.ensures.form))
+    (verdict_decided c.args.chirotope c.args.budgets c.in-Ok.verdict form.low form.high axioms c.in-Ok.ensures.verdict
+    c.in-Ok.ensures.form))
 
 pub returns-in-Err-NotRank3 : goal.returns-in-Err-NotRank3
 returns-in-Err-NotRank3 c =

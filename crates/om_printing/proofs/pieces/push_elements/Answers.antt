@@ -5,13 +5,13 @@ use Rattle.om_printing.proofs.pieces.push_elements.Goals as goal
 use Rattle.om_printing.proofs.pieces.push_elements.Goals.{then-has+in_ok-push_element, else-has}
 
 pub loop-e-init : goal.loop-e-init
-loop-e-init c = joined_none _ _ _ c.is_lawful.ensures.lawful
+loop-e-init c = joined_none _ _ _ c.n-e-end.ensures.lawful
 
 pub loop-e-preserved : goal.loop-e-preserved
 loop-e-preserved c = elim c.if-has.branch [
   | then-has+in_ok-push_element w ↦
       rw (w.text-is, w.before-is)
-      (joined_element _ _ _ _ _ _ _ c.is_lawful.ensures.lawful (c.has.ensures.0 w.if-has.true)
+      (joined_element _ _ _ _ _ _ _ c.n-e-end.ensures.lawful (c.has.ensures.0 w.if-has.true)
       w.in_ok-push_element.ensures.ok c.loop-e.invariant)
   | else-has w ↦
       rw (w.text-is, w.before-is)
@@ -20,7 +20,7 @@ loop-e-preserved c = elim c.if-has.branch [
 ]
 
 pub returns-clause-ok : goal.returns-clause-ok
-returns-clause-ok c = joined_all _ _ _ _ _ _ c.is_lawful.ensures.lawful
+returns-clause-ok c = joined_all _ _ _ _ _ _ c.n-e-end.ensures.lawful
     (let n = c.n-e-end.ensures.value in let past = c.loop-e-test.false in omega (arith, n, past)) c.loop-e.invariant
 
 pub returns-clause-kept : goal.returns-clause-kept

@@ -4,7 +4,8 @@ use Rattle.om_reply.proofs.made_text.points_document.Goals as goal
 
 pub loop-v-preserved : goal.loop-v-preserved
 loop-v-preserved c = record {
-  points = points_more_of c.as_slice-v-items.result.now c.args.vectors.now c.as_slice-v-items.ensures c.loop-v.v-index _
+  points = points_more_of c.as_slice-v-items.result.now c.args.vectors.now c.as_slice-v-items.ensures.value
+      c.loop-v.v-index _
       c.v-item.result c.loop-v.points c.push_point.new.points c.loop-v-test.true c.v-item.is c.loop-v.invariant.points
       c.in_ok-push_point.ensures.pushed;
   each = each_more c.loop-v.points c.push_point.new.points (vector_numbers c.v-item.result)

@@ -7,7 +7,7 @@ use Rattle.om_representation.proofs.chirotope_choice.of_circuits.Goals as goal
 
 pub returns-in-Ok-clause-chosen : goal.returns-in-Ok-clause-chosen
 returns-in-Ok-clause-chosen c = record {
-  axioms = c.is_lawful-in-Ok.ensures.lawful;
+  axioms = c.in-Ok.ensures.lawful;
   elements = c.in-Ok.ensures.elements;
   same = c.in-Ok.ensures.same;
   normal = c.in-Ok.ensures.normal;
@@ -22,5 +22,5 @@ returns-in-Err-TooWide-clause-refused c =
     IsWidthCause c.args.circuits.now.0.elements (IsCovectorOfCircuits c.args.circuits.now.0) in
     let cause = subst P c.in-Err-TooWide.field-0-is c.in-Err-TooWide.ensures.refused in
     rw c.in-Err-TooWide.values-is
-    (wide_circuits c.args.circuits.now.0 c.rank_circuits.result c.in-Err-TooWide.values c.is_lawful.ensures.high
+    (wide_circuits c.args.circuits.now.0 c.rank_circuits.result c.in-Err-TooWide.values c.rank_circuits.ensures.few
     cause c.rank_circuits.ensures.rank.each)

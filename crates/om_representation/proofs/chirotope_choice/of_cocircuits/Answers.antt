@@ -7,7 +7,7 @@ use Rattle.om_representation.proofs.chirotope_choice.of_cocircuits.Goals as goal
 
 pub returns-in-Ok-clause-chosen : goal.returns-in-Ok-clause-chosen
 returns-in-Ok-clause-chosen c = record {
-  axioms = c.is_lawful-in-Ok.ensures.lawful;
+  axioms = c.in-Ok.ensures.lawful;
   elements = c.in-Ok.ensures.elements;
   same = c.in-Ok.ensures.same;
   normal = c.in-Ok.ensures.normal;
@@ -23,4 +23,4 @@ returns-in-Err-TooWide-clause-refused c =
     let cause = subst P c.in-Err-TooWide.field-0-is c.in-Err-TooWide.ensures.refused in
     rw c.in-Err-TooWide.values-is
     (wide_cocircuits c.args.cocircuits.now.0 c.rank_cocircuits.result c.in-Err-TooWide.values
-    c.is_lawful.ensures.high cause c.rank_cocircuits.ensures.rank.each)
+    c.rank_cocircuits.ensures.few cause c.rank_cocircuits.ensures.rank.each)

@@ -7,7 +7,7 @@ use Rattle.om_representation.proofs.chirotope_choice.of_covectors.Goals as goal
 
 pub returns-in-Ok-clause-chosen : goal.returns-in-Ok-clause-chosen
 returns-in-Ok-clause-chosen c = record {
-  axioms = c.is_lawful-in-Ok.ensures.lawful;
+  axioms = c.in-Ok.ensures.lawful;
   elements = c.in-Ok.ensures.elements;
   same = same_covectors c.args.covectors.now _ c.in-Ok.ensures.same;
   normal = c.in-Ok.ensures.normal;
@@ -22,5 +22,5 @@ returns-in-Err-TooWide-clause-refused c =
     in
     let cause = subst P c.in-Err-TooWide.field-0-is c.in-Err-TooWide.ensures.refused in
     rw c.in-Err-TooWide.values-is
-    (wide_covectors c.args.covectors.now c.rank_covectors.result c.in-Err-TooWide.values c.is_lawful.ensures.high
+    (wide_covectors c.args.covectors.now c.rank_covectors.result c.in-Err-TooWide.values c.rank_covectors.ensures.few
     cause c.rank_covectors.ensures.rank.each)

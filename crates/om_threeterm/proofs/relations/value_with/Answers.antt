@@ -1,5 +1,5 @@
 use Rattle.std.proofs.Common.{sym, ap, subst, ◌∙◌, ◌≡◌, ◌<◌, arith, length}
-use Rattle.om_subsets.specs.Subsets.{choose, rank_of, IsSubsetFrom, with_element}
+use Rattle.om_subsets.specs.Subsets.{choose, rank_of, with_element}
 use Rattle.om_signs.specs.Sign.{opposite}
 use Rattle.om_chirotope.specs.Map.{map_of}
 use Rattle.om_chirotope.proofs.Cocircuits.{with_lawful}
@@ -18,7 +18,7 @@ at-sign-requires c =
     let n1 = c.with.ensures.n ∙ c.requires.n in
     let n2 = c.with-2.ensures.n ∙ n1 in
     let e2 = c.with-2.ensures.elements ∙ ap (with_element y) c.with.ensures.elements in
-    let list = subst (λ n. IsSubsetFrom 1 n p) c.requires.n c.is_lawful.ensures.lawful in
+    let list = c.requires.list in
     let first = with_lawful m.elements c.with.result (with_element x p) n1 c.with.ensures.elements c.with.ensures.lawful
     in
     let both = with_lawful m.elements c.with-2.result (with_element y (with_element x p)) n2 e2 c.with-2.ensures.lawful
@@ -43,7 +43,7 @@ returns-then-odd_after c =
     let n1 = c.with.ensures.n ∙ c.requires.n in
     let n2 = c.with-2.ensures.n ∙ n1 in
     let e2 = c.with-2.ensures.elements ∙ ap (with_element y) c.with.ensures.elements in
-    let list = subst (λ n. IsSubsetFrom 1 n p) c.requires.n c.is_lawful.ensures.lawful in
+    let list = c.requires.list in
     let first = with_lawful m.elements c.with.result (with_element x p) n1 c.with.ensures.elements c.with.ensures.lawful
     in
     let both = with_lawful m.elements c.with-2.result (with_element y (with_element x p)) n2 e2 c.with-2.ensures.lawful
@@ -66,7 +66,7 @@ returns-else-odd_after c =
     let n1 = c.with.ensures.n ∙ c.requires.n in
     let n2 = c.with-2.ensures.n ∙ n1 in
     let e2 = c.with-2.ensures.elements ∙ ap (with_element y) c.with.ensures.elements in
-    let list = subst (λ n. IsSubsetFrom 1 n p) c.requires.n c.is_lawful.ensures.lawful in
+    let list = c.requires.list in
     let first = with_lawful m.elements c.with.result (with_element x p) n1 c.with.ensures.elements c.with.ensures.lawful
     in
     let both = with_lawful m.elements c.with-2.result (with_element y (with_element x p)) n2 e2 c.with-2.ensures.lawful

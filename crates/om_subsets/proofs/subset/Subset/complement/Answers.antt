@@ -14,7 +14,7 @@ returns-clause-members c =
     ≡ members (others (mask_of 1 c.args.self.elements c.args.self.n) c.args.self.n) 1 c.args.self.n =
     rw (shifted, c.mask.ensures.value, c.n-2.ensures.value) at c.from_mask.ensures.elements in
     λ e. subst (λ ys. IsMember e ys ↔ ((1 ≤ e) × (e ≤ c.args.self.n) × (IsMember e c.args.self.elements → ⊥)))
-    (sym made) (complement_member c.args.self.n c.args.self.elements c.is_lawful.ensures.lawful e)
+    (sym made) (complement_member c.args.self.n c.args.self.elements c.mask.ensures.lawful e)
 
 pub returns-clause-size : goal.returns-clause-size
 returns-clause-size c =
@@ -23,4 +23,4 @@ returns-clause-size c =
     let made : c.from_mask.result.elements
     ≡ members (others (mask_of 1 c.args.self.elements c.args.self.n) c.args.self.n) 1 c.args.self.n =
     rw (shifted, c.mask.ensures.value, c.n-2.ensures.value) at c.from_mask.ensures.elements in
-    rw made (complement_size c.args.self.n c.args.self.elements c.is_lawful.ensures.lawful)
+    rw made (complement_size c.args.self.n c.args.self.elements c.mask.ensures.lawful)

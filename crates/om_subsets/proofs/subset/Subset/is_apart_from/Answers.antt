@@ -9,10 +9,10 @@ pub returns : goal.returns
 returns c =
     let second = subst (λ n. IsMaskOf n (λ i. IsMember (i + 1) c.args.other.elements) c.mask-2.result) c.requires
     c.mask-2.ensures.bits in
-    let other = subst (λ n. IsSubsetFrom 1 n c.args.other.elements) c.requires c.is_lawful-2.ensures.lawful in (
+    let other = subst (λ n. IsSubsetFrom 1 n c.args.other.elements) c.requires c.mask-2.ensures.lawful in (
       λ t. apart_from_masks c.args.self.n c.args.self.elements c.args.other.elements c.mask.result c.mask-2.result
-          c.mask.ensures.bits second c.is_lawful.ensures.lawful other (eqb-true _ _ t),
+          c.mask.ensures.bits second c.mask.ensures.lawful other (eqb-true _ _ t),
       λ apart. eq-eqb _ _
           (masks_from_apart c.args.self.n c.args.self.elements c.args.other.elements c.mask.result c.mask-2.result
-          c.mask.ensures.bits second c.is_lawful.ensures.lawful apart),
+          c.mask.ensures.bits second c.mask.ensures.lawful apart),
     )

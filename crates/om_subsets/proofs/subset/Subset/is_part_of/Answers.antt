@@ -11,8 +11,8 @@ returns c =
     let second = subst (λ n. IsMaskOf n (λ i. IsMember (i + 1) c.args.other.elements) c.mask.result) c.requires
     c.mask.ensures.bits in (
       λ t. part_from_masks c.args.self.n c.args.self.elements c.args.other.elements c.mask-mask.result c.mask.result
-          first second c.is_lawful.ensures.lawful (eqb-true _ _ t),
+          first second c.mask-mask.ensures.lawful (eqb-true _ _ t),
       λ part. eq-eqb _ _
           (masks_from_part c.args.self.n c.args.self.elements c.args.other.elements c.mask-mask.result c.mask.result
-          first second c.is_lawful.ensures.lawful part),
+          first second c.mask-mask.ensures.lawful part),
     )

@@ -1,6 +1,6 @@
-use Rattle.std.proofs.Common.{◌+◌, ◌∙◌, sym, ap, length, arith}
-use Rattle.om_subsets.specs.Subsets.{rank_of, choose}
-use Rattle.om_subsets.specs.Members.{members-subset}
+use Rattle.std.proofs.Common.{◌+◌, ◌∙◌, sym, ap, length, arith, subst}
+use Rattle.om_subsets.specs.Subsets.{rank_of, choose, IsSubsetFrom}
+use Rattle.om_subsets.specs.Members.{Chosen, members-subset}
 use Rattle.om_subsets.proofs.Places.{bits_fit}
 use Rattle.om_subsets.proofs.NextSets.{next_made, not_last}
 use Rattle.om_subsets.proofs.LastSets.{tail_more, tail_same, tail_small}
@@ -56,3 +56,13 @@ loop-k-preserved c = elim c.if-self-i-eq1.branch [
 
 pub returns-then-tail-k-clause-lawful : goal.returns-then-tail-k-clause-lawful
 returns-then-tail-k-clause-lawful c = members-subset _ 1 c.self.inside.n
+
+pub returns-then-tail-k-clause-here : goal.returns-then-tail-k-clause-here
+returns-then-tail-k-clause-here c =
+    let P : Chosen → Type 0 = λ v. IsSubsetFrom 1 v.n v.elements in
+    subst P c.self.view_is (members-subset c.self.inside.mask 1 c.self.inside.n)
+
+pub returns-clause-here : goal.returns-clause-here
+returns-clause-here c =
+    let P : Chosen → Type 0 = λ v. IsSubsetFrom 1 v.n v.elements in
+    subst P c.self.view_is (members-subset c.self.inside.mask 1 c.self.inside.n)

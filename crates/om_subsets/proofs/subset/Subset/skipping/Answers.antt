@@ -22,7 +22,7 @@ returns-clause-elements c =
     (ap (λ t. members t 1 (c.args.self.n + 1))
     (spread_code (mask_of 1 xs c.args.self.n) c.args.self.n c.args.e c.requires.low c.requires.high c.requires.room
     (mask_of-lt 1 c.args.self.n xs))
-    ∙ skipped_members c.args.self.n c.args.e xs c.requires.low c.requires.high c.is_lawful.ensures.lawful)
+    ∙ skipped_members c.args.self.n c.args.e xs c.requires.low c.requires.high c.mask.ensures.lawful)
 
 pub returns-clause-size : goal.returns-clause-size
 returns-clause-size c = ap length (returns-clause-elements c) ∙ length-map c.args.self.elements (skip c.args.e)

@@ -3,7 +3,7 @@ use Rattle.om_subsets.proofs.subset.Subset.three_elements.Goals as goal
 
 pub returns-clause-second : goal.returns-clause-second
 returns-clause-second c = first_below_second c.args.self.n c.least-a.result c.least-b.result c.args.self.elements
-    c.without-later.result.elements _ c.is_lawful.ensures.lawful c.least-a.ensures.first
+    c.without-later.result.elements _ c.least-a.ensures.lawful c.least-a.ensures.first
     c.without-later.ensures.elements c.least-b.ensures.first
 
 pub returns-clause-third : goal.returns-clause-third

@@ -1,7 +1,7 @@
 use Rattle.std.proofs.Common.{subst}
 use Rattle.om_subsets.specs.Subsets.{IsSubsetFrom}
 use Rattle.om_subsets.specs.Members.{Chosen, members-subset}
-use Rattle.om_subsets.proofs.subset.Subset.is_lawful.Goals as goal
+use Rattle.om_subsets.proofs.subset.Subset.n.Goals as goal
 
 pub returns-clause-lawful : goal.returns-clause-lawful
 returns-clause-lawful c =
