@@ -4,36 +4,19 @@ ghost use Rattle.std.specs.Prelude.{◌≡◌, ◌≢◌, ◌≤◌, IfOk};
 ghost use Rattle.om_signs.specs.declared.limits.TheConstants.{MAX_VALUES};
 ghost use Rattle.om_subsets.specs.Subsets.{choose};
 ghost use Rattle.om_certificate.specs.Forms.{IsVerdictInForm};
-ghost use Rattle.om_document.specs.Form.{IsInForm};
 ghost use Rattle.om_lines.specs.Lines.{lines};
 ghost use Rattle.om_answer.specs.Claim.{IsClaim};
-ghost use Rattle.om_reply.specs.VerdictText.{chirotope_document, verdict_text, claim_of};
+ghost use Rattle.om_reply.specs.VerdictText.{verdict_text, claim_of};
 
 use om_certificate::Verdict;
 use om_chirotope::Chirotope;
+use om_document::print_map;
 use om_reply::push_block;
-use om_signs::{List, NoMemory};
-use om_document::{Body, Document, print};
+use om_signs::NoMemory;
 use std::alloc::Global;
 
-/// The document of a chirotope with no more values than a document may hold. It has no names.
-fn document_of(alloc: Global, chi: &Chirotope) -> Result<Document, NoMemory>
-    requires { choose chi.now.elements chi.now.rank ≤ MAX_VALUES }
-    ensures value { IfOk result (λ d. d ≡ chirotope_document chi.now) }
-    ensures form { IfOk result IsInForm }
-{
-    let elements = chi.elements();
-    chi.is_lawful();
-    let copy = chi.copy()?;
-    Ok(Document {
-        elements,
-        body: Body::Chirotope(copy.into_raw()),
-        names: List::new(alloc),
-    })
-}
-
 /// The text of a verdict on a chirotope: the canonical form of the chirotope's document, and then the lines of the
-/// verdict block. Memory for the text comes from `alloc`; the signs are copied with their own allocator.
+/// verdict block. Memory for the text comes from `alloc`. Nothing is copied.
 ///
 /// The verdict must have the forms of a claim and be within its limits:
 ///
@@ -55,9 +38,7 @@ pub fn print_verdict(alloc: Global, chi: &Chirotope, verdict: &Verdict) -> Resul
     // The printed text is a claim: the chirotope's document and this verdict.
     ensures claim { IfOk result (λ text. IsClaim (lines text.items) (claim_of chi.now verdict.now)) }
 {
-    chi.is_lawful();
-    let document = document_of(alloc, chi)?;
-    let mut text = print(alloc, &document)?;
+    let mut text = print_map(alloc, chi.rank(), chi.elements(), chi.signs())?;
     push_block(&mut text, verdict)?;
     Ok(text)
 }

@@ -42,17 +42,6 @@ impl Chirotope {
         Chirotope { raw }
     }
 
-    /// The signs satisfy the axioms, there are from 1 to [`MAX_ELEMENTS`] elements, and the rank is at most their
-    /// number. The call does nothing: its contract is this fact.
-    pub fn is_lawful(&self)
-        ensures lawful { IsChirotope self.now }
-        ensures part { self.now.rank ≤ self.now.elements }
-        ensures low { 1 ≤ self.now.elements }
-        ensures high { self.now.elements ≤ MAX_ELEMENTS }
-    {
-        let _rank = self.raw.rank;
-    }
-
     /// The rank: the number of elements of each list that has a sign.
     pub fn rank(&self) -> u8
         ensures value { result ≡ self.now.rank }
@@ -135,6 +124,13 @@ impl Chirotope {
         } else {
             self
         }
+    }
+
+    /// The signs of the increasing lists of as many elements as the rank, in lexicographic order of the lists.
+    pub fn signs(&self) -> &[Sign]
+        ensures { result.now ≡ self.now.signs }
+    {
+        self.raw.signs.as_slice()
     }
 
     /// A copy, which has its own signs on the heap, with the same allocator.

@@ -1,6 +1,7 @@
 -- The text of lines, put together piece by piece.
 --
--- Main results: sign_lines_step, lines_more, rows_more, members_more, blocks_more, points_more, pushed, printed_bytes
+-- Main results: sign_lines_step, lines_more, rows_more, members_more, blocks_more, points_more, pushed, printed_bytes,
+-- printed_map
 use Rattle.std.proofs.Common.{◌≡◌, ℕ, suc, ◌+◌, ◌-◌, ◌/◌, ◌<◌, min, List, [], ◌∷◌, ◌++◌, length, take, drop, get_or}
 use Rattle.std.proofs.Common.{map, refl, sym, ap, ◌∙◌, arith, append_assoc, length-drop, inl, inr, Bool, true, false}
 use Rattle.std.proofs.Common.{nat_eq}
@@ -9,12 +10,12 @@ use Rattle.std.proofs.Math.ListN.{drop_of_length-le}
 use Rattle.std.proofs.lemmas.Bool.{cases_lt, eqb-false, eqb-true}
 use Rattle.om_signs.specs.declared.block.Block.{Block}
 use Rattle.om_signs.specs.declared.sign.Sign.{Sign}
-use Rattle.std.specs.Prelude.{ℤ, codes, Result, Ok, Err, OnOk}
+use Rattle.std.specs.Prelude.{ℤ, codes, decimal, Result, Ok, Err, OnOk}
 use Rattle.std.specs.Fmt.{signed_decimal}
 use Rattle.om_document.specs.declared.document.Document.{Document}
 use Rattle.om_lines.specs.Words.{byte_of}
 use Rattle.om_document.specs.Print.{text_of, cut, sign_lines, member_lines, block_text, block_lines, spaced}
-use Rattle.om_document.specs.Print.{point_lines, kind_text, body_lines, printed}
+use Rattle.om_document.specs.Print.{point_lines, kind_text, body_lines, printed, unnamed_map}
 
 pub text_of-append : (xs ys : List (List ℕ)) → text_of (xs ++ ys) ≡ text_of xs ++ text_of ys
 text_of-append [] ys = refl
@@ -75,6 +76,22 @@ printed_bytes (Ok x) d base head body out h b o =
     ∙ ap (λ x. x ++ text_of (body_lines d.body)) top ∙ lines_more base (first ++ kind) (body_lines d.body) in
     o ∙ ap (λ x. x ++ text_of last) most ∙ lines_more base ((first ++ kind) ++ body_lines d.body) last
 printed_bytes (Err x) d base head body out h b o = tt
+
+-- the kind line of a map, as it is printed
+map_kind : (rank n : ℕ) (xs : List Sign) → codes "chirotope " ++ (decimal rank ++ 32 ∷ (decimal n ++ 10 ∷ []))
+    ≡ text_of (kind_text (unnamed_map rank n xs) ∷ [])
+map_kind rank n xs =
+    ap (λ r. codes "chirotope " ++ r) (sym (append_assoc (decimal rank) (32 ∷ decimal n) (10 ∷ [])))
+
+-- the canonical form of a map, from the pieces that `print_map` appends: a version line, a kind line, signs, an end
+pub printed_map : {E : Type 0} (r : Result Unit E) (rank n : ℕ) (xs : List Sign) (base top line head body out : List ℕ)
+    → top ≡ base ++ text_of (codes "om 1" ∷ [])
+    → line ≡ codes "chirotope " ++ (decimal rank ++ 32 ∷ (decimal n ++ 10 ∷ [])) → head ≡ top ++ line
+    → body ≡ head ++ text_of (sign_lines xs) → OnOk r (out ≡ body ++ (101 ∷ 110 ∷ 100 ∷ 10 ∷ []))
+    → OnOk r (out ≡ base ++ printed (unnamed_map rank n xs))
+printed_map r rank n xs base top line head body out t l h b o =
+    printed_bytes r (unnamed_map rank n xs) base head body out (h ∙ ap (λ x. x ++ line) t
+    ∙ ap (λ x. (base ++ text_of (codes "om 1" ∷ [])) ++ x) (l ∙ map_kind rank n xs)) b o
 
 -- one more member
 pub members_more : (base out new : List ℕ) (ms : List (List Sign)) (i : ℕ) (x : List Sign) → i < length ms

@@ -73,6 +73,15 @@ printed_lines d = codes "om 1" ∷ kind_text d ∷ (body_lines d.body ++ codes "
 abbrev pub printed : Document → List ℕ
 printed d = text_of (printed_lines d)
 
+-- the document of a map, without names
+abbrev pub unnamed_map : ℕ → ℕ → List Sign → Document
+unnamed_map rank elements signs =
+    record {
+      elements = elements;
+      body = Chirotope (record { rank = rank; elements = elements; signs = signs });
+      names = [];
+    }
+
 -- the same body with its members sorted
 abbrev pub sorted_body : Body → Body
 sorted_body b = with_members b (sorted (members_of b))

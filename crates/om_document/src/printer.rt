@@ -11,7 +11,7 @@ ghost use Rattle.om_document.specs.Document.{IsDocument};
 ghost use Rattle.om_document.specs.Form.{IsPoint, IsBodyOn, IsInForm};
 ghost use Rattle.std.specs.Fmt.{signed_decimal};
 ghost use Rattle.om_document.specs.Print.{text_of, sign_lines, member_lines, block_lines, point_lines, body_lines};
-ghost use Rattle.om_document.specs.Print.{kind_text, printed, sorted_document};
+ghost use Rattle.om_document.specs.Print.{kind_text, printed, sorted_document, unnamed_map};
 
 use super::body::Body;
 use super::document::Document;
@@ -241,5 +241,28 @@ pub fn print(alloc: Global, document: &Document) -> Result<Vec<u8>, NoMemory>
 {
     let mut out = Vec::new(alloc);
     push_document(&mut out, document)?;
+    Ok(out)
+}
+
+/// Appends the canonical form of the document of a map.
+fn push_map(out: &mut Vec<u8>, rank: u8, elements: u8, signs: &[Sign]) -> Result<(), NoMemory>
+    ensures { OnOk result (out.new.items ≡ out.old.items ++ printed (unnamed_map rank elements signs.now)) }
+{
+    push_bytes(out, b"om 1\n")?;
+    let line = map_line(*out.allocator(), rank, elements)?;
+    push_bytes(out, line.as_slice())?;
+    push_rows(out, signs)?;
+    push_bytes(out, b"end\n")
+}
+
+/// The canonical form of the document of a map without names: what [`print`] gives for this document. The signs are
+/// those of the increasing lists of `rank` elements, in lexicographic order of the lists. No sign is copied.
+///
+/// The call fails only if memory runs out.
+pub fn print_map(alloc: Global, rank: u8, elements: u8, signs: &[Sign]) -> Result<Vec<u8>, NoMemory>
+    ensures { IfOk result (λ bytes. bytes.items ≡ printed (unnamed_map rank elements signs.now)) }
+{
+    let mut out = Vec::new(alloc);
+    push_map(&mut out, rank, elements, signs)?;
     Ok(out)
 }

@@ -1,6 +1,6 @@
 //! The cocircuits, the covectors and the mutations of a chirotope of rank 3.
 
-ghost use Rattle.std.specs.Prelude.{◌≡◌, IfOk, length};
+ghost use Rattle.std.specs.Prelude.{◌≡◌, ◌≤◌, IfOk, length};
 ghost use Rattle.om_denotation.specs.Circuits.{IsCocircuitOfChirotope};
 ghost use Rattle.om_denotation.specs.Covectors.{IsCovectorOfChirotope, IsCovectorOfCocircuits, IsCovectorOfCovectors};
 ghost use Rattle.om_make.specs.Tallies.{HasExactly, HasMutations};
@@ -11,13 +11,14 @@ use om_circuits::Cocircuits;
 use om_convert::{ConvertError, chirotope_to_cocircuits, chirotope_to_covectors};
 use om_covectors::Covectors;
 use om_mutate::{MutationError, mutations};
-use om_signs::NoMemory;
+use om_signs::{MAX_ELEMENTS, NoMemory};
 use std::alloc::Global;
 
 /// The cocircuits of a chirotope of rank 3.
 pub fn list_cocircuits(alloc: Global, chi: &Chirotope) -> Result<Cocircuits, NoMemory>
     requires { chi.now.rank ≡ 3 }
-    ensures { IfOk result (λ c. ListsCocircuits chi.now c.0) }
+    ensures list { IfOk result (λ c. ListsCocircuits chi.now c.0) }
+    ensures high { chi.now.elements ≤ MAX_ELEMENTS }
 {
     match chirotope_to_cocircuits(alloc, chi) {
         Ok(cocircuits) => Ok(cocircuits),
@@ -32,7 +33,8 @@ pub fn list_cocircuits(alloc: Global, chi: &Chirotope) -> Result<Cocircuits, NoM
 /// The covectors of a chirotope of rank 3.
 pub fn list_covectors(alloc: Global, chi: &Chirotope) -> Result<Covectors, NoMemory>
     requires { chi.now.rank ≡ 3 }
-    ensures { IfOk result (λ c. ListsCovectors chi.now c) }
+    ensures list { IfOk result (λ c. ListsCovectors chi.now c) }
+    ensures high { chi.now.elements ≤ MAX_ELEMENTS }
 {
     match chirotope_to_covectors(alloc, chi) {
         Ok(covectors) => Ok(covectors),

@@ -4,6 +4,7 @@ ghost use Rattle.std.specs.Prelude.{◌≡◌, IfOk, OnOk};
 ghost use Rattle.om_vectors.specs.Realizations.{signs_map};
 ghost use Rattle.om_denotation.specs.Circuits.{IsCocircuitOfChirotope};
 ghost use Rattle.om_denotation.specs.Covectors.{IsCovectorOfChirotope};
+ghost use Rattle.om_denotation.specs.Maps.{IsNormalFormOf};
 ghost use Rattle.om_make.specs.Tallies.{BeginsWithUnits, ComesBack, HasExactly, HasMutations, IsTally, IsTallyOfMap};
 
 use super::counting::count;
@@ -63,53 +64,63 @@ fn summarize(alloc: Global, chi: Chirotope) -> Result<Tally, NoMemory>
         plus: count(signs.as_slice(), Sign::Plus),
         zero: count(signs.as_slice(), Sign::Zero),
         minus: count(signs.as_slice(), Sign::Minus),
-        cocircuits: sizes.cocircuits,
-        covectors: sizes.covectors,
+        cocircuits: sizes.cocircuits.members,
+        covectors: sizes.covectors.members,
         mutations: sizes.mutations,
     })
 }
 
-/// The numbers of cocircuits, covectors and mutations of a chirotope.
-#[derive(Clone, Copy)]
+/// A list's number of members, and the chirotope to which the list is converted back.
+#[derive(Drop)]
+struct RoundTrip {
+    members: u32,
+    back: Chirotope,
+}
+
+/// The lists of the cocircuits and of the covectors of a chirotope, there and back, and the number of its mutations.
+#[derive(Drop)]
 struct Sizes {
-    cocircuits: u32,
-    covectors: u32,
+    cocircuits: RoundTrip,
+    covectors: RoundTrip,
     mutations: u32,
 }
 
-/// The numbers of cocircuits, covectors and mutations of a chirotope of rank 3.
+/// The numbers of cocircuits, covectors and mutations of a chirotope of rank 3. Both lists are converted back.
 fn sizes_of(alloc: Global, chi: &Chirotope) -> Result<Sizes, NoMemory>
     requires { chi.now.rank ≡ 3 }
-    ensures cocircuits { IfOk result (λ s. HasExactly s.cocircuits (IsCocircuitOfChirotope chi.now)) }
-    ensures covectors { IfOk result (λ s. HasExactly s.covectors (IsCovectorOfChirotope chi.now)) }
+    ensures cocircuits { IfOk result (λ s. HasExactly s.cocircuits.members (IsCocircuitOfChirotope chi.now)) }
+    ensures covectors { IfOk result (λ s. HasExactly s.covectors.members (IsCovectorOfChirotope chi.now)) }
     ensures mutations { IfOk result (λ s. HasMutations s.mutations chi.now) }
-    ensures back { OnOk result (ComesBack chi.now) }
+    ensures from_cocircuits { IfOk result (λ s. IsNormalFormOf chi.now s.cocircuits.back) }
+    ensures from_covectors { IfOk result (λ s. IsNormalFormOf chi.now s.covectors.back) }
 {
     Ok(Sizes {
-        cocircuits: number_of_cocircuits(alloc, chi)?,
-        covectors: number_of_covectors(alloc, chi)?,
+        cocircuits: trip_by_cocircuits(alloc, chi)?,
+        covectors: trip_by_covectors(alloc, chi)?,
         mutations: count_mutations(alloc, chi)?,
     })
 }
 
-/// The number of cocircuits of a chirotope of rank 3. Their list is converted back.
-fn number_of_cocircuits(alloc: Global, chi: &Chirotope) -> Result<u32, NoMemory>
+/// The list of the cocircuits of a chirotope of rank 3, there and back.
+fn trip_by_cocircuits(alloc: Global, chi: &Chirotope) -> Result<RoundTrip, NoMemory>
     requires { chi.now.rank ≡ 3 }
-    ensures number { IfOk result (λ k. HasExactly k (IsCocircuitOfChirotope chi.now)) }
-    ensures back { OnOk result (ComesBack chi.now) }
+    ensures number { IfOk result (λ t. HasExactly t.members (IsCocircuitOfChirotope chi.now)) }
+    ensures back { IfOk result (λ t. IsNormalFormOf chi.now t.back) }
 {
     let cocircuits = list_cocircuits(alloc, chi)?;
-    convert_cocircuits_back(alloc, chi, &cocircuits)?;
-    Ok(count_cocircuits(&cocircuits))
+    let back = convert_cocircuits_back(alloc, &cocircuits)?;
+    let members = count_cocircuits(&cocircuits);
+    Ok(RoundTrip { members, back })
 }
 
-/// The number of covectors of a chirotope of rank 3. Their list is converted back.
-fn number_of_covectors(alloc: Global, chi: &Chirotope) -> Result<u32, NoMemory>
+/// The list of the covectors of a chirotope of rank 3, there and back.
+fn trip_by_covectors(alloc: Global, chi: &Chirotope) -> Result<RoundTrip, NoMemory>
     requires { chi.now.rank ≡ 3 }
-    ensures number { IfOk result (λ k. HasExactly k (IsCovectorOfChirotope chi.now)) }
-    ensures back { OnOk result (ComesBack chi.now) }
+    ensures number { IfOk result (λ t. HasExactly t.members (IsCovectorOfChirotope chi.now)) }
+    ensures back { IfOk result (λ t. IsNormalFormOf chi.now t.back) }
 {
     let covectors = list_covectors(alloc, chi)?;
-    convert_covectors_back(alloc, chi, &covectors)?;
-    Ok(count_covectors(&covectors))
+    let back = convert_covectors_back(alloc, &covectors)?;
+    let members = count_covectors(&covectors);
+    Ok(RoundTrip { members, back })
 }

@@ -10,8 +10,8 @@ unreachable-requires-in-Err-TooMany c =
     c.in-Err-TooMany.ensures.many in
     few_cocircuits c.args.chi.now c.requires c.chirotope_to_cocircuits.ensures.high cause.1
 
-pub returns-in-Ok : goal.returns-in-Ok
-returns-in-Ok c =
+pub returns-in-Ok-clause-list : goal.returns-in-Ok-clause-list
+returns-in-Ok-clause-list c =
     record {
       axioms = c.chirotope_to_cocircuits.ensures.lawful;
       elements = c.in-Ok.ensures.elements;

@@ -11,8 +11,8 @@ unreachable-requires-in-Err-TooMany c =
     few_covectors c.args.chi.now c.chirotope_to_covectors.ensures.lawful c.requires
     c.chirotope_to_covectors.ensures.high cause.1
 
-pub returns-in-Ok : goal.returns-in-Ok
-returns-in-Ok c =
+pub returns-in-Ok-clause-list : goal.returns-in-Ok-clause-list
+returns-in-Ok-clause-list c =
     record {
       axioms = c.chirotope_to_covectors.ensures.lawful;
       elements = c.in-Ok.ensures.elements;

@@ -1,6 +1,6 @@
 use Rattle.std.proofs.Common.{subst}
 use Rattle.om_chirotope.specs.Chirotope.{IsChirotope}
-use Rattle.om_text.specs.Form.{IsInForm}
+use Rattle.om_document.specs.Form.{IsInForm}
 use Rattle.om_representation.specs.Axioms.{MeetsAxioms}
 use Rattle.om_representation.specs.Documents.{map_document}
 use Rattle.om_decide.specs.Answers.{IsRefusal}
