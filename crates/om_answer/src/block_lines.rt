@@ -14,12 +14,12 @@ use super::numbers::{MOST_NUMBERS, numbers_of};
 use super::range::Range;
 use om_certificate::{Entry, LpEnd, Weight};
 use om_grassmann::Statement;
+use om_lines::lines::{first_word, same};
 use om_signs::{
     MAX_COORDINATE, MAX_ELEMENTS, MAX_MULTIPLICITY, MAX_PIVOTS, MAX_PLAIN, MAX_ROW_NAMED,
     MAX_WEIGHT,
 };
 use om_simplex::Stage;
-use om_lines::lines::{first_word, same};
 use om_vectors::Vector;
 use smallvec::SmallVec;
 use std::alloc::Global;

@@ -16,10 +16,10 @@ use super::block_lines::{
     entry_line, pivots_line, rest_after, vector_line, weight_line, width_line,
 };
 use om_certificate::{Entry, LpEnd, Verdict, Weight};
-use om_signs::{List, MAX_ELEMENTS, NoMemory};
-use om_subsets::Subset;
 use om_lines::lines::{before_comment, first_line, first_word, has_no_words, is_end, is_only_word};
 use om_lines::words::plain_number;
+use om_signs::{List, MAX_ELEMENTS, NoMemory};
+use om_subsets::Subset;
 use om_text::{Code, ParseError, Refusal};
 use om_vectors::{Unfound, Word};
 use std::alloc::Global;

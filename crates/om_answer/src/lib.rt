@@ -16,7 +16,7 @@ mod verdict;
 
 pub use claim_reader::read_claim;
 pub use laws::{bytes_have_one_reading, claims_begin_as_bytes};
+pub use om_document::Kind;
 pub use om_printing::{Line, pieces, print_line};
 pub use om_reply::{Claim, print_claim};
-pub use om_document::Kind;
 pub use verdict::print_verdict;

@@ -7,18 +7,17 @@ ghost use Rattle.om_representation.specs.Widths.{HasFewValues};
 ghost use Rattle.om_commands.specs.Conversions.{IsConversion, IsConversionFrom, IsUnlisted};
 
 use om_chirotope::Chirotope;
-use om_printing::Line;
-use om_document::Kind;
 use om_convert::{
     ConvertError, chirotope_to_circuits, chirotope_to_cocircuits, chirotope_to_covectors,
     covectors_to_cocircuits,
 };
 use om_covectors::Covectors;
+use om_document::Kind;
+use om_printing::Line;
 use om_reply::Answer;
-use om_representation::width_line;
 use om_representation::{
     Representation, choose_chirotope, circuits_document, cocircuits_document, covectors_document,
-    map_document,
+    map_document, width_line,
 };
 use om_signs::NoMemory;
 use std::alloc::Global;

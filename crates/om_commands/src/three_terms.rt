@@ -5,11 +5,11 @@ ghost use Rattle.om_document.specs.Form.{IsInForm, IsMapOn};
 ghost use Rattle.om_reply.specs.Answers.{says};
 ghost use Rattle.om_commands.specs.ThreeTermTests.{IsThreeTermTest, IsTestOfMap, IsNoMap, failure_line};
 
+use om_document::{Body, Document};
 use om_printing::Line;
 use om_reply::Answer;
 use om_representation::{Unrepresented, refused_line, represent};
 use om_signs::{MAX_ELEMENTS, NoMemory, RawMap};
-use om_document::{Body, Document};
 use om_threeterm::{ThreeRefused, check};
 use std::alloc::Global;
 use std::thread::Threads;

@@ -5,13 +5,12 @@ ghost use Rattle.om_signs.specs.declared.limits.TheConstants.{MAX_ELEMENTS};
 ghost use Rattle.om_document.specs.Form.{IsInForm, AreBlocks};
 ghost use Rattle.om_commands.specs.Upgrades.{IsUpgrade, IsGiven};
 
+use om_document::{Body, Document, Name};
 use om_reply::Answer;
-use om_representation::refused_line;
 use om_representation::{
-    Unrepresented, chirotope_of_points, document_of, represent, wiring_of_blocks,
+    Unrepresented, chirotope_of_points, document_of, refused_line, represent, wiring_of_blocks,
 };
 use om_signs::{Block, List, NoMemory};
-use om_document::{Body, Document, Name};
 use std::alloc::Global;
 use std::thread::Threads;
 

@@ -13,7 +13,7 @@ use Rattle.std.proofs.lemmas.List.{ext_get_or, get_or_default}
 use Rattle.om_signs.specs.declared.sign.Sign.{Sign}
 use Rattle.om_signs.specs.declared.sign.Sign.TheVariants.{Minus, Zero, Plus}
 use Rattle.om_signs.specs.Order.{sign_rank, sign_order, lexicographic}
-use Rattle.om_signs.proofs.SignLaws.{sign_rank-injective}
+use Rattle.om_signs.proofs.SignRanks.{sign_rank-injective}
 use Rattle.om_localize.specs.Listings.{IsBefore, AreFirst}
 use Rattle.om_localize.specs.Searches.{scaled, number}
 use Rattle.om_localize.proofs.ListNumbers.{smaller_head, same_number, own_order}

@@ -13,7 +13,7 @@ use Rattle.std.proofs.lemmas.List.{take-append-drop, length-drop, length-take-le
 use Rattle.om_signs.specs.declared.sign.Sign.{Sign}
 use Rattle.om_signs.specs.declared.sign.Sign.TheVariants.{Minus, Zero, Plus}
 use Rattle.om_signs.specs.Order.{sign_rank, sign_order, lexicographic}
-use Rattle.om_signs.proofs.SignLaws.{sign_rank-lt, sign_rank-injective}
+use Rattle.om_signs.proofs.SignRanks.{sign_rank-lt, sign_rank-injective}
 use Rattle.om_localize.specs.Listings.{IsBefore}
 use Rattle.om_localize.specs.Searches.{scaled, number, start_of, end_of}
 

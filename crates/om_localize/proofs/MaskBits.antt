@@ -12,7 +12,8 @@ use Rattle.om_signs.specs.declared.sign.Sign.{Sign}
 use Rattle.om_signs.specs.declared.sign.Sign.TheVariants.{Zero}
 use Rattle.om_signs.specs.Sign.{product, first_nonzero}
 use Rattle.om_signs.specs.SignVec.{at_element}
-use Rattle.om_signs.proofs.SignLaws.{sign_rank-lt, sign_rank-injective, first_nonzero_right, first_nonzero_left}
+use Rattle.om_signs.proofs.SignLaws.{first_nonzero_right, first_nonzero_left}
+use Rattle.om_signs.proofs.SignRanks.{sign_rank-lt, sign_rank-injective}
 use Rattle.om_laws.specs.Vectors.{SignVector}
 use Rattle.om_laws.proofs.TupleSizes.{on_tuples_at}
 use Rattle.om_chirotope.specs.Map.{SignMap, chi_of, value_of}

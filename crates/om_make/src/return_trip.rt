@@ -13,7 +13,10 @@ use std::alloc::Global;
 
 /// The chirotope of the cocircuits of a chirotope of rank 3, which is its normal form. Only the list is given, so the
 /// chirotope comes from the list.
-pub fn convert_cocircuits_back(alloc: Global, cocircuits: &Cocircuits) -> Result<Chirotope, NoMemory>
+pub fn convert_cocircuits_back(
+    alloc: Global,
+    cocircuits: &Cocircuits,
+) -> Result<Chirotope, NoMemory>
     requires { AreCocircuitsOfRank3 cocircuits.now.0 }
     ensures { IfOk result (IsNormalFormByCocircuits cocircuits.now.0) }
 {

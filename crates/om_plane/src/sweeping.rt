@@ -6,11 +6,11 @@ ghost use Rattle.om_representation.specs.Represented.{IsMeantFor};
 ghost use Rattle.om_plane.specs.Sweeps.{IsSweepRefusal, IsWiringOf, IsWiringOfMap, wiring_document};
 
 use om_chirotope::Chirotope;
+use om_document::{Body, Document};
 use om_printing::Line;
 use om_reply::Answer;
 use om_representation::{Representation, choose_chirotope, rank_line};
 use om_signs::{List, NoMemory};
-use om_document::{Body, Document};
 use om_wiring::{SweepError, Wiring, sweep};
 use std::alloc::Global;
 

@@ -1,7 +1,7 @@
+use om_document::Code;
 use om_grassmann::Statement;
 use om_signs::SignVec;
 use om_subsets::Subset;
-use om_document::Code;
 
 /// A field of a line.
 #[derive(Clone, Copy)]

@@ -8,9 +8,9 @@ use super::field::Field;
 pub use super::pieces::push;
 use super::pieces::{push_decimal, push_subset, push_vector};
 use itoa::Buffer;
+use om_document::Code;
 use om_grassmann::Statement;
 use om_signs::NoMemory;
-use om_document::Code;
 
 /// Appends a space and a number.
 pub fn push_number(text: &mut Vec<u8>, n: u128) -> Result<(), NoMemory>

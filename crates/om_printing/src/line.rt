@@ -1,7 +1,7 @@
+use om_document::Code;
 use om_grassmann::Statement;
 use om_signs::SignVec;
 use om_subsets::Subset;
-use om_document::Code;
 
 /// An answer of one line. Its text is the words of its name in lower case, then its fields in order, with single
 /// spaces. Members of a list count from 1, in the order of the distinct ones.

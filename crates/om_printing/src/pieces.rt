@@ -8,9 +8,9 @@ ghost use Rattle.std.specs.Fmt.{decimal};
 ghost use Rattle.om_printing.specs.Texts.{after_comma, signs_text, subset_text};
 
 use itoa::Buffer;
+use om_lines::words::byte_of_sign;
 use om_signs::{NoMemory, SignVec};
 use om_subsets::Subset;
-use om_lines::words::byte_of_sign;
 
 /// Appends a word, or any other bytes.
 pub fn push(text: &mut Vec<u8>, word: &[u8]) -> Result<(), NoMemory>

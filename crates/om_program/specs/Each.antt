@@ -1,7 +1,6 @@
 -- What a run over many pieces has written.
 use Rattle.std.specs.Prelude.{ℕ, ◌≡◌, ◌≢◌, ◌++◌, ◌∷◌, List, Option, IfSome}
 use Rattle.std.specs.Io.KnownBytes.{Appends, Consumes}
-use Rattle.om_words.specs.declared.reads.Reads.{Reads}
 use Rattle.om_words.specs.declared.reads.Reads.TheVariants as kind
 use Rattle.om_words.specs.declared.task.Task.{Task}
 use Rattle.om_words.specs.Tasks.{reads}

@@ -1,5 +1,5 @@
 -- What a run has written, beside what its words and its input mean.
-use Rattle.std.specs.Prelude.{ℕ, ◌≡◌, ◌≢◌, ◌+◌, ◌<◌, ◌⊎◌, List, length, map, min, take, IfSome, Option, String}
+use Rattle.std.specs.Prelude.{ℕ, ◌≡◌, ◌+◌, ◌⊎◌, List, length, map, min, IfSome, Option, String}
 use Rattle.std.specs.Prelude.{string_bytes}
 use Rattle.std.specs.Io.KnownBytes.{Appends}
 use Rattle.om_signs.specs.declared.limits.TheConstants.{MAX_INPUT}

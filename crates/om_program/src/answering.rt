@@ -11,18 +11,18 @@ ghost use Rattle.om_words.specs.Tasks.{HasLawfulArguments, reads};
 
 use super::plan::{OnDocument, OnMatroid, Plan, Reading, plan_of};
 use om_answer::read_claim;
-use om_printing::Line;
 use om_commands::{
     convert, extend_lexically, find_hull, find_membership, find_painting, operate,
     test_three_terms, upgrade,
 };
+use om_document::Document;
 use om_plane::{
     find_wiring, flip_triple, judge, list_extensions, list_mutations, make_input, verify,
 };
+use om_printing::Line;
 use om_reply::Answer;
 use om_representation::{Representation, Unrepresented, refused_line, represent};
 use om_signs::{MAX_INPUT, NoMemory};
-use om_document::Document;
 use om_text::{ParseError, parse};
 use om_words::{Reads, Task};
 use std::alloc::Global;

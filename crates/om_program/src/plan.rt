@@ -5,8 +5,8 @@ ghost use Rattle.om_program.specs.Plans.{plan_task};
 
 use om_budgets::Budgets;
 use om_commands::Operation;
-use om_signs::SignVec;
 use om_document::Kind;
+use om_signs::SignVec;
 use om_words::{Colouring, Leading, Task};
 
 /// What is done for a task.

@@ -1,15 +1,13 @@
 //! A whole run: from the words and the source to the bytes that the sink takes.
 
 ghost use Rattle.std.specs.Prelude.{ℕ, ◌≡◌, ◌≢◌, ◌⊎◌, ◌≤◌, IfOk, OnOk, List};
-ghost use Rattle.std.specs.Io.KnownBytes.{Appends};
 ghost use Rattle.om_port.specs.Causes.{Rose, TakesSome};
 ghost use Rattle.om_words.specs.Words.{AreCommand, Names};
-ghost use Rattle.om_reply.specs.Answers.{IsReply, status_of, text_of};
+ghost use Rattle.om_reply.specs.Answers.{IsReply};
 ghost use Rattle.om_reply.specs.Statuses.{IsAnswered};
 ghost use Rattle.om_program.specs.Run.{bytes_of, ReadNothing, IsAnswer, IsCutOffAnswer};
 ghost use Rattle.om_words.specs.ReadingCommands.{AreReadingCommand};
 ghost use Rattle.om_program.specs.Run.{IsWhole, IsCutOff, IsTaskAnswer, IsCutOffTask, IsMeantBy, TakesInput};
-ghost use Rattle.om_reply.specs.Written.{IsFront};
 ghost use Rattle.om_program.specs.Completeness.{IsAnswerable, IsDoneOrNoMemory};
 ghost use Rattle.om_reply.specs.Determined.{IsDetermined};
 ghost use Rattle.om_program.specs.Meaning.{Means, TaskMeans};

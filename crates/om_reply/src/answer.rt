@@ -6,12 +6,12 @@ ghost use Rattle.om_reply.specs.Answers.{status_of, status_of_line, status_of_ve
 use super::claim::Claim;
 use super::status::Status;
 use om_certificate::Verdict;
+use om_document::Document;
 use om_localize::Listing;
 use om_oriented::Painted;
 use om_printing::Line;
 use om_signs::List;
 use om_subsets::Subset;
-use om_document::Document;
 use om_vectors::{Tally, Word};
 
 /// What the program answers. A command decides it, and it is printed once, at the end of the run.

@@ -7,8 +7,8 @@ ghost use Rattle.om_reply.specs.VerdictText.{claim_text};
 
 use super::claim::Claim;
 use super::verdict_lines::push_block;
-use om_signs::NoMemory;
 use om_document::print;
+use om_signs::NoMemory;
 use std::alloc::Global;
 
 /// The text of a claim: the canonical form of its document, and then the lines of the verdict block. Nothing is copied.

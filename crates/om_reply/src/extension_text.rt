@@ -5,10 +5,10 @@ ghost use Rattle.om_document.specs.Print.{text_of};
 ghost use Rattle.om_printing.specs.Texts.{signs_text};
 ghost use Rattle.om_reply.specs.ExtensionTexts.{signature_lines, last_word, extensions_text};
 
+use om_lines::words::byte_of_sign;
 use om_localize::{Listing, Signature};
 use om_printing::pieces::{push, push_decimal, push_line_feed};
 use om_signs::NoMemory;
-use om_lines::words::byte_of_sign;
 use std::alloc::Global;
 
 /// The text of a list of extensions of a map on `elements` elements: two lines that say what it is, and a line for

@@ -27,5 +27,4 @@ pub use status::Status;
 pub use statuses::{greater, is_answered};
 pub use usage_line::write_usage;
 pub use verdict_lines::push_block;
-pub use write_text::write_text;
 pub use writing::write_answer;

@@ -6,9 +6,9 @@ ghost use Rattle.om_document.specs.Print.{printed, text_of};
 ghost use Rattle.om_reply.specs.VerdictText.{vector_numbers};
 ghost use Rattle.om_reply.specs.MadeTexts.{made_text, points_document, tally_lines};
 
+use om_document::{Body, Document, print};
 use om_printing::pieces::{push, push_decimal, push_line_feed};
 use om_signs::{List, MAX_ELEMENTS, NoMemory};
-use om_document::{Body, Document, print};
 use om_vectors::{Tally, Vector, Word};
 use std::alloc::Global;
 

@@ -9,9 +9,9 @@ use super::extension_text::print_extensions;
 use super::hull_text::print_hull;
 use super::made_text::print_made;
 use super::mutation_text::print_mutations;
+use om_document::{print, print_two};
 use om_printing::print_line;
 use om_signs::NoMemory;
-use om_document::{print, print_two};
 use std::alloc::Global;
 
 /// The text of an answer to a command.

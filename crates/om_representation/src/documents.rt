@@ -13,8 +13,8 @@ use super::representation::Representation;
 use om_chirotope::Chirotope;
 use om_circuits::{Circuits, Cocircuits};
 use om_covectors::Covectors;
-use om_signs::List;
 use om_document::{Body, Document};
+use om_signs::List;
 use std::alloc::Global;
 
 /// The document of an oriented matroid. A chirotope has at most as many values as a document may hold; in rank 3

@@ -21,8 +21,8 @@ use om_chirotope::Chirotope;
 use om_circuits::{Circuits, Cocircuits};
 use om_convert::{ReadCovError, ReadSetError, read_circuits, read_cocircuits, read_covectors};
 use om_covectors::Covectors;
-use om_signs::{Block, List, MAX_ELEMENTS, RawMap, SignVec};
 use om_document::{Body, Document};
+use om_signs::{Block, List, MAX_ELEMENTS, RawMap, SignVec};
 use std::alloc::Global;
 use std::thread::Threads;
 

@@ -1,4 +1,5 @@
 pub mod SignLaws
+pub mod SignRanks
 pub mod Rings
 pub mod Results
 pub mod Contained

@@ -2,12 +2,11 @@
 --
 -- Main results: the laws of products, gathered in the ruleset `products`; a sign that is its own opposite is zero
 -- (own_opposite); two nonzero signs are equal or opposite (equal_or_opposite); where the first nonzero one of two signs
--- comes from (first_nonzero_cases, first_of_two); the rank determines the sign (sign_rank-injective).
-use Rattle.std.proofs.Common.{refl, arith, inl, inr, sym, ap, ◌≡◌, ◌≢◌, ◌<◌, ◌⊎◌, ◌∙◌}
+-- comes from (first_nonzero_cases, first_of_two).
+use Rattle.std.proofs.Common.{refl, arith, inl, inr, sym, ap, ◌≡◌, ◌≢◌, ◌⊎◌, ◌∙◌}
 use Rattle.om_signs.specs.declared.sign.Sign.{Sign}
 use Rattle.om_signs.specs.declared.sign.Sign.TheVariants.{Minus, Zero, Plus}
 use Rattle.om_signs.specs.Sign.{opposite, product, first_nonzero}
-use Rattle.om_signs.specs.Order.{sign_rank}
 
 pub plus_nonzero : Plus ≢ Zero
 plus_nonzero e = cc
@@ -290,19 +289,3 @@ product_opposites s t = grind arith
 
 pub zeros_opposite : (s t : Sign) → s ≡ Zero → t ≡ Zero → s ≡ opposite t
 zeros_opposite s t a b = grind arith
-
-pub sign_rank-lt : (s : Sign) → sign_rank s < 3
-sign_rank-lt Minus = omega arith
-sign_rank-lt Zero = omega arith
-sign_rank-lt Plus = omega arith
-
-pub sign_rank-injective : (s t : Sign) → sign_rank s ≡ sign_rank t → s ≡ t
-sign_rank-injective Minus Minus e = refl
-sign_rank-injective Minus Zero e = absurd (omega arith)
-sign_rank-injective Minus Plus e = absurd (omega arith)
-sign_rank-injective Zero Minus e = absurd (omega arith)
-sign_rank-injective Zero Zero e = refl
-sign_rank-injective Zero Plus e = absurd (omega arith)
-sign_rank-injective Plus Minus e = absurd (omega arith)
-sign_rank-injective Plus Zero e = absurd (omega arith)
-sign_rank-injective Plus Plus e = refl

@@ -6,26 +6,17 @@ use super::raw_map::RawMap;
 use super::sign::Sign;
 use super::sign_vec::SignVec;
 
-// Whatever is passed here may be moved to another thread and shared between threads.
-fn crosses<T: Send + Sync>(_value: &T) {}
+/// A type whose values may be moved to another thread and shared between threads.
+trait Crosses: Send + Sync {}
 
-fn values_cross(sign: &Sign, vector: &SignVec, block: &Block, want: &NoMemory) {
-    crosses(sign);
-    crosses(vector);
-    crosses(block);
-    crosses(want);
-}
+impl Crosses for Sign {}
 
-fn lists_cross(
-    signs: &List<Sign>,
-    vectors: &List<SignVec>,
-    blocks: &List<Block>,
-    numbers: &List<u32>,
-    map: &RawMap,
-) {
-    crosses(signs);
-    crosses(vectors);
-    crosses(blocks);
-    crosses(numbers);
-    crosses(map);
-}
+impl Crosses for SignVec {}
+
+impl Crosses for Block {}
+
+impl Crosses for NoMemory {}
+
+impl<T: Copy + Send + Sync> Crosses for List<T> {}
+
+impl Crosses for RawMap {}

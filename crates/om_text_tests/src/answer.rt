@@ -4,8 +4,8 @@ ghost use Rattle.std.specs.Prelude.{◌<◌};
 
 use super::helpers::is_made;
 use om_grassmann::Statement;
-use om_printing::{Line, print_line};
 use om_printing::pieces::{push, push_decimal, push_line_feed, push_subset, push_vector};
+use om_printing::{Line, print_line};
 use om_samples::vector_of;
 use om_signs::NoMemory;
 use om_subsets::Subset;

@@ -4,9 +4,9 @@ ghost use Rattle.std.specs.Prelude.{ℕ, ◌≡◌, ◌↔◌, ◌∷◌, List, 
 ghost use Rattle.om_words.specs.Words.{IsAlone, IsRead};
 
 use super::spelling::{element, named_kind, spelled};
+use om_document::Kind;
 use om_printing::Usage;
 use om_signs::SignVec;
-use om_document::Kind;
 
 /// A value that a single word can spell.
 pub trait Argument: Copy {

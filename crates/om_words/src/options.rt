@@ -6,8 +6,8 @@ ghost use Rattle.om_words.specs.Options.{number_within, given_number, is_given, 
 ghost use Rattle.om_words.specs.Options.{greatest_number};
 
 use super::setting::{Setting, default_number, greatest_number, least_number, option_text};
-use om_printing::Usage;
 use om_lines::words::unsigned_number;
+use om_printing::Usage;
 
 /// The number from `least` to `greatest` that the word spells: decimal digits without a leading zero, except for
 /// `0` itself.

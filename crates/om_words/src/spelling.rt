@@ -8,9 +8,9 @@ ghost use Rattle.om_lines.specs.Words.{is_sign, sign_of_byte};
 ghost use Rattle.om_words.specs.Words.{Spells, NamesKind, IsElement};
 
 use itoa::Buffer;
-use om_signs::{MAX_ELEMENTS, SignVec};
 use om_document::Kind;
 use om_lines::words::{is_sign_byte, sign_of_byte};
+use om_signs::{MAX_ELEMENTS, SignVec};
 
 /// Whether the word is this text.
 pub fn is_word(word: &String, text: &str) -> bool

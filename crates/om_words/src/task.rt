@@ -5,8 +5,8 @@ use super::colouring::Colouring;
 use super::leading::Leading;
 use super::reads::Reads;
 use om_budgets::Budgets;
-use om_signs::SignVec;
 use om_document::Kind;
+use om_signs::SignVec;
 
 /// What the words after the program's name ask for.
 #[derive(Clone, Copy)]
