@@ -1,14 +1,18 @@
 -- Forms that refuse only vectors that haven't the wanted signs.
 --
--- Main results: sound_taken, sound_sum, useful_more, all_useful, useful_at
+-- Main results: sound_taken, sound_sum, useful_more, all_useful, useful_at; rightly, a form that refuses only vectors
+-- without the wanted sign with two others
 use Rattle.std.proofs.Common.{ℕ, ◌≡◌, ◌<◌, ◌⊎◌, List, [], ◌∷◌, ◌++◌, length, inl, inr, sym, subst, Some}
-use Rattle.std.specs.Prelude.{slice_get}
+use Rattle.std.specs.Prelude.{slice_get, Option, None, IfSome, ◌-◌, ◌≢◌}
+use Rattle.std.proofs.Common.{ap, ◌∙◌, get_or}
 use Rattle.std.specs.List.{All}
 use Rattle.std.proofs.lemmas.List.Elements.{All-push, All-get_or}
 use Rattle.std.proofs.lemmas.Option.{get_or_from_slice_get}
 use Rattle.om_signs.specs.declared.sign.Sign.{Sign}
-use Rattle.om_vectors.specs.WholeVectors.{WholeVector}
-use Rattle.om_points.specs.Forms.{LinearForm, Refuses}
+use Rattle.om_signs.specs.declared.sign.Sign.TheVariants.{Zero}
+use Rattle.om_vectors.specs.WholeVectors.{WholeVector, zero_vector, triple_product, sign_of}
+use Rattle.om_points.specs.Forms.{LinearForm, Refuses, AreMinors}
+use Rattle.om_points.specs.ShortVectors.{sign_place}
 use Rattle.om_points.specs.Passes.{RefusesRightly, IsUseful}
 use Rattle.om_points.specs.Refusers.{AreSound, AreUseful}
 use Rattle.om_points.specs.declared.slopes.Slopes.{Slopes}
@@ -62,3 +66,35 @@ sound_taken vs signs old new f h u r l a d = record {
   against = sound_either vs signs new.against old.against f h.against u a;
   held = subst (RefusesRightly vs signs) (sym d) h.held;
 }
+
+-- a form that refuses only vectors whose triple product with the vectors at places p < q hasn't the wanted sign
+pub rightly : (vs : List WholeVector) (signs : List Sign) (p q last : ℕ) (a b : WholeVector) (s : Sign) (f : LinearForm)
+    → p < q → q < last → last ≡ length vs - 1 → slice_get vs p ≡ Some a → slice_get vs q ≡ Some b
+    → get_or signs (sign_place p q last) Zero ≡ s
+    → ((v : WholeVector) → Refuses f v → sign_of (triple_product a b v) ≢ s) → RefusesRightly vs signs f
+rightly vs signs p q last a b s f pq ql l ha hb w h v r agrees =
+    let x = get_or_from_slice_get vs p a zero_vector ha in
+    let y = get_or_from_slice_get vs q b zero_vector hb in
+    let e : sign_of (triple_product (get_or vs p zero_vector) (get_or vs q zero_vector) v)
+    ≡ get_or signs (sign_place p q (length vs - 1)) Zero = agrees p q pq (subst (λ k. q < k) l ql) in
+    h v r (ap (λ u. sign_of (triple_product u b v)) (sym x)
+    ∙ ap (λ u. sign_of (triple_product (get_or vs p zero_vector) u v)) (sym y) ∙ e
+    ∙ ap (λ k. get_or signs (sign_place p q k) Zero) (sym l) ∙ w)
+
+pub useful_option : (vs : List WholeVector) (signs : List Sign) (p q last : ℕ) (a b : WholeVector) (s : Sign)
+    (o : Option LinearForm) → p < q → q < last → last ≡ length vs - 1 → slice_get vs p ≡ Some a
+    → slice_get vs q ≡ Some b → get_or signs (sign_place p q last) Zero ≡ s
+    → IfSome o (λ f. (v : WholeVector) → Refuses f v → sign_of (triple_product a b v) ≢ s) → IfSome o AreMinors
+    → IfSome o (IsUseful vs signs)
+useful_option vs signs p q last a b s None pq ql l ha hb w h m = tt
+useful_option vs signs p q last a b s (Some f) pq ql l ha hb w h m =
+    record { minors = m; sound = rightly vs signs p q last a b s f pq ql l ha hb w h }
+
+pub rightly_option : (vs : List WholeVector) (signs : List Sign) (p q last : ℕ) (a b : WholeVector) (s : Sign)
+    (o : Option LinearForm) → p < q → q < last → last ≡ length vs - 1 → slice_get vs p ≡ Some a
+    → slice_get vs q ≡ Some b → get_or signs (sign_place p q last) Zero ≡ s
+    → IfSome o (λ f. (v : WholeVector) → Refuses f v → sign_of (triple_product a b v) ≢ s)
+    → IfSome o (RefusesRightly vs signs)
+rightly_option vs signs p q last a b s None pq ql l ha hb w h = tt
+rightly_option vs signs p q last a b s (Some f) pq ql l ha hb w h =
+    rightly vs signs p q last a b s f pq ql l ha hb w h

@@ -24,8 +24,8 @@ pub trait Argument: Copy {
 impl Argument for SignVec {
     ghost use Rattle.std.specs.Prelude.{codes, ◌∷◌, []};
     ghost use Rattle.om_signs.specs.declared.sign.Sign.TheVariants.{Plus};
-    ghost use Rattle.om_words.specs.Words.{Spells, NamesKind, IsElement};
-    ghost use Rattle.om_words.specs.Samples.{plus_spelled, one_spelled};
+    ghost use Rattle.om_words.specs.Words.{Spells};
+    ghost use Rattle.om_words.specs.Samples.{plus_spelled};
 
     ghost spells = { Spells };
 
@@ -39,6 +39,7 @@ impl Argument for SignVec {
 impl Argument for Kind {
     ghost use Rattle.std.specs.Prelude.{codes, refl};
     ghost use Rattle.om_document.specs.declared.kinds.Kind.TheVariants.{Circuits};
+    ghost use Rattle.om_words.specs.Words.{NamesKind};
 
     ghost spells = { NamesKind };
 
@@ -51,6 +52,8 @@ impl Argument for Kind {
 
 impl Argument for u8 {
     ghost use Rattle.std.specs.Prelude.{codes};
+    ghost use Rattle.om_words.specs.Words.{IsElement};
+    ghost use Rattle.om_words.specs.Samples.{one_spelled};
 
     ghost spells = { IsElement };
 

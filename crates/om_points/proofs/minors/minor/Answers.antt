@@ -1,7 +1,10 @@
 use Rattle.std.proofs.Common.{◌∙◌, refl, arith}
 use Rattle.std.proofs.lemmas.Int.{ints}
-use Rattle.om_points.proofs.Sizes.{read_back, read_difference}
+use Rattle.om_points.proofs.Sizes.{read_back, read_difference, difference_fits}
 use Rattle.om_points.proofs.minors.minor.Goals as goal
+
+pub overflow_sub-result : goal.overflow_sub-result
+overflow_sub-result c = difference_fits c.times.result c.times-2.result c.times.ensures.size c.times-2.ensures.size
 
 pub returns-clause-value : goal.returns-clause-value
 returns-clause-value c =

@@ -1,8 +1,18 @@
 use Rattle.std.specs.Prelude.{◌+ℤ◌, ◌*ℤ◌}
 use mir.Syntax.{w64}
 use Rattle.std.proofs.lemmas.Int.{to_z-of_z}
-use Rattle.om_points.proofs.Sizes.{read_minors, minors_size, mixed_fits, mixed_size}
+use Rattle.om_points.proofs.Sizes.{read_minor, minors_fit, read_minors, minors_size, mixed_fits, mixed_size}
 use Rattle.om_points.proofs.minors.mixed.Goals as goal
+
+pub overflow_mul-result : goal.overflow_mul-result
+overflow_mul-result c =
+    let r = c.requires in
+    rw (read_minor c.args.a r.a, read_minor c.args.p r.p) (minors_fit c.args.a c.args.p r.a r.p)
+
+pub overflow_mul-result-2 : goal.overflow_mul-result-2
+overflow_mul-result-2 c =
+    let r = c.requires in
+    rw (read_minor c.args.b r.b, read_minor c.args.q r.q) (minors_fit c.args.b c.args.q r.b r.q)
 
 pub overflow_add-result : goal.overflow_add-result
 overflow_add-result c =

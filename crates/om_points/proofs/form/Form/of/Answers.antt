@@ -1,7 +1,35 @@
 use Rattle.std.proofs.Common.{◌∙◌}
+use Rattle.om_points.proofs.Codes.{short_back}
 use Rattle.om_points.proofs.Forms.{of_minors}
 use Rattle.om_points.proofs.Sizes.{read_back, read_minor, minor_back}
 use Rattle.om_points.proofs.form.Form.of.Goals as goal
+
+pub minor-requires : goal.minor-requires
+minor-requires c =
+    record {
+      a = short_back c.y.result c.y.ensures.size;
+      b = short_back c.z-2.result c.z-2.ensures.size;
+      c = short_back c.y-2.result c.y-2.ensures.size;
+      d = short_back c.z.result c.z.ensures.size;
+    }
+
+pub minor-requires-2 : goal.minor-requires-2
+minor-requires-2 c =
+    record {
+      a = short_back c.z-3.result c.z-3.ensures.size;
+      b = short_back c.x-2.result c.x-2.ensures.size;
+      c = short_back c.z-4.result c.z-4.ensures.size;
+      d = short_back c.x.result c.x.ensures.size;
+    }
+
+pub minor-requires-3 : goal.minor-requires-3
+minor-requires-3 c =
+    record {
+      a = short_back c.x-3.result c.x-3.ensures.size;
+      b = short_back c.y-4.result c.y-4.ensures.size;
+      c = short_back c.x-4.result c.x-4.ensures.size;
+      d = short_back c.y-3.result c.y-3.ensures.size;
+    }
 
 pub returns-clause-refuses : goal.returns-clause-refuses
 returns-clause-refuses c = of_minors c.args.a c.args.b c.args.least _ _ _ _

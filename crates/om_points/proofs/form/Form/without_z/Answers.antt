@@ -1,8 +1,39 @@
 use Rattle.std.proofs.Common.{◌≡◌, ◌∙◌, ap, refl}
 use Rattle.std.specs.Prelude.{pos, neg_ℤ, ◌≤ℤ◌}
 use Rattle.om_points.proofs.Eliminations.{sum_refuses, not_negative}
-use Rattle.om_points.proofs.Sizes.{wide, read_minor, read_coefficient}
+use Rattle.om_points.proofs.Sizes.{wide, read_minor, read_coefficient, minor_back}
 use Rattle.om_points.proofs.form.Form.without_z.Goals as goal
+
+pub opposite-a-requires : goal.opposite-a-requires
+opposite-a-requires c =
+    rw (read_coefficient _ _ c.other.invariant.z (ap (λ f. f.z) c.other.view_is)) c.requires.second.z
+
+pub mixed-requires : goal.mixed-requires
+mixed-requires c =
+    record {
+      a = minor_back c.opposite-a.result c.opposite-a.ensures.size;
+      p = rw (read_coefficient _ _ c.self.invariant.x (ap (λ f. f.x) c.self.view_is)) c.requires.first.x;
+      b = rw (read_coefficient _ _ c.self.invariant.z (ap (λ f. f.z) c.self.view_is)) c.requires.first.z;
+      q = rw (read_coefficient _ _ c.other.invariant.x (ap (λ f. f.x) c.other.view_is)) c.requires.second.x;
+    }
+
+pub mixed-requires-2 : goal.mixed-requires-2
+mixed-requires-2 c =
+    record {
+      a = minor_back c.opposite-a.result c.opposite-a.ensures.size;
+      p = rw (read_coefficient _ _ c.self.invariant.y (ap (λ f. f.y) c.self.view_is)) c.requires.first.y;
+      b = rw (read_coefficient _ _ c.self.invariant.z (ap (λ f. f.z) c.self.view_is)) c.requires.first.z;
+      q = rw (read_coefficient _ _ c.other.invariant.y (ap (λ f. f.y) c.other.view_is)) c.requires.second.y;
+    }
+
+pub mixed-requires-3 : goal.mixed-requires-3
+mixed-requires-3 c =
+    record {
+      a = minor_back c.opposite-a.result c.opposite-a.ensures.size;
+      p = rw (read_coefficient _ _ c.self.invariant.least (ap (λ f. f.least) c.self.view_is)) c.requires.first.least;
+      b = rw (read_coefficient _ _ c.self.invariant.z (ap (λ f. f.z) c.self.view_is)) c.requires.first.z;
+      q = rw (read_coefficient _ _ c.other.invariant.least (ap (λ f. f.least) c.other.view_is)) c.requires.second.least;
+    }
 
 pub returns : goal.returns
 returns c = λ v h nf ng.
