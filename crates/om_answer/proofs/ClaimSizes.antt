@@ -13,6 +13,7 @@ use Rattle.om_certificate.specs.declared.entry.Entry.{Entry}
 use Rattle.om_certificate.specs.declared.verdict.Verdict.{Verdict}
 use Rattle.om_certificate.specs.Forms.{IsEntryInForm, IsWeightInForm}
 use Rattle.om_reply.specs.declared.claim.Claim.{Claim}
+use Rattle.om_reply.proofs.BlockTexts.{word_bytes}
 use Rattle.om_answer.specs.Numbers.{numbers_within, AreIn}
 use Rattle.om_answer.specs.BlockLines.{entry_ranges, entry_from, strictness, entry_of, weight_of}
 use Rattle.om_answer.specs.Block.{AreLinesOf, IsBlock, realizable, nonrealizable, undecided, limit}
