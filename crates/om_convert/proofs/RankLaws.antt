@@ -31,7 +31,7 @@ use Rattle.om_chirotope.specs.Chirotope.{IsChirotope}
 use Rattle.om_chirotope.proofs.Theory.{theory_chirotope}
 use Rattle.om_circuits.specs.SignedSets.{IsSignedSet}
 use Rattle.om_covectors.specs.CovectorSets.{IsCovectorSet}
-use Rattle.om_denotation.specs.Circuits.{IsCocircuitOfChirotope, HasNonzero}
+use Rattle.om_denotation.specs.Circuits.{IsCocircuitOfChirotope}
 use Rattle.om_denotation.specs.Covectors.{IsCovectorOfChirotope, IsCovectorOfCircuits, IsCovectorOfCocircuits}
 use Rattle.om_denotation.specs.Denotation.{DenoteTheSame}
 use Rattle.om_denotation.specs.Dual.{dual_of}

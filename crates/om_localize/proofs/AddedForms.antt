@@ -1,8 +1,10 @@
 -- The four forms of one point, added to those on a circle.
 --
--- Main results: no_point, four_forms
+-- Main results: no_point, four_forms; four_places and place_fits, the bits of the four forms
 use Rattle.std.proofs.Common.{ℕ, ◌≡◌, ◌≢◌, ◌+◌, ◌-◌, ◌*◌, ◌≤◌, ◌⊎◌, ◌↔◌, List, map, refl, sym, ◌∙◌, ⊎_elim, arith, inl}
-use Rattle.std.proofs.Common.{inr}
+use Rattle.std.proofs.Common.{inr, ◌<◌}
+use mir.Syntax.{w8}
+use mir.Val.{Fits}
 use Rattle.om_signs.specs.declared.sign.Sign.{Sign}
 use Rattle.om_signs.specs.declared.sign.Sign.TheVariants.{Minus, Zero, Plus}
 use Rattle.om_signs.specs.Sign.{opposite, product, first_nonzero}
@@ -196,3 +198,25 @@ module _ (m : SignMap) (r : m.rank ≡ 3) (h : IsChirotope m) (e f : ℕ) (point
                 new (inl (inl (inr y))) = inl (inl (inr y))
                 new (inl (inr y)) = inl (inr y)
                 new (inr y) = inr y
+
+-- the bits of the four forms of the point f
+pub record AreFourPlaces (f : ℕ) : Type 0 where
+  pub start : 4 * (f - 1) < 128
+  pub first : 4 * (f - 1) + 1 < 128
+  pub second : 4 * (f - 1) + 1 + 1 < 128
+  pub third : 4 * (f - 1) + 1 + 2 < 128
+  pub fourth : 4 * (f - 1) + 1 + 3 < 128
+
+-- the mask of a circle has bits for the four forms of each of its points
+pub four_places : (f n : ℕ) → f ≤ n → n ≤ MAX_OLD → AreFourPlaces f
+four_places f n h few = record {
+  start = omega arith;
+  first = omega arith;
+  second = omega arith;
+  third = omega arith;
+  fourth = omega arith;
+}
+
+-- the number of a bit fits into a byte
+pub place_fits : (k : ℕ) → k < 128 → Fits w8 k
+place_fits k h = omega arith

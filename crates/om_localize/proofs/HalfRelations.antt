@@ -3,25 +3,50 @@
 -- Main results: relation_on_halves, point_on_halves
 -- Reference: Björner, Las Vergnas, Sturmfels, White and Ziegler, Oriented Matroids, chapter 7.
 use Rattle.std.specs.Prelude.{ℕ, ◌≡◌, ◌⊎◌, refl}
-use Rattle.std.proofs.Common.{subst, arith, inl, inr}
+use Rattle.std.proofs.Common.{ap, sym, ◌∙◌, subst, arith, inl, inr}
 use Rattle.om_signs.specs.declared.sign.Sign.{Sign}
 use Rattle.om_signs.specs.declared.sign.Sign.TheVariants.{Minus, Zero, Plus}
 use Rattle.om_signs.specs.Sign.{opposite, product, first_nonzero}
-use Rattle.om_signs.proofs.SignLaws.{product-first_nonzero, right_factor_nonzero, nonzero_if_opposite}
+use Rattle.om_signs.proofs.SignLaws.{product_comm, product_left_comm, product-opposite_right, product_zero_right}
+use Rattle.om_signs.proofs.SignLaws.{opposite_zero, product-first_nonzero, right_factor_nonzero, nonzero_if_opposite}
 use Rattle.om_laws.specs.Signs.{IsNonzero}
 use Rattle.om_laws.specs.Vectors.{SignVector}
 use Rattle.om_laws.specs.ThreeTerm.{AreBalanced}
+use Rattle.om_laws.proofs.BalancedSigns.{balanced_same, balanced_zeros}
 use Rattle.om_localize.specs.Circles.{Circle, IsPoint, IsOnHalves}
-use Rattle.om_localize.proofs.BalanceLaws.{balanced_composition}
+use Rattle.om_localize.proofs.BalanceLaws.{balanced_composition, balanced_opposites, balanced_reversed}
 
 -- ---- and back: the relation at each element, from the halves
+
+-- a factor that a sign has, outside the product and its opposite
+product_outside : (k a b c : Sign) → c ≡ product k b → product a c ≡ product k (product a b)
+product_outside k a b c q = ap (product a) q ∙ product_left_comm a k b
+
+opposite_outside : (k a b c : Sign) → c ≡ product k b → opposite (product a c) ≡ product k (opposite (product a b))
+opposite_outside k a b c q = ap opposite (product_outside k a b c q) ∙ sym (product-opposite_right k (product a b))
+
+balanced_times : (k x y z : Sign) → AreBalanced x y z → AreBalanced (product k x) (product k y) (product k z)
+balanced_times Minus x y z h = balanced_opposites x y z h
+balanced_times Zero x y z h = tt
+balanced_times Plus x y z h = h
+
+times_relation : (k xy xz yz tx ty tz sx sy sz : Sign) → sx ≡ product k tx → sy ≡ product k ty → sz ≡ product k tz
+    → AreBalanced (product xy tz) (opposite (product xz ty)) (product yz tx)
+    → AreBalanced (product xy sz) (opposite (product xz sy)) (product yz sx)
+times_relation k xy xz yz tx ty tz sx sy sz p q r h =
+    balanced_same (product k (product xy tz)) (product k (opposite (product xz ty))) (product k (product yz tx))
+    (product xy sz) (opposite (product xz sy)) (product yz sx) (product_outside k xy tz sz r)
+    (opposite_outside k xz ty sy q) (product_outside k yz tx sx p)
+    (balanced_times k (product xy tz) (opposite (product xz ty)) (product yz tx) h)
 
 relation_of_halves : (xy xz yz fx fy fz sx sy sz k : Sign) → sx ≡ product k fx → sy ≡ product k fy → sz ≡ product k fz
     → AreBalanced (product fx yz) (opposite (product fy xz)) (product fz xy)
     → AreBalanced (product xy sz) (opposite (product xz sy)) (product yz sx)
-relation_of_halves xy xz yz fx fy fz sx sy sz Minus p q r h = grind arith
-relation_of_halves xy xz yz fx fy fz sx sy sz Zero p q r h = grind arith
-relation_of_halves xy xz yz fx fy fz sx sy sz Plus p q r h = grind arith
+relation_of_halves xy xz yz fx fy fz sx sy sz k p q r h =
+    times_relation k xy xz yz fx fy fz sx sy sz p q r
+    (balanced_same (product fz xy) (opposite (product fy xz)) (product fx yz) (product xy fz) (opposite (product xz fy))
+    (product yz fx) (product_comm xy fz) (ap opposite (product_comm xz fy)) (product_comm yz fx)
+    (balanced_reversed (product fx yz) (opposite (product fy xz)) (product fz xy) h))
 
 opposite_first : (a b : Sign) → opposite (first_nonzero a b) ≡ first_nonzero (opposite a) (opposite b)
 opposite_first a b = grind arith
@@ -42,16 +67,11 @@ composed_relation xy xz yz ax ay az bx by bz p q =
     (balanced_composition (product xy az) (opposite (product xz ay)) (product yz ax) (product xy bz)
     (opposite (product xz by)) (product yz bx) p q)
 
-times_relation : (k xy xz yz tx ty tz sx sy sz : Sign) → sx ≡ product k tx → sy ≡ product k ty → sz ≡ product k tz
-    → AreBalanced (product xy tz) (opposite (product xz ty)) (product yz tx)
-    → AreBalanced (product xy sz) (opposite (product xz sy)) (product yz sx)
-times_relation Minus xy xz yz tx ty tz sx sy sz p q r h = grind arith
-times_relation Zero xy xz yz tx ty tz sx sy sz p q r h = grind arith
-times_relation Plus xy xz yz tx ty tz sx sy sz p q r h = grind arith
-
 zero_relation : (xy xz yz sx sy sz : Sign) → sx ≡ Zero → sy ≡ Zero → sz ≡ Zero
     → AreBalanced (product xy sz) (opposite (product xz sy)) (product yz sx)
-zero_relation xy xz yz sx sy sz p q r = grind arith
+zero_relation xy xz yz sx sy sz p q r =
+    balanced_zeros (product xy sz) (opposite (product xz sy)) (product yz sx) (product_zero_right xy sz r)
+    (opposite_zero (product xz sy) (product_zero_right xz sy q)) (product_zero_right yz sx p)
 
 either_nonzero : (a b d : Sign) → IsNonzero (first_nonzero a (product b d)) → IsNonzero a ⊎ IsNonzero d
 either_nonzero Minus b d n = inl n

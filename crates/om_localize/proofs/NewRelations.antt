@@ -9,7 +9,7 @@ use Rattle.std.proofs.lemmas.Bool.{cases_eq}
 use Rattle.om_signs.specs.declared.sign.Sign.{Sign}
 use Rattle.om_signs.specs.declared.sign.Sign.TheVariants.{Zero}
 use Rattle.om_signs.specs.Sign.{opposite, product}
-use Rattle.om_signs.proofs.SignLaws.{zero_or_nonzero}
+use Rattle.om_signs.proofs.SignLaws.{zero_or_nonzero, product_comm}
 use Rattle.om_laws.specs.Signs.{IsNonzero}
 use Rattle.om_laws.specs.ThreeTerm.{AreBalanced, HasThreeTermRelations}
 use Rattle.om_laws.specs.Relations.{HasRelations}
@@ -18,6 +18,7 @@ use Rattle.om_laws.specs.Chirotope.{elements_to}
 use Rattle.om_laws.proofs.MemberLaws.{search_members}
 use Rattle.om_laws.proofs.TupleSizes.{on_tuples_off, on_tuples_tuple, on_tuples_alternating}
 use Rattle.om_laws.proofs.ChirotopeLaws.{member_from_element}
+use Rattle.om_localize.proofs.BalanceLaws.{relation_reversed}
 use Rattle.om_localize.proofs.RelationLaws as relation_laws
 use Rattle.om_localize.proofs.RelationLaws.{last_two_swapped, second_moved_back, first_moved_back}
 use Rattle.om_localize.proofs.NewElement.{three_terms, last_of_four, old_values, new_alternates, new_swap_last, turn}
@@ -83,12 +84,7 @@ module _ (n : ℕ) (f g k : List ℕ → Sign)
             → AreBalanced (product a yz') (opposite (product b xz')) (product d xy')
             → AreBalanced (product xy sz) (opposite (product xz sy)) (product yz sx)
         rearranged a yz' b xz' d xy' sx sy sz yz xz xy p q r u v w h =
-            lemma sx sy sz yz xz xy (rw (← p, ← q, ← r, ← u, ← v, ← w) h)
-          where
-            lemma : (sx sy sz yz xz xy : Sign)
-                → AreBalanced (product (opposite sx) yz) (opposite (product (opposite sy) xz))
-                (product (opposite sz) xy) → AreBalanced (product xy sz) (opposite (product xz sy)) (product yz sx)
-            lemma sx sy sz yz xz xy h = grind arith
+            relation_reversed sx sy sz yz xz xy (rw (← p, ← q, ← r, ← u, ← v, ← w) h)
 
     -- an element of a base of old elements
     in_base : (x1 x2 x3 e x : ℕ) → HasRelations new → IsNonzero (c x1 x2 x3) → IsNonzero (s e x) → (y : ℕ) × (z : ℕ)
@@ -239,7 +235,7 @@ module _ (n : ℕ) (f g k : List ℕ → Sign)
 
           last_commuted : (a b d e f g : Sign) → AreBalanced (product a b) (opposite (product d e)) (product f g)
               → AreBalanced (product a b) (opposite (product d e)) (product g f)
-          last_commuted a b d e f g h = grind arith
+          last_commuted a b d e f g h = rw (product_comm g f) h
 
       at_element : (e x y z w : ℕ) → ThreeTerm e x y z w
       at_element e x y z w = elim (cases_eq e (suc n)) [

@@ -2,7 +2,7 @@
 --
 -- Main results: pair_list, table_sign, circle_turn, circle_three, circle_within, signature_on_circles
 -- Reference: Björner, Las Vergnas, Sturmfels, White and Ziegler, Oriented Matroids, chapter 7.
-use Rattle.std.specs.Prelude.{ℕ, ◌≡◌, ◌+◌, ◌<◌, ◌≤◌, ◌⊎◌, List, [], ◌∷◌, ◌++◌, length, map, refl}
+use Rattle.std.specs.Prelude.{ℕ, ◌≡◌, ◌+◌, ◌<◌, ◌≤◌, List, [], ◌∷◌, ◌++◌, length, map, refl}
 use Rattle.std.proofs.Common.{suc, sym, ◌∙◌, ap, subst, ⊎_elim, arith, inl, inr}
 use Rattle.std.proofs.lemmas.List.{get_or-map}
 use Rattle.om_signs.specs.declared.sign.Sign.{Sign}

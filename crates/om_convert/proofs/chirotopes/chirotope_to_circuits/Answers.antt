@@ -2,9 +2,16 @@ use Rattle.std.proofs.Common.{sym, ◌∙◌, subst}
 use Rattle.om_denotation.specs.Circuits.{IsCircuitOfChirotope}
 use Rattle.om_denotation.specs.Listings.{AreAllOf}
 use Rattle.om_denotation.proofs.OnlyLaws.{only_circuits}
+use Rattle.om_convert.specs.Gathering.{IsMemberSet}
 use Rattle.om_convert.proofs.CountingLaws.{listed_within}
 use Rattle.om_convert.proofs.ChirotopeLaws.{circuit_lengths, circuits_lawful, same_as_circuits}
 use Rattle.om_convert.proofs.chirotopes.chirotope_to_circuits.Goals as goal
+
+pub lawful-requires-clause-low : goal.lawful-requires-clause-low
+lawful-requires-clause-low c = c.elements.ensures.low
+
+pub lawful-requires-clause-high : goal.lawful-requires-clause-high
+lawful-requires-clause-high c = c.elements.ensures.high
 
 pub lawful-requires-clause-lengths : goal.lawful-requires-clause-lengths
 lawful-requires-clause-lengths c =
@@ -12,11 +19,23 @@ lawful-requires-clause-lengths c =
     c.in_ok-gathered.ensures.members in
     λ k d l. circuit_lengths c.args.chi.now c.in_ok-circuits.circuits all k d l ∙ sym c.elements.ensures.value
 
+pub lawful-requires-clause-distinct : goal.lawful-requires-clause-distinct
+lawful-requires-clause-distinct c =
+    (subst IsMemberSet (sym c.in_ok-circuits.ensures.value) c.in_ok-circuits.ensures.lawful).distinct
+
+pub lawful-requires-clause-few : goal.lawful-requires-clause-few
+lawful-requires-clause-few c =
+    (subst IsMemberSet (sym c.in_ok-circuits.ensures.value) c.in_ok-circuits.ensures.lawful).few
+
 pub lawful-requires-clause-axioms : goal.lawful-requires-clause-axioms
 lawful-requires-clause-axioms c =
     let all = subst (AreAllOf (IsCircuitOfChirotope c.args.chi.now)) (sym c.in_ok-circuits.ensures.value)
     c.in_ok-gathered.ensures.members in
     circuits_lawful c.args.chi.now c.in_ok-circuits.circuits all c.all_circuits.ensures.lawful
+
+pub returns-clause-members : goal.returns-clause-members
+returns-clause-members c = subst (AreAllOf (IsCircuitOfChirotope c.args.chi.now))
+    (sym (c.lawful.ensures.members ∙ c.in_ok-circuits.ensures.value)) c.in_ok-gathered.ensures.members
 
 pub returns-clause-same : goal.returns-clause-same
 returns-clause-same c =

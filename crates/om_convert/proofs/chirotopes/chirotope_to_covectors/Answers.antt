@@ -2,9 +2,16 @@ use Rattle.std.proofs.Common.{sym, ◌∙◌, subst}
 use Rattle.om_denotation.specs.Covectors.{IsCovectorOfChirotope}
 use Rattle.om_denotation.specs.Listings.{AreAllOf}
 use Rattle.om_denotation.proofs.OnlyLaws.{only_covectors}
+use Rattle.om_convert.specs.Gathering.{IsMemberSet}
 use Rattle.om_convert.proofs.CountingLaws.{listed_within}
 use Rattle.om_convert.proofs.ChirotopeLaws.{covector_lengths, covectors_lawful, same_as_covectors}
 use Rattle.om_convert.proofs.chirotopes.chirotope_to_covectors.Goals as goal
+
+pub lawful-requires-clause-low : goal.lawful-requires-clause-low
+lawful-requires-clause-low c = c.elements.ensures.low
+
+pub lawful-requires-clause-high : goal.lawful-requires-clause-high
+lawful-requires-clause-high c = c.elements.ensures.high
 
 pub lawful-requires-clause-lengths : goal.lawful-requires-clause-lengths
 lawful-requires-clause-lengths c =
@@ -12,11 +19,23 @@ lawful-requires-clause-lengths c =
     c.in_ok-gathered.ensures.members in
     λ k d l. covector_lengths c.args.chi.now c.in_ok-covectors.covectors all k d l ∙ sym c.elements.ensures.value
 
+pub lawful-requires-clause-distinct : goal.lawful-requires-clause-distinct
+lawful-requires-clause-distinct c =
+    (subst IsMemberSet (sym c.in_ok-covectors.ensures.value) c.in_ok-covectors.ensures.lawful).distinct
+
+pub lawful-requires-clause-few : goal.lawful-requires-clause-few
+lawful-requires-clause-few c =
+    (subst IsMemberSet (sym c.in_ok-covectors.ensures.value) c.in_ok-covectors.ensures.lawful).few
+
 pub lawful-requires-clause-axioms : goal.lawful-requires-clause-axioms
 lawful-requires-clause-axioms c =
     let all = subst (AreAllOf (IsCovectorOfChirotope c.args.chi.now)) (sym c.in_ok-covectors.ensures.value)
     c.in_ok-gathered.ensures.members in
     covectors_lawful c.args.chi.now c.in_ok-covectors.covectors all c.all_covectors.ensures.lawful
+
+pub returns-clause-members : goal.returns-clause-members
+returns-clause-members c = subst (AreAllOf (IsCovectorOfChirotope c.args.chi.now))
+    (sym (c.lawful.ensures.members ∙ c.in_ok-covectors.ensures.value)) c.in_ok-gathered.ensures.members
 
 pub returns-clause-same : goal.returns-clause-same
 returns-clause-same c =

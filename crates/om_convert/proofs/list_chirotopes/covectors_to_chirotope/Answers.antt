@@ -1,9 +1,10 @@
 use Rattle.std.specs.List.{Contains}
 use Rattle.std.proofs.Common.{◌≤◌, subst}
-use Rattle.std.proofs.lemmas.Result.{err_from_is_err_and}
+use Rattle.std.proofs.lemmas.Result.{IfOk-from_err, err_from_is_err_and}
 use Rattle.om_signs.specs.declared.limits.TheConstants.{MAX_VALUES}
 use Rattle.om_subsets.specs.Subsets.{choose}
 use Rattle.om_denotation.specs.Covectors.{IsCovectorOfChirotope, IsCovectorOfCocircuits}
+use Rattle.om_convert.specs.Limits.{HasFewValuesFor}
 use Rattle.om_convert.proofs.SameFamilies.{joined, covectors_listed}
 use Rattle.om_convert.proofs.WidthLaws.{narrow_by_rank, width_cause, rank_of_same}
 use Rattle.om_convert.proofs.list_chirotopes.covectors_to_chirotope.Goals as goal
@@ -21,6 +22,23 @@ chirotope_of_cocircuits-requires c =
     rank_of_same c.args.c.now.elements c.in_ok-cocircuits.cocircuits.0.elements (Contains c.args.c.now.members)
     (IsCovectorOfCocircuits c.in_ok-cocircuits.cocircuits.0) c.rank_covectors-rank.result
     c.in_ok-cocircuits.ensures.elements c.in_ok-cocircuits.ensures.same c.rank_covectors-rank.ensures.rank
+
+pub returns-in_err-cocircuits-clause-narrow : goal.returns-in_err-cocircuits-clause-narrow
+returns-in_err-cocircuits-clause-narrow c = IfOk-from_err c.from_residual-in_err-cocircuits.result
+    (λ _. HasFewValuesFor c.args.c.now.elements (Contains c.args.c.now.members))
+    c.from_residual-in_err-cocircuits.ensures.0
+
+pub returns-in_err-chi-clause-narrow : goal.returns-in_err-chi-clause-narrow
+returns-in_err-chi-clause-narrow c = IfOk-from_err c.from_residual-in_err-chi.result
+    (λ _. HasFewValuesFor c.args.c.now.elements (Contains c.args.c.now.members)) c.from_residual-in_err-chi.ensures.0
+
+pub returns-in_err-chi-clause-refused : goal.returns-in_err-chi-clause-refused
+returns-in_err-chi-clause-refused c =
+    let p = err_from_is_err_and c.from_residual-in_err-chi.result c.from_residual-in_err-chi.ensures.1 in
+    rw (p.1, p.2) tt
+
+pub returns-clause-unique : goal.returns-clause-unique
+returns-clause-unique c = c.in_ok-chi.ensures.unique
 
 pub returns-clause-covectors : goal.returns-clause-covectors
 returns-clause-covectors c =

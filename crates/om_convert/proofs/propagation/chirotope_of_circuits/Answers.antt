@@ -1,3 +1,4 @@
+use Rattle.std.proofs.Common.{◌≡◌, ◌≤◌, ◌∙◌, sym, subst}
 use Rattle.std.proofs.lemmas.Result.{IfOk-weaker}
 use Rattle.om_chirotope.specs.Map.{SignMap}
 use Rattle.om_chirotope.specs.Chirotope.{IsChirotope}
@@ -13,9 +14,17 @@ use Rattle.om_convert.proofs.NormalSigns.{has_circuits}
 use Rattle.om_convert.proofs.RankLaws.{rank_of_dual}
 use Rattle.om_convert.proofs.propagation.chirotope_of_circuits.Goals as goal
 
+pub overflow_sub-elements : goal.overflow_sub-elements
+overflow_sub-elements c = subst (λ n. c.args.rank ≤ n) (sym c.elements.ensures.value) c.requires.part
+
 pub chirotope_of-requires : goal.chirotope_of-requires
 chirotope_of-requires c = rank_of_dual c.args.c.now.0 c.args.rank c.requires.part c.requires.rank c.elements.result
     c.elements.ensures.value
+
+pub returns-clause-elements : goal.returns-clause-elements
+returns-clause-elements c =
+    IfOk-weaker c.dual.result (λ d. d.elements ≡ c.in_ok-other.other.elements)
+    (λ d. d.elements ≡ c.args.c.now.0.elements) (λ d e. e ∙ c.in_ok-other.ensures.elements) c.dual.ensures.elements
 
 pub returns-clause-circuits : goal.returns-clause-circuits
 returns-clause-circuits c =
@@ -36,3 +45,9 @@ returns-clause-lawful c =
     IfOk-weaker c.dual.result (IsNormalFormOf (dual_of c.in_ok-other.other)) IsChirotope
     (λ d n. normal_axioms (dual_of c.in_ok-other.other) d (dual_axioms c.in_ok-other.other c.in_ok-other.ensures.axioms)
     n) c.dual.ensures.value
+
+pub returns-clause-normal : goal.returns-clause-normal
+returns-clause-normal c = c.dual.ensures.normal
+
+pub returns-clause-unique : goal.returns-clause-unique
+returns-clause-unique c = c.dual.ensures.unique

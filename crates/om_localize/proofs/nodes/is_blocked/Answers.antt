@@ -1,12 +1,40 @@
-use Rattle.std.proofs.Common.{sym, ◌∙◌}
+use Rattle.std.proofs.Common.{length, sym, ◌∙◌}
+use Rattle.om_localize.specs.declared.circles.TheConstants.{MAX_OLD}
 use Rattle.om_localize.proofs.OpenLaws.{closed_first, closed_second}
+use Rattle.om_localize.proofs.PairLaws.{first_at_most, second_at_least, second_at_most}
 use Rattle.om_localize.proofs.nodes.is_blocked.Goals as goal
+
+pub cut-first-requires : goal.cut-first-requires
+cut-first-requires c =
+    let node = c.args.node.now in
+    record {
+      whole = c.requires.whole;
+      circles = c.requires.node.forms.whole;
+      e_low = c.requires.node.pair.low;
+      e_high = first_at_most c.args.n node.a MAX_OLD c.requires.inner c.requires.high;
+      f_low = second_at_least c.args.n (length node.signs) node.a node.b c.requires.node.pair;
+      f_high = second_at_most c.args.n (length node.signs) node.a node.b MAX_OLD c.requires.inner c.requires.node.pair
+          c.requires.high;
+    }
 
 pub returns-then-first-eq0 : goal.returns-then-first-eq0
 returns-then-first-eq0 c = λ _.
     let node = c.args.node.now in
     closed_first c.args.n c.args.masks.now node.signs c.args.forms.now node.a node.b c.args.sign c.requires.high
     c.requires.node c.requires.inner (sym c.cut-first.ensures ∙ c.if-first-eq0.true)
+
+pub cut-second-requires : goal.cut-second-requires
+cut-second-requires c =
+    let node = c.args.node.now in
+    record {
+      whole = c.requires.whole;
+      circles = c.requires.node.forms.whole;
+      e_low = second_at_least c.args.n (length node.signs) node.a node.b c.requires.node.pair;
+      e_high = second_at_most c.args.n (length node.signs) node.a node.b MAX_OLD c.requires.inner c.requires.node.pair
+          c.requires.high;
+      f_low = c.requires.node.pair.low;
+      f_high = first_at_most c.args.n node.a MAX_OLD c.requires.inner c.requires.high;
+    }
 
 pub returns-then-second-eq0 : goal.returns-then-second-eq0
 returns-then-second-eq0 c = λ _.

@@ -17,6 +17,13 @@ overflow_add-rest c = let f =
     (moved_bit is_plus is_plus-lt _ c.len-n.result c.args.sign c.plus_bit.ensures)
     (moved_bit is_minus is_minus-lt _ c.len-n.result c.args.sign c.minus_bit.ensures)).rest_fits in omega arith
 
+pub overflow_add-rest-2 : goal.overflow_add-rest-2
+overflow_add-rest-2 c = let f =
+    (added c.self.inside.plus c.self.inside.rest c.len-n.result _ _ _ c.args.sign c.self.invariant c.self.view_is
+    c.len-n.ensures.value c.requires
+    (moved_bit is_plus is_plus-lt _ c.len-n.result c.args.sign c.plus_bit.ensures)
+    (moved_bit is_minus is_minus-lt _ c.len-n.result c.args.sign c.minus_bit.ensures)).number_fits in omega arith
+
 pub invariant_of-result : goal.invariant_of-result
 invariant_of-result c =
     (added c.self.inside.plus c.self.inside.rest c.len-n.result _ _ _ c.args.sign c.self.invariant c.self.view_is
