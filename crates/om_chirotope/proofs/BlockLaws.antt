@@ -1,12 +1,16 @@
 -- What the numbers of sets S and blocks of sets A say of the pairs.
 --
--- Main results: all_earlier, orthogonal_before; none_bad.
-use Rattle.std.specs.Prelude.{ℕ, ◌≡◌, ◌≢◌, ◌+◌, ◌-◌, ◌*◌, ◌/◌, ◌%◌, ◌<◌, ◌≤◌, ◌⊎◌, ◌↔◌, List, [], length, refl}
+-- Main results: all_earlier, orthogonal_before; none_bad; blocks_cover, few_blocks, some_blocks,
+-- blocks_fit and numbers_fit, for the number of blocks; pairs_fit and cost_fits, for the time of a number;
+-- block_small and not_listed.
+use Rattle.std.specs.Prelude.{ℕ, ◌≡◌, ◌+◌, ◌-◌, ◌*◌, ◌/◌, ◌%◌, ◌<◌, ◌≤◌, ◌⊎◌, ◌↔◌, List, [], length, refl}
 use Rattle.std.specs.Prelude.{IfNone, IfSome, IsTrue}
+use mir.Syntax.{w64}
 use Rattle.std.proofs.Common.{sym, ap, subst, ◌∙◌, ⊎_elim, inl, inr, arith, get_or, min, Option, Some, None}
+use Rattle.std.proofs.Common.{Fits, false}
 use Rattle.std.specs.Option.{is_some}
 use Rattle.std.proofs.lemmas.Bool.{cases_lt, false≢true}
-use Rattle.std.proofs.lemmas.Nat.{div-add-mod', div-mul-add, mod-mul-add, mul-add-lt}
+use Rattle.std.proofs.lemmas.Nat.{mul-le, mod_below, div-add-mod', div-mul-add, mod-mul-add, mul-add-lt}
 use Rattle.std.proofs.Math.Nat.{mul-div-le}
 use Rattle.om_signs.specs.declared.sign.Sign.{Sign}
 use Rattle.om_signs.specs.declared.sign.Sign.TheVariants.{Minus, Plus}
@@ -16,6 +20,7 @@ use Rattle.om_subsets.specs.Members.{Chosen}
 use Rattle.om_subsets.proofs.Order.{get_or-rank_from, rank_from-lt}
 use Rattle.om_signs.proofs.Orthogonality.{has_or_not}
 use Rattle.om_chirotope.specs.declared.threaded_scan.TheConstants.{BLOCK}
+use Rattle.om_subsets.specs.declared.binomials.TheConstants.{MOST_SUBSETS}
 use Rattle.om_chirotope.specs.Blocks.{HasViolatedPair, IsInBlock}
 use Rattle.om_chirotope.specs.Chirotope.{HasOrthogonalPairs, IsFirstViolated}
 use Rattle.om_chirotope.specs.Map.{SignMap, circuit_vector, cocircuit_vectors}
@@ -215,3 +220,52 @@ found_in_block m blocks k place s a table low some whole et earlier listed sn es
     same j b l = subst (λ t. IsOrthogonal (circuit_vector m t) (get_or (cocircuit_vectors m) j [])) es
         (subst (λ t. IsOrthogonal (circuit_vector m s.elements) (get_or t j [])) et
         (before j (subst (λ t. IsInBlock (length t) (k % blocks) j) (sym et) b) l))
+
+-- ---- the number of blocks
+
+-- the blocks have room for all vectors
+pub blocks_cover : (n : ℕ) → n ≤ (n / BLOCK + 1) * BLOCK
+blocks_cover n = omega arith
+
+-- there is a block
+pub some_blocks : (n : ℕ) → 1 ≤ n / BLOCK + 1
+some_blocks n = omega arith
+
+-- there are at most as many blocks as sets
+pub few_blocks : (n : ℕ) → n ≤ MOST_SUBSETS → n / BLOCK + 1 ≤ MOST_SUBSETS
+few_blocks n h = omega arith
+
+-- the number of blocks fits
+pub blocks_fit : (n : ℕ) → n ≤ MOST_SUBSETS → Fits w64 (n / BLOCK + 1)
+blocks_fit n h = omega arith
+
+-- the numbers of sets and blocks fit
+pub numbers_fit : (sets n : ℕ) → sets ≤ MOST_SUBSETS → n ≤ MOST_SUBSETS → Fits w64 (sets * (n / BLOCK + 1))
+numbers_fit sets n hs hn =
+    let b = few_blocks n hn in
+    let p = mul-le sets (n / BLOCK + 1) MOST_SUBSETS MOST_SUBSETS hs b in
+    omega (arith, p)
+
+-- the time for the pairs of a block fits
+pub pairs_fit : (n r : ℕ) → r ≡ min n BLOCK → Fits w64 (r * 3)
+pairs_fit n r e = omega arith
+
+-- and so does the time for a number
+pub cost_fits : (n r : ℕ) → r ≡ min n BLOCK → Fits w64 (300 + r * 3)
+cost_fits n r e = omega arith
+
+-- each number is at least 0
+pub from_zero : (j : ℕ) → 0 ≤ j
+from_zero j = omega arith
+
+-- the number of a block is small
+pub block_small : (k blocks : ℕ) → 1 ≤ blocks → blocks ≤ MOST_SUBSETS → k % blocks ≤ MOST_SUBSETS
+block_small k blocks some most = let h = mod_below k blocks some in omega (arith, h, most)
+
+-- a number beyond all sets isn't bad
+pub not_listed : (m : SignMap) (blocks k : ℕ) → choose m.elements (m.rank + 1) ≤ k / blocks
+    → IsTrue false ↔ HasViolatedPair m blocks k
+not_listed m blocks k over = (
+  λ e. absurd (false≢true e),
+  λ h. let l = h.1.listed in absurd (omega (arith, l, over)),
+)

@@ -23,3 +23,4 @@ pub mod FirstRow
 pub mod BlockLaws
 pub mod FewValues
 pub mod PairCounts
+pub mod FoundPairs

@@ -1,12 +1,15 @@
 -- The negative of a map, and the first sign that isn't zero.
 --
 -- Main results: negated_chirotope, the negative of a chirotope is one; leads, some sign leads a list that isn't all
--- zero.
+-- zero; zero_more, led_here, led_otherwise and led_by_none, the search for the leading sign; turned_more and
+-- rest_more, the loop that turns the signs.
 use Rattle.std.specs.Prelude.{ℕ, ◌≡◌, ◌+◌, ◌<◌, List, [], ◌∷◌, ◌++◌, length, map, cond, nat_eq, Bool, true, false, refl}
-use Rattle.std.specs.Prelude.{◌⊎◌}
-use Rattle.std.proofs.Common.{zero, suc, sym, ◌∙◌, ap, arith, inl, inr, get_or}
-use Rattle.std.proofs.lemmas.Bool.{cases_lt}
-use Rattle.std.proofs.lemmas.List.{length-map, ext_get_or, get_or_past}
+use Rattle.std.specs.Prelude.{◌≤◌, ◌⊎◌, ◌↔◌, IsTrue, slice_get, slice_set}
+use Rattle.std.proofs.Common.{zero, suc, sym, ◌∙◌, ap, arith, inl, inr, get_or, below_more, Some}
+use Rattle.std.proofs.lemmas.Bool.{cases_lt, cases_eq, cases_order, false≢true}
+use Rattle.std.proofs.lemmas.List.{length-map, ext_get_or, get_or_past, get_or_default}
+use Rattle.std.proofs.lemmas.List.{get_or-set_same, get_or-set_other}
+use Rattle.std.proofs.lemmas.Option.{get_or_from_slice_get}
 use Rattle.std.proofs.lemmas.List.FromFn.{get_or-map-range_with_len}
 use Rattle.om_signs.specs.declared.sign.Sign.{Sign}
 use Rattle.om_signs.specs.declared.sign.Sign.TheVariants.{Minus, Zero, Plus}
@@ -123,6 +126,64 @@ led_by_plus m c n = go (leader m.signs)
 
 pub led_negated : (xs : List Sign) → IsLedBy Minus xs → IsLedBy Plus (map opposite xs)
 led_negated xs (k, p, q) = (k, at-map-opposite xs k ∙ ap opposite p, λ j l. at-map-opposite xs j ∙ ap opposite (q j l))
+
+-- ---- the search for the first sign that isn't zero
+
+-- one sign more that is zero
+pub zero_more : (xs : List Sign) (k : ℕ) (d : Sign) → ((j : ℕ) → j < k → at xs j ≡ Zero) → k < length xs
+    → get_or xs k d ≡ Zero → (j : ℕ) → j < k + 1 → at xs j ≡ Zero
+zero_more xs k d z l e = below_more _ _ z (get_or_default xs k Zero d l ∙ e)
+
+-- the first sign that isn't zero is minus
+pub led_here : (xs : List Sign) (k : ℕ) (d : Sign) → ((j : ℕ) → j < k → at xs j ≡ Zero) → k < length xs
+    → get_or xs k d ≡ Minus → IsTrue true ↔ IsLedBy Minus xs
+led_here xs k d z l e = (λ q. (k, get_or_default xs k Zero d l ∙ e, z), λ h. refl)
+
+two_leaders : (xs : List Sign) (k x : ℕ) → ((j : ℕ) → j < k → at xs j ≡ Zero) → at xs k ≡ Plus → at xs x ≡ Minus
+    → ((j : ℕ) → j < x → at xs j ≡ Zero) → ⊥
+two_leaders xs k x z p m y = elim (cases_order k x) [
+  | inl q ↦ let e = ap (at xs) q in cc
+  | inr (inl l) ↦ let e = y k l in cc
+  | inr (inr g) ↦ let e = z x g in cc
+]
+
+-- the first sign that isn't zero is plus
+pub led_otherwise : (xs : List Sign) (k : ℕ) (d : Sign) → ((j : ℕ) → j < k → at xs j ≡ Zero) → k < length xs
+    → get_or xs k d ≡ Plus → IsTrue false ↔ IsLedBy Minus xs
+led_otherwise xs k d z l e = (
+  λ q. absurd (false≢true q),
+  λ h. absurd (two_leaders xs k h.0 z (get_or_default xs k Zero d l ∙ e) h.1 h.2),
+)
+
+-- no sign but zero
+pub led_by_none : (xs : List Sign) (k : ℕ) → ((j : ℕ) → j < k → at xs j ≡ Zero) → length xs ≤ k
+    → IsTrue false ↔ IsLedBy Minus xs
+led_by_none xs k z over = (
+  λ q. absurd (false≢true q),
+  λ h. elim (cases_lt h.0 k) [
+    | inl l ↦ let a = h.1 in let e = z h.0 l in absurd cc
+    | inr g ↦ let a = h.1 in let e = get_or_past xs h.0 Zero (omega (arith, g, over)) in absurd cc
+  ],
+)
+
+-- ---- the loop that turns the signs
+
+-- one sign more that is turned
+pub turned_more : (old now next : List Sign) (i : ℕ) (s turned : Sign) → i < length now → slice_get now i ≡ Some s
+    → turned ≡ opposite s → next ≡ slice_set now i turned → ((k : ℕ) → k < i → at now k ≡ opposite (at old k))
+    → ((k : ℕ) → i ≤ k → at now k ≡ at old k) → (k : ℕ) → k < i + 1 → at next k ≡ opposite (at old k)
+turned_more old now next i s turned l g e n before rest k b = elim (cases_eq k i) [
+  | inl q ↦ rw (n, q, e)
+      (get_or-set_same now i (opposite s) Zero l
+      ∙ ap opposite (sym (get_or_from_slice_get now i s Zero g) ∙ rest i (omega arith)))
+  | inr other ↦ rw n (get_or-set_other now i k turned Zero other ∙ before k (omega (arith, b, other)))
+]
+
+-- and the signs after it
+pub rest_more : (old now next : List Sign) (i : ℕ) (turned : Sign) → next ≡ slice_set now i turned
+    → ((k : ℕ) → i ≤ k → at now k ≡ at old k) → (k : ℕ) → i + 1 ≤ k → at next k ≡ at old k
+rest_more old now next i turned n rest k b =
+    rw n (get_or-set_other now i k turned Zero (λ q. absurd (omega (arith, b, q))) ∙ rest k (omega (arith, b)))
 
 -- what the loop that turns the signs has made
 pub turned_map : (rank elements r e : ℕ) (xs ys : List Sign) → r ≡ rank → e ≡ elements → length ys ≡ length xs

@@ -2,7 +2,8 @@
 -- written.
 --
 -- Main definitions: AreBalancedBelow, AreWritten
--- Main results: row_even, row_odd, relations_of_pictures, pictures_more, none_written, rows_more, rows_skip
+-- Main results: row_even, row_odd, relations_of_pictures, pictures_more, filled_zero, none_written, rows_more,
+-- rows_skip
 use Rattle.std.specs.Prelude.{ℕ, ◌≡◌, ◌≢◌, ◌+◌, ◌-◌, ◌%◌, ◌<◌, ◌≤◌, ◌⊎◌, List, [], ◌∷◌, ◌++◌, length, map, refl}
 use Rattle.std.proofs.Common.{sym, ◌∙◌, ap, arith, inl, inr, subst, get_or, set, replicate, zero, suc, append_assoc}
 use Rattle.std.proofs.lemmas.Bool.{cases_eq, cases_order, eq-eqb, ne_eqb, lt-ltb, le-ltb}
@@ -164,6 +165,11 @@ pub record AreWritten (m : SignMap) (p : List ℕ) (rows : List (List Sign)) (x 
 zeros_are : (n : ℕ) (f : ℕ → Sign) → ((e : ℕ) → 1 ≤ e → e ≤ n → f e ≡ Zero) → replicate n Zero ≡ as_list n f
 zeros_are n f h = vector_is n f (replicate n Zero) (length-replicate n Zero)
     (λ k l. get_or-replicate n k Zero Zero l ∙ sym (h (k + 1) (omega arith) (omega (arith, l))))
+
+-- 21 equal rows that are zero
+pub filled_zero : (n : ℕ) (row : List Sign) → row ≡ replicate n Zero → (k : ℕ) → k < 21
+    → get_or (replicate 21 row) k [] ≡ replicate n Zero
+filled_zero n row e k l = get_or-replicate 21 k row [] l ∙ e
 
 pub none_written : (m : SignMap) (p : List ℕ) (rows : List (List Sign)) → MAX_PLACES ≤ length rows
     → ((k : ℕ) → k < length rows → get_or rows k [] ≡ replicate m.elements Zero) → AreWritten m p rows 1

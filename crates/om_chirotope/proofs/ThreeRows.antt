@@ -1,10 +1,12 @@
 -- Three rows of signs are balanced exactly where their masks say so, and three rows of a table.
 --
--- Main results: balanced_of_masks, same_bits, masks_of_balanced, triple_of_rows, triple_to_rows
-use Rattle.std.specs.Prelude.{ℕ, ◌≡◌, ◌≢◌, ◌+◌, ◌-◌, ◌<◌, ◌≤◌, ◌^◌, ◌⊎◌, List, [], length, refl, bit_or}
+-- Main results: balanced_of_masks, same_bits, masks_of_balanced, triple_of_rows, triple_to_rows; row_length,
+-- same_lengths and place_in_row
+use Rattle.std.specs.Prelude.{ℕ, ◌≡◌, ◌≢◌, ◌+◌, ◌<◌, ◌≤◌, ◌^◌, ◌⊎◌, List, [], length, refl, bit_or}
 use Rattle.std.specs.Int.{bit_at}
 use Rattle.std.proofs.Common.{sym, ◌∙◌, ap, arith, inl, inr, subst, get_or, max}
 use Rattle.std.proofs.lemmas.Bool.{cases_eq, cases_lt}
+use Rattle.std.proofs.lemmas.List.{get_or_default}
 use Rattle.std.proofs.lemmas.Nat.Bits.{bit_at-lt, bit_at_or, bit_at_above, same_from_bits}
 use Rattle.om_signs.specs.declared.sign.Sign.{Sign}
 use Rattle.om_signs.specs.declared.sign.Sign.TheVariants.{Minus, Zero, Plus}
@@ -15,7 +17,7 @@ use Rattle.om_signs.proofs.Order.{at_place}
 use Rattle.om_laws.specs.ThreeTerm.{AreBalanced}
 use Rattle.om_laws.proofs.ThreeTermSigns.{IsOneOf, balanced_from}
 use Rattle.om_laws.proofs.BalancedSigns.{balanced_same}
-use Rattle.om_chirotope.specs.Pictures.{IsTriple}
+use Rattle.om_chirotope.specs.Pictures.{IsTriple, AreLong}
 
 -- ---- three rows
 
@@ -211,3 +213,20 @@ triple_to_rows rows x y z first second third e1 e2 e3 t l lt =
     (ap opposite (sym (product-same (sym (at_place first _ z e1)) (ap (λ r. at r l) (sym e2)))))
     (sym (product-same (ap (λ r. at r l) (sym e1)) (sym (at_place second _ z e2))))
     (t.each l (subst (λ r. l < length r) e1 lt))
+
+-- ---- the lengths of the rows
+
+-- whatever is read beyond the rows, each row has n signs
+pub row_length : (rows : List (List Sign)) (n k : ℕ) (other : List Sign) → AreLong rows n → k < length rows
+    → length (get_or rows k other) ≡ n
+row_length rows n k other h l = ap length (get_or_default rows k other [] l) ∙ h k l
+
+-- two rows are equally long
+pub same_lengths : (rows : List (List Sign)) (n j k : ℕ) (other another : List Sign) → AreLong rows n → j < length rows
+    → k < length rows → length (get_or rows j other) ≡ length (get_or rows k another)
+same_lengths rows n j k other another h lj lk = row_length rows n j other h lj ∙ sym (row_length rows n k another h lk)
+
+-- the place of an element in a row
+pub place_in_row : (rows : List (List Sign)) (n j k : ℕ) (other : List Sign) → AreLong rows n → k < length rows → j < n
+    → j + 1 ≤ length (get_or rows k other)
+place_in_row rows n j k other h lk l = let e = row_length rows n k other h lk in omega (arith, e, l)

@@ -1,7 +1,7 @@
 -- The three-term test holds exactly where the axioms do, also of a map that may be zero.
 --
 -- Main results: relations_of_test, chirotope_of_test, test_of_chirotope, test_of_orthogonal
-use Rattle.std.specs.Prelude.{ℕ, ◌≡◌, ◌+◌, List, [], ◌∷◌, ◌++◌, length}
+use Rattle.std.specs.Prelude.{ℕ, ◌≡◌, List, [], ◌∷◌, ◌++◌, length}
 use Rattle.std.proofs.Common.{inl, inr}
 use Rattle.std.proofs.lemmas.Bool.{cases_lt}
 use Rattle.std.proofs.lemmas.List.{get_or_past}

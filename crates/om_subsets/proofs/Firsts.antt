@@ -1,8 +1,9 @@
 -- How an increasing list begins.
 --
 -- Main results: least_first and last_first, the first number of a list; without_first, the list behind it;
--- first_below_second, its first two numbers; same_members, lists with the same numbers are the same; same_chosen, sets
--- with the same n and the same list are the same.
+-- first_below_second, its first two numbers; two_behind_first, one_behind_second and three_firsts, a list of three
+-- numbers; same_members, lists with the same numbers are the same; same_chosen, sets with the same n and the same list
+-- are the same.
 use Rattle.std.proofs.Common.{ℕ, zero, suc, ◌≡◌, ◌+◌, ◌<◌, List, [], ◌∷◌, length, refl, sym, ◌∙◌, ap, subst, inl, inr}
 use Rattle.std.proofs.Common.{arith}
 use Rattle.std.proofs.lemmas.Bool.{cases_eq, eq-eqb}
@@ -44,6 +45,22 @@ pub first_below_second : (n a b : ℕ) (xs ys zs : List ℕ) → IsSubsetFrom 1 
     → ys ≡ without_element a xs → ys ≡ b ∷ zs → a < b
 first_below_second n a b xs ys zs h e f g =
     above_head 1 n a (without_element a xs) (subst (IsSubsetFrom 1 n) e h) b (subst (IsMember b) (sym g ∙ f) (inl refl))
+
+-- a list of three numbers: two are behind the first, one is behind the second, and none is behind the third
+pub two_behind_first : (a : ℕ) (xs ys zs : List ℕ) → length xs ≡ 3 → xs ≡ a ∷ ys → zs ≡ ys → length zs ≡ 2
+two_behind_first a xs ys zs l e f = let g = ap length e in rw f (omega arith)
+
+pub one_behind_second : (b : ℕ) (xs ys zs : List ℕ) → length xs ≡ 2 → xs ≡ b ∷ ys → zs ≡ ys → length zs ≡ 1
+one_behind_second b xs ys zs l e f = let g = ap length e in rw f (omega arith)
+
+none_behind_third : (c : ℕ) (xs zs : List ℕ) → length xs ≡ 1 → xs ≡ c ∷ zs → xs ≡ c ∷ []
+none_behind_third c xs [] l e = e
+none_behind_third c xs (z ∷ zs) l e = absurd (let g = ap length e in omega arith)
+
+pub three_firsts : (a b c : ℕ) (xs ys zs us vs ws : List ℕ) → length zs ≡ 1 → xs ≡ a ∷ us → ys ≡ us → ys ≡ b ∷ vs
+    → zs ≡ vs → zs ≡ c ∷ ws → xs ≡ a ∷ b ∷ c ∷ []
+three_firsts a b c xs ys zs us vs ws l e f g h i =
+    e ∙ ap (λ k. a ∷ k) (sym f ∙ g ∙ ap (λ k. b ∷ k) (sym h ∙ none_behind_third c zs ws l i))
 
 pub none_at_zero : (n k : ℕ) (xs : List ℕ) → IsSubsetFrom 1 n xs → k < 1 → IsMember k xs → ⊥
 none_at_zero n k xs h l q = let b = members_from 1 n k xs h q in omega arith

@@ -1,8 +1,8 @@
 -- The sizes of products of coordinates, so that no product overflows.
 --
 -- Main definitions: wide, IsExact
--- Main results: pair_size, pair_fits, product_size, product_fits, one, plus, minus, read_back
-use Rattle.std.proofs.Common.{ℕ, ◌≡◌, ◌+◌, ◌*◌, ◌≤◌, ◌<◌, ◌^◌, lit<, ◌∙◌, arith}
+-- Main results: pair_size, pair_fits, product_size, product_fits, one, plus, minus, read_back, coordinate_back
+use Rattle.std.proofs.Common.{ℕ, ◌≡◌, ◌+◌, ◌*◌, ◌≤◌, ◌<◌, ◌^◌, lit<, ◌∙◌, refl, arith}
 use Rattle.std.specs.Prelude.{ℤ, ◌+ℤ◌, ◌-ℤ◌, ◌*ℤ◌, unsigned_abs, FitsSigned}
 use mir.Syntax.{w64, w128}
 use mir.Val.{to_z, of_z}
@@ -62,3 +62,6 @@ minus k s p few h g =
 -- a coordinate that is read back from 64 bits
 pub read_back : (x y : ℤ) → IsCoordinate x → x ≡ y → to_z w64 (of_z w64 x) ≡ y
 read_back x y h e = to_z-of_z w64 x (fits_signed_from_abs w64 x (omega arith)) ∙ e
+
+pub coordinate_back : (x : ℤ) → IsCoordinate x → IsCoordinate (to_z w64 (of_z w64 x))
+coordinate_back x h = rw (read_back x x h refl) h

@@ -7,7 +7,7 @@ use Rattle.om_laws.specs.Relations.{along}
 use Rattle.om_laws.proofs.BridgeLaws.{length-as_list}
 use Rattle.om_chirotope.specs.Map.{map_of, cocircuit_vector, value_of}
 use Rattle.om_chirotope.proofs.Tables.{table_at, table_done, table_more}
-use Rattle.om_subsets.proofs.Walks.{at_next, list_at}
+use Rattle.om_subsets.proofs.Walks.{at_first, at_next, list_at}
 use Rattle.om_chirotope.proofs.cocircuit_table.fill_while_orthogonal.Goals as goal
 
 pub orthogonal-requires : goal.orthogonal-requires
@@ -60,3 +60,36 @@ returns-clause-none c =
     let over = c.loop-place-test.false in
     table_done (map_of c.args.raw.now) c.loop-place.table (omega (arith, size, room))
     (λ j l. c.loop-place.invariant.filled j (omega (arith, l, end, over)))
+
+pub returns-then-not-orthogonal-clause-before : goal.returns-then-not-orthogonal-clause-before
+returns-then-not-orthogonal-clause-before c = c.loop-place.invariant.held
+
+pub returns-then-not-orthogonal-clause-within : goal.returns-then-not-orthogonal-clause-within
+returns-then-not-orthogonal-clause-within c =
+    subst (λ n. c.loop-place.place < n) c.choose-place-end.ensures.value c.loop-place-test.true
+
+pub cocircuit_of-other-requires-clause-n : goal.cocircuit_of-other-requires-clause-n
+cocircuit_of-other-requires-clause-n c = c.loop-place.invariant.at.n_is
+
+pub loop-place-init : goal.loop-place-init
+loop-place-init c = record {
+  size = refl;
+  filled = λ j l. absurd (omega (arith, l));
+  held = λ j l. absurd (omega (arith, l));
+  at = at_first c.args.raw.now.elements (c.args.raw.now.rank - 1) c.first-a.result c.first-a.ensures.n
+      c.first-a.ensures.size c.first-a.ensures.lawful c.first-a.ensures.place;
+}
+
+pub cocircuit_of-other-requires-clause-size : goal.cocircuit_of-other-requires-clause-size
+cocircuit_of-other-requires-clause-size c =
+    let size = c.loop-place.invariant.at.size in
+    let low = c.requires.rank_low in
+    omega (arith, size, low)
+
+pub bounds-table-place : goal.bounds-table-place
+bounds-table-place c =
+    let size = c.loop-place.invariant.size in
+    let room = c.requires.room in
+    let end = c.choose-place-end.ensures.value in
+    let test = c.loop-place-test.true in
+    omega (arith, size, room, end, test)

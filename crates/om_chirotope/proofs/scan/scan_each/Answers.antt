@@ -5,7 +5,7 @@ use Rattle.om_subsets.specs.Subsets.{choose}
 use Rattle.om_chirotope.specs.Map.{map_of, cocircuit_vectors, value_of}
 use Rattle.om_chirotope.specs.Chirotope.{IsPair, IsFirstViolated}
 use Rattle.om_subsets.proofs.Walks.{at_first, at_next}
-use Rattle.om_chirotope.proofs.Tables.{length-table, found, all_held, all_done}
+use Rattle.om_chirotope.proofs.Tables.{length-table, found, all_held, all_done, part_before}
 use Rattle.om_chirotope.proofs.scan.scan_each.Goals as goal
 
 pub loop-place-init : goal.loop-place-init
@@ -85,3 +85,15 @@ returns-clause-none c =
     let end = c.choose-place-end.ensures.value in
     let over = c.loop-place-test.false in
     (λ e. all_done (map_of c.args.raw.now) c.loop-place._place (omega arith) c.loop-place.invariant.all, λ h. refl)
+
+pub unrank-a-requires-clause-place : goal.unrank-a-requires-clause-place
+unrank-a-requires-clause-place c = c.in-Some.ensures.within
+
+pub unrank-a-requires-clause-part : goal.unrank-a-requires-clause-part
+unrank-a-requires-clause-part c = part_before c.args.raw.now.rank c.args.raw.now.elements c.requires.rank_high
+
+pub circuit_of-requires-clause-size : goal.circuit_of-requires-clause-size
+circuit_of-requires-clause-size c = c.loop-place.invariant.at.size
+
+pub circuit_of-requires-clause-n : goal.circuit_of-requires-clause-n
+circuit_of-requires-clause-n c = c.loop-place.invariant.at.n_is

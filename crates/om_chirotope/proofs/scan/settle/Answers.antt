@@ -3,7 +3,7 @@ use Rattle.om_laws.specs.Relations.{around}
 use Rattle.om_laws.proofs.BridgeLaws.{length-as_list}
 use Rattle.om_chirotope.specs.Map.{map_of, cocircuit_vectors, value_of}
 use Rattle.om_chirotope.specs.Chirotope.{IsPair}
-use Rattle.om_chirotope.proofs.Tables.{found}
+use Rattle.om_chirotope.proofs.Tables.{found, part_before}
 use Rattle.om_chirotope.proofs.scan.settle.Goals as goal
 
 pub fill_while_orthogonal-requires-clause-vector : goal.fill_while_orthogonal-requires-clause-vector
@@ -32,3 +32,18 @@ returns-then-meets_test c = c.if-meets_test.ensures.0 refl
 
 pub returns : goal.returns
 returns c = c.in_default.ensures.none
+
+pub fill_while_orthogonal-requires-clause-room : goal.fill_while_orthogonal-requires-clause-room
+fill_while_orthogonal-requires-clause-room c = c.requires.room
+
+pub circuit_of-requires-clause-size : goal.circuit_of-requires-clause-size
+circuit_of-requires-clause-size c = c.first-s.ensures.size
+
+pub unrank-a-requires-clause-part : goal.unrank-a-requires-clause-part
+unrank-a-requires-clause-part c = part_before c.args.raw.now.rank c.args.raw.now.elements c.requires.rank_high
+
+pub unrank-a-requires-clause-place : goal.unrank-a-requires-clause-place
+unrank-a-requires-clause-place c = c.in-Some.ensures.within
+
+pub meets_test-requires-clause-filled : goal.meets_test-requires-clause-filled
+meets_test-requires-clause-filled c = c.in_default.ensures.none

@@ -1,7 +1,64 @@
-use Rattle.std.proofs.Common.{refl}
+use Rattle.std.proofs.Common.{refl, subst, ◌≤◌}
+use Rattle.om_chirotope.specs.declared.cocircuit_table.TheConstants.{ROOM}
 use Rattle.om_chirotope.specs.Map.{map_of}
-use Rattle.om_chirotope.proofs.Tables.{no_pairs_above}
+use Rattle.om_chirotope.proofs.Tables.{no_pairs_above, no_pairs_of_rank_zero, some_rank, rank_below}
+use Rattle.om_chirotope.proofs.Tables.{taken_size, taken_within}
 use Rattle.om_chirotope.proofs.scan.violated_on_threads.Goals as goal
 
 pub returns-then-raw-clause-none : goal.returns-then-raw-clause-none
 returns-then-raw-clause-none g c = (λ e. no_pairs_above (map_of c.args.raw.now) c.if-raw.true, λ h. refl)
+
+pub returns-then-raw-eq0-clause-none : goal.returns-then-raw-eq0-clause-none
+returns-then-raw-eq0-clause-none g c = (λ e. no_pairs_of_rank_zero (map_of c.args.raw.now) c.if-raw-eq0.true, λ h. refl)
+
+pub returns-then-count-gt-ROOM-clause-none : goal.returns-then-count-gt-ROOM-clause-none
+returns-then-count-gt-ROOM-clause-none g c = c.scan_each.ensures.none
+
+pub returns-then-count-gt-ROOM-clause-first : goal.returns-then-count-gt-ROOM-clause-first
+returns-then-count-gt-ROOM-clause-first g c = c.scan_each.ensures.first
+
+pub returns-then-count-gt-FEW-clause-none : goal.returns-then-count-gt-FEW-clause-none
+returns-then-count-gt-FEW-clause-none g c = c.violated_with_room_on_threads.ensures.none
+
+pub returns-then-count-gt-FEW-clause-first : goal.returns-then-count-gt-FEW-clause-first
+returns-then-count-gt-FEW-clause-first g c = c.violated_with_room_on_threads.ensures.first
+
+pub returns-clause-none : goal.returns-clause-none
+returns-clause-none g c = c.violated_by_threads.ensures.none
+
+pub returns-clause-first : goal.returns-clause-first
+returns-clause-first g c = c.violated_by_threads.ensures.first
+
+pub violated_with_room_on_threads-requires : goal.violated_with_room_on_threads-requires
+violated_with_room_on_threads-requires g c =
+    let low = some_rank c.args.raw.now.rank c.if-raw-eq0.false in
+    let high = rank_below c.args.raw.now.rank c.args.raw.now.elements c.requires.rank c.if-raw.false in
+    let fits = subst (λ n. n ≤ ROOM) c.choose-count.ensures.value c.if-count-gt-ROOM.false in
+    (c.type_bounds.sync-R, (c.requires.low, (c.requires.high, (low, (high, (c.requires.whole, fits))))))
+
+pub violated_by_threads-requires : goal.violated_by_threads-requires
+violated_by_threads-requires g c =
+    let low = some_rank c.args.raw.now.rank c.if-raw-eq0.false in
+    let high = rank_below c.args.raw.now.rank c.args.raw.now.elements c.requires.rank c.if-raw.false in
+    let count = c.choose-count.result in (
+      c.type_bounds.sync-R,
+      (
+        c.requires.low,
+        (
+          c.requires.high,
+          (
+            low,
+            (
+              high,
+              (
+                c.requires.whole,
+                (
+                  taken_within count _ _ c.if-count-gt-ROOM.false c.if-count-gt-FEW.false,
+                  taken_size count _ _ c.choose-count.ensures.value c.if-count-gt-FEW.false,
+                ),
+              ),
+            ),
+          ),
+        ),
+      ),
+    )

@@ -1,8 +1,8 @@
 use Rattle.std.proofs.Common.{arith, ap, ◌+◌, length}
 use Rattle.om_chirotope.specs.Map.{map_of}
 use Rattle.om_subsets.proofs.Table.{choose_most}
-use Rattle.om_chirotope.proofs.BlockLaws.{found_in_block, not_none}
-use Rattle.om_chirotope.proofs.Tables.{length-table}
+use Rattle.om_chirotope.proofs.BlockLaws.{found_in_block, not_none, block_small}
+use Rattle.om_chirotope.proofs.Tables.{length-table, part_before}
 use Rattle.om_chirotope.proofs.threaded_scan.pair_of.Goals as goal
 
 pub overflow_cast-k : goal.overflow_cast-k
@@ -35,3 +35,18 @@ returns-in-Some-clause-first c =
     c.unrank-s.ensures.place
     c.unrank.ensures.n c.unrank.ensures.lawful c.unrank.ensures.size c.unrank.ensures.place
     c.in-Some.ensures.within c.in-Some.ensures.here c.in-Some.ensures.before
+
+pub first_in_block-requires-clause-filled : goal.first_in_block-requires-clause-filled
+first_in_block-requires-clause-filled c = c.requires.filled
+
+pub first_in_block-requires-clause-few : goal.first_in_block-requires-clause-few
+first_in_block-requires-clause-few c = c.requires.few
+
+pub first_in_block-requires-clause-size : goal.first_in_block-requires-clause-size
+first_in_block-requires-clause-size c = c.unrank-s.ensures.size
+
+pub first_in_block-requires-clause-small : goal.first_in_block-requires-clause-small
+first_in_block-requires-clause-small c = block_small c.args.k c.args.blocks c.requires.some c.requires.blocks
+
+pub unrank-requires-clause-part : goal.unrank-requires-clause-part
+unrank-requires-clause-part c = part_before c.args.raw.now.rank c.args.raw.now.elements c.requires.rank_high

@@ -3,7 +3,7 @@ use Rattle.std.proofs.lemmas.Bool.{false≢true}
 use Rattle.std.proofs.lemmas.List.{get_or_default}
 use Rattle.std.specs.Int.{trailing_zeros}
 use Rattle.om_chirotope.specs.Pictures.{IsTriple}
-use Rattle.om_chirotope.proofs.ThreeRows.{triple_of_rows, triple_to_rows}
+use Rattle.om_chirotope.proofs.ThreeRows.{triple_of_rows, triple_to_rows, same_lengths, place_in_row}
 use Rattle.om_chirotope.proofs.RowMasks.{IsLowest, all_cleared, cleared_more, lowest_bit, uncleared}
 use Rattle.om_chirotope.proofs.three_terms.are_balanced_with.Goals as goal
 
@@ -120,3 +120,34 @@ returns c = (
       c.loop-rest-test.false c.loop-rest.invariant,
   λ all. refl,
 )
+
+pub are_balanced-requires-clause-second : goal.are_balanced-requires-clause-second
+are_balanced-requires-clause-second c =
+    let few = c.requires.high in
+    let size = c.type_inv.rows in
+    let xl = c.requires.x in
+    let yl = c.requires.y in
+    same_lengths c.args.rows.now c.args.elements c.args.y c.args.x _ _ c.requires.rows
+    (omega (arith, yl, few, size)) (omega (arith, xl, few, size))
+
+pub are_balanced-requires-clause-y_high : goal.are_balanced-requires-clause-y_high
+are_balanced-requires-clause-y_high c =
+    let few = c.requires.high in
+    let size = c.type_inv.rows in
+    let xl = c.requires.x in
+    place_in_row c.args.rows.now c.args.elements c.args.y c.args.x _ c.requires.rows (omega (arith, xl, few, size))
+    c.requires.y
+
+pub listed : goal.listed
+listed c =
+    let few = c.requires.high in
+    let size = c.type_inv.rows in
+    let xl = c.requires.x in
+    omega (arith, xl, few, size)
+
+pub listed-2 : goal.listed-2
+listed-2 c =
+    let few = c.requires.high in
+    let size = c.type_inv.rows in
+    let yl = c.requires.y in
+    omega (arith, yl, few, size)

@@ -1,4 +1,5 @@
-use Rattle.std.proofs.Common.{arith, refl, sym, subst, ◌+◌}
+use Rattle.std.proofs.Common.{arith, refl, sym, ◌∙◌, subst, ◌+◌, ◌≤◌}
+use Rattle.std.proofs.lemmas.Bool.{false≢true}
 use Rattle.om_chirotope.specs.Map.{map_of}
 use Rattle.om_chirotope.proofs.Rows.{AreWritten, none_written, rows_more, rows_skip}
 use Rattle.om_chirotope.proofs.three_terms.fill_rows.Goals as goal
@@ -30,3 +31,28 @@ returns c =
     let low = c.loop-x.auto.x in
     let below = c.loop-x.invariant.below in
     record { lengths = below.lengths; row = λ x xl xh. below.row x xl (omega (arith, over, xh)) }
+
+pub row_of-requires-clause-filled : goal.row_of-requires-clause-filled
+row_of-requires-clause-filled c = c.requires.filled
+
+pub row_of-requires-clause-list : goal.row_of-requires-clause-list
+row_of-requires-clause-list c = c.requires.list
+
+pub row_of-requires-clause-off : goal.row_of-requires-clause-off
+row_of-requires-clause-off c = λ k. false≢true (sym c.if-not-has.true ∙ c.has.ensures.1 k)
+
+pub row_of-requires-clause-place : goal.row_of-requires-clause-place
+row_of-requires-clause-place c =
+    let n = c.requires.n in
+    let over = c.loop-x-test.true in
+    let high : c.loop-x.x ≤ c.args.p.n = omega (arith, n, over) in
+    c.places_with-places.ensures.places c.loop-x.x c.loop-x.auto.x high
+    (λ k. false≢true (sym c.if-not-has.true ∙ c.has.ensures.1 k))
+
+pub listed : goal.listed
+listed c =
+    let low = c.loop-x.auto.x in
+    let over = c.loop-x-test.true in
+    let few = c.requires.high in
+    let room = c.loop-x.invariant.room in
+    omega (arith, low, over, few, room)

@@ -61,3 +61,12 @@ returns c =
       λ t. relations_of_pictures (map_of c.args.raw.now) c.loop-k._k (omega arith) c.loop-k.invariant.balanced,
       λ h. refl,
     )
+
+pub has_relations_at-requires-clause-filled : goal.has_relations_at-requires-clause-filled
+has_relations_at-requires-clause-filled c = c.requires.filled
+
+pub has_relations_at-requires-clause-list : goal.has_relations_at-requires-clause-list
+has_relations_at-requires-clause-list c = c.loop-k.invariant.at.list
+
+pub has_relations_at-requires-clause-n : goal.has_relations_at-requires-clause-n
+has_relations_at-requires-clause-n c = c.loop-k.invariant.at.n_is

@@ -4,6 +4,7 @@ use Rattle.om_signs.proofs.Bits.{bit_within}
 use Rattle.om_chirotope.specs.Map.{map_of}
 use Rattle.om_chirotope.proofs.FirstRow.{relations_of_first_row, relations_of_zeros, triple_from_relations}
 use Rattle.om_chirotope.proofs.RowMasks.{IsLowest, dead_rows, lowest_bit, other_rows, left_bit}
+use Rattle.om_chirotope.proofs.Rows.{filled_zero}
 use Rattle.om_chirotope.proofs.three_terms.has_relations_at.Goals as goal
 
 pub returns-then-live-eq0 : goal.returns-then-live-eq0
@@ -48,3 +49,15 @@ returns c =
           triple_from_relations m c.args.p.elements rows c.fill_rows.ensures first j k low.here
           (bit_within live m.elements j within bj.0) (bit_within live m.elements k within bk.0) all),
     )
+
+pub fill_rows-requires-clause-zero : goal.fill_rows-requires-clause-zero
+fill_rows-requires-clause-zero c = filled_zero c.args.raw.now.elements c.zero-rows.result c.zero-rows.ensures
+
+pub fill_rows-requires-clause-filled : goal.fill_rows-requires-clause-filled
+fill_rows-requires-clause-filled c = c.requires.filled
+
+pub live_rows-live-requires-clause-rows : goal.live_rows-live-requires-clause-rows
+live_rows-live-requires-clause-rows c = c.fill_rows.ensures.lengths
+
+pub are_balanced_from-requires-clause-rows : goal.are_balanced_from-requires-clause-rows
+are_balanced_from-requires-clause-rows c = c.fill_rows.ensures.lengths

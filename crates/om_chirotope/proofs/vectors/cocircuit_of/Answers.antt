@@ -1,5 +1,6 @@
-use Rattle.std.proofs.Common.{arith, ◌∙◌, ap, length}
-use Rattle.std.proofs.lemmas.List.{length-set}
+use Rattle.std.proofs.Common.{arith, ◌∙◌, ◌≤◌, ap, length}
+use Rattle.std.proofs.lemmas.List.{length-set, length-replicate}
+use Rattle.om_signs.specs.declared.sign.Sign.TheVariants.{Zero}
 use Rattle.om_laws.specs.Relations.{along}
 use Rattle.om_chirotope.specs.Map.{map_of, value_of}
 use Rattle.om_chirotope.proofs.Places.{vector_is, vector_more}
@@ -19,3 +20,20 @@ loop-e-preserved c =
           (vector_more c.loop-e.e (along (value_of (map_of c.args.raw.now)) c.args.a.elements) c.loop-e.vector _
           (omega arith) (omega arith) c.cocircuit_sign.ensures c.loop-e.invariant.done);
     }
+
+pub loop-e-init : goal.loop-e-init
+loop-e-init c = record {
+  len = ap length c.zero-vector.ensures ∙ length-replicate c.args.raw.now.elements Zero;
+  done = λ k l. absurd (omega (arith, l));
+}
+
+pub cocircuit_sign-requires-clause-place : goal.cocircuit_sign-requires-clause-place
+cocircuit_sign-requires-clause-place c = λ out.
+    let low : 1 ≤ c.loop-e.e = c.loop-e.auto.e in
+    let n = c.requires.n in
+    let test = c.loop-e-test.true in
+    let high : c.loop-e.e ≤ c.args.a.n = omega (arith, n, test) in
+    c.places_with-places.ensures.places c.loop-e.e low high out
+
+pub cocircuit_sign-requires-clause-list : goal.cocircuit_sign-requires-clause-list
+cocircuit_sign-requires-clause-list c = c.places_with-places.ensures.list

@@ -1,6 +1,54 @@
 use Rattle.std.proofs.Common.{lit<, ◌∙◌}
-use Rattle.om_vectors.proofs.Sizes.{one, plus, minus, read_back}
+use Rattle.om_vectors.proofs.Sizes.{one, plus, minus, read_back, coordinate_back}
 use Rattle.om_vectors.proofs.triple_products.triple.Goals as goal
+
+pub product-requires : goal.product-requires
+product-requires c =
+    record {
+      x = coordinate_back c.x.result c.x.ensures.size;
+      y = coordinate_back c.y.result c.y.ensures.size;
+      z = coordinate_back c.z.result c.z.ensures.size;
+    }
+
+pub product-requires-2 : goal.product-requires-2
+product-requires-2 c =
+    record {
+      x = coordinate_back c.x-2.result c.x-2.ensures.size;
+      y = coordinate_back c.z-2.result c.z-2.ensures.size;
+      z = coordinate_back c.y-2.result c.y-2.ensures.size;
+    }
+
+pub product-requires-3 : goal.product-requires-3
+product-requires-3 c =
+    record {
+      x = coordinate_back c.y-3.result c.y-3.ensures.size;
+      y = coordinate_back c.z-3.result c.z-3.ensures.size;
+      z = coordinate_back c.x-3.result c.x-3.ensures.size;
+    }
+
+pub product-requires-4 : goal.product-requires-4
+product-requires-4 c =
+    record {
+      x = coordinate_back c.y-4.result c.y-4.ensures.size;
+      y = coordinate_back c.x-4.result c.x-4.ensures.size;
+      z = coordinate_back c.z-4.result c.z-4.ensures.size;
+    }
+
+pub product-requires-5 : goal.product-requires-5
+product-requires-5 c =
+    record {
+      x = coordinate_back c.z-5.result c.z-5.ensures.size;
+      y = coordinate_back c.x-5.result c.x-5.ensures.size;
+      z = coordinate_back c.y-5.result c.y-5.ensures.size;
+    }
+
+pub product-requires-6 : goal.product-requires-6
+product-requires-6 c =
+    record {
+      x = coordinate_back c.z-6.result c.z-6.ensures.size;
+      y = coordinate_back c.y-6.result c.y-6.ensures.size;
+      z = coordinate_back c.x-6.result c.x-6.ensures.size;
+    }
 
 pub overflow_sub-result : goal.overflow_sub-result
 overflow_sub-result c =
