@@ -2,7 +2,7 @@
 --
 -- Main definitions: run_claim, claim_outcome
 -- Main results: claim_comes, claim_from, claim_fault_from, claim_fault_comes
-use Rattle.std.proofs.Common.{◌≡◌, ℕ, ◌+◌, List, [], ◌∷◌, ◌++◌, true, refl, ap, subst, ◌∙◌}
+use Rattle.std.proofs.Common.{◌≡◌, ℕ, List, [], ◌∷◌, ◌++◌, true, refl, ap, subst, ◌∙◌}
 use Rattle.std.specs.Prelude.{Option, Some, Result, Ok, Err, codes}
 use Rattle.std.specs.List.{list_all}
 use Rattle.om_signs.proofs.Results.{ok-injective}

@@ -1,4 +1,5 @@
 pub mod NumberLaws
+pub mod NextItems
 pub mod Readings
 pub mod BlockForms
 pub mod BlockParts

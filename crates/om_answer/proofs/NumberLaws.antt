@@ -1,13 +1,14 @@
 -- Numbers of a line that are read one by one.
 --
 -- Main definitions: continued
--- Main results: no_word, other_number, next_number, all_numbers
+-- Main results: no_word, other_number, next_number, all_numbers; no_plain, next_plain, all_plain
 use Rattle.std.proofs.Common.{◌≡◌, ℕ, suc, ◌+◌, ◌<◌, ◌≤◌, List, true, false, not, [], ◌∷◌, ◌++◌, length, refl, ap, drop}
 use Rattle.std.proofs.Common.{take, take-suc, take_all, get_or, append_assoc, append-nil, drop-cons, arith}
 use Rattle.std.specs.Prelude.{ℤ, Option, Some, None}
 use Rattle.std.proofs.lemmas.List.{drop_all}
 use Rattle.om_lines.specs.Lines.{has_any}
-use Rattle.om_document.specs.Heading.{with_item}
+use Rattle.om_lines.specs.Words.{plain}
+use Rattle.om_document.specs.Heading.{with_item, plain_numbers}
 use Rattle.om_answer.specs.declared.range.Range.{Range}
 use Rattle.om_answer.specs.declared.range.Range.TheVariants.{Between}
 use Rattle.om_answer.specs.Numbers.{number_within, numbers_within, IsIn, AreIn}
@@ -68,3 +69,19 @@ in_more rs i zs z lt h k =
 
 pub in_all : (rs : List Range) (i : ℕ) (zs : List ℤ) → length rs ≤ i → AreIn (take i rs) zs → AreIn rs zs
 in_all rs i zs le h = let e = take_all i rs le in rw e at h
+
+-- numbers that words spell: where the next word spells none, where it spells one, and where no word is left
+pub no_plain : (vs ws : List (List ℕ)) (w : List ℕ) (xs : List ℕ) → vs ≡ w ∷ ws → plain w ≡ None
+    → continued xs (plain_numbers vs) ≡ None
+no_plain vs ws w xs e h = rw (e, h) refl
+
+pub next_plain : (vs ws : List (List ℕ)) (w : List ℕ) (xs ys : List ℕ) (n : ℕ) → vs ≡ w ∷ ws → plain w ≡ Some n
+    → ys ≡ xs ++ n ∷ [] → continued ys (plain_numbers ws) ≡ continued xs (plain_numbers vs)
+next_plain vs ws w xs ys n e h y = rw (e, h, y) (joined (plain_numbers ws))
+  where
+    joined : (o : Option (List ℕ)) → continued (xs ++ n ∷ []) o ≡ continued xs (with_item (Some n) o)
+    joined None = refl
+    joined (Some zs) = ap (λ x. Some x) (append_assoc xs (n ∷ []) zs)
+
+pub all_plain : (vs : List (List ℕ)) (xs : List ℕ) → vs ≡ [] → continued xs (plain_numbers vs) ≡ Some xs
+all_plain vs xs e = rw e (ap (λ x. Some x) (append-nil xs))

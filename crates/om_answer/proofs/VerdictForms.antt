@@ -12,12 +12,10 @@ use Rattle.std.proofs.lemmas.Bool.{leb-true, ltb-true, cases_Bool, and_parts}
 use Rattle.std.proofs.lemmas.Int.{ints}
 use Rattle.std.proofs.lemmas.List.Elements.{All-nil, All-cons}
 use Rattle.om_signs.specs.declared.limits.TheConstants.{MAX_PIVOTS, MAX_PLAIN, MAX_PLAIN_DIGITS}
-use Rattle.om_vectors.specs.WholeVectors.{WholeVector, IsWithinLimit}
+use Rattle.om_vectors.specs.WholeVectors.{IsWithinLimit}
 use Rattle.om_vectors.specs.declared.unfound.Unfound.{Unfound}
 use Rattle.om_grassmann.specs.Statements.{IsElement}
 use Rattle.om_simplex.specs.declared.stage.Stage.{Stage}
-use Rattle.om_certificate.specs.declared.entry.Entry.{Entry}
-use Rattle.om_certificate.specs.declared.weight.Weight.{Weight}
 use Rattle.om_certificate.specs.declared.lp_end.LpEnd.{LpEnd}
 use Rattle.om_certificate.specs.declared.verdict.Verdict.{Verdict}
 use Rattle.om_certificate.specs.Forms.{IsEntryInForm, IsWeightInForm, IsEndInForm, IsSearchInForm, IsVerdictInForm}

@@ -16,3 +16,4 @@ pub mod Reread
 pub mod RereadTwo
 pub mod Sizes
 pub mod Feeds
+pub mod Pushes

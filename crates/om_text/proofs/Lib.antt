@@ -17,6 +17,7 @@ pub mod Numbers
 pub mod Forms
 pub mod Joined
 pub mod Small
+pub mod PartSteps
 mod Samples
 mod ListSamples
 mod SettingSamples

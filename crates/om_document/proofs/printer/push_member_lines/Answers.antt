@@ -1,6 +1,13 @@
 use Rattle.om_document.proofs.Printing.{members_more}
+use Rattle.om_document.specs.Print.{text_of, member_lines}
+use Rattle.om_document.proofs.Pushes.{taken_all}
 use Rattle.om_document.proofs.printer.push_member_lines.Goals as goal
 
 pub loop-member-preserved : goal.loop-member-preserved
 loop-member-preserved c = members_more c.args.out.now.items _ _ c.args.members.now c.loop-member.member-index
     c.member-item.result c.loop-member-test.true c.member-item.is c.loop-member.invariant c.in_ok-push_member.ensures
+
+pub returns : goal.returns
+returns c =
+    taken_all (λ ms. text_of (member_lines ms)) c.args.members.now c.loop-member.member-index c.loop-member.out.items
+    c.args.out.now.items c.loop-member-test.false c.loop-member.invariant

@@ -3,6 +3,7 @@ use Rattle.std.specs.Prelude.{bytes_eq}
 use Rattle.std.specs.List.{list_any}
 use Rattle.om_lines.specs.Lines.{runs}
 use Rattle.om_document.proofs.NameForms.{AreKept, one_too_many, name_again, kept_more}
+use Rattle.om_text.proofs.PartSteps.{name_refused, all_names, names_missing}
 use Rattle.om_text.proofs.setting_lines.names_on.Goals as goal
 use Rattle.om_text.proofs.setting_lines.names_on.Goals.{then-len-elements-via-then-len-elements}
 use Rattle.om_text.proofs.setting_lines.names_on.Goals.{then-len-elements-via-else-len-elements+then-has_name}
@@ -36,3 +37,19 @@ loop-word-preserved c =
           (sym c.new.ensures ∙ c.in-Some-new.is) e);
       few = omega arith;
     }
+
+pub returns-in_default-new : goal.returns-in_default-new
+returns-in_default-new c =
+    name_refused c.args.elements (runs c.args.words.now) c.loop-word.names c.in-Some.word.now (runs c.in-Some.after.now)
+    (runs c.loop-word.rest.now) c.new.result c.loop-word.invariant.kept c.in-Some.ensures.words c.in_default-new.is
+    c.new.ensures
+
+pub returns-then-len-elements-2 : goal.returns-then-len-elements-2
+returns-then-len-elements-2 c =
+    all_names c.args.elements c.len-2.result (runs c.args.words.now) c.loop-word.names (runs c.loop-word.rest.now)
+    c.loop-word.invariant.kept c.in_default.ensures.words c.len-2.ensures c.if-len-elements-2.true
+
+pub returns-else-len-elements-2 : goal.returns-else-len-elements-2
+returns-else-len-elements-2 c =
+    names_missing c.args.elements c.len-2.result (runs c.args.words.now) c.loop-word.names (runs c.loop-word.rest.now)
+    c.loop-word.invariant.kept c.in_default.ensures.words c.len-2.ensures c.if-len-elements-2.false

@@ -1,0 +1,189 @@
+-- What the parts of the reader return on one more line.
+--
+-- Main definitions: list_within_limit
+-- Main results: memory_out, point_unread, point_beyond, point_added, word_refused, block_added, list_length,
+-- list_refused, list_added, still_refused, names_taken, no_names_taken, name_refused, all_names, names_missing, closed,
+-- not_closed
+use Rattle.std.proofs.Common.{◌≡◌, ℕ, ◌<◌, ◌≤◌, List, [], ◌∷◌, ◌++◌, Bool, true, false, cond, length, refl, sym, ap}
+use Rattle.std.proofs.Common.{subst, ◌∙◌, append_assoc, append-nil, arith, inl, inr}
+use Rattle.std.specs.Prelude.{ℤ, Option, Some, None, Result, Ok, Err, IsErrAnd, nat_eq, nat_le, ◌&&◌, ◌≢◌}
+use Rattle.std.specs.List.{concat, list_all}
+use Rattle.std.proofs.Math.Bool.{and-false}
+use Rattle.std.proofs.lemmas.Bool.{le-leb, lt-leb, leb-false, eqb-true, eq-eqb, ne_eqb, cases_Bool}
+use Rattle.std.proofs.lemmas.List.{length_push}
+use Rattle.std.proofs.lemmas.List.Folds.{list_all-append}
+use Rattle.om_signs.specs.declared.sign.Sign.{Sign}
+use Rattle.om_signs.specs.declared.block.Block.{Block}
+use Rattle.om_signs.specs.declared.limits.TheConstants.{MAX_MEMBERS}
+use Rattle.om_document.specs.declared.document.Document.{Document}
+use Rattle.om_document.specs.declared.body.Body.{Body}
+use Rattle.om_document.specs.declared.body.Body.TheVariants.{Points}
+use Rattle.om_document.specs.declared.code.Code.{Code}
+use Rattle.om_document.specs.declared.code.Code.TheVariants as code
+use Rattle.om_document.specs.declared.setting.Setting.{Setting}
+use Rattle.om_document.specs.Document.{has_length_in, is_complete}
+use Rattle.om_document.specs.Names.{is_name, are_different, are_names}
+use Rattle.om_document.specs.Settings.{other_words, is_names_line}
+use Rattle.om_document.proofs.NameForms.{AreKept, names_in}
+use Rattle.om_document.specs.Blocks.{block_of, blocks_on}
+use Rattle.om_document.specs.Points.{point_of}
+use Rattle.om_text.specs.declared.refusal.Refusal.{Refusal}
+use Rattle.om_text.specs.declared.refusal.Refusal.TheVariants as refusal
+use Rattle.om_text.specs.declared.draft.Draft.{Draft}
+use Rattle.om_text.specs.declared.state.State.TheVariants.{Open, Closed}
+use Rattle.om_text.specs.Reading.{with_names, after_choice, after_names, finished_draft, after_end}
+use Rattle.om_text.specs.ReaderParts.{IsStepUnlessMemory, members_within_limit, blocks_with_line, body_with_line}
+
+-- nothing is said of a part that memory ran out in
+pub memory_out : {A : Type 0} (r : Result A Refusal) (read : Result A Code) → IsErrAnd r (λ e. e ≡ refusal.Memory)
+    → IsStepUnlessMemory r read
+memory_out (Ok x) read h = absurd h
+memory_out (Err e) read h = rw h tt
+
+-- ---- lines of points
+
+-- a line that spells no point
+pub point_unread : (s : Setting) (n : ℕ) (ps : List (List ℤ)) (w : List (List ℕ)) (o : Option (List ℤ)) → o ≡ None
+    → o ≡ point_of w → body_with_line s n (Points ps) w ≡ Err code.Number
+point_unread s n ps w o e h = rw (← h, e) refl
+
+-- a point after the last
+pub point_beyond : (s : Setting) (n : ℕ) (ps : List (List ℤ)) (w : List (List ℕ)) (o : Option (List ℤ)) (p : List ℤ)
+    (k : ℕ) → o ≡ Some p → o ≡ point_of w → k ≡ length ps → n ≤ k → body_with_line s n (Points ps) w ≡ Err code.Many
+point_beyond s n ps w o p k e h l m =
+    rw (← h, e, lt-leb (length (ps ++ p ∷ [])) n (omega (arith, length_push ps p))) refl
+
+-- one more point
+pub point_added : (s : Setting) (n : ℕ) (ps qs : List (List ℤ)) (w : List (List ℕ)) (o : Option (List ℤ)) (p : List ℤ)
+    (k : ℕ) → o ≡ Some p → o ≡ point_of w → k ≡ length ps → k < n → qs ≡ ps ++ p ∷ []
+    → body_with_line s n (Points ps) w ≡ Ok (Points qs)
+point_added s n ps qs w o p k e h l m q =
+    rw (← h, e, le-leb (length (ps ++ p ∷ [])) n (omega (arith, length_push ps p)), q) refl
+
+-- ---- lines of wirings
+
+-- a word that is no block
+pub word_refused : (bs : List Block) (w vs : List (List ℕ)) (v : List ℕ) (o : Option Block)
+    (read : Result (List Block) Code) → o ≡ None → o ≡ block_of v → w ≡ v ∷ vs → blocks_with_line bs w ≡ read
+    → read ≡ Err code.Block
+word_refused bs w vs v o read e h q i = sym i ∙ rw (q, ← h, e) refl
+
+-- one more block
+pub block_added : (bs cs : List Block) (w vs : List (List ℕ)) (v : List ℕ) (o : Option Block) (b : Block)
+    (read : Result (List Block) Code) → o ≡ Some b → o ≡ block_of v → w ≡ v ∷ vs → cs ≡ bs ++ b ∷ []
+    → blocks_with_line bs w ≡ read → blocks_with_line cs vs ≡ read
+block_added bs cs w vs v o b read e h q n i =
+    rw (n, append_assoc bs (b ∷ []) (blocks_on vs)) (sym (rw (q, ← h, e) refl) ∙ i)
+
+-- ---- lines of lists
+
+-- a line of a list has a sign for each element
+pub list_length : (x b : Body) (n : ℕ) (w : List (List ℕ)) → b ≡ x
+    → has_length_in x n w ≡ nat_eq (length (concat w)) n → has_length_in b n w ≡ true → length (concat w) ≡ n
+list_length x b n w e l h = eqb-true _ _ (sym l ∙ subst (λ b. has_length_in b n w ≡ true) e h)
+
+-- the body that K makes of the members of a list, if they are no more than allowed
+abbrev pub list_within_limit : (List (List Sign) → Body) → List (List Sign) → Result Body Code
+list_within_limit K ms = cond (nat_le (length ms) MAX_MEMBERS) (Ok (K ms)) (Err code.Many)
+
+-- a list is refused as its members are
+pub list_refused : (K : List (List Sign) → Body) (ms : List (List Sign)) (e : Refusal) (r : Result Body Refusal)
+    (read : Result Body Code) → read ≡ list_within_limit K ms → IsErrAnd r (λ x. x ≡ e)
+    → IsStepUnlessMemory {A = List (List Sign)} (Err e) (members_within_limit ms) → IsStepUnlessMemory r read
+list_refused K ms refusal.Memory r read q x h = memory_out r read x
+list_refused K ms (refusal.Line c) (Ok b) read q x h = absurd x
+list_refused K ms (refusal.Line c) (Err e) read q x h = rw x (q ∙ at (nat_le (length ms) MAX_MEMBERS) c h)
+  where
+    at : (b : Bool) (c : Code) → cond b (Ok ms) (Err code.Many) ≡ Err c → cond b (Ok (K ms)) (Err code.Many) ≡ Err c
+    at true c h = cc
+    at false c h = let q : code.Many ≡ c = cc in ap Err q
+
+-- a list goes on with its members
+pub list_added : (K : List (List Sign) → Body) (ms xs : List (List Sign)) (read : Result Body Code)
+    → read ≡ list_within_limit K ms → members_within_limit ms ≡ Ok xs → read ≡ Ok (K xs)
+list_added K ms xs read q h = q ∙ at (nat_le (length ms) MAX_MEMBERS) h
+  where
+    at : (b : Bool) → cond b (Ok ms) (Err code.Many) ≡ Ok xs → cond b (Ok (K ms)) (Err code.Many) ≡ Ok (K xs)
+    at true h = let q : ms ≡ xs = cc in ap (λ m. Ok (K m)) q
+    at false h = cc
+
+-- members that are too many stay too many
+pub still_refused : (ms ns : List (List Sign)) (e : Refusal) (r : Result (List (List Sign)) Refusal)
+    → length ms ≤ length ns → IsErrAnd r (λ x. x ≡ e)
+    → IsStepUnlessMemory {A = List (List Sign)} (Err e) (members_within_limit ms)
+    → IsStepUnlessMemory r (members_within_limit ns)
+still_refused ms ns refusal.Memory r l x h = memory_out r (members_within_limit ns) x
+still_refused ms ns (refusal.Line c) (Ok b) l x h = absurd x
+still_refused ms ns (refusal.Line c) (Err e) l x h = rw x (elim (cases_Bool (nat_le (length ms) MAX_MEMBERS)) [
+  | inl y ↦ let z = rw y at h in cc
+  | inr n ↦ let z = rw n at h in
+      let m = leb-false (length ms) MAX_MEMBERS n in
+      rw (lt-leb (length ns) MAX_MEMBERS (omega arith)) z
+])
+
+-- ---- setting lines
+
+-- a line that gives names
+pub names_taken : (d : Draft) (w names : List (List ℕ)) (o : Option (List (List ℕ))) → o ≡ Some names
+    → o ≡ cond (is_names_line d.document.elements w) (Some (other_words w)) None
+    → after_names d w ≡ Ok (Open (with_names d names))
+names_taken d w names o e h = at (is_names_line d.document.elements w) (sym e ∙ h)
+  where
+    at : (b : Bool) → Some names ≡ cond b (Some (other_words w)) None
+        → cond b (Ok (Open (with_names d (other_words w)))) (after_choice d w) ≡ Ok (Open (with_names d names))
+    at true h = let q : names ≡ other_words w = cc in ap (λ x. Ok (Open (with_names d x))) (sym q)
+    at false h = cc
+
+-- a line that gives none
+pub no_names_taken : (d : Draft) (w : List (List ℕ)) (o : Option (List (List ℕ))) → o ≡ None
+    → o ≡ cond (is_names_line d.document.elements w) (Some (other_words w)) None → after_names d w ≡ after_choice d w
+no_names_taken d w o e h = at (is_names_line d.document.elements w) (sym e ∙ h)
+  where
+    at : (b : Bool) → None ≡ cond b (Some (other_words w)) None
+        → cond b (Ok (Open (with_names d (other_words w)))) (after_choice d w) ≡ after_choice d w
+    at true h = cc
+    at false h = refl
+
+-- ---- names
+
+-- a word that is no name
+pub name_refused : (n : ℕ) (ws ns : List (List ℕ)) (w : List ℕ) (more rest : List (List ℕ)) (o : Option (List ℕ))
+    → AreKept ws ns rest → rest ≡ w ∷ more → o ≡ None → o ≡ cond (is_name w) (Some w) None → None ≡ names_in n ws
+name_refused n ws ns w more rest o k r e h =
+    let f : is_name w ≡ false = at (is_name w) (sym e ∙ h) in
+    let g : list_all is_name ws ≡ false = ap (list_all is_name) (k.same ∙ ap (λ x. ns ++ x) r)
+    ∙ list_all-append is_name ns (w ∷ more) ∙ rw (k.names, f) refl in
+    let a : are_names n ws ≡ false = ap (λ b. nat_eq (length ws) n && b && are_different ws) g
+    ∙ ap (λ b. b && are_different ws) (and-false (nat_eq (length ws) n)) in
+    rw a refl
+  where
+    at : (b : Bool) → None ≡ cond b (Some w) None → b ≡ false
+    at true h = cc
+    at false h = refl
+
+all_words : (ws ns rest : List (List ℕ)) → AreKept ws ns rest → rest ≡ [] → ns ≡ ws
+all_words ws ns rest k r = sym (k.same ∙ ap (λ x. ns ++ x) r ∙ append-nil ns)
+
+-- a name for each element, and no words are left
+pub all_names : (n m : ℕ) (ws ns rest : List (List ℕ)) → AreKept ws ns rest → rest ≡ [] → m ≡ length ns → m ≡ n
+    → Some ns ≡ names_in n ws
+all_names n m ws ns rest k r l e =
+    subst (λ x. Some ns ≡ names_in n x) (all_words ws ns rest k r)
+    (rw (eq-eqb (length ns) n (sym l ∙ e), k.names, k.different) refl)
+
+-- more or fewer names than elements, and no words are left
+pub names_missing : (n m : ℕ) (ws ns rest : List (List ℕ)) → AreKept ws ns rest → rest ≡ [] → m ≡ length ns → m ≢ n
+    → None ≡ names_in n ws
+names_missing n m ws ns rest k r l e =
+    subst (λ x. None ≡ names_in n x) (all_words ws ns rest k r) (rw (ne_eqb (length ns) n (λ q. e (l ∙ q))) refl)
+
+-- ---- the end line
+
+-- the body is complete
+pub closed : (d : Draft) (b : Bool) (x : Document) → b ≡ is_complete d.document → b ≡ true → x ≡ finished_draft d
+    → after_end d ≡ Ok (Closed x)
+closed d b x h e q = rw (← h, e, q) refl
+
+-- the body isn't complete
+pub not_closed : (d : Draft) (b : Bool) → b ≡ is_complete d.document → b ≡ false → after_end d ≡ Err code.Few
+not_closed d b h e = rw (← h, e) refl
