@@ -1,7 +1,7 @@
 -- Tables of how often each triple stands on a side.
 --
 -- Main results: raised, what two additions do to a table; none_counted and one_counted, the start and the step of the
--- count.
+-- count; lawful_distinct, the elements of a lawful statement.
 use Rattle.std.specs.Prelude.{ℕ, ◌≡◌, ◌+◌, ◌*◌, ◌<◌, ◌≤◌, ◌^◌, List, length, take, cond, nat_eq, sum_by, All}
 use Rattle.std.proofs.Common.{refl, sym, ◌∙◌, ap, subst, arith, inl, inr}
 use Rattle.std.proofs.Math.ListN.{get_or, set}
@@ -12,6 +12,9 @@ use Rattle.om_signs.specs.declared.limits.TheConstants.{MAX_MULTIPLICITY, MAX_EN
 use Rattle.om_subsets.specs.Subsets.{choose, rank_of, IsTriple}
 use Rattle.om_subsets.specs.Members.{Chosen}
 use Rattle.om_subsets.proofs.Triples.{place_below}
+use Rattle.om_chirotope.specs.Map.{SignMap}
+use Rattle.om_grassmann.specs.declared.statement.Statement.{Statement}
+use Rattle.om_grassmann.specs.Statements.{IsLawful}
 use Rattle.om_grassmann.specs.Sides as sides
 use Rattle.om_certificate.specs.declared.entry.Entry.{Entry}
 use Rattle.om_certificate.specs.Certificates.{times_among, times_in, is_same}
@@ -119,6 +122,32 @@ one_counted n es i d small big small' big' l t h s b = record {
   where
     more : (f : Entry → ℕ) → sum_by f (take (i + 1) es) ≡ sum_by f (take i es) + f (get_or es i d)
     more f = sum_by_more f es i d l
+
+-- the elements of a lawful statement are distinct
+pub lawful_distinct : (n : ℕ) (m : SignMap) (st : Statement) → n ≡ m.elements → IsLawful m st → sides.AreDistinct n st
+lawful_distinct n m st e h =
+    let p = h.placed in
+    let al = p.a.low in
+    let ah = p.a.high in
+    let b = p.b in
+    let bc = p.b_c in
+    let cd = p.c_d in
+    let de = p.d_e in
+    let eh = p.e in
+    record {
+      a = record { low = al; high = omega arith };
+      b = record { low = b; high = omega arith };
+      c = record { low = omega arith; high = omega arith };
+      d = record { low = omega arith; high = omega arith };
+      e = record { low = omega arith; high = omega arith };
+      apart = p.apart;
+      b_c = λ q. omega arith;
+      b_d = λ q. omega arith;
+      b_e = λ q. omega arith;
+      c_d = λ q. omega arith;
+      c_e = λ q. omega arith;
+      d_e = λ q. omega arith;
+    }
 
 -- the two sets are the brackets of a side
 pub raised_side : (n k times : ℕ) (s t : Chosen) (b c : List ℕ) (old new : List ℕ) → k ≡ n → sides.IsTriple k b s

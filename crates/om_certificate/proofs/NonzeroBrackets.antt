@@ -2,15 +2,17 @@
 --
 -- Main definitions: nonzero_below, IsMatching
 -- Main results: below_all, below_more, more_nonzero, more_zero, below_length, below_take, next_nonzero, more_length,
--- bracket_triples, next_within, one_matched, none_matched, first_other, all_matched
+-- bracket_triples, next_within, next_most, next_fits, one_matched, none_matched, first_other, all_matched
 use Rattle.std.specs.Prelude.{ℕ, ◌≡◌, ◌+◌, ◌<◌, ◌≤◌, true, false, List, [], ◌∷◌, ◌++◌, length, map, filter, cond, take}
 use Rattle.std.specs.Prelude.{drop, slice_get, Some, All}
-use Rattle.std.proofs.Common.{refl, sym, ◌∙◌, ap, arith}
+use Rattle.std.proofs.Common.{refl, sym, ◌∙◌, ap, arith, Fits}
 use Rattle.std.proofs.Math.ListN.{get_or}
+use mir.Syntax.{w32}
 use Rattle.std.proofs.lemmas.List.{take_all, length-append, take-append-drop, take_more, map-append, append-nil}
 use Rattle.std.proofs.lemmas.Option.{slice_get-get_or, same_Some}
 use Rattle.std.proofs.lemmas.List.Elements.{filter_more, filter-append, All-filter, All-from_get_or}
 use Rattle.std.proofs.Math.Seq.{take-append_seam}
+use Rattle.om_signs.specs.declared.limits.TheConstants.{MAX_ENTRIES}
 use Rattle.om_subsets.specs.Subsets.{all_subsets, choose, subset_at, IsTriple}
 use Rattle.om_subsets.proofs.Order.{length-subsets_from}
 use Rattle.om_subsets.proofs.Triples.{triple_of_place}
@@ -102,6 +104,16 @@ pub next_within : (m : SignMap) (ws : List Weight) (next k : ℕ) (b : List ℕ)
     → IsMatching m ws next k → next < length ws
 next_within m ws next k b l e n s h = let f = more_length m k b l e n in let g = below_length m (k + 1) in let q =
     h.counts in omega (arith, f, g)
+
+-- the weights that are matched are at most all of them
+pub next_most : (m : SignMap) (ws : List Weight) (next k : ℕ) → length ws ≡ length (nonzero_brackets m)
+    → IsMatching m ws next k → next ≤ length ws
+next_most m ws next k s h = let g = below_length m k in let q = h.counts in omega (arith, g)
+
+-- the number of the next weight, counted from 1, fits 32 bits
+pub next_fits : (m : SignMap) (ws : List Weight) (next k : ℕ) → length ws ≡ length (nonzero_brackets m)
+    → length ws ≤ MAX_ENTRIES → IsMatching m ws next k → Fits w32 (next + 1)
+next_fits m ws next k s few h = let l = next_most m ws next k s h in omega arith
 
 pub one_matched : (m : SignMap) (ws : List Weight) (next k : ℕ) (d : Weight) (b : List ℕ) → k < choose m.elements 3
     → b ≡ subset_at m.elements 3 k → is_nonzero (chi_of m b) ≡ true → next < length ws

@@ -1,14 +1,15 @@
 -- Reasons of refusals from the values that the code has.
 --
--- Main results: vectors_refused, weights_refused, weight_of_triple, all_balanced, unbalanced_refused
-use Rattle.std.specs.Prelude.{ℕ, ◌≡◌, ◌≢◌, ◌<◌, List, length}
+-- Main results: vectors_refused, weights_refused, weight_of_triple, all_balanced, one_balanced, unbalanced_refused
+use Rattle.std.specs.Prelude.{ℕ, ◌≡◌, ◌≢◌, ◌+◌, ◌<◌, List, length}
 use Rattle.std.proofs.Math.ListN.{get_or}
 use Rattle.om_subsets.specs.Subsets.{choose, rank_of, IsTriple}
 use Rattle.om_subsets.proofs.Order.{lexicographic}
 use Rattle.om_certificate.specs.declared.entry.Entry.{Entry}
 use Rattle.om_certificate.specs.Certificates.{AreBalanced, AreLawful, small_times, big_times}
 use Rattle.om_certificate.specs.Refusals.{IsFirstUnbalanced, IsEntryRefusal, unbalanced}
-use Rattle.std.proofs.Common.{sym, ◌∙◌, ap, subst, arith}
+use Rattle.std.proofs.Common.{sym, ◌∙◌, ap, subst, arith, inl, inr}
+use Rattle.std.proofs.lemmas.Bool.{cases_lt}
 use Rattle.om_subsets.specs.Members.{Chosen}
 use Rattle.om_chirotope.specs.Map.{SignMap}
 use Rattle.om_vectors.specs.WholeVectors.{WholeVector}
@@ -40,6 +41,15 @@ pub all_balanced : (m : SignMap) (es : List Entry) (small big : List ℕ) → Ar
     → ((j : ℕ) → j < choose m.elements 3 → get_or small j 0 ≡ get_or big j 0) → AreBalanced m es
 all_balanced m es small big c h b hb = sym (c.small_counts b hb)
     ∙ h (rank_of m.elements b) (place_below m.elements b hb) ∙ c.big_counts b hb
+
+-- the tables agree at one place more
+pub one_balanced : (small big : List ℕ) (place : ℕ) → get_or small place 0 ≡ get_or big place 0
+    → ((j : ℕ) → j < place → get_or small j 0 ≡ get_or big j 0)
+    → (j : ℕ) → j < place + 1 → get_or small j 0 ≡ get_or big j 0
+one_balanced small big place e h j l = elim (cases_lt j place) [
+  | inl before ↦ h j before
+  | inr after ↦ let p : j ≡ place = omega (arith, l, after) in rw p e
+]
 
 is_first_unbalanced :
     (m : SignMap) (es : List Entry) (small big : List ℕ) (place : ℕ) (b : Chosen)

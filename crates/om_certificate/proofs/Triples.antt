@@ -1,8 +1,8 @@
 -- Triples as they stand in tables and certificates.
 --
--- Main results: same-place, triples_room, increasing_triple
+-- Main results: same-place, triples_room, place_in_room, place_within, increasing_triple
 use Rattle.std.specs.Prelude.{ℕ, ◌≡◌, ◌<◌, ◌≤◌, List, [], ◌∷◌, nat_eq}
-use Rattle.std.proofs.Common.{refl, ◌∙◌, ap, arith}
+use Rattle.std.proofs.Common.{refl, ◌∙◌, ap, subst, arith}
 use Rattle.std.proofs.lemmas.Slice.Eq.{bytes_eq-Decides}
 use Rattle.std.proofs.lemmas.Bool.{ne_eqb, lt-ltb}
 use Rattle.std.proofs.lemmas.Bool.Decides.{Decides-eqb, same_from_decides, Decides-like}
@@ -23,6 +23,16 @@ same-place n b c hb hc =
 -- a table for all elements has room for the triples of fewer
 pub triples_room : (n : ℕ) → n ≤ MAX_ELEMENTS → choose n 3 ≤ ROOM
 triples_room n h = let g = choose_grows n MAX_ELEMENTS 3 h in omega arith
+
+-- the places up to the number of triples are places of such a table
+pub place_in_room : (n place end : ℕ) → n ≤ MAX_ELEMENTS → end ≡ choose n 3 → place < end → place < ROOM
+place_in_room n place end h e l = let r = triples_room n h in omega (arith, r, e, l)
+
+-- a table with room for the triples of n elements has the place of a triple of as many elements
+pub place_within : (n m r place most : ℕ) → m ≡ n → r ≡ 3 → place < choose m r → choose n 3 ≤ most → place < most
+place_within n m r place most e t l room =
+    let s : place < choose n 3 = subst (λ k. place < choose k 3) e (subst (λ k. place < choose m k) t l) in
+    omega (arith, s, room)
 
 -- three increasing elements are the elements of their set
 pub increasing_triple : (a b c : ℕ) → a < b → b < c → with_element a (with_element b (c ∷ [])) ≡ a ∷ b ∷ c ∷ []

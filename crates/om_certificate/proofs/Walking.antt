@@ -1,11 +1,16 @@
 -- The walk over the lawful statements in order.
 --
 -- Main definitions: IsWalk
--- Main results: first_unmet_here, met_by_table, nearer_following, walk_following
+-- Main results: first_unmet_here, met_by_table, two_weights, two_weights_fit, sum_of_side, side_sums, nearer_following,
+-- walk_following
 use Rattle.std.specs.Prelude.{ℕ, ◌≡◌, ◌-◌, ◌*◌, ◌^◌, ◌<◌, ℤ, pos, ◌+ℤ◌, Bool, IsTrue, ◌↔◌, List, Option, Some, None}
-use Rattle.std.specs.Prelude.{IsNone, IfSome}
+use Rattle.std.specs.Prelude.{◌≤◌, IsNone, IfSome, unsigned_abs, FitsSigned}
 use Rattle.std.proofs.Math.ListN.{get_or}
 use Rattle.std.proofs.Common.{refl, sym, ◌∙◌, ap, subst, arith, inl, inr, ◌⊎◌}
+use Rattle.std.proofs.lemmas.Int.{ints}
+use mir.Syntax.{w128}
+use mir.Val.{to_z, of_z}
+use Rattle.om_signs.specs.declared.limits.TheConstants.{MAX_WEIGHT}
 use Rattle.om_chirotope.specs.Map.{SignMap}
 use Rattle.om_grassmann.specs.declared.statement.Statement.{Statement}
 use Rattle.om_grassmann.specs.Statements.{IsLawful}
@@ -14,9 +19,11 @@ use Rattle.om_grassmann.specs.Walk.{place, frame_place}
 use Rattle.om_grassmann.proofs.Places.{lawful_places}
 use Rattle.om_certificate.specs.declared.weight.Weight.{Weight}
 use Rattle.om_subsets.specs.Subsets.{rank_of, IsTriple}
+use Rattle.om_subsets.specs.Members.{Chosen}
+use Rattle.om_grassmann.specs.Sides as sides
 use Rattle.om_grassmann.specs.Sides.{first_bracket, second_bracket}
 use Rattle.om_certificate.specs.Weights.{IsMetBy, Compares, weight_of, term_weight}
-use Rattle.om_certificate.specs.Tables.{IsWeightTable, sum_at}
+use Rattle.om_certificate.specs.Tables.{IsWeightTable, AreSmall, sum_at}
 use Rattle.om_certificate.proofs.Exclusion.{lawful_triples}
 use Rattle.om_certificate.specs.Refusals.{IsFirstUnmet}
 
@@ -93,6 +100,40 @@ met_by_table m n ws table st b e h l t =
     subst (λ x. IsTrue b ↔ Compares st.strict x (term_weight ws st st.big)) s
     (subst (λ x. IsTrue b ↔ Compares st.strict (sum_at m.elements table st st.small) x) g
     (subst (λ k. IsTrue b ↔ Compares st.strict (sum_at k table st st.small) (sum_at k table st st.big)) e t))
+
+-- the sum of two weights, which are read back from 128 bits as the sum is
+pub two_weights : (table : List ℤ) (i j p q : ℕ) → AreSmall table → i ≡ p → j ≡ q
+    → to_z w128 (of_z w128 (to_z w128 (of_z w128 (get_or table i (pos 0)))
+    +ℤ to_z w128 (of_z w128 (get_or table j (pos 0))))) ≡ get_or table p (pos 0) +ℤ get_or table q (pos 0)
+two_weights table i j p q small e f =
+    rw (e, f) (read (get_or table p (pos 0)) (get_or table q (pos 0)) (small p) (small q))
+  where
+    read : (x y : ℤ) → unsigned_abs x ≤ unsigned_abs MAX_WEIGHT → unsigned_abs y ≤ unsigned_abs MAX_WEIGHT
+        → to_z w128 (of_z w128 (to_z w128 (of_z w128 x) +ℤ to_z w128 (of_z w128 y))) ≡ x +ℤ y
+    read x y hx hy = omega (arith, ints)
+
+-- the sum of two weights fits 128 bits
+pub two_weights_fit : (table : List ℤ) (i j : ℕ) → AreSmall table
+    → FitsSigned w128 (to_z w128 (of_z w128 (get_or table i (pos 0))) +ℤ to_z w128 (of_z w128 (get_or table j (pos 0))))
+two_weights_fit table i j small = fit (get_or table i (pos 0)) (get_or table j (pos 0)) (small i) (small j)
+  where
+    fit : (x y : ℤ) → unsigned_abs x ≤ unsigned_abs MAX_WEIGHT → unsigned_abs y ≤ unsigned_abs MAX_WEIGHT
+        → FitsSigned w128 (to_z w128 (of_z w128 x) +ℤ to_z w128 (of_z w128 y))
+    fit x y hx hy = omega (arith, ints)
+
+-- the sum over the sets of the two brackets of a side
+pub sum_of_side : (n : ℕ) (table : List ℤ) (st : Statement) (i : ℕ) (s t : Chosen) (z : ℤ)
+    → sides.IsTriple n (first_bracket st i) s → sides.IsTriple n (second_bracket st i) t
+    → z ≡ get_or table (rank_of s.n s.elements) (pos 0) +ℤ get_or table (rank_of t.n t.elements) (pos 0)
+    → z ≡ sum_at n table st i
+sum_of_side n table st i s t z hs ht e = rw (sym hs.n, sym hs.elements, sym ht.elements) (subst (λ k. z
+    ≡ get_or table (rank_of s.n s.elements) (pos 0) +ℤ get_or table (rank_of k t.elements) (pos 0)) (ht.n ∙ sym hs.n) e)
+
+-- a test of two sums is one of the sums by the table
+pub side_sums : (strict b : Bool) (x y u v : ℤ) → x ≡ u → y ≡ v → IsTrue b ↔ Compares strict x y
+    → IsTrue b ↔ Compares strict u v
+side_sums strict b x y u v e f h =
+    subst (λ z. IsTrue b ↔ Compares strict u z) f (subst (λ z. IsTrue b ↔ Compares strict z y) e h)
 
 pub nearer_following : (m : SignMap) (s : Statement) (r : Option Statement) → m.elements < 256 → IsLawful m s
     → IfSome r (λ t. IsNext m s t) → left r < left (Some s)

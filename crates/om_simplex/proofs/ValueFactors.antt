@@ -2,7 +2,7 @@
 -- the least one.
 --
 -- Main results: values_sound, least_up, times_small, times_wide, counts_up, least_exists
-use Rattle.std.specs.Prelude.{ℕ, ◌≡◌, ◌+◌, ◌-◌, ◌*◌, ◌/◌, ◌<◌, ◌≤◌, pos, ◌*ℤ◌, ◌<ℤ◌, List, length, take, All}
+use Rattle.std.specs.Prelude.{ℕ, ◌≡◌, ◌+◌, ◌*◌, ◌/◌, ◌<◌, ◌≤◌, pos, ◌*ℤ◌, ◌<ℤ◌, List, length, take, All}
 use Rattle.std.specs.List.{Contains}
 use Rattle.std.proofs.Common.{arith, sym, ◌∙◌, ap, subst, zero, suc, refl, inl, inr, get_or}
 use Rattle.std.proofs.lemmas.Int.{ints}

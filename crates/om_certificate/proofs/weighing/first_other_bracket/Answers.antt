@@ -1,10 +1,10 @@
-use Rattle.std.proofs.Common.{◌≡◌, ◌+◌, ◌<◌, ◌∙◌, refl, ap, sym, subst, arith, pos}
+use Rattle.std.proofs.Common.{◌≡◌, ◌+◌, ◌<◌, ◌≤◌, ◌∙◌, refl, ap, sym, subst, arith, pos}
 use Rattle.om_certificate.specs.declared.weight.Weight.{Weight}
 use Rattle.std.proofs.lemmas.Bool.{false≢true}
-use Rattle.om_subsets.specs.Subsets.{choose}
+use Rattle.om_subsets.specs.Subsets.{choose, IsSubsetFrom}
 use Rattle.om_subsets.proofs.Walks.{IsAt, at_first, at_next, list_at}
-use Rattle.om_certificate.proofs.NonzeroBrackets.{IsMatching, next_within, one_matched, none_matched, first_other}
-use Rattle.om_certificate.proofs.NonzeroBrackets.{all_matched}
+use Rattle.om_certificate.proofs.NonzeroBrackets.{IsMatching, next_within, next_fits, one_matched, none_matched}
+use Rattle.om_certificate.proofs.NonzeroBrackets.{first_other, all_matched}
 use Rattle.om_certificate.proofs.weighing.first_other_bracket.Goals as goal
 use Rattle.om_certificate.proofs.weighing.first_other_bracket.Goals.{then-is_nonzero+else-not-is_weight_of}
 use Rattle.om_certificate.proofs.weighing.first_other_bracket.Goals.{else-is_nonzero}
@@ -79,3 +79,40 @@ returns-clause-none c =
     ∙ ap (λ n. choose n 3) c.elements-n.ensures.value in
     all_matched c.args.chi.now c.args.weights.now c.loop-place.next c.loop-place._place (omega arith) c.requires.number
     c.loop-place.invariant.matching
+
+pub first-bracket-requires-clause-part : goal.first-bracket-requires-clause-part
+first-bracket-requires-clause-part c = subst (λ n. 3 ≤ n) (sym c.elements-n.ensures.value) c.requires.part
+
+pub is_nonzero-requires-clause-n : goal.is_nonzero-requires-clause-n
+is_nonzero-requires-clause-n c = c.loop-place.invariant.at.n_is
+
+pub is_nonzero-requires-clause-size : goal.is_nonzero-requires-clause-size
+is_nonzero-requires-clause-size c = c.loop-place.invariant.at.size
+
+pub is_weight_of-requires-clause-size : goal.is_weight_of-requires-clause-size
+is_weight_of-requires-clause-size c = c.loop-place.invariant.at.size
+
+pub is_weight_of-requires-clause-lawful : goal.is_weight_of-requires-clause-lawful
+is_weight_of-requires-clause-lawful c =
+    subst (λ n. IsSubsetFrom 1 n c.loop-place.bracket.elements) (sym c.loop-place.invariant.at.n_is)
+    c.loop-place.invariant.at.list
+
+pub overflow_add-result : goal.overflow_add-result
+overflow_add-result c =
+    next_fits c.args.chi.now c.args.weights.now c.loop-place.next c.loop-place._place c.requires.number c.requires.few
+    c.loop-place.invariant.matching
+
+pub overflow_cast-result : goal.overflow_cast-result
+overflow_cast-result c =
+    let l = next_fits c.args.chi.now c.args.weights.now c.loop-place.next c.loop-place._place c.requires.number
+    c.requires.few c.loop-place.invariant.matching in omega (arith, l)
+
+pub overflow_add-next : goal.overflow_add-next
+overflow_add-next c =
+    let l = next_fits c.args.chi.now c.args.weights.now c.loop-place.next c.loop-place._place c.requires.number
+    c.requires.few c.loop-place.invariant.matching in omega (arith, l)
+
+pub offset_bounds-weights-next : goal.offset_bounds-weights-next
+offset_bounds-weights-next c =
+    let l = next_fits c.args.chi.now c.args.weights.now c.loop-place.next c.loop-place._place c.requires.number
+    c.requires.few c.loop-place.invariant.matching in omega (arith, l)
