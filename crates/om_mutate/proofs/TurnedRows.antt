@@ -1,8 +1,8 @@
 -- The three-term relations of an element with two others, by its rows with these two, each turned at the place of the
 -- other.
 --
--- Main results: balanced_rows, the relations with z from those of the rows; rows_balanced, and back. The relations with
--- x and y themselves hold in any case.
+-- Main results: balanced_rows, the relations with z from those of the rows; rows_balanced, and back; turned_size, the
+-- length of a turned row. The relations with x and y themselves hold in any case: always_balanced.
 use Rattle.std.specs.Prelude.{ℕ, ◌≡◌, ◌≢◌, ◌+◌, ◌-◌, ◌<◌, List, [], ◌∷◌, length}
 use Rattle.std.proofs.Common.{refl, sym, ap, ◌∙◌, subst, inl, inr, arith}
 use Rattle.std.proofs.lemmas.Bool.{cases_eq}
@@ -24,6 +24,10 @@ use Rattle.om_wiring.proofs.ListedMaps.{swap_last, last_equal}
 use Rattle.om_mutate.specs.Turns.{StaysBalanced, StaysBalancedWith, turned_row}
 
 -- ---- the relations with x and y themselves
+
+-- no relation is asked of x and of y
+pub always_balanced : (m : SignMap) (p x y z : ℕ) → (z ≢ x → z ≢ y → ⊥) → StaysBalancedWith m p x y z
+always_balanced m p x y z h w i = record { signs = λ zx zy wx wy. absurd (h zx zy) }
 
 opposite_pair : (s t : Sign) → AreBalanced (product (opposite s) (opposite t)) (opposite (product t s)) Zero
 opposite_pair Minus Minus = tt
@@ -64,6 +68,11 @@ module _ (m : SignMap) (p : ℕ) where
 
   row_size : (x : ℕ) → length (cocircuit_vector m (p ∷ x ∷ [])) ≡ m.elements
   row_size x = length-as_list m.elements (along (value_of m) (p ∷ x ∷ []))
+
+  -- a turned row has a place for each element
+  pub turned_size : (x y : ℕ) (row : List Sign) → row ≡ turned_row (cocircuit_vector m (p ∷ x ∷ [])) y
+      → length row ≡ m.elements
+  turned_size x y row e = ap length e ∙ length-set _ _ _ ∙ row_size x
 
   -- the turned row of x at y, and elsewhere
   turned_here : (x y : ℕ) → IsElement m.elements y → at_element (turned_row (cocircuit_vector m (p ∷ x ∷ [])) y) y
@@ -174,7 +183,7 @@ module _ (m : SignMap) (p : ℕ) where
           (opposite (product (at_element first z) (at second i))) (product (at first i) (at_element second z))
 
       first_size : length first ≡ m.elements
-      first_size = ap length e1 ∙ length-set _ _ _ ∙ row_size x
+      first_size = turned_size x y first e1
 
       to_code : (i : ℕ) → Turned (i + 1) → Balanced i
       to_code i h =

@@ -2,7 +2,7 @@
 --
 -- Main definitions: AreIncreasing, GoesOn
 -- Main results: same_number, one_element, this_element, this_above, last_of
-use Rattle.std.specs.Prelude.{ℕ, ◌≡◌, ◌<◌, ◌≤◌, ◌+◌, ◌^◌, ◌↔◌, length, map, List, [], ◌∷◌, ◌++◌, refl, Some}
+use Rattle.std.specs.Prelude.{ℕ, ◌≡◌, ◌<◌, ◌≤◌, ◌^◌, ◌↔◌, length, map, List, [], ◌∷◌, ◌++◌, refl, Some}
 use Rattle.std.specs.Fmt.{decimal}
 use Rattle.std.proofs.Common.{arith, ap, subst, sym, ◌∙◌, inl, inr, lit≤}
 use Rattle.std.proofs.lemmas.Bool.{ne_eqb, le-ltb}

@@ -1,13 +1,14 @@
 -- The elements with signs that words list.
 --
 -- Main results: different elements are no more than there are (few_entries); those that words list are different, lie
--- within the limit, and no sign is zero (lawful_leading).
-use Rattle.std.proofs.Math.Bool.{or-true}
+-- within the limit, and no sign is zero (lawful_leading). What tells whether a word may stand behind others: too_many,
+-- none_spelt, spelt_before and may_follow.
+use Rattle.std.proofs.Math.Bool.{or-true, and-false}
 use Rattle.std.specs.Prelude.{ℕ, ◌≡◌, ◌≢◌, ◌<◌, ◌≤◌, ◌+◌, Bool, true, false, cond, nat_eq, nat_lt, List, []}
 use Rattle.std.specs.Prelude.{◌∷◌, ◌++◌, length, take, Option, Some, None, refl}
 use Rattle.std.specs.List.{list_any, filter_map, IsDistinct, AllByRecursion}
 use Rattle.std.proofs.Common.{get_or, eqb, suc, arith, ap, subst, sym, ◌∙◌, inl, inr, append_assoc, append-nil}
-use Rattle.std.proofs.lemmas.Bool.{false≢true, both_ways, and_parts, cases_eq, eq-eqb, ne_eqb, not-true}
+use Rattle.std.proofs.lemmas.Bool.{false≢true, both_ways, and_parts, cases_eq, eq-eqb, ne_eqb, not-true, le-ltb, lt-ltb}
 use Rattle.std.proofs.lemmas.List.{take_at, length-map}
 use Rattle.std.proofs.lemmas.List.Folds.{list_any-append}
 use Rattle.std.proofs.lemmas.Map.Keys.{IsDistinct-cons}
@@ -96,6 +97,26 @@ listed_of (b ∷ digits) x is = by_sign (nat_eq b 43) (nat_eq b 45) is
     by_sign true m made = listed_by Plus digits x plus_nonzero made
     by_sign false true made = listed_by Minus digits x minus_nonzero made
     by_sign false false made = cc
+
+-- ---- whether a word may stand behind others
+
+-- a word behind as many as may be listed
+pub too_many : (before : List (List ℕ)) (word : List ℕ) → MAX_LISTED ≤ length before → is_leading before word ≡ false
+too_many before word many = rw (le-ltb (length before) MAX_LISTED many) refl
+
+-- a word that spells no element with a sign
+pub none_spelt : (before : List (List ℕ)) (word : List ℕ) → signed_of word ≡ None → is_leading before word ≡ false
+none_spelt before word none = rw none (and-false (nat_lt (length before) MAX_LISTED))
+
+-- a word whose element a word before spells
+pub spelt_before : (before : List (List ℕ)) (word : List ℕ) (x : Signed) → signed_of word ≡ Some x
+    → is_among x.element before ≡ true → is_leading before word ≡ false
+spelt_before before word x is among = rw (is, among) (and-false (nat_lt (length before) MAX_LISTED))
+
+-- a word whose element no word before spells, where there is room
+pub may_follow : (before : List (List ℕ)) (word : List ℕ) (x : Signed) → length before < MAX_LISTED
+    → signed_of word ≡ Some x → is_among x.element before ≡ false → is_leading before word ≡ true
+may_follow before word x room is new = rw (lt-ltb (length before) MAX_LISTED room, is, new) refl
 
 -- a word that may stand behind others: its element with a sign, which none of them has
 record IsNext (before : List (List ℕ)) (word : List ℕ) : Type 0 where

@@ -3,7 +3,7 @@
 -- Main definitions: unlisted, AreSigned
 -- Main results: colouring_missing, colouring_letters, colouring_element, colouring_long, colouring_read, signed_none,
 -- signed_more, leading_fault, leading_missing
-use Rattle.std.specs.Prelude.{ℕ, ◌≡◌, ◌<◌, ◌≤◌, ◌+◌, ◌-◌, ◌↔◌, true, false, List, [], ◌∷◌, length, map, replicate, Some}
+use Rattle.std.specs.Prelude.{ℕ, ◌≡◌, ◌<◌, ◌≤◌, ◌+◌, ◌↔◌, true, false, List, [], ◌∷◌, length, map, replicate, Some}
 use Rattle.std.specs.Prelude.{None, Result, Ok, Err, IfErr, IsErrAnd, codes, refl}
 use Rattle.std.specs.List.{filter_map}
 use Rattle.std.specs.Fmt.{decimal}

@@ -1,9 +1,13 @@
 -- Verbs are told apart by their words: a line for each verb in each of these.
 --
--- Main results: verbs with one word are one (same_verb).
-use Rattle.std.specs.Prelude.{ℕ, ◌≡◌, List, codes, cond, refl}
+-- Main results: verbs with one word are one (same_verb); place_below, the places of verbs; and for the loop over all
+-- verbs: verb_found, the verb of a word, and none_more, a word of none so far.
+use Rattle.std.specs.Prelude.{ℕ, ◌≡◌, ◌↔◌, ◌+◌, ◌<◌, List, Some, codes, cond, refl}
 use Rattle.std.specs.Str.{bytes_eq}
-use Rattle.std.proofs.Common.{ap, sym, ◌∙◌}
+use Rattle.std.proofs.Common.{ap, sym, ◌∙◌, inl, inr, arith, get_or, lit<}
+use Rattle.std.proofs.lemmas.Bool.{cases_eq}
+use Rattle.std.proofs.lemmas.Option.{same_Some}
+use Rattle.om_words.specs.declared.verb.TheConstants.{VERBS}
 use Rattle.om_words.specs.declared.verb.Verb.{Verb}
 use Rattle.om_words.specs.declared.verb.Verb.TheVariants as verb
 use Rattle.om_words.specs.Words.{verb_word}
@@ -76,3 +80,64 @@ place_of verb.Upgrade = 15
 place_of verb.Decide = 16
 place_of verb.Check = 17
 place_of verb.Make = 18
+
+-- each verb has a place in the list
+pub place_below : (v : Verb) → place_of v < 19
+place_below verb.Accept = lit< tt
+place_below verb.Member = lit< tt
+place_below verb.Convert = lit< tt
+place_below verb.Dual = lit< tt
+place_below verb.Delete = lit< tt
+place_below verb.Contract = lit< tt
+place_below verb.Reorient = lit< tt
+place_below verb.Wiring = lit< tt
+place_below verb.Mutations = lit< tt
+place_below verb.Flip = lit< tt
+place_below verb.Extend = lit< tt
+place_below verb.Paint = lit< tt
+place_below verb.Hull = lit< tt
+place_below verb.Lexext = lit< tt
+place_below verb.Threeterm = lit< tt
+place_below verb.Upgrade = lit< tt
+place_below verb.Decide = lit< tt
+place_below verb.Check = lit< tt
+place_below verb.Make = lit< tt
+
+-- and stands there
+verb_at : (v : Verb) → get_or VERBS (place_of v) verb.Accept ≡ v
+verb_at verb.Accept = refl
+verb_at verb.Member = refl
+verb_at verb.Convert = refl
+verb_at verb.Dual = refl
+verb_at verb.Delete = refl
+verb_at verb.Contract = refl
+verb_at verb.Reorient = refl
+verb_at verb.Wiring = refl
+verb_at verb.Mutations = refl
+verb_at verb.Flip = refl
+verb_at verb.Extend = refl
+verb_at verb.Paint = refl
+verb_at verb.Hull = refl
+verb_at verb.Lexext = refl
+verb_at verb.Threeterm = refl
+verb_at verb.Upgrade = refl
+verb_at verb.Decide = refl
+verb_at verb.Check = refl
+verb_at verb.Make = refl
+
+-- ---- the loop over the list of all verbs
+
+-- the word of a verb names this verb, and no other
+pub verb_found : (word text : List ℕ) (u : Verb) → word ≡ text → text ≡ verb_word u → (v : Verb)
+    → (Some u ≡ Some v) ↔ (word ≡ verb_word v)
+verb_found word text u w t v =
+    (λ h. w ∙ t ∙ ap verb_word (same_Some u v h), λ h. ap Some (same_verb u v (sym t ∙ sym w ∙ h)))
+
+-- a word that isn't that of a verb at a place below i, nor that of the verb at the place i
+pub none_more : (word text : List ℕ) (i : ℕ) → ((v : Verb) → place_of v < i → word ≡ verb_word v → ⊥)
+    → text ≡ verb_word (get_or VERBS i verb.Accept) → (word ≡ text → ⊥)
+    → (v : Verb) → place_of v < i + 1 → word ≡ verb_word v → ⊥
+none_more word text i below t other v l h = elim (cases_eq (place_of v) i) [
+  | inl e ↦ other (h ∙ ap verb_word (sym (verb_at v) ∙ ap (λ k. get_or VERBS k verb.Accept) e) ∙ sym t)
+  | inr ne ↦ below v (omega (arith, l, ne)) h
+]
