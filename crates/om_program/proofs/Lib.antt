@@ -1,4 +1,5 @@
 mod CompletenessLaws
+mod FaultLaws
 mod MeaningLaws
 mod OneAnswer
 mod OneUsage
@@ -6,6 +7,7 @@ mod PlanLaws
 pub mod ReplyLaws
 mod ValidClaimLaws
 pub mod Chaining
+pub mod Endings
 pub mod Readings
 pub mod Runs
 pub mod Shortened

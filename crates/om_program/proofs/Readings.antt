@@ -3,7 +3,7 @@
 -- Main definitions: Reaches
 -- Main results: all_taken, taken_more, reach_start, starts, reach_further, reach_stops, reach_stops_later,
 -- reach_breaks_later, reach_end, reach_end_stops, reach_end_breaks, taken_still, no_first, none_taken
-use Rattle.std.specs.Prelude.{ℕ, ◌≡◌, ◌⊎◌, ◌+◌, ◌++◌, List, [], Option, Some, None, IfSome, take}
+use Rattle.std.specs.Prelude.{ℕ, ◌≡◌, ◌⊎◌, ◌++◌, List, [], Option, Some, None, IfSome, take}
 use Rattle.std.proofs.Common.{sym, ap, ◌∙◌, subst, append-nil, inl, inr}
 use Rattle.std.specs.Io.KnownBytes.{Consumes, IsAtEnd, Keeps}
 use Rattle.om_port.specs.Causes.{TakesSome}

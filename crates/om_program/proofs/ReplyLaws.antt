@@ -1,7 +1,7 @@
 -- What a task means is an answer to a command: never a usage, and of a form that can be written.
 --
 -- Main results: task_replies, each answer of a task can be written.
-use Rattle.std.specs.Prelude.{ℕ, ◌≡◌, List}
+use Rattle.std.specs.Prelude.{ℕ, List}
 use Rattle.std.proofs.Common.{sym, subst}
 use Rattle.om_signs.specs.declared.sign.Sign.{Sign}
 use Rattle.om_chirotope.specs.Map.{SignMap}

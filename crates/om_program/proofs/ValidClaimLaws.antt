@@ -5,7 +5,6 @@ use Rattle.std.specs.Prelude.{ℕ, ◌≡◌, List, [], ◌∷◌, codes, refl, 
 use Rattle.std.proofs.Common.{ap, sym, subst}
 use Rattle.std.proofs.lemmas.Result.{IfOk-at_ok}
 use Rattle.om_chirotope.specs.Map.{SignMap, map_of}
-use Rattle.om_chirotope.specs.Chirotope.{IsChirotopeWithinLimits}
 use Rattle.om_certificate.specs.declared.evidence.Evidence.{Evidence}
 use Rattle.om_certificate.specs.declared.evidence.Evidence.TheVariants.{Vectors, Balanced, Weights}
 use Rattle.om_certificate.specs.declared.verdict.Verdict.{Verdict}

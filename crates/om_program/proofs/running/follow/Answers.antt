@@ -1,5 +1,5 @@
 use Rattle.std.specs.Prelude.{◌≡◌, []}
-use Rattle.std.proofs.Common.{ap, subst}
+use Rattle.std.proofs.Common.{subst}
 use Rattle.om_words.specs.declared.reads.Reads.TheVariants as source
 use Rattle.om_words.specs.declared.task.Task.TheVariants.{Make}
 use Rattle.om_words.specs.Tasks.{reads}
