@@ -4,7 +4,9 @@
 Builds the program and times it, the whole process each time, on inputs that it makes itself. Prints a table: the
 least time of N runs (5), the rate, the target (a rate or a time), and how many times better than the target the
 measured one is. PROGRAM is the program of an earlier state, built elsewhere: searches run beside it, one run of each
-in turn, have to write the same, and have a part of its time as their target.
+in turn, have to write the same, and have a part of its time as their target. Then all other commands of the table run
+in the same way beside it, and a second table shows both times. A command that the earlier program answers in another
+way is named as such.
 """
 import argparse
 import itertools
@@ -105,8 +107,13 @@ def keep_to(processors):
     return lambda: os.sched_setaffinity(0, sorted(os.sched_getaffinity(0))[:processors])
 
 
+# What was timed, in its order: for words, an input and processors, what is written.
+TIMED = {}
+
+
 def least_time(words, data, runs, wanted, processors=None, program=PROGRAM):
     """The least time of some runs, each of which has to write what is wanted; on so many processors, or on all."""
+    TIMED[tuple(words), data, processors] = wanted
     best = None
     pin = None if processors is None else keep_to(processors)
     with tempfile.TemporaryFile() as held:
@@ -379,6 +386,28 @@ def searches(runs, earlier):
         row("box %d, %d steps" % (box, steps), took[PROGRAM], 1, "", target_time=target)
 
 
+def title(words, data, processors):
+    """What names a command and its input in a row: the words, the line of the kind, and the bytes of the input."""
+    kinds = [line for line in data.split(b"\n")[:9] if line and not line.startswith((b"#", b"om "))]
+    what = "%s: %s, %d bytes" % (" ".join(words), kinds[0].decode() if kinds else "no input", len(data))
+    return what if processors is None else "%s, on %d" % (what, processors)
+
+
+def beside(runs, earlier, timed):
+    """What was timed, by both programs in turn, so that another speed of the machine is the same for both."""
+    print("%-58s %11s  %18s  %18s  %s" % ("beside the earlier program", "least time", "", "earlier", "ratio"))
+    for (words, data, processors), wanted in timed.items():
+        words, best = list(words), dict.fromkeys((PROGRAM, earlier), math.inf)
+        name = title(words, data, processors)
+        if subprocess.run([earlier] + words, input=data, capture_output=True).stdout != wanted:
+            print("%-58s answered in another way by the earlier program" % name)
+            continue
+        for _ in range(runs):
+            for program in best:
+                best[program] = min(best[program], least_time(words, data, 1, wanted, processors, program))
+        row(name, best[PROGRAM], 1, "", target_time=best[earlier])
+
+
 def wirings(runs):
     """Wirings and mutations of the uniform chirotope of rank 3 on 16 elements all of whose values are plus."""
     print("%-58s %11s  %18s  %18s  %s" % ("wirings and mutations", "least time", "", "target", "ratio"))
@@ -486,7 +515,10 @@ def main():
 
     for part in (conversions, operations, lists, claims, decisions, wirings, extensions, largest, painting):
         part(runs)
+    timed = dict(TIMED)
     searches(runs, options.earlier)
+    if options.earlier is not None:
+        beside(runs, options.earlier, timed)
 
 
 if __name__ == "__main__":
