@@ -14,12 +14,20 @@ use std::alloc::Global;
 /// Three unit vectors and a fourth, such that the signs are `++++`.
 const FOUR: [[i64; 3]; 4] = [[1, 0, 0], [0, 1, 0], [0, 0, 1], [1, -1, 1]];
 
+/// Whether an answer is a refusal for this reason.
+fn is_refusal(answer: Result<(), CertRefused>, why: CertRefused) -> bool {
+    match answer {
+        Ok(()) => false,
+        Err(found) => found == why,
+    }
+}
+
 /// Whether there is a chirotope for which evidence is refused for this reason.
 fn is_refused(chi: Result<Chirotope, SampleError>, evidence: Evidence, why: CertRefused) -> bool
     requires { IsWithinLimits evidence }
 {
-    match &chi {
-        Ok(chi) => check(chi, &evidence) == Err(why),
+    match chi {
+        Ok(chi) => is_refusal(check(&chi, &evidence), why),
         Err(_) => false,
     }
 }

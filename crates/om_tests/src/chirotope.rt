@@ -15,7 +15,7 @@ fn has_values(chi: Result<Chirotope, SampleError>) -> bool
     requires rank { IfOk chi (λ c. c.rank ≡ 2) }
     requires elements { IfOk chi (λ c. c.elements ≡ 3) }
 {
-    match &chi {
+    match chi {
         Ok(chi) => {
             let signs = [
                 chi.at(Subset::from_mask(0b101, 3)),
@@ -66,29 +66,29 @@ fn values_and_negatives(rt: HostRuntime) {
     assert!(rt; found == [true; 2]);
 }
 
-/// Whether the check of a map returns this.
-fn is_answer(found: Result<Chirotope, BadMap>, expected: Result<(), MapRefused>) -> bool {
-    match &found {
-        Ok(_) => expected.is_ok(),
-        Err(bad) => expected == Err(bad.why),
+/// Whether a map was accepted, or refused for a reason.
+fn is_answer(found: Result<Chirotope, BadMap>, refused: Option<MapRefused>) -> bool {
+    match found {
+        Ok(_) => refused.is_none(),
+        Err(bad) => refused == Some(bad.why),
     }
 }
 
-/// Whether the text spells a map, and the check of it returns this.
+/// Whether the text spells a map, and the check accepts it, or refuses it for a reason.
 fn is_checked<R: Threads + Sync>(
     rt: &R,
     alloc: Global,
     rank: u8,
     elements: u8,
     text: &str,
-    expected: Result<(), MapRefused>,
+    refused: Option<MapRefused>,
 ) -> bool
     requires low { 1 ≤ elements }
     requires high { elements ≤ MAX_ELEMENTS }
     requires part { rank ≤ elements }
 {
     match map_of(alloc, rank, elements, text) {
-        Ok(map) => is_answer(check(rt, map), expected),
+        Ok(map) => is_answer(check(rt, map), refused),
         Err(_) => false,
     }
 }
@@ -102,9 +102,9 @@ fn checks(rt: HostRuntime) {
         a: Subset::from_mask(0b110000, 6),
     };
     let found = [
-        is_checked(&rt, alloc, 3, 4, "++++", Ok(())),
-        is_checked(&rt, alloc, 3, 4, "0000", Err(MapRefused::AllZero)),
-        is_checked(&rt, alloc, 3, 6, "+000000000000000000+", Err(why)),
+        is_checked(&rt, alloc, 3, 4, "++++", None),
+        is_checked(&rt, alloc, 3, 4, "0000", Some(MapRefused::AllZero)),
+        is_checked(&rt, alloc, 3, 6, "+000000000000000000+", Some(why)),
     ];
     assert!(rt; found == [true; 3]);
 }
@@ -115,8 +115,8 @@ fn is_exchange(alloc: Global, rank: u8, elements: u8, text: &str, expected: bool
     requires high { elements ≤ MAX_ELEMENTS }
     requires part { rank ≤ elements }
 {
-    match &map_of(alloc, rank, elements, text) {
-        Ok(map) => has_exchange(map) == expected,
+    match map_of(alloc, rank, elements, text) {
+        Ok(map) => has_exchange(&map) == expected,
         Err(_) => false,
     }
 }

@@ -12,14 +12,9 @@ fn is_answer(
     elements: u8,
     text: &str,
 ) -> bool {
-    match &found {
+    match found {
         Ok(set) => {
-            let answers = [
-                refused.is_none(),
-                set.elements() == elements,
-                are_vectors(set.members(), text),
-            ];
-            answers == [true; 3]
+            refused.is_none() & (set.elements() == elements) & are_vectors(set.members(), text)
         }
         Err(bad) => refused == Some(bad.why),
     }
@@ -41,31 +36,35 @@ fn is_checked<R: Threads + Sync>(
     }
 }
 
-/// The circuits of two parallel elements, a coloop and a loop.
-const FOUR: [&str; 4] = ["+-00", "-+00", "000+", "000-"];
+/// Numbers of elements, lists, why each is refused, and the vectors of the set if it isn't. First the circuits of two
+/// parallel elements, a coloop and a loop. In the others the zero vector is second, there is no negative, supports are
+/// nested, and no vector eliminates 2 from `0+-` and `+-0`.
+const ANSWERS: [(u8, &[&str], Option<SetRefused>, &str); 5] = [
+    (
+        4,
+        &["+-00", "-+00", "000+", "000-"],
+        None,
+        "+-00 -+00 000+ 000-",
+    ),
+    (2, &["+-", "00", "-+"], Some(SetRefused::Zero { i: 2 }), ""),
+    (2, &["+-"], Some(SetRefused::NoNegative { i: 1 }), ""),
+    (
+        2,
+        &["+0", "-0", "++", "--"],
+        Some(SetRefused::Nested { i: 1, j: 3 }),
+        "",
+    ),
+    (
+        3,
+        &["+-0", "0+-", "-+0", "0-+"],
+        Some(SetRefused::NoElimination { i: 2, j: 1, e: 2 }),
+        "",
+    ),
+];
 
-// a list that satisfies the axioms; the zero vector second; no negative; nested supports; and no vector that
-// eliminates 2 from `0+-` and `+-0`
 #[test]
 fn answers(rt: HostRuntime) {
-    let alloc = rt.alloc();
-    let zero = Some(SetRefused::Zero { i: 2 });
-    let no_negative = Some(SetRefused::NoNegative { i: 1 });
-    let nested = Some(SetRefused::Nested { i: 1, j: 3 });
-    let no_elimination = Some(SetRefused::NoElimination { i: 2, j: 1, e: 2 });
-    let found = [
-        is_checked(&rt, alloc, 4, &FOUR, None, "+-00 -+00 000+ 000-"),
-        is_checked(&rt, alloc, 2, &["+-", "00", "-+"], zero, ""),
-        is_checked(&rt, alloc, 2, &["+-"], no_negative, ""),
-        is_checked(&rt, alloc, 2, &["+0", "-0", "++", "--"], nested, ""),
-        is_checked(
-            &rt,
-            alloc,
-            3,
-            &["+-0", "0+-", "-+0", "0-+"],
-            no_elimination,
-            "",
-        ),
-    ];
-    assert!(rt; found == [true; 5]);
+    for (elements, texts, refused, text) in ANSWERS.iter() {
+        assert!(rt; is_checked(&rt, rt.alloc(), *elements, texts, *refused, text));
+    }
 }

@@ -37,11 +37,11 @@ const COVECTOR_LIST: [&str; 9] = [
 
 /// Whether there is a chirotope, and its circuits, cocircuits and covectors are those written above.
 fn of_chirotope(alloc: Global, found: Result<Chirotope, SampleError>) -> bool {
-    match &found {
+    match found {
         Ok(chi) => [
-            are_circuits(chirotope_to_circuits(alloc, chi), CIRCUITS),
-            are_cocircuits(chirotope_to_cocircuits(alloc, chi), COCIRCUITS),
-            are_covectors(chirotope_to_covectors(alloc, chi), COVECTORS),
+            are_circuits(chirotope_to_circuits(alloc, &chi), CIRCUITS),
+            are_cocircuits(chirotope_to_cocircuits(alloc, &chi), COCIRCUITS),
+            are_covectors(chirotope_to_covectors(alloc, &chi), COVECTORS),
         ] == [true; 3],
         Err(_) => false,
     }
@@ -49,12 +49,12 @@ fn of_chirotope(alloc: Global, found: Result<Chirotope, SampleError>) -> bool {
 
 /// Whether there are circuits of rank 2, and their chirotope, cocircuits and covectors are those written above.
 fn of_circuits(alloc: Global, found: Result<Circuits, SampleError>) -> bool {
-    match &found {
+    match found {
         Ok(circuits) => [
-            rank_circuits(circuits) == 2,
-            is_chirotope(circuits_to_chirotope(alloc, circuits), 2, 4, SIGNS),
-            are_cocircuits(circuits_to_cocircuits(alloc, circuits), COCIRCUITS),
-            are_covectors(circuits_to_covectors(alloc, circuits), COVECTORS),
+            rank_circuits(&circuits) == 2,
+            is_chirotope(circuits_to_chirotope(alloc, &circuits), 2, 4, SIGNS),
+            are_cocircuits(circuits_to_cocircuits(alloc, &circuits), COCIRCUITS),
+            are_covectors(circuits_to_covectors(alloc, &circuits), COVECTORS),
         ] == [true; 4],
         Err(_) => false,
     }
@@ -62,12 +62,12 @@ fn of_circuits(alloc: Global, found: Result<Circuits, SampleError>) -> bool {
 
 /// Whether there are cocircuits of rank 2, and their chirotope, circuits and covectors are those written above.
 fn of_cocircuits(alloc: Global, found: Result<Cocircuits, SampleError>) -> bool {
-    match &found {
+    match found {
         Ok(cocircuits) => [
-            rank_cocircuits(cocircuits) == 2,
-            is_chirotope(cocircuits_to_chirotope(alloc, cocircuits), 2, 4, SIGNS),
-            are_circuits(cocircuits_to_circuits(alloc, cocircuits), CIRCUITS),
-            are_covectors(cocircuits_to_covectors(alloc, cocircuits), COVECTORS),
+            rank_cocircuits(&cocircuits) == 2,
+            is_chirotope(cocircuits_to_chirotope(alloc, &cocircuits), 2, 4, SIGNS),
+            are_circuits(cocircuits_to_circuits(alloc, &cocircuits), CIRCUITS),
+            are_covectors(cocircuits_to_covectors(alloc, &cocircuits), COVECTORS),
         ] == [true; 4],
         Err(_) => false,
     }
@@ -75,12 +75,12 @@ fn of_cocircuits(alloc: Global, found: Result<Cocircuits, SampleError>) -> bool 
 
 /// Whether there are covectors of rank 2, and their chirotope, circuits and cocircuits are those written above.
 fn of_covectors(alloc: Global, found: Result<Covectors, SampleError>) -> bool {
-    match &found {
+    match found {
         Ok(covectors) => [
-            rank_covectors(covectors) == 2,
-            is_chirotope(covectors_to_chirotope(alloc, covectors), 2, 4, SIGNS),
-            are_circuits(covectors_to_circuits(alloc, covectors), CIRCUITS),
-            are_cocircuits(covectors_to_cocircuits(alloc, covectors), COCIRCUITS),
+            rank_covectors(&covectors) == 2,
+            is_chirotope(covectors_to_chirotope(alloc, &covectors), 2, 4, SIGNS),
+            are_circuits(covectors_to_circuits(alloc, &covectors), CIRCUITS),
+            are_cocircuits(covectors_to_cocircuits(alloc, &covectors), COCIRCUITS),
         ] == [true; 4],
         Err(_) => false,
     }
@@ -101,7 +101,7 @@ fn each_of_each_other(rt: HostRuntime) {
 
 /// Whether a text was made, and is this one.
 fn is_printed(made: Result<String, AllocError>, text: &str) -> bool {
-    match &made {
+    match made {
         Ok(made) => made.as_str() == text,
         Err(_) => false,
     }
@@ -113,19 +113,35 @@ fn errors_are_printed(rt: HostRuntime) {
     assert!(rt; is_printed(made, "more than 5 members"));
 }
 
+/// Whether this error is that the negative of the first member is missing.
+fn is_no_negative(error: &ReadSetError) -> bool {
+    match error {
+        ReadSetError::Bad(bad) => bad.why == SetRefused::NoNegative { i: 1 },
+        _ => false,
+    }
+}
+
 /// Whether a list was refused because the negative of its first member is missing.
 fn lacks_a_negative<T: Drop>(found: Result<T, ReadSetError>) -> bool {
-    match &found {
-        Err(ReadSetError::Bad(bad)) => bad.why == SetRefused::NoNegative { i: 1 },
+    match found {
+        Ok(_) => false,
+        Err(error) => is_no_negative(&error),
+    }
+}
+
+/// Whether this error is that the zero vector is missing.
+fn is_no_zero(error: &ReadCovError) -> bool {
+    match error {
+        ReadCovError::Bad(bad) => bad.why == CovRefused::NoZero,
         _ => false,
     }
 }
 
 /// Whether a list was refused because the zero vector is missing.
-fn lacks_zero<T: Drop>(found: Result<T, ReadCovError>) -> bool {
-    match &found {
-        Err(ReadCovError::Bad(bad)) => bad.why == CovRefused::NoZero,
-        _ => false,
+fn lacks_zero(found: Result<Covectors, ReadCovError>) -> bool {
+    match found {
+        Ok(_) => false,
+        Err(error) => is_no_zero(&error),
     }
 }
 

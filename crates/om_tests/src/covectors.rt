@@ -18,7 +18,7 @@ const PLANE: [&str; 13] = [
 
 /// Whether covectors were refused for this reason.
 fn is_bad(found: Result<Covectors, BadCov>, why: CovRefused) -> bool {
-    match &found {
+    match found {
         Ok(_) => false,
         Err(bad) => bad.why == why,
     }
@@ -61,7 +61,7 @@ fn are_seen(found: Result<Covectors, SampleError>, size: usize, text: &str) -> b
 
 /// Whether the vectors of minimal support among some vectors are those of a text.
 fn are_minimal(alloc: Global, vectors: Result<List<SignVec>, SampleError>, text: &str) -> bool {
-    match &vectors {
+    match vectors {
         Ok(vectors) => are_found(minimal_vectors(alloc, vectors.as_slice()), text),
         Err(_) => false,
     }

@@ -8,8 +8,8 @@ use std::alloc::Global;
 
 /// Whether the dual of a chirotope has rank 2, four elements and the signs of a text.
 fn has_dual(alloc: Global, found: Result<Chirotope, SampleError>, text: &str) -> bool {
-    match &found {
-        Ok(chi) => is_chirotope(dual(alloc, chi), 2, 4, text),
+    match found {
+        Ok(chi) => is_chirotope(dual(alloc, &chi), 2, 4, text),
         Err(_) => false,
     }
 }

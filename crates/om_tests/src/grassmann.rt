@@ -91,24 +91,24 @@ fn are_sides(chi: &Chirotope, st: Statement, masks: [u32; 4]) -> bool {
 
 /// Whether there is a chirotope, the statements on it with the numbers from 0 on are these, and no other is lawful.
 fn has_all(chi: Result<Chirotope, SampleError>, list: &[[u8; 7]]) -> bool {
-    match &chi {
-        Ok(chi) => are_all(chi, list),
+    match chi {
+        Ok(chi) => are_all(&chi, list),
         Err(_) => false,
     }
 }
 
 /// Whether there is a chirotope, and the statement with a number is this one and the last.
 fn has_last(chi: Result<Chirotope, SampleError>, k: u32, numbers: [u8; 7]) -> bool {
-    match &chi {
-        Ok(chi) => is_at(chi, k, numbers) && nth_statement(chi, k.saturating_add(1)).is_none(),
+    match chi {
+        Ok(chi) => is_at(&chi, k, numbers) & nth_statement(&chi, k.saturating_add(1)).is_none(),
         Err(_) => false,
     }
 }
 
 /// Whether there is a chirotope, and these are the sides of a statement on it.
 fn has_sides(chi: Result<Chirotope, SampleError>, st: Statement, masks: [u32; 4]) -> bool {
-    match &chi {
-        Ok(chi) => are_sides(chi, st, masks),
+    match chi {
+        Ok(chi) => are_sides(&chi, st, masks),
         Err(_) => false,
     }
 }

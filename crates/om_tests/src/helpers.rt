@@ -21,7 +21,7 @@ pub fn is_chirotope<E: Drop>(
 
 /// Whether sign vectors were found, and are those of a text.
 pub fn are_found<E: Drop>(found: Result<List<SignVec>, E>, text: &str) -> bool {
-    match &found {
+    match found {
         Ok(list) => are_vectors(list.as_slice(), text),
         Err(_) => false,
     }

@@ -25,8 +25,8 @@ const MINUS_THREE: Signed = Signed {
 fn is_extended(alloc: Global, found: Result<Chirotope, SampleError>, text: &str) -> bool
     requires { IfOk found (λ c. c.elements ≡ 4) }
 {
-    match &found {
-        Ok(chi) => is_chirotope(lexical(alloc, chi, &[PLUS_FOUR, MINUS_THREE]), 3, 5, text),
+    match found {
+        Ok(chi) => is_chirotope(lexical(alloc, &chi, &[PLUS_FOUR, MINUS_THREE]), 3, 5, text),
         Err(_) => false,
     }
 }

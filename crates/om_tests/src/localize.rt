@@ -11,7 +11,7 @@ use std::thread::Threads;
 
 /// Whether this many extensions were listed, and whether there is a further one.
 fn are_listed(found: Result<Listing, ExtendError>, size: usize, more: bool) -> bool {
-    match &found {
+    match found {
         Ok(listing) => (listing.lines.len(), listing.more) == (size, more),
         Err(_) => false,
     }
@@ -29,8 +29,8 @@ fn lists<R: Threads + Sync>(
     requires low { 1 ≤ first }
     requires high { first ≤ MAX_LINES }
 {
-    match &chi {
-        Ok(chi) => are_listed(extensions(rt, alloc, chi, first), size, more),
+    match chi {
+        Ok(chi) => are_listed(extensions(rt, alloc, &chi, first), size, more),
         Err(_) => false,
     }
 }

@@ -43,8 +43,8 @@ fn facts(chi: &Chirotope) -> Facts
 fn has_facts(chi: Result<Chirotope, SampleError>, expected: Facts) -> bool
     requires { IfOk chi (λ c. c.elements ≡ 4) }
 {
-    match &chi {
-        Ok(chi) => facts(chi) == expected,
+    match chi {
+        Ok(chi) => facts(&chi) == expected,
         Err(_) => false,
     }
 }
@@ -136,8 +136,8 @@ fn has_bases(
 ) -> bool
     requires { IfOk chi (λ c. c.elements ≡ 9) }
 {
-    match &chi {
-        Ok(chi) => bases(chi) == expected,
+    match chi {
+        Ok(chi) => bases(&chi) == expected,
         Err(_) => false,
     }
 }

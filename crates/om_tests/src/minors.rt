@@ -45,11 +45,11 @@ fn of_chirotope(alloc: Global, found: Result<Chirotope, SampleError>) -> bool
 fn is_last(alloc: Global, found: Result<Chirotope, SampleError>, why: MinorError) -> bool
     requires { IfOk found (λ c. c.elements ≡ 1) }
 {
-    match &found {
+    match found {
         Ok(chi) => {
             let refused = [
-                delete_chirotope(alloc, chi, 1).err(),
-                contract_chirotope(alloc, chi, 1).err(),
+                delete_chirotope(alloc, &chi, 1).err(),
+                contract_chirotope(alloc, &chi, 1).err(),
             ];
             refused == [Some(why); 2]
         }

@@ -14,13 +14,8 @@ use om_wiring::Wiring;
 /// and this map was handed back.
 fn is_flip(found: Result<Chirotope, BadFlip>, refused: Option<FlipRefused>, signs: &str) -> bool {
     match found {
-        Ok(chi) => [refused.is_none(), is_map(&chi.into_raw(), 3, 4, signs)] == [true; 2],
-        Err(bad) => {
-            [
-                refused == Some(bad.why),
-                is_map(&bad.kept.into_raw(), 3, 4, signs),
-            ] == [true; 2]
-        }
+        Ok(chi) => refused.is_none() & is_map(&chi.into_raw(), 3, 4, signs),
+        Err(bad) => (refused == Some(bad.why)) & is_map(&bad.kept.into_raw(), 3, 4, signs),
     }
 }
 
@@ -37,9 +32,9 @@ fn has_flip(chi: Result<Chirotope, SampleError>, refused: Option<FlipRefused>, s
 /// Whether a wiring diagram was flipped at a triangle, and these are its blocks; or whether there was none, and
 /// these were handed back.
 fn has_blocks(found: Result<Wiring, NotTriangle>, has_triangle: bool, blocks: &[Block]) -> bool {
-    match &found {
-        Ok(other) => [has_triangle, other.blocks() == blocks] == [true; 2],
-        Err(none) => [has_triangle, none.kept.blocks() == blocks] == [false, true],
+    match found {
+        Ok(other) => has_triangle & (other.blocks() == blocks),
+        Err(none) => !has_triangle & (none.kept.blocks() == blocks),
     }
 }
 
@@ -61,30 +56,22 @@ const SECOND: Block = Block { first: 2, last: 3 };
 /// The block of the third position and the fourth.
 const THIRD: Block = Block { first: 3, last: 4 };
 
-#[test]
-fn chirotopes_of_four(rt: HostRuntime) {
-    let alloc = rt.alloc();
-    let refused = Some(FlipRefused::NotBasis);
-    let found = [
-        // the value of 123 is negated if it is a basis, and otherwise the map is handed back
-        has_flip(chirotope_of(&rt, alloc, 3, 4, "++++"), None, "-+++"),
-        has_flip(chirotope_of(&rt, alloc, 3, 4, "0+++"), refused, "0+++"),
-    ];
-    assert!(rt; found == [true; 2]);
-}
-
 /// The blocks of four wires.
 const KEPT: [Block; 6] = [FIRST, SECOND, FIRST, THIRD, SECOND, FIRST];
 
 /// The same blocks after the flip at the first step.
 const TURNED: [Block; 6] = [SECOND, FIRST, SECOND, THIRD, SECOND, FIRST];
 
-// The wires 1, 2 and 3 cross in pairs in the first three steps, and after the flip they do so in the other order.
-// The steps 4 to 6 are three different blocks, and only one more comes after step 5.
+// The value of 123 is negated if it is a basis, and otherwise the map is handed back. The wires 1, 2 and 3 cross in
+// pairs in the first three steps, and after the flip they do so in the other order. The steps 4 to 6 are three
+// different blocks, and only one more comes after step 5.
 #[test]
-fn triangles(rt: HostRuntime) {
+fn chirotopes_and_triangles(rt: HostRuntime) {
     let alloc = rt.alloc();
+    let refused = Some(FlipRefused::NotBasis);
     let found = [
+        has_flip(chirotope_of(&rt, alloc, 3, 4, "++++"), None, "-+++"),
+        has_flip(chirotope_of(&rt, alloc, 3, 4, "0+++"), refused, "0+++"),
         is_flipped(
             sweep_of(alloc, chirotope_of(&rt, alloc, 3, 4, "++++")),
             1,
@@ -104,5 +91,5 @@ fn triangles(rt: HostRuntime) {
             &KEPT,
         ),
     ];
-    assert!(rt; found == [true; 3]);
+    assert!(rt; found == [true; 5]);
 }

@@ -15,8 +15,8 @@ fn tells_apart<M: Oriented>(value: &M) -> bool {
 
 /// Whether there is an oriented matroid that distinguishes the two in this way.
 fn is_told_apart<M: Oriented + Drop>(found: Result<M, SampleError>) -> bool {
-    match &found {
-        Ok(value) => tells_apart(value),
+    match found {
+        Ok(value) => tells_apart(&value),
         Err(_) => false,
     }
 }

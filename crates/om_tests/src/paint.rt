@@ -13,16 +13,16 @@ fn is_painted(chi: Result<Chirotope, SampleError>, cocircuit: &str) -> bool
     requires { IfOk chi (λ c. c.elements ≡ 4) }
 {
     let colours = [Colour::Red, Colour::Black, Colour::Black, Colour::White];
-    match &chi {
-        Ok(chi) => paint(chi, &colours, 1) == Painted::Cocircuit(vector_of(4, cocircuit)),
+    match chi {
+        Ok(chi) => paint(&chi, &colours, 1) == Painted::Cocircuit(vector_of(4, cocircuit)),
         Err(_) => false,
     }
 }
 
 /// Whether there is a chirotope, and it is acyclic or not.
 fn is_acyclic(chi: Result<Chirotope, SampleError>, expected: bool) -> bool {
-    match &chi {
-        Ok(chi) => acyclic(chi) == expected,
+    match chi {
+        Ok(chi) => acyclic(&chi) == expected,
         Err(_) => false,
     }
 }
@@ -33,7 +33,7 @@ fn are_extreme(found: Result<List<Painted>, HullError>, first: &str, second: &st
         Painted::Cocircuit(vector_of(2, first)),
         Painted::Cocircuit(vector_of(2, second)),
     ];
-    match &found {
+    match found {
         Ok(items) => items.as_slice() == expected.as_slice(),
         Err(_) => false,
     }
@@ -41,8 +41,8 @@ fn are_extreme(found: Result<List<Painted>, HullError>, first: &str, second: &st
 
 /// Whether there is a chirotope, and these cocircuits show that both of its elements are extreme.
 fn has_hull(alloc: Global, chi: Result<Chirotope, SampleError>, first: &str, second: &str) -> bool {
-    match &chi {
-        Ok(chi) => are_extreme(hull(alloc, chi), first, second),
+    match chi {
+        Ok(chi) => are_extreme(hull(alloc, &chi), first, second),
         Err(_) => false,
     }
 }

@@ -4,7 +4,9 @@ ghost use Rattle.std.specs.Prelude.{◌≡◌, ◌⊎◌, ◌/◌};
 
 use om_parallel::{Part, Probe, first_bad, first_bad_by_cost, map_parts, map_parts_by_cost};
 use om_signs::NoMemory;
+use std::alloc::Global;
 use std::sync::atomic::{AtomicBool, Ordering};
+use std::thread::Threads;
 
 /// Numbers of which 5 and 900 are bad.
 #[derive(Drop)]
@@ -105,7 +107,7 @@ impl Part for Halves {
 
 /// Whether the results were found, and are these.
 fn are_answers(found: Result<Vec<u64>, NoMemory>, expected: &[u64]) -> bool {
-    match &found {
+    match found {
         Ok(answers) => answers.as_slice() == expected,
         Err(_) => false,
     }
@@ -134,33 +136,29 @@ fn calls_meet(rt: HostRuntime) {
     assert!(rt; found == [true, false, true, false]);
 }
 
-// Numbers that cost little are handled by the calling thread alone, so the call for 0 ends before that for 1.
-#[test]
-fn little_work_starts_no_thread(rt: HostRuntime) {
-    let (probes, parts) = (Held::new(FEW_TURNS), Held::new(FEW_TURNS));
+/// Whether two calls at this cost give what they must, and whether the one for 0 ends before the one for 1 comes: of
+/// probes, and of parts.
+fn is_late<R: Threads + Sync>(rt: &R, alloc: Global, turns: u64, cost: u64, late: bool) -> bool {
+    let (probes, parts) = (Held::new(turns), Held::new(turns));
     let found = [
-        first_bad_by_cost(&rt, &probes, 2, 10).is_none(),
+        first_bad_by_cost(rt, &probes, 2, cost).is_none(),
         probes.late.load(Ordering::SeqCst),
-        are_answers(map_parts_by_cost(&rt, rt.alloc(), &parts, 2, 10), &[0, 1]),
+        are_answers(map_parts_by_cost(rt, alloc, &parts, 2, cost), &[0, 1]),
         parts.late.load(Ordering::SeqCst),
     ];
-    assert!(rt; found == [true; 4]);
+    found == [true, late, true, late]
 }
 
-// Numbers that cost much are handled by several threads from the start.
+// Numbers that cost little are handled by the calling thread alone, so the call for 0 ends before that for 1. Numbers
+// that cost much are handled by several threads from the start.
 #[test]
-fn much_work_is_shared(rt: HostRuntime) {
-    let (probes, parts) = (Held::new(MOST_TURNS), Held::new(MOST_TURNS));
+fn little_work_starts_no_thread_and_much_is_shared(rt: HostRuntime) {
+    let alloc = rt.alloc();
     let found = [
-        first_bad_by_cost(&rt, &probes, 2, u64::MAX).is_none(),
-        probes.late.load(Ordering::SeqCst),
-        are_answers(
-            map_parts_by_cost(&rt, rt.alloc(), &parts, 2, u64::MAX),
-            &[0, 1],
-        ),
-        parts.late.load(Ordering::SeqCst),
+        is_late(&rt, alloc, FEW_TURNS, 10, true),
+        is_late(&rt, alloc, MOST_TURNS, u64::MAX, false),
     ];
-    assert!(rt; found == [true, false, true, false]);
+    assert!(rt; found == [true; 2]);
 }
 
 // The least bad number is the same whatever the numbers cost.
@@ -178,7 +176,7 @@ fn least_bad_number_at_any_cost(rt: HostRuntime) {
 
 /// Whether 20,000 results were found, and the first and the last are these.
 fn are_many(found: Result<Vec<u64>, NoMemory>, first: u64, last: u64) -> bool {
-    match &found {
+    match found {
         Ok(many) => {
             let ends = (many.first().copied(), many.last().copied());
             (many.len(), ends) == (20_000, (Some(first), Some(last)))

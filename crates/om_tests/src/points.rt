@@ -13,8 +13,8 @@ fn finds(chi: Result<Chirotope, SampleError>, steps: u64, expected: Result<Word,
     requires rank { IfOk chi (λ c. c.rank ≡ 3) }
     requires steps { 1 ≤ steps }
 {
-    match &chi {
-        Ok(chi) => search(chi, 1, steps) == expected,
+    match chi {
+        Ok(chi) => search(&chi, 1, steps) == expected,
         Err(_) => false,
     }
 }

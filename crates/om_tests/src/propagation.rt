@@ -15,10 +15,10 @@ use std::alloc::Global;
 fn of_circuits(alloc: Global, found: Result<Circuits, SampleError>, text: &str) -> bool
     requires { IfOk found (λ c. c.0.elements ≡ 4) }
 {
-    match &found {
+    match found {
         Ok(circuits) => {
-            rank_circuits(circuits) == 2
-                && is_chirotope(chirotope_of_circuits(alloc, circuits, 2), 2, 4, text)
+            rank_circuits(&circuits) == 2
+                && is_chirotope(chirotope_of_circuits(alloc, &circuits, 2), 2, 4, text)
         }
         Err(_) => false,
     }
@@ -29,10 +29,10 @@ fn of_circuits(alloc: Global, found: Result<Circuits, SampleError>, text: &str) 
 fn of_cocircuits(alloc: Global, found: Result<Cocircuits, SampleError>, text: &str) -> bool
     requires { IfOk found (λ c. c.0.elements ≡ 4) }
 {
-    match &found {
+    match found {
         Ok(cocircuits) => {
-            rank_cocircuits(cocircuits) == 2
-                && is_chirotope(chirotope_of_cocircuits(alloc, cocircuits, 2), 2, 4, text)
+            rank_cocircuits(&cocircuits) == 2
+                && is_chirotope(chirotope_of_cocircuits(alloc, &cocircuits, 2), 2, 4, text)
         }
         Err(_) => false,
     }
@@ -40,8 +40,8 @@ fn of_cocircuits(alloc: Global, found: Result<Cocircuits, SampleError>, text: &s
 
 /// Whether there are covectors, and they have this rank.
 fn of_covectors(found: Result<Covectors, SampleError>, rank: u8) -> bool {
-    match &found {
-        Ok(covectors) => rank_covectors(covectors) == rank,
+    match found {
+        Ok(covectors) => rank_covectors(&covectors) == rank,
         Err(_) => false,
     }
 }

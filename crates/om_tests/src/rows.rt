@@ -1,6 +1,9 @@
 //! Rows computed by hand, and numbers at the limit.
 
+ghost use Rattle.std.specs.Prelude.{◌≡◌, ◌≤◌, ◌<◌, length};
+
 use om_rows::{Column, Wide, are_short, combine, compare_ratios, dot, gcd, is_short, primitive};
+use om_signs::MAX_ROWS;
 use std::cmp::Ordering;
 
 const MAX: i128 = i128::MAX;
@@ -48,22 +51,50 @@ fn products(rt: HostRuntime) {
     }
 }
 
-#[test]
-fn combinations(rt: HostRuntime) {
-    let mut row = [6, 4, 9];
-    assert!(rt; combine(2, &mut row, 3, &[1, 2, 3]).is_ok() && row == [9, 2, 9]);
+/// Whether combining a row with a pivot row fits or, if a place isn't 0, first fails at this place; and the row is
+/// this one afterwards.
+fn is_combined(
+    tp: i128,
+    row: &mut [i128],
+    tk: i128,
+    pivot: &[i128],
+    place: u16,
+    after: &[i128],
+) -> bool
+    requires some { 0 < length row.old }
+    requires few { length row.old ≤ MAX_ROWS }
+    requires same { length pivot.now ≡ length row.old }
+{
+    let failed = match combine(tp, row, tk, pivot) {
+        Ok(()) => 0,
+        Err(wide) => wide.place,
+    };
+    failed == place && &*row == after
 }
 
+// of numbers of any size, with two that are too wide; and of numbers at the limit of 64 bits and past it, the last of
+// which is too wide
 #[test]
-fn combinations_too_wide(rt: HostRuntime) {
-    let mut wide = [1 << 126];
-    let mut later = [0, MAX, MAX];
+fn combinations(rt: HostRuntime) {
+    let past = SHORT_MAX + 1;
+    let greatest = MAX - SHORT_MAX;
+    let least = MIN + 27_670_116_110_564_327_423;
     let found = [
-        combine(2, &mut wide, 0, &[0]),
-        combine(1, &mut later, -1, &[MAX, 1, 1]),
+        is_combined(2, &mut [6, 4, 9], 3, &[1, 2, 3], 0, &[9, 2, 9]),
+        is_combined(2, &mut [1 << 126], 0, &[0], 1, &[1 << 126]),
+        is_combined(1, &mut [0, MAX, MAX], -1, &[MAX, 1, 1], 2, &[0, MAX, MAX]),
+        is_combined(
+            SHORT_MIN,
+            &mut [SHORT_MIN, SHORT_MAX],
+            SHORT_MAX,
+            &[SHORT_MIN, SHORT_MAX],
+            0,
+            &[greatest, least],
+        ),
+        is_combined(past, &mut [past], SHORT_MAX, &[SHORT_MIN], 0, &[greatest]),
+        is_combined(past, &mut [past], SHORT_MIN, &[past], 1, &[past]),
     ];
-    let places = [Err(Wide { place: 1 }), Err(Wide { place: 2 })];
-    assert!(rt; found == places && wide == [1 << 126]);
+    assert!(rt; found == [true; 6]);
 }
 
 #[test]
@@ -79,33 +110,13 @@ fn short_numbers(rt: HostRuntime) {
     assert!(rt; found == [true; 6]);
 }
 
-#[test]
-fn combinations_of_short_numbers(rt: HostRuntime) {
-    let mut row = [SHORT_MIN, SHORT_MAX];
-    let combined = [MAX - SHORT_MAX, MIN + 27_670_116_110_564_327_423];
-    assert!(rt;
-        combine(SHORT_MIN, &mut row, SHORT_MAX, &[SHORT_MIN, SHORT_MAX]).is_ok() && row == combined
-    );
-}
-
-#[test]
-fn combinations_past_short_numbers(rt: HostRuntime) {
-    let mut narrow = [SHORT_MAX + 1];
-    let mut wide = [SHORT_MAX + 1];
-    let found = [
-        combine(SHORT_MAX + 1, &mut narrow, SHORT_MAX, &[SHORT_MIN]),
-        combine(SHORT_MAX + 1, &mut wide, SHORT_MIN, &[SHORT_MAX + 1]),
-    ];
-    let places = [Ok(()), Err(Wide { place: 1 })];
-    assert!(rt; found == places && narrow == [MAX - SHORT_MAX] && wide == [SHORT_MAX + 1]);
-}
-
 /// Whether a row divided by the greatest common divisor of its numbers is this one.
 fn is_primitive(row: &mut [i128], expected: &[i128]) -> bool {
     primitive(row);
     &*row == expected
 }
 
+// of rows, and of pairs of numbers
 #[test]
 fn divisors(rt: HostRuntime) {
     let found = [
@@ -113,12 +124,7 @@ fn divisors(rt: HostRuntime) {
         is_primitive(&mut [0, 0], &[0, 0]),
         is_primitive(&mut [MIN, 0, MIN], &[-1, 0, -1]),
     ];
-    assert!(rt; found == [true; 3]);
-}
-
-#[test]
-fn greatest_common_divisors(rt: HostRuntime) {
-    let found = [
+    let greatest = [
         gcd(12, 18),
         gcd(18, 12),
         gcd(7, 5),
@@ -126,7 +132,7 @@ fn greatest_common_divisors(rt: HostRuntime) {
         gcd(4, 0),
         gcd(0, 0),
     ];
-    assert!(rt; found == [6, 6, 1, 4, 4, 0]);
+    assert!(rt; found == [true; 3] && greatest == [6, 6, 1, 4, 4, 0]);
 }
 
 #[test]

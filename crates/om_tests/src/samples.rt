@@ -31,9 +31,9 @@ fn signs_and_vectors(rt: HostRuntime) {
 
 /// Whether texts spell nothing of what was requested.
 fn is_refused<T: Drop>(found: Result<T, SampleError>) -> bool {
-    match &found {
+    match found {
         Ok(_) => false,
-        Err(error) => *error == SampleError::Refused,
+        Err(error) => error == SampleError::Refused,
     }
 }
 

@@ -82,7 +82,7 @@ fn pairs(rt: HostRuntime) {
 
 /// Whether there is a list, and it has only the byte 1.
 fn is_one(bytes: Result<List<u8>, NoMemory>) -> bool {
-    match &bytes {
+    match bytes {
         Ok(bytes) => bytes.as_slice() == [1].as_slice(),
         Err(_) => false,
     }

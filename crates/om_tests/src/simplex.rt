@@ -156,9 +156,9 @@ fn end_of_chain(
     end_of(alloc, &columns[..all.min(MOST)], n.saturating_add(2), 1_000)
 }
 
-/// Whether a run ended at a width, with this stage, pivot, row and place.
-fn is_width(found: Result<Outcome, NoMemory>, width: (Stage, u32, u16, u32)) -> bool {
-    match &found {
+/// The stage, pivot, row and place of the width at which a run ended.
+fn width_of(end: &Result<Outcome, NoMemory>) -> Option<(Stage, u32, u16, u32)> {
+    match end {
         Ok(
             Outcome::Width {
                 stage,
@@ -166,9 +166,14 @@ fn is_width(found: Result<Outcome, NoMemory>, width: (Stage, u32, u16, u32)) -> 
                 row,
                 place,
             },
-        ) => (*stage, *pivot, *row, *place) == width,
-        _ => false,
+        ) => Some((*stage, *pivot, *row, *place)),
+        _ => None,
     }
+}
+
+/// Whether a run ended at a width, with this stage, pivot, row and place.
+fn is_width(end: Result<Outcome, NoMemory>, width: (Stage, u32, u16, u32)) -> bool {
+    width_of(&end) == Some(width)
 }
 
 // At a price, at a column and at an update. And at the end, by the common multiple of the denominators, by a value

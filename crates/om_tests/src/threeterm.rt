@@ -10,29 +10,29 @@ use om_threeterm::{BadThree, ThreeRefused, check};
 use std::alloc::Global;
 use std::thread::Threads;
 
-/// Whether the test of a map returns this.
-fn is_answer(found: Result<Chirotope, BadThree>, expected: Result<(), ThreeRefused>) -> bool {
-    match &found {
-        Ok(_) => expected.is_ok(),
-        Err(bad) => expected == Err(bad.why),
+/// Whether a map passed the test, or was refused for a reason.
+fn is_answer(found: Result<Chirotope, BadThree>, refused: Option<ThreeRefused>) -> bool {
+    match found {
+        Ok(_) => refused.is_none(),
+        Err(bad) => refused == Some(bad.why),
     }
 }
 
-/// Whether the text spells a map, and the test of it returns this.
+/// Whether the text spells a map, and it passes the test, or is refused for a reason.
 fn is_checked<R: Threads + Sync>(
     rt: &R,
     alloc: Global,
     rank: u8,
     elements: u8,
     text: &str,
-    expected: Result<(), ThreeRefused>,
+    refused: Option<ThreeRefused>,
 ) -> bool
     requires low { 1 ≤ elements }
     requires high { elements ≤ MAX_ELEMENTS }
     requires part { rank ≤ elements }
 {
     match map_of(alloc, rank, elements, text) {
-        Ok(map) => is_answer(check(rt, map), expected),
+        Ok(map) => is_answer(check(rt, map), refused),
         Err(_) => false,
     }
 }
@@ -52,10 +52,10 @@ fn accepted_and_refused(rt: HostRuntime) {
         q: Subset::from_mask(0b11110, 6),
     };
     let found = [
-        is_checked(&rt, alloc, 3, 4, "++++", Ok(())),
-        is_checked(&rt, alloc, 1, 3, "000", Err(ThreeRefused::AllZero)),
-        is_checked(&rt, alloc, 2, 4, "++000+", Err(exchange)),
-        is_checked(&rt, alloc, 3, 6, "+++++-++++++++++++++", Err(relation)),
+        is_checked(&rt, alloc, 3, 4, "++++", None),
+        is_checked(&rt, alloc, 1, 3, "000", Some(ThreeRefused::AllZero)),
+        is_checked(&rt, alloc, 2, 4, "++000+", Some(exchange)),
+        is_checked(&rt, alloc, 3, 6, "+++++-++++++++++++++", Some(relation)),
     ];
     assert!(rt; found == [true; 4]);
 }

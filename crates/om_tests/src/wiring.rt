@@ -17,9 +17,9 @@ fn is_checked(
     refused: Option<WiringRefused>,
     blocks: &[Block],
 ) -> bool {
-    match &found {
-        Ok(w) => [refused.is_none(), w.blocks() == blocks] == [true; 2],
-        Err(bad) => [refused == Some(bad.why), bad.blocks.as_slice() == blocks] == [true; 2],
+    match found {
+        Ok(w) => refused.is_none() & (w.blocks() == blocks),
+        Err(bad) => (refused == Some(bad.why)) & (bad.blocks.as_slice() == blocks),
     }
 }
 
@@ -29,13 +29,13 @@ fn has_rows(chi: Result<Chirotope, SampleError>) -> bool
     requires rank { IfOk chi (λ c. c.rank ≡ 3) }
     requires elements { IfOk chi (λ c. c.elements ≡ 4) }
 {
-    match &chi {
+    match chi {
         Ok(chi) => {
-            let values = Values::of(chi);
+            let values = Values::of(&chi);
             let signs = [values.value(3, 1, 2), values.at(Subset::unrank(1, 3, 4))];
-            [values.rank(), values.elements()] == [3, 4]
-                && values.row(2, 1) == vector_of(4, "00-+")
-                && signs == [Sign::Plus, Sign::Minus]
+            ([values.rank(), values.elements()] == [3, 4])
+                & (values.row(2, 1) == vector_of(4, "00-+"))
+                & (signs == [Sign::Plus, Sign::Minus])
         }
         Err(_) => false,
     }
@@ -43,8 +43,8 @@ fn has_rows(chi: Result<Chirotope, SampleError>) -> bool
 
 /// The least wiring diagram of a chirotope, if there is one.
 pub fn sweep_of(alloc: Global, chi: Result<Chirotope, SampleError>) -> Option<Wiring> {
-    match &chi {
-        Ok(chi) => sweep(alloc, chi).ok(),
+    match chi {
+        Ok(chi) => sweep(alloc, &chi).ok(),
         Err(_) => None,
     }
 }
