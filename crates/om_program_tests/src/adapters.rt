@@ -66,8 +66,9 @@ const KINDS: [ErrorKind; 4] = [
     ErrorKind::Other,
 ];
 
-/// What six readings give.
-fn readings(source: &mut StdSource<Counting>) -> [Result<usize, Failed>; 6] {
+/// What six readings from a reader give.
+fn readings(reader: Counting) -> [Result<usize, Failed>; 6] {
+    let mut source = StdSource::new(reader);
     let mut buf = [0u8; 32];
     let mut given = [Ok(0); 6];
     for reading in given.iter_mut() {
@@ -76,8 +77,9 @@ fn readings(source: &mut StdSource<Counting>) -> [Result<usize, Failed>; 6] {
     given
 }
 
-/// What six writings of many bytes give.
-fn writings(sink: &mut StdSink<Counting>) -> [Result<usize, Failed>; 6] {
+/// What six writings of many bytes to a writer give.
+fn writings(writer: Counting) -> [Result<usize, Failed>; 6] {
+    let mut sink = StdSink::new(writer);
     let bytes = [0u8; 32];
     let mut given = [Ok(0); 6];
     for writing in given.iter_mut() {
@@ -89,17 +91,17 @@ fn writings(sink: &mut StdSink<Counting>) -> [Result<usize, Failed>; 6] {
 #[test]
 fn errors_are_told_once(rt: HostRuntime) {
     for kind in KINDS.iter() {
-        let given = readings(&mut StdSource::new(Counting::new(3, 6, *kind)));
+        let given = readings(Counting::new(3, 6, *kind));
         assert!(rt; given == [Ok(1), Ok(2), Err(Failed), Ok(4), Ok(5), Ok(0)]);
-        let given = writings(&mut StdSink::new(Counting::new(3, 6, *kind)));
+        let given = writings(Counting::new(3, 6, *kind));
         assert!(rt; given == [Ok(1), Ok(2), Err(Failed), Ok(4), Ok(5), Err(Failed)]);
     }
 }
 
 #[test]
 fn no_error_is_no_fault(rt: HostRuntime) {
-    let given = readings(&mut StdSource::new(Counting::new(0, 5, ErrorKind::Other)));
+    let given = readings(Counting::new(0, 5, ErrorKind::Other));
     assert!(rt; given == [Ok(1), Ok(2), Ok(3), Ok(4), Ok(0), Ok(0)]);
-    let given = writings(&mut StdSink::new(Counting::new(0, 9, ErrorKind::Other)));
+    let given = writings(Counting::new(0, 9, ErrorKind::Other));
     assert!(rt; given == [Ok(1), Ok(2), Ok(3), Ok(4), Ok(5), Ok(6)]);
 }

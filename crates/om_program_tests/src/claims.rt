@@ -1,8 +1,6 @@
 //! Runs of `check` in memory: claims that are cut off, and numbers around their limits.
 
-use super::helpers::{bytes, has_ended, sink, words};
-use om_port::SureSource;
-use om_program::run;
+use super::helpers::{AMPLE, On, end_over_sure};
 use std::alloc::Global;
 use std::thread::Threads;
 
@@ -10,37 +8,42 @@ use std::thread::Threads;
 const REALIZABLE: &[u8] =
     b"om 1\nchirotope 3 4\n++++\nend\nrealizable\nvector 1 0 0\nvector 0 1 0\nvector 0 0 1\nvector 1 -1 1\nend\n";
 
-/// The answers to none of these lines, to the first one alone, and so on up to nine of them.
-const MISSING: [&[u8]; 10] = [
-    b"refused line 1 missing\n",
-    b"refused line 2 missing\n",
-    b"refused line 3 missing\n",
-    b"refused line 4 missing\n",
-    b"refused line 5 missing\n",
-    b"refused line 6 missing\n",
-    b"refused line 7 missing\n",
-    b"refused line 8 missing\n",
-    b"refused line 9 missing\n",
-    b"refused line 10 missing\n",
+/// 21 vectors, one more than the most elements.
+const VECTORS: &str =
+    "vector 0 0 0\nvector 0 0 0\nvector 0 0 0\nvector 0 0 0\nvector 0 0 0\nvector 0 0 0\nvector 0 0 0\n\
+    vector 0 0 0\nvector 0 0 0\nvector 0 0 0\nvector 0 0 0\nvector 0 0 0\nvector 0 0 0\nvector 0 0 0\n\
+    vector 0 0 0\nvector 0 0 0\nvector 0 0 0\nvector 0 0 0\nvector 0 0 0\nvector 0 0 0\nvector 0 0 0\n";
+
+/// A weight with a number above the greatest one.
+const WEIGHT: &str = "undecided\nweight 1 2 3 1267650600228229401496703205377\n";
+
+/// How many lines of [`REALIZABLE`] are given, what comes after them, the exit code and the answer.
+const CLAIMS: [(usize, &str, u8, &str); 13] = [
+    (0, "", 1, "refused line 1 missing\n"),
+    (1, "", 1, "refused line 2 missing\n"),
+    (2, "", 1, "refused line 3 missing\n"),
+    (3, "", 1, "refused line 4 missing\n"),
+    (4, "", 1, "refused line 5 missing\n"),
+    (5, "", 1, "refused line 6 missing\n"),
+    (6, "", 1, "refused line 7 missing\n"),
+    (7, "", 1, "refused line 8 missing\n"),
+    (8, "", 1, "refused line 9 missing\n"),
+    (9, "", 1, "refused line 10 missing\n"),
+    (10, "", 0, "valid realizable\n"),
+    (5, VECTORS, 1, "refused line 26 many\n"),
+    (4, WEIGHT, 1, "refused line 6 entry\n"),
 ];
 
-/// Whether `check` of these bytes ends with this exit code and this answer.
+/// Whether `check` of these pieces of an input ends with this exit code and this answer.
 fn checks<R: Threads + Sync>(
     rt: &R,
     alloc: Global,
-    input: Vec<u8>,
+    pieces: &[&[u8]],
     code: u8,
     answer: &[u8],
 ) -> bool {
-    match sink(alloc, 100, 100, 0) {
-        Ok(mut sink) => {
-            let words = words(alloc, "check");
-            let mut source = SureSource::new(input);
-            let status = run(rt, alloc, words.as_slice(), &mut source, &mut sink);
-            has_ended(status, &sink, code, answer)
-        }
-        Err(_) => false,
-    }
+    let end = end_over_sure(rt, alloc, On::Input, "check", pieces, AMPLE, answer);
+    end == Ok((code, Some(answer.len())))
 }
 
 /// The first lines, this many.
@@ -57,22 +60,17 @@ fn first_lines(text: &[u8], count: usize) -> &[u8] {
     text
 }
 
+// cut off after each line, whole, and with lines past their limits
 #[test]
-fn claims_that_are_cut_off(rt: HostRuntime) {
+fn first_lines_of_a_claim(rt: HostRuntime) {
     let alloc = rt.alloc();
-    for (count, answer) in MISSING.iter().enumerate() {
-        let input = bytes(alloc, first_lines(REALIZABLE, count));
-        assert!(rt; checks(&rt, alloc, input, 1, answer), "{count} lines");
+    for (count, more, code, answer) in CLAIMS.iter() {
+        let pieces = [first_lines(REALIZABLE, *count), more.as_bytes()];
+        assert!(rt;
+            checks(&rt, alloc, &pieces, *code, answer.as_bytes()),
+            "{answer}"
+        );
     }
-    assert!(rt;
-        checks(
-            &rt,
-            alloc,
-            bytes(alloc, REALIZABLE),
-            0,
-            b"valid realizable\n"
-        )
-    );
 }
 
 /// A certificate of the non-Pappus chirotope up to its first multiplicity, and the lines after it.
@@ -94,48 +92,14 @@ const MULTIPLICITIES: [(&str, u8, &str); 4] = [
     ("9223372036854775809", 1, "refused line 7 entry\n"),
 ];
 
-/// Some bytes followed by others. If memory runs out there are fewer.
-fn joined(alloc: Global, before: &[u8], behind: &[u8]) -> Vec<u8> {
-    let mut all = bytes(alloc, before);
-    let _extended = all.extend_from_slice(behind);
-    all
-}
-
 #[test]
 fn multiplicities(rt: HostRuntime) {
     let alloc = rt.alloc();
     for (multiplicity, code, answer) in MULTIPLICITIES.iter() {
-        let head = joined(alloc, BEFORE, multiplicity.as_bytes());
-        let input = joined(alloc, head.as_slice(), BEHIND);
+        let pieces = [BEFORE, multiplicity.as_bytes(), BEHIND];
         assert!(rt;
-            checks(&rt, alloc, input, *code, answer.as_bytes()),
+            checks(&rt, alloc, &pieces, *code, answer.as_bytes()),
             "{multiplicity}"
         );
     }
-}
-
-/// A document followed by 21 vectors, one more than the most elements.
-fn many_vectors(alloc: Global) -> Vec<u8> {
-    let mut all = bytes(alloc, first_lines(REALIZABLE, 5));
-    for _vector in 0..21 {
-        let _extended = all.extend_from_slice(b"vector 0 0 0\n");
-    }
-    all
-}
-
-#[test]
-fn lines_past_their_limits(rt: HostRuntime) {
-    let alloc = rt.alloc();
-    assert!(rt;
-        checks(
-            &rt,
-            alloc,
-            many_vectors(alloc),
-            1,
-            b"refused line 26 many\n"
-        )
-    );
-    let weight = b"undecided\nweight 1 2 3 1267650600228229401496703205377\n";
-    let input = joined(alloc, first_lines(REALIZABLE, 4), weight.as_slice());
-    assert!(rt; checks(&rt, alloc, input, 1, b"refused line 6 entry\n"));
 }

@@ -1,8 +1,6 @@
 //! Runs of each command in memory, against answers computed by hand.
 
-use super::helpers::{are_whole, bytes, has_ended, is_wanting, sink, source, words};
-use om_port::SureSource;
-use om_program::run;
+use super::helpers::{AMPLE, OUT_OF_MEMORY, On, Row, both_end, end_over_sure};
 use std::alloc::Global;
 use std::thread::Threads;
 
@@ -12,8 +10,8 @@ const PLUS: &str = "om 1\nchirotope 3 4\n++++\nend\n";
 /// Elements 1 and 2 are parallel, 3 is a coloop, 4 a loop.
 const LOOP: &str = "om 1\nchirotope 2 4\n0+0+00\nend\n";
 
-/// Words, an input, the exit code and what is written.
-const RUNS: [(&str, &str, u8, &str); 26] = [
+/// Runs of each command, and some that are refused.
+const RUNS: [Row; 26] = [
     ("accept", PLUS, 0, "accepted\n"),
     (
         "accept",
@@ -117,53 +115,22 @@ const RUNS: [(&str, &str, u8, &str); 26] = [
     ),
 ];
 
-/// Whether a run over a source that never fails, and one that reads and writes byte by byte, both end like this.
-fn both_end<R: Threads + Sync>(
-    rt: &R,
-    alloc: Global,
-    line: &str,
-    input: &str,
-    code: u8,
-    output: &str,
-) -> bool {
-    let words = words(alloc, line);
-    let (Ok(mut whole), Ok(mut bits)) = (sink(alloc, 400, 400, 0), sink(alloc, 400, 1, 0)) else {
-        return false;
-    };
-    let mut sure = SureSource::new(bytes(alloc, input.as_bytes()));
-    let mut slow = source(alloc, input.as_bytes(), 1, 0);
-    let first = run(rt, alloc, words.as_slice(), &mut sure, &mut whole);
-    let second = run(rt, alloc, words.as_slice(), &mut slow, &mut bits);
-    has_ended(first, &whole, code, output.as_bytes())
-        && has_ended(second, &bits, code, output.as_bytes())
-}
-
 #[test]
 fn each_command(rt: HostRuntime) {
     let alloc = rt.alloc();
-    for (line, input, code, output) in RUNS.iter() {
-        assert!(rt; both_end(&rt, alloc, line, input, *code, output), "{line}");
+    for row in RUNS.iter() {
+        assert!(rt; both_end(&rt, alloc, On::Input, row), "{}", row.0);
     }
 }
 
-/// Whether a run ends like this, or runs out of memory with nothing written. If memory runs out before the run,
+/// Whether a run ends as a row says, or runs out of memory with nothing written. If memory runs out before the run,
 /// this is true.
-fn ends_or_wants<R: Threads + Sync>(
-    rt: &R,
-    alloc: Global,
-    line: &str,
-    input: &str,
-    code: u8,
-    output: &str,
-) -> bool {
-    let (words, bytes) = (words(alloc, line), bytes(alloc, input.as_bytes()));
-    match sink(alloc, 400, 400, 0) {
-        Ok(mut sink) if are_whole(words.as_slice(), line, bytes.as_slice(), input.as_bytes()) => {
-            let mut source = SureSource::new(bytes);
-            let status = run(rt, alloc, words.as_slice(), &mut source, &mut sink);
-            has_ended(status, &sink, code, output.as_bytes()) || is_wanting(status, &sink, b"")
-        }
-        _ => true,
+fn ends_or_wants<R: Threads + Sync>(rt: &R, alloc: Global, row: &Row) -> bool {
+    let (line, input, code, output) = *row;
+    let (pieces, text) = ([input.as_bytes()], output.as_bytes());
+    match end_over_sure(rt, alloc, On::Input, line, &pieces, AMPLE, text) {
+        Ok(end) => end == (code, Some(text.len())) || end == (OUT_OF_MEMORY, Some(0)),
+        Err(_) => true,
     }
 }
 
@@ -171,10 +138,7 @@ fn ends_or_wants<R: Threads + Sync>(
 #[test]
 fn each_command_or_want_of_memory(rt: HostRuntime) {
     let alloc = rt.alloc();
-    for (line, input, code, output) in RUNS.iter() {
-        assert!(rt;
-            ends_or_wants(&rt, alloc, line, input, *code, output),
-            "{line}"
-        );
+    for row in RUNS.iter() {
+        assert!(rt; ends_or_wants(&rt, alloc, row), "{}", row.0);
     }
 }

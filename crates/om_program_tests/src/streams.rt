@@ -1,9 +1,11 @@
 //! Runs over many documents, whose source or sink fails at each call in turn, and streams of several kinds.
 
-use super::helpers::{are_whole, bytes, has_ended, is_wanting, leaves, sink, source, words};
-use om_port::{MemSink, MemSource, SureSource};
-use om_program::{Status, run_each};
-use om_signs::{MAX_INPUT, NoMemory};
+use super::helpers::{
+    AMPLE, End, Feed, OUT_OF_MEMORY, On, Room, Row, both_end, end_of, end_over, end_over_sure,
+    room_of,
+};
+use om_port::SureSource;
+use om_signs::MAX_INPUT;
 use std::alloc::Global;
 use std::thread::Threads;
 
@@ -17,11 +19,6 @@ const ANSWERS: &[u8] = b"accepted\nrefused allzero\nrefused line 3 missing\nrefu
 /// How many bytes are read when the texts of the first documents are written, and how many bytes these texts have.
 /// The last text is written at the end of the input.
 const STEPS: [(usize, usize); 4] = [(0, 0), (28, 9), (56, 25), (80, 48)];
-
-/// The first bytes of the answers, this many.
-fn first_answers(count: usize) -> &'static [u8] {
-    &ANSWERS[..count.min(ANSWERS.len())]
-}
 
 /// How many bytes are written when this many are read.
 fn written_at(read: usize) -> usize {
@@ -44,60 +41,55 @@ fn read_at(place: usize) -> usize {
     STREAM.len()
 }
 
-/// Whether the documents end with this exit code, and the sink holds the first bytes of the answers up to this number.
+/// Whether this many bytes are the texts of the first documents, each whole.
+fn are_whole(count: usize) -> bool {
+    for (_, written) in STEPS.iter() {
+        if *written == count {
+            return true;
+        }
+    }
+    false
+}
+
+/// Whether the documents, given byte by byte by a source that fails at this call, end like this, and the source then
+/// has this many bytes left.
 fn end_with<R: Threads + Sync>(
     rt: &R,
     alloc: Global,
-    source: &mut MemSource,
-    sink: Result<MemSink, NoMemory>,
-    code: u8,
-    held: usize,
+    failing: u32,
+    room: Room,
+    end: End,
+    left: Option<usize>,
 ) -> bool {
-    match sink {
-        Ok(mut sink) => {
-            let words = words(alloc, "accept");
-            let status = run_each(rt, alloc, words.as_slice(), source, &mut sink);
-            has_ended(status, &sink, code, first_answers(held))
-        }
-        Err(_) => false,
-    }
+    let feed = Feed {
+        input: STREAM,
+        piece: 1,
+        failing,
+    };
+    end_over(rt, alloc, On::Each, "accept", feed, room, ANSWERS) == Ok((end, left))
 }
 
-// 83 calls give a byte each, and call 84 the end of the input; there is no call 85
+// 83 calls give a byte each, and call 84 the end of the input; there is no call 85, so that it fails only later
 #[test]
 fn sources_that_fail(rt: HostRuntime) {
     let alloc = rt.alloc();
     for call in 1..85 {
-        let read = (call as usize).saturating_sub(1).min(STREAM.len());
-        let mut source = source(alloc, STREAM, 1, call);
-        let ended = end_with(
-            &rt,
-            alloc,
-            &mut source,
-            sink(alloc, 100, 100, 0),
-            4,
-            written_at(read),
-        );
+        let read = (call as usize).saturating_sub(1);
+        let end = (4, Some(written_at(read)));
+        let left = Some(STREAM.len().saturating_sub(read));
         assert!(rt;
-            ended && leaves(alloc, &mut source, &STREAM[read..]),
+            end_with(&rt, alloc, call, AMPLE, end, left),
             "at call {call}"
         );
     }
-    let mut source = source(alloc, STREAM, 1, 85);
-    assert!(rt; end_with(&rt, alloc, &mut source, sink(alloc, 100, 1, 0), 1, 68));
+    assert!(rt; end_with(&rt, alloc, 85, room_of(100, 1, 0), (1, Some(68)), None));
 }
 
 /// Whether the documents are read no further than to the end of the one whose text is cut off after this many bytes
 /// in all.
-fn breaks_off<R: Threads + Sync>(
-    rt: &R,
-    alloc: Global,
-    sink: Result<MemSink, NoMemory>,
-    held: usize,
-) -> bool {
-    let mut source = source(alloc, STREAM, 1, 0);
-    let read = read_at(held).min(STREAM.len());
-    end_with(rt, alloc, &mut source, sink, 5, held) && leaves(alloc, &mut source, &STREAM[read..])
+fn break_off<R: Threads + Sync>(rt: &R, alloc: Global, room: Room, held: usize) -> bool {
+    let left = STREAM.len().saturating_sub(read_at(held));
+    end_with(rt, alloc, 0, room, (5, Some(held)), Some(left))
 }
 
 // each text is written before a byte after its document is read
@@ -107,11 +99,11 @@ fn sinks_that_fail(rt: HostRuntime) {
     for held in 0..68 {
         let call = u32::try_from(held).unwrap_or(0).saturating_add(1);
         assert!(rt;
-            breaks_off(&rt, alloc, sink(alloc, 100, 1, call), held),
+            break_off(&rt, alloc, room_of(100, 1, call), held),
             "behind {held} bytes"
         );
         assert!(rt;
-            breaks_off(&rt, alloc, sink(alloc, held, 7, 0), held),
+            break_off(&rt, alloc, room_of(held, 7, 0), held),
             "a room of {held}"
         );
     }
@@ -120,15 +112,11 @@ fn sinks_that_fail(rt: HostRuntime) {
 /// Whether the documents end with all answers, or run out of memory with the first answers complete. If memory runs
 /// out before the run, this is true.
 fn end_or_want<R: Threads + Sync>(rt: &R, alloc: Global) -> bool {
-    let (words, bytes) = (words(alloc, "accept"), bytes(alloc, STREAM));
-    match sink(alloc, 100, 100, 0) {
-        Ok(mut sink) if are_whole(words.as_slice(), "accept", bytes.as_slice(), STREAM) => {
-            let mut source = SureSource::new(bytes);
-            let status = run_each(rt, alloc, words.as_slice(), &mut source, &mut sink);
-            has_ended(status, &sink, 1, ANSWERS)
-                || STEPS.iter().any(|(_, held)| is_wanting(status, &sink, first_answers(*held)))
-        }
-        _ => true,
+    match end_over_sure(rt, alloc, On::Each, "accept", &[STREAM], AMPLE, ANSWERS) {
+        Ok((1, Some(held))) => held == ANSWERS.len(),
+        Ok((OUT_OF_MEMORY, Some(held))) => are_whole(held),
+        Ok(_) => false,
+        Err(_) => true,
     }
 }
 
@@ -138,8 +126,8 @@ fn documents_or_want_of_memory(rt: HostRuntime) {
     assert!(rt; end_or_want(&rt, rt.alloc()));
 }
 
-/// Words, an input, the exit code and what is written.
-const STREAMS: [(&str, &str, u8, &str); 9] = [
+/// Streams without documents, of several, and of ones that are refused or too large; and words that aren't for streams.
+const STREAMS: [Row; 9] = [
     ("accept", "", 0, ""),
     ("accept", "# none\n\n \t", 0, ""),
     (
@@ -176,52 +164,11 @@ const STREAMS: [(&str, &str, u8, &str); 9] = [
     ),
 ];
 
-/// How a run over a source that never fails ends, and whether the sink holds these bytes.
-fn each_of<R: Threads + Sync>(
-    rt: &R,
-    alloc: Global,
-    line: &str,
-    source: &mut SureSource,
-    held: &[u8],
-) -> (u8, bool) {
-    match sink(alloc, 400, 400, 0) {
-        Ok(mut sink) => {
-            let words = words(alloc, line);
-            let status = run_each(rt, alloc, words.as_slice(), source, &mut sink);
-            (status.code(), sink.bytes() == held)
-        }
-        Err(_) => (Status::NoMemory.code(), false),
-    }
-}
-
-/// How a run that reads and writes byte by byte ends, and whether the sink holds these bytes.
-fn each_byte_of<R: Threads + Sync>(
-    rt: &R,
-    alloc: Global,
-    line: &str,
-    input: &str,
-    held: &[u8],
-) -> (u8, bool) {
-    match sink(alloc, 400, 1, 0) {
-        Ok(mut sink) => {
-            let words = words(alloc, line);
-            let mut source = source(alloc, input.as_bytes(), 1, 0);
-            let status = run_each(rt, alloc, words.as_slice(), &mut source, &mut sink);
-            (status.code(), sink.bytes() == held)
-        }
-        Err(_) => (Status::NoMemory.code(), false),
-    }
-}
-
 #[test]
 fn streams(rt: HostRuntime) {
     let alloc = rt.alloc();
-    for (line, input, code, output) in STREAMS.iter() {
-        let mut source = SureSource::new(bytes(alloc, input.as_bytes()));
-        let whole = each_of(&rt, alloc, line, &mut source, output.as_bytes());
-        assert!(rt; whole == (*code, true), "{input:?}");
-        let slow = each_byte_of(&rt, alloc, line, input, output.as_bytes());
-        assert!(rt; slow == (*code, true), "{input:?} byte by byte");
+    for row in STREAMS.iter() {
+        assert!(rt; both_end(&rt, alloc, On::Each, row), "{:?}", row.1);
     }
 }
 
@@ -236,13 +183,17 @@ fn behind_a_comment(alloc: Global, count: usize) -> Vec<u8> {
     bytes
 }
 
+/// Whether the documents end with these answers if the first one has a comment of this many bytes.
+fn answer_with<R: Threads + Sync>(rt: &R, alloc: Global, count: usize, answers: &[u8]) -> bool {
+    let mut source = SureSource::new(behind_a_comment(alloc, count));
+    let end = end_of(rt, alloc, On::Each, "accept", &mut source, AMPLE, answers);
+    end == Ok((1, Some(answers.len())))
+}
+
 // the first document has 28 bytes and a line feed besides its comment; one byte more, and it is too long
 #[test]
 fn long_piece(rt: HostRuntime) {
-    let alloc = rt.alloc();
-    let mut most = SureSource::new(behind_a_comment(alloc, MAX_INPUT - 29));
-    assert!(rt; each_of(&rt, alloc, "accept", &mut most, ANSWERS) == (1, true));
-    let mut long = SureSource::new(behind_a_comment(alloc, MAX_INPUT - 28));
     let answers = b"refused long\nrefused allzero\nrefused line 3 missing\nrefused line 2 kind\n";
-    assert!(rt; each_of(&rt, alloc, "accept", &mut long, answers.as_slice()) == (1, true));
+    assert!(rt; answer_with(&rt, rt.alloc(), MAX_INPUT - 29, ANSWERS));
+    assert!(rt; answer_with(&rt, rt.alloc(), MAX_INPUT - 28, answers.as_slice()));
 }

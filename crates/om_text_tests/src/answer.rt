@@ -12,9 +12,14 @@ use om_subsets::Subset;
 use om_text::Code;
 use std::alloc::Global;
 
-/// Whether a line has this text.
-fn is_text(alloc: Global, line: &Line, text: &str) -> bool {
-    is_made(print_line(alloc, line), text.as_bytes())
+/// Whether lines have these texts.
+fn are_texts(alloc: Global, lines: &[(Line, &str)]) -> bool {
+    for (line, text) in lines.iter() {
+        if !is_made(print_line(alloc, line), text.as_bytes()) {
+            return false;
+        }
+    }
+    true
 }
 
 /// The subset of 1 to 9 with this mask.
@@ -36,25 +41,28 @@ const STATEMENT: Statement = Statement {
     strict: true,
 };
 
-// a line of words alone, and lines with numbers, sets and signs
-#[test]
-fn lines(rt: HostRuntime) {
+/// A line of words alone, and lines with numbers.
+const LINES: [(Line, &str); 3] = [
+    (Line::NotCovector, "not covector\n"),
+    (
+        Line::RefusedLine {
+            line: 2,
+            code: Code::Size { values: 19_448 },
+        },
+        "refused line 2 size 19448\n",
+    ),
+    (
+        Line::RefusedWeightfails {
+            statement: STATEMENT,
+        },
+        "refused weightfails 1 2 3 4 19 2 3\n",
+    ),
+];
+
+/// Lines with sets or signs.
+fn lines_with_sets() -> [(Line, &'static str); 5] {
     let (none, one_five, first_four) = (subset(0), subset(0b1_0001), subset(0b1111));
-    let lines = [
-        (Line::NotCovector, "not covector\n"),
-        (
-            Line::RefusedLine {
-                line: 2,
-                code: Code::Size { values: 19_448 },
-            },
-            "refused line 2 size 19448\n",
-        ),
-        (
-            Line::RefusedWeightfails {
-                statement: STATEMENT,
-            },
-            "refused weightfails 1 2 3 4 19 2 3\n",
-        ),
+    [
         (
             Line::RefusedRelation {
                 s: one_five,
@@ -91,10 +99,13 @@ fn lines(rt: HostRuntime) {
             },
             "circuit +-0-\n",
         ),
-    ];
-    for (line, text) in &lines {
-        assert!(rt; is_text(rt.alloc(), line, text));
-    }
+    ]
+}
+
+#[test]
+fn lines(rt: HostRuntime) {
+    assert!(rt; are_texts(rt.alloc(), LINES.as_slice()));
+    assert!(rt; are_texts(rt.alloc(), lines_with_sets().as_slice()));
 }
 
 /// Appends a number, a space, a set, the signs of a vector and the end of the line.

@@ -71,10 +71,14 @@ fn claims_are_copied(rt: HostRuntime) {
     for text in CLAIMS.iter() {
         assert!(rt; is_printed_as(&rt, alloc, text.as_bytes(), text.as_bytes()));
     }
+}
+
+#[test]
+fn spaced_claim_is_printed(rt: HostRuntime) {
     let spaced =
         b"om 1 # a claim\nchirotope 2 2\n\t+\nend\n\n limit  # of one pivot\npivots 0\nbasis 7\nexhausted\nend\n\n";
     let text = b"om 1\nchirotope 2 2\n+\nend\nlimit\npivots 0\nbasis 7\nexhausted\nend\n";
-    assert!(rt; is_printed_as(&rt, alloc, spaced, text));
+    assert!(rt; is_printed_as(&rt, rt.alloc(), spaced, text));
 }
 
 /// The text of a claim on a chirotope of rank 3, left undecided by a tableau that ended at a width.
@@ -98,17 +102,21 @@ fn document_in_rank_3(alloc: Global, chi: Chirotope) -> Document
     map_document(alloc, chi)
 }
 
+/// Whether a document has these signs of rank 3 on four elements.
+fn has_signs(document: &Document, signs: &str) -> bool {
+    match &document.body {
+        Body::Chirotope(raw) => is_map(raw, 3, 4, signs),
+        _ => false,
+    }
+}
+
 /// Whether a chirotope of rank 3 on four elements has these signs, and the claim on it has this text.
 fn is_rank_3_on_four(alloc: Global, chi: Chirotope, signs: &str, text: &[u8]) -> bool {
     if chi.rank() != 3 {
         return false;
     }
-    let made = open_claim(alloc, &chi);
-    let Document { body, .. } = document_in_rank_3(alloc, chi);
-    match body {
-        Body::Chirotope(raw) => is_map(&raw, 3, 4, signs) && is_made(made, text),
-        _ => false,
-    }
+    let made = is_made(open_claim(alloc, &chi), text);
+    made && has_signs(&document_in_rank_3(alloc, chi), signs)
 }
 
 #[test]

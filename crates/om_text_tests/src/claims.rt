@@ -1,15 +1,15 @@
 //! Claims: the verdicts that are read, and those that are printed.
 
-ghost use Rattle.std.specs.Prelude.{◌≡◌, IfOk};
+ghost use Rattle.std.specs.Prelude.{◌≡◌, ◌≤◌, length};
+ghost use Rattle.om_signs.specs.declared.limits.TheConstants.{MAX_READ};
 
 use super::helpers::is_made;
 use om_answer::{print_verdict, read_claim};
 use om_certificate::{LpEnd, Verdict};
 use om_chirotope::Chirotope;
-use om_reply::Claim;
-use om_samples::{SampleError, chirotope_of};
+use om_samples::chirotope_of;
 use om_simplex::Stage;
-use om_text::{Body, ParseError};
+use om_text::Body;
 use om_vectors::{Unfound, Vector};
 use std::alloc::Global;
 
@@ -26,10 +26,12 @@ fn is_limit(verdict: &Verdict) -> bool {
     }
 }
 
-/// Whether a claim on a wiring was read, with this limit.
-fn is_limit_of_wiring(found: &Result<Claim, ParseError>) -> bool {
-    match found {
-        Ok(claim) => { matches!(claim.document.body, Body::Wiring(_)) && is_limit(&claim.verdict) }
+/// Whether bytes are a claim on a wiring with this limit.
+fn is_limit_of_wiring(alloc: Global, bytes: &[u8]) -> bool
+    requires { length bytes.now ≤ MAX_READ }
+{
+    match &read_claim(alloc, bytes) {
+        Ok(claim) => matches!(claim.document.body, Body::Wiring(_)) && is_limit(&claim.verdict),
         Err(_) => false,
     }
 }
@@ -38,28 +40,22 @@ fn is_limit_of_wiring(found: &Result<Claim, ParseError>) -> bool {
 fn claim_with_a_basis(rt: HostRuntime) {
     let text =
         b"om 1\nwiring 2\n1-2\nend\nlimit\npivots 1000000\nbasis 0 999999\nfrontier\nvector -1 0 7\nend\n";
-    assert!(rt; is_limit_of_wiring(&read_claim(rt.alloc(), text)));
+    assert!(rt; is_limit_of_wiring(rt.alloc(), text));
 }
 
-/// Whether there is a chirotope, and the verdict on it by a tableau that ended at a width of this stage is printed
-/// as this text.
-fn is_printed(alloc: Global, chi: Result<Chirotope, SampleError>, stage: Stage, text: &str) -> bool
-    requires rank { IfOk chi (λ c. c.rank ≡ 1) }
-    requires elements { IfOk chi (λ c. c.elements ≡ 1) }
+/// Whether the verdict on one element by a tableau that ended at a width of this stage is printed as this text.
+fn is_printed(alloc: Global, chi: &Chirotope, stage: Stage, text: &str) -> bool
+    requires rank { chi.now.rank ≡ 1 }
+    requires elements { chi.now.elements ≡ 1 }
 {
-    match &chi {
-        Ok(chi) => {
-            let end = LpEnd::Width {
-                stage,
-                pivot: 1_000_001,
-                row: 65_535,
-                place: 0,
-            };
-            let verdict = Verdict::Limit(end, Unfound::Exhausted);
-            is_made(print_verdict(alloc, chi, &verdict), text.as_bytes())
-        }
-        Err(_) => false,
-    }
+    let end = LpEnd::Width {
+        stage,
+        pivot: 1_000_001,
+        row: 65_535,
+        place: 0,
+    };
+    let verdict = Verdict::Limit(end, Unfound::Exhausted);
+    is_made(print_verdict(alloc, chi, &verdict), text.as_bytes())
 }
 
 /// The text of the verdict on one element by a tableau that ended at a width of each stage.
@@ -82,10 +78,24 @@ const WIDTHS: [(Stage, &str); 4] = [
     ),
 ];
 
+/// Whether each stage is printed with its text.
+fn are_printed(alloc: Global, chi: &Chirotope) -> bool
+    requires rank { chi.now.rank ≡ 1 }
+    requires elements { chi.now.elements ≡ 1 }
+{
+    for (stage, text) in WIDTHS.iter() {
+        if !is_printed(alloc, chi, *stage, text) {
+            return false;
+        }
+    }
+    true
+}
+
 #[test]
 fn printed_widths(rt: HostRuntime) {
-    let alloc = rt.alloc();
-    for (stage, text) in WIDTHS.iter() {
-        assert!(rt; is_printed(alloc, chirotope_of(&rt, alloc, 1, 1, "+"), *stage, text));
-    }
+    let printed = match &chirotope_of(&rt, rt.alloc(), 1, 1, "+") {
+        Ok(chi) => are_printed(rt.alloc(), chi),
+        Err(_) => false,
+    };
+    assert!(rt; printed);
 }

@@ -69,23 +69,25 @@ fn text(alloc: Global) -> Vec<u8> {
     bytes
 }
 
-/// What was read, as a number of last bytes of the text. Other bytes count as running out of memory, which no test
-/// expects.
-fn read(found: Result<Vec<u8>, ReadError>) -> Result<usize, ReadError> {
-    match &found {
-        Ok(bytes) if TEXT.ends_with(bytes.as_slice()) => Ok(bytes.len()),
-        Ok(_) => Err(ReadError::Memory),
-        Err(error) => Err(*error),
+/// What a source that is always ready gives up to its end or the limit, as a number of last bytes of the text. Other
+/// bytes count as running out of memory, which no test expects.
+fn read<S: Source>(alloc: Global, source: &mut S, limit: usize) -> Result<usize, ReadError>
+    requires { (any : _) → S.ready any }
+{
+    let bytes = read_all(alloc, source, limit.min(MAX_INPUT))?;
+    if TEXT.ends_with(bytes.as_slice()) {
+        Ok(bytes.len())
+    } else {
+        Err(ReadError::Memory)
     }
 }
 
-/// The bytes that a source that is always ready gives up to its end or the limit, and what it gives then.
+/// What a source that is always ready gives so, and what it gives then.
 fn gives<S: Source>(alloc: Global, source: &mut S, limit: usize) -> [Result<usize, ReadError>; 2]
     requires { (any : _) → S.ready any }
 {
-    let limit = limit.min(MAX_INPUT);
-    let first = read(read_all(alloc, source, limit));
-    [first, read(read_all(alloc, source, limit))]
+    let first = read(alloc, source, limit);
+    [first, read(alloc, source, limit)]
 }
 
 #[test]

@@ -135,18 +135,13 @@ fn canonical_forms(rt: HostRuntime) {
     }
 }
 
-/// Whether these are two names.
-fn are_names(names: &[Name], first: &[u8], second: &[u8]) -> bool {
-    match names {
-        [a, b] => same(a.as_bytes(), first) && same(b.as_bytes(), second),
-        _ => false,
-    }
-}
-
 /// Whether a document was read, and these are its two names.
 fn has_names(found: &Result<Document, ParseError>, first: &[u8], second: &[u8]) -> bool {
     match found {
-        Ok(document) => are_names(document.names.as_slice(), first, second),
+        Ok(document) => match document.names.as_slice() {
+            [a, b] => same(a.as_bytes(), first) && same(b.as_bytes(), second),
+            _ => false,
+        },
         Err(_) => false,
     }
 }
@@ -156,10 +151,6 @@ fn has_names(found: &Result<Document, ParseError>, first: &[u8], second: &[u8]) 
 fn names(rt: HostRuntime) {
     let text = b"om 2\ncircuits 2\nnames Abcdefghij_01234 _\nhalf\nend";
     assert!(rt; has_names(&parse(rt.alloc(), text), b"Abcdefghij_01234", b"_"));
-}
-
-#[test]
-fn bytes_that_are_no_name(rt: HostRuntime) {
     assert!(rt; Name::new(b"Abcdefghij_012345").is_none());
 }
 
