@@ -44,10 +44,10 @@ fn is_mask(found: Option<Subset>, mask: u32) -> bool {
     }
 }
 
-/// The signs of 123, 134 and 234, each the first with its sign.
+/// The signs of 123, 124 and 234, each the first with its sign.
 const FIRST: [(Sign, u32); 3] = [
     (Sign::Plus, 0b0111),
-    (Sign::Zero, 0b1101),
+    (Sign::Zero, 0b1011),
     (Sign::Minus, 0b1110),
 ];
 
@@ -65,7 +65,7 @@ fn are_first(chi: &Chirotope) -> bool
 
 #[test]
 fn triples_with_a_sign(rt: HostRuntime) {
-    let first = match &chirotope_of(&rt, rt.alloc(), 3, 4, "++0-") {
+    let first = match &chirotope_of(&rt, rt.alloc(), 3, 4, "+0+-") {
         Ok(chi) => are_first(chi),
         Err(_) => false,
     };
