@@ -1,7 +1,7 @@
 -- How many cocircuits and mutations a chirotope of rank 3 may have.
 --
 -- Main results: most_cocircuits (in rank 3 at most n (n - 1) on n elements); few_cocircuits (no more than a list may
--- have), few_mutations (no more than triples), few_signs.
+-- have), few_mutations (no more than triples), few_signs, counted_signs.
 use Rattle.std.specs.Prelude.{ℕ, ◌≡◌, ◌<◌, ◌≤◌, ◌+◌, ◌*◌, ◌-◌, List, [], ◌∷◌, ◌++◌, length, map, refl}
 use Rattle.std.specs.List.{Contains}
 use Rattle.std.proofs.Common.{zero, suc, get_or, sym, ◌∙◌, ap, subst, inl, inr, arith}
@@ -24,6 +24,7 @@ use Rattle.om_denotation.specs.Circuits.{IsCocircuitOfChirotope, IsUpToSign}
 use Rattle.om_denotation.specs.Listings.{HasMoreThan}
 use Rattle.om_convert.proofs.CountingLaws.{distinct_few}
 use Rattle.om_mutate.specs.Mutations.{ListsMutations, nth}
+use Rattle.om_make.specs.Tallies.{count_of}
 use Rattle.om_make.proofs.FirstSigns.{fewer}
 
 -- ---- cocircuits
@@ -146,3 +147,8 @@ few_signs m sound raw signs is same =
     let signs_is : raw.signs ≡ m.signs = ap (λ k. k.signs) is in
     let size = ap length (same ∙ signs_is) in
     omega arith
+
+-- the number of a sign among the signs of the raw map of a map is its number in the map
+pub counted_signs : (s : Sign) (m : SignMap) (raw : RawMap) (signs : List Sign) (k : ℕ) → map_of raw ≡ m
+    → signs ≡ raw.signs → k ≡ count_of s signs → k ≡ count_of s m.signs
+counted_signs s m raw signs k is same counted = counted ∙ ap (count_of s) (same ∙ ap (λ n. n.signs) is)
