@@ -1,7 +1,7 @@
 use Rattle.std.proofs.Common.{sym, ◌∙◌, arith, ◌≤◌}
 use Rattle.std.proofs.lemmas.Bool.{false≢true}
 use Rattle.om_denotation.proofs.NormalForms.{normal_rank}
-use Rattle.om_minors.specs.Minors.{contracted}
+use Rattle.om_minors.specs.Minors.{deleted, contracted}
 use Rattle.om_minors.proofs.BasisLaws.{basis_on, basis_without, coloop_none, loop_none, rank_low}
 use Rattle.om_minors.proofs.MinorLists.{contraction_at, loop_contraction}
 use Rattle.om_minors.proofs.minors.contract_chirotope.Goals as goal
@@ -39,3 +39,27 @@ returns-in_ok-general_contraction-clause-rank c = λ no.
     c.in_ok-general_contraction.ensures in
     let low = rank_low c.args.chi.now c.args.e (basis_on c.args.chi.now c.args.e no) in
     omega (arith, r, low)
+
+pub returns-in_ok-general_contraction-clause-value : goal.returns-in_ok-general_contraction-clause-value
+returns-in_ok-general_contraction-clause-value c = λ _. c.in_ok-general_contraction.ensures
+
+pub returns-in_ok-general_contraction-clause-at_loop : goal.returns-in_ok-general_contraction-clause-at_loop
+returns-in_ok-general_contraction-clause-at_loop c = λ loop.
+    absurd (false≢true (sym c.if-is_loop.false ∙ c.is_loop.ensures.1 loop))
+
+pub returns-in_ok-general_contraction-clause-rank_at_loop : goal.returns-in_ok-general_contraction-clause-rank_at_loop
+returns-in_ok-general_contraction-clause-rank_at_loop c = λ loop.
+    absurd (false≢true (sym c.if-is_loop.false ∙ c.is_loop.ensures.1 loop))
+
+pub returns-in_ok-general_deletion-clause-value : goal.returns-in_ok-general_deletion-clause-value
+returns-in_ok-general_deletion-clause-value c = λ no. absurd (no (c.is_loop.ensures.0 c.if-is_loop.true))
+
+pub returns-in_ok-general_deletion-clause-at_loop : goal.returns-in_ok-general_deletion-clause-at_loop
+returns-in_ok-general_deletion-clause-at_loop c = λ _. c.in_ok-general_deletion.ensures
+
+pub returns-in_ok-general_deletion-clause-rank : goal.returns-in_ok-general_deletion-clause-rank
+returns-in_ok-general_deletion-clause-rank c = λ no. absurd (no (c.is_loop.ensures.0 c.if-is_loop.true))
+
+pub returns-in_ok-general_deletion-clause-rank_at_loop : goal.returns-in_ok-general_deletion-clause-rank_at_loop
+returns-in_ok-general_deletion-clause-rank_at_loop c = λ _.
+    normal_rank (deleted c.args.e c.args.chi.now) c.in_ok-general_deletion.field-0 c.in_ok-general_deletion.ensures

@@ -1,7 +1,7 @@
 use Rattle.std.proofs.Common.{sym, ◌∙◌, arith, ◌≤◌}
 use Rattle.std.proofs.lemmas.Bool.{false≢true}
 use Rattle.om_denotation.proofs.NormalForms.{normal_rank}
-use Rattle.om_minors.specs.Minors.{contracted}
+use Rattle.om_minors.specs.Minors.{deleted, contracted}
 use Rattle.om_minors.proofs.BasisLaws.{basis_off, basis_with, coloop_none, loop_none, rank_low}
 use Rattle.om_minors.proofs.MinorLists.{deletion_at, coloop_deletion}
 use Rattle.om_minors.proofs.minors.delete_chirotope.Goals as goal
@@ -44,3 +44,27 @@ returns-in_ok-general_deletion-clause-deletion c =
     c.in_ok-general_deletion.field-0
     (basis_off c.args.chi.now c.args.e (λ coloop. false≢true (sym c.if-is_coloop.false ∙ c.is_coloop.ensures.1 coloop)))
     c.in_ok-general_deletion.ensures
+
+pub returns-in_ok-general_contraction-clause-value : goal.returns-in_ok-general_contraction-clause-value
+returns-in_ok-general_contraction-clause-value c = λ no. absurd (no (c.is_coloop.ensures.0 c.if-is_coloop.true))
+
+pub returns-in_ok-general_contraction-clause-at_coloop : goal.returns-in_ok-general_contraction-clause-at_coloop
+returns-in_ok-general_contraction-clause-at_coloop c = λ _. c.in_ok-general_contraction.ensures
+
+pub returns-in_ok-general_contraction-clause-rank : goal.returns-in_ok-general_contraction-clause-rank
+returns-in_ok-general_contraction-clause-rank c = λ no. absurd (no (c.is_coloop.ensures.0 c.if-is_coloop.true))
+
+pub returns-in_ok-general_deletion-clause-value : goal.returns-in_ok-general_deletion-clause-value
+returns-in_ok-general_deletion-clause-value c = λ _. c.in_ok-general_deletion.ensures
+
+pub returns-in_ok-general_deletion-clause-at_coloop : goal.returns-in_ok-general_deletion-clause-at_coloop
+returns-in_ok-general_deletion-clause-at_coloop c = λ coloop.
+    absurd (false≢true (sym c.if-is_coloop.false ∙ c.is_coloop.ensures.1 coloop))
+
+pub returns-in_ok-general_deletion-clause-rank : goal.returns-in_ok-general_deletion-clause-rank
+returns-in_ok-general_deletion-clause-rank c = λ _.
+    normal_rank (deleted c.args.e c.args.chi.now) c.in_ok-general_deletion.field-0 c.in_ok-general_deletion.ensures
+
+pub returns-in_ok-general_deletion-clause-rank_at_coloop : goal.returns-in_ok-general_deletion-clause-rank_at_coloop
+returns-in_ok-general_deletion-clause-rank_at_coloop c = λ coloop.
+    absurd (false≢true (sym c.if-is_coloop.false ∙ c.is_coloop.ensures.1 coloop))
