@@ -1,9 +1,9 @@
 -- What the sweep returns: which of its errors name the rank, and which name a violated pair.
 --
 -- Main results: rank_named and rank_not_named; memory_names_no_rank and memory_names_no_pair; rank_is_no_pair and
--- pair_is_no_rank.
+-- pair_is_no_rank; pair_named.
 use Rattle.std.specs.Prelude.{ℕ, ◌≡◌, ◌≢◌, ◌↔◌, Result, Ok, Err, IsErrOf, IsErrAnd, IfErr}
-use Rattle.std.proofs.Common.{sym, ap, ◌∙◌}
+use Rattle.std.proofs.Common.{sym, ap, subst, ◌∙◌}
 use Rattle.om_subsets.specs.Members.{Chosen}
 use Rattle.om_chirotope.specs.Map.{SignMap}
 use Rattle.om_chirotope.specs.Chirotope.{IsFirstViolated}
@@ -47,3 +47,17 @@ rank_is_no_pair k s a e = cc
 pub pair_is_no_rank : {T : Type 0} (s a : Chosen) (r : ℕ)
     → ◌≡◌ {A = Result T SweepError} (Err (NotSweepable s a)) (Err (NotRank3 r)) → ⊥
 pair_is_no_rank s a r e = cc
+
+-- the pair that an error names is the first violated one of the extended map
+pub pair_named : (m k : SignMap) (s a : Chosen) → k ≡ extended m → IsFirstViolated k s a → (t b : Chosen)
+    → NotSweepable s a ≡ NotSweepable t b → IsFirstViolated (extended m) t b
+pair_named m k s a is first t b e =
+    subst (λ n. IsFirstViolated n t b) is
+    (subst (λ x. IsFirstViolated k x b) (first_of_pair s a t b e)
+    (subst (λ y. IsFirstViolated k s y) (second_of_pair s a t b e) first))
+  where
+    first_of_pair : (s a t b : Chosen) → NotSweepable s a ≡ NotSweepable t b → s ≡ t
+    first_of_pair s a t b e = cc
+
+    second_of_pair : (s a t b : Chosen) → NotSweepable s a ≡ NotSweepable t b → a ≡ b
+    second_of_pair s a t b e = cc
