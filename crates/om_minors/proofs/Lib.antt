@@ -7,6 +7,7 @@ pub mod DualMinors
 pub mod DroppedPlaces
 pub mod FlippedLists
 pub mod FamilyMinors
+pub mod LastElements
 pub mod ListMinors
 pub mod ListReorientations
 pub mod GatheringLaws

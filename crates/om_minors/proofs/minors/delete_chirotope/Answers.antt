@@ -1,8 +1,10 @@
 use Rattle.std.proofs.Common.{sym, ◌∙◌, arith, ◌≤◌}
 use Rattle.std.proofs.lemmas.Bool.{false≢true}
+use Rattle.std.proofs.lemmas.Result.{IfOk-from_err}
 use Rattle.om_denotation.proofs.NormalForms.{normal_rank}
 use Rattle.om_minors.specs.Minors.{deleted, contracted}
 use Rattle.om_minors.proofs.BasisLaws.{basis_off, basis_with, coloop_none, loop_none, rank_low}
+use Rattle.om_minors.proofs.LastElements.{none_of_memory, none_of_ok}
 use Rattle.om_minors.proofs.MinorLists.{deletion_at, coloop_deletion}
 use Rattle.om_minors.proofs.minors.delete_chirotope.Goals as goal
 
@@ -68,3 +70,57 @@ returns-in_ok-general_deletion-clause-rank c = λ _.
 pub returns-in_ok-general_deletion-clause-rank_at_coloop : goal.returns-in_ok-general_deletion-clause-rank_at_coloop
 returns-in_ok-general_deletion-clause-rank_at_coloop c = λ coloop.
     absurd (false≢true (sym c.if-is_coloop.false ∙ c.is_coloop.ensures.1 coloop))
+
+pub returns-in_err-general_contraction : goal.returns-in_err-general_contraction
+returns-in_err-general_contraction c =
+    let x = c.from_residual.result in
+    let gone = c.from_residual.ensures in
+    record {
+      last_element = none_of_memory x c.args.chi.now.elements c.elements.result gone.1 c.elements.ensures.value
+          c.if-elements-eq1.false;
+      elements = IfOk-from_err x _ gone.0;
+      deletion = IfOk-from_err x _ gone.0;
+      normal = IfOk-from_err x _ gone.0;
+      value = IfOk-from_err x _ gone.0;
+      at_coloop = IfOk-from_err x _ gone.0;
+      rank = IfOk-from_err x _ gone.0;
+      rank_at_coloop = IfOk-from_err x _ gone.0;
+    }
+
+pub returns-in_ok-general_contraction-clause-last_element : goal.returns-in_ok-general_contraction-clause-last_element
+returns-in_ok-general_contraction-clause-last_element c = none_of_ok _ c.args.chi.now.elements c.elements.result
+    c.elements.ensures.value c.if-elements-eq1.false
+
+pub general_contraction-requires-clause-several : goal.general_contraction-requires-clause-several
+general_contraction-requires-clause-several c =
+    let some = c.elements.ensures.low in
+    let n = c.elements.ensures.value in
+    let other = c.if-elements-eq1.false in
+    omega arith
+
+pub returns-in_err-general_deletion : goal.returns-in_err-general_deletion
+returns-in_err-general_deletion c =
+    let x = c.from_residual-in_err-general_deletion.result in
+    let gone = c.from_residual-in_err-general_deletion.ensures in
+    record {
+      last_element = none_of_memory x c.args.chi.now.elements c.elements.result gone.1 c.elements.ensures.value
+          c.if-elements-eq1.false;
+      elements = IfOk-from_err x _ gone.0;
+      deletion = IfOk-from_err x _ gone.0;
+      normal = IfOk-from_err x _ gone.0;
+      value = IfOk-from_err x _ gone.0;
+      at_coloop = IfOk-from_err x _ gone.0;
+      rank = IfOk-from_err x _ gone.0;
+      rank_at_coloop = IfOk-from_err x _ gone.0;
+    }
+
+pub returns-in_ok-general_deletion-clause-last_element : goal.returns-in_ok-general_deletion-clause-last_element
+returns-in_ok-general_deletion-clause-last_element c = none_of_ok _ c.args.chi.now.elements c.elements.result
+    c.elements.ensures.value c.if-elements-eq1.false
+
+pub general_deletion-requires-clause-several : goal.general_deletion-requires-clause-several
+general_deletion-requires-clause-several c =
+    let some = c.elements.ensures.low in
+    let n = c.elements.ensures.value in
+    let other = c.if-elements-eq1.false in
+    omega arith
