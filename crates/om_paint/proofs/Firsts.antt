@@ -3,7 +3,7 @@
 --
 -- Main definitions: AreFirsts, IsFilledBefore, IsCircuitIn, IsCocircuitIn
 -- Main results: kept_zero, put, placed, filled_on, filled_at_last, fewer, first_of_circuits, no_circuits,
--- first_of_cocircuits
+-- first_of_cocircuits, no_cocircuits
 use Rattle.std.proofs.Common.{ℕ, ◌≡◌, ◌+◌, ◌-◌, ◌<◌, ◌↔◌, List, length, map, get_or, replicate, set, refl, sym, ap}
 use Rattle.std.proofs.Common.{subst, ◌∙◌, inl, inr, arith}
 use Rattle.std.specs.Prelude.{Option, None, Some}
@@ -180,3 +180,8 @@ module _ (m : SignMap) (Q : List Sign → Type 0) where
   first_of_cocircuits r o h =
       first_same (IsOfList (cocircuit_vector m) Q m.elements (m.rank - 1)) IsCocircuitIn (to_cocircuit r) from_cocircuit
       o (all_places (cocircuit_vector m) Q m.elements (m.rank - 1) o h)
+
+  pub no_cocircuits : m.rank ≡ 0 → (i : ℕ) → i < CLASSES
+      → IsFirstIfAny IsCocircuitIn (get_or (replicate CLASSES None) i None)
+  no_cocircuits none i lt = subst (IsFirstIfAny IsCocircuitIn) (sym (get_or-replicate CLASSES i None None lt))
+      (λ X h. let c = h.0 in let s = c.size in omega (arith, none, s))

@@ -5,8 +5,12 @@ use Rattle.om_signs.specs.Sign.{opposite}
 use Rattle.om_chirotope.specs.Map.{cocircuit_vector, value_of}
 use Rattle.om_laws.specs.Relations.{along}
 use Rattle.om_laws.proofs.BridgeLaws.{length-as_list}
-use Rattle.om_paint.proofs.Firsts.{fewer, filled_on, filled_at_last, first_of_cocircuits}
+use Rattle.om_paint.proofs.Firsts.{fewer, filled_on, filled_at_last, first_of_cocircuits, no_cocircuits}
 use Rattle.om_paint.proofs.search.first_cocircuits.Goals as goal
+
+pub returns-then-rank-eq0 : goal.returns-then-rank-eq0
+returns-then-rank-eq0 g c = λ i lt. no_cocircuits c.args.chi.now (g.C.Classes.holds c.args.classes.now i)
+    (sym c.rank-rank.ensures.value ∙ c.if-rank-eq0.true) i lt
 
 pub meet-requires-clause-size : goal.meet-requires-clause-size
 meet-requires-clause-size g c = ap length c.cocircuit_of-u.ensures
