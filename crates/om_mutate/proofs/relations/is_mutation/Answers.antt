@@ -12,3 +12,6 @@ returns c =
       λ h. k.0 (c.stays_balanced_around.ensures.0 h) (λ z. nonzero (c.at.ensures.place ∙ z)),
       λ u. c.stays_balanced_around.ensures.1 (k.1 u),
     )
+
+pub returns-then-eq : goal.returns-then-eq
+returns-then-eq c = search rules
