@@ -181,6 +181,7 @@ module _ (m : SignMap) (Q : List Sign → Type 0) where
       first_same (IsOfList (cocircuit_vector m) Q m.elements (m.rank - 1)) IsCocircuitIn (to_cocircuit r) from_cocircuit
       o (all_places (cocircuit_vector m) Q m.elements (m.rank - 1) o h)
 
+  -- in rank 0 there is no cocircuit
   pub no_cocircuits : m.rank ≡ 0 → (i : ℕ) → i < CLASSES
       → IsFirstIfAny IsCocircuitIn (get_or (replicate CLASSES None) i None)
   no_cocircuits none i lt = subst (IsFirstIfAny IsCocircuitIn) (sym (get_or-replicate CLASSES i None None lt))

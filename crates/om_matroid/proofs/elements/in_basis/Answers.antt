@@ -8,7 +8,8 @@ returns-then-is_basis-clause-first c =
 
 pub returns-then-is_basis-clause-second : goal.returns-then-is_basis-clause-second
 returns-then-is_basis-clause-second c =
-    (λ t. (c.is_basis.ensures.0 c.if-is_basis.true, c.has-then-is_basis.ensures.0 t), λ h. c.has-then-is_basis.ensures.1 h.1)
+    let second = c.has-then-is_basis.ensures in
+    (λ t. (c.is_basis.ensures.0 c.if-is_basis.true, second.0 t), λ h. second.1 h.1)
 
 pub returns-else-is_basis-clause-first : goal.returns-else-is_basis-clause-first
 returns-else-is_basis-clause-first c =
