@@ -1,3 +1,5 @@
+use Rattle.std.proofs.Common.{arith}
+use Rattle.std.proofs.lemmas.Grind.{common_steps}
 use Rattle.om_reply.proofs.SignatureLaws.{signatures_more}
 use Rattle.om_reply.proofs.extension_text.push_signatures.Goals as goal
 
@@ -6,3 +8,6 @@ loop-signature-preserved c =
     signatures_more c.args.text.now.items _ _ c.args.signatures.now c.loop-signature.signature-index
     c.signature-item.result c.loop-signature-test.true c.signature-item.is c.loop-signature.invariant
     c.in_ok-push_signature.ensures
+
+pub returns : goal.returns
+returns c = grind (arith, common_steps)
