@@ -1,3 +1,4 @@
+use Rattle.std.proofs.Common.{arith}
 use Rattle.om_points.specs.Forms.{Refuses}
 use Rattle.om_points.proofs.Passes.{passed_none, passed_more, passed_candidate}
 use Rattle.om_points.proofs.passing.leap.Goals as goal
@@ -6,6 +7,9 @@ pub next-requires-clause-candidate : goal.next-requires-clause-candidate
 next-requires-clause-candidate c =
     passed_candidate c.args.box_size (Refuses c.args.form) c.args.vector c.run-run.result.vector c.run-run.result.steps
     c.requires.candidate (c.run-run.ensures.passed c.args.box_size c.requires.candidate)
+
+pub returns-in-Some-clause-few : goal.returns-in-Some-clause-few
+returns-in-Some-clause-few c = omega arith
 
 pub returns-in-Some-clause-passed : goal.returns-in-Some-clause-passed
 returns-in-Some-clause-passed c =

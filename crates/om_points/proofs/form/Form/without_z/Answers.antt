@@ -1,7 +1,7 @@
-use Rattle.std.proofs.Common.{◌≡◌, ◌∙◌, ap, refl}
+use Rattle.std.proofs.Common.{◌≡◌, ◌∙◌, ap, refl, arith}
 use Rattle.std.specs.Prelude.{pos, neg_ℤ, ◌≤ℤ◌}
 use Rattle.om_points.proofs.Eliminations.{sum_refuses, not_negative}
-use Rattle.om_points.proofs.Sizes.{wide, read_minor, read_coefficient, minor_back}
+use Rattle.om_points.proofs.Sizes.{wide, read_minor, read_coefficient, coefficient_back, minor_back}
 use Rattle.om_points.proofs.form.Form.without_z.Goals as goal
 
 pub opposite-a-requires : goal.opposite-a-requires
@@ -34,6 +34,14 @@ mixed-requires-3 c =
       b = rw (read_coefficient _ _ c.self.invariant.z (ap (λ f. f.z) c.self.view_is)) c.requires.first.z;
       q = rw (read_coefficient _ _ c.other.invariant.least (ap (λ f. f.least) c.other.view_is)) c.requires.second.least;
     }
+
+pub invariant_of-result : goal.invariant_of-result
+invariant_of-result c = record {
+  x = coefficient_back c.mixed.result c.mixed.ensures.size;
+  y = coefficient_back c.mixed-2.result c.mixed-2.ensures.size;
+  z = omega arith;
+  least = coefficient_back c.mixed-3.result c.mixed-3.ensures.size;
+}
 
 pub returns : goal.returns
 returns c = λ v h nf ng.
