@@ -13,6 +13,15 @@ returns-in-Ok-clause-form c =
     let small : c.args.chi.now.elements ≤ MAX_ELEMENTS = c.rank.ensures.few in
     verdict_form c.args.chi.now small c.args.budgets c.requires _ (realizable c.in-Ok.word c.in-Ok.ensures.found)
 
+pub returns-in-Ok-clause-shown : goal.returns-in-Ok-clause-shown
+returns-in-Ok-clause-shown c =
+    verdict_shown c.args.chi.now c.args.budgets _ (realizable c.in-Ok.word c.in-Ok.ensures.found)
+
+pub returns-in-Ok-clause-limits : goal.returns-in-Ok-clause-limits
+returns-in-Ok-clause-limits c =
+    let small : c.args.chi.now.elements ≤ MAX_ELEMENTS = c.rank.ensures.few in
+    verdict_within c.args.chi.now small c.args.budgets _ (realizable c.in-Ok.word c.in-Ok.ensures.found)
+
 pub returns-in_ok-by_tableau-in-Err-clause-shown : goal.returns-in_ok-by_tableau-in-Err-clause-shown
 returns-in_ok-by_tableau-in-Err-clause-shown c =
     verdict_shown c.args.chi.now c.args.budgets c.in_ok-by_tableau-in-Err.field-0 c.in_ok-by_tableau-in-Err.ensures
