@@ -1,4 +1,4 @@
-use Rattle.std.proofs.Common.{refl, sym, subst, arith, inl, inr}
+use Rattle.std.proofs.Common.{refl, sym, subst, arith, inl, inr, rules}
 use Rattle.std.proofs.lemmas.Bool.{false≢true, cases_eq}
 use Rattle.om_subsets.specs.Subsets.{subset_at, AreApart}
 use Rattle.om_chirotope.specs.Map.{map_of}
@@ -28,3 +28,6 @@ loop-k-preserved c = λ j l basis apart. elim (cases_eq j c.loop-k.k) [
       ]
   | inr n ↦ c.loop-k.invariant j (omega arith) basis apart
 ]
+
+pub returns-then-is_apart_from-clause-earlier : goal.returns-then-is_apart_from-clause-earlier
+returns-then-is_apart_from-clause-earlier c = search rules

@@ -1,0 +1,5 @@
+use Rattle.std.proofs.Common.{rules}
+use Rattle.om_threeterm.proofs.exchanges.has_exchange_apart.Goals as goal
+
+pub returns : goal.returns
+returns c = search rules
