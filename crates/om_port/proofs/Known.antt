@@ -1,12 +1,12 @@
 -- Known bytes, over several reads or writes.
 --
--- Main results: Consumes-then, Appends-then, taken_exactly, taken_at_most, write_step, read_step
+-- Main results: Consumes-then, Appends-then, another_read, taken_exactly, taken_at_most, write_step, read_step
 use Rattle.std.proofs.Common.{ℕ, ◌≡◌, ◌+◌, ◌-◌, ◌<◌, ◌≤◌, List, [], ◌++◌, length, take, drop, refl, sym, ◌∙◌, ap, arith}
 use Rattle.std.proofs.Common.{append_assoc}
 use Rattle.std.specs.Prelude.{None, Some, Option}
 use Rattle.std.specs.Io.KnownBytes.{Consumes, Appends}
 use Rattle.std.proofs.lemmas.List.{drop_all, length-take, take-append-drop, length-drop, length-append, take_rest}
-use Rattle.std.proofs.lemmas.List.{take_at, drop-drop}
+use Rattle.std.proofs.lemmas.List.{take_at, take-append-le, drop-drop}
 use Rattle.std.proofs.Math.Seq.{take-add}
 use Rattle.om_port.specs.Causes.{TakesExactly, TakesAtMost}
 
@@ -22,6 +22,19 @@ Appends-then None b c xs ys h k = h
 Appends-then (Some a) None c xs ys h k = absurd h
 Appends-then (Some a) (Some b) None xs ys h k = absurd k
 Appends-then (Some a) (Some b) (Some c) xs ys h k = k ∙ rw (h, append_assoc) refl
+
+-- the bytes of another read are kept behind those that were taken
+pub another_read : (a b c : Option (List ℕ)) (xs kept buf rest : List ℕ) (k : ℕ) → Consumes a b xs
+    → Consumes b c (take k buf) → k ≤ length buf → kept ≡ xs ++ take k (buf ++ rest)
+    → record { taken : Consumes a c kept; size : length kept ≡ length xs + k }
+another_read a b c xs kept buf rest k h h2 fits e =
+    let f : kept ≡ xs ++ take k buf = e ∙ ap (λ bs. xs ++ bs) (take-append-le k buf rest fits) in
+    let l = length-append xs (take k buf) in
+    let t = length-take k buf in
+    record {
+      taken = rw f (Consumes-then a b c xs (take k buf) h h2);
+      size = ap length f ∙ l ∙ ap (λ n. length xs + n) (let m : length (take k buf) ≡ k = omega arith in m);
+    }
 
 -- the bytes of another read
 pub taken_exactly : (a b c : Option (List ℕ)) (xs buf : List ℕ) (k n : ℕ) → Consumes a b xs → Consumes b c (take k buf)

@@ -1,6 +1,6 @@
-use Rattle.std.proofs.Common.{◌≡◌, ◌≤◌, ◌+◌, length, arith}
+use Rattle.std.proofs.Common.{◌≡◌, ◌<◌, ◌≤◌, ◌+◌, length, arith}
 use Rattle.std.proofs.lemmas.List.{length-take}
-use Rattle.om_port.proofs.Known.{Consumes-then, taken_exactly, taken_at_most}
+use Rattle.om_port.proofs.Known.{Consumes-then, another_read, taken_exactly, taken_at_most}
 use Rattle.om_port.proofs.whole.read_all.Goals as goal
 
 pub returns-then-is_err-clause-prefix : goal.returns-then-is_err-clause-prefix
@@ -33,3 +33,31 @@ returns-then-is_err-clause-few g c = λ _.
     ) in
     taken_at_most _ _ _ _ _ c.in-Ok.count c.args.limit c.loop-turn.invariant.taken c.in-Ok.ensures.bytes.0
     c.in-Ok.ensures.bound.0 within
+
+pub returns : goal.returns
+returns g c = absurd (omega (arith, c.loop-turn.invariant.some, c.loop-turn.invariant.few, c.loop-turn-test.false))
+
+pub loop-turn-preserved : goal.loop-turn-preserved
+loop-turn-preserved g c =
+    let read = another_read _ _ _ c.loop-turn.bytes.items c.extend_from_slice.new.self.items c.read.new.buf _ c.in-Ok.count
+    c.loop-turn.invariant.taken c.in-Ok.ensures.bytes.0 c.in-Ok.ensures.bound.0
+    (rw c.if-is_err.ensures.negation at c.extend_from_slice.ensures.items) in
+    let some : 0 < c.in-Ok.count = omega (arith, c.in-Ok.count-test.1) in
+    let within : length c.loop-turn.bytes.items + c.in-Ok.count ≤ c.args.limit =
+    omega (
+      arith,
+      c.loop-turn.bytes.ok,
+      c.len.ensures,
+      c.if-count-room.false,
+      c.loop-turn.invariant.few,
+      c.min-piece.ensures,
+      c.in-Ok.ensures.bound,
+      length-take c.min-piece.result c.loop-turn.buf,
+    ) in
+    record {
+      some = omega (arith, read.size, c.loop-turn.bytes.ok, c.extend_from_slice.new.self.ok, c.loop-turn.invariant.some);
+      few = omega (arith, read.size, c.extend_from_slice.new.self.ok);
+      taken = read.taken;
+      ready = c.in-Ok.ensures.again some;
+      later = omega (arith, c.loop-turn.invariant.later, c.in-Ok.ensures.cause.later);
+    }

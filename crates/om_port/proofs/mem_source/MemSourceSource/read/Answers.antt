@@ -24,3 +24,15 @@ returns-clause-bytes c =
     ∙ take_rest c.self.inside.bytes.items c.self.inside.at)
     (omega arith) (omega arith) (λ z some. omega arith)
     c.copy_from_slice.ensures.after
+
+pub returns-clause-calls : goal.returns-clause-calls
+returns-clause-calls c = ap (λ p. p.calls) c.begin.ensures.plan ∙ ap (λ f. raised f.calls) c.self.view_is
+
+pub returns-clause-faults : goal.returns-clause-faults
+returns-clause-faults c = ap (λ p. p.faults) c.begin.ensures.plan ∙ ap (λ f. f.faults) c.self.view_is
+
+pub returns-clause-failing : goal.returns-clause-failing
+returns-clause-failing c = ap (λ p. p.failing) c.begin.ensures.plan ∙ ap (λ f. f.failing) c.self.view_is
+
+pub returns-clause-piece : goal.returns-clause-piece
+returns-clause-piece c = ap (λ f. f.piece) c.self.view_is
