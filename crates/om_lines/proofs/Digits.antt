@@ -1,11 +1,12 @@
 -- Numbers of at most six digits, and of any number of digits up to a limit.
 --
--- Main results: ten_small, digit_at, number_step, number_grows, unsigned_within, signed_within
+-- Main results: ten_small, digit_at, number_step, number_grows, unsigned_within, signed_within, signed_minus
 use Rattle.std.proofs.Common.{◌≡◌, ℕ, zero, suc, ◌+◌, ◌-◌, ◌*◌, ◌<◌, ◌≤◌, List, [], ◌∷◌, true, length, drop, get_or}
-use Rattle.std.proofs.Common.{refl, arith, nat_le, inl, inr}
+use Rattle.std.proofs.Common.{refl, ap, ◌∙◌, take, arith, nat_le, inl, inr}
+use Rattle.std.proofs.lemmas.List.{take_rest}
 use Rattle.std.specs.List.{list_all}
 use Rattle.std.proofs.lemmas.Bool.{leb-true, lt-leb, cases_Bool, and_parts}
-use Rattle.std.specs.Prelude.{Option, Some, None, IfSome, option_map, pos, unsigned_abs}
+use Rattle.std.specs.Prelude.{Option, Some, None, IfSome, option_map, ℤ, pos, neg_ℤ, unsigned_abs}
 use Rattle.om_lines.specs.Words.{is_digit, number_from, begins_with, is_decimal, up_to, unsigned, negative, signed}
 
 -- ten times ten, k times
@@ -72,3 +73,11 @@ signed_within limit w = elim (cases_Bool (begins_with 45 w)) [
     above : (o : Option ℕ) → IfSome o (λ k. k ≤ limit) → IfSome (option_map pos o) (λ z. unsigned_abs z ≤ limit)
     above None h = tt
     above (Some n) h = h
+
+-- the number that a word with a `-` spells
+pub signed_minus : (limit n : ℕ) (w : List ℕ) (z : ℤ) → 1 ≤ length w → get_or w 0 0 ≡ 45
+    → Some n ≡ unsigned limit (take (length w - 1) (drop 1 w)) → 0 < n → z ≡ neg_ℤ (pos n) → Some z ≡ signed limit w
+signed_minus limit n [] z l minus e some q = absurd (omega arith)
+signed_minus limit zero (b ∷ bs) z l minus e some q = absurd (omega arith)
+signed_minus limit (suc n) (b ∷ bs) z l minus e some q =
+    rw minus (ap Some q ∙ ap negative (e ∙ ap (unsigned limit) (take_rest (b ∷ bs) 1)))
