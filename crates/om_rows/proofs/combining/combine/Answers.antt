@@ -1,4 +1,4 @@
-use Rattle.std.proofs.Common.{◌≡◌}
+use Rattle.std.proofs.Common.{◌≡◌, refl}
 use Rattle.om_rows.specs.Rows.{combination, IsFirstWide, IsNarrowCombination}
 use Rattle.om_rows.proofs.Narrow.{restored}
 use Rattle.om_rows.proofs.combining.combine.Goals as goal
@@ -20,3 +20,6 @@ pub returns-in-None-clause-value : goal.returns-in-None-clause-value
 returns-in-None-clause-value c =
     restored (λ t s. c.form.new.row ≡ combination t c.args.row.now s c.args.pivot.now) c.args.tp c.args.tk c.ranges.tp
     c.ranges.tk c.form.ensures
+
+pub returns-in-Some-clause-unchanged : goal.returns-in-Some-clause-unchanged
+returns-in-Some-clause-unchanged c = refl
