@@ -1,10 +1,11 @@
 -- Known bytes, over several reads or writes.
 --
--- Main results: Consumes-then, Appends-then, another_read, taken_exactly, taken_at_most, write_step, read_step
+-- Main results: Consumes-then, Appends-then, taken_kept, taken_none, another_read, taken_exactly, taken_at_most,
+-- write_step, read_step
 use Rattle.std.proofs.Common.{ℕ, ◌≡◌, ◌+◌, ◌-◌, ◌<◌, ◌≤◌, List, [], ◌++◌, length, take, drop, refl, sym, ◌∙◌, ap, arith}
 use Rattle.std.proofs.Common.{append_assoc}
 use Rattle.std.specs.Prelude.{None, Some, Option}
-use Rattle.std.specs.Io.KnownBytes.{Consumes, Appends}
+use Rattle.std.specs.Io.KnownBytes.{Consumes, Appends, Keeps}
 use Rattle.std.proofs.lemmas.List.{drop_all, length-take, take-append-drop, length-drop, length-append, take_rest}
 use Rattle.std.proofs.lemmas.List.{take_at, take-append-le, drop-drop}
 use Rattle.std.proofs.Math.Seq.{take-add}
@@ -22,6 +23,23 @@ Appends-then None b c xs ys h k = h
 Appends-then (Some a) None c xs ys h k = absurd h
 Appends-then (Some a) (Some b) None xs ys h k = absurd k
 Appends-then (Some a) (Some b) (Some c) xs ys h k = k ∙ rw (h, append_assoc) refl
+
+-- after a read that failed
+pub taken_kept : (a b c : Option (List ℕ)) (xs : List ℕ) → Consumes a b xs → Keeps b c → Consumes a c xs
+taken_kept None b c xs h k = h
+taken_kept (Some a) None c xs h k = absurd h
+taken_kept (Some a) (Some b) None xs h k = absurd k
+taken_kept (Some a) (Some b) (Some c) xs h k = rw k h
+
+-- after a read that gave no byte
+pub taken_none : (a b c : Option (List ℕ)) (xs buf : List ℕ) (k : ℕ) → Consumes a b xs → Consumes b c (take k buf)
+    → k ≡ 0 → Consumes a c xs
+taken_none a b c xs buf k h h2 none = taken_kept a b c xs h (kept b c (rw none at h2))
+  where
+    kept : (b c : Option (List ℕ)) → Consumes b c [] → Keeps b c
+    kept None c h = h
+    kept (Some b) None h = h
+    kept (Some b) (Some c) h = sym h
 
 -- the bytes of another read are kept behind those that were taken
 pub another_read : (a b c : Option (List ℕ)) (xs kept buf rest : List ℕ) (k : ℕ) → Consumes a b xs

@@ -1,7 +1,29 @@
 use Rattle.std.proofs.Common.{◌≡◌, ◌<◌, ◌≤◌, ◌+◌, length, arith}
 use Rattle.std.proofs.lemmas.List.{length-take}
-use Rattle.om_port.proofs.Known.{Consumes-then, another_read, taken_exactly, taken_at_most}
+use Rattle.om_port.proofs.Known.{Consumes-then, another_read, taken_kept, taken_none, taken_exactly, taken_at_most}
 use Rattle.om_port.proofs.whole.read_all.Goals as goal
+
+pub returns-in-Err-clause-few : goal.returns-in-Err-clause-few
+returns-in-Err-clause-few g c = λ _.
+    let few : length c.loop-turn.bytes.items ≤ c.args.limit =
+    omega (arith, c.loop-turn.bytes.ok, c.loop-turn.invariant.few) in
+    (_, taken_kept _ _ _ _ c.loop-turn.invariant.taken c.in-Err.ensures.bytes, few)
+
+pub returns-in-Err-clause-prefix : goal.returns-in-Err-clause-prefix
+returns-in-Err-clause-prefix g c = (_, taken_kept _ _ _ _ c.loop-turn.invariant.taken c.in-Err.ensures.bytes)
+
+pub returns-in-Ok-eq0-clause-ok : goal.returns-in-Ok-eq0-clause-ok
+returns-in-Ok-eq0-clause-ok g c =
+    taken_none _ _ _ _ c.read.new.buf _ c.loop-turn.invariant.taken c.in-Ok-eq0.ensures.bytes.0 c.in-Ok-eq0.field-0-test
+
+pub returns-in-Ok-eq0-clause-few : goal.returns-in-Ok-eq0-clause-few
+returns-in-Ok-eq0-clause-few g c = λ _.
+    let few : length c.loop-turn.bytes.items ≤ c.args.limit =
+    omega (arith, c.loop-turn.bytes.ok, c.loop-turn.invariant.few) in
+    (_, returns-in-Ok-eq0-clause-ok g c, few)
+
+pub returns-in-Ok-eq0-clause-prefix : goal.returns-in-Ok-eq0-clause-prefix
+returns-in-Ok-eq0-clause-prefix g c = (_, returns-in-Ok-eq0-clause-ok g c)
 
 pub returns-then-is_err-clause-prefix : goal.returns-then-is_err-clause-prefix
 returns-then-is_err-clause-prefix g c =
@@ -39,8 +61,8 @@ returns g c = absurd (omega (arith, c.loop-turn.invariant.some, c.loop-turn.inva
 
 pub loop-turn-preserved : goal.loop-turn-preserved
 loop-turn-preserved g c =
-    let read = another_read _ _ _ c.loop-turn.bytes.items c.extend_from_slice.new.self.items c.read.new.buf _ c.in-Ok.count
-    c.loop-turn.invariant.taken c.in-Ok.ensures.bytes.0 c.in-Ok.ensures.bound.0
+    let read = another_read _ _ _ c.loop-turn.bytes.items c.extend_from_slice.new.self.items c.read.new.buf _
+    c.in-Ok.count c.loop-turn.invariant.taken c.in-Ok.ensures.bytes.0 c.in-Ok.ensures.bound.0
     (rw c.if-is_err.ensures.negation at c.extend_from_slice.ensures.items) in
     let some : 0 < c.in-Ok.count = omega (arith, c.in-Ok.count-test.1) in
     let within : length c.loop-turn.bytes.items + c.in-Ok.count ≤ c.args.limit =
@@ -55,7 +77,14 @@ loop-turn-preserved g c =
       length-take c.min-piece.result c.loop-turn.buf,
     ) in
     record {
-      some = omega (arith, read.size, c.loop-turn.bytes.ok, c.extend_from_slice.new.self.ok, c.loop-turn.invariant.some);
+      some =
+          omega (
+            arith,
+            read.size,
+            c.loop-turn.bytes.ok,
+            c.extend_from_slice.new.self.ok,
+            c.loop-turn.invariant.some,
+          );
       few = omega (arith, read.size, c.extend_from_slice.new.self.ok);
       taken = read.taken;
       ready = c.in-Ok.ensures.again some;
