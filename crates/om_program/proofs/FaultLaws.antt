@@ -1,8 +1,10 @@
--- Statuses of a read fault and of a lack of memory are no others.
+-- Statuses of a read fault, of a lack of memory and of usage are no others.
 --
 -- Main results: read_fault_ne_usage, read_fault_ne_write_fault, no_memory_ne_usage, no_memory_ne_read_fault,
--- no_memory_ne_write_fault
-use Rattle.std.specs.Prelude.{◌≡◌}
+-- no_memory_ne_write_fault, usage_ne_read_fault, usage_ne_no_memory
+use Rattle.std.specs.Prelude.{◌≡◌, ◌≢◌, ◌⊎◌}
+use Rattle.std.proofs.Common.{inl, inr}
+use Rattle.om_reply.specs.declared.status.Status.{Status}
 use Rattle.om_reply.specs.declared.status.Status.TheVariants.{Usage, ReadFault, WriteFault, NoMemory}
 
 -- a read fault
@@ -21,3 +23,12 @@ no_memory_ne_read_fault same = cc
 
 pub no_memory_ne_write_fault : NoMemory ≡ WriteFault → ⊥
 no_memory_ne_write_fault same = cc
+
+-- the end of a run that has only its usage to write
+pub usage_ne_read_fault : (s : Status) → (s ≡ Usage) ⊎ (s ≡ WriteFault) → s ≢ ReadFault
+usage_ne_read_fault s (inl is) fault = cc
+usage_ne_read_fault s (inr is) fault = cc
+
+pub usage_ne_no_memory : (s : Status) → (s ≡ Usage) ⊎ (s ≡ WriteFault) → s ≢ NoMemory
+usage_ne_no_memory s (inl is) memory = cc
+usage_ne_no_memory s (inr is) memory = cc

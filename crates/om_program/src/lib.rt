@@ -10,6 +10,7 @@ mod each;
 mod piece_answers;
 mod plan;
 mod running;
+mod writing;
 
 pub use answering::answer_input;
 pub use each::run_each;

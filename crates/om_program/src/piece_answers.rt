@@ -11,10 +11,11 @@ ghost use Rattle.om_pieces.specs.Making.{made, option_list};
 ghost use Rattle.om_program.specs.Answered.{AreAnswered, GoesOn, Stops, Breaks};
 
 use super::answering::answer_input;
+use super::writing::write_and_drop;
 use om_pieces::Cutter;
 use om_port::Sink;
 use om_printing::Line;
-use om_reply::{Answer, Status, greater, is_answered, write_answer};
+use om_reply::{Answer, Status, greater, is_answered};
 use om_signs::{MAX_INPUT, NoMemory};
 use om_words::{Reads, Task};
 use std::alloc::Global;
@@ -185,7 +186,7 @@ fn answer_piece<R: Threads + Sync, K: Sink>(
     ensures later { K.faults sink.old ≤ K.faults sink.new }
 {
     match find_answer(rt, alloc, task, piece) {
-        Ok(answer) => write_answer(alloc, &answer, sink),
+        Ok(answer) => write_and_drop(alloc, answer, sink),
         Err(_) => Status::NoMemory,
     }
 }

@@ -18,9 +18,10 @@ ghost use Rattle.om_program.specs.ValidClaims.{LimitsAreFoundWithoutCertificate,
 
 use super::answering::{answer_alone, answer_reading};
 use super::plan::{Plan, Reading, plan_of};
+use super::writing::write_and_drop;
 use om_port::{ReadError, Sink, Source, read_all};
 use om_printing::Line;
-use om_reply::{Answer, Status, write_answer, write_usage};
+use om_reply::{Answer, Status, write_usage};
 use om_signs::{MAX_INPUT, NoMemory};
 use om_words::{Reads, Task, command};
 use std::alloc::Global;
@@ -149,7 +150,7 @@ fn carry_out<R: Threads + Sync, S: Source, K: Sink>(
     ensures sink_later { K.faults sink.old ≤ K.faults sink.new }
 {
     match find_answer(rt, alloc, task, source) {
-        Ok(answer) => write_answer(alloc, &answer, sink),
+        Ok(answer) => write_and_drop(alloc, answer, sink),
         Err(Unanswered::ReadFault) => Status::ReadFault,
         Err(Unanswered::NoMemory) => Status::NoMemory,
     }

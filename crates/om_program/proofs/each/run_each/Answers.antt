@@ -1,7 +1,10 @@
-use Rattle.std.proofs.Common.{subst, sym}
+use Rattle.std.proofs.Common.{subst, sym, refl}
 use Rattle.om_reply.specs.Statuses.{IsAnswered}
 use Rattle.om_pieces.proofs.Feeding.{has_one_cut}
 use Rattle.om_program.proofs.Runs.{run_answered, run_stopped, run_broken, reads_pieces}
+use Rattle.std.proofs.Math.Nat.{le_refl}
+use Rattle.om_program.proofs.Endings.{takes_none}
+use Rattle.om_program.proofs.FaultLaws.{usage_ne_read_fault}
 use Rattle.om_program.proofs.each.run_each.Goals as goal
 
 pub returns-in-Ok-clause-answer : goal.returns-in-Ok-clause-answer
@@ -58,3 +61,51 @@ returns-in-Err-clause-usage_line g c =
 pub returns-in-Err-clause-usage_cut : goal.returns-in-Err-clause-usage_cut
 returns-in-Err-clause-usage_cut g c =
     λ none cut. (c.in-Err.usage.word, (c.in-Err.ensures.usage, c.write_usage.ensures.cut cut))
+
+pub returns-in-Ok-clause-read : goal.returns-in-Ok-clause-read
+returns-in-Ok-clause-read g c = c.answer_source.ensures.read
+
+pub returns-in-Ok-clause-write : goal.returns-in-Ok-clause-write
+returns-in-Ok-clause-write g c = c.answer_source.ensures.write
+
+pub returns-in-Ok-clause-prefix : goal.returns-in-Ok-clause-prefix
+returns-in-Ok-clause-prefix g c = c.answer_source.ensures.prefix
+
+pub returns-in-Ok-clause-source_later : goal.returns-in-Ok-clause-source_later
+returns-in-Ok-clause-source_later g c = c.answer_source.ensures.source_later
+
+pub returns-in-Ok-clause-sink_later : goal.returns-in-Ok-clause-sink_later
+returns-in-Ok-clause-sink_later g c = c.answer_source.ensures.sink_later
+
+pub returns-in-Ok-clause-only : goal.returns-in-Ok-clause-only
+returns-in-Ok-clause-only g c = λ is command. c.answer_source.ensures.no_usage is
+
+pub returns-in-Ok-clause-taken : goal.returns-in-Ok-clause-taken
+returns-in-Ok-clause-taken g c = λ answered command. c.answer_source.ensures.taken answered
+
+pub returns-in-Err-clause-usage : goal.returns-in-Err-clause-usage
+returns-in-Err-clause-usage g c = λ none. c.write_usage.ensures.no_other
+
+pub returns-in-Err-clause-only : goal.returns-in-Err-clause-only
+returns-in-Err-clause-only g c = λ is command. c.in-Err.ensures.none command
+
+pub returns-in-Err-clause-unread : goal.returns-in-Err-clause-unread
+returns-in-Err-clause-unread g c = λ none. refl
+
+pub returns-in-Err-clause-read : goal.returns-in-Err-clause-read
+returns-in-Err-clause-read g c = λ fault. absurd (usage_ne_read_fault _ c.write_usage.ensures.no_other fault)
+
+pub returns-in-Err-clause-write : goal.returns-in-Err-clause-write
+returns-in-Err-clause-write g c = c.write_usage.ensures.fault
+
+pub returns-in-Err-clause-taken : goal.returns-in-Err-clause-taken
+returns-in-Err-clause-taken g c = λ answered command. absurd (c.in-Err.ensures.none command)
+
+pub returns-in-Err-clause-prefix : goal.returns-in-Err-clause-prefix
+returns-in-Err-clause-prefix g c = takes_none _
+
+pub returns-in-Err-clause-source_later : goal.returns-in-Err-clause-source_later
+returns-in-Err-clause-source_later g c = le_refl _
+
+pub returns-in-Err-clause-sink_later : goal.returns-in-Err-clause-sink_later
+returns-in-Err-clause-sink_later g c = c.write_usage.ensures.later

@@ -8,17 +8,17 @@ use Rattle.om_program.proofs.running.carry_out.Goals as goal
 
 pub returns-in-Ok-clause-cut : goal.returns-in-Ok-clause-cut
 returns-in-Ok-clause-cut g c =
-    λ cut. cut_off (TaskMeans c.args.task) _ _ _ _ c.in-Ok.ensures.meant (c.write_answer.ensures.cut cut)
+    λ cut. cut_off (TaskMeans c.args.task) _ _ _ _ c.in-Ok.ensures.meant (c.write_and_drop.ensures.cut cut)
 
 pub returns-in-Ok-clause-alone_answer : goal.returns-in-Ok-clause-alone_answer
 returns-in-Ok-clause-alone_answer g c =
     λ nothing answered bytes. whole (TaskMeans c.args.task) (Some bytes) _ _ _ _ (c.in-Ok.ensures.alone nothing bytes)
-    (c.write_answer.ensures.whole answered)
+    (c.write_and_drop.ensures.whole answered)
 
 pub returns-in-Ok-clause-alone_cut : goal.returns-in-Ok-clause-alone_cut
 returns-in-Ok-clause-alone_cut g c =
     λ nothing cut bytes. cut_off (TaskMeans c.args.task) (Some bytes) _ _ _ (c.in-Ok.ensures.alone nothing bytes)
-    (c.write_answer.ensures.cut cut)
+    (c.write_and_drop.ensures.cut cut)
 
 pub find_answer-requires-clause-lawful : goal.find_answer-requires-clause-lawful
 find_answer-requires-clause-lawful g c κs within = c.requires.lawful
@@ -26,33 +26,33 @@ find_answer-requires-clause-lawful g c κs within = c.requires.lawful
 pub find_answer-requires-clause-ready : goal.find_answer-requires-clause-ready
 find_answer-requires-clause-ready g c κs within = c.requires.source_ready
 
-pub write_answer-requires-clause-reply : goal.write_answer-requires-clause-reply
-write_answer-requires-clause-reply g c = c.in-Ok.ensures.reply
+pub write_and_drop-requires-clause-reply : goal.write_and_drop-requires-clause-reply
+write_and_drop-requires-clause-reply g c = c.in-Ok.ensures.reply
 
-pub write_answer-requires-clause-ready : goal.write_answer-requires-clause-ready
-write_answer-requires-clause-ready g c = c.requires.sink_ready
+pub write_and_drop-requires-clause-ready : goal.write_and_drop-requires-clause-ready
+write_and_drop-requires-clause-ready g c = c.requires.sink_ready
 
 pub returns-in-Ok-clause-no_usage : goal.returns-in-Ok-clause-no_usage
-returns-in-Ok-clause-no_usage g c = c.write_answer.ensures.no_usage
+returns-in-Ok-clause-no_usage g c = c.write_and_drop.ensures.no_usage
 
 pub returns-in-Ok-clause-answer : goal.returns-in-Ok-clause-answer
 returns-in-Ok-clause-answer g c =
-    λ answered. whole (TaskMeans c.args.task) _ _ _ _ _ c.in-Ok.ensures.meant (c.write_answer.ensures.whole answered)
+    λ answered. whole (TaskMeans c.args.task) _ _ _ _ _ c.in-Ok.ensures.meant (c.write_and_drop.ensures.whole answered)
 
 pub returns-in-Ok-clause-untouched_fault : goal.returns-in-Ok-clause-untouched_fault
-returns-in-Ok-clause-untouched_fault g c = λ fault. absurd (c.write_answer.ensures.no_read fault)
+returns-in-Ok-clause-untouched_fault g c = λ fault. absurd (c.write_and_drop.ensures.no_read fault)
 
 pub returns-in-Ok-clause-untouched_memory : goal.returns-in-Ok-clause-untouched_memory
-returns-in-Ok-clause-untouched_memory g c = c.write_answer.ensures.untouched
+returns-in-Ok-clause-untouched_memory g c = c.write_and_drop.ensures.untouched
 
 pub returns-in-Ok-clause-reading : goal.returns-in-Ok-clause-reading
-returns-in-Ok-clause-reading g c = λ fault. absurd (c.write_answer.ensures.no_read fault)
+returns-in-Ok-clause-reading g c = λ fault. absurd (c.write_and_drop.ensures.no_read fault)
 
 pub returns-in-Ok-clause-read : goal.returns-in-Ok-clause-read
-returns-in-Ok-clause-read g c = λ fault. absurd (c.write_answer.ensures.no_read fault)
+returns-in-Ok-clause-read g c = λ fault. absurd (c.write_and_drop.ensures.no_read fault)
 
 pub returns-in-Ok-clause-write : goal.returns-in-Ok-clause-write
-returns-in-Ok-clause-write g c = c.write_answer.ensures.fault
+returns-in-Ok-clause-write g c = c.write_and_drop.ensures.fault
 
 pub returns-in-Ok-clause-unread : goal.returns-in-Ok-clause-unread
 returns-in-Ok-clause-unread g c = c.in-Ok.ensures.unread
@@ -67,7 +67,7 @@ pub returns-in-Ok-clause-source_later : goal.returns-in-Ok-clause-source_later
 returns-in-Ok-clause-source_later g c = c.in-Ok.ensures.later
 
 pub returns-in-Ok-clause-sink_later : goal.returns-in-Ok-clause-sink_later
-returns-in-Ok-clause-sink_later g c = c.write_answer.ensures.later
+returns-in-Ok-clause-sink_later g c = c.write_and_drop.ensures.later
 
 pub returns-in-Err-ReadFault-clause-no_usage : goal.returns-in-Err-ReadFault-clause-no_usage
 returns-in-Err-ReadFault-clause-no_usage g c = read_fault_ne_usage

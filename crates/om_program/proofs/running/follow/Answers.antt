@@ -28,3 +28,18 @@ returns-in-Read-clause-reading g c = λ fault nothing. reads_input c.in-Read.wha
 pub returns-in-Read-clause-unread : goal.returns-in-Read-clause-unread
 returns-in-Read-clause-unread g c = λ nothing. absurd (reads_input c.in-Read.what (subst ReadsNothing c.in-Read.is
     nothing))
+
+pub returns-in-Read-clause-meant : goal.returns-in-Read-clause-meant
+returns-in-Read-clause-meant g c = rw c.in-Read.is c.read_and_answer.ensures.meant
+
+pub returns-in-Read-clause-reply : goal.returns-in-Read-clause-reply
+returns-in-Read-clause-reply g c = c.read_and_answer.ensures.reply
+
+pub returns-in-Read-clause-read : goal.returns-in-Read-clause-read
+returns-in-Read-clause-read g c = c.read_and_answer.ensures.read
+
+pub returns-in-Read-clause-prefix : goal.returns-in-Read-clause-prefix
+returns-in-Read-clause-prefix g c = c.read_and_answer.ensures.prefix
+
+pub returns-in-Read-clause-later : goal.returns-in-Read-clause-later
+returns-in-Read-clause-later g c = c.read_and_answer.ensures.later

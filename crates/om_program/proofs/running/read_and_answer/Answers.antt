@@ -23,3 +23,45 @@ returns-in-Err-TooLong-clause-meant g c =
     meant_of_long (TaskMeans (reading_task c.args.what)) _ _ _
     (c.in-Err-TooLong.ensures.long (ap Err c.in-Err-TooLong.field-0-is))
     (λ bytes past. long (reads_input c.args.what) past)
+
+pub returns-in-Err-TooLong-clause-prefix : goal.returns-in-Err-TooLong-clause-prefix
+returns-in-Err-TooLong-clause-prefix g c = c.in-Err-TooLong.ensures.prefix
+
+pub returns-in-Err-TooLong-clause-later : goal.returns-in-Err-TooLong-clause-later
+returns-in-Err-TooLong-clause-later g c = c.in-Err-TooLong.ensures.later
+
+pub returns-in-Err-ReadFault-clause-meant : goal.returns-in-Err-ReadFault-clause-meant
+returns-in-Err-ReadFault-clause-meant g c = tt
+
+pub returns-in-Err-ReadFault-clause-reply : goal.returns-in-Err-ReadFault-clause-reply
+returns-in-Err-ReadFault-clause-reply g c = tt
+
+pub returns-in-Err-ReadFault-clause-taken : goal.returns-in-Err-ReadFault-clause-taken
+returns-in-Err-ReadFault-clause-taken g c = tt
+
+pub returns-in-Err-ReadFault-clause-read : goal.returns-in-Err-ReadFault-clause-read
+returns-in-Err-ReadFault-clause-read g c = λ fault. c.in-Err-ReadFault.ensures.fault (ap Err c.in-Err-ReadFault.field-0-is)
+
+pub returns-in-Err-ReadFault-clause-prefix : goal.returns-in-Err-ReadFault-clause-prefix
+returns-in-Err-ReadFault-clause-prefix g c = c.in-Err-ReadFault.ensures.prefix
+
+pub returns-in-Err-ReadFault-clause-later : goal.returns-in-Err-ReadFault-clause-later
+returns-in-Err-ReadFault-clause-later g c = c.in-Err-ReadFault.ensures.later
+
+pub returns-in-Err-Memory-clause-meant : goal.returns-in-Err-Memory-clause-meant
+returns-in-Err-Memory-clause-meant g c = tt
+
+pub returns-in-Err-Memory-clause-reply : goal.returns-in-Err-Memory-clause-reply
+returns-in-Err-Memory-clause-reply g c = tt
+
+pub returns-in-Err-Memory-clause-taken : goal.returns-in-Err-Memory-clause-taken
+returns-in-Err-Memory-clause-taken g c = tt
+
+pub returns-in-Err-Memory-clause-read : goal.returns-in-Err-Memory-clause-read
+returns-in-Err-Memory-clause-read g c = λ fault. cc
+
+pub returns-in-Err-Memory-clause-prefix : goal.returns-in-Err-Memory-clause-prefix
+returns-in-Err-Memory-clause-prefix g c = c.in-Err-Memory.ensures.prefix
+
+pub returns-in-Err-Memory-clause-later : goal.returns-in-Err-Memory-clause-later
+returns-in-Err-Memory-clause-later g c = c.in-Err-Memory.ensures.later

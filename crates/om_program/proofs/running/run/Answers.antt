@@ -1,5 +1,6 @@
 use Rattle.std.specs.Prelude.{ℕ, ◌≡◌, ◌≢◌, List, Some}
 use Rattle.std.proofs.Common.{refl, sym, subst, inl, inr}
+use Rattle.std.proofs.Math.Nat.{le_refl}
 use Rattle.om_signs.proofs.Results.{err-ne-ok, ok-injective}
 use Rattle.om_words.specs.declared.reads.Reads.TheVariants as source
 use Rattle.om_words.specs.declared.task.Task.{Task}
@@ -9,9 +10,11 @@ use Rattle.om_program.proofs.CompletenessLaws.{alone_ends, always_answered}
 use Rattle.om_plane.proofs.EvidenceLaws.{evidence_decides}
 use Rattle.om_program.specs.Meaning.{Means}
 use Rattle.om_program.specs.Run.{ReadNothing}
+use Rattle.om_program.proofs.Endings.{takes_none}
 use Rattle.om_program.proofs.MeaningLaws.{whole, cut_off, named_answer, named_cut_off, usage_meant}
 use Rattle.om_program.proofs.OneAnswer.{words_determined}
 use Rattle.om_program.proofs.ValidClaimLaws.{verdicts_found_valid, limits_found}
+use Rattle.om_program.proofs.FaultLaws.{usage_ne_read_fault, usage_ne_no_memory}
 use Rattle.om_program.proofs.running.run.Goals as goal
 
 pub carry_out-requires-clause-lawful : goal.carry_out-requires-clause-lawful
@@ -136,3 +139,63 @@ returns-in-Ok-clause-complete g c = λ given no_read no_write.
 pub returns-in-Err-clause-complete : goal.returns-in-Err-clause-complete
 returns-in-Err-clause-complete g c =
     λ given no_read no_write. absurd (err-ne-ok _ _ ((c.in-Err.ensures.task given.task).1 given.names))
+
+pub returns-in-Err-clause-unread : goal.returns-in-Err-clause-unread
+returns-in-Err-clause-unread g c = λ none. refl
+
+pub returns-in-Err-clause-prefix : goal.returns-in-Err-clause-prefix
+returns-in-Err-clause-prefix g c = takes_none _
+
+pub returns-in-Err-clause-source_later : goal.returns-in-Err-clause-source_later
+returns-in-Err-clause-source_later g c = le_refl _
+
+pub returns-in-Ok-clause-untouched_fault : goal.returns-in-Ok-clause-untouched_fault
+returns-in-Ok-clause-untouched_fault g c = c.carry_out.ensures.untouched_fault
+
+pub returns-in-Ok-clause-untouched_memory : goal.returns-in-Ok-clause-untouched_memory
+returns-in-Ok-clause-untouched_memory g c = c.carry_out.ensures.untouched_memory
+
+pub returns-in-Ok-clause-read : goal.returns-in-Ok-clause-read
+returns-in-Ok-clause-read g c = c.carry_out.ensures.read
+
+pub returns-in-Ok-clause-write : goal.returns-in-Ok-clause-write
+returns-in-Ok-clause-write g c = c.carry_out.ensures.write
+
+pub returns-in-Ok-clause-prefix : goal.returns-in-Ok-clause-prefix
+returns-in-Ok-clause-prefix g c = c.carry_out.ensures.prefix
+
+pub returns-in-Ok-clause-source_later : goal.returns-in-Ok-clause-source_later
+returns-in-Ok-clause-source_later g c = c.carry_out.ensures.source_later
+
+pub returns-in-Ok-clause-sink_later : goal.returns-in-Ok-clause-sink_later
+returns-in-Ok-clause-sink_later g c = c.carry_out.ensures.sink_later
+
+pub returns-in-Ok-clause-usage : goal.returns-in-Ok-clause-usage
+returns-in-Ok-clause-usage g c = λ none. absurd (none (c.in-Ok.task, (c.in-Ok.ensures.task c.in-Ok.task).0 refl))
+
+pub returns-in-Ok-clause-only : goal.returns-in-Ok-clause-only
+returns-in-Ok-clause-only g c = λ is command. c.carry_out.ensures.no_usage is
+
+pub returns-in-Ok-clause-unread : goal.returns-in-Ok-clause-unread
+returns-in-Ok-clause-unread g c = λ none. absurd (none (c.in-Ok.task, (c.in-Ok.ensures.task c.in-Ok.task).0 refl))
+
+pub returns-in-Err-clause-untouched_fault : goal.returns-in-Err-clause-untouched_fault
+returns-in-Err-clause-untouched_fault g c = λ fault. absurd (usage_ne_read_fault _ c.write_usage.ensures.no_other fault)
+
+pub returns-in-Err-clause-untouched_memory : goal.returns-in-Err-clause-untouched_memory
+returns-in-Err-clause-untouched_memory g c = λ memory. absurd (usage_ne_no_memory _ c.write_usage.ensures.no_other memory)
+
+pub returns-in-Err-clause-reading : goal.returns-in-Err-clause-reading
+returns-in-Err-clause-reading g c = λ fault. absurd (usage_ne_read_fault _ c.write_usage.ensures.no_other fault)
+
+pub returns-in-Err-clause-read : goal.returns-in-Err-clause-read
+returns-in-Err-clause-read g c = λ fault. absurd (usage_ne_read_fault _ c.write_usage.ensures.no_other fault)
+
+pub returns-in-Err-clause-write : goal.returns-in-Err-clause-write
+returns-in-Err-clause-write g c = c.write_usage.ensures.fault
+
+pub returns-in-Err-clause-usage : goal.returns-in-Err-clause-usage
+returns-in-Err-clause-usage g c = λ none. c.write_usage.ensures.no_other
+
+pub returns-in-Err-clause-sink_later : goal.returns-in-Err-clause-sink_later
+returns-in-Err-clause-sink_later g c = c.write_usage.ensures.later
