@@ -1,23 +1,24 @@
 -- What an operation makes of an oriented matroid, as an answer.
 --
--- Main results: what is made of a chirotope (chirotope_outcome); the dual of covectors (dual_outcome,
--- dual_unmade); what is made, as an answer (made_meant), too many members (limit_meant) and too many values
--- (width_meant).
-use Rattle.std.specs.Prelude.{ℕ, ◌≡◌, ◌↔◌, ◌≤◌, List, None, Result, Ok, Err, refl}
+-- Main results: what is made of a chirotope (chirotope_outcome); a deletion from circuits (circuits_deleted); the dual
+-- of covectors (dual_outcome, dual_unmade); what is made, as an answer (made_meant), too many members (limit_meant) and
+-- too many values (width_meant).
+use Rattle.std.specs.Prelude.{ℕ, ◌≡◌, ◌+◌, ◌↔◌, ◌≤◌, List, None, Result, Ok, Err, refl}
 use Rattle.std.specs.Result.{IsErrAnd}
 use Rattle.std.specs.List.{Contains}
-use Rattle.std.proofs.Common.{sym, subst}
+use Rattle.std.proofs.Common.{sym, subst, arith}
 use Rattle.om_signs.specs.declared.limits.TheConstants.{MAX_MEMBERS, MAX_VALUES}
 use Rattle.om_signs.specs.declared.sign.Sign.{Sign}
 use Rattle.om_subsets.specs.Subsets.{choose}
 use Rattle.om_chirotope.specs.Map.{SignMap}
 use Rattle.om_members.specs.Listings.{Listing}
+use Rattle.om_circuits.specs.declared.circuits.Circuits.{Circuits}
 use Rattle.om_convert.specs.declared.convert_error.ConvertError.{ConvertError}
 use Rattle.om_convert.specs.declared.convert_error.ConvertError.TheVariants as convert
 use Rattle.om_convert.specs.Limits.{IsListCause, HasFewValuesFor, IsWithinLimit}
 use Rattle.om_convert.proofs.SameFamilies as families
-use Rattle.om_denotation.specs.Covectors.{IsCovectorOfChirotope, IsCovectorOfCovectors}
-use Rattle.om_denotation.specs.Operations.{IsDual}
+use Rattle.om_denotation.specs.Covectors.{IsCovectorOfChirotope, IsCovectorOfCircuits, IsCovectorOfCovectors}
+use Rattle.om_denotation.specs.Operations.{IsDual, IsDeletion}
 use Rattle.om_denotation.specs.Vectors.{IsVectorOf}
 use Rattle.om_document.specs.declared.document.Document.{Document}
 use Rattle.om_document.specs.Form.{IsInForm}
@@ -28,7 +29,7 @@ use Rattle.om_representation.specs.declared.representation.Representation.{Repre
 use Rattle.om_representation.specs.declared.representation.Representation.TheVariants as representation
 use Rattle.om_commands.specs.declared.unmade.Unmade.{Unmade}
 use Rattle.om_representation.specs.Axioms.{MeetsAxioms}
-use Rattle.om_representation.specs.Documents.{map_document, covectors_document, document_of}
+use Rattle.om_representation.specs.Documents.{map_document, circuits_document, covectors_document, document_of}
 use Rattle.om_reply.specs.Above.{first_above}
 use Rattle.om_commands.specs.Operations.{IsOperation, IsMapMade, IsOutcome, HasTooManyMade, IsTooWideToMake}
 use Rattle.om_commands.specs.Operations.{IsKeptToMake, TakesOnly, named_elements, of_conversion, wide, limited, made}
@@ -47,6 +48,22 @@ chirotope_outcome o c m small left is = (
     (
       λ none. none,
       (small, record { elements = is.elements; kind = refl; normal = is.normal; covectors = is.covectors }),
+    ),
+  ),
+)
+
+-- ---- a deletion from circuits
+
+pub circuits_deleted : (c : Listing) (m : Circuits) (e : ℕ) → (c.elements ≡ 1 → ⊥) → m.0.elements + 1 ≡ c.elements
+    → IsDeletion c.elements e (IsCovectorOfCircuits c) (IsCovectorOfCircuits m.0)
+    → IsOutcome (operation.Delete e) (circuits_document c) (Ok (representation.Circuits m))
+circuits_deleted c m e left count deletion = (
+  left,
+  (
+    λ values no. no.0,
+    (
+      λ none. none,
+      (tt, record { elements = omega (arith, count); kind = refl; normal = tt; covectors = deletion }),
     ),
   ),
 )
