@@ -73,7 +73,7 @@ fn push_word(alloc: Global, words: &mut Vec<String>, word: &str) -> Result<(), A
 }
 
 /// The words of a line, which are separated by single spaces.
-fn words_of(alloc: Global, line: &str) -> Result<Vec<String>, NoMemory> {
+pub fn words_of(alloc: Global, line: &str) -> Result<Vec<String>, NoMemory> {
     let mut words = Vec::new(alloc);
     for word in line.split(' ') {
         push_word(alloc, &mut words, word)?;
@@ -116,7 +116,7 @@ fn count_first(bytes: &[u8], text: &[u8]) -> Option<usize> {
 
 /// How many bytes of a text a source has left, if they are its last ones and no call for them fails.
 fn count_left(alloc: Global, source: &mut MemSource, text: &[u8]) -> Option<usize> {
-    match &read_all(alloc, source, 1_000) {
+    match read_all(alloc, source, 1_000) {
         Ok(bytes) if text.ends_with(bytes.as_slice()) => Some(bytes.len()),
         _ => None,
     }

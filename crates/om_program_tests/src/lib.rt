@@ -1,9 +1,15 @@
-//! The tests of whole runs over sources and sinks in memory, of one input and of many, and of the adapters over std's
-//! readers and writers.
+//! The tests of the program: of the libraries that read and write its texts, of whole runs over sources and sinks in
+//! memory, and of the adapters over std's readers and writers.
 #![tactic(auto)]
 
 #[cfg(test)]
 mod adapters;
+#[cfg(test)]
+mod answer;
+#[cfg(test)]
+mod callers;
+#[cfg(test)]
+mod claim_copies;
 #[cfg(test)]
 mod claims;
 #[cfg(test)]
@@ -11,6 +17,18 @@ mod faults;
 #[cfg(test)]
 mod helpers;
 #[cfg(test)]
+mod made;
+#[cfg(test)]
+mod port;
+#[cfg(test)]
+mod representation;
+#[cfg(test)]
 mod runs;
 #[cfg(test)]
 mod streams;
+#[cfg(test)]
+mod text;
+#[cfg(test)]
+mod verdicts;
+#[cfg(test)]
+mod words;

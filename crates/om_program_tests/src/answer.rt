@@ -2,7 +2,7 @@
 
 ghost use Rattle.std.specs.Prelude.{◌<◌};
 
-use super::helpers::is_made;
+use super::made::is_made;
 use om_grassmann::Statement;
 use om_printing::pieces::{push, push_decimal, push_line_feed, push_subset, push_vector};
 use om_printing::{Line, print_line};

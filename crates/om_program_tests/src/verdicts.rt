@@ -3,7 +3,7 @@
 ghost use Rattle.std.specs.Prelude.{◌≡◌, ◌≤◌, length};
 ghost use Rattle.om_signs.specs.declared.limits.TheConstants.{MAX_READ};
 
-use super::helpers::is_made;
+use super::made::is_made;
 use om_answer::{print_verdict, read_claim};
 use om_certificate::{LpEnd, Verdict};
 use om_chirotope::Chirotope;
@@ -30,7 +30,7 @@ fn is_limit(verdict: &Verdict) -> bool {
 fn is_limit_of_wiring(alloc: Global, bytes: &[u8]) -> bool
     requires { length bytes.now ≤ MAX_READ }
 {
-    match &read_claim(alloc, bytes) {
+    match read_claim(alloc, bytes) {
         Ok(claim) => matches!(claim.document.body, Body::Wiring(_)) && is_limit(&claim.verdict),
         Err(_) => false,
     }
@@ -93,8 +93,8 @@ fn are_printed(alloc: Global, chi: &Chirotope) -> bool
 
 #[test]
 fn printed_widths(rt: HostRuntime) {
-    let printed = match &chirotope_of(&rt, rt.alloc(), 1, 1, "+") {
-        Ok(chi) => are_printed(rt.alloc(), chi),
+    let printed = match chirotope_of(&rt, rt.alloc(), 1, 1, "+") {
+        Ok(chi) => are_printed(rt.alloc(), &chi),
         Err(_) => false,
     };
     assert!(rt; printed);

@@ -1,10 +1,11 @@
 //! The words of commands: the tasks that they name, and the words at fault.
 
+use super::helpers::words_of;
 use om_paint::Colour;
 use om_signs::{MAX_DRAWN, Sign};
 use om_text::Kind;
 use om_words::{Colouring, Leading, Reads, Task, Usage, command};
-use std::alloc::{AllocError, Global};
+use std::alloc::Global;
 
 /// Words that aren't a command, and the one at fault.
 const FAULTS: [(&str, u32); 20] = [
@@ -53,24 +54,9 @@ const TASKS: [(&str, &str); 19] = [
     ("make 7", "nothing"),
 ];
 
-/// Appends a word.
-fn push_word(alloc: Global, words: &mut Vec<String>, word: &str) -> Result<(), AllocError> {
-    let word = String::from_str(alloc, word)?;
-    Ok(words.push(word)?)
-}
-
-/// The words of a line, which are separated by single spaces.
-fn words_of(alloc: Global, line: &str) -> Result<Vec<String>, AllocError> {
-    let mut words = Vec::new(alloc);
-    for word in line.split(' ') {
-        push_word(alloc, &mut words, word)?;
-    }
-    Ok(words)
-}
-
 /// The task that the words of a line name, or the word at fault, which is 0 if memory runs out.
 fn read(alloc: Global, line: &str) -> Result<Task, Usage> {
-    match &words_of(alloc, line) {
+    match words_of(alloc, line) {
         Ok(words) => command(words.as_slice()),
         Err(_) => Err(Usage { word: 0 }),
     }

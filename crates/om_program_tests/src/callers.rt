@@ -65,8 +65,8 @@ fn are_first(chi: &Chirotope) -> bool
 
 #[test]
 fn triples_with_a_sign(rt: HostRuntime) {
-    let first = match &chirotope_of(&rt, rt.alloc(), 3, 4, "+0+-") {
-        Ok(chi) => are_first(chi),
+    let first = match chirotope_of(&rt, rt.alloc(), 3, 4, "+0+-") {
+        Ok(chi) => are_first(&chi),
         Err(_) => false,
     };
     assert!(rt; first);

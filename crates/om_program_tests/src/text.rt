@@ -3,7 +3,7 @@
 ghost use Rattle.std.specs.Prelude.{◌≤◌, length};
 ghost use Rattle.om_signs.specs.declared.limits.TheConstants.{MAX_READ};
 
-use super::helpers::is_made;
+use super::made::is_made;
 use om_signs::{List, MAX_INPUT, MAX_MULTIPLICITY, MAX_WEIGHT};
 use om_text::lines::{before_comment, first_line, first_word, has_no_words, is_only_word, same};
 use om_text::words::{plain_number, signed_number, unsigned_number};
@@ -136,7 +136,7 @@ fn canonical_forms(rt: HostRuntime) {
 }
 
 /// Whether a document was read, and these are its two names.
-fn has_names(found: &Result<Document, ParseError>, first: &[u8], second: &[u8]) -> bool {
+fn has_names(found: Result<Document, ParseError>, first: &[u8], second: &[u8]) -> bool {
     match found {
         Ok(document) => match document.names.as_slice() {
             [a, b] => same(a.as_bytes(), first) && same(b.as_bytes(), second),
@@ -150,7 +150,7 @@ fn has_names(found: &Result<Document, ParseError>, first: &[u8], second: &[u8]) 
 #[test]
 fn names(rt: HostRuntime) {
     let text = b"om 2\ncircuits 2\nnames Abcdefghij_01234 _\nhalf\nend";
-    assert!(rt; has_names(&parse(rt.alloc(), text), b"Abcdefghij_01234", b"_"));
+    assert!(rt; has_names(parse(rt.alloc(), text), b"Abcdefghij_01234", b"_"));
     assert!(rt; Name::new(b"Abcdefghij_012345").is_none());
 }
 

@@ -5,7 +5,7 @@ ghost use Rattle.om_signs.specs.declared.limits.TheConstants.{MAX_READ};
 ghost use Rattle.om_certificate.specs.Forms.{IsVerdictInForm};
 ghost use Rattle.om_document.specs.Form.{IsMapOn};
 
-use super::helpers::is_made;
+use super::made::is_made;
 use om_answer::{print_verdict, read_claim};
 use om_certificate::{LpEnd, Verdict};
 use om_chirotope::{Chirotope, check};
