@@ -1,11 +1,13 @@
 //! Lexicographic extensions of an oriented matroid.
 
-ghost use Rattle.std.specs.Prelude.{◌≡◌, ◌<◌, IfOk};
+ghost use Rattle.std.specs.Prelude.{◌≡◌, ◌<◌, IfOk, IfSome};
 ghost use Rattle.om_lexext.specs.Lexicographic.{IsLexicographicList};
 ghost use Rattle.om_commands.specs.LexicalExtensions.{IsLexicalExtension, IsExtensionOfMap};
 ghost use Rattle.om_reply.specs.Above.{first_above};
+ghost use Rattle.om_reply.specs.Answers.{says};
+ghost use Rattle.om_representation.specs.Documents.{document_of};
 ghost use Rattle.om_representation.specs.Represented.{IsMeantFor};
-ghost use Rattle.om_words.specs.Tasks.{AreLawful, elements_of};
+ghost use Rattle.om_words.specs.Tasks.{AreLawful, elements_of, given_list};
 
 use om_chirotope::Chirotope;
 use om_lexext::{LexError, Signed, lexical};
@@ -26,18 +28,37 @@ pub fn extend_lexically(
     requires { AreLawful leading }
     ensures { IfOk result (IsMeantFor (IsLexicalExtension leading) representation) }
 {
-    let list = &leading.list[..leading.count as usize];
-    let n = representation.elements();
-    if let Some(e) = place_above(n, list) {
-        return Ok(Answer::Line(Line::RefusedPlace { e }));
-    }
-    if n == MAX_ELEMENTS {
-        return Ok(Answer::Line(Line::RefusedFull { n }));
+    if let Some(line) = early_refusal(&representation, &leading) {
+        return Ok(Answer::Line(line));
     }
     match choose_chirotope(alloc, representation) {
-        Ok(chirotope) => extend_by(alloc, &chirotope, list),
+        Ok(chirotope) => extend_by(
+            alloc,
+            &chirotope,
+            &leading.list[..leading.count as usize],
+        ),
         Err(why) => Ok(Answer::Line(width_line(why)?)),
     }
+}
+
+/// The line of a refusal that needs no chirotope: the first listed element is above the number of elements, or this is
+/// the greatest one already.
+fn early_refusal(representation: &Representation, leading: &Leading) -> Option<Line>
+    requires { AreLawful leading.now }
+    ensures some { IfSome result (λ line.
+        IsLexicalExtension leading.now (document_of representation.now) (says line)) }
+    ensures none { result ≡ None
+        → (first_above (document_of representation.now).elements (elements_of (given_list leading.now)) ≡ None)
+        × ((document_of representation.now).elements < MAX_ELEMENTS) }
+{
+    let n = representation.elements();
+    if let Some(e) = place_above(n, &leading.list[..leading.count as usize]) {
+        return Some(Line::RefusedPlace { e });
+    }
+    if n == MAX_ELEMENTS {
+        return Some(Line::RefusedFull { n });
+    }
+    None
 }
 
 /// The lexicographic extension of a chirotope that isn't full. The listed elements are distinct elements of it, and
