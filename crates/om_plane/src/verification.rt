@@ -4,6 +4,7 @@ ghost use Rattle.std.specs.Prelude.{◌≡◌, IfOk};
 ghost use Rattle.om_document.specs.Form.{IsInForm};
 ghost use Rattle.om_certificate.specs.Validity.{IsWithinLimits};
 ghost use Rattle.om_certificate.specs.Verdicts.{HasEvidenceWithinLimits};
+ghost use Rattle.om_representation.specs.Axioms.{IsRefusal};
 ghost use Rattle.om_plane.specs.Claims.{ClaimMeans, VerdictMeans, EvidenceMeans, valid_line, refusal_line};
 
 use om_certificate::{CertRefused, Evidence, Verdict, certificate, check};
@@ -27,9 +28,19 @@ pub fn verify<R: Threads + Sync>(rt: &R, alloc: Global, claim: Claim) -> Result<
             Ok(chirotope) => Ok(verify_verdict(&chirotope, verdict)),
             Err(why) => rank_line(why),
         },
-        Err(Unrepresented::Refused(why)) => Ok(refused_line(why)),
-        Err(Unrepresented::Flat) => Ok(Line::RefusedFlatrank),
-        Err(Unrepresented::Memory) => Err(NoMemory),
+        Err(why) => unrepresented_line(why),
+    }
+}
+
+/// The line that answers a claim whose document gives no oriented matroid. If memory ran out there is no answer.
+fn unrepresented_line(why: Unrepresented) -> Result<Line, NoMemory>
+    ensures { (claim : Claim) → IsRefusal claim.document.elements claim.document.body why
+        → IfOk result (ClaimMeans claim) }
+{
+    match why {
+        Unrepresented::Refused(why) => Ok(refused_line(why)),
+        Unrepresented::Flat => Ok(Line::RefusedFlatrank),
+        Unrepresented::Memory => Err(NoMemory),
     }
 }
 

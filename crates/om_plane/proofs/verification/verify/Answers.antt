@@ -1,9 +1,8 @@
 use Rattle.std.proofs.Common.{subst}
 use Rattle.std.proofs.lemmas.Result.{IfOk-weaker}
 use Rattle.om_document.specs.declared.document.Document.{Document}
-use Rattle.om_representation.specs.Axioms.{IsRefusal}
 use Rattle.om_representation.specs.Chirotopes.{IsChirotopeOf}
-use Rattle.om_plane.specs.Claims.{fails_axioms, flat, verified}
+use Rattle.om_plane.specs.Claims.{verified}
 use Rattle.om_plane.proofs.ClaimLaws.{claim_refused}
 use Rattle.om_plane.proofs.verification.verify.Goals as goal
 
@@ -13,20 +12,12 @@ returns-in-Ok-choose_chirotope g c =
     verified _ _ c.in-Ok.ensures.accepted c.in-Ok.ensures.bent
     (subst P c.in-Ok.ensures.value c.in-Ok-choose_chirotope.ensures.chosen) c.verify_verdict.ensures
 
-pub returns-in-Ok : goal.returns-in-Ok
-returns-in-Ok g c =
+pub returns-in-Err-choose_chirotope : goal.returns-in-Err-choose_chirotope
+returns-in-Err-choose_chirotope g c =
+    let no = c.in-Err-choose_chirotope in
     IfOk-weaker _ _ _
-    (λ l named. claim_refused c.args.claim _ c.in-Err.why l c.in-Ok.ensures.accepted c.in-Ok.ensures.bent
-    c.in-Ok.ensures.value c.in-Err.ensures.refused named) c.rank_line.ensures.line
+    (λ l named. claim_refused c.args.claim _ no.why l c.in-Ok.ensures.accepted c.in-Ok.ensures.bent
+    c.in-Ok.ensures.value no.ensures.refused named) c.rank_line.ensures.line
 
-pub returns-in-Err-Refused : goal.returns-in-Err-Refused
-returns-in-Err-Refused g c =
-    rw (c.refused_line.ensures, c.in-Err-Refused.why-is)
-    (fails_axioms _
-    (subst (IsRefusal c.args.claim.document.elements c.args.claim.document.body) c.in-Err-Refused.field-0-is
-    c.in-Err-Refused.ensures.refused))
-
-pub returns-in-Err-Flat : goal.returns-in-Err-Flat
-returns-in-Err-Flat g c = let why =
-    subst (IsRefusal c.args.claim.document.elements c.args.claim.document.body) c.in-Err-Flat.field-0-is
-    c.in-Err-Flat.ensures.refused in flat why.0 why.1
+pub returns-in-Err : goal.returns-in-Err
+returns-in-Err g c = c.unrepresented_line.ensures c.args.claim c.in-Err.ensures.refused
