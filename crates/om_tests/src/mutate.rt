@@ -13,10 +13,11 @@ use om_wiring::Wiring;
 /// Whether a flip gave the map of four elements with the signs of a text; or whether it was refused for a reason,
 /// and this map was handed back.
 fn is_flip(found: Result<Chirotope, BadFlip>, refused: Option<FlipRefused>, signs: &str) -> bool {
-    match found {
-        Ok(chi) => refused.is_none() & is_map(&chi.into_raw(), 3, 4, signs),
-        Err(bad) => (refused == Some(bad.why)) & is_map(&bad.kept.into_raw(), 3, 4, signs),
-    }
+    let (why, chi) = match found {
+        Ok(chi) => (None, chi),
+        Err(bad) => (Some(bad.why), bad.kept),
+    };
+    (why == refused) & is_map(&chi.into_raw(), 3, 4, signs)
 }
 
 /// Whether there is a chirotope with four elements, and the flip of its first triple gives this.
@@ -32,10 +33,11 @@ fn has_flip(chi: Result<Chirotope, SampleError>, refused: Option<FlipRefused>, s
 /// Whether a wiring diagram was flipped at a triangle, and these are its blocks; or whether there was none, and
 /// these were handed back.
 fn has_blocks(found: Result<Wiring, NotTriangle>, has_triangle: bool, blocks: &[Block]) -> bool {
-    match found {
-        Ok(other) => has_triangle & (other.blocks() == blocks),
-        Err(none) => !has_triangle & (none.kept.blocks() == blocks),
-    }
+    let (turned, wiring) = match found {
+        Ok(other) => (true, other),
+        Err(none) => (false, none.kept),
+    };
+    (turned == has_triangle) & (wiring.blocks() == blocks)
 }
 
 /// Whether there is a wiring diagram, whether it has a triangle at a step, and whether these are the blocks after

@@ -55,7 +55,8 @@ fn vectors(rt: HostRuntime) {
     // a vector comes before each longer one that begins with it
     let short = vector_of(1, "0");
     let orders = [short < vector_of(2, "0-"), y < short];
-    assert!(rt; masks == [0b01, 0b01, 0b10, 0b01, 2] && orders == [true; 2]);
+    assert!(rt; masks == [0b01, 0b01, 0b10, 0b01, 2]);
+    assert!(rt; orders == [true; 2]);
 }
 
 /// Pairs of vectors. Whether they are orthogonal: the products of their signs are all zero, or one is plus and one
