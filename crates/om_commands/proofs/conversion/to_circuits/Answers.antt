@@ -1,3 +1,4 @@
+use Rattle.std.proofs.Common.{rules}
 use Rattle.std.specs.Prelude.{◌≡◌, false, refl}
 use Rattle.std.proofs.lemmas.Result.{IfOk-weaker}
 use Rattle.om_document.specs.declared.kinds.Kind.TheVariants as kind
@@ -34,3 +35,6 @@ returns-in_ok-width_line-in-Err c =
     c.in-Cocircuits.is in
     wide_answered kind.Circuits (document_of c.args.representation) c.in-Err.why _ other way c.in-Err.ensures.refused
     c.in_ok-width_line-in-Err.ensures.line
+
+pub returns-in-Chirotope : goal.returns-in-Chirotope
+returns-in-Chirotope c = search rules

@@ -40,7 +40,8 @@ pub returns-in-Err-ReadFault-clause-taken : goal.returns-in-Err-ReadFault-clause
 returns-in-Err-ReadFault-clause-taken g c = tt
 
 pub returns-in-Err-ReadFault-clause-read : goal.returns-in-Err-ReadFault-clause-read
-returns-in-Err-ReadFault-clause-read g c = λ fault. c.in-Err-ReadFault.ensures.fault (ap Err c.in-Err-ReadFault.field-0-is)
+returns-in-Err-ReadFault-clause-read g c = λ fault.
+    c.in-Err-ReadFault.ensures.fault (ap Err c.in-Err-ReadFault.field-0-is)
 
 pub returns-in-Err-ReadFault-clause-prefix : goal.returns-in-Err-ReadFault-clause-prefix
 returns-in-Err-ReadFault-clause-prefix g c = c.in-Err-ReadFault.ensures.prefix

@@ -183,7 +183,8 @@ pub returns-in-Err-clause-untouched_fault : goal.returns-in-Err-clause-untouched
 returns-in-Err-clause-untouched_fault g c = λ fault. absurd (usage_ne_read_fault _ c.write_usage.ensures.no_other fault)
 
 pub returns-in-Err-clause-untouched_memory : goal.returns-in-Err-clause-untouched_memory
-returns-in-Err-clause-untouched_memory g c = λ memory. absurd (usage_ne_no_memory _ c.write_usage.ensures.no_other memory)
+returns-in-Err-clause-untouched_memory g c = λ memory.
+    absurd (usage_ne_no_memory _ c.write_usage.ensures.no_other memory)
 
 pub returns-in-Err-clause-reading : goal.returns-in-Err-clause-reading
 returns-in-Err-clause-reading g c = λ fault. absurd (usage_ne_read_fault _ c.write_usage.ensures.no_other fault)
