@@ -1,4 +1,4 @@
-use Rattle.std.proofs.Common.{◌≡◌, true, false, refl, sym, ◌∙◌, subst, arith}
+use Rattle.std.proofs.Common.{◌≡◌, true, false, refl, sym, ◌∙◌, subst, arith, rules}
 use Rattle.om_covectors.specs.Minimality.{HasNoSmallerSupport}
 use Rattle.om_members.proofs.ScanLaws.{nth_contained}
 use Rattle.om_covectors.proofs.minimality.is_minimal.Goals as goal
@@ -12,3 +12,6 @@ returns c = (
   },
   λ _. refl,
 )
+
+pub returns-then-is_zero : goal.returns-then-is_zero
+returns-then-is_zero c = search rules
