@@ -32,11 +32,7 @@ pub fn extend_lexically(
         return Ok(Answer::Line(line));
     }
     match choose_chirotope(alloc, representation) {
-        Ok(chirotope) => extend_by(
-            alloc,
-            &chirotope,
-            &leading.list[..leading.count as usize],
-        ),
+        Ok(chirotope) => extend_by(alloc, &chirotope, &leading.list[..leading.count as usize]),
         Err(why) => Ok(Answer::Line(width_line(why)?)),
     }
 }

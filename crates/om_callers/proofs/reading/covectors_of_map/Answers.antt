@@ -44,7 +44,7 @@ returns-in-Err-TooMany _ c =
 pub unreachable-unreachable : goal.unreachable-unreachable
 unreachable-unreachable _ c =
     subst (IsCause (IsCovectorOfChirotope c.in-Ok.chirotope)) c.in-Err-TooWide.field-0-is
-        c.in-Err-TooWide.ensures.many
+    c.in-Err-TooWide.ensures.many
 
 -- a reason of which both clauses of check hold is one that the map gives
 violated : (m : RawMap) (why : MapRefused) → (why ≡ AllZero → IsAllZero m.signs)
