@@ -7,6 +7,7 @@
 mod argument;
 mod arguments;
 mod colouring;
+mod laws;
 mod leading;
 mod limits;
 mod numbered;
@@ -21,6 +22,7 @@ mod verb;
 mod words;
 
 pub use colouring::Colouring;
+pub use laws::number_of_the_limit;
 pub use leading::Leading;
 pub use limits::MAX_LISTED;
 pub use om_printing::Usage;
