@@ -2,7 +2,7 @@
 //!
 //! [`run`] is a whole run. [`run_each`] is a run on many documents: it cuts the source into pieces, and answers each as
 //! [`run`] answers an input of its own. A program that gets its inputs in another way can call its parts, which answer
-//! a task on bytes and write the answer.
+//! a task on bytes and write the answer. The words of commands and their tasks are those of `om_words`.
 #![tactic(auto)]
 
 mod answering;
@@ -15,4 +15,5 @@ mod writing;
 pub use answering::answer_input;
 pub use each::run_each;
 pub use om_reply::{Answer, Status, write_answer, write_usage};
+pub use om_words::{Task, Usage, command};
 pub use running::run;

@@ -1,4 +1,5 @@
-//! The tests of the public calls of the libraries that don't read or write texts, one module per library.
+//! The tests of the public calls of the libraries that don't read or write texts, one module per library, and the
+//! public names of these libraries, by the paths under which callers know them.
 #![tactic(auto)]
 
 #[cfg(test)]
@@ -55,6 +56,7 @@ mod signs;
 mod simplex;
 #[cfg(test)]
 mod subsets;
+pub mod surface;
 #[cfg(test)]
 mod threeterm;
 #[cfg(test)]
