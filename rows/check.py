@@ -10,9 +10,10 @@ an empty one. A line that begins with `# ` is a remark. `streams.txt` has runs o
 runs of om.
 
 After the tables come runs that read a text which breaks off, runs whose output has too little room, a few answers of
-which parts are compared, and lists that are compared with what the axioms give. For om_each there are the documents
-of all tables in streams, and a conversation. Each program that is named makes all these runs, those of om_each if its
-name has `each` in it. If none is named, both built programs do, and those of the second compiler if they are there.
+which parts are compared, lists that are compared with what the axioms give, and the runs of large.py. For om_each there
+are the documents of all tables in streams, and a conversation. Each program also gets words that don't reach it. Each
+program that is named makes all these runs, those of om_each if its name has `each` in it. If none is named, both built
+programs do, and those of the second compiler if they are there.
 The last line is 'rows: N passed, M failed', and the exit code is 1 if one failed.
 """
 import glob
@@ -29,6 +30,7 @@ import threading
 HERE = os.path.dirname(os.path.abspath(__file__))
 sys.path.insert(0, HERE)  # the checks of neighbours/ load this file, too
 
+import large  # noqa: E402
 from pieces import pieces  # noqa: E402
 
 TOP = os.path.dirname(HERE)
@@ -220,12 +222,61 @@ def run_extensions(tally, program, listed):
         wanted = "om 1\nextensions 4\n%s\nend\n" % "\n".join(lines)
         found = run(program, ["extend"], b"om 1\nchirotope 3 4\n%s\nend\n" % old.encode())
         tally.expect("extensions of %s, of which there are 75" % old, (found, len(lines)), ((0, wanted.encode()), 75))
-    larger = (9, 84, 2000, 2000, b"more"), (9, 84, 100000, 10131, b"end"), (19, 969, 1000, 1000, b"more")
+    larger = ((9, 84, 2000, 2000, b"more"), (9, 84, 2001, 2001, b"more"), (9, 84, 100000, 10131, b"end"),
+              (19, 969, 1000, 1000, b"more"))
     for elements, number, first, lines, last in larger:
         code, listing = run(program, ["extend", "--first=%d" % first], all_plus(elements, number))
         # the two lines before them, and the last one
         found = code, listing.count(b"\n"), listing.endswith(b"\n%s\n" % last)
         tally.expect("the first %d extensions of %d elements" % (first, elements), found, (0, lines + 2 + 1, True))
+
+
+def run_large(tally, program, listed):
+    """The runs of large.py, and inputs that are too long for any command."""
+    for words, given, code, output in listed:
+        found = run(program, words.split(), given.encode())
+        tally.expect("%s of %s" % (words, given[:60]), found, (code, output.encode()))
+    for words in sorted({words for words, _, _, _ in listed}):
+        tally.expect("%s of a long input" % words, run(program, words.split(), b"#" * 1048577), (1, b"refused long\n"))
+
+
+def run_verdicts(tally, program):
+    """Vectors that are found for nine and more elements, and weights where the search may make one step alone."""
+    for elements in 9, 12, 20:
+        triples = list(itertools.combinations(range(elements), 3))
+        given = all_plus(elements, len(triples))
+        code, claim = run(program, ["decide"], given)
+        lines = claim[len(given):].decode().split("\n")
+        vectors = [tuple(map(int, it.split(" ")[1:])) for it in lines if it.startswith("vector ")]
+        sizes = [size for _, size in large.determinants(vectors)]
+        found = code, claim[:len(given)] == given, lines[0], lines[elements + 1:], len(vectors), min(sizes) > 0
+        tally.expect("vectors of %d elements" % elements, found, (0, True, "realizable", ["end", ""], elements, True))
+        tally.expect("which are valid", run(program, ["check"], claim), (0, b"valid realizable\n"))
+        code, claim = run(program, ["decide", "--steps=1"], given)
+        weights = claim.split(b"\n").count
+        found = code, claim[:len(given)] == given, claim.count(b"\nweight "), claim.split(b"\n")[-4:]
+        tally.expect("weights of %d elements" % elements, found,
+                     (0, True, len(triples), [b"frontier", b"vector -1 -1 -1", b"end", b""]))
+        tally.expect("which are valid", run(program, ["check"], claim), (0, b"valid undecided\n"))
+
+
+def run_starts(tally, program):
+    """Words that don't reach the program: one that isn't UTF-8, and words for which there is too little memory."""
+    for words in [b"\xff"], [b"accept", b"\xc0\xaf"]:
+        tally.expect("words that aren't UTF-8", run(program, words, UNIFORM), (7, b""))
+
+    def start(words, room):
+        try:
+            return run(program, words, b"", preexec_fn=lambda: resource.setrlimit(resource.RLIMIT_AS, (room, room)))
+        except OSError:  # the system can't start it
+            return None
+
+    words = ["x" * 120_000] * 10
+    size = sum(map(len, words))
+    tally.expect("long words", run(program, words, b""), (2, b"usage 1\n"))
+    least = next(room for room in range(1 << 20, 1 << 28, 1 << 18) if start([], room) == (2, b"usage 1\n"))
+    # besides the room in which it starts there is that of the words as the system gives them, and half of another
+    tally.expect("long words in little memory", start(words, least + size + size // 2), (6, b""))
 
 
 def run_twenty_wires(tally, program):
@@ -281,6 +332,14 @@ def run_streams(tally, program):
     tally.expect("100,000 documents", (ended[0], ended[1] == b"accepted\n" * 100_000), (0, True))
 
 
+def run_large_streams(tally, program, listed):
+    """The documents of large.py, those with the same words in one run."""
+    for words, rows in itertools.groupby(sorted(listed), key=lambda it: it[0]):
+        _, given, codes, outputs = zip(*rows)
+        tally.expect("a stream of %d large documents of %s" % (len(given), words),
+                     run(program, words.split(), "".join(given).encode()), (max(codes), "".join(outputs).encode()))
+
+
 def run_stream_faults(tally, program):
     """A read that fails after each byte of a stream, and rooms that end after each byte of its answers."""
     text = UNIFORM + b"om 1\nchirotope 2 4\n+-++++\nend\n# last\n" + UNIFORM
@@ -325,10 +384,13 @@ def main():
         programs = [it for built in BUILT for it in (built, built + ".by-rattle") if os.path.exists(it)]
     tally = Tally()
     listed = [(old, list(extensions(old))) for old in map("".join, itertools.product("-+", repeat=4))]
+    runs = list(large.runs())
     for program in programs:
+        run_starts(tally, program)
         if "each" in os.path.basename(program):
             run_tables(tally, program, [STREAMS])
             run_streams(tally, program)
+            run_large_streams(tally, program, runs)
             run_stream_faults(tally, program)
             run_conversation(tally, program)
             continue
@@ -338,6 +400,8 @@ def main():
         run_long_lists(tally, program)
         run_extensions(tally, program, listed)
         run_twenty_wires(tally, program)
+        run_large(tally, program, runs)
+        run_verdicts(tally, program)
     print("rows: %d passed, %d failed" % (tally.passed, tally.failed))
     return 1 if tally.failed or not tally.passed else 0
 

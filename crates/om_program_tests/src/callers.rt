@@ -4,7 +4,7 @@ ghost use Rattle.std.specs.Prelude.{◌≡◌, ◌≤◌, length};
 ghost use Rattle.om_signs.specs.declared.limits.TheConstants.{MAX_READ};
 
 use om_callers::{NotRead, covectors_of_text, first_triple};
-use om_chirotope::Chirotope;
+use om_chirotope::{Chirotope, MapRefused};
 use om_samples::chirotope_of;
 use om_signs::Sign;
 use om_subsets::Subset;
@@ -34,6 +34,16 @@ fn covectors_of_bytes(rt: HostRuntime) {
         code: Code::Missing,
     };
     assert!(rt; counts == [Ok(3), Err(missing), Err(NotRead::Kind)]);
+}
+
+// a map that is all zero; and one of rank 8 that has 3^8 covectors
+#[test]
+fn refusals_behind_the_text(rt: HostRuntime) {
+    let alloc = rt.alloc();
+    let zero = count(&rt, alloc, b"om 1\nchirotope 1 2\n00\nend\n");
+    assert!(rt; zero == Err(NotRead::Axioms(MapRefused::AllZero)));
+    let many = count(&rt, alloc, b"om 1\nchirotope 8 8\n+\nend\n");
+    assert!(rt; many == Err(NotRead::TooMany { limit: 4096 }));
 }
 
 /// Whether there is a triple, and it has this mask.
