@@ -1,7 +1,7 @@
-//! An answer always exists: for all words and bytes it is absurd that they mean none.
+//! An answer always exists, though the law names none.
 //!
 //! The contract of [`run`](om_program::run) says that words and bytes mean at most one answer. The law of this
-//! crate says that they mean at least one. Together they mean exactly one.
+//! crate says that it is absurd that they mean none.
 #![tactic(auto)]
 
 mod laws;
