@@ -300,4 +300,3 @@ def limits():
     six = document("cocircuits 19", with_negatives(vector({e: "+"}, 19) for e in range(6)))
     yield "lexext +1", pairs, 3, "limit values 48620\n"
     yield "lexext +1", six, 3, "limit values 27132\n"
-    yield "lexext +1", document("covectors 19", free(6, 19)), 3, "limit values 27132\n"
