@@ -242,21 +242,20 @@ def run_large(tally, program, listed):
 
 def run_verdicts(tally, program):
     """Vectors that are found for nine and more elements, and weights where the search may make one step alone."""
-    for elements in 9, 12, 20:
-        triples = list(itertools.combinations(range(elements), 3))
-        given = all_plus(elements, len(triples))
-        code, claim = run(program, ["decide"], given)
-        lines = claim[len(given):].decode().split("\n")
-        vectors = [tuple(map(int, it.split(" ")[1:])) for it in lines if it.startswith("vector ")]
-        sizes = [size for _, size in large.determinants(vectors)]
-        found = code, claim[:len(given)] == given, lines[0], lines[elements + 1:], len(vectors), min(sizes) > 0
-        tally.expect("vectors of %d elements" % elements, found, (0, True, "realizable", ["end", ""], elements, True))
+    four = [(1, 0, 0), (0, 1, 0), (0, 0, 1), (1, 1, 1)]
+    for points in [(1, t, t * t) for t in range(9)], four * 3, four * 5:
+        given, elements = large.map_of_points(points), len(points)
+        signs = given.count("+") + given.count("-")
+        code, claim = run(program, ["decide"], given.encode())
+        lines = claim.decode()[len(given):].split("\n")
+        vectors = [tuple(map(int, it.split(" ")[1:])) for it in lines[1:elements + 1]]
+        found = code, claim.startswith(given.encode()), lines[0], lines[elements + 1:], large.map_of_points(vectors)
+        tally.expect("vectors of %d elements" % elements, found, (0, True, "realizable", ["end", ""], given))
         tally.expect("which are valid", run(program, ["check"], claim), (0, b"valid realizable\n"))
-        code, claim = run(program, ["decide", "--steps=1"], given)
-        weights = claim.split(b"\n").count
-        found = code, claim[:len(given)] == given, claim.count(b"\nweight "), claim.split(b"\n")[-4:]
+        code, claim = run(program, ["decide", "--steps=1"], given.encode())
+        found = code, claim.startswith(given.encode()), claim.count(b"\nweight "), claim.split(b"\n")[-4:]
         tally.expect("weights of %d elements" % elements, found,
-                     (0, True, len(triples), [b"frontier", b"vector -1 -1 -1", b"end", b""]))
+                     (0, True, signs, [b"frontier", b"vector -1 -1 -1", b"end", b""]))
         tally.expect("which are valid", run(program, ["check"], claim), (0, b"valid undecided\n"))
 
 

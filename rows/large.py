@@ -240,6 +240,12 @@ def determinants(vectors):
         yield s, a * (e * i - f * h) - b * (d * i - f * g) + c * (d * h - e * g)
 
 
+def map_of_points(vectors):
+    """The chirotope of some vectors."""
+    signs = ("0+-"[(size > 0) - (size < 0)] for _, size in determinants(vectors))
+    return map_of(3, len(vectors), "".join(signs))
+
+
 def claims(nine):
     """Claims on points in convex position, each a triple whose sign is plus."""
     points = [(1, t, t * t) for t in NINE]
