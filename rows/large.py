@@ -58,11 +58,6 @@ def covectors(vectors, n):
     return in_order(found)
 
 
-def is_orthogonal(x, y):
-    products = {a == b for a, b in zip(x, y) if "0" not in (a, b)}
-    return len(products) != 1
-
-
 def document(kind, lines):
     return "om 1\n%s\n%send\n" % (kind, "".join(line + "\n" for line in lines))
 
@@ -139,6 +134,12 @@ def free(r, n, last=False):
     return ["".join(x) + loops if not last else loops + "".join(x) for x in product("-0+", repeat=r)]
 
 
+def of_four(r, signs):
+    """The map of rank r on nine elements whose first four have these signs, with loops behind them."""
+    signs = iter(signs)
+    return map_of(r, 9, "".join(next(signs) if s[-1] < 4 else "0" for s in combinations(NINE, r)))
+
+
 def refusals():
     """Documents on nine elements that break an axiom."""
     for kind, members, line in [
@@ -147,34 +148,26 @@ def refusals():
         ("cocircuits", "+-", "nonegative 1"), ("covectors", "+ -", "nozero"), ("covectors", "0 +", "nonegative 2"),
         ("covectors", "00 +0 -0 0+ 0-", "nocomposition 2 4"), ("covectors", "00 ++ -- +- -+", "noelimination 2 4 2"),
     ]:
-        yield document(kind + " 9", padded(members, 9)), line
-    yield map_of(3, 9, "0" * 84), "allzero"
-    # 1, 2, 3 and 4 as in a map of four elements, with loops behind them
-    yield map_of(2, 9, pairs_of_four("+-++++")), "relation 1,2,3 4"
-    yield document("points 9", ["1 0 0"] * 9), "ranklow"
-    yield document("wiring 9", ["9-10"]), "range 1"
-    yield document("wiring 9", ["1-2", "1-2"]), "notincreasing 2"
-    yield document("wiring 9", ["1-2"]), "notreversed"
+        yield "accept", document(kind + " 9", padded(members, 9)), 1, "refused %s\n" % line
+    for words, given, line in [
+        ("accept", map_of(3, 9, "0" * 84), "allzero"), ("accept", of_four(2, "+-++++"), "relation 1,2,3 4"),
+        ("threeterm", of_four(2, "+-++++"), "threeterm none 1,2,3,4"),
+        ("threeterm", of_four(2, "+0000+"), "noexchange 1,2 3,4 1"),
+        ("accept", document("points 9", ["1 0 0"] * 9), "ranklow"),
+        ("accept", document("wiring 9", ["9-10"]), "range 1"),
+        ("accept", document("wiring 9", ["1-2", "1-2"]), "notincreasing 2"),
+        ("accept", document("wiring 9", ["1-2"]), "notreversed"),
+        ("convert chirotope", document("wiring 9", ["1-9"]), "flatrank"),
+        # the first pair with a line at infinity is violated
+        ("wiring", of_four(3, "+-++"), "notsweepable 1,2,3,4 1,10"),
+    ]:
+        yield words, given, 1, "refused %s\n" % line
+    yield "accept", document("wiring 9", ["1-9"]), 0, "accepted\n"
 
 
-def pairs_of_four(signs):
-    signs = iter(signs)
-    return "".join(next(signs) if s[1] < 4 else "0" for s in combinations(NINE, 2))
-
-
-def triples_of_four(signs):
-    signs = iter(signs)
-    return "".join(next(signs) if s[2] < 4 else "0" for s in combinations(NINE, 3))
-
-
-def runs():
-    """The words, the input, the exit code and the answer of each run."""
-    nine, smaller, contracted = alternating(3, 9), alternating(3, 8), alternating(2, 8)
-    points = document("points 9", ["1 %d %d" % (t, t * t) for t in NINE])
-    blocks = ["%d-%d" % (k, k + 1) for wire in range(2, 10) for k in range(wire - 1, 0, -1)]
-    wiring = document("wiring 9", blocks)
-    turning = sorted(sorted((e % 9 + 1, (e + 1) % 9 + 1, (e + 2) % 9 + 1)) for e in NINE)
-    mutations = "mutations 9\n%send\n" % "".join("%d,%d,%d\n" % tuple(it) for it in turning)
+def commands(nine, wiring):
+    """Commands that answer every kind of document alike."""
+    triples = sorted(sorted((e % 9 + 1, (e + 1) % 9 + 1, (e + 2) % 9 + 1)) for e in NINE)
     basis = " ".join(map(str, [86, *range(2, 86)]))
     limit = nine["chirotope"] + "limit\npivots 1\nbasis %s\nfrontier\nvector -1 -1 -1\nend\n" % basis
     for given in nine.values():
@@ -183,7 +176,7 @@ def runs():
         yield "member +-+-+-+-+", given, 0, "not covector\n"
         yield "member +", given, 1, "refused length 1\n"
         yield "wiring", given, 0, wiring
-        yield "mutations", given, 0, mutations
+        yield "mutations", given, 0, "mutations 9\n%send\n" % "".join("%d,%d,%d\n" % tuple(it) for it in triples)
         yield "flip 1 2 3", given, 0, map_of(3, 9, "-" + "+" * 83)
         yield "flip 1 2 4", given, 1, "refused notmutation 1,2,3,4 1,5\n"
         yield "extend --first=1", given, 0, document("extensions 9", ["-" * 36]).replace("end", "more")
@@ -191,11 +184,15 @@ def runs():
         yield "paint RRRRRRRRR 1", given, 0, "%s %s\n" % painting("RRRRRRRRR", 1)
         yield "lexext +9", given, 0, map_of(3, 10, "".join(lexical_signs([(8, "+")])))
         yield "decide --box=1 --steps=1 --pivots=1", given, 3, limit
-    for kind, answer in nine.items():
-        for given in list(nine.values()) + [points, wiring]:
-            yield "convert " + kind, given, 0, answer
-        yield "delete 9", nine[kind], 0, smaller[kind]
-        yield "contract 9", nine[kind], 0, contracted[kind]
+    yield "check", limit, 1, "refused nocertificate\n"
+
+
+def operations(nine):
+    """Duals, minors and reorientations, each kind as its definition says."""
+    smaller, contracted = alternating(3, 8), alternating(2, 8)
+    for kind, given in nine.items():
+        yield "delete 9", given, 0, smaller[kind]
+        yield "contract 9", given, 0, contracted[kind]
     yield "dual", nine["chirotope"], 0, map_of(6, 9, dual_signs(3, 9))
     yield "dual", nine["circuits"], 0, nine["circuits"].replace("circuits", "cocircuits")
     yield "dual", nine["cocircuits"], 0, nine["cocircuits"].replace("cocircuits", "circuits")
@@ -203,22 +200,23 @@ def runs():
     turned = "".join("-" if 8 in s else "+" for s in combinations(NINE, 3))
     yield "reorient 9", nine["chirotope"], 0, map_of(3, 9, turned)
     for kind in "circuits", "cocircuits", "covectors":
-        turned = [turn(x, (8,)) for x in nine[kind].splitlines()[2:-1]]
-        yield "reorient 9", nine[kind], 0, document(kind + " 9", in_order(turned))
-        yield "upgrade", nine[kind], 0, upgraded(nine[kind], 9)
+        members = [turn(x, (8,)) for x in nine[kind].splitlines()[2:-1]]
+        yield "reorient 9", nine[kind], 0, document(kind + " 9", in_order(members))
+
+
+def upgrades(nine, points, wiring):
+    """Documents in version 2."""
     signs = "+" * 64 + "\n" + "+" * 20
     yield "upgrade", nine["chirotope"], 0, "om 2\nchirotope 3 9\nnames %s\norder revlex\n%s\nend\n" % (names(9), signs)
+    for kind in "circuits", "cocircuits", "covectors":
+        yield "upgrade", nine[kind], 0, upgraded(nine[kind], 9)
     for text in points, wiring:
-        first, *rest = text.split("\n", 2)[1:]
-        yield "upgrade", text, 0, "om 2\n%s\nnames %s\n%s" % (first, names(9), rest[0])
-    for given, line in refusals():
-        yield "accept", given, 1, "refused %s\n" % line
-    yield "threeterm", map_of(2, 9, pairs_of_four("+-++++")), 1, "refused threeterm none 1,2,3,4\n"
-    yield "threeterm", map_of(2, 9, pairs_of_four("+0000+")), 1, "refused noexchange 1,2 3,4 1\n"
-    yield "accept", document("wiring 9", ["1-9"]), 0, "accepted\n"
-    yield "convert chirotope", document("wiring 9", ["1-9"]), 1, "refused flatrank\n"
-    # the signs that a line at infinity would need break the first pair that has it
-    yield "wiring", map_of(3, 9, triples_of_four("+-++")), 1, "refused notsweepable 1,2,3,4 1,10\n"
+        _, kind, body = text.split("\n", 2)
+        yield "upgrade", text, 0, "om 2\n%s\nnames %s\n%s" % (kind, names(9), body)
+
+
+def in_any_rank(nine):
+    """Paintings, hulls and lexicographic extensions besides those that every kind of document is asked for."""
     for colours, e in ("RGRGRGRGR", 9), ("WBRGWBRGR", 9), ("RRRRGRRRR", 5):
         yield "paint %s %d" % (colours, e), nine["circuits"], 0, "%s %s\n" % painting(colours, e)
     # with 2 and 4 turned, a circuit of 1, 2, 3 and 4 has plus everywhere
@@ -227,9 +225,23 @@ def runs():
     yield "hull", map_of(3, 9, turned), 0, "cyclic %s\n" % positive
     for words, listed in ("-1 +9", [(0, "-"), (8, "+")]), ("+5 -4 +3", [(4, "+"), (3, "-"), (2, "+")]):
         yield "lexext " + words, nine["cocircuits"], 0, map_of(3, 10, "".join(lexical_signs(listed)))
+
+
+def runs():
+    """The words, the input, the exit code and the answer of each run."""
+    nine = alternating(3, 9)
+    points = document("points 9", ["1 %d %d" % (t, t * t) for t in NINE])
+    wiring = document("wiring 9", ["%d-%d" % (k, k + 1) for wire in range(2, 10) for k in range(wire - 1, 0, -1)])
+    for kind, answer in nine.items():
+        for given in list(nine.values()) + [points, wiring]:
+            yield "convert " + kind, given, 0, answer
+    yield from commands(nine, wiring)
+    yield from operations(nine)
+    yield from upgrades(nine, points, wiring)
+    yield from in_any_rank(nine)
+    yield from refusals()
     yield from other_ranks()
     yield from limits()
-    yield "check", limit, 1, "refused nocertificate\n"
     yield from claims(nine)
 
 
