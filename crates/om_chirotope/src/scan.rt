@@ -1,12 +1,13 @@
 //! The scan for pairs of sign vectors that aren't orthogonal.
 
-ghost use Rattle.std.specs.Prelude.{ℕ, ◌≡◌, ◌+◌, ◌-◌, ◌<◌, ◌≤◌, ◌↔◌, length, IsNone, IfNone, IfSome, []};
+ghost use Rattle.std.specs.Prelude.{ℕ, ◌≡◌, ◌+◌, ◌-◌, ◌<◌, ◌≤◌, ◌↔◌, length, IsTrue, IsNone, IfNone, IfSome};
+ghost use Rattle.std.specs.Prelude.{[]};
 ghost use Rattle.std.proofs.Math.ListN.{get_or};
 ghost use Rattle.om_signs.specs.SignVec.{IsOrthogonal};
 ghost use Rattle.om_subsets.specs.Subsets.{choose};
 ghost use Rattle.om_chirotope.specs.Map.{map_of, cocircuit_vectors};
 ghost use Rattle.om_chirotope.specs.Chirotope.{HasOrthogonalPairs, IsFirstViolated};
-ghost use Rattle.om_chirotope.specs.Settlement.{IsSettled};
+ghost use Rattle.om_chirotope.specs.Settlement.{IsGivenTest, IsSettled, IsUnsettled};
 
 use super::cocircuit_table::{FEW, ROOM, fill_while_orthogonal, first_not_orthogonal_to};
 use super::marking::WORDS;
@@ -169,8 +170,7 @@ enum Settled {
 }
 
 /// What the pairs of the first set S, and then the three-term test, show about a map. The call fills the table with
-/// the vectors U of all sets of one element less than the rank, unless the first set S has a violated pair. Only
-/// maps on at most [`MAX_ELEMENTS`] elements with many pairs are given the test.
+/// the vectors U of all sets of one element less than the rank, unless the first set S has a violated pair.
 fn settle(raw: &RawMap, cocircuits: &mut [SignVec]) -> Settled
     requires low { 1 ≤ raw.now.elements }
     requires high { raw.now.elements ≤ MAX_PLACES }
@@ -185,25 +185,30 @@ fn settle(raw: &RawMap, cocircuits: &mut [SignVec]) -> Settled
         let a = Subset::unrank(k, raw.rank - 1, raw.elements);
         return Settled::Violated { s, a };
     }
-    if raw.elements <= MAX_ELEMENTS && has_many_pairs(raw) && meets_test(raw, cocircuits) {
+    if is_given_test(raw) && meets_test(raw, cocircuits) {
         return Settled::Orthogonal;
     }
     Settled::Open
 }
 
-/// Whether there are more pairs of a set S and a set A than sets of elements, or than words for the marks of these
-/// sets.
-fn has_many_pairs(raw: &RawMap) -> bool
+/// Whether a map is given the three-term test: it is on at most [`MAX_ELEMENTS`] elements, and there are more pairs of a
+/// set S and a set A than sets of elements, or than words for the marks of these sets.
+fn is_given_test(raw: &RawMap) -> bool
     requires high { raw.now.elements ≤ MAX_PLACES }
     requires rank_low { 1 ≤ raw.now.rank }
     requires rank_high { raw.now.rank < raw.now.elements }
+    ensures { IsTrue result ↔ IsGivenTest (map_of raw.now) }
 {
+    if raw.elements > MAX_ELEMENTS {
+        return false;
+    }
     let sets = u64::from(Subset::choose(raw.elements, raw.rank + 1));
     let cosets = u64::from(Subset::choose(raw.elements, raw.rank - 1));
     sets * cosets > (1u64 << raw.elements).min(WORDS as u64)
 }
 
-/// The first violated pair, found with the vectors U of all sets of one element less than the rank.
+/// The first violated pair, found with the vectors U of all sets of one element less than the rank. A map that is given
+/// the three-term test is scanned only if it fails.
 fn scan(raw: &RawMap, cocircuits: &[SignVec]) -> Option<(Subset, Subset)>
     requires low { 1 ≤ raw.now.elements }
     requires high { raw.now.elements ≤ MAX_PLACES }
@@ -212,6 +217,7 @@ fn scan(raw: &RawMap, cocircuits: &[SignVec]) -> Option<(Subset, Subset)>
     requires whole { length raw.now.signs ≡ choose raw.now.elements raw.now.rank }
     requires few { length cocircuits.now ≤ MOST_SUBSETS }
     requires filled { cocircuits.now ≡ cocircuit_vectors (map_of raw.now) }
+    requires unsettled { IsUnsettled (map_of raw.now) }
     ensures none { IsNone result ↔ HasOrthogonalPairs (map_of raw.now) }
     ensures first { IfSome result (λ p. IsFirstViolated (map_of raw.now) p.0 p.1) }
 {
@@ -234,6 +240,7 @@ fn scan_each(raw: &RawMap) -> Option<(Subset, Subset)>
     requires rank_low { 1 ≤ raw.now.rank }
     requires rank_high { raw.now.rank < raw.now.elements }
     requires whole { length raw.now.signs ≡ choose raw.now.elements raw.now.rank }
+    requires no_room { ROOM < choose raw.now.elements (raw.now.rank - 1) }
     ensures none { IsNone result ↔ HasOrthogonalPairs (map_of raw.now) }
     ensures first { IfSome result (λ p. IsFirstViolated (map_of raw.now) p.0 p.1) }
 {

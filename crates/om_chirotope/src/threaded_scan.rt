@@ -9,6 +9,7 @@ ghost use Rattle.om_chirotope.specs.Chirotope.{HasOrthogonalPairs, IsFirstViolat
 ghost use Rattle.om_signs.specs.declared.limits.TheConstants.{MAX_PLACES};
 ghost use Rattle.om_subsets.specs.declared.binomials.TheConstants.{MOST_SUBSETS};
 ghost use Rattle.om_chirotope.specs.declared.threaded_scan.TheConstants.{BLOCK};
+ghost use Rattle.om_chirotope.specs.Settlement.{IsUnsettled};
 ghost use Rattle.om_chirotope.specs.Blocks.{HasViolatedPair, IsInBlock};
 
 use super::scan::first_not_orthogonal;
@@ -91,7 +92,8 @@ fn first_in_block(raw: &RawMap, cocircuits: &[SignVec], s: Subset, block: u64) -
     first_not_orthogonal(circuit_of(raw, s), cocircuits, from, end)
 }
 
-/// The first violated pair, found with the vectors U of all sets of one element less than the rank.
+/// The first violated pair, found with the vectors U of all sets of one element less than the rank. A map that is given
+/// the three-term test is scanned only if it fails.
 pub fn scan_on_threads<R: Threads + Sync>(
     rt: &R,
     raw: &RawMap,
@@ -104,6 +106,7 @@ pub fn scan_on_threads<R: Threads + Sync>(
     requires whole { length raw.now.signs ≡ choose raw.now.elements raw.now.rank }
     requires few { length cocircuits.now ≤ MOST_SUBSETS }
     requires filled { cocircuits.now ≡ cocircuit_vectors (map_of raw.now) }
+    requires unsettled { IsUnsettled (map_of raw.now) }
     ensures none { IsNone result ↔ HasOrthogonalPairs (map_of raw.now) }
     ensures first { IfSome result (λ p. IsFirstViolated (map_of raw.now) p.0 p.1) }
 {

@@ -4,7 +4,10 @@ use Rattle.om_laws.proofs.BridgeLaws.{length-as_list}
 use Rattle.om_chirotope.specs.Map.{map_of, cocircuit_vectors, value_of}
 use Rattle.om_chirotope.specs.Chirotope.{IsPair}
 use Rattle.om_chirotope.proofs.Tables.{found, part_before}
+use Rattle.std.proofs.lemmas.Bool.{false≢true}
 use Rattle.om_chirotope.proofs.scan.settle.Goals as goal
+use Rattle.om_chirotope.proofs.scan.settle.Goals.{else-is_given_test-via-then-is_given_test+else-meets_test}
+use Rattle.om_chirotope.proofs.scan.settle.Goals.{else-is_given_test-via-else-is_given_test}
 
 pub fill_while_orthogonal-requires-clause-vector : goal.fill_while_orthogonal-requires-clause-vector
 fill_while_orthogonal-requires-clause-vector c = ap length c.circuit_of.ensures
@@ -31,7 +34,15 @@ pub returns-then-meets_test : goal.returns-then-meets_test
 returns-then-meets_test c = c.if-meets_test.ensures.0 refl
 
 pub returns : goal.returns
-returns c = c.in_default.ensures.none
+returns c = (
+  c.in_default.ensures.none,
+  λ given orthogonal.
+      elim c.else-is_given_test.branch [
+        | else-is_given_test-via-then-is_given_test+else-meets_test w ↦
+            false≢true (w.if-meets_test.ensures.1 orthogonal)
+        | else-is_given_test-via-else-is_given_test w ↦ false≢true (w.if-is_given_test.ensures.1 given)
+      ],
+)
 
 pub fill_while_orthogonal-requires-clause-room : goal.fill_while_orthogonal-requires-clause-room
 fill_while_orthogonal-requires-clause-room c = c.requires.room
