@@ -44,8 +44,8 @@ fn has_exchange_apart(raw: &RawMap) -> bool
     has_exchange(raw)
 }
 
-/// The first violated exchange, by a scan of all bases. Their table holds the first [`ROOM`] sets. These are all
-/// sets, if the map has no more values than a map of a document.
+/// The first violated exchange, by a scan of all bases. There is one. The table of the bases holds the first [`ROOM`]
+/// sets. These are all sets, if the map has no more values than a map of a document.
 #[inline(never)]
 fn first_unexchanged_by_scan<R: Threads + Sync>(
     rt: &R,
@@ -55,6 +55,7 @@ fn first_unexchanged_by_scan<R: Threads + Sync>(
     requires high { raw.now.elements ≤ MAX_PLACES }
     requires rank { raw.now.rank ≤ raw.now.elements }
     requires whole { length raw.now.signs ≡ choose raw.now.elements raw.now.rank }
+    requires violated { HasExchange (map_of raw.now) → ⊥ }
     ensures none { IfNone result (HasExchange (map_of raw.now)) }
     ensures first { IfSome result (λ x. IsFirstUnexchanged (map_of raw.now) x.0 x.1 x.2) }
 {

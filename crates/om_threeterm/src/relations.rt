@@ -56,13 +56,14 @@ fn has_relations_apart(raw: &RawMap) -> bool
     has_three_term_relations(raw)
 }
 
-/// The first violated relation, by a scan of all sets p.
+/// The first violated relation, by a scan of all sets p. There is one.
 #[inline(never)]
 fn first_unbalanced_by_scan<R: Threads + Sync>(rt: &R, raw: &RawMap) -> Option<(Subset, Subset)>
     requires low { 1 ≤ raw.now.elements }
     requires high { raw.now.elements ≤ MAX_PLACES }
     requires rank { raw.now.rank ≤ raw.now.elements }
     requires whole { length raw.now.signs ≡ choose raw.now.elements raw.now.rank }
+    requires violated { HasThreeTermRelations (map_of raw.now) → ⊥ }
     ensures none { IfNone result (HasThreeTermRelations (map_of raw.now)) }
     ensures first { IfSome result (λ x. IsFirstUnbalanced (map_of raw.now) x.0 x.1) }
 {
