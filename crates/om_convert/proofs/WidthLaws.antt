@@ -1,10 +1,10 @@
 -- Whether the chirotope of what a list denotes has more than MAX_VALUES values.
 --
--- Main results: by the rank it is no more (narrow_by_rank) or more (wide_by_rank, width_cause); of rank 3 it is no more
--- (narrow_of_rank_3); the rank of what denotes the same (rank_of_same); the cause of a width, and of a list, as that of
--- a list (list_of_width, list_of_cause).
+-- Main results: by the rank it is no more (narrow_by_width) or more (wide_by_rank, width_cause); of rank 3 it is no
+-- more (narrow_of_rank_3); the rank of what denotes the same (rank_of_same); the cause of a width, and of a list, as
+-- that of a list (list_of_width, list_of_cause).
 use Rattle.std.specs.Prelude.{ℕ, ◌≡◌, ◌≤◌, ◌<◌, List}
-use Rattle.std.proofs.Common.{sym, ap, ◌∙◌, arith}
+use Rattle.std.proofs.Common.{sym, ap, subst, ◌∙◌, arith}
 use Rattle.om_signs.specs.declared.sign.Sign.{Sign}
 use Rattle.om_signs.specs.declared.limits.TheConstants.{MAX_ELEMENTS, MAX_VALUES}
 use Rattle.om_subsets.specs.Subsets.{choose}
@@ -23,12 +23,16 @@ use Rattle.om_convert.specs.Limits.{IsCause, IsWidth, IsWidthCause, IsListCause,
 -- ---- by the rank
 
 module _ (n : ℕ) (P : List Sign → Type 0) (rank : ℕ) (r : IsRankFor n P rank) where
-  pub narrow_by_rank : choose n rank ≤ MAX_VALUES → HasFewValuesFor n P
+  narrow_by_rank : choose n rank ≤ MAX_VALUES → HasFewValuesFor n P
   narrow_by_rank few values w =
       let same : choose n w.map.rank ≡ choose n rank = ap (choose n) (sym (r.each w.map w.axioms w.elements w.same)) in
       let number = w.number in
       let wide = w.wide in
       omega (arith, few, same, number, wide)
+
+  -- the same by the number of elements that a call gave
+  pub narrow_by_width : (k : ℕ) → k ≡ n → choose k rank ≤ MAX_VALUES → HasFewValuesFor n P
+  narrow_by_width k q few = narrow_by_rank (subst (λ j. choose j rank ≤ MAX_VALUES) q few)
 
   pub wide_by_rank : (values : ℕ) → values ≡ choose n rank → MAX_VALUES < values → IsTooWideFor n P values
   wide_by_rank values q wide = record {
@@ -45,7 +49,7 @@ module _ (n : ℕ) (P : List Sign → Type 0) (rank : ℕ) (r : IsRankFor n P ra
   width_cause k q (TooWide values) h = let wide = h.1 in let same = h.0 in
       wide_by_rank values (h.0 ∙ ap (λ j. choose j rank) q) (omega (arith, wide, same))
   width_cause k q (TooMany limit) h = h
-  width_cause k q Memory h = tt
+  width_cause k q Memory h = absurd h
 
 -- the rank of what denotes the same
 pub rank_of_same : (n k : ℕ) (P Q : List Sign → Type 0) (rank : ℕ) → k ≡ n → DenoteTheSame n P Q → IsRankFor n P rank
@@ -72,9 +76,9 @@ module _ (n : ℕ) (P Q : List Sign → Type 0) where
   pub list_of_width : (e : ConvertError) → IsWidthCause n P e → IsListCause n P Q e
   list_of_width (TooWide values) h = h
   list_of_width (TooMany limit) h = absurd h
-  list_of_width Memory h = tt
+  list_of_width Memory h = h
 
   pub list_of_cause : HasFewValuesFor n P → (e : ConvertError) → IsCause Q e → IsListCause n P Q e
   list_of_cause narrow (TooWide values) h = absurd h
   list_of_cause narrow (TooMany limit) h = (h.0, h.1, narrow)
-  list_of_cause narrow Memory h = tt
+  list_of_cause narrow Memory h = narrow

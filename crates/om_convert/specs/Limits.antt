@@ -45,15 +45,15 @@ IsWidth k (TooMany limit) = ⊥
 IsWidth k Memory = ⊥
 
 -- Why a list isn't converted to a chirotope. The chirotope would have more than MAX_VALUES values, and the error
--- gives their number; or memory ran out.
+-- gives their number; or it wouldn't, and memory ran out.
 abbrev pub IsWidthCause : ℕ → (List Sign → Type 0) → ConvertError → Type 0
 IsWidthCause n P (TooWide values) = IsTooWideFor n P values
 IsWidthCause n P (TooMany limit) = ⊥
-IsWidthCause n P Memory = Unit {0}
+IsWidthCause n P Memory = HasFewValuesFor n P
 
 -- Why a list with the covectors P isn't converted to the list of the family Q. Its chirotope is too wide; or it
--- isn't, and Q has more members than a list may have; or memory ran out.
+-- isn't, and Q has more members than a list may have, or memory ran out.
 abbrev pub IsListCause : ℕ → (List Sign → Type 0) → (List Sign → Type 0) → ConvertError → Type 0
 IsListCause n P Q (TooWide values) = IsTooWideFor n P values
 IsListCause n P Q (TooMany limit) = (limit ≡ MAX_MEMBERS) × HasMoreThan MAX_MEMBERS Q × HasFewValuesFor n P
-IsListCause n P Q Memory = Unit {0}
+IsListCause n P Q Memory = HasFewValuesFor n P

@@ -1,4 +1,5 @@
 ghost use Rattle.std.specs.Prelude.{◌≡◌, ◌<◌, ◌≤◌, ◌↔◌, [], length, IsTrue, IfOk, IfErr, OnOk, slice_get, Some};
+ghost use Rattle.std.specs.Prelude.{Err};
 ghost use Rattle.std.specs.List.{Contains};
 ghost use Rattle.om_members.specs.Listings.{HaveLength, AreDistinct};
 ghost use Rattle.om_convert.specs.Gathering.{IsMemberSet, HaveTheSame, IsOldOrAdded, IsExtendedBy, IsNonzeroUpToSign};
@@ -97,10 +98,11 @@ impl MemberSet {
     /// Adds a vector at the end, unless it is a member.
     ///
     /// [`ConvertError::TooMany`] comes exactly if it is no member and the set is full, and gives the number of
-    /// members. [`ConvertError::Memory`] comes only if memory runs out.
+    /// members. [`ConvertError::Memory`] comes only if the set isn't full, and memory runs out.
     pub fn insert(&mut self, x: SignVec) -> Result<(), ConvertError>
         ensures added { OnOk result (IsExtendedBy (λ X. X ≡ x) self.old self.new) }
         ensures many { IfErr result (IsCause (IsOldOrAdded self.old (λ X. X ≡ x))) }
+        ensures memory_only_with_room { result ≡ Err ConvertError.Memory → length self.old < MAX_MEMBERS }
     {
         if self.set.contains(&x) {
             return Ok(());

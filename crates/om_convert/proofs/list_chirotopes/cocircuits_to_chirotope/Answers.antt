@@ -1,10 +1,7 @@
-use Rattle.std.proofs.Common.{◌≤◌, subst}
 use Rattle.std.proofs.lemmas.Result.{IfOk-from_err, err_from_is_err_and}
-use Rattle.om_signs.specs.declared.limits.TheConstants.{MAX_VALUES}
-use Rattle.om_subsets.specs.Subsets.{choose}
 use Rattle.om_denotation.specs.Covectors.{IsCovectorOfCocircuits}
 use Rattle.om_convert.specs.Limits.{HasFewValuesFor}
-use Rattle.om_convert.proofs.WidthLaws.{narrow_by_rank, width_cause}
+use Rattle.om_convert.proofs.WidthLaws.{narrow_by_width, width_cause}
 use Rattle.om_convert.proofs.list_chirotopes.cocircuits_to_chirotope.Goals as goal
 
 pub returns-in_err-test_width-clause-refused : goal.returns-in_err-test_width-clause-refused
@@ -25,7 +22,9 @@ pub returns-in_err-chirotope_of_cocircuits-clause-refused : goal.returns-in_err-
 returns-in_err-chirotope_of_cocircuits-clause-refused c =
     let p = err_from_is_err_and c.from_residual-in_err-chirotope_of_cocircuits.result
     c.from_residual-in_err-chirotope_of_cocircuits.ensures.1 in
-    rw (p.1, p.2) tt
+    rw (p.1, p.2)
+    (narrow_by_width c.args.c.now.0.elements (IsCovectorOfCocircuits c.args.c.now.0) c.rank_cocircuits-rank.result
+    c.rank_cocircuits-rank.ensures.rank c.elements.result c.elements.ensures.value c.in_ok-test_width.ensures.narrow)
 
 pub returns-clause-same : goal.returns-clause-same
 returns-clause-same c = c.in_ok-chirotope_of_cocircuits.ensures.same
@@ -34,7 +33,6 @@ pub returns-clause-unique : goal.returns-clause-unique
 returns-clause-unique c = c.in_ok-chirotope_of_cocircuits.ensures.unique
 
 pub returns-clause-narrow : goal.returns-clause-narrow
-returns-clause-narrow c = narrow_by_rank c.args.c.now.0.elements (IsCovectorOfCocircuits c.args.c.now.0)
-    c.rank_cocircuits-rank.result c.rank_cocircuits-rank.ensures.rank
-    (subst (λ j. choose j c.rank_cocircuits-rank.result ≤ MAX_VALUES) c.elements.ensures.value
-    c.in_ok-test_width.ensures.narrow)
+returns-clause-narrow c =
+    narrow_by_width c.args.c.now.0.elements (IsCovectorOfCocircuits c.args.c.now.0) c.rank_cocircuits-rank.result
+    c.rank_cocircuits-rank.ensures.rank c.elements.result c.elements.ensures.value c.in_ok-test_width.ensures.narrow

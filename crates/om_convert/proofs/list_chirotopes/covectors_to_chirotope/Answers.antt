@@ -1,12 +1,10 @@
 use Rattle.std.specs.List.{Contains}
-use Rattle.std.proofs.Common.{◌≤◌, subst}
+use Rattle.std.proofs.Common.{sym, subst}
 use Rattle.std.proofs.lemmas.Result.{IfOk-from_err, err_from_is_err_and}
-use Rattle.om_signs.specs.declared.limits.TheConstants.{MAX_VALUES}
-use Rattle.om_subsets.specs.Subsets.{choose}
 use Rattle.om_denotation.specs.Covectors.{IsCovectorOfChirotope, IsCovectorOfCocircuits}
-use Rattle.om_convert.specs.Limits.{HasFewValuesFor}
+use Rattle.om_convert.specs.Limits.{HasFewValuesFor, IsWidthCause}
 use Rattle.om_convert.proofs.SameFamilies.{joined, covectors_listed}
-use Rattle.om_convert.proofs.WidthLaws.{narrow_by_rank, width_cause, rank_of_same}
+use Rattle.om_convert.proofs.WidthLaws.{narrow_by_width, width_cause, rank_of_same}
 use Rattle.om_convert.proofs.list_chirotopes.covectors_to_chirotope.Goals as goal
 
 pub returns-in_err-test_width-clause-refused : goal.returns-in_err-test_width-clause-refused
@@ -35,7 +33,9 @@ returns-in_err-chi-clause-narrow c = IfOk-from_err c.from_residual-in_err-chi.re
 pub returns-in_err-chi-clause-refused : goal.returns-in_err-chi-clause-refused
 returns-in_err-chi-clause-refused c =
     let p = err_from_is_err_and c.from_residual-in_err-chi.result c.from_residual-in_err-chi.ensures.1 in
-    rw (p.1, p.2) tt
+    rw (p.1, p.2)
+    (narrow_by_width c.args.c.now.elements (Contains c.args.c.now.members) c.rank_covectors-rank.result
+    c.rank_covectors-rank.ensures.rank c.elements.result c.elements.ensures.value c.in_ok-test_width.ensures.narrow)
 
 pub returns-clause-unique : goal.returns-clause-unique
 returns-clause-unique c = c.in_ok-chi.ensures.unique
@@ -54,7 +54,15 @@ returns-clause-same c = joined c.args.c.now.elements c.in_ok-cocircuits.cocircui
     c.in_ok-cocircuits.ensures.elements c.in_ok-cocircuits.ensures.same c.in_ok-chi.ensures.same
 
 pub returns-clause-narrow : goal.returns-clause-narrow
-returns-clause-narrow c = narrow_by_rank c.args.c.now.elements (Contains c.args.c.now.members)
-    c.rank_covectors-rank.result c.rank_covectors-rank.ensures.rank
-    (subst (λ j. choose j c.rank_covectors-rank.result ≤ MAX_VALUES) c.elements.ensures.value
-    c.in_ok-test_width.ensures.narrow)
+returns-clause-narrow c =
+    narrow_by_width c.args.c.now.elements (Contains c.args.c.now.members) c.rank_covectors-rank.result
+    c.rank_covectors-rank.ensures.rank c.elements.result c.elements.ensures.value c.in_ok-test_width.ensures.narrow
+
+pub returns-in_err-cocircuits-clause-refused : goal.returns-in_err-cocircuits-clause-refused
+returns-in_err-cocircuits-clause-refused c =
+    let p = err_from_is_err_and c.from_residual-in_err-cocircuits.result c.from_residual-in_err-cocircuits.ensures.1 in
+    rw (p.1, p.2)
+    (subst (IsWidthCause c.args.c.now.elements (Contains c.args.c.now.members))
+    (sym c.in_err-cocircuits.ensures.memory)
+    (narrow_by_width c.args.c.now.elements (Contains c.args.c.now.members) c.rank_covectors-rank.result
+    c.rank_covectors-rank.ensures.rank c.elements.result c.elements.ensures.value c.in_ok-test_width.ensures.narrow))

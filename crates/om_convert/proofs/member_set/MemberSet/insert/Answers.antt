@@ -1,5 +1,6 @@
 use Rattle.std.specs.List.{Contains}
-use Rattle.std.proofs.Common.{◌≡◌, ◌<◌, ◌≤◌, [], ◌∷◌, ◌++◌, length, inl, inr, true≢false, sym, ◌∙◌, subst, refl, arith}
+use Rattle.std.proofs.Common.{◌≡◌, ◌<◌, ◌≤◌, [], ◌∷◌, ◌++◌, length, inl, inr, true≢false}
+use Rattle.std.proofs.Common.{sym, ◌∙◌, subst, refl, arith, rules}
 use Rattle.std.proofs.lemmas.Bool.{cases_lt}
 use Rattle.std.proofs.lemmas.List.{length-append}
 use Rattle.om_signs.specs.declared.limits.TheConstants.{MAX_MEMBERS}
@@ -58,3 +59,13 @@ returns-clause-added c =
           (pushed c.self.inside.set.keys c.args.x)))
       | in-Err w ↦ rw w.result-is tt
     ]
+
+pub returns-clause-memory_only_with_room : goal.returns-clause-memory_only_with_room
+returns-clause-memory_only_with_room c = λ _.
+    elim (cases_lt (length c.args.self.now) MAX_MEMBERS) [
+      | inl lt ↦ lt
+      | inr ge ↦ absurd (true≢false (sym (c.is_full.ensures.1 ge) ∙ c.if-is_full.false))
+    ]
+
+pub returns-then-is_full-clause-memory_only_with_room : goal.returns-then-is_full-clause-memory_only_with_room
+returns-then-is_full-clause-memory_only_with_room c = search rules
