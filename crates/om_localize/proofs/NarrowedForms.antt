@@ -112,7 +112,7 @@ module _ (n : ℕ) (masks : List ℕ) (signs : List Sign) (a b : ℕ) (s : Sign)
         (entry_other forms a b (get_or masks (mask_place a b s) 0) a_low
         (let o = ordered in let al = a_low in omega arith) (let o = ordered in omega arith))
 
-    at_third : (e : ℕ) → 1 ≤ e → e ≢ a → e ≢ b → get_or (narrowed_forms masks a b s forms) (e - 1) 0
+    pub at_third : (e : ℕ) → 1 ≤ e → e ≢ a → e ≢ b → get_or (narrowed_forms masks a b s forms) (e - 1) 0
         ≡ get_or forms (e - 1) 0
     at_third e el na nb =
         entry_other (cut_entry forms a (get_or masks (mask_place a b s) 0)) b e
