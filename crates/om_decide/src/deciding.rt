@@ -1,11 +1,13 @@
 //! The decision whether vectors realize a chirotope.
 
-ghost use Rattle.std.specs.Prelude.{◌≡◌, ◌≤◌, length, All, IfOk, IfErr};
+ghost use Rattle.std.specs.Prelude.{◌≡◌, ◌≤◌, length, All, Ok, IfOk, IfErr};
+ghost use Rattle.std.specs.Prelude as prelude;
 ghost use Rattle.om_chirotope.specs.Chirotope.{IsChirotope};
 ghost use Rattle.om_signs.specs.declared.limits.TheConstants.{MAX_ELEMENTS};
 ghost use Rattle.om_grassmann.specs.Order.{AreAll};
 ghost use Rattle.om_rows.specs.Rows.{IsPlace};
-ghost use Rattle.om_points.specs.Searches.{IsUnfound};
+ghost use Rattle.om_points.specs.Searches.{IsFound, IsUnfound};
+ghost use Rattle.om_vectors.specs.WholeVectors.{WholeVector};
 ghost use Rattle.om_certificate.specs.Forms.{IsVerdictInForm};
 ghost use Rattle.om_certificate.specs.Validity.{IsValid, IsWithinLimits};
 ghost use Rattle.om_certificate.specs.Verdicts.{certificate_of};
@@ -44,12 +46,14 @@ use std::alloc::Global;
 /// them. The verdict has the forms and limits that a claim can carry.
 ///
 /// Each budget is in the range that [`Budgets`] names. `NotRank3` comes exactly if the rank isn't 3. `Memory` comes
-/// only if memory runs out, in rank 3.
+/// only if memory runs out, in rank 3, and the search found no vectors: the search takes no memory.
 ///
 /// Source: Bokowski and Richter-Gebert, *On the finding of final polynomials*, 1990.
 pub fn decide(alloc: Global, chi: &Chirotope, budgets: Budgets) -> Result<Verdict, DecideError>
     requires { AreBudgets budgets }
     ensures verdict { IfOk result (IsVerdictOf chi.now budgets) }
+    ensures exactly_found { (vs : prelude.List WholeVector) → IsFound budgets.box_size chi.now budgets.steps vs
+        → result ≡ Ok (Verdict.Realizable vs) }
     ensures shown { IfOk result (λ verdict. IfOk (certificate_of verdict) (IsValid chi.now)) }
     ensures limits { IfOk result (λ verdict. IfOk (certificate_of verdict) IsWithinLimits) }
     ensures form { IfOk result IsVerdictInForm }

@@ -37,3 +37,14 @@ returns-in_ok-by_tableau-in-Err-clause-form c =
     let small : c.args.chi.now.elements ≤ MAX_ELEMENTS = c.rank.ensures.few in
     verdict_form c.args.chi.now small c.args.budgets c.requires c.in_ok-by_tableau-in-Err.field-0
     c.in_ok-by_tableau-in-Err.ensures
+
+pub returns-in-Ok-clause-exactly_found : goal.returns-in-Ok-clause-exactly_found
+returns-in-Ok-clause-exactly_found c = λ vs found. let e = c.in-Ok.ensures.exactly_found vs found in cc
+
+pub returns-in_err-by_tableau-in-Err-clause-exactly_found : goal.returns-in_err-by_tableau-in-Err-clause-exactly_found
+returns-in_err-by_tableau-in-Err-clause-exactly_found c =
+    λ vs found. let e = c.in-Err.ensures.exactly_found vs found in cc
+
+pub returns-in_ok-by_tableau-in-Err-clause-exactly_found : goal.returns-in_ok-by_tableau-in-Err-clause-exactly_found
+returns-in_ok-by_tableau-in-Err-clause-exactly_found c =
+    λ vs found. let e = c.in-Err.ensures.exactly_found vs found in cc
