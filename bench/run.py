@@ -48,6 +48,14 @@ def circuits_of_alternating(rank, elements):
     return circuits
 
 
+def circuits_beside(elements):
+    """A list of circuits that fails elimination late: those of the uniform chirotope of rank 3 all of whose values are
+    plus, and then, on four more elements, those of rank 2 without the last two."""
+    first = ["".join("-0+"[s + 1] for s in x) + "0000" for x in circuits_of_alternating(3, elements)]
+    last = ["0" * elements + "".join("-0+"[s + 1] for s in x) for x in circuits_of_alternating(2, 4)[:-2]]
+    return ("\n".join(["om 1", "circuits %d" % (elements + 4)] + first + last + ["end"]) + "\n").encode()
+
+
 def document(kind, elements, members):
     """A document of sign vectors, given by -1, 0 and 1, in their order."""
     lines = ["".join("-0+"[s + 1] for s in x) for x in sorted(members)]
@@ -497,11 +505,16 @@ def main():
     row("chirotope 8 16, refused by the scan on one processor", alone, 1, "")
     took, _ = times(["accept"], chirotope(8, 16, signs), runs, 4)
     row("chirotope 8 16, refused by the scan on four", took, 1, "", target_time=alone / 2)
-    for rank, elements, target in ((3, 8, 0.01), (3, 12, 0.015), (7, 12, 0.015)):
+    for rank, elements, target in ((3, 8, 0.01), (3, 12, 0.015), (7, 12, 0.015), (3, 16, 0.1)):
         circuits = document("circuits", elements, circuits_of_alternating(rank, elements))
         took = least_time(["accept"], circuits, runs, accepted)
         row("%d circuits of rank %d on %d elements" % (2 * math.comb(elements, rank + 1), rank, elements), took, 1, "",
             target_time=target)
+    refused = circuits_beside(14)
+    alone, _ = times(["accept"], refused, runs, 1)
+    row("%d circuits, refused by the scan on one processor" % (refused.count(b"\n") - 3), alone, 1, "")
+    took, _ = times(["accept"], refused, runs, 4)
+    row("%d circuits, refused by the scan on four" % (refused.count(b"\n") - 3), took, 1, "", target_time=alone / 2)
     covectors = covectors_of_alternating(16)
     took = least_time(["accept"], document("covectors", 16, covectors), runs, accepted)
     row("%d covectors of rank 3 on 16 elements" % len(covectors), took, 1, "", target_time=0.015)

@@ -10,10 +10,10 @@ an empty one. A line that begins with `# ` is a remark. `streams.txt` has runs o
 runs of om.
 
 After the tables come runs that read a text which breaks off, runs whose output has too little room, a few answers of
-which parts are compared, lists that are compared with what the axioms give, and the runs of large.py. For om_each there
-are the documents of all tables in streams, and a conversation. Each program also gets words that don't reach it. Each
-program that is named makes all these runs, those of om_each if its name has `each` in it. If none is named, both built
-programs do, and those of the second compiler if they are there.
+which parts are compared, lists and refusals that are compared with what the axioms give, and the runs of large.py. For
+om_each there are the documents of all tables in streams, and a conversation. Each program also gets words that don't
+reach it. Each program that is named makes all these runs, those of om_each if its name has `each` in it. If none is
+named, both built programs do, and those of the second compiler if they are there.
 The last line is 'rows: N passed, M failed', and the exit code is 1 if one failed.
 """
 import glob
@@ -26,6 +26,7 @@ import subprocess
 import sys
 import tempfile
 import threading
+import time
 
 HERE = os.path.dirname(os.path.abspath(__file__))
 sys.path.insert(0, HERE)  # the checks of neighbours/ load this file, too
@@ -37,6 +38,8 @@ TOP = os.path.dirname(HERE)
 BUILT = [os.path.join(TOP, "crates", name, "out", name) for name in ("om", "om_each")]
 STREAMS = os.path.join(HERE, "streams.txt")
 UNIFORM = b"om 1\nchirotope 3 4\n++++\nend\n"
+# bytes of memory for a run in little of it
+LITTLE = 16 << 20
 # the chirotope of the theorem of Pappus, but that its last triple isn't on a line
 NON_PAPPUS = (b"om 1\nchirotope 3 9\n"
               b"0++++++++++++--------0-0++++++++++----0---+0+++++---0+-0++++++++\n0------------------+\nend\n")
@@ -287,6 +290,41 @@ def run_twenty_wires(tally, program):
     tally.expect("twenty wires, which have 190 crossings", (found, len(blocks)), ((0, wanted.encode()), 190))
 
 
+def first_violated(elements, value):
+    """The first sets S and A of the map of rank 3 on some elements with these values at triples, whose vectors V and
+    U aren't orthogonal: their products have one sign alone besides 0."""
+    for s in itertools.combinations(range(1, elements + 1), 4):
+        v = {e: (-1) ** i * value(*(f for f in s if f != e)) for i, e in enumerate(s, 1)}
+        for a in itertools.combinations(range(1, elements + 1), 2):
+            products = {v[e] * value(*a, e) for e in s} - {0}
+            if len(products) == 1:
+                return s, a
+    return None
+
+
+def run_not_sweepable(tally, program):
+    """Chirotopes that no wiring has: each is refused with the first violated pair of the map with an element at
+    infinity, also in little memory."""
+    def little_memory():
+        resource.setrlimit(resource.RLIMIT_AS, (LITTLE, LITTLE))
+
+    for elements in (4, 9, 16, 20):
+        def value(*triple):
+            # all signs are plus but those of the last element but one, which is turned; with infinity all are plus
+            if len(set(triple)) < 3:
+                return 0
+            turned = elements - 1 in triple and elements + 1 not in triple
+            inversions = sum(x > y for x, y in itertools.combinations(triple, 2))
+            return (-1) ** (inversions + turned)
+
+        signs = "".join("-0+"[value(*triple) + 1] for triple in itertools.combinations(range(1, elements + 1), 3))
+        s, a = (",".join(map(str, it)) for it in first_violated(elements + 1, value))
+        found = run(program, ["wiring"], b"om 1\nchirotope 3 %d\n%s\nend\n" % (elements, signs.encode()),
+                    preexec_fn=little_memory)
+        tally.expect("a wiring of %d elements that there isn't" % elements, found,
+                     (1, b"refused notsweepable %s %s\n" % (s.encode(), a.encode())))
+
+
 def run_long_lists(tally, program):
     """Lists so long that a map is proposed for them, as the program writes them; the conversion keeps their members
     in order."""
@@ -298,6 +336,42 @@ def run_long_lists(tally, program):
         tally.expect("%s of eight elements" % kind, (code, listing.count(b"\n")), (0, count + 2 + 1))
         tally.expect("%s that are accepted" % kind, run(program, ["accept"], listing), (0, b"accepted\n"))
         tally.expect("%s and back" % kind, run(program, ["convert", "chirotope"], listing), (0, uniform))
+
+
+def late_refusal():
+    """Circuits of which only the last six of 996 break an axiom: those of the uniform chirotope of rank 3 on twelve
+    elements, and then, on four more elements, those of rank 2 without the last two."""
+    def circuits(elements, size):
+        for places in itertools.combinations(range(elements), size):
+            for first in "+-":
+                signs = ["0"] * elements
+                for number, place in enumerate(places):
+                    signs[place] = first if number % 2 == 0 else "+-"[first == "+"]
+                yield "".join(signs)
+
+    lines = [it + "0000" for it in circuits(12, 4)] + ["0" * 12 + it for it in circuits(4, 3)][:-2]
+    return "om 1\ncircuits 16\n%s\nend\n" % "\n".join(lines)
+
+
+def run_on_threads(tally, program):
+    """A list of circuits that takes long to scan is scanned by more than one thread, also in the second half of the
+    run: elimination takes most of it, and comes last."""
+    threads = []
+    with subprocess.Popen([program, "accept"], stdin=subprocess.PIPE, stdout=subprocess.PIPE) as scan:
+        alarm = threading.Timer(60, scan.kill)
+        alarm.start()
+        scan.stdin.write(late_refusal().encode())
+        scan.stdin.close()
+        while scan.poll() is None:
+            try:
+                threads.append(len(os.listdir("/proc/%d/task" % scan.pid)))
+            except OSError:
+                break
+            time.sleep(0.001)
+        found = scan.wait(), scan.stdout.read(), max(threads[len(threads) // 2:], default=0) > 1
+        alarm.cancel()
+    # on the last four elements 991 is +-+0 and 994 is -+0-; without the first of them only 0-+- is within both
+    tally.expect("a scan of circuits on threads", found, (1, b"refused noelimination 991 994 13\n", True))
 
 
 def documents():
@@ -401,6 +475,8 @@ def main():
         run_twenty_wires(tally, program)
         run_large(tally, program, runs)
         run_verdicts(tally, program)
+        run_not_sweepable(tally, program)
+        run_on_threads(tally, program)
     print("rows: %d passed, %d failed" % (tally.passed, tally.failed))
     return 1 if tally.failed or not tally.passed else 0
 
