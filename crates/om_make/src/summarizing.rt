@@ -11,7 +11,7 @@ use super::counting::count;
 use super::listing::{
     count_cocircuits, count_covectors, count_mutations, list_cocircuits, list_covectors,
 };
-use super::return_trip::{convert_cocircuits_back, convert_covectors_back};
+use super::return_trip::{CameBack, convert_cocircuits_back, convert_covectors_back};
 use om_chirotope::Chirotope;
 use om_signs::{NoMemory, Sign};
 use om_vectors::{SignsError, Tally, Word, signs_of};
@@ -74,7 +74,7 @@ fn summarize(alloc: Global, chi: Chirotope) -> Result<Tally, NoMemory>
 #[derive(Drop)]
 struct RoundTrip {
     members: u32,
-    back: Chirotope,
+    back: CameBack,
 }
 
 /// The lists of the cocircuits and of the covectors of a chirotope, there and back, and the number of its mutations.
