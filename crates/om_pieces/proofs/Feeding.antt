@@ -1,6 +1,6 @@
 -- What the cutter makes of bytes, one by one, is the cut of their lines, of each piece its first bytes.
 --
--- Main results: cut_pieces, has_one_cut.
+-- Main results: cut_pieces, whole_pieces, has_one_cut.
 use Rattle.std.specs.Prelude.{ℕ, ◌≡◌, ◌-◌, ◌≤◌, List, [], ◌∷◌, ◌++◌, Bool, true, false, not, nat_eq, nat_le, ◌&&◌, ◌||◌}
 use Rattle.std.specs.Prelude.{bytes_eq, codes, map, take, Option, Some, None}
 use Rattle.std.specs.List.{list_all}
@@ -12,7 +12,8 @@ use Rattle.om_pieces.specs.declared.seen.Seen.{Seen}
 use Rattle.om_pieces.specs.declared.seen.Seen.TheVariants.{Blank}
 use Rattle.om_pieces.specs.Pieces.{full_lines, without_line_feed, has_word, closes, opens, bytes_of, IsCut, HasOneCut}
 use Rattle.om_pieces.specs.Making.{Making, most, seen_with, some_seen, end_seen, om_seen, with_line, nothing}
-use Rattle.om_pieces.specs.Making.{lengthened, begun_anew, with_end, with_more, last_ended, rest_of, option_list, made}
+use Rattle.om_pieces.specs.Making.{lengthened, begun_anew, with_end, with_more, fed, last_ended, rest_of, option_list}
+use Rattle.om_pieces.specs.Making.{completed, made}
 use Rattle.om_pieces.proofs.Takes.{take_grows, take_both, take_none}
 use Rattle.om_pieces.proofs.Looks.{seen_from, seen_behind, word_looks, end_looks, om_looks}
 use Rattle.om_pieces.proofs.Cutting.{cut, cut_opens, cut_closes, cut_counts, cut_goes, cut_is, cut_one}
@@ -224,6 +225,22 @@ cut_pieces n bytes pieces (parts, (c, e)) =
     ap (λ m. made m bytes) (fresh_is n n false [] [] (sym (take_none most)))
     ∙ (made_is bytes [] n n false [] refl
     ∙ (ap (map shown) (sym (cut_one n (full_lines bytes) parts c)) ∙ (shown_all parts ∙ ap (map (take most)) (sym e))))
+
+-- what is whole in the first bytes is made first
+completed_first : (m : Making) (bytes rest : List ℕ)
+    → (left : List (List ℕ)) × (made m (bytes ++ rest) ≡ completed m bytes ++ left)
+completed_first m [] rest = (made m rest, refl)
+completed_first m (b ∷ bs) rest =
+    let h = completed_first ((fed m b).0) bs rest in (
+      h.0,
+      ap (λ l. option_list ((fed m b).1) ++ l) h.1
+          ∙ sym (append_assoc (option_list ((fed m b).1)) (completed ((fed m b).0) bs) h.0),
+    )
+
+pub whole_pieces : (n : ℕ) (bytes rest : List ℕ) (pieces : List (List ℕ)) → IsCut n (bytes ++ rest) pieces
+    → (left : List (List ℕ)) × (map (take most) pieces ≡ completed (nothing n) bytes ++ left)
+whole_pieces n bytes rest pieces c =
+    let h = completed_first (nothing n) bytes rest in (h.0, sym (cut_pieces n (bytes ++ rest) pieces c) ∙ h.1)
 
 pub has_one_cut : (n : ℕ) (bytes : List ℕ) → 1 ≤ n → HasOneCut n bytes
 has_one_cut n bytes pos = (

@@ -1,9 +1,10 @@
 -- The first bytes of lists.
 --
--- Main results: take_grows, take_both, take_none, byte_added, byte_left_out, line_added.
+-- Main results: take_grows, take_both, take_none, byte_added, byte_left_out, before_byte, line_added.
 use Rattle.std.specs.Prelude.{ℕ, zero, suc, ◌≡◌, ◌-◌, ◌<◌, ◌≤◌, List, [], ◌∷◌, ◌++◌, take, length, min}
 use Rattle.std.proofs.Common.{refl, sym, ap, ◌∙◌, append-nil, arith}
 use Rattle.std.proofs.lemmas.List.{take_all, take-take, length-append}
+use Rattle.std.proofs.Math.Seq.{take-append_seam}
 
 pub take_grows : (n : ℕ) (xs ys : List ℕ) → take n (take n xs ++ ys) ≡ take n (xs ++ ys)
 take_grows zero xs ys = refl
@@ -52,6 +53,10 @@ pub byte_left_out : (n : ℕ) (xs : List ℕ) (b : ℕ) → length xs ≤ n → 
 byte_left_out n xs b h k =
     sym (take_room n xs (b ∷ []) h ∙
     (ap (λ j. xs ++ take j (b ∷ [])) (let e : n - length xs ≡ 0 = omega (arith, h, k) in e) ∙ append-nil xs))
+
+-- the bytes before one that was added, if there was room
+pub before_byte : (n : ℕ) (xs : List ℕ) (b : ℕ) → length xs ≤ n → take (length xs) (take n (xs ++ b ∷ [])) ≡ xs
+before_byte n xs b h = take-take (length xs) n (xs ++ b ∷ []) h ∙ take-append_seam xs (b ∷ [])
 
 pub line_added : (n : ℕ) (xs ys : List ℕ) → length xs ≤ n → xs ++ take (min (length ys) (n - length xs)) ys ≡ take n
     (xs ++ ys)

@@ -144,6 +144,11 @@ abbrev pub option_list : Option (List ℕ) → List (List ℕ)
 option_list (Some piece) = piece ∷ []
 option_list None = []
 
+-- the pieces that are whole in these bytes, whatever bytes follow; of each, the first bytes
+abbrev pub completed : Making → List ℕ → List (List ℕ)
+completed m [] = []
+completed m (b ∷ bs) = option_list ((fed m b).1) ++ completed ((fed m b).0) bs
+
 -- the pieces that are made with these bytes up to the end of the input; of each, the first bytes
 abbrev pub made : Making → List ℕ → List (List ℕ)
 made m [] = option_list ((last_ended m).1) ++ option_list (rest_of ((last_ended m).0))

@@ -1,6 +1,6 @@
 //! Cutting bytes into pieces.
 
-ghost use Rattle.std.specs.Prelude.{◌≡◌, ◌≤◌, IfOk, OnOk, option_map, length};
+ghost use Rattle.std.specs.Prelude.{◌≡◌, ◌≤◌, IfOk, OnOk, OnErr, option_map, length};
 ghost use Rattle.om_pieces.specs.Making.{most, nothing, fed, last_ended, with_end, rest_of, with_byte, with_line};
 
 use super::seen::Seen;
@@ -13,7 +13,8 @@ use std::mem;
 /// bytes show whether the piece is longer.
 const MOST: usize = MAX_INPUT + 1;
 
-/// Takes an input byte by byte, and gives its pieces, of each at most its first [`MOST`] bytes.
+/// Takes an input byte by byte, and gives its pieces, of each at most its first [`MOST`] bytes. A call that ends for
+/// want of memory leaves it as it was.
 #[derive(Drop)]
 pub struct Cutter {
     kept: Vec<u8>,
@@ -58,12 +59,20 @@ impl Cutter {
     }
 
     /// Takes the next byte, and gives the piece that it completes, if there is one.
+    ///
+    /// [`NoMemory`] comes only if memory runs out. The byte isn't taken then: the cutter is as it was.
     pub fn feed(&mut self, alloc: Global, byte: u8) -> Result<Option<Vec<u8>>, NoMemory>
-        ensures { IfOk result (λ piece. (self.new, option_map (λ p. p.items) piece) ≡ fed self.old byte) }
+        ensures taken { IfOk result (λ piece. (self.new, option_map (λ p. p.items) piece) ≡ fed self.old byte) }
+        ensures kept { OnErr result (self.new ≡ self.old) }
     {
+        let before = self.line.len();
         add_byte(&mut self.line, byte)?;
         if byte == b'\n' {
-            self.end_line(alloc)
+            let piece = self.end_line(alloc);
+            if piece.is_err() {
+                self.line.truncate(before);
+            }
+            piece
         } else {
             self.seen = self.seen.with(byte);
             Ok(None)
@@ -72,8 +81,11 @@ impl Cutter {
 
     /// Takes the end of the input, and gives the piece that it completes, if there is one. A last line without a
     /// line feed is a line too.
+    ///
+    /// [`NoMemory`] comes only if memory runs out. The cutter is then as it was.
     pub fn end(&mut self, alloc: Global) -> Result<Option<Vec<u8>>, NoMemory>
-        ensures { IfOk result (λ piece. (self.new, option_map (λ p. p.items) piece) ≡ last_ended self.old) }
+        ensures taken { IfOk result (λ piece. (self.new, option_map (λ p. p.items) piece) ≡ last_ended self.old) }
+        ensures kept { OnErr result (self.new ≡ self.old) }
     {
         if self.line.is_empty() {
             Ok(None)
@@ -94,17 +106,20 @@ impl Cutter {
 
     /// Ends the line, and gives the piece that is then complete, if there is one.
     fn end_line(&mut self, alloc: Global) -> Result<Option<Vec<u8>>, NoMemory>
-        ensures { IfOk result (λ piece. (self.new, option_map (λ p. p.items) piece) ≡ with_end self.old) }
+        ensures taken { IfOk result (λ piece. (self.new, option_map (λ p. p.items) piece) ≡ with_end self.old) }
+        ensures kept { OnErr result (self.new ≡ self.old) }
     {
-        let seen = mem::replace(&mut self.seen, Seen::Blank);
+        let seen = self.seen;
         if seen.opens() && self.some {
             // the line is the first one of the next piece
+            self.seen = Seen::Blank;
             let line = mem::replace(&mut self.line, Vec::new(alloc));
             self.missing = self.wanted;
             return Ok(Some(mem::replace(&mut self.kept, line)));
         }
         add_line(&mut self.kept, self.line.as_slice())?;
         self.line.clear();
+        self.seen = Seen::Blank;
         if !seen.closes() {
             self.some = self.some || seen.has_word();
             return Ok(None);
@@ -124,6 +139,7 @@ impl Cutter {
 fn add_byte(line: &mut Vec<u8>, byte: u8) -> Result<(), NoMemory>
     requires { length line.old.items ≤ most }
     ensures added { OnOk result (line.new.items ≡ with_byte line.old.items byte) }
+    ensures kept { OnErr result (line.new.items ≡ line.old.items) }
     ensures within { length line.new.items ≤ most }
 {
     if line.len() < MOST {
@@ -136,6 +152,7 @@ fn add_byte(line: &mut Vec<u8>, byte: u8) -> Result<(), NoMemory>
 fn add_line(kept: &mut Vec<u8>, line: &[u8]) -> Result<(), NoMemory>
     requires { length kept.old.items ≤ most }
     ensures added { OnOk result (kept.new.items ≡ with_line kept.old.items line.now) }
+    ensures kept { OnErr result (kept.new.items ≡ kept.old.items) }
     ensures within { length kept.new.items ≤ most }
 {
     let room = MOST - kept.len();

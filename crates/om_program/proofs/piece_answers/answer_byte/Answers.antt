@@ -10,12 +10,13 @@ use Rattle.om_program.proofs.piece_answers.answer_byte.Goals as goal
 
 pub returns-in-Ok-clause-answer : goal.returns-in-Ok-clause-answer
 returns-in-Ok-clause-answer g c =
-    λ answered rest. byte_goes _ c.args.cutter.now _ _ c.args.byte rest _ _ _ _ c.in-Ok.ensures
+    λ answered rest. byte_goes _ c.args.cutter.now _ _ c.args.byte rest _ _ _ _ c.in-Ok.ensures.taken
     (c.answer_next.ensures.answer answered)
 
 pub returns-in-Ok-clause-cut : goal.returns-in-Ok-clause-cut
 returns-in-Ok-clause-cut g c =
-    λ cut rest. byte_breaks _ c.args.cutter.now _ _ c.args.byte rest _ _ c.in-Ok.ensures (c.answer_next.ensures.cut cut)
+    λ cut rest. byte_breaks _ c.args.cutter.now _ _ c.args.byte rest _ _ c.in-Ok.ensures.taken
+    (c.answer_next.ensures.cut cut)
 
 pub returns-in-Ok-clause-memory : goal.returns-in-Ok-clause-memory
 returns-in-Ok-clause-memory g c = λ memory rest.

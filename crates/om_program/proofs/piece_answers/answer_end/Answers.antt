@@ -17,7 +17,8 @@ answer_next-requires-clause-before g c κs within =
 pub returns-then-is_answered-clause-answer : goal.returns-then-is_answered-clause-answer
 returns-then-is_answered-clause-answer g c =
     λ answered. end_answers
-    (TaskMeans c.args.task.now) c.args.cutter.now c.end.new.self _ _ _ _ _ _ _ _ c.in-Ok.ensures c.rest.ensures.piece
+    (TaskMeans c.args.task.now) c.args.cutter.now c.end.new.self _ _ _ _ _ _ _ _ c.in-Ok.ensures.taken
+    c.rest.ensures.piece
     (c.answer_next-status.ensures.answer (c.is_answered.ensures.0 c.if-is_answered.true))
     (c.answer_next.ensures.answer answered)
 
@@ -25,13 +26,14 @@ pub returns-then-is_answered-clause-memory : goal.returns-then-is_answered-claus
 returns-then-is_answered-clause-memory g c = λ memory.
     subst (λ k. Stops (TaskMeans c.args.task.now) (made c.args.cutter.now []) (g.K.Sink.taken c.args.sink.now)
     (g.K.Sink.taken k)) (sym (c.answer_next.ensures.untouched memory))
-    (end_stops (TaskMeans c.args.task.now) c.args.cutter.now c.end.new.self _ _ _ _ _ c.in-Ok.ensures
+    (end_stops (TaskMeans c.args.task.now) c.args.cutter.now c.end.new.self _ _ _ _ _ c.in-Ok.ensures.taken
     (c.answer_next-status.ensures.answer (c.is_answered.ensures.0 c.if-is_answered.true)))
 
 pub returns-then-is_answered-clause-cut : goal.returns-then-is_answered-clause-cut
 returns-then-is_answered-clause-cut g c =
     λ cut. end_breaks_later
-    (TaskMeans c.args.task.now) c.args.cutter.now c.end.new.self _ _ _ _ _ _ _ c.in-Ok.ensures c.rest.ensures.piece
+    (TaskMeans c.args.task.now) c.args.cutter.now c.end.new.self _ _ _ _ _ _ _ c.in-Ok.ensures.taken
+    c.rest.ensures.piece
     (c.answer_next-status.ensures.answer (c.is_answered.ensures.0 c.if-is_answered.true))
     (c.answer_next.ensures.cut cut)
 
@@ -47,7 +49,7 @@ returns-else-is_answered-clause-memory g c = λ memory.
 
 pub returns-else-is_answered-clause-cut : goal.returns-else-is_answered-clause-cut
 returns-else-is_answered-clause-cut g c =
-    λ cut. end_breaks (TaskMeans c.args.task.now) c.args.cutter.now c.end.new.self _ _ _ c.in-Ok.ensures
+    λ cut. end_breaks (TaskMeans c.args.task.now) c.args.cutter.now c.end.new.self _ _ _ c.in-Ok.ensures.taken
     (c.answer_next-status.ensures.cut cut)
 
 pub returns-in-Err-clause-memory : goal.returns-in-Err-clause-memory
