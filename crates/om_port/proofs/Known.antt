@@ -1,7 +1,7 @@
 -- Known bytes, over several reads or writes.
 --
 -- Main results: Consumes-then, Appends-then, taken_kept, taken_none, another_read, taken_exactly, taken_at_most,
--- write_step, read_step
+-- taken_at_least, write_step, read_step
 use Rattle.std.proofs.Common.{ℕ, ◌≡◌, ◌+◌, ◌-◌, ◌<◌, ◌≤◌, List, [], ◌++◌, length, take, drop, refl, sym, ◌∙◌, ap, arith}
 use Rattle.std.proofs.Common.{append_assoc}
 use Rattle.std.specs.Prelude.{None, Some, Option}
@@ -9,7 +9,7 @@ use Rattle.std.specs.Io.KnownBytes.{Consumes, Appends, Keeps}
 use Rattle.std.proofs.lemmas.List.{drop_all, length-take, take-append-drop, length-drop, length-append, take_rest}
 use Rattle.std.proofs.lemmas.List.{take_at, take-append-le, drop-drop}
 use Rattle.std.proofs.Math.Seq.{take-add}
-use Rattle.om_port.specs.Causes.{TakesExactly, TakesAtMost}
+use Rattle.om_port.specs.Causes.{TakesExactly, TakesAtMost, TakesAtLeast}
 
 pub Consumes-then : (a b c : Option (List ℕ)) (xs ys : List ℕ) → Consumes a b xs → Consumes b c ys
     → Consumes a c (xs ++ ys)
@@ -65,6 +65,13 @@ taken_exactly a b c xs buf k n h h2 fits e =
 pub taken_at_most : (a b c : Option (List ℕ)) (xs buf : List ℕ) (k n : ℕ) → Consumes a b xs → Consumes b c (take k buf)
     → k ≤ length buf → length xs + k ≤ n → TakesAtMost n a c
 taken_at_most a b c xs buf k n h h2 fits e =
+    let l = length-append xs (take k buf) in
+    let t = length-take k buf in
+    (xs ++ take k buf, Consumes-then a b c xs (take k buf) h h2, omega arith)
+
+pub taken_at_least : (a b c : Option (List ℕ)) (xs buf : List ℕ) (k n : ℕ) → Consumes a b xs → Consumes b c (take k buf)
+    → k ≤ length buf → n ≤ length xs + k → TakesAtLeast n a c
+taken_at_least a b c xs buf k n h h2 fits e =
     let l = length-append xs (take k buf) in
     let t = length-take k buf in
     (xs ++ take k buf, Consumes-then a b c xs (take k buf) h h2, omega arith)

@@ -28,6 +28,10 @@ TakesExactly n old new = (bs : List ℕ) × Consumes old new bs × (length bs �
 abbrev pub TakesAtMost : ℕ → Option (List ℕ) → Option (List ℕ) → Type 0
 TakesAtMost n old new = (bs : List ℕ) × Consumes old new bs × (length bs ≤ n)
 
+-- some first bytes were taken, at least this many
+abbrev pub TakesAtLeast : ℕ → Option (List ℕ) → Option (List ℕ) → Type 0
+TakesAtLeast n old new = (bs : List ℕ) × Consumes old new bs × (n ≤ length bs)
+
 -- some first bytes were taken
 abbrev pub TakesSome : Option (List ℕ) → Option (List ℕ) → Type 0
 TakesSome old new = (bs : List ℕ) × Consumes old new bs

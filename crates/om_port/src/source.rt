@@ -1,4 +1,4 @@
-ghost use Rattle.std.specs.Prelude.{◌<◌, List, ℕ, IfOk};
+ghost use Rattle.std.specs.Prelude.{◌<◌, List, ℕ, length, IfOk};
 ghost use Rattle.std.specs.declared.option.Option.{Option};
 ghost use Rattle.std.specs.Io.{ReadsAtMost};
 ghost use Rattle.std.specs.Io.KnownBytes.{ReadConsumes};
@@ -19,11 +19,13 @@ pub trait Source {
     ghost ready: { Self → Type 0 };
 
     /// Gives the next bytes, as many as it likes up to the length of `buf`, at the front of `buf`, and returns how
-    /// many. For a nonempty `buf` there are none only at the end of the input.
+    /// many. For a nonempty `buf` there are none only at the end of the input. Generic code has to pass a nonempty
+    /// `buf`.
     ///
     /// [`Failed`] comes only if the count of faults rose, and then no byte is consumed.
     fn read(&mut self, buf: &mut [u8]) -> Result<usize, Failed>
-        requires { ready self.old }
+        requires ready { ready self.old }
+        requires room { 0 < length buf.old }
         ensures bound { ReadsAtMost result buf.new }
         ensures bytes { ReadConsumes (left self.old) (left self.new) result buf.new }
         ensures cause { HasCause (faults self.old) (faults self.new) result }

@@ -1,6 +1,6 @@
 //! Reading a source to its end, and writing all of some bytes.
 
-ghost use Rattle.std.specs.Prelude.{◌≡◌, ◌≢◌, ◌≤◌, ◌<◌, ◌+◌, IfOk, IfErr, OnOk, OnErr, vec_len, length, take};
+ghost use Rattle.std.specs.Prelude.{◌≡◌, ◌≢◌, ◌⊎◌, ◌≤◌, ◌<◌, ◌+◌, IfOk, IfErr, OnOk, OnErr, vec_len, length, take};
 ghost use Rattle.std.specs.Io.KnownBytes.{Consumes, Appends, IsAtEnd};
 ghost use Rattle.om_port.specs.Causes.{Rose, TakesExactly, TakesAtMost, TakesSome};
 
@@ -18,8 +18,8 @@ const PIECE: usize = 4_096;
 ///
 /// [`ReadError::ReadFault`] comes only if the source's count of faults rose in this call. [`ReadError::TooLong`]
 /// comes exactly if `limit + 1` bytes were taken, and no further byte is taken then. [`ReadError::Memory`] comes
-/// only if memory runs out. After each error the source has given a prefix of the bytes that it had left. After its
-/// end or a fault it isn't read again.
+/// only if memory runs out. After each error the source has given a prefix of the bytes that it had left. It is still
+/// ready after [`ReadError::TooLong`] and [`ReadError::Memory`]. After its end or a fault it isn't read again.
 pub fn read_all<S: Source>(
     alloc: Global,
     source: &mut S,
@@ -35,6 +35,7 @@ pub fn read_all<S: Source>(
     ensures few { result ≢ Err ReadError.TooLong → TakesAtMost limit (S.left source.old) (S.left source.new) }
     ensures prefix { TakesSome (S.left source.old) (S.left source.new) }
     ensures later { S.faults source.old ≤ S.faults source.new }
+    ensures again { (result ≡ Err ReadError.TooLong) ⊎ (result ≡ Err ReadError.Memory) → S.ready source.new }
 {
     let mut bytes = Vec::new(alloc);
     let mut buf = [0u8; PIECE];

@@ -1,29 +1,34 @@
 -- How far a run over many pieces has come after a reading.
 --
--- Main definitions: Reaches
--- Main results: all_taken, taken_more, reach_start, starts, reach_further, reach_stops, reach_stops_later,
--- reach_breaks_later, reach_end, reach_end_stops, reach_end_breaks, taken_still, no_first, none_taken
+-- Main definitions: Reaches, KeepsUp
+-- Main results: taken_to_end, all_taken, taken_more, reach_start, starts, reach_further, reach_stops,
+-- reach_stops_later, reach_breaks_later, reach_end, reach_end_stops, reach_end_breaks, keeps_up_start,
+-- keeps_up_further, keeps_up_at_fault, taken_still, no_first, none_taken
 use Rattle.std.specs.Prelude.{ℕ, ◌≡◌, ◌⊎◌, ◌++◌, List, [], Option, Some, None, IfSome, take}
-use Rattle.std.proofs.Common.{sym, ap, ◌∙◌, subst, append-nil, inl, inr}
+use Rattle.std.proofs.Common.{refl, sym, ap, ◌∙◌, subst, append-nil, append_assoc, inl, inr}
 use Rattle.std.specs.Io.KnownBytes.{Consumes, IsAtEnd, Keeps}
 use Rattle.om_port.specs.Causes.{TakesSome}
-use Rattle.om_port.proofs.Known.{Consumes-then}
+use Rattle.om_port.proofs.Known.{Consumes-then, taken_kept}
 use Rattle.om_reply.specs.declared.answer.Answer.{Answer}
 use Rattle.om_reply.specs.declared.status.Status.{Status}
-use Rattle.om_pieces.specs.Making.{Making, made}
-use Rattle.om_program.specs.Answered.{AreAnswered, GoesOn, Stops, Breaks}
+use Rattle.om_pieces.specs.Making.{Making, completed, made, nothing}
+use Rattle.om_program.specs.Answered.{AreAnswered, IsUpToDate, GoesOn, Stops, Breaks}
 use Rattle.om_program.specs.Each.{TakesAll}
 use Rattle.om_program.proofs.Chaining.{goes_on, goes_further, all_answered, stops_later, breaks_later, stops_here}
 use Rattle.om_program.proofs.Chaining.{nothing_yet}
 
 -- ---- reading
 
+-- bytes up to the end are all
+pub taken_to_end : (old new : Option (List ℕ)) (bytes : List ℕ) → Consumes old new bytes → IsAtEnd new
+    → TakesAll old new
+taken_to_end None new bytes c e = tt
+taken_to_end (Some old) None bytes c e = absurd c
+taken_to_end (Some old) (Some new) bytes c e = rw e (sym (append-nil old))
+
 pub all_taken : (old now new : Option (List ℕ)) → TakesSome old now → Consumes now new [] → IsAtEnd new
     → TakesAll old new
-all_taken None now new t c e = tt
-all_taken (Some old) None new (bs, t) c e = absurd t
-all_taken (Some old) (Some now) None (bs, t) c e = absurd c
-all_taken (Some old) (Some now) (Some new) (bs, t) c e = let r : now ≡ [] = c ∙ e in rw e (sym (append-nil old))
+all_taken old now new (bs, t) c e = taken_to_end old new (bs ++ []) (Consumes-then old now new bs [] t c) e
 
 pub taken_more : (old now new : Option (List ℕ)) (bytes : List ℕ) → TakesSome old now → Consumes now new bytes
     → TakesSome old new
@@ -125,6 +130,52 @@ reach_end_breaks M first now (Some all) (Some left) None s t o p q r c e a = abs
 reach_end_breaks M first now (Some all) (Some left) (Some rest) s t o p q r c e a =
     breaks_later M (made first all) (made now left) s t o p q r
     (subst (λ l. Breaks M (made now l) p q) (sym (nothing_left left rest c e)) a)
+
+-- ---- the pieces that are whole in the bytes taken
+
+-- whatever bytes follow those that were taken, the pieces that are whole in these were answered
+abbrev pub KeepsUp : (List ℕ → Answer → Type 0) → Making → Option (List ℕ) → Making → Option (List ℕ) → Status → Status
+    → Option (List ℕ) → Option (List ℕ) → Type 0
+KeepsUp Meaning first all now left before s old new =
+    (bytes : List ℕ) × (Consumes all left bytes ×
+    ((rest : List ℕ) → GoesOn Meaning (completed first (bytes ++ rest)) (completed now rest) before s old new))
+
+consumed_none : (left : Option (List ℕ)) → Consumes left left []
+consumed_none None = tt
+consumed_none (Some left) = refl
+
+pub keeps_up_start : (M : List ℕ → Answer → Type 0) (m first : Making) (left : Option (List ℕ)) (s : Status)
+    (o : Option (List ℕ)) → m ≡ first → KeepsUp M first left m left s s o o
+keeps_up_start M m first left s o e =
+    subst (λ k. KeepsUp M first left k left s s o o) (sym e)
+    ([], (consumed_none left, λ rest. nothing_yet M (completed first rest) s o))
+
+pub keeps_up_further : (M : List ℕ → Answer → Type 0) (first now later : Making) (all left rest : Option (List ℕ))
+    (bytes : List ℕ) (s t u : Status) (o p q : Option (List ℕ)) → KeepsUp M first all now left s t o p
+    → Consumes left rest bytes
+    → ((more : List ℕ) → GoesOn M (completed now (bytes ++ more)) (completed later more) t u p q)
+    → KeepsUp M first all later rest s u o q
+keeps_up_further M first now later all left rest bytes s t u o p q (bs, (c, f)) d g = (
+  bs ++ bytes,
+  (
+    Consumes-then all left rest bs bytes c d,
+    λ more. subst (λ l. GoesOn M (completed first l) (completed later more) s u o q)
+        (sym (append_assoc bs bytes more))
+        (goes_further M (completed first (bs ++ (bytes ++ more))) (completed now (bytes ++ more))
+        (completed later more) s t u o p q (f (bytes ++ more)) (g more)),
+  ),
+)
+
+pub keeps_up_at_fault : (M : List ℕ → Answer → Type 0) (n : ℕ) (now : Making) (all left rest : Option (List ℕ))
+    (s t : Status) (o p : Option (List ℕ)) → KeepsUp M (nothing n) all now left s t o p → Keeps left rest
+    → IsUpToDate M n all rest o p
+keeps_up_at_fault M n now None left rest s t o p r k = tt
+keeps_up_at_fault M n now (Some all) left rest s t o p (bs, (c, f)) k =
+    let a = all_answered M (completed (nothing n) bs) s t o p
+    (subst (λ l. GoesOn M (completed (nothing n) l) [] s t o p) (append-nil bs) (f [])) in
+    (bs, (taken_kept (Some all) left rest bs c k, (a.0, (a.1.0, a.1.1.0))))
+
+-- ---- a last reading
 
 pub taken_still : (old now new : Option (List ℕ)) → TakesSome old now → Keeps now new → TakesSome old new
 taken_still None now new (bs, t) k = ([], tt)

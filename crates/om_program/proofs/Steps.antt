@@ -1,7 +1,8 @@
 -- The steps of a run over many pieces: one piece, one byte, the bytes of a reading, and the end of the input.
 --
 -- Main results: answered_replied, replied_answered, only_own, next_answers, no_piece, next_breaks, byte_goes,
--- byte_breaks, loop_goes, loop_stops, loop_breaks, loop_ends, end_answers, end_breaks_later, end_breaks, end_stops
+-- byte_breaks, byte_completes, loop_goes, loop_stops, loop_breaks, loop_ends, end_answers, end_breaks_later,
+-- end_breaks, end_stops
 use Rattle.std.specs.Prelude.{ℕ, suc, ◌≡◌, ◌≢◌, ◌⊎◌, ◌+◌, ◌<◌, ◌≤◌, ◌++◌, List, [], ◌∷◌, Option, max, drop, length}
 use Rattle.std.specs.Prelude.{get_or}
 use Rattle.std.proofs.Common.{refl, sym, ap, ◌∙◌, subst, append-nil, arith, inl, inr, drop-cons}
@@ -14,7 +15,7 @@ use Rattle.om_reply.specs.declared.status.Status.TheVariants.{NoMemory}
 use Rattle.om_reply.specs.Answers.{status_of, text_of}
 use Rattle.om_reply.specs.Written.{IsFront}
 use Rattle.om_reply.specs.Statuses.{code_of, IsAnswered, IsReplied}
-use Rattle.om_pieces.specs.Making.{Making, fed, last_ended, rest_of, option_list, made}
+use Rattle.om_pieces.specs.Making.{Making, completed, fed, last_ended, rest_of, option_list, made}
 use Rattle.om_program.specs.Answered.{none, one_more, AreAnswered, GoesOn, Stops, Breaks}
 use Rattle.om_program.proofs.Chaining.{appended_none, goes_on, goes_further, all_answered, stops_later, breaks_later}
 use Rattle.om_program.proofs.Chaining.{breaks_among, stops_here}
@@ -116,6 +117,19 @@ byte_breaks M m now piece b rest o n e a =
     subst (λ all. Breaks M all o n) (sym (made_byte m now piece b rest e))
     (breaks_among M (option_list piece) (made now rest) o n a)
 
+completed_byte : (m now : Making) (piece : Option (List ℕ)) (b : ℕ) (rest : List ℕ)
+    → ◌≡◌ {A = Making × Option (List ℕ)} (now, piece) (fed m b)
+    → completed m (b ∷ rest) ≡ option_list piece ++ completed now rest
+completed_byte m now piece b rest e =
+    sym (ap (λ (k : Making × Option (List ℕ)). option_list (k.1) ++ completed (k.0) rest) e)
+
+pub byte_completes : (M : List ℕ → Answer → Type 0) (m now : Making) (piece : Option (List ℕ)) (b : ℕ) (rest : List ℕ)
+    (s t : Status) (o n : Option (List ℕ)) → ◌≡◌ {A = Making × Option (List ℕ)} (now, piece) (fed m b)
+    → AreAnswered M (option_list piece) s t o n → GoesOn M (completed m (b ∷ rest)) (completed now rest) s t o n
+byte_completes M m now piece b rest s t o n e a =
+    subst (λ all. GoesOn M all (completed now rest) s t o n) (sym (completed_byte m now piece b rest e))
+    (goes_on M (option_list piece) (completed now rest) s t o n a)
+
 -- ---- the bytes of a reading
 
 -- the byte at a place in front of the bytes behind it
@@ -125,16 +139,17 @@ bytes_at bytes rest i h =
     ap (λ l. l ++ rest) (drop-cons bytes i 0 h ∙ ap (λ k. get_or bytes i 0 ∷ drop k bytes)
     (let e : suc i ≡ i + 1 = omega arith in e))
 
-pub loop_goes : (M : List ℕ → Answer → Type 0) (first now next : Making) (bytes rest : List ℕ) (i : ℕ) (s t u : Status)
-    (o p q : Option (List ℕ)) → i < length bytes
-    → GoesOn M (made first (bytes ++ rest)) (made now (drop i bytes ++ rest)) s t o p
-    → ((more : List ℕ) → GoesOn M (made now (get_or bytes i 0 ∷ more)) (made next more) t u p q)
-    → GoesOn M (made first (bytes ++ rest)) (made next (drop (i + 1) bytes ++ rest)) s u o q
-loop_goes M first now next bytes rest i s t u o p q h a g =
-    goes_further M (made first (bytes ++ rest)) (made now (drop i bytes ++ rest))
-    (made next (drop (i + 1) bytes ++ rest)) s t u o p q a
-    (subst (λ l. GoesOn M (made now l) (made next (drop (i + 1) bytes ++ rest)) t u p q) (sym (bytes_at bytes rest i h))
-    (g (drop (i + 1) bytes ++ rest)))
+-- for pieces that are made, and for those that are completed
+pub loop_goes : (M : List ℕ → Answer → Type 0) (pieces : Making → List ℕ → List (List ℕ)) (first now next : Making)
+    (bytes rest : List ℕ) (i : ℕ) (s t u : Status) (o p q : Option (List ℕ)) → i < length bytes
+    → GoesOn M (pieces first (bytes ++ rest)) (pieces now (drop i bytes ++ rest)) s t o p
+    → ((more : List ℕ) → GoesOn M (pieces now (get_or bytes i 0 ∷ more)) (pieces next more) t u p q)
+    → GoesOn M (pieces first (bytes ++ rest)) (pieces next (drop (i + 1) bytes ++ rest)) s u o q
+loop_goes M pieces first now next bytes rest i s t u o p q h a g =
+    goes_further M (pieces first (bytes ++ rest)) (pieces now (drop i bytes ++ rest))
+    (pieces next (drop (i + 1) bytes ++ rest)) s t u o p q a
+    (subst (λ l. GoesOn M (pieces now l) (pieces next (drop (i + 1) bytes ++ rest)) t u p q)
+    (sym (bytes_at bytes rest i h)) (g (drop (i + 1) bytes ++ rest)))
 
 pub loop_stops : (M : List ℕ → Answer → Type 0) (first now : Making) (bytes rest : List ℕ) (i : ℕ) (s t : Status)
     (o p q : Option (List ℕ)) → i < length bytes
@@ -154,12 +169,13 @@ loop_breaks M first now bytes rest i s t o p q h a g =
     breaks_later M (made first (bytes ++ rest)) (made now (drop i bytes ++ rest)) s t o p q a
     (subst (λ l. Breaks M (made now l) p q) (sym (bytes_at bytes rest i h)) (g (drop (i + 1) bytes ++ rest)))
 
-pub loop_ends : (M : List ℕ → Answer → Type 0) (first now : Making) (bytes rest : List ℕ) (i : ℕ) (s t : Status)
-    (o p : Option (List ℕ)) → length bytes ≤ i
-    → GoesOn M (made first (bytes ++ rest)) (made now (drop i bytes ++ rest)) s t o p
-    → GoesOn M (made first (bytes ++ rest)) (made now rest) s t o p
-loop_ends M first now bytes rest i s t o p h a =
-    subst (λ l. GoesOn M (made first (bytes ++ rest)) (made now l) s t o p)
+-- for pieces that are made, and for those that are completed
+pub loop_ends : (M : List ℕ → Answer → Type 0) (pieces : Making → List ℕ → List (List ℕ)) (first now : Making)
+    (bytes rest : List ℕ) (i : ℕ) (s t : Status) (o p : Option (List ℕ)) → length bytes ≤ i
+    → GoesOn M (pieces first (bytes ++ rest)) (pieces now (drop i bytes ++ rest)) s t o p
+    → GoesOn M (pieces first (bytes ++ rest)) (pieces now rest) s t o p
+loop_ends M pieces first now bytes rest i s t o p h a =
+    subst (λ l. GoesOn M (pieces first (bytes ++ rest)) (pieces now l) s t o p)
     (ap (λ l. l ++ rest) (drop_all i bytes h)) a
 
 -- ---- the end of the input

@@ -1,6 +1,7 @@
 -- Pieces that were answered.
-use Rattle.std.specs.Prelude.{ℕ, ◌≡◌, ◌<◌, ◌++◌, ◌∷◌, List, [], Option, max, flat_map, length, take}
-use Rattle.std.specs.Io.KnownBytes.{Appends}
+use Rattle.std.specs.Prelude.{ℕ, ◌≡◌, ◌<◌, ◌++◌, ◌∷◌, List, [], Option, IfSome, max, flat_map, length, take}
+use Rattle.std.specs.Io.KnownBytes.{Appends, Consumes}
+use Rattle.om_pieces.specs.Making.{completed, nothing}
 use Rattle.om_reply.specs.declared.answer.Answer.{Answer}
 use Rattle.om_reply.specs.declared.status.Status.{Status}
 use Rattle.om_reply.specs.Answers.{text_of}
@@ -29,6 +30,14 @@ AreAnswered Meaning pieces before status old new =
 abbrev pub AreWritten : (List ℕ → Answer → Type 0) → List (List ℕ) → Option (List ℕ) → Option (List ℕ) → Type 0
 AreWritten Meaning pieces old new =
     (answers : List Answer) × (AreMeant Meaning pieces answers × Appends old new (texts answers))
+
+-- if the source tells the bytes that it had left: the texts of exactly those pieces were written that are whole in the
+-- bytes taken
+abbrev pub IsUpToDate : (List ℕ → Answer → Type 0) → ℕ → Option (List ℕ) → Option (List ℕ) → Option (List ℕ)
+    → Option (List ℕ) → Type 0
+IsUpToDate Meaning n left rest old new =
+    IfSome left (λ all. (bytes : List ℕ) ×
+    (Consumes left rest bytes × AreWritten Meaning (completed (nothing n) bytes) old new))
 
 -- the texts of these pieces were written, each whole, followed by the first bytes of the text of another piece, but
 -- not all of them

@@ -1,5 +1,5 @@
 -- What a run over many pieces has written.
-use Rattle.std.specs.Prelude.{ℕ, ◌≡◌, ◌≢◌, ◌++◌, ◌∷◌, List, Option, IfSome}
+use Rattle.std.specs.Prelude.{ℕ, ◌≡◌, ◌≢◌, ◌++◌, ◌∷◌, List, Option, IfSome, unwrap_or}
 use Rattle.std.specs.Io.KnownBytes.{Appends, Consumes}
 use Rattle.om_words.specs.declared.reads.Reads.TheVariants as kind
 use Rattle.om_words.specs.declared.task.Task.{Task}
@@ -37,6 +37,10 @@ IsNextCutOff words n bytes old new =
     (first : List (List ℕ)) × ((piece : List ℕ) ×
     ((left : List (List ℕ)) × (IsCut n bytes (first ++ piece ∷ left) × AreCutOff
     (Means words) first piece old new)))
+
+-- how a run ends: without a status, since no reading is left, as for want of memory
+abbrev pub ended : Option Status → Status
+ended result = unwrap_or result status.NoMemory
 
 -- all bytes were taken
 abbrev pub TakesAll : Option (List ℕ) → Option (List ℕ) → Type 0

@@ -1,15 +1,15 @@
 //! A whole run: each piece of the source is answered.
 
-ghost use Rattle.std.specs.Prelude.{◌≡◌, ◌≢◌, ◌⊎◌, ◌≤◌, ℕ, List, IfSome, map, string_bytes};
-ghost use Rattle.om_port.specs.Causes.{Rose, TakesSome};
+ghost use Rattle.std.specs.Prelude.{◌≡◌, ◌≢◌, ◌⊎◌, ◌≤◌, ◌-◌, ◌^◌, ℕ, List, IfSome, map, string_bytes};
+ghost use Rattle.om_port.specs.Causes.{Rose, TakesAtLeast, TakesSome};
 ghost use Rattle.om_words.specs.Tasks.{HasLawfulArguments, reads};
 ghost use Rattle.om_words.specs.ReadingCommands.{AreReadingCommand, wanted_ends};
-ghost use Rattle.om_program.specs.Meaning.{TaskMeans};
+ghost use Rattle.om_program.specs.Meaning.{Means, TaskMeans};
 ghost use Rattle.om_reply.specs.Statuses.{IsAnswered};
 ghost use Rattle.om_pieces.specs.Making.{made, nothing};
 ghost use Rattle.om_pieces.specs.Pieces.{HasOneCut};
-ghost use Rattle.om_program.specs.Answered.{AreAnswered, Stops, Breaks};
-ghost use Rattle.om_program.specs.Each.{AreForPieces, TakesAll};
+ghost use Rattle.om_program.specs.Answered.{AreAnswered, IsUpToDate, Stops, Breaks};
+ghost use Rattle.om_program.specs.Each.{AreForPieces, TakesAll, ended};
 ghost use Rattle.om_program.specs.Each.{IsEachAnswered, AreFirstWritten, IsNextCutOff};
 ghost use Rattle.om_program.specs.Each.{IsUsageWritten, IsUsageCutOff};
 
@@ -57,6 +57,11 @@ pub fn run_each<R: Threads + Sync, S: Source, K: Sink>(
         → IfSome (S.left source.old) (λ bytes.
         AreFirstWritten (map string_bytes words.now) n bytes (K.taken sink.old) (K.taken sink.new)) }
 
+    // After a read fault they are the texts of exactly those pieces that are whole in the bytes taken.
+    ensures prompt { (n : ℕ) → AreForPieces (map string_bytes words.now) n → result ≡ Status.ReadFault
+        → IsUpToDate (Means (map string_bytes words.now)) n (S.left source.old) (S.left source.new)
+        (K.taken sink.old) (K.taken sink.new) }
+
     // After a write fault they are the texts of the first pieces, each whole, followed by a proper prefix of the
     // text of the next one.
     ensures cut { (n : ℕ) → AreForPieces (map string_bytes words.now) n → result ≡ Status.WriteFault
@@ -81,6 +86,10 @@ pub fn run_each<R: Threads + Sync, S: Source, K: Sink>(
     ensures read { result ≡ Status.ReadFault → Rose (S.faults source.old) (S.faults source.new) }
     ensures write { result ≡ Status.WriteFault → Rose (K.faults sink.old) (K.faults sink.new) }
 
+    // No other status hides a read fault, and nothing is read after a write fault or a lack of memory: the source is
+    // still ready, or all that it had left was taken.
+    ensures still { result ≢ Status.ReadFault → S.ready source.new ⊎ TakesAll (S.left source.old) (S.left source.new) }
+
     // An answered command that reads has taken all that the source had left.
     ensures taken { IsAnswered result → AreReadingCommand (map string_bytes words.now)
         → TakesAll (S.left source.old) (S.left source.new) }
@@ -91,55 +100,62 @@ pub fn run_each<R: Threads + Sync, S: Source, K: Sink>(
     ensures sink_later { K.faults sink.old ≤ K.faults sink.new }
 {
     match reading_command(words) {
-        Ok(task) => answer_source(rt, alloc, &task, source, sink),
+        Ok(task) => answer_source(rt, alloc, &task, source, sink).unwrap_or(Status::NoMemory),
         Err(usage) => write_usage(sink, usage),
     }
 }
 
-/// Answers the pieces of a source.
+/// Answers the pieces of a source. There is no status only if the source gave a byte at each of 2^64 - 1 readings.
 fn answer_source<R: Threads + Sync, S: Source, K: Sink>(
     rt: &R,
     alloc: Global,
     task: &Task,
     source: &mut S,
     sink: &mut K,
-) -> Status
+) -> Option<Status>
     requires lawful { HasLawfulArguments task.now }
     requires reading { reads task.now ≢ Reads.Nothing }
     requires source_ready { S.ready source.old }
     requires sink_ready { K.ready sink.old }
-    ensures answer { IsAnswered result → IfSome (S.left source.old) (λ bytes.
+    ensures answer { IsAnswered (ended result) → IfSome (S.left source.old) (λ bytes.
         AreAnswered (TaskMeans task.now) (made (nothing (wanted_ends (reads task.now))) bytes)
-        Status.Done result (K.taken sink.old) (K.taken sink.new)) }
-    ensures fault { (result ≡ Status.ReadFault) ⊎ (result ≡ Status.NoMemory) → IfSome (S.left source.old) (λ bytes.
+        Status.Done (ended result) (K.taken sink.old) (K.taken sink.new)) }
+    ensures fault { (ended result ≡ Status.ReadFault) ⊎ (ended result ≡ Status.NoMemory)
+        → IfSome (S.left source.old) (λ bytes.
         Stops (TaskMeans task.now) (made (nothing (wanted_ends (reads task.now))) bytes)
         (K.taken sink.old) (K.taken sink.new)) }
-    ensures cut { result ≡ Status.WriteFault → IfSome (S.left source.old) (λ bytes.
+    ensures cut { ended result ≡ Status.WriteFault → IfSome (S.left source.old) (λ bytes.
         Breaks (TaskMeans task.now) (made (nothing (wanted_ends (reads task.now))) bytes)
         (K.taken sink.old) (K.taken sink.new)) }
-    ensures no_usage { result ≢ Status.Usage }
-    ensures read { result ≡ Status.ReadFault → Rose (S.faults source.old) (S.faults source.new) }
-    ensures write { result ≡ Status.WriteFault → Rose (K.faults sink.old) (K.faults sink.new) }
-    ensures taken { IsAnswered result → TakesAll (S.left source.old) (S.left source.new) }
+    ensures no_usage { ended result ≢ Status.Usage }
+    ensures read { ended result ≡ Status.ReadFault → Rose (S.faults source.old) (S.faults source.new) }
+    ensures write { ended result ≡ Status.WriteFault → Rose (K.faults sink.old) (K.faults sink.new) }
+    ensures taken { IsAnswered (ended result) → TakesAll (S.left source.old) (S.left source.new) }
     ensures prefix { TakesSome (S.left source.old) (S.left source.new) }
     ensures source_later { S.faults source.old ≤ S.faults source.new }
     ensures sink_later { K.faults sink.old ≤ K.faults sink.new }
+    ensures still { ended result ≢ Status.ReadFault
+        → S.ready source.new ⊎ TakesAll (S.left source.old) (S.left source.new) }
+    ensures prompt { ended result ≡ Status.ReadFault
+        → IsUpToDate (TaskMeans task.now) (wanted_ends (reads task.now)) (S.left source.old) (S.left source.new)
+        (K.taken sink.old) (K.taken sink.new) }
+    ensures readings { result ≡ None → TakesAtLeast (2 ^ 64 - 1) (S.left source.old) (S.left source.new) }
 {
     let mut cutter = Cutter::new(alloc, wanted_ends(task));
     let mut status = Status::Done;
     let mut chunk = [0u8; CHUNK];
     for _turn in 0..u64::MAX {
         match source.read(&mut chunk) {
-            Ok(0) => return answer_end(rt, alloc, task, &mut cutter, sink, status),
+            Ok(0) => return Some(answer_end(rt, alloc, task, &mut cutter, sink, status)),
             Ok(count) => {
                 status = answer_bytes(rt, alloc, task, &mut cutter, &chunk[..count], sink, status);
                 if !is_answered(status) {
-                    return status;
+                    return Some(status);
                 }
             }
-            Err(_) => return Status::ReadFault,
+            Err(_) => return Some(Status::ReadFault),
         }
     }
     // Never reached in practice: each turn takes at least a byte.
-    Status::NoMemory
+    None
 }

@@ -7,7 +7,7 @@ ghost use Rattle.om_reply.specs.Answers.{IsReply};
 ghost use Rattle.om_program.specs.Meaning.{TaskMeans};
 ghost use Rattle.om_program.specs.Run.{IsWhole, IsCutOff};
 ghost use Rattle.om_reply.specs.Statuses.{IsAnswered, IsReplied};
-ghost use Rattle.om_pieces.specs.Making.{made, option_list};
+ghost use Rattle.om_pieces.specs.Making.{completed, made, option_list};
 ghost use Rattle.om_program.specs.Answered.{AreAnswered, GoesOn, Stops, Breaks};
 
 use super::answering::answer_input;
@@ -47,6 +47,9 @@ pub fn answer_bytes<R: Threads + Sync, K: Sink>(
     ensures write { result ≡ Status.WriteFault → Rose (K.faults sink.old) (K.faults sink.new) }
     ensures again { IsAnswered result → K.ready sink.new }
     ensures later { K.faults sink.old ≤ K.faults sink.new }
+    ensures prompt { IsAnswered result → (rest : List ℕ) →
+        GoesOn (TaskMeans task.now) (completed cutter.old (bytes.now ++ rest)) (completed cutter.new rest)
+        before result (K.taken sink.old) (K.taken sink.new) }
 {
     let mut status = before;
     for byte in bytes {
@@ -84,6 +87,9 @@ fn answer_byte<R: Threads + Sync, K: Sink>(
     ensures write { result ≡ Status.WriteFault → Rose (K.faults sink.old) (K.faults sink.new) }
     ensures again { IsAnswered result → K.ready sink.new }
     ensures later { K.faults sink.old ≤ K.faults sink.new }
+    ensures prompt { IsAnswered result → (rest : List ℕ) →
+        GoesOn (TaskMeans task.now) (completed cutter.old (byte ∷ rest)) (completed cutter.new rest)
+        before result (K.taken sink.old) (K.taken sink.new) }
 {
     match cutter.feed(alloc, byte) {
         Ok(piece) => answer_next(rt, alloc, task, piece, sink, before),

@@ -6,6 +6,7 @@ ghost use Rattle.om_words.specs.Words.{AreCommand, Names};
 ghost use Rattle.om_reply.specs.Answers.{IsReply};
 ghost use Rattle.om_reply.specs.Statuses.{IsAnswered};
 ghost use Rattle.om_program.specs.Run.{bytes_of, ReadNothing, IsAnswer, IsCutOffAnswer};
+ghost use Rattle.om_program.specs.Each.{TakesAll};
 ghost use Rattle.om_words.specs.ReadingCommands.{AreReadingCommand};
 ghost use Rattle.om_program.specs.Run.{IsWhole, IsCutOff, IsTaskAnswer, IsCutOffTask, IsMeantBy, TakesInput};
 ghost use Rattle.om_program.specs.Completeness.{IsAnswerable, IsDoneOrNoMemory};
@@ -110,6 +111,9 @@ pub fn run<R: Threads + Sync, S: Source, K: Sink>(
     ensures prefix { TakesSome (S.left source.old) (S.left source.new) }
     ensures source_later { S.faults source.old ≤ S.faults source.new }
     ensures sink_later { K.faults sink.old ≤ K.faults sink.new }
+
+    // No other status hides a read fault: the source is still ready, or all that it had left was taken.
+    ensures still { result ≢ Status.ReadFault → S.ready source.new ⊎ TakesAll (S.left source.old) (S.left source.new) }
 {
     match command(words) {
         Ok(task) => carry_out(rt, alloc, task, source, sink),
@@ -148,6 +152,7 @@ fn carry_out<R: Threads + Sync, S: Source, K: Sink>(
     ensures prefix { TakesSome (S.left source.old) (S.left source.new) }
     ensures source_later { S.faults source.old ≤ S.faults source.new }
     ensures sink_later { K.faults sink.old ≤ K.faults sink.new }
+    ensures still { result ≢ Status.ReadFault → S.ready source.new ⊎ TakesAll (S.left source.old) (S.left source.new) }
 {
     match find_answer(rt, alloc, task, source) {
         Ok(answer) => write_and_drop(alloc, answer, sink),
@@ -192,6 +197,8 @@ fn find_answer<R: Threads + Sync, S: Source>(
     ensures taken { OnOk result (reads task ≢ Reads.Nothing → TakesInput (S.left source.old) (S.left source.new)) }
     ensures prefix { TakesSome (S.left source.old) (S.left source.new) }
     ensures later { S.faults source.old ≤ S.faults source.new }
+    ensures still { result ≢ Err Unanswered.ReadFault
+        → S.ready source.new ⊎ TakesAll (S.left source.old) (S.left source.new) }
 {
     follow(rt, alloc, plan_of(task), source)
 }
@@ -216,6 +223,8 @@ fn follow<R: Threads + Sync, S: Source>(
         → TakesInput (S.left source.old) (S.left source.new)) }
     ensures prefix { TakesSome (S.left source.old) (S.left source.new) }
     ensures later { S.faults source.old ≤ S.faults source.new }
+    ensures still { result ≢ Err Unanswered.ReadFault
+        → S.ready source.new ⊎ TakesAll (S.left source.old) (S.left source.new) }
 {
     match plan {
         Plan::Make { seed, count } => Ok(answer_alone(rt, alloc, seed, count)?),
@@ -238,6 +247,8 @@ fn read_and_answer<R: Threads + Sync, S: Source>(
     ensures taken { OnOk result (TakesInput (S.left source.old) (S.left source.new)) }
     ensures prefix { TakesSome (S.left source.old) (S.left source.new) }
     ensures later { S.faults source.old ≤ S.faults source.new }
+    ensures still { result ≢ Err Unanswered.ReadFault
+        → S.ready source.new ⊎ TakesAll (S.left source.old) (S.left source.new) }
 {
     match read_all(alloc, source, MAX_INPUT) {
         Ok(bytes) => Ok(answer_reading(rt, alloc, what, bytes.as_slice())?),

@@ -90,3 +90,9 @@ loop-turn-preserved g c =
       ready = c.in-Ok.ensures.again some;
       later = omega (arith, c.loop-turn.invariant.later, c.in-Ok.ensures.cause.later);
     }
+
+pub returns-then-count-room-clause-again : goal.returns-then-count-room-clause-again
+returns-then-count-room-clause-again g c = λ _. c.in-Ok.ensures.again (omega (arith, c.in-Ok.count-test.1))
+
+pub returns-then-is_err-clause-again : goal.returns-then-is_err-clause-again
+returns-then-is_err-clause-again g c = λ _. c.in-Ok.ensures.again (omega (arith, c.in-Ok.count-test.1))

@@ -1,4 +1,4 @@
-use Rattle.std.proofs.Common.{sym, ap, ◌∙◌, arith}
+use Rattle.std.proofs.Common.{refl, sym, ap, ◌∙◌, inl, inr, arith}
 use Rattle.std.proofs.Math.Nat.{le_refl, le_trans}
 use Rattle.std.proofs.lemmas.Bool.{true≢false}
 use Rattle.std.proofs.lemmas.List.{length-take-le}
@@ -11,7 +11,8 @@ use Rattle.om_program.proofs.Endings.{takes_none, rose_before}
 use Rattle.om_program.proofs.Steps.{answered_replied}
 use Rattle.om_program.proofs.Readings.{starts, reach_further, reach_stops, reach_stops_later, reach_breaks_later}
 use Rattle.om_program.proofs.Readings.{reach_end, reach_end_stops, reach_end_breaks, all_taken, taken_more, taken_still}
-use Rattle.om_program.proofs.Readings.{none_taken, no_first}
+use Rattle.om_program.proofs.Readings.{keeps_up_start, keeps_up_further, keeps_up_at_fault, none_taken, no_first}
+use Rattle.om_port.proofs.Known.{taken_at_least}
 use Rattle.om_program.proofs.FaultLaws.{no_memory_ne_usage, no_memory_ne_read_fault, no_memory_ne_write_fault}
 use Rattle.om_program.proofs.FaultLaws.{read_fault_ne_usage, read_fault_ne_write_fault}
 use Rattle.om_program.proofs.each.answer_source.Goals as goal
@@ -22,10 +23,17 @@ loop-turn-init g c = record {
       starts (TaskMeans c.args.task.now) c.new-cutter.result (nothing (wanted_ends (reads c.args.task.now)))
       (g.S.Source.left c.args.source.now) status.Done (g.K.Sink.taken c.args.sink.now)
       (c.new-cutter.ensures ∙ ap nothing c.wanted_ends.ensures);
+  prompt =
+      keeps_up_start (TaskMeans c.args.task.now) c.new-cutter.result (nothing (wanted_ends (reads c.args.task.now)))
+      (g.S.Source.left c.args.source.now) status.Done (g.K.Sink.taken c.args.sink.now)
+      (c.new-cutter.ensures ∙ ap nothing c.wanted_ends.ensures);
   replied = tt;
   source_ready = c.requires.source_ready;
   sink_ready = c.requires.sink_ready;
   some = takes_none _;
+  each =
+      let taken = takes_none (g.S.Source.left c.args.source.now) in
+      (taken.0, taken.1, omega arith);
   source_later = le_refl _;
   sink_later = le_refl _;
 }
@@ -74,10 +82,19 @@ loop-turn-preserved g c =
           (nothing (wanted_ends (reads c.args.task.now))) c.loop-turn.cutter c.answer_bytes-status.new.cutter
           (g.S.Source.left c.args.source.now) _ _ _ _ _ _ _ _ _ c.loop-turn.invariant.reached c.in-Ok.ensures.bytes.0
           (c.answer_bytes-status.ensures.answer answered);
+      prompt =
+          keeps_up_further (TaskMeans c.args.task.now)
+          (nothing (wanted_ends (reads c.args.task.now))) c.loop-turn.cutter c.answer_bytes-status.new.cutter
+          (g.S.Source.left c.args.source.now) _ _ _ status.Done _ _ _ _ _ c.loop-turn.invariant.prompt
+          c.in-Ok.ensures.bytes.0
+          (c.answer_bytes-status.ensures.prompt answered);
       replied = answered_replied _ answered c.answer_bytes-status.ensures.no_usage;
       source_ready = c.in-Ok.ensures.again (omega arith);
       sink_ready = c.answer_bytes-status.ensures.again answered;
       some = taken_more _ _ _ _ c.loop-turn.invariant.some c.in-Ok.ensures.bytes.0;
+      each =
+          taken_at_least _ _ _ _ _ c.in-Ok.count _ c.loop-turn.invariant.each.1 c.in-Ok.ensures.bytes.0
+          c.in-Ok.ensures.bound.0 (let turns = c.loop-turn.invariant.each.2 in omega arith);
       source_later = le_trans c.loop-turn.invariant.source_later c.in-Ok.ensures.cause.later;
       sink_later = le_trans c.loop-turn.invariant.sink_later c.answer_bytes-status.ensures.later;
     }
@@ -123,8 +140,8 @@ returns-in-Err-clause-fault g c =
 pub returns-in-Err-clause-prefix : goal.returns-in-Err-clause-prefix
 returns-in-Err-clause-prefix g c = taken_still _ _ _ c.loop-turn.invariant.some c.in-Err.ensures.bytes
 
-pub read-requires : goal.read-requires
-read-requires g c = c.loop-turn.invariant.source_ready
+pub read-requires-clause-ready : goal.read-requires-clause-ready
+read-requires-clause-ready g c = c.loop-turn.invariant.source_ready
 
 pub answer_end-requires-clause-lawful : goal.answer_end-requires-clause-lawful
 answer_end-requires-clause-lawful g c κs within = c.requires.lawful
@@ -238,3 +255,37 @@ slice_bounds-chunk-end g c = c.in-Ok.ensures.bound.0
 
 pub slice_bounds-answer_bytes-end : goal.slice_bounds-answer_bytes-end
 slice_bounds-answer_bytes-end g c = sym (length-take-le c.in-Ok.count c.read.new.buf c.in-Ok.ensures.bound.0)
+
+pub returns-in-Ok-eq0-clause-still : goal.returns-in-Ok-eq0-clause-still
+returns-in-Ok-eq0-clause-still g c =
+    λ other. inr (all_taken _ _ _ c.loop-turn.invariant.some
+    (none_taken _ _ _ _ c.in-Ok-eq0.field-0-test c.in-Ok-eq0.ensures.bytes.0)
+    (c.in-Ok-eq0.ensures.bytes.1 c.in-Ok-eq0.field-0-test (omega arith)))
+
+pub returns-then-not-is_answered-clause-still : goal.returns-then-not-is_answered-clause-still
+returns-then-not-is_answered-clause-still g c = λ other. inl (c.in-Ok.ensures.again (omega arith))
+
+pub returns-in-Err-clause-still : goal.returns-in-Err-clause-still
+returns-in-Err-clause-still g c = λ other. absurd (other refl)
+
+pub returns-clause-still : goal.returns-clause-still
+returns-clause-still g c = λ other. inl c.loop-turn.invariant.source_ready
+
+pub returns-in-Ok-eq0-clause-prompt : goal.returns-in-Ok-eq0-clause-prompt
+returns-in-Ok-eq0-clause-prompt g c = λ fault. absurd (c.answer_end.ensures.no_read fault)
+
+pub returns-then-not-is_answered-clause-prompt : goal.returns-then-not-is_answered-clause-prompt
+returns-then-not-is_answered-clause-prompt g c = λ fault. absurd (c.answer_bytes-status.ensures.no_read fault)
+
+pub returns-in-Err-clause-prompt : goal.returns-in-Err-clause-prompt
+returns-in-Err-clause-prompt g c =
+    λ fault. keeps_up_at_fault (TaskMeans c.args.task.now) (wanted_ends (reads c.args.task.now)) c.loop-turn.cutter
+    (g.S.Source.left c.args.source.now) _ _ status.Done _ _ _ c.loop-turn.invariant.prompt c.in-Err.ensures.bytes
+
+pub returns-clause-prompt : goal.returns-clause-prompt
+returns-clause-prompt g c = λ fault. absurd (no_memory_ne_read_fault fault)
+
+pub returns-clause-readings : goal.returns-clause-readings
+returns-clause-readings g c =
+    let taken = c.loop-turn.invariant.each in
+    λ none. (taken.0, taken.1, omega (arith, taken.2, c.loop-turn-test.false))

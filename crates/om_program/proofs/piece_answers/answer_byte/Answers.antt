@@ -2,7 +2,7 @@ use Rattle.std.proofs.Common.{◌∷◌, subst, sym}
 use Rattle.om_program.specs.Meaning.{TaskMeans}
 use Rattle.om_pieces.specs.Making.{made}
 use Rattle.om_program.specs.Answered.{Stops}
-use Rattle.om_program.proofs.Steps.{byte_goes, byte_breaks}
+use Rattle.om_program.proofs.Steps.{byte_goes, byte_breaks, byte_completes}
 use Rattle.om_program.proofs.Chaining.{stops_at_once}
 use Rattle.std.proofs.Math.Nat.{le_refl}
 use Rattle.om_program.proofs.FaultLaws.{no_memory_ne_usage, no_memory_ne_read_fault, no_memory_ne_write_fault}
@@ -77,3 +77,11 @@ returns-in-Err-clause-again g c = λ answered. absurd answered
 
 pub returns-in-Err-clause-later : goal.returns-in-Err-clause-later
 returns-in-Err-clause-later g c = le_refl _
+
+pub returns-in-Ok-clause-prompt : goal.returns-in-Ok-clause-prompt
+returns-in-Ok-clause-prompt g c =
+    λ answered rest. byte_completes _ c.args.cutter.now _ _ c.args.byte rest _ _ _ _ c.in-Ok.ensures.taken
+    (c.answer_next.ensures.answer answered)
+
+pub returns-in-Err-clause-prompt : goal.returns-in-Err-clause-prompt
+returns-in-Err-clause-prompt g c = λ answered rest. absurd answered

@@ -4,7 +4,7 @@ use Rattle.std.proofs.lemmas.Bool.{true≢false}
 use Rattle.om_program.specs.Meaning.{TaskMeans}
 use Rattle.om_reply.specs.declared.status.Status.TheVariants as status
 use Rattle.om_reply.specs.Statuses.{IsReplied}
-use Rattle.om_pieces.specs.Making.{made}
+use Rattle.om_pieces.specs.Making.{completed, made}
 use Rattle.om_program.proofs.Chaining.{nothing_yet}
 use Rattle.om_program.proofs.Endings.{replied_not, rose_before}
 use Rattle.om_program.proofs.Steps.{answered_replied, loop_goes, loop_stops, loop_breaks, loop_ends}
@@ -15,6 +15,9 @@ loop-byte-init g c = record {
   answered =
       λ rest. nothing_yet (TaskMeans c.args.task.now) (made c.args.cutter.now (c.args.bytes.now ++ rest)) c.args.before
       (g.K.Sink.taken c.args.sink.now);
+  prompt =
+      λ rest. nothing_yet (TaskMeans c.args.task.now) (completed c.args.cutter.now (c.args.bytes.now ++ rest))
+      c.args.before (g.K.Sink.taken c.args.sink.now);
   replied = c.requires.before;
   ready = c.requires.ready;
   later = le_refl _;
@@ -42,9 +45,14 @@ loop-byte-preserved g c =
     record {
       answered =
           λ rest. loop_goes
-          (TaskMeans c.args.task.now) c.args.cutter.now c.loop-byte.cutter c.answer_byte-status.new.cutter
+          (TaskMeans c.args.task.now) made c.args.cutter.now c.loop-byte.cutter c.answer_byte-status.new.cutter
           c.args.bytes.now rest c.loop-byte.byte-index _ _ _ _ _ _ (omega arith)
           (c.loop-byte.invariant.answered rest) (c.answer_byte-status.ensures.answer answered);
+      prompt =
+          λ rest. loop_goes
+          (TaskMeans c.args.task.now) completed c.args.cutter.now c.loop-byte.cutter c.answer_byte-status.new.cutter
+          c.args.bytes.now rest c.loop-byte.byte-index _ _ _ _ _ _ (omega arith)
+          (c.loop-byte.invariant.prompt rest) (c.answer_byte-status.ensures.prompt answered);
       replied = answered_replied _ answered c.answer_byte-status.ensures.no_usage;
       ready = c.answer_byte-status.ensures.again answered;
       later = le_trans c.loop-byte.invariant.later c.answer_byte-status.ensures.later;
@@ -53,8 +61,8 @@ loop-byte-preserved g c =
 pub returns-clause-answer : goal.returns-clause-answer
 returns-clause-answer g c =
     λ answered rest. loop_ends
-    (TaskMeans c.args.task.now) c.args.cutter.now c.loop-byte.cutter c.args.bytes.now rest c.loop-byte.byte-index _ _ _
-    _ (omega arith) (c.loop-byte.invariant.answered rest)
+    (TaskMeans c.args.task.now) made c.args.cutter.now c.loop-byte.cutter c.args.bytes.now rest c.loop-byte.byte-index
+    _ _ _ _ (omega arith) (c.loop-byte.invariant.answered rest)
 
 pub returns-clause-memory : goal.returns-clause-memory
 returns-clause-memory g c = λ memory rest. absurd (subst IsReplied memory c.loop-byte.invariant.replied)
@@ -104,3 +112,13 @@ returns-clause-again g c = λ answered. c.loop-byte.invariant.ready
 
 pub returns-clause-later : goal.returns-clause-later
 returns-clause-later g c = c.loop-byte.invariant.later
+
+pub returns-then-not-is_answered-clause-prompt : goal.returns-then-not-is_answered-clause-prompt
+returns-then-not-is_answered-clause-prompt g c =
+    λ answered. absurd (true≢false (sym (c.is_answered.ensures.1 answered) ∙ c.if-not-is_answered.true))
+
+pub returns-clause-prompt : goal.returns-clause-prompt
+returns-clause-prompt g c =
+    λ answered rest. loop_ends
+    (TaskMeans c.args.task.now) completed c.args.cutter.now c.loop-byte.cutter c.args.bytes.now rest
+    c.loop-byte.byte-index _ _ _ _ (omega arith) (c.loop-byte.invariant.prompt rest)

@@ -4,7 +4,15 @@ use Rattle.om_program.specs.Meaning.{TaskMeans}
 use Rattle.om_program.proofs.MeaningLaws.{whole, cut_off}
 use Rattle.om_program.proofs.FaultLaws.{read_fault_ne_usage, read_fault_ne_write_fault, no_memory_ne_usage}
 use Rattle.om_program.proofs.FaultLaws.{no_memory_ne_read_fault, no_memory_ne_write_fault}
+use Rattle.std.specs.Prelude.{◌≡◌, Result}
+use Rattle.om_reply.specs.declared.answer.Answer.{Answer}
+use Rattle.om_program.specs.declared.running.Unanswered.{Unanswered}
+use Rattle.om_program.specs.declared.running.Unanswered.TheVariants as unanswered
 use Rattle.om_program.proofs.running.carry_out.Goals as goal
+
+memory_is_no_fault : (e : Unanswered) → e ≡ unanswered.NoMemory
+    → ◌≡◌ {A = Result Answer Unanswered} (Err e) (Err unanswered.ReadFault) → ⊥
+memory_is_no_fault e is same = cc
 
 pub returns-in-Ok-clause-cut : goal.returns-in-Ok-clause-cut
 returns-in-Ok-clause-cut g c =
@@ -154,3 +162,13 @@ returns-in-Err-NoMemory-clause-prefix g c = c.in-Err-NoMemory.ensures.prefix
 
 pub returns-in-Err-NoMemory-clause-source_later : goal.returns-in-Err-NoMemory-clause-source_later
 returns-in-Err-NoMemory-clause-source_later g c = c.in-Err-NoMemory.ensures.later
+
+pub returns-in-Ok-clause-still : goal.returns-in-Ok-clause-still
+returns-in-Ok-clause-still g c = λ other. c.in-Ok.ensures.still (λ same. cc)
+
+pub returns-in-Err-ReadFault-clause-still : goal.returns-in-Err-ReadFault-clause-still
+returns-in-Err-ReadFault-clause-still g c = λ other. absurd (other refl)
+
+pub returns-in-Err-NoMemory-clause-still : goal.returns-in-Err-NoMemory-clause-still
+returns-in-Err-NoMemory-clause-still g c =
+    λ other. c.in-Err-NoMemory.ensures.still (λ same. memory_is_no_fault _ c.in-Err-NoMemory.field-0-is same)

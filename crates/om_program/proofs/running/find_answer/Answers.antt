@@ -19,3 +19,6 @@ returns-clause-unread g c = rw c.plan_of.ensures at c.follow.ensures.unread
 
 pub returns-clause-taken : goal.returns-clause-taken
 returns-clause-taken g c = rw c.plan_of.ensures at c.follow.ensures.taken
+
+pub returns-clause-still : goal.returns-clause-still
+returns-clause-still g c = c.follow.ensures.still

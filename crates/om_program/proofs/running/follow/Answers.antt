@@ -7,6 +7,7 @@ use Rattle.om_program.specs.declared.plan.Plan.{Plan}
 use Rattle.om_program.specs.Plans.{plan_task}
 use Rattle.om_program.proofs.PlanLaws.{reads_input}
 use Rattle.om_program.proofs.ReplyLaws.{task_replies}
+use Rattle.std.proofs.Common.{inl}
 use Rattle.om_program.proofs.running.follow.Goals as goal
 
 -- the plan's task reads nothing
@@ -43,3 +44,9 @@ returns-in-Read-clause-prefix g c = c.read_and_answer.ensures.prefix
 
 pub returns-in-Read-clause-later : goal.returns-in-Read-clause-later
 returns-in-Read-clause-later g c = c.read_and_answer.ensures.later
+
+pub returns-in-Read-clause-still : goal.returns-in-Read-clause-still
+returns-in-Read-clause-still g c = c.read_and_answer.ensures.still
+
+pub returns-in_ok-answer_alone-in-Make-clause-still : goal.returns-in_ok-answer_alone-in-Make-clause-still
+returns-in_ok-answer_alone-in-Make-clause-still g c = λ other. inl c.requires.ready

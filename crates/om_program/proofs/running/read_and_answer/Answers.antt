@@ -5,6 +5,8 @@ use Rattle.om_program.specs.Plans.{reading_task}
 use Rattle.om_program.proofs.MeaningLaws.{meant_of_long, taken_whole, taken_long}
 use Rattle.om_program.proofs.PlanLaws.{reads_input}
 use Rattle.om_program.proofs.ReplyLaws.{task_replies}
+use Rattle.std.proofs.Common.{inl, inr, refl}
+use Rattle.om_program.proofs.Readings.{taken_to_end}
 use Rattle.om_program.proofs.running.read_and_answer.Goals as goal
 
 pub returns-in_ok-answer_reading-in-Ok-clause-reply : goal.returns-in_ok-answer_reading-in-Ok-clause-reply
@@ -66,3 +68,18 @@ returns-in-Err-Memory-clause-prefix g c = c.in-Err-Memory.ensures.prefix
 
 pub returns-in-Err-Memory-clause-later : goal.returns-in-Err-Memory-clause-later
 returns-in-Err-Memory-clause-later g c = c.in-Err-Memory.ensures.later
+
+pub returns-in_ok-answer_reading-in-Ok-clause-still : goal.returns-in_ok-answer_reading-in-Ok-clause-still
+returns-in_ok-answer_reading-in-Ok-clause-still g c =
+    λ other. inr (taken_to_end _ _ _ c.in-Ok.ensures.ok c.in-Ok.ensures.end)
+
+pub returns-in-Err-TooLong-clause-still : goal.returns-in-Err-TooLong-clause-still
+returns-in-Err-TooLong-clause-still g c =
+    λ other. inl (c.in-Err-TooLong.ensures.again (inl (ap Err c.in-Err-TooLong.field-0-is)))
+
+pub returns-in-Err-ReadFault-clause-still : goal.returns-in-Err-ReadFault-clause-still
+returns-in-Err-ReadFault-clause-still g c = λ other. absurd (other refl)
+
+pub returns-in-Err-Memory-clause-still : goal.returns-in-Err-Memory-clause-still
+returns-in-Err-Memory-clause-still g c =
+    λ other. inl (c.in-Err-Memory.ensures.again (inr (ap Err c.in-Err-Memory.field-0-is)))

@@ -200,3 +200,9 @@ returns-in-Err-clause-usage g c = λ none. c.write_usage.ensures.no_other
 
 pub returns-in-Err-clause-sink_later : goal.returns-in-Err-clause-sink_later
 returns-in-Err-clause-sink_later g c = c.write_usage.ensures.later
+
+pub returns-in-Ok-clause-still : goal.returns-in-Ok-clause-still
+returns-in-Ok-clause-still g c = c.carry_out.ensures.still
+
+pub returns-in-Err-clause-still : goal.returns-in-Err-clause-still
+returns-in-Err-clause-still g c = λ other. inl c.requires.source_ready
