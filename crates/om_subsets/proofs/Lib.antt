@@ -20,3 +20,5 @@ pub mod Shorter
 pub mod Skips
 pub mod Complements
 pub mod Walks
+pub mod Sets
+pub mod SetChains

@@ -5,6 +5,7 @@ mod binomials;
 mod laws;
 mod operations;
 mod subset;
+mod subsets;
 mod threads;
 
 pub use binomials::MOST_SUBSETS;
@@ -13,3 +14,4 @@ pub use laws::{
     places_and_lists, reverse_lexicographic_order, reverse_places_and_lists, successor,
 };
 pub use subset::Subset;
+pub use subsets::Subsets;
