@@ -1,16 +1,18 @@
 -- Triples of vectors and their signs.
 --
--- Main results: realized_triple and realizes_from, what it is to realize a map; other_found, the first triple with
--- another sign; low_rank_from, rank_not_low and chirotope_from, by the triples whose sign is zero.
-use Rattle.std.proofs.Common.{ℕ, ◌≡◌, ◌≢◌, List, [], ◌∷◌, length, ◌∙◌, ap}
+-- Main results: realized_triple and realizes_from, what it is to realize a map; none_when_realized,
+-- none_when_low, low_rank_from, rank_not_low and chirotope_from, by the triples whose sign is zero.
+use Rattle.std.specs.Prelude.{Option, Some, None, IsNone, ◌↔◌}
+use Rattle.std.proofs.Common.{refl, true≢false, ℕ, ◌≡◌, ◌≢◌, List, [], ◌∷◌, length, ◌∙◌, ap}
 use Rattle.om_signs.specs.declared.sign.Sign.TheVariants.{Zero}
-use Rattle.om_subsets.specs.Subsets.{rank_of, IsTriple}
+use Rattle.om_subsets.specs.Subsets.{IsTriple}
 use Rattle.om_subsets.specs.Members.{Chosen}
-use Rattle.om_subsets.proofs.Triples.{IsRising, elements_of_triple, triple_from, HoldsBelow, held_before}
+use Rattle.om_subsets.proofs.SetChains.{FindsFirst}
+use Rattle.om_subsets.proofs.Triples.{IsRising, elements_of_triple, triple_from}
 use Rattle.om_chirotope.specs.Map.{SignMap, chi_of}
 use Rattle.om_chirotope.specs.Chirotope.{IsChirotope}
 use Rattle.om_vectors.specs.WholeVectors.{WholeVector, sign_of}
-use Rattle.om_vectors.specs.Realizations.{triple_sign, signs_map, Realizes, IsFirstOther, IsRankLow}
+use Rattle.om_vectors.specs.Realizations.{triple_sign, signs_map, Realizes, IsRankLow}
 use Rattle.om_vectors.proofs.TripleSigns.{bracket, chirotope_of}
 use Rattle.om_vectors.proofs.NumberSigns.{sign_zero}
 
@@ -35,17 +37,16 @@ realizes_from vs m r n h = record {
   signs = λ a b c low ab bc high. h (a ∷ b ∷ c ∷ []) (triple_from m.elements a b c low ab bc high);
 }
 
--- a triple whose sign is another one, the first of its kind
-pub other_found : (vs : List WholeVector) (m : SignMap) (k : ℕ) (s : Chosen) → s.n ≡ m.elements
-    → IsTriple m.elements s.elements → rank_of m.elements s.elements ≡ k
-    → (triple_sign vs s.elements ≡ chi_of m s.elements → ⊥) → HoldsBelow (HasItsSign vs m) m.elements k
-    → IsFirstOther vs m s
-other_found vs m k s n i e o h = record {
-  n = n;
-  triple = i;
-  other = o;
-  earlier = held_before (HasItsSign vs m) m.elements k h s.elements i e;
-}
+-- where no triple has another sign, the vectors realize the map
+pub none_when_realized : (vs : List WholeVector) (m : SignMap) (o : Option Chosen) → m.rank ≡ 3 → m.elements ≡ length vs
+    → FindsFirst m.elements 3 (λ t. triple_sign vs t ≢ chi_of m t) (HasItsSign vs m) o → IsNone o ↔ Realizes vs m
+none_when_realized vs m None r n h = (λ e. realizes_from vs m r n (λ t i. h.none t i.list i.size), λ f. refl)
+none_when_realized vs m (Some x) r n h = (
+  λ e. absurd (true≢false e),
+  λ f. absurd
+      (h.first.yes
+      (realized_triple vs m f x.elements (record { list = h.first.set.list; size = h.first.set.size }))),
+)
 
 -- ---- the signs of all triples
 
@@ -72,3 +73,13 @@ chirotope_from vs t i n = of (elements_of_triple (length vs) t i)
     of : (a : ℕ) × (b : ℕ) × (c : ℕ) × (t ≡ a ∷ b ∷ c ∷ []) × IsRising (length vs) a b c → IsChirotope (signs_map vs)
     of (a, b, c, e, r) = chirotope_of vs a b c r.low r.first r.second r.high
         (λ z. n (ap (triple_sign vs) e ∙ ap sign_of z))
+
+-- where no triple has a nonzero product, the rank is low
+pub none_when_low : (vs : List WholeVector) (o : Option Chosen)
+    → FindsFirst (length vs) 3 (λ t. triple_sign vs t ≢ Zero) (HasSignZero vs) o → IsNone o ↔ IsRankLow vs
+none_when_low vs None h = (λ e. low_rank_from vs (λ t i. h.none t i.list i.size), λ l. refl)
+none_when_low vs (Some x) h = (
+  λ e. absurd (true≢false e),
+  λ l. absurd
+      (rank_not_low vs x.elements (record { list = h.first.set.list; size = h.first.set.size }) h.first.yes l),
+)

@@ -1,6 +1,6 @@
 //! Whether vectors realize a chirotope.
 
-ghost use Rattle.std.specs.Prelude.{◌≡◌, ◌↔◌, length, IsOk, IfErr};
+ghost use Rattle.std.specs.Prelude.{◌≡◌, ◌↔◌, length, IsOk, IfErr, IsNone, IfSome};
 ghost use Rattle.om_vectors.specs.Realizations.{Realizes, IsFirstOther};
 
 use super::triple_signs::sign_of_triple;
@@ -21,14 +21,18 @@ pub fn realizes(vectors: &[Vector], chi: &Chirotope) -> Result<(), Subset>
     ensures realized { IsOk result ↔ Realizes vectors.now chi.now }
     ensures first { IfErr result (λ s. IsFirstOther vectors.now chi.now s) }
 {
-    let n = chi.elements();
-    let rank = chi.rank();
-    let mut s = Subset::first(rank, n);
-    for _place in 0..Subset::choose(n, rank) {
-        if chi.at(s) != sign_of_triple(vectors, s) {
-            return Err(s);
-        }
-        s = s.following();
+    match first_other(vectors, chi) {
+        None => Ok(()),
+        Some(s) => Err(s),
     }
-    Ok(())
+}
+
+/// The first triple, in lexicographic order, whose product doesn't have the sign of the chirotope, or None.
+fn first_other(vectors: &[Vector], chi: &Chirotope) -> Option<Subset>
+    requires rank { chi.now.rank ≡ 3 }
+    requires elements { length vectors.now ≡ chi.now.elements }
+    ensures none { IsNone result ↔ Realizes vectors.now chi.now }
+    ensures first { IfSome result (λ s. IsFirstOther vectors.now chi.now s) }
+{
+    Subset::all(3, chi.elements()).find(|s| chi.at(*s) != sign_of_triple(vectors, *s))
 }

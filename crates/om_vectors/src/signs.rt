@@ -43,18 +43,7 @@ fn some_nonzero(vectors: &[Vector]) -> Option<Subset>
     ensures triple { IfSome result (λ s. IsTriple (length vectors.now) s.elements) }
     ensures nonzero { IfSome result (λ s. triple_sign vectors.now s.elements ≢ Sign.Zero) }
 {
-    let n = vectors.len() as u8;
-    if n < 3 {
-        return None;
-    }
-    let mut s = Subset::first(3, n);
-    for _place in 0..Subset::choose(n, 3) {
-        if sign_of_triple(vectors, s) != Sign::Zero {
-            return Some(s);
-        }
-        s = s.following();
-    }
-    None
+    Subset::all(3, vectors.len() as u8).find(|s| sign_of_triple(vectors, *s) != Sign::Zero)
 }
 
 /// The signs of the triple products of all triples, in lexicographic order.
@@ -62,15 +51,9 @@ fn signs_in_order(alloc: Global, vectors: &[Vector]) -> Result<List<Sign>, NoMem
     requires { length vectors.now ≤ MAX_ELEMENTS }
     ensures { IfOk result (λ l. l ≡ map (triple_sign vectors.now) (all_subsets (length vectors.now) 3)) }
 {
-    let n = vectors.len() as u8;
     let mut signs = List::new(alloc);
-    if n < 3 {
-        return Ok(signs);
-    }
-    let mut s = Subset::first(3, n);
-    for _place in 0..Subset::choose(n, 3) {
+    for s in Subset::all(3, vectors.len() as u8) {
         signs.push(sign_of_triple(vectors, s))?;
-        s = s.following();
     }
     Ok(signs)
 }

@@ -1,11 +1,7 @@
-use Rattle.std.proofs.Common.{◌≡◌, length, map, take}
-use Rattle.om_subsets.specs.Subsets.{all_subsets}
-use Rattle.om_subsets.proofs.Walks.{IsAt}
+use Rattle.std.proofs.Common.{◌≡◌, map}
 use Rattle.om_vectors.specs.Realizations.{triple_sign}
 use Rattle.om_vectors.proofs.signs.signs_in_order.Given as goal
 
-abbrev pub invariant-loop-place : goal.invariant-loop-place
-invariant-loop-place l = record {
-  signs : l.signs ≡ map (triple_sign l.vectors) (take l._place (all_subsets (length l.vectors) 3));
-  at : IsAt (length l.vectors) 3 l._place l.s;
-}
+abbrev pub invariant-loop-s : goal.invariant-loop-s
+invariant-loop-s l = (goal.iterator-loop-s).can_next l.s-iterator × (goal.iterator-loop-s).is_finite l.s-iterator
+    × (l.signs ≡ map (λ s. triple_sign l.vectors s.elements) l.yielded)
