@@ -5,7 +5,7 @@
 -- exactly where it is no loop (no_loop); elements that stand in one basis are not parallel (not_parallel); where no
 -- basis has both of two elements, they are parallel exactly where neither is a loop (parallel_at_last).
 use Rattle.std.proofs.Common.{ℕ, ◌≡◌, ◌≢◌, ◌+◌, ◌<◌, ◌≤◌, ◌↔◌, ◌⊎◌, List, [], ◌∷◌, length, refl, sym, ap, subst, ◌∙◌}
-use Rattle.std.proofs.Common.{inl, inr, arith, Bool, true, false, IsTrue}
+use Rattle.std.proofs.Common.{inl, inr, arith, Bool, true, false, IsTrue, ◌||◌}
 use Rattle.std.proofs.lemmas.Bool.{cases_eq, false≢true}
 use Rattle.om_subsets.specs.Subsets.{IsSubsetFrom, IsMember, with_element, choose, rank_of, subset_at, IsPartOf}
 use Rattle.om_subsets.proofs.Order.{members_from}
@@ -28,18 +28,16 @@ abbrev pub HasBoth : SignMap → ℕ → ℕ → List ℕ → Type 0
 HasBoth m e f b = IsBasis m b × IsMember e b × IsMember f b
 
 -- one set more, where its basis is looked at if the element wasn't seen yet
-pub seen_more : (m : SignMap) (e k : ℕ) (b : List ℕ) (seen here next : Bool) → b ≡ subset_at m.elements m.rank k
-    → IsTrue seen ↔ IsSeenBefore m e k
-    → IsTrue here ↔ (IsBasis m b × IsMember e b) → (seen ≡ true → next ≡ true) → (seen ≡ false → next ≡ here)
-    → IsTrue next ↔ IsSeenBefore m e (k + 1)
-seen_more m e k b true here next place was at kept looked =
-    (λ n. let s = was.0 refl in (s.0, (let l = s.1 in omega arith), s.2, s.3), λ s. kept refl)
-seen_more m e k b false here next place was at kept looked = (
-  λ n. let h = at.0 (sym (looked refl) ∙ n) in
-      (k, omega arith, subst (IsBasis m) place h.0, subst (IsMember e) place h.1),
+pub seen_more : (m : SignMap) (e k : ℕ) (b : List ℕ) (seen here : Bool) → b ≡ subset_at m.elements m.rank k
+    → IsTrue seen ↔ IsSeenBefore m e k → IsTrue here ↔ (IsBasis m b × IsMember e b)
+    → IsTrue (seen || here) ↔ IsSeenBefore m e (k + 1)
+seen_more m e k b true here place was at =
+    (λ n. let s = was.0 refl in (s.0, (let l = s.1 in omega arith), s.2, s.3), λ s. refl)
+seen_more m e k b false here place was at = (
+  λ n. let h = at.0 n in (k, omega arith, subst (IsBasis m) place h.0, subst (IsMember e) place h.1),
   λ s. elim (cases_eq s.0 k) [
-    | inl q ↦ looked refl
-        ∙ at.1 (
+    | inl q ↦
+        at.1 (
           subst (IsBasis m) (ap (subset_at m.elements m.rank) q ∙ sym place) s.2,
           subst (IsMember e) (ap (subset_at m.elements m.rank) q ∙ sym place) s.3,
         )

@@ -2,11 +2,14 @@
 --
 -- Main definitions: HasNoneBefore.
 -- Main results: what holds at each place holds of each set (each_set); after the last place there is no set with a
--- property (none_at_all); the set at which the walk stops is the first basis that contains one set and has no element
--- of another (first_between).
-use Rattle.std.proofs.Common.{ℕ, ◌≡◌, ◌<◌, List, length, sym, subst, ◌∙◌}
+-- property (none_at_all); what `find` gives is the first basis that contains one set and has no element of another
+-- (first_between), and None where there is none (none_between).
+use Rattle.std.specs.Prelude.{Option, Some, None, IsNone, ◌↔◌}
+use Rattle.std.proofs.Common.{refl, true≢false, ℕ, ◌≡◌, ◌<◌, List, length, sym, subst, ◌∙◌}
 use Rattle.om_subsets.specs.Subsets.{IsSubsetFrom, choose, rank_of, subset_at}
 use Rattle.om_subsets.specs.Lists.{IsBefore}
+use Rattle.om_subsets.specs.Members.{Chosen}
+use Rattle.om_subsets.proofs.SetChains.{IsFirstSet, FindsFirst}
 use Rattle.om_subsets.proofs.Order.{rank_from-lt, get_or-rank_from, lexicographic}
 use Rattle.om_chirotope.specs.Map.{SignMap}
 use Rattle.om_matroid.specs.Search.{IsBasisBetween, IsFirstBetween}
@@ -39,16 +42,20 @@ module _ (P : List ℕ → Type 0) (n r : ℕ) where
       h (rank_of n c) ((lexicographic 1 n c b clist blist (csize ∙ sym bsize)).0 before) (subst P (sym q.1) p)
 
 module _ (m : SignMap) (inside outside : List ℕ) where
-  pub no_basis_between : HasNoneBefore (IsBasisBetween m inside outside) m.elements m.rank (choose m.elements m.rank)
-      → (b : List ℕ) → IsBasisBetween m inside outside b → ⊥
-  no_basis_between h b between =
-      none_at_all (IsBasisBetween m inside outside) m.elements m.rank h b between.basis.list between.basis.size between
+  abbrev IsBetween : List ℕ → Type 0
+  IsBetween = IsBasisBetween m inside outside
 
-  pub first_between : (b : List ℕ)
-      → HasNoneBefore (IsBasisBetween m inside outside) m.elements m.rank (rank_of m.elements b)
-      → IsBasisBetween m inside outside b → IsFirstBetween m inside outside b
-  first_between b h between = record {
-    between = between;
-    first = λ c other before. none_earlier (IsBasisBetween m inside outside) m.elements m.rank b c h between.basis.list
-        between.basis.size other.basis.list other.basis.size before other;
+  -- what `find` gives of the sets of as many elements as the rank
+  abbrev pub FindsBetween : Option Chosen → Type 0
+  FindsBetween = FindsFirst m.elements m.rank IsBetween (λ b. IsBetween b → ⊥)
+
+  pub none_between : (o : Option Chosen) → FindsBetween o → IsNone o ↔ ((b : List ℕ) → IsBetween b → ⊥)
+  none_between None h = (λ e b w. h.none b w.basis.list w.basis.size w, λ w. refl)
+  none_between (Some x) h = (λ e. absurd (true≢false e), λ w. absurd (w x.elements h.first.yes))
+
+  pub first_between : (a : Chosen) → IsFirstSet m.elements m.rank IsBetween (λ b. IsBetween b → ⊥) a
+      → IsFirstBetween m inside outside a.elements
+  first_between a h = record {
+    between = h.yes;
+    first = λ c other before. h.earlier c other.basis.list other.basis.size before other;
   }

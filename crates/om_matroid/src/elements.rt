@@ -64,19 +64,15 @@ pub fn parallel(chi: &Chirotope, e: u8, f: u8) -> bool
     requires f_high { f ≤ chi.now.elements }
     ensures { IsTrue result ↔ AreParallel chi.now e f }
 {
-    let rank = chi.rank();
-    let elements = chi.elements();
     let mut first = false;
     let mut second = false;
-    let mut b = Subset::first(rank, elements);
-    for _k in 0..Subset::choose(elements, rank) {
+    for b in Subset::all(chi.rank(), chi.elements()) {
         let (with_e, with_f) = in_basis(chi, b, e, f);
         if with_e && with_f && e != f {
             return false;
         }
-        first = first || with_e;
-        second = second || with_f;
-        b = b.following();
+        first |= with_e;
+        second |= with_f;
     }
     first && second
 }

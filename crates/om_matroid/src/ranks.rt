@@ -16,16 +16,12 @@ pub fn rank_of(chi: &Chirotope, s: Subset) -> u8
     requires { s.n ≡ chi.now.elements }
     ensures { IsRankOf chi.now s.elements result }
 {
-    let rank = chi.rank();
-    let elements = chi.elements();
     let mut most = 0;
-    let mut b = Subset::first(rank, elements);
-    for _k in 0..Subset::choose(elements, rank) {
+    for b in Subset::all(chi.rank(), chi.elements()) {
         let size = s.intersection(b).size();
         if most < size && is_basis(chi, b) {
             most = size;
         }
-        b = b.following();
     }
     most
 }

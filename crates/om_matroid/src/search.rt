@@ -34,14 +34,5 @@ pub fn first_between(chi: &Chirotope, inside: Subset, outside: Subset) -> Option
     ensures n { IfSome result (λ b. b.n ≡ chi.now.elements) }
     ensures first { IfSome result (λ b. IsFirstBetween chi.now inside.elements outside.elements b.elements) }
 {
-    let rank = chi.rank();
-    let elements = chi.elements();
-    let mut b = Subset::first(rank, elements);
-    for _k in 0..Subset::choose(elements, rank) {
-        if is_between(chi, inside, outside, b) {
-            return Some(b);
-        }
-        b = b.following();
-    }
-    None
+    Subset::all(chi.rank(), chi.elements()).find(|b| is_between(chi, inside, outside, *b))
 }

@@ -1,67 +1,75 @@
-use Rattle.std.proofs.Common.{◌≡◌, ◌+◌, ◌<◌, length, sym, ap, subst, ◌∙◌, arith}
+use Rattle.std.proofs.Common.{◌+◌, ◌∷◌, [], length, sym, subst, ◌∙◌, arith}
 use Rattle.std.proofs.lemmas.Bool.{iff_false}
-use Rattle.om_subsets.specs.Subsets.{IsSubsetFrom, choose, subset_at}
-use Rattle.om_subsets.proofs.Walks.{at_first_of, at_next, list_at}
+use Rattle.std.proofs.lemmas.List.{length-append}
+use Rattle.om_subsets.specs.Subsets.{IsSubsetFrom}
+use Rattle.om_subsets.proofs.SetChains.{all_sets_of, at_turn, number_at_end}
 use Rattle.om_matroid.proofs.RankLaws.{IsRankBefore, rank_at_first, rank_raised, rank_kept_small, rank_kept_other}
 use Rattle.om_matroid.proofs.RankLaws.{rank_at_last}
 use Rattle.om_matroid.proofs.ranks.rank_of.Goals as goal
-use Rattle.om_matroid.proofs.ranks.rank_of.Goals.{then-most-size+then-is_basis, else-most-size}
 use Rattle.om_matroid.proofs.ranks.rank_of.Goals.{else-most-size-via-then-most-size+else-is_basis}
 use Rattle.om_matroid.proofs.ranks.rank_of.Goals.{else-most-size-via-else-most-size}
 
-pub loop-k-init : goal.loop-k-init
-loop-k-init c = record {
-  best = rank_at_first c.args.chi.now c.args.s.elements c.rank-rank.ensures.lawful;
-  at = at_first_of c.args.chi.now.elements c.args.chi.now.rank _ _ c.first-b.result c.elements-elements.ensures.value
-      c.rank-rank.ensures.value c.first-b.ensures.n c.first-b.ensures.size c.first-b.ensures.lawful
-      c.first-b.ensures.place;
-}
+pub loop-b-init : goal.loop-b-init
+loop-b-init c = (tt, tt, rank_at_first c.args.chi.now c.args.s.elements c.rank.ensures.lawful)
 
-pub loop-k-preserved : goal.loop-k-preserved
-loop-k-preserved c =
+pub intersection-requires : goal.intersection-requires
+intersection-requires c =
+    (at_turn c.elements.result c.rank.result _ _ _
+    (c.into_iter-b-iterator.ensures.into_iter_gives ∙ c.all-b-items.ensures.sets) c.loop-b.yielded_by c.in-Some.is
+    c.next.ensures.steps).at.n_is ∙ c.elements.ensures.value ∙ sym c.requires
+
+pub is_basis-requires : goal.is_basis-requires
+is_basis-requires c =
+    (at_turn c.elements.result c.rank.result _ _ _
+    (c.into_iter-b-iterator.ensures.into_iter_gives ∙ c.all-b-items.ensures.sets) c.loop-b.yielded_by c.in-Some.is
+    c.next.ensures.steps).at.n_is ∙ c.elements.ensures.value
+
+pub loop-b-preserved-then-is_basis : goal.loop-b-preserved-then-is_basis
+loop-b-preserved-then-is_basis c =
     let m = c.args.chi.now in
-    let end : c.choose-k-end.result ≡ choose m.elements m.rank = c.choose-k-end.ensures.value
-    ∙ ap (λ n. choose n c.rank-rank.result) c.elements-elements.ensures.value
-    ∙ ap (choose m.elements) c.rank-rank.ensures.value in
-    let l = subst (λ n. c.loop-k._k < n) end c.loop-k-test.true in
-    let place : c.loop-k.b.elements ≡ subset_at m.elements m.rank c.loop-k._k =
-    list_at m.elements m.rank c.loop-k._k c.loop-k.b l c.loop-k.invariant.at in
+    let turn =
+    at_turn m.elements m.rank _ _ _
+    (all_sets_of (c.into_iter-b-iterator.ensures.into_iter_gives ∙ c.all-b-items.ensures.sets)
+    c.elements.ensures.value c.rank.ensures.value) c.loop-b.yielded_by c.in-Some.is c.next.ensures.steps in
     let list = subst (λ n. IsSubsetFrom 1 n c.intersection.result.elements) (c.intersection.ensures.n ∙ c.requires)
     c.intersection.ensures.lawful in
-    record {
-      best =
-          elim c.if-most-size.branch [
-            | then-most-size+then-is_basis w ↦
-                let size : c.if-most-size.most ≡ length c.intersection.result.elements = w.most-is
-                ∙ c.size-size.ensures.value in
-                subst (IsRankBefore m c.args.s.elements (c.loop-k._k + 1)) (sym size)
-                (rank_raised m c.args.s.elements c.loop-k._k c.loop-k.most c.loop-k.invariant.best c.loop-k.b.elements
-                c.intersection.result.elements place list c.intersection.ensures.members
-                (w.is_basis.ensures.0 w.if-is_basis.true)
-                (let l = c.size-size.ensures.value in let lt = w.if-most-size.true in omega arith))
-            | else-most-size w ↦
-                subst (IsRankBefore m c.args.s.elements (c.loop-k._k + 1)) (sym w.most-is)
-                (elim w.else-most-size.branch [
-                  | else-most-size-via-then-most-size+else-is_basis u ↦
-                      rank_kept_other m c.args.s.elements c.loop-k._k c.loop-k.most c.loop-k.invariant.best
-                      c.loop-k.b.elements place (iff_false u.is_basis.ensures u.if-is_basis.false)
-                  | else-most-size-via-else-most-size u ↦
-                      rank_kept_small m c.args.s.elements c.loop-k._k c.loop-k.most c.loop-k.invariant.best
-                      c.loop-k.b.elements c.intersection.result.elements place list c.intersection.ensures.members
-                      (let l = c.size-size.ensures.value in let ge = u.if-most-size.false in omega arith)
-                ])
-          ];
-      at = at_next c.args.chi.now.elements c.args.chi.now.rank c.loop-k._k c.loop-k.b c.following-b.result
-          c.following-b.ensures.n c.following-b.ensures.size c.following-b.ensures.lawful c.following-b.ensures.place l
-          c.loop-k.invariant.at;
-    }
+    let size = c.size-size.ensures.value in
+    let lt = c.if-most-size.true in (
+      tt,
+      tt,
+      rw (length-append c.loop-b.yielded (c.in-Some.b ∷ []), size)
+          (rank_raised m c.args.s.elements (length c.loop-b.yielded) c.loop-b.most c.loop-b.invariant.2
+          c.in-Some.b.elements c.intersection.result.elements turn.here list c.intersection.ensures.members
+          (c.is_basis.ensures.0 c.if-is_basis.true) (omega (arith, size, lt))),
+    )
+
+pub loop-b-preserved : goal.loop-b-preserved
+loop-b-preserved c =
+    let m = c.args.chi.now in
+    let turn =
+    at_turn m.elements m.rank _ _ _
+    (all_sets_of (c.into_iter-b-iterator.ensures.into_iter_gives ∙ c.all-b-items.ensures.sets)
+    c.elements.ensures.value c.rank.ensures.value) c.loop-b.yielded_by c.in-Some.is c.next.ensures.steps in
+    let list = subst (λ n. IsSubsetFrom 1 n c.intersection.result.elements) (c.intersection.ensures.n ∙ c.requires)
+    c.intersection.ensures.lawful in
+    let kept : IsRankBefore m c.args.s.elements (length c.loop-b.yielded + 1) c.loop-b.most =
+    elim c.else-most-size.branch [
+      | else-most-size-via-then-most-size+else-is_basis u ↦
+          rank_kept_other m c.args.s.elements (length c.loop-b.yielded) c.loop-b.most c.loop-b.invariant.2
+          c.in-Some.b.elements turn.here (iff_false u.is_basis.ensures u.if-is_basis.false)
+      | else-most-size-via-else-most-size u ↦
+          rank_kept_small m c.args.s.elements (length c.loop-b.yielded) c.loop-b.most c.loop-b.invariant.2
+          c.in-Some.b.elements c.intersection.result.elements turn.here list c.intersection.ensures.members
+          (let l = c.size-size.ensures.value in let ge = u.if-most-size.false in omega arith)
+    ] in
+    (tt, tt, rw (length-append c.loop-b.yielded (c.in-Some.b ∷ [])) kept)
 
 pub returns : goal.returns
 returns c =
     let m = c.args.chi.now in
-    let end : c.loop-k._k ≡ c.choose-k-end.result = omega arith in
-    let all : c.loop-k._k ≡ choose m.elements m.rank = end ∙ c.choose-k-end.ensures.value
-    ∙ ap (λ n. choose n c.rank-rank.result) c.elements-elements.ensures.value
-    ∙ ap (choose m.elements) c.rank-rank.ensures.value in
-    rank_at_last m c.args.s.elements c.loop-k.most
-    (subst (λ k. IsRankBefore m c.args.s.elements k c.loop-k.most) all c.loop-k.invariant.best)
+    let all =
+    number_at_end m.elements m.rank _ _ _
+    (all_sets_of (c.into_iter-b-iterator.ensures.into_iter_gives ∙ c.all-b-items.ensures.sets)
+    c.elements.ensures.value c.rank.ensures.value) c.loop-b.yielded_by c.in-None.is c.next.ensures.steps in
+    rank_at_last m c.args.s.elements c.loop-b.most
+    (subst (λ k. IsRankBefore m c.args.s.elements k c.loop-b.most) all c.loop-b.invariant.2)

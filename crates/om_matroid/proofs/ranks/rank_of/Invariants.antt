@@ -1,9 +1,7 @@
-use Rattle.om_subsets.proofs.Walks.{IsAt}
+use Rattle.std.proofs.Common.{length}
 use Rattle.om_matroid.proofs.RankLaws.{IsRankBefore}
 use Rattle.om_matroid.proofs.ranks.rank_of.Given as goal
 
-abbrev pub invariant-loop-k : goal.invariant-loop-k
-invariant-loop-k l = record {
-  best : IsRankBefore l.chi l.s.elements l._k l.most;
-  at : IsAt l.chi.elements l.chi.rank l._k l.b;
-}
+abbrev pub invariant-loop-b : goal.invariant-loop-b
+invariant-loop-b l = (goal.iterator-loop-b).can_next l.b-iterator × (goal.iterator-loop-b).is_finite l.b-iterator
+    × IsRankBefore l.chi l.s.elements (length l.yielded) l.most
