@@ -2,18 +2,21 @@
 --
 -- Main definitions: IsSetOf, IsFirstSet, FindsFirst
 -- Main results: gives_all_sets and gives_all_subsets, the sets that come and their lists; at_turn, number_at_end,
--- all_at_end, mapped_more and mapped_at_end, for a `for`; callable_at_sets, where a closure may be called; finds_first
--- and none_at_places, what `find` gives; set_of_pair, for sets that come with other values
+-- all_at_end, mapped_more and mapped_at_end, for a `for`; callable_at_sets, where a closure may be called;
+-- holds_of_all, what `all` gives; finds_first and none_at_places, what `find` gives; set_of_pair, for sets that come with
+-- other values
 use Rattle.std.specs.Prelude.{ℕ, ◌≡◌, ◌<◌, List, [], ◌∷◌, ◌++◌, length, map, Option, Some, None, Bool, true, false}
-use Rattle.std.specs.Prelude.{MatchOption, ⊤, IfNone, IfSome}
+use Rattle.std.specs.Prelude.{MatchOption, ⊤, IfNone, IfSome, IsTrue, ◌↔◌}
+use Rattle.std.specs.Bool.{MatchBool}
 use Rattle.std.proofs.Common.{zero, suc, refl, sym, ◌∙◌, ap, arith, subst, get_or}
 use Rattle.std.specs.Iterator.{YieldsFirst, YieldsThen, Yields, CallableAtEachTurn}
 use Rattle.std.specs.List.{FoldsTo, AllWithin, HoldsAt, All, filter, zip}
 use Rattle.std.proofs.lemmas.List.Elements.{All-filter, All-from_get_or}
-use Rattle.std.specs.Fn.{CalledAt}
+use Rattle.std.specs.Fn.{Called, CalledAt}
 use denote.Param.Members.{Mut}
 use denote.Ref.{Bor}
-use Rattle.std.proofs.lemmas.Iterator.{YieldsList, first_from_find}
+use Rattle.std.proofs.lemmas.Bool.{false≢true}
+use Rattle.std.proofs.lemmas.Iterator.{YieldsList, cases_from_all, first_from_find}
 use Rattle.std.proofs.lemmas.Iterator.Adapters.{serves_from_places}
 use Rattle.std.proofs.lemmas.Iterator.Consumers.{YieldsList-from_shown, YieldsList-from_first, YieldsList-turn}
 use Rattle.std.proofs.lemmas.Iterator.Consumers.{YieldsList-end}
@@ -155,6 +158,56 @@ set_of_pair {W} n r test ws k x l e =
     in_pair (y ∷ xs) (v ∷ vs) zero d h m = h 0 y (omega arith)
     in_pair (y ∷ xs) (v ∷ vs) (suc j) d h m = in_pair xs vs j d (λ k e l. h (suc k) e (omega arith)) (omega arith)
 
+-- what holds of the sets at the places below i, of the set at one of them
+at_place : (n r : ℕ) (P : List ℕ → Type 0) (k i : ℕ) → AllWithin (λ c. P c.elements) (all_sets n r) 0 i
+    → k < choose n r → k < i → P (subset_at n r k)
+at_place n r P k i h inside l = subst P (ap (λ c. c.elements) (set_at n r k (set_of n []) inside))
+    (h k (set_of n []) (omega arith) l)
+
+-- the same, of a set whose place is below i
+at_list : (n r : ℕ) (P : List ℕ → Type 0) (i : ℕ) → AllWithin (λ c. P c.elements) (all_sets n r) 0 i → (t : List ℕ)
+    → IsSubsetFrom 1 n t → length t ≡ r → rank_of n t < i → P t
+at_list n r P i h t list size l =
+    let inside : rank_of n t < choose n r = subst (λ m. rank_of n t < choose n m) size (rank_from-lt 1 n t list) in
+    let here : subset_at n r (rank_of n t) ≡ t = ap (λ m. subset_at n m (rank_of n t)) (sym size)
+    ∙ get_or-rank_from 1 n t list in
+    subst P here (at_place n r P (rank_of n t) i h inside l)
+
+-- what `all` gives, by its clause `ran`
+pub holds_of_all : (n r : ℕ) (Yes : List ℕ → Type 0) {F : Type 0} {g : Mut F (Chosen × Unit {0}) Bool}
+    {s : List Chosen} → s ≡ all_sets n r → (u : List Chosen) (f : F) (b : Bool)
+    → (xs : List Chosen) × (o : Option Chosen) × (j : F) × YieldsThen set_steps s xs o u
+    × FoldsTo (λ p x q. Called g p (x, tt) true q) f xs j
+    × MatchOption o (b ≡ true) (λ x. (b ≡ false) × ((h : F) × Called g j (x, tt) false h))
+    → ((x : Chosen) (q : F) → Called g f (x, tt) true q → (q ≡ f) × Yes x.elements)
+    → ((x : Chosen) (q : F) → Called g f (x, tt) false q → Yes x.elements → ⊥)
+    → IsTrue b ↔ ((t : List ℕ) → IsSubsetFrom 1 n t → length t ≡ r → Yes t)
+holds_of_all n r Yes e u f b ran hit miss =
+    read b
+    (cases_from_all u f b (λ c. Yes c.elements) (λ c. Yes c.elements → ⊥) ran (gives_all_sets n r e) hit miss)
+  where
+    read : (b : Bool)
+        → MatchBool b (AllWithin (λ c. Yes c.elements) (all_sets n r) 0 (length (all_sets n r)))
+        ((k : ℕ) × (k < length (all_sets n r)) × HoldsAt (λ c. Yes c.elements → ⊥) (all_sets n r) k)
+        → IsTrue b ↔ ((t : List ℕ) → IsSubsetFrom 1 n t → length t ≡ r → Yes t)
+    read true h = (
+      λ e t list size.
+          let l = rank_from-lt 1 n t list in
+          let q = length-all_sets n r in
+          let m = ap (choose n) size in
+          at_list n r Yes (length (all_sets n r)) h t list size (omega (arith, l, q, m)),
+      λ w. refl,
+    )
+    read false (k, l, other) =
+        let inside = place_within n r k l in
+        let set = listed 1 n r k inside in (
+          λ e. absurd (false≢true e),
+          λ w. absurd
+              (other (set_of n [])
+              (subst Yes (sym (ap (λ c. c.elements) (set_at n r k (set_of n []) inside)))
+              (w (subset_at n r k) set.lawful set.size))),
+        )
+
 -- the first of the sets, in lexicographic order, with Yes; those before it have No, by their places and by their lists
 pub record IsFirstSet (n r : ℕ) (Yes No : List ℕ → Type 0) (a : Chosen) : Type 0 where
   pub set : IsSetOf n r a
@@ -179,19 +232,6 @@ finds_first n r Yes No e u f o ran hit miss =
     read o
     (first_from_find u f o (λ c. Yes c.elements) (λ c. No c.elements) ran (gives_all_sets n r e) hit miss)
   where
-    at_place : (k i : ℕ) → AllWithin (λ c. No c.elements) (all_sets n r) 0 i → k < choose n r → k < i
-        → No (subset_at n r k)
-    at_place k i h inside l = subst No (ap (λ c. c.elements) (set_at n r k (set_of n []) inside))
-        (h k (set_of n []) (omega arith) l)
-
-    of_list : (i : ℕ) → AllWithin (λ c. No c.elements) (all_sets n r) 0 i → (t : List ℕ) → IsSubsetFrom 1 n t
-        → length t ≡ r → rank_of n t < i → No t
-    of_list i h t list size l =
-        let inside : rank_of n t < choose n r = subst (λ m. rank_of n t < choose n m) size (rank_from-lt 1 n t list) in
-        let here : subset_at n r (rank_of n t) ≡ t = ap (λ m. subset_at n m (rank_of n t)) (sym size)
-        ∙ get_or-rank_from 1 n t list in
-        subst No here (at_place (rank_of n t) i h inside l)
-
     read : (o : Option Chosen)
         → MatchOption o (AllWithin (λ c. No c.elements) (all_sets n r) 0 (length (all_sets n r)))
         (λ x. Yes x.elements × (i : ℕ) × (i < length (all_sets n r)) × HoldsAt (λ y. y ≡ x) (all_sets n r) i
@@ -202,7 +242,7 @@ finds_first n r Yes No e u f o ran hit miss =
           let l = rank_from-lt 1 n t list in
           let q = length-all_sets n r in
           let m = ap (choose n) size in
-          of_list (length (all_sets n r)) h t list size (omega (arith, l, q, m));
+          at_list n r No (length (all_sets n r)) h t list size (omega (arith, l, q, m));
       first = tt;
     }
     read (Some x) (y, i, l, at, before) =
@@ -215,10 +255,10 @@ finds_first n r Yes No e u f o ran hit miss =
           first = record {
             set = set;
             yes = y;
-            below = λ k lt. at_place k i before (omega (arith, lt, place, inside)) (omega (arith, lt, place));
+            below = λ k lt. at_place n r No k i before (omega (arith, lt, place, inside)) (omega (arith, lt, place));
             earlier = λ t list size b.
                 let lt = (lexicographic 1 n t x.elements list set.list (size ∙ sym set.size)).0 b in
-                of_list i before t list size (omega (arith, lt, place));
+                at_list n r No i before t list size (omega (arith, lt, place));
           };
         }
 
